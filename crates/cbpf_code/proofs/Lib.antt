@@ -1,0 +1,3 @@
+pub mod WordMarkLemmas
+pub mod WordStepLemmas
+pub mod WrittenLemmas

@@ -1,0 +1,129 @@
+-- How the marks of a text begin.
+use Rattle.std.proofs.Common.{IsTrue, nat_eq, ◌↔◌, ◌≡◌, ℕ, ◌+◌, ◌-◌, ◌<◌, ◌≤◌, Bool, true, false, nat_lt, ◌⊎◌, inl, inr, List, [], ◌∷◌, length, take, drop, get_or, slice_range, refl, sym, ◌∙◌, ap, arith, tests, drop-cons, add-one, zero, suc, take_all, length-drop}
+use Rattle.std.proofs.lemmas.Bool.{eq-eqb, eqb-true}
+use Rattle.std.proofs.lemmas.List.{drop_all}
+use Rattle.std.proofs.lemmas.Grind.{common_steps}
+use Rattle.cbpf_code.specs.Marks.{Mark, run, single, is_digit, is_blank, begins_with_digit, join_digit, marks_from, marks_after}
+
+marks-blank : (at b : ℕ) (bs : List ℕ) → is_digit b ≡ false → is_blank b ≡ true → marks_from at (b ∷ bs) ≡ marks_from (suc at) bs
+unfolding marks_from
+marks-blank at b bs d e = rw (d, e) refl
+
+marks-single : (at b : ℕ) (bs : List ℕ) → is_digit b ≡ false → is_blank b ≡ false → marks_from at (b ∷ bs) ≡ single at b ∷ marks_from (suc at) bs
+unfolding marks_from
+marks-single at b bs d e = rw (d, e) refl
+
+marks-last_digit : (at b : ℕ) (bs : List ℕ) → is_digit b ≡ true → begins_with_digit bs ≡ false → marks_from at (b ∷ bs) ≡ run at (b ∷ []) ∷ marks_from (suc at) bs
+unfolding marks_from
+marks-last_digit at b bs d e = rw (d, e) refl
+
+marks-digit : (at b : ℕ) (bs : List ℕ) → is_digit b ≡ true → begins_with_digit bs ≡ true → marks_from at (b ∷ bs) ≡ join_digit at b (marks_from (suc at) bs)
+unfolding marks_from
+marks-digit at b bs d e = rw (d, e) refl
+
+marks-none : (at : ℕ) → marks_from at [] ≡ []
+unfolding marks_from
+marks-none at = refl
+
+blank_no_digit : (b : ℕ) → is_blank b ≡ true → is_digit b ≡ false
+blank_no_digit b e = grind (arith, tests)
+
+at_digit : (bs : List ℕ) → 0 < length bs → is_digit (get_or bs 0 0) ≡ true → begins_with_digit bs ≡ true
+at_digit [] l d = absurd (omega (arith, l))
+at_digit (b ∷ bs) l d = d
+
+at_no_digit : (bs : List ℕ) → (0 < length bs → is_digit (get_or bs 0 0) ≡ false) → begins_with_digit bs ≡ false
+at_no_digit [] d = refl
+at_no_digit (b ∷ bs) d = d (omega arith)
+
+marks-run : (n at : ℕ) (bs : List ℕ) → n < length bs → ((k : ℕ) → k < suc n → is_digit (get_or bs k 0) ≡ true) → (suc n < length bs → is_digit (get_or bs (suc n) 0) ≡ false) → marks_from at bs ≡ run at (take (suc n) bs) ∷ marks_from (at + suc n) (drop (suc n) bs)
+marks-run n at [] l d s = absurd (omega (arith, l))
+marks-run zero at (b ∷ bs) l d s = rw add-one (marks-last_digit at b bs (d 0 (omega arith)) (at_no_digit bs (λ h. s (omega (arith, h)))))
+marks-run (suc n) at (b ∷ bs) l d s =
+    let more : marks_from (suc at) bs ≡ run (suc at) (take (suc n) bs) ∷ marks_from (suc at + suc n) (drop (suc n) bs) =
+    marks-run n (suc at) bs (omega (arith, l)) (λ k h. d (suc k) (omega (arith, h))) (λ h. s (omega (arith, h))) in
+    let seam : suc at + suc n ≡ at + suc (suc n) = omega arith in
+    marks-digit at b bs (d 0 (omega arith)) (at_digit bs (omega (arith, l)) (d 1 (omega arith))) ∙ ap (λ (ms : List Mark). join_digit at b ms) more
+    ∙ ap (λ (m : ℕ). run at (b ∷ take (suc n) bs) ∷ marks_from m (drop (suc n) bs)) seam
+
+drop-drop_at : (text : List ℕ) (i n : ℕ) → drop n (drop i text) ≡ drop (i + n) text
+drop-drop_at text i n = grind (arith, common_steps)
+
+pub step-blank : (text : List ℕ) (i : ℕ) → i < length text → is_blank (get_or text i 0) ≡ true → marks_after text i ≡ marks_after text (i + 1)
+step-blank text i l e = (rw (drop-cons text i 0) (rw add-one (marks-blank i (get_or text i 0) (drop (suc i) text) (blank_no_digit (get_or text i 0) e) e)))
+
+pub step-single : (text : List ℕ) (i : ℕ) → i < length text → is_digit (get_or text i 0) ≡ false → is_blank (get_or text i 0) ≡ false → marks_after text i ≡ single i (get_or text i 0) ∷ marks_after text (i + 1)
+step-single text i l d e = (rw (drop-cons text i 0) (rw add-one (marks-single i (get_or text i 0) (drop (suc i) text) d e)))
+
+pub step-end : (text : List ℕ) (i : ℕ) → length text ≤ i → marks_after text i ≡ []
+step-end text i l = rw (drop_all i text l) (marks-none i)
+
+-- `sub` is the text from i on, and begins with n digits and no more
+pub step-run : (text : List ℕ) (i n : ℕ) (sub : List ℕ) → sub ≡ drop i text → 0 < n → n ≤ length sub → ((k : ℕ) → k < n → is_digit (get_or sub k 0) ≡ true) → (n < length sub → is_digit (get_or sub n 0) ≡ false) → marks_after text i ≡ run i (take n sub) ∷ marks_after text (i + n)
+step-run text i zero sub e p l d s = absurd (omega (arith, p))
+step-run text i (suc n) sub e p l d s =
+    rw (← e) (marks-run n i sub (omega (arith, l)) d s) ∙ ap (λ (bs : List ℕ). run i (take (suc n) sub) ∷ marks_from (i + suc n) bs) (ap (λ (t : List ℕ). drop (suc n) t) e ∙ drop-drop_at text i (suc n))
+
+pub ruleset mark_steps = (step-blank, step-end)
+
+pub record RunFound (text : List ℕ) (i n : ℕ) (sub : List ℕ) : Type 0 where
+  pub some : 0 < n
+  pub within : i + n ≤ length text
+  pub first : marks_after text i ≡ run i (slice_range text i (i + n)) ∷ marks_after text (i + n)
+  pub same : take n sub ≡ slice_range text i (i + n)
+
+pub found-run : (text : List ℕ) (i n : ℕ) (sub : List ℕ) → i < length text → is_digit (get_or text i 0) ≡ true → sub ≡ take (length text - i) (drop i text) → n ≤ length sub → ((k : ℕ) → k < n → is_digit (get_or sub k 0) ≡ true) → (n < length sub → is_digit (get_or sub n 0) ≡ false) → RunFound text i n sub
+found-run text i n sub l d e w ds s =
+    let whole : sub ≡ drop i text = e ∙ take_all _ _ (omega (arith, length-drop i text)) in
+    let len : length sub ≡ length text - i = ap length whole ∙ length-drop i text in
+    let start : get_or sub 0 0 ≡ get_or text i 0 = grind (arith, common_steps) in
+    let some : 0 < n = grind (arith) in
+    let cut : i + n - i ≡ n = omega arith in
+    let same : take n sub ≡ slice_range text i (i + n) = rw cut (ap (λ (t : List ℕ). take n t) whole) in
+    record {
+      some = some;
+      within = omega arith;
+      first = step-run text i n sub whole some w ds s ∙ ap (λ (t : List ℕ). run i t ∷ marks_after text (i + n)) same;
+      same = same;
+    }
+
+digit_no_blank : (b : ℕ) → is_digit b ≡ true → is_blank b ≡ false
+digit_no_blank b e = grind (arith, tests)
+
+bool-cases : (t : Bool) → (t ≡ true) ⊎ (t ≡ false)
+bool-cases true = inl refl
+bool-cases false = inr refl
+
+join-some : (at b : ℕ) (ms : List Mark) → (ms ≡ [] → ⊥) → join_digit at b ms ≡ [] → ⊥
+join-some at b [] h e = h refl
+join-some at b (single p x ∷ ms) h e = cc
+join-some at b (run p ds ∷ ms) h e = cc
+
+-- a byte that is no blank begins a mark
+marks-some : (at b : ℕ) (bs : List ℕ) → is_blank b ≡ false → marks_from at (b ∷ bs) ≡ [] → ⊥
+marks-some at b [] n e = elim (bool-cases (is_digit b)) [
+  | inl d ↦ (let f : run at (b ∷ []) ∷ marks_from (suc at) [] ≡ [] = sym (marks-last_digit at b [] d refl) ∙ e in cc)
+  | inr d ↦ (let f : single at b ∷ marks_from (suc at) [] ≡ [] = sym (marks-single at b [] d n) ∙ e in cc)
+]
+marks-some at b (x ∷ xs) n e = elim (bool-cases (is_digit b)) [
+  | inl d ↦ elim (bool-cases (is_digit x)) [
+    | inl y ↦ join-some at b (marks_from (suc at) (x ∷ xs)) (marks-some (suc at) x xs (digit_no_blank x y)) (sym (marks-digit at b (x ∷ xs) d y) ∙ e)
+    | inr y ↦ (let f : run at (b ∷ []) ∷ marks_from (suc at) (x ∷ xs) ≡ [] = sym (marks-last_digit at b (x ∷ xs) d y) ∙ e in cc)
+  ]
+  | inr d ↦ (let f : single at b ∷ marks_from (suc at) (x ∷ xs) ≡ [] = sym (marks-single at b (x ∷ xs) d n) ∙ e in cc)
+]
+
+pub some-mark : (text : List ℕ) (i : ℕ) → i < length text → is_blank (get_or text i 0) ≡ false → marks_after text i ≡ [] → ⊥
+some-mark text i l b e =
+    let front : drop i text ≡ get_or text i 0 ∷ drop (suc i) text = drop-cons text i 0 l in
+    marks-some i (get_or text i 0) (drop (suc i) text) b (sym (ap (marks_from i) front) ∙ e)
+
+-- `place` is the first place from `at` on that is no blank
+pub end-or-not : (text : List ℕ) (at place : ℕ) → place ≤ length text → marks_after text place ≡ marks_after text at → (place < length text → is_blank (get_or text place 0) ≡ false) → IsTrue (nat_eq place (length text)) ↔ (marks_after text at ≡ [])
+end-or-not text at place w same stops = (
+  (λ h. let e : place ≡ length text = eqb-true place (length text) h in sym same ∙ step-end text place (omega (arith, e))),
+  (λ e. elim (bool-cases (nat_lt place (length text))) [
+    | inl t ↦ (let l : place < length text = grind (arith, tests) in absurd (some-mark text place l (stops l) (same ∙ e)))
+    | inr f ↦ (let g : nat_lt place (length text) ≡ false = f in eq-eqb place (length text) (grind (arith, tests)))
+  ]),
+)

@@ -1,0 +1,186 @@
+-- Steps of the reader, one after another.
+use Rattle.std.proofs.Common.{◌≡◌, ℕ, suc, ◌+◌, ◌%◌, ◌<◌, ◌≤◌, ◌⊎◌, inl, inr, List, [], ◌∷◌, ◌++◌, length, length-append, drop, append_assoc, append-nil, refl, sym, ◌∙◌, ap, subst, tests, true, false, cond, eqb, nat_lt, ◌==◌, ◌^◌, slice_index, arith, Option, Some, None}
+use Rattle.cbpf_code.specs.Marks.{Mark, run, single, marks, marks_after, number}
+use Rattle.cbpf_code.specs.WordText.{range_of, comma_fault, number_fault, mark_fault, first_fault, or_else, numbers, in_fours, Loose, Breaks, Refused, end_fault}
+use Rattle.cbpf_code.specs.WordSteps.{Passes, Stops, IsRead, IsReadWhole, fields_of}
+use Rattle.cbpf_code.specs.declared.insn.Insn.{Insn}
+use Rattle.cbpf_code.specs.declared.words.WordFault.TheVariants.{Memory, NumberExpected, OutOfRange, UnexpectedByte, CountDiffers, CommaExpected}
+use Rattle.cbpf_code.specs.declared.words.WordFault.{WordFault}
+
+pub passes-then : (text : List ℕ) (j at n mid m end : ℕ) (ns ms : List ℕ) → Passes text j at n ns mid → Passes text (n + j) mid m ms end → Passes text j at (m + n) (ns ++ ms) end
+passes-then text j at n mid m end ns ms x y =
+    let sum : m + (n + j) ≡ m + n + j = omega arith in
+    record {
+      within = y.within;
+      after = omega (arith, x.after, y.after);
+      good = x.good ∙ y.good ∙ ap (λ i. first_fault i (marks_after text end)) sum;
+      count = omega (arith, x.count, y.count);
+      told = x.told ∙ ap (λ (t : List ℕ). ns ++ t) y.told ∙ sym (append_assoc ns ms (numbers (marks_after text end)));
+    }
+
+-- marks are due in fives
+mark_fault-shift : (j : ℕ) (m : Mark) → mark_fault (j + 6) m ≡ mark_fault (suc j) m
+mark_fault-shift j m =
+    let e : (j + 6) % 5 ≡ suc j % 5 = omega arith in
+    let z : (j + 6 == 0) ≡ false = grind (arith, tests) in
+    let y : (suc j == 0) ≡ false = grind (arith, tests) in
+    rw (e, z, y) refl
+
+first_fault-shift : (j : ℕ) (ms : List Mark) → first_fault (j + 6) ms ≡ first_fault (suc j) ms
+first_fault-shift j [] = refl
+first_fault-shift j (m ∷ ms) =
+    let e : suc (j + 6) ≡ suc j + 6 = omega arith in
+    ap (λ o. or_else o (first_fault (suc (j + 6)) ms)) (mark_fault-shift j m) ∙ ap (λ i. or_else (mark_fault (suc j) m) (first_fault i ms)) e ∙ ap (λ o. or_else (mark_fault (suc j) m) o) (first_fault-shift (suc j) ms)
+
+pub in_fours-fields : (list : List Insn) → in_fours (fields_of list) ≡ list
+in_fours-fields [] = refl
+in_fours-fields (i ∷ is) = ap (λ (l : List Insn). i ∷ l) (in_fours-fields is)
+
+fields_of-push : (list : List Insn) (i : Insn) (ns : List ℕ) → fields_of list ++ (i.code ∷ i.jt ∷ i.jf ∷ i.k ∷ ns) ≡ fields_of (list ++ i ∷ []) ++ ns
+fields_of-push [] i ns = refl
+fields_of-push (x ∷ xs) i ns = ap (λ (l : List ℕ). x.code ∷ x.jt ∷ x.jf ∷ x.k ∷ l) (fields_of-push xs i ns)
+
+no_number : (p b r : ℕ) (o : Option WordFault) → or_else (number_fault r (single p b)) o ≡ None → ⊥
+no_number p b r o h = grind (arith, tests)
+
+no_comma : (q : ℕ) (es : List ℕ) (o o' : Option WordFault) → or_else o (or_else (comma_fault (run q es)) o') ≡ None → ⊥
+no_comma q es None o' h = cc
+no_comma q es (Some x) o' h = cc
+
+-- after two good marks the numbers from mark 2 on are those behind the first
+numbers-drop : (ms : List Mark) → first_fault 0 ms ≡ None → 2 ≤ length ms → numbers (drop 2 ms) ≡ drop 1 (numbers ms)
+numbers-drop [] g l = absurd (omega (arith, l))
+numbers-drop (m ∷ []) g l = absurd (omega (arith, l))
+numbers-drop (single p b ∷ m ∷ ms) g l = absurd (no_number p b (2 ^ 32) (first_fault 1 (m ∷ ms)) g)
+numbers-drop (run p ds ∷ run q es ∷ ms) g l = absurd (no_comma q es (number_fault (2 ^ 32) (run p ds)) (first_fault 2 ms) g)
+numbers-drop (run p ds ∷ single q b ∷ ms) g l = refl
+
+pub read-start : (text : List ℕ) (c a b : ℕ) → Passes text 0 0 1 (c ∷ []) a → Passes text 1 a 1 [] b → IsRead text c [] b
+read-start text c a b x y = record {
+  within = y.within;
+  good = x.good ∙ y.good;
+  marks_so_far = omega (arith, x.count, y.count);
+  told = x.told ∙ ap (λ (t : List ℕ). c ∷ t) y.told;
+}
+
+pub read-next : (text : List ℕ) (c : ℕ) (list : List Insn) (i : Insn) (at mid end : ℕ) → IsRead text c list at → Passes text 2 at 4 (i.code ∷ i.jt ∷ i.jf ∷ i.k ∷ []) mid → Passes text 1 mid 1 [] end → IsRead text c (list ++ i ∷ []) end
+read-next text c list i at mid end r x y = record {
+  within = y.within;
+  good = r.good ∙ x.good ∙ first_fault-shift 0 (marks_after text mid) ∙ y.good;
+  marks_so_far = omega (arith, r.marks_so_far, x.count, y.count, length-append list (i ∷ []));
+  told = r.told ∙ ap (λ (t : List ℕ). c ∷ (fields_of list ++ t)) (x.told ∙ ap (λ (t : List ℕ). i.code ∷ i.jt ∷ i.jf ∷ i.k ∷ t) y.told) ∙ ap (λ (t : List ℕ). c ∷ t) (fields_of-push list i (numbers (marks_after text end)));
+}
+
+-- the end, behind a comma
+whole-by : (text : List ℕ) (c : ℕ) (list : List Insn) → first_fault 0 (marks text) ≡ None → 2 ≤ length (marks text) → (length (marks text) % 5 ≡ 1) ⊎ (length (marks text) % 5 ≡ 2) → numbers (marks text) ≡ c ∷ fields_of list → IsReadWhole text c list
+whole-by text c list good begun ended told = record {
+  loose = record {
+    none_bad = good;
+    begun = begun;
+    ended = ended;
+    reads = sym (ap in_fours (numbers-drop (marks text) good begun ∙ ap (λ (ns : List ℕ). drop 1 ns) told) ∙ in_fours-fields list);
+  };
+  counted = ap (λ (ns : List ℕ). slice_index ns 0) told;
+}
+
+pub read-done : (text : List ℕ) (c : ℕ) (list : List Insn) (at : ℕ) → IsRead text c list at → marks_after text at ≡ [] → IsReadWhole text c list
+read-done text c list at r e =
+    let len : length (marks_after text at) ≡ 0 = ap length e in
+    whole-by text c list (r.good ∙ ap (first_fault 2) e) (omega (arith, r.marks_so_far)) (inr (omega (arith, r.marks_so_far))) (r.told ∙ ap (λ (ms : List Mark). c ∷ (fields_of list ++ numbers ms)) e ∙ ap (λ (ns : List ℕ). c ∷ ns) (append-nil (fields_of list)))
+
+-- and behind an instruction
+pub read-last : (text : List ℕ) (c : ℕ) (list : List Insn) (i : Insn) (at end : ℕ) → IsRead text c list at → Passes text 2 at 4 (i.code ∷ i.jt ∷ i.jf ∷ i.k ∷ []) end → marks_after text end ≡ [] → IsReadWhole text c (list ++ i ∷ [])
+read-last text c list i at end r x e =
+    let len : length (marks_after text end) ≡ 0 = ap length e in
+    whole-by text c (list ++ i ∷ []) (r.good ∙ x.good ∙ ap (first_fault 6) e) (omega (arith, r.marks_so_far, x.count)) (inl (omega (arith, r.marks_so_far, x.count)))
+    (r.told ∙ ap (λ (t : List ℕ). c ∷ (fields_of list ++ t)) (x.told ∙ ap (λ (ms : List Mark). i.code ∷ i.jt ∷ i.jf ∷ i.k ∷ numbers ms) e) ∙ ap (λ (t : List ℕ). c ∷ t) (fields_of-push list i [] ∙ append-nil (fields_of (list ++ i ∷ []))))
+
+-- ---- refusals
+abbrev IsPlaced : WordFault → Type 0
+IsPlaced Memory = ⊥
+IsPlaced (CountDiffers said found) = ⊥
+IsPlaced (NumberExpected p) = Unit {0}
+IsPlaced (OutOfRange p) = Unit {0}
+IsPlaced (UnexpectedByte p) = Unit {0}
+IsPlaced (CommaExpected p) = Unit {0}
+
+abbrev EachPlaced : Option WordFault → Type 0
+EachPlaced None = Unit {0}
+EachPlaced (Some e) = IsPlaced e
+
+refused-by : (text : List ℕ) (e : WordFault) → IsPlaced e → Breaks text e → Refused text e
+refused-by text Memory p b = tt
+refused-by text (CountDiffers said found) p b = absurd p
+refused-by text (NumberExpected q) p b = b
+refused-by text (OutOfRange q) p b = b
+refused-by text (UnexpectedByte q) p b = b
+refused-by text (CommaExpected q) p b = b
+
+comma-placed : (m : Mark) → EachPlaced (comma_fault m)
+comma-placed (run p ds) = tt
+comma-placed (single p b) = elim (eqb b 44) as (λ t. EachPlaced (cond t None (Some (UnexpectedByte p)))) [ true ↦ tt | false ↦ tt ]
+
+number-placed : (r : ℕ) (m : Mark) → EachPlaced (number_fault r m)
+number-placed r (run p ds) = elim (nat_lt (number ds) r) as (λ t. EachPlaced (cond t None (Some (OutOfRange p)))) [ true ↦ tt | false ↦ tt ]
+number-placed r (single p b) = elim (eqb b 44) as (λ t. EachPlaced (cond t (Some (NumberExpected p)) (Some (UnexpectedByte p)))) [ true ↦ tt | false ↦ tt ]
+
+mark-placed : (j : ℕ) (m : Mark) → EachPlaced (mark_fault j m)
+mark-placed j m = elim (eqb (j % 5) 1) as (λ t. EachPlaced (cond t (comma_fault m) (number_fault (range_of j) m))) [ true ↦ comma-placed m | false ↦ number-placed (range_of j) m ]
+
+or-placed : (o o' : Option WordFault) → EachPlaced o → EachPlaced o' → EachPlaced (or_else o o')
+or-placed None o' h h' = h'
+or-placed (Some e) o' h h' = h
+
+first-placed : (j : ℕ) (ms : List Mark) → EachPlaced (first_fault j ms)
+first-placed j [] = tt
+first-placed j (m ∷ ms) = or-placed (mark_fault j m) (first_fault (suc j) ms) (mark-placed j m) (first-placed (suc j) ms)
+
+-- the first bad mark
+refused-mark : (text : List ℕ) (e : WordFault) → first_fault 0 (marks text) ≡ Some e → Refused text e
+refused-mark text e h = refused-by text e (subst EachPlaced h (first-placed 0 (marks text))) (record { why = inl h })
+
+-- the end, where no list ends
+refused-end : (text : List ℕ) (e e' : WordFault) → first_fault 0 (marks text) ≡ None → ((length (marks text) < 2) ⊎ ((length (marks text) % 5 ≡ 1 → ⊥) × (length (marks text) % 5 ≡ 2 → ⊥))) → IsPlaced e' → e ≡ e' → e' ≡ end_fault text → Refused text e
+refused-end text e e' h short p same which = refused-by text e (subst IsPlaced (sym same) p) (record { why = inr (h, no_reading, same ∙ which) }) where
+  no_reading : (list : List Insn) → Loose text list → ⊥
+  no_reading list l = elim short [ inl s ↦ omega (arith, s, l.begun) | inr n ↦ elim l.ended [ inl a ↦ n.0 a | inr b ↦ n.1 b ] ]
+
+nonempty : (ms : List Mark) → (ms ≡ [] → ⊥) → 0 < length ms
+nonempty [] h = absurd (h refl)
+nonempty (m ∷ ms) h = omega arith
+
+end-number : (text : List ℕ) → (length (marks text) ≡ 1 → ⊥) → NumberExpected (length text) ≡ end_fault text
+end-number text h = let z : (length (marks text) == 1) ≡ false = grind (arith, tests) in rw z refl
+
+end-comma : (text : List ℕ) → length (marks text) ≡ 1 → CommaExpected (length text) ≡ end_fault text
+end-comma text h = let z : (length (marks text) == 1) ≡ true = grind (arith, tests) in rw z refl
+
+pub stops-first : (text : List ℕ) (e : WordFault) → Stops text 0 0 1 e (NumberExpected (length text)) → Refused text e
+stops-first text e s = elim s.why [
+  | inl h ↦ refused-mark text e h
+  | inr h ↦ refused-end text e (NumberExpected (length text)) h.0 (inl (omega (arith, h.1))) tt h.2 (end-number text (λ one. omega (arith, h.1, one)))
+]
+
+pub stops-count : (text : List ℕ) (c a : ℕ) (e : WordFault) → Passes text 0 0 1 (c ∷ []) a → Stops text 1 a 1 e (CommaExpected (length text)) → Refused text e
+stops-count text c a e x s = elim s.why [
+  | inl h ↦ refused-mark text e (x.good ∙ h)
+  | inr h ↦ refused-end text e (CommaExpected (length text)) (x.good ∙ h.0) (inl (omega (arith, h.1, x.count))) tt h.2 (end-comma text (omega (arith, h.1, x.count)))
+]
+
+pub stops-fields : (text : List ℕ) (c : ℕ) (list : List Insn) (at : ℕ) (e : WordFault) → IsRead text c list at → (marks_after text at ≡ [] → ⊥) → Stops text 2 at 4 e (NumberExpected (length text)) → Refused text e
+stops-fields text c list at e r some s =
+    let more : 0 < length (marks_after text at) = nonempty _ some in
+    elim s.why [
+      | inl h ↦ refused-mark text e (r.good ∙ h)
+      | inr h ↦ refused-end text e (NumberExpected (length text)) (r.good ∙ h.0) (inr (λ a. omega (arith, h.1, r.marks_so_far, a), λ b. omega (arith, h.1, r.marks_so_far, b))) tt h.2 (end-number text (λ one. omega (arith, h.1, r.marks_so_far, one)))
+    ]
+
+pub stops-comma : (text : List ℕ) (c : ℕ) (list : List Insn) (ns : List ℕ) (at mid : ℕ) (e : WordFault) → IsRead text c list at → Passes text 2 at 4 ns mid → (marks_after text mid ≡ [] → ⊥) → Stops text 1 mid 1 e (CommaExpected (length text)) → Refused text e
+stops-comma text c list ns at mid e r x some s =
+    let more : 0 < length (marks_after text mid) = nonempty _ some in
+    elim s.why [
+      | inl h ↦ refused-mark text e (r.good ∙ x.good ∙ first_fault-shift 0 (marks_after text mid) ∙ h)
+      | inr h ↦ absurd (omega (arith, h.1, more))
+    ]
+
+pub ruleset reading = (stops-first, stops-count, stops-fields, stops-comma, read-start, read-next, read-done, read-last)

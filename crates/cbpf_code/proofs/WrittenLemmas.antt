@@ -1,0 +1,112 @@
+-- Writes one after another.
+use Rattle.std.proofs.Common.{◌≡◌, ℕ, ◌+◌, ◌-◌, ◌≤◌, List, [], ◌++◌, take, drop, get_or, ◌<◌, ◌∷◌, zero, suc, codes, length, length-drop, take_all, append_assoc, append-nil, sym, ◌∙◌, ap, refl, arith}
+use Rattle.std.proofs.Common.{Option, None, Some, Result, Ok, Err}
+use Rattle.std.specs.Io.KnownBytes.{Appends, Keeps}
+use Rattle.std.proofs.lemmas.List.{take-append-drop, take_more}
+use Rattle.std.specs.List.{flat_map, repeat}
+use Rattle.cbpf_code.specs.Text.{spaces}
+use Rattle.std.specs.Result.{IsErr}
+use Rattle.std.proofs.Math.Seq.{take-add}
+use Rattle.cbpf_code.specs.Writing.{Appended, AppendedPart, Wrote}
+
+appends-then : (u v w : Option (List ℕ)) (a b : List ℕ) → Appends u v a → Appends v w b → Appends u w (a ++ b)
+appends-then None v w a b x y = tt
+appends-then (Some xs) None w a b x y = absurd x
+appends-then (Some xs) (Some ys) None a b x y = y
+appends-then (Some xs) (Some ys) (Some zs) a b x y = y ∙ ap (λ (t : List ℕ). t ++ b) x ∙ append_assoc xs a b
+
+appends-kept : (u v w : Option (List ℕ)) (a : List ℕ) → Appends u v a → Keeps v w → Appends u w a
+appends-kept None v w a x y = tt
+appends-kept (Some xs) None w a x y = absurd x
+appends-kept (Some xs) (Some ys) None a x y = absurd y
+appends-kept (Some xs) (Some ys) (Some zs) a x y = y ∙ x
+
+appends-nil : (u : Option (List ℕ)) → Appends u u []
+appends-nil None = tt
+appends-nil (Some xs) = sym (append-nil xs)
+
+pub appended-nil : (u : Option (List ℕ)) → Appended u u []
+unfolding Appended
+appended-nil u = appends-nil u
+
+pub appended-kept : (u v w : Option (List ℕ)) (a : List ℕ) → Appended u v a → Keeps v w → Appended u w a
+unfolding Appended
+appended-kept u v w a x y = appends-kept u v w a x y
+
+pub appended-by : (u v w : Option (List ℕ)) (a b : List ℕ) → Appended u v a → Appends v w b → Appended u w (a ++ b)
+unfolding Appended
+appended-by u v w a b x y = appends-then u v w a b x y
+
+pub appended-then : (u v w : Option (List ℕ)) (a b : List ℕ) → Appended u v a → Appended v w b → Appended u w (a ++ b)
+unfolding Appended
+appended-then u v w a b x y = appends-then u v w a b x y
+
+pub part-more : (u v : Option (List ℕ)) (a b : List ℕ) → AppendedPart u v a → AppendedPart u v (a ++ b)
+unfolding AppendedPart
+part-more u v a b x = (x.0, x.1 ++ b, sym (append_assoc x.0 x.1 b) ∙ ap (λ (t : List ℕ). t ++ b) x.2, x.3)
+
+pub part-then : (u v w : Option (List ℕ)) (a b : List ℕ) → Appended u v a → AppendedPart v w b → AppendedPart u w (a ++ b)
+unfolding Appended AppendedPart
+part-then u v w a b x y = (a ++ y.0, y.1, append_assoc a y.0 y.1 ∙ ap (λ (t : List ℕ). a ++ t) y.2, appends-then u v w a y.0 x y.3)
+
+-- what was appended so far is a part of the whole
+pub part-take : (u v : Option (List ℕ)) (n : ℕ) (text : List ℕ) → Appended u v (take n text) → AppendedPart u v text
+unfolding Appended AppendedPart
+part-take u v n text x = (take n text, drop n text, take-append-drop n text, x)
+
+take-len-drop : (text : List ℕ) (at : ℕ) → take (length text - at) (drop at text) ≡ drop at text
+take-len-drop text at = take_all _ _ (omega (arith, length-drop at text))
+
+next_taken : (text : List ℕ) (at n : ℕ) → at + n ≤ length text → take (at + n) text ≡ take at text ++ take n (take (length text - at) (drop at text))
+next_taken text at n h =
+    let all : take (length text - at) (drop at text) ≡ drop at text = take-len-drop text at in
+    take-add at n text ∙ ap (λ (t : List ℕ). take at text ++ take n t) (sym all)
+
+-- `write(&text[at..])` took n bytes
+pub stepped : (u v w : Option (List ℕ)) (text : List ℕ) (at n : ℕ) → at + n ≤ length text → Appended u v (take at text) → Appends v w (take n (take (length text - at) (drop at text))) → Appended u w (take (at + n) text)
+stepped u v w text at n h x y = rw (next_taken text at n h) (appended-by u v w _ _ x y)
+
+pub err-exit : {X E : Type 0} (u w : Option (List ℕ)) (a : List ℕ) (r : Result X E) → IsErr r → AppendedPart u w a → Wrote u w r a
+err-exit u w a (Ok y) e h = absurd (cc)
+err-exit u w a (Err y) e h = h
+
+-- ---- a loop that writes the text of each element
+flat-append : {X : Type 0} (f : X → List ℕ) (xs ys : List X) → flat_map f (xs ++ ys) ≡ flat_map f xs ++ flat_map f ys
+flat-append f [] ys = refl
+flat-append f (x ∷ xs) ys = ap (λ (t : List ℕ). f x ++ t) (flat-append f xs ys) ∙ sym (append_assoc (f x) (flat_map f xs) (flat_map f ys))
+
+flat-more : {X : Type 0} (f : X → List ℕ) (xs : List X) (i : ℕ) (d : X) → i < length xs → flat_map f (take (i + 1) xs) ≡ flat_map f (take i xs) ++ f (get_or xs i d)
+flat-more f xs i d l = ap (λ ys. flat_map f ys) (take_more xs i d l) ∙ flat-append f (take i xs) (get_or xs i d ∷ []) ∙ ap (λ (t : List ℕ). flat_map f (take i xs) ++ t) (append-nil (f (get_or xs i d)))
+
+flat-split : {X : Type 0} (f : X → List ℕ) (xs : List X) (n : ℕ) → flat_map f (take n xs) ++ flat_map f (drop n xs) ≡ flat_map f xs
+flat-split f xs n = sym (flat-append f (take n xs) (drop n xs)) ∙ ap (λ ys. flat_map f ys) (take-append-drop n xs)
+
+pub loop-next : {X : Type 0} (f : X → List ℕ) (xs : List X) (i : ℕ) (d : X) (u v w : Option (List ℕ)) → i < length xs → Appended u v (flat_map f (take i xs)) → Appended v w (f (get_or xs i d)) → Appended u w (flat_map f (take (i + 1) xs))
+loop-next f xs i d u v w l x y = rw (flat-more f xs i d l) (appended-then u v w _ _ x y)
+
+pub loop-stop : {X : Type 0} (f : X → List ℕ) (xs : List X) (i : ℕ) (d : X) (u v w : Option (List ℕ)) → i < length xs → Appended u v (flat_map f (take i xs)) → AppendedPart v w (f (get_or xs i d)) → AppendedPart u w (flat_map f xs)
+loop-stop f xs i d u v w l x y =
+    let part : AppendedPart u w (flat_map f (take (i + 1) xs)) = rw (flat-more f xs i d l) (part-then u v w _ _ x y) in
+    rw (← flat-split f xs (i + 1)) (part-more u w _ (flat_map f (drop (i + 1) xs)) part)
+
+pub loop-done : {X : Type 0} (f : X → List ℕ) (xs : List X) (n : ℕ) (u v : Option (List ℕ)) → length xs ≤ n → Appended u v (flat_map f (take n xs)) → Appended u v (flat_map f xs)
+loop-done f xs n u v l x = rw (← take_all n xs l) x
+
+pub ruleset loops = (appended-nil, loop-next, loop-stop, loop-done)
+
+-- a call at the end: its result is the caller's
+pub wrote-then : {A E : Type 0} (u v w : Option (List ℕ)) (a b : List ℕ) (r : Result A E) → Appended u v a → Wrote v w r b → Wrote u w r (a ++ b)
+wrote-then u v w a b (Ok z) x y = appended-then u v w a b x y
+wrote-then u v w a b (Err z) x y = part-then u v w a b x y
+
+pub ruleset tails = (appended-nil, part-more, part-then, wrote-then)
+
+take-repeat : (b k n : ℕ) → k ≤ n → take k (repeat n (b ∷ [])) ≡ repeat k (b ∷ [])
+take-repeat b zero n h = refl
+take-repeat b (suc k) zero h = absurd (omega (arith, h))
+take-repeat b (suc k) (suc n) h = ap (λ (t : List ℕ). b ∷ t) (take-repeat b k n (omega (arith, h)))
+
+pub take-spaces : (k : ℕ) → k ≤ 2 → take k (codes "  ") ≡ spaces k
+take-spaces k h = take-repeat 32 k 2 h
+
+pub ruleset pads = (take-spaces)

@@ -1,0 +1,93 @@
+// Finds the marks of a text one after another.
+ghost use Rattle.std.specs.Prelude.{◌≡◌, ◌+◌, ◌<◌, ◌≤◌, ◌^◌, ℕ, min, take, length, slice_index, true, false, [], MatchOption};
+ghost use Rattle.cbpf_code.specs.Marks.{is_digit, is_blank, number, marks_after};
+ghost use Rattle.cbpf_code.specs.NextMark.{IsNextMark};
+
+/// No field of word text reaches this number, so greater ones are not told from it.
+const CAP: u64 = 4_294_967_296;
+
+fn is_digit_byte(b: u8) -> bool
+    ensures { result ≡ is_digit b }
+{
+    b > 47 && b < 58
+}
+
+fn is_blank_byte(b: u8) -> bool
+    ensures { result ≡ is_blank b }
+{
+    b == b' ' || b == b'\t' || b == b'\r' || b == b'\n'
+}
+
+/// The length of the longest beginning of digits, and the number that they spell, at most `CAP`.
+fn leading_digits(text: &[u8]) -> (usize, u64)
+    ensures within { result.0 ≤ length text.now }
+    ensures digits { (k : ℕ) → k < result.0 → is_digit (slice_index text.now k) ≡ true }
+    ensures stops { result.0 < length text.now → is_digit (slice_index text.now result.0) ≡ false }
+    ensures value { result.1 ≡ min (number (take result.0 text.now)) (2 ^ 32) }
+{
+    let mut value = 0;
+    for (i, b) in text.iter().enumerate() {
+        if !is_digit_byte(*b) {
+            return (i, value);
+        }
+        value = (10 * value + u64::from(*b - b'0')).min(CAP);
+    }
+    (text.len(), value)
+}
+
+/// What a mark is.
+#[derive(Clone, Copy)]
+pub enum Lexeme {
+    /// A run of digits, and the number that they spell, at most `CAP`.
+    Digits(u64),
+    /// A byte that is neither digit nor blank.
+    Byte(u8),
+}
+
+/// A mark with the place of its first byte and the place behind its last.
+#[derive(Clone, Copy)]
+pub struct Found {
+    pub place: usize,
+    pub end: usize,
+    pub lexeme: Lexeme,
+}
+
+/// The place of the first byte from `at` on that is no blank, or the text's length.
+#[tactic(auto, using(crate::proofs::WordMarkLemmas::mark_steps))]
+pub fn skip_blanks(text: &[u8], at: usize) -> usize
+    requires { at ≤ length text.now }
+    ensures range { (at ≤ result) × (result ≤ length text.now) }
+    ensures same { marks_after text.now result ≡ marks_after text.now at }
+    ensures stops { result < length text.now → is_blank (slice_index text.now result) ≡ false }
+{
+    let mut i = at;
+    while i < text.len() && is_blank_byte(text[i]) {
+        i += 1;
+    }
+    i
+}
+
+/// The first mark from `at` on.
+pub fn next_mark(text: &[u8], at: usize) -> Option<Found>
+    requires { at ≤ length text.now }
+    ensures { MatchOption result (marks_after text.now at ≡ []) (λ f. IsNextMark text.now at f) }
+{
+    let place = skip_blanks(text, at);
+    if place == text.len() {
+        return None;
+    }
+    let byte = text[place];
+    if is_digit_byte(byte) {
+        let (len, value) = leading_digits(&text[place..]);
+        return Some(Found {
+            place,
+            end: place + len,
+            lexeme: Lexeme::Digits(value),
+        });
+    }
+    Some(Found {
+        place,
+        end: place + 1,
+        lexeme: Lexeme::Byte(byte),
+    })
+}

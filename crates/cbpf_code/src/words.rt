@@ -1,0 +1,134 @@
+// Reads word text, as `tcpdump -ddd` and `bpf_asm` print it.
+ghost use Rattle.std.specs.Prelude.{◌≡◌, ◌+◌, ◌<◌, ◌≤◌, ◌^◌, ◌%◌, ◌↔◌, ℕ, length, [], ◌∷◌, IsTrue, IfOk, MatchResult};
+ghost use Rattle.cbpf_code.specs.Marks.{marks_after};
+ghost use Rattle.cbpf_code.specs.WordText.{range_of, Spells, Refused};
+ghost use Rattle.cbpf_code.specs.WordSteps.{Passes, Stops, IsReadWhole};
+ghost use Rattle.cbpf_code.specs.declared.words.WordFault.TheVariants.{NumberExpected, CommaExpected};
+
+use crate::insn::Insn;
+use crate::scan::{Lexeme, next_mark, skip_blanks};
+use std::alloc::Allocator;
+
+/// Why word text is refused. A place is a byte's, counted from 0.
+#[derive(Clone, Copy, PartialEq, Eq, Debug)]
+pub enum WordFault {
+    /// There was no memory for the list.
+    Memory,
+    /// N1: a comma, or the end of the text, where a number must stand; at the comma, or at the
+    /// text's length.
+    NumberExpected(usize),
+    /// N2: a number above its field's range; at its first digit.
+    OutOfRange(usize),
+    /// N3: a byte that is no digit, blank or comma.
+    UnexpectedByte(usize),
+    /// N4: the count differs from the number of instructions.
+    CountDiffers { said: u32, found: usize },
+    /// N5: a number, or the end of the text behind the count, where a comma must stand.
+    CommaExpected(usize),
+}
+
+/// Whether no mark is left.
+fn is_end(text: &[u8], at: usize) -> bool
+    requires { at ≤ length text.now }
+    ensures { IsTrue result ↔ marks_after text.now at ≡ [] }
+{
+    skip_blanks(text, at) == text.len()
+}
+
+/// A number below `range`, and where it ends.
+fn number_at(text: &[u8], at: usize, range: u64) -> Result<(u64, usize), WordFault>
+    requires place { at ≤ length text.now }
+    requires range { range ≤ 2 ^ 32 }
+    ensures below { IfOk result (λ r. (r.0 < range) × (r.1 ≤ length text.now)) }
+    ensures step { (j : ℕ) → range_of j ≡ range → (j % 5 ≡ 1 → ⊥) →
+        MatchResult result (λ r. Passes text.now j at 1 (r.0 ∷ []) r.1)
+        (λ e. Stops text.now j at 1 e (NumberExpected (length text.now))) }
+{
+    match next_mark(text, at) {
+        None => Err(WordFault::NumberExpected(text.len())),
+        Some(found) => match found.lexeme {
+            Lexeme::Digits(n) if n < range => Ok((n, found.end)),
+            Lexeme::Digits(_) => Err(WordFault::OutOfRange(found.place)),
+            Lexeme::Byte(b',') => Err(WordFault::NumberExpected(found.place)),
+            Lexeme::Byte(_) => Err(WordFault::UnexpectedByte(found.place)),
+        },
+    }
+}
+
+/// Where a comma ends.
+fn comma_at(text: &[u8], at: usize) -> Result<usize, WordFault>
+    requires { at ≤ length text.now }
+    ensures { MatchResult result (λ end. Passes text.now 1 at 1 [] end)
+        (λ e. Stops text.now 1 at 1 e (CommaExpected (length text.now))) }
+{
+    match next_mark(text, at) {
+        None => Err(WordFault::CommaExpected(text.len())),
+        Some(found) => match found.lexeme {
+            Lexeme::Digits(_) => Err(WordFault::CommaExpected(found.place)),
+            Lexeme::Byte(b',') => Ok(found.end),
+            Lexeme::Byte(_) => Err(WordFault::UnexpectedByte(found.place)),
+        },
+    }
+}
+
+/// The four numbers of an instruction, and where they end.
+fn insn_at(text: &[u8], at: usize) -> Result<(Insn, usize), WordFault>
+    requires { at ≤ length text.now }
+    ensures { MatchResult result
+        (λ r. Passes text.now 2 at 4 (r.0.code ∷ r.0.jt ∷ r.0.jf ∷ r.0.k ∷ []) r.1)
+        (λ e. Stops text.now 2 at 4 e (NumberExpected (length text.now))) }
+{
+    let (code, at) = number_at(text, at, 65536)?;
+    let (jt, at) = number_at(text, at, 256)?;
+    let (jf, at) = number_at(text, at, 256)?;
+    let (k, at) = number_at(text, at, 4_294_967_296)?;
+    let insn = Insn {
+        code: code as u16,
+        jt: jt as u8,
+        jf: jf as u8,
+        k: k as u32,
+    };
+    Ok((insn, at))
+}
+
+/// The list, if the count is its length.
+fn counted<A: Allocator>(
+    text: &[u8],
+    count: u32,
+    list: Vec<Insn, A>,
+) -> Result<Vec<Insn, A>, WordFault>
+    requires { IsReadWhole text.now count list.items }
+    ensures { MatchResult result (λ v. Spells text.now v.items) (λ e. Refused text.now e) }
+{
+    if list.len() as u64 == u64::from(count) {
+        Ok(list)
+    } else {
+        Err(WordFault::CountDiffers {
+            said: count,
+            found: list.len(),
+        })
+    }
+}
+
+/// The instructions that word text spells: the count, a comma, and for each instruction its four
+/// decimal numbers code, jt, jf and k and a comma, of which the last may be missing. Blanks may
+/// stand anywhere between, and numbers may have leading zeros.
+#[tactic(auto, using(crate::proofs::WordStepLemmas::reading))]
+pub fn read_words<A: Allocator>(alloc: A, text: &[u8]) -> Result<Vec<Insn, A>, WordFault>
+    ensures { MatchResult result (λ v. Spells text.now v.items) (λ e. Refused text.now e) }
+{
+    let (count, at) = number_at(text, 0, 4_294_967_296)?;
+    let mut at = comma_at(text, at)?;
+    let mut list = Vec::new(alloc);
+    while !is_end(text, at) {
+        let (insn, end) = insn_at(text, at)?;
+        if list.push(insn).is_err() {
+            return Err(WordFault::Memory);
+        }
+        if is_end(text, end) {
+            return counted(text, count as u32, list);
+        }
+        at = comma_at(text, end)?;
+    }
+    counted(text, count as u32, list)
+}
