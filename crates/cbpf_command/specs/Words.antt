@@ -1,0 +1,41 @@
+-- The words of a command line, and what stands behind them.
+use Rattle.std.specs.Prelude.{ℕ, zero, suc, Bool, true, false, ◌&&◌, not, if◌then◌else◌, List, [], ◌∷◌}
+use Rattle.cbpf_code.specs.Marks.{is_blank}
+
+-- the text goes on with a byte that is no blank
+abbrev pub begins_word : List ℕ → Bool
+begins_word [] = false
+begins_word (b ∷ bs) = not (is_blank b)
+
+abbrev pub put_front : ℕ → List (List ℕ) → List (List ℕ)
+put_front b [] = (b ∷ []) ∷ []
+put_front b (w ∷ ws) = (b ∷ w) ∷ ws
+
+-- the longest runs of bytes that are no blanks
+unfoldable pub words : List ℕ → List (List ℕ)
+words [] = []
+words (b ∷ bs) = if is_blank b then words bs else (if begins_word bs then put_front b (words bs) else ((b ∷ []) ∷ words bs))
+
+-- the text behind its first n words
+unfoldable pub behind : ℕ → List ℕ → List ℕ
+behind zero bs = bs
+behind (suc n) [] = []
+behind (suc n) (b ∷ bs) = if is_blank b then behind (suc n) bs else (if begins_word bs then behind (suc n) bs else behind n bs)
+
+abbrev pub all_blank : List ℕ → Bool
+all_blank [] = true
+all_blank (b ∷ bs) = is_blank b && all_blank bs
+
+-- without the blanks at its front
+unfoldable pub trim_start : List ℕ → List ℕ
+trim_start [] = []
+trim_start (b ∷ bs) = if is_blank b then trim_start bs else (b ∷ bs)
+
+-- without the blanks at its end
+unfoldable pub trim_end : List ℕ → List ℕ
+trim_end [] = []
+trim_end (b ∷ bs) = if all_blank (b ∷ bs) then [] else (b ∷ trim_end bs)
+
+-- without the blanks around it
+abbrev pub trimmed : List ℕ → List ℕ
+trimmed bs = trim_end (trim_start bs)

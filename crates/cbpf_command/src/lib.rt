@@ -1,0 +1,11 @@
+#![tactic(auto)]
+
+//! The command language of the debugger: what a line says.
+
+mod command;
+mod scan;
+
+pub use command::{Command, LineRefusal, command_of};
+
+#[cfg(test)]
+mod tests;

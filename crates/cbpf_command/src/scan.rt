@@ -1,0 +1,69 @@
+// The words of a line.
+ghost use Rattle.std.specs.Prelude.{◌≡◌, ◌≤◌, ◌∷◌, ℕ, suc, drop, take, length, [], true, MatchOption, IfSome};
+ghost use Rattle.cbpf_code.specs.Marks.{is_blank};
+ghost use Rattle.cbpf_command.specs.Words as spec;
+
+fn is_blank(b: u8) -> bool
+    ensures { result ≡ is_blank b }
+{
+    matches!(b, b' ' | b'\t' | b'\r' | b'\n')
+}
+
+/// Without the blanks at its front.
+#[tactic(auto, using(crate::proofs::WordLemmas::starts))]
+fn trim_start(text: &[u8]) -> &[u8]
+    ensures { result.now ≡ spec.trim_start text.now }
+{
+    let mut at = 0;
+    while at < text.len() && is_blank(text[at]) {
+        at += 1;
+    }
+    &text[at..]
+}
+
+/// Without the blanks at its end.
+#[tactic(auto, using(crate::proofs::WordLemmas::ends))]
+fn trim_end(text: &[u8]) -> &[u8]
+    ensures { result.now ≡ spec.trim_end text.now }
+{
+    let mut end = text.len();
+    while end > 0 && is_blank(text[end - 1]) {
+        end -= 1;
+    }
+    &text[..end]
+}
+
+/// Without the blanks around it.
+pub fn trimmed(text: &[u8]) -> &[u8]
+    ensures { result.now ≡ spec.trimmed text.now }
+{
+    trim_end(trim_start(text))
+}
+
+/// How long a word is that begins the text.
+#[tactic(auto, using(crate::proofs::WordLemmas::runs))]
+fn word_len(text: &[u8]) -> usize
+    ensures within { result ≤ length text.now }
+    ensures word { spec.begins_word text.now ≡ true → spec.words text.now ≡ take result text.now ∷ spec.words (drop result text.now) }
+    ensures rest { spec.begins_word text.now ≡ true → (n : ℕ) → spec.behind (suc n) text.now ≡ spec.behind n (drop result text.now) }
+{
+    let mut len = 0;
+    while len < text.len() && !is_blank(text[len]) {
+        len += 1;
+    }
+    len
+}
+
+/// The first word, and what stands behind it.
+#[tactic(auto, using(crate::proofs::WordLemmas::firsts))]
+pub fn next_word(text: &[u8]) -> Option<(&[u8], &[u8])>
+    ensures words { MatchOption result (spec.words text.now ≡ []) (λ r. spec.words text.now ≡ r.0.now ∷ spec.words r.1.now) }
+    ensures rest { IfSome result (λ r. (n : ℕ) → spec.behind (suc n) text.now ≡ spec.behind n r.1.now) }
+{
+    let begun = trim_start(text);
+    if begun.is_empty() {
+        return None;
+    }
+    let len = word_len(begun);
+    Some((&begun[..len], &begun[len..]))
+}
