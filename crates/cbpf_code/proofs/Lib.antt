@@ -1,3 +1,9 @@
+pub mod FaultLemmas
+pub mod FirstFaultLemmas
+pub mod PathLemmas
+pub mod SlotMaskLemmas
+pub mod SoundLemmas
+pub mod TableLemmas
 pub mod WordMarkLemmas
 pub mod WordStepLemmas
 pub mod WrittenLemmas

@@ -99,8 +99,6 @@ pub wrote-then : {A E : Type 0} (u v w : Option (List ℕ)) (a b : List ℕ) (r 
 wrote-then u v w a b (Ok z) x y = appended-then u v w a b x y
 wrote-then u v w a b (Err z) x y = part-then u v w a b x y
 
-pub ruleset tails = (appended-nil, part-more, part-then, wrote-then)
-
 take-repeat : (b k n : ℕ) → k ≤ n → take k (repeat n (b ∷ [])) ≡ repeat k (b ∷ [])
 take-repeat b zero n h = refl
 take-repeat b (suc k) zero h = absurd (omega (arith, h))
@@ -110,3 +108,10 @@ pub take-spaces : (k : ℕ) → k ≤ 2 → take k (codes "  ") ≡ spaces k
 take-spaces k h = take-repeat 32 k 2 h
 
 pub ruleset pads = (take-spaces)
+
+-- ---- two calls, one after the other
+
+pub first-failed : {A E : Type 0} (u v : Option (List ℕ)) (a b : List ℕ) (r : Result A E) → IsErr r → AppendedPart u v a → Wrote u v r (a ++ b)
+first-failed u v a b r e h = err-exit u v (a ++ b) r e (part-more u v a b h)
+
+pub ruleset pairs = (first-failed, wrote-then)

@@ -1,16 +1,24 @@
+//! Classic BPF: instructions, the code table, the extensions and the checker, and the texts in which
+//! a program is read and written.
 #![tactic(auto)]
 
-//! Classic BPF instructions: word text as `tcpdump -ddd` prints it, the C form, and how texts are
-//! written to any writer.
-
 mod c_form;
+mod checker;
+mod extension;
 mod insn;
+mod opcode;
+mod program;
 mod scan;
+mod slots;
 mod words;
 mod writing;
 
 pub use c_form::write_c;
+pub use checker::{CheckFault, check};
+pub use extension::{Ext, ext_at, ext_name, ext_named, ext_offset};
 pub use insn::Insn;
+pub use opcode::{AluOp, Cond, Op, Size, Src, code_of, op_of};
+pub use program::Program;
 pub use words::{WordFault, read_words};
 pub use writing::{
     WriteFault, digits_needed, eight_digits, spaces_before, write_bytes, write_decimal, write_hex,

@@ -1,1 +1,4 @@
+mod checker;
+mod random_lists;
+mod tables;
 mod words;

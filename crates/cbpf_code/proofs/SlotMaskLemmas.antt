@@ -1,0 +1,77 @@
+-- Masks of slots: one mask, and the masks of all instructions.
+use Rattle.std.proofs.Common.{◌≡◌, ℕ, zero, suc, ◌+◌, ◌*◌, ◌%◌, ◌^◌, ◌<◌, List, length, get_or, arith, refl, sym, ◌∙◌, subst, inl, inr, max}
+use Rattle.std.specs.Prelude.{◌⊎◌, IsTrue, slice_set, slice_index, bit_and, bit_or}
+use Rattle.std.specs.Int.{bit_at, bit_not, w16}
+use Rattle.std.proofs.lemmas.Bool.{cases_eq}
+use Rattle.std.proofs.lemmas.Nat.Bits.{bit_at_or, bit_at-lt, bit_at_clear_same, bit_at_clear_other}
+use Rattle.std.proofs.lemmas.List.{get_or-set_other}
+use Rattle.std.proofs.lemmas.Grind.{get_or-set_at}
+use Rattle.std.proofs.Math.ListN.{length-set}
+use Rattle.cbpf_code.specs.declared.insn.Insn.{Insn}
+use Rattle.cbpf_code.specs.declared.opcode.Op.{Op}
+use Rattle.cbpf_code.specs.declared.opcode.Op.TheVariants.{Ja, Jump, RetK, RetA}
+use Rattle.cbpf_code.specs.ControlFlow.{Follows, stores_slot}
+use Rattle.cbpf_code.specs.SlotMasks.{InMask, InMaskOf, LeavesUnwritten, AddsToMasks}
+
+-- ---- one mask
+
+max-one : (x y : ℕ) → max x y ≡ 1 → (x ≡ 1) ⊎ (y ≡ 1)
+max-one zero y h = inr (omega arith)
+max-one (suc zero) y h = inl refl
+max-one (suc (suc x)) y h = absurd (omega arith)
+
+in_mask-or-left : (a b s : ℕ) → InMask a s → InMask (bit_or a b) s
+in_mask-or-left a b s h = let l = bit_at-lt b s in bit_at_or a b s ∙ omega arith
+
+in_mask-or-right : (a b s : ℕ) → InMask b s → InMask (bit_or a b) s
+in_mask-or-right a b s h = let l = bit_at-lt a s in bit_at_or a b s ∙ omega arith
+
+in_or-mask : (a b s : ℕ) → InMask (bit_or a b) s → InMask a s ⊎ InMask b s
+in_or-mask a b s h = max-one (bit_at a s) (bit_at b s) (sym (bit_at_or a b s) ∙ h)
+
+pub leaves_unwritten-cleared : (mask : ℕ) (op : Op) (insn : Insn) → insn.k < 16 → IsTrue (stores_slot op) → LeavesUnwritten mask op insn (bit_and mask (bit_not w16 (1 * 2 ^ insn.k % 2 ^ 16)))
+leaves_unwritten-cleared mask op insn within stores = record {
+  kept = λ s small here away. bit_at_clear_other w16 mask insn.k within s small (λ e. away stores (sym e)) ∙ here;
+  only = λ s small here.
+      elim (cases_eq s insn.k) [
+        | inl e ↦
+            let gone = bit_at_clear_same w16 mask insn.k within in
+            let at_k = subst (λ u. InMask (bit_and mask (bit_not w16 (1 * 2 ^ insn.k % 2 ^ 16))) u) e here in
+            absurd (omega arith)
+        | inr n ↦ sym (bit_at_clear_other w16 mask insn.k within s small n) ∙ here
+      ];
+  stored = λ s small here is e.
+      let gone = bit_at_clear_same w16 mask insn.k within in
+      let at_k = subst (λ u. InMask (bit_and mask (bit_not w16 (1 * 2 ^ insn.k % 2 ^ 16))) u) (sym e) here in
+      omega arith;
+}
+
+-- ---- the masks of all instructions
+
+pub adds_to_masks-one : (masks : List ℕ) (at left : ℕ) → at < length masks → AddsToMasks masks (slice_set masks at (bit_or (slice_index masks at) left)) left (λ t. t ≡ at)
+adds_to_masks-one masks at left inside =
+    let v : ℕ = bit_or (get_or masks at 0) left in
+    record {
+      long = length-set masks at v;
+      kept = λ t s here.
+          elim (cases_eq t at) [
+            | inl e ↦ subst (λ m. InMask m s) (sym (get_or-set_at masks at t v 0 e inside)) (in_mask-or-left (get_or masks at 0) left s (subst (λ u. InMaskOf masks u s) e here))
+            | inr n ↦ subst (λ m. InMask m s) (sym (get_or-set_other masks at t v 0 n)) here
+          ];
+      added = λ t s e here. subst (λ m. InMask m s) (sym (get_or-set_at masks at t v 0 e inside)) (in_mask-or-right (get_or masks at 0) left s here);
+      only = λ t s here.
+          elim (cases_eq t at) [
+            | inl e ↦ elim (in_or-mask (get_or masks at 0) left s (subst (λ m. InMask m s) (get_or-set_at masks at t v 0 e inside) here)) [
+              | inl a ↦ inl (subst (λ u. InMaskOf masks u s) (sym e) a)
+              | inr b ↦ inr (e, b)
+            ]
+            | inr n ↦ inl (subst (λ m. InMask m s) (get_or-set_other masks at t v 0 n) here)
+          ];
+    }
+
+pub follows-next : (op : Op) (insn : Insn) (i : ℕ) → (op ≡ Ja → ⊥) → ((cond_is : _) (src : _) → op ≡ Jump cond_is src → ⊥) → (op ≡ RetK → ⊥) → (op ≡ RetA → ⊥) → Follows op insn i (i + 1)
+follows-next Ja insn i a b c d = absurd (a refl)
+follows-next (Jump k src) insn i a b c d = absurd (b k src refl)
+follows-next RetK insn i a b c d = absurd (c refl)
+follows-next RetA insn i a b c d = absurd (d refl)
+follows-next _ insn i a b c d = refl

@@ -1,0 +1,71 @@
+-- What a checked list says of its instructions, for those who run it.
+use Rattle.std.proofs.Common.{◌≡◌, ℕ, ◌+◌, ◌-◌, ◌<◌, ◌≤◌, List, length, arith, refl, subst, inl, inr}
+use Rattle.std.specs.Prelude.{◌⊎◌, Option, Some, None, slice_get}
+use Rattle.std.proofs.lemmas.Bool.{cases_eq, cases_lt}
+use Rattle.std.proofs.lemmas.Option.{slice_get_cases}
+use Rattle.cbpf_code.specs.declared.insn.Insn.{Insn}
+use Rattle.cbpf_code.specs.declared.opcode.Op.{Op}
+use Rattle.cbpf_code.specs.declared.opcode.Op.TheVariants.{RetK, RetA}
+use Rattle.cbpf_code.specs.declared.checker.CheckFault.TheVariants.{NoInstruction, TooMany, UnknownCode, NoSlot, ZeroDivisor, WideShift, JumpOutside, UnknownExtension, NoReturn}
+use Rattle.cbpf_code.specs.Opcode.{op_of}
+use Rattle.cbpf_code.specs.ControlFlow.{Follows}
+use Rattle.cbpf_code.specs.Faults.{IsReturn}
+use Rattle.cbpf_code.specs.Sound.{IsAllowed, IsSound}
+use Rattle.cbpf_code.specs.CheckSteps.{IsWellFormed}
+use Rattle.cbpf_code.proofs.PathLemmas.{follows-inside}
+
+pub sound_few : (list : List Insn) → IsSound list → length list ≤ 4096
+sound_few list sound = elim (cases_lt 4096 (length list)) [ inl h ↦ absurd (sound.none TooMany h) | inr h ↦ h ]
+
+known_or : (o : Option Op) → (o ≡ None) ⊎ ((op : Op) × (o ≡ Some op))
+known_or None = inl refl
+known_or (Some op) = inr (op, refl)
+
+pub sound_known : (list : List Insn) (i : ℕ) (insn : Insn) → IsSound list → slice_get list i ≡ Some insn → (op : Op) × (op_of insn.code ≡ Some op)
+sound_known list i insn sound here = elim (known_or (op_of insn.code)) [ inl none ↦ absurd (sound.none (UnknownCode i) (insn, here, none)) | inr known ↦ known ]
+
+pub sound_allowed : (list : List Insn) (i : ℕ) (insn : Insn) (op : Op) → IsSound list → slice_get list i ≡ Some insn → op_of insn.code ≡ Some op → IsAllowed op insn i (length list)
+sound_allowed list i insn op sound here known = record {
+  slot = λ names. elim (cases_lt insn.k 16) [ inl h ↦ h | inr h ↦ absurd (sound.none (NoSlot i) (insn, op, here, known, (names, h))) ];
+  divisor = λ divides. elim (cases_eq insn.k 0) [ inl e ↦ absurd (sound.none (ZeroDivisor i) (insn, op, here, known, (divides, e))) | inr n ↦ omega arith ];
+  shift = λ shifts. elim (cases_lt insn.k 32) [ inl h ↦ h | inr h ↦ absurd (sound.none (WideShift i) (insn, op, here, known, (shifts, h))) ];
+  targets = λ t target. elim (cases_lt t (length list)) [ inl h ↦ h | inr h ↦ absurd (sound.none (JumpOutside i) (insn, op, here, known, (t, target, h))) ];
+  extension = λ loads far none. sound.none (UnknownExtension i) (insn, op, here, known, (loads, far, none));
+}
+
+pub sound_some : (list : List Insn) → IsSound list → 0 < length list
+sound_some list sound = elim (cases_eq (length list) 0) [ inl e ↦ absurd (sound.none NoInstruction e) | inr n ↦ omega arith ]
+
+returns_or : (o : Option Op) → (((o ≡ Some RetK) ⊎ (o ≡ Some RetA)) → ⊥) ⊎ ((o ≡ Some RetK) ⊎ (o ≡ Some RetA))
+returns_or (Some RetK) = inr (inl refl)
+returns_or (Some RetA) = inr (inr refl)
+returns_or _ = inl (λ h. elim h [ inl e ↦ absurd (cc) | inr e ↦ absurd (cc) ])
+
+sound_ends : (list : List Insn) → IsSound list → (insn : Insn) (i : ℕ) → i + 1 ≡ length list → slice_get list i ≡ Some insn → IsReturn insn
+sound_ends list sound insn i last here =
+    elim (returns_or (op_of insn.code)) [
+      | inl never ↦
+          let e : i ≡ length list - 1 = omega arith in
+          absurd (sound.none NoReturn (insn, subst (λ k. slice_get list k ≡ Some insn) e here, never))
+      | inr returns ↦ returns
+    ]
+
+pub sound_well_formed : (list : List Insn) → IsSound list → IsWellFormed list
+sound_well_formed list sound = record {
+  passed = record {
+    some = sound_some list sound;
+    few = sound_few list sound;
+    allowed = λ j below.
+        elim (slice_get_cases list j).1 [
+          | inl found ↦
+              let known = sound_known list j found.0 sound found.2 in
+              (found.0, known.0, found.2, known.1, sound_allowed list j found.0 known.0 sound found.2 known.1)
+          | inr past ↦ absurd (omega arith)
+        ];
+  };
+  ends = sound_ends list sound;
+}
+
+-- what follows an instruction of a checked program is one of its indices
+pub sound_next : (list : List Insn) (i : ℕ) (insn : Insn) (op : Op) → IsSound list → slice_get list i ≡ Some insn → op_of insn.code ≡ Some op → (t : ℕ) → Follows op insn i t → t < length list
+sound_next list i insn op sound here known = follows-inside list i insn op (sound_well_formed list sound) here known

@@ -1,0 +1,6 @@
+use Rattle.cbpf_code.specs.CheckSteps.{PassesBefore}
+use Rattle.cbpf_code.proofs.checker.first_fault.Given as goal
+
+-- no instruction so far gives a refusal by itself
+abbrev pub invariant-loop-i : goal.invariant-loop-i
+invariant-loop-i l = PassesBefore l.list l.i

@@ -1,0 +1,52 @@
+-- The jump graph of a list of instructions, and the slots of scratch memory that a path through it leaves unwritten (Documentation/networking/filter, "BPF engine and instruction set"; bpf(4), "FILTER MACHINE": jumps are relative to the next instruction).
+use Rattle.std.specs.Prelude.{◌≡◌, ◌⊎◌, ℕ, ◌+◌, ◌<◌, Bool, true, false, IsTrue, List, Option, Some, None, slice_get}
+use Rattle.cbpf_code.specs.declared.insn.Insn.{Insn}
+use Rattle.cbpf_code.specs.declared.opcode.Op.{Op}
+use Rattle.cbpf_code.specs.declared.opcode.Op.TheVariants.{LdMem, LdxMem, St, Stx, Ja, Jump, RetK, RetA}
+use Rattle.cbpf_code.specs.Opcode.{op_of}
+
+-- i is an index of the list, and its instruction has a known operation for which a property holds
+abbrev pub InsnAt : List Insn → ℕ → (Op → Insn → Type 0) → Type 0
+InsnAt list i Has = (insn : Insn) × (op : Op) × (slice_get list i ≡ Some insn) × (op_of insn.code ≡ Some op) × Has op insn
+
+-- t is where the instruction at i may jump
+abbrev pub IsTarget : Op → Insn → ℕ → ℕ → Type 0
+IsTarget Ja insn i t = t ≡ i + 1 + insn.k
+IsTarget (Jump cond src) insn i t = (t ≡ i + 1 + insn.jt) ⊎ (t ≡ i + 1 + insn.jf)
+IsTarget _ insn i t = ⊥
+
+-- t may follow the instruction at i: nothing follows a return, only its targets follow a jump, and else the next one
+abbrev pub Follows : Op → Insn → ℕ → ℕ → Type 0
+Follows RetK insn i t = ⊥
+Follows RetA insn i t = ⊥
+Follows Ja insn i t = IsTarget Ja insn i t
+Follows (Jump cond src) insn i t = IsTarget (Jump cond src) insn i t
+Follows _ insn i t = t ≡ i + 1
+
+-- the same where the code may be unknown
+abbrev pub FollowsCode : Option Op → Insn → ℕ → ℕ → Type 0
+FollowsCode (Some op) insn i t = Follows op insn i t
+FollowsCode None insn i t = t ≡ i + 1
+
+-- an edge of the jump graph from i to t
+abbrev pub IsSuccessor : List Insn → ℕ → ℕ → Type 0
+IsSuccessor list i t = (insn : Insn) × (slice_get list i ≡ Some insn) × FollowsCode (op_of insn.code) insn i t
+
+abbrev pub loads_slot : Op → Bool
+loads_slot LdMem = true
+loads_slot LdxMem = true
+loads_slot _ = false
+
+abbrev pub stores_slot : Op → Bool
+stores_slot St = true
+stores_slot Stx = true
+stores_slot _ = false
+
+-- the instruction at i stores into slot s
+abbrev pub StoresSlot : List Insn → ℕ → ℕ → Type 0
+StoresSlot list i s = InsnAt list i (λ op insn. IsTrue (stores_slot op) × (insn.k ≡ s))
+
+-- some path from the first instruction to i has no store into slot s before i
+pub data MayBeUnwritten (list : List Insn) (s : ℕ) : ℕ → Type 0 where
+  at_start : MayBeUnwritten list s 0
+  onward : {h i : ℕ} → h < i → MayBeUnwritten list s h → (StoresSlot list h s → ⊥) → IsSuccessor list h i → MayBeUnwritten list s i

@@ -1,0 +1,76 @@
+-- What a checker refuses in a list of instructions, and which refusal it reports first (bpf(4), "FILTER MACHINE": branches lead forward and inside, and the end is a return; which further faults there are, and their order, is this project's).
+use Rattle.std.specs.Prelude.{◌≡◌, ◌⊎◌, ℕ, ◌-◌, ◌<◌, ◌≤◌, Bool, true, false, IsTrue, List, Some, None, length, slice_get}
+use Rattle.cbpf_code.specs.declared.insn.Insn.{Insn}
+use Rattle.cbpf_code.specs.declared.opcode.Op.{Op}
+use Rattle.cbpf_code.specs.declared.opcode.Op.TheVariants.{LdAbs, LdMem, LdxMem, St, Stx, Alu, RetK, RetA}
+use Rattle.cbpf_code.specs.declared.opcode.AluOp.TheVariants.{Div, Mod, Lsh, Rsh}
+use Rattle.cbpf_code.specs.declared.opcode.Src.TheVariants.{K}
+use Rattle.cbpf_code.specs.declared.checker.CheckFault.{CheckFault}
+use Rattle.cbpf_code.specs.declared.checker.CheckFault.TheVariants.{NoInstruction, TooMany, UnknownCode, NoSlot, ZeroDivisor, WideShift, JumpOutside, UnknownExtension, NoReturn, UnwrittenSlot}
+use Rattle.cbpf_code.specs.Opcode.{op_of}
+use Rattle.cbpf_code.specs.Extension.{ext_at}
+use Rattle.cbpf_code.specs.ControlFlow.{InsnAt, IsTarget, loads_slot, MayBeUnwritten}
+
+-- operations whose k is a slot of scratch memory
+abbrev pub uses_slot : Op → Bool
+uses_slot LdMem = true
+uses_slot LdxMem = true
+uses_slot St = true
+uses_slot Stx = true
+uses_slot _ = false
+
+abbrev pub divides_by_k : Op → Bool
+divides_by_k (Alu Div K) = true
+divides_by_k (Alu Mod K) = true
+divides_by_k _ = false
+
+abbrev pub shifts_by_k : Op → Bool
+shifts_by_k (Alu Lsh K) = true
+shifts_by_k (Alu Rsh K) = true
+shifts_by_k _ = false
+
+abbrev pub loads_absolute : Op → Bool
+loads_absolute (LdAbs size) = true
+loads_absolute _ = false
+
+abbrev pub IsReturn : Insn → Type 0
+IsReturn insn = (op_of insn.code ≡ Some RetK) ⊎ (op_of insn.code ≡ Some RetA)
+
+-- a list has a fault: C1 to C10, a line each
+abbrev pub HasFault : List Insn → CheckFault → Type 0
+HasFault list NoInstruction = length list ≡ 0
+HasFault list TooMany = 4096 < length list
+HasFault list (UnknownCode i) = (insn : Insn) × (slice_get list i ≡ Some insn) × (op_of insn.code ≡ None)
+HasFault list (NoSlot i) = InsnAt list i (λ op insn. IsTrue (uses_slot op) × (16 ≤ insn.k))
+HasFault list (ZeroDivisor i) = InsnAt list i (λ op insn. IsTrue (divides_by_k op) × (insn.k ≡ 0))
+HasFault list (WideShift i) = InsnAt list i (λ op insn. IsTrue (shifts_by_k op) × (32 ≤ insn.k))
+HasFault list (JumpOutside i) = InsnAt list i (λ op insn. (t : ℕ) × IsTarget op insn i t × (length list ≤ t))
+HasFault list (UnknownExtension i) = InsnAt list i (λ op insn. IsTrue (loads_absolute op) × (4294963200 ≤ insn.k) × (ext_at insn.k ≡ None))
+HasFault list NoReturn = (insn : Insn) × (slice_get list (length list - 1) ≡ Some insn) × (IsReturn insn → ⊥)
+HasFault list (UnwrittenSlot i) = InsnAt list i (λ op insn. IsTrue (loads_slot op) × MayBeUnwritten list insn.k i)
+
+-- the order of reports: C1, C2, then C3 to C8 by instruction, then C9, then C10 by instruction
+abbrev pub rank : CheckFault → ℕ
+rank NoInstruction = 0
+rank TooMany = 1
+rank NoReturn = 3
+rank (UnwrittenSlot i) = 4
+rank _ = 2
+
+abbrev pub index_of : CheckFault → ℕ
+index_of (UnknownCode i) = i
+index_of (NoSlot i) = i
+index_of (ZeroDivisor i) = i
+index_of (WideShift i) = i
+index_of (JumpOutside i) = i
+index_of (UnknownExtension i) = i
+index_of (UnwrittenSlot i) = i
+index_of _ = 0
+
+abbrev pub IsEarlier : CheckFault → CheckFault → Type 0
+IsEarlier e f = (rank e < rank f) ⊎ ((rank e ≡ rank f) × (index_of e < index_of f))
+
+-- the list has this fault and no earlier one
+pub record FirstFault (list : List Insn) (e : CheckFault) : Type 0 where
+  pub present : HasFault list e
+  pub none_earlier : (f : CheckFault) → IsEarlier f e → HasFault list f → ⊥

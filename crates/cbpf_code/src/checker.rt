@@ -1,0 +1,157 @@
+ghost use Rattle.std.specs.Prelude.{◌≡◌, ◌<◌, ◌≤◌, ◌+◌, ◌-◌, ◌↔◌, ◌⊎◌, ℕ, Some, length, slice_get, slice_index, MatchOption, IsOk, IfOk, IfErr, IsTrue};
+ghost use Rattle.cbpf_code.specs.Faults.{FirstFault, HasFault, IsReturn};
+ghost use Rattle.cbpf_code.specs.Faults as spec;
+ghost use Rattle.cbpf_code.specs.Sound.{AllowedAt, IsAllowed, IsSound};
+ghost use Rattle.cbpf_code.specs.CheckSteps.{InsnHasFault};
+ghost use Rattle.cbpf_code.specs.declared.checker.CheckFault.{CheckFault};
+
+use crate::extension::ext_at;
+use crate::insn::Insn;
+use crate::opcode::{AluOp, Op, Src, op_of};
+use crate::program::Program;
+use crate::slots::first_unwritten;
+use std::alloc::Allocator;
+
+/// How many instructions a program has at most.
+const MAX_INSTRUCTIONS: usize = 4096;
+
+/// How many slots the scratch memory has.
+const SLOTS: u32 = 16;
+
+/// Absolute loads from here on ask for extensions.
+const EXTENSIONS_START: u32 = 0xfffff000;
+
+/// Why a list of instructions is no program; a number is the index of the instruction, from 0.
+#[derive(Clone, Copy, Debug, PartialEq, Eq)]
+pub enum CheckFault {
+    /// C1: there is no instruction.
+    NoInstruction,
+    /// C2: there are more than 4096 instructions.
+    TooMany,
+    /// C3: no operation has the code.
+    UnknownCode(u32),
+    /// C4: a load or store of scratch memory names a slot above 15.
+    NoSlot(u32),
+    /// C5: a division or remainder by the number 0.
+    ZeroDivisor(u32),
+    /// C6: a shift by a number of 32 or more.
+    WideShift(u32),
+    /// C7: a target of a jump is behind the last instruction.
+    JumpOutside(u32),
+    /// C8: an absolute load from 4294963200 or more where no extension has its place.
+    UnknownExtension(u32),
+    /// C9: the last instruction is no return.
+    NoReturn,
+    /// C10: a load of a slot into which some path to it stores nothing.
+    UnwrittenSlot(u32),
+}
+
+/// Checks a list of instructions (bpf(4), "FILTER MACHINE"), and makes it a program.
+///
+/// Takes no memory, and time linear in the length of the list.
+///
+/// # Errors
+///
+/// The first fault of the list, and the list as it was. C1 and C2 come first, then by instruction
+/// from 0 the one of C3 to C8 that it has, then C9, then C10 with the least index.
+pub fn check<A: Allocator>(list: Vec<Insn, A>) -> Result<Program<A>, (CheckFault, Vec<Insn, A>)>
+    ensures accepts { IsOk result ↔ IsSound list.items }
+    ensures same { IfOk result (λ p. p ≡ list.items) }
+
+    ensures fault { IfErr result (λ e. FirstFault list.items e.0) }
+    ensures only { IfErr result (λ e. (f : CheckFault) → FirstFault list.items f → f ≡ e.0) }
+    ensures back { IfErr result (λ e. e.1 ≡ list) }
+{
+    match first_fault(&list) {
+        None => Ok(Program::of_sound(list)),
+        Some(fault) => Err((fault, list)),
+    }
+}
+
+fn first_fault(list: &[Insn]) -> Option<CheckFault>
+    ensures { MatchOption result (IsSound list.now) (λ e. FirstFault list.now e) }
+{
+    if list.is_empty() {
+        return Some(CheckFault::NoInstruction);
+    }
+    if list.len() > MAX_INSTRUCTIONS {
+        return Some(CheckFault::TooMany);
+    }
+    let count = list.len() as u32;
+    for i in 0..count {
+        match fault_at(list, i, count) {
+            Some(fault) => return Some(fault),
+            None => (),
+        }
+    }
+    if !is_return(list[list.len() - 1]) {
+        return Some(CheckFault::NoReturn);
+    }
+    match first_unwritten(list) {
+        None => None,
+        Some(i) => Some(CheckFault::UnwrittenSlot(i)),
+    }
+}
+
+fn is_return(insn: Insn) -> bool
+    ensures { IsTrue result ↔ IsReturn insn }
+{
+    matches!(op_of(insn.code), Some(Op::RetK) | Some(Op::RetA))
+}
+
+/// The one of C3 to C8 that the instruction at `i` has.
+fn fault_at(list: &[Insn], i: u32, count: u32) -> Option<CheckFault>
+    requires within { i < count }
+    requires all { count ≡ length list.now }
+    requires few { count ≤ 4096 }
+    ensures { MatchOption result (AllowedAt list.now i) (λ e. HasFault list.now e × (spec.rank e ≡ 2) × (spec.index_of e ≡ i)) }
+{
+    let insn = list[i as usize];
+    match op_of(insn.code) {
+        None => Some(CheckFault::UnknownCode(i)),
+        Some(op) => fault_of(op, insn, i, count),
+    }
+}
+
+/// The one of C4 to C8 that an instruction of a known operation has, at `i` of `count`.
+fn fault_of(op: Op, insn: Insn, i: u32, count: u32) -> Option<CheckFault>
+    requires few { count ≤ 4096 }
+    requires within { i < count }
+    ensures { MatchOption result (IsAllowed op insn i count) (λ e. InsnHasFault op insn i count e × (spec.rank e ≡ 2) × (spec.index_of e ≡ i)) }
+{
+    let behind = count - i - 1; // how many instructions a jump can reach
+    match op {
+        Op::LdMem | Op::LdxMem | Op::St | Op::Stx => (insn.k >= SLOTS).then_some(CheckFault::NoSlot(
+            i,
+        )),
+        Op::Alu(AluOp::Div | AluOp::Mod, Src::K) => (insn.k == 0).then_some(CheckFault::ZeroDivisor(
+            i,
+        )),
+        Op::Alu(AluOp::Lsh | AluOp::Rsh, Src::K) => (insn.k >= u32::BITS).then_some(
+            CheckFault::WideShift(i),
+        ),
+        Op::Ja => {
+            if insn.k < behind {
+                None
+            } else {
+                Some(CheckFault::JumpOutside(i))
+            }
+        }
+        Op::Jump(_, _) => {
+            if u32::from(insn.jt) < behind && u32::from(insn.jf) < behind {
+                None
+            } else {
+                Some(CheckFault::JumpOutside(i))
+            }
+        }
+        Op::LdAbs(_) => (insn.k >= EXTENSIONS_START && ext_at(insn.k).is_none()).then_some(
+            CheckFault::UnknownExtension(i),
+        ),
+        Op::Alu(AluOp::Add | AluOp::Sub | AluOp::Mul | AluOp::Or | AluOp::And | AluOp::Xor, _) =>
+            None,
+        Op::Alu(_, Src::X) => None,
+        Op::LdImm | Op::LdInd(_) | Op::LdLen | Op::LdxImm | Op::LdxLen | Op::LdxMsh | Op::Neg =>
+            None,
+        Op::RetK | Op::RetA | Op::Tax | Op::Txa => None,
+    }
+}

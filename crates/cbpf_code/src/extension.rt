@@ -1,0 +1,124 @@
+ghost use Rattle.std.specs.Prelude.{◌≡◌, ◌+◌, ℕ, Some, MatchOption};
+ghost use Rattle.cbpf_code.specs.Extension as spec;
+ghost use Rattle.cbpf_code.specs.declared.extension.Ext.{Ext};
+
+/// An extension of Linux: what an absolute load from a place that no packet has asks for instead
+/// (Documentation/networking/filter, "BPF engine and instruction set", the table of extensions).
+#[derive(Clone, Copy, Debug, PartialEq, Eq)]
+pub enum Ext {
+    Proto,
+    PktType,
+    IfIdx,
+    Nla,
+    NlaN,
+    Mark,
+    Queue,
+    HaType,
+    RxHash,
+    Cpu,
+    VlanTci,
+    VlanAvail,
+    PayOff,
+    Rand,
+    VlanTpid,
+}
+
+/// The place of the first extension; SKF_AD_OFF as an unsigned number.
+const FIRST: u32 = 0xfffff000;
+
+/// The table of the 15 extensions: place, extension and name, handed row by row to one of the four
+/// macros below.
+macro_rules! extensions {
+    ($reading:ident, $value:expr) => {
+        $reading! {
+            $value;
+            0xfffff000 => Ext::Proto, "proto";
+            0xfffff004 => Ext::PktType, "type";
+            0xfffff008 => Ext::IfIdx, "ifidx";
+            0xfffff00c => Ext::Nla, "nla";
+            0xfffff010 => Ext::NlaN, "nlan";
+            0xfffff014 => Ext::Mark, "mark";
+            0xfffff018 => Ext::Queue, "queue";
+            0xfffff01c => Ext::HaType, "hatype";
+            0xfffff020 => Ext::RxHash, "rxhash";
+            0xfffff024 => Ext::Cpu, "cpu";
+            0xfffff02c => Ext::VlanTci, "vlan_tci";
+            0xfffff030 => Ext::VlanAvail, "vlan_avail";
+            0xfffff034 => Ext::PayOff, "poff";
+            0xfffff038 => Ext::Rand, "rand";
+            0xfffff03c => Ext::VlanTpid, "vlan_tpid";
+        }
+    };
+}
+
+macro_rules! ext_of_place {
+    ($value:expr; $($place:literal => $ext:expr, $name:literal;)*) => {
+        Some(match $value {
+            $($place => $ext,)*
+            _ => return None,
+        })
+    };
+}
+
+macro_rules! offset_of_ext {
+    ($value:expr; $($place:literal => $ext:pat, $name:literal;)*) => {
+        match $value {
+            $($ext => $place - FIRST,)*
+        }
+    };
+}
+
+macro_rules! name_of_ext {
+    ($value:expr; $($place:literal => $ext:pat, $name:literal;)*) => {
+        match $value {
+            $($ext => $name,)*
+        }
+    };
+}
+
+macro_rules! ext_of_name {
+    ($value:expr; $($place:literal => $ext:expr, $name:literal;)*) => {{
+        $(if $value == $name.as_bytes() {
+            return Some($ext);
+        })*
+        None
+    }};
+}
+
+/// The extension that an absolute load from place `k` asks for; `None` where the place has none.
+#[inline(always)]
+#[tactic(auto, unfolding(crate::specs::Extension::ext_at))]
+pub fn ext_at(k: u32) -> Option<Ext>
+    ensures { result ≡ spec.ext_at k }
+{
+    extensions!(ext_of_place, k)
+}
+
+/// How far the extension's place is behind 4294963200, the place of the first one; 0 to 60.
+pub fn ext_offset(e: Ext) -> u32
+    ensures value { result ≡ spec.ext_offset e }
+    ensures known { spec.ext_at (4294963200 + result) ≡ Some e }
+    ensures only { (k : ℕ) → spec.ext_at k ≡ Some e → k ≡ 4294963200 + result }
+{
+    offset_in_table(e)
+}
+
+fn offset_in_table(e: Ext) -> u32
+    ensures { result ≡ spec.ext_offset e }
+{
+    extensions!(offset_of_ext, e)
+}
+
+/// The name of the extension in assembler text.
+pub fn ext_name(e: Ext) -> &'static str
+    ensures { result.now ≡ spec.ext_name e }
+{
+    extensions!(name_of_ext, e)
+}
+
+/// The extension of this name; `None` where no extension has it.
+pub fn ext_named(name: &[u8]) -> Option<Ext>
+    ensures { MatchOption result ((e : Ext) → name.now ≡ spec.ext_name e → ⊥) (λ e. name.now ≡ spec.ext_name e) }
+{
+    extensions!(ext_of_name, name)
+}

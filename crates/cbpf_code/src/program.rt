@@ -1,0 +1,64 @@
+ghost use Rattle.std.specs.Prelude.{◌≡◌, ◌<◌, ◌≤◌, ℕ, Some, length, slice_get};
+ghost use Rattle.cbpf_code.specs.Sound.{IsSound};
+
+use crate::insn::Insn;
+use std::alloc::{Allocator, Global};
+use std::marker::Model;
+
+/// A checked program: 1 to 4096 instructions in which `check` finds no fault.
+///
+/// Only `check` makes one. Contracts see it as its list of instructions.
+#[derive(Drop)]
+pub struct Program<A: Allocator = Global> {
+    list: Vec<Insn, A>,
+}
+
+impl<A: Allocator> Model for Program<A> {
+    ghost use Rattle.std.specs.Prelude.{List};
+    ghost use Rattle.cbpf_code.specs.declared.insn.Insn.{Insn};
+    ghost use Rattle.cbpf_code.specs.Sound.{IsSound};
+
+    ghost Value = { List Insn };
+
+    ghost view = { λ p. p.list.items };
+
+    ghost invariant = { λ p. IsSound p.list.items };
+}
+
+impl<A: Allocator> Program<A> {
+    pub(crate) fn of_sound(list: Vec<Insn, A>) -> Program<A>
+        requires { IsSound list.items }
+        ensures { result ≡ list.items }
+    {
+        Program { list }
+    }
+
+    /// How many instructions the program has: 1 to 4096.
+    #[inline]
+    #[tactic(auto, using(crate::proofs::SoundLemmas::sound_few))]
+    pub fn len(&self) -> u32
+        ensures value { result ≡ length self.now }
+        ensures sound { IsSound self.now }
+    {
+        self.list.len() as u32
+    }
+
+    /// The instruction at index `i`, from 0.
+    #[inline(always)]
+    pub fn at_index(&self, i: u32) -> Insn
+        requires { i < length self.now }
+        ensures value { slice_get self.now i ≡ Some result }
+        ensures sound { IsSound self.now }
+    {
+        self.list[i as usize]
+    }
+
+    /// All instructions in order.
+    #[inline]
+    pub fn as_slice(&self) -> &[Insn]
+        ensures value { result.now ≡ self.now }
+        ensures sound { IsSound self.now }
+    {
+        self.list.as_slice()
+    }
+}

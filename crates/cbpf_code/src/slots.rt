@@ -1,0 +1,91 @@
+ghost use Rattle.std.specs.Prelude.{◌≡◌, ◌<◌, ◌≤◌, ◌+◌, ◌↔◌, ◌⊎◌, ℕ, Some, length, slice_get, slice_index, MatchOption, IsTrue};
+ghost use Rattle.cbpf_code.specs.ControlFlow as flow;
+ghost use Rattle.cbpf_code.specs.Faults.{HasFault};
+ghost use Rattle.cbpf_code.specs.CheckSteps.{IsWellFormed};
+ghost use Rattle.cbpf_code.specs.SlotMasks.{AddsToMasks, InMask, LeavesUnwritten};
+ghost use Rattle.cbpf_code.specs.declared.checker.CheckFault.TheVariants.{UnwrittenSlot};
+
+use crate::insn::Insn;
+use crate::opcode::{Op, op_of};
+
+/// The first instruction that loads a slot which some path to it leaves unwritten.
+///
+/// Jumps only go forward, so one pass is enough: each instruction has a mask of the slots that some
+/// path to it leaves unwritten. No path gives an empty mask, as do paths that write all slots.
+pub(crate) fn first_unwritten(list: &[Insn]) -> Option<u32>
+    requires { IsWellFormed list.now }
+    ensures { MatchOption result ((j : ℕ) → HasFault list.now (UnwrittenSlot j) → ⊥) (λ i. HasFault list.now (UnwrittenSlot i) × ((j : ℕ) → j < i → HasFault list.now (UnwrittenSlot j) → ⊥)) }
+{
+    let mut unwritten = [0u16; 4096];
+    unwritten[0] = u16::MAX;
+    for i in 0..list.len() {
+        let insn = list[i];
+        match op_of(insn.code) {
+            None => unreachable!(),
+            Some(op) => {
+                if loads_any(op, insn, unwritten[i]) {
+                    return Some(i as u32);
+                }
+                let left = still_unwritten(unwritten[i], op, insn);
+                propagate(&mut unwritten, i, op, insn, left);
+            }
+        }
+    }
+    None
+}
+
+fn loads_slot(op: Op) -> bool
+    ensures { result ≡ flow.loads_slot op }
+{
+    matches!(op, Op::LdMem | Op::LdxMem)
+}
+
+/// Whether the instruction loads one of the slots of a mask.
+fn loads_any(op: Op, insn: Insn, mask: u16) -> bool
+    requires { IsTrue (flow.loads_slot op) → insn.k < 16 }
+    ensures { IsTrue result ↔ IsTrue (flow.loads_slot op) × InMask mask insn.k }
+{
+    loads_slot(op) && is_in_mask(mask, insn.k)
+}
+
+fn is_in_mask(mask: u16, slot: u32) -> bool
+    requires { slot < 16 }
+    ensures { IsTrue result ↔ InMask mask slot }
+{
+    (mask >> slot) & 1 == 1
+}
+
+/// The slots of a mask into which the instruction stores nothing.
+fn still_unwritten(mask: u16, op: Op, insn: Insn) -> u16
+    requires { IsTrue (flow.stores_slot op) → insn.k < 16 }
+    ensures { LeavesUnwritten mask op insn result }
+{
+    match op {
+        Op::St | Op::Stx => mask & !(1 << insn.k),
+        _ => mask,
+    }
+}
+
+/// Adds `left` to the masks of the instructions that may follow the one at `i`.
+fn propagate(masks: &mut [u16], i: usize, op: Op, insn: Insn, left: u16)
+    requires few { i < 4096 }
+    requires inside { (t : ℕ) → flow.Follows op insn i t → t < length masks.old }
+    ensures { AddsToMasks masks.old masks.new left (λ t. flow.Follows op insn i t) }
+{
+    match op {
+        Op::RetK | Op::RetA => (),
+        Op::Ja => add_to_mask(masks, i + 1 + insn.k as usize, left),
+        Op::Jump(_, _) => {
+            add_to_mask(masks, i + 1 + usize::from(insn.jt), left);
+            add_to_mask(masks, i + 1 + usize::from(insn.jf), left);
+        }
+        _ => add_to_mask(masks, i + 1, left),
+    }
+}
+
+fn add_to_mask(masks: &mut [u16], at: usize, left: u16)
+    requires { at < length masks.old }
+    ensures { AddsToMasks masks.old masks.new left (λ t. t ≡ at) }
+{
+    masks[at] |= left;
+}

@@ -1,0 +1,4 @@
+pub mod LineLemmas
+pub mod FileLemmas
+pub mod ReplyLemmas
+pub mod ScriptLemmas

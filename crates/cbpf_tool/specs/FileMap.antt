@@ -1,0 +1,20 @@
+-- What a source of files holds.
+use Rattle.std.specs.Prelude.{ℕ, Bool, List}
+use Rattle.std.specs.Ordering.{nat_cmp}
+use Rattle.std.specs.Cmp.Lexicographic.{slice_cmp}
+use Rattle.std.specs.FinMap as map
+
+-- from the bytes of a name to the bytes of the file
+abbrev pub FileMap : Type 0
+FileMap = map.FinMap (slice_cmp nat_cmp) (List ℕ)
+
+-- a source of files: the files, how many loads failed for other reasons than an absent name or want of
+-- memory, and whether the source tells what it holds
+pub record Source : Type 0 where
+  pub files : FileMap
+  pub failures : ℕ
+  pub tells : Bool
+
+-- the map of a list of files, of which the first of a name counts
+abbrev pub files_of : List (List ℕ × List ℕ) → FileMap
+files_of es = map.from_entries es

@@ -1,0 +1,10 @@
+pub mod FileMap
+pub mod Loads
+pub mod Lines
+pub mod Reading
+pub mod Loaded
+pub mod Texts
+pub mod Replies
+pub mod Output
+pub mod Debugged
+pub mod Progress

@@ -1,0 +1,20 @@
+-- The lines of a script: each ends at a newline, and the last needs none.
+use Rattle.std.specs.Prelude.{ℕ, Bool, true, false, ◌||◌, ◌==◌, if◌then◌else◌, List, [], ◌∷◌}
+
+abbrev pub put_front : ℕ → List (List ℕ) → List (List ℕ)
+put_front b [] = (b ∷ []) ∷ []
+put_front b (l ∷ ls) = (b ∷ l) ∷ ls
+
+-- the lines, without their newlines
+abbrev pub lines : List ℕ → List (List ℕ)
+lines [] = []
+lines (b ∷ bs) = if b == 10 then ([] ∷ lines bs) else put_front b (lines bs)
+
+abbrev pub has_newline : List ℕ → Bool
+has_newline [] = false
+has_newline (b ∷ bs) = b == 10 || has_newline bs
+
+-- the bytes up to the last newline
+abbrev pub whole_lines : List ℕ → List ℕ
+whole_lines [] = []
+whole_lines (b ∷ bs) = if has_newline (b ∷ bs) then (b ∷ whole_lines bs) else []

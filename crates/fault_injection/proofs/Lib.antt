@@ -1,0 +1,2 @@
+mod Passing
+mod Refusal

@@ -1,0 +1,4 @@
+pub mod Counting
+pub mod FaultyReader
+pub mod FaultyWriter
+pub mod RefusingAllocator

@@ -1,0 +1,3 @@
+mod ContentsLemmas
+mod ReachLemmas
+mod MarkLemmas

@@ -1,0 +1,36 @@
+-- What the index of a capture says of its bytes: it is a matter of this crate alone, and no public clause names it.
+use Rattle.std.specs.Prelude.{◌≡◌, ℕ, ◌+◌, ◌*◌, ◌≤◌, ◌<◌, ◌^◌, List, length, drop, slice_index}
+use Rattle.pcap_classic.specs.Records.{contents, contents_from}
+use Rattle.pcap_classic.specs.declared.endianness.Endianness.{Endianness}
+use Rattle.pcap_classic.specs.declared.ending.Ending.{Ending}
+use Rattle.pcap_classic.specs.declared.ending.Ending.TheVariants.{Whole, CutHeader, CutData}
+use Rattle.pcap_classic.specs.declared.front.Front.{Front}
+use Rattle.pcap_classic.specs.declared.front.Front.TheVariants.{Nothing, PartOfHeader, PartOfData, WholeRecord}
+
+-- the record behind the first i ones stands at this place of the file, or would if there were one more
+pub record Reaches (order : Endianness) (file : List ℕ) (i place : ℕ) : Type 0 where
+  pub inside : place ≤ length file
+  pub records : drop i (contents order file).records ≡ (contents_from order (i + 1) place (drop place file)).records
+  pub ending : (contents order file).ending ≡ (contents_from order (i + 1) place (drop place file)).ending
+  pub passed : i ≤ length (contents order file).records
+
+-- the starts are the places of the records 1, 65, 129 and so on of the first `count` ones
+pub record IsMarked (order : Endianness) (file : List ℕ) (starts : List ℕ) (count : ℕ) : Type 0 where
+  pub enough : count ≤ 64 * length starts
+  pub no_more : 64 * length starts < count + 64
+  pub each : (j : ℕ) → j < length starts → Reaches order file (64 * j) (slice_index starts j)
+
+-- the number of records, the places of the records 1, 65, 129 and so on, and how the file ends
+pub record IsIndex (order : Endianness) (file : List ℕ) (count : ℕ) (starts : List ℕ) (how : Ending) : Type 0 where
+  pub long : 24 ≤ length file
+  pub counted : count ≡ length (contents order file).records
+  pub few : count < 2 ^ 60
+  pub marked : IsMarked order file starts count
+  pub ended : how ≡ (contents order file).ending
+
+-- how the file ends where no whole record is in front
+abbrev pub ending_by : Front → ℕ → Ending
+ending_by Nothing place = Whole
+ending_by PartOfHeader place = CutHeader place
+ending_by PartOfData place = CutData place
+ending_by (WholeRecord size) place = Whole

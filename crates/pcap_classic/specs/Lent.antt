@@ -1,0 +1,14 @@
+-- The record that a value lends.
+use Rattle.pcap_classic.specs.Records.{Record}
+use Rattle.pcap_classic.specs.declared.captured.Captured.{Captured}
+
+abbrev pub record_of : Captured → Record
+record_of c =
+    record {
+      number = c.number;
+      start = c.start;
+      seconds = c.seconds;
+      fraction = c.fraction;
+      wire = c.wire;
+      bytes = c.bytes.now;
+    }

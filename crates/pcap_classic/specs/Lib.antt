@@ -1,0 +1,5 @@
+pub mod Numbers
+pub mod Records
+pub mod Lent
+pub mod Savefile
+pub mod Index

@@ -1,0 +1,140 @@
+//! A capture.
+
+ghost use Rattle.std.specs.Prelude.{◌≡◌, ◌≤◌, ◌<◌, ◌+◌, ◌-◌, ◌/◌, ◌^◌, length, slice_get, Some, Ok, IfOk, IfErr, IfSome};
+ghost use Rattle.std.specs.Option.{option_map};
+ghost use Rattle.pcap_classic.specs.Lent.{record_of};
+ghost use Rattle.pcap_classic.specs.Records.{ContentsGoByFront};
+ghost use Rattle.pcap_classic.specs.Savefile.{savefile_of, IsRefusal};
+
+use crate::captured::{Captured, record_at};
+use crate::ending::Ending;
+use crate::fault::CaptureFault;
+use crate::front::RECORD_HEADER;
+use crate::header::{FileHeader, header_of};
+use crate::index::{Index, STRIDE, index_of, place_of};
+use std::alloc::{Allocator, Global};
+use std::marker::Model;
+
+/// A capture: the records of a file in the classic format of pcap-savefile(5), in order.
+///
+/// It keeps the file's bytes, and the starts of every 64th record.
+#[derive(Drop)]
+pub struct Capture<A: Allocator = Global> {
+    file: Vec<u8, A>,
+    header: FileHeader,
+    index: Index<A>,
+}
+
+impl<A: Allocator> Model for Capture<A> {
+    ghost use Rattle.std.specs.Prelude.{◌≡◌, Ok};
+    ghost use Rattle.pcap_classic.specs.Index.{IsIndex};
+    ghost use Rattle.pcap_classic.specs.Savefile.{Savefile, savefile_with, header_of};
+
+    ghost Value = { Savefile };
+
+    ghost view = { λ c. savefile_with c.header c.file.items };
+
+    ghost invariant = { λ c. (header_of c.file.items ≡ Ok c.header) × IsIndex c.header.magic.order c.file.items c.index.count c.index.starts.items c.index.ending };
+}
+
+impl<A: Allocator> Capture<A> {
+    /// The capture that a file's bytes hold. The bytes are kept, and no record is copied.
+    ///
+    /// # Errors
+    ///
+    /// The first of these that stands, with the same bytes: `FileHeaderCut` where there are fewer than
+    /// 24 bytes, `UnknownMagic` where the first four are no magic number, `UnknownVersion` where the
+    /// version is not 2.4, `Memory` where the index of the records finds no memory.
+    #[tactic(auto, using(crate::proofs::ContentsLemmas::contents_go_by_front))]
+    pub fn from_bytes(alloc: A, bytes: Vec<u8, A>) -> Result<Capture<A>, (CaptureFault, Vec<u8, A>)>
+        ensures by_front { ContentsGoByFront }
+        ensures capture { IfOk result (λ c. savefile_of bytes.items ≡ Ok c) }
+        ensures refused { IfErr result (λ e. IsRefusal e.0 bytes.items) }
+        ensures handed_back { IfErr result (λ e. e.1 ≡ bytes) }
+    {
+        let header = match header_of(bytes.as_slice()) {
+            Ok(header) => header,
+            Err(fault) => return Err((fault, bytes)),
+        };
+        match index_of(alloc, header.magic.order, bytes.as_slice()) {
+            Ok(index) => Ok(Capture {
+                file: bytes,
+                header,
+                index,
+            }),
+            Err(_) => Err((CaptureFault::Memory, bytes)),
+        }
+    }
+
+    /// The number of records.
+    #[inline(always)]
+    pub fn count(&self) -> u64
+        ensures value { result ≡ length self.now.records }
+        ensures bounded { result < 2 ^ 60 }
+    {
+        self.index.count
+    }
+
+    /// Whether the fractions of time stamps are nanoseconds, and not microseconds.
+    #[inline]
+    pub fn nanos(&self) -> bool
+        ensures { result ≡ self.now.nanos }
+    {
+        self.header.magic.nanos
+    }
+
+    /// The link type, as it stands in the file.
+    #[inline]
+    pub fn link(&self) -> u32
+        ensures { result ≡ self.now.link }
+    {
+        self.header.link
+    }
+
+    /// How the file ends behind the last record.
+    #[inline]
+    pub fn ending(&self) -> Ending
+        ensures { result ≡ self.now.ending }
+    {
+        self.index.ending
+    }
+
+    /// How many starts of records are kept: those of the records 1, 65, 129 and so on.
+    #[inline]
+    pub fn marks(&self) -> usize
+        ensures { result ≡ (length self.now.records + 63) / 64 }
+    {
+        self.index.starts.len()
+    }
+
+    /// Record `n`, counted from 1. It takes time for up to 63 records before it.
+    #[inline]
+    pub fn item(&self, n: u64) -> Captured<'_>
+        requires from_one { 1 ≤ n }
+        requires within { n ≤ length self.now.records }
+        ensures record { slice_get self.now.records (n - 1) ≡ Some (record_of result) }
+        ensures number { result.number ≡ n }
+    {
+        let order = self.header.magic.order;
+        let file = self.file.as_slice();
+        let mark = (n - 1) / STRIDE;
+        let start = self.index.starts[mark as usize];
+        let place = place_of(order, file, mark * STRIDE, start, n - 1);
+        record_at(order, file, n, place)
+    }
+
+    /// The record behind `item`, which is one of this capture, or `None` behind the last.
+    #[inline(always)]
+    pub fn following(&self, item: &Captured<'_>) -> Option<Captured<'_>>
+        requires { slice_get self.now.records (item.now.number - 1) ≡ Some (record_of item.now) }
+        ensures record { option_map record_of result ≡ slice_get self.now.records item.now.number }
+        ensures number { IfSome result (λ next. next.number ≡ item.now.number + 1) }
+    {
+        if item.number == self.index.count {
+            return None;
+        }
+        let order = self.header.magic.order;
+        let place = item.start + RECORD_HEADER + item.bytes.len();
+        Some(record_at(order, self.file.as_slice(), item.number + 1, place))
+    }
+}

@@ -1,0 +1,72 @@
+//! The header of a capture file.
+
+ghost use Rattle.std.specs.Prelude.{◌≡◌, ◌≤◌, ◌↔◌, IsTrue, length};
+ghost use Rattle.pcap_classic.specs.Savefile as spec;
+
+use crate::endianness::Endianness;
+use crate::fault::CaptureFault;
+use byteorder::{BigEndian, ByteOrder, LittleEndian};
+
+/// The length of a file header in bytes.
+pub(crate) const FILE_HEADER: usize = 24;
+
+const MICROS: u32 = 0xa1b2_c3d4;
+
+const NANOS: u32 = 0xa1b2_3c4d;
+
+/// What the magic number of a file tells.
+#[derive(Clone, Copy)]
+pub(crate) struct Magic {
+    pub(crate) order: Endianness,
+    /// Whether time stamps have fractions in nanoseconds, and not microseconds.
+    pub(crate) nanos: bool,
+}
+
+#[derive(Clone, Copy)]
+pub(crate) struct FileHeader {
+    pub(crate) magic: Magic,
+    pub(crate) link: u32,
+}
+
+fn magic_of(file: &[u8]) -> Option<Magic>
+    requires { 4 ≤ length file.now }
+    ensures { result ≡ spec.magic_of file.now }
+{
+    let big = BigEndian::read_u32(file);
+    let little = LittleEndian::read_u32(file);
+    let (order, nanos) = if big == MICROS {
+        (Endianness::Big, false)
+    } else if big == NANOS {
+        (Endianness::Big, true)
+    } else if little == MICROS {
+        (Endianness::Little, false)
+    } else if little == NANOS {
+        (Endianness::Little, true)
+    } else {
+        return None;
+    };
+    Some(Magic { order, nanos })
+}
+
+fn is_version_2_4(order: Endianness, file: &[u8]) -> bool
+    requires { 8 ≤ length file.now }
+    ensures { result ≡ spec.is_version_2_4 order file.now }
+{
+    order.read_u16(&file[4..]) == 2 && order.read_u16(&file[6..]) == 4
+}
+
+pub(crate) fn header_of(file: &[u8]) -> Result<FileHeader, CaptureFault>
+    ensures { result ≡ spec.header_of file.now }
+{
+    if file.len() < FILE_HEADER {
+        return Err(CaptureFault::FileHeaderCut);
+    }
+    let Some(magic) = magic_of(file) else {
+        return Err(CaptureFault::UnknownMagic);
+    };
+    if !is_version_2_4(magic.order, file) {
+        return Err(CaptureFault::UnknownVersion);
+    }
+    let link = magic.order.read_u32(&file[20..]);
+    Ok(FileHeader { magic, link })
+}

@@ -1,0 +1,20 @@
+//! Reads captures in the classic format of pcap-savefile(5), version 2.4, in both byte orders and
+//! with time stamps in microseconds or nanoseconds. A capture keeps the bytes of its file as they
+//! are, and lends each record from there. A file that is cut gives the whole records before the cut.
+#![tactic(auto)]
+
+mod capture;
+mod captured;
+mod endianness;
+mod ending;
+mod fault;
+mod front;
+mod header;
+mod index;
+#[cfg(test)]
+mod tests;
+
+pub use capture::Capture;
+pub use captured::Captured;
+pub use ending::Ending;
+pub use fault::CaptureFault;
