@@ -1,0 +1,35 @@
+// Files in memory, and captures from them.
+use crate::scripts::TWO_PACKETS;
+use cbpf_tool::{Files, LoadFault, MemoryFiles, debug};
+use fault_injection::{Fault, FaultyWriter};
+use std::alloc::AllocError;
+
+#[test]
+fn the_last_bytes_of_a_name_count(rt: HostRuntime) -> Result<(), AllocError> {
+    let mut files = MemoryFiles::new(rt.alloc());
+    assert!(rt; matches!(files.load(rt.alloc(), "a"), Err(LoadFault::Absent)));
+    assert!(rt; files.put("a", Vec::from_slice(rt.alloc(), b"one")?).is_ok());
+    assert!(rt; files.put("b", Vec::from_slice(rt.alloc(), b"two")?).is_ok());
+    assert!(rt; files.put("a", Vec::from_slice(rt.alloc(), b"three")?).is_ok());
+    for (name, bytes) in [("a", b"three".as_slice()), ("b", b"two".as_slice())] {
+        match files.load(rt.alloc(), name) {
+            Ok(loaded) => assert_eq!(rt; loaded.as_slice(), bytes),
+            Err(_) => assert!(rt; false),
+        }
+    }
+    assert!(rt; matches!(files.load(rt.alloc(), ""), Err(LoadFault::Absent)));
+    Ok(())
+}
+
+#[test]
+fn a_name_is_the_rest_of_the_line(rt: HostRuntime) -> Result<(), AllocError> {
+    let mut files = MemoryFiles::new(rt.alloc());
+    let bytes = Vec::from_slice(rt.alloc(), TWO_PACKETS)?;
+    assert!(rt; files.put("two  words\tand more", bytes).is_ok());
+    let mut reader: &[u8] = b"load pcap two words\nload pcap   two  words\tand more \r\n";
+    let mut writer = FaultyWriter::<256>::new(Fault::Fails, 0);
+    let result = debug(rt.alloc(), &mut reader, &mut writer, &mut files);
+    assert_eq!(rt; result, Ok(()));
+    assert_eq!(rt; writer.written(), b"error: F1 no such file\npcap: 2 packets\n".as_slice());
+    Ok(())
+}

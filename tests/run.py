@@ -1,0 +1,90 @@
+#!/usr/bin/env python3
+"""Runs the end-to-end cases over a built program.
+
+usage: run.py PROGRAM [NAME..]
+
+Each folder below tests/cases that has a file `stdout` is a case. The program runs in a new folder, with
+  stdin    what it reads (no file: nothing)
+  args     its arguments, one a line
+  command  a shell command to run in its place, where the program is $PROGRAM
+  files/   files that lie where it runs
+  setup    one shell command a line, run there first
+and must give
+  stdout   exactly this
+  stderr   exactly this (no file: nothing)
+  status   this exit status (no file: 0)
+The last line is `N passed, M failed`.
+"""
+
+import os
+import shutil
+import subprocess
+import sys
+import tempfile
+from pathlib import Path
+
+CASES = Path(__file__).resolve().parent / "cases"
+SECONDS = 60
+
+
+def content(path, default=b""):
+    return path.read_bytes() if path.exists() else default
+
+
+def differences(case, program):
+    with tempfile.TemporaryDirectory() as folder:
+        if (case / "files").is_dir():
+            shutil.copytree(case / "files", folder, dirs_exist_ok=True)
+        for command in content(case / "setup").decode().splitlines():
+            subprocess.run(command, shell=True, cwd=folder, check=True)
+        words = [program, *content(case / "args").decode().splitlines()]
+        if (case / "command").exists():
+            words = ["sh", "-c", content(case / "command").decode()]
+        done = subprocess.run(
+            words,
+            input=content(case / "stdin"),
+            capture_output=True,
+            cwd=folder,
+            env={**os.environ, "PROGRAM": program},
+            timeout=SECONDS,
+        )
+    wanted = {
+        "stdout": (content(case / "stdout"), done.stdout),
+        "stderr": (content(case / "stderr"), done.stderr),
+        "status": (int(content(case / "status", b"0")), done.returncode),
+    }
+    return [
+        f"{what}: wanted {want!r}, got {got!r}"
+        for what, (want, got) in wanted.items()
+        if want != got
+    ]
+
+
+def main():
+    if len(sys.argv) < 2:
+        sys.exit(__doc__)
+    program = str(Path(sys.argv[1]).resolve())
+    names = sys.argv[2:]
+    cases = sorted(path.parent for path in CASES.rglob("stdout"))
+    passed = failed = 0
+    for case in cases:
+        name = str(case.relative_to(CASES))
+        if names and not any(word in name for word in names):
+            continue
+        try:
+            found = differences(case, program)
+        except subprocess.TimeoutExpired:
+            found = [f"no end within {SECONDS} seconds"]
+        if found:
+            failed += 1
+            print(f"failed {name}")
+            for line in found:
+                print("   ", line[:2000])
+        else:
+            passed += 1
+    print(f"{passed} passed, {failed} failed")
+    sys.exit(1 if failed or not passed else 0)
+
+
+if __name__ == "__main__":
+    main()
