@@ -1,0 +1,28 @@
+# Each target needs the Rattle toolchain's command `rt` on the PATH, and python3 for `check`.
+
+PREFIX ?= /usr/local
+PROGRAM = crates/cbpf/out/cbpf
+
+.PHONY: help build demo check install clean
+
+help: ## Lists the targets.
+	@grep -E '^[a-z]+:.*##' Makefile | sed -E 's/:.*## /\t/'
+
+build: ## Proves and builds the program; from nothing that takes about ten minutes on two cores, later seconds.
+	cd crates/cbpf && rt run < /dev/null > /dev/null
+
+demo: build ## Builds the proved program, and runs an example script through it, showing script and replies.
+	@echo '== examples/arp.dbg'
+	@cat examples/arp.dbg
+	@echo '== its replies'
+	@cd examples && ../$(PROGRAM) < arp.dbg
+
+check: ## The gate: proves all crates and their tests from nothing, tries the must-fail edits, runs all tests.
+	rt ci
+	python3 tests/run.py $(PROGRAM)
+
+install: build ## Puts the program into PREFIX/bin.
+	install -D -m 755 $(PROGRAM) $(DESTDIR)$(PREFIX)/bin/cbpf
+
+clean: ## Removes what was built and what the checks kept.
+	rm -rf crates/*/out
