@@ -1,0 +1,5 @@
+pub mod SoundLemmas
+pub mod StepLemmas
+pub mod ListLemmas
+pub mod TraceLemmas
+pub mod AskedLemmas

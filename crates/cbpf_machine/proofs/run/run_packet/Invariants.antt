@@ -1,0 +1,17 @@
+use Rattle.std.proofs.Common.{◌≡◌, ◌<◌, ◌+◌, length, ◌-◌}
+use Rattle.cbpf_code.specs.Sound.{IsSound}
+use Rattle.cbpf_machine.specs.Trace.{trace, trace_from, outcome, outcome_from}
+use Rattle.cbpf_machine.proofs.run.run_packet.Given as goal
+
+-- what is left of the trace is the trace from this state
+abbrev pub invariant-run : goal.invariant-run
+invariant-run g l =
+    record {
+      sound : IsSound l.p;
+      inside : l.s.pc < length l.p;
+      ends : outcome_from l.p l.packet.bytes.now l.packet.wire l.s ≡ outcome l.p l.packet.bytes.now l.packet.wire;
+      spent : l.meter + length (trace_from l.p l.packet.bytes.now l.packet.wire l.s) ≡ l.initial.meter + length (trace l.p l.packet.bytes.now l.packet.wire);
+    }
+
+abbrev pub decreases-run : goal.decreases-run
+decreases-run g l = length l.p - l.s.pc

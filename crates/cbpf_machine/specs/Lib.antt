@@ -1,0 +1,6 @@
+pub mod Registers
+pub mod Number
+pub mod Step
+pub mod Checked
+pub mod Trace
+pub mod Trail

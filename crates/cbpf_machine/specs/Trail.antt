@@ -1,0 +1,13 @@
+-- What a trail of checkpoints stands for: a list of states of which every 64th is kept (this project's own; no standard speaks of it).
+use Rattle.std.specs.Prelude.{◌≡◌, ℕ, ◌*◌, ◌<◌, List, length, slice_get}
+use Rattle.cbpf_machine.specs.Registers.{Registers}
+
+-- the kept states, and how many states they stand for
+pub record Checkpoints : Type 0 where
+  pub marks : List Registers
+  pub kept : ℕ
+
+-- each kept state is the one at its place of the list
+pub record Marks (c : Checkpoints) (xs : List Registers) : Type 0 where
+  pub long : length xs ≡ c.kept
+  pub at : (j : ℕ) → j < length c.marks → slice_get c.marks j ≡ slice_get xs (64 * j)

@@ -1,0 +1,36 @@
+//! The filter machine of classic BPF: one turn, one packet, and trails of the states that a packet
+//! has passed.
+//!
+//! The instructions do what Linux Documentation/networking/filter ("BPF engine and instruction
+//! set") and bpf(4) ("FILTER MACHINE") say. Two choices are this project's own: a shift by 32 or
+//! more gives 0, and a load from an extension's number ends the packet's run as `Unknown`.
+#![tactic(auto)]
+
+mod arithmetic;
+mod execute;
+mod extension;
+mod list_trail;
+mod load;
+mod mark_trail;
+mod meter;
+mod outcome;
+mod packet;
+mod run;
+mod state;
+mod trail;
+
+pub use execute::turn;
+pub use extension::asks;
+pub use list_trail::ListTrail;
+pub use mark_trail::MarkTrail;
+pub use meter::Meter;
+pub use outcome::{Outcome, Turn};
+pub use packet::Packet;
+pub use run::run_packet;
+pub use state::State;
+pub use trail::Trail;
+
+#[cfg(test)]
+mod tests;
+#[cfg(test)]
+mod trail_tests;

@@ -1,0 +1,45 @@
+ghost use Rattle.std.specs.Prelude.{◌≡◌, ◌+◌, ◌<◌, ◌^◌};
+
+use std::marker::Model;
+
+/// How many turns were made.
+///
+/// A meter is neither `Copy` nor `Clone`, and `turn` alone raises it, by 1 each time.
+#[derive(Debug, Drop)]
+pub struct Meter {
+    turns: u128,
+}
+
+impl Model for Meter {
+    ghost use Rattle.std.specs.Prelude.{ℕ};
+
+    ghost Value = { ℕ };
+
+    ghost view = { λ m. m.turns };
+}
+
+impl Meter {
+    /// A meter that has counted no turn.
+    #[inline(always)]
+    pub fn new() -> Meter
+        ensures { result ≡ 0 }
+    {
+        Meter { turns: 0 }
+    }
+
+    /// How many turns it has counted.
+    #[inline(always)]
+    pub fn spent(&self) -> u128
+        ensures { result ≡ self.now }
+    {
+        self.turns
+    }
+
+    #[inline(always)]
+    pub(crate) fn tick(&mut self)
+        requires { self.old + 1 < 2 ^ 128 }
+        ensures { self.new ≡ self.old + 1 }
+    {
+        self.turns += 1;
+    }
+}

@@ -1,0 +1,45 @@
+ghost use Rattle.std.specs.Prelude.{◌≡◌, ◌≤◌, ◌+◌, ◌^◌, length};
+ghost use Rattle.cbpf_machine.specs.Trace as spec;
+
+use crate::execute::turn;
+use crate::meter::Meter;
+use crate::outcome::{Outcome, Turn};
+use crate::packet::Packet;
+use crate::state::State;
+use cbpf_code::Program;
+use std::alloc::Allocator;
+
+/// How a packet ends by the turn of its last state.
+#[inline(always)]
+fn outcome_of(last: Turn) -> Outcome
+    ensures { result ≡ spec.outcome_of last }
+{
+    match last {
+        Turn::Returned(v) if v != 0 => Outcome::Pass(v),
+        Turn::Unknown(e) => Outcome::Unknown(e),
+        _ => Outcome::Fail,
+    }
+}
+
+/// Runs a program on a packet, from the zero state to the packet's end, by at most as many turns
+/// as the program has instructions.
+///
+/// The meter has spent at most 2 to the 127 before.
+pub fn run_packet<A: Allocator>(meter: &mut Meter, p: &Program<A>, packet: Packet<'_>) -> Outcome
+    requires { meter.old ≤ 2 ^ 127 }
+    ensures value { result ≡ spec.outcome p.now packet.entry.bytes.now packet.entry.wire }
+    ensures turns { meter.new ≡ meter.old + length (spec.trace p.now packet.entry.bytes.now packet.entry.wire) }
+    ensures few { meter.new ≤ meter.old + length p.now }
+
+    // The definition's trace is the whole run: it ends by itself, and its program counters rise.
+    ensures whole { spec.IsRun p.now packet.entry.bytes.now packet.entry.wire (spec.trace p.now packet.entry.bytes.now packet.entry.wire) }
+{
+    let _sound = p.len();
+    let mut s = State::zero();
+    'run: loop {
+        match turn(meter, p, packet, &s) {
+            Turn::Next(next) => s = next,
+            last => return outcome_of(last),
+        }
+    }
+}
