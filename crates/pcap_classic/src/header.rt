@@ -1,6 +1,6 @@
 //! The header of a capture file.
 
-ghost use Rattle.std.specs.Prelude.{◌≡◌, ◌≤◌, ◌↔◌, IsTrue, length};
+ghost use Rattle.std.specs.Prelude.{◌≡◌, ◌≤◌, length};
 ghost use Rattle.pcap_classic.specs.Savefile as spec;
 
 use crate::endianness::Endianness;
