@@ -73,7 +73,7 @@ fn loads(rt: HostRuntime) {
     );
 }
 
-// The values are those of lib/test_bpf.c of the Linux kernel.
+// Programs like those of lib/test_bpf.c of the Linux kernel; the values were worked out by hand.
 #[test]
 fn kernel_vectors(rt: HostRuntime) {
     let add_sub_mul = [
