@@ -4,6 +4,7 @@ pub mod PathLemmas
 pub mod SlotMaskLemmas
 pub mod SoundLemmas
 pub mod TableLemmas
+pub mod WordAnswerLemmas
 pub mod WordMarkLemmas
 pub mod WordStepLemmas
 pub mod WrittenLemmas

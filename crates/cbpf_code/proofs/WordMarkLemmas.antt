@@ -1,5 +1,6 @@
 -- How the marks of a text begin.
-use Rattle.std.proofs.Common.{IsTrue, nat_eq, ◌↔◌, ◌≡◌, ℕ, ◌+◌, ◌-◌, ◌<◌, ◌≤◌, Bool, true, false, nat_lt, ◌⊎◌, inl, inr, List, [], ◌∷◌, length, take, drop, get_or, slice_range, refl, sym, ◌∙◌, ap, arith, tests, drop-cons, add-one, zero, suc, take_all, length-drop}
+use Rattle.std.proofs.Common.{IsTrue, nat_eq, ◌↔◌, ◌≡◌, ℕ, ◌+◌, ◌-◌, ◌<◌, ◌≤◌, ◌≢◌, Bool, true, false, nat_lt, ◌⊎◌, inl, inr, List, [], ◌∷◌, ◌++◌, length, take, drop, get_or, slice_range, refl, sym, ◌∙◌, ap, arith, tests, drop-cons, add-one, zero, suc, take_all, length-drop}
+use Rattle.std.specs.List.{AllByRecursion}
 use Rattle.std.proofs.lemmas.Bool.{eq-eqb, eqb-true}
 use Rattle.std.proofs.lemmas.List.{drop_all}
 use Rattle.std.proofs.lemmas.Grind.{common_steps}
@@ -127,3 +128,24 @@ end-or-not text at place w same stops = (
     | inr f ↦ (let g : nat_lt place (length text) ≡ false = f in eq-eqb place (length text) (grind (arith, tests)))
   ]),
 )
+
+-- the four ways in which a text begins
+
+pub law-empty : (at : ℕ) → marks_from at [] ≡ []
+law-empty = marks-none
+
+pub law-blank : (at b : ℕ) (rest : List ℕ) → is_blank b ≡ true → marks_from at (b ∷ rest) ≡ marks_from (at + 1) rest
+law-blank at b rest e = rw add-one (marks-blank at b rest (blank_no_digit b e) e)
+
+pub law-single : (at b : ℕ) (rest : List ℕ) → is_blank b ≡ false → is_digit b ≡ false → marks_from at (b ∷ rest) ≡ single at b ∷ marks_from (at + 1) rest
+law-single at b rest n d = rw add-one (marks-single at b rest d n)
+
+pub law-run : (at : ℕ) (digits rest : List ℕ) → digits ≢ [] → AllByRecursion (λ b. is_digit b ≡ true) digits → begins_with_digit rest ≡ false → marks_from at (digits ++ rest) ≡ run at digits ∷ marks_from (at + length digits) rest
+law-run at [] rest some all stop = absurd (some refl)
+law-run at (b ∷ []) rest some all stop = rw add-one (marks-last_digit at b rest all.0 stop)
+law-run at (b ∷ d ∷ ds) rest some all stop =
+    let more : marks_from (suc at) (d ∷ ds ++ rest) ≡ run (suc at) (d ∷ ds) ∷ marks_from (suc at + length (d ∷ ds)) rest =
+    law-run (suc at) (d ∷ ds) rest (λ h. cc) all.1 stop in
+    let seam : suc at + length (d ∷ ds) ≡ at + length (b ∷ d ∷ ds) = omega arith in
+    marks-digit at b (d ∷ ds ++ rest) all.0 all.1.0 ∙ ap (λ (ms : List Mark). join_digit at b ms) more
+    ∙ ap (λ (m : ℕ). run at (b ∷ d ∷ ds) ∷ marks_from m rest) seam

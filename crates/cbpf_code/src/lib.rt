@@ -19,11 +19,9 @@ pub use extension::{Ext, ext_at, ext_name, ext_named, ext_offset};
 pub use insn::Insn;
 pub use opcode::{AluOp, Cond, Op, Size, Src, code_of, op_of};
 pub use program::Program;
+pub use scan::laws_of_marks;
 pub use words::{WordFault, read_words};
-pub use writing::{
-    WriteFault, digits_needed, eight_digits, spaces_before, write_bytes, write_decimal, write_hex,
-    write_parts,
-};
+pub use writing::{WriteFault, write_bytes, write_decimal, write_hex, write_parts};
 
 #[cfg(test)]
 mod tests;

@@ -1,6 +1,7 @@
 // Finds the marks of a text one after another.
-ghost use Rattle.std.specs.Prelude.{◌≡◌, ◌+◌, ◌<◌, ◌≤◌, ◌^◌, ℕ, min, take, length, slice_index, true, false, [], MatchOption};
-ghost use Rattle.cbpf_code.specs.Marks.{is_digit, is_blank, number, marks_after};
+ghost use Rattle.std.specs.Prelude.{◌≡◌, ◌≢◌, ◌+◌, ◌<◌, ◌≤◌, ◌^◌, ℕ, min, take, length, slice_index, true, false, List, [], ◌∷◌, ◌++◌, MatchOption};
+ghost use Rattle.std.specs.List.{AllByRecursion};
+ghost use Rattle.cbpf_code.specs.Marks.{single, run, is_digit, is_blank, begins_with_digit, number, marks_from, marks_after};
 ghost use Rattle.cbpf_code.specs.NextMark.{IsNextMark};
 
 /// No field of word text reaches this number, so greater ones are not told from it.
@@ -91,3 +92,17 @@ pub fn next_mark(text: &[u8], at: usize) -> Option<Found>
         lexeme: Lexeme::Byte(byte),
     })
 }
+
+/// How a text falls into marks, read from its front: a blank is passed, a byte that is neither blank
+/// nor digit stands alone, and digits are one run up to a byte that is none. It does nothing; its
+/// clauses are laws of the marks that [`read_words`](crate::read_words) is told by.
+pub fn laws_of_marks()
+    ensures empty { (at : ℕ) → marks_from at [] ≡ [] }
+    ensures blank { (at b : ℕ) (rest : List ℕ) → is_blank b ≡ true →
+        marks_from at (b ∷ rest) ≡ marks_from (at + 1) rest }
+    ensures single { (at b : ℕ) (rest : List ℕ) → is_blank b ≡ false → is_digit b ≡ false →
+        marks_from at (b ∷ rest) ≡ single at b ∷ marks_from (at + 1) rest }
+    ensures run { (at : ℕ) (digits rest : List ℕ) → digits ≢ [] → AllByRecursion (λ b. is_digit b ≡ true) digits →
+        begins_with_digit rest ≡ false →
+        marks_from at (digits ++ rest) ≡ run at digits ∷ marks_from (at + length digits) rest }
+{}

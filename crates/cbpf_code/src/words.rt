@@ -1,9 +1,11 @@
 // Reads word text, as `tcpdump -ddd` and `bpf_asm` print it.
-ghost use Rattle.std.specs.Prelude.{◌≡◌, ◌+◌, ◌<◌, ◌≤◌, ◌^◌, ◌%◌, ◌↔◌, ℕ, length, [], ◌∷◌, IsTrue, IfOk, MatchResult};
+ghost use Rattle.std.specs.Prelude.{◌≡◌, ◌+◌, ◌<◌, ◌≤◌, ◌^◌, ◌%◌, ◌↔◌, ℕ, length, [], ◌∷◌, IsTrue, IfOk, MatchResult, List, ◌≢◌, ◌⊎◌};
 ghost use Rattle.cbpf_code.specs.Marks.{marks_after};
 ghost use Rattle.cbpf_code.specs.WordText.{range_of, Spells, Refused};
 ghost use Rattle.cbpf_code.specs.WordSteps.{Passes, Stops, IsReadWhole};
-ghost use Rattle.cbpf_code.specs.declared.words.WordFault.TheVariants.{NumberExpected, CommaExpected};
+ghost use Rattle.cbpf_code.specs.declared.insn.Insn.{Insn};
+ghost use Rattle.cbpf_code.specs.declared.words.WordFault.{WordFault};
+ghost use Rattle.cbpf_code.specs.declared.words.WordFault.TheVariants.{Memory, NumberExpected, CommaExpected};
 
 use crate::insn::Insn;
 use crate::scan::{Lexeme, next_mark, skip_blanks};
@@ -110,11 +112,9 @@ fn counted<A: Allocator>(
     }
 }
 
-/// The instructions that word text spells: the count, a comma, and for each instruction its four
-/// decimal numbers code, jt, jf and k and a comma, of which the last may be missing. Blanks may
-/// stand anywhere between, and numbers may have leading zeros.
+/// The instructions that word text spells, in one pass over it.
 #[tactic(auto, using(crate::proofs::WordStepLemmas::reading))]
-pub fn read_words<A: Allocator>(alloc: A, text: &[u8]) -> Result<Vec<Insn, A>, WordFault>
+fn read_list<A: Allocator>(alloc: A, text: &[u8]) -> Result<Vec<Insn, A>, WordFault>
     ensures { MatchResult result (λ v. Spells text.now v.items) (λ e. Refused text.now e) }
 {
     let (count, at) = number_at(text, 0, 4_294_967_296)?;
@@ -131,4 +131,15 @@ pub fn read_words<A: Allocator>(alloc: A, text: &[u8]) -> Result<Vec<Insn, A>, W
         at = comma_at(text, end)?;
     }
     counted(text, count as u32, list)
+}
+
+/// The instructions that word text spells: the count, a comma, and for each instruction its four
+/// decimal numbers code, jt, jf and k and a comma, of which the last may be missing. Blanks may
+/// stand anywhere between, and numbers may have leading zeros.
+pub fn read_words<A: Allocator>(alloc: A, text: &[u8]) -> Result<Vec<Insn, A>, WordFault>
+    ensures answer { MatchResult result (λ v. Spells text.now v.items) (λ e. Refused text.now e) }
+    ensures spelled { (list : List Insn) → Spells text.now list → MatchResult result (λ v. v.items ≡ list) (λ e. e ≡ Memory) }
+    ensures only { (f : WordFault) → f ≢ Memory → Refused text.now f → MatchResult result (λ v. ⊥) (λ e. (e ≡ Memory) ⊎ (e ≡ f)) }
+{
+    read_list(alloc, text)
 }

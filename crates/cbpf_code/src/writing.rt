@@ -60,7 +60,7 @@ fn glyph(n: u32) -> u8
 }
 
 /// How many hexadecimal digits a number needs, at least 1 and at most 8.
-pub fn digits_needed(n: u32) -> usize
+pub(crate) fn digits_needed(n: u32) -> usize
     ensures same { result ≡ hex_places n }
     ensures few { (1 ≤ result) × (result ≤ 8) }
 {
@@ -84,7 +84,7 @@ pub fn digits_needed(n: u32) -> usize
 }
 
 /// A number as eight hexadecimal digits, in lower case.
-pub fn eight_digits(n: u32) -> [u8; 8]
+pub(crate) fn eight_digits(n: u32) -> [u8; 8]
     ensures { result ≡ hex_digits 8 n }
 {
     let n1 = n / 16;
@@ -118,7 +118,7 @@ pub fn write_hex<W: Write>(w: &mut W, n: u32, least: u32) -> Result<(), WriteFau
 
 /// The spaces that set a text right in two places.
 #[tactic(auto, using(crate::proofs::WrittenLemmas::pads))]
-pub fn spaces_before(text: &[u8]) -> &'static [u8]
+pub(crate) fn spaces_before(text: &[u8]) -> &'static [u8]
     ensures { result.now ≡ spaces (2 - length text.now) }
 {
     &b"  "[..2usize.saturating_sub(text.len())]

@@ -1,10 +1,10 @@
 -- Verbs and arguments that are known texts.
-use Rattle.std.proofs.Common.{◌≡◌, ℕ, suc, zero, List, [], ◌∷◌, length, Option, Some, None, true, false, Bool, ap, refl, sym, ◌∙◌, codes}
+use Rattle.std.proofs.Common.{◌≡◌, ℕ, List, [], ◌∷◌, length, Some, None, true, false, Bool, ap, refl}
 use Rattle.std.specs.Str.{IsUtf8, is_utf8}
 use Rattle.std.proofs.lemmas.Slice.Eq.{text_from_reads, HasBytesAt}
 use Rattle.std.proofs.lemmas.Str.{is_utf8-from_IsUtf8, IsUtf8-from_is_utf8}
 use Rattle.cbpf_command.specs.Words.{words, behind, trimmed}
-use Rattle.cbpf_command.specs.Commands.{verb_named, name_in, load_capture, load_by, words_in}
+use Rattle.cbpf_command.specs.Commands.{verb_named, name_in, load_capture, load_by}
 
 pub named : (s p : List ℕ) → length s ≡ length p → HasBytesAt s 0 p → verb_named s ≡ verb_named p
 named s p l h = ap verb_named (text_from_reads s p l h)

@@ -1,7 +1,6 @@
 -- Words and blanks of a text.
-use Rattle.std.proofs.Common.{◌≡◌, ℕ, zero, suc, ◌+◌, ◌<◌, ◌≤◌, Bool, true, false, cond, not, ◌&&◌, List, [], ◌∷◌, ◌++◌, length, take, drop, get_or, drop-cons, add-one, length-drop, take_all, ◌-◌, ◌⊎◌, inl, inr, refl, sym, ap, ◌∙◌, arith, tests}
+use Rattle.std.proofs.Common.{◌≡◌, ℕ, suc, ◌+◌, ◌<◌, ◌≤◌, Bool, true, false, not, ◌&&◌, List, [], ◌∷◌, ◌++◌, length, take, drop, get_or, drop-cons, add-one, length-drop, take_all, ◌-◌, ◌⊎◌, inl, inr, refl, sym, ap, ◌∙◌, arith}
 use Rattle.std.proofs.lemmas.List.{take-append-drop, take_more, nil_from_length}
-use Rattle.std.proofs.lemmas.Grind.{common_steps}
 use Rattle.cbpf_code.specs.Marks.{is_blank}
 use Rattle.cbpf_command.specs.Words.{begins_word, put_front, words, behind, all_blank, trim_start, trim_end}
 

@@ -1,5 +1,5 @@
 -- The debugger's commands, and how lines spell them (kernel documentation, networking/filter, on `bpf_dbg`).
-use Rattle.std.specs.Prelude.{ℕ, Bool, true, false, if◌then◌else◌, List, [], ◌∷◌, Option, Some, None, option_map, Result, Ok, Err, codes, bytes_eq}
+use Rattle.std.specs.Prelude.{ℕ, if◌then◌else◌, List, [], ◌∷◌, Option, Some, None, option_map, Result, Ok, Err, codes, bytes_eq}
 use Rattle.std.specs.Str.{is_utf8}
 use Rattle.cbpf_command.specs.Words.{words, behind, trimmed}
 use Rattle.cbpf_command.specs.declared.command.Verb.{Verb}

@@ -1,5 +1,5 @@
 -- Lines and newlines.
-use Rattle.std.proofs.Common.{◌≡◌, ℕ, ◌+◌, ◌<◌, ◌≤◌, Bool, true, false, eqb, ◌||◌, ◌==◌, List, [], ◌∷◌, ◌++◌, length, take, take_all, length-take, length-drop, get_or, ◌-◌, drop, Option, Some, None, Result, Ok, Err, MatchResult, append_assoc, append-nil, refl, sym, ◌∙◌, ap, subst, arith, tests}
+use Rattle.std.proofs.Common.{◌≡◌, ℕ, ◌+◌, ◌<◌, ◌≤◌, Bool, true, false, eqb, ◌||◌, List, [], ◌∷◌, ◌++◌, length, take, take_all, length-take, length-drop, get_or, ◌-◌, drop, Option, Some, None, Result, Ok, Err, MatchResult, append_assoc, append-nil, refl, sym, ◌∙◌, ap, subst, arith, tests}
 use Rattle.std.proofs.lemmas.List.{take_more}
 use Rattle.std.specs.Io.KnownBytes.{Keeps, Consumes, IsAtEnd}
 use Rattle.cbpf_tool.specs.Lines.{has_newline}
@@ -10,7 +10,7 @@ use Rattle.cbpf_tool.specs.declared.fault.ToolFault.TheVariants.{Read, Write, Me
 pub plain-append : (l m : List ℕ) → has_newline l ≡ false → has_newline m ≡ false → has_newline (l ++ m) ≡ false
 plain-append [] m h k = k
 plain-append (x ∷ xs) m h k =
-  elim (eqb x 10) as (λ t. (t || has_newline xs) ≡ false → (t || has_newline (xs ++ m)) ≡ false) [ true ↦ λ e. e | false ↦ λ e. plain-append xs m e k ] h
+    elim (eqb x 10) as (λ t. (t || has_newline xs) ≡ false → (t || has_newline (xs ++ m)) ≡ false) [ true ↦ λ e. e | false ↦ λ e. plain-append xs m e k ] h
 
 plain-one : (b : ℕ) → (b ≡ 10 → ⊥) → has_newline (b ∷ []) ≡ false
 plain-one b p = grind (arith, tests)
@@ -40,15 +40,15 @@ unread-kept None left' p p' bytes n m e k = absurd (cc)
 unread-kept (Some xs) None p p' bytes n m e k = absurd k
 unread-kept (Some xs) (Some ys) p p' bytes n m e k = rw m (ap Some k ∙ (rw n at e))
 
-pub unread-end : (left left' : Option (List ℕ)) (p p' bytes : List ℕ) → p ≡ [] → p' ≡ [] → unread p left ≡ Some bytes → Consumes left left' p' → IsAtEnd left' → bytes ≡ []
+pub unread-end : (left left' : Option (List ℕ)) (p p' bytes : List ℕ) → p ≡ [] → p' ≡ [] → unread p left ≡ Some bytes → Consumes left left' p' → IsAtEnd left' → (bytes ≡ []) × (left' ≡ Some [])
 unfolding unread
 unread-end None left' p p' bytes n m e k z = absurd (cc)
 unread-end (Some xs) None p p' bytes n m e k z = absurd k
 unread-end (Some xs) (Some ys) p p' bytes n m e k z =
-  let none : xs ≡ [] = k ∙ ap (λ (t : List ℕ). t ++ ys) m ∙ z in
-  let same : Some xs ≡ Some bytes = (rw n at e) in
-  let xb : xs ≡ bytes = cc in
-  sym xb ∙ none
+    let none : xs ≡ [] = k ∙ ap (λ (t : List ℕ). t ++ ys) m ∙ z in
+    let same : Some xs ≡ Some bytes = (rw n at e) in
+    let xb : xs ≡ bytes = cc in
+    (sym xb ∙ none, ap Some z)
 
 pub filled : (left left' : Option (List ℕ)) (p p' bytes : List ℕ) (r : Result Bool ToolFault) → p ≡ [] → unread p left ≡ Some bytes → MatchResult r (λ more. Consumes left left' p' × (more ≡ false → (p' ≡ []) × IsAtEnd left')) (λ e. Keeps left left' × (p' ≡ [])) → Fills bytes p' left' r
 filled left left' p p' bytes (Ok true) n e h = unread-read left left' p p' bytes n e h.0
@@ -60,25 +60,25 @@ pub took-more : (bytes p p' q line : List ℕ) (left : Option (List ℕ)) → To
 unfolding unread
 took-more bytes p p' q line None t e = absurd (let h = t.known in cc)
 took-more bytes p p' q line (Some xs) t e =
-  let h : Some (p ++ xs) ≡ Some t.rest = t.known in
-  let same : p ++ xs ≡ t.rest = cc in
-  let front : t.rest ≡ q ++ (p' ++ xs) = sym same ∙ ap (λ (b : List ℕ). b ++ xs) e ∙ append_assoc q p' xs in
-  record {
-    rest = p' ++ xs;
-    split = t.split ∙ ap (λ (r : List ℕ). line ++ r) front ∙ sym (append_assoc line q (p' ++ xs));
-    known = refl;
-  }
+    let h : Some (p ++ xs) ≡ Some t.rest = t.known in
+    let same : p ++ xs ≡ t.rest = cc in
+    let front : t.rest ≡ q ++ (p' ++ xs) = sym same ∙ ap (λ (b : List ℕ). b ++ xs) e ∙ append_assoc q p' xs in
+    record {
+      rest = p' ++ xs;
+      split = t.split ∙ ap (λ (r : List ℕ). line ++ r) front ∙ sym (append_assoc line q (p' ++ xs));
+      known = refl;
+    }
 
 pub took-part : (bytes p p' part line line' : List ℕ) (left : Option (List ℕ)) → Took bytes p left line → p ≡ part ++ 10 ∷ p' → line' ≡ line ++ part → Took bytes p' left (line' ++ 10 ∷ [])
 took-part bytes p p' part line line' left t e k =
-  let whole : p ≡ (part ++ 10 ∷ []) ++ p' = e ∙ sym (append_assoc part (10 ∷ []) p') in
-  let text : line ++ (part ++ 10 ∷ []) ≡ line' ++ 10 ∷ [] = sym (append_assoc line part (10 ∷ [])) ∙ ap (λ (b : List ℕ). b ++ 10 ∷ []) (sym k) in
-  subst (λ (b : List ℕ). Took bytes p' left b) text (took-more bytes p p' (part ++ 10 ∷ []) line left t whole)
+    let whole : p ≡ (part ++ 10 ∷ []) ++ p' = e ∙ sym (append_assoc part (10 ∷ []) p') in
+    let text : line ++ (part ++ 10 ∷ []) ≡ line' ++ 10 ∷ [] = sym (append_assoc line part (10 ∷ [])) ∙ ap (λ (b : List ℕ). b ++ 10 ∷ []) (sym k) in
+    subst (λ (b : List ℕ). Took bytes p' left b) text (took-more bytes p p' (part ++ 10 ∷ []) line left t whole)
 
 pub took-all : (bytes p p' line line' : List ℕ) (left : Option (List ℕ)) → Took bytes p left line → p' ≡ [] → line' ≡ line ++ p → Took bytes p' left line'
 took-all bytes p p' line line' left t n k =
-  let whole : p ≡ p ++ p' = sym (append-nil p) ∙ ap (λ (b : List ℕ). p ++ b) (sym n) in
-  subst (λ (b : List ℕ). Took bytes p' left b) (sym k) (took-more bytes p p' p line left t whole)
+    let whole : p ≡ p ++ p' = sym (append-nil p) ∙ ap (λ (b : List ℕ). p ++ b) (sym n) in
+    subst (λ (b : List ℕ). Took bytes p' left b) (sym k) (took-more bytes p p' p line left t whole)
 
 pub took-none : (bytes p : List ℕ) (left : Option (List ℕ)) → unread p left ≡ Some bytes → Took bytes p left []
 took-none bytes p left e = record { rest = bytes; split = refl; known = e }

@@ -1,6 +1,6 @@
 -- From what a call answered to the reply of its line.
-use Rattle.std.proofs.Common.{◌≡◌, ◌⊎◌, inl, inr, refl, sym, ap, ◌∙◌, subst, le_refl, ℕ, List, [], Option, Some, None, Result, Ok, Err, length}
-use Rattle.cbpf_code.specs.Writing.{Wrote, Appended, AppendedPart}
+use Rattle.std.proofs.Common.{◌≡◌, ◌⊎◌, inl, inr, refl, sym, ap, ◌∙◌, subst, le_refl, ℕ, List, Option, Some, None, Result, Ok, Err, length}
+use Rattle.cbpf_code.specs.Writing.{Appended, AppendedPart}
 use Rattle.cbpf_code.specs.WordText.{Spells, Refused}
 use Rattle.cbpf_code.specs.Sound.{IsSound}
 use Rattle.cbpf_code.specs.Faults.{FirstFault}
@@ -19,7 +19,7 @@ use Rattle.cbpf_code.specs.declared.writing.WriteFault.{WriteFault}
 use Rattle.cbpf_command.specs.declared.command.LineRefusal.{LineRefusal}
 use Rattle.std.specs.Result.{IsErr}
 use Rattle.cbpf_tool.specs.Texts.{word_fault_text, check_fault_text, program_text, capture_fault_text, capture_text, absent_text, device_text, memory_text}
-use Rattle.cbpf_tool.specs.Replies.{Exactly, LoadsWords, unreadable, unsound, accepted, LoadsCapture, ReadsCapture, Failed, Answers, Replies}
+use Rattle.cbpf_tool.specs.Replies.{Exactly, LoadsWords, unreadable, unsound, accepted, Failed, Answers, Replies}
 use Rattle.cbpf_tool.specs.declared.files.LoadFault.{LoadFault}
 use Rattle.cbpf_command.specs.Commands.{Spelled, load_capture}
 use Rattle.pcap_classic.specs.Savefile.{Savefile, savefile_of, IsRefusal}
@@ -49,16 +49,16 @@ words-unsound m text list fault Written s f w = inl (unsound list fault s f (exa
 pub words-accepted : (m n : Loaded) (text : List ℕ) (list program : List Insn) (count : ℕ) (Written : List ℕ → Type 0) → Spells text list → program ≡ list → IsSound program → count ≡ length program → n ≡ with_program m program → Written (program_text count) → LoadsWords m n text Written ⊎ Exactly memory_text m n Written
 unfolding Exactly
 words-accepted m n text list program count Written s e sound c v w =
-  inl (accepted program (subst (λ (l : List Insn). Spells text l) (sym e) s) sound (v, subst (λ k. Written (program_text k)) c w))
+    inl (accepted program (subst (λ (l : List Insn). Spells text l) (sym e) s) sound (v, subst (λ k. Written (program_text k)) c w))
 
 -- ---- `load pcap`
 
 pub capture-refused : (m : Loaded) (bytes : List ℕ) (fault : CaptureFault) (files : FileMap) (f g : ℕ) (name : List ℕ) (Written : List ℕ → Type 0) → map.get files name ≡ Some bytes → IsRefusal fault bytes → Written (capture_fault_text fault) → Answers files m m f g (load_capture name) Written
 unfolding capture_fault_text
 capture-refused m bytes fault files f g name Written e r w = elim r [
-    inl h ↦ inl (rw e (rw h (exactly-same _ m Written w)))
+  | inl h ↦ inl (rw e (rw h (exactly-same _ m Written w)))
   | inr h ↦ inr (inl (exactly-same _ m Written (rw h.0 at w)))
-  ]
+]
 
 pub capture-accepted : (m n : Loaded) (bytes : List ℕ) (capture : Savefile) (files : FileMap) (f g : ℕ) (name : List ℕ) (Written : List ℕ → Type 0) → map.get files name ≡ Some bytes → savefile_of bytes ≡ Ok capture → n ≡ with_capture m capture → Written (capture_text capture) → Answers files m n f g (load_capture name) Written
 unfolding Exactly
@@ -81,24 +81,24 @@ kept-same f = record { files = refl; tells = refl; rises = le_refl f.failures }
 
 pub load-absent : {V : Type 0} (items : V → List ℕ) (f g : Source) (m : Loaded) (name : List ℕ) (Written : List ℕ → Type 0) (e : LoadFault) → Loads items f g name (Err e) → e ≡ Absent → Written absent_text → CaptureLoaded f g m m name Written
 load-absent items f g m name Written e l h w =
-  let k = subst (λ (x : LoadFault). Loads items f g name (Err x)) h l in
-  (kept-from items f g name (Err Absent) k, λ t. capture-absent m f.files f.failures g.failures name Written (k.gives t) w)
+    let k = subst (λ (x : LoadFault). Loads items f g name (Err x)) h l in
+    (kept-from items f g name (Err Absent) k, λ t. capture-absent m f.files f.failures g.failures name Written (k.gives t) w)
 
 pub load-failed : {V : Type 0} (items : V → List ℕ) (f g : Source) (m : Loaded) (name : List ℕ) (Written : List ℕ → Type 0) (e : LoadFault) → Loads items f g name (Err e) → e ≡ Device → Written device_text → CaptureLoaded f g m m name Written
 load-failed items f g m name Written e l h w =
-  let k = subst (λ (x : LoadFault). Loads items f g name (Err x)) h l in
-  (kept-from items f g name (Err Device) k, λ t. capture-unread m f.files f.failures g.failures name Written k.gives w)
+    let k = subst (λ (x : LoadFault). Loads items f g name (Err x)) h l in
+    (kept-from items f g name (Err Device) k, λ t. capture-unread m f.files f.failures g.failures name Written k.gives w)
 
 pub load-unheld : {V : Type 0} (items : V → List ℕ) (f g : Source) (m : Loaded) (name : List ℕ) (Written : List ℕ → Type 0) (e : LoadFault) → Loads items f g name (Err e) → Written memory_text → CaptureLoaded f g m m name Written
 load-unheld items f g m name Written e l w = (kept-from items f g name (Err e) l, λ t. capture-unheld m f.files f.failures g.failures name Written w)
 
 pub load-refused : {V : Type 0} (items : V → List ℕ) (f g : Source) (m : Loaded) (name : List ℕ) (Written : List ℕ → Type 0) (v : V) (fault : CaptureFault) → Loads items f g name (Ok v) → IsRefusal fault (items v) → Written (capture_fault_text fault) → CaptureLoaded f g m m name Written
 load-refused items f g m name Written v fault l r w =
-  (kept-from items f g name (Ok v) l, λ t. capture-refused m (items v) fault f.files f.failures g.failures name Written (l.gives t) r w)
+    (kept-from items f g name (Ok v) l, λ t. capture-refused m (items v) fault f.files f.failures g.failures name Written (l.gives t) r w)
 
 pub load-accepted : {V : Type 0} (items : V → List ℕ) (f g : Source) (m n : Loaded) (name : List ℕ) (Written : List ℕ → Type 0) (v : V) (capture : Savefile) → Loads items f g name (Ok v) → savefile_of (items v) ≡ Ok capture → n ≡ with_capture m capture → Written (capture_text capture) → CaptureLoaded f g m n name Written
 load-accepted items f g m n name Written v capture l h e w =
-  (kept-from items f g name (Ok v) l, λ t. capture-accepted m n (items v) capture f.files f.failures g.failures name Written (l.gives t) h e w)
+    (kept-from items f g name (Ok v) l, λ t. capture-accepted m n (items v) capture f.files f.failures g.failures name Written (l.gives t) h e w)
 
 -- ---- a command, and a line
 

@@ -1,5 +1,5 @@
 -- What a source of files holds.
-use Rattle.std.specs.Prelude.{ℕ, Bool, List}
+use Rattle.std.specs.Prelude.{ℕ, Bool, true, false, List}
 use Rattle.std.specs.Ordering.{nat_cmp}
 use Rattle.std.specs.Cmp.Lexicographic.{slice_cmp}
 use Rattle.std.specs.FinMap as map
@@ -14,6 +14,14 @@ pub record Source : Type 0 where
   pub files : FileMap
   pub failures : ℕ
   pub tells : Bool
+
+-- a source that tells what it holds
+abbrev pub telling : FileMap → ℕ → Source
+telling files failures = record { files = files; failures = failures; tells = true }
+
+-- a source that does not tell, and what it holds is left open
+abbrev pub silent : ℕ → Source
+silent failures = record { files = map.empty; failures = failures; tells = false }
 
 -- the map of a list of files, of which the first of a name counts
 abbrev pub files_of : List (List ℕ × List ℕ) → FileMap

@@ -1,5 +1,5 @@
 -- The lines of a script: each ends at a newline, and the last needs none.
-use Rattle.std.specs.Prelude.{ℕ, Bool, true, false, ◌||◌, ◌==◌, if◌then◌else◌, List, [], ◌∷◌}
+use Rattle.std.specs.Prelude.{ℕ, Bool, false, ◌||◌, ◌==◌, if◌then◌else◌, List, [], ◌∷◌}
 
 abbrev pub put_front : ℕ → List (List ℕ) → List (List ℕ)
 put_front b [] = (b ∷ []) ∷ []

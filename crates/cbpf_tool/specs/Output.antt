@@ -1,5 +1,5 @@
 -- The output of a script: the replies to its lines up to `quit`.
-use Rattle.std.specs.Prelude.{◌≡◌, ◌≤◌, ℕ, List, [], ◌∷◌, ◌++◌, Some, Ok}
+use Rattle.std.specs.Prelude.{◌≡◌, ◌≤◌, ◌⊎◌, ℕ, List, [], ◌∷◌, ◌++◌, Some, Ok}
 use Rattle.cbpf_command.specs.Commands.{command_of, quit}
 use Rattle.cbpf_tool.specs.FileMap.{FileMap}
 use Rattle.cbpf_tool.specs.Loaded.{Loaded}
@@ -11,3 +11,8 @@ pub data Output (files : FileMap) : Loaded → ℕ → List (List ℕ) → List 
   at_end : {m : Loaded} {f : ℕ} → Output files m f [] [] f
   at_quit : {m : Loaded} {f : ℕ} (l : List ℕ) (ls : List (List ℕ)) → command_of l ≡ Ok (Some quit) → Output files m f (l ∷ ls) [] f
   at_line : {m n : Loaded} {f g h : ℕ} {rest : List ℕ} {ls : List (List ℕ)} (l text : List ℕ) → Replies files m n f g (command_of l) (λ t. t ≡ text) → f ≤ g → Output files n g ls rest h → Output files m f (l ∷ ls) (text ++ rest) h
+
+-- one of the lines is `quit`
+abbrev pub HasQuit : List (List ℕ) → Type 0
+HasQuit [] = ⊥
+HasQuit (l ∷ ls) = (command_of l ≡ Ok (Some quit)) ⊎ HasQuit ls

@@ -21,10 +21,10 @@ pub record Took (bytes pending : List ℕ) (left : Option (List ℕ)) (taken : L
   pub split : bytes ≡ taken ++ rest
   pub known : unread pending left ≡ Some rest
 
--- there is a byte to take; there is none, nor will there be one; or none could be read
+-- there is a byte to take; there is none, and the reader is at its end; or none could be read
 abbrev pub Fills : List ℕ → List ℕ → Option (List ℕ) → Result Bool ToolFault → Type 0
 Fills bytes pending left (Ok true) = unread pending left ≡ Some bytes
-Fills bytes pending left (Ok false) = bytes ≡ []
+Fills bytes pending left (Ok false) = (bytes ≡ []) × (left ≡ Some [])
 Fills bytes pending left (Err e) = (unread pending left ≡ Some bytes) × (pending ≡ [])
 
 -- a line got the pending bytes up to a newline, or all of them, of which none is a newline
@@ -33,11 +33,11 @@ TakesPart pending pending' line line' (Ok true) = (part : List ℕ) × (has_newl
 TakesPart pending pending' line line' (Ok false) = (has_newline pending ≡ false) × (pending' ≡ []) × (line' ≡ line ++ pending)
 TakesPart pending pending' line line' (Err e) = e ≡ Memory
 
--- a line and its newline; all that was left, without a newline; a part of a line behind which a read
+-- a line and its newline; all that was left, without a newline, and the reader is at its end; a part of a line behind which a read
 -- failed; or that there is a line
 abbrev pub TakesLine : List ℕ → List ℕ → Option (List ℕ) → List ℕ → Result LineEnd ToolFault → Type 0
 TakesLine bytes pending left line (Ok Newline) = (has_newline line ≡ false) × Took bytes pending left (line ++ 10 ∷ [])
-TakesLine bytes pending left line (Ok Input) = (has_newline line ≡ false) × (bytes ≡ line)
+TakesLine bytes pending left line (Ok Input) = (has_newline line ≡ false) × (bytes ≡ line) × (left ≡ Some [])
 TakesLine bytes pending left line (Err Read) = (has_newline line ≡ false) × (pending ≡ []) × Took bytes pending left line
 TakesLine bytes pending left line (Err Write) = Unit {0}
 TakesLine bytes pending left line (Err Memory) = bytes ≡ [] → ⊥

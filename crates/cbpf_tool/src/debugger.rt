@@ -56,10 +56,8 @@ impl<A: Allocator + Copy> Debugger<A> {
 
     /// `load bpf`
     fn load_words<W: Write>(&mut self, alloc: A, w: &mut W, text: &[u8]) -> Result<(), WriteFault>
-        ensures {
-            LoadsWords self.old self.new text.now (λ t. Wrote (W.contents w.old) (W.contents w.new) result t)
-            ⊎ Exactly texts.memory_text self.old self.new (λ t. Wrote (W.contents w.old) (W.contents w.new) result t)
-        }
+        ensures { LoadsWords self.old self.new text.now (λ t. Wrote (W.contents w.old) (W.contents w.new) result t)
+            ⊎ Exactly texts.memory_text self.old self.new (λ t. Wrote (W.contents w.old) (W.contents w.new) result t) }
     {
         let list = match read_words(alloc, text) {
             Ok(list) => list,
@@ -83,10 +81,8 @@ impl<A: Allocator + Copy> Debugger<A> {
         files: &mut F,
         name: &str,
     ) -> Result<(), WriteFault>
-        ensures {
-            CaptureLoaded (F.source files.old) (F.source files.new) self.old self.new name.now
-                (λ t. Wrote (W.contents w.old) (W.contents w.new) result t)
-        }
+        ensures { CaptureLoaded (F.source files.old) (F.source files.new) self.old self.new name.now
+            (λ t. Wrote (W.contents w.old) (W.contents w.new) result t) }
     {
         let bytes = match files.load(alloc, name) {
             Ok(bytes) => bytes,
@@ -122,10 +118,8 @@ impl<A: Allocator + Copy> Debugger<A> {
         files: &mut F,
         said: Command<'_>,
     ) -> Result<Behind, WriteFault>
-        ensures {
-            CommandActed (F.source files.old) (F.source files.new) self.old self.new (command.meaning said.entry)
-                (W.contents w.old) (W.contents w.new) result
-        }
+        ensures { CommandActed (F.source files.old) (F.source files.new) self.old self.new (command.meaning said.entry)
+            (W.contents w.old) (W.contents w.new) result }
     {
         match said {
             Command::LoadWords(text) => self.load_words(alloc, w, text)?,
@@ -144,10 +138,8 @@ impl<A: Allocator + Copy> Debugger<A> {
         files: &mut F,
         line: &[u8],
     ) -> Result<Behind, WriteFault>
-        ensures {
-            CarriedOut (F.source files.old) (F.source files.new) self.old self.new (command.command_of line.now)
-                (W.contents w.old) (W.contents w.new) result
-        }
+        ensures { CarriedOut (F.source files.old) (F.source files.new) self.old self.new (command.command_of line.now)
+            (W.contents w.old) (W.contents w.new) result }
     {
         match command_of(line) {
             Ok(None) => Ok(Behind::NextLine),
@@ -171,10 +163,8 @@ fn run<A: Allocator + Copy, R: Read, W: Write, F: Files>(
     writer: &mut W,
     files: &mut F,
 ) -> Result<(), ToolFault>
-    ensures {
-        (script : List ℕ) → R.remaining reader.old ≡ Some script → IsTrue (F.source files.old).tells →
-        Debugged script (R.remaining reader.new) (W.contents writer.old) (W.contents writer.new) (F.source files.old) (F.source files.new) result
-    }
+    ensures { (script : List ℕ) → R.remaining reader.old ≡ Some script → IsTrue (F.source files.old).tells →
+        Debugged script (R.remaining reader.new) (W.contents writer.old) (W.contents writer.new) (F.source files.old) (F.source files.new) result }
 {
     let mut debugger = Debugger::new();
     let mut lines = LineReader::new();
@@ -217,10 +207,8 @@ pub fn debug<A: Allocator, R: Read, W: Write, F: Files>(
     writer: &mut W,
     files: &mut F,
 ) -> Result<(), ToolFault>
-    ensures {
-        (script : List ℕ) → R.remaining reader.old ≡ Some script → IsTrue (F.source files.old).tells →
-        Debugged script (R.remaining reader.new) (W.contents writer.old) (W.contents writer.new) (F.source files.old) (F.source files.new) result
-    }
+    ensures { (script : List ℕ) → R.remaining reader.old ≡ Some script → IsTrue (F.source files.old).tells →
+        Debugged script (R.remaining reader.new) (W.contents writer.old) (W.contents writer.new) (F.source files.old) (F.source files.new) result }
 {
     run(&alloc, reader, writer, files)?;
     match writer.flush() {

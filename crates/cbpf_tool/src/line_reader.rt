@@ -25,10 +25,8 @@ pub enum LineEnd {
 /// The place of the first newline.
 #[tactic(auto, using(crate::proofs::LineLemmas::plains))]
 fn newline_in(bytes: &[u8]) -> Option<usize>
-    ensures {
-        MatchOption result (has_newline bytes.now ≡ false)
-        (λ i. (i < length bytes.now) × (has_newline (take i bytes.now) ≡ false) × (slice_index bytes.now i ≡ 10))
-    }
+    ensures { MatchOption result (has_newline bytes.now ≡ false)
+        (λ i. (i < length bytes.now) × (has_newline (take i bytes.now) ≡ false) × (slice_index bytes.now i ≡ 10)) }
 {
     for (i, b) in bytes.iter().enumerate() {
         if *b == b'\n' {
@@ -64,17 +62,19 @@ impl LineReader {
 
     /// Reads the next bytes, once all that were read are taken; false at the end of the input. What was
     /// written is flushed first, since the read may wait.
-    fn refill<R: Read, W: Write>(&mut self, reader: &mut R, writer: &mut W) -> Result<bool, ToolFault>
+    fn refill<R: Read, W: Write>(
+        &mut self,
+        reader: &mut R,
+        writer: &mut W,
+    ) -> Result<bool, ToolFault>
         requires { self.old.start ≡ self.old.end }
         ensures flushed { Keeps (W.contents writer.old) (W.contents writer.new) }
         ensures fewer { OnOk result (self.new.reads < self.old.reads) }
         ensures some { IfOk result (λ more. more ≡ true → self.new.start < self.new.end) }
-        ensures bytes {
-            MatchResult result
+        ensures bytes { MatchResult result
             (λ more. Consumes (R.remaining reader.old) (R.remaining reader.new) (pending_in self.new.chunk self.new.start self.new.end)
-                × (more ≡ false → (pending_in self.new.chunk self.new.start self.new.end ≡ []) × IsAtEnd (R.remaining reader.new)))
-            (λ e. Keeps (R.remaining reader.old) (R.remaining reader.new) × (pending_in self.new.chunk self.new.start self.new.end ≡ []))
-        }
+            × (more ≡ false → (pending_in self.new.chunk self.new.start self.new.end ≡ []) × IsAtEnd (R.remaining reader.new)))
+            (λ e. Keeps (R.remaining reader.old) (R.remaining reader.new) × (pending_in self.new.chunk self.new.start self.new.end ≡ [])) }
         ensures fault { IfErr result (λ e. e ≡ fault.Memory → ⊥) }
     {
         if writer.flush().is_err() {
@@ -98,14 +98,10 @@ impl LineReader {
     /// Sees that there are bytes to take; false at the end of the input.
     fn fill<R: Read, W: Write>(&mut self, reader: &mut R, writer: &mut W) -> Result<bool, ToolFault>
         ensures flushed { Keeps (W.contents writer.old) (W.contents writer.new) }
-        ensures fewer {
-            OnOk result (4097 * self.new.reads + (self.new.end - self.new.start) ≤ 4097 * self.old.reads + (self.old.end - self.old.start))
-        }
+        ensures fewer { OnOk result (4097 * self.new.reads + (self.new.end - self.new.start) ≤ 4097 * self.old.reads + (self.old.end - self.old.start)) }
         ensures some { IfOk result (λ more. more ≡ true → self.new.start < self.new.end) }
-        ensures bytes {
-            (bytes : List ℕ) → unread (pending_in self.old.chunk self.old.start self.old.end) (R.remaining reader.old) ≡ Some bytes →
-            Fills bytes (pending_in self.new.chunk self.new.start self.new.end) (R.remaining reader.new) result
-        }
+        ensures bytes { (bytes : List ℕ) → unread (pending_in self.old.chunk self.old.start self.old.end) (R.remaining reader.old) ≡ Some bytes →
+            Fills bytes (pending_in self.new.chunk self.new.start self.new.end) (R.remaining reader.new) result }
         ensures fault { IfErr result (λ e. e ≡ fault.Memory → ⊥) }
     {
         if self.start < self.end {
@@ -117,10 +113,8 @@ impl LineReader {
     /// Takes what was read up to the line's end; true where its newline was found.
     fn take_part<A: Allocator>(&mut self, line: &mut Vec<u8, A>) -> Result<bool, ToolFault>
         requires { self.old.start < self.old.end }
-        ensures taken {
-            TakesPart (pending_in self.old.chunk self.old.start self.old.end) (pending_in self.new.chunk self.new.start self.new.end)
-                line.old.items line.new.items result
-        }
+        ensures taken { TakesPart (pending_in self.old.chunk self.old.start self.old.end) (pending_in self.new.chunk self.new.start self.new.end)
+            line.old.items line.new.items result }
         ensures fewer { OnOk result (self.new.end - self.new.start < self.old.end - self.old.start) }
         ensures reads { self.new.reads ≡ self.old.reads }
     {
@@ -151,16 +145,10 @@ impl LineReader {
         line: &mut Vec<u8, A>,
     ) -> Result<LineEnd, ToolFault>
         ensures flushed { Keeps (W.contents writer.old) (W.contents writer.new) }
-        ensures line {
-            (bytes : List ℕ) → unread (pending_in self.old.chunk self.old.start self.old.end) (R.remaining reader.old) ≡ Some bytes →
-            TakesLine bytes (pending_in self.new.chunk self.new.start self.new.end) (R.remaining reader.new) line.new.items result
-        }
-        ensures fewer {
-            OnOk result (4097 * self.new.reads + (self.new.end - self.new.start) ≤ 4097 * self.old.reads + (self.old.end - self.old.start))
-        }
-        ensures onward {
-            result ≡ Ok end.Newline → 4097 * self.new.reads + (self.new.end - self.new.start) < 4097 * self.old.reads + (self.old.end - self.old.start)
-        }
+        ensures line { (bytes : List ℕ) → unread (pending_in self.old.chunk self.old.start self.old.end) (R.remaining reader.old) ≡ Some bytes →
+            TakesLine bytes (pending_in self.new.chunk self.new.start self.new.end) (R.remaining reader.new) line.new.items result }
+        ensures fewer { OnOk result (4097 * self.new.reads + (self.new.end - self.new.start) ≤ 4097 * self.old.reads + (self.old.end - self.old.start)) }
+        ensures onward { result ≡ Ok end.Newline → 4097 * self.new.reads + (self.new.end - self.new.start) < 4097 * self.old.reads + (self.old.end - self.old.start) }
     {
         line.clear();
         'parts: loop {

@@ -1,6 +1,9 @@
 // Files in memory.
-ghost use Rattle.std.specs.Prelude.{◌≡◌, true, OnOk, OnErr, IfErr};
+ghost use Rattle.std.specs.Prelude.{◌≡◌, OnOk, OnErr, IfErr};
 ghost use Rattle.std.specs.FinMap as finmap;
+ghost use Rattle.cbpf_tool.specs.FileMap.{telling};
+ghost use Rattle.cbpf_tool.specs.Loads.{Loads};
+ghost use Rattle.cbpf_tool.specs.declared.files.LoadFault.TheVariants as fault;
 
 use crate::files::{Files, LoadFault};
 use std::alloc::Allocator;
@@ -62,9 +65,14 @@ impl<A: Allocator + Clone> MemoryFiles<A> {
 }
 
 impl<A: Allocator + Clone> Files for MemoryFiles<A> {
-    ghost source = { λ m. record { files = m.0; failures = m.1; tells = true } };
+    ghost source = { λ m. telling m.0 m.1 };
 
-    fn load<B: Allocator>(&mut self, alloc: B, name: &str) -> Result<Vec<u8, B>, LoadFault> {
+    /// Never answers `Device`, and counts no failure.
+    fn load<B: Allocator>(&mut self, alloc: B, name: &str) -> Result<Vec<u8, B>, LoadFault>
+        ensures loads { Loads (λ v. v.items) (telling self.old.0 self.old.1) (telling self.new.0 self.new.1) name.now result }
+        ensures same { self.new ≡ self.old }
+        ensures reads { IfErr result (λ e. e ≡ fault.Device → ⊥) }
+    {
         for entry in &self.log {
             if name.as_bytes() == entry.0.as_slice() {
                 return match Vec::from_slice(alloc, entry.1.as_slice()) {

@@ -10,7 +10,12 @@ use std::alloc::Allocator;
 use std::io::Write;
 
 /// A line with a number in it.
-pub fn write_with_number<W: Write>(w: &mut W, before: &[u8], n: u64, after: &[u8]) -> Result<(), WriteFault>
+pub fn write_with_number<W: Write>(
+    w: &mut W,
+    before: &[u8],
+    n: u64,
+    after: &[u8],
+) -> Result<(), WriteFault>
     ensures { Wrote (W.contents w.old) (W.contents w.new) result (spec.with_number before.now n after.now) }
 {
     let mut buffer = Buffer::new();
@@ -48,13 +53,28 @@ pub fn write_word_fault<W: Write>(w: &mut W, fault: WordFault) -> Result<(), Wri
     match fault {
         WordFault::Memory => write_bytes(w, b"error: out of memory\n"),
         WordFault::NumberExpected(place) => {
-            write_with_number(w, b"error: N1 at byte ", place as u64, b": number expected\n")
+            write_with_number(
+                w,
+                b"error: N1 at byte ",
+                place as u64,
+                b": number expected\n",
+            )
         }
         WordFault::OutOfRange(place) => {
-            write_with_number(w, b"error: N2 at byte ", place as u64, b": number out of range\n")
+            write_with_number(
+                w,
+                b"error: N2 at byte ",
+                place as u64,
+                b": number out of range\n",
+            )
         }
         WordFault::UnexpectedByte(place) => {
-            write_with_number(w, b"error: N3 at byte ", place as u64, b": unexpected byte\n")
+            write_with_number(
+                w,
+                b"error: N3 at byte ",
+                place as u64,
+                b": unexpected byte\n",
+            )
         }
         WordFault::CountDiffers { said, found } => write_with_numbers(
             w,
@@ -65,7 +85,12 @@ pub fn write_word_fault<W: Write>(w: &mut W, fault: WordFault) -> Result<(), Wri
             b"\n",
         ),
         WordFault::CommaExpected(place) => {
-            write_with_number(w, b"error: N5 at byte ", place as u64, b": comma expected\n")
+            write_with_number(
+                w,
+                b"error: N5 at byte ",
+                place as u64,
+                b": comma expected\n",
+            )
         }
     }
 }
@@ -81,13 +106,23 @@ pub fn write_check_fault<W: Write>(w: &mut W, fault: CheckFault) -> Result<(), W
             write_with_number(w, b"error: C3 at ", u64::from(i), b": unknown code\n")
         }
         CheckFault::NoSlot(i) => {
-            write_with_number(w, b"error: C4 at ", u64::from(i), b": no such scratch slot\n")
+            write_with_number(
+                w,
+                b"error: C4 at ",
+                u64::from(i),
+                b": no such scratch slot\n",
+            )
         }
         CheckFault::ZeroDivisor(i) => {
             write_with_number(w, b"error: C5 at ", u64::from(i), b": division by zero\n")
         }
         CheckFault::WideShift(i) => {
-            write_with_number(w, b"error: C6 at ", u64::from(i), b": shift of 32 or more\n")
+            write_with_number(
+                w,
+                b"error: C6 at ",
+                u64::from(i),
+                b": shift of 32 or more\n",
+            )
         }
         CheckFault::JumpOutside(i) => {
             write_with_number(w, b"error: C7 at ", u64::from(i), b": jump outside\n")
@@ -127,7 +162,10 @@ pub fn write_program<W: Write>(w: &mut W, count: u32) -> Result<(), WriteFault>
 
 /// The reply to a capture that was loaded.
 #[tactic(auto, unfolding(crate::specs::Texts::capture_text))]
-pub fn write_capture<W: Write, A: Allocator>(w: &mut W, capture: &Capture<A>) -> Result<(), WriteFault>
+pub fn write_capture<W: Write, A: Allocator>(
+    w: &mut W,
+    capture: &Capture<A>,
+) -> Result<(), WriteFault>
     ensures { Wrote (W.contents w.old) (W.contents w.new) result (spec.capture_text capture.now) }
 {
     let count = capture.count();

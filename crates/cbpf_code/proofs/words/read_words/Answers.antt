@@ -1,22 +1,8 @@
-use Rattle.std.proofs.Common.{◌≡◌, [], ◌∷◌, ◌++◌, arith, rules}
-use Rattle.std.proofs.lemmas.Grind.{common_steps}
-use Rattle.cbpf_code.specs.Marks.{marks_after}
-use Rattle.cbpf_code.specs.WordText.{Refused}
-use Rattle.cbpf_code.proofs.WordStepLemmas.{stops-comma, read-next, read-done}
+use Rattle.cbpf_code.proofs.WordAnswerLemmas.{answer-spelled, answer-only}
 use Rattle.cbpf_code.proofs.words.read_words.Goals as goal
 
-pub loop-list-preserved : goal.loop-list-preserved
-loop-list-preserved g c =
-    let items : c.push.new.self.items ≡ c.loop-list.list.items ++ c.in_ok-insn.insn ∷ [] = grind (arith, common_steps) in
-    rw items (read-next _ _ _ _ _ _ _ c.loop-list.invariant c.in_ok-insn.ensures c.in_ok-at-2.ensures)
+pub returns-clause-spelled : goal.returns-clause-spelled
+returns-clause-spelled g c = answer-spelled (λ v. v.items) c.args.text.now _ c.read_list.ensures
 
-pub counted-requires-2 : goal.counted-requires-2
-counted-requires-2 g c =
-    let e : marks_after c.args.text.now c.loop-list.at ≡ [] = search rules in
-    read-done _ _ _ _ c.loop-list.invariant e
-
-pub returns-in_err-at-2 : goal.returns-in_err-at-2
-returns-in_err-at-2 g c =
-    let some : marks_after c.args.text.now c.in_ok-insn.end ≡ [] → ⊥ = search rules in
-    let h : Refused c.args.text.now c.in_err-at-2.field-0.0 = stops-comma _ _ _ _ _ _ _ c.loop-list.invariant c.in_ok-insn.ensures some c.in_err-at-2.ensures in
-    grind (arith, h)
+pub returns-clause-only : goal.returns-clause-only
+returns-clause-only g c = answer-only (λ v. v.items) c.args.text.now _ c.read_list.ensures

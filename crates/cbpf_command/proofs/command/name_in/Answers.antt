@@ -1,4 +1,4 @@
-use Rattle.std.proofs.Common.{◌≡◌, sym, ◌∙◌, ap, Some, arith, rules}
+use Rattle.std.proofs.Common.{sym, ◌∙◌, ap, Some, arith}
 use Rattle.std.proofs.lemmas.Grind.{common_steps}
 use Rattle.cbpf_command.specs.Commands.{load_capture}
 use Rattle.cbpf_command.proofs.VerbLemmas.{name-good, name-bad}

@@ -1,4 +1,4 @@
-use Rattle.std.proofs.Common.{◌≡◌, arith, rules}
+use Rattle.std.proofs.Common.{arith}
 use Rattle.std.proofs.lemmas.Grind.{common_steps}
 use Rattle.cbpf_command.proofs.WordLemmas.{next-words, next-behind}
 use Rattle.cbpf_command.proofs.scan.next_word.Goals as goal

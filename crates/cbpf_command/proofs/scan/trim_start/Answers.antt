@@ -1,4 +1,4 @@
-use Rattle.std.proofs.Common.{◌≡◌, sym, ◌∙◌, arith, rules}
+use Rattle.std.proofs.Common.{sym, ◌∙◌}
 use Rattle.cbpf_command.proofs.WordLemmas.{rest-of, start-stop, start-end}
 use Rattle.cbpf_command.proofs.scan.trim_start.Goals.{then-loop-at-test+else-is_blank, else-loop-at-test}
 use Rattle.cbpf_command.proofs.scan.trim_start.Goals as goal

@@ -1,5 +1,3 @@
-use Rattle.std.proofs.Common.{◌≡◌, ap, sym, ◌∙◌, Some, None}
-use Rattle.cbpf_tool.specs.Loaded.{Loaded}
 use Rattle.cbpf_tool.specs.Texts.{dump_text}
 use Rattle.cbpf_tool.proofs.debugger.Debugger.dump.Goals as goal
 

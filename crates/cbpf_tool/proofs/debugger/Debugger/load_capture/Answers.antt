@@ -1,4 +1,4 @@
-use Rattle.std.proofs.Common.{◌≡◌, ap, refl}
+use Rattle.std.proofs.Common.{ap}
 use Rattle.cbpf_tool.specs.Loaded.{Loaded, with_capture}
 use Rattle.cbpf_tool.proofs.ReplyLemmas.{load-absent, load-failed, load-unheld, load-refused, load-accepted}
 use Rattle.cbpf_tool.proofs.debugger.Debugger.load_capture.Goals as goal

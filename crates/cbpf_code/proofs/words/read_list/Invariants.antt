@@ -1,6 +1,6 @@
 use Rattle.std.proofs.Common.{◌-◌, length}
 use Rattle.cbpf_code.specs.WordSteps.{IsRead}
-use Rattle.cbpf_code.proofs.words.read_words.Given as goal
+use Rattle.cbpf_code.proofs.words.read_list.Given as goal
 
 abbrev pub invariant-loop-list : goal.invariant-loop-list
 invariant-loop-list g l = IsRead l.text l.count l.list.items l.at
