@@ -1,6 +1,6 @@
-// Files in memory, and captures from them.
+// Files in memory and of the file system, and captures from them.
 use crate::scripts::TWO_PACKETS;
-use cbpf_tool::{Files, LoadFault, MemoryFiles, debug};
+use cbpf_tool::{DiskFiles, Files, LoadFault, MemoryFiles, debug};
 use fault_injection::{Fault, FaultyWriter};
 use std::alloc::AllocError;
 
@@ -32,4 +32,16 @@ fn a_name_is_the_rest_of_the_line(rt: HostRuntime) -> Result<(), AllocError> {
     assert_eq!(rt; result, Ok(()));
     assert_eq!(rt; writer.written(), b"error: F1 no such file\npcap: 2 packets\n".as_slice());
     Ok(())
+}
+
+#[test]
+fn an_absent_file_is_told_apart_from_one_that_cannot_be_read(rt: HostRuntime) {
+    let mut files = DiskFiles::new(&rt);
+    assert!(rt; matches!(files.load(rt.alloc(), "no/such/file"), Err(LoadFault::Absent)));
+    assert!(rt; matches!(files.load(rt.alloc(), "/"), Err(LoadFault::Device)));
+    assert!(rt; matches!(files.load(rt.alloc(), "a\0b"), Err(LoadFault::Device)));
+    match files.load(rt.alloc(), "/dev/null") {
+        Ok(bytes) => assert!(rt; bytes.is_empty()),
+        Err(_) => assert!(rt; false),
+    }
 }

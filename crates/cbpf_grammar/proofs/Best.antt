@@ -1,0 +1,70 @@
+-- The best row of two lists, and of a mnemonic.
+use Rattle.std.proofs.Common.{◌≡◌, ◌≢◌, ℕ, ◌+◌, ◌<◌, ◌≤◌, List, [], ◌∷◌, ◌++◌, length, map, take, refl, arith, ap, sym, ◌∙◌, ◌⊎◌, inl, inr, subst}
+use Rattle.std.specs.Prelude.{Contains, flat_map}
+use Rattle.std.proofs.Common.{get_or, Bor, append-nil}
+use Rattle.std.proofs.lemmas.List.{get_or-map, length-map, map-append}
+use Rattle.std.proofs.lemmas.Grind.{flat_map-append}
+use Rattle.cbpf_grammar.specs.declared.table.Entry as declared_entry
+use Rattle.cbpf_grammar.specs.declared.class.Class as declared_class
+use Rattle.std.proofs.lemmas.List.Elements.{Contains-append_left, Contains-append_right, Contains-append_cases}
+use Rattle.cbpf_grammar.specs.declared.choice.Match.{Match}
+use Rattle.cbpf_grammar.specs.Lexemes.{Lexeme}
+use Rattle.cbpf_grammar.specs.Table.{Row, entry_rows}
+use Rattle.cbpf_grammar.specs.Views.{row_of, class_of, entry_of, mode_forms}
+use Rattle.cbpf_grammar.specs.Choice.{common, IsBest}
+use Rattle.cbpf_grammar.proofs.Elements.{only_element, first_element, take_next}
+
+pub one_row : (row : Row) (ts : List Lexeme) (best : Match) → row_of best.row ≡ row → best.len ≡ common row.operand ts → IsBest (row ∷ []) ts best
+one_row row ts best e h = record {
+  known = subst (λ s. Contains (row ∷ []) s) (sym e) (first_element row []);
+  size = h ∙ ap (λ (s : Row). common s.operand ts) (sym e);
+  most = λ r c. let s : row ≡ r = only_element row r c in rw (← s, ← h) (omega arith);
+  goes_on = λ n r c q k. n (ap (λ (s : Row). length s.operand) e ∙ (ap (λ (s : Row). length s.operand) (only_element row r c) ∙ k));
+}
+
+-- the second of two where it is longer, or as long and whole
+pub second_best : (rs ss : List Row) (ts : List Lexeme) (best new : Match) → IsBest rs ts best → IsBest ss ts new → (best.len < new.len) ⊎ ((best.len ≡ new.len) × (length (row_of new.row).operand ≡ new.len)) → IsBest (rs ++ ss) ts new
+second_best rs ss ts best new b c h = record {
+  known = Contains-append_right rs ss (row_of new.row) c.known;
+  size = c.size;
+  most = λ r d. elim (Contains-append_cases rs ss r d) [ inl p ↦ (let m = b.most r p in elim h [ inl l ↦ omega arith | inr q ↦ omega (arith, q.0, m) ]) | inr p ↦ c.most r p ];
+  goes_on = λ n r d q. elim (Contains-append_cases rs ss r d) [
+    | inl p ↦ (let m = b.most r p in elim h [ inl l ↦ absurd (omega (arith, m, l, q)) | inr w ↦ absurd (n w.1) ])
+    | inr p ↦ c.goes_on n r p q
+  ];
+}
+
+-- the first where it is as long at least, and the second is not as long and whole
+pub first_best : (rs ss : List Row) (ts : List Lexeme) (best new : Match) → IsBest rs ts best → IsBest ss ts new → new.len ≤ best.len → (best.len ≡ new.len → length (row_of new.row).operand ≢ new.len) → IsBest (rs ++ ss) ts best
+first_best rs ss ts best new b c l h = record {
+  known = Contains-append_left rs ss (row_of best.row) b.known;
+  size = b.size;
+  most = λ r d. elim (Contains-append_cases rs ss r d) [ inl p ↦ b.most r p | inr p ↦ (let m = c.most r p in omega arith) ];
+  goes_on = λ n r d q. elim (Contains-append_cases rs ss r d) [
+    | inl p ↦ b.goes_on n r p q
+    | inr p ↦ (let m = c.most r p in let same : best.len ≡ new.len = omega arith in λ e. c.goes_on (h same) r p (q ∙ same) (e ∙ same))
+  ];
+}
+
+abbrev form_row : List ℕ → declared_entry.Entry → Bor (List declared_class.Class) → Row
+form_row w e f = record { mnemonic = w; operand = map class_of f.now; op = e.op; fields = e.fields }
+
+map_twice : {X Y Z : Type 0} (g : Y → Z) (f : X → Y) (xs : List X) → map g (map f xs) ≡ map (λ x. g (f x)) xs
+map_twice g f [] = refl
+map_twice g f (x ∷ xs) = ap (λ ys. g (f x) ∷ ys) (map_twice g f xs)
+
+rows_are : (w : List ℕ) (e : declared_entry.Entry) (forms : List (Bor (List declared_class.Class))) → map (λ f. map class_of f.now) forms ≡ mode_forms e.mode → entry_rows w (entry_of e) ≡ map (form_row w e) forms
+rows_are w e forms h = ap (λ fs. map (λ form. record { mnemonic = w; operand = form; op = e.op; fields = e.fields }) fs) (sym h) ∙ map_twice _ (λ (f : Bor (List declared_class.Class)). map class_of f.now) forms
+
+take_mapped : {X Y : Type 0} (f : X → Y) (xs : List X) (i : ℕ) (d : X) → i < length xs → take (i + 1) (map f xs) ≡ take i (map f xs) ++ (f (get_or xs i d) ∷ [])
+take_mapped f xs i d l = take_next (map f xs) i (f d) (rw (length-map xs f) l) ∙ ap (λ y. take i (map f xs) ++ (y ∷ [])) (get_or-map f xs i d (f d) l)
+
+-- the rows of an addressing mode as far as one more form
+pub next_form : (w : List ℕ) (e : declared_entry.Entry) (forms : List (Bor (List declared_class.Class))) (i : ℕ) (d : Bor (List declared_class.Class)) → map (λ f. map class_of f.now) forms ≡ mode_forms e.mode → i < length forms
+    → take (i + 1) (entry_rows w (entry_of e)) ≡ take i (entry_rows w (entry_of e)) ++ (form_row w e (get_or forms i d) ∷ [])
+next_form w e forms i d h l = rw (rows_are w e forms h) (take_mapped (form_row w e) forms i d l)
+
+-- the rows of a mnemonic as far as one more addressing mode
+pub next_entry : (w : List ℕ) (es : List declared_entry.Entry) (i : ℕ) (d : declared_entry.Entry) → i < length es
+    → flat_map (entry_rows w) (map entry_of (take (i + 1) es)) ≡ flat_map (entry_rows w) (map entry_of (take i es)) ++ entry_rows w (entry_of (get_or es i d))
+next_entry w es i d l = rw (take_next es i d l, map-append entry_of (take i es) (get_or es i d ∷ []), flat_map-append (entry_rows w) (map entry_of (take i es)) (entry_of (get_or es i d) ∷ [])) (ap (λ ys. flat_map (entry_rows w) (map entry_of (take i es)) ++ ys) (append-nil (entry_rows w (entry_of (get_or es i d)))))

@@ -1,0 +1,88 @@
+-- Elements of lists that are made of others.
+use Rattle.std.proofs.Common.{◌≡◌, ℕ, zero, suc, ◌+◌, ◌<◌, Bool, true, false, ◌||◌, List, [], ◌∷◌, ◌++◌, length, map, take, refl, arith, ap, ◌⊎◌, inl, inr, get_or, subst}
+use Rattle.std.specs.Prelude.{Contains, flat_map}
+use Rattle.std.specs.List.{list_any, common_prefix_len}
+use Rattle.std.proofs.lemmas.List.Elements.{Contains-append_left, Contains-append_right, Contains-append_cases}
+
+pub first_element : {X : Type 0} (x : X) (xs : List X) → Contains (x ∷ xs) x
+first_element x xs = (0, omega arith, refl)
+
+pub later_element : {X : Type 0} (x : X) (xs : List X) (y : X) → Contains xs y → Contains (x ∷ xs) y
+later_element x xs y c = Contains-append_right (x ∷ []) xs y c
+
+no_element : {X : Type 0} {B : Type 0} (y : X) → Contains [] y → B
+no_element y c = absurd (omega (arith, c.1))
+
+-- the element is the first or one of the rest
+pub which_element : {X : Type 0} (x : X) (xs : List X) (y : X) → Contains (x ∷ xs) y → (x ≡ y) ⊎ Contains xs y
+which_element x xs y c = by_place c.0 c.1 c.2
+  where
+    by_place : (k : ℕ) → k < suc (length xs) → get_or (x ∷ xs) k y ≡ y → (x ≡ y) ⊎ Contains xs y
+    by_place zero l e = inl e
+    by_place (suc k) l e = inr (k, omega arith, e)
+
+pub only_element : {X : Type 0} (x y : X) → Contains (x ∷ []) y → x ≡ y
+only_element x y c = elim (which_element x [] y c) [ inl e ↦ e | inr d ↦ no_element y d ]
+
+pub from_map : {X Y : Type 0} (f : X → Y) (xs : List X) (y : Y) → Contains (map f xs) y → (x : X) × Contains xs x × (f x ≡ y)
+from_map f [] y c = no_element y c
+from_map f (x ∷ xs) y c = elim (which_element (f x) (map f xs) y c) [
+  | inl e ↦ (x, first_element x xs, e)
+  | inr d ↦ let r = from_map f xs y d in (r.0, later_element x xs r.0 r.1, r.2)
+]
+
+pub into_map : {X Y : Type 0} (f : X → Y) (xs : List X) (x : X) → Contains xs x → Contains (map f xs) (f x)
+into_map f [] x c = no_element x c
+into_map f (y ∷ xs) x c = elim (which_element y xs x c) [
+  | inl e ↦ subst (λ z. Contains (map f (y ∷ xs)) (f z)) e (first_element (f y) (map f xs))
+  | inr d ↦ later_element (f y) (map f xs) (f x) (into_map f xs x d)
+]
+
+pub from_flat_map : {X Y : Type 0} (f : X → List Y) (xs : List X) (y : Y) → Contains (flat_map f xs) y → (x : X) × Contains xs x × Contains (f x) y
+from_flat_map f [] y c = no_element y c
+from_flat_map f (x ∷ xs) y c = elim (Contains-append_cases (f x) (flat_map f xs) y c) [
+  | inl d ↦ (x, first_element x xs, d)
+  | inr d ↦ let r = from_flat_map f xs y d in (r.0, later_element x xs r.0 r.1, r.2)
+]
+
+pub into_flat_map : {X Y : Type 0} (f : X → List Y) (xs : List X) (x : X) (y : Y) → Contains xs x → Contains (f x) y → Contains (flat_map f xs) y
+into_flat_map f [] x y c d = no_element x c
+into_flat_map f (z ∷ xs) x y c d = elim (which_element z xs x c) [
+  | inl e ↦ Contains-append_left (f z) (flat_map f xs) y (rw e d)
+  | inr r ↦ Contains-append_right (f z) (flat_map f xs) y (into_flat_map f xs x y r d)
+]
+
+or_first : (a b : Bool) → a ≡ true → (a || b) ≡ true
+or_first a b e = rw e refl
+
+or_second : (a b : Bool) → b ≡ true → (a || b) ≡ true
+or_second true b e = refl
+or_second false b e = e
+
+or_either : (a b : Bool) → (a || b) ≡ true → (a ≡ true) ⊎ (b ≡ true)
+or_either true b e = inl refl
+or_either false b e = inr e
+
+pub any_element : {X : Type 0} (p : X → Bool) (xs : List X) (x : X) → Contains xs x → p x ≡ true → list_any p xs ≡ true
+any_element p [] x c e = no_element x c
+any_element p (y ∷ xs) x c e = elim (which_element y xs x c) [
+  | inl h ↦ or_first (p y) (list_any p xs) (rw h e)
+  | inr d ↦ or_second (p y) (list_any p xs) (any_element p xs x d e)
+]
+
+pub some_element : {X : Type 0} (p : X → Bool) (xs : List X) → list_any p xs ≡ true → (x : X) × Contains xs x × (p x ≡ true)
+some_element p [] e = cc
+some_element p (x ∷ xs) e = elim (or_either (p x) (list_any p xs) e) [
+  | inl h ↦ (x, first_element x xs, h)
+  | inr h ↦ let r = some_element p xs h in (r.0, later_element x xs r.0 r.1, r.2)
+]
+
+pub common_mapped : {X Y V W : Type 0} (e : V → W → Bool) (f : X → V) (g : Y → W) (xs : List X) (ys : List Y) → common_prefix_len e (map f xs) (map g ys) ≡ common_prefix_len (λ x y. e (f x) (g y)) xs ys
+common_mapped e f g [] ys = refl
+common_mapped e f g (x ∷ xs) [] = refl
+common_mapped e f g (x ∷ xs) (y ∷ ys) = rw (common_mapped e f g xs ys) refl
+
+pub take_next : {X : Type 0} (xs : List X) (i : ℕ) (d : X) → i < length xs → take (i + 1) xs ≡ take i xs ++ (get_or xs i d ∷ [])
+take_next [] i d l = absurd (omega arith)
+take_next (x ∷ xs) zero d l = refl
+take_next (x ∷ xs) (suc i) d l = let e : suc i + 1 ≡ suc (i + 1) = omega arith in rw e (ap (λ ys. x ∷ ys) (take_next xs i d (omega arith)))

@@ -1,0 +1,13 @@
+pub mod Apart
+pub mod OneReading
+pub mod Greedy
+pub mod Steps
+pub mod Elements
+pub mod Mnemonics
+pub mod Best
+pub mod Words
+pub mod Instructions
+pub mod Labels
+pub mod Begins
+pub mod Refused
+pub mod OneRefusal

@@ -1,0 +1,71 @@
+-- The rows of a mnemonic, and that no two mnemonics have one word.
+use Rattle.std.proofs.Common.{◌≡◌, ℕ, zero, suc, ◌<◌, Bool, true, not, ◌&&◌, List, [], ◌∷◌, length, refl, arith, ap, sym, ◌∙◌, inl, inr, get_or, ltb-true}
+use Rattle.std.specs.Prelude.{Contains, nat_lt}
+use Rattle.std.specs.List.{list_all}
+use Rattle.std.proofs.lemmas.List.{get_or_default}
+use Rattle.cbpf_grammar.specs.Lexemes.{same_bytes}
+use Rattle.cbpf_grammar.specs.Fits.{is_one_of, mnemonic_words, is_reserved}
+use Rattle.cbpf_grammar.specs.Table.{Row, Mnemonic, mnemonics, table, rows_of, entry_rows}
+use Rattle.cbpf_grammar.proofs.Apart.{and_parts, same_bytes_refl, same_bytes_eq}
+use Rattle.cbpf_grammar.proofs.OneReading.{three}
+use Rattle.cbpf_grammar.proofs.Elements.{from_map, into_map, from_flat_map, into_flat_map, any_element}
+
+abbrev all_differ : List Mnemonic → Bool
+all_differ [] = true
+all_differ (m ∷ ms) = list_all (λ (n : Mnemonic). not (same_bytes m.word n.word)) ms && all_differ ms
+
+words_differ : all_differ mnemonics ≡ true
+unfolding mnemonics
+words_differ = refl
+
+modes_given : list_all (λ (m : Mnemonic). nat_lt 0 (length m.entries)) mnemonics ≡ true
+unfolding mnemonics
+modes_given = refl
+
+list_all_at : (p : Mnemonic → Bool) (ms : List Mnemonic) (i : ℕ) (d : Mnemonic) → list_all p ms ≡ true → i < length ms → p (get_or ms i d) ≡ true
+list_all_at p [] i d e l = absurd (omega arith)
+list_all_at p (m ∷ ms) zero d e l = (and_parts (p m) _ e).0
+list_all_at p (m ∷ ms) (suc i) d e l = list_all_at p ms i d (and_parts (p m) _ e).1 (omega arith)
+
+differ_at : (ms : List Mnemonic) (i j : ℕ) (d : Mnemonic) → all_differ ms ≡ true → i < j → j < length ms → not (same_bytes (get_or ms i d).word (get_or ms j d).word) ≡ true
+differ_at [] i j d e l m = absurd (omega arith)
+differ_at (r ∷ rs) i zero d e l m = absurd (omega arith)
+differ_at (r ∷ rs) zero (suc j) d e l m = list_all_at (λ (s : Mnemonic). not (same_bytes r.word s.word)) rs j d (and_parts _ _ e).0 (omega arith)
+differ_at (r ∷ rs) (suc i) (suc j) d e l m = differ_at rs i j d (and_parts (list_all (λ (n : Mnemonic). not (same_bytes r.word n.word)) rs) _ e).1 (omega arith) (omega arith)
+
+not_same : {B : Type 0} (v w : List ℕ) → v ≡ w → not (same_bytes v w) ≡ true → B
+not_same v w e h = let k : not (same_bytes w w) ≡ true = rw e at h in let q : not true ≡ true = rw (same_bytes_refl w) at k in cc
+
+pub same_mnemonic : (m n : Mnemonic) → Contains mnemonics m → Contains mnemonics n → m.word ≡ n.word → m ≡ n
+same_mnemonic m n p q w =
+    elim (three p.0 q.0) [
+      | inl l ↦ not_same m.word n.word w (rw (p.2, get_or_default mnemonics q.0 m n q.1, q.2) at (differ_at mnemonics p.0 q.0 m words_differ l q.1))
+      | inr h ↦ elim h [
+        | inl l ↦ not_same n.word m.word (sym w) (rw (q.2, get_or_default mnemonics p.0 n m p.1, p.2) at (differ_at mnemonics q.0 p.0 n words_differ l p.1))
+        | inr e ↦ sym p.2 ∙ ap (λ k. get_or mnemonics k m) e ∙ get_or_default mnemonics q.0 m n q.1 ∙ q.2
+      ]
+    ]
+
+pub has_modes : (m : Mnemonic) → Contains mnemonics m → 0 < length m.entries
+has_modes m p = ltb-true 0 (length m.entries) (rw p.2 at (list_all_at (λ (n : Mnemonic). nat_lt 0 (length n.entries)) mnemonics p.0 m modes_given p.1))
+
+pub row_mnemonic : (r : Row) → Contains table r → (m : Mnemonic) × Contains mnemonics m × Contains (rows_of m) r
+row_mnemonic r p = from_flat_map rows_of mnemonics r p
+
+pub row_word : (m : Mnemonic) (r : Row) → Contains (rows_of m) r → m.word ≡ r.mnemonic
+row_word m r p =
+    let e = from_flat_map (entry_rows m.word) m.entries r p in
+    let f = from_map (λ form. record { mnemonic = m.word; operand = form; op = e.0.op; fields = e.0.fields }) e.0.forms r e.2 in
+    ap (λ (s : Row). s.mnemonic) f.2
+
+pub row_known : (m : Mnemonic) (r : Row) → Contains mnemonics m → Contains (rows_of m) r → Contains table r
+row_known m r p q = into_flat_map rows_of mnemonics m r p q
+
+pub word_known : (m : Mnemonic) → Contains mnemonics m → is_one_of mnemonic_words m.word ≡ true
+word_known m p = any_element (λ v. same_bytes m.word v) mnemonic_words m.word (into_map (λ (n : Mnemonic). n.word) mnemonics m p) (same_bytes_refl m.word)
+
+pub word_reserved : (w : List ℕ) (m : Mnemonic) → Contains mnemonics m → same_bytes w m.word ≡ true → is_reserved w ≡ true
+word_reserved w m p e = rw (same_bytes_eq w m.word e, word_known m p) refl
+
+pub word_listed : (w : List ℕ) (m : Mnemonic) → Contains mnemonics m → same_bytes w m.word ≡ true → is_one_of mnemonic_words w ≡ true
+word_listed w m p e = rw (same_bytes_eq w m.word e) (word_known m p)

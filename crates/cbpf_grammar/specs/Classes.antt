@@ -1,0 +1,19 @@
+-- The classes of tokens of which the forms of instructions in the kernel's Documentation/networking/filter (BPF engine and instruction set) are made.
+use Rattle.std.specs.Prelude.{ℕ, List}
+
+-- what may stand at a place of a form
+pub data Class : Type 0 where
+  -- the word of these bytes
+  the_word : List ℕ → Class
+  -- the mark
+  the_mark : ℕ → Class
+  -- a number that is the literal
+  literal : Class
+  -- a number that is the literal's size, behind a `-`
+  negated : Class
+  -- a number of this value, which is no literal
+  exactly : ℕ → Class
+  -- an extension's name
+  extension : Class
+  -- a word that is not reserved
+  name : Class

@@ -1,0 +1,10 @@
+pub mod Lexemes
+pub mod Classes
+pub mod Table
+pub mod Fits
+pub mod Items
+pub mod Views
+pub mod Choice
+pub mod Steps
+pub mod Refusals
+pub mod Laws

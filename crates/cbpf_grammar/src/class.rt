@@ -1,0 +1,20 @@
+//! The classes of tokens.
+
+/// What may stand at a place of a form.
+#[derive(Clone, Copy, Debug)]
+pub enum Class {
+    /// The word of these bytes.
+    Word(&'static [u8]),
+    /// The mark.
+    Mark(u8),
+    /// A number, which is the instruction's literal.
+    Literal,
+    /// A number behind a `-`, which is the literal's size.
+    Negated,
+    /// A number of this value, in any spelling.
+    Exactly(u32),
+    /// An extension's name.
+    Extension,
+    /// A word that isn't reserved: a label.
+    Name,
+}

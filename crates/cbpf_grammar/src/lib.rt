@@ -1,0 +1,26 @@
+//! The grammar of the assembler: which tokens are instructions.
+//!
+//! The forms are those of the table of instructions and addressing modes in the kernel's
+//! Documentation/networking/filter, with all options written out as data. A form is a list
+//! of token classes; the parser takes, item by item, the form of which most tokens fit.
+#![tactic(auto)]
+
+mod choice;
+mod class;
+mod item;
+mod law;
+mod lexeme;
+mod mode;
+mod parser;
+mod reserved;
+mod table;
+#[cfg(test)]
+mod tests;
+
+pub use class::Class;
+pub use item::{Item, Row};
+pub use law::{one_reading, one_refusal};
+pub use lexeme::{Lexeme, Symbol, lexemes};
+pub use parser::{ParseFault, parse};
+pub use reserved::is_reserved;
+pub use table::Fields;

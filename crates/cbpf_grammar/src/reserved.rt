@@ -1,0 +1,75 @@
+//! Reserved words, and which tokens belong to which class.
+
+ghost use Rattle.std.specs.Prelude.{◌≡◌, true, false, IfSome, IfNone, Contains};
+ghost use Rattle.std.specs.List.{list_any};
+ghost use Rattle.cbpf_grammar.specs.Lexemes.{same_bytes};
+ghost use Rattle.cbpf_grammar.specs.Table.{mnemonics, operand_words};
+ghost use Rattle.cbpf_grammar.specs.Fits.{fits, is_one_of, is_reserved, extension_names, mnemonic_words};
+ghost use Rattle.cbpf_grammar.specs.Views.{class_of, symbol_of, mnemonic_of};
+
+use crate::class::Class;
+use crate::lexeme::Symbol;
+use crate::mode::OPERAND_WORDS;
+use crate::table::{Mnemonic, mnemonics};
+use cbpf_code::ext_named;
+
+fn same_bytes(a: &[u8], b: &[u8]) -> bool
+    ensures { result ≡ same_bytes a.now b.now }
+{
+    a == b
+}
+
+/// The mnemonic of this word.
+pub fn mnemonic_named(word: &[u8]) -> Option<&'static Mnemonic>
+    ensures found { IfSome result (λ m. Contains mnemonics (mnemonic_of m.now)) }
+    ensures word { IfSome result (λ m. same_bytes word.now m.now.word.now ≡ true) }
+    ensures none { IfNone result (is_one_of mnemonic_words word.now ≡ false) }
+{
+    for mnemonic in mnemonics() {
+        if same_bytes(word, mnemonic.word) {
+            return Some(mnemonic);
+        }
+    }
+    None
+}
+
+fn is_mnemonic(word: &[u8]) -> bool
+    ensures { result ≡ is_one_of mnemonic_words word.now }
+{
+    mnemonic_named(word).is_some()
+}
+
+fn is_extension(word: &[u8]) -> bool
+    ensures { result ≡ is_one_of extension_names word.now }
+{
+    ext_named(word).is_some()
+}
+
+fn is_operand_word(word: &[u8]) -> bool
+    ensures { result ≡ is_one_of operand_words word.now }
+{
+    OPERAND_WORDS.iter().any(|v| same_bytes(word, v))
+}
+
+/// Whether a word is a mnemonic, an extension's name, `len`, `x`, `a` or `M`, and so no label.
+pub fn is_reserved(word: &[u8]) -> bool
+    ensures { result ≡ is_reserved word.now }
+{
+    is_mnemonic(word) || is_extension(word) || is_operand_word(word)
+}
+
+/// Whether a token may stand at a place of a form.
+pub fn fits(class: Class, symbol: Symbol<'_>) -> bool
+    ensures { result ≡ fits (class_of class) (symbol_of symbol.entry) }
+{
+    match (class, symbol) {
+        (Class::Word(v), Symbol::Word(w)) => same_bytes(w, v),
+        (Class::Mark(a), Symbol::Mark(b)) => b == a,
+        (Class::Literal, Symbol::Number(_)) => true,
+        (Class::Negated, Symbol::Number(_)) => true,
+        (Class::Exactly(m), Symbol::Number(n)) => n == m,
+        (Class::Extension, Symbol::Word(w)) => is_extension(w),
+        (Class::Name, Symbol::Word(w)) => !is_reserved(w),
+        _ => false,
+    }
+}

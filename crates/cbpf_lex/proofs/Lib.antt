@@ -1,0 +1,4 @@
+pub mod Runs
+pub mod Cuts
+pub mod Spelled
+pub mod Outcomes

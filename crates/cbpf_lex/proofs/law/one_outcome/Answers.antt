@@ -1,0 +1,11 @@
+use Rattle.cbpf_lex.proofs.Outcomes as laws
+use Rattle.cbpf_lex.proofs.law.one_outcome.Goals as goal
+
+pub returns-clause-list : goal.returns-clause-list
+returns-clause-list c = laws.one_list
+
+pub returns-clause-fault : goal.returns-clause-fault
+returns-clause-fault c = laws.one_fault
+
+pub returns-clause-never_both : goal.returns-clause-never_both
+returns-clause-never_both c = laws.never_both

@@ -1,0 +1,20 @@
+-- The classes of bytes that a source text of the assembler is made of. The bytes of marks are those of the operands in the kernel's Documentation/networking/filter; what counts as a blank is this project's own.
+use Rattle.std.specs.Prelude.{ℕ, Bool, ◌&&◌, ◌||◌, nat_le, ◌==◌}
+
+-- a space, a tab, a newline or a carriage return
+abbrev pub is_blank : ℕ → Bool
+is_blank b = b == 32 || b == 9 || b == 10 || b == 13
+
+abbrev pub is_digit : ℕ → Bool
+is_digit b = nat_le 48 b && nat_le b 57
+
+-- an ASCII letter or `_`
+abbrev pub is_letter : ℕ → Bool
+is_letter b = (nat_le 97 b && nat_le b 122) || (nat_le 65 b && nat_le b 90) || b == 95
+
+abbrev pub is_name_byte : ℕ → Bool
+is_name_byte b = is_letter b || is_digit b
+
+-- one of `[ ] ( ) * & + - , : # %`
+abbrev pub is_mark : ℕ → Bool
+is_mark b = b == 91 || b == 93 || b == 40 || b == 41 || b == 42 || b == 38 || b == 43 || b == 45 || b == 44 || b == 58 || b == 35 || b == 37

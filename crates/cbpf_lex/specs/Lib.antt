@@ -1,0 +1,5 @@
+pub mod Bytes
+pub mod Numbers
+pub mod Pieces
+pub mod Tokens
+pub mod Laws

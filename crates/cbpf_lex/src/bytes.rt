@@ -1,0 +1,88 @@
+//! Classes of bytes, and the runs of them at the front of a text.
+
+ghost use Rattle.std.specs.Prelude.{not, ◌==◌, ◌≡◌, ◌≤◌, ◌||◌, ◌&&◌, length};
+ghost use Rattle.std.specs.List.{prefix_len, fold};
+ghost use Rattle.cbpf_lex.specs.Bytes.{is_blank, is_digit, is_letter, is_name_byte, is_mark};
+
+/// A space, a tab, a newline or a carriage return.
+pub fn is_blank(b: u8) -> bool
+    ensures { result ≡ is_blank b }
+{
+    matches!(b, b' ' | b'\t' | b'\n' | b'\r')
+}
+
+pub fn is_digit(b: u8) -> bool
+    ensures { result ≡ is_digit b }
+{
+    b >= b'0' && b <= b'9'
+}
+
+/// An ASCII letter or `_`.
+pub fn is_letter(b: u8) -> bool
+    ensures { result ≡ is_letter b }
+{
+    (b >= b'a' && b <= b'z') || (b >= b'A' && b <= b'Z') || b == b'_'
+}
+
+pub fn is_name_byte(b: u8) -> bool
+    ensures { result ≡ is_name_byte b }
+{
+    is_letter(b) || is_digit(b)
+}
+
+/// A byte that is a token by itself.
+pub fn is_mark(b: u8) -> bool
+    ensures { result ≡ is_mark b }
+{
+    matches!(
+        b,
+        b'[' | b']' | b'(' | b')' | b'*' | b'&' | b'+' | b'-' | b',' | b':' | b'#' | b'%'
+    )
+}
+
+/// How many bytes at the front may stand in a name.
+pub fn name_len(text: &[u8]) -> usize
+    ensures within { result ≤ length text.now }
+    ensures run { result ≡ prefix_len is_name_byte text.now }
+{
+    let mut n = 0;
+    while n < text.len() && is_name_byte(text[n]) {
+        n += 1;
+    }
+    n
+}
+
+/// How many blanks are at the front.
+pub fn blanks_len(text: &[u8]) -> usize
+    ensures within { result ≤ length text.now }
+    ensures run { result ≡ prefix_len is_blank text.now }
+{
+    let mut n = 0;
+    while n < text.len() && is_blank(text[n]) {
+        n += 1;
+    }
+    n
+}
+
+/// How many bytes are before the first newline.
+pub fn line_len(text: &[u8]) -> usize
+    ensures within { result ≤ length text.now }
+    ensures run { result ≡ prefix_len (λ c. not (c == 10)) text.now }
+{
+    let mut n = 0;
+    while n < text.len() && text[n] != b'\n' {
+        n += 1;
+    }
+    n
+}
+
+/// Whether the last line has only blanks, where `blank` says so of it before these bytes.
+pub fn is_line_blank(blank: bool, bytes: &[u8]) -> bool
+    ensures { result ≡ fold (λ blank b. b == 10 || (blank && is_blank b)) blank bytes.now }
+{
+    let mut blank = blank;
+    for b in bytes {
+        blank = *b == b'\n' || (blank && is_blank(*b));
+    }
+    blank
+}

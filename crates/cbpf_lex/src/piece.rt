@@ -1,0 +1,179 @@
+//! The piece at the front of a text: blanks, a comment, a token, or a bad piece.
+
+ghost use Rattle.std.specs.Prelude.{Bool, ℕ, take, Some, None, false, true, IfSome, IfNone, ◌∷◌, ◌&&◌, ◌==◌, ◌≡◌, ◌<◌, ◌≤◌, length};
+ghost use Rattle.cbpf_lex.specs.Numbers.{number_value};
+ghost use Rattle.cbpf_lex.specs.Pieces.{IsNext, lead_of, run_kind, behind_star};
+ghost use Rattle.cbpf_lex.specs.Tokens.{is_good};
+ghost use Rattle.cbpf_lex.specs.declared.piece.PieceKind.{PieceKind};
+ghost use Rattle.cbpf_lex.specs.declared.piece.PieceKind.TheVariants.{Comment, Bad};
+ghost use Rattle.cbpf_lex.specs.declared.piece.Lead.TheVariants.{Slash};
+ghost use Rattle.cbpf_lex.specs.declared.token.BadPiece.TheVariants.{OpenComment};
+
+use crate::bytes::{blanks_len, is_blank, is_digit, is_letter, is_mark, line_len, name_len};
+use crate::number::{LIMIT, number_value};
+use crate::token::{BadPiece, Kind};
+
+/// What a piece is.
+#[derive(Clone, Copy, Debug)]
+pub enum PieceKind {
+    Blanks,
+    Comment,
+    Lexeme(Kind),
+    Bad(BadPiece),
+}
+
+/// A piece, with its size in bytes.
+#[derive(Clone, Copy, Debug)]
+pub struct Piece {
+    pub kind: PieceKind,
+    pub size: usize,
+}
+
+/// What the first byte of a piece says of it.
+#[derive(Clone, Copy, Debug)]
+pub enum Lead {
+    Blank,
+    LineComment,
+    Letter,
+    Digit,
+    Slash,
+    Single,
+    Other,
+}
+
+/// `fresh` says that only blanks stand before the byte on its line.
+fn lead_of(fresh: bool, b: u8) -> Lead
+    ensures { result ≡ lead_of fresh b }
+{
+    if is_blank(b) {
+        Lead::Blank
+    } else if b == b';' || (fresh && b == b'#') {
+        Lead::LineComment
+    } else if is_letter(b) {
+        Lead::Letter
+    } else if is_digit(b) {
+        Lead::Digit
+    } else if b == b'/' {
+        Lead::Slash
+    } else if is_mark(b) {
+        Lead::Single
+    } else {
+        Lead::Other
+    }
+}
+
+/// Whether a byte closes a comment, behind a `*` or not.
+fn is_close(star: bool, b: u8) -> bool
+    ensures { result ≡ (star && b == 47) }
+{
+    star && b == b'/'
+}
+
+/// How many bytes there are up to the first `*/` and with it.
+fn close_len(body: &[u8]) -> Option<usize>
+    ensures within { IfSome result (λ n. n ≤ length body.now) }
+    ensures comment { IfSome result (λ n. behind_star false (take n body.now) ≡ Some Comment) }
+    ensures longest { IfSome result (λ n. (m : ℕ) → n < m → m ≤ length body.now → behind_star false (take m body.now) ≡ None) }
+    ensures open { IfNone result (behind_star false body.now ≡ Some (Bad OpenComment)) }
+{
+    let mut star = false;
+    for (i, b) in body.iter().enumerate() {
+        if is_close(star, *b) {
+            return Some(i + 1);
+        }
+        star = *b == b'*';
+    }
+    None
+}
+
+/// The kind of a run of bytes that begins with a digit.
+fn run_kind(first: u8, rest: &[u8]) -> PieceKind
+    ensures { result ≡ run_kind (number_value (first ∷ rest.now)) }
+{
+    match number_value(first, rest) {
+        None => PieceKind::Bad(BadPiece::NoToken),
+        Some(n) => {
+            if n < LIMIT {
+                PieceKind::Lexeme(Kind::Number(n as u32))
+            } else {
+                PieceKind::Bad(BadPiece::LargeNumber)
+            }
+        }
+    }
+}
+
+/// The piece that begins with a `/`.
+fn slash_piece(rest: &[u8]) -> Piece
+    ensures { (fresh : Bool) (b : ℕ) → lead_of fresh b ≡ Slash → IsNext fresh (b ∷ rest.now) result }
+{
+    if rest.len() == 0 {
+        return Piece {
+            kind: PieceKind::Bad(BadPiece::NoToken),
+            size: 1,
+        };
+    }
+    if rest[0] != b'*' {
+        return Piece {
+            kind: PieceKind::Bad(BadPiece::NoToken),
+            size: 1,
+        };
+    }
+    let body = &rest[1..];
+    match close_len(body) {
+        Some(n) => Piece {
+            kind: PieceKind::Comment,
+            size: 2 + n,
+        },
+        None => Piece {
+            kind: PieceKind::Bad(BadPiece::OpenComment),
+            size: 2 + body.len(),
+        },
+    }
+}
+
+/// The piece at the front of a text, which isn't empty. `fresh` is as in `lead_of`.
+pub fn next_piece(fresh: bool, first: u8, rest: &[u8]) -> Piece
+    ensures { IsNext fresh (first ∷ rest.now) result }
+{
+    match lead_of(fresh, first) {
+        Lead::Blank => Piece {
+            kind: PieceKind::Blanks,
+            size: 1 + blanks_len(rest),
+        },
+        Lead::LineComment => Piece {
+            kind: PieceKind::Comment,
+            size: 1 + line_len(rest),
+        },
+        Lead::Letter => Piece {
+            kind: PieceKind::Lexeme(Kind::Word),
+            size: 1 + name_len(rest),
+        },
+        Lead::Digit => {
+            let n = name_len(rest);
+            Piece {
+                kind: run_kind(first, &rest[..n]),
+                size: 1 + n,
+            }
+        }
+        Lead::Slash => slash_piece(rest),
+        Lead::Single => Piece {
+            kind: PieceKind::Lexeme(Kind::Mark(first)),
+            size: 1,
+        },
+        Lead::Other => Piece {
+            kind: PieceKind::Bad(BadPiece::NoToken),
+            size: 1,
+        },
+    }
+}
+
+/// What is wrong with a bad piece.
+pub fn fault_of(kind: PieceKind) -> Option<BadPiece>
+    ensures bad { IfSome result (λ fault. kind ≡ Bad fault) }
+    ensures good { IfNone result (is_good kind ≡ true) }
+{
+    match kind {
+        PieceKind::Bad(fault) => Some(fault),
+        _ => None,
+    }
+}
