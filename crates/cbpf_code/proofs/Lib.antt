@@ -8,3 +8,4 @@ pub mod WordAnswerLemmas
 pub mod WordMarkLemmas
 pub mod WordStepLemmas
 pub mod WrittenLemmas
+pub mod WordFormLemmas

@@ -1,8 +1,7 @@
 -- The answer of the reader is one: a text that spells a list is refused by nothing but want of memory, and a text has one fault at most.
-use Rattle.std.proofs.Common.{◌≡◌, ◌≢◌, ℕ, ◌⊎◌, inl, inr, List, length, refl, sym, ap, ◌∙◌, Option, Some, None}
+use Rattle.std.proofs.Common.{◌≡◌, ◌≢◌, ℕ, ◌⊎◌, inl, inr, List, length, refl, sym, ap, ◌∙◌, Option, Some}
 use Rattle.std.specs.Prelude.{MatchResult, Result, Ok, Err}
-use Rattle.cbpf_code.specs.Marks.{marks}
-use Rattle.cbpf_code.specs.WordText.{first_fault, Loose, Spells, Breaks, Refused, count_of}
+use Rattle.cbpf_code.specs.WordText.{Loose, Spells, Breaks, Refused, count_of}
 use Rattle.cbpf_code.specs.declared.insn.Insn.{Insn}
 use Rattle.cbpf_code.specs.declared.words.WordFault.{WordFault}
 use Rattle.cbpf_code.specs.declared.words.WordFault.TheVariants.{Memory, NumberExpected, OutOfRange, UnexpectedByte, CountDiffers, CommaExpected}

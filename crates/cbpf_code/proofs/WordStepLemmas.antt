@@ -26,7 +26,7 @@ mark_fault-shift j m =
     let y : (suc j == 0) ≡ false = grind (arith, tests) in
     rw (e, z, y) refl
 
-first_fault-shift : (j : ℕ) (ms : List Mark) → first_fault (j + 6) ms ≡ first_fault (suc j) ms
+pub first_fault-shift : (j : ℕ) (ms : List Mark) → first_fault (j + 6) ms ≡ first_fault (suc j) ms
 first_fault-shift j [] = refl
 first_fault-shift j (m ∷ ms) =
     let e : suc (j + 6) ≡ suc j + 6 = omega arith in
@@ -72,7 +72,7 @@ read-next text c list i at mid end r x y = record {
 }
 
 -- the end, behind a comma
-whole-by : (text : List ℕ) (c : ℕ) (list : List Insn) → first_fault 0 (marks text) ≡ None → 2 ≤ length (marks text) → (length (marks text) % 5 ≡ 1) ⊎ (length (marks text) % 5 ≡ 2) → numbers (marks text) ≡ c ∷ fields_of list → IsReadWhole text c list
+pub whole-by : (text : List ℕ) (c : ℕ) (list : List Insn) → first_fault 0 (marks text) ≡ None → 2 ≤ length (marks text) → (length (marks text) % 5 ≡ 1) ⊎ (length (marks text) % 5 ≡ 2) → numbers (marks text) ≡ c ∷ fields_of list → IsReadWhole text c list
 whole-by text c list good begun ended told = record {
   loose = record {
     none_bad = good;

@@ -13,3 +13,4 @@ pub mod Text
 pub mod WordSteps
 pub mod WordText
 pub mod Writing
+pub mod WordForm

@@ -10,6 +10,7 @@ mod opcode;
 mod program;
 mod scan;
 mod slots;
+mod word_form;
 mod words;
 mod writing;
 
@@ -20,6 +21,7 @@ pub use insn::Insn;
 pub use opcode::{AluOp, Cond, Op, Size, Src, code_of, op_of};
 pub use program::Program;
 pub use scan::laws_of_marks;
+pub use word_form::write_words;
 pub use words::{WordFault, read_words};
 pub use writing::{WriteFault, write_bytes, write_decimal, write_hex, write_parts};
 
