@@ -13,7 +13,10 @@ fn each_write_that_goes_wrong_leaves_the_bytes_before_it(rt: HostRuntime) {
             let mut files = MemoryFiles::new(rt.alloc());
             let result = debug(rt.alloc(), &mut reader, &mut writer, &mut files);
             assert_eq!(rt; result, Err(ToolFault::Write));
-            assert_eq!(rt; Some(writer.written()), ARP_REPLIES.get(..call as usize - 1));
+            assert_eq!(rt;
+                Some(writer.written()),
+                ARP_REPLIES.get(..call as usize - 1)
+            );
         }
     }
 }

@@ -10,7 +10,11 @@ fn the_last_bytes_of_a_name_count(rt: HostRuntime) -> Result<(), AllocError> {
     assert!(rt; matches!(files.load(rt.alloc(), "a"), Err(LoadFault::Absent)));
     assert!(rt; files.put("a", Vec::from_slice(rt.alloc(), b"one")?).is_ok());
     assert!(rt; files.put("b", Vec::from_slice(rt.alloc(), b"two")?).is_ok());
-    assert!(rt; files.put("a", Vec::from_slice(rt.alloc(), b"three")?).is_ok());
+    assert!(rt;
+        files
+            .put("a", Vec::from_slice(rt.alloc(), b"three")?)
+            .is_ok()
+    );
     for (name, bytes) in [("a", b"three".as_slice()), ("b", b"two".as_slice())] {
         match files.load(rt.alloc(), name) {
             Ok(loaded) => assert_eq!(rt; loaded.as_slice(), bytes),
@@ -30,14 +34,22 @@ fn a_name_is_the_rest_of_the_line(rt: HostRuntime) -> Result<(), AllocError> {
     let mut writer = FaultyWriter::<256>::new(Fault::Fails, 0);
     let result = debug(rt.alloc(), &mut reader, &mut writer, &mut files);
     assert_eq!(rt; result, Ok(()));
-    assert_eq!(rt; writer.written(), b"error: F1 no such file\npcap: 2 packets\n".as_slice());
+    assert_eq!(rt;
+        writer.written(),
+        b"error: F1 no such file\npcap: 2 packets\n".as_slice()
+    );
     Ok(())
 }
 
 #[test]
 fn an_absent_file_is_told_apart_from_one_that_cannot_be_read(rt: HostRuntime) {
     let mut files = DiskFiles::new(&rt);
-    assert!(rt; matches!(files.load(rt.alloc(), "no/such/file"), Err(LoadFault::Absent)));
+    assert!(rt;
+        matches!(
+            files.load(rt.alloc(), "no/such/file"),
+            Err(LoadFault::Absent)
+        )
+    );
     assert!(rt; matches!(files.load(rt.alloc(), "/"), Err(LoadFault::Device)));
     assert!(rt; matches!(files.load(rt.alloc(), "a\0b"), Err(LoadFault::Device)));
     match files.load(rt.alloc(), "/dev/null") {

@@ -4,7 +4,9 @@ use std::alloc::{AllocError, Global};
 use std::process::Abort;
 
 const BYTES: [u8; 5] = [b'0', b'6', b',', b' ', b';'];
-const LONGEST: u32 = 5;
+
+/// Lengths, and how many texts of that length there are over these bytes.
+const TEXTS_OF_LENGTH: [(u32, u32); 6] = [(0, 1), (1, 5), (2, 25), (3, 125), (4, 625), (5, 3125)];
 
 /// A number, or a byte that is neither digit nor blank, and the place of its first byte.
 #[derive(Clone, Copy, PartialEq, Eq, Debug)]
@@ -90,8 +92,8 @@ fn compare(rt: &impl Abort, alloc: Global, text: &[u8]) -> Result<(), AllocError
 #[test]
 fn all_short_texts(rt: HostRuntime) -> Result<(), AllocError> {
     let mut texts = 0u32;
-    for len in 0..LONGEST + 1 {
-        for n in 0..5u32.pow(len) {
+    for (len, count) in TEXTS_OF_LENGTH {
+        for n in 0..count {
             let mut text = Vec::new(rt.alloc());
             let mut rest = n;
             for _ in 0..len {

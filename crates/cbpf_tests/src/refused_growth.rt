@@ -27,9 +27,14 @@ fn each_growth_of_a_list_of_instructions(rt: HostRuntime) {
 }
 
 const SCRIPT: &[u8] = b"load bpf 1,6 0 0 1\nload pcap k\ndump\nquit\n";
-const REPLIES: &[u8] = b"bpf: 1 instructions\npcap: 2 packets\n/* { op, jt, jf, k }, */\n{ 0x06,  0,  0, 0x00000001 },\n";
+
+const REPLIES: &[u8] =
+    b"bpf: 1 instructions\npcap: 2 packets\n/* { op, jt, jf, k }, */\n{ 0x06,  0,  0, 0x00000001 },\n";
+
 const NO_PROGRAM: &[u8] = b"error: out of memory\npcap: 2 packets\nerror: S1 no program\n";
-const NO_CAPTURE: &[u8] = b"bpf: 1 instructions\nerror: out of memory\n/* { op, jt, jf, k }, */\n{ 0x06,  0,  0, 0x00000001 },\n";
+
+const NO_CAPTURE: &[u8] =
+    b"bpf: 1 instructions\nerror: out of memory\n/* { op, jt, jf, k }, */\n{ 0x06,  0,  0, 0x00000001 },\n";
 
 #[test]
 fn each_growth_of_a_script(rt: HostRuntime) {
@@ -56,13 +61,13 @@ fn each_growth_of_a_script(rt: HostRuntime) {
                     return;
                 }
                 assert!(rt; text == NO_PROGRAM || text == NO_CAPTURE);
-                replies_refused += 1;
+                replies_refused = replies_refused.saturating_add(1);
             }
             Err(fault) => {
                 assert_eq!(rt; fault, ToolFault::Memory);
                 assert!(rt; REPLIES.starts_with(text));
                 assert!(rt; text.is_empty() || text.ends_with(b"\n"));
-                lines_not_held += 1;
+                lines_not_held = lines_not_held.saturating_add(1);
             }
         }
     }

@@ -5,6 +5,7 @@ pub const ARP: &[u8] = b"load bpf 4,40 0 0 12,21 0 1 2054,6 0 0 4294967295,6 0 0
 
 /// How many bytes the first line of `ARP` takes with its newline, and the first two.
 pub const ARP_ONE_LINE: usize = 59;
+
 pub const ARP_TWO_LINES: usize = 64;
 
 /// What `ARP` writes.

@@ -1,5 +1,5 @@
 // Takes the lines of a reader one after another, in chunks.
-ghost use Rattle.std.specs.Prelude.{◌≡◌, ◌+◌, ◌*◌, ◌-◌, ◌<◌, ◌≤◌, ℕ, List, Some, Ok, [], take, length, slice_index, true, false, OnOk, IfOk, IfErr, MatchOption, MatchResult};
+ghost use Rattle.std.specs.Prelude.{◌≡◌, ◌+◌, ◌*◌, ◌-◌, ◌^◌, ◌<◌, ◌≤◌, ℕ, List, Some, Ok, [], take, length, slice_index, true, false, OnOk, IfOk, IfErr, MatchOption, MatchResult};
 ghost use Rattle.std.specs.Io.KnownBytes.{Keeps, Consumes, IsAtEnd};
 ghost use Rattle.cbpf_tool.specs.Lines.{has_newline};
 ghost use Rattle.cbpf_tool.specs.Reading.{pending_in, unread, Fills, TakesPart, TakesLine};
@@ -50,7 +50,8 @@ pub struct LineReader {
 
 impl LineReader {
     pub fn new() -> LineReader
-        ensures { pending_in result.chunk result.start result.end ≡ [] }
+        ensures empty { pending_in result.chunk result.start result.end ≡ [] }
+        ensures reads { result.reads ≡ 2 ^ 64 - 1 }
     {
         LineReader {
             chunk: [0; CHUNK],

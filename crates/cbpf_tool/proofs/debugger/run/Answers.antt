@@ -12,7 +12,7 @@ use Rattle.cbpf_tool.proofs.debugger.run.Goals as goal
 pub script-init : goal.script-init
 script-init g c = λ script e tells.
     subst (λ (m : Loaded). Progress script (pending_in c.new-lines.result.chunk c.new-lines.result.start c.new-lines.result.end) (g.R.Read.remaining c.args.reader.now) (g.W.Write.contents c.args.writer.now) (g.W.Write.contents c.args.writer.now) (g.F.Files.source c.args.files.now) (g.F.Files.source c.args.files.now) m)
-    (sym c.new-debugger.ensures) (progress-start script _ _ (g.W.Write.contents c.args.writer.now) (g.F.Files.source c.args.files.now) c.new-lines.ensures e)
+    (sym c.new-debugger.ensures) (progress-start script _ _ (g.W.Write.contents c.args.writer.now) (g.F.Files.source c.args.files.now) c.new-lines.ensures.empty e)
 
 pub returns-in-Err : goal.returns-in-Err
 returns-in-Err g c = λ script e tells.

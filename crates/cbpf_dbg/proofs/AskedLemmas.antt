@@ -1,0 +1,30 @@
+-- Why an entry stops, by what its turn asks for.
+use Rattle.std.proofs.Common.{◌≡◌, ◌<◌, ℕ, List, refl, length}
+use Rattle.std.specs.Prelude.{Option, Some, None, nat_eq}
+use Rattle.std.specs.List.{list_any}
+use Rattle.cbpf_code.specs.declared.insn.Insn.{Insn}
+use Rattle.cbpf_code.specs.declared.extension.Ext.{Ext}
+use Rattle.cbpf_machine.specs.Registers.{Registers}
+use Rattle.cbpf_machine.specs.Step.{turn, asked}
+use Rattle.cbpf_machine.specs.declared.outcome.Turn.{Turn}
+use Rattle.cbpf_machine.specs.declared.outcome.Turn.TheVariants.{Next, Returned, Outside, ZeroDivisor, Unknown}
+use Rattle.cbpf_dbg.specs.declared.reply.Why.{Why}
+use Rattle.cbpf_dbg.specs.declared.reply.Why.TheVariants as why
+use Rattle.cbpf_dbg.specs.Joined.{why_of, hit_for}
+use Rattle.cbpf_dbg.specs.Session.{IsQuiet}
+
+abbrev pub why_by : Why → Option Ext → Why
+why_by reason None = reason
+why_by reason (Some e) = why.Unknown e
+
+pub why_asked : (reason : Why) (t : Turn) → why_of reason t ≡ why_by reason (asked t)
+why_asked reason (Next s) = refl
+why_asked reason (Returned v) = refl
+why_asked reason Outside = refl
+why_asked reason ZeroDivisor = refl
+why_asked reason (Unknown e) = refl
+
+-- where nothing can be a hit
+pub quiet_hit : (list : List Insn) (breakpoints : List ℕ) (bytes : List ℕ) (wire : ℕ) (s : Registers) → s.pc < length list → IsQuiet list breakpoints
+    → None ≡ hit_for (list_any (nat_eq s.pc) breakpoints) (asked (turn list bytes wire s))
+quiet_hit list breakpoints bytes wire s inside quiet = rw (quiet.0, quiet.1 bytes wire s inside) refl

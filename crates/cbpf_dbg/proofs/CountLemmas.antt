@@ -1,0 +1,90 @@
+-- The outcomes of a run of packets.
+use Rattle.std.proofs.Common.{◌≡◌, ℕ, zero, suc, ◌+◌, ◌-◌, ◌<◌, ◌≤◌, List, [], ◌∷◌, ◌++◌, length, drop, take, Bool, true, false, arith, sym, ap, ◌∙◌, subst, refl, cond, add-zero, add-one, length-drop}
+use Rattle.std.proofs.lemmas.List.Sums.{sum_by-append, count_by-le-length}
+use Rattle.std.proofs.Math.ListN.{length-map}
+use Rattle.cbpf_dbg.specs.declared.reply.Counts.{Counts}
+use Rattle.std.specs.Prelude.{Option, Some, None, slice_get, map, count_by}
+use Rattle.cbpf_code.specs.declared.insn.Insn.{Insn}
+use Rattle.cbpf_machine.specs.declared.outcome.Outcome.{Outcome}
+use Rattle.cbpf_machine.specs.declared.outcome.Outcome.TheVariants as outcome_is
+use Rattle.cbpf_machine.specs.Trace.{outcome}
+use Rattle.pcap_classic.specs.Records.{Record}
+use Rattle.cbpf_machine.proofs.ListLemmas.{take-slice_get}
+use Rattle.cbpf_dbg.specs.Joined.{outcomes, counts, is_pass, is_fail, is_open}
+use Rattle.cbpf_dbg.specs.Walk.{with_outcome}
+
+slice_get-drop : {X : Type 0} (xs : List X) (n i : ℕ) → slice_get (drop n xs) i ≡ slice_get xs (n + i)
+slice_get-drop xs zero i = let e : 0 + i ≡ i = omega arith in rw e refl
+slice_get-drop [] (suc n) i = refl
+slice_get-drop (x ∷ xs) (suc n) i = let e : suc n + i ≡ suc (n + i) = omega arith in rw e (slice_get-drop xs n i)
+
+map-append_one : {X Y : Type 0} (f : X → Y) (xs : List X) (x : X) → map f (xs ++ x ∷ []) ≡ map f xs ++ f x ∷ []
+map-append_one f [] x = refl
+map-append_one f (y ∷ ys) x = ap (λ rest. f y ∷ rest) (map-append_one f ys x)
+
+pub outcomes-more : (list : List Insn) (capture : List Record) (from p : ℕ) (r : Record) → 1 ≤ from → from ≤ p → slice_get capture (p - 1) ≡ Some r
+    → outcomes list capture from (p + 1) ≡ outcomes list capture from p ++ outcome list r.bytes r.wire ∷ []
+outcomes-more list capture from p r from_one ordered at =
+    let e : p + 1 - from ≡ p - from + 1 = omega arith in
+    let i : from - 1 + (p - from) ≡ p - 1 = omega arith in
+    let here : slice_get (drop (from - 1) capture) (p - from) ≡ Some r = rw (slice_get-drop capture (from - 1) (p - from), i) at in
+    rw e (rw (take-slice_get (drop (from - 1) capture) (p - from) r here) (map-append_one (λ (q : Record). outcome list q.bytes q.wire) (take (p - from) (drop (from - 1) capture)) r))
+
+count_more : {X : Type 0} (f : X → Bool) (xs : List X) (x : X) → count_by f (xs ++ x ∷ []) ≡ count_by f xs + cond (f x) 1 0
+count_more f xs x =
+    let e = sum_by-append (λ y. cond (f y) 1 0) xs (x ∷ []) in
+    let z : 0 + cond (f x) 1 0 ≡ cond (f x) 1 0 = omega arith in
+    rw z at e
+
+with_one : (xs : List Outcome) (o : Outcome)
+    → ◌≡◌ {A = Counts} (record { passes = count_by is_pass (xs ++ o ∷ []); fails = count_by is_fail (xs ++ o ∷ []); unknown = count_by is_open (xs ++ o ∷ []) })
+        (with_outcome (record { passes = count_by is_pass xs; fails = count_by is_fail xs; unknown = count_by is_open xs }) o)
+with_one xs (outcome_is.Pass v) =
+    let a : count_by is_pass (xs ++ outcome_is.Pass v ∷ []) ≡ count_by is_pass xs + 1 = count_more is_pass xs (outcome_is.Pass v) in
+    let b : count_by is_fail (xs ++ outcome_is.Pass v ∷ []) ≡ count_by is_fail xs = count_more is_fail xs (outcome_is.Pass v) ∙ add-zero _ in
+    let c : count_by is_open (xs ++ outcome_is.Pass v ∷ []) ≡ count_by is_open xs = count_more is_open xs (outcome_is.Pass v) ∙ add-zero _ in
+    rw (a, b, c) refl
+with_one xs outcome_is.Fail =
+    let a : count_by is_pass (xs ++ outcome_is.Fail ∷ []) ≡ count_by is_pass xs = count_more is_pass xs outcome_is.Fail ∙ add-zero _ in
+    let b : count_by is_fail (xs ++ outcome_is.Fail ∷ []) ≡ count_by is_fail xs + 1 = count_more is_fail xs outcome_is.Fail in
+    let c : count_by is_open (xs ++ outcome_is.Fail ∷ []) ≡ count_by is_open xs = count_more is_open xs outcome_is.Fail ∙ add-zero _ in
+    rw (a, b, c) refl
+with_one xs (outcome_is.Unknown e) =
+    let a : count_by is_pass (xs ++ outcome_is.Unknown e ∷ []) ≡ count_by is_pass xs = count_more is_pass xs (outcome_is.Unknown e) ∙ add-zero _ in
+    let b : count_by is_fail (xs ++ outcome_is.Unknown e ∷ []) ≡ count_by is_fail xs = count_more is_fail xs (outcome_is.Unknown e) ∙ add-zero _ in
+    let c : count_by is_open (xs ++ outcome_is.Unknown e ∷ []) ≡ count_by is_open xs + 1 = count_more is_open xs (outcome_is.Unknown e) in
+    rw (a, b, c) refl
+
+-- one more packet is one more outcome
+pub counts-more : (list : List Insn) (capture : List Record) (from p : ℕ) (r : Record) → 1 ≤ from → from ≤ p → slice_get capture (p - 1) ≡ Some r
+    → counts list capture from (p + 1) ≡ with_outcome (counts list capture from p) (outcome list r.bytes r.wire)
+unfolding counts
+counts-more list capture from p r from_one ordered at =
+    rw (outcomes-more list capture from p r from_one ordered at) (with_one (outcomes list capture from p) (outcome list r.bytes r.wire))
+
+length-take_le : {X : Type 0} (n : ℕ) (xs : List X) → length (take n xs) ≤ length xs
+length-take_le zero xs = omega arith
+length-take_le (suc n) [] = omega arith
+length-take_le (suc n) (x ∷ xs) = omega (arith, length-take_le n xs)
+
+length-outcomes : (list : List Insn) (capture : List Record) (from to : ℕ) → length (outcomes list capture from to) ≤ length capture
+length-outcomes list capture from to =
+    omega (arith, length-map (take (to - from) (drop (from - 1) capture)) (λ (r : Record). outcome list r.bytes r.wire),
+        length-take_le (to - from) (drop (from - 1) capture), length-drop (from - 1) capture)
+
+-- no count is above the number of packets
+pub record AtMost (n : Counts) (k : ℕ) : Type 0 where
+  pub passes : n.passes ≤ k
+  pub fails : n.fails ≤ k
+  pub unknown : n.unknown ≤ k
+
+pub counts-at_most : (list : List Insn) (capture : List Record) (from to : ℕ) → AtMost (counts list capture from to) (length capture)
+unfolding counts
+counts-at_most list capture from to =
+    let all : List Outcome = outcomes list capture from to in
+    let l = length-outcomes list capture from to in
+    record {
+      passes = omega (arith, l, count_by-le-length is_pass all);
+      fails = omega (arith, l, count_by-le-length is_fail all);
+      unknown = omega (arith, l, count_by-le-length is_open all);
+    }

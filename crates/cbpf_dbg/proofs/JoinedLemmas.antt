@@ -1,0 +1,205 @@
+-- The joined list from a place on.
+use Rattle.std.proofs.Common.{◌≡◌, ℕ, zero, suc, ◌+◌, ◌-◌, ◌<◌, ◌≤◌, List, [], ◌∷◌, ◌++◌, length, drop, take, Bool, true, false, arith, sym, ap, ◌∙◌, subst, refl, inl, inr, cond, add-one}
+use Rattle.std.specs.Prelude.{Option, Some, None, slice_get, filter, map, nat_lt, nat_eq, ◌||◌, ◌&&◌, if◌then◌else◌, ◌⊎◌}
+use Rattle.std.proofs.lemmas.Bool.Decides.{nat_tests}
+use Rattle.std.proofs.lemmas.List.Elements.{filter-append}
+use Rattle.cbpf_code.specs.declared.insn.Insn.{Insn}
+use Rattle.cbpf_machine.specs.Registers.{Registers, zero_state}
+use Rattle.cbpf_machine.specs.Step.{turn}
+use Rattle.cbpf_machine.specs.Trace.{trace}
+use Rattle.pcap_classic.specs.Records.{Record}
+use Rattle.cbpf_dbg.specs.declared.reply.Place.{Place}
+use Rattle.cbpf_dbg.specs.Joined.{Entry, entries_from, packet_entries, joined_from, joined, is_after, ahead, is_hit, stop_at, rest}
+use Rattle.cbpf_dbg.specs.declared.reply.Stop.{Stop}
+use Rattle.cbpf_dbg.specs.declared.reply.Why.TheVariants as why
+use Rattle.std.proofs.lemmas.Option.{slice_get_cases}
+
+-- the entry of a packet at a step
+abbrev pub entry : List Insn → Record → ℕ → ℕ → Registers → Entry
+entry list r packet step s = record { place = record { packet = packet; step = step }; state = s; turn = turn list r.bytes r.wire s }
+
+abbrev pub place_at : ℕ → ℕ → Place
+place_at p s = record { packet = p; step = s }
+
+abbrev pub later : ℕ → ℕ → List Entry → List Entry
+later p s es = filter (λ e. is_after (place_at p s) e.place) es
+
+-- what the order says of two places
+after_packet : (p s q k : ℕ) → p < q → is_after (place_at p s) (place_at q k) ≡ true
+after_packet p s q k h = grind (arith, nat_tests)
+
+not_after_packet : (p s q k : ℕ) → q < p → is_after (place_at p s) (place_at q k) ≡ false
+not_after_packet p s q k h = grind (arith, nat_tests)
+
+after_step : (p s k : ℕ) → s < k → is_after (place_at p s) (place_at p k) ≡ true
+after_step p s k h = grind (arith, nat_tests)
+
+not_after_step : (p s k : ℕ) → k ≤ s → is_after (place_at p s) (place_at p k) ≡ false
+not_after_step p s k h = grind (arith, nat_tests)
+
+-- the place's test at the head of a list
+later-yes : (p s : ℕ) (e : Entry) (es : List Entry) → is_after (place_at p s) e.place ≡ true → later p s (e ∷ es) ≡ e ∷ later p s es
+later-yes p s e es h = rw h
+
+later-no : (p s : ℕ) (e : Entry) (es : List Entry) → is_after (place_at p s) e.place ≡ false → later p s (e ∷ es) ≡ later p s es
+later-no p s e es h = rw h
+
+-- entries of an earlier packet are not after the place
+later-packet_before : (list : List Insn) (r : Record) (p s q k : ℕ) (xs : List Registers) → q < p → later p s (entries_from list r q k xs) ≡ []
+later-packet_before list r p s q k [] h = refl
+later-packet_before list r p s q k (x ∷ xs) h =
+    later-no p s (entry list r q k x) (entries_from list r q (k + 1) xs) (not_after_packet p s q k h) ∙ later-packet_before list r p s q (k + 1) xs h
+
+-- entries of a later packet are all after it
+later-packet_after : (list : List Insn) (r : Record) (p s q k : ℕ) (xs : List Registers) → p < q → later p s (entries_from list r q k xs) ≡ entries_from list r q k xs
+later-packet_after list r p s q k [] h = refl
+later-packet_after list r p s q k (x ∷ xs) h =
+    later-yes p s (entry list r q k x) (entries_from list r q (k + 1) xs) (after_packet p s q k h) ∙ ap (λ rest. entry list r q k x ∷ rest) (later-packet_after list r p s q (k + 1) xs h)
+
+-- so are the packet's own entries behind the step
+later-step_after : (list : List Insn) (r : Record) (p s k : ℕ) (xs : List Registers) → s < k → later p s (entries_from list r p k xs) ≡ entries_from list r p k xs
+later-step_after list r p s k [] h = refl
+later-step_after list r p s k (x ∷ xs) h =
+    later-yes p s (entry list r p k x) (entries_from list r p (k + 1) xs) (after_step p s k h) ∙ ap (λ rest. entry list r p k x ∷ rest) (later-step_after list r p s (k + 1) xs (omega arith))
+
+-- of the packet's own entries, those that n more steps pass are not
+later-step : (list : List Insn) (r : Record) (p s k n : ℕ) (xs : List Registers) → k + n ≡ s + 1 → later p s (entries_from list r p k xs) ≡ entries_from list r p (s + 1) (drop n xs)
+later-step list r p s k zero xs h =
+    let e : k ≡ s + 1 = omega arith in
+    rw e (later-step_after list r p s (s + 1) xs (omega arith))
+later-step list r p s k (suc n) [] h = refl
+later-step list r p s k (suc n) (x ∷ xs) h =
+    later-no p s (entry list r p k x) (entries_from list r p (k + 1) xs) (not_after_step p s k (omega arith)) ∙ later-step list r p s (k + 1) n xs (omega arith)
+
+-- all packets from a later one on
+later-joined_after : (list : List Insn) (p s q : ℕ) (capture : List Record) → p < q → later p s (joined_from list q capture) ≡ joined_from list q capture
+later-joined_after list p s q [] h = refl
+later-joined_after list p s q (r ∷ rest) h =
+    filter-append (λ (e : Entry). is_after (place_at p s) e.place) (packet_entries list r q) (joined_from list (q + 1) rest)
+    ∙ rw (later-packet_after list r p s q 1 (trace list r.bytes r.wire) h, later-joined_after list p s (q + 1) rest (omega arith)) refl
+
+-- all packets, where the place is in the n-th of them
+later-joined : (list : List Insn) (p s q n : ℕ) (capture : List Record) (r : Record) → q + n ≡ p → slice_get capture n ≡ Some r
+    → later p s (joined_from list q capture) ≡ entries_from list r p (s + 1) (drop s (trace list r.bytes r.wire)) ++ joined_from list (p + 1) (drop (n + 1) capture)
+later-joined list p s q n [] r h g = absurd cc
+later-joined list p s q zero (x ∷ rest) r h g =
+    let same : x ≡ r = cc in
+    let at : q ≡ p = omega arith in
+    filter-append (λ (e : Entry). is_after (place_at p s) e.place) (packet_entries list x q) (joined_from list (q + 1) rest)
+    ∙ rw (at, same) (rw (later-step list r p s 1 s (trace list r.bytes r.wire) (omega arith), later-joined_after list p s (p + 1) rest (omega arith)) refl)
+later-joined list p s q (suc n) (x ∷ rest) r h g =
+    let ih = later-joined list p s (q + 1) n rest r (omega arith) g in
+    filter-append (λ (e : Entry). is_after (place_at p s) e.place) (packet_entries list x q) (joined_from list (q + 1) rest)
+    ∙ (let e : suc n + 1 ≡ suc (n + 1) = omega arith in rw (later-packet_before list x p s q 1 (trace list x.bytes x.wire) (omega arith), e) ih)
+
+-- a place behind all packets
+later-joined_none : (list : List Insn) (p s q : ℕ) (capture : List Record) → q + length capture ≤ p → later p s (joined_from list q capture) ≡ []
+later-joined_none list p s q [] h = refl
+later-joined_none list p s q (x ∷ rest) h =
+    filter-append (λ (e : Entry). is_after (place_at p s) e.place) (packet_entries list x q) (joined_from list (q + 1) rest)
+    ∙ rw (later-packet_before list x p s q 1 (trace list x.bytes x.wire) (omega arith), later-joined_none list p s (q + 1) rest (omega arith)) refl
+
+-- what is ahead of a step of a packet of the capture
+pub ahead-in : (list : List Insn) (capture : List Record) (p s : ℕ) (r : Record) → 1 ≤ p → slice_get capture (p - 1) ≡ Some r
+    → ahead list capture (place_at p s) ≡ entries_from list r p (s + 1) (drop s (trace list r.bytes r.wire)) ++ joined_from list (p + 1) (drop p capture)
+unfolding joined
+ahead-in list capture p s r from_one at =
+    let e : p - 1 + 1 ≡ p = omega arith in
+    rw e at (later-joined list p s 1 (p - 1) capture r (omega arith) at)
+
+-- nothing is ahead behind the last packet
+pub ahead-end : (list : List Insn) (capture : List Record) (p s : ℕ) → length capture < p → ahead list capture (place_at p s) ≡ []
+unfolding joined
+ahead-end list capture p s h = later-joined_none list p s 1 capture (omega arith)
+
+drop-slice_get : {X : Type 0} (xs : List X) (i : ℕ) (x : X) → slice_get xs i ≡ Some x → drop i xs ≡ x ∷ drop (i + 1) xs
+drop-slice_get [] i x h = cc
+drop-slice_get (y ∷ ys) zero x h = let same : y ≡ x = cc in rw same refl
+drop-slice_get (y ∷ ys) (suc i) x h =
+    let ih = drop-slice_get ys i x h in
+    let e : suc i + 1 ≡ suc (i + 1) = omega arith in
+    rw e ih
+
+drop-past : {X : Type 0} (xs : List X) (i : ℕ) → length xs ≤ i → drop i xs ≡ []
+drop-past [] zero h = refl
+drop-past [] (suc i) h = refl
+drop-past (x ∷ xs) zero h = absurd (omega arith)
+drop-past (x ∷ xs) (suc i) h = drop-past xs i (omega arith)
+
+-- the packet's next entry is the first ahead
+pub ahead-entry : (list : List Insn) (capture : List Record) (p s : ℕ) (r : Record) (t : Registers) → 1 ≤ p → slice_get capture (p - 1) ≡ Some r
+    → slice_get (trace list r.bytes r.wire) s ≡ Some t
+    → ahead list capture (place_at p s) ≡ entry list r p (s + 1) t ∷ ahead list capture (place_at p (s + 1))
+ahead-entry list capture p s r t from_one at entry_is =
+    ahead-in list capture p s r from_one at
+    ∙ rw (drop-slice_get (trace list r.bytes r.wire) s t entry_is)
+        (ap (λ rest. entry list r p (s + 1) t ∷ rest) (sym (ahead-in list capture p (s + 1) r from_one at)))
+
+joined-next : (list : List Insn) (capture : List Record) (p : ℕ) → 1 ≤ p → joined_from list (p + 1) (drop p capture) ≡ ahead list capture (place_at (p + 1) 0)
+joined-next list capture p from_one =
+    elim (slice_get_cases capture p).1 [
+        inl found ↦
+            let e : p + 1 - 1 ≡ p = omega arith in
+            let at : slice_get capture (p + 1 - 1) ≡ Some found.0 = rw e found.2 in
+            rw (drop-slice_get capture p found.0 found.2) (sym (ahead-in list capture (p + 1) 0 found.0 (omega arith) at))
+        | inr past ↦
+            rw (drop-past capture p past.0) (sym (ahead-end list capture (p + 1) 0 (omega arith))) ]
+
+-- behind a packet's last entry comes the next packet
+pub ahead-leave : (list : List Insn) (capture : List Record) (p s : ℕ) (r : Record) → 1 ≤ p → slice_get capture (p - 1) ≡ Some r
+    → length (trace list r.bytes r.wire) ≤ s
+    → ahead list capture (place_at p s) ≡ ahead list capture (place_at (p + 1) 0)
+ahead-leave list capture p s r from_one at long =
+    ahead-in list capture p s r from_one at
+    ∙ rw (drop-past (trace list r.bytes r.wire) s long) (joined-next list capture p from_one)
+
+-- ---- the hits ahead
+
+swap_head : {X : Type 0} (f g : X → Bool) (x : X) (xs : List X) (b c : Bool) → f x ≡ b → g x ≡ c → filter f (filter g xs) ≡ filter g (filter f xs)
+    → filter f (cond c (x ∷ filter g xs) (filter g xs)) ≡ filter g (cond b (x ∷ filter f xs) (filter f xs))
+swap_head f g x xs true true hf hg ih = rw (hf, hg) (ap (λ rest. x ∷ rest) ih)
+swap_head f g x xs true false hf hg ih = rw hg ih
+swap_head f g x xs false true hf hg ih = rw hf ih
+swap_head f g x xs false false hf hg ih = ih
+
+filter-swap : {X : Type 0} (f g : X → Bool) (xs : List X) → filter f (filter g xs) ≡ filter g (filter f xs)
+filter-swap f g [] = refl
+filter-swap f g (x ∷ xs) = swap_head f g x xs (f x) (g x) refl refl (filter-swap f g xs)
+
+map_head : {X Y : Type 0} (f : X → Y) (b : Bool) (x : X) (xs : List X) (ys : List Y) → ys ≡ map f xs → cond b (f x ∷ ys) ys ≡ map f (cond b (x ∷ xs) xs)
+map_head f true x xs ys h = ap (λ rest. f x ∷ rest) h
+map_head f false x xs ys h = h
+
+later-stops : (place : Place) (es : List Entry) → filter (λ (h : Stop). is_after place h.place) (map (stop_at why.Break) es) ≡ map (stop_at why.Break) (filter (λ (e : Entry). is_after place e.place) es)
+later-stops place [] = refl
+later-stops place (e ∷ es) = map_head (stop_at why.Break) (is_after place e.place) e _ _ (later-stops place es)
+
+pub rest-ahead : (list : List Insn) (capture : List Record) (breakpoints : List ℕ) (place : Place)
+    → rest list capture breakpoints place ≡ map (stop_at why.Break) (filter (is_hit breakpoints) (ahead list capture place))
+rest-ahead list capture breakpoints place =
+    later-stops place (filter (is_hit breakpoints) (joined list capture))
+    ∙ ap (map (stop_at why.Break)) (filter-swap (λ (e : Entry). is_after place e.place) (is_hit breakpoints) (joined list capture))
+
+-- ---- what a run passes over and stops at
+
+pub rest-hit : (list : List Insn) (capture : List Record) (breakpoints : List ℕ) (old new : Place) (e : Entry)
+    → ahead list capture old ≡ e ∷ ahead list capture new → is_hit breakpoints e ≡ true
+    → rest list capture breakpoints old ≡ stop_at why.Break e ∷ rest list capture breakpoints new
+rest-hit list capture breakpoints old new e h hit =
+    rw (rest-ahead list capture breakpoints old, rest-ahead list capture breakpoints new, h, hit) refl
+
+pub rest-pass : (list : List Insn) (capture : List Record) (breakpoints : List ℕ) (old new : Place) (e : Entry)
+    → ahead list capture old ≡ e ∷ ahead list capture new → is_hit breakpoints e ≡ false
+    → rest list capture breakpoints old ≡ rest list capture breakpoints new
+rest-pass list capture breakpoints old new e h hit =
+    rw (rest-ahead list capture breakpoints old, rest-ahead list capture breakpoints new, h, hit) refl
+
+pub rest-same : (list : List Insn) (capture : List Record) (breakpoints : List ℕ) (old new : Place)
+    → ahead list capture old ≡ ahead list capture new
+    → rest list capture breakpoints old ≡ rest list capture breakpoints new
+rest-same list capture breakpoints old new h =
+    rw (rest-ahead list capture breakpoints old, rest-ahead list capture breakpoints new, h) refl
+
+pub rest-none : (list : List Insn) (capture : List Record) (breakpoints : List ℕ) (old : Place)
+    → ahead list capture old ≡ [] → rest list capture breakpoints old ≡ []
+rest-none list capture breakpoints old h = rw (rest-ahead list capture breakpoints old, h) refl

@@ -1,0 +1,218 @@
+-- What a run answers where it ends.
+use Rattle.std.proofs.Common.{◌≡◌, ℕ, zero, suc, ◌+◌, ◌-◌, ◌<◌, ◌≤◌, List, [], ◌∷◌, length, Bool, true, false, arith, sym, ap, ◌∙◌, subst, refl, inl, inr, cond}
+use Rattle.std.specs.Prelude.{Option, Some, None, slice_get, filter, ◌⊎◌, ◌||◌, nat_lt, nat_le, nat_eq, min, ◌≢◌}
+use Rattle.std.proofs.lemmas.Bool.Decides.{nat_tests}
+use Rattle.std.proofs.lemmas.Option.{slice_get_within}
+use Rattle.std.specs.List.{list_any}
+use Rattle.cbpf_code.specs.declared.insn.Insn.{Insn}
+use Rattle.cbpf_code.specs.declared.extension.Ext.{Ext}
+use Rattle.cbpf_machine.specs.Registers.{Registers}
+use Rattle.cbpf_machine.specs.declared.outcome.Turn.{Turn}
+use Rattle.cbpf_machine.specs.declared.outcome.Turn.TheVariants.{Next, Returned, Outside, ZeroDivisor, Unknown}
+use Rattle.cbpf_machine.specs.Step.{turn, asked}
+use Rattle.pcap_classic.specs.Records.{Record}
+use Rattle.pcap_classic.specs.Savefile.{Savefile}
+use Rattle.cbpf_dbg.specs.declared.reply.Place.{Place}
+use Rattle.cbpf_dbg.specs.declared.reply.Stop.{Stop}
+use Rattle.cbpf_dbg.specs.declared.reply.Why.{Why}
+use Rattle.cbpf_dbg.specs.declared.reply.Why.TheVariants as why
+use Rattle.cbpf_dbg.specs.declared.reply.RunReply.{RunReply}
+use Rattle.cbpf_dbg.specs.declared.reply.RunReply.TheVariants.{Stopped, Limit, Finished}
+use Rattle.cbpf_dbg.specs.declared.walk.Walk.{Walk}
+use Rattle.cbpf_dbg.specs.declared.walk.Moved.TheVariants as moved
+use Rattle.cbpf_dbg.specs.Joined.{Entry, ahead, rest, counts, stop_at, why_of, is_hit, is_unknown, hit_for, is_after, stops}
+use Rattle.cbpf_dbg.specs.View.{View, start}
+use Rattle.cbpf_dbg.specs.Commands.{run_to, step_to, run_out, within_limit, finished, limited}
+use Rattle.cbpf_dbg.specs.Walk.{Stands, Moves, view_at, entry_here, owed, run_from, Runs, StepsOn, step_from, Below, is_limit}
+use Rattle.cbpf_dbg.proofs.JoinedLemmas.{rest-hit, rest-pass, rest-same, rest-none}
+
+-- ---- the limit
+
+pub below_at_start : (limit : Option ℕ) (first count : ℕ) → (limit ≡ Some 0 → ⊥) → Below limit first first count
+below_at_start None first count h = tt
+below_at_start (Some zero) first count h = absurd (h refl)
+below_at_start (Some (suc n)) first count h = (omega arith, inl (omega arith))
+
+-- where the capture still has the packet, the limit is not reached
+within_below : (limit : Option ℕ) (first packet count : ℕ) → Below limit first packet count → packet ≤ count → first ≤ packet → within_limit limit (packet - first) ≡ true
+within_below None first packet count h here forward = refl
+within_below (Some n) first packet count h here forward =
+    elim h.1 [ inl below ↦ grind (arith, nat_tests) | inr past ↦ absurd (omega arith) ]
+
+-- a packet on, which is not the limit or is behind the last packet
+pub below_next : (limit : Option ℕ) (first packet next count : ℕ) → Below limit first packet count → packet ≤ count → first ≤ packet → next ≡ packet + 1
+    → (is_limit limit (next - first) ≡ false) ⊎ (count < next) → Below limit first next count
+below_next None first packet next count h here forward e test = tt
+below_next (Some n) first packet next count h here forward e test =
+    let most : next ≤ first + n = elim h.1 [ inl below ↦ omega arith | inr past ↦ absurd (omega arith) ] in
+    (most, elim test [
+        inl other ↦
+            let differs : n ≢ next - first = grind (arith, nat_tests) in
+            inl (omega arith)
+        | inr past ↦ inr past ])
+
+-- ---- hits
+
+pub hit_some : (b : Bool) (t : Turn) (y : Why) → hit_for b (asked t) ≡ Some y → (y ≡ why_of why.Break t) × ((b || is_unknown t) ≡ true)
+hit_some true (Next s) y h = (cc, refl)
+hit_some false (Next s) y h = absurd cc
+hit_some true (Returned v) y h = (cc, refl)
+hit_some false (Returned v) y h = absurd cc
+hit_some true Outside y h = (cc, refl)
+hit_some false Outside y h = absurd cc
+hit_some true ZeroDivisor y h = (cc, refl)
+hit_some false ZeroDivisor y h = absurd cc
+hit_some true (Unknown e) y h = (cc, refl)
+hit_some false (Unknown e) y h = (cc, refl)
+
+pub hit_none : (b : Bool) (t : Turn) → hit_for b (asked t) ≡ None → (b || is_unknown t) ≡ false
+hit_none true (Next s) h = absurd cc
+hit_none false (Next s) h = refl
+hit_none true (Returned v) h = absurd cc
+hit_none false (Returned v) h = refl
+hit_none true Outside h = absurd cc
+hit_none false Outside h = refl
+hit_none true ZeroDivisor h = absurd cc
+hit_none false ZeroDivisor h = refl
+hit_none true (Unknown e) h = absurd cc
+hit_none false (Unknown e) h = absurd cc
+
+-- a hit is the first that is ahead
+pub stop_front : (list : List Insn) (capture : List Record) (breakpoints : List ℕ) (w1 w2 : Walk) (r : Record) (y : Why)
+    → ahead list capture w1.place ≡ entry_here list r w2 ∷ ahead list capture w2.place
+    → hit_for (list_any (nat_eq w2.state.pc) breakpoints) (asked (turn list r.bytes r.wire w2.state)) ≡ Some y
+    → rest list capture breakpoints w1.place ≡ (record { place = w2.place; state = w2.state; why = y }) ∷ rest list capture breakpoints w2.place
+stop_front list capture breakpoints w1 w2 r y h hit =
+    let yes = hit_some (list_any (nat_eq w2.state.pc) breakpoints) (turn list r.bytes r.wire w2.state) y hit in
+    rw yes.0 (rest-hit list capture breakpoints w1.place w2.place (entry_here list r w2) h yes.1)
+
+-- ---- the three ends
+
+run_out_end : (m : View) (list : List Insn) (capture : List Record) (limit : Option ℕ) (packet : ℕ) → Below limit m.place.packet packet (length capture) → packet ≡ length capture + 1
+    → run_out m list capture limit ≡ finished m list capture
+run_out_end m list capture None packet below end = refl
+run_out_end m list capture (Some n) packet below end =
+    let most : packet ≤ m.place.packet + n = below.0 in
+    let no : nat_le (m.place.packet + n) (length capture) ≡ false = grind (arith, nat_tests) in
+    rw no refl
+
+is_limit-some : (n k : ℕ) → is_limit (Some n) k ≡ true → n ≡ k
+is_limit-some n k h = grind (arith, nat_tests)
+
+run_to_limit : (m : View) (list : List Insn) (capture : List Record) (limit : Option ℕ) (packet : ℕ) (hs : List Stop) → is_limit limit (packet - m.place.packet) ≡ true → m.place.packet ≤ packet → packet ≤ length capture
+    → ((h : Stop) (more : List Stop) → hs ≡ h ∷ more → packet ≤ h.place.packet)
+    → run_to m list capture limit hs ≡ limited m list capture packet
+run_to_limit m list capture None packet hs at forward here later = absurd cc
+run_to_limit m list capture (Some n) packet [] at forward here later =
+    let e : m.place.packet + n ≡ packet = let l = is_limit-some n (packet - m.place.packet) at in omega arith in
+    let yes : nat_le packet (length capture) ≡ true = grind (arith, nat_tests) in
+    rw e (rw yes refl)
+run_to_limit m list capture (Some n) packet (h ∷ more) at forward here later =
+    let l = is_limit-some n (packet - m.place.packet) at in
+    let behind : packet ≤ h.place.packet = later h more refl in
+    let e : m.place.packet + n ≡ packet = omega arith in
+    let no : nat_lt (h.place.packet - m.place.packet) n ≡ false = grind (arith, nat_tests) in
+    let yes : nat_le packet (length capture) ≡ true = grind (arith, nat_tests) in
+    rw no (rw e (rw yes refl))
+
+filter-head_at : {X : Type 0} (f : X → Bool) (y : X) (xs : List X) (x : X) (ys : List X) (b : Bool) → f y ≡ b → ((x' : X) (ys' : List X) → filter f xs ≡ x' ∷ ys' → f x' ≡ true) → cond b (y ∷ filter f xs) (filter f xs) ≡ x ∷ ys → f x ≡ true
+filter-head_at f y xs x ys true e ih h = let same : y ≡ x = cc in rw (← same) e
+filter-head_at f y xs x ys false e ih h = ih x ys h
+
+filter-head : {X : Type 0} (f : X → Bool) (xs : List X) (x : X) (ys : List X) → filter f xs ≡ x ∷ ys → f x ≡ true
+filter-head f [] x ys h = absurd cc
+filter-head f (y ∷ xs) x ys h = filter-head_at f y xs x ys (f y) refl (λ x' ys' g. filter-head f xs x' ys' g) h
+
+not_before : (a b : Place) → is_after a b ≡ true → a.packet ≤ b.packet
+not_before a b h = grind (arith, nat_tests)
+
+rest-behind : (list : List Insn) (capture : List Record) (breakpoints : List ℕ) (place : Place) (h : Stop) (more : List Stop) → rest list capture breakpoints place ≡ h ∷ more → place.packet ≤ h.place.packet
+rest-behind list capture breakpoints place h more e =
+    not_before place h.place (filter-head (λ (k : Stop). is_after place k.place) (stops list capture breakpoints) h more e)
+
+pub rest-head : (list : List Insn) (capture : List Record) (breakpoints : List ℕ) (place : Place) (h : Stop) (more : List Stop) → rest list capture breakpoints place ≡ h ∷ more → is_after place h.place ≡ true
+rest-head list capture breakpoints place h more e = filter-head (λ (k : Stop). is_after place k.place) (stops list capture breakpoints) h more e
+
+module _ (list : List Insn) (c : Savefile) (breakpoints : List ℕ) (limit : Option ℕ) (w0 : Walk) where
+  abbrev pub hits : Place → List Stop
+  hits place = rest list c.records breakpoints place
+
+  abbrev pub view0 : View
+  view0 = view_at list c breakpoints w0
+
+  pub run_stopped : (w1 w2 : Walk) (r : Record) (y : Why) → hits w1.place ≡ hits w0.place → w2.origin ≡ w0.origin
+      → ahead list c.records w1.place ≡ entry_here list r w2 ∷ ahead list c.records w2.place
+      → hit_for (list_any (nat_eq w2.state.pc) breakpoints) (asked (turn list r.bytes r.wire w2.state)) ≡ Some y
+      → Below limit w0.place.packet w2.place.packet (length c.records) → w2.place.packet ≤ length c.records → w0.place.packet ≤ w2.place.packet
+      → Runs list c breakpoints w0 w2 limit (Stopped (record { place = w2.place; state = w2.state; why = y }))
+  run_stopped w1 w2 r y same origin h hit below here forward =
+      let yes = hit_some (list_any (nat_eq w2.state.pc) breakpoints) (turn list r.bytes r.wire w2.state) y hit in
+      let front : hits w0.place ≡ stop_at why.Break (entry_here list r w2) ∷ hits w2.place =
+          sym same ∙ rest-hit list c.records breakpoints w1.place w2.place (entry_here list r w2) h yes.1 in
+      let inside = within_below limit w0.place.packet w2.place.packet (length c.records) below here forward in
+      record {
+        reply_is = rw (front, inside, yes.0) refl;
+        place_is = rw (front, inside) refl;
+        origin_is = rw (front, inside) origin;
+      }
+
+  pub run_finished : (w1 w2 : Walk) → Stands list c.records w1 → hits w1.place ≡ hits w0.place → w1.origin ≡ w0.origin
+      → w1.place.packet ≡ length c.records + 1 → ahead list c.records w1.place ≡ []
+      → Below limit w0.place.packet w1.place.packet (length c.records)
+      → w2.place ≡ start → w2.origin ≡ 1
+      → Runs list c breakpoints w0 w2 limit (Finished w1.counts)
+  run_finished w1 w2 stands same origin end none below place2 origin2 =
+      let front : hits w0.place ≡ [] = sym same ∙ rest-none list c.records breakpoints w1.place none in
+      let out = run_out_end view0 list c.records limit w1.place.packet below end in
+      let counted : w1.counts ≡ counts list c.records w0.origin (length c.records + 1) = rw (← origin, ← end) stands.counted in
+      record {
+        reply_is = rw (front, out) (ap Finished counted);
+        place_is = rw (front, out) place2;
+        origin_is = rw (front, out) origin2;
+      }
+
+  pub run_limited : (w1 w2 : Walk) → Stands list c.records w2 → hits w2.place ≡ hits w0.place → w2.origin ≡ w0.origin
+      → w2.place ≡ record { packet = w1.place.packet + 1; step = 0 } → w0.place.packet ≤ w2.place.packet
+      → is_limit limit (w2.place.packet - w0.place.packet) ≡ true → w2.place.packet ≤ length c.records
+      → Runs list c breakpoints w0 w2 limit (Limit w2.counts)
+  run_limited w1 w2 stands same origin place forward at here =
+      let out : run_to view0 list c.records limit (hits w0.place) ≡ limited view0 list c.records w2.place.packet =
+          rw (← same) (run_to_limit view0 list c.records limit w2.place.packet (hits w2.place) at forward here (λ h more e. rest-behind list c.records breakpoints w2.place h more e)) in
+      let counted : w2.counts ≡ counts list c.records w0.origin w2.place.packet = rw (← origin) stands.counted in
+      record {
+        reply_is = rw out (ap Limit counted);
+        place_is = rw out (rw place refl);
+        origin_is = rw out origin;
+      }
+
+-- ---- a step on
+
+pub slice_get-later : {X : Type 0} (x : X) (xs : List X) (k : ℕ) → 2 ≤ k → slice_get (x ∷ xs) (k - 1) ≡ slice_get xs (k - 1 - 1)
+slice_get-later x xs k h =
+    let e : k - 1 ≡ suc (k - 1 - 1) = omega arith in
+    ap (λ i. slice_get (x ∷ xs) i) e
+
+pub slice_get-first : {X : Type 0} (x : X) (xs : List X) (k : ℕ) → k ≡ 1 → slice_get (x ∷ xs) (k - 1) ≡ Some x
+slice_get-first x xs k h = rw h refl
+
+module _ (list : List Insn) (c : Savefile) (breakpoints : List ℕ) (n : ℕ) (w0 : Walk) where
+  pub step_stopped : (w2 : Walk) (r : Record) (y : Why) → slice_get (ahead list c.records w0.place) (n - 1) ≡ Some (entry_here list r w2)
+      → y ≡ why_of why.Step (turn list r.bytes r.wire w2.state) → w2.origin ≡ w0.origin
+      → StepsOn list c breakpoints w0 w2 n (Stopped (record { place = w2.place; state = w2.state; why = y }))
+  step_stopped w2 r y sought reason origin =
+      record {
+        reply_is = rw (sought, reason) refl;
+        place_is = rw sought refl;
+        origin_is = rw sought origin;
+      }
+
+  pub step_finished : (w1 w2 : Walk) → slice_get (ahead list c.records w0.place) (n - 1) ≡ None → Stands list c.records w1 → w1.origin ≡ w0.origin
+      → w1.place.packet ≡ length c.records + 1 → w2.place ≡ start → w2.origin ≡ 1
+      → StepsOn list c breakpoints w0 w2 n (Finished w1.counts)
+  step_finished w1 w2 sought stands origin end place2 origin2 =
+      let counted : w1.counts ≡ counts list c.records w0.origin (length c.records + 1) = rw (← origin, ← end) stands.counted in
+      record {
+        reply_is = rw sought (ap Finished counted);
+        place_is = rw sought place2;
+        origin_is = rw sought origin2;
+      }

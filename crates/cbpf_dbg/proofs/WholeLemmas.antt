@@ -1,0 +1,169 @@
+-- Runs without a limit, one after another.
+use Rattle.std.proofs.Common.{◌≡◌, ℕ, ◌+◌, ◌-◌, ◌*◌, ◌^◌, ◌<◌, ◌≤◌, List, [], ◌∷◌, ◌++◌, length, arith, sym, ap, ◌∙◌, subst, refl, inl, inr, Bool, true, false}
+use Rattle.std.specs.Prelude.{Option, Some, None, Result, Ok, Err, ◌⊎◌, nat_lt, nat_eq, ◌||◌, ◌&&◌, not, count_by, filter, map}
+use Rattle.std.proofs.lemmas.Bool.Decides.{nat_tests}
+use Rattle.std.proofs.lemmas.List.Sums.{count_by-le-length}
+use Rattle.cbpf_code.specs.declared.insn.Insn.{Insn}
+use Rattle.cbpf_code.specs.Sound.{IsSound}
+use Rattle.pcap_classic.specs.Records.{Record}
+use Rattle.pcap_classic.specs.Savefile.{Savefile}
+use Rattle.cbpf_dbg.specs.declared.reply.Place.{Place}
+use Rattle.cbpf_dbg.specs.declared.reply.Stop.{Stop}
+use Rattle.cbpf_dbg.specs.declared.reply.RunReply.{RunReply}
+use Rattle.cbpf_dbg.specs.declared.reply.RunReply.TheVariants.{Stopped, Limit, Finished}
+use Rattle.cbpf_dbg.specs.declared.reply.SessionFault.{SessionFault}
+use Rattle.cbpf_dbg.specs.declared.reply.Counts.{Counts}
+use Rattle.cbpf_dbg.specs.declared.reply.Why.TheVariants as why
+use Rattle.cbpf_dbg.specs.Joined.{stops as every_hit}
+use Rattle.cbpf_dbg.specs.Joined.{Entry, joined, joined_from, ahead, rest, is_hit, stop_at, is_after, turns_between, turns_to_end, counts}
+use Rattle.cbpf_dbg.specs.Walk.{NotBefore}
+use Rattle.cbpf_dbg.specs.View.{View, start}
+use Rattle.cbpf_dbg.specs.Commands.{Answer, reply_of, view_after, run, run_to_end, stops, all_stops, Found, turns_forward, PassesHits, Continues, stopped, finished}
+use Rattle.cbpf_dbg.proofs.TurnLemmas.{turns-split, length_joined}
+use Rattle.cbpf_dbg.proofs.RunLemmas.{rest-head}
+use Rattle.cbpf_dbg.proofs.JoinedLemmas.{ahead-in, rest-ahead}
+use Rattle.std.proofs.Common.{append_assoc, append-nil}
+
+-- what is known of a session with a program and a capture
+pub record Holds (list : List Insn) (c : Savefile) (v : View) : Type 0 where
+  pub program : v.program ≡ Some list
+  pub capture : v.capture ≡ Some c
+
+pub stops-held : (list : List Insn) (c : Savefile) (v : View) → Holds list c v → stops v ≡ Ok (rest list c.records v.breakpoints v.place)
+unfolding stops
+stops-held list c v h = rw (h.program, h.capture) refl
+
+-- a run without a limit that has a hit ahead
+pub run-first : (list : List Insn) (c : Savefile) (v : View) (stop : Stop) (left : List Stop) → Holds list c v
+    → rest list c.records v.breakpoints v.place ≡ stop ∷ left → run v None ≡ Ok (stopped v stop)
+unfolding run
+run-first list c v stop left h e = rw (h.program, h.capture, e) refl
+
+-- and one that has none
+pub run-last : (list : List Insn) (c : Savefile) (v : View) → Holds list c v
+    → rest list c.records v.breakpoints v.place ≡ [] → run v None ≡ Ok (finished v list c.records)
+unfolding run
+run-last list c v h e = rw (h.program, h.capture, e) refl
+
+pub turns-first : (list : List Insn) (c : Savefile) (v : View) (stop : Stop) (left : List Stop) → Holds list c v
+    → rest list c.records v.breakpoints v.place ≡ stop ∷ left → turns_forward v (run v None) ≡ turns_between list c.records v.place stop.place
+turns-first list c v stop left h e = rw (run-first list c v stop left h e, h.program, h.capture) refl
+
+pub turns_to_end-bound : (list : List Insn) (capture : List Record) (place : Place) → IsSound list → length capture < 2 ^ 60 → turns_to_end list capture place ≤ 2 ^ 76
+unfolding joined
+turns_to_end-bound list capture place sound few =
+    omega (arith, count_by-le-length (λ (e : Entry). not (is_after e.place place)) (joined_from list 1 capture), length_joined list 1 capture sound)
+
+after_is : (a b : Place) → is_after a b ≡ true → NotBefore b a
+after_is a b h = grind (arith, nat_tests)
+
+-- the turns to a hit and from it to the end
+pub turns-rest : (list : List Insn) (c : Savefile) (v : View) (stop : Stop) (left : List Stop) → rest list c.records v.breakpoints v.place ≡ stop ∷ left
+    → turns_to_end list c.records v.place ≡ turns_between list c.records v.place stop.place + turns_to_end list c.records stop.place
+turns-rest list c v stop left e =
+    turns-split list c.records v.place stop.place (after_is v.place stop.place (rest-head list c.records v.breakpoints v.place stop left e))
+
+-- from the start all hits are ahead
+ahead-start : (list : List Insn) (capture : List Record) → ahead list capture start ≡ joined list capture
+unfolding joined
+ahead-start list [] = refl
+ahead-start list (r ∷ more) = ahead-in list (r ∷ more) 1 0 r (omega arith) refl
+
+rest-start : (list : List Insn) (capture : List Record) (breakpoints : List ℕ) → rest list capture breakpoints start ≡ every_hit list capture breakpoints
+rest-start list capture breakpoints = rest-ahead list capture breakpoints start ∙ ap (λ es. map (stop_at why.Break) (filter (is_hit breakpoints) es)) (ahead-start list capture)
+
+from_start-held : (program : Option (List Insn)) (capture : Option Savefile) (v : View) → v.program ≡ program → v.capture ≡ capture → v.place ≡ start → stops v ≡ all_stops v
+unfolding stops all_stops
+from_start-held None capture v p c e = rw p refl
+from_start-held (Some list) None v p c e = rw (p, c) refl
+from_start-held (Some list) (Some s) v p c e = rw (p, c, e) (ap Ok (rest-start list s.records v.breakpoints))
+
+pub from_start : (v : View) → v.place ≡ start → stops v ≡ all_stops v
+from_start v e = from_start-held v.program v.capture v refl refl e
+
+-- how far runs from a view have come
+pub record Going (list : List Insn) (c : Savefile) (old new : View) (old_found new_found : List Stop) (before after : ℕ) : Type 0 where
+  pub sound : IsSound list
+  pub few : length c.records < 2 ^ 60
+  pub old_holds : Holds list c old
+  pub new_holds : Holds list c new
+  pub origin : new.origin ≡ old.origin
+  pub breakpoints : new.breakpoints ≡ old.breakpoints
+  pub hits : new_found ++ rest list c.records new.breakpoints new.place ≡ old_found ++ rest list c.records old.breakpoints old.place
+  pub spent : after + turns_to_end list c.records new.place ≡ before + turns_to_end list c.records old.place
+  pub spare : before ≤ 2 ^ 126
+
+pub going-spare : (list : List Insn) (c : Savefile) (old new : View) (f g : List Stop) (m n : ℕ) → Going list c old new f g m n → n ≤ 2 ^ 127
+going-spare list c old new f g m n h =
+    let all = turns_to_end-bound list c.records old.place h.sound h.few in
+    let spent = h.spent in
+    let spare = h.spare in
+    omega (arith, all, spent, spare)
+
+pub going-found : (list : List Insn) (c : Savefile) (old new : View) (f g : List Stop) (m n : ℕ) → Going list c old new f g m n → Found old new f g
+going-found list c old new f g m n h = (_, _, stops-held list c old h.old_holds, stops-held list c new h.new_holds, h.hits)
+
+-- a stop
+first-hit : (list : List Insn) (c : Savefile) (v new : View) (stop : Stop) → Holds list c v → Continues v new (Stopped stop) → (left : List Stop) × (rest list c.records v.breakpoints v.place ≡ stop ∷ left) × (stops new ≡ Ok left)
+first-hit list c v new stop h k =
+    let here = stops-held list c v h in
+    let ahead_is = k.2 in
+    let same : rest list c.records v.breakpoints v.place ≡ k.0 = cc in
+    (k.1, same ∙ k.4, k.3)
+
+pub going-stop : (list : List Insn) (c : Savefile) (old v new : View) (f g g2 : List Stop) (m n k : ℕ) (stop : Stop) → Going list c old v f g m n → Continues v new (Stopped stop)
+    → new ≡ view_after v (run v None) → k ≡ n + turns_forward v (run v None) → g2 ≡ g ++ stop ∷ [] → Going list c old new f g2 m k
+going-stop list c old v new f g g2 m n k stop h ahead_is after turns pushed =
+    let first = first-hit list c v new stop h.new_holds ahead_is in
+    let ran = run-first list c v stop first.0 h.new_holds first.1 in
+    let there : new ≡ record v { place = stop.place } = after ∙ ap (view_after v) ran in
+    let holds : Holds list c new = rw there (record { program = h.new_holds.program; capture = h.new_holds.capture }) in
+    let left : rest list c.records new.breakpoints new.place ≡ first.0 = (let s = stops-held list c new holds in let t = first.2 in cc) in
+    let spent = turns ∙ ap (λ t. n + t) (turns-first list c v stop first.0 h.new_holds first.1) in
+    let split = turns-rest list c v stop first.0 first.1 in
+    let sofar = h.spent in
+    let place : new.place ≡ stop.place = rw there refl in
+    record {
+      sound = h.sound; few = h.few; old_holds = h.old_holds; new_holds = holds;
+      origin = rw there h.origin;
+      breakpoints = rw there h.breakpoints;
+      hits = rw (left, pushed) (append_assoc g (stop ∷ []) first.0 ∙ (rw first.1 at h.hits));
+      spent = rw place (omega (arith, spent, split, sofar));
+      spare = h.spare;
+    }
+
+-- the end
+pub going-end : (list : List Insn) (c : Savefile) (old v new : View) (f g : List Stop) (m n : ℕ) (counted : Counts) → Going list c old v f g m n → Continues v new (Finished counted)
+    → Ok (Finished counted) ≡ reply_of (run v None) → new ≡ view_after v (run v None)
+    → (Ok counted ≡ reply_of (run_to_end old)) × (new ≡ view_after old (run_to_end old)) × (g ≡ f ++ rest list c.records old.breakpoints old.place)
+unfolding run_to_end
+going-end list c old v new f g m n counted h ahead_is reply after =
+    let here = stops-held list c v h.new_holds in
+    let none : rest list c.records v.breakpoints v.place ≡ [] = (let k2 = ahead_is.2 in let same : rest list c.records v.breakpoints v.place ≡ ahead_is.0 = cc in same ∙ ahead_is.4) in
+    let ran = run-last list c v h.new_holds none in
+    let there : new ≡ record v { place = start; origin = 1 } = after ∙ ap (view_after v) ran in
+    let answered : Ok (Finished counted) ≡ Ok (Finished (counts list c.records v.origin (length c.records + 1))) = reply ∙ ap reply_of ran in
+    let n : counted ≡ counts list c.records old.origin (length c.records + 1) = (let o = h.origin in let e : counted ≡ counts list c.records v.origin (length c.records + 1) = cc in rw o at e) in
+    (rw (h.old_holds.program, h.old_holds.capture, n) refl,
+     rw (h.old_holds.program, h.old_holds.capture, there, h.new_holds.program, h.new_holds.capture, h.breakpoints) refl,
+     sym (append-nil g) ∙ (rw none at h.hits))
+
+run-answers : (list : List Insn) (c : Savefile) (v : View) (hits : List Stop) → Holds list c v → rest list c.records v.breakpoints v.place ≡ hits
+    → ((stop : Stop) × (reply_of (run v None) ≡ Ok (Stopped stop))) ⊎ ((n : Counts) × (reply_of (run v None) ≡ Ok (Finished n)))
+run-answers list c v [] h e = inr (_, ap reply_of (run-last list c v h e))
+run-answers list c v (stop ∷ left) h e = inl (stop, ap reply_of (run-first list c v stop left h e))
+
+-- a run without a limit meets none, and is not refused
+pub going-limit : (list : List Insn) (c : Savefile) (old v : View) (f g : List Stop) (m n : ℕ) (counted : Counts) → Going list c old v f g m n → Ok (Limit counted) ≡ reply_of (run v None) → ⊥
+going-limit list c old v f g m n counted h e = elim (run-answers list c v _ h.new_holds refl) [ inl s ↦ (let a = s.1 in absurd cc) | inr s ↦ (let a = s.1 in absurd cc) ]
+
+pub going-refused : (list : List Insn) (c : Savefile) (old v : View) (f g : List Stop) (m n : ℕ) (fault : SessionFault) → Going list c old v f g m n → Err fault ≡ reply_of (run v None) → ⊥
+going-refused list c old v f g m n fault h e = elim (run-answers list c v _ h.new_holds refl) [ inl s ↦ (let a = s.1 in absurd cc) | inr s ↦ (let a = s.1 in absurd cc) ]
+
+-- how many hits are ahead
+abbrev pub how_many : Result (List Stop) SessionFault → ℕ
+how_many (Ok hits) = length hits
+how_many (Err e) = 0
+
+pub fewer : (old new : View) (stop : Stop) → Continues old new (Stopped stop) → how_many (stops new) < how_many (stops old)
+fewer old new stop k = rw (k.2, k.3, k.4) (omega arith)

@@ -1,0 +1,11 @@
+use Rattle.std.proofs.Common.{◌≡◌, ◌<◌, ℕ, None, List}
+use Rattle.cbpf_machine.specs.Registers.{Registers}
+use Rattle.cbpf_machine.specs.Step.{turn, asked}
+use Rattle.cbpf_dbg.proofs.hit.is_silent.Given as goal
+
+-- the instructions that were seen ask for no extension
+abbrev pub invariant-scan : goal.invariant-scan
+invariant-scan g l =
+    record {
+      silent : (bytes : List ℕ) (wire : ℕ) (s : Registers) → s.pc < l.i → asked (turn l.p bytes wire s) ≡ None;
+    }

@@ -1,0 +1,15 @@
+use Rattle.std.proofs.Common.{◌≡◌, ◌+◌, ◌-◌, ◌≤◌, length, take}
+use Rattle.cbpf_code.specs.Sound.{IsSound}
+use Rattle.cbpf_machine.specs.Trace.{trace}
+use Rattle.cbpf_machine.proofs.TraceLemmas.{Goes}
+use Rattle.cbpf_dbg.proofs.resume.refill.Given as goal
+
+abbrev pub invariant-replay : goal.invariant-replay
+invariant-replay g l =
+    record {
+      sound : IsSound l.p;
+      from_one : 1 ≤ l._i;
+      here : Goes l.p l.packet.bytes.now l.packet.wire (trace l.p l.packet.bytes.now l.packet.wire) (l._i - 1) l.s;
+      keeps : g.T.Trail.stands_for l.trail (take l._i (trace l.p l.packet.bytes.now l.packet.wire));
+      turns : l.meter + 1 ≡ l.initial.meter + l._i;
+    }

@@ -1,0 +1,60 @@
+use Rattle.std.proofs.Common.{◌≡◌, ℕ, ◌+◌, ◌<◌, ◌≤◌, List, [], ◌∷◌, ◌++◌, arith, refl, sym, ap, ◌∙◌, subst, inl, inr, Ok, Err}
+use Rattle.cbpf_dbg.specs.Commands.{stops, run, reply_of, Continues}
+use Rattle.cbpf_dbg.specs.declared.reply.RunReply.TheVariants.{Stopped, Limit, Finished}
+use Rattle.cbpf_dbg.proofs.WholeLemmas.{Going, Holds, stops-held, from_start, going-spare, going-found, going-stop, going-end, going-limit, going-refused, fewer}
+use Rattle.cbpf_dbg.proofs.session.Session.run_to_end.Goals as goal
+
+pub runs-init : goal.runs-init
+runs-init g c =
+    let holds : Holds c.in-Some.program c.in-Some-capture.capture c.args.self.now = record { program = rw (← c.self.view_is) c.in-Some.is; capture = rw (← c.self.view_is) c.in-Some-capture.is } in
+    record {
+      going = (c.in-Some.program, c.in-Some-capture.capture, record {
+        sound = c.len-sound.ensures.sound; few = omega (arith, c.count-few.ensures.value, c.count-few.ensures.bounded);
+        old_holds = holds; new_holds = holds; origin = refl; breakpoints = refl; hits = refl; spent = refl; spare = c.requires;
+      });
+    }
+
+pub returns-then-is_err-clause-from_start : goal.returns-then-is_err-clause-from_start
+returns-then-is_err-clause-from_start g c = from_start c.args.self.now
+
+pub returns-then-is_err-clause-memory : goal.returns-then-is_err-clause-memory
+returns-then-is_err-clause-memory g c = λ _. let w = c.runs.invariant.going in rw c.reserve.ensures.items (going-found _ _ _ _ _ _ _ _ w.2)
+
+pub run-requires : goal.run-requires
+run-requires g c = let w = c.runs.invariant.going in going-spare _ _ _ _ _ _ _ _ w.2
+
+pub runs-smaller : goal.runs-smaller
+runs-smaller g c =
+    let e : c.in-Ok.reply ≡ Stopped c.in-Stopped.stop = c.in-Stopped.is in
+    fewer _ _ _ (rw e at c.in-Ok.ensures.ahead)
+
+pub runs-preserved : goal.runs-preserved
+runs-preserved g c =
+    let w = c.runs.invariant.going in
+    let pushed : c.push.new.self.items ≡ c.runs.found.items ++ c.in-Stopped.stop ∷ [] = c.in-Ok-push.ensures.items ∙ ap (λ xs. xs ++ c.in-Stopped.stop ∷ []) c.reserve.ensures.items in
+    let e : c.in-Ok.reply ≡ Stopped c.in-Stopped.stop = c.in-Stopped.is in
+    record {
+      going = (w.0, w.1, going-stop _ _ _ _ _ _ _ _ _ _ _ _ w.2 (rw e at c.in-Ok.ensures.ahead) c.run.ensures.after c.run.ensures.turns pushed);
+    }
+
+pub returns-in-Finished-clause-reply : goal.returns-in-Finished-clause-reply
+returns-in-Finished-clause-reply g c =
+    let w = c.runs.invariant.going in
+    let e : c.in-Ok.reply ≡ Finished c.in-Finished.counts = c.in-Finished.is in
+    inl ((going-end _ _ _ _ _ _ _ _ _ _ w.2 (rw e at c.in-Ok.ensures.ahead) (rw e at c.in-Ok.ensures.reply) c.run.ensures.after).0)
+
+pub returns-in-Finished-clause-after : goal.returns-in-Finished-clause-after
+returns-in-Finished-clause-after g c =
+    let w = c.runs.invariant.going in
+    let e : c.in-Ok.reply ≡ Finished c.in-Finished.counts = c.in-Finished.is in
+    (going-end _ _ _ _ _ _ _ _ _ _ w.2 (rw e at c.in-Ok.ensures.ahead) (rw e at c.in-Ok.ensures.reply) c.run.ensures.after).1
+
+pub returns-in-Finished-clause-stops : goal.returns-in-Finished-clause-stops
+returns-in-Finished-clause-stops g c =
+    let w = c.runs.invariant.going in
+    let e : c.in-Ok.reply ≡ Finished c.in-Finished.counts = c.in-Finished.is in
+    let e = going-end _ _ _ _ _ _ _ _ _ _ w.2 (rw e at c.in-Ok.ensures.ahead) (rw e at c.in-Ok.ensures.reply) c.run.ensures.after in
+    (_, stops-held _ _ _ ((w.2).old_holds), c.reserve.ensures.items ∙ e.2)
+
+pub returns-in-Finished-clause-from_start : goal.returns-in-Finished-clause-from_start
+returns-in-Finished-clause-from_start g c = from_start c.args.self.now

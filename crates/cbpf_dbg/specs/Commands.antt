@@ -1,0 +1,232 @@
+-- What each command of a session answers, which view it leaves, and how many turns it makes (the commands `run`, `breakpoint`, `step` and `select` are named in Linux Documentation/networking/filter; the rest is this project's own).
+use Rattle.std.specs.Prelude.{◌≡◌, ℕ, ◌+◌, ◌-◌, ◌≤◌, ◌<◌, zero, suc, nat_lt, nat_le, nat_eq, ◌==◌, ◌&&◌, Bool, true, false, List, [], ◌∷◌, ◌++◌, filter, length, slice_get, Option, Some, None, Result, Ok, Err, if◌then◌else◌, ℤ, pos, negsuc, not}
+use Rattle.cbpf_code.specs.declared.insn.Insn.{Insn}
+use Rattle.std.specs.Option.{option_map}
+use Rattle.std.specs.List.{list_any}
+use Rattle.cbpf_dbg.specs.declared.reply.Counts.{Counts}
+use Rattle.cbpf_machine.specs.Step.{turn}
+use Rattle.cbpf_machine.specs.Trace.{trace}
+use Rattle.pcap_classic.specs.Records.{Record}
+use Rattle.pcap_classic.specs.Savefile.{Savefile}
+use Rattle.cbpf_dbg.specs.declared.reply.Place.{Place}
+use Rattle.cbpf_dbg.specs.declared.reply.Stop.{Stop}
+use Rattle.cbpf_dbg.specs.declared.reply.Why.TheVariants as why
+use Rattle.cbpf_dbg.specs.declared.reply.RunReply.{RunReply}
+use Rattle.cbpf_dbg.specs.declared.reply.RunReply.TheVariants.{Stopped, Limit, Finished}
+use Rattle.cbpf_dbg.specs.declared.reply.SessionFault.{SessionFault}
+use Rattle.cbpf_dbg.specs.declared.reply.SessionFault.TheVariants.{NoProgram, NoCapture, NoPackets, NoInstruction, NoPacket, NoStep, TooFarBack, ZeroCount, Memory}
+use Rattle.cbpf_dbg.specs.Joined.{stops as every_hit}
+use Rattle.cbpf_dbg.specs.Joined.{Entry, joined, ahead, rest, stop_at, counts, turns_between, turns_to_end}
+use Rattle.indexmap.specs.IndexSet.{insert_key, remove_key}
+use Rattle.cbpf_dbg.specs.View.{View, start}
+
+-- a reply with the view after it, or a refusal, which leaves the view
+abbrev pub Answer : Type 0 → Type 0
+Answer R = Result (R × View) SessionFault
+
+abbrev pub reply_of : {R : Type 0} → Answer R → Result R SessionFault
+reply_of (Ok a) = Ok a.0
+reply_of (Err e) = Err e
+
+abbrev pub view_after : {R : Type 0} → View → Answer R → View
+view_after m (Ok a) = a.1
+view_after m (Err e) = m
+
+-- a command that wants a program
+abbrev pub with_program : {R : Type 0} → Option (List Insn) → (List Insn → Result R SessionFault) → Result R SessionFault
+with_program None act = Err NoProgram
+with_program (Some list) act = act list
+
+-- one that wants a capture too
+abbrev pub with_capture : {R : Type 0} → Option Savefile → (List Record → Result R SessionFault) → Result R SessionFault
+with_capture None act = Err NoCapture
+with_capture (Some c) act = act c.records
+
+abbrev pub loaded : {R : Type 0} → View → (List Insn → List Record → Result R SessionFault) → Result R SessionFault
+loaded m act = with_program m.program (λ list. with_capture m.capture (act list))
+
+-- one that wants a packet too
+abbrev pub with_packets : {R : Type 0} → List Record → Result R SessionFault → Result R SessionFault
+with_packets [] answer = Err NoPackets
+with_packets (r ∷ rest) answer = answer
+
+abbrev pub stopped : View → Stop → RunReply × View
+stopped m stop = (Stopped stop, record m { place = stop.place })
+
+abbrev pub finished : View → List Insn → List Record → RunReply × View
+finished m list capture = (Finished (counts list capture m.origin (length capture + 1)), record m { place = start; origin = 1 })
+
+abbrev pub limited : View → List Insn → List Record → ℕ → RunReply × View
+limited m list capture next = (Limit (counts list capture m.origin next), record m { place = record { packet = next; step = 0 } })
+
+-- ---- run
+
+-- no hit comes before the limit
+abbrev pub run_out : View → List Insn → List Record → Option ℕ → RunReply × View
+run_out m list capture None = finished m list capture
+run_out m list capture (Some n) =
+    if nat_le (m.place.packet + n) (length capture) then limited m list capture (m.place.packet + n) else finished m list capture
+
+abbrev pub within_limit : Option ℕ → ℕ → Bool
+within_limit None packets = true
+within_limit (Some n) packets = nat_lt packets n
+
+-- by the hits that are ahead
+abbrev pub run_to : View → List Insn → List Record → Option ℕ → List Stop → RunReply × View
+run_to m list capture limit [] = run_out m list capture limit
+run_to m list capture limit (h ∷ hits) =
+    if within_limit limit (h.place.packet - m.place.packet) then stopped m h else run_out m list capture limit
+
+-- a limit is not 0
+abbrev pub checked_limit : {R : Type 0} → Option ℕ → Result R SessionFault → Result R SessionFault
+checked_limit None answer = answer
+checked_limit (Some zero) answer = Err ZeroCount
+checked_limit (Some (suc n)) answer = answer
+
+unfoldable pub run : View → Option ℕ → Answer RunReply
+run m limit =
+    loaded m (λ list capture. checked_limit limit (Ok (run_to m list capture limit (rest list capture m.breakpoints m.place))))
+
+-- ---- step
+
+abbrev pub step_to : View → List Insn → List Record → Option Entry → RunReply × View
+step_to m list capture None = finished m list capture
+step_to m list capture (Some e) = stopped m (stop_at why.Step e)
+
+-- the entry of a packet at a step
+abbrev pub entry_in : List Insn → Option Record → Place → Option Entry
+entry_in list None place = None
+entry_in list (Some r) place =
+    option_map (λ s. record { place = place; state = s; turn = turn list r.bytes r.wire s }) (slice_get (trace list r.bytes r.wire) (place.step - 1))
+
+abbrev pub back_place : Place → ℕ → Place
+back_place place b = record { packet = place.packet; step = place.step - b }
+
+abbrev pub back_to : View → List Insn → List Record → ℕ → Answer RunReply
+back_to m list capture b =
+    if nat_lt b m.place.step
+    then Ok (step_to m list capture (entry_in list (slice_get capture (m.place.packet - 1)) (back_place m.place b)))
+    else Err (TooFarBack (m.place.step - 1))
+
+abbrev pub step_by : View → List Insn → List Record → ℤ → Answer RunReply
+step_by m list capture (pos zero) = Err ZeroCount
+step_by m list capture (pos (suc n)) = Ok (step_to m list capture (slice_get (ahead list capture m.place) n))
+step_by m list capture (negsuc n) = back_to m list capture (n + 1)
+
+unfoldable pub step : View → ℤ → Answer RunReply
+step m n = loaded m (λ list capture. with_packets capture (step_by m list capture n))
+
+-- ---- select, mark, resume
+
+abbrev pub moved : View → Place → Unit {0} × View
+moved m place = (tt, record m { place = place; origin = place.packet })
+
+abbrev pub has_packet : List Record → ℕ → Bool
+has_packet capture n = nat_lt 0 n && nat_le n (length capture)
+
+unfoldable pub select : View → ℕ → Answer (Unit {0})
+select m n =
+    loaded m (λ list capture. with_packets capture
+        (if has_packet capture n then Ok (moved m (record { packet = n; step = 0 })) else Err NoPacket))
+
+unfoldable pub mark : View → Result Place SessionFault
+mark m = loaded m (λ list capture. Ok m.place)
+
+-- how many steps a packet has
+abbrev pub steps_of : List Insn → Option Record → ℕ
+steps_of list None = 0
+steps_of list (Some r) = length (trace list r.bytes r.wire)
+
+abbrev pub resume_in : View → List Insn → List Record → Place → Answer (Unit {0})
+resume_in m list capture place =
+    let steps = steps_of list (slice_get capture (place.packet - 1)) in
+    if nat_le place.step steps then Ok (moved m place) else Err (NoStep steps)
+
+unfoldable pub resume : View → Place → Answer (Unit {0})
+resume m place =
+    loaded m (λ list capture. with_packets capture
+        (if has_packet capture place.packet then resume_in m list capture place else Err NoPacket))
+
+-- ---- turns
+
+abbrev pub turns_in : View → List Insn → List Record → RunReply × View → ℕ
+turns_in m list capture (Stopped stop, after) = turns_between list capture m.place after.place
+turns_in m list capture (Limit n, after) = turns_between list capture m.place after.place
+turns_in m list capture (Finished n, after) = turns_to_end list capture m.place
+
+abbrev pub turns_loaded : View → Option (List Insn) → Option Savefile → Answer RunReply → ℕ
+turns_loaded m (Some list) (Some c) (Ok a) = turns_in m list c.records a
+turns_loaded m (Some list) (Some c) (Err e) = 0
+turns_loaded m (Some list) None answer = 0
+turns_loaded m None capture answer = 0
+
+-- the turns of `run`, and of `step` forward: the entries that the call leaves
+abbrev pub turns_forward : View → Answer RunReply → ℕ
+turns_forward m answer = turns_loaded m m.program m.capture answer
+
+-- the hits ahead
+unfoldable pub stops : View → Result (List Stop) SessionFault
+stops m = loaded m (λ list capture. Ok (rest list capture m.breakpoints m.place))
+
+-- how a run's answer goes with the hits ahead before it and after it: a stop is the first of them, and the others stay; up to a limit there is none; and at the end there is none left
+abbrev pub PassesHits : RunReply → List Stop → List Stop → Type 0
+PassesHits (Stopped h) before after = before ≡ h ∷ after
+PassesHits (Limit n) before after = before ≡ after
+PassesHits (Finished n) before after = before ≡ []
+
+-- the same by the views
+abbrev pub Continues : View → View → RunReply → Type 0
+Continues old new reply =
+    (before : List Stop) × (after : List Stop) × (stops old ≡ Ok before) × (stops new ≡ Ok after) × PassesHits reply before after
+
+-- ---- whole runs
+
+-- runs without a limit until the last packet is finished answer its counts, and go back to the start
+unfoldable pub run_to_end : View → Answer Counts
+run_to_end m = loaded m (λ list capture. Ok (counts list capture m.origin (length capture + 1), record m { place = start; origin = 1 }))
+
+-- all hits, from the start
+unfoldable pub all_stops : View → Result (List Stop) SessionFault
+all_stops m = loaded m (λ list capture. Ok (every_hit list capture m.breakpoints))
+
+-- the stops found, and then those that are still ahead, are those that were ahead
+abbrev pub Found : View → View → List Stop → List Stop → Type 0
+Found old new old_found new_found =
+    (before : List Stop) × (after : List Stop) × (stops old ≡ Ok before) × (stops new ≡ Ok after) × (new_found ++ after ≡ old_found ++ before)
+
+-- ---- loads and breakpoints
+
+abbrev pub with_program_loaded : View → List Insn → View
+with_program_loaded m list = record m { program = Some list; breakpoints = []; place = start; origin = 1 }
+
+abbrev pub with_capture_loaded : View → Savefile → View
+with_capture_loaded m c = record m { capture = Some c; place = start; origin = 1 }
+
+-- a breakpoint names an instruction of the program
+abbrev pub at_instruction : {R : Type 0} → View → ℕ → Result R SessionFault → Result R SessionFault
+at_instruction m n answer =
+    with_program m.program (λ list. if nat_lt n (length list) then answer else Err NoInstruction)
+
+-- a breakpoint goes last; one that is set keeps its place
+unfoldable pub breakpoint : View → ℕ → Answer (Unit {0})
+breakpoint m n = at_instruction m n (Ok (tt, record m { breakpoints = insert_key nat_eq m.breakpoints n }))
+
+-- whether it was set; the others keep their order
+unfoldable pub delete : View → ℕ → Answer Bool
+delete m n =
+    at_instruction m n (Ok (list_any (nat_eq n) m.breakpoints, record m { breakpoints = remove_key (nat_eq n) m.breakpoints }))
+
+abbrev pub without_breakpoints : View → View
+without_breakpoints m = record m { breakpoints = [] }
+
+-- of the refusals, only the one that counts a packet's steps makes turns
+abbrev pub Spends : SessionFault → ℕ → ℕ → Type 0
+Spends (NoStep n) old new = old ≤ new
+Spends NoProgram old new = new ≡ old
+Spends NoCapture old new = new ≡ old
+Spends NoPackets old new = new ≡ old
+Spends NoInstruction old new = new ≡ old
+Spends NoPacket old new = new ≡ old
+Spends (TooFarBack n) old new = new ≡ old
+Spends ZeroCount old new = new ≡ old
+Spends Memory old new = new ≡ old

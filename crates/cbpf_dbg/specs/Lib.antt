@@ -1,0 +1,5 @@
+pub mod Joined
+pub mod View
+pub mod Commands
+pub mod Walk
+pub mod Session

@@ -1,0 +1,143 @@
+-- A walk over the entries of a capture: it is a matter of this crate alone, and no public clause names it.
+use Rattle.std.specs.Option.{option_map}
+use Rattle.std.specs.Prelude.{◌≡◌, ℕ, ◌+◌, ◌-◌, ◌≤◌, ◌<◌, List, [], ◌∷◌, length, slice_get, Option, Some, None, IfSome, min, Bool, false, nat_eq, ◌⊎◌}
+use Rattle.cbpf_code.specs.declared.insn.Insn.{Insn}
+use Rattle.cbpf_code.specs.Sound.{IsSound}
+use Rattle.cbpf_machine.specs.Registers.{Registers, zero_state}
+use Rattle.cbpf_machine.specs.declared.outcome.Turn.{Turn}
+use Rattle.cbpf_machine.specs.declared.outcome.Outcome.{Outcome}
+use Rattle.cbpf_machine.specs.declared.outcome.Outcome.TheVariants as outcome_is
+use Rattle.cbpf_machine.specs.Step.{turn}
+use Rattle.cbpf_machine.specs.Trace.{trace, outcome_of}
+use Rattle.pcap_classic.specs.Records.{Record}
+use Rattle.pcap_classic.specs.Savefile.{Savefile}
+use Rattle.pcap_classic.specs.Lent.{record_of}
+use Rattle.pcap_classic.specs.declared.captured.Captured.{Captured}
+use Rattle.cbpf_dbg.specs.declared.reply.Place.{Place}
+use Rattle.cbpf_dbg.specs.declared.reply.Counts.{Counts}
+use Rattle.cbpf_dbg.specs.declared.walk.Walk.{Walk}
+use Rattle.cbpf_dbg.specs.declared.walk.Moved.{Moved}
+use Rattle.cbpf_dbg.specs.declared.walk.Moved.TheVariants as moved
+use Rattle.cbpf_dbg.specs.Joined.{Entry, ahead, counts, rest, stop_at}
+use Rattle.cbpf_dbg.specs.declared.reply.RunReply.{RunReply}
+use Rattle.cbpf_dbg.specs.View.{View}
+use Rattle.cbpf_dbg.specs.Commands.{run_to, step_to, turns_in, entry_in, back_place}
+use Rattle.cbpf_dbg.specs.declared.reply.Stop.{Stop}
+use Rattle.cbpf_dbg.specs.declared.reply.Why.TheVariants as why
+
+-- the state at a step of a packet
+abbrev pub IsEntry : List Insn → List Record → Place → Registers → Type 0
+IsEntry list capture place s =
+    (r : Record) × (slice_get capture (place.packet - 1) ≡ Some r) × (slice_get (trace list r.bytes r.wire) (place.step - 1) ≡ Some s)
+
+-- a walk stands at its place, with the outcomes from its origin on
+pub record Stands (list : List Insn) (capture : List Record) (w : Walk) : Type 0 where
+  pub sound : IsSound list
+  pub from_one : 1 ≤ w.origin
+  pub ordered : w.origin ≤ w.place.packet
+  pub within : w.place.packet ≤ length capture + 1
+  pub at : 0 < w.place.step → IsEntry list capture w.place w.state
+  pub counted : w.counts ≡ counts list capture w.origin w.place.packet
+
+-- the walk at a packet's first entry
+abbrev pub entered : Walk → Walk
+entered w = record w { place = record { packet = w.place.packet; step = 1 }; state = zero_state }
+
+-- the walk at the next entry
+abbrev pub stepped : Walk → Registers → Walk
+stepped w t = record w { place = record { packet = w.place.packet; step = w.place.step + 1 }; state = t }
+
+-- the counts with one more outcome
+abbrev pub with_outcome : Counts → Outcome → Counts
+with_outcome n (outcome_is.Pass v) = record n { passes = n.passes + 1 }
+with_outcome n outcome_is.Fail = record n { fails = n.fails + 1 }
+with_outcome n (outcome_is.Unknown e) = record n { unknown = n.unknown + 1 }
+
+-- the walk behind a packet whose last entry's turn this is
+abbrev pub left : Walk → Turn → Walk
+left w last = record w { place = record { packet = w.place.packet + 1; step = 0 }; counts = with_outcome w.counts (outcome_of last) }
+
+abbrev pub entry_here : List Insn → Record → Walk → Entry
+entry_here list r w = record { place = w.place; state = w.state; turn = turn list r.bytes r.wire w.state }
+
+-- how a move changed what is ahead
+abbrev pub Moves : List Insn → List Record → Walk → Moved → Walk → Type 0
+Moves list capture old moved.Entry new =
+    (r : Record) × (slice_get capture (new.place.packet - 1) ≡ Some r) × (new.place.packet ≡ old.place.packet)
+    × (new.place.step ≡ old.place.step + 1) × (ahead list capture old.place ≡ entry_here list r new ∷ ahead list capture new.place)
+Moves list capture old moved.Packet new =
+    (new.place ≡ record { packet = old.place.packet + 1; step = 0 }) × (ahead list capture old.place ≡ ahead list capture new.place)
+
+-- a walk is behind the last packet
+abbrev pub Ended : List Insn → List Record → Walk → Type 0
+Ended list capture w = (w.place.packet ≡ length capture + 1) × (ahead list capture w.place ≡ []) × (w.place.step ≡ 0)
+
+-- the record of a place's packet, where there is one
+pub record IsHere (capture : List Record) (packet : ℕ) (here : Option Captured) : Type 0 where
+  pub record_is : option_map record_of here ≡ slice_get capture (packet - 1)
+  pub number_is : IfSome here (λ c. c.number ≡ packet)
+
+-- how many turns are owed to the end: one for each entry ahead, and one for the entry of the place
+abbrev pub owed : List Insn → List Record → Place → ℕ
+owed list capture place = length (ahead list capture place) + min place.step 1
+
+-- a session's view with its walk at a place
+abbrev pub view_at : List Insn → Savefile → List ℕ → Walk → View
+view_at list c breakpoints w = record { program = Some list; capture = Some c; breakpoints = breakpoints; origin = w.origin; place = w.place }
+
+-- what a run from a place answers, and where it ends
+abbrev pub run_from : List Insn → Savefile → List ℕ → Walk → Option ℕ → RunReply × View
+run_from list c breakpoints w limit =
+    run_to (view_at list c breakpoints w) list c.records limit (rest list c.records breakpoints w.place)
+
+-- a run's answer and end
+pub record Runs (list : List Insn) (c : Savefile) (breakpoints : List ℕ) (old new : Walk) (limit : Option ℕ) (reply : RunReply) : Type 0 where
+  pub reply_is : reply ≡ (run_from list c breakpoints old limit).0
+  pub place_is : new.place ≡ (run_from list c breakpoints old limit).1.place
+  pub origin_is : new.origin ≡ (run_from list c breakpoints old limit).1.origin
+
+-- whether this many packets are the limit
+abbrev pub is_limit : Option ℕ → ℕ → Bool
+is_limit None packets = false
+is_limit (Some n) packets = nat_eq n packets
+
+-- at a packet the limit is not passed, and is reached only behind the last packet
+abbrev pub Below : Option ℕ → ℕ → ℕ → ℕ → Type 0
+Below None first packet count = Unit {0}
+Below (Some n) first packet count = (packet ≤ first + n) × ((packet < first + n) ⊎ (count < packet))
+
+-- one place is not before another
+abbrev pub NotBefore : Place → Place → Type 0
+NotBefore new old = (old.packet < new.packet) ⊎ ((old.packet ≡ new.packet) × (old.step ≤ new.step))
+
+-- the turns of a run from a place
+abbrev pub run_turns : List Insn → Savefile → List ℕ → Walk → Option ℕ → ℕ
+run_turns list c breakpoints w limit =
+    turns_in (view_at list c breakpoints w) list c.records (run_from list c breakpoints w limit)
+
+-- a step back answers the entry at that step, and the walk stands there
+pub record StepsBack (list : List Insn) (capture : List Record) (old new : Walk) (b : ℕ) (stop : Stop) : Type 0 where
+  pub within : b < old.place.step
+  pub entry : (e : Entry) × (entry_in list (slice_get capture (old.place.packet - 1)) (back_place old.place b) ≡ Some e) × (stop ≡ stop_at why.Step e)
+  pub place_is : new.place ≡ back_place old.place b
+  pub origin_is : new.origin ≡ old.origin
+
+-- there are too few entries behind
+pub record CannotStepBack (old new : Walk) (b most : ℕ) : Type 0 where
+  pub beyond : old.place.step ≤ b
+  pub most_is : most ≡ old.place.step - 1
+  pub same : new ≡ old
+
+-- what a step on by n entries answers, and where it ends
+abbrev pub step_from : List Insn → Savefile → List ℕ → Walk → ℕ → RunReply × View
+step_from list c breakpoints w n =
+    step_to (view_at list c breakpoints w) list c.records (slice_get (ahead list c.records w.place) (n - 1))
+
+pub record StepsOn (list : List Insn) (c : Savefile) (breakpoints : List ℕ) (old new : Walk) (n : ℕ) (reply : RunReply) : Type 0 where
+  pub reply_is : reply ≡ (step_from list c breakpoints old n).0
+  pub place_is : new.place ≡ (step_from list c breakpoints old n).1.place
+  pub origin_is : new.origin ≡ (step_from list c breakpoints old n).1.origin
+
+abbrev pub step_turns : List Insn → Savefile → List ℕ → Walk → ℕ → ℕ
+step_turns list c breakpoints w n =
+    turns_in (view_at list c breakpoints w) list c.records (step_from list c breakpoints w n)

@@ -1,0 +1,220 @@
+//! The commands of a session that ask or move its place.
+
+ghost use Rattle.std.specs.Prelude.{◌≡◌, ◌≤◌, ◌+◌, ◌*◌, ◌^◌, ◌<ℤ◌, pos, IfErr, IfOk, OnErr};
+ghost use Rattle.cbpf_dbg.specs.Commands as spec;
+
+use crate::hit::is_quiet;
+use crate::reply::{Place, RunReply, SessionFault};
+use crate::resume::resume_at;
+use crate::run::run;
+use crate::session::Session;
+use crate::step::{step_back, step_on};
+use crate::stops::Stops;
+use crate::walk::{Walk, record_at};
+use cbpf_machine::{Meter, Trail};
+use std::alloc::Allocator;
+
+impl<T: Trail, A: Allocator> Session<T, A> {
+    /// The place, for a later [`Session::resume`].
+    ///
+    /// # Errors
+    ///
+    /// `NoProgram`, `NoCapture`.
+    #[tactic(auto, unfolding(crate::specs::Commands::mark))]
+    pub fn mark(&self) -> Result<Place, SessionFault>
+        ensures { result ≡ spec.mark self.now }
+    {
+        if self.program.is_none() {
+            return Err(SessionFault::NoProgram);
+        }
+        if self.capture.is_none() {
+            return Err(SessionFault::NoCapture);
+        }
+        Ok(self.walk.place)
+    }
+
+    /// Goes on to the next hit, where fewer than `limit` packets are finished before it, else to the
+    /// limit or the end.
+    ///
+    /// The meter has spent at most 2 to the 127 before; it rises by one for each entry that is left.
+    ///
+    /// # Errors
+    ///
+    /// `NoProgram`, `NoCapture`, `ZeroCount` where the limit is 0.
+    #[inline(never)]
+    #[tactic(auto, using(crate::proofs::TurnLemmas::owed_bound), unfolding(crate::specs::Commands::run, crate::specs::Commands::stops))]
+    pub fn run(&mut self, meter: &mut Meter, limit: Option<u64>) -> Result<RunReply, SessionFault>
+        requires { meter.old ≤ 2 ^ 127 }
+        ensures reply { result ≡ spec.reply_of (spec.run self.old limit) }
+        ensures after { self.new ≡ spec.view_after self.old (spec.run self.old limit) }
+        ensures turns { meter.new ≡ meter.old + spec.turns_forward self.old (spec.run self.old limit) }
+
+        // A stop is the first hit that was ahead, and then the others are ahead.
+        ensures ahead { IfOk result (λ reply. spec.Continues self.old self.new reply) }
+    {
+        let Some(program) = &self.program else {
+            return Err(SessionFault::NoProgram);
+        };
+        let Some(capture) = &self.capture else {
+            return Err(SessionFault::NoCapture);
+        };
+        let _few = capture.count();
+        let _sound = program.len();
+        if let Some(0) = limit {
+            return Err(SessionFault::ZeroCount);
+        }
+        let quiet = is_quiet(program, self.silent, &self.breakpoints);
+        let reply = run(
+            meter,
+            program,
+            capture,
+            &self.breakpoints,
+            quiet,
+            &mut self.walk,
+            &mut self.trail,
+            limit,
+        );
+        Ok(reply)
+    }
+
+    /// Goes to a place that [`Session::mark`] told, and counts from its packet.
+    ///
+    /// The meter has spent at most 2 to the 127 before; it rises by at most twice the step.
+    ///
+    /// # Errors
+    ///
+    /// `NoProgram`, `NoCapture`, `NoPackets`; `NoPacket` where the capture has no such packet;
+    /// `NoStep` with the number of the packet's steps where it has no such step.
+    #[tactic(auto, unfolding(crate::specs::Commands::resume))]
+    pub fn resume(&mut self, meter: &mut Meter, place: Place) -> Result<(), SessionFault>
+        requires { meter.old ≤ 2 ^ 127 }
+        ensures reply { result ≡ spec.reply_of (spec.resume self.old place) }
+        ensures after { self.new ≡ spec.view_after self.old (spec.resume self.old place) }
+        ensures counts { meter.old ≤ meter.new }
+        ensures turns { meter.new ≤ meter.old + 2 * place.step }
+        ensures refused { IfErr result (λ e. spec.Spends e meter.old meter.new) }
+    {
+        let Some(program) = &self.program else {
+            return Err(SessionFault::NoProgram);
+        };
+        let Some(capture) = &self.capture else {
+            return Err(SessionFault::NoCapture);
+        };
+        let count = capture.count();
+        if count == 0 {
+            return Err(SessionFault::NoPackets);
+        }
+        if place.packet == 0 || place.packet > count {
+            return Err(SessionFault::NoPacket);
+        }
+        resume_at(meter, program, capture, &mut self.walk, &mut self.trail, place)
+            .map_err(SessionFault::NoStep)
+    }
+
+    /// Goes on by `n` entries, or back by `-n` entries of the same packet, whatever hits lie between.
+    ///
+    /// The meter has spent at most 2 to the 127 before; on the way forward it rises by one for each
+    /// entry that is left, and on the way back by at most 63.
+    ///
+    /// # Errors
+    ///
+    /// `NoProgram`, `NoCapture`, `NoPackets`; `ZeroCount` where `n` is 0; `TooFarBack` with the most
+    /// that fits.
+    #[tactic(auto, using(crate::proofs::TurnLemmas::owed_bound), unfolding(crate::specs::Commands::step))]
+    pub fn step(&mut self, meter: &mut Meter, n: i64) -> Result<RunReply, SessionFault>
+        requires { meter.old ≤ 2 ^ 127 }
+        ensures reply { result ≡ spec.reply_of (spec.step self.old n) }
+        ensures after { self.new ≡ spec.view_after self.old (spec.step self.old n) }
+        ensures turns { pos 0 <ℤ n → meter.new ≡ meter.old + spec.turns_forward self.old (spec.step self.old n) }
+        ensures counts { meter.old ≤ meter.new }
+        ensures back { n <ℤ pos 0 → meter.new ≤ meter.old + 63 }
+        ensures refused { OnErr result (meter.new ≡ meter.old) }
+    {
+        let Some(program) = &self.program else {
+            return Err(SessionFault::NoProgram);
+        };
+        let Some(capture) = &self.capture else {
+            return Err(SessionFault::NoCapture);
+        };
+        let packets = capture.count();
+        let _sound = program.len();
+        if packets == 0 {
+            return Err(SessionFault::NoPackets);
+        }
+        if n == 0 {
+            return Err(SessionFault::ZeroCount);
+        }
+        let entries = n.unsigned_abs();
+        if n > 0 {
+            return Ok(step_on(
+                meter,
+                program,
+                capture,
+                &mut self.walk,
+                &mut self.trail,
+                entries,
+            ));
+        }
+        match step_back(meter, program, capture, &mut self.walk, &mut self.trail, entries) {
+            Ok(stop) => Ok(RunReply::Stopped(stop)),
+            Err(most) => Err(SessionFault::TooFarBack(most)),
+        }
+    }
+
+    /// Goes before packet `n`, counted from 1, and counts from there.
+    ///
+    /// # Errors
+    ///
+    /// `NoProgram`, `NoCapture`, `NoPackets`; `NoPacket` where the capture has no such packet.
+    #[tactic(auto, unfolding(crate::specs::Commands::select))]
+    pub fn select(&mut self, n: u64) -> Result<(), SessionFault>
+        ensures reply { result ≡ spec.reply_of (spec.select self.old n) }
+        ensures after { self.new ≡ spec.view_after self.old (spec.select self.old n) }
+    {
+        let Some(program) = &self.program else {
+            return Err(SessionFault::NoProgram);
+        };
+        let Some(capture) = &self.capture else {
+            return Err(SessionFault::NoCapture);
+        };
+        let count = capture.count();
+        if count == 0 {
+            return Err(SessionFault::NoPackets);
+        }
+        if n == 0 || n > count {
+            return Err(SessionFault::NoPacket);
+        }
+        let _sound = program.len();
+        self.walk = Walk::before(n);
+        self.trail.clear();
+        Ok(())
+    }
+
+    /// The hits after the place, in order. The session stays as it is.
+    ///
+    /// # Errors
+    ///
+    /// `NoProgram`, `NoCapture`.
+    #[tactic(auto, using(crate::proofs::TurnLemmas::owed_bound), unfolding(crate::specs::Commands::stops))]
+    pub fn stops(&self) -> Result<Stops<'_, A>, SessionFault>
+        ensures { result ≡ spec.stops self.now }
+    {
+        let Some(program) = &self.program else {
+            return Err(SessionFault::NoProgram);
+        };
+        let Some(capture) = &self.capture else {
+            return Err(SessionFault::NoCapture);
+        };
+        let _few = capture.count();
+        let _sound = program.len();
+        Ok(Stops {
+            program,
+            capture,
+            breakpoints: &self.breakpoints,
+            quiet: is_quiet(program, self.silent, &self.breakpoints),
+            walk: self.walk,
+            here: record_at(capture, self.walk.place.packet),
+            meter: Meter::new(),
+        })
+    }
+}

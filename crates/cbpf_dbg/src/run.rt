@@ -1,0 +1,108 @@
+//! Runs to the next hit.
+
+ghost use Rattle.std.specs.Prelude.{◌≡◌, ◌≢◌, ◌+◌, ◌<◌, ◌^◌, Some, true};
+ghost use Rattle.cbpf_dbg.specs.Commands.{PassesHits};
+ghost use Rattle.cbpf_dbg.specs.Joined.{rest};
+ghost use Rattle.cbpf_dbg.specs.Session.{IsQuiet, Keeps};
+ghost use Rattle.cbpf_dbg.specs.Walk.{Stands, owed, Runs, run_turns, is_limit as is_limit_at};
+
+use crate::hit::{Breakpoints, hit};
+use crate::reply::{RunReply, Stop};
+use crate::walk::{Moved, Walk, advance, record_at};
+use cbpf_code::Program;
+use cbpf_machine::{Meter, Trail};
+use pcap_classic::Capture;
+use std::alloc::Allocator;
+
+#[inline(always)]
+fn is_limit(limit: Option<u64>, packets: u64) -> bool
+    ensures { result ≡ is_limit_at limit packets }
+{
+    match limit {
+        Some(n) => n == packets,
+        None => false,
+    }
+}
+
+/// Goes on to the next hit, to the limit of finished packets, or to the end.
+#[inline(always)]
+fn run_here<T: Trail, A: Allocator>(
+    meter: &mut Meter,
+    p: &Program<A>,
+    capture: &Capture<A>,
+    breakpoints: &Breakpoints<A>,
+    quiet: bool,
+    w: &mut Walk,
+    trail: &mut T,
+    limit: Option<u64>,
+) -> RunReply
+    requires stands { Stands p.now capture.now.records w.old }
+    requires keeps { Keeps (λ xs. T.stands_for trail.old xs) p.now capture.now.records w.old.place }
+    requires quiet { quiet ≡ true → IsQuiet p.now breakpoints.now.keys }
+    requires spare { meter.old + owed p.now capture.now.records w.old.place + 1 < 2 ^ 128 }
+    requires limit { limit ≢ Some 0 }
+    ensures stands { Stands p.now capture.now.records w.new }
+    ensures keeps { Keeps (λ xs. T.stands_for trail.new xs) p.now capture.now.records w.new.place }
+    ensures runs { Runs p.now capture.now breakpoints.now.keys w.old w.new limit result }
+    ensures ahead { PassesHits result (rest p.now capture.now.records breakpoints.now.keys w.old.place) (rest p.now capture.now.records breakpoints.now.keys w.new.place) }
+    ensures turns { meter.new ≡ meter.old + run_turns p.now capture.now breakpoints.now.keys w.old limit }
+{
+    let start = w.place.packet;
+    let mut next = record_at(capture, start);
+    'go: loop {
+        let Some(here) = next else {
+            let counts = w.counts;
+            trail.clear();
+            *w = Walk::start();
+            return RunReply::Finished(counts);
+        };
+        match advance(meter, p, capture, &here, w) {
+            Moved::Entry => {
+                trail.push(w.state);
+                if let Some(why) = hit(p, breakpoints, quiet, &w.state) {
+                    return RunReply::Stopped(Stop {
+                        place: w.place,
+                        state: w.state,
+                        why,
+                    });
+                }
+            }
+            Moved::Packet => {
+                trail.clear();
+                next = capture.following(&here);
+                if is_limit(limit, w.place.packet - start) && next.is_some() {
+                    return RunReply::Limit(w.counts);
+                }
+            }
+        }
+    }
+}
+
+/// Goes on to the next hit, to the limit of finished packets, or to the end.
+// It walks on a copy, so that the place, the state and the counts stay in the machine's registers.
+pub(crate) fn run<T: Trail, A: Allocator>(
+    meter: &mut Meter,
+    p: &Program<A>,
+    capture: &Capture<A>,
+    breakpoints: &Breakpoints<A>,
+    quiet: bool,
+    w: &mut Walk,
+    trail: &mut T,
+    limit: Option<u64>,
+) -> RunReply
+    requires stands { Stands p.now capture.now.records w.old }
+    requires keeps { Keeps (λ xs. T.stands_for trail.old xs) p.now capture.now.records w.old.place }
+    requires quiet { quiet ≡ true → IsQuiet p.now breakpoints.now.keys }
+    requires spare { meter.old + owed p.now capture.now.records w.old.place + 1 < 2 ^ 128 }
+    requires limit { limit ≢ Some 0 }
+    ensures stands { Stands p.now capture.now.records w.new }
+    ensures keeps { Keeps (λ xs. T.stands_for trail.new xs) p.now capture.now.records w.new.place }
+    ensures runs { Runs p.now capture.now breakpoints.now.keys w.old w.new limit result }
+    ensures ahead { PassesHits result (rest p.now capture.now.records breakpoints.now.keys w.old.place) (rest p.now capture.now.records breakpoints.now.keys w.new.place) }
+    ensures turns { meter.new ≡ meter.old + run_turns p.now capture.now breakpoints.now.keys w.old limit }
+{
+    let mut here = *w;
+    let reply = run_here(meter, p, capture, breakpoints, quiet, &mut here, trail, limit);
+    *w = here;
+    reply
+}

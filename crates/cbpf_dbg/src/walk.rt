@@ -1,0 +1,168 @@
+//! One move at a time over the entries of a capture.
+
+ghost use Rattle.std.specs.Prelude.{◌≡◌, ◌+◌, ◌-◌, ◌<◌, ◌≤◌, ◌^◌, List, length, min, Some, slice_get};
+ghost use Rattle.cbpf_code.specs.Sound.{IsSound};
+ghost use Rattle.cbpf_code.specs.declared.insn.Insn.{Insn};
+ghost use Rattle.pcap_classic.specs.Lent.{record_of};
+ghost use Rattle.pcap_classic.specs.Records.{Record};
+ghost use Rattle.cbpf_dbg.specs.View.{start};
+ghost use Rattle.cbpf_dbg.specs.Walk.{Stands, Moves, IsEntry, IsHere, entered, stepped, left};
+
+use crate::reply::{Counts, Place};
+use cbpf_code::Program;
+use cbpf_machine::{Meter, Packet, State, Turn, turn};
+use pcap_classic::{Capture, Captured};
+use std::alloc::Allocator;
+
+/// A place with its state, and the outcomes of the packets from the origin up to the place's.
+#[derive(Clone, Copy, Debug)]
+pub(crate) struct Walk {
+    /// The packet from which outcomes are counted.
+    pub(crate) origin: u64,
+    pub(crate) place: Place,
+    /// The entry at the place; of no meaning at step 0.
+    pub(crate) state: State,
+    pub(crate) counts: Counts,
+}
+
+/// Where a move led.
+#[derive(Clone, Copy, Debug)]
+pub(crate) enum Moved {
+    /// To the packet's next entry.
+    Entry,
+    /// Out of the packet, before the next one.
+    Packet,
+}
+
+impl Walk {
+    #[inline(always)]
+    fn enter(&mut self)
+        ensures { self.new ≡ entered self.old }
+    {
+        self.place.step = 1;
+        self.state = State::zero();
+    }
+
+    #[inline(always)]
+    fn go_on(&mut self, next: State)
+        requires { self.old.place.step + 1 < 2 ^ 32 }
+        ensures { self.new ≡ stepped self.old next }
+    {
+        self.place.step += 1;
+        self.state = next;
+    }
+
+    #[inline(always)]
+    fn leave(&mut self, last: Turn)
+        requires packets { self.old.place.packet + 1 < 2 ^ 64 }
+        requires passes { self.old.counts.passes + 1 < 2 ^ 64 }
+        requires fails { self.old.counts.fails + 1 < 2 ^ 64 }
+        requires unknown { self.old.counts.unknown + 1 < 2 ^ 64 }
+        ensures { self.new ≡ left self.old last }
+    {
+        match last {
+            Turn::Returned(v) if v != 0 => self.counts.passes += 1,
+            Turn::Unknown(_) => self.counts.unknown += 1,
+            _ => self.counts.fails += 1,
+        }
+        self.place.packet += 1;
+        self.place.step = 0;
+    }
+
+    /// Before a packet, from which it counts.
+    pub(crate) fn before(packet: u64) -> Walk
+        requires { 1 ≤ packet }
+        ensures stands { (list : List Insn) (capture : List Record) → IsSound list → packet ≤ length capture + 1 → Stands list capture result }
+        ensures place { result.place ≡ record { packet = packet; step = 0 } }
+        ensures origin { result.origin ≡ packet }
+    {
+        Walk {
+            origin: packet,
+            place: Place { packet, step: 0 },
+            state: State::zero(),
+            counts: Counts {
+                passes: 0,
+                fails: 0,
+                unknown: 0,
+            },
+        }
+    }
+
+    /// At an entry of a packet, from which it counts.
+    pub(crate) fn at_entry(place: Place, state: State) -> Walk
+        requires { 1 ≤ place.packet }
+        ensures stands { (list : List Insn) (capture : List Record) → IsSound list → place.packet ≤ length capture + 1 → IsEntry list capture place state → Stands list capture result }
+        ensures place { result.place ≡ place }
+        ensures origin { result.origin ≡ place.packet }
+    {
+        Walk {
+            origin: place.packet,
+            place,
+            state,
+            counts: Counts {
+                passes: 0,
+                fails: 0,
+                unknown: 0,
+            },
+        }
+    }
+
+    /// At the start of a capture.
+    pub(crate) fn start() -> Walk
+        ensures stands { (list : List Insn) (capture : List Record) → IsSound list → Stands list capture result }
+        ensures place { result.place ≡ start }
+        ensures origin { result.origin ≡ 1 }
+    {
+        Walk::before(1)
+    }
+}
+
+/// The record of a packet; `None` behind the last.
+pub(crate) fn record_at<A: Allocator>(capture: &Capture<A>, packet: u64) -> Option<Captured<'_>>
+    requires { 1 ≤ packet }
+    ensures { IsHere capture.entry.now.records packet result }
+{
+    if packet <= capture.count() {
+        Some(capture.item(packet))
+    } else {
+        None
+    }
+}
+
+/// Goes on by one entry, or out of the packet, whose record is `here`.
+#[inline(always)]
+pub(crate) fn advance<A: Allocator>(
+    meter: &mut Meter,
+    p: &Program<A>,
+    capture: &Capture<A>,
+    here: &Captured<'_>,
+    w: &mut Walk,
+) -> Moved
+    requires stands { Stands p.now capture.now.records w.old }
+    requires here { slice_get capture.now.records (w.old.place.packet - 1) ≡ Some (record_of here.now) }
+    requires spare { meter.old + 1 < 2 ^ 128 }
+    ensures stands { Stands p.now capture.now.records w.new }
+    ensures moves { Moves p.now capture.now.records w.old result w.new }
+    ensures origin { w.new.origin ≡ w.old.origin }
+    ensures turns { meter.new ≡ meter.old + min w.old.place.step 1 }
+{
+    let _few = capture.count();
+    if w.place.step == 0 {
+        w.enter();
+        return Moved::Entry;
+    }
+    let packet = Packet {
+        bytes: here.bytes,
+        wire: here.wire,
+    };
+    match turn(meter, p, packet, &w.state) {
+        Turn::Next(next) => {
+            w.go_on(next);
+            Moved::Entry
+        }
+        last => {
+            w.leave(last);
+            Moved::Packet
+        }
+    }
+}
