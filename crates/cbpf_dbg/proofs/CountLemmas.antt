@@ -38,7 +38,7 @@ count_more f xs x =
 
 with_one : (xs : List Outcome) (o : Outcome)
     → ◌≡◌ {A = Counts} (record { passes = count_by is_pass (xs ++ o ∷ []); fails = count_by is_fail (xs ++ o ∷ []); unknown = count_by is_open (xs ++ o ∷ []) })
-        (with_outcome (record { passes = count_by is_pass xs; fails = count_by is_fail xs; unknown = count_by is_open xs }) o)
+    (with_outcome (record { passes = count_by is_pass xs; fails = count_by is_fail xs; unknown = count_by is_open xs }) o)
 with_one xs (outcome_is.Pass v) =
     let a : count_by is_pass (xs ++ outcome_is.Pass v ∷ []) ≡ count_by is_pass xs + 1 = count_more is_pass xs (outcome_is.Pass v) in
     let b : count_by is_fail (xs ++ outcome_is.Pass v ∷ []) ≡ count_by is_fail xs = count_more is_fail xs (outcome_is.Pass v) ∙ add-zero _ in
@@ -69,8 +69,12 @@ length-take_le (suc n) (x ∷ xs) = omega (arith, length-take_le n xs)
 
 length-outcomes : (list : List Insn) (capture : List Record) (from to : ℕ) → length (outcomes list capture from to) ≤ length capture
 length-outcomes list capture from to =
-    omega (arith, length-map (take (to - from) (drop (from - 1) capture)) (λ (r : Record). outcome list r.bytes r.wire),
-        length-take_le (to - from) (drop (from - 1) capture), length-drop (from - 1) capture)
+    omega (
+      arith,
+      length-map (take (to - from) (drop (from - 1) capture)) (λ (r : Record). outcome list r.bytes r.wire),
+      length-take_le (to - from) (drop (from - 1) capture),
+      length-drop (from - 1) capture,
+    )
 
 -- no count is above the number of packets
 pub record AtMost (n : Counts) (k : ℕ) : Type 0 where

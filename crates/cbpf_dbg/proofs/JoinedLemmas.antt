@@ -133,17 +133,18 @@ pub ahead-entry : (list : List Insn) (capture : List Record) (p s : ℕ) (r : Re
 ahead-entry list capture p s r t from_one at entry_is =
     ahead-in list capture p s r from_one at
     ∙ rw (drop-slice_get (trace list r.bytes r.wire) s t entry_is)
-        (ap (λ rest. entry list r p (s + 1) t ∷ rest) (sym (ahead-in list capture p (s + 1) r from_one at)))
+    (ap (λ rest. entry list r p (s + 1) t ∷ rest) (sym (ahead-in list capture p (s + 1) r from_one at)))
 
 joined-next : (list : List Insn) (capture : List Record) (p : ℕ) → 1 ≤ p → joined_from list (p + 1) (drop p capture) ≡ ahead list capture (place_at (p + 1) 0)
 joined-next list capture p from_one =
     elim (slice_get_cases capture p).1 [
-        inl found ↦
-            let e : p + 1 - 1 ≡ p = omega arith in
-            let at : slice_get capture (p + 1 - 1) ≡ Some found.0 = rw e found.2 in
-            rw (drop-slice_get capture p found.0 found.2) (sym (ahead-in list capture (p + 1) 0 found.0 (omega arith) at))
-        | inr past ↦
-            rw (drop-past capture p past.0) (sym (ahead-end list capture (p + 1) 0 (omega arith))) ]
+      | inl found ↦
+          let e : p + 1 - 1 ≡ p = omega arith in
+          let at : slice_get capture (p + 1 - 1) ≡ Some found.0 = rw e found.2 in
+          rw (drop-slice_get capture p found.0 found.2) (sym (ahead-in list capture (p + 1) 0 found.0 (omega arith) at))
+      | inr past ↦
+          rw (drop-past capture p past.0) (sym (ahead-end list capture (p + 1) 0 (omega arith)))
+    ]
 
 -- behind a packet's last entry comes the next packet
 pub ahead-leave : (list : List Insn) (capture : List Record) (p s : ℕ) (r : Record) → 1 ≤ p → slice_get capture (p - 1) ≡ Some r

@@ -44,12 +44,15 @@ pub below_next : (limit : Option ℕ) (first packet next count : ℕ) → Below 
     → (is_limit limit (next - first) ≡ false) ⊎ (count < next) → Below limit first next count
 below_next None first packet next count h here forward e test = tt
 below_next (Some n) first packet next count h here forward e test =
-    let most : next ≤ first + n = elim h.1 [ inl below ↦ omega arith | inr past ↦ absurd (omega arith) ] in
-    (most, elim test [
-        inl other ↦
+    let most : next ≤ first + n = elim h.1 [ inl below ↦ omega arith | inr past ↦ absurd (omega arith) ] in (
+      most,
+      elim test [
+        | inl other ↦
             let differs : n ≢ next - first = grind (arith, nat_tests) in
             inl (omega arith)
-        | inr past ↦ inr past ])
+        | inr past ↦ inr past
+      ],
+    )
 
 -- ---- hits
 
@@ -148,7 +151,7 @@ module _ (list : List Insn) (c : Savefile) (breakpoints : List ℕ) (limit : Opt
   run_stopped w1 w2 r y same origin h hit below here forward =
       let yes = hit_some (list_any (nat_eq w2.state.pc) breakpoints) (turn list r.bytes r.wire w2.state) y hit in
       let front : hits w0.place ≡ stop_at why.Break (entry_here list r w2) ∷ hits w2.place =
-          sym same ∙ rest-hit list c.records breakpoints w1.place w2.place (entry_here list r w2) h yes.1 in
+      sym same ∙ rest-hit list c.records breakpoints w1.place w2.place (entry_here list r w2) h yes.1 in
       let inside = within_below limit w0.place.packet w2.place.packet (length c.records) below here forward in
       record {
         reply_is = rw (front, inside, yes.0) refl;
@@ -177,7 +180,7 @@ module _ (list : List Insn) (c : Savefile) (breakpoints : List ℕ) (limit : Opt
       → Runs list c breakpoints w0 w2 limit (Limit w2.counts)
   run_limited w1 w2 stands same origin place forward at here =
       let out : run_to view0 list c.records limit (hits w0.place) ≡ limited view0 list c.records w2.place.packet =
-          rw (← same) (run_to_limit view0 list c.records limit w2.place.packet (hits w2.place) at forward here (λ h more e. rest-behind list c.records breakpoints w2.place h more e)) in
+      rw (← same) (run_to_limit view0 list c.records limit w2.place.packet (hits w2.place) at forward here (λ h more e. rest-behind list c.records breakpoints w2.place h more e)) in
       let counted : w2.counts ≡ counts list c.records w0.origin w2.place.packet = rw (← origin) stands.counted in
       record {
         reply_is = rw out (ap Limit counted);

@@ -87,14 +87,14 @@ to_end_step : (list : List Insn) (capture : List Record) (p s : ℕ) → 1 ≤ s
 unfolding joined
 to_end_step list capture p s h =
     count_same (λ e. not (is_after e.place (place_at p s))) (λ e. is_after (place_at p (s - 1)) e.place) (joined_from list 1 capture) (from_one-joined list 1 capture)
-        (λ e k. at_or_after p s e.place.packet e.place.step h)
+    (λ e k. at_or_after p s e.place.packet e.place.step h)
     ∙ count_filter (λ e. is_after (place_at p (s - 1)) e.place) (joined_from list 1 capture)
 
 to_end_none : (list : List Insn) (capture : List Record) (p : ℕ) → turns_to_end list capture (place_at p 0) ≡ length (ahead list capture (place_at p 0))
 unfolding joined
 to_end_none list capture p =
     count_same (λ e. not (is_after e.place (place_at p 0))) (λ e. is_after (place_at p 0) e.place) (joined_from list 1 capture) (from_one-joined list 1 capture)
-        (λ e k. at_or_after_none p e.place.packet e.place.step k)
+    (λ e k. at_or_after_none p e.place.packet e.place.step k)
     ∙ count_filter (λ e. is_after (place_at p 0) e.place) (joined_from list 1 capture)
 
 -- what a walk owes is what it takes to the end
@@ -169,8 +169,14 @@ length_entries list r p k (x ∷ xs) = ap suc (length_entries list r p (k + 1) x
 pub length_joined : (list : List Insn) (p : ℕ) (capture : List Record) → IsSound list → length (joined_from list p capture) ≤ 4096 * length capture
 length_joined list p [] h = omega arith
 length_joined list p (r ∷ rest) h =
-    omega (arith, length-append (packet_entries list r p) (joined_from list (p + 1) rest), length_joined list (p + 1) rest h,
-        length_entries list r p 1 (trace list r.bytes r.wire), length-trace_from list r.bytes r.wire zero_state, sound_few list h)
+    omega (
+      arith,
+      length-append (packet_entries list r p) (joined_from list (p + 1) rest),
+      length_joined list (p + 1) rest h,
+      length_entries list r p 1 (trace list r.bytes r.wire),
+      length-trace_from list r.bytes r.wire zero_state,
+      sound_few list h,
+    )
 
 -- a session owes few turns
 pub owed_bound : (list : List Insn) (capture : List Record) (place : Place) → IsSound list → length capture < 2 ^ 60 → owed list capture place ≤ 2 ^ 76

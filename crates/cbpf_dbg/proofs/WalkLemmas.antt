@@ -39,7 +39,10 @@ pub stands-entered : (list : List Insn) (capture : List Record) (w : Walk) → S
 stands-entered list capture w h within =
     let r = record_there capture w.place.packet (let a = h.from_one in let b = h.ordered in omega arith) within in
     record {
-      sound = h.sound; from_one = h.from_one; ordered = h.ordered; within = h.within;
+      sound = h.sound;
+      from_one = h.from_one;
+      ordered = h.ordered;
+      within = h.within;
       at = λ _. (r.0, r.1, first_entry list r.0.bytes r.0.wire h.sound);
       counted = h.counted;
     }
@@ -76,7 +79,10 @@ pub stands-stepped : (list : List Insn) (capture : List Record) (w : Walk) (r : 
 stands-stepped list capture w r t h inside at e =
     let i : w.place.step + 1 - 1 ≡ w.place.step = omega arith in
     record {
-      sound = h.sound; from_one = h.from_one; ordered = h.ordered; within = h.within;
+      sound = h.sound;
+      from_one = h.from_one;
+      ordered = h.ordered;
+      within = h.within;
       at = λ _. (r, at, rw i (next_entry list capture w r t h inside at e));
       counted = h.counted;
     }
@@ -102,7 +108,8 @@ stands-left list capture w r h inside at none =
     let ends = outcome_at_last list r.bytes r.wire (w.place.step - 1) w.state h.sound (goes list capture w r h inside at) none in
     let more = counts-more list capture w.origin w.place.packet r h.from_one h.ordered at in
     record {
-      sound = h.sound; from_one = h.from_one;
+      sound = h.sound;
+      from_one = h.from_one;
       ordered = let b = h.ordered in omega arith;
       within = omega arith;
       at = λ (z : 0 < 0). absurd (omega arith);
@@ -121,7 +128,7 @@ walk_ended list capture w h none =
     let one : 1 ≤ w.place.packet = let a = h.from_one in let b = h.ordered in omega arith in
     let end : w.place.packet ≡ length capture + 1 = let b = h.within in omega (arith, past) in
     let step : w.place.step ≡ 0 =
-        elim (cases_lt 0 w.place.step) [ inl inside ↦ (let at = h.at inside in let at1 = at.1 in absurd cc) | inr none_ ↦ omega arith ] in
+    elim (cases_lt 0 w.place.step) [ inl inside ↦ (let at = h.at inside in let at1 = at.1 in absurd cc) | inr none_ ↦ omega arith ] in
     (end, ahead-end list capture w.place.packet w.place.step (omega arith), step)
 
 pub counts-at : (list : List Insn) (capture : List Record) (n : ℕ) → ◌≡◌ {A = Counts} (record { passes = 0; fails = 0; unknown = 0 }) (counts list capture n n)

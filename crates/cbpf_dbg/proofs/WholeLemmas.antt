@@ -124,7 +124,10 @@ going-stop list c old v new f g g2 m n k stop h ahead_is after turns pushed =
     let sofar = h.spent in
     let place : new.place ≡ stop.place = rw there refl in
     record {
-      sound = h.sound; few = h.few; old_holds = h.old_holds; new_holds = holds;
+      sound = h.sound;
+      few = h.few;
+      old_holds = h.old_holds;
+      new_holds = holds;
       origin = rw there h.origin;
       breakpoints = rw there h.breakpoints;
       hits = rw (left, pushed) (append_assoc g (stop ∷ []) first.0 ∙ (rw first.1 at h.hits));
@@ -143,10 +146,11 @@ going-end list c old v new f g m n counted h ahead_is reply after =
     let ran = run-last list c v h.new_holds none in
     let there : new ≡ record v { place = start; origin = 1 } = after ∙ ap (view_after v) ran in
     let answered : Ok (Finished counted) ≡ Ok (Finished (counts list c.records v.origin (length c.records + 1))) = reply ∙ ap reply_of ran in
-    let n : counted ≡ counts list c.records old.origin (length c.records + 1) = (let o = h.origin in let e : counted ≡ counts list c.records v.origin (length c.records + 1) = cc in rw o at e) in
-    (rw (h.old_holds.program, h.old_holds.capture, n) refl,
-     rw (h.old_holds.program, h.old_holds.capture, there, h.new_holds.program, h.new_holds.capture, h.breakpoints) refl,
-     sym (append-nil g) ∙ (rw none at h.hits))
+    let n : counted ≡ counts list c.records old.origin (length c.records + 1) = (let o = h.origin in let e : counted ≡ counts list c.records v.origin (length c.records + 1) = cc in rw o at e) in (
+      rw (h.old_holds.program, h.old_holds.capture, n) refl,
+      rw (h.old_holds.program, h.old_holds.capture, there, h.new_holds.program, h.new_holds.capture, h.breakpoints) refl,
+      sym (append-nil g) ∙ (rw none at h.hits),
+    )
 
 run-answers : (list : List Insn) (c : Savefile) (v : View) (hits : List Stop) → Holds list c v → rest list c.records v.breakpoints v.place ≡ hits
     → ((stop : Stop) × (reply_of (run v None) ≡ Ok (Stopped stop))) ⊎ ((n : Counts) × (reply_of (run v None) ≡ Ok (Finished n)))

@@ -127,7 +127,7 @@ has_packet capture n = nat_lt 0 n && nat_le n (length capture)
 unfoldable pub select : View → ℕ → Answer (Unit {0})
 select m n =
     loaded m (λ list capture. with_packets capture
-        (if has_packet capture n then Ok (moved m (record { packet = n; step = 0 })) else Err NoPacket))
+    (if has_packet capture n then Ok (moved m (record { packet = n; step = 0 })) else Err NoPacket))
 
 unfoldable pub mark : View → Result Place SessionFault
 mark m = loaded m (λ list capture. Ok m.place)
@@ -145,7 +145,7 @@ resume_in m list capture place =
 unfoldable pub resume : View → Place → Answer (Unit {0})
 resume m place =
     loaded m (λ list capture. with_packets capture
-        (if has_packet capture place.packet then resume_in m list capture place else Err NoPacket))
+    (if has_packet capture place.packet then resume_in m list capture place else Err NoPacket))
 
 -- ---- turns
 

@@ -107,8 +107,15 @@ impl<T: Trail, A: Allocator> Session<T, A> {
         if place.packet == 0 || place.packet > count {
             return Err(SessionFault::NoPacket);
         }
-        resume_at(meter, program, capture, &mut self.walk, &mut self.trail, place)
-            .map_err(SessionFault::NoStep)
+        resume_at(
+            meter,
+            program,
+            capture,
+            &mut self.walk,
+            &mut self.trail,
+            place,
+        )
+        .map_err(SessionFault::NoStep)
     }
 
     /// Goes on by `n` entries, or back by `-n` entries of the same packet, whatever hits lie between.
@@ -155,7 +162,14 @@ impl<T: Trail, A: Allocator> Session<T, A> {
                 entries,
             ));
         }
-        match step_back(meter, program, capture, &mut self.walk, &mut self.trail, entries) {
+        match step_back(
+            meter,
+            program,
+            capture,
+            &mut self.walk,
+            &mut self.trail,
+            entries,
+        ) {
             Ok(stop) => Ok(RunReply::Stopped(stop)),
             Err(most) => Err(SessionFault::TooFarBack(most)),
         }

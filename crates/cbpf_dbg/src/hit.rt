@@ -38,7 +38,11 @@ pub(crate) fn is_silent<A: Allocator>(p: &Program<A>) -> bool
 }
 
 /// Whether no entry can be a hit, as there is no breakpoint and the program is known to be silent.
-pub(crate) fn is_quiet<A: Allocator>(p: &Program<A>, silent: bool, breakpoints: &Breakpoints<A>) -> bool
+pub(crate) fn is_quiet<A: Allocator>(
+    p: &Program<A>,
+    silent: bool,
+    breakpoints: &Breakpoints<A>,
+) -> bool
     requires { silent ≡ true → IsSilent p.now }
     ensures { result ≡ true → IsQuiet p.now breakpoints.now.keys }
 {

@@ -102,7 +102,16 @@ pub(crate) fn run<T: Trail, A: Allocator>(
     ensures turns { meter.new ≡ meter.old + run_turns p.now capture.now breakpoints.now.keys w.old limit }
 {
     let mut here = *w;
-    let reply = run_here(meter, p, capture, breakpoints, quiet, &mut here, trail, limit);
+    let reply = run_here(
+        meter,
+        p,
+        capture,
+        breakpoints,
+        quiet,
+        &mut here,
+        trail,
+        limit,
+    );
     *w = here;
     reply
 }

@@ -60,7 +60,14 @@ fn program(rt: &impl Abort, alloc: Global, list: &[Code]) -> Program {
 }
 
 /// The first instruction, `count` times the second, and the last.
-fn long_program(rt: &impl Abort, alloc: Global, first: Code, count: u32, again: Code, last: Code) -> Program {
+fn long_program(
+    rt: &impl Abort,
+    alloc: Global,
+    first: Code,
+    count: u32,
+    again: Code,
+    last: Code,
+) -> Program {
     let mut all = Vec::new(alloc);
     all.push(first).expect(rt, "memory");
     for _i in 0..count {
@@ -76,14 +83,21 @@ fn capture(rt: &impl Abort, alloc: Global, records: &[u8], count: u32) -> Captur
     for _i in 0..count {
         bytes.extend_from_slice(records).expect(rt, "memory");
     }
-    Capture::from_bytes(alloc, bytes).ok().expect(rt, "a capture")
+    Capture::from_bytes(alloc, bytes)
+        .ok()
+        .expect(rt, "a capture")
 }
 
 fn packets(rt: &impl Abort, alloc: Global) -> Capture {
     capture(rt, alloc, &RECORDS, 1)
 }
 
-fn session(rt: &impl Abort, alloc: Global, list: &[Code], breakpoints: &[u64]) -> Session<MarkTrail> {
+fn session(
+    rt: &impl Abort,
+    alloc: Global,
+    list: &[Code],
+    breakpoints: &[u64],
+) -> Session<MarkTrail> {
     let mut s = Session::new(alloc, MarkTrail::new());
     s.load_program(program(rt, alloc, list));
     s.load_capture(packets(rt, alloc));
@@ -113,14 +127,38 @@ fn stop_of(rt: &impl Abort, reply: Result<RunReply, SessionFault>) -> Stop {
     }
 }
 
-fn assert_stop(rt: &impl Abort, reply: Result<RunReply, SessionFault>, place: Place, pc: u32, a: u32) -> Why {
-    let stop = stop_of(rt, reply);
+/// Asserts where a reply stopped, and gives why and the turns.
+fn assert_stop(
+    rt: &impl Abort,
+    reply: (Result<RunReply, SessionFault>, u128),
+    place: Place,
+    pc: u32,
+    a: u32,
+) -> (Why, u128) {
+    let stop = stop_of(rt, reply.0);
     assert!(rt; stop.place == place);
     assert!(rt; stop.state.pc() == pc);
     assert!(rt; stop.state.a() == a);
-    stop.why
+    (stop.why, reply.1)
 }
 
-fn turns_since(meter: &Meter, before: u128) -> u128 {
-    meter.spent() - before
+/// What `run` answers, and its turns.
+fn run<T: Trail>(s: &mut Session<T>, limit: Option<u64>) -> (Result<RunReply, SessionFault>, u128) {
+    let mut meter = Meter::new();
+    let reply = s.run(&mut meter, limit);
+    (reply, meter.spent())
+}
+
+/// What `step` answers, and its turns.
+fn step<T: Trail>(s: &mut Session<T>, n: i64) -> (Result<RunReply, SessionFault>, u128) {
+    let mut meter = Meter::new();
+    let reply = s.step(&mut meter, n);
+    (reply, meter.spent())
+}
+
+/// What `resume` answers, and its turns.
+fn resume<T: Trail>(s: &mut Session<T>, place: Place) -> (Result<(), SessionFault>, u128) {
+    let mut meter = Meter::new();
+    let reply = s.resume(&mut meter, place);
+    (reply, meter.spent())
 }

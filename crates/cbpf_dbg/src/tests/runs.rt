@@ -2,18 +2,10 @@ use super::*;
 use crate::ListTrail;
 
 fn walk_through<T: Trail>(rt: &impl Abort, s: &mut Session<T>) {
-    let mut meter = Meter::new();
-    let first = s.run(&mut meter, None);
-    assert!(rt; assert_stop(rt, first, at(1, 2), 1, 2054) == Why::Break);
-    assert!(rt; meter.spent() == 1);
-    let second = s.run(&mut meter, None);
-    assert!(rt; assert_stop(rt, second, at(2, 2), 1, 2048) == Why::Break);
-    assert!(rt; meter.spent() == 4);
-    let third = s.run(&mut meter, None);
-    assert!(rt; assert_stop(rt, third, at(2, 5), 4, 1) == Why::Break);
-    assert!(rt; meter.spent() == 7);
-    assert!(rt; s.run(&mut meter, None) == Ok(RunReply::Finished(counts(1, 1, 0))));
-    assert!(rt; meter.spent() == 8);
+    assert!(rt; assert_stop(rt, run(s, None), at(1, 2), 1, 2054) == (Why::Break, 1));
+    assert!(rt; assert_stop(rt, run(s, None), at(2, 2), 1, 2048) == (Why::Break, 3));
+    assert!(rt; assert_stop(rt, run(s, None), at(2, 5), 4, 1) == (Why::Break, 3));
+    assert!(rt; run(s, None) == (Ok(RunReply::Finished(counts(1, 1, 0))), 1));
     assert!(rt; s.mark() == Ok(at(1, 0)));
 }
 
@@ -38,20 +30,15 @@ fn each_hit_once_with_all_states_kept(rt: HostRuntime) {
 #[test]
 fn without_breakpoints(rt: HostRuntime) {
     let mut s = session(&rt, rt.alloc(), &RULE, &[]);
-    let mut meter = Meter::new();
-    assert!(rt; s.run(&mut meter, None) == Ok(RunReply::Finished(counts(1, 1, 0))));
-    assert!(rt; meter.spent() == 8);
+    assert!(rt; run(&mut s, None) == (Ok(RunReply::Finished(counts(1, 1, 0))), 8));
 }
 
 #[test]
 fn a_breakpoint_taken_out_between(rt: HostRuntime) {
     let mut s = session(&rt, rt.alloc(), &RULE, &[1, 4]);
-    let mut meter = Meter::new();
-    let first = s.run(&mut meter, None);
-    assert!(rt; assert_stop(&rt, first, at(1, 2), 1, 2054) == Why::Break);
+    assert!(rt; assert_stop(&rt, run(&mut s, None), at(1, 2), 1, 2054).0 == Why::Break);
     assert!(rt; s.delete(1) == Ok(true));
-    let next = s.run(&mut meter, None);
-    assert!(rt; assert_stop(&rt, next, at(2, 5), 4, 1) == Why::Break);
+    assert!(rt; assert_stop(&rt, run(&mut s, None), at(2, 5), 4, 1).0 == Why::Break);
     assert!(rt; s.delete(1) == Ok(false));
 }
 
@@ -82,64 +69,57 @@ fn breakpoints_in_order_of_setting(rt: HostRuntime) {
 #[test]
 fn an_unknown_extension(rt: HostRuntime) {
     let mut s = session(&rt, rt.alloc(), &RANDOM, &[]);
-    let mut meter = Meter::new();
-    let first = s.run(&mut meter, None);
-    assert!(rt; assert_stop(&rt, first, at(1, 1), 0, 0) == Why::Unknown(Ext::Rand));
-    assert!(rt; meter.spent() == 0);
-    let second = s.run(&mut meter, None);
-    assert!(rt; assert_stop(&rt, second, at(2, 1), 0, 0) == Why::Unknown(Ext::Rand));
-    assert!(rt; s.run(&mut meter, None) == Ok(RunReply::Finished(counts(0, 0, 2))));
+    assert!(rt; assert_stop(&rt, run(&mut s, None), at(1, 1), 0, 0).0 == Why::Unknown(Ext::Rand));
+    assert!(rt; assert_stop(&rt, run(&mut s, None), at(2, 1), 0, 0).0 == Why::Unknown(Ext::Rand));
+    assert!(rt; run(&mut s, None).0 == Ok(RunReply::Finished(counts(0, 0, 2))));
 }
 
 #[test]
 fn an_indexed_load_that_wraps_and_a_zero_divisor(rt: HostRuntime) {
-    let mut meter = Meter::new();
     let wraps = [(1, 0, 0, 4294967295), (72, 0, 0, 13), (22, 0, 0, 0)];
     let mut s = session(&rt, rt.alloc(), &wraps, &[]);
-    assert!(rt; s.run(&mut meter, None) == Ok(RunReply::Finished(counts(2, 0, 0))));
+    assert!(rt; run(&mut s, None).0 == Ok(RunReply::Finished(counts(2, 0, 0))));
     let divides = [(0, 0, 0, 7), (60, 0, 0, 0), (6, 0, 0, 1)];
     s.load_program(program(&rt, rt.alloc(), &divides));
-    assert!(rt; s.run(&mut meter, None) == Ok(RunReply::Finished(counts(0, 2, 0))));
+    assert!(rt; run(&mut s, None).0 == Ok(RunReply::Finished(counts(0, 2, 0))));
 }
 
 #[test]
 fn limits(rt: HostRuntime) {
     let mut s = session(&rt, rt.alloc(), &RULE, &[]);
-    let mut meter = Meter::new();
-    assert!(rt; s.run(&mut meter, Some(0)) == Err(SessionFault::ZeroCount));
-    assert!(rt; s.run(&mut meter, Some(1)) == Ok(RunReply::Limit(counts(0, 1, 0))));
+    assert!(rt; run(&mut s, Some(0)).0 == Err(SessionFault::ZeroCount));
+    assert!(rt; run(&mut s, Some(1)).0 == Ok(RunReply::Limit(counts(0, 1, 0))));
     assert!(rt; s.mark() == Ok(at(2, 0)));
-    assert!(rt; s.run(&mut meter, Some(1)) == Ok(RunReply::Finished(counts(1, 1, 0))));
-    assert!(rt; s.run(&mut meter, Some(1)) == Ok(RunReply::Limit(counts(0, 1, 0))));
-    assert!(rt; s.run(&mut meter, Some(18446744073709551615)) == Ok(RunReply::Finished(counts(1, 1, 0))));
+    assert!(rt; run(&mut s, Some(1)).0 == Ok(RunReply::Finished(counts(1, 1, 0))));
+    assert!(rt; run(&mut s, Some(1)).0 == Ok(RunReply::Limit(counts(0, 1, 0))));
+    assert!(rt;
+        run(&mut s, Some(18446744073709551615)).0 == Ok(RunReply::Finished(counts(1, 1, 0)))
+    );
 }
 
 #[test]
 fn no_packets(rt: HostRuntime) {
     let mut s = session(&rt, rt.alloc(), &[(6, 0, 0, 1)], &[]);
     s.load_capture(capture(&rt, rt.alloc(), &RECORDS, 0));
-    let mut meter = Meter::new();
-    assert!(rt; s.run(&mut meter, None) == Ok(RunReply::Finished(counts(0, 0, 0))));
+    assert!(rt; run(&mut s, None).0 == Ok(RunReply::Finished(counts(0, 0, 0))));
     assert!(rt; s.mark() == Ok(at(1, 0)));
-    assert!(rt; s.step(&mut meter, 1) == Err(SessionFault::NoPackets));
-    assert!(rt; s.step(&mut meter, 0) == Err(SessionFault::NoPackets));
-    assert!(rt; s.resume(&mut meter, at(1, 0)) == Err(SessionFault::NoPackets));
-    assert!(rt; meter.spent() == 0);
+    assert!(rt; step(&mut s, 1).0 == Err(SessionFault::NoPackets));
+    assert!(rt; step(&mut s, 0).0 == Err(SessionFault::NoPackets));
+    assert!(rt; resume(&mut s, at(1, 0)).0 == Err(SessionFault::NoPackets));
 }
 
 #[test]
 fn nothing_loaded(rt: HostRuntime) {
     let mut s: Session<MarkTrail> = Session::new(rt.alloc(), MarkTrail::new());
-    let mut meter = Meter::new();
     assert!(rt; s.program().is_none());
     assert!(rt; s.capture().is_none());
     assert!(rt; s.breakpoint(0) == Err(SessionFault::NoProgram));
     assert!(rt; s.delete(0) == Err(SessionFault::NoProgram));
     assert!(rt; s.mark() == Err(SessionFault::NoProgram));
-    assert!(rt; s.run(&mut meter, Some(0)) == Err(SessionFault::NoProgram));
+    assert!(rt; run(&mut s, Some(0)).0 == Err(SessionFault::NoProgram));
     s.load_program(program(&rt, rt.alloc(), &RULE));
     assert!(rt; s.mark() == Err(SessionFault::NoCapture));
-    assert!(rt; s.run(&mut meter, Some(0)) == Err(SessionFault::NoCapture));
+    assert!(rt; run(&mut s, Some(0)).0 == Err(SessionFault::NoCapture));
     assert!(rt; s.stops().is_err());
 }
 
@@ -147,11 +127,9 @@ fn nothing_loaded(rt: HostRuntime) {
 fn many_packets(rt: HostRuntime) {
     let mut s = session(&rt, rt.alloc(), &[(6, 0, 0, 1)], &[]);
     s.load_capture(capture(&rt, rt.alloc(), &EMPTY_RECORD, 130));
-    let mut meter = Meter::new();
-    assert!(rt; s.run(&mut meter, None) == Ok(RunReply::Finished(counts(130, 0, 0))));
-    assert!(rt; meter.spent() == 130);
+    assert!(rt; run(&mut s, None) == (Ok(RunReply::Finished(counts(130, 0, 0))), 130));
     assert!(rt; s.select(129).is_ok());
-    assert!(rt; s.run(&mut meter, None) == Ok(RunReply::Finished(counts(2, 0, 0))));
+    assert!(rt; run(&mut s, None).0 == Ok(RunReply::Finished(counts(2, 0, 0))));
 }
 
 #[test]

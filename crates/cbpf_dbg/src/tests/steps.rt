@@ -3,51 +3,48 @@ use super::*;
 #[test]
 fn both_ways(rt: HostRuntime) {
     let mut s = session(&rt, rt.alloc(), &RULE, &[1, 4]);
-    let mut meter = Meter::new();
-    assert!(rt; s.resume(&mut meter, at(2, 5)) == Ok(()));
-    let back = s.step(&mut meter, -3);
-    assert!(rt; assert_stop(&rt, back, at(2, 2), 1, 2048) == Why::Step);
-    assert!(rt; s.step(&mut meter, -2) == Err(SessionFault::TooFarBack(1)));
-    let on = s.step(&mut meter, 3);
-    assert!(rt; assert_stop(&rt, on, at(2, 5), 4, 1) == Why::Step);
+    assert!(rt; resume(&mut s, at(2, 5)).0 == Ok(()));
+    assert!(rt; assert_stop(&rt, step(&mut s, -3), at(2, 2), 1, 2048).0 == Why::Step);
+    assert!(rt; step(&mut s, -2).0 == Err(SessionFault::TooFarBack(1)));
+    assert!(rt; assert_stop(&rt, step(&mut s, 3), at(2, 5), 4, 1).0 == Why::Step);
 }
 
 #[test]
 fn over_packets(rt: HostRuntime) {
     let mut s = session(&rt, rt.alloc(), &RULE, &[]);
-    let mut meter = Meter::new();
-    let third = s.step(&mut meter, 3);
-    assert!(rt; assert_stop(&rt, third, at(1, 3), 5, 2054) == Why::Step);
-    let fourth = s.step(&mut meter, 1);
-    assert!(rt; assert_stop(&rt, fourth, at(2, 1), 0, 0) == Why::Step);
+    assert!(rt; assert_stop(&rt, step(&mut s, 3), at(1, 3), 5, 2054).0 == Why::Step);
+    assert!(rt; assert_stop(&rt, step(&mut s, 1), at(2, 1), 0, 0).0 == Why::Step);
     assert!(rt; s.select(1) == Ok(()));
-    let eighth = s.step(&mut meter, 8);
-    assert!(rt; assert_stop(&rt, eighth, at(2, 5), 4, 1) == Why::Step);
+    assert!(rt; assert_stop(&rt, step(&mut s, 8), at(2, 5), 4, 1).0 == Why::Step);
     assert!(rt; s.select(1) == Ok(()));
-    assert!(rt; s.step(&mut meter, 9) == Ok(RunReply::Finished(counts(1, 1, 0))));
+    assert!(rt; step(&mut s, 9).0 == Ok(RunReply::Finished(counts(1, 1, 0))));
     assert!(rt; s.mark() == Ok(at(1, 0)));
 }
 
 #[test]
 fn refused_steps(rt: HostRuntime) {
     let mut s = session(&rt, rt.alloc(), &RULE, &[]);
-    let mut meter = Meter::new();
-    assert!(rt; s.run(&mut meter, Some(1)) == Ok(RunReply::Limit(counts(0, 1, 0))));
-    assert!(rt; s.step(&mut meter, -1) == Err(SessionFault::TooFarBack(0)));
+    assert!(rt; run(&mut s, Some(1)).0 == Ok(RunReply::Limit(counts(0, 1, 0))));
+    assert!(rt; step(&mut s, -1).0 == Err(SessionFault::TooFarBack(0)));
     assert!(rt; s.mark() == Ok(at(2, 0)));
-    assert!(rt; s.step(&mut meter, 0) == Err(SessionFault::ZeroCount));
-    assert!(rt; s.step(&mut meter, i64::MIN) == Err(SessionFault::TooFarBack(0)));
+    assert!(rt; step(&mut s, 0).0 == Err(SessionFault::ZeroCount));
+    assert!(rt; step(&mut s, i64::MIN).0 == Err(SessionFault::TooFarBack(0)));
 }
 
 #[test]
 fn slots_come_back(rt: HostRuntime) {
-    let list = [(0, 0, 0, 9), (2, 0, 0, 0), (0, 0, 0, 4), (2, 0, 0, 0), (22, 0, 0, 0)];
+    let list = [
+        (0, 0, 0, 9),
+        (2, 0, 0, 0),
+        (0, 0, 0, 4),
+        (2, 0, 0, 0),
+        (22, 0, 0, 0),
+    ];
     let mut s = session(&rt, rt.alloc(), &list, &[]);
-    let mut meter = Meter::new();
-    let last = stop_of(&rt, s.step(&mut meter, 5));
+    let last = stop_of(&rt, step(&mut s, 5).0);
     assert!(rt; last.state.a() == 4);
     assert!(rt; last.state.slot(0) == 4);
-    let back = stop_of(&rt, s.step(&mut meter, -1));
+    let back = stop_of(&rt, step(&mut s, -1).0);
     assert!(rt; back.place == at(1, 4));
     assert!(rt; back.state.a() == 4);
     assert!(rt; back.state.slot(0) == 9);
@@ -56,35 +53,28 @@ fn slots_come_back(rt: HostRuntime) {
 #[test]
 fn a_long_packet(rt: HostRuntime) {
     let mut s = session(&rt, rt.alloc(), &RULE, &[]);
-    s.load_program(long_program(&rt, rt.alloc(), (7, 0, 0, 0), 4094, (7, 0, 0, 0), (6, 0, 0, 1)));
+    s.load_program(long_program(
+        &rt,
+        rt.alloc(),
+        (7, 0, 0, 0),
+        4094,
+        (7, 0, 0, 0),
+        (6, 0, 0, 1),
+    ));
     s.breakpoint(4095).ok().expect(&rt, "memory");
-    let mut meter = Meter::new();
-    let first = s.run(&mut meter, None);
-    assert!(rt; assert_stop(&rt, first, at(1, 4096), 4095, 0) == Why::Break);
-    assert!(rt; meter.spent() == 4095);
-    let mut before = meter.spent();
-    let back = s.step(&mut meter, -1);
-    assert!(rt; assert_stop(&rt, back, at(1, 4095), 4094, 0) == Why::Step);
-    assert!(rt; turns_since(&meter, before) <= 63);
-    before = meter.spent();
-    let far = s.step(&mut meter, -4031);
-    assert!(rt; assert_stop(&rt, far, at(1, 64), 63, 0) == Why::Step);
-    assert!(rt; turns_since(&meter, before) <= 63);
-    before = meter.spent();
-    let on = s.step(&mut meter, 1);
-    assert!(rt; assert_stop(&rt, on, at(1, 65), 64, 0) == Why::Step);
-    assert!(rt; turns_since(&meter, before) == 1);
-    before = meter.spent();
-    let again = s.step(&mut meter, -1);
-    assert!(rt; assert_stop(&rt, again, at(1, 64), 63, 0) == Why::Step);
-    assert!(rt; turns_since(&meter, before) == 63);
-    let start = s.step(&mut meter, -63);
-    assert!(rt; assert_stop(&rt, start, at(1, 1), 0, 0) == Why::Step);
+    assert!(rt; assert_stop(&rt, run(&mut s, None), at(1, 4096), 4095, 0) == (Why::Break, 4095));
+    let back = assert_stop(&rt, step(&mut s, -1), at(1, 4095), 4094, 0);
+    assert!(rt; back.0 == Why::Step);
+    assert!(rt; back.1 <= 63);
+    let far = assert_stop(&rt, step(&mut s, -4031), at(1, 64), 63, 0);
+    assert!(rt; far.0 == Why::Step);
+    assert!(rt; far.1 <= 63);
+    assert!(rt; assert_stop(&rt, step(&mut s, 1), at(1, 65), 64, 0) == (Why::Step, 1));
+    assert!(rt; assert_stop(&rt, step(&mut s, -1), at(1, 64), 63, 0) == (Why::Step, 63));
+    assert!(rt; assert_stop(&rt, step(&mut s, -63), at(1, 1), 0, 0).0 == Why::Step);
     assert!(rt; s.delete(4095) == Ok(true));
     assert!(rt; s.select(1) == Ok(()));
-    before = meter.spent();
-    assert!(rt; s.run(&mut meter, None) == Ok(RunReply::Finished(counts(2, 0, 0))));
-    assert!(rt; turns_since(&meter, before) == 8192);
+    assert!(rt; run(&mut s, None) == (Ok(RunReply::Finished(counts(2, 0, 0))), 8192));
 }
 
 #[test]

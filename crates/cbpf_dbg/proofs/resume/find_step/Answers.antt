@@ -19,7 +19,7 @@ replay-init g c =
 pub returns-in_default : goal.returns-in_default
 returns-in_default g c =
     let none : next_of (turn c.args.p.now c.args.packet.bytes.now c.args.packet.wire c.replay.s) ≡ None =
-        rw (← c.turn.ensures.value) (next_of-none c.turn.result c.in_default.not-Next) in
+    rw (← c.turn.ensures.value) (next_of-none c.turn.result c.in_default.not-Next) in
     let end = goes_last _ _ _ _ _ _ c.replay.invariant.sound c.replay.invariant.here none in
     record {
       found = tt;

@@ -24,13 +24,18 @@ pub push-requires-in-Next : goal.push-requires-in-Next
 push-requires-in-Next g c =
     let long = g.met.T.Trail.as_long c.replay.trail _ c.replay.invariant.keeps in
     let few = sound_few c.args.p.now c.replay.invariant.sound in
-    omega (arith, long, few, length-take c.replay._i (trace c.args.p.now c.args.packet.bytes.now c.args.packet.wire),
-        length-trace_from c.args.p.now c.args.packet.bytes.now c.args.packet.wire zero_state)
+    omega (
+      arith,
+      long,
+      few,
+      length-take c.replay._i (trace c.args.p.now c.args.packet.bytes.now c.args.packet.wire),
+      length-trace_from c.args.p.now c.args.packet.bytes.now c.args.packet.wire zero_state,
+    )
 
 pub unreachable-requires : goal.unreachable-requires
 unreachable-requires g c =
     let none : next_of (turn c.args.p.now c.args.packet.bytes.now c.args.packet.wire c.replay.s) ≡ None =
-        rw (← c.turn.ensures.value) (next_of-none c.turn.result c.in_default.not-Next) in
+    rw (← c.turn.ensures.value) (next_of-none c.turn.result c.in_default.not-Next) in
     let end = goes_last _ _ _ _ _ _ c.replay.invariant.sound c.replay.invariant.here none in
     omega (arith, end, c.replay.invariant.from_one)
 

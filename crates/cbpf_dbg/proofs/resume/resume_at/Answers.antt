@@ -15,8 +15,11 @@ returns-clause-found g c =
     let entry = c.in_ok-state.ensures.found in
     let within = slice_get_within (trace c.args.p.now r.bytes r.wire) (c.args.place.step - 1) _ entry in
     let keeps : Keeps (λ xs. g.T.Trail.stands_for c.refill.new.trail xs) c.args.p.now c.args.capture.now.records c.args.place = λ q there.
-        let same : r ≡ q = cc in
-        subst (λ (k : Record). g.T.Trail.stands_for c.refill.new.trail (take c.args.place.step (trace c.args.p.now k.bytes k.wire))) same c.refill.ensures.stands in
-    (c.at_entry.ensures.stands c.args.p.now c.args.capture.now.records c.len-sound.ensures.sound (omega arith) (r, at, entry),
-     rw c.at_entry.ensures.place keeps,
-     c.at_entry.ensures.place, c.at_entry.ensures.origin, rw at (omega (arith, within)))
+    let same : r ≡ q = cc in
+    subst (λ (k : Record). g.T.Trail.stands_for c.refill.new.trail (take c.args.place.step (trace c.args.p.now k.bytes k.wire))) same c.refill.ensures.stands in (
+      c.at_entry.ensures.stands c.args.p.now c.args.capture.now.records c.len-sound.ensures.sound (omega arith) (r, at, entry),
+      rw c.at_entry.ensures.place keeps,
+      c.at_entry.ensures.place,
+      c.at_entry.ensures.origin,
+      rw at (omega (arith, within)),
+    )

@@ -24,15 +24,15 @@ returns-in-Some-hit-clause-runs g c =
     let m = c.in-Entry.ensures.moves in
     let within = slice_get_within c.args.capture.now.records (c.advance.new.w.place.packet - 1) m.0 m.1 in
     run_stopped c.args.p.now c.args.capture.now c.args.breakpoints.now.keys c.args.limit c.args.w.now c.go.w c.advance.new.w m.0 c.in-Some-hit.why
-        c.go.invariant.same_rest (c.in-Entry.ensures.origin ∙ c.go.invariant.same_origin) m.4
-        (sym (c.hit.ensures m.0.bytes m.0.wire) ∙ c.in-Some-hit.is)
-        (rw m.2 c.go.invariant.in_limit) (omega (arith, within)) (let f = c.go.invariant.forward in omega (arith, m.2))
+    c.go.invariant.same_rest (c.in-Entry.ensures.origin ∙ c.go.invariant.same_origin) m.4
+    (sym (c.hit.ensures m.0.bytes m.0.wire) ∙ c.in-Some-hit.is)
+    (rw m.2 c.go.invariant.in_limit) (omega (arith, within)) (let f = c.go.invariant.forward in omega (arith, m.2))
 
 pub go-preserved-in_default-hit : goal.go-preserved-in_default-hit
 go-preserved-in_default-hit g c =
     let m = c.in-Entry.ensures.moves in
     let no = hit_none (list_any (nat_eq c.advance.new.w.state.pc) c.args.breakpoints.now.keys) (turn c.args.p.now m.0.bytes m.0.wire c.advance.new.w.state)
-        (sym (c.hit.ensures m.0.bytes m.0.wire) ∙ c.in_default-hit.is) in
+    (sym (c.hit.ensures m.0.bytes m.0.wire) ∙ c.in_default-hit.is) in
     let same = rest-pass c.args.p.now c.args.capture.now.records c.args.breakpoints.now.keys c.go.w.place c.advance.new.w.place (entry_here c.args.p.now m.0 c.advance.new.w) m.4 no in
     record {
       here = rw m.2 c.go.invariant.here;
@@ -56,8 +56,8 @@ returns-then-is_some-clause-runs g c =
     let e : c.advance.new.w.place.packet ≡ c.go.w.place.packet + 1 = ap (λ (q : Place). q.packet) m.0 in
     let here = here_after c.args.capture.now.records c.go.w.place.packet c.advance.new.w.place.packet c.in-Some.here c.following-next.result at.0 e c.following-next.ensures.record c.following-next.ensures.number in
     run_limited c.args.p.now c.args.capture.now c.args.breakpoints.now.keys c.args.limit c.args.w.now c.go.w c.advance.new.w
-        c.in-Packet.ensures.stands (sym same ∙ c.go.invariant.same_rest) (c.in-Packet.ensures.origin ∙ c.go.invariant.same_origin)
-        m.0 (let f = c.go.invariant.forward in omega (arith, ap (λ (q : Place). q.packet) m.0)) (sym c.is_limit.ensures ∙ c.if-is_limit.true) (let some = here_within c.args.capture.now.records c.advance.new.w.place.packet c.following-next.result here (sym c.is_some.ensures ∙ c.if-is_some.true) in omega (arith, some, e))
+    c.in-Packet.ensures.stands (sym same ∙ c.go.invariant.same_rest) (c.in-Packet.ensures.origin ∙ c.go.invariant.same_origin)
+    m.0 (let f = c.go.invariant.forward in omega (arith, ap (λ (q : Place). q.packet) m.0)) (sym c.is_limit.ensures ∙ c.if-is_limit.true) (let some = here_within c.args.capture.now.records c.advance.new.w.place.packet c.following-next.result here (sym c.is_some.ensures ∙ c.if-is_some.true) in omega (arith, some, e))
 
 pub go-preserved : goal.go-preserved
 go-preserved g c =
@@ -69,9 +69,10 @@ go-preserved g c =
     let at = here_some c.args.capture.now.records c.go.w.place.packet c.go.next c.in-Some.here c.go.invariant.here c.in-Some.is in
     let here = here_after c.args.capture.now.records c.go.w.place.packet c.advance.new.w.place.packet c.in-Some.here c.following-next.result at.0 e c.following-next.ensures.record c.following-next.ensures.number in
     let test : (is_limit c.args.limit (c.advance.new.w.place.packet - c.args.w.now.place.packet) ≡ false) ⊎ (length c.args.capture.now.records < c.advance.new.w.place.packet) =
-        elim c.else-is_limit.branch [
-            else-is_limit-via-then-is_limit+else-is_some w ↦ inr (let past = here_past c.args.capture.now.records c.advance.new.w.place.packet c.following-next.result here (sym w.is_some.ensures ∙ w.if-is_some.false) in omega (arith, past, e))
-            | else-is_limit-via-else-is_limit w ↦ inl (sym c.is_limit.ensures ∙ w.if-is_limit.false) ] in
+    elim c.else-is_limit.branch [
+      | else-is_limit-via-then-is_limit+else-is_some w ↦ inr (let past = here_past c.args.capture.now.records c.advance.new.w.place.packet c.following-next.result here (sym w.is_some.ensures ∙ w.if-is_some.false) in omega (arith, past, e))
+      | else-is_limit-via-else-is_limit w ↦ inl (sym c.is_limit.ensures ∙ w.if-is_limit.false)
+    ] in
     record {
       here = here;
       stands = c.in-Packet.ensures.stands;
@@ -90,8 +91,8 @@ pub returns-in_default-clause-runs : goal.returns-in_default-clause-runs
 returns-in_default-clause-runs g c =
     let m = walk_ended c.args.p.now c.args.capture.now.records c.go.w c.go.invariant.stands (here_none c.args.capture.now.records c.go.w.place.packet c.go.next c.go.invariant.here c.in_default.is) in
     (run_finished c.args.p.now c.args.capture.now c.args.breakpoints.now.keys c.args.limit c.args.w.now c.go.w c.start.result
-        c.go.invariant.stands c.go.invariant.same_rest c.go.invariant.same_origin m.0 m.1 c.go.invariant.in_limit
-        c.start.ensures.place c.start.ensures.origin)
+    c.go.invariant.stands c.go.invariant.same_rest c.go.invariant.same_origin m.0 m.1 c.go.invariant.in_limit
+    c.start.ensures.place c.start.ensures.origin)
 
 pub returns-in-Some-hit-clause-turns : goal.returns-in-Some-hit-clause-turns
 returns-in-Some-hit-clause-turns g c =
@@ -99,9 +100,9 @@ returns-in-Some-hit-clause-turns g c =
     let runs = returns-in-Some-hit-clause-runs g c in
     let order = not_before_step c.args.w.now.place c.go.w.place c.advance.new.w.place c.go.invariant.order m.2 (omega (arith, m.3)) in
     let spent : c.advance.new.meter + owed c.args.p.now c.args.capture.now.records c.advance.new.w.place ≡ c.args.meter.now + owed c.args.p.now c.args.capture.now.records c.args.w.now.place =
-        omega (arith, ap length m.4, m.3, c.in-Entry.ensures.turns, c.go.invariant.spent) in
+    omega (arith, ap length m.4, m.3, c.in-Entry.ensures.turns, c.go.invariant.spent) in
     rw (run_turns-reply _ _ _ _ _ _ _ runs)
-        (spent_between c.args.p.now c.args.capture.now.records c.args.w.now c.advance.new.w c.args.meter.now c.advance.new.meter c.requires.stands c.in-Entry.ensures.stands order spent)
+    (spent_between c.args.p.now c.args.capture.now.records c.args.w.now c.advance.new.w c.args.meter.now c.advance.new.meter c.requires.stands c.in-Entry.ensures.stands order spent)
 
 pub returns-then-is_some-clause-turns : goal.returns-then-is_some-clause-turns
 returns-then-is_some-clause-turns g c =
@@ -111,9 +112,9 @@ returns-then-is_some-clause-turns g c =
     let z : c.advance.new.w.place.step ≡ 0 = ap (λ (q : Place). q.step) m.0 in
     let order = not_before_packet c.args.w.now.place c.go.w.place c.advance.new.w.place c.go.invariant.order e in
     let spent : c.advance.new.meter + owed c.args.p.now c.args.capture.now.records c.advance.new.w.place ≡ c.args.meter.now + owed c.args.p.now c.args.capture.now.records c.args.w.now.place =
-        omega (arith, ap length m.1, z, c.in-Packet.ensures.turns, c.go.invariant.spent) in
+    omega (arith, ap length m.1, z, c.in-Packet.ensures.turns, c.go.invariant.spent) in
     rw (run_turns-reply _ _ _ _ _ _ _ runs)
-        (spent_between c.args.p.now c.args.capture.now.records c.args.w.now c.advance.new.w c.args.meter.now c.advance.new.meter c.requires.stands c.in-Packet.ensures.stands order spent)
+    (spent_between c.args.p.now c.args.capture.now.records c.args.w.now c.advance.new.w c.args.meter.now c.advance.new.meter c.requires.stands c.in-Packet.ensures.stands order spent)
 
 pub returns-in_default-clause-turns : goal.returns-in_default-clause-turns
 returns-in_default-clause-turns g c =
@@ -121,27 +122,27 @@ returns-in_default-clause-turns g c =
     let runs = returns-in_default-clause-runs g c in
     let all = owed-turns c.args.p.now c.args.capture.now.records c.args.w.now c.requires.stands in
     rw (run_turns-reply _ _ _ _ _ _ _ runs)
-        (omega (arith, all, ap length m.1, m.2, c.go.invariant.spent))
+    (omega (arith, all, ap length m.1, m.2, c.go.invariant.spent))
 
 pub push-requires : goal.push-requires
 push-requires g c =
     let m = c.in-Entry.ensures.moves in
     let before : slice_get c.args.capture.now.records (c.go.w.place.packet - 1) ≡ Some m.0 = rw m.2 at m.1 in
     keeps_few c.args.p.now c.args.capture.now.records c.go.w.place c.advance.new.w m.0 (g.T.Trail.kept c.go.trail) c.in-Entry.ensures.stands m.1 m.3
-        (g.met.T.Trail.as_long c.go.trail _ (c.go.invariant.keeps m.0 before))
+    (g.met.T.Trail.as_long c.go.trail _ (c.go.invariant.keeps m.0 before))
 
 pub returns-in-Some-hit-clause-keeps : goal.returns-in-Some-hit-clause-keeps
 returns-in-Some-hit-clause-keeps g c =
     let m = c.in-Entry.ensures.moves in
     keeps_push (λ xs. g.T.Trail.stands_for c.go.trail xs) (λ xs. g.T.Trail.stands_for c.push.new.self xs) c.args.p.now c.args.capture.now.records c.go.w.place c.advance.new.w m.0
-        c.in-Entry.ensures.stands m.1 m.2 m.3 c.push.ensures c.go.invariant.keeps
+    c.in-Entry.ensures.stands m.1 m.2 m.3 c.push.ensures c.go.invariant.keeps
 
 pub returns-in-Some-hit-clause-ahead : goal.returns-in-Some-hit-clause-ahead
 returns-in-Some-hit-clause-ahead g c =
     let m = c.in-Entry.ensures.moves in
     sym c.go.invariant.same_rest
     ∙ stop_front c.args.p.now c.args.capture.now.records c.args.breakpoints.now.keys c.go.w c.advance.new.w m.0 c.in-Some-hit.why m.4
-        (sym (c.hit.ensures m.0.bytes m.0.wire) ∙ c.in-Some-hit.is)
+    (sym (c.hit.ensures m.0.bytes m.0.wire) ∙ c.in-Some-hit.is)
 
 pub returns-then-is_some-clause-ahead : goal.returns-then-is_some-clause-ahead
 returns-then-is_some-clause-ahead g c =

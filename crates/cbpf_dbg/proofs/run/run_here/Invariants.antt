@@ -8,7 +8,7 @@ use Rattle.cbpf_dbg.proofs.run.run_here.Given as goal
 abbrev pub invariant-go : goal.invariant-go
 invariant-go g l =
     record {
-            here : IsHere l.capture.records l.w.place.packet l.next;
+      here : IsHere l.capture.records l.w.place.packet l.next;
       stands : Stands l.p l.capture.records l.w;
       keeps : Keeps (λ xs. g.T.Trail.stands_for l.trail xs) l.p l.capture.records l.w.place;
       began : l.start ≡ l.initial.w.place.packet;

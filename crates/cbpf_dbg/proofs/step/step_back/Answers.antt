@@ -11,7 +11,7 @@ use Rattle.cbpf_dbg.proofs.step.step_back.Goals as goal
 pub why_at-why-requires : goal.why_at-why-requires
 why_at-why-requires g c =
     (goes_from_entry c.args.p.now c.item-item.result.bytes.now c.item-item.result.wire (c.args.w.now.place.step - c.args.b - 1) zero_state c.back-state.result
-        c.requires.stands.sound (sound_some c.args.p.now c.requires.stands.sound) c.back-state.ensures.entry).inside
+    c.requires.stands.sound (sound_some c.args.p.now c.requires.stands.sound) c.back-state.ensures.entry).inside
 
 pub returns-clause-answer : goal.returns-clause-answer
 returns-clause-answer g c =

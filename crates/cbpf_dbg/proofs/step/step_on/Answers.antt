@@ -14,7 +14,7 @@ push-requires g c =
     let m = c.in-Entry.ensures.moves in
     let before : slice_get c.args.capture.now.records (c.go.w.place.packet - 1) ≡ Some m.0 = rw m.2 at m.1 in
     keeps_few c.args.p.now c.args.capture.now.records c.go.w.place c.advance.new.w m.0 (g.T.Trail.kept c.go.trail) c.in-Entry.ensures.stands m.1 m.3
-        (g.met.T.Trail.as_long c.go.trail _ (c.go.invariant.keeps m.0 before))
+    (g.met.T.Trail.as_long c.go.trail _ (c.go.invariant.keeps m.0 before))
 
 pub why_at-why-requires : goal.why_at-why-requires
 why_at-why-requires g c =
@@ -25,15 +25,15 @@ pub returns-then-left-eq1-clause-keeps : goal.returns-then-left-eq1-clause-keeps
 returns-then-left-eq1-clause-keeps g c =
     let m = c.in-Entry.ensures.moves in
     keeps_push (λ xs. g.T.Trail.stands_for c.go.trail xs) (λ xs. g.T.Trail.stands_for c.push.new.self xs) c.args.p.now c.args.capture.now.records c.go.w.place c.advance.new.w m.0
-        c.in-Entry.ensures.stands m.1 m.2 m.3 c.push.ensures c.go.invariant.keeps
+    c.in-Entry.ensures.stands m.1 m.2 m.3 c.push.ensures c.go.invariant.keeps
 
 pub returns-then-left-eq1-clause-steps : goal.returns-then-left-eq1-clause-steps
 returns-then-left-eq1-clause-steps g c = λ breakpoints.
     let m = c.in-Entry.ensures.moves in
     let here : slice_get (ahead c.args.p.now c.args.capture.now.records c.go.w.place) (c.go.left - 1) ≡ Some (entry_here c.args.p.now m.0 c.advance.new.w) =
-        rw m.4 (slice_get-first (entry_here c.args.p.now m.0 c.advance.new.w) _ c.go.left (omega arith)) in
+    rw m.4 (slice_get-first (entry_here c.args.p.now m.0 c.advance.new.w) _ c.go.left (omega arith)) in
     step_stopped c.args.p.now c.args.capture.now breakpoints c.args.n c.args.w.now c.advance.new.w m.0 c.why_at-why.result
-        (sym c.go.invariant.sought ∙ here) (c.why_at-why.ensures m.0.bytes m.0.wire) (c.in-Entry.ensures.origin ∙ c.go.invariant.same_origin)
+    (sym c.go.invariant.sought ∙ here) (c.why_at-why.ensures m.0.bytes m.0.wire) (c.in-Entry.ensures.origin ∙ c.go.invariant.same_origin)
 
 pub returns-then-left-eq1-clause-turns : goal.returns-then-left-eq1-clause-turns
 returns-then-left-eq1-clause-turns g c = λ breakpoints.
@@ -41,15 +41,15 @@ returns-then-left-eq1-clause-turns g c = λ breakpoints.
     let steps = returns-then-left-eq1-clause-steps g c breakpoints in
     let order = not_before_step c.args.w.now.place c.go.w.place c.advance.new.w.place c.go.invariant.order m.2 (omega (arith, m.3)) in
     let spent : c.advance.new.meter + owed c.args.p.now c.args.capture.now.records c.advance.new.w.place ≡ c.args.meter.now + owed c.args.p.now c.args.capture.now.records c.args.w.now.place =
-        omega (arith, ap length m.4, m.3, c.in-Entry.ensures.turns, c.go.invariant.spent) in
+    omega (arith, ap length m.4, m.3, c.in-Entry.ensures.turns, c.go.invariant.spent) in
     rw (step_turns-reply _ _ _ _ _ _ _ steps)
-        (spent_between c.args.p.now c.args.capture.now.records c.args.w.now c.advance.new.w c.args.meter.now c.advance.new.meter c.requires.stands c.in-Entry.ensures.stands order spent)
+    (spent_between c.args.p.now c.args.capture.now.records c.args.w.now c.advance.new.w c.args.meter.now c.advance.new.meter c.requires.stands c.in-Entry.ensures.stands order spent)
 
 pub go-preserved-in-Entry : goal.go-preserved-in-Entry
 go-preserved-in-Entry g c =
     let m = c.in-Entry.ensures.moves in
     let later : slice_get (ahead c.args.p.now c.args.capture.now.records c.go.w.place) (c.go.left - 1) ≡ slice_get (ahead c.args.p.now c.args.capture.now.records c.advance.new.w.place) (c.go.left - 1 - 1) =
-        rw m.4 (slice_get-later (entry_here c.args.p.now m.0 c.advance.new.w) _ c.go.left (omega arith)) in
+    rw m.4 (slice_get-later (entry_here c.args.p.now m.0 c.advance.new.w) _ c.go.left (omega arith)) in
     record {
       here = rw m.2 c.go.invariant.here;
       stands = c.in-Entry.ensures.stands;
@@ -67,7 +67,7 @@ returns-in_default-clause-steps g c = λ breakpoints.
     let m = walk_ended c.args.p.now c.args.capture.now.records c.go.w c.go.invariant.stands (here_none c.args.capture.now.records c.go.w.place.packet c.go.next c.go.invariant.here c.in_default.is) in
     let none : slice_get (ahead c.args.p.now c.args.capture.now.records c.go.w.place) (c.go.left - 1) ≡ None = rw m.1 refl in
     (step_finished c.args.p.now c.args.capture.now breakpoints c.args.n c.args.w.now c.go.w c.start.result
-        (sym c.go.invariant.sought ∙ none) c.go.invariant.stands c.go.invariant.same_origin m.0 c.start.ensures.place c.start.ensures.origin)
+    (sym c.go.invariant.sought ∙ none) c.go.invariant.stands c.go.invariant.same_origin m.0 c.start.ensures.place c.start.ensures.origin)
 
 pub returns-in_default-clause-turns : goal.returns-in_default-clause-turns
 returns-in_default-clause-turns g c = λ breakpoints.
@@ -75,7 +75,7 @@ returns-in_default-clause-turns g c = λ breakpoints.
     let steps = returns-in_default-clause-steps g c breakpoints in
     let all = owed-turns c.args.p.now c.args.capture.now.records c.args.w.now c.requires.stands in
     rw (step_turns-reply _ _ _ _ _ _ _ steps)
-        (omega (arith, all, ap length m.1, m.2, c.go.invariant.spent))
+    (omega (arith, all, ap length m.1, m.2, c.go.invariant.spent))
 
 pub go-preserved : goal.go-preserved
 go-preserved g c =

@@ -19,7 +19,7 @@ returns-in-Some-hit-clause-next g c =
     let m = c.in-Entry.ensures.moves in
     sym c.go.invariant.same_rest
     ∙ stop_front c.args.p.now c.args.capture.now.records c.args.breakpoints.now.keys c.go.w c.advance.new.w m.0 c.in-Some-hit.why m.4
-        (sym (c.hit.ensures m.0.bytes m.0.wire) ∙ c.in-Some-hit.is)
+    (sym (c.hit.ensures m.0.bytes m.0.wire) ∙ c.in-Some-hit.is)
 
 pub returns-in-Some-hit-clause-spent : goal.returns-in-Some-hit-clause-spent
 returns-in-Some-hit-clause-spent g c =
@@ -30,7 +30,7 @@ pub go-preserved-in_default-hit : goal.go-preserved-in_default-hit
 go-preserved-in_default-hit g c =
     let m = c.in-Entry.ensures.moves in
     let no = hit_none (list_any (nat_eq c.advance.new.w.state.pc) c.args.breakpoints.now.keys) (turn c.args.p.now m.0.bytes m.0.wire c.advance.new.w.state)
-        (sym (c.hit.ensures m.0.bytes m.0.wire) ∙ c.in_default-hit.is) in
+    (sym (c.hit.ensures m.0.bytes m.0.wire) ∙ c.in_default-hit.is) in
     let same = rest-pass c.args.p.now c.args.capture.now.records c.args.breakpoints.now.keys c.go.w.place c.advance.new.w.place (entry_here c.args.p.now m.0 c.advance.new.w) m.4 no in
     record {
       here = rw m.2 c.go.invariant.here;

@@ -21,7 +21,7 @@ returns-then-w-eq0-clause-stands g c = rw c.enter.ensures (stands-entered _ _ c.
 pub returns-then-w-eq0-clause-moves : goal.returns-then-w-eq0-clause-moves
 returns-then-w-eq0-clause-moves g c =
     subst (λ n. Moves c.args.p.now c.args.capture.now.records c.args.w.now moved.Entry n) (sym c.enter.ensures)
-        (moves-entered _ _ c.args.w.now c.requires.stands (let within = slice_get_within c.args.capture.now.records (c.args.w.now.place.packet - 1) _ c.requires.here in omega (arith, within)) (omega arith))
+    (moves-entered _ _ c.args.w.now c.requires.stands (let within = slice_get_within c.args.capture.now.records (c.args.w.now.place.packet - 1) _ c.requires.here in omega (arith, within)) (omega arith))
 
 pub turn-requires-clause-inside : goal.turn-requires-clause-inside
 turn-requires-clause-inside g c =
@@ -52,14 +52,14 @@ returns-in-Next-clause-stands g c =
 pub returns-in-Next-clause-moves : goal.returns-in-Next-clause-moves
 returns-in-Next-clause-moves g c =
     subst (λ n. Moves c.args.p.now c.args.capture.now.records c.args.w.now moved.Entry n) (sym c.go_on.ensures)
-        (moves-stepped _ _ c.args.w.now _ c.in-Next.next c.requires.stands (omega arith) c.requires.here (sym c.in-Next.ensures.value))
+    (moves-stepped _ _ c.args.w.now _ c.in-Next.next c.requires.stands (omega arith) c.requires.here (sym c.in-Next.ensures.value))
 
 pub returns-in_default : goal.returns-in_default
 returns-in_default g c =
     let none : next_of (turn c.args.p.now c.args.here.now.bytes.now c.args.here.now.wire c.args.w.now.state) ≡ None =
-        rw (← c.turn.ensures.value) (next_of-none c.turn.result c.in_default.not-Next) in
+    rw (← c.turn.ensures.value) (next_of-none c.turn.result c.in_default.not-Next) in
     let same : c.leave.new.self ≡ left c.args.w.now (turn c.args.p.now c.args.here.now.bytes.now c.args.here.now.wire c.args.w.now.state) =
-        c.leave.ensures ∙ ap (left c.args.w.now) c.turn.ensures.value in
+    c.leave.ensures ∙ ap (left c.args.w.now) c.turn.ensures.value in
     record {
       stands = rw same (stands-left _ _ c.args.w.now _ c.requires.stands (omega arith) c.requires.here none);
       moves = subst (λ n. Moves c.args.p.now c.args.capture.now.records c.args.w.now moved.Packet n) (sym same)

@@ -8,10 +8,21 @@ pub runs-init : goal.runs-init
 runs-init g c =
     let holds : Holds c.in-Some.program c.in-Some-capture.capture c.args.self.now = record { program = rw (← c.self.view_is) c.in-Some.is; capture = rw (← c.self.view_is) c.in-Some-capture.is } in
     record {
-      going = (c.in-Some.program, c.in-Some-capture.capture, record {
-        sound = c.len-sound.ensures.sound; few = omega (arith, c.count-few.ensures.value, c.count-few.ensures.bounded);
-        old_holds = holds; new_holds = holds; origin = refl; breakpoints = refl; hits = refl; spent = refl; spare = c.requires;
-      });
+      going = (
+        c.in-Some.program,
+        c.in-Some-capture.capture,
+        record {
+          sound = c.len-sound.ensures.sound;
+          few = omega (arith, c.count-few.ensures.value, c.count-few.ensures.bounded);
+          old_holds = holds;
+          new_holds = holds;
+          origin = refl;
+          breakpoints = refl;
+          hits = refl;
+          spent = refl;
+          spare = c.requires;
+        },
+      );
     }
 
 pub returns-then-is_err-clause-from_start : goal.returns-then-is_err-clause-from_start

@@ -5,7 +5,10 @@ use Rattle.cbpf_dbg.proofs.walk.Walk.before.Goals as goal
 pub returns-clause-stands : goal.returns-clause-stands
 returns-clause-stands c = λ list capture sound within.
     record {
-      sound = sound; from_one = c.requires; ordered = omega arith; within = within;
+      sound = sound;
+      from_one = c.requires;
+      ordered = omega arith;
+      within = within;
       at = λ (z : 0 < 0). absurd (omega arith);
       counted = counts-at list capture c.args.packet;
     }

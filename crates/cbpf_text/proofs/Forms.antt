@@ -1,0 +1,90 @@
+-- Items by their forms: how many targets each has, and its mnemonic.
+use Rattle.std.proofs.Common.{◌≡◌, refl, sym, ◌∙◌, ap, subst, ℕ, zero, suc, ◌+◌, ◌<◌, ◌≤◌, Bool, true, false, ◌&&◌, List, [], ◌∷◌, ◌++◌, length, map, drop, get_or, Option, Some, None, arith, eqb-true}
+use Rattle.std.specs.Prelude.{All, Contains, ◌==◌, ◌||◌}
+use Rattle.std.specs.List.{list_all}
+use Rattle.cbpf_grammar.specs.declared.table.Fields.{Fields}
+use Rattle.cbpf_grammar.specs.declared.table.Fields.TheVariants.{Constant, Ancillary, Goto, Branch, Swapped}
+use Rattle.cbpf_grammar.specs.Classes.{Class}
+use Rattle.cbpf_grammar.specs.Classes.Class.{the_word, the_mark, literal, negated, exactly, extension, name}
+use Rattle.cbpf_grammar.specs.Lexemes.{Lexeme}
+use Rattle.cbpf_grammar.specs.Fits.{fits, fits_all}
+use Rattle.cbpf_grammar.specs.Table.{Row, classes, table, mnemonics}
+use Rattle.cbpf_grammar.specs.Items.{Item, Items, Form, names_at, label_classes, classes_of}
+use Rattle.cbpf_text.specs.Operands.{HasForm, targets_in}
+
+abbrev one_if : Class → ℕ
+one_if (the_word w) = 0
+one_if (the_mark b) = 0
+one_if literal = 0
+one_if negated = 0
+one_if (exactly m) = 0
+one_if extension = 0
+one_if name = 1
+
+abbrev names_in : List Class → ℕ
+names_in [] = 0
+names_in (c ∷ cs) = one_if c + names_in cs
+
+abbrev pub takes : Fields → ℕ → Bool
+takes Constant n = n == 0
+takes Ancillary n = n == 0
+takes Goto n = n == 1
+takes Branch n = n == 1 || n == 2
+takes Swapped n = n == 1
+
+rows_take : list_all (λ (r : Row). takes r.fields (names_in (classes r))) table ≡ true
+unfolding mnemonics
+rows_take = refl
+
+and_parts : (a b : Bool) → (a && b) ≡ true → (a ≡ true) × (b ≡ true)
+and_parts true b e = (refl, e)
+and_parts false b e = let k : false ≡ true = e in cc
+
+all_at : (p : Row → Bool) (rs : List Row) (i : ℕ) (d : Row) → list_all p rs ≡ true → i < length rs → p (get_or rs i d) ≡ true
+all_at p [] i d e l = absurd (omega arith)
+all_at p (r ∷ rs) zero d e l = (and_parts (p r) _ e).0
+all_at p (r ∷ rs) (suc i) d e l = all_at p rs i d (and_parts (p r) _ e).1 (omega arith)
+
+row_takes : (r : Row) → Contains table r → takes r.fields (names_in (classes r)) ≡ true
+row_takes r p = rw p.2 at (all_at (λ (s : Row). takes s.fields (names_in (classes s))) table p.0 r rows_take p.1)
+
+names_count : (cs : List Class) (ts : List Lexeme) → fits_all cs ts ≡ true → length (names_at cs ts) ≡ names_in cs
+names_count [] [] e = refl
+names_count [] (t ∷ ts) e = refl
+names_count (c ∷ cs) [] e = let k : false ≡ true = e in cc
+names_count (c ∷ cs) (t ∷ ts) e = by_class c (names_count cs ts (and_parts (fits c t.symbol) (fits_all cs ts) e).1)
+  where
+    by_class : (c : Class) → length (names_at cs ts) ≡ names_in cs → length (names_at (c ∷ cs) (t ∷ ts)) ≡ one_if c + names_in cs
+    by_class (the_word w) h = omega (arith, h)
+    by_class (the_mark b) h = omega (arith, h)
+    by_class literal h = omega (arith, h)
+    by_class negated h = omega (arith, h)
+    by_class (exactly m) h = omega (arith, h)
+    by_class extension h = omega (arith, h)
+    by_class name h = omega (arith, h)
+
+-- an instruction has as many targets as its fields take
+pub form_takes : (item : Item) → HasForm item → takes item.row.fields (length (targets_in item)) ≡ true
+form_takes item h = ap (takes item.row.fields) (names_count (classes item.row) item.body h.fits) ∙ row_takes item.row h.known
+
+-- an instruction begins with its mnemonic
+pub form_some : (item : Item) → HasForm item → 0 < length item.body
+form_some item h = some item.body h.fits
+  where
+    some : (ts : List Lexeme) → fits_all (classes item.row) ts ≡ true → 0 < length ts
+    some [] e = let k : false ≡ true = e in cc
+    some (t ∷ ts) e = omega arith
+
+behind_labels : (n : ℕ) (cs : List Class) (ts : List Lexeme) → fits_all (label_classes n ++ cs) ts ≡ true → fits_all cs (drop (n + n) ts) ≡ true
+behind_labels zero cs ts e = e
+behind_labels (suc n) cs [] e = let k : false ≡ true = e in cc
+behind_labels (suc n) cs (t ∷ []) e = let k : false ≡ true = (and_parts (fits name t.symbol) false e).1 in cc
+behind_labels (suc n) cs (t ∷ u ∷ ts) e =
+    let m : suc n + suc n ≡ suc (suc (n + n)) = omega arith in
+    rw m (behind_labels n cs ts (and_parts (fits (the_mark 58) u.symbol) _ (and_parts (fits name t.symbol) _ e).1).1)
+
+-- the items of a token list have their forms
+pub items_forms : (ts : List Lexeme) (is : List Item) → Items ts is → All HasForm is
+items_forms ts [] p k d l = absurd (omega arith)
+items_forms ts (i ∷ is) p zero d l = let f : Form p.0 i = p.3 in record { known = f.row; fits = rw f.body (behind_labels f.count (classes i.row) p.0 f.fits) }
+items_forms ts (i ∷ is) p (suc k) d l = items_forms p.1 is p.4 k d (omega arith)

@@ -1,0 +1,10 @@
+pub mod Lists
+pub mod Operands
+pub mod LabelLists
+pub mod LabelSteps
+pub mod Lookups
+pub mod Uses
+pub mod Forms
+pub mod Encoding
+pub mod OneAssembly
+pub mod Faults

@@ -1,0 +1,91 @@
+-- What a look-up of a name in the label table says of the items.
+use Rattle.std.proofs.Common.{◌≡◌, ◌≢◌, refl, sym, ◌∙◌, ap, subst, cond, ℕ, zero, suc, ◌+◌, ◌-◌, ◌<◌, ◌≤◌, Bool, true, false, List, [], ◌∷◌, ◌++◌, length, map, Option, Some, None, arith, Bor}
+use Rattle.std.specs.Prelude.{Result, Ok, Err, IfOk, IfErr}
+use Rattle.cbpf_text.specs.declared.labels.Label as declared_label
+use Rattle.cbpf_text.specs.declared.refusal.Refusal.{Refusal}
+use Rattle.cbpf_text.specs.Refusals.{Told, IsLabelFault}
+use Rattle.std.specs.Prelude.{slice_get, bytes_eq}
+use Rattle.cbpf_grammar.specs.Lexemes.{Lexeme}
+use Rattle.cbpf_grammar.specs.Items.{Item}
+use Rattle.cbpf_text.specs.Labels.{name_of, set_labels, times_among, times_set, AreDistinct, SetsAt, IsPlace}
+use Rattle.cbpf_text.specs.Tables.{Label, labels_of, labels_from, place_among, label_of, IsLookup, Resolves}
+use Rattle.cbpf_text.proofs.Lists.{same_some}
+use Rattle.cbpf_text.proofs.LabelLists.{words, times_append, times_cons, times_miss, times_hit, distinct_once, or_else, place_append, no_place}
+use Rattle.cbpf_text.proofs.LabelSteps.{words_from, words_map, word_of}
+
+-- the items that set a name do so more than no times
+pub sets_some : (is : List Item) (p : ℕ) (name : List ℕ) → SetsAt is p name → 0 < times_set is name
+sets_some [] p name s = let e : ◌≡◌ {A = Option Item} None (Some s.0) = s.1 in cc
+sets_some (i ∷ is) zero name s =
+    let n : times_among i.labels name ≢ 0 = subst (λ (j : Item). times_among j.labels name ≢ 0) (sym (same_some i s.0 s.1)) s.2 in
+    omega (arith, times_append i.labels (set_labels is) name, n)
+sets_some (i ∷ is) (suc p) name s = let h : 0 < times_set is name = sets_some is p name s in omega (arith, times_append i.labels (set_labels is) name, h)
+
+-- a name that is set once has one place
+pub one_place : (is : List Item) (p q : ℕ) (name : List ℕ) → times_set is name ≡ 1 → SetsAt is p name → SetsAt is q name → p ≡ q
+one_place [] p q name e s t = let z : ◌≡◌ {A = Option Item} None (Some s.0) = s.1 in cc
+one_place (i ∷ is) zero zero name e s t = refl
+one_place (i ∷ is) zero (suc q) name e s t =
+    let a : times_among i.labels name ≢ 0 = subst (λ (j : Item). times_among j.labels name ≢ 0) (sym (same_some i s.0 s.1)) s.2 in
+    let b : 0 < times_set is name = sets_some is q name t in
+    absurd (omega (arith, times_append i.labels (set_labels is) name, e, a, b))
+one_place (i ∷ is) (suc p) zero name e s t =
+    let a : times_among i.labels name ≢ 0 = subst (λ (j : Item). times_among j.labels name ≢ 0) (sym (same_some i t.0 t.1)) t.2 in
+    let b : 0 < times_set is name = sets_some is p name s in
+    absurd (omega (arith, times_append i.labels (set_labels is) name, e, a, b))
+one_place (i ∷ is) (suc p) (suc q) name e s t =
+    let b : 0 < times_set is name = sets_some is p name s in
+    ap suc (one_place is p q name (omega (arith, times_append i.labels (set_labels is) name, e, b)) s t)
+
+Here : ℕ → List Lexeme → List ℕ → ℕ → Type 0
+Here index ts name p = (p ≡ index) × (times_among ts name ≢ 0)
+
+here : (index : ℕ) (ts : List Lexeme) (name : List ℕ) (p : ℕ) → place_among (labels_of index ts) name ≡ Some p → Here index ts name p
+unfolding Here
+here index [] name p e = let k : ◌≡◌ {A = Option ℕ} None (Some p) = e in cc
+here index (t ∷ ts) name p e = by_test (bytes_eq (name_of t) name) refl e (λ q. here index ts name p q)
+  where
+    by_test : (b : Bool) → bytes_eq (name_of t) name ≡ b → cond b (Some index) (place_among (labels_of index ts) name) ≡ Some p → (place_among (labels_of index ts) name ≡ Some p → Here index ts name p) → Here index (t ∷ ts) name p
+    by_test true q r again = (sym (same_some index p r), λ z. omega (arith, times_cons t ts name, times_hit t name q, z))
+    by_test false q r again = let h = again r in (h.0, λ z. h.1 (omega (arith, times_cons t ts name, z)))
+
+Somewhere : ℕ → List Item → List ℕ → ℕ → Type 0
+Somewhere index is name p = (q : ℕ) × (p ≡ index + q) × SetsAt is q name
+
+somewhere : (index : ℕ) (is : List Item) (name : List ℕ) (p : ℕ) → place_among (labels_from index is) name ≡ Some p → Somewhere index is name p
+unfolding Somewhere Here
+somewhere index [] name p e = let k : ◌≡◌ {A = Option ℕ} None (Some p) = e in cc
+somewhere index (i ∷ is) name p e = by_place (place_among (labels_of index i.labels) name) refl (sym (place_append (labels_of index i.labels) (labels_from (index + 1) is) name) ∙ e) (λ q. somewhere (index + 1) is name p q)
+  where
+    by_place : (o : Option ℕ) → place_among (labels_of index i.labels) name ≡ o → or_else o (place_among (labels_from (index + 1) is) name) ≡ Some p → (place_among (labels_from (index + 1) is) name ≡ Some p → Somewhere (index + 1) is name p) → Somewhere index (i ∷ is) name p
+    by_place None q r again = let h = again r in (suc h.0, omega (arith, h.1), h.2)
+    by_place (Some x) q r again = let h = here index i.labels name x q in (0, omega (arith, h.0, same_some x p r), (i, refl, h.1))
+
+-- where no label is set twice, a look-up tells how often a name is set, and where
+pub lookup_tells : (is : List Item) (name : List ℕ) (o : Option ℕ) → AreDistinct (set_labels is) → place_among (labels_from 0 is) name ≡ o → IsLookup is name o
+unfolding Somewhere
+lookup_tells is name None h e = ap (λ ts. times_among ts name) (sym (words_from 0 is)) ∙ no_place (labels_from 0 is) name e
+lookup_tells is name (Some p) h e =
+    let s = somewhere 0 is name p e in
+    let q : s.0 ≡ p = omega (arith, s.1) in
+    let at : SetsAt is p name = subst (λ n. SetsAt is n name) q s.2 in
+    let some : 0 < times_set is name = sets_some is p name at in
+    record { once = distinct_once (set_labels is) name h (λ z. omega (arith, some, z)); sets = at }
+
+-- the table over the assembler's own labels resolves the items' labels
+pub labels_distinct : (is : List Item) (ls : List declared_label.Label) → map label_of ls ≡ labels_from 0 is → AreDistinct (map word_of ls) → AreDistinct (set_labels is)
+labels_distinct is ls e h = subst AreDistinct (sym (words_map ls) ∙ (ap words e ∙ words_from 0 is)) h
+
+pub labels_resolve : (is : List Item) (ls : List declared_label.Label) (lookup : Bor (List ℕ) → Option ℕ) → map label_of ls ≡ labels_from 0 is → ((k : Bor (List ℕ)) → lookup k ≡ place_among (map label_of ls) k.now) → AreDistinct (map word_of ls) → Resolves is lookup
+labels_resolve is ls lookup e t h k = lookup_tells is k.now (lookup k) (labels_distinct is ls e h) (sym (t k ∙ ap (λ ms. place_among ms k.now) e))
+
+pub labels_refused : (is : List Item) (ls : List declared_label.Label) → map label_of ls ≡ labels_from 0 is → (r : Refusal) → Told (IsLabelFault (map word_of ls)) r → Told (IsLabelFault (set_labels is)) r
+labels_refused is ls e r h = subst (λ ws. Told (IsLabelFault ws) r) (sym (words_map ls) ∙ (ap words e ∙ words_from 0 is)) h
+
+pub ok_both : {X E : Type 0} (r : Result X E) (P Q R : X → Type 0) → ((x : X) → P x → Q x → R x) → IfOk r P → IfOk r Q → IfOk r R
+ok_both (Ok x) P Q R f p q = f x p q
+ok_both (Err e) P Q R f p q = p
+
+pub err_more : {X E : Type 0} (r : Result X E) (P Q : E → Type 0) → ((e : E) → P e → Q e) → IfErr r P → IfErr r Q
+err_more (Ok x) P Q f p = p
+err_more (Err e) P Q f p = f e p

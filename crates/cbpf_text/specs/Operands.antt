@@ -1,0 +1,54 @@
+-- The literal and the targets of an instruction, by the addressing modes of the kernel's Documentation/networking/filter: numbers, extensions' names and labels.
+use Rattle.std.specs.Prelude.{◌≡◌, ℕ, true, Contains, ◌-◌, ◌%◌, ◌^◌, List, [], ◌∷◌, Option, Some, None, bytes_eq, if◌then◌else◌}
+use Rattle.cbpf_code.specs.declared.extension.Ext.{Ext}
+use Rattle.cbpf_code.specs.Extension.{ext_table, ext_name}
+use Rattle.cbpf_grammar.specs.Classes.{Class}
+use Rattle.cbpf_grammar.specs.Classes.Class.{the_word, the_mark, literal, negated, exactly, extension, name}
+use Rattle.cbpf_grammar.specs.Lexemes.{Symbol, Lexeme}
+use Rattle.cbpf_grammar.specs.Lexemes.Symbol.{word, number, mark}
+use Rattle.cbpf_grammar.specs.Table.{classes, table}
+use Rattle.cbpf_grammar.specs.Fits.{fits_all}
+use Rattle.cbpf_grammar.specs.Items.{Item, names_at}
+
+-- the offset of the extension of this name
+abbrev pub offset_named : List (ℕ × Ext) → List ℕ → Option ℕ
+offset_named [] w = None
+offset_named (e ∷ es) w = if bytes_eq w (ext_name e.1) then Some e.0 else offset_named es w
+
+-- the value of a token at a class, where it has one; a negative number is kept modulo 2 ^ 32
+abbrev pub value_at : Class → Symbol → Option ℕ
+value_at (the_word v) s = None
+value_at (the_mark b) s = None
+value_at literal (word w) = None
+value_at literal (number n) = Some n
+value_at literal (mark b) = None
+value_at negated (word w) = None
+value_at negated (number n) = Some ((2 ^ 32 - n) % 2 ^ 32)
+value_at negated (mark b) = None
+value_at (exactly m) s = None
+value_at extension (word w) = offset_named ext_table w
+value_at extension (number n) = None
+value_at extension (mark b) = None
+value_at name s = None
+
+abbrev pub first_of : Option ℕ → ℕ → ℕ
+first_of None n = n
+first_of (Some v) n = v
+
+-- the literal of tokens at their classes, of which a form has at most one: its value, or 0
+abbrev pub literal_of : List Class → List Lexeme → ℕ
+literal_of [] ts = 0
+literal_of (c ∷ cs) [] = 0
+literal_of (c ∷ cs) (t ∷ ts) = first_of (value_at c t.symbol) (literal_of cs ts)
+
+abbrev pub literal_in : Item → ℕ
+literal_in item = literal_of (classes item.row) item.body
+
+-- the labels in an instruction's operand, in text order
+abbrev pub targets_in : Item → List Lexeme
+targets_in item = names_at (classes item.row) item.body
+
+-- the item's tokens fit a row of the table
+pub record HasForm (item : Item) : Type 0 where
+  pub known : Contains table item.row
+  pub fits : fits_all (classes item.row) item.body ≡ true

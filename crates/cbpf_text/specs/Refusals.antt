@@ -1,0 +1,118 @@
+-- Why a source text is refused, and the line that is told: this project's own rules, as the kernel's Documentation/networking/filter has no faults.
+use Rattle.std.specs.Prelude.{◌≡◌, ◌≢◌, ℕ, ◌+◌, ◌-◌, ◌<◌, ◌≤◌, Bool, true, false, List, [], ◌∷◌, ◌++◌, length, map, slice_get, Option, Some, None, All}
+use Rattle.cbpf_lex.specs.declared.token.Token.{Token}
+use Rattle.cbpf_lex.specs.declared.token.BadPiece.{BadPiece}
+use Rattle.cbpf_lex.specs.declared.token.BadPiece.TheVariants as pieces
+use Rattle.cbpf_lex.specs.Tokens.{Lexes, IsFirstBad, line_of}
+use Rattle.cbpf_grammar.specs.declared.table.Fields.{Fields}
+use Rattle.cbpf_grammar.specs.declared.table.Fields.TheVariants.{Constant, Ancillary, Goto, Branch, Swapped}
+use Rattle.cbpf_grammar.specs.declared.parser.ParseFault.TheVariants as parse
+use Rattle.cbpf_grammar.specs.Lexemes.{Lexeme, lexemes_of}
+use Rattle.cbpf_grammar.specs.Items.{Item, Items}
+use Rattle.cbpf_grammar.specs.Refusals.{IsFirstRefusal, IsAccepted}
+use Rattle.cbpf_text.specs.declared.fault.AsmKind.{AsmKind}
+use Rattle.cbpf_text.specs.declared.fault.AsmKind.TheVariants as kinds
+use Rattle.cbpf_text.specs.declared.fault.AsmFault.{AsmFault}
+use Rattle.cbpf_text.specs.declared.fault.AsmFault.TheVariants as faults
+use Rattle.cbpf_text.specs.declared.refusal.Refusal.{Refusal}
+use Rattle.cbpf_text.specs.declared.refusal.Refusal.TheVariants as refusals
+use Rattle.cbpf_text.specs.Labels.{name_of, set_labels, times_among, times_set, AreDistinct, SetsAt}
+use Rattle.cbpf_text.specs.Operands.{targets_in}
+use Rattle.cbpf_text.specs.Assembled.{HasProgramLength}
+
+abbrev pub piece_kind : BadPiece → AsmKind
+piece_kind pieces.NoToken = kinds.NoToken
+piece_kind pieces.OpenComment = kinds.OpenComment
+piece_kind pieces.LargeNumber = kinds.LargeNumber
+
+-- the label is the first whose name one before it has given already
+pub record IsFirstRepeat (labels : List Lexeme) (label : Lexeme) : Type 0 where
+  pub before : List Lexeme
+  pub behind : List Lexeme
+  pub split : labels ≡ before ++ (label ∷ behind)
+  pub distinct : AreDistinct before
+  pub given : times_among before (name_of label) ≢ 0
+
+-- a label in an operand, with its item's index, and whether the jump is conditional
+pub record Use : Type 0 where
+  pub index : ℕ
+  pub target : Lexeme
+  pub short : Bool
+
+abbrev pub is_conditional : Fields → Bool
+is_conditional Constant = false
+is_conditional Ancillary = false
+is_conditional Goto = false
+is_conditional Branch = true
+is_conditional Swapped = true
+
+abbrev pub uses_of : ℕ → Item → List Use
+uses_of index item = map (λ t. record { index = index; target = t; short = is_conditional item.row.fields }) (targets_in item)
+
+-- the uses of items of which the first has the index, in text order
+abbrev pub uses_from : ℕ → List Item → List Use
+uses_from index [] = []
+uses_from index (item ∷ items) = uses_of index item ++ uses_from (index + 1) items
+
+-- why a use is refused: its label is set nowhere; not after the jump; further than a conditional jump goes
+pub data IsUseFault (items : List Item) (u : Use) : AsmKind → Type 0 where
+  not_set : times_set items (name_of u.target) ≡ 0 → IsUseFault items u kinds.LabelNotSet
+  not_after : (place : ℕ) → SetsAt items place (name_of u.target) → place ≤ u.index → IsUseFault items u kinds.NotAfter
+  too_far : (place : ℕ) → SetsAt items place (name_of u.target) → u.short ≡ true → u.index + 256 < place → IsUseFault items u kinds.TooFar
+
+abbrev pub IsGoodUse : List Item → Use → Type 0
+IsGoodUse items u = (kind : AsmKind) → IsUseFault items u kind → ⊥
+
+-- the label is that of the first use that is refused
+pub record IsFirstBadUse (items : List Item) (uses : List Use) (kind : AsmKind) (at : ℕ) : Type 0 where
+  pub before : List Use
+  pub u : Use
+  pub behind : List Use
+  pub split : uses ≡ before ++ (u ∷ behind)
+  pub good : All (IsGoodUse items) before
+  pub bad : IsUseFault items u kind
+  pub place : at ≡ u.target.at
+
+-- why items are refused, and the place in the text that shows it
+pub data IsItemsFault (items : List Item) : AsmKind → ℕ → Type 0 where
+  no_item : items ≡ [] → IsItemsFault items kinds.NoInstruction 0
+  too_many : (item : Item) (mnemonic : Lexeme) → slice_get items 4096 ≡ Some item → slice_get item.body 0 ≡ Some mnemonic → IsItemsFault items kinds.TooMany mnemonic.at
+  set_twice : (label : Lexeme) → HasProgramLength items → IsFirstRepeat (set_labels items) label → IsItemsFault items kinds.LabelSetTwice label.at
+  bad_use : (kind : AsmKind) (at : ℕ) → HasProgramLength items → AreDistinct (set_labels items) → IsFirstBadUse items (uses_from 0 items) kind at → IsItemsFault items kind at
+
+-- why tokens are refused, and the place: the first refusal of the grammar, and where there is none that of the items
+pub data IsTokensFault (ts : List Lexeme) : AsmKind → ℕ → Type 0 where
+  misplaced : (i : ℕ) (t : Lexeme) → IsFirstRefusal ts (parse.Misplaced i) → slice_get ts i ≡ Some t → IsTokensFault ts kinds.Misplaced t.at
+  large_negative : (i : ℕ) (t : Lexeme) → IsFirstRefusal ts (parse.LargeNegative i) → slice_get ts i ≡ Some t → IsTokensFault ts kinds.LargeNumber t.at
+  unfinished : (t : Lexeme) → IsFirstRefusal ts parse.Unfinished → slice_get ts (length ts - 1) ≡ Some t → IsTokensFault ts kinds.Unfinished t.at
+  of_items : (items : List Item) (kind : AsmKind) (at : ℕ) → Items ts items → IsAccepted ts → IsItemsFault items kind at → IsTokensFault ts kind at
+
+-- the fault of the text: its first bad piece, and where there is none that of its tokens; want of memory says nothing
+pub data IsRefused (text : List ℕ) : AsmFault → Type 0 where
+  memory : IsRefused text faults.Memory
+  piece : (bad : BadPiece) (line : ℕ) → IsFirstBad text bad line → IsRefused text (faults.At (piece_kind bad) line)
+  token : (tokens : List Token) (kind : AsmKind) (at : ℕ) → Lexes text tokens → IsTokensFault (lexemes_of text tokens) kind at → IsRefused text (faults.At kind (line_of text at))
+
+-- what `tokens` tells of a text that has none
+pub data IsLexRefused (text : List ℕ) : AsmFault → Type 0 where
+  memory : IsLexRefused text faults.Memory
+  piece : (bad : BadPiece) (line : ℕ) → IsFirstBad text bad line → IsLexRefused text (faults.At (piece_kind bad) line)
+
+-- the refusal has this cause; want of memory says nothing
+abbrev pub Told : (AsmKind → ℕ → Type 0) → Refusal → Type 0
+Told Cause refusals.Memory = Unit {0}
+Told Cause (refusals.At kind at) = Cause kind at
+
+-- the refusal of labels: the first that is set a second time
+abbrev pub IsLabelFault : List Lexeme → AsmKind → ℕ → Type 0
+IsLabelFault labels kind at = (label : Lexeme) × (kind ≡ kinds.LabelSetTwice) × (at ≡ label.at) × IsFirstRepeat labels label
+
+-- the refusal of one target of the item at the index
+abbrev pub IsTargetFault : List Item → ℕ → Bool → Option Lexeme → AsmKind → ℕ → Type 0
+IsTargetFault items index short None kind at = ⊥
+IsTargetFault items index short (Some target) kind at = IsUseFault items (record { index = index; target = target; short = short }) kind × (at ≡ target.at)
+
+-- the fault tells the refusal with the line of its place
+abbrev pub IsToldAt : List ℕ → Refusal → AsmFault → Type 0
+IsToldAt text refusals.Memory fault = fault ≡ faults.Memory
+IsToldAt text (refusals.At kind at) fault = fault ≡ faults.At kind (line_of text at)

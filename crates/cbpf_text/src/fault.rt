@@ -1,0 +1,52 @@
+//! Why a source text is refused.
+
+use thiserror::Error;
+
+/// What is wrong with a source text.
+#[derive(Clone, Copy, Debug, PartialEq, Eq, Error)]
+pub enum AsmKind {
+    /// A1: a byte, or a run of letters, digits and `_` that begins with a digit, that is no token.
+    #[error("A1 unknown byte")]
+    NoToken,
+    /// A2: a `/*` comment that isn't closed.
+    #[error("A2 comment not closed")]
+    OpenComment,
+    /// A3: a number above 4294967295, or above 2147483648 behind a `-`.
+    #[error("A3 number out of range")]
+    LargeNumber,
+    /// A4: the tokens before this one begin a list of instructions, and with it they don't.
+    #[error("A4 token can't stand here")]
+    Misplaced,
+    /// A5: the text ends inside an instruction, or behind a label.
+    #[error("A5 text ends inside an instruction")]
+    Unfinished,
+    /// A6: a label that an earlier one has set already.
+    #[error("A6 label set twice")]
+    LabelSetTwice,
+    /// A7: a label of an operand that is set nowhere.
+    #[error("A7 label not defined")]
+    LabelNotSet,
+    /// A8: a target that isn't after its jump.
+    #[error("A8 target is not after the jump")]
+    NotAfter,
+    /// A9: a target of a conditional jump with an offset above 255.
+    #[error("A9 conditional target further than 255")]
+    TooFar,
+    /// A10: more than 4096 instructions.
+    #[error("A10 more than 4096 instructions")]
+    TooMany,
+    /// A11: no instruction at all.
+    #[error("A11 no instruction")]
+    NoInstruction,
+}
+
+/// Why a source text has no instructions.
+#[derive(Clone, Copy, Debug, PartialEq, Eq, Error)]
+pub enum AsmFault {
+    /// The allocator refused.
+    #[error("out of memory")]
+    Memory,
+    /// What is wrong, and the line of the token that shows it, counted from 1.
+    #[error("line {1}: {0}")]
+    At(AsmKind, u64),
+}

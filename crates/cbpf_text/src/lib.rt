@@ -1,0 +1,23 @@
+//! The assembler: source text in, instructions out.
+//!
+//! Mnemonics, addressing modes and labels are those of the kernel's
+//! Documentation/networking/filter; comments, number spellings and refusals are this
+//! project's own.
+#![tactic(auto)]
+
+mod assembler;
+mod encode;
+mod fault;
+mod labels;
+mod law;
+mod operand;
+mod refusal;
+mod source;
+#[cfg(test)]
+mod tests;
+
+pub use assembler::assemble;
+pub use cbpf_lex::{Kind, Token};
+pub use fault::{AsmFault, AsmKind};
+pub use law::one_assembly;
+pub use source::tokens;

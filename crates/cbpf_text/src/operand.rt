@@ -1,0 +1,68 @@
+//! The literal and the targets of an instruction.
+
+ghost use Rattle.std.specs.Prelude.{◌≡◌, slice_get, option_map};
+ghost use Rattle.cbpf_grammar.specs.Views.{class_of, symbol_of, lexeme_of, item_of};
+ghost use Rattle.cbpf_text.specs.Labels.{bytes_of};
+ghost use Rattle.cbpf_text.specs.Operands.{value_at, literal_in, targets_in};
+
+use cbpf_code::{ext_named, ext_offset};
+use cbpf_grammar::{Class, Item, Lexeme, Symbol};
+
+/// The first offset of an extension.
+const EXTENSIONS: u32 = 0xffff_f000;
+
+/// The bytes of a word, none of another token.
+pub fn name_of<'a>(symbol: Symbol<'a>) -> &'a [u8]
+    ensures { result.now ≡ bytes_of (symbol_of symbol.entry) }
+{
+    match symbol {
+        Symbol::Word(name) => name,
+        _ => &[],
+    }
+}
+
+/// The value of a token at its class, where it has one.
+fn value_at(class: Class, symbol: Symbol<'_>) -> Option<u32>
+    ensures { result ≡ value_at (class_of class) (symbol_of symbol.entry) }
+{
+    match (class, symbol) {
+        (Class::Literal, Symbol::Number(n)) => Some(n),
+        (Class::Negated, Symbol::Number(n)) => Some(n.wrapping_neg()),
+        (Class::Extension, Symbol::Word(name)) => Some(EXTENSIONS + ext_offset(ext_named(name)?)),
+        _ => None,
+    }
+}
+
+/// The literal of an instruction, 0 where it has none.
+pub fn literal(item: &Item<'_>) -> u32
+    ensures { result ≡ literal_in (item_of item.now) }
+{
+    let operand = item.row.operand;
+    let mut i = 0;
+    while i < operand.len() && i + 1 < item.body.len() {
+        if let Some(value) = value_at(operand[i], item.body[i + 1].symbol) {
+            return value;
+        }
+        i += 1;
+    }
+    0
+}
+
+/// The label in an instruction's operand before which stand this many.
+pub fn target<'a>(item: &Item<'a>, number: usize) -> Option<Lexeme<'a>>
+    ensures { option_map lexeme_of result ≡ slice_get (targets_in (item_of item.now)) number }
+{
+    let operand = item.row.operand;
+    let mut left = number;
+    let mut i = 0;
+    while i < operand.len() && i + 1 < item.body.len() {
+        if let Class::Name = operand[i] {
+            if left == 0 {
+                return Some(item.body[i + 1]);
+            }
+            left -= 1;
+        }
+        i += 1;
+    }
+    None
+}

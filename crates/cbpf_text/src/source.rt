@@ -1,0 +1,44 @@
+//! The tokens of a source text, and what is told of one that has none.
+
+ghost use Rattle.std.specs.Prelude.{◌≡◌, IfOk, IfErr, All};
+ghost use Rattle.cbpf_lex.specs.Tokens.{Lexes, IsSpanOf, line_of};
+ghost use Rattle.cbpf_text.specs.Refusals.{IsLexRefused, piece_kind};
+
+use crate::fault::{AsmFault, AsmKind};
+use cbpf_lex::{BadPiece, LexFault, Token};
+use std::alloc::Allocator;
+
+fn piece_kind(bad: BadPiece) -> AsmKind
+    ensures { result ≡ piece_kind bad }
+{
+    match bad {
+        BadPiece::NoToken => AsmKind::NoToken,
+        BadPiece::OpenComment => AsmKind::OpenComment,
+        BadPiece::LargeNumber => AsmKind::LargeNumber,
+    }
+}
+
+/// The line of a place in the text, counted from 1. A place behind the text is its end's.
+pub fn line_of(text: &[u8], at: usize) -> u64
+    ensures { result ≡ line_of text.now at }
+{
+    cbpf_lex::line_of(text, at.min(text.len()))
+}
+
+/// The tokens of a source text, in order, each with its place.
+///
+/// # Errors
+///
+/// A1, A2, or A3 of a number above 4294967295: the first in the text, with its line.
+/// `Memory` tells that the allocator refused, whatever the text is.
+pub fn tokens<A: Allocator>(alloc: A, text: &[u8]) -> Result<Vec<Token, A>, AsmFault>
+    ensures lexed { IfOk result (λ v. Lexes text.now v.items) }
+    ensures spans { IfOk result (λ v. All (IsSpanOf text.now) v.items) }
+    ensures refused { IfErr result (IsLexRefused text.now) }
+{
+    match cbpf_lex::tokens(alloc, text) {
+        Ok(found) => Ok(found),
+        Err(LexFault::Memory) => Err(AsmFault::Memory),
+        Err(LexFault::At(bad, line)) => Err(AsmFault::At(piece_kind(bad), line)),
+    }
+}
