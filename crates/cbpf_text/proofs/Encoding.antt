@@ -77,9 +77,11 @@ uses_split k [] i d l = absurd (omega arith)
 uses_split k (x ∷ is) zero d l = let e : k ≡ k + 0 = omega arith in (uses_from (k + 1) (map item_of is), ap (λ n. uses_of n (item_of x) ++ uses_from (k + 1) (map item_of is)) e)
 uses_split k (x ∷ is) (suc i) d l =
     let s = uses_split (k + 1) is i d (omega arith) in
-    let e : k + 1 + i ≡ k + suc i = omega arith in
-    (s.0, ap (λ us. uses_of k (item_of x) ++ us) (s.1 ∙ ap (λ n. uses_from (k + 1) (map item_of (take i is)) ++ (uses_of n (item_of (get_or is i d)) ++ s.0)) e)
-    ∙ sym (append_assoc (uses_of k (item_of x)) (uses_from (k + 1) (map item_of (take i is))) (uses_of (k + suc i) (item_of (get_or is i d)) ++ s.0)))
+    let e : k + 1 + i ≡ k + suc i = omega arith in (
+      s.0,
+      ap (λ us. uses_of k (item_of x) ++ us) (s.1 ∙ ap (λ n. uses_from (k + 1) (map item_of (take i is)) ++ (uses_of n (item_of (get_or is i d)) ++ s.0)) e)
+          ∙ sym (append_assoc (uses_of k (item_of x)) (uses_from (k + 1) (map item_of (take i is))) (uses_of (k + suc i) (item_of (get_or is i d)) ++ s.0)),
+    )
 
 bad_behind : (all : List Item) (front uses rest : List Use) (kind : AsmKind) (at : ℕ) → All (IsGoodUse all) front → IsFirstBadUse all uses kind at → IsFirstBadUse all (front ++ (uses ++ rest)) kind at
 bad_behind all front uses rest kind at g b = record {
@@ -102,5 +104,5 @@ bad_among is i d insns r l f p h =
     let forms : All HasForm front = all_prefix HasForm front (map item_of (get_or is i d ∷ drop (suc i) is)) (subst (All HasForm) cut f) in
     told_more (IsFirstBadUse (map item_of is) (uses_of i (item_of (get_or is i d)))) (IsFirstBadUse (map item_of is) (uses_from 0 (map item_of is))) r
     (λ kind at b. subst (λ us. IsFirstBadUse (map item_of is) us kind at) (sym (s.1 ∙ ap (λ n. uses_from 0 front ++ (uses_of n (item_of (get_or is i d)) ++ s.0)) z))
-      (bad_behind (map item_of is) (uses_from 0 front) (uses_of i (item_of (get_or is i d))) s.0 kind at (good_uses (map item_of is) 0 front insns p forms) b))
+    (bad_behind (map item_of is) (uses_from 0 front) (uses_of i (item_of (get_or is i d))) s.0 kind at (good_uses (map item_of is) 0 front insns p forms) b))
     h

@@ -34,6 +34,7 @@ distinct_more ts t h z =
   where
     new : times_among (ts ++ (t ∷ [])) (name_of t) ≡ 1
     new = omega (arith, times_append ts (t ∷ []) (name_of t), z, times_hit t (name_of t) (bytes_eq_self (name_of t)))
+
     old : (u : Lexeme) → times_among ts (name_of u) ≡ 1 → (b : Bool) → bytes_eq (name_of t) (name_of u) ≡ b → times_among (ts ++ (t ∷ [])) (name_of u) ≡ 1
     old u e true p = let s : times_among ts (name_of t) ≡ times_among ts (name_of u) = ap (times_among ts) (same_bytes_now (name_of t) (name_of u) p) in absurd (omega (arith, s, e, z))
     old u e false p = omega (arith, times_append ts (t ∷ []) (name_of u), e, times_miss t (name_of u) p)
@@ -93,6 +94,7 @@ place_more ls l name new = by_test (bytes_eq (name_of l.word) name) refl ∙ sym
     none_more : (o : Option ℕ) → o ≡ or_else o None
     none_more None = refl
     none_more (Some p) = refl
+
     by_test : (t : Bool) → bytes_eq (name_of l.word) name ≡ t → cond t (Some l.place) (place_among ls name) ≡ or_else (place_among ls name) (cond t (Some l.place) None)
     by_test true e = let n : place_among ls name ≡ None = sym (ap (place_among ls) (same_bytes_now (name_of l.word) name e)) ∙ new in rw n refl
     by_test false e = none_more (place_among ls name)

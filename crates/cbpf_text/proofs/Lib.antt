@@ -8,3 +8,4 @@ pub mod Forms
 pub mod Encoding
 pub mod OneAssembly
 pub mod Faults
+pub mod NeverBoth

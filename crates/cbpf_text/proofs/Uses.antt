@@ -68,5 +68,5 @@ pub second_told : (is : List Item) (index : ℕ) (item : Item) (o q : Option Lex
 second_told is index item o q n r e t u s h =
     told_more (IsTargetFault is index true q) (IsFirstBadUse is (uses_of index item)) r
     (λ kind at p. subst (λ (g : Fields). IsFirstBadUse is (map (use_of index (is_conditional g)) (targets_in item)) kind at) (sym e)
-      (second_bad is index (targets_in item) n kind at (subst (λ (v : Option Lexeme). IsShortOffset is index v n) t s) (subst (λ (v : Option Lexeme). IsTargetFault is index true v kind at) u p)))
+    (second_bad is index (targets_in item) n kind at (subst (λ (v : Option Lexeme). IsShortOffset is index v n) t s) (subst (λ (v : Option Lexeme). IsTargetFault is index true v kind at) u p)))
     h

@@ -20,10 +20,7 @@ use std::alloc::Allocator;
 const MOST_INSTRUCTIONS: usize = 4096;
 
 /// The instructions of items.
-fn encode_items<A: Allocator + Copy>(
-    alloc: A,
-    items: &[Item<'_>],
-) -> Result<Vec<Insn, A>, Refusal>
+fn encode_items<A: Allocator + Copy>(alloc: A, items: &[Item<'_>]) -> Result<Vec<Insn, A>, Refusal>
     requires { All HasForm (map item_of items.now) }
     ensures encoded { IfOk result (λ v. AreEncoded (map item_of items.now) v.items) }
     ensures refused { IfErr result (Told (IsItemsFault (map item_of items.now))) }

@@ -1,8 +1,9 @@
-//! A law of the definitions, which holds whatever a program does.
+//! Laws of the definitions, which hold whatever a program does.
 
-ghost use Rattle.cbpf_text.specs.Laws.{OneAssembly};
+ghost use Rattle.cbpf_text.specs.Laws.{OneAssembly, NeverBoth};
 
-/// A text assembles to at most one list of instructions.
+/// A text assembles to at most one list of instructions, and one that does isn't refused.
 pub fn one_assembly()
-    ensures { OneAssembly }
+    ensures list { OneAssembly }
+    ensures never_both { NeverBoth }
 {}

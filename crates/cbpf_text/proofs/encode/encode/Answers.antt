@@ -10,22 +10,22 @@ pub returns-in_err-offset-in-Goto-clause-refused : goal.returns-in_err-offset-in
 returns-in_err-offset-in-Goto-clause-refused g c is r =
     let p = err_from_is_err_and c.from_residual.result c.from_residual.ensures.1 in
     rw p.1 (subst (Told (IsFirstBadUse is (uses_of c.args.index (item_of c.args.item.now)))) (sym p.2)
-      (first_told is c.args.index (item_of c.args.item.now) Goto _ c.in_err-offset-in-Goto.field-0.0 c.in-Goto.is c.target-first.ensures (c.in_err-offset-in-Goto.ensures.refused is r)))
+    (first_told is c.args.index (item_of c.args.item.now) Goto _ c.in_err-offset-in-Goto.field-0.0 c.in-Goto.is c.target-first.ensures (c.in_err-offset-in-Goto.ensures.refused is r)))
 
 pub returns-in_err-short_offset-in-Branch-clause-refused : goal.returns-in_err-short_offset-in-Branch-clause-refused
 returns-in_err-short_offset-in-Branch-clause-refused g c is r =
     let p = err_from_is_err_and c.from_residual-in_err-short_offset-in-Branch.result c.from_residual-in_err-short_offset-in-Branch.ensures.1 in
     rw p.1 (subst (Told (IsFirstBadUse is (uses_of c.args.index (item_of c.args.item.now)))) (sym p.2)
-      (first_told is c.args.index (item_of c.args.item.now) Branch _ c.in_err-short_offset-in-Branch.field-0.0 c.in-Branch.is c.target-first.ensures (c.in_err-short_offset-in-Branch.ensures.refused is r)))
+    (first_told is c.args.index (item_of c.args.item.now) Branch _ c.in_err-short_offset-in-Branch.field-0.0 c.in-Branch.is c.target-first.ensures (c.in_err-short_offset-in-Branch.ensures.refused is r)))
 
 pub returns-in_err-short_offset-in-Branch-2-clause-refused : goal.returns-in_err-short_offset-in-Branch-2-clause-refused
 returns-in_err-short_offset-in-Branch-2-clause-refused g c is r =
     let p = err_from_is_err_and c.from_residual-in_err-short_offset-in-Branch-2.result c.from_residual-in_err-short_offset-in-Branch-2.ensures.1 in
     rw p.1 (subst (Told (IsFirstBadUse is (uses_of c.args.index (item_of c.args.item.now)))) (sym p.2)
-      (second_told is c.args.index (item_of c.args.item.now) _ _ c.in_ok-short_offset-in-Branch.field-0 c.in_err-short_offset-in-Branch-2.field-0.0 c.in-Branch.is c.target-first.ensures c.target.ensures (c.in_ok-short_offset-in-Branch.ensures.found is r) (c.in_err-short_offset-in-Branch-2.ensures.refused is r)))
+    (second_told is c.args.index (item_of c.args.item.now) _ _ c.in_ok-short_offset-in-Branch.field-0 c.in_err-short_offset-in-Branch-2.field-0.0 c.in-Branch.is c.target-first.ensures c.target.ensures (c.in_ok-short_offset-in-Branch.ensures.found is r) (c.in_err-short_offset-in-Branch-2.ensures.refused is r)))
 
 pub returns-in_err-short_offset-in-Swapped-clause-refused : goal.returns-in_err-short_offset-in-Swapped-clause-refused
 returns-in_err-short_offset-in-Swapped-clause-refused g c is r =
     let p = err_from_is_err_and c.from_residual-in_err-short_offset-in-Swapped.result c.from_residual-in_err-short_offset-in-Swapped.ensures.1 in
     rw p.1 (subst (Told (IsFirstBadUse is (uses_of c.args.index (item_of c.args.item.now)))) (sym p.2)
-      (first_told is c.args.index (item_of c.args.item.now) Swapped _ c.in_err-short_offset-in-Swapped.field-0.0 c.in-Swapped.is c.target-first.ensures (c.in_err-short_offset-in-Swapped.ensures.refused is r)))
+    (first_told is c.args.index (item_of c.args.item.now) Swapped _ c.in_err-short_offset-in-Swapped.field-0.0 c.in-Swapped.is c.target-first.ensures (c.in_err-short_offset-in-Swapped.ensures.refused is r)))

@@ -10,7 +10,7 @@ returns-in_err-encode-clause-refused g c r =
     let all = map item_of c.args.items.now in
     let p = err_from_is_err_and c.from_residual.result c.from_residual.ensures.1 in
     rw p.1 (subst (Told (IsFirstBadUse all (uses_from 0 all))) (sym p.2)
-      (bad_among c.args.items.now c.loop-i.i _ c.loop-i.insns.items c.in_err-encode.field-0.0 c.loop-i-test.true c.requires.forms (c.loop-i.invariant r) (c.in_err-encode.ensures.refused all r)))
+    (bad_among c.args.items.now c.loop-i.i _ c.loop-i.insns.items c.in_err-encode.field-0.0 c.loop-i-test.true c.requires.forms (c.loop-i.invariant r) (c.in_err-encode.ensures.refused all r)))
 
 pub loop-i-preserved : goal.loop-i-preserved
 loop-i-preserved g c r =

@@ -11,8 +11,8 @@ returns-then-contains_key-clause-refused g c =
 pub loop-label-preserved : goal.loop-label-preserved
 loop-label-preserved g c = (
   λ k. c.in_ok-insert.ensures.updates.0 k
-  ∙ (ap (cond (bytes_eq c.name_of-name.result.now k.now) (Some _)) (c.loop-label.invariant.0 k)
-  ∙ table_grows c.args.labels.now c.loop-label.label-index _ c.name_of-name.result.now c.loop-label-test.true c.name_of-name.ensures _ (c.loop-label.invariant.0 c.name_of-name.result) c.if-contains_key.ensures k.now),
+      ∙ (ap (cond (bytes_eq c.name_of-name.result.now k.now) (Some _)) (c.loop-label.invariant.0 k)
+      ∙ table_grows c.args.labels.now c.loop-label.label-index _ c.name_of-name.result.now c.loop-label-test.true c.name_of-name.ensures _ (c.loop-label.invariant.0 c.name_of-name.result) c.if-contains_key.ensures k.now),
   distinct_grows c.args.labels.now c.loop-label.label-index _ c.name_of-name.result.now c.loop-label-test.true c.name_of-name.ensures c.loop-label.invariant.1 _ (c.loop-label.invariant.0 c.name_of-name.result) c.if-contains_key.ensures,
 )
 

@@ -1,5 +1,9 @@
-use Rattle.cbpf_text.proofs.OneAssembly as laws
+use Rattle.cbpf_text.proofs.OneAssembly as assembly
+use Rattle.cbpf_text.proofs.NeverBoth as refusal
 use Rattle.cbpf_text.proofs.law.one_assembly.Goals as goal
 
-pub returns : goal.returns
-returns c = laws.one_assembly
+pub returns-clause-list : goal.returns-clause-list
+returns-clause-list c = assembly.one_assembly
+
+pub returns-clause-never_both : goal.returns-clause-never_both
+returns-clause-never_both c = refusal.never_both
