@@ -8,7 +8,7 @@ PROGRAM = crates/cbpf/out/cbpf
 help: ## Lists the targets.
 	@grep -E '^[a-z]+:.*##' Makefile | sed -E 's/:.*## /\t/'
 
-build: ## Proves and builds the program; from nothing that takes some ten minutes on two cores, later seconds.
+build: ## Proves and builds the program; from nothing some ten minutes by estimate, later one or two.
 	cd crates/cbpf && rt run < /dev/null > /dev/null
 
 demo: build ## Builds the proved program, and runs an example script through it, showing script and replies.
@@ -17,7 +17,7 @@ demo: build ## Builds the proved program, and runs an example script through it,
 	@echo '== its replies'
 	@cd examples && ../$(PROGRAM) < arp.dbg
 
-check: ## The gate: proves all crates and their tests from nothing, tries the must-fail edits, runs all tests; that takes about an hour on two cores.
+check: ## The gate: proves all crates and their tests from nothing, tries the must-fail edits, runs all tests; about an hour on two cores, by estimate.
 	rt ci
 	python3 tests/run.py $(PROGRAM)
 
