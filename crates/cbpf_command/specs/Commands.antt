@@ -1,7 +1,8 @@
--- The debugger's commands, and how lines spell them (kernel documentation, networking/filter, on `bpf_dbg`).
-use Rattle.std.specs.Prelude.{ℕ, if◌then◌else◌, List, [], ◌∷◌, Option, Some, None, option_map, Result, Ok, Err, codes, bytes_eq}
+-- The debugger's commands, and how lines spell them (kernel documentation, networking/filter, on `bpf_dbg`; `breakpoint reset`, `delete`, `mark`, `resume` and `stops` are this project's own).
+use Rattle.std.specs.Prelude.{ℕ, ◌-◌, ◌^◌, ℤ, pos, if◌then◌else◌, List, [], ◌∷◌, Option, Some, None, option_map, Result, Ok, Err, codes, bytes_eq}
 use Rattle.std.specs.Str.{is_utf8}
 use Rattle.cbpf_command.specs.Words.{words, behind, trimmed}
+use Rattle.cbpf_command.specs.Numbers.{number, signed_number}
 use Rattle.cbpf_command.specs.declared.command.Verb.{Verb}
 use Rattle.cbpf_command.specs.declared.command.Verb.TheVariants as verb
 use Rattle.cbpf_command.specs.declared.command.LineRefusal.{LineRefusal}
@@ -9,31 +10,94 @@ use Rattle.cbpf_command.specs.declared.command.LineRefusal.TheVariants.{UnknownC
 use Rattle.cbpf_command.specs.declared.command.Command.{Command}
 use Rattle.cbpf_command.specs.declared.command.Command.TheVariants as command
 
--- a command, with the bytes that its line gives
+-- a command, with the bytes and numbers that its line gives
 pub data Spelled : Type 0 where
   load_words : (text : List ℕ) → Spelled
   load_capture : (name : List ℕ) → Spelled
+  run : (limit : Option ℕ) → Spelled
+  disassemble : Spelled
   dump : Spelled
+  breakpoint : (n : ℕ) → Spelled
+  breakpoints : Spelled
+  reset_breakpoints : Spelled
+  delete : (n : ℕ) → Spelled
+  step : (n : ℤ) → Spelled
+  select : (n : ℕ) → Spelled
+  mark : Spelled
+  resume : (packet step : ℕ) → Spelled
+  stops : Spelled
   quit : Spelled
 
 -- what a `Command` stands for
 abbrev pub meaning : Command → Spelled
 meaning (command.LoadWords text) = load_words text.now
 meaning (command.LoadCapture name) = load_capture name.now
+meaning (command.Run limit) = run limit
+meaning command.Disassemble = disassemble
 meaning command.Dump = dump
+meaning (command.Breakpoint n) = breakpoint n
+meaning command.Breakpoints = breakpoints
+meaning command.ResetBreakpoints = reset_breakpoints
+meaning (command.Delete n) = delete n
+meaning (command.Step n) = step n
+meaning (command.Select n) = select n
+meaning command.Mark = mark
+meaning (command.Resume packet s) = resume packet s
+meaning command.Stops = stops
 meaning command.Quit = quit
 
 -- the first words of commands
 abbrev pub verb_named : List ℕ → Option Verb
 verb_named w =
     if bytes_eq w (codes "load") then Some verb.Load
+    else (if bytes_eq w (codes "run") then Some verb.Run
+    else (if bytes_eq w (codes "disassemble") then Some verb.Disassemble
     else (if bytes_eq w (codes "dump") then Some verb.Dump
-    else (if bytes_eq w (codes "quit") then Some verb.Quit else None))
+    else (if bytes_eq w (codes "breakpoint") then Some verb.Breakpoint
+    else (if bytes_eq w (codes "delete") then Some verb.Delete
+    else (if bytes_eq w (codes "step") then Some verb.Step
+    else (if bytes_eq w (codes "select") then Some verb.Select
+    else (if bytes_eq w (codes "mark") then Some verb.Mark
+    else (if bytes_eq w (codes "resume") then Some verb.Resume
+    else (if bytes_eq w (codes "stops") then Some verb.Stops
+    else (if bytes_eq w (codes "quit") then Some verb.Quit else None)))))))))))
 
 -- a command without arguments
 abbrev pub alone : Spelled → List (List ℕ) → Option Spelled
 alone c [] = Some c
 alone c (w ∷ ws) = None
+
+-- one number of 64 bits, and no more
+abbrev pub sole_number : List (List ℕ) → Option ℕ
+sole_number (w ∷ []) = number (2 ^ 64 - 1) w
+sole_number _ = None
+
+-- how many packets at most; without a number there is no limit
+abbrev pub run_by : List (List ℕ) → Option Spelled
+run_by [] = Some (run None)
+run_by (w ∷ []) = option_map (λ n. run (Some n)) (number (2 ^ 64 - 1) w)
+run_by _ = None
+
+abbrev pub breakpoint_by : List (List ℕ) → Option Spelled
+breakpoint_by [] = Some breakpoints
+breakpoint_by (w ∷ []) = if bytes_eq w (codes "reset") then Some reset_breakpoints else option_map breakpoint (number (2 ^ 64 - 1) w)
+breakpoint_by _ = None
+
+-- how many instructions, to and fro; without a number it is one
+abbrev pub step_by : List (List ℕ) → Option Spelled
+step_by [] = Some (step (pos 1))
+step_by (w ∷ []) = option_map step (signed_number (2 ^ 63 - 1) w)
+step_by _ = None
+
+abbrev pub resume_at : Option ℕ → Option ℕ → Option Spelled
+resume_at (Some p) (Some s) = Some (resume p s)
+resume_at (Some p) None = None
+resume_at None s = None
+
+-- a packet's number of 64 bits, and a step of 32
+abbrev pub resume_by : List (List ℕ) → Option Spelled
+resume_by (p ∷ s ∷ []) = resume_at (number (2 ^ 64 - 1) p) (number (2 ^ 32 - 1) s)
+resume_by _ = None
 
 -- a word text is not empty
 abbrev pub words_in : List ℕ → Option Spelled
@@ -54,7 +118,16 @@ load_by (w ∷ ws) text =
 -- by the words behind the verb; `text` is what stands behind the first of them, without the blanks around it
 abbrev pub spelled_by : Verb → List (List ℕ) → List ℕ → Option Spelled
 spelled_by verb.Load ws text = load_by ws text
+spelled_by verb.Run ws text = run_by ws
+spelled_by verb.Disassemble ws text = alone disassemble ws
 spelled_by verb.Dump ws text = alone dump ws
+spelled_by verb.Breakpoint ws text = breakpoint_by ws
+spelled_by verb.Delete ws text = option_map delete (sole_number ws)
+spelled_by verb.Step ws text = step_by ws
+spelled_by verb.Select ws text = option_map select (sole_number ws)
+spelled_by verb.Mark ws text = alone mark ws
+spelled_by verb.Resume ws text = resume_by ws
+spelled_by verb.Stops ws text = alone stops ws
 spelled_by verb.Quit ws text = alone quit ws
 
 abbrev pub or_wrong : Option Spelled → Result (Option Spelled) LineRefusal

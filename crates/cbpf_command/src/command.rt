@@ -1,9 +1,12 @@
 // Commands, and how lines spell them.
-ghost use Rattle.std.specs.Prelude.{◌≡◌};
+ghost use Rattle.std.specs.Prelude.{◌≡◌, ℕ, List};
 ghost use Rattle.std.specs.Option.{option_map};
 ghost use Rattle.cbpf_command.specs.Commands as spec;
 ghost use Rattle.cbpf_command.specs.Words.{words, behind, trimmed};
+ghost use Rattle.cbpf_command.specs.Arguments.{Holds};
 
+use crate::arguments::{Arguments, arguments_in};
+use crate::number::{number, number_32, signed_number};
 use crate::scan::{next_word, trimmed};
 use std::str::from_utf8;
 
@@ -14,8 +17,36 @@ pub enum Command<'a> {
     LoadWords(&'a [u8]),
     /// `load pcap <name>`: the name is the rest of the line, without the blanks around it.
     LoadCapture(&'a str),
+    /// `run [n]`: up to a hit, or until n packets are finished. An n of 0 is no wrong argument.
+    Run(Option<u64>),
+    /// `disassemble`
+    Disassemble,
     /// `dump`
     Dump,
+    /// `breakpoint n`: at instruction n, from 0.
+    Breakpoint(u64),
+    /// `breakpoint`: the list of breakpoints.
+    Breakpoints,
+    /// `breakpoint reset`
+    ResetBreakpoints,
+    /// `delete n`: the breakpoint at instruction n.
+    Delete(u64),
+    /// `step [n | +n | -n]`: on by n instructions, or back where n is below 0; one without a number.
+    /// The least number of the type never stands here.
+    Step(i64),
+    /// `select n`: before packet n, from 1.
+    Select(u64),
+    /// `mark`: the place, as `resume` takes it.
+    Mark,
+    /// `resume p s`: to a place that `mark` told.
+    Resume {
+        /// The packet's number, from 1.
+        packet: u64,
+        /// How many of its instructions were reached; 0 is before the first.
+        step: u32,
+    },
+    /// `stops`: the hits ahead.
+    Stops,
     /// `quit`
     Quit,
 }
@@ -33,7 +64,16 @@ pub enum LineRefusal {
 #[derive(Clone, Copy)]
 enum Verb {
     Load,
+    Run,
+    Disassemble,
     Dump,
+    Breakpoint,
+    Delete,
+    Step,
+    Select,
+    Mark,
+    Resume,
+    Stops,
     Quit,
 }
 
@@ -42,19 +82,81 @@ fn verb_of(word: &[u8]) -> Option<Verb>
 {
     match word {
         b"load" => Some(Verb::Load),
+        b"run" => Some(Verb::Run),
+        b"disassemble" => Some(Verb::Disassemble),
         b"dump" => Some(Verb::Dump),
+        b"breakpoint" => Some(Verb::Breakpoint),
+        b"delete" => Some(Verb::Delete),
+        b"step" => Some(Verb::Step),
+        b"select" => Some(Verb::Select),
+        b"mark" => Some(Verb::Mark),
+        b"resume" => Some(Verb::Resume),
+        b"stops" => Some(Verb::Stops),
         b"quit" => Some(Verb::Quit),
         _ => None,
     }
 }
 
 /// A command that has no arguments, if there are none.
-fn alone<'a>(text: &[u8], command: Command<'a>) -> Option<Command<'a>>
-    ensures { option_map spec.meaning result ≡ spec.alone (spec.meaning command.entry) (words text.now) }
+fn alone<'a>(arguments: Arguments<'a>, command: Command<'a>) -> Option<Command<'a>>
+    ensures { (ws : List (List ℕ)) → Holds ws arguments.entry → option_map spec.meaning result ≡ spec.alone (spec.meaning command.entry) ws }
 {
-    match next_word(text) {
-        None => Some(command),
-        Some(_) => None,
+    match arguments {
+        Arguments::Zero => Some(command),
+        _ => None,
+    }
+}
+
+/// The one argument, a number.
+fn sole_number(arguments: Arguments<'_>) -> Option<u64>
+    ensures { (ws : List (List ℕ)) → Holds ws arguments.entry → result ≡ spec.sole_number ws }
+{
+    match arguments {
+        Arguments::One(word) => number(word, u64::MAX),
+        _ => None,
+    }
+}
+
+fn run_by(arguments: Arguments<'_>) -> Option<Command<'_>>
+    ensures { (ws : List (List ℕ)) → Holds ws arguments.entry → option_map spec.meaning result ≡ spec.run_by ws }
+{
+    match arguments {
+        Arguments::Zero => Some(Command::Run(None)),
+        Arguments::One(word) => Some(Command::Run(Some(number(word, u64::MAX)?))),
+        _ => None,
+    }
+}
+
+fn breakpoint_by(arguments: Arguments<'_>) -> Option<Command<'_>>
+    ensures { (ws : List (List ℕ)) → Holds ws arguments.entry → option_map spec.meaning result ≡ spec.breakpoint_by ws }
+{
+    match arguments {
+        Arguments::Zero => Some(Command::Breakpoints),
+        Arguments::One(b"reset") => Some(Command::ResetBreakpoints),
+        Arguments::One(word) => Some(Command::Breakpoint(number(word, u64::MAX)?)),
+        _ => None,
+    }
+}
+
+fn step_by(arguments: Arguments<'_>) -> Option<Command<'_>>
+    ensures { (ws : List (List ℕ)) → Holds ws arguments.entry → option_map spec.meaning result ≡ spec.step_by ws }
+{
+    match arguments {
+        Arguments::Zero => Some(Command::Step(1)),
+        Arguments::One(word) => Some(Command::Step(signed_number(word)?)),
+        _ => None,
+    }
+}
+
+fn resume_by(arguments: Arguments<'_>) -> Option<Command<'_>>
+    ensures { (ws : List (List ℕ)) → Holds ws arguments.entry → option_map spec.meaning result ≡ spec.resume_by ws }
+{
+    match arguments {
+        Arguments::Two(packet, step) => Some(Command::Resume {
+            packet: number(packet, u64::MAX)?,
+            step: number_32(step)?,
+        }),
+        _ => None,
     }
 }
 
@@ -94,10 +196,20 @@ fn load_by(text: &[u8]) -> Option<Command<'_>>
 fn command_by(verb: Verb, text: &[u8]) -> Option<Command<'_>>
     ensures { option_map spec.meaning result ≡ spec.spelled_by verb (words text.now) (trimmed (behind 1 text.now)) }
 {
+    let arguments = arguments_in(text);
     match verb {
         Verb::Load => load_by(text),
-        Verb::Dump => alone(text, Command::Dump),
-        Verb::Quit => alone(text, Command::Quit),
+        Verb::Run => run_by(arguments),
+        Verb::Disassemble => alone(arguments, Command::Disassemble),
+        Verb::Dump => alone(arguments, Command::Dump),
+        Verb::Breakpoint => breakpoint_by(arguments),
+        Verb::Delete => Some(Command::Delete(sole_number(arguments)?)),
+        Verb::Step => step_by(arguments),
+        Verb::Select => Some(Command::Select(sole_number(arguments)?)),
+        Verb::Mark => alone(arguments, Command::Mark),
+        Verb::Resume => resume_by(arguments),
+        Verb::Stops => alone(arguments, Command::Stops),
+        Verb::Quit => alone(arguments, Command::Quit),
     }
 }
 

@@ -2,7 +2,9 @@
 
 //! The command language of the debugger: what a line says.
 
+mod arguments;
 mod command;
+mod number;
 mod scan;
 
 pub use command::{Command, LineRefusal, command_of};

@@ -1,0 +1,23 @@
+-- The numbers that the words of a line spell (this project's own: the kernel's documentation shows decimal ones).
+use Rattle.std.specs.Prelude.{ℕ, zero, suc, ℤ, pos, negsuc, Bool, true, ◌&&◌, ◌==◌, nat_le, if◌then◌else◌, List, [], ◌∷◌, Option, Some, None, option_map}
+use Rattle.cbpf_code.specs.Marks.{is_digit, number as digits_value}
+
+abbrev pub all_digits : List ℕ → Bool
+all_digits [] = true
+all_digits (b ∷ bs) = is_digit b && all_digits bs
+
+-- a number up to `most`: one decimal digit or more and nothing else, with any number of zeros in front
+abbrev pub number : ℕ → List ℕ → Option ℕ
+number most [] = None
+number most (b ∷ bs) = if all_digits (b ∷ bs) && nat_le (digits_value (b ∷ bs)) most then Some (digits_value (b ∷ bs)) else None
+
+abbrev pub negated : ℕ → ℤ
+negated zero = pos 0
+negated (suc n) = negsuc n
+
+-- a number with or without a sign in front; the least number of a sign bit has no counterpart, and is none
+abbrev pub signed_number : ℕ → List ℕ → Option ℤ
+signed_number most [] = None
+signed_number most (b ∷ bs) =
+    if b == 43 then option_map pos (number most bs)
+    else (if b == 45 then option_map negated (number most bs) else option_map pos (number most (b ∷ bs)))

@@ -1,0 +1,30 @@
+// The words behind a command's first one.
+ghost use Rattle.cbpf_command.specs.Words.{words};
+ghost use Rattle.cbpf_command.specs.Arguments.{Holds};
+
+use crate::scan::next_word;
+
+/// The arguments of a command; none has three.
+#[derive(Clone, Copy)]
+pub enum Arguments<'a> {
+    Zero,
+    One(&'a [u8]),
+    Two(&'a [u8], &'a [u8]),
+    More,
+}
+
+/// The words of a text.
+pub fn arguments_in(text: &[u8]) -> Arguments<'_>
+    ensures { Holds (words text.now) result }
+{
+    let Some((first, text)) = next_word(text) else {
+        return Arguments::Zero;
+    };
+    let Some((second, text)) = next_word(text) else {
+        return Arguments::One(first);
+    };
+    match next_word(text) {
+        None => Arguments::Two(first, second),
+        Some(_) => Arguments::More,
+    }
+}

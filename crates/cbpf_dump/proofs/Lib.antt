@@ -1,0 +1,5 @@
+pub mod SpaceLemmas
+pub mod RunLemmas
+pub mod ScratchLemmas
+pub mod RowLemmas
+pub mod ChainLemmas

@@ -1,0 +1,4 @@
+pub mod Lines
+pub mod Scratch
+pub mod Packet
+pub mod Dump

@@ -1,0 +1,216 @@
+// The dump of a stop.
+ghost use Rattle.std.specs.Prelude.{◌≡◌, ◌<◌, ◌++◌, Some, length, slice_get};
+ghost use Rattle.cbpf_code.specs.Writing.{Wrote};
+ghost use Rattle.cbpf_dump.specs.Lines.{value_line};
+ghost use Rattle.cbpf_dump.specs.Dump as spec;
+
+use crate::packet::write_packet;
+use crate::scratch::write_scratch;
+use crate::value::eight_digits;
+use cbpf_code::{Ext, Insn, Program, WriteFault, ext_name, write_bytes, write_parts};
+use cbpf_listing::write_line;
+use itoa::Buffer;
+use std::alloc::Allocator;
+use std::io::Write;
+
+/// Why a debugger stopped.
+#[derive(Clone, Copy, Debug, PartialEq, Eq)]
+pub enum Reason {
+    /// At a breakpoint.
+    Breakpoint,
+    /// A step was made.
+    Step,
+    /// The instruction asks for an extension, whose value is not known.
+    Extension(Ext),
+}
+
+/// What is shown of a stop, beside the program.
+#[derive(Clone, Copy, Debug)]
+pub struct Dump<'a> {
+    /// The packet's number, from 1.
+    pub packet: u64,
+    /// How many instructions of the packet were reached, with this one.
+    pub step: u32,
+    /// The index of the instruction that comes next; it is less than the program's length.
+    pub pc: u32,
+    /// The accumulator.
+    pub a: u32,
+    /// The index register.
+    pub x: u32,
+    /// The words of scratch memory.
+    pub slots: [u32; 16],
+    /// The packet's captured bytes.
+    pub bytes: &'a [u8],
+    /// The packet's original length.
+    pub wire: u32,
+    pub reason: Reason,
+}
+
+fn write_heading<W: Write>(w: &mut W, packet: u64, step: u32) -> Result<(), WriteFault>
+    ensures { Wrote (W.contents w.old) (W.contents w.new) result (spec.heading packet step) }
+{
+    let (mut packet_buffer, mut step_buffer) = (Buffer::new(), Buffer::new());
+    write_parts(
+        w,
+        &[
+            b"-- packet ",
+            packet_buffer.format(packet).as_bytes(),
+            b", step ",
+            step_buffer.format(step).as_bytes(),
+            b" --\n",
+        ],
+    )
+}
+
+fn write_pc_line<W: Write>(w: &mut W, pc: u32) -> Result<(), WriteFault>
+    ensures { Wrote (W.contents w.old) (W.contents w.new) result (spec.pc_line pc) }
+{
+    let mut buffer = Buffer::new();
+    write_parts(w, &[b"pc:       [", buffer.format(pc).as_bytes(), b"]\n"])
+}
+
+fn write_code_line<W: Write>(w: &mut W, insn: Insn) -> Result<(), WriteFault>
+    ensures { Wrote (W.contents w.old) (W.contents w.new) result (spec.code_line (Some insn)) }
+{
+    let (mut code, mut jt, mut jf, mut k) = (
+        Buffer::new(),
+        Buffer::new(),
+        Buffer::new(),
+        Buffer::new(),
+    );
+    write_parts(
+        w,
+        &[
+            b"code:     [",
+            code.format(insn.code).as_bytes(),
+            b"] jt[",
+            jt.format(insn.jt).as_bytes(),
+            b"] jf[",
+            jf.format(insn.jf).as_bytes(),
+            b"] k[",
+            k.format(insn.k).as_bytes(),
+            b"]\n",
+        ],
+    )
+}
+
+fn write_current_line<W: Write, A: Allocator>(
+    w: &mut W,
+    p: &Program<A>,
+    pc: u32,
+) -> Result<(), WriteFault>
+    requires { pc < length p.now }
+    ensures { Wrote (W.contents w.old) (W.contents w.new) result (spec.current_line p.now pc) }
+{
+    write_bytes(w, b"curr:     ")?;
+    write_line(w, p, pc)?;
+    write_bytes(w, b"\n")
+}
+
+fn write_instruction<W: Write, A: Allocator>(
+    w: &mut W,
+    p: &Program<A>,
+    pc: u32,
+) -> Result<(), WriteFault>
+    requires { pc < length p.now }
+    ensures { Wrote (W.contents w.old) (W.contents w.new) result (spec.instruction_lines p.now pc) }
+{
+    write_pc_line(w, pc)?;
+    write_code_line(w, p.at_index(pc))?;
+    write_current_line(w, p, pc)
+}
+
+fn write_a_line<W: Write>(w: &mut W, a: u32) -> Result<(), WriteFault>
+    ensures { Wrote (W.contents w.old) (W.contents w.new) result (spec.a_line a) }
+{
+    let mut buffer = Buffer::new();
+    write_parts(
+        w,
+        &[
+            b"A:        [",
+            &eight_digits(a),
+            b"][",
+            buffer.format(a).as_bytes(),
+            b"]\n",
+        ],
+    )
+}
+
+fn write_x_line<W: Write>(w: &mut W, x: u32) -> Result<(), WriteFault>
+    ensures { Wrote (W.contents w.old) (W.contents w.new) result (spec.x_line x) }
+{
+    let mut buffer = Buffer::new();
+    write_parts(
+        w,
+        &[
+            b"X:        [",
+            &eight_digits(x),
+            b"][",
+            buffer.format(x).as_bytes(),
+            b"]\n",
+        ],
+    )
+}
+
+fn write_registers<W: Write>(w: &mut W, dump: &Dump<'_>) -> Result<(), WriteFault>
+    ensures { Wrote (W.contents w.old) (W.contents w.new) result (spec.register_lines (spec.shown dump.now)) }
+{
+    write_a_line(w, dump.a)?;
+    write_x_line(w, dump.x)?;
+    write_scratch(w, &dump.slots)
+}
+
+fn write_register_dump<W: Write, A: Allocator>(
+    w: &mut W,
+    p: &Program<A>,
+    dump: &Dump<'_>,
+) -> Result<(), WriteFault>
+    requires { dump.now.pc < length p.now }
+    ensures { Wrote (W.contents w.old) (W.contents w.new) result (spec.register_dump p.now (spec.shown dump.now)) }
+{
+    write_bytes(w, b"-- register dump --\n")?;
+    write_instruction(w, p, dump.pc)?;
+    write_registers(w, dump)
+}
+
+fn write_reason<W: Write>(w: &mut W, reason: Reason) -> Result<(), WriteFault>
+    ensures { Wrote (W.contents w.old) (W.contents w.new) result (spec.reason_line reason) }
+{
+    match reason {
+        Reason::Breakpoint => write_bytes(w, b"(breakpoint)\n"),
+        Reason::Step => write_bytes(w, b"(step)\n"),
+        Reason::Extension(e) => {
+            write_parts(w, &[b"(extension ", ext_name(e).as_bytes(), b")\n"])
+        }
+    }
+}
+
+/// The packet and the reason.
+fn write_ending<W: Write>(w: &mut W, dump: &Dump<'_>) -> Result<(), WriteFault>
+    ensures { Wrote (W.contents w.old) (W.contents w.new) result (spec.packet_and_reason (spec.shown dump.now)) }
+{
+    write_packet(w, dump.bytes, dump.wire)?;
+    write_reason(w, dump.reason)
+}
+
+/// Writes the dump of a stop in a program: the place, the registers before the instruction, the
+/// packet, and the reason.
+///
+/// The caller sees to it that the pc is less than the program's length.
+///
+/// # Errors
+///
+/// The writer fails, or takes nothing of a text that isn't empty; the bytes that it took are a
+/// beginning of the dump.
+pub fn write_dump<W: Write, A: Allocator>(
+    w: &mut W,
+    p: &Program<A>,
+    dump: &Dump<'_>,
+) -> Result<(), WriteFault>
+    requires { dump.now.pc < length p.now }
+    ensures { Wrote (W.contents w.old) (W.contents w.new) result (spec.dump_text p.now (spec.shown dump.now)) }
+{
+    write_heading(w, dump.packet, dump.step)?;
+    write_register_dump(w, p, dump)?;
+    write_ending(w, dump)
+}

@@ -1,0 +1,2 @@
+pub mod Syntax
+pub mod Listing
