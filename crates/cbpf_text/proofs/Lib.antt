@@ -9,3 +9,5 @@ pub mod Encoding
 pub mod OneAssembly
 pub mod Faults
 pub mod NeverBoth
+pub mod ListedNumbers
+pub mod ListedRows
