@@ -11,3 +11,9 @@ pub mod Faults
 pub mod NeverBoth
 pub mod ListedNumbers
 pub mod ListedRows
+pub mod ListedTokens
+pub mod ListedLabels
+pub mod ListedOperands
+pub mod ListedJumps
+pub mod ListedPlaces
+pub mod ListedProgram
