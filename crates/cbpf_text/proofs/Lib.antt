@@ -17,3 +17,4 @@ pub mod ListedOperands
 pub mod ListedJumps
 pub mod ListedPlaces
 pub mod ListedProgram
+pub mod ListedLaw
