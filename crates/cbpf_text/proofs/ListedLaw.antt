@@ -84,14 +84,15 @@ listable all i (insn ∷ insns) sound range here =
     let known = sound_known all i insn sound at in
     let allowed = sound_allowed all i insn known.0 sound at known.1 in
     let inside : i < length all = get_within all i insn at in
-    let ranged : InRange insn = rw (get_or_from_slice_get all i insn insn at) at (range i insn inside) in
-    (record { op = known.0; known = known.1; range = ranged; targets = allowed.targets },
-        listable all (i + 1) insns sound range (λ j x g. let e : i + 1 + j ≡ i + suc j = omega arith in rw e (here (suc j) x g)))
+    let ranged : InRange insn = rw (get_or_from_slice_get all i insn insn at) at (range i insn inside) in (
+      record { op = known.0; known = known.1; range = ranged; targets = allowed.targets },
+      listable all (i + 1) insns sound range (λ j x g. let e : i + 1 + j ≡ i + suc j = omega arith in rw e (here (suc j) x g)),
+    )
 
 program_lists : (list : List Insn) → IsSound list → All InRange list → Lists (length list) 0 list
 program_lists list sound range =
     lists (length list) 0 list (sound_few list sound) (omega arith)
-        (listable list 0 list sound range (λ j x g. let e : 0 + j ≡ j = omega arith in rw e g))
+    (listable list 0 list sound range (λ j x g. let e : 0 + j ≡ j = omega arith in rw e g))
 
 encoded : (list : List Insn) (b : Lists (length list) 0 list) → IsSound list → AreEncoded (b.items 0) (map plain list)
 encoded list b sound =
