@@ -12,6 +12,8 @@ mod fault;
 mod labels;
 mod law;
 mod listing;
+#[cfg(test)]
+mod listing_tests;
 mod operand;
 mod refusal;
 mod source;
