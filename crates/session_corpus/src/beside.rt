@@ -115,6 +115,24 @@ impl<T: Trail> Beside<T> {
         reply
     }
 
+    /// Runs until the end, in one call that finds all stops.
+    pub(crate) fn run_to_end(&mut self, rt: &impl Abort) {
+        let from = self.plain.place;
+        let hits = self.plain.stops(rt);
+        let wanted = self.plain.run_to_end();
+        let mut meter = Meter::new();
+        let mut found = Vec::new(self.alloc);
+        let reply = self.session.run_to_end(&mut meter, &mut found);
+        assert!(rt; reply == wanted);
+        match hits {
+            Ok(hits) => assert!(rt; found.as_slice() == hits.as_slice()),
+            Err(_) => assert!(rt; found.is_empty()),
+        }
+        let turns = self.plain.turns(from, wanted.map(RunReply::Finished));
+        assert!(rt; meter.spent() == turns);
+        self.compare_places(rt);
+    }
+
     pub(crate) fn step(&mut self, rt: &impl Abort, n: i64) {
         let from = self.plain.place;
         let wanted = self.plain.step(rt, n);

@@ -83,7 +83,8 @@ fn command<T: Trail>(rt: &impl Abort, b: &mut Beside<T>, draw: &mut Xorshift) {
         9..=19 => run(rt, b, draw),
         20..=30 => step(rt, b, draw),
         31..=36 => go(rt, b, draw),
-        37 | 38 => b.stops(rt),
+        37 => b.stops(rt),
+        38 => b.run_to_end(rt),
         _ => b.compare_places(rt),
     }
 }

@@ -5,8 +5,8 @@ use crate::corpus::{CAPTURES, PROGRAMS};
 use cbpf_dbg::{Place, RunReply, Trail};
 use std::process::Abort;
 
-/// Runs until the end, which gives each hit after the place once and in order, and then the counts.
-fn run_to_the_end<T: Trail>(rt: &impl Abort, b: &mut Beside<T>) {
+/// Runs one by one until the end, which gives each hit after the place once and in order, and then the counts.
+fn run_from_stop_to_stop<T: Trail>(rt: &impl Abort, b: &mut Beside<T>) {
     let wanted = b.plain.stops(rt).ok().expect(rt, "stops");
     for stop in &wanted {
         assert!(rt; b.run(rt, None) == Ok(RunReply::Stopped(*stop)));
@@ -37,7 +37,9 @@ fn compare_at<T: Trail>(rt: &impl Abort, b: &mut Beside<T>, place: Place) {
     b.stops(rt);
     let _reply = b.run(rt, None);
     b.resume(rt, place);
-    run_to_the_end(rt, b);
+    run_from_stop_to_stop(rt, b);
+    b.resume(rt, place);
+    b.run_to_end(rt);
     runs_with_each_limit(rt, b, place);
     steps_by_each_number(rt, b, place);
 }

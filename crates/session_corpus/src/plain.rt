@@ -2,7 +2,7 @@
 
 use crate::corpus::{Code, Recorded, program};
 use crate::joined::{Entry, Joined, is_before};
-use cbpf_dbg::{Place, RunReply, SessionFault, Stop, Why};
+use cbpf_dbg::{Counts, Place, RunReply, SessionFault, Stop, Why};
 use std::alloc::Global;
 use std::process::Abort;
 
@@ -124,12 +124,19 @@ impl Plain {
         RunReply::Stopped(stop)
     }
 
-    fn finished(&mut self) -> RunReply {
+    /// Goes behind the last packet, and so back to the start.
+    fn finish(&mut self) -> Counts {
         let behind = self.joined.packets().saturating_add(1);
         let counts = self.joined.counts(self.origin, behind);
         self.place = START;
         self.origin = 1;
-        RunReply::Finished(counts)
+        counts
+    }
+
+    /// The counts of runs without a limit until the end.
+    pub(crate) fn run_to_end(&mut self) -> Result<Counts, SessionFault> {
+        self.loaded()?;
+        Ok(self.finish())
     }
 
     pub(crate) fn run(
@@ -153,7 +160,7 @@ impl Plain {
                 };
                 Ok(RunReply::Limit(counts))
             }
-            _ => Ok(self.finished()),
+            _ => Ok(RunReply::Finished(self.finish())),
         }
     }
 
@@ -207,7 +214,7 @@ impl Plain {
         }
         match self.ahead(n.unsigned_abs()) {
             Some(e) => Ok(self.stopped(e.stop(Why::Step))),
-            None => Ok(self.finished()),
+            None => Ok(RunReply::Finished(self.finish())),
         }
     }
 
