@@ -1,25 +1,150 @@
-//! The debugger of classic BPF over standard input and output.
+//! `cbpf`: an assembler and a debugger for classic BPF.
 #![tactic(auto)]
 
-use cbpf_tool::{DiskFiles, ToolFault, debug};
-use std::io::{self, BufWriter};
+use cbpf_tool::{DiskFiles, Form, Job, LineFault, ToolFault, asm, command_line, debug};
+use std::alloc::Global;
+use std::io::{self, BufWriter, ErrorKind, Read, Write};
 use std::process::ExitCode;
-use std::rt::Files;
+use std::rt::{Env, Files};
+use std::{env, fs};
+use thiserror::Error;
 
-fn run<R: Input + Print + Files + Alloc>(rt: &R) -> Result<(), ToolFault> {
-    let Ok(mut writer) = BufWriter::new(rt.alloc(), io::writer(rt)) else {
-        return Err(ToolFault::Memory);
-    };
+/// Why the program failed.
+#[derive(Debug, Drop, Error)]
+enum Failure {
+    #[error("{0}")]
+    Tool(ToolFault),
+    #[error("cannot open {0}")]
+    CannotOpen(String),
+}
+
+impl From<ToolFault> for Failure {
+    fn from(fault: ToolFault) -> Failure {
+        Failure::Tool(fault)
+    }
+}
+
+/// Output that goes out in large pieces.
+fn buffered<O: Write + Drop>(alloc: Global, output: O) -> Result<BufWriter<O>, Failure> {
+    match BufWriter::new(alloc, output) {
+        Ok(writer) => Ok(writer),
+        Err(_) => Err(Failure::Tool(ToolFault::Memory)),
+    }
+}
+
+/// Assembles what a reader gives to the standard output.
+fn assemble_from<R: Print + AllocGlobal, I: Read>(
+    rt: &R,
+    reader: &mut I,
+    form: Form,
+) -> Result<(), Failure> {
+    let mut writer = buffered(rt.alloc(), io::writer(rt))?;
+    asm(rt.alloc(), reader, &mut writer, form)?;
+    Ok(())
+}
+
+fn assemble<R: Input + Print + Files + AllocGlobal>(
+    rt: &R,
+    form: Form,
+    file: Option<String>,
+) -> Result<(), Failure> {
+    match file {
+        None => assemble_from(rt, &mut rt.reader(), form),
+        Some(name) => match fs::open(rt, name.as_str()) {
+            Ok(mut source) => assemble_from(rt, &mut source, form),
+            Err(_) => Err(Failure::CannotOpen(name)),
+        },
+    }
+}
+
+/// Carries out what a reader gives, and writes the replies.
+fn debug_into<R: Files + AllocGlobal, I: Read, O: Write + Drop>(
+    rt: &R,
+    reader: &mut I,
+    replies: O,
+) -> Result<(), Failure> {
+    let mut writer = buffered(rt.alloc(), replies)?;
     let mut files = DiskFiles::new(rt);
-    debug(rt.alloc(), &mut rt.reader(), &mut writer, &mut files)
+    debug(rt.alloc(), reader, &mut writer, &mut files)?;
+    Ok(())
+}
+
+fn debug_from<R: Print + Files + AllocGlobal, I: Read>(
+    rt: &R,
+    reader: &mut I,
+    output: Option<String>,
+) -> Result<(), Failure> {
+    match output {
+        None => debug_into(rt, reader, io::writer(rt)),
+        Some(name) => match fs::create(rt, name.as_str()) {
+            Ok(replies) => debug_into(rt, reader, replies),
+            Err(_) => Err(Failure::CannotOpen(name)),
+        },
+    }
+}
+
+fn debug_commands<R: Input + Print + Files + AllocGlobal>(
+    rt: &R,
+    input: Option<String>,
+    output: Option<String>,
+) -> Result<(), Failure> {
+    match input {
+        None => debug_from(rt, &mut rt.reader(), output),
+        Some(name) => match fs::open(rt, name.as_str()) {
+            Ok(mut commands) => debug_from(rt, &mut commands, output),
+            Err(_) => Err(Failure::CannotOpen(name)),
+        },
+    }
+}
+
+fn carry_out<R: Input + Print + Files + AllocGlobal>(rt: &R, job: Job) -> Result<(), Failure> {
+    match job {
+        Job::Asm { form, file } => assemble(rt, form, file),
+        Job::Dbg { input, output } => debug_commands(rt, input, output),
+    }
+}
+
+/// The words of the command line.
+fn words<R: Env + AllocGlobal>(rt: &R) -> io::Result<Vec<String>> {
+    let mut words = Vec::new(rt.alloc());
+    for word in env::args(rt)? {
+        words.push(word)?;
+    }
+    Ok(words)
+}
+
+fn told<R: Eprint>(rt: &R, failure: &Failure) -> ExitCode {
+    let _ = eprintln!(rt; "cbpf: {failure}");
+    ExitCode::FAILURE
+}
+
+fn run<R: Input + Print + Eprint + Files + AllocGlobal>(rt: &R, words: Vec<String>) -> ExitCode {
+    match command_line(rt.alloc(), words) {
+        Ok(job) => match carry_out(rt, job) {
+            Ok(()) => ExitCode::SUCCESS,
+            Err(failure) => told(rt, &failure),
+        },
+        Err(LineFault::Help(text)) => match print!(rt; "{text}") {
+            Ok(()) => ExitCode::SUCCESS,
+            Err(_) => told(rt, &Failure::Tool(ToolFault::Write)),
+        },
+        Err(LineFault::Refused(text)) => {
+            let _ = eprint!(rt; "{text}");
+            ExitCode::from(2)
+        }
+        Err(LineFault::Memory) => told(rt, &Failure::Tool(ToolFault::Memory)),
+    }
 }
 
 fn main(rt: HostRuntime) -> ExitCode {
-    match run(&rt) {
-        Ok(()) => ExitCode::SUCCESS,
-        Err(fault) => {
-            let _ = eprintln!(rt; "cbpf: {fault}");
-            ExitCode::FAILURE
+    match words(&rt) {
+        Ok(words) => run(&rt, words),
+        Err(e) if e.kind() == ErrorKind::OutOfMemory => {
+            told(&rt, &Failure::Tool(ToolFault::Memory))
+        }
+        Err(_) => {
+            let _ = eprintln!(rt; "cbpf: an argument is not UTF-8");
+            ExitCode::from(2)
         }
     }
 }

@@ -1,9 +1,9 @@
 -- The outcomes of a run of packets.
-use Rattle.std.proofs.Common.{◌≡◌, ℕ, zero, suc, ◌+◌, ◌-◌, ◌<◌, ◌≤◌, List, [], ◌∷◌, ◌++◌, length, drop, take, Bool, true, false, arith, sym, ap, ◌∙◌, subst, refl, cond, add-zero, add-one, length-drop}
+use Rattle.std.proofs.Common.{◌≡◌, ℕ, zero, suc, ◌+◌, ◌-◌, ◌≤◌, List, [], ◌∷◌, ◌++◌, length, drop, take, Bool, arith, ap, ◌∙◌, refl, cond, add-zero, length-drop}
 use Rattle.std.proofs.lemmas.List.Sums.{sum_by-append, count_by-le-length}
 use Rattle.std.proofs.Math.ListN.{length-map}
 use Rattle.cbpf_dbg.specs.declared.reply.Counts.{Counts}
-use Rattle.std.specs.Prelude.{Option, Some, None, slice_get, map, count_by}
+use Rattle.std.specs.Prelude.{Some, slice_get, map, count_by}
 use Rattle.cbpf_code.specs.declared.insn.Insn.{Insn}
 use Rattle.cbpf_machine.specs.declared.outcome.Outcome.{Outcome}
 use Rattle.cbpf_machine.specs.declared.outcome.Outcome.TheVariants as outcome_is

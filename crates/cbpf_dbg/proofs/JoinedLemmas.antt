@@ -1,10 +1,10 @@
 -- The joined list from a place on.
-use Rattle.std.proofs.Common.{◌≡◌, ℕ, zero, suc, ◌+◌, ◌-◌, ◌<◌, ◌≤◌, List, [], ◌∷◌, ◌++◌, length, drop, take, Bool, true, false, arith, sym, ap, ◌∙◌, subst, refl, inl, inr, cond, add-one}
-use Rattle.std.specs.Prelude.{Option, Some, None, slice_get, filter, map, nat_lt, nat_eq, ◌||◌, ◌&&◌, if◌then◌else◌, ◌⊎◌}
+use Rattle.std.proofs.Common.{◌≡◌, ℕ, zero, suc, ◌+◌, ◌-◌, ◌<◌, ◌≤◌, List, [], ◌∷◌, ◌++◌, length, drop, Bool, true, false, arith, sym, ap, ◌∙◌, refl, inl, inr, cond}
+use Rattle.std.specs.Prelude.{Some, slice_get, filter, map}
 use Rattle.std.proofs.lemmas.Bool.Decides.{nat_tests}
 use Rattle.std.proofs.lemmas.List.Elements.{filter-append}
 use Rattle.cbpf_code.specs.declared.insn.Insn.{Insn}
-use Rattle.cbpf_machine.specs.Registers.{Registers, zero_state}
+use Rattle.cbpf_machine.specs.Registers.{Registers}
 use Rattle.cbpf_machine.specs.Step.{turn}
 use Rattle.cbpf_machine.specs.Trace.{trace}
 use Rattle.pcap_classic.specs.Records.{Record}

@@ -1,12 +1,9 @@
 -- What a run answers where it ends.
-use Rattle.std.proofs.Common.{◌≡◌, ℕ, zero, suc, ◌+◌, ◌-◌, ◌<◌, ◌≤◌, List, [], ◌∷◌, length, Bool, true, false, arith, sym, ap, ◌∙◌, subst, refl, inl, inr, cond}
-use Rattle.std.specs.Prelude.{Option, Some, None, slice_get, filter, ◌⊎◌, ◌||◌, nat_lt, nat_le, nat_eq, min, ◌≢◌}
+use Rattle.std.proofs.Common.{◌≡◌, ℕ, zero, suc, ◌+◌, ◌-◌, ◌<◌, ◌≤◌, List, [], ◌∷◌, length, Bool, true, false, arith, sym, ap, ◌∙◌, refl, inl, inr, cond}
+use Rattle.std.specs.Prelude.{Option, Some, None, slice_get, filter, ◌⊎◌, ◌||◌, nat_lt, nat_le, nat_eq, ◌≢◌}
 use Rattle.std.proofs.lemmas.Bool.Decides.{nat_tests}
-use Rattle.std.proofs.lemmas.Option.{slice_get_within}
 use Rattle.std.specs.List.{list_any}
 use Rattle.cbpf_code.specs.declared.insn.Insn.{Insn}
-use Rattle.cbpf_code.specs.declared.extension.Ext.{Ext}
-use Rattle.cbpf_machine.specs.Registers.{Registers}
 use Rattle.cbpf_machine.specs.declared.outcome.Turn.{Turn}
 use Rattle.cbpf_machine.specs.declared.outcome.Turn.TheVariants.{Next, Returned, Outside, ZeroDivisor, Unknown}
 use Rattle.cbpf_machine.specs.Step.{turn, asked}
@@ -16,15 +13,13 @@ use Rattle.cbpf_dbg.specs.declared.reply.Place.{Place}
 use Rattle.cbpf_dbg.specs.declared.reply.Stop.{Stop}
 use Rattle.cbpf_dbg.specs.declared.reply.Why.{Why}
 use Rattle.cbpf_dbg.specs.declared.reply.Why.TheVariants as why
-use Rattle.cbpf_dbg.specs.declared.reply.RunReply.{RunReply}
 use Rattle.cbpf_dbg.specs.declared.reply.RunReply.TheVariants.{Stopped, Limit, Finished}
 use Rattle.cbpf_dbg.specs.declared.walk.Walk.{Walk}
-use Rattle.cbpf_dbg.specs.declared.walk.Moved.TheVariants as moved
-use Rattle.cbpf_dbg.specs.Joined.{Entry, ahead, rest, counts, stop_at, why_of, is_hit, is_unknown, hit_for, is_after, stops}
+use Rattle.cbpf_dbg.specs.Joined.{ahead, rest, counts, stop_at, why_of, is_unknown, hit_for, is_after, stops}
 use Rattle.cbpf_dbg.specs.View.{View, start}
-use Rattle.cbpf_dbg.specs.Commands.{run_to, step_to, run_out, within_limit, finished, limited}
-use Rattle.cbpf_dbg.specs.Walk.{Stands, Moves, view_at, entry_here, owed, run_from, Runs, StepsOn, step_from, Below, is_limit}
-use Rattle.cbpf_dbg.proofs.JoinedLemmas.{rest-hit, rest-pass, rest-same, rest-none}
+use Rattle.cbpf_dbg.specs.Commands.{run_to, run_out, within_limit, finished, limited}
+use Rattle.cbpf_dbg.specs.Walk.{Stands, view_at, entry_here, Runs, StepsOn, Below, is_limit}
+use Rattle.cbpf_dbg.proofs.JoinedLemmas.{rest-hit, rest-none}
 
 -- ---- the limit
 

@@ -1,6 +1,6 @@
 -- How many turns lead from one place to another.
-use Rattle.std.proofs.Common.{◌≡◌, ℕ, zero, suc, ◌+◌, ◌-◌, ◌<◌, ◌≤◌, List, [], ◌∷◌, ◌++◌, length, drop, Bool, true, false, arith, sym, ap, ◌∙◌, subst, refl, inl, inr, cond, zero-add}
-use Rattle.std.specs.Prelude.{Option, Some, None, slice_get, filter, count_by, not, ◌&&◌, ◌⊎◌, min, nat_lt, nat_eq, ◌||◌}
+use Rattle.std.proofs.Common.{◌≡◌, ℕ, zero, suc, ◌+◌, ◌-◌, ◌<◌, ◌≤◌, List, [], ◌∷◌, ◌++◌, length, Bool, true, false, arith, sym, ap, ◌∙◌, subst, refl, inl, inr, cond}
+use Rattle.std.specs.Prelude.{Option, Some, slice_get, filter, count_by, not, ◌&&◌}
 use Rattle.std.proofs.lemmas.Bool.Decides.{nat_tests}
 use Rattle.std.proofs.lemmas.List.Sums.{sum_by-append, count_by-le-length}
 use Rattle.std.proofs.Common.{◌*◌, ◌^◌, length-append}
@@ -21,7 +21,7 @@ use Rattle.cbpf_dbg.specs.Joined.{Entry, entries_from, packet_entries, joined_fr
 use Rattle.cbpf_dbg.specs.View.{View}
 use Rattle.cbpf_dbg.specs.Commands.{turns_in}
 use Rattle.cbpf_dbg.specs.Walk.{Stands, owed, view_at, NotBefore, Runs, run_turns, run_from, StepsOn, step_turns, step_from}
-use Rattle.cbpf_dbg.proofs.JoinedLemmas.{place_at, entry, ahead-entry}
+use Rattle.cbpf_dbg.proofs.JoinedLemmas.{place_at, ahead-entry}
 
 count_cons : {X : Type 0} (f : X → Bool) (x : X) (xs : List X) → count_by f (x ∷ xs) ≡ cond (f x) 1 0 + count_by f xs
 count_cons f x xs =

@@ -1,5 +1,5 @@
 -- Moves of a walk.
-use Rattle.std.proofs.Common.{◌≡◌, ℕ, zero, suc, ◌+◌, ◌-◌, ◌<◌, ◌≤◌, List, [], ◌∷◌, length, drop, take, arith, sym, ap, ◌∙◌, subst, refl}
+use Rattle.std.proofs.Common.{◌≡◌, ℕ, ◌+◌, ◌-◌, ◌<◌, ◌≤◌, List, ◌∷◌, length, arith, sym, ap, ◌∙◌, subst, refl}
 use Rattle.std.specs.Prelude.{Option, Some, None, IfSome, is_some, true, false, slice_get}
 use Rattle.std.proofs.lemmas.Option.{slice_get_cases, slice_get_within}
 use Rattle.std.proofs.Common.{inl, inr}
@@ -7,23 +7,20 @@ use Rattle.std.proofs.lemmas.Bool.{cases_lt}
 use Rattle.cbpf_code.specs.declared.insn.Insn.{Insn}
 use Rattle.cbpf_code.specs.Sound.{IsSound}
 use Rattle.cbpf_machine.specs.Registers.{Registers, zero_state}
-use Rattle.cbpf_machine.specs.declared.outcome.Turn.{Turn}
 use Rattle.cbpf_machine.specs.declared.outcome.Turn.TheVariants.{Next}
 use Rattle.cbpf_machine.specs.Step.{turn}
-use Rattle.cbpf_machine.specs.Trace.{trace, outcome, outcome_of, next_of}
+use Rattle.cbpf_machine.specs.Trace.{trace, next_of}
 use Rattle.cbpf_machine.proofs.TraceLemmas.{Goes, goes_from_entry, goes_next, goes_at, goes_last, outcome_at_last, first_entry}
 use Rattle.cbpf_machine.proofs.SoundLemmas.{sound_some}
 use Rattle.pcap_classic.specs.Records.{Record}
 use Rattle.pcap_classic.specs.Lent.{record_of}
 use Rattle.pcap_classic.specs.declared.captured.Captured.{Captured}
 use Rattle.std.specs.Option.{option_map}
-use Rattle.cbpf_dbg.specs.declared.reply.Place.{Place}
 use Rattle.cbpf_dbg.specs.declared.reply.Counts.{Counts}
 use Rattle.cbpf_dbg.specs.declared.walk.Walk.{Walk}
-use Rattle.cbpf_dbg.specs.declared.walk.Moved.{Moved}
 use Rattle.cbpf_dbg.specs.declared.walk.Moved.TheVariants as moved
-use Rattle.cbpf_dbg.specs.Joined.{Entry, ahead, counts}
-use Rattle.cbpf_dbg.specs.Walk.{Stands, Moves, Ended, IsHere, IsEntry, entry_here, entered, stepped, left, with_outcome}
+use Rattle.cbpf_dbg.specs.Joined.{ahead, counts}
+use Rattle.cbpf_dbg.specs.Walk.{Stands, Moves, Ended, IsHere, entered, stepped, left}
 use Rattle.cbpf_dbg.proofs.JoinedLemmas.{ahead-entry, ahead-leave, ahead-end, place_at, entry}
 use Rattle.cbpf_dbg.proofs.CountLemmas.{counts-more}
 

@@ -1,6 +1,6 @@
 -- Runs without a limit, one after another.
-use Rattle.std.proofs.Common.{◌≡◌, ℕ, ◌+◌, ◌-◌, ◌*◌, ◌^◌, ◌<◌, ◌≤◌, List, [], ◌∷◌, ◌++◌, length, arith, sym, ap, ◌∙◌, subst, refl, inl, inr, Bool, true, false}
-use Rattle.std.specs.Prelude.{Option, Some, None, Result, Ok, Err, ◌⊎◌, nat_lt, nat_eq, ◌||◌, ◌&&◌, not, count_by, filter, map}
+use Rattle.std.proofs.Common.{◌≡◌, ℕ, ◌+◌, ◌^◌, ◌<◌, ◌≤◌, List, [], ◌∷◌, ◌++◌, length, arith, sym, ap, ◌∙◌, refl, inl, inr, true}
+use Rattle.std.specs.Prelude.{Option, Some, None, Result, Ok, Err, ◌⊎◌, not, filter, map}
 use Rattle.std.proofs.lemmas.Bool.Decides.{nat_tests}
 use Rattle.std.proofs.lemmas.List.Sums.{count_by-le-length}
 use Rattle.cbpf_code.specs.declared.insn.Insn.{Insn}
@@ -9,7 +9,6 @@ use Rattle.pcap_classic.specs.Records.{Record}
 use Rattle.pcap_classic.specs.Savefile.{Savefile}
 use Rattle.cbpf_dbg.specs.declared.reply.Place.{Place}
 use Rattle.cbpf_dbg.specs.declared.reply.Stop.{Stop}
-use Rattle.cbpf_dbg.specs.declared.reply.RunReply.{RunReply}
 use Rattle.cbpf_dbg.specs.declared.reply.RunReply.TheVariants.{Stopped, Limit, Finished}
 use Rattle.cbpf_dbg.specs.declared.reply.SessionFault.{SessionFault}
 use Rattle.cbpf_dbg.specs.declared.reply.Counts.{Counts}
@@ -18,7 +17,7 @@ use Rattle.cbpf_dbg.specs.Joined.{stops as every_hit}
 use Rattle.cbpf_dbg.specs.Joined.{Entry, joined, joined_from, ahead, rest, is_hit, stop_at, is_after, turns_between, turns_to_end, counts}
 use Rattle.cbpf_dbg.specs.Walk.{NotBefore}
 use Rattle.cbpf_dbg.specs.View.{View, start}
-use Rattle.cbpf_dbg.specs.Commands.{Answer, reply_of, view_after, run, run_to_end, stops, all_stops, Found, turns_forward, PassesHits, Continues, stopped, finished}
+use Rattle.cbpf_dbg.specs.Commands.{reply_of, view_after, run, run_to_end, stops, all_stops, Found, turns_forward, Continues, stopped, finished}
 use Rattle.cbpf_dbg.proofs.TurnLemmas.{turns-split, length_joined}
 use Rattle.cbpf_dbg.proofs.RunLemmas.{rest-head}
 use Rattle.cbpf_dbg.proofs.JoinedLemmas.{ahead-in, rest-ahead}

@@ -1,5 +1,5 @@
 -- What each command of a session answers, which view it leaves, and how many turns it makes (the commands `run`, `breakpoint`, `step` and `select` are named in Linux Documentation/networking/filter; the rest is this project's own).
-use Rattle.std.specs.Prelude.{◌≡◌, ℕ, ◌+◌, ◌-◌, ◌≤◌, ◌<◌, zero, suc, nat_lt, nat_le, nat_eq, ◌==◌, ◌&&◌, Bool, true, false, List, [], ◌∷◌, ◌++◌, filter, length, slice_get, Option, Some, None, Result, Ok, Err, if◌then◌else◌, ℤ, pos, negsuc, not}
+use Rattle.std.specs.Prelude.{◌≡◌, ℕ, ◌+◌, ◌-◌, ◌≤◌, zero, suc, nat_lt, nat_le, nat_eq, ◌&&◌, Bool, true, List, [], ◌∷◌, ◌++◌, length, slice_get, Option, Some, None, Result, Ok, Err, if◌then◌else◌, ℤ, pos, negsuc}
 use Rattle.cbpf_code.specs.declared.insn.Insn.{Insn}
 use Rattle.std.specs.Option.{option_map}
 use Rattle.std.specs.List.{list_any}
@@ -16,7 +16,7 @@ use Rattle.cbpf_dbg.specs.declared.reply.RunReply.TheVariants.{Stopped, Limit, F
 use Rattle.cbpf_dbg.specs.declared.reply.SessionFault.{SessionFault}
 use Rattle.cbpf_dbg.specs.declared.reply.SessionFault.TheVariants.{NoProgram, NoCapture, NoPackets, NoInstruction, NoPacket, NoStep, TooFarBack, ZeroCount, Memory}
 use Rattle.cbpf_dbg.specs.Joined.{stops as every_hit}
-use Rattle.cbpf_dbg.specs.Joined.{Entry, joined, ahead, rest, stop_at, counts, turns_between, turns_to_end}
+use Rattle.cbpf_dbg.specs.Joined.{Entry, ahead, rest, stop_at, counts, turns_between, turns_to_end}
 use Rattle.indexmap.specs.IndexSet.{insert_key, remove_key}
 use Rattle.cbpf_dbg.specs.View.{View, start}
 

@@ -1,6 +1,6 @@
 //! The commands of a session that ask or move its place.
 
-ghost use Rattle.std.specs.Prelude.{◌≡◌, ◌≤◌, ◌+◌, ◌*◌, ◌^◌, ◌<ℤ◌, pos, IfErr, IfOk, OnErr};
+ghost use Rattle.std.specs.Prelude.{◌≡◌, ◌≤◌, ◌+◌, ◌*◌, ◌^◌, ◌<ℤ◌, pos, IfErr, IfOk, OnErr, OnOk};
 ghost use Rattle.cbpf_dbg.specs.Commands as spec;
 
 use crate::hit::is_quiet;
@@ -121,7 +121,8 @@ impl<T: Trail, A: Allocator> Session<T, A> {
     /// Goes on by `n` entries, or back by `-n` entries of the same packet, whatever hits lie between.
     ///
     /// The meter has spent at most 2 to the 127 before; on the way forward it rises by one for each
-    /// entry that is left, and on the way back by at most 63.
+    /// entry that is left, and on the way back by what the trail takes to go back to the entry, which
+    /// is at most 63. A refusal makes no turn.
     ///
     /// # Errors
     ///
@@ -135,6 +136,7 @@ impl<T: Trail, A: Allocator> Session<T, A> {
         ensures turns { pos 0 <ℤ n → meter.new ≡ meter.old + spec.turns_forward self.old (spec.step self.old n) }
         ensures counts { meter.old ≤ meter.new }
         ensures back { n <ℤ pos 0 → meter.new ≤ meter.old + 63 }
+        ensures back_turns { n <ℤ pos 0 → OnOk result (meter.new ≡ meter.old + T.turns_back self.new.place.step) }
         ensures refused { OnErr result (meter.new ≡ meter.old) }
     {
         let Some(program) = &self.program else {

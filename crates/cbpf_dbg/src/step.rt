@@ -1,6 +1,6 @@
 //! Steps both ways.
 
-ghost use Rattle.std.specs.Prelude.{◌≡◌, ◌+◌, ◌<◌, ◌≤◌, ◌^◌, ℕ, List, MatchResult, OnErr};
+ghost use Rattle.std.specs.Prelude.{◌≡◌, ◌+◌, ◌<◌, ◌≤◌, ◌^◌, ℕ, List, MatchResult, OnErr, OnOk};
 ghost use Rattle.cbpf_dbg.specs.Session.{Keeps};
 ghost use Rattle.cbpf_dbg.specs.Walk.{Stands, owed, StepsOn, step_turns, StepsBack, CannotStepBack};
 
@@ -77,6 +77,7 @@ pub(crate) fn step_back<T: Trail, A: Allocator>(
     ensures keeps { Keeps (λ xs. T.stands_for trail.new xs) p.now capture.now.records w.new.place }
     ensures answer { MatchResult result (λ stop. StepsBack p.now capture.now.records w.old w.new b stop) (λ most. CannotStepBack w.old w.new b most) }
     ensures counts { meter.old ≤ meter.new }
+    ensures turns { OnOk result (meter.new ≡ meter.old + T.turns_back w.new.place.step) }
     ensures few { meter.new ≤ meter.old + 63 }
     ensures refused { OnErr result (meter.new ≡ meter.old) }
 {

@@ -1,13 +1,16 @@
 //! Sessions over small programs and captures.
 //!
 //! `RULE` is `ldh [12]`, `jeq #2048, l2, l5`, `ldb [23]`, `jeq #1, l4, l5`, `ret #65535`, `ret #0`: it
-//! passes ICMP packets. `PACKETS` is a capture of an ARP packet and an ICMP packet.
+//! passes ICMP packets. `RECORDS` are those of an ARP packet and an ICMP packet. Each test goes over
+//! both kinds of trail.
 
 mod places;
 mod runs;
 mod steps;
 
-use crate::{Counts, MarkTrail, Meter, Place, RunReply, Session, SessionFault, Stop, Trail, Why};
+use crate::{
+    Counts, ListTrail, MarkTrail, Meter, Place, RunReply, Session, SessionFault, Stop, Trail, Why,
+};
 use cbpf_code::{Ext, Insn, Program, check};
 use pcap_classic::Capture;
 use std::alloc::Global;
@@ -92,19 +95,43 @@ fn packets(rt: &impl Abort, alloc: Global) -> Capture {
     capture(rt, alloc, &RECORDS, 1)
 }
 
-fn session(
+/// A session over a capture of `RECORDS`.
+fn session<T: Trail>(
     rt: &impl Abort,
     alloc: Global,
+    trail: T,
     list: &[Code],
     breakpoints: &[u64],
-) -> Session<MarkTrail> {
-    let mut s = Session::new(alloc, MarkTrail::new());
+) -> Session<T> {
+    let mut s = Session::new(alloc, trail);
     s.load_program(program(rt, alloc, list));
     s.load_capture(packets(rt, alloc));
     for n in breakpoints {
         s.breakpoint(*n).ok().expect(rt, "memory");
     }
     s
+}
+
+/// The same session twice, over a trail of checkpoints and over one of all states.
+fn sessions(
+    rt: &impl Abort,
+    alloc: Global,
+    list: &[Code],
+    breakpoints: &[u64],
+) -> (Session<MarkTrail>, Session<ListTrail>) {
+    let all = ListTrail::new(alloc).expect(rt, "memory");
+    (
+        session(rt, alloc, MarkTrail::new(), list, breakpoints),
+        session(rt, alloc, all, list, breakpoints),
+    )
+}
+
+/// Asserts what the list of breakpoints is.
+fn assert_breakpoints<T: Trail>(rt: &impl Abort, s: &Session<T>, wanted: &[u32]) {
+    assert!(rt; s.breakpoint_count() == wanted.len());
+    for (i, n) in wanted.iter().enumerate() {
+        assert!(rt; s.breakpoint_at(i) == Some(*n));
+    }
 }
 
 fn at(packet: u64, step: u32) -> Place {

@@ -9,3 +9,12 @@ pub mod Encoding
 pub mod OneAssembly
 pub mod Faults
 pub mod NeverBoth
+pub mod ListedNumbers
+pub mod ListedRows
+pub mod ListedTokens
+pub mod ListedLabels
+pub mod ListedOperands
+pub mod ListedJumps
+pub mod ListedPlaces
+pub mod ListedProgram
+pub mod ListedLaw

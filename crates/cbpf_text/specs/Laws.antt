@@ -1,8 +1,13 @@
--- Laws of the definitions: a text assembles to at most one list of instructions, and one that does isn't refused.
-use Rattle.std.specs.Prelude.{◌≡◌, ℕ, List}
+-- Laws of the definitions: a text assembles to at most one list of instructions, and one that does isn't refused; the listing of a checked program assembles to the plain forms of its instructions.
+use Rattle.std.specs.Prelude.{◌≡◌, ◌⊎◌, ℕ, List, map, All, Result, Ok, Err, IfOk, IfErr}
 use Rattle.cbpf_code.specs.declared.insn.Insn.{Insn}
+use Rattle.cbpf_code.specs.Plain.{plain}
+use Rattle.cbpf_code.specs.Sound.{IsSound}
+use Rattle.cbpf_code.specs.WordForm.{InRange}
+use Rattle.cbpf_listing.specs.Listing.{listing}
 use Rattle.cbpf_text.specs.declared.fault.AsmKind.{AsmKind}
-use Rattle.cbpf_text.specs.declared.fault.AsmFault.TheVariants.{At}
+use Rattle.cbpf_text.specs.declared.fault.AsmFault.{AsmFault}
+use Rattle.cbpf_text.specs.declared.fault.AsmFault.TheVariants.{Memory, At}
 use Rattle.cbpf_text.specs.Assembled.{Assembles}
 use Rattle.cbpf_text.specs.Refusals.{IsRefused}
 
@@ -11,3 +16,13 @@ OneAssembly = (text : List ℕ) (xs ys : List Insn) → Assembles text xs → As
 
 abbrev pub NeverBoth : Type 0
 NeverBoth = (text : List ℕ) (xs : List Insn) (kind : AsmKind) (line : ℕ) → Assembles text xs → IsRefused text (At kind line) → ⊥
+
+-- a list in which the checker finds no fault, of instructions whose fields are in their types' ranges
+abbrev pub ListingAssembles : Type 0
+ListingAssembles = (list : List Insn) → IsSound list → All InRange list → Assembles (listing list) (map plain list)
+
+-- whatever an assembler answers to its listing: the plain forms, or want of memory
+abbrev pub ListingAnswers : Type 0
+ListingAnswers = (list : List Insn) → IsSound list → All InRange list → (answer : Result (List Insn) AsmFault)
+    → IfOk answer (λ insns. Assembles (listing list) insns) → IfErr answer (IsRefused (listing list))
+    → (answer ≡ Ok (map plain list)) ⊎ (answer ≡ Err Memory)

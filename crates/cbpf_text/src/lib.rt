@@ -1,4 +1,5 @@
-//! The assembler: source text in, instructions out.
+//! The assembler: source text in, instructions out; and the listing of a program, which it takes
+//! back.
 //!
 //! Mnemonics, addressing modes and labels are those of the kernel's
 //! Documentation/networking/filter; comments, number spellings and refusals are this
@@ -10,6 +11,9 @@ mod encode;
 mod fault;
 mod labels;
 mod law;
+mod listing;
+#[cfg(test)]
+mod listing_tests;
 mod operand;
 mod refusal;
 mod source;
@@ -18,6 +22,8 @@ mod tests;
 
 pub use assembler::assemble;
 pub use cbpf_lex::{Kind, Token};
+pub use cbpf_listing::write_line;
 pub use fault::{AsmFault, AsmKind};
-pub use law::one_assembly;
+pub use law::{listing_assembles, one_assembly};
+pub use listing::write_listing;
 pub use source::tokens;

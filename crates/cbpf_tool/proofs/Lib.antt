@@ -2,3 +2,4 @@ pub mod LineLemmas
 pub mod FileLemmas
 pub mod ReplyLemmas
 pub mod ScriptLemmas
+pub mod AssemblyLemmas

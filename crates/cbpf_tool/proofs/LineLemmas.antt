@@ -3,9 +3,9 @@ use Rattle.std.proofs.Common.{◌≡◌, ℕ, ◌+◌, ◌<◌, ◌≤◌, Bool,
 use Rattle.std.proofs.lemmas.List.{take_more}
 use Rattle.std.specs.Io.KnownBytes.{Keeps, Consumes, IsAtEnd}
 use Rattle.cbpf_tool.specs.Lines.{has_newline}
-use Rattle.cbpf_tool.specs.Reading.{unread, Took, Fills, TakesPart, TakesLine}
+use Rattle.cbpf_tool.specs.Reading.{IsStreamFault, unread, Took, Fills, TakesPart, TakesLine}
 use Rattle.cbpf_tool.specs.declared.fault.ToolFault.{ToolFault}
-use Rattle.cbpf_tool.specs.declared.fault.ToolFault.TheVariants.{Read, Write, Memory}
+use Rattle.cbpf_tool.specs.declared.fault.ToolFault.TheVariants.{Source, Read, Write, Memory}
 
 pub plain-append : (l m : List ℕ) → has_newline l ≡ false → has_newline m ≡ false → has_newline (l ++ m) ≡ false
 plain-append [] m h k = k
@@ -118,15 +118,17 @@ kept-then (Some xs) (Some ys) (Some zs) h k = k ∙ h
 
 -- ---- how taking a line ends
 
-pub line-unfilled : (bytes p p' line : List ℕ) (left left' : Option (List ℕ)) (e : ToolFault) → Took bytes p left line → has_newline line ≡ false → (e ≡ Memory → ⊥) → ((rest : List ℕ) → unread p left ≡ Some rest → Fills rest p' left' (Err e)) → TakesLine bytes p' left' line (Err e)
+pub line-unfilled : (bytes p p' line : List ℕ) (left left' : Option (List ℕ)) (e : ToolFault) → Took bytes p left line → has_newline line ≡ false → IsStreamFault e → ((rest : List ℕ) → unread p left ≡ Some rest → Fills rest p' left' (Err e)) → TakesLine bytes p' left' line (Err e)
 line-unfilled bytes p p' line left left' Read t h n f = let k = f t.rest t.known in (h, k.1, took-filled bytes p p' line left left' t k.0)
 line-unfilled bytes p p' line left left' Write t h n f = tt
-line-unfilled bytes p p' line left left' Memory t h n f = absurd (n refl)
+line-unfilled bytes p p' line left left' Memory t h n f = absurd n
+line-unfilled bytes p p' line left left' (Source e) t h n f = absurd n
 
 pub line-unheld : (bytes p p' line line' : List ℕ) (left left' : Option (List ℕ)) (e : ToolFault) → Took bytes p left line → 0 < length p → TakesPart p p' line line' (Err e) → TakesLine bytes p' left' line' (Err e)
 line-unheld bytes p p' line line' left left' Read t l h = absurd (cc)
 line-unheld bytes p p' line line' left left' Write t l h = tt
 line-unheld bytes p p' line line' left left' Memory t l h = took-some bytes p line left t l
+line-unheld bytes p p' line line' left left' (Source e) t l h = absurd (cc)
 
 pub pending-some : (chunk : List ℕ) (start end : ℕ) → end ≤ length chunk → start < end → 0 < length (take (end - start) (drop start chunk))
 pending-some chunk start end h l = omega (arith, length-take (end - start) (drop start chunk), length-drop start chunk)

@@ -19,7 +19,7 @@ use Rattle.cbpf_tool.specs.Output.{Output, at_end, at_quit, at_line, HasQuit}
 use Rattle.cbpf_tool.specs.Progress.{CarriedOut, unlines, EachPlain, Ran, still, onward, Progress}
 use Rattle.cbpf_tool.specs.Debugged.{IsOutput, Faulted, Finished}
 use Rattle.cbpf_tool.specs.declared.fault.ToolFault.{ToolFault}
-use Rattle.cbpf_tool.specs.declared.fault.ToolFault.TheVariants.{Read, Write, Memory}
+use Rattle.cbpf_tool.specs.declared.fault.ToolFault.TheVariants.{Source as RefusedSource, Read, Write, Memory}
 use Rattle.cbpf_tool.specs.declared.debugger.Behind.{Behind}
 use Rattle.cbpf_tool.specs.declared.debugger.Behind.TheVariants.{NextLine, Quit}
 
@@ -138,7 +138,7 @@ ran-output files f g h m n ls t still rest u o = o
 ran-output files f g h m n ls t (onward {n = k} {g = g'} {ls = ls'} {t = t'} l v r a le) rest u o =
     rw (append_assoc ls' (l ∷ []) rest, append_assoc t' v u) (ran-output files f g' h m k ls' t' r (l ∷ rest) (v ++ u) (at_line l v a le o))
 
-part-whole : (u v : Option (List ℕ)) (text : List ℕ) → Appended u v text → AppendedPart u v text
+pub part-whole : (u v : Option (List ℕ)) (text : List ℕ) → Appended u v text → AppendedPart u v text
 part-whole u v text h = part-take u v (length text) text (rw (take_all (length text) text (omega arith)) h)
 
 unread-nil : (pending : List ℕ) (left : Option (List ℕ)) (r : List ℕ) → pending ≡ [] → unread pending left ≡ Some r → left ≡ Some r
@@ -174,6 +174,7 @@ module _ (script pending : List ℕ) (left old new new' : Option (List ℕ)) (m 
   line-faulted pending' line left' Read h = read-faulted pending' line left' h.0 h.1 h.2
   line-faulted pending' line left' Write h = (p.done, lines p.rest, p.text, script_lines, so_far, part-whole old new' p.text wrote)
   line-faulted pending' line left' Memory h = memory-faulted left' h
+  line-faulted pending' line left' (RefusedSource e) h = absurd h
 
   -- the input ended behind a newline
   pub end-done : (left' : Option (List ℕ)) → p.rest ≡ [] → left' ≡ Some [] → Finished script left' old new' f g

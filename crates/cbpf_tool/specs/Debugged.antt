@@ -6,7 +6,7 @@ use Rattle.cbpf_tool.specs.Lines.{lines, whole_lines}
 use Rattle.cbpf_tool.specs.Loaded.{nothing_loaded}
 use Rattle.cbpf_tool.specs.Output.{Output, HasQuit}
 use Rattle.cbpf_tool.specs.declared.fault.ToolFault.{ToolFault}
-use Rattle.cbpf_tool.specs.declared.fault.ToolFault.TheVariants.{Read, Write, Memory}
+use Rattle.cbpf_tool.specs.declared.fault.ToolFault.TheVariants.{Source as RefusedSource, Read, Write, Memory}
 
 -- a text is the output of some lines, from a debugger that has loaded nothing
 abbrev pub IsOutput : Source → Source → List (List ℕ) → List ℕ → Type 0
@@ -19,6 +19,7 @@ abbrev pub Faulted : List ℕ → Option (List ℕ) → Option (List ℕ) → Op
 Faulted script left old new f g Read = (taken rest text : List ℕ) × (script ≡ taken ++ rest) × (left ≡ Some rest) × IsOutput f g (lines (whole_lines taken)) text × (¬ HasQuit (lines (whole_lines taken))) × Appended old new text
 Faulted script left old new f g Write = (ls more : List (List ℕ)) × (text : List ℕ) × (lines script ≡ ls ++ more) × IsOutput f g ls text × AppendedPart old new text
 Faulted script left old new f g Memory = (ls : List (List ℕ)) × (l : List ℕ) × (more : List (List ℕ)) × (text : List ℕ) × (lines script ≡ ls ++ l ∷ more) × IsOutput f g ls text × (¬ HasQuit ls) × Appended old new text
+Faulted script left old new f g (RefusedSource e) = ⊥
 
 -- behind `Ok`: the output of all lines, of which one is `quit`, or the reader has nothing left
 abbrev pub Finished : List ℕ → Option (List ℕ) → Option (List ℕ) → Option (List ℕ) → Source → Source → Type 0

@@ -8,3 +8,4 @@ pub mod Replies
 pub mod Output
 pub mod Debugged
 pub mod Progress
+pub mod Assembling

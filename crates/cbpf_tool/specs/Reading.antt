@@ -3,9 +3,16 @@ use Rattle.std.specs.Prelude.{◌≡◌, ℕ, false, List, [], ◌∷◌, ◌++�
 use Rattle.std.specs.Option.{option_map}
 use Rattle.cbpf_tool.specs.Lines.{has_newline}
 use Rattle.cbpf_tool.specs.declared.fault.ToolFault.{ToolFault}
-use Rattle.cbpf_tool.specs.declared.fault.ToolFault.TheVariants.{Read, Write, Memory}
+use Rattle.cbpf_tool.specs.declared.fault.ToolFault.TheVariants.{Source, Read, Write, Memory}
 use Rattle.cbpf_tool.specs.declared.line_reader.LineEnd.{LineEnd}
 use Rattle.cbpf_tool.specs.declared.line_reader.LineEnd.TheVariants.{Newline, Input}
+
+-- a fault of the reader or of the writer
+abbrev pub IsStreamFault : ToolFault → Type 0
+IsStreamFault Read = Unit {0}
+IsStreamFault Write = Unit {0}
+IsStreamFault Memory = ⊥
+IsStreamFault (Source f) = ⊥
 
 -- the bytes of a chunk that were read and not yet taken
 abbrev pub pending_in : List ℕ → ℕ → ℕ → List ℕ
@@ -41,3 +48,4 @@ TakesLine bytes pending left line (Ok Input) = (has_newline line ≡ false) × (
 TakesLine bytes pending left line (Err Read) = (has_newline line ≡ false) × (pending ≡ []) × Took bytes pending left line
 TakesLine bytes pending left line (Err Write) = Unit {0}
 TakesLine bytes pending left line (Err Memory) = bytes ≡ [] → ⊥
+TakesLine bytes pending left line (Err (Source f)) = ⊥

@@ -1,15 +1,19 @@
+use cbpf_text::AsmFault;
 use thiserror::Error;
 
 /// Why a run of the tool ended before its end.
 #[derive(Clone, Copy, PartialEq, Eq, Debug, Error)]
 pub enum ToolFault {
+    /// The source is refused. It is never `AsmFault::Memory`.
+    #[error("{0}")]
+    Source(AsmFault),
     /// The input failed, or hadn't ended after 18446744073709551615 reads.
     #[error("read fault")]
     Read,
     /// The output failed, or took nothing of a text that was not empty.
     #[error("write fault")]
     Write,
-    /// A line of the input could not be held.
+    /// The input, or what it stands for, could not be held.
     #[error("out of memory")]
     Memory,
 }

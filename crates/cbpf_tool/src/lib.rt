@@ -1,6 +1,7 @@
-//! The debugger over a script: commands in, replies out.
+//! The jobs of `cbpf`: the debugger over a script of commands, and the assembler over a source.
 #![tactic(auto)]
 
+mod assembler;
 mod debugger;
 mod disk_files;
 mod fault;
@@ -9,6 +10,8 @@ mod line_reader;
 mod memory_files;
 mod replies;
 
+pub use assembler::asm;
+pub use cbpf_command_line::{Form, Job, LineFault, command_line};
 pub use debugger::debug;
 pub use disk_files::DiskFiles;
 pub use fault::ToolFault;

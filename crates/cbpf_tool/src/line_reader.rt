@@ -2,9 +2,8 @@
 ghost use Rattle.std.specs.Prelude.{◌≡◌, ◌+◌, ◌*◌, ◌-◌, ◌^◌, ◌<◌, ◌≤◌, ℕ, List, Some, Ok, [], take, length, slice_index, true, false, OnOk, IfOk, IfErr, MatchOption, MatchResult};
 ghost use Rattle.std.specs.Io.KnownBytes.{Keeps, Consumes, IsAtEnd};
 ghost use Rattle.cbpf_tool.specs.Lines.{has_newline};
-ghost use Rattle.cbpf_tool.specs.Reading.{pending_in, unread, Fills, TakesPart, TakesLine};
+ghost use Rattle.cbpf_tool.specs.Reading.{IsStreamFault, pending_in, unread, Fills, TakesPart, TakesLine};
 ghost use Rattle.cbpf_tool.specs.declared.line_reader.LineEnd.TheVariants as end;
-ghost use Rattle.cbpf_tool.specs.declared.fault.ToolFault.TheVariants as fault;
 
 use crate::fault::ToolFault;
 use std::alloc::Allocator;
@@ -76,7 +75,7 @@ impl LineReader {
             (λ more. Consumes (R.remaining reader.old) (R.remaining reader.new) (pending_in self.new.chunk self.new.start self.new.end)
             × (more ≡ false → (pending_in self.new.chunk self.new.start self.new.end ≡ []) × IsAtEnd (R.remaining reader.new)))
             (λ e. Keeps (R.remaining reader.old) (R.remaining reader.new) × (pending_in self.new.chunk self.new.start self.new.end ≡ [])) }
-        ensures fault { IfErr result (λ e. e ≡ fault.Memory → ⊥) }
+        ensures fault { IfErr result IsStreamFault }
     {
         if writer.flush().is_err() {
             return Err(ToolFault::Write);
@@ -103,7 +102,7 @@ impl LineReader {
         ensures some { IfOk result (λ more. more ≡ true → self.new.start < self.new.end) }
         ensures bytes { (bytes : List ℕ) → unread (pending_in self.old.chunk self.old.start self.old.end) (R.remaining reader.old) ≡ Some bytes →
             Fills bytes (pending_in self.new.chunk self.new.start self.new.end) (R.remaining reader.new) result }
-        ensures fault { IfErr result (λ e. e ≡ fault.Memory → ⊥) }
+        ensures fault { IfErr result IsStreamFault }
     {
         if self.start < self.end {
             return Ok(true);

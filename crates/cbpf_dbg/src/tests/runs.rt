@@ -1,7 +1,6 @@
 use super::*;
-use crate::ListTrail;
 
-fn walk_through<T: Trail>(rt: &impl Abort, s: &mut Session<T>) {
+fn stops_at_each_hit<T: Trail>(rt: &impl Abort, s: &mut Session<T>) {
     assert!(rt; assert_stop(rt, run(s, None), at(1, 2), 1, 2054) == (Why::Break, 1));
     assert!(rt; assert_stop(rt, run(s, None), at(2, 2), 1, 2048) == (Why::Break, 3));
     assert!(rt; assert_stop(rt, run(s, None), at(2, 5), 4, 1) == (Why::Break, 3));
@@ -11,101 +10,131 @@ fn walk_through<T: Trail>(rt: &impl Abort, s: &mut Session<T>) {
 
 #[test]
 fn each_hit_once(rt: HostRuntime) {
-    let mut s = session(&rt, rt.alloc(), &RULE, &[1, 4]);
-    walk_through(&rt, &mut s);
-    walk_through(&rt, &mut s);
+    let (mut marks, mut all) = sessions(&rt, rt.alloc(), &RULE, &[1, 4]);
+    stops_at_each_hit(&rt, &mut marks);
+    stops_at_each_hit(&rt, &mut marks);
+    stops_at_each_hit(&rt, &mut all);
+    stops_at_each_hit(&rt, &mut all);
 }
 
-#[test]
-fn each_hit_once_with_all_states_kept(rt: HostRuntime) {
-    let trail = ListTrail::new(rt.alloc()).expect(&rt, "memory");
-    let mut s = Session::new(rt.alloc(), trail);
-    s.load_program(program(&rt, rt.alloc(), &RULE));
-    s.load_capture(packets(&rt, rt.alloc()));
-    s.breakpoint(1).ok().expect(&rt, "memory");
-    s.breakpoint(4).ok().expect(&rt, "memory");
-    walk_through(&rt, &mut s);
-}
-
-#[test]
-fn without_breakpoints(rt: HostRuntime) {
-    let mut s = session(&rt, rt.alloc(), &RULE, &[]);
-    assert!(rt; run(&mut s, None) == (Ok(RunReply::Finished(counts(1, 1, 0))), 8));
-}
-
-#[test]
-fn a_breakpoint_taken_out_between(rt: HostRuntime) {
-    let mut s = session(&rt, rt.alloc(), &RULE, &[1, 4]);
-    assert!(rt; assert_stop(&rt, run(&mut s, None), at(1, 2), 1, 2054).0 == Why::Break);
-    assert!(rt; s.delete(1) == Ok(true));
-    assert!(rt; assert_stop(&rt, run(&mut s, None), at(2, 5), 4, 1).0 == Why::Break);
-    assert!(rt; s.delete(1) == Ok(false));
-}
-
-#[test]
-fn refused_breakpoints(rt: HostRuntime) {
-    let mut s = session(&rt, rt.alloc(), &RULE, &[]);
-    assert!(rt; s.breakpoint(6) == Err(SessionFault::NoInstruction));
-    assert!(rt; s.breakpoint(4294967296) == Err(SessionFault::NoInstruction));
-    assert!(rt; s.delete(18446744073709551615) == Err(SessionFault::NoInstruction));
-    assert!(rt; s.breakpoint_count() == 0);
+fn finishes<T: Trail>(rt: &impl Abort, s: &mut Session<T>, wanted: Counts, turns: u128) {
+    assert!(rt; run(s, None) == (Ok(RunReply::Finished(wanted)), turns));
     assert!(rt; s.mark() == Ok(at(1, 0)));
 }
 
 #[test]
-fn breakpoints_in_order_of_setting(rt: HostRuntime) {
-    let mut s = session(&rt, rt.alloc(), &RULE, &[5, 0, 5, 3]);
-    assert!(rt; s.breakpoint_count() == 3);
-    assert!(rt; s.breakpoint_at(0) == Some(5));
-    assert!(rt; s.breakpoint_at(1) == Some(0));
-    assert!(rt; s.breakpoint_at(2) == Some(3));
+fn without_breakpoints(rt: HostRuntime) {
+    let (mut marks, mut all) = sessions(&rt, rt.alloc(), &RULE, &[]);
+    finishes(&rt, &mut marks, counts(1, 1, 0), 8);
+    finishes(&rt, &mut all, counts(1, 1, 0), 8);
+}
+
+fn takes_a_breakpoint_out<T: Trail>(rt: &impl Abort, s: &mut Session<T>) {
+    assert!(rt; assert_stop(rt, run(s, None), at(1, 2), 1, 2054) == (Why::Break, 1));
+    assert!(rt; s.delete(1) == Ok(true));
+    assert!(rt; assert_stop(rt, run(s, None), at(2, 5), 4, 1) == (Why::Break, 6));
+    assert!(rt; s.delete(1) == Ok(false));
+}
+
+#[test]
+fn a_breakpoint_taken_out_between(rt: HostRuntime) {
+    let (mut marks, mut all) = sessions(&rt, rt.alloc(), &RULE, &[1, 4]);
+    takes_a_breakpoint_out(&rt, &mut marks);
+    takes_a_breakpoint_out(&rt, &mut all);
+}
+
+fn refuses_breakpoints<T: Trail>(rt: &impl Abort, s: &mut Session<T>) {
+    assert!(rt; run(s, Some(1)).0 == Ok(RunReply::Limit(counts(0, 1, 0))));
+    assert!(rt; s.breakpoint(6) == Err(SessionFault::NoInstruction));
+    assert!(rt; s.breakpoint(4294967296) == Err(SessionFault::NoInstruction));
+    assert!(rt; s.delete(18446744073709551615) == Err(SessionFault::NoInstruction));
+    assert_breakpoints(rt, s, &[3, 2]);
+    assert!(rt; s.mark() == Ok(at(2, 0)));
+}
+
+#[test]
+fn refused_breakpoints(rt: HostRuntime) {
+    let (mut marks, mut all) = sessions(&rt, rt.alloc(), &RULE, &[3, 2]);
+    refuses_breakpoints(&rt, &mut marks);
+    refuses_breakpoints(&rt, &mut all);
+}
+
+fn keeps_the_order_of_setting<T: Trail>(rt: &impl Abort, s: &mut Session<T>) {
+    assert_breakpoints(rt, s, &[5, 0, 3]);
     assert!(rt; s.breakpoint_at(3) == None);
     assert!(rt; s.delete(5) == Ok(true));
-    assert!(rt; s.breakpoint_at(0) == Some(0));
+    assert_breakpoints(rt, s, &[0, 3]);
     s.reset_breakpoints();
     assert!(rt; s.breakpoint_count() == 0);
 }
 
 #[test]
-fn an_unknown_extension(rt: HostRuntime) {
-    let mut s = session(&rt, rt.alloc(), &RANDOM, &[]);
-    assert!(rt; assert_stop(&rt, run(&mut s, None), at(1, 1), 0, 0).0 == Why::Unknown(Ext::Rand));
-    assert!(rt; assert_stop(&rt, run(&mut s, None), at(2, 1), 0, 0).0 == Why::Unknown(Ext::Rand));
-    assert!(rt; run(&mut s, None).0 == Ok(RunReply::Finished(counts(0, 0, 2))));
+fn breakpoints_in_order_of_setting(rt: HostRuntime) {
+    let (mut marks, mut all) = sessions(&rt, rt.alloc(), &RULE, &[5, 0, 5, 3]);
+    keeps_the_order_of_setting(&rt, &mut marks);
+    keeps_the_order_of_setting(&rt, &mut all);
+}
+
+fn stops_at_an_extension<T: Trail>(rt: &impl Abort, s: &mut Session<T>) {
+    let random = Why::Unknown(Ext::Rand);
+    assert!(rt; assert_stop(rt, run(s, None), at(1, 1), 0, 0) == (random, 0));
+    assert!(rt; assert_stop(rt, run(s, None), at(2, 1), 0, 0) == (random, 1));
+    assert!(rt; run(s, None) == (Ok(RunReply::Finished(counts(0, 0, 2))), 1));
 }
 
 #[test]
-fn an_indexed_load_that_wraps_and_a_zero_divisor(rt: HostRuntime) {
+fn an_unknown_extension(rt: HostRuntime) {
+    let (mut marks, mut all) = sessions(&rt, rt.alloc(), &RANDOM, &[]);
+    stops_at_an_extension(&rt, &mut marks);
+    stops_at_an_extension(&rt, &mut all);
+}
+
+#[test]
+fn an_indexed_load_that_wraps(rt: HostRuntime) {
     let wraps = [(1, 0, 0, 4294967295), (72, 0, 0, 13), (22, 0, 0, 0)];
-    let mut s = session(&rt, rt.alloc(), &wraps, &[]);
-    assert!(rt; run(&mut s, None).0 == Ok(RunReply::Finished(counts(2, 0, 0))));
+    let (mut marks, mut all) = sessions(&rt, rt.alloc(), &wraps, &[]);
+    finishes(&rt, &mut marks, counts(2, 0, 0), 6);
+    finishes(&rt, &mut all, counts(2, 0, 0), 6);
+}
+
+#[test]
+fn a_zero_divisor(rt: HostRuntime) {
     let divides = [(0, 0, 0, 7), (60, 0, 0, 0), (6, 0, 0, 1)];
-    s.load_program(program(&rt, rt.alloc(), &divides));
-    assert!(rt; run(&mut s, None).0 == Ok(RunReply::Finished(counts(0, 2, 0))));
+    let (mut marks, mut all) = sessions(&rt, rt.alloc(), &divides, &[]);
+    finishes(&rt, &mut marks, counts(0, 2, 0), 4);
+    finishes(&rt, &mut all, counts(0, 2, 0), 4);
+}
+
+fn keeps_limits<T: Trail>(rt: &impl Abort, s: &mut Session<T>) {
+    assert!(rt; run(s, Some(0)) == (Err(SessionFault::ZeroCount), 0));
+    assert!(rt; run(s, Some(1)) == (Ok(RunReply::Limit(counts(0, 1, 0))), 3));
+    assert!(rt; s.mark() == Ok(at(2, 0)));
+    assert!(rt; run(s, Some(1)) == (Ok(RunReply::Finished(counts(1, 1, 0))), 5));
+    assert!(rt; run(s, Some(1)) == (Ok(RunReply::Limit(counts(0, 1, 0))), 3));
+    let greatest = Some(18446744073709551615);
+    assert!(rt; run(s, greatest) == (Ok(RunReply::Finished(counts(1, 1, 0))), 5));
 }
 
 #[test]
 fn limits(rt: HostRuntime) {
-    let mut s = session(&rt, rt.alloc(), &RULE, &[]);
-    assert!(rt; run(&mut s, Some(0)).0 == Err(SessionFault::ZeroCount));
-    assert!(rt; run(&mut s, Some(1)).0 == Ok(RunReply::Limit(counts(0, 1, 0))));
-    assert!(rt; s.mark() == Ok(at(2, 0)));
-    assert!(rt; run(&mut s, Some(1)).0 == Ok(RunReply::Finished(counts(1, 1, 0))));
-    assert!(rt; run(&mut s, Some(1)).0 == Ok(RunReply::Limit(counts(0, 1, 0))));
-    assert!(rt;
-        run(&mut s, Some(18446744073709551615)).0 == Ok(RunReply::Finished(counts(1, 1, 0)))
-    );
+    let (mut marks, mut all) = sessions(&rt, rt.alloc(), &RULE, &[]);
+    keeps_limits(&rt, &mut marks);
+    keeps_limits(&rt, &mut all);
+}
+
+fn runs_without_packets<T: Trail>(rt: &impl Abort, alloc: Global, s: &mut Session<T>) {
+    s.load_capture(capture(rt, alloc, &RECORDS, 0));
+    finishes(rt, s, counts(0, 0, 0), 0);
+    assert!(rt; step(s, 1) == (Err(SessionFault::NoPackets), 0));
+    assert!(rt; step(s, 0) == (Err(SessionFault::NoPackets), 0));
+    assert!(rt; resume(s, at(1, 0)) == (Err(SessionFault::NoPackets), 0));
 }
 
 #[test]
 fn no_packets(rt: HostRuntime) {
-    let mut s = session(&rt, rt.alloc(), &[(6, 0, 0, 1)], &[]);
-    s.load_capture(capture(&rt, rt.alloc(), &RECORDS, 0));
-    assert!(rt; run(&mut s, None).0 == Ok(RunReply::Finished(counts(0, 0, 0))));
-    assert!(rt; s.mark() == Ok(at(1, 0)));
-    assert!(rt; step(&mut s, 1).0 == Err(SessionFault::NoPackets));
-    assert!(rt; step(&mut s, 0).0 == Err(SessionFault::NoPackets));
-    assert!(rt; resume(&mut s, at(1, 0)).0 == Err(SessionFault::NoPackets));
+    let (mut marks, mut all) = sessions(&rt, rt.alloc(), &[(6, 0, 0, 1)], &[]);
+    runs_without_packets(&rt, rt.alloc(), &mut marks);
+    runs_without_packets(&rt, rt.alloc(), &mut all);
 }
 
 #[test]
@@ -123,26 +152,36 @@ fn nothing_loaded(rt: HostRuntime) {
     assert!(rt; s.stops().is_err());
 }
 
-#[test]
-fn many_packets(rt: HostRuntime) {
-    let mut s = session(&rt, rt.alloc(), &[(6, 0, 0, 1)], &[]);
-    s.load_capture(capture(&rt, rt.alloc(), &EMPTY_RECORD, 130));
-    assert!(rt; run(&mut s, None) == (Ok(RunReply::Finished(counts(130, 0, 0))), 130));
+fn runs_over_many_packets<T: Trail>(rt: &impl Abort, alloc: Global, s: &mut Session<T>) {
+    s.load_capture(capture(rt, alloc, &EMPTY_RECORD, 130));
+    finishes(rt, s, counts(130, 0, 0), 130);
     assert!(rt; s.select(129).is_ok());
-    assert!(rt; run(&mut s, None).0 == Ok(RunReply::Finished(counts(2, 0, 0))));
+    finishes(rt, s, counts(2, 0, 0), 2);
 }
 
 #[test]
-fn to_the_end(rt: HostRuntime) {
-    let mut s = session(&rt, rt.alloc(), &RULE, &[1, 4]);
+fn many_packets(rt: HostRuntime) {
+    let (mut marks, mut all) = sessions(&rt, rt.alloc(), &[(6, 0, 0, 1)], &[]);
+    runs_over_many_packets(&rt, rt.alloc(), &mut marks);
+    runs_over_many_packets(&rt, rt.alloc(), &mut all);
+}
+
+fn runs_to_the_end<T: Trail>(rt: &impl Abort, alloc: Global, s: &mut Session<T>) {
     let mut meter = Meter::new();
-    let mut found = Vec::new(rt.alloc());
+    let mut found = Vec::new(alloc);
     assert!(rt; s.run_to_end(&mut meter, &mut found) == Ok(counts(1, 1, 0)));
     assert!(rt; found.len() == 3);
     assert!(rt; meter.spent() == 8);
     let mut left = found.as_slice().iter();
-    for stop in s.stops().ok().expect(&rt, "stops") {
+    for stop in s.stops().ok().expect(rt, "stops") {
         assert!(rt; left.next() == Some(&stop));
     }
     assert!(rt; left.next().is_none());
+}
+
+#[test]
+fn to_the_end(rt: HostRuntime) {
+    let (mut marks, mut all) = sessions(&rt, rt.alloc(), &RULE, &[1, 4]);
+    runs_to_the_end(&rt, rt.alloc(), &mut marks);
+    runs_to_the_end(&rt, rt.alloc(), &mut all);
 }

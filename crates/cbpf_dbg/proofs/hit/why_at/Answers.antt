@@ -1,4 +1,4 @@
-use Rattle.std.proofs.Common.{◌≡◌, sym, ap, ◌∙◌}
+use Rattle.std.proofs.Common.{sym, ap, ◌∙◌}
 use Rattle.cbpf_machine.specs.Step.{turn}
 use Rattle.cbpf_dbg.proofs.AskedLemmas.{why_asked, why_by}
 use Rattle.cbpf_dbg.proofs.hit.why_at.Goals as goal

@@ -1,7 +1,7 @@
-use Rattle.std.proofs.Common.{◌≡◌, None, ◌+◌, ◌-◌, ◌≤◌, length, arith, sym}
+use Rattle.std.proofs.Common.{◌≡◌, None, ◌+◌, ◌-◌, arith, sym}
 use Rattle.cbpf_machine.specs.Step.{turn}
-use Rattle.cbpf_machine.specs.Trace.{trace, next_of}
-use Rattle.cbpf_machine.proofs.TraceLemmas.{Goes, goes_next, goes_at, goes_last, goes_from_entry, first_entry, next_of-none}
+use Rattle.cbpf_machine.specs.Trace.{next_of}
+use Rattle.cbpf_machine.proofs.TraceLemmas.{goes_next, goes_at, goes_last, goes_from_entry, first_entry, next_of-none}
 use Rattle.cbpf_machine.proofs.SoundLemmas.{sound_some}
 use Rattle.cbpf_machine.specs.Registers.{zero_state}
 use Rattle.cbpf_dbg.proofs.resume.find_step.Goals as goal

@@ -1,8 +1,8 @@
-use Rattle.std.proofs.Common.{◌≡◌, None, Some, ◌+◌, ◌-◌, ◌<◌, ◌≤◌, [], length, take, arith, sym, refl, length-take, min, slice_get}
+use Rattle.std.proofs.Common.{◌≡◌, None, ◌+◌, ◌-◌, [], arith, sym, length-take}
 use Rattle.cbpf_machine.specs.Registers.{zero_state}
 use Rattle.cbpf_machine.specs.Step.{turn}
 use Rattle.cbpf_machine.specs.Trace.{trace, next_of}
-use Rattle.cbpf_machine.proofs.TraceLemmas.{Goes, goes_next, goes_at, goes_last, goes_from_entry, next_of-none, length-trace_from}
+use Rattle.cbpf_machine.proofs.TraceLemmas.{goes_next, goes_at, goes_last, goes_from_entry, next_of-none, length-trace_from}
 use Rattle.cbpf_machine.proofs.TraceLemmas.{first_entry}
 use Rattle.cbpf_machine.proofs.ListLemmas.{take-slice_get}
 use Rattle.cbpf_machine.proofs.SoundLemmas.{sound_some, sound_few}

@@ -1,4 +1,4 @@
-use Rattle.std.proofs.Common.{◌≡◌, ◌+◌, ◌-◌, ◌≤◌, length, take}
+use Rattle.std.proofs.Common.{◌≡◌, ◌+◌, ◌-◌, ◌≤◌, take}
 use Rattle.cbpf_code.specs.Sound.{IsSound}
 use Rattle.cbpf_machine.specs.Trace.{trace}
 use Rattle.cbpf_machine.proofs.TraceLemmas.{Goes}

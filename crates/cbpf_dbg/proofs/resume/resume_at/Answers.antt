@@ -1,10 +1,8 @@
-use Rattle.std.proofs.Common.{◌≡◌, ◌-◌, ◌<◌, ◌≤◌, Some, arith, refl, sym, take, slice_get, length, List, subst}
+use Rattle.std.proofs.Common.{◌≡◌, ◌-◌, Some, arith, take, slice_get, subst}
 use Rattle.std.proofs.lemmas.Option.{slice_get_within}
-use Rattle.cbpf_machine.specs.Registers.{Registers}
 use Rattle.cbpf_machine.specs.Trace.{trace}
 use Rattle.pcap_classic.specs.Records.{Record}
 use Rattle.pcap_classic.specs.Lent.{record_of}
-use Rattle.cbpf_dbg.specs.Walk.{Stands}
 use Rattle.cbpf_dbg.specs.Session.{Keeps}
 use Rattle.cbpf_dbg.proofs.resume.resume_at.Goals as goal
 

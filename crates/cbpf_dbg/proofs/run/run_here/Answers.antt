@@ -1,14 +1,13 @@
-use Rattle.std.proofs.Common.{◌≡◌, ◌+◌, ◌-◌, ◌<◌, ◌≤◌, ◌∷◌, length, min, arith, sym, ap, subst, ◌∙◌, inl, inr, Some, None, Bool, true, false, refl, nat_eq, slice_get}
+use Rattle.std.proofs.Common.{◌≡◌, ◌+◌, ◌-◌, ◌<◌, length, arith, sym, ap, ◌∙◌, inl, inr, Some, false, refl, nat_eq, slice_get}
 use Rattle.std.specs.Prelude.{◌⊎◌}
 use Rattle.std.specs.List.{list_any}
 use Rattle.cbpf_dbg.specs.declared.reply.Place.{Place}
 use Rattle.std.proofs.lemmas.Option.{slice_get_within}
 use Rattle.cbpf_machine.specs.Step.{turn}
-use Rattle.cbpf_dbg.specs.Joined.{rest, ahead, is_hit, hit_for}
-use Rattle.cbpf_dbg.specs.Walk.{Stands, owed, Below, entry_here, is_limit}
+use Rattle.cbpf_dbg.specs.Walk.{owed, entry_here, is_limit}
 use Rattle.cbpf_dbg.proofs.JoinedLemmas.{rest-pass, rest-same, rest-none}
 use Rattle.cbpf_dbg.proofs.WalkLemmas.{goes, here_after, here_some, here_none, here_within, here_past, walk_ended}
-use Rattle.cbpf_dbg.proofs.RunLemmas.{below_at_start, below_next, hit_none, stop_front, run_stopped, run_finished, run_limited}
+use Rattle.cbpf_dbg.proofs.RunLemmas.{below_next, hit_none, stop_front, run_stopped, run_finished, run_limited}
 use Rattle.cbpf_dbg.proofs.KeepLemmas.{keeps_push, keeps_few, keeps_clear}
 use Rattle.cbpf_dbg.proofs.TurnLemmas.{run_turns-reply, spent_between, owed-turns, not_before_step, not_before_packet}
 use Rattle.cbpf_dbg.proofs.run.run_here.Goals as goal

@@ -1,4 +1,4 @@
-use Rattle.std.proofs.Common.{◌≡◌, ◌+◌, ◌-◌, ◌<◌, ◌≤◌, length, true}
+use Rattle.std.proofs.Common.{◌≡◌, ◌+◌, ◌-◌, ◌≤◌, length}
 use Rattle.cbpf_dbg.specs.Joined.{rest, ahead}
 use Rattle.cbpf_dbg.specs.Walk.{Stands, owed, Below, NotBefore, IsHere}
 use Rattle.cbpf_dbg.specs.Session.{Keeps}

@@ -1,9 +1,8 @@
-use Rattle.std.proofs.Common.{◌≡◌, ◌-◌, ◌<◌, ◌≤◌, Some, arith, refl, sym, ap}
+use Rattle.std.proofs.Common.{◌-◌, arith, refl}
 use Rattle.cbpf_machine.specs.Registers.{zero_state}
 use Rattle.cbpf_machine.specs.Step.{turn}
 use Rattle.cbpf_machine.proofs.SoundLemmas.{sound_some}
 use Rattle.cbpf_machine.proofs.TraceLemmas.{goes_from_entry}
-use Rattle.cbpf_dbg.specs.declared.reply.Why.{Why}
 use Rattle.cbpf_dbg.specs.Joined.{Entry}
 use Rattle.cbpf_dbg.specs.Commands.{back_place}
 use Rattle.cbpf_dbg.proofs.step.step_back.Goals as goal

@@ -1,8 +1,7 @@
-use Rattle.std.proofs.Common.{◌≡◌, ◌+◌, ◌-◌, ◌<◌, ◌≤◌, ◌∷◌, length, min, arith, sym, ap, ◌∙◌, Some, None, slice_get, refl}
-use Rattle.cbpf_machine.specs.Step.{turn}
+use Rattle.std.proofs.Common.{◌≡◌, ◌+◌, ◌-◌, length, arith, sym, ap, ◌∙◌, Some, None, slice_get, refl}
 use Rattle.cbpf_dbg.specs.declared.reply.Place.{Place}
 use Rattle.cbpf_dbg.specs.Joined.{ahead}
-use Rattle.cbpf_dbg.specs.Walk.{Stands, owed, entry_here, StepsOn}
+use Rattle.cbpf_dbg.specs.Walk.{owed, entry_here}
 use Rattle.cbpf_dbg.proofs.WalkLemmas.{goes, here_after, here_some, here_none, walk_ended}
 use Rattle.cbpf_dbg.proofs.RunLemmas.{slice_get-later, slice_get-first, step_stopped, step_finished}
 use Rattle.cbpf_dbg.proofs.KeepLemmas.{keeps_push, keeps_few, keeps_clear}

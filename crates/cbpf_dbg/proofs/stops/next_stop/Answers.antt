@@ -1,9 +1,8 @@
-use Rattle.std.proofs.Common.{◌≡◌, ◌+◌, ◌-◌, ◌<◌, ◌≤◌, ◌∷◌, length, min, arith, sym, ap, ◌∙◌, Some, None, nat_eq}
+use Rattle.std.proofs.Common.{◌≡◌, ◌+◌, length, arith, sym, ap, ◌∙◌, nat_eq}
 use Rattle.std.specs.List.{list_any}
 use Rattle.cbpf_machine.specs.Step.{turn}
 use Rattle.cbpf_dbg.specs.declared.reply.Place.{Place}
-use Rattle.cbpf_dbg.specs.Joined.{rest, ahead}
-use Rattle.cbpf_dbg.specs.Walk.{Stands, owed, entry_here}
+use Rattle.cbpf_dbg.specs.Walk.{entry_here}
 use Rattle.cbpf_dbg.proofs.JoinedLemmas.{rest-pass, rest-same, rest-none}
 use Rattle.cbpf_dbg.proofs.WalkLemmas.{goes, here_after, here_some, here_none, walk_ended}
 use Rattle.cbpf_dbg.proofs.RunLemmas.{hit_none, stop_front}

@@ -1,16 +1,14 @@
-use Rattle.std.proofs.Common.{◌≡◌, ◌+◌, ◌-◌, ◌<◌, ◌≤◌, None, Some, length, arith, sym, subst, slice_get, ap, ◌∙◌, min}
+use Rattle.std.proofs.Common.{◌≡◌, ◌-◌, None, arith, sym, subst, ap, ◌∙◌}
 use Rattle.cbpf_dbg.specs.declared.reply.Counts.{Counts}
 use Rattle.cbpf_dbg.specs.declared.walk.Walk.{Walk}
 use Rattle.std.proofs.lemmas.Option.{slice_get_within}
-use Rattle.cbpf_machine.specs.declared.outcome.Turn.TheVariants.{Next}
 use Rattle.cbpf_machine.specs.Step.{turn}
 use Rattle.cbpf_machine.specs.Trace.{trace, next_of}
 use Rattle.cbpf_machine.proofs.TraceLemmas.{next_of-none, length-trace_from}
 use Rattle.cbpf_machine.specs.Registers.{zero_state}
 use Rattle.cbpf_machine.proofs.SoundLemmas.{sound_few}
-use Rattle.pcap_classic.specs.Records.{Record}
 use Rattle.cbpf_dbg.specs.declared.walk.Moved.TheVariants as moved
-use Rattle.cbpf_dbg.specs.Walk.{Stands, Moves, left}
+use Rattle.cbpf_dbg.specs.Walk.{Moves, left}
 use Rattle.cbpf_dbg.proofs.CountLemmas.{counts-at_most}
 use Rattle.cbpf_dbg.proofs.WalkLemmas.{stands-entered, moves-entered, stands-stepped, moves-stepped, stands-left, moves-left, goes}
 use Rattle.cbpf_dbg.proofs.walk.advance.Goals as goal

@@ -1,7 +1,6 @@
-use Rattle.std.proofs.Common.{◌≡◌, ℕ, ◌+◌, ◌<◌, ◌≤◌, List, [], ◌∷◌, ◌++◌, arith, refl, sym, ap, ◌∙◌, subst, inl, inr, Ok, Err}
-use Rattle.cbpf_dbg.specs.Commands.{stops, run, reply_of, Continues}
-use Rattle.cbpf_dbg.specs.declared.reply.RunReply.TheVariants.{Stopped, Limit, Finished}
-use Rattle.cbpf_dbg.proofs.WholeLemmas.{Going, Holds, stops-held, from_start, going-spare, going-found, going-stop, going-end, going-limit, going-refused, fewer}
+use Rattle.std.proofs.Common.{◌≡◌, [], ◌∷◌, ◌++◌, arith, refl, ap, ◌∙◌, inl}
+use Rattle.cbpf_dbg.specs.declared.reply.RunReply.TheVariants.{Stopped, Finished}
+use Rattle.cbpf_dbg.proofs.WholeLemmas.{Holds, stops-held, from_start, going-spare, going-found, going-stop, going-end, fewer}
 use Rattle.cbpf_dbg.proofs.session.Session.run_to_end.Goals as goal
 
 pub runs-init : goal.runs-init

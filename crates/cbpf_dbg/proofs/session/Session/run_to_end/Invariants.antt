@@ -1,4 +1,4 @@
-use Rattle.std.proofs.Common.{◌≡◌, ℕ, List}
+use Rattle.std.proofs.Common.{List}
 use Rattle.cbpf_code.specs.declared.insn.Insn.{Insn}
 use Rattle.pcap_classic.specs.Savefile.{Savefile}
 use Rattle.cbpf_dbg.specs.Commands.{stops}

@@ -1,4 +1,4 @@
-use Rattle.std.proofs.Common.{◌<◌, ◌≤◌, arith, refl}
+use Rattle.std.proofs.Common.{◌<◌, arith}
 use Rattle.cbpf_dbg.proofs.WalkLemmas.{counts-at}
 use Rattle.cbpf_dbg.proofs.walk.Walk.before.Goals as goal
 

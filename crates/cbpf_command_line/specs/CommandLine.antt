@@ -1,0 +1,77 @@
+-- The command line of the program, and what its words ask for: this project's own, by `clap`'s meaning of a command line.
+use Rattle.std.specs.Prelude.{ℕ, Bool, true, false, ◌≡◌, ◌≢◌, if◌then◌else◌, List, [], ◌∷◌, Option, Some, None, option_map, codes, bytes_eq, String}
+use Rattle.clap.specs.Words.{App, Rule, Row, Text, new_app, new_rule, with_rule, with_subcommand, first_of, subcommand_of, fault_of}
+use Rattle.clap.specs.Kinds.{IsAmong}
+use Rattle.clap.specs.declared.builder.action.ArgAction.TheVariants.{SetTrue}
+use Rattle.clap.specs.declared.error.kind.ErrorKind.{ErrorKind}
+use Rattle.clap.specs.declared.error.kind.ErrorKind.TheVariants.{DisplayHelp}
+use Rattle.cbpf_command_line.specs.declared.job.Form.{Form}
+use Rattle.cbpf_command_line.specs.declared.job.Form.TheVariants.{Decimal, C}
+use Rattle.cbpf_command_line.specs.declared.job.Job.{Job}
+use Rattle.cbpf_command_line.specs.declared.job.Job.TheVariants as job
+use Rattle.cbpf_command_line.specs.declared.job.LineFault.{LineFault}
+use Rattle.cbpf_command_line.specs.declared.job.LineFault.TheVariants.{Help, Refused, Memory}
+
+-- `-c`
+abbrev pub form_rule : Rule
+form_rule = record (new_rule (codes "c")) { short = Some 99; action = Some SetTrue }
+
+-- `asm [-c] [file]`
+abbrev pub asm_app : App
+asm_app = with_rule (with_rule (new_app (codes "asm")) form_rule) (record (new_rule (codes "file")) { value_names = 1 })
+
+-- `dbg [input [output]]`
+abbrev pub dbg_app : App
+dbg_app = with_rule (with_rule (new_app (codes "dbg")) (record (new_rule (codes "input")) { value_names = 1 })) (record (new_rule (codes "output")) { value_names = 1 })
+
+-- `cbpf`, with its two subcommands
+abbrev pub cbpf_app : App
+cbpf_app = with_subcommand (with_subcommand (new_app (codes "cbpf")) asm_app.top) dbg_app.top
+
+-- what the program is asked to do, with the names that are given
+pub data Asked : Type 0 where
+  asm : (form : Form) (file : Option Text) → Asked
+  dbg : (input output : Option Text) → Asked
+
+-- the C form where the flag is set
+abbrev pub form_by : Option Text → Form
+form_by None = Decimal
+form_by (Some set) = if bytes_eq set (codes "true") then C else Decimal
+
+abbrev pub form_in : List Row → Form
+form_in rows = form_by (first_of (codes "c") rows)
+
+-- by what was found for the arguments of a subcommand
+abbrev pub asm_asked : List Row → Asked
+asm_asked rows = asm (form_in rows) (first_of (codes "file") rows)
+
+abbrev pub dbg_asked : List Row → Asked
+dbg_asked rows = dbg (first_of (codes "input") rows) (first_of (codes "output") rows)
+
+-- by the subcommand; without one it is `dbg`
+abbrev pub asked_by : Option (Text × List Row) → Asked
+asked_by None = dbg None None
+asked_by (Some sub) = if bytes_eq sub.0 (codes "asm") then asm_asked sub.1 else dbg_asked sub.1
+
+-- what the words of a command line ask for
+unfoldable pub asked_for : List Text → Asked
+asked_for words = asked_by (subcommand_of cbpf_app words)
+
+-- the kinds of faults that a command line may be told of, of which there are none where it is taken
+unfoldable pub faults_in : List Text → List ErrorKind
+faults_in words = fault_of cbpf_app words
+
+-- the bytes of a string
+abbrev pub text_of : {Z : Type 0} → String Z → Text
+text_of s = s.bytes.items
+
+-- what a `Job` stands for
+abbrev pub meaning : Job → Asked
+meaning (job.Asm form file) = asm form (option_map text_of file)
+meaning (job.Dbg input output) = dbg (option_map text_of input) (option_map text_of output)
+
+-- help where it is asked for, a refusal for every other kind of fault; want of memory says nothing
+abbrev pub IsFaultOf : List ErrorKind → LineFault → Type 0
+IsFaultOf kinds (Help text) = IsAmong DisplayHelp kinds
+IsFaultOf kinds (Refused text) = (kind : ErrorKind) × (kind ≢ DisplayHelp) × IsAmong kind kinds
+IsFaultOf kinds Memory = Unit {0}

@@ -1,0 +1,36 @@
+//! What the program is asked to do.
+
+/// How the assembler writes instructions.
+#[derive(Clone, Copy, Debug, PartialEq, Eq)]
+pub enum Form {
+    /// The count and the instructions in decimal, on one line.
+    Decimal,
+    /// One line of C for each instruction.
+    C,
+}
+
+/// What the program is asked to do. Without a file's name it is the standard stream.
+#[derive(Debug, Drop)]
+pub enum Job {
+    /// `asm [-c] [file]`: assemble a source.
+    Asm {
+        form: Form,
+        file: Option<String>,
+    },
+    /// `dbg [input [output]]`, and the program without words: carry out commands.
+    Dbg {
+        input: Option<String>,
+        output: Option<String>,
+    },
+}
+
+/// Why a command line asks for no job.
+#[derive(Debug, Drop)]
+pub enum LineFault {
+    /// It asks for help, and this is the text.
+    Help(String),
+    /// It is refused, and this says why.
+    Refused(String),
+    /// The allocator refused.
+    Memory,
+}

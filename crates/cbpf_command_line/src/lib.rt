@@ -1,0 +1,11 @@
+//! The command line of `cbpf`: which job its words ask for.
+#![tactic(auto)]
+
+mod job;
+mod parse;
+
+pub use job::{Form, Job, LineFault};
+pub use parse::command_line;
+
+#[cfg(test)]
+mod tests;

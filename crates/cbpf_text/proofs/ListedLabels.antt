@@ -1,0 +1,139 @@
+-- The labels and numbers of a listing, as segments.
+use Rattle.std.proofs.Common.{◌≡◌, ◌≢◌, ℕ, zero, suc, ◌+◌, ◌^◌, ◌<◌, ◌≤◌, Bool, true, false, not, ◌&&◌, cond, List, [], ◌∷◌, ◌++◌, length, refl, ap, sym, subst, ◌∙◌, arith, append-nil, lit<, Option, Some, None, eqb-true, le-ltb, rules}
+use Rattle.std.specs.Prelude.{◌==◌, nat_lt, nat_le, decimal, codes}
+use Rattle.std.specs.List.{list_all}
+use Rattle.std.proofs.lemmas.Fmt.{decimal_nonempty}
+use Rattle.cbpf_code.specs.declared.insn.Insn.{Insn}
+use Rattle.cbpf_code.specs.declared.opcode.Op.{Op}
+use Rattle.cbpf_code.specs.declared.extension.Ext.{Ext}
+use Rattle.cbpf_code.specs.declared.extension.Ext.TheVariants.{Proto, PktType, IfIdx, Nla, NlaN, Mark, Queue, HaType, RxHash, Cpu, VlanTci, VlanAvail, PayOff, Rand, VlanTpid}
+use Rattle.cbpf_code.specs.Extension.{ext_at, ext_name, ext_offset, ext_table}
+use Rattle.cbpf_code.specs.Plain.{kept}
+use Rattle.cbpf_code.specs.Text.{hex}
+use Rattle.cbpf_code.proofs.TableLemmas.{ext_only}
+use Rattle.cbpf_lex.specs.Bytes.{is_digit, is_letter, is_name_byte}
+use Rattle.cbpf_lex.specs.Numbers.{number_value}
+use Rattle.cbpf_lex.proofs.Spelled.{Segment, bytes_of, text_of, IsSegment, AreSegments, ends_name, stay_apart}
+use Rattle.cbpf_lex.proofs.Spelled.Segment.{blank, word, number, mark}
+use Rattle.cbpf_grammar.specs.declared.table.Fields.{Fields}
+use Rattle.cbpf_grammar.specs.declared.table.Fields.TheVariants.{Constant, Ancillary, Goto, Branch}
+use Rattle.cbpf_grammar.specs.Classes.{Class}
+use Rattle.cbpf_grammar.specs.Classes as forms
+use Rattle.cbpf_grammar.specs.Lexemes as grammar
+use Rattle.cbpf_grammar.specs.Lexemes.{Lexeme, same_bytes}
+use Rattle.cbpf_grammar.specs.Fits.{fits, fits_all, is_one_of, is_reserved, extension_names, mnemonic_words}
+use Rattle.cbpf_grammar.specs.Table.{operand_words, mnemonics}
+use Rattle.cbpf_grammar.specs.Items.{Item, names_at}
+use Rattle.cbpf_listing.specs.declared.syntax.Operand.{Operand}
+use Rattle.cbpf_listing.specs.declared.syntax.Operand.TheVariants as operands
+use Rattle.cbpf_listing.specs.Syntax.{operand_of}
+use Rattle.cbpf_listing.specs.Listing.{operand_text, place_or_name, targets}
+use Rattle.cbpf_text.specs.Labels.{IsPlace}
+use Rattle.cbpf_text.specs.Assembled.{FillsFields, IsShortOffset}
+use Rattle.cbpf_text.specs.Operands.{literal_of, offset_named}
+use Rattle.cbpf_text.proofs.ListedNumbers.{number_decimal, decimal_digits, decimal_names, hex_is_names, hex_value}
+use Rattle.cbpf_text.proofs.ListedRows.{HasRow, operation_row, named_row, first, rest, IsWord, plain_as}
+use Rattle.cbpf_text.proofs.ListedTokens.{lexemes_at, newline, are_positive}
+
+and_parts : (a b : Bool) → (a && b) ≡ true → (a ≡ true) × (b ≡ true)
+and_parts true b e = (refl, e)
+and_parts false b e = let k : false ≡ true = e in cc
+
+abbrev pub label_name : ℕ → List ℕ
+label_name i = 108 ∷ decimal i
+
+abbrev second_no_digit : List ℕ → Bool
+second_no_digit [] = true
+second_no_digit (a ∷ []) = true
+second_no_digit (a ∷ b ∷ bs) = not (is_digit b)
+
+differs : (d : ℕ) (ds w : List ℕ) → is_digit d ≡ true → second_no_digit w ≡ true → same_bytes (108 ∷ d ∷ ds) w ≡ false
+differs d ds [] h e = refl
+differs d ds (a ∷ []) h e = and_false (108 == a)
+  where
+    and_false : (t : Bool) → (t && false) ≡ false
+    and_false true = refl
+    and_false false = refl
+differs d ds (a ∷ b ∷ bs) h e = by_test (d == b) refl
+  where
+    both_false : (s t : Bool) → (s && (false && t)) ≡ false
+    both_false true t = refl
+    both_false false t = refl
+
+    by_test : (t : Bool) → (d == b) ≡ t → (108 == a && (t && same_bytes ds bs)) ≡ false
+    by_test false q = both_false (108 == a) (same_bytes ds bs)
+    by_test true q = let k : not (is_digit d) ≡ true = rw (← eqb-true d b q) at e in let z : not true ≡ true = rw h at k in cc
+
+none_differs : (d : ℕ) (ds : List ℕ) (ws : List (List ℕ)) → is_digit d ≡ true → list_all second_no_digit ws ≡ true → is_one_of ws (108 ∷ d ∷ ds) ≡ false
+none_differs d ds [] h e = refl
+none_differs d ds (w ∷ ws) h e = let q : (second_no_digit w ≡ true) × (list_all second_no_digit ws ≡ true) = and_parts (second_no_digit w) _ e in rw (differs d ds w h q.0, none_differs d ds ws h q.1) refl
+
+mnemonics_differ : list_all second_no_digit mnemonic_words ≡ true
+unfolding mnemonics
+mnemonics_differ = refl
+
+names_differ : list_all second_no_digit extension_names ≡ true
+unfolding extension_names
+names_differ = refl
+
+free_digits : (ds : List ℕ) → list_all is_digit ds ≡ true → 0 < length ds → is_reserved (108 ∷ ds) ≡ false
+free_digits [] h l = absurd (omega arith)
+free_digits (d ∷ ds) h l =
+    let q : is_digit d ≡ true = (and_parts (is_digit d) _ h).0 in
+    rw (none_differs d ds mnemonic_words q mnemonics_differ, none_differs d ds extension_names q names_differ, none_differs d ds operand_words q refl) refl
+
+label_free : (i : ℕ) → i < 2 ^ 64 → is_reserved (label_name i) ≡ false
+label_free i l = free_digits (decimal i) (decimal_digits i l) (decimal_nonempty i l)
+
+pub label_fits : (i : ℕ) → i < 2 ^ 64 → fits forms.Class.name (grammar.Symbol.word (label_name i)) ≡ true
+label_fits i l = ap not (label_free i l)
+
+abbrev pub label_segment : ℕ → Segment
+label_segment i = word 108 (decimal i)
+
+pub is_label_segment : (i : ℕ) → i < 2 ^ 64 → IsSegment (label_segment i)
+is_label_segment i l = (lit< tt, refl, decimal_names i l)
+
+-- each label names the item at its number, of so many
+abbrev pub Places : ℕ → List Item → Type 0
+Places n all = (m : ℕ) → m < n → IsPlace all (label_name m) m
+
+abbrev pub decimal_segment : ℕ → Segment
+decimal_segment k = number (first (decimal k)) (rest (decimal k)) k
+
+digit_small : (b : ℕ) → is_digit b ≡ true → b < 256
+digit_small b e = let p = and_parts (nat_le 48 b) _ e in let l : b ≤ 57 = le-ltb' p.1 in omega (arith, l)
+  where
+    le-ltb' : nat_le b 57 ≡ true → b ≤ 57
+    le-ltb' h = search rules
+
+spelled : (w : List ℕ) → 0 < length w → first w ∷ rest w ≡ w
+spelled [] l = absurd (omega arith)
+spelled (b ∷ bs) l = refl
+
+pub spelled_decimal : (k : ℕ) → k < 2 ^ 64 → first (decimal k) ∷ rest (decimal k) ≡ decimal k
+spelled_decimal k l = spelled (decimal k) (decimal_nonempty k l)
+
+number_segment : (w : List ℕ) (n : ℕ) → 0 < length w → list_all is_digit w ≡ true → list_all is_name_byte w ≡ true → number_value w ≡ Some n → n < 2 ^ 32 → IsSegment (number (first w) (rest w) n)
+number_segment [] n l d a v m = absurd (omega arith)
+number_segment (b ∷ bs) n l d a v m =
+    let p = and_parts (is_digit b) _ d in
+    (digit_small b p.0, p.0, (and_parts (is_name_byte b) _ a).1, v, m)
+
+pub is_decimal_segment : (k : ℕ) → k < 2 ^ 32 → IsSegment (decimal_segment k)
+is_decimal_segment k l =
+    let m : k < 2 ^ 64 = omega arith in
+    number_segment (decimal k) k (decimal_nonempty k m) (decimal_digits k m) (decimal_names k m) (number_decimal k m) l
+
+-- `0`, or `0x` and hexadecimal digits
+abbrev pub hex_segment : Bool → ℕ → Segment
+hex_segment true k = number 48 [] 0
+hex_segment false k = number 48 (120 ∷ hex 1 k) k
+
+ne_zero : (k : ℕ) → (k == 0) ≡ false → 0 < k
+ne_zero zero e = let z : true ≡ false = e in cc
+ne_zero (suc k) e = omega arith
+
+pub is_hex_segment : (k : ℕ) (t : Bool) → (k == 0) ≡ t → k < 2 ^ 32 → IsSegment (hex_segment t k)
+is_hex_segment k true e l = (lit< tt, refl, refl, refl, lit< tt)
+is_hex_segment k false e l = (lit< tt, refl, hex_is_names k l, hex_value k l (ne_zero k e), l)

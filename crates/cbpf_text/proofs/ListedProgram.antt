@@ -1,0 +1,148 @@
+-- The lines of a listing as segments, whose tokens are the items of the instructions.
+use Rattle.std.proofs.Common.{◌≡◌, ℕ, zero, suc, ◌+◌, ◌^◌, ◌<◌, ◌≤◌, Bool, true, false, ◌&&◌, List, [], ◌∷◌, ◌++◌, length, map, drop, refl, ap, sym, subst, ◌∙◌, arith, append_assoc, append-nil, lit<, Option, Some, None}
+use Rattle.std.specs.Prelude.{decimal, codes, Contains}
+use Rattle.std.specs.List.{flat_map, enumerate_from}
+use Rattle.cbpf_code.specs.declared.insn.Insn.{Insn}
+use Rattle.cbpf_code.specs.declared.opcode.Op.{Op}
+use Rattle.cbpf_code.specs.Opcode.{op_of, code_of}
+use Rattle.cbpf_code.specs.Plain.{plain}
+use Rattle.cbpf_code.proofs.TableLemmas.{code_only}
+use Rattle.cbpf_lex.proofs.Spelled.{Segment, bytes_of, text_of, AreSegments, ends_name, ends_blank, stay_apart}
+use Rattle.cbpf_lex.proofs.Spelled.Segment.{blank, word, number, mark}
+use Rattle.cbpf_grammar.specs.Classes as forms
+use Rattle.cbpf_grammar.specs.Lexemes as grammar
+use Rattle.cbpf_grammar.specs.Lexemes.{Lexeme}
+use Rattle.cbpf_grammar.specs.Fits.{fits, fits_all}
+use Rattle.cbpf_grammar.specs.Table.{Row, classes, table}
+use Rattle.cbpf_grammar.specs.Items.{Item, Form, Items, names_at, label_classes, classes_of}
+use Rattle.cbpf_grammar.proofs.Apart.{same_bytes_refl}
+use Rattle.cbpf_listing.specs.Syntax.{mnemonic_of, operand_of}
+use Rattle.cbpf_listing.specs.Listing.{numbered_line, insn_text, text_for, operand_text, operation_text}
+use Rattle.cbpf_text.specs.Assembled.{EncodeEach, IsEncoded, FillsFields}
+use Rattle.cbpf_text.specs.Operands.{literal_of, literal_in, targets_in}
+use Rattle.cbpf_text.proofs.ListedRows.{HasRow, first, rest, mnemonic_word, plain_as, plain_is}
+use Rattle.cbpf_text.proofs.ListedTokens.{lexemes_at, lexemes_append, text_append, are_append, ends_before, apart_before, are_positive, positive_append, newline}
+use Rattle.cbpf_text.proofs.ListedLabels.{label_name, label_fits, label_segment, is_label_segment, Places}
+use Rattle.cbpf_text.proofs.ListedOperands.{Spells}
+use Rattle.cbpf_text.proofs.ListedPlaces.{IsLabelled, AreLabelled}
+
+-- the lines of instructions, of which the first has the index i of n
+pub record Lists (n i : ℕ) (insns : List Insn) : Type 0 where
+  pub segments : List Segment
+  pub text : text_of segments ≡ flat_map numbered_line (enumerate_from i insns)
+  pub are : AreSegments segments
+  pub begins : ends_blank segments ≡ true
+  pub apart : stay_apart true segments ≡ true
+  pub positive : are_positive segments ≡ true
+  pub items : ℕ → List Item
+  pub size : (at : ℕ) → length (items at) ≡ length insns
+  pub parsed : (at : ℕ) → Items (lexemes_at at segments) (items at)
+  pub labelled : (at : ℕ) → AreLabelled i (items at)
+  pub encoded : (at : ℕ) (all : List Item) → Places n all → EncodeEach all i (items at) (map plain insns)
+
+pub lists_none : (n i : ℕ) → Lists n i []
+lists_none n i = record {
+  segments = [];
+  text = refl;
+  are = tt;
+  begins = refl;
+  apart = refl;
+  positive = refl;
+  items = λ at. [];
+  size = λ at. refl;
+  parsed = λ at. refl;
+  labelled = λ at. tt;
+  encoded = λ at all p. tt;
+}
+
+-- a line's text, one piece behind the other
+joins : (d w operand behind : List ℕ) → (((108 ∷ (d ++ (58 ∷ 9 ∷ (w ++ [])))) ++ operand) ++ (10 ∷ [])) ++ behind ≡ 108 ∷ (d ++ (58 ∷ 9 ∷ (w ++ (operand ++ (10 ∷ behind)))))
+joins d w operand behind =
+    let front = 108 ∷ (d ++ (58 ∷ 9 ∷ (w ++ []))) in
+    append_assoc (front ++ operand) (10 ∷ []) behind
+    ∙ append_assoc front operand (10 ∷ behind)
+    ∙ ap (λ (t : List ℕ). 108 ∷ t) (append_assoc d (58 ∷ 9 ∷ (w ++ [])) (operand ++ (10 ∷ behind)))
+    ∙ ap (λ (t : List ℕ). 108 ∷ (d ++ (58 ∷ 9 ∷ (t ++ (operand ++ (10 ∷ behind)))))) (append-nil w)
+
+-- the segments of a line, before those behind it
+abbrev line_segments : ℕ → List ℕ → List Segment → List Segment → List Segment
+line_segments i w operand behind = label_segment i ∷ mark 58 ∷ blank 9 ∷ word (first w) (rest w) ∷ (operand ++ (blank 10 ∷ behind))
+
+line_text : (i : ℕ) (insn : Insn) (op : Op) (operand behind : List Segment) (lines : List ℕ) → op_of insn.code ≡ Some op → first (mnemonic_of op) ∷ rest (mnemonic_of op) ≡ mnemonic_of op
+    → text_of operand ≡ operand_text (operand_of op) i insn → text_of behind ≡ lines
+    → text_of (line_segments i (mnemonic_of op) operand behind) ≡ numbered_line (i, insn) ++ lines
+line_text i insn op operand behind lines known w e f =
+    ap (λ (t : List ℕ). 108 ∷ (decimal i ++ (58 ∷ 9 ∷ (first (mnemonic_of op) ∷ (rest (mnemonic_of op) ++ t))))) (text_append operand (blank 10 ∷ behind))
+    ∙ ap (λ (v : List ℕ). 108 ∷ (decimal i ++ (58 ∷ 9 ∷ (v ++ (text_of operand ++ (10 ∷ text_of behind)))))) w
+    ∙ ap (λ (t : List ℕ). 108 ∷ (decimal i ++ (58 ∷ 9 ∷ (mnemonic_of op ++ (t ++ (10 ∷ text_of behind)))))) e
+    ∙ ap (λ (t : List ℕ). 108 ∷ (decimal i ++ (58 ∷ 9 ∷ (mnemonic_of op ++ (operand_text (operand_of op) i insn ++ (10 ∷ t)))))) f
+    ∙ sym (joins (decimal i) (mnemonic_of op) (operand_text (operand_of op) i insn) lines)
+    ∙ sym (ap (λ o. (text_for i insn o ++ codes "\n") ++ lines) known)
+
+-- where the operand's tokens begin
+abbrev operand_at : ℕ → ℕ → List ℕ → ℕ
+operand_at at i w = at + (1 + length (decimal i)) + 1 + 1 + (1 + length (rest w))
+
+abbrev behind_at : ℕ → ℕ → List ℕ → List Segment → ℕ
+behind_at at i w operand = operand_at at i w + length (text_of operand) + 1
+
+abbrev label_token : ℕ → ℕ → Lexeme
+label_token at i = record { symbol = grammar.Symbol.word (label_name i); at = at }
+
+abbrev colon_token : ℕ → ℕ → Lexeme
+colon_token at i = record { symbol = grammar.Symbol.mark 58; at = at + (1 + length (decimal i)) }
+
+abbrev body_tokens : ℕ → ℕ → List ℕ → List Segment → List Lexeme
+body_tokens at i w operand = record { symbol = grammar.Symbol.word (first w ∷ rest w); at = at + (1 + length (decimal i)) + 1 + 1 } ∷ lexemes_at (operand_at at i w) operand
+
+abbrev line_tokens : ℕ → ℕ → List ℕ → List Segment → List Lexeme
+line_tokens at i w operand = label_token at i ∷ colon_token at i ∷ body_tokens at i w operand
+
+abbrev line_item : ℕ → ℕ → List ℕ → List Segment → Row → Item
+line_item at i w operand row = record { labels = label_token at i ∷ []; row = row; body = body_tokens at i w operand }
+
+line_lexemes : (at i : ℕ) (w : List ℕ) (operand behind : List Segment) → lexemes_at at (line_segments i w operand behind) ≡ line_tokens at i w operand ++ lexemes_at (behind_at at i w operand) behind
+line_lexemes at i w operand behind = ap (λ (ts : List Lexeme). label_token at i ∷ colon_token at i ∷ record { symbol = grammar.Symbol.word (first w ∷ rest w); at = at + (1 + length (decimal i)) + 1 + 1 } ∷ ts) (lexemes_append (operand_at at i w) operand (blank 10 ∷ behind))
+
+and_both : (a b : Bool) → a ≡ true → b ≡ true → (a && b) ≡ true
+and_both a b p q = rw (p, q) refl
+
+line_form : (at n i : ℕ) (insn : Insn) (op : Op) (s : Spells (operand_of op) n i insn) (r : HasRow op s.classes s.fields) → i < 2 ^ 64
+    → Form (line_tokens at i (mnemonic_of op) s.segments) (line_item at i (mnemonic_of op) s.segments r.row)
+line_form at n i insn op s r l = record {
+  count = 1;
+  row = r.known;
+  fits = and_both _ _ (label_fits i l) body;
+  labels = refl;
+  body = refl;
+}
+  where
+    body : fits_all (classes r.row) (body_tokens at i (mnemonic_of op) s.segments) ≡ true
+    body = rw (r.mnemonic, r.operand, (mnemonic_word op).0) (and_both _ _ (same_bytes_refl (mnemonic_of op)) (s.fits (operand_at at i (mnemonic_of op))))
+
+line_encoded : (at n i : ℕ) (insn : Insn) (op : Op) (s : Spells (operand_of op) n i insn) (r : HasRow op s.classes s.fields) → op_of insn.code ≡ Some op
+    → (all : List Item) → Places n all → IsEncoded all i (line_item at i (mnemonic_of op) s.segments r.row) (plain insn)
+line_encoded at n i insn op s r known all p =
+    let e : plain insn ≡ plain_as (operand_of op) insn = plain_is insn op known in
+    record {
+      code = ap (λ (x : Insn). x.code) e ∙ (code_only insn.code op known ∙ sym r.code);
+      fields = rw (r.fields, r.operand, e) (s.fills (operand_at at i (mnemonic_of op)) all p);
+    }
+
+pub lists_line : (n i : ℕ) (insn : Insn) (op : Op) (insns : List Insn) → op_of insn.code ≡ Some op → i < 2 ^ 64 → Spells (operand_of op) n i insn → Lists n (i + 1) insns → Lists n i (insn ∷ insns)
+lists_line n i insn op insns known l s b =
+    let w = mnemonic_of op in
+    let r : HasRow op s.classes s.fields = s.listed op refl in
+    record {
+      segments = line_segments i w s.segments b.segments;
+      text = line_text i insn op s.segments b.segments (flat_map numbered_line (enumerate_from (i + 1) insns)) known (mnemonic_word op).0 s.text b.text;
+      are = (is_label_segment i l, ((lit< tt, refl), ((lit< tt, refl), (((mnemonic_word op).1, (mnemonic_word op).2, (mnemonic_word op).3), are_append s.segments (blank 10 ∷ b.segments) s.are ((lit< tt, refl), b.are)))));
+      begins = refl;
+      apart = and_both _ _ (ends_before s.segments b.segments s.ends) (apart_before false s.segments b.segments s.apart b.begins b.apart);
+      positive = positive_append s.segments (blank 10 ∷ b.segments) s.positive b.positive;
+      items = λ at. line_item at i w s.segments r.row ∷ b.items (behind_at at i w s.segments);
+      size = λ at. ap suc (b.size (behind_at at i w s.segments));
+      parsed = λ at. (line_tokens at i w s.segments, lexemes_at (behind_at at i w s.segments) b.segments, line_lexemes at i w s.segments b.segments, line_form at n i insn op s r l, b.parsed (behind_at at i w s.segments));
+      labelled = λ at. (record { label = label_token at i; only = refl; named = refl }, b.labelled (behind_at at i w s.segments));
+      encoded = λ at all p. (line_encoded at n i insn op s r known all p, b.encoded (behind_at at i w s.segments) all p);
+    }

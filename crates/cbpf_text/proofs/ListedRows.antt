@@ -1,0 +1,277 @@
+-- Each operation has a row of the table for the tokens that a listing writes.
+use Rattle.std.proofs.Common.{◌≡◌, ℕ, zero, suc, ◌+◌, ◌<◌, Bool, true, false, cond, ◌&&◌, List, [], ◌∷◌, ◌++◌, refl, ap, sym, ◌∙◌, eqb-true, ltb-true, Option, Some, None}
+use Rattle.std.specs.Prelude.{◌==◌, nat_lt, codes, Contains}
+use Rattle.std.specs.List.{list_all, list_any}
+use Rattle.cbpf_code.specs.declared.insn.Insn.{Insn}
+use Rattle.cbpf_code.specs.declared.opcode.Op.{Op}
+use Rattle.cbpf_code.specs.declared.opcode.Op.TheVariants.{LdImm, LdAbs, LdInd, LdMem, LdLen, LdxImm, LdxMem, LdxLen, LdxMsh, St, Stx, Alu, Neg, Ja, Jump, RetK, RetA, Tax, Txa}
+use Rattle.cbpf_code.specs.declared.opcode.Size.{Size}
+use Rattle.cbpf_code.specs.declared.opcode.Size.TheVariants.{Word, Half, Byte}
+use Rattle.cbpf_code.specs.declared.opcode.Src.TheVariants as src
+use Rattle.cbpf_code.specs.Opcode.{op_table, look_up, op_of, code_of}
+use Rattle.cbpf_code.specs.Plain.{uses_k, uses_offsets, kept, plain, plain_for}
+use Rattle.cbpf_code.proofs.TableLemmas.{code_known}
+use Rattle.cbpf_lex.specs.Bytes.{is_letter, is_name_byte}
+use Rattle.cbpf_grammar.specs.declared.table.Fields.{Fields}
+use Rattle.cbpf_grammar.specs.declared.table.Fields.TheVariants.{Constant, Ancillary, Goto, Branch, Swapped}
+use Rattle.cbpf_grammar.specs.Classes.{Class}
+use Rattle.cbpf_grammar.specs.Classes.Class.{the_word, the_mark, literal, negated, exactly, extension, name}
+use Rattle.cbpf_grammar.specs.Lexemes.{same_bytes}
+use Rattle.cbpf_grammar.specs.Table.{Row, table, mnemonics}
+use Rattle.cbpf_grammar.proofs.Apart.{same_bytes_eq}
+use Rattle.cbpf_grammar.proofs.Elements.{some_element}
+use Rattle.cbpf_listing.specs.declared.syntax.Operand.{Operand}
+use Rattle.cbpf_listing.specs.declared.syntax.Operand.TheVariants as operands
+use Rattle.cbpf_listing.specs.Syntax.{mnemonic_of, operand_of}
+
+-- the classes of the tokens that a listing writes behind a mnemonic, and where they go
+abbrev pub operand_classes : Operand → List Class
+operand_classes operands.Bare = []
+operand_classes operands.X = the_word (codes "x") ∷ []
+operand_classes operands.A = the_word (codes "a") ∷ []
+operand_classes operands.Length = the_word (codes "len") ∷ []
+operand_classes operands.Immediate = the_mark 35 ∷ literal ∷ []
+operand_classes operands.Absolute = the_mark 91 ∷ literal ∷ the_mark 93 ∷ []
+operand_classes operands.Indexed = the_mark 91 ∷ the_word (codes "x") ∷ the_mark 43 ∷ literal ∷ the_mark 93 ∷ []
+operand_classes operands.Memory = the_word (codes "M") ∷ the_mark 91 ∷ literal ∷ the_mark 93 ∷ []
+operand_classes operands.Header = exactly 4 ∷ the_mark 42 ∷ the_mark 40 ∷ the_mark 91 ∷ literal ∷ the_mark 93 ∷ the_mark 38 ∷ exactly 15 ∷ the_mark 41 ∷ []
+operand_classes operands.Label = name ∷ []
+operand_classes operands.ImmediateTwo = the_mark 35 ∷ literal ∷ the_mark 44 ∷ name ∷ the_mark 44 ∷ name ∷ []
+operand_classes operands.XTwo = the_word (codes "x") ∷ the_mark 44 ∷ name ∷ the_mark 44 ∷ name ∷ []
+
+abbrev pub operand_fields : Operand → Fields
+operand_fields operands.Bare = Constant
+operand_fields operands.X = Constant
+operand_fields operands.A = Constant
+operand_fields operands.Length = Constant
+operand_fields operands.Immediate = Constant
+operand_fields operands.Absolute = Constant
+operand_fields operands.Indexed = Constant
+operand_fields operands.Memory = Constant
+operand_fields operands.Header = Constant
+operand_fields operands.Label = Goto
+operand_fields operands.ImmediateTwo = Branch
+operand_fields operands.XTwo = Branch
+
+abbrev same_class : Class → Class → Bool
+same_class (the_word v) (the_word w) = same_bytes v w
+same_class (the_mark a) (the_mark b) = a == b
+same_class literal literal = true
+same_class (exactly m) (exactly n) = m == n
+same_class extension extension = true
+same_class name name = true
+same_class c d = false
+
+abbrev same_classes : List Class → List Class → Bool
+same_classes [] [] = true
+same_classes [] (d ∷ ds) = false
+same_classes (c ∷ cs) [] = false
+same_classes (c ∷ cs) (d ∷ ds) = same_class c d && same_classes cs ds
+
+abbrev same_fields : Fields → Fields → Bool
+same_fields Constant Constant = true
+same_fields Ancillary Ancillary = true
+same_fields Goto Goto = true
+same_fields Branch Branch = true
+same_fields f g = false
+
+abbrev is_row_for : Op → List Class → Fields → Row → Bool
+is_row_for op cs f row = code_of row.op == code_of op && (same_bytes row.mnemonic (mnemonic_of op) && (same_classes row.operand cs && same_fields row.fields f))
+
+abbrev has_row : Op → Bool
+has_row op = list_any (is_row_for op (operand_classes (operand_of op)) (operand_fields (operand_of op))) table
+
+-- every operation has its row
+operations_have_rows : list_all (λ (e : ℕ × Op). has_row e.1) op_table ≡ true
+unfolding mnemonics
+operations_have_rows = refl
+
+-- and where k is an extension's place, the one with its name
+load_has_row : (s : Size) → list_any (is_row_for (LdAbs s) (extension ∷ []) Ancillary) table ≡ true
+unfolding mnemonics
+load_has_row Word = refl
+load_has_row Half = refl
+load_has_row Byte = refl
+
+and_parts : (a b : Bool) → (a && b) ≡ true → (a ≡ true) × (b ≡ true)
+and_parts true b e = (refl, e)
+and_parts false b e = let k : false ≡ true = e in cc
+
+same_class_eq : (c d : Class) → same_class c d ≡ true → c ≡ d
+same_class_eq (the_word v) (the_word w) e = ap the_word (same_bytes_eq v w e)
+same_class_eq (the_mark a) (the_mark b) e = ap the_mark (eqb-true a b e)
+same_class_eq literal literal e = refl
+same_class_eq (exactly m) (exactly n) e = ap exactly (eqb-true m n e)
+same_class_eq extension extension e = refl
+same_class_eq name name e = refl
+same_class_eq c d e = let k : false ≡ true = e in cc
+
+same_classes_eq : (cs ds : List Class) → same_classes cs ds ≡ true → cs ≡ ds
+same_classes_eq [] [] e = refl
+same_classes_eq [] (d ∷ ds) e = let k : false ≡ true = e in cc
+same_classes_eq (c ∷ cs) [] e = let k : false ≡ true = e in cc
+same_classes_eq (c ∷ cs) (d ∷ ds) e =
+    let p : (same_class c d ≡ true) × (same_classes cs ds ≡ true) = and_parts (same_class c d) _ e in
+    let h : c ≡ d = same_class_eq c d p.0 in
+    let t : cs ≡ ds = same_classes_eq cs ds p.1 in
+    λ i. h i ∷ t i
+
+same_fields_eq : (f g : Fields) → same_fields f g ≡ true → f ≡ g
+same_fields_eq Constant Constant e = refl
+same_fields_eq Ancillary Ancillary e = refl
+same_fields_eq Goto Goto e = refl
+same_fields_eq Branch Branch e = refl
+same_fields_eq f g e = let k : false ≡ true = e in cc
+
+-- the operation's row with these classes and fields
+pub record HasRow (op : Op) (cs : List Class) (f : Fields) : Type 0 where
+  pub row : Row
+  pub known : Contains table row
+  pub code : code_of row.op ≡ code_of op
+  pub mnemonic : row.mnemonic ≡ mnemonic_of op
+  pub operand : row.operand ≡ cs
+  pub fields : row.fields ≡ f
+
+found_row : (op : Op) (cs : List Class) (f : Fields) → list_any (is_row_for op cs f) table ≡ true → HasRow op cs f
+found_row op cs f e =
+    let r = some_element (is_row_for op cs f) table e in
+    let p = and_parts (code_of r.0.op == code_of op) _ r.2 in
+    let q = and_parts (same_bytes r.0.mnemonic (mnemonic_of op)) _ p.1 in
+    let s = and_parts (same_classes r.0.operand cs) _ q.1 in
+    record {
+      row = r.0;
+      known = r.1;
+      code = eqb-true (code_of r.0.op) (code_of op) p.0;
+      mnemonic = same_bytes_eq r.0.mnemonic (mnemonic_of op) q.0;
+      operand = same_classes_eq r.0.operand cs s.0;
+      fields = same_fields_eq r.0.fields f s.1;
+    }
+
+-- what holds of each entry of a table holds of what is found in it
+looked_up : {V : Type 0} (p : V → Bool) (t : List (ℕ × V)) (key : ℕ) (v : V) → list_all (λ (e : ℕ × V). p e.1) t ≡ true → look_up t key ≡ Some v → p v ≡ true
+looked_up p [] key v a found = cc
+looked_up p (e ∷ es) key v a found = by_test (key == e.0) found (λ f. looked_up p es key v (and_parts (p e.1) _ a).1 f)
+  where
+    by_test : (t : Bool) → cond t (Some e.1) (look_up es key) ≡ Some v → (look_up es key ≡ Some v → p v ≡ true) → p v ≡ true
+    by_test true f again = let h : e.1 ≡ v = cc in rw (← h) (and_parts (p e.1) _ a).0
+    by_test false f again = again f
+
+holds_for_all : (p : Op → Bool) → list_all (λ (e : ℕ × Op). p e.1) op_table ≡ true → (op : Op) → p op ≡ true
+unfolding op_of
+holds_for_all p a op = looked_up p op_table (code_of op) op a (code_known op)
+
+pub operation_row : (op : Op) (o : Operand) → operand_of op ≡ o → HasRow op (operand_classes o) (operand_fields o)
+operation_row op o e = rw (← e) (found_row op (operand_classes (operand_of op)) (operand_fields (operand_of op)) (holds_for_all has_row operations_have_rows op))
+
+pub named_row : (op : Op) → operand_of op ≡ operands.Absolute → HasRow op (extension ∷ []) Ancillary
+named_row op e = by_op op e
+  where
+    by_op : (op : Op) → operand_of op ≡ operands.Absolute → HasRow op (extension ∷ []) Ancillary
+    by_op (LdAbs s) e = found_row (LdAbs s) (extension ∷ []) Ancillary (load_has_row s)
+    by_op LdImm e = cc
+    by_op (LdInd s) e = cc
+    by_op LdMem e = cc
+    by_op LdLen e = cc
+    by_op LdxImm e = cc
+    by_op LdxMem e = cc
+    by_op LdxLen e = cc
+    by_op LdxMsh e = cc
+    by_op St e = cc
+    by_op Stx e = cc
+    by_op (Alu a src.K) e = cc
+    by_op (Alu a src.X) e = cc
+    by_op Neg e = cc
+    by_op Ja e = cc
+    by_op (Jump c src.K) e = cc
+    by_op (Jump c src.X) e = cc
+    by_op RetK e = cc
+    by_op RetA e = cc
+    by_op Tax e = cc
+    by_op Txa e = cc
+
+-- a mnemonic is a word
+abbrev pub first : List ℕ → ℕ
+first [] = 0
+first (b ∷ bs) = b
+
+abbrev pub rest : List ℕ → List ℕ
+rest [] = []
+rest (b ∷ bs) = bs
+
+abbrev pub IsWord : List ℕ → Type 0
+IsWord w = (first w ∷ rest w ≡ w) × (first w < 256) × (is_letter (first w) ≡ true) × (list_all is_name_byte (rest w) ≡ true)
+
+abbrev is_word : List ℕ → Bool
+is_word [] = false
+is_word (b ∷ bs) = nat_lt b 256 && (is_letter b && list_all is_name_byte bs)
+
+word_of_test : (w : List ℕ) → is_word w ≡ true → IsWord w
+word_of_test [] e = let k : false ≡ true = e in cc
+word_of_test (b ∷ bs) e =
+    let p = and_parts (nat_lt b 256) _ e in
+    let q = and_parts (is_letter b) _ p.1 in
+    (refl, ltb-true b 256 p.0, q.0, q.1)
+
+mnemonics_are_words : list_all (λ (e : ℕ × Op). is_word (mnemonic_of e.1)) op_table ≡ true
+mnemonics_are_words = refl
+
+pub mnemonic_word : (op : Op) → IsWord (mnemonic_of op)
+mnemonic_word op = word_of_test (mnemonic_of op) (holds_for_all (λ o. is_word (mnemonic_of o)) mnemonics_are_words op)
+
+-- which fields an instruction keeps, by its operand
+abbrev pub keeps_k : Operand → Bool
+keeps_k operands.Bare = false
+keeps_k operands.X = false
+keeps_k operands.A = false
+keeps_k operands.Length = false
+keeps_k operands.Immediate = true
+keeps_k operands.Absolute = true
+keeps_k operands.Indexed = true
+keeps_k operands.Memory = true
+keeps_k operands.Header = true
+keeps_k operands.Label = true
+keeps_k operands.ImmediateTwo = true
+keeps_k operands.XTwo = false
+
+abbrev pub keeps_offsets : Operand → Bool
+keeps_offsets operands.Bare = false
+keeps_offsets operands.X = false
+keeps_offsets operands.A = false
+keeps_offsets operands.Length = false
+keeps_offsets operands.Immediate = false
+keeps_offsets operands.Absolute = false
+keeps_offsets operands.Indexed = false
+keeps_offsets operands.Memory = false
+keeps_offsets operands.Header = false
+keeps_offsets operands.Label = false
+keeps_offsets operands.ImmediateTwo = true
+keeps_offsets operands.XTwo = true
+
+abbrev pub plain_as : Operand → Insn → Insn
+plain_as o insn = record insn { jt = kept (keeps_offsets o) insn.jt; jf = kept (keeps_offsets o) insn.jf; k = kept (keeps_k o) insn.k }
+
+plain_by : (insn : Insn) (op : Op) → plain_for insn (Some op) ≡ plain_as (operand_of op) insn
+plain_by insn LdImm = refl
+plain_by insn (LdAbs s) = refl
+plain_by insn (LdInd s) = refl
+plain_by insn LdMem = refl
+plain_by insn LdLen = refl
+plain_by insn LdxImm = refl
+plain_by insn LdxMem = refl
+plain_by insn LdxLen = refl
+plain_by insn LdxMsh = refl
+plain_by insn St = refl
+plain_by insn Stx = refl
+plain_by insn (Alu a src.K) = refl
+plain_by insn (Alu a src.X) = refl
+plain_by insn Neg = refl
+plain_by insn Ja = refl
+plain_by insn (Jump c src.K) = refl
+plain_by insn (Jump c src.X) = refl
+plain_by insn RetK = refl
+plain_by insn RetA = refl
+plain_by insn Tax = refl
+plain_by insn Txa = refl
+
+pub plain_is : (insn : Insn) (op : Op) → op_of insn.code ≡ Some op → plain insn ≡ plain_as (operand_of op) insn
+plain_is insn op e = ap (plain_for insn) e ∙ plain_by insn op

@@ -1,0 +1,129 @@
+//! Small programs and captures.
+
+use cbpf_code::{Insn, Program, check};
+use pcap_classic::Capture;
+use std::alloc::Global;
+use std::process::Abort;
+
+/// Code, jt, jf and k of an instruction.
+pub(crate) type Code = (u16, u8, u8, u32);
+
+/// The captured bytes of a packet, and its original length.
+pub(crate) type Recorded = (&'static [u8], u32);
+
+/// `ret #1`.
+const ONE_RETURN: &[Code] = &[(6, 0, 0, 1)];
+
+/// `ld #7`, `add #1`, `ret a`.
+const STRAIGHT: &[Code] = &[(0, 0, 0, 7), (4, 0, 0, 1), (22, 0, 0, 0)];
+
+/// `ldb [0]`, `jeq #7, l2, l4`, `ldb [1]`, `jset #1, l4, l5`, `ret #0`, `ret #1`.
+const BOTH_BRANCHES: &[Code] = &[
+    (48, 0, 0, 0),
+    (21, 0, 2, 7),
+    (48, 0, 0, 1),
+    (69, 0, 1, 1),
+    (6, 0, 0, 0),
+    (6, 0, 0, 1),
+];
+
+/// `ldb [0]`, `jgt #5, l2, l3`, `add #1`, `ret a`: two ways that meet again.
+const JOINED_BRANCHES: &[Code] = &[(48, 0, 0, 0), (37, 0, 1, 5), (4, 0, 0, 1), (22, 0, 0, 0)];
+
+/// `ldx len`, `ldb [x + 4294967295]`, `ldh [0]`, `ret a`: the last byte that was on the wire.
+const LOADS: &[Code] = &[
+    (129, 0, 0, 0),
+    (80, 0, 0, 4294967295),
+    (40, 0, 0, 0),
+    (22, 0, 0, 0),
+];
+
+/// `ldb [0]`, `tax`, `ld #8`, `div x`, `ret a`.
+const DIVIDES: &[Code] = &[
+    (48, 0, 0, 0),
+    (7, 0, 0, 0),
+    (0, 0, 0, 8),
+    (60, 0, 0, 0),
+    (22, 0, 0, 0),
+];
+
+/// `ld rand`, `ret a`.
+const RANDOM: &[Code] = &[(32, 0, 0, 4294963256), (22, 0, 0, 0)];
+
+/// `ldb [0]`, `jeq #7, l2, l3`, `ldh rand`, `ret a`: one way asks for an extension.
+const RANDOM_BRANCH: &[Code] = &[
+    (48, 0, 0, 0),
+    (21, 0, 1, 7),
+    (40, 0, 0, 4294963256),
+    (22, 0, 0, 0),
+];
+
+/// `ld #9`, `st M[0]`, `ldb [0]`, `st M[0]`, `ld M[0]`, `ret a`.
+const SLOTS: &[Code] = &[
+    (0, 0, 0, 9),
+    (2, 0, 0, 0),
+    (48, 0, 0, 0),
+    (2, 0, 0, 0),
+    (96, 0, 0, 0),
+    (22, 0, 0, 0),
+];
+
+/// `ja l2`, `ret #1`, `ret #0`: an instruction that no packet reaches.
+const UNREACHED: &[Code] = &[(5, 0, 0, 1), (6, 0, 0, 1), (6, 0, 0, 0)];
+
+pub(crate) const PROGRAMS: [&[Code]; 10] = [
+    ONE_RETURN,
+    STRAIGHT,
+    BOTH_BRANCHES,
+    JOINED_BRANCHES,
+    LOADS,
+    DIVIDES,
+    RANDOM,
+    RANDOM_BRANCH,
+    SLOTS,
+    UNREACHED,
+];
+
+pub(crate) const CAPTURES: [&[Recorded]; 6] = [
+    &[],
+    &[(&[], 60)],
+    &[(&[7, 1], 2)],
+    &[(&[7], 1), (&[0, 9, 8], 3)],
+    &[(&[6, 2, 5], 4), (&[7, 0], 2), (&[7, 3, 1, 2], 4)],
+    &[(&[0, 0], 2), (&[], 0), (&[7, 255], 1500)],
+];
+
+/// The file header, little-endian with microseconds.
+const HEADER: [u8; 24] = [
+    0xd4, 0xc3, 0xb2, 0xa1, 2, 0, 4, 0, 0, 0, 0, 0, 0, 0, 0, 0, 0xff, 0xff, 0, 0, 1, 0, 0, 0,
+];
+
+pub(crate) fn program(rt: &impl Abort, alloc: Global, list: &[Code]) -> Program {
+    let mut all = Vec::new(alloc);
+    for (code, jt, jf, k) in list {
+        let insn = Insn {
+            code: *code,
+            jt: *jt,
+            jf: *jf,
+            k: *k,
+        };
+        all.push(insn).expect(rt, "memory");
+    }
+    check(all).ok().expect(rt, "a program")
+}
+
+pub(crate) fn capture(rt: &impl Abort, alloc: Global, packets: &[Recorded]) -> Capture {
+    let mut file = Vec::new(alloc);
+    file.extend_from_slice(&HEADER).expect(rt, "memory");
+    for (bytes, wire) in packets {
+        let captured = u32::try_from(bytes.len()).ok().expect(rt, "a short packet");
+        for number in [0, 0, captured, *wire] {
+            file.extend_from_slice(&number.to_le_bytes())
+                .expect(rt, "memory");
+        }
+        file.extend_from_slice(bytes).expect(rt, "memory");
+    }
+    Capture::from_bytes(alloc, file)
+        .ok()
+        .expect(rt, "a capture")
+}
