@@ -6,3 +6,4 @@ pub mod RunLemmas
 pub mod TurnLemmas
 pub mod KeepLemmas
 pub mod WholeLemmas
+pub mod ShownLemmas

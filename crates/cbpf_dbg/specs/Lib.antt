@@ -3,3 +3,4 @@ pub mod View
 pub mod Commands
 pub mod Walk
 pub mod Session
+pub mod Shown

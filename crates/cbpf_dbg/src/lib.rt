@@ -16,6 +16,7 @@ mod step;
 mod stops;
 mod walk;
 mod whole;
+mod write_stop;
 
 pub use cbpf_machine::{ListTrail, MarkTrail, Meter, State, Trail};
 pub use reply::{Counts, Place, RunReply, SessionFault, Stop, Why};
