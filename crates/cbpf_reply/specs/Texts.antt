@@ -1,5 +1,5 @@
 -- The replies to the commands of a session: counts of packets, places, breakpoints, stops and refusals (this project's own; the kernel's Documentation/networking/filter shows the counts of `run` for `bpf_dbg`).
-use Rattle.std.specs.Prelude.{ℕ, zero, suc, List, [], ◌∷◌, ◌++◌, length, codes, decimal, Option, Some, None}
+use Rattle.std.specs.Prelude.{ℕ, ◌==◌, if◌then◌else◌, List, [], ◌∷◌, ◌++◌, length, codes, decimal, Option, Some, None}
 use Rattle.std.specs.List.{flat_map}
 use Rattle.cbpf_code.specs.Text.{joined}
 use Rattle.cbpf_code.specs.Extension.{ext_name}
@@ -19,14 +19,18 @@ use Rattle.cbpf_dbg.specs.declared.reply.Why.TheVariants.{Break, Step, Unknown}
 
 -- ---- refusals
 
+-- a number between two texts
+abbrev pub with_number : List ℕ → ℕ → List ℕ → List ℕ
+with_number before n after = joined (before ∷ decimal n ∷ after ∷ [])
+
 unfoldable pub fault_text : SessionFault → List ℕ
 fault_text NoProgram = codes "error: S1 no program\n"
 fault_text NoCapture = codes "error: S2 no capture\n"
 fault_text NoPackets = codes "error: S3 capture has no packets\n"
 fault_text NoInstruction = codes "error: S4 no such instruction\n"
 fault_text NoPacket = codes "error: S5 no such packet\n"
-fault_text (NoStep n) = joined (codes "error: S6 packet has " ∷ decimal n ∷ codes " steps\n" ∷ [])
-fault_text (TooFarBack n) = joined (codes "error: S7 at most " ∷ decimal n ∷ codes " back\n" ∷ [])
+fault_text (NoStep n) = with_number (codes "error: S6 packet has ") n (codes " steps\n")
+fault_text (TooFarBack n) = with_number (codes "error: S7 at most ") n (codes " back\n")
 fault_text ZeroCount = codes "error: S8 count is zero\n"
 fault_text Memory = codes "error: out of memory\n"
 
@@ -38,14 +42,17 @@ place_text before p = joined (before ∷ decimal p.packet ∷ codes " " ∷ deci
 -- ---- counts: how many packets passed and failed, and where there is one, how many asked for an unknown extension
 
 abbrev pub unknown_text : ℕ → List ℕ
-unknown_text zero = []
-unknown_text (suc n) = codes " unknown:" ++ decimal (suc n)
+unknown_text n = if n == 0 then [] else joined (codes " unknown:" ∷ decimal n ∷ [])
 
-abbrev pub known_text : Counts → List ℕ
-known_text n = joined (codes "bpf passes:" ∷ decimal n.passes ∷ codes " fails:" ∷ decimal n.fails ∷ [])
+-- two numbers, each behind a text
+abbrev pub two : List ℕ → ℕ → List ℕ → ℕ → List ℕ
+two before m between n = joined (before ∷ decimal m ∷ between ∷ decimal n ∷ [])
+
+unfoldable pub known_text : ℕ → ℕ → List ℕ
+known_text passes fails = two (codes "bpf passes:") passes (codes " fails:") fails
 
 unfoldable pub counts_text : Counts → List ℕ
-counts_text n = known_text n ++ unknown_text n.unknown
+counts_text n = known_text n.passes n.fails ++ unknown_text n.unknown
 
 -- with the next packet, where a limit was reached
 abbrev pub next_text : ℕ → List ℕ
@@ -69,8 +76,11 @@ run_text (Finished n) m = finished_text n
 abbrev pub ended_line : List Insn → ℕ → List ℕ
 ended_line list n = line_text list n ++ codes "\n"
 
+unfoldable pub set_head : List ℕ
+set_head = codes "breakpoint at: "
+
 abbrev pub set_text : List Insn → ℕ → List ℕ
-set_text list n = codes "breakpoint at: " ++ ended_line list n
+set_text list n = set_head ++ ended_line list n
 
 -- the breakpoint's instruction, where a program is loaded
 abbrev pub set_in : Option (List Insn) → ℕ → List ℕ
@@ -83,9 +93,12 @@ number_text n = codes " " ++ decimal n
 abbrev pub numbers_text : List ℕ → List ℕ
 numbers_text breakpoints = flat_map number_text breakpoints ++ codes "\n"
 
+unfoldable pub numbers_head : List ℕ
+numbers_head = codes "breakpoints:"
+
 -- in order of setting
 unfoldable pub breakpoints_text : List ℕ → List ℕ
-breakpoints_text breakpoints = codes "breakpoints:" ++ numbers_text breakpoints
+breakpoints_text breakpoints = numbers_head ++ numbers_text breakpoints
 
 -- ---- the list of stops
 
@@ -101,11 +114,8 @@ registers_text s =
 unfoldable pub stop_line : Stop → List ℕ
 stop_line s = registers_text s ++ why_text s.why
 
-abbrev pub ended_number : ℕ → List ℕ
-ended_number n = decimal n ++ codes "\n"
-
 abbrev pub total_text : ℕ → List ℕ
-total_text n = codes "stops: " ++ ended_number n
+total_text n = with_number (codes "stops: ") n (codes "\n")
 
 -- a line for each, and how many there are
 unfoldable pub stops_text : List Stop → List ℕ

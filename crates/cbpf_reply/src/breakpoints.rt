@@ -1,6 +1,7 @@
 //! Breakpoints.
 
 ghost use Rattle.std.specs.Prelude.{◌<◌, length};
+ghost use Rattle.std.specs.List.{flat_map};
 ghost use Rattle.cbpf_code.specs.Writing.{Wrote};
 ghost use Rattle.cbpf_reply.specs.Texts as spec;
 
@@ -25,6 +26,13 @@ fn write_ended_line<W: Write, A: Allocator>(
     write_bytes(w, b"\n")
 }
 
+#[tactic(auto, unfolding(crate::specs::Texts::set_head))]
+fn write_set_head<W: Write>(w: &mut W) -> Result<(), WriteFault>
+    ensures { Wrote (W.contents w.old) (W.contents w.new) result spec.set_head }
+{
+    write_bytes(w, b"breakpoint at: ")
+}
+
 /// Writes where a breakpoint was set: the line of its instruction. `n` is less than the program's length.
 ///
 /// # Errors
@@ -39,7 +47,7 @@ pub fn write_breakpoint<W: Write, A: Allocator>(
     requires { n < length program.now }
     ensures { Wrote (W.contents w.old) (W.contents w.new) result (spec.set_text program.now n) }
 {
-    write_bytes(w, b"breakpoint at: ")?;
+    write_set_head(w)?;
     write_ended_line(w, program, n)
 }
 
@@ -58,8 +66,9 @@ fn write_numbers<W: Write, T: Trail, A: Allocator>(
     ensures { Wrote (W.contents w.old) (W.contents w.new) result (flat_map spec.number_text session.now.breakpoints) }
 {
     for i in 0..session.breakpoint_count() {
-        if let Some(n) = session.breakpoint_at(i) {
-            write_number(w, n)?;
+        match session.breakpoint_at(i) {
+            Some(n) => write_number(w, n)?,
+            None => unreachable!(),
         }
     }
     Ok(())
@@ -76,6 +85,13 @@ fn write_ended_numbers<W: Write, T: Trail, A: Allocator>(
     write_bytes(w, b"\n")
 }
 
+#[tactic(auto, unfolding(crate::specs::Texts::numbers_head))]
+fn write_numbers_head<W: Write>(w: &mut W) -> Result<(), WriteFault>
+    ensures { Wrote (W.contents w.old) (W.contents w.new) result spec.numbers_head }
+{
+    write_bytes(w, b"breakpoints:")
+}
+
 /// Writes the breakpoints of a session, in order of setting.
 ///
 /// # Errors
@@ -88,6 +104,6 @@ pub fn write_breakpoints<W: Write, T: Trail, A: Allocator>(
 ) -> Result<(), WriteFault>
     ensures { Wrote (W.contents w.old) (W.contents w.new) result (spec.breakpoints_text session.now.breakpoints) }
 {
-    write_bytes(w, b"breakpoints:")?;
+    write_numbers_head(w)?;
     write_ended_numbers(w, session)
 }

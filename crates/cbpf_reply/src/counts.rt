@@ -1,5 +1,6 @@
 //! Counts and places, and the answers of runs and steps.
 
+ghost use Rattle.std.specs.Prelude.{◌≡◌};
 ghost use Rattle.cbpf_code.specs.Writing.{Wrote};
 ghost use Rattle.cbpf_dbg.specs.Shown.{Shows};
 ghost use Rattle.cbpf_reply.specs.Texts as spec;
@@ -31,20 +32,34 @@ pub fn write_place<W: Write>(w: &mut W, before: &[u8], place: Place) -> Result<(
     )
 }
 
-/// How many packets passed and failed.
-fn write_known<W: Write>(w: &mut W, counts: Counts) -> Result<(), WriteFault>
-    ensures { Wrote (W.contents w.old) (W.contents w.new) result (spec.known_text counts) }
+/// Two numbers, each behind a text.
+fn write_two<W: Write>(
+    w: &mut W,
+    before: &[u8],
+    m: u64,
+    between: &[u8],
+    n: u64,
+) -> Result<(), WriteFault>
+    ensures { Wrote (W.contents w.old) (W.contents w.new) result (spec.two before.now m between.now n) }
 {
-    let (mut passes, mut fails) = (Buffer::new(), Buffer::new());
+    let (mut first, mut second) = (Buffer::new(), Buffer::new());
     write_parts(
         w,
         &[
-            b"bpf passes:",
-            passes.format(counts.passes).as_bytes(),
-            b" fails:",
-            fails.format(counts.fails).as_bytes(),
+            before,
+            first.format(m).as_bytes(),
+            between,
+            second.format(n).as_bytes(),
         ],
     )
+}
+
+/// How many packets passed and failed.
+#[tactic(auto, unfolding(crate::specs::Texts::known_text))]
+fn write_known<W: Write>(w: &mut W, passes: u64, fails: u64) -> Result<(), WriteFault>
+    ensures { Wrote (W.contents w.old) (W.contents w.new) result (spec.known_text passes fails) }
+{
+    write_two(w, b"bpf passes:", passes, b" fails:", fails)
 }
 
 /// How many packets asked for an unknown extension, where one did.
@@ -52,7 +67,7 @@ fn write_unknown<W: Write>(w: &mut W, unknown: u64) -> Result<(), WriteFault>
     ensures { Wrote (W.contents w.old) (W.contents w.new) result (spec.unknown_text unknown) }
 {
     if unknown == 0 {
-        return Ok(());
+        return write_bytes(w, b"");
     }
     let mut number = Buffer::new();
     write_parts(w, &[b" unknown:", number.format(unknown).as_bytes()])
@@ -62,7 +77,7 @@ fn write_unknown<W: Write>(w: &mut W, unknown: u64) -> Result<(), WriteFault>
 fn write_counts<W: Write>(w: &mut W, counts: Counts) -> Result<(), WriteFault>
     ensures { Wrote (W.contents w.old) (W.contents w.new) result (spec.counts_text counts) }
 {
-    write_known(w, counts)?;
+    write_known(w, counts.passes, counts.fails)?;
     write_unknown(w, counts.unknown)
 }
 

@@ -8,6 +8,18 @@ use cbpf_dbg::SessionFault;
 use itoa::Buffer;
 use std::io::Write;
 
+fn write_with_number<W: Write>(
+    w: &mut W,
+    before: &[u8],
+    n: u32,
+    after: &[u8],
+) -> Result<(), WriteFault>
+    ensures { Wrote (W.contents w.old) (W.contents w.new) result (spec.with_number before.now n after.now) }
+{
+    let mut number = Buffer::new();
+    write_parts(w, &[before, number.format(n).as_bytes(), after])
+}
+
 /// Writes the line that tells a refusal, with its number S1 to S8, or that there was no memory.
 ///
 /// # Errors
@@ -17,29 +29,18 @@ use std::io::Write;
 pub fn write_fault<W: Write>(w: &mut W, fault: SessionFault) -> Result<(), WriteFault>
     ensures { Wrote (W.contents w.old) (W.contents w.new) result (spec.fault_text fault) }
 {
-    let mut number = Buffer::new();
     match fault {
         SessionFault::NoProgram => write_bytes(w, b"error: S1 no program\n"),
         SessionFault::NoCapture => write_bytes(w, b"error: S2 no capture\n"),
         SessionFault::NoPackets => write_bytes(w, b"error: S3 capture has no packets\n"),
         SessionFault::NoInstruction => write_bytes(w, b"error: S4 no such instruction\n"),
         SessionFault::NoPacket => write_bytes(w, b"error: S5 no such packet\n"),
-        SessionFault::NoStep(steps) => write_parts(
-            w,
-            &[
-                b"error: S6 packet has ",
-                number.format(steps).as_bytes(),
-                b" steps\n",
-            ],
-        ),
-        SessionFault::TooFarBack(most) => write_parts(
-            w,
-            &[
-                b"error: S7 at most ",
-                number.format(most).as_bytes(),
-                b" back\n",
-            ],
-        ),
+        SessionFault::NoStep(steps) => {
+            write_with_number(w, b"error: S6 packet has ", steps, b" steps\n")
+        }
+        SessionFault::TooFarBack(most) => {
+            write_with_number(w, b"error: S7 at most ", most, b" back\n")
+        }
         SessionFault::ZeroCount => write_bytes(w, b"error: S8 count is zero\n"),
         SessionFault::Memory => write_bytes(w, b"error: out of memory\n"),
     }

@@ -1,11 +1,11 @@
 //! The list of stops.
 
-ghost use Rattle.std.specs.Prelude.{◌≡◌, ◌+◌, ◌<◌, ◌^◌, length, OnOk};
+ghost use Rattle.std.specs.Prelude.{◌≡◌, ◌+◌, ◌<◌, ◌^◌, length, IfOk};
 ghost use Rattle.std.specs.List.{flat_map};
 ghost use Rattle.cbpf_code.specs.Writing.{Wrote};
 ghost use Rattle.cbpf_reply.specs.Texts as spec;
 
-use cbpf_code::{WriteFault, ext_name, write_bytes, write_decimal, write_parts};
+use cbpf_code::{WriteFault, ext_name, write_bytes, write_parts};
 use cbpf_dbg::{Stop, Stops, Why};
 use itoa::Buffer;
 use std::alloc::Allocator;
@@ -57,8 +57,8 @@ fn write_lines<W: Write, A: Allocator>(
     stops: Stops<'_, A>,
 ) -> Result<u128, WriteFault>
     requires { length stops < 2 ^ 128 }
-    ensures lines { Wrote (W.contents w.old) (W.contents w.new) result (flat_map spec.stop_line stops) }
-    ensures count { IfOk result (λ n. n ≡ length stops) }
+    ensures lines { Wrote (W.contents w.old) (W.contents w.new) result (flat_map spec.stop_line stops.entry) }
+    ensures count { IfOk result (λ n. n ≡ length stops.entry) }
 {
     let mut count: u128 = 0;
     for stop in stops {
@@ -68,20 +68,12 @@ fn write_lines<W: Write, A: Allocator>(
     Ok(count)
 }
 
-#[tactic(auto, using(cbpf_code::proofs::WrittenLemmas::pairs))]
-fn write_ended<W: Write>(w: &mut W, n: u128) -> Result<(), WriteFault>
-    ensures { Wrote (W.contents w.old) (W.contents w.new) result (spec.ended_number n) }
-{
-    write_decimal(w, n)?;
-    write_bytes(w, b"\n")
-}
-
-#[tactic(auto, using(cbpf_code::proofs::WrittenLemmas::pairs))]
+/// How many stops there are.
 fn write_total<W: Write>(w: &mut W, n: u128) -> Result<(), WriteFault>
     ensures { Wrote (W.contents w.old) (W.contents w.new) result (spec.total_text n) }
 {
-    write_bytes(w, b"stops: ")?;
-    write_ended(w, n)
+    let mut number = Buffer::new();
+    write_parts(w, &[b"stops: ", number.format(n).as_bytes(), b"\n"])
 }
 
 /// Writes a line for each stop, and how many there are.
@@ -95,7 +87,7 @@ pub fn write_stops<W: Write, A: Allocator>(
     stops: Stops<'_, A>,
 ) -> Result<(), WriteFault>
     requires { length stops < 2 ^ 128 }
-    ensures { Wrote (W.contents w.old) (W.contents w.new) result (spec.stops_text stops) }
+    ensures { Wrote (W.contents w.old) (W.contents w.new) result (spec.stops_text stops.entry) }
 {
     let count = write_lines(w, stops)?;
     write_total(w, count)
