@@ -62,5 +62,5 @@ FitsWith (Some list) None stop = ⊥
 FitsWith None capture stop = ⊥
 
 -- a session has a program and a capture, and the stop is within them
-abbrev pub CanShow : View → Stop → Type 0
+unfoldable pub CanShow : View → Stop → Type 0
 CanShow m stop = FitsWith m.program m.capture stop
