@@ -7,3 +7,4 @@ pub mod TurnLemmas
 pub mod KeepLemmas
 pub mod WholeLemmas
 pub mod ShownLemmas
+pub mod ShownStops

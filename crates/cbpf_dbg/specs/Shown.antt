@@ -7,6 +7,8 @@ use Rattle.cbpf_dump.specs.Dump.{Shown, dump_text}
 use Rattle.cbpf_machine.specs.Registers.{Registers}
 use Rattle.pcap_classic.specs.Records.{Record}
 use Rattle.pcap_classic.specs.Savefile.{Savefile}
+use Rattle.cbpf_dbg.specs.declared.reply.RunReply.{RunReply}
+use Rattle.cbpf_dbg.specs.declared.reply.RunReply.TheVariants.{Stopped, Limit, Finished}
 use Rattle.cbpf_dbg.specs.declared.reply.Stop.{Stop}
 use Rattle.cbpf_dbg.specs.declared.reply.Why.{Why}
 use Rattle.cbpf_dbg.specs.declared.reply.Why.TheVariants as why
@@ -62,5 +64,11 @@ FitsWith (Some list) None stop = ⊥
 FitsWith None capture stop = ⊥
 
 -- a session has a program and a capture, and the stop is within them
-abbrev pub CanShow : View → Stop → Type 0
+unfoldable pub CanShow : View → Stop → Type 0
 CanShow m stop = FitsWith m.program m.capture stop
+
+-- the stop that an answer has, if it has one, can be shown
+abbrev pub Shows : View → RunReply → Type 0
+Shows m (Stopped stop) = CanShow m stop
+Shows m (Limit n) = Unit {0}
+Shows m (Finished n) = Unit {0}

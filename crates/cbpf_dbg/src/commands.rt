@@ -2,6 +2,8 @@
 
 ghost use Rattle.std.specs.Prelude.{◌≡◌, ◌≤◌, ◌+◌, ◌*◌, ◌^◌, ◌<ℤ◌, pos, IfErr, IfOk, OnErr, OnOk};
 ghost use Rattle.cbpf_dbg.specs.Commands as spec;
+ghost use Rattle.cbpf_dbg.specs.Shown.{CanShow, Shows};
+ghost use Rattle.std.specs.List.{All};
 
 use crate::hit::is_quiet;
 use crate::reply::{Place, RunReply, SessionFault};
@@ -51,6 +53,9 @@ impl<T: Trail, A: Allocator> Session<T, A> {
 
         // A stop is the first hit that was ahead, and then the others are ahead.
         ensures ahead { IfOk result (λ reply. spec.Continues self.old self.new reply) }
+
+        // A stop is one that `write_stop` takes.
+        ensures shown { IfOk result (λ reply. Shows self.new reply) }
     {
         let Some(program) = &self.program else {
             return Err(SessionFault::NoProgram);
@@ -138,6 +143,7 @@ impl<T: Trail, A: Allocator> Session<T, A> {
         ensures back { n <ℤ pos 0 → meter.new ≤ meter.old + 63 }
         ensures back_turns { n <ℤ pos 0 → OnOk result (meter.new ≡ meter.old + T.turns_back self.new.place.step) }
         ensures refused { OnErr result (meter.new ≡ meter.old) }
+        ensures shown { IfOk result (λ reply. Shows self.new reply) }
     {
         let Some(program) = &self.program else {
             return Err(SessionFault::NoProgram);
@@ -213,7 +219,8 @@ impl<T: Trail, A: Allocator> Session<T, A> {
     /// `NoProgram`, `NoCapture`.
     #[tactic(auto, using(crate::proofs::TurnLemmas::owed_bound), unfolding(crate::specs::Commands::stops))]
     pub fn stops(&self) -> Result<Stops<'_, A>, SessionFault>
-        ensures { result ≡ spec.stops self.now }
+        ensures hits { result ≡ spec.stops self.now }
+        ensures shown { IfOk result (λ hits. All (CanShow self.now) hits) }
     {
         let Some(program) = &self.program else {
             return Err(SessionFault::NoProgram);

@@ -6,6 +6,7 @@
 
 mod places;
 mod runs;
+mod shown;
 mod steps;
 
 use crate::{

@@ -78,7 +78,7 @@ impl<T: Trail, A: Allocator> Session<T, A> {
     ///
     /// The writer fails, or takes nothing of a text that isn't empty; the bytes that it took are a
     /// beginning of the dump.
-    #[tactic(auto, unfolding(crate::specs::Shown::stop_text))]
+    #[tactic(auto, unfolding(crate::specs::Shown::CanShow, crate::specs::Shown::stop_text))]
     pub fn write_stop<W: Write>(&self, w: &mut W, stop: &Stop) -> Result<(), WriteFault>
         requires { spec.CanShow self.now stop.now }
         ensures { Wrote (W.contents w.old) (W.contents w.new) result (spec.stop_text self.now stop.now) }
