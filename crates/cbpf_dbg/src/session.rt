@@ -7,7 +7,7 @@ ghost use Rattle.cbpf_dbg.specs.View.{empty_view};
 ghost use Rattle.cbpf_dbg.specs.declared.reply.SessionFault.TheVariants as fault;
 
 use crate::hit::{Breakpoints, is_silent};
-use crate::reply::SessionFault;
+use crate::reply::{Place, SessionFault};
 use crate::walk::Walk;
 use cbpf_code::Program;
 use cbpf_machine::Trail;
@@ -148,6 +148,13 @@ impl<T: Trail, A: Allocator> Session<T, A> {
         ensures { self.new ≡ spec.without_breakpoints self.old }
     {
         self.breakpoints.clear();
+    }
+
+    /// The place; where no program or no capture is loaded, it is before the first packet.
+    pub fn place(&self) -> Place
+        ensures { result ≡ self.now.place }
+    {
+        self.walk.place
     }
 
     /// How many breakpoints are set.

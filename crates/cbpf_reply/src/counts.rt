@@ -1,6 +1,5 @@
 //! Counts and places, and the answers of runs and steps.
 
-ghost use Rattle.std.specs.Prelude.{◌≡◌};
 ghost use Rattle.cbpf_code.specs.Writing.{Wrote};
 ghost use Rattle.cbpf_dbg.specs.Shown.{Shows};
 ghost use Rattle.cbpf_reply.specs.Texts as spec;
@@ -116,15 +115,13 @@ pub fn write_run<W: Write, T: Trail, A: Allocator>(
     w: &mut W,
     session: &Session<T, A>,
     reply: RunReply,
-    next: u64,
 ) -> Result<(), WriteFault>
-    requires shown { Shows session.now reply }
-    requires next { next ≡ session.now.place.packet }
+    requires { Shows session.now reply }
     ensures { Wrote (W.contents w.old) (W.contents w.new) result (spec.run_text reply session.now) }
 {
     match reply {
         RunReply::Stopped(stop) => session.write_stop(w, &stop),
-        RunReply::Limit(counts) => write_limit(w, counts, next),
+        RunReply::Limit(counts) => write_limit(w, counts, session.place().packet),
         RunReply::Finished(counts) => write_finished(w, counts),
     }
 }

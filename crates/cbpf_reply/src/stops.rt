@@ -52,10 +52,7 @@ fn write_stop_line<W: Write>(w: &mut W, stop: &Stop) -> Result<(), WriteFault>
 }
 
 /// Writes a line for each stop, and tells how many there were.
-fn write_lines<W: Write, A: Allocator>(
-    w: &mut W,
-    stops: Stops<'_, A>,
-) -> Result<u128, WriteFault>
+fn write_lines<W: Write, A: Allocator>(w: &mut W, stops: Stops<'_, A>) -> Result<u128, WriteFault>
     requires { length stops < 2 ^ 128 }
     ensures lines { Wrote (W.contents w.old) (W.contents w.new) result (flat_map spec.stop_line stops.entry) }
     ensures count { IfOk result (λ n. n ≡ length stops.entry) }
@@ -82,10 +79,7 @@ fn write_total<W: Write>(w: &mut W, n: u128) -> Result<(), WriteFault>
 ///
 /// The writer failed, or took nothing of a text that isn't empty: a beginning of the lines was written.
 #[tactic(auto, using(cbpf_code::proofs::WrittenLemmas::pairs), unfolding(crate::specs::Texts::stops_text))]
-pub fn write_stops<W: Write, A: Allocator>(
-    w: &mut W,
-    stops: Stops<'_, A>,
-) -> Result<(), WriteFault>
+pub fn write_stops<W: Write, A: Allocator>(w: &mut W, stops: Stops<'_, A>) -> Result<(), WriteFault>
     requires { length stops < 2 ^ 128 }
     ensures { Wrote (W.contents w.old) (W.contents w.new) result (spec.stops_text stops.entry) }
 {

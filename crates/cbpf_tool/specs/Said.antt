@@ -1,5 +1,5 @@
 -- What the debugger says to the commands of a session, and the view of the session behind them (kernel documentation, networking/filter, on `bpf_dbg`; saved places, limits, steps back and the list of stops are this project's own).
-use Rattle.std.specs.Prelude.{ℕ, ℤ, List, [], ◌∷◌, codes, Bool, true, false, Option, Some, None, Result, Ok, Err}
+use Rattle.std.specs.Prelude.{ℕ, ℤ, ◌<◌, length, List, [], ◌∷◌, codes, Bool, true, false, Option, Some, None, Result, Ok, Err}
 use Rattle.cbpf_code.specs.declared.insn.Insn.{Insn}
 use Rattle.cbpf_listing.specs.Listing.{listing}
 use Rattle.cbpf_command.specs.Commands as line
@@ -52,6 +52,11 @@ mark_said m = told (λ place. place_text [] place) (mark m)
 
 abbrev pub stops_said : View → List ℕ
 stops_said m = told stops_text (stops m)
+
+-- an instruction of a program that is loaded
+abbrev pub IsInstruction : Option (List Insn) → ℕ → Type 0
+IsInstruction None n = ⊥
+IsInstruction (Some list) n = n < length list
 
 -- `disassemble`, of the program that is loaded
 unfoldable pub listing_text : Option (List Insn) → List ℕ

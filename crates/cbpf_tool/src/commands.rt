@@ -2,7 +2,7 @@
 ghost use Rattle.std.specs.Prelude.{◌≡◌, ◌⊎◌, ◌<ℤ◌, []};
 ghost use Rattle.cbpf_code.specs.Writing.{Wrote};
 ghost use Rattle.cbpf_dbg.specs.Commands.{without_breakpoints};
-ghost use Rattle.cbpf_reply.specs.Texts.{breakpoints_text};
+ghost use Rattle.cbpf_reply.specs.Texts.{breakpoints_text, set_in};
 ghost use Rattle.cbpf_tool.specs.Replies.{Exactly, Replied};
 ghost use Rattle.cbpf_tool.specs.Said as said;
 ghost use Rattle.cbpf_tool.specs.Texts as texts;
@@ -28,10 +28,7 @@ pub fn run<A: Allocator, W: Write>(
 {
     let mut meter = Meter::new();
     match session.run(&mut meter, limit) {
-        Ok(reply) => match session.mark() {
-            Ok(place) => write_run(w, session, reply, place.packet),
-            Err(_) => unreachable!(),
-        },
+        Ok(reply) => write_run(w, session, reply),
         Err(fault) => write_fault(w, fault),
     }
 }
@@ -47,10 +44,7 @@ pub fn step<A: Allocator, W: Write>(
 {
     let mut meter = Meter::new();
     match session.step(&mut meter, n) {
-        Ok(reply) => match session.mark() {
-            Ok(place) => write_run(w, session, reply, place.packet),
-            Err(_) => unreachable!(),
-        },
+        Ok(reply) => write_run(w, session, reply),
         Err(fault) => write_fault(w, fault),
     }
 }
@@ -88,6 +82,24 @@ pub fn resume<A: Allocator, W: Write>(
     }
 }
 
+/// Where the breakpoint at instruction `n` was set.
+fn write_set<A: Allocator, W: Write>(
+    w: &mut W,
+    session: &Session<MarkTrail, A>,
+    n: u64,
+) -> Result<(), WriteFault>
+    requires { said.IsInstruction session.now.program n }
+    ensures { Wrote (W.contents w.old) (W.contents w.new) result (set_in session.now.program n) }
+{
+    match session.program() {
+        Some(program) => {
+            let _few = program.len();
+            write_breakpoint(w, program, n as u32)
+        }
+        None => unreachable!(),
+    }
+}
+
 /// `breakpoint n`
 #[tactic(auto, using(crate::proofs::SaidLemmas::said))]
 pub fn set_breakpoint<A: Allocator + Copy, W: Write>(
@@ -99,10 +111,7 @@ pub fn set_breakpoint<A: Allocator + Copy, W: Write>(
         ⊎ Exactly texts.memory_text session.old session.new (λ t. Wrote (W.contents w.old) (W.contents w.new) result t) }
 {
     match session.breakpoint(n) {
-        Ok(()) => match session.program() {
-            Some(program) => write_breakpoint(w, program, n as u32),
-            None => unreachable!(),
-        },
+        Ok(()) => write_set(w, session, n),
         Err(fault) => write_fault(w, fault),
     }
 }

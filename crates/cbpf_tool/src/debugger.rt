@@ -4,7 +4,7 @@ ghost use Rattle.cbpf_code.specs.Writing.{Wrote};
 ghost use Rattle.cbpf_command.specs.Commands as command;
 ghost use Rattle.cbpf_tool.specs.Debugged.{Debugged};
 ghost use Rattle.cbpf_tool.specs.Progress.{CommandReplied, CommandActed, CarriedOut};
-ghost use Rattle.cbpf_tool.specs.Said as said;
+ghost use Rattle.cbpf_tool.specs.Said as speech;
 
 use crate::commands;
 use crate::fault::ToolFault;
@@ -26,7 +26,7 @@ pub enum Behind {
 }
 
 fn is_quit(said: Command<'_>) -> bool
-    ensures { result ≡ said.is_quit (command.meaning said.entry) }
+    ensures { result ≡ speech.is_quit (command.meaning said.entry) }
 {
     matches!(said, Command::Quit)
 }
@@ -39,7 +39,7 @@ fn reply_to<A: Allocator + Copy, W: Write, F: Files>(
     files: &mut F,
     said: Command<'_>,
 ) -> Result<(), WriteFault>
-    requires { said.is_quit (command.meaning said) ≡ false }
+    requires { speech.is_quit (command.meaning said) ≡ false }
     ensures { CommandReplied (F.source files.old) (F.source files.new) session.old session.new (command.meaning said.entry)
         (λ t. Wrote (W.contents w.old) (W.contents w.new) result t) }
 {

@@ -26,10 +26,11 @@ overflow_add-count g c =
 pub loop-stop-preserved : goal.loop-stop-preserved
 loop-stop-preserved g c =
     let inv = c.loop-stop.invariant in
-    let left : c.loop-stop.yielded ++ (c.in-Some.stop ∷ c.next.new.self) ≡ c.args.stops = rw (← c.in-Some.ensures.steps) inv.2 in
-    (each-next spec.stop_line c.loop-stop.yielded c.in-Some.stop _ _ _ inv.0 c.in_ok-write_stop_line.ensures,
-    ap (λ (n : ℕ). n + 1) inv.1 ∙ sym (one-counted spec.stop_line c.loop-stop.yielded c.in-Some.stop),
-    one-left spec.stop_line c.loop-stop.yielded c.in-Some.stop c.next.new.self c.args.stops left)
+    let left : c.loop-stop.yielded ++ (c.in-Some.stop ∷ c.next.new.self) ≡ c.args.stops = rw (← c.in-Some.ensures.steps) inv.2 in (
+      each-next spec.stop_line c.loop-stop.yielded c.in-Some.stop _ _ _ inv.0 c.in_ok-write_stop_line.ensures,
+      ap (λ (n : ℕ). n + 1) inv.1 ∙ sym (one-counted spec.stop_line c.loop-stop.yielded c.in-Some.stop),
+      one-left spec.stop_line c.loop-stop.yielded c.in-Some.stop c.next.new.self c.args.stops left,
+    )
 
 pub returns-clause-lines : goal.returns-clause-lines
 returns-clause-lines g c =
