@@ -18,7 +18,7 @@ fn check_listing(rt: &impl Abort, alloc: Global, words: &[u8], want: &[u8]) {
     let mut room = [0u8; 2048];
     let mut writer: &mut [u8] = &mut room;
     assert!(rt; write_lines(&mut writer, &program).is_ok());
-    let size = 2048 - writer.len();
+    let size = 2048usize.saturating_sub(writer.len());
     let written = &room[..size];
     assert!(rt; written == want);
 }
@@ -113,6 +113,7 @@ fn every_extension(rt: HostRuntime) {
 #[test]
 fn one_line(rt: HostRuntime) {
     let program = program_of(&rt, rt.alloc(), b"2,5 0 0 0,6 0 0 255");
+    assert_eq!(rt; program.len(), 2);
     let mut room = [0u8; 13];
     let mut writer: &mut [u8] = &mut room;
     assert!(rt; write_line(&mut writer, &program, 1).is_ok());

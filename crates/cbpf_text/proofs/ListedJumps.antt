@@ -1,41 +1,18 @@
 -- The targets of a listing's jumps are spelled by segments, whose tokens fit the jumps' rows of the table and give their offsets back.
-use Rattle.std.proofs.Common.{◌≡◌, ◌≢◌, ℕ, zero, suc, ◌+◌, ◌^◌, ◌<◌, ◌≤◌, Bool, true, false, not, ◌&&◌, cond, List, [], ◌∷◌, ◌++◌, length, refl, ap, sym, subst, ◌∙◌, arith, append-nil, lit<, Option, Some, None, eqb-true, le-ltb}
-use Rattle.std.specs.Prelude.{◌==◌, nat_lt, nat_le, decimal, codes}
-use Rattle.std.specs.List.{list_all}
-use Rattle.std.proofs.lemmas.Fmt.{decimal_nonempty}
+use Rattle.std.proofs.Common.{◌≡◌, ℕ, ◌+◌, ◌^◌, ◌<◌, ◌≤◌, Bool, true, false, List, [], ◌∷◌, length, refl, arith, lit<}
+use Rattle.std.specs.Prelude.{◌==◌, codes}
 use Rattle.cbpf_code.specs.declared.insn.Insn.{Insn}
-use Rattle.cbpf_code.specs.declared.opcode.Op.{Op}
-use Rattle.cbpf_code.specs.declared.extension.Ext.{Ext}
-use Rattle.cbpf_code.specs.declared.extension.Ext.TheVariants.{Proto, PktType, IfIdx, Nla, NlaN, Mark, Queue, HaType, RxHash, Cpu, VlanTci, VlanAvail, PayOff, Rand, VlanTpid}
-use Rattle.cbpf_code.specs.Extension.{ext_at, ext_name, ext_offset, ext_table}
-use Rattle.cbpf_code.specs.Plain.{kept}
 use Rattle.cbpf_code.specs.Text.{hex}
-use Rattle.cbpf_code.proofs.TableLemmas.{ext_only}
-use Rattle.cbpf_lex.specs.Bytes.{is_digit, is_letter, is_name_byte}
-use Rattle.cbpf_lex.specs.Numbers.{number_value}
-use Rattle.cbpf_lex.proofs.Spelled.{Segment, bytes_of, text_of, IsSegment, AreSegments, ends_name, stay_apart}
-use Rattle.cbpf_lex.proofs.Spelled.Segment.{blank, word, number, mark}
-use Rattle.cbpf_grammar.specs.declared.table.Fields.{Fields}
-use Rattle.cbpf_grammar.specs.declared.table.Fields.TheVariants.{Constant, Ancillary, Goto, Branch}
+use Rattle.cbpf_lex.proofs.Spelled.{Segment, AreSegments}
+use Rattle.cbpf_lex.proofs.Spelled.Segment.{blank, word, mark}
+use Rattle.cbpf_grammar.specs.declared.table.Fields.TheVariants.{Goto, Branch}
 use Rattle.cbpf_grammar.specs.Classes.{Class}
 use Rattle.cbpf_grammar.specs.Classes as forms
-use Rattle.cbpf_grammar.specs.Lexemes as grammar
-use Rattle.cbpf_grammar.specs.Lexemes.{Lexeme, same_bytes}
-use Rattle.cbpf_grammar.specs.Fits.{fits, fits_all, is_one_of, is_reserved, extension_names, mnemonic_words}
-use Rattle.cbpf_grammar.specs.Table.{operand_words, mnemonics}
-use Rattle.cbpf_grammar.specs.Items.{Item, names_at}
-use Rattle.cbpf_listing.specs.declared.syntax.Operand.{Operand}
 use Rattle.cbpf_listing.specs.declared.syntax.Operand.TheVariants as operands
-use Rattle.cbpf_listing.specs.Syntax.{operand_of}
-use Rattle.cbpf_listing.specs.Listing.{operand_text, place_or_name, targets}
-use Rattle.cbpf_text.specs.Labels.{IsPlace}
-use Rattle.cbpf_text.specs.Assembled.{FillsFields, IsShortOffset}
-use Rattle.cbpf_text.specs.Operands.{literal_of, offset_named}
-use Rattle.cbpf_text.proofs.ListedNumbers.{number_decimal, decimal_digits, decimal_names, hex_is_names, hex_value}
-use Rattle.cbpf_text.proofs.ListedRows.{HasRow, operation_row, named_row, first, rest, IsWord, plain_as}
-use Rattle.cbpf_text.proofs.ListedTokens.{lexemes_at, newline, are_positive}
-use Rattle.cbpf_text.proofs.ListedLabels.{label_name, label_fits, label_segment, is_label_segment, Places, decimal_segment, spelled_decimal, is_decimal_segment, hex_segment, is_hex_segment}
-use Rattle.cbpf_text.proofs.ListedOperands.{EachFits, fits_from_each, Spells, is_blank_segment, hex_given, given_is}
+use Rattle.cbpf_text.proofs.ListedRows.{operation_row}
+use Rattle.cbpf_text.proofs.ListedTokens.{lexemes_at}
+use Rattle.cbpf_text.proofs.ListedLabels.{label_fits, label_segment, is_label_segment, hex_segment, is_hex_segment}
+use Rattle.cbpf_text.proofs.ListedOperands.{EachFits, fits_from_each, Spells, is_blank_segment, given_is}
 
 abbrev goto_segments : ℕ → List Segment
 goto_segments t = blank 32 ∷ label_segment t ∷ []

@@ -1,43 +1,24 @@
 -- The labels and numbers of a listing, as segments.
-use Rattle.std.proofs.Common.{◌≡◌, ◌≢◌, ℕ, zero, suc, ◌+◌, ◌^◌, ◌<◌, ◌≤◌, Bool, true, false, not, ◌&&◌, cond, List, [], ◌∷◌, ◌++◌, length, refl, ap, sym, subst, ◌∙◌, arith, append-nil, lit<, Option, Some, None, eqb-true, le-ltb, rules}
-use Rattle.std.specs.Prelude.{◌==◌, nat_lt, nat_le, decimal, codes}
+use Rattle.std.proofs.Common.{◌≡◌, ℕ, zero, suc, ◌^◌, ◌<◌, ◌≤◌, Bool, true, false, not, ◌&&◌, List, [], ◌∷◌, length, refl, ap, arith, lit<, Some, eqb-true, rules}
+use Rattle.std.specs.Prelude.{◌==◌, nat_le, decimal}
 use Rattle.std.specs.List.{list_all}
 use Rattle.std.proofs.lemmas.Fmt.{decimal_nonempty}
-use Rattle.cbpf_code.specs.declared.insn.Insn.{Insn}
-use Rattle.cbpf_code.specs.declared.opcode.Op.{Op}
-use Rattle.cbpf_code.specs.declared.extension.Ext.{Ext}
-use Rattle.cbpf_code.specs.declared.extension.Ext.TheVariants.{Proto, PktType, IfIdx, Nla, NlaN, Mark, Queue, HaType, RxHash, Cpu, VlanTci, VlanAvail, PayOff, Rand, VlanTpid}
-use Rattle.cbpf_code.specs.Extension.{ext_at, ext_name, ext_offset, ext_table}
-use Rattle.cbpf_code.specs.Plain.{kept}
 use Rattle.cbpf_code.specs.Text.{hex}
-use Rattle.cbpf_code.proofs.TableLemmas.{ext_only}
-use Rattle.cbpf_lex.specs.Bytes.{is_digit, is_letter, is_name_byte}
+use Rattle.cbpf_lex.specs.Bytes.{is_digit, is_name_byte}
 use Rattle.cbpf_lex.specs.Numbers.{number_value}
-use Rattle.cbpf_lex.proofs.Spelled.{Segment, bytes_of, text_of, IsSegment, AreSegments, ends_name, stay_apart}
-use Rattle.cbpf_lex.proofs.Spelled.Segment.{blank, word, number, mark}
-use Rattle.cbpf_grammar.specs.declared.table.Fields.{Fields}
-use Rattle.cbpf_grammar.specs.declared.table.Fields.TheVariants.{Constant, Ancillary, Goto, Branch}
+use Rattle.cbpf_lex.proofs.Spelled.{Segment, IsSegment}
+use Rattle.cbpf_lex.proofs.Spelled.Segment.{word, number}
 use Rattle.cbpf_grammar.specs.Classes.{Class}
 use Rattle.cbpf_grammar.specs.Classes as forms
 use Rattle.cbpf_grammar.specs.Lexemes as grammar
 use Rattle.cbpf_grammar.specs.Lexemes.{Lexeme, same_bytes}
-use Rattle.cbpf_grammar.specs.Fits.{fits, fits_all, is_one_of, is_reserved, extension_names, mnemonic_words}
+use Rattle.cbpf_grammar.specs.Fits.{fits, is_one_of, is_reserved, extension_names, mnemonic_words}
 use Rattle.cbpf_grammar.specs.Table.{operand_words, mnemonics}
-use Rattle.cbpf_grammar.specs.Items.{Item, names_at}
-use Rattle.cbpf_listing.specs.declared.syntax.Operand.{Operand}
-use Rattle.cbpf_listing.specs.declared.syntax.Operand.TheVariants as operands
-use Rattle.cbpf_listing.specs.Syntax.{operand_of}
-use Rattle.cbpf_listing.specs.Listing.{operand_text, place_or_name, targets}
+use Rattle.cbpf_grammar.specs.Items.{Item}
 use Rattle.cbpf_text.specs.Labels.{IsPlace}
-use Rattle.cbpf_text.specs.Assembled.{FillsFields, IsShortOffset}
-use Rattle.cbpf_text.specs.Operands.{literal_of, offset_named}
 use Rattle.cbpf_text.proofs.ListedNumbers.{number_decimal, decimal_digits, decimal_names, hex_is_names, hex_value}
-use Rattle.cbpf_text.proofs.ListedRows.{HasRow, operation_row, named_row, first, rest, IsWord, plain_as}
-use Rattle.cbpf_text.proofs.ListedTokens.{lexemes_at, newline, are_positive}
-
-and_parts : (a b : Bool) → (a && b) ≡ true → (a ≡ true) × (b ≡ true)
-and_parts true b e = (refl, e)
-and_parts false b e = let k : false ≡ true = e in cc
+use Rattle.cbpf_text.proofs.ListedRows.{first, rest}
+use Rattle.cbpf_lex.proofs.Cuts.{and_parts}
 
 abbrev pub label_name : ℕ → List ℕ
 label_name i = 108 ∷ decimal i

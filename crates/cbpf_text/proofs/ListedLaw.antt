@@ -1,6 +1,6 @@
 -- The listing of a checked program assembles to the plain forms of its instructions.
-use Rattle.std.proofs.Common.{◌≡◌, ℕ, zero, suc, ◌+◌, ◌-◌, ◌^◌, ◌<◌, ◌≤◌, List, [], ◌∷◌, ◌++◌, length, map, get_or, refl, ap, sym, subst, ◌∙◌, arith, ◌⊎◌, inl, inr, Option, Some, None}
-use Rattle.std.specs.Prelude.{All, slice_get, Result, Ok, Err, IfOk, IfErr}
+use Rattle.std.proofs.Common.{◌≡◌, ℕ, suc, ◌+◌, ◌<◌, ◌≤◌, List, [], ◌∷◌, length, map, refl, ap, sym, subst, arith, ◌⊎◌, inl, inr, Some}
+use Rattle.std.specs.Prelude.{All, slice_get, Ok, Err}
 use Rattle.std.proofs.lemmas.Option.{get_or_from_slice_get}
 use Rattle.cbpf_code.specs.declared.insn.Insn.{Insn}
 use Rattle.cbpf_code.specs.declared.opcode.Op.{Op}
@@ -14,13 +14,10 @@ use Rattle.cbpf_code.specs.WordForm.{InRange}
 use Rattle.cbpf_code.proofs.SoundLemmas.{sound_few, sound_some, sound_known, sound_allowed}
 use Rattle.cbpf_lex.specs.Tokens.{tokens_of}
 use Rattle.cbpf_lex.proofs.Spelled.{text_of, pieces_of, lexes_spelled}
-use Rattle.cbpf_grammar.specs.Items.{Item}
 use Rattle.cbpf_listing.specs.Syntax.{operand_of}
 use Rattle.cbpf_listing.specs.Listing.{listing}
-use Rattle.cbpf_text.specs.declared.fault.AsmFault.{AsmFault}
 use Rattle.cbpf_text.specs.declared.fault.AsmFault.TheVariants.{Memory, At}
 use Rattle.cbpf_text.specs.Assembled.{Assembles, AssembleTokens, AreEncoded}
-use Rattle.cbpf_text.specs.Refusals.{IsRefused}
 use Rattle.cbpf_text.specs.Laws.{ListingAssembles, ListingAnswers}
 use Rattle.cbpf_text.proofs.Lists.{get_within}
 use Rattle.cbpf_text.proofs.OneAssembly.{one_assembly}

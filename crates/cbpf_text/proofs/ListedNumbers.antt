@@ -1,5 +1,5 @@
 -- The numbers and labels of a listing, as the lexer reads them.
-use Rattle.std.proofs.Common.{◌≡◌, ◌≢◌, ℕ, zero, suc, ◌+◌, ◌-◌, ◌*◌, ◌/◌, ◌%◌, ◌^◌, ◌<◌, ◌≤◌, Bool, true, false, not, ◌&&◌, ◌||◌, cond, List, [], ◌∷◌, ◌++◌, length, get_or, drop, refl, ap, sym, subst, ◌∙◌, arith, Option, Some, None, ◌⊎◌, inl, inr, eqb-true, lt-ltb, ltb-false, ltb-true, le-ltb, ne_eqb, length-append}
+use Rattle.std.proofs.Common.{◌≡◌, ℕ, zero, suc, ◌+◌, ◌-◌, ◌*◌, ◌/◌, ◌%◌, ◌^◌, ◌<◌, ◌≤◌, Bool, true, false, ◌&&◌, ◌||◌, cond, List, [], ◌∷◌, ◌++◌, length, get_or, drop, refl, ap, sym, subst, ◌∙◌, arith, Some, None, ◌⊎◌, inl, inr, eqb-true, lt-ltb, ltb-false, ltb-true, ne_eqb, length-append}
 use Rattle.std.specs.Prelude.{◌==◌, nat_lt, max, decimal}
 use Rattle.std.specs.List.{list_all}
 use Rattle.std.specs.Fmt.{digit_glyph}
@@ -7,11 +7,8 @@ use Rattle.std.proofs.lemmas.Fmt.{decimal_by_steps, first_decimal, decimal_digit
 use Rattle.std.proofs.lemmas.List.{drop-append-le, drop_all}
 use Rattle.cbpf_lex.specs.Bytes.{is_letter, is_digit, is_name_byte}
 use Rattle.cbpf_lex.specs.Numbers.{digit_value, digits_value, number_value}
-use Rattle.cbpf_code.specs.Text.{hex_digits, hex_places, hex}
-
-and_parts : (a b : Bool) → (a && b) ≡ true → (a ≡ true) × (b ≡ true)
-and_parts true b e = (refl, e)
-and_parts false b e = let k : false ≡ true = e in cc
+use Rattle.cbpf_code.specs.Text.{hex_digits, hex}
+use Rattle.cbpf_lex.proofs.Cuts.{and_parts}
 
 abbrev all_below : ℕ → (ℕ → Bool) → Bool
 all_below zero p = true

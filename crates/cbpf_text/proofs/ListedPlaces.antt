@@ -1,11 +1,11 @@
 -- Items that are labelled by their numbers: each label is set once, by its item.
-use Rattle.std.proofs.Common.{◌≡◌, ◌≢◌, ℕ, zero, suc, ◌+◌, ◌^◌, ◌<◌, ◌≤◌, Bool, true, false, List, [], ◌∷◌, ◌++◌, length, get_or, refl, ap, sym, subst, ◌∙◌, arith, ◌⊎◌, inl, inr, Option, Some, None}
-use Rattle.std.specs.Prelude.{decimal, bytes_eq, slice_get, All}
+use Rattle.std.proofs.Common.{◌≡◌, ℕ, zero, suc, ◌+◌, ◌^◌, ◌<◌, ◌≤◌, Bool, true, false, List, [], ◌∷◌, length, get_or, refl, sym, subst, ◌∙◌, arith, ◌⊎◌, inl, inr}
+use Rattle.std.specs.Prelude.{decimal, bytes_eq, All}
 use Rattle.std.proofs.lemmas.Fmt.{decimal_injective}
 use Rattle.std.proofs.lemmas.List.Elements.{All-append}
 use Rattle.cbpf_grammar.specs.Lexemes.{Lexeme}
 use Rattle.cbpf_grammar.specs.Items.{Item}
-use Rattle.cbpf_text.specs.Labels.{name_of, set_labels, times_among, times_set, AreDistinct, SetsAt, IsPlace}
+use Rattle.cbpf_text.specs.Labels.{name_of, set_labels, times_among, times_set, AreDistinct, SetsAt}
 use Rattle.cbpf_text.proofs.Lists.{same_bytes_now, bytes_eq_self, all_one, all_none}
 use Rattle.cbpf_text.proofs.LabelLists.{times_append, times_miss, times_hit}
 use Rattle.cbpf_text.proofs.ListedLabels.{label_name, Places}

@@ -1,30 +1,28 @@
 -- The lines of a listing as segments, whose tokens are the items of the instructions.
-use Rattle.std.proofs.Common.{◌≡◌, ℕ, zero, suc, ◌+◌, ◌^◌, ◌<◌, ◌≤◌, Bool, true, false, ◌&&◌, List, [], ◌∷◌, ◌++◌, length, map, drop, refl, ap, sym, subst, ◌∙◌, arith, append_assoc, append-nil, lit<, Option, Some, None}
-use Rattle.std.specs.Prelude.{decimal, codes, Contains}
+use Rattle.std.proofs.Common.{◌≡◌, ℕ, suc, ◌+◌, ◌^◌, ◌<◌, true, false, List, [], ◌∷◌, ◌++◌, length, map, refl, ap, sym, ◌∙◌, append_assoc, append-nil, lit<, Some}
+use Rattle.std.specs.Prelude.{decimal, codes}
 use Rattle.std.specs.List.{flat_map, enumerate_from}
 use Rattle.cbpf_code.specs.declared.insn.Insn.{Insn}
 use Rattle.cbpf_code.specs.declared.opcode.Op.{Op}
-use Rattle.cbpf_code.specs.Opcode.{op_of, code_of}
+use Rattle.cbpf_code.specs.Opcode.{op_of}
 use Rattle.cbpf_code.specs.Plain.{plain}
 use Rattle.cbpf_code.proofs.TableLemmas.{code_only}
-use Rattle.cbpf_lex.proofs.Spelled.{Segment, bytes_of, text_of, AreSegments, ends_name, ends_blank, stay_apart}
-use Rattle.cbpf_lex.proofs.Spelled.Segment.{blank, word, number, mark}
-use Rattle.cbpf_grammar.specs.Classes as forms
+use Rattle.cbpf_lex.proofs.Spelled.{Segment, text_of, AreSegments, ends_blank, stay_apart}
+use Rattle.cbpf_lex.proofs.Spelled.Segment.{blank, word, mark}
 use Rattle.cbpf_grammar.specs.Lexemes as grammar
 use Rattle.cbpf_grammar.specs.Lexemes.{Lexeme}
-use Rattle.cbpf_grammar.specs.Fits.{fits, fits_all}
-use Rattle.cbpf_grammar.specs.Table.{Row, classes, table}
-use Rattle.cbpf_grammar.specs.Items.{Item, Form, Items, names_at, label_classes, classes_of}
+use Rattle.cbpf_grammar.specs.Fits.{fits_all}
+use Rattle.cbpf_grammar.specs.Table.{Row, classes}
+use Rattle.cbpf_grammar.specs.Items.{Item, Form, Items}
 use Rattle.cbpf_grammar.proofs.Apart.{same_bytes_refl}
 use Rattle.cbpf_listing.specs.Syntax.{mnemonic_of, operand_of}
-use Rattle.cbpf_listing.specs.Listing.{numbered_line, insn_text, text_for, operand_text, operation_text}
-use Rattle.cbpf_text.specs.Assembled.{EncodeEach, IsEncoded, FillsFields}
-use Rattle.cbpf_text.specs.Operands.{literal_of, literal_in, targets_in}
+use Rattle.cbpf_listing.specs.Listing.{numbered_line, text_for, operand_text}
+use Rattle.cbpf_text.specs.Assembled.{EncodeEach, IsEncoded}
 use Rattle.cbpf_text.proofs.ListedRows.{HasRow, first, rest, mnemonic_word, plain_as, plain_is}
-use Rattle.cbpf_text.proofs.ListedTokens.{lexemes_at, lexemes_append, text_append, are_append, ends_before, apart_before, are_positive, positive_append, newline}
+use Rattle.cbpf_text.proofs.ListedTokens.{and_both, lexemes_at, lexemes_append, text_append, are_append, ends_before, apart_before, are_positive, positive_append}
 use Rattle.cbpf_text.proofs.ListedLabels.{label_name, label_fits, label_segment, is_label_segment, Places}
 use Rattle.cbpf_text.proofs.ListedOperands.{Spells}
-use Rattle.cbpf_text.proofs.ListedPlaces.{IsLabelled, AreLabelled}
+use Rattle.cbpf_text.proofs.ListedPlaces.{AreLabelled}
 
 -- the lines of instructions, of which the first has the index i of n
 pub record Lists (n i : ℕ) (insns : List Insn) : Type 0 where
@@ -103,9 +101,6 @@ line_item at i w operand row = record { labels = label_token at i ∷ []; row = 
 
 line_lexemes : (at i : ℕ) (w : List ℕ) (operand behind : List Segment) → lexemes_at at (line_segments i w operand behind) ≡ line_tokens at i w operand ++ lexemes_at (behind_at at i w operand) behind
 line_lexemes at i w operand behind = ap (λ (ts : List Lexeme). label_token at i ∷ colon_token at i ∷ record { symbol = grammar.Symbol.word (first w ∷ rest w); at = at + (1 + length (decimal i)) + 1 + 1 } ∷ ts) (lexemes_append (operand_at at i w) operand (blank 10 ∷ behind))
-
-and_both : (a b : Bool) → a ≡ true → b ≡ true → (a && b) ≡ true
-and_both a b p q = rw (p, q) refl
 
 line_form : (at n i : ℕ) (insn : Insn) (op : Op) (s : Spells (operand_of op) n i insn) (r : HasRow op s.classes s.fields) → i < 2 ^ 64
     → Form (line_tokens at i (mnemonic_of op) s.segments) (line_item at i (mnemonic_of op) s.segments r.row)

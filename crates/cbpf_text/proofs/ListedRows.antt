@@ -1,5 +1,5 @@
 -- Each operation has a row of the table for the tokens that a listing writes.
-use Rattle.std.proofs.Common.{◌≡◌, ℕ, zero, suc, ◌+◌, ◌<◌, Bool, true, false, cond, ◌&&◌, List, [], ◌∷◌, ◌++◌, refl, ap, sym, ◌∙◌, eqb-true, ltb-true, Option, Some, None}
+use Rattle.std.proofs.Common.{◌≡◌, ℕ, ◌<◌, Bool, true, false, cond, ◌&&◌, List, [], ◌∷◌, refl, ap, ◌∙◌, eqb-true, ltb-true, Some}
 use Rattle.std.specs.Prelude.{◌==◌, nat_lt, codes, Contains}
 use Rattle.std.specs.List.{list_all, list_any}
 use Rattle.cbpf_code.specs.declared.insn.Insn.{Insn}
@@ -9,13 +9,13 @@ use Rattle.cbpf_code.specs.declared.opcode.Size.{Size}
 use Rattle.cbpf_code.specs.declared.opcode.Size.TheVariants.{Word, Half, Byte}
 use Rattle.cbpf_code.specs.declared.opcode.Src.TheVariants as src
 use Rattle.cbpf_code.specs.Opcode.{op_table, look_up, op_of, code_of}
-use Rattle.cbpf_code.specs.Plain.{uses_k, uses_offsets, kept, plain, plain_for}
+use Rattle.cbpf_code.specs.Plain.{kept, plain, plain_for}
 use Rattle.cbpf_code.proofs.TableLemmas.{code_known}
 use Rattle.cbpf_lex.specs.Bytes.{is_letter, is_name_byte}
 use Rattle.cbpf_grammar.specs.declared.table.Fields.{Fields}
-use Rattle.cbpf_grammar.specs.declared.table.Fields.TheVariants.{Constant, Ancillary, Goto, Branch, Swapped}
+use Rattle.cbpf_grammar.specs.declared.table.Fields.TheVariants.{Constant, Ancillary, Goto, Branch}
 use Rattle.cbpf_grammar.specs.Classes.{Class}
-use Rattle.cbpf_grammar.specs.Classes.Class.{the_word, the_mark, literal, negated, exactly, extension, name}
+use Rattle.cbpf_grammar.specs.Classes.Class.{the_word, the_mark, literal, exactly, extension, name}
 use Rattle.cbpf_grammar.specs.Lexemes.{same_bytes}
 use Rattle.cbpf_grammar.specs.Table.{Row, table, mnemonics}
 use Rattle.cbpf_grammar.proofs.Apart.{same_bytes_eq}
@@ -23,6 +23,7 @@ use Rattle.cbpf_grammar.proofs.Elements.{some_element}
 use Rattle.cbpf_listing.specs.declared.syntax.Operand.{Operand}
 use Rattle.cbpf_listing.specs.declared.syntax.Operand.TheVariants as operands
 use Rattle.cbpf_listing.specs.Syntax.{mnemonic_of, operand_of}
+use Rattle.cbpf_lex.proofs.Cuts.{and_parts}
 
 -- the classes of the tokens that a listing writes behind a mnemonic, and where they go
 abbrev pub operand_classes : Operand → List Class
@@ -92,10 +93,6 @@ unfolding mnemonics
 load_has_row Word = refl
 load_has_row Half = refl
 load_has_row Byte = refl
-
-and_parts : (a b : Bool) → (a && b) ≡ true → (a ≡ true) × (b ≡ true)
-and_parts true b e = (refl, e)
-and_parts false b e = let k : false ≡ true = e in cc
 
 same_class_eq : (c d : Class) → same_class c d ≡ true → c ≡ d
 same_class_eq (the_word v) (the_word w) e = ap the_word (same_bytes_eq v w e)

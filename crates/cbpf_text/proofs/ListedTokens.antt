@@ -1,6 +1,6 @@
 -- The tokens of a text that is spelled by segments.
-use Rattle.std.proofs.Common.{◌≡◌, ℕ, zero, suc, ◌+◌, ◌-◌, Bool, true, false, not, ◌&&◌, List, [], ◌∷◌, ◌++◌, length, refl, ap, sym, subst, ◌∙◌, arith, append_assoc, length-append, Option, Some, None, drop, take}
-use Rattle.std.specs.Prelude.{◌==◌, slice_range, map}
+use Rattle.std.proofs.Common.{◌≡◌, ℕ, zero, suc, ◌+◌, ◌-◌, Bool, true, false, not, ◌&&◌, List, [], ◌∷◌, ◌++◌, length, refl, ap, sym, subst, ◌∙◌, arith, append_assoc, length-append, Option, Some, None}
+use Rattle.std.specs.Prelude.{◌==◌, slice_range}
 use Rattle.std.specs.List.{list_all}
 use Rattle.std.proofs.lemmas.List.{take_at, drop_at}
 use Rattle.std.proofs.Math.Numerals.{one-add}
@@ -10,6 +10,7 @@ use Rattle.cbpf_lex.proofs.Spelled.Segment.{blank, word, number, mark}
 use Rattle.cbpf_grammar.specs.Lexemes as grammar
 use Rattle.cbpf_grammar.specs.Lexemes.{Lexeme, lexemes_of}
 use Rattle.cbpf_grammar.specs.Refusals.{symbol_at, IsLargeNegative}
+use Rattle.cbpf_lex.proofs.Cuts.{and_parts}
 
 -- the tokens of segments that begin at a place
 abbrev pub lexemes_at : ℕ → List Segment → List Lexeme
@@ -74,11 +75,7 @@ are_append (s ∷ ss) us p q = (p.0, are_append ss us p.1 q)
 abbrev pub newline : List Segment
 newline = blank 10 ∷ []
 
-and_parts : (a b : Bool) → (a && b) ≡ true → (a ≡ true) × (b ≡ true)
-and_parts true b e = (refl, e)
-and_parts false b e = let k : false ≡ true = e in cc
-
-and_both : (a b : Bool) → a ≡ true → b ≡ true → (a && b) ≡ true
+pub and_both : (a b : Bool) → a ≡ true → b ≡ true → (a && b) ≡ true
 and_both a b p q = rw (p, q) refl
 
 name_before : (ss us : List Segment) → ends_name (ss ++ (blank 10 ∷ us)) ≡ ends_name (ss ++ newline)

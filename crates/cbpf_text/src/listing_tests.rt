@@ -19,7 +19,7 @@ fn check_back(rt: &impl Abort, alloc: Global, words: &[u8], plain: &[u8]) {
     let mut room = [0u8; 4096];
     let mut writer: &mut [u8] = &mut room;
     assert!(rt; write_listing(&mut writer, &program).is_ok());
-    let size = 4096 - writer.len();
+    let size = 4096usize.saturating_sub(writer.len());
     let found = assemble(alloc, &room[..size])
         .ok()
         .expect(rt, "instructions");
@@ -83,6 +83,7 @@ fn every_extension(rt: HostRuntime) {
 #[test]
 fn one_line_and_a_full_room(rt: HostRuntime) {
     let program = program_of(&rt, rt.alloc(), b"2,5 0 0 0,6 0 0 255");
+    assert_eq!(rt; program.len(), 2);
     let mut line = [0u8; 13];
     let mut writer: &mut [u8] = &mut line;
     assert!(rt; write_line(&mut writer, &program, 1).is_ok());

@@ -1,5 +1,3 @@
-use Rattle.std.proofs.Common.{List, All}
-use Rattle.cbpf_code.specs.WordForm.{InRange}
 use Rattle.cbpf_text.proofs.ListedLaw.{listing_assembles}
 use Rattle.cbpf_text.proofs.listing.write_listing.Goals as goal
 
