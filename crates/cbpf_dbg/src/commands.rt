@@ -1,9 +1,9 @@
 //! The commands of a session that ask or move its place.
 
 ghost use Rattle.std.specs.Prelude.{◌≡◌, ◌≤◌, ◌+◌, ◌*◌, ◌^◌, ◌<ℤ◌, pos, IfErr, IfOk, OnErr, OnOk};
+ghost use Rattle.std.specs.List.{All};
 ghost use Rattle.cbpf_dbg.specs.Commands as spec;
 ghost use Rattle.cbpf_dbg.specs.Shown.{CanShow, Shows};
-ghost use Rattle.std.specs.List.{All};
 
 use crate::hit::is_quiet;
 use crate::reply::{Place, RunReply, SessionFault};
