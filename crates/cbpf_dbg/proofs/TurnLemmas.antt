@@ -17,11 +17,13 @@ use Rattle.cbpf_dbg.specs.declared.reply.Place.{Place}
 use Rattle.cbpf_dbg.specs.declared.reply.RunReply.{RunReply}
 use Rattle.cbpf_dbg.specs.declared.reply.RunReply.TheVariants.{Stopped, Limit, Finished}
 use Rattle.cbpf_dbg.specs.declared.walk.Walk.{Walk}
-use Rattle.cbpf_dbg.specs.Joined.{Entry, entries_from, packet_entries, joined_from, joined, ahead, is_after, turns_between, turns_to_end}
+use Rattle.cbpf_dbg.specs.Joined.{Entry, entries_from, packet_entries, joined_from, joined, ahead, rest, is_hit, stop_at, is_after, turns_between, turns_to_end}
+use Rattle.cbpf_dbg.specs.declared.reply.Why.TheVariants as why
+use Rattle.std.proofs.lemmas.List.{length-map}
 use Rattle.cbpf_dbg.specs.View.{View}
 use Rattle.cbpf_dbg.specs.Commands.{turns_in}
 use Rattle.cbpf_dbg.specs.Walk.{Stands, owed, view_at, NotBefore, Runs, run_turns, run_from, StepsOn, step_turns, step_from}
-use Rattle.cbpf_dbg.proofs.JoinedLemmas.{place_at, ahead-entry}
+use Rattle.cbpf_dbg.proofs.JoinedLemmas.{place_at, ahead-entry, rest-ahead}
 
 count_cons : {X : Type 0} (f : X → Bool) (x : X) (xs : List X) → count_by f (x ∷ xs) ≡ cond (f x) 1 0 + count_by f xs
 count_cons f x xs =
@@ -183,6 +185,14 @@ pub owed_bound : (list : List Insn) (capture : List Record) (place : Place) → 
 unfolding joined
 owed_bound list capture place h few =
     omega (arith, length_filter (λ (e : Entry). is_after place e.place) (joined_from list 1 capture), length_joined list 1 capture h)
+
+-- the hits ahead can be counted
+pub few_hits : (list : List Insn) (capture : List Record) (breakpoints : List ℕ) (place : Place) → IsSound list → length capture < 2 ^ 60 → length (rest list capture breakpoints place) < 2 ^ 128
+unfolding joined
+few_hits list capture breakpoints place h few =
+    let some : length (rest list capture breakpoints place) ≡ length (filter (is_hit breakpoints) (ahead list capture place)) =
+    ap length (rest-ahead list capture breakpoints place) ∙ length-map (filter (is_hit breakpoints) (ahead list capture place)) (stop_at why.Break) in
+    omega (arith, some, length_filter (is_hit breakpoints) (ahead list capture place), length_filter (λ (e : Entry). is_after place e.place) (joined_from list 1 capture), length_joined list 1 capture h)
 
 pub step_turns-reply : (list : List Insn) (c : Savefile) (breakpoints : List ℕ) (old new : Walk) (n : ℕ) (reply : RunReply) → StepsOn list c breakpoints old new n reply
     → step_turns list c breakpoints old n ≡ reply_turns list c.records old.place reply new.place

@@ -1,9 +1,9 @@
 //! The commands of a session that ask or move its place.
 
-ghost use Rattle.std.specs.Prelude.{◌≡◌, ◌≤◌, ◌+◌, ◌*◌, ◌^◌, ◌<ℤ◌, pos, IfErr, IfOk, OnErr, OnOk};
-ghost use Rattle.std.specs.List.{All};
+ghost use Rattle.std.specs.Prelude.{◌≡◌, ◌≤◌, ◌<◌, ◌+◌, length, ◌*◌, ◌^◌, ◌<ℤ◌, pos, IfErr, IfOk, OnErr, OnOk};
 ghost use Rattle.cbpf_dbg.specs.Commands as spec;
 ghost use Rattle.cbpf_dbg.specs.Shown.{CanShow, Shows};
+ghost use Rattle.std.specs.List.{All};
 
 use crate::hit::is_quiet;
 use crate::reply::{Place, RunReply, SessionFault};
@@ -221,6 +221,7 @@ impl<T: Trail, A: Allocator> Session<T, A> {
     pub fn stops(&self) -> Result<Stops<'_, A>, SessionFault>
         ensures hits { result ≡ spec.stops self.now }
         ensures shown { IfOk result (λ hits. All (CanShow self.now) hits) }
+        ensures few { IfOk result (λ hits. length hits < 2 ^ 128) }
     {
         let Some(program) = &self.program else {
             return Err(SessionFault::NoProgram);

@@ -3,3 +3,4 @@ pub mod FileLemmas
 pub mod ReplyLemmas
 pub mod ScriptLemmas
 pub mod AssemblyLemmas
+pub mod SaidLemmas

@@ -5,14 +5,14 @@ use Rattle.std.specs.FinMap as map
 use Rattle.cbpf_code.specs.Writing.{Appended, AppendedPart}
 use Rattle.cbpf_code.specs.declared.writing.WriteFault.{WriteFault}
 use Rattle.cbpf_code.proofs.WrittenLemmas.{appended-nil, appended-then, appended-kept, part-then, part-take}
-use Rattle.cbpf_command.specs.Commands.{Spelled, load_words, load_capture, dump, quit, command_of}
+use Rattle.cbpf_command.specs.Commands.{Spelled, load_words, load_capture, run, disassemble, dump, breakpoint, breakpoints, reset_breakpoints, delete, step, select, mark, resume, stops, quit, command_of}
 use Rattle.cbpf_command.specs.declared.command.LineRefusal.{LineRefusal}
 use Rattle.cbpf_command.specs.declared.command.LineRefusal.TheVariants.{UnknownCommand, WrongArguments}
 use Rattle.pcap_classic.specs.Savefile.{Savefile, savefile_of}
 use Rattle.pcap_classic.specs.declared.fault.CaptureFault.{CaptureFault}
 use Rattle.cbpf_tool.specs.FileMap.{FileMap, Source}
 use Rattle.cbpf_tool.specs.Lines.{lines, put_front, whole_lines, has_newline}
-use Rattle.cbpf_tool.specs.Loaded.{Loaded, nothing_loaded}
+use Rattle.cbpf_dbg.specs.View.{View, empty_view}
 use Rattle.cbpf_tool.specs.Reading.{unread, Took, TakesLine}
 use Rattle.cbpf_tool.specs.Replies.{Exactly, LoadsWords, unreadable, unsound, accepted, ReadsCapture, LoadsCapture, Answers, Replies}
 use Rattle.cbpf_tool.specs.Output.{Output, at_end, at_quit, at_line, HasQuit}
@@ -81,33 +81,45 @@ lines-some (b ∷ bs) n = elim (eqb b 10) as (λ t. (l : List ℕ) × (more : Li
 
 -- ---- the text of a reply
 
-exactly-named : (text : List ℕ) (m n : Loaded) (W : List ℕ → Type 0) → Exactly text m n W → (t : List ℕ) × Exactly text m n (λ s. s ≡ t) × W t
+exactly-named : (text : List ℕ) (m n : View) (W : List ℕ → Type 0) → Exactly text m n W → (t : List ℕ) × Exactly text m n (λ s. s ≡ t) × W t
 unfolding Exactly
 exactly-named text m n W h = (text, (h.0, refl), h.1)
 
-words-named : (m n : Loaded) (text : List ℕ) (W : List ℕ → Type 0) → LoadsWords m n text W → (t : List ℕ) × LoadsWords m n text (λ s. s ≡ t) × W t
+words-named : (m n : View) (text : List ℕ) (W : List ℕ → Type 0) → LoadsWords m n text W → (t : List ℕ) × LoadsWords m n text (λ s. s ≡ t) × W t
 words-named m n text W (unreadable fault r u h) = let k = exactly-named _ m n W h in (k.0, unreadable fault r u k.1, k.2)
 words-named m n text W (unsound list fault s f h) = let k = exactly-named _ m n W h in (k.0, unsound list fault s f k.1, k.2)
 words-named m n text W (accepted list s f h) = let k = exactly-named _ _ n W h in (k.0, accepted list s f k.1, k.2)
 
-reads-named : (m n : Loaded) (c : Result Savefile CaptureFault) (W : List ℕ → Type 0) → ReadsCapture m n c W → (t : List ℕ) × ReadsCapture m n c (λ s. s ≡ t) × W t
+reads-named : (m n : View) (c : Result Savefile CaptureFault) (W : List ℕ → Type 0) → ReadsCapture m n c W → (t : List ℕ) × ReadsCapture m n c (λ s. s ≡ t) × W t
 reads-named m n (Ok c) W h = exactly-named _ _ n W h
 reads-named m n (Err f) W h = exactly-named _ m n W h
 
-capture-named : (m n : Loaded) (bytes : Option (List ℕ)) (W : List ℕ → Type 0) → LoadsCapture m n bytes W → (t : List ℕ) × LoadsCapture m n bytes (λ s. s ≡ t) × W t
+capture-named : (m n : View) (bytes : Option (List ℕ)) (W : List ℕ → Type 0) → LoadsCapture m n bytes W → (t : List ℕ) × LoadsCapture m n bytes (λ s. s ≡ t) × W t
 capture-named m n None W h = exactly-named _ m n W h
 capture-named m n (Some bytes) W h = reads-named m n (savefile_of bytes) W h
 
-answers-named : (files : FileMap) (m n : Loaded) (f g : ℕ) (c : Spelled) (W : List ℕ → Type 0) → Answers files m n f g c W → (t : List ℕ) × Answers files m n f g c (λ s. s ≡ t) × W t
+answers-named : (files : FileMap) (m n : View) (f g : ℕ) (c : Spelled) (W : List ℕ → Type 0) → Answers files m n f g c W → (t : List ℕ) × Answers files m n f g c (λ s. s ≡ t) × W t
 answers-named files m n f g (load_words text) W (inl h) = let k = words-named m n text W h in (k.0, inl k.1, k.2)
 answers-named files m n f g (load_words text) W (inr h) = let k = exactly-named _ m n W h in (k.0, inr k.1, k.2)
 answers-named files m n f g (load_capture name) W (inl h) = let k = capture-named m n (map.get files name) W h in (k.0, inl k.1, k.2)
 answers-named files m n f g (load_capture name) W (inr (inl h)) = let k = exactly-named _ m n W h in (k.0, inr (inl k.1), k.2)
 answers-named files m n f g (load_capture name) W (inr (inr h)) = let k = exactly-named _ m n W h.1 in (k.0, inr (inr (h.0, k.1)), k.2)
+answers-named files m n f g (run limit) W h = exactly-named _ _ n W h
+answers-named files m n f g disassemble W h = exactly-named _ m n W h
 answers-named files m n f g dump W h = exactly-named _ m n W h
+answers-named files m n f g (breakpoint k) W (inl h) = let k = exactly-named _ _ n W h in (k.0, inl k.1, k.2)
+answers-named files m n f g (breakpoint k) W (inr h) = let k = exactly-named _ m n W h in (k.0, inr k.1, k.2)
+answers-named files m n f g breakpoints W h = exactly-named _ m n W h
+answers-named files m n f g reset_breakpoints W h = exactly-named _ _ n W h
+answers-named files m n f g (delete k) W h = exactly-named _ _ n W h
+answers-named files m n f g (step k) W h = exactly-named _ _ n W h
+answers-named files m n f g (select k) W h = exactly-named _ _ n W h
+answers-named files m n f g mark W h = exactly-named _ m n W h
+answers-named files m n f g (resume p s) W h = exactly-named _ _ n W h
+answers-named files m n f g stops W h = exactly-named _ m n W h
 answers-named files m n f g quit W h = absurd h
 
-reply-named : (files : FileMap) (m n : Loaded) (f g : ℕ) (said : Result (Option Spelled) LineRefusal) (W : List ℕ → Type 0) → Replies files m n f g said W → (t : List ℕ) × Replies files m n f g said (λ s. s ≡ t) × W t
+reply-named : (files : FileMap) (m n : View) (f g : ℕ) (said : Result (Option Spelled) LineRefusal) (W : List ℕ → Type 0) → Replies files m n f g said W → (t : List ℕ) × Replies files m n f g said (λ s. s ≡ t) × W t
 reply-named files m n f g (Ok None) W h = exactly-named _ m n W h
 reply-named files m n f g (Ok (Some c)) W h = answers-named files m n f g c W h
 reply-named files m n f g (Err UnknownCommand) W h = exactly-named _ m n W h
@@ -125,7 +137,7 @@ quit-last [] l (inr h) = absurd h
 quit-last (x ∷ xs) l (inl h) = inl (inl h)
 quit-last (x ∷ xs) l (inr h) = elim (quit-last xs l h) [ inl k ↦ inl (inr k) | inr k ↦ inr k ]
 
-ran-no-quit : (files : FileMap) (f g : ℕ) (m n : Loaded) (ls : List (List ℕ)) (t : List ℕ) → Ran files m f ls t n g → HasQuit ls → ⊥
+ran-no-quit : (files : FileMap) (f g : ℕ) (m n : View) (ls : List (List ℕ)) (t : List ℕ) → Ran files m f ls t n g → HasQuit ls → ⊥
 ran-no-quit files f g m n ls t still h = h
 ran-no-quit files f g m n ls t (onward {n = k} {g = g'} {ls = ls'} {t = t'} l v r a le) h = elim (quit-last ls' l h) [
   | inl q ↦ ran-no-quit files f g' m k ls' t' r q
@@ -133,7 +145,7 @@ ran-no-quit files f g m n ls t (onward {n = k} {g = g'} {ls = ls'} {t = t'} l v 
 ]
 
 -- what runs on after some lines
-ran-output : (files : FileMap) (f g h : ℕ) (m n : Loaded) (ls : List (List ℕ)) (t : List ℕ) → Ran files m f ls t n g → (rest : List (List ℕ)) (u : List ℕ) → Output files n g rest u h → Output files m f (ls ++ rest) (t ++ u) h
+ran-output : (files : FileMap) (f g h : ℕ) (m n : View) (ls : List (List ℕ)) (t : List ℕ) → Ran files m f ls t n g → (rest : List (List ℕ)) (u : List ℕ) → Output files n g rest u h → Output files m f (ls ++ rest) (t ++ u) h
 ran-output files f g h m n ls t still rest u o = o
 ran-output files f g h m n ls t (onward {n = k} {g = g'} {ls = ls'} {t = t'} l v r a le) rest u o =
     rw (append_assoc ls' (l ∷ []) rest, append_assoc t' v u) (ran-output files f g' h m k ls' t' r (l ∷ rest) (v ++ u) (at_line l v a le o))
@@ -146,16 +158,16 @@ unfolding unread
 unread-nil pending None r n e = absurd (cc)
 unread-nil pending (Some xs) r n e = rw n at e
 
-module _ (script pending : List ℕ) (left old new new' : Option (List ℕ)) (m : Loaded) (f g : Source) (p : Progress script pending left old new f g m) (k : Keeps new new') where
+module _ (script pending : List ℕ) (left old new new' : Option (List ℕ)) (m : View) (f g : Source) (p : Progress script pending left old new f g m) (k : Keeps new new') where
   -- the text of the lines that were carried out
   so_far : IsOutput f g p.done p.text
-  so_far = subst (λ t. IsOutput f g p.done t) (append-nil p.text) (subst (λ ls. IsOutput f g ls (p.text ++ [])) (append-nil p.done) (ran-output f.files f.failures g.failures g.failures nothing_loaded m p.done p.text p.ran [] [] at_end))
+  so_far = subst (λ t. IsOutput f g p.done t) (append-nil p.text) (subst (λ ls. IsOutput f g ls (p.text ++ [])) (append-nil p.done) (ran-output f.files f.failures g.failures g.failures empty_view m p.done p.text p.ran [] [] at_end))
 
   script_lines : lines script ≡ p.done ++ lines p.rest
   script_lines = ap lines p.split ∙ lines-unlines p.done p.rest p.plain
 
   no_quit : ¬ HasQuit p.done
-  no_quit = ran-no-quit f.files f.failures g.failures nothing_loaded m p.done p.text p.ran
+  no_quit = ran-no-quit f.files f.failures g.failures empty_view m p.done p.text p.ran
 
   wrote : Appended old new' p.text
   wrote = appended-kept old new new' p.text p.wrote k
@@ -180,7 +192,7 @@ module _ (script pending : List ℕ) (left old new new' : Option (List ℕ)) (m 
   pub end-done : (left' : Option (List ℕ)) → p.rest ≡ [] → left' ≡ Some [] → Finished script left' old new' f g
   end-done left' e z = (p.text, subst (λ ls. IsOutput f g ls p.text) (sym (script_lines ∙ ap (λ (r : List ℕ). p.done ++ lines r) e ∙ append-nil p.done)) so_far, inr z, wrote)
 
-  module _ (new'' : Option (List ℕ)) (n : Loaded) (g' : Source) (line : List ℕ) (more : List (List ℕ)) (next : lines p.rest ≡ line ∷ more) (tells : IsTrue f.tells) where
+  module _ (new'' : Option (List ℕ)) (n : View) (g' : Source) (line : List ℕ) (more : List (List ℕ)) (next : lines p.rest ≡ line ∷ more) (tells : IsTrue f.tells) where
     here : lines script ≡ p.done ++ (line ∷ more)
     here = script_lines ∙ ap (λ (r : List (List ℕ)). p.done ++ r) next
 
@@ -194,13 +206,13 @@ module _ (script pending : List ℕ) (left old new new' : Option (List ℕ)) (m 
     pub quit-done : (left' : Option (List ℕ)) → CarriedOut g g' m n (command_of line) new' new'' (Ok Quit) → Finished script left' old new'' f g'
     quit-done left' c =
         let q = c.1 still_tells in
-        let o : Output f.files nothing_loaded f.failures (p.done ++ (line ∷ more)) (p.text ++ []) g.failures = ran-output f.files f.failures g.failures g.failures nothing_loaded m p.done p.text p.ran (line ∷ more) [] (at_quit line more q.0) in
-        let whole : Output f.files nothing_loaded f.failures (lines script) (p.text ++ []) g.failures = subst (λ ls. Output f.files nothing_loaded f.failures ls (p.text ++ []) g.failures) (sym here) o in
-        (p.text ++ [], subst (λ h. Output f.files nothing_loaded f.failures (lines script) (p.text ++ []) h) q.1 whole, inl (subst (λ ls. HasQuit ls) (sym here) (quit-in p.done line more q.0)), appended-then old new' new'' p.text [] wrote q.2)
+        let o : Output f.files empty_view f.failures (p.done ++ (line ∷ more)) (p.text ++ []) g.failures = ran-output f.files f.failures g.failures g.failures empty_view m p.done p.text p.ran (line ∷ more) [] (at_quit line more q.0) in
+        let whole : Output f.files empty_view f.failures (lines script) (p.text ++ []) g.failures = subst (λ ls. Output f.files empty_view f.failures ls (p.text ++ []) g.failures) (sym here) o in
+        (p.text ++ [], subst (λ h. Output f.files empty_view f.failures (lines script) (p.text ++ []) h) q.1 whole, inl (subst (λ ls. HasQuit ls) (sym here) (quit-in p.done line more q.0)), appended-then old new' new'' p.text [] wrote q.2)
 
     one_line : (u : List ℕ) → Replies g.files m n g.failures g'.failures (command_of line) (λ s. s ≡ u) → g.failures ≤ g'.failures → IsOutput f g' (p.done ++ (line ∷ [])) (p.text ++ u)
     one_line u r le =
-        let o : Output f.files nothing_loaded f.failures (p.done ++ (line ∷ [])) (p.text ++ (u ++ [])) g'.failures = ran-output f.files f.failures g.failures g'.failures nothing_loaded m p.done p.text p.ran (line ∷ []) (u ++ []) (at_line line u (same_files (command_of line) (λ s. s ≡ u) r) le at_end) in
+        let o : Output f.files empty_view f.failures (p.done ++ (line ∷ [])) (p.text ++ (u ++ [])) g'.failures = ran-output f.files f.failures g.failures g'.failures empty_view m p.done p.text p.ran (line ∷ []) (u ++ []) (at_line line u (same_files (command_of line) (λ s. s ≡ u) r) le at_end) in
         subst (λ t. IsOutput f g' (p.done ++ (line ∷ [])) (p.text ++ t)) (append-nil u) o
 
     pub write-faulted : (left' : Option (List ℕ)) (e : WriteFault) → CarriedOut g g' m n (command_of line) new' new'' (Err e) → Faulted script left' old new'' f g' Write
@@ -231,11 +243,11 @@ module _ (script pending : List ℕ) (left old new new' : Option (List ℕ)) (m 
         }
 
 -- behind a last line without a newline the input is at its end, whatever comes behind the line
-pub either-done : (script pending : List ℕ) (left old new new' : Option (List ℕ)) (m : Loaded) (f g : Source) (p : Progress script pending left old new f g m) (k : Keeps new new') (new'' : Option (List ℕ)) (n : Loaded) (g' : Source) (line : List ℕ) (next : lines p.rest ≡ line ∷ []) (tells : IsTrue f.tells) (left' : Option (List ℕ)) → left' ≡ Some [] → (b : Behind) → CarriedOut g g' m n (command_of line) new' new'' (Ok b) → Finished script left' old new'' f g'
+pub either-done : (script pending : List ℕ) (left old new new' : Option (List ℕ)) (m : View) (f g : Source) (p : Progress script pending left old new f g m) (k : Keeps new new') (new'' : Option (List ℕ)) (n : View) (g' : Source) (line : List ℕ) (next : lines p.rest ≡ line ∷ []) (tells : IsTrue f.tells) (left' : Option (List ℕ)) → left' ≡ Some [] → (b : Behind) → CarriedOut g g' m n (command_of line) new' new'' (Ok b) → Finished script left' old new'' f g'
 either-done script pending left old new new' m f g p k new'' n g' line next tells left' z NextLine c = last-done script pending left old new new' m f g p k new'' n g' line [] next tells left' z refl c
 either-done script pending left old new new' m f g p k new'' n g' line next tells left' z Quit c = quit-done script pending left old new new' m f g p k new'' n g' line [] next tells left' c
 
-pub progress-start : (script pending : List ℕ) (left old : Option (List ℕ)) (f : Source) → pending ≡ [] → left ≡ Some script → Progress script pending left old old f f nothing_loaded
+pub progress-start : (script pending : List ℕ) (left old : Option (List ℕ)) (f : Source) → pending ≡ [] → left ≡ Some script → Progress script pending left old old f f empty_view
 unfolding unread
 progress-start script pending left old f n e = record {
   done = [];

@@ -3,14 +3,14 @@ use Rattle.std.specs.Prelude.{◌≡◌, ◌⊎◌, ℕ, List, [], ◌∷◌, �
 use Rattle.cbpf_code.specs.Writing.{Appended, AppendedPart}
 use Rattle.cbpf_tool.specs.FileMap.{Source}
 use Rattle.cbpf_tool.specs.Lines.{lines, whole_lines}
-use Rattle.cbpf_tool.specs.Loaded.{nothing_loaded}
+use Rattle.cbpf_dbg.specs.View.{empty_view}
 use Rattle.cbpf_tool.specs.Output.{Output, HasQuit}
 use Rattle.cbpf_tool.specs.declared.fault.ToolFault.{ToolFault}
 use Rattle.cbpf_tool.specs.declared.fault.ToolFault.TheVariants.{Source as RefusedSource, Read, Write, Memory}
 
 -- a text is the output of some lines, from a debugger that has loaded nothing
 abbrev pub IsOutput : Source → Source → List (List ℕ) → List ℕ → Type 0
-IsOutput old new ls text = Output old.files nothing_loaded old.failures ls text new.failures
+IsOutput old new ls text = Output old.files empty_view old.failures ls text new.failures
 
 -- behind a read that failed: the output of the whole lines of what was read, of which none is `quit`.
 -- Behind a write that failed: a beginning of the output of the first lines. Behind want of memory: the

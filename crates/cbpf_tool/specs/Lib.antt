@@ -2,7 +2,7 @@ pub mod FileMap
 pub mod Loads
 pub mod Lines
 pub mod Reading
-pub mod Loaded
+pub mod Said
 pub mod Texts
 pub mod Replies
 pub mod Output

@@ -1,4 +1,4 @@
--- What a line of a script replies, and what is loaded behind it.
+-- What a line of a script replies, and the view of the session behind it.
 use Rattle.std.specs.Prelude.{◌≡◌, ◌<◌, ◌-◌, ◌^◌, ◌⊎◌, ℕ, List, [], Option, Some, None, Result, Ok, Err, length}
 use Rattle.std.specs.FinMap as map
 use Rattle.cbpf_code.specs.WordText.{Spells, Refused}
@@ -8,31 +8,38 @@ use Rattle.cbpf_code.specs.declared.insn.Insn.{Insn}
 use Rattle.cbpf_code.specs.declared.words.WordFault.{WordFault}
 use Rattle.cbpf_code.specs.declared.words.WordFault.TheVariants.{Memory}
 use Rattle.cbpf_code.specs.declared.checker.CheckFault.{CheckFault}
-use Rattle.cbpf_command.specs.Commands.{Spelled, load_words, load_capture, dump, quit}
+use Rattle.cbpf_command.specs.Commands.{Spelled, load_words, load_capture, run, disassemble, dump, breakpoint, breakpoints, reset_breakpoints, delete, step, select, mark, resume, stops, quit}
 use Rattle.cbpf_command.specs.declared.command.LineRefusal.{LineRefusal}
 use Rattle.cbpf_command.specs.declared.command.LineRefusal.TheVariants.{UnknownCommand, WrongArguments}
 use Rattle.pcap_classic.specs.Savefile.{Savefile, savefile_of}
 use Rattle.pcap_classic.specs.declared.fault.CaptureFault.{CaptureFault}
 use Rattle.cbpf_tool.specs.FileMap.{FileMap}
-use Rattle.cbpf_tool.specs.Loaded.{Loaded, with_program, with_capture}
+use Rattle.cbpf_dbg.specs.View.{View}
+use Rattle.cbpf_dbg.specs.Commands.{with_program_loaded, with_capture_loaded, without_breakpoints}
+use Rattle.cbpf_reply.specs.Texts.{breakpoints_text}
+use Rattle.cbpf_tool.specs.Said.{run_said, step_said, select_said, resume_said, breakpoint_said, delete_said, mark_said, stops_said, listing_text}
 use Rattle.cbpf_tool.specs.Texts.{unknown_command_text, wrong_arguments_text, absent_text, device_text, memory_text, word_fault_text, check_fault_text, capture_fault_text, program_text, capture_text, dump_text}
 
 -- this text is written, as `Written` says, and n is as m
-unfoldable pub Exactly : List ℕ → Loaded → Loaded → (List ℕ → Type 0) → Type 0
+unfoldable pub Exactly : List ℕ → View → View → (List ℕ → Type 0) → Type 0
 Exactly text m n Written = (n ≡ m) × Written text
 
+-- this text is written, and the view behind it is n
+abbrev pub Replied : List ℕ × View → View → (List ℕ → Type 0) → Type 0
+Replied said n Written = Exactly said.0 said.1 n Written
+
 -- `load bpf`: the word text's refusal, else the checker's, else the program is held
-pub data LoadsWords (m n : Loaded) (text : List ℕ) (Written : List ℕ → Type 0) : Type 0 where
+pub data LoadsWords (m n : View) (text : List ℕ) (Written : List ℕ → Type 0) : Type 0 where
   unreadable : (fault : WordFault) → Refused text fault → (fault ≡ Memory → ⊥) → Exactly (word_fault_text fault) m n Written → LoadsWords m n text Written
   unsound : (list : List Insn) (fault : CheckFault) → Spells text list → FirstFault list fault → Exactly (check_fault_text fault) m n Written → LoadsWords m n text Written
-  accepted : (list : List Insn) → Spells text list → IsSound list → Exactly (program_text (length list)) (with_program m list) n Written → LoadsWords m n text Written
+  accepted : (list : List Insn) → Spells text list → IsSound list → Exactly (program_text (length list)) (with_program_loaded m list) n Written → LoadsWords m n text Written
 
 -- `load pcap`: by the bytes that the file has, and the capture that they hold
-abbrev pub ReadsCapture : Loaded → Loaded → Result Savefile CaptureFault → (List ℕ → Type 0) → Type 0
-ReadsCapture m n (Ok c) Written = Exactly (capture_text c) (with_capture m c) n Written
+abbrev pub ReadsCapture : View → View → Result Savefile CaptureFault → (List ℕ → Type 0) → Type 0
+ReadsCapture m n (Ok c) Written = Exactly (capture_text c) (with_capture_loaded m c) n Written
 ReadsCapture m n (Err fault) Written = Exactly (capture_fault_text fault) m n Written
 
-abbrev pub LoadsCapture : Loaded → Loaded → Option (List ℕ) → (List ℕ → Type 0) → Type 0
+abbrev pub LoadsCapture : View → View → Option (List ℕ) → (List ℕ → Type 0) → Type 0
 LoadsCapture m n None Written = Exactly absent_text m n Written
 LoadsCapture m n (Some bytes) Written = ReadsCapture m n (savefile_of bytes) Written
 
@@ -40,16 +47,28 @@ LoadsCapture m n (Some bytes) Written = ReadsCapture m n (savefile_of bytes) Wri
 abbrev pub Failed : ℕ → ℕ → Type 0
 Failed f g = (f < g) ⊎ (f ≡ 2 ^ 64 - 1)
 
--- a command's reply, while the count of failures goes from f to g. `error: out of memory` and, where a
--- failure is counted, F2 may come in place of the reply of a load. `quit` has none
-abbrev pub Answers : FileMap → Loaded → Loaded → ℕ → ℕ → Spelled → (List ℕ → Type 0) → Type 0
+-- a command's reply, while the count of failures goes from f to g. `error: out of memory` may come in place
+-- of the reply of a load and of a breakpoint that is set, and F2, where a failure is counted, in place of
+-- that of a capture's load. `quit` has none
+abbrev pub Answers : FileMap → View → View → ℕ → ℕ → Spelled → (List ℕ → Type 0) → Type 0
 Answers files m n f g (load_words text) Written = LoadsWords m n text Written ⊎ Exactly memory_text m n Written
 Answers files m n f g (load_capture name) Written = LoadsCapture m n (map.get files name) Written ⊎ (Exactly memory_text m n Written ⊎ (Failed f g × Exactly device_text m n Written))
+Answers files m n f g (run limit) Written = Replied (run_said m limit) n Written
+Answers files m n f g disassemble Written = Exactly (listing_text m.program) m n Written
 Answers files m n f g dump Written = Exactly (dump_text m.program) m n Written
+Answers files m n f g (breakpoint k) Written = Replied (breakpoint_said m k) n Written ⊎ Exactly memory_text m n Written
+Answers files m n f g breakpoints Written = Exactly (breakpoints_text m.breakpoints) m n Written
+Answers files m n f g reset_breakpoints Written = Exactly (breakpoints_text []) (without_breakpoints m) n Written
+Answers files m n f g (delete k) Written = Replied (delete_said m k) n Written
+Answers files m n f g (step k) Written = Replied (step_said m k) n Written
+Answers files m n f g (select k) Written = Replied (select_said m k) n Written
+Answers files m n f g mark Written = Exactly (mark_said m) m n Written
+Answers files m n f g (resume packet s) Written = Replied (resume_said m packet s) n Written
+Answers files m n f g stops Written = Exactly (stops_said m) m n Written
 Answers files m n f g quit Written = ⊥
 
 -- a line's reply, by what the line says
-abbrev pub Replies : FileMap → Loaded → Loaded → ℕ → ℕ → Result (Option Spelled) LineRefusal → (List ℕ → Type 0) → Type 0
+abbrev pub Replies : FileMap → View → View → ℕ → ℕ → Result (Option Spelled) LineRefusal → (List ℕ → Type 0) → Type 0
 Replies files m n f g (Ok None) Written = Exactly [] m n Written
 Replies files m n f g (Ok (Some c)) Written = Answers files m n f g c Written
 Replies files m n f g (Err UnknownCommand) Written = Exactly unknown_command_text m n Written

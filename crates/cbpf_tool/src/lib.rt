@@ -2,11 +2,13 @@
 #![tactic(auto)]
 
 mod assembler;
+mod commands;
 mod debugger;
 mod disk_files;
 mod fault;
 mod files;
 mod line_reader;
+mod loads;
 mod memory_files;
 mod replies;
 

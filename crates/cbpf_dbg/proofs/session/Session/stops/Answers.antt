@@ -1,4 +1,6 @@
 use Rattle.cbpf_dbg.proofs.WholeLemmas.{Holds}
+use Rattle.std.proofs.Common.{arith}
+use Rattle.cbpf_dbg.proofs.TurnLemmas.{few_hits}
 use Rattle.cbpf_dbg.proofs.ShownStops.{shows-rest}
 use Rattle.cbpf_dbg.proofs.session.Session.stops.Goals as goal
 
@@ -6,3 +8,6 @@ pub returns-clause-shown : goal.returns-clause-shown
 returns-clause-shown g c =
     let holds : Holds c.in-Some.program c.in-Some-capture.capture c.args.self.now = record { program = rw (← c.self.view_is) c.in-Some.is; capture = rw (← c.self.view_is) c.in-Some-capture.is } in
     shows-rest _ _ _ _ _ holds c.len-sound.ensures.sound
+
+pub returns-clause-few : goal.returns-clause-few
+returns-clause-few g c = few_hits _ _ _ _ c.len-sound.ensures.sound (omega (arith, c.count-few.ensures.value, c.count-few.ensures.bounded))

@@ -6,12 +6,12 @@ use Rattle.cbpf_command.specs.Commands.{command_of, meaning}
 use Rattle.cbpf_tool.specs.Texts.{unknown_command_text, wrong_arguments_text}
 use Rattle.cbpf_tool.specs.declared.debugger.Behind.TheVariants.{NextLine}
 use Rattle.cbpf_tool.proofs.ReplyLemmas.{carried-err, carried-said, acted-carried, kept-same, exactly-same}
-use Rattle.cbpf_tool.proofs.debugger.Debugger.carry_out.Goals as goal
+use Rattle.cbpf_tool.proofs.debugger.carry_out.Goals as goal
 
 pub returns-in-Ok-None : goal.returns-in-Ok-None
 returns-in-Ok-None g c =
     let f = g.F.Files.source c.args.files.now in
-    let m = c.args.self.now in
+    let m = c.args.session.now in
     let w0 = g.W.Write.contents c.args.w.now in
     carried-said f f m m (Ok None) (command_of c.args.line.now) w0 w0 (Ok NextLine) (rw c.in-Ok-None.field-0-is at (c.in-Ok-None.ensures {u = tt})) (kept-same f, λ t. exactly-same [] m (λ (s : List ℕ). Appended w0 w0 s) (appended-nil w0))
 
@@ -21,7 +21,7 @@ returns-in-Ok-Some g c = acted-carried _ _ _ _ (meaning c.in-Ok-Some.said) _ _ _
 pub returns-in_err-write_bytes-in-Err-UnknownCommand : goal.returns-in_err-write_bytes-in-Err-UnknownCommand
 returns-in_err-write_bytes-in-Err-UnknownCommand g c =
     let f = g.F.Files.source c.args.files.now in
-    let m = c.args.self.now in
+    let m = c.args.session.now in
     let w0 = g.W.Write.contents c.args.w.now in
     let w1 = g.W.Write.contents c.write_bytes.new.w in
     let said : Err UnknownCommand ≡ command_of c.args.line.now = rw c.in-Err-UnknownCommand.field-0-is at (c.in-Err-UnknownCommand.ensures {u = tt}) in
@@ -31,7 +31,7 @@ returns-in_err-write_bytes-in-Err-UnknownCommand g c =
 pub returns-in_ok-write_bytes-in-Err-UnknownCommand : goal.returns-in_ok-write_bytes-in-Err-UnknownCommand
 returns-in_ok-write_bytes-in-Err-UnknownCommand g c =
     let f = g.F.Files.source c.args.files.now in
-    let m = c.args.self.now in
+    let m = c.args.session.now in
     let w0 = g.W.Write.contents c.args.w.now in
     let w1 = g.W.Write.contents c.write_bytes.new.w in
     let said : Err UnknownCommand ≡ command_of c.args.line.now = rw c.in-Err-UnknownCommand.field-0-is at (c.in-Err-UnknownCommand.ensures {u = tt}) in
@@ -40,7 +40,7 @@ returns-in_ok-write_bytes-in-Err-UnknownCommand g c =
 pub returns-in_err-write_bytes-in-Err-WrongArguments : goal.returns-in_err-write_bytes-in-Err-WrongArguments
 returns-in_err-write_bytes-in-Err-WrongArguments g c =
     let f = g.F.Files.source c.args.files.now in
-    let m = c.args.self.now in
+    let m = c.args.session.now in
     let w0 = g.W.Write.contents c.args.w.now in
     let w1 = g.W.Write.contents c.write_bytes-in-Err-WrongArguments.new.w in
     let said : Err WrongArguments ≡ command_of c.args.line.now = rw c.in-Err-WrongArguments.field-0-is at (c.in-Err-WrongArguments.ensures {u = tt}) in
@@ -50,7 +50,7 @@ returns-in_err-write_bytes-in-Err-WrongArguments g c =
 pub returns-in_ok-write_bytes-in-Err-WrongArguments : goal.returns-in_ok-write_bytes-in-Err-WrongArguments
 returns-in_ok-write_bytes-in-Err-WrongArguments g c =
     let f = g.F.Files.source c.args.files.now in
-    let m = c.args.self.now in
+    let m = c.args.session.now in
     let w0 = g.W.Write.contents c.args.w.now in
     let w1 = g.W.Write.contents c.write_bytes-in-Err-WrongArguments.new.w in
     let said : Err WrongArguments ≡ command_of c.args.line.now = rw c.in-Err-WrongArguments.field-0-is at (c.in-Err-WrongArguments.ensures {u = tt}) in

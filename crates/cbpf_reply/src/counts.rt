@@ -1,0 +1,130 @@
+//! Counts and places, and the answers of runs and steps.
+
+ghost use Rattle.std.specs.Prelude.{◌≡◌};
+ghost use Rattle.cbpf_code.specs.Writing.{Wrote};
+ghost use Rattle.cbpf_dbg.specs.Shown.{Shows};
+ghost use Rattle.cbpf_reply.specs.Texts as spec;
+
+use cbpf_code::{WriteFault, write_bytes, write_parts};
+use cbpf_dbg::{Counts, Place, RunReply, Session, Trail};
+use itoa::Buffer;
+use std::alloc::Allocator;
+use std::io::Write;
+
+/// Writes a place behind a text.
+///
+/// # Errors
+///
+/// The writer failed, or took nothing of a text that isn't empty: a beginning of the line was written.
+pub fn write_place<W: Write>(w: &mut W, before: &[u8], place: Place) -> Result<(), WriteFault>
+    ensures { Wrote (W.contents w.old) (W.contents w.new) result (spec.place_text before.now place) }
+{
+    let (mut packet, mut step) = (Buffer::new(), Buffer::new());
+    write_parts(
+        w,
+        &[
+            before,
+            packet.format(place.packet).as_bytes(),
+            b" ",
+            step.format(place.step).as_bytes(),
+            b"\n",
+        ],
+    )
+}
+
+/// Two numbers, each behind a text.
+fn write_two<W: Write>(
+    w: &mut W,
+    before: &[u8],
+    m: u64,
+    between: &[u8],
+    n: u64,
+) -> Result<(), WriteFault>
+    ensures { Wrote (W.contents w.old) (W.contents w.new) result (spec.two before.now m between.now n) }
+{
+    let (mut first, mut second) = (Buffer::new(), Buffer::new());
+    write_parts(
+        w,
+        &[
+            before,
+            first.format(m).as_bytes(),
+            between,
+            second.format(n).as_bytes(),
+        ],
+    )
+}
+
+/// How many packets passed and failed.
+#[tactic(auto, unfolding(crate::specs::Texts::known_text))]
+fn write_known<W: Write>(w: &mut W, passes: u64, fails: u64) -> Result<(), WriteFault>
+    ensures { Wrote (W.contents w.old) (W.contents w.new) result (spec.known_text passes fails) }
+{
+    write_two(w, b"bpf passes:", passes, b" fails:", fails)
+}
+
+/// How many packets asked for an unknown extension, where one did.
+fn write_unknown<W: Write>(w: &mut W, unknown: u64) -> Result<(), WriteFault>
+    ensures { Wrote (W.contents w.old) (W.contents w.new) result (spec.unknown_text unknown) }
+{
+    if unknown == 0 {
+        return write_bytes(w, b"");
+    }
+    let mut number = Buffer::new();
+    write_parts(w, &[b" unknown:", number.format(unknown).as_bytes()])
+}
+
+#[tactic(auto, using(cbpf_code::proofs::WrittenLemmas::pairs), unfolding(crate::specs::Texts::counts_text))]
+fn write_counts<W: Write>(w: &mut W, counts: Counts) -> Result<(), WriteFault>
+    ensures { Wrote (W.contents w.old) (W.contents w.new) result (spec.counts_text counts) }
+{
+    write_known(w, counts.passes, counts.fails)?;
+    write_unknown(w, counts.unknown)
+}
+
+#[tactic(auto, using(cbpf_code::proofs::WrittenLemmas::pairs))]
+fn write_finished<W: Write>(w: &mut W, counts: Counts) -> Result<(), WriteFault>
+    ensures { Wrote (W.contents w.old) (W.contents w.new) result (spec.finished_text counts) }
+{
+    write_counts(w, counts)?;
+    write_bytes(w, b"\n")
+}
+
+fn write_next<W: Write>(w: &mut W, packet: u64) -> Result<(), WriteFault>
+    ensures { Wrote (W.contents w.old) (W.contents w.new) result (spec.next_text packet) }
+{
+    let mut number = Buffer::new();
+    write_parts(w, &[b" next:", number.format(packet).as_bytes(), b"\n"])
+}
+
+#[tactic(auto, using(cbpf_code::proofs::WrittenLemmas::pairs))]
+fn write_limit<W: Write>(w: &mut W, counts: Counts, packet: u64) -> Result<(), WriteFault>
+    ensures { Wrote (W.contents w.old) (W.contents w.new) result (spec.limit_text counts packet) }
+{
+    write_counts(w, counts)?;
+    write_next(w, packet)
+}
+
+/// Writes the answer of a run or a step of this session: the dump of its stop, or the counts.
+///
+/// A stop is one of this session's, of the program and the capture that are loaded.
+///
+/// # Errors
+///
+/// The writer failed, or took nothing of a text that isn't empty: a beginning of the reply was written.
+#[tactic(auto, unfolding(crate::specs::Texts::run_text))]
+pub fn write_run<W: Write, T: Trail, A: Allocator>(
+    w: &mut W,
+    session: &Session<T, A>,
+    reply: RunReply,
+    next: u64,
+) -> Result<(), WriteFault>
+    requires shown { Shows session.now reply }
+    requires next { next ≡ session.now.place.packet }
+    ensures { Wrote (W.contents w.old) (W.contents w.new) result (spec.run_text reply session.now) }
+{
+    match reply {
+        RunReply::Stopped(stop) => session.write_stop(w, &stop),
+        RunReply::Limit(counts) => write_limit(w, counts, next),
+        RunReply::Finished(counts) => write_finished(w, counts),
+    }
+}

@@ -1,0 +1,191 @@
+// The commands of a session, and their replies.
+ghost use Rattle.std.specs.Prelude.{◌≡◌, ◌⊎◌, ◌<ℤ◌, []};
+ghost use Rattle.cbpf_code.specs.Writing.{Wrote};
+ghost use Rattle.cbpf_dbg.specs.Commands.{without_breakpoints};
+ghost use Rattle.cbpf_reply.specs.Texts.{breakpoints_text};
+ghost use Rattle.cbpf_tool.specs.Replies.{Exactly, Replied};
+ghost use Rattle.cbpf_tool.specs.Said as said;
+ghost use Rattle.cbpf_tool.specs.Texts as texts;
+
+use crate::replies::write_dump;
+use cbpf_code::{WriteFault, write_bytes};
+use cbpf_dbg::{MarkTrail, Meter, Place, Session};
+use cbpf_reply::{
+    write_breakpoint, write_breakpoints, write_fault, write_place, write_run, write_stops,
+};
+use cbpf_text::write_listing;
+use std::alloc::Allocator;
+use std::io::Write;
+
+/// `run`
+#[tactic(auto, using(crate::proofs::SaidLemmas::said))]
+pub fn run<A: Allocator, W: Write>(
+    w: &mut W,
+    session: &mut Session<MarkTrail, A>,
+    limit: Option<u64>,
+) -> Result<(), WriteFault>
+    ensures { Replied (said.run_said session.old limit) session.new (λ t. Wrote (W.contents w.old) (W.contents w.new) result t) }
+{
+    let mut meter = Meter::new();
+    match session.run(&mut meter, limit) {
+        Ok(reply) => match session.mark() {
+            Ok(place) => write_run(w, session, reply, place.packet),
+            Err(_) => unreachable!(),
+        },
+        Err(fault) => write_fault(w, fault),
+    }
+}
+
+/// `step`
+#[tactic(auto, using(crate::proofs::SaidLemmas::said))]
+pub fn step<A: Allocator, W: Write>(
+    w: &mut W,
+    session: &mut Session<MarkTrail, A>,
+    n: i64,
+) -> Result<(), WriteFault>
+    ensures { Replied (said.step_said session.old n) session.new (λ t. Wrote (W.contents w.old) (W.contents w.new) result t) }
+{
+    let mut meter = Meter::new();
+    match session.step(&mut meter, n) {
+        Ok(reply) => match session.mark() {
+            Ok(place) => write_run(w, session, reply, place.packet),
+            Err(_) => unreachable!(),
+        },
+        Err(fault) => write_fault(w, fault),
+    }
+}
+
+/// `select`
+#[tactic(auto, using(crate::proofs::SaidLemmas::said))]
+pub fn select<A: Allocator, W: Write>(
+    w: &mut W,
+    session: &mut Session<MarkTrail, A>,
+    n: u64,
+) -> Result<(), WriteFault>
+    ensures { Replied (said.select_said session.old n) session.new (λ t. Wrote (W.contents w.old) (W.contents w.new) result t) }
+{
+    match session.select(n) {
+        Ok(()) => write_place(w, b"at ", Place { packet: n, step: 0 }),
+        Err(fault) => write_fault(w, fault),
+    }
+}
+
+/// `resume`
+#[tactic(auto, using(crate::proofs::SaidLemmas::said))]
+pub fn resume<A: Allocator, W: Write>(
+    w: &mut W,
+    session: &mut Session<MarkTrail, A>,
+    packet: u64,
+    step: u32,
+) -> Result<(), WriteFault>
+    ensures { Replied (said.resume_said session.old packet step) session.new (λ t. Wrote (W.contents w.old) (W.contents w.new) result t) }
+{
+    let mut meter = Meter::new();
+    let place = Place { packet, step };
+    match session.resume(&mut meter, place) {
+        Ok(()) => write_place(w, b"at ", place),
+        Err(fault) => write_fault(w, fault),
+    }
+}
+
+/// `breakpoint n`
+#[tactic(auto, using(crate::proofs::SaidLemmas::said))]
+pub fn set_breakpoint<A: Allocator + Copy, W: Write>(
+    w: &mut W,
+    session: &mut Session<MarkTrail, A>,
+    n: u64,
+) -> Result<(), WriteFault>
+    ensures { Replied (said.breakpoint_said session.old n) session.new (λ t. Wrote (W.contents w.old) (W.contents w.new) result t)
+        ⊎ Exactly texts.memory_text session.old session.new (λ t. Wrote (W.contents w.old) (W.contents w.new) result t) }
+{
+    match session.breakpoint(n) {
+        Ok(()) => match session.program() {
+            Some(program) => write_breakpoint(w, program, n as u32),
+            None => unreachable!(),
+        },
+        Err(fault) => write_fault(w, fault),
+    }
+}
+
+/// `breakpoint reset`
+#[tactic(auto, using(crate::proofs::SaidLemmas::said))]
+pub fn reset_breakpoints<A: Allocator, W: Write>(
+    w: &mut W,
+    session: &mut Session<MarkTrail, A>,
+) -> Result<(), WriteFault>
+    ensures { Exactly (breakpoints_text []) (without_breakpoints session.old) session.new (λ t. Wrote (W.contents w.old) (W.contents w.new) result t) }
+{
+    session.reset_breakpoints();
+    write_breakpoints(w, session)
+}
+
+/// `delete`
+#[tactic(auto, using(crate::proofs::SaidLemmas::said))]
+pub fn delete<A: Allocator, W: Write>(
+    w: &mut W,
+    session: &mut Session<MarkTrail, A>,
+    n: u64,
+) -> Result<(), WriteFault>
+    ensures { Replied (said.delete_said session.old n) session.new (λ t. Wrote (W.contents w.old) (W.contents w.new) result t) }
+{
+    match session.delete(n) {
+        Ok(_) => write_breakpoints(w, session),
+        Err(fault) => write_fault(w, fault),
+    }
+}
+
+/// `mark`
+#[tactic(auto, using(crate::proofs::SaidLemmas::said))]
+pub fn mark<A: Allocator, W: Write>(
+    w: &mut W,
+    session: &Session<MarkTrail, A>,
+) -> Result<(), WriteFault>
+    ensures { Wrote (W.contents w.old) (W.contents w.new) result (said.mark_said session.now) }
+{
+    match session.mark() {
+        Ok(place) => write_place(w, b"", place),
+        Err(fault) => write_fault(w, fault),
+    }
+}
+
+/// `stops`
+#[tactic(auto, using(crate::proofs::SaidLemmas::said))]
+pub fn stops<A: Allocator, W: Write>(
+    w: &mut W,
+    session: &Session<MarkTrail, A>,
+) -> Result<(), WriteFault>
+    ensures { Wrote (W.contents w.old) (W.contents w.new) result (said.stops_said session.now) }
+{
+    match session.stops() {
+        Ok(stops) => write_stops(w, stops),
+        Err(fault) => write_fault(w, fault),
+    }
+}
+
+/// `disassemble`
+#[tactic(auto, unfolding(crate::specs::Said::listing_text))]
+pub fn disassemble<A: Allocator, W: Write>(
+    w: &mut W,
+    session: &Session<MarkTrail, A>,
+) -> Result<(), WriteFault>
+    ensures { Wrote (W.contents w.old) (W.contents w.new) result (said.listing_text session.now.program) }
+{
+    match session.program() {
+        Some(program) => write_listing(w, program),
+        None => write_bytes(w, b"error: S1 no program\n"),
+    }
+}
+
+/// `dump`
+#[tactic(auto, unfolding(crate::specs::Texts::dump_text))]
+pub fn dump<A: Allocator, W: Write>(
+    w: &mut W,
+    session: &Session<MarkTrail, A>,
+) -> Result<(), WriteFault>
+    ensures { Wrote (W.contents w.old) (W.contents w.new) result (texts.dump_text session.now.program) }
+{
+    match session.program() {
+        Some(program) => write_dump(w, program.as_slice()),
+        None => write_bytes(w, b"error: S1 no program\n"),
+    }
+}
