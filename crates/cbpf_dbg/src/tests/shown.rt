@@ -1,4 +1,5 @@
 use super::*;
+use std::io::Write;
 
 /// `ld #9`, `st M[0]`, `ld #4`, `st M[0]`, `ret a`.
 const STORES: [Code; 5] = [
@@ -122,4 +123,58 @@ fn a_packet_of_no_bytes_shows_its_lengths(rt: HostRuntime) {
     let (mut marks, mut all) = sessions(&rt, rt.alloc(), &STORES, &[]);
     shows_an_empty_packet(&rt, rt.alloc(), &mut marks);
     shows_an_empty_packet(&rt, rt.alloc(), &mut all);
+}
+
+/// Writes the stops ahead, of which it need test nothing.
+fn write_ahead<T: Trail, W: Write>(rt: &impl Abort, s: &Session<T>, w: &mut W) {
+    let Ok(stops) = s.stops() else {
+        panic!(rt; "no stops")
+    };
+    for stop in stops {
+        assert!(rt; s.write_stop(w, &stop).is_ok());
+    }
+}
+
+/// Writes the next stop of a run.
+fn write_next<T: Trail, W: Write>(rt: &impl Abort, s: &mut Session<T>, w: &mut W) {
+    let mut meter = Meter::new();
+    let Ok(RunReply::Stopped(stop)) = s.run(&mut meter, None) else {
+        panic!(rt; "no stop")
+    };
+    assert!(rt; s.write_stop(w, &stop).is_ok());
+}
+
+/// Writes the stop of a step.
+fn write_step<T: Trail, W: Write>(rt: &impl Abort, s: &mut Session<T>, n: i64, w: &mut W) {
+    let mut meter = Meter::new();
+    let Ok(RunReply::Stopped(stop)) = s.step(&mut meter, n) else {
+        panic!(rt; "no stop")
+    };
+    assert!(rt; s.write_stop(w, &stop).is_ok());
+}
+
+fn shows_three_stops<T: Trail>(rt: &impl Abort, s: &mut Session<T>) {
+    let mut listed = [0u8; 2048];
+    let mut writer: &mut [u8] = &mut listed;
+    write_ahead(rt, s, &mut writer);
+    let listed_left = writer.len();
+    let mut met = [0u8; 2048];
+    let mut writer: &mut [u8] = &mut met;
+    for _i in 0..3 {
+        write_next(rt, s, &mut writer);
+    }
+    assert!(rt; writer.len() == listed_left);
+    assert!(rt; listed_left < 1024);
+    assert!(rt; &listed[..] == &met[..]);
+    let mut back = [0u8; 1024];
+    let mut writer: &mut [u8] = &mut back;
+    write_step(rt, s, -1, &mut writer);
+    assert!(rt; &back[..23] == b"-- packet 2, step 4 --\n".as_slice());
+}
+
+#[test]
+fn runs_show_the_stops_of_the_list(rt: HostRuntime) {
+    let (mut marks, mut all) = sessions(&rt, rt.alloc(), &RULE, &[1, 4]);
+    shows_three_stops(&rt, &mut marks);
+    shows_three_stops(&rt, &mut all);
 }
