@@ -189,10 +189,20 @@ run_to_end m = loaded m (λ list capture. Ok (counts list capture m.origin (leng
 unfoldable pub all_stops : View → Result (List Stop) SessionFault
 all_stops m = loaded m (λ list capture. Ok (every_hit list capture m.breakpoints))
 
--- the stops found, and then those that are still ahead, are those that were ahead
+-- only the place differs, and the stops found, and then those that are still ahead, are those that were ahead
 abbrev pub Found : View → View → List Stop → List Stop → Type 0
 Found old new old_found new_found =
-    (before : List Stop) × (after : List Stop) × (stops old ≡ Ok before) × (stops new ≡ Ok after) × (new_found ++ after ≡ old_found ++ before)
+    (new ≡ record old { place = new.place }) × (before : List Stop) × (after : List Stop) × (stops old ≡ Ok before) × (stops new ≡ Ok after)
+    × (new_found ++ after ≡ old_found ++ before)
+
+-- how many turns lead to the end
+abbrev pub turns_left_in : Option (List Insn) → Option Savefile → Place → ℕ
+turns_left_in (Some list) (Some c) place = turns_to_end list c.records place
+turns_left_in (Some list) None place = 0
+turns_left_in None capture place = 0
+
+abbrev pub turns_left : View → ℕ
+turns_left m = turns_left_in m.program m.capture m.place
 
 -- ---- loads and breakpoints
 
