@@ -1,4 +1,4 @@
-use Rattle.std.proofs.Common.{◌≡◌, [], ◌∷◌, ◌++◌, arith, refl, ap, ◌∙◌, inl}
+use Rattle.std.proofs.Common.{◌≡◌, [], ◌∷◌, ◌++◌, arith, sym, append-nil, refl, ap, ◌∙◌, inl}
 use Rattle.cbpf_dbg.specs.declared.reply.RunReply.TheVariants.{Stopped, Finished}
 use Rattle.cbpf_dbg.proofs.WholeLemmas.{Holds, stops-held, from_start, going-spare, going-found, going-stop, going-end, fewer, going-turns, end-turns}
 use Rattle.cbpf_dbg.proofs.session.Session.run_to_end.Goals as goal
@@ -15,7 +15,9 @@ runs-init g c =
           few = omega (arith, c.count-few.ensures.value, c.count-few.ensures.bounded);
           old_holds = holds;
           new_holds = holds;
-          same = refl;
+          passed = [];
+          place = refl;
+          found = sym (append-nil _);
           origin = refl;
           breakpoints = refl;
           hits = refl;
