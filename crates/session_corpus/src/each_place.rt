@@ -5,7 +5,8 @@ use crate::corpus::{CAPTURES, PROGRAMS};
 use cbpf_dbg::{Place, RunReply, Trail};
 use std::process::Abort;
 
-/// Runs one by one until the end, which gives each hit after the place once and in order, and then the counts.
+/// Runs one by one until the end, which gives each hit after the place once and in order, and then
+/// the counts.
 fn run_from_stop_to_stop<T: Trail>(rt: &impl Abort, b: &mut Beside<T>) {
     let wanted = b.plain.stops(rt).ok().expect(rt, "stops");
     for stop in &wanted {
