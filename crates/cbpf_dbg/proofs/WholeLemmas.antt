@@ -17,7 +17,7 @@ use Rattle.cbpf_dbg.specs.Joined.{stops as every_hit}
 use Rattle.cbpf_dbg.specs.Joined.{Entry, joined, joined_from, ahead, rest, is_hit, stop_at, is_after, turns_between, turns_to_end, counts}
 use Rattle.cbpf_dbg.specs.Walk.{NotBefore}
 use Rattle.cbpf_dbg.specs.View.{View, start}
-use Rattle.cbpf_dbg.specs.Commands.{reply_of, view_after, run, run_to_end, stops, all_stops, Found, turns_forward, Continues, stopped, finished}
+use Rattle.cbpf_dbg.specs.Commands.{reply_of, view_after, run, run_to_end, stops, all_stops, Found, last_place, turns_forward, turns_left, Continues, stopped, finished}
 use Rattle.cbpf_dbg.proofs.TurnLemmas.{turns-split, length_joined}
 use Rattle.cbpf_dbg.proofs.RunLemmas.{rest-head}
 use Rattle.cbpf_dbg.proofs.JoinedLemmas.{ahead-in, rest-ahead}
@@ -86,9 +86,12 @@ pub record Going (list : List Insn) (c : Savefile) (old new : View) (old_found n
   pub few : length c.records < 2 ^ 60
   pub old_holds : Holds list c old
   pub new_holds : Holds list c new
+  pub passed : List Stop
+  pub place : new ≡ record old { place = last_place old.place passed }
   pub origin : new.origin ≡ old.origin
   pub breakpoints : new.breakpoints ≡ old.breakpoints
-  pub hits : new_found ++ rest list c.records new.breakpoints new.place ≡ old_found ++ rest list c.records old.breakpoints old.place
+  pub found : new_found ≡ old_found ++ passed
+  pub hits : rest list c.records old.breakpoints old.place ≡ passed ++ rest list c.records new.breakpoints new.place
   pub spent : after + turns_to_end list c.records new.place ≡ before + turns_to_end list c.records old.place
   pub spare : before ≤ 2 ^ 126
 
@@ -100,7 +103,11 @@ going-spare list c old new f g m n h =
     omega (arith, all, spent, spare)
 
 pub going-found : (list : List Insn) (c : Savefile) (old new : View) (f g : List Stop) (m n : ℕ) → Going list c old new f g m n → Found old new f g
-going-found list c old new f g m n h = (_, _, stops-held list c old h.old_holds, stops-held list c new h.new_holds, h.hits)
+going-found list c old new f g m n h = (h.passed, _, stops-held list c old h.old_holds ∙ ap Ok h.hits, stops-held list c new h.new_holds, h.found, h.place)
+
+last_place-append : (place : Place) (hits : List Stop) (stop : Stop) → last_place place (hits ++ stop ∷ []) ≡ stop.place
+last_place-append place [] stop = refl
+last_place-append place (h ∷ hits) stop = last_place-append h.place hits stop
 
 -- a stop
 first-hit : (list : List Insn) (c : Savefile) (v new : View) (stop : Stop) → Holds list c v → Continues v new (Stopped stop) → (left : List Stop) × (rest list c.records v.breakpoints v.place ≡ stop ∷ left) × (stops new ≡ Ok left)
@@ -127,9 +134,12 @@ going-stop list c old v new f g g2 m n k stop h ahead_is after turns pushed =
       few = h.few;
       old_holds = h.old_holds;
       new_holds = holds;
+      passed = h.passed ++ stop ∷ [];
+      place = rw (last_place-append old.place h.passed stop) (there ∙ ap (λ (x : View). record x { place = stop.place }) h.place);
       origin = rw there h.origin;
       breakpoints = rw there h.breakpoints;
-      hits = rw (left, pushed) (append_assoc g (stop ∷ []) first.0 ∙ (rw first.1 at h.hits));
+      found = pushed ∙ ap (λ xs. xs ++ stop ∷ []) h.found ∙ append_assoc f h.passed (stop ∷ []);
+      hits = rw left ((rw first.1 at h.hits) ∙ sym (append_assoc h.passed (stop ∷ []) first.0));
       spent = rw place (omega (arith, spent, split, sofar));
       spare = h.spare;
     }
@@ -148,8 +158,30 @@ going-end list c old v new f g m n counted h ahead_is reply after =
     let n : counted ≡ counts list c.records old.origin (length c.records + 1) = (let o = h.origin in let e : counted ≡ counts list c.records v.origin (length c.records + 1) = cc in rw o at e) in (
       rw (h.old_holds.program, h.old_holds.capture, n) refl,
       rw (h.old_holds.program, h.old_holds.capture, there, h.new_holds.program, h.new_holds.capture, h.breakpoints) refl,
-      sym (append-nil g) ∙ (rw none at h.hits),
+      h.found ∙ ap (λ xs. f ++ xs) (sym ((rw none at h.hits) ∙ append-nil h.passed)),
     )
+
+pub turns-last : (list : List Insn) (c : Savefile) (v : View) → Holds list c v
+    → rest list c.records v.breakpoints v.place ≡ [] → turns_forward v (run v None) ≡ turns_to_end list c.records v.place
+turns-last list c v h e = rw (run-last list c v h e, h.program, h.capture) refl
+
+turns_left-held : (list : List Insn) (c : Savefile) (v : View) → Holds list c v → turns_left v ≡ turns_to_end list c.records v.place
+turns_left-held list c v h = rw (h.program, h.capture) refl
+
+-- the turns so far
+pub going-turns : (list : List Insn) (c : Savefile) (old new : View) (f g : List Stop) (m n : ℕ) → Going list c old new f g m n → n + turns_left new ≡ m + turns_left old
+going-turns list c old new f g m n h = rw (turns_left-held list c new h.new_holds, turns_left-held list c old h.old_holds) h.spent
+
+-- and all turns
+pub end-turns : (list : List Insn) (c : Savefile) (old v new : View) (f g : List Stop) (m n k : ℕ) (counted : Counts) → Going list c old v f g m n → Continues v new (Finished counted)
+    → k ≡ n + turns_forward v (run v None) → k ≡ m + turns_left old
+end-turns list c old v new f g m n k counted h ahead_is turns =
+    let here = stops-held list c v h.new_holds in
+    let none : rest list c.records v.breakpoints v.place ≡ [] = (let k2 = ahead_is.2 in let same : rest list c.records v.breakpoints v.place ≡ ahead_is.0 = cc in same ∙ ahead_is.4) in
+    let last = turns-last list c v h.new_holds none in
+    let all = turns_left-held list c old h.old_holds in
+    let spent = h.spent in
+    omega (arith, turns, last, all, spent)
 
 run-answers : (list : List Insn) (c : Savefile) (v : View) (hits : List Stop) → Holds list c v → rest list c.records v.breakpoints v.place ≡ hits
     → ((stop : Stop) × (reply_of (run v None) ≡ Ok (Stopped stop))) ⊎ ((n : Counts) × (reply_of (run v None) ≡ Ok (Finished n)))

@@ -189,10 +189,25 @@ run_to_end m = loaded m (λ list capture. Ok (counts list capture m.origin (leng
 unfoldable pub all_stops : View → Result (List Stop) SessionFault
 all_stops m = loaded m (λ list capture. Ok (every_hit list capture m.breakpoints))
 
--- the stops found, and then those that are still ahead, are those that were ahead
+-- the place of the last of some stops; with none, a place before them
+abbrev pub last_place : Place → List Stop → Place
+last_place place [] = place
+last_place place (h ∷ hits) = last_place h.place hits
+
+-- the stops found are the first of those that were ahead, the others are still ahead, and only the place differs: it is the last one's
 abbrev pub Found : View → View → List Stop → List Stop → Type 0
 Found old new old_found new_found =
-    (before : List Stop) × (after : List Stop) × (stops old ≡ Ok before) × (stops new ≡ Ok after) × (new_found ++ after ≡ old_found ++ before)
+    (hits : List Stop) × (after : List Stop) × (stops old ≡ Ok (hits ++ after)) × (stops new ≡ Ok after)
+    × (new_found ≡ old_found ++ hits) × (new ≡ record old { place = last_place old.place hits })
+
+-- how many turns lead to the end
+abbrev pub turns_left_in : Option (List Insn) → Option Savefile → Place → ℕ
+turns_left_in (Some list) (Some c) place = turns_to_end list c.records place
+turns_left_in (Some list) None place = 0
+turns_left_in None capture place = 0
+
+abbrev pub turns_left : View → ℕ
+turns_left m = turns_left_in m.program m.capture m.place
 
 -- ---- loads and breakpoints
 

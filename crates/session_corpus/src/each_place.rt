@@ -5,7 +5,8 @@ use crate::corpus::{CAPTURES, PROGRAMS};
 use cbpf_dbg::{Place, RunReply, Trail};
 use std::process::Abort;
 
-/// Runs one by one until the end, which gives each hit after the place once and in order, and then the counts.
+/// Runs one by one until the end, which gives each hit after the place once and in order, and then
+/// the counts.
 fn run_from_stop_to_stop<T: Trail>(rt: &impl Abort, b: &mut Beside<T>) {
     let wanted = b.plain.stops(rt).ok().expect(rt, "stops");
     for stop in &wanted {
@@ -85,8 +86,9 @@ fn compare_with_each_set<T: Trail>(rt: &impl Abort, b: &mut Beside<T>, length: u
     }
 }
 
-fn compare_all<T: Trail>(rt: &impl Abort, b: &mut Beside<T>) {
-    for list in PROGRAMS {
+/// Goes over five programs, of which the first has that index.
+fn compare_programs<T: Trail>(rt: &impl Abort, b: &mut Beside<T>, first: usize) {
+    for list in PROGRAMS.iter().skip(first).take(5) {
         for packets in CAPTURES {
             b.load_program(rt, list);
             b.load_capture(rt, packets);
@@ -96,11 +98,21 @@ fn compare_all<T: Trail>(rt: &impl Abort, b: &mut Beside<T>) {
 }
 
 #[test]
-fn each_place_over_checkpoints(rt: HostRuntime) {
-    compare_all(&rt, &mut over_checkpoints(rt.alloc()));
+fn loads_and_branches_over_checkpoints(rt: HostRuntime) {
+    compare_programs(&rt, &mut over_checkpoints(rt.alloc()), 0);
 }
 
 #[test]
-fn each_place_over_all_states(rt: HostRuntime) {
-    compare_all(&rt, &mut over_all_states(&rt, rt.alloc()));
+fn loads_and_branches_over_all_states(rt: HostRuntime) {
+    compare_programs(&rt, &mut over_all_states(&rt, rt.alloc()), 0);
+}
+
+#[test]
+fn faults_extensions_and_slots_over_checkpoints(rt: HostRuntime) {
+    compare_programs(&rt, &mut over_checkpoints(rt.alloc()), 5);
+}
+
+#[test]
+fn faults_extensions_and_slots_over_all_states(rt: HostRuntime) {
+    compare_programs(&rt, &mut over_all_states(&rt, rt.alloc()), 5);
 }

@@ -103,6 +103,11 @@ impl Joined {
         self.entries.as_slice()
     }
 
+    /// The last turn of each packet.
+    pub(crate) fn ends(&self) -> &[Turn] {
+        self.ends.as_slice()
+    }
+
     pub(crate) fn entry_at(&self, place: Place) -> Option<Entry> {
         for e in self.entries() {
             if e.place == place {

@@ -12,6 +12,8 @@ mod corpus;
 #[cfg(test)]
 mod each_place;
 #[cfg(test)]
+mod ends;
+#[cfg(test)]
 mod joined;
 #[cfg(test)]
 mod plain;

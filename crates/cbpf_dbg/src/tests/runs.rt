@@ -137,19 +137,26 @@ fn no_packets(rt: HostRuntime) {
     runs_without_packets(&rt, rt.alloc(), &mut all);
 }
 
-#[test]
-fn nothing_loaded(rt: HostRuntime) {
-    let mut s: Session<MarkTrail> = Session::new(rt.alloc(), MarkTrail::new());
+fn refuses_without_loads<T: Trail>(rt: &impl Abort, alloc: Global, s: &mut Session<T>) {
     assert!(rt; s.program().is_none());
     assert!(rt; s.capture().is_none());
     assert!(rt; s.breakpoint(0) == Err(SessionFault::NoProgram));
     assert!(rt; s.delete(0) == Err(SessionFault::NoProgram));
     assert!(rt; s.mark() == Err(SessionFault::NoProgram));
-    assert!(rt; run(&mut s, Some(0)).0 == Err(SessionFault::NoProgram));
-    s.load_program(program(&rt, rt.alloc(), &RULE));
+    assert!(rt; run(s, Some(0)) == (Err(SessionFault::NoProgram), 0));
+    s.load_program(program(rt, alloc, &RULE));
+    assert!(rt; s.program().is_some());
     assert!(rt; s.mark() == Err(SessionFault::NoCapture));
-    assert!(rt; run(&mut s, Some(0)).0 == Err(SessionFault::NoCapture));
+    assert!(rt; run(s, Some(0)) == (Err(SessionFault::NoCapture), 0));
     assert!(rt; s.stops().is_err());
+}
+
+#[test]
+fn nothing_loaded(rt: HostRuntime) {
+    let mut marks = Session::new(rt.alloc(), MarkTrail::new());
+    refuses_without_loads(&rt, rt.alloc(), &mut marks);
+    let all = ListTrail::new(rt.alloc()).expect(&rt, "memory");
+    refuses_without_loads(&rt, rt.alloc(), &mut Session::new(rt.alloc(), all));
 }
 
 fn runs_over_many_packets<T: Trail>(rt: &impl Abort, alloc: Global, s: &mut Session<T>) {

@@ -1,6 +1,6 @@
-use Rattle.std.proofs.Common.{◌≡◌, [], ◌∷◌, ◌++◌, arith, refl, ap, ◌∙◌, inl}
+use Rattle.std.proofs.Common.{◌≡◌, [], ◌∷◌, ◌++◌, arith, sym, append-nil, refl, ap, ◌∙◌, inl}
 use Rattle.cbpf_dbg.specs.declared.reply.RunReply.TheVariants.{Stopped, Finished}
-use Rattle.cbpf_dbg.proofs.WholeLemmas.{Holds, stops-held, from_start, going-spare, going-found, going-stop, going-end, fewer}
+use Rattle.cbpf_dbg.proofs.WholeLemmas.{Holds, stops-held, from_start, going-spare, going-found, going-stop, going-end, fewer, going-turns, end-turns}
 use Rattle.cbpf_dbg.proofs.session.Session.run_to_end.Goals as goal
 
 pub runs-init : goal.runs-init
@@ -15,6 +15,9 @@ runs-init g c =
           few = omega (arith, c.count-few.ensures.value, c.count-few.ensures.bounded);
           old_holds = holds;
           new_holds = holds;
+          passed = [];
+          place = refl;
+          found = sym (append-nil _);
           origin = refl;
           breakpoints = refl;
           hits = refl;
@@ -29,6 +32,9 @@ returns-then-is_err-clause-from_start g c = from_start c.args.self.now
 
 pub returns-then-is_err-clause-memory : goal.returns-then-is_err-clause-memory
 returns-then-is_err-clause-memory g c = λ _. let w = c.runs.invariant.going in rw c.reserve.ensures.items (going-found _ _ _ _ _ _ _ _ w.2)
+
+pub returns-then-is_err-clause-memory_turns : goal.returns-then-is_err-clause-memory_turns
+returns-then-is_err-clause-memory_turns g c = λ _. let w = c.runs.invariant.going in going-turns _ _ _ _ _ _ _ _ w.2
 
 pub run-requires : goal.run-requires
 run-requires g c = let w = c.runs.invariant.going in going-spare _ _ _ _ _ _ _ _ w.2
@@ -65,6 +71,12 @@ returns-in-Finished-clause-stops g c =
     let e : c.in-Ok.reply ≡ Finished c.in-Finished.counts = c.in-Finished.is in
     let e = going-end _ _ _ _ _ _ _ _ _ _ w.2 (rw e at c.in-Ok.ensures.ahead) (rw e at c.in-Ok.ensures.reply) c.run.ensures.after in
     (_, stops-held _ _ _ ((w.2).old_holds), c.reserve.ensures.items ∙ e.2)
+
+pub returns-in-Finished-clause-turns : goal.returns-in-Finished-clause-turns
+returns-in-Finished-clause-turns g c =
+    let w = c.runs.invariant.going in
+    let e : c.in-Ok.reply ≡ Finished c.in-Finished.counts = c.in-Finished.is in
+    end-turns _ _ _ _ _ _ _ _ _ _ c.in-Finished.counts w.2 (rw e at c.in-Ok.ensures.ahead) c.run.ensures.turns
 
 pub returns-in-Finished-clause-from_start : goal.returns-in-Finished-clause-from_start
 returns-in-Finished-clause-from_start g c = from_start c.args.self.now
