@@ -6,7 +6,7 @@ usage: run.py PROGRAM [NAME..]
 Each folder below tests/cases that has a file `stdout` is a case. The program runs in a new folder, with
   stdin    what it reads (no file: nothing)
   args     its arguments, one a line
-  command  a shell command to run in its place, where the program is $PROGRAM
+  command  a shell command to run in its place, where the program is $PROGRAM and examples/ is $EXAMPLES
   files/   files that lie where it runs
   setup    one shell command a line, run there first
 and must give
@@ -24,6 +24,7 @@ import tempfile
 from pathlib import Path
 
 CASES = Path(__file__).resolve().parent / "cases"
+EXAMPLES = CASES.parent.parent / "examples"
 SECONDS = 60
 
 
@@ -45,7 +46,7 @@ def differences(case, program):
             input=content(case / "stdin"),
             capture_output=True,
             cwd=folder,
-            env={**os.environ, "PROGRAM": program},
+            env={**os.environ, "PROGRAM": program, "EXAMPLES": str(EXAMPLES)},
             timeout=SECONDS,
         )
     wanted = {

@@ -1,7 +1,11 @@
-//! Tests that cross the crates: word text against a plain reading, and the debugger over readers,
-//! writers and allocators that fail.
+//! Tests that cross the crates: word text against a plain reading, each beginning of a source, and the
+//! assembler and the debugger over readers, writers and allocators that fail.
 #![tactic(auto)]
 
+#[cfg(test)]
+mod assembling;
+#[cfg(test)]
+mod beginnings;
 #[cfg(test)]
 mod failing_input;
 #[cfg(test)]

@@ -7,6 +7,7 @@ pub mod Uses
 pub mod Forms
 pub mod Encoding
 pub mod OneAssembly
+pub mod OneRefusal
 pub mod Faults
 pub mod NeverBoth
 pub mod ListedNumbers

@@ -25,11 +25,11 @@ use Rattle.cbpf_text.proofs.LabelLists.{times_append, times_cons, times_hit}
 use Rattle.cbpf_text.proofs.Forms.{items_forms}
 use Rattle.cbpf_text.proofs.Encoding.{good_uses}
 
-all_middle : {A : Type 0} (P : A → Type 0) (xs : List A) (x : A) (ys : List A) → All P (xs ++ (x ∷ ys)) → P x
+pub all_middle : {A : Type 0} (P : A → Type 0) (xs : List A) (x : A) (ys : List A) → All P (xs ++ (x ∷ ys)) → P x
 all_middle P [] x ys h = all_front P x ys h
 all_middle P (z ∷ xs) x ys h = all_middle P xs x ys (all_behind P z (xs ++ (x ∷ ys)) h)
 
-no_repeat : (before : List Lexeme) (t : Lexeme) (behind : List Lexeme) → AreDistinct (before ++ (t ∷ behind)) → times_among before (name_of t) ≢ 0 → ⊥
+pub no_repeat : (before : List Lexeme) (t : Lexeme) (behind : List Lexeme) → AreDistinct (before ++ (t ∷ behind)) → times_among before (name_of t) ≢ 0 → ⊥
 no_repeat before t behind d n =
     let one : times_among (before ++ (t ∷ behind)) (name_of t) ≡ 1 = all_middle (λ u. times_among (before ++ (t ∷ behind)) (name_of u) ≡ 1) before t behind d in
     absurd (omega (arith, one, n, times_append before (t ∷ behind) (name_of t), times_cons t behind (name_of t), times_hit t (name_of t) (bytes_eq_self (name_of t))))

@@ -17,6 +17,9 @@ use cbpf_code::{Insn, code_of};
 use cbpf_grammar::{Fields, Item, Lexeme};
 use std::alloc::Allocator;
 
+/// The most instructions that a conditional jump goes over.
+const FARTHEST: u32 = 255;
+
 /// The number of instructions between the one at the index and the target.
 fn distance<A: Allocator>(
     labels: &LabelTable<'_, A>,
@@ -53,8 +56,7 @@ fn offset<A: Allocator>(
     }
 }
 
-/// The offset of a conditional jump, which goes over at most 255 instructions; 0 without a
-/// target.
+/// The offset of a conditional jump; 0 without a target.
 fn short_offset<A: Allocator>(
     labels: &LabelTable<'_, A>,
     index: u32,
@@ -67,7 +69,7 @@ fn short_offset<A: Allocator>(
         return Ok(0);
     };
     let distance = distance(labels, index, target)?;
-    if distance > 255 {
+    if distance > FARTHEST {
         return Err(Refusal::At(AsmKind::TooFar, target.at));
     }
     Ok(distance as u8)

@@ -2,7 +2,7 @@
 
 use crate::{AsmFault, AsmKind, Kind, Token, assemble, tokens};
 use cbpf_code::Insn;
-use std::alloc::Global;
+use std::alloc::{AllocError, Global};
 use std::process::Abort;
 
 /// An instruction by its numbers.
@@ -301,4 +301,35 @@ fn token_places(rt: HostRuntime) {
         Ok(_) => assert!(rt; false),
         Err(told) => assert!(rt; told == AsmFault::At(AsmKind::NoToken, 2)),
     }
+}
+
+#[test]
+fn texts_of_the_faults(rt: HostRuntime) -> Result<(), AllocError> {
+    for (kind, text) in [
+        (AsmKind::NoToken, "A1 unknown byte"),
+        (AsmKind::OpenComment, "A2 comment not closed"),
+        (AsmKind::LargeNumber, "A3 number out of range"),
+        (AsmKind::Misplaced, "A4 token can't stand here"),
+        (AsmKind::Unfinished, "A5 text ends inside an instruction"),
+        (AsmKind::LabelSetTwice, "A6 label set twice"),
+        (AsmKind::LabelNotSet, "A7 label not defined"),
+        (AsmKind::NotAfter, "A8 target is not after the jump"),
+        (AsmKind::TooFar, "A9 conditional target further than 255"),
+        (AsmKind::TooMany, "A10 more than 4096 instructions"),
+        (AsmKind::NoInstruction, "A11 no instruction"),
+    ] {
+        let got = format!(in rt.alloc(); "{kind}")?;
+        assert!(rt; got.as_str() == text);
+        let fault = AsmFault::At(kind, 3);
+        let got = format!(in rt.alloc(); "{fault}")?;
+        let wanted = format!(in rt.alloc(); "line 3: {text}")?;
+        assert!(rt; got.as_str() == wanted.as_str());
+    }
+    let fault = AsmFault::At(AsmKind::Misplaced, 18446744073709551615);
+    let got = format!(in rt.alloc(); "{fault}")?;
+    assert!(rt; got.as_str() == "line 18446744073709551615: A4 token can't stand here");
+    let fault = AsmFault::Memory;
+    let got = format!(in rt.alloc(); "{fault}")?;
+    assert!(rt; got.as_str() == "out of memory");
+    Ok(())
 }
