@@ -1,10 +1,9 @@
 -- What a parse by the program's command gives.
-use Rattle.std.specs.Prelude.{◌≡◌, List, [], map, Result, MatchResult, IfOk, IfErr, true}
-use Rattle.std.proofs.Common.{ap, ap₂, refl, sym, ◌∙◌, subst}
-use Rattle.clap.specs.Words.{App, Text, HasMatchesOf, is_simple, is_simple_and_free, fault_of, subcommand_of, subcommand_rows_of, FailsBy, HasKind, Kinds, first_value, first_of, found_of, rows_of}
+use Rattle.std.specs.Prelude.{◌≡◌, List, true}
+use Rattle.std.proofs.Common.{ap, refl, ◌∙◌, subst}
+use Rattle.clap.specs.Words.{App, Text, HasMatchesOf, is_simple, is_simple_and_free, fault_of, subcommand_of, subcommand_rows_of, Kinds, first_value, first_of, found_of, rows_of}
 use Rattle.clap.proofs.WalkLemmas.{first_value-rows}
 use Rattle.clap.specs.declared.parser.matches.ArgMatches.{ArgMatches}
-use Rattle.clap.specs.declared.error.Error.{Error}
 use Rattle.cbpf_command_line.specs.CommandLine.{cbpf_app, asked_for, asked_by, faults_in}
 
 is_simple-cbpf : is_simple cbpf_app ≡ true

@@ -1,5 +1,5 @@
 -- The command line of the program, and what its words ask for: this project's own, by `clap`'s meaning of a command line.
-use Rattle.std.specs.Prelude.{ℕ, Bool, true, false, ◌≡◌, ◌≢◌, if◌then◌else◌, List, [], ◌∷◌, Option, Some, None, option_map, codes, bytes_eq, String}
+use Rattle.std.specs.Prelude.{◌≢◌, if◌then◌else◌, List, Option, Some, None, option_map, codes, bytes_eq, String}
 use Rattle.clap.specs.Words.{App, Rule, Row, Text, new_app, new_rule, with_rule, with_subcommand, first_of, subcommand_of, fault_of}
 use Rattle.clap.specs.Kinds.{IsAmong}
 use Rattle.clap.specs.declared.builder.action.ArgAction.TheVariants.{SetTrue}

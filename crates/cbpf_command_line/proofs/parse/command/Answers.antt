@@ -2,7 +2,7 @@ use Rattle.std.proofs.Common.{rules, ap, ap₂, ◌≡◌, ◌∙◌}
 use Rattle.std.proofs.lemmas.Result.{IfOk-weaker}
 use Rattle.clap.specs.Words.{App, app_of, new_app, with_subcommand}
 use Rattle.std.specs.Prelude.{codes}
-use Rattle.cbpf_command_line.specs.CommandLine.{cbpf_app, asm_app, dbg_app}
+use Rattle.cbpf_command_line.specs.CommandLine.{asm_app, dbg_app}
 use Rattle.cbpf_command_line.proofs.parse.command.Goals as goal
 
 pub returns : goal.returns

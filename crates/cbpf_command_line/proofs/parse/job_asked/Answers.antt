@@ -1,4 +1,4 @@
-use Rattle.std.proofs.Common.{rules, map, ◌≡◌, ◌∙◌, []}
+use Rattle.std.proofs.Common.{map, ◌≡◌, ◌∙◌, []}
 use Rattle.clap.specs.Words.{app_of}
 use Rattle.clap.specs.Kinds.{HasKind}
 use Rattle.cbpf_command_line.specs.CommandLine as spec
