@@ -93,6 +93,7 @@ fn other_words_are_refused(rt: HostRuntime) {
     let alloc = rt.alloc();
     assert!(rt; is_refused(&rt, alloc, &["cbpf", "asm", "f", "g"]));
     assert!(rt; is_refused(&rt, alloc, &["cbpf", "asm", "-x"]));
+    assert!(rt; is_refused(&rt, alloc, &["cbpf", "asm", "-c", "-c"]));
     assert!(rt; is_refused(&rt, alloc, &["cbpf", "dbg", "a", "b", "c"]));
     assert!(rt; is_refused(&rt, alloc, &["cbpf", "dbg", "-c"]));
     assert!(rt; is_refused(&rt, alloc, &["cbpf", "nosuch"]));
