@@ -11,11 +11,13 @@ help: ## Lists the targets.
 build: ## Proves and builds the program; from nothing some ten minutes by estimate, later one or two.
 	cd crates/cbpf && rt run < /dev/null > /dev/null
 
-demo: build ## Builds the proved program, and runs an example script through it, showing script and replies.
-	@echo '== examples/arp.dbg'
-	@cat examples/arp.dbg
+demo: build ## Builds the proved program, assembles an example, and debugs a filter of tcpdump over a capture.
+	@echo '== cbpf asm examples/arp.asm'
+	@$(PROGRAM) asm examples/arp.asm
+	@echo '== examples/port22.dbg'
+	@cat examples/port22.dbg
 	@echo '== its replies'
-	@cd examples && ../$(PROGRAM) < arp.dbg
+	@cd examples && ../$(PROGRAM) dbg port22.dbg
 
 check: ## The gate: proves all crates and their tests from nothing, tries the must-fail edits, runs all tests; about an hour on two cores, by estimate.
 	rt ci
