@@ -6,6 +6,7 @@ same capture. Wants crates/cbpf built by `make build`.
 import pathlib
 import resource
 import shutil
+import statistics
 import struct
 import subprocess
 import tempfile
@@ -14,8 +15,8 @@ top = pathlib.Path(__file__).resolve().parent.parent
 cbpf = top / "crates/cbpf/out/cbpf"
 
 PACKETS = 1_000_000
-# IPv4 and TCP by six instructions, and what `tcpdump -ddd` makes of `port 22`
-SIX = "6,40 0 0 12,21 0 3 2048,48 0 0 23,21 0 1 6,6 0 0 262144,6 0 0 0"
+# what `tcpdump -ddd` makes of `ip proto 17` and of `port 22`
+SIX = "6,40 0 0 12,21 0 3 2048,48 0 0 23,21 0 1 17,6 0 0 262144,6 0 0 0"
 PORT = (
     "24,40 0 0 12,21 0 8 34525,48 0 0 20,21 2 0 132,21 1 0 6,21 0 17 17,40 0 0 54,21 14 0 22,"
     "40 0 0 56,21 12 13 22,21 0 12 2048,48 0 0 23,21 2 0 132,21 1 0 6,21 0 8 17,40 0 0 20,"
@@ -28,7 +29,13 @@ def timed(command, script, rounds=5):
     least = None
     for _ in range(rounds):
         before = resource.getrusage(resource.RUSAGE_CHILDREN)
-        subprocess.run([str(word) for word in command], stdin=open(script), stdout=subprocess.DEVNULL, check=True)
+        subprocess.run(
+            [str(word) for word in command],
+            stdin=open(script),
+            stdout=subprocess.DEVNULL,
+            stderr=subprocess.DEVNULL,
+            check=True,
+        )
         after = resource.getrusage(resource.RUSAGE_CHILDREN)
         spent = after.ru_utime + after.ru_stime - before.ru_utime - before.ru_stime
         least = spent if least is None else min(least, spent)
@@ -55,7 +62,7 @@ with tempfile.TemporaryDirectory() as name:
     empty = timed([cbpf], script("quit\n"))
     loading = timed([cbpf], script(f"load pcap {large}\n")) - empty
     print(f"load pcap: {loading / PACKETS * 1e9:.0f} ns a packet of 64 bytes")
-    for what, words in [("6 instructions", SIX), ("port 22", PORT)]:
+    for what, words in [("ip proto 17", SIX), ("port 22", PORT)]:
         head = f"load bpf {words}\nload pcap {large}\n"
         once = timed([cbpf], script(head + "run\n")) - empty
         often = timed([cbpf], script(head + "run\n" * 10), 3) - empty
@@ -63,8 +70,12 @@ with tempfile.TemporaryDirectory() as name:
         listed = timed([cbpf], script(head + "stops\n"), 3) - empty
         print(f"stops, {what}, none: {(listed - loading) / PACKETS * 1e9:.0f} ns a packet")
         if shutil.which("tcpdump"):
-            theirs = timed(["tcpdump", "-r", large, "-w", "/dev/null", "port 22"], script(""), 3)
-            print(f"tcpdump -r: {theirs / PACKETS * 1e9:.0f} ns a packet")
+            ours, theirs = [], []
+            for _ in range(9):
+                ours.append(timed([cbpf], script(head + "run\n"), 1))
+                theirs.append(timed(["tcpdump", "-q", "-r", large, "-w", "/dev/null", what], script(""), 1))
+            ours, theirs = statistics.median(ours), statistics.median(theirs)
+            print(f"load and run by turns with tcpdump -r, {what}: {ours / theirs:.2f} times its {theirs / PACKETS * 1e9:.0f} ns a packet")
     head = f"load bpf {SIX}\nload pcap {large}\nbreakpoint 1\n"
     base = timed([cbpf], script(head), 3)
     spent = timed([cbpf], script(head + "run\n" * 10000), 3) - base

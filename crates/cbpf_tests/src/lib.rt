@@ -18,3 +18,5 @@ mod plain_reading;
 mod refused_growth;
 #[cfg(test)]
 mod scripts;
+#[cfg(test)]
+mod session_commands;
