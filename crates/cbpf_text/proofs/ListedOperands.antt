@@ -22,7 +22,7 @@ use Rattle.cbpf_listing.specs.declared.syntax.Operand.TheVariants as operands
 use Rattle.cbpf_listing.specs.Syntax.{operand_of}
 use Rattle.cbpf_listing.specs.Listing.{operand_text, place_or_name}
 use Rattle.cbpf_text.specs.Assembled.{FillsFields}
-use Rattle.cbpf_text.specs.Operands.{literal_of, offset_named}
+use Rattle.cbpf_text.specs.Operands.{literal_of, place_named}
 use Rattle.cbpf_text.proofs.ListedRows.{HasRow, operation_row, named_row, first, rest, IsWord, plain_as}
 use Rattle.cbpf_text.proofs.ListedTokens.{lexemes_at, newline, are_positive}
 use Rattle.cbpf_text.proofs.ListedLabels.{Places, decimal_segment, spelled_decimal, is_decimal_segment, hex_segment, is_hex_segment}
@@ -243,7 +243,7 @@ ext_is_one PayOff = refl
 ext_is_one Rand = refl
 ext_is_one VlanTpid = refl
 
-ext_value : (e : Ext) → offset_named ext_table (first (ext_name e) ∷ rest (ext_name e)) ≡ Some (4294963200 + ext_offset e)
+ext_value : (e : Ext) → place_named ext_table (first (ext_name e) ∷ rest (ext_name e)) ≡ Some (4294963200 + ext_offset e)
 ext_value Proto = refl
 ext_value PktType = refl
 ext_value IfIdx = refl

@@ -14,7 +14,7 @@ use Rattle.cbpf_grammar.specs.Classes.Class.{the_word}
 use Rattle.cbpf_grammar.specs.Lexemes.{Lexeme}
 use Rattle.cbpf_grammar.specs.Items.{names_at, when_name}
 use Rattle.cbpf_grammar.specs.Views.{class_of, symbol_of, lexeme_of}
-use Rattle.cbpf_text.specs.Operands.{value_at, first_of, literal_of, offset_named}
+use Rattle.cbpf_text.specs.Operands.{value_at, first_of, literal_of, place_named}
 
 next_of : {A B : Type 0} (f : A → B) (xs : List A) (i : ℕ) (d : A) → i < length xs → drop i (map f xs) ≡ f (get_or xs i d) ∷ drop (suc i) (map f xs)
 next_of f [] i d l = absurd (omega arith)
@@ -91,11 +91,11 @@ names_end_classes os ts i l = ap (λ cs. names_at cs ts) (none_left class_of os 
 pub names_end_tokens : (cs : List Class) (bs : List declared_lexeme.Lexeme) (j : ℕ) → length bs ≤ j → names_at cs (drop j (map lexeme_of bs)) ≡ []
 names_end_tokens cs bs j l = ap (λ ts. names_at cs ts) (none_left lexeme_of bs j l) ∙ no_more_names cs
 
-pub not_named : (es : List (ℕ × Ext)) (w : List ℕ) → ((e : Ext) → w ≡ ext_name e → ⊥) → offset_named es w ≡ None
+pub not_named : (es : List (ℕ × Ext)) (w : List ℕ) → ((e : Ext) → w ≡ ext_name e → ⊥) → place_named es w ≡ None
 not_named [] w h = refl
 not_named (e ∷ es) w h = by_test (bytes_eq w (ext_name e.1)) refl (not_named es w h)
   where
-    by_test : (t : Bool) → bytes_eq w (ext_name e.1) ≡ t → offset_named es w ≡ None → cond t (Some e.0) (offset_named es w) ≡ None
+    by_test : (t : Bool) → bytes_eq w (ext_name e.1) ≡ t → place_named es w ≡ None → cond t (Some e.0) (place_named es w) ≡ None
     by_test true p q = absurd (h e.1 ((bytes_eq-Decides w (ext_name e.1)).0 p))
     by_test false p q = q
 

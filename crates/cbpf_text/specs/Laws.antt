@@ -1,4 +1,4 @@
--- Laws of the definitions: a text assembles to at most one list of instructions, and one that does isn't refused; the listing of a checked program assembles to the plain forms of its instructions.
+-- Laws of the definitions: a text assembles to at most one list of instructions, has at most one refusal with a line, and never both; the listing of a checked program assembles to the plain forms of its instructions.
 use Rattle.std.specs.Prelude.{◌≡◌, ◌⊎◌, ℕ, List, map, All, Result, Ok, Err, IfOk, IfErr}
 use Rattle.cbpf_code.specs.declared.insn.Insn.{Insn}
 use Rattle.cbpf_code.specs.Plain.{plain}

@@ -10,10 +10,10 @@ use Rattle.cbpf_grammar.specs.Table.{classes, table}
 use Rattle.cbpf_grammar.specs.Fits.{fits_all}
 use Rattle.cbpf_grammar.specs.Items.{Item, names_at}
 
--- the offset of the extension of this name
-abbrev pub offset_named : List (ℕ × Ext) → List ℕ → Option ℕ
-offset_named [] w = None
-offset_named (e ∷ es) w = if bytes_eq w (ext_name e.1) then Some e.0 else offset_named es w
+-- the place that stands for the extension of this name
+abbrev pub place_named : List (ℕ × Ext) → List ℕ → Option ℕ
+place_named [] w = None
+place_named (e ∷ es) w = if bytes_eq w (ext_name e.1) then Some e.0 else place_named es w
 
 -- the value of a token at a class, where it has one; a negative number is kept modulo 2 ^ 32
 abbrev pub value_at : Class → Symbol → Option ℕ
@@ -26,7 +26,7 @@ value_at negated (word w) = None
 value_at negated (number n) = Some ((2 ^ 32 - n) % 2 ^ 32)
 value_at negated (mark b) = None
 value_at (exactly m) s = None
-value_at extension (word w) = offset_named ext_table w
+value_at extension (word w) = place_named ext_table w
 value_at extension (number n) = None
 value_at extension (mark b) = None
 value_at name s = None

@@ -8,7 +8,7 @@ ghost use Rattle.cbpf_text.specs.Operands.{value_at, literal_in, targets_in};
 use cbpf_code::{ext_named, ext_offset};
 use cbpf_grammar::{Class, Item, Lexeme, Symbol};
 
-/// The first offset of an extension.
+/// The place of the first extension.
 const EXTENSIONS: u32 = 0xffff_f000;
 
 /// The bytes of a word, none of another token.
