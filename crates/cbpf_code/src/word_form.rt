@@ -57,7 +57,7 @@ fn fields_are_in_range(_insn: Insn)
 {}
 
 /// Looks at each instruction once, since only what is read is known to be in its range. It changes
-/// nothing, and nothing is left of it in a compiled program.
+/// nothing, so a compiler can drop it.
 fn all_are_in_range(list: &[Insn])
     ensures { All InRange list.now }
 {

@@ -18,7 +18,7 @@ fn is_in_range(_insn: Insn)
 {}
 
 /// Looks at each instruction once, since only what is read is known to be in its range. It
-/// changes nothing, and nothing is left of it in a compiled program.
+/// changes nothing, so a compiler can drop it.
 fn are_in_range(list: &[Insn])
     ensures { All InRange list.now }
 {
