@@ -50,22 +50,17 @@ pub(crate) fn is_quiet<A: Allocator>(
     silent && breakpoints.is_empty()
 }
 
-/// Why an entry is a hit, where it is one. The caller may know beforehand that none is.
+/// Why an entry is a hit, where it is one.
 #[inline(always)]
 pub(crate) fn hit<A: Allocator>(
     p: &Program<A>,
     breakpoints: &Breakpoints<A>,
-    quiet: bool,
     s: &State,
 ) -> Option<Why>
-    requires inside { s.now.pc < length p.now }
-    requires quiet { quiet ≡ true → IsQuiet p.now breakpoints.now.keys }
+    requires { s.now.pc < length p.now }
     ensures { (bytes : List ℕ) (wire : ℕ)
         → result ≡ hit_for (list_any (nat_eq s.now.pc) breakpoints.now.keys) (asked (turn p.now bytes wire s.now)) }
 {
-    if quiet {
-        return None;
-    }
     match asked_at(p, s) {
         Some(e) => Some(Why::Unknown(e)),
         None => {
@@ -76,6 +71,22 @@ pub(crate) fn hit<A: Allocator>(
             }
         }
     }
+}
+
+/// The same, where the caller may know beforehand that none is.
+#[inline(always)]
+pub(crate) fn hit_unless_quiet<A: Allocator>(
+    p: &Program<A>,
+    breakpoints: &Breakpoints<A>,
+    quiet: bool,
+    s: &State,
+) -> Option<Why>
+    requires inside { s.now.pc < length p.now }
+    requires quiet { quiet ≡ true → IsQuiet p.now breakpoints.now.keys }
+    ensures { (bytes : List ℕ) (wire : ℕ)
+        → result ≡ hit_for (list_any (nat_eq s.now.pc) breakpoints.now.keys) (asked (turn p.now bytes wire s.now)) }
+{
+    if quiet { None } else { hit(p, breakpoints, s) }
 }
 
 /// Why a step stops at a state.

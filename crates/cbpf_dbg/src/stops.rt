@@ -7,7 +7,7 @@ ghost use Rattle.cbpf_dbg.specs.Session.{IsQuiet};
 ghost use Rattle.cbpf_dbg.specs.Walk.{Stands, owed, IsHere};
 ghost use Rattle.cbpf_dbg.specs.declared.walk.Walk.{Walk};
 
-use crate::hit::{Breakpoints, hit};
+use crate::hit::{Breakpoints, hit_unless_quiet};
 use crate::reply::Stop;
 use crate::walk::{Moved, Walk, advance};
 use cbpf_code::Program;
@@ -72,7 +72,7 @@ fn next_stop<'a, A: Allocator>(
         };
         match advance(meter, p, capture, &here, w) {
             Moved::Entry => {
-                if let Some(why) = hit(p, breakpoints, quiet, &w.state) {
+                if let Some(why) = hit_unless_quiet(p, breakpoints, quiet, &w.state) {
                     let stop = Stop {
                         place: w.place,
                         state: w.state,

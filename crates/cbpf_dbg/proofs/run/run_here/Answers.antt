@@ -13,8 +13,8 @@ use Rattle.cbpf_dbg.proofs.TurnLemmas.{run_turns-reply, spent_between, owed-turn
 use Rattle.cbpf_dbg.proofs.run.run_here.Goals as goal
 use Rattle.cbpf_dbg.proofs.run.run_here.Goals.{else-is_limit-via-then-is_limit+else-is_some, else-is_limit-via-else-is_limit}
 
-pub hit-requires-clause-inside : goal.hit-requires-clause-inside
-hit-requires-clause-inside g c =
+pub hit-requires : goal.hit-requires
+hit-requires g c =
     let m = c.in-Entry.ensures.moves in
     (goes c.args.p.now c.args.capture.now.records c.advance.new.w m.0 c.in-Entry.ensures.stands (omega (arith, m.3)) m.1).inside
 

@@ -8,28 +8,28 @@ use Rattle.cbpf_dbg.proofs.WalkLemmas.{goes, here_after, here_some, here_none, w
 use Rattle.cbpf_dbg.proofs.RunLemmas.{hit_none, stop_front}
 use Rattle.cbpf_dbg.proofs.stops.next_stop.Goals as goal
 
-pub hit-requires-clause-inside : goal.hit-requires-clause-inside
-hit-requires-clause-inside g c =
+pub hit_unless_quiet-requires-clause-inside : goal.hit_unless_quiet-requires-clause-inside
+hit_unless_quiet-requires-clause-inside g c =
     let m = c.in-Entry.ensures.moves in
     (goes c.args.p.now c.args.capture.now.records c.advance.new.w m.0 c.in-Entry.ensures.stands (omega (arith, m.3)) m.1).inside
 
-pub returns-in-Some-hit-clause-next : goal.returns-in-Some-hit-clause-next
-returns-in-Some-hit-clause-next g c =
+pub returns-in-Some-hit_unless_quiet-clause-next : goal.returns-in-Some-hit_unless_quiet-clause-next
+returns-in-Some-hit_unless_quiet-clause-next g c =
     let m = c.in-Entry.ensures.moves in
     sym c.go.invariant.same_rest
-    ∙ stop_front c.args.p.now c.args.capture.now.records c.args.breakpoints.now.keys c.go.w c.advance.new.w m.0 c.in-Some-hit.why m.4
-    (sym (c.hit.ensures m.0.bytes m.0.wire) ∙ c.in-Some-hit.is)
+    ∙ stop_front c.args.p.now c.args.capture.now.records c.args.breakpoints.now.keys c.go.w c.advance.new.w m.0 c.in-Some-hit_unless_quiet.why m.4
+    (sym (c.hit_unless_quiet.ensures m.0.bytes m.0.wire) ∙ c.in-Some-hit_unless_quiet.is)
 
-pub returns-in-Some-hit-clause-spent : goal.returns-in-Some-hit-clause-spent
-returns-in-Some-hit-clause-spent g c =
+pub returns-in-Some-hit_unless_quiet-clause-spent : goal.returns-in-Some-hit_unless_quiet-clause-spent
+returns-in-Some-hit_unless_quiet-clause-spent g c =
     let m = c.in-Entry.ensures.moves in
     omega (arith, ap length m.4, m.3, c.in-Entry.ensures.turns, c.go.invariant.spent)
 
-pub go-preserved-in_default-hit : goal.go-preserved-in_default-hit
-go-preserved-in_default-hit g c =
+pub go-preserved-in_default-hit_unless_quiet : goal.go-preserved-in_default-hit_unless_quiet
+go-preserved-in_default-hit_unless_quiet g c =
     let m = c.in-Entry.ensures.moves in
     let no = hit_none (list_any (nat_eq c.advance.new.w.state.pc) c.args.breakpoints.now.keys) (turn c.args.p.now m.0.bytes m.0.wire c.advance.new.w.state)
-    (sym (c.hit.ensures m.0.bytes m.0.wire) ∙ c.in_default-hit.is) in
+    (sym (c.hit_unless_quiet.ensures m.0.bytes m.0.wire) ∙ c.in_default-hit_unless_quiet.is) in
     let same = rest-pass c.args.p.now c.args.capture.now.records c.args.breakpoints.now.keys c.go.w.place c.advance.new.w.place (entry_here c.args.p.now m.0 c.advance.new.w) m.4 no in
     record {
       here = rw m.2 c.go.invariant.here;

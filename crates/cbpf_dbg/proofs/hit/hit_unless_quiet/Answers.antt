@@ -1,5 +1,5 @@
 use Rattle.cbpf_dbg.proofs.AskedLemmas.{quiet_hit}
-use Rattle.cbpf_dbg.proofs.hit.hit.Goals as goal
+use Rattle.cbpf_dbg.proofs.hit.hit_unless_quiet.Goals as goal
 
 pub returns-then-quiet : goal.returns-then-quiet
 returns-then-quiet g c = λ bytes wire.

@@ -1,0 +1,28 @@
+use Rattle.std.proofs.Common.{[], length, arith, sym, ap, ◌∙◌, nat_eq}
+use Rattle.std.specs.List.{list_any}
+use Rattle.cbpf_machine.specs.Step.{turn}
+use Rattle.cbpf_dbg.specs.Walk.{entry_here}
+use Rattle.cbpf_dbg.proofs.AskedLemmas.{quiet_hit}
+use Rattle.cbpf_dbg.proofs.JoinedLemmas.{rest-pass, rest-same}
+use Rattle.cbpf_dbg.proofs.WalkLemmas.{goes}
+use Rattle.cbpf_dbg.proofs.RunLemmas.{hit_none}
+use Rattle.cbpf_dbg.proofs.run.pass_packet.Goals as goal
+
+pub pass-preserved : goal.pass-preserved
+pass-preserved g c =
+    let m = c.in-Entry.ensures.moves in
+    let inside = (goes c.args.p.now c.args.capture.now.records c.advance.new.w m.0 c.in-Entry.ensures.stands (omega (arith, m.3)) m.1).inside in
+    let no = hit_none (list_any (nat_eq c.advance.new.w.state.pc) []) (turn c.args.p.now m.0.bytes m.0.wire c.advance.new.w.state)
+    (sym (quiet_hit c.args.p.now [] m.0.bytes m.0.wire c.advance.new.w.state inside c.requires.quiet)) in
+    let same = rest-pass c.args.p.now c.args.capture.now.records [] c.pass.w.place c.advance.new.w.place (entry_here c.args.p.now m.0 c.advance.new.w) m.4 no in
+    record {
+      stands = c.in-Entry.ensures.stands;
+      same_packet = m.2 ∙ c.pass.invariant.same_packet;
+      same_origin = c.in-Entry.ensures.origin ∙ c.pass.invariant.same_origin;
+      same_rest = sym same ∙ c.pass.invariant.same_rest;
+      spent = omega (arith, ap length m.4, m.3, c.in-Entry.ensures.turns, c.pass.invariant.spent);
+    }
+
+pub returns-in-Packet-clause-rest : goal.returns-in-Packet-clause-rest
+returns-in-Packet-clause-rest g c =
+    sym (rest-same c.args.p.now c.args.capture.now.records [] c.pass.w.place c.advance.new.w.place c.in-Packet.ensures.moves.1) ∙ c.pass.invariant.same_rest
