@@ -3,6 +3,7 @@ pub mod CountLemmas
 pub mod WalkLemmas
 pub mod AskedLemmas
 pub mod RunLemmas
+pub mod QuietLemmas
 pub mod TurnLemmas
 pub mod KeepLemmas
 pub mod WholeLemmas

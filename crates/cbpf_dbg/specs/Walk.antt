@@ -53,9 +53,13 @@ with_outcome n (outcome_is.Pass v) = record n { passes = n.passes + 1 }
 with_outcome n outcome_is.Fail = record n { fails = n.fails + 1 }
 with_outcome n (outcome_is.Unknown e) = record n { unknown = n.unknown + 1 }
 
+-- the walk behind a packet with this outcome
+abbrev pub passed : Walk → Outcome → Walk
+passed w outcome = record w { place = record { packet = w.place.packet + 1; step = 0 }; counts = with_outcome w.counts outcome }
+
 -- the walk behind a packet whose last entry's turn this is
 abbrev pub left : Walk → Turn → Walk
-left w last = record w { place = record { packet = w.place.packet + 1; step = 0 }; counts = with_outcome w.counts (outcome_of last) }
+left w last = passed w (outcome_of last)
 
 abbrev pub entry_here : List Insn → Record → Walk → Entry
 entry_here list r w = record { place = w.place; state = w.state; turn = turn list r.bytes r.wire w.state }

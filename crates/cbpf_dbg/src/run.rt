@@ -1,6 +1,6 @@
 //! Runs to the next hit.
 
-ghost use Rattle.std.specs.Prelude.{◌≡◌, ◌≢◌, ◌+◌, ◌-◌, ◌<◌, ◌^◌, [], Some, true, slice_get};
+ghost use Rattle.std.specs.Prelude.{◌≡◌, ◌≢◌, ◌+◌, ◌-◌, ◌<◌, ◌≤◌, ◌^◌, [], Some, true, slice_get};
 ghost use Rattle.pcap_classic.specs.Lent.{record_of};
 ghost use Rattle.cbpf_dbg.specs.Commands.{PassesHits};
 ghost use Rattle.cbpf_dbg.specs.Joined.{rest};
@@ -11,7 +11,7 @@ use crate::hit::{Breakpoints, hit};
 use crate::reply::{RunReply, Stop};
 use crate::walk::{Moved, Walk, advance, record_at};
 use cbpf_code::Program;
-use cbpf_machine::{Meter, Trail};
+use cbpf_machine::{Meter, Packet, Trail, run_packet};
 use pcap_classic::{Capture, Captured};
 use std::alloc::Allocator;
 
@@ -78,8 +78,8 @@ fn run_here<T: Trail, A: Allocator>(
 }
 
 /// Goes on to the end of a packet, whose record is `here`, past entries of which none is a hit.
-#[inline(always)]
-fn pass_packet<A: Allocator>(
+#[inline(never)]
+fn pass_rest<A: Allocator>(
     meter: &mut Meter,
     p: &Program<A>,
     capture: &Capture<A>,
@@ -104,6 +104,61 @@ fn pass_packet<A: Allocator>(
     }
 }
 
+/// The same from before the packet's first entry.
+#[inline(always)]
+fn pass_whole<A: Allocator>(
+    meter: &mut Meter,
+    p: &Program<A>,
+    capture: &Capture<A>,
+    here: &Captured<'_>,
+    w: &mut Walk,
+)
+    requires stands { Stands p.now capture.now.records w.old }
+    requires here { slice_get capture.now.records (w.old.place.packet - 1) ≡ Some (record_of here.now) }
+    requires quiet { IsQuiet p.now [] }
+    requires before { w.old.place.step ≡ 0 }
+    requires few { meter.old + 8192 ≤ 2 ^ 128 }
+    ensures stands { Stands p.now capture.now.records w.new }
+    ensures place { w.new.place ≡ record { packet = w.old.place.packet + 1; step = 0 } }
+    ensures origin { w.new.origin ≡ w.old.origin }
+    ensures rest { rest p.now capture.now.records [] w.new.place ≡ rest p.now capture.now.records [] w.old.place }
+    ensures spent { meter.new + owed p.now capture.now.records w.new.place ≡ meter.old + owed p.now capture.now.records w.old.place }
+{
+    let _few = capture.count();
+    let packet = Packet {
+        bytes: here.bytes,
+        wire: here.wire,
+    };
+    w.pass(run_packet(meter, p, packet));
+}
+
+/// The same from any place of the packet.
+#[inline(always)]
+fn pass_packet<A: Allocator>(
+    meter: &mut Meter,
+    p: &Program<A>,
+    capture: &Capture<A>,
+    here: &Captured<'_>,
+    w: &mut Walk,
+)
+    requires stands { Stands p.now capture.now.records w.old }
+    requires here { slice_get capture.now.records (w.old.place.packet - 1) ≡ Some (record_of here.now) }
+    requires quiet { IsQuiet p.now [] }
+    requires spare { meter.old + owed p.now capture.now.records w.old.place + 1 < 2 ^ 128 }
+    requires few { meter.old + 8192 ≤ 2 ^ 128 }
+    ensures stands { Stands p.now capture.now.records w.new }
+    ensures place { w.new.place ≡ record { packet = w.old.place.packet + 1; step = 0 } }
+    ensures origin { w.new.origin ≡ w.old.origin }
+    ensures rest { rest p.now capture.now.records [] w.new.place ≡ rest p.now capture.now.records [] w.old.place }
+    ensures spent { meter.new + owed p.now capture.now.records w.new.place ≡ meter.old + owed p.now capture.now.records w.old.place }
+{
+    if w.place.step == 0 {
+        pass_whole(meter, p, capture, here, w);
+    } else {
+        pass_rest(meter, p, capture, here, w);
+    }
+}
+
 /// Goes on to the limit of finished packets, or to the end, where no entry can be a hit.
 // It ends before a packet, of which nothing has passed: so the trail keeps nothing meanwhile.
 #[inline(always)]
@@ -117,7 +172,7 @@ fn run_quietly<T: Trail, A: Allocator>(
 ) -> RunReply
     requires stands { Stands p.now capture.now.records w.old }
     requires quiet { IsQuiet p.now [] }
-    requires spare { meter.old + owed p.now capture.now.records w.old.place + 1 < 2 ^ 128 }
+    requires spare { meter.old ≤ 2 ^ 127 }
     requires limit { limit ≢ Some 0 }
     ensures stands { Stands p.now capture.now.records w.new }
     ensures keeps { Keeps (λ xs. T.stands_for trail.new xs) p.now capture.now.records w.new.place }
@@ -125,6 +180,7 @@ fn run_quietly<T: Trail, A: Allocator>(
     ensures ahead { PassesHits result (rest p.now capture.now.records [] w.old.place) (rest p.now capture.now.records [] w.new.place) }
     ensures turns { meter.new ≡ meter.old + run_turns p.now capture.now [] w.old limit }
 {
+    let _few = capture.count();
     let start = w.place.packet;
     let mut next = record_at(capture, start);
     trail.clear();
@@ -158,6 +214,7 @@ pub(crate) fn run<T: Trail, A: Allocator>(
     requires keeps { Keeps (λ xs. T.stands_for trail.old xs) p.now capture.now.records w.old.place }
     requires quiet { quiet ≡ true → IsQuiet p.now breakpoints.now.keys }
     requires spare { meter.old + owed p.now capture.now.records w.old.place + 1 < 2 ^ 128 }
+    requires early { meter.old ≤ 2 ^ 127 }
     requires limit { limit ≢ Some 0 }
     ensures stands { Stands p.now capture.now.records w.new }
     ensures keeps { Keeps (λ xs. T.stands_for trail.new xs) p.now capture.now.records w.new.place }

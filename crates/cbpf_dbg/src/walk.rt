@@ -6,11 +6,11 @@ ghost use Rattle.cbpf_code.specs.declared.insn.Insn.{Insn};
 ghost use Rattle.pcap_classic.specs.Lent.{record_of};
 ghost use Rattle.pcap_classic.specs.Records.{Record};
 ghost use Rattle.cbpf_dbg.specs.View.{start};
-ghost use Rattle.cbpf_dbg.specs.Walk.{Stands, Moves, IsEntry, IsHere, entered, stepped, left};
+ghost use Rattle.cbpf_dbg.specs.Walk.{Stands, Moves, IsEntry, IsHere, entered, stepped, passed, left};
 
 use crate::reply::{Counts, Place};
 use cbpf_code::Program;
-use cbpf_machine::{Meter, Packet, State, Turn, turn};
+use cbpf_machine::{Meter, Outcome, Packet, State, Turn, turn};
 use pcap_classic::{Capture, Captured};
 use std::alloc::Allocator;
 
@@ -53,6 +53,23 @@ impl Walk {
     }
 
     #[inline(always)]
+    pub(crate) fn pass(&mut self, outcome: Outcome)
+        requires packets { self.old.place.packet + 1 < 2 ^ 64 }
+        requires passes { self.old.counts.passes + 1 < 2 ^ 64 }
+        requires fails { self.old.counts.fails + 1 < 2 ^ 64 }
+        requires unknown { self.old.counts.unknown + 1 < 2 ^ 64 }
+        ensures { self.new ≡ passed self.old outcome }
+    {
+        match outcome {
+            Outcome::Pass(_) => self.counts.passes += 1,
+            Outcome::Fail => self.counts.fails += 1,
+            Outcome::Unknown(_) => self.counts.unknown += 1,
+        }
+        self.place.packet += 1;
+        self.place.step = 0;
+    }
+
+    #[inline(always)]
     fn leave(&mut self, last: Turn)
         requires packets { self.old.place.packet + 1 < 2 ^ 64 }
         requires passes { self.old.counts.passes + 1 < 2 ^ 64 }
@@ -60,13 +77,11 @@ impl Walk {
         requires unknown { self.old.counts.unknown + 1 < 2 ^ 64 }
         ensures { self.new ≡ left self.old last }
     {
-        match last {
-            Turn::Returned(v) if v != 0 => self.counts.passes += 1,
-            Turn::Unknown(_) => self.counts.unknown += 1,
-            _ => self.counts.fails += 1,
-        }
-        self.place.packet += 1;
-        self.place.step = 0;
+        self.pass(match last {
+            Turn::Returned(v) if v != 0 => Outcome::Pass(v),
+            Turn::Unknown(e) => Outcome::Unknown(e),
+            _ => Outcome::Fail,
+        });
     }
 
     /// Before a packet, from which it counts.

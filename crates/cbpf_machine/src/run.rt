@@ -8,6 +8,7 @@ use crate::packet::Packet;
 use crate::state::State;
 use cbpf_code::Program;
 use std::alloc::Allocator;
+use std::mem;
 
 /// How a packet ends by the turn of its last state.
 #[inline(always)]
@@ -24,9 +25,11 @@ fn outcome_of(last: Turn) -> Outcome
 /// Runs a program on a packet, from the zero state to the packet's end, by at most as many turns
 /// as the program has instructions.
 ///
-/// The meter has spent at most 2 to the 127 before.
+/// The meter is at least 8192 turns below 2 to the 128 before.
+// It isn't inlined, so that nothing but the packet's state wants the processor's registers.
+#[inline(never)]
 pub fn run_packet<A: Allocator>(meter: &mut Meter, p: &Program<A>, packet: Packet<'_>) -> Outcome
-    requires { meter.old ≤ 2 ^ 127 }
+    requires { meter.old + 8192 ≤ 2 ^ 128 }
     ensures value { result ≡ spec.outcome p.now packet.entry.bytes.now packet.entry.wire }
     ensures turns { meter.new ≡ meter.old + length (spec.trace p.now packet.entry.bytes.now packet.entry.wire) }
     ensures few { meter.new ≤ meter.old + length p.now }
@@ -35,11 +38,15 @@ pub fn run_packet<A: Allocator>(meter: &mut Meter, p: &Program<A>, packet: Packe
     ensures whole { spec.IsRun p.now packet.entry.bytes.now packet.entry.wire (spec.trace p.now packet.entry.bytes.now packet.entry.wire) }
 {
     let _sound = p.len();
+    let mut spent = mem::replace(meter, Meter::new());
     let mut s = State::zero();
     'run: loop {
-        match turn(meter, p, packet, &s) {
+        match turn(&mut spent, p, packet, &s) {
             Turn::Next(next) => s = next,
-            last => return outcome_of(last),
+            last => {
+                *meter = spent;
+                return outcome_of(last);
+            }
         }
     }
 }

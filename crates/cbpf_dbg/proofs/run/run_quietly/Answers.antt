@@ -5,7 +5,7 @@ use Rattle.cbpf_dbg.specs.Walk.{owed, is_limit}
 use Rattle.cbpf_dbg.proofs.JoinedLemmas.{rest-none}
 use Rattle.cbpf_dbg.proofs.WalkLemmas.{here_after, here_some, here_none, here_within, here_past, walk_ended}
 use Rattle.cbpf_dbg.proofs.RunLemmas.{below_next, run_finished, run_limited}
-use Rattle.cbpf_dbg.proofs.TurnLemmas.{run_turns-reply, spent_between, owed-turns, not_before_packet}
+use Rattle.cbpf_dbg.proofs.TurnLemmas.{run_turns-reply, spent_between, owed-turns, owed_bound, not_before_packet}
 use Rattle.cbpf_dbg.proofs.run.run_quietly.Goals as goal
 use Rattle.cbpf_dbg.proofs.run.run_quietly.Goals.{else-is_limit-via-then-is_limit+else-is_some, else-is_limit-via-else-is_limit}
 
@@ -73,3 +73,13 @@ go-preserved g c =
           c.go.invariant.in_limit (omega (arith, e, within)) c.go.invariant.forward e test;
       spent = c.pass_packet.ensures.spent ∙ c.go.invariant.spent;
     }
+
+pub pass_packet-requires-clause-few : goal.pass_packet-requires-clause-few
+pass_packet-requires-clause-few g c =
+    let most = owed_bound c.args.p.now c.args.capture.now.records c.args.w.now.place c.requires.stands.sound (omega (arith, c.count-few.ensures.bounded, c.count-few.ensures.value)) in
+    omega (arith, most, c.go.invariant.spent)
+
+pub pass_packet-requires-clause-spare : goal.pass_packet-requires-clause-spare
+pass_packet-requires-clause-spare g c =
+    let most = owed_bound c.args.p.now c.args.capture.now.records c.args.w.now.place c.requires.stands.sound (omega (arith, c.count-few.ensures.bounded, c.count-few.ensures.value)) in
+    omega (arith, most, c.go.invariant.spent)

@@ -4,12 +4,12 @@ use Rattle.cbpf_machine.specs.Registers.{zero_state}
 use Rattle.cbpf_machine.specs.Step.{turn}
 use Rattle.cbpf_machine.specs.Trace.{next_of, trace, outcome_of}
 use Rattle.cbpf_machine.proofs.TraceLemmas.{trace_from-next, trace_from-last, outcome_from-next, outcome_from-last, length-trace_from, next_of-none, trace-is_run}
-use Rattle.cbpf_machine.proofs.SoundLemmas.{sound_some}
+use Rattle.cbpf_machine.proofs.SoundLemmas.{sound_some, sound_few}
 use Rattle.cbpf_machine.proofs.run.run_packet.Goals as goal
 
 pub turn-requires-clause-spare : goal.turn-requires-clause-spare
 turn-requires-clause-spare g c =
-    omega (arith, length-trace_from c.args.p.now c.args.packet.bytes.now c.args.packet.wire zero_state)
+    omega (arith, sound_few c.args.p.now c.run.invariant.sound, length-trace_from c.args.p.now c.args.packet.bytes.now c.args.packet.wire zero_state)
 
 pub run-init : goal.run-init
 run-init g c =
@@ -17,7 +17,7 @@ run-init g c =
       sound = c.len-sound.ensures.sound;
       inside = rw c.zero-s.ensures (sound_some c.args.p.now c.len-sound.ensures.sound);
       ends = rw c.zero-s.ensures;
-      spent = rw c.zero-s.ensures;
+      spent = rw (c.replace-spent.ensures.value, c.zero-s.ensures);
     }
 
 pub run-preserved : goal.run-preserved

@@ -1,7 +1,7 @@
 use Rattle.std.proofs.Common.{◌≡◌, ◌+◌, ◌-◌, [], length}
 use Rattle.cbpf_dbg.specs.Joined.{rest, ahead}
 use Rattle.cbpf_dbg.specs.Walk.{Stands, owed}
-use Rattle.cbpf_dbg.proofs.run.pass_packet.Given as goal
+use Rattle.cbpf_dbg.proofs.run.pass_rest.Given as goal
 
 -- the walk is in the packet, and no hit was passed
 abbrev pub invariant-pass : goal.invariant-pass
