@@ -4,3 +4,4 @@ pub mod Step
 pub mod Checked
 pub mod Trace
 pub mod Trail
+pub mod InPlace

@@ -19,7 +19,7 @@ mod run;
 mod state;
 mod trail;
 
-pub use execute::turn;
+pub use execute::{turn, turn_in_place};
 pub use extension::asks;
 pub use list_trail::ListTrail;
 pub use mark_trail::MarkTrail;

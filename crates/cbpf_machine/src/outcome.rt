@@ -16,6 +16,32 @@ pub enum Turn {
     Unknown(Ext),
 }
 
+/// How a packet's last turn ends it.
+#[derive(Clone, Copy, Debug)]
+pub(crate) enum End {
+    Returned(u32),
+    Outside,
+    ZeroDivisor,
+    Unknown(Ext),
+}
+
+impl From<End> for Turn {
+    ghost use Rattle.std.specs.Prelude.{◌≡◌};
+    ghost use Rattle.cbpf_machine.specs.InPlace.{turn_of};
+
+    ghost from_gives = { λ end t. t ≡ turn_of end };
+
+    #[inline(always)]
+    fn from(end: End) -> Turn {
+        match end {
+            End::Returned(v) => Turn::Returned(v),
+            End::Outside => Turn::Outside,
+            End::ZeroDivisor => Turn::ZeroDivisor,
+            End::Unknown(e) => Turn::Unknown(e),
+        }
+    }
+}
+
 /// How a packet ends.
 #[derive(Clone, Copy, Debug, PartialEq, Eq)]
 pub enum Outcome {
@@ -25,4 +51,21 @@ pub enum Outcome {
     Fail,
     /// The program asked for this extension.
     Unknown(Ext),
+}
+
+impl From<End> for Outcome {
+    ghost use Rattle.std.specs.Prelude.{◌≡◌};
+    ghost use Rattle.cbpf_machine.specs.InPlace.{turn_of};
+    ghost use Rattle.cbpf_machine.specs.Trace.{outcome_of};
+
+    ghost from_gives = { λ end o. o ≡ outcome_of (turn_of end) };
+
+    #[inline(always)]
+    fn from(end: End) -> Outcome {
+        match end {
+            End::Returned(v) if v != 0 => Outcome::Pass(v),
+            End::Unknown(e) => Outcome::Unknown(e),
+            _ => Outcome::Fail,
+        }
+    }
 }

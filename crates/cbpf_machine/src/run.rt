@@ -1,26 +1,14 @@
 ghost use Rattle.std.specs.Prelude.{◌≡◌, ◌≤◌, ◌+◌, ◌^◌, length};
 ghost use Rattle.cbpf_machine.specs.Trace as spec;
 
-use crate::execute::turn;
+use crate::execute::turn_in_place;
 use crate::meter::Meter;
-use crate::outcome::{Outcome, Turn};
+use crate::outcome::Outcome;
 use crate::packet::Packet;
 use crate::state::State;
 use cbpf_code::Program;
 use std::alloc::Allocator;
 use std::mem;
-
-/// How a packet ends by the turn of its last state.
-#[inline(always)]
-fn outcome_of(last: Turn) -> Outcome
-    ensures { result ≡ spec.outcome_of last }
-{
-    match last {
-        Turn::Returned(v) if v != 0 => Outcome::Pass(v),
-        Turn::Unknown(e) => Outcome::Unknown(e),
-        _ => Outcome::Fail,
-    }
-}
 
 /// Runs a program on a packet, from the zero state to the packet's end, by at most as many turns
 /// as the program has instructions.
@@ -41,12 +29,9 @@ pub fn run_packet<A: Allocator>(meter: &mut Meter, p: &Program<A>, packet: Packe
     let mut spent = mem::replace(meter, Meter::new());
     let mut s = State::zero();
     'run: loop {
-        match turn(&mut spent, p, packet, &s) {
-            Turn::Next(next) => s = next,
-            last => {
-                *meter = spent;
-                return outcome_of(last);
-            }
+        if let Some(outcome) = turn_in_place(&mut spent, p, packet, &mut s) {
+            *meter = spent;
+            return outcome;
         }
     }
 }
