@@ -10,11 +10,10 @@ use cbpf_code::Size;
 pub(crate) fn number_at(bytes: &[u8], at: u32, size: Size) -> Option<u32>
     ensures { result ≡ number bytes.now at (width size) }
 {
-    let rest = bytes.get(at as usize..)?;
+    let at = at as usize;
     match size {
-        Size::Word if rest.len() >= 4 => Some(BigEndian::read_u32(rest)),
-        Size::Half if rest.len() >= 2 => Some(u32::from(BigEndian::read_u16(rest))),
-        Size::Byte if !rest.is_empty() => Some(u32::from(rest[0])),
-        _ => None,
+        Size::Word => bytes.get(at..at + 4).map(BigEndian::read_u32),
+        Size::Half => bytes.get(at..at + 2).map(|b| u32::from(BigEndian::read_u16(b))),
+        Size::Byte => bytes.get(at).map(|b| u32::from(*b)),
     }
 }
