@@ -9,7 +9,7 @@ use Rattle.cbpf_code.specs.Sound.{IsSound}
 use Rattle.cbpf_machine.specs.Registers.{Registers, zero_state}
 use Rattle.cbpf_machine.specs.declared.outcome.Turn.TheVariants.{Next}
 use Rattle.cbpf_machine.specs.Step.{turn}
-use Rattle.cbpf_machine.specs.Trace.{trace, next_of}
+use Rattle.cbpf_machine.specs.Trace.{trace, next_of, outcome_of}
 use Rattle.cbpf_machine.proofs.TraceLemmas.{Goes, goes_from_entry, goes_next, goes_at, goes_last, outcome_at_last, first_entry}
 use Rattle.cbpf_machine.proofs.SoundLemmas.{sound_some}
 use Rattle.pcap_classic.specs.Records.{Record}
@@ -20,7 +20,7 @@ use Rattle.cbpf_dbg.specs.declared.reply.Counts.{Counts}
 use Rattle.cbpf_dbg.specs.declared.walk.Walk.{Walk}
 use Rattle.cbpf_dbg.specs.declared.walk.Moved.TheVariants as moved
 use Rattle.cbpf_dbg.specs.Joined.{ahead, counts}
-use Rattle.cbpf_dbg.specs.Walk.{Stands, Moves, Ended, IsHere, entered, stepped, left}
+use Rattle.cbpf_dbg.specs.Walk.{Stands, Moves, Ended, IsHere, entered, stepped, passed}
 use Rattle.cbpf_dbg.proofs.JoinedLemmas.{ahead-entry, ahead-leave, ahead-end, place_at, entry}
 use Rattle.cbpf_dbg.proofs.CountLemmas.{counts-more}
 
@@ -98,7 +98,7 @@ last_step list capture w r h inside at none =
     omega (arith, e)
 
 pub stands-left : (list : List Insn) (capture : List Record) (w : Walk) (r : Record) → Stands list capture w → 0 < w.place.step → slice_get capture (w.place.packet - 1) ≡ Some r
-    → next_of (turn list r.bytes r.wire w.state) ≡ None → Stands list capture (left w (turn list r.bytes r.wire w.state))
+    → next_of (turn list r.bytes r.wire w.state) ≡ None → Stands list capture (passed w (outcome_of (turn list r.bytes r.wire w.state)))
 stands-left list capture w r h inside at none =
     let one : 1 ≤ w.place.packet = let a = h.from_one in let b = h.ordered in omega arith in
     let here : w.place.packet - 1 < length capture = slice_get_within capture (w.place.packet - 1) r at in
@@ -114,7 +114,7 @@ stands-left list capture w r h inside at none =
     }
 
 pub moves-left : (list : List Insn) (capture : List Record) (w : Walk) (r : Record) → Stands list capture w → 0 < w.place.step → slice_get capture (w.place.packet - 1) ≡ Some r
-    → next_of (turn list r.bytes r.wire w.state) ≡ None → Moves list capture w moved.Packet (left w (turn list r.bytes r.wire w.state))
+    → next_of (turn list r.bytes r.wire w.state) ≡ None → Moves list capture w moved.Packet (passed w (outcome_of (turn list r.bytes r.wire w.state)))
 moves-left list capture w r h inside at none =
     let one : 1 ≤ w.place.packet = let a = h.from_one in let b = h.ordered in omega arith in
     (refl, ahead-leave list capture w.place.packet w.place.step r one at (let e = last_step list capture w r h inside at none in omega (arith, e)))

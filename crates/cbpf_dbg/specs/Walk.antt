@@ -4,11 +4,10 @@ use Rattle.std.specs.Prelude.{◌≡◌, ℕ, ◌+◌, ◌-◌, ◌≤◌, ◌<�
 use Rattle.cbpf_code.specs.declared.insn.Insn.{Insn}
 use Rattle.cbpf_code.specs.Sound.{IsSound}
 use Rattle.cbpf_machine.specs.Registers.{Registers, zero_state}
-use Rattle.cbpf_machine.specs.declared.outcome.Turn.{Turn}
 use Rattle.cbpf_machine.specs.declared.outcome.Outcome.{Outcome}
 use Rattle.cbpf_machine.specs.declared.outcome.Outcome.TheVariants as outcome_is
 use Rattle.cbpf_machine.specs.Step.{turn}
-use Rattle.cbpf_machine.specs.Trace.{trace, outcome_of}
+use Rattle.cbpf_machine.specs.Trace.{trace}
 use Rattle.pcap_classic.specs.Records.{Record}
 use Rattle.pcap_classic.specs.Savefile.{Savefile}
 use Rattle.pcap_classic.specs.Lent.{record_of}
@@ -56,10 +55,6 @@ with_outcome n (outcome_is.Unknown e) = record n { unknown = n.unknown + 1 }
 -- the walk behind a packet with this outcome
 abbrev pub passed : Walk → Outcome → Walk
 passed w outcome = record w { place = record { packet = w.place.packet + 1; step = 0 }; counts = with_outcome w.counts outcome }
-
--- the walk behind a packet whose last entry's turn this is
-abbrev pub left : Walk → Turn → Walk
-left w last = passed w (outcome_of last)
 
 abbrev pub entry_here : List Insn → Record → Walk → Entry
 entry_here list r w = record { place = w.place; state = w.state; turn = turn list r.bytes r.wire w.state }

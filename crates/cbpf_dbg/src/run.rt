@@ -155,7 +155,10 @@ fn pass_packet<A: Allocator>(
     if w.place.step == 0 {
         pass_whole(meter, p, capture, here, w);
     } else {
-        pass_rest(meter, p, capture, here, w);
+        // On copies, as only the first packet comes here, and the loop's own stay in registers.
+        let (here, mut rest) = (*here, *w);
+        pass_rest(meter, p, capture, &here, &mut rest);
+        *w = rest;
     }
 }
 

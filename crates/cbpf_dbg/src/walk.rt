@@ -6,11 +6,11 @@ ghost use Rattle.cbpf_code.specs.declared.insn.Insn.{Insn};
 ghost use Rattle.pcap_classic.specs.Lent.{record_of};
 ghost use Rattle.pcap_classic.specs.Records.{Record};
 ghost use Rattle.cbpf_dbg.specs.View.{start};
-ghost use Rattle.cbpf_dbg.specs.Walk.{Stands, Moves, IsEntry, IsHere, entered, stepped, passed, left};
+ghost use Rattle.cbpf_dbg.specs.Walk.{Stands, Moves, IsEntry, IsHere, entered, stepped, passed};
 
 use crate::reply::{Counts, Place};
 use cbpf_code::Program;
-use cbpf_machine::{Meter, Outcome, Packet, State, Turn, turn};
+use cbpf_machine::{Meter, Outcome, Packet, State, turn_in_place};
 use pcap_classic::{Capture, Captured};
 use std::alloc::Allocator;
 
@@ -44,12 +44,11 @@ impl Walk {
     }
 
     #[inline(always)]
-    fn go_on(&mut self, next: State)
+    fn go_on(&mut self)
         requires { self.old.place.step + 1 < 2 ^ 32 }
-        ensures { self.new ≡ stepped self.old next }
+        ensures { self.new ≡ stepped self.old self.old.state }
     {
         self.place.step += 1;
-        self.state = next;
     }
 
     #[inline(always)]
@@ -67,21 +66,6 @@ impl Walk {
         }
         self.place.packet += 1;
         self.place.step = 0;
-    }
-
-    #[inline(always)]
-    fn leave(&mut self, last: Turn)
-        requires packets { self.old.place.packet + 1 < 2 ^ 64 }
-        requires passes { self.old.counts.passes + 1 < 2 ^ 64 }
-        requires fails { self.old.counts.fails + 1 < 2 ^ 64 }
-        requires unknown { self.old.counts.unknown + 1 < 2 ^ 64 }
-        ensures { self.new ≡ left self.old last }
-    {
-        self.pass(match last {
-            Turn::Returned(v) if v != 0 => Outcome::Pass(v),
-            Turn::Unknown(e) => Outcome::Unknown(e),
-            _ => Outcome::Fail,
-        });
     }
 
     /// Before a packet, from which it counts.
@@ -170,13 +154,13 @@ pub(crate) fn advance<A: Allocator>(
         bytes: here.bytes,
         wire: here.wire,
     };
-    match turn(meter, p, packet, &w.state) {
-        Turn::Next(next) => {
-            w.go_on(next);
+    match turn_in_place(meter, p, packet, &mut w.state) {
+        None => {
+            w.go_on();
             Moved::Entry
         }
-        last => {
-            w.leave(last);
+        Some(outcome) => {
+            w.pass(outcome);
             Moved::Packet
         }
     }

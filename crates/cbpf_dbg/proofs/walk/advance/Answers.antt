@@ -1,14 +1,15 @@
-use Rattle.std.proofs.Common.{◌≡◌, ◌-◌, None, arith, sym, subst, ap, ◌∙◌}
+use Rattle.std.proofs.Common.{◌≡◌, ◌-◌, arith, sym, subst, ap, ◌∙◌}
 use Rattle.cbpf_dbg.specs.declared.reply.Counts.{Counts}
 use Rattle.cbpf_dbg.specs.declared.walk.Walk.{Walk}
 use Rattle.std.proofs.lemmas.Option.{slice_get_within}
 use Rattle.cbpf_machine.specs.Step.{turn}
-use Rattle.cbpf_machine.specs.Trace.{trace, next_of}
-use Rattle.cbpf_machine.proofs.TraceLemmas.{next_of-none, length-trace_from}
-use Rattle.cbpf_machine.specs.Registers.{zero_state}
+use Rattle.cbpf_machine.specs.declared.outcome.Turn.TheVariants.{Next}
+use Rattle.cbpf_machine.specs.Trace.{trace, outcome_of}
+use Rattle.cbpf_machine.proofs.TraceLemmas.{length-trace_from}
+use Rattle.cbpf_machine.specs.Registers.{Registers, zero_state}
 use Rattle.cbpf_machine.proofs.SoundLemmas.{sound_few}
 use Rattle.cbpf_dbg.specs.declared.walk.Moved.TheVariants as moved
-use Rattle.cbpf_dbg.specs.Walk.{Moves, left}
+use Rattle.cbpf_dbg.specs.Walk.{Moves, stepped, passed}
 use Rattle.cbpf_dbg.proofs.CountLemmas.{counts-at_most}
 use Rattle.cbpf_dbg.proofs.WalkLemmas.{stands-entered, moves-entered, stands-stepped, moves-stepped, stands-left, moves-left, goes}
 use Rattle.cbpf_dbg.proofs.walk.advance.Goals as goal
@@ -21,8 +22,8 @@ returns-then-w-eq0-clause-moves g c =
     subst (λ n. Moves c.args.p.now c.args.capture.now.records c.args.w.now moved.Entry n) (sym c.enter.ensures)
     (moves-entered _ _ c.args.w.now c.requires.stands (let within = slice_get_within c.args.capture.now.records (c.args.w.now.place.packet - 1) _ c.requires.here in omega (arith, within)) (omega arith))
 
-pub turn-requires-clause-inside : goal.turn-requires-clause-inside
-turn-requires-clause-inside g c =
+pub turn_in_place-requires-clause-inside : goal.turn_in_place-requires-clause-inside
+turn_in_place-requires-clause-inside g c =
     (goes c.args.p.now c.args.capture.now.records c.args.w.now _ c.requires.stands (omega arith) c.requires.here).inside
 
 pub go_on-requires : goal.go_on-requires
@@ -31,8 +32,8 @@ go_on-requires g c =
     let within = slice_get_within (trace c.args.p.now at.0.bytes at.0.wire) (c.args.w.now.place.step - 1) _ at.2 in
     omega (arith, within, length-trace_from c.args.p.now at.0.bytes at.0.wire zero_state, sound_few c.args.p.now c.requires.stands.sound)
 
-pub leave-requires : goal.leave-requires
-leave-requires g c =
+pub pass-requires : goal.pass-requires
+pass-requires g c =
     let few = counts-at_most c.args.p.now c.args.capture.now.records c.args.w.now.origin c.args.w.now.place.packet in
     let counted = c.requires.stands.counted in
     let within = c.requires.stands.within in
@@ -43,25 +44,29 @@ leave-requires g c =
       unknown = omega (arith, few.unknown, ap (λ (n : Counts). n.unknown) counted, c.count-few.ensures.bounded);
     }
 
-pub returns-in-Next-clause-stands : goal.returns-in-Next-clause-stands
-returns-in-Next-clause-stands g c =
-    rw c.go_on.ensures (stands-stepped _ _ c.args.w.now _ c.in-Next.next c.requires.stands (omega arith) c.requires.here (sym c.in-Next.ensures.value))
-
-pub returns-in-Next-clause-moves : goal.returns-in-Next-clause-moves
-returns-in-Next-clause-moves g c =
-    subst (λ n. Moves c.args.p.now c.args.capture.now.records c.args.w.now moved.Entry n) (sym c.go_on.ensures)
-    (moves-stepped _ _ c.args.w.now _ c.in-Next.next c.requires.stands (omega arith) c.requires.here (sym c.in-Next.ensures.value))
-
-pub returns-in_default : goal.returns-in_default
-returns-in_default g c =
-    let none : next_of (turn c.args.p.now c.args.here.now.bytes.now c.args.here.now.wire c.args.w.now.state) ≡ None =
-    rw (← c.turn.ensures.value) (next_of-none c.turn.result c.in_default.not-Next) in
-    let same : c.leave.new.self ≡ left c.args.w.now (turn c.args.p.now c.args.here.now.bytes.now c.args.here.now.wire c.args.w.now.state) =
-    c.leave.ensures ∙ ap (left c.args.w.now) c.turn.ensures.value in
+pub returns-in-None : goal.returns-in-None
+returns-in-None g c =
+    let same : c.go_on.new.self ≡ stepped c.args.w.now c.turn_in_place.new.s = c.go_on.ensures in
+    let on : turn c.args.p.now c.args.here.now.bytes.now c.args.here.now.wire c.args.w.now.state ≡ Next c.turn_in_place.new.s = c.in-None.ensures.value in
     record {
-      stands = rw same (stands-left _ _ c.args.w.now _ c.requires.stands (omega arith) c.requires.here none);
+      stands = rw same (stands-stepped _ _ c.args.w.now _ c.turn_in_place.new.s c.requires.stands (omega arith) c.requires.here on);
+      moves = subst (λ n. Moves c.args.p.now c.args.capture.now.records c.args.w.now moved.Entry n) (sym same)
+          (moves-stepped _ _ c.args.w.now _ c.turn_in_place.new.s c.requires.stands (omega arith) c.requires.here on);
+      origin = ap (λ (n : Walk). n.origin) same;
+      turns = omega arith;
+    }
+
+pub returns-in-Some : goal.returns-in-Some
+returns-in-Some g c =
+    let v = c.in-Some.ensures.value in
+    let here : Walk = record { origin = c.args.w.now.origin; place = c.args.w.now.place; state = c.turn_in_place.new.s; counts = c.args.w.now.counts } in
+    let stays : here ≡ c.args.w.now = ap (λ (s : Registers). record c.args.w.now { state = s }) v.2 in
+    let same : c.pass.new.self ≡ passed c.args.w.now (outcome_of (turn c.args.p.now c.args.here.now.bytes.now c.args.here.now.wire c.args.w.now.state)) =
+    c.pass.ensures ∙ ap (λ w. passed w c.in-Some.outcome) stays ∙ ap (passed c.args.w.now) v.1 in
+    record {
+      stands = rw same (stands-left _ _ c.args.w.now _ c.requires.stands (omega arith) c.requires.here v.0);
       moves = subst (λ n. Moves c.args.p.now c.args.capture.now.records c.args.w.now moved.Packet n) (sym same)
-          (moves-left _ _ c.args.w.now _ c.requires.stands (omega arith) c.requires.here none);
+          (moves-left _ _ c.args.w.now _ c.requires.stands (omega arith) c.requires.here v.0);
       origin = ap (λ (n : Walk). n.origin) same;
       turns = omega arith;
     }
