@@ -33,11 +33,11 @@ pub returns-then-is_some-clause-runs : goal.returns-then-is_some-clause-runs
 returns-then-is_some-clause-runs g c =
     let at = here_some c.args.capture.now.records c.go.w.place.packet c.go.next c.in-Some.here c.go.invariant.here c.in-Some.is in
     let e : c.pass_packet.new.w.place.packet ≡ c.go.w.place.packet + 1 = ap (λ (q : Place). q.packet) c.pass_packet.ensures.place in
-    let here = here_after c.args.capture.now.records c.go.w.place.packet c.pass_packet.new.w.place.packet c.in-Some.here c.following-next.result at.0 e c.following-next.ensures.record c.following-next.ensures.number in
+    let here = here_after c.args.capture.now.records c.go.w.place.packet c.pass_packet.new.w.place.packet c.in-Some.here c.following-behind.result at.0 e c.following-behind.ensures.record c.following-behind.ensures.number in
     run_limited c.args.p.now c.args.capture.now [] c.args.limit c.args.w.now c.go.w c.pass_packet.new.w
     c.pass_packet.ensures.stands (c.pass_packet.ensures.rest ∙ c.go.invariant.same_rest) (c.pass_packet.ensures.origin ∙ c.go.invariant.same_origin)
     c.pass_packet.ensures.place (let f = c.go.invariant.forward in omega (arith, e)) (sym c.is_limit.ensures ∙ c.if-is_limit.true)
-    (let some = here_within c.args.capture.now.records c.pass_packet.new.w.place.packet c.following-next.result here (sym c.is_some.ensures ∙ c.if-is_some.true) in omega (arith, some, e))
+    (let some = here_within c.args.capture.now.records c.pass_packet.new.w.place.packet c.following-behind.result here (sym c.is_some.ensures ∙ c.if-is_some.true) in omega (arith, some, e))
 
 pub returns-then-is_some-clause-turns : goal.returns-then-is_some-clause-turns
 returns-then-is_some-clause-turns g c =
@@ -54,10 +54,10 @@ go-preserved g c =
     let e : c.pass_packet.new.w.place.packet ≡ c.go.w.place.packet + 1 = ap (λ (q : Place). q.packet) c.pass_packet.ensures.place in
     let within = c.pass_packet.ensures.stands.within in
     let at = here_some c.args.capture.now.records c.go.w.place.packet c.go.next c.in-Some.here c.go.invariant.here c.in-Some.is in
-    let here = here_after c.args.capture.now.records c.go.w.place.packet c.pass_packet.new.w.place.packet c.in-Some.here c.following-next.result at.0 e c.following-next.ensures.record c.following-next.ensures.number in
+    let here = here_after c.args.capture.now.records c.go.w.place.packet c.pass_packet.new.w.place.packet c.in-Some.here c.following-behind.result at.0 e c.following-behind.ensures.record c.following-behind.ensures.number in
     let test : (is_limit c.args.limit (c.pass_packet.new.w.place.packet - c.args.w.now.place.packet) ≡ false) ⊎ (length c.args.capture.now.records < c.pass_packet.new.w.place.packet) =
     elim c.else-is_limit.branch [
-      | else-is_limit-via-then-is_limit+else-is_some w ↦ inr (let past = here_past c.args.capture.now.records c.pass_packet.new.w.place.packet c.following-next.result here (sym w.is_some.ensures ∙ w.if-is_some.false) in omega (arith, past, e))
+      | else-is_limit-via-then-is_limit+else-is_some w ↦ inr (let past = here_past c.args.capture.now.records c.pass_packet.new.w.place.packet c.following-behind.result here (sym w.is_some.ensures ∙ w.if-is_some.false) in omega (arith, past, e))
       | else-is_limit-via-else-is_limit w ↦ inl (sym c.is_limit.ensures ∙ w.if-is_limit.false)
     ] in
     record {
