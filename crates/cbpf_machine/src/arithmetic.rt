@@ -1,18 +1,7 @@
 ghost use Rattle.std.specs.Prelude.{◌≡◌};
 ghost use Rattle.cbpf_machine.specs.Step as spec;
 
-use cbpf_code::{AluOp, Cond, Src};
-
-/// The instruction's number, or the index register.
-#[inline(always)]
-pub(crate) fn operand(src: Src, k: u32, x: u32) -> u32
-    ensures { result ≡ spec.operand src k x }
-{
-    match src {
-        Src::K => k,
-        Src::X => x,
-    }
-}
+use cbpf_code::{AluOp, Cond};
 
 /// Arithmetic on the accumulator; `None` for a division by 0.
 #[inline(always)]
