@@ -1,7 +1,8 @@
 """Times the debugger at work: runs over a capture, stops with their dumps, steps back, and short commands.
 
 User and system time of whole processes, the least of several. Where tcpdump is on the PATH, it reads the
-same capture. Wants crates/cbpf built by `make build`.
+same capture; where cc and libpcap (libpcap-dev) are there, libpcap's bpf_filter runs over it. Wants
+crates/cbpf built by `make build`.
 """
 import pathlib
 import resource
@@ -42,6 +43,24 @@ def timed(command, script, rounds=5):
     return least
 
 
+def by_turns(ours, theirs, rounds=9):
+    """The times of both, called in turns: their medians, and the ratios of the medians and of the least."""
+    pairs = [(ours(), theirs()) for _ in range(rounds)]
+    ours, theirs = zip(*pairs)
+    ratio = statistics.median(ours) / statistics.median(theirs)
+    return statistics.median(ours), statistics.median(theirs), ratio, min(ours) / min(theirs)
+
+
+def bpf_filter(folder):
+    """The program that runs bpf_filter over a capture, where it can be built."""
+    if not shutil.which("cc"):
+        return None
+    made = subprocess.run(
+        ["cc", "-O2", top / "bench/filter_capture.c", "-o", folder / "filter_capture", "-lpcap"], capture_output=True
+    )
+    return folder / "filter_capture" if made.returncode == 0 else None
+
+
 def capture(path, packets, frame):
     record = struct.pack("<IIII", 1, 0, len(frame), len(frame)) + frame
     path.write_bytes(struct.pack("<IHHIIII", 0xA1B2C3D4, 2, 4, 0, 0, 65535, 1) + record * packets)
@@ -62,20 +81,36 @@ with tempfile.TemporaryDirectory() as name:
     empty = timed([cbpf], script("quit\n"))
     loading = timed([cbpf], script(f"load pcap {large}\n")) - empty
     print(f"load pcap: {loading / PACKETS * 1e9:.0f} ns a packet of 64 bytes")
+    libpcap = bpf_filter(folder)
     for what, words in [("ip proto 17", SIX), ("port 22", PORT)]:
         head = f"load bpf {words}\nload pcap {large}\n"
-        once = timed([cbpf], script(head + "run\n")) - empty
-        often = timed([cbpf], script(head + "run\n" * 10), 3) - empty
-        print(f"load and run, {what}: {once / PACKETS * 1e9:.0f} ns a packet; run alone: {(often - once) / 9 / PACKETS * 1e9:.0f}")
         listed = timed([cbpf], script(head + "stops\n"), 3) - empty
         print(f"stops, {what}, none: {(listed - loading) / PACKETS * 1e9:.0f} ns a packet")
+
+        def runs(times):
+            return timed([cbpf], script(head + "run\n" * times), 1)
+
         if shutil.which("tcpdump"):
-            ours, theirs = [], []
-            for _ in range(9):
-                ours.append(timed([cbpf], script(head + "run\n"), 1))
-                theirs.append(timed(["tcpdump", "-q", "-r", large, "-w", "/dev/null", what], script(""), 1))
-            ours, theirs = statistics.median(ours), statistics.median(theirs)
-            print(f"load and run by turns with tcpdump -r, {what}: {ours / theirs:.2f} times its {theirs / PACKETS * 1e9:.0f} ns a packet")
+            ours, theirs, ratio, least = by_turns(
+                lambda: runs(1), lambda: timed(["tcpdump", "-q", "-r", large, "-w", "/dev/null", what], "/dev/null", 1)
+            )
+            print(
+                f"load and run, {what}: {ours / PACKETS * 1e9:.0f} ns a packet, {ratio:.2f} times tcpdump -r"
+                f" ({least:.2f} of the least)"
+            )
+        if libpcap:
+            (folder / "words").write_text(words.replace(",", "\n") + "\n")
+
+            def filters(times):
+                return timed([libpcap, folder / "words", large, times], "/dev/null", 1)
+
+            ours, theirs, ratio, least = by_turns(
+                lambda: (runs(11) - runs(1)) / 10, lambda: (filters(11) - filters(1)) / 10
+            )
+            print(
+                f"run alone, {what}: {ours / PACKETS * 1e9:.0f} ns a packet, {ratio:.2f} times bpf_filter"
+                f" ({least:.2f} of the least)"
+            )
     head = f"load bpf {SIX}\nload pcap {large}\nbreakpoint 1\n"
     base = timed([cbpf], script(head), 3)
     spent = timed([cbpf], script(head + "run\n" * 10000), 3) - base
