@@ -20,3 +20,5 @@ mod refused_growth;
 mod scripts;
 #[cfg(test)]
 mod session_commands;
+#[cfg(test)]
+mod sources;
