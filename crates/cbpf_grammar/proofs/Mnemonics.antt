@@ -1,6 +1,7 @@
 -- The rows of a mnemonic, and that no two mnemonics have one word.
-use Rattle.std.proofs.Common.{◌≡◌, ℕ, zero, suc, ◌<◌, Bool, true, not, ◌&&◌, List, [], ◌∷◌, length, refl, arith, ap, sym, ◌∙◌, inl, inr, get_or, ltb-true}
-use Rattle.std.specs.Prelude.{Contains, nat_lt}
+use Rattle.std.proofs.Common.{◌≡◌, ℕ, zero, suc, ◌<◌, ◌≤◌, Bool, true, false, not, ◌&&◌, List, [], ◌∷◌, length, refl, arith, ap, sym, ◌∙◌, inl, inr, get_or, ltb-true}
+use Rattle.std.specs.Prelude.{Contains, nat_lt, nat_le}
+use Rattle.std.proofs.lemmas.Bool.Decides.{nat_tests}
 use Rattle.std.specs.List.{list_all}
 use Rattle.std.proofs.lemmas.List.{get_or_default}
 use Rattle.cbpf_grammar.specs.Lexemes.{same_bytes}
@@ -8,7 +9,7 @@ use Rattle.cbpf_grammar.specs.Fits.{is_one_of, mnemonic_words, is_reserved}
 use Rattle.cbpf_grammar.specs.Table.{Row, Mnemonic, mnemonics, table, rows_of, entry_rows}
 use Rattle.cbpf_grammar.proofs.Apart.{and_parts, same_bytes_refl, same_bytes_eq}
 use Rattle.cbpf_grammar.proofs.OneReading.{three}
-use Rattle.cbpf_grammar.proofs.Elements.{from_map, into_map, from_flat_map, into_flat_map, any_element}
+use Rattle.cbpf_grammar.proofs.Elements.{from_map, into_map, from_flat_map, into_flat_map, any_element, some_element}
 
 abbrev all_differ : List Mnemonic → Bool
 all_differ [] = true
@@ -21,6 +22,10 @@ words_differ = refl
 modes_given : list_all (λ (m : Mnemonic). nat_lt 0 (length m.entries)) mnemonics ≡ true
 unfolding mnemonics
 modes_given = refl
+
+words_short : list_all (λ (m : Mnemonic). nat_le (length m.word) 4) mnemonics ≡ true
+unfolding mnemonics
+words_short = refl
 
 list_all_at : (p : Mnemonic → Bool) (ms : List Mnemonic) (i : ℕ) (d : Mnemonic) → list_all p ms ≡ true → i < length ms → p (get_or ms i d) ≡ true
 list_all_at p [] i d e l = absurd (omega arith)
@@ -69,3 +74,17 @@ word_reserved w m p e = rw (same_bytes_eq w m.word e, word_known m p) refl
 
 pub word_listed : (w : List ℕ) (m : Mnemonic) → Contains mnemonics m → same_bytes w m.word ≡ true → is_one_of mnemonic_words w ≡ true
 word_listed w m p e = rw (same_bytes_eq w m.word e) (word_known m p)
+
+-- no mnemonic is longer than 4 bytes
+pub long_word : (w : List ℕ) → 4 < length w → is_one_of mnemonic_words w ≡ false
+long_word w h = by_test (is_one_of mnemonic_words w) refl
+  where
+    by_test : (t : Bool) → is_one_of mnemonic_words w ≡ t → t ≡ false
+    by_test false e = refl
+    by_test true e =
+        let s = some_element (λ v. same_bytes w v) mnemonic_words e in
+        let m = from_map (λ (n : Mnemonic). n.word) mnemonics s.0 s.1 in
+        let short : nat_le (length m.0.word) 4 ≡ true = rw m.1.2 at (list_all_at (λ (n : Mnemonic). nat_le (length n.word) 4) mnemonics m.1.0 m.0 words_short m.1.1) in
+        let same : length w ≡ length m.0.word = ap length (same_bytes_eq w s.0 s.2 ∙ sym m.2) in
+        let most : length m.0.word ≤ 4 = grind (arith, nat_tests) in
+        absurd (omega (arith, most, same))

@@ -25,6 +25,7 @@ pub struct Match {
 }
 
 /// Whether the tokens fit the whole operand.
+#[inline(always)]
 pub fn is_whole(found: &Match) -> bool
     ensures { IsTrue result ↔ (length found.now.row.operand.now ≡ found.now.len) }
 {
@@ -32,6 +33,7 @@ pub fn is_whole(found: &Match) -> bool
 }
 
 /// How many tokens at the front fit a form.
+#[inline(always)]
 fn common_len(form: &[Class], tokens: &[Lexeme<'_>]) -> usize
     ensures { result ≡ common_prefix_len (λ c t. fits (class_of c) (symbol_of t.symbol)) form.now tokens.now }
 {
@@ -43,6 +45,7 @@ fn common_len(form: &[Class], tokens: &[Lexeme<'_>]) -> usize
 }
 
 /// The row, by how many tokens fit its operand.
+#[inline(always)]
 fn match_row(row: Row, tokens: &[Lexeme<'_>]) -> Match
     ensures { IsBest (row_of row ∷ []) (map lexeme_of tokens.now) result }
 {
@@ -53,6 +56,7 @@ fn match_row(row: Row, tokens: &[Lexeme<'_>]) -> Match
 }
 
 /// The new one where more tokens fit it, or as many and it is whole.
+#[inline(always)]
 fn better(best: Match, new: Match) -> Match
     ensures { (rs ss : List tables.Row) (ts : List lexemes.Lexeme) → IsBest rs ts best → IsBest ss ts new → IsBest (rs ++ ss) ts result }
 {
@@ -64,6 +68,7 @@ fn better(best: Match, new: Match) -> Match
 }
 
 /// The row of an addressing mode's form.
+#[inline(always)]
 fn make_row(mnemonic: &Mnemonic, entry: &Entry, form: &'static [Class]) -> Row
     ensures { row_of result ≡ record { mnemonic = mnemonic.now.word.now; operand = map class_of form.now; op = entry.now.op; fields = entry.now.fields } }
 {
@@ -76,6 +81,7 @@ fn make_row(mnemonic: &Mnemonic, entry: &Entry, form: &'static [Class]) -> Row
 }
 
 /// The best form of an addressing mode.
+#[inline(always)]
 fn best_form(mnemonic: &Mnemonic, entry: &Entry, tokens: &[Lexeme<'_>]) -> Match
     ensures { IsBest (entry_rows mnemonic.now.word.now (entry_of entry.now)) (map lexeme_of tokens.now) result }
 {

@@ -13,11 +13,15 @@ use crate::mode::OPERAND_WORDS;
 use crate::table::{Mnemonic, mnemonics};
 use cbpf_code::ext_named;
 
+#[inline(always)]
 fn same_bytes(a: &[u8], b: &[u8]) -> bool
     ensures { result ≡ same_bytes a.now b.now }
 {
     a == b
 }
+
+/// The size of the longest mnemonic.
+const LONGEST: usize = 4;
 
 /// The mnemonic of this word.
 pub fn mnemonic_named(word: &[u8]) -> Option<&'static Mnemonic>
@@ -25,6 +29,9 @@ pub fn mnemonic_named(word: &[u8]) -> Option<&'static Mnemonic>
     ensures word { IfSome result (λ m. same_bytes word.now m.now.word.now ≡ true) }
     ensures none { IfNone result (is_one_of mnemonic_words word.now ≡ false) }
 {
+    if word.len() > LONGEST {
+        return None;
+    }
     for mnemonic in mnemonics() {
         if same_bytes(word, mnemonic.word) {
             return Some(mnemonic);
@@ -59,6 +66,7 @@ pub fn is_reserved(word: &[u8]) -> bool
 }
 
 /// Whether a token may stand at a place of a form.
+#[inline(always)]
 pub fn fits(class: Class, symbol: Symbol<'_>) -> bool
     ensures { result ≡ fits (class_of class) (symbol_of symbol.entry) }
 {
