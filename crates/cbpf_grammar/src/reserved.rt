@@ -10,7 +10,7 @@ ghost use Rattle.cbpf_grammar.specs.Views.{class_of, symbol_of, mnemonic_of};
 use crate::class::Class;
 use crate::lexeme::Symbol;
 use crate::mode::OPERAND_WORDS;
-use crate::table::{Mnemonic, mnemonics};
+use crate::table::{Mnemonic, mnemonics_from};
 use cbpf_code::ext_named;
 
 #[inline(always)]
@@ -29,10 +29,13 @@ pub fn mnemonic_named(word: &[u8]) -> Option<&'static Mnemonic>
     ensures word { IfSome result (λ m. same_bytes word.now m.now.word.now ≡ true) }
     ensures none { IfNone result (is_one_of mnemonic_words word.now ≡ false) }
 {
+    if word.is_empty() {
+        return None;
+    }
     if word.len() > LONGEST {
         return None;
     }
-    for mnemonic in mnemonics() {
+    for mnemonic in mnemonics_from(word[0]) {
         if same_bytes(word, mnemonic.word) {
             return Some(mnemonic);
         }
