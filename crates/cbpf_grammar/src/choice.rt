@@ -1,6 +1,6 @@
 //! The form of an instruction that its tokens go along farthest.
 
-ghost use Rattle.std.specs.Prelude.{◌≡◌, ◌<◌, ◌++◌, ◌∷◌, [], List, length, map, IsTrue, ◌↔◌};
+ghost use Rattle.std.specs.Prelude.{◌≡◌, ◌<◌, ◌++◌, ◌∷◌, [], false, List, length, map, Contains, IsTrue, ◌↔◌};
 ghost use Rattle.std.specs.List.{common_prefix_len};
 ghost use Rattle.cbpf_grammar.specs.declared.choice.Match.{Match};
 ghost use Rattle.cbpf_grammar.specs.Lexemes as lexemes;
@@ -80,17 +80,56 @@ fn make_row(mnemonic: &Mnemonic, entry: &Entry, form: &'static [Class]) -> Row
     }
 }
 
-/// The best form of an addressing mode.
+/// Whether the form may have more tokens that fit than the best row, or as many where these
+/// are all of it and not all of the row.
 #[inline(always)]
-fn best_form(mnemonic: &Mnemonic, entry: &Entry, tokens: &[Lexeme<'_>]) -> Match
-    ensures { IsBest (entry_rows mnemonic.now.word.now (entry_of entry.now)) (map lexeme_of tokens.now) result }
+fn may_be_better(best: &Match, form: &[Class], tokens: &[Lexeme<'_>]) -> bool
+    ensures { result ≡ false → (rs : List tables.Row) (row : tables.Row) → row.operand ≡ map class_of form.now → IsBest rs (map lexeme_of tokens.now) best.now → IsBest (rs ++ row ∷ []) (map lexeme_of tokens.now) best.now }
 {
-    let forms = forms(entry.mode);
-    let mut best = match_row(make_row(mnemonic, entry, forms[0]), tokens);
-    for i in 1..forms.len() {
-        best = better(best, match_row(make_row(mnemonic, entry, forms[i]), tokens));
+    let n = best.len;
+    if n < form.len() {
+        n < tokens.len() && fits(form[n], tokens[n].symbol)
+    } else {
+        n == form.len() && !is_whole(best)
+    }
+}
+
+/// The better one of a row and an addressing mode's form.
+#[inline(always)]
+fn better_form(
+    best: Match,
+    mnemonic: &Mnemonic,
+    entry: &Entry,
+    form: &'static [Class],
+    tokens: &[Lexeme<'_>],
+) -> Match
+    ensures { (rs : List tables.Row) → IsBest rs (map lexeme_of tokens.now) best → IsBest (rs ++ record { mnemonic = mnemonic.now.word.now; operand = map class_of form.now; op = entry.now.op; fields = entry.now.fields } ∷ []) (map lexeme_of tokens.now) result }
+{
+    if may_be_better(&best, form, tokens) {
+        better(best, match_row(make_row(mnemonic, entry, form), tokens))
+    } else {
+        best
+    }
+}
+
+/// The best one of a row and the forms of an addressing mode.
+#[inline(always)]
+fn better_mode(best: Match, mnemonic: &Mnemonic, entry: &Entry, tokens: &[Lexeme<'_>]) -> Match
+    ensures { (rs : List tables.Row) → IsBest rs (map lexeme_of tokens.now) best → IsBest (rs ++ entry_rows mnemonic.now.word.now (entry_of entry.now)) (map lexeme_of tokens.now) result }
+{
+    let mut best = best;
+    for form in forms(entry.mode) {
+        best = better_form(best, mnemonic, entry, form, tokens);
     }
     best
+}
+
+/// The first form of a mnemonic.
+#[inline(always)]
+fn first_form(mnemonic: &Mnemonic, entry: &Entry, tokens: &[Lexeme<'_>]) -> Match
+    ensures { (r : tables.Row) × Contains (entry_rows mnemonic.now.word.now (entry_of entry.now)) r × IsBest (r ∷ []) (map lexeme_of tokens.now) result }
+{
+    match_row(make_row(mnemonic, entry, forms(entry.mode)[0]), tokens)
 }
 
 /// The best form of a mnemonic.
@@ -99,9 +138,9 @@ pub fn best_row(mnemonic: &Mnemonic, tokens: &[Lexeme<'_>]) -> Match
     ensures { IsBest (rows_of (mnemonic_of mnemonic.now)) (map lexeme_of tokens.now) result }
 {
     let entries = mnemonic.entries;
-    let mut best = best_form(mnemonic, &entries[0], tokens);
-    for i in 1..entries.len() {
-        best = better(best, best_form(mnemonic, &entries[i], tokens));
+    let mut best = first_form(mnemonic, &entries[0], tokens);
+    for entry in entries {
+        best = better_mode(best, mnemonic, entry, tokens);
     }
     best
 }

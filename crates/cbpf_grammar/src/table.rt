@@ -216,26 +216,20 @@ static M_MNEMONICS: [Mnemonic; 2] = [
     },
 ];
 
-static D_MNEMONICS: [Mnemonic; 1] = [
-    Mnemonic {
-        word: b"div",
-        entries: alu!(Div),
-    },
-];
+static D_MNEMONICS: [Mnemonic; 1] = [Mnemonic {
+    word: b"div",
+    entries: alu!(Div),
+}];
 
-static O_MNEMONICS: [Mnemonic; 1] = [
-    Mnemonic {
-        word: b"or",
-        entries: alu!(Or),
-    },
-];
+static O_MNEMONICS: [Mnemonic; 1] = [Mnemonic {
+    word: b"or",
+    entries: alu!(Or),
+}];
 
-static X_MNEMONICS: [Mnemonic; 1] = [
-    Mnemonic {
-        word: b"xor",
-        entries: alu!(Xor),
-    },
-];
+static X_MNEMONICS: [Mnemonic; 1] = [Mnemonic {
+    word: b"xor",
+    entries: alu!(Xor),
+}];
 
 static R_MNEMONICS: [Mnemonic; 2] = [
     Mnemonic {
@@ -251,12 +245,10 @@ static R_MNEMONICS: [Mnemonic; 2] = [
     },
 ];
 
-static N_MNEMONICS: [Mnemonic; 1] = [
-    Mnemonic {
-        word: b"neg",
-        entries: &[entry!(Bare, Op::Neg, Constant)],
-    },
-];
+static N_MNEMONICS: [Mnemonic; 1] = [Mnemonic {
+    word: b"neg",
+    entries: &[entry!(Bare, Op::Neg, Constant)],
+}];
 
 static T_MNEMONICS: [Mnemonic; 2] = [
     Mnemonic {
