@@ -117,7 +117,7 @@ abbrev pub two_targets : Cond → List Entry
 two_targets c = entry (immediate · comma · label · comma · label) (Jump c src.K) Branch ∷ entry (x · comma · label · comma · label) (Jump c src.X) Branch ∷ []
 
 abbrev pub jump : Cond → List Entry
-jump c = one_target c Branch ++ two_targets c
+jump c = two_targets c ++ one_target c Branch
 
 abbrev pub alu : AluOp → List Entry
 alu op = entry immediate (Alu op src.K) Constant ∷ entry x (Alu op src.X) Constant ∷ []

@@ -63,13 +63,14 @@ macro_rules! one_target {
     };
 }
 
+// The longer forms stand first, so that a jump with two targets is found at its first form.
 macro_rules! jump {
     ($cond:ident) => {
         &[
-            entry!(ImmediateOne, Op::Jump(Cond::$cond, Src::K), Branch),
-            entry!(XOne, Op::Jump(Cond::$cond, Src::X), Branch),
             entry!(ImmediateTwo, Op::Jump(Cond::$cond, Src::K), Branch),
             entry!(XTwo, Op::Jump(Cond::$cond, Src::X), Branch),
+            entry!(ImmediateOne, Op::Jump(Cond::$cond, Src::K), Branch),
+            entry!(XOne, Op::Jump(Cond::$cond, Src::X), Branch),
         ]
     };
 }
