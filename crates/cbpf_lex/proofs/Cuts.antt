@@ -47,7 +47,7 @@ some-none o x e h = cc
 lt_cases : (m n : ℕ) → (m < n) ⊎ ((n < m) ⊎ (m ≡ n))
 lt_cases m n = grind arith
 
-some-same : {A : Type 0} (x y : A) → ◌≡◌ {A = Option A} (Some x) (Some y) → x ≡ y
+pub some-same : {A : Type 0} (x y : A) → ◌≡◌ {A = Option A} (Some x) (Some y) → x ≡ y
 some-same x y e = cc
 
 same_size : (fresh : Bool) (text : List ℕ) (p q : Piece) → IsNext fresh text p → IsNext fresh text q → p.size ≡ q.size

@@ -74,16 +74,16 @@ impl<'a> Lexer<'a> {
             if let Some(fault) = fault_of(piece.kind) {
                 return Err(LexFault::At(fault, line_of(text, at)));
             }
-            fresh = is_line_blank(fresh, &text[at..end]);
             if let PieceKind::Lexeme(kind) = piece.kind {
                 self.at = end;
-                self.fresh = fresh;
+                self.fresh = false;
                 return Ok(Some(Token {
                     kind,
                     start: at,
                     end,
                 }));
             }
+            fresh = is_line_blank(fresh, &text[at..end]);
             at = end;
         }
         self.at = at;

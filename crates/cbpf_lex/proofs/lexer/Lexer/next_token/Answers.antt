@@ -1,7 +1,8 @@
-use Rattle.std.proofs.Common.{arith, ◌≡◌, ◌+◌, ◌-◌, ◌∙◌, subst}
+use Rattle.std.proofs.Common.{arith, ◌≡◌, ◌+◌, ◌-◌, ◌∙◌, subst, sym}
 use Rattle.std.proofs.lemmas.List.{take_rest}
 use Rattle.cbpf_lex.specs.Pieces.{IsPieceAt}
 use Rattle.cbpf_lex.proofs.Cuts.{piece_at, piece_within, piece_some, blank_more, token_more, piece_more}
+use Rattle.cbpf_lex.proofs.Lines.{token_line}
 use Rattle.cbpf_lex.proofs.lexer.Lexer.next_token.Goals as goal
 
 pub returns-in-Some-clause-fault : goal.returns-in-Some-clause-fault
@@ -18,8 +19,7 @@ invariant_of-self-in-Lexeme c =
     let at = c.loop-at.at in
     let piece = c.next_piece-piece.result in
     let next : IsPieceAt text at piece = piece_at text at c.loop-at.fresh piece c.loop-at-test.true c.loop-at.invariant.fresh (rw (take_rest text (at + 1)) at c.next_piece-piece.ensures) in
-    let n : (c.loop-at.at + c.next_piece-piece.result.size) - c.loop-at.at ≡ c.next_piece-piece.result.size = omega arith in
-    rw c.loop-at.invariant.same (piece_within text at piece c.loop-at-test.true next, (rw (n, c.loop-at.invariant.fresh) at c.is_line_blank-fresh.ensures) ∙ blank_more text at piece.size)
+    rw c.loop-at.invariant.same (piece_within text at piece c.loop-at-test.true next, sym (token_line text at piece c.in-Lexeme.kind next c.in-Lexeme.is))
 
 pub returns-in-Lexeme-clause-token : goal.returns-in-Lexeme-clause-token
 returns-in-Lexeme-clause-token c =
