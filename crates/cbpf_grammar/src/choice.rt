@@ -1,12 +1,12 @@
 //! The form of an instruction that its tokens go along farthest.
 
-ghost use Rattle.std.specs.Prelude.{◌≡◌, ◌<◌, ◌++◌, ◌∷◌, [], false, List, length, map, Contains, IsTrue, ◌↔◌};
+ghost use Rattle.std.specs.Prelude.{◌≡◌, ◌<◌, ◌++◌, ◌∷◌, [], true, false, List, length, map, Contains, IsTrue, ◌↔◌};
 ghost use Rattle.std.specs.List.{common_prefix_len};
 ghost use Rattle.cbpf_grammar.specs.declared.choice.Match.{Match};
 ghost use Rattle.cbpf_grammar.specs.Lexemes as lexemes;
 ghost use Rattle.cbpf_grammar.specs.Table as tables;
-ghost use Rattle.cbpf_grammar.specs.Table.{entry_rows, rows_of};
-ghost use Rattle.cbpf_grammar.specs.Choice.{common, IsBest};
+ghost use Rattle.cbpf_grammar.specs.Table.{entry_rows, rows_of, mnemonics};
+ghost use Rattle.cbpf_grammar.specs.Choice.{common, IsBest, is_comma_at};
 ghost use Rattle.cbpf_grammar.specs.Fits.{fits};
 ghost use Rattle.cbpf_grammar.specs.Views.{class_of, symbol_of, lexeme_of, row_of, entry_of, mnemonic_of};
 
@@ -132,14 +132,36 @@ fn first_form(mnemonic: &Mnemonic, entry: &Entry, tokens: &[Lexeme<'_>]) -> Matc
     match_row(make_row(mnemonic, entry, forms(entry.mode)[0]), tokens)
 }
 
+/// Whether the token at a place is a comma.
+#[inline(always)]
+fn is_comma_at(tokens: &[Lexeme<'_>], at: usize) -> bool
+    ensures { result ≡ is_comma_at (map lexeme_of tokens.now) at }
+{
+    at < tokens.len() && fits(Class::Mark(b','), tokens[at].symbol)
+}
+
+/// Whether no other row of the table has as many tokens that fit: all of this row fits, and a
+/// longer one would go on with a comma.
+#[inline(always)]
+fn is_final(best: &Match, tokens: &[Lexeme<'_>]) -> bool
+    ensures whole { result ≡ true → length best.now.row.operand.now ≡ best.now.len }
+    ensures end { result ≡ true → is_comma_at (map lexeme_of tokens.now) best.now.len ≡ false }
+{
+    is_whole(best) && !is_comma_at(tokens, best.len)
+}
+
 /// The best form of a mnemonic.
 pub fn best_row(mnemonic: &Mnemonic, tokens: &[Lexeme<'_>]) -> Match
-    requires { 0 < length mnemonic.now.entries.now }
+    requires some { 0 < length mnemonic.now.entries.now }
+    requires known { Contains mnemonics (mnemonic_of mnemonic.now) }
     ensures { IsBest (rows_of (mnemonic_of mnemonic.now)) (map lexeme_of tokens.now) result }
 {
     let entries = mnemonic.entries;
     let mut best = first_form(mnemonic, &entries[0], tokens);
     for entry in entries {
+        if is_final(&best, tokens) {
+            return best;
+        }
         best = better_mode(best, mnemonic, entry, tokens);
     }
     best
