@@ -1,5 +1,5 @@
 // A program as word text.
-ghost use Rattle.std.specs.Prelude.{◌≤◌, ◌++◌, length, codes, decimal, All};
+ghost use Rattle.std.specs.Prelude.{◌≡◌, ◌≤◌, ◌<◌, ◌+◌, ◌++◌, ◌∷◌, drop, length, codes, decimal, All};
 ghost use Rattle.std.specs.List.{flat_map};
 ghost use Rattle.cbpf_code.specs.Writing.{Wrote};
 ghost use Rattle.cbpf_code.specs.WordText.{Spells};
@@ -7,7 +7,7 @@ ghost use Rattle.cbpf_code.specs.WordForm.{InRange, word_line, words};
 
 use crate::insn::Insn;
 use crate::writing::{WriteFault, write_bytes, write_parts};
-use itoa::Buffer;
+use itoa::{Buffer, write_digits};
 use std::io::Write;
 
 fn write_count<W: Write>(w: &mut W, count: usize) -> Result<(), WriteFault>
@@ -17,28 +17,31 @@ fn write_count<W: Write>(w: &mut W, count: usize) -> Result<(), WriteFault>
     write_parts(w, &[buffer.format(count).as_bytes(), b","])
 }
 
+/// The size of the longest line: 5, 3, 3 and 10 digits, and a byte behind each of the numbers.
+const LONGEST_LINE: usize = 25;
+
+/// Writes a number and the byte behind it before the place `end`, and tells where it begins.
+#[inline(always)]
+fn put_number(line: &mut [u8], end: usize, number: u64, behind: u8) -> usize
+    requires room { length (decimal number) < end }
+    requires within { end ≤ length line.old }
+    ensures begin { result + length (decimal number) + 1 ≡ end }
+    ensures bytes { drop result line.new ≡ decimal number ++ behind ∷ drop end line.old }
+{
+    line[end - 1] = behind;
+    write_digits(number, line, end - 1)
+}
+
+// The line is made from behind, and written by one call.
 fn write_word_line<W: Write>(w: &mut W, insn: Insn) -> Result<(), WriteFault>
     ensures { Wrote (W.contents w.old) (W.contents w.new) result (word_line insn) }
 {
-    let (mut code, mut jt, mut jf, mut k) = (
-        Buffer::new(),
-        Buffer::new(),
-        Buffer::new(),
-        Buffer::new(),
-    );
-    write_parts(
-        w,
-        &[
-            code.format(insn.code).as_bytes(),
-            b" ",
-            jt.format(insn.jt).as_bytes(),
-            b" ",
-            jf.format(insn.jf).as_bytes(),
-            b" ",
-            k.format(insn.k).as_bytes(),
-            b",",
-        ],
-    )
+    let mut line = [0; LONGEST_LINE];
+    let at = put_number(&mut line, LONGEST_LINE, insn.k as u64, b',');
+    let at = put_number(&mut line, at, insn.jf as u64, b' ');
+    let at = put_number(&mut line, at, insn.jt as u64, b' ');
+    let at = put_number(&mut line, at, insn.code as u64, b' ');
+    write_bytes(w, &line[at..])
 }
 
 #[tactic(auto, using(crate::proofs::WrittenLemmas::loops))]

@@ -5,6 +5,7 @@ pub mod Steps
 pub mod Elements
 pub mod Mnemonics
 pub mod Best
+pub mod Final
 pub mod Words
 pub mod Instructions
 pub mod Labels

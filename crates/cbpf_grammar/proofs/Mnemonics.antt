@@ -1,14 +1,15 @@
 -- The rows of a mnemonic, and that no two mnemonics have one word.
-use Rattle.std.proofs.Common.{◌≡◌, ℕ, zero, suc, ◌<◌, Bool, true, not, ◌&&◌, List, [], ◌∷◌, length, refl, arith, ap, sym, ◌∙◌, inl, inr, get_or, ltb-true}
-use Rattle.std.specs.Prelude.{Contains, nat_lt}
-use Rattle.std.specs.List.{list_all}
+use Rattle.std.proofs.Common.{◌≡◌, ℕ, zero, suc, ◌<◌, ◌≤◌, Bool, true, false, not, cond, map, ◌&&◌, ◌||◌, List, [], ◌∷◌, length, refl, arith, ap, sym, ◌∙◌, inl, inr, get_or, ltb-true}
+use Rattle.std.specs.Prelude.{Contains, nat_lt, nat_le}
+use Rattle.std.proofs.lemmas.Bool.Decides.{nat_tests}
+use Rattle.std.specs.List.{list_all, filter}
 use Rattle.std.proofs.lemmas.List.{get_or_default}
 use Rattle.cbpf_grammar.specs.Lexemes.{same_bytes}
 use Rattle.cbpf_grammar.specs.Fits.{is_one_of, mnemonic_words, is_reserved}
-use Rattle.cbpf_grammar.specs.Table.{Row, Mnemonic, mnemonics, table, rows_of, entry_rows}
+use Rattle.cbpf_grammar.specs.Table.{Row, Mnemonic, mnemonics, table, rows_of, entry_rows, begins_with, is_first}
 use Rattle.cbpf_grammar.proofs.Apart.{and_parts, same_bytes_refl, same_bytes_eq}
 use Rattle.cbpf_grammar.proofs.OneReading.{three}
-use Rattle.cbpf_grammar.proofs.Elements.{from_map, into_map, from_flat_map, into_flat_map, any_element}
+use Rattle.cbpf_grammar.proofs.Elements.{first_element, later_element, which_element, from_map, into_map, from_flat_map, into_flat_map, any_element, some_element}
 
 abbrev all_differ : List Mnemonic → Bool
 all_differ [] = true
@@ -21,6 +22,10 @@ words_differ = refl
 modes_given : list_all (λ (m : Mnemonic). nat_lt 0 (length m.entries)) mnemonics ≡ true
 unfolding mnemonics
 modes_given = refl
+
+words_short : list_all (λ (m : Mnemonic). nat_le (length m.word) 4) mnemonics ≡ true
+unfolding mnemonics
+words_short = refl
 
 list_all_at : (p : Mnemonic → Bool) (ms : List Mnemonic) (i : ℕ) (d : Mnemonic) → list_all p ms ≡ true → i < length ms → p (get_or ms i d) ≡ true
 list_all_at p [] i d e l = absurd (omega arith)
@@ -69,3 +74,49 @@ word_reserved w m p e = rw (same_bytes_eq w m.word e, word_known m p) refl
 
 pub word_listed : (w : List ℕ) (m : Mnemonic) → Contains mnemonics m → same_bytes w m.word ≡ true → is_one_of mnemonic_words w ≡ true
 word_listed w m p e = rw (same_bytes_eq w m.word e) (word_known m p)
+
+-- no mnemonic is longer than 4 bytes
+pub long_word : (w : List ℕ) → 4 < length w → is_one_of mnemonic_words w ≡ false
+long_word w h = by_test (is_one_of mnemonic_words w) refl
+  where
+    by_test : (t : Bool) → is_one_of mnemonic_words w ≡ t → t ≡ false
+    by_test false e = refl
+    by_test true e =
+        let s = some_element (λ v. same_bytes w v) mnemonic_words e in
+        let m = from_map (λ (n : Mnemonic). n.word) mnemonics s.0 s.1 in
+        let short : nat_le (length m.0.word) 4 ≡ true = rw m.1.2 at (list_all_at (λ (n : Mnemonic). nat_le (length n.word) 4) mnemonics m.1.0 m.0 words_short m.1.1) in
+        let same : length w ≡ length m.0.word = ap length (same_bytes_eq w s.0 s.2 ∙ sym m.2) in
+        let most : length m.0.word ≤ 4 = grind (arith, nat_tests) in
+        absurd (omega (arith, most, same))
+
+-- the empty word is no mnemonic
+pub no_word : (w : List ℕ) → length w ≡ 0 → is_one_of mnemonic_words w ≡ false
+unfolding mnemonics
+no_word [] e = refl
+no_word (b ∷ bs) e = absurd (omega (arith, e))
+
+-- the mnemonics that begin with a byte
+kept_known : (t : Bool) (n : Mnemonic) (ns ms : List Mnemonic) (m : Mnemonic) → (Contains ns m → Contains ms m) → Contains (cond t (n ∷ ns) ns) m → Contains (n ∷ ms) m
+kept_known true n ns ms m rest c = elim (which_element n ns m c) [ inl e ↦ rw e (first_element m ms) | inr d ↦ later_element n ms m (rest d) ]
+kept_known false n ns ms m rest c = later_element n ms m (rest c)
+
+pub from_known : (b : ℕ) (ms : List Mnemonic) (m : Mnemonic) → Contains (filter (begins_with b) ms) m → Contains ms m
+from_known b [] m c = c
+from_known b (n ∷ ms) m c = kept_known (begins_with b n) n (filter (begins_with b) ms) ms m (from_known b ms m) c
+
+differ_first : (b : ℕ) (bs w : List ℕ) → is_first b w ≡ false → same_bytes (b ∷ bs) w ≡ false
+differ_first b bs [] e = refl
+differ_first b bs (c ∷ cs) e = rw e refl
+
+kept_listed : (t : Bool) (w : List ℕ) (n : Mnemonic) (ns : List Mnemonic) (rest : Bool) → (t ≡ false → same_bytes w n.word ≡ false) → is_one_of (map (λ (m : Mnemonic). m.word) ns) w ≡ rest → is_one_of (map (λ (m : Mnemonic). m.word) (cond t (n ∷ ns) ns)) w ≡ (same_bytes w n.word || rest)
+kept_listed true w n ns rest other e = rw e refl
+kept_listed false w n ns rest other e = rw (other refl) e
+
+from_listed : (b : ℕ) (bs : List ℕ) (ms : List Mnemonic) → is_one_of (map (λ (m : Mnemonic). m.word) (filter (begins_with b) ms)) (b ∷ bs) ≡ is_one_of (map (λ (m : Mnemonic). m.word) ms) (b ∷ bs)
+from_listed b bs [] = refl
+from_listed b bs (n ∷ ms) = kept_listed (begins_with b n) (b ∷ bs) n (filter (begins_with b) ms) _ (differ_first b bs n.word) (from_listed b bs ms)
+
+-- a word that none of those that begin with its first byte is
+pub none_from : (w : List ℕ) (d : ℕ) → 0 < length w → is_one_of (map (λ (m : Mnemonic). m.word) (filter (begins_with (get_or w 0 d)) mnemonics)) w ≡ false → is_one_of mnemonic_words w ≡ false
+none_from [] d l e = absurd (omega arith)
+none_from (b ∷ bs) d l e = sym (from_listed b bs mnemonics) ∙ e

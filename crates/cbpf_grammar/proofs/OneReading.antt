@@ -45,7 +45,7 @@ Apart cs ds = (apart cs ds ≡ true) ⊎ (apart ds cs ≡ true)
 pub three : (m n : ℕ) → (m < n) ⊎ ((n < m) ⊎ (m ≡ n))
 three m n = grind arith
 
-rows_apart : (r s : Row) → Contains table r → Contains table s → (r ≡ s) ⊎ Apart (classes r) (classes s)
+pub rows_apart : (r s : Row) → Contains table r → Contains table s → (r ≡ s) ⊎ Apart (classes r) (classes s)
 rows_apart r s p q =
     elim (three p.0 q.0) [
       | inl l ↦ inr (inl (rw (p.2, get_or_default table q.0 r s q.1, q.2) at (apart_at table p.0 q.0 r table_apart l q.1)))

@@ -1,8 +1,9 @@
 -- Tokens as the grammar of the assembler sees them: words by their bytes, numbers by their values, marks. The tokens are those of the operands in the kernel's Documentation/networking/filter (BPF engine and instruction set).
-use Rattle.std.specs.Prelude.{ℕ, Bool, true, false, ◌&&◌, ◌==◌, List, [], ◌∷◌, map, slice_range}
+use Rattle.std.specs.Prelude.{◌≡◌, ℕ, Bool, true, false, ◌&&◌, ◌==◌, List, [], ◌∷◌, map, slice_range}
 use Rattle.cbpf_lex.specs.declared.token.Kind.{Kind}
 use Rattle.cbpf_lex.specs.declared.token.Kind.TheVariants as kinds
 use Rattle.cbpf_lex.specs.declared.token.Token.{Token}
+use Rattle.cbpf_lex.specs.Tokens.{Lexes}
 
 pub data Symbol : Type 0 where
   word : List ℕ → Symbol
@@ -31,3 +32,9 @@ token_lexeme text token = record { symbol = token_symbol (slice_range text token
 -- the tokens of a text
 abbrev pub lexemes_of : List ℕ → List Token → List Lexeme
 lexemes_of text tokens = map (token_lexeme text) tokens
+
+-- the text has these tokens
+pub record AreLexemes (text : List ℕ) (lexemes : List Lexeme) : Type 0 where
+  pub tokens : List Token
+  pub lexed : Lexes text tokens
+  pub are : lexemes ≡ lexemes_of text tokens

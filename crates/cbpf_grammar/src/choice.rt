@@ -1,12 +1,12 @@
 //! The form of an instruction that its tokens go along farthest.
 
-ghost use Rattle.std.specs.Prelude.{◌≡◌, ◌<◌, ◌++◌, ◌∷◌, [], List, length, map, IsTrue, ◌↔◌};
+ghost use Rattle.std.specs.Prelude.{◌≡◌, ◌<◌, ◌++◌, ◌∷◌, [], true, false, List, length, map, Contains, IsTrue, ◌↔◌};
 ghost use Rattle.std.specs.List.{common_prefix_len};
 ghost use Rattle.cbpf_grammar.specs.declared.choice.Match.{Match};
 ghost use Rattle.cbpf_grammar.specs.Lexemes as lexemes;
 ghost use Rattle.cbpf_grammar.specs.Table as tables;
-ghost use Rattle.cbpf_grammar.specs.Table.{entry_rows, rows_of};
-ghost use Rattle.cbpf_grammar.specs.Choice.{common, IsBest};
+ghost use Rattle.cbpf_grammar.specs.Table.{entry_rows, rows_of, mnemonics};
+ghost use Rattle.cbpf_grammar.specs.Choice.{common, IsBest, is_comma_at};
 ghost use Rattle.cbpf_grammar.specs.Fits.{fits};
 ghost use Rattle.cbpf_grammar.specs.Views.{class_of, symbol_of, lexeme_of, row_of, entry_of, mnemonic_of};
 
@@ -25,6 +25,7 @@ pub struct Match {
 }
 
 /// Whether the tokens fit the whole operand.
+#[inline(always)]
 pub fn is_whole(found: &Match) -> bool
     ensures { IsTrue result ↔ (length found.now.row.operand.now ≡ found.now.len) }
 {
@@ -32,6 +33,7 @@ pub fn is_whole(found: &Match) -> bool
 }
 
 /// How many tokens at the front fit a form.
+#[inline(always)]
 fn common_len(form: &[Class], tokens: &[Lexeme<'_>]) -> usize
     ensures { result ≡ common_prefix_len (λ c t. fits (class_of c) (symbol_of t.symbol)) form.now tokens.now }
 {
@@ -43,6 +45,7 @@ fn common_len(form: &[Class], tokens: &[Lexeme<'_>]) -> usize
 }
 
 /// The row, by how many tokens fit its operand.
+#[inline(always)]
 fn match_row(row: Row, tokens: &[Lexeme<'_>]) -> Match
     ensures { IsBest (row_of row ∷ []) (map lexeme_of tokens.now) result }
 {
@@ -53,6 +56,7 @@ fn match_row(row: Row, tokens: &[Lexeme<'_>]) -> Match
 }
 
 /// The new one where more tokens fit it, or as many and it is whole.
+#[inline(always)]
 fn better(best: Match, new: Match) -> Match
     ensures { (rs ss : List tables.Row) (ts : List lexemes.Lexeme) → IsBest rs ts best → IsBest ss ts new → IsBest (rs ++ ss) ts result }
 {
@@ -64,6 +68,7 @@ fn better(best: Match, new: Match) -> Match
 }
 
 /// The row of an addressing mode's form.
+#[inline(always)]
 fn make_row(mnemonic: &Mnemonic, entry: &Entry, form: &'static [Class]) -> Row
     ensures { row_of result ≡ record { mnemonic = mnemonic.now.word.now; operand = map class_of form.now; op = entry.now.op; fields = entry.now.fields } }
 {
@@ -75,27 +80,89 @@ fn make_row(mnemonic: &Mnemonic, entry: &Entry, form: &'static [Class]) -> Row
     }
 }
 
-/// The best form of an addressing mode.
-fn best_form(mnemonic: &Mnemonic, entry: &Entry, tokens: &[Lexeme<'_>]) -> Match
-    ensures { IsBest (entry_rows mnemonic.now.word.now (entry_of entry.now)) (map lexeme_of tokens.now) result }
+/// Whether the form may have more tokens that fit than the best row, or as many where these
+/// are all of it and not all of the row.
+#[inline(always)]
+fn may_be_better(best: &Match, form: &[Class], tokens: &[Lexeme<'_>]) -> bool
+    ensures { result ≡ false → (rs : List tables.Row) (row : tables.Row) → row.operand ≡ map class_of form.now → IsBest rs (map lexeme_of tokens.now) best.now → IsBest (rs ++ row ∷ []) (map lexeme_of tokens.now) best.now }
 {
-    let forms = forms(entry.mode);
-    let mut best = match_row(make_row(mnemonic, entry, forms[0]), tokens);
-    for i in 1..forms.len() {
-        best = better(best, match_row(make_row(mnemonic, entry, forms[i]), tokens));
+    let n = best.len;
+    if n < form.len() {
+        n < tokens.len() && fits(form[n], tokens[n].symbol)
+    } else {
+        n == form.len() && !is_whole(best)
+    }
+}
+
+/// The better one of a row and an addressing mode's form.
+#[inline(always)]
+fn better_form(
+    best: Match,
+    mnemonic: &Mnemonic,
+    entry: &Entry,
+    form: &'static [Class],
+    tokens: &[Lexeme<'_>],
+) -> Match
+    ensures { (rs : List tables.Row) → IsBest rs (map lexeme_of tokens.now) best → IsBest (rs ++ record { mnemonic = mnemonic.now.word.now; operand = map class_of form.now; op = entry.now.op; fields = entry.now.fields } ∷ []) (map lexeme_of tokens.now) result }
+{
+    if may_be_better(&best, form, tokens) {
+        better(best, match_row(make_row(mnemonic, entry, form), tokens))
+    } else {
+        best
+    }
+}
+
+/// The best one of a row and the forms of an addressing mode.
+#[inline(always)]
+fn better_mode(best: Match, mnemonic: &Mnemonic, entry: &Entry, tokens: &[Lexeme<'_>]) -> Match
+    ensures { (rs : List tables.Row) → IsBest rs (map lexeme_of tokens.now) best → IsBest (rs ++ entry_rows mnemonic.now.word.now (entry_of entry.now)) (map lexeme_of tokens.now) result }
+{
+    let mut best = best;
+    for form in forms(entry.mode) {
+        best = better_form(best, mnemonic, entry, form, tokens);
     }
     best
 }
 
+/// The first form of a mnemonic.
+#[inline(always)]
+fn first_form(mnemonic: &Mnemonic, entry: &Entry, tokens: &[Lexeme<'_>]) -> Match
+    ensures { (r : tables.Row) × Contains (entry_rows mnemonic.now.word.now (entry_of entry.now)) r × IsBest (r ∷ []) (map lexeme_of tokens.now) result }
+{
+    match_row(make_row(mnemonic, entry, forms(entry.mode)[0]), tokens)
+}
+
+/// Whether the token at a place is a comma.
+#[inline(always)]
+fn is_comma_at(tokens: &[Lexeme<'_>], at: usize) -> bool
+    ensures { result ≡ is_comma_at (map lexeme_of tokens.now) at }
+{
+    at < tokens.len() && fits(Class::Mark(b','), tokens[at].symbol)
+}
+
+/// Whether no other row of the table has as many tokens that fit: all of this row fits, and a
+/// longer one would go on with a comma.
+#[inline(always)]
+fn is_final(best: &Match, tokens: &[Lexeme<'_>]) -> bool
+    ensures whole { result ≡ true → length best.now.row.operand.now ≡ best.now.len }
+    ensures end { result ≡ true → is_comma_at (map lexeme_of tokens.now) best.now.len ≡ false }
+{
+    is_whole(best) && !is_comma_at(tokens, best.len)
+}
+
 /// The best form of a mnemonic.
 pub fn best_row(mnemonic: &Mnemonic, tokens: &[Lexeme<'_>]) -> Match
-    requires { 0 < length mnemonic.now.entries.now }
+    requires some { 0 < length mnemonic.now.entries.now }
+    requires known { Contains mnemonics (mnemonic_of mnemonic.now) }
     ensures { IsBest (rows_of (mnemonic_of mnemonic.now)) (map lexeme_of tokens.now) result }
 {
     let entries = mnemonic.entries;
-    let mut best = best_form(mnemonic, &entries[0], tokens);
-    for i in 1..entries.len() {
-        best = better(best, best_form(mnemonic, &entries[i], tokens));
+    let mut best = first_form(mnemonic, &entries[0], tokens);
+    for entry in entries {
+        if is_final(&best, tokens) {
+            return best;
+        }
+        best = better_mode(best, mnemonic, entry, tokens);
     }
     best
 }

@@ -39,8 +39,8 @@ fn labels_len(tokens: &[Lexeme<'_>]) -> usize
 {
     let mut n = 0;
     while n + 1 < tokens.len()
-        && fits(Class::Name, tokens[n].symbol)
         && fits(Class::Mark(b':'), tokens[n + 1].symbol)
+        && fits(Class::Name, tokens[n].symbol)
     {
         n += 2;
     }

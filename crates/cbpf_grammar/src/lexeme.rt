@@ -1,12 +1,12 @@
 //! Tokens as the grammar sees them.
 
-ghost use Rattle.std.specs.Prelude.{All, IfOk, map, ◌≡◌};
-ghost use Rattle.cbpf_lex.specs.Tokens.{IsSpanOf};
-ghost use Rattle.cbpf_grammar.specs.Lexemes.{token_lexeme, lexemes_of};
+ghost use Rattle.std.specs.Prelude.{IfOk, IfErr, map, ◌≡◌};
+ghost use Rattle.cbpf_lex.specs.Tokens.{IsSpanOf, IsLexFault};
+ghost use Rattle.cbpf_grammar.specs.Lexemes.{AreLexemes, token_lexeme};
 ghost use Rattle.cbpf_grammar.specs.Views.{lexeme_of};
 
-use cbpf_lex::{Kind, Token};
-use std::alloc::{AllocError, Allocator};
+use cbpf_lex::{Kind, LexFault, Lexer, Token};
+use std::alloc::Allocator;
 
 /// A token by what it says.
 #[derive(Clone, Copy, Debug)]
@@ -27,9 +27,9 @@ pub struct Lexeme<'a> {
 }
 
 /// What a token of the text says.
-fn read_token<'a>(text: &'a [u8], token: &Token) -> Lexeme<'a>
-    requires { IsSpanOf text.now token.now }
-    ensures { lexeme_of result ≡ token_lexeme text.now token.now }
+fn read_token(text: &[u8], token: Token) -> Lexeme<'_>
+    requires { IsSpanOf text.now token }
+    ensures { lexeme_of result ≡ token_lexeme text.now token }
 {
     let symbol = match token.kind {
         Kind::Word => Symbol::Word(&text[token.start..token.end]),
@@ -46,17 +46,15 @@ fn read_token<'a>(text: &'a [u8], token: &Token) -> Lexeme<'a>
 ///
 /// # Errors
 ///
-/// The allocator refused.
-pub fn lexemes<'a, A: Allocator>(
-    alloc: A,
-    text: &'a [u8],
-    tokens: &[Token],
-) -> Result<Vec<Lexeme<'a>, A>, AllocError>
-    requires { All (IsSpanOf text.now) tokens.now }
-    ensures { IfOk result (λ v. map lexeme_of v.items ≡ lexemes_of text.now tokens.now) }
+/// `At` tells the first bad piece of the text, and its line; `Memory` that the allocator
+/// refused, whatever the text is.
+pub fn lexemes<A: Allocator>(alloc: A, text: &[u8]) -> Result<Vec<Lexeme<'_>, A>, LexFault>
+    ensures read { IfOk result (λ v. AreLexemes text.now (map lexeme_of v.items)) }
+    ensures fault { IfErr result (IsLexFault text.now) }
 {
     let mut found = Vec::new(alloc);
-    for token in tokens {
+    let mut lexer = Lexer::new(text);
+    while let Some(token) = lexer.next_token()? {
         found.push(read_token(text, token))?;
     }
     Ok(found)

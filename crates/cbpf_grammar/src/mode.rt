@@ -209,6 +209,7 @@ static LENGTH_FORMS: [&[Class]; 2] = [&[Word(LEN)], &[Mark(b'#'), Word(LEN)]];
 static BARE_FORMS: [&[Class]; 1] = [&[]];
 
 /// The forms of a mode's operand, one for each choice of its options.
+#[inline]
 pub fn forms(mode: Mode) -> &'static [&'static [Class]]
     ensures forms { map (λ f. map class_of f.now) result.now ≡ mode_forms mode }
     ensures some { 0 < length result.now }

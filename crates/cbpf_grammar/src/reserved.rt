@@ -10,14 +10,18 @@ ghost use Rattle.cbpf_grammar.specs.Views.{class_of, symbol_of, mnemonic_of};
 use crate::class::Class;
 use crate::lexeme::Symbol;
 use crate::mode::OPERAND_WORDS;
-use crate::table::{Mnemonic, mnemonics};
+use crate::table::{Mnemonic, mnemonics_from};
 use cbpf_code::ext_named;
 
+#[inline(always)]
 fn same_bytes(a: &[u8], b: &[u8]) -> bool
     ensures { result ≡ same_bytes a.now b.now }
 {
     a == b
 }
+
+/// The size of the longest mnemonic.
+const LONGEST: usize = 4;
 
 /// The mnemonic of this word.
 pub fn mnemonic_named(word: &[u8]) -> Option<&'static Mnemonic>
@@ -25,7 +29,13 @@ pub fn mnemonic_named(word: &[u8]) -> Option<&'static Mnemonic>
     ensures word { IfSome result (λ m. same_bytes word.now m.now.word.now ≡ true) }
     ensures none { IfNone result (is_one_of mnemonic_words word.now ≡ false) }
 {
-    for mnemonic in mnemonics() {
+    if word.is_empty() {
+        return None;
+    }
+    if word.len() > LONGEST {
+        return None;
+    }
+    for mnemonic in mnemonics_from(word[0]) {
         if same_bytes(word, mnemonic.word) {
             return Some(mnemonic);
         }
@@ -59,6 +69,7 @@ pub fn is_reserved(word: &[u8]) -> bool
 }
 
 /// Whether a token may stand at a place of a form.
+#[inline(always)]
 pub fn fits(class: Class, symbol: Symbol<'_>) -> bool
     ensures { result ≡ fits (class_of class) (symbol_of symbol.entry) }
 {

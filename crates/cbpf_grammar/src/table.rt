@@ -1,7 +1,8 @@
 //! The mnemonics, each with its addressing modes and operations.
 
 ghost use Rattle.std.specs.Prelude.{◌≡◌, map};
-ghost use Rattle.cbpf_grammar.specs.Table.{mnemonics};
+ghost use Rattle.std.specs.List.{filter};
+ghost use Rattle.cbpf_grammar.specs.Table.{mnemonics, begins_with};
 ghost use Rattle.cbpf_grammar.specs.Views.{mnemonic_of};
 
 use crate::mode::Mode;
@@ -62,13 +63,14 @@ macro_rules! one_target {
     };
 }
 
+// The longer forms stand first, so that a jump with two targets is found at its first form.
 macro_rules! jump {
     ($cond:ident) => {
         &[
-            entry!(ImmediateOne, Op::Jump(Cond::$cond, Src::K), Branch),
-            entry!(XOne, Op::Jump(Cond::$cond, Src::X), Branch),
             entry!(ImmediateTwo, Op::Jump(Cond::$cond, Src::K), Branch),
             entry!(XTwo, Op::Jump(Cond::$cond, Src::X), Branch),
+            entry!(ImmediateOne, Op::Jump(Cond::$cond, Src::K), Branch),
+            entry!(XOne, Op::Jump(Cond::$cond, Src::X), Branch),
         ]
     };
 }
@@ -82,7 +84,7 @@ macro_rules! alu {
     };
 }
 
-static MNEMONICS: [Mnemonic; 33] = [
+static L_MNEMONICS: [Mnemonic; 8] = [
     Mnemonic {
         word: b"ld",
         entries: &[
@@ -130,6 +132,13 @@ static MNEMONICS: [Mnemonic; 33] = [
         entries: &[entry!(Header, Op::LdxMsh, Constant)],
     },
     Mnemonic {
+        word: b"lsh",
+        entries: alu!(Lsh),
+    },
+];
+
+static S_MNEMONICS: [Mnemonic; 3] = [
+    Mnemonic {
         word: b"st",
         entries: &[entry!(Memory, Op::St, Constant)],
     },
@@ -137,6 +146,13 @@ static MNEMONICS: [Mnemonic; 33] = [
         word: b"stx",
         entries: &[entry!(Memory, Op::Stx, Constant)],
     },
+    Mnemonic {
+        word: b"sub",
+        entries: alu!(Sub),
+    },
+];
+
+static J_MNEMONICS: [Mnemonic; 10] = [
     Mnemonic {
         word: b"jmp",
         entries: &[entry!(Label, Op::Ja, Goto)],
@@ -177,57 +193,49 @@ static MNEMONICS: [Mnemonic; 33] = [
         word: b"jle",
         entries: one_target!(Gt),
     },
+];
+
+static A_MNEMONICS: [Mnemonic; 2] = [
     Mnemonic {
         word: b"add",
         entries: alu!(Add),
     },
     Mnemonic {
-        word: b"sub",
-        entries: alu!(Sub),
+        word: b"and",
+        entries: alu!(And),
     },
+];
+
+static M_MNEMONICS: [Mnemonic; 2] = [
     Mnemonic {
         word: b"mul",
         entries: alu!(Mul),
     },
     Mnemonic {
-        word: b"div",
-        entries: alu!(Div),
-    },
-    Mnemonic {
         word: b"mod",
         entries: alu!(Mod),
     },
-    Mnemonic {
-        word: b"and",
-        entries: alu!(And),
-    },
-    Mnemonic {
-        word: b"or",
-        entries: alu!(Or),
-    },
-    Mnemonic {
-        word: b"xor",
-        entries: alu!(Xor),
-    },
-    Mnemonic {
-        word: b"lsh",
-        entries: alu!(Lsh),
-    },
+];
+
+static D_MNEMONICS: [Mnemonic; 1] = [Mnemonic {
+    word: b"div",
+    entries: alu!(Div),
+}];
+
+static O_MNEMONICS: [Mnemonic; 1] = [Mnemonic {
+    word: b"or",
+    entries: alu!(Or),
+}];
+
+static X_MNEMONICS: [Mnemonic; 1] = [Mnemonic {
+    word: b"xor",
+    entries: alu!(Xor),
+}];
+
+static R_MNEMONICS: [Mnemonic; 2] = [
     Mnemonic {
         word: b"rsh",
         entries: alu!(Rsh),
-    },
-    Mnemonic {
-        word: b"neg",
-        entries: &[entry!(Bare, Op::Neg, Constant)],
-    },
-    Mnemonic {
-        word: b"tax",
-        entries: &[entry!(Bare, Op::Tax, Constant)],
-    },
-    Mnemonic {
-        word: b"txa",
-        entries: &[entry!(Bare, Op::Txa, Constant)],
     },
     Mnemonic {
         word: b"ret",
@@ -238,10 +246,40 @@ static MNEMONICS: [Mnemonic; 33] = [
     },
 ];
 
-/// The table of instructions.
+static N_MNEMONICS: [Mnemonic; 1] = [Mnemonic {
+    word: b"neg",
+    entries: &[entry!(Bare, Op::Neg, Constant)],
+}];
+
+static T_MNEMONICS: [Mnemonic; 2] = [
+    Mnemonic {
+        word: b"tax",
+        entries: &[entry!(Bare, Op::Tax, Constant)],
+    },
+    Mnemonic {
+        word: b"txa",
+        entries: &[entry!(Bare, Op::Txa, Constant)],
+    },
+];
+
+/// The mnemonics whose word begins with a byte.
+#[inline]
 #[tactic(auto, unfolding(crate::specs::Table::mnemonics))]
-pub fn mnemonics() -> &'static [Mnemonic]
-    ensures { map mnemonic_of result.now ≡ mnemonics }
+pub fn mnemonics_from(first: u8) -> &'static [Mnemonic]
+    ensures { map mnemonic_of result.now ≡ filter (begins_with first) mnemonics }
 {
-    &MNEMONICS
+    match first {
+        b'l' => &L_MNEMONICS,
+        b's' => &S_MNEMONICS,
+        b'j' => &J_MNEMONICS,
+        b'a' => &A_MNEMONICS,
+        b'm' => &M_MNEMONICS,
+        b'd' => &D_MNEMONICS,
+        b'o' => &O_MNEMONICS,
+        b'x' => &X_MNEMONICS,
+        b'r' => &R_MNEMONICS,
+        b'n' => &N_MNEMONICS,
+        b't' => &T_MNEMONICS,
+        _ => &[],
+    }
 }

@@ -2,7 +2,6 @@
 
 use crate::{Fields, ParseFault, lexemes, parse};
 use cbpf_code::code_of;
-use cbpf_lex::tokens;
 use std::alloc::Global;
 use std::process::Abort;
 
@@ -15,11 +14,7 @@ fn check_item(
     code: u16,
     fields: Fields,
 ) {
-    let Ok(found) = tokens(alloc, source) else {
-        assert!(rt; false, "row {row}");
-        return;
-    };
-    let Ok(read) = lexemes(alloc, source, found.as_slice()) else {
+    let Ok(read) = lexemes(alloc, source) else {
         assert!(rt; false, "row {row}");
         return;
     };
@@ -35,11 +30,7 @@ fn check_item(
 
 /// The source is so many items.
 fn check_count(rt: &impl Abort, alloc: Global, row: usize, source: &[u8], count: usize) {
-    let Ok(found) = tokens(alloc, source) else {
-        assert!(rt; false, "row {row}");
-        return;
-    };
-    let Ok(read) = lexemes(alloc, source, found.as_slice()) else {
+    let Ok(read) = lexemes(alloc, source) else {
         assert!(rt; false, "row {row}");
         return;
     };
@@ -50,11 +41,7 @@ fn check_count(rt: &impl Abort, alloc: Global, row: usize, source: &[u8], count:
 }
 
 fn check_fault(rt: &impl Abort, alloc: Global, row: usize, source: &[u8], fault: ParseFault) {
-    let Ok(found) = tokens(alloc, source) else {
-        assert!(rt; false, "row {row}");
-        return;
-    };
-    let Ok(read) = lexemes(alloc, source, found.as_slice()) else {
+    let Ok(read) = lexemes(alloc, source) else {
         assert!(rt; false, "row {row}");
         return;
     };

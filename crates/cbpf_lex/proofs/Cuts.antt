@@ -1,5 +1,5 @@
 -- Cuts of a text: one more piece, and that there is only one.
-use Rattle.std.proofs.Common.{◌≡◌, ℕ, zero, suc, ◌+◌, ◌<◌, ◌≤◌, Bool, true, false, ◌&&◌, List, [], ◌∷◌, ◌++◌, length, take, drop, refl, ap, sym, ◌∙◌, arith, Option, Some, None, append_assoc, append-nil, ◌⊎◌, inl, inr, get_or, length-drop, ◌||◌}
+use Rattle.std.proofs.Common.{◌≡◌, ◌≢◌, ℕ, zero, suc, ◌+◌, ◌<◌, ◌≤◌, Bool, true, false, ◌&&◌, List, [], ◌∷◌, ◌++◌, length, take, drop, refl, ap, sym, ◌∙◌, arith, Option, Some, None, append_assoc, append-nil, ◌⊎◌, inl, inr, get_or, length-drop, ◌||◌}
 use Rattle.std.specs.Prelude.{◌==◌}
 use Rattle.cbpf_lex.specs.Bytes.{is_blank}
 use Rattle.std.proofs.lemmas.List.{drop_all, drop_more}
@@ -8,11 +8,13 @@ use Rattle.std.proofs.lemmas.List.Sums.{fold-append}
 use Rattle.cbpf_lex.specs.declared.piece.PieceKind.{PieceKind}
 use Rattle.cbpf_lex.specs.declared.piece.Piece.{Piece}
 use Rattle.cbpf_lex.specs.declared.token.Token.{Token}
+use Rattle.cbpf_lex.specs.declared.token.Kind.{Kind}
 use Rattle.cbpf_lex.specs.Pieces.{IsNext, IsPieceAt, IsCut, is_line_blank}
-use Rattle.cbpf_lex.specs.Tokens.{LexesTo, IsSpanOf, tokens_of, token_of, is_good}
+use Rattle.cbpf_lex.specs.declared.token.LexFault.{LexFault}
+use Rattle.cbpf_lex.specs.declared.token.LexFault.TheVariants.{Memory, At}
+use Rattle.cbpf_lex.specs.Tokens.{LexesTo, IsLexFault, tokens_of, token_of, is_good}
+use Rattle.cbpf_lex.specs.Reading.{IsNextFault}
 use Rattle.cbpf_lex.specs.declared.piece.PieceKind.TheVariants.{Blanks, Comment, Lexeme, Bad}
-use Rattle.std.specs.Prelude.{All}
-use Rattle.std.proofs.lemmas.List.Elements.{All-append, All-nil, All-push}
 
 IsCut-snoc : (text : List ℕ) (at : ℕ) (ps : List Piece) (to : ℕ) (p : Piece) → IsCut text at ps to → IsPieceAt text to p → IsCut text at (ps ++ p ∷ []) (to + p.size)
 IsCut-snoc text at [] to p e next = (rw e next, ap (λ x. x + p.size) e)
@@ -45,7 +47,7 @@ some-none o x e h = cc
 lt_cases : (m n : ℕ) → (m < n) ⊎ ((n < m) ⊎ (m ≡ n))
 lt_cases m n = grind arith
 
-some-same : {A : Type 0} (x y : A) → ◌≡◌ {A = Option A} (Some x) (Some y) → x ≡ y
+pub some-same : {A : Type 0} (x y : A) → ◌≡◌ {A = Option A} (Some x) (Some y) → x ≡ y
 some-same x y e = cc
 
 same_size : (fresh : Bool) (text : List ℕ) (p q : Piece) → IsNext fresh text p → IsNext fresh text q → p.size ≡ q.size
@@ -101,12 +103,24 @@ zero_or n = grind arith
 pub piece_some : (text : List ℕ) (at : ℕ) (p : Piece) → IsPieceAt text at p → 0 < p.size
 piece_some text at p next = elim (zero_or p.size) [ inl e ↦ some-none _ _ (rw e at next.kind) refl | inr l ↦ l ]
 
--- the tokens' places behind one more piece
-pub spans_more : (text : List ℕ) (kind : PieceKind) (at to : ℕ) (tokens : List Token) → All (IsSpanOf text) tokens → at ≤ to → to ≤ length text → All (IsSpanOf text) (tokens ++ token_of kind at to)
-spans_more text kind at to tokens all l m = All-append (IsSpanOf text) tokens (token_of kind at to) all (one kind)
+-- the tokens behind one more piece that is a token, or none
+pub token_more : (text : List ℕ) (from at : ℕ) (p : Piece) (kind : Kind) → ((ts : List Token) → LexesTo text from ts → LexesTo text at ts) → IsPieceAt text at p → p.kind ≡ Lexeme kind
+    → (ts : List Token) → LexesTo text from ts → LexesTo text (at + p.size) (ts ++ record { kind = kind; start = at; end = at + p.size } ∷ [])
+token_more text from at p kind more next e ts lexed = rw e at (LexesTo-more text at ts p (more ts lexed) next (rw e refl))
+
+pub piece_more : (text : List ℕ) (from at : ℕ) (p : Piece) → ((ts : List Token) → LexesTo text from ts → LexesTo text at ts) → IsPieceAt text at p → is_good p.kind ≡ true → ((kind : Kind) → p.kind ≢ Lexeme kind)
+    → (ts : List Token) → LexesTo text from ts → LexesTo text (at + p.size) ts
+piece_more text from at p more next good other ts lexed =
+    let none : token_of p.kind at (at + p.size) ≡ [] = no_token p.kind at (at + p.size) other in
+    rw (none, append-nil) at (LexesTo-more text at ts p (more ts lexed) next good)
   where
-    one : (kind : PieceKind) → All (IsSpanOf text) (token_of kind at to)
-    one Blanks = All-nil (IsSpanOf text)
-    one Comment = All-nil (IsSpanOf text)
-    one (Lexeme k) = All-push (IsSpanOf text) [] (record { kind = k; start = at; end = to }) (All-nil (IsSpanOf text)) (l, m)
-    one (Bad f) = All-nil (IsSpanOf text)
+    no_token : (kind : PieceKind) (at to : ℕ) → ((k : Kind) → kind ≢ Lexeme k) → token_of kind at to ≡ []
+    no_token Blanks at to other = refl
+    no_token Comment at to other = refl
+    no_token (Lexeme k) at to other = absurd (other k refl)
+    no_token (Bad f) at to other = refl
+
+-- the fault behind the tokens that were taken is the text's
+pub text_fault : (text : List ℕ) (at : ℕ) (ts : List Token) (fault : LexFault) → LexesTo text at ts → IsNextFault text at fault → IsLexFault text fault
+text_fault text at ts Memory lexed next = tt
+text_fault text at ts (At bad line) lexed next = next ts lexed

@@ -2,3 +2,4 @@ pub mod Runs
 pub mod Cuts
 pub mod Spelled
 pub mod Outcomes
+pub mod Lines

@@ -3,3 +3,4 @@ pub mod Numbers
 pub mod Pieces
 pub mod Tokens
 pub mod Laws
+pub mod Reading

@@ -77,12 +77,19 @@ pub fn line_len(text: &[u8]) -> usize
 }
 
 /// Whether the last line has only blanks, where `blank` says so of it before these bytes.
+// It looks from behind, where the last byte tells it for all tokens.
 pub fn is_line_blank(blank: bool, bytes: &[u8]) -> bool
     ensures { result ≡ fold (λ blank b. b == 10 || (blank && is_blank b)) blank bytes.now }
 {
-    let mut blank = blank;
-    for b in bytes {
-        blank = *b == b'\n' || (blank && is_blank(*b));
+    let mut n = bytes.len();
+    while n > 0 {
+        n -= 1;
+        if bytes[n] == b'\n' {
+            return true;
+        }
+        if !is_blank(bytes[n]) {
+            return false;
+        }
     }
     blank
 }

@@ -1,12 +1,14 @@
 //! The tokens of a text.
 
-ghost use Rattle.std.specs.Prelude.{OnOk, ◌++◌, ◌≡◌, ◌≤◌, length, IfOk, IfErr, All};
-ghost use Rattle.cbpf_lex.specs.Tokens.{Lexes, IsLexFault, IsSpanOf, line_of, token_of};
+ghost use Rattle.std.specs.Prelude.{◌≡◌, ◌≤◌, length, IfOk, IfErr, IfSome, IfNone, All};
+ghost use Rattle.cbpf_lex.specs.Tokens.{Lexes, IsLexFault, IsSpanOf, line_of};
+ghost use Rattle.cbpf_lex.specs.Reading.{IsNextToken, HasNoMore, IsNextFault};
 
 use crate::bytes::is_line_blank;
 use crate::piece::{PieceKind, fault_of, next_piece};
 use crate::token::{LexFault, Token};
-use std::alloc::{AllocFailed, Allocator};
+use std::alloc::Allocator;
+use std::marker::Model;
 
 /// The line of the byte at a place, counted from 1. A line ends at each newline byte.
 pub fn line_of(text: &[u8], at: usize) -> u64
@@ -16,19 +18,78 @@ pub fn line_of(text: &[u8], at: usize) -> u64
     text[..at].iter().filter(|b| **b == b'\n').count() as u64 + 1
 }
 
-/// Adds the token of a piece with this span, if it is one.
-fn push_token<A: Allocator>(
-    found: &mut Vec<Token, A>,
-    kind: PieceKind,
-    start: usize,
-    end: usize,
-) -> Result<(), AllocFailed<Token>>
-    ensures { OnOk result (found.new.items ≡ found.old.items ++ token_of kind start end) }
-{
-    if let PieceKind::Lexeme(kind) = kind {
-        found.push(Token { kind, start, end })?;
+/// A source text, and how far its tokens were taken.
+#[derive(Debug, Drop)]
+pub struct Lexer<'a> {
+    text: &'a [u8],
+    /// Where the next piece begins.
+    at: usize,
+    /// Whether only blanks stand before it on its line.
+    fresh: bool,
+}
+
+impl<'a> Model for Lexer<'a> {
+    ghost use Rattle.std.specs.Prelude.{◌≡◌, ◌≤◌, length, take};
+    ghost use Rattle.cbpf_lex.specs.Pieces.{is_line_blank};
+    ghost use Rattle.cbpf_lex.specs.Reading.{Reading};
+
+    ghost Value = { Reading };
+
+    ghost view = { λ l. record { text = l.text.now; at = l.at } };
+
+    ghost invariant = { λ l. (l.at ≤ length l.text.now) × (l.fresh ≡ is_line_blank (take l.at l.text.now)) };
+}
+
+impl<'a> Lexer<'a> {
+    /// A text of which no token was taken.
+    pub fn new(text: &'a [u8]) -> Self
+        ensures { result ≡ record { text = text.now; at = 0 } }
+    {
+        Lexer {
+            text,
+            at: 0,
+            fresh: true,
+        }
     }
-    Ok(())
+
+    /// The next token, as `tokens` would list it, or `None` at the text's end.
+    ///
+    /// # Errors
+    ///
+    /// `At` tells that a bad piece comes before the next token, and its line. The lexer then
+    /// stays where it was.
+    pub fn next_token(&mut self) -> Result<Option<Token>, LexFault>
+        ensures text { self.new.text ≡ self.old.text }
+        ensures token { IfOk result (λ next. IfSome next (IsNextToken self.old.text self.old.at self.new.at)) }
+        ensures end { IfOk result (λ next. IfNone next (HasNoMore self.old.text self.old.at)) }
+        ensures fault { IfErr result (IsNextFault self.old.text self.old.at) }
+        ensures stays { IfErr result (λ _. self.new ≡ self.old) }
+    {
+        let text = self.text;
+        let mut at = self.at;
+        let mut fresh = self.fresh;
+        while at < text.len() {
+            let piece = next_piece(fresh, text[at], &text[at + 1..]);
+            let end = at + piece.size;
+            if let Some(fault) = fault_of(piece.kind) {
+                return Err(LexFault::At(fault, line_of(text, at)));
+            }
+            if let PieceKind::Lexeme(kind) = piece.kind {
+                self.at = end;
+                self.fresh = false;
+                return Ok(Some(Token {
+                    kind,
+                    start: at,
+                    end,
+                }));
+            }
+            fresh = is_line_blank(fresh, &text[at..end]);
+            at = end;
+        }
+        self.at = at;
+        self.fresh = fresh;
+        Ok(None)
+    }
 }
 
 /// The tokens of a source text, in order.
@@ -48,17 +109,9 @@ pub fn tokens<A: Allocator>(alloc: A, text: &[u8]) -> Result<Vec<Token, A>, LexF
     ensures fault { IfErr result (IsLexFault text.now) }
 {
     let mut found = Vec::new(alloc);
-    let mut at = 0;
-    let mut fresh = true;
-    while at < text.len() {
-        let piece = next_piece(fresh, text[at], &text[at + 1..]);
-        let end = at + piece.size;
-        if let Some(fault) = fault_of(piece.kind) {
-            return Err(LexFault::At(fault, line_of(text, at)));
-        }
-        push_token(&mut found, piece.kind, at, end)?;
-        fresh = is_line_blank(fresh, &text[at..end]);
-        at = end;
+    let mut lexer = Lexer::new(text);
+    while let Some(token) = lexer.next_token()? {
+        found.push(token)?;
     }
     Ok(found)
 }

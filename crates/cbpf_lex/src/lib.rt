@@ -15,5 +15,5 @@ mod tests;
 mod token;
 
 pub use law::{one_cut, one_outcome};
-pub use lexer::{line_of, tokens};
+pub use lexer::{Lexer, line_of, tokens};
 pub use token::{BadPiece, Kind, LexFault, Token};

@@ -11,7 +11,7 @@ use crate::encode::encode_all;
 use crate::fault::{AsmFault, AsmKind};
 use crate::labels::label_table;
 use crate::refusal::Refusal;
-use crate::source::{line_of, tokens};
+use crate::source::{lex_refusal, line_of};
 use cbpf_code::Insn;
 use cbpf_grammar::{Item, Lexeme, ParseFault, lexemes, parse};
 use std::alloc::Allocator;
@@ -91,11 +91,11 @@ pub fn assemble<A: Allocator + Copy>(alloc: A, text: &[u8]) -> Result<Vec<Insn, 
     ensures assembled { IfOk result (λ v. Assembles text.now v.items) }
     ensures refused { IfErr result (IsRefused text.now) }
 {
-    let tokens = tokens(alloc, text)?;
-    let Ok(words) = lexemes(alloc, text, &tokens) else {
-        return Err(AsmFault::Memory);
+    let tokens = match lexemes(alloc, text) {
+        Ok(tokens) => tokens,
+        Err(fault) => return Err(lex_refusal(fault)),
     };
-    match assemble_tokens(alloc, &words) {
+    match assemble_tokens(alloc, &tokens) {
         Ok(insns) => Ok(insns),
         Err(refusal) => Err(fault_of(text, refusal)),
     }

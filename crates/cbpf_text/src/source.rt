@@ -1,7 +1,7 @@
 //! The tokens of a source text, and what is told of one that has none.
 
-ghost use Rattle.std.specs.Prelude.{◌≡◌, IfOk, IfErr, All};
-ghost use Rattle.cbpf_lex.specs.Tokens.{Lexes, IsSpanOf, line_of};
+ghost use Rattle.std.specs.Prelude.{◌≡◌, ℕ, List, IfOk, IfErr, All};
+ghost use Rattle.cbpf_lex.specs.Tokens.{Lexes, IsLexFault, IsSpanOf, line_of};
 ghost use Rattle.cbpf_text.specs.Refusals.{IsLexRefused, piece_kind};
 
 use crate::fault::{AsmFault, AsmKind};
@@ -15,6 +15,16 @@ fn piece_kind(bad: BadPiece) -> AsmKind
         BadPiece::NoToken => AsmKind::NoToken,
         BadPiece::OpenComment => AsmKind::OpenComment,
         BadPiece::LargeNumber => AsmKind::LargeNumber,
+    }
+}
+
+/// What is told of a text that has no tokens.
+pub fn lex_refusal(fault: LexFault) -> AsmFault
+    ensures { (text : List ℕ) → IsLexFault text fault → IsLexRefused text result }
+{
+    match fault {
+        LexFault::Memory => AsmFault::Memory,
+        LexFault::At(bad, line) => AsmFault::At(piece_kind(bad), line),
     }
 }
 
@@ -38,7 +48,6 @@ pub fn tokens<A: Allocator>(alloc: A, text: &[u8]) -> Result<Vec<Token, A>, AsmF
 {
     match cbpf_lex::tokens(alloc, text) {
         Ok(found) => Ok(found),
-        Err(LexFault::Memory) => Err(AsmFault::Memory),
-        Err(LexFault::At(bad, line)) => Err(AsmFault::At(piece_kind(bad), line)),
+        Err(fault) => Err(lex_refusal(fault)),
     }
 }

@@ -27,8 +27,8 @@ returns-in_default-mnemonic_named c =
       | else-is_reserved w ↦ rw (split, w.result-is) (word_stuck c.in-Word.word.now c.in-Some.first.now.at us (sym c.is_reserved.ensures ∙ w.if-is_reserved.false) (rw split at c.requires))
     ]
 
-pub best_row-best-requires : goal.best_row-best-requires
-best_row-best-requires c = rw (length-map c.in-Some-mnemonic_named.mnemonic.now.entries.now _) at (has_modes (mnemonic_of c.in-Some-mnemonic_named.mnemonic.now) c.in-Some-mnemonic_named.ensures.found)
+pub best_row-best-requires-clause-some : goal.best_row-best-requires-clause-some
+best_row-best-requires-clause-some c = rw (length-map c.in-Some-mnemonic_named.mnemonic.now.entries.now _) at (has_modes (mnemonic_of c.in-Some-mnemonic_named.mnemonic.now) c.in-Some-mnemonic_named.ensures.found)
 
 pub overflow_add-result : goal.overflow_add-result
 overflow_add-result c =

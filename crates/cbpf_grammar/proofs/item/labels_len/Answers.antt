@@ -3,7 +3,7 @@ use Rattle.cbpf_grammar.proofs.Labels.{labels_more, no_label_in_one}
 use Rattle.cbpf_grammar.proofs.item.labels_len.Goals as goal
 
 pub loop-n-preserved : goal.loop-n-preserved
-loop-n-preserved c = (omega arith, labels_more c.args.tokens.now c.loop-n.n _ _ c.loop-n-test.true c.loop-n.invariant.1 (sym c.fits.ensures ∙ c.if-fits.true) (sym c.fits-then-fits.ensures ∙ c.if-fits-2.true))
+loop-n-preserved c = (omega arith, labels_more c.args.tokens.now c.loop-n.n _ _ c.loop-n-test.true c.loop-n.invariant.1 (sym c.fits-then-fits.ensures ∙ c.if-fits-2.true) (sym c.fits.ensures ∙ c.if-fits.true))
 
 pub returns-after-loop-n-clause-end : goal.returns-after-loop-n-clause-end
 returns-after-loop-n-clause-end c =
