@@ -1,15 +1,15 @@
 /* Runs libpcap's bpf_filter over all packets of a little-endian capture that is mapped into memory,
  * again and again, for a comparison of time with `run`.
  * filter_capture PROGRAM CAPTURE TIMES: the program in the form of `tcpdump -ddd`. */
+#include <sys/types.h>
+#include <sys/mman.h>
+#include <sys/stat.h>
 #include <fcntl.h>
 #include <pcap/bpf.h>
 #include <stdint.h>
 #include <stdio.h>
 #include <stdlib.h>
 #include <string.h>
-#include <sys/mman.h>
-#include <sys/stat.h>
-#include <sys/types.h>
 
 int main(int argc, char **argv) {
     if (argc < 4) return 2;

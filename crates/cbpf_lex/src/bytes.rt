@@ -77,7 +77,7 @@ pub fn line_len(text: &[u8]) -> usize
 }
 
 /// Whether the last line has only blanks, where `blank` says so of it before these bytes.
-// It looks from behind, where the last byte tells it for all tokens.
+// It looks from behind, where the last newline, or a byte behind it that isn't blank, tells it.
 pub fn is_line_blank(blank: bool, bytes: &[u8]) -> bool
     ensures { result ≡ fold (λ blank b. b == 10 || (blank && is_blank b)) blank bytes.now }
 {
