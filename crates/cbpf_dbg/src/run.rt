@@ -79,12 +79,7 @@ fn run_here<T: Trail, A: Allocator>(
 
 /// Goes on to the end of a packet, past entries of which none is a hit.
 #[inline(never)]
-fn pass_rest<A: Allocator>(
-    meter: &mut Meter,
-    p: &Program<A>,
-    capture: &Capture<A>,
-    w: &mut Walk,
-)
+fn pass_rest<A: Allocator>(meter: &mut Meter, p: &Program<A>, capture: &Capture<A>, w: &mut Walk)
     requires stands { Stands p.now capture.now.records w.old }
     requires within { w.old.place.packet ≤ length capture.now.records }
     requires quiet { IsQuiet p.now [] }

@@ -13,7 +13,9 @@ pub(crate) fn number_at(bytes: &[u8], at: u32, size: Size) -> Option<u32>
     let at = at as usize;
     match size {
         Size::Word => bytes.get(at..at + 4).map(BigEndian::read_u32),
-        Size::Half => bytes.get(at..at + 2).map(|b| u32::from(BigEndian::read_u16(b))),
+        Size::Half => bytes
+            .get(at..at + 2)
+            .map(|b| u32::from(BigEndian::read_u16(b))),
         Size::Byte => bytes.get(at).map(|b| u32::from(*b)),
     }
 }
