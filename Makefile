@@ -8,7 +8,7 @@ PROGRAM = crates/cbpf/out/cbpf
 help: ## Lists the targets.
 	@grep -E '^[a-z]+:.*##' Makefile | sed -E 's/:.*## /\t/'
 
-build: ## Proves and builds the program; from nothing some ten minutes by estimate, later one or two.
+build: ## Proves and builds the program; from nothing some ten minutes on two cores, later two.
 	cd crates/cbpf && rt run < /dev/null > /dev/null
 
 demo: build ## Builds the proved program, assembles an example, and debugs a filter of tcpdump over a capture.
@@ -19,7 +19,7 @@ demo: build ## Builds the proved program, assembles an example, and debugs a fil
 	@echo '== its replies'
 	@cd examples && ../$(PROGRAM) dbg port22.dbg
 
-check: ## The gate: proves all crates and their tests from nothing, tries the must-fail edits, runs all tests; about an hour on two cores, by estimate.
+check: ## The gate: proves all crates and their tests from nothing, tries the must-fail edits, runs all tests; some 80 minutes on two cores.
 	rt ci
 	python3 tests/run.py $(PROGRAM)
 
