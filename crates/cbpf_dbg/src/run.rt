@@ -1,6 +1,6 @@
 //! Runs to the next hit.
 
-ghost use Rattle.std.specs.Prelude.{◌≡◌, ◌≢◌, ◌+◌, ◌-◌, ◌<◌, ◌≤◌, ◌^◌, [], Some, true, length, slice_get};
+ghost use Rattle.std.specs.Prelude.{◌≡◌, ◌≢◌, ◌+◌, ◌-◌, ◌<◌, ◌≤◌, ◌^◌, [], Some, true, slice_get};
 ghost use Rattle.pcap_classic.specs.Lent.{record_of};
 ghost use Rattle.cbpf_dbg.specs.Commands.{PassesHits};
 ghost use Rattle.cbpf_dbg.specs.Joined.{rest};
@@ -77,11 +77,17 @@ fn run_here<T: Trail, A: Allocator>(
     }
 }
 
-/// Goes on to the end of a packet, past entries of which none is a hit.
+/// Goes on to the end of a packet, whose record is `here`, past entries of which none is a hit.
 #[inline(never)]
-fn pass_rest<A: Allocator>(meter: &mut Meter, p: &Program<A>, capture: &Capture<A>, w: &mut Walk)
+fn pass_rest<A: Allocator>(
+    meter: &mut Meter,
+    p: &Program<A>,
+    capture: &Capture<A>,
+    here: &Captured<'_>,
+    w: &mut Walk,
+)
     requires stands { Stands p.now capture.now.records w.old }
-    requires within { w.old.place.packet ≤ length capture.now.records }
+    requires here { slice_get capture.now.records (w.old.place.packet - 1) ≡ Some (record_of here.now) }
     requires quiet { IsQuiet p.now [] }
     requires spare { meter.old + owed p.now capture.now.records w.old.place + 1 < 2 ^ 128 }
     ensures stands { Stands p.now capture.now.records w.new }
@@ -90,16 +96,15 @@ fn pass_rest<A: Allocator>(meter: &mut Meter, p: &Program<A>, capture: &Capture<
     ensures rest { rest p.now capture.now.records [] w.new.place ≡ rest p.now capture.now.records [] w.old.place }
     ensures spent { meter.new + owed p.now capture.now.records w.new.place ≡ meter.old + owed p.now capture.now.records w.old.place }
 {
-    let item = capture.item(w.place.packet);
     'pass: loop {
-        match advance(meter, p, capture, &item, w) {
+        match advance(meter, p, capture, here, w) {
             Moved::Entry => {}
             Moved::Packet => return,
         }
     }
 }
 
-/// The same from before the packet's first entry; its record is `here`.
+/// The same from before the packet's first entry.
 #[inline(always)]
 fn pass_whole<A: Allocator>(
     meter: &mut Meter,
@@ -127,7 +132,7 @@ fn pass_whole<A: Allocator>(
     w.pass(run_packet(meter, p, packet));
 }
 
-/// The same from any place of the packet, whose record is `here`.
+/// The same from any place of the packet.
 #[inline(always)]
 fn pass_packet<A: Allocator>(
     meter: &mut Meter,
@@ -150,9 +155,9 @@ fn pass_packet<A: Allocator>(
     if w.place.step == 0 {
         pass_whole(meter, p, capture, here, w);
     } else {
-        // On a copy, as only the first packet comes here, and the loop's own stays in registers.
-        let mut rest = *w;
-        pass_rest(meter, p, capture, &mut rest);
+        // On copies, as only the first packet comes here, and the loop's own stay in registers.
+        let (here, mut rest) = (*here, *w);
+        pass_rest(meter, p, capture, &here, &mut rest);
         *w = rest;
     }
 }
