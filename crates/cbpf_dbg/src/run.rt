@@ -117,7 +117,7 @@ fn pass_whole<A: Allocator>(
     requires here { slice_get capture.now.records (w.old.place.packet - 1) ≡ Some (record_of here.now) }
     requires quiet { IsQuiet p.now [] }
     requires before { w.old.place.step ≡ 0 }
-    requires few { meter.old + 4096 < 2 ^ 128 }
+    requires few { meter.old + 8192 ≤ 2 ^ 128 }
     ensures stands { Stands p.now capture.now.records w.new }
     ensures place { w.new.place ≡ record { packet = w.old.place.packet + 1; step = 0 } }
     ensures origin { w.new.origin ≡ w.old.origin }
@@ -145,7 +145,7 @@ fn pass_packet<A: Allocator>(
     requires here { slice_get capture.now.records (w.old.place.packet - 1) ≡ Some (record_of here.now) }
     requires quiet { IsQuiet p.now [] }
     requires spare { meter.old + owed p.now capture.now.records w.old.place + 1 < 2 ^ 128 }
-    requires few { meter.old + 4096 < 2 ^ 128 }
+    requires few { meter.old + 8192 ≤ 2 ^ 128 }
     ensures stands { Stands p.now capture.now.records w.new }
     ensures place { w.new.place ≡ record { packet = w.old.place.packet + 1; step = 0 } }
     ensures origin { w.new.origin ≡ w.old.origin }

@@ -4,7 +4,8 @@ use std::marker::Model;
 
 /// How many turns were made.
 ///
-/// A meter is neither `Copy` nor `Clone`, and only what makes turns raises it, by 1 for each.
+/// A meter is neither `Copy` nor `Clone`, and only a turn raises it, by 1: [`turn`](crate::turn), or
+/// the same in place.
 #[derive(Debug, Drop)]
 pub struct Meter {
     turns: u128,
@@ -33,15 +34,6 @@ impl Meter {
         ensures { result ≡ self.now }
     {
         self.turns
-    }
-
-    /// Adds turns that were counted by themselves.
-    #[inline(always)]
-    pub(crate) fn add(&mut self, turns: u32)
-        requires { self.old + turns < 2 ^ 128 }
-        ensures { self.new ≡ self.old + turns }
-    {
-        self.turns += u128::from(turns);
     }
 
     #[inline(always)]

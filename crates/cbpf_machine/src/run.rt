@@ -1,22 +1,23 @@
-ghost use Rattle.std.specs.Prelude.{◌≡◌, ◌<◌, ◌≤◌, ◌+◌, ◌^◌, length};
+ghost use Rattle.std.specs.Prelude.{◌≡◌, ◌≤◌, ◌+◌, ◌^◌, length};
 ghost use Rattle.cbpf_machine.specs.Trace as spec;
 
-use crate::execute::make_turn;
+use crate::execute::turn_in_place;
 use crate::meter::Meter;
 use crate::outcome::Outcome;
 use crate::packet::Packet;
 use crate::state::State;
 use cbpf_code::Program;
 use std::alloc::Allocator;
+use std::mem;
 
 /// Runs a program on a packet, from the zero state to the packet's end, by at most as many turns
 /// as the program has instructions.
 ///
-/// The meter is more than 4096 turns below 2 to the 128 before.
+/// The meter is at least 8192 turns below 2 to the 128 before.
 // It isn't inlined, so that nothing but the packet's state wants the processor's registers.
 #[inline(never)]
 pub fn run_packet<A: Allocator>(meter: &mut Meter, p: &Program<A>, packet: Packet<'_>) -> Outcome
-    requires { meter.old + 4096 < 2 ^ 128 }
+    requires { meter.old + 8192 ≤ 2 ^ 128 }
     ensures value { result ≡ spec.outcome p.now packet.entry.bytes.now packet.entry.wire }
     ensures turns { meter.new ≡ meter.old + length (spec.trace p.now packet.entry.bytes.now packet.entry.wire) }
     ensures few { meter.new ≤ meter.old + length p.now }
@@ -25,13 +26,13 @@ pub fn run_packet<A: Allocator>(meter: &mut Meter, p: &Program<A>, packet: Packe
     ensures whole { spec.IsRun p.now packet.entry.bytes.now packet.entry.wire (spec.trace p.now packet.entry.bytes.now packet.entry.wire) }
 {
     let _sound = p.len();
+    // The meter stays in those registers too, while it is this function's own.
+    let mut spent = mem::replace(meter, Meter::new());
     let mut s = State::zero();
-    let mut turns = 0;
     'run: loop {
-        turns += 1;
-        if let Some(end) = make_turn(p, packet, &mut s) {
-            meter.add(turns);
-            return Outcome::from(end);
+        if let Some(outcome) = turn_in_place(&mut spent, p, packet, &mut s) {
+            *meter = spent;
+            return outcome;
         }
     }
 }

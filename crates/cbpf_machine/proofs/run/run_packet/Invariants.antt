@@ -10,8 +10,7 @@ invariant-run g l =
       sound : IsSound l.p;
       inside : l.s.pc < length l.p;
       ends : outcome_from l.p l.packet.bytes.now l.packet.wire l.s ≡ outcome l.p l.packet.bytes.now l.packet.wire;
-      meter : l.meter ≡ l.fn.meter;
-      spent : l.turns + length (trace_from l.p l.packet.bytes.now l.packet.wire l.s) ≡ length (trace l.p l.packet.bytes.now l.packet.wire);
+      spent : l.spent + length (trace_from l.p l.packet.bytes.now l.packet.wire l.s) ≡ l.fn.meter + length (trace l.p l.packet.bytes.now l.packet.wire);
     }
 
 abbrev pub decreases-run : goal.decreases-run
