@@ -10,12 +10,14 @@ import shutil
 import statistics
 import struct
 import subprocess
+import sys
 import tempfile
 
 top = pathlib.Path(__file__).resolve().parent.parent
 cbpf = top / "crates/cbpf/out/cbpf"
 
 PACKETS = 1_000_000
+STRAIGHT_PACKETS = 10_000
 # what `tcpdump -ddd` makes of `ip proto 17` and of `port 22`
 SIX = "6,40 0 0 12,21 0 3 2048,48 0 0 23,21 0 1 17,6 0 0 262144,6 0 0 0"
 PORT = (
@@ -82,6 +84,26 @@ with tempfile.TemporaryDirectory() as name:
     loading = timed([cbpf], script(f"load pcap {large}\n")) - empty
     print(f"load pcap: {loading / PACKETS * 1e9:.0f} ns a packet of 64 bytes")
     libpcap = bpf_filter(folder)
+
+    def filter_alone(what, words, file, packets):
+        """Times `run` without its loading, by turns with bpf_filter."""
+        (folder / "words").write_text(words.replace(",", "\n") + "\n")
+        head = f"load bpf {words}\nload pcap {file}\n"
+
+        def runs(times):
+            return timed([cbpf], script(head + "run\n" * times), 1)
+
+        def filters(times):
+            return timed([libpcap, folder / "words", file, times], "/dev/null", 1)
+
+        ours, theirs, ratio, least = by_turns(
+            lambda: (runs(11) - runs(1)) / 10, lambda: (filters(11) - filters(1)) / 10
+        )
+        print(
+            f"run alone, {what}: {ours / packets * 1e9:.0f} ns a packet, {ratio:.2f} times bpf_filter"
+            f" ({least:.2f} of the least)"
+        )
+
     for what, words in [("ip proto 17", SIX), ("port 22", PORT)]:
         head = f"load bpf {words}\nload pcap {large}\n"
         listed = timed([cbpf], script(head + "stops\n"), 3) - empty
@@ -99,18 +121,13 @@ with tempfile.TemporaryDirectory() as name:
                 f" ({least:.2f} of the least)"
             )
         if libpcap:
-            (folder / "words").write_text(words.replace(",", "\n") + "\n")
-
-            def filters(times):
-                return timed([libpcap, folder / "words", large, times], "/dev/null", 1)
-
-            ours, theirs, ratio, least = by_turns(
-                lambda: (runs(11) - runs(1)) / 10, lambda: (filters(11) - filters(1)) / 10
-            )
-            print(
-                f"run alone, {what}: {ours / PACKETS * 1e9:.0f} ns a packet, {ratio:.2f} times bpf_filter"
-                f" ({least:.2f} of the least)"
-            )
+            filter_alone(what, words, large, PACKETS)
+    if libpcap:
+        subprocess.run([sys.executable, top / "bench/programs.py", folder], check=True)
+        for what, packets in [("arithmetic", PACKETS), ("straight", STRAIGHT_PACKETS)]:
+            words = ",".join((folder / f"{what}.txt").read_text().split("\n")).strip(",")
+            capture(folder / "some", packets, frame)
+            filter_alone(what, words, folder / "some", packets)
     head = f"load bpf {SIX}\nload pcap {large}\nbreakpoint 1\n"
     base = timed([cbpf], script(head), 3)
     spent = timed([cbpf], script(head + "run\n" * 10000), 3) - base

@@ -62,6 +62,7 @@ impl<'a> Lexer<'a> {
         ensures text { self.new.text ≡ self.old.text }
         ensures token { IfOk result (λ next. IfSome next (IsNextToken self.old.text self.old.at self.new.at)) }
         ensures end { IfOk result (λ next. IfNone next (HasNoMore self.old.text self.old.at)) }
+        ensures finished { IfOk result (λ next. IfNone next (self.new.at ≡ length self.old.text)) }
         ensures fault { IfErr result (IsNextFault self.old.text self.old.at) }
         ensures stays { IfErr result (λ _. self.new ≡ self.old) }
     {
