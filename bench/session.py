@@ -108,13 +108,10 @@ with tempfile.TemporaryDirectory() as name:
         head = f"load bpf {words}\nload pcap {large}\n"
         listed = timed([cbpf], script(head + "stops\n"), 3) - empty
         print(f"stops, {what}, none: {(listed - loading) / PACKETS * 1e9:.0f} ns a packet")
-
-        def runs(times):
-            return timed([cbpf], script(head + "run\n" * times), 1)
-
         if shutil.which("tcpdump"):
             ours, theirs, ratio, least = by_turns(
-                lambda: runs(1), lambda: timed(["tcpdump", "-q", "-r", large, "-w", "/dev/null", what], "/dev/null", 1)
+                lambda: timed([cbpf], script(head + "run\n"), 1),
+                lambda: timed(["tcpdump", "-q", "-r", large, "-w", "/dev/null", what], "/dev/null", 1),
             )
             print(
                 f"load and run, {what}: {ours / PACKETS * 1e9:.0f} ns a packet, {ratio:.2f} times tcpdump -r"
