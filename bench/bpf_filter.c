@@ -1,10 +1,47 @@
-/* Runs libpcap's bpf_filter over a packet again and again, for a comparison of time.
- * bpf_filter PROGRAM PACKETS: the program in the form of `tcpdump -ddd`. */
+/* Runs libpcap's bpf_filter again and again, for a comparison of time.
+ * bpf_filter PROGRAM PACKETS: over one packet of 64 bytes, which differs in its last byte.
+ * bpf_filter PROGRAM TIMES CAPTURE: over all packets of a little-endian capture, which is mapped into memory.
+ * The program is in the form of `tcpdump -ddd`. */
 #include <sys/types.h>
+#include <sys/mman.h>
+#include <sys/stat.h>
+#include <fcntl.h>
 #include <pcap/bpf.h>
+#include <stdint.h>
 #include <stdio.h>
 #include <stdlib.h>
 #include <string.h>
+
+static unsigned long passes, fails, returned;
+
+static void filter(const struct bpf_insn *list, const unsigned char *bytes, unsigned wire, unsigned captured) {
+    unsigned v = bpf_filter(list, bytes, wire, captured);
+    if (v) passes++; else fails++;
+    returned += v;
+}
+
+static void filter_one(const struct bpf_insn *list, unsigned long packets) {
+    unsigned char bytes[64];
+    for (int i = 0; i < 64; i++) bytes[i] = (unsigned char)(i * 7);
+    bytes[12] = 8; bytes[13] = 0; bytes[14] = 0x45; bytes[20] = 0; bytes[21] = 0; bytes[23] = 6;
+    for (unsigned long i = 0; i < packets; i++) {
+        bytes[63] = (unsigned char)i;
+        filter(list, bytes, 64, 64);
+    }
+}
+
+static void filter_all(const struct bpf_insn *list, unsigned long times, const unsigned char *file, const unsigned char *end) {
+    for (; times > 0; times--) {
+        for (const unsigned char *at = file + 24; at + 16 <= end;) {
+            uint32_t captured, wire;
+            memcpy(&captured, at + 8, 4);
+            memcpy(&wire, at + 12, 4);
+            if (captured > end - at - 16) break;
+            filter(list, at + 16, wire, captured);
+            at += 16 + captured;
+        }
+    }
+}
 
 int main(int argc, char **argv) {
     if (argc < 3) return 2;
@@ -17,16 +54,16 @@ int main(int argc, char **argv) {
         if (fscanf(f, "%u %u %u %u", &code, &jt, &jf, &k) != 4) return 2;
         list[i] = (struct bpf_insn){ code, jt, jf, k };
     }
-    unsigned long packets = strtoul(argv[2], 0, 10), passes = 0, fails = 0, returned = 0;
-    unsigned char bytes[64];
-    memset(bytes, 0, sizeof bytes);
-    for (int i = 0; i < 64; i++) bytes[i] = (unsigned char)(i * 7);
-    bytes[12] = 8; bytes[13] = 0; bytes[14] = 0x45; bytes[20] = 0; bytes[21] = 0; bytes[23] = 6;
-    for (unsigned long i = 0; i < packets; i++) {
-        bytes[63] = (unsigned char)i;
-        unsigned v = bpf_filter(list, bytes, 64, 64);
-        if (v) passes++; else fails++;
-        returned += v;
+    unsigned long count = strtoul(argv[2], 0, 10);
+    if (argc == 3) {
+        filter_one(list, count);
+    } else {
+        int fd = open(argv[3], O_RDONLY);
+        struct stat st;
+        if (fd < 0 || fstat(fd, &st)) return 2;
+        const unsigned char *file = mmap(0, st.st_size, PROT_READ, MAP_PRIVATE, fd, 0);
+        if (file == MAP_FAILED) return 2;
+        filter_all(list, count, file, file + st.st_size);
     }
     printf("passes:%lu fails:%lu unknown:0 returned:%lu\n", passes, fails, returned);
     return 0;

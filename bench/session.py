@@ -58,9 +58,9 @@ def bpf_filter(folder):
     if not shutil.which("cc"):
         return None
     made = subprocess.run(
-        ["cc", "-O2", top / "bench/filter_capture.c", "-o", folder / "filter_capture", "-lpcap"], capture_output=True
+        ["cc", "-O2", top / "bench/bpf_filter.c", "-o", folder / "bpf_filter", "-lpcap"], capture_output=True
     )
-    return folder / "filter_capture" if made.returncode == 0 else None
+    return folder / "bpf_filter" if made.returncode == 0 else None
 
 
 def capture(path, packets, frame):
@@ -94,7 +94,7 @@ with tempfile.TemporaryDirectory() as name:
             return timed([cbpf], script(head + "run\n" * times), 1)
 
         def filters(times):
-            return timed([libpcap, folder / "words", file, times], "/dev/null", 1)
+            return timed([libpcap, folder / "words", times, file], "/dev/null", 1)
 
         ours, theirs, ratio, least = by_turns(
             lambda: (runs(11) - runs(1)) / 10, lambda: (filters(11) - filters(1)) / 10
