@@ -19,7 +19,7 @@ demo: build ## Builds the proved program, assembles an example, and debugs a fil
 	@echo '== its replies'
 	@cd examples && ../$(PROGRAM) dbg port22.dbg
 
-check: ## The gate: proves all crates and their tests from nothing, tries the must-fail edits, runs all tests; some 80 minutes on two cores.
+check: ## The gate: proves all crates and their tests from nothing, tries the must-fail edits, runs all tests; some 80 minutes on two cores, half of that on four.
 	rt ci
 	python3 tests/run.py $(PROGRAM)
 
