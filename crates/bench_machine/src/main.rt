@@ -5,7 +5,7 @@
 #![tactic(auto)]
 
 use cbpf_code::{Insn, Program, check};
-use cbpf_machine::{Meter, Outcome, Packet, run_packet};
+use cbpf_machine::{Meter, Outcome, Packet, Values, run_packet};
 use std::{env, fs, io};
 
 /// A number of a program's text, or 0.
@@ -56,6 +56,7 @@ struct Totals {
 #[inline(never)]
 fn run_all(p: &Program, packets: u32) -> Totals {
     let mut bytes = packet_bytes();
+    let values = Values::new();
     let mut totals = Totals {
         passes: 0,
         fails: 0,
@@ -72,6 +73,7 @@ fn run_all(p: &Program, packets: u32) -> Totals {
                 bytes: &bytes,
                 wire: 64,
             },
+            &values,
         ) {
             Outcome::Pass(v) => {
                 totals.passes = totals.passes.wrapping_add(1);

@@ -1,3 +1,4 @@
 pub mod WordLemmas
 pub mod VerbLemmas
 pub mod NumberLemmas
+pub mod NameLemmas

@@ -1,6 +1,8 @@
--- The debugger's commands, and how lines spell them (kernel documentation, networking/filter, on `bpf_dbg`; `breakpoint reset`, `delete`, `mark`, `resume` and `stops` are this project's own).
+-- The debugger's commands, and how lines spell them (kernel documentation, networking/filter, on `bpf_dbg`; `breakpoint reset`, `delete`, `mark`, `resume`, `stops` and `value` are this project's own).
 use Rattle.std.specs.Prelude.{ℕ, ◌-◌, ◌^◌, ℤ, pos, if◌then◌else◌, List, [], ◌∷◌, Option, Some, None, option_map, Result, Ok, Err, codes, bytes_eq}
 use Rattle.std.specs.Str.{is_utf8}
+use Rattle.cbpf_code.specs.declared.extension.Ext.{Ext}
+use Rattle.cbpf_code.specs.Extension.{ext_name, ext_table}
 use Rattle.cbpf_command.specs.Words.{words, behind, trimmed}
 use Rattle.cbpf_command.specs.Numbers.{number, signed_number}
 use Rattle.cbpf_command.specs.declared.command.Verb.{Verb}
@@ -26,6 +28,7 @@ pub data Spelled : Type 0 where
   mark : Spelled
   resume : (packet step : ℕ) → Spelled
   stops : Spelled
+  value : (e : Ext) (n : ℕ) → Spelled
   quit : Spelled
 
 -- what a `Command` stands for
@@ -44,6 +47,7 @@ meaning (command.Select n) = select n
 meaning command.Mark = mark
 meaning (command.Resume packet s) = resume packet s
 meaning command.Stops = stops
+meaning (command.Value e n) = value e n
 meaning command.Quit = quit
 
 -- the first words of commands
@@ -60,7 +64,8 @@ verb_named w =
     else (if bytes_eq w (codes "mark") then Some verb.Mark
     else (if bytes_eq w (codes "resume") then Some verb.Resume
     else (if bytes_eq w (codes "stops") then Some verb.Stops
-    else (if bytes_eq w (codes "quit") then Some verb.Quit else None)))))))))))
+    else (if bytes_eq w (codes "value") then Some verb.Value
+    else (if bytes_eq w (codes "quit") then Some verb.Quit else None))))))))))))
 
 -- a command without arguments
 abbrev pub alone : Spelled → List (List ℕ) → Option Spelled
@@ -99,6 +104,21 @@ abbrev pub resume_by : List (List ℕ) → Option Spelled
 resume_by (p ∷ s ∷ []) = resume_at (number (2 ^ 64 - 1) p) (number (2 ^ 32 - 1) s)
 resume_by _ = None
 
+-- the one of some extensions that has a name
+abbrev pub named_in : List (ℕ × Ext) → List ℕ → Option Ext
+named_in [] w = None
+named_in (row ∷ rows) w = if bytes_eq w (ext_name row.1) then Some row.1 else named_in rows w
+
+abbrev pub value_at : Option Ext → Option ℕ → Option Spelled
+value_at (Some e) (Some n) = Some (value e n)
+value_at (Some e) None = None
+value_at None n = None
+
+-- an extension's name, and a number of 32 bits
+abbrev pub value_by : List (List ℕ) → Option Spelled
+value_by (name ∷ n ∷ []) = value_at (named_in ext_table name) (number (2 ^ 32 - 1) n)
+value_by _ = None
+
 -- a word text is not empty
 abbrev pub words_in : List ℕ → Option Spelled
 words_in [] = None
@@ -128,6 +148,7 @@ spelled_by verb.Select ws text = option_map select (sole_number ws)
 spelled_by verb.Mark ws text = alone mark ws
 spelled_by verb.Resume ws text = resume_by ws
 spelled_by verb.Stops ws text = alone stops ws
+spelled_by verb.Value ws text = value_by ws
 spelled_by verb.Quit ws text = alone quit ws
 
 abbrev pub or_wrong : Option Spelled → Result (Option Spelled) LineRefusal

@@ -1,6 +1,7 @@
 // Commands, and how lines spell them.
 ghost use Rattle.std.specs.Prelude.{◌≡◌, ℕ, List};
 ghost use Rattle.std.specs.Option.{option_map};
+ghost use Rattle.cbpf_code.specs.Extension.{ext_table};
 ghost use Rattle.cbpf_command.specs.Commands as spec;
 ghost use Rattle.cbpf_command.specs.Words.{words, behind, trimmed};
 ghost use Rattle.cbpf_command.specs.Arguments.{Holds};
@@ -8,6 +9,7 @@ ghost use Rattle.cbpf_command.specs.Arguments.{Holds};
 use crate::arguments::{Arguments, arguments_in};
 use crate::number::{number, number_32, signed_number};
 use crate::scan::{next_word, trimmed};
+use cbpf_code::{Ext, ext_named};
 use std::str::from_utf8;
 
 /// A command of the debugger.
@@ -47,6 +49,8 @@ pub enum Command<'a> {
     },
     /// `stops`: the hits ahead.
     Stops,
+    /// `value e n`: the value n for an extension.
+    Value(Ext, u32),
     /// `quit`
     Quit,
 }
@@ -74,6 +78,7 @@ enum Verb {
     Mark,
     Resume,
     Stops,
+    Value,
     Quit,
 }
 
@@ -92,6 +97,7 @@ fn verb_of(word: &[u8]) -> Option<Verb>
         b"mark" => Some(Verb::Mark),
         b"resume" => Some(Verb::Resume),
         b"stops" => Some(Verb::Stops),
+        b"value" => Some(Verb::Value),
         b"quit" => Some(Verb::Quit),
         _ => None,
     }
@@ -160,6 +166,22 @@ fn resume_by(arguments: Arguments<'_>) -> Option<Command<'_>>
     }
 }
 
+fn value_by(arguments: Arguments<'_>) -> Option<Command<'_>>
+    ensures { (ws : List (List ℕ)) → Holds ws arguments.entry → option_map spec.meaning result ≡ spec.value_by ws }
+{
+    match arguments {
+        Arguments::Two(name, n) => Some(Command::Value(extension_named(name)?, number_32(n)?)),
+        _ => None,
+    }
+}
+
+/// The extension of this name.
+fn extension_named(name: &[u8]) -> Option<Ext>
+    ensures { result ≡ spec.named_in ext_table name.now }
+{
+    ext_named(name)
+}
+
 fn words_in(text: &[u8]) -> Option<Command<'_>>
     ensures { option_map spec.meaning result ≡ spec.words_in text.now }
 {
@@ -209,6 +231,7 @@ fn command_by(verb: Verb, text: &[u8]) -> Option<Command<'_>>
         Verb::Mark => alone(arguments, Command::Mark),
         Verb::Resume => resume_by(arguments),
         Verb::Stops => alone(arguments, Command::Stops),
+        Verb::Value => value_by(arguments),
         Verb::Quit => alone(arguments, Command::Quit),
     }
 }

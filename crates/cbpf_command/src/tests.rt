@@ -1,4 +1,5 @@
 use super::*;
+use cbpf_code::Ext;
 
 fn is_wrong(line: &[u8]) -> bool {
     matches!(command_of(line), Err(LineRefusal::WrongArguments))
@@ -142,10 +143,42 @@ fn short_forms_and_other_cases_are_unknown(rt: HostRuntime) {
 }
 
 #[test]
-fn values_and_conditions_are_no_commands(rt: HostRuntime) {
-    for line in [b"value".as_slice(), b"value len 60", b"value mark 7"] {
-        assert!(rt; is_unknown(line));
+fn values_are_of_extensions(rt: HostRuntime) {
+    assert!(rt;
+        matches!(
+            command_of(b"value mark 7"),
+            Ok(Some(Command::Value(Ext::Mark, 7)))
+        )
+    );
+    assert!(rt;
+        matches!(
+            command_of(b" value\tvlan_tci 04294967295\r"),
+            Ok(Some(Command::Value(Ext::VlanTci, 4294967295)))
+        )
+    );
+    assert!(rt;
+        matches!(
+            command_of(b"value rand 1"),
+            Ok(Some(Command::Value(Ext::Rand, 1)))
+        )
+    );
+    for line in [
+        b"value".as_slice(),
+        b"value mark",
+        b"value mark 4294967296",
+        b"value mark -1",
+        b"value mark 1 2",
+        b"value len 60",
+        b"value #mark 1",
+        b"value Mark 1",
+        b"value mar 1",
+    ] {
+        assert!(rt; is_wrong(line));
     }
+}
+
+#[test]
+fn conditions_are_no_commands(rt: HostRuntime) {
     for line in [
         b"breakpoint 1 a 5".as_slice(),
         b"breakpoint 1 x 5",

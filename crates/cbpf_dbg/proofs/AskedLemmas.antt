@@ -1,8 +1,7 @@
 -- Why an entry stops, by what its turn asks for.
 use Rattle.std.proofs.Common.{◌≡◌, ◌<◌, ℕ, List, refl, length}
-use Rattle.std.specs.Prelude.{Option, Some, None, nat_eq}
-use Rattle.std.specs.List.{list_any}
-use Rattle.cbpf_code.specs.declared.insn.Insn.{Insn}
+use Rattle.std.specs.Prelude.{Option, Some, None}
+use Rattle.cbpf_machine.specs.Machine.{Machine}
 use Rattle.cbpf_code.specs.declared.extension.Ext.{Ext}
 use Rattle.cbpf_machine.specs.Registers.{Registers}
 use Rattle.cbpf_machine.specs.Step.{turn, asked}
@@ -10,7 +9,7 @@ use Rattle.cbpf_machine.specs.declared.outcome.Turn.{Turn}
 use Rattle.cbpf_machine.specs.declared.outcome.Turn.TheVariants.{Next, Returned, Outside, ZeroDivisor, Unknown}
 use Rattle.cbpf_dbg.specs.declared.reply.Why.{Why}
 use Rattle.cbpf_dbg.specs.declared.reply.Why.TheVariants as why
-use Rattle.cbpf_dbg.specs.Joined.{why_of, hit_for}
+use Rattle.cbpf_dbg.specs.Joined.{carries, why_of, hit_for}
 use Rattle.cbpf_dbg.specs.Session.{IsQuiet}
 
 abbrev pub why_by : Why → Option Ext → Why
@@ -25,6 +24,6 @@ why_asked reason ZeroDivisor = refl
 why_asked reason (Unknown e) = refl
 
 -- where nothing can be a hit
-pub quiet_hit : (list : List Insn) (breakpoints : List ℕ) (bytes : List ℕ) (wire : ℕ) (s : Registers) → s.pc < length list → IsQuiet list breakpoints
-    → None ≡ hit_for (list_any (nat_eq s.pc) breakpoints) (asked (turn list bytes wire s))
-quiet_hit list breakpoints bytes wire s inside quiet = rw (quiet.0, quiet.1 bytes wire s inside) refl
+pub quiet_hit : (machine : Machine) (breakpoints : List ℕ) (bytes : List ℕ) (wire : ℕ) (s : Registers) → s.pc < length machine.list → IsQuiet machine breakpoints
+    → None ≡ hit_for (carries breakpoints s) (asked (turn machine bytes wire s))
+quiet_hit machine breakpoints bytes wire s inside quiet = rw (quiet.0, quiet.1 bytes wire s inside) refl

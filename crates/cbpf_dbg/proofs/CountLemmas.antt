@@ -4,7 +4,7 @@ use Rattle.std.proofs.lemmas.List.Sums.{sum_by-append, count_by-le-length}
 use Rattle.std.proofs.Math.ListN.{length-map}
 use Rattle.cbpf_dbg.specs.declared.reply.Counts.{Counts}
 use Rattle.std.specs.Prelude.{Some, slice_get, map, count_by}
-use Rattle.cbpf_code.specs.declared.insn.Insn.{Insn}
+use Rattle.cbpf_machine.specs.Machine.{Machine}
 use Rattle.cbpf_machine.specs.declared.outcome.Outcome.{Outcome}
 use Rattle.cbpf_machine.specs.declared.outcome.Outcome.TheVariants as outcome_is
 use Rattle.cbpf_machine.specs.Trace.{outcome}
@@ -22,13 +22,13 @@ map-append_one : {X Y : Type 0} (f : X → Y) (xs : List X) (x : X) → map f (x
 map-append_one f [] x = refl
 map-append_one f (y ∷ ys) x = ap (λ rest. f y ∷ rest) (map-append_one f ys x)
 
-pub outcomes-more : (list : List Insn) (capture : List Record) (from p : ℕ) (r : Record) → 1 ≤ from → from ≤ p → slice_get capture (p - 1) ≡ Some r
-    → outcomes list capture from (p + 1) ≡ outcomes list capture from p ++ outcome list r.bytes r.wire ∷ []
-outcomes-more list capture from p r from_one ordered at =
+pub outcomes-more : (machine : Machine) (capture : List Record) (from p : ℕ) (r : Record) → 1 ≤ from → from ≤ p → slice_get capture (p - 1) ≡ Some r
+    → outcomes machine capture from (p + 1) ≡ outcomes machine capture from p ++ outcome machine r.bytes r.wire ∷ []
+outcomes-more machine capture from p r from_one ordered at =
     let e : p + 1 - from ≡ p - from + 1 = omega arith in
     let i : from - 1 + (p - from) ≡ p - 1 = omega arith in
     let here : slice_get (drop (from - 1) capture) (p - from) ≡ Some r = rw (slice_get-drop capture (from - 1) (p - from), i) at in
-    rw e (rw (take-slice_get (drop (from - 1) capture) (p - from) r here) (map-append_one (λ (q : Record). outcome list q.bytes q.wire) (take (p - from) (drop (from - 1) capture)) r))
+    rw e (rw (take-slice_get (drop (from - 1) capture) (p - from) r here) (map-append_one (λ (q : Record). outcome machine q.bytes q.wire) (take (p - from) (drop (from - 1) capture)) r))
 
 count_more : {X : Type 0} (f : X → Bool) (xs : List X) (x : X) → count_by f (xs ++ x ∷ []) ≡ count_by f xs + cond (f x) 1 0
 count_more f xs x =
@@ -56,22 +56,22 @@ with_one xs (outcome_is.Unknown e) =
     rw (a, b, c) refl
 
 -- one more packet is one more outcome
-pub counts-more : (list : List Insn) (capture : List Record) (from p : ℕ) (r : Record) → 1 ≤ from → from ≤ p → slice_get capture (p - 1) ≡ Some r
-    → counts list capture from (p + 1) ≡ with_outcome (counts list capture from p) (outcome list r.bytes r.wire)
+pub counts-more : (machine : Machine) (capture : List Record) (from p : ℕ) (r : Record) → 1 ≤ from → from ≤ p → slice_get capture (p - 1) ≡ Some r
+    → counts machine capture from (p + 1) ≡ with_outcome (counts machine capture from p) (outcome machine r.bytes r.wire)
 unfolding counts
-counts-more list capture from p r from_one ordered at =
-    rw (outcomes-more list capture from p r from_one ordered at) (with_one (outcomes list capture from p) (outcome list r.bytes r.wire))
+counts-more machine capture from p r from_one ordered at =
+    rw (outcomes-more machine capture from p r from_one ordered at) (with_one (outcomes machine capture from p) (outcome machine r.bytes r.wire))
 
 length-take_le : {X : Type 0} (n : ℕ) (xs : List X) → length (take n xs) ≤ length xs
 length-take_le zero xs = omega arith
 length-take_le (suc n) [] = omega arith
 length-take_le (suc n) (x ∷ xs) = omega (arith, length-take_le n xs)
 
-length-outcomes : (list : List Insn) (capture : List Record) (from to : ℕ) → length (outcomes list capture from to) ≤ length capture
-length-outcomes list capture from to =
+length-outcomes : (machine : Machine) (capture : List Record) (from to : ℕ) → length (outcomes machine capture from to) ≤ length capture
+length-outcomes machine capture from to =
     omega (
       arith,
-      length-map (take (to - from) (drop (from - 1) capture)) (λ (r : Record). outcome list r.bytes r.wire),
+      length-map (take (to - from) (drop (from - 1) capture)) (λ (r : Record). outcome machine r.bytes r.wire),
       length-take_le (to - from) (drop (from - 1) capture),
       length-drop (from - 1) capture,
     )
@@ -82,11 +82,11 @@ pub record AtMost (n : Counts) (k : ℕ) : Type 0 where
   pub fails : n.fails ≤ k
   pub unknown : n.unknown ≤ k
 
-pub counts-at_most : (list : List Insn) (capture : List Record) (from to : ℕ) → AtMost (counts list capture from to) (length capture)
+pub counts-at_most : (machine : Machine) (capture : List Record) (from to : ℕ) → AtMost (counts machine capture from to) (length capture)
 unfolding counts
-counts-at_most list capture from to =
-    let all : List Outcome = outcomes list capture from to in
-    let l = length-outcomes list capture from to in
+counts-at_most machine capture from to =
+    let all : List Outcome = outcomes machine capture from to in
+    let l = length-outcomes machine capture from to in
     record {
       passes = omega (arith, l, count_by-le-length is_pass all);
       fails = omega (arith, l, count_by-le-length is_fail all);

@@ -3,7 +3,7 @@ use Rattle.std.proofs.Common.{◌≡◌, ℕ, zero, suc, ◌+◌, ◌-◌, ◌<�
 use Rattle.std.specs.Prelude.{Some, slice_get, filter, map}
 use Rattle.std.proofs.lemmas.Bool.Decides.{nat_tests}
 use Rattle.std.proofs.lemmas.List.Elements.{filter-append}
-use Rattle.cbpf_code.specs.declared.insn.Insn.{Insn}
+use Rattle.cbpf_machine.specs.Machine.{Machine}
 use Rattle.cbpf_machine.specs.Registers.{Registers}
 use Rattle.cbpf_machine.specs.Step.{turn}
 use Rattle.cbpf_machine.specs.Trace.{trace}
@@ -15,8 +15,8 @@ use Rattle.cbpf_dbg.specs.declared.reply.Why.TheVariants as why
 use Rattle.std.proofs.lemmas.Option.{slice_get_cases}
 
 -- the entry of a packet at a step
-abbrev pub entry : List Insn → Record → ℕ → ℕ → Registers → Entry
-entry list r packet step s = record { place = record { packet = packet; step = step }; state = s; turn = turn list r.bytes r.wire s }
+abbrev pub entry : Machine → Record → ℕ → ℕ → Registers → Entry
+entry machine r packet step s = record { place = record { packet = packet; step = step }; state = s; turn = turn machine r.bytes r.wire s }
 
 abbrev pub place_at : ℕ → ℕ → Place
 place_at p s = record { packet = p; step = s }
@@ -37,7 +37,7 @@ after_step p s k h = grind (arith, nat_tests)
 not_after_step : (p s k : ℕ) → k ≤ s → is_after (place_at p s) (place_at p k) ≡ false
 not_after_step p s k h = grind (arith, nat_tests)
 
--- the place's test at the head of a list
+-- the place's test at the head of a machine
 later-yes : (p s : ℕ) (e : Entry) (es : List Entry) → is_after (place_at p s) e.place ≡ true → later p s (e ∷ es) ≡ e ∷ later p s es
 later-yes p s e es h = rw h
 
@@ -45,72 +45,72 @@ later-no : (p s : ℕ) (e : Entry) (es : List Entry) → is_after (place_at p s)
 later-no p s e es h = rw h
 
 -- entries of an earlier packet are not after the place
-later-packet_before : (list : List Insn) (r : Record) (p s q k : ℕ) (xs : List Registers) → q < p → later p s (entries_from list r q k xs) ≡ []
-later-packet_before list r p s q k [] h = refl
-later-packet_before list r p s q k (x ∷ xs) h =
-    later-no p s (entry list r q k x) (entries_from list r q (k + 1) xs) (not_after_packet p s q k h) ∙ later-packet_before list r p s q (k + 1) xs h
+later-packet_before : (machine : Machine) (r : Record) (p s q k : ℕ) (xs : List Registers) → q < p → later p s (entries_from machine r q k xs) ≡ []
+later-packet_before machine r p s q k [] h = refl
+later-packet_before machine r p s q k (x ∷ xs) h =
+    later-no p s (entry machine r q k x) (entries_from machine r q (k + 1) xs) (not_after_packet p s q k h) ∙ later-packet_before machine r p s q (k + 1) xs h
 
 -- entries of a later packet are all after it
-later-packet_after : (list : List Insn) (r : Record) (p s q k : ℕ) (xs : List Registers) → p < q → later p s (entries_from list r q k xs) ≡ entries_from list r q k xs
-later-packet_after list r p s q k [] h = refl
-later-packet_after list r p s q k (x ∷ xs) h =
-    later-yes p s (entry list r q k x) (entries_from list r q (k + 1) xs) (after_packet p s q k h) ∙ ap (λ rest. entry list r q k x ∷ rest) (later-packet_after list r p s q (k + 1) xs h)
+later-packet_after : (machine : Machine) (r : Record) (p s q k : ℕ) (xs : List Registers) → p < q → later p s (entries_from machine r q k xs) ≡ entries_from machine r q k xs
+later-packet_after machine r p s q k [] h = refl
+later-packet_after machine r p s q k (x ∷ xs) h =
+    later-yes p s (entry machine r q k x) (entries_from machine r q (k + 1) xs) (after_packet p s q k h) ∙ ap (λ rest. entry machine r q k x ∷ rest) (later-packet_after machine r p s q (k + 1) xs h)
 
 -- so are the packet's own entries behind the step
-later-step_after : (list : List Insn) (r : Record) (p s k : ℕ) (xs : List Registers) → s < k → later p s (entries_from list r p k xs) ≡ entries_from list r p k xs
-later-step_after list r p s k [] h = refl
-later-step_after list r p s k (x ∷ xs) h =
-    later-yes p s (entry list r p k x) (entries_from list r p (k + 1) xs) (after_step p s k h) ∙ ap (λ rest. entry list r p k x ∷ rest) (later-step_after list r p s (k + 1) xs (omega arith))
+later-step_after : (machine : Machine) (r : Record) (p s k : ℕ) (xs : List Registers) → s < k → later p s (entries_from machine r p k xs) ≡ entries_from machine r p k xs
+later-step_after machine r p s k [] h = refl
+later-step_after machine r p s k (x ∷ xs) h =
+    later-yes p s (entry machine r p k x) (entries_from machine r p (k + 1) xs) (after_step p s k h) ∙ ap (λ rest. entry machine r p k x ∷ rest) (later-step_after machine r p s (k + 1) xs (omega arith))
 
 -- of the packet's own entries, those that n more steps pass are not
-later-step : (list : List Insn) (r : Record) (p s k n : ℕ) (xs : List Registers) → k + n ≡ s + 1 → later p s (entries_from list r p k xs) ≡ entries_from list r p (s + 1) (drop n xs)
-later-step list r p s k zero xs h =
+later-step : (machine : Machine) (r : Record) (p s k n : ℕ) (xs : List Registers) → k + n ≡ s + 1 → later p s (entries_from machine r p k xs) ≡ entries_from machine r p (s + 1) (drop n xs)
+later-step machine r p s k zero xs h =
     let e : k ≡ s + 1 = omega arith in
-    rw e (later-step_after list r p s (s + 1) xs (omega arith))
-later-step list r p s k (suc n) [] h = refl
-later-step list r p s k (suc n) (x ∷ xs) h =
-    later-no p s (entry list r p k x) (entries_from list r p (k + 1) xs) (not_after_step p s k (omega arith)) ∙ later-step list r p s (k + 1) n xs (omega arith)
+    rw e (later-step_after machine r p s (s + 1) xs (omega arith))
+later-step machine r p s k (suc n) [] h = refl
+later-step machine r p s k (suc n) (x ∷ xs) h =
+    later-no p s (entry machine r p k x) (entries_from machine r p (k + 1) xs) (not_after_step p s k (omega arith)) ∙ later-step machine r p s (k + 1) n xs (omega arith)
 
 -- all packets from a later one on
-later-joined_after : (list : List Insn) (p s q : ℕ) (capture : List Record) → p < q → later p s (joined_from list q capture) ≡ joined_from list q capture
-later-joined_after list p s q [] h = refl
-later-joined_after list p s q (r ∷ rest) h =
-    filter-append (λ (e : Entry). is_after (place_at p s) e.place) (packet_entries list r q) (joined_from list (q + 1) rest)
-    ∙ rw (later-packet_after list r p s q 1 (trace list r.bytes r.wire) h, later-joined_after list p s (q + 1) rest (omega arith)) refl
+later-joined_after : (machine : Machine) (p s q : ℕ) (capture : List Record) → p < q → later p s (joined_from machine q capture) ≡ joined_from machine q capture
+later-joined_after machine p s q [] h = refl
+later-joined_after machine p s q (r ∷ rest) h =
+    filter-append (λ (e : Entry). is_after (place_at p s) e.place) (packet_entries machine r q) (joined_from machine (q + 1) rest)
+    ∙ rw (later-packet_after machine r p s q 1 (trace machine r.bytes r.wire) h, later-joined_after machine p s (q + 1) rest (omega arith)) refl
 
 -- all packets, where the place is in the n-th of them
-later-joined : (list : List Insn) (p s q n : ℕ) (capture : List Record) (r : Record) → q + n ≡ p → slice_get capture n ≡ Some r
-    → later p s (joined_from list q capture) ≡ entries_from list r p (s + 1) (drop s (trace list r.bytes r.wire)) ++ joined_from list (p + 1) (drop (n + 1) capture)
-later-joined list p s q n [] r h g = absurd cc
-later-joined list p s q zero (x ∷ rest) r h g =
+later-joined : (machine : Machine) (p s q n : ℕ) (capture : List Record) (r : Record) → q + n ≡ p → slice_get capture n ≡ Some r
+    → later p s (joined_from machine q capture) ≡ entries_from machine r p (s + 1) (drop s (trace machine r.bytes r.wire)) ++ joined_from machine (p + 1) (drop (n + 1) capture)
+later-joined machine p s q n [] r h g = absurd cc
+later-joined machine p s q zero (x ∷ rest) r h g =
     let same : x ≡ r = cc in
     let at : q ≡ p = omega arith in
-    filter-append (λ (e : Entry). is_after (place_at p s) e.place) (packet_entries list x q) (joined_from list (q + 1) rest)
-    ∙ rw (at, same) (rw (later-step list r p s 1 s (trace list r.bytes r.wire) (omega arith), later-joined_after list p s (p + 1) rest (omega arith)) refl)
-later-joined list p s q (suc n) (x ∷ rest) r h g =
-    let ih = later-joined list p s (q + 1) n rest r (omega arith) g in
-    filter-append (λ (e : Entry). is_after (place_at p s) e.place) (packet_entries list x q) (joined_from list (q + 1) rest)
-    ∙ (let e : suc n + 1 ≡ suc (n + 1) = omega arith in rw (later-packet_before list x p s q 1 (trace list x.bytes x.wire) (omega arith), e) ih)
+    filter-append (λ (e : Entry). is_after (place_at p s) e.place) (packet_entries machine x q) (joined_from machine (q + 1) rest)
+    ∙ rw (at, same) (rw (later-step machine r p s 1 s (trace machine r.bytes r.wire) (omega arith), later-joined_after machine p s (p + 1) rest (omega arith)) refl)
+later-joined machine p s q (suc n) (x ∷ rest) r h g =
+    let ih = later-joined machine p s (q + 1) n rest r (omega arith) g in
+    filter-append (λ (e : Entry). is_after (place_at p s) e.place) (packet_entries machine x q) (joined_from machine (q + 1) rest)
+    ∙ (let e : suc n + 1 ≡ suc (n + 1) = omega arith in rw (later-packet_before machine x p s q 1 (trace machine x.bytes x.wire) (omega arith), e) ih)
 
 -- a place behind all packets
-later-joined_none : (list : List Insn) (p s q : ℕ) (capture : List Record) → q + length capture ≤ p → later p s (joined_from list q capture) ≡ []
-later-joined_none list p s q [] h = refl
-later-joined_none list p s q (x ∷ rest) h =
-    filter-append (λ (e : Entry). is_after (place_at p s) e.place) (packet_entries list x q) (joined_from list (q + 1) rest)
-    ∙ rw (later-packet_before list x p s q 1 (trace list x.bytes x.wire) (omega arith), later-joined_none list p s (q + 1) rest (omega arith)) refl
+later-joined_none : (machine : Machine) (p s q : ℕ) (capture : List Record) → q + length capture ≤ p → later p s (joined_from machine q capture) ≡ []
+later-joined_none machine p s q [] h = refl
+later-joined_none machine p s q (x ∷ rest) h =
+    filter-append (λ (e : Entry). is_after (place_at p s) e.place) (packet_entries machine x q) (joined_from machine (q + 1) rest)
+    ∙ rw (later-packet_before machine x p s q 1 (trace machine x.bytes x.wire) (omega arith), later-joined_none machine p s (q + 1) rest (omega arith)) refl
 
 -- what is ahead of a step of a packet of the capture
-pub ahead-in : (list : List Insn) (capture : List Record) (p s : ℕ) (r : Record) → 1 ≤ p → slice_get capture (p - 1) ≡ Some r
-    → ahead list capture (place_at p s) ≡ entries_from list r p (s + 1) (drop s (trace list r.bytes r.wire)) ++ joined_from list (p + 1) (drop p capture)
+pub ahead-in : (machine : Machine) (capture : List Record) (p s : ℕ) (r : Record) → 1 ≤ p → slice_get capture (p - 1) ≡ Some r
+    → ahead machine capture (place_at p s) ≡ entries_from machine r p (s + 1) (drop s (trace machine r.bytes r.wire)) ++ joined_from machine (p + 1) (drop p capture)
 unfolding joined
-ahead-in list capture p s r from_one at =
+ahead-in machine capture p s r from_one at =
     let e : p - 1 + 1 ≡ p = omega arith in
-    rw e at (later-joined list p s 1 (p - 1) capture r (omega arith) at)
+    rw e at (later-joined machine p s 1 (p - 1) capture r (omega arith) at)
 
 -- nothing is ahead behind the last packet
-pub ahead-end : (list : List Insn) (capture : List Record) (p s : ℕ) → length capture < p → ahead list capture (place_at p s) ≡ []
+pub ahead-end : (machine : Machine) (capture : List Record) (p s : ℕ) → length capture < p → ahead machine capture (place_at p s) ≡ []
 unfolding joined
-ahead-end list capture p s h = later-joined_none list p s 1 capture (omega arith)
+ahead-end machine capture p s h = later-joined_none machine p s 1 capture (omega arith)
 
 drop-slice_get : {X : Type 0} (xs : List X) (i : ℕ) (x : X) → slice_get xs i ≡ Some x → drop i xs ≡ x ∷ drop (i + 1) xs
 drop-slice_get [] i x h = cc
@@ -127,32 +127,32 @@ drop-past (x ∷ xs) zero h = absurd (omega arith)
 drop-past (x ∷ xs) (suc i) h = drop-past xs i (omega arith)
 
 -- the packet's next entry is the first ahead
-pub ahead-entry : (list : List Insn) (capture : List Record) (p s : ℕ) (r : Record) (t : Registers) → 1 ≤ p → slice_get capture (p - 1) ≡ Some r
-    → slice_get (trace list r.bytes r.wire) s ≡ Some t
-    → ahead list capture (place_at p s) ≡ entry list r p (s + 1) t ∷ ahead list capture (place_at p (s + 1))
-ahead-entry list capture p s r t from_one at entry_is =
-    ahead-in list capture p s r from_one at
-    ∙ rw (drop-slice_get (trace list r.bytes r.wire) s t entry_is)
-    (ap (λ rest. entry list r p (s + 1) t ∷ rest) (sym (ahead-in list capture p (s + 1) r from_one at)))
+pub ahead-entry : (machine : Machine) (capture : List Record) (p s : ℕ) (r : Record) (t : Registers) → 1 ≤ p → slice_get capture (p - 1) ≡ Some r
+    → slice_get (trace machine r.bytes r.wire) s ≡ Some t
+    → ahead machine capture (place_at p s) ≡ entry machine r p (s + 1) t ∷ ahead machine capture (place_at p (s + 1))
+ahead-entry machine capture p s r t from_one at entry_is =
+    ahead-in machine capture p s r from_one at
+    ∙ rw (drop-slice_get (trace machine r.bytes r.wire) s t entry_is)
+    (ap (λ rest. entry machine r p (s + 1) t ∷ rest) (sym (ahead-in machine capture p (s + 1) r from_one at)))
 
-joined-next : (list : List Insn) (capture : List Record) (p : ℕ) → 1 ≤ p → joined_from list (p + 1) (drop p capture) ≡ ahead list capture (place_at (p + 1) 0)
-joined-next list capture p from_one =
+joined-next : (machine : Machine) (capture : List Record) (p : ℕ) → 1 ≤ p → joined_from machine (p + 1) (drop p capture) ≡ ahead machine capture (place_at (p + 1) 0)
+joined-next machine capture p from_one =
     elim (slice_get_cases capture p).1 [
       | inl found ↦
           let e : p + 1 - 1 ≡ p = omega arith in
           let at : slice_get capture (p + 1 - 1) ≡ Some found.0 = rw e found.2 in
-          rw (drop-slice_get capture p found.0 found.2) (sym (ahead-in list capture (p + 1) 0 found.0 (omega arith) at))
+          rw (drop-slice_get capture p found.0 found.2) (sym (ahead-in machine capture (p + 1) 0 found.0 (omega arith) at))
       | inr past ↦
-          rw (drop-past capture p past.0) (sym (ahead-end list capture (p + 1) 0 (omega arith)))
+          rw (drop-past capture p past.0) (sym (ahead-end machine capture (p + 1) 0 (omega arith)))
     ]
 
 -- behind a packet's last entry comes the next packet
-pub ahead-leave : (list : List Insn) (capture : List Record) (p s : ℕ) (r : Record) → 1 ≤ p → slice_get capture (p - 1) ≡ Some r
-    → length (trace list r.bytes r.wire) ≤ s
-    → ahead list capture (place_at p s) ≡ ahead list capture (place_at (p + 1) 0)
-ahead-leave list capture p s r from_one at long =
-    ahead-in list capture p s r from_one at
-    ∙ rw (drop-past (trace list r.bytes r.wire) s long) (joined-next list capture p from_one)
+pub ahead-leave : (machine : Machine) (capture : List Record) (p s : ℕ) (r : Record) → 1 ≤ p → slice_get capture (p - 1) ≡ Some r
+    → length (trace machine r.bytes r.wire) ≤ s
+    → ahead machine capture (place_at p s) ≡ ahead machine capture (place_at (p + 1) 0)
+ahead-leave machine capture p s r from_one at long =
+    ahead-in machine capture p s r from_one at
+    ∙ rw (drop-past (trace machine r.bytes r.wire) s long) (joined-next machine capture p from_one)
 
 -- ---- the hits ahead
 
@@ -175,32 +175,32 @@ later-stops : (place : Place) (es : List Entry) → filter (λ (h : Stop). is_af
 later-stops place [] = refl
 later-stops place (e ∷ es) = map_head (stop_at why.Break) (is_after place e.place) e _ _ (later-stops place es)
 
-pub rest-ahead : (list : List Insn) (capture : List Record) (breakpoints : List ℕ) (place : Place)
-    → rest list capture breakpoints place ≡ map (stop_at why.Break) (filter (is_hit breakpoints) (ahead list capture place))
-rest-ahead list capture breakpoints place =
-    later-stops place (filter (is_hit breakpoints) (joined list capture))
-    ∙ ap (map (stop_at why.Break)) (filter-swap (λ (e : Entry). is_after place e.place) (is_hit breakpoints) (joined list capture))
+pub rest-ahead : (machine : Machine) (capture : List Record) (breakpoints : List ℕ) (place : Place)
+    → rest machine capture breakpoints place ≡ map (stop_at why.Break) (filter (is_hit breakpoints) (ahead machine capture place))
+rest-ahead machine capture breakpoints place =
+    later-stops place (filter (is_hit breakpoints) (joined machine capture))
+    ∙ ap (map (stop_at why.Break)) (filter-swap (λ (e : Entry). is_after place e.place) (is_hit breakpoints) (joined machine capture))
 
 -- ---- what a run passes over and stops at
 
-pub rest-hit : (list : List Insn) (capture : List Record) (breakpoints : List ℕ) (old new : Place) (e : Entry)
-    → ahead list capture old ≡ e ∷ ahead list capture new → is_hit breakpoints e ≡ true
-    → rest list capture breakpoints old ≡ stop_at why.Break e ∷ rest list capture breakpoints new
-rest-hit list capture breakpoints old new e h hit =
-    rw (rest-ahead list capture breakpoints old, rest-ahead list capture breakpoints new, h, hit) refl
+pub rest-hit : (machine : Machine) (capture : List Record) (breakpoints : List ℕ) (old new : Place) (e : Entry)
+    → ahead machine capture old ≡ e ∷ ahead machine capture new → is_hit breakpoints e ≡ true
+    → rest machine capture breakpoints old ≡ stop_at why.Break e ∷ rest machine capture breakpoints new
+rest-hit machine capture breakpoints old new e h hit =
+    rw (rest-ahead machine capture breakpoints old, rest-ahead machine capture breakpoints new, h, hit) refl
 
-pub rest-pass : (list : List Insn) (capture : List Record) (breakpoints : List ℕ) (old new : Place) (e : Entry)
-    → ahead list capture old ≡ e ∷ ahead list capture new → is_hit breakpoints e ≡ false
-    → rest list capture breakpoints old ≡ rest list capture breakpoints new
-rest-pass list capture breakpoints old new e h hit =
-    rw (rest-ahead list capture breakpoints old, rest-ahead list capture breakpoints new, h, hit) refl
+pub rest-pass : (machine : Machine) (capture : List Record) (breakpoints : List ℕ) (old new : Place) (e : Entry)
+    → ahead machine capture old ≡ e ∷ ahead machine capture new → is_hit breakpoints e ≡ false
+    → rest machine capture breakpoints old ≡ rest machine capture breakpoints new
+rest-pass machine capture breakpoints old new e h hit =
+    rw (rest-ahead machine capture breakpoints old, rest-ahead machine capture breakpoints new, h, hit) refl
 
-pub rest-same : (list : List Insn) (capture : List Record) (breakpoints : List ℕ) (old new : Place)
-    → ahead list capture old ≡ ahead list capture new
-    → rest list capture breakpoints old ≡ rest list capture breakpoints new
-rest-same list capture breakpoints old new h =
-    rw (rest-ahead list capture breakpoints old, rest-ahead list capture breakpoints new, h) refl
+pub rest-same : (machine : Machine) (capture : List Record) (breakpoints : List ℕ) (old new : Place)
+    → ahead machine capture old ≡ ahead machine capture new
+    → rest machine capture breakpoints old ≡ rest machine capture breakpoints new
+rest-same machine capture breakpoints old new h =
+    rw (rest-ahead machine capture breakpoints old, rest-ahead machine capture breakpoints new, h) refl
 
-pub rest-none : (list : List Insn) (capture : List Record) (breakpoints : List ℕ) (old : Place)
-    → ahead list capture old ≡ [] → rest list capture breakpoints old ≡ []
-rest-none list capture breakpoints old h = rw (rest-ahead list capture breakpoints old, h) refl
+pub rest-none : (machine : Machine) (capture : List Record) (breakpoints : List ℕ) (old : Place)
+    → ahead machine capture old ≡ [] → rest machine capture breakpoints old ≡ []
+rest-none machine capture breakpoints old h = rw (rest-ahead machine capture breakpoints old, h) refl

@@ -2,7 +2,7 @@
 use Rattle.std.proofs.Common.{◌≡◌, ℕ, ◌+◌, ◌-◌, ◌<◌, List, [], ◌∷◌, ◌++◌, length, take, arith, subst, length-take}
 use Rattle.std.specs.Prelude.{Some, slice_get}
 use Rattle.std.proofs.lemmas.Option.{slice_get_within}
-use Rattle.cbpf_code.specs.declared.insn.Insn.{Insn}
+use Rattle.cbpf_machine.specs.Machine.{Machine}
 use Rattle.cbpf_machine.specs.Registers.{Registers, zero_state}
 use Rattle.cbpf_machine.specs.Trace.{trace}
 use Rattle.cbpf_machine.proofs.TraceLemmas.{length-trace_from}
@@ -15,36 +15,36 @@ use Rattle.cbpf_machine.proofs.ListLemmas.{take-slice_get}
 use Rattle.cbpf_machine.proofs.SoundLemmas.{sound_few}
 
 -- the entry at a walk's place, in a packet that is known
-pub entry_at_place : (list : List Insn) (capture : List Record) (w : Walk) (r : Record) → Stands list capture w → 0 < w.place.step → slice_get capture (w.place.packet - 1) ≡ Some r
-    → slice_get (trace list r.bytes r.wire) (w.place.step - 1) ≡ Some w.state
-entry_at_place list capture w r h inside at =
+pub entry_at_place : (machine : Machine) (capture : List Record) (w : Walk) (r : Record) → Stands machine capture w → 0 < w.place.step → slice_get capture (w.place.packet - 1) ≡ Some r
+    → slice_get (trace machine r.bytes r.wire) (w.place.step - 1) ≡ Some w.state
+entry_at_place machine capture w r h inside at =
     let e = h.at inside in
     let same : e.0 ≡ r = cc in
-    subst (λ (q : Record). slice_get (trace list q.bytes q.wire) (w.place.step - 1) ≡ Some w.state) same e.2
+    subst (λ (q : Record). slice_get (trace machine q.bytes q.wire) (w.place.step - 1) ≡ Some w.state) same e.2
 
-pub keeps_push : (stands after : List Registers → Type 0) (list : List Insn) (capture : List Record) (old : Place) (w : Walk) (r : Record) → Stands list capture w
+pub keeps_push : (stands after : List Registers → Type 0) (machine : Machine) (capture : List Record) (old : Place) (w : Walk) (r : Record) → Stands machine capture w
     → slice_get capture (w.place.packet - 1) ≡ Some r → w.place.packet ≡ old.packet → w.place.step ≡ old.step + 1
-    → ((xs : List Registers) → stands xs → after (xs ++ w.state ∷ [])) → Keeps stands list capture old → Keeps after list capture w.place
-keeps_push stands after list capture old w r h at packet step pushed keeps = λ q there.
+    → ((xs : List Registers) → stands xs → after (xs ++ w.state ∷ [])) → Keeps stands machine capture old → Keeps after machine capture w.place
+keeps_push stands after machine capture old w r h at packet step pushed keeps = λ q there.
     let same : r ≡ q = cc in
     let before : slice_get capture (old.packet - 1) ≡ Some q = rw packet at there in
-    let here = entry_at_place list capture w q h (omega (arith, step)) there in
+    let here = entry_at_place machine capture w q h (omega (arith, step)) there in
     let i : w.place.step - 1 ≡ old.step = omega (arith, step) in
-    let entry : slice_get (trace list q.bytes q.wire) old.step ≡ Some w.state = rw i at here in
-    rw step (rw (take-slice_get (trace list q.bytes q.wire) old.step w.state entry) (pushed _ (keeps q before)))
+    let entry : slice_get (trace machine q.bytes q.wire) old.step ≡ Some w.state = rw i at here in
+    rw step (rw (take-slice_get (trace machine q.bytes q.wire) old.step w.state entry) (pushed _ (keeps q before)))
 
 -- fewer than 4096 are kept before the last entry
-pub keeps_few : (list : List Insn) (capture : List Record) (old : Place) (w : Walk) (r : Record) (kept : ℕ) → Stands list capture w
+pub keeps_few : (machine : Machine) (capture : List Record) (old : Place) (w : Walk) (r : Record) (kept : ℕ) → Stands machine capture w
     → slice_get capture (w.place.packet - 1) ≡ Some r → w.place.step ≡ old.step + 1
-    → length (take old.step (trace list r.bytes r.wire)) ≡ kept → kept < 4096
-keeps_few list capture old w r kept h at step e =
-    let here = entry_at_place list capture w r h (omega (arith, step)) at in
+    → length (take old.step (trace machine r.bytes r.wire)) ≡ kept → kept < 4096
+keeps_few machine capture old w r kept h at step e =
+    let here = entry_at_place machine capture w r h (omega (arith, step)) at in
     let i : w.place.step - 1 ≡ old.step = omega (arith, step) in
-    let entry : slice_get (trace list r.bytes r.wire) old.step ≡ Some w.state = rw i at here in
-    let within = slice_get_within (trace list r.bytes r.wire) old.step w.state entry in
-    let few = length-trace_from list r.bytes r.wire zero_state in
-    let least = sound_few list h.sound in
-    omega (arith, within, few, least, e, length-take old.step (trace list r.bytes r.wire))
+    let entry : slice_get (trace machine r.bytes r.wire) old.step ≡ Some w.state = rw i at here in
+    let within = slice_get_within (trace machine r.bytes r.wire) old.step w.state entry in
+    let few = length-trace_from machine r.bytes r.wire zero_state in
+    let least = sound_few machine.list h.sound in
+    omega (arith, within, few, least, e, length-take old.step (trace machine r.bytes r.wire))
 
-pub keeps_clear : (after : List Registers → Type 0) (list : List Insn) (capture : List Record) (new : Place) → new.step ≡ 0 → after [] → Keeps after list capture new
-keeps_clear after list capture new step h = λ r at. rw step h
+pub keeps_clear : (after : List Registers → Type 0) (machine : Machine) (capture : List Record) (new : Place) → new.step ≡ 0 → after [] → Keeps after machine capture new
+keeps_clear after machine capture new step h = λ r at. rw step h

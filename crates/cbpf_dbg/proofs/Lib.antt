@@ -2,6 +2,7 @@ pub mod JoinedLemmas
 pub mod CountLemmas
 pub mod WalkLemmas
 pub mod AskedLemmas
+pub mod CarryLemmas
 pub mod RunLemmas
 pub mod QuietLemmas
 pub mod TurnLemmas

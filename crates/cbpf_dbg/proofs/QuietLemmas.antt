@@ -1,9 +1,8 @@
 -- Packets of which no entry is a hit.
-use Rattle.std.proofs.Common.{◌≡◌, ℕ, zero, suc, ◌+◌, ◌-◌, ◌<◌, ◌≤◌, List, [], length, arith, sym, ap, ◌∙◌, refl, nat_eq, inl, inr}
+use Rattle.std.proofs.Common.{◌≡◌, ℕ, zero, suc, ◌+◌, ◌-◌, ◌<◌, ◌≤◌, List, [], length, arith, sym, ap, ◌∙◌, refl, inl, inr}
 use Rattle.std.specs.Prelude.{Some, slice_get}
-use Rattle.std.specs.List.{list_any}
 use Rattle.std.proofs.lemmas.Option.{slice_get_cases, slice_get_within}
-use Rattle.cbpf_code.specs.declared.insn.Insn.{Insn}
+use Rattle.cbpf_machine.specs.Machine.{Machine}
 use Rattle.cbpf_code.specs.Sound.{IsSound}
 use Rattle.cbpf_machine.specs.Registers.{zero_state}
 use Rattle.cbpf_machine.specs.Step.{turn}
@@ -12,7 +11,7 @@ use Rattle.cbpf_machine.proofs.TraceLemmas.{goes_from_entry}
 use Rattle.cbpf_machine.proofs.SoundLemmas.{sound_some}
 use Rattle.pcap_classic.specs.Records.{Record}
 use Rattle.cbpf_dbg.specs.declared.walk.Walk.{Walk}
-use Rattle.cbpf_dbg.specs.Joined.{ahead, rest}
+use Rattle.cbpf_dbg.specs.Joined.{carries, ahead, rest}
 use Rattle.cbpf_dbg.specs.Session.{IsQuiet}
 use Rattle.cbpf_dbg.specs.Walk.{Stands, passed}
 use Rattle.cbpf_dbg.proofs.AskedLemmas.{quiet_hit}
@@ -23,39 +22,39 @@ use Rattle.cbpf_dbg.proofs.RunLemmas.{hit_none}
 there : {X : Type 0} (xs : List X) (i : ℕ) → i < length xs → (x : X) × (slice_get xs i ≡ Some x)
 there xs i h = elim (slice_get_cases xs i).1 [ inl found ↦ (found.0, found.2) | inr past ↦ absurd (omega arith) ]
 
-module _ (list : List Insn) (capture : List Record) (p : ℕ) (r : Record) (sound : IsSound list) (quiet : IsQuiet list []) (from_one : 1 ≤ p) (at : slice_get capture (p - 1) ≡ Some r) where
+module _ (machine : Machine) (capture : List Record) (p : ℕ) (r : Record) (sound : IsSound machine.list) (quiet : IsQuiet machine []) (from_one : 1 ≤ p) (at : slice_get capture (p - 1) ≡ Some r) where
   -- n entries from a step on are no hits
-  entries-quiet : (k n m : ℕ) → k + n ≡ m → m ≤ length (trace list r.bytes r.wire)
-      → (rest list capture [] (place_at p k) ≡ rest list capture [] (place_at p m))
-      × (length (ahead list capture (place_at p k)) ≡ n + length (ahead list capture (place_at p m)))
+  entries-quiet : (k n m : ℕ) → k + n ≡ m → m ≤ length (trace machine r.bytes r.wire)
+      → (rest machine capture [] (place_at p k) ≡ rest machine capture [] (place_at p m))
+      × (length (ahead machine capture (place_at p k)) ≡ n + length (ahead machine capture (place_at p m)))
   entries-quiet k zero m e within =
       let same : k ≡ m = omega arith in
       rw same (refl, omega arith)
   entries-quiet k (suc n) m e within =
-      let s = there (trace list r.bytes r.wire) k (omega arith) in
-      let first = ahead-entry list capture p k r s.0 from_one at s.1 in
-      let inside = (goes_from_entry list r.bytes r.wire k zero_state s.0 sound (sound_some list sound) s.1).inside in
-      let no = hit_none (list_any (nat_eq s.0.pc) []) (turn list r.bytes r.wire s.0) (sym (quiet_hit list [] r.bytes r.wire s.0 inside quiet)) in
-      let same = rest-pass list capture [] (place_at p k) (place_at p (k + 1)) (entry list r p (k + 1) s.0) first no in
+      let s = there (trace machine r.bytes r.wire) k (omega arith) in
+      let first = ahead-entry machine capture p k r s.0 from_one at s.1 in
+      let inside = (goes_from_entry machine r.bytes r.wire k zero_state s.0 sound (sound_some machine.list sound) s.1).inside in
+      let no = hit_none (carries [] s.0) (turn machine r.bytes r.wire s.0) (sym (quiet_hit machine [] r.bytes r.wire s.0 inside quiet)) in
+      let same = rest-pass machine capture [] (place_at p k) (place_at p (k + 1)) (entry machine r p (k + 1) s.0) first no in
       let more = entries-quiet (k + 1) n m (omega arith) within in
       (same ∙ more.0, omega (arith, ap length first, more.1))
 
   -- none of a packet is
   pub packet-quiet : (k : ℕ) → k ≡ 0
-      → (rest list capture [] (place_at p k) ≡ rest list capture [] (place_at (p + 1) 0))
-      × (length (ahead list capture (place_at p k)) ≡ length (trace list r.bytes r.wire) + length (ahead list capture (place_at (p + 1) 0)))
+      → (rest machine capture [] (place_at p k) ≡ rest machine capture [] (place_at (p + 1) 0))
+      × (length (ahead machine capture (place_at p k)) ≡ length (trace machine r.bytes r.wire) + length (ahead machine capture (place_at (p + 1) 0)))
   packet-quiet k e =
-      let m : ℕ = length (trace list r.bytes r.wire) in
+      let m : ℕ = length (trace machine r.bytes r.wire) in
       let all = entries-quiet k m m (omega arith) (omega arith) in
-      let leave = ahead-leave list capture p m r from_one at (omega arith) in
-      (all.0 ∙ rest-same list capture [] (place_at p m) (place_at (p + 1) 0) leave, omega (arith, all.1, ap length leave))
+      let leave = ahead-leave machine capture p m r from_one at (omega arith) in
+      (all.0 ∙ rest-same machine capture [] (place_at p m) (place_at (p + 1) 0) leave, omega (arith, all.1, ap length leave))
 
-pub stands-passed : (list : List Insn) (capture : List Record) (w : Walk) (r : Record) → Stands list capture w → slice_get capture (w.place.packet - 1) ≡ Some r
-    → Stands list capture (passed w (outcome list r.bytes r.wire))
-stands-passed list capture w r h at =
+pub stands-passed : (machine : Machine) (capture : List Record) (w : Walk) (r : Record) → Stands machine capture w → slice_get capture (w.place.packet - 1) ≡ Some r
+    → Stands machine capture (passed w (outcome machine r.bytes r.wire))
+stands-passed machine capture w r h at =
     let one : 1 ≤ w.place.packet = let a = h.from_one in let b = h.ordered in omega arith in
     let here : w.place.packet - 1 < length capture = slice_get_within capture (w.place.packet - 1) r at in
-    let more = counts-more list capture w.origin w.place.packet r h.from_one h.ordered at in
+    let more = counts-more machine capture w.origin w.place.packet r h.from_one h.ordered at in
     record {
       sound = h.sound;
       from_one = h.from_one;

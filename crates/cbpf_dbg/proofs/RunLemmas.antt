@@ -1,9 +1,8 @@
 -- What a run answers where it ends.
 use Rattle.std.proofs.Common.{◌≡◌, ℕ, zero, suc, ◌+◌, ◌-◌, ◌<◌, ◌≤◌, List, [], ◌∷◌, length, Bool, true, false, arith, sym, ap, ◌∙◌, refl, inl, inr, cond}
-use Rattle.std.specs.Prelude.{Option, Some, None, slice_get, filter, ◌⊎◌, ◌||◌, nat_lt, nat_le, nat_eq, ◌≢◌}
+use Rattle.std.specs.Prelude.{Option, Some, None, slice_get, filter, ◌⊎◌, ◌||◌, nat_lt, nat_le, ◌≢◌}
 use Rattle.std.proofs.lemmas.Bool.Decides.{nat_tests}
-use Rattle.std.specs.List.{list_any}
-use Rattle.cbpf_code.specs.declared.insn.Insn.{Insn}
+use Rattle.cbpf_machine.specs.Machine.{Machine}
 use Rattle.cbpf_machine.specs.declared.outcome.Turn.{Turn}
 use Rattle.cbpf_machine.specs.declared.outcome.Turn.TheVariants.{Next, Returned, Outside, ZeroDivisor, Unknown}
 use Rattle.cbpf_machine.specs.Step.{turn, asked}
@@ -15,7 +14,7 @@ use Rattle.cbpf_dbg.specs.declared.reply.Why.{Why}
 use Rattle.cbpf_dbg.specs.declared.reply.Why.TheVariants as why
 use Rattle.cbpf_dbg.specs.declared.reply.RunReply.TheVariants.{Stopped, Limit, Finished}
 use Rattle.cbpf_dbg.specs.declared.walk.Walk.{Walk}
-use Rattle.cbpf_dbg.specs.Joined.{ahead, rest, counts, stop_at, why_of, is_unknown, hit_for, is_after, stops}
+use Rattle.cbpf_dbg.specs.Joined.{carries, ahead, rest, counts, stop_at, why_of, is_unknown, hit_for, is_after, stops}
 use Rattle.cbpf_dbg.specs.View.{View, start}
 use Rattle.cbpf_dbg.specs.Commands.{run_to, run_out, within_limit, finished, limited}
 use Rattle.cbpf_dbg.specs.Walk.{Stands, view_at, entry_here, Runs, StepsOn, Below, is_limit}
@@ -76,20 +75,20 @@ hit_none true (Unknown e) h = absurd cc
 hit_none false (Unknown e) h = absurd cc
 
 -- a hit is the first that is ahead
-pub stop_front : (list : List Insn) (capture : List Record) (breakpoints : List ℕ) (w1 w2 : Walk) (r : Record) (y : Why)
-    → ahead list capture w1.place ≡ entry_here list r w2 ∷ ahead list capture w2.place
-    → hit_for (list_any (nat_eq w2.state.pc) breakpoints) (asked (turn list r.bytes r.wire w2.state)) ≡ Some y
-    → rest list capture breakpoints w1.place ≡ (record { place = w2.place; state = w2.state; why = y }) ∷ rest list capture breakpoints w2.place
-stop_front list capture breakpoints w1 w2 r y h hit =
-    let yes = hit_some (list_any (nat_eq w2.state.pc) breakpoints) (turn list r.bytes r.wire w2.state) y hit in
-    rw yes.0 (rest-hit list capture breakpoints w1.place w2.place (entry_here list r w2) h yes.1)
+pub stop_front : (machine : Machine) (capture : List Record) (breakpoints : List ℕ) (w1 w2 : Walk) (r : Record) (y : Why)
+    → ahead machine capture w1.place ≡ entry_here machine r w2 ∷ ahead machine capture w2.place
+    → hit_for (carries breakpoints w2.state) (asked (turn machine r.bytes r.wire w2.state)) ≡ Some y
+    → rest machine capture breakpoints w1.place ≡ (record { place = w2.place; state = w2.state; why = y }) ∷ rest machine capture breakpoints w2.place
+stop_front machine capture breakpoints w1 w2 r y h hit =
+    let yes = hit_some (carries breakpoints w2.state) (turn machine r.bytes r.wire w2.state) y hit in
+    rw yes.0 (rest-hit machine capture breakpoints w1.place w2.place (entry_here machine r w2) h yes.1)
 
 -- ---- the three ends
 
-run_out_end : (m : View) (list : List Insn) (capture : List Record) (limit : Option ℕ) (packet : ℕ) → Below limit m.place.packet packet (length capture) → packet ≡ length capture + 1
-    → run_out m list capture limit ≡ finished m list capture
-run_out_end m list capture None packet below end = refl
-run_out_end m list capture (Some n) packet below end =
+run_out_end : (m : View) (machine : Machine) (capture : List Record) (limit : Option ℕ) (packet : ℕ) → Below limit m.place.packet packet (length capture) → packet ≡ length capture + 1
+    → run_out m machine capture limit ≡ finished m machine capture
+run_out_end m machine capture None packet below end = refl
+run_out_end m machine capture (Some n) packet below end =
     let most : packet ≤ m.place.packet + n = below.0 in
     let no : nat_le (m.place.packet + n) (length capture) ≡ false = grind (arith, nat_tests) in
     rw no refl
@@ -97,15 +96,15 @@ run_out_end m list capture (Some n) packet below end =
 is_limit-some : (n k : ℕ) → is_limit (Some n) k ≡ true → n ≡ k
 is_limit-some n k h = grind (arith, nat_tests)
 
-run_to_limit : (m : View) (list : List Insn) (capture : List Record) (limit : Option ℕ) (packet : ℕ) (hs : List Stop) → is_limit limit (packet - m.place.packet) ≡ true → m.place.packet ≤ packet → packet ≤ length capture
+run_to_limit : (m : View) (machine : Machine) (capture : List Record) (limit : Option ℕ) (packet : ℕ) (hs : List Stop) → is_limit limit (packet - m.place.packet) ≡ true → m.place.packet ≤ packet → packet ≤ length capture
     → ((h : Stop) (more : List Stop) → hs ≡ h ∷ more → packet ≤ h.place.packet)
-    → run_to m list capture limit hs ≡ limited m list capture packet
-run_to_limit m list capture None packet hs at forward here later = absurd cc
-run_to_limit m list capture (Some n) packet [] at forward here later =
+    → run_to m machine capture limit hs ≡ limited m machine capture packet
+run_to_limit m machine capture None packet hs at forward here later = absurd cc
+run_to_limit m machine capture (Some n) packet [] at forward here later =
     let e : m.place.packet + n ≡ packet = let l = is_limit-some n (packet - m.place.packet) at in omega arith in
     let yes : nat_le packet (length capture) ≡ true = grind (arith, nat_tests) in
     rw e (rw yes refl)
-run_to_limit m list capture (Some n) packet (h ∷ more) at forward here later =
+run_to_limit m machine capture (Some n) packet (h ∷ more) at forward here later =
     let l = is_limit-some n (packet - m.place.packet) at in
     let behind : packet ≤ h.place.packet = later h more refl in
     let e : m.place.packet + n ≡ packet = omega arith in
@@ -124,29 +123,29 @@ filter-head f (y ∷ xs) x ys h = filter-head_at f y xs x ys (f y) refl (λ x' y
 not_before : (a b : Place) → is_after a b ≡ true → a.packet ≤ b.packet
 not_before a b h = grind (arith, nat_tests)
 
-rest-behind : (list : List Insn) (capture : List Record) (breakpoints : List ℕ) (place : Place) (h : Stop) (more : List Stop) → rest list capture breakpoints place ≡ h ∷ more → place.packet ≤ h.place.packet
-rest-behind list capture breakpoints place h more e =
-    not_before place h.place (filter-head (λ (k : Stop). is_after place k.place) (stops list capture breakpoints) h more e)
+rest-behind : (machine : Machine) (capture : List Record) (breakpoints : List ℕ) (place : Place) (h : Stop) (more : List Stop) → rest machine capture breakpoints place ≡ h ∷ more → place.packet ≤ h.place.packet
+rest-behind machine capture breakpoints place h more e =
+    not_before place h.place (filter-head (λ (k : Stop). is_after place k.place) (stops machine capture breakpoints) h more e)
 
-pub rest-head : (list : List Insn) (capture : List Record) (breakpoints : List ℕ) (place : Place) (h : Stop) (more : List Stop) → rest list capture breakpoints place ≡ h ∷ more → is_after place h.place ≡ true
-rest-head list capture breakpoints place h more e = filter-head (λ (k : Stop). is_after place k.place) (stops list capture breakpoints) h more e
+pub rest-head : (machine : Machine) (capture : List Record) (breakpoints : List ℕ) (place : Place) (h : Stop) (more : List Stop) → rest machine capture breakpoints place ≡ h ∷ more → is_after place h.place ≡ true
+rest-head machine capture breakpoints place h more e = filter-head (λ (k : Stop). is_after place k.place) (stops machine capture breakpoints) h more e
 
-module _ (list : List Insn) (c : Savefile) (breakpoints : List ℕ) (limit : Option ℕ) (w0 : Walk) where
+module _ (machine : Machine) (c : Savefile) (breakpoints : List ℕ) (limit : Option ℕ) (w0 : Walk) where
   abbrev pub hits : Place → List Stop
-  hits place = rest list c.records breakpoints place
+  hits place = rest machine c.records breakpoints place
 
   abbrev pub view0 : View
-  view0 = view_at list c breakpoints w0
+  view0 = view_at machine c breakpoints w0
 
   pub run_stopped : (w1 w2 : Walk) (r : Record) (y : Why) → hits w1.place ≡ hits w0.place → w2.origin ≡ w0.origin
-      → ahead list c.records w1.place ≡ entry_here list r w2 ∷ ahead list c.records w2.place
-      → hit_for (list_any (nat_eq w2.state.pc) breakpoints) (asked (turn list r.bytes r.wire w2.state)) ≡ Some y
+      → ahead machine c.records w1.place ≡ entry_here machine r w2 ∷ ahead machine c.records w2.place
+      → hit_for (carries breakpoints w2.state) (asked (turn machine r.bytes r.wire w2.state)) ≡ Some y
       → Below limit w0.place.packet w2.place.packet (length c.records) → w2.place.packet ≤ length c.records → w0.place.packet ≤ w2.place.packet
-      → Runs list c breakpoints w0 w2 limit (Stopped (record { place = w2.place; state = w2.state; why = y }))
+      → Runs machine c breakpoints w0 w2 limit (Stopped (record { place = w2.place; state = w2.state; why = y }))
   run_stopped w1 w2 r y same origin h hit below here forward =
-      let yes = hit_some (list_any (nat_eq w2.state.pc) breakpoints) (turn list r.bytes r.wire w2.state) y hit in
-      let front : hits w0.place ≡ stop_at why.Break (entry_here list r w2) ∷ hits w2.place =
-      sym same ∙ rest-hit list c.records breakpoints w1.place w2.place (entry_here list r w2) h yes.1 in
+      let yes = hit_some (carries breakpoints w2.state) (turn machine r.bytes r.wire w2.state) y hit in
+      let front : hits w0.place ≡ stop_at why.Break (entry_here machine r w2) ∷ hits w2.place =
+      sym same ∙ rest-hit machine c.records breakpoints w1.place w2.place (entry_here machine r w2) h yes.1 in
       let inside = within_below limit w0.place.packet w2.place.packet (length c.records) below here forward in
       record {
         reply_is = rw (front, inside, yes.0) refl;
@@ -154,29 +153,29 @@ module _ (list : List Insn) (c : Savefile) (breakpoints : List ℕ) (limit : Opt
         origin_is = rw (front, inside) origin;
       }
 
-  pub run_finished : (w1 w2 : Walk) → Stands list c.records w1 → hits w1.place ≡ hits w0.place → w1.origin ≡ w0.origin
-      → w1.place.packet ≡ length c.records + 1 → ahead list c.records w1.place ≡ []
+  pub run_finished : (w1 w2 : Walk) → Stands machine c.records w1 → hits w1.place ≡ hits w0.place → w1.origin ≡ w0.origin
+      → w1.place.packet ≡ length c.records + 1 → ahead machine c.records w1.place ≡ []
       → Below limit w0.place.packet w1.place.packet (length c.records)
       → w2.place ≡ start → w2.origin ≡ 1
-      → Runs list c breakpoints w0 w2 limit (Finished w1.counts)
+      → Runs machine c breakpoints w0 w2 limit (Finished w1.counts)
   run_finished w1 w2 stands same origin end none below place2 origin2 =
-      let front : hits w0.place ≡ [] = sym same ∙ rest-none list c.records breakpoints w1.place none in
-      let out = run_out_end view0 list c.records limit w1.place.packet below end in
-      let counted : w1.counts ≡ counts list c.records w0.origin (length c.records + 1) = rw (← origin, ← end) stands.counted in
+      let front : hits w0.place ≡ [] = sym same ∙ rest-none machine c.records breakpoints w1.place none in
+      let out = run_out_end view0 machine c.records limit w1.place.packet below end in
+      let counted : w1.counts ≡ counts machine c.records w0.origin (length c.records + 1) = rw (← origin, ← end) stands.counted in
       record {
         reply_is = rw (front, out) (ap Finished counted);
         place_is = rw (front, out) place2;
         origin_is = rw (front, out) origin2;
       }
 
-  pub run_limited : (w1 w2 : Walk) → Stands list c.records w2 → hits w2.place ≡ hits w0.place → w2.origin ≡ w0.origin
+  pub run_limited : (w1 w2 : Walk) → Stands machine c.records w2 → hits w2.place ≡ hits w0.place → w2.origin ≡ w0.origin
       → w2.place ≡ record { packet = w1.place.packet + 1; step = 0 } → w0.place.packet ≤ w2.place.packet
       → is_limit limit (w2.place.packet - w0.place.packet) ≡ true → w2.place.packet ≤ length c.records
-      → Runs list c breakpoints w0 w2 limit (Limit w2.counts)
+      → Runs machine c breakpoints w0 w2 limit (Limit w2.counts)
   run_limited w1 w2 stands same origin place forward at here =
-      let out : run_to view0 list c.records limit (hits w0.place) ≡ limited view0 list c.records w2.place.packet =
-      rw (← same) (run_to_limit view0 list c.records limit w2.place.packet (hits w2.place) at forward here (λ h more e. rest-behind list c.records breakpoints w2.place h more e)) in
-      let counted : w2.counts ≡ counts list c.records w0.origin w2.place.packet = rw (← origin) stands.counted in
+      let out : run_to view0 machine c.records limit (hits w0.place) ≡ limited view0 machine c.records w2.place.packet =
+      rw (← same) (run_to_limit view0 machine c.records limit w2.place.packet (hits w2.place) at forward here (λ h more e. rest-behind machine c.records breakpoints w2.place h more e)) in
+      let counted : w2.counts ≡ counts machine c.records w0.origin w2.place.packet = rw (← origin) stands.counted in
       record {
         reply_is = rw out (ap Limit counted);
         place_is = rw out (rw place refl);
@@ -193,10 +192,10 @@ slice_get-later x xs k h =
 pub slice_get-first : {X : Type 0} (x : X) (xs : List X) (k : ℕ) → k ≡ 1 → slice_get (x ∷ xs) (k - 1) ≡ Some x
 slice_get-first x xs k h = rw h refl
 
-module _ (list : List Insn) (c : Savefile) (breakpoints : List ℕ) (n : ℕ) (w0 : Walk) where
-  pub step_stopped : (w2 : Walk) (r : Record) (y : Why) → slice_get (ahead list c.records w0.place) (n - 1) ≡ Some (entry_here list r w2)
-      → y ≡ why_of why.Step (turn list r.bytes r.wire w2.state) → w2.origin ≡ w0.origin
-      → StepsOn list c breakpoints w0 w2 n (Stopped (record { place = w2.place; state = w2.state; why = y }))
+module _ (machine : Machine) (c : Savefile) (breakpoints : List ℕ) (n : ℕ) (w0 : Walk) where
+  pub step_stopped : (w2 : Walk) (r : Record) (y : Why) → slice_get (ahead machine c.records w0.place) (n - 1) ≡ Some (entry_here machine r w2)
+      → y ≡ why_of why.Step (turn machine r.bytes r.wire w2.state) → w2.origin ≡ w0.origin
+      → StepsOn machine c breakpoints w0 w2 n (Stopped (record { place = w2.place; state = w2.state; why = y }))
   step_stopped w2 r y sought reason origin =
       record {
         reply_is = rw (sought, reason) refl;
@@ -204,11 +203,11 @@ module _ (list : List Insn) (c : Savefile) (breakpoints : List ℕ) (n : ℕ) (w
         origin_is = rw sought origin;
       }
 
-  pub step_finished : (w1 w2 : Walk) → slice_get (ahead list c.records w0.place) (n - 1) ≡ None → Stands list c.records w1 → w1.origin ≡ w0.origin
+  pub step_finished : (w1 w2 : Walk) → slice_get (ahead machine c.records w0.place) (n - 1) ≡ None → Stands machine c.records w1 → w1.origin ≡ w0.origin
       → w1.place.packet ≡ length c.records + 1 → w2.place ≡ start → w2.origin ≡ 1
-      → StepsOn list c breakpoints w0 w2 n (Finished w1.counts)
+      → StepsOn machine c breakpoints w0 w2 n (Finished w1.counts)
   step_finished w1 w2 sought stands origin end place2 origin2 =
-      let counted : w1.counts ≡ counts list c.records w0.origin (length c.records + 1) = rw (← origin, ← end) stands.counted in
+      let counted : w1.counts ≡ counts machine c.records w0.origin (length c.records + 1) = rw (← origin, ← end) stands.counted in
       record {
         reply_is = rw sought (ap Finished counted);
         place_is = rw sought place2;

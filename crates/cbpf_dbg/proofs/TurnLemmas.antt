@@ -8,7 +8,7 @@ use Rattle.cbpf_code.specs.Sound.{IsSound}
 use Rattle.cbpf_machine.specs.Registers.{zero_state}
 use Rattle.cbpf_machine.proofs.SoundLemmas.{sound_few}
 use Rattle.cbpf_machine.proofs.TraceLemmas.{length-trace_from}
-use Rattle.cbpf_code.specs.declared.insn.Insn.{Insn}
+use Rattle.cbpf_machine.specs.Machine.{Machine}
 use Rattle.cbpf_machine.specs.Registers.{Registers}
 use Rattle.cbpf_machine.specs.Trace.{trace}
 use Rattle.pcap_classic.specs.Records.{Record}
@@ -65,14 +65,14 @@ from_one-append : (xs ys : List Entry) → FromOne xs → FromOne ys → FromOne
 from_one-append [] ys h k = k
 from_one-append (x ∷ xs) ys h k = (h.0, from_one-append xs ys h.1 k)
 
-from_one-entries : (list : List Insn) (r : Record) (p k : ℕ) (xs : List Registers) → 1 ≤ k → FromOne (entries_from list r p k xs)
-from_one-entries list r p k [] h = tt
-from_one-entries list r p k (x ∷ xs) h = (h, from_one-entries list r p (k + 1) xs (omega arith))
+from_one-entries : (machine : Machine) (r : Record) (p k : ℕ) (xs : List Registers) → 1 ≤ k → FromOne (entries_from machine r p k xs)
+from_one-entries machine r p k [] h = tt
+from_one-entries machine r p k (x ∷ xs) h = (h, from_one-entries machine r p (k + 1) xs (omega arith))
 
-from_one-joined : (list : List Insn) (p : ℕ) (capture : List Record) → FromOne (joined_from list p capture)
-from_one-joined list p [] = tt
-from_one-joined list p (r ∷ rest) =
-    from_one-append (packet_entries list r p) (joined_from list (p + 1) rest) (from_one-entries list r p 1 (trace list r.bytes r.wire) (omega arith)) (from_one-joined list (p + 1) rest)
+from_one-joined : (machine : Machine) (p : ℕ) (capture : List Record) → FromOne (joined_from machine p capture)
+from_one-joined machine p [] = tt
+from_one-joined machine p (r ∷ rest) =
+    from_one-append (packet_entries machine r p) (joined_from machine (p + 1) rest) (from_one-entries machine r p 1 (trace machine r.bytes r.wire) (omega arith)) (from_one-joined machine (p + 1) rest)
 
 count_same : (f g : Entry → Bool) (xs : List Entry) → FromOne xs → ((e : Entry) → 1 ≤ e.place.step → f e ≡ g e) → count_by f xs ≡ count_by g xs
 count_same f g [] h same = refl
@@ -85,64 +85,64 @@ at_or_after p s q k h = grind (arith, nat_tests)
 at_or_after_none : (p q k : ℕ) → 1 ≤ k → not (is_after (place_at q k) (place_at p 0)) ≡ is_after (place_at p 0) (place_at q k)
 at_or_after_none p q k h = grind (arith, nat_tests)
 
-to_end_step : (list : List Insn) (capture : List Record) (p s : ℕ) → 1 ≤ s → turns_to_end list capture (place_at p s) ≡ length (ahead list capture (place_at p (s - 1)))
+to_end_step : (machine : Machine) (capture : List Record) (p s : ℕ) → 1 ≤ s → turns_to_end machine capture (place_at p s) ≡ length (ahead machine capture (place_at p (s - 1)))
 unfolding joined
-to_end_step list capture p s h =
-    count_same (λ e. not (is_after e.place (place_at p s))) (λ e. is_after (place_at p (s - 1)) e.place) (joined_from list 1 capture) (from_one-joined list 1 capture)
+to_end_step machine capture p s h =
+    count_same (λ e. not (is_after e.place (place_at p s))) (λ e. is_after (place_at p (s - 1)) e.place) (joined_from machine 1 capture) (from_one-joined machine 1 capture)
     (λ e k. at_or_after p s e.place.packet e.place.step h)
-    ∙ count_filter (λ e. is_after (place_at p (s - 1)) e.place) (joined_from list 1 capture)
+    ∙ count_filter (λ e. is_after (place_at p (s - 1)) e.place) (joined_from machine 1 capture)
 
-to_end_none : (list : List Insn) (capture : List Record) (p : ℕ) → turns_to_end list capture (place_at p 0) ≡ length (ahead list capture (place_at p 0))
+to_end_none : (machine : Machine) (capture : List Record) (p : ℕ) → turns_to_end machine capture (place_at p 0) ≡ length (ahead machine capture (place_at p 0))
 unfolding joined
-to_end_none list capture p =
-    count_same (λ e. not (is_after e.place (place_at p 0))) (λ e. is_after (place_at p 0) e.place) (joined_from list 1 capture) (from_one-joined list 1 capture)
+to_end_none machine capture p =
+    count_same (λ e. not (is_after e.place (place_at p 0))) (λ e. is_after (place_at p 0) e.place) (joined_from machine 1 capture) (from_one-joined machine 1 capture)
     (λ e k. at_or_after_none p e.place.packet e.place.step k)
-    ∙ count_filter (λ e. is_after (place_at p 0) e.place) (joined_from list 1 capture)
+    ∙ count_filter (λ e. is_after (place_at p 0) e.place) (joined_from machine 1 capture)
 
 -- what a walk owes is what it takes to the end
-owed_at : (list : List Insn) (capture : List Record) (w : Walk) (k : ℕ) → Stands list capture w → k ≡ w.place.step → turns_to_end list capture (place_at w.place.packet k) ≡ owed list capture (place_at w.place.packet k)
-owed_at list capture w zero h e = to_end_none list capture w.place.packet ∙ omega arith
-owed_at list capture w (suc k) h e =
+owed_at : (machine : Machine) (capture : List Record) (w : Walk) (k : ℕ) → Stands machine capture w → k ≡ w.place.step → turns_to_end machine capture (place_at w.place.packet k) ≡ owed machine capture (place_at w.place.packet k)
+owed_at machine capture w zero h e = to_end_none machine capture w.place.packet ∙ omega arith
+owed_at machine capture w (suc k) h e =
     let at = h.at (omega arith) in
     let one : 1 ≤ w.place.packet = let a = h.from_one in let b = h.ordered in omega arith in
     let i : w.place.step - 1 ≡ k = omega arith in
-    let here : slice_get (trace list at.0.bytes at.0.wire) k ≡ Some w.state = rw i at at.2 in
-    let first = ahead-entry list capture w.place.packet k at.0 w.state one at.1 here in
-    let total = to_end_step list capture w.place.packet (suc k) (omega arith) in
+    let here : slice_get (trace machine at.0.bytes at.0.wire) k ≡ Some w.state = rw i at at.2 in
+    let first = ahead-entry machine capture w.place.packet k at.0 w.state one at.1 here in
+    let total = to_end_step machine capture w.place.packet (suc k) (omega arith) in
     let j : suc k - 1 ≡ k = omega arith in
-    let sofar : turns_to_end list capture (place_at w.place.packet (suc k)) ≡ length (ahead list capture (place_at w.place.packet k)) = rw j at total in
+    let sofar : turns_to_end machine capture (place_at w.place.packet (suc k)) ≡ length (ahead machine capture (place_at w.place.packet k)) = rw j at total in
     let n : k + 1 ≡ suc k = omega arith in
-    let then_ = subst (λ x. length (ahead list capture (place_at w.place.packet k)) ≡ suc (length (ahead list capture (place_at w.place.packet x)))) n (ap length first) in
+    let then_ = subst (λ x. length (ahead machine capture (place_at w.place.packet k)) ≡ suc (length (ahead machine capture (place_at w.place.packet x)))) n (ap length first) in
     omega (arith, sofar, then_)
 
-pub owed-turns : (list : List Insn) (capture : List Record) (w : Walk) → Stands list capture w → turns_to_end list capture w.place ≡ owed list capture w.place
-owed-turns list capture w h = owed_at list capture w w.place.step h refl
+pub owed-turns : (machine : Machine) (capture : List Record) (w : Walk) → Stands machine capture w → turns_to_end machine capture w.place ≡ owed machine capture w.place
+owed-turns machine capture w h = owed_at machine capture w w.place.step h refl
 
 order_test : (old new e : Place) → NotBefore new old → is_after e new ≡ false → not (is_after e old) ≡ true
 order_test old new e h k = elim h [ inl less ↦ grind (arith, nat_tests) | inr same ↦ (let a = same.0 in let b = same.1 in grind (arith, nat_tests)) ]
 
 -- the turns to a later place and from it to the end
-pub turns-split : (list : List Insn) (capture : List Record) (old new : Place) → NotBefore new old → turns_to_end list capture old ≡ turns_between list capture old new + turns_to_end list capture new
-turns-split list capture old new h =
-    count_split (λ e. not (is_after e.place old)) (λ e. is_after e.place new) (joined list capture) (λ e k. order_test old new e.place h k)
+pub turns-split : (machine : Machine) (capture : List Record) (old new : Place) → NotBefore new old → turns_to_end machine capture old ≡ turns_between machine capture old new + turns_to_end machine capture new
+turns-split machine capture old new h =
+    count_split (λ e. not (is_after e.place old)) (λ e. is_after e.place new) (joined machine capture) (λ e k. order_test old new e.place h k)
 
 -- ---- by a run's answer
 
-abbrev pub reply_turns : List Insn → List Record → Place → RunReply → Place → ℕ
-reply_turns list capture old (Stopped s) new = turns_between list capture old new
-reply_turns list capture old (Limit n) new = turns_between list capture old new
-reply_turns list capture old (Finished n) new = turns_to_end list capture old
+abbrev pub reply_turns : Machine → List Record → Place → RunReply → Place → ℕ
+reply_turns machine capture old (Stopped s) new = turns_between machine capture old new
+reply_turns machine capture old (Limit n) new = turns_between machine capture old new
+reply_turns machine capture old (Finished n) new = turns_to_end machine capture old
 
-turns_in_at : (m : View) (list : List Insn) (capture : List Record) (r : RunReply) (v : View) → turns_in m list capture (r, v) ≡ reply_turns list capture m.place r v.place
-turns_in_at m list capture (Stopped s) v = refl
-turns_in_at m list capture (Limit n) v = refl
-turns_in_at m list capture (Finished n) v = refl
+turns_in_at : (m : View) (machine : Machine) (capture : List Record) (r : RunReply) (v : View) → turns_in m machine capture (r, v) ≡ reply_turns machine capture m.place r v.place
+turns_in_at m machine capture (Stopped s) v = refl
+turns_in_at m machine capture (Limit n) v = refl
+turns_in_at m machine capture (Finished n) v = refl
 
-pub run_turns-reply : (list : List Insn) (c : Savefile) (breakpoints : List ℕ) (old new : Walk) (limit : Option ℕ) (reply : RunReply) → Runs list c breakpoints old new limit reply
-    → run_turns list c breakpoints old limit ≡ reply_turns list c.records old.place reply new.place
-run_turns-reply list c breakpoints old new limit reply h =
-    let a : RunReply × View = run_from list c breakpoints old limit in
-    turns_in_at (view_at list c breakpoints old) list c.records a.0 a.1
+pub run_turns-reply : (machine : Machine) (c : Savefile) (breakpoints : List ℕ) (old new : Walk) (limit : Option ℕ) (reply : RunReply) → Runs machine c breakpoints old new limit reply
+    → run_turns machine c breakpoints old limit ≡ reply_turns machine c.records old.place reply new.place
+run_turns-reply machine c breakpoints old new limit reply h =
+    let a : RunReply × View = run_from machine c breakpoints old limit in
+    turns_in_at (view_at machine c breakpoints old) machine c.records a.0 a.1
     ∙ rw (h.reply_is, h.place_is) refl
 
 pub not_before_step : (old mid new : Place) → NotBefore mid old → new.packet ≡ mid.packet → mid.step < new.step → NotBefore new old
@@ -152,51 +152,51 @@ pub not_before_packet : (old mid new : Place) → NotBefore mid old → new.pack
 not_before_packet old mid new h p = elim h [ inl less ↦ inl (omega arith) | inr same ↦ inl (let a = same.0 in omega arith) ]
 
 -- the turns of a walk to a later place, by what it owed and owes
-pub spent_between : (list : List Insn) (capture : List Record) (old new : Walk) (before after : ℕ) → Stands list capture old → Stands list capture new → NotBefore new.place old.place
-    → after + owed list capture new.place ≡ before + owed list capture old.place → after ≡ before + turns_between list capture old.place new.place
-spent_between list capture old new before after h k order e =
-    let a = owed-turns list capture old h in
-    let b = owed-turns list capture new k in
-    let c = turns-split list capture old.place new.place order in
+pub spent_between : (machine : Machine) (capture : List Record) (old new : Walk) (before after : ℕ) → Stands machine capture old → Stands machine capture new → NotBefore new.place old.place
+    → after + owed machine capture new.place ≡ before + owed machine capture old.place → after ≡ before + turns_between machine capture old.place new.place
+spent_between machine capture old new before after h k order e =
+    let a = owed-turns machine capture old h in
+    let b = owed-turns machine capture new k in
+    let c = turns-split machine capture old.place new.place order in
     omega (arith, a, b, c, e)
 
 length_filter : {X : Type 0} (f : X → Bool) (xs : List X) → length (filter f xs) ≤ length xs
 length_filter f [] = omega arith
 length_filter f (x ∷ xs) = omega (arith, count_filter f (x ∷ xs), count_by-le-length f (x ∷ xs))
 
-length_entries : (list : List Insn) (r : Record) (p k : ℕ) (xs : List Registers) → length (entries_from list r p k xs) ≡ length xs
-length_entries list r p k [] = refl
-length_entries list r p k (x ∷ xs) = ap suc (length_entries list r p (k + 1) xs)
+length_entries : (machine : Machine) (r : Record) (p k : ℕ) (xs : List Registers) → length (entries_from machine r p k xs) ≡ length xs
+length_entries machine r p k [] = refl
+length_entries machine r p k (x ∷ xs) = ap suc (length_entries machine r p (k + 1) xs)
 
-pub length_joined : (list : List Insn) (p : ℕ) (capture : List Record) → IsSound list → length (joined_from list p capture) ≤ 4096 * length capture
-length_joined list p [] h = omega arith
-length_joined list p (r ∷ rest) h =
+pub length_joined : (machine : Machine) (p : ℕ) (capture : List Record) → IsSound machine.list → length (joined_from machine p capture) ≤ 4096 * length capture
+length_joined machine p [] h = omega arith
+length_joined machine p (r ∷ rest) h =
     omega (
       arith,
-      length-append (packet_entries list r p) (joined_from list (p + 1) rest),
-      length_joined list (p + 1) rest h,
-      length_entries list r p 1 (trace list r.bytes r.wire),
-      length-trace_from list r.bytes r.wire zero_state,
-      sound_few list h,
+      length-append (packet_entries machine r p) (joined_from machine (p + 1) rest),
+      length_joined machine (p + 1) rest h,
+      length_entries machine r p 1 (trace machine r.bytes r.wire),
+      length-trace_from machine r.bytes r.wire zero_state,
+      sound_few machine.list h,
     )
 
 -- a session owes few turns
-pub owed_bound : (list : List Insn) (capture : List Record) (place : Place) → IsSound list → length capture < 2 ^ 60 → owed list capture place ≤ 2 ^ 76
+pub owed_bound : (machine : Machine) (capture : List Record) (place : Place) → IsSound machine.list → length capture < 2 ^ 60 → owed machine capture place ≤ 2 ^ 76
 unfolding joined
-owed_bound list capture place h few =
-    omega (arith, length_filter (λ (e : Entry). is_after place e.place) (joined_from list 1 capture), length_joined list 1 capture h)
+owed_bound machine capture place h few =
+    omega (arith, length_filter (λ (e : Entry). is_after place e.place) (joined_from machine 1 capture), length_joined machine 1 capture h)
 
 -- the hits ahead can be counted
-pub few_hits : (list : List Insn) (capture : List Record) (breakpoints : List ℕ) (place : Place) → IsSound list → length capture < 2 ^ 60 → length (rest list capture breakpoints place) < 2 ^ 128
+pub few_hits : (machine : Machine) (capture : List Record) (breakpoints : List ℕ) (place : Place) → IsSound machine.list → length capture < 2 ^ 60 → length (rest machine capture breakpoints place) < 2 ^ 128
 unfolding joined
-few_hits list capture breakpoints place h few =
-    let some : length (rest list capture breakpoints place) ≡ length (filter (is_hit breakpoints) (ahead list capture place)) =
-    ap length (rest-ahead list capture breakpoints place) ∙ length-map (filter (is_hit breakpoints) (ahead list capture place)) (stop_at why.Break) in
-    omega (arith, some, length_filter (is_hit breakpoints) (ahead list capture place), length_filter (λ (e : Entry). is_after place e.place) (joined_from list 1 capture), length_joined list 1 capture h)
+few_hits machine capture breakpoints place h few =
+    let some : length (rest machine capture breakpoints place) ≡ length (filter (is_hit breakpoints) (ahead machine capture place)) =
+    ap length (rest-ahead machine capture breakpoints place) ∙ length-map (filter (is_hit breakpoints) (ahead machine capture place)) (stop_at why.Break) in
+    omega (arith, some, length_filter (is_hit breakpoints) (ahead machine capture place), length_filter (λ (e : Entry). is_after place e.place) (joined_from machine 1 capture), length_joined machine 1 capture h)
 
-pub step_turns-reply : (list : List Insn) (c : Savefile) (breakpoints : List ℕ) (old new : Walk) (n : ℕ) (reply : RunReply) → StepsOn list c breakpoints old new n reply
-    → step_turns list c breakpoints old n ≡ reply_turns list c.records old.place reply new.place
-step_turns-reply list c breakpoints old new n reply h =
-    let a : RunReply × View = step_from list c breakpoints old n in
-    turns_in_at (view_at list c breakpoints old) list c.records a.0 a.1
+pub step_turns-reply : (machine : Machine) (c : Savefile) (breakpoints : List ℕ) (old new : Walk) (n : ℕ) (reply : RunReply) → StepsOn machine c breakpoints old new n reply
+    → step_turns machine c breakpoints old n ≡ reply_turns machine c.records old.place reply new.place
+step_turns-reply machine c breakpoints old new n reply h =
+    let a : RunReply × View = step_from machine c breakpoints old n in
+    turns_in_at (view_at machine c breakpoints old) machine c.records a.0 a.1
     ∙ rw (h.reply_is, h.place_is) refl

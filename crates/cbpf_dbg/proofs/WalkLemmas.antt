@@ -4,7 +4,7 @@ use Rattle.std.specs.Prelude.{Option, Some, None, IfSome, is_some, true, false, 
 use Rattle.std.proofs.lemmas.Option.{slice_get_cases, slice_get_within}
 use Rattle.std.proofs.Common.{inl, inr}
 use Rattle.std.proofs.lemmas.Bool.{cases_lt}
-use Rattle.cbpf_code.specs.declared.insn.Insn.{Insn}
+use Rattle.cbpf_machine.specs.Machine.{Machine}
 use Rattle.cbpf_code.specs.Sound.{IsSound}
 use Rattle.cbpf_machine.specs.Registers.{Registers, zero_state}
 use Rattle.cbpf_machine.specs.declared.outcome.Turn.TheVariants.{Next}
@@ -32,78 +32,78 @@ pub record_there : (capture : List Record) (p : ℕ) → 1 ≤ p → p ≤ lengt
 record_there capture p from_one within =
     elim (slice_get_cases capture (p - 1)).1 [ inl found ↦ (found.0, found.2) | inr past ↦ absurd (omega arith) ]
 
-pub stands-entered : (list : List Insn) (capture : List Record) (w : Walk) → Stands list capture w → w.place.packet ≤ length capture → Stands list capture (entered w)
-stands-entered list capture w h within =
+pub stands-entered : (machine : Machine) (capture : List Record) (w : Walk) → Stands machine capture w → w.place.packet ≤ length capture → Stands machine capture (entered w)
+stands-entered machine capture w h within =
     let r = record_there capture w.place.packet (let a = h.from_one in let b = h.ordered in omega arith) within in
     record {
       sound = h.sound;
       from_one = h.from_one;
       ordered = h.ordered;
       within = h.within;
-      at = λ _. (r.0, r.1, first_entry list r.0.bytes r.0.wire h.sound);
+      at = λ _. (r.0, r.1, first_entry machine r.0.bytes r.0.wire h.sound);
       counted = h.counted;
     }
 
-ahead-first : (list : List Insn) (capture : List Record) (p k : ℕ) (r : Record) → 1 ≤ p → slice_get capture (p - 1) ≡ Some r → IsSound list → k ≡ 0
-    → ahead list capture (place_at p k) ≡ entry list r p 1 zero_state ∷ ahead list capture (place_at p 1)
-ahead-first list capture p k r one at sound step =
-    rw step (ahead-entry list capture p 0 r zero_state one at (first_entry list r.bytes r.wire sound))
+ahead-first : (machine : Machine) (capture : List Record) (p k : ℕ) (r : Record) → 1 ≤ p → slice_get capture (p - 1) ≡ Some r → IsSound machine.list → k ≡ 0
+    → ahead machine capture (place_at p k) ≡ entry machine r p 1 zero_state ∷ ahead machine capture (place_at p 1)
+ahead-first machine capture p k r one at sound step =
+    rw step (ahead-entry machine capture p 0 r zero_state one at (first_entry machine r.bytes r.wire sound))
 
-pub moves-entered : (list : List Insn) (capture : List Record) (w : Walk) → Stands list capture w → w.place.packet ≤ length capture → w.place.step ≡ 0 → Moves list capture w moved.Entry (entered w)
-moves-entered list capture w h within step =
+pub moves-entered : (machine : Machine) (capture : List Record) (w : Walk) → Stands machine capture w → w.place.packet ≤ length capture → w.place.step ≡ 0 → Moves machine capture w moved.Entry (entered w)
+moves-entered machine capture w h within step =
     let one : 1 ≤ w.place.packet = let a = h.from_one in let b = h.ordered in omega arith in
     let r = record_there capture w.place.packet one within in
-    let e = ahead-first list capture w.place.packet w.place.step r.0 one r.1 h.sound step in
+    let e = ahead-first machine capture w.place.packet w.place.step r.0 one r.1 h.sound step in
     (r.0, r.1, refl, omega arith, e)
 
 -- what is known of the entry at a walk's place
-pub goes : (list : List Insn) (capture : List Record) (w : Walk) (r : Record) → Stands list capture w → 0 < w.place.step → slice_get capture (w.place.packet - 1) ≡ Some r
-    → Goes list r.bytes r.wire (trace list r.bytes r.wire) (w.place.step - 1) w.state
-goes list capture w r h inside at =
+pub goes : (machine : Machine) (capture : List Record) (w : Walk) (r : Record) → Stands machine capture w → 0 < w.place.step → slice_get capture (w.place.packet - 1) ≡ Some r
+    → Goes machine r.bytes r.wire (trace machine r.bytes r.wire) (w.place.step - 1) w.state
+goes machine capture w r h inside at =
     let entry = h.at inside in
     let same : entry.0 ≡ r = cc in
-    let here = goes_from_entry list entry.0.bytes entry.0.wire (w.place.step - 1) zero_state w.state h.sound (sound_some list h.sound) entry.2 in
-    subst (λ (q : Record). Goes list q.bytes q.wire (trace list q.bytes q.wire) (w.place.step - 1) w.state) same here
+    let here = goes_from_entry machine entry.0.bytes entry.0.wire (w.place.step - 1) zero_state w.state h.sound (sound_some machine.list h.sound) entry.2 in
+    subst (λ (q : Record). Goes machine q.bytes q.wire (trace machine q.bytes q.wire) (w.place.step - 1) w.state) same here
 
-next_entry : (list : List Insn) (capture : List Record) (w : Walk) (r : Record) (t : Registers) → Stands list capture w → 0 < w.place.step → slice_get capture (w.place.packet - 1) ≡ Some r
-    → turn list r.bytes r.wire w.state ≡ Next t → slice_get (trace list r.bytes r.wire) w.place.step ≡ Some t
-next_entry list capture w r t h inside at e =
+next_entry : (machine : Machine) (capture : List Record) (w : Walk) (r : Record) (t : Registers) → Stands machine capture w → 0 < w.place.step → slice_get capture (w.place.packet - 1) ≡ Some r
+    → turn machine r.bytes r.wire w.state ≡ Next t → slice_get (trace machine r.bytes r.wire) w.place.step ≡ Some t
+next_entry machine capture w r t h inside at e =
     let i : w.place.step - 1 + 1 ≡ w.place.step = omega arith in
-    rw i at (goes_at list r.bytes r.wire (trace list r.bytes r.wire) (w.place.step - 1 + 1) t h.sound (goes_next _ _ _ _ _ _ t h.sound (goes list capture w r h inside at) e))
+    rw i at (goes_at machine r.bytes r.wire (trace machine r.bytes r.wire) (w.place.step - 1 + 1) t h.sound (goes_next _ _ _ _ _ _ t h.sound (goes machine capture w r h inside at) e))
 
-pub stands-stepped : (list : List Insn) (capture : List Record) (w : Walk) (r : Record) (t : Registers) → Stands list capture w → 0 < w.place.step → slice_get capture (w.place.packet - 1) ≡ Some r
-    → turn list r.bytes r.wire w.state ≡ Next t → Stands list capture (stepped w t)
-stands-stepped list capture w r t h inside at e =
+pub stands-stepped : (machine : Machine) (capture : List Record) (w : Walk) (r : Record) (t : Registers) → Stands machine capture w → 0 < w.place.step → slice_get capture (w.place.packet - 1) ≡ Some r
+    → turn machine r.bytes r.wire w.state ≡ Next t → Stands machine capture (stepped w t)
+stands-stepped machine capture w r t h inside at e =
     let i : w.place.step + 1 - 1 ≡ w.place.step = omega arith in
     record {
       sound = h.sound;
       from_one = h.from_one;
       ordered = h.ordered;
       within = h.within;
-      at = λ _. (r, at, rw i (next_entry list capture w r t h inside at e));
+      at = λ _. (r, at, rw i (next_entry machine capture w r t h inside at e));
       counted = h.counted;
     }
 
-pub moves-stepped : (list : List Insn) (capture : List Record) (w : Walk) (r : Record) (t : Registers) → Stands list capture w → 0 < w.place.step → slice_get capture (w.place.packet - 1) ≡ Some r
-    → turn list r.bytes r.wire w.state ≡ Next t → Moves list capture w moved.Entry (stepped w t)
-moves-stepped list capture w r t h inside at e =
+pub moves-stepped : (machine : Machine) (capture : List Record) (w : Walk) (r : Record) (t : Registers) → Stands machine capture w → 0 < w.place.step → slice_get capture (w.place.packet - 1) ≡ Some r
+    → turn machine r.bytes r.wire w.state ≡ Next t → Moves machine capture w moved.Entry (stepped w t)
+moves-stepped machine capture w r t h inside at e =
     let one : 1 ≤ w.place.packet = let a = h.from_one in let b = h.ordered in omega arith in
-    (r, at, refl, omega arith, ahead-entry list capture w.place.packet w.place.step r t one at (next_entry list capture w r t h inside at e))
+    (r, at, refl, omega arith, ahead-entry machine capture w.place.packet w.place.step r t one at (next_entry machine capture w r t h inside at e))
 
 -- the packet's number of steps, at its last entry
-last_step : (list : List Insn) (capture : List Record) (w : Walk) (r : Record) → Stands list capture w → 0 < w.place.step → slice_get capture (w.place.packet - 1) ≡ Some r
-    → next_of (turn list r.bytes r.wire w.state) ≡ None → length (trace list r.bytes r.wire) ≡ w.place.step
-last_step list capture w r h inside at none =
-    let e = goes_last list r.bytes r.wire (trace list r.bytes r.wire) (w.place.step - 1) w.state h.sound (goes list capture w r h inside at) none in
+last_step : (machine : Machine) (capture : List Record) (w : Walk) (r : Record) → Stands machine capture w → 0 < w.place.step → slice_get capture (w.place.packet - 1) ≡ Some r
+    → next_of (turn machine r.bytes r.wire w.state) ≡ None → length (trace machine r.bytes r.wire) ≡ w.place.step
+last_step machine capture w r h inside at none =
+    let e = goes_last machine r.bytes r.wire (trace machine r.bytes r.wire) (w.place.step - 1) w.state h.sound (goes machine capture w r h inside at) none in
     omega (arith, e)
 
-pub stands-left : (list : List Insn) (capture : List Record) (w : Walk) (r : Record) → Stands list capture w → 0 < w.place.step → slice_get capture (w.place.packet - 1) ≡ Some r
-    → next_of (turn list r.bytes r.wire w.state) ≡ None → Stands list capture (passed w (outcome_of (turn list r.bytes r.wire w.state)))
-stands-left list capture w r h inside at none =
+pub stands-left : (machine : Machine) (capture : List Record) (w : Walk) (r : Record) → Stands machine capture w → 0 < w.place.step → slice_get capture (w.place.packet - 1) ≡ Some r
+    → next_of (turn machine r.bytes r.wire w.state) ≡ None → Stands machine capture (passed w (outcome_of (turn machine r.bytes r.wire w.state)))
+stands-left machine capture w r h inside at none =
     let one : 1 ≤ w.place.packet = let a = h.from_one in let b = h.ordered in omega arith in
     let here : w.place.packet - 1 < length capture = slice_get_within capture (w.place.packet - 1) r at in
-    let ends = outcome_at_last list r.bytes r.wire (w.place.step - 1) w.state h.sound (goes list capture w r h inside at) none in
-    let more = counts-more list capture w.origin w.place.packet r h.from_one h.ordered at in
+    let ends = outcome_at_last machine r.bytes r.wire (w.place.step - 1) w.state h.sound (goes machine capture w r h inside at) none in
+    let more = counts-more machine capture w.origin w.place.packet r h.from_one h.ordered at in
     record {
       sound = h.sound;
       from_one = h.from_one;
@@ -113,24 +113,24 @@ stands-left list capture w r h inside at none =
       counted = rw (more, ends, ← h.counted) refl;
     }
 
-pub moves-left : (list : List Insn) (capture : List Record) (w : Walk) (r : Record) → Stands list capture w → 0 < w.place.step → slice_get capture (w.place.packet - 1) ≡ Some r
-    → next_of (turn list r.bytes r.wire w.state) ≡ None → Moves list capture w moved.Packet (passed w (outcome_of (turn list r.bytes r.wire w.state)))
-moves-left list capture w r h inside at none =
+pub moves-left : (machine : Machine) (capture : List Record) (w : Walk) (r : Record) → Stands machine capture w → 0 < w.place.step → slice_get capture (w.place.packet - 1) ≡ Some r
+    → next_of (turn machine r.bytes r.wire w.state) ≡ None → Moves machine capture w moved.Packet (passed w (outcome_of (turn machine r.bytes r.wire w.state)))
+moves-left machine capture w r h inside at none =
     let one : 1 ≤ w.place.packet = let a = h.from_one in let b = h.ordered in omega arith in
-    (refl, ahead-leave list capture w.place.packet w.place.step r one at (let e = last_step list capture w r h inside at none in omega (arith, e)))
+    (refl, ahead-leave machine capture w.place.packet w.place.step r one at (let e = last_step machine capture w r h inside at none in omega (arith, e)))
 
-pub walk_ended : (list : List Insn) (capture : List Record) (w : Walk) → Stands list capture w → slice_get capture (w.place.packet - 1) ≡ None → Ended list capture w
-walk_ended list capture w h none =
+pub walk_ended : (machine : Machine) (capture : List Record) (w : Walk) → Stands machine capture w → slice_get capture (w.place.packet - 1) ≡ None → Ended machine capture w
+walk_ended machine capture w h none =
     let past = slice_get-none capture (w.place.packet - 1) none in
     let one : 1 ≤ w.place.packet = let a = h.from_one in let b = h.ordered in omega arith in
     let end : w.place.packet ≡ length capture + 1 = let b = h.within in omega (arith, past) in
     let step : w.place.step ≡ 0 =
     elim (cases_lt 0 w.place.step) [ inl inside ↦ (let at = h.at inside in let at1 = at.1 in absurd cc) | inr none_ ↦ omega arith ] in
-    (end, ahead-end list capture w.place.packet w.place.step (omega arith), step)
+    (end, ahead-end machine capture w.place.packet w.place.step (omega arith), step)
 
-pub counts-at : (list : List Insn) (capture : List Record) (n : ℕ) → ◌≡◌ {A = Counts} (record { passes = 0; fails = 0; unknown = 0 }) (counts list capture n n)
+pub counts-at : (machine : Machine) (capture : List Record) (n : ℕ) → ◌≡◌ {A = Counts} (record { passes = 0; fails = 0; unknown = 0 }) (counts machine capture n n)
 unfolding counts
-counts-at list capture n = let z : n - n ≡ 0 = omega arith in rw z refl
+counts-at machine capture n = let z : n - n ≡ 0 = omega arith in rw z refl
 
 -- the record of the place's packet, moved on
 pub here_after : (capture : List Record) (p q : ℕ) (item : Captured) (next : Option Captured) → item.number ≡ p → q ≡ p + 1

@@ -1,9 +1,12 @@
 -- What each command of a session answers, which view it leaves, and how many turns it makes (the commands `run`, `breakpoint`, `step` and `select` are named in Linux Documentation/networking/filter; the rest is this project's own).
 use Rattle.std.specs.Prelude.{◌≡◌, ℕ, ◌+◌, ◌-◌, ◌≤◌, zero, suc, nat_lt, nat_le, nat_eq, ◌&&◌, Bool, true, List, [], ◌∷◌, ◌++◌, length, slice_get, Option, Some, None, Result, Ok, Err, if◌then◌else◌, ℤ, pos, negsuc}
 use Rattle.cbpf_code.specs.declared.insn.Insn.{Insn}
+use Rattle.cbpf_code.specs.declared.extension.Ext.{Ext}
 use Rattle.std.specs.Option.{option_map}
 use Rattle.std.specs.List.{list_any}
 use Rattle.cbpf_dbg.specs.declared.reply.Counts.{Counts}
+use Rattle.cbpf_machine.specs.Values.{with_value, takes_value}
+use Rattle.cbpf_machine.specs.Machine.{Machine, machine_of}
 use Rattle.cbpf_machine.specs.Step.{turn}
 use Rattle.cbpf_machine.specs.Trace.{trace}
 use Rattle.pcap_classic.specs.Records.{Record}
@@ -14,7 +17,7 @@ use Rattle.cbpf_dbg.specs.declared.reply.Why.TheVariants as why
 use Rattle.cbpf_dbg.specs.declared.reply.RunReply.{RunReply}
 use Rattle.cbpf_dbg.specs.declared.reply.RunReply.TheVariants.{Stopped, Limit, Finished}
 use Rattle.cbpf_dbg.specs.declared.reply.SessionFault.{SessionFault}
-use Rattle.cbpf_dbg.specs.declared.reply.SessionFault.TheVariants.{NoProgram, NoCapture, NoPackets, NoInstruction, NoPacket, NoStep, TooFarBack, ZeroCount, Memory}
+use Rattle.cbpf_dbg.specs.declared.reply.SessionFault.TheVariants.{NoProgram, NoCapture, NoPackets, NoInstruction, NoPacket, NoStep, TooFarBack, ZeroCount, NoValue, Memory}
 use Rattle.cbpf_dbg.specs.Joined.{stops as every_hit}
 use Rattle.cbpf_dbg.specs.Joined.{Entry, ahead, rest, stop_at, counts, turns_between, turns_to_end}
 use Rattle.indexmap.specs.IndexSet.{insert_key, remove_key}
@@ -42,8 +45,8 @@ abbrev pub with_capture : {R : Type 0} → Option Savefile → (List Record → 
 with_capture None act = Err NoCapture
 with_capture (Some c) act = act c.records
 
-abbrev pub loaded : {R : Type 0} → View → (List Insn → List Record → Result R SessionFault) → Result R SessionFault
-loaded m act = with_program m.program (λ list. with_capture m.capture (act list))
+abbrev pub loaded : {R : Type 0} → View → (Machine → List Record → Result R SessionFault) → Result R SessionFault
+loaded m act = with_program m.program (λ list. with_capture m.capture (act (machine_of list m.values)))
 
 -- one that wants a packet too
 abbrev pub with_packets : {R : Type 0} → List Record → Result R SessionFault → Result R SessionFault
@@ -53,29 +56,29 @@ with_packets (r ∷ rest) answer = answer
 abbrev pub stopped : View → Stop → RunReply × View
 stopped m stop = (Stopped stop, record m { place = stop.place })
 
-abbrev pub finished : View → List Insn → List Record → RunReply × View
-finished m list capture = (Finished (counts list capture m.origin (length capture + 1)), record m { place = start; origin = 1 })
+abbrev pub finished : View → Machine → List Record → RunReply × View
+finished m machine capture = (Finished (counts machine capture m.origin (length capture + 1)), record m { place = start; origin = 1 })
 
-abbrev pub limited : View → List Insn → List Record → ℕ → RunReply × View
-limited m list capture next = (Limit (counts list capture m.origin next), record m { place = record { packet = next; step = 0 } })
+abbrev pub limited : View → Machine → List Record → ℕ → RunReply × View
+limited m machine capture next = (Limit (counts machine capture m.origin next), record m { place = record { packet = next; step = 0 } })
 
 -- ---- run
 
 -- no hit comes before the limit
-abbrev pub run_out : View → List Insn → List Record → Option ℕ → RunReply × View
-run_out m list capture None = finished m list capture
-run_out m list capture (Some n) =
-    if nat_le (m.place.packet + n) (length capture) then limited m list capture (m.place.packet + n) else finished m list capture
+abbrev pub run_out : View → Machine → List Record → Option ℕ → RunReply × View
+run_out m machine capture None = finished m machine capture
+run_out m machine capture (Some n) =
+    if nat_le (m.place.packet + n) (length capture) then limited m machine capture (m.place.packet + n) else finished m machine capture
 
 abbrev pub within_limit : Option ℕ → ℕ → Bool
 within_limit None packets = true
 within_limit (Some n) packets = nat_lt packets n
 
 -- by the hits that are ahead
-abbrev pub run_to : View → List Insn → List Record → Option ℕ → List Stop → RunReply × View
-run_to m list capture limit [] = run_out m list capture limit
-run_to m list capture limit (h ∷ hits) =
-    if within_limit limit (h.place.packet - m.place.packet) then stopped m h else run_out m list capture limit
+abbrev pub run_to : View → Machine → List Record → Option ℕ → List Stop → RunReply × View
+run_to m machine capture limit [] = run_out m machine capture limit
+run_to m machine capture limit (h ∷ hits) =
+    if within_limit limit (h.place.packet - m.place.packet) then stopped m h else run_out m machine capture limit
 
 -- a limit is not 0
 abbrev pub checked_limit : {R : Type 0} → Option ℕ → Result R SessionFault → Result R SessionFault
@@ -85,36 +88,36 @@ checked_limit (Some (suc n)) answer = answer
 
 unfoldable pub run : View → Option ℕ → Answer RunReply
 run m limit =
-    loaded m (λ list capture. checked_limit limit (Ok (run_to m list capture limit (rest list capture m.breakpoints m.place))))
+    loaded m (λ machine capture. checked_limit limit (Ok (run_to m machine capture limit (rest machine capture m.breakpoints m.place))))
 
 -- ---- step
 
-abbrev pub step_to : View → List Insn → List Record → Option Entry → RunReply × View
-step_to m list capture None = finished m list capture
-step_to m list capture (Some e) = stopped m (stop_at why.Step e)
+abbrev pub step_to : View → Machine → List Record → Option Entry → RunReply × View
+step_to m machine capture None = finished m machine capture
+step_to m machine capture (Some e) = stopped m (stop_at why.Step e)
 
 -- the entry of a packet at a step
-abbrev pub entry_in : List Insn → Option Record → Place → Option Entry
-entry_in list None place = None
-entry_in list (Some r) place =
-    option_map (λ s. record { place = place; state = s; turn = turn list r.bytes r.wire s }) (slice_get (trace list r.bytes r.wire) (place.step - 1))
+abbrev pub entry_in : Machine → Option Record → Place → Option Entry
+entry_in machine None place = None
+entry_in machine (Some r) place =
+    option_map (λ s. record { place = place; state = s; turn = turn machine r.bytes r.wire s }) (slice_get (trace machine r.bytes r.wire) (place.step - 1))
 
 abbrev pub back_place : Place → ℕ → Place
 back_place place b = record { packet = place.packet; step = place.step - b }
 
-abbrev pub back_to : View → List Insn → List Record → ℕ → Answer RunReply
-back_to m list capture b =
+abbrev pub back_to : View → Machine → List Record → ℕ → Answer RunReply
+back_to m machine capture b =
     if nat_lt b m.place.step
-    then Ok (step_to m list capture (entry_in list (slice_get capture (m.place.packet - 1)) (back_place m.place b)))
+    then Ok (step_to m machine capture (entry_in machine (slice_get capture (m.place.packet - 1)) (back_place m.place b)))
     else Err (TooFarBack (m.place.step - 1))
 
-abbrev pub step_by : View → List Insn → List Record → ℤ → Answer RunReply
-step_by m list capture (pos zero) = Err ZeroCount
-step_by m list capture (pos (suc n)) = Ok (step_to m list capture (slice_get (ahead list capture m.place) n))
-step_by m list capture (negsuc n) = back_to m list capture (n + 1)
+abbrev pub step_by : View → Machine → List Record → ℤ → Answer RunReply
+step_by m machine capture (pos zero) = Err ZeroCount
+step_by m machine capture (pos (suc n)) = Ok (step_to m machine capture (slice_get (ahead machine capture m.place) n))
+step_by m machine capture (negsuc n) = back_to m machine capture (n + 1)
 
 unfoldable pub step : View → ℤ → Answer RunReply
-step m n = loaded m (λ list capture. with_packets capture (step_by m list capture n))
+step m n = loaded m (λ machine capture. with_packets capture (step_by m machine capture n))
 
 -- ---- select, mark, resume
 
@@ -126,36 +129,36 @@ has_packet capture n = nat_lt 0 n && nat_le n (length capture)
 
 unfoldable pub select : View → ℕ → Answer (Unit {0})
 select m n =
-    loaded m (λ list capture. with_packets capture
+    loaded m (λ machine capture. with_packets capture
     (if has_packet capture n then Ok (moved m (record { packet = n; step = 0 })) else Err NoPacket))
 
 unfoldable pub mark : View → Result Place SessionFault
-mark m = loaded m (λ list capture. Ok m.place)
+mark m = loaded m (λ machine capture. Ok m.place)
 
 -- how many steps a packet has
-abbrev pub steps_of : List Insn → Option Record → ℕ
-steps_of list None = 0
-steps_of list (Some r) = length (trace list r.bytes r.wire)
+abbrev pub steps_of : Machine → Option Record → ℕ
+steps_of machine None = 0
+steps_of machine (Some r) = length (trace machine r.bytes r.wire)
 
-abbrev pub resume_in : View → List Insn → List Record → Place → Answer (Unit {0})
-resume_in m list capture place =
-    let steps = steps_of list (slice_get capture (place.packet - 1)) in
+abbrev pub resume_in : View → Machine → List Record → Place → Answer (Unit {0})
+resume_in m machine capture place =
+    let steps = steps_of machine (slice_get capture (place.packet - 1)) in
     if nat_le place.step steps then Ok (moved m place) else Err (NoStep steps)
 
 unfoldable pub resume : View → Place → Answer (Unit {0})
 resume m place =
-    loaded m (λ list capture. with_packets capture
-    (if has_packet capture place.packet then resume_in m list capture place else Err NoPacket))
+    loaded m (λ machine capture. with_packets capture
+    (if has_packet capture place.packet then resume_in m machine capture place else Err NoPacket))
 
 -- ---- turns
 
-abbrev pub turns_in : View → List Insn → List Record → RunReply × View → ℕ
-turns_in m list capture (Stopped stop, after) = turns_between list capture m.place after.place
-turns_in m list capture (Limit n, after) = turns_between list capture m.place after.place
-turns_in m list capture (Finished n, after) = turns_to_end list capture m.place
+abbrev pub turns_in : View → Machine → List Record → RunReply × View → ℕ
+turns_in m machine capture (Stopped stop, after) = turns_between machine capture m.place after.place
+turns_in m machine capture (Limit n, after) = turns_between machine capture m.place after.place
+turns_in m machine capture (Finished n, after) = turns_to_end machine capture m.place
 
 abbrev pub turns_loaded : View → Option (List Insn) → Option Savefile → Answer RunReply → ℕ
-turns_loaded m (Some list) (Some c) (Ok a) = turns_in m list c.records a
+turns_loaded m (Some list) (Some c) (Ok a) = turns_in m (machine_of list m.values) c.records a
 turns_loaded m (Some list) (Some c) (Err e) = 0
 turns_loaded m (Some list) None answer = 0
 turns_loaded m None capture answer = 0
@@ -166,7 +169,7 @@ turns_forward m answer = turns_loaded m m.program m.capture answer
 
 -- the hits ahead
 unfoldable pub stops : View → Result (List Stop) SessionFault
-stops m = loaded m (λ list capture. Ok (rest list capture m.breakpoints m.place))
+stops m = loaded m (λ machine capture. Ok (rest machine capture m.breakpoints m.place))
 
 -- how a run's answer goes with the hits ahead before it and after it: a stop is the first of them, and the others stay; up to a limit there is none; and at the end there is none left
 abbrev pub PassesHits : RunReply → List Stop → List Stop → Type 0
@@ -183,11 +186,11 @@ Continues old new reply =
 
 -- runs without a limit until the last packet is finished answer its counts, and go back to the start
 unfoldable pub run_to_end : View → Answer Counts
-run_to_end m = loaded m (λ list capture. Ok (counts list capture m.origin (length capture + 1), record m { place = start; origin = 1 }))
+run_to_end m = loaded m (λ machine capture. Ok (counts machine capture m.origin (length capture + 1), record m { place = start; origin = 1 }))
 
 -- all hits, from the start
 unfoldable pub all_stops : View → Result (List Stop) SessionFault
-all_stops m = loaded m (λ list capture. Ok (every_hit list capture m.breakpoints))
+all_stops m = loaded m (λ machine capture. Ok (every_hit machine capture m.breakpoints))
 
 -- the place of the last of some stops; with none, a place before them
 abbrev pub last_place : Place → List Stop → Place
@@ -201,13 +204,13 @@ Found old new old_found new_found =
     × (new_found ≡ old_found ++ hits) × (new ≡ record old { place = last_place old.place hits })
 
 -- how many turns lead to the end
-abbrev pub turns_left_in : Option (List Insn) → Option Savefile → Place → ℕ
-turns_left_in (Some list) (Some c) place = turns_to_end list c.records place
-turns_left_in (Some list) None place = 0
-turns_left_in None capture place = 0
+abbrev pub turns_left_in : View → Option (List Insn) → Option Savefile → ℕ
+turns_left_in m (Some list) (Some c) = turns_to_end (machine_of list m.values) c.records m.place
+turns_left_in m (Some list) None = 0
+turns_left_in m None capture = 0
 
 abbrev pub turns_left : View → ℕ
-turns_left m = turns_left_in m.program m.capture m.place
+turns_left m = turns_left_in m m.program m.capture
 
 -- ---- loads and breakpoints
 
@@ -216,6 +219,14 @@ with_program_loaded m list = record m { program = Some list; breakpoints = []; p
 
 abbrev pub with_capture_loaded : View → Savefile → View
 with_capture_loaded m c = record m { capture = Some c; place = start; origin = 1 }
+
+-- a value for an extension: the place's packet begins anew, and is the first that counts
+abbrev pub with_value_set : View → Ext → ℕ → View
+with_value_set m e n =
+    record m { values = with_value m.values e n; place = record { packet = m.place.packet; step = 0 }; origin = m.place.packet }
+
+unfoldable pub set_value : View → Ext → ℕ → Answer (Unit {0})
+set_value m e n = if takes_value e then Ok (tt, with_value_set m e n) else Err NoValue
 
 -- a breakpoint names an instruction of the program
 abbrev pub at_instruction : {R : Type 0} → View → ℕ → Result R SessionFault → Result R SessionFault
@@ -244,4 +255,5 @@ Spends NoInstruction old new = new ≡ old
 Spends NoPacket old new = new ≡ old
 Spends (TooFarBack n) old new = new ≡ old
 Spends ZeroCount old new = new ≡ old
+Spends NoValue old new = new ≡ old
 Spends Memory old new = new ≡ old

@@ -1,13 +1,13 @@
 -- The entries of all packets of a capture, in order, the ones among them at which a debugger stops, and the outcomes of packets (this project's own, over the trace of Linux Documentation/networking/filter's machine and the records of pcap-savefile(5)).
 use Rattle.std.specs.Prelude.{ℕ, ◌+◌, ◌-◌, nat_lt, nat_eq, ◌&&◌, ◌||◌, not, Bool, true, false, List, [], ◌∷◌, ◌++◌, map, filter, take, drop, count_by, Option, Some, None, if◌then◌else◌}
 use Rattle.std.specs.List.{list_any}
-use Rattle.cbpf_code.specs.declared.insn.Insn.{Insn}
 use Rattle.cbpf_code.specs.declared.extension.Ext.{Ext}
 use Rattle.cbpf_machine.specs.Registers.{Registers}
 use Rattle.cbpf_machine.specs.declared.outcome.Turn.{Turn}
 use Rattle.cbpf_machine.specs.declared.outcome.Turn.TheVariants.{Next, Returned, Outside, ZeroDivisor, Unknown}
 use Rattle.cbpf_machine.specs.declared.outcome.Outcome.{Outcome}
 use Rattle.cbpf_machine.specs.declared.outcome.Outcome.TheVariants as outcome_is
+use Rattle.cbpf_machine.specs.Machine.{Machine}
 use Rattle.cbpf_machine.specs.Step.{turn}
 use Rattle.cbpf_machine.specs.Trace.{trace, outcome}
 use Rattle.pcap_classic.specs.Records.{Record}
@@ -24,31 +24,31 @@ pub record Entry : Type 0 where
   pub turn : Turn
 
 -- the entries of one packet from a step on
-abbrev pub entries_from : List Insn → Record → ℕ → ℕ → List Registers → List Entry
-entries_from list r packet step [] = []
-entries_from list r packet step (s ∷ rest) =
-    record { place = record { packet = packet; step = step }; state = s; turn = turn list r.bytes r.wire s }
-    ∷ entries_from list r packet (step + 1) rest
+abbrev pub entries_from : Machine → Record → ℕ → ℕ → List Registers → List Entry
+entries_from machine r packet step [] = []
+entries_from machine r packet step (s ∷ rest) =
+    record { place = record { packet = packet; step = step }; state = s; turn = turn machine r.bytes r.wire s }
+    ∷ entries_from machine r packet (step + 1) rest
 
-abbrev pub packet_entries : List Insn → Record → ℕ → List Entry
-packet_entries list r packet = entries_from list r packet 1 (trace list r.bytes r.wire)
+abbrev pub packet_entries : Machine → Record → ℕ → List Entry
+packet_entries machine r packet = entries_from machine r packet 1 (trace machine r.bytes r.wire)
 
 -- the entries of the packets from a number on
-abbrev pub joined_from : List Insn → ℕ → List Record → List Entry
-joined_from list packet [] = []
-joined_from list packet (r ∷ rest) = packet_entries list r packet ++ joined_from list (packet + 1) rest
+abbrev pub joined_from : Machine → ℕ → List Record → List Entry
+joined_from machine packet [] = []
+joined_from machine packet (r ∷ rest) = packet_entries machine r packet ++ joined_from machine (packet + 1) rest
 
 -- the traces of all packets, in order
-unfoldable pub joined : List Insn → List Record → List Entry
-joined list capture = joined_from list 1 capture
+unfoldable pub joined : Machine → List Record → List Entry
+joined machine capture = joined_from machine 1 capture
 
 -- places are ordered by packet, then step
 abbrev pub is_after : Place → Place → Bool
 is_after a b = nat_lt a.packet b.packet || (nat_eq a.packet b.packet && nat_lt a.step b.step)
 
--- the members of the joined list after a place
-abbrev pub ahead : List Insn → List Record → Place → List Entry
-ahead list capture place = filter (λ e. is_after place e.place) (joined list capture)
+-- the members of the joined machine after a place
+abbrev pub ahead : Machine → List Record → Place → List Entry
+ahead machine capture place = filter (λ e. is_after place e.place) (joined machine capture)
 
 abbrev pub is_unknown : Turn → Bool
 is_unknown (Next s) = false
@@ -57,9 +57,13 @@ is_unknown Outside = false
 is_unknown ZeroDivisor = false
 is_unknown (Unknown e) = true
 
+-- the instruction that comes next in a state carries a breakpoint
+abbrev pub carries : List ℕ → Registers → Bool
+carries breakpoints s = list_any (nat_eq s.pc) breakpoints
+
 -- an entry is a hit where its instruction carries a breakpoint or its turn is unknown
 abbrev pub is_hit : List ℕ → Entry → Bool
-is_hit breakpoints e = list_any (nat_eq e.state.pc) breakpoints || is_unknown e.turn
+is_hit breakpoints e = carries breakpoints e.state || is_unknown e.turn
 
 -- why an entry stops: by an unknown extension, else for the reason given
 abbrev pub why_of : Why → Turn → Why
@@ -78,12 +82,12 @@ abbrev pub stop_at : Why → Entry → Stop
 stop_at reason e = record { place = e.place; state = e.state; why = why_of reason e.turn }
 
 -- the hits
-abbrev pub stops : List Insn → List Record → List ℕ → List Stop
-stops list capture breakpoints = map (stop_at why.Break) (filter (is_hit breakpoints) (joined list capture))
+abbrev pub stops : Machine → List Record → List ℕ → List Stop
+stops machine capture breakpoints = map (stop_at why.Break) (filter (is_hit breakpoints) (joined machine capture))
 
 -- the hits after a place
-abbrev pub rest : List Insn → List Record → List ℕ → Place → List Stop
-rest list capture breakpoints place = filter (λ h. is_after place h.place) (stops list capture breakpoints)
+abbrev pub rest : Machine → List Record → List ℕ → Place → List Stop
+rest machine capture breakpoints place = filter (λ h. is_after place h.place) (stops machine capture breakpoints)
 
 abbrev pub is_pass : Outcome → Bool
 is_pass (outcome_is.Pass v) = true
@@ -101,19 +105,19 @@ is_open outcome_is.Fail = false
 is_open (outcome_is.Unknown e) = true
 
 -- the outcomes of the packets from a number up to, not including, another
-abbrev pub outcomes : List Insn → List Record → ℕ → ℕ → List Outcome
-outcomes list capture from to = map (λ r. outcome list r.bytes r.wire) (take (to - from) (drop (from - 1) capture))
+abbrev pub outcomes : Machine → List Record → ℕ → ℕ → List Outcome
+outcomes machine capture from to = map (λ r. outcome machine r.bytes r.wire) (take (to - from) (drop (from - 1) capture))
 
-unfoldable pub counts : List Insn → List Record → ℕ → ℕ → Counts
-counts list capture from to =
-    let all = outcomes list capture from to in
+unfoldable pub counts : Machine → List Record → ℕ → ℕ → Counts
+counts machine capture from to =
+    let all = outcomes machine capture from to in
     record { passes = count_by is_pass all; fails = count_by is_fail all; unknown = count_by is_open all }
 
 -- how many turns lead from a place to a later one: the entries at or after the one and before the other
-abbrev pub turns_between : List Insn → List Record → Place → Place → ℕ
-turns_between list capture old new =
-    count_by (λ e. not (is_after e.place old) && is_after e.place new) (joined list capture)
+abbrev pub turns_between : Machine → List Record → Place → Place → ℕ
+turns_between machine capture old new =
+    count_by (λ e. not (is_after e.place old) && is_after e.place new) (joined machine capture)
 
 -- how many turns lead from a place to the end
-abbrev pub turns_to_end : List Insn → List Record → Place → ℕ
-turns_to_end list capture old = count_by (λ e. not (is_after e.place old)) (joined list capture)
+abbrev pub turns_to_end : Machine → List Record → Place → ℕ
+turns_to_end machine capture old = count_by (λ e. not (is_after e.place old)) (joined machine capture)

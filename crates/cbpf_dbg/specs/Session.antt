@@ -1,39 +1,57 @@
 -- What the parts of a session have to do with one another: it is a matter of this crate alone, and no public clause names it.
-use Rattle.std.specs.Prelude.{◌≡◌, ℕ, ◌-◌, ◌<◌, List, [], Bool, true, Option, Some, None, length, take, slice_get}
+use Rattle.std.specs.Prelude.{◌≡◌, ℕ, ◌-◌, ◌<◌, List, [], Bool, true, false, Option, Some, None, length, take, slice_get, slice_index_or}
 use Rattle.cbpf_code.specs.declared.insn.Insn.{Insn}
 use Rattle.cbpf_machine.specs.Registers.{Registers}
+use Rattle.cbpf_machine.specs.Values.{Values}
+use Rattle.cbpf_machine.specs.Machine.{Machine, machine_of}
 use Rattle.cbpf_machine.specs.Step.{turn, asked}
 use Rattle.cbpf_machine.specs.Trace.{trace}
 use Rattle.pcap_classic.specs.Records.{Record}
 use Rattle.pcap_classic.specs.Savefile.{Savefile}
 use Rattle.cbpf_dbg.specs.declared.reply.Place.{Place}
 use Rattle.cbpf_dbg.specs.declared.walk.Walk.{Walk}
+use Rattle.cbpf_dbg.specs.Joined.{carries, hit_for}
 use Rattle.cbpf_dbg.specs.View.{start}
 use Rattle.cbpf_dbg.specs.Walk.{Stands}
 
 -- a trail stands for the entries of the place's packet up to its step
-abbrev pub Keeps : (List Registers → Type 0) → List Insn → List Record → Place → Type 0
-Keeps stands_for list capture place =
-    (r : Record) → slice_get capture (place.packet - 1) ≡ Some r → stands_for (take place.step (trace list r.bytes r.wire))
+abbrev pub Keeps : (List Registers → Type 0) → Machine → List Record → Place → Type 0
+Keeps stands_for machine capture place =
+    (r : Record) → slice_get capture (place.packet - 1) ≡ Some r → stands_for (take place.step (trace machine r.bytes r.wire))
 
 abbrev pub IsStart : Walk → Type 0
 IsStart w = (w.place ≡ start) × (w.origin ≡ 1)
 
 -- with a program and a capture the walk stands at its place, else at the start
-abbrev pub Fits : (List Registers → Type 0) → Option (List Insn) → Option Savefile → Walk → Type 0
-Fits stands_for (Some list) (Some c) w = Stands list c.records w × Keeps stands_for list c.records w.place
-Fits stands_for (Some list) None w = IsStart w
-Fits stands_for None capture w = IsStart w
+abbrev pub Fits : (List Registers → Type 0) → Option (List Insn) → Values → Option Savefile → Walk → Type 0
+Fits stands_for (Some list) values (Some c) w = Stands (machine_of list values) c.records w × Keeps stands_for (machine_of list values) c.records w.place
+Fits stands_for (Some list) values None w = IsStart w
+Fits stands_for None values capture w = IsStart w
 
--- no turn of a program asks for an extension
-abbrev pub IsSilent : List Insn → Type 0
-IsSilent list = (bytes : List ℕ) (wire : ℕ) (s : Registers) → s.pc < length list → asked (turn list bytes wire s) ≡ None
-
--- a program that is known to ask for no extension asks for none
-abbrev pub IsKnownSilent : Bool → Option (List Insn) → Type 0
-IsKnownSilent known (Some list) = known ≡ true → IsSilent list
-IsKnownSilent known None = Unit {0}
+-- no turn of a machine asks for an extension that has no value
+abbrev pub IsSilent : Machine → Type 0
+IsSilent machine = (bytes : List ℕ) (wire : ℕ) (s : Registers) → s.pc < length machine.list → asked (turn machine bytes wire s) ≡ None
 
 -- no entry can be a hit
-abbrev pub IsQuiet : List Insn → List ℕ → Type 0
-IsQuiet list breakpoints = (breakpoints ≡ []) × IsSilent list
+abbrev pub IsQuiet : Machine → List ℕ → Type 0
+IsQuiet machine breakpoints = (breakpoints ≡ []) × IsSilent machine
+
+-- an entry at this instruction is no hit
+abbrev pub IsNoHit : Machine → List ℕ → Registers → Type 0
+IsNoHit machine breakpoints s = (bytes : List ℕ) (wire : ℕ) → hit_for (carries breakpoints s) (asked (turn machine bytes wire s)) ≡ None
+
+-- of the first n instructions only those that are watched can be hit
+abbrev pub WatchesTo : List Bool → Machine → List ℕ → ℕ → Type 0
+WatchesTo watched machine breakpoints n = (s : Registers) → s.pc < n → slice_index_or watched s.pc false ≡ false → IsNoHit machine breakpoints s
+
+abbrev pub Watches : List Bool → Machine → List ℕ → Type 0
+Watches watched machine breakpoints = WatchesTo watched machine breakpoints (length machine.list)
+
+-- the breakpoints at other instructions than i are the same
+abbrev pub IsSameBut : ℕ → List ℕ → List ℕ → Type 0
+IsSameBut i before after = (s : Registers) → (s.pc ≡ i → ⊥) → carries after s ≡ carries before s
+
+-- what is known of a program
+abbrev pub IsKnown : Bool → List Bool → Option (List Insn) → Values → List ℕ → Type 0
+IsKnown silent watched (Some list) values breakpoints = (silent ≡ true → IsSilent (machine_of list values)) × Watches watched (machine_of list values) breakpoints
+IsKnown silent watched None values breakpoints = Unit {0}

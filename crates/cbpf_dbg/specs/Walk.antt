@@ -1,11 +1,11 @@
 -- A walk over the entries of a capture: it is a matter of this crate alone, and no public clause names it.
 use Rattle.std.specs.Option.{option_map}
 use Rattle.std.specs.Prelude.{◌≡◌, ℕ, ◌+◌, ◌-◌, ◌≤◌, ◌<◌, List, [], ◌∷◌, length, slice_get, Option, Some, None, IfSome, min, Bool, false, nat_eq, ◌⊎◌}
-use Rattle.cbpf_code.specs.declared.insn.Insn.{Insn}
 use Rattle.cbpf_code.specs.Sound.{IsSound}
 use Rattle.cbpf_machine.specs.Registers.{Registers, zero_state}
 use Rattle.cbpf_machine.specs.declared.outcome.Outcome.{Outcome}
 use Rattle.cbpf_machine.specs.declared.outcome.Outcome.TheVariants as outcome_is
+use Rattle.cbpf_machine.specs.Machine.{Machine}
 use Rattle.cbpf_machine.specs.Step.{turn}
 use Rattle.cbpf_machine.specs.Trace.{trace}
 use Rattle.pcap_classic.specs.Records.{Record}
@@ -25,18 +25,18 @@ use Rattle.cbpf_dbg.specs.declared.reply.Stop.{Stop}
 use Rattle.cbpf_dbg.specs.declared.reply.Why.TheVariants as why
 
 -- the state at a step of a packet
-abbrev pub IsEntry : List Insn → List Record → Place → Registers → Type 0
-IsEntry list capture place s =
-    (r : Record) × (slice_get capture (place.packet - 1) ≡ Some r) × (slice_get (trace list r.bytes r.wire) (place.step - 1) ≡ Some s)
+abbrev pub IsEntry : Machine → List Record → Place → Registers → Type 0
+IsEntry machine capture place s =
+    (r : Record) × (slice_get capture (place.packet - 1) ≡ Some r) × (slice_get (trace machine r.bytes r.wire) (place.step - 1) ≡ Some s)
 
 -- a walk stands at its place, with the outcomes from its origin on
-pub record Stands (list : List Insn) (capture : List Record) (w : Walk) : Type 0 where
-  pub sound : IsSound list
+pub record Stands (machine : Machine) (capture : List Record) (w : Walk) : Type 0 where
+  pub sound : IsSound machine.list
   pub from_one : 1 ≤ w.origin
   pub ordered : w.origin ≤ w.place.packet
   pub within : w.place.packet ≤ length capture + 1
-  pub at : 0 < w.place.step → IsEntry list capture w.place w.state
-  pub counted : w.counts ≡ counts list capture w.origin w.place.packet
+  pub at : 0 < w.place.step → IsEntry machine capture w.place w.state
+  pub counted : w.counts ≡ counts machine capture w.origin w.place.packet
 
 -- the walk at a packet's first entry
 abbrev pub entered : Walk → Walk
@@ -56,20 +56,20 @@ with_outcome n (outcome_is.Unknown e) = record n { unknown = n.unknown + 1 }
 abbrev pub passed : Walk → Outcome → Walk
 passed w outcome = record w { place = record { packet = w.place.packet + 1; step = 0 }; counts = with_outcome w.counts outcome }
 
-abbrev pub entry_here : List Insn → Record → Walk → Entry
-entry_here list r w = record { place = w.place; state = w.state; turn = turn list r.bytes r.wire w.state }
+abbrev pub entry_here : Machine → Record → Walk → Entry
+entry_here machine r w = record { place = w.place; state = w.state; turn = turn machine r.bytes r.wire w.state }
 
 -- how a move changed what is ahead
-abbrev pub Moves : List Insn → List Record → Walk → Moved → Walk → Type 0
-Moves list capture old moved.Entry new =
+abbrev pub Moves : Machine → List Record → Walk → Moved → Walk → Type 0
+Moves machine capture old moved.Entry new =
     (r : Record) × (slice_get capture (new.place.packet - 1) ≡ Some r) × (new.place.packet ≡ old.place.packet)
-    × (new.place.step ≡ old.place.step + 1) × (ahead list capture old.place ≡ entry_here list r new ∷ ahead list capture new.place)
-Moves list capture old moved.Packet new =
-    (new.place ≡ record { packet = old.place.packet + 1; step = 0 }) × (ahead list capture old.place ≡ ahead list capture new.place)
+    × (new.place.step ≡ old.place.step + 1) × (ahead machine capture old.place ≡ entry_here machine r new ∷ ahead machine capture new.place)
+Moves machine capture old moved.Packet new =
+    (new.place ≡ record { packet = old.place.packet + 1; step = 0 }) × (ahead machine capture old.place ≡ ahead machine capture new.place)
 
 -- a walk is behind the last packet
-abbrev pub Ended : List Insn → List Record → Walk → Type 0
-Ended list capture w = (w.place.packet ≡ length capture + 1) × (ahead list capture w.place ≡ []) × (w.place.step ≡ 0)
+abbrev pub Ended : Machine → List Record → Walk → Type 0
+Ended machine capture w = (w.place.packet ≡ length capture + 1) × (ahead machine capture w.place ≡ []) × (w.place.step ≡ 0)
 
 -- the record of a place's packet, where there is one
 pub record IsHere (capture : List Record) (packet : ℕ) (here : Option Captured) : Type 0 where
@@ -77,23 +77,23 @@ pub record IsHere (capture : List Record) (packet : ℕ) (here : Option Captured
   pub number_is : IfSome here (λ c. c.number ≡ packet)
 
 -- how many turns are owed to the end: one for each entry ahead, and one for the entry of the place
-abbrev pub owed : List Insn → List Record → Place → ℕ
-owed list capture place = length (ahead list capture place) + min place.step 1
+abbrev pub owed : Machine → List Record → Place → ℕ
+owed machine capture place = length (ahead machine capture place) + min place.step 1
 
 -- a session's view with its walk at a place
-abbrev pub view_at : List Insn → Savefile → List ℕ → Walk → View
-view_at list c breakpoints w = record { program = Some list; capture = Some c; breakpoints = breakpoints; origin = w.origin; place = w.place }
+abbrev pub view_at : Machine → Savefile → List ℕ → Walk → View
+view_at machine c breakpoints w = record { program = Some machine.list; values = machine.values; capture = Some c; breakpoints = breakpoints; origin = w.origin; place = w.place }
 
 -- what a run from a place answers, and where it ends
-abbrev pub run_from : List Insn → Savefile → List ℕ → Walk → Option ℕ → RunReply × View
-run_from list c breakpoints w limit =
-    run_to (view_at list c breakpoints w) list c.records limit (rest list c.records breakpoints w.place)
+abbrev pub run_from : Machine → Savefile → List ℕ → Walk → Option ℕ → RunReply × View
+run_from machine c breakpoints w limit =
+    run_to (view_at machine c breakpoints w) machine c.records limit (rest machine c.records breakpoints w.place)
 
 -- a run's answer and end
-pub record Runs (list : List Insn) (c : Savefile) (breakpoints : List ℕ) (old new : Walk) (limit : Option ℕ) (reply : RunReply) : Type 0 where
-  pub reply_is : reply ≡ (run_from list c breakpoints old limit).0
-  pub place_is : new.place ≡ (run_from list c breakpoints old limit).1.place
-  pub origin_is : new.origin ≡ (run_from list c breakpoints old limit).1.origin
+pub record Runs (machine : Machine) (c : Savefile) (breakpoints : List ℕ) (old new : Walk) (limit : Option ℕ) (reply : RunReply) : Type 0 where
+  pub reply_is : reply ≡ (run_from machine c breakpoints old limit).0
+  pub place_is : new.place ≡ (run_from machine c breakpoints old limit).1.place
+  pub origin_is : new.origin ≡ (run_from machine c breakpoints old limit).1.origin
 
 -- whether this many packets are the limit
 abbrev pub is_limit : Option ℕ → ℕ → Bool
@@ -110,14 +110,14 @@ abbrev pub NotBefore : Place → Place → Type 0
 NotBefore new old = (old.packet < new.packet) ⊎ ((old.packet ≡ new.packet) × (old.step ≤ new.step))
 
 -- the turns of a run from a place
-abbrev pub run_turns : List Insn → Savefile → List ℕ → Walk → Option ℕ → ℕ
-run_turns list c breakpoints w limit =
-    turns_in (view_at list c breakpoints w) list c.records (run_from list c breakpoints w limit)
+abbrev pub run_turns : Machine → Savefile → List ℕ → Walk → Option ℕ → ℕ
+run_turns machine c breakpoints w limit =
+    turns_in (view_at machine c breakpoints w) machine c.records (run_from machine c breakpoints w limit)
 
 -- a step back answers the entry at that step, and the walk stands there
-pub record StepsBack (list : List Insn) (capture : List Record) (old new : Walk) (b : ℕ) (stop : Stop) : Type 0 where
+pub record StepsBack (machine : Machine) (capture : List Record) (old new : Walk) (b : ℕ) (stop : Stop) : Type 0 where
   pub within : b < old.place.step
-  pub entry : (e : Entry) × (entry_in list (slice_get capture (old.place.packet - 1)) (back_place old.place b) ≡ Some e) × (stop ≡ stop_at why.Step e)
+  pub entry : (e : Entry) × (entry_in machine (slice_get capture (old.place.packet - 1)) (back_place old.place b) ≡ Some e) × (stop ≡ stop_at why.Step e)
   pub place_is : new.place ≡ back_place old.place b
   pub origin_is : new.origin ≡ old.origin
 
@@ -128,15 +128,15 @@ pub record CannotStepBack (old new : Walk) (b most : ℕ) : Type 0 where
   pub same : new ≡ old
 
 -- what a step on by n entries answers, and where it ends
-abbrev pub step_from : List Insn → Savefile → List ℕ → Walk → ℕ → RunReply × View
-step_from list c breakpoints w n =
-    step_to (view_at list c breakpoints w) list c.records (slice_get (ahead list c.records w.place) (n - 1))
+abbrev pub step_from : Machine → Savefile → List ℕ → Walk → ℕ → RunReply × View
+step_from machine c breakpoints w n =
+    step_to (view_at machine c breakpoints w) machine c.records (slice_get (ahead machine c.records w.place) (n - 1))
 
-pub record StepsOn (list : List Insn) (c : Savefile) (breakpoints : List ℕ) (old new : Walk) (n : ℕ) (reply : RunReply) : Type 0 where
-  pub reply_is : reply ≡ (step_from list c breakpoints old n).0
-  pub place_is : new.place ≡ (step_from list c breakpoints old n).1.place
-  pub origin_is : new.origin ≡ (step_from list c breakpoints old n).1.origin
+pub record StepsOn (machine : Machine) (c : Savefile) (breakpoints : List ℕ) (old new : Walk) (n : ℕ) (reply : RunReply) : Type 0 where
+  pub reply_is : reply ≡ (step_from machine c breakpoints old n).0
+  pub place_is : new.place ≡ (step_from machine c breakpoints old n).1.place
+  pub origin_is : new.origin ≡ (step_from machine c breakpoints old n).1.origin
 
-abbrev pub step_turns : List Insn → Savefile → List ℕ → Walk → ℕ → ℕ
-step_turns list c breakpoints w n =
-    turns_in (view_at list c breakpoints w) list c.records (step_from list c breakpoints w n)
+abbrev pub step_turns : Machine → Savefile → List ℕ → Walk → ℕ → ℕ
+step_turns machine c breakpoints w n =
+    turns_in (view_at machine c breakpoints w) machine c.records (step_from machine c breakpoints w n)

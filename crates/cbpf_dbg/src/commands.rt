@@ -6,6 +6,7 @@ ghost use Rattle.cbpf_dbg.specs.Shown.{CanShow, Shows};
 ghost use Rattle.std.specs.List.{All};
 
 use crate::hit::is_quiet;
+use crate::loaded::Loaded;
 use crate::reply::{Place, RunReply, SessionFault};
 use crate::resume::resume_at;
 use crate::run::run;
@@ -68,12 +69,17 @@ impl<T: Trail, A: Allocator> Session<T, A> {
         if let Some(0) = limit {
             return Err(SessionFault::ZeroCount);
         }
-        let quiet = is_quiet(program, self.silent, &self.breakpoints);
+        let loaded = Loaded {
+            program,
+            values: &self.values,
+            capture,
+            breakpoints: &self.breakpoints,
+            watched: &self.watched,
+        };
+        let quiet = is_quiet(&loaded, self.silent);
         let reply = run(
             meter,
-            program,
-            capture,
-            &self.breakpoints,
+            &loaded,
             quiet,
             &mut self.walk,
             &mut self.trail,
@@ -112,15 +118,16 @@ impl<T: Trail, A: Allocator> Session<T, A> {
         if place.packet == 0 || place.packet > count {
             return Err(SessionFault::NoPacket);
         }
-        resume_at(
-            meter,
+        let loaded = Loaded {
             program,
+            values: &self.values,
             capture,
-            &mut self.walk,
-            &mut self.trail,
-            place,
+            breakpoints: &self.breakpoints,
+            watched: &self.watched,
+        };
+        resume_at(meter, &loaded, &mut self.walk, &mut self.trail, place).map_err(
+            SessionFault::NoStep,
         )
-        .map_err(SessionFault::NoStep)
     }
 
     /// Goes on by `n` entries, or back by `-n` entries of the same packet, whatever hits lie between.
@@ -159,25 +166,18 @@ impl<T: Trail, A: Allocator> Session<T, A> {
         if n == 0 {
             return Err(SessionFault::ZeroCount);
         }
+        let loaded = Loaded {
+            program,
+            values: &self.values,
+            capture,
+            breakpoints: &self.breakpoints,
+            watched: &self.watched,
+        };
         let entries = n.unsigned_abs();
         if n > 0 {
-            return Ok(step_on(
-                meter,
-                program,
-                capture,
-                &mut self.walk,
-                &mut self.trail,
-                entries,
-            ));
+            return Ok(step_on(meter, &loaded, &mut self.walk, &mut self.trail, entries));
         }
-        match step_back(
-            meter,
-            program,
-            capture,
-            &mut self.walk,
-            &mut self.trail,
-            entries,
-        ) {
+        match step_back(meter, &loaded, &mut self.walk, &mut self.trail, entries) {
             Ok(stop) => Ok(RunReply::Stopped(stop)),
             Err(most) => Err(SessionFault::TooFarBack(most)),
         }
@@ -232,10 +232,13 @@ impl<T: Trail, A: Allocator> Session<T, A> {
         let _few = capture.count();
         let _sound = program.len();
         Ok(Stops {
-            program,
-            capture,
-            breakpoints: &self.breakpoints,
-            quiet: is_quiet(program, self.silent, &self.breakpoints),
+            loaded: Loaded {
+                program,
+                values: &self.values,
+                capture,
+                breakpoints: &self.breakpoints,
+                watched: &self.watched,
+            },
             walk: self.walk,
             here: record_at(capture, self.walk.place.packet),
             meter: Meter::new(),

@@ -1,14 +1,17 @@
 //! Which entries are hits.
 
-ghost use Rattle.std.specs.Prelude.{◌≡◌, ◌<◌, ℕ, List, length, nat_eq, true};
-ghost use Rattle.std.specs.List.{list_any};
+ghost use Rattle.std.specs.Prelude.{◌≡◌, ◌<◌, ℕ, List, length, true, false};
+ghost use Rattle.cbpf_machine.specs.Machine.{machine_of};
+ghost use Rattle.cbpf_machine.specs.Registers.{Registers};
 ghost use Rattle.cbpf_machine.specs.Step.{asked, turn};
-ghost use Rattle.cbpf_dbg.specs.Joined.{hit_for, why_of};
-ghost use Rattle.cbpf_dbg.specs.Session.{IsQuiet, IsSilent};
+ghost use Rattle.cbpf_dbg.specs.Joined.{carries, hit_for, why_of};
+ghost use Rattle.cbpf_dbg.specs.Loaded.{machine_in, breakpoints_in};
+ghost use Rattle.cbpf_dbg.specs.Session.{IsQuiet, IsSilent, IsNoHit, IsSameBut, Watches};
 
+use crate::loaded::Loaded;
 use crate::reply::Why;
 use cbpf_code::{Ext, Program};
-use cbpf_machine::{State, asks};
+use cbpf_machine::{State, Values, asks};
 use indexmap::IndexSet;
 use std::alloc::Allocator;
 use std::hash::{BuildHasherDefault, FoldHasher};
@@ -16,21 +19,24 @@ use std::hash::{BuildHasherDefault, FoldHasher};
 /// Instruction numbers, in order of setting.
 pub(crate) type Breakpoints<A> = IndexSet<u32, BuildHasherDefault<FoldHasher>, A>;
 
-/// The extension that the instruction of a state asks for, told without a turn.
+/// For each instruction whether an entry there can be a hit.
+pub(crate) type Watched = [bool; 4096];
+
+/// The extension without a value that the instruction of a state asks for, told without a turn.
 #[inline(always)]
-fn asked_at<A: Allocator>(p: &Program<A>, s: &State) -> Option<Ext>
-    requires { s.now.pc < length p.now }
-    ensures { (bytes : List ℕ) (wire : ℕ) → result ≡ asked (turn p.now bytes wire s.now) }
+fn asked_at<A: Allocator>(loaded: &Loaded<'_, A>, s: &State) -> Option<Ext>
+    requires { s.now.pc < length loaded.now.program.now }
+    ensures { (bytes : List ℕ) (wire : ℕ) → result ≡ asked (turn (machine_in loaded.now) bytes wire s.now) }
 {
-    asks(p.at_index(s.pc()))
+    asks(loaded.program.at_index(s.pc()), loaded.values)
 }
 
-/// Whether no instruction asks for an extension.
-pub(crate) fn is_silent<A: Allocator>(p: &Program<A>) -> bool
-    ensures { result ≡ true → IsSilent p.now }
+/// Whether no instruction asks for an extension that has no value.
+pub(crate) fn is_silent<A: Allocator>(p: &Program<A>, values: &Values) -> bool
+    ensures { result ≡ true → IsSilent (machine_of p.now values.now) }
 {
     'scan: for i in 0..p.len() {
-        if asks(p.at_index(i)).is_some() {
+        if asks(p.at_index(i), values).is_some() {
             return false;
         }
     }
@@ -38,33 +44,70 @@ pub(crate) fn is_silent<A: Allocator>(p: &Program<A>) -> bool
 }
 
 /// Whether no entry can be a hit, as there is no breakpoint and the program is known to be silent.
-pub(crate) fn is_quiet<A: Allocator>(
-    p: &Program<A>,
-    silent: bool,
-    breakpoints: &Breakpoints<A>,
-) -> bool
-    requires { silent ≡ true → IsSilent p.now }
-    ensures { result ≡ true → IsQuiet p.now breakpoints.now.keys }
+pub(crate) fn is_quiet<A: Allocator>(loaded: &Loaded<'_, A>, silent: bool) -> bool
+    requires { silent ≡ true → IsSilent (machine_in loaded.now) }
+    ensures { result ≡ true → IsQuiet (machine_in loaded.now) (breakpoints_in loaded.now) }
 {
-    let _sound = p.len();
-    silent && breakpoints.is_empty()
+    silent && loaded.breakpoints.is_empty()
+}
+
+/// Whether an entry at this instruction can be a hit.
+fn is_watched<A: Allocator>(
+    p: &Program<A>,
+    values: &Values,
+    breakpoints: &Breakpoints<A>,
+    i: u32,
+) -> bool
+    requires { i < length p.now }
+    ensures { (s : Registers) → s.pc ≡ i → result ≡ false → IsNoHit (machine_of p.now values.now) breakpoints.now.keys s }
+{
+    if asks(p.at_index(i), values).is_some() {
+        return true;
+    }
+    breakpoints.contains(&i)
+}
+
+/// Watches the instructions at which an entry can be a hit.
+pub(crate) fn watch<A: Allocator>(
+    watched: &mut Watched,
+    p: &Program<A>,
+    values: &Values,
+    breakpoints: &Breakpoints<A>,
+)
+    ensures { Watches watched.new (machine_of p.now values.now) breakpoints.now.keys }
+{
+    'scan: for i in 0..p.len() {
+        watched[i as usize] = is_watched(p, values, breakpoints, i);
+    }
+}
+
+/// The same, where the breakpoints changed at one instruction.
+pub(crate) fn watch_at<A: Allocator>(
+    watched: &mut Watched,
+    p: &Program<A>,
+    values: &Values,
+    breakpoints: &Breakpoints<A>,
+    i: u32,
+)
+    requires { i < length p.now }
+    ensures { (before : List ℕ) → Watches watched.old (machine_of p.now values.now) before → IsSameBut i before breakpoints.now.keys
+        → Watches watched.new (machine_of p.now values.now) breakpoints.now.keys }
+{
+    let _few = p.len();
+    watched[i as usize] = is_watched(p, values, breakpoints, i);
 }
 
 /// Why an entry is a hit, where it is one.
 #[inline(always)]
-pub(crate) fn hit<A: Allocator>(
-    p: &Program<A>,
-    breakpoints: &Breakpoints<A>,
-    s: &State,
-) -> Option<Why>
-    requires { s.now.pc < length p.now }
+fn hit_at<A: Allocator>(loaded: &Loaded<'_, A>, s: &State) -> Option<Why>
+    requires { s.now.pc < length loaded.now.program.now }
     ensures { (bytes : List ℕ) (wire : ℕ)
-        → result ≡ hit_for (list_any (nat_eq s.now.pc) breakpoints.now.keys) (asked (turn p.now bytes wire s.now)) }
+        → result ≡ hit_for (carries (breakpoints_in loaded.now) s.now) (asked (turn (machine_in loaded.now) bytes wire s.now)) }
 {
-    match asked_at(p, s) {
+    match asked_at(loaded, s) {
         Some(e) => Some(Why::Unknown(e)),
         None => {
-            if breakpoints.contains(&s.pc()) {
+            if loaded.breakpoints.contains(&s.pc()) {
                 Some(Why::Break)
             } else {
                 None
@@ -73,28 +116,28 @@ pub(crate) fn hit<A: Allocator>(
     }
 }
 
-/// The same, where the caller may know beforehand that none is.
+/// The same, over what is known of each instruction.
 #[inline(always)]
-pub(crate) fn hit_unless_quiet<A: Allocator>(
-    p: &Program<A>,
-    breakpoints: &Breakpoints<A>,
-    quiet: bool,
-    s: &State,
-) -> Option<Why>
-    requires inside { s.now.pc < length p.now }
-    requires quiet { quiet ≡ true → IsQuiet p.now breakpoints.now.keys }
+pub(crate) fn hit<A: Allocator>(loaded: &Loaded<'_, A>, s: &State) -> Option<Why>
+    requires inside { s.now.pc < length loaded.now.program.now }
+    requires watched { Watches loaded.now.watched.now (machine_in loaded.now) (breakpoints_in loaded.now) }
     ensures { (bytes : List ℕ) (wire : ℕ)
-        → result ≡ hit_for (list_any (nat_eq s.now.pc) breakpoints.now.keys) (asked (turn p.now bytes wire s.now)) }
+        → result ≡ hit_for (carries (breakpoints_in loaded.now) s.now) (asked (turn (machine_in loaded.now) bytes wire s.now)) }
 {
-    if quiet { None } else { hit(p, breakpoints, s) }
+    let _few = loaded.program.len();
+    if loaded.watched[s.pc() as usize] {
+        hit_at(loaded, s)
+    } else {
+        None
+    }
 }
 
 /// Why a step stops at a state.
-pub(crate) fn why_at<A: Allocator>(p: &Program<A>, s: &State, reason: Why) -> Why
-    requires { s.now.pc < length p.now }
-    ensures { (bytes : List ℕ) (wire : ℕ) → result ≡ why_of reason (turn p.now bytes wire s.now) }
+pub(crate) fn why_at<A: Allocator>(loaded: &Loaded<'_, A>, s: &State, reason: Why) -> Why
+    requires { s.now.pc < length loaded.now.program.now }
+    ensures { (bytes : List ℕ) (wire : ℕ) → result ≡ why_of reason (turn (machine_in loaded.now) bytes wire s.now) }
 {
-    match asked_at(p, s) {
+    match asked_at(loaded, s) {
         Some(e) => Why::Unknown(e),
         None => reason,
     }

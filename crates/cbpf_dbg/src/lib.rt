@@ -8,6 +8,7 @@
 
 mod commands;
 mod hit;
+mod loaded;
 mod reply;
 mod resume;
 mod run;

@@ -76,6 +76,8 @@ pub enum SessionFault {
     TooFarBack(u32),
     /// S8: a count of 0.
     ZeroCount,
+    /// S9: the extension takes no value.
+    NoValue,
     /// There was no memory.
     Memory,
 }

@@ -4,15 +4,16 @@ ghost use Rattle.std.specs.Prelude.{◌≡◌, ◌≢◌, ◌+◌, ◌-◌, ◌<
 ghost use Rattle.pcap_classic.specs.Lent.{record_of};
 ghost use Rattle.cbpf_dbg.specs.Commands.{PassesHits};
 ghost use Rattle.cbpf_dbg.specs.Joined.{rest};
-ghost use Rattle.cbpf_dbg.specs.Session.{IsQuiet, Keeps};
+ghost use Rattle.cbpf_dbg.specs.Loaded.{machine_in, records_in, breakpoints_in};
+ghost use Rattle.cbpf_dbg.specs.Session.{IsQuiet, Keeps, Watches};
 ghost use Rattle.cbpf_dbg.specs.Walk.{Stands, owed, Runs, run_turns, is_limit as is_limit_at};
 
-use crate::hit::{Breakpoints, hit};
+use crate::hit::hit;
+use crate::loaded::Loaded;
 use crate::reply::{RunReply, Stop};
 use crate::walk::{Moved, Walk, advance, record_at};
-use cbpf_code::Program;
 use cbpf_machine::{Meter, Packet, Trail, run_packet};
-use pcap_classic::{Capture, Captured};
+use pcap_classic::Captured;
 use std::alloc::Allocator;
 
 #[inline(always)]
@@ -29,25 +30,24 @@ fn is_limit(limit: Option<u64>, packets: u64) -> bool
 #[inline(always)]
 fn run_here<T: Trail, A: Allocator>(
     meter: &mut Meter,
-    p: &Program<A>,
-    capture: &Capture<A>,
-    breakpoints: &Breakpoints<A>,
+    loaded: &Loaded<'_, A>,
     w: &mut Walk,
     trail: &mut T,
     limit: Option<u64>,
 ) -> RunReply
-    requires stands { Stands p.now capture.now.records w.old }
-    requires keeps { Keeps (λ xs. T.stands_for trail.old xs) p.now capture.now.records w.old.place }
-    requires spare { meter.old + owed p.now capture.now.records w.old.place + 1 < 2 ^ 128 }
+    requires stands { Stands (machine_in loaded.now) (records_in loaded.now) w.old }
+    requires keeps { Keeps (λ xs. T.stands_for trail.old xs) (machine_in loaded.now) (records_in loaded.now) w.old.place }
+    requires spare { meter.old + owed (machine_in loaded.now) (records_in loaded.now) w.old.place + 1 < 2 ^ 128 }
     requires limit { limit ≢ Some 0 }
-    ensures stands { Stands p.now capture.now.records w.new }
-    ensures keeps { Keeps (λ xs. T.stands_for trail.new xs) p.now capture.now.records w.new.place }
-    ensures runs { Runs p.now capture.now breakpoints.now.keys w.old w.new limit result }
-    ensures ahead { PassesHits result (rest p.now capture.now.records breakpoints.now.keys w.old.place) (rest p.now capture.now.records breakpoints.now.keys w.new.place) }
-    ensures turns { meter.new ≡ meter.old + run_turns p.now capture.now breakpoints.now.keys w.old limit }
+    requires watched { Watches loaded.now.watched.now (machine_in loaded.now) (breakpoints_in loaded.now) }
+    ensures stands { Stands (machine_in loaded.now) (records_in loaded.now) w.new }
+    ensures keeps { Keeps (λ xs. T.stands_for trail.new xs) (machine_in loaded.now) (records_in loaded.now) w.new.place }
+    ensures runs { Runs (machine_in loaded.now) loaded.now.capture.now (breakpoints_in loaded.now) w.old w.new limit result }
+    ensures ahead { PassesHits result (rest (machine_in loaded.now) (records_in loaded.now) (breakpoints_in loaded.now) w.old.place) (rest (machine_in loaded.now) (records_in loaded.now) (breakpoints_in loaded.now) w.new.place) }
+    ensures turns { meter.new ≡ meter.old + run_turns (machine_in loaded.now) loaded.now.capture.now (breakpoints_in loaded.now) w.old limit }
 {
     let start = w.place.packet;
-    let mut next = record_at(capture, start);
+    let mut next = record_at(loaded.capture, start);
     'go: loop {
         let Some(here) = next else {
             let counts = w.counts;
@@ -55,10 +55,10 @@ fn run_here<T: Trail, A: Allocator>(
             *w = Walk::start();
             return RunReply::Finished(counts);
         };
-        match advance(meter, p, capture, &here, w) {
+        match advance(meter, loaded, &here, w) {
             Moved::Entry => {
                 trail.push(w.state);
-                if let Some(why) = hit(p, breakpoints, &w.state) {
+                if let Some(why) = hit(loaded, &w.state) {
                     return RunReply::Stopped(Stop {
                         place: w.place,
                         state: w.state,
@@ -68,7 +68,7 @@ fn run_here<T: Trail, A: Allocator>(
             }
             Moved::Packet => {
                 trail.clear();
-                next = capture.following(&here);
+                next = loaded.capture.following(&here);
                 if is_limit(limit, w.place.packet - start) && next.is_some() {
                     return RunReply::Limit(w.counts);
                 }
@@ -81,23 +81,22 @@ fn run_here<T: Trail, A: Allocator>(
 #[inline(never)]
 fn pass_rest<A: Allocator>(
     meter: &mut Meter,
-    p: &Program<A>,
-    capture: &Capture<A>,
+    loaded: &Loaded<'_, A>,
     here: &Captured<'_>,
     w: &mut Walk,
 )
-    requires stands { Stands p.now capture.now.records w.old }
-    requires here { slice_get capture.now.records (w.old.place.packet - 1) ≡ Some (record_of here.now) }
-    requires quiet { IsQuiet p.now [] }
-    requires spare { meter.old + owed p.now capture.now.records w.old.place + 1 < 2 ^ 128 }
-    ensures stands { Stands p.now capture.now.records w.new }
+    requires stands { Stands (machine_in loaded.now) (records_in loaded.now) w.old }
+    requires here { slice_get (records_in loaded.now) (w.old.place.packet - 1) ≡ Some (record_of here.now) }
+    requires quiet { IsQuiet (machine_in loaded.now) [] }
+    requires spare { meter.old + owed (machine_in loaded.now) (records_in loaded.now) w.old.place + 1 < 2 ^ 128 }
+    ensures stands { Stands (machine_in loaded.now) (records_in loaded.now) w.new }
     ensures place { w.new.place ≡ record { packet = w.old.place.packet + 1; step = 0 } }
     ensures origin { w.new.origin ≡ w.old.origin }
-    ensures rest { rest p.now capture.now.records [] w.new.place ≡ rest p.now capture.now.records [] w.old.place }
-    ensures spent { meter.new + owed p.now capture.now.records w.new.place ≡ meter.old + owed p.now capture.now.records w.old.place }
+    ensures rest { rest (machine_in loaded.now) (records_in loaded.now) [] w.new.place ≡ rest (machine_in loaded.now) (records_in loaded.now) [] w.old.place }
+    ensures spent { meter.new + owed (machine_in loaded.now) (records_in loaded.now) w.new.place ≡ meter.old + owed (machine_in loaded.now) (records_in loaded.now) w.old.place }
 {
     'pass: loop {
-        match advance(meter, p, capture, here, w) {
+        match advance(meter, loaded, here, w) {
             Moved::Entry => {}
             Moved::Packet => return,
         }
@@ -108,56 +107,54 @@ fn pass_rest<A: Allocator>(
 #[inline(always)]
 fn pass_whole<A: Allocator>(
     meter: &mut Meter,
-    p: &Program<A>,
-    capture: &Capture<A>,
+    loaded: &Loaded<'_, A>,
     here: &Captured<'_>,
     w: &mut Walk,
 )
-    requires stands { Stands p.now capture.now.records w.old }
-    requires here { slice_get capture.now.records (w.old.place.packet - 1) ≡ Some (record_of here.now) }
-    requires quiet { IsQuiet p.now [] }
+    requires stands { Stands (machine_in loaded.now) (records_in loaded.now) w.old }
+    requires here { slice_get (records_in loaded.now) (w.old.place.packet - 1) ≡ Some (record_of here.now) }
+    requires quiet { IsQuiet (machine_in loaded.now) [] }
     requires before { w.old.place.step ≡ 0 }
     requires few { meter.old + 8192 ≤ 2 ^ 128 }
-    ensures stands { Stands p.now capture.now.records w.new }
+    ensures stands { Stands (machine_in loaded.now) (records_in loaded.now) w.new }
     ensures place { w.new.place ≡ record { packet = w.old.place.packet + 1; step = 0 } }
     ensures origin { w.new.origin ≡ w.old.origin }
-    ensures rest { rest p.now capture.now.records [] w.new.place ≡ rest p.now capture.now.records [] w.old.place }
-    ensures spent { meter.new + owed p.now capture.now.records w.new.place ≡ meter.old + owed p.now capture.now.records w.old.place }
+    ensures rest { rest (machine_in loaded.now) (records_in loaded.now) [] w.new.place ≡ rest (machine_in loaded.now) (records_in loaded.now) [] w.old.place }
+    ensures spent { meter.new + owed (machine_in loaded.now) (records_in loaded.now) w.new.place ≡ meter.old + owed (machine_in loaded.now) (records_in loaded.now) w.old.place }
 {
-    let _few = capture.count();
+    let _few = loaded.capture.count();
     let packet = Packet {
         bytes: here.bytes,
         wire: here.wire,
     };
-    w.pass(run_packet(meter, p, packet));
+    w.pass(run_packet(meter, loaded.program, packet, loaded.values));
 }
 
 /// The same from any place of the packet.
 #[inline(always)]
 fn pass_packet<A: Allocator>(
     meter: &mut Meter,
-    p: &Program<A>,
-    capture: &Capture<A>,
+    loaded: &Loaded<'_, A>,
     here: &Captured<'_>,
     w: &mut Walk,
 )
-    requires stands { Stands p.now capture.now.records w.old }
-    requires here { slice_get capture.now.records (w.old.place.packet - 1) ≡ Some (record_of here.now) }
-    requires quiet { IsQuiet p.now [] }
-    requires spare { meter.old + owed p.now capture.now.records w.old.place + 1 < 2 ^ 128 }
+    requires stands { Stands (machine_in loaded.now) (records_in loaded.now) w.old }
+    requires here { slice_get (records_in loaded.now) (w.old.place.packet - 1) ≡ Some (record_of here.now) }
+    requires quiet { IsQuiet (machine_in loaded.now) [] }
+    requires spare { meter.old + owed (machine_in loaded.now) (records_in loaded.now) w.old.place + 1 < 2 ^ 128 }
     requires few { meter.old + 8192 ≤ 2 ^ 128 }
-    ensures stands { Stands p.now capture.now.records w.new }
+    ensures stands { Stands (machine_in loaded.now) (records_in loaded.now) w.new }
     ensures place { w.new.place ≡ record { packet = w.old.place.packet + 1; step = 0 } }
     ensures origin { w.new.origin ≡ w.old.origin }
-    ensures rest { rest p.now capture.now.records [] w.new.place ≡ rest p.now capture.now.records [] w.old.place }
-    ensures spent { meter.new + owed p.now capture.now.records w.new.place ≡ meter.old + owed p.now capture.now.records w.old.place }
+    ensures rest { rest (machine_in loaded.now) (records_in loaded.now) [] w.new.place ≡ rest (machine_in loaded.now) (records_in loaded.now) [] w.old.place }
+    ensures spent { meter.new + owed (machine_in loaded.now) (records_in loaded.now) w.new.place ≡ meter.old + owed (machine_in loaded.now) (records_in loaded.now) w.old.place }
 {
     if w.place.step == 0 {
-        pass_whole(meter, p, capture, here, w);
+        pass_whole(meter, loaded, here, w);
     } else {
         // On copies, as only the first packet comes here, and the loop's own stay in registers.
         let (here, mut rest) = (*here, *w);
-        pass_rest(meter, p, capture, &here, &mut rest);
+        pass_rest(meter, loaded, &here, &mut rest);
         *w = rest;
     }
 }
@@ -167,25 +164,24 @@ fn pass_packet<A: Allocator>(
 #[inline(always)]
 fn run_quietly<T: Trail, A: Allocator>(
     meter: &mut Meter,
-    p: &Program<A>,
-    capture: &Capture<A>,
+    loaded: &Loaded<'_, A>,
     w: &mut Walk,
     trail: &mut T,
     limit: Option<u64>,
 ) -> RunReply
-    requires stands { Stands p.now capture.now.records w.old }
-    requires quiet { IsQuiet p.now [] }
+    requires stands { Stands (machine_in loaded.now) (records_in loaded.now) w.old }
+    requires quiet { IsQuiet (machine_in loaded.now) [] }
     requires spare { meter.old ≤ 2 ^ 127 }
     requires limit { limit ≢ Some 0 }
-    ensures stands { Stands p.now capture.now.records w.new }
-    ensures keeps { Keeps (λ xs. T.stands_for trail.new xs) p.now capture.now.records w.new.place }
-    ensures runs { Runs p.now capture.now [] w.old w.new limit result }
-    ensures ahead { PassesHits result (rest p.now capture.now.records [] w.old.place) (rest p.now capture.now.records [] w.new.place) }
-    ensures turns { meter.new ≡ meter.old + run_turns p.now capture.now [] w.old limit }
+    ensures stands { Stands (machine_in loaded.now) (records_in loaded.now) w.new }
+    ensures keeps { Keeps (λ xs. T.stands_for trail.new xs) (machine_in loaded.now) (records_in loaded.now) w.new.place }
+    ensures runs { Runs (machine_in loaded.now) loaded.now.capture.now [] w.old w.new limit result }
+    ensures ahead { PassesHits result (rest (machine_in loaded.now) (records_in loaded.now) [] w.old.place) (rest (machine_in loaded.now) (records_in loaded.now) [] w.new.place) }
+    ensures turns { meter.new ≡ meter.old + run_turns (machine_in loaded.now) loaded.now.capture.now [] w.old limit }
 {
-    let _few = capture.count();
+    let _few = loaded.capture.count();
     let start = w.place.packet;
-    let mut next = record_at(capture, start);
+    let mut next = record_at(loaded.capture, start);
     trail.clear();
     'go: loop {
         let Some(here) = next else {
@@ -194,8 +190,8 @@ fn run_quietly<T: Trail, A: Allocator>(
             return RunReply::Finished(counts);
         };
         // Asked for first, so that its header is fetched from memory while this packet runs.
-        let behind = capture.following(&here);
-        pass_packet(meter, p, capture, &here, w);
+        let behind = loaded.capture.following(&here);
+        pass_packet(meter, loaded, &here, w);
         next = behind;
         if is_limit(limit, w.place.packet - start) && next.is_some() {
             return RunReply::Limit(w.counts);
@@ -207,31 +203,30 @@ fn run_quietly<T: Trail, A: Allocator>(
 // It walks on a copy, so that the place, the state and the counts stay in the machine's registers.
 pub(crate) fn run<T: Trail, A: Allocator>(
     meter: &mut Meter,
-    p: &Program<A>,
-    capture: &Capture<A>,
-    breakpoints: &Breakpoints<A>,
+    loaded: &Loaded<'_, A>,
     quiet: bool,
     w: &mut Walk,
     trail: &mut T,
     limit: Option<u64>,
 ) -> RunReply
-    requires stands { Stands p.now capture.now.records w.old }
-    requires keeps { Keeps (λ xs. T.stands_for trail.old xs) p.now capture.now.records w.old.place }
-    requires quiet { quiet ≡ true → IsQuiet p.now breakpoints.now.keys }
-    requires spare { meter.old + owed p.now capture.now.records w.old.place + 1 < 2 ^ 128 }
+    requires stands { Stands (machine_in loaded.now) (records_in loaded.now) w.old }
+    requires keeps { Keeps (λ xs. T.stands_for trail.old xs) (machine_in loaded.now) (records_in loaded.now) w.old.place }
+    requires quiet { quiet ≡ true → IsQuiet (machine_in loaded.now) (breakpoints_in loaded.now) }
+    requires watched { Watches loaded.now.watched.now (machine_in loaded.now) (breakpoints_in loaded.now) }
+    requires spare { meter.old + owed (machine_in loaded.now) (records_in loaded.now) w.old.place + 1 < 2 ^ 128 }
     requires early { meter.old ≤ 2 ^ 127 }
     requires limit { limit ≢ Some 0 }
-    ensures stands { Stands p.now capture.now.records w.new }
-    ensures keeps { Keeps (λ xs. T.stands_for trail.new xs) p.now capture.now.records w.new.place }
-    ensures runs { Runs p.now capture.now breakpoints.now.keys w.old w.new limit result }
-    ensures ahead { PassesHits result (rest p.now capture.now.records breakpoints.now.keys w.old.place) (rest p.now capture.now.records breakpoints.now.keys w.new.place) }
-    ensures turns { meter.new ≡ meter.old + run_turns p.now capture.now breakpoints.now.keys w.old limit }
+    ensures stands { Stands (machine_in loaded.now) (records_in loaded.now) w.new }
+    ensures keeps { Keeps (λ xs. T.stands_for trail.new xs) (machine_in loaded.now) (records_in loaded.now) w.new.place }
+    ensures runs { Runs (machine_in loaded.now) loaded.now.capture.now (breakpoints_in loaded.now) w.old w.new limit result }
+    ensures ahead { PassesHits result (rest (machine_in loaded.now) (records_in loaded.now) (breakpoints_in loaded.now) w.old.place) (rest (machine_in loaded.now) (records_in loaded.now) (breakpoints_in loaded.now) w.new.place) }
+    ensures turns { meter.new ≡ meter.old + run_turns (machine_in loaded.now) loaded.now.capture.now (breakpoints_in loaded.now) w.old limit }
 {
     let mut here = *w;
     let reply = if quiet {
-        run_quietly(meter, p, capture, &mut here, trail, limit)
+        run_quietly(meter, loaded, &mut here, trail, limit)
     } else {
-        run_here(meter, p, capture, breakpoints, &mut here, trail, limit)
+        run_here(meter, loaded, &mut here, trail, limit)
     };
     *w = here;
     reply

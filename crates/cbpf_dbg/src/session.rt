@@ -1,16 +1,18 @@
 //! A session: what is loaded, and the breakpoints.
 
-ghost use Rattle.std.specs.Prelude.{◌≡◌, ◌≤◌, ◌⊎◌, length, slice_get, Err, IfErr, IsOk, OnErr, OnOk, Option};
+ghost use Rattle.std.specs.Prelude.{◌≡◌, ◌≤◌, ◌⊎◌, length, slice_get, false, nat_eq, Err, IfErr, IsOk, OnErr, OnOk, Option};
+ghost use Rattle.std.specs.List.{list_any};
 ghost use Rattle.std.specs.Option.{option_map};
+ghost use Rattle.cbpf_machine.specs.Values.{value_of};
 ghost use Rattle.cbpf_dbg.specs.Commands as spec;
 ghost use Rattle.cbpf_dbg.specs.View.{empty_view};
 ghost use Rattle.cbpf_dbg.specs.declared.reply.SessionFault.TheVariants as fault;
 
-use crate::hit::{Breakpoints, is_silent};
+use crate::hit::{Breakpoints, Watched, is_silent, watch, watch_at};
 use crate::reply::{Place, SessionFault};
 use crate::walk::Walk;
-use cbpf_code::Program;
-use cbpf_machine::Trail;
+use cbpf_code::{Ext, Program};
+use cbpf_machine::{Trail, Values};
 use indexmap::IndexSet;
 use pcap_classic::Capture;
 use std::alloc::{Allocator, Global};
@@ -22,8 +24,11 @@ use std::marker::Model;
 #[derive(Drop)]
 pub struct Session<T: Trail, A: Allocator = Global> {
     pub(crate) program: Option<Program<A>>,
-    /// Whether no instruction of the program asks for an extension.
+    pub(crate) values: Values,
+    /// Whether no instruction of the program asks for an extension that has no value.
     pub(crate) silent: bool,
+    /// The instructions of the program at which an entry can be a hit.
+    pub(crate) watched: Watched,
     pub(crate) capture: Option<Capture<A>>,
     pub(crate) breakpoints: Breakpoints<A>,
     pub(crate) walk: Walk,
@@ -32,18 +37,18 @@ pub struct Session<T: Trail, A: Allocator = Global> {
 }
 
 impl<T: Trail, A: Allocator> Model for Session<T, A> {
-    ghost use Rattle.cbpf_dbg.specs.Session.{Fits, IsKnownSilent};
+    ghost use Rattle.cbpf_dbg.specs.Session.{Fits, IsKnown};
     ghost use Rattle.cbpf_dbg.specs.View.{View};
 
     ghost Value = { View };
 
-    ghost view = { λ s. record { program = s.program; capture = s.capture; breakpoints = s.breakpoints.keys; origin = s.walk.origin; place = s.walk.place } };
+    ghost view = { λ s. record { program = s.program; values = s.values; capture = s.capture; breakpoints = s.breakpoints.keys; origin = s.walk.origin; place = s.walk.place } };
 
-    ghost invariant = { λ s. Fits (λ xs. T.stands_for s.trail xs) s.program s.capture s.walk × IsKnownSilent s.silent s.program };
+    ghost invariant = { λ s. Fits (λ xs. T.stands_for s.trail xs) s.program s.values s.capture s.walk × IsKnown s.silent s.watched s.program s.values s.breakpoints.keys };
 }
 
 impl<T: Trail, A: Allocator + Copy> Session<T, A> {
-    /// A session with no program, no capture and no breakpoints, whose breakpoints will take their
+    /// A session with no program, no values, no capture and no breakpoints, whose breakpoints will take their
     /// memory from this allocator.
     pub fn new(alloc: A, trail: T) -> Self
         ensures { result ≡ empty_view }
@@ -52,7 +57,9 @@ impl<T: Trail, A: Allocator + Copy> Session<T, A> {
         trail.clear();
         Session {
             program: None,
+            values: Values::new(),
             silent: false,
+            watched: [false; 4096],
             capture: None,
             breakpoints: IndexSet::new(alloc),
             walk: Walk::start(),
@@ -70,6 +77,9 @@ impl<T: Trail, A: Allocator + Copy> Session<T, A> {
         ensures reply { (result ≡ spec.reply_of (spec.breakpoint self.old n)) ⊎ (result ≡ Err fault.Memory × IsOk (spec.breakpoint self.old n)) }
         ensures after { OnOk result (self.new ≡ spec.view_after self.old (spec.breakpoint self.old n)) }
         ensures refused { OnErr result (self.new ≡ self.old) }
+
+        // A breakpoint that is set already takes no memory.
+        ensures memory { result ≡ Err fault.Memory → list_any (nat_eq n) self.old.breakpoints ≡ false }
     {
         let Some(program) = &self.program else {
             return Err(SessionFault::NoProgram);
@@ -78,26 +88,36 @@ impl<T: Trail, A: Allocator + Copy> Session<T, A> {
             return Err(SessionFault::NoInstruction);
         }
         match self.breakpoints.insert(n as u32) {
-            Ok(_) => Ok(()),
+            Ok(_) => {
+                watch_at(
+                    &mut self.watched,
+                    program,
+                    &self.values,
+                    &self.breakpoints,
+                    n as u32,
+                );
+                Ok(())
+            }
             Err(_) => Err(SessionFault::Memory),
         }
     }
 }
 
 impl<T: Trail, A: Allocator> Session<T, A> {
-    /// Takes a program, and goes to the start with no breakpoints.
+    /// Takes a program, and goes to the start with no breakpoints. The values stay.
     pub fn load_program(&mut self, p: Program<A>)
         ensures { self.new ≡ spec.with_program_loaded self.old p }
     {
         let _sound = p.len();
         self.reset_breakpoints();
-        self.silent = is_silent(&p);
+        self.silent = is_silent(&p, &self.values);
+        watch(&mut self.watched, &p, &self.values, &self.breakpoints);
         self.program = Some(p);
         self.walk = Walk::start();
         self.trail.clear();
     }
 
-    /// Takes a capture, and goes to the start. The breakpoints stay.
+    /// Takes a capture, and goes to the start. The breakpoints and the values stay.
     pub fn load_capture(&mut self, c: Capture<A>)
         ensures { self.new ≡ spec.with_capture_loaded self.old c }
     {
@@ -140,7 +160,15 @@ impl<T: Trail, A: Allocator> Session<T, A> {
         if u64::from(program.len()) <= n {
             return Err(SessionFault::NoInstruction);
         }
-        Ok(self.breakpoints.shift_remove(&(n as u32)))
+        let was_set = self.breakpoints.shift_remove(&(n as u32));
+        watch_at(
+            &mut self.watched,
+            program,
+            &self.values,
+            &self.breakpoints,
+            n as u32,
+        );
+        Ok(was_set)
     }
 
     /// Takes all breakpoints out.
@@ -148,6 +176,41 @@ impl<T: Trail, A: Allocator> Session<T, A> {
         ensures { self.new ≡ spec.without_breakpoints self.old }
     {
         self.breakpoints.clear();
+        if let Some(program) = &self.program {
+            watch(&mut self.watched, program, &self.values, &self.breakpoints);
+        }
+    }
+
+    /// The value of an extension, where it has one.
+    pub fn value_of(&self, e: Ext) -> Option<u32>
+        ensures { result ≡ value_of self.now.values e }
+    {
+        self.values.value_of(e)
+    }
+
+    /// Gives an extension a value, with which loads of it go on, and goes before the place's packet,
+    /// from which it then counts.
+    ///
+    /// # Errors
+    ///
+    /// `NoValue` for `Nla`, `NlaN`, `PayOff` and `Rand`.
+    #[tactic(auto, unfolding(crate::specs::Commands::set_value))]
+    pub fn set_value(&mut self, e: Ext, n: u32) -> Result<(), SessionFault>
+        ensures reply { result ≡ spec.reply_of (spec.set_value self.old e n) }
+        ensures after { self.new ≡ spec.view_after self.old (spec.set_value self.old e n) }
+    {
+        let packet = self.place().packet;
+        if !self.values.set(e, n) {
+            return Err(SessionFault::NoValue);
+        }
+        if let Some(program) = &self.program {
+            let _sound = program.len();
+            self.silent = is_silent(program, &self.values);
+            watch(&mut self.watched, program, &self.values, &self.breakpoints);
+        }
+        self.walk = Walk::before(packet);
+        self.trail.clear();
+        Ok(())
     }
 
     /// The place; where no program or no capture is loaded, it is before the first packet.

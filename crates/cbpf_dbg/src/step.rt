@@ -1,37 +1,36 @@
 //! Steps both ways.
 
 ghost use Rattle.std.specs.Prelude.{◌≡◌, ◌+◌, ◌<◌, ◌≤◌, ◌^◌, ℕ, List, MatchResult, OnErr, OnOk};
+ghost use Rattle.cbpf_dbg.specs.Loaded.{machine_in, records_in};
 ghost use Rattle.cbpf_dbg.specs.Session.{Keeps};
 ghost use Rattle.cbpf_dbg.specs.Walk.{Stands, owed, StepsOn, step_turns, StepsBack, CannotStepBack};
 
 use crate::hit::why_at;
+use crate::loaded::Loaded;
 use crate::reply::{RunReply, Stop, Why};
 use crate::walk::{Moved, Walk, advance, record_at};
-use cbpf_code::Program;
 use cbpf_machine::{Meter, Packet, Trail};
-use pcap_classic::Capture;
 use std::alloc::Allocator;
 
 /// Goes on by that many entries, or to the end.
 pub(crate) fn step_on<T: Trail, A: Allocator>(
     meter: &mut Meter,
-    p: &Program<A>,
-    capture: &Capture<A>,
+    loaded: &Loaded<'_, A>,
     w: &mut Walk,
     trail: &mut T,
     n: u64,
 ) -> RunReply
-    requires stands { Stands p.now capture.now.records w.old }
-    requires keeps { Keeps (λ xs. T.stands_for trail.old xs) p.now capture.now.records w.old.place }
-    requires spare { meter.old + owed p.now capture.now.records w.old.place + 1 < 2 ^ 128 }
+    requires stands { Stands (machine_in loaded.now) (records_in loaded.now) w.old }
+    requires keeps { Keeps (λ xs. T.stands_for trail.old xs) (machine_in loaded.now) (records_in loaded.now) w.old.place }
+    requires spare { meter.old + owed (machine_in loaded.now) (records_in loaded.now) w.old.place + 1 < 2 ^ 128 }
     requires some { 1 ≤ n }
-    ensures stands { Stands p.now capture.now.records w.new }
-    ensures keeps { Keeps (λ xs. T.stands_for trail.new xs) p.now capture.now.records w.new.place }
-    ensures steps { (breakpoints : List ℕ) → StepsOn p.now capture.now breakpoints w.old w.new n result }
-    ensures turns { (breakpoints : List ℕ) → meter.new ≡ meter.old + step_turns p.now capture.now breakpoints w.old n }
+    ensures stands { Stands (machine_in loaded.now) (records_in loaded.now) w.new }
+    ensures keeps { Keeps (λ xs. T.stands_for trail.new xs) (machine_in loaded.now) (records_in loaded.now) w.new.place }
+    ensures steps { (breakpoints : List ℕ) → StepsOn (machine_in loaded.now) loaded.now.capture.now breakpoints w.old w.new n result }
+    ensures turns { (breakpoints : List ℕ) → meter.new ≡ meter.old + step_turns (machine_in loaded.now) loaded.now.capture.now breakpoints w.old n }
 {
     let mut left = n;
-    let mut next = record_at(capture, w.place.packet);
+    let mut next = record_at(loaded.capture, w.place.packet);
     'go: loop {
         let Some(here) = next else {
             let counts = w.counts;
@@ -39,11 +38,11 @@ pub(crate) fn step_on<T: Trail, A: Allocator>(
             *w = Walk::start();
             return RunReply::Finished(counts);
         };
-        match advance(meter, p, capture, &here, w) {
+        match advance(meter, loaded, &here, w) {
             Moved::Entry => {
                 trail.push(w.state);
                 if left == 1 {
-                    let why = why_at(p, &w.state, Why::Step);
+                    let why = why_at(loaded, &w.state, Why::Step);
                     return RunReply::Stopped(Stop {
                         place: w.place,
                         state: w.state,
@@ -54,7 +53,7 @@ pub(crate) fn step_on<T: Trail, A: Allocator>(
             }
             Moved::Packet => {
                 trail.clear();
-                next = capture.following(&here);
+                next = loaded.capture.following(&here);
             }
         }
     }
@@ -63,19 +62,18 @@ pub(crate) fn step_on<T: Trail, A: Allocator>(
 /// Goes back by that many entries in the same packet, or tells the most that fits.
 pub(crate) fn step_back<T: Trail, A: Allocator>(
     meter: &mut Meter,
-    p: &Program<A>,
-    capture: &Capture<A>,
+    loaded: &Loaded<'_, A>,
     w: &mut Walk,
     trail: &mut T,
     b: u64,
 ) -> Result<Stop, u32>
-    requires stands { Stands p.now capture.now.records w.old }
-    requires keeps { Keeps (λ xs. T.stands_for trail.old xs) p.now capture.now.records w.old.place }
+    requires stands { Stands (machine_in loaded.now) (records_in loaded.now) w.old }
+    requires keeps { Keeps (λ xs. T.stands_for trail.old xs) (machine_in loaded.now) (records_in loaded.now) w.old.place }
     requires some { 1 ≤ b }
     requires spare { meter.old ≤ 2 ^ 127 }
-    ensures stands { Stands p.now capture.now.records w.new }
-    ensures keeps { Keeps (λ xs. T.stands_for trail.new xs) p.now capture.now.records w.new.place }
-    ensures answer { MatchResult result (λ stop. StepsBack p.now capture.now.records w.old w.new b stop) (λ most. CannotStepBack w.old w.new b most) }
+    ensures stands { Stands (machine_in loaded.now) (records_in loaded.now) w.new }
+    ensures keeps { Keeps (λ xs. T.stands_for trail.new xs) (machine_in loaded.now) (records_in loaded.now) w.new.place }
+    ensures answer { MatchResult result (λ stop. StepsBack (machine_in loaded.now) (records_in loaded.now) w.old w.new b stop) (λ most. CannotStepBack w.old w.new b most) }
     ensures counts { meter.old ≤ meter.new }
     ensures turns { OnOk result (meter.new ≡ meter.old + T.turns_back w.new.place.step) }
     ensures few { meter.new ≤ meter.old + 63 }
@@ -85,15 +83,15 @@ pub(crate) fn step_back<T: Trail, A: Allocator>(
         return Err(w.place.step.saturating_sub(1));
     }
     let to = w.place.step - b as u32;
-    let item = capture.item(w.place.packet);
+    let item = loaded.capture.item(w.place.packet);
     let packet = Packet {
         bytes: item.bytes,
         wire: item.wire,
     };
-    let state = trail.back(meter, p, packet, to);
+    let state = trail.back(meter, loaded.program, packet, loaded.values, to);
     w.state = state;
     w.place.step = to;
-    let why = why_at(p, &state, Why::Step);
+    let why = why_at(loaded, &state, Why::Step);
     Ok(Stop {
         place: w.place,
         state,

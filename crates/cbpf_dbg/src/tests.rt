@@ -8,6 +8,7 @@ mod places;
 mod runs;
 mod shown;
 mod steps;
+mod values;
 
 use crate::{
     Counts, ListTrail, MarkTrail, Meter, Place, RunReply, Session, SessionFault, Stop, Trail, Why,

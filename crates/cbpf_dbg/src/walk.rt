@@ -2,14 +2,15 @@
 
 ghost use Rattle.std.specs.Prelude.{◌≡◌, ◌+◌, ◌-◌, ◌<◌, ◌≤◌, ◌^◌, List, length, min, Some, slice_get};
 ghost use Rattle.cbpf_code.specs.Sound.{IsSound};
-ghost use Rattle.cbpf_code.specs.declared.insn.Insn.{Insn};
+ghost use Rattle.cbpf_machine.specs.Machine.{Machine};
 ghost use Rattle.pcap_classic.specs.Lent.{record_of};
 ghost use Rattle.pcap_classic.specs.Records.{Record};
+ghost use Rattle.cbpf_dbg.specs.Loaded.{machine_in, records_in};
 ghost use Rattle.cbpf_dbg.specs.View.{start};
 ghost use Rattle.cbpf_dbg.specs.Walk.{Stands, Moves, IsEntry, IsHere, entered, stepped, passed};
 
+use crate::loaded::Loaded;
 use crate::reply::{Counts, Place};
-use cbpf_code::Program;
 use cbpf_machine::{Meter, Outcome, Packet, State, turn_in_place};
 use pcap_classic::{Capture, Captured};
 use std::alloc::Allocator;
@@ -71,7 +72,7 @@ impl Walk {
     /// Before a packet, from which it counts.
     pub(crate) fn before(packet: u64) -> Walk
         requires { 1 ≤ packet }
-        ensures stands { (list : List Insn) (capture : List Record) → IsSound list → packet ≤ length capture + 1 → Stands list capture result }
+        ensures stands { (machine : Machine) (capture : List Record) → IsSound machine.list → packet ≤ length capture + 1 → Stands machine capture result }
         ensures place { result.place ≡ record { packet = packet; step = 0 } }
         ensures origin { result.origin ≡ packet }
     {
@@ -90,7 +91,7 @@ impl Walk {
     /// At an entry of a packet, from which it counts.
     pub(crate) fn at_entry(place: Place, state: State) -> Walk
         requires { 1 ≤ place.packet }
-        ensures stands { (list : List Insn) (capture : List Record) → IsSound list → place.packet ≤ length capture + 1 → IsEntry list capture place state → Stands list capture result }
+        ensures stands { (machine : Machine) (capture : List Record) → IsSound machine.list → place.packet ≤ length capture + 1 → IsEntry machine capture place state → Stands machine capture result }
         ensures place { result.place ≡ place }
         ensures origin { result.origin ≡ place.packet }
     {
@@ -108,7 +109,7 @@ impl Walk {
 
     /// At the start of a capture.
     pub(crate) fn start() -> Walk
-        ensures stands { (list : List Insn) (capture : List Record) → IsSound list → Stands list capture result }
+        ensures stands { (machine : Machine) (capture : List Record) → IsSound machine.list → Stands machine capture result }
         ensures place { result.place ≡ start }
         ensures origin { result.origin ≡ 1 }
     {
@@ -132,20 +133,19 @@ pub(crate) fn record_at<A: Allocator>(capture: &Capture<A>, packet: u64) -> Opti
 #[inline(always)]
 pub(crate) fn advance<A: Allocator>(
     meter: &mut Meter,
-    p: &Program<A>,
-    capture: &Capture<A>,
+    loaded: &Loaded<'_, A>,
     here: &Captured<'_>,
     w: &mut Walk,
 ) -> Moved
-    requires stands { Stands p.now capture.now.records w.old }
-    requires here { slice_get capture.now.records (w.old.place.packet - 1) ≡ Some (record_of here.now) }
+    requires stands { Stands (machine_in loaded.now) (records_in loaded.now) w.old }
+    requires here { slice_get (records_in loaded.now) (w.old.place.packet - 1) ≡ Some (record_of here.now) }
     requires spare { meter.old + 1 < 2 ^ 128 }
-    ensures stands { Stands p.now capture.now.records w.new }
-    ensures moves { Moves p.now capture.now.records w.old result w.new }
+    ensures stands { Stands (machine_in loaded.now) (records_in loaded.now) w.new }
+    ensures moves { Moves (machine_in loaded.now) (records_in loaded.now) w.old result w.new }
     ensures origin { w.new.origin ≡ w.old.origin }
     ensures turns { meter.new ≡ meter.old + min w.old.place.step 1 }
 {
-    let _few = capture.count();
+    let _few = loaded.capture.count();
     if w.place.step == 0 {
         w.enter();
         return Moved::Entry;
@@ -154,7 +154,7 @@ pub(crate) fn advance<A: Allocator>(
         bytes: here.bytes,
         wire: here.wire,
     };
-    match turn_in_place(meter, p, packet, &mut w.state) {
+    match turn_in_place(meter, loaded.program, packet, loaded.values, &mut w.state) {
         None => {
             w.go_on();
             Moved::Entry

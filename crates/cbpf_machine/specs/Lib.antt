@@ -1,5 +1,7 @@
 pub mod Registers
 pub mod Number
+pub mod Values
+pub mod Machine
 pub mod Step
 pub mod Checked
 pub mod Trace

@@ -3,7 +3,8 @@
 //!
 //! The instructions do what Linux Documentation/networking/filter ("BPF engine and instruction
 //! set") and bpf(4) ("FILTER MACHINE") say. Two choices are this project's own: a shift by 32 or
-//! more gives 0, and a load from an extension's number ends the packet's run as `Unknown`.
+//! more gives 0, and a load from an extension's number gives the value that the extension was given, or
+//! ends the packet's run as `Unknown` where it has none.
 #![tactic(auto)]
 
 mod arithmetic;
@@ -18,6 +19,7 @@ mod packet;
 mod run;
 mod state;
 mod trail;
+mod values;
 
 pub use execute::{turn, turn_in_place};
 pub use extension::asks;
@@ -29,6 +31,7 @@ pub use packet::Packet;
 pub use run::run_packet;
 pub use state::State;
 pub use trail::Trail;
+pub use values::Values;
 
 #[cfg(test)]
 mod tests;

@@ -4,6 +4,7 @@ use crate::meter::Meter;
 use crate::packet::Packet;
 use crate::state::State;
 use crate::trail::Trail;
+use crate::values::Values;
 use cbpf_code::Program;
 use std::alloc::{AllocError, Allocator, Global};
 use std::marker::Model;
@@ -65,6 +66,7 @@ impl<A: Allocator> Trail for ListTrail<A> {
         _meter: &mut Meter,
         _p: &Program<B>,
         _packet: Packet<'_>,
+        _values: &Values,
         to: u32,
     ) -> State {
         let s = self.states[to as usize - 1];

@@ -12,7 +12,7 @@ pub enum Turn {
     Outside,
     /// A division or remainder by 0.
     ZeroDivisor,
-    /// A load asked for an extension.
+    /// A load asked for an extension that has no value.
     Unknown(Ext),
 }
 
@@ -49,7 +49,7 @@ pub enum Outcome {
     Pass(u32),
     /// The program returned 0, loaded from outside the packet or divided by 0.
     Fail,
-    /// The program asked for this extension.
+    /// The program asked for this extension, which has no value.
     Unknown(Ext),
 }
 

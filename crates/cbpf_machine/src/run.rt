@@ -1,4 +1,5 @@
 ghost use Rattle.std.specs.Prelude.{◌≡◌, ◌≤◌, ◌+◌, ◌^◌, length};
+ghost use Rattle.cbpf_machine.specs.Machine.{machine_of};
 ghost use Rattle.cbpf_machine.specs.Trace as spec;
 
 use crate::execute::turn_in_place;
@@ -6,6 +7,7 @@ use crate::meter::Meter;
 use crate::outcome::Outcome;
 use crate::packet::Packet;
 use crate::state::State;
+use crate::values::Values;
 use cbpf_code::Program;
 use std::alloc::Allocator;
 use std::mem;
@@ -16,21 +18,26 @@ use std::mem;
 /// The meter is at least 8192 turns below 2 to the 128 before.
 // It isn't inlined, so that nothing but the packet's state wants the processor's registers.
 #[inline(never)]
-pub fn run_packet<A: Allocator>(meter: &mut Meter, p: &Program<A>, packet: Packet<'_>) -> Outcome
+pub fn run_packet<A: Allocator>(
+    meter: &mut Meter,
+    p: &Program<A>,
+    packet: Packet<'_>,
+    values: &Values,
+) -> Outcome
     requires { meter.old + 8192 ≤ 2 ^ 128 }
-    ensures value { result ≡ spec.outcome p.now packet.entry.bytes.now packet.entry.wire }
-    ensures turns { meter.new ≡ meter.old + length (spec.trace p.now packet.entry.bytes.now packet.entry.wire) }
+    ensures value { result ≡ spec.outcome (machine_of p.now values.now) packet.entry.bytes.now packet.entry.wire }
+    ensures turns { meter.new ≡ meter.old + length (spec.trace (machine_of p.now values.now) packet.entry.bytes.now packet.entry.wire) }
     ensures few { meter.new ≤ meter.old + length p.now }
 
     // The definition's trace is the whole run: it ends by itself, and its program counters rise.
-    ensures whole { spec.IsRun p.now packet.entry.bytes.now packet.entry.wire (spec.trace p.now packet.entry.bytes.now packet.entry.wire) }
+    ensures whole { spec.IsRun (machine_of p.now values.now) packet.entry.bytes.now packet.entry.wire (spec.trace (machine_of p.now values.now) packet.entry.bytes.now packet.entry.wire) }
 {
     let _sound = p.len();
     // The meter stays in those registers too, while it is this function's own.
     let mut spent = mem::replace(meter, Meter::new());
     let mut s = State::zero();
     'run: loop {
-        if let Some(outcome) = turn_in_place(&mut spent, p, packet, &mut s) {
+        if let Some(outcome) = turn_in_place(&mut spent, p, packet, values, &mut s) {
             *meter = spent;
             return outcome;
         }

@@ -22,9 +22,20 @@ fn outcome<A: Allocator>(
     bytes: &[u8],
     wire: u32,
 ) -> Outcome {
+    outcome_with(rt, alloc, list, bytes, wire, &Values::new())
+}
+
+fn outcome_with<A: Allocator>(
+    rt: &impl Abort,
+    alloc: A,
+    list: &[(u16, u8, u8, u32)],
+    bytes: &[u8],
+    wire: u32,
+    values: &Values,
+) -> Outcome {
     let p = program(rt, alloc, list);
     let mut meter = Meter::new();
-    let outcome = run_packet(&mut meter, &p, Packet { bytes, wire });
+    let outcome = run_packet(&mut meter, &p, Packet { bytes, wire }, values);
     assert!(rt; meter.spent() <= u128::from(p.len()));
     outcome
 }
@@ -142,7 +153,7 @@ fn turns_one_by_one(rt: HostRuntime) {
         (6, 9, 9, 9),
     ] {
         assert!(rt; s.pc() < p.len() && meter.spent() < 5);
-        match turn(&mut meter, &p, packet, &s) {
+        match turn(&mut meter, &p, packet, &Values::new(), &s) {
             Turn::Next(next) => s = next,
             _ => assert!(rt; false),
         }
@@ -154,10 +165,65 @@ fn turns_one_by_one(rt: HostRuntime) {
 
 #[test]
 fn what_an_instruction_asks_for(rt: HostRuntime) {
-    assert!(rt; asks(insn(32, 0, 0, 4294963256)) == Some(Ext::Rand));
-    assert!(rt; asks(insn(48, 0, 0, 4294963200)) == Some(Ext::Proto));
-    assert!(rt; asks(insn(64, 0, 0, 4294963256)).is_none());
-    assert!(rt; asks(insn(177, 0, 0, 4294963256)).is_none());
-    assert!(rt; asks(insn(32, 0, 0, 4294963240)).is_none());
-    assert!(rt; asks(insn(33, 0, 0, 4294963256)).is_none());
+    let none = Values::new();
+    assert!(rt; asks(insn(32, 0, 0, 4294963256), &none) == Some(Ext::Rand));
+    assert!(rt; asks(insn(48, 0, 0, 4294963200), &none) == Some(Ext::Proto));
+    assert!(rt; asks(insn(64, 0, 0, 4294963256), &none).is_none());
+    assert!(rt; asks(insn(177, 0, 0, 4294963256), &none).is_none());
+    assert!(rt; asks(insn(32, 0, 0, 4294963240), &none).is_none());
+    assert!(rt; asks(insn(33, 0, 0, 4294963256), &none).is_none());
+}
+
+const EXTENSIONS: [Ext; 15] = [
+    Ext::Proto,
+    Ext::PktType,
+    Ext::IfIdx,
+    Ext::Nla,
+    Ext::NlaN,
+    Ext::Mark,
+    Ext::Queue,
+    Ext::HaType,
+    Ext::RxHash,
+    Ext::Cpu,
+    Ext::VlanTci,
+    Ext::VlanAvail,
+    Ext::PayOff,
+    Ext::Rand,
+    Ext::VlanTpid,
+];
+
+#[test]
+fn values_by_extension(rt: HostRuntime) {
+    let mut values = Values::new();
+    for (i, e) in EXTENSIONS.iter().enumerate() {
+        assert!(rt; values.value_of(*e).is_none());
+        let takes = !matches!(e, Ext::Nla | Ext::NlaN | Ext::PayOff | Ext::Rand);
+        assert_eq!(rt; values.set(*e, i as u32 + 100), takes);
+    }
+    for (i, e) in EXTENSIONS.iter().enumerate() {
+        let takes = !matches!(e, Ext::Nla | Ext::NlaN | Ext::PayOff | Ext::Rand);
+        assert!(rt; values.value_of(*e) == if takes { Some(i as u32 + 100) } else { None });
+    }
+}
+
+// A load of any size takes all bits of a value, and 0 is one.
+#[test]
+fn loads_of_values(rt: HostRuntime) {
+    let mut values = Values::new();
+    assert!(rt; values.set(Ext::Mark, 4294967295));
+    for code in [32, 40, 48] {
+        let mark = [(code, 0, 0, 4294963220), (22, 0, 0, 0)];
+        assert!(rt; outcome(&rt, rt.alloc(), &mark, b"", 0) == Outcome::Unknown(Ext::Mark));
+        assert!(rt;
+            outcome_with(&rt, rt.alloc(), &mark, b"", 0, &values) == Outcome::Pass(4294967295)
+        );
+        assert!(rt; asks(insn(code, 0, 0, 4294963220), &values).is_none());
+    }
+    assert!(rt; values.set(Ext::Mark, 0));
+    let mark = [(32, 0, 0, 4294963220), (22, 0, 0, 0)];
+    assert!(rt; outcome_with(&rt, rt.alloc(), &mark, b"", 0, &values) == Outcome::Fail);
+    assert!(rt;
+        outcome_with(&rt, rt.alloc(), &RANDOM, b"", 0, &values) == Outcome::Unknown(Ext::Rand)
+    );
+    assert!(rt; !values.set(Ext::Rand, 1));
 }

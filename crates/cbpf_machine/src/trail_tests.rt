@@ -1,4 +1,5 @@
 ghost use Rattle.std.specs.Prelude.{◌≡◌, ◌≤◌, take};
+ghost use Rattle.cbpf_machine.specs.Machine.{machine_of};
 ghost use Rattle.cbpf_machine.specs.Trace.{trace};
 
 use super::*;
@@ -35,11 +36,12 @@ fn fill<T: Trail, A: Allocator>(
     trail: &mut T,
     p: &Program<A>,
     packet: Packet<'_>,
+    values: &Values,
     count: u32,
 )
     requires from_one { 1 ≤ count }
     requires few { count ≤ 4096 }
-    ensures stands { T.stands_for trail.new (take count (trace p.now packet.entry.bytes.now packet.entry.wire)) }
+    ensures stands { T.stands_for trail.new (take count (trace (machine_of p.now values.now) packet.entry.bytes.now packet.entry.wire)) }
     ensures kept { T.kept trail.new ≡ count }
 {
     let _sound = p.len();
@@ -48,7 +50,7 @@ fn fill<T: Trail, A: Allocator>(
     trail.clear();
     trail.push(s);
     'fill: for i in 1..count {
-        match turn(&mut meter, p, packet, &s) {
+        match turn(&mut meter, p, packet, values, &s) {
             Turn::Next(next) => {
                 s = next;
                 trail.push(next);
@@ -66,14 +68,15 @@ fn filled_and_back<T: Trail, A: Allocator>(
     count: u32,
     to: u32,
 ) -> (State, u128) {
+    let values = Values::new();
     let packet = Packet {
         bytes: b"",
         wire: 0,
     };
     assert!(rt; 1 <= to && to <= count && count <= 4096);
-    fill(rt, trail, p, packet, count);
+    fill(rt, trail, p, packet, &values, count);
     let mut meter = Meter::new();
-    let s = trail.back(&mut meter, p, packet, to);
+    let s = trail.back(&mut meter, p, packet, &values, to);
     (s, meter.spent())
 }
 

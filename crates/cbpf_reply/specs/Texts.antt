@@ -5,6 +5,7 @@ use Rattle.cbpf_code.specs.Text.{joined}
 use Rattle.cbpf_code.specs.Extension.{ext_name}
 use Rattle.cbpf_code.specs.declared.insn.Insn.{Insn}
 use Rattle.cbpf_listing.specs.Listing.{line_text}
+use Rattle.cbpf_code.specs.declared.extension.Ext.{Ext}
 use Rattle.cbpf_dbg.specs.Shown.{stop_text}
 use Rattle.cbpf_dbg.specs.View.{View}
 use Rattle.cbpf_dbg.specs.declared.reply.Counts.{Counts}
@@ -12,7 +13,7 @@ use Rattle.cbpf_dbg.specs.declared.reply.Place.{Place}
 use Rattle.cbpf_dbg.specs.declared.reply.RunReply.{RunReply}
 use Rattle.cbpf_dbg.specs.declared.reply.RunReply.TheVariants.{Stopped, Limit, Finished}
 use Rattle.cbpf_dbg.specs.declared.reply.SessionFault.{SessionFault}
-use Rattle.cbpf_dbg.specs.declared.reply.SessionFault.TheVariants.{NoProgram, NoCapture, NoPackets, NoInstruction, NoPacket, NoStep, TooFarBack, ZeroCount, Memory}
+use Rattle.cbpf_dbg.specs.declared.reply.SessionFault.TheVariants.{NoProgram, NoCapture, NoPackets, NoInstruction, NoPacket, NoStep, TooFarBack, ZeroCount, NoValue, Memory}
 use Rattle.cbpf_dbg.specs.declared.reply.Stop.{Stop}
 use Rattle.cbpf_dbg.specs.declared.reply.Why.{Why}
 use Rattle.cbpf_dbg.specs.declared.reply.Why.TheVariants.{Break, Step, Unknown}
@@ -32,7 +33,13 @@ fault_text NoPacket = codes "error: S5 no such packet\n"
 fault_text (NoStep n) = with_number (codes "error: S6 packet has ") n (codes " steps\n")
 fault_text (TooFarBack n) = with_number (codes "error: S7 at most ") n (codes " back\n")
 fault_text ZeroCount = codes "error: S8 count is zero\n"
+fault_text NoValue = codes "error: S9 no value for this extension\n"
 fault_text Memory = codes "error: out of memory\n"
+
+-- ---- values
+
+abbrev pub value_text : Ext → ℕ → List ℕ
+value_text e n = joined (codes "value " ∷ ext_name e ∷ codes " " ∷ decimal n ∷ codes "\n" ∷ [])
 
 -- ---- places
 

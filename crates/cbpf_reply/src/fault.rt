@@ -20,7 +20,7 @@ fn write_with_number<W: Write>(
     write_parts(w, &[before, number.format(n).as_bytes(), after])
 }
 
-/// Writes the line that tells a refusal, with its number S1 to S8, or that there was no memory.
+/// Writes the line that tells a refusal, with its number S1 to S9, or that there was no memory.
 ///
 /// # Errors
 ///
@@ -42,6 +42,7 @@ pub fn write_fault<W: Write>(w: &mut W, fault: SessionFault) -> Result<(), Write
             write_with_number(w, b"error: S7 at most ", most, b" back\n")
         }
         SessionFault::ZeroCount => write_bytes(w, b"error: S8 count is zero\n"),
+        SessionFault::NoValue => write_bytes(w, b"error: S9 no value for this extension\n"),
         SessionFault::Memory => write_bytes(w, b"error: out of memory\n"),
     }
 }

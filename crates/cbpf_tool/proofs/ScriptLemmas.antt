@@ -5,7 +5,7 @@ use Rattle.std.specs.FinMap as map
 use Rattle.cbpf_code.specs.Writing.{Appended, AppendedPart}
 use Rattle.cbpf_code.specs.declared.writing.WriteFault.{WriteFault}
 use Rattle.cbpf_code.proofs.WrittenLemmas.{appended-nil, appended-then, appended-kept, part-then, part-take}
-use Rattle.cbpf_command.specs.Commands.{Spelled, load_words, load_capture, run, disassemble, dump, breakpoint, breakpoints, reset_breakpoints, delete, step, select, mark, resume, stops, quit, command_of}
+use Rattle.cbpf_command.specs.Commands.{Spelled, load_words, load_capture, run, disassemble, dump, breakpoint, breakpoints, reset_breakpoints, delete, step, select, mark, resume, stops, value, quit, command_of}
 use Rattle.cbpf_command.specs.declared.command.LineRefusal.{LineRefusal}
 use Rattle.cbpf_command.specs.declared.command.LineRefusal.TheVariants.{UnknownCommand, WrongArguments}
 use Rattle.pcap_classic.specs.Savefile.{Savefile, savefile_of}
@@ -117,6 +117,7 @@ answers-named files m n f g (select k) W h = exactly-named _ _ n W h
 answers-named files m n f g mark W h = exactly-named _ m n W h
 answers-named files m n f g (resume p s) W h = exactly-named _ _ n W h
 answers-named files m n f g stops W h = exactly-named _ m n W h
+answers-named files m n f g (value e k) W h = exactly-named _ _ n W h
 answers-named files m n f g quit W h = absurd h
 
 reply-named : (files : FileMap) (m n : View) (f g : ℕ) (said : Result (Option Spelled) LineRefusal) (W : List ℕ → Type 0) → Replies files m n f g said W → (t : List ℕ) × Replies files m n f g said (λ s. s ≡ t) × W t

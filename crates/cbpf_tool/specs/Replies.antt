@@ -8,7 +8,7 @@ use Rattle.cbpf_code.specs.declared.insn.Insn.{Insn}
 use Rattle.cbpf_code.specs.declared.words.WordFault.{WordFault}
 use Rattle.cbpf_code.specs.declared.words.WordFault.TheVariants.{Memory}
 use Rattle.cbpf_code.specs.declared.checker.CheckFault.{CheckFault}
-use Rattle.cbpf_command.specs.Commands.{Spelled, load_words, load_capture, run, disassemble, dump, breakpoint, breakpoints, reset_breakpoints, delete, step, select, mark, resume, stops, quit}
+use Rattle.cbpf_command.specs.Commands.{Spelled, load_words, load_capture, run, disassemble, dump, breakpoint, breakpoints, reset_breakpoints, delete, step, select, mark, resume, stops, value, quit}
 use Rattle.cbpf_command.specs.declared.command.LineRefusal.{LineRefusal}
 use Rattle.cbpf_command.specs.declared.command.LineRefusal.TheVariants.{UnknownCommand, WrongArguments}
 use Rattle.pcap_classic.specs.Savefile.{Savefile, savefile_of}
@@ -17,7 +17,7 @@ use Rattle.cbpf_tool.specs.FileMap.{FileMap}
 use Rattle.cbpf_dbg.specs.View.{View}
 use Rattle.cbpf_dbg.specs.Commands.{with_program_loaded, with_capture_loaded, without_breakpoints}
 use Rattle.cbpf_reply.specs.Texts.{breakpoints_text}
-use Rattle.cbpf_tool.specs.Said.{run_said, step_said, select_said, resume_said, breakpoint_said, delete_said, mark_said, stops_said, listing_text}
+use Rattle.cbpf_tool.specs.Said.{run_said, step_said, select_said, resume_said, breakpoint_said, delete_said, mark_said, stops_said, value_said, listing_text}
 use Rattle.cbpf_tool.specs.Texts.{unknown_command_text, wrong_arguments_text, absent_text, device_text, memory_text, word_fault_text, check_fault_text, capture_fault_text, program_text, capture_text, dump_text}
 
 -- this text is written, as `Written` says, and n is as m
@@ -65,6 +65,7 @@ Answers files m n f g (select k) Written = Replied (select_said m k) n Written
 Answers files m n f g mark Written = Exactly (mark_said m) m n Written
 Answers files m n f g (resume packet s) Written = Replied (resume_said m packet s) n Written
 Answers files m n f g stops Written = Exactly (stops_said m) m n Written
+Answers files m n f g (value e k) Written = Replied (value_said m e k) n Written
 Answers files m n f g quit Written = ⊥
 
 -- a line's reply, by what the line says

@@ -1,13 +1,14 @@
 -- What the debugger says to the commands of a session, and the view of the session behind them (kernel documentation, networking/filter, on `bpf_dbg`; saved places, limits, steps back and the list of stops are this project's own).
 use Rattle.std.specs.Prelude.{ℕ, ℤ, ◌<◌, length, List, [], ◌∷◌, codes, Bool, true, false, Option, Some, None, Result, Ok, Err}
 use Rattle.cbpf_code.specs.declared.insn.Insn.{Insn}
+use Rattle.cbpf_code.specs.declared.extension.Ext.{Ext}
 use Rattle.cbpf_listing.specs.Listing.{listing}
 use Rattle.cbpf_command.specs.Commands as line
-use Rattle.cbpf_dbg.specs.Commands.{Answer, run, step, select, mark, resume, stops, breakpoint, delete, without_breakpoints}
+use Rattle.cbpf_dbg.specs.Commands.{Answer, run, step, select, mark, resume, stops, breakpoint, delete, without_breakpoints, set_value}
 use Rattle.cbpf_dbg.specs.View.{View}
 use Rattle.cbpf_dbg.specs.declared.reply.Place.{Place}
 use Rattle.cbpf_dbg.specs.declared.reply.SessionFault.{SessionFault}
-use Rattle.cbpf_reply.specs.Texts.{fault_text, run_text, place_text, stops_text, breakpoints_text, set_in}
+use Rattle.cbpf_reply.specs.Texts.{fault_text, run_text, place_text, stops_text, breakpoints_text, set_in, value_text}
 use Rattle.cbpf_tool.specs.Texts.{no_program_text, dump_text}
 
 -- the text of an answer and the view behind it; a refusal leaves the view
@@ -47,6 +48,9 @@ breakpoint_said m n = answered (λ u v. set_in v.program n) m (breakpoint m n)
 abbrev pub delete_said : View → ℕ → List ℕ × View
 delete_said m n = answered (λ was v. breakpoints_text v.breakpoints) m (delete m n)
 
+abbrev pub value_said : View → Ext → ℕ → List ℕ × View
+value_said m e n = answered (λ u v. value_text e n) m (set_value m e n)
+
 abbrev pub mark_said : View → List ℕ
 mark_said m = told (λ place. place_text [] place) (mark m)
 
@@ -79,3 +83,4 @@ is_quit (line.select n) = false
 is_quit line.mark = false
 is_quit (line.resume packet s) = false
 is_quit line.stops = false
+is_quit (line.value e n) = false

@@ -8,10 +8,11 @@ ghost use Rattle.cbpf_tool.specs.Said as said;
 ghost use Rattle.cbpf_tool.specs.Texts as texts;
 
 use crate::replies::write_dump;
-use cbpf_code::{WriteFault, write_bytes};
+use cbpf_code::{Ext, WriteFault, write_bytes};
 use cbpf_dbg::{MarkTrail, Meter, Place, Session};
 use cbpf_reply::{
     write_breakpoint, write_breakpoints, write_fault, write_place, write_run, write_stops,
+    write_value,
 };
 use cbpf_text::write_listing;
 use std::alloc::Allocator;
@@ -139,6 +140,22 @@ pub fn delete<A: Allocator, W: Write>(
 {
     match session.delete(n) {
         Ok(_) => write_breakpoints(w, session),
+        Err(fault) => write_fault(w, fault),
+    }
+}
+
+/// `value`
+#[tactic(auto, using(crate::proofs::SaidLemmas::said))]
+pub fn set_value<A: Allocator, W: Write>(
+    w: &mut W,
+    session: &mut Session<MarkTrail, A>,
+    e: Ext,
+    n: u32,
+) -> Result<(), WriteFault>
+    ensures { Replied (said.value_said session.old e n) session.new (λ t. Wrote (W.contents w.old) (W.contents w.new) result t) }
+{
+    match session.set_value(e, n) {
+        Ok(()) => write_value(w, e, n),
         Err(fault) => write_fault(w, fault),
     }
 }

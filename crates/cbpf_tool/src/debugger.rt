@@ -58,6 +58,7 @@ fn reply_to<A: Allocator + Copy, W: Write, F: Files>(
         Command::Mark => commands::mark(w, session),
         Command::Resume { packet, step } => commands::resume(w, session, packet, step),
         Command::Stops => commands::stops(w, session),
+        Command::Value(e, n) => commands::set_value(w, session, e, n),
         Command::Quit => unreachable!(),
     }
 }

@@ -3,7 +3,7 @@
 use crate::corpus::Recorded;
 use cbpf_code::{Ext, Program};
 use cbpf_dbg::{Counts, Meter, Place, State, Stop, Why};
-use cbpf_machine::{Packet, Turn, turn};
+use cbpf_machine::{Packet, Turn, Values, turn};
 use std::alloc::Global;
 use std::process::Abort;
 
@@ -67,7 +67,7 @@ impl Joined {
         let mut state = State::zero();
         for before in 0..p.len() {
             assert!(rt; state.pc() < p.len());
-            let given = turn(&mut Meter::new(), p, packet, &state);
+            let given = turn(&mut Meter::new(), p, packet, &Values::new(), &state);
             let place = Place {
                 packet: number,
                 step: before.saturating_add(1),

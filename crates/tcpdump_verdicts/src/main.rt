@@ -3,7 +3,7 @@
 #![tactic(auto)]
 
 use cbpf_code::{Program, check, read_words};
-use cbpf_machine::{Meter, Outcome, Packet, run_packet};
+use cbpf_machine::{Meter, Outcome, Packet, Values, run_packet};
 use pcap_classic::Capture;
 use std::alloc::Global;
 use std::{fs, io};
@@ -17,7 +17,7 @@ fn report<R: Print>(rt: &R, capture: &Capture, program: &Program) -> io::Result<
             bytes: item.bytes,
             wire: item.wire,
         };
-        match run_packet(&mut Meter::new(), program, packet) {
+        match run_packet(&mut Meter::new(), program, packet, &Values::new()) {
             Outcome::Pass(_) => print!(rt; " {n}")?,
             Outcome::Fail => {}
             Outcome::Unknown(_) => unknown = unknown.saturating_add(1),

@@ -1,5 +1,6 @@
 use Rattle.std.proofs.Common.{◌≡◌, ◌<◌, ℕ, None, List}
 use Rattle.cbpf_machine.specs.Registers.{Registers}
+use Rattle.cbpf_machine.specs.Machine.{machine_of}
 use Rattle.cbpf_machine.specs.Step.{turn, asked}
 use Rattle.cbpf_dbg.proofs.hit.is_silent.Given as goal
 
@@ -7,5 +8,5 @@ use Rattle.cbpf_dbg.proofs.hit.is_silent.Given as goal
 abbrev pub invariant-scan : goal.invariant-scan
 invariant-scan g l =
     record {
-      silent : (bytes : List ℕ) (wire : ℕ) (s : Registers) → s.pc < l.i → asked (turn l.p bytes wire s) ≡ None;
+      silent : (bytes : List ℕ) (wire : ℕ) (s : Registers) → s.pc < l.i → asked (turn (machine_of l.p l.values) bytes wire s) ≡ None;
     }

@@ -4,21 +4,22 @@ use Rattle.cbpf_machine.specs.Trace.{next_of}
 use Rattle.cbpf_machine.proofs.TraceLemmas.{goes_next, goes_at, goes_last, goes_from_entry, first_entry, next_of-none}
 use Rattle.cbpf_machine.proofs.SoundLemmas.{sound_some}
 use Rattle.cbpf_machine.specs.Registers.{zero_state}
+use Rattle.cbpf_dbg.specs.Loaded.{machine_in}
 use Rattle.cbpf_dbg.proofs.resume.find_step.Goals as goal
 
 pub replay-init : goal.replay-init
 replay-init g c =
-    let first = first_entry c.args.p.now c.args.packet.bytes.now c.args.packet.wire c.len-sound.ensures.sound in
+    let first = first_entry (machine_in c.args.loaded.now) c.args.packet.bytes.now c.args.packet.wire c.len-sound.ensures.sound in
     record {
       sound = c.len-sound.ensures.sound;
       from_one = omega arith;
-      here = rw c.zero-s.ensures (goes_from_entry c.args.p.now c.args.packet.bytes.now c.args.packet.wire 0 zero_state zero_state c.len-sound.ensures.sound (sound_some c.args.p.now c.len-sound.ensures.sound) first);
+      here = rw c.zero-s.ensures (goes_from_entry (machine_in c.args.loaded.now) c.args.packet.bytes.now c.args.packet.wire 0 zero_state zero_state c.len-sound.ensures.sound (sound_some c.args.loaded.now.program.now c.len-sound.ensures.sound) first);
       turns = omega arith;
     }
 
 pub returns-in_default : goal.returns-in_default
 returns-in_default g c =
-    let none : next_of (turn c.args.p.now c.args.packet.bytes.now c.args.packet.wire c.replay.s) ≡ None =
+    let none : next_of (turn (machine_in c.args.loaded.now) c.args.packet.bytes.now c.args.packet.wire c.replay.s) ≡ None =
     rw (← c.turn.ensures.value) (next_of-none c.turn.result c.in_default.not-Next) in
     let end = goes_last _ _ _ _ _ _ c.replay.invariant.sound c.replay.invariant.here none in
     record {

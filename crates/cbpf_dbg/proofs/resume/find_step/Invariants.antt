@@ -2,13 +2,14 @@ use Rattle.std.proofs.Common.{◌≡◌, ◌+◌, ◌-◌, ◌≤◌}
 use Rattle.cbpf_code.specs.Sound.{IsSound}
 use Rattle.cbpf_machine.specs.Trace.{trace}
 use Rattle.cbpf_machine.proofs.TraceLemmas.{Goes}
+use Rattle.cbpf_dbg.specs.Loaded.{machine_in}
 use Rattle.cbpf_dbg.proofs.resume.find_step.Given as goal
 
 abbrev pub invariant-replay : goal.invariant-replay
 invariant-replay g l =
     record {
-      sound : IsSound l.p;
+      sound : IsSound l.loaded.program.now;
       from_one : 1 ≤ l.i;
-      here : Goes l.p l.packet.bytes.now l.packet.wire (trace l.p l.packet.bytes.now l.packet.wire) (l.i - 1) l.s;
+      here : Goes (machine_in l.loaded) l.packet.bytes.now l.packet.wire (trace (machine_in l.loaded) l.packet.bytes.now l.packet.wire) (l.i - 1) l.s;
       turns : l.meter + 1 ≡ l.initial.meter + l.i;
     }

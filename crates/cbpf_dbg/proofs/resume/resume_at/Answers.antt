@@ -4,18 +4,19 @@ use Rattle.cbpf_machine.specs.Trace.{trace}
 use Rattle.pcap_classic.specs.Records.{Record}
 use Rattle.pcap_classic.specs.Lent.{record_of}
 use Rattle.cbpf_dbg.specs.Session.{Keeps}
+use Rattle.cbpf_dbg.specs.Loaded.{machine_in, records_in}
 use Rattle.cbpf_dbg.proofs.resume.resume_at.Goals as goal
 
 pub returns-clause-found : goal.returns-clause-found
 returns-clause-found g c =
     let r : Record = record_of c.item-item.result in
-    let at : slice_get c.args.capture.now.records (c.args.place.packet - 1) ≡ Some r = c.item-item.ensures.record in
+    let at : slice_get (records_in c.args.loaded.now) (c.args.place.packet - 1) ≡ Some r = c.item-item.ensures.record in
     let entry = c.in_ok-state.ensures.found in
-    let within = slice_get_within (trace c.args.p.now r.bytes r.wire) (c.args.place.step - 1) _ entry in
-    let keeps : Keeps (λ xs. g.T.Trail.stands_for c.refill.new.trail xs) c.args.p.now c.args.capture.now.records c.args.place = λ q there.
+    let within = slice_get_within (trace (machine_in c.args.loaded.now) r.bytes r.wire) (c.args.place.step - 1) _ entry in
+    let keeps : Keeps (λ xs. g.T.Trail.stands_for c.refill.new.trail xs) (machine_in c.args.loaded.now) (records_in c.args.loaded.now) c.args.place = λ q there.
     let same : r ≡ q = cc in
-    subst (λ (k : Record). g.T.Trail.stands_for c.refill.new.trail (take c.args.place.step (trace c.args.p.now k.bytes k.wire))) same c.refill.ensures.stands in (
-      c.at_entry.ensures.stands c.args.p.now c.args.capture.now.records c.len-sound.ensures.sound (omega arith) (r, at, entry),
+    subst (λ (k : Record). g.T.Trail.stands_for c.refill.new.trail (take c.args.place.step (trace (machine_in c.args.loaded.now) k.bytes k.wire))) same c.refill.ensures.stands in (
+      c.at_entry.ensures.stands (machine_in c.args.loaded.now) (records_in c.args.loaded.now) c.len-sound.ensures.sound (omega arith) (r, at, entry),
       rw c.at_entry.ensures.place keeps,
       c.at_entry.ensures.place,
       c.at_entry.ensures.origin,

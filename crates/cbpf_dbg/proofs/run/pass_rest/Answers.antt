@@ -1,20 +1,21 @@
-use Rattle.std.proofs.Common.{[], length, arith, sym, ap, ◌∙◌, nat_eq}
-use Rattle.std.specs.List.{list_any}
+use Rattle.std.proofs.Common.{[], length, arith, sym, ap, ◌∙◌}
 use Rattle.cbpf_machine.specs.Step.{turn}
 use Rattle.cbpf_dbg.specs.Walk.{entry_here}
 use Rattle.cbpf_dbg.proofs.AskedLemmas.{quiet_hit}
 use Rattle.cbpf_dbg.proofs.JoinedLemmas.{rest-pass, rest-same}
 use Rattle.cbpf_dbg.proofs.WalkLemmas.{goes}
 use Rattle.cbpf_dbg.proofs.RunLemmas.{hit_none}
+use Rattle.cbpf_dbg.specs.Loaded.{machine_in, records_in}
+use Rattle.cbpf_dbg.specs.Joined.{carries}
 use Rattle.cbpf_dbg.proofs.run.pass_rest.Goals as goal
 
 pub pass-preserved : goal.pass-preserved
 pass-preserved g c =
     let m = c.in-Entry.ensures.moves in
-    let inside = (goes c.args.p.now c.args.capture.now.records c.advance.new.w m.0 c.in-Entry.ensures.stands (omega (arith, m.3)) m.1).inside in
-    let no = hit_none (list_any (nat_eq c.advance.new.w.state.pc) []) (turn c.args.p.now m.0.bytes m.0.wire c.advance.new.w.state)
-    (sym (quiet_hit c.args.p.now [] m.0.bytes m.0.wire c.advance.new.w.state inside c.requires.quiet)) in
-    let same = rest-pass c.args.p.now c.args.capture.now.records [] c.pass.w.place c.advance.new.w.place (entry_here c.args.p.now m.0 c.advance.new.w) m.4 no in
+    let inside = (goes (machine_in c.args.loaded.now) (records_in c.args.loaded.now) c.advance.new.w m.0 c.in-Entry.ensures.stands (omega (arith, m.3)) m.1).inside in
+    let no = hit_none (carries [] c.advance.new.w.state) (turn (machine_in c.args.loaded.now) m.0.bytes m.0.wire c.advance.new.w.state)
+    (sym (quiet_hit (machine_in c.args.loaded.now) [] m.0.bytes m.0.wire c.advance.new.w.state inside c.requires.quiet)) in
+    let same = rest-pass (machine_in c.args.loaded.now) (records_in c.args.loaded.now) [] c.pass.w.place c.advance.new.w.place (entry_here (machine_in c.args.loaded.now) m.0 c.advance.new.w) m.4 no in
     record {
       stands = c.in-Entry.ensures.stands;
       same_packet = m.2 ∙ c.pass.invariant.same_packet;
@@ -25,4 +26,4 @@ pass-preserved g c =
 
 pub returns-in-Packet-clause-rest : goal.returns-in-Packet-clause-rest
 returns-in-Packet-clause-rest g c =
-    sym (rest-same c.args.p.now c.args.capture.now.records [] c.pass.w.place c.advance.new.w.place c.in-Packet.ensures.moves.1) ∙ c.pass.invariant.same_rest
+    sym (rest-same (machine_in c.args.loaded.now) (records_in c.args.loaded.now) [] c.pass.w.place c.advance.new.w.place c.in-Packet.ensures.moves.1) ∙ c.pass.invariant.same_rest

@@ -5,11 +5,12 @@ use Rattle.cbpf_machine.specs.Trace.{outcome}
 use Rattle.cbpf_dbg.specs.Walk.{passed}
 use Rattle.cbpf_dbg.proofs.CountLemmas.{counts-at_most}
 use Rattle.cbpf_dbg.proofs.QuietLemmas.{packet-quiet, stands-passed}
+use Rattle.cbpf_dbg.specs.Loaded.{machine_in, records_in}
 use Rattle.cbpf_dbg.proofs.run.pass_whole.Goals as goal
 
 pub pass-requires : goal.pass-requires
 pass-requires g c =
-    let few = counts-at_most c.args.p.now c.args.capture.now.records c.args.w.now.origin c.args.w.now.place.packet in
+    let few = counts-at_most (machine_in c.args.loaded.now) (records_in c.args.loaded.now) c.args.w.now.origin c.args.w.now.place.packet in
     let counted = c.requires.stands.counted in
     let within = c.requires.stands.within in
     record {
@@ -21,12 +22,12 @@ pass-requires g c =
 
 pub returns : goal.returns
 returns g c =
-    let same : c.pass.new.self ≡ passed c.args.w.now (outcome c.args.p.now c.args.here.now.bytes.now c.args.here.now.wire) =
+    let same : c.pass.new.self ≡ passed c.args.w.now (outcome (machine_in c.args.loaded.now) c.args.here.now.bytes.now c.args.here.now.wire) =
     c.pass.ensures ∙ ap (passed c.args.w.now) c.run_packet.ensures.value in
     let one : 1 ≤ c.args.w.now.place.packet = let a = c.requires.stands.from_one in let b = c.requires.stands.ordered in omega arith in
-    let quiet = packet-quiet c.args.p.now c.args.capture.now.records c.args.w.now.place.packet _ c.requires.stands.sound c.requires.quiet one c.requires.here c.args.w.now.place.step c.requires.before in
+    let quiet = packet-quiet (machine_in c.args.loaded.now) (records_in c.args.loaded.now) c.args.w.now.place.packet _ c.requires.stands.sound c.requires.quiet one c.requires.here c.args.w.now.place.step c.requires.before in
     record {
-      stands = rw same (stands-passed c.args.p.now c.args.capture.now.records c.args.w.now _ c.requires.stands c.requires.here);
+      stands = rw same (stands-passed (machine_in c.args.loaded.now) (records_in c.args.loaded.now) c.args.w.now _ c.requires.stands c.requires.here);
       place = ap (λ (n : Walk). n.place) same;
       origin = ap (λ (n : Walk). n.origin) same;
       rest = rw same (sym quiet.0);

@@ -2,23 +2,24 @@ use Rattle.std.proofs.Common.{◌≡◌, ◌+◌, ◌-◌, ◌≤◌, length}
 use Rattle.cbpf_dbg.specs.Joined.{rest, ahead}
 use Rattle.cbpf_dbg.specs.Walk.{Stands, owed, Below, NotBefore, IsHere}
 use Rattle.cbpf_dbg.specs.Session.{Keeps}
+use Rattle.cbpf_dbg.specs.Loaded.{machine_in, records_in, breakpoints_in}
 use Rattle.cbpf_dbg.proofs.run.run_here.Given as goal
 
 -- the hits ahead are those at the start, and the limit is not reached
 abbrev pub invariant-go : goal.invariant-go
 invariant-go g l =
     record {
-      here : IsHere l.capture.records l.w.place.packet l.next;
-      stands : Stands l.p l.capture.records l.w;
-      keeps : Keeps (λ xs. g.T.Trail.stands_for l.trail xs) l.p l.capture.records l.w.place;
+      here : IsHere (records_in l.loaded) l.w.place.packet l.next;
+      stands : Stands (machine_in l.loaded) (records_in l.loaded) l.w;
+      keeps : Keeps (λ xs. g.T.Trail.stands_for l.trail xs) (machine_in l.loaded) (records_in l.loaded) l.w.place;
       began : l.start ≡ l.initial.w.place.packet;
       same_origin : l.w.origin ≡ l.initial.w.origin;
-      same_rest : rest l.p l.capture.records l.breakpoints.keys l.w.place ≡ rest l.p l.capture.records l.breakpoints.keys l.initial.w.place;
+      same_rest : rest (machine_in l.loaded) (records_in l.loaded) (breakpoints_in l.loaded) l.w.place ≡ rest (machine_in l.loaded) (records_in l.loaded) (breakpoints_in l.loaded) l.initial.w.place;
       forward : l.initial.w.place.packet ≤ l.w.place.packet;
       order : NotBefore l.w.place l.initial.w.place;
-      in_limit : Below l.limit l.initial.w.place.packet l.w.place.packet (length l.capture.records);
-      spent : l.meter + owed l.p l.capture.records l.w.place ≡ l.initial.meter + owed l.p l.capture.records l.initial.w.place;
+      in_limit : Below l.limit l.initial.w.place.packet l.w.place.packet (length (records_in l.loaded));
+      spent : l.meter + owed (machine_in l.loaded) (records_in l.loaded) l.w.place ≡ l.initial.meter + owed (machine_in l.loaded) (records_in l.loaded) l.initial.w.place;
     }
 
 abbrev pub decreases-go : goal.decreases-go
-decreases-go g l = length (ahead l.p l.capture.records l.w.place) + (length l.capture.records + 1 - l.w.place.packet)
+decreases-go g l = length (ahead (machine_in l.loaded) (records_in l.loaded) l.w.place) + (length (records_in l.loaded) + 1 - l.w.place.packet)

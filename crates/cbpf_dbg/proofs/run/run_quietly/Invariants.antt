@@ -1,23 +1,24 @@
 use Rattle.std.proofs.Common.{◌≡◌, ◌+◌, ◌-◌, ◌≤◌, [], length}
 use Rattle.cbpf_dbg.specs.Joined.{rest}
 use Rattle.cbpf_dbg.specs.Walk.{Stands, owed, Below, NotBefore, IsHere}
+use Rattle.cbpf_dbg.specs.Loaded.{machine_in, records_in}
 use Rattle.cbpf_dbg.proofs.run.run_quietly.Given as goal
 
 -- no hit is ahead that was not ahead at the start, the limit is not reached, and the trail keeps nothing
 abbrev pub invariant-go : goal.invariant-go
 invariant-go g l =
     record {
-      here : IsHere l.capture.records l.w.place.packet l.next;
-      stands : Stands l.p l.capture.records l.w;
+      here : IsHere (records_in l.loaded) l.w.place.packet l.next;
+      stands : Stands (machine_in l.loaded) (records_in l.loaded) l.w;
       empty : g.T.Trail.stands_for l.trail [];
       began : l.start ≡ l.initial.w.place.packet;
       same_origin : l.w.origin ≡ l.initial.w.origin;
-      same_rest : rest l.p l.capture.records [] l.w.place ≡ rest l.p l.capture.records [] l.initial.w.place;
+      same_rest : rest (machine_in l.loaded) (records_in l.loaded) [] l.w.place ≡ rest (machine_in l.loaded) (records_in l.loaded) [] l.initial.w.place;
       forward : l.initial.w.place.packet ≤ l.w.place.packet;
       order : NotBefore l.w.place l.initial.w.place;
-      in_limit : Below l.limit l.initial.w.place.packet l.w.place.packet (length l.capture.records);
-      spent : l.meter + owed l.p l.capture.records l.w.place ≡ l.initial.meter + owed l.p l.capture.records l.initial.w.place;
+      in_limit : Below l.limit l.initial.w.place.packet l.w.place.packet (length (records_in l.loaded));
+      spent : l.meter + owed (machine_in l.loaded) (records_in l.loaded) l.w.place ≡ l.initial.meter + owed (machine_in l.loaded) (records_in l.loaded) l.initial.w.place;
     }
 
 abbrev pub decreases-go : goal.decreases-go
-decreases-go g l = length l.capture.records + 1 - l.w.place.packet
+decreases-go g l = length (records_in l.loaded) + 1 - l.w.place.packet

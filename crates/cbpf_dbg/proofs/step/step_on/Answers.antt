@@ -6,32 +6,33 @@ use Rattle.cbpf_dbg.proofs.WalkLemmas.{goes, here_after, here_some, here_none, w
 use Rattle.cbpf_dbg.proofs.RunLemmas.{slice_get-later, slice_get-first, step_stopped, step_finished}
 use Rattle.cbpf_dbg.proofs.KeepLemmas.{keeps_push, keeps_few, keeps_clear}
 use Rattle.cbpf_dbg.proofs.TurnLemmas.{step_turns-reply, spent_between, owed-turns, not_before_step, not_before_packet}
+use Rattle.cbpf_dbg.specs.Loaded.{machine_in, records_in}
 use Rattle.cbpf_dbg.proofs.step.step_on.Goals as goal
 
 pub push-requires : goal.push-requires
 push-requires g c =
     let m = c.in-Entry.ensures.moves in
-    let before : slice_get c.args.capture.now.records (c.go.w.place.packet - 1) ≡ Some m.0 = rw m.2 at m.1 in
-    keeps_few c.args.p.now c.args.capture.now.records c.go.w.place c.advance.new.w m.0 (g.T.Trail.kept c.go.trail) c.in-Entry.ensures.stands m.1 m.3
+    let before : slice_get (records_in c.args.loaded.now) (c.go.w.place.packet - 1) ≡ Some m.0 = rw m.2 at m.1 in
+    keeps_few (machine_in c.args.loaded.now) (records_in c.args.loaded.now) c.go.w.place c.advance.new.w m.0 (g.T.Trail.kept c.go.trail) c.in-Entry.ensures.stands m.1 m.3
     (g.met.T.Trail.as_long c.go.trail _ (c.go.invariant.keeps m.0 before))
 
 pub why_at-why-requires : goal.why_at-why-requires
 why_at-why-requires g c =
     let m = c.in-Entry.ensures.moves in
-    (goes c.args.p.now c.args.capture.now.records c.advance.new.w m.0 c.in-Entry.ensures.stands (omega (arith, m.3)) m.1).inside
+    (goes (machine_in c.args.loaded.now) (records_in c.args.loaded.now) c.advance.new.w m.0 c.in-Entry.ensures.stands (omega (arith, m.3)) m.1).inside
 
 pub returns-then-left-eq1-clause-keeps : goal.returns-then-left-eq1-clause-keeps
 returns-then-left-eq1-clause-keeps g c =
     let m = c.in-Entry.ensures.moves in
-    keeps_push (λ xs. g.T.Trail.stands_for c.go.trail xs) (λ xs. g.T.Trail.stands_for c.push.new.self xs) c.args.p.now c.args.capture.now.records c.go.w.place c.advance.new.w m.0
+    keeps_push (λ xs. g.T.Trail.stands_for c.go.trail xs) (λ xs. g.T.Trail.stands_for c.push.new.self xs) (machine_in c.args.loaded.now) (records_in c.args.loaded.now) c.go.w.place c.advance.new.w m.0
     c.in-Entry.ensures.stands m.1 m.2 m.3 c.push.ensures c.go.invariant.keeps
 
 pub returns-then-left-eq1-clause-steps : goal.returns-then-left-eq1-clause-steps
 returns-then-left-eq1-clause-steps g c = λ breakpoints.
     let m = c.in-Entry.ensures.moves in
-    let here : slice_get (ahead c.args.p.now c.args.capture.now.records c.go.w.place) (c.go.left - 1) ≡ Some (entry_here c.args.p.now m.0 c.advance.new.w) =
-    rw m.4 (slice_get-first (entry_here c.args.p.now m.0 c.advance.new.w) _ c.go.left (omega arith)) in
-    step_stopped c.args.p.now c.args.capture.now breakpoints c.args.n c.args.w.now c.advance.new.w m.0 c.why_at-why.result
+    let here : slice_get (ahead (machine_in c.args.loaded.now) (records_in c.args.loaded.now) c.go.w.place) (c.go.left - 1) ≡ Some (entry_here (machine_in c.args.loaded.now) m.0 c.advance.new.w) =
+    rw m.4 (slice_get-first (entry_here (machine_in c.args.loaded.now) m.0 c.advance.new.w) _ c.go.left (omega arith)) in
+    step_stopped (machine_in c.args.loaded.now) c.args.loaded.now.capture.now breakpoints c.args.n c.args.w.now c.advance.new.w m.0 c.why_at-why.result
     (sym c.go.invariant.sought ∙ here) (c.why_at-why.ensures m.0.bytes m.0.wire) (c.in-Entry.ensures.origin ∙ c.go.invariant.same_origin)
 
 pub returns-then-left-eq1-clause-turns : goal.returns-then-left-eq1-clause-turns
@@ -39,20 +40,20 @@ returns-then-left-eq1-clause-turns g c = λ breakpoints.
     let m = c.in-Entry.ensures.moves in
     let steps = returns-then-left-eq1-clause-steps g c breakpoints in
     let order = not_before_step c.args.w.now.place c.go.w.place c.advance.new.w.place c.go.invariant.order m.2 (omega (arith, m.3)) in
-    let spent : c.advance.new.meter + owed c.args.p.now c.args.capture.now.records c.advance.new.w.place ≡ c.args.meter.now + owed c.args.p.now c.args.capture.now.records c.args.w.now.place =
+    let spent : c.advance.new.meter + owed (machine_in c.args.loaded.now) (records_in c.args.loaded.now) c.advance.new.w.place ≡ c.args.meter.now + owed (machine_in c.args.loaded.now) (records_in c.args.loaded.now) c.args.w.now.place =
     omega (arith, ap length m.4, m.3, c.in-Entry.ensures.turns, c.go.invariant.spent) in
     rw (step_turns-reply _ _ _ _ _ _ _ steps)
-    (spent_between c.args.p.now c.args.capture.now.records c.args.w.now c.advance.new.w c.args.meter.now c.advance.new.meter c.requires.stands c.in-Entry.ensures.stands order spent)
+    (spent_between (machine_in c.args.loaded.now) (records_in c.args.loaded.now) c.args.w.now c.advance.new.w c.args.meter.now c.advance.new.meter c.requires.stands c.in-Entry.ensures.stands order spent)
 
 pub go-preserved-in-Entry : goal.go-preserved-in-Entry
 go-preserved-in-Entry g c =
     let m = c.in-Entry.ensures.moves in
-    let later : slice_get (ahead c.args.p.now c.args.capture.now.records c.go.w.place) (c.go.left - 1) ≡ slice_get (ahead c.args.p.now c.args.capture.now.records c.advance.new.w.place) (c.go.left - 1 - 1) =
-    rw m.4 (slice_get-later (entry_here c.args.p.now m.0 c.advance.new.w) _ c.go.left (omega arith)) in
+    let later : slice_get (ahead (machine_in c.args.loaded.now) (records_in c.args.loaded.now) c.go.w.place) (c.go.left - 1) ≡ slice_get (ahead (machine_in c.args.loaded.now) (records_in c.args.loaded.now) c.advance.new.w.place) (c.go.left - 1 - 1) =
+    rw m.4 (slice_get-later (entry_here (machine_in c.args.loaded.now) m.0 c.advance.new.w) _ c.go.left (omega arith)) in
     record {
       here = rw m.2 c.go.invariant.here;
       stands = c.in-Entry.ensures.stands;
-      keeps = keeps_push (λ xs. g.T.Trail.stands_for c.go.trail xs) (λ xs. g.T.Trail.stands_for c.push.new.self xs) c.args.p.now c.args.capture.now.records c.go.w.place c.advance.new.w m.0
+      keeps = keeps_push (λ xs. g.T.Trail.stands_for c.go.trail xs) (λ xs. g.T.Trail.stands_for c.push.new.self xs) (machine_in c.args.loaded.now) (records_in c.args.loaded.now) c.go.w.place c.advance.new.w m.0
           c.in-Entry.ensures.stands m.1 m.2 m.3 c.push.ensures c.go.invariant.keeps;
       same_origin = c.in-Entry.ensures.origin ∙ c.go.invariant.same_origin;
       some = omega arith;
@@ -63,29 +64,29 @@ go-preserved-in-Entry g c =
 
 pub returns-in_default-clause-steps : goal.returns-in_default-clause-steps
 returns-in_default-clause-steps g c = λ breakpoints.
-    let m = walk_ended c.args.p.now c.args.capture.now.records c.go.w c.go.invariant.stands (here_none c.args.capture.now.records c.go.w.place.packet c.go.next c.go.invariant.here c.in_default.is) in
-    let none : slice_get (ahead c.args.p.now c.args.capture.now.records c.go.w.place) (c.go.left - 1) ≡ None = rw m.1 refl in
-    (step_finished c.args.p.now c.args.capture.now breakpoints c.args.n c.args.w.now c.go.w c.start.result
+    let m = walk_ended (machine_in c.args.loaded.now) (records_in c.args.loaded.now) c.go.w c.go.invariant.stands (here_none (records_in c.args.loaded.now) c.go.w.place.packet c.go.next c.go.invariant.here c.in_default.is) in
+    let none : slice_get (ahead (machine_in c.args.loaded.now) (records_in c.args.loaded.now) c.go.w.place) (c.go.left - 1) ≡ None = rw m.1 refl in
+    (step_finished (machine_in c.args.loaded.now) c.args.loaded.now.capture.now breakpoints c.args.n c.args.w.now c.go.w c.start.result
     (sym c.go.invariant.sought ∙ none) c.go.invariant.stands c.go.invariant.same_origin m.0 c.start.ensures.place c.start.ensures.origin)
 
 pub returns-in_default-clause-turns : goal.returns-in_default-clause-turns
 returns-in_default-clause-turns g c = λ breakpoints.
-    let m = walk_ended c.args.p.now c.args.capture.now.records c.go.w c.go.invariant.stands (here_none c.args.capture.now.records c.go.w.place.packet c.go.next c.go.invariant.here c.in_default.is) in
+    let m = walk_ended (machine_in c.args.loaded.now) (records_in c.args.loaded.now) c.go.w c.go.invariant.stands (here_none (records_in c.args.loaded.now) c.go.w.place.packet c.go.next c.go.invariant.here c.in_default.is) in
     let steps = returns-in_default-clause-steps g c breakpoints in
-    let all = owed-turns c.args.p.now c.args.capture.now.records c.args.w.now c.requires.stands in
+    let all = owed-turns (machine_in c.args.loaded.now) (records_in c.args.loaded.now) c.args.w.now c.requires.stands in
     rw (step_turns-reply _ _ _ _ _ _ _ steps)
     (omega (arith, all, ap length m.1, m.2, c.go.invariant.spent))
 
 pub go-preserved : goal.go-preserved
 go-preserved g c =
     let m = c.in-Packet.ensures.moves in
-    let at = here_some c.args.capture.now.records c.go.w.place.packet c.go.next c.in-Some.here c.go.invariant.here c.in-Some.is in
+    let at = here_some (records_in c.args.loaded.now) c.go.w.place.packet c.go.next c.in-Some.here c.go.invariant.here c.in-Some.is in
     let e : c.advance.new.w.place.packet ≡ c.go.w.place.packet + 1 = ap (λ (q : Place). q.packet) m.0 in
     let z : c.advance.new.w.place.step ≡ 0 = ap (λ (q : Place). q.step) m.0 in
     record {
-      here = here_after c.args.capture.now.records c.go.w.place.packet c.advance.new.w.place.packet c.in-Some.here c.following-next.result at.0 e c.following-next.ensures.record c.following-next.ensures.number;
+      here = here_after (records_in c.args.loaded.now) c.go.w.place.packet c.advance.new.w.place.packet c.in-Some.here c.following-next.result at.0 e c.following-next.ensures.record c.following-next.ensures.number;
       stands = c.in-Packet.ensures.stands;
-      keeps = keeps_clear (λ xs. g.T.Trail.stands_for c.clear-in-Packet.new.self xs) c.args.p.now c.args.capture.now.records c.advance.new.w.place z c.clear-in-Packet.ensures;
+      keeps = keeps_clear (λ xs. g.T.Trail.stands_for c.clear-in-Packet.new.self xs) (machine_in c.args.loaded.now) (records_in c.args.loaded.now) c.advance.new.w.place z c.clear-in-Packet.ensures;
       same_origin = c.in-Packet.ensures.origin ∙ c.go.invariant.same_origin;
       some = c.go.invariant.some;
       sought = rw (← m.1) c.go.invariant.sought;

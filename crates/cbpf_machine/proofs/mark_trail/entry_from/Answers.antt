@@ -1,5 +1,6 @@
 use Rattle.std.proofs.Common.{◌≡◌, None, arith, sym}
 use Rattle.cbpf_machine.specs.Registers.{zero_state}
+use Rattle.cbpf_machine.specs.Machine.{machine_of}
 use Rattle.cbpf_machine.specs.Step.{turn}
 use Rattle.cbpf_machine.specs.Trace.{next_of}
 use Rattle.cbpf_machine.proofs.SoundLemmas.{sound_some}
@@ -25,7 +26,7 @@ replay-preserved g c =
 -- an entry before the last has a next one
 pub unreachable-requires : goal.unreachable-requires
 unreachable-requires g c =
-    let none : next_of (turn c.args.p.now c.args.packet.bytes.now c.args.packet.wire c.replay.s) ≡ None =
+    let none : next_of (turn (machine_of c.args.p.now c.args.values.now) c.args.packet.bytes.now c.args.packet.wire c.replay.s) ≡ None =
     rw (← c.turn.ensures.value) (next_of-none c.turn.result c.in_default.not-Next) in
     let end = goes_last _ _ _ _ _ _ c.replay.invariant.sound c.replay.invariant.here none in
     omega (arith, end)

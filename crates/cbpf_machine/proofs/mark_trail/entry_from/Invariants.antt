@@ -1,5 +1,6 @@
 use Rattle.std.proofs.Common.{◌≡◌, ◌+◌}
 use Rattle.cbpf_code.specs.Sound.{IsSound}
+use Rattle.cbpf_machine.specs.Machine.{machine_of}
 use Rattle.cbpf_machine.specs.Trace.{trace}
 use Rattle.cbpf_machine.proofs.TraceLemmas.{Goes}
 use Rattle.cbpf_machine.proofs.mark_trail.entry_from.Given as goal
@@ -9,6 +10,6 @@ abbrev pub invariant-replay : goal.invariant-replay
 invariant-replay g l =
     record {
       sound : IsSound l.p;
-      here : Goes l.p l.packet.bytes.now l.packet.wire (trace l.p l.packet.bytes.now l.packet.wire) l.i l.s;
+      here : Goes (machine_of l.p l.values) l.packet.bytes.now l.packet.wire (trace (machine_of l.p l.values) l.packet.bytes.now l.packet.wire) l.i l.s;
       turns : l.meter + l.fn.at ≡ l.initial.meter + l.i;
     }

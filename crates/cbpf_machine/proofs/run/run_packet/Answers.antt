@@ -2,6 +2,7 @@ use Rattle.std.proofs.Common.{◌≡◌, ◌+◌, length, arith, sym, ◌∙◌,
 use Rattle.cbpf_machine.specs.declared.outcome.Turn.TheVariants.{Next}
 use Rattle.cbpf_machine.specs.Registers.{zero_state}
 use Rattle.cbpf_machine.specs.Step.{turn, Advances}
+use Rattle.cbpf_machine.specs.Machine.{machine_of}
 use Rattle.cbpf_machine.specs.Trace.{trace}
 use Rattle.cbpf_machine.proofs.TraceLemmas.{trace_from-next, trace_from-last, outcome_from-next, outcome_from-last, length-trace_from, trace-is_run}
 use Rattle.cbpf_machine.proofs.SoundLemmas.{sound_some, sound_few}
@@ -9,7 +10,7 @@ use Rattle.cbpf_machine.proofs.run.run_packet.Goals as goal
 
 pub turn_in_place-requires-clause-spare : goal.turn_in_place-requires-clause-spare
 turn_in_place-requires-clause-spare g c =
-    omega (arith, sound_few c.args.p.now c.run.invariant.sound, length-trace_from c.args.p.now c.args.packet.bytes.now c.args.packet.wire zero_state)
+    omega (arith, sound_few c.args.p.now c.run.invariant.sound, length-trace_from (machine_of c.args.p.now c.args.values.now) c.args.packet.bytes.now c.args.packet.wire zero_state)
 
 pub run-init : goal.run-init
 run-init g c =
@@ -22,7 +23,7 @@ run-init g c =
 
 pub run-preserved : goal.run-preserved
 run-preserved g c =
-    let e : turn c.args.p.now c.args.packet.bytes.now c.args.packet.wire c.run.s ≡ Next c.turn_in_place.new.s = c.in_default.ensures.value in
+    let e : turn (machine_of c.args.p.now c.args.values.now) c.args.packet.bytes.now c.args.packet.wire c.run.s ≡ Next c.turn_in_place.new.s = c.in_default.ensures.value in
     let one = trace_from-next _ _ _ _ _ c.run.invariant.sound c.run.invariant.inside e in
     let advances : Advances c.run.s (length c.args.p.now) (Next c.turn_in_place.new.s) = rw e at c.turn_in_place.ensures.advances in
     record {
@@ -36,10 +37,10 @@ pub returns-in-Some : goal.returns-in-Some
 returns-in-Some g c =
     let v = c.in-Some.ensures.value in
     let one = trace_from-last _ _ _ _ c.run.invariant.sound c.run.invariant.inside v.0 in
-    let spent : c.turn_in_place.new.meter ≡ c.args.meter.now + length (trace c.args.p.now c.args.packet.bytes.now c.args.packet.wire) = omega (arith, ap length one) in
+    let spent : c.turn_in_place.new.meter ≡ c.args.meter.now + length (trace (machine_of c.args.p.now c.args.values.now) c.args.packet.bytes.now c.args.packet.wire) = omega (arith, ap length one) in
     record {
       value = v.1 ∙ sym (outcome_from-last _ _ _ _ c.run.invariant.sound c.run.invariant.inside v.0) ∙ c.run.invariant.ends;
       turns = spent;
-      few = omega (arith, length-trace_from c.args.p.now c.args.packet.bytes.now c.args.packet.wire zero_state);
-      whole = trace-is_run c.args.p.now c.args.packet.bytes.now c.args.packet.wire c.run.invariant.sound;
+      few = omega (arith, length-trace_from (machine_of c.args.p.now c.args.values.now) c.args.packet.bytes.now c.args.packet.wire zero_state);
+      whole = trace-is_run (machine_of c.args.p.now c.args.values.now) c.args.packet.bytes.now c.args.packet.wire c.run.invariant.sound;
     }

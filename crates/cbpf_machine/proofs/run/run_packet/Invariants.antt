@@ -1,5 +1,6 @@
 use Rattle.std.proofs.Common.{◌≡◌, ◌<◌, ◌+◌, length, ◌-◌}
 use Rattle.cbpf_code.specs.Sound.{IsSound}
+use Rattle.cbpf_machine.specs.Machine.{machine_of}
 use Rattle.cbpf_machine.specs.Trace.{trace, trace_from, outcome, outcome_from}
 use Rattle.cbpf_machine.proofs.run.run_packet.Given as goal
 
@@ -9,8 +10,8 @@ invariant-run g l =
     record {
       sound : IsSound l.p;
       inside : l.s.pc < length l.p;
-      ends : outcome_from l.p l.packet.bytes.now l.packet.wire l.s ≡ outcome l.p l.packet.bytes.now l.packet.wire;
-      spent : l.spent + length (trace_from l.p l.packet.bytes.now l.packet.wire l.s) ≡ l.fn.meter + length (trace l.p l.packet.bytes.now l.packet.wire);
+      ends : outcome_from (machine_of l.p l.values) l.packet.bytes.now l.packet.wire l.s ≡ outcome (machine_of l.p l.values) l.packet.bytes.now l.packet.wire;
+      spent : l.spent + length (trace_from (machine_of l.p l.values) l.packet.bytes.now l.packet.wire l.s) ≡ l.fn.meter + length (trace (machine_of l.p l.values) l.packet.bytes.now l.packet.wire);
     }
 
 abbrev pub decreases-run : goal.decreases-run

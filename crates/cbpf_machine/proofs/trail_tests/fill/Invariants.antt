@@ -1,5 +1,6 @@
 use Rattle.std.proofs.Common.{◌≡◌, ◌+◌, ◌-◌, ◌≤◌, take}
 use Rattle.cbpf_code.specs.Sound.{IsSound}
+use Rattle.cbpf_machine.specs.Machine.{machine_of}
 use Rattle.cbpf_machine.specs.Trace.{trace}
 use Rattle.cbpf_machine.proofs.TraceLemmas.{Goes}
 use Rattle.cbpf_machine.proofs.trail_tests.fill.Given as goal
@@ -10,7 +11,7 @@ invariant-fill g l =
     record {
       sound : IsSound l.p;
       from_one : 1 ≤ l.i;
-      here : Goes l.p l.packet.bytes.now l.packet.wire (trace l.p l.packet.bytes.now l.packet.wire) (l.i - 1) l.s;
-      keeps : g.T.Trail.stands_for l.trail (take l.i (trace l.p l.packet.bytes.now l.packet.wire));
+      here : Goes (machine_of l.p l.values) l.packet.bytes.now l.packet.wire (trace (machine_of l.p l.values) l.packet.bytes.now l.packet.wire) (l.i - 1) l.s;
+      keeps : g.T.Trail.stands_for l.trail (take l.i (trace (machine_of l.p l.values) l.packet.bytes.now l.packet.wire));
       turns : l.meter + 1 ≡ l.i;
     }

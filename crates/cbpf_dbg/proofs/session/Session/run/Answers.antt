@@ -1,3 +1,4 @@
+use Rattle.std.proofs.Common.{refl}
 use Rattle.cbpf_dbg.specs.View.{View}
 use Rattle.cbpf_dbg.proofs.ShownStops.{shows-run}
 use Rattle.cbpf_dbg.proofs.session.Session.run.Goals as goal
@@ -7,9 +8,10 @@ returns-clause-shown g c =
     let after : View =
     record {
       program = c.self.inside.program;
+      values = c.self.inside.values;
       capture = c.self.inside.capture;
       breakpoints = c.self.inside.breakpoints.keys;
       origin = c.run-reply.new.w.origin;
       place = c.run-reply.new.w.place;
     } in
-    shows-run _ _ _ _ _ _ _ after (record { program = c.in-Some.is; capture = c.in-Some-capture.is }) c.len-sound.ensures.sound c.run-reply.ensures.runs
+    shows-run _ _ _ _ _ _ _ after (record { program = c.in-Some.is; values = refl; capture = c.in-Some-capture.is }) c.len-sound.ensures.sound c.run-reply.ensures.runs

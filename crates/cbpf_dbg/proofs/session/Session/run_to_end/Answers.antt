@@ -1,3 +1,4 @@
+use Rattle.cbpf_machine.specs.Machine.{machine_of}
 use Rattle.std.proofs.Common.{◌≡◌, [], ◌∷◌, ◌++◌, arith, sym, append-nil, refl, ap, ◌∙◌, inl}
 use Rattle.cbpf_dbg.specs.declared.reply.RunReply.TheVariants.{Stopped, Finished}
 use Rattle.cbpf_dbg.proofs.WholeLemmas.{Holds, stops-held, from_start, going-spare, going-found, going-stop, going-end, fewer, going-turns, end-turns}
@@ -5,10 +6,10 @@ use Rattle.cbpf_dbg.proofs.session.Session.run_to_end.Goals as goal
 
 pub runs-init : goal.runs-init
 runs-init g c =
-    let holds : Holds c.in-Some.program c.in-Some-capture.capture c.args.self.now = record { program = rw (← c.self.view_is) c.in-Some.is; capture = rw (← c.self.view_is) c.in-Some-capture.is } in
+    let holds : Holds (machine_of c.in-Some.program c.args.self.now.values) c.in-Some-capture.capture c.args.self.now = record { program = rw (← c.self.view_is) c.in-Some.is; values = refl; capture = rw (← c.self.view_is) c.in-Some-capture.is } in
     record {
       going = (
-        c.in-Some.program,
+        machine_of c.in-Some.program c.args.self.now.values,
         c.in-Some-capture.capture,
         record {
           sound = c.len-sound.ensures.sound;

@@ -1,3 +1,5 @@
+use Rattle.std.proofs.Common.{refl}
+use Rattle.cbpf_machine.specs.Machine.{machine_of}
 use Rattle.cbpf_dbg.proofs.WholeLemmas.{Holds}
 use Rattle.std.proofs.Common.{arith}
 use Rattle.cbpf_dbg.proofs.TurnLemmas.{few_hits}
@@ -6,7 +8,7 @@ use Rattle.cbpf_dbg.proofs.session.Session.stops.Goals as goal
 
 pub returns-clause-shown : goal.returns-clause-shown
 returns-clause-shown g c =
-    let holds : Holds c.in-Some.program c.in-Some-capture.capture c.args.self.now = record { program = rw (← c.self.view_is) c.in-Some.is; capture = rw (← c.self.view_is) c.in-Some-capture.is } in
+    let holds : Holds (machine_of c.in-Some.program c.self.inside.values) c.in-Some-capture.capture c.args.self.now = record { program = rw (← c.self.view_is) c.in-Some.is; values = rw (← c.self.view_is) refl; capture = rw (← c.self.view_is) c.in-Some-capture.is } in
     shows-rest _ _ _ _ _ holds c.len-sound.ensures.sound
 
 pub returns-clause-few : goal.returns-clause-few

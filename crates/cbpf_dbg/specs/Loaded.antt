@@ -1,0 +1,14 @@
+-- What the commands of a session work on, as the definitions see it: it is a matter of this crate alone, and no public clause names it.
+use Rattle.std.specs.Prelude.{ℕ, List}
+use Rattle.cbpf_machine.specs.Machine.{Machine, machine_of}
+use Rattle.pcap_classic.specs.Records.{Record}
+use Rattle.cbpf_dbg.specs.declared.loaded.Loaded.{Loaded}
+
+abbrev pub machine_in : {A : Type 0} → Loaded A → Machine
+machine_in l = machine_of l.program.now l.values.now
+
+abbrev pub records_in : {A : Type 0} → Loaded A → List Record
+records_in l = l.capture.now.records
+
+abbrev pub breakpoints_in : {A : Type 0} → Loaded A → List ℕ
+breakpoints_in l = l.breakpoints.now.keys

@@ -1,0 +1,75 @@
+ghost use Rattle.std.specs.Prelude.{◌≡◌, ◌≢◌, ◌<◌, Some, None, true, false};
+ghost use Rattle.cbpf_code.specs.declared.extension.Ext.{Ext as AnExt};
+ghost use Rattle.cbpf_machine.specs.Values as spec;
+
+use cbpf_code::{Ext, ext_offset};
+use std::marker::Model;
+
+/// Values for extensions: a load of an extension that has one gives it, and goes on.
+#[derive(Clone, Copy, Debug, PartialEq, Eq)]
+pub struct Values {
+    places: [Option<u32>; 16],
+}
+
+impl Model for Values {
+    ghost use Rattle.cbpf_machine.specs.Values.{Values};
+
+    ghost Value = { Values };
+
+    ghost view = { λ v. v.places };
+
+    ghost inverse = { λ list. record { places = list } };
+}
+
+/// Where the value of an extension is kept.
+#[inline(always)]
+fn place_of(e: Ext) -> usize
+    ensures value { result ≡ spec.place_of e }
+    ensures within { result < 16 }
+{
+    ext_offset(e) as usize / 4
+}
+
+/// Whether the extension has a value that can be set: what a search in the packet finds, and what is
+/// random, has none.
+fn takes_value(e: Ext) -> bool
+    ensures { result ≡ spec.takes_value e }
+{
+    !matches!(e, Ext::Nla | Ext::NlaN | Ext::PayOff | Ext::Rand)
+}
+
+impl Values {
+    /// No extension has a value.
+    pub fn new() -> Values
+        ensures value { result ≡ spec.no_values }
+        ensures none { (e : AnExt) → spec.value_of result e ≡ None }
+    {
+        Values { places: [None; 16] }
+    }
+
+    /// The value of an extension, where it has one.
+    #[inline(always)]
+    pub fn value_of(&self, e: Ext) -> Option<u32>
+        ensures { result ≡ spec.value_of self.now e }
+    {
+        self.places[place_of(e)]
+    }
+
+    /// Gives an extension a value. For `Nla`, `NlaN`, `PayOff` and `Rand` the answer is false, and
+    /// nothing changes.
+    pub fn set(&mut self, e: Ext, n: u32) -> bool
+        ensures answer { result ≡ spec.takes_value e }
+        ensures value { self.new ≡ spec.with_value self.old e n }
+
+        // So it is a table by extension: the one extension has the value, and the others have theirs.
+        ensures here { result ≡ true → spec.value_of self.new e ≡ Some n }
+        ensures others { (d : AnExt) → d ≢ e → spec.value_of self.new d ≡ spec.value_of self.old d }
+        ensures refused { result ≡ false → self.new ≡ self.old }
+    {
+        if !takes_value(e) {
+            return false;
+        }
+        self.places[place_of(e)] = Some(n);
+        true
+    }
+}
