@@ -9,8 +9,9 @@ use Rattle.cbpf_machine.specs.declared.outcome.Turn.{Turn}
 use Rattle.cbpf_machine.specs.declared.outcome.Turn.TheVariants.{Next, Returned, Outside, ZeroDivisor, Unknown}
 use Rattle.cbpf_dbg.specs.declared.reply.Why.{Why}
 use Rattle.cbpf_dbg.specs.declared.reply.Why.TheVariants as why
-use Rattle.cbpf_dbg.specs.Joined.{carries, why_of, hit_for}
+use Rattle.cbpf_dbg.specs.Joined.{why_of, hit_for}
 use Rattle.cbpf_dbg.specs.Session.{IsQuiet}
+use Rattle.cbpf_dbg.specs.Breakpoints.{Breakpoints, carries}
 
 abbrev pub why_by : Why → Option Ext → Why
 why_by reason None = reason
@@ -24,6 +25,6 @@ why_asked reason ZeroDivisor = refl
 why_asked reason (Unknown e) = refl
 
 -- where nothing can be a hit
-pub quiet_hit : (machine : Machine) (breakpoints : List ℕ) (bytes : List ℕ) (wire : ℕ) (s : Registers) → s.pc < length machine.list → IsQuiet machine breakpoints
+pub quiet_hit : (machine : Machine) (breakpoints : Breakpoints) (bytes : List ℕ) (wire : ℕ) (s : Registers) → s.pc < length machine.list → IsQuiet machine breakpoints
     → None ≡ hit_for (carries breakpoints s) (asked (turn machine bytes wire s))
 quiet_hit machine breakpoints bytes wire s inside quiet = rw (quiet.0, quiet.1 bytes wire s inside) refl

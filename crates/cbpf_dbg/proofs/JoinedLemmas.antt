@@ -13,6 +13,7 @@ use Rattle.cbpf_dbg.specs.Joined.{Entry, entries_from, packet_entries, joined_fr
 use Rattle.cbpf_dbg.specs.declared.reply.Stop.{Stop}
 use Rattle.cbpf_dbg.specs.declared.reply.Why.TheVariants as why
 use Rattle.std.proofs.lemmas.Option.{slice_get_cases}
+use Rattle.cbpf_dbg.specs.Breakpoints.{Breakpoints}
 
 -- the entry of a packet at a step
 abbrev pub entry : Machine → Record → ℕ → ℕ → Registers → Entry
@@ -175,7 +176,7 @@ later-stops : (place : Place) (es : List Entry) → filter (λ (h : Stop). is_af
 later-stops place [] = refl
 later-stops place (e ∷ es) = map_head (stop_at why.Break) (is_after place e.place) e _ _ (later-stops place es)
 
-pub rest-ahead : (machine : Machine) (capture : List Record) (breakpoints : List ℕ) (place : Place)
+pub rest-ahead : (machine : Machine) (capture : List Record) (breakpoints : Breakpoints) (place : Place)
     → rest machine capture breakpoints place ≡ map (stop_at why.Break) (filter (is_hit breakpoints) (ahead machine capture place))
 rest-ahead machine capture breakpoints place =
     later-stops place (filter (is_hit breakpoints) (joined machine capture))
@@ -183,24 +184,24 @@ rest-ahead machine capture breakpoints place =
 
 -- ---- what a run passes over and stops at
 
-pub rest-hit : (machine : Machine) (capture : List Record) (breakpoints : List ℕ) (old new : Place) (e : Entry)
+pub rest-hit : (machine : Machine) (capture : List Record) (breakpoints : Breakpoints) (old new : Place) (e : Entry)
     → ahead machine capture old ≡ e ∷ ahead machine capture new → is_hit breakpoints e ≡ true
     → rest machine capture breakpoints old ≡ stop_at why.Break e ∷ rest machine capture breakpoints new
 rest-hit machine capture breakpoints old new e h hit =
     rw (rest-ahead machine capture breakpoints old, rest-ahead machine capture breakpoints new, h, hit) refl
 
-pub rest-pass : (machine : Machine) (capture : List Record) (breakpoints : List ℕ) (old new : Place) (e : Entry)
+pub rest-pass : (machine : Machine) (capture : List Record) (breakpoints : Breakpoints) (old new : Place) (e : Entry)
     → ahead machine capture old ≡ e ∷ ahead machine capture new → is_hit breakpoints e ≡ false
     → rest machine capture breakpoints old ≡ rest machine capture breakpoints new
 rest-pass machine capture breakpoints old new e h hit =
     rw (rest-ahead machine capture breakpoints old, rest-ahead machine capture breakpoints new, h, hit) refl
 
-pub rest-same : (machine : Machine) (capture : List Record) (breakpoints : List ℕ) (old new : Place)
+pub rest-same : (machine : Machine) (capture : List Record) (breakpoints : Breakpoints) (old new : Place)
     → ahead machine capture old ≡ ahead machine capture new
     → rest machine capture breakpoints old ≡ rest machine capture breakpoints new
 rest-same machine capture breakpoints old new h =
     rw (rest-ahead machine capture breakpoints old, rest-ahead machine capture breakpoints new, h) refl
 
-pub rest-none : (machine : Machine) (capture : List Record) (breakpoints : List ℕ) (old : Place)
+pub rest-none : (machine : Machine) (capture : List Record) (breakpoints : Breakpoints) (old : Place)
     → ahead machine capture old ≡ [] → rest machine capture breakpoints old ≡ []
 rest-none machine capture breakpoints old h = rw (rest-ahead machine capture breakpoints old, h) refl

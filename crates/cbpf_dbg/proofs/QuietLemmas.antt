@@ -11,13 +11,14 @@ use Rattle.cbpf_machine.proofs.TraceLemmas.{goes_from_entry}
 use Rattle.cbpf_machine.proofs.SoundLemmas.{sound_some}
 use Rattle.pcap_classic.specs.Records.{Record}
 use Rattle.cbpf_dbg.specs.declared.walk.Walk.{Walk}
-use Rattle.cbpf_dbg.specs.Joined.{carries, ahead, rest}
+use Rattle.cbpf_dbg.specs.Joined.{ahead, rest}
 use Rattle.cbpf_dbg.specs.Session.{IsQuiet}
 use Rattle.cbpf_dbg.specs.Walk.{Stands, passed}
 use Rattle.cbpf_dbg.proofs.AskedLemmas.{quiet_hit}
 use Rattle.cbpf_dbg.proofs.CountLemmas.{counts-more}
 use Rattle.cbpf_dbg.proofs.JoinedLemmas.{place_at, entry, ahead-entry, ahead-leave, rest-pass, rest-same}
 use Rattle.cbpf_dbg.proofs.RunLemmas.{hit_none}
+use Rattle.cbpf_dbg.specs.Breakpoints.{carries}
 
 there : {X : Type 0} (xs : List X) (i : ℕ) → i < length xs → (x : X) × (slice_get xs i ≡ Some x)
 there xs i h = elim (slice_get_cases xs i).1 [ inl found ↦ (found.0, found.2) | inr past ↦ absurd (omega arith) ]

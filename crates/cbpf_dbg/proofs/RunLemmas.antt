@@ -14,11 +14,12 @@ use Rattle.cbpf_dbg.specs.declared.reply.Why.{Why}
 use Rattle.cbpf_dbg.specs.declared.reply.Why.TheVariants as why
 use Rattle.cbpf_dbg.specs.declared.reply.RunReply.TheVariants.{Stopped, Limit, Finished}
 use Rattle.cbpf_dbg.specs.declared.walk.Walk.{Walk}
-use Rattle.cbpf_dbg.specs.Joined.{carries, ahead, rest, counts, stop_at, why_of, is_unknown, hit_for, is_after, stops}
+use Rattle.cbpf_dbg.specs.Joined.{ahead, rest, counts, stop_at, why_of, is_unknown, hit_for, is_after, stops}
 use Rattle.cbpf_dbg.specs.View.{View, start}
 use Rattle.cbpf_dbg.specs.Commands.{run_to, run_out, within_limit, finished, limited}
 use Rattle.cbpf_dbg.specs.Walk.{Stands, view_at, entry_here, Runs, StepsOn, Below, is_limit}
 use Rattle.cbpf_dbg.proofs.JoinedLemmas.{rest-hit, rest-none}
+use Rattle.cbpf_dbg.specs.Breakpoints.{Breakpoints, carries}
 
 -- ---- the limit
 
@@ -75,7 +76,7 @@ hit_none true (Unknown e) h = absurd cc
 hit_none false (Unknown e) h = absurd cc
 
 -- a hit is the first that is ahead
-pub stop_front : (machine : Machine) (capture : List Record) (breakpoints : List ℕ) (w1 w2 : Walk) (r : Record) (y : Why)
+pub stop_front : (machine : Machine) (capture : List Record) (breakpoints : Breakpoints) (w1 w2 : Walk) (r : Record) (y : Why)
     → ahead machine capture w1.place ≡ entry_here machine r w2 ∷ ahead machine capture w2.place
     → hit_for (carries breakpoints w2.state) (asked (turn machine r.bytes r.wire w2.state)) ≡ Some y
     → rest machine capture breakpoints w1.place ≡ (record { place = w2.place; state = w2.state; why = y }) ∷ rest machine capture breakpoints w2.place
@@ -123,14 +124,14 @@ filter-head f (y ∷ xs) x ys h = filter-head_at f y xs x ys (f y) refl (λ x' y
 not_before : (a b : Place) → is_after a b ≡ true → a.packet ≤ b.packet
 not_before a b h = grind (arith, nat_tests)
 
-rest-behind : (machine : Machine) (capture : List Record) (breakpoints : List ℕ) (place : Place) (h : Stop) (more : List Stop) → rest machine capture breakpoints place ≡ h ∷ more → place.packet ≤ h.place.packet
+rest-behind : (machine : Machine) (capture : List Record) (breakpoints : Breakpoints) (place : Place) (h : Stop) (more : List Stop) → rest machine capture breakpoints place ≡ h ∷ more → place.packet ≤ h.place.packet
 rest-behind machine capture breakpoints place h more e =
     not_before place h.place (filter-head (λ (k : Stop). is_after place k.place) (stops machine capture breakpoints) h more e)
 
-pub rest-head : (machine : Machine) (capture : List Record) (breakpoints : List ℕ) (place : Place) (h : Stop) (more : List Stop) → rest machine capture breakpoints place ≡ h ∷ more → is_after place h.place ≡ true
+pub rest-head : (machine : Machine) (capture : List Record) (breakpoints : Breakpoints) (place : Place) (h : Stop) (more : List Stop) → rest machine capture breakpoints place ≡ h ∷ more → is_after place h.place ≡ true
 rest-head machine capture breakpoints place h more e = filter-head (λ (k : Stop). is_after place k.place) (stops machine capture breakpoints) h more e
 
-module _ (machine : Machine) (c : Savefile) (breakpoints : List ℕ) (limit : Option ℕ) (w0 : Walk) where
+module _ (machine : Machine) (c : Savefile) (breakpoints : Breakpoints) (limit : Option ℕ) (w0 : Walk) where
   abbrev pub hits : Place → List Stop
   hits place = rest machine c.records breakpoints place
 
@@ -192,7 +193,7 @@ slice_get-later x xs k h =
 pub slice_get-first : {X : Type 0} (x : X) (xs : List X) (k : ℕ) → k ≡ 1 → slice_get (x ∷ xs) (k - 1) ≡ Some x
 slice_get-first x xs k h = rw h refl
 
-module _ (machine : Machine) (c : Savefile) (breakpoints : List ℕ) (n : ℕ) (w0 : Walk) where
+module _ (machine : Machine) (c : Savefile) (breakpoints : Breakpoints) (n : ℕ) (w0 : Walk) where
   pub step_stopped : (w2 : Walk) (r : Record) (y : Why) → slice_get (ahead machine c.records w0.place) (n - 1) ≡ Some (entry_here machine r w2)
       → y ≡ why_of why.Step (turn machine r.bytes r.wire w2.state) → w2.origin ≡ w0.origin
       → StepsOn machine c breakpoints w0 w2 n (Stopped (record { place = w2.place; state = w2.state; why = y }))

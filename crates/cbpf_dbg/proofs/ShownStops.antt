@@ -26,6 +26,7 @@ use Rattle.cbpf_dbg.specs.Shown.{IsWithin, CanShow, Shows}
 use Rattle.cbpf_dbg.specs.Walk.{Stands, Runs, StepsOn, StepsBack, view_at}
 use Rattle.cbpf_dbg.proofs.JoinedLemmas.{entry}
 use Rattle.cbpf_dbg.proofs.WholeLemmas.{Holds}
+use Rattle.cbpf_dbg.specs.Breakpoints.{Breakpoints}
 
 -- an element has what all have
 All-slice_get : {X : Type 0} (P : X → Type 0) (xs : List X) (i : ℕ) (x : X) → All P xs → slice_get xs i ≡ Some x → P x
@@ -60,7 +61,7 @@ within-ahead machine capture reason place sound =
     All-filter (λ (e : Entry). is_after place e.place) (EntryWithin machine capture reason) (joined machine capture) (within-joined machine capture reason sound)
 
 -- each hit ahead
-within-rest : (machine : Machine) (capture : List Record) (breakpoints : List ℕ) (place : Place) → IsSound machine.list → All (IsWithin machine.list capture) (rest machine capture breakpoints place)
+within-rest : (machine : Machine) (capture : List Record) (breakpoints : Breakpoints) (place : Place) → IsSound machine.list → All (IsWithin machine.list capture) (rest machine capture breakpoints place)
 within-rest machine capture breakpoints place sound =
     All-filter (λ (h : Stop). is_after place h.place) (IsWithin machine.list capture) (map (stop_at why.Break) (filter (is_hit breakpoints) (joined machine capture)))
     (All-map (IsWithin machine.list capture) (stop_at why.Break) (filter (is_hit breakpoints) (joined machine capture))
@@ -105,14 +106,14 @@ shows-reply machine c v (Limit n) h within = tt
 shows-reply machine c v (Finished n) h within = tt
 
 -- what a run answers
-pub shows-run : (machine : Machine) (c : Savefile) (breakpoints : List ℕ) (old new : Walk) (limit : Option ℕ) (reply : RunReply) (v : View) → Holds machine c v → IsSound machine.list
+pub shows-run : (machine : Machine) (c : Savefile) (breakpoints : Breakpoints) (old new : Walk) (limit : Option ℕ) (reply : RunReply) (v : View) → Holds machine c v → IsSound machine.list
     → Runs machine c breakpoints old new limit reply → Shows v reply
 shows-run machine c breakpoints old new limit reply v h sound runs =
     shows-reply machine c v reply h
     (rw runs.reply_is (within-run_to (view_at machine c breakpoints old) machine c.records limit (rest machine c.records breakpoints old.place) (within-rest machine c.records breakpoints old.place sound)))
 
 -- what a step on answers
-pub shows-step_on : (machine : Machine) (c : Savefile) (breakpoints : List ℕ) (old new : Walk) (n : ℕ) (reply : RunReply) (v : View) → Holds machine c v → IsSound machine.list
+pub shows-step_on : (machine : Machine) (c : Savefile) (breakpoints : Breakpoints) (old new : Walk) (n : ℕ) (reply : RunReply) (v : View) → Holds machine c v → IsSound machine.list
     → StepsOn machine c breakpoints old new n reply → Shows v reply
 shows-step_on machine c breakpoints old new n reply v h sound steps =
     shows-reply machine c v reply h
@@ -147,6 +148,6 @@ shows-step_back machine c old new b stop v h stands back =
     shows-stop machine c v stop h (rw found.2 within)
 
 -- the hits ahead
-pub shows-rest : (machine : Machine) (c : Savefile) (breakpoints : List ℕ) (place : Place) (v : View) → Holds machine c v → IsSound machine.list
+pub shows-rest : (machine : Machine) (c : Savefile) (breakpoints : Breakpoints) (place : Place) (v : View) → Holds machine c v → IsSound machine.list
     → All (CanShow v) (rest machine c.records breakpoints place)
 shows-rest machine c breakpoints place v h sound = λ k d inside. shows-stop machine c v _ h (within-rest machine c.records breakpoints place sound k d inside)

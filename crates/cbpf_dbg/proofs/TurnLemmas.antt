@@ -24,6 +24,7 @@ use Rattle.cbpf_dbg.specs.View.{View}
 use Rattle.cbpf_dbg.specs.Commands.{turns_in}
 use Rattle.cbpf_dbg.specs.Walk.{Stands, owed, view_at, NotBefore, Runs, run_turns, run_from, StepsOn, step_turns, step_from}
 use Rattle.cbpf_dbg.proofs.JoinedLemmas.{place_at, ahead-entry, rest-ahead}
+use Rattle.cbpf_dbg.specs.Breakpoints.{Breakpoints}
 
 count_cons : {X : Type 0} (f : X → Bool) (x : X) (xs : List X) → count_by f (x ∷ xs) ≡ cond (f x) 1 0 + count_by f xs
 count_cons f x xs =
@@ -138,7 +139,7 @@ turns_in_at m machine capture (Stopped s) v = refl
 turns_in_at m machine capture (Limit n) v = refl
 turns_in_at m machine capture (Finished n) v = refl
 
-pub run_turns-reply : (machine : Machine) (c : Savefile) (breakpoints : List ℕ) (old new : Walk) (limit : Option ℕ) (reply : RunReply) → Runs machine c breakpoints old new limit reply
+pub run_turns-reply : (machine : Machine) (c : Savefile) (breakpoints : Breakpoints) (old new : Walk) (limit : Option ℕ) (reply : RunReply) → Runs machine c breakpoints old new limit reply
     → run_turns machine c breakpoints old limit ≡ reply_turns machine c.records old.place reply new.place
 run_turns-reply machine c breakpoints old new limit reply h =
     let a : RunReply × View = run_from machine c breakpoints old limit in
@@ -187,14 +188,14 @@ owed_bound machine capture place h few =
     omega (arith, length_filter (λ (e : Entry). is_after place e.place) (joined_from machine 1 capture), length_joined machine 1 capture h)
 
 -- the hits ahead can be counted
-pub few_hits : (machine : Machine) (capture : List Record) (breakpoints : List ℕ) (place : Place) → IsSound machine.list → length capture < 2 ^ 60 → length (rest machine capture breakpoints place) < 2 ^ 128
+pub few_hits : (machine : Machine) (capture : List Record) (breakpoints : Breakpoints) (place : Place) → IsSound machine.list → length capture < 2 ^ 60 → length (rest machine capture breakpoints place) < 2 ^ 128
 unfolding joined
 few_hits machine capture breakpoints place h few =
     let some : length (rest machine capture breakpoints place) ≡ length (filter (is_hit breakpoints) (ahead machine capture place)) =
     ap length (rest-ahead machine capture breakpoints place) ∙ length-map (filter (is_hit breakpoints) (ahead machine capture place)) (stop_at why.Break) in
     omega (arith, some, length_filter (is_hit breakpoints) (ahead machine capture place), length_filter (λ (e : Entry). is_after place e.place) (joined_from machine 1 capture), length_joined machine 1 capture h)
 
-pub step_turns-reply : (machine : Machine) (c : Savefile) (breakpoints : List ℕ) (old new : Walk) (n : ℕ) (reply : RunReply) → StepsOn machine c breakpoints old new n reply
+pub step_turns-reply : (machine : Machine) (c : Savefile) (breakpoints : Breakpoints) (old new : Walk) (n : ℕ) (reply : RunReply) → StepsOn machine c breakpoints old new n reply
     → step_turns machine c breakpoints old n ≡ reply_turns machine c.records old.place reply new.place
 step_turns-reply machine c breakpoints old new n reply h =
     let a : RunReply × View = step_from machine c breakpoints old n in

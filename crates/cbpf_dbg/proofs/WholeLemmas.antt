@@ -23,6 +23,7 @@ use Rattle.cbpf_dbg.proofs.TurnLemmas.{turns-split, length_joined}
 use Rattle.cbpf_dbg.proofs.RunLemmas.{rest-head}
 use Rattle.cbpf_dbg.proofs.JoinedLemmas.{ahead-in, rest-ahead}
 use Rattle.std.proofs.Common.{append_assoc, append-nil}
+use Rattle.cbpf_dbg.specs.Breakpoints.{Breakpoints}
 
 -- what is known of a session with a program and a capture
 pub record Holds (machine : Machine) (c : Savefile) (v : View) : Type 0 where
@@ -70,7 +71,7 @@ unfolding joined
 ahead-start machine [] = refl
 ahead-start machine (r ∷ more) = ahead-in machine (r ∷ more) 1 0 r (omega arith) refl
 
-rest-start : (machine : Machine) (capture : List Record) (breakpoints : List ℕ) → rest machine capture breakpoints start ≡ every_hit machine capture breakpoints
+rest-start : (machine : Machine) (capture : List Record) (breakpoints : Breakpoints) → rest machine capture breakpoints start ≡ every_hit machine capture breakpoints
 rest-start machine capture breakpoints = rest-ahead machine capture breakpoints start ∙ ap (λ es. map (stop_at why.Break) (filter (is_hit breakpoints) es)) (ahead-start machine capture)
 
 from_start-held : (program : Option (List Insn)) (capture : Option Savefile) (v : View) → v.program ≡ program → v.capture ≡ capture → v.place ≡ start → stops v ≡ all_stops v

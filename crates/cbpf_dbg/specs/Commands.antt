@@ -1,10 +1,12 @@
 -- What each command of a session answers, which view it leaves, and how many turns it makes (the commands `run`, `breakpoint`, `step` and `select` are named in Linux Documentation/networking/filter; the rest is this project's own).
-use Rattle.std.specs.Prelude.{◌≡◌, ℕ, ◌+◌, ◌-◌, ◌≤◌, zero, suc, nat_lt, nat_le, nat_eq, ◌&&◌, Bool, true, List, [], ◌∷◌, ◌++◌, length, slice_get, Option, Some, None, Result, Ok, Err, if◌then◌else◌, ℤ, pos, negsuc}
+use Rattle.std.specs.Prelude.{◌≡◌, ℕ, ◌+◌, ◌-◌, ◌≤◌, zero, suc, nat_lt, nat_le, nat_eq, is_some, ◌&&◌, Bool, true, List, [], ◌∷◌, ◌++◌, length, slice_get, Option, Some, None, Result, Ok, Err, if◌then◌else◌, ℤ, pos, negsuc}
 use Rattle.cbpf_code.specs.declared.insn.Insn.{Insn}
 use Rattle.cbpf_code.specs.declared.extension.Ext.{Ext}
 use Rattle.std.specs.Option.{option_map}
-use Rattle.std.specs.List.{list_any}
+use Rattle.std.specs.Map.{lookup}
 use Rattle.cbpf_dbg.specs.declared.reply.Counts.{Counts}
+use Rattle.cbpf_dbg.specs.declared.breakpoint.When.{When}
+use Rattle.cbpf_dbg.specs.declared.breakpoint.When.TheVariants.{Always}
 use Rattle.cbpf_machine.specs.Values.{with_value, takes_value}
 use Rattle.cbpf_machine.specs.Machine.{Machine, machine_of}
 use Rattle.cbpf_machine.specs.Step.{turn}
@@ -20,7 +22,7 @@ use Rattle.cbpf_dbg.specs.declared.reply.SessionFault.{SessionFault}
 use Rattle.cbpf_dbg.specs.declared.reply.SessionFault.TheVariants.{NoProgram, NoCapture, NoPackets, NoInstruction, NoPacket, NoStep, TooFarBack, ZeroCount, NoValue, Memory}
 use Rattle.cbpf_dbg.specs.Joined.{stops as every_hit}
 use Rattle.cbpf_dbg.specs.Joined.{Entry, ahead, rest, stop_at, counts, turns_between, turns_to_end}
-use Rattle.indexmap.specs.IndexSet.{insert_key, remove_key}
+use Rattle.indexmap.specs.IndexMap.{insert_entry, shift_remove_entry}
 use Rattle.cbpf_dbg.specs.View.{View, start}
 
 -- a reply with the view after it, or a refusal, which leaves the view
@@ -233,14 +235,18 @@ abbrev pub at_instruction : {R : Type 0} → View → ℕ → Result R SessionFa
 at_instruction m n answer =
     with_program m.program (λ list. if nat_lt n (length list) then answer else Err NoInstruction)
 
--- a breakpoint goes last; one that is set keeps its place
-unfoldable pub breakpoint : View → ℕ → Answer (Unit {0})
-breakpoint m n = at_instruction m n (Ok (tt, record m { breakpoints = insert_key nat_eq m.breakpoints n }))
+-- a breakpoint goes last; one that is set keeps its place and takes the condition
+unfoldable pub breakpoint_when : View → ℕ → When → Answer (Unit {0})
+breakpoint_when m n when = at_instruction m n (Ok (tt, record m { breakpoints = insert_entry nat_eq m.breakpoints n when }))
+
+-- one without a condition
+abbrev pub breakpoint : View → ℕ → Answer (Unit {0})
+breakpoint m n = breakpoint_when m n Always
 
 -- whether it was set; the others keep their order
 unfoldable pub delete : View → ℕ → Answer Bool
 delete m n =
-    at_instruction m n (Ok (list_any (nat_eq n) m.breakpoints, record m { breakpoints = remove_key (nat_eq n) m.breakpoints }))
+    at_instruction m n (Ok (is_some (lookup (nat_eq n) m.breakpoints), record m { breakpoints = shift_remove_entry (nat_eq n) m.breakpoints }))
 
 abbrev pub without_breakpoints : View → View
 without_breakpoints m = record m { breakpoints = [] }

@@ -1,6 +1,5 @@
 -- The entries of all packets of a capture, in order, the ones among them at which a debugger stops, and the outcomes of packets (this project's own, over the trace of Linux Documentation/networking/filter's machine and the records of pcap-savefile(5)).
 use Rattle.std.specs.Prelude.{ℕ, ◌+◌, ◌-◌, nat_lt, nat_eq, ◌&&◌, ◌||◌, not, Bool, true, false, List, [], ◌∷◌, ◌++◌, map, filter, take, drop, count_by, Option, Some, None, if◌then◌else◌}
-use Rattle.std.specs.List.{list_any}
 use Rattle.cbpf_code.specs.declared.extension.Ext.{Ext}
 use Rattle.cbpf_machine.specs.Registers.{Registers}
 use Rattle.cbpf_machine.specs.declared.outcome.Turn.{Turn}
@@ -16,6 +15,7 @@ use Rattle.cbpf_dbg.specs.declared.reply.Stop.{Stop}
 use Rattle.cbpf_dbg.specs.declared.reply.Why.{Why}
 use Rattle.cbpf_dbg.specs.declared.reply.Why.TheVariants as why
 use Rattle.cbpf_dbg.specs.declared.reply.Counts.{Counts}
+use Rattle.cbpf_dbg.specs.Breakpoints.{Breakpoints, carries}
 
 -- an executed instruction: where it stands, the state before it, and what its turn gives
 pub record Entry : Type 0 where
@@ -57,12 +57,8 @@ is_unknown Outside = false
 is_unknown ZeroDivisor = false
 is_unknown (Unknown e) = true
 
--- the instruction that comes next in a state carries a breakpoint
-abbrev pub carries : List ℕ → Registers → Bool
-carries breakpoints s = list_any (nat_eq s.pc) breakpoints
-
--- an entry is a hit where its instruction carries a breakpoint or its turn is unknown
-abbrev pub is_hit : List ℕ → Entry → Bool
+-- an entry is a hit where its instruction carries a breakpoint whose condition holds, or its turn is unknown
+abbrev pub is_hit : Breakpoints → Entry → Bool
 is_hit breakpoints e = carries breakpoints e.state || is_unknown e.turn
 
 -- why an entry stops: by an unknown extension, else for the reason given
@@ -82,11 +78,11 @@ abbrev pub stop_at : Why → Entry → Stop
 stop_at reason e = record { place = e.place; state = e.state; why = why_of reason e.turn }
 
 -- the hits
-abbrev pub stops : Machine → List Record → List ℕ → List Stop
+abbrev pub stops : Machine → List Record → Breakpoints → List Stop
 stops machine capture breakpoints = map (stop_at why.Break) (filter (is_hit breakpoints) (joined machine capture))
 
 -- the hits after a place
-abbrev pub rest : Machine → List Record → List ℕ → Place → List Stop
+abbrev pub rest : Machine → List Record → Breakpoints → Place → List Stop
 rest machine capture breakpoints place = filter (λ h. is_after place h.place) (stops machine capture breakpoints)
 
 abbrev pub is_pass : Outcome → Bool

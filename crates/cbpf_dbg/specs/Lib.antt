@@ -1,3 +1,4 @@
+pub mod Breakpoints
 pub mod Joined
 pub mod View
 pub mod Commands

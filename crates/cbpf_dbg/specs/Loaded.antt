@@ -1,7 +1,8 @@
 -- What the commands of a session work on, as the definitions see it: it is a matter of this crate alone, and no public clause names it.
-use Rattle.std.specs.Prelude.{ℕ, List}
+use Rattle.std.specs.Prelude.{List}
 use Rattle.cbpf_machine.specs.Machine.{Machine, machine_of}
 use Rattle.pcap_classic.specs.Records.{Record}
+use Rattle.cbpf_dbg.specs.Breakpoints.{Breakpoints}
 use Rattle.cbpf_dbg.specs.declared.loaded.Loaded.{Loaded}
 
 abbrev pub machine_in : {A : Type 0} → Loaded A → Machine
@@ -10,5 +11,5 @@ machine_in l = machine_of l.program.now l.values.now
 abbrev pub records_in : {A : Type 0} → Loaded A → List Record
 records_in l = l.capture.now.records
 
-abbrev pub breakpoints_in : {A : Type 0} → Loaded A → List ℕ
-breakpoints_in l = l.breakpoints.now.keys
+abbrev pub breakpoints_in : {A : Type 0} → Loaded A → Breakpoints
+breakpoints_in l = l.breakpoints.now.entries

@@ -10,7 +10,8 @@ use Rattle.pcap_classic.specs.Records.{Record}
 use Rattle.pcap_classic.specs.Savefile.{Savefile}
 use Rattle.cbpf_dbg.specs.declared.reply.Place.{Place}
 use Rattle.cbpf_dbg.specs.declared.walk.Walk.{Walk}
-use Rattle.cbpf_dbg.specs.Joined.{carries, hit_for}
+use Rattle.cbpf_dbg.specs.Breakpoints.{Breakpoints, carries}
+use Rattle.cbpf_dbg.specs.Joined.{hit_for}
 use Rattle.cbpf_dbg.specs.View.{start}
 use Rattle.cbpf_dbg.specs.Walk.{Stands}
 
@@ -33,25 +34,25 @@ abbrev pub IsSilent : Machine → Type 0
 IsSilent machine = (bytes : List ℕ) (wire : ℕ) (s : Registers) → s.pc < length machine.list → asked (turn machine bytes wire s) ≡ None
 
 -- no entry can be a hit
-abbrev pub IsQuiet : Machine → List ℕ → Type 0
+abbrev pub IsQuiet : Machine → Breakpoints → Type 0
 IsQuiet machine breakpoints = (breakpoints ≡ []) × IsSilent machine
 
 -- an entry at this instruction is no hit
-abbrev pub IsNoHit : Machine → List ℕ → Registers → Type 0
+abbrev pub IsNoHit : Machine → Breakpoints → Registers → Type 0
 IsNoHit machine breakpoints s = (bytes : List ℕ) (wire : ℕ) → hit_for (carries breakpoints s) (asked (turn machine bytes wire s)) ≡ None
 
 -- of the first n instructions only those that are watched can be hit
-abbrev pub WatchesTo : List Bool → Machine → List ℕ → ℕ → Type 0
+abbrev pub WatchesTo : List Bool → Machine → Breakpoints → ℕ → Type 0
 WatchesTo watched machine breakpoints n = (s : Registers) → s.pc < n → slice_index_or watched s.pc false ≡ false → IsNoHit machine breakpoints s
 
-abbrev pub Watches : List Bool → Machine → List ℕ → Type 0
+abbrev pub Watches : List Bool → Machine → Breakpoints → Type 0
 Watches watched machine breakpoints = WatchesTo watched machine breakpoints (length machine.list)
 
 -- the breakpoints at other instructions than i are the same
-abbrev pub IsSameBut : ℕ → List ℕ → List ℕ → Type 0
+abbrev pub IsSameBut : ℕ → Breakpoints → Breakpoints → Type 0
 IsSameBut i before after = (s : Registers) → (s.pc ≡ i → ⊥) → carries after s ≡ carries before s
 
 -- what is known of a program
-abbrev pub IsKnown : Bool → List Bool → Option (List Insn) → Values → List ℕ → Type 0
+abbrev pub IsKnown : Bool → List Bool → Option (List Insn) → Values → Breakpoints → Type 0
 IsKnown silent watched (Some list) values breakpoints = (silent ≡ true → IsSilent (machine_of list values)) × Watches watched (machine_of list values) breakpoints
 IsKnown silent watched None values breakpoints = Unit {0}

@@ -4,12 +4,13 @@ use Rattle.cbpf_code.specs.declared.insn.Insn.{Insn}
 use Rattle.cbpf_machine.specs.Values.{Values, no_values}
 use Rattle.pcap_classic.specs.Savefile.{Savefile}
 use Rattle.cbpf_dbg.specs.declared.reply.Place.{Place}
+use Rattle.cbpf_dbg.specs.Breakpoints.{Breakpoints}
 
 pub record View : Type 0 where
   pub program : Option (List Insn)
   pub values : Values
   pub capture : Option Savefile
-  pub breakpoints : List ℕ
+  pub breakpoints : Breakpoints
   pub origin : ℕ
   pub place : Place
 

@@ -17,6 +17,7 @@ use Rattle.cbpf_dbg.specs.declared.reply.Counts.{Counts}
 use Rattle.cbpf_dbg.specs.declared.walk.Walk.{Walk}
 use Rattle.cbpf_dbg.specs.declared.walk.Moved.{Moved}
 use Rattle.cbpf_dbg.specs.declared.walk.Moved.TheVariants as moved
+use Rattle.cbpf_dbg.specs.Breakpoints.{Breakpoints}
 use Rattle.cbpf_dbg.specs.Joined.{Entry, ahead, counts, rest, stop_at}
 use Rattle.cbpf_dbg.specs.declared.reply.RunReply.{RunReply}
 use Rattle.cbpf_dbg.specs.View.{View}
@@ -81,16 +82,16 @@ abbrev pub owed : Machine → List Record → Place → ℕ
 owed machine capture place = length (ahead machine capture place) + min place.step 1
 
 -- a session's view with its walk at a place
-abbrev pub view_at : Machine → Savefile → List ℕ → Walk → View
+abbrev pub view_at : Machine → Savefile → Breakpoints → Walk → View
 view_at machine c breakpoints w = record { program = Some machine.list; values = machine.values; capture = Some c; breakpoints = breakpoints; origin = w.origin; place = w.place }
 
 -- what a run from a place answers, and where it ends
-abbrev pub run_from : Machine → Savefile → List ℕ → Walk → Option ℕ → RunReply × View
+abbrev pub run_from : Machine → Savefile → Breakpoints → Walk → Option ℕ → RunReply × View
 run_from machine c breakpoints w limit =
     run_to (view_at machine c breakpoints w) machine c.records limit (rest machine c.records breakpoints w.place)
 
 -- a run's answer and end
-pub record Runs (machine : Machine) (c : Savefile) (breakpoints : List ℕ) (old new : Walk) (limit : Option ℕ) (reply : RunReply) : Type 0 where
+pub record Runs (machine : Machine) (c : Savefile) (breakpoints : Breakpoints) (old new : Walk) (limit : Option ℕ) (reply : RunReply) : Type 0 where
   pub reply_is : reply ≡ (run_from machine c breakpoints old limit).0
   pub place_is : new.place ≡ (run_from machine c breakpoints old limit).1.place
   pub origin_is : new.origin ≡ (run_from machine c breakpoints old limit).1.origin
@@ -110,7 +111,7 @@ abbrev pub NotBefore : Place → Place → Type 0
 NotBefore new old = (old.packet < new.packet) ⊎ ((old.packet ≡ new.packet) × (old.step ≤ new.step))
 
 -- the turns of a run from a place
-abbrev pub run_turns : Machine → Savefile → List ℕ → Walk → Option ℕ → ℕ
+abbrev pub run_turns : Machine → Savefile → Breakpoints → Walk → Option ℕ → ℕ
 run_turns machine c breakpoints w limit =
     turns_in (view_at machine c breakpoints w) machine c.records (run_from machine c breakpoints w limit)
 
@@ -128,15 +129,15 @@ pub record CannotStepBack (old new : Walk) (b most : ℕ) : Type 0 where
   pub same : new ≡ old
 
 -- what a step on by n entries answers, and where it ends
-abbrev pub step_from : Machine → Savefile → List ℕ → Walk → ℕ → RunReply × View
+abbrev pub step_from : Machine → Savefile → Breakpoints → Walk → ℕ → RunReply × View
 step_from machine c breakpoints w n =
     step_to (view_at machine c breakpoints w) machine c.records (slice_get (ahead machine c.records w.place) (n - 1))
 
-pub record StepsOn (machine : Machine) (c : Savefile) (breakpoints : List ℕ) (old new : Walk) (n : ℕ) (reply : RunReply) : Type 0 where
+pub record StepsOn (machine : Machine) (c : Savefile) (breakpoints : Breakpoints) (old new : Walk) (n : ℕ) (reply : RunReply) : Type 0 where
   pub reply_is : reply ≡ (step_from machine c breakpoints old n).0
   pub place_is : new.place ≡ (step_from machine c breakpoints old n).1.place
   pub origin_is : new.origin ≡ (step_from machine c breakpoints old n).1.origin
 
-abbrev pub step_turns : Machine → Savefile → List ℕ → Walk → ℕ → ℕ
+abbrev pub step_turns : Machine → Savefile → Breakpoints → Walk → ℕ → ℕ
 step_turns machine c breakpoints w n =
     turns_in (view_at machine c breakpoints w) machine c.records (step_from machine c breakpoints w n)

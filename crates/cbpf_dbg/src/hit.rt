@@ -4,20 +4,17 @@ ghost use Rattle.std.specs.Prelude.{◌≡◌, ◌<◌, ℕ, List, length, true,
 ghost use Rattle.cbpf_machine.specs.Machine.{machine_of};
 ghost use Rattle.cbpf_machine.specs.Registers.{Registers};
 ghost use Rattle.cbpf_machine.specs.Step.{asked, turn};
-ghost use Rattle.cbpf_dbg.specs.Joined.{carries, hit_for, why_of};
+ghost use Rattle.cbpf_dbg.specs.Breakpoints.{Breakpoints as SomeBreakpoints, carries};
+ghost use Rattle.cbpf_dbg.specs.Joined.{hit_for, why_of};
 ghost use Rattle.cbpf_dbg.specs.Loaded.{machine_in, breakpoints_in};
 ghost use Rattle.cbpf_dbg.specs.Session.{IsQuiet, IsSilent, IsNoHit, IsSameBut, Watches};
 
+use crate::breakpoint::Breakpoints;
 use crate::loaded::Loaded;
 use crate::reply::Why;
 use cbpf_code::{Ext, Program};
 use cbpf_machine::{State, Values, asks};
-use indexmap::IndexSet;
 use std::alloc::Allocator;
-use std::hash::{BuildHasherDefault, FoldHasher};
-
-/// Instruction numbers, in order of setting.
-pub(crate) type Breakpoints<A> = IndexSet<u32, BuildHasherDefault<FoldHasher>, A>;
 
 /// For each instruction whether an entry there can be a hit.
 pub(crate) type Watched = [bool; 4096];
@@ -59,12 +56,12 @@ fn is_watched<A: Allocator>(
     i: u32,
 ) -> bool
     requires { i < length p.now }
-    ensures { (s : Registers) → s.pc ≡ i → result ≡ false → IsNoHit (machine_of p.now values.now) breakpoints.now.keys s }
+    ensures { (s : Registers) → s.pc ≡ i → result ≡ false → IsNoHit (machine_of p.now values.now) breakpoints.now.entries s }
 {
     if asks(p.at_index(i), values).is_some() {
         return true;
     }
-    breakpoints.contains(&i)
+    breakpoints.contains_key(&i)
 }
 
 /// Watches the instructions at which an entry can be a hit.
@@ -74,7 +71,7 @@ pub(crate) fn watch<A: Allocator>(
     values: &Values,
     breakpoints: &Breakpoints<A>,
 )
-    ensures { Watches watched.new (machine_of p.now values.now) breakpoints.now.keys }
+    ensures { Watches watched.new (machine_of p.now values.now) breakpoints.now.entries }
 {
     'scan: for i in 0..p.len() {
         watched[i as usize] = is_watched(p, values, breakpoints, i);
@@ -90,8 +87,8 @@ pub(crate) fn watch_at<A: Allocator>(
     i: u32,
 )
     requires { i < length p.now }
-    ensures { (before : List ℕ) → Watches watched.old (machine_of p.now values.now) before → IsSameBut i before breakpoints.now.keys
-        → Watches watched.new (machine_of p.now values.now) breakpoints.now.keys }
+    ensures { (before : SomeBreakpoints) → Watches watched.old (machine_of p.now values.now) before → IsSameBut i before breakpoints.now.entries
+        → Watches watched.new (machine_of p.now values.now) breakpoints.now.entries }
 {
     let _few = p.len();
     watched[i as usize] = is_watched(p, values, breakpoints, i);
@@ -106,13 +103,10 @@ fn hit_at<A: Allocator>(loaded: &Loaded<'_, A>, s: &State) -> Option<Why>
 {
     match asked_at(loaded, s) {
         Some(e) => Some(Why::Unknown(e)),
-        None => {
-            if loaded.breakpoints.contains(&s.pc()) {
-                Some(Why::Break)
-            } else {
-                None
-            }
-        }
+        None => match loaded.breakpoints.get(&s.pc()) {
+            Some(when) if when.holds(s) => Some(Why::Break),
+            _ => None,
+        },
     }
 }
 

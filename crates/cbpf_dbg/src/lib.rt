@@ -6,6 +6,7 @@
 //! stops are this project's own.
 #![tactic(auto)]
 
+mod breakpoint;
 mod commands;
 mod hit;
 mod loaded;
@@ -19,6 +20,7 @@ mod walk;
 mod whole;
 mod write_stop;
 
+pub use breakpoint::When;
 pub use cbpf_machine::{ListTrail, MarkTrail, Meter, State, Trail};
 pub use reply::{Counts, Place, RunReply, SessionFault, Stop, Why};
 pub use session::Session;

@@ -1,6 +1,7 @@
 //! What a session's commands work on.
 
-use crate::hit::{Breakpoints, Watched};
+use crate::breakpoint::Breakpoints;
+use crate::hit::Watched;
 use cbpf_code::Program;
 use cbpf_machine::Values;
 use pcap_classic::Capture;

@@ -1,19 +1,20 @@
 //! A session: what is loaded, and the breakpoints.
 
-ghost use Rattle.std.specs.Prelude.{◌≡◌, ◌≤◌, ◌⊎◌, length, slice_get, false, nat_eq, Err, IfErr, IsOk, OnErr, OnOk, Option};
-ghost use Rattle.std.specs.List.{list_any};
+ghost use Rattle.std.specs.Prelude.{◌≡◌, ◌≤◌, ◌⊎◌, length, slice_get, nat_eq, None, Err, IfErr, IsOk, OnErr, OnOk, Option};
+ghost use Rattle.std.specs.Map.{lookup};
 ghost use Rattle.std.specs.Option.{option_map};
 ghost use Rattle.cbpf_machine.specs.Values.{value_of};
 ghost use Rattle.cbpf_dbg.specs.Commands as spec;
 ghost use Rattle.cbpf_dbg.specs.View.{empty_view};
 ghost use Rattle.cbpf_dbg.specs.declared.reply.SessionFault.TheVariants as fault;
 
-use crate::hit::{Breakpoints, Watched, is_silent, watch, watch_at};
+use crate::breakpoint::{Breakpoints, When};
+use crate::hit::{Watched, is_silent, watch, watch_at};
 use crate::reply::{Place, SessionFault};
 use crate::walk::Walk;
 use cbpf_code::{Ext, Program};
 use cbpf_machine::{Trail, Values};
-use indexmap::IndexSet;
+use indexmap::IndexMap;
 use pcap_classic::Capture;
 use std::alloc::{Allocator, Global};
 use std::marker::Model;
@@ -42,9 +43,9 @@ impl<T: Trail, A: Allocator> Model for Session<T, A> {
 
     ghost Value = { View };
 
-    ghost view = { λ s. record { program = s.program; values = s.values; capture = s.capture; breakpoints = s.breakpoints.keys; origin = s.walk.origin; place = s.walk.place } };
+    ghost view = { λ s. record { program = s.program; values = s.values; capture = s.capture; breakpoints = s.breakpoints.entries; origin = s.walk.origin; place = s.walk.place } };
 
-    ghost invariant = { λ s. Fits (λ xs. T.stands_for s.trail xs) s.program s.values s.capture s.walk × IsKnown s.silent s.watched s.program s.values s.breakpoints.keys };
+    ghost invariant = { λ s. Fits (λ xs. T.stands_for s.trail xs) s.program s.values s.capture s.walk × IsKnown s.silent s.watched s.program s.values s.breakpoints.entries };
 }
 
 impl<T: Trail, A: Allocator + Copy> Session<T, A> {
@@ -61,25 +62,43 @@ impl<T: Trail, A: Allocator + Copy> Session<T, A> {
             silent: false,
             watched: [false; 4096],
             capture: None,
-            breakpoints: IndexSet::new(alloc),
+            breakpoints: IndexMap::new(alloc),
             walk: Walk::start(),
             trail,
         }
     }
 
-    /// Sets a breakpoint at instruction `n`, last in the list; one that is set keeps its place.
+    /// Sets a breakpoint at instruction `n` that stops each time: [`Session::breakpoint_when`] with
+    /// [`When::Always`].
     ///
     /// # Errors
     ///
     /// `NoProgram`; `NoInstruction` where the program has no such instruction; `Memory`.
-    #[tactic(auto, unfolding(crate::specs::Commands::breakpoint))]
     pub fn breakpoint(&mut self, n: u64) -> Result<(), SessionFault>
         ensures reply { (result ≡ spec.reply_of (spec.breakpoint self.old n)) ⊎ (result ≡ Err fault.Memory × IsOk (spec.breakpoint self.old n)) }
         ensures after { OnOk result (self.new ≡ spec.view_after self.old (spec.breakpoint self.old n)) }
         ensures refused { OnErr result (self.new ≡ self.old) }
 
         // A breakpoint that is set already takes no memory.
-        ensures memory { result ≡ Err fault.Memory → list_any (nat_eq n) self.old.breakpoints ≡ false }
+        ensures memory { result ≡ Err fault.Memory → lookup (nat_eq n) self.old.breakpoints ≡ None }
+    {
+        self.breakpoint_when(n, When::Always)
+    }
+
+    /// Sets a breakpoint at instruction `n` with a condition, last in the list; one that is set keeps
+    /// its place and takes the condition.
+    ///
+    /// # Errors
+    ///
+    /// `NoProgram`; `NoInstruction` where the program has no such instruction; `Memory`.
+    #[tactic(auto, unfolding(crate::specs::Commands::breakpoint_when))]
+    pub fn breakpoint_when(&mut self, n: u64, when: When) -> Result<(), SessionFault>
+        ensures reply { (result ≡ spec.reply_of (spec.breakpoint_when self.old n when)) ⊎ (result ≡ Err fault.Memory × IsOk (spec.breakpoint_when self.old n when)) }
+        ensures after { OnOk result (self.new ≡ spec.view_after self.old (spec.breakpoint_when self.old n when)) }
+        ensures refused { OnErr result (self.new ≡ self.old) }
+
+        // A breakpoint that is set already takes no memory.
+        ensures memory { result ≡ Err fault.Memory → lookup (nat_eq n) self.old.breakpoints ≡ None }
     {
         let Some(program) = &self.program else {
             return Err(SessionFault::NoProgram);
@@ -87,7 +106,7 @@ impl<T: Trail, A: Allocator + Copy> Session<T, A> {
         if n >= u64::from(program.len()) {
             return Err(SessionFault::NoInstruction);
         }
-        match self.breakpoints.insert(n as u32) {
+        match self.breakpoints.insert(n as u32, when) {
             Ok(_) => {
                 watch_at(
                     &mut self.watched,
@@ -109,7 +128,7 @@ impl<T: Trail, A: Allocator> Session<T, A> {
         ensures { self.new ≡ spec.with_program_loaded self.old p }
     {
         let _sound = p.len();
-        self.reset_breakpoints();
+        self.breakpoints.clear();
         self.silent = is_silent(&p, &self.values);
         watch(&mut self.watched, &p, &self.values, &self.breakpoints);
         self.program = Some(p);
@@ -160,7 +179,7 @@ impl<T: Trail, A: Allocator> Session<T, A> {
         if u64::from(program.len()) <= n {
             return Err(SessionFault::NoInstruction);
         }
-        let was_set = self.breakpoints.shift_remove(&(n as u32));
+        let was_set = self.breakpoints.shift_remove(&(n as u32)).is_some();
         watch_at(
             &mut self.watched,
             program,
@@ -175,9 +194,10 @@ impl<T: Trail, A: Allocator> Session<T, A> {
     pub fn reset_breakpoints(&mut self)
         ensures { self.new ≡ spec.without_breakpoints self.old }
     {
-        self.breakpoints.clear();
+        let breakpoints = &mut self.breakpoints;
+        breakpoints.clear();
         if let Some(program) = &self.program {
-            watch(&mut self.watched, program, &self.values, &self.breakpoints);
+            watch(&mut self.watched, program, &self.values, breakpoints);
         }
     }
 
@@ -229,8 +249,17 @@ impl<T: Trail, A: Allocator> Session<T, A> {
 
     /// The breakpoint at index `i`, from 0, in order of setting.
     pub fn breakpoint_at(&self, i: usize) -> Option<u32>
-        ensures { result ≡ slice_get self.now.breakpoints i }
+        ensures { result ≡ option_map (λ b. b.0) (slice_get self.now.breakpoints i) }
     {
-        self.breakpoints.get_index(i).copied()
+        let (n, _) = self.breakpoints.get_index(i)?;
+        Some(*n)
+    }
+
+    /// The condition of the breakpoint at index `i`.
+    pub fn breakpoint_when_at(&self, i: usize) -> Option<When>
+        ensures { result ≡ option_map (λ b. b.1) (slice_get self.now.breakpoints i) }
+    {
+        let (_, when) = self.breakpoints.get_index(i)?;
+        Some(*when)
     }
 }

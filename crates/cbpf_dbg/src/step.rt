@@ -1,6 +1,7 @@
 //! Steps both ways.
 
-ghost use Rattle.std.specs.Prelude.{◌≡◌, ◌+◌, ◌<◌, ◌≤◌, ◌^◌, ℕ, List, MatchResult, OnErr, OnOk};
+ghost use Rattle.std.specs.Prelude.{◌≡◌, ◌+◌, ◌<◌, ◌≤◌, ◌^◌, MatchResult, OnErr, OnOk};
+ghost use Rattle.cbpf_dbg.specs.Breakpoints.{Breakpoints};
 ghost use Rattle.cbpf_dbg.specs.Loaded.{machine_in, records_in};
 ghost use Rattle.cbpf_dbg.specs.Session.{Keeps};
 ghost use Rattle.cbpf_dbg.specs.Walk.{Stands, owed, StepsOn, step_turns, StepsBack, CannotStepBack};
@@ -26,8 +27,8 @@ pub(crate) fn step_on<T: Trail, A: Allocator>(
     requires some { 1 ≤ n }
     ensures stands { Stands (machine_in loaded.now) (records_in loaded.now) w.new }
     ensures keeps { Keeps (λ xs. T.stands_for trail.new xs) (machine_in loaded.now) (records_in loaded.now) w.new.place }
-    ensures steps { (breakpoints : List ℕ) → StepsOn (machine_in loaded.now) loaded.now.capture.now breakpoints w.old w.new n result }
-    ensures turns { (breakpoints : List ℕ) → meter.new ≡ meter.old + step_turns (machine_in loaded.now) loaded.now.capture.now breakpoints w.old n }
+    ensures steps { (breakpoints : Breakpoints) → StepsOn (machine_in loaded.now) loaded.now.capture.now breakpoints w.old w.new n result }
+    ensures turns { (breakpoints : Breakpoints) → meter.new ≡ meter.old + step_turns (machine_in loaded.now) loaded.now.capture.now breakpoints w.old n }
 {
     let mut left = n;
     let mut next = record_at(loaded.capture, w.place.packet);

@@ -4,6 +4,7 @@
 //! passes ICMP packets. `RECORDS` are those of an ARP packet and an ICMP packet. Each test goes over
 //! both kinds of trail.
 
+mod conditions;
 mod places;
 mod runs;
 mod shown;
@@ -11,7 +12,8 @@ mod steps;
 mod values;
 
 use crate::{
-    Counts, ListTrail, MarkTrail, Meter, Place, RunReply, Session, SessionFault, Stop, Trail, Why,
+    Counts, ListTrail, MarkTrail, Meter, Place, RunReply, Session, SessionFault, Stop, Trail, When,
+    Why,
 };
 use cbpf_code::{Ext, Insn, Program, check};
 use pcap_classic::Capture;

@@ -15,6 +15,9 @@ use Rattle.cbpf_dbg.specs.declared.reply.RunReply.TheVariants.{Stopped, Limit, F
 use Rattle.cbpf_dbg.specs.declared.reply.SessionFault.{SessionFault}
 use Rattle.cbpf_dbg.specs.declared.reply.SessionFault.TheVariants.{NoProgram, NoCapture, NoPackets, NoInstruction, NoPacket, NoStep, TooFarBack, ZeroCount, NoValue, Memory}
 use Rattle.cbpf_dbg.specs.declared.reply.Stop.{Stop}
+use Rattle.cbpf_dbg.specs.Breakpoints.{Breakpoints}
+use Rattle.cbpf_dbg.specs.declared.breakpoint.When.{When}
+use Rattle.cbpf_dbg.specs.declared.breakpoint.When.TheVariants.{Always, A, X}
 use Rattle.cbpf_dbg.specs.declared.reply.Why.{Why}
 use Rattle.cbpf_dbg.specs.declared.reply.Why.TheVariants.{Break, Step, Unknown}
 
@@ -80,32 +83,41 @@ run_text (Finished n) m = finished_text n
 
 -- ---- breakpoints
 
-abbrev pub ended_line : List Insn → ℕ → List ℕ
-ended_line list n = line_text list n ++ codes "\n"
+-- the condition of a breakpoint that is set, and the line's end
+abbrev pub condition_text : When → List ℕ
+condition_text Always = codes "\n"
+condition_text (A v) = with_number (codes " when a = ") v (codes "\n")
+condition_text (X v) = with_number (codes " when x = ") v (codes "\n")
+
+abbrev pub ended_line : List Insn → ℕ → When → List ℕ
+ended_line list n when = line_text list n ++ condition_text when
 
 unfoldable pub set_head : List ℕ
 set_head = codes "breakpoint at: "
 
-abbrev pub set_text : List Insn → ℕ → List ℕ
-set_text list n = set_head ++ ended_line list n
+abbrev pub set_text : List Insn → ℕ → When → List ℕ
+set_text list n when = set_head ++ ended_line list n when
 
 -- the breakpoint's instruction, where a program is loaded
-abbrev pub set_in : Option (List Insn) → ℕ → List ℕ
-set_in None n = []
-set_in (Some list) n = set_text list n
+abbrev pub set_in : Option (List Insn) → ℕ → When → List ℕ
+set_in None n when = []
+set_in (Some list) n when = set_text list n when
 
-abbrev pub number_text : ℕ → List ℕ
-number_text n = codes " " ++ decimal n
+-- a breakpoint in the list of them
+abbrev pub listed_text : ℕ × When → List ℕ
+listed_text (n, Always) = joined (codes " " ∷ decimal n ∷ [])
+listed_text (n, A v) = joined (codes " " ∷ decimal n ∷ codes "(a=" ∷ decimal v ∷ codes ")" ∷ [])
+listed_text (n, X v) = joined (codes " " ∷ decimal n ∷ codes "(x=" ∷ decimal v ∷ codes ")" ∷ [])
 
-abbrev pub numbers_text : List ℕ → List ℕ
-numbers_text breakpoints = flat_map number_text breakpoints ++ codes "\n"
+abbrev pub list_text : Breakpoints → List ℕ
+list_text breakpoints = flat_map listed_text breakpoints ++ codes "\n"
 
-unfoldable pub numbers_head : List ℕ
-numbers_head = codes "breakpoints:"
+unfoldable pub list_head : List ℕ
+list_head = codes "breakpoints:"
 
 -- in order of setting
-unfoldable pub breakpoints_text : List ℕ → List ℕ
-breakpoints_text breakpoints = numbers_head ++ numbers_text breakpoints
+unfoldable pub breakpoints_text : Breakpoints → List ℕ
+breakpoints_text breakpoints = list_head ++ list_text breakpoints
 
 -- ---- the list of stops
 

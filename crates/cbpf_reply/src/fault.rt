@@ -8,7 +8,8 @@ use cbpf_dbg::SessionFault;
 use itoa::Buffer;
 use std::io::Write;
 
-fn write_with_number<W: Write>(
+/// A number between two texts.
+pub(crate) fn write_with_number<W: Write>(
     w: &mut W,
     before: &[u8],
     n: u32,

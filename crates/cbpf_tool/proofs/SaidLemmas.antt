@@ -4,8 +4,9 @@ use Rattle.std.specs.Prelude.{if◌then◌else◌, nat_lt, IsOk, Bool, true, fal
 use Rattle.std.proofs.lemmas.Bool.{ltb-true}
 use Rattle.cbpf_code.specs.Writing.{Wrote}
 use Rattle.cbpf_code.specs.declared.insn.Insn.{Insn}
-use Rattle.cbpf_dbg.specs.Commands.{Answer, reply_of, view_after, run, step, mark, breakpoint, loaded, with_program, without_breakpoints}
+use Rattle.cbpf_dbg.specs.Commands.{Answer, reply_of, view_after, run, step, mark, breakpoint_when, loaded, with_program, without_breakpoints}
 use Rattle.cbpf_dbg.specs.View.{View}
+use Rattle.cbpf_dbg.specs.declared.breakpoint.When.{When}
 use Rattle.cbpf_dbg.specs.declared.reply.Place.{Place}
 use Rattle.cbpf_dbg.specs.declared.reply.RunReply.{RunReply}
 use Rattle.cbpf_dbg.specs.declared.reply.SessionFault.{SessionFault}
@@ -60,9 +61,9 @@ program-kept : (p : Option (List Insn)) (k : ℕ) (m : View) (a : Unit {0} × Vi
 program-kept None k m a e = refl
 program-kept (Some list) k m a e = elim (nat_lt k (length list)) as (λ b. (view_after m (if b then Ok a else Err NoInstruction)).program ≡ m.program) [ true ↦ e | false ↦ refl ]
 
-pub set-at : (m n : View) (k : ℕ) (x : Unit {0}) → Ok x ≡ reply_of (breakpoint m k) → n ≡ view_after m (breakpoint m k) → IsInstruction n.program k
-unfolding breakpoint
-set-at m n k x e v =
+pub set-at : (m n : View) (k : ℕ) (when : When) (x : Unit {0}) → Ok x ≡ reply_of (breakpoint_when m k when) → n ≡ view_after m (breakpoint_when m k when) → IsInstruction n.program k
+unfolding breakpoint_when
+set-at m n k when x e v =
     subst (λ p. IsInstruction p k) (sym (ap (λ (y : View). y.program) v ∙ program-kept m.program k m _ refl)) (instruction-of m.program k m _ x e)
 
 refused-view : {R : Type 0} (m : View) (a : Answer R) (f : SessionFault) → Err f ≡ reply_of a → view_after m a ≡ m
@@ -72,14 +73,14 @@ refused-view m (Err g) f e = refl
 abbrev no_memory : Result (Unit {0}) SessionFault
 no_memory = Err Memory
 
-pub set-ok : (m : View) (k : ℕ) (x : Unit {0}) → (Ok x ≡ reply_of (breakpoint m k)) ⊎ ((Ok x ≡ no_memory) × IsOk (breakpoint m k)) → Ok x ≡ reply_of (breakpoint m k)
-set-ok m k x (inl e) = e
-set-ok m k x (inr h) = absurd (cc)
+pub set-ok : (m : View) (k : ℕ) (when : When) (x : Unit {0}) → (Ok x ≡ reply_of (breakpoint_when m k when)) ⊎ ((Ok x ≡ no_memory) × IsOk (breakpoint_when m k when)) → Ok x ≡ reply_of (breakpoint_when m k when)
+set-ok m k when x (inl e) = e
+set-ok m k when x (inr h) = absurd (cc)
 
-pub set-refused : {X E : Type 0} (m n : View) (k : ℕ) (f : SessionFault) (old new : Option (List ℕ)) (r : Result X E) → (Err f ≡ reply_of (breakpoint m k)) ⊎ ((Err f ≡ no_memory) × IsOk (breakpoint m k)) → n ≡ m → Wrote old new r (fault_text f) → Replied (breakpoint_said m k) n (λ s. Wrote old new r s) ⊎ Exactly memory_text m n (λ s. Wrote old new r s)
+pub set-refused : {X E : Type 0} (m n : View) (k : ℕ) (when : When) (f : SessionFault) (old new : Option (List ℕ)) (r : Result X E) → (Err f ≡ reply_of (breakpoint_when m k when)) ⊎ ((Err f ≡ no_memory) × IsOk (breakpoint_when m k when)) → n ≡ m → Wrote old new r (fault_text f) → Replied (breakpoint_said m k when) n (λ s. Wrote old new r s) ⊎ Exactly memory_text m n (λ s. Wrote old new r s)
 unfolding fault_text
-set-refused m n k f old new r (inl e) v w = inl (said-err _ m n (breakpoint m k) f old new r e (v ∙ sym (refused-view m (breakpoint m k) f e)) w)
-set-refused m n k f old new r (inr e) v w =
+set-refused m n k when f old new r (inl e) v w = inl (said-err _ m n (breakpoint_when m k when) f old new r e (v ∙ sym (refused-view m (breakpoint_when m k when) f e)) w)
+set-refused m n k when f old new r (inr e) v w =
     let at : Err f ≡ no_memory = e.0 in
     let is : f ≡ Memory = cc in
     inr (exactly-view memory_text m n old new r v (subst (λ (g : SessionFault). Wrote old new r (fault_text g)) is w))
@@ -96,6 +97,8 @@ quit-only (line.run limit) h = absurd (cc)
 quit-only line.disassemble h = absurd (cc)
 quit-only line.dump h = absurd (cc)
 quit-only (line.breakpoint n) h = absurd (cc)
+quit-only (line.breakpoint_when_a n v) h = absurd (cc)
+quit-only (line.breakpoint_when_x n v) h = absurd (cc)
 quit-only line.breakpoints h = absurd (cc)
 quit-only line.reset_breakpoints h = absurd (cc)
 quit-only (line.delete n) h = absurd (cc)

@@ -5,7 +5,7 @@ use Rattle.std.specs.FinMap as map
 use Rattle.cbpf_code.specs.Writing.{Appended, AppendedPart}
 use Rattle.cbpf_code.specs.declared.writing.WriteFault.{WriteFault}
 use Rattle.cbpf_code.proofs.WrittenLemmas.{appended-nil, appended-then, appended-kept, part-then, part-take}
-use Rattle.cbpf_command.specs.Commands.{Spelled, load_words, load_capture, run, disassemble, dump, breakpoint, breakpoints, reset_breakpoints, delete, step, select, mark, resume, stops, value, quit, command_of}
+use Rattle.cbpf_command.specs.Commands.{Spelled, load_words, load_capture, run, disassemble, dump, breakpoint, breakpoint_when_a, breakpoint_when_x, breakpoints, reset_breakpoints, delete, step, select, mark, resume, stops, value, quit, command_of}
 use Rattle.cbpf_command.specs.declared.command.LineRefusal.{LineRefusal}
 use Rattle.cbpf_command.specs.declared.command.LineRefusal.TheVariants.{UnknownCommand, WrongArguments}
 use Rattle.pcap_classic.specs.Savefile.{Savefile, savefile_of}
@@ -109,6 +109,10 @@ answers-named files m n f g disassemble W h = exactly-named _ m n W h
 answers-named files m n f g dump W h = exactly-named _ m n W h
 answers-named files m n f g (breakpoint k) W (inl h) = let k = exactly-named _ _ n W h in (k.0, inl k.1, k.2)
 answers-named files m n f g (breakpoint k) W (inr h) = let k = exactly-named _ m n W h in (k.0, inr k.1, k.2)
+answers-named files m n f g (breakpoint_when_a k v) W (inl h) = let k = exactly-named _ _ n W h in (k.0, inl k.1, k.2)
+answers-named files m n f g (breakpoint_when_a k v) W (inr h) = let k = exactly-named _ m n W h in (k.0, inr k.1, k.2)
+answers-named files m n f g (breakpoint_when_x k v) W (inl h) = let k = exactly-named _ _ n W h in (k.0, inl k.1, k.2)
+answers-named files m n f g (breakpoint_when_x k v) W (inr h) = let k = exactly-named _ m n W h in (k.0, inr k.1, k.2)
 answers-named files m n f g breakpoints W h = exactly-named _ m n W h
 answers-named files m n f g reset_breakpoints W h = exactly-named _ _ n W h
 answers-named files m n f g (delete k) W h = exactly-named _ _ n W h

@@ -8,13 +8,14 @@ use Rattle.cbpf_code.specs.declared.insn.Insn.{Insn}
 use Rattle.cbpf_code.specs.declared.words.WordFault.{WordFault}
 use Rattle.cbpf_code.specs.declared.words.WordFault.TheVariants.{Memory}
 use Rattle.cbpf_code.specs.declared.checker.CheckFault.{CheckFault}
-use Rattle.cbpf_command.specs.Commands.{Spelled, load_words, load_capture, run, disassemble, dump, breakpoint, breakpoints, reset_breakpoints, delete, step, select, mark, resume, stops, value, quit}
+use Rattle.cbpf_command.specs.Commands.{Spelled, load_words, load_capture, run, disassemble, dump, breakpoint, breakpoint_when_a, breakpoint_when_x, breakpoints, reset_breakpoints, delete, step, select, mark, resume, stops, value, quit}
 use Rattle.cbpf_command.specs.declared.command.LineRefusal.{LineRefusal}
 use Rattle.cbpf_command.specs.declared.command.LineRefusal.TheVariants.{UnknownCommand, WrongArguments}
 use Rattle.pcap_classic.specs.Savefile.{Savefile, savefile_of}
 use Rattle.pcap_classic.specs.declared.fault.CaptureFault.{CaptureFault}
 use Rattle.cbpf_tool.specs.FileMap.{FileMap}
 use Rattle.cbpf_dbg.specs.View.{View}
+use Rattle.cbpf_dbg.specs.declared.breakpoint.When.TheVariants.{Always, A, X}
 use Rattle.cbpf_dbg.specs.Commands.{with_program_loaded, with_capture_loaded, without_breakpoints}
 use Rattle.cbpf_reply.specs.Texts.{breakpoints_text}
 use Rattle.cbpf_tool.specs.Said.{run_said, step_said, select_said, resume_said, breakpoint_said, delete_said, mark_said, stops_said, value_said, listing_text}
@@ -47,6 +48,10 @@ LoadsCapture m n (Some bytes) Written = ReadsCapture m n (savefile_of bytes) Wri
 abbrev pub Failed : ℕ → ℕ → Type 0
 Failed f g = (f < g) ⊎ (f ≡ 2 ^ 64 - 1)
 
+-- a breakpoint that is set: its reply, or `error: out of memory`
+abbrev pub Sets : View → View → List ℕ × View → (List ℕ → Type 0) → Type 0
+Sets m n said Written = Replied said n Written ⊎ Exactly memory_text m n Written
+
 -- a command's reply, while the count of failures goes from f to g. `error: out of memory` may come in place
 -- of the reply of a load and of a breakpoint that is set, and F2, where a failure is counted, in place of
 -- that of a capture's load. `quit` has none
@@ -56,7 +61,9 @@ Answers files m n f g (load_capture name) Written = LoadsCapture m n (map.get fi
 Answers files m n f g (run limit) Written = Replied (run_said m limit) n Written
 Answers files m n f g disassemble Written = Exactly (listing_text m.program) m n Written
 Answers files m n f g dump Written = Exactly (dump_text m.program) m n Written
-Answers files m n f g (breakpoint k) Written = Replied (breakpoint_said m k) n Written ⊎ Exactly memory_text m n Written
+Answers files m n f g (breakpoint k) Written = Sets m n (breakpoint_said m k Always) Written
+Answers files m n f g (breakpoint_when_a k v) Written = Sets m n (breakpoint_said m k (A v)) Written
+Answers files m n f g (breakpoint_when_x k v) Written = Sets m n (breakpoint_said m k (X v)) Written
 Answers files m n f g breakpoints Written = Exactly (breakpoints_text m.breakpoints) m n Written
 Answers files m n f g reset_breakpoints Written = Exactly (breakpoints_text []) (without_breakpoints m) n Written
 Answers files m n f g (delete k) Written = Replied (delete_said m k) n Written

@@ -4,8 +4,9 @@ use Rattle.cbpf_code.specs.declared.insn.Insn.{Insn}
 use Rattle.cbpf_code.specs.declared.extension.Ext.{Ext}
 use Rattle.cbpf_listing.specs.Listing.{listing}
 use Rattle.cbpf_command.specs.Commands as line
-use Rattle.cbpf_dbg.specs.Commands.{Answer, run, step, select, mark, resume, stops, breakpoint, delete, without_breakpoints, set_value}
+use Rattle.cbpf_dbg.specs.Commands.{Answer, run, step, select, mark, resume, stops, breakpoint_when, delete, without_breakpoints, set_value}
 use Rattle.cbpf_dbg.specs.View.{View}
+use Rattle.cbpf_dbg.specs.declared.breakpoint.When.{When}
 use Rattle.cbpf_dbg.specs.declared.reply.Place.{Place}
 use Rattle.cbpf_dbg.specs.declared.reply.SessionFault.{SessionFault}
 use Rattle.cbpf_reply.specs.Texts.{fault_text, run_text, place_text, stops_text, breakpoints_text, set_in, value_text}
@@ -42,8 +43,8 @@ select_said m n = answered (λ u v. at_text (before_packet n)) m (select m n)
 abbrev pub resume_said : View → ℕ → ℕ → List ℕ × View
 resume_said m packet s = answered (λ u v. at_text (place_of packet s)) m (resume m (place_of packet s))
 
-abbrev pub breakpoint_said : View → ℕ → List ℕ × View
-breakpoint_said m n = answered (λ u v. set_in v.program n) m (breakpoint m n)
+abbrev pub breakpoint_said : View → ℕ → When → List ℕ × View
+breakpoint_said m n when = answered (λ u v. set_in v.program n when) m (breakpoint_when m n when)
 
 abbrev pub delete_said : View → ℕ → List ℕ × View
 delete_said m n = answered (λ was v. breakpoints_text v.breakpoints) m (delete m n)
@@ -75,6 +76,8 @@ is_quit (line.run limit) = false
 is_quit line.disassemble = false
 is_quit line.dump = false
 is_quit (line.breakpoint n) = false
+is_quit (line.breakpoint_when_a n v) = false
+is_quit (line.breakpoint_when_x n v) = false
 is_quit line.breakpoints = false
 is_quit line.reset_breakpoints = false
 is_quit (line.delete n) = false

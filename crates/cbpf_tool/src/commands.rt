@@ -3,13 +3,13 @@ ghost use Rattle.std.specs.Prelude.{◌≡◌, ◌⊎◌, ◌<ℤ◌, []};
 ghost use Rattle.cbpf_code.specs.Writing.{Wrote};
 ghost use Rattle.cbpf_dbg.specs.Commands.{without_breakpoints};
 ghost use Rattle.cbpf_reply.specs.Texts.{breakpoints_text, set_in};
-ghost use Rattle.cbpf_tool.specs.Replies.{Exactly, Replied};
+ghost use Rattle.cbpf_tool.specs.Replies.{Exactly, Replied, Sets};
 ghost use Rattle.cbpf_tool.specs.Said as said;
 ghost use Rattle.cbpf_tool.specs.Texts as texts;
 
 use crate::replies::write_dump;
 use cbpf_code::{Ext, WriteFault, write_bytes};
-use cbpf_dbg::{MarkTrail, Meter, Place, Session};
+use cbpf_dbg::{MarkTrail, Meter, Place, Session, When};
 use cbpf_reply::{
     write_breakpoint, write_breakpoints, write_fault, write_place, write_run, write_stops,
     write_value,
@@ -83,36 +83,37 @@ pub fn resume<A: Allocator, W: Write>(
     }
 }
 
-/// Where the breakpoint at instruction `n` was set.
+/// Where the breakpoint at instruction `n` was set, and when it stops.
 fn write_set<A: Allocator, W: Write>(
     w: &mut W,
     session: &Session<MarkTrail, A>,
     n: u64,
+    when: When,
 ) -> Result<(), WriteFault>
     requires { said.IsInstruction session.now.program n }
-    ensures { Wrote (W.contents w.old) (W.contents w.new) result (set_in session.now.program n) }
+    ensures { Wrote (W.contents w.old) (W.contents w.new) result (set_in session.now.program n when) }
 {
     match session.program() {
         Some(program) => {
             let _few = program.len();
-            write_breakpoint(w, program, n as u32)
+            write_breakpoint(w, program, n as u32, when)
         }
         None => unreachable!(),
     }
 }
 
-/// `breakpoint n`
+/// `breakpoint n`, also with a condition
 #[tactic(auto, using(crate::proofs::SaidLemmas::said))]
 pub fn set_breakpoint<A: Allocator + Copy, W: Write>(
     w: &mut W,
     session: &mut Session<MarkTrail, A>,
     n: u64,
+    when: When,
 ) -> Result<(), WriteFault>
-    ensures { Replied (said.breakpoint_said session.old n) session.new (λ t. Wrote (W.contents w.old) (W.contents w.new) result t)
-        ⊎ Exactly texts.memory_text session.old session.new (λ t. Wrote (W.contents w.old) (W.contents w.new) result t) }
+    ensures { Sets session.old session.new (said.breakpoint_said session.old n when) (λ t. Wrote (W.contents w.old) (W.contents w.new) result t) }
 {
-    match session.breakpoint(n) {
-        Ok(()) => write_set(w, session, n),
+    match session.breakpoint_when(n, when) {
+        Ok(()) => write_set(w, session, n, when),
         Err(fault) => write_fault(w, fault),
     }
 }

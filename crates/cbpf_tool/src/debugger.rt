@@ -13,7 +13,7 @@ use crate::line_reader::{LineEnd, LineReader};
 use crate::loads::{load_capture, load_words};
 use cbpf_code::{WriteFault, write_bytes};
 use cbpf_command::{Command, LineRefusal, command_of};
-use cbpf_dbg::{MarkTrail, Session};
+use cbpf_dbg::{MarkTrail, Session, When};
 use cbpf_reply::write_breakpoints;
 use std::alloc::Allocator;
 use std::io::{Read, Write};
@@ -49,7 +49,9 @@ fn reply_to<A: Allocator + Copy, W: Write, F: Files>(
         Command::Run(limit) => commands::run(w, session, limit),
         Command::Disassemble => commands::disassemble(w, session),
         Command::Dump => commands::dump(w, session),
-        Command::Breakpoint(n) => commands::set_breakpoint(w, session, n),
+        Command::Breakpoint(n) => commands::set_breakpoint(w, session, n, When::Always),
+        Command::BreakpointWhenA(n, v) => commands::set_breakpoint(w, session, n, When::A(v)),
+        Command::BreakpointWhenX(n, v) => commands::set_breakpoint(w, session, n, When::X(v)),
         Command::Breakpoints => write_breakpoints(w, session),
         Command::ResetBreakpoints => commands::reset_breakpoints(w, session),
         Command::Delete(n) => commands::delete(w, session, n),

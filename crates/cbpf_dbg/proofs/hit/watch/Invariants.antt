@@ -8,5 +8,5 @@ abbrev pub invariant-scan : goal.invariant-scan
 invariant-scan g l =
     record {
       long : length l.watched ≡ 4096;
-      watches : WatchesTo l.watched (machine_of l.p l.values) l.breakpoints.keys l.i;
+      watches : WatchesTo l.watched (machine_of l.p l.values) l.breakpoints.entries l.i;
     }

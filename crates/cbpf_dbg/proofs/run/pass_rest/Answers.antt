@@ -6,7 +6,7 @@ use Rattle.cbpf_dbg.proofs.JoinedLemmas.{rest-pass, rest-same}
 use Rattle.cbpf_dbg.proofs.WalkLemmas.{goes}
 use Rattle.cbpf_dbg.proofs.RunLemmas.{hit_none}
 use Rattle.cbpf_dbg.specs.Loaded.{machine_in, records_in}
-use Rattle.cbpf_dbg.specs.Joined.{carries}
+use Rattle.cbpf_dbg.specs.Breakpoints.{carries}
 use Rattle.cbpf_dbg.proofs.run.pass_rest.Goals as goal
 
 pub pass-preserved : goal.pass-preserved

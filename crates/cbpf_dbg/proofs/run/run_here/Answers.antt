@@ -10,8 +10,8 @@ use Rattle.cbpf_dbg.proofs.RunLemmas.{below_next, hit_none, stop_front, run_stop
 use Rattle.cbpf_dbg.proofs.KeepLemmas.{keeps_push, keeps_few, keeps_clear}
 use Rattle.cbpf_dbg.proofs.TurnLemmas.{run_turns-reply, spent_between, owed-turns, not_before_step, not_before_packet}
 use Rattle.cbpf_dbg.specs.Loaded.{machine_in, records_in, breakpoints_in}
+use Rattle.cbpf_dbg.specs.Breakpoints.{carries}
 use Rattle.cbpf_dbg.proofs.run.run_here.Goals as goal
-use Rattle.cbpf_dbg.specs.Joined.{carries}
 use Rattle.cbpf_dbg.proofs.run.run_here.Goals.{else-is_limit-via-then-is_limit+else-is_some, else-is_limit-via-else-is_limit}
 
 pub hit-requires-clause-inside : goal.hit-requires-clause-inside

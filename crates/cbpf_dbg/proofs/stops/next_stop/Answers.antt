@@ -6,7 +6,7 @@ use Rattle.cbpf_dbg.proofs.JoinedLemmas.{rest-pass, rest-same, rest-none}
 use Rattle.cbpf_dbg.proofs.WalkLemmas.{goes, here_after, here_some, here_none, walk_ended}
 use Rattle.cbpf_dbg.proofs.RunLemmas.{hit_none, stop_front}
 use Rattle.cbpf_dbg.specs.Loaded.{machine_in, records_in, breakpoints_in}
-use Rattle.cbpf_dbg.specs.Joined.{carries}
+use Rattle.cbpf_dbg.specs.Breakpoints.{carries}
 use Rattle.cbpf_dbg.proofs.stops.next_stop.Goals as goal
 
 pub hit-requires-clause-inside : goal.hit-requires-clause-inside

@@ -1,8 +1,8 @@
-use Rattle.cbpf_dbg.proofs.CarryLemmas.{same-remove, known-at}
+use Rattle.cbpf_dbg.proofs.CarryLemmas.{same-but, known-at}
 use Rattle.cbpf_dbg.proofs.session.Session.delete.Goals as goal
 
 pub invariant_of-self : goal.invariant_of-self
 invariant_of-self g c = (
   c.self.invariant.0,
-  known-at _ _ _ _ _ _ _ _ c.in-Some.is c.self.invariant.1 (λ w. c.watch_at.ensures _ w (rw c.shift_remove-was_set.ensures.keys (same-remove c.args.n c.self.inside.breakpoints.keys))),
+  known-at _ _ _ _ _ _ _ _ c.in-Some.is c.self.invariant.1 (λ w. c.watch_at.ensures _ w (same-but c.args.n _ _ (λ q h. c.shift_remove.ensures.updates.2 q h))),
 )

@@ -10,7 +10,7 @@ returns-clause-shown g c =
       program = c.self.inside.program;
       values = c.self.inside.values;
       capture = c.self.inside.capture;
-      breakpoints = c.self.inside.breakpoints.keys;
+      breakpoints = c.self.inside.breakpoints.entries;
       origin = c.run-reply.new.w.origin;
       place = c.run-reply.new.w.place;
     } in
