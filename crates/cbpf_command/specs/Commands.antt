@@ -1,4 +1,4 @@
--- The debugger's commands, and how lines spell them (kernel documentation, networking/filter, on `bpf_dbg`; `breakpoint reset`, `delete`, `mark`, `resume`, `stops` and `value` are this project's own).
+-- The debugger's commands, and how lines spell them (kernel documentation, networking/filter, on `bpf_dbg`; breakpoints with a condition, `breakpoint reset`, `delete`, `mark`, `resume`, `stops` and `value` are this project's own).
 use Rattle.std.specs.Prelude.{ℕ, ◌-◌, ◌^◌, ℤ, pos, if◌then◌else◌, List, [], ◌∷◌, Option, Some, None, option_map, Result, Ok, Err, codes, bytes_eq}
 use Rattle.std.specs.Str.{is_utf8}
 use Rattle.cbpf_code.specs.declared.extension.Ext.{Ext}
@@ -20,6 +20,8 @@ pub data Spelled : Type 0 where
   disassemble : Spelled
   dump : Spelled
   breakpoint : (n : ℕ) → Spelled
+  breakpoint_when_a : (n v : ℕ) → Spelled
+  breakpoint_when_x : (n v : ℕ) → Spelled
   breakpoints : Spelled
   reset_breakpoints : Spelled
   delete : (n : ℕ) → Spelled
@@ -39,6 +41,8 @@ meaning (command.Run limit) = run limit
 meaning command.Disassemble = disassemble
 meaning command.Dump = dump
 meaning (command.Breakpoint n) = breakpoint n
+meaning (command.BreakpointWhenA n v) = breakpoint_when_a n v
+meaning (command.BreakpointWhenX n v) = breakpoint_when_x n v
 meaning command.Breakpoints = breakpoints
 meaning command.ResetBreakpoints = reset_breakpoints
 meaning (command.Delete n) = delete n
@@ -83,9 +87,22 @@ run_by [] = Some (run None)
 run_by (w ∷ []) = option_map (λ n. run (Some n)) (number (2 ^ 64 - 1) w)
 run_by _ = None
 
+-- by two numbers, where both are
+abbrev pub by_both : (ℕ → ℕ → Option Spelled) → Option ℕ → Option ℕ → Option Spelled
+by_both f (Some n) (Some m) = f n m
+by_both f (Some n) None = None
+by_both f None m = None
+
+-- by the name of a register: a is the accumulator, x the index register
+abbrev pub breakpoint_when : List ℕ → ℕ → ℕ → Option Spelled
+breakpoint_when r n v =
+    if bytes_eq r (codes "a") then Some (breakpoint_when_a n v) else (if bytes_eq r (codes "x") then Some (breakpoint_when_x n v) else None)
+
+-- an instruction's number of 64 bits, and a register's value of 32
 abbrev pub breakpoint_by : List (List ℕ) → Option Spelled
 breakpoint_by [] = Some breakpoints
 breakpoint_by (w ∷ []) = if bytes_eq w (codes "reset") then Some reset_breakpoints else option_map breakpoint (number (2 ^ 64 - 1) w)
+breakpoint_by (n ∷ r ∷ v ∷ []) = by_both (breakpoint_when r) (number (2 ^ 64 - 1) n) (number (2 ^ 32 - 1) v)
 breakpoint_by _ = None
 
 -- how many instructions, to and fro; without a number it is one
@@ -94,14 +111,9 @@ step_by [] = Some (step (pos 1))
 step_by (w ∷ []) = option_map step (signed_number (2 ^ 63 - 1) w)
 step_by _ = None
 
-abbrev pub resume_at : Option ℕ → Option ℕ → Option Spelled
-resume_at (Some p) (Some s) = Some (resume p s)
-resume_at (Some p) None = None
-resume_at None s = None
-
 -- a packet's number of 64 bits, and a step of 32
 abbrev pub resume_by : List (List ℕ) → Option Spelled
-resume_by (p ∷ s ∷ []) = resume_at (number (2 ^ 64 - 1) p) (number (2 ^ 32 - 1) s)
+resume_by (p ∷ s ∷ []) = by_both (λ packet s. Some (resume packet s)) (number (2 ^ 64 - 1) p) (number (2 ^ 32 - 1) s)
 resume_by _ = None
 
 -- the one of some extensions that has a name

@@ -4,12 +4,13 @@ ghost use Rattle.cbpf_command.specs.Arguments.{Holds};
 
 use crate::scan::next_word;
 
-/// The arguments of a command; none has three.
+/// The arguments of a command; none has four.
 #[derive(Clone, Copy)]
 pub enum Arguments<'a> {
     Zero,
     One(&'a [u8]),
     Two(&'a [u8], &'a [u8]),
+    Three(&'a [u8], &'a [u8], &'a [u8]),
     More,
 }
 
@@ -23,8 +24,11 @@ pub fn arguments_in(text: &[u8]) -> Arguments<'_>
     let Some((second, text)) = next_word(text) else {
         return Arguments::One(first);
     };
+    let Some((third, text)) = next_word(text) else {
+        return Arguments::Two(first, second);
+    };
     match next_word(text) {
-        None => Arguments::Two(first, second),
+        None => Arguments::Three(first, second, third),
         Some(_) => Arguments::More,
     }
 }

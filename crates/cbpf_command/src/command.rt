@@ -27,6 +27,10 @@ pub enum Command<'a> {
     Dump,
     /// `breakpoint n`: at instruction n, from 0.
     Breakpoint(u64),
+    /// `breakpoint n a v`: a breakpoint at instruction n where the accumulator is v.
+    BreakpointWhenA(u64, u32),
+    /// `breakpoint n x v`: a breakpoint at instruction n where the index register is v.
+    BreakpointWhenX(u64, u32),
     /// `breakpoint`: the list of breakpoints.
     Breakpoints,
     /// `breakpoint reset`
@@ -140,6 +144,20 @@ fn breakpoint_by(arguments: Arguments<'_>) -> Option<Command<'_>>
         Arguments::Zero => Some(Command::Breakpoints),
         Arguments::One(b"reset") => Some(Command::ResetBreakpoints),
         Arguments::One(word) => Some(Command::Breakpoint(number(word, u64::MAX)?)),
+        Arguments::Three(n, register, v) => {
+            breakpoint_when(register, number(n, u64::MAX)?, number_32(v)?)
+        }
+        _ => None,
+    }
+}
+
+/// A breakpoint at instruction `n` where the register of this name is `v`.
+fn breakpoint_when(register: &[u8], n: u64, v: u32) -> Option<Command<'_>>
+    ensures { option_map spec.meaning result ≡ spec.breakpoint_when register.now n v }
+{
+    match register {
+        b"a" => Some(Command::BreakpointWhenA(n, v)),
+        b"x" => Some(Command::BreakpointWhenX(n, v)),
         _ => None,
     }
 }

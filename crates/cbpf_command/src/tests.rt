@@ -168,6 +168,7 @@ fn values_are_of_extensions(rt: HostRuntime) {
         b"value mark 4294967296",
         b"value mark -1",
         b"value mark 1 2",
+        b"value mark 1 2 3",
         b"value len 60",
         b"value #mark 1",
         b"value Mark 1",
@@ -178,12 +179,53 @@ fn values_are_of_extensions(rt: HostRuntime) {
 }
 
 #[test]
-fn conditions_are_no_commands(rt: HostRuntime) {
+fn breakpoints_with_a_condition(rt: HostRuntime) {
+    assert!(rt;
+        matches!(
+            command_of(b"breakpoint 1 a 5"),
+            Ok(Some(Command::BreakpointWhenA(1, 5)))
+        )
+    );
+    assert!(rt;
+        matches!(
+            command_of(b"breakpoint 0 x 0"),
+            Ok(Some(Command::BreakpointWhenX(0, 0)))
+        )
+    );
+    assert!(rt;
+        matches!(
+            command_of(b" breakpoint\t 007  a\t004294967295 \r"),
+            Ok(Some(Command::BreakpointWhenA(7, 4294967295)))
+        )
+    );
+    assert!(rt;
+        matches!(
+            command_of(b"breakpoint 18446744073709551615\rx 0001\r\n"),
+            Ok(Some(Command::BreakpointWhenX(18446744073709551615, 1)))
+        )
+    );
     for line in [
-        b"breakpoint 1 a 5".as_slice(),
-        b"breakpoint 1 x 5",
+        b"breakpoint 1 a".as_slice(),
+        b"breakpoint a 5",
+        b"breakpoint a",
+        b"breakpoint 1 a 5 6",
+        b"breakpoint 1 a 5 a 5",
+        b"breakpoint reset a 1",
+        b"breakpoint 1 m 0",
         b"breakpoint 1 A 5",
-        b"breakpoint 1 a",
+        b"breakpoint 1 X 5",
+        b"breakpoint 1 ax 5",
+        b"breakpoint 1 a=5",
+        b"breakpoint 1 a 4294967296",
+        b"breakpoint 1 x 4294967296",
+        b"breakpoint 18446744073709551616 a 5",
+        b"breakpoint 1 a +5",
+        b"breakpoint 1 a -5",
+        b"breakpoint +1 x 5",
+        b"breakpoint -1 x 5",
+        b"breakpoint 1 x 0x5",
+        b"breakpoint x 1 5",
+        b"breakpoint 1 5 a",
     ] {
         assert!(rt; is_wrong(line));
     }
@@ -314,6 +356,7 @@ fn resume_has_a_packet_and_a_step(rt: HostRuntime) {
         b"resume".as_slice(),
         b"resume 1",
         b"resume 1 2 3",
+        b"resume 1 2 3 4",
         b"resume 1 4294967296",
         b"resume 1 18446744073709551616",
         b"resume 18446744073709551616 1",
