@@ -1,1 +1,2 @@
 pub mod EachText
+pub mod ListedLemmas
