@@ -16,8 +16,8 @@ returns-in_err-write_listed-in-Some-Some g c =
     let all = c.args.session.now.breakpoints in
     let got : slice_get all c.loop-i.i ≡ Some (c.in-Some-Some.n, c.in-Some-Some.when) = listed_at _ _ _ c.in-Some-Some.ensures c.in-Some-Some.ensures' in
     err-exit _ _ _ _ c.from_residual.ensures.0
-    (loop-stop spec.listed_text all c.loop-i.i (0, Always) _ _ _ (slice_get_within all c.loop-i.i _ got) c.loop-i.invariant
-    (rw (get_or_from_slice_get all c.loop-i.i _ (0, Always) got) c.in_err-write_listed-in-Some-Some.ensures))
+    (loop-stop spec.listed_text all c.loop-i.i (0, Always) _ _ _ (slice_get_within all c.loop-i.i (c.in-Some-Some.n, c.in-Some-Some.when) got) c.loop-i.invariant
+    (rw (get_or_from_slice_get all c.loop-i.i (c.in-Some-Some.n, c.in-Some-Some.when) (0, Always) got) c.in_err-write_listed-in-Some-Some.ensures))
 
 pub unreachable-requires : goal.unreachable-requires
 unreachable-requires g c =
@@ -34,8 +34,8 @@ pub loop-i-preserved : goal.loop-i-preserved
 loop-i-preserved g c =
     let all = c.args.session.now.breakpoints in
     let got : slice_get all c.loop-i.i ≡ Some (c.in-Some-Some.n, c.in-Some-Some.when) = listed_at _ _ _ c.in-Some-Some.ensures c.in-Some-Some.ensures' in
-    loop-next spec.listed_text all c.loop-i.i (0, Always) _ _ _ (slice_get_within all c.loop-i.i _ got) c.loop-i.invariant
-    (rw (get_or_from_slice_get all c.loop-i.i _ (0, Always) got) c.in_ok-write_listed-in-Some-Some.ensures)
+    loop-next spec.listed_text all c.loop-i.i (0, Always) _ _ _ (slice_get_within all c.loop-i.i (c.in-Some-Some.n, c.in-Some-Some.when) got) c.loop-i.invariant
+    (rw (get_or_from_slice_get all c.loop-i.i (c.in-Some-Some.n, c.in-Some-Some.when) (0, Always) got) c.in_ok-write_listed-in-Some-Some.ensures)
 
 pub returns : goal.returns
 returns g c =
