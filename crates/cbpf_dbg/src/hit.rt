@@ -19,7 +19,7 @@ use std::alloc::Allocator;
 /// For each instruction whether an entry there can be a hit.
 pub(crate) type Watched = [bool; 4096];
 
-/// The extension without a value that the instruction of a state asks for, told without a turn.
+/// The extension without a value that the instruction of a state asks for, read without a turn.
 #[inline(always)]
 fn asked_at<A: Allocator>(loaded: &Loaded<'_, A>, s: &State) -> Option<Ext>
     requires { s.now.pc < length loaded.now.program.now }

@@ -18,11 +18,11 @@ pub struct Place {
 /// Why a session stopped.
 #[derive(Clone, Copy, Debug, PartialEq, Eq)]
 pub enum Why {
-    /// The instruction carries a breakpoint.
+    /// The instruction carries a breakpoint, whose condition holds.
     Break,
     /// A step was made.
     Step,
-    /// The instruction asks for an extension, whose value is not known.
+    /// The instruction asks for an extension that has no value.
     Unknown(Ext),
 }
 
@@ -42,7 +42,7 @@ pub struct Counts {
     pub passes: u64,
     /// The program returned 0, loaded from outside the packet or divided by 0.
     pub fails: u64,
-    /// The program asked for an extension.
+    /// The program asked for an extension that has no value.
     pub unknown: u64,
 }
 

@@ -49,8 +49,8 @@ impl<T: Trail, A: Allocator> Model for Session<T, A> {
 }
 
 impl<T: Trail, A: Allocator + Copy> Session<T, A> {
-    /// A session with no program, no values, no capture and no breakpoints, whose breakpoints will take their
-    /// memory from this allocator.
+    /// A session with no program, no values, no capture and no breakpoints. Its breakpoints will take
+    /// their memory from this allocator.
     pub fn new(alloc: A, trail: T) -> Self
         ensures { result ≡ empty_view }
     {
@@ -162,8 +162,8 @@ impl<T: Trail, A: Allocator> Session<T, A> {
         self.capture.as_ref()
     }
 
-    /// Takes the breakpoint at instruction `n` out, and tells whether it was set. The others keep
-    /// their order.
+    /// Takes the breakpoint at instruction `n` out, and reports whether it was set. The others
+    /// keep their order.
     ///
     /// # Errors
     ///
