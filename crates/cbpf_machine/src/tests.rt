@@ -174,56 +174,80 @@ fn what_an_instruction_asks_for(rt: HostRuntime) {
     assert!(rt; asks(insn(33, 0, 0, 4294963256), &none).is_none());
 }
 
-const EXTENSIONS: [Ext; 15] = [
-    Ext::Proto,
-    Ext::PktType,
-    Ext::IfIdx,
-    Ext::Nla,
-    Ext::NlaN,
-    Ext::Mark,
-    Ext::Queue,
-    Ext::HaType,
-    Ext::RxHash,
-    Ext::Cpu,
-    Ext::VlanTci,
-    Ext::VlanAvail,
-    Ext::PayOff,
-    Ext::Rand,
-    Ext::VlanTpid,
+/// Each extension, the place from which a load asks for it, and a value for it, where it takes one.
+const EXTENSIONS: [(Ext, u32, Option<u32>); 15] = [
+    (Ext::Proto, 4294963200, Some(4294967295)),
+    (Ext::PktType, 4294963204, Some(2147483648)),
+    (Ext::IfIdx, 4294963208, Some(65536)),
+    (Ext::Nla, 4294963212, None),
+    (Ext::NlaN, 4294963216, None),
+    (Ext::Mark, 4294963220, Some(3735928559)),
+    (Ext::Queue, 4294963224, Some(256)),
+    (Ext::HaType, 4294963228, Some(16777217)),
+    (Ext::RxHash, 4294963232, Some(2863311530)),
+    (Ext::Cpu, 4294963236, Some(1)),
+    (Ext::VlanTci, 4294963244, Some(65535)),
+    (Ext::VlanAvail, 4294963248, Some(4278190080)),
+    (Ext::PayOff, 4294963252, None),
+    (Ext::Rand, 4294963256, None),
+    (Ext::VlanTpid, 4294963260, Some(34984)),
 ];
 
-#[test]
-fn values_by_extension(rt: HostRuntime) {
-    let mut values = Values::new();
-    for (i, e) in EXTENSIONS.iter().enumerate() {
-        assert!(rt; values.value_of(*e).is_none());
-        let takes = !matches!(e, Ext::Nla | Ext::NlaN | Ext::PayOff | Ext::Rand);
-        assert_eq!(rt; values.set(*e, i as u32 + 100), takes);
-    }
-    for (i, e) in EXTENSIONS.iter().enumerate() {
-        let takes = !matches!(e, Ext::Nla | Ext::NlaN | Ext::PayOff | Ext::Rand);
-        assert!(rt; values.value_of(*e) == if takes { Some(i as u32 + 100) } else { None });
+/// Asserts how a load from a place ends, whatever its size: all bits of a value are loaded.
+fn assert_loads(
+    rt: &impl Abort,
+    alloc: impl Allocator + Copy,
+    values: &Values,
+    place: u32,
+    wanted: Outcome,
+) {
+    let asked = match wanted {
+        Outcome::Unknown(e) => Some(e),
+        _ => None,
+    };
+    for code in [32, 40, 48] {
+        let list = [(code, 0, 0, place), (22, 0, 0, 0)];
+        assert!(rt; outcome_with(rt, alloc, &list, &[7; 60], 60, values) == wanted);
+        assert!(rt; asks(insn(code, 0, 0, place), values) == asked);
     }
 }
 
-// A load of any size takes all bits of a value, and 0 is one.
+fn assert_value(
+    rt: &impl Abort,
+    alloc: impl Allocator + Copy,
+    values: &Values,
+    row: (Ext, u32, Option<u32>),
+) {
+    let (e, place, value) = row;
+    assert!(rt; values.value_of(e) == value);
+    let wanted = value.map_or(Outcome::Unknown(e), Outcome::Pass);
+    assert_loads(rt, alloc, values, place, wanted);
+}
+
 #[test]
-fn loads_of_values(rt: HostRuntime) {
-    let mut values = Values::new();
-    assert!(rt; values.set(Ext::Mark, 4294967295));
-    for code in [32, 40, 48] {
-        let mark = [(code, 0, 0, 4294963220), (22, 0, 0, 0)];
-        assert!(rt; outcome(&rt, rt.alloc(), &mark, b"", 0) == Outcome::Unknown(Ext::Mark));
-        assert!(rt;
-            outcome_with(&rt, rt.alloc(), &mark, b"", 0, &values) == Outcome::Pass(4294967295)
-        );
-        assert!(rt; asks(insn(code, 0, 0, 4294963220), &values).is_none());
+fn extensions_without_values(rt: HostRuntime) {
+    for (e, place, _value) in EXTENSIONS {
+        assert_value(&rt, rt.alloc(), &Values::new(), (e, place, None));
     }
-    assert!(rt; values.set(Ext::Mark, 0));
-    let mark = [(32, 0, 0, 4294963220), (22, 0, 0, 0)];
-    assert!(rt; outcome_with(&rt, rt.alloc(), &mark, b"", 0, &values) == Outcome::Fail);
-    assert!(rt;
-        outcome_with(&rt, rt.alloc(), &RANDOM, b"", 0, &values) == Outcome::Unknown(Ext::Rand)
-    );
-    assert!(rt; !values.set(Ext::Rand, 1));
+}
+
+#[test]
+fn extensions_with_values(rt: HostRuntime) {
+    let mut values = Values::new();
+    for (e, _place, value) in EXTENSIONS {
+        assert!(rt; values.value_of(e).is_none());
+        assert!(rt; values.set(e, value.unwrap_or(1)) == value.is_some());
+    }
+    for row in EXTENSIONS {
+        assert_value(&rt, rt.alloc(), &values, row);
+    }
+}
+
+// 0 is a value too, and takes the place of another.
+#[test]
+fn values_of_0(rt: HostRuntime) {
+    let mut values = Values::new();
+    assert!(rt; values.set(Ext::Mark, 5) && values.set(Ext::Mark, 0));
+    assert!(rt; values.value_of(Ext::Mark) == Some(0));
+    assert_loads(&rt, rt.alloc(), &values, 4294963220, Outcome::Fail);
 }
