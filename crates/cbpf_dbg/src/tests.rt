@@ -4,6 +4,7 @@
 //! passes ICMP packets. `RECORDS` are those of an ARP packet and an ICMP packet. Each test goes over
 //! both kinds of trail.
 
+mod breakpoints;
 mod conditions;
 mod places;
 mod runs;

@@ -1,0 +1,45 @@
+use super::*;
+
+fn set_each_breakpoint<T: Trail>(rt: &impl Abort, s: &mut Session<T>) {
+    for n in 0..4096u64 {
+        assert!(rt; s.breakpoint(n) == Ok(()));
+    }
+    assert!(rt; s.breakpoint(4096) == Err(SessionFault::NoInstruction));
+    assert!(rt; s.breakpoint_count() == 4096);
+    assert!(rt; s.breakpoint_at(0) == Some(0));
+    assert!(rt; s.breakpoint_at(4095) == Some(4095));
+    assert!(rt; s.breakpoint_at(4096) == None);
+}
+
+/// Of the breakpoints, takes out each second one, from that instruction on.
+fn delete_each_second<T: Trail>(rt: &impl Abort, s: &mut Session<T>, first: u64) {
+    for i in 0..2048u64 {
+        assert!(rt; s.delete(first.saturating_add(i.saturating_mul(2))) == Ok(true));
+    }
+    assert!(rt; s.delete(first) == Ok(false));
+}
+
+/// The first instruction and those in the middle are `tax`, and the last returns 1.
+fn sets_and_deletes_each<T: Trail>(rt: &impl Abort, alloc: Global, s: &mut Session<T>) {
+    s.load_program(long_program(rt, alloc, (7, 0, 0, 0), 4094, (7, 0, 0, 0), (6, 0, 0, 1)));
+    set_each_breakpoint(rt, s);
+    assert!(rt; assert_stop(rt, run(s, None), at(1, 1), 0, 0) == (Why::Break, 0));
+    assert!(rt; assert_stop(rt, run(s, None), at(1, 2), 1, 0) == (Why::Break, 1));
+    delete_each_second(rt, s, 0);
+    assert!(rt; s.breakpoint_count() == 2048);
+    assert!(rt; s.breakpoint_at(0) == Some(1));
+    assert!(rt; s.breakpoint_at(2047) == Some(4095));
+    assert!(rt; s.breakpoint_at(2048) == None);
+    assert!(rt; assert_stop(rt, run(s, None), at(1, 4), 3, 0) == (Why::Break, 2));
+    delete_each_second(rt, s, 1);
+    assert!(rt; s.breakpoint_count() == 0);
+    assert!(rt; s.breakpoint_at(0) == None);
+    assert!(rt; run(s, None) == (Ok(RunReply::Finished(counts(2, 0, 0))), 8189));
+}
+
+#[test]
+fn a_breakpoint_at_each_of_4096_instructions(rt: HostRuntime) {
+    let (mut marks, mut all) = sessions(&rt, rt.alloc(), &RULE, &[]);
+    sets_and_deletes_each(&rt, rt.alloc(), &mut marks);
+    sets_and_deletes_each(&rt, rt.alloc(), &mut all);
+}
