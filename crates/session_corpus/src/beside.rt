@@ -1,8 +1,10 @@
 //! A session and the plain program side by side: each command goes to both, and the replies are
 //! compared.
 
-use crate::corpus::{Code, Recorded, capture, program};
+use crate::corpus::{Code, Recorded, capture, long_program, program};
+use crate::given::{EXTENSIONS, Value};
 use crate::plain::Plain;
+use cbpf_code::Ext;
 use cbpf_dbg::{ListTrail, MarkTrail, Meter, Place, RunReply, Session, SessionFault, Trail};
 use std::alloc::Global;
 use std::process::Abort;
@@ -51,11 +53,17 @@ pub(crate) fn over_all_states(rt: &impl Abort, alloc: Global) -> Beside<ListTrai
 }
 
 impl<T: Trail> Beside<T> {
-    pub(crate) fn load_program(&mut self, rt: &impl Abort, list: &'static [Code]) {
+    pub(crate) fn load_program(&mut self, rt: &impl Abort, list: &[Code]) {
         self.session.load_program(program(rt, self.alloc, list));
         self.plain.load_program(rt, list);
         self.compare_places(rt);
         self.compare_breakpoints(rt);
+        self.compare_values(rt);
+    }
+
+    pub(crate) fn load_long_program(&mut self, rt: &impl Abort) {
+        let list = long_program(rt, self.alloc);
+        self.load_program(rt, list.as_slice());
     }
 
     pub(crate) fn load_capture(&mut self, rt: &impl Abort, packets: &'static [Recorded]) {
@@ -63,18 +71,40 @@ impl<T: Trail> Beside<T> {
         self.plain.load_capture(rt, packets);
         self.compare_places(rt);
         self.compare_breakpoints(rt);
+        self.compare_values(rt);
     }
 
-    /// `mark`, which each other command ends with.
+    /// `mark` and `place`, which each other command ends with.
     pub(crate) fn compare_places(&self, rt: &impl Abort) {
         assert!(rt; self.session.mark() == self.plain.mark());
+        assert!(rt; self.session.place() == self.plain.place);
+    }
+
+    pub(crate) fn compare_values(&self, rt: &impl Abort) {
+        for (e, _place) in EXTENSIONS {
+            assert!(rt; self.session.value_of(e) == self.plain.values.value_of(e));
+        }
+    }
+
+    pub(crate) fn set_value(&mut self, rt: &impl Abort, e: Ext, n: u32) {
+        let wanted = self.plain.set_value(rt, e, n);
+        assert!(rt; self.session.set_value(e, n) == wanted);
+        self.compare_places(rt);
+        self.compare_breakpoints(rt);
+        self.compare_values(rt);
+    }
+
+    pub(crate) fn set_values(&mut self, rt: &impl Abort, values: &[Value]) {
+        for (e, n) in values {
+            self.set_value(rt, *e, *n);
+        }
     }
 
     fn compare_breakpoints(&self, rt: &impl Abort) {
         let wanted = self.plain.breakpoints.as_slice();
         assert!(rt; self.session.breakpoint_count() == wanted.len());
-        for (i, n) in wanted.iter().enumerate() {
-            assert!(rt; self.session.breakpoint_at(i) == Some(*n));
+        for (i, b) in wanted.iter().enumerate() {
+            assert!(rt; self.session.breakpoint_at(i) == Some(b.instruction));
         }
         assert!(rt; self.session.breakpoint_at(wanted.len()) == None);
     }

@@ -1,7 +1,8 @@
 //! Long lists of commands, drawn from a fixed sequence of numbers.
 
 use crate::beside::{Beside, over_all_states, over_checkpoints};
-use crate::corpus::{CAPTURES, PROGRAMS};
+use crate::corpus::{CAPTURES, PROGRAMS, Recorded};
+use crate::given::EXTENSIONS;
 use cbpf_dbg::{Place, Trail};
 use std::process::Abort;
 
@@ -19,86 +20,157 @@ impl Xorshift {
         self.state ^= self.state.wrapping_shl(5);
         self.state.checked_rem(n).unwrap_or(0)
     }
-
-    fn long_below(&mut self, n: u32) -> u64 {
-        u64::from(self.below(n))
-    }
 }
 
-fn load<T: Trail>(rt: &impl Abort, b: &mut Beside<T>, draw: &mut Xorshift) {
-    if draw.below(2) == 0 {
-        let i = draw.below(10) as usize;
-        b.load_program(rt, PROGRAMS.get(i).expect(rt, "a program"));
-    } else {
-        let i = draw.below(6) as usize;
-        b.load_capture(rt, CAPTURES.get(i).expect(rt, "a capture"));
-    }
+/// The programs over which commands are drawn.
+#[derive(Clone, Copy, Debug)]
+enum Programs {
+    Short,
+    Long,
 }
 
-fn change_breakpoints<T: Trail>(rt: &impl Abort, b: &mut Beside<T>, draw: &mut Xorshift) {
-    match draw.below(12) {
-        0 => b.reset_breakpoints(rt),
-        1..=4 => b.delete(rt, draw.long_below(7)),
-        5 => b.breakpoint(rt, draw.long_below(7).saturating_add(4_294_967_296)),
-        _ => b.breakpoint(rt, draw.long_below(7)),
-    }
-}
-
-fn run<T: Trail>(rt: &impl Abort, b: &mut Beside<T>, draw: &mut Xorshift) {
-    let limit = match draw.below(8) {
-        n @ 0..=3 => Some(u64::from(n)),
-        4 => Some(u64::MAX),
-        _ => None,
-    };
-    let _reply = b.run(rt, limit);
-}
-
-fn step<T: Trail>(rt: &impl Abort, b: &mut Beside<T>, draw: &mut Xorshift) {
-    let n = match draw.below(40) {
-        0 => i64::MIN,
-        1 => i64::MAX,
-        drawn => i64::from(drawn % 12).saturating_sub(4),
-    };
-    b.step(rt, n);
-}
-
-fn go<T: Trail>(rt: &impl Abort, b: &mut Beside<T>, draw: &mut Xorshift) {
-    let packet = draw.long_below(5);
-    match draw.below(3) {
-        0 => b.select(rt, packet),
-        _ => b.resume(
-            rt,
-            Place {
-                packet,
-                step: draw.below(7),
-            },
-        ),
-    }
-}
-
-fn command<T: Trail>(rt: &impl Abort, b: &mut Beside<T>, draw: &mut Xorshift) {
-    match draw.below(40) {
-        0 => load(rt, b, draw),
-        1..=8 => change_breakpoints(rt, b, draw),
-        9..=19 => run(rt, b, draw),
-        20..=30 => step(rt, b, draw),
-        31..=36 => go(rt, b, draw),
-        37 => b.stops(rt),
-        38 => b.run_to_end(rt),
-        _ => b.compare_places(rt),
-    }
-}
-
-/// 500 commands with nothing loaded at first, then 500 over the longest program and capture.
-fn compare_commands<T: Trail>(rt: &impl Abort, b: &mut Beside<T>, seed: u32) {
-    let mut draw = Xorshift { state: seed };
-    for i in 0..1000 {
-        if i == 500 {
-            b.load_program(rt, PROGRAMS.get(2).expect(rt, "a program"));
-            b.load_capture(rt, CAPTURES.get(4).expect(rt, "a capture"));
+impl Programs {
+    /// The number of an instruction, which not each program has. Of the long program it is one of
+    /// few, so that many are named twice.
+    fn instruction(self, draw: &mut Xorshift) -> u64 {
+        match self {
+            Programs::Short => u64::from(draw.below(7)),
+            Programs::Long => u64::from(draw.below(21)).saturating_mul(7),
         }
-        command(rt, b, &mut draw);
     }
+
+    /// A step of a packet, which not each packet has.
+    fn step(self, draw: &mut Xorshift) -> u32 {
+        match self {
+            Programs::Short => draw.below(7),
+            Programs::Long => draw.below(140),
+        }
+    }
+
+    /// How far to step: forward twice as far as back, and of the long program into the next packet
+    /// but one.
+    fn entries(self, draw: &mut Xorshift) -> i64 {
+        match self {
+            Programs::Short => i64::from(draw.below(12)).saturating_sub(4),
+            Programs::Long => i64::from(draw.below(420)).saturating_sub(140),
+        }
+    }
+
+    fn load<T: Trail>(self, rt: &impl Abort, b: &mut Beside<T>, draw: &mut Xorshift) {
+        match self {
+            Programs::Short => {
+                let i = draw.below(14) as usize;
+                b.load_program(rt, PROGRAMS.get(i).expect(rt, "a program"));
+            }
+            Programs::Long => b.load_long_program(rt),
+        }
+    }
+}
+
+fn packets(rt: &impl Abort, i: usize) -> &'static [Recorded] {
+    CAPTURES.get(i).expect(rt, "a capture")
+}
+
+/// A list of commands in the making.
+#[derive(Drop)]
+struct Commands {
+    programs: Programs,
+    draw: Xorshift,
+}
+
+impl Commands {
+    fn load<T: Trail>(&mut self, rt: &impl Abort, b: &mut Beside<T>) {
+        if self.draw.below(2) == 0 {
+            self.programs.load(rt, b, &mut self.draw);
+        } else {
+            b.load_capture(rt, packets(rt, self.draw.below(6) as usize));
+        }
+    }
+
+    fn change_breakpoints<T: Trail>(&mut self, rt: &impl Abort, b: &mut Beside<T>) {
+        let kind = self.draw.below(12);
+        let n = self.programs.instruction(&mut self.draw);
+        match kind {
+            0 => b.reset_breakpoints(rt),
+            1..=4 => b.delete(rt, n),
+            5 => b.breakpoint(rt, n.saturating_add(4_294_967_296)),
+            _ => b.breakpoint(rt, n),
+        }
+    }
+
+    /// Also of an extension that takes no value. Then two steps, since the packet begins anew.
+    fn set_value<T: Trail>(&mut self, rt: &impl Abort, b: &mut Beside<T>) {
+        let i = self.draw.below(15) as usize;
+        let (e, _place) = EXTENSIONS.get(i).expect(rt, "an extension");
+        let n = match self.draw.below(4) {
+            0 => u32::MAX,
+            _ => self.draw.below(3),
+        };
+        b.set_value(rt, *e, n);
+        self.step(rt, b);
+        self.step(rt, b);
+    }
+
+    fn run<T: Trail>(&mut self, rt: &impl Abort, b: &mut Beside<T>) {
+        let limit = match self.draw.below(8) {
+            n @ 0..=3 => Some(u64::from(n)),
+            4 => Some(u64::MAX),
+            _ => None,
+        };
+        let _reply = b.run(rt, limit);
+    }
+
+    fn step<T: Trail>(&mut self, rt: &impl Abort, b: &mut Beside<T>) {
+        let n = match self.draw.below(40) {
+            0 => i64::MIN,
+            1 => i64::MAX,
+            _ => self.programs.entries(&mut self.draw),
+        };
+        b.step(rt, n);
+    }
+
+    fn go<T: Trail>(&mut self, rt: &impl Abort, b: &mut Beside<T>) {
+        let packet = u64::from(self.draw.below(5));
+        if self.draw.below(3) == 0 {
+            b.select(rt, packet);
+        } else {
+            let step = self.programs.step(&mut self.draw);
+            b.resume(rt, Place { packet, step });
+        }
+    }
+
+    fn one<T: Trail>(&mut self, rt: &impl Abort, b: &mut Beside<T>) {
+        match self.draw.below(42) {
+            0 => self.load(rt, b),
+            1..=8 => self.change_breakpoints(rt, b),
+            9..=19 => self.run(rt, b),
+            20..=30 => self.step(rt, b),
+            31..=36 => self.go(rt, b),
+            37 => b.stops(rt),
+            38 => b.run_to_end(rt),
+            39 | 40 => self.set_value(rt, b),
+            _ => b.compare_values(rt),
+        }
+    }
+
+    fn several<T: Trail>(&mut self, rt: &impl Abort, b: &mut Beside<T>, count: u32) {
+        for _i in 0..count {
+            self.one(rt, b);
+        }
+    }
+}
+
+/// 500 commands with nothing loaded at first, then 500 over the longest of the short programs and
+/// captures.
+fn compare_commands<T: Trail>(rt: &impl Abort, b: &mut Beside<T>, seed: u32) {
+    let mut commands = Commands {
+        programs: Programs::Short,
+        draw: Xorshift { state: seed },
+    };
+    commands.several(rt, b, 500);
+    b.load_program(rt, PROGRAMS.get(2).expect(rt, "a program"));
+    b.load_capture(rt, packets(rt, 4));
+    commands.several(rt, b, 500);
 }
 
 #[test]
@@ -112,5 +184,58 @@ fn commands_over_checkpoints(rt: HostRuntime) {
 fn commands_over_all_states(rt: HostRuntime) {
     for seed in [2463534242, 1, 77777] {
         compare_commands(&rt, &mut over_all_states(&rt, rt.alloc()), seed);
+    }
+}
+
+/// 200 commands over each program that loads an extension with a value, which has none at first.
+fn compare_values<T: Trail>(rt: &impl Abort, b: &mut Beside<T>, i: u32) {
+    let mut commands = Commands {
+        programs: Programs::Short,
+        draw: Xorshift {
+            state: 2463534242u32.wrapping_add(i),
+        },
+    };
+    let program = (i % 4).saturating_add(10) as usize;
+    b.load_program(rt, PROGRAMS.get(program).expect(rt, "a program"));
+    b.load_capture(rt, packets(rt, 4));
+    commands.several(rt, b, 200);
+}
+
+#[test]
+fn values_over_checkpoints(rt: HostRuntime) {
+    for i in 0..16 {
+        compare_values(&rt, &mut over_checkpoints(rt.alloc()), i);
+    }
+}
+
+#[test]
+fn values_over_all_states(rt: HostRuntime) {
+    for i in 0..16 {
+        compare_values(&rt, &mut over_all_states(&rt, rt.alloc()), i);
+    }
+}
+
+/// 1000 commands over the long program.
+fn compare_long_packets<T: Trail>(rt: &impl Abort, b: &mut Beside<T>, seed: u32) {
+    let mut commands = Commands {
+        programs: Programs::Long,
+        draw: Xorshift { state: seed },
+    };
+    b.load_long_program(rt);
+    b.load_capture(rt, packets(rt, 4));
+    commands.several(rt, b, 1000);
+}
+
+#[test]
+fn long_packets_over_checkpoints(rt: HostRuntime) {
+    for seed in [2463534242, 1, 77777] {
+        compare_long_packets(&rt, &mut over_checkpoints(rt.alloc()), seed);
+    }
+}
+
+#[test]
+fn long_packets_over_all_states(rt: HostRuntime) {
+    for seed in [2463534242, 1, 77777] {
+        compare_long_packets(&rt, &mut over_all_states(&rt, rt.alloc()), seed);
     }
 }

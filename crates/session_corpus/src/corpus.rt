@@ -1,6 +1,7 @@
 //! Small programs and captures.
 
-use cbpf_code::{Insn, Program, check};
+use crate::given::Value;
+use cbpf_code::{Ext, Insn, Program, check};
 use pcap_classic::Capture;
 use std::alloc::Global;
 use std::process::Abort;
@@ -71,7 +72,35 @@ const SLOTS: &[Code] = &[
 /// `ja l2`, `ret #1`, `ret #0`: an instruction that no packet reaches.
 const UNREACHED: &[Code] = &[(5, 0, 0, 1), (6, 0, 0, 1), (6, 0, 0, 0)];
 
-pub(crate) const PROGRAMS: [&[Code]; 10] = [
+/// `ld mark`, `ret a`.
+const MARK: &[Code] = &[(32, 0, 0, 4294963220), (22, 0, 0, 0)];
+
+/// `ldb [0]`, `jeq #7, l2, l3`, `ldb proto`, `ret a`: one way loads an extension.
+const PROTO_BRANCH: &[Code] = &[
+    (48, 0, 0, 0),
+    (21, 0, 1, 7),
+    (48, 0, 0, 4294963200),
+    (22, 0, 0, 0),
+];
+
+/// `ld vlan_avail`, `jeq #1, l2, l3`, `ldh vlan_tci`, `ret a`: one extension's value leads to another.
+const VLAN: &[Code] = &[
+    (32, 0, 0, 4294963248),
+    (21, 0, 1, 1),
+    (40, 0, 0, 4294963244),
+    (22, 0, 0, 0),
+];
+
+/// `ld mark`, `tax`, `ldb vlan_tci`, `div x`, `ret a`.
+const MARK_DIVIDES: &[Code] = &[
+    (32, 0, 0, 4294963220),
+    (7, 0, 0, 0),
+    (48, 0, 0, 4294963244),
+    (60, 0, 0, 0),
+    (22, 0, 0, 0),
+];
+
+pub(crate) const PROGRAMS: [&[Code]; 14] = [
     ONE_RETURN,
     STRAIGHT,
     BOTH_BRANCHES,
@@ -82,6 +111,51 @@ pub(crate) const PROGRAMS: [&[Code]; 10] = [
     RANDOM_BRANCH,
     SLOTS,
     UNREACHED,
+    MARK,
+    PROTO_BRANCH,
+    VLAN,
+    MARK_DIVIDES,
+];
+
+/// The instruction at an index of the long program: `ldb [0]`; then eights of which the fourth is
+/// `st M[i]`, the last two are `ldx M[0]`, `add x` and the others `add #1`; four times `jset #1`, which
+/// skips one where A is even, of which the first skips `ldh vlan_tci`; near the end `ld mark`; and last
+/// `ret a`.
+fn long_program_at(i: u32) -> Code {
+    match (i, i % 8) {
+        (0, _) => (48, 0, 0, 0),
+        (32 | 64 | 96 | 128, _) => (69, 0, 1, 1),
+        (33, _) => (40, 0, 0, 4294963244),
+        (133, _) => (32, 0, 0, 4294963220),
+        (136, _) => (22, 0, 0, 0),
+        (_, 3) => (2, 0, 0, i / 8 % 16),
+        (_, 6) => (97, 0, 0, 0),
+        (_, 7) => (12, 0, 0, 0),
+        _ => (4, 0, 0, 1),
+    }
+}
+
+/// 137 instructions. Where a packet's first byte is odd, it executes more than 128 of them, also
+/// without values; where it is even, it asks for `vlan_tci`. So there are more than two checkpoints,
+/// of which there is one for 64 entries.
+pub(crate) fn long_program(rt: &impl Abort, alloc: Global) -> Vec<Code> {
+    let mut all = Vec::new(alloc);
+    for i in 0..137 {
+        all.push(long_program_at(i)).expect(rt, "memory");
+    }
+    all
+}
+
+/// Values with which all of the programs' extensions have one, but for `rand`, or only some.
+pub(crate) const VALUES: [&[Value]; 3] = [
+    &[
+        (Ext::Mark, 7),
+        (Ext::Proto, 2048),
+        (Ext::VlanAvail, 1),
+        (Ext::VlanTci, 4294967295),
+    ],
+    &[(Ext::VlanAvail, 1), (Ext::Proto, 0)],
+    &[(Ext::Mark, 0), (Ext::VlanTci, 5), (Ext::VlanAvail, 0)],
 ];
 
 pub(crate) const CAPTURES: [&[Recorded]; 6] = [

@@ -1,6 +1,8 @@
-//! What the corpus reaches: each way in which a packet ends.
+//! What the corpus reaches: each way in which a packet ends, and values without which one would end
+//! otherwise.
 
-use crate::corpus::{CAPTURES, Code, PROGRAMS, program};
+use crate::corpus::{CAPTURES, Code, PROGRAMS, VALUES, program};
+use crate::given::{Given, Value};
 use crate::joined::Joined;
 use cbpf_machine::Turn;
 use std::alloc::Global;
@@ -16,6 +18,16 @@ struct Ends {
 }
 
 impl Ends {
+    fn none() -> Ends {
+        Ends {
+            passes: false,
+            returns_0: false,
+            outside: false,
+            zero_divisor: false,
+            unknown: false,
+        }
+    }
+
     fn add(&mut self, end: &Turn) {
         match end {
             Turn::Next(_) => (),
@@ -43,16 +55,36 @@ impl Ends {
 
 #[test]
 fn packets_that_end_in_each_way(rt: HostRuntime) {
-    let mut ends = Ends {
-        passes: false,
-        returns_0: false,
-        outside: false,
-        zero_divisor: false,
-        unknown: false,
-    };
+    let mut ends = Ends::none();
     for list in PROGRAMS {
         ends.add_program(&rt, rt.alloc(), list);
     }
     assert!(rt; ends.passes && ends.returns_0);
     assert!(rt; ends.outside && ends.zero_divisor && ends.unknown);
+}
+
+fn given(rt: &impl Abort, alloc: Global, values: &[Value]) -> Given {
+    let mut given = Given::none(alloc);
+    for (e, n) in values {
+        given.set(rt, *e, *n).ok().expect(rt, "a value");
+    }
+    given
+}
+
+/// The four programs that load extensions which take values, and which of them still ask for one.
+fn assert_asks(rt: &impl Abort, alloc: Global, values: &[Value], wanted: [bool; 4]) {
+    let given = given(rt, alloc, values);
+    for (list, asks) in PROGRAMS.iter().skip(10).zip(wanted) {
+        let mut ends = Ends::none();
+        ends.add_program(rt, alloc, given.put_into(rt, alloc, list).as_slice());
+        assert!(rt; ends.unknown == asks);
+    }
+}
+
+#[test]
+fn programs_that_ask_for_values(rt: HostRuntime) {
+    assert_asks(&rt, rt.alloc(), &[], [true, true, true, true]);
+    assert_asks(&rt, rt.alloc(), VALUES[0], [false, false, false, false]);
+    assert_asks(&rt, rt.alloc(), VALUES[1], [true, false, true, true]);
+    assert_asks(&rt, rt.alloc(), VALUES[2], [false, true, false, false]);
 }

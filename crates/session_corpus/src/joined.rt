@@ -1,5 +1,6 @@
 //! The traces of all packets, joined into one list.
 
+use crate::breakpoint::Breakpoint;
 use crate::corpus::Recorded;
 use cbpf_code::{Ext, Program};
 use cbpf_dbg::{Counts, Meter, Place, State, Stop, Why};
@@ -18,8 +19,17 @@ pub(crate) struct Entry {
 }
 
 impl Entry {
-    pub(crate) fn is_hit(&self, breakpoints: &[u32]) -> bool {
-        self.asked.is_some() || breakpoints.contains(&self.state.pc())
+    fn carries(&self, breakpoints: &[Breakpoint]) -> bool {
+        for b in breakpoints {
+            if b.holds_at(&self.state) {
+                return true;
+            }
+        }
+        false
+    }
+
+    pub(crate) fn is_hit(&self, breakpoints: &[Breakpoint]) -> bool {
+        self.asked.is_some() || self.carries(breakpoints)
     }
 
     pub(crate) fn stop(&self, why: Why) -> Stop {

@@ -1,10 +1,12 @@
 //! Sessions compared with a plain program, which joins the traces of all packets into one list and
 //! filters it: over small programs and captures, from each place and with each set of breakpoints, and
-//! over long lists of commands.
+//! over long lists of commands; with and without values for extensions.
 #![tactic(auto)]
 
 #[cfg(test)]
 mod beside;
+#[cfg(test)]
+mod breakpoint;
 #[cfg(test)]
 mod commands;
 #[cfg(test)]
@@ -13,6 +15,8 @@ mod corpus;
 mod each_place;
 #[cfg(test)]
 mod ends;
+#[cfg(test)]
+mod given;
 #[cfg(test)]
 mod joined;
 #[cfg(test)]

@@ -1,7 +1,10 @@
 //! What a session is to answer, told from the joined list.
 
+use crate::breakpoint::Breakpoint;
 use crate::corpus::{Code, Recorded, program};
+use crate::given::Given;
 use crate::joined::{Entry, Joined, is_before};
+use cbpf_code::Ext;
 use cbpf_dbg::{Counts, Place, RunReply, SessionFault, Stop, Why};
 use std::alloc::Global;
 use std::process::Abort;
@@ -12,11 +15,12 @@ const START: Place = Place { packet: 1, step: 0 };
 #[derive(Drop)]
 pub(crate) struct Plain {
     alloc: Global,
-    program: Option<&'static [Code]>,
+    program: Option<Vec<Code>>,
     capture: Option<&'static [Recorded]>,
     /// The joined list, empty until both are loaded.
     pub(crate) joined: Joined,
-    pub(crate) breakpoints: Vec<u32>,
+    pub(crate) values: Given,
+    pub(crate) breakpoints: Vec<Breakpoint>,
     origin: u64,
     pub(crate) place: Place,
 }
@@ -28,23 +32,29 @@ impl Plain {
             program: None,
             capture: None,
             joined: Joined::none(alloc),
+            values: Given::none(alloc),
             breakpoints: Vec::new(alloc),
             origin: 1,
             place: START,
         }
     }
 
-    fn restart(&mut self, rt: &impl Abort) {
-        if let (Some(list), Some(packets)) = (self.program, self.capture) {
-            let p = program(rt, self.alloc, list);
+    fn join(&mut self, rt: &impl Abort) {
+        if let (Some(list), Some(packets)) = (&self.program, self.capture) {
+            let list = self.values.put_into(rt, self.alloc, list.as_slice());
+            let p = program(rt, self.alloc, list.as_slice());
             self.joined = Joined::of(rt, self.alloc, &p, packets);
         }
+    }
+
+    fn restart(&mut self, rt: &impl Abort) {
+        self.join(rt);
         self.place = START;
         self.origin = 1;
     }
 
-    pub(crate) fn load_program(&mut self, rt: &impl Abort, list: &'static [Code]) {
-        self.program = Some(list);
+    pub(crate) fn load_program(&mut self, rt: &impl Abort, list: &[Code]) {
+        self.program = Some(list.to_vec(self.alloc).expect(rt, "memory"));
         self.breakpoints.clear();
         self.restart(rt);
     }
@@ -54,20 +64,43 @@ impl Plain {
         self.restart(rt);
     }
 
+    /// Begins the place's packet anew, with which the counts begin too.
+    pub(crate) fn set_value(
+        &mut self,
+        rt: &impl Abort,
+        e: Ext,
+        n: u32,
+    ) -> Result<(), SessionFault> {
+        self.values.set(rt, e, n)?;
+        self.join(rt);
+        self.origin = self.place.packet;
+        self.place.step = 0;
+        Ok(())
+    }
+
     /// The number of an instruction of the program.
     fn instruction(&self, n: u64) -> Result<u32, SessionFault> {
-        let list = self.program.ok_or(SessionFault::NoProgram)?;
+        let list = self.program.as_ref().ok_or(SessionFault::NoProgram)?;
         match u32::try_from(n) {
             Ok(i) if n < list.len() as u64 => Ok(i),
             _ => Err(SessionFault::NoInstruction),
         }
     }
 
-    pub(crate) fn breakpoint(&mut self, rt: &impl Abort, n: u64) -> Result<(), SessionFault> {
-        let i = self.instruction(n)?;
-        if !self.breakpoints.contains(&i) {
-            self.breakpoints.push(i).expect(rt, "memory");
+    /// Puts a breakpoint in the place of the one at its instruction, or last.
+    fn put(&mut self, rt: &impl Abort, new: Breakpoint) {
+        for b in self.breakpoints.iter_mut() {
+            if b.instruction == new.instruction {
+                *b = new;
+                return;
+            }
         }
+        self.breakpoints.push(new).expect(rt, "memory");
+    }
+
+    pub(crate) fn breakpoint(&mut self, rt: &impl Abort, n: u64) -> Result<(), SessionFault> {
+        let instruction = self.instruction(n)?;
+        self.put(rt, Breakpoint { instruction });
         Ok(())
     }
 
@@ -75,7 +108,7 @@ impl Plain {
         let i = self.instruction(n)?;
         let mut others = Vec::new(self.alloc);
         for b in &self.breakpoints {
-            if *b != i {
+            if b.instruction != i {
                 others.push(*b).expect(rt, "memory");
             }
         }
@@ -124,10 +157,10 @@ impl Plain {
         RunReply::Stopped(stop)
     }
 
-    /// Goes behind the last packet, and so back to the start.
+    /// Goes on after the last packet, and so back to the start.
     fn finish(&mut self) -> Counts {
-        let behind = self.joined.packets().saturating_add(1);
-        let counts = self.joined.counts(self.origin, behind);
+        let after = self.joined.packets().saturating_add(1);
+        let counts = self.joined.counts(self.origin, after);
         self.place = START;
         self.origin = 1;
         counts
