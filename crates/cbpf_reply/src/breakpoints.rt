@@ -26,14 +26,14 @@ fn write_condition<W: Write>(w: &mut W, when: When) -> Result<(), WriteFault>
 
 /// The line of an instruction, and a condition.
 #[tactic(auto, using(cbpf_code::proofs::WrittenLemmas::pairs))]
-fn write_ended_line<W: Write, A: Allocator>(
+fn write_line_with_condition<W: Write, A: Allocator>(
     w: &mut W,
     program: &Program<A>,
     n: u32,
     when: When,
 ) -> Result<(), WriteFault>
     requires { n < length program.now }
-    ensures { Wrote (W.contents w.old) (W.contents w.new) result (spec.ended_line program.now n when) }
+    ensures { Wrote (W.contents w.old) (W.contents w.new) result (spec.line_with_condition program.now n when) }
 {
     write_line(w, program, n)?;
     write_condition(w, when)
@@ -63,7 +63,7 @@ pub fn write_breakpoint<W: Write, A: Allocator>(
     ensures { Wrote (W.contents w.old) (W.contents w.new) result (spec.set_text program.now n when) }
 {
     write_set_head(w)?;
-    write_ended_line(w, program, n, when)
+    write_line_with_condition(w, program, n, when)
 }
 
 /// A breakpoint in the list of them.
@@ -81,7 +81,7 @@ fn write_listed<W: Write>(w: &mut W, n: u32, when: When) -> Result<(), WriteFaul
 }
 
 /// The breakpoints of a session.
-fn write_each<W: Write, T: Trail, A: Allocator>(
+fn write_all_listed<W: Write, T: Trail, A: Allocator>(
     w: &mut W,
     session: &Session<T, A>,
 ) -> Result<(), WriteFault>
@@ -103,7 +103,7 @@ fn write_list<W: Write, T: Trail, A: Allocator>(
 ) -> Result<(), WriteFault>
     ensures { Wrote (W.contents w.old) (W.contents w.new) result (spec.list_text session.now.breakpoints) }
 {
-    write_each(w, session)?;
+    write_all_listed(w, session)?;
     write_bytes(w, b"\n")
 }
 

@@ -21,7 +21,7 @@ pub(crate) fn write_with_number<W: Write>(
     write_parts(w, &[before, number.format(n).as_bytes(), after])
 }
 
-/// Writes the line that tells a refusal, with its number S1 to S9, or that there was no memory.
+/// Writes the line of a refusal, with its number S1 to S9, or that there was no memory.
 ///
 /// # Errors
 ///

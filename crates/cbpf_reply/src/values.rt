@@ -8,7 +8,7 @@ use cbpf_code::{Ext, WriteFault, ext_name, write_parts};
 use itoa::Buffer;
 use std::io::Write;
 
-/// Writes the line that tells the value that an extension was given.
+/// Writes the reply to `value`.
 ///
 /// # Errors
 ///

@@ -5,8 +5,8 @@ use Rattle.cbpf_code.proofs.WrittenLemmas.{appended-nil, loop-next, loop-stop, l
 use Rattle.cbpf_dbg.specs.declared.breakpoint.When.TheVariants.{Always}
 use Rattle.cbpf_reply.specs.Texts as spec
 use Rattle.cbpf_reply.proofs.ListedLemmas.{listed_at, number_at, condition_at}
-use Rattle.cbpf_reply.proofs.breakpoints.write_each.Goals.{in_default-via-in-Some+in_default, in_default-via-in_default}
-use Rattle.cbpf_reply.proofs.breakpoints.write_each.Goals as goal
+use Rattle.cbpf_reply.proofs.breakpoints.write_all_listed.Goals.{in_default-via-in-Some+in_default, in_default-via-in_default}
+use Rattle.cbpf_reply.proofs.breakpoints.write_all_listed.Goals as goal
 
 pub loop-i-init : goal.loop-i-init
 loop-i-init g c = appended-nil _
