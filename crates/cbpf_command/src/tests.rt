@@ -166,6 +166,7 @@ fn values_are_of_extensions(rt: HostRuntime) {
         b"value".as_slice(),
         b"value mark",
         b"value mark 4294967296",
+        b"value rand 4294967296",
         b"value mark -1",
         b"value mark 1 2",
         b"value mark 1 2 3",

@@ -72,30 +72,67 @@ const NOT_SET: &[u8] = b"bpf: 1 instructions\nerror: out of memory\nbreakpoints:
 
 const NO_PROGRAM: &[u8] = b"error: out of memory\nerror: S1 no program\nbreakpoints:\n";
 
+const CONDITION: &[u8] = b"load bpf 1,6 0 0 1\nbreakpoint 0 a 5\nbreakpoint\nquit\n";
+
+const CONDITION_SET: &[u8] =
+    b"bpf: 1 instructions\nbreakpoint at: l0:\tret #0x1 when a = 5\nbreakpoints: 0(a=5)\n";
+
+const REPLACED: &[u8] = b"load bpf 1,6 0 0 1\nbreakpoint 0\nbreakpoint 0 x 7\nbreakpoint\nquit\n";
+
+const REPLACED_SET: &[u8] = b"bpf: 1 instructions\n\
+breakpoint at: l0:\tret #0x1\n\
+breakpoint at: l0:\tret #0x1 when x = 7\n\
+breakpoints: 0(x=7)\n";
+
+const REPLACED_NOT_SET: &[u8] = b"bpf: 1 instructions\n\
+error: out of memory\n\
+breakpoint at: l0:\tret #0x1 when x = 7\n\
+breakpoints: 0(x=7)\n";
+
+const REPLACED_NO_PROGRAM: &[u8] = b"error: out of memory\n\
+error: S1 no program\n\
+error: S1 no program\n\
+breakpoints:\n";
+
+// A script, and its replies: with memory, where the first breakpoint finds none, and where the program
+// finds none. In no script is the condition that replaces another one refused: it grows nothing.
 #[test]
 fn a_breakpoint_that_finds_no_memory_is_not_set(rt: HostRuntime) {
-    let mut not_set = 0u64;
-    for nth in 1..100u64 {
-        let mut files = MemoryFiles::new(rt.alloc());
-        let alloc = RefusingAllocator::refusing(rt.alloc(), nth);
-        let mut reader = BREAKPOINT;
-        let mut writer = FaultyWriter::<256>::new(Fault::Fails, 0);
-        let result = debug(&alloc, &mut reader, &mut writer, &mut files);
-        let text = writer.written();
-        match result {
-            Ok(()) => {
-                if alloc.left() > 0 {
-                    assert_eq!(rt; text, SET);
-                    assert!(rt; not_set > 0);
-                    return;
+    for (script, set, not_set, no_program) in [
+        (BREAKPOINT, SET, NOT_SET, NO_PROGRAM),
+        (CONDITION, CONDITION_SET, NOT_SET, NO_PROGRAM),
+        (
+            REPLACED,
+            REPLACED_SET,
+            REPLACED_NOT_SET,
+            REPLACED_NO_PROGRAM,
+        ),
+    ] {
+        let mut times_not_set = 0u64;
+        let mut is_whole = false;
+        for nth in 1..100u64 {
+            let mut files = MemoryFiles::new(rt.alloc());
+            let alloc = RefusingAllocator::refusing(rt.alloc(), nth);
+            let mut reader = script;
+            let mut writer = FaultyWriter::<256>::new(Fault::Fails, 0);
+            let result = debug(&alloc, &mut reader, &mut writer, &mut files);
+            let text = writer.written();
+            match result {
+                Ok(()) => {
+                    if alloc.left() > 0 {
+                        assert_eq!(rt; text, set);
+                        is_whole = true;
+                        break;
+                    }
+                    assert!(rt; text == not_set || text == no_program);
+                    if text == not_set {
+                        times_not_set = times_not_set.saturating_add(1);
+                    }
                 }
-                assert!(rt; text == NOT_SET || text == NO_PROGRAM);
-                if text == NOT_SET {
-                    not_set = not_set.saturating_add(1);
-                }
+                Err(fault) => assert_eq!(rt; fault, ToolFault::Memory),
             }
-            Err(fault) => assert_eq!(rt; fault, ToolFault::Memory),
         }
+        assert!(rt; is_whole);
+        assert!(rt; times_not_set > 0);
     }
-    assert!(rt; false);
 }
