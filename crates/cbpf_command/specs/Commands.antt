@@ -116,7 +116,7 @@ abbrev pub resume_by : List (List ℕ) → Option Spelled
 resume_by (p ∷ s ∷ []) = by_both (λ packet s. Some (resume packet s)) (number (2 ^ 64 - 1) p) (number (2 ^ 32 - 1) s)
 resume_by _ = None
 
--- the one of some extensions that has a name
+-- the extension of a table that has this name
 abbrev pub named_in : List (ℕ × Ext) → List ℕ → Option Ext
 named_in [] w = None
 named_in (row ∷ rows) w = if bytes_eq w (ext_name row.1) then Some row.1 else named_in rows w

@@ -38,7 +38,7 @@ after_step p s k h = grind (arith, nat_tests)
 not_after_step : (p s k : ℕ) → k ≤ s → is_after (place_at p s) (place_at p k) ≡ false
 not_after_step p s k h = grind (arith, nat_tests)
 
--- the place's test at the head of a machine
+-- the place's test at the head of a list
 later-yes : (p s : ℕ) (e : Entry) (es : List Entry) → is_after (place_at p s) e.place ≡ true → later p s (e ∷ es) ≡ e ∷ later p s es
 later-yes p s e es h = rw h
 

@@ -46,7 +46,7 @@ joined machine capture = joined_from machine 1 capture
 abbrev pub is_after : Place → Place → Bool
 is_after a b = nat_lt a.packet b.packet || (nat_eq a.packet b.packet && nat_lt a.step b.step)
 
--- the members of the joined machine after a place
+-- the members of the joined list after a place
 abbrev pub ahead : Machine → List Record → Place → List Entry
 ahead machine capture place = filter (λ e. is_after place e.place) (joined machine capture)
 

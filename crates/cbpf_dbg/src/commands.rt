@@ -18,7 +18,7 @@ use cbpf_machine::{Meter, Trail};
 use std::alloc::Allocator;
 
 impl<T: Trail, A: Allocator> Session<T, A> {
-    /// The place, for a later [`Session::resume`].
+    /// The place, for a later [`Session::resume`] with the same program, capture and values.
     ///
     /// # Errors
     ///
@@ -88,7 +88,8 @@ impl<T: Trail, A: Allocator> Session<T, A> {
         Ok(reply)
     }
 
-    /// Goes to a place that [`Session::mark`] told, and counts from its packet.
+    /// Goes to a place that [`Session::mark`] gave with the same program, capture and values, and
+    /// counts from its packet.
     ///
     /// The meter has spent at most 2 to the 127 before; it rises by at most twice the step.
     ///

@@ -5,7 +5,7 @@ ghost use Rattle.cbpf_machine.specs.Values as spec;
 use cbpf_code::{Ext, ext_offset};
 use std::marker::Model;
 
-/// Values for extensions: a load of an extension that has one gives it, and goes on.
+/// Values for extensions: a load of an extension that has one loads it into A, and the packet goes on.
 #[derive(Clone, Copy, Debug, PartialEq, Eq)]
 pub struct Values {
     places: [Option<u32>; 16],
@@ -30,8 +30,8 @@ fn place_of(e: Ext) -> usize
     ext_offset(e) as usize / 4
 }
 
-/// Whether the extension has a value that can be set: what a search in the packet finds, and what is
-/// random, has none.
+/// Whether the extension takes a value. `nla`, `nlan` and `poff` are found by a search in the packet, and
+/// `rand` is random: these take no value.
 fn takes_value(e: Ext) -> bool
     ensures { result ≡ spec.takes_value e }
 {

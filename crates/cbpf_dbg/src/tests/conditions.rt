@@ -62,7 +62,7 @@ fn a_condition_replaced(rt: HostRuntime) {
     replaces_conditions(&rt, &mut all);
 }
 
-/// The breakpoint at `n` with this condition: whether a run stops there before the extension.
+/// Whether a run stops at `n` by a breakpoint with this condition.
 fn stops_at<T: Trail>(rt: &impl Abort, s: &mut Session<T>, n: u64, when: When) -> bool {
     s.reset_breakpoints();
     assert!(rt; s.select(1) == Ok(()));
