@@ -5,7 +5,7 @@ use crate::corpus::{Code, Recorded, capture, long_program, program};
 use crate::given::{EXTENSIONS, Value};
 use crate::plain::Plain;
 use cbpf_code::Ext;
-use cbpf_dbg::{ListTrail, MarkTrail, Meter, Place, RunReply, Session, SessionFault, Trail};
+use cbpf_dbg::{ListTrail, MarkTrail, Meter, Place, RunReply, Session, SessionFault, Trail, When};
 use std::alloc::Global;
 use std::process::Abort;
 
@@ -105,13 +105,24 @@ impl<T: Trail> Beside<T> {
         assert!(rt; self.session.breakpoint_count() == wanted.len());
         for (i, b) in wanted.iter().enumerate() {
             assert!(rt; self.session.breakpoint_at(i) == Some(b.instruction));
+            assert!(rt; self.session.breakpoint_when_at(i) == Some(b.when));
         }
-        assert!(rt; self.session.breakpoint_at(wanted.len()) == None);
+        for beyond in [wanted.len(), usize::MAX] {
+            assert!(rt; self.session.breakpoint_at(beyond) == None);
+            assert!(rt; self.session.breakpoint_when_at(beyond) == None);
+        }
     }
 
     pub(crate) fn breakpoint(&mut self, rt: &impl Abort, n: u64) {
         let wanted = self.plain.breakpoint(rt, n);
         assert!(rt; self.session.breakpoint(n) == wanted);
+        self.compare_breakpoints(rt);
+        self.compare_places(rt);
+    }
+
+    pub(crate) fn breakpoint_when(&mut self, rt: &impl Abort, n: u64, when: When) {
+        let wanted = self.plain.breakpoint_when(rt, n, when);
+        assert!(rt; self.session.breakpoint_when(n, when) == wanted);
         self.compare_breakpoints(rt);
         self.compare_places(rt);
     }

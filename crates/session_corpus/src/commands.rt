@@ -3,7 +3,7 @@
 use crate::beside::{Beside, over_all_states, over_checkpoints};
 use crate::corpus::{CAPTURES, PROGRAMS, Recorded};
 use crate::given::EXTENSIONS;
-use cbpf_dbg::{Place, Trail};
+use cbpf_dbg::{Place, Trail, When};
 use std::process::Abort;
 
 /// Marsaglia's xorshift with the shifts 13, 17 and 5.
@@ -71,6 +71,9 @@ fn packets(rt: &impl Abort, i: usize) -> &'static [Recorded] {
     CAPTURES.get(i).expect(rt, "a capture")
 }
 
+/// Numbers for conditions, of which some are in registers of the programs and some are not.
+const COMPARED: [u32; 9] = [0, 1, 2, 7, 8, 9, 255, 3000000000, 4294967295];
+
 /// A list of commands in the making.
 #[derive(Drop)]
 struct Commands {
@@ -87,14 +90,33 @@ impl Commands {
         }
     }
 
+    /// A condition for instruction `n`: on one of a few numbers, or on what a register has there in a
+    /// packet.
+    fn when<T: Trail>(&mut self, rt: &impl Abort, b: &Beside<T>, n: u64) -> When {
+        let i = self.draw.below(9) as usize;
+        let v = *COMPARED.get(i).expect(rt, "a number");
+        let packet = u64::from(self.draw.below(3)).saturating_add(1);
+        match (self.draw.below(6), b.plain.joined.state_before(packet, n)) {
+            (0, _) => When::Always,
+            (1, Some(before)) => When::A(before.a()),
+            (2, Some(before)) => When::X(before.x()),
+            (1 | 3 | 4, _) => When::A(v),
+            _ => When::X(v),
+        }
+    }
+
     fn change_breakpoints<T: Trail>(&mut self, rt: &impl Abort, b: &mut Beside<T>) {
-        let kind = self.draw.below(12);
+        let kind = self.draw.below(16);
         let n = self.programs.instruction(&mut self.draw);
+        let far = n.saturating_add(4_294_967_296);
+        let when = self.when(rt, b, n);
         match kind {
             0 => b.reset_breakpoints(rt),
             1..=4 => b.delete(rt, n),
-            5 => b.breakpoint(rt, n.saturating_add(4_294_967_296)),
-            _ => b.breakpoint(rt, n),
+            5 => b.breakpoint(rt, far),
+            6 => b.breakpoint_when(rt, far, when),
+            7..=9 => b.breakpoint(rt, n),
+            _ => b.breakpoint_when(rt, n, when),
         }
     }
 

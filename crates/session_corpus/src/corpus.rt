@@ -2,6 +2,7 @@
 
 use crate::given::Value;
 use cbpf_code::{Ext, Insn, Program, check};
+use cbpf_dbg::When;
 use pcap_classic::Capture;
 use std::alloc::Global;
 use std::process::Abort;
@@ -157,6 +158,9 @@ pub(crate) const VALUES: [&[Value]; 3] = [
     &[(Ext::VlanAvail, 1), (Ext::Proto, 0)],
     &[(Ext::Mark, 0), (Ext::VlanTci, 5), (Ext::VlanAvail, 0)],
 ];
+
+/// Conditions that hold of some packets: the first byte of one that has any is 0, 6 or 7.
+pub(crate) const CONDITIONS: [When; 4] = [When::Always, When::A(7), When::X(0), When::X(7)];
 
 pub(crate) const CAPTURES: [&[Recorded]; 6] = [
     &[],

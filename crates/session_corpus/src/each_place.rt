@@ -1,9 +1,10 @@
-//! Each place of each capture, with each set of breakpoints; of the long program with a few sets.
+//! Each place of each capture, with each set of breakpoints, and of some programs with each set of
+//! conditions; of the long program with a few sets.
 
 use crate::beside::{Beside, over_all_states, over_checkpoints};
-use crate::corpus::{CAPTURES, Code, PROGRAMS, VALUES};
+use crate::corpus::{CAPTURES, CONDITIONS, Code, PROGRAMS, Recorded, VALUES};
 use cbpf_code::Ext;
-use cbpf_dbg::{Place, RunReply, Trail};
+use cbpf_dbg::{Place, RunReply, Trail, When};
 use std::process::Abort;
 
 /// Runs one by one until the end, which gives each hit after the place once and in order, and then
@@ -198,15 +199,99 @@ fn extensions_with_values_over_all_states(rt: HostRuntime) {
     }
 }
 
-/// Breakpoints of the long program: none; and at what comes before a checkpoint, at a jump, at what it
-/// skips and at the return.
-const LONG_SETS: [&[u64]; 2] = [&[], &[63, 64, 65, 136]];
+/// Sets conditions at the first instructions, by the digits of a number to the base 5. Each one takes
+/// the place of the last; where its digit is 4, there is none, and the last is deleted.
+fn change_conditions<T: Trail>(rt: &impl Abort, b: &mut Beside<T>, set: u32, length: u32) {
+    let mut left = set;
+    for n in 0..length {
+        match CONDITIONS.get((left % 5) as usize) {
+            Some(when) => b.breakpoint_when(rt, u64::from(n), *when),
+            None => b.delete(rt, u64::from(n)),
+        }
+        left /= 5;
+    }
+}
+
+fn compare_conditions<T: Trail>(
+    rt: &impl Abort,
+    b: &mut Beside<T>,
+    list: &[Code],
+    packets: &'static [Recorded],
+) {
+    b.load_program(rt, list);
+    b.load_capture(rt, packets);
+    let length = u32::try_from(list.len())
+        .ok()
+        .expect(rt, "few instructions");
+    for set in 0..5u32.saturating_pow(length) {
+        change_conditions(rt, b, set, length);
+        compare_at_each_place(rt, b, Steps::EachNumber);
+    }
+}
+
+/// Goes over a program of five instructions with one capture, and over one of four with each.
+fn compare_two_programs<T: Trail>(
+    rt: &impl Abort,
+    b: &mut Beside<T>,
+    five: &[Code],
+    four: &[Code],
+) {
+    compare_conditions(rt, b, five, CAPTURES[3]);
+    for packets in CAPTURES {
+        compare_conditions(rt, b, four, packets);
+    }
+}
+
+#[test]
+fn conditions_over_checkpoints(rt: HostRuntime) {
+    let mut b = over_checkpoints(rt.alloc());
+    compare_two_programs(&rt, &mut b, PROGRAMS[5], PROGRAMS[7]);
+}
+
+#[test]
+fn conditions_over_all_states(rt: HostRuntime) {
+    let mut b = over_all_states(&rt, rt.alloc());
+    compare_two_programs(&rt, &mut b, PROGRAMS[5], PROGRAMS[7]);
+}
+
+#[test]
+fn conditions_with_values_over_checkpoints(rt: HostRuntime) {
+    let mut b = over_checkpoints(rt.alloc());
+    b.set_values(&rt, VALUES[0]);
+    compare_two_programs(&rt, &mut b, PROGRAMS[13], PROGRAMS[11]);
+}
+
+#[test]
+fn conditions_with_values_over_all_states(rt: HostRuntime) {
+    let mut b = over_all_states(&rt, rt.alloc());
+    b.set_values(&rt, VALUES[0]);
+    compare_two_programs(&rt, &mut b, PROGRAMS[13], PROGRAMS[11]);
+}
+
+/// Breakpoints of the long program: none; at what comes before a checkpoint, at a jump, at what it
+/// skips and at the return; and some with conditions, of which each holds of at most one packet but for
+/// the last.
+const LONG_SETS: [&[(u64, When)]; 3] = [
+    &[],
+    &[
+        (63, When::Always),
+        (64, When::Always),
+        (65, When::Always),
+        (136, When::Always),
+    ],
+    &[
+        (64, When::X(2)),
+        (63, When::A(107)),
+        (65, When::A(0)),
+        (134, When::A(4294967295)),
+    ],
+];
 
 fn compare_long_packets<T: Trail>(rt: &impl Abort, b: &mut Beside<T>) {
     for set in LONG_SETS {
         b.reset_breakpoints(rt);
-        for n in set {
-            b.breakpoint(rt, *n);
+        for (n, when) in set {
+            b.breakpoint_when(rt, *n, *when);
         }
         compare_at_each_place(rt, b, Steps::AFew);
     }

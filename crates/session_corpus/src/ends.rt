@@ -1,9 +1,11 @@
-//! What the corpus reaches: each way in which a packet ends, and values without which one would end
-//! otherwise.
+//! What the corpus reaches: each way in which a packet ends, values without which one would end
+//! otherwise, and conditions that hold of some packets alone.
 
-use crate::corpus::{CAPTURES, Code, PROGRAMS, VALUES, program};
+use crate::breakpoint::Breakpoint;
+use crate::corpus::{CAPTURES, CONDITIONS, Code, PROGRAMS, VALUES, program};
 use crate::given::{Given, Value};
 use crate::joined::Joined;
+use cbpf_dbg::When;
 use cbpf_machine::Turn;
 use std::alloc::Global;
 use std::process::Abort;
@@ -87,4 +89,29 @@ fn programs_that_ask_for_values(rt: HostRuntime) {
     assert_asks(&rt, rt.alloc(), VALUES[0], [false, false, false, false]);
     assert_asks(&rt, rt.alloc(), VALUES[1], [true, false, true, true]);
     assert_asks(&rt, rt.alloc(), VALUES[2], [false, true, false, false]);
+}
+
+/// Whether a breakpoint holds at an entry at its instruction, and not at another.
+fn tells_apart(joined: &Joined, b: Breakpoint) -> bool {
+    let (mut holds, mut fails) = (false, false);
+    for e in joined.entries() {
+        if e.state.pc() == b.instruction {
+            holds |= b.holds_at(&e.state);
+            fails |= !b.holds_at(&e.state);
+        }
+    }
+    holds && fails
+}
+
+#[test]
+fn conditions_that_hold_of_one_packet(rt: HostRuntime) {
+    let p = program(&rt, rt.alloc(), PROGRAMS[5]);
+    let joined = Joined::of(&rt, rt.alloc(), &p, CAPTURES[3]);
+    for when in CONDITIONS {
+        let b = Breakpoint {
+            instruction: 2,
+            when,
+        };
+        assert!(rt; tells_apart(&joined, b) == (when != When::Always));
+    }
 }

@@ -127,6 +127,16 @@ impl Joined {
         None
     }
 
+    /// The registers before instruction `n`, where a packet executes it.
+    pub(crate) fn state_before(&self, packet: u64, n: u64) -> Option<State> {
+        for e in self.entries() {
+            if e.place.packet == packet && u64::from(e.state.pc()) == n {
+                return Some(e.state);
+            }
+        }
+        None
+    }
+
     /// How many steps a packet has.
     pub(crate) fn steps(&self, packet: u64) -> u32 {
         let mut steps = 0u32;

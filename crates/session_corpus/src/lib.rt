@@ -1,6 +1,6 @@
 //! Sessions compared with a plain program, which joins the traces of all packets into one list and
 //! filters it: over small programs and captures, from each place and with each set of breakpoints, and
-//! over long lists of commands; with and without values for extensions.
+//! over long lists of commands; with and without conditions on breakpoints and values for extensions.
 #![tactic(auto)]
 
 #[cfg(test)]

@@ -5,7 +5,7 @@ use crate::corpus::{Code, Recorded, program};
 use crate::given::Given;
 use crate::joined::{Entry, Joined, is_before};
 use cbpf_code::Ext;
-use cbpf_dbg::{Counts, Place, RunReply, SessionFault, Stop, Why};
+use cbpf_dbg::{Counts, Place, RunReply, SessionFault, Stop, When, Why};
 use std::alloc::Global;
 use std::process::Abort;
 
@@ -99,8 +99,17 @@ impl Plain {
     }
 
     pub(crate) fn breakpoint(&mut self, rt: &impl Abort, n: u64) -> Result<(), SessionFault> {
+        self.breakpoint_when(rt, n, When::Always)
+    }
+
+    pub(crate) fn breakpoint_when(
+        &mut self,
+        rt: &impl Abort,
+        n: u64,
+        when: When,
+    ) -> Result<(), SessionFault> {
         let instruction = self.instruction(n)?;
-        self.put(rt, Breakpoint { instruction });
+        self.put(rt, Breakpoint { instruction, when });
         Ok(())
     }
 
