@@ -149,6 +149,12 @@ run_turns-reply machine c breakpoints old new limit reply h =
 pub not_before_step : (old mid new : Place) → NotBefore mid old → new.packet ≡ mid.packet → mid.step < new.step → NotBefore new old
 not_before_step old mid new h p s = elim h [ inl less ↦ inl (omega arith) | inr same ↦ inr (let a = same.0 in omega arith, let b = same.1 in omega arith) ]
 
+pub not_before_after : (old mid new : Place) → NotBefore mid old → NotBefore new mid → NotBefore new old
+not_before_after old mid new h k = elim h [
+  | inl less ↦ elim k [ inl more ↦ inl (omega arith) | inr here ↦ inl (let a = here.0 in omega arith) ]
+  | inr same ↦ elim k [ inl more ↦ inl (let a = same.0 in omega arith) | inr here ↦ inr (let a = same.0 in let b = here.0 in omega arith, let a = same.1 in let b = here.1 in omega arith) ]
+]
+
 pub not_before_packet : (old mid new : Place) → NotBefore mid old → new.packet ≡ mid.packet + 1 → NotBefore new old
 not_before_packet old mid new h p = elim h [ inl less ↦ inl (omega arith) | inr same ↦ inl (let a = same.0 in omega arith) ]
 

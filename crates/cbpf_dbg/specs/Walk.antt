@@ -6,7 +6,7 @@ use Rattle.cbpf_machine.specs.Registers.{Registers, zero_state}
 use Rattle.cbpf_machine.specs.declared.outcome.Outcome.{Outcome}
 use Rattle.cbpf_machine.specs.declared.outcome.Outcome.TheVariants as outcome_is
 use Rattle.cbpf_machine.specs.Machine.{Machine}
-use Rattle.cbpf_machine.specs.Step.{turn}
+use Rattle.cbpf_machine.specs.Step.{turn, asked}
 use Rattle.cbpf_machine.specs.Trace.{trace}
 use Rattle.pcap_classic.specs.Records.{Record}
 use Rattle.pcap_classic.specs.Savefile.{Savefile}
@@ -17,12 +17,13 @@ use Rattle.cbpf_dbg.specs.declared.reply.Counts.{Counts}
 use Rattle.cbpf_dbg.specs.declared.walk.Walk.{Walk}
 use Rattle.cbpf_dbg.specs.declared.walk.Moved.{Moved}
 use Rattle.cbpf_dbg.specs.declared.walk.Moved.TheVariants as moved
-use Rattle.cbpf_dbg.specs.Breakpoints.{Breakpoints}
-use Rattle.cbpf_dbg.specs.Joined.{Entry, ahead, counts, rest, stop_at}
+use Rattle.cbpf_dbg.specs.Breakpoints.{Breakpoints, carries}
+use Rattle.cbpf_dbg.specs.Joined.{Entry, ahead, counts, rest, stop_at, hit_for}
 use Rattle.cbpf_dbg.specs.declared.reply.RunReply.{RunReply}
 use Rattle.cbpf_dbg.specs.View.{View}
 use Rattle.cbpf_dbg.specs.Commands.{run_to, step_to, turns_in, entry_in, back_place}
 use Rattle.cbpf_dbg.specs.declared.reply.Stop.{Stop}
+use Rattle.cbpf_dbg.specs.declared.reply.Why.{Why}
 use Rattle.cbpf_dbg.specs.declared.reply.Why.TheVariants as why
 
 -- the state at a step of a packet
@@ -67,6 +68,18 @@ Moves machine capture old moved.Entry new =
     × (new.place.step ≡ old.place.step + 1) × (ahead machine capture old.place ≡ entry_here machine r new ∷ ahead machine capture new.place)
 Moves machine capture old moved.Packet new =
     (new.place ≡ record { packet = old.place.packet + 1; step = 0 }) × (ahead machine capture old.place ≡ ahead machine capture new.place)
+
+-- why the entry of a walk, in a packet, is a hit, where it is one
+abbrev pub hit_of : Machine → Breakpoints → Record → Walk → Option Why
+hit_of machine breakpoints r w = hit_for (carries breakpoints w.state) (asked (turn machine r.bytes r.wire w.state))
+
+-- a walk to the next hit in a packet, or out of the packet past no hit
+abbrev pub PassesTo : Machine → List Record → Breakpoints → Record → Walk → Option Why → Walk → Type 0
+PassesTo machine capture breakpoints r old None new =
+    (new.place ≡ record { packet = old.place.packet + 1; step = 0 }) × (rest machine capture breakpoints new.place ≡ rest machine capture breakpoints old.place)
+PassesTo machine capture breakpoints r old (Some y) new =
+    (before : Walk) × (new.place.packet ≡ old.place.packet) × (rest machine capture breakpoints before.place ≡ rest machine capture breakpoints old.place)
+    × (ahead machine capture before.place ≡ entry_here machine r new ∷ ahead machine capture new.place) × (hit_of machine breakpoints r new ≡ Some y)
 
 -- a walk is behind the last packet
 abbrev pub Ended : Machine → List Record → Walk → Type 0

@@ -1,20 +1,21 @@
 //! Runs to the next hit.
 
-ghost use Rattle.std.specs.Prelude.{◌≡◌, ◌≢◌, ◌+◌, ◌-◌, ◌<◌, ◌≤◌, ◌^◌, [], Some, true, slice_get};
+ghost use Rattle.std.specs.Prelude.{◌≡◌, ◌≢◌, ◌+◌, ◌-◌, ◌<◌, ◌≤◌, ◌^◌, [], Some, true, slice_get, IsSome};
 ghost use Rattle.pcap_classic.specs.Lent.{record_of};
-ghost use Rattle.cbpf_dbg.specs.Commands.{PassesHits};
+ghost use Rattle.cbpf_dbg.specs.Commands.{PassesHits, back_place};
 ghost use Rattle.cbpf_dbg.specs.Joined.{rest};
 ghost use Rattle.cbpf_dbg.specs.Loaded.{machine_in, records_in, breakpoints_in};
 ghost use Rattle.cbpf_dbg.specs.Session.{IsQuiet, Keeps, Watches};
-ghost use Rattle.cbpf_dbg.specs.Walk.{Stands, owed, Runs, run_turns, is_limit as is_limit_at};
+ghost use Rattle.cbpf_dbg.specs.Walk.{Stands, owed, Runs, run_turns, NotBefore, PassesTo, hit_of, is_limit as is_limit_at};
 
 use crate::hit::hit;
 use crate::loaded::Loaded;
-use crate::reply::{RunReply, Stop};
-use crate::walk::{Moved, Walk, advance, record_at};
+use crate::reply::{RunReply, Stop, Why};
+use crate::walk::{Moved, Walk, advance, enter_packet, leave_entry, record_at};
 use cbpf_machine::{Meter, Packet, Trail, run_packet};
 use pcap_classic::Captured;
 use std::alloc::Allocator;
+use std::mem;
 
 #[inline(always)]
 fn is_limit(limit: Option<u64>, packets: u64) -> bool
@@ -23,6 +24,106 @@ fn is_limit(limit: Option<u64>, packets: u64) -> bool
     match limit {
         Some(n) => n == packets,
         None => false,
+    }
+}
+
+/// Keeps an entry of a packet, whose record is `here`, on the trail, and reports why it is a hit, where
+/// it is one.
+#[inline(always)]
+fn arrive<T: Trail, A: Allocator>(
+    loaded: &Loaded<'_, A>,
+    here: &Captured<'_>,
+    w: &Walk,
+    trail: &mut T,
+) -> Option<Why>
+    requires stands { Stands (machine_in loaded.now) (records_in loaded.now) w.now }
+    requires here { slice_get (records_in loaded.now) (w.now.place.packet - 1) ≡ Some (record_of here.now) }
+    requires begun { 0 < w.now.place.step }
+    requires keeps { Keeps (λ xs. T.stands_for trail.old xs) (machine_in loaded.now) (records_in loaded.now) (back_place w.now.place 1) }
+    requires watched { Watches loaded.now.watched.now (machine_in loaded.now) (breakpoints_in loaded.now) }
+    ensures keeps { Keeps (λ xs. T.stands_for trail.new xs) (machine_in loaded.now) (records_in loaded.now) w.now.place }
+    ensures hit { result ≡ hit_of (machine_in loaded.now) (breakpoints_in loaded.now) (record_of here.now) w.now }
+{
+    trail.push(w.state);
+    hit(loaded, &w.state)
+}
+
+/// Goes on from an entry of a packet, whose record is `here`, to the next hit, or out of the packet.
+// It works on copies, which stay in the machine's registers.
+#[inline(never)]
+fn pass_on<T: Trail, A: Allocator>(
+    meter: &mut Meter,
+    loaded: &Loaded<'_, A>,
+    here: &Captured<'_>,
+    w: &mut Walk,
+    trail: &mut T,
+) -> Option<Why>
+    requires stands { Stands (machine_in loaded.now) (records_in loaded.now) w.old }
+    requires here { slice_get (records_in loaded.now) (w.old.place.packet - 1) ≡ Some (record_of here.now) }
+    requires begun { 0 < w.old.place.step }
+    requires keeps { Keeps (λ xs. T.stands_for trail.old xs) (machine_in loaded.now) (records_in loaded.now) w.old.place }
+    requires spare { meter.old + owed (machine_in loaded.now) (records_in loaded.now) w.old.place + 1 < 2 ^ 128 }
+    requires watched { Watches loaded.now.watched.now (machine_in loaded.now) (breakpoints_in loaded.now) }
+    ensures stands { Stands (machine_in loaded.now) (records_in loaded.now) w.new }
+    ensures keeps { IsSome result → Keeps (λ xs. T.stands_for trail.new xs) (machine_in loaded.now) (records_in loaded.now) w.new.place }
+    ensures origin { w.new.origin ≡ w.old.origin }
+    ensures order { NotBefore w.new.place w.old.place }
+    ensures passes { PassesTo (machine_in loaded.now) (records_in loaded.now) (breakpoints_in loaded.now) (record_of here.now) w.old result w.new }
+    ensures spent { meter.new + owed (machine_in loaded.now) (records_in loaded.now) w.new.place ≡ meter.old + owed (machine_in loaded.now) (records_in loaded.now) w.old.place }
+{
+    let here = *here;
+    let mut spent = mem::replace(meter, Meter::new());
+    let loaded = Loaded {
+        program: loaded.program,
+        values: loaded.values,
+        capture: loaded.capture,
+        breakpoints: loaded.breakpoints,
+        watched: loaded.watched,
+    };
+    'pass: loop {
+        match leave_entry(&mut spent, &loaded, &here, w) {
+            Moved::Packet => {
+                *meter = spent;
+                return None;
+            }
+            Moved::Entry => {
+                if let Some(why) = arrive(&loaded, &here, w, trail) {
+                    *meter = spent;
+                    return Some(why);
+                }
+            }
+        }
+    }
+}
+
+/// The same from any place of the packet.
+#[inline(always)]
+fn pass_to_hit<T: Trail, A: Allocator>(
+    meter: &mut Meter,
+    loaded: &Loaded<'_, A>,
+    here: &Captured<'_>,
+    w: &mut Walk,
+    trail: &mut T,
+) -> Option<Why>
+    requires stands { Stands (machine_in loaded.now) (records_in loaded.now) w.old }
+    requires here { slice_get (records_in loaded.now) (w.old.place.packet - 1) ≡ Some (record_of here.now) }
+    requires keeps { Keeps (λ xs. T.stands_for trail.old xs) (machine_in loaded.now) (records_in loaded.now) w.old.place }
+    requires spare { meter.old + owed (machine_in loaded.now) (records_in loaded.now) w.old.place + 1 < 2 ^ 128 }
+    requires watched { Watches loaded.now.watched.now (machine_in loaded.now) (breakpoints_in loaded.now) }
+    ensures stands { Stands (machine_in loaded.now) (records_in loaded.now) w.new }
+    ensures keeps { IsSome result → Keeps (λ xs. T.stands_for trail.new xs) (machine_in loaded.now) (records_in loaded.now) w.new.place }
+    ensures origin { w.new.origin ≡ w.old.origin }
+    ensures order { NotBefore w.new.place w.old.place }
+    ensures passes { PassesTo (machine_in loaded.now) (records_in loaded.now) (breakpoints_in loaded.now) (record_of here.now) w.old result w.new }
+    ensures spent { meter.new + owed (machine_in loaded.now) (records_in loaded.now) w.new.place ≡ meter.old + owed (machine_in loaded.now) (records_in loaded.now) w.old.place }
+{
+    if w.place.step > 0 {
+        return pass_on(meter, loaded, here, w, trail);
+    }
+    enter_packet(loaded, here, w);
+    match arrive(loaded, here, w, trail) {
+        Some(why) => Some(why),
+        None => pass_on(meter, loaded, here, w, trail),
     }
 }
 
@@ -55,24 +156,17 @@ fn run_here<T: Trail, A: Allocator>(
             *w = Walk::start();
             return RunReply::Finished(counts);
         };
-        match advance(meter, loaded, &here, w) {
-            Moved::Entry => {
-                trail.push(w.state);
-                if let Some(why) = hit(loaded, &w.state) {
-                    return RunReply::Stopped(Stop {
-                        place: w.place,
-                        state: w.state,
-                        why,
-                    });
-                }
-            }
-            Moved::Packet => {
-                trail.clear();
-                next = loaded.capture.following(&here);
-                if is_limit(limit, w.place.packet - start) && next.is_some() {
-                    return RunReply::Limit(w.counts);
-                }
-            }
+        if let Some(why) = pass_to_hit(meter, loaded, &here, w, trail) {
+            return RunReply::Stopped(Stop {
+                place: w.place,
+                state: w.state,
+                why,
+            });
+        }
+        trail.clear();
+        next = loaded.capture.following(&here);
+        if is_limit(limit, w.place.packet - start) && next.is_some() {
+            return RunReply::Limit(w.counts);
         }
     }
 }

@@ -7,6 +7,7 @@ ghost use Rattle.pcap_classic.specs.Lent.{record_of};
 ghost use Rattle.pcap_classic.specs.Records.{Record};
 ghost use Rattle.cbpf_dbg.specs.Loaded.{machine_in, records_in};
 ghost use Rattle.cbpf_dbg.specs.View.{start};
+ghost use Rattle.cbpf_dbg.specs.declared.walk.Moved.TheVariants as moved;
 ghost use Rattle.cbpf_dbg.specs.Walk.{Stands, Moves, IsEntry, IsHere, entered, stepped, passed};
 
 use crate::loaded::Loaded;
@@ -129,6 +130,40 @@ pub(crate) fn record_at<A: Allocator>(capture: &Capture<A>, packet: u64) -> Opti
     }
 }
 
+/// Goes on by one entry from an entry of the packet, or out of the packet, whose record is `here`.
+#[inline(always)]
+pub(crate) fn leave_entry<A: Allocator>(
+    meter: &mut Meter,
+    loaded: &Loaded<'_, A>,
+    here: &Captured<'_>,
+    w: &mut Walk,
+) -> Moved
+    requires stands { Stands (machine_in loaded.now) (records_in loaded.now) w.old }
+    requires here { slice_get (records_in loaded.now) (w.old.place.packet - 1) ≡ Some (record_of here.now) }
+    requires begun { 0 < w.old.place.step }
+    requires spare { meter.old + 1 < 2 ^ 128 }
+    ensures stands { Stands (machine_in loaded.now) (records_in loaded.now) w.new }
+    ensures moves { Moves (machine_in loaded.now) (records_in loaded.now) w.old result w.new }
+    ensures origin { w.new.origin ≡ w.old.origin }
+    ensures turns { meter.new ≡ meter.old + 1 }
+{
+    let _few = loaded.capture.count();
+    let packet = Packet {
+        bytes: here.bytes,
+        wire: here.wire,
+    };
+    match turn_in_place(meter, loaded.program, packet, loaded.values, &mut w.state) {
+        None => {
+            w.go_on();
+            Moved::Entry
+        }
+        Some(outcome) => {
+            w.pass(outcome);
+            Moved::Packet
+        }
+    }
+}
+
 /// Goes on by one entry, or out of the packet, whose record is `here`.
 #[inline(always)]
 pub(crate) fn advance<A: Allocator>(
@@ -145,23 +180,22 @@ pub(crate) fn advance<A: Allocator>(
     ensures origin { w.new.origin ≡ w.old.origin }
     ensures turns { meter.new ≡ meter.old + min w.old.place.step 1 }
 {
-    let _few = loaded.capture.count();
     if w.place.step == 0 {
-        w.enter();
+        enter_packet(loaded, here, w);
         return Moved::Entry;
     }
-    let packet = Packet {
-        bytes: here.bytes,
-        wire: here.wire,
-    };
-    match turn_in_place(meter, loaded.program, packet, loaded.values, &mut w.state) {
-        None => {
-            w.go_on();
-            Moved::Entry
-        }
-        Some(outcome) => {
-            w.pass(outcome);
-            Moved::Packet
-        }
-    }
+    leave_entry(meter, loaded, here, w)
+}
+
+/// Goes to the first entry of a packet, whose record is `here`.
+#[inline(always)]
+pub(crate) fn enter_packet<A: Allocator>(loaded: &Loaded<'_, A>, here: &Captured<'_>, w: &mut Walk)
+    requires stands { Stands (machine_in loaded.now) (records_in loaded.now) w.old }
+    requires here { slice_get (records_in loaded.now) (w.old.place.packet - 1) ≡ Some (record_of here.now) }
+    requires before { w.old.place.step ≡ 0 }
+    ensures stands { Stands (machine_in loaded.now) (records_in loaded.now) w.new }
+    ensures moves { Moves (machine_in loaded.now) (records_in loaded.now) w.old moved.Entry w.new }
+    ensures origin { w.new.origin ≡ w.old.origin }
+{
+    w.enter();
 }

@@ -2,89 +2,91 @@ use Rattle.std.proofs.Common.{◌≡◌, ◌+◌, ◌-◌, ◌<◌, length, arit
 use Rattle.std.specs.Prelude.{◌⊎◌}
 use Rattle.cbpf_dbg.specs.declared.reply.Place.{Place}
 use Rattle.std.proofs.lemmas.Option.{slice_get_within}
-use Rattle.cbpf_machine.specs.Step.{turn}
-use Rattle.cbpf_dbg.specs.Walk.{owed, entry_here, is_limit}
-use Rattle.cbpf_dbg.proofs.JoinedLemmas.{rest-pass, rest-same, rest-none}
-use Rattle.cbpf_dbg.proofs.WalkLemmas.{goes, here_after, here_some, here_none, here_within, here_past, walk_ended}
-use Rattle.cbpf_dbg.proofs.RunLemmas.{below_next, hit_none, stop_front, run_stopped, run_finished, run_limited}
-use Rattle.cbpf_dbg.proofs.KeepLemmas.{keeps_push, keeps_few, keeps_clear}
-use Rattle.cbpf_dbg.proofs.TurnLemmas.{run_turns-reply, spent_between, owed-turns, not_before_step, not_before_packet}
+use Rattle.cbpf_dbg.specs.Walk.{PassesTo, is_limit}
+use Rattle.cbpf_dbg.proofs.JoinedLemmas.{rest-none}
+use Rattle.cbpf_dbg.proofs.WalkLemmas.{here_after, here_some, here_none, here_within, here_past, walk_ended}
+use Rattle.cbpf_dbg.proofs.RunLemmas.{below_next, stop_front, run_stopped, run_finished, run_limited}
+use Rattle.cbpf_dbg.proofs.KeepLemmas.{keeps_clear}
+use Rattle.cbpf_dbg.proofs.TurnLemmas.{run_turns-reply, spent_between, owed-turns, not_before_packet, not_before_after}
 use Rattle.cbpf_dbg.specs.Loaded.{machine_in, records_in, breakpoints_in}
-use Rattle.cbpf_dbg.specs.Breakpoints.{carries}
+use Rattle.pcap_classic.specs.Lent.{record_of}
 use Rattle.cbpf_dbg.proofs.run.run_here.Goals as goal
 use Rattle.cbpf_dbg.proofs.run.run_here.Goals.{else-is_limit-via-then-is_limit+else-is_some, else-is_limit-via-else-is_limit}
 
-pub hit-requires-clause-inside : goal.hit-requires-clause-inside
-hit-requires-clause-inside g c =
-    let m = c.in-Entry.ensures.moves in
-    (goes (machine_in c.args.loaded.now) (records_in c.args.loaded.now) c.advance.new.w m.0 c.in-Entry.ensures.stands (omega (arith, m.3)) m.1).inside
+pub returns-in-Some-pass_to_hit-clause-runs : goal.returns-in-Some-pass_to_hit-clause-runs
+returns-in-Some-pass_to_hit-clause-runs g c =
+    let h = c.in-Some-pass_to_hit.ensures.passes in
+    let at = here_some (records_in c.args.loaded.now) c.go.w.place.packet c.go.next c.in-Some.here c.go.invariant.here c.in-Some.is in
+    let within = slice_get_within (records_in c.args.loaded.now) (c.go.w.place.packet - 1) _ at.1 in
+    let one = c.go.invariant.stands.from_one in
+    let ordered = c.go.invariant.stands.ordered in
+    run_stopped (machine_in c.args.loaded.now) c.args.loaded.now.capture.now (breakpoints_in c.args.loaded.now) c.args.limit c.args.w.now h.0 c.pass_to_hit.new.w (record_of c.in-Some.here) c.in-Some-pass_to_hit.why
+    (h.2 ∙ c.go.invariant.same_rest) (c.in-Some-pass_to_hit.ensures.origin ∙ c.go.invariant.same_origin) h.3 h.4
+    (rw h.1 c.go.invariant.in_limit) (omega (arith, within, h.1, one, ordered)) (let f = c.go.invariant.forward in omega (arith, h.1))
 
-pub returns-in-Some-hit-clause-runs : goal.returns-in-Some-hit-clause-runs
-returns-in-Some-hit-clause-runs g c =
-    let m = c.in-Entry.ensures.moves in
-    let within = slice_get_within (records_in c.args.loaded.now) (c.advance.new.w.place.packet - 1) m.0 m.1 in
-    run_stopped (machine_in c.args.loaded.now) c.args.loaded.now.capture.now (breakpoints_in c.args.loaded.now) c.args.limit c.args.w.now c.go.w c.advance.new.w m.0 c.in-Some-hit.why
-    c.go.invariant.same_rest (c.in-Entry.ensures.origin ∙ c.go.invariant.same_origin) m.4
-    (sym (c.hit.ensures m.0.bytes m.0.wire) ∙ c.in-Some-hit.is)
-    (rw m.2 c.go.invariant.in_limit) (omega (arith, within)) (let f = c.go.invariant.forward in omega (arith, m.2))
+pub returns-in-Some-pass_to_hit-clause-ahead : goal.returns-in-Some-pass_to_hit-clause-ahead
+returns-in-Some-pass_to_hit-clause-ahead g c =
+    let h = c.in-Some-pass_to_hit.ensures.passes in
+    sym (h.2 ∙ c.go.invariant.same_rest) ∙ stop_front (machine_in c.args.loaded.now) (records_in c.args.loaded.now) (breakpoints_in c.args.loaded.now) h.0 c.pass_to_hit.new.w (record_of c.in-Some.here) c.in-Some-pass_to_hit.why h.3 h.4
 
-pub go-preserved-in_default-hit : goal.go-preserved-in_default-hit
-go-preserved-in_default-hit g c =
-    let m = c.in-Entry.ensures.moves in
-    let no = hit_none (carries (breakpoints_in c.args.loaded.now) c.advance.new.w.state) (turn (machine_in c.args.loaded.now) m.0.bytes m.0.wire c.advance.new.w.state)
-    (sym (c.hit.ensures m.0.bytes m.0.wire) ∙ c.in_default-hit.is) in
-    let same = rest-pass (machine_in c.args.loaded.now) (records_in c.args.loaded.now) (breakpoints_in c.args.loaded.now) c.go.w.place c.advance.new.w.place (entry_here (machine_in c.args.loaded.now) m.0 c.advance.new.w) m.4 no in
-    record {
-      here = rw m.2 c.go.invariant.here;
-      stands = c.in-Entry.ensures.stands;
-      keeps = keeps_push (λ xs. g.T.Trail.stands_for c.go.trail xs) (λ xs. g.T.Trail.stands_for c.push.new.self xs) (machine_in c.args.loaded.now) (records_in c.args.loaded.now) c.go.w.place c.advance.new.w m.0
-          c.in-Entry.ensures.stands m.1 m.2 m.3 c.push.ensures c.go.invariant.keeps;
-      began = refl;
-      same_origin = c.in-Entry.ensures.origin ∙ c.go.invariant.same_origin;
-      same_rest = sym same ∙ c.go.invariant.same_rest;
-      forward = let f = c.go.invariant.forward in omega (arith, m.2);
-      order = not_before_step c.args.w.now.place c.go.w.place c.advance.new.w.place c.go.invariant.order m.2 (omega (arith, m.3));
-      in_limit = rw m.2 c.go.invariant.in_limit;
-      spent = omega (arith, ap length m.4, m.3, c.in-Entry.ensures.turns, c.go.invariant.spent);
-    }
+pub returns-in-Some-pass_to_hit-clause-turns : goal.returns-in-Some-pass_to_hit-clause-turns
+returns-in-Some-pass_to_hit-clause-turns g c =
+    let runs = returns-in-Some-pass_to_hit-clause-runs g c in
+    rw (run_turns-reply _ _ _ _ _ _ _ runs)
+    (spent_between (machine_in c.args.loaded.now) (records_in c.args.loaded.now) c.args.w.now c.pass_to_hit.new.w c.args.meter.now c.pass_to_hit.new.meter c.requires.stands c.in-Some-pass_to_hit.ensures.stands
+    (not_before_after c.args.w.now.place c.go.w.place c.pass_to_hit.new.w.place c.go.invariant.order c.in-Some-pass_to_hit.ensures.order)
+    (c.in-Some-pass_to_hit.ensures.spent ∙ c.go.invariant.spent))
 
 pub returns-then-is_some-clause-runs : goal.returns-then-is_some-clause-runs
 returns-then-is_some-clause-runs g c =
-    let m = c.in-Packet.ensures.moves in
-    let same = rest-same (machine_in c.args.loaded.now) (records_in c.args.loaded.now) (breakpoints_in c.args.loaded.now) c.go.w.place c.advance.new.w.place m.1 in
+    let h = c.in_default-pass_to_hit.ensures.passes in
     let at = here_some (records_in c.args.loaded.now) c.go.w.place.packet c.go.next c.in-Some.here c.go.invariant.here c.in-Some.is in
-    let e : c.advance.new.w.place.packet ≡ c.go.w.place.packet + 1 = ap (λ (q : Place). q.packet) m.0 in
-    let here = here_after (records_in c.args.loaded.now) c.go.w.place.packet c.advance.new.w.place.packet c.in-Some.here c.following-next.result at.0 e c.following-next.ensures.record c.following-next.ensures.number in
-    run_limited (machine_in c.args.loaded.now) c.args.loaded.now.capture.now (breakpoints_in c.args.loaded.now) c.args.limit c.args.w.now c.go.w c.advance.new.w
-    c.in-Packet.ensures.stands (sym same ∙ c.go.invariant.same_rest) (c.in-Packet.ensures.origin ∙ c.go.invariant.same_origin)
-    m.0 (let f = c.go.invariant.forward in omega (arith, ap (λ (q : Place). q.packet) m.0)) (sym c.is_limit.ensures ∙ c.if-is_limit.true) (let some = here_within (records_in c.args.loaded.now) c.advance.new.w.place.packet c.following-next.result here (sym c.is_some.ensures ∙ c.if-is_some.true) in omega (arith, some, e))
+    let e : c.pass_to_hit.new.w.place.packet ≡ c.go.w.place.packet + 1 = ap (λ (q : Place). q.packet) h.0 in
+    let here = here_after (records_in c.args.loaded.now) c.go.w.place.packet c.pass_to_hit.new.w.place.packet c.in-Some.here c.following-next.result at.0 e c.following-next.ensures.record c.following-next.ensures.number in
+    run_limited (machine_in c.args.loaded.now) c.args.loaded.now.capture.now (breakpoints_in c.args.loaded.now) c.args.limit c.args.w.now c.go.w c.pass_to_hit.new.w
+    c.in_default-pass_to_hit.ensures.stands (h.1 ∙ c.go.invariant.same_rest) (c.in_default-pass_to_hit.ensures.origin ∙ c.go.invariant.same_origin)
+    h.0 (let f = c.go.invariant.forward in omega (arith, e)) (sym c.is_limit.ensures ∙ c.if-is_limit.true) (let some = here_within (records_in c.args.loaded.now) c.pass_to_hit.new.w.place.packet c.following-next.result here (sym c.is_some.ensures ∙ c.if-is_some.true) in omega (arith, some, e))
+
+pub returns-then-is_some-clause-turns : goal.returns-then-is_some-clause-turns
+returns-then-is_some-clause-turns g c =
+    let runs = returns-then-is_some-clause-runs g c in
+    rw (run_turns-reply _ _ _ _ _ _ _ runs)
+    (spent_between (machine_in c.args.loaded.now) (records_in c.args.loaded.now) c.args.w.now c.pass_to_hit.new.w c.args.meter.now c.pass_to_hit.new.meter c.requires.stands c.in_default-pass_to_hit.ensures.stands
+    (not_before_after c.args.w.now.place c.go.w.place c.pass_to_hit.new.w.place c.go.invariant.order c.in_default-pass_to_hit.ensures.order)
+    (c.in_default-pass_to_hit.ensures.spent ∙ c.go.invariant.spent))
+
+pub go-smaller : goal.go-smaller
+go-smaller g c =
+    let h = c.in_default-pass_to_hit.ensures.passes in
+    let e : c.pass_to_hit.new.w.place.packet ≡ c.go.w.place.packet + 1 = ap (λ (q : Place). q.packet) h.0 in
+    let within = c.in_default-pass_to_hit.ensures.stands.within in
+    omega (arith, e, within)
 
 pub go-preserved : goal.go-preserved
 go-preserved g c =
-    let m = c.in-Packet.ensures.moves in
-    let e : c.advance.new.w.place.packet ≡ c.go.w.place.packet + 1 = ap (λ (q : Place). q.packet) m.0 in
-    let z : c.advance.new.w.place.step ≡ 0 = ap (λ (q : Place). q.step) m.0 in
-    let same = rest-same (machine_in c.args.loaded.now) (records_in c.args.loaded.now) (breakpoints_in c.args.loaded.now) c.go.w.place c.advance.new.w.place m.1 in
-    let within = c.in-Packet.ensures.stands.within in
+    let h = c.in_default-pass_to_hit.ensures.passes in
+    let e : c.pass_to_hit.new.w.place.packet ≡ c.go.w.place.packet + 1 = ap (λ (q : Place). q.packet) h.0 in
+    let z : c.pass_to_hit.new.w.place.step ≡ 0 = ap (λ (q : Place). q.step) h.0 in
+    let within = c.in_default-pass_to_hit.ensures.stands.within in
     let at = here_some (records_in c.args.loaded.now) c.go.w.place.packet c.go.next c.in-Some.here c.go.invariant.here c.in-Some.is in
-    let here = here_after (records_in c.args.loaded.now) c.go.w.place.packet c.advance.new.w.place.packet c.in-Some.here c.following-next.result at.0 e c.following-next.ensures.record c.following-next.ensures.number in
-    let test : (is_limit c.args.limit (c.advance.new.w.place.packet - c.args.w.now.place.packet) ≡ false) ⊎ (length (records_in c.args.loaded.now) < c.advance.new.w.place.packet) =
+    let here = here_after (records_in c.args.loaded.now) c.go.w.place.packet c.pass_to_hit.new.w.place.packet c.in-Some.here c.following-next.result at.0 e c.following-next.ensures.record c.following-next.ensures.number in
+    let test : (is_limit c.args.limit (c.pass_to_hit.new.w.place.packet - c.args.w.now.place.packet) ≡ false) ⊎ (length (records_in c.args.loaded.now) < c.pass_to_hit.new.w.place.packet) =
     elim c.else-is_limit.branch [
-      | else-is_limit-via-then-is_limit+else-is_some w ↦ inr (let past = here_past (records_in c.args.loaded.now) c.advance.new.w.place.packet c.following-next.result here (sym w.is_some.ensures ∙ w.if-is_some.false) in omega (arith, past, e))
+      | else-is_limit-via-then-is_limit+else-is_some w ↦ inr (let past = here_past (records_in c.args.loaded.now) c.pass_to_hit.new.w.place.packet c.following-next.result here (sym w.is_some.ensures ∙ w.if-is_some.false) in omega (arith, past, e))
       | else-is_limit-via-else-is_limit w ↦ inl (sym c.is_limit.ensures ∙ w.if-is_limit.false)
     ] in
     record {
       here = here;
-      stands = c.in-Packet.ensures.stands;
-      keeps = keeps_clear (λ xs. g.T.Trail.stands_for c.clear-in-Packet.new.self xs) (machine_in c.args.loaded.now) (records_in c.args.loaded.now) c.advance.new.w.place z c.clear-in-Packet.ensures;
+      stands = c.in_default-pass_to_hit.ensures.stands;
+      keeps = keeps_clear (λ xs. g.T.Trail.stands_for c.clear-in-go.new.self xs) (machine_in c.args.loaded.now) (records_in c.args.loaded.now) c.pass_to_hit.new.w.place z c.clear-in-go.ensures;
       began = refl;
-      same_origin = c.in-Packet.ensures.origin ∙ c.go.invariant.same_origin;
-      same_rest = sym same ∙ c.go.invariant.same_rest;
+      same_origin = c.in_default-pass_to_hit.ensures.origin ∙ c.go.invariant.same_origin;
+      same_rest = h.1 ∙ c.go.invariant.same_rest;
       forward = let f = c.go.invariant.forward in omega (arith, e);
-      order = not_before_packet c.args.w.now.place c.go.w.place c.advance.new.w.place c.go.invariant.order e;
-      in_limit = below_next c.args.limit c.args.w.now.place.packet c.go.w.place.packet c.advance.new.w.place.packet (length (records_in c.args.loaded.now))
+      order = not_before_after c.args.w.now.place c.go.w.place c.pass_to_hit.new.w.place c.go.invariant.order c.in_default-pass_to_hit.ensures.order;
+      in_limit = below_next c.args.limit c.args.w.now.place.packet c.go.w.place.packet c.pass_to_hit.new.w.place.packet (length (records_in c.args.loaded.now))
           c.go.invariant.in_limit (omega (arith, e, within)) c.go.invariant.forward e test;
-      spent = omega (arith, ap length m.1, z, c.in-Packet.ensures.turns, c.go.invariant.spent);
+      spent = c.in_default-pass_to_hit.ensures.spent ∙ c.go.invariant.spent;
     }
 
 pub returns-in_default-clause-runs : goal.returns-in_default-clause-runs
@@ -94,27 +96,10 @@ returns-in_default-clause-runs g c =
     c.go.invariant.stands c.go.invariant.same_rest c.go.invariant.same_origin m.0 m.1 c.go.invariant.in_limit
     c.start.ensures.place c.start.ensures.origin)
 
-pub returns-in-Some-hit-clause-turns : goal.returns-in-Some-hit-clause-turns
-returns-in-Some-hit-clause-turns g c =
-    let m = c.in-Entry.ensures.moves in
-    let runs = returns-in-Some-hit-clause-runs g c in
-    let order = not_before_step c.args.w.now.place c.go.w.place c.advance.new.w.place c.go.invariant.order m.2 (omega (arith, m.3)) in
-    let spent : c.advance.new.meter + owed (machine_in c.args.loaded.now) (records_in c.args.loaded.now) c.advance.new.w.place ≡ c.args.meter.now + owed (machine_in c.args.loaded.now) (records_in c.args.loaded.now) c.args.w.now.place =
-    omega (arith, ap length m.4, m.3, c.in-Entry.ensures.turns, c.go.invariant.spent) in
-    rw (run_turns-reply _ _ _ _ _ _ _ runs)
-    (spent_between (machine_in c.args.loaded.now) (records_in c.args.loaded.now) c.args.w.now c.advance.new.w c.args.meter.now c.advance.new.meter c.requires.stands c.in-Entry.ensures.stands order spent)
-
-pub returns-then-is_some-clause-turns : goal.returns-then-is_some-clause-turns
-returns-then-is_some-clause-turns g c =
-    let m = c.in-Packet.ensures.moves in
-    let runs = returns-then-is_some-clause-runs g c in
-    let e : c.advance.new.w.place.packet ≡ c.go.w.place.packet + 1 = ap (λ (q : Place). q.packet) m.0 in
-    let z : c.advance.new.w.place.step ≡ 0 = ap (λ (q : Place). q.step) m.0 in
-    let order = not_before_packet c.args.w.now.place c.go.w.place c.advance.new.w.place c.go.invariant.order e in
-    let spent : c.advance.new.meter + owed (machine_in c.args.loaded.now) (records_in c.args.loaded.now) c.advance.new.w.place ≡ c.args.meter.now + owed (machine_in c.args.loaded.now) (records_in c.args.loaded.now) c.args.w.now.place =
-    omega (arith, ap length m.1, z, c.in-Packet.ensures.turns, c.go.invariant.spent) in
-    rw (run_turns-reply _ _ _ _ _ _ _ runs)
-    (spent_between (machine_in c.args.loaded.now) (records_in c.args.loaded.now) c.args.w.now c.advance.new.w c.args.meter.now c.advance.new.meter c.requires.stands c.in-Packet.ensures.stands order spent)
+pub returns-in_default-clause-ahead : goal.returns-in_default-clause-ahead
+returns-in_default-clause-ahead g c =
+    let m = walk_ended (machine_in c.args.loaded.now) (records_in c.args.loaded.now) c.go.w c.go.invariant.stands (here_none (records_in c.args.loaded.now) c.go.w.place.packet c.go.next c.go.invariant.here c.in_default.is) in
+    sym c.go.invariant.same_rest ∙ rest-none (machine_in c.args.loaded.now) (records_in c.args.loaded.now) (breakpoints_in c.args.loaded.now) c.go.w.place m.1
 
 pub returns-in_default-clause-turns : goal.returns-in_default-clause-turns
 returns-in_default-clause-turns g c =
@@ -123,33 +108,3 @@ returns-in_default-clause-turns g c =
     let all = owed-turns (machine_in c.args.loaded.now) (records_in c.args.loaded.now) c.args.w.now c.requires.stands in
     rw (run_turns-reply _ _ _ _ _ _ _ runs)
     (omega (arith, all, ap length m.1, m.2, c.go.invariant.spent))
-
-pub push-requires : goal.push-requires
-push-requires g c =
-    let m = c.in-Entry.ensures.moves in
-    let before : slice_get (records_in c.args.loaded.now) (c.go.w.place.packet - 1) ≡ Some m.0 = rw m.2 at m.1 in
-    keeps_few (machine_in c.args.loaded.now) (records_in c.args.loaded.now) c.go.w.place c.advance.new.w m.0 (g.T.Trail.kept c.go.trail) c.in-Entry.ensures.stands m.1 m.3
-    (g.met.T.Trail.as_long c.go.trail _ (c.go.invariant.keeps m.0 before))
-
-pub returns-in-Some-hit-clause-keeps : goal.returns-in-Some-hit-clause-keeps
-returns-in-Some-hit-clause-keeps g c =
-    let m = c.in-Entry.ensures.moves in
-    keeps_push (λ xs. g.T.Trail.stands_for c.go.trail xs) (λ xs. g.T.Trail.stands_for c.push.new.self xs) (machine_in c.args.loaded.now) (records_in c.args.loaded.now) c.go.w.place c.advance.new.w m.0
-    c.in-Entry.ensures.stands m.1 m.2 m.3 c.push.ensures c.go.invariant.keeps
-
-pub returns-in-Some-hit-clause-ahead : goal.returns-in-Some-hit-clause-ahead
-returns-in-Some-hit-clause-ahead g c =
-    let m = c.in-Entry.ensures.moves in
-    sym c.go.invariant.same_rest
-    ∙ stop_front (machine_in c.args.loaded.now) (records_in c.args.loaded.now) (breakpoints_in c.args.loaded.now) c.go.w c.advance.new.w m.0 c.in-Some-hit.why m.4
-    (sym (c.hit.ensures m.0.bytes m.0.wire) ∙ c.in-Some-hit.is)
-
-pub returns-then-is_some-clause-ahead : goal.returns-then-is_some-clause-ahead
-returns-then-is_some-clause-ahead g c =
-    let m = c.in-Packet.ensures.moves in
-    sym c.go.invariant.same_rest ∙ rest-same (machine_in c.args.loaded.now) (records_in c.args.loaded.now) (breakpoints_in c.args.loaded.now) c.go.w.place c.advance.new.w.place m.1
-
-pub returns-in_default-clause-ahead : goal.returns-in_default-clause-ahead
-returns-in_default-clause-ahead g c =
-    let m = walk_ended (machine_in c.args.loaded.now) (records_in c.args.loaded.now) c.go.w c.go.invariant.stands (here_none (records_in c.args.loaded.now) c.go.w.place.packet c.go.next c.go.invariant.here c.in_default.is) in
-    sym c.go.invariant.same_rest ∙ rest-none (machine_in c.args.loaded.now) (records_in c.args.loaded.now) (breakpoints_in c.args.loaded.now) c.go.w.place m.1

@@ -1,5 +1,5 @@
 use Rattle.std.proofs.Common.{◌≡◌, ◌+◌, ◌-◌, ◌≤◌, length}
-use Rattle.cbpf_dbg.specs.Joined.{rest, ahead}
+use Rattle.cbpf_dbg.specs.Joined.{rest}
 use Rattle.cbpf_dbg.specs.Walk.{Stands, owed, Below, NotBefore, IsHere}
 use Rattle.cbpf_dbg.specs.Session.{Keeps}
 use Rattle.cbpf_dbg.specs.Loaded.{machine_in, records_in, breakpoints_in}
@@ -22,4 +22,4 @@ invariant-go g l =
     }
 
 abbrev pub decreases-go : goal.decreases-go
-decreases-go g l = length (ahead (machine_in l.loaded) (records_in l.loaded) l.w.place) + (length (records_in l.loaded) + 1 - l.w.place.packet)
+decreases-go g l = length (records_in l.loaded) + 1 - l.w.place.packet

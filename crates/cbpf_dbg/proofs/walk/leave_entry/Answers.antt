@@ -11,25 +11,17 @@ use Rattle.cbpf_machine.proofs.SoundLemmas.{sound_few}
 use Rattle.cbpf_dbg.specs.declared.walk.Moved.TheVariants as moved
 use Rattle.cbpf_dbg.specs.Walk.{Moves, stepped, passed}
 use Rattle.cbpf_dbg.proofs.CountLemmas.{counts-at_most}
-use Rattle.cbpf_dbg.proofs.WalkLemmas.{stands-entered, moves-entered, stands-stepped, moves-stepped, stands-left, moves-left, goes}
+use Rattle.cbpf_dbg.proofs.WalkLemmas.{stands-stepped, moves-stepped, stands-left, moves-left, goes}
 use Rattle.cbpf_dbg.specs.Loaded.{machine_in, records_in}
-use Rattle.cbpf_dbg.proofs.walk.advance.Goals as goal
-
-pub returns-then-w-eq0-clause-stands : goal.returns-then-w-eq0-clause-stands
-returns-then-w-eq0-clause-stands g c = rw c.enter.ensures (stands-entered _ _ c.args.w.now c.requires.stands (let within = slice_get_within (records_in c.args.loaded.now) (c.args.w.now.place.packet - 1) _ c.requires.here in omega (arith, within)))
-
-pub returns-then-w-eq0-clause-moves : goal.returns-then-w-eq0-clause-moves
-returns-then-w-eq0-clause-moves g c =
-    subst (λ n. Moves (machine_in c.args.loaded.now) (records_in c.args.loaded.now) c.args.w.now moved.Entry n) (sym c.enter.ensures)
-    (moves-entered _ _ c.args.w.now c.requires.stands (let within = slice_get_within (records_in c.args.loaded.now) (c.args.w.now.place.packet - 1) _ c.requires.here in omega (arith, within)) (omega arith))
+use Rattle.cbpf_dbg.proofs.walk.leave_entry.Goals as goal
 
 pub turn_in_place-requires-clause-inside : goal.turn_in_place-requires-clause-inside
 turn_in_place-requires-clause-inside g c =
-    (goes (machine_in c.args.loaded.now) (records_in c.args.loaded.now) c.args.w.now _ c.requires.stands (omega arith) c.requires.here).inside
+    (goes (machine_in c.args.loaded.now) (records_in c.args.loaded.now) c.args.w.now _ c.requires.stands c.requires.begun c.requires.here).inside
 
 pub go_on-requires : goal.go_on-requires
 go_on-requires g c =
-    let at = c.requires.stands.at (omega arith) in
+    let at = c.requires.stands.at c.requires.begun in
     let within = slice_get_within (trace (machine_in c.args.loaded.now) at.0.bytes at.0.wire) (c.args.w.now.place.step - 1) _ at.2 in
     omega (arith, within, length-trace_from (machine_in c.args.loaded.now) at.0.bytes at.0.wire zero_state, sound_few c.args.loaded.now.program.now c.requires.stands.sound)
 
@@ -50,11 +42,11 @@ returns-in-None g c =
     let same : c.go_on.new.self ≡ stepped c.args.w.now c.turn_in_place.new.s = c.go_on.ensures in
     let on : turn (machine_in c.args.loaded.now) c.args.here.now.bytes.now c.args.here.now.wire c.args.w.now.state ≡ Next c.turn_in_place.new.s = c.in-None.ensures.value in
     record {
-      stands = rw same (stands-stepped _ _ c.args.w.now _ c.turn_in_place.new.s c.requires.stands (omega arith) c.requires.here on);
+      stands = rw same (stands-stepped _ _ c.args.w.now _ c.turn_in_place.new.s c.requires.stands c.requires.begun c.requires.here on);
       moves = subst (λ n. Moves (machine_in c.args.loaded.now) (records_in c.args.loaded.now) c.args.w.now moved.Entry n) (sym same)
-          (moves-stepped _ _ c.args.w.now _ c.turn_in_place.new.s c.requires.stands (omega arith) c.requires.here on);
+          (moves-stepped _ _ c.args.w.now _ c.turn_in_place.new.s c.requires.stands c.requires.begun c.requires.here on);
       origin = ap (λ (n : Walk). n.origin) same;
-      turns = omega arith;
+      turns = c.turn_in_place.ensures.spent;
     }
 
 pub returns-in-Some : goal.returns-in-Some
@@ -65,9 +57,9 @@ returns-in-Some g c =
     let same : c.pass.new.self ≡ passed c.args.w.now (outcome_of (turn (machine_in c.args.loaded.now) c.args.here.now.bytes.now c.args.here.now.wire c.args.w.now.state)) =
     c.pass.ensures ∙ ap (λ w. passed w c.in-Some.outcome) stays ∙ ap (passed c.args.w.now) v.1 in
     record {
-      stands = rw same (stands-left _ _ c.args.w.now _ c.requires.stands (omega arith) c.requires.here v.0);
+      stands = rw same (stands-left _ _ c.args.w.now _ c.requires.stands c.requires.begun c.requires.here v.0);
       moves = subst (λ n. Moves (machine_in c.args.loaded.now) (records_in c.args.loaded.now) c.args.w.now moved.Packet n) (sym same)
-          (moves-left _ _ c.args.w.now _ c.requires.stands (omega arith) c.requires.here v.0);
+          (moves-left _ _ c.args.w.now _ c.requires.stands c.requires.begun c.requires.here v.0);
       origin = ap (λ (n : Walk). n.origin) same;
-      turns = omega arith;
+      turns = c.turn_in_place.ensures.spent;
     }

@@ -1,0 +1,23 @@
+use Rattle.std.proofs.Common.{◌≡◌, ◌+◌, ◌-◌, ◌<◌, length}
+use Rattle.cbpf_dbg.specs.Joined.{rest, ahead}
+use Rattle.cbpf_dbg.specs.Walk.{Stands, owed, NotBefore}
+use Rattle.cbpf_dbg.specs.Session.{Keeps}
+use Rattle.cbpf_dbg.specs.Loaded.{machine_in, records_in, breakpoints_in}
+use Rattle.cbpf_dbg.proofs.run.pass_on.Given as goal
+
+-- the walk is at an entry of the packet, and no hit was passed
+abbrev pub invariant-pass : goal.invariant-pass
+invariant-pass g l =
+    record {
+      stands : Stands (machine_in l.loaded) (records_in l.loaded) l.w;
+      keeps : Keeps (λ xs. g.T.Trail.stands_for l.trail xs) (machine_in l.loaded) (records_in l.loaded) l.w.place;
+      begun : 0 < l.w.place.step;
+      same_packet : l.w.place.packet ≡ l.initial.w.place.packet;
+      same_origin : l.w.origin ≡ l.initial.w.origin;
+      same_rest : rest (machine_in l.loaded) (records_in l.loaded) (breakpoints_in l.loaded) l.w.place ≡ rest (machine_in l.loaded) (records_in l.loaded) (breakpoints_in l.loaded) l.initial.w.place;
+      order : NotBefore l.w.place l.initial.w.place;
+      spent : l.spent + owed (machine_in l.loaded) (records_in l.loaded) l.w.place ≡ l.initial.spent + owed (machine_in l.loaded) (records_in l.loaded) l.initial.w.place;
+    }
+
+abbrev pub decreases-pass : goal.decreases-pass
+decreases-pass g l = length (ahead (machine_in l.loaded) (records_in l.loaded) l.w.place) + (length (records_in l.loaded) + 1 - l.w.place.packet)
