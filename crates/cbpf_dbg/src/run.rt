@@ -156,6 +156,8 @@ fn run_here<T: Trail, A: Allocator>(
             *w = Walk::start();
             return RunReply::Finished(counts);
         };
+        // Asked for first, so that its header is fetched from memory while this packet runs.
+        let after = loaded.capture.following(&here);
         if let Some(why) = pass_to_hit(meter, loaded, &here, w, trail) {
             return RunReply::Stopped(Stop {
                 place: w.place,
@@ -164,7 +166,7 @@ fn run_here<T: Trail, A: Allocator>(
             });
         }
         trail.clear();
-        next = loaded.capture.following(&here);
+        next = after;
         if is_limit(limit, w.place.packet - start) && next.is_some() {
             return RunReply::Limit(w.counts);
         }

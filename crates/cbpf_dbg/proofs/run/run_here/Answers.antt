@@ -42,10 +42,10 @@ returns-then-is_some-clause-runs g c =
     let h = c.in_default-pass_to_hit.ensures.passes in
     let at = here_some (records_in c.args.loaded.now) c.go.w.place.packet c.go.next c.in-Some.here c.go.invariant.here c.in-Some.is in
     let e : c.pass_to_hit.new.w.place.packet ≡ c.go.w.place.packet + 1 = ap (λ (q : Place). q.packet) h.0 in
-    let here = here_after (records_in c.args.loaded.now) c.go.w.place.packet c.pass_to_hit.new.w.place.packet c.in-Some.here c.following-next.result at.0 e c.following-next.ensures.record c.following-next.ensures.number in
+    let here = here_after (records_in c.args.loaded.now) c.go.w.place.packet c.pass_to_hit.new.w.place.packet c.in-Some.here c.following-after.result at.0 e c.following-after.ensures.record c.following-after.ensures.number in
     run_limited (machine_in c.args.loaded.now) c.args.loaded.now.capture.now (breakpoints_in c.args.loaded.now) c.args.limit c.args.w.now c.go.w c.pass_to_hit.new.w
     c.in_default-pass_to_hit.ensures.stands (h.1 ∙ c.go.invariant.same_rest) (c.in_default-pass_to_hit.ensures.origin ∙ c.go.invariant.same_origin)
-    h.0 (let f = c.go.invariant.forward in omega (arith, e)) (sym c.is_limit.ensures ∙ c.if-is_limit.true) (let some = here_within (records_in c.args.loaded.now) c.pass_to_hit.new.w.place.packet c.following-next.result here (sym c.is_some.ensures ∙ c.if-is_some.true) in omega (arith, some, e))
+    h.0 (let f = c.go.invariant.forward in omega (arith, e)) (sym c.is_limit.ensures ∙ c.if-is_limit.true) (let some = here_within (records_in c.args.loaded.now) c.pass_to_hit.new.w.place.packet c.following-after.result here (sym c.is_some.ensures ∙ c.if-is_some.true) in omega (arith, some, e))
 
 pub returns-then-is_some-clause-turns : goal.returns-then-is_some-clause-turns
 returns-then-is_some-clause-turns g c =
@@ -69,10 +69,10 @@ go-preserved g c =
     let z : c.pass_to_hit.new.w.place.step ≡ 0 = ap (λ (q : Place). q.step) h.0 in
     let within = c.in_default-pass_to_hit.ensures.stands.within in
     let at = here_some (records_in c.args.loaded.now) c.go.w.place.packet c.go.next c.in-Some.here c.go.invariant.here c.in-Some.is in
-    let here = here_after (records_in c.args.loaded.now) c.go.w.place.packet c.pass_to_hit.new.w.place.packet c.in-Some.here c.following-next.result at.0 e c.following-next.ensures.record c.following-next.ensures.number in
+    let here = here_after (records_in c.args.loaded.now) c.go.w.place.packet c.pass_to_hit.new.w.place.packet c.in-Some.here c.following-after.result at.0 e c.following-after.ensures.record c.following-after.ensures.number in
     let test : (is_limit c.args.limit (c.pass_to_hit.new.w.place.packet - c.args.w.now.place.packet) ≡ false) ⊎ (length (records_in c.args.loaded.now) < c.pass_to_hit.new.w.place.packet) =
     elim c.else-is_limit.branch [
-      | else-is_limit-via-then-is_limit+else-is_some w ↦ inr (let past = here_past (records_in c.args.loaded.now) c.pass_to_hit.new.w.place.packet c.following-next.result here (sym w.is_some.ensures ∙ w.if-is_some.false) in omega (arith, past, e))
+      | else-is_limit-via-then-is_limit+else-is_some w ↦ inr (let past = here_past (records_in c.args.loaded.now) c.pass_to_hit.new.w.place.packet c.following-after.result here (sym w.is_some.ensures ∙ w.if-is_some.false) in omega (arith, past, e))
       | else-is_limit-via-else-is_limit w ↦ inl (sym c.is_limit.ensures ∙ w.if-is_limit.false)
     ] in
     record {
