@@ -1,6 +1,7 @@
 -- From what a call of the session answered to what the debugger says.
 use Rattle.std.proofs.Common.{◌≡◌, ◌⊎◌, inl, inr, refl, sym, ap, ◌∙◌, subst, ℕ, ◌<◌, List, [], length, Option, Some, None, Result, Ok, Err}
-use Rattle.std.specs.Prelude.{if◌then◌else◌, nat_lt, IsOk, Bool, true, false}
+use Rattle.std.specs.Prelude.{if◌then◌else◌, nat_lt, nat_eq, IsOk, Bool, true, false}
+use Rattle.std.specs.Map.{lookup}
 use Rattle.std.proofs.lemmas.Bool.{ltb-true}
 use Rattle.cbpf_code.specs.Writing.{Wrote}
 use Rattle.cbpf_code.specs.declared.insn.Insn.{Insn}
@@ -13,7 +14,7 @@ use Rattle.cbpf_dbg.specs.declared.reply.SessionFault.{SessionFault}
 use Rattle.cbpf_dbg.specs.declared.reply.SessionFault.TheVariants.{Memory, NoInstruction}
 use Rattle.cbpf_reply.specs.Texts.{fault_text, set_in, set_text, breakpoints_text}
 use Rattle.cbpf_tool.specs.Texts.{memory_text}
-use Rattle.cbpf_tool.specs.Replies.{Exactly, Replied}
+use Rattle.cbpf_tool.specs.Replies.{Exactly, Replied, Sets}
 use Rattle.cbpf_tool.specs.Said.{answered, told, breakpoint_said, IsInstruction, is_quit}
 use Rattle.cbpf_command.specs.Commands as line
 
@@ -77,13 +78,14 @@ pub set-ok : (m : View) (k : ℕ) (when : When) (x : Unit {0}) → (Ok x ≡ rep
 set-ok m k when x (inl e) = e
 set-ok m k when x (inr h) = absurd (cc)
 
-pub set-refused : {X E : Type 0} (m n : View) (k : ℕ) (when : When) (f : SessionFault) (old new : Option (List ℕ)) (r : Result X E) → (Err f ≡ reply_of (breakpoint_when m k when)) ⊎ ((Err f ≡ no_memory) × IsOk (breakpoint_when m k when)) → n ≡ m → Wrote old new r (fault_text f) → Replied (breakpoint_said m k when) n (λ s. Wrote old new r s) ⊎ Exactly memory_text m n (λ s. Wrote old new r s)
+pub set-refused : {X E : Type 0} (m n : View) (k : ℕ) (when : When) (f : SessionFault) (old new : Option (List ℕ)) (r : Result X E) → (Err f ≡ reply_of (breakpoint_when m k when)) ⊎ ((Err f ≡ no_memory) × IsOk (breakpoint_when m k when))
+    → (Err f ≡ no_memory → lookup (nat_eq k) m.breakpoints ≡ None) → n ≡ m → Wrote old new r (fault_text f) → Sets m n k when (λ s. Wrote old new r s)
 unfolding fault_text
-set-refused m n k when f old new r (inl e) v w = inl (said-err _ m n (breakpoint_when m k when) f old new r e (v ∙ sym (refused-view m (breakpoint_when m k when) f e)) w)
-set-refused m n k when f old new r (inr e) v w =
+set-refused m n k when f old new r (inl e) absent v w = inl (said-err _ m n (breakpoint_when m k when) f old new r e (v ∙ sym (refused-view m (breakpoint_when m k when) f e)) w)
+set-refused m n k when f old new r (inr e) absent v w =
     let at : Err f ≡ no_memory = e.0 in
     let is : f ≡ Memory = cc in
-    inr (exactly-view memory_text m n old new r v (subst (λ (g : SessionFault). Wrote old new r (fault_text g)) is w))
+    inr ((e.1, absent at), exactly-view memory_text m n old new r v (subst (λ (g : SessionFault). Wrote old new r (fault_text g)) is w))
 
 pub ruleset said = (said-ok, said-err, told-ok, told-err, exactly-view)
 

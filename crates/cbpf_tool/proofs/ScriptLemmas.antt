@@ -108,11 +108,11 @@ answers-named files m n f g (run limit) W h = exactly-named _ _ n W h
 answers-named files m n f g disassemble W h = exactly-named _ m n W h
 answers-named files m n f g dump W h = exactly-named _ m n W h
 answers-named files m n f g (breakpoint k) W (inl h) = let k = exactly-named _ _ n W h in (k.0, inl k.1, k.2)
-answers-named files m n f g (breakpoint k) W (inr h) = let k = exactly-named _ m n W h in (k.0, inr k.1, k.2)
+answers-named files m n f g (breakpoint k) W (inr h) = let k = exactly-named _ m n W h.1 in (k.0, inr (h.0, k.1), k.2)
 answers-named files m n f g (breakpoint_when_a k v) W (inl h) = let k = exactly-named _ _ n W h in (k.0, inl k.1, k.2)
-answers-named files m n f g (breakpoint_when_a k v) W (inr h) = let k = exactly-named _ m n W h in (k.0, inr k.1, k.2)
+answers-named files m n f g (breakpoint_when_a k v) W (inr h) = let k = exactly-named _ m n W h.1 in (k.0, inr (h.0, k.1), k.2)
 answers-named files m n f g (breakpoint_when_x k v) W (inl h) = let k = exactly-named _ _ n W h in (k.0, inl k.1, k.2)
-answers-named files m n f g (breakpoint_when_x k v) W (inr h) = let k = exactly-named _ m n W h in (k.0, inr k.1, k.2)
+answers-named files m n f g (breakpoint_when_x k v) W (inr h) = let k = exactly-named _ m n W h.1 in (k.0, inr (h.0, k.1), k.2)
 answers-named files m n f g breakpoints W h = exactly-named _ m n W h
 answers-named files m n f g reset_breakpoints W h = exactly-named _ _ n W h
 answers-named files m n f g (delete k) W h = exactly-named _ _ n W h

@@ -1,6 +1,7 @@
 -- What a line of a script replies, and the view of the session behind it.
-use Rattle.std.specs.Prelude.{◌≡◌, ◌<◌, ◌-◌, ◌^◌, ◌⊎◌, ℕ, List, [], Option, Some, None, Result, Ok, Err, length}
+use Rattle.std.specs.Prelude.{◌≡◌, ◌<◌, ◌-◌, ◌^◌, ◌⊎◌, ℕ, List, [], Option, Some, None, Result, Ok, Err, IsOk, nat_eq, length}
 use Rattle.std.specs.FinMap as map
+use Rattle.std.specs.Map.{lookup}
 use Rattle.cbpf_code.specs.WordText.{Spells, Refused}
 use Rattle.cbpf_code.specs.Sound.{IsSound}
 use Rattle.cbpf_code.specs.Faults.{FirstFault}
@@ -15,8 +16,9 @@ use Rattle.pcap_classic.specs.Savefile.{Savefile, savefile_of}
 use Rattle.pcap_classic.specs.declared.fault.CaptureFault.{CaptureFault}
 use Rattle.cbpf_tool.specs.FileMap.{FileMap}
 use Rattle.cbpf_dbg.specs.View.{View}
+use Rattle.cbpf_dbg.specs.declared.breakpoint.When.{When}
 use Rattle.cbpf_dbg.specs.declared.breakpoint.When.TheVariants.{Always, A, X}
-use Rattle.cbpf_dbg.specs.Commands.{with_program_loaded, with_capture_loaded, without_breakpoints}
+use Rattle.cbpf_dbg.specs.Commands.{with_program_loaded, with_capture_loaded, without_breakpoints, breakpoint_when}
 use Rattle.cbpf_reply.specs.Texts.{breakpoints_text}
 use Rattle.cbpf_tool.specs.Said.{run_said, step_said, select_said, resume_said, breakpoint_said, delete_said, mark_said, stops_said, value_said, listing_text}
 use Rattle.cbpf_tool.specs.Texts.{unknown_command_text, wrong_arguments_text, absent_text, device_text, memory_text, word_fault_text, check_fault_text, capture_fault_text, program_text, capture_text, dump_text}
@@ -48,12 +50,16 @@ LoadsCapture m n (Some bytes) Written = ReadsCapture m n (savefile_of bytes) Wri
 abbrev pub Failed : ℕ → ℕ → Type 0
 Failed f g = (f < g) ⊎ (f ≡ 2 ^ 64 - 1)
 
+-- a breakpoint that is set can run out of memory: it is not refused, and its number is not set yet
+abbrev pub CanRunOut : View → ℕ → When → Type 0
+CanRunOut m k when = IsOk (breakpoint_when m k when) × (lookup (nat_eq k) m.breakpoints ≡ None)
+
 -- a breakpoint that is set: its reply, or `error: out of memory`
-abbrev pub Sets : View → View → List ℕ × View → (List ℕ → Type 0) → Type 0
-Sets m n said Written = Replied said n Written ⊎ Exactly memory_text m n Written
+abbrev pub Sets : View → View → ℕ → When → (List ℕ → Type 0) → Type 0
+Sets m n k when Written = Replied (breakpoint_said m k when) n Written ⊎ (CanRunOut m k when × Exactly memory_text m n Written)
 
 -- a command's reply, while the count of failures goes from f to g. `error: out of memory` may come in place
--- of the reply of a load and of a breakpoint that is set, and F2, where a failure is counted, in place of
+-- of the reply of a load and of a new breakpoint that is not refused, and F2, where a failure is counted, in place of
 -- that of a capture's load. `quit` has none
 abbrev pub Answers : FileMap → View → View → ℕ → ℕ → Spelled → (List ℕ → Type 0) → Type 0
 Answers files m n f g (load_words text) Written = LoadsWords m n text Written ⊎ Exactly memory_text m n Written
@@ -61,9 +67,9 @@ Answers files m n f g (load_capture name) Written = LoadsCapture m n (map.get fi
 Answers files m n f g (run limit) Written = Replied (run_said m limit) n Written
 Answers files m n f g disassemble Written = Exactly (listing_text m.program) m n Written
 Answers files m n f g dump Written = Exactly (dump_text m.program) m n Written
-Answers files m n f g (breakpoint k) Written = Sets m n (breakpoint_said m k Always) Written
-Answers files m n f g (breakpoint_when_a k v) Written = Sets m n (breakpoint_said m k (A v)) Written
-Answers files m n f g (breakpoint_when_x k v) Written = Sets m n (breakpoint_said m k (X v)) Written
+Answers files m n f g (breakpoint k) Written = Sets m n k Always Written
+Answers files m n f g (breakpoint_when_a k v) Written = Sets m n k (A v) Written
+Answers files m n f g (breakpoint_when_x k v) Written = Sets m n k (X v) Written
 Answers files m n f g breakpoints Written = Exactly (breakpoints_text m.breakpoints) m n Written
 Answers files m n f g reset_breakpoints Written = Exactly (breakpoints_text []) (without_breakpoints m) n Written
 Answers files m n f g (delete k) Written = Replied (delete_said m k) n Written

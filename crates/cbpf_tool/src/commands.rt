@@ -110,7 +110,7 @@ pub fn set_breakpoint<A: Allocator + Copy, W: Write>(
     n: u64,
     when: When,
 ) -> Result<(), WriteFault>
-    ensures { Sets session.old session.new (said.breakpoint_said session.old n when) (λ t. Wrote (W.contents w.old) (W.contents w.new) result t) }
+    ensures { Sets session.old session.new n when (λ t. Wrote (W.contents w.old) (W.contents w.new) result t) }
 {
     match session.breakpoint_when(n, when) {
         Ok(()) => write_set(w, session, n, when),
