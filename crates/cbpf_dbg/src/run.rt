@@ -15,7 +15,6 @@ use crate::walk::{Moved, Walk, advance, enter_packet, leave_entry, record_at};
 use cbpf_machine::{Meter, Packet, Trail, run_packet};
 use pcap_classic::Captured;
 use std::alloc::Allocator;
-use std::mem;
 
 #[inline(always)]
 fn is_limit(limit: Option<u64>, packets: u64) -> bool
@@ -49,7 +48,7 @@ fn arrive<T: Trail, A: Allocator>(
 }
 
 /// Goes on from an entry of a packet, whose record is `here`, to the next hit, or out of the packet.
-// It works on copies, which stay in the machine's registers.
+// It isn't inlined, and reads copies of what stays the same: so these stay in the machine's registers.
 #[inline(never)]
 fn pass_on<T: Trail, A: Allocator>(
     meter: &mut Meter,
@@ -72,7 +71,6 @@ fn pass_on<T: Trail, A: Allocator>(
     ensures spent { meter.new + owed (machine_in loaded.now) (records_in loaded.now) w.new.place ≡ meter.old + owed (machine_in loaded.now) (records_in loaded.now) w.old.place }
 {
     let here = *here;
-    let mut spent = mem::replace(meter, Meter::new());
     let loaded = Loaded {
         program: loaded.program,
         values: loaded.values,
@@ -81,14 +79,10 @@ fn pass_on<T: Trail, A: Allocator>(
         watched: loaded.watched,
     };
     'pass: loop {
-        match leave_entry(&mut spent, &loaded, &here, w) {
-            Moved::Packet => {
-                *meter = spent;
-                return None;
-            }
+        match leave_entry(meter, &loaded, &here, w) {
+            Moved::Packet => return None,
             Moved::Entry => {
                 if let Some(why) = arrive(&loaded, &here, w, trail) {
-                    *meter = spent;
                     return Some(why);
                 }
             }

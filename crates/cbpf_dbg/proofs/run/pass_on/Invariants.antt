@@ -16,7 +16,7 @@ invariant-pass g l =
       same_origin : l.w.origin ≡ l.initial.w.origin;
       same_rest : rest (machine_in l.loaded) (records_in l.loaded) (breakpoints_in l.loaded) l.w.place ≡ rest (machine_in l.loaded) (records_in l.loaded) (breakpoints_in l.loaded) l.initial.w.place;
       order : NotBefore l.w.place l.initial.w.place;
-      spent : l.spent + owed (machine_in l.loaded) (records_in l.loaded) l.w.place ≡ l.initial.spent + owed (machine_in l.loaded) (records_in l.loaded) l.initial.w.place;
+      spent : l.meter + owed (machine_in l.loaded) (records_in l.loaded) l.w.place ≡ l.initial.meter + owed (machine_in l.loaded) (records_in l.loaded) l.initial.w.place;
     }
 
 abbrev pub decreases-pass : goal.decreases-pass
