@@ -6,7 +6,7 @@ use Rattle.cbpf_machine.specs.Registers.{Registers}
 use Rattle.cbpf_dbg.specs.declared.breakpoint.When.{When}
 use Rattle.cbpf_dbg.specs.declared.breakpoint.When.TheVariants.{Always, A, X}
 
--- numbers of instructions, each with its condition, in order of setting; no number stands twice
+-- numbers of instructions, each with its condition, in order of setting
 abbrev pub Breakpoints : Type 0
 Breakpoints = List (ℕ × When)
 
