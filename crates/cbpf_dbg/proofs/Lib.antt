@@ -5,6 +5,7 @@ pub mod AskedLemmas
 pub mod CarryLemmas
 pub mod RunLemmas
 pub mod QuietLemmas
+pub mod FollowLemmas
 pub mod TurnLemmas
 pub mod KeepLemmas
 pub mod WholeLemmas

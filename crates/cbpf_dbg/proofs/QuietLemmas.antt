@@ -1,52 +1,58 @@
 -- Packets of which no entry is a hit.
 use Rattle.std.proofs.Common.{◌≡◌, ℕ, zero, suc, ◌+◌, ◌-◌, ◌<◌, ◌≤◌, List, [], length, arith, sym, ap, ◌∙◌, refl, inl, inr}
-use Rattle.std.specs.Prelude.{Some, slice_get}
+use Rattle.std.specs.Prelude.{Some, None, slice_get}
 use Rattle.std.proofs.lemmas.Option.{slice_get_cases, slice_get_within}
 use Rattle.cbpf_machine.specs.Machine.{Machine}
 use Rattle.cbpf_code.specs.Sound.{IsSound}
-use Rattle.cbpf_machine.specs.Registers.{zero_state}
-use Rattle.cbpf_machine.specs.Step.{turn}
+use Rattle.cbpf_machine.specs.Registers.{Registers, zero_state}
+use Rattle.cbpf_machine.specs.Step.{turn, asked}
 use Rattle.cbpf_machine.specs.Trace.{trace, outcome}
 use Rattle.cbpf_machine.proofs.TraceLemmas.{goes_from_entry}
 use Rattle.cbpf_machine.proofs.SoundLemmas.{sound_some}
 use Rattle.pcap_classic.specs.Records.{Record}
 use Rattle.cbpf_dbg.specs.declared.walk.Walk.{Walk}
-use Rattle.cbpf_dbg.specs.Joined.{ahead, rest}
+use Rattle.cbpf_dbg.specs.Joined.{ahead, rest, hit_for}
 use Rattle.cbpf_dbg.specs.Session.{IsQuiet}
 use Rattle.cbpf_dbg.specs.Walk.{Stands, passed}
 use Rattle.cbpf_dbg.proofs.AskedLemmas.{quiet_hit}
 use Rattle.cbpf_dbg.proofs.CountLemmas.{counts-more}
 use Rattle.cbpf_dbg.proofs.JoinedLemmas.{place_at, entry, ahead-entry, ahead-leave, rest-pass, rest-same}
 use Rattle.cbpf_dbg.proofs.RunLemmas.{hit_none}
-use Rattle.cbpf_dbg.specs.Breakpoints.{carries}
+use Rattle.cbpf_dbg.specs.Breakpoints.{Breakpoints, carries}
 
 there : {X : Type 0} (xs : List X) (i : ℕ) → i < length xs → (x : X) × (slice_get xs i ≡ Some x)
 there xs i h = elim (slice_get_cases xs i).1 [ inl found ↦ (found.0, found.2) | inr past ↦ absurd (omega arith) ]
 
-module _ (machine : Machine) (capture : List Record) (p : ℕ) (r : Record) (sound : IsSound machine.list) (quiet : IsQuiet machine []) (from_one : 1 ≤ p) (at : slice_get capture (p - 1) ≡ Some r) where
-  -- n entries from a step on are no hits
-  entries-quiet : (k n m : ℕ) → k + n ≡ m → m ≤ length (trace machine r.bytes r.wire)
-      → (rest machine capture [] (place_at p k) ≡ rest machine capture [] (place_at p m))
+module _ (machine : Machine) (capture : List Record) (breakpoints : Breakpoints) (p : ℕ) (r : Record) (from_one : 1 ≤ p) (at : slice_get capture (p - 1) ≡ Some r) where
+  -- none of the entries of a packet from one place of its trace up to another is a hit
+  abbrev pub NoHits : ℕ → ℕ → Type 0
+  NoHits k m = (i : ℕ) (s : Registers) → k ≤ i → i < m → slice_get (trace machine r.bytes r.wire) i ≡ Some s → hit_for (carries breakpoints s) (asked (turn machine r.bytes r.wire s)) ≡ None
+
+  -- n entries from a step on that are no hits are passed
+  pub entries-passed : (k n m : ℕ) → k + n ≡ m → m ≤ length (trace machine r.bytes r.wire) → NoHits k m
+      → (rest machine capture breakpoints (place_at p k) ≡ rest machine capture breakpoints (place_at p m))
       × (length (ahead machine capture (place_at p k)) ≡ n + length (ahead machine capture (place_at p m)))
-  entries-quiet k zero m e within =
+  entries-passed k zero m e within none =
       let same : k ≡ m = omega arith in
       rw same (refl, omega arith)
-  entries-quiet k (suc n) m e within =
+  entries-passed k (suc n) m e within none =
       let s = there (trace machine r.bytes r.wire) k (omega arith) in
       let first = ahead-entry machine capture p k r s.0 from_one at s.1 in
-      let inside = (goes_from_entry machine r.bytes r.wire k zero_state s.0 sound (sound_some machine.list sound) s.1).inside in
-      let no = hit_none (carries [] s.0) (turn machine r.bytes r.wire s.0) (sym (quiet_hit machine [] r.bytes r.wire s.0 inside quiet)) in
-      let same = rest-pass machine capture [] (place_at p k) (place_at p (k + 1)) (entry machine r p (k + 1) s.0) first no in
-      let more = entries-quiet (k + 1) n m (omega arith) within in
+      let no = hit_none (carries breakpoints s.0) (turn machine r.bytes r.wire s.0) (none k s.0 (omega arith) (omega arith) s.1) in
+      let same = rest-pass machine capture breakpoints (place_at p k) (place_at p (k + 1)) (entry machine r p (k + 1) s.0) first no in
+      let more = entries-passed (k + 1) n m (omega arith) within (λ i t from to there_. none i t (omega arith) to there_) in
       (same ∙ more.0, omega (arith, ap length first, more.1))
 
+module _ (machine : Machine) (capture : List Record) (p : ℕ) (r : Record) (sound : IsSound machine.list) (quiet : IsQuiet machine []) (from_one : 1 ≤ p) (at : slice_get capture (p - 1) ≡ Some r) where
   -- none of a packet is
   pub packet-quiet : (k : ℕ) → k ≡ 0
       → (rest machine capture [] (place_at p k) ≡ rest machine capture [] (place_at (p + 1) 0))
       × (length (ahead machine capture (place_at p k)) ≡ length (trace machine r.bytes r.wire) + length (ahead machine capture (place_at (p + 1) 0)))
   packet-quiet k e =
       let m : ℕ = length (trace machine r.bytes r.wire) in
-      let all = entries-quiet k m m (omega arith) (omega arith) in
+      let none : NoHits machine capture [] p r from_one at k m = λ i s from to there_.
+      sym (quiet_hit machine [] r.bytes r.wire s (goes_from_entry machine r.bytes r.wire i zero_state s sound (sound_some machine.list sound) there_).inside quiet) in
+      let all = entries-passed machine capture [] p r from_one at k m m (omega arith) (omega arith) none in
       let leave = ahead-leave machine capture p m r from_one at (omega arith) in
       (all.0 ∙ rest-same machine capture [] (place_at p m) (place_at (p + 1) 0) leave, omega (arith, all.1, ap length leave))
 

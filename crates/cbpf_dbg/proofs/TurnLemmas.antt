@@ -171,7 +171,7 @@ length_filter : {X : Type 0} (f : X → Bool) (xs : List X) → length (filter f
 length_filter f [] = omega arith
 length_filter f (x ∷ xs) = omega (arith, count_filter f (x ∷ xs), count_by-le-length f (x ∷ xs))
 
-length_entries : (machine : Machine) (r : Record) (p k : ℕ) (xs : List Registers) → length (entries_from machine r p k xs) ≡ length xs
+pub length_entries : (machine : Machine) (r : Record) (p k : ℕ) (xs : List Registers) → length (entries_from machine r p k xs) ≡ length xs
 length_entries machine r p k [] = refl
 length_entries machine r p k (x ∷ xs) = ap suc (length_entries machine r p (k + 1) xs)
 

@@ -10,7 +10,8 @@ use Rattle.cbpf_machine.specs.Registers.{Registers, zero_state}
 use Rattle.cbpf_machine.specs.declared.outcome.Turn.TheVariants.{Next}
 use Rattle.cbpf_machine.specs.Step.{turn}
 use Rattle.cbpf_machine.specs.Trace.{trace, next_of, outcome_of}
-use Rattle.cbpf_machine.proofs.TraceLemmas.{Goes, goes_from_entry, goes_next, goes_at, goes_last, outcome_at_last, first_entry}
+use Rattle.cbpf_machine.specs.Follow.{Goes}
+use Rattle.cbpf_machine.proofs.TraceLemmas.{goes_from_entry, goes_next, goes_at, goes_last, outcome_at_last, first_entry}
 use Rattle.cbpf_machine.proofs.SoundLemmas.{sound_some}
 use Rattle.pcap_classic.specs.Records.{Record}
 use Rattle.pcap_classic.specs.Lent.{record_of}

@@ -73,6 +73,14 @@ Moves machine capture old moved.Packet new =
 abbrev pub hit_of : Machine → Breakpoints → Record → Walk → Option Why
 hit_of machine breakpoints r w = hit_for (carries breakpoints w.state) (asked (turn machine r.bytes r.wire w.state))
 
+-- a walk to a later entry of a packet, or out of the packet, past no hit
+abbrev pub PassesOn : Machine → List Record → Breakpoints → Record → Walk → Moved → Walk → Type 0
+PassesOn machine capture breakpoints r old moved.Packet new =
+    (new.place ≡ record { packet = old.place.packet + 1; step = 0 }) × (rest machine capture breakpoints new.place ≡ rest machine capture breakpoints old.place)
+PassesOn machine capture breakpoints r old moved.Entry new =
+    (before : Walk) × (new.place.packet ≡ old.place.packet) × (rest machine capture breakpoints before.place ≡ rest machine capture breakpoints old.place)
+    × (ahead machine capture before.place ≡ entry_here machine r new ∷ ahead machine capture new.place) × (old.place.step < new.place.step)
+
 -- a walk to the next hit in a packet, or out of the packet past no hit
 abbrev pub PassesTo : Machine → List Record → Breakpoints → Record → Walk → Option Why → Walk → Type 0
 PassesTo machine capture breakpoints r old None new =

@@ -96,7 +96,7 @@ pub(crate) fn watch_at<A: Allocator>(
 
 /// Why an entry is a hit, where it is one.
 #[inline(always)]
-fn hit_at<A: Allocator>(loaded: &Loaded<'_, A>, s: &State) -> Option<Why>
+pub(crate) fn hit_at<A: Allocator>(loaded: &Loaded<'_, A>, s: &State) -> Option<Why>
     requires { s.now.pc < length loaded.now.program.now }
     ensures { (bytes : List ℕ) (wire : ℕ)
         → result ≡ hit_for (carries (breakpoints_in loaded.now) s.now) (asked (turn (machine_in loaded.now) bytes wire s.now)) }

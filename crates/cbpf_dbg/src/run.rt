@@ -6,13 +6,14 @@ ghost use Rattle.cbpf_dbg.specs.Commands.{PassesHits, back_place};
 ghost use Rattle.cbpf_dbg.specs.Joined.{rest};
 ghost use Rattle.cbpf_dbg.specs.Loaded.{machine_in, records_in, breakpoints_in};
 ghost use Rattle.cbpf_dbg.specs.Session.{IsQuiet, Keeps, Watches};
-ghost use Rattle.cbpf_dbg.specs.Walk.{Stands, owed, Runs, run_turns, NotBefore, PassesTo, hit_of, is_limit as is_limit_at};
+ghost use Rattle.cbpf_dbg.specs.declared.walk.Moved.TheVariants as moved;
+ghost use Rattle.cbpf_dbg.specs.Walk.{Stands, owed, Runs, run_turns, NotBefore, PassesOn, PassesTo, hit_of, is_limit as is_limit_at};
 
-use crate::hit::hit;
+use crate::hit::{hit, hit_at};
 use crate::loaded::Loaded;
 use crate::reply::{RunReply, Stop, Why};
-use crate::walk::{Moved, Walk, advance, enter_packet, leave_entry, record_at};
-use cbpf_machine::{Meter, Packet, Trail, run_packet};
+use crate::walk::{Moved, Walk, advance, enter_packet, record_at};
+use cbpf_machine::{Followed, Meter, Packet, Trail, run_packet};
 use pcap_classic::Captured;
 use std::alloc::Allocator;
 
@@ -47,9 +48,49 @@ fn arrive<T: Trail, A: Allocator>(
     hit(loaded, &w.state)
 }
 
+/// Goes on from an entry of a packet, whose record is `here`, to the next one at an instruction that is
+/// watched, or out of the packet; no hit is passed.
+#[inline(always)]
+fn leave_unwatched<T: Trail, A: Allocator>(
+    meter: &mut Meter,
+    loaded: &Loaded<'_, A>,
+    here: &Captured<'_>,
+    w: &mut Walk,
+    trail: &mut T,
+) -> Moved
+    requires stands { Stands (machine_in loaded.now) (records_in loaded.now) w.old }
+    requires here { slice_get (records_in loaded.now) (w.old.place.packet - 1) ≡ Some (record_of here.now) }
+    requires begun { 0 < w.old.place.step }
+    requires keeps { Keeps (λ xs. T.stands_for trail.old xs) (machine_in loaded.now) (records_in loaded.now) w.old.place }
+    requires spare { meter.old + owed (machine_in loaded.now) (records_in loaded.now) w.old.place + 1 < 2 ^ 128 }
+    requires watched { Watches loaded.now.watched.now (machine_in loaded.now) (breakpoints_in loaded.now) }
+    ensures stands { Stands (machine_in loaded.now) (records_in loaded.now) w.new }
+    ensures keeps { result ≡ moved.Entry → Keeps (λ xs. T.stands_for trail.new xs) (machine_in loaded.now) (records_in loaded.now) w.new.place }
+    ensures origin { w.new.origin ≡ w.old.origin }
+    ensures order { NotBefore w.new.place w.old.place }
+    ensures passes { PassesOn (machine_in loaded.now) (records_in loaded.now) (breakpoints_in loaded.now) (record_of here.now) w.old result w.new }
+    ensures spent { meter.new + owed (machine_in loaded.now) (records_in loaded.now) w.new.place ≡ meter.old + owed (machine_in loaded.now) (records_in loaded.now) w.old.place }
+{
+    let _few = loaded.capture.count();
+    let packet = Packet {
+        bytes: here.bytes,
+        wire: here.wire,
+    };
+    let (program, values) = (loaded.program, loaded.values);
+    match trail.follow(meter, program, packet, values, loaded.watched, &mut w.state) {
+        Followed::Ended(outcome) => {
+            w.pass(outcome);
+            Moved::Packet
+        }
+        Followed::Watched(turns) => {
+            w.place.step += turns;
+            Moved::Entry
+        }
+    }
+}
+
 /// Goes on from an entry of a packet, whose record is `here`, to the next hit, or out of the packet.
-// It isn't inlined, and reads copies of what stays the same: so these stay in the machine's registers.
-#[inline(never)]
+#[inline(always)]
 fn pass_on<T: Trail, A: Allocator>(
     meter: &mut Meter,
     loaded: &Loaded<'_, A>,
@@ -70,19 +111,11 @@ fn pass_on<T: Trail, A: Allocator>(
     ensures passes { PassesTo (machine_in loaded.now) (records_in loaded.now) (breakpoints_in loaded.now) (record_of here.now) w.old result w.new }
     ensures spent { meter.new + owed (machine_in loaded.now) (records_in loaded.now) w.new.place ≡ meter.old + owed (machine_in loaded.now) (records_in loaded.now) w.old.place }
 {
-    let here = *here;
-    let loaded = Loaded {
-        program: loaded.program,
-        values: loaded.values,
-        capture: loaded.capture,
-        breakpoints: loaded.breakpoints,
-        watched: loaded.watched,
-    };
     'pass: loop {
-        match leave_entry(meter, &loaded, &here, w) {
+        match leave_unwatched(meter, loaded, here, w, trail) {
             Moved::Packet => return None,
             Moved::Entry => {
-                if let Some(why) = arrive(&loaded, &here, w, trail) {
+                if let Some(why) = hit_at(loaded, &w.state) {
                     return Some(why);
                 }
             }

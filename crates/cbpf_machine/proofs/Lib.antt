@@ -3,3 +3,4 @@ pub mod StepLemmas
 pub mod ListLemmas
 pub mod TraceLemmas
 pub mod AskedLemmas
+pub mod FollowLemmas

@@ -6,4 +6,5 @@ pub mod Step
 pub mod Checked
 pub mod Trace
 pub mod Trail
+pub mod Follow
 pub mod InPlace

@@ -10,6 +10,7 @@
 mod arithmetic;
 mod execute;
 mod extension;
+mod follow;
 mod list_trail;
 mod load;
 mod mark_trail;
@@ -23,6 +24,7 @@ mod values;
 
 pub use execute::{turn, turn_in_place};
 pub use extension::asks;
+pub use follow::Followed;
 pub use list_trail::ListTrail;
 pub use mark_trail::MarkTrail;
 pub use meter::Meter;

@@ -43,4 +43,13 @@ impl Meter {
     {
         self.turns += 1;
     }
+
+    /// Counts turns that were made one after the other.
+    #[inline(always)]
+    pub(crate) fn add(&mut self, turns: u32)
+        requires { self.old + turns < 2 ^ 128 }
+        ensures { self.new ≡ self.old + turns }
+    {
+        self.turns += u128::from(turns);
+    }
 }

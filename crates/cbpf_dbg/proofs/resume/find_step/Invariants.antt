@@ -1,7 +1,7 @@
 use Rattle.std.proofs.Common.{◌≡◌, ◌+◌, ◌-◌, ◌≤◌}
 use Rattle.cbpf_code.specs.Sound.{IsSound}
 use Rattle.cbpf_machine.specs.Trace.{trace}
-use Rattle.cbpf_machine.proofs.TraceLemmas.{Goes}
+use Rattle.cbpf_machine.specs.Follow.{Goes}
 use Rattle.cbpf_dbg.specs.Loaded.{machine_in}
 use Rattle.cbpf_dbg.proofs.resume.find_step.Given as goal
 

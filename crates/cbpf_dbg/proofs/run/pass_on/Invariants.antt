@@ -1,5 +1,5 @@
-use Rattle.std.proofs.Common.{◌≡◌, ◌+◌, ◌-◌, ◌<◌, length}
-use Rattle.cbpf_dbg.specs.Joined.{rest, ahead}
+use Rattle.std.proofs.Common.{◌≡◌, ◌+◌, ◌-◌, ◌<◌}
+use Rattle.cbpf_dbg.specs.Joined.{rest}
 use Rattle.cbpf_dbg.specs.Walk.{Stands, owed, NotBefore}
 use Rattle.cbpf_dbg.specs.Session.{Keeps}
 use Rattle.cbpf_dbg.specs.Loaded.{machine_in, records_in, breakpoints_in}
@@ -20,4 +20,4 @@ invariant-pass g l =
     }
 
 abbrev pub decreases-pass : goal.decreases-pass
-decreases-pass g l = length (ahead (machine_in l.loaded) (records_in l.loaded) l.w.place) + (length (records_in l.loaded) + 1 - l.w.place.packet)
+decreases-pass g l = 4096 - l.w.place.step

@@ -2,7 +2,7 @@ use Rattle.std.proofs.Common.{◌≡◌, ◌+◌}
 use Rattle.cbpf_code.specs.Sound.{IsSound}
 use Rattle.cbpf_machine.specs.Machine.{machine_of}
 use Rattle.cbpf_machine.specs.Trace.{trace}
-use Rattle.cbpf_machine.proofs.TraceLemmas.{Goes}
+use Rattle.cbpf_machine.specs.Follow.{Goes}
 use Rattle.cbpf_machine.proofs.mark_trail.entry_from.Given as goal
 
 -- the state is the entry at this place

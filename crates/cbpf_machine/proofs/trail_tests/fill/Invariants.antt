@@ -2,7 +2,7 @@ use Rattle.std.proofs.Common.{◌≡◌, ◌+◌, ◌-◌, ◌≤◌, take}
 use Rattle.cbpf_code.specs.Sound.{IsSound}
 use Rattle.cbpf_machine.specs.Machine.{machine_of}
 use Rattle.cbpf_machine.specs.Trace.{trace}
-use Rattle.cbpf_machine.proofs.TraceLemmas.{Goes}
+use Rattle.cbpf_machine.specs.Follow.{Goes}
 use Rattle.cbpf_machine.proofs.trail_tests.fill.Given as goal
 
 -- the state is entry i, and the trail keeps the entries up to it
