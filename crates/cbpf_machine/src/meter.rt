@@ -4,8 +4,7 @@ use std::marker::Model;
 
 /// How many turns were made.
 ///
-/// A meter is neither `Copy` nor `Clone`, and only a turn raises it, by 1: [`turn`](crate::turn), or
-/// the same in place.
+/// A meter is neither `Copy` nor `Clone`, and only the turns that this crate makes raise it, each by 1.
 #[derive(Debug, Drop)]
 pub struct Meter {
     turns: u128,

@@ -80,6 +80,47 @@ fn filled_and_back<T: Trail, A: Allocator>(
     (s, meter.spent())
 }
 
+/// Fills a trail, and follows the packet from its last entry to the instruction that is watched: where it
+/// then is, its program counter, and how many turns that took.
+fn filled_and_followed<T: Trail, A: Allocator>(
+    rt: &impl Abort,
+    trail: &mut T,
+    p: &Program<A>,
+    count: u32,
+    watched: usize,
+) -> (Followed, u32, u128) {
+    let values = Values::new();
+    let packet = Packet {
+        bytes: b"",
+        wire: 0,
+    };
+    assert!(rt; 1 <= count && count <= 4096 && watched < 4096);
+    let _sound = p.len();
+    fill(rt, trail, p, packet, &values, count);
+    let mut table = [false; 4096];
+    table[watched] = true;
+    let mut meter = Meter::new();
+    let mut s = trail.back(&mut meter, p, packet, &values, count);
+    let before = meter.spent();
+    let followed = trail.follow(&mut meter, p, packet, &values, &table, &mut s);
+    (followed, s.pc(), meter.spent() - before)
+}
+
+fn assert_followed<T: Trail, A: Allocator>(rt: &impl Abort, trail: &mut T, p: &Program<A>) {
+    for (count, watched) in [(1, 1), (1, 64), (1, 4095), (64, 65), (65, 128), (130, 2000)] {
+        let turns = watched + 1 - count;
+        assert_eq!(rt;
+            filled_and_followed(rt, trail, p, count, watched as usize),
+            (Followed::Watched(turns), watched, u128::from(turns))
+        );
+    }
+    for count in [1, 64, 65, 4096] {
+        let (followed, _, turns) = filled_and_followed(rt, trail, p, count, 0);
+        assert_eq!(rt; followed, Followed::Ended(Outcome::Pass(2048)));
+        assert_eq!(rt; turns, u128::from(4097 - count));
+    }
+}
+
 fn assert_entries<T: Trail, A: Allocator>(
     rt: &impl Abort,
     trail: &mut T,
@@ -128,4 +169,12 @@ fn each_64th_state_is_marked(rt: HostRuntime) {
             (4096, 63),
         ],
     );
+}
+
+#[test]
+fn a_packet_is_followed_to_what_is_watched(rt: HostRuntime) {
+    let p = counting(&rt, rt.alloc(), 4096);
+    let mut list = ListTrail::new(rt.alloc()).expect(&rt, "memory");
+    assert_followed(&rt, &mut list, &p);
+    assert_followed(&rt, &mut MarkTrail::new(), &p);
 }
