@@ -9,17 +9,17 @@ use Rattle.cbpf_code.specs.declared.checker.CheckFault.{CheckFault}
 use Rattle.cbpf_code.specs.declared.checker.CheckFault.TheVariants.{NoInstruction, TooMany, UnknownCode, NoSlot, ZeroDivisor, WideShift, JumpOutside, UnknownExtension, NoReturn, UnwrittenSlot}
 use Rattle.cbpf_code.specs.Opcode.{op_of}
 use Rattle.cbpf_code.specs.Faults.{IsReturn, HasFault, FirstFault, rank, index_of}
-use Rattle.cbpf_code.specs.Sound.{IsAllowed, AllowedAt, IsSound}
-use Rattle.cbpf_code.specs.CheckSteps.{PassesBefore, IsWellFormed, InsnHasFault}
+use Rattle.cbpf_code.specs.Sound.{IsSound}
+use Rattle.cbpf_code.specs.CheckSteps.{PassesBefore, IsWellFormed, InsnHasFault, IsAllowed, AllowedAt}
 use Rattle.cbpf_code.proofs.PathLemmas.{allowed_at-same}
 
 -- the refusal of a known instruction stands in the list
 pub insn_has_fault-has_fault : (list : List Insn) (i : ℕ) (insn : Insn) (op : Op) (e : CheckFault) → slice_get list i ≡ Some insn → op_of insn.code ≡ Some op → InsnHasFault op insn i (length list) e → HasFault list e
-insn_has_fault-has_fault list i insn op (NoSlot j) here known g = subst (λ k. HasFault list (NoSlot k)) (sym g.0) (insn, op, here, known, (g.1, g.2))
-insn_has_fault-has_fault list i insn op (ZeroDivisor j) here known g = subst (λ k. HasFault list (ZeroDivisor k)) (sym g.0) (insn, op, here, known, (g.1, g.2))
-insn_has_fault-has_fault list i insn op (WideShift j) here known g = subst (λ k. HasFault list (WideShift k)) (sym g.0) (insn, op, here, known, (g.1, g.2))
-insn_has_fault-has_fault list i insn op (JumpOutside j) here known g = subst (λ k. HasFault list (JumpOutside k)) (sym g.0) (insn, op, here, known, (g.1.0, g.1.1, g.1.2))
-insn_has_fault-has_fault list i insn op (UnknownExtension j) here known g = subst (λ k. HasFault list (UnknownExtension k)) (sym g.0) (insn, op, here, known, (g.1, g.2, g.3))
+insn_has_fault-has_fault list i insn op (NoSlot j) here known g = subst (λ k. HasFault list (NoSlot k)) (sym g.0) (insn, op, here, known, g.1)
+insn_has_fault-has_fault list i insn op (ZeroDivisor j) here known g = subst (λ k. HasFault list (ZeroDivisor k)) (sym g.0) (insn, op, here, known, g.1)
+insn_has_fault-has_fault list i insn op (WideShift j) here known g = subst (λ k. HasFault list (WideShift k)) (sym g.0) (insn, op, here, known, g.1)
+insn_has_fault-has_fault list i insn op (JumpOutside j) here known g = subst (λ k. HasFault list (JumpOutside k)) (sym g.0) (insn, op, here, known, g.1)
+insn_has_fault-has_fault list i insn op (UnknownExtension j) here known g = subst (λ k. HasFault list (UnknownExtension k)) (sym g.0) (insn, op, here, known, g.1)
 insn_has_fault-has_fault list i insn op NoInstruction here known g = absurd g
 insn_has_fault-has_fault list i insn op TooMany here known g = absurd g
 insn_has_fault-has_fault list i insn op (UnknownCode j) here known g = absurd g
@@ -50,19 +50,19 @@ passes_before-excludes list m TooMany passed before st = let few = passed.few in
 passes_before-excludes list m (UnknownCode i) passed before st = known_of list m i st.0 passed (inside i m before) st.1 st.2
 passes_before-excludes list m (NoSlot i) passed before st =
     let a = allowed_of list m i st.0 st.1 passed (inside i m before) st.2 st.3 in
-    let k = a.slot st.4.0 in omega (arith, st.4.1)
+    a.slot st.4
 passes_before-excludes list m (ZeroDivisor i) passed before st =
     let a = allowed_of list m i st.0 st.1 passed (inside i m before) st.2 st.3 in
-    let k = a.divisor st.4.0 in omega (arith, st.4.1)
+    a.divisor st.4
 passes_before-excludes list m (WideShift i) passed before st =
     let a = allowed_of list m i st.0 st.1 passed (inside i m before) st.2 st.3 in
-    let k = a.shift st.4.0 in omega (arith, st.4.1)
+    a.shift st.4
 passes_before-excludes list m (JumpOutside i) passed before st =
     let a = allowed_of list m i st.0 st.1 passed (inside i m before) st.2 st.3 in
-    let k = a.targets st.4.0 st.4.1 in omega (arith, st.4.2)
+    a.targets st.4
 passes_before-excludes list m (UnknownExtension i) passed before st =
     let a = allowed_of list m i st.0 st.1 passed (inside i m before) st.2 st.3 in
-    a.extension st.4.0 st.4.1 st.4.2
+    a.extension st.4
 passes_before-excludes list m NoReturn passed before st = elim before [ inl h ↦ omega arith | inr h ↦ omega (arith, h.0) ]
 passes_before-excludes list m (UnwrittenSlot i) passed before st = elim before [ inl h ↦ omega arith | inr h ↦ omega (arith, h.0) ]
 

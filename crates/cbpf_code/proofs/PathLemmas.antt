@@ -15,8 +15,7 @@ use Rattle.cbpf_code.specs.Opcode.{op_of}
 use Rattle.cbpf_code.specs.ControlFlow.{InsnAt, Follows, FollowsCode, IsSuccessor, StoresSlot, MayBeUnwritten, loads_slot, stores_slot}
 use Rattle.cbpf_code.specs.ControlFlow.MayBeUnwritten.{at_start, onward}
 use Rattle.cbpf_code.specs.Faults.{uses_slot, HasFault}
-use Rattle.cbpf_code.specs.Sound.{IsAllowed, AllowedAt}
-use Rattle.cbpf_code.specs.CheckSteps.{IsWellFormed}
+use Rattle.cbpf_code.specs.CheckSteps.{IsWellFormed, IsAllowed, AllowedAt}
 use Rattle.cbpf_code.specs.SlotMasks.{InMask, InMaskOf, LeavesUnwritten, AddsToMasks}
 
 -- ---- an instruction of a list
@@ -139,8 +138,8 @@ written-all list masks tracks j stands = tracks.written j (slice_get_within list
 -- ---- what follows is inside
 
 allowed_follows-inside : (op : Op) (insn : Insn) (i n t : ℕ) → IsAllowed op insn i n → i < n → (i + 1 ≡ n → (op ≡ RetK) ⊎ (op ≡ RetA)) → Follows op insn i t → t < n
-allowed_follows-inside Ja insn i n t allowed below last h = allowed.targets t h
-allowed_follows-inside (Jump k src) insn i n t allowed below last h = allowed.targets t h
+allowed_follows-inside Ja insn i n t allowed below last h = elim (cases_lt t n) [ inl l ↦ l | inr past ↦ absurd (allowed.targets (t, h, past)) ]
+allowed_follows-inside (Jump k src) insn i n t allowed below last h = elim (cases_lt t n) [ inl l ↦ l | inr past ↦ absurd (allowed.targets (t, h, past)) ]
 allowed_follows-inside RetK insn i n t allowed below last h = absurd h
 allowed_follows-inside RetA insn i n t allowed below last h = absurd h
 allowed_follows-inside _ insn i n t allowed below last h =

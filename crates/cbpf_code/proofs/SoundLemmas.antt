@@ -1,6 +1,6 @@
 -- What a checked list says of its instructions, for those who run it.
 use Rattle.std.proofs.Common.{◌≡◌, ℕ, ◌+◌, ◌-◌, ◌<◌, ◌≤◌, List, length, arith, refl, subst, inl, inr}
-use Rattle.std.specs.Prelude.{◌⊎◌, Option, Some, None, slice_get}
+use Rattle.std.specs.Prelude.{◌⊎◌, IsTrue, Option, Some, None, slice_get}
 use Rattle.std.proofs.lemmas.Bool.{cases_eq, cases_lt}
 use Rattle.std.proofs.lemmas.Option.{slice_get_cases}
 use Rattle.cbpf_code.specs.declared.insn.Insn.{Insn}
@@ -8,10 +8,11 @@ use Rattle.cbpf_code.specs.declared.opcode.Op.{Op}
 use Rattle.cbpf_code.specs.declared.opcode.Op.TheVariants.{RetK, RetA}
 use Rattle.cbpf_code.specs.declared.checker.CheckFault.TheVariants.{NoInstruction, TooMany, UnknownCode, NoSlot, ZeroDivisor, WideShift, JumpOutside, UnknownExtension, NoReturn}
 use Rattle.cbpf_code.specs.Opcode.{op_of}
-use Rattle.cbpf_code.specs.ControlFlow.{Follows}
-use Rattle.cbpf_code.specs.Faults.{IsReturn}
-use Rattle.cbpf_code.specs.Sound.{IsAllowed, IsSound}
-use Rattle.cbpf_code.specs.CheckSteps.{IsWellFormed}
+use Rattle.cbpf_code.specs.Extension.{ext_at}
+use Rattle.cbpf_code.specs.ControlFlow.{Follows, IsTarget}
+use Rattle.cbpf_code.specs.Faults.{uses_slot, divides_by_k, shifts_by_k, loads_absolute, IsReturn}
+use Rattle.cbpf_code.specs.Sound.{IsSound}
+use Rattle.cbpf_code.specs.CheckSteps.{IsWellFormed, IsAllowed}
 use Rattle.cbpf_code.proofs.PathLemmas.{follows-inside}
 
 pub sound_few : (list : List Insn) → IsSound list → length list ≤ 4096
@@ -24,13 +25,30 @@ known_or (Some op) = inr (op, refl)
 pub sound_known : (list : List Insn) (i : ℕ) (insn : Insn) → IsSound list → slice_get list i ≡ Some insn → (op : Op) × (op_of insn.code ≡ Some op)
 sound_known list i insn sound here = elim (known_or (op_of insn.code)) [ inl none ↦ absurd (sound.none (UnknownCode i) (insn, here, none)) | inr known ↦ known ]
 
-pub sound_allowed : (list : List Insn) (i : ℕ) (insn : Insn) (op : Op) → IsSound list → slice_get list i ≡ Some insn → op_of insn.code ≡ Some op → IsAllowed op insn i (length list)
+-- what the absence of C4 to C8 says of an instruction at i of n
+pub record Allowed (op : Op) (insn : Insn) (i n : ℕ) : Type 0 where
+  pub slot : IsTrue (uses_slot op) → insn.k < 16
+  pub divisor : IsTrue (divides_by_k op) → 0 < insn.k
+  pub shift : IsTrue (shifts_by_k op) → insn.k < 32
+  pub targets : (t : ℕ) → IsTarget op insn i t → t < n
+  pub extension : IsTrue (loads_absolute op) → 4294963200 ≤ insn.k → ext_at insn.k ≡ None → ⊥
+
+pub sound_allowed : (list : List Insn) (i : ℕ) (insn : Insn) (op : Op) → IsSound list → slice_get list i ≡ Some insn → op_of insn.code ≡ Some op → Allowed op insn i (length list)
 sound_allowed list i insn op sound here known = record {
   slot = λ names. elim (cases_lt insn.k 16) [ inl h ↦ h | inr h ↦ absurd (sound.none (NoSlot i) (insn, op, here, known, (names, h))) ];
   divisor = λ divides. elim (cases_eq insn.k 0) [ inl e ↦ absurd (sound.none (ZeroDivisor i) (insn, op, here, known, (divides, e))) | inr n ↦ omega arith ];
   shift = λ shifts. elim (cases_lt insn.k 32) [ inl h ↦ h | inr h ↦ absurd (sound.none (WideShift i) (insn, op, here, known, (shifts, h))) ];
   targets = λ t target. elim (cases_lt t (length list)) [ inl h ↦ h | inr h ↦ absurd (sound.none (JumpOutside i) (insn, op, here, known, (t, target, h))) ];
   extension = λ loads far none. sound.none (UnknownExtension i) (insn, op, here, known, (loads, far, none));
+}
+
+none_of : (list : List Insn) (i : ℕ) (insn : Insn) (op : Op) → IsSound list → slice_get list i ≡ Some insn → op_of insn.code ≡ Some op → IsAllowed op insn i (length list)
+none_of list i insn op sound here known = record {
+  slot = λ h. sound.none (NoSlot i) (insn, op, here, known, h);
+  divisor = λ h. sound.none (ZeroDivisor i) (insn, op, here, known, h);
+  shift = λ h. sound.none (WideShift i) (insn, op, here, known, h);
+  targets = λ h. sound.none (JumpOutside i) (insn, op, here, known, h);
+  extension = λ h. sound.none (UnknownExtension i) (insn, op, here, known, h);
 }
 
 pub sound_some : (list : List Insn) → IsSound list → 0 < length list
@@ -59,7 +77,7 @@ sound_well_formed list sound = record {
         elim (slice_get_cases list j).1 [
           | inl found ↦
               let known = sound_known list j found.0 sound found.2 in
-              (found.0, known.0, found.2, known.1, sound_allowed list j found.0 known.0 sound found.2 known.1)
+              (found.0, known.0, found.2, known.1, none_of list j found.0 known.0 sound found.2 known.1)
           | inr past ↦ absurd (omega arith)
         ];
   };

@@ -1,22 +1,32 @@
 -- What the passes of the checker promise one another; the rules themselves are those of Faults (bpf(4), "FILTER MACHINE").
-use Rattle.std.specs.Prelude.{◌≡◌, ℕ, ◌+◌, ◌<◌, ◌≤◌, IsTrue, List, Some, None, length, slice_get}
+use Rattle.std.specs.Prelude.{◌≡◌, ℕ, ◌+◌, ◌<◌, ◌≤◌, List, Some, length, slice_get}
 use Rattle.cbpf_code.specs.declared.insn.Insn.{Insn}
 use Rattle.cbpf_code.specs.declared.opcode.Op.{Op}
 use Rattle.cbpf_code.specs.declared.checker.CheckFault.{CheckFault}
 use Rattle.cbpf_code.specs.declared.checker.CheckFault.TheVariants.{NoSlot, ZeroDivisor, WideShift, JumpOutside, UnknownExtension}
-use Rattle.cbpf_code.specs.Extension.{ext_at}
-use Rattle.cbpf_code.specs.ControlFlow.{IsTarget}
-use Rattle.cbpf_code.specs.Faults.{uses_slot, divides_by_k, shifts_by_k, loads_absolute, IsReturn}
-use Rattle.cbpf_code.specs.Sound.{AllowedAt}
+use Rattle.cbpf_code.specs.ControlFlow.{InsnAt}
+use Rattle.cbpf_code.specs.Faults.{NamesNoSlot, DividesByZero, ShiftsTooFar, JumpsOutside, LoadsNoExtension, IsReturn}
 
 -- an instruction of a known code, at i of n, has this fault of C4 to C8
 abbrev pub InsnHasFault : Op → Insn → ℕ → ℕ → CheckFault → Type 0
-InsnHasFault op insn i n (NoSlot j) = (j ≡ i) × IsTrue (uses_slot op) × (16 ≤ insn.k)
-InsnHasFault op insn i n (ZeroDivisor j) = (j ≡ i) × IsTrue (divides_by_k op) × (insn.k ≡ 0)
-InsnHasFault op insn i n (WideShift j) = (j ≡ i) × IsTrue (shifts_by_k op) × (32 ≤ insn.k)
-InsnHasFault op insn i n (JumpOutside j) = (j ≡ i) × ((t : ℕ) × IsTarget op insn i t × (n ≤ t))
-InsnHasFault op insn i n (UnknownExtension j) = (j ≡ i) × IsTrue (loads_absolute op) × (4294963200 ≤ insn.k) × (ext_at insn.k ≡ None)
+InsnHasFault op insn i n (NoSlot j) = (j ≡ i) × NamesNoSlot op insn
+InsnHasFault op insn i n (ZeroDivisor j) = (j ≡ i) × DividesByZero op insn
+InsnHasFault op insn i n (WideShift j) = (j ≡ i) × ShiftsTooFar op insn
+InsnHasFault op insn i n (JumpOutside j) = (j ≡ i) × JumpsOutside op insn i n
+InsnHasFault op insn i n (UnknownExtension j) = (j ≡ i) × LoadsNoExtension op insn
 InsnHasFault op insn i n _ = ⊥
+
+-- it has none of them
+pub record IsAllowed (op : Op) (insn : Insn) (i n : ℕ) : Type 0 where
+  pub slot : NamesNoSlot op insn → ⊥
+  pub divisor : DividesByZero op insn → ⊥
+  pub shift : ShiftsTooFar op insn → ⊥
+  pub targets : JumpsOutside op insn i n → ⊥
+  pub extension : LoadsNoExtension op insn → ⊥
+
+-- the instruction at i has none of the faults C3 to C8
+abbrev pub AllowedAt : List Insn → ℕ → Type 0
+AllowedAt list i = InsnAt list i (λ op insn. IsAllowed op insn i (length list))
 
 -- C1 to C8 are absent before instruction m
 pub record PassesBefore (list : List Insn) (m : ℕ) : Type 0 where

@@ -36,16 +36,32 @@ loads_absolute _ = false
 abbrev pub IsReturn : Insn → Type 0
 IsReturn insn = (op_of insn.code ≡ Some RetK) ⊎ (op_of insn.code ≡ Some RetA)
 
+-- what is wrong with one instruction, at index i of n: C4 to C8, a definition each
+abbrev pub NamesNoSlot : Op → Insn → Type 0
+NamesNoSlot op insn = IsTrue (uses_slot op) × (16 ≤ insn.k)
+
+abbrev pub DividesByZero : Op → Insn → Type 0
+DividesByZero op insn = IsTrue (divides_by_k op) × (insn.k ≡ 0)
+
+abbrev pub ShiftsTooFar : Op → Insn → Type 0
+ShiftsTooFar op insn = IsTrue (shifts_by_k op) × (32 ≤ insn.k)
+
+abbrev pub JumpsOutside : Op → Insn → ℕ → ℕ → Type 0
+JumpsOutside op insn i n = (t : ℕ) × IsTarget op insn i t × (n ≤ t)
+
+abbrev pub LoadsNoExtension : Op → Insn → Type 0
+LoadsNoExtension op insn = IsTrue (loads_absolute op) × (4294963200 ≤ insn.k) × (ext_at insn.k ≡ None)
+
 -- a list has a fault: C1 to C10, a line each
 abbrev pub HasFault : List Insn → CheckFault → Type 0
 HasFault list NoInstruction = length list ≡ 0
 HasFault list TooMany = 4096 < length list
 HasFault list (UnknownCode i) = (insn : Insn) × (slice_get list i ≡ Some insn) × (op_of insn.code ≡ None)
-HasFault list (NoSlot i) = InsnAt list i (λ op insn. IsTrue (uses_slot op) × (16 ≤ insn.k))
-HasFault list (ZeroDivisor i) = InsnAt list i (λ op insn. IsTrue (divides_by_k op) × (insn.k ≡ 0))
-HasFault list (WideShift i) = InsnAt list i (λ op insn. IsTrue (shifts_by_k op) × (32 ≤ insn.k))
-HasFault list (JumpOutside i) = InsnAt list i (λ op insn. (t : ℕ) × IsTarget op insn i t × (length list ≤ t))
-HasFault list (UnknownExtension i) = InsnAt list i (λ op insn. IsTrue (loads_absolute op) × (4294963200 ≤ insn.k) × (ext_at insn.k ≡ None))
+HasFault list (NoSlot i) = InsnAt list i (λ op insn. NamesNoSlot op insn)
+HasFault list (ZeroDivisor i) = InsnAt list i (λ op insn. DividesByZero op insn)
+HasFault list (WideShift i) = InsnAt list i (λ op insn. ShiftsTooFar op insn)
+HasFault list (JumpOutside i) = InsnAt list i (λ op insn. JumpsOutside op insn i (length list))
+HasFault list (UnknownExtension i) = InsnAt list i (λ op insn. LoadsNoExtension op insn)
 HasFault list NoReturn = (insn : Insn) × (slice_get list (length list - 1) ≡ Some insn) × (IsReturn insn → ⊥)
 HasFault list (UnwrittenSlot i) = InsnAt list i (λ op insn. IsTrue (loads_slot op) × MayBeUnwritten list insn.k i)
 

@@ -1,8 +1,8 @@
 ghost use Rattle.std.specs.Prelude.{◌≡◌, ◌<◌, ◌≤◌, ◌+◌, ◌-◌, ◌↔◌, ◌⊎◌, ℕ, Some, length, slice_get, slice_index, MatchOption, IsOk, IfOk, IfErr, IsTrue};
 ghost use Rattle.cbpf_code.specs.Faults.{FirstFault, HasFault, IsReturn};
 ghost use Rattle.cbpf_code.specs.Faults as spec;
-ghost use Rattle.cbpf_code.specs.Sound.{AllowedAt, IsAllowed, IsSound};
-ghost use Rattle.cbpf_code.specs.CheckSteps.{InsnHasFault};
+ghost use Rattle.cbpf_code.specs.Sound.{IsSound};
+ghost use Rattle.cbpf_code.specs.CheckSteps.{AllowedAt, IsAllowed, InsnHasFault};
 ghost use Rattle.cbpf_code.specs.declared.checker.CheckFault.{CheckFault};
 
 use crate::extension::ext_at;

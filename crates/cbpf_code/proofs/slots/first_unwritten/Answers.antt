@@ -1,5 +1,6 @@
-use Rattle.std.proofs.Common.{◌≡◌, ℕ, ◌<◌, List, length, get_or, arith, sym, ◌∙◌, subst, refl}
+use Rattle.std.proofs.Common.{◌≡◌, ℕ, ◌<◌, List, length, get_or, arith, sym, ◌∙◌, subst, refl, inl, inr}
 use Rattle.std.specs.Prelude.{Some, IsTrue, slice_get}
+use Rattle.std.proofs.lemmas.Bool.{cases_lt}
 use Rattle.std.proofs.lemmas.Option.{slice_get-get_or}
 use Rattle.cbpf_code.specs.declared.insn.Insn.{Insn}
 use Rattle.cbpf_code.specs.declared.opcode.Op.{Op}
@@ -14,7 +15,10 @@ here : (list : List Insn) (i : ℕ) → i < length list → slice_get list i ≡
 here list i below = slice_get-get_or list i zero_insn below
 
 slot_below : (list : List Insn) (i : ℕ) (op : Op) → IsWellFormed list → i < length list → op_of (get_or list i zero_insn).code ≡ Some op → IsTrue (uses_slot op) → (get_or list i zero_insn).k < 16
-slot_below list i op formed below known uses = (allowed_of list _ i _ op formed.passed below (here list i below) known).slot uses
+slot_below list i op formed below known uses = elim (cases_lt (get_or list i zero_insn).k 16) [
+  | inl fits ↦ fits
+  | inr past ↦ absurd ((allowed_of list _ i _ op formed.passed below (here list i below) known).slot (uses, past))
+]
 
 pub loop-i-init : goal.loop-i-init
 loop-i-init c = tracks_paths-start c.args.list.now
