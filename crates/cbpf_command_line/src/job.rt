@@ -10,7 +10,7 @@ pub enum Form {
 }
 
 /// What the program is asked to do. Without a file's name it is the standard stream.
-#[derive(Debug, Drop)]
+#[derive(Debug, PartialEq, Eq, Drop)]
 pub enum Job {
     /// `asm [-c] [file]`: assemble a source.
     Asm {
@@ -25,7 +25,7 @@ pub enum Job {
 }
 
 /// Why a command line asks for no job.
-#[derive(Debug, Drop)]
+#[derive(Debug, PartialEq, Eq, Drop)]
 pub enum LineFault {
     /// It asks for help, and this is the text.
     Help(String),

@@ -1,5 +1,5 @@
 /// A packet as a capture has it.
-#[derive(Clone, Copy, Debug)]
+#[derive(Clone, Copy, Debug, PartialEq, Eq)]
 pub struct Packet<'a> {
     /// The captured bytes.
     pub bytes: &'a [u8],

@@ -6,13 +6,13 @@ ghost use Rattle.cbpf_tool.specs.Loads.{Loads};
 ghost use Rattle.cbpf_tool.specs.declared.files.LoadFault.TheVariants as fault;
 
 use crate::files::{Files, LoadFault};
-use std::alloc::Allocator;
+use std::alloc::{Allocator, Global};
 use std::collections::VecDeque;
 use std::marker::Model;
 
 /// Files in memory: a log of what was put, the newest first.
 #[derive(Drop)]
-pub struct MemoryFiles<A: Allocator> {
+pub struct MemoryFiles<A: Allocator = Global> {
     log: VecDeque<(Vec<u8, A>, Vec<u8, A>), A>,
     failures: u64,
 }
