@@ -20,11 +20,12 @@ use Rattle.cbpf_code.specs.declared.writing.WriteFault.{WriteFault}
 use Rattle.cbpf_command.specs.declared.command.LineRefusal.{LineRefusal}
 use Rattle.std.specs.Result.{IsErr}
 use Rattle.cbpf_tool.specs.Texts.{word_fault_text, check_fault_text, program_text, capture_fault_text, capture_text, absent_text, device_text, memory_text}
-use Rattle.cbpf_tool.specs.Replies.{Exactly, LoadsWords, unreadable, unsound, accepted, Failed, Answers, Replies}
+use Rattle.cbpf_tool.specs.Replies.{Exactly, LoadsWords, unreadable, unsound, accepted, no_capture, a_capture, Failed, Answers, Replies}
 use Rattle.cbpf_tool.specs.declared.files.LoadFault.{LoadFault}
 use Rattle.cbpf_command.specs.Commands.{Spelled, load_capture}
-use Rattle.pcap_classic.specs.Savefile.{Savefile, savefile_of, IsRefusal}
+use Rattle.pcap_classic.specs.Savefile.{Savefile, IsSavefile, IsRefusal}
 use Rattle.pcap_classic.specs.declared.fault.CaptureFault.{CaptureFault}
+use Rattle.pcap_classic.specs.declared.fault.CaptureFault.TheVariants as capture_fault
 use Rattle.std.specs.FinMap as map
 
 -- a text whose reply changes nothing
@@ -56,14 +57,14 @@ words-accepted m n text list program count Written s e sound c v w =
 
 pub capture-refused : (m : View) (bytes : List ℕ) (fault : CaptureFault) (files : FileMap) (f g : ℕ) (name : List ℕ) (Written : List ℕ → Type 0) → map.get files name ≡ Some bytes → IsRefusal fault bytes → Written (capture_fault_text fault) → Answers files m m f g (load_capture name) Written
 unfolding capture_fault_text
-capture-refused m bytes fault files f g name Written e r w = elim r [
-  | inl h ↦ inl (rw e (rw h (exactly-same _ m Written w)))
-  | inr h ↦ inr (inl (exactly-same _ m Written (rw h.0 at w)))
-]
+capture-refused m bytes capture_fault.Memory files f g name Written e r w = inr (inl (exactly-same memory_text m Written w))
+capture-refused m bytes capture_fault.FileHeaderCut files f g name Written e r w = inl (rw e (no_capture capture_fault.FileHeaderCut r (λ z. cc) (exactly-same _ m Written w)))
+capture-refused m bytes capture_fault.UnknownMagic files f g name Written e r w = inl (rw e (no_capture capture_fault.UnknownMagic r (λ z. cc) (exactly-same _ m Written w)))
+capture-refused m bytes capture_fault.UnknownVersion files f g name Written e r w = inl (rw e (no_capture capture_fault.UnknownVersion r (λ z. cc) (exactly-same _ m Written w)))
 
-pub capture-accepted : (m n : View) (bytes : List ℕ) (capture : Savefile) (files : FileMap) (f g : ℕ) (name : List ℕ) (Written : List ℕ → Type 0) → map.get files name ≡ Some bytes → savefile_of bytes ≡ Ok capture → n ≡ with_capture_loaded m capture → Written (capture_text capture) → Answers files m n f g (load_capture name) Written
+pub capture-accepted : (m n : View) (bytes : List ℕ) (capture : Savefile) (files : FileMap) (f g : ℕ) (name : List ℕ) (Written : List ℕ → Type 0) → map.get files name ≡ Some bytes → IsSavefile bytes capture → n ≡ with_capture_loaded m capture → Written (capture_text capture) → Answers files m n f g (load_capture name) Written
 unfolding Exactly
-capture-accepted m n bytes capture files f g name Written e h v w = inl (rw e (rw h (v, w)))
+capture-accepted m n bytes capture files f g name Written e h v w = inl (rw e (a_capture capture h (v, w)))
 
 pub capture-absent : (m : View) (files : FileMap) (f g : ℕ) (name : List ℕ) (Written : List ℕ → Type 0) → map.get files name ≡ None → Written absent_text → Answers files m m f g (load_capture name) Written
 capture-absent m files f g name Written e w = inl (rw e (exactly-same _ m Written w))
@@ -97,7 +98,7 @@ pub load-refused : {V : Type 0} (items : V → List ℕ) (f g : Source) (m : Vie
 load-refused items f g m name Written v fault l r w =
     (kept-from items f g name (Ok v) l, λ t. capture-refused m (items v) fault f.files f.failures g.failures name Written (l.gives t) r w)
 
-pub load-accepted : {V : Type 0} (items : V → List ℕ) (f g : Source) (m n : View) (name : List ℕ) (Written : List ℕ → Type 0) (v : V) (capture : Savefile) → Loads items f g name (Ok v) → savefile_of (items v) ≡ Ok capture → n ≡ with_capture_loaded m capture → Written (capture_text capture) → CaptureLoaded f g m n name Written
+pub load-accepted : {V : Type 0} (items : V → List ℕ) (f g : Source) (m n : View) (name : List ℕ) (Written : List ℕ → Type 0) (v : V) (capture : Savefile) → Loads items f g name (Ok v) → IsSavefile (items v) capture → n ≡ with_capture_loaded m capture → Written (capture_text capture) → CaptureLoaded f g m n name Written
 load-accepted items f g m n name Written v capture l h e w =
     (kept-from items f g name (Ok v) l, λ t. capture-accepted m n (items v) capture f.files f.failures g.failures name Written (l.gives t) h e w)
 

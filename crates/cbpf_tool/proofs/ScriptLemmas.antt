@@ -8,13 +8,11 @@ use Rattle.cbpf_code.proofs.WrittenLemmas.{appended-nil, appended-then, appended
 use Rattle.cbpf_command.specs.Commands.{Spelled, load_words, load_capture, run, disassemble, dump, breakpoint, breakpoint_when_a, breakpoint_when_x, breakpoints, reset_breakpoints, delete, step, select, mark, resume, stops, value, quit, command_of}
 use Rattle.cbpf_command.specs.declared.command.LineRefusal.{LineRefusal}
 use Rattle.cbpf_command.specs.declared.command.LineRefusal.TheVariants.{UnknownCommand, WrongArguments}
-use Rattle.pcap_classic.specs.Savefile.{Savefile, savefile_of}
-use Rattle.pcap_classic.specs.declared.fault.CaptureFault.{CaptureFault}
 use Rattle.cbpf_tool.specs.FileMap.{FileMap, Source}
 use Rattle.cbpf_tool.specs.Lines.{lines, put_front, whole_lines, has_newline}
 use Rattle.cbpf_dbg.specs.View.{View, empty_view}
 use Rattle.cbpf_tool.specs.Reading.{unread, Took, TakesLine}
-use Rattle.cbpf_tool.specs.Replies.{Exactly, LoadsWords, unreadable, unsound, accepted, ReadsCapture, LoadsCapture, Answers, Replies}
+use Rattle.cbpf_tool.specs.Replies.{Exactly, LoadsWords, unreadable, unsound, accepted, ReadsCapture, no_capture, a_capture, LoadsCapture, Answers, Replies}
 use Rattle.cbpf_tool.specs.Output.{Output, at_end, at_quit, at_line, HasQuit}
 use Rattle.cbpf_tool.specs.Progress.{CarriedOut, unlines, EachPlain, Ran, still, onward, Progress}
 use Rattle.cbpf_tool.specs.Debugged.{IsOutput, Faulted, Finished}
@@ -90,13 +88,13 @@ words-named m n text W (unreadable fault r u h) = let k = exactly-named _ m n W 
 words-named m n text W (unsound list fault s f h) = let k = exactly-named _ m n W h in (k.0, unsound list fault s f k.1, k.2)
 words-named m n text W (accepted list s f h) = let k = exactly-named _ _ n W h in (k.0, accepted list s f k.1, k.2)
 
-reads-named : (m n : View) (c : Result Savefile CaptureFault) (W : List ℕ → Type 0) → ReadsCapture m n c W → (t : List ℕ) × ReadsCapture m n c (λ s. s ≡ t) × W t
-reads-named m n (Ok c) W h = exactly-named _ _ n W h
-reads-named m n (Err f) W h = exactly-named _ m n W h
+reads-named : (m n : View) (bytes : List ℕ) (W : List ℕ → Type 0) → ReadsCapture m n bytes W → (t : List ℕ) × ReadsCapture m n bytes (λ s. s ≡ t) × W t
+reads-named m n bytes W (no_capture fault r u h) = let k = exactly-named _ m n W h in (k.0, no_capture fault r u k.1, k.2)
+reads-named m n bytes W (a_capture capture s h) = let k = exactly-named _ _ n W h in (k.0, a_capture capture s k.1, k.2)
 
 capture-named : (m n : View) (bytes : Option (List ℕ)) (W : List ℕ → Type 0) → LoadsCapture m n bytes W → (t : List ℕ) × LoadsCapture m n bytes (λ s. s ≡ t) × W t
 capture-named m n None W h = exactly-named _ m n W h
-capture-named m n (Some bytes) W h = reads-named m n (savefile_of bytes) W h
+capture-named m n (Some bytes) W h = reads-named m n bytes W h
 
 answers-named : (files : FileMap) (m n : View) (f g : ℕ) (c : Spelled) (W : List ℕ → Type 0) → Answers files m n f g c W → (t : List ℕ) × Answers files m n f g c (λ s. s ≡ t) × W t
 answers-named files m n f g (load_words text) W (inl h) = let k = words-named m n text W h in (k.0, inl k.1, k.2)

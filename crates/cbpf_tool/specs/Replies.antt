@@ -12,8 +12,9 @@ use Rattle.cbpf_code.specs.declared.checker.CheckFault.{CheckFault}
 use Rattle.cbpf_command.specs.Commands.{Spelled, load_words, load_capture, run, disassemble, dump, breakpoint, breakpoint_when_a, breakpoint_when_x, breakpoints, reset_breakpoints, delete, step, select, mark, resume, stops, value, quit}
 use Rattle.cbpf_command.specs.declared.command.LineRefusal.{LineRefusal}
 use Rattle.cbpf_command.specs.declared.command.LineRefusal.TheVariants.{UnknownCommand, WrongArguments}
-use Rattle.pcap_classic.specs.Savefile.{Savefile, savefile_of}
+use Rattle.pcap_classic.specs.Savefile.{Savefile, IsSavefile, IsRefusal}
 use Rattle.pcap_classic.specs.declared.fault.CaptureFault.{CaptureFault}
+use Rattle.pcap_classic.specs.declared.fault.CaptureFault.TheVariants as capture_fault
 use Rattle.cbpf_tool.specs.FileMap.{FileMap}
 use Rattle.cbpf_dbg.specs.View.{View}
 use Rattle.cbpf_dbg.specs.declared.breakpoint.When.{When}
@@ -37,14 +38,14 @@ pub data LoadsWords (m n : View) (text : List ℕ) (Written : List ℕ → Type 
   unsound : (list : List Insn) (fault : CheckFault) → Spells text list → FirstFault list fault → Exactly (check_fault_text fault) m n Written → LoadsWords m n text Written
   accepted : (list : List Insn) → Spells text list → IsSound list → Exactly (program_text (length list)) (with_program_loaded m list) n Written → LoadsWords m n text Written
 
--- `load pcap`: by the bytes that the file has, and the capture that they hold
-abbrev pub ReadsCapture : View → View → Result Savefile CaptureFault → (List ℕ → Type 0) → Type 0
-ReadsCapture m n (Ok c) Written = Exactly (capture_text c) (with_capture_loaded m c) n Written
-ReadsCapture m n (Err fault) Written = Exactly (capture_fault_text fault) m n Written
+-- `load pcap` of a file with these bytes: why they are no capture, else the capture is held
+pub data ReadsCapture (m n : View) (bytes : List ℕ) (Written : List ℕ → Type 0) : Type 0 where
+  no_capture : (fault : CaptureFault) → IsRefusal fault bytes → (fault ≡ capture_fault.Memory → ⊥) → Exactly (capture_fault_text fault) m n Written → ReadsCapture m n bytes Written
+  a_capture : (capture : Savefile) → IsSavefile bytes capture → Exactly (capture_text capture) (with_capture_loaded m capture) n Written → ReadsCapture m n bytes Written
 
 abbrev pub LoadsCapture : View → View → Option (List ℕ) → (List ℕ → Type 0) → Type 0
 LoadsCapture m n None Written = Exactly absent_text m n Written
-LoadsCapture m n (Some bytes) Written = ReadsCapture m n (savefile_of bytes) Written
+LoadsCapture m n (Some bytes) Written = ReadsCapture m n bytes Written
 
 -- the count of failures rose, or could not
 abbrev pub Failed : ℕ → ℕ → Type 0

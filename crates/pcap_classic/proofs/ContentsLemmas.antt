@@ -5,7 +5,8 @@ use Rattle.std.proofs.lemmas.Bool.{ltb-false}
 use Rattle.pcap_classic.specs.declared.endianness.Endianness.{Endianness}
 use Rattle.pcap_classic.specs.declared.front.Front.{Front}
 use Rattle.pcap_classic.specs.declared.front.Front.TheVariants.{Nothing, PartOfHeader, PartOfData, WholeRecord}
-use Rattle.pcap_classic.specs.Records.{Record, Contents, record_at, record_length, front_of, by_front, contents_within, contents_from, ContentsGoByFront}
+use Rattle.pcap_classic.specs.Records.{Record, record_at, record_length}
+use Rattle.pcap_classic.specs.Scan.{Contents, front_of, by_front, contents_within, contents_from}
 
 -- a whole record of this length stands at the front
 pub record IsWhole (order : Endianness) (bytes : List ℕ) (size : ℕ) : Type 0 where
@@ -48,7 +49,8 @@ contents_within-enough (suc f) (suc g) order n place bytes hf hg =
     contents_within-enough f g order (n + 1) (place + size) (drop size bytes) (omega arith) (omega arith))
 
 -- the contents by the front, with no bound
-pub contents_go_by_front : ContentsGoByFront
+pub contents_go_by_front : (order : Endianness) (n place : ℕ) (bytes : List ℕ)
+    → contents_from order n place bytes ≡ by_front (front_of order bytes) place (record_at order n place bytes) (λ size. contents_from order (n + 1) (place + size) (drop size bytes))
 unfolding contents_within
 contents_go_by_front order n place bytes =
     let more : contents_from order n place bytes ≡ contents_within (suc (length bytes)) order n place bytes =

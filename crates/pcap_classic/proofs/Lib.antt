@@ -1,3 +1,4 @@
 mod ContentsLemmas
 mod ReachLemmas
 mod MarkLemmas
+pub mod SavefileLemmas

@@ -6,7 +6,8 @@ use Rattle.std.proofs.lemmas.Option.{slice_get_within}
 use Rattle.pcap_classic.specs.declared.endianness.Endianness.{Endianness}
 use Rattle.pcap_classic.specs.declared.front.Front.{Front}
 use Rattle.pcap_classic.specs.declared.front.Front.TheVariants.{Nothing, PartOfHeader, PartOfData, WholeRecord}
-use Rattle.pcap_classic.specs.Records.{Record, Contents, record_at, record_length, record_before, front_of, by_front, contents, contents_from}
+use Rattle.pcap_classic.specs.Records.{Record, record_at, record_length}
+use Rattle.pcap_classic.specs.Scan.{Contents, record_before, front_of, by_front, contents, contents_from}
 use Rattle.pcap_classic.specs.Numbers.{number_at}
 use Rattle.pcap_classic.specs.Index.{Reaches, ending_by}
 use Rattle.pcap_classic.proofs.ContentsLemmas.{front_of-whole, contents_go_by_front}

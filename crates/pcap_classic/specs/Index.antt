@@ -1,6 +1,6 @@
 -- What the index of a capture says of its bytes: it is a matter of this crate alone, and no public clause names it.
 use Rattle.std.specs.Prelude.{◌≡◌, ℕ, ◌+◌, ◌*◌, ◌≤◌, ◌<◌, ◌^◌, List, length, drop, slice_index}
-use Rattle.pcap_classic.specs.Records.{contents, contents_from}
+use Rattle.pcap_classic.specs.Scan.{contents, contents_from}
 use Rattle.pcap_classic.specs.declared.endianness.Endianness.{Endianness}
 use Rattle.pcap_classic.specs.declared.ending.Ending.{Ending}
 use Rattle.pcap_classic.specs.declared.ending.Ending.TheVariants.{Whole, CutHeader, CutData}

@@ -1,15 +1,11 @@
 -- What the bytes of a capture file say, or why they are no capture (pcap-savefile(5), version 2.4, with the magics of microseconds and nanoseconds).
-use Rattle.std.specs.Prelude.{◌≡◌, ◌⊎◌, IsOk, ℕ, ◌==◌, ◌&&◌, nat_lt, if◌then◌else◌, Bool, true, false, List, length, Option, Some, None, Result, Ok, Err}
-use Rattle.byteorder.specs.Endian.{big_number, little_number}
+use Rattle.std.specs.Prelude.{◌≡◌, ◌≤◌, ◌<◌, ◌⊎◌, ℕ, if◌then◌else◌, Bool, List, length, drop}
 use Rattle.pcap_classic.specs.Numbers.{number_at}
-use Rattle.pcap_classic.specs.Records.{Record, contents}
+use Rattle.pcap_classic.specs.Records.{Record, Holds}
 use Rattle.pcap_classic.specs.declared.endianness.Endianness.{Endianness}
-use Rattle.pcap_classic.specs.declared.endianness.Endianness.TheVariants.{Big, Little}
 use Rattle.pcap_classic.specs.declared.ending.Ending.{Ending}
 use Rattle.pcap_classic.specs.declared.fault.CaptureFault.{CaptureFault}
 use Rattle.pcap_classic.specs.declared.fault.CaptureFault.TheVariants.{FileHeaderCut, UnknownMagic, UnknownVersion, Memory}
-use Rattle.pcap_classic.specs.declared.header.Magic.{Magic}
-use Rattle.pcap_classic.specs.declared.header.FileHeader.{FileHeader}
 
 -- the magic number of time stamps in microseconds, and in nanoseconds
 abbrev pub micros_magic : ℕ
@@ -18,28 +14,13 @@ micros_magic = 0xa1b2c3d4
 abbrev pub nanos_magic : ℕ
 nanos_magic = 0xa1b23c4d
 
--- the byte order in which the first four bytes are one of the magic numbers, and whether it is that of nanoseconds
-abbrev pub magic_of : List ℕ → Option Magic
-magic_of file =
-    if big_number 4 file == micros_magic then Some (record { order = Big; nanos = false })
-    else if big_number 4 file == nanos_magic then Some (record { order = Big; nanos = true })
-    else if little_number 4 file == micros_magic then Some (record { order = Little; nanos = false })
-    else if little_number 4 file == nanos_magic then Some (record { order = Little; nanos = true })
-    else None
+-- the first four bytes are, in this byte order, the magic number of nanoseconds, or that of microseconds
+abbrev pub HasMagic : Endianness → Bool → List ℕ → Type 0
+HasMagic order nanos file = number_at order 0 4 file ≡ (if nanos then nanos_magic else micros_magic)
 
--- whether the two numbers behind the magic are those of version 2.4
-abbrev pub is_version_2_4 : Endianness → List ℕ → Bool
-is_version_2_4 order file = (number_at order 4 2 file == 2) && (number_at order 6 2 file == 4)
-
--- the header of 24 bytes, its last number being the link type; or the first reason why it is none
-abbrev pub header_by_magic : Option Magic → List ℕ → Result FileHeader CaptureFault
-header_by_magic None file = Err UnknownMagic
-header_by_magic (Some magic) file =
-    if is_version_2_4 magic.order file then Ok (record { magic = magic; link = number_at magic.order 20 4 file })
-    else Err UnknownVersion
-
-abbrev pub header_of : List ℕ → Result FileHeader CaptureFault
-header_of file = if nat_lt (length file) 24 then Err FileHeaderCut else header_by_magic (magic_of file) file
+-- the two numbers behind the magic are those of version 2.4
+abbrev pub HasVersion : Endianness → List ℕ → Type 0
+HasVersion order file = (number_at order 4 2 file ≡ 2) × (number_at order 6 2 file ≡ 4)
 
 -- a capture: whether fractions of a second are nanoseconds, the link type, the whole records in order, and how the file ends behind them
 pub record Savefile : Type 0 where
@@ -48,19 +29,29 @@ pub record Savefile : Type 0 where
   pub records : List Record
   pub ending : Ending
 
-abbrev pub savefile_with : FileHeader → List ℕ → Savefile
-savefile_with header file =
-    let behind = contents header.magic.order file in
-    record { nanos = header.magic.nanos; link = header.link; records = behind.records; ending = behind.ending }
+-- a file holds a capture: a header of 24 bytes, whose last number is the link type, and the records behind it
+pub record IsSavefile (file : List ℕ) (c : Savefile) : Type 0 where
+  pub order : Endianness
+  pub long : 24 ≤ length file
+  pub magic : HasMagic order c.nanos file
+  pub version : HasVersion order file
+  pub link : c.link ≡ number_at order 20 4 file
+  pub contents : Holds order 1 24 (drop 24 file) c.records c.ending
 
-abbrev pub savefile_by_header : Result FileHeader CaptureFault → List ℕ → Result Savefile CaptureFault
-savefile_by_header (Ok header) file = Ok (savefile_with header file)
-savefile_by_header (Err fault) file = Err fault
-
--- the capture that a file holds, or the first reason why it holds none
-abbrev pub savefile_of : List ℕ → Result Savefile CaptureFault
-savefile_of file = savefile_by_header (header_of file) file
-
--- the fault is why the file holds no capture, or that there was no memory for one that it does hold
+-- a fault stands: why the file holds no capture, or that there was no memory for one that it does hold
 abbrev pub IsRefusal : CaptureFault → List ℕ → Type 0
-IsRefusal fault file = (savefile_of file ≡ Err fault) ⊎ ((fault ≡ Memory) × IsOk (savefile_of file))
+IsRefusal FileHeaderCut file = length file < 24
+IsRefusal UnknownMagic file = (24 ≤ length file) × ((order : Endianness) (nanos : Bool) → ¬ HasMagic order nanos file)
+IsRefusal UnknownVersion file = (24 ≤ length file) × (order : Endianness) × (nanos : Bool) × HasMagic order nanos file × (¬ HasVersion order file)
+IsRefusal Memory file = (c : Savefile) × IsSavefile file c
+
+-- a file holds one capture at most, and has one fault at most; a fault of one that holds a capture is `Memory`
+abbrev pub OneCapture : Type 0
+OneCapture = (file : List ℕ) (c d : Savefile) → IsSavefile file c → IsSavefile file d → d ≡ c
+
+abbrev pub OneRefusal : Type 0
+OneRefusal = (file : List ℕ) (e f : CaptureFault) → IsRefusal e file → IsRefusal f file → f ≡ e
+
+-- each file holds a capture, or has a fault
+abbrev pub HasAnswer : Type 0
+HasAnswer = (file : List ℕ) → ((c : Savefile) × IsSavefile file c) ⊎ ((e : CaptureFault) × IsRefusal e file)

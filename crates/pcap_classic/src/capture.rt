@@ -3,8 +3,7 @@
 ghost use Rattle.std.specs.Prelude.{◌≡◌, ◌≤◌, ◌<◌, ◌+◌, ◌-◌, ◌/◌, ◌^◌, length, slice_get, Some, Ok, IfOk, IfErr, IfSome};
 ghost use Rattle.std.specs.Option.{option_map};
 ghost use Rattle.pcap_classic.specs.Lent.{record_of};
-ghost use Rattle.pcap_classic.specs.Records.{ContentsGoByFront};
-ghost use Rattle.pcap_classic.specs.Savefile.{savefile_of, IsRefusal};
+ghost use Rattle.pcap_classic.specs.Savefile.{IsSavefile, IsRefusal};
 
 use crate::captured::{Captured, record_at};
 use crate::ending::Ending;
@@ -28,7 +27,8 @@ pub struct Capture<A: Allocator = Global> {
 impl<A: Allocator> Model for Capture<A> {
     ghost use Rattle.std.specs.Prelude.{◌≡◌, Ok};
     ghost use Rattle.pcap_classic.specs.Index.{IsIndex};
-    ghost use Rattle.pcap_classic.specs.Savefile.{Savefile, savefile_with, header_of};
+    ghost use Rattle.pcap_classic.specs.Savefile.{Savefile};
+    ghost use Rattle.pcap_classic.specs.Scan.{savefile_with, header_of};
 
     ghost Value = { Savefile };
 
@@ -45,10 +45,8 @@ impl<A: Allocator> Capture<A> {
     /// The first of these that stands, with the same bytes: `FileHeaderCut` where there are fewer than
     /// 24 bytes, `UnknownMagic` where the first four are no magic number, `UnknownVersion` where the
     /// version is not 2.4, `Memory` where the index of the records finds no memory.
-    #[tactic(auto, using(crate::proofs::ContentsLemmas::contents_go_by_front))]
     pub fn from_bytes(alloc: A, bytes: Vec<u8, A>) -> Result<Capture<A>, (CaptureFault, Vec<u8, A>)>
-        ensures by_front { ContentsGoByFront }
-        ensures capture { IfOk result (λ c. savefile_of bytes.items ≡ Ok c) }
+        ensures capture { IfOk result (λ c. IsSavefile bytes.items c) }
         ensures refused { IfErr result (λ e. IsRefusal e.0 bytes.items) }
         ensures handed_back { IfErr result (λ e. e.1 ≡ bytes) }
     {

@@ -3,7 +3,8 @@
 ghost use Rattle.std.specs.Prelude.{◌≡◌, ◌≤◌, ◌-◌, length, slice_get, Some};
 ghost use Rattle.pcap_classic.specs.Index.{Reaches};
 ghost use Rattle.pcap_classic.specs.Lent.{record_of};
-ghost use Rattle.pcap_classic.specs.Records as spec;
+ghost use Rattle.pcap_classic.specs.Records as records;
+ghost use Rattle.pcap_classic.specs.Scan as spec;
 
 use crate::endianness::Endianness;
 use crate::front::{RECORD_HEADER, record_length};
@@ -29,8 +30,8 @@ pub struct Captured<'a> {
 #[inline(always)]
 fn front_record(order: Endianness, number: u64, start: usize, bytes: &[u8]) -> Captured<'_>
     requires header { 16 ≤ length bytes.now }
-    requires whole { spec.record_length order bytes.now ≤ length bytes.now }
-    ensures { record_of result ≡ spec.record_at order number start bytes.entry.now }
+    requires whole { records.record_length order bytes.now ≤ length bytes.now }
+    ensures { record_of result ≡ records.record_at order number start bytes.entry.now }
 {
     let length = record_length(order, bytes);
     Captured {

@@ -1,7 +1,8 @@
 //! What the bytes behind the file header, or behind a record, begin with.
 
 ghost use Rattle.std.specs.Prelude.{◌≡◌, ◌≤◌, length};
-ghost use Rattle.pcap_classic.specs.Records as spec;
+ghost use Rattle.pcap_classic.specs.Records as records;
+ghost use Rattle.pcap_classic.specs.Scan as spec;
 
 use crate::captured::Captured;
 use crate::endianness::Endianness;
@@ -26,7 +27,7 @@ pub(crate) enum Front {
 #[inline(always)]
 pub(crate) fn record_length(order: Endianness, bytes: &[u8]) -> usize
     requires { 16 ≤ length bytes.now }
-    ensures { result ≡ spec.record_length order bytes.now }
+    ensures { result ≡ records.record_length order bytes.now }
 {
     RECORD_HEADER + order.read_u32(&bytes[8..]) as usize
 }

@@ -1,7 +1,7 @@
 //! The header of a capture file.
 
 ghost use Rattle.std.specs.Prelude.{◌≡◌, ◌≤◌, length};
-ghost use Rattle.pcap_classic.specs.Savefile as spec;
+ghost use Rattle.pcap_classic.specs.Scan as spec;
 
 use crate::endianness::Endianness;
 use crate::fault::CaptureFault;

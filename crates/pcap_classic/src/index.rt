@@ -2,7 +2,7 @@
 
 ghost use Rattle.std.specs.Prelude.{◌≡◌, ◌≤◌, length, drop, IfOk};
 ghost use Rattle.pcap_classic.specs.Index.{IsIndex, Reaches, ending_by};
-ghost use Rattle.pcap_classic.specs.Records as spec;
+ghost use Rattle.pcap_classic.specs.Scan as spec;
 
 use crate::endianness::Endianness;
 use crate::ending::Ending;

@@ -11,6 +11,7 @@ mod fault;
 mod front;
 mod header;
 mod index;
+mod law;
 #[cfg(test)]
 mod tests;
 
@@ -18,3 +19,4 @@ pub use capture::Capture;
 pub use captured::Captured;
 pub use ending::Ending;
 pub use fault::CaptureFault;
+pub use law::one_capture;

@@ -1,7 +1,7 @@
 use Rattle.std.proofs.Common.{◌≡◌, drop, arith, ◌∙◌, sym}
 use Rattle.std.proofs.lemmas.List.{take_rest}
 use Rattle.pcap_classic.specs.declared.front.Front.TheVariants.{WholeRecord}
-use Rattle.pcap_classic.specs.Records.{front_of}
+use Rattle.pcap_classic.specs.Scan.{front_of}
 use Rattle.pcap_classic.proofs.ContentsLemmas.{front_of-whole}
 use Rattle.pcap_classic.proofs.ReachLemmas.{reaches_next, reaches_end}
 use Rattle.pcap_classic.proofs.MarkLemmas.{marked_push, marked_keep}

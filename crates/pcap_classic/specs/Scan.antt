@@ -1,0 +1,95 @@
+-- What a file holds, as a function of its bytes: it is a matter of this crate alone, and no public clause names it. That it gives what the relations of Records and Savefile say is proved.
+use Rattle.std.specs.Prelude.{ℕ, zero, suc, ◌+◌, ◌==◌, ◌&&◌, nat_lt, if◌then◌else◌, Bool, true, false, List, [], ◌∷◌, length, drop, Option, Some, None, Result, Ok, Err}
+use Rattle.byteorder.specs.Endian.{big_number, little_number}
+use Rattle.pcap_classic.specs.Numbers.{number_at}
+use Rattle.pcap_classic.specs.Records.{Record, record_length, record_at}
+use Rattle.pcap_classic.specs.Savefile.{Savefile, micros_magic, nanos_magic}
+use Rattle.pcap_classic.specs.declared.endianness.Endianness.{Endianness}
+use Rattle.pcap_classic.specs.declared.endianness.Endianness.TheVariants.{Big, Little}
+use Rattle.pcap_classic.specs.declared.ending.Ending.{Ending}
+use Rattle.pcap_classic.specs.declared.ending.Ending.TheVariants.{Whole, CutHeader, CutData}
+use Rattle.pcap_classic.specs.declared.fault.CaptureFault.{CaptureFault}
+use Rattle.pcap_classic.specs.declared.fault.CaptureFault.TheVariants.{FileHeaderCut, UnknownMagic, UnknownVersion}
+use Rattle.pcap_classic.specs.declared.front.Front.{Front}
+use Rattle.pcap_classic.specs.declared.front.Front.TheVariants.{Nothing, PartOfHeader, PartOfData, WholeRecord}
+use Rattle.pcap_classic.specs.declared.header.Magic.{Magic}
+use Rattle.pcap_classic.specs.declared.header.FileHeader.{FileHeader}
+
+-- what the bytes begin with
+abbrev pub front_of : Endianness → List ℕ → Front
+front_of order bytes =
+    if length bytes == 0 then Nothing
+    else if nat_lt (length bytes) 16 then PartOfHeader
+    else if nat_lt (length bytes) (record_length order bytes) then PartOfData
+    else WholeRecord (record_length order bytes)
+
+-- the whole records of some bytes, and how the bytes end behind them
+pub record Contents : Type 0 where
+  pub records : List Record
+  pub ending : Ending
+
+abbrev pub no_record : Ending → Contents
+no_record how = record { records = []; ending = how }
+
+abbrev pub record_before : Record → Contents → Contents
+record_before r rest = record { records = r ∷ rest.records; ending = rest.ending }
+
+-- the contents of bytes that stand at a place of the file, by what they begin with, where the last
+-- argument gives the contents behind a whole record of this length
+abbrev pub by_front : Front → ℕ → Record → (ℕ → Contents) → Contents
+by_front Nothing place r rest = no_record Whole
+by_front PartOfHeader place r rest = no_record (CutHeader place)
+by_front PartOfData place r rest = no_record (CutData place)
+by_front (WholeRecord size) place r rest = record_before r (rest size)
+
+-- the contents of bytes that stand at a place of the file, the next record having number n. A record
+-- takes at least one byte, so `most` is large enough where there are at most that many bytes
+unfoldable pub contents_within : ℕ → Endianness → ℕ → ℕ → List ℕ → Contents
+contents_within zero order n place bytes = no_record Whole
+contents_within (suc most) order n place bytes =
+    by_front (front_of order bytes) place (record_at order n place bytes)
+    (λ size. contents_within most order (n + 1) (place + size) (drop size bytes))
+
+-- the contents of bytes that stand at a place of the file, the next record having number n
+abbrev pub contents_from : Endianness → ℕ → ℕ → List ℕ → Contents
+contents_from order n place bytes = contents_within (length bytes) order n place bytes
+
+-- the contents of a file, behind its header of 24 bytes
+abbrev pub contents : Endianness → List ℕ → Contents
+contents order file = contents_from order 1 24 (drop 24 file)
+
+-- the byte order in which the first four bytes are one of the magic numbers, and whether it is that of nanoseconds
+abbrev pub magic_of : List ℕ → Option Magic
+magic_of file =
+    if big_number 4 file == micros_magic then Some (record { order = Big; nanos = false })
+    else if big_number 4 file == nanos_magic then Some (record { order = Big; nanos = true })
+    else if little_number 4 file == micros_magic then Some (record { order = Little; nanos = false })
+    else if little_number 4 file == nanos_magic then Some (record { order = Little; nanos = true })
+    else None
+
+-- whether the two numbers behind the magic are those of version 2.4
+abbrev pub is_version_2_4 : Endianness → List ℕ → Bool
+is_version_2_4 order file = (number_at order 4 2 file == 2) && (number_at order 6 2 file == 4)
+
+-- the header of 24 bytes, its last number being the link type; or the first reason why it is none
+abbrev pub header_by_magic : Option Magic → List ℕ → Result FileHeader CaptureFault
+header_by_magic None file = Err UnknownMagic
+header_by_magic (Some magic) file =
+    if is_version_2_4 magic.order file then Ok (record { magic = magic; link = number_at magic.order 20 4 file })
+    else Err UnknownVersion
+
+abbrev pub header_of : List ℕ → Result FileHeader CaptureFault
+header_of file = if nat_lt (length file) 24 then Err FileHeaderCut else header_by_magic (magic_of file) file
+
+abbrev pub savefile_with : FileHeader → List ℕ → Savefile
+savefile_with header file =
+    let behind = contents header.magic.order file in
+    record { nanos = header.magic.nanos; link = header.link; records = behind.records; ending = behind.ending }
+
+abbrev pub savefile_by_header : Result FileHeader CaptureFault → List ℕ → Result Savefile CaptureFault
+savefile_by_header (Ok header) file = Ok (savefile_with header file)
+savefile_by_header (Err fault) file = Err fault
+
+-- the capture that a file holds, or the first reason why it holds none
+abbrev pub savefile_of : List ℕ → Result Savefile CaptureFault
+savefile_of file = savefile_by_header (header_of file) file
