@@ -4,3 +4,4 @@ pub mod ReplyLemmas
 pub mod ScriptLemmas
 pub mod AssemblyLemmas
 pub mod SaidLemmas
+pub mod OutputLaws

@@ -9,3 +9,4 @@ pub mod Output
 pub mod Debugged
 pub mod Progress
 pub mod Assembling
+pub mod Laws
