@@ -10,7 +10,7 @@ use Rattle.cbpf_code.specs.declared.opcode.AluOp.TheVariants as alu_op
 use Rattle.cbpf_code.specs.declared.opcode.Src.TheVariants as src
 use Rattle.cbpf_code.specs.declared.opcode.Cond.TheVariants as cond
 use Rattle.cbpf_grammar.specs.declared.table.Fields.{Fields}
-use Rattle.cbpf_grammar.specs.declared.table.Fields.TheVariants.{Constant, Ancillary, Goto, Branch, Swapped}
+use Rattle.cbpf_grammar.specs.declared.table.Fields.TheVariants.{Constant, Goto, Branch, Swapped}
 use Rattle.cbpf_grammar.specs.Classes.{Class}
 use Rattle.cbpf_grammar.specs.Classes.Class.{the_word, the_mark, literal, negated, exactly, extension, name}
 
@@ -108,7 +108,7 @@ abbrev pub entry : List (List Class) → Op → Fields → Entry
 entry forms op fields = record { forms = forms; op = op; fields = fields }
 
 abbrev pub load : Size → List Entry
-load s = entry absolute (LdAbs s) Constant ∷ entry indexed (LdInd s) Constant ∷ entry ext (LdAbs s) Ancillary ∷ []
+load s = entry absolute (LdAbs s) Constant ∷ entry indexed (LdInd s) Constant ∷ entry ext (LdAbs s) Constant ∷ []
 
 abbrev pub one_target : Cond → Fields → List Entry
 one_target c fields = entry (immediate · comma · label) (Jump c src.K) fields ∷ entry (x · comma · label) (Jump c src.X) fields ∷ []

@@ -11,10 +11,8 @@ use cbpf_code::{AluOp, Cond, Op, Size, Src};
 /// Where an instruction's literal and targets go.
 #[derive(Clone, Copy, Debug, PartialEq, Eq)]
 pub enum Fields {
-    /// k is the literal, or 0 where there is none.
+    /// k is the literal, which an extension's name stands for too, or 0 where there is none.
     Constant,
-    /// k is the extension's number.
-    Ancillary,
     /// k is the offset of the one target.
     Goto,
     /// k is the literal, jt the offset of the first target, jf that of the second or 0.
@@ -49,7 +47,7 @@ macro_rules! load {
         &[
             entry!(Absolute, Op::LdAbs(Size::$size), Constant),
             entry!(Indexed, Op::LdInd(Size::$size), Constant),
-            entry!(Extension, Op::LdAbs(Size::$size), Ancillary),
+            entry!(Extension, Op::LdAbs(Size::$size), Constant),
         ]
     };
 }
@@ -90,7 +88,7 @@ static L_MNEMONICS: [Mnemonic; 8] = [
         entries: &[
             entry!(Absolute, Op::LdAbs(Size::Word), Constant),
             entry!(Indexed, Op::LdInd(Size::Word), Constant),
-            entry!(Extension, Op::LdAbs(Size::Word), Ancillary),
+            entry!(Extension, Op::LdAbs(Size::Word), Constant),
             entry!(Memory, Op::LdMem, Constant),
             entry!(Immediate, Op::LdImm, Constant),
             entry!(Length, Op::LdLen, Constant),

@@ -56,23 +56,22 @@ fn check_fault(rt: &impl Abort, alloc: Global, row: usize, source: &[u8], fault:
 fn operations(rt: HostRuntime) {
     let alloc = rt.alloc();
     let constant = Fields::Constant;
-    let ancillary = Fields::Ancillary;
     let goto = Fields::Goto;
     let branch = Fields::Branch;
     let swapped = Fields::Swapped;
     let rows: [(&[u8], u16, Fields); 111] = [
         (b"ld [12]", 32, constant),
         (b"ld [x + 12]", 64, constant),
-        (b"ld rand", 32, ancillary),
+        (b"ld rand", 32, constant),
         (b"ld M[1]", 96, constant),
         (b"ld #5", 0, constant),
         (b"ld len", 128, constant),
         (b"ldh [12]", 40, constant),
         (b"ldh [x + 16]", 72, constant),
-        (b"ldh proto", 40, ancillary),
+        (b"ldh proto", 40, constant),
         (b"ldb [12]", 48, constant),
         (b"ldb [x+1]", 80, constant),
-        (b"ldb #type", 48, ancillary),
+        (b"ldb #type", 48, constant),
         (b"ldi #7", 0, constant),
         (b"ldi 7", 0, constant),
         (b"ldx M[15]", 97, constant),
@@ -143,7 +142,7 @@ fn operations(rt: HostRuntime) {
         (b"ld [%x+1]", 64, constant),
         (b"ld [%x++1]", 64, constant),
         (b"ld [%x+-1]", 64, constant),
-        (b"ld #rand", 32, ancillary),
+        (b"ld #rand", 32, constant),
         (b"ld M[+1]", 96, constant),
         (b"ld M[-1]", 96, constant),
         (b"ld #+5", 0, constant),
@@ -202,7 +201,7 @@ fn extensions(rt: HostRuntime) {
         b"ld vlan_tpid",
     ];
     for (row, source) in rows.iter().enumerate() {
-        check_item(&rt, alloc, row, source, 32, Fields::Ancillary);
+        check_item(&rt, alloc, row, source, 32, Fields::Constant);
     }
 }
 

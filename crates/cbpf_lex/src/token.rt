@@ -1,6 +1,6 @@
 //! Tokens, and what is told of a text that has a piece which is none.
 
-use std::alloc::{AllocError, AllocFailed};
+use std::alloc::AllocFailed;
 
 /// What a token is.
 #[derive(Clone, Copy, Debug, PartialEq, Eq)]
@@ -39,17 +39,6 @@ pub enum LexFault {
     Memory,
     /// The first bad piece, and the line of its first byte, counted from 1.
     At(BadPiece, u64),
-}
-
-impl From<AllocError> for LexFault {
-    ghost use Rattle.std.specs.Prelude.{◌≡◌};
-    ghost use Rattle.cbpf_lex.specs.declared.token.LexFault.TheVariants.{Memory};
-
-    ghost from_gives = { λ _ e. e ≡ Memory };
-
-    fn from(_: AllocError) -> Self {
-        LexFault::Memory
-    }
 }
 
 impl<T: Drop> From<AllocFailed<T>> for LexFault {

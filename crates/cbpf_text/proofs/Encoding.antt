@@ -6,7 +6,7 @@ use Rattle.std.proofs.lemmas.List.{map-append, append_assoc, take_more, length-m
 use Rattle.std.proofs.lemmas.List.Elements.{All-append}
 use Rattle.cbpf_code.specs.declared.insn.Insn.{Insn}
 use Rattle.cbpf_grammar.specs.declared.table.Fields.{Fields}
-use Rattle.cbpf_grammar.specs.declared.table.Fields.TheVariants.{Constant, Ancillary, Goto, Branch, Swapped}
+use Rattle.cbpf_grammar.specs.declared.table.Fields.TheVariants.{Constant, Goto, Branch, Swapped}
 use Rattle.cbpf_grammar.specs.Lexemes.{Lexeme}
 use Rattle.cbpf_grammar.specs.Items.{Item}
 use Rattle.cbpf_text.specs.declared.fault.AsmKind.{AsmKind}
@@ -31,7 +31,6 @@ neither false false h k e = let c : false ≡ true = e in cc
 
 fields_good : (is : List Item) (index : ℕ) (f : Fields) (k : ℕ) (ts : List Lexeme) (insn : Insn) → FillsFields f is index k ts insn → takes f (length ts) ≡ true → All (IsGoodUse is) (map (use_of index (is_conditional f)) ts)
 fields_good is index Constant k ts insn p e = none_of is index false ts e
-fields_good is index Ancillary k ts insn p e = none_of is index false ts e
 fields_good is index Goto k [] insn p e = all_none (IsGoodUse is)
 fields_good is index Goto k (t ∷ []) insn p e = all_one (IsGoodUse is) (use_of index false t) (good_use is index t insn.k false p.2 (λ z. let c : false ≡ true = z in cc))
 fields_good is index Goto k (t ∷ u ∷ ts) insn p e = let n : suc (suc (length ts)) ≡ 1 = eqb-true (suc (suc (length ts))) 1 e in absurd (omega (arith, n))

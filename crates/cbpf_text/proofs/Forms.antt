@@ -3,7 +3,7 @@ use Rattle.std.proofs.Common.{◌≡◌, refl, sym, ◌∙◌, ap, subst, ℕ, z
 use Rattle.std.specs.Prelude.{All, Contains, ◌==◌, ◌||◌}
 use Rattle.std.specs.List.{list_all}
 use Rattle.cbpf_grammar.specs.declared.table.Fields.{Fields}
-use Rattle.cbpf_grammar.specs.declared.table.Fields.TheVariants.{Constant, Ancillary, Goto, Branch, Swapped}
+use Rattle.cbpf_grammar.specs.declared.table.Fields.TheVariants.{Constant, Goto, Branch, Swapped}
 use Rattle.cbpf_grammar.specs.Classes.{Class}
 use Rattle.cbpf_grammar.specs.Classes.Class.{the_word, the_mark, literal, negated, exactly, extension, name}
 use Rattle.cbpf_grammar.specs.Lexemes.{Lexeme}
@@ -27,7 +27,6 @@ names_in (c ∷ cs) = one_if c + names_in cs
 
 abbrev pub takes : Fields → ℕ → Bool
 takes Constant n = n == 0
-takes Ancillary n = n == 0
 takes Goto n = n == 1
 takes Branch n = n == 1 || n == 2
 takes Swapped n = n == 1

@@ -11,7 +11,7 @@ use Rattle.cbpf_code.proofs.TableLemmas.{ext_only}
 use Rattle.cbpf_lex.proofs.Spelled.{Segment, text_of, IsSegment, AreSegments, ends_name, stay_apart}
 use Rattle.cbpf_lex.proofs.Spelled.Segment.{blank, word, number, mark}
 use Rattle.cbpf_grammar.specs.declared.table.Fields.{Fields}
-use Rattle.cbpf_grammar.specs.declared.table.Fields.TheVariants.{Constant, Ancillary}
+use Rattle.cbpf_grammar.specs.declared.table.Fields.TheVariants.{Constant}
 use Rattle.cbpf_grammar.specs.Classes.{Class}
 use Rattle.cbpf_grammar.specs.Classes as forms
 use Rattle.cbpf_grammar.specs.Lexemes.{Lexeme}
@@ -286,7 +286,7 @@ absolute_by n i insn None e l = record {
 absolute_by n i insn (Some x) e l = record {
   segments = name_segments x;
   classes = name_classes;
-  fields = Ancillary;
+  fields = Constant;
   listed = λ op q. named_row op q;
   text = ap (λ (w : List ℕ). codes " " ++ (w ++ [])) (ext_word x).0 ∙ sym (ap (λ p. place_or_name p insn.k) e);
   are = (is_blank_segment, (((ext_word x).1, (ext_word x).2, (ext_word x).3), tt));

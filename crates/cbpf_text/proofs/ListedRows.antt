@@ -13,7 +13,7 @@ use Rattle.cbpf_code.specs.Plain.{kept, plain, plain_for}
 use Rattle.cbpf_code.proofs.TableLemmas.{code_known}
 use Rattle.cbpf_lex.specs.Bytes.{is_letter, is_name_byte}
 use Rattle.cbpf_grammar.specs.declared.table.Fields.{Fields}
-use Rattle.cbpf_grammar.specs.declared.table.Fields.TheVariants.{Constant, Ancillary, Goto, Branch}
+use Rattle.cbpf_grammar.specs.declared.table.Fields.TheVariants.{Constant, Goto, Branch}
 use Rattle.cbpf_grammar.specs.Classes.{Class}
 use Rattle.cbpf_grammar.specs.Classes.Class.{the_word, the_mark, literal, exactly, extension, name}
 use Rattle.cbpf_grammar.specs.Lexemes.{same_bytes}
@@ -71,7 +71,6 @@ same_classes (c ∷ cs) (d ∷ ds) = same_class c d && same_classes cs ds
 
 abbrev same_fields : Fields → Fields → Bool
 same_fields Constant Constant = true
-same_fields Ancillary Ancillary = true
 same_fields Goto Goto = true
 same_fields Branch Branch = true
 same_fields f g = false
@@ -88,7 +87,7 @@ unfolding mnemonics
 operations_have_rows = refl
 
 -- and where k is an extension's place, the one with its name
-load_has_row : (s : Size) → list_any (is_row_for (LdAbs s) (extension ∷ []) Ancillary) table ≡ true
+load_has_row : (s : Size) → list_any (is_row_for (LdAbs s) (extension ∷ []) Constant) table ≡ true
 unfolding mnemonics
 load_has_row Word = refl
 load_has_row Half = refl
@@ -115,7 +114,6 @@ same_classes_eq (c ∷ cs) (d ∷ ds) e =
 
 same_fields_eq : (f g : Fields) → same_fields f g ≡ true → f ≡ g
 same_fields_eq Constant Constant e = refl
-same_fields_eq Ancillary Ancillary e = refl
 same_fields_eq Goto Goto e = refl
 same_fields_eq Branch Branch e = refl
 same_fields_eq f g e = let k : false ≡ true = e in cc
@@ -160,11 +158,11 @@ holds_for_all p a op = looked_up p op_table (code_of op) op a (code_known op)
 pub operation_row : (op : Op) (o : Operand) → operand_of op ≡ o → HasRow op (operand_classes o) (operand_fields o)
 operation_row op o e = rw (← e) (found_row op (operand_classes (operand_of op)) (operand_fields (operand_of op)) (holds_for_all has_row operations_have_rows op))
 
-pub named_row : (op : Op) → operand_of op ≡ operands.Absolute → HasRow op (extension ∷ []) Ancillary
+pub named_row : (op : Op) → operand_of op ≡ operands.Absolute → HasRow op (extension ∷ []) Constant
 named_row op e = by_op op e
   where
-    by_op : (op : Op) → operand_of op ≡ operands.Absolute → HasRow op (extension ∷ []) Ancillary
-    by_op (LdAbs s) e = found_row (LdAbs s) (extension ∷ []) Ancillary (load_has_row s)
+    by_op : (op : Op) → operand_of op ≡ operands.Absolute → HasRow op (extension ∷ []) Constant
+    by_op (LdAbs s) e = found_row (LdAbs s) (extension ∷ []) Constant (load_has_row s)
     by_op LdImm e = cc
     by_op (LdInd s) e = cc
     by_op LdMem e = cc

@@ -4,7 +4,7 @@ use Rattle.std.specs.Prelude.{slice_get}
 use Rattle.cbpf_lex.proofs.Outcomes.{one_list}
 use Rattle.cbpf_code.specs.declared.insn.Insn.{Insn}
 use Rattle.cbpf_grammar.specs.declared.table.Fields.{Fields}
-use Rattle.cbpf_grammar.specs.declared.table.Fields.TheVariants.{Constant, Ancillary, Goto, Branch, Swapped}
+use Rattle.cbpf_grammar.specs.declared.table.Fields.TheVariants.{Constant, Goto, Branch, Swapped}
 use Rattle.cbpf_grammar.specs.Lexemes.{Lexeme, lexemes_of}
 use Rattle.cbpf_grammar.specs.Items.{Item, Items}
 use Rattle.cbpf_grammar.proofs.OneReading.{one_reading}
@@ -20,7 +20,6 @@ one_offset is index (Some t) m n p q = let e : index + 1 + m ≡ index + 1 + n =
 
 one_fields : (is : List Item) (index : ℕ) (f : Fields) (k : ℕ) (ts : List Lexeme) (a b : Insn) → FillsFields f is index k ts a → FillsFields f is index k ts b → (a.jt ≡ b.jt) × (a.jf ≡ b.jf) × (a.k ≡ b.k)
 one_fields is index Constant k ts a b p q = (p.0 ∙ sym q.0, p.1 ∙ sym q.1, p.2 ∙ sym q.2)
-one_fields is index Ancillary k ts a b p q = (p.0 ∙ sym q.0, p.1 ∙ sym q.1, p.2 ∙ sym q.2)
 one_fields is index Goto k ts a b p q = (p.0 ∙ sym q.0, p.1 ∙ sym q.1, one_offset is index (slice_get ts 0) a.k b.k p.2 q.2)
 one_fields is index Branch k ts a b p q = (one_offset is index (slice_get ts 0) a.jt b.jt p.0.is q.0.is, one_offset is index (slice_get ts 1) a.jf b.jf p.1.is q.1.is, p.2 ∙ sym q.2)
 one_fields is index Swapped k ts a b p q = (p.0 ∙ sym q.0, one_offset is index (slice_get ts 0) a.jf b.jf p.1.is q.1.is, p.2 ∙ sym q.2)

@@ -5,7 +5,7 @@ use Rattle.cbpf_lex.specs.Tokens.{Lexes}
 use Rattle.cbpf_code.specs.declared.insn.Insn.{Insn}
 use Rattle.cbpf_code.specs.Opcode.{code_of}
 use Rattle.cbpf_grammar.specs.declared.table.Fields.{Fields}
-use Rattle.cbpf_grammar.specs.declared.table.Fields.TheVariants.{Constant, Ancillary, Goto, Branch, Swapped}
+use Rattle.cbpf_grammar.specs.declared.table.Fields.TheVariants.{Constant, Goto, Branch, Swapped}
 use Rattle.cbpf_grammar.specs.Lexemes.{Lexeme, lexemes_of}
 use Rattle.cbpf_grammar.specs.Items.{Item, Items}
 use Rattle.cbpf_grammar.specs.Refusals.{IsLargeNegative}
@@ -25,7 +25,6 @@ pub record IsShortOffset (items : List Item) (index : ℕ) (target : Option Lexe
 -- where the literal and the offsets of the targets stand
 abbrev pub FillsFields : Fields → List Item → ℕ → ℕ → List Lexeme → Insn → Type 0
 FillsFields Constant items index k targets insn = (insn.jt ≡ 0) × (insn.jf ≡ 0) × (insn.k ≡ k)
-FillsFields Ancillary items index k targets insn = (insn.jt ≡ 0) × (insn.jf ≡ 0) × (insn.k ≡ k)
 FillsFields Goto items index k targets insn = (insn.jt ≡ 0) × (insn.jf ≡ 0) × IsOffset items index (slice_get targets 0) insn.k
 FillsFields Branch items index k targets insn = IsShortOffset items index (slice_get targets 0) insn.jt × IsShortOffset items index (slice_get targets 1) insn.jf × (insn.k ≡ k)
 FillsFields Swapped items index k targets insn = (insn.jt ≡ 0) × IsShortOffset items index (slice_get targets 0) insn.jf × (insn.k ≡ k)

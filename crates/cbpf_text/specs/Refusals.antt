@@ -5,7 +5,7 @@ use Rattle.cbpf_lex.specs.declared.token.BadPiece.{BadPiece}
 use Rattle.cbpf_lex.specs.declared.token.BadPiece.TheVariants as pieces
 use Rattle.cbpf_lex.specs.Tokens.{Lexes, IsFirstBad, line_of}
 use Rattle.cbpf_grammar.specs.declared.table.Fields.{Fields}
-use Rattle.cbpf_grammar.specs.declared.table.Fields.TheVariants.{Constant, Ancillary, Goto, Branch, Swapped}
+use Rattle.cbpf_grammar.specs.declared.table.Fields.TheVariants.{Constant, Goto, Branch, Swapped}
 use Rattle.cbpf_grammar.specs.declared.parser.ParseFault.TheVariants as parse
 use Rattle.cbpf_grammar.specs.Lexemes.{Lexeme, lexemes_of}
 use Rattle.cbpf_grammar.specs.Items.{Item, Items}
@@ -41,7 +41,6 @@ pub record Use : Type 0 where
 
 abbrev pub is_conditional : Fields → Bool
 is_conditional Constant = false
-is_conditional Ancillary = false
 is_conditional Goto = false
 is_conditional Branch = true
 is_conditional Swapped = true

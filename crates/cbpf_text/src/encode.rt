@@ -88,7 +88,7 @@ fn encode<A: Allocator>(
     let k = literal(item);
     let first = target(item, 0);
     match item.row.fields {
-        Fields::Constant | Fields::Ancillary => Ok(Insn {
+        Fields::Constant => Ok(Insn {
             code,
             jt: 0,
             jf: 0,

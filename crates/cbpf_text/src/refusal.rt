@@ -1,7 +1,7 @@
 //! A refusal by its place in the text, before its line is known.
 
 use crate::fault::AsmKind;
-use std::alloc::{AllocError, AllocFailed};
+use std::alloc::AllocFailed;
 
 /// Why tokens have no instructions.
 #[derive(Clone, Copy, Debug, PartialEq, Eq)]
@@ -10,17 +10,6 @@ pub enum Refusal {
     Memory,
     /// What is wrong, and the place of the token that shows it, counted in bytes from 0.
     At(AsmKind, usize),
-}
-
-impl From<AllocError> for Refusal {
-    ghost use Rattle.std.specs.Prelude.{◌≡◌};
-    ghost use Rattle.cbpf_text.specs.declared.refusal.Refusal.TheVariants.{Memory};
-
-    ghost from_gives = { λ _ e. e ≡ Memory };
-
-    fn from(_: AllocError) -> Self {
-        Refusal::Memory
-    }
 }
 
 impl<T: Drop> From<AllocFailed<T>> for Refusal {
