@@ -15,7 +15,8 @@ use Rattle.cbpf_dbg.specs.declared.reply.Why.TheVariants as why
 use Rattle.cbpf_dbg.specs.declared.reply.RunReply.TheVariants.{Stopped, Limit, Finished}
 use Rattle.cbpf_dbg.specs.declared.walk.Walk.{Walk}
 use Rattle.cbpf_dbg.specs.declared.walk.Moved.TheVariants as moved
-use Rattle.cbpf_dbg.specs.Joined.{ahead, rest, counts, stop_at, why_of, is_unknown, hit_for, is_after, stops}
+use Rattle.cbpf_dbg.specs.Joined.{ahead, rest, counts, stop_at, why_of, is_unknown, is_after, stops}
+use Rattle.cbpf_dbg.specs.Hits.{hit_for}
 use Rattle.cbpf_dbg.specs.View.{View, start}
 use Rattle.cbpf_dbg.specs.Commands.{run_to, run_out, within_limit, finished, limited}
 use Rattle.cbpf_dbg.specs.Walk.{Stands, Moves, PassesTo, hit_of, view_at, entry_here, Runs, StepsOn, Below, is_limit}

@@ -107,11 +107,14 @@ entry_in machine (Some r) place =
 abbrev pub back_place : Place → ℕ → Place
 back_place place b = record { packet = place.packet; step = place.step - b }
 
+-- the stop at an entry of the packet, or so many steps back are possible
+abbrev pub back_at : View → Option Entry → Answer RunReply
+back_at m None = Err (TooFarBack (m.place.step - 1))
+back_at m (Some e) = Ok (stopped m (stop_at why.Step e))
+
 abbrev pub back_to : View → Machine → List Record → ℕ → Answer RunReply
 back_to m machine capture b =
-    if nat_lt b m.place.step
-    then Ok (step_to m machine capture (entry_in machine (slice_get capture (m.place.packet - 1)) (back_place m.place b)))
-    else Err (TooFarBack (m.place.step - 1))
+    back_at m (if nat_lt b m.place.step then entry_in machine (slice_get capture (m.place.packet - 1)) (back_place m.place b) else None)
 
 abbrev pub step_by : View → Machine → List Record → ℤ → Answer RunReply
 step_by m machine capture (pos zero) = Err ZeroCount

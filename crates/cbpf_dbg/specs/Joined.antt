@@ -1,6 +1,5 @@
 -- The entries of all packets of a capture, in order, the ones among them at which a debugger stops, and the outcomes of packets (this project's own, over the trace of Linux Documentation/networking/filter's machine and the records of pcap-savefile(5)).
 use Rattle.std.specs.Prelude.{ℕ, ◌+◌, ◌-◌, nat_lt, nat_eq, ◌&&◌, ◌||◌, not, Bool, true, false, List, [], ◌∷◌, ◌++◌, map, filter, take, drop, count_by, Option, Some, None, if◌then◌else◌}
-use Rattle.cbpf_code.specs.declared.extension.Ext.{Ext}
 use Rattle.cbpf_machine.specs.Registers.{Registers}
 use Rattle.cbpf_machine.specs.declared.outcome.Turn.{Turn}
 use Rattle.cbpf_machine.specs.declared.outcome.Turn.TheVariants.{Next, Returned, Outside, ZeroDivisor, Unknown}
@@ -16,6 +15,7 @@ use Rattle.cbpf_dbg.specs.declared.reply.Why.{Why}
 use Rattle.cbpf_dbg.specs.declared.reply.Why.TheVariants as why
 use Rattle.cbpf_dbg.specs.declared.reply.Counts.{Counts}
 use Rattle.cbpf_dbg.specs.Breakpoints.{Breakpoints, carries}
+pub use Rattle.cbpf_dbg.specs.Hits.{hit_for}
 
 -- an executed instruction: where it stands, the state before it, and what its turn gives
 pub record Entry : Type 0 where
@@ -68,11 +68,6 @@ why_of reason (Returned v) = reason
 why_of reason Outside = reason
 why_of reason ZeroDivisor = reason
 why_of reason (Unknown e) = why.Unknown e
-
--- why an entry is a hit, where it is one, by its pc and what its turn asks for
-abbrev pub hit_for : Bool → Option Ext → Option Why
-hit_for carries None = if carries then Some why.Break else None
-hit_for carries (Some e) = Some (why.Unknown e)
 
 abbrev pub stop_at : Why → Entry → Stop
 stop_at reason e = record { place = e.place; state = e.state; why = why_of reason e.turn }

@@ -1,4 +1,5 @@
 pub mod Breakpoints
+pub mod Hits
 pub mod Joined
 pub mod View
 pub mod Commands

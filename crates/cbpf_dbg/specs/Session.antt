@@ -11,7 +11,7 @@ use Rattle.pcap_classic.specs.Savefile.{Savefile}
 use Rattle.cbpf_dbg.specs.declared.reply.Place.{Place}
 use Rattle.cbpf_dbg.specs.declared.walk.Walk.{Walk}
 use Rattle.cbpf_dbg.specs.Breakpoints.{Breakpoints, carries}
-use Rattle.cbpf_dbg.specs.Joined.{hit_for}
+use Rattle.cbpf_dbg.specs.Hits.{hit_for}
 use Rattle.cbpf_dbg.specs.View.{start}
 use Rattle.cbpf_dbg.specs.Walk.{Stands}
 

@@ -18,7 +18,8 @@ use Rattle.cbpf_dbg.specs.declared.walk.Walk.{Walk}
 use Rattle.cbpf_dbg.specs.declared.walk.Moved.{Moved}
 use Rattle.cbpf_dbg.specs.declared.walk.Moved.TheVariants as moved
 use Rattle.cbpf_dbg.specs.Breakpoints.{Breakpoints, carries}
-use Rattle.cbpf_dbg.specs.Joined.{Entry, ahead, counts, rest, stop_at, hit_for}
+use Rattle.cbpf_dbg.specs.Joined.{Entry, ahead, counts, rest, stop_at}
+use Rattle.cbpf_dbg.specs.Hits.{hit_for}
 use Rattle.cbpf_dbg.specs.declared.reply.RunReply.{RunReply}
 use Rattle.cbpf_dbg.specs.View.{View}
 use Rattle.cbpf_dbg.specs.Commands.{run_to, step_to, turns_in, entry_in, back_place}

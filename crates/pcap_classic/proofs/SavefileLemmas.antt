@@ -225,11 +225,11 @@ fault-is file e h other = by (savefile_of file) e (says file) h other
         none Memory s h other = other refl
 
 -- what a file's header says of it
-pub header-ok : (file : List ℕ) (header : FileHeader) → header_of file ≡ Ok header → IsSavefile file (savefile_with header file)
-header-ok file header e = subst (λ r. Says file (savefile_by_header r file)) e (says file)
+pub header-ok : (file : List ℕ) (header : FileHeader) (r : Result FileHeader CaptureFault) → r ≡ header_of file → r ≡ Ok header → IsSavefile file (savefile_with header file)
+header-ok file header r e is = subst (λ r. Says file (savefile_by_header r file)) (sym e ∙ is) (says file)
 
-pub header-err : (file : List ℕ) (e : CaptureFault) → header_of file ≡ Err e → IsRefusal e file
-header-err file e h = (subst (λ r. Says file (savefile_by_header r file)) h (says file)).0
+pub header-err : (file : List ℕ) (e : CaptureFault) (r : Result FileHeader CaptureFault) → r ≡ header_of file → r ≡ Err e → IsRefusal e file
+header-err file e r h is = (subst (λ r. Says file (savefile_by_header r file)) (sym h ∙ is) (says file)).0
 
 -- a file that holds a capture has no other fault than `Memory`
 pub only_memory : (file : List ℕ) (c : Savefile) (e : CaptureFault) → IsSavefile file c → IsRefusal e file → e ≡ Memory
