@@ -1,4 +1,5 @@
 pub mod FileMap
+pub mod InMemory
 pub mod Loads
 pub mod Lines
 pub mod Reading

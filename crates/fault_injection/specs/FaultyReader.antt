@@ -1,5 +1,6 @@
 -- What a faulty reader still has to give, and when it fails.
 use Rattle.std.specs.Prelude.{ℕ, List}
+use Rattle.std.specs.declared.io.ErrorKind.{ErrorKind}
 use Rattle.fault_injection.specs.declared.reader.FaultyReader.{FaultyReader}
 
 -- the bytes that it still has to give
@@ -17,3 +18,7 @@ reads_made r = r.calls.made
 -- the number of the call that fails, counted from 1, or 0
 abbrev pub failing_read : FaultyReader → ℕ
 failing_read r = r.calls.faulty
+
+-- the kind of error of that call
+abbrev pub read_error : FaultyReader → ErrorKind
+read_error r = r.error

@@ -1,5 +1,6 @@
 -- What a faulty writer holds, and when it goes wrong.
 use Rattle.std.specs.Prelude.{◌≡◌, ℕ, ◌+◌, ◌-◌, ◌==◌, if◌then◌else◌, min, Bool, List, length, take}
+use Rattle.std.specs.declared.io.ErrorKind.{ErrorKind}
 use Rattle.fault_injection.specs.declared.writer.Fault.{Fault}
 use Rattle.fault_injection.specs.declared.writer.FaultyWriter.{FaultyWriter}
 
@@ -36,6 +37,14 @@ module _ {N : ℕ} where
   abbrev pub with_flush_fails : FaultyWriter N → Bool → FaultyWriter N
   with_flush_fails w fails = record w { flush_fails = fails }
 
+  -- the kind of its errors
+  abbrev pub write_error : FaultyWriter N → ErrorKind
+  write_error w = w.error
+
+  -- the same writer with that kind chosen anew
+  abbrev pub with_write_error : FaultyWriter N → ErrorKind → FaultyWriter N
+  with_write_error w kind = record w { error = kind }
+
   -- whether the next call of `write` is the faulty one
   abbrev pub is_due : FaultyWriter N → Bool
   is_due w = (writes_made w + 1) == faulty_write w
@@ -49,3 +58,4 @@ module _ {N : ℕ} where
     pub fault : fault_kind new ≡ fault_kind old
     pub faulty : faulty_write new ≡ faulty_write old
     pub flush : fails_at_flush new ≡ fails_at_flush old
+    pub error : write_error new ≡ write_error old

@@ -1,6 +1,6 @@
 use crate::{Fault, FaultyReader, FaultyWriter, RefusingAllocator};
 use std::alloc::{AllocError, Allocator};
-use std::io::{Read, Write};
+use std::io::{ErrorKind, Read, Write};
 use std::test::*;
 
 #[test]
@@ -61,6 +61,22 @@ fn writer_counts_flushes_and_fails_at_them_on_request(rt: HostRuntime) -> Result
     assert!(rt; writer.flush().is_err());
     assert_eq!(rt; writer.flushes(), 2);
     Ok(())
+}
+
+#[test]
+fn errors_are_of_the_chosen_kind(rt: HostRuntime) {
+    let mut buf = [0u8; 4];
+    let mut reader = FaultyReader::new(b"abcde", 2, 1);
+    reader.set_error(ErrorKind::Interrupted);
+    let failed = reader.read(&mut buf);
+    assert!(rt; matches!(failed, Err(e) if e.kind() == ErrorKind::Interrupted));
+    let mut writer = FaultyWriter::<4>::new(Fault::Fails, 1);
+    writer.set_error(ErrorKind::Interrupted);
+    writer.set_flush_fails(true);
+    let failed = writer.write(b"abc");
+    assert!(rt; matches!(failed, Err(e) if e.kind() == ErrorKind::Interrupted));
+    let failed = writer.flush();
+    assert!(rt; matches!(failed, Err(e) if e.kind() == ErrorKind::Interrupted));
 }
 
 fn pushed<A: Allocator>(alloc: A, count: u32) -> Result<Vec<u32, A>, AllocError> {

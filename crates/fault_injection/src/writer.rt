@@ -1,6 +1,8 @@
-ghost use Rattle.std.specs.Prelude.{◌≡◌, ◌↔◌, ◌≤◌, [], length, Some, IsTrue, IsErr, IfOk, false};
+ghost use Rattle.std.specs.Prelude.{◌≡◌, ◌↔◌, ◌≤◌, [], length, Some, IsTrue, IsErr, IfErr, IfOk, false};
 ghost use Rattle.std.specs.Io.{WritesAtMost};
 ghost use Rattle.std.specs.Io.KnownBytes.{WriteAppends, Keeps};
+ghost use Rattle.std.specs.IoError.{error_kind};
+ghost use Rattle.std.specs.declared.io.ErrorKind.TheVariants.{Other};
 ghost use Rattle.fault_injection.specs.Counting.{count_after};
 
 use crate::calls::CallCounter;
@@ -26,6 +28,7 @@ pub struct FaultyWriter<const N: usize> {
     room: [u8; N],
     len: usize,
     fault: Fault,
+    error: io::ErrorKind,
     calls: CallCounter,
     flushes: u64,
     flush_fails: bool,
@@ -33,10 +36,10 @@ pub struct FaultyWriter<const N: usize> {
 }
 
 impl<const N: usize> FaultyWriter<N> {
-    ghost use Rattle.fault_injection.specs.FaultyWriter.{written_bytes, room_left, fault_kind, faulty_write, writes_made, flushes_made, fails_at_flush, with_flush_fails};
+    ghost use Rattle.fault_injection.specs.FaultyWriter.{written_bytes, room_left, fault_kind, faulty_write, writes_made, flushes_made, fails_at_flush, with_flush_fails, write_error, with_write_error};
 
     /// The call of `write` with the number `faulty_call`, counted from 1, goes wrong by `fault`, and no
-    /// other; 0 for none.
+    /// other; 0 for none. Its errors are of the kind `Other`.
     pub fn new(fault: Fault, faulty_call: u64) -> FaultyWriter<N>
         ensures empty { written_bytes result ≡ [] }
         ensures room { room_left result ≡ N }
@@ -45,11 +48,13 @@ impl<const N: usize> FaultyWriter<N> {
         ensures none_made { writes_made result ≡ 0 }
         ensures none_flushed { flushes_made result ≡ 0 }
         ensures flush_works { fails_at_flush result ≡ false }
+        ensures error { write_error result ≡ Other }
     {
         FaultyWriter {
             room: [0; N],
             len: 0,
             fault,
+            error: io::ErrorKind::Other,
             calls: CallCounter::new(faulty_call),
             flushes: 0,
             flush_fails: false,
@@ -61,6 +66,13 @@ impl<const N: usize> FaultyWriter<N> {
         ensures { self.new ≡ with_flush_fails self.old fails }
     {
         self.flush_fails = fails;
+    }
+
+    /// The kind of its errors from now on.
+    pub fn set_error(&mut self, kind: io::ErrorKind)
+        ensures { self.new ≡ with_write_error self.old kind }
+    {
+        self.error = kind;
     }
 
     /// The bytes that it took, in the order in which they came.
@@ -86,7 +98,7 @@ impl<const N: usize> FaultyWriter<N> {
 }
 
 impl<const N: usize> Write for FaultyWriter<N> {
-    ghost use Rattle.fault_injection.specs.FaultyWriter.{written_bytes, fault_kind, writes_made, flushes_made, fails_at_flush, is_due, count_taken, HasSameFaults};
+    ghost use Rattle.fault_injection.specs.FaultyWriter.{written_bytes, fault_kind, writes_made, flushes_made, fails_at_flush, is_due, count_taken, write_error, HasSameFaults};
 
     ghost contents = { λ w. Some (written_bytes w) };
 
@@ -94,6 +106,7 @@ impl<const N: usize> Write for FaultyWriter<N> {
         ensures bound { WritesAtMost result buf.now }
         ensures bytes { WriteAppends (Some (written_bytes self.old)) (Some (written_bytes self.new)) result buf.now }
         ensures fault { IsErr result ↔ (IsTrue (is_due self.old) × (fault_kind self.old ≡ Fault.Fails)) }
+        ensures kind { IfErr result (λ e. error_kind e ≡ write_error self.old) }
         ensures count { IfOk result (λ n. n ≡ count_taken self.old (length buf.now)) }
         ensures counted { writes_made self.new ≡ count_after (writes_made self.old) }
         ensures flushes { flushes_made self.new ≡ flushes_made self.old }
@@ -101,7 +114,7 @@ impl<const N: usize> Write for FaultyWriter<N> {
     {
         if self.calls.next_is_faulty() {
             return match self.fault {
-                Fault::Fails => Err(io::Error::from(io::ErrorKind::Other)),
+                Fault::Fails => Err(io::Error::from(self.error)),
                 Fault::TakesNothing => Ok(0),
             };
         }
@@ -118,13 +131,14 @@ impl<const N: usize> Write for FaultyWriter<N> {
     fn flush(&mut self) -> io::Result<()>
         ensures bytes { Keeps (Some (written_bytes self.old)) (Some (written_bytes self.new)) }
         ensures fault { IsErr result ↔ IsTrue (fails_at_flush self.old) }
+        ensures kind { IfErr result (λ e. error_kind e ≡ write_error self.old) }
         ensures counted { flushes_made self.new ≡ count_after (flushes_made self.old) }
         ensures writes { writes_made self.new ≡ writes_made self.old }
         ensures same_faults { HasSameFaults self.old self.new }
     {
         self.flushes = self.flushes.saturating_add(1);
         if self.flush_fails {
-            return Err(io::Error::from(io::ErrorKind::Other));
+            return Err(io::Error::from(self.error));
         }
         Ok(())
     }
