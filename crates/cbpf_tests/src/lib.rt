@@ -7,11 +7,19 @@ mod assembling;
 #[cfg(test)]
 mod beginnings;
 #[cfg(test)]
+mod cut_captures;
+#[cfg(test)]
+mod failing_files;
+#[cfg(test)]
 mod failing_input;
 #[cfg(test)]
 mod failing_output;
 #[cfg(test)]
+mod failing_writes;
+#[cfg(test)]
 mod files;
+#[cfg(test)]
+mod icmp;
 #[cfg(test)]
 mod plain_reading;
 #[cfg(test)]
@@ -21,4 +29,16 @@ mod scripts;
 #[cfg(test)]
 mod session_commands;
 #[cfg(test)]
+mod sizes;
+#[cfg(test)]
 mod sources;
+#[cfg(test)]
+mod worked;
+#[cfg(test)]
+mod worked_breakpoints;
+#[cfg(test)]
+mod worked_loads;
+#[cfg(test)]
+mod worked_runs;
+#[cfg(test)]
+mod worked_steps;

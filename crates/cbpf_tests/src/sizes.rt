@@ -1,0 +1,121 @@
+// Large inputs: thousands of records, instructions, tokens and breakpoints, with memory at hand.
+use cbpf_code::{Program, check, read_words};
+use cbpf_dbg::{MarkTrail, Session, SessionFault};
+use cbpf_text::{Kind, assemble, tokens};
+use pcap_classic::{Capture, Captured, Ending};
+use std::alloc::{AllocError, Allocator, Global};
+use std::process::Abort;
+
+/// One piece many times, between a first and a last.
+pub fn repeated<A: Allocator>(
+    alloc: A,
+    first: &[u8],
+    piece: &[u8],
+    count: u32,
+    last: &[u8],
+) -> Result<Vec<u8, A>, AllocError> {
+    let mut text = Vec::with_capacity(alloc, 65536)?;
+    text.extend_from_slice(first)?;
+    for _ in 0..count {
+        text.extend_from_slice(piece)?;
+    }
+    text.extend_from_slice(last)?;
+    Ok(text)
+}
+
+/// A file header.
+pub const HEADER: &[u8] = b"\xd4\xc3\xb2\xa1\x02\x00\x04\x00\x00\x00\x00\x00\x00\x00\x00\x00\
+\xff\xff\x00\x00\x01\x00\x00\x00";
+
+/// A record of one byte of an original length of 60.
+pub const RECORD: &[u8] = b"\x01\x00\x00\x00\x02\x00\x00\x00\x01\x00\x00\x00\x3c\x00\x00\x00\x07";
+
+fn check_item(rt: &impl Abort, item: &Captured<'_>, number: u64) {
+    assert_eq!(rt; item.number, number);
+    assert_eq!(rt; item.start as u64, number * 17 + 7);
+    assert_eq!(rt; item.seconds, 1);
+    assert_eq!(rt; item.fraction, 2);
+    assert_eq!(rt; item.wire, 60);
+    assert_eq!(rt; item.bytes, b"\x07".as_slice());
+}
+
+#[test]
+fn a_capture_of_3000_records(rt: HostRuntime) -> Result<(), AllocError> {
+    let bytes = repeated(rt.alloc(), HEADER, RECORD, 3000, b"")?;
+    let Ok(capture) = Capture::from_bytes(rt.alloc(), bytes) else {
+        assert!(rt; false);
+        return Ok(());
+    };
+    assert_eq!(rt; capture.count(), 3000);
+    assert_eq!(rt; capture.marks(), 47);
+    assert!(rt; capture.ending() == Ending::Whole);
+    for number in 1..3001u64 {
+        assert!(rt; number <= capture.count());
+        check_item(&rt, &capture.item(number), number);
+    }
+    Ok(())
+}
+
+#[test]
+fn word_text_of_5000_instructions(rt: HostRuntime) -> Result<(), AllocError> {
+    let text = repeated(rt.alloc(), b"5000,", b"7 0 0 0,", 4999, b"6 1 2 3")?;
+    let Ok(list) = read_words(rt.alloc(), &text) else {
+        assert!(rt; false);
+        return Ok(());
+    };
+    assert_eq!(rt; list.len(), 5000);
+    for (i, insn) in list.iter().enumerate() {
+        let wanted = if i == 4999 { (6, 1, 2, 3) } else { (7, 0, 0, 0) };
+        assert!(rt; (insn.code, insn.jt, insn.jf, insn.k) == wanted);
+    }
+    Ok(())
+}
+
+#[test]
+fn a_source_of_8192_tokens(rt: HostRuntime) -> Result<(), AllocError> {
+    let source = repeated(rt.alloc(), b"", b"add x\n", 4096, b"")?;
+    let Ok(found) = tokens(rt.alloc(), &source) else {
+        assert!(rt; false);
+        return Ok(());
+    };
+    assert_eq!(rt; found.len(), 8192);
+    for (i, token) in found.iter().enumerate() {
+        let (start, len) = if i % 2 == 0 { (i * 3, 3) } else { (i * 3 + 1, 1) };
+        assert!(rt; token.kind == Kind::Word);
+        assert_eq!(rt; token.start, start);
+        assert_eq!(rt; token.end - token.start, len);
+    }
+    let Ok(list) = assemble(rt.alloc(), &source) else {
+        assert!(rt; false);
+        return Ok(());
+    };
+    assert_eq!(rt; list.len(), 4096);
+    for insn in &list {
+        assert!(rt; (insn.code, insn.jt, insn.jf, insn.k) == (12, 0, 0, 0));
+    }
+    Ok(())
+}
+
+/// A program of 4096 instructions.
+fn longest(alloc: Global) -> Result<Program, AllocError> {
+    let text = repeated(alloc, b"4096,", b"7 0 0 0,", 4095, b"6 0 0 1")?;
+    match read_words(alloc, &text) {
+        Ok(list) => check(list).map_err(|_| AllocError),
+        Err(_) => Err(AllocError),
+    }
+}
+
+#[test]
+fn a_breakpoint_at_each_of_4096_instructions(rt: HostRuntime) -> Result<(), AllocError> {
+    let mut session: Session<MarkTrail> = Session::new(rt.alloc(), MarkTrail::new());
+    session.load_program(longest(rt.alloc())?);
+    for n in 0..4096u64 {
+        assert!(rt; session.breakpoint(4095 - n) == Ok(()));
+    }
+    assert!(rt; session.breakpoint(4096) == Err(SessionFault::NoInstruction));
+    assert_eq!(rt; session.breakpoint_count(), 4096);
+    for i in 0..4096usize {
+        assert!(rt; session.breakpoint_at(i) == Some(4095 - i as u32));
+    }
+    Ok(())
+}
