@@ -2,6 +2,7 @@
 use cbpf_text::AsmFault;
 use cbpf_tool::{Form, ToolFault, asm};
 use fault_injection::{Fault, FaultyReader, FaultyWriter, RefusingAllocator};
+use std::io::ErrorKind;
 use std::process::Abort;
 
 /// A source of four instructions.
@@ -28,9 +29,15 @@ fn no_fault() -> FaultyWriter<256> {
 
 #[test]
 fn each_read_that_fails_leaves_nothing_written(rt: HostRuntime) {
-    for (form, _) in ARP_TEXTS {
+    for (form, kind) in [
+        (Form::Decimal, ErrorKind::Other),
+        (Form::Decimal, ErrorKind::Interrupted),
+        (Form::C, ErrorKind::Other),
+        (Form::C, ErrorKind::Interrupted),
+    ] {
         for call in 1..ARP.len() as u64 + 2 {
             let mut reader = FaultyReader::new(ARP, 1, call);
+            reader.set_error(kind);
             let mut writer = no_fault();
             let result = asm(rt.alloc(), &mut reader, &mut writer, form);
             assert_eq!(rt; result, Err(ToolFault::Read));
@@ -57,10 +64,15 @@ fn pieces_of_any_length_make_the_same_source(rt: HostRuntime) {
 #[test]
 fn each_write_that_goes_wrong_leaves_the_bytes_before_it(rt: HostRuntime) {
     for (form, text) in ARP_TEXTS {
-        for fault in [Fault::Fails, Fault::TakesNothing] {
+        for (fault, kind) in [
+            (Fault::Fails, ErrorKind::Other),
+            (Fault::Fails, ErrorKind::Interrupted),
+            (Fault::TakesNothing, ErrorKind::Other),
+        ] {
             for call in 1..text.len() as u64 + 1 {
                 let mut reader = ARP;
                 let mut writer = FaultyWriter::<256>::new(fault, call);
+                writer.set_error(kind);
                 let result = asm(rt.alloc(), &mut reader, &mut writer, form);
                 assert_eq!(rt; result, Err(ToolFault::Write));
                 assert_eq!(rt; writer.calls(), call);

@@ -2,6 +2,7 @@
 use crate::scripts::{ARP, ARP_FIRST_REPLY, ARP_ONE_LINE, ARP_REPLIES, ARP_TWO_LINES};
 use cbpf_tool::{MemoryFiles, ToolFault, debug};
 use fault_injection::{Fault, FaultyReader, FaultyWriter};
+use std::io::ErrorKind;
 
 /// The replies to the whole lines of the first `len` bytes of `ARP`.
 fn replies_to(len: usize) -> &'static [u8] {
@@ -16,14 +17,17 @@ fn replies_to(len: usize) -> &'static [u8] {
 
 #[test]
 fn each_read_that_fails_leaves_the_replies_to_the_whole_lines_before_it(rt: HostRuntime) {
-    for call in 1..ARP.len() as u64 + 1 {
-        let mut reader = FaultyReader::new(ARP, 1, call);
-        let mut writer = FaultyWriter::<256>::new(Fault::Fails, 0);
-        let mut files = MemoryFiles::new(rt.alloc());
-        let result = debug(rt.alloc(), &mut reader, &mut writer, &mut files);
-        assert_eq!(rt; result, Err(ToolFault::Read));
-        assert_eq!(rt; reader.calls(), call);
-        assert_eq!(rt; writer.written(), replies_to(call as usize - 1));
+    for kind in [ErrorKind::Other, ErrorKind::Interrupted] {
+        for call in 1..ARP.len() as u64 + 1 {
+            let mut reader = FaultyReader::new(ARP, 1, call);
+            reader.set_error(kind);
+            let mut writer = FaultyWriter::<256>::new(Fault::Fails, 0);
+            let mut files = MemoryFiles::new(rt.alloc());
+            let result = debug(rt.alloc(), &mut reader, &mut writer, &mut files);
+            assert_eq!(rt; result, Err(ToolFault::Read));
+            assert_eq!(rt; reader.calls(), call);
+            assert_eq!(rt; writer.written(), replies_to(call as usize - 1));
+        }
     }
 }
 

@@ -2,17 +2,24 @@
 use crate::scripts::{ARP, ARP_REPLIES};
 use cbpf_tool::{MemoryFiles, ToolFault, debug};
 use fault_injection::{Fault, FaultyWriter};
+use std::io::ErrorKind;
 
 #[test]
 fn each_write_that_goes_wrong_leaves_the_bytes_before_it(rt: HostRuntime) {
     assert_eq!(rt; ARP_REPLIES.len(), 165);
-    for fault in [Fault::Fails, Fault::TakesNothing] {
+    for (fault, kind) in [
+        (Fault::Fails, ErrorKind::Other),
+        (Fault::Fails, ErrorKind::Interrupted),
+        (Fault::TakesNothing, ErrorKind::Other),
+    ] {
         for call in 1..166u64 {
             let mut reader = ARP;
             let mut writer = FaultyWriter::<256>::new(fault, call);
+            writer.set_error(kind);
             let mut files = MemoryFiles::new(rt.alloc());
             let result = debug(rt.alloc(), &mut reader, &mut writer, &mut files);
             assert_eq!(rt; result, Err(ToolFault::Write));
+            assert_eq!(rt; writer.calls(), call);
             assert_eq!(rt;
                 Some(writer.written()),
                 ARP_REPLIES.get(..call as usize - 1)

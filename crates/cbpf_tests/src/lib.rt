@@ -23,6 +23,10 @@ mod icmp;
 #[cfg(test)]
 mod plain_reading;
 #[cfg(test)]
+mod refused_breakpoints;
+#[cfg(test)]
+mod refused_calls;
+#[cfg(test)]
 mod refused_growth;
 #[cfg(test)]
 mod scripts;
@@ -32,6 +36,8 @@ mod session_commands;
 mod sizes;
 #[cfg(test)]
 mod sources;
+#[cfg(test)]
+mod waiting;
 #[cfg(test)]
 mod worked;
 #[cfg(test)]

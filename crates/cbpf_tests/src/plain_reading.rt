@@ -54,8 +54,37 @@ fn fault_of(j: usize, mark: Mark) -> Option<WordFault> {
     }
 }
 
-/// The number of instructions, or the refusal.
-fn plainly(alloc: Global, text: &[u8]) -> Result<Result<usize, WordFault>, AllocError> {
+/// The number of this mark.
+fn number_at(marks: &[Mark], j: usize) -> u64 {
+    match marks.get(j) {
+        Some(Mark::Number(_, value)) => *value,
+        _ => 0,
+    }
+}
+
+/// The instructions of these marks, each as its code, jt, jf and k.
+fn instructions_of(
+    alloc: Global,
+    marks: &[Mark],
+    count: usize,
+) -> Result<Vec<[u64; 4]>, AllocError> {
+    let mut list = Vec::new(alloc);
+    for i in 0..count {
+        let first = i.saturating_mul(5).saturating_add(2);
+        let mut fields = [0u64; 4];
+        for (place, field) in fields.iter_mut().enumerate() {
+            *field = number_at(marks, first.saturating_add(place));
+        }
+        list.push(fields)?;
+    }
+    Ok(list)
+}
+
+/// The instructions, or the refusal.
+fn plainly(
+    alloc: Global,
+    text: &[u8],
+) -> Result<Result<Vec<[u64; 4]>, WordFault>, AllocError> {
     let marks = marks_of(alloc, text)?;
     for (j, mark) in marks.iter().enumerate() {
         if let Some(fault) = fault_of(j, *mark) {
@@ -67,7 +96,7 @@ fn plainly(alloc: Global, text: &[u8]) -> Result<Result<usize, WordFault>, Alloc
         (1, _) => Err(WordFault::CommaExpected(text.len())),
         (n, Some(Mark::Number(_, said))) if n >= 2 && (n % 5 == 1 || n % 5 == 2) => {
             if *said == found as u64 {
-                Ok(found)
+                Ok(instructions_of(alloc, marks.as_slice(), found)?)
             } else {
                 Err(WordFault::CountDiffers {
                     said: u32::try_from(*said).unwrap_or(0),
@@ -81,11 +110,22 @@ fn plainly(alloc: Global, text: &[u8]) -> Result<Result<usize, WordFault>, Alloc
 
 fn compare(rt: &impl Abort, alloc: Global, text: &[u8]) -> Result<(), AllocError> {
     let wanted = plainly(alloc, text)?;
-    let got = match read_words(alloc, text) {
-        Ok(list) => Ok(list.len()),
-        Err(fault) => Err(fault),
-    };
-    assert!(rt; got == wanted);
+    match (read_words(alloc, text), wanted) {
+        (Ok(list), Ok(wanted)) => {
+            assert_eq!(rt; list.len(), wanted.len());
+            for (insn, fields) in list.iter().zip(&wanted) {
+                let got = [
+                    u64::from(insn.code),
+                    u64::from(insn.jt),
+                    u64::from(insn.jf),
+                    u64::from(insn.k),
+                ];
+                assert!(rt; got == *fields);
+            }
+        }
+        (Err(fault), Err(wanted)) => assert_eq!(rt; fault, wanted),
+        _ => assert!(rt; false),
+    }
     Ok(())
 }
 
@@ -122,6 +162,7 @@ fn longer_texts(rt: HostRuntime) -> Result<(), AllocError> {
         b"2,6 0 0 0,6 0 0 0,\r\n",
         b"-1",
         b"1,6x 0 0 0",
+        b"3,1 2 3 4,65535 255 255 4294967295,5 6 7 8",
     ] {
         compare(&rt, rt.alloc(), text)?;
     }

@@ -1,97 +1,77 @@
-// Growths that are refused, one after another.
-use crate::scripts::TWO_PACKETS;
-use cbpf_code::{WordFault, read_words};
-use cbpf_tool::{Files, LoadFault, MemoryFiles, ToolFault, debug};
-use fault_injection::{Fault, FaultyWriter, RefusingAllocator};
+// Growths of a script that are refused, one after another.
+use crate::icmp::TWO_PACKETS_AS_K;
+use crate::worked::files_of;
+use cbpf_tool::{ToolFault, debug};
+use fault_injection::RefusingAllocator;
+use std::alloc::AllocError;
+use std::process::Abort;
 
-const WORDS: &[u8] = b"9,0 0 0 1,0 0 0 1,0 0 0 1,0 0 0 1,0 0 0 1,0 0 0 1,0 0 0 1,0 0 0 1,22 0 0 0";
+const SCRIPT: &[u8] = b"load bpf 1,6 0 0 1\nload pcap k\nrun\nquit\n";
 
-#[test]
-fn each_growth_of_a_list_of_instructions(rt: HostRuntime) {
-    for nth in 1..100u64 {
-        let alloc = RefusingAllocator::refusing(rt.alloc(), nth);
-        match read_words(&alloc, WORDS) {
-            Ok(list) => {
-                assert_eq!(rt; list.len(), 9);
-                assert!(rt; alloc.left() > 0);
-                assert!(rt; nth > 1);
-                return;
-            }
-            Err(fault) => {
-                assert_eq!(rt; fault, WordFault::Memory);
-                assert_eq!(rt; alloc.left(), 0);
-            }
-        }
-    }
-    assert!(rt; false);
-}
+const REPLIES: &[u8] = b"bpf: 1 instructions\npcap: 2 packets\nbpf passes:2 fails:0\n";
 
-const SCRIPT: &[u8] = b"load bpf 1,6 0 0 1\nload pcap k\ndump\nquit\n";
-
-const REPLIES: &[u8] =
-    b"bpf: 1 instructions\npcap: 2 packets\n/* { op, jt, jf, k }, */\n{ 0x06,  0,  0, 0x00000001 },\n";
+/// How long the replies to the first lines are.
+const REPLIES_TO_LINES: [usize; 4] = [0, 20, 36, 57];
 
 const NO_PROGRAM: &[u8] = b"error: out of memory\npcap: 2 packets\nerror: S1 no program\n";
 
-const NO_CAPTURE: &[u8] =
-    b"bpf: 1 instructions\nerror: out of memory\n/* { op, jt, jf, k }, */\n{ 0x06,  0,  0, 0x00000001 },\n";
+const NO_CAPTURE: &[u8] = b"bpf: 1 instructions\nerror: out of memory\nerror: S2 no capture\n";
 
-#[test]
-fn each_growth_of_a_script(rt: HostRuntime) {
-    let mut lines_not_held = 0u64;
-    let mut replies_refused = 0u64;
-    for nth in 1..100u64 {
-        let mut files = MemoryFiles::new(rt.alloc());
-        let Ok(bytes) = Vec::from_slice(rt.alloc(), TWO_PACKETS) else {
-            assert!(rt; false);
-            return;
-        };
-        assert!(rt; files.put("k", bytes).is_ok());
-        let alloc = RefusingAllocator::refusing(rt.alloc(), nth);
-        let mut reader = SCRIPT;
-        let mut writer = FaultyWriter::<256>::new(Fault::Fails, 0);
-        let result = debug(&alloc, &mut reader, &mut writer, &mut files);
-        let text = writer.written();
-        match result {
-            Ok(()) => {
-                if alloc.left() > 0 {
-                    assert_eq!(rt; text, REPLIES);
-                    assert!(rt; lines_not_held > 0);
-                    assert!(rt; replies_refused > 1);
-                    return;
-                }
-                assert!(rt; text == NO_PROGRAM || text == NO_CAPTURE);
-                replies_refused = replies_refused.saturating_add(1);
-            }
-            Err(fault) => {
-                assert_eq!(rt; fault, ToolFault::Memory);
-                assert!(rt; REPLIES.starts_with(text));
-                assert!(rt; text.is_empty() || text.ends_with(b"\n"));
-                lines_not_held = lines_not_held.saturating_add(1);
-            }
+/// Where a growth was refused.
+#[derive(Clone, Copy, PartialEq, Eq, Debug)]
+enum Refused {
+    /// Nowhere.
+    None,
+    /// In the load of the program.
+    Program,
+    /// In the load of the capture.
+    Capture,
+    /// In a line that was to be held, after the replies to this many bytes.
+    Line(usize),
+}
+
+/// Where the growth was refused, by what was answered and written.
+fn refused_in(rt: &impl Abort, answer: Result<(), ToolFault>, text: &[u8]) -> Refused {
+    match answer {
+        Ok(()) if text == REPLIES => Refused::None,
+        Ok(()) if text == NO_PROGRAM => Refused::Program,
+        Ok(()) => {
+            assert_eq!(rt; text, NO_CAPTURE);
+            Refused::Capture
+        }
+        Err(fault) => {
+            assert_eq!(rt; fault, ToolFault::Memory);
+            assert!(rt; REPLIES_TO_LINES.as_slice().contains(&text.len()));
+            assert!(rt; REPLIES.starts_with(text));
+            Refused::Line(text.len())
         }
     }
-    assert!(rt; false);
 }
 
 #[test]
-fn bytes_that_are_not_put_come_back(rt: HostRuntime) {
-    for nth in 1..10u64 {
+fn each_growth_of_a_script(rt: HostRuntime) -> Result<(), AllocError> {
+    let mut programs = 0u64;
+    let mut captures = 0u64;
+    let mut lines = 0u64;
+    for nth in 1..100u64 {
+        let mut files = files_of(rt.alloc(), TWO_PACKETS_AS_K)?;
         let alloc = RefusingAllocator::refusing(rt.alloc(), nth);
-        let mut files = MemoryFiles::new(&alloc);
-        let Ok(bytes) = Vec::from_slice(&alloc, b"bytes") else {
-            continue;
-        };
-        match files.put("name", bytes) {
-            Ok(()) => {
-                assert!(rt; alloc.left() > 0);
-                return;
+        let mut reader = SCRIPT;
+        let mut room = [0u8; 256];
+        let mut writer: &mut [u8] = &mut room;
+        let result = debug(&alloc, &mut reader, &mut writer, &mut files);
+        let size = 256usize.saturating_sub(writer.len());
+        let refused = refused_in(&rt, result, &room[..size]);
+        assert_eq!(rt; refused == Refused::None, alloc.left() > 0);
+        match refused {
+            Refused::None => {
+                assert!(rt; programs > 0 && captures > 0 && lines > 0);
+                return Ok(());
             }
-            Err(bytes) => {
-                assert_eq!(rt; bytes.as_slice(), b"bytes".as_slice());
-                assert!(rt; matches!(files.load(rt.alloc(), "name"), Err(LoadFault::Absent)));
-            }
+            Refused::Program => programs += 1,
+            Refused::Capture => captures += 1,
+            Refused::Line(_) => lines += 1,
         }
     }
-    assert!(rt; false);
+    panic!(rt; "no end of growths")
 }

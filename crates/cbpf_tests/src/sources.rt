@@ -54,7 +54,7 @@ const ASSEMBLED: [(&[u8], Form, &[u8]); 11] = [
 ];
 
 /// Sources with their refusal and its line.
-const REFUSED: [(&[u8], AsmKind, u64); 13] = [
+const REFUSED: [(&[u8], AsmKind, u64); 18] = [
     (b"", AsmKind::NoInstruction, 1),
     (b"top:", AsmKind::Unfinished, 1),
     (b"a: ret #0", AsmKind::Misplaced, 1),
@@ -68,6 +68,15 @@ const REFUSED: [(&[u8], AsmKind, u64); 13] = [
     (b"b: ret #0\nb: ret #0\n", AsmKind::LabelSetTwice, 2),
     (b"ldx type", AsmKind::Misplaced, 1),
     (b"ret #0x", AsmKind::NoToken, 1),
+    // Without an item the line is the first one, whatever stands in the text.
+    (b"\n\n; a\n/* b\n */\n", AsmKind::NoInstruction, 1),
+    // A label that is set twice on one item, and one that is nowhere used.
+    (b"in: in: ret #0", AsmKind::LabelSetTwice, 1),
+    (b"in:\nb: ld #1\n\nin:\nret #0", AsmKind::LabelSetTwice, 4),
+    // Labels come before targets, whatever their order in the text.
+    (b"jmp no\nin: ret #0\nin: ret #0", AsmKind::LabelSetTwice, 3),
+    // A target on a later line than its jump.
+    (b"jeq #1, yes,\n no\nyes: ret #0", AsmKind::LabelNotSet, 2),
 ];
 
 fn check_text(rt: &impl Abort, alloc: Global, source: &[u8], form: Form, text: &[u8]) {
@@ -148,5 +157,42 @@ fn the_4097th_instruction_is_refused_by_its_line(rt: HostRuntime) -> Result<(), 
     let alloc = rt.alloc();
     let source = repeated(alloc, b"", b"tax\n", 4097, b"")?;
     check_refusal(&rt, alloc, &source, AsmKind::TooMany, 4097);
+    // The line is that of the mnemonic; its label stands three lines above.
+    let source = repeated(alloc, b"", b"tax\n", 4096, b"last:\n; a\n\ntax\nret #0\n")?;
+    check_refusal(&rt, alloc, &source, AsmKind::TooMany, 4100);
+    // It comes before labels that are set twice and targets that are not set.
+    let source = repeated(alloc, b"in: jmp no\nin: tax\n", b"tax\n", 4095, b"")?;
+    check_refusal(&rt, alloc, &source, AsmKind::TooMany, 4097);
+    let source = repeated(alloc, b"", b"tax\n", 4096, b"")?;
+    let decimal = repeated(alloc, b"4096,", b"7 0 0 0,", 4096, b"\n")?;
+    check_long_text(&rt, alloc, &source, &decimal);
+    Ok(())
+}
+
+/// Like `check_text`, for a text of some ten thousand bytes.
+fn check_long_text(rt: &impl Abort, alloc: Global, source: &[u8], text: &[u8]) {
+    let mut reader = source;
+    let mut writer = Vec::new(alloc);
+    let result = asm(alloc, &mut reader, &mut writer, Form::Decimal);
+    assert_eq!(rt; result, Ok(()));
+    assert!(rt; writer.as_slice() == text);
+}
+
+#[test]
+fn either_target_of_a_conditional_jump_can_be_too_far(rt: HostRuntime) -> Result<(), Fail> {
+    let alloc = rt.alloc();
+    let first = b"ld #1\njeq #1, near,\n far\nnear: ld #2\n";
+    let source = repeated(alloc, first, b"tax\n", 255, b"far: ret #0\n")?;
+    check_refusal(&rt, alloc, &source, AsmKind::TooFar, 3);
+    let source = repeated(alloc, first, b"tax\n", 254, b"far: ret #0\n")?;
+    let first = b"258,0 0 0 1,21 0 255 1,0 0 0 2,";
+    let decimal = repeated(alloc, first, b"7 0 0 0,", 254, b"6 0 0 0,\n")?;
+    check_long_text(&rt, alloc, &source, &decimal);
+    let first = b"jeq #1, far,\n near\nnear: ld #2\n";
+    let source = repeated(alloc, first, b"tax\n", 255, b"far: ret #0\n")?;
+    check_refusal(&rt, alloc, &source, AsmKind::TooFar, 1);
+    let first = b"ld #1\njne #1,\n far\nld #2\n";
+    let source = repeated(alloc, first, b"tax\n", 255, b"far: ret #0\n")?;
+    check_refusal(&rt, alloc, &source, AsmKind::TooFar, 3);
     Ok(())
 }

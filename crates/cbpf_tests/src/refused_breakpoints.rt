@@ -1,0 +1,187 @@
+// Breakpoints whose growths are refused, and the calls of a session that take no memory.
+use crate::icmp::{ICMP_WORDS, program_of, session_of};
+use cbpf_code::{Ext, check, read_words, write_bytes, write_c, write_decimal, write_hex, write_words};
+use cbpf_dbg::{Counts, MarkTrail, Meter, Place, RunReply, Session, SessionFault, When};
+use cbpf_text::write_listing;
+use fault_injection::{Fault, FaultyWriter, RefusingAllocator};
+use std::alloc::{AllocError, Allocator};
+use std::process::Abort;
+
+/// Twenty times `tax`, and a return of 1.
+const STRAIGHT: &[u8] = b"21,7 0 0 0,7 0 0 0,7 0 0 0,7 0 0 0,7 0 0 0,7 0 0 0,7 0 0 0,7 0 0 0,\
+7 0 0 0,7 0 0 0,7 0 0 0,7 0 0 0,7 0 0 0,7 0 0 0,7 0 0 0,7 0 0 0,7 0 0 0,7 0 0 0,7 0 0 0,7 0 0 0,6 0 0 1";
+
+/// A breakpoint with its condition: A is 0 at each instruction.
+const CONDITIONS: [When; 3] = [When::Always, When::A(0), When::X(0)];
+
+fn set<A: Allocator + Copy>(
+    session: &mut Session<MarkTrail, A>,
+    n: u64,
+    when: When,
+) -> Result<(), SessionFault> {
+    if when == When::Always {
+        session.breakpoint(n)
+    } else {
+        session.breakpoint_when(n, when)
+    }
+}
+
+/// The breakpoints are those of the first `count` instructions, in order, with this condition.
+fn check_list<A: Allocator + Copy>(
+    rt: &impl Abort,
+    session: &Session<MarkTrail, A>,
+    count: u64,
+    when: When,
+) {
+    assert_eq!(rt; session.breakpoint_count() as u64, count);
+    for i in 0..session.breakpoint_count() {
+        assert!(rt; session.breakpoint_at(i) == Some(i as u32));
+        assert!(rt; session.breakpoint_when_at(i) == Some(when));
+    }
+}
+
+/// From before packet 2, runs stop at the first `count` instructions, and then count from packet 2.
+fn check_runs<A: Allocator + Copy>(
+    rt: &impl Abort,
+    session: &mut Session<MarkTrail, A>,
+    count: u64,
+) {
+    assert!(rt; session.place() == Place { packet: 2, step: 0 });
+    for n in 0..count {
+        match session.run(&mut Meter::new(), None) {
+            Ok(RunReply::Stopped(stop)) => {
+                assert_eq!(rt; stop.place.packet, 2);
+                assert_eq!(rt; u64::from(stop.place.step), n + 1);
+            }
+            _ => assert!(rt; false),
+        }
+    }
+    let counts = Counts {
+        passes: 1,
+        fails: 0,
+        unknown: 0,
+    };
+    assert!(rt; session.run(&mut Meter::new(), None) == Ok(RunReply::Finished(counts)));
+    assert!(rt; session.select(2) == Ok(()));
+}
+
+/// Sets breakpoints at all instructions. A refused one leaves the session, and is set the next time.
+fn set_all<A: Allocator + Copy>(
+    rt: &impl Abort,
+    session: &mut Session<MarkTrail, A>,
+    when: When,
+) -> u64 {
+    let mut refused = 0u64;
+    for n in 0..20u64 {
+        match set(session, n, when) {
+            Ok(()) => (),
+            Err(fault) => {
+                assert_eq!(rt; fault, SessionFault::Memory);
+                refused += 1;
+                check_list(rt, session, n, when);
+                check_runs(rt, session, n);
+                check_list(rt, session, n, when);
+                assert!(rt; set(session, n, when) == Ok(()));
+            }
+        }
+    }
+    check_list(rt, session, 20, when);
+    check_runs(rt, session, 20);
+    refused
+}
+
+#[test]
+fn each_growth_of_breakpoints(rt: HostRuntime) {
+    for when in CONDITIONS {
+        let mut growths = 0u64;
+        let mut is_whole = false;
+        for nth in 1..100u64 {
+            let refusing = RefusingAllocator::refusing(rt.alloc(), nth);
+            let Ok(mut session) = session_of(&refusing, STRAIGHT) else {
+                assert_eq!(rt; refusing.left(), 0);
+                continue;
+            };
+            assert!(rt; session.select(2) == Ok(()));
+            let refused = set_all(&rt, &mut session, when);
+            if refusing.left() > 0 {
+                assert_eq!(rt; refused, 0);
+                is_whole = true;
+                break;
+            }
+            assert_eq!(rt; refused, 1);
+            growths += 1;
+        }
+        assert!(rt; is_whole && growths > 2);
+    }
+}
+
+#[test]
+fn a_breakpoint_that_there_is_not_asks_for_no_room(rt: HostRuntime) -> Result<(), AllocError> {
+    let refusing = RefusingAllocator::refusing(rt.alloc(), 1);
+    let mut session: Session<MarkTrail, _> = Session::new(&refusing, MarkTrail::new());
+    assert!(rt; session.breakpoint(0) == Err(SessionFault::NoProgram));
+    assert!(rt; session.breakpoint_when(0, When::A(1)) == Err(SessionFault::NoProgram));
+    assert_eq!(rt; refusing.left(), 1);
+    let refusing = RefusingAllocator::refusing(rt.alloc(), 1000);
+    let mut session = session_of(&refusing, ICMP_WORDS)?;
+    let left = refusing.left();
+    assert!(rt; session.breakpoint(6) == Err(SessionFault::NoInstruction));
+    assert!(rt; session.breakpoint_when(6, When::A(1)) == Err(SessionFault::NoInstruction));
+    assert_eq!(rt; refusing.left(), left);
+    Ok(())
+}
+
+/// Goes through a session by the calls that take no memory.
+fn go_through<A: Allocator + Copy>(rt: &impl Abort, session: &mut Session<MarkTrail, A>) {
+    let mut meter = Meter::new();
+    assert!(rt; session.run(&mut meter, None).is_ok());
+    assert!(rt; session.step(&mut meter, 3).is_ok());
+    assert!(rt; session.step(&mut meter, -1).is_ok());
+    assert!(rt; session.run(&mut meter, Some(1)).is_ok());
+    assert!(rt; session.resume(&mut meter, Place { packet: 2, step: 3 }).is_ok());
+    assert!(rt; session.select(1) == Ok(()));
+    assert!(rt; session.mark().is_ok());
+    assert!(rt; session.set_value(Ext::Mark, 7) == Ok(()));
+    assert!(rt; session.stops().is_ok());
+    if let Ok(stops) = session.stops() {
+        assert_eq!(rt; stops.count(), 3);
+    }
+    assert!(rt; session.breakpoint(4) == Ok(()));
+    assert!(rt; session.delete(4) == Ok(true));
+    assert!(rt; session.delete(4) == Ok(false));
+    session.reset_breakpoints();
+    assert_eq!(rt; session.breakpoint_count(), 0);
+}
+
+#[test]
+fn most_calls_of_a_session_take_no_memory(rt: HostRuntime) -> Result<(), AllocError> {
+    let refusing = RefusingAllocator::refusing(rt.alloc(), 1000);
+    let mut session = session_of(&refusing, ICMP_WORDS)?;
+    assert!(rt; session.breakpoint(1) == Ok(()));
+    assert!(rt; session.breakpoint(4) == Ok(()));
+    let left = refusing.left();
+    go_through(&rt, &mut session);
+    assert_eq!(rt; refusing.left(), left);
+    Ok(())
+}
+
+#[test]
+fn the_checker_and_the_writers_take_no_memory(rt: HostRuntime) -> Result<(), AllocError> {
+    let refusing = RefusingAllocator::refusing(rt.alloc(), 1000);
+    let program = program_of(&refusing, ICMP_WORDS)?;
+    let Ok(unsound) = read_words(&refusing, b"1,5 0 0 0") else {
+        assert!(rt; false);
+        return Ok(());
+    };
+    let left = refusing.left();
+    assert!(rt; check(unsound).is_err());
+    let mut w = FaultyWriter::<2048>::new(Fault::Fails, 0);
+    assert_eq!(rt; write_c(&mut w, program.as_slice()), Ok(()));
+    assert_eq!(rt; write_words(&mut w, program.as_slice()), Ok(()));
+    assert_eq!(rt; write_listing(&mut w, &program), Ok(()));
+    assert_eq!(rt; write_bytes(&mut w, b"text"), Ok(()));
+    assert_eq!(rt; write_decimal(&mut w, 12), Ok(()));
+    assert_eq!(rt; write_hex(&mut w, 12, 8), Ok(()));
+    assert_eq!(rt; refusing.left(), left);
+    Ok(())
+}
