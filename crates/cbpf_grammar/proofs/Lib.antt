@@ -12,3 +12,5 @@ pub mod Labels
 pub mod Begins
 pub mod Refused
 pub mod OneRefusal
+pub mod Ahead
+pub mod Taking

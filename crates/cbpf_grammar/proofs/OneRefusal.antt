@@ -2,8 +2,7 @@
 use Rattle.std.proofs.Common.{◌≡◌, ℕ, zero, suc, ◌+◌, ◌≤◌, Bool, true, false, not, ◌&&◌, ◌||◌, List, [], ◌∷◌, ◌++◌, take, refl, arith, ap, sym, ◌∙◌, ◌⊎◌, inl, inr, subst, append_assoc, append-nil, Option, Some, eqb-true, eq-eqb}
 use Rattle.std.specs.Prelude.{◌==◌, Contains}
 use Rattle.std.specs.List.{list_all}
-use Rattle.cbpf_grammar.specs.declared.parser.ParseFault.{ParseFault}
-use Rattle.cbpf_grammar.specs.declared.parser.ParseFault.TheVariants.{Memory, Misplaced, LargeNegative, Unfinished}
+use Rattle.cbpf_grammar.specs.Refusals.ParseFault.{Misplaced, LargeNegative, Unfinished}
 use Rattle.cbpf_grammar.specs.Lexemes.{Symbol, Lexeme}
 use Rattle.cbpf_grammar.specs.Lexemes.Symbol.{number, mark}
 use Rattle.cbpf_grammar.specs.Classes.{Class}
@@ -11,7 +10,7 @@ use Rattle.cbpf_grammar.specs.Classes.Class.{the_word, the_mark, literal, negate
 use Rattle.cbpf_grammar.specs.Table.{Row, classes, mnemonics, table}
 use Rattle.cbpf_grammar.specs.Fits.{fits, fits_front}
 use Rattle.cbpf_grammar.specs.Items.{Item, Items, BeginsItem, BeginsItems, classes_of}
-use Rattle.cbpf_grammar.specs.Refusals.{symbol_at, IsLargeNegative, IsMisplaced, IsRefusedAt}
+use Rattle.cbpf_grammar.specs.Refusals.{ParseFault, symbol_at, IsLargeNegative, IsMisplaced, IsRefusedAt}
 use Rattle.cbpf_grammar.specs.Laws.{OneRefusal}
 use Rattle.cbpf_grammar.proofs.Apart.{and_parts}
 use Rattle.cbpf_grammar.proofs.OneReading.{list_all_at}
@@ -163,16 +162,12 @@ same_place : (m n : ℕ) → m ≤ n → n ≤ m → m ≡ n
 same_place m n a b = omega arith
 
 same_fault : (ts : List Lexeme) (f g : ParseFault) (p : ℕ) → IsRefusedAt ts f p → IsRefusedAt ts g p → f ≡ g
-same_fault ts Memory g p a b = absurd a
-same_fault ts (Misplaced i) Memory p a b = absurd b
 same_fault ts (Misplaced i) (Misplaced j) p a b = ap (λ k. Misplaced k) (sym a.0 ∙ b.0)
 same_fault ts (Misplaced i) (LargeNegative j) p a b = absurd (never_both ts j (subst (λ k. IsMisplaced ts k) (sym a.0 ∙ b.0) a.1) b.1)
 same_fault ts (Misplaced i) Unfinished p a b = absurd (omega (arith, a.0, b.0, a.1.within))
-same_fault ts (LargeNegative i) Memory p a b = absurd b
 same_fault ts (LargeNegative i) (Misplaced j) p a b = absurd (never_both ts i (subst (λ k. IsMisplaced ts k) (sym b.0 ∙ a.0) b.1) a.1)
 same_fault ts (LargeNegative i) (LargeNegative j) p a b = ap (λ k. LargeNegative k) (sym a.0 ∙ b.0)
 same_fault ts (LargeNegative i) Unfinished p a b = absurd (omega (arith, a.0, b.0, large_within ts i a.1))
-same_fault ts Unfinished Memory p a b = absurd b
 same_fault ts Unfinished (Misplaced j) p a b = absurd (omega (arith, a.0, b.0, b.1.within))
 same_fault ts Unfinished (LargeNegative j) p a b = absurd (omega (arith, a.0, b.0, large_within ts j b.1))
 same_fault ts Unfinished Unfinished p a b = refl

@@ -2,13 +2,12 @@
 use Rattle.std.proofs.Common.{◌≡◌, ℕ, zero, suc, ◌+◌, ◌-◌, ◌<◌, ◌≤◌, List, [], ◌∷◌, ◌++◌, length, take, drop, map, refl, arith, ap, sym, ◌∙◌, ◌⊎◌, inl, inr, subst, append-nil, length-append, length-drop, get_or, Option, Some}
 use Rattle.std.proofs.lemmas.List.{take-append-drop, take_all, drop_all, drop_at, drop-drop, take-take, length-take-le}
 use Rattle.cbpf_grammar.specs.declared.lexeme.Lexeme as declared_lexeme
-use Rattle.cbpf_grammar.specs.declared.parser.ParseFault.{ParseFault}
-use Rattle.cbpf_grammar.specs.declared.parser.ParseFault.TheVariants.{Memory, Misplaced, LargeNegative, Unfinished}
+use Rattle.cbpf_grammar.specs.Refusals.ParseFault.{Misplaced, LargeNegative, Unfinished}
 use Rattle.cbpf_grammar.specs.Lexemes.{Symbol, Lexeme}
 use Rattle.cbpf_grammar.specs.Items.{Item, Form, Items, BeginsItems}
 use Rattle.cbpf_grammar.specs.Views.{symbol_of, lexeme_of}
 use Rattle.cbpf_grammar.specs.Steps.{NoLonger, Stuck, IsNextItem}
-use Rattle.cbpf_grammar.specs.Refusals.{symbol_at, IsLarge, IsLargeNegative, IsMisplaced, IsStuckAt, IsRefusedAt, IsFirstRefusal, IsAccepted}
+use Rattle.cbpf_grammar.specs.Refusals.{ParseFault, symbol_at, IsLarge, IsLargeNegative, IsMisplaced, IsStuckAt, IsRefusedAt, IsFirstRefusal, IsAccepted}
 use Rattle.cbpf_grammar.proofs.Greedy.{Greedy, greedy_items, stuck_begins, stuck_ends, stuck_open}
 use Rattle.cbpf_grammar.proofs.Begins.{begins_take}
 use Rattle.cbpf_grammar.proofs.Instructions.{some_known}
@@ -66,7 +65,6 @@ pub large_first : (ts : List Lexeme) (s i : ℕ) → IsStuckAt ts s → i < s �
 large_first ts s i stuck l large none = record { place = i; refused = (refl, large); first = first }
   where
     first : (other : ParseFault) (q : ℕ) → IsRefusedAt ts other q → i ≤ q
-    first Memory q r = absurd r
     first (Misplaced k) q r = let m = misplaced_from ts s k stuck.before r.1 in omega (arith, r.0, m)
     first (LargeNegative k) q r = let m = from_not_before (IsLargeNegative ts) i k none r.1 in omega (arith, r.0, m)
     first Unfinished q r = omega (arith, r.0, stuck.within)
@@ -75,7 +73,6 @@ pub misplaced_first : (ts : List Lexeme) (s : ℕ) → IsStuckAt ts s → s < le
 misplaced_first ts s stuck l none = record { place = s; refused = (refl, record { within = l; before = stuck.before; with_it = stuck.next l }); first = first }
   where
     first : (other : ParseFault) (q : ℕ) → IsRefusedAt ts other q → s ≤ q
-    first Memory q r = absurd r
     first (Misplaced k) q r = let m = misplaced_from ts s k stuck.before r.1 in omega (arith, r.0, m)
     first (LargeNegative k) q r = let m = from_not_before (IsLargeNegative ts) s k none r.1 in omega (arith, r.0, m)
     first Unfinished q r = omega (arith, r.0, stuck.within)
@@ -86,7 +83,6 @@ unfinished_first ts s stuck l none =
     record { place = length ts; refused = (refl, record { begins = subst BeginsItems (take_all s ts l) stuck.before; none = stuck.end e }); first = first }
   where
     first : (other : ParseFault) (q : ℕ) → IsRefusedAt ts other q → length ts ≤ q
-    first Memory q r = absurd r
     first (Misplaced k) q r = let m = misplaced_from ts s k stuck.before r.1 in omega (arith, r.0, m)
     first (LargeNegative k) q r = let m = from_not_before (IsLargeNegative ts) s k none r.1 in omega (arith, r.0, m)
     first Unfinished q r = omega (arith, r.0)
@@ -99,7 +95,6 @@ none_misplaced : (ts : List Lexeme) (items : List Item) (k : ℕ) → Items ts i
 none_misplaced ts items k p m = m.with_it (begins_take ts (k + 1) (items_begin ts items p))
 
 pub items_accepted : (ts : List Lexeme) (items : List Item) → Items ts items → ((k : ℕ) → IsLargeNegative ts k → ⊥) → IsAccepted ts
-items_accepted ts items p none Memory q r = r
 items_accepted ts items p none (Misplaced k) q r = none_misplaced ts items k p r.1
 items_accepted ts items p none (LargeNegative k) q r = none k r.1
 items_accepted ts items p none Unfinished q r = r.1.none items p
@@ -108,12 +103,11 @@ pub items_large : (ts : List Lexeme) (items : List Item) (i : ℕ) → Items ts 
 items_large ts items i p large none = record { place = i; refused = (refl, large); first = first }
   where
     first : (other : ParseFault) (q : ℕ) → IsRefusedAt ts other q → i ≤ q
-    first Memory q r = absurd r
     first (Misplaced k) q r = absurd (none_misplaced ts items k p r.1)
     first (LargeNegative k) q r = let m = from_not_before (IsLargeNegative ts) i k none r.1 in omega (arith, r.0, m)
     first Unfinished q r = absurd (r.1.none items p)
 
--- Where the parser is.
+-- Where items were read one by one.
 greedy_snoc : (ts : List Lexeme) (is : List Item) (f r : List Lexeme) (i : Item) → Greedy ts is (f ++ r) → Form f i → NoLonger (length f) (f ++ r) → Greedy ts (is ++ (i ∷ [])) r
 greedy_snoc ts [] f r i p form longest = (f, r, p, form, subst (λ us. NoLonger (length f) us) (sym p) longest, refl)
 greedy_snoc ts (j ∷ is) f r i p form longest = (p.0, p.1, p.2, p.3, p.4, greedy_snoc p.1 is f r i p.5 form longest)

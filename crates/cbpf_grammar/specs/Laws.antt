@@ -1,9 +1,8 @@
 -- Laws of the forms in the kernel's Documentation/networking/filter (BPF engine and instruction set): a token list has one reading, and at most one first refusal.
 use Rattle.std.specs.Prelude.{◌≡◌, List}
-use Rattle.cbpf_grammar.specs.declared.parser.ParseFault.{ParseFault}
 use Rattle.cbpf_grammar.specs.Lexemes.{Lexeme}
 use Rattle.cbpf_grammar.specs.Items.{Item, Items}
-use Rattle.cbpf_grammar.specs.Refusals.{IsFirstRefusal}
+use Rattle.cbpf_grammar.specs.Refusals.{ParseFault, IsFirstRefusal}
 
 abbrev pub OneReading : Type 0
 OneReading = (ts : List Lexeme) (is js : List Item) → Items ts is → Items ts js → is ≡ js

@@ -1,10 +1,14 @@
 -- Why a token list is no list of items, or has a literal out of range: this project's own rules, as the kernel's Documentation/networking/filter has no faults.
 use Rattle.std.specs.Prelude.{◌≡◌, ◌≤◌, ◌<◌, ℕ, zero, suc, ◌+◌, List, [], ◌∷◌, length, take, Option, Some, None}
-use Rattle.cbpf_grammar.specs.declared.parser.ParseFault.{ParseFault}
-use Rattle.cbpf_grammar.specs.declared.parser.ParseFault.TheVariants.{Memory, Misplaced, LargeNegative, Unfinished}
 use Rattle.cbpf_grammar.specs.Lexemes.{Symbol, Lexeme}
 use Rattle.cbpf_grammar.specs.Lexemes.Symbol.{number, mark}
 use Rattle.cbpf_grammar.specs.Items.{Item, Items, BeginsItems}
+
+-- why a token list is refused, with the index of the token that shows it: A4, A3 and A5
+pub data ParseFault : Type 0 where
+  Misplaced : ℕ → ParseFault
+  LargeNegative : ℕ → ParseFault
+  Unfinished : ParseFault
 
 abbrev pub symbol_at : List Lexeme → ℕ → Option Symbol
 symbol_at [] i = None
@@ -21,7 +25,7 @@ pub record IsMisplaced (ts : List Lexeme) (i : ℕ) : Type 0 where
 abbrev pub IsLarge : Symbol → Symbol → Type 0
 IsLarge sign digits = (sign ≡ mark 45) × (value : ℕ) × (digits ≡ number value) × (2147483648 < value)
 
--- A3: a number above 2147483648 behind a `-`
+-- A3: a number above 2147483648 after a `-`
 pub record IsLargeNegative (ts : List Lexeme) (i : ℕ) : Type 0 where
   pub before : ℕ
   pub behind : i ≡ before + 1
@@ -45,7 +49,6 @@ pub record IsStuckAt (ts : List Lexeme) (i : ℕ) : Type 0 where
 
 -- the tokens are refused for this at the place, which is their number where it is their end
 abbrev pub IsRefusedAt : List Lexeme → ParseFault → ℕ → Type 0
-IsRefusedAt ts Memory place = ⊥
 IsRefusedAt ts (Misplaced i) place = (place ≡ i) × IsMisplaced ts i
 IsRefusedAt ts (LargeNegative i) place = (place ≡ i) × IsLargeNegative ts i
 IsRefusedAt ts Unfinished place = (place ≡ length ts) × IsUnfinished ts
@@ -58,10 +61,3 @@ pub record IsFirstRefusal (ts : List Lexeme) (fault : ParseFault) : Type 0 where
 
 abbrev pub IsAccepted : List Lexeme → Type 0
 IsAccepted ts = (fault : ParseFault) (place : ℕ) → IsRefusedAt ts fault place → ⊥
-
--- the fault that the tokens have; want of memory says nothing
-abbrev pub IsParseFault : List Lexeme → ParseFault → Type 0
-IsParseFault ts Memory = Unit {0}
-IsParseFault ts (Misplaced i) = IsFirstRefusal ts (Misplaced i)
-IsParseFault ts (LargeNegative i) = IsFirstRefusal ts (LargeNegative i)
-IsParseFault ts Unfinished = IsFirstRefusal ts Unfinished

@@ -1,13 +1,12 @@
 -- The item at the front of a token list, and how far the tokens go where there is none, by the forms of the kernel's Documentation/networking/filter (BPF engine and instruction set).
 use Rattle.std.specs.Prelude.{◌≡◌, ◌≤◌, ◌<◌, ℕ, suc, ◌+◌, Bool, true, false, ◌&&◌, List, [], ◌∷◌, ◌++◌, length, take, Contains, Result, Ok, Err}
 use Rattle.cbpf_grammar.specs.declared.item.Row as declared_row
-use Rattle.cbpf_grammar.specs.declared.item.Item as declared_item
 use Rattle.cbpf_grammar.specs.Lexemes.{Lexeme}
 use Rattle.cbpf_grammar.specs.Classes.Class.{the_mark, name}
 use Rattle.cbpf_grammar.specs.Table.{Row, table}
 use Rattle.cbpf_grammar.specs.Fits.{fits, fits_front}
 use Rattle.cbpf_grammar.specs.Items.{Item, Form, BeginsItem, classes_of}
-use Rattle.cbpf_grammar.specs.Views.{row_of, item_of}
+use Rattle.cbpf_grammar.specs.Views.{row_of}
 
 -- no labels and row fit more than the first n tokens
 abbrev pub NoLonger : ℕ → List Lexeme → Type 0
@@ -41,7 +40,7 @@ abbrev pub starts_with_label : List Lexeme → Bool
 starts_with_label [] = false
 starts_with_label (t ∷ ts) = fits name t.symbol && starts_with_colon ts
 
--- each token is the word of a label or the colon behind it
+-- each token is the word of a label or the colon after it
 abbrev pub AreLabels : List Lexeme → Type 0
 AreLabels [] = Unit {0}
 AreLabels (t ∷ []) = ⊥
@@ -51,10 +50,3 @@ AreLabels (t ∷ u ∷ ts) = (fits name t.symbol ≡ true) × (fits (the_mark 58
 abbrev pub IsInstruction : List Lexeme → Result declared_row.Row ℕ → Type 0
 IsInstruction ts (Ok row) = let n = suc (length row.operand.now) in IsNextItem ts n (record { labels = []; row = row_of row; body = take n ts })
 IsInstruction ts (Err n) = Stuck n ts
-
-abbrev pub item_size : declared_item.Item → ℕ
-item_size item = length item.labels.now + length item.body.now
-
-abbrev pub IsStep : List Lexeme → Result declared_item.Item ℕ → Type 0
-IsStep ts (Ok item) = IsNextItem ts (item_size item) (item_of item)
-IsStep ts (Err n) = Stuck n ts

@@ -1,4 +1,4 @@
--- What the parser's own types stand for: the lexemes, classes and rows of the table in the kernel's Documentation/networking/filter (BPF engine and instruction set).
+-- What the reader's own types stand for: the lexemes, classes and rows of the table in the kernel's Documentation/networking/filter (BPF engine and instruction set).
 use Rattle.std.specs.Prelude.{List, [], ◌∷◌, map}
 use Rattle.cbpf_grammar.specs.declared.class.Class.{Class}
 use Rattle.cbpf_grammar.specs.declared.class.Class.TheVariants.{Word, Mark, Literal, Negated, Exactly, Extension, Name}
@@ -10,13 +10,11 @@ use Rattle.cbpf_grammar.specs.declared.lexeme.Symbol.{Symbol}
 use Rattle.cbpf_grammar.specs.declared.lexeme.Symbol.TheVariants as symbols
 use Rattle.cbpf_grammar.specs.declared.lexeme.Lexeme.{Lexeme}
 use Rattle.cbpf_grammar.specs.declared.item.Row.{Row}
-use Rattle.cbpf_grammar.specs.declared.item.Item.{Item}
 use Rattle.cbpf_grammar.specs.Lexemes as lexemes
 use Rattle.cbpf_grammar.specs.Classes as classes
 use Rattle.cbpf_grammar.specs.Classes.Class.{the_word, the_mark, literal, negated, exactly, extension, name}
 use Rattle.cbpf_grammar.specs.Table as tables
 use Rattle.cbpf_grammar.specs.Table.{◌·◌, x, a, n, ext, len, label, absolute, indexed, memory, immediate, header, comma, none, entry, mnemonic}
-use Rattle.cbpf_grammar.specs.Items as items
 
 abbrev pub class_of : Class → classes.Class
 class_of (Word w) = the_word w.now
@@ -67,6 +65,3 @@ abbrev pub label_words : List lexemes.Lexeme → List lexemes.Lexeme
 label_words [] = []
 label_words (t ∷ []) = []
 label_words (t ∷ u ∷ ts) = t ∷ label_words ts
-
-abbrev pub item_of : Item → items.Item
-item_of i = record { labels = label_words (map lexeme_of i.labels.now); row = row_of i.row; body = map lexeme_of i.body.now }

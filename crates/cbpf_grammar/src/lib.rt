@@ -2,7 +2,7 @@
 //!
 //! The forms are those of the table of instructions and addressing modes in the kernel's
 //! Documentation/networking/filter, with all options written out as data. A form is a list
-//! of token classes; the parser takes, item by item, the form of which most tokens fit.
+//! of token classes; the reader takes, item by item, the form of which most tokens fit.
 #![tactic(auto)]
 
 mod choice;
@@ -11,16 +11,17 @@ mod item;
 mod law;
 mod lexeme;
 mod mode;
-mod parser;
+mod range;
+mod reader;
 mod reserved;
 mod table;
 #[cfg(test)]
 mod tests;
 
 pub use class::Class;
-pub use item::{Item, Row};
+pub use item::Row;
 pub use law::{one_reading, one_refusal};
-pub use lexeme::{Lexeme, Symbol, lexemes};
-pub use parser::{ParseFault, parse};
+pub use lexeme::{Lexeme, Symbol};
+pub use reader::{Reader, Refusal, Step};
 pub use reserved::is_reserved;
 pub use table::Fields;

@@ -1,11 +1,51 @@
 //! What sources stand for, by hand.
 
-use crate::{Fields, ParseFault, lexemes, parse};
+use crate::{Fields, Reader, Refusal, Row, Step};
 use cbpf_code::code_of;
 use std::alloc::Global;
 use std::process::Abort;
 
-/// The source is one item, with this code and number of labels.
+/// What the steps over a source come to.
+#[derive(Drop)]
+enum Outcome {
+    Items(Vec<Row>),
+    Refused(Refusal),
+    /// The source has a bad piece, or the allocator refused.
+    Unread,
+}
+
+fn read(alloc: Global, source: &[u8]) -> Outcome {
+    let mut reader = Reader::new(alloc, source);
+    let mut items = Vec::new(alloc);
+    let mut labelled = false;
+    for _ in 0..=source.len() {
+        match reader.step() {
+            Err(_) => return Outcome::Unread,
+            Ok(None) if labelled => return Outcome::Refused(reader.refusal(0)),
+            Ok(None) => {
+                return match reader.large() {
+                    Some(at) => Outcome::Refused(Refusal::LargeNegative(at)),
+                    None => Outcome::Items(items),
+                };
+            }
+            Ok(Some(Step::Label)) => {
+                reader.take(2);
+                labelled = true;
+            }
+            Ok(Some(Step::Instruction(row))) => {
+                reader.take(1 + row.operand.len());
+                labelled = false;
+                if items.push(row).is_err() {
+                    return Outcome::Unread;
+                }
+            }
+            Ok(Some(Step::Stuck(n))) => return Outcome::Refused(reader.refusal(n)),
+        }
+    }
+    Outcome::Unread
+}
+
+/// The source is one item, with this code.
 fn check_item(
     rt: &impl Abort,
     alloc: Global,
@@ -14,40 +54,28 @@ fn check_item(
     code: u16,
     fields: Fields,
 ) {
-    let Ok(read) = lexemes(alloc, source) else {
-        assert!(rt; false, "row {row}");
-        return;
-    };
-    match parse(alloc, read.as_slice()) {
-        Ok(items) => {
+    match read(alloc, source) {
+        Outcome::Items(items) => {
             assert_eq!(rt; items.len(), 1, "row {row}");
-            assert!(rt; code_of(items[0].row.op) == code, "row {row}");
-            assert!(rt; items[0].row.fields == fields, "row {row}");
+            assert!(rt; code_of(items[0].op) == code, "row {row}");
+            assert!(rt; items[0].fields == fields, "row {row}");
         }
-        Err(_) => assert!(rt; false, "row {row}"),
+        _ => assert!(rt; false, "row {row}"),
     }
 }
 
 /// The source is so many items.
 fn check_count(rt: &impl Abort, alloc: Global, row: usize, source: &[u8], count: usize) {
-    let Ok(read) = lexemes(alloc, source) else {
-        assert!(rt; false, "row {row}");
-        return;
-    };
-    match parse(alloc, read.as_slice()) {
-        Ok(items) => assert_eq!(rt; items.len(), count, "row {row}"),
-        Err(_) => assert!(rt; false, "row {row}"),
+    match read(alloc, source) {
+        Outcome::Items(items) => assert_eq!(rt; items.len(), count, "row {row}"),
+        _ => assert!(rt; false, "row {row}"),
     }
 }
 
-fn check_fault(rt: &impl Abort, alloc: Global, row: usize, source: &[u8], fault: ParseFault) {
-    let Ok(read) = lexemes(alloc, source) else {
-        assert!(rt; false, "row {row}");
-        return;
-    };
-    match parse(alloc, read.as_slice()) {
-        Ok(_) => assert!(rt; false, "row {row}"),
-        Err(told) => assert!(rt; told == fault, "row {row}"),
+fn check_refusal(rt: &impl Abort, alloc: Global, row: usize, source: &[u8], refusal: Refusal) {
+    match read(alloc, source) {
+        Outcome::Refused(found) => assert!(rt; found == refusal, "row {row}"),
+        _ => assert!(rt; false, "row {row}"),
     }
 }
 
@@ -226,62 +254,61 @@ fn sources(rt: HostRuntime) {
 }
 
 #[test]
-fn faults(rt: HostRuntime) {
+fn refusals(rt: HostRuntime) {
     let alloc = rt.alloc();
-    let unfinished = ParseFault::Unfinished;
-    let rows: [(&[u8], ParseFault); 46] = [
-        (b"top:", unfinished),
-        (b"top", unfinished),
-        (b"ld", unfinished),
-        (b"ld [", unfinished),
-        (b"ld #", unfinished),
-        (b"ld #-", unfinished),
-        (b"ld [x +", unfinished),
-        (b"ldx 4*([14]&15", unfinished),
-        (b"jeq #1", unfinished),
-        (b"jeq #1,", unfinished),
-        (b"jeq #1, l,", unfinished),
-        (b"tax top:", unfinished),
-        (b"ret #0 ld\n#5", unfinished),
-        (b"a: ret #0", ParseFault::Misplaced(0)),
-        (b"ret ret", ParseFault::Misplaced(1)),
-        (b"ldx type", ParseFault::Misplaced(1)),
-        (b"ldh len", ParseFault::Misplaced(1)),
-        (b"ret x", ParseFault::Misplaced(1)),
-        (b"ldi x", ParseFault::Misplaced(1)),
-        (b"ld x", ParseFault::Misplaced(1)),
-        (b"LD #1", ParseFault::Misplaced(1)),
-        (b"foo ret", ParseFault::Misplaced(1)),
-        (b"vlan_pr ret", ParseFault::Misplaced(1)),
-        (b"5", ParseFault::Misplaced(0)),
-        (b"/**/ #5", ParseFault::Misplaced(0)),
-        (b"x: tax", ParseFault::Misplaced(0)),
-        (b"M: tax", ParseFault::Misplaced(0)),
-        (b"len: tax", ParseFault::Misplaced(0)),
-        (b"rand: tax", ParseFault::Misplaced(0)),
-        (b"ret: tax", ParseFault::Misplaced(1)),
-        (b"jmp ret", ParseFault::Misplaced(1)),
-        (b"jmp x", ParseFault::Misplaced(1)),
-        (b"jeq #1, a", ParseFault::Misplaced(4)),
-        (b"jmp l :", ParseFault::Misplaced(2)),
-        (b"ld [x - 1]", ParseFault::Misplaced(3)),
-        (b"ldx 5*([14]&15)", ParseFault::Misplaced(1)),
-        (b"ldx 4*([14]&14)", ParseFault::Misplaced(8)),
-        (b"ldx 4*([14]&0)", ParseFault::Misplaced(8)),
-        (b"ldx +4*([14]&15)", ParseFault::Misplaced(1)),
-        (b"jne #1, t, f", ParseFault::Misplaced(5)),
-        (b"ld /* c */ # 5 5", ParseFault::Misplaced(3)),
-        (b"tax l: m: 5 ld #-2147483649", ParseFault::Misplaced(5)),
+    let rows: [(&[u8], Refusal); 46] = [
+        (b"top:", Refusal::Unfinished(3)),
+        (b"top", Refusal::Unfinished(0)),
+        (b"ld", Refusal::Unfinished(0)),
+        (b"ld [", Refusal::Unfinished(3)),
+        (b"ld #", Refusal::Unfinished(3)),
+        (b"ld #-", Refusal::Unfinished(4)),
+        (b"ld [x +", Refusal::Unfinished(6)),
+        (b"ldx 4*([14]&15", Refusal::Unfinished(12)),
+        (b"jeq #1", Refusal::Unfinished(5)),
+        (b"jeq #1,", Refusal::Unfinished(6)),
+        (b"jeq #1, l,", Refusal::Unfinished(9)),
+        (b"tax top:", Refusal::Unfinished(7)),
+        (b"ret #0 ld\n#5", Refusal::Unfinished(11)),
+        (b"a: ret #0", Refusal::Misplaced(0)),
+        (b"ret ret", Refusal::Misplaced(4)),
+        (b"ldx type", Refusal::Misplaced(4)),
+        (b"ldh len", Refusal::Misplaced(4)),
+        (b"ret x", Refusal::Misplaced(4)),
+        (b"ldi x", Refusal::Misplaced(4)),
+        (b"ld x", Refusal::Misplaced(3)),
+        (b"LD #1", Refusal::Misplaced(3)),
+        (b"foo ret", Refusal::Misplaced(4)),
+        (b"vlan_pr ret", Refusal::Misplaced(8)),
+        (b"5", Refusal::Misplaced(0)),
+        (b"/**/ #5", Refusal::Misplaced(5)),
+        (b"x: tax", Refusal::Misplaced(0)),
+        (b"M: tax", Refusal::Misplaced(0)),
+        (b"len: tax", Refusal::Misplaced(0)),
+        (b"rand: tax", Refusal::Misplaced(0)),
+        (b"ret: tax", Refusal::Misplaced(3)),
+        (b"jmp ret", Refusal::Misplaced(4)),
+        (b"jmp x", Refusal::Misplaced(4)),
+        (b"jeq #1, a", Refusal::Misplaced(8)),
+        (b"jmp l :", Refusal::Misplaced(6)),
+        (b"ld [x - 1]", Refusal::Misplaced(6)),
+        (b"ldx 5*([14]&15)", Refusal::Misplaced(4)),
+        (b"ldx 4*([14]&14)", Refusal::Misplaced(12)),
+        (b"ldx 4*([14]&0)", Refusal::Misplaced(12)),
+        (b"ldx +4*([14]&15)", Refusal::Misplaced(4)),
+        (b"jne #1, t, f", Refusal::Misplaced(9)),
+        (b"ld /* c */ # 5 5", Refusal::Misplaced(15)),
+        (b"tax l: m: 5 ld #-2147483649", Refusal::Misplaced(10)),
         // By place in the text.
-        (b"ld #-2147483649", ParseFault::LargeNegative(3)),
-        (b"ld #-4294967295 5", ParseFault::LargeNegative(3)),
-        (b"ld [-2147483649", ParseFault::LargeNegative(3)),
+        (b"ld #-2147483649", Refusal::LargeNegative(5)),
+        (b"ld #-4294967295 5", Refusal::LargeNegative(5)),
+        (b"ld [-2147483649", Refusal::LargeNegative(5)),
         (
             b"ret #-2147483648 ret #-2147483649 tax",
-            ParseFault::LargeNegative(7),
+            Refusal::LargeNegative(23),
         ),
     ];
-    for (row, (source, fault)) in rows.iter().enumerate() {
-        check_fault(&rt, alloc, row, source, *fault);
+    for (row, (source, refusal)) in rows.iter().enumerate() {
+        check_refusal(&rt, alloc, row, source, *refusal);
     }
 }

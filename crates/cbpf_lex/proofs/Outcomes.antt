@@ -1,12 +1,13 @@
 -- A text has one list of tokens or one first bad piece.
-use Rattle.std.proofs.Common.{◌≡◌, ℕ, ◌+◌, Bool, true, false, List, [], ◌∷◌, length, refl, ap, sym, ◌∙◌}
+use Rattle.std.proofs.Common.{◌≡◌, ℕ, ◌+◌, Bool, true, false, List, [], ◌∷◌, ◌++◌, length, refl, ap, sym, ◌∙◌, subst, append_assoc}
 use Rattle.std.specs.List.{list_all}
 use Rattle.cbpf_lex.specs.declared.piece.PieceKind.{PieceKind}
 use Rattle.cbpf_lex.specs.declared.piece.PieceKind.TheVariants.{Bad}
 use Rattle.cbpf_lex.specs.declared.piece.Piece.{Piece}
 use Rattle.cbpf_lex.specs.declared.token.BadPiece.{BadPiece}
 use Rattle.cbpf_lex.specs.Pieces.{IsPieceAt, IsCut}
-use Rattle.cbpf_lex.specs.Tokens.{tokens_of, line_of, is_good}
+use Rattle.cbpf_lex.specs.declared.token.Token.{Token}
+use Rattle.cbpf_lex.specs.Tokens.{LexesTo, Lexes, tokens_of, token_of, line_of, is_good}
 use Rattle.cbpf_lex.specs.Laws.{OneCut, OneList, OneFault, NeverBoth}
 use Rattle.cbpf_lex.proofs.Cuts.{and_parts, one_next, past_end}
 use Rattle.cbpf_lex.proofs.Cuts as cuts
@@ -52,3 +53,26 @@ one_fault text f g l m a b =
 
 pub never_both : NeverBoth
 never_both text ts f l a b = no_bad text 0 a.pieces b.before.pieces b.at (record { kind = Bad f; size = b.size }) a.cut b.before.cut a.good b.bad refl
+
+-- What is read of a text is the front of the whole.
+cut_on : (text : List ℕ) (from : ℕ) (ps qs : List Piece) (to : ℕ) → IsCut text from ps to → IsCut text from qs (length text) → (rs : List Piece) × (qs ≡ ps ++ rs) × IsCut text to rs (length text)
+cut_on text from [] qs to a b = (qs, refl, subst (λ n. IsCut text n qs (length text)) a b)
+cut_on text from (p ∷ ps) [] to a b = past_end text from p b a.0
+cut_on text from (p ∷ ps) (q ∷ qs) to a b =
+    let e : p ≡ q = one_next _ _ p q a.0 b.0 in
+    let more = cut_on text (from + p.size) ps qs to a.1 (rw (← e) at b.1) in
+    (more.0, (λ i. sym e i ∷ more.1 i), more.2)
+
+tokens_of-append : (text : List ℕ) (at : ℕ) (ps : List Piece) (to : ℕ) (qs : List Piece) → IsCut text at ps to → tokens_of at (ps ++ qs) ≡ tokens_of at ps ++ tokens_of to qs
+tokens_of-append text at [] to qs e = ap (λ n. tokens_of n qs) e
+tokens_of-append text at (p ∷ ps) to qs cut = ap (λ ts. token_of p.kind at (at + p.size) ++ ts) (tokens_of-append text (at + p.size) ps to qs cut.1) ∙ sym (append_assoc (token_of p.kind at (at + p.size)) (tokens_of (at + p.size) ps) (tokens_of to qs))
+
+none_behind : (text : List ℕ) (at : ℕ) (rs : List Piece) → IsCut text at rs (length text) → at ≡ length text → tokens_of at rs ≡ []
+none_behind text at [] cut e = refl
+none_behind text at (r ∷ rs) cut e = past_end text at r e cut.0
+
+-- the tokens up to a place are the first of the whole text's, and all of them where it is the end
+pub lexes_on : (text : List ℕ) (at : ℕ) (ts us : List Token) → LexesTo text at ts → Lexes text us → (rest : List Token) × (us ≡ ts ++ rest) × (at ≡ length text → rest ≡ [])
+lexes_on text at ts us a b =
+    let c = cut_on text 0 a.pieces b.pieces at a.cut b.cut in
+    (tokens_of at c.0, b.spans ∙ (ap (λ ps. tokens_of 0 ps) c.1 ∙ (tokens_of-append text 0 a.pieces at c.0 a.cut ∙ ap (λ xs. xs ++ tokens_of at c.0) (sym a.spans))), none_behind text at c.0 c.2)

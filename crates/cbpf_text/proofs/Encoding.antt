@@ -1,8 +1,7 @@
 -- The instructions of a list of items, one by one.
-use Rattle.std.proofs.Common.{◌≡◌, ◌≢◌, refl, sym, ◌∙◌, ap, subst, ℕ, zero, suc, ◌+◌, ◌-◌, ◌<◌, ◌≤◌, Bool, true, false, List, [], ◌∷◌, ◌++◌, length, map, take, drop, get_or, Option, Some, None, arith, append-nil, eqb-true}
-use Rattle.std.specs.Prelude.{slice_get, All, ◌==◌, ◌||◌}
-use Rattle.std.proofs.Math.Numerals.{add-one}
-use Rattle.std.proofs.lemmas.List.{map-append, append_assoc, take_more, length-map, length-take-le}
+use Rattle.std.proofs.Common.{◌≡◌, refl, sym, ◌∙◌, ap, subst, ℕ, zero, suc, ◌+◌, ◌<◌, ◌≤◌, Bool, true, false, List, [], ◌∷◌, ◌++◌, length, map, take, drop, get_or, arith, eqb-true}
+use Rattle.std.specs.Prelude.{All, ◌==◌, ◌||◌}
+use Rattle.std.proofs.lemmas.List.{append_assoc, take_more, length-take-le}
 use Rattle.std.proofs.lemmas.List.Elements.{All-append}
 use Rattle.cbpf_code.specs.declared.insn.Insn.{Insn}
 use Rattle.cbpf_grammar.specs.declared.table.Fields.{Fields}
@@ -14,8 +13,9 @@ use Rattle.cbpf_text.specs.Assembled.{IsEncoded, EncodeEach, FillsFields}
 use Rattle.cbpf_text.specs.Operands.{HasForm, targets_in, literal_in}
 use Rattle.cbpf_text.specs.Refusals.{Use, IsGoodUse, IsFirstBadUse, Told, uses_of, uses_from, is_conditional}
 use Rattle.cbpf_text.specs.declared.refusal.Refusal.{Refusal}
-use Rattle.cbpf_grammar.specs.declared.item.Item as declared_item
-use Rattle.cbpf_grammar.specs.Views.{item_of}
+use Rattle.cbpf_grammar.proofs.Instructions.{some_known}
+use Rattle.cbpf_text.specs.declared.draft.Statement.{Statement}
+use Rattle.cbpf_text.specs.Drafts.{IsStatement, AreStatements}
 use Rattle.cbpf_text.proofs.Lists.{all_none, all_one, all_front, all_behind, all_prefix, split_at}
 use Rattle.cbpf_text.proofs.Forms.{takes, form_takes}
 use Rattle.cbpf_text.proofs.Uses.{use_of, good_use, told_more}
@@ -63,23 +63,23 @@ each_more all k [] (y ∷ insns) item insn p q = absurd p
 each_more all k (i ∷ is) [] item insn p q = absurd p
 each_more all k (i ∷ is) (y ∷ insns) item insn p q = let e : k + suc (length is) ≡ k + 1 + length is = omega arith in (p.0, each_more all (k + 1) is insns item insn p.1 (subst (λ n. IsEncoded all n item insn) e q))
 
-pub each_grows : (all : List Item) (is : List declared_item.Item) (i : ℕ) (d : declared_item.Item) (insns : List Insn) (insn : Insn) → i < length is → EncodeEach all 0 (map item_of (take i is)) insns → IsEncoded all i (item_of (get_or is i d)) insn → EncodeEach all 0 (map item_of (take (i + 1) is)) (insns ++ (insn ∷ []))
+pub each_grows : (all is : List Item) (i : ℕ) (d : Item) (insns : List Insn) (insn : Insn) → i < length is → EncodeEach all 0 (take i is) insns → IsEncoded all i (get_or is i d) insn → EncodeEach all 0 (take (i + 1) is) (insns ++ (insn ∷ []))
 each_grows all is i d insns insn l p q =
     let m : i ≤ length is = omega (arith, l) in
-    let n : length (map item_of (take i is)) ≡ i = length-map (take i is) item_of ∙ length-take-le i is m in
+    let n : length (take i is) ≡ i = length-take-le i is m in
     let z : 0 + i ≡ i = omega arith in
-    subst (λ js. EncodeEach all 0 js (insns ++ (insn ∷ []))) (sym (ap (map item_of) (take_more is i d l) ∙ map-append item_of (take i is) (get_or is i d ∷ [])))
-    (each_more all 0 (map item_of (take i is)) insns (item_of (get_or is i d)) insn p (subst (λ k. IsEncoded all k (item_of (get_or is i d)) insn) (sym (ap (λ k. 0 + k) n ∙ z)) q))
+    subst (λ js. EncodeEach all 0 js (insns ++ (insn ∷ []))) (sym (take_more is i d l))
+    (each_more all 0 (take i is) insns (get_or is i d) insn p (subst (λ k. IsEncoded all k (get_or is i d) insn) (sym (ap (λ k. 0 + k) n ∙ z)) q))
 
-uses_split : (k : ℕ) (is : List declared_item.Item) (i : ℕ) (d : declared_item.Item) → i < length is → (rest : List Use) × (uses_from k (map item_of is) ≡ uses_from k (map item_of (take i is)) ++ (uses_of (k + i) (item_of (get_or is i d)) ++ rest))
+uses_split : (k : ℕ) (is : List Item) (i : ℕ) (d : Item) → i < length is → (rest : List Use) × (uses_from k is ≡ uses_from k (take i is) ++ (uses_of (k + i) (get_or is i d) ++ rest))
 uses_split k [] i d l = absurd (omega arith)
-uses_split k (x ∷ is) zero d l = let e : k ≡ k + 0 = omega arith in (uses_from (k + 1) (map item_of is), ap (λ n. uses_of n (item_of x) ++ uses_from (k + 1) (map item_of is)) e)
+uses_split k (x ∷ is) zero d l = let e : k ≡ k + 0 = omega arith in (uses_from (k + 1) is, ap (λ n. uses_of n x ++ uses_from (k + 1) is) e)
 uses_split k (x ∷ is) (suc i) d l =
     let s = uses_split (k + 1) is i d (omega arith) in
     let e : k + 1 + i ≡ k + suc i = omega arith in (
       s.0,
-      ap (λ us. uses_of k (item_of x) ++ us) (s.1 ∙ ap (λ n. uses_from (k + 1) (map item_of (take i is)) ++ (uses_of n (item_of (get_or is i d)) ++ s.0)) e)
-          ∙ sym (append_assoc (uses_of k (item_of x)) (uses_from (k + 1) (map item_of (take i is))) (uses_of (k + suc i) (item_of (get_or is i d)) ++ s.0)),
+      ap (λ us. uses_of k x ++ us) (s.1 ∙ ap (λ n. uses_from (k + 1) (take i is) ++ (uses_of n (get_or is i d) ++ s.0)) e)
+          ∙ sym (append_assoc (uses_of k x) (uses_from (k + 1) (take i is)) (uses_of (k + suc i) (get_or is i d) ++ s.0)),
     )
 
 bad_behind : (all : List Item) (front uses rest : List Use) (kind : AsmKind) (at : ℕ) → All (IsGoodUse all) front → IsFirstBadUse all uses kind at → IsFirstBadUse all (front ++ (uses ++ rest)) kind at
@@ -94,14 +94,36 @@ bad_behind all front uses rest kind at g b = record {
 }
 
 -- the first target that is refused, behind items that have their instructions
-pub bad_among : (is : List declared_item.Item) (i : ℕ) (d : declared_item.Item) (insns : List Insn) (r : Refusal) → i < length is → All HasForm (map item_of is) → EncodeEach (map item_of is) 0 (map item_of (take i is)) insns → Told (IsFirstBadUse (map item_of is) (uses_of i (item_of (get_or is i d)))) r → Told (IsFirstBadUse (map item_of is) (uses_from 0 (map item_of is))) r
+pub bad_among : (is : List Item) (i : ℕ) (d : Item) (insns : List Insn) (r : Refusal) → i < length is → All HasForm is → EncodeEach is 0 (take i is) insns → Told (IsFirstBadUse is (uses_of i (get_or is i d))) r → Told (IsFirstBadUse is (uses_from 0 is)) r
 bad_among is i d insns r l f p h =
     let s = uses_split 0 is i d l in
     let z : 0 + i ≡ i = omega arith in
-    let front = map item_of (take i is) in
-    let cut : map item_of is ≡ front ++ map item_of (get_or is i d ∷ drop (suc i) is) = ap (map item_of) (split_at is i d l) ∙ map-append item_of (take i is) (get_or is i d ∷ drop (suc i) is) in
-    let forms : All HasForm front = all_prefix HasForm front (map item_of (get_or is i d ∷ drop (suc i) is)) (subst (All HasForm) cut f) in
-    told_more (IsFirstBadUse (map item_of is) (uses_of i (item_of (get_or is i d)))) (IsFirstBadUse (map item_of is) (uses_from 0 (map item_of is))) r
-    (λ kind at b. subst (λ us. IsFirstBadUse (map item_of is) us kind at) (sym (s.1 ∙ ap (λ n. uses_from 0 front ++ (uses_of n (item_of (get_or is i d)) ++ s.0)) z))
-    (bad_behind (map item_of is) (uses_from 0 front) (uses_of i (item_of (get_or is i d))) s.0 kind at (good_uses (map item_of is) 0 front insns p forms) b))
+    let front = take i is in
+    let forms : All HasForm (take i is) = all_prefix HasForm (take i is) (get_or is i d ∷ drop (suc i) is) (subst (All HasForm) (split_at is i d l) f) in
+    told_more (IsFirstBadUse is (uses_of i (get_or is i d))) (IsFirstBadUse is (uses_from 0 is)) r
+    (λ kind at b. subst (λ us. IsFirstBadUse is us kind at) (sym (s.1 ∙ ap (λ n. uses_from 0 front ++ (uses_of n (get_or is i d) ++ s.0)) z))
+    (bad_behind is (uses_from 0 front) (uses_of i (get_or is i d)) s.0 kind at (good_uses is 0 front insns p forms) b))
     h
+
+-- the statements of items, one by one
+pub statements_size : (ss : List Statement) (is : List Item) → AreStatements ss is → length ss ≡ length is
+statements_size [] [] p = refl
+statements_size [] (i ∷ is) p = absurd p
+statements_size (s ∷ ss) [] p = absurd p
+statements_size (s ∷ ss) (i ∷ is) p = ap suc (statements_size ss is p.1)
+
+pub statement_at : (ss : List Statement) (is : List Item) (k : ℕ) (d : Statement) (e : Item) → AreStatements ss is → k < length ss → IsStatement (get_or ss k d) (get_or is k e)
+statement_at [] is k d e p l = absurd (omega (arith, l))
+statement_at (s ∷ ss) [] k d e p l = absurd p
+statement_at (s ∷ ss) (i ∷ is) zero d e p l = p.0
+statement_at (s ∷ ss) (i ∷ is) (suc k) d e p l = statement_at ss is k d e p.1 (omega (arith, l))
+
+pub statements_more : (ss : List Statement) (is : List Item) (s : Statement) (i : Item) → AreStatements ss is → IsStatement s i → AreStatements (ss ++ (s ∷ [])) (is ++ (i ∷ []))
+statements_more [] [] s i p q = (q, tt)
+statements_more [] (j ∷ is) s i p q = absurd p
+statements_more (t ∷ ss) [] s i p q = absurd p
+statements_more (t ∷ ss) (j ∷ is) s i p q = (p.0, statements_more ss is s i p.1 q)
+
+-- any item
+pub some_item : Item
+some_item = record { labels = []; row = some_known.0; body = [] }

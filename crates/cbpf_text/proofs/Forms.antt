@@ -1,5 +1,5 @@
 -- Items by their forms: how many targets each has, and its mnemonic.
-use Rattle.std.proofs.Common.{◌≡◌, refl, sym, ◌∙◌, ap, subst, ℕ, zero, suc, ◌+◌, ◌<◌, ◌≤◌, Bool, true, false, ◌&&◌, List, [], ◌∷◌, ◌++◌, length, map, drop, get_or, Option, Some, None, arith, eqb-true}
+use Rattle.std.proofs.Common.{◌≡◌, refl, ◌∙◌, ap, ℕ, zero, suc, ◌+◌, ◌<◌, Bool, true, false, ◌&&◌, List, [], ◌∷◌, ◌++◌, length, drop, get_or, arith}
 use Rattle.std.specs.Prelude.{All, Contains, ◌==◌, ◌||◌}
 use Rattle.std.specs.List.{list_all}
 use Rattle.cbpf_grammar.specs.declared.table.Fields.{Fields}
@@ -9,7 +9,7 @@ use Rattle.cbpf_grammar.specs.Classes.Class.{the_word, the_mark, literal, negate
 use Rattle.cbpf_grammar.specs.Lexemes.{Lexeme}
 use Rattle.cbpf_grammar.specs.Fits.{fits, fits_all}
 use Rattle.cbpf_grammar.specs.Table.{Row, classes, table, mnemonics}
-use Rattle.cbpf_grammar.specs.Items.{Item, Items, Form, names_at, label_classes, classes_of}
+use Rattle.cbpf_grammar.specs.Items.{Item, Items, Form, names_at, label_classes}
 use Rattle.cbpf_text.specs.Operands.{HasForm, targets_in}
 
 abbrev one_if : Class → ℕ

@@ -1,14 +1,12 @@
 -- Labels in a list, how often each is set, and where.
-use Rattle.std.proofs.Common.{◌≡◌, ◌≢◌, refl, sym, ◌∙◌, ap, subst, cond, ℕ, zero, suc, ◌+◌, ◌-◌, ◌<◌, ◌≤◌, Bool, true, false, List, [], ◌∷◌, ◌++◌, length, map, take, drop, get_or, Option, Some, None, arith}
-use Rattle.std.specs.Prelude.{slice_get, bytes_eq, All}
-use Rattle.std.proofs.lemmas.List.{map-append}
+use Rattle.std.proofs.Common.{◌≡◌, ◌≢◌, refl, sym, ◌∙◌, ap, subst, cond, ℕ, suc, ◌+◌, ◌<◌, Bool, true, false, List, [], ◌∷◌, ◌++◌, length, map, get_or, Option, Some, None, arith}
+use Rattle.std.specs.Prelude.{bytes_eq}
 use Rattle.std.proofs.lemmas.List.Elements.{All-append}
 use Rattle.std.proofs.lemmas.List.Sums.{sum_by-append}
 use Rattle.cbpf_grammar.specs.Lexemes.{Lexeme}
-use Rattle.cbpf_grammar.specs.Items.{Item}
-use Rattle.cbpf_text.specs.Labels.{name_of, set_labels, times_among, times_set, AreDistinct, SetsAt, IsPlace}
-use Rattle.cbpf_text.specs.Tables.{Label, labels_of, labels_from, place_among, IsLookup}
-use Rattle.cbpf_text.proofs.Lists.{same_bytes_now, bytes_eq_self, same_some, all_one}
+use Rattle.cbpf_text.specs.Labels.{name_of, times_among, AreDistinct}
+use Rattle.cbpf_text.specs.Tables.{Label, place_among}
+use Rattle.cbpf_text.proofs.Lists.{same_bytes_now, bytes_eq_self, all_one}
 
 abbrev pub words : List Label → List Lexeme
 words ls = map (λ (l : Label). l.word) ls

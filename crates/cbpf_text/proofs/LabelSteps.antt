@@ -1,59 +1,19 @@
 -- The assembler's own labels, one more at a time.
-use Rattle.std.proofs.Common.{◌≡◌, ◌≢◌, refl, sym, ◌∙◌, ap, ℕ, zero, suc, ◌+◌, ◌-◌, ◌<◌, ◌≤◌, Bool, true, false, cond, subst, List, [], ◌∷◌, ◌++◌, length, map, take, drop, get_or, Option, Some, None, arith, append-nil}
+use Rattle.std.proofs.Common.{◌≡◌, ◌≢◌, refl, sym, ◌∙◌, ap, ℕ, zero, suc, ◌+◌, ◌<◌, ◌≤◌, true, false, cond, subst, List, [], ◌∷◌, ◌++◌, length, map, take, drop, get_or, Option, Some, None, arith, append-nil}
 use Rattle.std.specs.Prelude.{is_some, bytes_eq}
 use Rattle.std.proofs.Math.Numerals.{add-one}
 use Rattle.std.proofs.lemmas.List.{map-append, append_assoc, take_more}
 use Rattle.cbpf_grammar.specs.declared.lexeme.Lexeme as declared_lexeme
-use Rattle.cbpf_grammar.specs.declared.item.Item as declared_item
 use Rattle.cbpf_grammar.specs.Lexemes.{Lexeme}
 use Rattle.cbpf_grammar.specs.Items.{Item}
-use Rattle.cbpf_grammar.specs.Views.{lexeme_of, item_of, label_words}
+use Rattle.cbpf_grammar.specs.Views.{lexeme_of}
 use Rattle.cbpf_text.specs.declared.labels.Label as declared_label
 use Rattle.cbpf_text.specs.Labels.{name_of, set_labels, times_among, AreDistinct}
 use Rattle.cbpf_text.specs.declared.fault.AsmKind.TheVariants as kinds
-use Rattle.cbpf_text.specs.Refusals.{IsLabelFault, IsFirstRepeat}
+use Rattle.cbpf_text.specs.Refusals.{IsLabelFault}
 use Rattle.cbpf_text.specs.Tables.{Label, label_of, labels_of, labels_from, place_among}
 use Rattle.cbpf_text.proofs.LabelLists.{words, distinct_more, some_place, no_place, place_more}
 use Rattle.cbpf_text.proofs.Lists.{split_at}
-
-two_more : (ls : List declared_lexeme.Lexeme) (i : ℕ) (d : declared_lexeme.Lexeme) → suc i < length ls → label_words (map lexeme_of (drop i ls)) ≡ lexeme_of (get_or ls i d) ∷ label_words (map lexeme_of (drop (suc (suc i)) ls))
-two_more [] i d l = absurd (omega arith)
-two_more (x ∷ []) i d l = absurd (omega arith)
-two_more (x ∷ y ∷ ls) zero d l = refl
-two_more (x ∷ y ∷ ls) (suc i) d l = two_more (y ∷ ls) i d (omega arith)
-
--- one more label of an item
-pub words_more : (found : List declared_label.Label) (ls : List declared_lexeme.Lexeme) (i place : ℕ) (d : declared_lexeme.Lexeme) → i + 1 < length ls
-    → map label_of (found ++ (record { word = get_or ls i d; place = place } ∷ [])) ++ labels_of place (label_words (map lexeme_of (drop (i + 2) ls))) ≡ map label_of found ++ labels_of place (label_words (map lexeme_of (drop i ls)))
-words_more found ls i place d l =
-    let e : i + 2 ≡ suc (suc i) = omega arith in
-    let m : suc i < length ls = omega arith in
-    rw (e, map-append label_of found (record { word = get_or ls i d; place = place } ∷ []), append_assoc)
-    (ap (λ ws. map label_of found ++ labels_of place ws) (sym (two_more ls i d m)))
-
-words_end : (ls : List declared_lexeme.Lexeme) (i : ℕ) → length ls ≤ suc i → label_words (map lexeme_of (drop i ls)) ≡ []
-words_end [] zero l = refl
-words_end [] (suc i) l = refl
-words_end (x ∷ []) zero l = refl
-words_end (x ∷ y ∷ ls) zero l = absurd (omega arith)
-words_end (x ∷ ls) (suc i) l = words_end ls i (omega arith)
-
-pub words_done : (found : List Label) (ls : List declared_lexeme.Lexeme) (i place : ℕ) → length ls ≤ i + 1 → found ++ labels_of place (label_words (map lexeme_of (drop i ls))) ≡ found
-words_done found ls i place l = let m : length ls ≤ suc i = omega arith in ap (λ ws. found ++ labels_of place ws) (words_end ls i m) ∙ append-nil found
-
-items_more : (k : ℕ) (is : List declared_item.Item) (i : ℕ) (d : declared_item.Item) → i < length is
-    → labels_from k (map item_of (take (suc i) is)) ≡ labels_from k (map item_of (take i is)) ++ labels_of (k + i) (label_words (map lexeme_of (get_or is i d).labels.now))
-items_more k [] i d l = absurd (omega arith)
-items_more k (x ∷ is) zero d l = let e : k ≡ k + 0 = omega arith in append-nil (labels_of k (label_words (map lexeme_of x.labels.now))) ∙ ap (λ n. labels_of n (label_words (map lexeme_of x.labels.now))) e
-items_more k (x ∷ is) (suc i) d l =
-    let e : k + 1 + i ≡ k + suc i = omega arith in
-    ap (λ ls. labels_of k (label_words (map lexeme_of x.labels.now)) ++ ls) (items_more (k + 1) is i d (omega arith) ∙ ap (λ n. labels_from (k + 1) (map item_of (take i is)) ++ labels_of n (label_words (map lexeme_of (get_or is i d).labels.now))) e)
-    ∙ sym (append_assoc (labels_of k (label_words (map lexeme_of x.labels.now))) (labels_from (k + 1) (map item_of (take i is))) (labels_of (k + suc i) (label_words (map lexeme_of (get_or is i d).labels.now))))
-
--- the labels of one more item
-pub item_more : (is : List declared_item.Item) (i : ℕ) (d : declared_item.Item) → i < length is
-    → labels_from 0 (map item_of (take (i + 1) is)) ≡ labels_from 0 (map item_of (take i is)) ++ labels_of i (label_words (map lexeme_of (get_or is i d).labels.now))
-item_more is i d l = let e : 0 + i ≡ i = omega arith in rw add-one (items_more 0 is i d l ∙ ap (λ n. labels_from 0 (map item_of (take i is)) ++ labels_of n (label_words (map lexeme_of (get_or is i d).labels.now))) e)
 
 words_of : (place : ℕ) (ts : List Lexeme) → words (labels_of place ts) ≡ ts
 words_of place [] = refl
@@ -110,7 +70,3 @@ table_grows ls i d name l e o f s k =
     ap (λ v. cond (bytes_eq v k) (Some (get_or ls i d).place) (place_among (map label_of (take i ls)) k)) e
     ∙ (place_more (map label_of (take i ls)) (label_of (get_or ls i d)) k n
     ∙ ap (λ ms. place_among ms k) (sym (ap (map label_of) (take_more ls i d l) ∙ map-append label_of (take i ls) (get_or ls i d ∷ []))))
-
-pub and_labels : (found : List declared_label.Label) (is : List declared_item.Item) (i : ℕ) (d : declared_item.Item) → i < length is → map label_of found ≡ labels_from 0 (map item_of (take i is))
-    → map label_of found ++ labels_of i (label_words (map lexeme_of (get_or is i d).labels.now)) ≡ labels_from 0 (map item_of (take (i + 1) is))
-and_labels found is i d l e = ap (λ ls. ls ++ labels_of i (label_words (map lexeme_of (get_or is i d).labels.now))) e ∙ sym (item_more is i d l)

@@ -19,3 +19,4 @@ pub mod ListedJumps
 pub mod ListedPlaces
 pub mod ListedProgram
 pub mod ListedLaw
+pub mod Reading

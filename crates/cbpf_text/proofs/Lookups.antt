@@ -1,16 +1,16 @@
 -- What a look-up of a name in the label table says of the items.
-use Rattle.std.proofs.Common.{◌≡◌, ◌≢◌, refl, sym, ◌∙◌, ap, subst, cond, ℕ, zero, suc, ◌+◌, ◌-◌, ◌<◌, ◌≤◌, Bool, true, false, List, [], ◌∷◌, ◌++◌, length, map, Option, Some, None, arith, Bor}
+use Rattle.std.proofs.Common.{◌≡◌, ◌≢◌, refl, sym, ◌∙◌, ap, subst, cond, ℕ, zero, suc, ◌+◌, ◌<◌, Bool, true, false, List, [], ◌∷◌, map, Option, Some, None, arith, Bor}
 use Rattle.std.specs.Prelude.{Result, Ok, Err, IfOk, IfErr}
 use Rattle.cbpf_text.specs.declared.labels.Label as declared_label
 use Rattle.cbpf_text.specs.declared.refusal.Refusal.{Refusal}
 use Rattle.cbpf_text.specs.Refusals.{Told, IsLabelFault}
-use Rattle.std.specs.Prelude.{slice_get, bytes_eq}
+use Rattle.std.specs.Prelude.{bytes_eq}
 use Rattle.cbpf_grammar.specs.Lexemes.{Lexeme}
 use Rattle.cbpf_grammar.specs.Items.{Item}
-use Rattle.cbpf_text.specs.Labels.{name_of, set_labels, times_among, times_set, AreDistinct, SetsAt, IsPlace}
-use Rattle.cbpf_text.specs.Tables.{Label, labels_of, labels_from, place_among, label_of, IsLookup, Resolves}
+use Rattle.cbpf_text.specs.Labels.{name_of, set_labels, times_among, times_set, AreDistinct, SetsAt}
+use Rattle.cbpf_text.specs.Tables.{labels_of, labels_from, place_among, label_of, IsLookup, Resolves}
 use Rattle.cbpf_text.proofs.Lists.{same_some}
-use Rattle.cbpf_text.proofs.LabelLists.{words, times_append, times_cons, times_miss, times_hit, distinct_once, or_else, place_append, no_place}
+use Rattle.cbpf_text.proofs.LabelLists.{words, times_append, times_cons, times_hit, distinct_once, or_else, place_append, no_place}
 use Rattle.cbpf_text.proofs.LabelSteps.{words_from, words_map, word_of}
 
 -- the items that set a name do so more than no times
@@ -81,11 +81,3 @@ labels_resolve is ls lookup e t h k = lookup_tells is k.now (lookup k) (labels_d
 
 pub labels_refused : (is : List Item) (ls : List declared_label.Label) → map label_of ls ≡ labels_from 0 is → (r : Refusal) → Told (IsLabelFault (map word_of ls)) r → Told (IsLabelFault (set_labels is)) r
 labels_refused is ls e r h = subst (λ ws. Told (IsLabelFault ws) r) (sym (words_map ls) ∙ (ap words e ∙ words_from 0 is)) h
-
-pub ok_both : {X E : Type 0} (r : Result X E) (P Q R : X → Type 0) → ((x : X) → P x → Q x → R x) → IfOk r P → IfOk r Q → IfOk r R
-ok_both (Ok x) P Q R f p q = f x p q
-ok_both (Err e) P Q R f p q = p
-
-pub err_more : {X E : Type 0} (r : Result X E) (P Q : E → Type 0) → ((e : E) → P e → Q e) → IfErr r P → IfErr r Q
-err_more (Ok x) P Q f p = p
-err_more (Err e) P Q f p = f e p

@@ -1,21 +1,20 @@
 -- A text that assembles isn't refused.
-use Rattle.std.proofs.Common.{◌≡◌, ◌≢◌, refl, sym, ◌∙◌, ap, subst, ℕ, zero, suc, ◌+◌, ◌<◌, ◌≤◌, List, [], ◌∷◌, ◌++◌, length, Option, Some, arith}
-use Rattle.std.specs.Prelude.{slice_get, All}
+use Rattle.std.proofs.Common.{◌≡◌, ◌≢◌, refl, ap, subst, ℕ, ◌<◌, List, [], ◌∷◌, ◌++◌, length, arith}
+use Rattle.std.specs.Prelude.{All}
 use Rattle.cbpf_lex.proofs.Outcomes as lexer
 use Rattle.cbpf_code.specs.declared.insn.Insn.{Insn}
-use Rattle.cbpf_grammar.specs.declared.parser.ParseFault.TheVariants as parse
+use Rattle.cbpf_grammar.specs.Refusals.{ParseFault as parse}
 use Rattle.cbpf_grammar.specs.Lexemes.{Lexeme, lexemes_of}
-use Rattle.cbpf_grammar.specs.Items.{Item, Items}
-use Rattle.cbpf_grammar.specs.Refusals.{IsAccepted}
+use Rattle.cbpf_grammar.specs.Items.{Item}
 use Rattle.cbpf_grammar.proofs.OneReading.{one_reading}
 use Rattle.cbpf_grammar.proofs.Refused.{items_accepted}
 use Rattle.cbpf_text.specs.declared.fault.AsmKind.{AsmKind}
 use Rattle.cbpf_text.specs.declared.fault.AsmFault.{AsmFault}
 use Rattle.cbpf_text.specs.declared.fault.AsmFault.TheVariants as faults
-use Rattle.cbpf_text.specs.Labels.{name_of, set_labels, times_among, AreDistinct}
+use Rattle.cbpf_text.specs.Labels.{name_of, times_among, AreDistinct}
 use Rattle.cbpf_text.specs.Operands.{HasForm}
 use Rattle.cbpf_text.specs.Assembled.{Assembles, AssembleTokens, AreEncoded}
-use Rattle.cbpf_text.specs.Refusals.{Use, IsGoodUse, uses_from, IsItemsFault, IsTokensFault, IsRefused}
+use Rattle.cbpf_text.specs.Refusals.{IsGoodUse, IsItemsFault, IsTokensFault, IsRefused}
 use Rattle.cbpf_text.specs.Refusals.IsItemsFault.{no_item, too_many, set_twice, bad_use}
 use Rattle.cbpf_text.specs.Refusals.IsTokensFault.{misplaced, large_negative, unfinished, of_items}
 use Rattle.cbpf_text.specs.Refusals.IsRefused.{memory, piece, token}

@@ -2,7 +2,7 @@
 use Rattle.std.proofs.Common.{◌≡◌, refl, sym, ◌∙◌, ap, subst, ℕ, ◌<◌, ◌≤◌, List, [], ◌∷◌, ◌++◌, length, Some, arith}
 use Rattle.std.specs.Prelude.{slice_get, All}
 use Rattle.cbpf_lex.proofs.Outcomes as lexer
-use Rattle.cbpf_grammar.specs.declared.parser.ParseFault.TheVariants as parse
+use Rattle.cbpf_grammar.specs.Refusals.{ParseFault as parse}
 use Rattle.cbpf_grammar.specs.Lexemes.{Lexeme, lexemes_of}
 use Rattle.cbpf_grammar.specs.Items.{Item}
 use Rattle.cbpf_grammar.proofs.OneReading.{one_reading}

@@ -1,14 +1,14 @@
 -- The targets of one instruction: which are good, and the first that is refused.
-use Rattle.std.proofs.Common.{◌≡◌, ◌≢◌, refl, sym, ◌∙◌, ap, subst, ℕ, zero, suc, ◌+◌, ◌-◌, ◌<◌, ◌≤◌, Bool, true, false, List, [], ◌∷◌, ◌++◌, length, map, Option, Some, None, arith}
-use Rattle.std.specs.Prelude.{slice_get, All}
+use Rattle.std.proofs.Common.{◌≡◌, refl, sym, subst, ℕ, ◌+◌, ◌-◌, ◌<◌, ◌≤◌, Bool, true, List, [], ◌∷◌, map, Option, Some, None, arith}
+use Rattle.std.specs.Prelude.{slice_get}
 use Rattle.cbpf_grammar.specs.declared.table.Fields.{Fields}
 use Rattle.cbpf_grammar.specs.Lexemes.{Lexeme}
 use Rattle.cbpf_grammar.specs.Items.{Item}
 use Rattle.cbpf_text.specs.declared.fault.AsmKind.{AsmKind}
 use Rattle.cbpf_text.specs.declared.fault.AsmKind.TheVariants as kinds
-use Rattle.cbpf_text.specs.Labels.{name_of, times_set, SetsAt, IsPlace}
-use Rattle.cbpf_text.specs.Assembled.{IsOffset, IsShortOffset}
-use Rattle.cbpf_text.specs.Refusals.{Use, IsUseFault, IsGoodUse, IsFirstBadUse, IsTargetFault, Told, uses_of, is_conditional}
+use Rattle.cbpf_text.specs.Labels.{name_of, IsPlace}
+use Rattle.cbpf_text.specs.Assembled.{IsShortOffset}
+use Rattle.cbpf_text.specs.Refusals.{Use, IsGoodUse, IsFirstBadUse, IsTargetFault, Told, uses_of, is_conditional}
 use Rattle.cbpf_text.specs.declared.refusal.Refusal.{Refusal}
 use Rattle.cbpf_text.specs.declared.refusal.Refusal.TheVariants as refusals
 use Rattle.cbpf_grammar.specs.declared.table.Fields.TheVariants.{Branch}
@@ -16,7 +16,7 @@ use Rattle.cbpf_text.specs.Operands.{targets_in}
 use Rattle.cbpf_text.specs.Refusals.IsUseFault.{not_set, not_after, too_far}
 use Rattle.cbpf_text.specs.Tables.{IsLookup}
 use Rattle.cbpf_text.proofs.Lists.{all_none, all_one}
-use Rattle.cbpf_text.proofs.Lookups.{sets_some, one_place}
+use Rattle.cbpf_text.proofs.Lookups.{one_place}
 
 abbrev pub use_of : ℕ → Bool → Lexeme → Use
 use_of index short t = record { index = index; target = t; short = short }

@@ -1,5 +1,5 @@
 -- Which labels a list of items sets, and where: labels as the kernel's Documentation/networking/filter has them, each a name for the instruction behind it.
-use Rattle.std.specs.Prelude.{◌≡◌, ◌≢◌, ℕ, List, [], ◌∷◌, bytes_eq, count_by, flat_map, slice_get, Some, All}
+use Rattle.std.specs.Prelude.{◌≡◌, ◌≢◌, ℕ, List, [], bytes_eq, count_by, flat_map, slice_get, Some, All}
 use Rattle.cbpf_grammar.specs.Lexemes.{Symbol, Lexeme}
 use Rattle.cbpf_grammar.specs.Lexemes.Symbol.{word, number, mark}
 use Rattle.cbpf_grammar.specs.Items.{Item}

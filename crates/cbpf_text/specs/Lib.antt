@@ -4,3 +4,4 @@ pub mod Assembled
 pub mod Refusals
 pub mod Laws
 pub mod Tables
+pub mod Drafts

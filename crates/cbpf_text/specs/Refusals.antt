@@ -6,7 +6,7 @@ use Rattle.cbpf_lex.specs.declared.token.BadPiece.TheVariants as pieces
 use Rattle.cbpf_lex.specs.Tokens.{Lexes, IsFirstBad, line_of}
 use Rattle.cbpf_grammar.specs.declared.table.Fields.{Fields}
 use Rattle.cbpf_grammar.specs.declared.table.Fields.TheVariants.{Constant, Goto, Branch, Swapped}
-use Rattle.cbpf_grammar.specs.declared.parser.ParseFault.TheVariants as parse
+use Rattle.cbpf_grammar.specs.Refusals.{ParseFault as parse}
 use Rattle.cbpf_grammar.specs.Lexemes.{Lexeme, lexemes_of}
 use Rattle.cbpf_grammar.specs.Items.{Item, Items}
 use Rattle.cbpf_grammar.specs.Refusals.{IsFirstRefusal, IsAccepted}

@@ -1,20 +1,22 @@
 //! The instructions of items.
 
-ghost use Rattle.std.specs.Prelude.{◌≡◌, ◌≤◌, ℕ, Bool, true, false, List, length, map, option_map, Some, IfOk, IfErr, All};
+ghost use Rattle.std.specs.Prelude.{◌≡◌, ◌≤◌, Bool, true, false, List, length, option_map, Some, IfOk, IfErr, All};
 ghost use Rattle.indexmap.specs.IndexMap.{get};
 ghost use Rattle.cbpf_grammar.specs.Items as items;
-ghost use Rattle.cbpf_grammar.specs.Views.{lexeme_of, item_of};
+ghost use Rattle.cbpf_grammar.specs.Views.{lexeme_of};
 ghost use Rattle.cbpf_text.specs.Assembled.{IsOffset, IsShortOffset, IsEncoded, EncodeEach};
 ghost use Rattle.cbpf_text.specs.Refusals.{Told, IsTargetFault, IsFirstBadUse, uses_of, uses_from};
 ghost use Rattle.cbpf_text.specs.Tables.{same_slice, Resolves};
+ghost use Rattle.cbpf_text.specs.Drafts.{IsStatement, AreStatements};
 ghost use Rattle.cbpf_text.specs.Operands.{HasForm};
 
+use crate::draft::Statement;
 use crate::fault::AsmKind;
 use crate::labels::LabelTable;
-use crate::operand::{literal, name_of, target};
+use crate::operand::name_of;
 use crate::refusal::Refusal;
-use cbpf_code::{Insn, code_of};
-use cbpf_grammar::{Fields, Item, Lexeme};
+use cbpf_code::Insn;
+use cbpf_grammar::{Fields, Lexeme};
 use std::alloc::Allocator;
 
 /// The most instructions that a conditional jump goes over.
@@ -75,19 +77,19 @@ fn short_offset<A: Allocator>(
     Ok(distance as u8)
 }
 
-/// The instruction of the item at the index, or its first target that is refused.
+/// The instruction of a statement at the index, or its first target that is refused.
 fn encode<A: Allocator>(
     labels: &LabelTable<'_, A>,
     index: u32,
-    item: &Item<'_>,
+    statement: &Statement<'_>,
 ) -> Result<Insn, Refusal>
-    ensures encoded { (is : List items.Item) → Resolves is (λ k. get same_slice labels.now k) → IfOk result (IsEncoded is index (item_of item.now)) }
-    ensures refused { (is : List items.Item) → Resolves is (λ k. get same_slice labels.now k) → IfErr result (Told (IsFirstBadUse is (uses_of index (item_of item.now)))) }
+    ensures encoded { (is : List items.Item) (item : items.Item) → IsStatement statement.now item → Resolves is (λ k. get same_slice labels.now k) → IfOk result (IsEncoded is index item) }
+    ensures refused { (is : List items.Item) (item : items.Item) → IsStatement statement.now item → Resolves is (λ k. get same_slice labels.now k) → IfErr result (Told (IsFirstBadUse is (uses_of index item))) }
 {
-    let code = code_of(item.row.op);
-    let k = literal(item);
-    let first = target(item, 0);
-    match item.row.fields {
+    let code = statement.code;
+    let k = statement.literal;
+    let first = statement.first;
+    match statement.fields {
         Fields::Constant => Ok(Insn {
             code,
             jt: 0,
@@ -103,7 +105,7 @@ fn encode<A: Allocator>(
         Fields::Branch => Ok(Insn {
             code,
             jt: short_offset(labels, index, first)?,
-            jf: short_offset(labels, index, target(item, 1))?,
+            jf: short_offset(labels, index, statement.second)?,
             k,
         }),
         Fields::Swapped => Ok(Insn {
@@ -115,20 +117,19 @@ fn encode<A: Allocator>(
     }
 }
 
-/// The instructions of all items, or the first target that is refused.
+/// The instructions of all statements, or the first target that is refused.
 pub fn encode_all<A: Allocator + Copy>(
     alloc: A,
     labels: &LabelTable<'_, A>,
-    items: &[Item<'_>],
+    statements: &[Statement<'_>],
 ) -> Result<Vec<Insn, A>, Refusal>
-    requires size { length items.now ≤ 4096 }
-    requires forms { All HasForm (map item_of items.now) }
-    ensures encoded { Resolves (map item_of items.now) (λ k. get same_slice labels.now k) → IfOk result (λ v. EncodeEach (map item_of items.now) 0 (map item_of items.now) v.items) }
-    ensures refused { Resolves (map item_of items.now) (λ k. get same_slice labels.now k) → IfErr result (Told (IsFirstBadUse (map item_of items.now) (uses_from 0 (map item_of items.now)))) }
+    requires { length statements.now ≤ 4096 }
+    ensures encoded { (is : List items.Item) → AreStatements statements.now is → All HasForm is → Resolves is (λ k. get same_slice labels.now k) → IfOk result (λ v. EncodeEach is 0 is v.items) }
+    ensures refused { (is : List items.Item) → AreStatements statements.now is → All HasForm is → Resolves is (λ k. get same_slice labels.now k) → IfErr result (Told (IsFirstBadUse is (uses_from 0 is))) }
 {
     let mut insns = Vec::new(alloc);
-    for i in 0..items.len() {
-        insns.push(encode(labels, i as u32, &items[i])?)?;
+    for i in 0..statements.len() {
+        insns.push(encode(labels, i as u32, &statements[i])?)?;
     }
     Ok(insns)
 }

@@ -1,5 +1,6 @@
 //! Why a source text is refused.
 
+use std::alloc::{AllocError, AllocFailed};
 use thiserror::Error;
 
 /// What is wrong with a source text.
@@ -49,4 +50,26 @@ pub enum AsmFault {
     /// What is wrong, and the line of the token that shows it, counted from 1.
     #[error("line {1}: {0}")]
     At(AsmKind, u64),
+}
+
+impl<T: Drop> From<AllocFailed<T>> for AsmFault {
+    ghost use Rattle.std.specs.Prelude.{◌≡◌};
+    ghost use Rattle.cbpf_text.specs.declared.fault.AsmFault.TheVariants.{Memory};
+
+    ghost from_gives = { λ _ e. e ≡ Memory };
+
+    fn from(_: AllocFailed<T>) -> Self {
+        AsmFault::Memory
+    }
+}
+
+impl From<AllocError> for AsmFault {
+    ghost use Rattle.std.specs.Prelude.{◌≡◌};
+    ghost use Rattle.cbpf_text.specs.declared.fault.AsmFault.TheVariants.{Memory};
+
+    ghost from_gives = { λ _ e. e ≡ Memory };
+
+    fn from(_: AllocError) -> Self {
+        AsmFault::Memory
+    }
 }

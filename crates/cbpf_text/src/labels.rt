@@ -1,23 +1,51 @@
 //! The label table: for each label the index of the instruction that it names.
 
-ghost use Rattle.std.specs.Prelude.{◌≡◌, ◌++◌, ◌≤◌, List, ℕ, length, map, IfOk, IfErr, OnOk};
+ghost use Rattle.std.specs.Prelude.{◌≡◌, List, ℕ, map, IfOk, IfErr};
 ghost use Rattle.std.specs.Borrow.{Bor};
 ghost use Rattle.indexmap.specs.IndexMap.{get};
-ghost use Rattle.cbpf_grammar.specs.Views.{lexeme_of, item_of, label_words};
-ghost use Rattle.cbpf_text.specs.Labels.{set_labels, AreDistinct};
-ghost use Rattle.cbpf_text.specs.Refusals.{IsFirstRepeat, Told, IsLabelFault};
-ghost use Rattle.cbpf_text.specs.Tables.{label_of, labels_of, labels_from, same_slice, place_among, Resolves};
+ghost use Rattle.cbpf_grammar.specs.Views.{lexeme_of};
+ghost use Rattle.cbpf_text.specs.Labels.{AreDistinct};
+ghost use Rattle.cbpf_text.specs.Refusals.{Told, IsLabelFault};
+ghost use Rattle.cbpf_text.specs.Tables.{label_of, same_slice, place_among};
 
 use crate::fault::AsmKind;
 use crate::operand::name_of;
 use crate::refusal::Refusal;
-use cbpf_grammar::{Item, Lexeme};
+use cbpf_grammar::Lexeme;
 use indexmap::IndexMap;
-use std::alloc::{AllocFailed, Allocator};
-use std::hash::{BuildHasherDefault, FoldHasher};
+use std::alloc::Allocator;
+use std::hash::{BuildHasher, DefaultHasher, FoldHasher, Hasher};
+
+/// Hashers of a fixed kind, which begin with a digest of all labels of the source. Which names collide
+/// hangs on all of them, so that a source can't be written to make its own collide.
+#[derive(Clone, Copy)]
+pub struct LabelHasher {
+    initial: FoldHasher,
+}
+
+impl BuildHasher for LabelHasher {
+    type Hasher = FoldHasher;
+
+    ghost build_hasher = { λ s. s.initial };
+
+    fn build_hasher(&self) -> FoldHasher {
+        self.initial
+    }
+}
+
+/// The hasher of these labels.
+fn make_hasher(labels: &[Label<'_>]) -> LabelHasher {
+    let mut names = DefaultHasher::new();
+    for label in labels {
+        names.write(name_of(label.word.symbol));
+    }
+    let mut initial = FoldHasher::default();
+    initial.write_u64(names.finish());
+    LabelHasher { initial }
+}
 
 /// For each label's name the index of the item that sets it.
-pub type LabelTable<'a, A> = IndexMap<&'a [u8], u32, BuildHasherDefault<FoldHasher>, A>;
+pub type LabelTable<'a, A> = IndexMap<&'a [u8], u32, LabelHasher, A>;
 
 /// A label's word, and the index of the item that sets it.
 #[derive(Clone, Copy, Debug)]
@@ -26,42 +54,8 @@ pub struct Label<'a> {
     pub place: u32,
 }
 
-/// Adds the labels of an item, each a word and a colon.
-fn push_labels<'a, A: Allocator>(
-    found: &mut Vec<Label<'a>, A>,
-    labels: &[Lexeme<'a>],
-    place: u32,
-) -> Result<(), AllocFailed<Label<'a>>>
-    ensures { OnOk result (map label_of found.new.items ≡ map label_of found.old.items ++ labels_of place (label_words (map lexeme_of labels.now))) }
-{
-    let mut i = 0;
-    while i + 1 < labels.len() {
-        found.push(Label {
-            word: labels[i],
-            place,
-        })?;
-        i += 2;
-    }
-    Ok(())
-}
-
-/// The labels of all items, in text order.
-fn all_labels<'a, A: Allocator>(
-    alloc: A,
-    items: &[Item<'a>],
-) -> Result<Vec<Label<'a>, A>, AllocFailed<Label<'a>>>
-    requires { length items.now ≤ 4096 }
-    ensures { IfOk result (λ v. map label_of v.items ≡ labels_from 0 (map item_of items.now)) }
-{
-    let mut found = Vec::new(alloc);
-    for i in 0..items.len() {
-        push_labels(&mut found, items[i].labels, i as u32)?;
-    }
-    Ok(found)
-}
-
 /// The table of these labels, or the first that is set a second time.
-fn table_of<'a, A: Allocator + Copy>(
+pub fn table_of<'a, A: Allocator + Copy>(
     alloc: A,
     labels: &[Label<'a>],
 ) -> Result<LabelTable<'a, A>, Refusal>
@@ -69,7 +63,7 @@ fn table_of<'a, A: Allocator + Copy>(
     ensures distinct { IfOk result (λ t. AreDistinct (map (λ l. lexeme_of l.word) labels.now)) }
     ensures refused { IfErr result (Told (IsLabelFault (map (λ l. lexeme_of l.word) labels.now))) }
 {
-    let mut table = IndexMap::new(alloc);
+    let mut table = IndexMap::with_hasher(alloc, make_hasher(labels));
     for label in labels {
         let name = name_of(label.word.symbol);
         if table.contains_key(&name) {
@@ -78,17 +72,4 @@ fn table_of<'a, A: Allocator + Copy>(
         table.insert(name, label.place)?;
     }
     Ok(table)
-}
-
-/// The label table of items, or the first label that is set a second time.
-pub fn label_table<'a, A: Allocator + Copy>(
-    alloc: A,
-    items: &[Item<'a>],
-) -> Result<LabelTable<'a, A>, Refusal>
-    requires { length items.now ≤ 4096 }
-    ensures resolves { IfOk result (λ t. Resolves (map item_of items.now) (λ k. get same_slice t k)) }
-    ensures distinct { IfOk result (λ t. AreDistinct (set_labels (map item_of items.now))) }
-    ensures refused { IfErr result (Told (IsLabelFault (set_labels (map item_of items.now)))) }
-{
-    table_of(alloc, &all_labels(alloc, items)?)
 }

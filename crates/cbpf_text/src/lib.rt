@@ -7,6 +7,7 @@
 #![tactic(auto)]
 
 mod assembler;
+mod draft;
 mod encode;
 mod fault;
 mod labels;

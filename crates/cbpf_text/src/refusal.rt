@@ -1,7 +1,20 @@
 //! A refusal by its place in the text, before its line is known.
 
-use crate::fault::AsmKind;
-use std::alloc::AllocFailed;
+ghost use Rattle.cbpf_text.specs.Refusals.{IsToldAt};
+
+use crate::fault::{AsmFault, AsmKind};
+use crate::source::line_of;
+use std::alloc::{AllocFailed};
+
+/// The refusal with its line.
+pub fn fault_of(text: &[u8], refusal: Refusal) -> AsmFault
+    ensures { IsToldAt text.now refusal result }
+{
+    match refusal {
+        Refusal::Memory => AsmFault::Memory,
+        Refusal::At(kind, at) => AsmFault::At(kind, line_of(text, at)),
+    }
+}
 
 /// Why tokens have no instructions.
 #[derive(Clone, Copy, Debug, PartialEq, Eq)]

@@ -1,14 +1,14 @@
-use Rattle.std.proofs.Common.{◌∙◌, map, ap}
-use Rattle.cbpf_grammar.specs.Views.{lexeme_of}
-use Rattle.cbpf_text.proofs.Faults.{lex_refused, refused_at}
+use Rattle.cbpf_text.proofs.Faults.{items_told, tokens_assembled, text_assembled}
+use Rattle.cbpf_text.proofs.Forms.{items_forms}
+use Rattle.cbpf_text.proofs.Reading.{whole_refused}
 use Rattle.cbpf_text.proofs.assembler.assemble.Goals as goal
 
-pub returns-in-Err-clause-refused : goal.returns-in-Err-clause-refused
-returns-in-Err-clause-refused g c = lex_refused c.args.text.now c.lex_refusal.result (c.lex_refusal.ensures c.args.text.now c.in-Err.ensures.fault)
+pub returns-in-Ok-clause-assembled : goal.returns-in-Ok-clause-assembled
+returns-in-Ok-clause-assembled g c =
+    let d = c.in_ok-draft.ensures.items in
+    text_assembled c.args.text.now d.2.tokens d.0 c.in-Ok.insns.items d.2.lexed d.2.are (tokens_assembled d.0 d.1 c.in-Ok.insns.items d.3 d.4 (c.in-Ok.ensures.encoded d.1 d.5 (items_forms d.0 d.1 d.3)))
 
 pub returns-clause-refused : goal.returns-clause-refused
 returns-clause-refused g c =
-    let read = c.in-Ok.ensures.read in
-    refused_at c.args.text.now read.tokens (map lexeme_of c.deref.result.now) c.in-Err-assemble_tokens.refusal c.fault_of.result read.lexed
-    (ap (map lexeme_of) c.deref.ensures.value ∙ read.are)
-    c.in-Err-assemble_tokens.ensures.refused c.fault_of.ensures
+    let d = c.in_ok-draft.ensures.items in
+    whole_refused c.args.text.now d.0 c.in-Err.refusal c.fault_of.result d.2 (items_told d.0 d.1 c.in-Err.refusal d.3 d.4 (c.in-Err.ensures.refused d.1 d.5 (items_forms d.0 d.1 d.3))) c.fault_of.ensures

@@ -1,4 +1,4 @@
-use Rattle.std.proofs.Common.{sym, subst, Some, None}
+use Rattle.std.proofs.Common.{sym, subst}
 use Rattle.indexmap.specs.IndexMap.{get}
 use Rattle.cbpf_grammar.specs.Views.{lexeme_of}
 use Rattle.cbpf_text.specs.Labels.{name_of}

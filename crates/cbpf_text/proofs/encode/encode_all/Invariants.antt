@@ -1,9 +1,10 @@
-use Rattle.std.proofs.Common.{◌≡◌, take, map}
+use Rattle.std.proofs.Common.{List, take}
 use Rattle.indexmap.specs.IndexMap.{get}
-use Rattle.cbpf_grammar.specs.Views.{item_of}
+use Rattle.cbpf_grammar.specs.Items.{Item}
 use Rattle.cbpf_text.specs.Assembled.{EncodeEach}
+use Rattle.cbpf_text.specs.Drafts.{AreStatements}
 use Rattle.cbpf_text.specs.Tables.{same_slice, Resolves}
 use Rattle.cbpf_text.proofs.encode.encode_all.Given as goal
 
 abbrev pub invariant-loop-i : goal.invariant-loop-i
-invariant-loop-i g l = Resolves (map item_of l.items) (λ k. get same_slice l.labels k) → EncodeEach (map item_of l.items) 0 (map item_of (take l.i l.items)) l.insns.items
+invariant-loop-i g l = (is : List Item) → AreStatements l.statements is → Resolves is (λ k. get same_slice l.labels k) → EncodeEach is 0 (take l.i is) l.insns.items

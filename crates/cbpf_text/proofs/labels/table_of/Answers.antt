@@ -1,4 +1,4 @@
-use Rattle.std.proofs.Common.{◌≡◌, ◌∙◌, sym, ap, subst, cond, Some, map, take, take_all}
+use Rattle.std.proofs.Common.{◌∙◌, ap, subst, cond, Some, map, take_all}
 use Rattle.std.specs.Prelude.{bytes_eq}
 use Rattle.cbpf_text.specs.Labels.{AreDistinct}
 use Rattle.cbpf_text.proofs.LabelSteps.{word_of, repeat_told, distinct_grows, table_grows}

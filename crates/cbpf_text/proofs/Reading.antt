@@ -1,0 +1,293 @@
+-- What is told of a text whose items are read one by one, and what is kept of them.
+use Rattle.std.proofs.Common.{◌≡◌, refl, sym, ◌∙◌, ap, subst, ℕ, zero, suc, ◌+◌, ◌<◌, ◌≤◌, Bool, true, false, List, [], ◌∷◌, ◌++◌, length, map, take, drop, get_or, Option, Some, None, arith, append_assoc, append-nil, length-append, length-drop}
+use Rattle.std.specs.Prelude.{slice_get, is_some}
+use Rattle.std.proofs.lemmas.List.{map-append, length-map, length-take-le, drop-drop, drop_at}
+use Rattle.cbpf_lex.specs.Tokens.{LexesTo}
+use Rattle.cbpf_grammar.specs.declared.lexeme.Lexeme as declared_lexeme
+use Rattle.cbpf_grammar.specs.declared.reader.Refusal.TheVariants as refused
+use Rattle.cbpf_grammar.specs.Lexemes.{Lexeme, lexemes_of, AreLexemes}
+use Rattle.cbpf_grammar.specs.Items.{Item, Items}
+use Rattle.cbpf_grammar.specs.Views.{lexeme_of, row_of, label_words}
+use Rattle.cbpf_grammar.specs.Reading.{Ahead, IsReading, IsRefusedFor, IsFirstLarge}
+use Rattle.std.specs.Prelude.{Ok}
+use Rattle.std.proofs.Math.Seq.{take-append_seam}
+use Rattle.cbpf_grammar.specs.declared.item.Row as declared_row
+use Rattle.cbpf_grammar.specs.Classes.Class.{the_mark, name}
+use Rattle.cbpf_grammar.specs.Fits.{fits}
+use Rattle.cbpf_grammar.specs.Steps.{IsInstruction, IsNextItem, Stuck, AreLabels, starts_with_label}
+use Rattle.cbpf_grammar.specs.Refusals.{IsStuckAt}
+use Rattle.cbpf_grammar.proofs.Apart.{and_parts}
+use Rattle.cbpf_grammar.proofs.Greedy.{Greedy}
+use Rattle.cbpf_grammar.proofs.Labels.{labels_item, labels_stuck, labels_append}
+use Rattle.cbpf_grammar.proofs.Taking.{taken_is, ahead_is}
+use Rattle.cbpf_grammar.proofs.Refused.{items_large, large_within, items_accepted, greedy_more, greedy_all, stuck_at}
+use Rattle.cbpf_grammar.specs.Refusals.{IsAccepted}
+use Rattle.cbpf_text.specs.declared.fault.AsmKind.TheVariants as kinds
+use Rattle.cbpf_text.specs.declared.fault.AsmFault.{AsmFault}
+use Rattle.cbpf_text.specs.declared.refusal.Refusal.{Refusal}
+use Rattle.cbpf_text.specs.Refusals.{Told, IsTokensFault, IsRefused, IsToldAt}
+use Rattle.cbpf_text.specs.Refusals.IsTokensFault.{misplaced, large_negative, unfinished}
+use Rattle.cbpf_text.specs.declared.labels.Label as declared_label
+use Rattle.cbpf_text.specs.Tables.{label_of, labels_of, labels_from}
+use Rattle.cbpf_text.specs.declared.draft.Statement.{Statement}
+use Rattle.cbpf_text.specs.Drafts.{IsStatement, IsKept, IsExcess, IsDraft}
+use Rattle.cbpf_text.specs.Refusals.{IsItemsFault}
+use Rattle.cbpf_text.specs.Refusals.IsItemsFault.{no_item, too_many}
+use Rattle.cbpf_text.specs.Assembled.{HasProgramLength}
+use Rattle.cbpf_text.proofs.Encoding.{statements_size, statements_more}
+use Rattle.cbpf_text.proofs.Faults.{refused_at}
+
+pub misplaced_told : (ts : List Lexeme) (at : ℕ) → IsRefusedFor ts (refused.Misplaced at) → IsTokensFault ts kinds.Misplaced at
+misplaced_told ts at h = subst (λ a. IsTokensFault ts kinds.Misplaced a) (sym h.2.2) (misplaced h.0 h.2.0 h.1 h.2.1)
+
+pub large_told : (ts : List Lexeme) (at : ℕ) → IsRefusedFor ts (refused.LargeNegative at) → IsTokensFault ts kinds.LargeNumber at
+large_told ts at h = subst (λ a. IsTokensFault ts kinds.LargeNumber a) (sym h.2.2) (large_negative h.0 h.2.0 h.1 h.2.1)
+
+pub unfinished_told : (ts : List Lexeme) (at : ℕ) → IsRefusedFor ts (refused.Unfinished at) → IsTokensFault ts kinds.Unfinished at
+unfinished_told ts at h = subst (λ a. IsTokensFault ts kinds.Unfinished a) (sym h.1.2) (unfinished h.1.0 h.0 h.1.1)
+
+-- the refusal of the text's tokens is the text's
+pub whole_refused : (text : List ℕ) (ts : List Lexeme) (r : Refusal) (fault : AsmFault) → AreLexemes text ts → Told (IsTokensFault ts) r → IsToldAt text r fault → IsRefused text fault
+whole_refused text ts r fault t h told = refused_at text t.tokens ts r fault t.lexed t.are h told
+
+-- items with a literal that is too large
+pub items_refused : (ts : List Lexeme) (is : List Item) (n at : ℕ) → Items ts is → IsFirstLarge ts n (Some at) → IsRefusedFor ts (refused.LargeNegative at)
+items_refused ts is n at p h = (h.0, items_large ts is h.0 p h.2 h.3, h.4)
+
+pub all_accepted : (ts : List Lexeme) (is : List Item) (n : ℕ) → Items ts is → length ts ≤ n → IsFirstLarge ts n None → IsAccepted ts
+all_accepted ts is n p l h = items_accepted ts is p (λ k q. h k (omega (arith, l, large_within ts k q)) q)
+
+-- the labels of one more item
+pub labels_snoc : (k : ℕ) (is : List Item) (i : Item) → labels_from k (is ++ (i ∷ [])) ≡ labels_from k is ++ labels_of (k + length is) i.labels
+labels_snoc k [] i = let e : k ≡ k + 0 = omega arith in append-nil (labels_of k i.labels) ∙ ap (λ n. labels_of n i.labels) e
+labels_snoc k (x ∷ is) i =
+    let e : k + 1 + length is ≡ k + suc (length is) = omega arith in
+    ap (λ ls. labels_of k x.labels ++ ls) (labels_snoc (k + 1) is i ∙ ap (λ n. labels_from (k + 1) is ++ labels_of n i.labels) e)
+    ∙ sym (append_assoc (labels_of k x.labels) (labels_from (k + 1) is) (labels_of (k + suc (length is)) i.labels))
+
+get_front : (is : List Item) (js : List Item) (k : ℕ) (i : Item) → slice_get is k ≡ Some i → slice_get (is ++ js) k ≡ Some i
+get_front [] js k i e = cc
+get_front (x ∷ is) js zero i e = e
+get_front (x ∷ is) js (suc k) i e = get_front is js k i e
+
+get_last : (is : List Item) (i : Item) → slice_get (is ++ (i ∷ [])) (length is) ≡ Some i
+get_last [] i = refl
+get_last (x ∷ is) i = get_last is i
+
+-- what is kept where nothing more is
+pub kept_skip : (o : Option ℕ) (ss : List Statement) (labels : List declared_label.Label) (is : List Item) (v w : List Lexeme) → true ≡ is_some o → IsDraft o ss labels is v → IsDraft o ss labels is w
+kept_skip None ss labels is v w e d = let k : true ≡ false = e in cc
+kept_skip (Some at) ss labels is v w e d = d
+
+pub kept_past : (o : Option ℕ) (ss : List Statement) (labels : List declared_label.Label) (is : List Item) (i : Item) (v w : List Lexeme) → true ≡ is_some o → IsDraft o ss labels is v → IsDraft o ss labels (is ++ (i ∷ [])) w
+kept_past None ss labels is i v w e d = let k : true ≡ false = e in cc
+kept_past (Some at) ss labels is i v w e d = record { item = d.item; mnemonic = d.mnemonic; found = get_front is (i ∷ []) 4096 d.item d.found; first = d.first; place = d.place }
+
+pub none_if : (o : Option ℕ) → false ≡ is_some o → o ≡ None
+none_if None e = refl
+none_if (Some x) e = let k : false ≡ true = e in cc
+
+-- one more label
+pub kept_label : (ss : List Statement) (labels : List declared_label.Label) (is : List Item) (ls ms : List Lexeme) (word : declared_lexeme.Lexeme) (place : ℕ) → IsKept ss labels is ls → place ≡ length ss → label_words ms ≡ label_words ls ++ (lexeme_of word ∷ []) → IsKept ss (labels ++ (record { word = word; place = place } ∷ [])) is ms
+kept_label ss labels is ls ms word place k e w =
+    let n : place ≡ length is = e ∙ statements_size ss is k.same in
+    record {
+      same = k.same;
+      set = map-append label_of labels (record { word = word; place = place } ∷ []) ∙ (ap (λ us. us ++ (record { word = lexeme_of word; place = place } ∷ [])) k.set ∙ (append_assoc (labels_from 0 is) (labels_of (length is) (label_words ls)) (record { word = lexeme_of word; place = place } ∷ [])
+          ∙ ap (λ us. labels_from 0 is ++ us) (ap (λ q. labels_of (length is) (label_words ls) ++ labels_of q (lexeme_of word ∷ [])) n ∙ (sym (map-append (λ (t : Lexeme). record { word = t; place = length is }) (label_words ls) (lexeme_of word ∷ [])) ∙ ap (λ us. labels_of (length is) us) (sym w)))));
+      most = k.most;
+    }
+
+-- one more item
+pub kept_item : (ss : List Statement) (labels : List declared_label.Label) (is : List Item) (ls : List Lexeme) (s : Statement) (i : Item) → IsKept ss labels is ls → IsStatement s i → i.labels ≡ label_words ls → length ss < 4096 → IsKept (ss ++ (s ∷ [])) labels (is ++ (i ∷ [])) []
+kept_item ss labels is ls s i k t e l =
+    let z : 0 + length is ≡ length is = omega arith in
+    record {
+      same = statements_more ss is s i k.same t;
+      set = k.set ∙ (ap (λ us. labels_from 0 is ++ labels_of (length is) us) (sym e) ∙ (ap (λ q. labels_from 0 is ++ labels_of q i.labels) (sym z) ∙ (sym (labels_snoc 0 is i) ∙ sym (append-nil (labels_from 0 (is ++ (i ∷ [])))))));
+      most = omega (arith, l, statements_size ss is k.same, length-append is (i ∷ []));
+    }
+
+-- the 4097th item
+pub kept_excess : (ss : List Statement) (labels : List declared_label.Label) (is : List Item) (ls : List Lexeme) (i : Item) (body : List declared_lexeme.Lexeme) (d : declared_lexeme.Lexeme) → IsKept ss labels is ls → length ss ≡ 4096 → i.body ≡ map lexeme_of body → 0 < length body → IsExcess (is ++ (i ∷ [])) (get_or body 0 d).at
+kept_excess ss labels is ls i [] d k e b l = absurd (omega (arith, l))
+kept_excess ss labels is ls i (t ∷ body) d k e b l =
+    let n : length is ≡ 4096 = sym (statements_size ss is k.same) ∙ e in
+    record { item = i; mnemonic = lexeme_of t; found = ap (λ q. slice_get (is ++ (i ∷ [])) q) (sym n) ∙ get_last is i; first = ap (λ us. slice_get us 0) b; place = refl }
+
+-- what a draft says of its items
+pub draft_many : (o : Option ℕ) (at : ℕ) (ss : List Statement) (labels : List declared_label.Label) (is : List Item) (w : List Lexeme) → o ≡ Some at → IsDraft o ss labels is w → IsItemsFault is kinds.TooMany at
+draft_many o at ss labels is w e d =
+    let x : IsExcess is at = subst (λ p. IsDraft p ss labels is w) e d in
+    subst (λ a. IsItemsFault is kinds.TooMany a) (sym x.place) (too_many x.item x.mnemonic x.found x.first)
+
+pub draft_kept : (o : Option ℕ) (ss : List Statement) (labels : List declared_label.Label) (is : List Item) (w : List Lexeme) → ((x : ℕ) → o ≡ Some x → ⊥) → IsDraft o ss labels is w → IsKept ss labels is w
+draft_kept None ss labels is w h d = d
+draft_kept (Some x) ss labels is w h d = absurd (h x refl)
+
+pub kept_none : (ss : List Statement) (labels : List declared_label.Label) (is : List Item) → IsKept ss labels is [] → length ss ≡ 0 → IsItemsFault is kinds.NoInstruction 0
+kept_none ss labels [] k e = no_item refl
+kept_none ss labels (i ∷ is) k e = let n : length ss ≡ suc (length is) = statements_size ss (i ∷ is) k.same in absurd (omega (arith, e, n))
+
+pub kept_length : (ss : List Statement) (labels : List declared_label.Label) (is : List Item) → IsKept ss labels is [] → (length ss ≡ 0 → ⊥) → HasProgramLength is
+kept_length ss labels [] k z = absurd (z (statements_size ss [] k.same))
+kept_length ss labels (i ∷ is) k z = record { some = omega arith; most = k.most }
+
+pub kept_labels : (ss : List Statement) (labels : List declared_label.Label) (is : List Item) → IsKept ss labels is [] → map label_of labels ≡ labels_from 0 is
+kept_labels ss labels is k = k.set ∙ append-nil (labels_from 0 is)
+
+-- What the reader of items stands at: so many tokens were taken, which are items and then labels that wait for theirs.
+pub record Front (ts : List Lexeme) (is : List Item) (ls : List Lexeme) (from n : ℕ) : Type 0 where
+  pub greedy : Greedy ts is (drop from ts)
+  pub rest : drop from ts ≡ ls ++ drop n ts
+  pub labels : AreLabels ls
+
+pub record IsState (text : List ℕ) (a : Ahead) (o : Option ℕ) (ss : List Statement) (labels : List declared_label.Label) (waits : Bool) : Type 0 where
+  pub from : ℕ
+  pub is : List Item
+  pub ls : List Lexeme
+  pub reading : IsReading (from + length ls) a
+  pub half : ℕ
+  pub even : length ls ≡ half + half
+  pub none : waits ≡ false → ls ≡ []
+  pub some : waits ≡ true → 0 < length ls
+  pub draft : IsDraft o ss labels is ls
+  pub front : (ts : List Lexeme) → AreLexemes text ts → Front ts is ls from (from + length ls)
+
+-- two more tokens, of which the first is one more label
+pub words_on : (ls : List Lexeme) (m : ℕ) (x y : Lexeme) → length ls ≡ m + m → label_words (ls ++ (x ∷ y ∷ [])) ≡ label_words ls ++ (x ∷ [])
+words_on [] m x y e = refl
+words_on (t ∷ []) zero x y e = absurd (omega (arith, e))
+words_on (t ∷ []) (suc m) x y e = absurd (omega (arith, e))
+words_on (t ∷ u ∷ ls) zero x y e = absurd (omega (arith, e))
+words_on (t ∷ u ∷ ls) (suc m) x y e = ap (λ us. t ∷ us) (words_on ls m x y (omega (arith, e)))
+
+two_of : (window : List declared_lexeme.Lexeme) (d e : declared_lexeme.Lexeme) → 2 ≤ length window → map lexeme_of (take 2 window) ≡ lexeme_of (get_or window 0 d) ∷ lexeme_of (get_or window 1 e) ∷ []
+two_of [] d e l = absurd (omega (arith, l))
+two_of (t ∷ []) d e l = absurd (omega (arith, l))
+two_of (t ∷ u ∷ window) d e l = refl
+
+two_labels : (t u : Lexeme) (ts : List Lexeme) → starts_with_label (t ∷ u ∷ ts) ≡ true → AreLabels (t ∷ u ∷ [])
+two_labels t u ts h = let p = and_parts (fits name t.symbol) (fits (the_mark 58) u.symbol) h in (p.0, p.1, tt)
+
+drop_front : (xs ys : List Lexeme) (ts : List Lexeme) (n m : ℕ) → drop n ts ≡ xs ++ ys → length xs ≡ m → drop (n + m) ts ≡ ys
+drop_front xs ys ts n m e l = sym (drop-drop m n ts) ∙ (ap (λ us. drop m us) e ∙ drop_at xs ys m l)
+
+pub label_state : (text : List ℕ) (a b : Ahead) (o p : Option ℕ) (ss tt : List Statement) (labels more : List declared_label.Label) (waits : Bool) (d : declared_lexeme.Lexeme) → (s : IsState text a o ss labels waits) → a.text ≡ text
+    → ((ts : List Lexeme) → AreLexemes text ts → starts_with_label (drop (s.from + length s.ls) ts) ≡ true) → 2 ≤ length a.tokens
+    → ((m : ℕ) → IsReading m a → IsReading (m + 2) b)
+    → ((is : List Item) (ls : List Lexeme) (colon : Lexeme) → IsDraft o ss labels is ls → label_words (ls ++ (lexeme_of (get_or a.tokens 0 d) ∷ colon ∷ [])) ≡ label_words ls ++ (lexeme_of (get_or a.tokens 0 d) ∷ []) → IsDraft p tt more is (ls ++ (lexeme_of (get_or a.tokens 0 d) ∷ colon ∷ [])))
+    → IsState text b p tt more true
+label_state text a b o p ss ss' labels more waits d s same is_label two taken kept =
+    let x = lexeme_of (get_or a.tokens 0 d) in
+    let y = lexeme_of (get_or a.tokens 1 d) in
+    let n = s.from + length s.ls in
+    let size : length (s.ls ++ (lexeme_of (get_or a.tokens 0 d) ∷ lexeme_of (get_or a.tokens 1 d) ∷ [])) ≡ length s.ls + 2 = length-append s.ls (lexeme_of (get_or a.tokens 0 d) ∷ lexeme_of (get_or a.tokens 1 d) ∷ []) in
+    let count : s.from + length s.ls + 2 ≡ s.from + length (s.ls ++ (lexeme_of (get_or a.tokens 0 d) ∷ lexeme_of (get_or a.tokens 1 d) ∷ [])) = omega (arith, size) in
+    record {
+      from = s.from;
+      is = s.is;
+      ls = s.ls ++ (x ∷ y ∷ []);
+      reading = subst (λ k. IsReading k b) count (taken (s.from + length s.ls) s.reading);
+      half = suc s.half;
+      even = omega (arith, size, s.even);
+      none = λ e. let k : true ≡ false = e in cc;
+      some = λ e. omega (arith, size);
+      draft = kept s.is s.ls y s.draft (words_on s.ls s.half x y s.even);
+      front = λ ts t.
+          let f = s.front ts t in
+          let part = taken_is a.text a.to n 2 a.tokens ts s.reading.read (subst (λ u. AreLexemes u ts) (sym same) t) two in
+          let begins : drop (s.from + length s.ls) ts ≡ (x ∷ y ∷ []) ++ part.0 = part.1 ∙ ap (λ us. us ++ part.0) (two_of a.tokens d d two) in
+          let behind : drop (s.from + length s.ls + 2) ts ≡ part.0 = drop_front (x ∷ y ∷ []) part.0 ts (s.from + length s.ls) 2 begins refl in
+          record {
+            greedy = f.greedy;
+            rest = f.rest ∙ (ap (λ us. s.ls ++ us) begins ∙ (sym (append_assoc s.ls (x ∷ y ∷ []) part.0) ∙ ap (λ us. (s.ls ++ (x ∷ y ∷ [])) ++ us) (sym behind ∙ ap (λ k. drop k ts) count)));
+            labels = labels_append s.ls (x ∷ y ∷ []) f.labels (two_labels x y part.0 (subst (λ us. starts_with_label us ≡ true) begins (is_label ts t)));
+          };
+    }
+
+pub item_state : (text : List ℕ) (a b : Ahead) (o p : Option ℕ) (ss tt : List Statement) (labels more : List declared_label.Label) (waits : Bool) (row : declared_row.Row) (m : ℕ) → (s : IsState text a o ss labels waits) → a.text ≡ text → m ≡ 1 + length row.operand.now
+    → ((ts : List Lexeme) → AreLexemes text ts → IsInstruction (drop (s.from + length s.ls) ts) (Ok row)) → m ≤ length a.tokens
+    → ((k : ℕ) → IsReading k a → IsReading (k + m) b)
+    → ((is : List Item) (ls : List Lexeme) → IsDraft o ss labels is ls → IsDraft p tt more (is ++ (record { labels = label_words ls; row = row_of row; body = map lexeme_of (take m a.tokens) } ∷ [])) [])
+    → IsState text b p tt more false
+item_state text a b o p ss ss' labels more waits row m s same size next within taken kept =
+    let item : Item = record { labels = label_words s.ls; row = row_of row; body = map lexeme_of (take m a.tokens) } in
+    let n = s.from + length s.ls in
+    let zero_more : s.from + length s.ls + m ≡ s.from + length s.ls + m + 0 = omega arith in
+    record {
+      from = s.from + length s.ls + m;
+      is = s.is ++ (item ∷ []);
+      ls = [];
+      reading = subst (λ k. IsReading k b) zero_more (taken (s.from + length s.ls) s.reading);
+      half = 0;
+      even = refl;
+      none = λ e. refl;
+      some = λ e. let k : false ≡ true = e in cc;
+      draft = kept s.is s.ls s.draft;
+      front = λ ts t.
+          let f = s.front ts t in
+          let part = taken_is a.text a.to n m a.tokens ts s.reading.read (subst (λ u. AreLexemes u ts) (sym same) t) within in
+          let count : suc (length row.operand.now) ≡ m = omega (arith, size) in
+          let long : length (map lexeme_of (take m a.tokens)) ≡ m = length-map (take m a.tokens) lexeme_of ∙ length-take-le m a.tokens within in
+          let body : take m (drop (s.from + length s.ls) ts) ≡ map lexeme_of (take m a.tokens) = ap (λ us. take m us) part.1 ∙ (ap (λ k. take k (map lexeme_of (take m a.tokens) ++ part.0)) (sym long) ∙ take-append_seam (map lexeme_of (take m a.tokens)) part.0) in
+          let one : IsNextItem (drop (s.from + length s.ls) ts) m (record { labels = []; row = row_of row; body = map lexeme_of (take m a.tokens) }) =
+          subst (λ (us : List Lexeme). IsNextItem (drop (s.from + length s.ls) ts) m (record { labels = []; row = row_of row; body = us })) body
+          (subst (λ k. IsNextItem (drop (s.from + length s.ls) ts) k (record { labels = []; row = row_of row; body = take k (drop (s.from + length s.ls) ts) })) count (next ts t)) in
+          let all : IsNextItem (drop s.from ts) (length s.ls + m) item =
+          subst (λ (us : List Lexeme). IsNextItem us (length s.ls + m) item) (sym f.rest)
+          (subst (λ (ws : List Lexeme). IsNextItem (s.ls ++ drop (s.from + length s.ls) ts) (length s.ls + m) (record { labels = ws; row = row_of row; body = map lexeme_of (take m a.tokens) })) (append-nil (label_words s.ls))
+          (labels_item s.ls (drop (s.from + length s.ls) ts) m (record { labels = []; row = row_of row; body = map lexeme_of (take m a.tokens) }) f.labels one)) in
+          let end : s.from + (length s.ls + m) ≡ s.from + length s.ls + m = omega arith in
+          record {
+            greedy = subst (λ k. Greedy ts (s.is ++ (item ∷ [])) (drop k ts)) end (greedy_more ts s.is s.from (length s.ls + m) item f.greedy all);
+            rest = ap (λ k. drop k ts) zero_more;
+            labels = tt;
+          };
+    }
+
+-- where the tokens do not go on
+pub state_stuck : (text : List ℕ) (a : Ahead) (o : Option ℕ) (ss : List Statement) (labels : List declared_label.Label) (waits : Bool) (k : ℕ) (ts : List Lexeme) → (s : IsState text a o ss labels waits) → AreLexemes text ts → s.from < length ts → Stuck k (drop (s.from + length s.ls) ts) → IsStuckAt ts (s.from + length s.ls + k)
+state_stuck text a o ss labels waits k ts s t l stuck =
+    let f = s.front ts t in
+    let e : s.from + (length s.ls + k) ≡ s.from + length s.ls + k = omega arith in
+    subst (λ j. IsStuckAt ts j) e (stuck_at ts s.is s.from (length s.ls + k) l f.greedy (subst (λ us. Stuck (length s.ls + k) us) (sym f.rest) (labels_stuck s.ls (drop (s.from + length s.ls) ts) k f.labels stuck)))
+
+pub state_init : (text : List ℕ) (a : Ahead) (ss : List Statement) (labels : List declared_label.Label) → IsReading 0 a → ss ≡ [] → labels ≡ [] → IsState text a None ss labels false
+state_init text a ss labels r e h = record {
+  from = 0;
+  is = [];
+  ls = [];
+  reading = r;
+  half = 0;
+  even = refl;
+  none = λ z. refl;
+  some = λ z. let k : false ≡ true = z in cc;
+  draft = subst (λ us. IsKept us labels [] []) (sym e) (subst (λ us. IsKept [] us [] []) (sym h) (record { same = tt; set = refl; most = omega arith }));
+  front = λ ts t. record { greedy = refl; rest = refl; labels = tt };
+}
+
+pub state_step : (text : List ℕ) (a b : Ahead) (o : Option ℕ) (ss : List Statement) (labels : List declared_label.Label) (waits : Bool) → IsState text a o ss labels waits → ((n : ℕ) → IsReading n a → IsReading n b) → IsState text b o ss labels waits
+state_step text a b o ss labels waits s on = record { from = s.from; is = s.is; ls = s.ls; reading = on (s.from + length s.ls) s.reading; half = s.half; even = s.even; none = s.none; some = s.some; draft = s.draft; front = s.front }
+
+-- there are tokens behind the items
+pub state_inside : (text : List ℕ) (a : Ahead) (o : Option ℕ) (ss : List Statement) (labels : List declared_label.Label) (waits : Bool) (ts : List Lexeme) → (s : IsState text a o ss labels waits) → a.text ≡ text → AreLexemes text ts → 0 < length s.ls + length a.tokens → s.from < length ts
+state_inside text a o ss labels waits ts s same t l =
+    let all = ahead_is a.text a.to (s.from + length s.ls) (map lexeme_of a.tokens) ts s.reading.read (subst (λ u. AreLexemes u ts) (sym same) t) in
+    omega (arith, l, all.3, length-map a.tokens lexeme_of, length-drop (s.from + length s.ls) ts, ap length all.1, length-append (map lexeme_of a.tokens) all.0)
+
+-- the end of a text whose tokens are items
+pub state_items : (text : List ℕ) (a : Ahead) (o : Option ℕ) (ss : List Statement) (labels : List declared_label.Label) (ts : List Lexeme) → (s : IsState text a o ss labels false) → AreLexemes text ts → drop (s.from + length s.ls) ts ≡ [] → Items ts s.is × (length ts ≤ s.from + length s.ls) × IsDraft o ss labels s.is []
+state_items text a o ss labels ts s t e =
+    let f = s.front ts t in
+    let no = s.none refl in
+    let past : length ts ≤ s.from + length s.ls = omega (arith, length-drop (s.from + length s.ls) ts, ap length e) in
+    let size : length s.ls ≡ 0 = ap length no in
+    (greedy_all ts s.is s.from (omega (arith, past, size)) f.greedy, past, subst (λ us. IsDraft o ss labels s.is us) no s.draft)
+
+-- all lexemes of a text that was read to its end
+pub state_lexemes : (text : List ℕ) (a : Ahead) (o : Option ℕ) (ss : List Statement) (labels : List declared_label.Label) (waits : Bool) → (s : IsState text a o ss labels waits) → a.text ≡ text → a.ended ≡ true → (ts : List Lexeme) × AreLexemes text ts
+state_lexemes text a o ss labels waits s same e =
+    let r = s.reading in
+    let end : a.to ≡ length text = r.end e ∙ ap length same in
+    (lexemes_of text r.read.tokens, record { tokens = r.read.tokens; lexed = subst (λ k. LexesTo text k r.read.tokens) end (subst (λ u. LexesTo u a.to r.read.tokens) same r.read.lexed); are = refl })

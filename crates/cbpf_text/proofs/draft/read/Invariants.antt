@@ -1,0 +1,14 @@
+use Rattle.std.proofs.Common.{◌≡◌, ◌≤◌, length}
+use Rattle.cbpf_grammar.specs.Reading.{left}
+use Rattle.cbpf_text.proofs.Reading.{IsState}
+use Rattle.cbpf_text.proofs.draft.read.Given as goal
+
+abbrev pub invariant-loop-next : goal.invariant-loop-next
+invariant-loop-next g l = record {
+  text : l.reader.text ≡ l.text;
+  size : length l.draft.statements.items ≤ 4096;
+  state : IsState l.text l.reader l.draft.excess l.draft.statements.items l.draft.labels.items l.waits;
+}
+
+abbrev pub decreases-loop-next : goal.decreases-loop-next
+decreases-loop-next g l = left l.reader
