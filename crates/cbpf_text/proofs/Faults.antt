@@ -1,35 +1,24 @@
 -- From the refusal of a part to the refusal of the whole.
-use Rattle.std.proofs.Common.{◌≡◌, refl, sym, ◌∙◌, ap, subst, ℕ, ◌-◌, ◌<◌, ◌≤◌, true, false, List, [], ◌∷◌, length, map, get_or, arith}
-use Rattle.std.specs.Prelude.{slice_get, All, ◌==◌}
-use Rattle.std.proofs.lemmas.List.{length-map}
+use Rattle.std.proofs.Common.{◌≡◌, refl, sym, ◌∙◌, ap, subst, ℕ, true, false, List}
+use Rattle.std.specs.Prelude.{◌==◌}
 use Rattle.cbpf_lex.specs.declared.token.Token.{Token}
 use Rattle.cbpf_lex.specs.Tokens.{Lexes}
-use Rattle.cbpf_grammar.specs.declared.lexeme.Lexeme as declared_lexeme
 use Rattle.cbpf_grammar.specs.Refusals.{ParseFault as parse}
 use Rattle.cbpf_grammar.specs.Lexemes.{Lexeme, lexemes_of}
 use Rattle.cbpf_grammar.specs.Items.{Item, Items}
-use Rattle.cbpf_grammar.specs.Views.{lexeme_of}
-use Rattle.cbpf_grammar.specs.Refusals.{IsFirstRefusal, IsUnfinished, IsAccepted}
-use Rattle.cbpf_grammar.proofs.Refused.{large_within}
+use Rattle.cbpf_grammar.specs.Refusals.{IsAccepted}
 use Rattle.cbpf_code.specs.declared.insn.Insn.{Insn}
-use Rattle.cbpf_text.specs.declared.fault.AsmKind.TheVariants as kinds
 use Rattle.cbpf_text.specs.declared.fault.AsmFault.{AsmFault}
 use Rattle.cbpf_text.specs.declared.refusal.Refusal.{Refusal}
 use Rattle.cbpf_text.specs.declared.refusal.Refusal.TheVariants as refusals
 use Rattle.cbpf_text.specs.Labels.{set_labels, AreDistinct}
-use Rattle.cbpf_text.specs.Operands.{HasForm}
 use Rattle.cbpf_text.specs.Assembled.{HasProgramLength, AreEncoded, AssembleTokens, Assembles}
-use Rattle.cbpf_text.specs.Refusals.{Told, IsLabelFault, IsItemsFault, IsFirstBadUse, uses_from, IsTokensFault, IsRefused, IsLexRefused, IsToldAt}
-use Rattle.cbpf_text.specs.Refusals.IsItemsFault.{no_item, too_many, set_twice, bad_use}
-use Rattle.cbpf_text.specs.Refusals.IsTokensFault.{misplaced, large_negative, unfinished, of_items}
+use Rattle.cbpf_text.specs.Refusals.{Told, IsItemsFault, IsFirstBadUse, uses_from, IsTokensFault, IsRefused, IsLexRefused, IsToldAt}
+use Rattle.cbpf_text.specs.Refusals.IsItemsFault.{bad_use}
+use Rattle.cbpf_text.specs.Refusals.IsTokensFault.{of_items}
 use Rattle.cbpf_text.specs.Refusals.IsRefused.{memory as whole_memory, piece as whole_piece, token as whole_token}
 use Rattle.cbpf_text.specs.Refusals.IsLexRefused.{memory, piece}
-use Rattle.cbpf_text.proofs.Lists.{get_mapped, map_at}
-use Rattle.cbpf_text.proofs.Forms.{form_some}
 use Rattle.cbpf_text.proofs.Uses.{told_more}
-
-pub labels_told : (is : List Item) (r : Refusal) → HasProgramLength is → Told (IsLabelFault (set_labels is)) r → Told (IsItemsFault is) r
-labels_told is r n h = told_more (IsLabelFault (set_labels is)) (IsItemsFault is) r (λ kind at p. subst (λ a. IsItemsFault is kind a) (sym p.2) (subst (λ k. IsItemsFault is k p.0.at) (sym p.1) (set_twice p.0 n p.3))) h
 
 pub uses_told : (is : List Item) (r : Refusal) → HasProgramLength is → AreDistinct (set_labels is) → Told (IsFirstBadUse is (uses_from 0 is)) r → Told (IsItemsFault is) r
 uses_told is r n d h = told_more (IsFirstBadUse is (uses_from 0 is)) (IsItemsFault is) r (λ kind at p. bad_use kind at n d p) h

@@ -1,15 +1,13 @@
 -- Labels in a list, how often each is set, and where.
-use Rattle.std.proofs.Common.{◌≡◌, ◌≢◌, refl, sym, ◌∙◌, ap, subst, cond, ℕ, suc, ◌+◌, ◌<◌, Bool, true, false, List, [], ◌∷◌, ◌++◌, length, map, get_or, Option, Some, None, arith}
+use Rattle.std.proofs.Common.{◌≡◌, ◌≢◌, refl, sym, ◌∙◌, ap, subst, cond, ℕ, suc, ◌+◌, ◌<◌, Bool, true, false, List, [], ◌∷◌, ◌++◌, length, get_or, Option, Some, None, arith}
 use Rattle.std.specs.Prelude.{bytes_eq}
 use Rattle.std.proofs.lemmas.List.Elements.{All-append}
 use Rattle.std.proofs.lemmas.List.Sums.{sum_by-append}
 use Rattle.cbpf_grammar.specs.Lexemes.{Lexeme}
 use Rattle.cbpf_text.specs.Labels.{name_of, times_among, AreDistinct}
+use Rattle.cbpf_text.specs.Drafts.{words}
 use Rattle.cbpf_text.specs.Tables.{Label, place_among}
 use Rattle.cbpf_text.proofs.Lists.{same_bytes_now, bytes_eq_self, all_one}
-
-abbrev pub words : List Label → List Lexeme
-words ls = map (λ (l : Label). l.word) ls
 
 pub times_append : (xs ys : List Lexeme) (name : List ℕ) → times_among (xs ++ ys) name ≡ times_among xs name + times_among ys name
 times_append xs ys name = sum_by-append (λ t. cond (bytes_eq (name_of t) name) 1 0) xs ys
@@ -85,7 +83,7 @@ some_place (l ∷ ls) name p e = by_test (bytes_eq (name_of l.word) name) refl e
     by_test true q r again z = absurd (omega (arith, times_cons l.word (words ls) name, times_hit l.word name q, z))
     by_test false q r again z = again r (omega (arith, times_cons l.word (words ls) name, z))
 
--- a new name behind the labels
+-- a new name after the labels
 pub place_more : (ls : List Label) (l : Label) (name : List ℕ) → place_among ls (name_of l.word) ≡ None → cond (bytes_eq (name_of l.word) name) (Some l.place) (place_among ls name) ≡ place_among (ls ++ (l ∷ [])) name
 place_more ls l name new = by_test (bytes_eq (name_of l.word) name) refl ∙ sym (place_append ls (l ∷ []) name)
   where

@@ -1,19 +1,13 @@
--- The assembler's own labels, one more at a time.
-use Rattle.std.proofs.Common.{◌≡◌, ◌≢◌, refl, sym, ◌∙◌, ap, ℕ, zero, suc, ◌+◌, ◌<◌, ◌≤◌, true, false, cond, subst, List, [], ◌∷◌, ◌++◌, length, map, take, drop, get_or, Option, Some, None, arith, append-nil}
+-- The labels of items, one more at a time.
+use Rattle.std.proofs.Common.{◌≡◌, ◌≢◌, refl, sym, ◌∙◌, ap, ℕ, ◌+◌, true, false, cond, subst, List, [], ◌∷◌, ◌++◌, Option, Some, None, Bor, append_assoc}
 use Rattle.std.specs.Prelude.{is_some, bytes_eq}
-use Rattle.std.proofs.Math.Numerals.{add-one}
-use Rattle.std.proofs.lemmas.List.{map-append, append_assoc, take_more}
-use Rattle.cbpf_grammar.specs.declared.lexeme.Lexeme as declared_lexeme
+use Rattle.std.proofs.lemmas.List.{map-append}
 use Rattle.cbpf_grammar.specs.Lexemes.{Lexeme}
 use Rattle.cbpf_grammar.specs.Items.{Item}
-use Rattle.cbpf_grammar.specs.Views.{lexeme_of}
-use Rattle.cbpf_text.specs.declared.labels.Label as declared_label
 use Rattle.cbpf_text.specs.Labels.{name_of, set_labels, times_among, AreDistinct}
-use Rattle.cbpf_text.specs.declared.fault.AsmKind.TheVariants as kinds
-use Rattle.cbpf_text.specs.Refusals.{IsLabelFault}
-use Rattle.cbpf_text.specs.Tables.{Label, label_of, labels_of, labels_from, place_among}
-use Rattle.cbpf_text.proofs.LabelLists.{words, distinct_more, some_place, no_place, place_more}
-use Rattle.cbpf_text.proofs.Lists.{split_at}
+use Rattle.cbpf_text.specs.Tables.{Label, labels_of, labels_from, place_among}
+use Rattle.cbpf_text.specs.Drafts.{words, AreSet}
+use Rattle.cbpf_text.proofs.LabelLists.{distinct_more, some_place, no_place, place_more}
 
 words_of : (place : ℕ) (ts : List Lexeme) → words (labels_of place ts) ≡ ts
 words_of place [] = refl
@@ -24,14 +18,6 @@ pub words_from : (k : ℕ) (is : List Item) → words (labels_from k is) ≡ set
 words_from k [] = refl
 words_from k (i ∷ is) = map-append (λ (l : Label). l.word) (labels_of k i.labels) (labels_from (k + 1) is) ∙ (λ j. words_of k i.labels j ++ words_from (k + 1) is j)
 
-abbrev pub word_of : declared_label.Label → Lexeme
-word_of l = lexeme_of l.word
-
--- the assembler's own labels by their words
-pub words_map : (ls : List declared_label.Label) → words (map label_of ls) ≡ map word_of ls
-words_map [] = refl
-words_map (l ∷ ls) = ap (λ ws. word_of l ∷ ws) (words_map ls)
-
 is_some_false : (o : Option ℕ) → false ≡ is_some o → o ≡ None
 is_some_false None e = refl
 is_some_false (Some x) e = let k : false ≡ true = e in cc
@@ -40,33 +26,46 @@ is_some_true : (o : Option ℕ) → true ≡ is_some o → (x : ℕ) × (o ≡ S
 is_some_true None e = let k : true ≡ false = e in cc
 is_some_true (Some x) e = (x, refl)
 
--- a label whose name is in the table, and one whose name is new
-pub repeat_told : (ls : List declared_label.Label) (i : ℕ) (d : declared_label.Label) (name : List ℕ) → i < length ls → name ≡ name_of (word_of (get_or ls i d)) → AreDistinct (map word_of (take i ls))
-    → (o : Option ℕ) → o ≡ place_among (map label_of (take i ls)) name → true ≡ is_some o → IsLabelFault (map word_of ls) kinds.LabelSetTwice (get_or ls i d).word.at
-repeat_told ls i d name l e h o f s = let x = is_some_true o s in (
-  word_of (get_or ls i d),
-  refl,
-  refl,
+words_more : (ls : List Label) (l : Label) → words (ls ++ (l ∷ [])) ≡ words ls ++ (l.word ∷ [])
+words_more ls l = map-append (λ (k : Label). k.word) ls (l ∷ [])
+
+-- a label after the first that is set a second time
+pub set_past : (ls : List Label) (l : Label) (rep : Option ℕ) (look : Bor (List ℕ) → Option ℕ) → true ≡ is_some rep → AreSet ls rep look → AreSet (ls ++ (l ∷ [])) rep look
+set_past ls l None look e s = let k : true ≡ false = e in cc
+set_past ls l (Some at) look e s = (
+  s.0,
+  s.1,
   record {
-    before = map word_of (take i ls);
-    behind = map word_of (drop (suc i) ls);
-    split = ap (map word_of) (split_at ls i d l) ∙ map-append word_of (take i ls) (get_or ls i d ∷ drop (suc i) ls);
-    distinct = h;
-    given = subst (λ n. times_among (map word_of (take i ls)) n ≢ 0) e (subst (λ ws. times_among ws name ≢ 0) (words_map (take i ls)) (some_place (map label_of (take i ls)) name x.0 (sym f ∙ x.1)));
+    before = s.2.before;
+    behind = s.2.behind ++ (l.word ∷ []);
+    split = words_more ls l ∙ (ap (λ us. us ++ (l.word ∷ [])) s.2.split ∙ append_assoc s.2.before (s.0 ∷ s.2.behind) (l.word ∷ []));
+    distinct = s.2.distinct;
+    given = s.2.given;
   },
 )
 
-pub distinct_grows : (ls : List declared_label.Label) (i : ℕ) (d : declared_label.Label) (name : List ℕ) → i < length ls → name ≡ name_of (word_of (get_or ls i d)) → AreDistinct (map word_of (take i ls))
-    → (o : Option ℕ) → o ≡ place_among (map label_of (take i ls)) name → false ≡ is_some o → AreDistinct (map word_of (take (i + 1) ls))
-distinct_grows ls i d name l e h o f s =
-    let z : times_among (map word_of (take i ls)) name ≡ 0 = ap (λ ws. times_among ws name) (sym (words_map (take i ls))) ∙ no_place (map label_of (take i ls)) name (sym f ∙ is_some_false o s) in
-    subst AreDistinct (sym (ap (map word_of) (take_more ls i d l) ∙ map-append word_of (take i ls) (get_or ls i d ∷ [])))
-    (distinct_more (map word_of (take i ls)) (word_of (get_or ls i d)) h (ap (times_among (map word_of (take i ls))) (sym e) ∙ z))
+-- the first label that is set a second time
+pub set_again : (ls : List Label) (l : Label) (rep : Option ℕ) (look look2 : Bor (List ℕ) → Option ℕ) (k : Bor (List ℕ)) → false ≡ is_some rep → AreSet ls rep look → k.now ≡ name_of l.word → true ≡ is_some (look k) → AreSet (ls ++ (l ∷ [])) (Some l.word.at) look2
+set_again ls l (Some at) look look2 k e s n h = let q : false ≡ true = e in cc
+set_again ls l None look look2 k e s n h =
+    let x = is_some_true (look k) h in (
+      l.word,
+      refl,
+      record {
+        before = words ls;
+        behind = [];
+        split = words_more ls l;
+        distinct = s.1;
+        given = subst (λ w. times_among (words ls) w ≢ 0) n (some_place ls k.now x.0 (sym (s.0 k) ∙ x.1));
+      },
+    )
 
-pub table_grows : (ls : List declared_label.Label) (i : ℕ) (d : declared_label.Label) (name : List ℕ) → i < length ls → name ≡ name_of (word_of (get_or ls i d))
-    → (o : Option ℕ) → o ≡ place_among (map label_of (take i ls)) name → false ≡ is_some o → (k : List ℕ) → cond (bytes_eq name k) (Some (get_or ls i d).place) (place_among (map label_of (take i ls)) k) ≡ place_among (map label_of (take (i + 1) ls)) k
-table_grows ls i d name l e o f s k =
-    let n : place_among (map label_of (take i ls)) (name_of (word_of (get_or ls i d))) ≡ None = ap (place_among (map label_of (take i ls))) (sym e) ∙ (sym f ∙ is_some_false o s) in
-    ap (λ v. cond (bytes_eq v k) (Some (get_or ls i d).place) (place_among (map label_of (take i ls)) k)) e
-    ∙ (place_more (map label_of (take i ls)) (label_of (get_or ls i d)) k n
-    ∙ ap (λ ms. place_among ms k) (sym (ap (map label_of) (take_more ls i d l) ∙ map-append label_of (take i ls) (get_or ls i d ∷ []))))
+-- a label of a new name
+pub set_new : (ls : List Label) (l : Label) (rep : Option ℕ) (look look2 : Bor (List ℕ) → Option ℕ) (k : Bor (List ℕ)) → false ≡ is_some rep → AreSet ls rep look → k.now ≡ name_of l.word → false ≡ is_some (look k)
+    → ((j : Bor (List ℕ)) → look2 j ≡ cond (bytes_eq k.now j.now) (Some l.place) (look j)) → AreSet (ls ++ (l ∷ [])) rep look2
+set_new ls l (Some at) look look2 k e s n h up = let q : false ≡ true = e in cc
+set_new ls l None look look2 k e s n h up =
+    let new : place_among ls (name_of l.word) ≡ None = ap (place_among ls) (sym n) ∙ (sym (s.0 k) ∙ is_some_false (look k) h) in (
+      λ j. up j ∙ (ap (λ o. cond (bytes_eq k.now j.now) (Some l.place) o) (s.0 j) ∙ (ap (λ w. cond (bytes_eq w j.now) (Some l.place) (place_among ls j.now)) n ∙ place_more ls l j.now new)),
+      subst AreDistinct (sym (words_more ls l)) (distinct_more (words ls) l.word s.1 (no_place ls (name_of l.word) new)),
+    )

@@ -1,17 +1,13 @@
 -- What a look-up of a name in the label table says of the items.
-use Rattle.std.proofs.Common.{◌≡◌, ◌≢◌, refl, sym, ◌∙◌, ap, subst, cond, ℕ, zero, suc, ◌+◌, ◌<◌, Bool, true, false, List, [], ◌∷◌, map, Option, Some, None, arith, Bor}
-use Rattle.std.specs.Prelude.{Result, Ok, Err, IfOk, IfErr}
-use Rattle.cbpf_text.specs.declared.labels.Label as declared_label
-use Rattle.cbpf_text.specs.declared.refusal.Refusal.{Refusal}
-use Rattle.cbpf_text.specs.Refusals.{Told, IsLabelFault}
+use Rattle.std.proofs.Common.{◌≡◌, ◌≢◌, refl, sym, ◌∙◌, ap, subst, cond, ℕ, zero, suc, ◌+◌, ◌<◌, Bool, true, false, List, [], ◌∷◌, Option, Some, None, arith}
 use Rattle.std.specs.Prelude.{bytes_eq}
 use Rattle.cbpf_grammar.specs.Lexemes.{Lexeme}
 use Rattle.cbpf_grammar.specs.Items.{Item}
 use Rattle.cbpf_text.specs.Labels.{name_of, set_labels, times_among, times_set, AreDistinct, SetsAt}
-use Rattle.cbpf_text.specs.Tables.{labels_of, labels_from, place_among, label_of, IsLookup, Resolves}
+use Rattle.cbpf_text.specs.Tables.{labels_of, labels_from, place_among, IsLookup}
 use Rattle.cbpf_text.proofs.Lists.{same_some}
-use Rattle.cbpf_text.proofs.LabelLists.{words, times_append, times_cons, times_hit, distinct_once, or_else, place_append, no_place}
-use Rattle.cbpf_text.proofs.LabelSteps.{words_from, words_map, word_of}
+use Rattle.cbpf_text.proofs.LabelLists.{times_append, times_cons, times_hit, distinct_once, or_else, place_append, no_place}
+use Rattle.cbpf_text.proofs.LabelSteps.{words_from}
 
 -- the items that set a name do so more than no times
 pub sets_some : (is : List Item) (p : ℕ) (name : List ℕ) → SetsAt is p name → 0 < times_set is name
@@ -61,23 +57,13 @@ somewhere index (i ∷ is) name p e = by_place (place_among (labels_of index i.l
     by_place None q r again = let h = again r in (suc h.0, omega (arith, h.1), h.2)
     by_place (Some x) q r again = let h = here index i.labels name x q in (0, omega (arith, h.0, same_some x p r), (i, refl, h.1))
 
--- where no label is set twice, a look-up tells how often a name is set, and where
-pub lookup_tells : (is : List Item) (name : List ℕ) (o : Option ℕ) → AreDistinct (set_labels is) → place_among (labels_from 0 is) name ≡ o → IsLookup is name o
+-- where no label is set twice, a look-up answers how often a name is set, and where
+pub lookup_found : (is : List Item) (name : List ℕ) (o : Option ℕ) → AreDistinct (set_labels is) → place_among (labels_from 0 is) name ≡ o → IsLookup is name o
 unfolding Somewhere
-lookup_tells is name None h e = ap (λ ts. times_among ts name) (sym (words_from 0 is)) ∙ no_place (labels_from 0 is) name e
-lookup_tells is name (Some p) h e =
+lookup_found is name None h e = ap (λ ts. times_among ts name) (sym (words_from 0 is)) ∙ no_place (labels_from 0 is) name e
+lookup_found is name (Some p) h e =
     let s = somewhere 0 is name p e in
     let q : s.0 ≡ p = omega (arith, s.1) in
     let at : SetsAt is p name = subst (λ n. SetsAt is n name) q s.2 in
     let some : 0 < times_set is name = sets_some is p name at in
     record { once = distinct_once (set_labels is) name h (λ z. omega (arith, some, z)); sets = at }
-
--- the table over the assembler's own labels resolves the items' labels
-pub labels_distinct : (is : List Item) (ls : List declared_label.Label) → map label_of ls ≡ labels_from 0 is → AreDistinct (map word_of ls) → AreDistinct (set_labels is)
-labels_distinct is ls e h = subst AreDistinct (sym (words_map ls) ∙ (ap words e ∙ words_from 0 is)) h
-
-pub labels_resolve : (is : List Item) (ls : List declared_label.Label) (lookup : Bor (List ℕ) → Option ℕ) → map label_of ls ≡ labels_from 0 is → ((k : Bor (List ℕ)) → lookup k ≡ place_among (map label_of ls) k.now) → AreDistinct (map word_of ls) → Resolves is lookup
-labels_resolve is ls lookup e t h k = lookup_tells is k.now (lookup k) (labels_distinct is ls e h) (sym (t k ∙ ap (λ ms. place_among ms k.now) e))
-
-pub labels_refused : (is : List Item) (ls : List declared_label.Label) → map label_of ls ≡ labels_from 0 is → (r : Refusal) → Told (IsLabelFault (map word_of ls)) r → Told (IsLabelFault (set_labels is)) r
-labels_refused is ls e r h = subst (λ ws. Told (IsLabelFault ws) r) (sym (words_map ls) ∙ (ap words e ∙ words_from 0 is)) h

@@ -1,5 +1,5 @@
--- What is told of a text whose items are read one by one, and what is kept of them.
-use Rattle.std.proofs.Common.{◌≡◌, refl, sym, ◌∙◌, ap, subst, ℕ, zero, suc, ◌+◌, ◌<◌, ◌≤◌, Bool, true, false, List, [], ◌∷◌, ◌++◌, length, map, take, drop, get_or, Option, Some, None, arith, append_assoc, append-nil, length-append, length-drop}
+-- The refusals of a text whose items are read one by one, and what is kept of them.
+use Rattle.std.proofs.Common.{◌≡◌, refl, sym, ◌∙◌, ap, subst, ℕ, zero, suc, ◌+◌, ◌<◌, ◌≤◌, Bool, true, false, List, [], ◌∷◌, ◌++◌, length, map, take, drop, get_or, Option, Some, None, arith, append_assoc, append-nil, length-append, length-drop, Bor}
 use Rattle.std.specs.Prelude.{slice_get, is_some}
 use Rattle.std.proofs.lemmas.List.{map-append, length-map, length-take-le, drop-drop, drop_at}
 use Rattle.cbpf_lex.specs.Tokens.{LexesTo}
@@ -27,24 +27,26 @@ use Rattle.cbpf_text.specs.declared.fault.AsmFault.{AsmFault}
 use Rattle.cbpf_text.specs.declared.refusal.Refusal.{Refusal}
 use Rattle.cbpf_text.specs.Refusals.{Told, IsTokensFault, IsRefused, IsToldAt}
 use Rattle.cbpf_text.specs.Refusals.IsTokensFault.{misplaced, large_negative, unfinished}
-use Rattle.cbpf_text.specs.declared.labels.Label as declared_label
-use Rattle.cbpf_text.specs.Tables.{label_of, labels_of, labels_from}
+use Rattle.cbpf_text.specs.Labels.{set_labels, AreDistinct}
+use Rattle.cbpf_text.specs.Tables.{Label, labels_of, labels_from, Resolves}
 use Rattle.cbpf_text.specs.declared.draft.Statement.{Statement}
-use Rattle.cbpf_text.specs.Drafts.{IsStatement, IsKept, IsExcess, IsDraft}
-use Rattle.cbpf_text.specs.Refusals.{IsItemsFault}
-use Rattle.cbpf_text.specs.Refusals.IsItemsFault.{no_item, too_many}
+use Rattle.cbpf_text.specs.Drafts.{IsStatement, AreSet, IsKept, IsExcess, IsDraft}
+use Rattle.cbpf_text.specs.Refusals.{IsItemsFault, IsFirstRepeat}
+use Rattle.cbpf_text.specs.Refusals.IsItemsFault.{no_item, too_many, set_twice}
 use Rattle.cbpf_text.specs.Assembled.{HasProgramLength}
 use Rattle.cbpf_text.proofs.Encoding.{statements_size, statements_more}
 use Rattle.cbpf_text.proofs.Faults.{refused_at}
+use Rattle.cbpf_text.proofs.LabelSteps.{words_from}
+use Rattle.cbpf_text.proofs.Lookups.{lookup_found}
 
-pub misplaced_told : (ts : List Lexeme) (at : ℕ) → IsRefusedFor ts (refused.Misplaced at) → IsTokensFault ts kinds.Misplaced at
-misplaced_told ts at h = subst (λ a. IsTokensFault ts kinds.Misplaced a) (sym h.2.2) (misplaced h.0 h.2.0 h.1 h.2.1)
+pub misplaced_reported : (ts : List Lexeme) (at : ℕ) → IsRefusedFor ts (refused.Misplaced at) → IsTokensFault ts kinds.Misplaced at
+misplaced_reported ts at h = subst (λ a. IsTokensFault ts kinds.Misplaced a) (sym h.2.2) (misplaced h.0 h.2.0 h.1 h.2.1)
 
-pub large_told : (ts : List Lexeme) (at : ℕ) → IsRefusedFor ts (refused.LargeNegative at) → IsTokensFault ts kinds.LargeNumber at
-large_told ts at h = subst (λ a. IsTokensFault ts kinds.LargeNumber a) (sym h.2.2) (large_negative h.0 h.2.0 h.1 h.2.1)
+pub large_reported : (ts : List Lexeme) (at : ℕ) → IsRefusedFor ts (refused.LargeNegative at) → IsTokensFault ts kinds.LargeNumber at
+large_reported ts at h = subst (λ a. IsTokensFault ts kinds.LargeNumber a) (sym h.2.2) (large_negative h.0 h.2.0 h.1 h.2.1)
 
-pub unfinished_told : (ts : List Lexeme) (at : ℕ) → IsRefusedFor ts (refused.Unfinished at) → IsTokensFault ts kinds.Unfinished at
-unfinished_told ts at h = subst (λ a. IsTokensFault ts kinds.Unfinished a) (sym h.1.2) (unfinished h.1.0 h.0 h.1.1)
+pub unfinished_reported : (ts : List Lexeme) (at : ℕ) → IsRefusedFor ts (refused.Unfinished at) → IsTokensFault ts kinds.Unfinished at
+unfinished_reported ts at h = subst (λ a. IsTokensFault ts kinds.Unfinished a) (sym h.1.2) (unfinished h.1.0 h.0 h.1.1)
 
 -- the refusal of the text's tokens is the text's
 pub whole_refused : (text : List ℕ) (ts : List Lexeme) (r : Refusal) (fault : AsmFault) → AreLexemes text ts → Told (IsTokensFault ts) r → IsToldAt text r fault → IsRefused text fault
@@ -75,66 +77,85 @@ get_last [] i = refl
 get_last (x ∷ is) i = get_last is i
 
 -- what is kept where nothing more is
-pub kept_skip : (o : Option ℕ) (ss : List Statement) (labels : List declared_label.Label) (is : List Item) (v w : List Lexeme) → true ≡ is_some o → IsDraft o ss labels is v → IsDraft o ss labels is w
-kept_skip None ss labels is v w e d = let k : true ≡ false = e in cc
-kept_skip (Some at) ss labels is v w e d = d
+pub kept_skip : (o : Option ℕ) (ss : List Statement) (rep : Option ℕ) (look : Bor (List ℕ) → Option ℕ) (is : List Item) (v w : List Lexeme) → true ≡ is_some o → IsDraft o ss rep look is v → IsDraft o ss rep look is w
+kept_skip None ss rep look is v w e d = let k : true ≡ false = e in cc
+kept_skip (Some at) ss rep look is v w e d = d
 
-pub kept_past : (o : Option ℕ) (ss : List Statement) (labels : List declared_label.Label) (is : List Item) (i : Item) (v w : List Lexeme) → true ≡ is_some o → IsDraft o ss labels is v → IsDraft o ss labels (is ++ (i ∷ [])) w
-kept_past None ss labels is i v w e d = let k : true ≡ false = e in cc
-kept_past (Some at) ss labels is i v w e d = record { item = d.item; mnemonic = d.mnemonic; found = get_front is (i ∷ []) 4096 d.item d.found; first = d.first; place = d.place }
+pub kept_past : (o : Option ℕ) (ss : List Statement) (rep : Option ℕ) (look : Bor (List ℕ) → Option ℕ) (is : List Item) (i : Item) (v w : List Lexeme) → true ≡ is_some o → IsDraft o ss rep look is v → IsDraft o ss rep look (is ++ (i ∷ [])) w
+kept_past None ss rep look is i v w e d = let k : true ≡ false = e in cc
+kept_past (Some at) ss rep look is i v w e d = record { item = d.item; mnemonic = d.mnemonic; found = get_front is (i ∷ []) 4096 d.item d.found; first = d.first; place = d.place }
 
 pub none_if : (o : Option ℕ) → false ≡ is_some o → o ≡ None
 none_if None e = refl
 none_if (Some x) e = let k : false ≡ true = e in cc
 
 -- one more label
-pub kept_label : (ss : List Statement) (labels : List declared_label.Label) (is : List Item) (ls ms : List Lexeme) (word : declared_lexeme.Lexeme) (place : ℕ) → IsKept ss labels is ls → place ≡ length ss → label_words ms ≡ label_words ls ++ (lexeme_of word ∷ []) → IsKept ss (labels ++ (record { word = word; place = place } ∷ [])) is ms
-kept_label ss labels is ls ms word place k e w =
+pub kept_label : (ss : List Statement) (rep rep2 : Option ℕ) (look look2 : Bor (List ℕ) → Option ℕ) (is : List Item) (ls ms : List Lexeme) (word : Lexeme) (place : ℕ) → IsKept ss rep look is ls → place ≡ length ss → label_words ms ≡ label_words ls ++ (word ∷ [])
+    → ((all : List Label) → AreSet all rep look → AreSet (all ++ (record { word = word; place = place } ∷ [])) rep2 look2) → IsKept ss rep2 look2 is ms
+kept_label ss rep rep2 look look2 is ls ms word place k e w more =
     let n : place ≡ length is = e ∙ statements_size ss is k.same in
+    let joined : (labels_from 0 is ++ labels_of (length is) (label_words ls)) ++ (record { word = word; place = place } ∷ []) ≡ labels_from 0 is ++ labels_of (length is) (label_words ms) =
+    append_assoc (labels_from 0 is) (labels_of (length is) (label_words ls)) (record { word = word; place = place } ∷ [])
+    ∙ ap (λ us. labels_from 0 is ++ us) (ap (λ q. labels_of (length is) (label_words ls) ++ labels_of q (word ∷ [])) n ∙ (sym (map-append (λ (t : Lexeme). record { word = t; place = length is }) (label_words ls) (word ∷ [])) ∙ ap (λ us. labels_of (length is) us) (sym w))) in
     record {
       same = k.same;
-      set = map-append label_of labels (record { word = word; place = place } ∷ []) ∙ (ap (λ us. us ++ (record { word = lexeme_of word; place = place } ∷ [])) k.set ∙ (append_assoc (labels_from 0 is) (labels_of (length is) (label_words ls)) (record { word = lexeme_of word; place = place } ∷ [])
-          ∙ ap (λ us. labels_from 0 is ++ us) (ap (λ q. labels_of (length is) (label_words ls) ++ labels_of q (lexeme_of word ∷ [])) n ∙ (sym (map-append (λ (t : Lexeme). record { word = t; place = length is }) (label_words ls) (lexeme_of word ∷ [])) ∙ ap (λ us. labels_of (length is) us) (sym w)))));
+      set = subst (λ (us : List Label). AreSet us rep2 look2) joined (more (labels_from 0 is ++ labels_of (length is) (label_words ls)) k.set);
       most = k.most;
     }
 
 -- one more item
-pub kept_item : (ss : List Statement) (labels : List declared_label.Label) (is : List Item) (ls : List Lexeme) (s : Statement) (i : Item) → IsKept ss labels is ls → IsStatement s i → i.labels ≡ label_words ls → length ss < 4096 → IsKept (ss ++ (s ∷ [])) labels (is ++ (i ∷ [])) []
-kept_item ss labels is ls s i k t e l =
+pub kept_item : (ss : List Statement) (rep : Option ℕ) (look : Bor (List ℕ) → Option ℕ) (is : List Item) (ls : List Lexeme) (s : Statement) (i : Item) → IsKept ss rep look is ls → IsStatement s i → i.labels ≡ label_words ls → length ss < 4096 → IsKept (ss ++ (s ∷ [])) rep look (is ++ (i ∷ [])) []
+kept_item ss rep look is ls s i k t e l =
     let z : 0 + length is ≡ length is = omega arith in
     record {
       same = statements_more ss is s i k.same t;
-      set = k.set ∙ (ap (λ us. labels_from 0 is ++ labels_of (length is) us) (sym e) ∙ (ap (λ q. labels_from 0 is ++ labels_of q i.labels) (sym z) ∙ (sym (labels_snoc 0 is i) ∙ sym (append-nil (labels_from 0 (is ++ (i ∷ [])))))));
+      set = subst (λ (us : List Label). AreSet us rep look) (ap (λ us. labels_from 0 is ++ labels_of (length is) us) (sym e) ∙ (ap (λ q. labels_from 0 is ++ labels_of q i.labels) (sym z) ∙ (sym (labels_snoc 0 is i) ∙ sym (append-nil (labels_from 0 (is ++ (i ∷ []))))))) k.set;
       most = omega (arith, l, statements_size ss is k.same, length-append is (i ∷ []));
     }
 
 -- the 4097th item
-pub kept_excess : (ss : List Statement) (labels : List declared_label.Label) (is : List Item) (ls : List Lexeme) (i : Item) (body : List declared_lexeme.Lexeme) (d : declared_lexeme.Lexeme) → IsKept ss labels is ls → length ss ≡ 4096 → i.body ≡ map lexeme_of body → 0 < length body → IsExcess (is ++ (i ∷ [])) (get_or body 0 d).at
-kept_excess ss labels is ls i [] d k e b l = absurd (omega (arith, l))
-kept_excess ss labels is ls i (t ∷ body) d k e b l =
+pub kept_excess : (ss : List Statement) (rep : Option ℕ) (look : Bor (List ℕ) → Option ℕ) (is : List Item) (ls : List Lexeme) (i : Item) (body : List declared_lexeme.Lexeme) (d : declared_lexeme.Lexeme) → IsKept ss rep look is ls → length ss ≡ 4096 → i.body ≡ map lexeme_of body → 0 < length body → IsExcess (is ++ (i ∷ [])) (get_or body 0 d).at
+kept_excess ss rep look is ls i [] d k e b l = absurd (omega (arith, l))
+kept_excess ss rep look is ls i (t ∷ body) d k e b l =
     let n : length is ≡ 4096 = sym (statements_size ss is k.same) ∙ e in
     record { item = i; mnemonic = lexeme_of t; found = ap (λ q. slice_get (is ++ (i ∷ [])) q) (sym n) ∙ get_last is i; first = ap (λ us. slice_get us 0) b; place = refl }
 
 -- what a draft says of its items
-pub draft_many : (o : Option ℕ) (at : ℕ) (ss : List Statement) (labels : List declared_label.Label) (is : List Item) (w : List Lexeme) → o ≡ Some at → IsDraft o ss labels is w → IsItemsFault is kinds.TooMany at
-draft_many o at ss labels is w e d =
-    let x : IsExcess is at = subst (λ p. IsDraft p ss labels is w) e d in
+pub draft_many : (o : Option ℕ) (at : ℕ) (ss : List Statement) (rep : Option ℕ) (look : Bor (List ℕ) → Option ℕ) (is : List Item) (w : List Lexeme) → o ≡ Some at → IsDraft o ss rep look is w → IsItemsFault is kinds.TooMany at
+draft_many o at ss rep look is w e d =
+    let x : IsExcess is at = subst (λ p. IsDraft p ss rep look is w) e d in
     subst (λ a. IsItemsFault is kinds.TooMany a) (sym x.place) (too_many x.item x.mnemonic x.found x.first)
 
-pub draft_kept : (o : Option ℕ) (ss : List Statement) (labels : List declared_label.Label) (is : List Item) (w : List Lexeme) → ((x : ℕ) → o ≡ Some x → ⊥) → IsDraft o ss labels is w → IsKept ss labels is w
-draft_kept None ss labels is w h d = d
-draft_kept (Some x) ss labels is w h d = absurd (h x refl)
+pub draft_kept : (o : Option ℕ) (ss : List Statement) (rep : Option ℕ) (look : Bor (List ℕ) → Option ℕ) (is : List Item) (w : List Lexeme) → ((x : ℕ) → o ≡ Some x → ⊥) → IsDraft o ss rep look is w → IsKept ss rep look is w
+draft_kept None ss rep look is w h d = d
+draft_kept (Some x) ss rep look is w h d = absurd (h x refl)
 
-pub kept_none : (ss : List Statement) (labels : List declared_label.Label) (is : List Item) → IsKept ss labels is [] → length ss ≡ 0 → IsItemsFault is kinds.NoInstruction 0
-kept_none ss labels [] k e = no_item refl
-kept_none ss labels (i ∷ is) k e = let n : length ss ≡ suc (length is) = statements_size ss (i ∷ is) k.same in absurd (omega (arith, e, n))
+pub kept_none : (ss : List Statement) (rep : Option ℕ) (look : Bor (List ℕ) → Option ℕ) (is : List Item) → IsKept ss rep look is [] → length ss ≡ 0 → IsItemsFault is kinds.NoInstruction 0
+kept_none ss rep look [] k e = no_item refl
+kept_none ss rep look (i ∷ is) k e = let n : length ss ≡ suc (length is) = statements_size ss (i ∷ is) k.same in absurd (omega (arith, e, n))
 
-pub kept_length : (ss : List Statement) (labels : List declared_label.Label) (is : List Item) → IsKept ss labels is [] → (length ss ≡ 0 → ⊥) → HasProgramLength is
-kept_length ss labels [] k z = absurd (z (statements_size ss [] k.same))
-kept_length ss labels (i ∷ is) k z = record { some = omega arith; most = k.most }
+pub kept_length : (ss : List Statement) (rep : Option ℕ) (look : Bor (List ℕ) → Option ℕ) (is : List Item) → IsKept ss rep look is [] → (length ss ≡ 0 → ⊥) → HasProgramLength is
+kept_length ss rep look [] k z = absurd (z (statements_size ss [] k.same))
+kept_length ss rep look (i ∷ is) k z = record { some = omega arith; most = k.most }
 
-pub kept_labels : (ss : List Statement) (labels : List declared_label.Label) (is : List Item) → IsKept ss labels is [] → map label_of labels ≡ labels_from 0 is
-kept_labels ss labels is k = k.set ∙ append-nil (labels_from 0 is)
+kept_labels : (ss : List Statement) (rep : Option ℕ) (look : Bor (List ℕ) → Option ℕ) (is : List Item) → IsKept ss rep look is [] → AreSet (labels_from 0 is) rep look
+kept_labels ss rep look is k = subst (λ (us : List Label). AreSet us rep look) (append-nil (labels_from 0 is)) k.set
+
+-- where a label is set a second time, and where none is
+pub kept_repeat : (ss : List Statement) (rep : Option ℕ) (look : Bor (List ℕ) → Option ℕ) (is : List Item) (at : ℕ) → rep ≡ Some at → HasProgramLength is → IsKept ss rep look is [] → IsItemsFault is kinds.LabelSetTwice at
+kept_repeat ss rep look is at e limits k =
+    let s : AreSet (labels_from 0 is) (Some at) look = subst (λ o. AreSet (labels_from 0 is) o look) e (kept_labels ss rep look is k) in
+    subst (λ a. IsItemsFault is kinds.LabelSetTwice a) (sym s.1) (set_twice s.0 limits (subst (λ ts. IsFirstRepeat ts s.0) (words_from 0 is) s.2))
+
+kept_once : (ss : List Statement) (rep : Option ℕ) (look : Bor (List ℕ) → Option ℕ) (is : List Item) → ((x : ℕ) → rep ≡ Some x → ⊥) → IsKept ss rep look is [] → AreSet (labels_from 0 is) None look
+kept_once ss None look is none k = kept_labels ss None look is k
+kept_once ss (Some x) look is none k = absurd (none x refl)
+
+pub kept_distinct : (ss : List Statement) (rep : Option ℕ) (look : Bor (List ℕ) → Option ℕ) (is : List Item) → ((x : ℕ) → rep ≡ Some x → ⊥) → IsKept ss rep look is [] → AreDistinct (set_labels is)
+kept_distinct ss rep look is none k = subst AreDistinct (words_from 0 is) (kept_once ss rep look is none k).1
+
+pub kept_resolves : (ss : List Statement) (rep : Option ℕ) (look : Bor (List ℕ) → Option ℕ) (is : List Item) → ((x : ℕ) → rep ≡ Some x → ⊥) → IsKept ss rep look is [] → Resolves is look
+kept_resolves ss rep look is none k j = lookup_found is j.now (look j) (kept_distinct ss rep look is none k) (sym ((kept_once ss rep look is none k).0 j))
 
 -- What the reader of items stands at: so many tokens were taken, which are items and then labels that wait for theirs.
 pub record Front (ts : List Lexeme) (is : List Item) (ls : List Lexeme) (from n : ℕ) : Type 0 where
@@ -142,7 +163,7 @@ pub record Front (ts : List Lexeme) (is : List Item) (ls : List Lexeme) (from n 
   pub rest : drop from ts ≡ ls ++ drop n ts
   pub labels : AreLabels ls
 
-pub record IsState (text : List ℕ) (a : Ahead) (o : Option ℕ) (ss : List Statement) (labels : List declared_label.Label) (waits : Bool) : Type 0 where
+pub record IsState (text : List ℕ) (a : Ahead) (o : Option ℕ) (ss : List Statement) (rep : Option ℕ) (look : Bor (List ℕ) → Option ℕ) (waits : Bool) : Type 0 where
   pub from : ℕ
   pub is : List Item
   pub ls : List Lexeme
@@ -151,7 +172,7 @@ pub record IsState (text : List ℕ) (a : Ahead) (o : Option ℕ) (ss : List Sta
   pub even : length ls ≡ half + half
   pub none : waits ≡ false → ls ≡ []
   pub some : waits ≡ true → 0 < length ls
-  pub draft : IsDraft o ss labels is ls
+  pub draft : IsDraft o ss rep look is ls
   pub front : (ts : List Lexeme) → AreLexemes text ts → Front ts is ls from (from + length ls)
 
 -- two more tokens, of which the first is one more label
@@ -173,12 +194,12 @@ two_labels t u ts h = let p = and_parts (fits name t.symbol) (fits (the_mark 58)
 drop_front : (xs ys : List Lexeme) (ts : List Lexeme) (n m : ℕ) → drop n ts ≡ xs ++ ys → length xs ≡ m → drop (n + m) ts ≡ ys
 drop_front xs ys ts n m e l = sym (drop-drop m n ts) ∙ (ap (λ us. drop m us) e ∙ drop_at xs ys m l)
 
-pub label_state : (text : List ℕ) (a b : Ahead) (o p : Option ℕ) (ss tt : List Statement) (labels more : List declared_label.Label) (waits : Bool) (d : declared_lexeme.Lexeme) → (s : IsState text a o ss labels waits) → a.text ≡ text
+pub label_state : (text : List ℕ) (a b : Ahead) (o p : Option ℕ) (ss tt : List Statement) (rep rep2 : Option ℕ) (look look2 : Bor (List ℕ) → Option ℕ) (waits : Bool) (d : declared_lexeme.Lexeme) → (s : IsState text a o ss rep look waits) → a.text ≡ text
     → ((ts : List Lexeme) → AreLexemes text ts → starts_with_label (drop (s.from + length s.ls) ts) ≡ true) → 2 ≤ length a.tokens
     → ((m : ℕ) → IsReading m a → IsReading (m + 2) b)
-    → ((is : List Item) (ls : List Lexeme) (colon : Lexeme) → IsDraft o ss labels is ls → label_words (ls ++ (lexeme_of (get_or a.tokens 0 d) ∷ colon ∷ [])) ≡ label_words ls ++ (lexeme_of (get_or a.tokens 0 d) ∷ []) → IsDraft p tt more is (ls ++ (lexeme_of (get_or a.tokens 0 d) ∷ colon ∷ [])))
-    → IsState text b p tt more true
-label_state text a b o p ss ss' labels more waits d s same is_label two taken kept =
+    → ((is : List Item) (ls : List Lexeme) (colon : Lexeme) → IsDraft o ss rep look is ls → label_words (ls ++ (lexeme_of (get_or a.tokens 0 d) ∷ colon ∷ [])) ≡ label_words ls ++ (lexeme_of (get_or a.tokens 0 d) ∷ []) → IsDraft p tt rep2 look2 is (ls ++ (lexeme_of (get_or a.tokens 0 d) ∷ colon ∷ [])))
+    → IsState text b p tt rep2 look2 true
+label_state text a b o p ss ss' rep rep2 look look2 waits d s same is_label two taken kept =
     let x = lexeme_of (get_or a.tokens 0 d) in
     let y = lexeme_of (get_or a.tokens 1 d) in
     let n = s.from + length s.ls in
@@ -206,12 +227,12 @@ label_state text a b o p ss ss' labels more waits d s same is_label two taken ke
           };
     }
 
-pub item_state : (text : List ℕ) (a b : Ahead) (o p : Option ℕ) (ss tt : List Statement) (labels more : List declared_label.Label) (waits : Bool) (row : declared_row.Row) (m : ℕ) → (s : IsState text a o ss labels waits) → a.text ≡ text → m ≡ 1 + length row.operand.now
+pub item_state : (text : List ℕ) (a b : Ahead) (o p : Option ℕ) (ss tt : List Statement) (rep rep2 : Option ℕ) (look look2 : Bor (List ℕ) → Option ℕ) (waits : Bool) (row : declared_row.Row) (m : ℕ) → (s : IsState text a o ss rep look waits) → a.text ≡ text → m ≡ 1 + length row.operand.now
     → ((ts : List Lexeme) → AreLexemes text ts → IsInstruction (drop (s.from + length s.ls) ts) (Ok row)) → m ≤ length a.tokens
     → ((k : ℕ) → IsReading k a → IsReading (k + m) b)
-    → ((is : List Item) (ls : List Lexeme) → IsDraft o ss labels is ls → IsDraft p tt more (is ++ (record { labels = label_words ls; row = row_of row; body = map lexeme_of (take m a.tokens) } ∷ [])) [])
-    → IsState text b p tt more false
-item_state text a b o p ss ss' labels more waits row m s same size next within taken kept =
+    → ((is : List Item) (ls : List Lexeme) → IsDraft o ss rep look is ls → IsDraft p tt rep2 look2 (is ++ (record { labels = label_words ls; row = row_of row; body = map lexeme_of (take m a.tokens) } ∷ [])) [])
+    → IsState text b p tt rep2 look2 false
+item_state text a b o p ss ss' rep rep2 look look2 waits row m s same size next within taken kept =
     let item : Item = record { labels = label_words s.ls; row = row_of row; body = map lexeme_of (take m a.tokens) } in
     let n = s.from + length s.ls in
     let zero_more : s.from + length s.ls + m ≡ s.from + length s.ls + m + 0 = omega arith in
@@ -247,14 +268,14 @@ item_state text a b o p ss ss' labels more waits row m s same size next within t
     }
 
 -- where the tokens do not go on
-pub state_stuck : (text : List ℕ) (a : Ahead) (o : Option ℕ) (ss : List Statement) (labels : List declared_label.Label) (waits : Bool) (k : ℕ) (ts : List Lexeme) → (s : IsState text a o ss labels waits) → AreLexemes text ts → s.from < length ts → Stuck k (drop (s.from + length s.ls) ts) → IsStuckAt ts (s.from + length s.ls + k)
-state_stuck text a o ss labels waits k ts s t l stuck =
+pub state_stuck : (text : List ℕ) (a : Ahead) (o : Option ℕ) (ss : List Statement) (rep : Option ℕ) (look : Bor (List ℕ) → Option ℕ) (waits : Bool) (k : ℕ) (ts : List Lexeme) → (s : IsState text a o ss rep look waits) → AreLexemes text ts → s.from < length ts → Stuck k (drop (s.from + length s.ls) ts) → IsStuckAt ts (s.from + length s.ls + k)
+state_stuck text a o ss rep look waits k ts s t l stuck =
     let f = s.front ts t in
     let e : s.from + (length s.ls + k) ≡ s.from + length s.ls + k = omega arith in
     subst (λ j. IsStuckAt ts j) e (stuck_at ts s.is s.from (length s.ls + k) l f.greedy (subst (λ us. Stuck (length s.ls + k) us) (sym f.rest) (labels_stuck s.ls (drop (s.from + length s.ls) ts) k f.labels stuck)))
 
-pub state_init : (text : List ℕ) (a : Ahead) (ss : List Statement) (labels : List declared_label.Label) → IsReading 0 a → ss ≡ [] → labels ≡ [] → IsState text a None ss labels false
-state_init text a ss labels r e h = record {
+pub state_init : (text : List ℕ) (a : Ahead) (ss : List Statement) (rep : Option ℕ) (look : Bor (List ℕ) → Option ℕ) → IsReading 0 a → ss ≡ [] → AreSet [] rep look → IsState text a None ss rep look false
+state_init text a ss rep look r e h = record {
   from = 0;
   is = [];
   ls = [];
@@ -263,31 +284,34 @@ state_init text a ss labels r e h = record {
   even = refl;
   none = λ z. refl;
   some = λ z. let k : false ≡ true = z in cc;
-  draft = subst (λ us. IsKept us labels [] []) (sym e) (subst (λ us. IsKept [] us [] []) (sym h) (record { same = tt; set = refl; most = omega arith }));
+  draft = subst (λ us. IsKept us rep look [] []) (sym e) (record { same = tt; set = h; most = omega arith });
   front = λ ts t. record { greedy = refl; rest = refl; labels = tt };
 }
 
-pub state_step : (text : List ℕ) (a b : Ahead) (o : Option ℕ) (ss : List Statement) (labels : List declared_label.Label) (waits : Bool) → IsState text a o ss labels waits → ((n : ℕ) → IsReading n a → IsReading n b) → IsState text b o ss labels waits
-state_step text a b o ss labels waits s on = record { from = s.from; is = s.is; ls = s.ls; reading = on (s.from + length s.ls) s.reading; half = s.half; even = s.even; none = s.none; some = s.some; draft = s.draft; front = s.front }
+pub state_step : (text : List ℕ) (a b : Ahead) (o : Option ℕ) (ss : List Statement) (rep : Option ℕ) (look : Bor (List ℕ) → Option ℕ) (waits : Bool) → IsState text a o ss rep look waits → ((n : ℕ) → IsReading n a → IsReading n b) → IsState text b o ss rep look waits
+state_step text a b o ss rep look waits s on = record { from = s.from; is = s.is; ls = s.ls; reading = on (s.from + length s.ls) s.reading; half = s.half; even = s.even; none = s.none; some = s.some; draft = s.draft; front = s.front }
 
--- there are tokens behind the items
-pub state_inside : (text : List ℕ) (a : Ahead) (o : Option ℕ) (ss : List Statement) (labels : List declared_label.Label) (waits : Bool) (ts : List Lexeme) → (s : IsState text a o ss labels waits) → a.text ≡ text → AreLexemes text ts → 0 < length s.ls + length a.tokens → s.from < length ts
-state_inside text a o ss labels waits ts s same t l =
+pub state_quiet : (text : List ℕ) (a : Ahead) (o : Option ℕ) (ss : List Statement) (rep : Option ℕ) (look : Bor (List ℕ) → Option ℕ) (waits : Bool) → waits ≡ false → IsState text a o ss rep look waits → IsState text a o ss rep look false
+state_quiet text a o ss rep look waits e s = subst (λ b. IsState text a o ss rep look b) e s
+
+-- there are tokens after the items
+pub state_inside : (text : List ℕ) (a : Ahead) (o : Option ℕ) (ss : List Statement) (rep : Option ℕ) (look : Bor (List ℕ) → Option ℕ) (waits : Bool) (ts : List Lexeme) → (s : IsState text a o ss rep look waits) → a.text ≡ text → AreLexemes text ts → 0 < length s.ls + length a.tokens → s.from < length ts
+state_inside text a o ss rep look waits ts s same t l =
     let all = ahead_is a.text a.to (s.from + length s.ls) (map lexeme_of a.tokens) ts s.reading.read (subst (λ u. AreLexemes u ts) (sym same) t) in
     omega (arith, l, all.3, length-map a.tokens lexeme_of, length-drop (s.from + length s.ls) ts, ap length all.1, length-append (map lexeme_of a.tokens) all.0)
 
 -- the end of a text whose tokens are items
-pub state_items : (text : List ℕ) (a : Ahead) (o : Option ℕ) (ss : List Statement) (labels : List declared_label.Label) (ts : List Lexeme) → (s : IsState text a o ss labels false) → AreLexemes text ts → drop (s.from + length s.ls) ts ≡ [] → Items ts s.is × (length ts ≤ s.from + length s.ls) × IsDraft o ss labels s.is []
-state_items text a o ss labels ts s t e =
+pub state_items : (text : List ℕ) (a : Ahead) (o : Option ℕ) (ss : List Statement) (rep : Option ℕ) (look : Bor (List ℕ) → Option ℕ) (ts : List Lexeme) → (s : IsState text a o ss rep look false) → AreLexemes text ts → drop (s.from + length s.ls) ts ≡ [] → Items ts s.is × (length ts ≤ s.from + length s.ls) × IsDraft o ss rep look s.is []
+state_items text a o ss rep look ts s t e =
     let f = s.front ts t in
     let no = s.none refl in
     let past : length ts ≤ s.from + length s.ls = omega (arith, length-drop (s.from + length s.ls) ts, ap length e) in
     let size : length s.ls ≡ 0 = ap length no in
-    (greedy_all ts s.is s.from (omega (arith, past, size)) f.greedy, past, subst (λ us. IsDraft o ss labels s.is us) no s.draft)
+    (greedy_all ts s.is s.from (omega (arith, past, size)) f.greedy, past, subst (λ us. IsDraft o ss rep look s.is us) no s.draft)
 
 -- all lexemes of a text that was read to its end
-pub state_lexemes : (text : List ℕ) (a : Ahead) (o : Option ℕ) (ss : List Statement) (labels : List declared_label.Label) (waits : Bool) → (s : IsState text a o ss labels waits) → a.text ≡ text → a.ended ≡ true → (ts : List Lexeme) × AreLexemes text ts
-state_lexemes text a o ss labels waits s same e =
+pub state_lexemes : (text : List ℕ) (a : Ahead) (o : Option ℕ) (ss : List Statement) (rep : Option ℕ) (look : Bor (List ℕ) → Option ℕ) (waits : Bool) → (s : IsState text a o ss rep look waits) → a.text ≡ text → a.ended ≡ true → (ts : List Lexeme) × AreLexemes text ts
+state_lexemes text a o ss rep look waits s same e =
     let r = s.reading in
     let end : a.to ≡ length text = r.end e ∙ ap length same in
     (lexemes_of text r.read.tokens, record { tokens = r.read.tokens; lexed = subst (λ k. LexesTo text k r.read.tokens) end (subst (λ u. LexesTo u a.to r.read.tokens) same r.read.lexed); are = refl })

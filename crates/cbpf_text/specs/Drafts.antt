@@ -1,13 +1,15 @@
 -- What the assembler keeps of the items that it has read: their opcodes, literals, targets and labels, as the addressing modes of the kernel's Documentation/networking/filter have them.
 use Rattle.std.specs.Prelude.{◌≡◌, ◌≤◌, ℕ, List, [], ◌∷◌, ◌++◌, length, map, slice_get, option_map, Option, Some, None}
+use Rattle.std.specs.Borrow.{Bor}
 use Rattle.cbpf_code.specs.Opcode.{code_of}
 use Rattle.cbpf_grammar.specs.Lexemes.{Lexeme}
 use Rattle.cbpf_grammar.specs.Items.{Item}
 use Rattle.cbpf_grammar.specs.Views.{lexeme_of, label_words}
 use Rattle.cbpf_text.specs.declared.draft.Statement.{Statement}
-use Rattle.cbpf_text.specs.declared.labels.Label as declared_label
+use Rattle.cbpf_text.specs.Labels.{AreDistinct}
 use Rattle.cbpf_text.specs.Operands.{literal_in, targets_in}
-use Rattle.cbpf_text.specs.Tables.{label_of, labels_of, labels_from}
+use Rattle.cbpf_text.specs.Refusals.{IsFirstRepeat}
+use Rattle.cbpf_text.specs.Tables.{Label, labels_of, labels_from, place_among}
 
 -- the statement is that of the item
 pub record IsStatement (s : Statement) (item : Item) : Type 0 where
@@ -24,10 +26,18 @@ AreStatements [] (i ∷ is) = ⊥
 AreStatements (s ∷ ss) [] = ⊥
 AreStatements (s ∷ ss) (i ∷ is) = IsStatement s i × AreStatements ss is
 
--- the statements and labels are those of the items, and of labels behind them that wait for theirs
-pub record IsKept (statements : List Statement) (labels : List declared_label.Label) (items : List Item) (waiting : List Lexeme) : Type 0 where
+abbrev pub words : List Label → List Lexeme
+words ls = map (λ (l : Label). l.word) ls
+
+-- the look-ups answer where the labels are set, each once; or the place is that of the first label that is set a second time
+abbrev pub AreSet : List Label → Option ℕ → (Bor (List ℕ) → Option ℕ) → Type 0
+AreSet ls None lookup = ((k : Bor (List ℕ)) → lookup k ≡ place_among ls k.now) × AreDistinct (words ls)
+AreSet ls (Some at) lookup = (label : Lexeme) × (at ≡ label.at) × IsFirstRepeat (words ls) label
+
+-- the statements and labels are those of the items, and of labels after them that wait for theirs
+pub record IsKept (statements : List Statement) (repeat : Option ℕ) (lookup : Bor (List ℕ) → Option ℕ) (items : List Item) (waiting : List Lexeme) : Type 0 where
   pub same : AreStatements statements items
-  pub set : map label_of labels ≡ labels_from 0 items ++ labels_of (length items) (label_words waiting)
+  pub set : AreSet (labels_from 0 items ++ labels_of (length items) (label_words waiting)) repeat lookup
   pub most : length items ≤ 4096
 
 -- the place is that of the 4097th item's mnemonic
@@ -39,6 +49,6 @@ pub record IsExcess (items : List Item) (at : ℕ) : Type 0 where
   pub place : at ≡ mnemonic.at
 
 -- what is kept of items, where there are at most 4096; and of more the place of the 4097th
-abbrev pub IsDraft : Option ℕ → List Statement → List declared_label.Label → List Item → List Lexeme → Type 0
-IsDraft None statements labels items waiting = IsKept statements labels items waiting
-IsDraft (Some at) statements labels items waiting = IsExcess items at
+abbrev pub IsDraft : Option ℕ → List Statement → Option ℕ → (Bor (List ℕ) → Option ℕ) → List Item → List Lexeme → Type 0
+IsDraft None statements repeat lookup items waiting = IsKept statements repeat lookup items waiting
+IsDraft (Some at) statements repeat lookup items waiting = IsExcess items at

@@ -1,10 +1,8 @@
 -- What the assembler's own label table stands for: for each name the index of the item that sets it, as the kernel's Documentation/networking/filter resolves labels.
 use Rattle.std.specs.Prelude.{◌≡◌, ℕ, ◌+◌, Bool, List, [], ◌∷◌, ◌++◌, map, Option, Some, None, bytes_eq, if◌then◌else◌}
 use Rattle.std.specs.Borrow.{Bor}
-use Rattle.cbpf_text.specs.declared.labels.Label as declared_label
 use Rattle.cbpf_grammar.specs.Lexemes.{Lexeme}
 use Rattle.cbpf_grammar.specs.Items.{Item}
-use Rattle.cbpf_grammar.specs.Views.{lexeme_of}
 use Rattle.cbpf_text.specs.Labels.{name_of, times_set, IsPlace}
 
 abbrev pub same_slice : Bor (List ℕ) → Bor (List ℕ) → Bool
@@ -14,9 +12,6 @@ same_slice a b = bytes_eq a.now b.now
 pub record Label : Type 0 where
   pub word : Lexeme
   pub place : ℕ
-
-abbrev pub label_of : declared_label.Label → Label
-label_of l = record { word = lexeme_of l.word; place = l.place }
 
 abbrev pub labels_of : ℕ → List Lexeme → List Label
 labels_of place words = map (λ t. record { word = t; place = place }) words
@@ -36,6 +31,6 @@ abbrev pub IsLookup : List Item → List ℕ → Option ℕ → Type 0
 IsLookup items name None = times_set items name ≡ 0
 IsLookup items name (Some place) = IsPlace items name place
 
--- the look-ups tell where the items set their labels
+-- the look-ups answer where the items set their labels
 abbrev pub Resolves : List Item → (Bor (List ℕ) → Option ℕ) → Type 0
 Resolves items lookup = (k : Bor (List ℕ)) → IsLookup items k.now (lookup k)

@@ -1,16 +1,17 @@
 //! Source text to instructions.
 
 ghost use Rattle.std.specs.Prelude.{◌≡◌, ◌≤◌, List, [], length, IfOk, IfErr, All};
+ghost use Rattle.indexmap.specs.IndexMap.{get};
 ghost use Rattle.cbpf_grammar.specs.Items as items;
 ghost use Rattle.cbpf_text.specs.Assembled.{Assembles, AreEncoded};
 ghost use Rattle.cbpf_text.specs.Drafts.{IsDraft};
 ghost use Rattle.cbpf_text.specs.Refusals.{Told, IsItemsFault, IsRefused};
 ghost use Rattle.cbpf_text.specs.Operands.{HasForm};
+ghost use Rattle.cbpf_text.specs.Tables.{same_slice};
 
 use crate::draft::{Draft, read};
 use crate::encode::encode_all;
 use crate::fault::{AsmFault, AsmKind};
-use crate::labels::table_of;
 use crate::refusal::{Refusal, fault_of};
 use cbpf_code::Insn;
 use std::alloc::Allocator;
@@ -21,8 +22,8 @@ fn encode_draft<A: Allocator + Copy>(
     draft: &Draft<'_, A>,
 ) -> Result<Vec<Insn, A>, Refusal>
     requires { length draft.now.statements.items ≤ 4096 }
-    ensures encoded { (is : List items.Item) → IsDraft draft.now.excess draft.now.statements.items draft.now.labels.items is [] → All HasForm is → IfOk result (λ v. AreEncoded is v.items) }
-    ensures refused { (is : List items.Item) → IsDraft draft.now.excess draft.now.statements.items draft.now.labels.items is [] → All HasForm is → IfErr result (Told (IsItemsFault is)) }
+    ensures encoded { (is : List items.Item) → IsDraft draft.now.excess draft.now.statements.items draft.now.labels.repeat (λ k. get same_slice draft.now.labels.table k) is [] → All HasForm is → IfOk result (λ v. AreEncoded is v.items) }
+    ensures refused { (is : List items.Item) → IsDraft draft.now.excess draft.now.statements.items draft.now.labels.repeat (λ k. get same_slice draft.now.labels.table k) is [] → All HasForm is → IfErr result (Told (IsItemsFault is)) }
 {
     if let Some(at) = draft.excess {
         return Err(Refusal::At(AsmKind::TooMany, at));
@@ -30,24 +31,25 @@ fn encode_draft<A: Allocator + Copy>(
     if draft.statements.is_empty() {
         return Err(Refusal::At(AsmKind::NoInstruction, 0));
     }
-    let labels = table_of(alloc, &draft.labels)?;
-    encode_all(alloc, &labels, &draft.statements)
+    if let Some(at) = draft.labels.repeat {
+        return Err(Refusal::At(AsmKind::LabelSetTwice, at));
+    }
+    encode_all(alloc, &draft.labels.table, &draft.statements)
 }
 
 /// The instructions of a source text, in order. They are not checked as a program.
 ///
 /// An instruction is a mnemonic and its operand in one of its addressing modes
-/// (Documentation/networking/filter), behind any number of labels. A label, a word and a
-/// colon, names the instruction behind it. A jump's offset is the number of instructions
+/// (Documentation/networking/filter), after any number of labels. A label, a word and a
+/// colon, names the instruction after it. A jump's offset is the number of instructions
 /// between the jump and its target.
 ///
 /// # Errors
 ///
-/// `At` tells what is wrong and on which line. First come A1, A2 and A3 of a number above
-/// 4294967295, over the whole text; then A4, A5 and A3 of a number above 2147483648 behind
+/// `At`: what is wrong, and on which line. First come A1, A2 and A3 of a number above
+/// 4294967295, over the whole text; then A4, A5 and A3 of a number above 2147483648 after
 /// a `-`; then A11 and A10; then A6; then A7, A8 and A9, target by target. Of each of these
-/// groups it is the first in the text. `Memory` tells that the allocator refused, whatever
-/// the text is.
+/// groups it is the first in the text. `Memory`: the allocator refused, whatever the text is.
 pub fn assemble<A: Allocator + Copy>(alloc: A, text: &[u8]) -> Result<Vec<Insn, A>, AsmFault>
     ensures assembled { IfOk result (λ v. Assembles text.now v.items) }
     ensures refused { IfErr result (IsRefused text.now) }

@@ -1,19 +1,21 @@
-//! The items of a source text, as far as their instructions hang on them.
+//! The items of a source text, as far as their instructions depend on them.
 
-ghost use Rattle.std.specs.Prelude.{◌≡◌, ◌≤◌, ◌<◌, ◌+◌, ◌++◌, ◌∷◌, [], ℕ, List, length, map, take, None, IfOk, IfErr, OnOk};
+ghost use Rattle.std.specs.Prelude.{◌≡◌, ◌≤◌, ◌<◌, ◌+◌, ◌++◌, ◌∷◌, [], true, ℕ, List, length, map, None, IfOk, IfErr, OnOk};
+ghost use Rattle.indexmap.specs.IndexMap.{get};
 ghost use Rattle.cbpf_lex.specs.Tokens.{IsLexFault};
 ghost use Rattle.cbpf_grammar.specs.Lexemes as lexemes;
 ghost use Rattle.cbpf_grammar.specs.Lexemes.{AreLexemes};
 ghost use Rattle.cbpf_grammar.specs.Items as items;
 ghost use Rattle.cbpf_grammar.specs.Items.{Items};
-ghost use Rattle.cbpf_grammar.specs.Refusals.{IsAccepted};
-ghost use Rattle.cbpf_grammar.specs.Reading.{IsReading, IsRefusedFor};
+ghost use Rattle.cbpf_grammar.specs.Refusals.{IsAccepted, IsStuckAt};
+ghost use Rattle.cbpf_grammar.specs.Reading.{IsReading, IsRefusedFor, StartsWithWord};
 ghost use Rattle.cbpf_grammar.specs.Views.{lexeme_of, row_of, label_words};
 ghost use Rattle.cbpf_text.specs.Drafts.{IsStatement, IsDraft};
 ghost use Rattle.cbpf_text.specs.Refusals.{Told, IsTokensFault, IsRefused};
+ghost use Rattle.cbpf_text.specs.Tables.{same_slice};
 
 use crate::fault::{AsmFault, AsmKind};
-use crate::labels::Label;
+use crate::labels::Labels;
 use crate::operand::{literal, target};
 use crate::refusal::{Refusal, fault_of};
 use crate::source::lex_refusal;
@@ -38,7 +40,7 @@ pub struct Statement<'a> {
 #[derive(Drop)]
 pub struct Draft<'a, A: Allocator> {
     pub statements: Vec<Statement<'a>, A>,
-    pub labels: Vec<Label<'a>, A>,
+    pub labels: Labels<'a, A>,
     /// The place of the 4097th mnemonic. From there on nothing is kept.
     pub excess: Option<usize>,
 }
@@ -60,17 +62,15 @@ fn make_statement<'a>(row: Row, body: &[Lexeme<'a>]) -> Statement<'a>
 fn add_label<'a, A: Allocator>(
     draft: &mut Draft<'a, A>,
     word: Lexeme<'a>,
-) -> Result<(), AllocFailed<Label<'a>>>
+) -> Result<(), AllocFailed<(&'a [u8], u32)>>
     requires { length draft.old.statements.items ≤ 4096 }
     ensures size { length draft.new.statements.items ≤ 4096 }
-    ensures label { OnOk result ((is : List items.Item) (ls : List lexemes.Lexeme) (colon : lexemes.Lexeme) → IsDraft draft.old.excess draft.old.statements.items draft.old.labels.items is ls → label_words (ls ++ lexeme_of word.entry ∷ colon ∷ []) ≡ label_words ls ++ lexeme_of word.entry ∷ [] → IsDraft draft.new.excess draft.new.statements.items draft.new.labels.items is (ls ++ lexeme_of word.entry ∷ colon ∷ [])) }
+    ensures label { OnOk result ((is : List items.Item) (ls : List lexemes.Lexeme) (colon : lexemes.Lexeme) → IsDraft draft.old.excess draft.old.statements.items draft.old.labels.repeat (λ k. get same_slice draft.old.labels.table k) is ls → label_words (ls ++ lexeme_of word.entry ∷ colon ∷ []) ≡ label_words ls ++ lexeme_of word.entry ∷ [] → IsDraft draft.new.excess draft.new.statements.items draft.new.labels.repeat (λ k. get same_slice draft.new.labels.table k) is (ls ++ lexeme_of word.entry ∷ colon ∷ [])) }
 {
     if draft.excess.is_some() {
         return Ok(());
     }
-    let place = draft.statements.len() as u32;
-    draft.labels.push(Label { word, place })?;
-    Ok(())
+    draft.labels.add(word, draft.statements.len() as u32)
 }
 
 /// One more instruction.
@@ -82,7 +82,7 @@ fn add_instruction<'a, A: Allocator>(
     requires size { length draft.old.statements.items ≤ 4096 }
     requires some { 0 < length body.now }
     ensures size { length draft.new.statements.items ≤ 4096 }
-    ensures item { OnOk result ((is : List items.Item) (ls : List lexemes.Lexeme) → IsDraft draft.old.excess draft.old.statements.items draft.old.labels.items is ls → IsDraft draft.new.excess draft.new.statements.items draft.new.labels.items (is ++ record { labels = label_words ls; row = row_of row; body = map lexeme_of body.now } ∷ []) []) }
+    ensures item { OnOk result ((is : List items.Item) (ls : List lexemes.Lexeme) → IsDraft draft.old.excess draft.old.statements.items draft.old.labels.repeat (λ k. get same_slice draft.old.labels.table k) is ls → IsDraft draft.new.excess draft.new.statements.items draft.new.labels.repeat (λ k. get same_slice draft.new.labels.table k) (is ++ record { labels = label_words ls; row = row_of row; body = map lexeme_of body.now } ∷ []) []) }
 {
     if draft.excess.is_some() {
         return Ok(());
@@ -106,32 +106,32 @@ fn refusal_of(refused: cbpf_grammar::Refusal) -> Refusal
     }
 }
 
-/// What is told of a text that is refused by its tokens so far, if it has no bad piece behind them.
-fn told<A: Allocator>(
-    text: &[u8],
-    reader: &mut Reader<'_, A>,
-    refused: cbpf_grammar::Refusal,
-) -> AsmFault
+/// The fault of a text whose tokens go on so far and no farther: its first bad piece, if one comes
+/// later, and else the tokens' refusal.
+fn fault_here<A: Allocator>(text: &[u8], reader: &mut Reader<'_, A>, n: usize) -> AsmFault
     requires text { reader.old.text ≡ text.now }
-    ensures { (n : ℕ) → IsReading n reader.old → ((ts : List lexemes.Lexeme) → AreLexemes text.now ts → IsRefusedFor ts refused) → IsRefused text.now result }
+    requires within { n ≤ length reader.old.tokens }
+    requires end { n ≡ length reader.old.tokens → reader.old.ended ≡ true }
+    requires word { 0 < n → StartsWithWord (map lexeme_of reader.old.tokens) }
+    ensures { (m : ℕ) → IsReading m reader.old → 0 < m + length reader.old.tokens → ((ts : List lexemes.Lexeme) → AreLexemes text.now ts → IsStuckAt ts (m + n)) → IsRefused text.now result }
 {
+    let refused = reader.refusal(n);
     match reader.finish() {
         Ok(()) => fault_of(text, refusal_of(refused)),
         Err(fault) => lex_refusal(fault),
     }
 }
 
-/// The items of a text, of which only so much is kept as their instructions hang on.
+/// The items of a text, of which only what their instructions depend on is kept.
 pub fn read<'a, A: Allocator + Copy>(alloc: A, text: &'a [u8]) -> Result<Draft<'a, A>, AsmFault>
-    ensures items { IfOk result (λ draft. (ts : List lexemes.Lexeme) × (is : List items.Item) × AreLexemes text.now ts × Items ts is × IsAccepted ts × IsDraft draft.excess draft.statements.items draft.labels.items is []) }
+    ensures items { IfOk result (λ draft. (ts : List lexemes.Lexeme) × (is : List items.Item) × AreLexemes text.now ts × Items ts is × IsAccepted ts × IsDraft draft.excess draft.statements.items draft.labels.repeat (λ k. get same_slice draft.labels.table k) is []) }
     ensures size { IfOk result (λ draft. length draft.statements.items ≤ 4096) }
     ensures refused { IfErr result (IsRefused text.now) }
 {
     let mut reader = Reader::new(alloc, text);
-    let statements = Vec::with_capacity(alloc, MOST_INSTRUCTIONS.min(text.len() / 8))?;
     let mut draft = Draft {
-        statements,
-        labels: Vec::new(alloc),
+        statements: Vec::with_capacity(alloc, MOST_INSTRUCTIONS.min(text.len() / 8))?,
+        labels: Labels::new(alloc, text),
         excess: None,
     };
     let mut waits = false;
@@ -140,31 +140,25 @@ pub fn read<'a, A: Allocator + Copy>(alloc: A, text: &'a [u8]) -> Result<Draft<'
             Ok(next) => next,
             Err(fault) => return Err(lex_refusal(fault)),
         };
-        let Some(step) = next else {
-            if waits {
-                let refused = reader.refusal(0);
-                return Err(told(text, &mut reader, refused));
-            }
-            if let Some(at) = reader.large() {
-                return Err(fault_of(text, Refusal::At(AsmKind::LargeNumber, at)));
-            }
-            return Ok(draft);
-        };
-        match step {
-            Step::Label => {
+        match next {
+            Some(Step::Label) => {
                 add_label(&mut draft, reader.ahead()[0])?;
                 reader.take(2);
                 waits = true;
             }
-            Step::Instruction(row) => {
+            Some(Step::Instruction(row)) => {
                 let n = 1 + row.operand.len();
                 add_instruction(&mut draft, row, &reader.ahead()[..n])?;
                 reader.take(n);
                 waits = false;
             }
-            Step::Stuck(n) => {
-                let refused = reader.refusal(n);
-                return Err(told(text, &mut reader, refused));
+            Some(Step::Stuck(n)) => return Err(fault_here(text, &mut reader, n)),
+            None if waits => return Err(fault_here(text, &mut reader, 0)),
+            None => {
+                return match reader.large() {
+                    Some(at) => Err(fault_of(text, Refusal::At(AsmKind::LargeNumber, at))),
+                    None => Ok(draft),
+                };
             }
         }
     }

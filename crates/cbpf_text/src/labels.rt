@@ -1,23 +1,20 @@
 //! The label table: for each label the index of the instruction that it names.
 
-ghost use Rattle.std.specs.Prelude.{◌≡◌, List, ℕ, map, IfOk, IfErr};
-ghost use Rattle.std.specs.Borrow.{Bor};
+ghost use Rattle.std.specs.Prelude.{[], ◌∷◌, ◌++◌, List, OnOk};
 ghost use Rattle.indexmap.specs.IndexMap.{get};
 ghost use Rattle.cbpf_grammar.specs.Views.{lexeme_of};
-ghost use Rattle.cbpf_text.specs.Labels.{AreDistinct};
-ghost use Rattle.cbpf_text.specs.Refusals.{Told, IsLabelFault};
-ghost use Rattle.cbpf_text.specs.Tables.{label_of, same_slice, place_among};
+ghost use Rattle.cbpf_text.specs.Drafts.{AreSet};
+ghost use Rattle.cbpf_text.specs.Tables as tables;
+ghost use Rattle.cbpf_text.specs.Tables.{same_slice};
 
-use crate::fault::AsmKind;
 use crate::operand::name_of;
-use crate::refusal::Refusal;
 use cbpf_grammar::Lexeme;
 use indexmap::IndexMap;
-use std::alloc::Allocator;
+use std::alloc::{AllocFailed, Allocator};
 use std::hash::{BuildHasher, DefaultHasher, FoldHasher, Hasher};
 
-/// Hashers of a fixed kind, which begin with a digest of all labels of the source. Which names collide
-/// hangs on all of them, so that a source can't be written to make its own collide.
+/// Hashers of a fixed kind, which begin with a digest of the whole source. Which names collide depends on
+/// all of its text, so no list of names collides in every source.
 #[derive(Clone, Copy)]
 pub struct LabelHasher {
     initial: FoldHasher,
@@ -33,43 +30,53 @@ impl BuildHasher for LabelHasher {
     }
 }
 
-/// The hasher of these labels.
-fn make_hasher(labels: &[Label<'_>]) -> LabelHasher {
-    let mut names = DefaultHasher::new();
-    for label in labels {
-        names.write(name_of(label.word.symbol));
-    }
+/// The hasher of a source's labels.
+fn make_hasher(text: &[u8]) -> LabelHasher {
+    let mut digest = DefaultHasher::new();
+    digest.write(text);
     let mut initial = FoldHasher::default();
-    initial.write_u64(names.finish());
+    initial.write_u64(digest.finish());
     LabelHasher { initial }
 }
 
 /// For each label's name the index of the item that sets it.
 pub type LabelTable<'a, A> = IndexMap<&'a [u8], u32, LabelHasher, A>;
 
-/// A label's word, and the index of the item that sets it.
-#[derive(Clone, Copy, Debug)]
-pub struct Label<'a> {
-    pub word: Lexeme<'a>,
-    pub place: u32,
+/// The labels that items set.
+#[derive(Drop)]
+pub struct Labels<'a, A: Allocator> {
+    pub table: LabelTable<'a, A>,
+    /// The place of the first label that is set a second time. From there on none is kept.
+    pub repeat: Option<usize>,
 }
 
-/// The table of these labels, or the first that is set a second time.
-pub fn table_of<'a, A: Allocator + Copy>(
-    alloc: A,
-    labels: &[Label<'a>],
-) -> Result<LabelTable<'a, A>, Refusal>
-    ensures table { IfOk result (λ t. (k : Bor (List ℕ)) → get same_slice t k ≡ place_among (map label_of labels.now) k.now) }
-    ensures distinct { IfOk result (λ t. AreDistinct (map (λ l. lexeme_of l.word) labels.now)) }
-    ensures refused { IfErr result (Told (IsLabelFault (map (λ l. lexeme_of l.word) labels.now))) }
-{
-    let mut table = IndexMap::with_hasher(alloc, make_hasher(labels));
-    for label in labels {
-        let name = name_of(label.word.symbol);
-        if table.contains_key(&name) {
-            return Err(Refusal::At(AsmKind::LabelSetTwice, label.word.at));
+impl<'a, A: Allocator> Labels<'a, A> {
+    /// No labels, of this source.
+    pub fn new(alloc: A, text: &[u8]) -> Self
+    where
+        A: Copy,
+        ensures { AreSet [] result.repeat (λ k. get same_slice result.table k) }
+    {
+        Labels {
+            table: IndexMap::with_hasher(alloc, make_hasher(text)),
+            repeat: None,
         }
-        table.insert(name, label.place)?;
     }
-    Ok(table)
+
+    /// One more label, which the item at the index sets.
+    pub fn add(
+        &mut self,
+        label: Lexeme<'a>,
+        index: u32,
+    ) -> Result<(), AllocFailed<(&'a [u8], u32)>>
+        ensures { OnOk result ((ls : List tables.Label) → AreSet ls self.old.repeat (λ k. get same_slice self.old.table k) → AreSet (ls ++ record { word = lexeme_of label.entry; place = index } ∷ []) self.new.repeat (λ k. get same_slice self.new.table k)) }
+    {
+        if self.repeat.is_some() {
+            return Ok(());
+        }
+        if self.table.insert(name_of(label.symbol), index)?.is_some() {
+            self.repeat = Some(label.at);
+        }
+        Ok(())
+    }
 }

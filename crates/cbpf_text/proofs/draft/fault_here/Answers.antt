@@ -1,0 +1,15 @@
+use Rattle.std.proofs.Common.{subst}
+use Rattle.cbpf_lex.specs.Tokens.{IsLexFault}
+use Rattle.cbpf_grammar.specs.Lexemes.{AreLexemes}
+use Rattle.cbpf_text.proofs.Faults.{lex_refused}
+use Rattle.cbpf_text.proofs.Reading.{whole_refused}
+use Rattle.cbpf_text.proofs.draft.fault_here.Goals as goal
+
+pub returns-in-Ok : goal.returns-in-Ok
+returns-in-Ok g c m r some stuck =
+    let all = c.in-Ok.ensures.lexed m r in
+    let t = subst (λ u. AreLexemes u all.0) c.requires.text all.1 in
+    whole_refused c.args.text.now all.0 c.refusal_of.result c.fault_of.result t (c.refusal_of.ensures all.0 (c.refusal-refused.ensures m all.0 r all.1 some (stuck all.0 t))) c.fault_of.ensures
+
+pub returns-in-Err : goal.returns-in-Err
+returns-in-Err g c m r some stuck = lex_refused c.args.text.now c.lex_refusal.result (c.lex_refusal.ensures c.args.text.now (subst (λ u. IsLexFault u c.in-Err.fault) c.requires.text (c.in-Err.ensures.fault m r)))
