@@ -4,7 +4,7 @@ ghost use Rattle.cbpf_text.specs.Refusals.{IsToldAt};
 
 use crate::fault::{AsmFault, AsmKind};
 use crate::source::line_of;
-use std::alloc::{AllocFailed};
+use std::alloc::AllocFailed;
 
 /// The refusal with its line.
 pub fn fault_of(text: &[u8], refusal: Refusal) -> AsmFault
