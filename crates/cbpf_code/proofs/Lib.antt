@@ -1,5 +1,6 @@
 pub mod FaultLemmas
 pub mod FirstFaultLemmas
+pub mod HexLemmas
 pub mod PathLemmas
 pub mod SlotMaskLemmas
 pub mod SoundLemmas

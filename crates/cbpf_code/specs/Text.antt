@@ -1,26 +1,15 @@
 -- Texts of numbers: hexadecimal digits in lower case, and padding. Decimal numbers are std's `decimal`.
-use Rattle.std.specs.Prelude.{ℕ, zero, suc, false, ◌-◌, ◌/◌, ◌%◌, ◌++◌, nat_lt, max, drop, if◌then◌else◌, List, [], ◌∷◌}
+use Rattle.std.specs.Prelude.{ℕ, false, ◌-◌, ◌++◌, length, codes, List}
 use Rattle.std.specs.List.{flat_map, repeat}
-use Rattle.std.specs.Fmt.{digit_glyph}
+use Rattle.std.specs.Fmt.{digits}
 
 -- pieces of text, one after another
 abbrev pub joined : List (List ℕ) → List ℕ
 joined parts = flat_map (λ p. p) parts
 
 abbrev pub spaces : ℕ → List ℕ
-spaces n = repeat n (32 ∷ [])
+spaces n = repeat n (codes " ")
 
--- the last `places` hexadecimal digits of n, in lower case
-abbrev pub hex_digits : ℕ → ℕ → List ℕ
-hex_digits zero n = []
-hex_digits (suc p) n = hex_digits p (n / 16) ++ digit_glyph false (n % 16) ∷ []
-
--- how many hexadecimal digits a number below 2 to the 32 needs
-abbrev pub hex_places : ℕ → ℕ
-hex_places n =
-    if nat_lt n 16 then 1 else (if nat_lt n 256 then 2 else (if nat_lt n 4096 then 3 else (if nat_lt n 65536 then 4
-    else (if nat_lt n 1048576 then 5 else (if nat_lt n 16777216 then 6 else (if nat_lt n 268435456 then 7 else 8))))))
-
--- a number below 2 to the 32 in hexadecimal, in at least `least` of eight digits
+-- a number in lower case hexadecimal, with zeros in front where it has fewer than `least` digits
 abbrev pub hex : ℕ → ℕ → List ℕ
-hex least n = drop (8 - max least (hex_places n)) (hex_digits 8 n)
+hex least n = repeat (least - length (digits 16 false n)) (codes "0") ++ digits 16 false n

@@ -4,7 +4,7 @@ ghost use Rattle.cbpf_code.specs.Writing.{Wrote};
 ghost use Rattle.cbpf_code.specs.CForm.{hex_prefix, c_line, c_form};
 
 use crate::insn::Insn;
-use crate::writing::{WriteFault, digits_needed, eight_digits, spaces_before, write_parts};
+use crate::writing::{WriteFault, eight_digits, last_digits, spaces_before, write_parts};
 use itoa::Buffer;
 use std::io::Write;
 
@@ -20,15 +20,15 @@ fn write_c_line<W: Write>(w: &mut W, insn: Insn) -> Result<(), WriteFault>
     let (mut jt_buffer, mut jf_buffer) = (Buffer::new(), Buffer::new());
     let jt = jt_buffer.format(insn.jt).as_bytes();
     let jf = jf_buffer.format(insn.jf).as_bytes();
-    let code = eight_digits(u32::from(insn.code));
-    let code_places = digits_needed(u32::from(insn.code)).max(2);
+    let opcode = u32::from(insn.code);
+    let code = eight_digits(opcode);
     let k = eight_digits(insn.k);
     write_parts(
         w,
         &[
             b"{ ",
-            prefix_of(u32::from(insn.code)),
-            &code[8 - code_places..],
+            prefix_of(opcode),
+            last_digits(&code, opcode, 2),
             b", ",
             spaces_before(jt),
             jt,
@@ -37,7 +37,7 @@ fn write_c_line<W: Write>(w: &mut W, insn: Insn) -> Result<(), WriteFault>
             jf,
             b", ",
             prefix_of(insn.k),
-            &k,
+            last_digits(&k, insn.k, 8),
             b" },\n",
         ],
     )

@@ -3,7 +3,8 @@ ghost use Rattle.std.specs.Prelude.{◌≡◌, ◌≤◌, ◌-◌, ◌%◌, fals
 ghost use Rattle.std.specs.List.{flat_map};
 ghost use Rattle.std.specs.Fmt.{digit_glyph};
 ghost use Rattle.cbpf_code.specs.Writing.{Wrote};
-ghost use Rattle.cbpf_code.specs.Text.{hex_digits, hex_places, hex, spaces};
+ghost use Rattle.cbpf_code.specs.HexPlaces.{hex_digits, hex_places};
+ghost use Rattle.cbpf_code.specs.Text.{hex, spaces};
 
 use itoa::Buffer;
 use std::io::Write;
@@ -60,7 +61,7 @@ fn glyph(n: u32) -> u8
 }
 
 /// How many hexadecimal digits a number needs, at least 1 and at most 8.
-pub(crate) fn digits_needed(n: u32) -> usize
+fn digits_needed(n: u32) -> usize
     ensures same { result ≡ hex_places n }
     ensures few { (1 ≤ result) × (result ≤ 8) }
 {
@@ -106,14 +107,22 @@ pub(crate) fn eight_digits(n: u32) -> [u8; 8]
     ]
 }
 
+/// As many of a number's eight digits as it needs, and at least `least`.
+pub(crate) fn last_digits(digits: &[u8; 8], n: u32, least: u32) -> &[u8]
+    requires all { digits.now ≡ hex_digits 8 n }
+    requires few { least ≤ 8 }
+    ensures { result.now ≡ hex least n }
+{
+    let places = digits_needed(n).max(least as usize);
+    &digits[8 - places..]
+}
+
 /// Writes a number in lower case hexadecimal, in at least `least` digits, of which there are 1 to 8.
 pub fn write_hex<W: Write>(w: &mut W, n: u32, least: u32) -> Result<(), WriteFault>
     requires { (1 ≤ least) × (least ≤ 8) }
     ensures { Wrote (W.contents w.old) (W.contents w.new) result (hex least n) }
 {
-    let digits = eight_digits(n);
-    let places = digits_needed(n).max(least as usize);
-    write_bytes(w, &digits[8 - places..])
+    write_bytes(w, last_digits(&eight_digits(n), n, least))
 }
 
 /// The spaces that set a text right in two places.

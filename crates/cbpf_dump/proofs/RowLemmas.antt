@@ -8,6 +8,7 @@ use Rattle.std.proofs.lemmas.Grind.{flat_map-append}
 use Rattle.std.proofs.lemmas.List.{take_more, take_more_set}
 use Rattle.cbpf_code.specs.Writing.{Appended, AppendedPart}
 use Rattle.cbpf_code.proofs.WrittenLemmas.{appended-then, part-then, part-more}
+use Rattle.cbpf_code.proofs.HexLemmas.{hex-two}
 use Rattle.cbpf_dump.specs.Packet.{byte_text, texts_to}
 
 flat-more : (f : ℕ → List ℕ) (xs : List ℕ) (i : ℕ) → i < length xs → flat_map f (take (i + 1) xs) ≡ flat_map f (take i xs) ++ f (get_or xs i 0)
@@ -29,7 +30,7 @@ high-digit : (b : ℕ) → b < 256 → b / 16 % 16 ≡ b / 16
 high-digit b l = omega arith
 
 byte-glyphs : (b : ℕ) → b < 256 → byte_text b ≡ 32 ∷ digit_glyph false (b / 16) ∷ digit_glyph false (b % 16) ∷ []
-byte-glyphs b l = ap (λ h. 32 ∷ digit_glyph false h ∷ digit_glyph false (b % 16) ∷ []) (high-digit b l)
+byte-glyphs b l = ap (λ (d : List ℕ). 32 ∷ (d ++ [])) (hex-two b l) ∙ ap (λ h. 32 ∷ digit_glyph false h ∷ digit_glyph false (b % 16) ∷ []) (high-digit b l)
 
 pub cells-more : (c row : List ℕ) (i g h : ℕ) → i < length row → 3 * i + 2 < length c → get_or row i 0 < 256
     → take (3 * i) c ≡ flat_map byte_text (take i row) → g ≡ digit_glyph false (get_or row i 0 / 16) → h ≡ digit_glyph false (get_or row i 0 % 16)

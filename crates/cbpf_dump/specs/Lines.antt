@@ -1,6 +1,6 @@
 -- The lines of a dump: a label left in ten places, and what it names (the kernel's Documentation/networking/filter shows such lines; this layout is this project's own).
 use Rattle.std.specs.Prelude.{ℕ, ◌-◌, ◌++◌, List, [], ◌∷◌, length, codes, decimal}
-use Rattle.cbpf_code.specs.Text.{joined, spaces, hex_digits}
+use Rattle.cbpf_code.specs.Text.{joined, spaces, hex}
 
 -- the pieces of a label, and the pieces behind it
 abbrev pub labelled : List (List ℕ) → List (List ℕ) → List ℕ
@@ -8,7 +8,7 @@ labelled label pieces = joined (label ++ (spaces (10 - length (joined label)) �
 
 -- the value of a register or a slot, in hexadecimal and in decimal
 abbrev pub value_pieces : ℕ → List (List ℕ)
-value_pieces v = codes "[" ∷ hex_digits 8 v ∷ codes "][" ∷ decimal v ∷ codes "]\n" ∷ []
+value_pieces v = codes "[" ∷ hex 8 v ∷ codes "][" ∷ decimal v ∷ codes "]\n" ∷ []
 
 abbrev pub value_line : List (List ℕ) → ℕ → List ℕ
 value_line label v = labelled label (value_pieces v)

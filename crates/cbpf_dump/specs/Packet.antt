@@ -2,7 +2,7 @@
 use Rattle.std.specs.Prelude.{ℕ, zero, suc, ◌-◌, ◌*◌, List, [], ◌∷◌, ◌++◌, length, take, drop, decimal, codes}
 use Rattle.std.specs.List.{flat_map}
 use Rattle.std.specs.Int.{div_ceil}
-use Rattle.cbpf_code.specs.Text.{joined, spaces, hex_digits}
+use Rattle.cbpf_code.specs.Text.{joined, spaces, hex}
 
 -- the texts of 0, 1 and so on, n in all
 abbrev pub texts_to : (ℕ → List ℕ) → ℕ → List ℕ
@@ -11,7 +11,7 @@ texts_to f (suc n) = texts_to f n ++ f n
 
 -- two hexadecimal digits behind a space
 abbrev pub byte_text : ℕ → List ℕ
-byte_text b = joined (codes " " ∷ hex_digits 2 b ∷ [])
+byte_text b = joined (codes " " ∷ hex 2 b ∷ [])
 
 -- the offset, right in five places, and the bytes
 abbrev pub row_line : ℕ → List ℕ → List ℕ

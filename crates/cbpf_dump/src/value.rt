@@ -1,7 +1,7 @@
 // Values in hexadecimal and in decimal, and the spaces around them.
 ghost use Rattle.std.specs.Prelude.{◌≡◌, ◌<◌, ◌-◌, false};
 ghost use Rattle.std.specs.Fmt.{digit_glyph};
-ghost use Rattle.cbpf_code.specs.Text.{hex_digits, spaces};
+ghost use Rattle.cbpf_code.specs.Text.{hex, spaces};
 
 /// The glyph of a hexadecimal digit.
 #[inline(always)]
@@ -18,7 +18,7 @@ pub fn glyph(digit: u8) -> u8
 
 /// A number as eight hexadecimal digits.
 pub fn eight_digits(n: u32) -> [u8; 8]
-    ensures { result ≡ hex_digits 8 n }
+    ensures { result ≡ hex 8 n }
 {
     let n1 = n / 16;
     let n2 = n1 / 16;

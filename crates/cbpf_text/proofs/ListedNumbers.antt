@@ -7,7 +7,9 @@ use Rattle.std.proofs.lemmas.Fmt.{decimal_by_steps, first_decimal, decimal_digit
 use Rattle.std.proofs.lemmas.List.{drop-append-le, drop_all}
 use Rattle.cbpf_lex.specs.Bytes.{is_letter, is_digit, is_name_byte}
 use Rattle.cbpf_lex.specs.Numbers.{digit_value, digits_value, number_value}
-use Rattle.cbpf_code.specs.Text.{hex_digits, hex}
+use Rattle.cbpf_code.specs.Text.{hex}
+use Rattle.cbpf_code.specs.HexPlaces.{hex_digits}
+use Rattle.cbpf_code.proofs.HexLemmas.{hex-places}
 use Rattle.cbpf_lex.proofs.Cuts.{and_parts}
 
 abbrev all_below : ℕ → (ℕ → Bool) → Bool
@@ -132,7 +134,7 @@ hex_step k bound p q low high true e = low (ltb-true k bound e)
 hex_step k bound p q low high false e = high (ltb-false k bound e)
 
 is_hex : (k : ℕ) → k < 2 ^ 32 → IsHex k (hex 1 k)
-is_hex k l =
+is_hex k l = subst (IsHex k) (sym (hex-places 1 k (omega arith) l)) (
     hex_step k 16 1 _ (λ h. hex_of k 1 (omega arith) (omega arith) (omega arith))
     (λ _. hex_step k 256 2 _ (λ h. hex_of k 2 (omega arith) (omega arith) (omega arith))
     (λ _. hex_step k 4096 3 _ (λ h. hex_of k 3 (omega arith) (omega arith) (omega arith))
@@ -140,7 +142,7 @@ is_hex k l =
     (λ _. hex_step k 1048576 5 _ (λ h. hex_of k 5 (omega arith) (omega arith) (omega arith))
     (λ _. hex_step k 16777216 6 _ (λ h. hex_of k 6 (omega arith) (omega arith) (omega arith))
     (λ _. hex_step k 268435456 7 8 (λ h. hex_of k 7 (omega arith) (omega arith) (omega arith))
-    (λ _. hex_of k 8 (omega arith) (omega arith) (omega arith)) _ refl) _ refl) _ refl) _ refl) _ refl) _ refl) _ refl
+    (λ _. hex_of k 8 (omega arith) (omega arith) (omega arith)) _ refl) _ refl) _ refl) _ refl) _ refl) _ refl) _ refl)
 
 pub hex_is_names : (k : ℕ) → k < 2 ^ 32 → list_all is_name_byte (hex 1 k) ≡ true
 hex_is_names k l = (is_hex k l).names

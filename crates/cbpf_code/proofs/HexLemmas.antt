@@ -1,0 +1,130 @@
+-- Hexadecimal digits by places are those of `hex`.
+use Rattle.std.proofs.Common.{◌≡◌, ℕ, zero, suc, ◌+◌, ◌-◌, ◌/◌, ◌%◌, ◌^◌, ◌<◌, ◌≤◌, Bool, true, false, cond, List, [], ◌∷◌, ◌++◌, length, drop, refl, sym, ap, ◌∙◌, arith, append_assoc, append-nil, length-append, length-drop, take, take_all, ne_eqb, ltb-true, ltb-false}
+use Rattle.std.specs.Prelude.{nat_lt, max}
+use Rattle.std.specs.List.{repeat}
+use Rattle.std.specs.Fmt.{digit_glyph, digits, digits_onto}
+use Rattle.cbpf_code.specs.Text.{hex}
+use Rattle.cbpf_code.specs.HexPlaces.{hex_digits, hex_places, hex_by_places}
+
+-- n has exactly p hexadecimal digits
+abbrev HasPlaces : ℕ → ℕ → Type 0
+HasPlaces zero n = ⊥
+HasPlaces (suc zero) n = n < 16
+HasPlaces (suc (suc p)) n = (16 ≤ n) × HasPlaces (suc p) (n / 16)
+
+onto-places : (k p n : ℕ) (acc : List ℕ) → p ≤ k → HasPlaces p n → digits_onto k 16 false n acc ≡ hex_digits p n ++ acc
+onto-places k zero n acc l h = absurd h
+onto-places zero (suc p) n acc l h = absurd (omega arith)
+onto-places (suc k) (suc zero) n acc l h = let z : n / 16 ≡ 0 = omega arith in rw z refl
+onto-places (suc k) (suc (suc p)) n acc l h =
+    let few : 16 ≤ n = h.0 in
+    rw (ne_eqb (n / 16) 0 (λ e. omega (arith, e, few)))
+    (onto-places k (suc p) (n / 16) (digit_glyph false (n % 16) ∷ acc) (omega arith) h.1 ∙ sym (append_assoc (hex_digits (suc p) (n / 16)) (digit_glyph false (n % 16) ∷ []) acc))
+
+digits-places : (p n : ℕ) → p ≤ 64 → HasPlaces p n → digits 16 false n ≡ hex_digits p n
+unfolding digits
+digits-places p n l h = onto-places 64 p n [] l h ∙ append-nil (hex_digits p n)
+
+length-hex_digits : (p n : ℕ) → length (hex_digits p n) ≡ p
+length-hex_digits zero n = refl
+length-hex_digits (suc p) n =
+    let e : length (hex_digits p (n / 16)) ≡ p = length-hex_digits p (n / 16) in
+    omega (arith, e, length-append (hex_digits p (n / 16)) (digit_glyph false (n % 16) ∷ []))
+
+abbrev zeros : ℕ → List ℕ
+zeros m = repeat m (48 ∷ [])
+
+zeros-last : (m : ℕ) → zeros m ++ 48 ∷ [] ≡ 48 ∷ zeros m
+zeros-last zero = refl
+zeros-last (suc m) = ap (λ (t : List ℕ). 48 ∷ t) (zeros-last m)
+
+hex_digits-zero : (m n : ℕ) → n ≡ 0 → hex_digits m n ≡ zeros m
+hex_digits-zero zero n z = refl
+hex_digits-zero (suc m) n z =
+    let d : n % 16 ≡ 0 = omega (arith, z) in
+    let q : n / 16 ≡ 0 = omega (arith, z) in
+    rw d (ap (λ (t : List ℕ). t ++ 48 ∷ []) (hex_digits-zero m (n / 16) q) ∙ zeros-last m)
+
+zeros-front : (m p n : ℕ) → HasPlaces p n → hex_digits (m + p) n ≡ zeros m ++ hex_digits p n
+zeros-front m zero n h = absurd h
+zeros-front m (suc zero) n h =
+    let e : m + 1 ≡ suc m = omega arith in
+    let z : n / 16 ≡ 0 = omega arith in
+    rw e (ap (λ (t : List ℕ). t ++ digit_glyph false (n % 16) ∷ []) (hex_digits-zero m (n / 16) z))
+zeros-front m (suc (suc p)) n h =
+    let e : m + suc (suc p) ≡ suc (m + suc p) = omega arith in
+    rw e (ap (λ (t : List ℕ). t ++ digit_glyph false (n % 16) ∷ []) (zeros-front m (suc p) (n / 16) h.1) ∙ append_assoc (zeros m) (hex_digits (suc p) (n / 16)) (digit_glyph false (n % 16) ∷ []))
+
+drop-zeros : (j m : ℕ) (ys : List ℕ) → j ≤ m → drop j (zeros m ++ ys) ≡ zeros (m - j) ++ ys
+drop-zeros zero m ys l = let e : m - 0 ≡ m = omega arith in rw e refl
+drop-zeros (suc j) zero ys l = absurd (omega arith)
+drop-zeros (suc j) (suc m) ys l = let e : suc m - suc j ≡ m - j = omega arith in rw e (drop-zeros j m ys (omega arith))
+
+hex-given : (least n p : ℕ) → p ≤ 8 → HasPlaces p n → hex least n ≡ zeros (least - p) ++ hex_digits p n
+hex-given least n p l h = rw (digits-places p n (omega arith) h, length-hex_digits p n) refl
+
+abbrev HexOf : ℕ → ℕ → ℕ → Type 0
+HexOf least n p = hex least n ≡ drop (8 - max least p) (hex_digits 8 n)
+
+hex-of : (least n p : ℕ) → p ≤ 8 → least ≤ 8 → HasPlaces p n → HexOf least n p
+hex-of least n p l m h =
+    let all : 8 - p + p ≡ 8 = omega arith in
+    let left : 8 - p - (8 - max least p) ≡ least - p = omega arith in
+    hex-given least n p l h
+    ∙ sym (ap (λ q. drop (8 - max least p) (hex_digits q n)) (sym all)
+    ∙ ap (λ (t : List ℕ). drop (8 - max least p) t) (zeros-front (8 - p) p n h)
+    ∙ drop-zeros (8 - max least p) (8 - p) (hex_digits p n) (omega arith)
+    ∙ ap (λ q. zeros q ++ hex_digits p n) left)
+
+hex-step : (least n bound p q : ℕ) → (n < bound → HexOf least n p) → (bound ≤ n → HexOf least n q) → (t : Bool) → nat_lt n bound ≡ t → HexOf least n (cond t p q)
+hex-step least n bound p q low high true e = low (ltb-true n bound e)
+hex-step least n bound p q low high false e = high (ltb-false n bound e)
+
+pub hex-places : (least n : ℕ) → least ≤ 8 → n < 2 ^ 32 → hex least n ≡ hex_by_places least n
+hex-places least n m l =
+    hex-step least n 16 1 _ (λ h. hex-of least n 1 (omega arith) m h)
+    (λ a. hex-step least n 256 2 _ (λ h. hex-of least n 2 (omega arith) m (a, omega arith))
+    (λ a. hex-step least n 4096 3 _ (λ h. hex-of least n 3 (omega arith) m (omega arith, (omega arith, omega arith)))
+    (λ a. hex-step least n 65536 4 _ (λ h. hex-of least n 4 (omega arith) m (omega arith, (omega arith, (omega arith, omega arith))))
+    (λ a. hex-step least n 1048576 5 _ (λ h. hex-of least n 5 (omega arith) m (omega arith, (omega arith, (omega arith, (omega arith, omega arith)))))
+    (λ a. hex-step least n 16777216 6 _ (λ h. hex-of least n 6 (omega arith) m (omega arith, (omega arith, (omega arith, (omega arith, (omega arith, omega arith))))))
+    (λ a. hex-step least n 268435456 7 8 (λ h. hex-of least n 7 (omega arith) m (omega arith, (omega arith, (omega arith, (omega arith, (omega arith, (omega arith, omega arith)))))))
+    (λ a. hex-of least n 8 (omega arith) m (omega arith, (omega arith, (omega arith, (omega arith, (omega arith, (omega arith, (omega arith, omega arith)))))))) _ refl) _ refl) _ refl) _ refl) _ refl) _ refl) _ refl
+
+few_places : (n : ℕ) → hex_places n ≤ 8
+few_places n = by (nat_lt n 16) (nat_lt n 256) (nat_lt n 4096) (nat_lt n 65536) (nat_lt n 1048576) (nat_lt n 16777216) (nat_lt n 268435456)
+  where
+    by : (a b c d e f g : Bool) → cond a 1 (cond b 2 (cond c 3 (cond d 4 (cond e 5 (cond f 6 (cond g 7 8)))))) ≤ 8
+    by true b c d e f g = omega arith
+    by false true c d e f g = omega arith
+    by false false true d e f g = omega arith
+    by false false false true e f g = omega arith
+    by false false false false true f g = omega arith
+    by false false false false false true g = omega arith
+    by false false false false false false true = omega arith
+    by false false false false false false false = omega arith
+
+-- all eight digits
+pub hex-eight : (n : ℕ) → n < 2 ^ 32 → hex 8 n ≡ hex_digits 8 n
+hex-eight n l =
+    let few : hex_places n ≤ 8 = few_places n in
+    let none : 8 - max 8 (hex_places n) ≡ 0 = omega (arith, few) in
+    hex-places 8 n (omega arith) l ∙ ap (λ q. drop q (hex_digits 8 n)) none
+
+-- the two digits of a byte
+pub hex-two : (b : ℕ) → b < 256 → hex 2 b ≡ hex_digits 2 b
+hex-two b l = by (nat_lt b 16) refl
+  where
+    by : (t : Bool) → nat_lt b 16 ≡ t → hex 2 b ≡ hex_digits 2 b
+    by true e = hex-given 2 b 1 (omega arith) (ltb-true b 16 e) ∙ sym (zeros-front 1 1 b (ltb-true b 16 e))
+    by false e = hex-given 2 b 2 (omega arith) (ltb-false b 16 e, omega arith)
+
+-- a slice of eight digits
+pub hex-slice : (least n r : ℕ) (ds : List ℕ) → ds ≡ hex_digits 8 n → r ≡ max (hex_places n) least → least ≤ 8 → n < 2 ^ 32 → take (8 - (8 - r)) (drop (8 - r) ds) ≡ hex least n
+hex-slice least n r ds e p m l =
+    let long : length ds ≡ 8 = ap (λ (t : List ℕ). length t) e ∙ length-hex_digits 8 n in
+    let same : 8 - r ≡ 8 - max least (hex_places n) = omega (arith, p) in
+    take_all (8 - (8 - r)) (drop (8 - r) ds) (omega (arith, long, length-drop (8 - r) ds))
+    ∙ ap (λ q. drop q ds) same
+    ∙ ap (λ (t : List ℕ). drop (8 - max least (hex_places n)) t) e
+    ∙ sym (hex-places least n m l)
