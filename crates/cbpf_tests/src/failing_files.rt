@@ -78,9 +78,11 @@ fn a_load_that_fails_is_reported_and_the_next_one_succeeds(
         rt.alloc(),
         1,
         &[b"load pcap k\nload pcap k\nload pcap j\n"],
-        &[b"error: F2 file could not be read\n\
+        &[
+            b"error: F2 file could not be read\n\
 pcap: 2 packets\n\
-error: F1 no such file\n"],
+error: F1 no such file\n",
+        ],
     )
 }
 
@@ -91,9 +93,11 @@ fn a_name_that_is_no_text_asks_for_no_load(rt: HostRuntime) -> Result<(), AllocE
         rt.alloc(),
         1,
         &[b"load pcap \xff\nload pcap\nload pcap k\n"],
-        &[b"error: Q2 wrong arguments\n\
+        &[
+            b"error: Q2 wrong arguments\n\
 error: Q2 wrong arguments\n\
-error: F2 file could not be read\n"],
+error: F2 file could not be read\n",
+        ],
     )
 }
 

@@ -33,7 +33,10 @@ fn check_fault(
 ) {
     assert_eq!(rt; answer, Err(WriteFault));
     assert_eq!(rt; writer.calls(), call);
-    assert_eq!(rt; Some(writer.written()), text.get(..call as usize - 1));
+    assert_eq!(rt;
+        Some(writer.written()),
+        text.get(..(call as usize).saturating_sub(1))
+    );
 }
 
 fn check_whole(

@@ -6,7 +6,8 @@ use pcap_classic::Capture;
 use std::alloc::{AllocError, Allocator};
 
 /// Loads the filter and the capture `k`.
-pub const LOAD_ICMP: &[u8] = b"load bpf 6,40 0 0 12,21 0 3 2048,48 0 0 23,21 0 1 1,6 0 0 65535,6 0 0 0\n\
+pub const LOAD_ICMP: &[u8] =
+    b"load bpf 6,40 0 0 12,21 0 3 2048,48 0 0 23,21 0 1 1,6 0 0 65535,6 0 0 0\n\
 load pcap k\n";
 
 /// What these loads write.

@@ -81,10 +81,7 @@ fn instructions_of(
 }
 
 /// The instructions, or the refusal.
-fn plainly(
-    alloc: Global,
-    text: &[u8],
-) -> Result<Result<Vec<[u64; 4]>, WordFault>, AllocError> {
+fn plainly(alloc: Global, text: &[u8]) -> Result<Result<Vec<[u64; 4]>, WordFault>, AllocError> {
     let marks = marks_of(alloc, text)?;
     for (j, mark) in marks.iter().enumerate() {
         if let Some(fault) = fault_of(j, *mark) {

@@ -1,6 +1,8 @@
 // Breakpoints whose growths are refused, and the calls of a session that take no memory.
 use crate::icmp::{ICMP_WORDS, program_of, session_of};
-use cbpf_code::{Ext, check, read_words, write_bytes, write_c, write_decimal, write_hex, write_words};
+use cbpf_code::{
+    Ext, check, read_words, write_bytes, write_c, write_decimal, write_hex, write_words,
+};
 use cbpf_dbg::{Counts, MarkTrail, Meter, Place, RunReply, Session, SessionFault, When};
 use cbpf_text::write_listing;
 use fault_injection::{Fault, FaultyWriter, RefusingAllocator};
@@ -77,7 +79,7 @@ fn set_all<A: Allocator + Copy>(
             Ok(()) => (),
             Err(fault) => {
                 assert_eq!(rt; fault, SessionFault::Memory);
-                refused += 1;
+                refused = refused.saturating_add(1);
                 check_list(rt, session, n, when);
                 check_runs(rt, session, n);
                 check_list(rt, session, n, when);
@@ -109,7 +111,7 @@ fn each_growth_of_breakpoints(rt: HostRuntime) {
                 break;
             }
             assert_eq!(rt; refused, 1);
-            growths += 1;
+            growths = growths.saturating_add(1);
         }
         assert!(rt; is_whole && growths > 2);
     }
@@ -138,7 +140,11 @@ fn go_through<A: Allocator + Copy>(rt: &impl Abort, session: &mut Session<MarkTr
     assert!(rt; session.step(&mut meter, 3).is_ok());
     assert!(rt; session.step(&mut meter, -1).is_ok());
     assert!(rt; session.run(&mut meter, Some(1)).is_ok());
-    assert!(rt; session.resume(&mut meter, Place { packet: 2, step: 3 }).is_ok());
+    assert!(rt;
+        session
+            .resume(&mut meter, Place { packet: 2, step: 3 })
+            .is_ok()
+    );
     assert!(rt; session.select(1) == Ok(()));
     assert!(rt; session.mark().is_ok());
     assert!(rt; session.set_value(Ext::Mark, 7) == Ok(()));

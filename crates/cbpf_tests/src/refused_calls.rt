@@ -138,14 +138,19 @@ const REFUSED: [(&[u8], AsmKind, u64); 10] = [
 fn each_growth_of_a_source(rt: HostRuntime) -> Result<(), AllocError> {
     assert!(rt; growths_of_source(&rt, rt.alloc(), BRANCH, Ok(5)) > 3);
     for (source, kind, line) in REFUSED {
-        let growths =
-            growths_of_source(&rt, rt.alloc(), source, Err(AsmFault::At(kind, line)));
+        let growths = growths_of_source(&rt, rt.alloc(), source, Err(AsmFault::At(kind, line)));
         assert!(rt; growths > 0 || kind == AsmKind::NoInstruction);
     }
     let many = repeated(rt.alloc(), b"", b"tax\n", 4097, b"")?;
     let fault = Err(AsmFault::At(AsmKind::TooMany, 4097));
     assert!(rt; growths_of_source(&rt, rt.alloc(), &many, fault) > 8);
-    let far = repeated(rt.alloc(), b"jeq #0, far\n", b"tax\n", 256, b"far: ret #0\n")?;
+    let far = repeated(
+        rt.alloc(),
+        b"jeq #0, far\n",
+        b"tax\n",
+        256,
+        b"far: ret #0\n",
+    )?;
     let fault = Err(AsmFault::At(AsmKind::TooFar, 1));
     assert!(rt; growths_of_source(&rt, rt.alloc(), &far, fault) > 8);
     Ok(())
@@ -180,8 +185,7 @@ fn each_growth_of_a_capture(rt: HostRuntime) -> Result<(), AllocError> {
 fn a_snapshot_length_or_a_record_asks_for_no_room(rt: HostRuntime) -> Result<(), AllocError> {
     // A file header of the greatest snapshot length, and a record header of the greatest length.
     for bytes in [
-        b"\xd4\xc3\xb2\xa1\x02\x00\x04\x00\x00\x00\x00\x00\x00\x00\x00\x00\xff\xff\xff\xff\x01\x00\x00\x00"
-            .as_slice(),
+        b"\xd4\xc3\xb2\xa1\x02\x00\x04\x00\x00\x00\x00\x00\x00\x00\x00\x00\xff\xff\xff\xff\x01\x00\x00\x00".as_slice(),
         b"\xd4\xc3\xb2\xa1\x02\x00\x04\x00\x00\x00\x00\x00\x00\x00\x00\x00\xff\xff\xff\xff\x01\x00\x00\x00\
 \x00\x00\x00\x00\x00\x00\x00\x00\xff\xff\xff\xff\xff\xff\xff\xff",
         b"\xd4\xc3\xb2\xa1\x02\x00\x05\x00\x00\x00\x00\x00\x00\x00\x00\x00\xff\xff\xff\xff\x01\x00\x00\x00",
@@ -191,7 +195,7 @@ fn a_snapshot_length_or_a_record_asks_for_no_room(rt: HostRuntime) -> Result<(),
         assert_eq!(rt; refusing.left(), 1);
         match Capture::from_bytes(&refusing, owned) {
             Ok(capture) => assert_eq!(rt; capture.count(), 0),
-            Err((fault, _)) => assert_eq!(rt; fault, CaptureFault::UnknownVersion),
+            Err((fault, _back)) => assert_eq!(rt; fault, CaptureFault::UnknownVersion),
         }
         assert_eq!(rt; refusing.left(), 1);
     }
@@ -217,7 +221,7 @@ fn each_growth_of_files(rt: HostRuntime) -> Result<(), AllocError> {
         let mut refused = 0u64;
         for count in 0..20u64 {
             let Ok(bytes) = Vec::from_slice(&refusing, &[count as u8]) else {
-                refused += 1;
+                refused = refused.saturating_add(1);
                 continue;
             };
             let name = if count % 2 == 0 { "even" } else { "odd" };
@@ -228,14 +232,17 @@ fn each_growth_of_files(rt: HostRuntime) -> Result<(), AllocError> {
                 match files.load(rt.alloc(), name) {
                     Ok(held) => {
                         assert!(rt; count > 1);
-                        assert_eq!(rt; held.as_slice(), [count as u8 - 2].as_slice());
+                        assert_eq!(rt;
+                            held.as_slice(),
+                            [(count as u8).saturating_sub(2)].as_slice()
+                        );
                     }
                     Err(fault) => {
                         assert!(rt; count < 2);
                         assert_eq!(rt; fault, LoadFault::Absent);
                     }
                 }
-                refused += 1;
+                refused = refused.saturating_add(1);
             }
         }
         assert!(rt; refused == if refusing.left() == 0 { 1 } else { 0 });
@@ -250,7 +257,11 @@ fn each_growth_of_files(rt: HostRuntime) -> Result<(), AllocError> {
 #[test]
 fn a_load_grows_once(rt: HostRuntime) -> Result<(), AllocError> {
     let mut files = MemoryFiles::new(rt.alloc());
-    assert!(rt; files.put("k", Vec::from_slice(rt.alloc(), b"bytes")?).is_ok());
+    assert!(rt;
+        files
+            .put("k", Vec::from_slice(rt.alloc(), b"bytes")?)
+            .is_ok()
+    );
     let refusing = RefusingAllocator::refusing(rt.alloc(), 1);
     assert!(rt; matches!(files.load(&refusing, "j"), Err(LoadFault::Absent)));
     assert_eq!(rt; refusing.left(), 1);

@@ -68,9 +68,9 @@ fn each_growth_of_a_script(rt: HostRuntime) -> Result<(), AllocError> {
                 assert!(rt; programs > 0 && captures > 0 && lines > 0);
                 return Ok(());
             }
-            Refused::Program => programs += 1,
-            Refused::Capture => captures += 1,
-            Refused::Line(_) => lines += 1,
+            Refused::Program => programs = programs.saturating_add(1),
+            Refused::Capture => captures = captures.saturating_add(1),
+            Refused::Line(_) => lines = lines.saturating_add(1),
         }
     }
     panic!(rt; "no end of growths")

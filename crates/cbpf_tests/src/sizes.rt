@@ -32,7 +32,10 @@ pub const RECORD: &[u8] = b"\x01\x00\x00\x00\x02\x00\x00\x00\x01\x00\x00\x00\x3c
 
 fn check_item(rt: &impl Abort, item: &Captured<'_>, number: u64) {
     assert_eq!(rt; item.number, number);
-    assert_eq!(rt; item.start as u64, number * 17 + 7);
+    assert_eq!(rt;
+        item.start as u64,
+        number.saturating_mul(17).saturating_add(7)
+    );
     assert_eq!(rt; item.seconds, 1);
     assert_eq!(rt; item.fraction, 2);
     assert_eq!(rt; item.wire, 60);
@@ -65,7 +68,11 @@ fn word_text_of_5000_instructions(rt: HostRuntime) -> Result<(), AllocError> {
     };
     assert_eq!(rt; list.len(), 5000);
     for (i, insn) in list.iter().enumerate() {
-        let wanted = if i == 4999 { (6, 1, 2, 3) } else { (7, 0, 0, 0) };
+        let wanted = if i == 4999 {
+            (6, 1, 2, 3)
+        } else {
+            (7, 0, 0, 0)
+        };
         assert!(rt; (insn.code, insn.jt, insn.jf, insn.k) == wanted);
     }
     Ok(())
@@ -80,10 +87,15 @@ fn a_source_of_8192_tokens(rt: HostRuntime) -> Result<(), AllocError> {
     };
     assert_eq!(rt; found.len(), 8192);
     for (i, token) in found.iter().enumerate() {
-        let (start, len) = if i % 2 == 0 { (i * 3, 3) } else { (i * 3 + 1, 1) };
+        let place = i.saturating_mul(3);
+        let (start, len) = if i % 2 == 0 {
+            (place, 3)
+        } else {
+            (place.saturating_add(1), 1)
+        };
         assert!(rt; token.kind == Kind::Word);
         assert_eq!(rt; token.start, start);
-        assert_eq!(rt; token.end - token.start, len);
+        assert_eq!(rt; token.end.saturating_sub(token.start), len);
     }
     let Ok(list) = assemble(rt.alloc(), &source) else {
         assert!(rt; false);

@@ -46,14 +46,14 @@ type Exchange = (&'static [u8], u64);
 struct WaitingReader<'a> {
     exchanges: &'a [Exchange],
     progress: &'a Cell<Progress>,
+    /// The length of the replies to the lines that it gave.
     replies: u64,
-    reads: u64,
+    reads: usize,
     late: u64,
 }
 
 impl<'a> Read for WaitingReader<'a> {
     fn read(&mut self, buf: &mut [u8]) -> io::Result<usize> {
-        self.reads = self.reads.saturating_add(1);
         let wanted = Progress {
             written: self.replies,
             flushed: self.replies,
@@ -61,10 +61,11 @@ impl<'a> Read for WaitingReader<'a> {
         if self.progress.get() != wanted {
             self.late = self.late.saturating_add(1);
         }
-        let Some(((line, reply), rest)) = self.exchanges.split_first() else {
+        let exchange = self.exchanges.get(self.reads);
+        self.reads = self.reads.saturating_add(1);
+        let Some((line, reply)) = exchange else {
             return Ok(0);
         };
-        self.exchanges = rest;
         self.replies = self.replies.saturating_add(*reply);
         let mut bytes: &[u8] = line;
         bytes.read(buf)
@@ -118,7 +119,7 @@ fn each_reply_is_written_and_flushed_before_the_next_read(
         assert_eq!(rt; reader.late, 0);
         // Behind `quit` nothing is read; else the read that finds the end is one more. A line that the
         // end cuts off is answered after that read.
-        let reads = if count == 9 { 9 } else { count as u64 + 1 };
+        let reads = if count == 9 { 9 } else { count + 1 };
         assert_eq!(rt; reader.reads, reads);
         assert_eq!(rt; progress.get().flushed, progress.get().written);
         if count != 6 {

@@ -1,5 +1,7 @@
 // Breakpoints, conditions and values for extensions, as whole scripts over memory.
-use crate::icmp::{AT_2_2, FIRST_PACKET, SECOND_PACKET, LOAD_ICMP, LOADED, TWO_PACKETS_AS_K, EMPTY_PACKET_AS_K};
+use crate::icmp::{
+    AT_2_2, EMPTY_PACKET_AS_K, FIRST_PACKET, LOAD_ICMP, LOADED, SECOND_PACKET, TWO_PACKETS_AS_K,
+};
 use crate::worked::{Worked, check_all};
 use std::alloc::AllocError;
 

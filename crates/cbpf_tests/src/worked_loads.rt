@@ -1,5 +1,5 @@
 // Loads, dumps and refusals, as whole scripts over memory.
-use crate::icmp::{TWO_PACKETS_AS_K, REFUSED_FILES, LONG_RECORD_AS_K};
+use crate::icmp::{LONG_RECORD_AS_K, REFUSED_FILES, TWO_PACKETS_AS_K};
 use crate::worked::{Worked, check_all};
 use std::alloc::AllocError;
 
@@ -223,12 +223,8 @@ error: S2 no capture\n",
     Worked {
         shows: "a captured length beyond the end of the file",
         files: LONG_RECORD_AS_K,
-        script: &[
-            b"load pcap k\n",
-        ],
-        text: &[
-            b"pcap: 0 packets, cut record data at 24\n",
-        ],
+        script: &[b"load pcap k\n"],
+        text: &[b"pcap: 0 packets, cut record data at 24\n"],
     },
 ];
 

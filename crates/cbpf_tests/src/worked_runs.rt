@@ -1,5 +1,8 @@
 // Runs, saved places and stops, as whole scripts over memory.
-use crate::icmp::{AT_1_1, AT_1_2, AT_1_3, AT_2_1, AT_2_2, AT_2_5, FIRST_PACKET, SECOND_PACKET, LOAD_ICMP, LOADED, TWO_PACKETS_AS_K, SWAPPED_AS_K, NO_PACKETS_AS_K};
+use crate::icmp::{
+    AT_1_1, AT_1_2, AT_1_3, AT_2_1, AT_2_2, AT_2_5, FIRST_PACKET, LOAD_ICMP, LOADED,
+    NO_PACKETS_AS_K, SECOND_PACKET, SWAPPED_AS_K, TWO_PACKETS_AS_K,
+};
 use crate::worked::{Worked, check_all};
 use std::alloc::AllocError;
 
@@ -261,14 +264,8 @@ stops: 3\n\
     Worked {
         shows: "a run without breakpoints counts all packets",
         files: TWO_PACKETS_AS_K,
-        script: &[
-            LOAD_ICMP,
-            b"run\n",
-        ],
-        text: &[
-            LOADED,
-            b"bpf passes:1 fails:1\n",
-        ],
+        script: &[LOAD_ICMP, b"run\n"],
+        text: &[LOADED, b"bpf passes:1 fails:1\n"],
     },
     Worked {
         shows: "a deleted breakpoint is no stop",

@@ -1,5 +1,8 @@
 // Steps both ways, as whole scripts over memory.
-use crate::icmp::{AT_1_2, AT_1_3, AT_2_1, AT_2_2, AT_2_5, FIRST_PACKET, SECOND_PACKET, LOAD_ICMP, LOADED, TWO_PACKETS_AS_K};
+use crate::icmp::{
+    AT_1_2, AT_1_3, AT_2_1, AT_2_2, AT_2_5, FIRST_PACKET, LOAD_ICMP, LOADED, SECOND_PACKET,
+    TWO_PACKETS_AS_K,
+};
 use crate::worked::{Worked, check_all};
 use std::alloc::AllocError;
 
@@ -112,26 +115,14 @@ error: S8 count is zero\n",
     Worked {
         shows: "a step beyond the range of the number",
         files: TWO_PACKETS_AS_K,
-        script: &[
-            LOAD_ICMP,
-            b"step -9223372036854775808\n",
-        ],
-        text: &[
-            LOADED,
-            b"error: Q2 wrong arguments\n",
-        ],
+        script: &[LOAD_ICMP, b"step -9223372036854775808\n"],
+        text: &[LOADED, b"error: Q2 wrong arguments\n"],
     },
     Worked {
         shows: "packets are counted from 1",
         files: TWO_PACKETS_AS_K,
-        script: &[
-            LOAD_ICMP,
-            b"select 0\n",
-        ],
-        text: &[
-            LOADED,
-            b"error: S5 no such packet\n",
-        ],
+        script: &[LOAD_ICMP, b"select 0\n"],
+        text: &[LOADED, b"error: S5 no such packet\n"],
     },
     Worked {
         shows: "a step back brings scratch memory back",
@@ -172,14 +163,8 @@ M[1,15]:  [00000000][0]\n",
     Worked {
         shows: "without breakpoints there are no stops",
         files: TWO_PACKETS_AS_K,
-        script: &[
-            LOAD_ICMP,
-            b"stops\n",
-        ],
-        text: &[
-            LOADED,
-            b"stops: 0\n",
-        ],
+        script: &[LOAD_ICMP, b"stops\n"],
+        text: &[LOADED, b"stops: 0\n"],
     },
 ];
 

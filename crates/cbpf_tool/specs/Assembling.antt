@@ -1,7 +1,5 @@
 -- What the assembler leaves in its writer: the instructions of a source in one of two forms (kernel documentation, networking/filter, on `bpf_asm`).
 use Rattle.std.specs.Prelude.{◌≡◌, ◌≢◌, ℕ, List, [], Option, Some, Result, Ok, Err}
-use Rattle.std.specs.declared.io.ErrorKind.{ErrorKind}
-use Rattle.std.specs.declared.io.ErrorKind.TheVariants.{OutOfMemory}
 use Rattle.cbpf_code.specs.Writing.{Appended, AppendedPart}
 use Rattle.cbpf_code.specs.WordForm.{words}
 use Rattle.cbpf_code.specs.CForm.{c_form}
@@ -18,11 +16,6 @@ use Rattle.cbpf_tool.specs.declared.fault.ToolFault.TheVariants.{Source, Read, W
 abbrev pub form_text : Form → List Insn → List ℕ
 form_text Decimal list = words list
 form_text C list = c_form list
-
--- what a read that failed is told as
-abbrev pub input_fault : ErrorKind → ToolFault
-input_fault OutOfMemory = Memory
-input_fault _ = Read
 
 -- a fault before anything is written
 abbrev pub IsEarly : ToolFault → Type 0

@@ -2,36 +2,39 @@
 ghost use Rattle.std.specs.Prelude.{◌≡◌, ℕ, List, [], Some, IfOk, IfErr, OnOk};
 ghost use Rattle.std.specs.Io.KnownBytes.{IsAtEnd};
 ghost use Rattle.cbpf_code.specs.Writing.{Appended, Wrote};
-ghost use Rattle.cbpf_tool.specs.Assembling.{Assembled, IsEarly, IsReadingFault, form_text, input_fault};
+ghost use Rattle.cbpf_tool.specs.Assembling.{Assembled, IsEarly, IsReadingFault, form_text};
 
 use crate::fault::ToolFault;
 use cbpf_code::{Insn, WriteFault, write_c, write_words};
 use cbpf_command_line::Form;
 use cbpf_text::{AsmFault, assemble};
 use std::alloc::Allocator;
-use std::io::{ErrorKind, Read, Write};
+use std::io::{Read, Write};
 
-/// What a read that failed is told as.
-fn input_fault(kind: ErrorKind) -> ToolFault
-    ensures { result ≡ input_fault kind }
-{
-    match kind {
-        ErrorKind::OutOfMemory => ToolFault::Memory,
-        _ => ToolFault::Read,
-    }
-}
+/// How many bytes are read at once, at most.
+const CHUNK: usize = 4096;
 
-/// All bytes up to the reader's end.
+/// All bytes up to the reader's end, by at most 18446744073709551615 reads. A read that is interrupted has
+/// failed like any other, which `read_to_end` would make again.
 fn read_source<A: Allocator, R: Read>(alloc: A, reader: &mut R) -> Result<Vec<u8, A>, ToolFault>
     ensures bytes { IfOk result (λ source. (text : List ℕ) → R.remaining reader.old ≡ Some text → source.items ≡ text) }
     ensures end { OnOk result (IsAtEnd (R.remaining reader.new)) }
     ensures fault { IfErr result IsReadingFault }
 {
     let mut source = Vec::new(alloc);
-    match reader.read_to_end(&mut source) {
-        Ok(_) => Ok(source),
-        Err(e) => Err(input_fault(e.kind())),
+    let mut chunk = [0; CHUNK];
+    for _ in 0..u64::MAX {
+        let Ok(count) = reader.read(&mut chunk) else {
+            return Err(ToolFault::Read);
+        };
+        if count == 0 {
+            return Ok(source);
+        }
+        if source.extend_from_slice(&chunk[..count]).is_err() {
+            return Err(ToolFault::Memory);
+        }
     }
+    Err(ToolFault::Read)
 }
 
 /// Writes instructions in a form.
