@@ -2,7 +2,7 @@
 
 ghost use Rattle.std.specs.Prelude.{not, ◌==◌, ◌≡◌, ◌≤◌, ◌||◌, ◌&&◌, length};
 ghost use Rattle.std.specs.List.{prefix_len, fold};
-ghost use Rattle.cbpf_lex.specs.Bytes.{is_blank, is_digit, is_letter, is_name_byte, is_mark};
+ghost use Rattle.cbpf_lex.specs.Bytes.{is_blank, is_digit, is_name_byte};
 
 /// A space, a tab, a newline or a carriage return.
 pub fn is_blank(b: u8) -> bool
@@ -17,27 +17,11 @@ pub fn is_digit(b: u8) -> bool
     b >= b'0' && b <= b'9'
 }
 
-/// An ASCII letter or `_`.
-pub fn is_letter(b: u8) -> bool
-    ensures { result ≡ is_letter b }
-{
-    (b >= b'a' && b <= b'z') || (b >= b'A' && b <= b'Z') || b == b'_'
-}
-
+/// An ASCII letter, a digit or `_`.
 pub fn is_name_byte(b: u8) -> bool
     ensures { result ≡ is_name_byte b }
 {
-    is_letter(b) || is_digit(b)
-}
-
-/// A byte that is a token by itself.
-pub fn is_mark(b: u8) -> bool
-    ensures { result ≡ is_mark b }
-{
-    matches!(
-        b,
-        b'[' | b']' | b'(' | b')' | b'*' | b'&' | b'+' | b'-' | b',' | b':' | b'#' | b'%'
-    )
+    matches!(b, b'a'..=b'z' | b'A'..=b'Z' | b'_' | b'0'..=b'9')
 }
 
 /// How many bytes at the front may stand in a name.
@@ -77,7 +61,7 @@ pub fn line_len(text: &[u8]) -> usize
 }
 
 /// Whether the last line has only blanks, where `blank` says so of it before these bytes.
-// It looks from behind, where the last newline, or a byte behind it that isn't blank, tells it.
+// It looks from the end: the last newline, or a byte after it that isn't blank, decides.
 pub fn is_line_blank(blank: bool, bytes: &[u8]) -> bool
     ensures { result ≡ fold (λ blank b. b == 10 || (blank && is_blank b)) blank bytes.now }
 {

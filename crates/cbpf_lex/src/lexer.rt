@@ -56,8 +56,9 @@ impl<'a> Lexer<'a> {
     ///
     /// # Errors
     ///
-    /// `At` tells that a bad piece comes before the next token, and its line. The lexer then
-    /// stays where it was.
+    /// `At`: a bad piece comes before the next token, on this line. The lexer then stays where
+    /// it was.
+    #[inline(always)]
     pub fn next_token(&mut self) -> Result<Option<Token>, LexFault>
         ensures text { self.new.text ≡ self.old.text }
         ensures token { IfOk result (λ next. IfSome next (IsNextToken self.old.text self.old.at self.new.at)) }

@@ -9,7 +9,7 @@ ghost use Rattle.cbpf_lex.specs.declared.piece.PieceKind.TheVariants.{Comment, B
 ghost use Rattle.cbpf_lex.specs.declared.piece.Lead.TheVariants.{Slash};
 ghost use Rattle.cbpf_lex.specs.declared.token.BadPiece.TheVariants.{OpenComment};
 
-use crate::bytes::{blanks_len, is_blank, is_digit, is_letter, is_mark, line_len, name_len};
+use crate::bytes::{blanks_len, line_len, name_len};
 use crate::number::{LIMIT, number_value};
 use crate::token::{BadPiece, Kind};
 
@@ -45,20 +45,17 @@ pub enum Lead {
 fn lead_of(fresh: bool, b: u8) -> Lead
     ensures { result ≡ lead_of fresh b }
 {
-    if is_blank(b) {
-        Lead::Blank
-    } else if b == b';' || (fresh && b == b'#') {
-        Lead::LineComment
-    } else if is_letter(b) {
-        Lead::Letter
-    } else if is_digit(b) {
-        Lead::Digit
-    } else if b == b'/' {
-        Lead::Slash
-    } else if is_mark(b) {
-        Lead::Single
-    } else {
-        Lead::Other
+    match b {
+        b' ' | b'\t' | b'\n' | b'\r' => Lead::Blank,
+        b';' => Lead::LineComment,
+        b'#' if fresh => Lead::LineComment,
+        b'a'..=b'z' | b'A'..=b'Z' | b'_' => Lead::Letter,
+        b'0'..=b'9' => Lead::Digit,
+        b'/' => Lead::Slash,
+        b'[' | b']' | b'(' | b')' | b'*' | b'&' | b'+' | b'-' | b',' | b':' | b'#' | b'%' => {
+            Lead::Single
+        }
+        _ => Lead::Other,
     }
 }
 
