@@ -2,7 +2,9 @@
 of growing size.
 
 User and system time of whole processes, the least of several; the time of a source with one instruction is taken
-away. The peak is the largest resident set of the process (`ru_maxrss`). Wants crates/cbpf built by `make build`.
+away. The peak is the largest resident set of the process (`ru_maxrss`), which is never less than this script's own
+before it starts the program, some 12 MB; so sources are written in pieces. Wants crates/cbpf built by `make build`,
+or takes the program's path as its argument.
 """
 import os
 import pathlib
@@ -30,6 +32,11 @@ def least(source, rounds):
     return min(seconds for seconds, _ in runs), max(peak for _, peak in runs)
 
 
+def write(path, pieces):
+    with open(path, "w") as file:
+        file.writelines(pieces)
+
+
 def with_labels():
     """4000 instructions with 2000 labels, each but the last two with two branches to the next labels."""
     lines = []
@@ -42,64 +49,83 @@ def with_labels():
 
 
 def labels(names):
-    return "".join(f"{name}:\n" for name in names) + "ret #0\n"
+    yield from (f"{name}:\n" for name in names)
+    yield "ret #0\n"
+
+
+def plain(count):
+    """Names of eight letters, which spell numbers."""
+    return (f"{i:08}".translate(str.maketrans("0123456789", "abcdefghij")) for i in range(count))
 
 
 def colliding(count):
-    """Labels whose names begin the probes of a hash table at one group, for a hasher without a key.
+    """Names of eight letters that begin the probes of a hash table at one group, for a hasher without a key.
 
-    The program that writes them hashes all names of eight letters as the toolchain's `FoldHasher` does from its
-    fixed seed, until enough have the same 14 lowest bits.
+    The program that prints them hashes names as the toolchain's `FoldHasher` does from its fixed seed, until enough
+    have the same 14 lowest bits.
     """
     with tempfile.TemporaryDirectory() as name:
         program = pathlib.Path(name) / "colliding_names"
         subprocess.run(["cc", "-O2", "-o", program, top / "bench/colliding_names.c"], check=True)
-        return labels(subprocess.run([program, str(count)], capture_output=True, check=True, text=True).stdout.split())
+        with subprocess.Popen([program, str(count)], stdout=subprocess.PIPE, text=True) as names:
+            yield from (line.rstrip() for line in names.stdout)
+
+
+def repeated(unit, size):
+    """So many bytes of a unit, in pieces of at most a megabyte."""
+    while size >= len(unit):
+        piece = unit * (min(size, 10**6) // len(unit))
+        yield piece
+        size -= len(piece)
+
+
+def around(begin, pieces, end):
+    yield begin
+    yield from pieces
+    yield end
 
 
 HOSTILE = [
-    ("100 MB of `y` and newlines", lambda: "y\n" * (50 * 10**6), 3),
-    ("21 MB of `ret #0`", lambda: "ret #0\n" * (3 * 10**6), 3),
-    ("30 MB of `b:`", lambda: "b:" * (15 * 10**6), 3),
-    ("2000000 labels", lambda: labels(f"l{i}" for i in range(2 * 10**6)), 3),
-    ("32768 labels of colliding names", lambda: colliding(32768), 10),
-    ("32768 plain labels of that size", lambda: labels(f"{i:08}".translate(str.maketrans("0123456789", "abcdefghij")) for i in range(32768)), 10),
-    ("100000 labels of colliding names", lambda: colliding(100000), 5),
-    ("100000 plain labels of that size", lambda: labels(f"{i:08}".translate(str.maketrans("0123456789", "abcdefghij")) for i in range(100000)), 5),
+    ("`y` and newlines", repeated("y\n", 10**8), 5),
+    ("`ret #0`", repeated("ret #0\n", 21 * 10**6), 5),
+    ("`b:`", repeated("b:", 30 * 10**6), 5),
+    ("2000000 labels", labels(f"l{i}" for i in range(2 * 10**6)), 5),
+    ("32768 labels, plain", labels(plain(32768)), 20),
+    ("32768 labels whose names collide", labels(colliding(32768)), 20),
+    ("100000 labels, plain", labels(plain(100000)), 20),
+    ("100000 labels whose names collide", labels(colliding(100000)), 20),
 ]
 
 GROWING = [
-    ("one comment", lambda size: "/*" + "*" * size + "*/ ret #0\n"),
-    ("blanks", lambda size: " " * size + "ret #0\n"),
-    ("lines of comment", lambda size: "; comment\n" * (size // 10) + "ret #0\n"),
-    ("one long line of numbers", lambda size: "ret #0 " + "; " + "1 " * (size // 2) + "\n"),
-    ("one long word", lambda size: "a" * size + ": ret #0\n"),
+    ("one comment", lambda size: around("/*", repeated("*", size), "*/ ret #0\n")),
+    ("blanks", lambda size: around("", repeated(" ", size), "ret #0\n")),
+    ("lines of comment", lambda size: around("", repeated("; comment\n", size), "ret #0\n")),
+    ("one long line of misplaced numbers", lambda size: repeated("1 ", size)),
+    ("one long word", lambda size: around("", repeated("a", size), ": ret #0\n")),
     ("labels", lambda size: labels(f"l{i:06}" for i in range(size // 9))),
-    ("instructions", lambda size: "ret #0\n" * (size // 7)),
+    ("instructions", lambda size: repeated("ret #0\n", size)),
 ]
 
 
 def main():
     with tempfile.TemporaryDirectory() as name:
         path = pathlib.Path(name) / "source"
-        path.write_text("ret #0\n")
+        write(path, ["ret #0\n"])
         start, peak = least(path, 200)
         print(f"start of the program: {start * 1e3:.2f} ms, {peak / 1e6:.1f} MB")
-        text = with_labels()
-        path.write_text(text)
-        spent, peak = least(path, 200)
-        print(f"4000 instructions with 2000 labels, {len(text)} bytes: {(spent - start) * 1e3:.2f} ms, {peak / 1e6:.1f} MB")
-        for what, source, rounds in HOSTILE:
-            path.write_text(source())
+
+        def row(what, pieces, rounds):
+            write(path, pieces)
             spent, peak = least(path, rounds)
-            print(f"{what}, {path.stat().st_size / 1e6:.1f} MB: {(spent - start) * 1e3:.1f} ms, {peak / 1e6:.1f} MB")
-        for what, source in GROWING:
-            figures = []
+            size = path.stat().st_size
+            print(f"{what}, {size / 1e6:.2f} MB: {(spent - start) * 1e3:.2f} ms, {peak / 1e6:.1f} MB", flush=True)
+
+        row("4000 instructions with 2000 labels", [with_labels()], 200)
+        for what, pieces, rounds in HOSTILE:
+            row(what, pieces, rounds)
+        for what, pieces in GROWING:
             for size in [10**5, 10**6, 10**7]:
-                path.write_text(source(size))
-                spent, peak = least(path, 10)
-                figures.append(f"{(spent - start) * 1e3:.2f} ms, {peak / 1e6:.1f} MB")
-            print(f"0.1, 1 and 10 MB of {what}: {'; '.join(figures)}")
+                row(what, pieces(size), 10)
 
 
 main()
