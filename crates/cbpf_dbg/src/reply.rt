@@ -7,6 +7,8 @@ use cbpf_machine::State;
 ///
 /// At step `s` of 1 or more the current state is entry `s` of the packet's trace, whose instruction
 /// is not yet carried out. At step 0 the packet has not begun, and there is no current state.
+///
+/// Places are ordered by the packet, then by the step.
 #[derive(Clone, Copy, Debug, PartialEq, Eq, PartialOrd, Ord)]
 pub struct Place {
     /// The number of the packet, counted from 1.

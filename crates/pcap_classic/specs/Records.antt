@@ -1,4 +1,4 @@
--- The records behind the file header of a capture, and how they end (pcap-savefile(5), "Packet Header"; that a cut last record is reported by its place is this crate's rule).
+-- The records after the file header of a capture, and how they end (pcap-savefile(5), "Packet Header"; that a cut last record is reported by its place is this crate's rule).
 use Rattle.std.specs.Prelude.{ℕ, ◌+◌, ◌≤◌, ◌<◌, List, [], ◌∷◌, length, take, drop}
 use Rattle.pcap_classic.specs.Numbers.{number_at}
 use Rattle.pcap_classic.specs.declared.endianness.Endianness.{Endianness}
@@ -33,7 +33,7 @@ record_at order n place bytes =
 
 -- bytes that stand at a place of the file hold these whole records, the first of which has number n, and
 -- end in this way: there are none; they are a part of a header; they are a header with too few bytes
--- behind it; or they begin with a whole record, and the bytes behind it hold the others
+-- after it; or they begin with a whole record, and the bytes after it hold the others
 pub data Holds (order : Endianness) : ℕ → ℕ → List ℕ → List Record → Ending → Type 0 where
   no_bytes : {n place : ℕ} → Holds order n place [] [] Whole
   part_of_header : {n place : ℕ} (bytes : List ℕ) → 0 < length bytes → length bytes < 16 → Holds order n place bytes [] (CutHeader place)
