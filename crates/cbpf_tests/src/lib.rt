@@ -45,6 +45,8 @@ mod worked_breakpoints;
 #[cfg(test)]
 mod worked_loads;
 #[cfg(test)]
+mod worked_long;
+#[cfg(test)]
 mod worked_runs;
 #[cfg(test)]
 mod worked_steps;

@@ -136,7 +136,13 @@ fn a_breakpoint_that_there_is_not_asks_for_no_room(rt: HostRuntime) -> Result<()
 /// Goes through a session by the calls that take no memory.
 fn go_through<A: Allocator + Copy>(rt: &impl Abort, session: &mut Session<MarkTrail, A>) {
     let mut meter = Meter::new();
-    assert!(rt; session.run(&mut meter, None).is_ok());
+    match session.run(&mut meter, None) {
+        Ok(RunReply::Stopped(stop)) => {
+            let mut w = FaultyWriter::<2048>::new(Fault::Fails, 0);
+            assert_eq!(rt; session.write_stop(&mut w, &stop), Ok(()));
+        }
+        _ => assert!(rt; false),
+    }
     assert!(rt; session.step(&mut meter, 3).is_ok());
     assert!(rt; session.step(&mut meter, -1).is_ok());
     assert!(rt; session.run(&mut meter, Some(1)).is_ok());

@@ -1,0 +1,86 @@
+// The longest programs, as whole scripts over memory.
+use crate::icmp::{FIRST_PACKET, TWO_PACKETS_AS_K};
+use crate::sizes::repeated;
+use crate::worked::{files_of, joined};
+use cbpf_tool::debug;
+use fault_injection::{Fault, FaultyWriter};
+use std::alloc::{AllocError, Global};
+use std::process::Abort;
+
+/// What is shown of the registers: nothing is ever stored.
+const ZEROS: &[u8] = b"A:        [00000000][0]\n\
+X:        [00000000][0]\n\
+M[0,15]:  [00000000][0]\n";
+
+/// Runs a script over two packets, and compares what it writes.
+fn check_script(
+    rt: &impl Abort,
+    alloc: Global,
+    script: &[&[u8]],
+    text: &[&[u8]],
+) -> Result<(), AllocError> {
+    let mut files = files_of(alloc, TWO_PACKETS_AS_K)?;
+    let script = joined(alloc, script)?;
+    let text = joined(alloc, text)?;
+    let mut reader = script.as_slice();
+    let mut writer = FaultyWriter::<4096>::new(Fault::Fails, 0);
+    let result = debug(alloc, &mut reader, &mut writer, &mut files);
+    assert_eq!(rt; result, Ok(()));
+    assert_eq!(rt; writer.written(), text.as_slice());
+    Ok(())
+}
+
+#[test]
+fn more_than_4096_instructions_are_refused(rt: HostRuntime) -> Result<(), AllocError> {
+    let longest = repeated(rt.alloc(), b"load bpf 4096,", b"6 0 0 0,", 4096, b"\n")?;
+    let longer = repeated(rt.alloc(), b"load bpf 4097,", b"6 0 0 0,", 4097, b"\n")?;
+    check_script(
+        &rt,
+        rt.alloc(),
+        &[&longest, &longer],
+        &[b"bpf: 4096 instructions\nerror: C2 more than 4096 instructions\n"],
+    )
+}
+
+#[test]
+fn a_run_to_the_last_of_4096_instructions_and_back(rt: HostRuntime) -> Result<(), AllocError> {
+    let load = repeated(rt.alloc(), b"load bpf 4096,", b"7 0 0 0,", 4095, b"6 0 0 1\n")?;
+    check_script(
+        &rt,
+        rt.alloc(),
+        &[
+            &load,
+            b"load pcap k\nbreakpoint 4095\nrun\nstep -1\nstep -4031\n",
+            &load,
+            b"run\n",
+        ],
+        &[
+            b"bpf: 4096 instructions\npcap: 2 packets\nbreakpoint at: l4095:\tret #0x1\n",
+            b"-- packet 1, step 4096 --\n\
+-- register dump --\n\
+pc:       [4095]\n\
+code:     [6] jt[0] jf[0] k[1]\n\
+curr:     l4095:\tret #0x1\n",
+            ZEROS,
+            FIRST_PACKET,
+            b"(breakpoint)\n",
+            b"-- packet 1, step 4095 --\n\
+-- register dump --\n\
+pc:       [4094]\n\
+code:     [7] jt[0] jf[0] k[0]\n\
+curr:     l4094:\ttax\n",
+            ZEROS,
+            FIRST_PACKET,
+            b"(step)\n",
+            b"-- packet 1, step 64 --\n\
+-- register dump --\n\
+pc:       [63]\n\
+code:     [7] jt[0] jf[0] k[0]\n\
+curr:     l63:\ttax\n",
+            ZEROS,
+            FIRST_PACKET,
+            b"(step)\n",
+            b"bpf: 4096 instructions\nbpf passes:2 fails:0\n",
+        ],
+    )
+}
