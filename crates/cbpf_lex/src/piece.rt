@@ -129,6 +129,7 @@ fn slash_piece(rest: &[u8]) -> Piece
 }
 
 /// The piece at the front of a text, which isn't empty. `fresh` is as in `lead_of`.
+#[inline(always)]
 pub fn next_piece(fresh: bool, first: u8, rest: &[u8]) -> Piece
     ensures { IsNext fresh (first ∷ rest.now) result }
 {
