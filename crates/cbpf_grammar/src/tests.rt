@@ -269,7 +269,7 @@ fn refusals(rt: HostRuntime) {
         (b"jeq #1,", Refusal::Unfinished(6)),
         (b"jeq #1, l,", Refusal::Unfinished(9)),
         (b"tax top:", Refusal::Unfinished(7)),
-        (b"ret #0 ld\n#5", Refusal::Unfinished(11)),
+        (b"ret #0 ld\n#5", Refusal::Unfinished(7)),
         (b"a: ret #0", Refusal::Misplaced(0)),
         (b"ret ret", Refusal::Misplaced(4)),
         (b"ldx type", Refusal::Misplaced(4)),

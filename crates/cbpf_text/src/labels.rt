@@ -64,11 +64,7 @@ impl<'a, A: Allocator> Labels<'a, A> {
     }
 
     /// One more label, which the item at the index sets.
-    pub fn add(
-        &mut self,
-        label: Lexeme<'a>,
-        index: u32,
-    ) -> Result<(), AllocFailed<(&'a [u8], u32)>>
+    pub fn add(&mut self, label: Lexeme<'a>, index: u32) -> Result<(), AllocFailed<(&'a [u8], u32)>>
         ensures { OnOk result ((ls : List tables.Label) → AreSet ls self.old.repeat (λ k. get same_slice self.old.table k) → AreSet (ls ++ record { word = lexeme_of label.entry; place = index } ∷ []) self.new.repeat (λ k. get same_slice self.new.table k)) }
     {
         if self.repeat.is_some() {
