@@ -5,7 +5,7 @@ use Rattle.std.proofs.lemmas.Option.{slice_get_within}
 use Rattle.cbpf_machine.specs.Machine.{Machine}
 use Rattle.cbpf_machine.specs.Registers.{Registers, zero_state}
 use Rattle.cbpf_machine.specs.declared.outcome.Outcome.{Outcome}
-use Rattle.cbpf_machine.specs.declared.follow.Followed.TheVariants.{Watched, Ended}
+use Rattle.cbpf_machine.specs.declared.follow.Followed.TheVariants.{Watched}
 use Rattle.cbpf_machine.specs.Trace.{trace, outcome}
 use Rattle.cbpf_machine.specs.Follow.{Follows, Unwatched}
 use Rattle.cbpf_machine.proofs.TraceLemmas.{goes_from_entry, length-trace_from}
@@ -72,7 +72,7 @@ module _ (machine : Machine) (capture : List Record) (w : Walk) (r : Record) (h 
     no_hits m unwatched = λ i s from to there.
         watches s (goes_from_entry machine r.bytes r.wire i zero_state s h.sound (sound_some machine.list h.sound) there).inside (unwatched i s from to there) r.bytes r.wire
 
-    pub on_stands : (n : ℕ) (s : Registers) → Follows watched xs (outcome machine r.bytes r.wire) w.place.step s (Watched n) → Stands machine capture (moved_on w n s)
+    pub on_stands : (n : ℕ) (s : Registers) → Follows watched xs (outcome machine r.bytes r.wire) w.place.step w.state s (Watched n) → Stands machine capture (moved_on w n s)
     on_stands n s f =
         record {
           sound = h.sound;
@@ -83,7 +83,7 @@ module _ (machine : Machine) (capture : List Record) (w : Walk) (r : Record) (h 
           counted = h.counted;
         }
 
-    pub on_passes : (n : ℕ) (s : Registers) → Follows watched xs (outcome machine r.bytes r.wire) w.place.step s (Watched n) → PassesOn machine capture breakpoints r w moved.Entry (moved_on w n s)
+    pub on_passes : (n : ℕ) (s : Registers) → Follows watched xs (outcome machine r.bytes r.wire) w.place.step w.state s (Watched n) → PassesOn machine capture breakpoints r w moved.Entry (moved_on w n s)
     on_passes n s f =
         let some = f.0 in
         let m : ℕ = w.place.step + n - 1 in
@@ -93,16 +93,16 @@ module _ (machine : Machine) (capture : List Record) (w : Walk) (r : Record) (h 
         let first = ahead-entry machine capture w.place.packet m r s from_one at f.2 in
         (record w { place = place_at w.place.packet m }, refl, sym same.0, rw next at first, omega (arith, some))
 
-    pub on_owed : (n : ℕ) (s : Registers) → Follows watched xs (outcome machine r.bytes r.wire) w.place.step s (Watched n) → owed machine capture w.place ≡ n + owed machine capture (moved_on w n s).place
+    pub on_owed : (n : ℕ) (s : Registers) → Follows watched xs (outcome machine r.bytes r.wire) w.place.step w.state s (Watched n) → owed machine capture w.place ≡ n + owed machine capture (moved_on w n s).place
     on_owed n s f =
         let some = f.0 in
         let within = slice_get_within xs (w.place.step + n - 1) s f.2 in
         omega (arith, ahead_long w.place.step step_within, ahead_long (w.place.step + n) (omega (arith, within, some)), some)
 
-    pub end_passes : (s : Registers) (o : Outcome) → Follows watched xs (outcome machine r.bytes r.wire) w.place.step s (Ended o) → PassesOn machine capture breakpoints r w moved.Packet (passed w o)
-    end_passes s o f =
+    pub end_passes : (o : Outcome) → Unwatched watched xs w.place.step (length xs) → PassesOn machine capture breakpoints r w moved.Packet (passed w o)
+    end_passes o unwatched =
         let n : ℕ = length xs - w.place.step in
-        let same = entries-passed machine capture breakpoints w.place.packet r from_one at w.place.step n (length xs) (omega (arith, step_within)) (omega arith) (no_hits (length xs) f.0) in
+        let same = entries-passed machine capture breakpoints w.place.packet r from_one at w.place.step n (length xs) (omega (arith, step_within)) (omega arith) (no_hits (length xs) unwatched) in
         let leave = ahead-leave machine capture w.place.packet (length xs) r from_one at (omega arith) in
         (refl, sym (same.0 ∙ rest-same machine capture breakpoints (place_at w.place.packet (length xs)) (place_at (w.place.packet + 1) 0) leave))
 
@@ -111,14 +111,5 @@ module _ (machine : Machine) (capture : List Record) (w : Walk) (r : Record) (h 
         let leave = ahead-leave machine capture w.place.packet (length xs) r from_one at (omega arith) in
         omega (arith, ahead_long w.place.step step_within, ap length leave)
 
-    pub end_stands : (s : Registers) → Stands machine capture (passed (record w { state = s }) (outcome machine r.bytes r.wire))
-    end_stands s =
-        let left = stands-passed machine capture w r h at in
-        record {
-          sound = left.sound;
-          from_one = left.from_one;
-          ordered = left.ordered;
-          within = left.within;
-          at = λ (z : 0 < 0). absurd (omega arith);
-          counted = left.counted;
-        }
+    pub end_stands : Stands machine capture (passed w (outcome machine r.bytes r.wire))
+    end_stands = stands-passed machine capture w r h at

@@ -11,7 +11,8 @@ use Rattle.cbpf_machine.proofs.TraceLemmas.{goes_from_entry}
 use Rattle.cbpf_machine.proofs.SoundLemmas.{sound_some}
 use Rattle.pcap_classic.specs.Records.{Record}
 use Rattle.cbpf_dbg.specs.declared.walk.Walk.{Walk}
-use Rattle.cbpf_dbg.specs.Joined.{ahead, rest, hit_for}
+use Rattle.cbpf_dbg.specs.Joined.{ahead, rest}
+use Rattle.cbpf_dbg.specs.Hits.{hit_for}
 use Rattle.cbpf_dbg.specs.Session.{IsQuiet}
 use Rattle.cbpf_dbg.specs.Walk.{Stands, passed}
 use Rattle.cbpf_dbg.proofs.AskedLemmas.{quiet_hit}

@@ -15,7 +15,6 @@ use Rattle.cbpf_dbg.specs.declared.reply.Why.{Why}
 use Rattle.cbpf_dbg.specs.declared.reply.Why.TheVariants as why
 use Rattle.cbpf_dbg.specs.declared.reply.Counts.{Counts}
 use Rattle.cbpf_dbg.specs.Breakpoints.{Breakpoints, carries}
-pub use Rattle.cbpf_dbg.specs.Hits.{hit_for}
 
 -- an executed instruction: where it stands, the state before it, and what its turn gives
 pub record Entry : Type 0 where

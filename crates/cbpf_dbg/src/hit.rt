@@ -5,7 +5,8 @@ ghost use Rattle.cbpf_machine.specs.Machine.{machine_of};
 ghost use Rattle.cbpf_machine.specs.Registers.{Registers};
 ghost use Rattle.cbpf_machine.specs.Step.{asked, turn};
 ghost use Rattle.cbpf_dbg.specs.Breakpoints.{Breakpoints as SomeBreakpoints, carries};
-ghost use Rattle.cbpf_dbg.specs.Joined.{hit_for, why_of};
+ghost use Rattle.cbpf_dbg.specs.Hits.{hit_for};
+ghost use Rattle.cbpf_dbg.specs.Joined.{why_of};
 ghost use Rattle.cbpf_dbg.specs.Loaded.{machine_in, breakpoints_in};
 ghost use Rattle.cbpf_dbg.specs.Session.{IsQuiet, IsSilent, IsNoHit, IsSameBut, Watches};
 

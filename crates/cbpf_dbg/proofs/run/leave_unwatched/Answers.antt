@@ -3,6 +3,7 @@ use Rattle.std.specs.Prelude.{slice_get, Some}
 use Rattle.std.proofs.lemmas.Option.{slice_get_within}
 use Rattle.pcap_classic.specs.Lent.{record_of}
 use Rattle.cbpf_machine.specs.declared.follow.Followed.TheVariants.{Watched, Ended}
+use Rattle.cbpf_machine.specs.Registers.{Registers}
 use Rattle.cbpf_machine.specs.Trace.{trace, outcome}
 use Rattle.cbpf_machine.specs.Follow.{Follows}
 use Rattle.cbpf_dbg.specs.declared.reply.Counts.{Counts}
@@ -41,33 +42,34 @@ pass-requires g c =
 pub overflow_add-w : goal.overflow_add-w
 overflow_add-w g c =
     let k = kept_steps (machine_in c.args.loaded.now) (records_in c.args.loaded.now) c.args.w.now (record_of c.args.here.now) c.requires.stands c.requires.begun c.requires.here (g.T.Trail.kept c.args.trail.now) (g.met.T.Trail.as_long c.args.trail.now _ (c.requires.keeps _ c.requires.here)) in
-    let f : Follows c.args.loaded.now.watched.now (trace (machine_in c.args.loaded.now) c.args.here.now.bytes.now c.args.here.now.wire) (outcome (machine_in c.args.loaded.now) c.args.here.now.bytes.now c.args.here.now.wire) c.args.w.now.place.step c.follow.new.s (Watched c.in-Watched.turns) = rw k at c.in-Watched.ensures.follows in
+    let f : Follows c.args.loaded.now.watched.now (trace (machine_in c.args.loaded.now) c.args.here.now.bytes.now c.args.here.now.wire) (outcome (machine_in c.args.loaded.now) c.args.here.now.bytes.now c.args.here.now.wire) c.args.w.now.place.step c.args.w.now.state c.follow.new.s (Watched c.in-Watched.turns) = rw k at c.in-Watched.ensures.follows in
     let within = slice_get_within (trace (machine_in c.args.loaded.now) c.args.here.now.bytes.now c.args.here.now.wire) (c.args.w.now.place.step + c.in-Watched.turns - 1) c.follow.new.s f.2 in
     omega (arith, within, steps_few (machine_in c.args.loaded.now) (records_in c.args.loaded.now) c.args.w.now (record_of c.args.here.now) c.requires.stands c.requires.begun c.requires.here)
 
 pub returns-in-Ended : goal.returns-in-Ended
 returns-in-Ended g c =
     let k = kept_steps (machine_in c.args.loaded.now) (records_in c.args.loaded.now) c.args.w.now (record_of c.args.here.now) c.requires.stands c.requires.begun c.requires.here (g.T.Trail.kept c.args.trail.now) (g.met.T.Trail.as_long c.args.trail.now _ (c.requires.keeps _ c.requires.here)) in
-    let f : Follows c.args.loaded.now.watched.now (trace (machine_in c.args.loaded.now) c.args.here.now.bytes.now c.args.here.now.wire) (outcome (machine_in c.args.loaded.now) c.args.here.now.bytes.now c.args.here.now.wire) c.args.w.now.place.step c.follow.new.s (Ended c.in-Ended.outcome) = rw k at c.in-Ended.ensures.follows in
+    let f : Follows c.args.loaded.now.watched.now (trace (machine_in c.args.loaded.now) c.args.here.now.bytes.now c.args.here.now.wire) (outcome (machine_in c.args.loaded.now) c.args.here.now.bytes.now c.args.here.now.wire) c.args.w.now.place.step c.args.w.now.state c.follow.new.s (Ended c.in-Ended.outcome) = rw k at c.in-Ended.ensures.follows in
     let left : Walk = record c.args.w.now { state = c.follow.new.s } in
-    let same : c.pass.new.self ≡ passed left (outcome (machine_in c.args.loaded.now) c.args.here.now.bytes.now c.args.here.now.wire) = c.pass.ensures ∙ ap (passed left) f.1 in
+    let stays : left ≡ c.args.w.now = ap (λ (s : Registers). record c.args.w.now { state = s }) f.2 in
+    let same : c.pass.new.self ≡ passed c.args.w.now (outcome (machine_in c.args.loaded.now) c.args.here.now.bytes.now c.args.here.now.wire) = c.pass.ensures ∙ ap (λ w. passed w c.in-Ended.outcome) stays ∙ ap (passed c.args.w.now) f.1 in
     record {
-      stands = rw same (end_stands (machine_in c.args.loaded.now) (records_in c.args.loaded.now) c.args.w.now (record_of c.args.here.now) c.requires.stands c.requires.begun c.requires.here (breakpoints_in c.args.loaded.now) c.args.loaded.now.watched.now c.requires.watched c.follow.new.s);
+      stands = rw same (end_stands (machine_in c.args.loaded.now) (records_in c.args.loaded.now) c.args.w.now (record_of c.args.here.now) c.requires.stands c.requires.begun c.requires.here (breakpoints_in c.args.loaded.now) c.args.loaded.now.watched.now c.requires.watched);
       keeps = λ no_entry. absurd cc;
       origin = ap (λ (n : Walk). n.origin) same;
       order = rw same (inl (omega arith));
-      passes = rw same (end_passes (machine_in c.args.loaded.now) (records_in c.args.loaded.now) c.args.w.now (record_of c.args.here.now) c.requires.stands c.requires.begun c.requires.here (breakpoints_in c.args.loaded.now) c.args.loaded.now.watched.now c.requires.watched c.follow.new.s (outcome (machine_in c.args.loaded.now) c.args.here.now.bytes.now c.args.here.now.wire) (f.0, refl));
+      passes = rw same (end_passes (machine_in c.args.loaded.now) (records_in c.args.loaded.now) c.args.w.now (record_of c.args.here.now) c.requires.stands c.requires.begun c.requires.here (breakpoints_in c.args.loaded.now) c.args.loaded.now.watched.now c.requires.watched (outcome (machine_in c.args.loaded.now) c.args.here.now.bytes.now c.args.here.now.wire) f.0);
       spent = rw same (let turns = rw k at c.in-Ended.ensures.turns in omega (arith, turns, end_owed (machine_in c.args.loaded.now) (records_in c.args.loaded.now) c.args.w.now (record_of c.args.here.now) c.requires.stands c.requires.begun c.requires.here (breakpoints_in c.args.loaded.now) c.args.loaded.now.watched.now c.requires.watched (outcome (machine_in c.args.loaded.now) c.args.here.now.bytes.now c.args.here.now.wire), step_within (machine_in c.args.loaded.now) (records_in c.args.loaded.now) c.args.w.now (record_of c.args.here.now) c.requires.stands c.requires.begun c.requires.here));
     }
 
 pub returns-in-Watched-clause-passes : goal.returns-in-Watched-clause-passes
 returns-in-Watched-clause-passes g c =
     let k = kept_steps (machine_in c.args.loaded.now) (records_in c.args.loaded.now) c.args.w.now (record_of c.args.here.now) c.requires.stands c.requires.begun c.requires.here (g.T.Trail.kept c.args.trail.now) (g.met.T.Trail.as_long c.args.trail.now _ (c.requires.keeps _ c.requires.here)) in
-    let f : Follows c.args.loaded.now.watched.now (trace (machine_in c.args.loaded.now) c.args.here.now.bytes.now c.args.here.now.wire) (outcome (machine_in c.args.loaded.now) c.args.here.now.bytes.now c.args.here.now.wire) c.args.w.now.place.step c.follow.new.s (Watched c.in-Watched.turns) = rw k at c.in-Watched.ensures.follows in
+    let f : Follows c.args.loaded.now.watched.now (trace (machine_in c.args.loaded.now) c.args.here.now.bytes.now c.args.here.now.wire) (outcome (machine_in c.args.loaded.now) c.args.here.now.bytes.now c.args.here.now.wire) c.args.w.now.place.step c.args.w.now.state c.follow.new.s (Watched c.in-Watched.turns) = rw k at c.in-Watched.ensures.follows in
     on_passes (machine_in c.args.loaded.now) (records_in c.args.loaded.now) c.args.w.now (record_of c.args.here.now) c.requires.stands c.requires.begun c.requires.here (breakpoints_in c.args.loaded.now) c.args.loaded.now.watched.now c.requires.watched c.in-Watched.turns c.follow.new.s f
 
 pub returns-in-Watched-clause-spent : goal.returns-in-Watched-clause-spent
 returns-in-Watched-clause-spent g c =
     let k = kept_steps (machine_in c.args.loaded.now) (records_in c.args.loaded.now) c.args.w.now (record_of c.args.here.now) c.requires.stands c.requires.begun c.requires.here (g.T.Trail.kept c.args.trail.now) (g.met.T.Trail.as_long c.args.trail.now _ (c.requires.keeps _ c.requires.here)) in
-    let f : Follows c.args.loaded.now.watched.now (trace (machine_in c.args.loaded.now) c.args.here.now.bytes.now c.args.here.now.wire) (outcome (machine_in c.args.loaded.now) c.args.here.now.bytes.now c.args.here.now.wire) c.args.w.now.place.step c.follow.new.s (Watched c.in-Watched.turns) = rw k at c.in-Watched.ensures.follows in
+    let f : Follows c.args.loaded.now.watched.now (trace (machine_in c.args.loaded.now) c.args.here.now.bytes.now c.args.here.now.wire) (outcome (machine_in c.args.loaded.now) c.args.here.now.bytes.now c.args.here.now.wire) c.args.w.now.place.step c.args.w.now.state c.follow.new.s (Watched c.in-Watched.turns) = rw k at c.in-Watched.ensures.follows in
     omega (arith, on_owed (machine_in c.args.loaded.now) (records_in c.args.loaded.now) c.args.w.now (record_of c.args.here.now) c.requires.stands c.requires.begun c.requires.here (breakpoints_in c.args.loaded.now) c.args.loaded.now.watched.now c.requires.watched c.in-Watched.turns c.follow.new.s f, c.in-Watched.ensures.turns)

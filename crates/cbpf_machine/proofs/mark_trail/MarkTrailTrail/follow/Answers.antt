@@ -1,4 +1,4 @@
-use Rattle.std.proofs.Common.{◌≡◌, ◌+◌, ◌-◌, length, length-take, arith, ap, sym, Some, None, false}
+use Rattle.std.proofs.Common.{◌≡◌, ◌+◌, ◌-◌, length, length-take, arith, refl, ap, sym, Some, None, false}
 use Rattle.std.proofs.lemmas.Option.{slice_get_within}
 use Rattle.cbpf_machine.specs.Machine.{machine_of}
 use Rattle.cbpf_machine.specs.Registers.{zero_state}
@@ -21,6 +21,7 @@ follow-init g c =
       here = rw k (goes_from_entry (machine_of c.args.p.now c.args.values.now) c.args.packet.bytes.now c.args.packet.wire (c.args.self.now.kept - 1) zero_state c.args.s.now sound (sound_some c.args.p.now sound) c.requires.last);
       stands = rw k c.requires.of_trace;
       unwatched = unwatched_none c.args.watched.now (trace (machine_of c.args.p.now c.args.values.now) c.args.packet.bytes.now c.args.packet.wire) c.args.self.now.kept (c.args.self.now.kept + 0) (omega arith);
+      state = refl;
       spent = omega arith;
     }
 
@@ -49,7 +50,7 @@ returns-in-Some-clause-follows g c =
     let h : Passes (machine_of c.args.p.now c.args.values.now) c.args.packet.bytes.now c.args.packet.wire c.args.watched.now (trace (machine_of c.args.p.now c.args.values.now) c.args.packet.bytes.now c.args.packet.wire) (c.args.self.now.kept + c.follow.made - 1) c.pass_over-turns.new.s (c.pass_over-turns.result.0, Some c.in-Some.outcome) =
     rw c.in-Some.is at (c.pass_over-turns.ensures.passes (trace (machine_of c.args.p.now c.args.values.now) c.args.packet.bytes.now c.args.packet.wire) (c.args.self.now.kept + c.follow.made - 1) c.follow.invariant.here) in
     let end = follows_end (machine_of c.args.p.now c.args.values.now) c.args.packet.bytes.now c.args.packet.wire c.args.watched.now c.args.self.now.kept c.follow.made c.pass_over-turns.result.0 c.follow.invariant.sound c.requires.from_one c.pass_over-turns.ensures.some c.pass_over-turns.new.s c.in-Some.outcome c.follow.invariant.unwatched h in
-    (end.1, end.2)
+    (end.1, end.2, c.follow.invariant.state)
 
 pub returns-in-Some-clause-stands : goal.returns-in-Some-clause-stands
 returns-in-Some-clause-stands g c =
@@ -132,5 +133,6 @@ follow-preserved g c =
       here = on.1;
       stands = rw e at stands;
       unwatched = rw e at (unwatched_next c.args.watched.now (trace (machine_of c.args.p.now c.args.values.now) c.args.packet.bytes.now c.args.packet.wire) c.args.self.now.kept (c.args.self.now.kept + (c.follow.made + c.pass_over-turns.result.0) - 1) c.pass_over-turns.new.s on.0 at quiet);
+      state = c.follow.invariant.state;
       spent = omega (arith, c.add.ensures, c.follow.invariant.spent);
     }

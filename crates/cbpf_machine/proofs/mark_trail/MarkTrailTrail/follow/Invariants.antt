@@ -15,6 +15,7 @@ invariant-follow g l =
       here : Goes (machine_of l.p l.values) l.packet.bytes.now l.packet.wire (trace (machine_of l.p l.values) l.packet.bytes.now l.packet.wire) (l.fn.self.kept + l.made - 1) l.here;
       stands : Marks l.self (take (l.fn.self.kept + l.made) (trace (machine_of l.p l.values) l.packet.bytes.now l.packet.wire));
       unwatched : Unwatched l.watched (trace (machine_of l.p l.values) l.packet.bytes.now l.packet.wire) l.fn.self.kept (l.fn.self.kept + l.made);
+      state : l.s ≡ l.fn.s;
       spent : l.meter ≡ l.fn.meter + l.made;
     }
 

@@ -13,6 +13,7 @@ invariant-follow g l =
       here : Goes (machine_of l.p l.values) l.packet.bytes.now l.packet.wire (trace (machine_of l.p l.values) l.packet.bytes.now l.packet.wire) (g.Self.Trail.kept l.fn.self + l.made - 1) l.here;
       stands : g.Self.Trail.stands_for l.self (take (g.Self.Trail.kept l.fn.self + l.made) (trace (machine_of l.p l.values) l.packet.bytes.now l.packet.wire));
       unwatched : Unwatched l.watched (trace (machine_of l.p l.values) l.packet.bytes.now l.packet.wire) (g.Self.Trail.kept l.fn.self) (g.Self.Trail.kept l.fn.self + l.made);
+      state : l.s ≡ l.fn.s;
       spent : l.meter ≡ l.fn.meter + l.made;
     }
 
