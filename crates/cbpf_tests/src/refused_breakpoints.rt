@@ -28,7 +28,7 @@ fn set<A: Allocator + Copy>(
     }
 }
 
-/// The breakpoints are those of the first `count` instructions, in order, with this condition.
+/// The breakpoints are those of the first `count` of 20 instructions, in order, with this condition.
 fn check_list<A: Allocator + Copy>(
     rt: &impl Abort,
     session: &Session<MarkTrail, A>,
@@ -36,9 +36,10 @@ fn check_list<A: Allocator + Copy>(
     when: When,
 ) {
     assert_eq!(rt; session.breakpoint_count() as u64, count);
-    for i in 0..session.breakpoint_count() {
-        assert!(rt; session.breakpoint_at(i) == Some(i as u32));
-        assert!(rt; session.breakpoint_when_at(i) == Some(when));
+    for n in 0..20u32 {
+        let is_set = u64::from(n) < count;
+        assert!(rt; session.breakpoint_at(n as usize) == is_set.then_some(n));
+        assert!(rt; session.breakpoint_when_at(n as usize) == is_set.then_some(when));
     }
 }
 
@@ -135,28 +136,32 @@ fn a_breakpoint_that_there_is_not_asks_for_no_room(rt: HostRuntime) -> Result<()
 
 /// Goes through a session by the calls that take no memory.
 fn go_through<A: Allocator + Copy>(rt: &impl Abort, session: &mut Session<MarkTrail, A>) {
-    let mut meter = Meter::new();
-    match session.run(&mut meter, None) {
+    match session.run(&mut Meter::new(), None) {
         Ok(RunReply::Stopped(stop)) => {
             let mut w = FaultyWriter::<2048>::new(Fault::Fails, 0);
             assert_eq!(rt; session.write_stop(&mut w, &stop), Ok(()));
         }
         _ => assert!(rt; false),
     }
-    assert!(rt; session.step(&mut meter, 3).is_ok());
-    assert!(rt; session.step(&mut meter, -1).is_ok());
-    assert!(rt; session.run(&mut meter, Some(1)).is_ok());
+    assert!(rt; session.step(&mut Meter::new(), 3).is_ok());
+    assert!(rt; session.step(&mut Meter::new(), -1).is_ok());
+    assert!(rt; session.run(&mut Meter::new(), Some(1)).is_ok());
     assert!(rt;
         session
-            .resume(&mut meter, Place { packet: 2, step: 3 })
+            .resume(&mut Meter::new(), Place { packet: 2, step: 3 })
             .is_ok()
     );
     assert!(rt; session.select(1) == Ok(()));
     assert!(rt; session.mark().is_ok());
     assert!(rt; session.set_value(Ext::Mark, 7) == Ok(()));
-    assert!(rt; session.stops().is_ok());
-    if let Ok(stops) = session.stops() {
-        assert_eq!(rt; stops.count(), 3);
+    match session.stops() {
+        Ok(mut stops) => {
+            for _ in 0..3 {
+                assert!(rt; stops.next().is_some());
+            }
+            assert!(rt; stops.next().is_none());
+        }
+        Err(_) => assert!(rt; false),
     }
     assert!(rt; session.breakpoint(4) == Ok(()));
     assert!(rt; session.delete(4) == Ok(true));

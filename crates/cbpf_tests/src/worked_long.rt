@@ -44,7 +44,13 @@ fn more_than_4096_instructions_are_refused(rt: HostRuntime) -> Result<(), AllocE
 
 #[test]
 fn a_run_to_the_last_of_4096_instructions_and_back(rt: HostRuntime) -> Result<(), AllocError> {
-    let load = repeated(rt.alloc(), b"load bpf 4096,", b"7 0 0 0,", 4095, b"6 0 0 1\n")?;
+    let load = repeated(
+        rt.alloc(),
+        b"load bpf 4096,",
+        b"7 0 0 0,",
+        4095,
+        b"6 0 0 1\n",
+    )?;
     check_script(
         &rt,
         rt.alloc(),
