@@ -3,7 +3,7 @@ of growing size.
 
 User and system time of whole processes, the least of several; the time of a source with one instruction is taken
 away. The peak is the largest resident set of the process (`ru_maxrss`), which is never less than this script's own
-before it starts the program, some 12 MB; so sources are written in pieces. Wants crates/cbpf built by `make build`,
+before it starts the program, some 12 MB; so sources are written in pieces. Needs crates/cbpf built by `make build`,
 or takes the program's path as its argument.
 """
 import os

@@ -132,7 +132,7 @@ pub(crate) fn record_at<A: Allocator>(capture: &Capture<A>, packet: u64) -> Opti
 
 /// Goes on by one entry from an entry of the packet, or out of the packet, whose record is `here`.
 #[inline(always)]
-pub(crate) fn leave_entry<A: Allocator>(
+fn leave_entry<A: Allocator>(
     meter: &mut Meter,
     loaded: &Loaded<'_, A>,
     here: &Captured<'_>,
