@@ -117,7 +117,7 @@ fn each_reply_is_written_and_flushed_before_the_next_read(
         let result = debug(rt.alloc(), &mut reader, &mut writer, &mut files);
         assert_eq!(rt; result, Ok(()));
         assert_eq!(rt; reader.late, 0);
-        // Behind `quit` nothing is read; else the read that finds the end is one more. A line that the
+        // After `quit` nothing is read; else the read that finds the end is one more. A line that the
         // end cuts off is answered after that read.
         let reads = if count == 9 { 9 } else { count + 1 };
         assert_eq!(rt; reader.reads, reads);
