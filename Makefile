@@ -19,7 +19,7 @@ demo: build ## Builds the proved program, assembles an example, and debugs a fil
 	@echo '== its replies'
 	@cd examples && ../$(PROGRAM) dbg port22.dbg
 
-check: ## The gate: proves all crates and their tests from nothing, tries the must-fail edits, runs all tests; some 50 minutes on four cores, twice that on two.
+check: ## The gate: proves all crates and their tests from nothing, tries the must-fail edits, runs all tests; over an hour on four cores, twice that on two.
 	rt ci
 	python3 tests/run.py $(PROGRAM)
 
