@@ -13,19 +13,6 @@ use Rattle.cbpf_code.specs.Sound.{IsSound}
 use Rattle.cbpf_code.specs.CheckSteps.{PassesBefore, IsWellFormed, InsnHasFault, IsAllowed, AllowedAt}
 use Rattle.cbpf_code.proofs.PathLemmas.{allowed_at-same}
 
--- the refusal of a known instruction stands in the list
-pub insn_has_fault-has_fault : (list : List Insn) (i : ℕ) (insn : Insn) (op : Op) (e : CheckFault) → slice_get list i ≡ Some insn → op_of insn.code ≡ Some op → InsnHasFault op insn i (length list) e → HasFault list e
-insn_has_fault-has_fault list i insn op (NoSlot j) here known g = subst (λ k. HasFault list (NoSlot k)) (sym g.0) (insn, op, here, known, g.1)
-insn_has_fault-has_fault list i insn op (ZeroDivisor j) here known g = subst (λ k. HasFault list (ZeroDivisor k)) (sym g.0) (insn, op, here, known, g.1)
-insn_has_fault-has_fault list i insn op (WideShift j) here known g = subst (λ k. HasFault list (WideShift k)) (sym g.0) (insn, op, here, known, g.1)
-insn_has_fault-has_fault list i insn op (JumpOutside j) here known g = subst (λ k. HasFault list (JumpOutside k)) (sym g.0) (insn, op, here, known, g.1)
-insn_has_fault-has_fault list i insn op (UnknownExtension j) here known g = subst (λ k. HasFault list (UnknownExtension k)) (sym g.0) (insn, op, here, known, g.1)
-insn_has_fault-has_fault list i insn op NoInstruction here known g = absurd g
-insn_has_fault-has_fault list i insn op TooMany here known g = absurd g
-insn_has_fault-has_fault list i insn op (UnknownCode j) here known g = absurd g
-insn_has_fault-has_fault list i insn op NoReturn here known g = absurd g
-insn_has_fault-has_fault list i insn op (UnwrittenSlot j) here known g = absurd g
-
 pub allowed_of : (list : List Insn) (m i : ℕ) (insn : Insn) (op : Op) → PassesBefore list m → i < m → slice_get list i ≡ Some insn → op_of insn.code ≡ Some op → IsAllowed op insn i (length list)
 allowed_of list m i insn op passed below here known = allowed_at-same list i insn op (passed.allowed i below) here known
 
@@ -96,9 +83,6 @@ passes_all-excludes list NoReturn passed g st = absurd (omega arith)
 passes_all-excludes list (UnwrittenSlot i) passed g st = absurd (omega arith)
 
 -- ---- the first one
-
-pub first_fault-list : (list : List Insn) (e : CheckFault) → rank e < 2 → HasFault list e → ((f : CheckFault) → rank f < rank e → HasFault list f → ⊥) → index_of e ≡ 0 → FirstFault list e
-first_fault-list list e g st none at = record { present = st; none_earlier = λ f earlier there. elim earlier [ inl h ↦ none f h there | inr h ↦ absurd (omega (arith, h.1)) ] }
 
 pub first_fault-insn : (list : List Insn) (m : ℕ) (e : CheckFault) → PassesBefore list m → HasFault list e → rank e ≡ 2 → index_of e ≡ m → FirstFault list e
 first_fault-insn list m e passed st g at = record {

@@ -55,14 +55,6 @@ number-above most (b ∷ bs) l =
 pub number-big : (most : ℕ) (s : List ℕ) (i : ℕ) → most < value (take i s) → number most s ≡ None
 number-big most s i l = number-above most s (omega (arith, value-grows s i))
 
-pub number-fits : (most : ℕ) (s : List ℕ) (i : ℕ) → length s ≤ i → (length s ≡ 0 → ⊥) → all_digits (take i s) ≡ true → value (take i s) ≤ most → number most s ≡ Some (value (take i s))
-number-fits most [] i l n h e = absurd (n refl)
-number-fits most (b ∷ bs) i l n h e =
-    let all : take i (b ∷ bs) ≡ b ∷ bs = take_all i (b ∷ bs) l in
-    let yes : nat_le (value (b ∷ bs)) most ≡ true = let k : value (b ∷ bs) ≤ most = rw all at e in grind (arith, tests) in
-    let d : all_digits (b ∷ bs) ≡ true = rw all at h in
-    rw (all, d, yes) refl
-
 pub next-too-big : (most : ℕ) (s : List ℕ) (i v big : ℕ) → i < length s → v ≡ value (take i s) → most < big → (v * 10 < big → ⊥) → number most s ≡ None
 next-too-big most s i v big l e m h =
     number-big most s (i + 1) (omega (arith, value-more s i l, e, m, h))

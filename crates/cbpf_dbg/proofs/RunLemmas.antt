@@ -25,11 +25,6 @@ use Rattle.cbpf_dbg.specs.Breakpoints.{Breakpoints, carries}
 
 -- ---- the limit
 
-pub below_at_start : (limit : Option ℕ) (first count : ℕ) → (limit ≡ Some 0 → ⊥) → Below limit first first count
-below_at_start None first count h = tt
-below_at_start (Some zero) first count h = absurd (h refl)
-below_at_start (Some (suc n)) first count h = (omega arith, inl (omega arith))
-
 -- where the capture still has the packet, the limit is not reached
 within_below : (limit : Option ℕ) (first packet count : ℕ) → Below limit first packet count → packet ≤ count → first ≤ packet → within_limit limit (packet - first) ≡ true
 within_below None first packet count h here forward = refl

@@ -186,18 +186,6 @@ end-turns machine c old v new f g m n k counted h ahead_is turns =
     let spent = h.spent in
     omega (arith, turns, last, all, spent)
 
-run-answers : (machine : Machine) (c : Savefile) (v : View) (hits : List Stop) → Holds machine c v → rest machine c.records v.breakpoints v.place ≡ hits
-    → ((stop : Stop) × (reply_of (run v None) ≡ Ok (Stopped stop))) ⊎ ((n : Counts) × (reply_of (run v None) ≡ Ok (Finished n)))
-run-answers machine c v [] h e = inr (_, ap reply_of (run-last machine c v h e))
-run-answers machine c v (stop ∷ left) h e = inl (stop, ap reply_of (run-first machine c v stop left h e))
-
--- a run without a limit meets none, and is not refused
-pub going-limit : (machine : Machine) (c : Savefile) (old v : View) (f g : List Stop) (m n : ℕ) (counted : Counts) → Going machine c old v f g m n → Ok (Limit counted) ≡ reply_of (run v None) → ⊥
-going-limit machine c old v f g m n counted h e = elim (run-answers machine c v _ h.new_holds refl) [ inl s ↦ (let a = s.1 in absurd cc) | inr s ↦ (let a = s.1 in absurd cc) ]
-
-pub going-refused : (machine : Machine) (c : Savefile) (old v : View) (f g : List Stop) (m n : ℕ) (fault : SessionFault) → Going machine c old v f g m n → Err fault ≡ reply_of (run v None) → ⊥
-going-refused machine c old v f g m n fault h e = elim (run-answers machine c v _ h.new_holds refl) [ inl s ↦ (let a = s.1 in absurd cc) | inr s ↦ (let a = s.1 in absurd cc) ]
-
 -- how many hits are ahead
 abbrev pub how_many : Result (List Stop) SessionFault → ℕ
 how_many (Ok hits) = length hits

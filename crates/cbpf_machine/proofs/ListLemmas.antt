@@ -2,23 +2,6 @@
 use Rattle.std.proofs.Common.{◌≡◌, ℕ, zero, suc, ◌+◌, ◌<◌, List, [], ◌∷◌, ◌++◌, length, take, drop, arith, ap, refl, add-one}
 use Rattle.std.specs.Prelude.{Some, slice_get}
 
-pub slice_get-take : {X : Type 0} (xs : List X) (n i : ℕ) → i < n → slice_get (take n xs) i ≡ slice_get xs i
-slice_get-take xs zero i h = absurd (omega arith)
-slice_get-take [] (suc n) i h = refl
-slice_get-take (x ∷ xs) (suc n) zero h = refl
-slice_get-take (x ∷ xs) (suc n) (suc i) h = slice_get-take xs n i (omega arith)
-
-pub slice_get-append_left : {X : Type 0} (xs ys : List X) (i : ℕ) → i < length xs → slice_get (xs ++ ys) i ≡ slice_get xs i
-slice_get-append_left [] ys i h = absurd (omega arith)
-slice_get-append_left (x ∷ xs) ys zero h = refl
-slice_get-append_left (x ∷ xs) ys (suc i) h = slice_get-append_left xs ys i (omega arith)
-
-pub slice_get-append_at : {X : Type 0} (xs : List X) (y : X) (i : ℕ) → i ≡ length xs → slice_get (xs ++ y ∷ []) i ≡ Some y
-slice_get-append_at [] y zero h = refl
-slice_get-append_at [] y (suc i) h = absurd (omega arith)
-slice_get-append_at (x ∷ xs) y zero h = absurd (omega arith)
-slice_get-append_at (x ∷ xs) y (suc i) h = slice_get-append_at xs y i (omega arith)
-
 pub slice_get-drop_head : {X : Type 0} (xs : List X) (i : ℕ) (x : X) (rest : List X) → drop i xs ≡ x ∷ rest → slice_get xs i ≡ Some x
 slice_get-drop_head [] zero x rest h = cc
 slice_get-drop_head [] (suc i) x rest h = cc
