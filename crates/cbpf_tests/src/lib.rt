@@ -43,6 +43,8 @@ mod worked;
 #[cfg(test)]
 mod worked_breakpoints;
 #[cfg(test)]
+mod worked_listings;
+#[cfg(test)]
 mod worked_loads;
 #[cfg(test)]
 mod worked_long;

@@ -1,7 +1,10 @@
 // Commands of a session over writers and allocators that fail.
+use crate::icmp::TWO_PACKETS_AS_K;
 use crate::scripts::TWO_PACKETS;
+use crate::worked::files_of;
 use cbpf_tool::{MemoryFiles, ToolFault, debug};
 use fault_injection::{Fault, FaultyWriter, RefusingAllocator};
+use std::alloc::AllocError;
 
 const SESSION: &[u8] =
     b"load bpf 2,0 0 0 7,22 0 0 0\nload pcap k\nbreakpoint 1\nstops\nrun\nstep -1\nmark\ndisassemble\nquit\n";
@@ -43,6 +46,18 @@ len: 42 wire: 42\n\
 1 1\n\
 l0:\tld #0x7\n\
 l1:\tret a\n";
+
+#[test]
+fn the_whole_session_writes_its_replies(rt: HostRuntime) -> Result<(), AllocError> {
+    let mut files = files_of(rt.alloc(), TWO_PACKETS_AS_K)?;
+    let mut reader = SESSION;
+    let mut writer = FaultyWriter::<2048>::new(Fault::Fails, 0);
+    let result = debug(rt.alloc(), &mut reader, &mut writer, &mut files);
+    assert_eq!(rt; result, Ok(()));
+    assert_eq!(rt; writer.written(), REPLIES);
+    assert_eq!(rt; writer.calls(), 899);
+    Ok(())
+}
 
 #[test]
 fn each_write_of_a_session_that_goes_wrong_leaves_the_bytes_before_it(rt: HostRuntime) {
