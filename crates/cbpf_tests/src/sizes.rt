@@ -1,6 +1,6 @@
 // Large inputs: thousands of records, instructions, tokens and breakpoints, with memory at hand.
 use cbpf_code::{Program, check, read_words};
-use cbpf_dbg::{MarkTrail, Session, SessionFault};
+use cbpf_dbg::{MarkTrail, Session, SessionFault, When};
 use cbpf_text::{Kind, assemble, tokens};
 use pcap_classic::{Capture, Captured, Ending};
 use std::alloc::{AllocError, Allocator, Global};
@@ -128,6 +128,29 @@ fn a_breakpoint_at_each_of_4096_instructions(rt: HostRuntime) -> Result<(), Allo
     assert_eq!(rt; session.breakpoint_count(), 4096);
     for i in 0..4096usize {
         assert!(rt; session.breakpoint_at(i) == Some(4095 - i as u32));
+    }
+    Ok(())
+}
+
+/// A condition of its own for each instruction.
+fn condition_at(n: u32) -> When {
+    if n % 2 == 0 { When::A(n) } else { When::X(n) }
+}
+
+#[test]
+fn a_condition_at_each_of_4096_instructions(rt: HostRuntime) -> Result<(), AllocError> {
+    let mut session: Session<MarkTrail> = Session::new(rt.alloc(), MarkTrail::new());
+    session.load_program(longest(rt.alloc())?);
+    for i in 0..4096u32 {
+        let n = 4095 - i;
+        assert!(rt; session.breakpoint_when(u64::from(n), condition_at(n)) == Ok(()));
+    }
+    assert!(rt; session.breakpoint_when(4096, When::A(1)) == Err(SessionFault::NoInstruction));
+    assert_eq!(rt; session.breakpoint_count(), 4096);
+    for i in 0..4096u32 {
+        let n = 4095 - i;
+        assert!(rt; session.breakpoint_at(i as usize) == Some(n));
+        assert!(rt; session.breakpoint_when_at(i as usize) == Some(condition_at(n)));
     }
     Ok(())
 }
