@@ -27,22 +27,26 @@ fn no_fault() -> FaultyWriter<256> {
     FaultyWriter::new(Fault::Fails, 0)
 }
 
+/// The kinds of faults that a reader has. `OutOfMemory` is one of the reader's, and none of the allocator.
+const KINDS: [ErrorKind; 3] = [
+    ErrorKind::Other,
+    ErrorKind::Interrupted,
+    ErrorKind::OutOfMemory,
+];
+
 #[test]
 fn each_read_that_fails_leaves_nothing_written(rt: HostRuntime) {
-    for (form, kind) in [
-        (Form::Decimal, ErrorKind::Other),
-        (Form::Decimal, ErrorKind::Interrupted),
-        (Form::C, ErrorKind::Other),
-        (Form::C, ErrorKind::Interrupted),
-    ] {
-        for call in 1..ARP.len() as u64 + 2 {
-            let mut reader = FaultyReader::new(ARP, 1, call);
-            reader.set_error(kind);
-            let mut writer = no_fault();
-            let result = asm(rt.alloc(), &mut reader, &mut writer, form);
-            assert_eq!(rt; result, Err(ToolFault::Read));
-            assert_eq!(rt; reader.calls(), call);
-            assert!(rt; writer.written().is_empty());
+    for (form, _) in ARP_TEXTS {
+        for kind in KINDS {
+            for call in 1..ARP.len() as u64 + 2 {
+                let mut reader = FaultyReader::new(ARP, 1, call);
+                reader.set_error(kind);
+                let mut writer = no_fault();
+                let result = asm(rt.alloc(), &mut reader, &mut writer, form);
+                assert_eq!(rt; result, Err(ToolFault::Read));
+                assert_eq!(rt; reader.calls(), call);
+                assert!(rt; writer.written().is_empty());
+            }
         }
     }
 }
@@ -67,6 +71,7 @@ fn each_write_that_goes_wrong_leaves_the_bytes_before_it(rt: HostRuntime) {
         for (fault, kind) in [
             (Fault::Fails, ErrorKind::Other),
             (Fault::Fails, ErrorKind::Interrupted),
+            (Fault::Fails, ErrorKind::OutOfMemory),
             (Fault::TakesNothing, ErrorKind::Other),
         ] {
             for call in 1..text.len() as u64 + 1 {

@@ -17,7 +17,11 @@ fn replies_to(len: usize) -> &'static [u8] {
 
 #[test]
 fn each_read_that_fails_leaves_the_replies_to_the_whole_lines_before_it(rt: HostRuntime) {
-    for kind in [ErrorKind::Other, ErrorKind::Interrupted] {
+    for kind in [
+        ErrorKind::Other,
+        ErrorKind::Interrupted,
+        ErrorKind::OutOfMemory,
+    ] {
         for call in 1..ARP.len() as u64 + 1 {
             let mut reader = FaultyReader::new(ARP, 1, call);
             reader.set_error(kind);

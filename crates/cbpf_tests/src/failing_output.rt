@@ -10,6 +10,7 @@ fn each_write_that_goes_wrong_leaves_the_bytes_before_it(rt: HostRuntime) {
     for (fault, kind) in [
         (Fault::Fails, ErrorKind::Other),
         (Fault::Fails, ErrorKind::Interrupted),
+        (Fault::Fails, ErrorKind::OutOfMemory),
         (Fault::TakesNothing, ErrorKind::Other),
     ] {
         for call in 1..166u64 {

@@ -10,9 +10,10 @@ use std::io::{ErrorKind, Write};
 use std::process::Abort;
 
 /// How a write goes wrong.
-const FAULTS: [(Fault, ErrorKind); 3] = [
+const FAULTS: [(Fault, ErrorKind); 4] = [
     (Fault::Fails, ErrorKind::Other),
     (Fault::Fails, ErrorKind::Interrupted),
+    (Fault::Fails, ErrorKind::OutOfMemory),
     (Fault::TakesNothing, ErrorKind::Other),
 ];
 
