@@ -1,16 +1,17 @@
 // Breakpoints whose growths are refused, and the calls of a session that take no memory.
 use crate::icmp::{ICMP_WORDS, program_of, session_of};
 use cbpf_code::{
-    Ext, check, read_words, write_bytes, write_c, write_decimal, write_hex, write_words,
+    CheckFault, Ext, check, read_words, write_bytes, write_c, write_decimal, write_hex,
+    write_parts, write_words,
 };
 use cbpf_dbg::{Counts, MarkTrail, Meter, Place, RunReply, Session, SessionFault, When};
-use cbpf_text::write_listing;
+use cbpf_text::{write_line, write_listing};
 use fault_injection::{Fault, FaultyWriter, RefusingAllocator};
 use std::alloc::{AllocError, Allocator};
 use std::process::Abort;
 
 /// Twenty times `tax`, and a return of 1.
-const STRAIGHT: &[u8] = b"21,7 0 0 0,7 0 0 0,7 0 0 0,7 0 0 0,7 0 0 0,7 0 0 0,7 0 0 0,7 0 0 0,\
+pub const STRAIGHT: &[u8] = b"21,7 0 0 0,7 0 0 0,7 0 0 0,7 0 0 0,7 0 0 0,7 0 0 0,7 0 0 0,7 0 0 0,\
 7 0 0 0,7 0 0 0,7 0 0 0,7 0 0 0,7 0 0 0,7 0 0 0,7 0 0 0,7 0 0 0,7 0 0 0,7 0 0 0,7 0 0 0,7 0 0 0,6 0 0 1";
 
 /// A breakpoint with its condition: A is 0 at each instruction.
@@ -182,21 +183,57 @@ fn most_calls_of_a_session_take_no_memory(rt: HostRuntime) -> Result<(), AllocEr
     Ok(())
 }
 
+/// Word texts, and the fault of each that is no program.
+const CHECKED: [(&[u8], Option<CheckFault>); 5] = [
+    (ICMP_WORDS, None),
+    // Both paths to the load store into its slot, and then one of them alone.
+    (
+        b"6,21 0 2 0,2 0 0 0,5 0 0 1,6 0 0 0,96 0 0 0,22 0 0 0",
+        None,
+    ),
+    (
+        b"5,0 0 0 1,21 0 1 1,2 0 0 0,96 0 0 0,22 0 0 0",
+        Some(CheckFault::UnwrittenSlot(3)),
+    ),
+    (b"1,5 0 0 0", Some(CheckFault::JumpOutside(0))),
+    (b"1,0 0 0 0", Some(CheckFault::NoReturn)),
+];
+
 #[test]
-fn the_checker_and_the_writers_take_no_memory(rt: HostRuntime) -> Result<(), AllocError> {
+fn the_checker_takes_no_memory(rt: HostRuntime) {
+    for (words, wanted) in CHECKED {
+        let refusing = RefusingAllocator::refusing(rt.alloc(), 1000);
+        let Ok(list) = read_words(&refusing, words) else {
+            assert!(rt; false);
+            return;
+        };
+        let left = refusing.left();
+        let fault = match check(list) {
+            Ok(_) => None,
+            Err((fault, _)) => Some(fault),
+        };
+        assert_eq!(rt; fault, wanted);
+        assert_eq!(rt; refusing.left(), left);
+    }
+}
+
+#[test]
+fn the_writers_take_no_memory(rt: HostRuntime) -> Result<(), AllocError> {
     let refusing = RefusingAllocator::refusing(rt.alloc(), 1000);
     let program = program_of(&refusing, ICMP_WORDS)?;
-    let Ok(unsound) = read_words(&refusing, b"1,5 0 0 0") else {
-        assert!(rt; false);
-        return Ok(());
-    };
     let left = refusing.left();
-    assert!(rt; check(unsound).is_err());
     let mut w = FaultyWriter::<2048>::new(Fault::Fails, 0);
     assert_eq!(rt; write_c(&mut w, program.as_slice()), Ok(()));
     assert_eq!(rt; write_words(&mut w, program.as_slice()), Ok(()));
     assert_eq!(rt; write_listing(&mut w, &program), Ok(()));
+    for i in 0..program.len() {
+        assert_eq!(rt; write_line(&mut w, &program, i), Ok(()));
+    }
     assert_eq!(rt; write_bytes(&mut w, b"text"), Ok(()));
+    assert_eq!(rt;
+        write_parts(&mut w, &[b"two".as_slice(), b" parts"]),
+        Ok(())
+    );
     assert_eq!(rt; write_decimal(&mut w, 12), Ok(()));
     assert_eq!(rt; write_hex(&mut w, 12, 8), Ok(()));
     assert_eq!(rt; refusing.left(), left);
