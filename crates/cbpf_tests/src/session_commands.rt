@@ -1,10 +1,10 @@
 // Commands of a session over writers and allocators that fail.
 use crate::icmp::TWO_PACKETS_AS_K;
-use crate::scripts::TWO_PACKETS;
 use crate::worked::files_of;
 use cbpf_tool::{MemoryFiles, ToolFault, debug};
 use fault_injection::{Fault, FaultyWriter, RefusingAllocator};
 use std::alloc::AllocError;
+use std::io::ErrorKind;
 
 const SESSION: &[u8] =
     b"load bpf 2,0 0 0 7,22 0 0 0\nload pcap k\nbreakpoint 1\nstops\nrun\nstep -1\nmark\ndisassemble\nquit\n";
@@ -60,23 +60,28 @@ fn the_whole_session_writes_its_replies(rt: HostRuntime) -> Result<(), AllocErro
 }
 
 #[test]
-fn each_write_of_a_session_that_goes_wrong_leaves_the_bytes_before_it(rt: HostRuntime) {
+fn each_write_of_a_session_that_goes_wrong_leaves_the_bytes_before_it(
+    rt: HostRuntime,
+) -> Result<(), AllocError> {
     assert_eq!(rt; REPLIES.len(), 899);
-    for fault in [Fault::Fails, Fault::TakesNothing] {
+    for (fault, kind) in [
+        (Fault::Fails, ErrorKind::Other),
+        (Fault::Fails, ErrorKind::Interrupted),
+        (Fault::Fails, ErrorKind::OutOfMemory),
+        (Fault::TakesNothing, ErrorKind::Other),
+    ] {
         for call in 1..900u64 {
-            let mut files = MemoryFiles::new(rt.alloc());
-            let Ok(bytes) = Vec::from_slice(rt.alloc(), TWO_PACKETS) else {
-                assert!(rt; false);
-                return;
-            };
-            assert!(rt; files.put("k", bytes).is_ok());
+            let mut files = files_of(rt.alloc(), TWO_PACKETS_AS_K)?;
             let mut reader = SESSION;
             let mut writer = FaultyWriter::<2048>::new(fault, call);
+            writer.set_error(kind);
             let result = debug(rt.alloc(), &mut reader, &mut writer, &mut files);
             assert_eq!(rt; result, Err(ToolFault::Write));
+            assert_eq!(rt; writer.calls(), call);
             assert_eq!(rt; Some(writer.written()), REPLIES.get(..call as usize - 1));
         }
     }
+    Ok(())
 }
 
 const BREAKPOINT: &[u8] = b"load bpf 1,6 0 0 1\nbreakpoint 0\nbreakpoint\nquit\n";
