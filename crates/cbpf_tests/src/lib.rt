@@ -29,6 +29,8 @@ mod refused_calls;
 #[cfg(test)]
 mod refused_growth;
 #[cfg(test)]
+mod refused_stops;
+#[cfg(test)]
 mod scripts;
 #[cfg(test)]
 mod session_commands;
