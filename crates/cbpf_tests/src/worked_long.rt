@@ -42,6 +42,25 @@ fn more_than_4096_instructions_are_refused(rt: HostRuntime) -> Result<(), AllocE
     )
 }
 
+/// What is shown of the registers at the last instruction, at the one before, and at the 64th.
+const AT_4096: &[u8] = b"-- packet 1, step 4096 --\n\
+-- register dump --\n\
+pc:       [4095]\n\
+code:     [6] jt[0] jf[0] k[1]\n\
+curr:     l4095:\tret #0x1\n";
+
+const AT_4095: &[u8] = b"-- packet 1, step 4095 --\n\
+-- register dump --\n\
+pc:       [4094]\n\
+code:     [7] jt[0] jf[0] k[0]\n\
+curr:     l4094:\ttax\n";
+
+const AT_64: &[u8] = b"-- packet 1, step 64 --\n\
+-- register dump --\n\
+pc:       [63]\n\
+code:     [7] jt[0] jf[0] k[0]\n\
+curr:     l63:\ttax\n";
+
 #[test]
 fn a_run_to_the_last_of_4096_instructions_and_back(rt: HostRuntime) -> Result<(), AllocError> {
     let load = repeated(
@@ -49,44 +68,35 @@ fn a_run_to_the_last_of_4096_instructions_and_back(rt: HostRuntime) -> Result<()
         b"load bpf 4096,",
         b"7 0 0 0,",
         4095,
-        b"6 0 0 1\n",
+        b"6 0 0 1\nload pcap k\n",
     )?;
+    let loaded = b"bpf: 4096 instructions\npcap: 2 packets\n";
     check_script(
         &rt,
         rt.alloc(),
         &[
             &load,
-            b"load pcap k\nbreakpoint 4095\nrun\nstep -1\nstep -4031\n",
+            b"breakpoint 4095\nrun\nstep -1\nstep -4031\n",
             &load,
             b"run\n",
         ],
         &[
-            b"bpf: 4096 instructions\npcap: 2 packets\nbreakpoint at: l4095:\tret #0x1\n",
-            b"-- packet 1, step 4096 --\n\
--- register dump --\n\
-pc:       [4095]\n\
-code:     [6] jt[0] jf[0] k[1]\n\
-curr:     l4095:\tret #0x1\n",
+            loaded,
+            b"breakpoint at: l4095:\tret #0x1\n",
+            AT_4096,
             ZEROS,
             FIRST_PACKET,
             b"(breakpoint)\n",
-            b"-- packet 1, step 4095 --\n\
--- register dump --\n\
-pc:       [4094]\n\
-code:     [7] jt[0] jf[0] k[0]\n\
-curr:     l4094:\ttax\n",
+            AT_4095,
             ZEROS,
             FIRST_PACKET,
             b"(step)\n",
-            b"-- packet 1, step 64 --\n\
--- register dump --\n\
-pc:       [63]\n\
-code:     [7] jt[0] jf[0] k[0]\n\
-curr:     l63:\ttax\n",
+            AT_64,
             ZEROS,
             FIRST_PACKET,
             b"(step)\n",
-            b"bpf: 4096 instructions\nbpf passes:2 fails:0\n",
+            loaded,
+            b"bpf passes:2 fails:0\n",
         ],
     )
 }
