@@ -5,6 +5,7 @@
 mod c_form;
 mod checker;
 mod extension;
+mod form;
 mod insn;
 mod opcode;
 mod program;
@@ -17,6 +18,7 @@ mod writing;
 pub use c_form::write_c;
 pub use checker::{CheckFault, check};
 pub use extension::{Ext, ext_at, ext_name, ext_named, ext_offset};
+pub use form::Form;
 pub use insn::Insn;
 pub use opcode::{AluOp, Cond, Op, Size, Src, code_of, op_of};
 pub use program::Program;

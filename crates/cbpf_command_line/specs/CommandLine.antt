@@ -5,8 +5,8 @@ use Rattle.clap.specs.Kinds.{IsAmong}
 use Rattle.clap.specs.declared.builder.action.ArgAction.TheVariants.{SetTrue}
 use Rattle.clap.specs.declared.error.kind.ErrorKind.{ErrorKind}
 use Rattle.clap.specs.declared.error.kind.ErrorKind.TheVariants.{DisplayHelp}
-use Rattle.cbpf_command_line.specs.declared.job.Form.{Form}
-use Rattle.cbpf_command_line.specs.declared.job.Form.TheVariants.{Decimal, C}
+use Rattle.cbpf_code.specs.declared.form.Form.{Form}
+use Rattle.cbpf_code.specs.declared.form.Form.TheVariants.{Decimal, C}
 use Rattle.cbpf_command_line.specs.declared.job.Job.{Job}
 use Rattle.cbpf_command_line.specs.declared.job.Job.TheVariants as job
 use Rattle.cbpf_command_line.specs.declared.job.LineFault.{LineFault}

@@ -1,13 +1,6 @@
 //! What the program is asked to do.
 
-/// How the assembler writes instructions.
-#[derive(Clone, Copy, Debug, PartialEq, Eq)]
-pub enum Form {
-    /// The count and the instructions in decimal, on one line.
-    Decimal,
-    /// One line of C for each instruction.
-    C,
-}
+use cbpf_code::Form;
 
 /// What the program is asked to do. Without a file's name it is the standard stream.
 #[derive(Debug, PartialEq, Eq, Drop)]

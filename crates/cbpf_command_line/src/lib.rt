@@ -4,7 +4,8 @@
 mod job;
 mod parse;
 
-pub use job::{Form, Job, LineFault};
+pub use cbpf_code::Form;
+pub use job::{Job, LineFault};
 pub use parse::command_line;
 
 #[cfg(test)]

@@ -6,7 +6,8 @@ ghost use Rattle.clap.specs.declared.builder.command.Command.TheViews.{out-Comma
 ghost use Rattle.clap.specs.Kinds.{HasKind};
 ghost use Rattle.cbpf_command_line.specs.CommandLine as spec;
 
-use crate::job::{Form, Job, LineFault};
+use crate::job::{Job, LineFault};
+use cbpf_code::Form;
 use clap::error::ErrorKind;
 use clap::{Arg, ArgAction, ArgMatches, Command, Error};
 use std::alloc::{AllocError, Global};

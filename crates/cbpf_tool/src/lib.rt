@@ -1,23 +1,6 @@
-//! The jobs of `cbpf`: the debugger over a script of commands, and the assembler over a source.
+//! All that `cbpf` calls: its command line, and its two jobs. Each stands in a crate of its own, so that no proof of
+//! a job reads clap.
 #![tactic(auto)]
 
-mod assembler;
-mod commands;
-mod debugger;
-mod disk_files;
-mod fault;
-mod files;
-mod law;
-mod line_reader;
-mod loads;
-mod memory_files;
-mod replies;
-
-pub use assembler::asm;
 pub use cbpf_command_line::{Form, Job, LineFault, command_line};
-pub use debugger::debug;
-pub use disk_files::DiskFiles;
-pub use fault::ToolFault;
-pub use files::{Files, LoadFault};
-pub use law::one_output;
-pub use memory_files::MemoryFiles;
+pub use cbpf_jobs::{DiskFiles, Files, LoadFault, MemoryFiles, ToolFault, asm, debug, one_output};

@@ -1,0 +1,8 @@
+use Rattle.std.proofs.Common.{sym, refl, ◌∙◌}
+use Rattle.cbpf_code.proofs.WrittenLemmas.{appended-nil}
+use Rattle.cbpf_jobs.proofs.ReplyLemmas.{kept-same}
+use Rattle.cbpf_jobs.proofs.SaidLemmas.{quit-only}
+use Rattle.cbpf_jobs.proofs.debugger.act.Goals as goal
+
+pub returns-then-is_quit : goal.returns-then-is_quit
+returns-then-is_quit g c = (kept-same _, λ t. (quit-only _ (sym c.is_quit.ensures ∙ c.if-is_quit.true), refl, appended-nil _))

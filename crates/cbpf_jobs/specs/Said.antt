@@ -1,0 +1,89 @@
+-- What the debugger says to the commands of a session, and the view of the session behind them (kernel documentation, networking/filter, on `bpf_dbg`; saved places, limits, steps back and the list of stops are this project's own).
+use Rattle.std.specs.Prelude.{ℕ, ℤ, ◌<◌, length, List, [], ◌∷◌, codes, Bool, true, false, Option, Some, None, Result, Ok, Err}
+use Rattle.cbpf_code.specs.declared.insn.Insn.{Insn}
+use Rattle.cbpf_code.specs.declared.extension.Ext.{Ext}
+use Rattle.cbpf_listing.specs.Listing.{listing}
+use Rattle.cbpf_command.specs.Commands as line
+use Rattle.cbpf_dbg.specs.Commands.{Answer, run, step, select, mark, resume, stops, breakpoint_when, delete, without_breakpoints, set_value}
+use Rattle.cbpf_dbg.specs.View.{View}
+use Rattle.cbpf_dbg.specs.declared.breakpoint.When.{When}
+use Rattle.cbpf_dbg.specs.declared.reply.Place.{Place}
+use Rattle.cbpf_dbg.specs.declared.reply.SessionFault.{SessionFault}
+use Rattle.cbpf_reply.specs.Texts.{fault_text, run_text, place_text, stops_text, breakpoints_text, set_in, value_text}
+use Rattle.cbpf_jobs.specs.Texts.{no_program_text, dump_text}
+
+-- the text of an answer and the view behind it; a refusal leaves the view
+unfoldable pub answered : {R : Type 0} → (R → View → List ℕ) → View → Answer R → List ℕ × View
+answered text m (Ok a) = (text a.0 a.1, a.1)
+answered text m (Err e) = (fault_text e, m)
+
+-- the same of a command that only asks
+unfoldable pub told : {R : Type 0} → (R → List ℕ) → Result R SessionFault → List ℕ
+told text (Ok r) = text r
+told text (Err e) = fault_text e
+
+abbrev pub at_text : Place → List ℕ
+at_text place = place_text (codes "at ") place
+
+abbrev pub before_packet : ℕ → Place
+before_packet n = record { packet = n; step = 0 }
+
+abbrev pub place_of : ℕ → ℕ → Place
+place_of packet s = record { packet = packet; step = s }
+
+abbrev pub run_said : View → Option ℕ → List ℕ × View
+run_said m limit = answered run_text m (run m limit)
+
+abbrev pub step_said : View → ℤ → List ℕ × View
+step_said m n = answered run_text m (step m n)
+
+abbrev pub select_said : View → ℕ → List ℕ × View
+select_said m n = answered (λ u v. at_text (before_packet n)) m (select m n)
+
+abbrev pub resume_said : View → ℕ → ℕ → List ℕ × View
+resume_said m packet s = answered (λ u v. at_text (place_of packet s)) m (resume m (place_of packet s))
+
+abbrev pub breakpoint_said : View → ℕ → When → List ℕ × View
+breakpoint_said m n when = answered (λ u v. set_in v.program n when) m (breakpoint_when m n when)
+
+abbrev pub delete_said : View → ℕ → List ℕ × View
+delete_said m n = answered (λ was v. breakpoints_text v.breakpoints) m (delete m n)
+
+abbrev pub value_said : View → Ext → ℕ → List ℕ × View
+value_said m e n = answered (λ u v. value_text e n) m (set_value m e n)
+
+abbrev pub mark_said : View → List ℕ
+mark_said m = told (λ place. place_text [] place) (mark m)
+
+abbrev pub stops_said : View → List ℕ
+stops_said m = told stops_text (stops m)
+
+-- an instruction of a program that is loaded
+abbrev pub IsInstruction : Option (List Insn) → ℕ → Type 0
+IsInstruction None n = ⊥
+IsInstruction (Some list) n = n < length list
+
+-- `disassemble`, of the program that is loaded
+unfoldable pub listing_text : Option (List Insn) → List ℕ
+listing_text None = no_program_text
+listing_text (Some list) = listing list
+
+abbrev pub is_quit : line.Spelled → Bool
+is_quit line.quit = true
+is_quit (line.load_words text) = false
+is_quit (line.load_capture name) = false
+is_quit (line.run limit) = false
+is_quit line.disassemble = false
+is_quit line.dump = false
+is_quit (line.breakpoint n) = false
+is_quit (line.breakpoint_when_a n v) = false
+is_quit (line.breakpoint_when_x n v) = false
+is_quit line.breakpoints = false
+is_quit line.reset_breakpoints = false
+is_quit (line.delete n) = false
+is_quit (line.step n) = false
+is_quit (line.select n) = false
+is_quit line.mark = false
+is_quit (line.resume packet s) = false
+is_quit line.stops = false
+is_quit (line.value e n) = false

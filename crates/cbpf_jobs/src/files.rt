@@ -1,0 +1,27 @@
+// Where the debugger's files come from.
+ghost use Rattle.cbpf_jobs.specs.FileMap.{Source};
+ghost use Rattle.cbpf_jobs.specs.Loads.{Loads};
+
+use std::alloc::Allocator;
+
+/// Why a file was not loaded.
+#[derive(Clone, Copy, PartialEq, Eq, Debug)]
+pub enum LoadFault {
+    /// F1: there is no file of that name.
+    Absent,
+    /// F2: the file could not be read.
+    Device,
+    /// There was no memory for its bytes.
+    Memory,
+}
+
+/// A source of files by name. A load leaves the files as they are. Where the source tells what it
+/// holds, a load gives the bytes of the name, and answers `Absent` only where there is no such name;
+/// `Device` comes only where the count of failures rises, or stands at its greatest value.
+pub trait Files {
+    /// The files, the count of failures, and whether the source tells what it holds.
+    ghost source: { Self → Source };
+
+    fn load<A: Allocator>(&mut self, alloc: A, name: &str) -> Result<Vec<u8, A>, LoadFault>
+        ensures { Loads (λ v. v.items) (source self.old) (source self.new) name.now result };
+}

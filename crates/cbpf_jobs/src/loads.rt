@@ -1,0 +1,67 @@
+// Loads of programs and captures into a session.
+ghost use Rattle.std.specs.Prelude.{◌⊎◌};
+ghost use Rattle.cbpf_code.specs.Writing.{Wrote};
+ghost use Rattle.cbpf_jobs.specs.Progress.{CaptureLoaded};
+ghost use Rattle.cbpf_jobs.specs.Replies.{LoadsWords, Exactly};
+ghost use Rattle.cbpf_jobs.specs.Texts as texts;
+
+use crate::files::{Files, LoadFault};
+use crate::replies::{
+    write_capture, write_capture_fault, write_check_fault, write_program, write_word_fault,
+};
+use cbpf_code::{WriteFault, check, read_words, write_bytes};
+use cbpf_dbg::{MarkTrail, Session};
+use pcap_classic::Capture;
+use std::alloc::Allocator;
+use std::io::Write;
+
+/// `load bpf`
+pub fn load_words<A: Allocator, W: Write>(
+    alloc: A,
+    w: &mut W,
+    session: &mut Session<MarkTrail, A>,
+    text: &[u8],
+) -> Result<(), WriteFault>
+    ensures { LoadsWords session.old session.new text.now (λ t. Wrote (W.contents w.old) (W.contents w.new) result t)
+        ⊎ Exactly texts.memory_text session.old session.new (λ t. Wrote (W.contents w.old) (W.contents w.new) result t) }
+{
+    let list = match read_words(alloc, text) {
+        Ok(list) => list,
+        Err(fault) => return write_word_fault(w, fault),
+    };
+    match check(list) {
+        Ok(program) => {
+            let count = program.len();
+            session.load_program(program);
+            write_program(w, count)
+        }
+        Err((fault, _)) => write_check_fault(w, fault),
+    }
+}
+
+/// `load pcap`
+pub fn load_capture<A: Allocator + Copy, W: Write, F: Files>(
+    alloc: A,
+    w: &mut W,
+    session: &mut Session<MarkTrail, A>,
+    files: &mut F,
+    name: &str,
+) -> Result<(), WriteFault>
+    ensures { CaptureLoaded (F.source files.old) (F.source files.new) session.old session.new name.now
+        (λ t. Wrote (W.contents w.old) (W.contents w.new) result t) }
+{
+    let bytes = match files.load(alloc, name) {
+        Ok(bytes) => bytes,
+        Err(LoadFault::Absent) => return write_bytes(w, b"error: F1 no such file\n"),
+        Err(LoadFault::Device) => return write_bytes(w, b"error: F2 file could not be read\n"),
+        Err(LoadFault::Memory) => return write_bytes(w, b"error: out of memory\n"),
+    };
+    match Capture::from_bytes(alloc, bytes) {
+        Ok(capture) => {
+            let written = write_capture(w, &capture);
+            session.load_capture(capture);
+            written
+        }
+        Err((fault, _)) => write_capture_fault(w, fault),
+    }
+}
