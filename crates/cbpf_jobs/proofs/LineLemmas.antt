@@ -80,20 +80,12 @@ took-all bytes p p' line line' left t n k =
     let whole : p ≡ p ++ p' = sym (append-nil p) ∙ ap (λ (b : List ℕ). p ++ b) (sym n) in
     subst (λ (b : List ℕ). Took bytes p' left b) (sym k) (took-more bytes p p' p line left t whole)
 
-pub took-none : (bytes p : List ℕ) (left : Option (List ℕ)) → unread p left ≡ Some bytes → Took bytes p left []
-took-none bytes p left e = record { rest = bytes; split = refl; known = e }
-
 -- what is behind the bytes that were taken is still there once more was read
 pub took-filled : (bytes p p' line : List ℕ) (left left' : Option (List ℕ)) → (t : Took bytes p left line) → unread p' left' ≡ Some t.rest → Took bytes p' left' line
 took-filled bytes p p' line left left' t e = record { rest = t.rest; split = t.split; known = e }
 
 pub took-end : (bytes p line : List ℕ) (left : Option (List ℕ)) → (t : Took bytes p left line) → t.rest ≡ [] → bytes ≡ line
 took-end bytes p line left t e = t.split ∙ ap (λ (r : List ℕ). line ++ r) e ∙ append-nil line
-
-some-append : (line p : List ℕ) → 0 < length p → line ++ p ≡ [] → ⊥
-some-append [] [] h e = absurd (omega (arith, h))
-some-append [] (b ∷ bs) h e = cc
-some-append (x ∷ xs) p h e = cc
 
 unread-some : (p r : List ℕ) (left : Option (List ℕ)) → 0 < length p → unread p left ≡ Some r → r ≡ [] → ⊥
 unfolding unread

@@ -104,10 +104,6 @@ load-accepted items f g m n name Written v capture l h e w =
 
 -- ---- a command, and a line
 
-pub acted-err : (files : FileMap) (m n : View) (f g : ℕ) (c : Spelled) (old new : Option (List ℕ)) (r : Result Behind WriteFault) → IsErr r → Answers files m n f g c (λ t. AppendedPart old new t) → Acted files m n f g c old new r
-acted-err files m n f g c old new (Ok b) e a = absurd (cc)
-acted-err files m n f g c old new (Err x) e a = a
-
 pub carried-err : (files : FileMap) (m n : View) (f g : ℕ) (said : Result (Option Spelled) LineRefusal) (old new : Option (List ℕ)) (r : Result Behind WriteFault) → IsErr r → Replies files m n f g said (λ t. AppendedPart old new t) → Carried files m n f g said old new r
 carried-err files m n f g said old new (Ok b) e a = absurd (cc)
 carried-err files m n f g said old new (Err x) e a = a
