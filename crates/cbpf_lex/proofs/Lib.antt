@@ -1,3 +1,5 @@
+pub mod Leads
+pub mod Comments
 pub mod Runs
 pub mod Cuts
 pub mod Spelled

@@ -1,5 +1,5 @@
 -- A line has more than blanks behind a token.
-use Rattle.std.proofs.Common.{◌≡◌, ℕ, Bool, true, false, ◌&&◌, ◌||◌, List, [], ◌∷◌, refl, sym, ◌∙◌, cond, Some, None, eqb-true, take, drop, ◌+◌}
+use Rattle.std.proofs.Common.{◌≡◌, ℕ, Bool, true, false, ◌&&◌, ◌||◌, List, [], ◌∷◌, refl, sym, ◌∙◌, cond, Some, None, eqb-true, take, drop, ◌+◌, length, Option}
 use Rattle.std.specs.Prelude.{◌==◌}
 use Rattle.std.specs.List.{list_all, fold}
 use Rattle.cbpf_lex.specs.declared.token.Kind.{Kind}
@@ -10,7 +10,9 @@ use Rattle.cbpf_lex.specs.declared.piece.PieceKind.TheVariants.{Blanks, Comment,
 use Rattle.cbpf_lex.specs.declared.piece.Lead.{Lead}
 use Rattle.cbpf_lex.specs.declared.piece.Lead.TheVariants.{Blank, LineComment, Letter, Digit, Slash, Single, Other}
 use Rattle.cbpf_lex.specs.Bytes.{is_blank, is_name_byte}
-use Rattle.cbpf_lex.specs.Pieces.{IsPieceAt, is_line_blank, piece_kind, led_kind, lead_of, only_if, alone, behind_slash, behind_star, run_kind}
+use Rattle.cbpf_lex.specs.Pieces.{IsPieceAt, is_line_blank, piece_kind, only_if, slash_kind, comment_kind, first_close, run_kind}
+use Rattle.cbpf_lex.specs.Leads.{lead_of}
+use Rattle.cbpf_lex.proofs.Leads.{led, led_kind}
 use Rattle.cbpf_lex.specs.Numbers.{number_value}
 use Rattle.cbpf_lex.proofs.Cuts.{and_parts, blank_more, some-same}
 
@@ -47,26 +49,6 @@ no_blank x b e = neither (b == 10) x (is_blank b) (newline_blank b e) e
 name_ends : (x : Bool) (b : ℕ) (bs : List ℕ) → is_blank b ≡ false → list_all is_name_byte bs ≡ true → fold with_byte x (b ∷ bs) ≡ false
 name_ends x b bs e all = rw (no_blank x b e) (names_stay bs all)
 
-star_token : {B : Type 0} (star : Bool) (bs : List ℕ) (k : Kind) → behind_star star bs ≡ Some (Lexeme k) → B
-star_token star [] k e = cc
-star_token star (b ∷ bs) k e = by_test (star && b == 47) bs e (star_token (b == 42) bs k)
-  where
-    end : {B : Type 0} (cs : List ℕ) → alone cs Comment ≡ Some (Lexeme k) → B
-    end [] h = cc
-    end (c ∷ cs) h = cc
-
-    by_test : {B : Type 0} (t : Bool) (cs : List ℕ) → cond t (alone cs Comment) (behind_star (b == 42) cs) ≡ Some (Lexeme k) → (behind_star (b == 42) cs ≡ Some (Lexeme k) → B) → B
-    by_test true cs h rest = end cs h
-    by_test false cs h rest = rest h
-
-slash_token : {B : Type 0} (bs : List ℕ) (k : Kind) → behind_slash bs ≡ Some (Lexeme k) → B
-slash_token [] k e = cc
-slash_token (b ∷ bs) k e = by_test (b == 42) e
-  where
-    by_test : {B : Type 0} (t : Bool) → cond t (behind_star false bs) None ≡ Some (Lexeme k) → B
-    by_test true h = star_token false bs k h
-    by_test false h = cc
-
 only_true : (t : Bool) (kind : PieceKind) (k : Kind) → only_if t kind ≡ Some (Lexeme k) → t ≡ true
 only_true true kind k e = refl
 only_true false kind k e = cc
@@ -74,6 +56,18 @@ only_true false kind k e = cc
 no_lexeme : {B : Type 0} (t : Bool) (kind : PieceKind) (k : Kind) → (kind ≡ Lexeme k → B) → only_if t kind ≡ Some (Lexeme k) → B
 no_lexeme true kind k other e = other (some-same _ _ e)
 no_lexeme false kind k other e = cc
+
+comment_token : {B : Type 0} (close : Option ℕ) (size : ℕ) (k : Kind) → comment_kind close size ≡ Some (Lexeme k) → B
+comment_token None size k e = cc
+comment_token (Some n) size k e = no_lexeme (n == size) Comment k (λ q. cc) e
+
+slash_token : {B : Type 0} (bs : List ℕ) (k : Kind) → slash_kind bs ≡ Some (Lexeme k) → B
+slash_token [] k e = cc
+slash_token (b ∷ bs) k e = by_test (b == 42) e
+  where
+    by_test : {B : Type 0} (t : Bool) → cond t (comment_kind (first_close bs) (length bs)) None ≡ Some (Lexeme k) → B
+    by_test true h = comment_token (first_close bs) (length bs) k h
+    by_test false h = cc
 
 led_ends : (x : Bool) (lead : Lead) (b : ℕ) (bs : List ℕ) (k : Kind) → led_kind lead b bs ≡ Some (Lexeme k) → is_blank b ≡ false → fold with_byte x (b ∷ bs) ≡ false
 led_ends x Blank b bs k e h = no_lexeme _ Blanks k (λ q. cc) e
@@ -98,7 +92,7 @@ not_blank fresh b bs k e = by_test (is_blank b) refl
 
 token_ends : (x fresh : Bool) (bs : List ℕ) (k : Kind) → piece_kind fresh bs ≡ Some (Lexeme k) → fold with_byte x bs ≡ false
 token_ends x fresh [] k e = cc
-token_ends x fresh (b ∷ bs) k e = led_ends x (lead_of fresh b) b bs k e (not_blank fresh b bs k e)
+token_ends x fresh (b ∷ bs) k e = (let h : led_kind (lead_of fresh b) b bs ≡ Some (Lexeme k) = sym (led fresh b bs (lead_of fresh b) refl) ∙ e in led_ends x (lead_of fresh b) b bs k h (not_blank fresh b bs k h))
 
 -- behind a token the line has more than blanks
 pub token_line : (text : List ℕ) (at : ℕ) (p : Piece) (k : Kind) → IsPieceAt text at p → p.kind ≡ Lexeme k → is_line_blank (take (at + p.size) text) ≡ false

@@ -1,15 +1,18 @@
 -- The piece at the front of a text, by its first byte.
-use Rattle.std.proofs.Common.{◌≡◌, ℕ, zero, suc, ◌+◌, ◌<◌, ◌≤◌, Bool, true, false, not, ◌&&◌, cond, List, [], ◌∷◌, length, take, drop, refl, ap, ◌∙◌, arith, Some, None}
+use Rattle.std.proofs.Common.{◌≡◌, ℕ, zero, suc, ◌+◌, ◌<◌, ◌≤◌, Bool, true, false, not, cond, List, [], ◌∷◌, length, take, drop, refl, ap, ◌∙◌, arith, Some, None}
 use Rattle.std.proofs.Math.Numerals.{one-add}
 use Rattle.std.specs.Prelude.{◌==◌, slice_index, ◌≢◌}
 use Rattle.std.specs.List.{list_all, prefix_len}
-use Rattle.std.proofs.Common.{get_or, ◌-◌, add-one, drop-cons, ne_eqb}
+use Rattle.std.proofs.Common.{ne_eqb, eq-eqb, length-take-le}
 use Rattle.cbpf_lex.specs.declared.piece.PieceKind.{PieceKind}
 use Rattle.cbpf_lex.specs.declared.piece.PieceKind.TheVariants.{Blanks, Comment, Lexeme, Bad}
 use Rattle.cbpf_lex.specs.declared.token.Kind.TheVariants.{Word, Mark}
 use Rattle.cbpf_lex.specs.Bytes.{is_blank, is_name_byte}
 use Rattle.cbpf_lex.specs.Numbers.{number_value}
-use Rattle.cbpf_lex.specs.Pieces.{IsNext, piece_kind, only_if, run_kind, alone, lead_of, led_kind, behind_star}
+use Rattle.cbpf_lex.specs.Pieces.{IsNext, piece_kind, only_if, run_kind, alone, first_close, comment_kind}
+use Rattle.cbpf_lex.specs.Leads.{lead_of}
+use Rattle.cbpf_lex.proofs.Leads.{led}
+use Rattle.cbpf_lex.proofs.Comments.{close_taken}
 use Rattle.cbpf_lex.specs.declared.token.BadPiece.TheVariants.{NoToken, OpenComment}
 use Rattle.cbpf_lex.specs.declared.piece.Lead.TheVariants.{Blank, LineComment, Letter, Digit, Slash, Single, Other}
 use Rattle.std.proofs.lemmas.List.Sums.{prefix_len-le-length}
@@ -50,16 +53,16 @@ module _ (fresh : Bool) (p : ℕ → Bool) (kind : List ℕ → PieceKind) (b : 
   })
 
 pub blanks_next : (fresh : Bool) (b : ℕ) (bs : List ℕ) → lead_of fresh b ≡ Blank → IsNext fresh (b ∷ bs) (record { kind = Blanks; size = 1 + prefix_len is_blank bs })
-blanks_next fresh b bs e = run_next fresh is_blank (λ _. Blanks) b bs (λ cs. ap (λ l. led_kind l b cs) e)
+blanks_next fresh b bs e = run_next fresh is_blank (λ _. Blanks) b bs (λ cs. led fresh b cs _ e)
 
 pub line_next : (fresh : Bool) (b : ℕ) (bs : List ℕ) → lead_of fresh b ≡ LineComment → IsNext fresh (b ∷ bs) (record { kind = Comment; size = 1 + prefix_len (λ c. not (c == 10)) bs })
-line_next fresh b bs e = run_next fresh (λ c. not (c == 10)) (λ _. Comment) b bs (λ cs. ap (λ l. led_kind l b cs) e)
+line_next fresh b bs e = run_next fresh (λ c. not (c == 10)) (λ _. Comment) b bs (λ cs. led fresh b cs _ e)
 
 pub word_next : (fresh : Bool) (b : ℕ) (bs : List ℕ) → lead_of fresh b ≡ Letter → IsNext fresh (b ∷ bs) (record { kind = Lexeme Word; size = 1 + prefix_len is_name_byte bs })
-word_next fresh b bs e = run_next fresh is_name_byte (λ _. Lexeme Word) b bs (λ cs. ap (λ l. led_kind l b cs) e)
+word_next fresh b bs e = run_next fresh is_name_byte (λ _. Lexeme Word) b bs (λ cs. led fresh b cs _ e)
 
 pub number_next : (fresh : Bool) (b : ℕ) (bs : List ℕ) → lead_of fresh b ≡ Digit → IsNext fresh (b ∷ bs) (record { kind = run_kind (number_value (b ∷ take (prefix_len is_name_byte bs) bs)); size = 1 + prefix_len is_name_byte bs })
-number_next fresh b bs e = run_next fresh is_name_byte (λ cs. run_kind (number_value (b ∷ cs))) b bs (λ cs. ap (λ l. led_kind l b cs) e)
+number_next fresh b bs e = run_next fresh is_name_byte (λ cs. run_kind (number_value (b ∷ cs))) b bs (λ cs. led fresh b cs _ e)
 
 -- a byte that is a piece by itself alone
 alone_longer : (fresh : Bool) (kind : PieceKind) (b : ℕ) (bs : List ℕ) → ((cs : List ℕ) → piece_kind fresh (b ∷ cs) ≡ alone cs kind) → (n : ℕ) → 1 < n → n ≤ suc (length bs) → piece_kind fresh (take n (b ∷ bs)) ≡ None
@@ -72,64 +75,46 @@ pub alone_next : (fresh : Bool) (kind : PieceKind) (b : ℕ) (bs : List ℕ) →
 alone_next fresh kind b bs d = record { within = omega arith; kind = d []; longest = alone_longer fresh kind b bs d }
 
 pub mark_next : (fresh : Bool) (b : ℕ) (bs : List ℕ) → lead_of fresh b ≡ Single → IsNext fresh (b ∷ bs) (record { kind = Lexeme (Mark b); size = 1 })
-mark_next fresh b bs e = alone_next fresh (Lexeme (Mark b)) b bs (λ cs. ap (λ l. led_kind l b cs) e)
+mark_next fresh b bs e = alone_next fresh (Lexeme (Mark b)) b bs (λ cs. led fresh b cs _ e)
 
 pub other_next : (fresh : Bool) (b : ℕ) (bs : List ℕ) → lead_of fresh b ≡ Other → IsNext fresh (b ∷ bs) (record { kind = Bad NoToken; size = 1 })
-other_next fresh b bs e = alone_next fresh (Bad NoToken) b bs (λ cs. ap (λ l. led_kind l b cs) e)
+other_next fresh b bs e = alone_next fresh (Bad NoToken) b bs (λ cs. led fresh b cs _ e)
 
 -- a `/` without a `*` behind it
 slash_longer : (fresh : Bool) (b : ℕ) (bs : List ℕ) → lead_of fresh b ≡ Slash → (slice_index bs 0 == 42) ≡ false → (n : ℕ) → 1 < n → n ≤ suc (length bs) → piece_kind fresh (take n (b ∷ bs)) ≡ None
 slash_longer fresh b bs e h zero l w = absurd (omega arith)
 slash_longer fresh b bs e h (suc zero) l w = absurd (omega arith)
 slash_longer fresh b [] e h (suc (suc n)) l w = absurd (omega arith)
-slash_longer fresh b (c ∷ cs) e h (suc (suc n)) l w = ap (λ l. led_kind l b (c ∷ take n cs)) e ∙ rw h refl
+slash_longer fresh b (c ∷ cs) e h (suc (suc n)) l w = led fresh b (c ∷ take n cs) Slash e ∙ rw h refl
 
 pub slash_next : (fresh : Bool) (b : ℕ) (bs : List ℕ) → lead_of fresh b ≡ Slash → (slice_index bs 0 == 42) ≡ false → IsNext fresh (b ∷ bs) (record { kind = Bad NoToken; size = 1 })
-slash_next fresh b bs e h = record { within = omega arith; kind = ap (λ l. led_kind l b []) e; longest = slash_longer fresh b bs e h }
+slash_next fresh b bs e h = record { within = omega arith; kind = led fresh b [] Slash e; longest = slash_longer fresh b bs e h }
 
--- a comment whose body is the first n bytes behind `/*`
-pub comment_next : (fresh : Bool) (b : ℕ) (bs : List ℕ) (n : ℕ) → lead_of fresh b ≡ Slash → n ≤ length bs → behind_star false (take n bs) ≡ Some Comment → ((m : ℕ) → n < m → m ≤ length bs → behind_star false (take m bs) ≡ None) → IsNext fresh (b ∷ 42 ∷ bs) (record { kind = Comment; size = 2 + n })
-comment_next fresh b bs n e w h long = rw (two-add n) (record { within = omega arith; kind = ap (λ l. led_kind l b (42 ∷ take n bs)) e ∙ h; longest = longer })
+-- a comment that ends at the first `*/` behind `/*`
+pub comment_next : (fresh : Bool) (b : ℕ) (bs : List ℕ) (n : ℕ) → lead_of fresh b ≡ Slash → n ≤ length bs → first_close bs ≡ Some n → IsNext fresh (b ∷ 42 ∷ bs) (record { kind = Comment; size = 2 + n })
+comment_next fresh b bs n e w h = rw (two-add n) (record { within = omega arith; kind = shut; longest = longer })
   where
+    cut : (m : ℕ) → n ≤ m → m ≤ length bs → piece_kind fresh (b ∷ 42 ∷ take m bs) ≡ only_if (n == m) Comment
+    cut m l w' = led fresh b (42 ∷ take m bs) Slash e ∙ (λ i. comment_kind (close_taken bs n m h l i) (length-take-le m bs w' i))
+
+    shut : piece_kind fresh (b ∷ 42 ∷ take n bs) ≡ Some Comment
+    shut = let l : n ≤ n = omega arith in cut n l w ∙ ap (λ t. only_if t Comment) (eq-eqb n n refl)
+
     longer : (m : ℕ) → suc (suc n) < m → m ≤ suc (suc (length bs)) → piece_kind fresh (take m (b ∷ 42 ∷ bs)) ≡ None
     longer zero l w' = absurd (omega arith)
     longer (suc zero) l w' = absurd (omega arith)
-    longer (suc (suc m)) l w' = ap (λ t. led_kind t b (42 ∷ take m bs)) e ∙ long m (omega arith) (omega arith)
+    longer (suc (suc m)) l w' = let d : n ≢ m = λ q. absurd (omega (arith, l, q)) in cut m (omega arith) (omega arith) ∙ ap (λ t. only_if t Comment) (ne_eqb n m d)
 
 -- an open comment, which is all of the text
-pub open_next : (fresh : Bool) (b : ℕ) (bs : List ℕ) → lead_of fresh b ≡ Slash → behind_star false bs ≡ Some (Bad OpenComment) → IsNext fresh (b ∷ 42 ∷ bs) (record { kind = Bad OpenComment; size = 2 + length bs })
-open_next fresh b bs e h = rw (two-add (length bs)) (record { within = omega arith; kind = rw (take_all (length bs) bs (omega arith)) (ap (λ l. led_kind l b (42 ∷ bs)) e ∙ h); longest = λ n l w. absurd (omega arith) })
-
--- where the first i bytes behind a `/*` have no `*/`, the rest decides
-abbrev pub IsOpenTo : List ℕ → ℕ → Bool → Type 0
-IsOpenTo body i star = (k : ℕ) → behind_star false (take (i + k) body) ≡ behind_star star (take k (drop i body))
-
-pub open_more : (body : List ℕ) (i : ℕ) (star : Bool) → i < length body → (star && get_or body i 0 == 47) ≡ false → IsOpenTo body i star → IsOpenTo body (i + 1) (get_or body i 0 == 42)
-open_more body i star l kept inv k =
-    let e : (i + 1) + k ≡ i + suc k = omega arith in
-    rw (e, inv (suc k), drop-cons body i 0, add-one, kept) refl
-
-pub close_here : (body : List ℕ) (i : ℕ) (star : Bool) → i < length body → (star && get_or body i 0 == 47) ≡ true → IsOpenTo body i star → behind_star false (take (i + 1) body) ≡ Some Comment
-close_here body i star l shut inv = inv 1 ∙ rw (drop-cons body i 0, shut) refl
-
-close_longer_at : (body : List ℕ) (i : ℕ) (star : Bool) (k : ℕ) → i < length body → i + suc (suc k) ≤ length body → (star && get_or body i 0 == 47) ≡ true → IsOpenTo body i star → behind_star false (take (i + suc (suc k)) body) ≡ None
-close_longer_at body i star k l w shut inv = inv (suc (suc k)) ∙ (let l2 : suc i < length body = omega arith in rw (drop-cons body i 0, shut, drop-cons body (suc i) 0) refl)
-
-pub close_longer : (body : List ℕ) (i : ℕ) (star : Bool) → i < length body → (star && get_or body i 0 == 47) ≡ true → IsOpenTo body i star → (m : ℕ) → i + 1 < m → m ≤ length body → behind_star false (take m body) ≡ None
-close_longer body i star l shut inv m h w =
-    let e : m ≡ i + suc (suc (m - i - 2)) = omega arith in
-    let w' : i + suc (suc (m - i - 2)) ≤ length body = omega arith in
-    rw e (close_longer_at body i star (m - i - 2) l w' shut inv)
-
-pub never_closed : (body : List ℕ) (star : Bool) → IsOpenTo body (length body) star → behind_star false body ≡ Some (Bad OpenComment)
-never_closed body star inv = (let e : take (length body + 0) body ≡ body = take_all (length body + 0) body (omega arith) in rw e at (inv 0))
+pub open_next : (fresh : Bool) (b : ℕ) (bs : List ℕ) → lead_of fresh b ≡ Slash → first_close bs ≡ None → IsNext fresh (b ∷ 42 ∷ bs) (record { kind = Bad OpenComment; size = 2 + length bs })
+open_next fresh b bs e h = rw (two-add (length bs)) (record { within = omega arith; kind = rw (take_all (length bs) bs (omega arith)) (led fresh b (42 ∷ bs) Slash e ∙ ap (λ o. comment_kind o (length bs)) h); longest = λ n l w. absurd (omega arith) })
 
 -- the same two by the bytes behind the `/`
-pub comment_at : (fresh : Bool) (b : ℕ) (bs : List ℕ) (n : ℕ) → lead_of fresh b ≡ Slash → slice_index bs 0 ≡ 42 → n ≤ length (drop 1 bs) → behind_star false (take n (drop 1 bs)) ≡ Some Comment → ((m : ℕ) → n < m → m ≤ length (drop 1 bs) → behind_star false (take m (drop 1 bs)) ≡ None) → IsNext fresh (b ∷ bs) (record { kind = Comment; size = 2 + n })
-comment_at fresh b [] n e h w k long = absurd (omega arith)
-comment_at fresh b (d ∷ ds) n e h w k long = rw h (comment_next fresh b ds n e w k long)
+pub comment_at : (fresh : Bool) (b : ℕ) (bs : List ℕ) (n : ℕ) → lead_of fresh b ≡ Slash → slice_index bs 0 ≡ 42 → n ≤ length (drop 1 bs) → first_close (drop 1 bs) ≡ Some n → IsNext fresh (b ∷ bs) (record { kind = Comment; size = 2 + n })
+comment_at fresh b [] n e h w k = absurd (omega arith)
+comment_at fresh b (d ∷ ds) n e h w k = rw h (comment_next fresh b ds n e w k)
 
-pub open_at : (fresh : Bool) (b : ℕ) (bs : List ℕ) → lead_of fresh b ≡ Slash → slice_index bs 0 ≡ 42 → behind_star false (drop 1 bs) ≡ Some (Bad OpenComment) → IsNext fresh (b ∷ bs) (record { kind = Bad OpenComment; size = 2 + length (drop 1 bs) })
+pub open_at : (fresh : Bool) (b : ℕ) (bs : List ℕ) → lead_of fresh b ≡ Slash → slice_index bs 0 ≡ 42 → first_close (drop 1 bs) ≡ None → IsNext fresh (b ∷ bs) (record { kind = Bad OpenComment; size = 2 + length (drop 1 bs) })
 open_at fresh b [] e h k = absurd (omega arith)
 open_at fresh b (d ∷ ds) e h k = rw h (open_next fresh b ds e k)
 

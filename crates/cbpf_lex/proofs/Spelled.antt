@@ -11,7 +11,8 @@ use Rattle.cbpf_lex.specs.declared.piece.Lead.TheVariants.{Blank, Letter, Digit,
 use Rattle.cbpf_lex.specs.declared.piece.Piece.{Piece}
 use Rattle.cbpf_lex.specs.Bytes.{is_blank, is_letter, is_digit, is_name_byte, is_mark}
 use Rattle.cbpf_lex.specs.Numbers.{number_value}
-use Rattle.cbpf_lex.specs.Pieces.{IsNext, IsPieceAt, IsCut, is_line_blank, lead_of, run_kind}
+use Rattle.cbpf_lex.specs.Pieces.{IsNext, IsPieceAt, IsCut, is_line_blank, run_kind}
+use Rattle.cbpf_lex.specs.Leads.{lead_of}
 use Rattle.cbpf_lex.specs.Tokens.{Lexes, tokens_of, is_good}
 use Rattle.cbpf_lex.proofs.Runs.{blanks_next, word_next, number_next, mark_next}
 use Rattle.cbpf_lex.proofs.Cuts.{and_parts}
@@ -96,9 +97,6 @@ digit_test b = not (is_digit b) || (not (is_blank b) && (not (b == 59) && (not (
 
 abbrev mark_test : ℕ → Bool
 mark_test b = not (is_mark b) || (not (is_blank b) && (not (b == 59) && (not (is_letter b) && (not (is_digit b) && not (b == 47)))))
-
-abbrev name_test : ℕ → Bool
-name_test b = not (is_name_byte b) || (not (is_blank b) && (not (b == 10) && not (is_mark b)))
 
 not_true : (a : Bool) → not a ≡ true → a ≡ false
 not_true true h = sym h

@@ -1,13 +1,11 @@
 -- How a source text is cut into pieces: blanks, comments, tokens and bad pieces, each the longest at its place. The kernel's Documentation/networking/filter shows words, numbers, marks and comments by example; these rules are this project's own.
-use Rattle.std.specs.Prelude.{◌≡◌, ℕ, ◌+◌, ◌^◌, ◌<◌, ◌≤◌, Bool, true, false, not, ◌&&◌, ◌||◌, List, [], ◌∷◌, length, take, drop, nat_lt, ◌==◌, if◌then◌else◌, fold, Option, Some, None}
+use Rattle.std.specs.Prelude.{◌≡◌, ℕ, suc, ◌+◌, ◌^◌, ◌<◌, ◌≤◌, Bool, true, false, not, ◌&&◌, ◌||◌, List, [], ◌∷◌, length, take, drop, nat_lt, ◌==◌, if◌then◌else◌, fold, Option, Some, None, option_map}
 use Rattle.std.specs.List.{list_all}
 use Rattle.cbpf_lex.specs.declared.token.Kind.TheVariants.{Word, Number, Mark}
 use Rattle.cbpf_lex.specs.declared.token.BadPiece.TheVariants.{NoToken, OpenComment, LargeNumber}
 use Rattle.cbpf_lex.specs.declared.piece.PieceKind.{PieceKind}
 use Rattle.cbpf_lex.specs.declared.piece.PieceKind.TheVariants.{Blanks, Comment, Lexeme, Bad}
 use Rattle.cbpf_lex.specs.declared.piece.Piece.{Piece}
-use Rattle.cbpf_lex.specs.declared.piece.Lead.{Lead}
-use Rattle.cbpf_lex.specs.declared.piece.Lead.TheVariants.{Blank, LineComment, Letter, Digit, Slash, Single, Other}
 use Rattle.cbpf_lex.specs.Bytes.{is_blank, is_digit, is_letter, is_name_byte, is_mark}
 use Rattle.cbpf_lex.specs.Numbers.{number_value}
 
@@ -28,41 +26,38 @@ abbrev pub run_kind : Option ℕ → PieceKind
 run_kind None = Bad NoToken
 run_kind (Some n) = if nat_lt n (2 ^ 32) then Lexeme (Number n) else Bad LargeNumber
 
--- the bytes behind a `/*`: a comment where their only `*/` is their end, an open comment where they have none
-abbrev pub behind_star : Bool → List ℕ → Option PieceKind
-behind_star star [] = Some (Bad OpenComment)
-behind_star star (b ∷ bs) = if star && b == 47 then alone bs Comment else behind_star (b == 42) bs
+-- the bytes begin with `*/`
+abbrev pub begins_with_close : List ℕ → Bool
+begins_with_close [] = false
+begins_with_close (b ∷ []) = false
+begins_with_close (b ∷ c ∷ bs) = b == 42 && c == 47
 
--- the bytes behind a `/`
-abbrev pub behind_slash : List ℕ → Option PieceKind
-behind_slash [] = Some (Bad NoToken)
-behind_slash (b ∷ bs) = if b == 42 then behind_star false bs else None
+-- how many bytes there are up to the end of the first `*/`, where there is one
+abbrev pub first_close : List ℕ → Option ℕ
+first_close [] = None
+first_close (b ∷ bs) = if begins_with_close (b ∷ bs) then Some 2 else option_map suc (first_close bs)
 
--- What a piece that begins with the byte is. `fresh` says that the line before it has only blanks.
-abbrev pub lead_of : Bool → ℕ → Lead
-lead_of fresh b =
-    if is_blank b then Blank
-    else (if b == 59 || (fresh && b == 35) then LineComment
-    else (if is_letter b then Letter
-    else (if is_digit b then Digit
-    else (if b == 47 then Slash
-    else (if is_mark b then Single
-    else Other)))))
+-- A `/*` and so many bytes after it, by the end of the first `*/` among them: a comment where the bytes end there, and an open comment where there is none.
+abbrev pub comment_kind : Option ℕ → ℕ → Option PieceKind
+comment_kind None size = Some (Bad OpenComment)
+comment_kind (Some close) size = only_if (close == size) Comment
 
--- which kind of piece a byte and the bytes behind it are, if they are one, by what the byte says
-abbrev pub led_kind : Lead → ℕ → List ℕ → Option PieceKind
-led_kind Blank b bs = only_if (list_all is_blank bs) Blanks
-led_kind LineComment b bs = only_if (list_all (λ c. not (c == 10)) bs) Comment
-led_kind Letter b bs = only_if (list_all is_name_byte bs) (Lexeme Word)
-led_kind Digit b bs = only_if (list_all is_name_byte bs) (run_kind (number_value (b ∷ bs)))
-led_kind Slash b bs = behind_slash bs
-led_kind Single b bs = alone bs (Lexeme (Mark b))
-led_kind Other b bs = alone bs (Bad NoToken)
+-- a `/` and the bytes after it
+abbrev pub slash_kind : List ℕ → Option PieceKind
+slash_kind [] = Some (Bad NoToken)
+slash_kind (b ∷ bs) = if b == 42 then comment_kind (first_close bs) (length bs) else None
 
--- which kind of piece the bytes are, if they are one
+-- Which kind of piece the bytes are, if they are one. `fresh` says that the line before them has only blanks.
 abbrev pub piece_kind : Bool → List ℕ → Option PieceKind
 piece_kind fresh [] = None
-piece_kind fresh (b ∷ bs) = led_kind (lead_of fresh b) b bs
+piece_kind fresh (b ∷ bs) =
+    if is_blank b then only_if (list_all is_blank bs) Blanks
+    else (if b == 59 || (fresh && b == 35) then only_if (list_all (λ c. not (c == 10)) bs) Comment
+    else (if is_letter b then only_if (list_all is_name_byte bs) (Lexeme Word)
+    else (if is_digit b then only_if (list_all is_name_byte bs) (run_kind (number_value (b ∷ bs)))
+    else (if b == 47 then slash_kind bs
+    else (if is_mark b then alone bs (Lexeme (Mark b))
+    else alone bs (Bad NoToken))))))
 
 -- the piece stands at the front of the text, and no longer one does
 pub record IsNext (fresh : Bool) (text : List ℕ) (piece : Piece) : Type 0 where

@@ -1,13 +1,12 @@
 //! The piece at the front of a text: blanks, a comment, a token, or a bad piece.
 
-ghost use Rattle.std.specs.Prelude.{Bool, ℕ, take, Some, None, false, true, IfSome, IfNone, ◌∷◌, ◌&&◌, ◌==◌, ◌≡◌, ◌<◌, ◌≤◌, length};
+ghost use Rattle.std.specs.Prelude.{Bool, ℕ, true, IfSome, IfNone, ◌∷◌, ◌&&◌, ◌==◌, ◌≡◌, ◌≤◌, length};
 ghost use Rattle.cbpf_lex.specs.Numbers.{number_value};
-ghost use Rattle.cbpf_lex.specs.Pieces.{IsNext, lead_of, run_kind, behind_star};
+ghost use Rattle.cbpf_lex.specs.Pieces.{IsNext, run_kind, first_close};
+ghost use Rattle.cbpf_lex.specs.Leads.{lead_of};
 ghost use Rattle.cbpf_lex.specs.Tokens.{is_good};
-ghost use Rattle.cbpf_lex.specs.declared.piece.PieceKind.{PieceKind};
-ghost use Rattle.cbpf_lex.specs.declared.piece.PieceKind.TheVariants.{Comment, Bad};
+ghost use Rattle.cbpf_lex.specs.declared.piece.PieceKind.TheVariants.{Bad};
 ghost use Rattle.cbpf_lex.specs.declared.piece.Lead.TheVariants.{Slash};
-ghost use Rattle.cbpf_lex.specs.declared.token.BadPiece.TheVariants.{OpenComment};
 
 use crate::bytes::{blanks_len, line_len, name_len};
 use crate::number::{LIMIT, number_value};
@@ -69,9 +68,7 @@ fn is_close(star: bool, b: u8) -> bool
 /// How many bytes there are up to the first `*/` and with it.
 fn close_len(body: &[u8]) -> Option<usize>
     ensures within { IfSome result (λ n. n ≤ length body.now) }
-    ensures comment { IfSome result (λ n. behind_star false (take n body.now) ≡ Some Comment) }
-    ensures longest { IfSome result (λ n. (m : ℕ) → n < m → m ≤ length body.now → behind_star false (take m body.now) ≡ None) }
-    ensures open { IfNone result (behind_star false body.now ≡ Some (Bad OpenComment)) }
+    ensures first { result ≡ first_close body.now }
 {
     let mut star = false;
     for (i, b) in body.iter().enumerate() {

@@ -1,4 +1,4 @@
-use Rattle.cbpf_lex.proofs.Runs.{IsOpenTo}
+use Rattle.cbpf_lex.proofs.Comments.{IsOpenTo}
 use Rattle.cbpf_lex.proofs.piece.close_len.Given as goal
 
 abbrev pub invariant-loop-i : goal.invariant-loop-i
