@@ -6,7 +6,8 @@ use Rattle.std.specs.List.{list_all, filter}
 use Rattle.std.proofs.lemmas.List.{get_or_default}
 use Rattle.cbpf_grammar.specs.Lexemes.{same_bytes}
 use Rattle.cbpf_grammar.specs.Fits.{is_one_of, mnemonic_words, is_reserved}
-use Rattle.cbpf_grammar.specs.Table.{Row, Mnemonic, mnemonics, table, rows_of, entry_rows, begins_with, is_first}
+use Rattle.cbpf_grammar.specs.Table.{Row, Mnemonic, mnemonics, table, rows_of, entry_rows}
+use Rattle.cbpf_grammar.specs.Initials.{begins_with, is_first}
 use Rattle.cbpf_grammar.proofs.Apart.{and_parts, same_bytes_refl, same_bytes_eq}
 use Rattle.cbpf_grammar.proofs.OneReading.{three}
 use Rattle.cbpf_grammar.proofs.Elements.{first_element, later_element, which_element, from_map, into_map, from_flat_map, into_flat_map, any_element, some_element}

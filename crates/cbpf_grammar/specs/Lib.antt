@@ -1,6 +1,7 @@
 pub mod Lexemes
 pub mod Classes
 pub mod Table
+pub mod Initials
 pub mod Fits
 pub mod Items
 pub mod Views

@@ -1,5 +1,5 @@
 -- The table of instructions in the kernel's Documentation/networking/filter (BPF engine and instruction set): for each mnemonic its addressing modes, each with its operation and its forms, all options written out. This project's own are `ldi` and `ldxi` with a bare number, extensions for `ldh` and `ldb`, signs, `#` before an extension's name, and the spellings of 4 and 15.
-use Rattle.std.specs.Prelude.{ℕ, Bool, false, ◌==◌, List, [], ◌∷◌, ◌++◌, map, codes, flat_map}
+use Rattle.std.specs.Prelude.{ℕ, List, [], ◌∷◌, ◌++◌, map, codes, flat_map}
 use Rattle.cbpf_code.specs.declared.opcode.Op.{Op}
 use Rattle.cbpf_code.specs.declared.opcode.Op.TheVariants.{LdImm, LdAbs, LdInd, LdMem, LdLen, LdxImm, LdxMem, LdxLen, LdxMsh, St, Stx, Alu, Neg, Ja, Jump, RetK, RetA, Tax, Txa}
 use Rattle.cbpf_code.specs.declared.opcode.Size.{Size}
@@ -164,14 +164,6 @@ mnemonics =
     ∷ mnemonic (codes "txa") (only none Txa Constant)
     ∷ mnemonic (codes "ret") (entry immediate RetK Constant ∷ entry a RetA Constant ∷ [])
     ∷ []
-
-abbrev pub is_first : ℕ → List ℕ → Bool
-is_first first [] = false
-is_first first (b ∷ bs) = first == b
-
--- the mnemonic's word begins with the byte
-abbrev pub begins_with : ℕ → Mnemonic → Bool
-begins_with first m = is_first first m.word
 
 abbrev pub entry_rows : List ℕ → Entry → List Row
 entry_rows word e = map (λ form. record { mnemonic = word; operand = form; op = e.op; fields = e.fields }) e.forms

@@ -2,7 +2,8 @@
 
 ghost use Rattle.std.specs.Prelude.{◌≡◌, map};
 ghost use Rattle.std.specs.List.{filter};
-ghost use Rattle.cbpf_grammar.specs.Table.{mnemonics, begins_with};
+ghost use Rattle.cbpf_grammar.specs.Table.{mnemonics};
+ghost use Rattle.cbpf_grammar.specs.Initials.{begins_with};
 ghost use Rattle.cbpf_grammar.specs.Views.{mnemonic_of};
 
 use crate::mode::Mode;

@@ -3,7 +3,8 @@ use Rattle.std.specs.Prelude.{Contains, ◌==◌}
 use Rattle.std.specs.List.{filter}
 use Rattle.std.proofs.lemmas.List.{get_or_default, take_all}
 use Rattle.cbpf_grammar.specs.declared.table.Mnemonic.{Mnemonic}
-use Rattle.cbpf_grammar.specs.Table.{mnemonics, begins_with}
+use Rattle.cbpf_grammar.specs.Table.{mnemonics}
+use Rattle.cbpf_grammar.specs.Initials.{begins_with}
 use Rattle.cbpf_grammar.specs.Views.{mnemonic_of}
 use Rattle.cbpf_grammar.proofs.Elements.{into_map}
 use Rattle.cbpf_grammar.proofs.Mnemonics.{long_word, no_word, from_known, none_from}
