@@ -61,10 +61,24 @@ fn is_operand_word(word: &[u8]) -> bool
     OPERAND_WORDS.iter().any(|v| same_bytes(word, v))
 }
 
+/// Whether a word ends with a digit, as no reserved word does.
+fn ends_with_digit(word: &[u8]) -> bool
+    ensures { result ≡ true → is_reserved word.now ≡ false }
+{
+    if word.is_empty() {
+        return false;
+    }
+    word[word.len() - 1] <= b'9'
+}
+
 /// Whether a word is a mnemonic, an extension's name, `len`, `x`, `a` or `M`, and so no label.
+// Labels often end with a number, and then there is no need to look them up.
 pub fn is_reserved(word: &[u8]) -> bool
     ensures { result ≡ is_reserved word.now }
 {
+    if ends_with_digit(word) {
+        return false;
+    }
     is_mnemonic(word) || is_extension(word) || is_operand_word(word)
 }
 
