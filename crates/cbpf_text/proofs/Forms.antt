@@ -66,14 +66,6 @@ names_count (c ∷ cs) (t ∷ ts) e = by_class c (names_count cs ts (and_parts (
 pub form_takes : (item : Item) → HasForm item → takes item.row.fields (length (targets_in item)) ≡ true
 form_takes item h = ap (takes item.row.fields) (names_count (classes item.row) item.body h.fits) ∙ row_takes item.row h.known
 
--- an instruction begins with its mnemonic
-pub form_some : (item : Item) → HasForm item → 0 < length item.body
-form_some item h = some item.body h.fits
-  where
-    some : (ts : List Lexeme) → fits_all (classes item.row) ts ≡ true → 0 < length ts
-    some [] e = let k : false ≡ true = e in cc
-    some (t ∷ ts) e = omega arith
-
 behind_labels : (n : ℕ) (cs : List Class) (ts : List Lexeme) → fits_all (label_classes n ++ cs) ts ≡ true → fits_all cs (drop (n + n) ts) ≡ true
 behind_labels zero cs ts e = e
 behind_labels (suc n) cs [] e = let k : false ≡ true = e in cc

@@ -44,9 +44,6 @@ no_tokens : (cs : List Class) → literal_of cs [] ≡ 0
 no_tokens [] = refl
 no_tokens (c ∷ cs) = refl
 
-pub literal_end_classes : (os : List declared_class.Class) (ts : List Lexeme) (i : ℕ) → length os ≤ i → literal_of (drop i (map class_of os)) ts ≡ 0
-literal_end_classes os ts i l = ap (λ cs. literal_of cs ts) (none_left class_of os i l)
-
 pub literal_end_tokens : (cs : List Class) (bs : List declared_lexeme.Lexeme) (j : ℕ) → length bs ≤ j → literal_of cs (drop j (map lexeme_of bs)) ≡ 0
 literal_end_tokens cs bs j l = ap (λ ts. literal_of cs ts) (none_left lexeme_of bs j l) ∙ no_tokens cs
 
@@ -98,10 +95,6 @@ not_named (e ∷ es) w h = by_test (bytes_eq w (ext_name e.1)) refl (not_named e
     by_test : (t : Bool) → bytes_eq w (ext_name e.1) ≡ t → place_named es w ≡ None → cond t (Some e.0) (place_named es w) ≡ None
     by_test true p q = absurd (h e.1 ((bytes_eq-Decides w (ext_name e.1)).0 p))
     by_test false p q = q
-
-pub passed_over : (o : Option ℕ) (n : ℕ) → ((v : ℕ) → o ≡ Some v → ⊥) → first_of o n ≡ n
-passed_over None n h = refl
-passed_over (Some v) n h = absurd (h v refl)
 
 pub literal_found : (os : List declared_class.Class) (bs : List declared_lexeme.Lexeme) (i j : ℕ) (c : declared_class.Class) (t : declared_lexeme.Lexeme) → i < length os → j < length bs
     → (r : Option ℕ) (v : ℕ) → r ≡ value_at (class_of (get_or os i c)) (symbol_of (get_or bs j t).symbol) → r ≡ Some v → literal_of (drop i (map class_of os)) (drop j (map lexeme_of bs)) ≡ v

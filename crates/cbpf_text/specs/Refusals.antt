@@ -102,10 +102,6 @@ abbrev pub Told : (AsmKind → ℕ → Type 0) → Refusal → Type 0
 Told Cause refusals.Memory = Unit {0}
 Told Cause (refusals.At kind at) = Cause kind at
 
--- the refusal of labels: the first that is set a second time
-abbrev pub IsLabelFault : List Lexeme → AsmKind → ℕ → Type 0
-IsLabelFault labels kind at = (label : Lexeme) × (kind ≡ kinds.LabelSetTwice) × (at ≡ label.at) × IsFirstRepeat labels label
-
 -- the refusal of one target of the item at the index
 abbrev pub IsTargetFault : List Item → ℕ → Bool → Option Lexeme → AsmKind → ℕ → Type 0
 IsTargetFault items index short None kind at = ⊥
