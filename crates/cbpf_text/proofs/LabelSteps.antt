@@ -1,9 +1,10 @@
 -- The labels of items, one more at a time.
-use Rattle.std.proofs.Common.{◌≡◌, ◌≢◌, refl, sym, ◌∙◌, ap, ℕ, ◌+◌, true, false, cond, subst, List, [], ◌∷◌, ◌++◌, Option, Some, None, Bor, append_assoc}
+use Rattle.std.proofs.Common.{◌≡◌, ◌≢◌, refl, sym, ◌∙◌, ap, ℕ, ◌+◌, true, false, cond, subst, List, [], ◌∷◌, ◌++◌, Option, Some, None, append_assoc}
 use Rattle.std.specs.Prelude.{is_some, bytes_eq}
 use Rattle.std.proofs.lemmas.List.{map-append}
 use Rattle.cbpf_grammar.specs.Lexemes.{Lexeme}
 use Rattle.cbpf_grammar.specs.Items.{Item}
+use Rattle.cbpf_text.specs.declared.name.Name.{Name}
 use Rattle.cbpf_text.specs.Labels.{name_of, set_labels, times_among, AreDistinct}
 use Rattle.cbpf_text.specs.Tables.{Label, labels_of, labels_from, place_among}
 use Rattle.cbpf_text.specs.Drafts.{words, AreSet}
@@ -30,7 +31,7 @@ words_more : (ls : List Label) (l : Label) → words (ls ++ (l ∷ [])) ≡ word
 words_more ls l = map-append (λ (k : Label). k.word) ls (l ∷ [])
 
 -- a label after the first that is set a second time
-pub set_past : (ls : List Label) (l : Label) (rep : Option ℕ) (look : Bor (List ℕ) → Option ℕ) → true ≡ is_some rep → AreSet ls rep look → AreSet (ls ++ (l ∷ [])) rep look
+pub set_past : (ls : List Label) (l : Label) (rep : Option ℕ) (look : Name → Option ℕ) → true ≡ is_some rep → AreSet ls rep look → AreSet (ls ++ (l ∷ [])) rep look
 set_past ls l None look e s = let k : true ≡ false = e in cc
 set_past ls l (Some at) look e s = (
   s.0,
@@ -45,7 +46,7 @@ set_past ls l (Some at) look e s = (
 )
 
 -- the first label that is set a second time
-pub set_again : (ls : List Label) (l : Label) (rep : Option ℕ) (look look2 : Bor (List ℕ) → Option ℕ) (k : Bor (List ℕ)) → false ≡ is_some rep → AreSet ls rep look → k.now ≡ name_of l.word → true ≡ is_some (look k) → AreSet (ls ++ (l ∷ [])) (Some l.word.at) look2
+pub set_again : (ls : List Label) (l : Label) (rep : Option ℕ) (look look2 : Name → Option ℕ) (k : Name) → false ≡ is_some rep → AreSet ls rep look → k.bytes.now ≡ name_of l.word → true ≡ is_some (look k) → AreSet (ls ++ (l ∷ [])) (Some l.word.at) look2
 set_again ls l (Some at) look look2 k e s n h = let q : false ≡ true = e in cc
 set_again ls l None look look2 k e s n h =
     let x = is_some_true (look k) h in (
@@ -56,16 +57,16 @@ set_again ls l None look look2 k e s n h =
         behind = [];
         split = words_more ls l;
         distinct = s.1;
-        given = subst (λ w. times_among (words ls) w ≢ 0) n (some_place ls k.now x.0 (sym (s.0 k) ∙ x.1));
+        given = subst (λ w. times_among (words ls) w ≢ 0) n (some_place ls k.bytes.now x.0 (sym (s.0 k) ∙ x.1));
       },
     )
 
 -- a label of a new name
-pub set_new : (ls : List Label) (l : Label) (rep : Option ℕ) (look look2 : Bor (List ℕ) → Option ℕ) (k : Bor (List ℕ)) → false ≡ is_some rep → AreSet ls rep look → k.now ≡ name_of l.word → false ≡ is_some (look k)
-    → ((j : Bor (List ℕ)) → look2 j ≡ cond (bytes_eq k.now j.now) (Some l.place) (look j)) → AreSet (ls ++ (l ∷ [])) rep look2
+pub set_new : (ls : List Label) (l : Label) (rep : Option ℕ) (look look2 : Name → Option ℕ) (k : Name) → false ≡ is_some rep → AreSet ls rep look → k.bytes.now ≡ name_of l.word → false ≡ is_some (look k)
+    → ((j : Name) → look2 j ≡ cond (bytes_eq k.bytes.now j.bytes.now) (Some l.place) (look j)) → AreSet (ls ++ (l ∷ [])) rep look2
 set_new ls l (Some at) look look2 k e s n h up = let q : false ≡ true = e in cc
 set_new ls l None look look2 k e s n h up =
     let new : place_among ls (name_of l.word) ≡ None = ap (place_among ls) (sym n) ∙ (sym (s.0 k) ∙ is_some_false (look k) h) in (
-      λ j. up j ∙ (ap (λ o. cond (bytes_eq k.now j.now) (Some l.place) o) (s.0 j) ∙ (ap (λ w. cond (bytes_eq w j.now) (Some l.place) (place_among ls j.now)) n ∙ place_more ls l j.now new)),
+      λ j. up j ∙ (ap (λ o. cond (bytes_eq k.bytes.now j.bytes.now) (Some l.place) o) (s.0 j) ∙ (ap (λ w. cond (bytes_eq w j.bytes.now) (Some l.place) (place_among ls j.bytes.now)) n ∙ place_more ls l j.bytes.now new)),
       subst AreDistinct (sym (words_more ls l)) (distinct_more (words ls) l.word s.1 (no_place ls (name_of l.word) new)),
     )

@@ -1,5 +1,5 @@
 -- The refusals of a text whose items are read one by one, and what is kept of them.
-use Rattle.std.proofs.Common.{◌≡◌, refl, sym, ◌∙◌, ap, subst, ℕ, zero, suc, ◌+◌, ◌<◌, ◌≤◌, Bool, true, false, List, [], ◌∷◌, ◌++◌, length, map, take, drop, get_or, Option, Some, None, arith, append_assoc, append-nil, length-append, length-drop, Bor}
+use Rattle.std.proofs.Common.{◌≡◌, refl, sym, ◌∙◌, ap, subst, ℕ, zero, suc, ◌+◌, ◌<◌, ◌≤◌, Bool, true, false, List, [], ◌∷◌, ◌++◌, length, map, take, drop, get_or, Option, Some, None, arith, append_assoc, append-nil, length-append, length-drop}
 use Rattle.std.specs.Prelude.{slice_get, is_some}
 use Rattle.std.proofs.lemmas.List.{map-append, length-map, length-take-le, drop-drop, drop_at}
 use Rattle.cbpf_lex.specs.Tokens.{LexesTo}
@@ -22,6 +22,7 @@ use Rattle.cbpf_grammar.proofs.Labels.{labels_item, labels_stuck, labels_append}
 use Rattle.cbpf_grammar.proofs.Taking.{taken_is, ahead_is}
 use Rattle.cbpf_grammar.proofs.Refused.{items_large, large_within, items_accepted, greedy_more, greedy_all, stuck_at}
 use Rattle.cbpf_grammar.specs.Refusals.{IsAccepted}
+use Rattle.cbpf_text.specs.declared.name.Name.{Name}
 use Rattle.cbpf_text.specs.declared.fault.AsmKind.TheVariants as kinds
 use Rattle.cbpf_text.specs.declared.fault.AsmFault.{AsmFault}
 use Rattle.cbpf_text.specs.declared.refusal.Refusal.{Refusal}
@@ -77,11 +78,11 @@ get_last [] i = refl
 get_last (x ∷ is) i = get_last is i
 
 -- what is kept where nothing more is
-pub kept_skip : (o : Option ℕ) (ss : List Statement) (rep : Option ℕ) (look : Bor (List ℕ) → Option ℕ) (is : List Item) (v w : List Lexeme) → true ≡ is_some o → IsDraft o ss rep look is v → IsDraft o ss rep look is w
+pub kept_skip : (o : Option ℕ) (ss : List Statement) (rep : Option ℕ) (look : Name → Option ℕ) (is : List Item) (v w : List Lexeme) → true ≡ is_some o → IsDraft o ss rep look is v → IsDraft o ss rep look is w
 kept_skip None ss rep look is v w e d = let k : true ≡ false = e in cc
 kept_skip (Some at) ss rep look is v w e d = d
 
-pub kept_past : (o : Option ℕ) (ss : List Statement) (rep : Option ℕ) (look : Bor (List ℕ) → Option ℕ) (is : List Item) (i : Item) (v w : List Lexeme) → true ≡ is_some o → IsDraft o ss rep look is v → IsDraft o ss rep look (is ++ (i ∷ [])) w
+pub kept_past : (o : Option ℕ) (ss : List Statement) (rep : Option ℕ) (look : Name → Option ℕ) (is : List Item) (i : Item) (v w : List Lexeme) → true ≡ is_some o → IsDraft o ss rep look is v → IsDraft o ss rep look (is ++ (i ∷ [])) w
 kept_past None ss rep look is i v w e d = let k : true ≡ false = e in cc
 kept_past (Some at) ss rep look is i v w e d = record { item = d.item; mnemonic = d.mnemonic; found = get_front is (i ∷ []) 4096 d.item d.found; first = d.first; place = d.place }
 
@@ -90,7 +91,7 @@ none_if None e = refl
 none_if (Some x) e = let k : false ≡ true = e in cc
 
 -- one more label
-pub kept_label : (ss : List Statement) (rep rep2 : Option ℕ) (look look2 : Bor (List ℕ) → Option ℕ) (is : List Item) (ls ms : List Lexeme) (word : Lexeme) (place : ℕ) → IsKept ss rep look is ls → place ≡ length ss → label_words ms ≡ label_words ls ++ (word ∷ [])
+pub kept_label : (ss : List Statement) (rep rep2 : Option ℕ) (look look2 : Name → Option ℕ) (is : List Item) (ls ms : List Lexeme) (word : Lexeme) (place : ℕ) → IsKept ss rep look is ls → place ≡ length ss → label_words ms ≡ label_words ls ++ (word ∷ [])
     → ((all : List Label) → AreSet all rep look → AreSet (all ++ (record { word = word; place = place } ∷ [])) rep2 look2) → IsKept ss rep2 look2 is ms
 kept_label ss rep rep2 look look2 is ls ms word place k e w more =
     let n : place ≡ length is = e ∙ statements_size ss is k.same in
@@ -104,7 +105,7 @@ kept_label ss rep rep2 look look2 is ls ms word place k e w more =
     }
 
 -- one more item
-pub kept_item : (ss : List Statement) (rep : Option ℕ) (look : Bor (List ℕ) → Option ℕ) (is : List Item) (ls : List Lexeme) (s : Statement) (i : Item) → IsKept ss rep look is ls → IsStatement s i → i.labels ≡ label_words ls → length ss < 4096 → IsKept (ss ++ (s ∷ [])) rep look (is ++ (i ∷ [])) []
+pub kept_item : (ss : List Statement) (rep : Option ℕ) (look : Name → Option ℕ) (is : List Item) (ls : List Lexeme) (s : Statement) (i : Item) → IsKept ss rep look is ls → IsStatement s i → i.labels ≡ label_words ls → length ss < 4096 → IsKept (ss ++ (s ∷ [])) rep look (is ++ (i ∷ [])) []
 kept_item ss rep look is ls s i k t e l =
     let z : 0 + length is ≡ length is = omega arith in
     record {
@@ -114,48 +115,48 @@ kept_item ss rep look is ls s i k t e l =
     }
 
 -- the 4097th item
-pub kept_excess : (ss : List Statement) (rep : Option ℕ) (look : Bor (List ℕ) → Option ℕ) (is : List Item) (ls : List Lexeme) (i : Item) (body : List declared_lexeme.Lexeme) (d : declared_lexeme.Lexeme) → IsKept ss rep look is ls → length ss ≡ 4096 → i.body ≡ map lexeme_of body → 0 < length body → IsExcess (is ++ (i ∷ [])) (get_or body 0 d).at
+pub kept_excess : (ss : List Statement) (rep : Option ℕ) (look : Name → Option ℕ) (is : List Item) (ls : List Lexeme) (i : Item) (body : List declared_lexeme.Lexeme) (d : declared_lexeme.Lexeme) → IsKept ss rep look is ls → length ss ≡ 4096 → i.body ≡ map lexeme_of body → 0 < length body → IsExcess (is ++ (i ∷ [])) (get_or body 0 d).at
 kept_excess ss rep look is ls i [] d k e b l = absurd (omega (arith, l))
 kept_excess ss rep look is ls i (t ∷ body) d k e b l =
     let n : length is ≡ 4096 = sym (statements_size ss is k.same) ∙ e in
     record { item = i; mnemonic = lexeme_of t; found = ap (λ q. slice_get (is ++ (i ∷ [])) q) (sym n) ∙ get_last is i; first = ap (λ us. slice_get us 0) b; place = refl }
 
 -- what a draft says of its items
-pub draft_many : (o : Option ℕ) (at : ℕ) (ss : List Statement) (rep : Option ℕ) (look : Bor (List ℕ) → Option ℕ) (is : List Item) (w : List Lexeme) → o ≡ Some at → IsDraft o ss rep look is w → IsItemsFault is kinds.TooMany at
+pub draft_many : (o : Option ℕ) (at : ℕ) (ss : List Statement) (rep : Option ℕ) (look : Name → Option ℕ) (is : List Item) (w : List Lexeme) → o ≡ Some at → IsDraft o ss rep look is w → IsItemsFault is kinds.TooMany at
 draft_many o at ss rep look is w e d =
     let x : IsExcess is at = subst (λ p. IsDraft p ss rep look is w) e d in
     subst (λ a. IsItemsFault is kinds.TooMany a) (sym x.place) (too_many x.item x.mnemonic x.found x.first)
 
-pub draft_kept : (o : Option ℕ) (ss : List Statement) (rep : Option ℕ) (look : Bor (List ℕ) → Option ℕ) (is : List Item) (w : List Lexeme) → ((x : ℕ) → o ≡ Some x → ⊥) → IsDraft o ss rep look is w → IsKept ss rep look is w
+pub draft_kept : (o : Option ℕ) (ss : List Statement) (rep : Option ℕ) (look : Name → Option ℕ) (is : List Item) (w : List Lexeme) → ((x : ℕ) → o ≡ Some x → ⊥) → IsDraft o ss rep look is w → IsKept ss rep look is w
 draft_kept None ss rep look is w h d = d
 draft_kept (Some x) ss rep look is w h d = absurd (h x refl)
 
-pub kept_none : (ss : List Statement) (rep : Option ℕ) (look : Bor (List ℕ) → Option ℕ) (is : List Item) → IsKept ss rep look is [] → length ss ≡ 0 → IsItemsFault is kinds.NoInstruction 0
+pub kept_none : (ss : List Statement) (rep : Option ℕ) (look : Name → Option ℕ) (is : List Item) → IsKept ss rep look is [] → length ss ≡ 0 → IsItemsFault is kinds.NoInstruction 0
 kept_none ss rep look [] k e = no_item refl
 kept_none ss rep look (i ∷ is) k e = let n : length ss ≡ suc (length is) = statements_size ss (i ∷ is) k.same in absurd (omega (arith, e, n))
 
-pub kept_length : (ss : List Statement) (rep : Option ℕ) (look : Bor (List ℕ) → Option ℕ) (is : List Item) → IsKept ss rep look is [] → (length ss ≡ 0 → ⊥) → HasProgramLength is
+pub kept_length : (ss : List Statement) (rep : Option ℕ) (look : Name → Option ℕ) (is : List Item) → IsKept ss rep look is [] → (length ss ≡ 0 → ⊥) → HasProgramLength is
 kept_length ss rep look [] k z = absurd (z (statements_size ss [] k.same))
 kept_length ss rep look (i ∷ is) k z = record { some = omega arith; most = k.most }
 
-kept_labels : (ss : List Statement) (rep : Option ℕ) (look : Bor (List ℕ) → Option ℕ) (is : List Item) → IsKept ss rep look is [] → AreSet (labels_from 0 is) rep look
+kept_labels : (ss : List Statement) (rep : Option ℕ) (look : Name → Option ℕ) (is : List Item) → IsKept ss rep look is [] → AreSet (labels_from 0 is) rep look
 kept_labels ss rep look is k = subst (λ (us : List Label). AreSet us rep look) (append-nil (labels_from 0 is)) k.set
 
 -- where a label is set a second time, and where none is
-pub kept_repeat : (ss : List Statement) (rep : Option ℕ) (look : Bor (List ℕ) → Option ℕ) (is : List Item) (at : ℕ) → rep ≡ Some at → HasProgramLength is → IsKept ss rep look is [] → IsItemsFault is kinds.LabelSetTwice at
+pub kept_repeat : (ss : List Statement) (rep : Option ℕ) (look : Name → Option ℕ) (is : List Item) (at : ℕ) → rep ≡ Some at → HasProgramLength is → IsKept ss rep look is [] → IsItemsFault is kinds.LabelSetTwice at
 kept_repeat ss rep look is at e limits k =
     let s : AreSet (labels_from 0 is) (Some at) look = subst (λ o. AreSet (labels_from 0 is) o look) e (kept_labels ss rep look is k) in
     subst (λ a. IsItemsFault is kinds.LabelSetTwice a) (sym s.1) (set_twice s.0 limits (subst (λ ts. IsFirstRepeat ts s.0) (words_from 0 is) s.2))
 
-kept_once : (ss : List Statement) (rep : Option ℕ) (look : Bor (List ℕ) → Option ℕ) (is : List Item) → ((x : ℕ) → rep ≡ Some x → ⊥) → IsKept ss rep look is [] → AreSet (labels_from 0 is) None look
+kept_once : (ss : List Statement) (rep : Option ℕ) (look : Name → Option ℕ) (is : List Item) → ((x : ℕ) → rep ≡ Some x → ⊥) → IsKept ss rep look is [] → AreSet (labels_from 0 is) None look
 kept_once ss None look is none k = kept_labels ss None look is k
 kept_once ss (Some x) look is none k = absurd (none x refl)
 
-pub kept_distinct : (ss : List Statement) (rep : Option ℕ) (look : Bor (List ℕ) → Option ℕ) (is : List Item) → ((x : ℕ) → rep ≡ Some x → ⊥) → IsKept ss rep look is [] → AreDistinct (set_labels is)
+pub kept_distinct : (ss : List Statement) (rep : Option ℕ) (look : Name → Option ℕ) (is : List Item) → ((x : ℕ) → rep ≡ Some x → ⊥) → IsKept ss rep look is [] → AreDistinct (set_labels is)
 kept_distinct ss rep look is none k = subst AreDistinct (words_from 0 is) (kept_once ss rep look is none k).1
 
-pub kept_resolves : (ss : List Statement) (rep : Option ℕ) (look : Bor (List ℕ) → Option ℕ) (is : List Item) → ((x : ℕ) → rep ≡ Some x → ⊥) → IsKept ss rep look is [] → Resolves is look
-kept_resolves ss rep look is none k j = lookup_found is j.now (look j) (kept_distinct ss rep look is none k) (sym ((kept_once ss rep look is none k).0 j))
+pub kept_resolves : (ss : List Statement) (rep : Option ℕ) (look : Name → Option ℕ) (is : List Item) → ((x : ℕ) → rep ≡ Some x → ⊥) → IsKept ss rep look is [] → Resolves is look
+kept_resolves ss rep look is none k j = lookup_found is j.bytes.now (look j) (kept_distinct ss rep look is none k) (sym ((kept_once ss rep look is none k).0 j))
 
 -- What the reader of items stands at: so many tokens were taken, which are items and then labels that wait for theirs.
 pub record Front (ts : List Lexeme) (is : List Item) (ls : List Lexeme) (from n : ℕ) : Type 0 where
@@ -163,7 +164,7 @@ pub record Front (ts : List Lexeme) (is : List Item) (ls : List Lexeme) (from n 
   pub rest : drop from ts ≡ ls ++ drop n ts
   pub labels : AreLabels ls
 
-pub record IsState (text : List ℕ) (a : Ahead) (o : Option ℕ) (ss : List Statement) (rep : Option ℕ) (look : Bor (List ℕ) → Option ℕ) (waits : Bool) : Type 0 where
+pub record IsState (text : List ℕ) (a : Ahead) (o : Option ℕ) (ss : List Statement) (rep : Option ℕ) (look : Name → Option ℕ) (waits : Bool) : Type 0 where
   pub from : ℕ
   pub is : List Item
   pub ls : List Lexeme
@@ -194,7 +195,7 @@ two_labels t u ts h = let p = and_parts (fits name t.symbol) (fits (the_mark 58)
 drop_front : (xs ys : List Lexeme) (ts : List Lexeme) (n m : ℕ) → drop n ts ≡ xs ++ ys → length xs ≡ m → drop (n + m) ts ≡ ys
 drop_front xs ys ts n m e l = sym (drop-drop m n ts) ∙ (ap (λ us. drop m us) e ∙ drop_at xs ys m l)
 
-pub label_state : (text : List ℕ) (a b : Ahead) (o p : Option ℕ) (ss tt : List Statement) (rep rep2 : Option ℕ) (look look2 : Bor (List ℕ) → Option ℕ) (waits : Bool) (d : declared_lexeme.Lexeme) → (s : IsState text a o ss rep look waits) → a.text ≡ text
+pub label_state : (text : List ℕ) (a b : Ahead) (o p : Option ℕ) (ss tt : List Statement) (rep rep2 : Option ℕ) (look look2 : Name → Option ℕ) (waits : Bool) (d : declared_lexeme.Lexeme) → (s : IsState text a o ss rep look waits) → a.text ≡ text
     → ((ts : List Lexeme) → AreLexemes text ts → starts_with_label (drop (s.from + length s.ls) ts) ≡ true) → 2 ≤ length a.tokens
     → ((m : ℕ) → IsReading m a → IsReading (m + 2) b)
     → ((is : List Item) (ls : List Lexeme) (colon : Lexeme) → IsDraft o ss rep look is ls → label_words (ls ++ (lexeme_of (get_or a.tokens 0 d) ∷ colon ∷ [])) ≡ label_words ls ++ (lexeme_of (get_or a.tokens 0 d) ∷ []) → IsDraft p tt rep2 look2 is (ls ++ (lexeme_of (get_or a.tokens 0 d) ∷ colon ∷ [])))
@@ -227,7 +228,7 @@ label_state text a b o p ss ss' rep rep2 look look2 waits d s same is_label two 
           };
     }
 
-pub item_state : (text : List ℕ) (a b : Ahead) (o p : Option ℕ) (ss tt : List Statement) (rep rep2 : Option ℕ) (look look2 : Bor (List ℕ) → Option ℕ) (waits : Bool) (row : declared_row.Row) (m : ℕ) → (s : IsState text a o ss rep look waits) → a.text ≡ text → m ≡ 1 + length row.operand.now
+pub item_state : (text : List ℕ) (a b : Ahead) (o p : Option ℕ) (ss tt : List Statement) (rep rep2 : Option ℕ) (look look2 : Name → Option ℕ) (waits : Bool) (row : declared_row.Row) (m : ℕ) → (s : IsState text a o ss rep look waits) → a.text ≡ text → m ≡ 1 + length row.operand.now
     → ((ts : List Lexeme) → AreLexemes text ts → IsInstruction (drop (s.from + length s.ls) ts) (Ok row)) → m ≤ length a.tokens
     → ((k : ℕ) → IsReading k a → IsReading (k + m) b)
     → ((is : List Item) (ls : List Lexeme) → IsDraft o ss rep look is ls → IsDraft p tt rep2 look2 (is ++ (record { labels = label_words ls; row = row_of row; body = map lexeme_of (take m a.tokens) } ∷ [])) [])
@@ -268,13 +269,13 @@ item_state text a b o p ss ss' rep rep2 look look2 waits row m s same size next 
     }
 
 -- where the tokens do not go on
-pub state_stuck : (text : List ℕ) (a : Ahead) (o : Option ℕ) (ss : List Statement) (rep : Option ℕ) (look : Bor (List ℕ) → Option ℕ) (waits : Bool) (k : ℕ) (ts : List Lexeme) → (s : IsState text a o ss rep look waits) → AreLexemes text ts → s.from < length ts → Stuck k (drop (s.from + length s.ls) ts) → IsStuckAt ts (s.from + length s.ls + k)
+pub state_stuck : (text : List ℕ) (a : Ahead) (o : Option ℕ) (ss : List Statement) (rep : Option ℕ) (look : Name → Option ℕ) (waits : Bool) (k : ℕ) (ts : List Lexeme) → (s : IsState text a o ss rep look waits) → AreLexemes text ts → s.from < length ts → Stuck k (drop (s.from + length s.ls) ts) → IsStuckAt ts (s.from + length s.ls + k)
 state_stuck text a o ss rep look waits k ts s t l stuck =
     let f = s.front ts t in
     let e : s.from + (length s.ls + k) ≡ s.from + length s.ls + k = omega arith in
     subst (λ j. IsStuckAt ts j) e (stuck_at ts s.is s.from (length s.ls + k) l f.greedy (subst (λ us. Stuck (length s.ls + k) us) (sym f.rest) (labels_stuck s.ls (drop (s.from + length s.ls) ts) k f.labels stuck)))
 
-pub state_init : (text : List ℕ) (a : Ahead) (ss : List Statement) (rep : Option ℕ) (look : Bor (List ℕ) → Option ℕ) → IsReading 0 a → ss ≡ [] → AreSet [] rep look → IsState text a None ss rep look false
+pub state_init : (text : List ℕ) (a : Ahead) (ss : List Statement) (rep : Option ℕ) (look : Name → Option ℕ) → IsReading 0 a → ss ≡ [] → AreSet [] rep look → IsState text a None ss rep look false
 state_init text a ss rep look r e h = record {
   from = 0;
   is = [];
@@ -288,20 +289,20 @@ state_init text a ss rep look r e h = record {
   front = λ ts t. record { greedy = refl; rest = refl; labels = tt };
 }
 
-pub state_step : (text : List ℕ) (a b : Ahead) (o : Option ℕ) (ss : List Statement) (rep : Option ℕ) (look : Bor (List ℕ) → Option ℕ) (waits : Bool) → IsState text a o ss rep look waits → ((n : ℕ) → IsReading n a → IsReading n b) → IsState text b o ss rep look waits
+pub state_step : (text : List ℕ) (a b : Ahead) (o : Option ℕ) (ss : List Statement) (rep : Option ℕ) (look : Name → Option ℕ) (waits : Bool) → IsState text a o ss rep look waits → ((n : ℕ) → IsReading n a → IsReading n b) → IsState text b o ss rep look waits
 state_step text a b o ss rep look waits s on = record { from = s.from; is = s.is; ls = s.ls; reading = on (s.from + length s.ls) s.reading; half = s.half; even = s.even; none = s.none; some = s.some; draft = s.draft; front = s.front }
 
-pub state_quiet : (text : List ℕ) (a : Ahead) (o : Option ℕ) (ss : List Statement) (rep : Option ℕ) (look : Bor (List ℕ) → Option ℕ) (waits : Bool) → waits ≡ false → IsState text a o ss rep look waits → IsState text a o ss rep look false
+pub state_quiet : (text : List ℕ) (a : Ahead) (o : Option ℕ) (ss : List Statement) (rep : Option ℕ) (look : Name → Option ℕ) (waits : Bool) → waits ≡ false → IsState text a o ss rep look waits → IsState text a o ss rep look false
 state_quiet text a o ss rep look waits e s = subst (λ b. IsState text a o ss rep look b) e s
 
 -- there are tokens after the items
-pub state_inside : (text : List ℕ) (a : Ahead) (o : Option ℕ) (ss : List Statement) (rep : Option ℕ) (look : Bor (List ℕ) → Option ℕ) (waits : Bool) (ts : List Lexeme) → (s : IsState text a o ss rep look waits) → a.text ≡ text → AreLexemes text ts → 0 < length s.ls + length a.tokens → s.from < length ts
+pub state_inside : (text : List ℕ) (a : Ahead) (o : Option ℕ) (ss : List Statement) (rep : Option ℕ) (look : Name → Option ℕ) (waits : Bool) (ts : List Lexeme) → (s : IsState text a o ss rep look waits) → a.text ≡ text → AreLexemes text ts → 0 < length s.ls + length a.tokens → s.from < length ts
 state_inside text a o ss rep look waits ts s same t l =
     let all = ahead_is a.text a.to (s.from + length s.ls) (map lexeme_of a.tokens) ts s.reading.read (subst (λ u. AreLexemes u ts) (sym same) t) in
     omega (arith, l, all.3, length-map a.tokens lexeme_of, length-drop (s.from + length s.ls) ts, ap length all.1, length-append (map lexeme_of a.tokens) all.0)
 
 -- the end of a text whose tokens are items
-pub state_items : (text : List ℕ) (a : Ahead) (o : Option ℕ) (ss : List Statement) (rep : Option ℕ) (look : Bor (List ℕ) → Option ℕ) (ts : List Lexeme) → (s : IsState text a o ss rep look false) → AreLexemes text ts → drop (s.from + length s.ls) ts ≡ [] → Items ts s.is × (length ts ≤ s.from + length s.ls) × IsDraft o ss rep look s.is []
+pub state_items : (text : List ℕ) (a : Ahead) (o : Option ℕ) (ss : List Statement) (rep : Option ℕ) (look : Name → Option ℕ) (ts : List Lexeme) → (s : IsState text a o ss rep look false) → AreLexemes text ts → drop (s.from + length s.ls) ts ≡ [] → Items ts s.is × (length ts ≤ s.from + length s.ls) × IsDraft o ss rep look s.is []
 state_items text a o ss rep look ts s t e =
     let f = s.front ts t in
     let no = s.none refl in
@@ -310,7 +311,7 @@ state_items text a o ss rep look ts s t e =
     (greedy_all ts s.is s.from (omega (arith, past, size)) f.greedy, past, subst (λ us. IsDraft o ss rep look s.is us) no s.draft)
 
 -- all lexemes of a text that was read to its end
-pub state_lexemes : (text : List ℕ) (a : Ahead) (o : Option ℕ) (ss : List Statement) (rep : Option ℕ) (look : Bor (List ℕ) → Option ℕ) (waits : Bool) → (s : IsState text a o ss rep look waits) → a.text ≡ text → a.ended ≡ true → (ts : List Lexeme) × AreLexemes text ts
+pub state_lexemes : (text : List ℕ) (a : Ahead) (o : Option ℕ) (ss : List Statement) (rep : Option ℕ) (look : Name → Option ℕ) (waits : Bool) → (s : IsState text a o ss rep look waits) → a.text ≡ text → a.ended ≡ true → (ts : List Lexeme) × AreLexemes text ts
 state_lexemes text a o ss rep look waits s same e =
     let r = s.reading in
     let end : a.to ≡ length text = r.end e ∙ ap length same in

@@ -1,11 +1,11 @@
 -- What the assembler keeps of the items that it has read: their opcodes, literals, targets and labels, as the addressing modes of the kernel's Documentation/networking/filter have them.
 use Rattle.std.specs.Prelude.{◌≡◌, ◌≤◌, ℕ, List, [], ◌∷◌, ◌++◌, length, map, slice_get, option_map, Option, Some, None}
-use Rattle.std.specs.Borrow.{Bor}
 use Rattle.cbpf_code.specs.Opcode.{code_of}
 use Rattle.cbpf_grammar.specs.Lexemes.{Lexeme}
 use Rattle.cbpf_grammar.specs.Items.{Item}
 use Rattle.cbpf_grammar.specs.Views.{lexeme_of, label_words}
 use Rattle.cbpf_text.specs.declared.draft.Statement.{Statement}
+use Rattle.cbpf_text.specs.declared.name.Name.{Name}
 use Rattle.cbpf_text.specs.Labels.{AreDistinct}
 use Rattle.cbpf_text.specs.Operands.{literal_in, targets_in}
 use Rattle.cbpf_text.specs.Refusals.{IsFirstRepeat}
@@ -30,12 +30,12 @@ abbrev pub words : List Label → List Lexeme
 words ls = map (λ (l : Label). l.word) ls
 
 -- the look-ups answer where the labels are set, each once; or the place is that of the first label that is set a second time
-abbrev pub AreSet : List Label → Option ℕ → (Bor (List ℕ) → Option ℕ) → Type 0
-AreSet ls None lookup = ((k : Bor (List ℕ)) → lookup k ≡ place_among ls k.now) × AreDistinct (words ls)
+abbrev pub AreSet : List Label → Option ℕ → (Name → Option ℕ) → Type 0
+AreSet ls None lookup = ((k : Name) → lookup k ≡ place_among ls k.bytes.now) × AreDistinct (words ls)
 AreSet ls (Some at) lookup = (label : Lexeme) × (at ≡ label.at) × IsFirstRepeat (words ls) label
 
 -- the statements and labels are those of the items, and of labels after them that wait for theirs
-pub record IsKept (statements : List Statement) (repeat : Option ℕ) (lookup : Bor (List ℕ) → Option ℕ) (items : List Item) (waiting : List Lexeme) : Type 0 where
+pub record IsKept (statements : List Statement) (repeat : Option ℕ) (lookup : Name → Option ℕ) (items : List Item) (waiting : List Lexeme) : Type 0 where
   pub same : AreStatements statements items
   pub set : AreSet (labels_from 0 items ++ labels_of (length items) (label_words waiting)) repeat lookup
   pub most : length items ≤ 4096
@@ -49,6 +49,6 @@ pub record IsExcess (items : List Item) (at : ℕ) : Type 0 where
   pub place : at ≡ mnemonic.at
 
 -- what is kept of items, where there are at most 4096; and of more the place of the 4097th
-abbrev pub IsDraft : Option ℕ → List Statement → Option ℕ → (Bor (List ℕ) → Option ℕ) → List Item → List Lexeme → Type 0
+abbrev pub IsDraft : Option ℕ → List Statement → Option ℕ → (Name → Option ℕ) → List Item → List Lexeme → Type 0
 IsDraft None statements repeat lookup items waiting = IsKept statements repeat lookup items waiting
 IsDraft (Some at) statements repeat lookup items waiting = IsExcess items at

@@ -1,12 +1,12 @@
 -- What the assembler's own label table stands for: for each name the index of the item that sets it, as the kernel's Documentation/networking/filter resolves labels.
 use Rattle.std.specs.Prelude.{◌≡◌, ℕ, ◌+◌, Bool, List, [], ◌∷◌, ◌++◌, map, Option, Some, None, bytes_eq, if◌then◌else◌}
-use Rattle.std.specs.Borrow.{Bor}
 use Rattle.cbpf_grammar.specs.Lexemes.{Lexeme}
 use Rattle.cbpf_grammar.specs.Items.{Item}
+use Rattle.cbpf_text.specs.declared.name.Name.{Name}
 use Rattle.cbpf_text.specs.Labels.{name_of, times_set, IsPlace}
 
-abbrev pub same_slice : Bor (List ℕ) → Bor (List ℕ) → Bool
-same_slice a b = bytes_eq a.now b.now
+abbrev pub same_name : Name → Name → Bool
+same_name a b = bytes_eq a.bytes.now b.bytes.now
 
 -- a label, and the index of the item that sets it
 pub record Label : Type 0 where
@@ -32,5 +32,5 @@ IsLookup items name None = times_set items name ≡ 0
 IsLookup items name (Some place) = IsPlace items name place
 
 -- the look-ups answer where the items set their labels
-abbrev pub Resolves : List Item → (Bor (List ℕ) → Option ℕ) → Type 0
-Resolves items lookup = (k : Bor (List ℕ)) → IsLookup items k.now (lookup k)
+abbrev pub Resolves : List Item → (Name → Option ℕ) → Type 0
+Resolves items lookup = (k : Name) → IsLookup items k.bytes.now (lookup k)

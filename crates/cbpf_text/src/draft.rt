@@ -12,10 +12,11 @@ ghost use Rattle.cbpf_grammar.specs.Reading.{IsReading, IsRefusedFor, StartsWith
 ghost use Rattle.cbpf_grammar.specs.Views.{lexeme_of, row_of, label_words};
 ghost use Rattle.cbpf_text.specs.Drafts.{IsStatement, IsDraft};
 ghost use Rattle.cbpf_text.specs.Refusals.{Told, IsTokensFault, IsRefused};
-ghost use Rattle.cbpf_text.specs.Tables.{same_slice};
+ghost use Rattle.cbpf_text.specs.Tables.{same_name};
 
 use crate::fault::{AsmFault, AsmKind};
 use crate::labels::Labels;
+use crate::name::Name;
 use crate::operand::{literal, target};
 use crate::refusal::{Refusal, fault_of};
 use crate::source::lex_refusal;
@@ -62,10 +63,10 @@ fn make_statement<'a>(row: Row, body: &[Lexeme<'a>]) -> Statement<'a>
 fn add_label<'a, A: Allocator>(
     draft: &mut Draft<'a, A>,
     word: Lexeme<'a>,
-) -> Result<(), AllocFailed<(&'a [u8], u32)>>
+) -> Result<(), AllocFailed<(Name<'a>, u32)>>
     requires { length draft.old.statements.items ≤ 4096 }
     ensures size { length draft.new.statements.items ≤ 4096 }
-    ensures label { OnOk result ((is : List items.Item) (ls : List lexemes.Lexeme) (colon : lexemes.Lexeme) → IsDraft draft.old.excess draft.old.statements.items draft.old.labels.repeat (λ k. get same_slice draft.old.labels.table k) is ls → label_words (ls ++ lexeme_of word.entry ∷ colon ∷ []) ≡ label_words ls ++ lexeme_of word.entry ∷ [] → IsDraft draft.new.excess draft.new.statements.items draft.new.labels.repeat (λ k. get same_slice draft.new.labels.table k) is (ls ++ lexeme_of word.entry ∷ colon ∷ [])) }
+    ensures label { OnOk result ((is : List items.Item) (ls : List lexemes.Lexeme) (colon : lexemes.Lexeme) → IsDraft draft.old.excess draft.old.statements.items draft.old.labels.repeat (λ k. get same_name draft.old.labels.table k) is ls → label_words (ls ++ lexeme_of word.entry ∷ colon ∷ []) ≡ label_words ls ++ lexeme_of word.entry ∷ [] → IsDraft draft.new.excess draft.new.statements.items draft.new.labels.repeat (λ k. get same_name draft.new.labels.table k) is (ls ++ lexeme_of word.entry ∷ colon ∷ [])) }
 {
     if draft.excess.is_some() {
         return Ok(());
@@ -82,7 +83,7 @@ fn add_instruction<'a, A: Allocator>(
     requires size { length draft.old.statements.items ≤ 4096 }
     requires some { 0 < length body.now }
     ensures size { length draft.new.statements.items ≤ 4096 }
-    ensures item { OnOk result ((is : List items.Item) (ls : List lexemes.Lexeme) → IsDraft draft.old.excess draft.old.statements.items draft.old.labels.repeat (λ k. get same_slice draft.old.labels.table k) is ls → IsDraft draft.new.excess draft.new.statements.items draft.new.labels.repeat (λ k. get same_slice draft.new.labels.table k) (is ++ record { labels = label_words ls; row = row_of row; body = map lexeme_of body.now } ∷ []) []) }
+    ensures item { OnOk result ((is : List items.Item) (ls : List lexemes.Lexeme) → IsDraft draft.old.excess draft.old.statements.items draft.old.labels.repeat (λ k. get same_name draft.old.labels.table k) is ls → IsDraft draft.new.excess draft.new.statements.items draft.new.labels.repeat (λ k. get same_name draft.new.labels.table k) (is ++ record { labels = label_words ls; row = row_of row; body = map lexeme_of body.now } ∷ []) []) }
 {
     if draft.excess.is_some() {
         return Ok(());
@@ -124,7 +125,7 @@ fn fault_here<A: Allocator>(text: &[u8], reader: &mut Reader<'_, A>, n: usize) -
 
 /// The items of a text, of which only what their instructions depend on is kept.
 pub fn read<'a, A: Allocator + Copy>(alloc: A, text: &'a [u8]) -> Result<Draft<'a, A>, AsmFault>
-    ensures items { IfOk result (λ draft. (ts : List lexemes.Lexeme) × (is : List items.Item) × AreLexemes text.now ts × Items ts is × IsAccepted ts × IsDraft draft.excess draft.statements.items draft.labels.repeat (λ k. get same_slice draft.labels.table k) is []) }
+    ensures items { IfOk result (λ draft. (ts : List lexemes.Lexeme) × (is : List items.Item) × AreLexemes text.now ts × Items ts is × IsAccepted ts × IsDraft draft.excess draft.statements.items draft.labels.repeat (λ k. get same_name draft.labels.table k) is []) }
     ensures size { IfOk result (λ draft. length draft.statements.items ≤ 4096) }
     ensures refused { IfErr result (IsRefused text.now) }
 {

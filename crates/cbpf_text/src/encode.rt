@@ -6,14 +6,14 @@ ghost use Rattle.cbpf_grammar.specs.Items as items;
 ghost use Rattle.cbpf_grammar.specs.Views.{lexeme_of};
 ghost use Rattle.cbpf_text.specs.Assembled.{IsOffset, IsShortOffset, IsEncoded, EncodeEach};
 ghost use Rattle.cbpf_text.specs.Refusals.{Told, IsTargetFault, IsFirstBadUse, uses_of, uses_from};
-ghost use Rattle.cbpf_text.specs.Tables.{same_slice, Resolves};
+ghost use Rattle.cbpf_text.specs.Tables.{same_name, Resolves};
 ghost use Rattle.cbpf_text.specs.Drafts.{IsStatement, AreStatements};
 ghost use Rattle.cbpf_text.specs.Operands.{HasForm};
 
 use crate::draft::Statement;
 use crate::fault::AsmKind;
 use crate::labels::LabelTable;
-use crate::operand::name_of;
+use crate::name::name_of;
 use crate::refusal::Refusal;
 use cbpf_code::Insn;
 use cbpf_grammar::{Fields, Lexeme};
@@ -28,8 +28,8 @@ fn distance<A: Allocator>(
     index: u32,
     target: Lexeme<'_>,
 ) -> Result<u32, Refusal>
-    ensures found { (is : List items.Item) → Resolves is (λ k. get same_slice labels.now k) → IfOk result (IsOffset is index (Some (lexeme_of target.entry))) }
-    ensures refused { (is : List items.Item) (short : Bool) → Resolves is (λ k. get same_slice labels.now k) → IfErr result (Told (IsTargetFault is index short (Some (lexeme_of target.entry)))) }
+    ensures found { (is : List items.Item) → Resolves is (λ k. get same_name labels.now k) → IfOk result (IsOffset is index (Some (lexeme_of target.entry))) }
+    ensures refused { (is : List items.Item) (short : Bool) → Resolves is (λ k. get same_name labels.now k) → IfErr result (Told (IsTargetFault is index short (Some (lexeme_of target.entry)))) }
 {
     match labels.get(&name_of(target.symbol)) {
         None => Err(Refusal::At(AsmKind::LabelNotSet, target.at)),
@@ -49,8 +49,8 @@ fn offset<A: Allocator>(
     index: u32,
     target: Option<Lexeme<'_>>,
 ) -> Result<u32, Refusal>
-    ensures found { (is : List items.Item) → Resolves is (λ k. get same_slice labels.now k) → IfOk result (IsOffset is index (option_map lexeme_of target.entry)) }
-    ensures refused { (is : List items.Item) → Resolves is (λ k. get same_slice labels.now k) → IfErr result (Told (IsTargetFault is index false (option_map lexeme_of target.entry))) }
+    ensures found { (is : List items.Item) → Resolves is (λ k. get same_name labels.now k) → IfOk result (IsOffset is index (option_map lexeme_of target.entry)) }
+    ensures refused { (is : List items.Item) → Resolves is (λ k. get same_name labels.now k) → IfErr result (Told (IsTargetFault is index false (option_map lexeme_of target.entry))) }
 {
     match target {
         Some(target) => distance(labels, index, target),
@@ -64,8 +64,8 @@ fn short_offset<A: Allocator>(
     index: u32,
     target: Option<Lexeme<'_>>,
 ) -> Result<u8, Refusal>
-    ensures found { (is : List items.Item) → Resolves is (λ k. get same_slice labels.now k) → IfOk result (IsShortOffset is index (option_map lexeme_of target.entry)) }
-    ensures refused { (is : List items.Item) → Resolves is (λ k. get same_slice labels.now k) → IfErr result (Told (IsTargetFault is index true (option_map lexeme_of target.entry))) }
+    ensures found { (is : List items.Item) → Resolves is (λ k. get same_name labels.now k) → IfOk result (IsShortOffset is index (option_map lexeme_of target.entry)) }
+    ensures refused { (is : List items.Item) → Resolves is (λ k. get same_name labels.now k) → IfErr result (Told (IsTargetFault is index true (option_map lexeme_of target.entry))) }
 {
     let Some(target) = target else {
         return Ok(0);
@@ -83,8 +83,8 @@ fn encode<A: Allocator>(
     index: u32,
     statement: &Statement<'_>,
 ) -> Result<Insn, Refusal>
-    ensures encoded { (is : List items.Item) (item : items.Item) → IsStatement statement.now item → Resolves is (λ k. get same_slice labels.now k) → IfOk result (IsEncoded is index item) }
-    ensures refused { (is : List items.Item) (item : items.Item) → IsStatement statement.now item → Resolves is (λ k. get same_slice labels.now k) → IfErr result (Told (IsFirstBadUse is (uses_of index item))) }
+    ensures encoded { (is : List items.Item) (item : items.Item) → IsStatement statement.now item → Resolves is (λ k. get same_name labels.now k) → IfOk result (IsEncoded is index item) }
+    ensures refused { (is : List items.Item) (item : items.Item) → IsStatement statement.now item → Resolves is (λ k. get same_name labels.now k) → IfErr result (Told (IsFirstBadUse is (uses_of index item))) }
 {
     let code = statement.code;
     let k = statement.literal;
@@ -124,8 +124,8 @@ pub fn encode_all<A: Allocator + Copy>(
     statements: &[Statement<'_>],
 ) -> Result<Vec<Insn, A>, Refusal>
     requires { length statements.now ≤ 4096 }
-    ensures encoded { (is : List items.Item) → AreStatements statements.now is → All HasForm is → Resolves is (λ k. get same_slice labels.now k) → IfOk result (λ v. EncodeEach is 0 is v.items) }
-    ensures refused { (is : List items.Item) → AreStatements statements.now is → All HasForm is → Resolves is (λ k. get same_slice labels.now k) → IfErr result (Told (IsFirstBadUse is (uses_from 0 is))) }
+    ensures encoded { (is : List items.Item) → AreStatements statements.now is → All HasForm is → Resolves is (λ k. get same_name labels.now k) → IfOk result (λ v. EncodeEach is 0 is v.items) }
+    ensures refused { (is : List items.Item) → AreStatements statements.now is → All HasForm is → Resolves is (λ k. get same_name labels.now k) → IfErr result (Told (IsFirstBadUse is (uses_from 0 is))) }
 {
     let mut insns = Vec::new(alloc);
     for i in 0..statements.len() {

@@ -5,9 +5,9 @@ ghost use Rattle.indexmap.specs.IndexMap.{get};
 ghost use Rattle.cbpf_grammar.specs.Views.{lexeme_of};
 ghost use Rattle.cbpf_text.specs.Drafts.{AreSet};
 ghost use Rattle.cbpf_text.specs.Tables as tables;
-ghost use Rattle.cbpf_text.specs.Tables.{same_slice};
+ghost use Rattle.cbpf_text.specs.Tables.{same_name};
 
-use crate::operand::name_of;
+use crate::name::{Name, name_of};
 use cbpf_grammar::Lexeme;
 use indexmap::IndexMap;
 use std::alloc::{AllocFailed, Allocator};
@@ -40,7 +40,7 @@ fn make_hasher(text: &[u8]) -> LabelHasher {
 }
 
 /// For each label's name the index of the item that sets it.
-pub type LabelTable<'a, A> = IndexMap<&'a [u8], u32, LabelHasher, A>;
+pub type LabelTable<'a, A> = IndexMap<Name<'a>, u32, LabelHasher, A>;
 
 /// The labels that items set.
 #[derive(Drop)]
@@ -55,7 +55,7 @@ impl<'a, A: Allocator> Labels<'a, A> {
     pub fn new(alloc: A, text: &[u8]) -> Self
     where
         A: Copy,
-        ensures { AreSet [] result.repeat (λ k. get same_slice result.table k) }
+        ensures { AreSet [] result.repeat (λ k. get same_name result.table k) }
     {
         Labels {
             table: IndexMap::with_hasher(alloc, make_hasher(text)),
@@ -64,8 +64,8 @@ impl<'a, A: Allocator> Labels<'a, A> {
     }
 
     /// One more label, which the item at the index sets.
-    pub fn add(&mut self, label: Lexeme<'a>, index: u32) -> Result<(), AllocFailed<(&'a [u8], u32)>>
-        ensures { OnOk result ((ls : List tables.Label) → AreSet ls self.old.repeat (λ k. get same_slice self.old.table k) → AreSet (ls ++ record { word = lexeme_of label.entry; place = index } ∷ []) self.new.repeat (λ k. get same_slice self.new.table k)) }
+    pub fn add(&mut self, label: Lexeme<'a>, index: u32) -> Result<(), AllocFailed<(Name<'a>, u32)>>
+        ensures { OnOk result ((ls : List tables.Label) → AreSet ls self.old.repeat (λ k. get same_name self.old.table k) → AreSet (ls ++ record { word = lexeme_of label.entry; place = index } ∷ []) self.new.repeat (λ k. get same_name self.new.table k)) }
     {
         if self.repeat.is_some() {
             return Ok(());

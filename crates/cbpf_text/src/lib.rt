@@ -15,6 +15,7 @@ mod law;
 mod listing;
 #[cfg(test)]
 mod listing_tests;
+mod name;
 mod operand;
 mod refusal;
 mod source;

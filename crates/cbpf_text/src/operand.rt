@@ -2,7 +2,6 @@
 
 ghost use Rattle.std.specs.Prelude.{◌≡◌, [], map, slice_get, option_map};
 ghost use Rattle.cbpf_grammar.specs.Views.{class_of, symbol_of, lexeme_of, row_of};
-ghost use Rattle.cbpf_text.specs.Labels.{bytes_of};
 ghost use Rattle.cbpf_text.specs.Operands.{value_at, literal_in, targets_in};
 
 use cbpf_code::{ext_named, ext_offset};
@@ -10,16 +9,6 @@ use cbpf_grammar::{Class, Lexeme, Row, Symbol};
 
 /// The place of the first extension.
 const EXTENSIONS: u32 = 0xffff_f000;
-
-/// The bytes of a word, none of another token.
-pub fn name_of<'a>(symbol: Symbol<'a>) -> &'a [u8]
-    ensures { result.now ≡ bytes_of (symbol_of symbol.entry) }
-{
-    match symbol {
-        Symbol::Word(name) => name,
-        _ => &[],
-    }
-}
 
 /// The value of a token at its class, where it has one.
 fn value_at(class: Class, symbol: Symbol<'_>) -> Option<u32>

@@ -2,7 +2,7 @@ use Rattle.std.proofs.Common.{rules, ◌≡◌, length}
 use Rattle.std.proofs.lemmas.Result.{on_ok_weaker}
 use Rattle.indexmap.specs.IndexMap.{get}
 use Rattle.cbpf_grammar.specs.Views.{lexeme_of}
-use Rattle.cbpf_text.specs.Tables.{same_slice}
+use Rattle.cbpf_text.specs.Tables.{same_name}
 use Rattle.cbpf_text.proofs.Reading.{kept_skip, kept_label, none_if}
 use Rattle.cbpf_text.proofs.draft.add_label.Goals as goal
 
@@ -13,4 +13,4 @@ pub returns-clause-label : goal.returns-clause-label
 returns-clause-label g c =
     let none = none_if c.args.draft.now.excess c.if-is_some.ensures in
     let place : c.len.result ≡ length c.args.draft.now.statements.items = search rules in
-    rw none (on_ok_weaker c.add.result (λ more is ls colon d w. kept_label c.args.draft.now.statements.items c.args.draft.now.labels.repeat _ (λ k. get same_slice c.args.draft.now.labels.table k) _ is ls _ (lexeme_of c.args.word) c.len.result d place w more) c.add.ensures)
+    rw none (on_ok_weaker c.add.result (λ more is ls colon d w. kept_label c.args.draft.now.statements.items c.args.draft.now.labels.repeat _ (λ k. get same_name c.args.draft.now.labels.table k) _ is ls _ (lexeme_of c.args.word) c.len.result d place w more) c.add.ensures)
