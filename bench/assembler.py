@@ -1,13 +1,14 @@
 """Times the assembler, and prints its peak memory: hostile sources, a large source with many labels, and sources
 of growing size.
 
-User and system time of whole processes, the least of several; the time of a source with one instruction is taken
-away. The peak is the largest resident set of the process (`ru_maxrss`), which is never less than this script's own
+User and system time of whole processes. Each run is followed by one of a source with a single instruction, whose
+time is taken away; of the differences the median is printed. The peak is the largest resident set of the process (`ru_maxrss`), which is never less than this script's own
 before it starts the program, some 12 MB; so sources are written in pieces. Needs crates/cbpf built by `make build`,
 or takes the program's path as its argument.
 """
 import os
 import pathlib
+import statistics
 import subprocess
 import sys
 import tempfile
@@ -27,9 +28,11 @@ def run(source):
     return used.ru_utime + used.ru_stime, used.ru_maxrss * 1024
 
 
-def least(source, rounds):
-    runs = [run(source) for _ in range(rounds)]
-    return min(seconds for seconds, _ in runs), max(peak for _, peak in runs)
+def beyond_start(source, start, rounds):
+    """The median of the seconds that a source takes beyond the program's start, and the peak memory."""
+    pairs = [(run(source), run(start)) for _ in range(rounds)]
+    spent = statistics.median(longer - least for (longer, _), (least, _) in pairs)
+    return spent, max(peak for (_, peak), _ in pairs)
 
 
 def write(path, pieces):
@@ -62,7 +65,7 @@ def colliding(count):
     """Names of eight letters that begin the probes of a hash table at one group, for a hasher without a key.
 
     The program that prints them hashes names as the toolchain's `FoldHasher` does from its fixed seed, until enough
-    have the same 14 lowest bits.
+    have the same 14 lowest bits: a minute or two for a million.
     """
     with tempfile.TemporaryDirectory() as name:
         program = pathlib.Path(name) / "colliding_names"
@@ -103,6 +106,7 @@ GROWING = [
     ("one long line of misplaced numbers", lambda size: repeated("1 ", size)),
     ("one long word", lambda size: around("", repeated("a", size), ": ret #0\n")),
     ("labels", lambda size: labels(f"l{i:06}" for i in range(size // 9))),
+    ("labels whose names collide", lambda size: labels(colliding(size // 10))),
     ("instructions", lambda size: repeated("ret #0\n", size)),
 ]
 
@@ -110,22 +114,21 @@ GROWING = [
 def main():
     with tempfile.TemporaryDirectory() as name:
         path = pathlib.Path(name) / "source"
-        write(path, ["ret #0\n"])
-        start, peak = least(path, 200)
-        print(f"start of the program: {start * 1e3:.2f} ms, {peak / 1e6:.1f} MB")
+        start = pathlib.Path(name) / "start"
+        write(start, ["ret #0\n"])
 
         def row(what, pieces, rounds):
             write(path, pieces)
-            spent, peak = least(path, rounds)
+            spent, peak = beyond_start(path, start, rounds)
             size = path.stat().st_size
-            print(f"{what}, {size / 1e6:.2f} MB: {(spent - start) * 1e3:.2f} ms, {peak / 1e6:.1f} MB", flush=True)
+            print(f"{what}, {size / 1e6:.2f} MB: {spent * 1e3:.2f} ms, {peak / 1e6:.1f} MB", flush=True)
 
         row("4000 instructions with 2000 labels", [with_labels()], 200)
         for what, pieces, rounds in HOSTILE:
             row(what, pieces, rounds)
         for what, pieces in GROWING:
-            for size in [10**5, 10**6, 10**7]:
-                row(what, pieces(size), 10)
+            for size, rounds in [(10**4, 200), (10**5, 100), (10**6, 20), (10**7, 5)]:
+                row(what, pieces(size), rounds)
 
 
 main()

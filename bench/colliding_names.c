@@ -12,30 +12,31 @@ static const uint64_t SEED = 0x243f6a8885a308d3u;
 static char name[LETTERS + 1];
 static long wanted;
 
-/* The state after a number of so many bytes. */
-static uint64_t write_number(uint64_t state, uint64_t number, unsigned bytes) {
-    unsigned __int128 product = (unsigned __int128)(state ^ number) * (MULTIPLIER ^ 2 * bytes);
+/* The hash of eight bytes, which are read as one number, the first of them lowest. */
+static uint64_t hash_of(uint64_t number) {
+    unsigned __int128 product = (unsigned __int128)(SEED ^ number) * (MULTIPLIER ^ 2 * LETTERS);
     return (uint64_t)product ^ (uint64_t)(product >> 64);
 }
 
-/* Tries all names that go on from the first letters, which have this state. */
-static void names_from(uint64_t state, int letters) {
-    if (letters == LETTERS) {
-        if (((state ^ state >> 32) & ((1 << BITS) - 1)) == 0 && wanted > 0) {
+/* Tries all names that go on from the first letters, which are this number. */
+static void names_from(uint64_t number, int letters) {
+    for (char letter = 'a'; letter <= 'z' && wanted > 0; letter++) {
+        uint64_t longer = number | (uint64_t)letter << 8 * letters;
+        name[letters] = letter;
+        if (letters + 1 < LETTERS) {
+            names_from(longer, letters + 1);
+            continue;
+        }
+        uint64_t hash = hash_of(longer);
+        if (((hash ^ hash >> 32) & ((1 << BITS) - 1)) == 0) {
             puts(name);
             wanted--;
         }
-        return;
-    }
-    for (char letter = 'a'; letter <= 'z' && wanted > 0; letter++) {
-        uint64_t byte = letter | letter << 8 | letter << 16; /* as it reads a number of one byte */
-        name[letters] = letter;
-        names_from(write_number(state, byte, 1), letters + 1);
     }
 }
 
 int main(int count, char **words) {
     wanted = count > 1 ? atol(words[1]) : 32768;
-    names_from(write_number(SEED, LETTERS, 8), 0);
+    names_from(0, 0);
     return 0;
 }
