@@ -27,7 +27,7 @@ fn no_fault() -> FaultyWriter<256> {
     FaultyWriter::new(Fault::Fails, 0)
 }
 
-/// The kinds of faults that a reader has. `OutOfMemory` is one of the reader's, and none of the allocator.
+/// The kinds of error by which a read fails. `OutOfMemory` is here the reader's, and not the allocator's.
 const KINDS: [ErrorKind; 3] = [
     ErrorKind::Other,
     ErrorKind::Interrupted,
