@@ -27,7 +27,8 @@ fn no_fault() -> FaultyWriter<256> {
     FaultyWriter::new(Fault::Fails, 0)
 }
 
-/// The kinds of error by which a read fails. `OutOfMemory` is here the reader's, and not the allocator's.
+/// The kinds of error by which a read or a flush fails. `OutOfMemory` is here the reader's or the writer's, and
+/// not the allocator's.
 const KINDS: [ErrorKind; 3] = [
     ErrorKind::Other,
     ErrorKind::Interrupted,
@@ -90,12 +91,16 @@ fn each_write_that_goes_wrong_leaves_the_bytes_before_it(rt: HostRuntime) {
 #[test]
 fn a_flush_that_fails_is_a_write_fault(rt: HostRuntime) {
     for (form, text) in ARP_TEXTS {
-        let mut reader = ARP;
-        let mut writer = no_fault();
-        writer.set_flush_fails(true);
-        let result = asm(rt.alloc(), &mut reader, &mut writer, form);
-        assert_eq!(rt; result, Err(ToolFault::Write));
-        assert_eq!(rt; writer.written(), text);
+        for kind in KINDS {
+            let mut reader = ARP;
+            let mut writer = no_fault();
+            writer.set_flush_fails(true);
+            writer.set_error(kind);
+            let result = asm(rt.alloc(), &mut reader, &mut writer, form);
+            assert_eq!(rt; result, Err(ToolFault::Write));
+            assert_eq!(rt; writer.written(), text);
+            assert_eq!(rt; writer.flushes(), 1);
+        }
     }
 }
 
