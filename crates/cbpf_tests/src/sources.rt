@@ -1,7 +1,7 @@
 //! The assembler in memory, by worked sources.
 use cbpf_text::{AsmFault, AsmKind};
 use cbpf_tool::{Form, ToolFault, asm};
-use fault_injection::{Fault, FaultyWriter};
+use fault_injection::{Fault, FaultyReader, FaultyWriter};
 use std::alloc::Global;
 use std::process::Abort;
 use std::test::Fail;
@@ -169,12 +169,13 @@ fn the_4097th_instruction_is_refused_by_its_line(rt: HostRuntime) -> Result<(), 
     Ok(())
 }
 
-/// Like `check_text`, for a text of some ten thousand bytes.
+/// Like `check_text`, for a text of some ten thousand bytes, of which each read gives one.
 fn check_long_text(rt: &impl Abort, alloc: Global, source: &[u8], text: &[u8]) {
-    let mut reader = source;
+    let mut reader = FaultyReader::new(source, 1, 0);
     let mut writer = Vec::new(alloc);
     let result = asm(alloc, &mut reader, &mut writer, Form::Decimal);
     assert_eq!(rt; result, Ok(()));
+    assert_eq!(rt; reader.calls(), source.len() as u64 + 1);
     assert!(rt; writer.as_slice() == text);
 }
 

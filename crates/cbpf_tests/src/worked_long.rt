@@ -3,7 +3,7 @@ use crate::icmp::{FIRST_PACKET, TWO_PACKETS_AS_K};
 use crate::sizes::repeated;
 use crate::worked::{files_of, joined};
 use cbpf_tool::debug;
-use fault_injection::{Fault, FaultyWriter};
+use fault_injection::{Fault, FaultyReader, FaultyWriter};
 use std::alloc::{AllocError, Global};
 use std::process::Abort;
 
@@ -12,7 +12,7 @@ const ZEROS: &[u8] = b"A:        [00000000][0]\n\
 X:        [00000000][0]\n\
 M[0,15]:  [00000000][0]\n";
 
-/// Runs a script over two packets, and compares what it writes.
+/// Runs a script, of which each read gives one byte, over two packets, and compares what it writes.
 fn check_script(
     rt: &impl Abort,
     alloc: Global,
@@ -22,10 +22,11 @@ fn check_script(
     let mut files = files_of(alloc, TWO_PACKETS_AS_K)?;
     let script = joined(alloc, script)?;
     let text = joined(alloc, text)?;
-    let mut reader = script.as_slice();
+    let mut reader = FaultyReader::new(&script, 1, 0);
     let mut writer = FaultyWriter::<4096>::new(Fault::Fails, 0);
     let result = debug(alloc, &mut reader, &mut writer, &mut files);
     assert_eq!(rt; result, Ok(()));
+    assert_eq!(rt; reader.calls(), script.len() as u64 + 1);
     assert_eq!(rt; writer.written(), text.as_slice());
     Ok(())
 }
