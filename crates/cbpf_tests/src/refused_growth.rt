@@ -6,8 +6,10 @@ use fault_injection::RefusingAllocator;
 use std::alloc::AllocError;
 use std::process::Abort;
 
-/// The third line is longer than the first, and the only one that needs more room than it.
-const SCRIPT: &[u8] = b"load bpf 1,6 0 0 1\nload pcap k\n\
+const SCRIPT: &[u8] = b"load bpf 1,6 0 0 1\nload pcap k\nrun\nquit\n";
+
+/// The same, but the third line is longer than the first, and the only one that needs more room than it.
+const LONG_SCRIPT: &[u8] = b"load bpf 1,6 0 0 1\nload pcap k\n\
 run                                                                                             \n\
 quit\n";
 
@@ -47,29 +49,46 @@ fn refused_in(rt: &impl Abort, answer: Result<(), ToolFault>, text: &[u8]) -> Re
     }
 }
 
-/// Where the first growth is refused, the second and so on. There are five.
-const REFUSALS: [Refused; 6] = [
-    Refused::Line(0),
-    Refused::Program,
-    Refused::Capture,
-    Refused::Capture,
-    Refused::Line(36),
-    Refused::None,
+/// Where the first growth of a script is refused, the second and so on.
+const SCRIPTS: [(&[u8], &[Refused]); 2] = [
+    (
+        SCRIPT,
+        &[
+            Refused::Line(0),
+            Refused::Program,
+            Refused::Capture,
+            Refused::Capture,
+            Refused::None,
+        ],
+    ),
+    (
+        LONG_SCRIPT,
+        &[
+            Refused::Line(0),
+            Refused::Program,
+            Refused::Capture,
+            Refused::Capture,
+            Refused::Line(36),
+            Refused::None,
+        ],
+    ),
 ];
 
 #[test]
 fn each_growth_of_a_script(rt: HostRuntime) -> Result<(), AllocError> {
-    for nth in 1..7u64 {
-        let mut files = files_of(rt.alloc(), TWO_PACKETS_AS_K)?;
-        let alloc = RefusingAllocator::refusing(rt.alloc(), nth);
-        let mut reader = SCRIPT;
-        let mut room = [0u8; 256];
-        let mut writer: &mut [u8] = &mut room;
-        let result = debug(&alloc, &mut reader, &mut writer, &mut files);
-        let size = 256usize.saturating_sub(writer.len());
-        let refused = refused_in(&rt, result, &room[..size]);
-        assert_eq!(rt; refused, REFUSALS[nth as usize - 1]);
-        assert_eq!(rt; alloc.left(), u64::from(refused == Refused::None));
+    for (script, refusals) in SCRIPTS {
+        for (i, wanted) in refusals.iter().enumerate() {
+            let mut files = files_of(rt.alloc(), TWO_PACKETS_AS_K)?;
+            let alloc = RefusingAllocator::refusing(rt.alloc(), i as u64 + 1);
+            let mut reader = script;
+            let mut room = [0u8; 256];
+            let mut writer: &mut [u8] = &mut room;
+            let result = debug(&alloc, &mut reader, &mut writer, &mut files);
+            let size = 256usize.saturating_sub(writer.len());
+            let refused = refused_in(&rt, result, &room[..size]);
+            assert_eq!(rt; refused, *wanted);
+            assert_eq!(rt; alloc.left(), u64::from(refused == Refused::None));
+        }
     }
     Ok(())
 }
