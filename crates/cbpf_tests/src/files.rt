@@ -1,7 +1,7 @@
 // Files in memory and of the file system, and captures from them.
 use crate::scripts::TWO_PACKETS;
 use cbpf_tool::{DiskFiles, Files, LoadFault, MemoryFiles, debug};
-use fault_injection::{Fault, FaultyWriter};
+use fault_injection::{Fault, FaultyWriter, RefusingAllocator};
 use std::alloc::AllocError;
 
 #[test]
@@ -56,4 +56,15 @@ fn an_absent_file_is_told_apart_from_one_that_cannot_be_read(rt: HostRuntime) {
         Ok(bytes) => assert!(rt; bytes.is_empty()),
         Err(_) => assert!(rt; false),
     }
+}
+
+#[test]
+fn a_file_grows_once(rt: HostRuntime) {
+    let mut files = DiskFiles::new(&rt);
+    let refusing = RefusingAllocator::refusing(rt.alloc(), 1);
+    assert!(rt; matches!(files.load(&refusing, "/dev/null"), Err(LoadFault::Memory)));
+    assert_eq!(rt; refusing.left(), 0);
+    let refusing = RefusingAllocator::refusing(rt.alloc(), 2);
+    assert!(rt; files.load(&refusing, "/dev/null").is_ok());
+    assert_eq!(rt; refusing.left(), 1);
 }
