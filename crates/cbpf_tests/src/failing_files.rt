@@ -7,7 +7,7 @@ use std::alloc::{AllocError, Global};
 use std::process::Abort;
 
 /// Whether a load of `k` failed by the device; else it gave the file.
-fn fails(rt: &impl Abort, files: &mut MemoryFiles<Global>, alloc: Global) -> bool {
+fn fails(rt: &impl Abort, files: &mut MemoryFiles, alloc: Global) -> bool {
     match files.load(alloc, "k") {
         Ok(bytes) => {
             assert_eq!(rt; bytes.len(), 132);

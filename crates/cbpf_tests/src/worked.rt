@@ -27,10 +27,7 @@ pub fn joined(alloc: Global, parts: &[&[u8]]) -> Result<Vec<u8>, AllocError> {
 }
 
 /// Files in memory of these names.
-pub fn files_of(
-    alloc: Global,
-    entries: &[(&str, &[u8])],
-) -> Result<MemoryFiles<Global>, AllocError> {
+pub fn files_of(alloc: Global, entries: &[(&str, &[u8])]) -> Result<MemoryFiles, AllocError> {
     let mut files = MemoryFiles::new(alloc);
     for (name, bytes) in entries {
         let bytes = Vec::from_slice(alloc, bytes)?;
