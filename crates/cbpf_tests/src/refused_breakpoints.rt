@@ -1,12 +1,13 @@
 // Breakpoints whose growths are refused, and the calls of a session that take no memory.
-use crate::icmp::{ICMP_WORDS, program_of, session_of};
+use crate::icmp::{ICMP_WORDS, program_of, session_of, two_packets};
 use cbpf_code::{
-    CheckFault, Ext, check, read_words, write_bytes, write_c, write_decimal, write_hex,
+    CheckFault, Ext, Program, check, read_words, write_bytes, write_c, write_decimal, write_hex,
     write_parts, write_words,
 };
 use cbpf_dbg::{Counts, MarkTrail, Meter, Place, RunReply, Session, SessionFault, When};
 use cbpf_text::{write_line, write_listing};
 use fault_injection::{Fault, FaultyWriter, RefusingAllocator};
+use pcap_classic::Capture;
 use std::alloc::{AllocError, Allocator};
 use std::process::Abort;
 
@@ -179,6 +180,58 @@ fn most_calls_of_a_session_take_no_memory(rt: HostRuntime) -> Result<(), AllocEr
     assert!(rt; session.breakpoint(4) == Ok(()));
     let left = refusing.left();
     go_through(&rt, &mut session);
+    assert_eq!(rt; refusing.left(), left);
+    Ok(())
+}
+
+/// Looks at a session over two packets with breakpoints at 1 and 4, and sets these again.
+fn set_again<A: Allocator + Copy>(rt: &impl Abort, session: &mut Session<MarkTrail, A>) {
+    assert!(rt; session.program().is_some());
+    assert!(rt; session.capture().is_some());
+    assert!(rt; session.place() == Place { packet: 1, step: 0 });
+    assert!(rt; session.value_of(Ext::Mark).is_none());
+    assert!(rt; session.breakpoint(1) == Ok(()));
+    assert!(rt; session.breakpoint_when(4, When::X(7)) == Ok(()));
+    assert!(rt; session.breakpoint_at(0) == Some(1));
+    assert!(rt; session.breakpoint_at(1) == Some(4));
+    assert!(rt; session.breakpoint_when_at(0) == Some(When::Always));
+    assert!(rt; session.breakpoint_when_at(1) == Some(When::X(7)));
+    assert!(rt; session.breakpoint_when(1, When::A(7)) == Ok(()));
+    assert!(rt; session.breakpoint(4) == Ok(()));
+    assert_eq!(rt; session.breakpoint_count(), 2);
+}
+
+/// Loads a program of 21 instructions and a capture in place of those of the session.
+fn load_again<A: Allocator + Copy>(
+    rt: &impl Abort,
+    session: &mut Session<MarkTrail, A>,
+    program: Program<A>,
+    capture: Capture<A>,
+) {
+    session.load_program(program);
+    session.load_capture(capture);
+    match session.program() {
+        Some(program) => assert_eq!(rt; program.len(), 21),
+        None => assert!(rt; false),
+    }
+    match session.capture() {
+        Some(capture) => assert_eq!(rt; capture.count(), 2),
+        None => assert!(rt; false),
+    }
+    assert_eq!(rt; session.breakpoint_count(), 0);
+}
+
+#[test]
+fn a_breakpoint_again_and_a_load_take_no_memory(rt: HostRuntime) -> Result<(), AllocError> {
+    let refusing = RefusingAllocator::refusing(rt.alloc(), 1000);
+    let mut session = session_of(&refusing, ICMP_WORDS)?;
+    assert!(rt; session.breakpoint(1) == Ok(()));
+    assert!(rt; session.breakpoint(4) == Ok(()));
+    let program = program_of(&refusing, STRAIGHT)?;
+    let capture = two_packets(&refusing)?;
+    let left = refusing.left();
+    set_again(&rt, &mut session);
+    load_again(&rt, &mut session, program, capture);
     assert_eq!(rt; refusing.left(), left);
     Ok(())
 }
