@@ -108,3 +108,11 @@ fn loads_go_to_the_start(rt: HostRuntime) {
     loads_again(&rt, rt.alloc(), &mut marks);
     loads_again(&rt, rt.alloc(), &mut all);
 }
+
+#[test]
+fn places_are_ordered_by_the_packet_and_then_by_the_step(rt: HostRuntime) {
+    for (before, after) in [(at(1, 4096), at(2, 0)), (at(2, 1), at(2, 2))] {
+        assert!(rt; before < after);
+        assert!(rt; !(after < before));
+    }
+}
