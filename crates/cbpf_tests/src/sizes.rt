@@ -1,7 +1,9 @@
 // Large inputs: thousands of records, instructions, tokens and breakpoints, with memory at hand.
-use cbpf_code::{Program, check, read_words};
+use crate::worked::{files_of, joined};
+use cbpf_code::{Program, check, read_words, write_decimal};
 use cbpf_dbg::{MarkTrail, Session, SessionFault, When};
-use cbpf_text::{Kind, assemble, tokens};
+use cbpf_text::{Kind, assemble, tokens, write_listing};
+use cbpf_tool::debug;
 use pcap_classic::{Capture, Captured, Ending};
 use std::alloc::{AllocError, Allocator, Global};
 use std::process::Abort;
@@ -152,5 +154,77 @@ fn a_condition_at_each_of_4096_instructions(rt: HostRuntime) -> Result<(), Alloc
         assert!(rt; session.breakpoint_at(i as usize) == Some(n));
         assert!(rt; session.breakpoint_when_at(i as usize) == Some(condition_at(n)));
     }
+    Ok(())
+}
+
+/// 4096 lines: for each index below that number, the word, the index in decimal, and the rest.
+fn numbered(alloc: Global, word: &[u8], rest: &[u8]) -> Result<Vec<u8>, AllocError> {
+    let mut text = Vec::with_capacity(alloc, 131072)?;
+    for n in 0..4096u128 {
+        text.extend_from_slice(word)?;
+        write_decimal(&mut text, n).map_err(|_| AllocError)?;
+        text.extend_from_slice(rest)?;
+    }
+    Ok(text)
+}
+
+/// A script that loads 4096 instructions, of which each packet meets the first and the last, and 3000
+/// packets, and sets a breakpoint at each instruction.
+fn long_script(alloc: Global) -> Result<Vec<u8>, AllocError> {
+    let load = repeated(
+        alloc,
+        b"load bpf 4096,5 0 0 4094,",
+        b"7 0 0 0,",
+        4094,
+        b"6 0 0 1\nload pcap k\n",
+    )?;
+    let set = numbered(alloc, b"breakpoint ", b"\n")?;
+    joined(
+        alloc,
+        &[&load, &set, b"breakpoint 4096\nbreakpoint reset\nrun\n"],
+    )
+}
+
+/// What it writes.
+fn long_text(alloc: Global) -> Result<Vec<u8>, AllocError> {
+    let set = numbered(alloc, b"breakpoint at: l", b":\ttax\n")?;
+    let first = b"breakpoint at: l0:\ttax\n".len();
+    let last = set.len().saturating_sub(b"tax\n".len());
+    joined(
+        alloc,
+        &[
+            b"bpf: 4096 instructions\npcap: 3000 packets\nbreakpoint at: l0:\tjmp l4095\n",
+            set.get(first..last).unwrap_or(b""),
+            b"ret #0x1\n\
+error: S4 no such instruction\n\
+breakpoints:\n\
+bpf passes:3000 fails:0\n",
+        ],
+    )
+}
+
+#[test]
+fn a_script_of_4096_breakpoints_over_3000_packets(rt: HostRuntime) -> Result<(), AllocError> {
+    let capture = repeated(rt.alloc(), HEADER, RECORD, 3000, b"")?;
+    let mut files = files_of(rt.alloc(), &[("k", &capture)])?;
+    let script = long_script(rt.alloc())?;
+    let mut reader = script.as_slice();
+    let mut writer = Vec::new(rt.alloc());
+    let result = debug(rt.alloc(), &mut reader, &mut writer, &mut files);
+    assert_eq!(rt; result, Ok(()));
+    assert!(rt; writer.as_slice() == long_text(rt.alloc())?.as_slice());
+    Ok(())
+}
+
+#[test]
+fn a_listing_of_4096_labels_assembles_back(rt: HostRuntime) -> Result<(), AllocError> {
+    let program = longest(rt.alloc())?;
+    let mut text = Vec::new(rt.alloc());
+    assert_eq!(rt; write_listing(&mut text, &program), Ok(()));
+    let Ok(list) = assemble(rt.alloc(), &text) else {
+        assert!(rt; false);
+        return Ok(());
+    };
+    assert!(rt; list.as_slice() == program.as_slice());
     Ok(())
 }
