@@ -123,3 +123,20 @@ fn help_has_an_example(rt: HostRuntime) {
     );
     assert!(rt; help_has(&rt, alloc, &["cbpf", "help", "asm"], "cbpf asm -c arp.asm"));
 }
+
+#[test]
+fn the_same_words_have_the_same_answer(rt: HostRuntime) {
+    let alloc = rt.alloc();
+    let asked = |texts: &[&str]| command_line(alloc, words_of(&rt, alloc, texts));
+    let assembles = Job::Asm {
+        form: Form::C,
+        file: None,
+    };
+    assert!(rt; asked(&["cbpf", "asm", "-c"]) == Ok(assembles));
+    assert!(rt; asked(&["cbpf", "asm", "-c"]) != asked(&["cbpf", "asm"]));
+    assert!(rt; asked(&["cbpf", "asm", "f"]) == asked(&["cbpf", "asm", "f"]));
+    assert!(rt; asked(&["cbpf", "asm", "f"]) != asked(&["cbpf", "asm", "g"]));
+    assert!(rt; asked(&["cbpf", "-c"]) == asked(&["cbpf", "-c"]));
+    assert!(rt; asked(&["cbpf", "-c"]) != asked(&["cbpf", "--help"]));
+    assert!(rt; asked(&["cbpf", "-c"]) != Err(LineFault::Memory));
+}

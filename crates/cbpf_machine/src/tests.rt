@@ -251,3 +251,41 @@ fn values_of_0(rt: HostRuntime) {
     assert!(rt; values.value_of(Ext::Mark) == Some(0));
     assert_loads(&rt, rt.alloc(), &values, 4294963220, Outcome::Fail);
 }
+
+#[test]
+fn packets_are_compared_by_their_bytes_and_their_length(rt: HostRuntime) {
+    let bytes = [1u8, 2];
+    let packet = Packet {
+        bytes: &bytes,
+        wire: 60,
+    };
+    let (same, other, longer) = ([1u8, 2], [1u8, 3], [1u8, 2, 0]);
+    assert!(rt;
+        packet
+            == Packet {
+                bytes: &same,
+                wire: 60
+            }
+    );
+    assert!(rt;
+        packet
+            != Packet {
+                bytes: &bytes,
+                wire: 61
+            }
+    );
+    assert!(rt;
+        packet
+            != Packet {
+                bytes: &other,
+                wire: 60
+            }
+    );
+    assert!(rt;
+        packet
+            != Packet {
+                bytes: &longer,
+                wire: 60
+            }
+    );
+}
