@@ -79,7 +79,7 @@ fn each_growth_of_a_script(rt: HostRuntime) -> Result<(), AllocError> {
     for (script, refusals) in SCRIPTS {
         for (i, wanted) in refusals.iter().enumerate() {
             let mut files = files_of(rt.alloc(), TWO_PACKETS_AS_K)?;
-            let alloc = RefusingAllocator::refusing(rt.alloc(), i as u64 + 1);
+            let alloc = RefusingAllocator::refusing(rt.alloc(), (i as u64).saturating_add(1));
             let mut reader = script;
             let mut room = [0u8; 256];
             let mut writer: &mut [u8] = &mut room;

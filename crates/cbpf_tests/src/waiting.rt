@@ -153,7 +153,11 @@ fn wait_through(
 /// How often the first `count` lines are read. After `quit` nothing is read; else the read that finds the
 /// end is one more.
 fn reads_of(count: usize) -> u64 {
-    if count == 9 { 9 } else { count as u64 + 1 }
+    if count == 9 {
+        9
+    } else {
+        (count as u64).saturating_add(1)
+    }
 }
 
 /// The first lines that end in the middle of one: it is answered after the read that finds the end.
@@ -169,7 +173,7 @@ fn each_reply_is_written_and_flushed_before_the_next_read(
         assert_eq!(rt; waited.late, 0);
         assert_eq!(rt; waited.reads, reads_of(count));
         // One before each read, and one before `Ok`.
-        assert_eq!(rt; waited.flushes, reads_of(count) + 1);
+        assert_eq!(rt; waited.flushes, reads_of(count).saturating_add(1));
         assert_eq!(rt; waited.progress.flushed, waited.progress.written);
         if count != CUT {
             assert_eq!(rt; waited.progress.written, waited.replies);
@@ -187,11 +191,11 @@ fn after_a_flush_that_fails_nothing_is_read(rt: HostRuntime) -> Result<(), Alloc
     ] {
         for count in 0..10usize {
             let reads = reads_of(count);
-            for failing in 1..reads + 2 {
+            for failing in 1..reads.saturating_add(2) {
                 let waited = wait_through(rt.alloc(), count, failing, error)?;
                 assert_eq!(rt; waited.result, Err(ToolFault::Write));
                 assert_eq!(rt; waited.flushes, failing);
-                assert_eq!(rt; waited.reads, reads.min(failing - 1));
+                assert_eq!(rt; waited.reads, reads.min(failing.saturating_sub(1)));
                 assert_eq!(rt; waited.late, 0);
                 if count != CUT || failing <= reads {
                     assert_eq!(rt; waited.progress.written, waited.replies);

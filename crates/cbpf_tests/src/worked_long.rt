@@ -26,7 +26,7 @@ fn check_script(
     let mut writer = FaultyWriter::<4096>::new(Fault::Fails, 0);
     let result = debug(alloc, &mut reader, &mut writer, &mut files);
     assert_eq!(rt; result, Ok(()));
-    assert_eq!(rt; reader.calls(), script.len() as u64 + 1);
+    assert_eq!(rt; reader.calls(), (script.len() as u64).saturating_add(1));
     assert_eq!(rt; writer.written(), text.as_slice());
     Ok(())
 }
