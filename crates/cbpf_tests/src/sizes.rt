@@ -160,9 +160,9 @@ fn a_condition_at_each_of_4096_instructions(rt: HostRuntime) -> Result<(), Alloc
 /// 4096 lines: for each index below that number, the word, the index in decimal, and the rest.
 fn numbered(alloc: Global, word: &[u8], rest: &[u8]) -> Result<Vec<u8>, AllocError> {
     let mut text = Vec::with_capacity(alloc, 131072)?;
-    for n in 0..4096u128 {
+    for n in 0..4096u64 {
         text.extend_from_slice(word)?;
-        write_decimal(&mut text, n).map_err(|_| AllocError)?;
+        write_decimal(&mut text, u128::from(n)).map_err(|_| AllocError)?;
         text.extend_from_slice(rest)?;
     }
     Ok(text)
