@@ -68,3 +68,21 @@ fn a_file_grows_once(rt: HostRuntime) {
     assert!(rt; files.load(&refusing, "/dev/null").is_ok());
     assert_eq!(rt; refusing.left(), 1);
 }
+
+#[test]
+fn a_file_that_is_longer_than_the_system_says_grows_more_than_once(rt: HostRuntime) {
+    let mut files = DiskFiles::new(&rt);
+    let mut loaded = false;
+    for n in 1..20u64 {
+        let refusing = RefusingAllocator::refusing(rt.alloc(), n);
+        match files.load(&refusing, "/proc/self/status") {
+            Ok(bytes) => {
+                loaded = true;
+                assert!(rt; n > 2 && refusing.left() > 0 && bytes.len() > 64);
+            }
+            Err(LoadFault::Memory) => assert!(rt; !loaded && refusing.left() == 0),
+            Err(_) => assert!(rt; false),
+        }
+    }
+    assert!(rt; loaded);
+}

@@ -169,7 +169,7 @@ fn numbered(alloc: Global, word: &[u8], rest: &[u8]) -> Result<Vec<u8>, AllocErr
 }
 
 /// A script that loads 4096 instructions, of which each packet meets the first and the last, and 3000
-/// packets, and sets a breakpoint at each instruction.
+/// packets, sets a breakpoint at each instruction, and lists the stops in the last packet.
 fn long_script(alloc: Global) -> Result<Vec<u8>, AllocError> {
     let load = repeated(
         alloc,
@@ -181,7 +181,11 @@ fn long_script(alloc: Global) -> Result<Vec<u8>, AllocError> {
     let set = numbered(alloc, b"breakpoint ", b"\n")?;
     joined(
         alloc,
-        &[&load, &set, b"breakpoint 4096\nbreakpoint reset\nrun\n"],
+        &[
+            &load,
+            &set,
+            b"breakpoint 4096\nselect 3000\nstops\nselect 1\nbreakpoint reset\nrun\n",
+        ],
     )
 }
 
@@ -197,6 +201,9 @@ fn long_text(alloc: Global) -> Result<Vec<u8>, AllocError> {
             set.get(first..last).unwrap_or(b""),
             b"ret #0x1\n\
 error: S4 no such instruction\n\
+3000 1 l0 A 0 X 0 (breakpoint)\n\
+3000 2 l4095 A 0 X 0 (breakpoint)\n\
+stops: 2\n\
 breakpoints:\n\
 bpf passes:3000 fails:0\n",
         ],

@@ -169,7 +169,7 @@ fn the_4097th_instruction_is_refused_by_its_line(rt: HostRuntime) -> Result<(), 
     Ok(())
 }
 
-/// Like `check_text`, for a text of some ten thousand bytes, of which each read gives one.
+/// Like `check_text`, for a source of some ten thousand bytes, of which each read gives one.
 fn check_long_text(rt: &impl Abort, alloc: Global, source: &[u8], text: &[u8]) {
     let mut reader = FaultyReader::new(source, 1, 0);
     let mut writer = Vec::new(alloc);
