@@ -103,12 +103,18 @@ fn read_more<'a, A: Allocator>(
     ensures end { IfOk result (λ ended. ended ≡ true → lexer.new.at ≡ length text.now) }
     ensures fault { IfErr result (λ fault. (n : ℕ) → AreAhead text.now lexer.old.at n (map lexeme_of ahead.old.items) → IsLexFault text.now fault) }
 {
+    // A lexer of its own can stay in registers.
+    let mut here = lexer.copied();
     for i in 0..CHUNK {
-        match lexer.next_token()? {
-            None => return Ok(true),
+        match here.next_token()? {
+            None => {
+                *lexer = here;
+                return Ok(true);
+            }
             Some(token) => ahead.push(read_token(text, token))?,
         }
     }
+    *lexer = here;
     Ok(false)
 }
 
@@ -212,12 +218,13 @@ impl<'a, A: Allocator> Reader<'a, A> {
         ensures word { IfOk result (λ step. 0 < step_len step → StartsWithWord (map lexeme_of self.new.tokens)) }
         ensures fault { IfErr result (λ fault. (n : ℕ) → IsReading n self.old → IsLexFault self.old.text fault) }
     {
-        let mut step = step_at(self.ahead());
-        while !self.ended && self.ahead().len() <= step_len(step) {
+        loop {
+            let step = step_at(self.ahead());
+            if self.ended || step_len(step) < self.ahead().len() {
+                return Ok(step);
+            }
             self.fill()?;
-            step = step_at(self.ahead());
         }
-        Ok(step)
     }
 
     /// Goes past tokens, of which the first is a word.

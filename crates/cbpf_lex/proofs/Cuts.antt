@@ -1,10 +1,7 @@
 -- Cuts of a text: one more piece, and that there is only one.
-use Rattle.std.proofs.Common.{◌≡◌, ◌≢◌, ℕ, zero, suc, ◌+◌, ◌<◌, ◌≤◌, Bool, true, false, ◌&&◌, List, [], ◌∷◌, ◌++◌, length, take, drop, refl, ap, sym, ◌∙◌, arith, Option, Some, None, append_assoc, append-nil, ◌⊎◌, inl, inr, get_or, length-drop, ◌||◌}
-use Rattle.std.specs.Prelude.{◌==◌}
-use Rattle.cbpf_lex.specs.Bytes.{is_blank}
+use Rattle.std.proofs.Common.{◌≡◌, ◌≢◌, ℕ, zero, suc, ◌+◌, ◌<◌, ◌≤◌, Bool, true, false, ◌&&◌, List, [], ◌∷◌, ◌++◌, length, take, drop, refl, ap, sym, ◌∙◌, arith, Option, Some, None, append_assoc, append-nil, ◌⊎◌, inl, inr, get_or, length-drop}
 use Rattle.std.proofs.lemmas.List.{drop_all, drop_more}
-use Rattle.std.specs.List.{list_all, fold}
-use Rattle.std.proofs.lemmas.List.Sums.{fold-append}
+use Rattle.std.specs.List.{list_all}
 use Rattle.cbpf_lex.specs.declared.piece.PieceKind.{PieceKind}
 use Rattle.cbpf_lex.specs.declared.piece.Piece.{Piece}
 use Rattle.cbpf_lex.specs.declared.token.Token.{Token}
@@ -82,17 +79,8 @@ one_cut text at (p ∷ ps) (q ∷ qs) a b =
     let rest : ps ≡ qs = one_cut text (at + p.size) ps qs a.1 (rw (← e) at b.1) in
     λ i. e i ∷ rest i
 
-take_add : (m n : ℕ) (xs : List ℕ) → take (m + n) xs ≡ take m xs ++ take n (drop m xs)
-take_add zero n xs = let e : 0 + n ≡ n = omega arith in rw e refl
-take_add (suc m) n [] = let e : suc m + n ≡ suc (m + n) = omega arith in rw (e, take_nil n) refl
-take_add (suc m) n (x ∷ xs) = let e : suc m + n ≡ suc (m + n) = omega arith in rw e (ap (λ ys. x ∷ ys) (take_add m n xs))
-
--- the state of the loop over the pieces behind one more
-pub blank_more : (text : List ℕ) (at n : ℕ) → fold (λ blank b. b == 10 || (blank && is_blank b)) (is_line_blank (take at text)) (take n (drop at text)) ≡ is_line_blank (take (at + n) text)
-blank_more text at n = rw (take_add at n text) (sym (fold-append (λ blank b. b == 10 || (blank && is_blank b)) true (take at text) (take n (drop at text))))
-
-pub piece_at : (text : List ℕ) (at : ℕ) (fresh : Bool) (p : Piece) → at < length text → fresh ≡ is_line_blank (take at text) → IsNext fresh (get_or text at 0 ∷ drop (at + 1) text) p → IsPieceAt text at p
-piece_at text at fresh p l e next = rw (← e, drop_more text at 0) next
+pub piece_at : (text : List ℕ) (at : ℕ) (p : Piece) → at < length text → IsNext (is_line_blank (take at text)) (get_or text at 0 ∷ drop (at + 1) text) p → IsPieceAt text at p
+piece_at text at p l next = rw (drop_more text at 0) next
 
 pub piece_within : (text : List ℕ) (at : ℕ) (p : Piece) → at < length text → IsPieceAt text at p → at + p.size ≤ length text
 piece_within text at p l next = omega (arith, next.within, length-drop at text)

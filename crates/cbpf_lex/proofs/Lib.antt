@@ -4,4 +4,3 @@ pub mod Runs
 pub mod Cuts
 pub mod Spelled
 pub mod Outcomes
-pub mod Lines

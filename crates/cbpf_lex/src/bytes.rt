@@ -1,14 +1,15 @@
 //! Classes of bytes, and the runs of them at the front of a text.
 
-ghost use Rattle.std.specs.Prelude.{not, ◌==◌, ◌≡◌, ◌≤◌, ◌||◌, ◌&&◌, length};
-ghost use Rattle.std.specs.List.{prefix_len, fold};
+ghost use Rattle.std.specs.Prelude.{not, ◌==◌, ◌≡◌, ◌≤◌, length};
+ghost use Rattle.std.specs.List.{prefix_len};
 ghost use Rattle.cbpf_lex.specs.Bytes.{is_blank, is_digit, is_name_byte};
+ghost use Rattle.cbpf_lex.specs.Pieces.{is_line_blank};
 
 /// A space, a tab, a newline or a carriage return.
 pub fn is_blank(b: u8) -> bool
     ensures { result ≡ is_blank b }
 {
-    matches!(b, b' ' | b'\t' | b'\n' | b'\r')
+    b <= b' ' && matches!(b, b' ' | b'\t' | b'\n' | b'\r')
 }
 
 pub fn is_digit(b: u8) -> bool
@@ -17,11 +18,23 @@ pub fn is_digit(b: u8) -> bool
     b >= b'0' && b <= b'9'
 }
 
+// Each byte of a name stands at its own place, and a dot at every other place.
+static NAME_BYTES: [u8; 256] = *b"\
+    ................................\
+    ................0123456789......\
+    .ABCDEFGHIJKLMNOPQRSTUVWXYZ...._\
+    .abcdefghijklmnopqrstuvwxyz.....\
+    ................................\
+    ................................\
+    ................................\
+    ................................";
+
 /// An ASCII letter, a digit or `_`.
+#[inline(always)]
 pub fn is_name_byte(b: u8) -> bool
     ensures { result ≡ is_name_byte b }
 {
-    matches!(b, b'a'..=b'z' | b'A'..=b'Z' | b'_' | b'0'..=b'9')
+    NAME_BYTES[b as usize] != b'.'
 }
 
 /// How many bytes at the front may stand in a name.
@@ -60,10 +73,10 @@ pub fn line_len(text: &[u8]) -> usize
     n
 }
 
-/// Whether the last line has only blanks, where `blank` says so of it before these bytes.
+/// Whether the last line has only blanks.
 // It looks from the end: the last newline, or a byte after it that isn't blank, decides.
-pub fn is_line_blank(blank: bool, bytes: &[u8]) -> bool
-    ensures { result ≡ fold (λ blank b. b == 10 || (blank && is_blank b)) blank bytes.now }
+pub fn is_line_blank(bytes: &[u8]) -> bool
+    ensures { result ≡ is_line_blank bytes.now }
 {
     let mut n = bytes.len();
     while n > 0 {
@@ -75,5 +88,5 @@ pub fn is_line_blank(blank: bool, bytes: &[u8]) -> bool
             return false;
         }
     }
-    blank
+    true
 }

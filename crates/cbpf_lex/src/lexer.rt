@@ -4,7 +4,6 @@ ghost use Rattle.std.specs.Prelude.{◌≡◌, ◌≤◌, length, IfOk, IfErr, I
 ghost use Rattle.cbpf_lex.specs.Tokens.{Lexes, IsLexFault, IsSpanOf, line_of};
 ghost use Rattle.cbpf_lex.specs.Reading.{IsNextToken, HasNoMore, IsNextFault};
 
-use crate::bytes::is_line_blank;
 use crate::piece::{PieceKind, fault_of, next_piece};
 use crate::token::{LexFault, Token};
 use std::alloc::Allocator;
@@ -24,20 +23,17 @@ pub struct Lexer<'a> {
     text: &'a [u8],
     /// Where the next piece begins.
     at: usize,
-    /// Whether only blanks stand before it on its line.
-    fresh: bool,
 }
 
 impl<'a> Model for Lexer<'a> {
-    ghost use Rattle.std.specs.Prelude.{◌≡◌, ◌≤◌, length, take};
-    ghost use Rattle.cbpf_lex.specs.Pieces.{is_line_blank};
+    ghost use Rattle.std.specs.Prelude.{◌≤◌, length};
     ghost use Rattle.cbpf_lex.specs.Reading.{Reading};
 
     ghost Value = { Reading };
 
     ghost view = { λ l. record { text = l.text.now; at = l.at } };
 
-    ghost invariant = { λ l. (l.at ≤ length l.text.now) × (l.fresh ≡ is_line_blank (take l.at l.text.now)) };
+    ghost invariant = { λ l. l.at ≤ length l.text.now };
 }
 
 impl<'a> Lexer<'a> {
@@ -45,10 +41,16 @@ impl<'a> Lexer<'a> {
     pub fn new(text: &'a [u8]) -> Self
         ensures { result ≡ record { text = text.now; at = 0 } }
     {
+        Lexer { text, at: 0 }
+    }
+
+    /// The same text, read as far.
+    pub fn copied(&self) -> Self
+        ensures { result ≡ self.now }
+    {
         Lexer {
-            text,
-            at: 0,
-            fresh: true,
+            text: self.text,
+            at: self.at,
         }
     }
 
@@ -69,27 +71,23 @@ impl<'a> Lexer<'a> {
     {
         let text = self.text;
         let mut at = self.at;
-        let mut fresh = self.fresh;
         while at < text.len() {
-            let piece = next_piece(fresh, text[at], &text[at + 1..]);
+            let piece = next_piece(&text[..at], text[at], &text[at + 1..]);
             let end = at + piece.size;
             if let Some(fault) = fault_of(piece.kind) {
                 return Err(LexFault::At(fault, line_of(text, at)));
             }
             if let PieceKind::Lexeme(kind) = piece.kind {
                 self.at = end;
-                self.fresh = false;
                 return Ok(Some(Token {
                     kind,
                     start: at,
                     end,
                 }));
             }
-            fresh = is_line_blank(fresh, &text[at..end]);
             at = end;
         }
         self.at = at;
-        self.fresh = fresh;
         Ok(None)
     }
 }

@@ -2,13 +2,13 @@
 
 ghost use Rattle.std.specs.Prelude.{Bool, ℕ, true, IfSome, IfNone, ◌∷◌, ◌&&◌, ◌==◌, ◌≡◌, ◌≤◌, length};
 ghost use Rattle.cbpf_lex.specs.Numbers.{number_value};
-ghost use Rattle.cbpf_lex.specs.Pieces.{IsNext, run_kind, first_close};
+ghost use Rattle.cbpf_lex.specs.Pieces.{IsNext, is_line_blank, run_kind, first_close};
 ghost use Rattle.cbpf_lex.specs.Leads.{lead_of};
 ghost use Rattle.cbpf_lex.specs.Tokens.{is_good};
 ghost use Rattle.cbpf_lex.specs.declared.piece.PieceKind.TheVariants.{Bad};
 ghost use Rattle.cbpf_lex.specs.declared.piece.Lead.TheVariants.{Slash};
 
-use crate::bytes::{blanks_len, line_len, name_len};
+use crate::bytes::{blanks_len, is_line_blank, line_len, name_len};
 use crate::number::{LIMIT, number_value};
 use crate::token::{BadPiece, Kind};
 
@@ -40,14 +40,16 @@ pub enum Lead {
     Other,
 }
 
-/// `fresh` says that only blanks stand before the byte on its line.
-fn lead_of(fresh: bool, b: u8) -> Lead
-    ensures { result ≡ lead_of fresh b }
+/// What a byte after these says of the piece that it begins.
+// Only a `#` has to be looked at with the line before it.
+#[inline(always)]
+fn lead_of(before: &[u8], b: u8) -> Lead
+    ensures { result ≡ lead_of (is_line_blank before.now) b }
 {
     match b {
         b' ' | b'\t' | b'\n' | b'\r' => Lead::Blank,
         b';' => Lead::LineComment,
-        b'#' if fresh => Lead::LineComment,
+        b'#' if is_line_blank(before) => Lead::LineComment,
         b'a'..=b'z' | b'A'..=b'Z' | b'_' => Lead::Letter,
         b'0'..=b'9' => Lead::Digit,
         b'/' => Lead::Slash,
@@ -125,12 +127,12 @@ fn slash_piece(rest: &[u8]) -> Piece
     }
 }
 
-/// The piece at the front of a text, which isn't empty. `fresh` is as in `lead_of`.
+/// The piece at the front of a text, which isn't empty, after the bytes before it.
 #[inline(always)]
-pub fn next_piece(fresh: bool, first: u8, rest: &[u8]) -> Piece
-    ensures { IsNext fresh (first ∷ rest.now) result }
+pub fn next_piece(before: &[u8], first: u8, rest: &[u8]) -> Piece
+    ensures { IsNext (is_line_blank before.now) (first ∷ rest.now) result }
 {
-    match lead_of(fresh, first) {
+    match lead_of(before, first) {
         Lead::Blank => Piece {
             kind: PieceKind::Blanks,
             size: 1 + blanks_len(rest),

@@ -1,8 +1,7 @@
-use Rattle.std.proofs.Common.{arith, ◌≡◌, ◌+◌, ◌-◌, ◌∙◌, subst, sym}
+use Rattle.std.proofs.Common.{arith, ◌+◌, subst}
 use Rattle.std.proofs.lemmas.List.{take_rest}
 use Rattle.cbpf_lex.specs.Pieces.{IsPieceAt}
-use Rattle.cbpf_lex.proofs.Cuts.{piece_at, piece_within, piece_some, blank_more, token_more, piece_more}
-use Rattle.cbpf_lex.proofs.Lines.{token_line}
+use Rattle.cbpf_lex.proofs.Cuts.{piece_at, piece_within, piece_some, token_more, piece_more}
 use Rattle.cbpf_lex.proofs.lexer.Lexer.next_token.Goals as goal
 
 pub returns-in-Some-clause-fault : goal.returns-in-Some-clause-fault
@@ -10,7 +9,7 @@ returns-in-Some-clause-fault c =
     let text = c.self.inside.text.now in
     let at = c.loop-at.at in
     let piece = c.next_piece-piece.result in
-    let next : IsPieceAt text at piece = piece_at text at c.loop-at.fresh piece c.loop-at-test.true c.loop-at.invariant.fresh (rw (take_rest text (at + 1)) at c.next_piece-piece.ensures) in
+    let next : IsPieceAt text at piece = piece_at text at piece c.loop-at-test.true (rw (take_rest text (at + 1)) at c.next_piece-piece.ensures) in
     rw (← c.self.view_is) (λ ts lexed. record { at = at; tokens = ts; before = c.loop-at.invariant.more ts lexed; size = piece.size; bad = subst (λ k. IsPieceAt text at (record { kind = k; size = piece.size })) c.in-Some.ensures.bad next; line = c.line_of.ensures })
 
 pub invariant_of-self-in-Lexeme : goal.invariant_of-self-in-Lexeme
@@ -18,15 +17,15 @@ invariant_of-self-in-Lexeme c =
     let text = c.self.inside.text.now in
     let at = c.loop-at.at in
     let piece = c.next_piece-piece.result in
-    let next : IsPieceAt text at piece = piece_at text at c.loop-at.fresh piece c.loop-at-test.true c.loop-at.invariant.fresh (rw (take_rest text (at + 1)) at c.next_piece-piece.ensures) in
-    rw c.loop-at.invariant.same (piece_within text at piece c.loop-at-test.true next, sym (token_line text at piece c.in-Lexeme.kind next c.in-Lexeme.is))
+    let next : IsPieceAt text at piece = piece_at text at piece c.loop-at-test.true (rw (take_rest text (at + 1)) at c.next_piece-piece.ensures) in
+    rw c.loop-at.invariant.same (piece_within text at piece c.loop-at-test.true next)
 
 pub returns-in-Lexeme-clause-token : goal.returns-in-Lexeme-clause-token
 returns-in-Lexeme-clause-token c =
     let text = c.self.inside.text.now in
     let at = c.loop-at.at in
     let piece = c.next_piece-piece.result in
-    let next : IsPieceAt text at piece = piece_at text at c.loop-at.fresh piece c.loop-at-test.true c.loop-at.invariant.fresh (rw (take_rest text (at + 1)) at c.next_piece-piece.ensures) in
+    let next : IsPieceAt text at piece = piece_at text at piece c.loop-at-test.true (rw (take_rest text (at + 1)) at c.next_piece-piece.ensures) in
     let some = piece_some text at piece next in
     let within = piece_within text at piece c.loop-at-test.true next in
     rw (← c.self.view_is) (record { more = token_more text c.self.inside.at at piece c.in-Lexeme.kind c.loop-at.invariant.more next c.in-Lexeme.is; span = (omega arith, within); farther = omega (arith, some, c.loop-at.invariant.from); within = within })
@@ -36,12 +35,10 @@ loop-at-preserved c =
     let text = c.self.inside.text.now in
     let at = c.loop-at.at in
     let piece = c.next_piece-piece.result in
-    let next : IsPieceAt text at piece = piece_at text at c.loop-at.fresh piece c.loop-at-test.true c.loop-at.invariant.fresh (rw (take_rest text (at + 1)) at c.next_piece-piece.ensures) in
-    let n : (c.loop-at.at + c.next_piece-piece.result.size) - c.loop-at.at ≡ c.next_piece-piece.result.size = omega arith in
+    let next : IsPieceAt text at piece = piece_at text at piece c.loop-at-test.true (rw (take_rest text (at + 1)) at c.next_piece-piece.ensures) in
     record {
       same = c.loop-at.invariant.same;
       from = omega (arith, c.loop-at.invariant.from);
       within = piece_within text at piece c.loop-at-test.true next;
-      fresh = (rw (n, c.loop-at.invariant.fresh) at c.is_line_blank-fresh.ensures) ∙ blank_more text at piece.size;
       more = piece_more text c.self.inside.at at piece c.loop-at.invariant.more next c.in_default.ensures.good c.in_default-kind.not-Lexeme;
     }

@@ -1,6 +1,5 @@
-use Rattle.std.proofs.Common.{◌≡◌, ◌≤◌, ◌-◌, List, length, take}
+use Rattle.std.proofs.Common.{◌≡◌, ◌≤◌, ◌-◌, List, length}
 use Rattle.cbpf_lex.specs.declared.token.Token.{Token}
-use Rattle.cbpf_lex.specs.Pieces.{is_line_blank}
 use Rattle.cbpf_lex.specs.Tokens.{LexesTo}
 use Rattle.cbpf_lex.proofs.lexer.Lexer.next_token.Given as goal
 
@@ -9,7 +8,6 @@ invariant-loop-at l = record {
   same : l.self-inside ≡ l.initial.self-inside;
   from : l.initial.at ≤ l.at;
   within : l.at ≤ length l.text;
-  fresh : l.fresh ≡ is_line_blank (take l.at l.text);
   more : (ts : List Token) → LexesTo l.text l.initial.at ts → LexesTo l.text l.at ts;
 }
 
