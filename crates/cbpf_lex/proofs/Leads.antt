@@ -34,3 +34,6 @@ chosen f false false false false false false a c d e g h i = refl
 
 pub led : (fresh : Bool) (b : ℕ) (bs : List ℕ) (lead : Lead) → lead_of fresh b ≡ lead → piece_kind fresh (b ∷ bs) ≡ led_kind lead b bs
 led fresh b bs lead e = chosen (λ l. led_kind l b bs) (is_blank b) (b == 59 || (fresh && b == 35)) (is_letter b) (is_digit b) (b == 47) (is_mark b) Blank LineComment Letter Digit Slash Single Other ∙ ap (λ l. led_kind l b bs) e
+
+pub blank_lead : (fresh : Bool) (b : ℕ) → is_blank b ≡ true → lead_of fresh b ≡ Blank
+blank_lead fresh b e = rw e refl

@@ -4,6 +4,7 @@ ghost use Rattle.std.specs.Prelude.{◌≡◌, ◌≤◌, length, IfOk, IfErr, I
 ghost use Rattle.cbpf_lex.specs.Tokens.{Lexes, IsLexFault, IsSpanOf, line_of};
 ghost use Rattle.cbpf_lex.specs.Reading.{IsNextToken, HasNoMore, IsNextFault};
 
+use crate::bytes::{blanks_len, is_blank};
 use crate::piece::{PieceKind, fault_of, next_piece};
 use crate::token::{LexFault, Token};
 use std::alloc::Allocator;
@@ -72,7 +73,14 @@ impl<'a> Lexer<'a> {
         let text = self.text;
         let mut at = self.at;
         while at < text.len() {
-            let piece = next_piece(&text[..at], text[at], &text[at + 1..]);
+            let first = text[at];
+            let rest = &text[at + 1..];
+            // Most pieces are blanks of one byte, or come after one.
+            if is_blank(first) {
+                at += 1 + blanks_len(rest);
+                continue;
+            }
+            let piece = next_piece(&text[..at], first, rest);
             let end = at + piece.size;
             if let Some(fault) = fault_of(piece.kind) {
                 return Err(LexFault::At(fault, line_of(text, at)));
