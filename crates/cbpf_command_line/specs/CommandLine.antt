@@ -1,10 +1,10 @@
 -- The command line of the program, and what its words ask for: this project's own, by `clap`'s meaning of a command line.
-use Rattle.std.specs.Prelude.{◌≢◌, if◌then◌else◌, List, Option, Some, None, option_map, codes, bytes_eq, String}
+use Rattle.std.specs.Prelude.{◌≢◌, ◌⊎◌, if◌then◌else◌, true, [], List, Option, Some, None, option_map, codes, bytes_eq, String}
 use Rattle.clap.specs.Words.{App, Rule, Row, Text, new_app, new_rule, with_rule, with_subcommand, first_of, subcommand_of, fault_of}
 use Rattle.clap.specs.Kinds.{IsAmong}
 use Rattle.clap.specs.declared.builder.action.ArgAction.TheVariants.{SetTrue}
 use Rattle.clap.specs.declared.error.kind.ErrorKind.{ErrorKind}
-use Rattle.clap.specs.declared.error.kind.ErrorKind.TheVariants.{DisplayHelp}
+use Rattle.clap.specs.declared.error.kind.ErrorKind.TheVariants.{DisplayHelp, DisplayVersion}
 use Rattle.cbpf_code.specs.declared.form.Form.{Form}
 use Rattle.cbpf_code.specs.declared.form.Form.TheVariants.{Decimal, C}
 use Rattle.cbpf_command_line.specs.declared.job.Job.{Job}
@@ -24,9 +24,13 @@ asm_app = with_rule (with_rule (new_app (codes "asm")) form_rule) (record (new_r
 abbrev pub dbg_app : App
 dbg_app = with_rule (with_rule (new_app (codes "dbg")) (record (new_rule (codes "input")) { value_names = 1 })) (record (new_rule (codes "output")) { value_names = 1 })
 
+-- `cbpf [--version]`
+abbrev pub bare_app : App
+bare_app = record { top = record (new_app (codes "cbpf")).top { has_version = true }; subs = [] }
+
 -- `cbpf`, with its two subcommands
 abbrev pub cbpf_app : App
-cbpf_app = with_subcommand (with_subcommand (new_app (codes "cbpf")) asm_app.top) dbg_app.top
+cbpf_app = with_subcommand (with_subcommand bare_app asm_app.top) dbg_app.top
 
 -- what the program is asked to do, with the names that are given
 pub data Asked : Type 0 where
@@ -70,8 +74,8 @@ abbrev pub meaning : Job → Asked
 meaning (job.Asm form file) = asm form (option_map text_of file)
 meaning (job.Dbg input output) = dbg (option_map text_of input) (option_map text_of output)
 
--- help where it is asked for, a refusal for every other kind of fault; want of memory says nothing
+-- help or the version where it is asked for, a refusal for every other kind of fault; `Memory` says nothing of the words
 abbrev pub IsFaultOf : List ErrorKind → LineFault → Type 0
-IsFaultOf kinds (Help text) = IsAmong DisplayHelp kinds
-IsFaultOf kinds (Refused text) = (kind : ErrorKind) × (kind ≢ DisplayHelp) × IsAmong kind kinds
+IsFaultOf kinds (Help text) = IsAmong DisplayHelp kinds ⊎ IsAmong DisplayVersion kinds
+IsFaultOf kinds (Refused text) = (kind : ErrorKind) × (kind ≢ DisplayHelp) × (kind ≢ DisplayVersion) × IsAmong kind kinds
 IsFaultOf kinds Memory = Unit {0}

@@ -10,7 +10,7 @@ pub enum Job {
         form: Form,
         file: Option<String>,
     },
-    /// `dbg [input [output]]`, and the program without words: carry out commands.
+    /// `dbg [input [output]]`, and the program without words: run the debugger's commands.
     Dbg {
         input: Option<String>,
         output: Option<String>,
@@ -20,7 +20,7 @@ pub enum Job {
 /// Why a command line asks for no job.
 #[derive(Debug, PartialEq, Eq, Drop)]
 pub enum LineFault {
-    /// It asks for help, and this is the text.
+    /// It asks for help or the version, and this is the text.
     Help(String),
     /// It is refused, and this says why.
     Refused(String),

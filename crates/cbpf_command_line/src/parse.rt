@@ -12,24 +12,76 @@ use clap::error::ErrorKind;
 use clap::{Arg, ArgAction, ArgMatches, Command, Error};
 use std::alloc::{AllocError, Global};
 
+const VERSION: &str = "1.0.0";
+
 const ABOUT: &str = "An assembler and a debugger for classic BPF filters";
 
-const EXAMPLES: &str = "Examples:
-  cbpf asm filter.asm          assemble a filter
-  cbpf dbg session.dbg         carry out the commands of a file";
+const EXAMPLES: &str = "Without a command, cbpf runs the debugger, dbg, on standard input.
+
+Examples:
+  Assemble a filter:
+    $ cbpf asm filter.asm
+  Run the debugger's commands in a file:
+    $ cbpf dbg session.dbg
+  Count the packets of a capture that a filter passes:
+    $ (printf 'load bpf '; cbpf asm filter.asm
+       printf 'load pcap trace.pcap\\nrun\\n') | cbpf
+  The same for a filter of tcpdump, compiled for the capture's link type:
+    $ (printf 'load bpf '; tcpdump -r trace.pcap -ddd arp | tr '\\n' ','
+       printf '\\nload pcap trace.pcap\\nrun\\n') | cbpf
+
+Exit status:
+  0  done, also where the debugger refused commands (its replies `error: ..`)
+  1  a source was refused, a file could not be opened, reading or writing
+     failed, or memory ran out
+  2  the command line was refused";
 
 const ASM_ABOUT: &str = "Assembles a filter's source, and writes its instructions";
 
 const ASM_EXAMPLES: &str = "Examples:
-  cbpf asm arp.asm             4,40 0 0 12,21 0 1 2054,6 0 0 4294967295,6 0 0 0,
-  cbpf asm -c arp.asm > arp.h  the same as members of an array of struct sock_filter";
+  Write the words that `load bpf` of cbpf dbg reads:
+    $ cbpf asm filter.asm
+  Write the members of an array of struct sock_filter in C:
+    $ cbpf asm -c filter.asm > filter.h";
 
-const DBG_ABOUT: &str = "Carries out a debugger's commands, and writes its replies";
+const DBG_ABOUT: &str = "Runs a debugger's commands, and writes their replies";
 
-const DBG_EXAMPLES: &str = "Examples:
-  cbpf dbg                     commands from the terminal
-  cbpf dbg session.dbg         commands from a file
-  cbpf dbg session.dbg log     and the replies to a file";
+const DBG_EXAMPLES: &str = "Commands, one a line, without short forms; numbers are decimal:
+  load bpf WORDS      load a program and check it; WORDS are what cbpf asm
+                      prints, or the lines of tcpdump -ddd joined by commas
+  load pcap FILE      load a capture (pcap, not pcapng)
+  disassemble         list the program; l3 is instruction 3
+  dump                print the program as initializers of a C array
+  breakpoint N        set a breakpoint at instruction N
+  breakpoint N a V    the same, but stop there only where A is V
+  breakpoint N x V    the same, but stop there only where X is V
+  breakpoint          list the breakpoints
+  breakpoint reset    delete all breakpoints
+  delete N            delete the breakpoint at instruction N
+  run [N]             go on to the next stop, over N packets at most, or else
+                      to the end; print how many packets passed and failed
+  step [N]            go on by N instructions (1), over packets too
+  step -N             go back by N instructions, within the packet
+  select N            go before packet N, counted from 1, and count from there
+  mark                print the place: PACKET STEP
+  resume PACKET STEP  go to a place, and count from its packet
+  stops               list all stops ahead, and move nothing
+  value EXT N         let loads of the extension EXT give N; go before the
+                      current packet, and count from there
+  quit                end; so does the end of the commands (Ctrl-D)
+
+A run stops at breakpoints, and before a load of an extension without a value.
+EXT is proto, type, ifidx, mark, queue, hatype, rxhash, cpu, vlan_tci,
+vlan_avail or vlan_tpid. A refused command is answered by a line `error: ..`
+and changes nothing; the commands after it run.
+
+Examples:
+  Type commands at the terminal:
+    $ cbpf dbg
+  Run the commands in a file:
+    $ cbpf dbg session.dbg
+  Write the replies to a file:
+    $ cbpf dbg session.dbg replies.txt";
 
 fn asm_command<'a>(alloc: Global) -> Result<Command<'a>, AllocError>
     ensures app { IfOk result (λ c. app_of c ≡ spec.asm_app) }
@@ -57,7 +109,7 @@ fn dbg_command<'a>(alloc: Global) -> Result<Command<'a>, AllocError>
         .value_name("INPUT")
         .help("The commands [default: standard input]");
     let output = Arg::new(alloc, "output").value_name("OUTPUT").help(
-        "Where the replies go, written anew [default: standard output]",
+        "Where the replies go, overwritten [default: standard output]",
     );
     Command::new(alloc, "dbg")
         .about(DBG_ABOUT)
@@ -70,6 +122,7 @@ fn command<'a>(alloc: Global) -> Result<Command<'a>, AllocError>
     ensures { IfOk result (λ c. app_of c ≡ spec.cbpf_app) }
 {
     Command::new(alloc, "cbpf")
+        .version(VERSION)
         .about(ABOUT)
         .after_help(EXAMPLES)
         .subcommand(asm_command(alloc)?)?
@@ -144,7 +197,7 @@ fn fault_of(alloc: Global, error: &Error) -> LineFault
     match format!(in alloc; "{error}") {
         Err(_) => LineFault::Memory,
         Ok(text) => {
-            if error.kind() == ErrorKind::DisplayHelp {
+            if error.kind() == ErrorKind::DisplayHelp || error.kind() == ErrorKind::DisplayVersion {
                 LineFault::Help(text)
             } else {
                 LineFault::Refused(text)
@@ -175,7 +228,7 @@ fn job_asked(alloc: Global, words: &[String]) -> Result<Job, LineFault>
 ///
 /// # Errors
 ///
-/// `Help` where the words ask for help, with its text; `Refused` where they are no command line of the
+/// `Help` where the words ask for help or the version, with its text; `Refused` where they are no command line of the
 /// program's, with what is wrong; `Memory` where the allocator refused.
 pub fn command_line(alloc: Global, words: Vec<String>) -> Result<Job, LineFault>
     ensures job { IfOk result (λ j. spec.meaning j ≡ spec.asked_for (map spec.text_of words.items)) }

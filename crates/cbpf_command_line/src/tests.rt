@@ -61,6 +61,13 @@ fn help_has(rt: &impl Abort, alloc: Global, texts: &[&str], part: &str) -> bool 
     }
 }
 
+fn is_version(rt: &impl Abort, alloc: Global, texts: &[&str]) -> bool {
+    match command_line(alloc, words_of(rt, alloc, texts)) {
+        Err(LineFault::Help(text)) => text.as_str() == "cbpf 1.0.0\n",
+        _ => false,
+    }
+}
+
 #[test]
 fn without_a_subcommand_it_is_the_debugger(rt: HostRuntime) {
     let alloc = rt.alloc();
@@ -110,7 +117,7 @@ fn help_has_an_example(rt: HostRuntime) {
             &rt,
             alloc,
             &["cbpf", "asm", "--help"],
-            "cbpf asm -c arp.asm"
+            "cbpf asm -c filter.asm > filter.h"
         )
     );
     assert!(rt;
@@ -121,7 +128,82 @@ fn help_has_an_example(rt: HostRuntime) {
             "cbpf dbg session.dbg"
         )
     );
-    assert!(rt; help_has(&rt, alloc, &["cbpf", "help", "asm"], "cbpf asm -c arp.asm"));
+    assert!(rt;
+        help_has(
+            &rt,
+            alloc,
+            &["cbpf", "help", "asm"],
+            "cbpf asm -c filter.asm > filter.h"
+        )
+    );
+}
+
+#[test]
+fn the_debugger_s_help_has_every_command(rt: HostRuntime) {
+    let alloc = rt.alloc();
+    let commands = [
+        "\n  load bpf WORDS ",
+        "\n  load pcap FILE ",
+        "\n  disassemble ",
+        "\n  dump ",
+        "\n  breakpoint N ",
+        "\n  breakpoint N a V ",
+        "\n  breakpoint N x V ",
+        "\n  breakpoint  ",
+        "\n  breakpoint reset ",
+        "\n  delete N ",
+        "\n  run [N] ",
+        "\n  step [N] ",
+        "\n  step -N ",
+        "\n  select N ",
+        "\n  mark ",
+        "\n  resume PACKET STEP ",
+        "\n  stops ",
+        "\n  value EXT N ",
+        "\n  quit ",
+    ];
+    for command in &commands {
+        assert!(rt; help_has(&rt, alloc, &["cbpf", "dbg", "--help"], *command));
+    }
+}
+
+#[test]
+fn help_says_what_runs_without_a_command(rt: HostRuntime) {
+    let alloc = rt.alloc();
+    assert!(rt;
+        help_has(
+            &rt,
+            alloc,
+            &["cbpf", "--help"],
+            "Without a command, cbpf runs the debugger"
+        )
+    );
+    assert!(rt;
+        help_has(
+            &rt,
+            alloc,
+            &["cbpf", "help"],
+            "\n  2  the command line was refused"
+        )
+    );
+}
+
+#[test]
+fn the_version_comes_with_the_name(rt: HostRuntime) {
+    let alloc = rt.alloc();
+    assert!(rt; is_version(&rt, alloc, &["cbpf", "--version"]));
+    assert!(rt; is_version(&rt, alloc, &["cbpf", "-V"]));
+    assert!(rt; is_version(&rt, alloc, &["another name", "-V"]));
+    assert!(rt; is_refused(&rt, alloc, &["cbpf", "asm", "--version"]));
+    assert!(rt; is_refused(&rt, alloc, &["cbpf", "dbg", "-V"]));
+    assert!(rt; is_refused(&rt, alloc, &["cbpf", "version"]));
+    check_asm(
+        &rt,
+        alloc,
+        &["cbpf", "asm", "--", "--version"],
+        Form::Decimal,
+        Some("--version"),
+    );
 }
 
 #[test]
