@@ -57,7 +57,7 @@ fn assemble<R: Input + Print + Files + AllocGlobal>(
     }
 }
 
-/// Carries out what a reader gives, and writes the replies.
+/// Runs the commands that a reader gives, and writes the replies.
 fn debug_into<R: Files + AllocGlobal, I: Read, O: Write + Drop>(
     rt: &R,
     reader: &mut I,
@@ -97,7 +97,7 @@ fn debug_commands<R: Input + Print + Files + AllocGlobal>(
     }
 }
 
-fn carry_out<R: Input + Print + Files + AllocGlobal>(rt: &R, job: Job) -> Result<(), Failure> {
+fn run_job<R: Input + Print + Files + AllocGlobal>(rt: &R, job: Job) -> Result<(), Failure> {
     match job {
         Job::Asm { form, file } => assemble(rt, form, file),
         Job::Dbg { input, output } => debug_commands(rt, input, output),
@@ -113,26 +113,32 @@ fn words<R: Env + AllocGlobal>(rt: &R) -> io::Result<Vec<String>> {
     Ok(words)
 }
 
-fn told<R: Eprint>(rt: &R, failure: &Failure) -> ExitCode {
+fn report<R: Eprint>(rt: &R, failure: &Failure) -> ExitCode {
     let _ = eprintln!(rt; "cbpf: {failure}");
     ExitCode::FAILURE
 }
 
+/// Prints help or the version. A reader that closes its pipe has seen all that it wants of such a text.
+fn explain<R: Print + Eprint>(rt: &R, text: &str) -> ExitCode {
+    match print!(rt; "{text}") {
+        Ok(()) => ExitCode::SUCCESS,
+        Err(e) if e.kind() == ErrorKind::BrokenPipe => ExitCode::SUCCESS,
+        Err(_) => report(rt, &Failure::Tool(ToolFault::Write)),
+    }
+}
+
 fn run<R: Input + Print + Eprint + Files + AllocGlobal>(rt: &R, words: Vec<String>) -> ExitCode {
     match command_line(rt.alloc(), words) {
-        Ok(job) => match carry_out(rt, job) {
+        Ok(job) => match run_job(rt, job) {
             Ok(()) => ExitCode::SUCCESS,
-            Err(failure) => told(rt, &failure),
+            Err(failure) => report(rt, &failure),
         },
-        Err(LineFault::Help(text)) => match print!(rt; "{text}") {
-            Ok(()) => ExitCode::SUCCESS,
-            Err(_) => told(rt, &Failure::Tool(ToolFault::Write)),
-        },
+        Err(LineFault::Help(text)) => explain(rt, text.as_str()),
         Err(LineFault::Refused(text)) => {
             let _ = eprint!(rt; "{text}");
             ExitCode::from(2)
         }
-        Err(LineFault::Memory) => told(rt, &Failure::Tool(ToolFault::Memory)),
+        Err(LineFault::Memory) => report(rt, &Failure::Tool(ToolFault::Memory)),
     }
 }
 
@@ -140,7 +146,7 @@ fn main(rt: HostRuntime) -> ExitCode {
     match words(&rt) {
         Ok(words) => run(&rt, words),
         Err(e) if e.kind() == ErrorKind::OutOfMemory => {
-            told(&rt, &Failure::Tool(ToolFault::Memory))
+            report(&rt, &Failure::Tool(ToolFault::Memory))
         }
         Err(_) => {
             let _ = eprintln!(rt; "cbpf: an argument is not UTF-8");
