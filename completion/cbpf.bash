@@ -1,0 +1,42 @@
+# Completion of the command line of cbpf(1) for bash.
+
+_cbpf_names() {
+    compopt -o filenames 2> /dev/null
+    mapfile -t COMPREPLY < <(compgen -f -- "$1")
+}
+
+_cbpf_words() {
+    mapfile -t COMPREPLY < <(compgen -W "$2" -- "$1")
+}
+
+_cbpf() {
+    local word=${COMP_WORDS[COMP_CWORD]} options most=0 names=0 ended='' at
+    COMPREPLY=()
+    if ((COMP_CWORD == 1)); then
+        _cbpf_words "$word" 'asm dbg help --help --version'
+        return
+    fi
+    case ${COMP_WORDS[1]} in
+        asm) options='-c --help' most=1 ;;
+        dbg) options='--help' most=2 ;;
+        help)
+            ((COMP_CWORD == 2)) && _cbpf_words "$word" 'asm dbg help'
+            return
+            ;;
+        *) return ;;
+    esac
+    for ((at = 2; at < COMP_CWORD; at++)); do
+        case $ended${COMP_WORDS[at]} in
+            --) ended=yes ;;
+            -?*) ;;
+            *) ((names += 1)) ;;
+        esac
+    done
+    if [[ -z $ended && $word == -* ]]; then
+        _cbpf_words "$word" "$options"
+    elif ((names < most)); then
+        _cbpf_names "$word"
+    fi
+}
+
+complete -F _cbpf cbpf
