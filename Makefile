@@ -1,30 +1,53 @@
-# Each target needs the Rattle toolchain's command `rt` on the PATH, and python3 for `check`.
+# `build`, `demo`, `try` and `check` need the Rattle toolchain's command `rt` on the PATH; these and `test` need python3.
 
 PREFIX ?= /usr/local
+DESTDIR ?=
 PROGRAM = crates/cbpf/out/cbpf
 
-.PHONY: help build demo check install clean
+root = $(DESTDIR)$(PREFIX)
+
+.PHONY: help build built demo try test check install uninstall clean
 
 help: ## Lists the targets.
-	@grep -E '^[a-z]+:.*##' Makefile | sed -E 's/:.*## /\t/'
+	@grep -E '^[a-z]+:.*##' Makefile | sed -E 's/:.*## /\t/' | expand -t 12
 
-build: ## Proves and builds the program; from nothing some ten minutes on two cores, later two.
-	cd crates/cbpf && rt run < /dev/null > /dev/null
+build: ## Proves and builds the program; from nothing some ten minutes on four processors, later less.
+	@python3 tools/build.py
 
-demo: build ## Builds the proved program, assembles an example, and debugs a filter of tcpdump over a capture.
-	@echo '== cbpf asm examples/arp.asm'
-	@$(PROGRAM) asm examples/arp.asm
-	@echo '== examples/port22.dbg'
-	@cat examples/port22.dbg
-	@echo '== its replies'
-	@cd examples && ../$(PROGRAM) dbg port22.dbg
+demo: ## Proves and builds the program, assembles an example, and debugs a filter of tcpdump over a capture.
+	@python3 tools/build.py
+	@python3 tools/demo.py "$(PROGRAM)"
 
-check: ## The gate: proves all crates and their tests from nothing, tries the must-fail edits, runs all tests; over an hour on four cores, twice that on two.
+try: ## Runs the demonstration on a program that is built with no proof, in about a minute; keeps no program.
+	@python3 tools/try.py
+
+test: built ## Runs the end-to-end cases and the examples of the documents on the program that is built.
+	python3 tests/run.py "$(PROGRAM)"
+	python3 tests/documents.py "$(PROGRAM)"
+
+check: ## The gate: proves all crates and their tests from nothing, tries the must-fail edits, runs all tests; over an hour on four processors, twice that on two.
 	rt ci
-	python3 tests/run.py $(PROGRAM)
+	python3 tests/run.py "$(PROGRAM)"
+	python3 tests/documents.py "$(PROGRAM)"
 
-install: build ## Puts the program into PREFIX/bin.
-	install -D -m 755 $(PROGRAM) $(DESTDIR)$(PREFIX)/bin/cbpf
+built:
+	@test -x "$(PROGRAM)" || { echo 'There is no $(PROGRAM): `make build` proves and builds it.' >&2; exit 1; }
+
+install: built ## Puts the program that is built, its manual page, completion and words into PREFIX (/usr/local).
+	install -D -m 755 "$(PROGRAM)" "$(root)/bin/cbpf"
+	install -D -m 644 man/cbpf.1 "$(root)/share/man/man1/cbpf.1"
+	install -D -m 644 completion/cbpf.bash "$(root)/share/bash-completion/completions/cbpf"
+	install -D -m 644 completion/cbpf.words "$(root)/share/cbpf/cbpf.words"
+
+# Folders that others may use stay; only below DESTDIR those that are empty go too.
+uninstall: ## Takes out of PREFIX what `install` put there.
+	rm -f "$(root)/bin/cbpf" "$(root)/share/man/man1/cbpf.1"
+	rm -f "$(root)/share/bash-completion/completions/cbpf" "$(root)/share/cbpf/cbpf.words"
+	@if test -d "$(root)/share/cbpf"; then rmdir --ignore-fail-on-non-empty "$(root)/share/cbpf"; fi
+	@if test -n "$(DESTDIR)"; then for folder in bin share/man/man1 share/bash-completion/completions share; do \
+		if test -d "$(root)/$$folder"; then \
+			(cd "$(DESTDIR)" && rmdir -p --ignore-fail-on-non-empty "$(PREFIX:/%=%)/$$folder"); \
+		fi; done; fi
 
 clean: ## Removes what was built and what the checks kept.
 	rm -rf crates/*/out

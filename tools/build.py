@@ -1,0 +1,62 @@
+#!/usr/bin/env python3
+"""Proves and builds the program by `rt run`, and says which crate is at work."""
+
+import re
+import shutil
+import subprocess
+import sys
+import time
+from pathlib import Path
+
+ROOT = Path(__file__).resolve().parent.parent
+PROGRAM = "cbpf"
+FIRST = "This proves the program and builds it: from nothing some ten minutes on four processors."
+
+
+def order(libraries, name, done):
+    """The crates that `name` stands on, and `name` after them, as rt takes them."""
+    for library in libraries[name]:
+        if library in libraries and library not in done:
+            order(libraries, library, done)
+    done.append(name)
+    return done
+
+
+def main():
+    if not shutil.which("rt"):
+        sys.exit("The command rt of the Rattle toolchain is not on the PATH.")
+    lines = (ROOT / "crates.txt").read_text().splitlines()
+    rows = [line.split(":") for line in lines if re.match(r"\w", line)]
+    libraries = {head.split()[0]: tail.split() for head, tail in rows}
+    crates = order(libraries, PROGRAM, [])
+    if not (ROOT / "crates" / PROGRAM / "out" / PROGRAM).exists():
+        print(FIRST, flush=True)
+    began = time.time()
+    said = []
+    with subprocess.Popen(
+        ["rt", "run"],
+        cwd=ROOT / "crates" / PROGRAM,
+        stdin=subprocess.DEVNULL,
+        stdout=subprocess.PIPE,
+        stderr=subprocess.STDOUT,
+        text=True,
+    ) as rt:
+        for line in rt.stdout:
+            said.append(line)
+            at_work = re.match(r"rt: chose --jobs \d+ for (\w+)$", line)
+            if at_work and at_work[1] in crates:
+                place = crates.index(at_work[1]) + 1
+                minutes, seconds = divmod(int(time.time() - began), 60)
+                print(
+                    f"proving {at_work[1]}, crate {place} of {len(crates)}"
+                    f" ({minutes}:{seconds:02} so far)",
+                    flush=True,
+                )
+    if rt.returncode:
+        sys.stderr.writelines(said[-60:])
+        sys.exit(1)
+    print(f"proved: {len(crates)} crates; the program is crates/{PROGRAM}/out/{PROGRAM}")
+
+
+if __name__ == "__main__":
+    main()
