@@ -1,0 +1,172 @@
+#!/usr/bin/env python3
+"""Runs the examples of the documents over a built program, and checks the documents' links.
+
+usage: documents.py PROGRAM [DOCUMENT..]
+
+The documents are README.md, docs/*.md and man/cbpf.1, where it is there. In Markdown an example stands between
+```console and ```, in the page between .Bd -literal and .Ed. A line that begins with `$ ` is a command, which `sh` runs
+in a copy of examples/, one for each document, with PROGRAM as `cbpf` on the PATH. The lines after it are what it prints,
+on standard output and standard error. Where the command takes the keyboard (`cbpf`, `cbpf dbg` or `.. cat) | cbpf`), they
+are a session: each line that is no reply is typed, and a block without a command goes on with it. A line `..` stands
+for any lines. A command whose tool is missing isn't run, and neither is its session.
+Each relative link of the Markdown documents names a file that is there, and the arrows of docs/ARCHITECTURE.md lead
+from each crate to those below it by crates.txt, directly or not.
+The last line is `N passed, M failed`, and how many weren't run where there are such.
+"""
+
+import os
+import re
+import shutil
+import subprocess
+import sys
+import tempfile
+from pathlib import Path
+
+TOP = Path(__file__).resolve().parent.parent
+TOOLS = "tcpdump rlwrap gzip grep head tail yes tr seq"
+SECONDS = 60
+SESSION = re.compile(r"(rlwrap .*)?cbpf( dbg)?|.*\bcat\) \| (rlwrap .*)?cbpf( dbg)?")
+PAGE_ESCAPES = ((r"\-", "-"), (r"\(aq", "'"), (r"\(dq", '"'), (r"\(ti", "~"), (r"\(ha", "^"), (r"\&", ""), (r"\e", "\\"))
+
+
+def blocks(path):
+    """The blocks of a document that have examples, each as its first line's number and its lines."""
+    page = path.suffix != ".md"
+    begin, end = (r"\.Bd -literal.*", ".Ed") if page else ("```console", "```")
+    found, block = [], None
+    for number, line in enumerate(path.read_text().splitlines(), 1):
+        if block is None:
+            block = (number + 1, []) if re.fullmatch(begin, line) else None
+        elif line == end:
+            if not page or any(text.startswith("$ ") for text in block[1]):
+                found.append(block)
+            block = None
+        else:
+            for escape, text in PAGE_ESCAPES if page else ():
+                line = line.replace(escape, text)
+            block[1].append(line)
+    return found
+
+
+def examples(path):
+    """The examples of a document: line number, command, and the lines after it."""
+    found = []
+    for start, lines in blocks(path):
+        for number, line in enumerate(lines, start):
+            if line.startswith("$ "):
+                found.append((number, line[2:], []))
+            elif found:
+                found[-1][2].append(line)
+    return found
+
+
+def fits(got, wanted):
+    """Whether lines are the wanted ones, of which `..` stands for any."""
+    if not wanted:
+        return not got
+    if wanted[0] == "..":
+        return any(fits(got[n:], wanted[1:]) for n in range(len(got), -1, -1))
+    return bool(got) and got[0] == wanted[0] and fits(got[1:], wanted[1:])
+
+
+def output(command, typed, folder, program):
+    done = subprocess.run(
+        ["sh", "-c", command],
+        input="".join(line + "\n" for line in typed).encode(),
+        stdout=subprocess.PIPE,
+        stderr=subprocess.STDOUT,
+        cwd=folder,
+        env={**os.environ, "PATH": f"{program}:{os.environ['PATH']}"},
+        timeout=SECONDS,
+    )
+    return done.stdout.decode(errors="replace").splitlines()
+
+
+def session_difference(command, lines, folder, program):
+    """What differs in a session: after each typed line, the longest piece that its reply fits is its reply."""
+    typed, before, place = [], 0, 0
+    while True:
+        reply = output(command, typed, folder, program)[before:]
+        before += len(reply)
+        ends = [end for end in range(len(lines), place - 1, -1) if fits(reply, lines[place:end])]
+        if not ends or (typed and not reply and typed[-1] != "quit"):
+            return f"after {typed[-1:]} wanted {lines[place:place + len(reply)]}, got {reply}"
+        if ends[0] == len(lines):
+            return None
+        typed.append(lines[ends[0]])
+        place = ends[0] + 1
+
+
+def difference(command, lines, folder, program):
+    if SESSION.fullmatch(command):
+        return session_difference(command, lines, folder, program)
+    got = output(command, [], folder, program)
+    return None if fits(got, lines) else f"wanted {lines}, got {got}"
+
+
+def missing_tool(command):
+    words = re.findall(r"\w+", command)
+    return next((tool for tool in TOOLS.split() if tool in words and not shutil.which(tool)), None)
+
+
+def broken_links(path):
+    targets = re.findall(r"\]\(([^)\s]+)\)", path.read_text())
+    names = [target.split("#")[0] for target in targets if "://" not in target]
+    return [name for name in names if name and not (path.parent / name).exists()]
+
+
+def below(arrows):
+    """All pairs of a crate and one below it."""
+    found = set(arrows)
+    while more := {(a, d) for a, b in found for c, d in arrows if b == c} - found:
+        found |= more
+    return found
+
+
+def crates_differ(path):
+    """The pairs that the picture and the list of crates don't share."""
+    rows = (TOP / "crates.txt").read_text().split("# Tests")[0].splitlines()
+    uses = [row.split(":") for row in rows if ":" in row]
+    own = [crate for crate, _ in uses]
+    listed = {(crate, used) for crate, words in uses for used in words.split() if used in own}
+    drawn = set(re.findall(r"^ *(\w+) --> (\w+)$", path.read_text(), re.M))
+    return sorted(below(listed) ^ below(drawn))
+
+
+def main():
+    if len(sys.argv) < 2:
+        sys.exit(__doc__)
+    names = [Path(name).resolve() for name in sys.argv[2:]]
+    documents = names or [TOP / "README.md", *sorted((TOP / "docs").glob("*.md")), TOP / "man/cbpf.1"]
+    passed = failed = not_run = 0
+    for path in filter(Path.exists, documents):
+        faults = [f"no file {name}" for name in broken_links(path)] if path.suffix == ".md" else []
+        if path.name == "ARCHITECTURE.md":
+            faults += [f"{a} over {b}: not the same in crates.txt" for a, b in crates_differ(path)]
+        with tempfile.TemporaryDirectory() as folder:
+            program = Path(folder) / "bin"
+            program.mkdir()
+            (program / "cbpf").symlink_to(Path(sys.argv[1]).resolve())
+            copy = shutil.copytree(TOP / "examples", Path(folder) / "examples")
+            for number, command, lines in examples(path):
+                if tool := missing_tool(command):
+                    not_run += 1
+                    print(f"not run {path.name}:{number}: no {tool}")
+                    continue
+                try:
+                    fault = difference(command, lines, copy, program)
+                except subprocess.TimeoutExpired:
+                    fault = f"no end within {SECONDS} seconds"
+                if fault:
+                    faults.append(f"line {number}: {command}\n    {fault}")
+                else:
+                    passed += 1
+        failed += len(faults)
+        for fault in faults:
+            print(f"failed {path.name}: {fault}")
+    print(f"{passed} passed, {failed} failed" + (f", {not_run} not run" if not_run else ""))
+    sys.exit(1 if failed or not passed else 0)
+
+
+if __name__ == "__main__":
+    main()
