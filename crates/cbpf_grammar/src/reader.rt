@@ -269,14 +269,12 @@ impl<'a, A: Allocator> Reader<'a, A> {
         }
     }
 
-    /// Reads the text to its end.
-    pub fn finish(&mut self) -> Result<(), LexFault>
-        ensures lexed { OnOk result ((n : ℕ) → IsReading n self.old → (ts : List lexemes.Lexeme) × AreLexemes self.old.text ts) }
-        ensures fault { IfErr result (λ fault. (n : ℕ) → IsReading n self.old → IsLexFault self.old.text fault) }
+    /// Reads the text to its end, from where its tokens were read, and keeps nothing of it.
+    pub fn finish(&self) -> Result<(), LexFault>
+        ensures lexed { OnOk result ((n : ℕ) → IsReading n self.now → (ts : List lexemes.Lexeme) × AreLexemes self.now.text ts) }
+        ensures fault { IfErr result (λ fault. (n : ℕ) → IsReading n self.now → IsLexFault self.now.text fault) }
     {
-        match read_on(&mut self.lexer) {
-            Ok(()) => Ok(()),
-            Err(fault) => Err(fault),
-        }
+        let mut rest = self.lexer.copied();
+        read_on(&mut rest)
     }
 }
