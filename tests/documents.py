@@ -3,9 +3,9 @@
 
 usage: documents.py PROGRAM [DOCUMENT..]
 
-The documents are README.md, docs/*.md and man/cbpf.1, where it is there. In Markdown an example stands between
+The documents are README.md, docs/*.md and man/cbpf.1; README.md, docs/REFERENCE.md and the page have examples. In Markdown an example stands between
 ```console and ```, in the page between .Bd -literal and .Ed. A line that begins with `$ ` is a command, which `sh` runs
-in a copy of examples/, one for each document, with PROGRAM as `cbpf` on the PATH. The lines after it are what it prints,
+in a copy of examples/, with completion/ beside it, one for each document, with PROGRAM as `cbpf` on the PATH. The lines after it are what it prints,
 on standard output and standard error. Where the command takes the keyboard (`cbpf`, `cbpf dbg` or `.. cat) | cbpf`), they
 are a session: each line that is no reply is typed, and a block without a command goes on with it. A line `..` stands
 for any lines. A command whose tool is missing isn't run, and neither is its session.
@@ -24,6 +24,7 @@ from pathlib import Path
 
 TOP = Path(__file__).resolve().parent.parent
 TOOLS = "tcpdump rlwrap gzip grep head tail yes tr seq"
+REQUIRED = [TOP / "README.md", TOP / "docs/REFERENCE.md", TOP / "man/cbpf.1"]
 SECONDS = 60
 SESSION = re.compile(r"(rlwrap .*)?cbpf( dbg)?|.*\bcat\) \| (rlwrap .*)?cbpf( dbg)?")
 PAGE_ESCAPES = ((r"\-", "-"), (r"\(aq", "'"), (r"\(dq", '"'), (r"\(ti", "~"), (r"\(ha", "^"), (r"\&", ""), (r"\e", "\\"))
@@ -137,9 +138,9 @@ def main():
     if len(sys.argv) < 2:
         sys.exit(__doc__)
     names = [Path(name).resolve() for name in sys.argv[2:]]
-    documents = names or [TOP / "README.md", *sorted((TOP / "docs").glob("*.md")), TOP / "man/cbpf.1"]
+    documents = names or [*REQUIRED, *sorted(set((TOP / "docs").glob("*.md")) - set(REQUIRED))]
     passed = failed = not_run = 0
-    for path in filter(Path.exists, documents):
+    for path in documents:
         faults = [f"no file {name}" for name in broken_links(path)] if path.suffix == ".md" else []
         if path.name == "ARCHITECTURE.md":
             faults += [f"{a} over {b}: not the same in crates.txt" for a, b in crates_differ(path)]
@@ -148,7 +149,11 @@ def main():
             program.mkdir()
             (program / "cbpf").symlink_to(Path(sys.argv[1]).resolve())
             copy = shutil.copytree(TOP / "examples", Path(folder) / "examples")
-            for number, command, lines in examples(path):
+            shutil.copytree(TOP / "completion", Path(folder) / "completion")
+            found = examples(path)
+            if path in REQUIRED and not found:
+                faults.append("no example")
+            for number, command, lines in found:
                 if tool := missing_tool(command):
                     not_run += 1
                     print(f"not run {path.name}:{number}: no {tool}")

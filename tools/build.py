@@ -11,6 +11,7 @@ from pathlib import Path
 ROOT = Path(__file__).resolve().parent.parent
 PROGRAM = "cbpf"
 FIRST = "This proves the program and builds it: from nothing some ten minutes on four processors."
+AGAIN = "This proves what has changed since the last build, and builds the program: some minutes at most."
 
 
 def order(libraries, name, done):
@@ -29,8 +30,8 @@ def main():
     rows = [line.split(":") for line in lines if re.match(r"\w", line)]
     libraries = {head.split()[0]: tail.split() for head, tail in rows}
     crates = order(libraries, PROGRAM, [])
-    if not (ROOT / "crates" / PROGRAM / "out" / PROGRAM).exists():
-        print(FIRST, flush=True)
+    built = (ROOT / "crates" / PROGRAM / "out" / PROGRAM).exists()
+    print(AGAIN if built else FIRST, flush=True)
     began = time.time()
     said = []
     with subprocess.Popen(

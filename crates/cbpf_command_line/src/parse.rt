@@ -25,7 +25,7 @@ Examples:
     $ cbpf dbg session.dbg
   Count the packets of a capture that a filter passes:
     $ (printf 'load bpf '; cbpf asm filter.asm
-       printf 'load pcap trace.pcap\\nrun\\n') | cbpf
+       printf '\\nload pcap trace.pcap\\nrun\\n') | cbpf
   The same for a filter of tcpdump, compiled for the capture's link type:
     $ (printf 'load bpf '; tcpdump -r trace.pcap -ddd arp | tr '\\n' ','
        printf '\\nload pcap trace.pcap\\nrun\\n') | cbpf

@@ -201,9 +201,11 @@ fn long_text(alloc: Global) -> Result<Vec<u8>, AllocError> {
             set.get(first..last).unwrap_or(b""),
             b"ret #0x1\n\
 error: S4 no such instruction\n\
+at 3000 0\n\
 3000 1 l0 A 0 X 0 (breakpoint)\n\
 3000 2 l4095 A 0 X 0 (breakpoint)\n\
 stops: 2\n\
+at 1 0\n\
 breakpoints:\n\
 bpf passes:3000 fails:0\n",
         ],
