@@ -11,4 +11,4 @@ returns-clause-lexed g c =
 
 pub returns-clause-fault : goal.returns-clause-fault
 returns-clause-fault g c =
-    rw (← c.self.view_is) (IfErr-weaker c.read_on.result _ _ (λ fault told n r. (rw c.self.invariant.1 at told) r.read.tokens r.read.lexed) (rw c.copied-rest.ensures at c.read_on.ensures.fault))
+    rw (← c.self.view_is) (IfErr-weaker c.read_on.result _ _ (λ fault bad n r. (rw c.self.invariant.1 at bad) r.read.tokens r.read.lexed) (rw c.copied-rest.ensures at c.read_on.ensures.fault))
