@@ -1,5 +1,6 @@
 pub mod Lists
 pub mod Operands
+pub mod Targets
 pub mod LabelLists
 pub mod LabelSteps
 pub mod Lookups

@@ -1,6 +1,6 @@
 -- An operand's tokens one by one: its literal, its labels.
-use Rattle.std.proofs.Common.{◌≡◌, refl, sym, ◌∙◌, ap, cond, ℕ, zero, suc, ◌+◌, ◌-◌, ◌<◌, ◌≤◌, Bool, true, false, List, [], ◌∷◌, ◌++◌, length, map, drop, get_or, Option, Some, None, arith}
-use Rattle.std.specs.Prelude.{slice_get, bytes_eq}
+use Rattle.std.proofs.Common.{◌≡◌, refl, sym, ◌∙◌, ap, cond, ℕ, zero, suc, ◌+◌, ◌-◌, ◌<◌, ◌≤◌, ◌⊎◌, inl, inr, min, Bool, true, false, List, [], ◌∷◌, ◌++◌, length, map, drop, get_or, Option, Some, None, arith}
+use Rattle.std.specs.Prelude.{bytes_eq}
 use Rattle.std.proofs.Math.Numerals.{add-one}
 use Rattle.std.proofs.lemmas.Slice.Eq.{bytes_eq-Decides}
 use Rattle.cbpf_code.specs.declared.extension.Ext.{Ext}
@@ -11,7 +11,7 @@ use Rattle.cbpf_grammar.specs.declared.lexeme.Lexeme as declared_lexeme
 use Rattle.cbpf_grammar.specs.declared.lexeme.Symbol.TheVariants as symbols
 use Rattle.cbpf_grammar.specs.Classes.{Class}
 use Rattle.cbpf_grammar.specs.Classes.Class.{the_word}
-use Rattle.cbpf_grammar.specs.Lexemes.{Lexeme}
+use Rattle.cbpf_grammar.specs.Lexemes.{Symbol, Lexeme}
 use Rattle.cbpf_grammar.specs.Items.{names_at, when_name}
 use Rattle.cbpf_grammar.specs.Views.{class_of, symbol_of, lexeme_of}
 use Rattle.cbpf_text.specs.Operands.{value_at, first_of, literal_of, place_named}
@@ -74,10 +74,6 @@ pub other_step : (os : List declared_class.Class) (bs : List declared_lexeme.Lex
     → names_at (drop i (map class_of os)) (drop j (map lexeme_of bs)) ≡ names_at (drop (i + 1) (map class_of os)) (drop (j + 1) (map lexeme_of bs))
 other_step os bs i j c t l m h = names_step os bs i j c t l m ∙ ap (λ ns. ns ++ names_at (drop (i + 1) (map class_of os)) (drop (j + 1) (map lexeme_of bs))) (no_name (get_or os i c) (lexeme_of (get_or bs j t)) h)
 
-pub get_behind : {A : Type 0} (x : A) (xs : List A) (n : ℕ) → 0 < n → slice_get (x ∷ xs) n ≡ slice_get xs (n - 1)
-get_behind x xs zero l = absurd (omega arith)
-get_behind x xs (suc n) l = let e : n ≡ suc n - 1 = omega arith in ap (slice_get xs) e
-
 no_more_names : (cs : List Class) → names_at cs [] ≡ []
 no_more_names [] = refl
 no_more_names (c ∷ cs) = refl
@@ -96,25 +92,64 @@ not_named (e ∷ es) w h = by_test (bytes_eq w (ext_name e.1)) refl (not_named e
     by_test true p q = absurd (h e.1 ((bytes_eq-Decides w (ext_name e.1)).0 p))
     by_test false p q = q
 
-pub literal_found : (os : List declared_class.Class) (bs : List declared_lexeme.Lexeme) (i j : ℕ) (c : declared_class.Class) (t : declared_lexeme.Lexeme) → i < length os → j < length bs
-    → (r : Option ℕ) (v : ℕ) → r ≡ value_at (class_of (get_or os i c)) (symbol_of (get_or bs j t).symbol) → r ≡ Some v → literal_of (drop i (map class_of os)) (drop j (map lexeme_of bs)) ≡ v
-literal_found os bs i j c t l m r v e f = literal_step os bs i j c t l m ∙ ap (λ o. first_of o (literal_of (drop (i + 1) (map class_of os)) (drop (j + 1) (map lexeme_of bs)))) (sym e ∙ f)
-
-pub literal_passed : (os : List declared_class.Class) (bs : List declared_lexeme.Lexeme) (i j : ℕ) (c : declared_class.Class) (t : declared_lexeme.Lexeme) → i < length os → j < length bs
-    → (r : Option ℕ) → r ≡ value_at (class_of (get_or os i c)) (symbol_of (get_or bs j t).symbol) → r ≡ None → literal_of (drop i (map class_of os)) (drop j (map lexeme_of bs)) ≡ literal_of (drop (i + 1) (map class_of os)) (drop (j + 1) (map lexeme_of bs))
-literal_passed os bs i j c t l m r e f = literal_step os bs i j c t l m ∙ ap (λ o. first_of o (literal_of (drop (i + 1) (map class_of os)) (drop (j + 1) (map lexeme_of bs)))) (sym e ∙ f)
-
-pub name_found : (os : List declared_class.Class) (bs : List declared_lexeme.Lexeme) (i j : ℕ) (c : declared_class.Class) (t : declared_lexeme.Lexeme) → i < length os → j < length bs → get_or os i c ≡ variants.Name
-    → (left : ℕ) → left ≡ 0 → slice_get (names_at (drop i (map class_of os)) (drop j (map lexeme_of bs))) left ≡ Some (lexeme_of (get_or bs j t))
-name_found os bs i j c t l m e left z = ap (λ ns. slice_get ns left) (name_step os bs i j c t l m e) ∙ ap (λ n. slice_get (lexeme_of (get_or bs j t) ∷ names_at (drop (i + 1) (map class_of os)) (drop (j + 1) (map lexeme_of bs))) n) z
-
 some_lexeme : declared_lexeme.Lexeme
 some_lexeme = record { symbol = symbols.Mark 0; at = 0 }
 
-pub name_passed : (os : List declared_class.Class) (bs : List declared_lexeme.Lexeme) (i j : ℕ) (c : declared_class.Class) → i < length os → j < length bs → get_or os i c ≡ variants.Name
-    → (left : ℕ) → 0 < left → slice_get (names_at (drop i (map class_of os)) (drop j (map lexeme_of bs))) left ≡ slice_get (names_at (drop (i + 1) (map class_of os)) (drop (j + 1) (map lexeme_of bs))) (left - 1)
-name_passed os bs i j c l m e left z = ap (λ ns. slice_get ns left) (name_step os bs i j c some_lexeme l m e) ∙ get_behind (lexeme_of (get_or bs j some_lexeme)) (names_at (drop (i + 1) (map class_of os)) (drop (j + 1) (map lexeme_of bs))) left z
+-- an operand from its end: what a token gives, before what those after it gave
+pub literal_put : (os : List declared_class.Class) (bs : List declared_lexeme.Lexeme) (i : ℕ) (c : declared_class.Class) (t : declared_lexeme.Lexeme) → 0 < i → i ≤ length os → i ≤ length bs - 1
+    → (r : Option ℕ) → r ≡ value_at (class_of (get_or os (i - 1) c)) (symbol_of (get_or bs i t).symbol)
+    → literal_of (drop (i - 1) (map class_of os)) (drop (i - 1 + 1) (map lexeme_of bs)) ≡ first_of r (literal_of (drop i (map class_of os)) (drop (i + 1) (map lexeme_of bs)))
+literal_put os bs i c t p l m r v =
+    let e : i - 1 + 1 ≡ i = omega (arith, p) in
+    ap (λ k. literal_of (drop (i - 1) (map class_of os)) (drop k (map lexeme_of bs))) e
+    ∙ (literal_step os bs (i - 1) i c t (omega (arith, p, l)) (omega (arith, p, m))
+    ∙ (ap (λ o. first_of o (literal_of (drop (i - 1 + 1) (map class_of os)) (drop (i + 1) (map lexeme_of bs)))) (sym v)
+    ∙ ap (λ k. first_of r (literal_of (drop k (map class_of os)) (drop (i + 1) (map lexeme_of bs)))) e))
 
-pub other_passed : (os : List declared_class.Class) (bs : List declared_lexeme.Lexeme) (i j : ℕ) (c : declared_class.Class) → i < length os → j < length bs → (get_or os i c ≡ variants.Name → ⊥)
-    → (left : ℕ) → slice_get (names_at (drop i (map class_of os)) (drop j (map lexeme_of bs))) left ≡ slice_get (names_at (drop (i + 1) (map class_of os)) (drop (j + 1) (map lexeme_of bs))) left
-other_passed os bs i j c l m h left = ap (λ ns. slice_get ns left) (other_step os bs i j c some_lexeme l m h)
+name_value : (c : declared_class.Class) (s : Symbol) → c ≡ variants.Name → None ≡ value_at (class_of c) s
+name_value c s e = sym (ap (λ d. value_at (class_of d) s) e)
+
+pub literal_at_name : (os : List declared_class.Class) (bs : List declared_lexeme.Lexeme) (i : ℕ) (c : declared_class.Class) → 0 < i → i ≤ length os → i ≤ length bs - 1 → get_or os (i - 1) c ≡ variants.Name
+    → literal_of (drop (i - 1) (map class_of os)) (drop (i - 1 + 1) (map lexeme_of bs)) ≡ literal_of (drop i (map class_of os)) (drop (i + 1) (map lexeme_of bs))
+literal_at_name os bs i c p l m n = literal_put os bs i c some_lexeme p l m None (name_value (get_or os (i - 1) c) (symbol_of (get_or bs i some_lexeme).symbol) n)
+
+pub name_put : (os : List declared_class.Class) (bs : List declared_lexeme.Lexeme) (i : ℕ) (c : declared_class.Class) (t : declared_lexeme.Lexeme) → 0 < i → i ≤ length os → i ≤ length bs - 1 → get_or os (i - 1) c ≡ variants.Name
+    → names_at (drop (i - 1) (map class_of os)) (drop (i - 1 + 1) (map lexeme_of bs)) ≡ lexeme_of (get_or bs i t) ∷ names_at (drop i (map class_of os)) (drop (i + 1) (map lexeme_of bs))
+name_put os bs i c t p l m n =
+    let e : i - 1 + 1 ≡ i = omega (arith, p) in
+    ap (λ k. names_at (drop (i - 1) (map class_of os)) (drop k (map lexeme_of bs))) e
+    ∙ (name_step os bs (i - 1) i c t (omega (arith, p, l)) (omega (arith, p, m)) n
+    ∙ ap (λ k. lexeme_of (get_or bs i t) ∷ names_at (drop k (map class_of os)) (drop (i + 1) (map lexeme_of bs))) e)
+
+pub other_put : (os : List declared_class.Class) (bs : List declared_lexeme.Lexeme) (i : ℕ) (c : declared_class.Class) → 0 < i → i ≤ length os → i ≤ length bs - 1 → (get_or os (i - 1) c ≡ variants.Name → ⊥)
+    → names_at (drop (i - 1) (map class_of os)) (drop (i - 1 + 1) (map lexeme_of bs)) ≡ names_at (drop i (map class_of os)) (drop (i + 1) (map lexeme_of bs))
+other_put os bs i c p l m n =
+    let e : i - 1 + 1 ≡ i = omega (arith, p) in
+    ap (λ k. names_at (drop (i - 1) (map class_of os)) (drop k (map lexeme_of bs))) e
+    ∙ (other_step os bs (i - 1) i c some_lexeme (omega (arith, p, l)) (omega (arith, p, m)) n
+    ∙ ap (λ k. names_at (drop k (map class_of os)) (drop (i + 1) (map lexeme_of bs))) e)
+
+-- past the operand or the tokens nothing is left
+pub literal_past : (os : List declared_class.Class) (bs : List declared_lexeme.Lexeme) (i : ℕ) → (length os ≤ i) ⊎ (length bs ≤ i + 1) → literal_of (drop i (map class_of os)) (drop (i + 1) (map lexeme_of bs)) ≡ 0
+literal_past os bs i (inl l) = ap (λ cs. literal_of cs (drop (i + 1) (map lexeme_of bs))) (none_left class_of os i l)
+literal_past os bs i (inr l) = literal_end_tokens (drop i (map class_of os)) bs (i + 1) l
+
+pub names_past : (os : List declared_class.Class) (bs : List declared_lexeme.Lexeme) (i : ℕ) → (length os ≤ i) ⊎ (length bs ≤ i + 1) → names_at (drop i (map class_of os)) (drop (i + 1) (map lexeme_of bs)) ≡ []
+names_past os bs i (inl l) = names_end_classes os (drop (i + 1) (map lexeme_of bs)) i l
+names_past os bs i (inr l) = names_end_tokens (drop i (map class_of os)) bs (i + 1) l
+
+reached : (n i : ℕ) → (n ≤ i) ⊎ (i < n)
+reached zero i = inl (omega arith)
+reached (suc n) zero = inr (omega arith)
+reached (suc n) (suc i) = one_more (reached n i)
+  where
+    one_more : (n ≤ i) ⊎ (i < n) → (suc n ≤ suc i) ⊎ (suc i < suc n)
+    one_more (inl l) = inl (omega (arith, l))
+    one_more (inr l) = inr (omega (arith, l))
+
+pub past_one : (n m i j : ℕ) → j ≡ m - 1 → i ≡ min n j → (n ≤ i) ⊎ (m ≤ i + 1)
+past_one n m i j e f = by_end (reached n i)
+  where
+    by_end : (n ≤ i) ⊎ (i < n) → (n ≤ i) ⊎ (m ≤ i + 1)
+    by_end (inl l) = inl l
+    by_end (inr l) = inr (omega (arith, l, e, f))

@@ -1,23 +1,33 @@
 -- What the assembler keeps of the items that it has read: their opcodes, literals, targets and labels, as the addressing modes of the kernel's Documentation/networking/filter have them.
-use Rattle.std.specs.Prelude.{◌≡◌, ◌≤◌, ℕ, List, [], ◌∷◌, ◌++◌, length, map, slice_get, option_map, Option, Some, None}
+use Rattle.std.specs.Prelude.{◌≡◌, ◌≤◌, ℕ, List, [], ◌∷◌, ◌++◌, length, map, slice_get, Option, Some, None}
 use Rattle.cbpf_code.specs.Opcode.{code_of}
 use Rattle.cbpf_grammar.specs.Lexemes.{Lexeme}
 use Rattle.cbpf_grammar.specs.Items.{Item}
-use Rattle.cbpf_grammar.specs.Views.{lexeme_of, label_words}
+use Rattle.cbpf_grammar.specs.Views.{label_words}
 use Rattle.cbpf_text.specs.declared.draft.Statement.{Statement}
+use Rattle.cbpf_text.specs.declared.draft.Target.{Target}
 use Rattle.cbpf_text.specs.declared.name.Name.{Name}
-use Rattle.cbpf_text.specs.Labels.{AreDistinct}
+use Rattle.cbpf_text.specs.Labels.{AreDistinct, name_of}
 use Rattle.cbpf_text.specs.Operands.{literal_in, targets_in}
 use Rattle.cbpf_text.specs.Refusals.{IsFirstRepeat}
 use Rattle.cbpf_text.specs.Tables.{Label, labels_of, labels_from, place_among}
+
+-- the target is the label, by its name and its place
+abbrev pub IsTarget : Target → Lexeme → Type 0
+IsTarget t l = (t.name.bytes.now ≡ name_of l) × (t.at ≡ l.at)
+
+-- the targets are the labels: the first two where there are more, and the count goes no higher
+abbrev pub AreTargets : ℕ → Target → Target → List Lexeme → Type 0
+AreTargets count first second [] = count ≡ 0
+AreTargets count first second (l ∷ []) = (count ≡ 1) × IsTarget first l
+AreTargets count first second (l ∷ m ∷ ls) = (count ≡ 2) × IsTarget first l × IsTarget second m
 
 -- the statement is that of the item
 pub record IsStatement (s : Statement) (item : Item) : Type 0 where
   pub code : s.code ≡ code_of item.row.op
   pub fields : s.fields ≡ item.row.fields
   pub literal : s.literal ≡ literal_in item
-  pub first : option_map lexeme_of s.first ≡ slice_get (targets_in item) 0
-  pub second : option_map lexeme_of s.second ≡ slice_get (targets_in item) 1
+  pub targets : AreTargets s.targets s.first s.second (targets_in item)
 
 -- the statements are those of the items, one for each
 abbrev pub AreStatements : List Statement → List Item → Type 0

@@ -10,31 +10,41 @@ ghost use Rattle.cbpf_grammar.specs.Items.{Items};
 ghost use Rattle.cbpf_grammar.specs.Refusals.{IsAccepted, IsStuckAt};
 ghost use Rattle.cbpf_grammar.specs.Reading.{IsReading, IsRefusedFor, StartsWithWord};
 ghost use Rattle.cbpf_grammar.specs.Views.{lexeme_of, row_of, label_words};
-ghost use Rattle.cbpf_text.specs.Drafts.{IsStatement, IsDraft};
+ghost use Rattle.cbpf_text.specs.Drafts.{IsStatement, IsDraft, AreTargets};
 ghost use Rattle.cbpf_text.specs.Refusals.{Told, IsTokensFault, IsRefused};
 ghost use Rattle.cbpf_text.specs.Tables.{same_name};
 
 use crate::fault::{AsmFault, AsmKind};
 use crate::labels::Labels;
-use crate::name::Name;
-use crate::operand::{literal, target};
+use crate::name::{Name, name_of};
+use crate::operand::value_at;
 use crate::refusal::{Refusal, fault_of};
 use crate::source::lex_refusal;
 use cbpf_code::code_of;
-use cbpf_grammar::{Fields, Lexeme, Reader, Row, Step};
+use cbpf_grammar::{Class, Fields, Lexeme, Reader, Row, Step};
 use std::alloc::{AllocFailed, Allocator};
 
 /// The most instructions that a program has.
 const MOST_INSTRUCTIONS: usize = 4096;
 
+/// A label in an operand.
+#[derive(Clone, Copy, Debug)]
+pub struct Target<'a> {
+    pub name: Name<'a>,
+    /// The place of its first byte in the text.
+    pub at: usize,
+}
+
 /// An instruction whose targets have no offsets yet.
 #[derive(Clone, Copy, Debug)]
 pub struct Statement<'a> {
+    pub literal: u32,
     pub code: u16,
     pub fields: Fields,
-    pub literal: u32,
-    pub first: Option<Lexeme<'a>>,
-    pub second: Option<Lexeme<'a>>,
+    /// The number of targets, which is at most 2. `first` and `second` mean nothing beyond it.
+    pub targets: u8,
+    pub first: Target<'a>,
+    pub second: Target<'a>,
 }
 
 /// The instructions and labels of a text.
@@ -46,17 +56,52 @@ pub struct Draft<'a, A: Allocator> {
     pub excess: Option<usize>,
 }
 
+/// No target.
+const NOWHERE: Target<'static> = Target {
+    name: Name { bytes: &[] },
+    at: 0,
+};
+
+/// Puts a target before those of the statement.
+fn put_target<'a>(statement: &mut Statement<'a>, label: &Lexeme<'a>)
+    ensures code { statement.new.code ≡ statement.old.code }
+    ensures fields { statement.new.fields ≡ statement.old.fields }
+    ensures literal { statement.new.literal ≡ statement.old.literal }
+    ensures targets { (ls : List lexemes.Lexeme) → AreTargets statement.old.targets statement.old.first statement.old.second ls → AreTargets statement.new.targets statement.new.first statement.new.second (lexeme_of label.now ∷ ls) }
+{
+    statement.targets = if statement.targets == 0 { 1 } else { 2 };
+    statement.second = statement.first;
+    statement.first = Target {
+        name: name_of(label.symbol),
+        at: label.at,
+    };
+}
+
 /// The statement of an instruction.
 fn make_statement<'a>(row: Row, body: &[Lexeme<'a>]) -> Statement<'a>
     ensures { (labels : List lexemes.Lexeme) → IsStatement result (record { labels = labels; row = row_of row; body = map lexeme_of body.now }) }
 {
-    Statement {
+    let operand = row.operand;
+    let mut statement = Statement {
+        literal: 0,
         code: code_of(row.op),
         fields: row.fields,
-        literal: literal(row, body),
-        first: target(row, body, 0),
-        second: target(row, body, 1),
+        targets: 0,
+        first: NOWHERE,
+        second: NOWHERE,
+    };
+    // From the end, as the first literal counts.
+    let mut i = operand.len().min(body.len().saturating_sub(1));
+    while i > 0 {
+        let token = &body[i];
+        i -= 1;
+        if let Class::Name = operand[i] {
+            put_target(&mut statement, token);
+        } else if let Some(value) = value_at(operand[i], token.symbol) {
+            statement.literal = value;
+        }
     }
+    statement
 }
 
 /// One more label.

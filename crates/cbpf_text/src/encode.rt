@@ -1,22 +1,21 @@
 //! The instructions of items.
 
-ghost use Rattle.std.specs.Prelude.{◌≡◌, ◌≤◌, Bool, true, false, List, length, option_map, Some, IfOk, IfErr, All};
+ghost use Rattle.std.specs.Prelude.{◌≤◌, Bool, true, List, length, Some, IfOk, IfErr, All};
 ghost use Rattle.indexmap.specs.IndexMap.{get};
 ghost use Rattle.cbpf_grammar.specs.Items as items;
-ghost use Rattle.cbpf_grammar.specs.Views.{lexeme_of};
+ghost use Rattle.cbpf_grammar.specs.Lexemes as lexemes;
 ghost use Rattle.cbpf_text.specs.Assembled.{IsOffset, IsShortOffset, IsEncoded, EncodeEach};
 ghost use Rattle.cbpf_text.specs.Refusals.{Told, IsTargetFault, IsFirstBadUse, uses_of, uses_from};
 ghost use Rattle.cbpf_text.specs.Tables.{same_name, Resolves};
-ghost use Rattle.cbpf_text.specs.Drafts.{IsStatement, AreStatements};
+ghost use Rattle.cbpf_text.specs.Drafts.{IsStatement, AreStatements, IsTarget};
 ghost use Rattle.cbpf_text.specs.Operands.{HasForm};
 
-use crate::draft::Statement;
+use crate::draft::{Statement, Target};
 use crate::fault::AsmKind;
 use crate::labels::LabelTable;
-use crate::name::name_of;
 use crate::refusal::Refusal;
 use cbpf_code::Insn;
-use cbpf_grammar::{Fields, Lexeme};
+use cbpf_grammar::Fields;
 use std::alloc::Allocator;
 
 /// The most instructions that a conditional jump goes over.
@@ -26,12 +25,12 @@ const FARTHEST: u32 = 255;
 fn distance<A: Allocator>(
     labels: &LabelTable<'_, A>,
     index: u32,
-    target: Lexeme<'_>,
+    target: &Target<'_>,
 ) -> Result<u32, Refusal>
-    ensures found { (is : List items.Item) → Resolves is (λ k. get same_name labels.now k) → IfOk result (IsOffset is index (Some (lexeme_of target.entry))) }
-    ensures refused { (is : List items.Item) (short : Bool) → Resolves is (λ k. get same_name labels.now k) → IfErr result (Told (IsTargetFault is index short (Some (lexeme_of target.entry)))) }
+    ensures found { (is : List items.Item) (label : lexemes.Lexeme) → IsTarget target.now label → Resolves is (λ k. get same_name labels.now k) → IfOk result (IsOffset is index (Some label)) }
+    ensures refused { (is : List items.Item) (short : Bool) (label : lexemes.Lexeme) → IsTarget target.now label → Resolves is (λ k. get same_name labels.now k) → IfErr result (Told (IsTargetFault is index short (Some label))) }
 {
-    match labels.get(&name_of(target.symbol)) {
+    match labels.get(&target.name) {
         None => Err(Refusal::At(AsmKind::LabelNotSet, target.at)),
         Some(place) => {
             if *place > index {
@@ -43,33 +42,15 @@ fn distance<A: Allocator>(
     }
 }
 
-/// The offset of a jump that may go over any number of instructions; 0 without a target.
-fn offset<A: Allocator>(
-    labels: &LabelTable<'_, A>,
-    index: u32,
-    target: Option<Lexeme<'_>>,
-) -> Result<u32, Refusal>
-    ensures found { (is : List items.Item) → Resolves is (λ k. get same_name labels.now k) → IfOk result (IsOffset is index (option_map lexeme_of target.entry)) }
-    ensures refused { (is : List items.Item) → Resolves is (λ k. get same_name labels.now k) → IfErr result (Told (IsTargetFault is index false (option_map lexeme_of target.entry))) }
-{
-    match target {
-        Some(target) => distance(labels, index, target),
-        None => Ok(0),
-    }
-}
-
-/// The offset of a conditional jump; 0 without a target.
+/// The offset of a conditional jump.
 fn short_offset<A: Allocator>(
     labels: &LabelTable<'_, A>,
     index: u32,
-    target: Option<Lexeme<'_>>,
+    target: &Target<'_>,
 ) -> Result<u8, Refusal>
-    ensures found { (is : List items.Item) → Resolves is (λ k. get same_name labels.now k) → IfOk result (IsShortOffset is index (option_map lexeme_of target.entry)) }
-    ensures refused { (is : List items.Item) → Resolves is (λ k. get same_name labels.now k) → IfErr result (Told (IsTargetFault is index true (option_map lexeme_of target.entry))) }
+    ensures found { (is : List items.Item) (label : lexemes.Lexeme) → IsTarget target.now label → Resolves is (λ k. get same_name labels.now k) → IfOk result (IsShortOffset is index (Some label)) }
+    ensures refused { (is : List items.Item) (label : lexemes.Lexeme) → IsTarget target.now label → Resolves is (λ k. get same_name labels.now k) → IfErr result (Told (IsTargetFault is index true (Some label))) }
 {
-    let Some(target) = target else {
-        return Ok(0);
-    };
     let distance = distance(labels, index, target)?;
     if distance > FARTHEST {
         return Err(Refusal::At(AsmKind::TooFar, target.at));
@@ -83,12 +64,12 @@ fn encode<A: Allocator>(
     index: u32,
     statement: &Statement<'_>,
 ) -> Result<Insn, Refusal>
-    ensures encoded { (is : List items.Item) (item : items.Item) → IsStatement statement.now item → Resolves is (λ k. get same_name labels.now k) → IfOk result (IsEncoded is index item) }
-    ensures refused { (is : List items.Item) (item : items.Item) → IsStatement statement.now item → Resolves is (λ k. get same_name labels.now k) → IfErr result (Told (IsFirstBadUse is (uses_of index item))) }
+    ensures encoded { (is : List items.Item) (item : items.Item) → IsStatement statement.now item → HasForm item → Resolves is (λ k. get same_name labels.now k) → IfOk result (IsEncoded is index item) }
+    ensures refused { (is : List items.Item) (item : items.Item) → IsStatement statement.now item → HasForm item → Resolves is (λ k. get same_name labels.now k) → IfErr result (Told (IsFirstBadUse is (uses_of index item))) }
 {
     let code = statement.code;
     let k = statement.literal;
-    let first = statement.first;
+    let first = &statement.first;
     match statement.fields {
         Fields::Constant => Ok(Insn {
             code,
@@ -100,12 +81,16 @@ fn encode<A: Allocator>(
             code,
             jt: 0,
             jf: 0,
-            k: offset(labels, index, first)?,
+            k: distance(labels, index, first)?,
         }),
         Fields::Branch => Ok(Insn {
             code,
             jt: short_offset(labels, index, first)?,
-            jf: short_offset(labels, index, statement.second)?,
+            jf: if statement.targets == 2 {
+                short_offset(labels, index, &statement.second)?
+            } else {
+                0
+            },
             k,
         }),
         Fields::Swapped => Ok(Insn {
@@ -127,7 +112,7 @@ pub fn encode_all<A: Allocator + Copy>(
     ensures encoded { (is : List items.Item) → AreStatements statements.now is → All HasForm is → Resolves is (λ k. get same_name labels.now k) → IfOk result (λ v. EncodeEach is 0 is v.items) }
     ensures refused { (is : List items.Item) → AreStatements statements.now is → All HasForm is → Resolves is (λ k. get same_name labels.now k) → IfErr result (Told (IsFirstBadUse is (uses_from 0 is))) }
 {
-    let mut insns = Vec::new(alloc);
+    let mut insns = Vec::with_capacity(alloc, statements.len())?;
     for i in 0..statements.len() {
         insns.push(encode(labels, i as u32, &statements[i])?)?;
     }

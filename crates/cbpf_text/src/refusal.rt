@@ -4,7 +4,7 @@ ghost use Rattle.cbpf_text.specs.Refusals.{IsToldAt};
 
 use crate::fault::{AsmFault, AsmKind};
 use crate::source::line_of;
-use std::alloc::AllocFailed;
+use std::alloc::{AllocError, AllocFailed};
 
 /// The refusal with its line.
 pub fn fault_of(text: &[u8], refusal: Refusal) -> AsmFault
@@ -32,6 +32,17 @@ impl<T: Drop> From<AllocFailed<T>> for Refusal {
     ghost from_gives = { λ _ e. e ≡ Memory };
 
     fn from(_: AllocFailed<T>) -> Self {
+        Refusal::Memory
+    }
+}
+
+impl From<AllocError> for Refusal {
+    ghost use Rattle.std.specs.Prelude.{◌≡◌};
+    ghost use Rattle.cbpf_text.specs.declared.refusal.Refusal.TheVariants.{Memory};
+
+    ghost from_gives = { λ _ e. e ≡ Memory };
+
+    fn from(_: AllocError) -> Self {
         Refusal::Memory
     }
 }
