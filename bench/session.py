@@ -195,6 +195,9 @@ def comparisons(folder, file):
         yield Comparison(name, with_condition, f"a run with {never}", with_breakpoint, "run")
     mark, seven = (f"load bpf {words}\nload pcap {file}\n" for words in (MARK, SEVEN))
     yield Comparison("run, ld mark with a value", mark + "value mark 7\n", "the same with ld #7", seven, "run")
+    header = f"load bpf {HEADER}\nload pcap {file}\n"
+    what = "run with a value that no instruction asks for, 6 instructions"
+    yield Comparison(what, header + "value mark 7\n", "a run without", header, "run")
 
 
 def goes_through(folder, head):
