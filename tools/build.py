@@ -10,8 +10,8 @@ from pathlib import Path
 
 ROOT = Path(__file__).resolve().parent.parent
 PROGRAM = "cbpf"
-FIRST = "This proves the program and builds it: from nothing some ten minutes on four processors."
-AGAIN = "This proves what has changed since the last build, and builds the program: some minutes at most."
+BEFOREHAND = """This proves what isn't proved yet, and builds the program: some ten minutes on four processors
+from nothing, and after `make check`, which keeps no proofs; after a change a few."""
 
 
 def order(libraries, name, done):
@@ -30,8 +30,7 @@ def main():
     rows = [line.split(":") for line in lines if re.match(r"\w", line)]
     libraries = {head.split()[0]: tail.split() for head, tail in rows}
     crates = order(libraries, PROGRAM, [])
-    built = (ROOT / "crates" / PROGRAM / "out" / PROGRAM).exists()
-    print(AGAIN if built else FIRST, flush=True)
+    print(BEFOREHAND, flush=True)
     began = time.time()
     said = []
     with subprocess.Popen(
