@@ -77,10 +77,6 @@ module _ (w : List ℕ) (at : ℕ) (us : List Lexeme) (m : Mnemonic) (best : Mat
           by_test true g q = b.goes_on h r (own_row w m r p e k g) (omega (arith, q)) (omega (arith, l))
           by_test false g q = omega (arith, q)
 
--- any row
-some_row : Row
-some_row = get_or table 0 (record { mnemonic = []; operand = []; op = Tax; fields = Constant })
-
 pub some_known : (r : Row) × Contains table r
 some_known =
     let l : 0 < length table = rw table_length (omega arith) in

@@ -98,10 +98,6 @@ pub took-some : (bytes p line : List ℕ) (left : Option (List ℕ)) → Took by
 took-some bytes p [] left t h e = unread-some p t.rest left h t.known (sym t.split ∙ e)
 took-some bytes p (b ∷ bs) left t h e = let f : (b ∷ bs) ++ t.rest ≡ [] = sym t.split ∙ e in cc
 
-pub kept-same : (u : Option (List ℕ)) → Keeps u u
-kept-same None = tt
-kept-same (Some xs) = refl
-
 pub kept-then : (u v w : Option (List ℕ)) → Keeps u v → Keeps v w → Keeps u w
 kept-then None v w h k = tt
 kept-then (Some xs) None w h k = absurd h

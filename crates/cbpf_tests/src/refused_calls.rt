@@ -12,11 +12,13 @@ use std::process::Abort;
 
 /// Reads word text with each growth refused; says how many there are.
 fn growths_of_words(rt: &impl Abort, alloc: Global, text: &[u8], count: usize) -> u64 {
+    let wanted = read_words(alloc, text);
     for nth in 1..100u64 {
         let refusing = RefusingAllocator::refusing(alloc, nth);
         match read_words(&refusing, text) {
             Ok(list) => {
                 assert_eq!(rt; list.len(), count);
+                assert!(rt; wanted.as_ref().is_ok_and(|whole| whole.as_slice() == list.as_slice()));
                 assert!(rt; refusing.left() > 0);
                 return nth - 1;
             }
@@ -66,11 +68,13 @@ fn a_count_asks_for_no_room(rt: HostRuntime) {
 
 /// Takes the tokens of a source with each growth refused; says how many there are.
 fn growths_of_tokens(rt: &impl Abort, alloc: Global, source: &[u8], count: usize) -> u64 {
+    let wanted = tokens(alloc, source);
     for nth in 1..100u64 {
         let refusing = RefusingAllocator::refusing(alloc, nth);
         match tokens(&refusing, source) {
             Ok(found) => {
                 assert_eq!(rt; found.len(), count);
+                assert!(rt; wanted.as_ref().is_ok_and(|whole| whole.as_slice() == found.as_slice()));
                 assert!(rt; refusing.left() > 0);
                 return nth - 1;
             }
@@ -101,10 +105,14 @@ fn growths_of_source(
     source: &[u8],
     wanted: Result<usize, AsmFault>,
 ) -> u64 {
+    let ample = assemble(alloc, source);
     for nth in 1..200u64 {
         let refusing = RefusingAllocator::refusing(alloc, nth);
         let answer = match assemble(&refusing, source) {
-            Ok(list) => Ok(list.len()),
+            Ok(list) => {
+                assert!(rt; ample.as_ref().is_ok_and(|whole| whole.as_slice() == list.as_slice()));
+                Ok(list.len())
+            }
             Err(fault) => Err(fault),
         };
         if answer != Err(AsmFault::Memory) {

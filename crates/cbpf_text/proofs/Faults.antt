@@ -39,6 +39,3 @@ refused_at text tokens ts (refusals.At kind at) fault l e h t = subst (IsRefused
 
 pub text_assembled : (text : List ℕ) (tokens : List Token) (ts : List Lexeme) (insns : List Insn) → Lexes text tokens → ts ≡ lexemes_of text tokens → AssembleTokens ts insns → Assembles text insns
 text_assembled text tokens ts insns l e a = record { tokens = tokens; lexed = l; assembled = subst (λ us. AssembleTokens us insns) e a }
-
-pub not_empty : (n : ℕ) → false ≡ (n == 0) → n ≡ 0 → ⊥
-not_empty n h e = let k : false ≡ true = h ∙ ap (λ m. m == 0) e in cc

@@ -12,16 +12,6 @@ bytes_eq_self v = (bytes_eq-Decides v v).1 refl
 pub same_some : {A : Type 0} (x y : A) → ◌≡◌ {A = Option A} (Some x) (Some y) → x ≡ y
 same_some x y e = cc
 
-pub get_mapped : {A B : Type 0} (f : A → B) (xs : List A) (i : ℕ) (d : A) → i < length xs → slice_get (map f xs) i ≡ Some (f (get_or xs i d))
-get_mapped f [] i d l = absurd (omega arith)
-get_mapped f (x ∷ xs) zero d l = refl
-get_mapped f (x ∷ xs) (suc i) d l = get_mapped f xs i d (omega arith)
-
-pub map_at : {A B : Type 0} (f : A → B) (xs : List A) (i : ℕ) (d : A) (e : B) → i < length xs → get_or (map f xs) i e ≡ f (get_or xs i d)
-map_at f [] i d e l = absurd (omega arith)
-map_at f (x ∷ xs) zero d e l = refl
-map_at f (x ∷ xs) (suc i) d e l = map_at f xs i d e (omega arith)
-
 pub get_within : {A : Type 0} (xs : List A) (i : ℕ) (x : A) → slice_get xs i ≡ Some x → i < length xs
 get_within [] i x e = let k : ◌≡◌ {A = Option _} None (Some x) = e in cc
 get_within (y ∷ ys) zero x e = omega arith
