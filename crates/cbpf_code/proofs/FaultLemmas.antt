@@ -10,7 +10,7 @@ use Rattle.cbpf_code.specs.declared.checker.CheckFault.TheVariants.{NoInstructio
 use Rattle.cbpf_code.specs.Opcode.{op_of}
 use Rattle.cbpf_code.specs.Faults.{IsReturn, HasFault, FirstFault, rank, index_of}
 use Rattle.cbpf_code.specs.Sound.{IsSound}
-use Rattle.cbpf_code.specs.CheckSteps.{PassesBefore, IsWellFormed, InsnHasFault, IsAllowed, AllowedAt}
+use Rattle.cbpf_code.specs.CheckSteps.{PassesBefore, IsWellFormed, IsAllowed, AllowedAt}
 use Rattle.cbpf_code.proofs.PathLemmas.{allowed_at-same}
 
 pub allowed_of : (list : List Insn) (m i : ℕ) (insn : Insn) (op : Op) → PassesBefore list m → i < m → slice_get list i ≡ Some insn → op_of insn.code ≡ Some op → IsAllowed op insn i (length list)

@@ -115,3 +115,18 @@ pub first-failed : {A E : Type 0} (u v : Option (List ℕ)) (a b : List ℕ) (r 
 first-failed u v a b r e h = err-exit u v (a ++ b) r e (part-more u v a b h)
 
 pub ruleset pairs = (first-failed, wrote-then)
+
+-- ---- a loop that writes the texts of some elements at once
+
+chunk-more : {X : Type 0} (f : X → List ℕ) (xs : List X) (i e : ℕ) → i ≤ e → flat_map f (take e xs) ≡ flat_map f (take i xs) ++ flat_map f (take (e - i) (drop i xs))
+chunk-more f xs i e l =
+    let whole : e ≡ i + (e - i) = omega (arith, l) in
+    ap (λ (k : ℕ). flat_map f (take k xs)) whole ∙ ap (λ ys. flat_map f ys) (take-add i (e - i) xs) ∙ flat-append f (take i xs) (take (e - i) (drop i xs))
+
+pub chunk-next : {X : Type 0} (f : X → List ℕ) (xs : List X) (i e : ℕ) (u v w : Option (List ℕ)) → i ≤ e → Appended u v (flat_map f (take i xs)) → Appended v w (flat_map f (take (e - i) (drop i xs))) → Appended u w (flat_map f (take e xs))
+chunk-next f xs i e u v w l x y = rw (chunk-more f xs i e l) (appended-then u v w _ _ x y)
+
+pub chunk-stop : {X : Type 0} (f : X → List ℕ) (xs : List X) (i e : ℕ) (u v w : Option (List ℕ)) → i ≤ e → Appended u v (flat_map f (take i xs)) → AppendedPart v w (flat_map f (take (e - i) (drop i xs))) → AppendedPart u w (flat_map f xs)
+chunk-stop f xs i e u v w l x y =
+    let part : AppendedPart u w (flat_map f (take e xs)) = rw (chunk-more f xs i e l) (part-then u v w _ _ x y) in
+    rw (← flat-split f xs e) (part-more u w _ (flat_map f (drop e xs)) part)

@@ -17,39 +17,65 @@ fn write_count<W: Write>(w: &mut W, count: usize) -> Result<(), WriteFault>
     write_parts(w, &[buffer.format(count).as_bytes(), b","])
 }
 
-/// The size of the longest line: 5, 3, 3 and 10 digits, and a byte behind each of the numbers.
+/// The size of the longest line: 5, 3, 3 and 10 digits, and a byte after each of the numbers.
 const LONGEST_LINE: usize = 25;
 
-/// Writes a number and the byte behind it before the place `end`, and tells where it begins.
+/// How many lines a writer gets at once, at most.
+const LINES: usize = 64;
+
+/// Writes a number and the byte after it before the place `end`, and returns where it begins.
 #[inline(always)]
-fn put_number(line: &mut [u8], end: usize, number: u64, behind: u8) -> usize
+fn put_number(text: &mut [u8], end: usize, number: u64, after: u8) -> usize
     requires room { length (decimal number) < end }
-    requires within { end ≤ length line.old }
+    requires within { end ≤ length text.old }
     ensures begin { result + length (decimal number) + 1 ≡ end }
-    ensures bytes { drop result line.new ≡ decimal number ++ behind ∷ drop end line.old }
+    ensures bytes { drop result text.new ≡ decimal number ++ after ∷ drop end text.old }
 {
-    line[end - 1] = behind;
-    write_digits(number, line, end - 1)
+    text[end - 1] = after;
+    write_digits(number, text, end - 1)
 }
 
-// The line is made from behind, and written by one call.
-fn write_word_line<W: Write>(w: &mut W, insn: Insn) -> Result<(), WriteFault>
-    ensures { Wrote (W.contents w.old) (W.contents w.new) result (word_line insn) }
+/// Writes an instruction's line before the place `end`, and returns where it begins.
+// The line is made from its end, where its size isn't known yet.
+#[inline(always)]
+fn put_word_line(text: &mut [u8], end: usize, insn: Insn) -> usize
+    requires room { 25 ≤ end }
+    requires within { end ≤ length text.old }
+    ensures begin { (end ≤ result + 25) × (result ≤ end) }
+    ensures bytes { drop result text.new ≡ word_line insn ++ drop end text.old }
 {
-    let mut line = [0; LONGEST_LINE];
-    let at = put_number(&mut line, LONGEST_LINE, insn.k as u64, b',');
-    let at = put_number(&mut line, at, insn.jf as u64, b' ');
-    let at = put_number(&mut line, at, insn.jt as u64, b' ');
-    let at = put_number(&mut line, at, insn.code as u64, b' ');
-    write_bytes(w, &line[at..])
+    let at = put_number(text, end, insn.k as u64, b',');
+    let at = put_number(text, at, insn.jf as u64, b' ');
+    let at = put_number(text, at, insn.jt as u64, b' ');
+    put_number(text, at, insn.code as u64, b' ')
+}
+
+/// Writes the lines of at most 64 instructions to the end of a text, and returns where they begin.
+fn put_word_lines(text: &mut [u8; LINES * LONGEST_LINE], list: &[Insn]) -> usize
+    requires few { length list.now ≤ 64 }
+    ensures begin { result ≤ 1600 }
+    ensures bytes { drop result text.new ≡ flat_map word_line list.now }
+{
+    let mut at = text.len();
+    let mut i = list.len();
+    while i > 0 {
+        i -= 1;
+        at = put_word_line(text, at, list[i]);
+    }
+    at
 }
 
 #[tactic(auto, using(crate::proofs::WrittenLemmas::loops))]
 fn write_word_lines<W: Write>(w: &mut W, list: &[Insn]) -> Result<(), WriteFault>
     ensures { Wrote (W.contents w.old) (W.contents w.new) result (flat_map word_line list.now) }
 {
-    for insn in list {
-        write_word_line(w, *insn)?;
+    let mut text = [0; LINES * LONGEST_LINE];
+    let mut i = 0;
+    while i < list.len() {
+        let end = (i + LINES).min(list.len());
+        let at = put_word_lines(&mut text, &list[i..end]);
+        write_bytes(w, &text[at..])?;
+        i = end;
     }
     Ok(())
 }
@@ -70,7 +96,7 @@ fn all_are_in_range(list: &[Insn])
 }
 
 /// Writes word text, as the kernel tree's `bpf_asm` does: the count, a comma, for each instruction
-/// its code, jt, jf and k in decimal with a single space between two of them and a comma behind, and
+/// its code, jt, jf and k in decimal with a single space between two of them and a comma after, and
 /// a newline. [`read_words`](crate::read_words) reads a list of at most 4294967295 instructions back
 /// from its text.
 pub fn write_words<W: Write>(w: &mut W, list: &[Insn]) -> Result<(), WriteFault>

@@ -1,6 +1,6 @@
 -- Cuts of a text: one more piece, and that there is only one.
-use Rattle.std.proofs.Common.{◌≡◌, ◌≢◌, ℕ, zero, suc, ◌+◌, ◌<◌, ◌≤◌, Bool, true, false, ◌&&◌, List, [], ◌∷◌, ◌++◌, length, take, drop, refl, ap, sym, ◌∙◌, arith, Option, Some, None, append_assoc, append-nil, ◌⊎◌, inl, inr, get_or, length-drop}
-use Rattle.std.proofs.lemmas.List.{drop_all, drop_more}
+use Rattle.std.proofs.Common.{◌≡◌, ◌≢◌, ℕ, zero, suc, ◌+◌, ◌-◌, ◌<◌, ◌≤◌, Bool, true, false, ◌&&◌, List, [], ◌∷◌, ◌++◌, length, take, drop, refl, ap, sym, ◌∙◌, arith, Option, Some, None, append_assoc, append-nil, ◌⊎◌, inl, inr, get_or, length-drop}
+use Rattle.std.proofs.lemmas.List.{drop_all, drop_more, take_rest}
 use Rattle.std.specs.List.{list_all}
 use Rattle.cbpf_lex.specs.declared.piece.PieceKind.{PieceKind}
 use Rattle.cbpf_lex.specs.declared.piece.Piece.{Piece}
@@ -81,6 +81,10 @@ one_cut text at (p ∷ ps) (q ∷ qs) a b =
 
 pub piece_at : (text : List ℕ) (at : ℕ) (p : Piece) → at < length text → IsNext (is_line_blank (take at text)) (get_or text at 0 ∷ drop (at + 1) text) p → IsPieceAt text at p
 piece_at text at p l next = rw (drop_more text at 0) next
+
+-- the same, of the bytes from the next place to the end
+pub next_at : (text : List ℕ) (at : ℕ) (p : Piece) → at < length text → IsNext (is_line_blank (take at text)) (get_or text at 0 ∷ take (length text - (at + 1)) (drop (at + 1) text)) p → IsPieceAt text at p
+next_at text at p l next = piece_at text at p l (rw (take_rest text (at + 1)) at next)
 
 pub piece_within : (text : List ℕ) (at : ℕ) (p : Piece) → at < length text → IsPieceAt text at p → at + p.size ≤ length text
 piece_within text at p l next = omega (arith, next.within, length-drop at text)

@@ -4,7 +4,7 @@ ghost use Rattle.std.specs.Prelude.{◌≡◌, ◌≤◌, length, IfOk, IfErr, I
 ghost use Rattle.cbpf_lex.specs.Tokens.{Lexes, IsLexFault, IsSpanOf, line_of};
 ghost use Rattle.cbpf_lex.specs.Reading.{IsNextToken, HasNoMore, IsNextFault};
 
-use crate::bytes::{blanks_len, is_blank};
+use crate::bytes::is_blank;
 use crate::piece::{PieceKind, fault_of, next_piece};
 use crate::token::{LexFault, Token};
 use std::alloc::Allocator;
@@ -74,13 +74,11 @@ impl<'a> Lexer<'a> {
         let mut at = self.at;
         while at < text.len() {
             let first = text[at];
-            let rest = &text[at + 1..];
-            // Most pieces are blanks of one byte, or come after one.
             if is_blank(first) {
-                at += 1 + blanks_len(rest);
+                at += 1;
                 continue;
             }
-            let piece = next_piece(&text[..at], first, rest);
+            let piece = next_piece(&text[..at], first, &text[at + 1..]);
             let end = at + piece.size;
             if let Some(fault) = fault_of(piece.kind) {
                 return Err(LexFault::At(fault, line_of(text, at)));

@@ -40,23 +40,45 @@ pub enum Lead {
     Other,
 }
 
+// Each byte has a letter at its place: of a blank, a comment, a digit, a hash, a letter, a mark or a slash, and
+// a dot for any other.
+static LEADS: [u8; 256] = *b"\
+    .........BB..B..................\
+    B..H.MM.MMMMMM.SDDDDDDDDDDMC....\
+    .LLLLLLLLLLLLLLLLLLLLLLLLLLM.M.L\
+    .LLLLLLLLLLLLLLLLLLLLLLLLLL.....\
+    ................................\
+    ................................\
+    ................................\
+    ................................";
+
 /// What a byte after these says of the piece that it begins.
 // Only a `#` has to be looked at with the line before it.
 #[inline(always)]
 fn lead_of(before: &[u8], b: u8) -> Lead
     ensures { result ≡ lead_of (is_line_blank before.now) b }
 {
-    match b {
-        b' ' | b'\t' | b'\n' | b'\r' => Lead::Blank,
-        b';' => Lead::LineComment,
-        b'#' if is_line_blank(before) => Lead::LineComment,
-        b'a'..=b'z' | b'A'..=b'Z' | b'_' => Lead::Letter,
-        b'0'..=b'9' => Lead::Digit,
-        b'/' => Lead::Slash,
-        b'[' | b']' | b'(' | b')' | b'*' | b'&' | b'+' | b'-' | b',' | b':' | b'#' | b'%' => {
+    let lead = LEADS[b as usize];
+    if lead == b'L' {
+        Lead::Letter
+    } else if lead == b'D' {
+        Lead::Digit
+    } else if lead == b'M' {
+        Lead::Single
+    } else if lead == b'B' {
+        Lead::Blank
+    } else if lead == b'C' {
+        Lead::LineComment
+    } else if lead == b'H' {
+        if is_line_blank(before) {
+            Lead::LineComment
+        } else {
             Lead::Single
         }
-        _ => Lead::Other,
+    } else if lead == b'S' {
+        Lead::Slash
+    } else {
+        Lead::Other
     }
 }
 
@@ -83,6 +105,7 @@ fn close_len(body: &[u8]) -> Option<usize>
 }
 
 /// The kind of a run of bytes that begins with a digit.
+#[inline(always)]
 fn run_kind(first: u8, rest: &[u8]) -> PieceKind
     ensures { result ≡ run_kind (number_value (first ∷ rest.now)) }
 {

@@ -1,6 +1,5 @@
 -- From the refusal of a part to the refusal of the whole.
-use Rattle.std.proofs.Common.{◌≡◌, refl, sym, ◌∙◌, ap, subst, ℕ, true, false, List}
-use Rattle.std.specs.Prelude.{◌==◌}
+use Rattle.std.proofs.Common.{◌≡◌, refl, sym, subst, ℕ, List}
 use Rattle.cbpf_lex.specs.declared.token.Token.{Token}
 use Rattle.cbpf_lex.specs.Tokens.{Lexes}
 use Rattle.cbpf_grammar.specs.Refusals.{ParseFault as parse}

@@ -1,5 +1,5 @@
 -- Small facts on lists and names.
-use Rattle.std.proofs.Common.{◌≡◌, refl, ap, ℕ, zero, suc, ◌<◌, true, List, [], ◌∷◌, ◌++◌, length, map, take, drop, get_or, Option, Some, None, arith}
+use Rattle.std.proofs.Common.{◌≡◌, refl, ap, ℕ, zero, suc, ◌<◌, true, List, [], ◌∷◌, ◌++◌, length, take, drop, get_or, Option, Some, None, arith}
 use Rattle.std.specs.Prelude.{slice_get, bytes_eq, All}
 use Rattle.std.proofs.lemmas.Slice.Eq.{bytes_eq-Decides}
 

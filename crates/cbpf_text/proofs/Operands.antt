@@ -113,6 +113,13 @@ pub literal_at_name : (os : List declared_class.Class) (bs : List declared_lexem
     → literal_of (drop (i - 1) (map class_of os)) (drop (i - 1 + 1) (map lexeme_of bs)) ≡ literal_of (drop i (map class_of os)) (drop (i + 1) (map lexeme_of bs))
 literal_at_name os bs i c p l m n = literal_put os bs i c some_lexeme p l m None (name_value (get_or os (i - 1) c) (symbol_of (get_or bs i some_lexeme).symbol) n)
 
+mark_value : (c : declared_class.Class) (b : ℕ) (s : Symbol) → c ≡ variants.Mark b → None ≡ value_at (class_of c) s
+mark_value c b s e = sym (ap (λ d. value_at (class_of d) s) e)
+
+pub literal_at_mark : (os : List declared_class.Class) (bs : List declared_lexeme.Lexeme) (i b : ℕ) (c : declared_class.Class) → 0 < i → i ≤ length os → i ≤ length bs - 1 → get_or os (i - 1) c ≡ variants.Mark b
+    → literal_of (drop (i - 1) (map class_of os)) (drop (i - 1 + 1) (map lexeme_of bs)) ≡ literal_of (drop i (map class_of os)) (drop (i + 1) (map lexeme_of bs))
+literal_at_mark os bs i b c p l m n = literal_put os bs i c some_lexeme p l m None (mark_value (get_or os (i - 1) c) b (symbol_of (get_or bs i some_lexeme).symbol) n)
+
 pub name_put : (os : List declared_class.Class) (bs : List declared_lexeme.Lexeme) (i : ℕ) (c : declared_class.Class) (t : declared_lexeme.Lexeme) → 0 < i → i ≤ length os → i ≤ length bs - 1 → get_or os (i - 1) c ≡ variants.Name
     → names_at (drop (i - 1) (map class_of os)) (drop (i - 1 + 1) (map lexeme_of bs)) ≡ lexeme_of (get_or bs i t) ∷ names_at (drop i (map class_of os)) (drop (i + 1) (map lexeme_of bs))
 name_put os bs i c t p l m n =

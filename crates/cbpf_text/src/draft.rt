@@ -95,10 +95,15 @@ fn make_statement<'a>(row: Row, body: &[Lexeme<'a>]) -> Statement<'a>
     while i > 0 {
         let token = &body[i];
         i -= 1;
-        if let Class::Name = operand[i] {
-            put_target(&mut statement, token);
-        } else if let Some(value) = value_at(operand[i], token.symbol) {
-            statement.literal = value;
+        match operand[i] {
+            // Most tokens are marks.
+            Class::Mark(_) => {}
+            Class::Name => put_target(&mut statement, token),
+            class => {
+                if let Some(value) = value_at(class, token.symbol) {
+                    statement.literal = value;
+                }
+            }
         }
     }
     statement

@@ -1,9 +1,9 @@
-use Rattle.std.proofs.Common.{◌≡◌, ◌∙◌, refl, sym, ap, subst, ◌+◌, ◌-◌, length, map, drop, arith}
+use Rattle.std.proofs.Common.{◌≡◌, ◌∙◌, refl, sym, ap, subst, ◌+◌, length, map, drop, arith}
 use Rattle.cbpf_grammar.specs.Items.{names_at}
 use Rattle.cbpf_grammar.specs.Views.{class_of, lexeme_of}
 use Rattle.cbpf_text.specs.Drafts.{AreTargets}
 use Rattle.cbpf_text.specs.Operands.{literal_of, first_of}
-use Rattle.cbpf_text.proofs.Operands.{literal_begin, names_begin, literal_put, literal_at_name, name_put, other_put, literal_past, names_past, past_one}
+use Rattle.cbpf_text.proofs.Operands.{literal_begin, names_begin, literal_put, literal_at_name, literal_at_mark, name_put, other_put, literal_past, names_past, past_one}
 use Rattle.cbpf_text.proofs.draft.make_statement.Goals as goal
 
 pub loop-i-init : goal.loop-i-init
@@ -35,6 +35,22 @@ loop-i-preserved-in-Name c =
       fields = c.put_target.ensures.fields ∙ inv.fields;
       literal = c.put_target.ensures.literal ∙ (inv.literal ∙ sym (literal_at_name os bs i _ c.loop-i-test.true inv.classes inv.tokens c.in-Name.is));
       targets = subst (AreTargets s.targets s.first s.second) (sym (name_put os bs i _ _ c.loop-i-test.true inv.classes inv.tokens c.in-Name.is)) (c.put_target.ensures.targets _ inv.targets);
+    }
+
+pub loop-i-preserved-in-Mark : goal.loop-i-preserved-in-Mark
+loop-i-preserved-in-Mark c =
+    let os = c.args.row.operand.now in
+    let bs = c.args.body.now in
+    let i = c.loop-i.i in
+    let inv = c.loop-i.invariant in
+    let s = c.loop-i.statement in
+    record {
+      classes = omega (arith, inv.classes);
+      tokens = omega (arith, inv.tokens);
+      code = inv.code;
+      fields = inv.fields;
+      literal = inv.literal ∙ sym (literal_at_mark os bs i _ _ c.loop-i-test.true inv.classes inv.tokens c.in-Mark.is);
+      targets = subst (AreTargets s.targets s.first s.second) (sym (other_put os bs i _ c.loop-i-test.true inv.classes inv.tokens (λ n. let k = sym c.in-Mark.is ∙ n in cc))) inv.targets;
     }
 
 pub loop-i-preserved-in-Some : goal.loop-i-preserved-in-Some
