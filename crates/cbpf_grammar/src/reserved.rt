@@ -24,6 +24,7 @@ fn same_bytes(a: &[u8], b: &[u8]) -> bool
 const LONGEST: usize = 4;
 
 /// The mnemonic of this word.
+#[inline(always)]
 pub fn mnemonic_named(word: &[u8]) -> Option<&'static Mnemonic>
     ensures found { IfSome result (λ m. Contains mnemonics (mnemonic_of m.now)) }
     ensures word { IfSome result (λ m. same_bytes word.now m.now.word.now ≡ true) }
