@@ -72,15 +72,20 @@ fn ends_with_digit(word: &[u8]) -> bool
     word[word.len() - 1] <= b'9'
 }
 
+/// Whether a word stands in one of the lists of reserved words.
+fn is_listed(word: &[u8]) -> bool
+    ensures { result ≡ is_reserved word.now }
+{
+    is_mnemonic(word) || is_extension(word) || is_operand_word(word)
+}
+
 /// Whether a word is a mnemonic, an extension's name, `len`, `x`, `a` or `M`, and so no label.
 // Labels often end with a number, and then there is no need to look them up.
+#[inline(always)]
 pub fn is_reserved(word: &[u8]) -> bool
     ensures { result ≡ is_reserved word.now }
 {
-    if ends_with_digit(word) {
-        return false;
-    }
-    is_mnemonic(word) || is_extension(word) || is_operand_word(word)
+    !ends_with_digit(word) && is_listed(word)
 }
 
 /// Whether a token may stand at a place of a form.
