@@ -276,18 +276,21 @@ def check_items(path):
 
 
 def check_edit(path, crate):
-    lines = text_of(path).splitlines()
-    target = CRATES / crate / lines[0].removeprefix("file: ") if lines else TOP
-    check(lines and lines[0].startswith("file: ") and target.is_file(), path, 1, "no such file")
-    if not target.is_file():
-        return
-    text = text_of(target)
-    for number, line in enumerate(lines[1:], 2):
-        if line.startswith("old: "):
-            old = line[5:]
-            check(text.count(old) == 1, path, number, f"stands {text.count(old)} times: {old}")
-        elif line.startswith("new: "):
-            text = text.replace(old, line[5:])
+    """Whether each of an edit's texts stands once in its file, as the edit before it left that."""
+    texts, target, old = {}, None, None
+    for number, line in enumerate(text_of(path).splitlines(), 1):
+        if line.startswith("file: "):
+            target = CRATES / crate / line.removeprefix("file: ")
+            check(target.is_file(), path, number, f"no {target.relative_to(TOP)}")
+            texts.setdefault(target, text_of(target) if target.is_file() else "")
+        elif line.startswith("old: ") and target:
+            old = line.removeprefix("old: ")
+            times = texts[target].count(old)
+            check(times == 1, path, number, f"stands {times} times: {old}")
+        elif line.startswith("new:") and old:
+            texts[target] = texts[target].replace(old, line.removeprefix("new:").removeprefix(" "))
+            old = None
+    check(bool(texts), path, 1, "no file")
 
 
 def check_edits(path):
