@@ -28,7 +28,7 @@ test: built ## Runs the end-to-end cases and the examples of the documents on th
 
 check: ## The gate: proves all crates and their tests from nothing, tries the must-fail edits, runs all tests; over an hour on four processors, twice that on two.
 	python3 tests/names.py
-	rt ci
+	@python3 tools/check.py
 	python3 tests/run.py "$(PROGRAM)"
 	python3 tests/documents.py "$(PROGRAM)"
 
