@@ -13,8 +13,8 @@ crates/*/must-fail/README.md. Each is read outside its blocks of code, and names
                    a trait that the crate implements
   a definition     in the first column of docs/DEFINITIONS.md, or at the head of an item there: it stands in the file
                    that its row names
-  an edit          in the first column of a table of must-fail/README.md: its file is there, names a file, and each of its
-                   `old:` texts stands there once. Each edit has one row. The function and the clause of the row are there
+  an edit          in the first column of a table of must-fail/README.md: its file is there, and each of its `old:` texts
+                   stands once where it says. Each edit has one row, whose function and clause are there
   a call           in a block ```calls of docs/ARCHITECTURE.md: the function stands in the line's file
 The last line is `N names, M failed`.
 """

@@ -1,8 +1,8 @@
 #!/usr/bin/env python3
 """Runs the gate of the toolchain, `rt ci`, and says before each of its steps how long it has run.
 
-What `rt ci` prints goes through as it is, but a line of a step has the time in front: a crate that is proved, its tests,
-and the crates whose must-fail edits are at work. It ends as `rt ci` ends.
+What `rt ci` prints goes through as it is, but a line of a step has the time in front: a crate that is proved, its
+tests, and a crate whose must-fail edits are at work. It ends as `rt ci` ends.
 """
 
 import os
