@@ -21,12 +21,14 @@ demo: ## Proves and builds the program, assembles an example, and debugs a filte
 try: ## Runs the demonstration on a program that is built with no proof, in about a minute; keeps no program.
 	@python3 tools/try.py
 
-test: built ## Runs the end-to-end cases and the examples of the documents on the program that is built.
+test: built ## Runs the end-to-end cases and the examples of the documents on the program that is built, and looks up the documents' names.
+	python3 tests/names.py
 	python3 tests/run.py "$(PROGRAM)"
 	python3 tests/documents.py "$(PROGRAM)"
 
 check: ## The gate: proves all crates and their tests from nothing, tries the must-fail edits, runs all tests; over an hour on four processors, twice that on two.
-	rt ci
+	python3 tests/names.py
+	@python3 tools/check.py
 	python3 tests/run.py "$(PROGRAM)"
 	python3 tests/documents.py "$(PROGRAM)"
 

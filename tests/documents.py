@@ -3,12 +3,13 @@
 
 usage: documents.py PROGRAM [DOCUMENT..]
 
-The documents are README.md, docs/*.md and man/cbpf.1; README.md, docs/REFERENCE.md and the page have examples. In Markdown an example stands between
-```console and ```, in the page between .Bd -literal and .Ed. A line that begins with `$ ` is a command, which `sh` runs
-in a copy of examples/, with completion/ beside it, one for each document, with PROGRAM as `cbpf` on the PATH. The lines after it are what it prints,
-on standard output and standard error. Where the command takes the keyboard (`cbpf`, `cbpf dbg` or `.. cat) | cbpf`), they
-are a session: each line that is no reply is typed, and a block without a command goes on with it. A line `..` stands
-for any lines. A command whose tool is missing isn't run, and neither is its session.
+The documents are README.md, CONTRIBUTING.md, docs/*.md and man/cbpf.1; README.md, docs/REFERENCE.md and the page have
+examples. In Markdown an example stands between ```console and ```, in the page between .Bd -literal and .Ed. A line that
+begins with `$ ` is a command, which `sh` runs in a copy of examples/, with completion/ beside it, one for each document,
+with PROGRAM as `cbpf` on the PATH. The lines after it are what it prints, on standard output and standard error. Where
+the command takes the keyboard (`cbpf`, `cbpf dbg` or `.. cat) | cbpf`), they are a session: each line that is no reply
+is typed, and a block without a command goes on with it. A line `..` stands for any lines. A command whose tool is
+missing isn't run, and neither is its session.
 Each relative link of the Markdown documents names a file that is there, and the arrows of docs/ARCHITECTURE.md lead
 from each crate to those below it by crates.txt, directly or not.
 The last line is `N passed, M failed`, and how many weren't run where there are such.
@@ -138,7 +139,8 @@ def main():
     if len(sys.argv) < 2:
         sys.exit(__doc__)
     names = [Path(name).resolve() for name in sys.argv[2:]]
-    documents = names or [*REQUIRED, *sorted(set((TOP / "docs").glob("*.md")) - set(REQUIRED))]
+    others = {TOP / "CONTRIBUTING.md", *(TOP / "docs").glob("*.md")} - set(REQUIRED)
+    documents = names or [*REQUIRED, *sorted(others)]
     passed = failed = not_run = 0
     for path in documents:
         faults = [f"no file {name}" for name in broken_links(path)] if path.suffix == ".md" else []

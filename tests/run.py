@@ -8,6 +8,7 @@ Each folder below tests/cases that has a file `stdout` is a case. The program ru
   args     its arguments, one a line
   command  a shell command to run in its place, where the program is $PROGRAM and examples/ is $EXAMPLES
   files/   files that lie where it runs
+  captures one line for each capture of tests/captures that lies there too: its name, a space, its name there
   setup    one shell command a line, run there first
 and must give
   stdout   exactly this
@@ -24,6 +25,7 @@ import tempfile
 from pathlib import Path
 
 CASES = Path(__file__).resolve().parent / "cases"
+CAPTURES = CASES.parent / "captures"
 EXAMPLES = CASES.parent.parent / "examples"
 SECONDS = 60
 
@@ -36,6 +38,9 @@ def differences(case, program):
     with tempfile.TemporaryDirectory() as folder:
         if (case / "files").is_dir():
             shutil.copytree(case / "files", folder, dirs_exist_ok=True)
+        for line in content(case / "captures").decode().splitlines():
+            capture, name = line.split(" ", 1)
+            shutil.copy(CAPTURES / capture, Path(folder) / name)
         for command in content(case / "setup").decode().splitlines():
             subprocess.run(command, shell=True, cwd=folder, check=True)
         words = [program, *content(case / "args").decode().splitlines()]

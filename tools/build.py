@@ -32,7 +32,7 @@ def main():
     crates = order(libraries, PROGRAM, [])
     print(BEFOREHAND, flush=True)
     began = time.time()
-    said = []
+    output = []
     with subprocess.Popen(
         ["rt", "run"],
         cwd=ROOT / "crates" / PROGRAM,
@@ -42,7 +42,7 @@ def main():
         text=True,
     ) as rt:
         for line in rt.stdout:
-            said.append(line)
+            output.append(line)
             at_work = re.match(r"rt: chose --jobs \d+ for (\w+)$", line)
             if at_work and at_work[1] in crates:
                 place = crates.index(at_work[1]) + 1
@@ -53,7 +53,7 @@ def main():
                     flush=True,
                 )
     if rt.returncode:
-        sys.stderr.writelines(said[-60:])
+        sys.stderr.writelines(output[-60:])
         sys.exit(1)
     print(f"proved: {len(crates)} crates; the program is crates/{PROGRAM}/out/{PROGRAM}")
 

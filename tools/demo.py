@@ -29,10 +29,10 @@ def main():
     shown = 0
     for command in (EXAMPLES / SCRIPT).read_text().splitlines(keepends=True):
         commands += command
-        said = replies(program, commands)
+        printed = replies(program, commands)
         print(">", command, end="")
-        print(said[shown:], end="")
-        shown = len(said)
+        print(printed[shown:], end="")
+        shown = len(printed)
     print("Done. Next: `make install`, and then `cbpf dbg --help`; or type these commands in examples/ yourself.")
 
 

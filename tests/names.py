@@ -1,0 +1,356 @@
+#!/usr/bin/env python3
+"""Checks that what the documents name is there.
+
+usage: names.py
+
+The documents are README.md, CONTRIBUTING.md, docs/*.md, bench/*.md, tests/*.md, crates/*/README* and
+crates/*/must-fail/README.md. Each is read outside its blocks of code, and names what stands between backquotes:
+  a path           with a slash or a suffix of this repository's files: it is there, from the top, from crates/, from
+                   the document's folder, from a crate of the heading or of the row, or in examples/
+  another name     it stands in the code, the definitions, the proofs or the scripts, or it is a file's or a folder's
+  cbpf_..          also without backquotes: a crate, or a name of the code
+  a clause         in the column `clause` of docs/PROMISES.md: an `ensures` of the functions of its row, or a member of
+                   a trait that the crate implements
+  a definition     in the first column of docs/DEFINITIONS.md, or at the head of an item there: it stands in the file
+                   that its row names
+  an edit          in the first column of a table of must-fail/README.md: its file is there, and each of its `old:` texts
+                   stands once where it says. Each edit has one row, whose function and clause are there
+  a call           in a block ```calls of docs/ARCHITECTURE.md: the function stands in the line's file
+The last line is `N names, M failed`.
+"""
+
+import re
+import sys
+from functools import cache
+from pathlib import Path
+
+TOP = Path(__file__).resolve().parent.parent
+CRATES = TOP / "crates"
+SUFFIXES = "rt antt edit md py sh txt asm dbg pcap pcapng words bash 1 c".split()
+SOURCES = "rt antt edit py sh bash words asm dbg 1 c".split()
+# Names of other people's files, what a build makes, and a placeholder.
+OUTSIDE = re.compile(r"[/~$]|linux/|Documentation/|PREFIX/|(crates/cbpf/)?out/|.*\bwhat_is_wrong\.edit$")
+# Calls of the standard library that no source of ours writes.
+STANDARD = set("grow shrink cmp partial_cmp madvise".split())
+# Documents of what users type, in which a name needn't be one of the sources.
+OF_USERS = {"REFERENCE.md", "KERNEL_TOOLS.md"}
+CODE_SPAN = re.compile(r"(?<!`)`([^`]+)`(?!`)")
+IDENTIFIER = re.compile(r"[A-Za-z_]\w*")
+FUNCTION = re.compile(r"\bfn (\w+)")
+
+faults = []
+names = 0
+
+
+def check(holds, path, line, what):
+    global names
+    names += 1
+    if not holds:
+        faults.append(f"{path.relative_to(TOP)}:{line}: {what}")
+
+
+def files_below(folder):
+    for path in sorted(folder.iterdir()):
+        if path.is_dir():
+            if path.name not in ("out", ".git", "cases", "captures"):
+                yield path
+                yield from files_below(path)
+        else:
+            yield path
+
+
+@cache
+def text_of(path):
+    return path.read_text(errors="replace")
+
+
+@cache
+def all_paths():
+    return list(files_below(TOP))
+
+
+@cache
+def words():
+    """All names of the code, the definitions, the proofs and the scripts, and of their files."""
+    found = set()
+    for path in all_paths():
+        found |= {path.name, path.stem}
+        if path.suffix[1:] in SOURCES or path.name in ("Makefile", "crates.txt"):
+            text = text_of(path)
+            if path.suffix in (".rt", ".antt"):
+                text = re.sub(r"^\s*(//|--).*$", "", text, flags=re.M)
+            found |= set(re.findall(r"[A-Za-z_]\w*(?:-\w+)*", text)) | set(re.findall(r"\w+", text))
+    found |= {path.name for path in (TOP / "tests").rglob("*") if path.is_dir() or path.suffix == ".pcap"}
+    return found
+
+
+@cache
+def crates():
+    return {path.name for path in CRATES.iterdir() if path.is_dir()}
+
+
+def is_path(name):
+    if re.fullmatch(r"[\w.*<>/{},-]+", name) is None:
+        return False
+    head, _, suffix = name.rpartition(".")
+    return "/" in name or (head != "" and suffix in SUFFIXES)
+
+
+def found(pattern, folders):
+    pattern = re.sub(r"\bNAME\b|<\w+>", "*", pattern).rstrip("/")
+    return any(next(folder.glob(pattern), None) for folder in folders if folder.is_dir())
+
+
+def is_there(name, document, here, in_table):
+    if OUTSIDE.match(name) or name[0].isdigit():
+        return True
+    if "/" not in name.rstrip("/") and "*" not in name:
+        return any(path.name == name.rstrip("/") for path in all_paths()) or (TOP / "tests/cases" / name).is_dir()
+    folders = [TOP, CRATES, document.parent, TOP / "examples", TOP / "tests/cases"]
+    near = [CRATES / crate for crate in here]
+    anywhere = [] if in_table and near else [CRATES / crate for crate in crates()]
+    return found(name, folders + near + anywhere)
+
+
+def is_known(name):
+    """Whether each part of a name, as of `Session::run` or `x.old`, stands somewhere in the sources."""
+    return all(part in words() or part in STANDARD for part in re.findall(r"[A-Za-z_]\w*", name))
+
+
+def looks_like_a_name(span):
+    return re.fullmatch(r"[A-Za-z_][\w]*(?:(?:::|\.)[A-Za-z_]\w*)*(?:\(.*\))?", span) is not None
+
+
+def lines_of(path):
+    """The lines outside blocks of code, with their numbers."""
+    block = False
+    for number, line in enumerate(text_of(path).splitlines(), 1):
+        if line.startswith("```"):
+            block = not block
+        elif not block:
+            yield number, line
+
+
+def cells_of(line):
+    if not line.startswith("|"):
+        return None
+    return [cell.strip() for cell in re.split(r"(?<!\\)\|", line.strip().strip("|"))]
+
+
+def tables(path):
+    """The rows of a document's tables: line, the heading above, the head of the table, the cells."""
+    heading, head = "", None
+    for number, line in lines_of(path):
+        cells = cells_of(line)
+        if cells is None:
+            heading = line if line.startswith("#") else heading
+            head = None
+        elif head is None:
+            head = cells
+        elif not set("".join(cells)) <= set("-: "):
+            yield number, heading, head, cells
+
+
+def crates_in(text):
+    return [word for word in re.findall(r"\w+", text) if word in crates()]
+
+
+def check_spans(path):
+    here = [path.parent.parent.name] if path.parent.name == "must-fail" else []
+    for number, line in lines_of(path):
+        if line.startswith("#"):
+            above = crates_in(line)
+            if line.startswith("## ") or above:
+                here = above or ([path.parent.parent.name] if path.parent.name == "must-fail" else [])
+        near = here + crates_in(line)
+        for span in CODE_SPAN.findall(line):
+            if is_path(span):
+                check(is_there(span, path, near, line.startswith("|")), path, number, f"no file or folder {span}")
+            elif looks_like_a_name(span) and not span.isupper() and path.name not in OF_USERS:
+                name = re.sub(r"\(.*\)$", "", span)
+                check(is_known(name), path, number, f"no name {span}")
+        for name in re.findall(r"(?<![\w/.])cbpf_\w+", CODE_SPAN.sub("", line)):
+            check(name in crates() or name in words(), path, number, f"no crate {name}")
+
+
+@cache
+def functions(crate):
+    """The functions of a crate, each with the names of its clauses (of all functions of this name)."""
+    clauses = {}
+    for path in sorted((CRATES / crate / "src").rglob("*.rt")):
+        name = None
+        for line in text_of(path).splitlines():
+            if match := FUNCTION.search(line):
+                name = match[1]
+                clauses.setdefault(name, set())
+            if name and (match := re.match(r"\s*(?:ensures|requires)\s+(\w+)\s*\{", line)):
+                clauses[name].add(match[1])
+    return clauses
+
+
+@cache
+def members(crate):
+    """The ghost members and laws of a crate's traits and impl blocks, and the derives' own clauses."""
+    text = "".join(text_of(path) for path in sorted((CRATES / crate / "src").rglob("*.rt")))
+    return set(re.findall(r"\bghost (?:law )?(\w+)", text)) | {"ensures"}
+
+
+def check_promises(path):
+    called = []
+    for number, heading, head, cells in tables(path):
+        columns = [i for i, name in enumerate(head) if re.fullmatch("clauses?", name)]
+        own = crates_in(heading)
+        if not columns or not own:
+            continue
+        if cells[0]:
+            calls = CODE_SPAN.findall(cells[0])
+            called = [re.sub(r"\(.*", "", call).split("::")[-1] for call in calls]
+            for call in calls:
+                for part in re.findall(r"\w+", re.sub(r"\(.*", "", call)):
+                    check(is_known(part), path, number, f"no call {call}")
+        text = cells[columns[0]]
+        inner = re.findall(r"`(\w+)`:", text)
+        for name in CODE_SPAN.findall(text):
+            if not re.fullmatch(r"[a-z]\w*", name) or name in inner:
+                continue
+            where = inner or called
+            known = [functions(crate)[f] for crate in own for f in where if f in functions(crate)]
+            holds = any(name in clauses for clauses in known)
+            holds = holds or any(name in members(crate) for crate in own)
+            if not known:
+                # The row is of a type, and the cell names its functions or their clauses.
+                holds = holds or any(name in functions(crate) for crate in own)
+                holds = holds or any(name in clauses for crate in own for clauses in functions(crate).values())
+            check(holds, path, number, f"no clause {name} of {', '.join(where)} in {', '.join(own)}")
+        for name in inner:
+            check(any(name in functions(crate) for crate in own), path, number, f"no function {name}")
+
+
+@cache
+def defined(path):
+    """The names that a file of definitions defines: those with a type, their members, and data."""
+    typed = re.findall(r"^\s*(?:abbrev |unfoldable )?(?:pub )?([^\s:(){}]+) :", text_of(path), re.M)
+    return {*typed, *re.findall(r"^\s*pub (?:data|record) (\S+)", text_of(path), re.M)}
+
+
+def definition_files(text, before, crate_names):
+    """The files that a cell or a head names: paths by its crates, or those of the row above."""
+    listed = re.findall(r"[\w/]*specs/\w+\.antt", text)
+    if not listed:
+        return before
+    files = []
+    for name in listed:
+        folders = [TOP] + [CRATES / crate for crate in crate_names]
+        files += [folder / name for folder in folders if (folder / name).exists()][:1]
+    return files
+
+
+def check_definitions(path):
+    files, seen = [], None
+    for number, heading, head, cells in tables(path):
+        own = crates_in(" ".join(head)) or crates_in(heading)
+        if heading != seen:
+            files, seen = [], heading
+        if not head[-1].startswith("file"):
+            continue
+        files = definition_files(cells[-1], files, own)
+        check(bool(files), path, number, f"no file for {cells[0]}")
+        for name in CODE_SPAN.findall(cells[0]):
+            holds = any(name.split()[0] in defined(file) for file in files)
+            check(holds, path, number, f"no definition {name} in {cells[-1]}")
+    check_items(path)
+
+
+def check_items(path):
+    """Definitions in lists: `- **a, b** (file): ..` and ``- `a`, `b` (file): ..``."""
+    own, files = [], []
+    for number, line in lines_of(path):
+        if line.startswith("#"):
+            own, files = crates_in(line), []
+        match = re.match(r"- (.+?) \(([^)]*)\)", line)
+        if not match or not own:
+            continue
+        files = definition_files(match[2], files, own)
+        for name in re.findall(r"\w+", match[1]):
+            check(any(name in defined(file) for file in files), path, number, f"no definition {name} in {match[2]}")
+
+
+def check_edit(path, crate):
+    """Whether each of an edit's texts stands once in its file, as the edit before it left that."""
+    texts, target, old = {}, None, None
+    for number, line in enumerate(text_of(path).splitlines(), 1):
+        if line.startswith("file: "):
+            target = CRATES / crate / line.removeprefix("file: ")
+            check(target.is_file(), path, number, f"no {target.relative_to(TOP)}")
+            texts.setdefault(target, text_of(target) if target.is_file() else "")
+        elif line.startswith("old: ") and target:
+            old = line.removeprefix("old: ")
+            times = texts[target].count(old)
+            check(times == 1, path, number, f"stands {times} times: {old}")
+        elif line.startswith("new:") and old:
+            texts[target] = texts[target].replace(old, line.removeprefix("new:").removeprefix(" "))
+            old = None
+    check(bool(texts), path, 1, "no file")
+
+
+def check_edits(path):
+    crate = path.parent.parent.name
+    rows = {}
+    for number, _, head, cells in tables(path):
+        if not head[0].startswith("edit"):
+            continue
+        for name in CODE_SPAN.findall(cells[0]):
+            rows.setdefault(name, []).append(number)
+            check((path.parent / f"{name}.edit").exists(), path, number, f"no edit {name}")
+        called = [name for name in CODE_SPAN.findall(cells[-1]) if name.split("::")[-1] in functions(crate)]
+        for name in CODE_SPAN.findall(cells[-1]):
+            if not re.fullmatch(r"[a-z][\w:]*", name):
+                continue
+            last = name.split("::")[-1]
+            clauses = [functions(crate)[f.split("::")[-1]] for f in called]
+            holds = last in functions(crate) or any(last in found for found in clauses) or last in members(crate)
+            if not holds and not clauses:
+                holds = any(last in found for found in functions(crate).values()) or last in words()
+            check(holds, path, number, f"no function or clause {name} in {crate}")
+    for edit in sorted(path.parent.glob("*.edit")):
+        check(len(rows.get(edit.stem, [])) == 1, path, 1, f"{len(rows.get(edit.stem, []))} rows for {edit.name}")
+        check_edit(edit, crate)
+
+
+def check_calls(path):
+    block = False
+    for number, line in enumerate(text_of(path).splitlines(), 1):
+        if line.startswith("```"):
+            block = line == "```calls"
+        elif block and line.strip():
+            file, *called = re.split(r"\s+|→", line.strip())
+            target = CRATES / file
+            check(target.is_file(), path, number, f"no file {file}")
+            known = set(FUNCTION.findall(text_of(target))) if target.is_file() else set()
+            for name in filter(None, called):
+                check(name in known, path, number, f"no function {name} in {file}")
+
+
+def main():
+    documents = [TOP / "README.md", TOP / "CONTRIBUTING.md"]
+    for pattern in ("docs/*.md", "bench/*.md", "tests/*.md", "crates/*/README*", "crates/*/must-fail/README.md"):
+        documents += sorted(TOP.glob(pattern))
+    for path in documents:
+        check_spans(path)
+        check_calls(path)
+        if path.name == "PROMISES.md":
+            check_promises(path)
+        if path.name == "DEFINITIONS.md":
+            check_definitions(path)
+        if path.parent.name == "must-fail":
+            check_edits(path)
+    for folder in sorted(CRATES.glob("*/must-fail")):
+        check((folder / "README.md").exists(), folder, 1, "no README.md")
+    for fault in faults:
+        print(fault)
+    print(f"{names} names, {len(faults)} failed")
+    sys.exit(1 if faults else 0)
+
+
+if __name__ == "__main__":
+    main()

@@ -1,0 +1,46 @@
+#!/usr/bin/env python3
+"""Runs the gate of the toolchain, `rt ci`, and says before each of its steps how long it has run.
+
+What `rt ci` prints goes through as it is, but a line of a step has the time in front: a crate that is proved, its
+tests, and a crate whose must-fail edits are at work. It ends as `rt ci` ends.
+"""
+
+import os
+import re
+import shutil
+import subprocess
+import sys
+import time
+from pathlib import Path
+
+ROOT = Path(__file__).resolve().parent.parent
+STEP = re.compile(r"rt: (\w+)(: its tests are)? (proved|NOT PROVED|ran)|rt: (\w+): trying its must-fail edits")
+
+
+def main():
+    if not shutil.which("rt"):
+        sys.exit("The command rt of the Rattle toolchain is not on the PATH.")
+    lines = (ROOT / "crates.txt").read_text().splitlines()
+    crates = sum(1 for line in lines if re.match(r"\w", line))
+    edits = sum(1 for _ in ROOT.glob("crates/*/must-fail/*.edit"))
+    print(f"{crates} crates to prove, then their tests, and {edits} must-fail edits to refuse.", flush=True)
+    began = time.time()
+    with subprocess.Popen(
+        ["rt", "ci"],
+        cwd=ROOT,
+        stdin=subprocess.DEVNULL,
+        stdout=subprocess.PIPE,
+        stderr=subprocess.STDOUT,
+        text=True,
+        errors="replace",
+        env={**os.environ, "PYTHONUNBUFFERED": "1"},
+    ) as rt:
+        for line in rt.stdout:
+            minutes, seconds = divmod(int(time.time() - began), 60)
+            passed = f"[{minutes}:{seconds:02}] " if STEP.match(line) else ""
+            print(passed + line, end="", flush=True)
+    sys.exit(rt.returncode)
+
+
+if __name__ == "__main__":
+    main()
