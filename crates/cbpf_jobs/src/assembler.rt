@@ -13,9 +13,6 @@ use std::io::{Read, Write};
 /// How many bytes are read at once, at most.
 const CHUNK: usize = 4096;
 
-/// Room for the sources that people write. What isn't used of it is never touched.
-const FIRST_ROOM: usize = 65536;
-
 /// All bytes up to the reader's end, by at most 18446744073709551615 reads. A read that is interrupted has
 /// failed like any other, which `read_to_end` would make again.
 fn read_source<A: Allocator, R: Read>(alloc: A, reader: &mut R) -> Result<Vec<u8, A>, ToolFault>
@@ -23,9 +20,7 @@ fn read_source<A: Allocator, R: Read>(alloc: A, reader: &mut R) -> Result<Vec<u8
     ensures end { OnOk result (IsAtEnd (R.remaining reader.new)) }
     ensures fault { IfErr result IsReadingFault }
 {
-    let Ok(mut source) = Vec::with_capacity(alloc, FIRST_ROOM) else {
-        return Err(ToolFault::Memory);
-    };
+    let mut source = Vec::new(alloc);
     let mut chunk = [0; CHUNK];
     for _ in 0..u64::MAX {
         let Ok(count) = reader.read(&mut chunk) else {
