@@ -124,7 +124,7 @@ number_at-same list i n m a b =
     let same : a.0 ≡ b.0 = cc in
     sym a.2 ∙ ap (λ (insn : Insn). number_by_code (op_of insn.code)) same ∙ b.2
 
--- outside C3 to C8 the rank tells the number
+-- outside C3 to C8 the rank decides the number
 abbrev number_of_rank : ℕ → ℕ
 number_of_rank r = if r == 0 then 1 else if r == 1 then 2 else if r == 3 then 9 else 10
 

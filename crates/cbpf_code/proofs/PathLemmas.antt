@@ -52,7 +52,7 @@ pub reached-unwritten_at : (list : List Insn) (s i : ℕ) → MayBeUnwritten lis
 reached-unwritten_at list s _ at_start = inl refl
 reached-unwritten_at list s _ (onward {h} below unwritten keeps next) = inr (h, below, unwritten, keeps, next)
 
--- the masks tell what the first m instructions lead to, and none of these loads a slot that may be unwritten
+-- the masks say what the first m instructions lead to, and none of these loads a slot that may be unwritten
 pub record TracksPaths (list : List Insn) (m : ℕ) (masks : List ℕ) : Type 0 where
   pub long : length masks ≡ 4096
   pub marks : (t s : ℕ) → s < 16 → InMaskOf masks t s → ReachedUnwritten list s m t

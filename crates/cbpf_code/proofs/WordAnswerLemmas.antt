@@ -1,4 +1,4 @@
--- The answer of the reader is one: a text that spells a list is refused by nothing but want of memory, and a text has one fault at most.
+-- The answer of the reader is one: a text that spells a list is refused by nothing but a lack of memory, and a text has one fault at most.
 use Rattle.std.proofs.Common.{◌≡◌, ◌≢◌, ℕ, ◌⊎◌, inl, inr, List, length, refl, sym, ap, ◌∙◌, Option, Some}
 use Rattle.std.specs.Prelude.{MatchResult, Result, Ok, Err}
 use Rattle.cbpf_code.specs.WordText.{Loose, Spells, Breaks, Refused, count_of}
@@ -18,7 +18,7 @@ breaks-loose text list e loose broken = elim broken.why [
   | inr end ↦ end.1 list loose
 ]
 
--- a fault but want of memory is that of a bad mark or of the end, or the count's
+-- a fault other than out of memory is that of a bad mark or of the end, or the count's
 refused-cases : (text : List ℕ) (e : WordFault) → e ≢ Memory → Refused text e → Breaks text e ⊎ ((list : List Insn) × Loose text list × (e ≡ CountDiffers (count_of text) (length list)) × (count_of text ≢ length list))
 refused-cases text Memory other r = absurd (other refl)
 refused-cases text (NumberExpected p) other r = inl r

@@ -64,7 +64,7 @@ reads-space text j m ns r =
       told = λ at. ap numbers (e at) ∙ r.told (at + 1);
     }
 
--- the comma behind the count, and that behind each instruction
+-- the comma after the count, and that after each instruction
 reads-comma : (text : List ℕ) (m : ℕ) (ns : List ℕ) → Reads text 2 m ns → Reads (44 ∷ text) 1 (m + 1) ns
 reads-comma text m ns r =
     let e = λ (at : ℕ). law-single at 44 text refl refl in

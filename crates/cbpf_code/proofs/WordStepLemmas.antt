@@ -47,7 +47,7 @@ no_comma : (q : ℕ) (es : List ℕ) (o o' : Option WordFault) → or_else o (or
 no_comma q es None o' h = cc
 no_comma q es (Some x) o' h = cc
 
--- after two good marks the numbers from mark 2 on are those behind the first
+-- after two good marks the numbers from mark 2 on are those after the first
 numbers-drop : (ms : List Mark) → first_fault 0 ms ≡ None → 2 ≤ length ms → numbers (drop 2 ms) ≡ drop 1 (numbers ms)
 numbers-drop [] g l = absurd (omega (arith, l))
 numbers-drop (m ∷ []) g l = absurd (omega (arith, l))
@@ -71,7 +71,7 @@ read-next text c list i at mid end r x y = record {
   told = r.told ∙ ap (λ (t : List ℕ). c ∷ (fields_of list ++ t)) (x.told ∙ ap (λ (t : List ℕ). i.code ∷ i.jt ∷ i.jf ∷ i.k ∷ t) y.told) ∙ ap (λ (t : List ℕ). c ∷ t) (fields_of-push list i (numbers (marks_after text end)));
 }
 
--- the end, behind a comma
+-- the end, after a comma
 pub whole-by : (text : List ℕ) (c : ℕ) (list : List Insn) → first_fault 0 (marks text) ≡ None → 2 ≤ length (marks text) → (length (marks text) % 5 ≡ 1) ⊎ (length (marks text) % 5 ≡ 2) → numbers (marks text) ≡ c ∷ fields_of list → IsReadWhole text c list
 whole-by text c list good begun ended told = record {
   loose = record {
@@ -88,7 +88,7 @@ read-done text c list at r e =
     let len : length (marks_after text at) ≡ 0 = ap length e in
     whole-by text c list (r.good ∙ ap (first_fault 2) e) (omega (arith, r.marks_so_far)) (inr (omega (arith, r.marks_so_far))) (r.told ∙ ap (λ (ms : List Mark). c ∷ (fields_of list ++ numbers ms)) e ∙ ap (λ (ns : List ℕ). c ∷ ns) (append-nil (fields_of list)))
 
--- and behind an instruction
+-- and after an instruction
 pub read-last : (text : List ℕ) (c : ℕ) (list : List Insn) (i : Insn) (at end : ℕ) → IsRead text c list at → Passes text 2 at 4 (i.code ∷ i.jt ∷ i.jf ∷ i.k ∷ []) end → marks_after text end ≡ [] → IsReadWhole text c (list ++ i ∷ [])
 read-last text c list i at end r x e =
     let len : length (marks_after text end) ≡ 0 = ap length e in

@@ -23,7 +23,7 @@ join_digit at b [] = []
 join_digit at b (single p x ∷ ms) = single p x ∷ ms
 join_digit at b (run p ds ∷ ms) = run at (b ∷ ds) ∷ ms
 
--- the marks of a text whose first byte has the place `at`: a digit joins the run behind it, if there is one
+-- the marks of a text whose first byte has the place `at`: a digit joins the run after it, if there is one
 unfoldable pub marks_from : ℕ → List ℕ → List Mark
 marks_from at [] = []
 marks_from at (b ∷ bs) =

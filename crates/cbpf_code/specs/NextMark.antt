@@ -9,7 +9,7 @@ use Rattle.cbpf_code.specs.declared.scan.Lexeme.TheVariants.{Digits, Byte}
 abbrev pub mark_of : List ℕ → Found → Mark
 mark_of text f = elim f.lexeme [ Digits v ↦ run f.place (slice_range text f.place f.end) | Byte b ↦ single f.place b ]
 
--- a number is told up to a cap that no field reaches
+-- a number is read up to a cap that no field reaches
 abbrev pub ToldBy : List ℕ → Found → Lexeme → Type 0
 ToldBy text f (Digits v) = v ≡ min (number (slice_range text f.place f.end)) (2 ^ 32)
 ToldBy text f (Byte b) = Unit {0}

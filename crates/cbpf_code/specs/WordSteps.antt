@@ -22,7 +22,7 @@ abbrev pub fields_of : List Insn → List ℕ
 fields_of [] = []
 fields_of (i ∷ is) = i.code ∷ i.jt ∷ i.jf ∷ i.k ∷ fields_of is
 
--- the text was read up to `at`: its count, and a list with a comma behind each instruction
+-- the text was read up to `at`: its count, and a list with a comma after each instruction
 pub record IsRead (text : List ℕ) (count : ℕ) (list : List Insn) (at : ℕ) : Type 0 where
   pub within : at ≤ length text
   pub good : first_fault 0 (marks text) ≡ first_fault 2 (marks_after text at)

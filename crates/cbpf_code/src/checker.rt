@@ -36,7 +36,7 @@ pub enum CheckFault {
     ZeroDivisor(u32),
     /// C6: a shift by a number of 32 or more.
     WideShift(u32),
-    /// C7: a target of a jump is behind the last instruction.
+    /// C7: a target of a jump is after the last instruction.
     JumpOutside(u32),
     /// C8: an absolute load from 4294963200 or more where no extension has its place.
     UnknownExtension(u32),

@@ -4,7 +4,7 @@ ghost use Rattle.std.specs.List.{AllByRecursion};
 ghost use Rattle.cbpf_code.specs.Marks.{single, run, is_digit, is_blank, begins_with_digit, number, marks_from, marks_after};
 ghost use Rattle.cbpf_code.specs.NextMark.{IsNextMark};
 
-/// No field of word text reaches this number, so greater ones are not told from it.
+/// No field of word text reaches this number, so greater ones stand for it.
 const CAP: u64 = 4_294_967_296;
 
 fn is_digit_byte(b: u8) -> bool
@@ -45,7 +45,7 @@ pub enum Lexeme {
     Byte(u8),
 }
 
-/// A mark with the place of its first byte and the place behind its last.
+/// A mark with the place of its first byte and the place after its last.
 #[derive(Clone, Copy)]
 pub struct Found {
     pub place: usize,
@@ -95,7 +95,7 @@ pub fn next_mark(text: &[u8], at: usize) -> Option<Found>
 
 /// How a text falls into marks, read from its front: a blank is passed, a byte that is neither blank
 /// nor digit stands alone, and digits are one run up to a byte that is none. It does nothing; its
-/// clauses are laws of the marks that [`read_words`](crate::read_words) is told by.
+/// clauses are laws of the marks that [`read_words`](crate::read_words) is defined by.
 pub fn laws_of_marks()
     ensures empty { (at : ℕ) → marks_from at [] ≡ [] }
     ensures blank { (at b : ℕ) (rest : List ℕ) → is_blank b ≡ true →

@@ -25,7 +25,7 @@ pub enum WordFault {
     UnexpectedByte(usize),
     /// N4: the count differs from the number of instructions.
     CountDiffers { said: u32, found: usize },
-    /// N5: a number, or the end of the text behind the count, where a comma must stand.
+    /// N5: a number, or the end of the text after the count, where a comma must stand.
     CommaExpected(usize),
 }
 

@@ -141,13 +141,13 @@ abbrev pub name_in : List ℕ → Option Spelled
 name_in [] = None
 name_in (b ∷ bs) = if is_utf8 (b ∷ bs) then Some (load_capture (b ∷ bs)) else None
 
--- by the word behind `load`, and the text behind that word
+-- by the word after `load`, and the text after that word
 abbrev pub load_by : List (List ℕ) → List ℕ → Option Spelled
 load_by [] text = None
 load_by (w ∷ ws) text =
     if bytes_eq w (codes "bpf") then words_in text else (if bytes_eq w (codes "pcap") then name_in text else None)
 
--- by the words behind the verb; `text` is what stands behind the first of them, without the blanks around it
+-- by the words after the verb; `text` is what stands after the first of them, without the blanks around it
 abbrev pub spelled_by : Verb → List (List ℕ) → List ℕ → Option Spelled
 spelled_by verb.Load ws text = load_by ws text
 spelled_by verb.Run ws text = run_by ws

@@ -1,4 +1,4 @@
--- The words of a command line, and what stands behind them.
+-- The words of a command line, and what stands after them.
 use Rattle.std.specs.Prelude.{ℕ, zero, suc, Bool, true, false, ◌&&◌, not, if◌then◌else◌, List, [], ◌∷◌}
 use Rattle.cbpf_code.specs.Marks.{is_blank}
 
@@ -16,7 +16,7 @@ unfoldable pub words : List ℕ → List (List ℕ)
 words [] = []
 words (b ∷ bs) = if is_blank b then words bs else (if begins_word bs then put_front b (words bs) else ((b ∷ []) ∷ words bs))
 
--- the text behind its first n words
+-- the text after its first n words
 unfoldable pub behind : ℕ → List ℕ → List ℕ
 behind zero bs = bs
 behind (suc n) [] = []

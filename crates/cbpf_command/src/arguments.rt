@@ -1,4 +1,4 @@
-// The words behind a command's first one.
+// The words after a command's first one.
 ghost use Rattle.cbpf_command.specs.Words.{words};
 ghost use Rattle.cbpf_command.specs.Arguments.{Holds};
 

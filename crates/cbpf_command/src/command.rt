@@ -44,7 +44,7 @@ pub enum Command<'a> {
     Select(u64),
     /// `mark`: the place, as `resume` takes it.
     Mark,
-    /// `resume p s`: to a place that `mark` told.
+    /// `resume p s`: to a place that `mark` printed.
     Resume {
         /// The packet's number, from 1.
         packet: u64,
@@ -232,7 +232,7 @@ fn load_by(text: &[u8]) -> Option<Command<'_>>
     }
 }
 
-/// The command of a verb with what stands behind it.
+/// The command of a verb with what stands after it.
 fn command_by(verb: Verb, text: &[u8]) -> Option<Command<'_>>
     ensures { option_map spec.meaning result ≡ spec.spelled_by verb (words text.now) (trimmed (behind 1 text.now)) }
 {

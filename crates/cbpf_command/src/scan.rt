@@ -54,7 +54,7 @@ fn word_len(text: &[u8]) -> usize
     len
 }
 
-/// The first word, and what stands behind it.
+/// The first word, and what stands after it.
 #[tactic(auto, using(crate::proofs::WordLemmas::firsts))]
 pub fn next_word(text: &[u8]) -> Option<(&[u8], &[u8])>
     ensures words { MatchOption result (spec.words text.now ≡ []) (λ r. spec.words text.now ≡ r.0.now ∷ spec.words r.1.now) }

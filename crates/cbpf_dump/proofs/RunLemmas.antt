@@ -11,7 +11,7 @@ same-eq v = grind (arith, tests)
 other-eq : (v x : ℕ) → (x ≡ v → ⊥) → (v == x) ≡ false
 other-eq v x n = grind (arith, tests)
 
--- slots i to j and slot k of one value, then the runs behind
+-- slots i to j and slot k of one value, then the runs after
 before-same : (i j k v : ℕ) (rs : List Run) → before i j v (before k k v rs) ≡ before i k v rs
 before-same i j k v [] = rw (same-eq v) refl
 before-same i j k v (r ∷ rs) = elim (v == r.value) as (λ t. before i j v (cond t (record { first = k; last = r.last; value = v } ∷ rs) (record { first = k; last = k; value = v } ∷ r ∷ rs)) ≡ cond t (record { first = i; last = r.last; value = v } ∷ rs) (record { first = i; last = k; value = v } ∷ r ∷ rs)) [ true ↦ rw (same-eq v) refl | false ↦ rw (same-eq v) refl ]

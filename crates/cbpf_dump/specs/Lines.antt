@@ -2,7 +2,7 @@
 use Rattle.std.specs.Prelude.{ℕ, ◌-◌, ◌++◌, List, [], ◌∷◌, length, codes, decimal}
 use Rattle.cbpf_code.specs.Text.{joined, spaces, hex}
 
--- the pieces of a label, and the pieces behind it
+-- the pieces of a label, and the pieces after it
 abbrev pub labelled : List (List ℕ) → List (List ℕ) → List ℕ
 labelled label pieces = joined (label ++ (spaces (10 - length (joined label)) ∷ pieces))
 

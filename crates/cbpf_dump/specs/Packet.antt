@@ -9,7 +9,7 @@ abbrev pub texts_to : (ℕ → List ℕ) → ℕ → List ℕ
 texts_to f zero = []
 texts_to f (suc n) = texts_to f n ++ f n
 
--- two hexadecimal digits behind a space
+-- two hexadecimal digits after a space
 abbrev pub byte_text : ℕ → List ℕ
 byte_text b = joined (codes " " ∷ hex 2 b ∷ [])
 

@@ -9,7 +9,7 @@ pub record Run : Type 0 where
   pub last : ℕ
   pub value : ℕ
 
--- slots i to j, all of value v, in front of the runs behind them: a run of the same value grows by them
+-- slots i to j, all of value v, in front of the runs after them: a run of the same value grows by them
 abbrev pub before : ℕ → ℕ → ℕ → List Run → List Run
 before i j v [] = record { first = i; last = j; value = v } ∷ []
 before i j v (r ∷ rs) =

@@ -196,7 +196,7 @@ fn write_ending<W: Write>(w: &mut W, dump: &Dump<'_>) -> Result<(), WriteFault>
 /// Writes the dump of a stop in a program: the place, the registers before the instruction, the
 /// packet, and the reason.
 ///
-/// The caller sees to it that the pc is less than the program's length.
+/// The pc must be less than the program's length.
 ///
 /// # Errors
 ///

@@ -12,7 +12,7 @@ use std::io::Write;
 /// How many bytes stand in a row.
 const ROW: usize = 16;
 
-/// The bytes of a row in hexadecimal, each behind a space, at the front of the array.
+/// The bytes of a row in hexadecimal, each after a space, at the front of the array.
 fn cells(row: &[u8]) -> [u8; 48]
     requires { length row.now ≤ 16 }
     ensures { take (3 * length row.now) result ≡ flat_map spec.byte_text row.now }

@@ -116,6 +116,6 @@ pub next_entry : (w : List ℕ) (es : List declared_entry.Entry) (i : ℕ) (d : 
     → flat_map (entry_rows w) (map entry_of (take (i + 1) es)) ≡ flat_map (entry_rows w) (map entry_of (take i es)) ++ entry_rows w (entry_of (get_or es i d))
 next_entry w es i d l = rw (take_next es i d l, map-append entry_of (take i es) (get_or es i d ∷ []), flat_map-append (entry_rows w) (map entry_of (take i es)) (entry_of (get_or es i d) ∷ [])) (ap (λ ys. flat_map (entry_rows w) (map entry_of (take i es)) ++ ys) (append-nil (entry_rows w (entry_of (get_or es i d)))))
 
--- the rows of an addressing mode behind its last form
+-- the rows of an addressing mode after its last form
 pub all_forms : (w : List ℕ) (e : declared_entry.Entry) (forms : List (Bor (List declared_class.Class))) (i : ℕ) → map (λ f. map class_of f.now) forms ≡ mode_forms e.mode → length forms ≤ i → take i (entry_rows w (entry_of e)) ≡ entry_rows w (entry_of e)
 all_forms w e forms i h l = take_all i (entry_rows w (entry_of e)) (rw (rows_are w e forms h, length-map forms (form_row w e)) l)

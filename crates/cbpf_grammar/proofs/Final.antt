@@ -1,4 +1,4 @@
--- A whole row behind which no comma stands has more tokens that fit than any other.
+-- A whole row after which no comma stands has more tokens that fit than any other.
 use Rattle.std.proofs.Common.{◌≡◌, ℕ, zero, suc, ◌+◌, ◌<◌, ◌≤◌, Bool, true, false, not, ◌||◌, cond, List, [], ◌∷◌, length, map, take, drop, refl, arith, ap, sym, ◌∙◌, inl, inr, subst, get_or, flat_map}
 use Rattle.std.specs.Prelude.{Contains}
 use Rattle.std.proofs.lemmas.List.{take-append-drop}
@@ -69,7 +69,7 @@ most_2 (c ∷ cs) (d ∷ ds) (t ∷ ts) a w n =
 same_words : (v w : List ℕ) → v ≡ w → same_bytes v w ≡ true
 same_words v w e = rw e (same_bytes_refl w)
 
--- no row of the mnemonic has more tokens that fit than a whole one behind which no comma stands
+-- no row of the mnemonic has more tokens that fit than a whole one after which no comma stands
 whole_most : (m : Mnemonic) (r s : Row) (ts : List Lexeme) → Contains mnemonics m → Contains (rows_of m) r → Contains (rows_of m) s → common r.operand ts ≡ length r.operand → is_comma_at ts (length r.operand) ≡ false → common s.operand ts ≤ length r.operand
 whole_most m r s ts p k q w n =
     let words : s.mnemonic ≡ r.mnemonic = sym (row_word m s q) ∙ row_word m r k in

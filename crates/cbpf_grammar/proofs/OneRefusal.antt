@@ -1,4 +1,4 @@
--- A token list has at most one first refusal: no token is misplaced that is a number behind a `-`.
+-- A token list has at most one first refusal: no token is misplaced that is a number after a `-`.
 use Rattle.std.proofs.Common.{◌≡◌, ℕ, zero, suc, ◌+◌, ◌≤◌, Bool, true, false, not, ◌&&◌, ◌||◌, List, [], ◌∷◌, ◌++◌, take, refl, arith, ap, sym, ◌∙◌, ◌⊎◌, inl, inr, subst, append_assoc, append-nil, Option, Some, eqb-true, eq-eqb}
 use Rattle.std.specs.Prelude.{◌==◌, Contains}
 use Rattle.std.specs.List.{list_all}
@@ -36,7 +36,7 @@ starts_negated (exactly m ∷ cs) = false
 starts_negated (extension ∷ cs) = false
 starts_negated (name ∷ cs) = false
 
--- behind each `-` stands a literal's size
+-- after each `-` stands a literal's size
 abbrev pub minus_goes_on : List Class → Bool
 minus_goes_on [] = true
 minus_goes_on (c ∷ cs) = (not (is_minus c) || starts_negated cs) && minus_goes_on cs

@@ -188,7 +188,7 @@ name_stuck t ts row known a c = record {
     whole i k zero h = reserved_not_name (classes i.row) t [] (row_starts i.row k) (whole_front (classes i.row) (t ∷ []) h) a
     whole i k (suc m) h = let z : false ≡ true = (and_parts (fits name t.symbol) _ h).1 in cc
 
--- an item behind one more label
+-- an item after one more label
 pub label_whole : (t u : Lexeme) (f : List Lexeme) (item : Item) → fits name t.symbol ≡ true → fits (the_mark 58) u.symbol ≡ true → Form f item → Form (t ∷ u ∷ f) (record { labels = t ∷ item.labels; row = item.row; body = item.body })
 label_whole t u f item a b form =
     let n : suc form.count + suc form.count ≡ suc (suc (form.count + form.count)) = omega arith in

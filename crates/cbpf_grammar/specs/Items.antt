@@ -6,7 +6,7 @@ use Rattle.cbpf_grammar.specs.Fits.{fits_all, fits_front}
 use Rattle.cbpf_grammar.specs.Classes.Class.{the_word, the_mark, literal, negated, exactly, extension, name}
 use Rattle.cbpf_grammar.specs.Table.{Row, classes, table}
 
--- one instruction: its labels, its row of the table, and its tokens behind the labels
+-- one instruction: its labels, its row of the table, and its tokens after the labels
 pub record Item : Type 0 where
   pub labels : List Lexeme
   pub row : Row

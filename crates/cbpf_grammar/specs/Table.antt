@@ -50,7 +50,7 @@ memory_word = codes "M"
 abbrev pub operand_words : List (List ℕ)
 operand_words = length_word ∷ x_word ∷ a_word ∷ memory_word ∷ []
 
--- an operand's forms, each a list of classes: the options of one part, and one part behind the other
+-- an operand's forms, each a list of classes: the options of one part, and one part after the other
 infixl 60 ◌·◌
 abbrev pub ◌·◌ : List (List Class) → List (List Class) → List (List Class)
 fs · gs = flat_map (λ f. map (λ g. f ++ g) gs) fs

@@ -80,7 +80,7 @@ took-all bytes p p' line line' left t n k =
     let whole : p ≡ p ++ p' = sym (append-nil p) ∙ ap (λ (b : List ℕ). p ++ b) (sym n) in
     subst (λ (b : List ℕ). Took bytes p' left b) (sym k) (took-more bytes p p' p line left t whole)
 
--- what is behind the bytes that were taken is still there once more was read
+-- what is after the bytes that were taken is still there once more was read
 pub took-filled : (bytes p p' line : List ℕ) (left left' : Option (List ℕ)) → (t : Took bytes p left line) → unread p' left' ≡ Some t.rest → Took bytes p' left' line
 took-filled bytes p p' line left left' t e = record { rest = t.rest; split = t.split; known = e }
 

@@ -35,7 +35,7 @@ exactly-same text m Written w = (refl, w)
 
 -- ---- `load bpf`
 
--- a word text that is no list, or want of memory
+-- a word text that is no list, or out of memory
 pub words-refused : (m : View) (text : List ℕ) (fault : WordFault) (Written : List ℕ → Type 0) → Refused text fault → Written (word_fault_text fault) → LoadsWords m m text Written ⊎ Exactly memory_text m m Written
 unfolding word_fault_text
 words-refused m text word.Memory Written r w = inr (exactly-same memory_text m Written w)

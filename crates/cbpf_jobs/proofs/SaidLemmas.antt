@@ -43,7 +43,7 @@ unfolding told
 told-err text (Ok y) f old new r e w = absurd (cc)
 told-err text (Err g) f old new r e w = let k : f ≡ g = cc in subst (λ (z : SessionFault). Wrote old new r (fault_text z)) k w
 
--- the view that is told as the one behind it
+-- the view that is named as the one after it
 pub exactly-view : {X E : Type 0} (text : List ℕ) (m n : View) (old new : Option (List ℕ)) (r : Result X E) → n ≡ m → Wrote old new r text → Exactly text m n (λ s. Wrote old new r s)
 unfolding Exactly
 exactly-view text m n old new r e w = (e, w)

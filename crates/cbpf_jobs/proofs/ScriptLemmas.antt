@@ -128,7 +128,7 @@ reply-named files m n f g (Ok (Some c)) W h = answers-named files m n f g c W h
 reply-named files m n f g (Err UnknownCommand) W h = exactly-named _ m n W h
 reply-named files m n f g (Err WrongArguments) W h = exactly-named _ m n W h
 
--- ---- lines that were carried out
+-- ---- lines that were run
 
 quit-in : (ls : List (List ℕ)) (l : List ℕ) (more : List (List ℕ)) → command_of l ≡ Ok (Some quit) → HasQuit (ls ++ l ∷ more)
 quit-in [] l more e = inl e
@@ -162,7 +162,7 @@ unread-nil pending None r n e = absurd (cc)
 unread-nil pending (Some xs) r n e = rw n at e
 
 module _ (script pending : List ℕ) (left old new new' : Option (List ℕ)) (m : View) (f g : Source) (p : Progress script pending left old new f g m) (k : Keeps new new') where
-  -- the text of the lines that were carried out
+  -- the text of the lines that were run
   so_far : IsOutput f g p.done p.text
   so_far = subst (λ t. IsOutput f g p.done t) (append-nil p.text) (subst (λ ls. IsOutput f g ls (p.text ++ [])) (append-nil p.done) (ran-output f.files f.failures g.failures g.failures empty_view m p.done p.text p.ran [] [] at_end))
 
@@ -191,7 +191,7 @@ module _ (script pending : List ℕ) (left old new new' : Option (List ℕ)) (m 
   line-faulted pending' line left' Memory h = memory-faulted left' h
   line-faulted pending' line left' (RefusedSource e) h = absurd h
 
-  -- the input ended behind a newline
+  -- the input ended after a newline
   pub end-done : (left' : Option (List ℕ)) → p.rest ≡ [] → left' ≡ Some [] → Finished script left' old new' f g
   end-done left' e z = (p.text, subst (λ ls. IsOutput f g ls p.text) (sym (script_lines ∙ ap (λ (r : List ℕ). p.done ++ lines r) e ∙ append-nil p.done)) so_far, inr z, wrote)
 
@@ -199,7 +199,7 @@ module _ (script pending : List ℕ) (left old new new' : Option (List ℕ)) (m 
     here : lines script ≡ p.done ++ (line ∷ more)
     here = script_lines ∙ ap (λ (r : List (List ℕ)). p.done ++ r) next
 
-    -- the files are still told, and are the same
+    -- the files are still known, and are the same
     still_tells : IsTrue g.tells
     still_tells = rw p.kept.tells tells
 
@@ -245,7 +245,7 @@ module _ (script pending : List ℕ) (left old new new' : Option (List ℕ)) (m 
           wrote = appended-then old new' new'' p.text r.0 wrote r.2;
         }
 
--- behind a last line without a newline the input is at its end, whatever comes behind the line
+-- after a last line without a newline the input is at its end, whatever comes after the line
 pub either-done : (script pending : List ℕ) (left old new new' : Option (List ℕ)) (m : View) (f g : Source) (p : Progress script pending left old new f g m) (k : Keeps new new') (new'' : Option (List ℕ)) (n : View) (g' : Source) (line : List ℕ) (next : lines p.rest ≡ line ∷ []) (tells : IsTrue f.tells) (left' : Option (List ℕ)) → left' ≡ Some [] → (b : Behind) → CarriedOut g g' m n (command_of line) new' new'' (Ok b) → Finished script left' old new'' f g'
 either-done script pending left old new new' m f g p k new'' n g' line next tells left' z NextLine c = last-done script pending left old new new' m f g p k new'' n g' line [] next tells left' z refl c
 either-done script pending left old new new' m f g p k new'' n g' line next tells left' z Quit c = quit-done script pending left old new new' m f g p k new'' n g' line [] next tells left' c

@@ -9,17 +9,17 @@ abbrev pub FileMap : Type 0
 FileMap = map.FinMap (slice_cmp nat_cmp) (List ℕ)
 
 -- a source of files: the files, how many loads failed for other reasons than an absent name or want of
--- memory, and whether the source tells what it holds
+-- memory, and whether the source says what it holds
 pub record Source : Type 0 where
   pub files : FileMap
   pub failures : ℕ
   pub tells : Bool
 
--- a source that tells what it holds
+-- a source that says what it holds
 abbrev pub telling : FileMap → ℕ → Source
 telling files failures = record { files = files; failures = failures; tells = true }
 
--- a source that does not tell, and what it holds is left open
+-- a source that does not say what it holds
 abbrev pub silent : ℕ → Source
 silent failures = record { files = map.empty; failures = failures; tells = false }
 

@@ -4,7 +4,7 @@ use Rattle.std.specs.Coded.{Coded, code_by, coded×, coded_ℕ, coded_list}
 use Rattle.std.specs.FinMap as map
 use Rattle.cbpf_jobs.specs.FileMap.{FileMap, Source, telling}
 
--- the files, how many loads failed for other reasons than an absent name or want of memory, and the number
+-- the files, how many loads failed for other reasons than an absent name or a lack of memory, and the number
 -- of the load that is to fail, counted from 1 from now on; 0 for none
 pub record InMemory : Type 0 where
   pub files : FileMap
@@ -19,6 +19,6 @@ abbrev pub in_memory_code : Coded InMemory
 in_memory_code =
     code_by ((FileMap × ℕ) × ℕ) (coded× (coded× files_code coded_ℕ) coded_ℕ) (λ m. ((m.files, m.failures), m.failing)) (λ p. record { files = p.0.0; failures = p.0.1; failing = p.1 }) (λ _. refl)
 
--- files in memory tell what they hold
+-- files in memory say what they hold
 abbrev pub source_of : InMemory → Source
 source_of m = telling m.files m.failures

@@ -1,4 +1,4 @@
--- What a load from a source of files may answer, and what a failure of the file system is told as.
+-- What a load from a source of files may answer, and what a failure of the file system is reported as.
 use Rattle.std.specs.Prelude.{◌≡◌, ◌≤◌, ◌<◌, ◌+◌, ◌-◌, ◌^◌, ◌⊎◌, min, ℕ, List, Some, None, Result, Ok, Err, MatchResult, IsTrue}
 use Rattle.std.specs.FinMap as map
 use Rattle.std.specs.declared.io.ErrorKind.{ErrorKind}
@@ -7,7 +7,7 @@ use Rattle.cbpf_jobs.specs.FileMap.{Source}
 use Rattle.cbpf_jobs.specs.declared.files.LoadFault.{LoadFault}
 use Rattle.cbpf_jobs.specs.declared.files.LoadFault.TheVariants.{Absent, Device, Memory}
 
--- why a load failed: where the source tells, an absent name is not in its map; a device fault raises the count, which stops at its greatest value
+-- why a load failed: where the source says what it holds, an absent name is not in its map; a device fault raises the count, which stops at its greatest value
 abbrev pub Faults : Source → Source → List ℕ → LoadFault → Type 0
 Faults old new name Absent = IsTrue old.tells → map.get old.files name ≡ None
 Faults old new name Device = (old.failures < new.failures) ⊎ (old.failures ≡ 2 ^ 64 - 1)
@@ -21,7 +21,7 @@ pub record Loads {V : Type 0} (items : V → List ℕ) (old new : Source) (name 
   pub stops : old.failures ≡ 2 ^ 64 - 1 → new.failures ≡ 2 ^ 64 - 1
   pub gives : MatchResult r (λ v. IsTrue old.tells → map.get old.files name ≡ Some (items v)) (λ e. Faults old new name e)
 
--- the count of failures behind a load, where each device fault is counted once
+-- the count of failures after a load, where each device fault is counted once
 abbrev pub counted : {V : Type 0} → Result V LoadFault → ℕ → ℕ
 counted (Ok v) failures = failures
 counted (Err Absent) failures = failures
@@ -33,7 +33,7 @@ abbrev pub reading_fault : ErrorKind → LoadFault
 reading_fault OutOfMemory = Memory
 reading_fault _ = Device
 
--- a failure to open a file: only that there is none of the name is told as absent
+-- a failure to open a file: only that there is none of the name is reported as absent
 abbrev pub opening_fault : ErrorKind → LoadFault
 opening_fault NotFound = Absent
 opening_fault OutOfMemory = Memory

@@ -1,4 +1,4 @@
--- How far a script was carried out. No public clause names it.
+-- How far a script was run. No public clause names it.
 use Rattle.std.specs.Prelude.{◌≡◌, ◌≤◌, ℕ, false, IsTrue, List, [], ◌∷◌, ◌++◌, Option, Some, Result, Ok, Err}
 use Rattle.cbpf_code.specs.Writing.{Appended, AppendedPart}
 use Rattle.cbpf_code.specs.declared.writing.WriteFault.{WriteFault}
@@ -12,7 +12,7 @@ use Rattle.cbpf_jobs.specs.Replies.{Answers, Replies}
 use Rattle.cbpf_jobs.specs.declared.debugger.Behind.{Behind}
 use Rattle.cbpf_jobs.specs.declared.debugger.Behind.TheVariants.{NextLine, Quit}
 
--- what `load pcap` replied, where the files tell what they hold
+-- what `load pcap` replied, where the files say what they hold
 abbrev pub CaptureAnswered : Source → Source → View → View → List ℕ → (List ℕ → Type 0) → Type 0
 CaptureAnswered f g m n name Written = Answers f.files m n f.failures g.failures (load_capture name) Written
 
@@ -25,11 +25,11 @@ pub record Kept (f g : Source) : Type 0 where
 abbrev pub CaptureLoaded : Source → Source → View → View → List ℕ → (List ℕ → Type 0) → Type 0
 CaptureLoaded f g m n name Written = Kept f g × (IsTrue f.tells → CaptureAnswered f g m n name Written)
 
--- a command other than `quit` was carried out, where the files tell what they hold
+-- a command other than `quit` was run, where the files say what they hold
 abbrev pub CommandReplied : Source → Source → View → View → Spelled → (List ℕ → Type 0) → Type 0
 CommandReplied f g m n c Written = Kept f g × (IsTrue f.tells → Answers f.files m n f.failures g.failures c Written)
 
--- a command was carried out
+-- a command was run
 abbrev pub Acted : FileMap → View → View → ℕ → ℕ → Spelled → Option (List ℕ) → Option (List ℕ) → Result Behind WriteFault → Type 0
 Acted files m n f g c old new (Ok NextLine) = Answers files m n f g c (λ t. Appended old new t)
 Acted files m n f g c old new (Ok Quit) = (c ≡ quit) × (f ≡ g) × Appended old new []
@@ -38,7 +38,7 @@ Acted files m n f g c old new (Err e) = Answers files m n f g c (λ t. AppendedP
 abbrev pub CommandActed : Source → Source → View → View → Spelled → Option (List ℕ) → Option (List ℕ) → Result Behind WriteFault → Type 0
 CommandActed f g m n c old new r = Kept f g × (IsTrue f.tells → Acted f.files m n f.failures g.failures c old new r)
 
--- a line was carried out
+-- a line was run
 abbrev pub Carried : FileMap → View → View → ℕ → ℕ → Result (Option Spelled) LineRefusal → Option (List ℕ) → Option (List ℕ) → Result Behind WriteFault → Type 0
 Carried files m n f g said old new (Ok NextLine) = Replies files m n f g said (λ t. Appended old new t)
 Carried files m n f g said old new (Ok Quit) = (said ≡ Ok (Some quit)) × (f ≡ g) × Appended old new []

@@ -40,7 +40,7 @@ TakesPart pending pending' line line' (Ok true) = (part : List ℕ) × (has_newl
 TakesPart pending pending' line line' (Ok false) = (has_newline pending ≡ false) × (pending' ≡ []) × (line' ≡ line ++ pending)
 TakesPart pending pending' line line' (Err e) = e ≡ Memory
 
--- a line and its newline; all that was left, without a newline, and the reader is at its end; a part of a line behind which a read
+-- a line and its newline; all that was left, without a newline, and the reader is at its end; a part of a line after which a read
 -- failed; or that there is a line
 abbrev pub TakesLine : List ℕ → List ℕ → Option (List ℕ) → List ℕ → Result LineEnd ToolFault → Type 0
 TakesLine bytes pending left line (Ok Newline) = (has_newline line ≡ false) × Took bytes pending left (line ++ 10 ∷ [])

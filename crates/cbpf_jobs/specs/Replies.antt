@@ -1,4 +1,4 @@
--- What a line of a script replies, and the view of the session behind it.
+-- What a line of a script replies, and the view of the session after it.
 use Rattle.std.specs.Prelude.{◌≡◌, ◌<◌, ◌-◌, ◌^◌, ◌⊎◌, ℕ, List, [], Option, Some, None, Result, Ok, Err, IsOk, nat_eq, length}
 use Rattle.std.specs.FinMap as map
 use Rattle.std.specs.Map.{lookup}
@@ -28,7 +28,7 @@ use Rattle.cbpf_jobs.specs.Texts.{unknown_command_text, wrong_arguments_text, ab
 unfoldable pub Exactly : List ℕ → View → View → (List ℕ → Type 0) → Type 0
 Exactly text m n Written = (n ≡ m) × Written text
 
--- this text is written, and the view behind it is n
+-- this text is written, and the view after it is n
 abbrev pub Replied : List ℕ × View → View → (List ℕ → Type 0) → Type 0
 Replied said n Written = Exactly said.0 said.1 n Written
 

@@ -1,4 +1,4 @@
--- What the debugger says to the commands of a session, and the view of the session behind them (kernel documentation, networking/filter, on `bpf_dbg`; saved places, limits, steps back and the list of stops are this project's own).
+-- What the debugger says to the commands of a session, and the view of the session after them (kernel documentation, networking/filter, on `bpf_dbg`; saved places, limits, steps back and the list of stops are this project's own).
 use Rattle.std.specs.Prelude.{ℕ, ℤ, ◌<◌, length, List, [], ◌∷◌, codes, Bool, true, false, Option, Some, None, Result, Ok, Err}
 use Rattle.cbpf_code.specs.declared.insn.Insn.{Insn}
 use Rattle.cbpf_code.specs.declared.extension.Ext.{Ext}
@@ -12,7 +12,7 @@ use Rattle.cbpf_dbg.specs.declared.reply.SessionFault.{SessionFault}
 use Rattle.cbpf_reply.specs.Texts.{fault_text, run_text, place_text, stops_text, breakpoints_text, set_in, value_text}
 use Rattle.cbpf_jobs.specs.Texts.{no_program_text, dump_text}
 
--- the text of an answer and the view behind it; a refusal leaves the view
+-- the text of an answer and the view after it; a refusal leaves the view
 unfoldable pub answered : {R : Type 0} → (R → View → List ℕ) → View → Answer R → List ℕ × View
 answered text m (Ok a) = (text a.0 a.1, a.1)
 answered text m (Err e) = (fault_text e, m)

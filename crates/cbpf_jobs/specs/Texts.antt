@@ -21,7 +21,7 @@ with_number before n after = joined (before ∷ decimal n ∷ after ∷ [])
 abbrev pub with_numbers : List ℕ → ℕ → List ℕ → ℕ → List ℕ → List ℕ
 with_numbers before m between n after = joined (before ∷ decimal m ∷ between ∷ decimal n ∷ after ∷ [])
 
--- ---- refusals of a line, of a file, and for want of memory
+-- ---- refusals of a line, of a file, and for lack of memory
 
 abbrev pub unknown_command_text : List ℕ
 unknown_command_text = codes "error: Q1 unknown command\n"

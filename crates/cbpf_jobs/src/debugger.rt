@@ -18,7 +18,7 @@ use cbpf_reply::write_breakpoints;
 use std::alloc::Allocator;
 use std::io::{Read, Write};
 
-/// What comes behind a line.
+/// What comes after a line.
 #[derive(Clone, Copy, PartialEq, Eq, Debug)]
 pub enum Behind {
     NextLine,

@@ -9,7 +9,7 @@ use std::fs::{self, OpenFile};
 use std::io::{ErrorKind, Read};
 use std::rt;
 
-/// The files of the file system. It does not tell what it holds.
+/// The files of the file system. What it holds is not known.
 #[derive(Drop)]
 pub struct DiskFiles<'a, R: rt::Files> {
     runtime: &'a R,
@@ -28,7 +28,7 @@ impl<'a, R: rt::Files> DiskFiles<'a, R> {
     }
 }
 
-/// How much room a file's bytes take, as far as the system tells: a byte more than its size, so that the
+/// How much room a file's bytes take, as far as the system says: a byte more than its size, so that the
 /// read that finds the end needs no more room.
 fn room_for<F: OpenFile>(file: &F) -> usize {
     match file.metadata() {
@@ -37,7 +37,7 @@ fn room_for<F: OpenFile>(file: &F) -> usize {
     }
 }
 
-/// What a failure to open a file is told as: absent only where there is none of the name.
+/// What a failure to open a file is reported as: absent only where there is none of the name.
 fn opening_fault(kind: ErrorKind) -> LoadFault
     ensures { result ≡ spec.opening_fault kind }
 {
@@ -47,7 +47,7 @@ fn opening_fault(kind: ErrorKind) -> LoadFault
     }
 }
 
-/// What a failure to read a file that is open is told as.
+/// What a failure to read an open file is reported as.
 fn reading_fault(kind: ErrorKind) -> LoadFault
     ensures { result ≡ spec.reading_fault kind }
 {

@@ -15,11 +15,11 @@ pub enum LoadFault {
     Memory,
 }
 
-/// A source of files by name. A load leaves the files as they are. Where the source tells what it
+/// A source of files by name. A load leaves the files as they are. Where the source says what it
 /// holds, a load gives the bytes of the name, and answers `Absent` only where there is no such name;
 /// `Device` comes only where the count of failures rises, or stands at its greatest value.
 pub trait Files {
-    /// The files, the count of failures, and whether the source tells what it holds.
+    /// The files, the count of failures, and whether the source says what it holds.
     ghost source: { Self → Source };
 
     fn load<A: Allocator>(&mut self, alloc: A, name: &str) -> Result<Vec<u8, A>, LoadFault>

@@ -1,4 +1,4 @@
--- The scan for the first `*/`, and texts that are cut behind it.
+-- The scan for the first `*/`, and texts that are cut after it.
 use Rattle.std.proofs.Common.{◌≡◌, ℕ, zero, suc, ◌+◌, ◌<◌, ◌≤◌, Bool, true, false, ◌&&◌, cond, List, [], ◌∷◌, length, take, drop, refl, ap, sym, subst, ◌∙◌, arith, Option, Some, None, get_or, drop-cons}
 use Rattle.std.specs.Prelude.{◌==◌, option_map}
 use Rattle.std.proofs.lemmas.List.{drop_all}

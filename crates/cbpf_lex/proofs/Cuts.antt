@@ -95,7 +95,7 @@ zero_or n = grind arith
 pub piece_some : (text : List ℕ) (at : ℕ) (p : Piece) → IsPieceAt text at p → 0 < p.size
 piece_some text at p next = elim (zero_or p.size) [ inl e ↦ some-none _ _ (rw e at next.kind) refl | inr l ↦ l ]
 
--- the tokens behind one more piece that is a token, or none
+-- the tokens after one more piece that is a token, or none
 pub token_more : (text : List ℕ) (from at : ℕ) (p : Piece) (kind : Kind) → ((ts : List Token) → LexesTo text from ts → LexesTo text at ts) → IsPieceAt text at p → p.kind ≡ Lexeme kind
     → (ts : List Token) → LexesTo text from ts → LexesTo text (at + p.size) (ts ++ record { kind = kind; start = at; end = at + p.size } ∷ [])
 token_more text from at p kind more next e ts lexed = rw e at (LexesTo-more text at ts p (more ts lexed) next (rw e refl))
@@ -112,7 +112,7 @@ piece_more text from at p more next good other ts lexed =
     no_token (Lexeme k) at to other = absurd (other k refl)
     no_token (Bad f) at to other = refl
 
--- the fault behind the tokens that were taken is the text's
+-- the fault after the tokens that were taken is the text's
 pub text_fault : (text : List ℕ) (at : ℕ) (ts : List Token) (fault : LexFault) → LexesTo text at ts → IsNextFault text at fault → IsLexFault text fault
 text_fault text at ts Memory lexed next = tt
 text_fault text at ts (At bad line) lexed next = next ts lexed

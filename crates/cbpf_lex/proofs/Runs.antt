@@ -39,7 +39,7 @@ run_longer p (b ∷ bs) (suc n) w l = longer_step p b bs n (p b) refl (λ l'. ru
 two-add : (n : ℕ) → 2 + n ≡ suc (suc n)
 two-add n = omega arith
 
--- A text whose first byte decides that it begins with a run of p behind it, of one kind.
+-- A text whose first byte decides that it begins with a run of p after it, of one kind.
 module _ (fresh : Bool) (p : ℕ → Bool) (kind : List ℕ → PieceKind) (b : ℕ) (bs : List ℕ) (decides : (cs : List ℕ) → piece_kind fresh (b ∷ cs) ≡ only_if (list_all p cs) (kind cs)) where
   longest_run : (n : ℕ) → suc (prefix_len p bs) < n → n ≤ suc (length bs) → piece_kind fresh (take n (b ∷ bs)) ≡ None
   longest_run zero l w = absurd (omega arith)
@@ -80,7 +80,7 @@ mark_next fresh b bs e = alone_next fresh (Lexeme (Mark b)) b bs (λ cs. led fre
 pub other_next : (fresh : Bool) (b : ℕ) (bs : List ℕ) → lead_of fresh b ≡ Other → IsNext fresh (b ∷ bs) (record { kind = Bad NoToken; size = 1 })
 other_next fresh b bs e = alone_next fresh (Bad NoToken) b bs (λ cs. led fresh b cs _ e)
 
--- a `/` without a `*` behind it
+-- a `/` without a `*` after it
 slash_longer : (fresh : Bool) (b : ℕ) (bs : List ℕ) → lead_of fresh b ≡ Slash → (slice_index bs 0 == 42) ≡ false → (n : ℕ) → 1 < n → n ≤ suc (length bs) → piece_kind fresh (take n (b ∷ bs)) ≡ None
 slash_longer fresh b bs e h zero l w = absurd (omega arith)
 slash_longer fresh b bs e h (suc zero) l w = absurd (omega arith)
@@ -90,7 +90,7 @@ slash_longer fresh b (c ∷ cs) e h (suc (suc n)) l w = led fresh b (c ∷ take 
 pub slash_next : (fresh : Bool) (b : ℕ) (bs : List ℕ) → lead_of fresh b ≡ Slash → (slice_index bs 0 == 42) ≡ false → IsNext fresh (b ∷ bs) (record { kind = Bad NoToken; size = 1 })
 slash_next fresh b bs e h = record { within = omega arith; kind = led fresh b [] Slash e; longest = slash_longer fresh b bs e h }
 
--- a comment that ends at the first `*/` behind `/*`
+-- a comment that ends at the first `*/` after `/*`
 pub comment_next : (fresh : Bool) (b : ℕ) (bs : List ℕ) (n : ℕ) → lead_of fresh b ≡ Slash → n ≤ length bs → first_close bs ≡ Some n → IsNext fresh (b ∷ 42 ∷ bs) (record { kind = Comment; size = 2 + n })
 comment_next fresh b bs n e w h = rw (two-add n) (record { within = omega arith; kind = shut; longest = longer })
   where
@@ -109,7 +109,7 @@ comment_next fresh b bs n e w h = rw (two-add n) (record { within = omega arith;
 pub open_next : (fresh : Bool) (b : ℕ) (bs : List ℕ) → lead_of fresh b ≡ Slash → first_close bs ≡ None → IsNext fresh (b ∷ 42 ∷ bs) (record { kind = Bad OpenComment; size = 2 + length bs })
 open_next fresh b bs e h = rw (two-add (length bs)) (record { within = omega arith; kind = rw (take_all (length bs) bs (omega arith)) (led fresh b (42 ∷ bs) Slash e ∙ ap (λ o. comment_kind o (length bs)) h); longest = λ n l w. absurd (omega arith) })
 
--- the same two by the bytes behind the `/`
+-- the same two by the bytes after the `/`
 pub comment_at : (fresh : Bool) (b : ℕ) (bs : List ℕ) (n : ℕ) → lead_of fresh b ≡ Slash → slice_index bs 0 ≡ 42 → n ≤ length (drop 1 bs) → first_close (drop 1 bs) ≡ Some n → IsNext fresh (b ∷ bs) (record { kind = Comment; size = 2 + n })
 comment_at fresh b [] n e h w k = absurd (omega arith)
 comment_at fresh b (d ∷ ds) n e h w k = rw h (comment_next fresh b ds n e w k)

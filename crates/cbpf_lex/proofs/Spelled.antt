@@ -69,7 +69,7 @@ ends_blank (word b bs ∷ ss) = true
 ends_blank (number b bs n ∷ ss) = true
 ends_blank (mark b ∷ ss) = true
 
--- segments that stay apart behind a line that is blank so far, or not: a test that computes on their kinds
+-- segments that stay apart after a line that is blank so far, or not: a test that computes on their kinds
 abbrev pub stay_apart : Bool → List Segment → Bool
 stay_apart fresh [] = true
 stay_apart fresh (blank b ∷ ss) = ends_blank ss && stay_apart (b == 10 || fresh) ss
@@ -176,7 +176,7 @@ segment_next fresh (number b bs n) ss a ok k =
     subst (λ q. IsNext fresh (b ∷ (bs ++ text_of ss)) (record { kind = q; size = 1 + length bs })) v next
 segment_next fresh (mark b) ss a ok k = mark_next fresh b (text_of ss) (lead_mark fresh b a.0 a.1 (not_true (fresh && b == 35) (and_parts (not (fresh && b == 35)) _ k).0))
 
--- whether the line is blank behind a segment
+-- whether the line is blank after a segment
 abbrev after : Bool → ℕ → Bool
 after fresh b = b == 10 || (fresh && is_blank b)
 
@@ -219,7 +219,7 @@ mark_not_newline b h = by_test (b == 10) refl
     by_test false e = refl
     by_test true e = let k : is_mark 10 ≡ true = rw (eqb-true b 10 e) at h in cc
 
--- the segments behind one more stay apart behind its line
+-- the segments after one more stay apart after its line
 apart_after : (fresh : Bool) (s : Segment) (ss : List Segment) → IsSegment s → stay_apart fresh (s ∷ ss) ≡ true → stay_apart (fold after fresh (bytes_of s)) ss ≡ true
 apart_after fresh (blank b) ss a k = rw (a.1, and_true fresh) (and_parts (ends_blank ss) _ k).1
 apart_after fresh (word b bs) ss a k = rw (name_after fresh b bs (letter_name b a.1) (not_both is_letter is_blank b refl a.0 a.1) a.2) (and_parts (ends_name ss) _ k).1

@@ -10,7 +10,7 @@ digit_value b =
     else (if nat_le 65 b && nat_le b 70 then b - 55
     else 16))
 
--- the value of digits of the base behind digits of the value `high`, where each is one
+-- the value of digits of the base after digits of the value `high`, where each is one
 abbrev pub digits_value : ℕ → ℕ → List ℕ → Option ℕ
 digits_value base high [] = Some high
 digits_value base high (b ∷ bs) =

@@ -1,4 +1,4 @@
--- A source text of which the tokens are taken one by one: what comes next behind a place of it. This project's own rules, as those of the whole text.
+-- A source text of which the tokens are taken one by one: what comes next after a place of it. This project's own rules, as those of the whole text.
 use Rattle.std.specs.Prelude.{ℕ, List, [], ◌∷◌, ◌++◌, ◌<◌, ◌≤◌, length}
 use Rattle.cbpf_lex.specs.declared.token.Token.{Token}
 use Rattle.cbpf_lex.specs.declared.token.LexFault.{LexFault}
@@ -10,7 +10,7 @@ pub record Reading : Type 0 where
   pub text : List ℕ
   pub at : ℕ
 
--- behind all tokens up to the one place this is the only one up to the other, which lies farther on
+-- after all tokens up to the one place this is the only one up to the other, which lies farther on
 pub record IsNextToken (text : List ℕ) (at to : ℕ) (token : Token) : Type 0 where
   pub more : (tokens : List Token) → LexesTo text at tokens → LexesTo text to (tokens ++ token ∷ [])
   pub span : IsSpanOf text token
@@ -21,7 +21,7 @@ pub record IsNextToken (text : List ℕ) (at to : ℕ) (token : Token) : Type 0 
 abbrev pub HasNoMore : List ℕ → ℕ → Type 0
 HasNoMore text at = (tokens : List Token) → LexesTo text at tokens → Lexes text tokens
 
--- the first bad piece of the text, where the text up to the place has tokens; want of memory is none
+-- the first bad piece of the text, where the text up to the place has tokens; out of memory is none
 abbrev pub IsNextFault : List ℕ → ℕ → LexFault → Type 0
 IsNextFault text at Memory = ⊥
 IsNextFault text at (At fault line) = (tokens : List Token) → LexesTo text at tokens → IsFirstBad text fault line

@@ -55,7 +55,7 @@ pub record IsFirstBad (text : List ℕ) (fault : BadPiece) (line_no : ℕ) : Typ
   pub bad : IsPieceAt text at (record { kind = Bad fault; size = size })
   pub line : line_no ≡ line_of text at
 
--- the fault that the text has; want of memory says nothing
+-- the fault that the text has; out of memory says nothing
 abbrev pub IsLexFault : List ℕ → LexFault → Type 0
 IsLexFault text Memory = Unit {0}
 IsLexFault text (At fault line) = IsFirstBad text fault line

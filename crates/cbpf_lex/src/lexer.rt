@@ -102,12 +102,12 @@ impl<'a> Lexer<'a> {
 ///
 /// The text is cut into blanks, comments and tokens, each the longest at its place.
 /// Blanks are spaces, tabs, newlines and carriage returns. A comment is `/*` to the next
-/// `*/` behind these two bytes, `;` to the end of the line, or a line whose first byte
+/// `*/` after these two bytes, `;` to the end of the line, or a line whose first byte
 /// that isn't a blank is `#`.
 ///
 /// # Errors
 ///
-/// `At` tells the first piece that is none of these, and its line; `Memory` that the
+/// `At` reports the first piece that is none of these, and its line; `Memory` that the
 /// allocator refused, whatever the text is.
 pub fn tokens<A: Allocator>(alloc: A, text: &[u8]) -> Result<Vec<Token, A>, LexFault>
     ensures lexed { IfOk result (λ v. Lexes text.now v.items) }

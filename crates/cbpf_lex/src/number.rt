@@ -23,7 +23,7 @@ fn digit_value(b: u8) -> u8
     }
 }
 
-/// What digits of the base spell behind digits of the value `high`, at most `LIMIT`.
+/// What digits of the base spell after digits of the value `high`, at most `LIMIT`.
 fn digits_value(base: u64, high: u64, bytes: &[u8]) -> Option<u64>
     requires least { 2 ≤ base }
     requires most { base ≤ 16 }

@@ -82,7 +82,7 @@ fn lead_of(before: &[u8], b: u8) -> Lead
     }
 }
 
-/// Whether a byte closes a comment, behind a `*` or not.
+/// Whether a byte closes a comment, after a `*` or not.
 fn is_close(star: bool, b: u8) -> bool
     ensures { result ≡ (star && b == 47) }
 {

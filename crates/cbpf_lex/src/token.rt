@@ -1,4 +1,4 @@
-//! Tokens, and what is told of a text that has a piece which is none.
+//! Tokens, and what is reported of a text with a piece that is none.
 
 use std::alloc::AllocFailed;
 
@@ -7,7 +7,7 @@ use std::alloc::AllocFailed;
 pub enum Kind {
     /// A letter or `_`, then letters, digits and `_`. Letters are ASCII.
     Word,
-    /// A number with its value: decimal, octal behind `0`, hexadecimal behind `0x`, binary behind `0b`.
+    /// A number with its value: decimal, octal after `0`, hexadecimal after `0x`, binary after `0b`.
     Number(u32),
     /// One of the bytes `[ ] ( ) * & + - , : # %`.
     Mark(u8),

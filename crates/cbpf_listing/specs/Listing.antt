@@ -35,7 +35,7 @@ absolute k = place_or_name (ext_at k) k
 abbrev pub targets : ℕ → Insn → List ℕ
 targets i insn = joined (codes ", l" ∷ decimal (i + 1 + insn.jt) ∷ codes ", l" ∷ decimal (i + 1 + insn.jf) ∷ [])
 
--- what stands behind the mnemonic of the instruction at an index
+-- what stands after the mnemonic of the instruction at an index
 abbrev pub operand_text : Operand → ℕ → Insn → List ℕ
 operand_text Bare i insn = []
 operand_text X i insn = codes " x"

@@ -74,7 +74,7 @@ fn write_targets<W: Write>(w: &mut W, i: u32, insn: Insn) -> Result<(), WriteFau
     )
 }
 
-/// What stands behind the mnemonic of the instruction at an index.
+/// What stands after the mnemonic of the instruction at an index.
 #[tactic(auto, using(cbpf_code::proofs::WrittenLemmas::pairs))]
 fn write_operand<W: Write>(
     w: &mut W,
@@ -119,7 +119,7 @@ fn write_operation<W: Write>(w: &mut W, i: u32, insn: Insn, op: Op) -> Result<()
 /// decimal, a colon, a tab, the mnemonic, and where the operation has an operand a space and
 /// the operand. Fields that the operation doesn't use don't show.
 ///
-/// The caller sees to it that `i` is less than the program's length.
+/// `i` must be less than the program's length.
 pub fn write_line<W: Write, A: Allocator>(
     w: &mut W,
     p: &Program<A>,

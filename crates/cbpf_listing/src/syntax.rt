@@ -1,11 +1,11 @@
-//! How each operation is written: its mnemonic, and what stands behind it.
+//! How each operation is written: its mnemonic, and what stands after it.
 
 ghost use Rattle.std.specs.Prelude.{◌≡◌};
 ghost use Rattle.cbpf_listing.specs.Syntax as spec;
 
 use cbpf_code::{AluOp, Cond, Op, Size, Src};
 
-/// What stands behind a mnemonic: one of the addressing modes of the kernel's
+/// What stands after a mnemonic: one of the addressing modes of the kernel's
 /// Documentation/networking/filter, in the form that a listing has it.
 #[derive(Clone, Copy, Debug, PartialEq, Eq)]
 pub enum Operand {
@@ -96,7 +96,7 @@ pub fn mnemonic_of(op: Op) -> &'static [u8]
     }
 }
 
-/// What stands behind the mnemonic of an operation.
+/// What stands after the mnemonic of an operation.
 #[inline]
 pub fn operand_of(op: Op) -> Operand
     ensures { result ≡ spec.operand_of op }

@@ -54,7 +54,7 @@ place_text before p = joined (before ∷ decimal p.packet ∷ codes " " ∷ deci
 abbrev pub unknown_text : ℕ → List ℕ
 unknown_text n = if n == 0 then [] else joined (codes " unknown:" ∷ decimal n ∷ [])
 
--- two numbers, each behind a text
+-- two numbers, each after a text
 abbrev pub two : List ℕ → ℕ → List ℕ → ℕ → List ℕ
 two before m between n = joined (before ∷ decimal m ∷ between ∷ decimal n ∷ [])
 
@@ -74,7 +74,7 @@ limit_text n packet = counts_text n ++ next_text packet
 abbrev pub finished_text : Counts → List ℕ
 finished_text n = counts_text n ++ codes "\n"
 
--- ---- runs and steps, by the view behind them
+-- ---- runs and steps, by the view after them
 
 unfoldable pub run_text : RunReply → View → List ℕ
 run_text (Stopped stop) m = stop_text m stop

@@ -10,7 +10,7 @@ use itoa::Buffer;
 use std::alloc::Allocator;
 use std::io::Write;
 
-/// Writes a place behind a text.
+/// Writes a place after a text.
 ///
 /// # Errors
 ///
@@ -31,7 +31,7 @@ pub fn write_place<W: Write>(w: &mut W, before: &[u8], place: Place) -> Result<(
     )
 }
 
-/// Two numbers, each behind a text.
+/// Two numbers, each after a text.
 fn write_two<W: Write>(
     w: &mut W,
     before: &[u8],

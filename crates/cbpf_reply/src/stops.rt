@@ -51,7 +51,7 @@ fn write_stop_line<W: Write>(w: &mut W, stop: &Stop) -> Result<(), WriteFault>
     write_why(w, stop.why)
 }
 
-/// Writes a line for each stop, and tells how many there were.
+/// Writes a line for each stop, and returns how many there were.
 fn write_lines<W: Write, A: Allocator>(w: &mut W, stops: Stops<'_, A>) -> Result<u128, WriteFault>
     requires { length stops < 2 ^ 128 }
     ensures lines { Wrote (W.contents w.old) (W.contents w.new) result (flat_map spec.stop_line stops.entry) }

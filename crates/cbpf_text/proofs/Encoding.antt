@@ -93,7 +93,7 @@ bad_behind all front uses rest kind at g b = record {
   place = b.place;
 }
 
--- the first target that is refused, behind items that have their instructions
+-- the first target that is refused, after items that have their instructions
 pub bad_among : (is : List Item) (i : ℕ) (d : Item) (insns : List Insn) (r : Refusal) → i < length is → All HasForm is → EncodeEach is 0 (take i is) insns → Told (IsFirstBadUse is (uses_of i (get_or is i d))) r → Told (IsFirstBadUse is (uses_from 0 is)) r
 bad_among is i d insns r l f p h =
     let s = uses_split 0 is i d l in

@@ -123,7 +123,7 @@ immediate_segments_text : (t : Bool) (k : ℕ) → text_of (blank 32 ∷ mark 35
 immediate_segments_text true k = refl
 immediate_segments_text false k = ap (λ (w : List ℕ). codes " #0x" ++ w) (append-nil (hex 1 k))
 
--- what the number behind `#` gives
+-- what the number after `#` gives
 abbrev pub hex_given : Bool → ℕ → ℕ
 hex_given true k = 0
 hex_given false k = k

@@ -53,7 +53,7 @@ lists_none n i = record {
   encoded = λ at all p. tt;
 }
 
--- a line's text, one piece behind the other
+-- a line's text, one piece after the other
 joins : (d w operand behind : List ℕ) → (((108 ∷ (d ++ (58 ∷ 9 ∷ (w ++ [])))) ++ operand) ++ (10 ∷ [])) ++ behind ≡ 108 ∷ (d ++ (58 ∷ 9 ∷ (w ++ (operand ++ (10 ∷ behind)))))
 joins d w operand behind =
     let front = 108 ∷ (d ++ (58 ∷ 9 ∷ (w ++ []))) in
@@ -62,7 +62,7 @@ joins d w operand behind =
     ∙ ap (λ (t : List ℕ). 108 ∷ t) (append_assoc d (58 ∷ 9 ∷ (w ++ [])) (operand ++ (10 ∷ behind)))
     ∙ ap (λ (t : List ℕ). 108 ∷ (d ++ (58 ∷ 9 ∷ (t ++ (operand ++ (10 ∷ behind)))))) (append-nil w)
 
--- the segments of a line, before those behind it
+-- the segments of a line, before those after it
 abbrev line_segments : ℕ → List ℕ → List Segment → List Segment → List Segment
 line_segments i w operand behind = label_segment i ∷ mark 58 ∷ blank 9 ∷ word (first w) (rest w) ∷ (operand ++ (blank 10 ∷ behind))
 

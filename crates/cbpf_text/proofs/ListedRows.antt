@@ -25,7 +25,7 @@ use Rattle.cbpf_listing.specs.declared.syntax.Operand.TheVariants as operands
 use Rattle.cbpf_listing.specs.Syntax.{mnemonic_of, operand_of}
 use Rattle.cbpf_lex.proofs.Cuts.{and_parts}
 
--- the classes of the tokens that a listing writes behind a mnemonic, and where they go
+-- the classes of the tokens that a listing writes after a mnemonic, and where they go
 abbrev pub operand_classes : Operand → List Class
 operand_classes operands.Bare = []
 operand_classes operands.X = the_word (codes "x") ∷ []

@@ -20,13 +20,13 @@ lexemes_at at (word b bs ∷ ss) = record { symbol = grammar.Symbol.word (b ∷ 
 lexemes_at at (number b bs n ∷ ss) = record { symbol = grammar.Symbol.number n; at = at } ∷ lexemes_at (at + (1 + length bs)) ss
 lexemes_at at (mark b ∷ ss) = record { symbol = grammar.Symbol.mark b; at = at } ∷ lexemes_at (at + 1) ss
 
--- the bytes of the segment behind a front
+-- the bytes of the segment after a front
 part_at : (before : List ℕ) (b : ℕ) (bs rest : List ℕ) → slice_range (before ++ (b ∷ (bs ++ rest))) (length before) (length before + (1 + length bs)) ≡ b ∷ bs
 part_at before b bs rest =
     let n : length before + (1 + length bs) - length before ≡ length (b ∷ bs) = omega (arith, one-add (length bs)) in
     rw (n, drop_at before (b ∷ (bs ++ rest)) (length before) refl) (take_at (b ∷ bs) rest (length (b ∷ bs)) refl)
 
--- the tokens of a text of segments, behind a front, as the grammar sees them
+-- the tokens of a text of segments, after a front, as the grammar sees them
 pub lexemes_spelled : (before : List ℕ) (ss : List Segment) → lexemes_of (before ++ text_of ss) (tokens_of (length before) (pieces_of ss)) ≡ lexemes_at (length before) ss
 lexemes_spelled before [] = refl
 lexemes_spelled before (s ∷ ss) = by_kind s (moved s (lexemes_spelled (before ++ bytes_of s) ss))
@@ -51,7 +51,7 @@ lexemes_spelled before (s ∷ ss) = by_kind s (moved s (lexemes_spelled (before 
         λ k. record { symbol = grammar.Symbol.number n; at = length before } ∷ r k
     by_kind (mark b) e = λ k. record { symbol = grammar.Symbol.mark b; at = length before } ∷ e k
 
--- segments behind one another
+-- segments after one another
 pub lexemes_append : (at : ℕ) (ss us : List Segment) → lexemes_at at (ss ++ us) ≡ lexemes_at at ss ++ lexemes_at (at + length (text_of ss)) us
 lexemes_append at [] us = let e : at + 0 ≡ at = omega arith in rw e refl
 lexemes_append at (blank b ∷ ss) us = let e : at + suc (length (text_of ss)) ≡ at + 1 + length (text_of ss) = omega arith in rw e (lexemes_append (at + 1) ss us)

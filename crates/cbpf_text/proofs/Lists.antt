@@ -30,7 +30,7 @@ all_front P x xs h = h 0 x (omega arith)
 pub all_behind : {A : Type 0} (P : A → Type 0) (x : A) (xs : List A) → All P (x ∷ xs) → All P xs
 all_behind P x xs h k d l = h (suc k) d (omega arith)
 
--- a list is the elements before one of its own, that one, and those behind it
+-- a list is the elements before one of its own, that one, and those after it
 pub split_at : {A : Type 0} (xs : List A) (i : ℕ) (d : A) → i < length xs → xs ≡ take i xs ++ (get_or xs i d ∷ drop (suc i) xs)
 split_at [] i d l = absurd (omega arith)
 split_at (x ∷ xs) zero d l = refl

@@ -12,7 +12,7 @@ use Rattle.cbpf_grammar.specs.Refusals.{IsLargeNegative}
 use Rattle.cbpf_text.specs.Labels.{name_of, set_labels, AreDistinct, IsPlace}
 use Rattle.cbpf_text.specs.Operands.{literal_in, targets_in}
 
--- the offset of a target from behind the item at the index, and 0 where there is no target
+-- the offset of a target, counted from the item after the one at the index, and 0 where there is no target
 abbrev pub IsOffset : List Item → ℕ → Option Lexeme → ℕ → Type 0
 IsOffset items index None offset = offset ≡ 0
 IsOffset items index (Some target) offset = IsPlace items (name_of target) (index + 1 + offset)

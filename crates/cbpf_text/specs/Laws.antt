@@ -14,7 +14,7 @@ use Rattle.cbpf_text.specs.Refusals.{IsRefused}
 abbrev pub OneAssembly : Type 0
 OneAssembly = (text : List ℕ) (xs ys : List Insn) → Assembles text xs → Assembles text ys → xs ≡ ys
 
--- want of memory aside, a text is refused for one reason, at one line
+-- out of memory aside, a text is refused for one reason, at one line
 abbrev pub OneRefusal : Type 0
 OneRefusal = (text : List ℕ) (kind other : AsmKind) (line place : ℕ) → IsRefused text (At kind line) → IsRefused text (At other place) → (kind ≡ other) × (line ≡ place)
 
@@ -25,7 +25,7 @@ NeverBoth = (text : List ℕ) (xs : List Insn) (kind : AsmKind) (line : ℕ) →
 abbrev pub ListingAssembles : Type 0
 ListingAssembles = (list : List Insn) → IsSound list → All InRange list → Assembles (listing list) (map plain list)
 
--- whatever an assembler answers to its listing: the plain forms, or want of memory
+-- whatever an assembler answers to its listing: the plain forms, or out of memory
 abbrev pub ListingAnswers : Type 0
 ListingAnswers = (list : List Insn) → IsSound list → All InRange list → (answer : Result (List Insn) AsmFault)
     → IfOk answer (λ insns. Assembles (listing list) insns) → IfErr answer (IsRefused (listing list))

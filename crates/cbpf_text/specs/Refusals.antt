@@ -1,4 +1,4 @@
--- Why a source text is refused, and the line that is told: this project's own rules, as the kernel's Documentation/networking/filter has no faults.
+-- Why a source text is refused, and the line that is reported: this project's own rules, as the kernel's Documentation/networking/filter has no faults.
 use Rattle.std.specs.Prelude.{◌≡◌, ◌≢◌, ℕ, ◌+◌, ◌-◌, ◌<◌, ◌≤◌, Bool, true, false, List, [], ◌∷◌, ◌++◌, length, map, slice_get, Option, Some, None, All}
 use Rattle.cbpf_lex.specs.declared.token.Token.{Token}
 use Rattle.cbpf_lex.specs.declared.token.BadPiece.{BadPiece}
@@ -86,18 +86,18 @@ pub data IsTokensFault (ts : List Lexeme) : AsmKind → ℕ → Type 0 where
   unfinished : (t : Lexeme) → IsFirstRefusal ts parse.Unfinished → slice_get ts (length ts - 1) ≡ Some t → IsTokensFault ts kinds.Unfinished t.at
   of_items : (items : List Item) (kind : AsmKind) (at : ℕ) → Items ts items → IsAccepted ts → IsItemsFault items kind at → IsTokensFault ts kind at
 
--- the fault of the text: its first bad piece, and where there is none that of its tokens; want of memory says nothing
+-- the fault of the text: its first bad piece, and where there is none that of its tokens; out of memory says nothing
 pub data IsRefused (text : List ℕ) : AsmFault → Type 0 where
   memory : IsRefused text faults.Memory
   piece : (bad : BadPiece) (line : ℕ) → IsFirstBad text bad line → IsRefused text (faults.At (piece_kind bad) line)
   token : (tokens : List Token) (kind : AsmKind) (at : ℕ) → Lexes text tokens → IsTokensFault (lexemes_of text tokens) kind at → IsRefused text (faults.At kind (line_of text at))
 
--- what `tokens` tells of a text that has none
+-- what `tokens` reports of a text that has none
 pub data IsLexRefused (text : List ℕ) : AsmFault → Type 0 where
   memory : IsLexRefused text faults.Memory
   piece : (bad : BadPiece) (line : ℕ) → IsFirstBad text bad line → IsLexRefused text (faults.At (piece_kind bad) line)
 
--- the refusal has this cause; want of memory says nothing
+-- the refusal has this cause; out of memory says nothing
 abbrev pub Told : (AsmKind → ℕ → Type 0) → Refusal → Type 0
 Told Cause refusals.Memory = Unit {0}
 Told Cause (refusals.At kind at) = Cause kind at
@@ -107,7 +107,7 @@ abbrev pub IsTargetFault : List Item → ℕ → Bool → Option Lexeme → AsmK
 IsTargetFault items index short None kind at = ⊥
 IsTargetFault items index short (Some target) kind at = IsUseFault items (record { index = index; target = target; short = short }) kind × (at ≡ target.at)
 
--- the fault tells the refusal with the line of its place
+-- the fault reports the refusal with the line of its place
 abbrev pub IsToldAt : List ℕ → Refusal → AsmFault → Type 0
 IsToldAt text refusals.Memory fault = fault ≡ faults.Memory
 IsToldAt text (refusals.At kind at) fault = fault ≡ faults.At kind (line_of text at)

@@ -12,13 +12,13 @@ pub enum AsmKind {
     /// A2: a `/*` comment that isn't closed.
     #[error("A2 comment not closed")]
     OpenComment,
-    /// A3: a number above 4294967295, or above 2147483648 behind a `-`.
+    /// A3: a number above 4294967295, or above 2147483648 after a `-`.
     #[error("A3 number out of range")]
     LargeNumber,
     /// A4: the tokens before this one begin a list of instructions, and with it they don't.
     #[error("A4 token can't stand here")]
     Misplaced,
-    /// A5: the text ends inside an instruction, or behind a label.
+    /// A5: the text ends inside an instruction, or after a label.
     #[error("A5 text ends inside an instruction")]
     Unfinished,
     /// A6: a label that an earlier one has set already.

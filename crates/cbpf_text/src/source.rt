@@ -1,4 +1,4 @@
-//! The tokens of a source text, and what is told of one that has none.
+//! The tokens of a source text, and what is reported of one that has none.
 
 ghost use Rattle.std.specs.Prelude.{◌≡◌, ℕ, List, IfOk, IfErr, All};
 ghost use Rattle.cbpf_lex.specs.Tokens.{Lexes, IsLexFault, IsSpanOf, line_of};
@@ -18,7 +18,7 @@ fn piece_kind(bad: BadPiece) -> AsmKind
     }
 }
 
-/// What is told of a text that has no tokens.
+/// What is reported of a text that has no tokens.
 pub fn lex_refusal(fault: LexFault) -> AsmFault
     ensures { (text : List ℕ) → IsLexFault text fault → IsLexRefused text result }
 {
@@ -28,7 +28,7 @@ pub fn lex_refusal(fault: LexFault) -> AsmFault
     }
 }
 
-/// The line of a place in the text, counted from 1. A place behind the text is its end's.
+/// The line of a place in the text, counted from 1. A place after the text is its end's.
 pub fn line_of(text: &[u8], at: usize) -> u64
     ensures { result ≡ line_of text.now at }
 {
@@ -40,7 +40,7 @@ pub fn line_of(text: &[u8], at: usize) -> u64
 /// # Errors
 ///
 /// A1, A2, or A3 of a number above 4294967295: the first in the text, with its line.
-/// `Memory` tells that the allocator refused, whatever the text is.
+/// `Memory`: the allocator refused, whatever the text is.
 pub fn tokens<A: Allocator>(alloc: A, text: &[u8]) -> Result<Vec<Token, A>, AsmFault>
     ensures lexed { IfOk result (λ v. Lexes text.now v.items) }
     ensures spans { IfOk result (λ v. All (IsSpanOf text.now) v.items) }

@@ -32,7 +32,7 @@ module _ {M : Type 1} {𝓤 : Ura M} (𝓛 : Logic 𝓤) (at_mem : Memory → SP
 module _ {M : Type 1} {𝓤 : Ura M} (𝓛 : Logic 𝓤) (at_mem : Memory → SProp 𝓤) (run : Routine → Fun 𝓤) (κ : Lft) (q : Share) (place : ℕ × ℕ) where
   open 𝓛 use {H, A}
 
-  -- the counter behind a `&`
+  -- the counter that a `&` leads to
   abbrev pub counts : SProp 𝓤
   counts = sem 𝓛 (hidden_shr Count κ (record { value = tt }) place.0 place.1)
 

@@ -1,4 +1,4 @@
-//! What a session is to answer, told from the joined list.
+//! What a session is to answer, by the joined list.
 
 use crate::breakpoint::Breakpoint;
 use crate::corpus::{Code, Recorded, program};

@@ -1,4 +1,4 @@
-//! Tells which packets of a capture each of many programs passes. The programs were made by
+//! Prints which packets of a capture each of many programs passes. The programs were made by
 //! `tcpdump -ddd` of some forty expressions, and the wanted verdicts are tcpdump's own.
 #![tactic(auto)]
 

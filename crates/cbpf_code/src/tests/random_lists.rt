@@ -71,7 +71,7 @@ impl Generator {
     }
 }
 
-/// Whether a jump at i that skips so many instructions leads behind the last of them.
+/// Whether a jump at i that skips so many instructions leads after the last of them.
 fn leads_outside(i: usize, skipped: u32, count: usize) -> bool
     requires { i < 8 }
 {

@@ -1,6 +1,6 @@
 use Rattle.cbpf_code.proofs.PathLemmas.{TracksPaths}
 use Rattle.cbpf_code.proofs.slots.first_unwritten.Given as goal
 
--- the masks tell the paths through the instructions so far
+-- the masks hold the paths through the instructions so far
 abbrev pub invariant-loop-i : goal.invariant-loop-i
 invariant-loop-i l = TracksPaths l.list l.i l.unwritten

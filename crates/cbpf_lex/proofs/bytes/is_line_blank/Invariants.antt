@@ -4,7 +4,7 @@ use Rattle.std.specs.List.{fold}
 use Rattle.cbpf_lex.specs.Bytes.{is_blank}
 use Rattle.cbpf_lex.proofs.bytes.is_line_blank.Given as goal
 
--- the bytes behind are blanks of the last line
+-- the bytes after are blanks of the last line
 abbrev pub invariant-loop-n : goal.invariant-loop-n
 invariant-loop-n l = (l.n ≤ length l.bytes) × (fold (λ blank b. b == 10 || (blank && is_blank b)) true l.bytes ≡ fold (λ blank b. b == 10 || (blank && is_blank b)) true (take l.n l.bytes))
 
