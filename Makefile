@@ -1,4 +1,4 @@
-# `build`, `demo`, `try` and `check` need the Rattle toolchain's command `rt` on the PATH; these and `test` need python3.
+# `build`, `demo`, `try` and `check` need the Rattle toolchain's command `rt` on the PATH; these, `test` and `bench` need python3.
 
 PREFIX ?= /usr/local
 DESTDIR ?=
@@ -6,7 +6,7 @@ PROGRAM = crates/cbpf/out/cbpf
 
 root = $(DESTDIR)$(PREFIX)
 
-.PHONY: help build built demo try test check install uninstall clean
+.PHONY: help build built demo try test bench check install uninstall clean
 
 help: ## Lists the targets.
 	@grep -E '^[a-z]+:.*##' Makefile | sed -E 's/:.*## /\t/' | expand -t 12
@@ -25,6 +25,9 @@ test: built ## Runs the end-to-end cases and the examples of the documents on th
 	python3 tests/names.py
 	python3 tests/run.py "$(PROGRAM)"
 	python3 tests/documents.py "$(PROGRAM)"
+
+bench: built ## Measures the program that is built beside its peers, and writes the tables of bench/README.md and bench/growth.svg.
+	python3 bench/all.py
 
 check: ## The gate: proves all crates and their tests from nothing, tries the must-fail edits, runs all tests; over an hour on four processors, twice that on two.
 	python3 tests/names.py

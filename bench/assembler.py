@@ -2,9 +2,9 @@
 of growing size.
 
 User and system time of whole processes. Each run is followed by one of a source with a single instruction, whose
-time is taken away; of the differences the median is printed. The peak is the largest resident set of the process (`ru_maxrss`), which is never less than this script's own
-before it starts the program, some 12 MB; so sources are written in pieces. Needs crates/cbpf built by `make build`,
-or takes the program's path as its argument.
+time is taken away; of the differences the median is printed. The peak is the largest resident set of the process
+(`ru_maxrss`), which is never less than this script's own before it starts the program, some 12 MB; so sources are
+written in pieces. Needs crates/cbpf built by `make build`, or takes the program's path as its argument.
 """
 import os
 import pathlib
@@ -131,4 +131,5 @@ def main():
                 row(what, pieces(size), rounds)
 
 
-main()
+if __name__ == "__main__":
+    main()

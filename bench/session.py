@@ -9,6 +9,7 @@ bpf_filter runs over it. Wants crates/cbpf built by `make build`.
 valgrind: one command more less the same script without it. These don't depend on the machine's load.
 """
 import dataclasses
+import os
 import pathlib
 import re
 import resource
@@ -80,9 +81,10 @@ def timed(command, script, rounds=5):
 
 
 def counted(command, script):
-    """The machine instructions of a process."""
+    """The machine instructions of a process, whose start reads all of its environment: so it has little."""
     done = subprocess.run(
         ["valgrind", "--tool=callgrind", "--callgrind-out-file=/dev/null"] + [str(word) for word in command],
+        env={"PATH": os.environ["PATH"]},
         stdin=open(script),
         stdout=subprocess.DEVNULL,
         stderr=subprocess.PIPE,
@@ -279,14 +281,19 @@ def print_steps(folder):
     print(f"100,000 lines of mark: {spent:.3f} s")
 
 
-with tempfile.TemporaryDirectory() as name:
-    folder = pathlib.Path(name)
-    subprocess.run([sys.executable, top / "bench/programs.py", folder], check=True)
-    if "--callgrind" in sys.argv[1:]:
-        print_counts(folder)
-    else:
-        large = capture(folder / "large", PACKETS)
-        print_runs(folder, large)
-        print_compared(folder)
-        print_stops(folder, large)
-        print_steps(folder)
+def main():
+    with tempfile.TemporaryDirectory() as name:
+        folder = pathlib.Path(name)
+        subprocess.run([sys.executable, top / "bench/programs.py", folder], check=True)
+        if "--callgrind" in sys.argv[1:]:
+            print_counts(folder)
+        else:
+            large = capture(folder / "large", PACKETS)
+            print_runs(folder, large)
+            print_compared(folder)
+            print_stops(folder, large)
+            print_steps(folder)
+
+
+if __name__ == "__main__":
+    main()

@@ -83,13 +83,21 @@ fn debug_from<R: Print + Files + AllocGlobal, I: Read>(
     }
 }
 
+/// Standard input's reader has a buffer in it, which only a session that reads from there needs.
+fn debug_standard_input<R: Input + Print + Files + AllocGlobal>(
+    rt: &R,
+    output: Option<String>,
+) -> Result<(), Failure> {
+    debug_from(rt, &mut rt.reader(), output)
+}
+
 fn debug_commands<R: Input + Print + Files + AllocGlobal>(
     rt: &R,
     input: Option<String>,
     output: Option<String>,
 ) -> Result<(), Failure> {
     match input {
-        None => debug_from(rt, &mut rt.reader(), output),
+        None => debug_standard_input(rt, output),
         Some(name) => match fs::open(rt, name.as_str()) {
             Ok(mut commands) => debug_from(rt, &mut commands, output),
             Err(_) => Err(Failure::CannotOpen(name)),

@@ -4,9 +4,14 @@ use Rattle.pcap_classic.specs.declared.front.Front.TheVariants.{WholeRecord}
 use Rattle.pcap_classic.specs.Scan.{front_of}
 use Rattle.pcap_classic.proofs.ContentsLemmas.{front_of-whole}
 use Rattle.pcap_classic.proofs.ReachLemmas.{reaches_next, reaches_end}
-use Rattle.pcap_classic.proofs.MarkLemmas.{marked_push, marked_keep}
 use Rattle.pcap_classic.proofs.index.index_of.Goals as goal
-use Rattle.pcap_classic.proofs.index.index_of.Goals.{then-count-eq0+in_ok-push, else-count-eq0}
+use Rattle.pcap_classic.proofs.index.index_of.Goals.{then-length-last, else-length-last}
+
+pub pass_repeats-requires-clause-here : goal.pass_repeats-requires-clause-here
+pass_repeats-requires-clause-here g c =
+    let front : c.front_of.result ≡ front_of c.args.order (drop c.records.place c.args.file.now) =
+    rw take_rest at c.front_of.ensures in
+    reaches_next _ _ _ _ _ c.records.invariant.here (sym front ∙ c.in-WholeRecord.is)
 
 pub records-preserved : goal.records-preserved
 records-preserved g c =
@@ -15,13 +20,15 @@ records-preserved g c =
     let whole : front_of c.args.order (drop c.records.place c.args.file.now) ≡ WholeRecord c.in-WholeRecord.length =
     sym front ∙ c.in-WholeRecord.is in
     let is = front_of-whole c.args.order (drop c.records.place c.args.file.now) _ whole in
+    let here = c.records.invariant.here in
     record {
-      here = reaches_next _ _ _ _ _ c.records.invariant.here whole;
-      marked = elim c.if-count-eq0.branch [
-        | then-count-eq0+in_ok-push w ↦ rw (w.starts-is, w.in_ok-push.ensures.items) (marked_push _ _ _ _ _ c.records.invariant.marked w.if-count-eq0.true c.records.invariant.here)
-        | else-count-eq0 w ↦ rw w.starts-is (marked_keep _ _ _ _ c.records.invariant.marked w.if-count-eq0.false)
-      ];
+      here = reaches_next _ _ _ _ _ here whole;
+      marked = c.in_ok-keep_start.ensures _ _ here c.records.invariant.marked;
       few = omega (arith, is.header);
+      repeated = elim c.if-length-last.branch [
+        | then-length-last w ↦ (let before = c.records.invariant.repeated in let other = c.if-repeats-eq-REPEATS.false in omega (arith, w.repeats-is))
+        | else-length-last w ↦ rw w.repeats-is (omega arith)
+      ];
     }
 
 pub returns : goal.returns

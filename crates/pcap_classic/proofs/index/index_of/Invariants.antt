@@ -1,4 +1,4 @@
-use Rattle.std.proofs.Common.{◌-◌, ◌+◌, ◌*◌, ◌≤◌, length}
+use Rattle.std.proofs.Common.{◌-◌, ◌+◌, ◌*◌, ◌<◌, ◌≤◌, length}
 use Rattle.pcap_classic.specs.Index.{Reaches, IsMarked}
 use Rattle.pcap_classic.proofs.index.index_of.Given as goal
 
@@ -8,6 +8,7 @@ invariant-records g l =
       here : Reaches l.order l.file l.count l.place;
       marked : IsMarked l.order l.file l.starts.items l.count;
       few : 16 * l.count + 24 ≤ l.place;
+      repeated : l.repeats < 4;
     }
 
 abbrev pub decreases-records : goal.decreases-records

@@ -1,0 +1,142 @@
+"""Measures how time and memory grow over three decades, and draws it: `asm` over sources of labels, and load with
+`run` over captures, beside tcpdump -r where it is on the PATH. The kernel's bpf_asm refuses such sources.
+
+growth.py PICTURE.svg [--callgrind]: the time is user and system time beyond the program's start, or with --callgrind
+the machine instructions in all, by valgrind, which don't depend on the machine's load. The memory is the peak of the
+process. Needs cc and crates/cbpf built by `make build`. Its lines: what, size: time or instructions, peak in MB
+"""
+import math
+import pathlib
+import shutil
+import statistics
+import sys
+import tempfile
+
+import assembler
+import processes
+import session
+
+COUNTING = "--callgrind" in sys.argv[1:]
+STEPS = [1, 10, 100, 1000]
+LABELS = 1000
+PACKETS = 1000
+COLORS = {"cbpf": "#1f6fb2", "tcpdump": "#c25b1e"}
+WIDTH, HEIGHT, LEFT, TOP, GAP = 300, 190, 60, 36, 90
+
+
+def spent(process, command, script):
+    """The time and the peak memory of a command over a script."""
+    words = [str(word) for word in command]
+    rounds = [processes.used(process, words, script) for _ in range(9)]
+    peak = max(bytes for _, bytes, _ in rounds)
+    if COUNTING:
+        return session.counted(words, script), peak
+    start = [processes.used(process, [words[0], "--version"]) for _ in range(9)]
+    least = statistics.median(seconds for seconds, _, _ in start)
+    return max(statistics.median(seconds for seconds, _, _ in rounds) - least, 1e-6) * 1e3, peak
+
+
+def assembled(folder, process):
+    """The size of each source, and the time and the peak memory of `asm` over it."""
+    source = folder / "source"
+    points = []
+    for step in STEPS:
+        assembler.write(source, assembler.labels(f"l{i:07}" for i in range(LABELS * step)))
+        points.append((source.stat().st_size, *spent(process, [processes.cbpf, "asm", source], "/dev/null")))
+    return {"cbpf": points}
+
+
+def run(folder, process):
+    """The number of packets of each capture, and the time and the peak memory of each program over it."""
+    script = folder / "script"
+    points = {"cbpf": []}
+    if shutil.which("tcpdump"):
+        points["tcpdump"] = []
+    for step in STEPS:
+        file = session.capture(folder / "packets", PACKETS * step)
+        script.write_text(f"load bpf {session.SIX}\nload pcap {file}\nrun\n")
+        points["cbpf"].append((PACKETS * step, *spent(process, [processes.cbpf, "dbg", script], "/dev/null")))
+        if "tcpdump" in points:
+            reading = ["tcpdump", "-q", "-r", file, "-w", "/dev/null", "ip proto 17"]
+            points["tcpdump"].append((PACKETS * step, *spent(process, reading, "/dev/null")))
+    return points
+
+
+def label(value):
+    """A power of ten, as `10k` or `1M`."""
+    for unit, size in (("G", 10**9), ("M", 10**6), ("k", 10**3)):
+        if value >= size:
+            return f"{value / size:g}{unit}"
+    return f"{value:g}"
+
+
+def decades(values):
+    """The powers of ten around the values, which may pass them by a hundredth."""
+    least, most = math.floor(math.log10(min(values)) + 0.005), math.ceil(math.log10(max(values)) - 0.005)
+    return range(least, max(most, least + 1) + 1)
+
+
+def panel(x, y, title, series, names):
+    """The lines of one panel: both axes go by powers of ten."""
+    every = [point for points in series.values() for point in points]
+    across, up = decades([size for size, _ in every]), decades([value for _, value in every])
+
+    def place(size, value):
+        right = (math.log10(size) - across[0]) / (across[-1] - across[0])
+        high = (math.log10(value) - up[0]) / (up[-1] - up[0])
+        return x + right * WIDTH, y + (1 - high) * HEIGHT
+
+    yield f'<text x="{x}" y="{y - 12}" font-weight="bold">{title}</text>'
+    for power in up:
+        _, line = place(10 ** across[0], 10.0**power)
+        yield f'<path d="M{x} {line:.1f}h{WIDTH}" stroke="#ddd"/>'
+        yield f'<text x="{x - 6}" y="{line + 4:.1f}" text-anchor="end">{label(10.0**power)}</text>'
+    for power in across:
+        column, _ = place(10.0**power, 10 ** up[0])
+        yield f'<path d="M{column:.1f} {y}v{HEIGHT}" stroke="#ddd"/>'
+        yield f'<text x="{column:.1f}" y="{y + HEIGHT + 16}" text-anchor="middle">{label(10.0**power)}</text>'
+    yield f'<text x="{x + WIDTH / 2}" y="{y + HEIGHT + 34}" text-anchor="middle">{names}</text>'
+    for name, points in series.items():
+        places = [place(*point) for point in points]
+        line = " ".join(f"{column:.1f},{row:.1f}" for column, row in places)
+        yield f'<polyline points="{line}" fill="none" stroke="{COLORS[name]}" stroke-width="2"/>'
+        for column, row in places:
+            yield f'<circle cx="{column:.1f}" cy="{row:.1f}" r="3" fill="{COLORS[name]}"/>'
+        column, row = places[0]
+        yield f'<text x="{column + 4:.1f}" y="{row - 18:.1f}" fill="{COLORS[name]}">{name}</text>'
+
+
+def picture(works):
+    """The panels of all works: time above, peak memory below."""
+    cost = "machine instructions" if COUNTING else "ms of user and system time"
+    lines = []
+    for column, (what, axis, points) in enumerate(works):
+        x = LEFT + column * (WIDTH + GAP)
+        for row, (title, part) in enumerate([(cost, 1), ("peak memory, bytes", 2)]):
+            series = {name: [(point[0], point[part]) for point in each] for name, each in points.items()}
+            lines += panel(x, TOP + row * (HEIGHT + GAP), f"{what}: {title}", series, axis)
+    width, height = LEFT + 2 * WIDTH + GAP + 30, TOP + 2 * HEIGHT + GAP + 50
+    head = f'<svg xmlns="http://www.w3.org/2000/svg" viewBox="0 0 {width} {height}" font-family="sans-serif" font-size="12">'
+    return "\n".join([head, f'<rect width="{width}" height="{height}" fill="white"/>', *lines, "</svg>"]) + "\n"
+
+
+def main():
+    with tempfile.TemporaryDirectory() as name:
+        folder = pathlib.Path(name)
+        process = processes.compiled(folder, "process")
+        if not process:
+            sys.exit("no cc")
+        works = [
+            ("asm", "bytes of source, a label a line", assembled(folder, process)),
+            ("load and run", "packets of 64 bytes", run(folder, process)),
+        ]
+    for what, _, points in works:
+        for program, each in points.items():
+            for size, cost, peak in each:
+                shown = f"{cost:,} machine instructions" if COUNTING else f"{cost:.2f} ms"
+                print(f"{what} by {program}, {size:,}: {shown}, {peak / 1e6:.1f} MB")
+    pathlib.Path(sys.argv[1]).write_text(picture(works))
+
+
+if __name__ == "__main__":
+    main()
