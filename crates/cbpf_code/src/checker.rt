@@ -5,7 +5,7 @@ ghost use Rattle.cbpf_code.specs.Sound.{IsSound};
 ghost use Rattle.cbpf_code.specs.CheckSteps.{AllowedAt, IsAllowed, InsnHasFault};
 ghost use Rattle.cbpf_code.specs.declared.checker.CheckFault.{CheckFault};
 
-use crate::extension::ext_at;
+use crate::extension::{FIRST_EXTENSION, ext_at};
 use crate::insn::Insn;
 use crate::opcode::{AluOp, Op, Src, op_of};
 use crate::program::Program;
@@ -17,9 +17,6 @@ const MAX_INSTRUCTIONS: usize = 4096;
 
 /// How many slots the scratch memory has.
 const SLOTS: u32 = 16;
-
-/// Absolute loads from here on ask for extensions.
-const EXTENSIONS_START: u32 = 0xfffff000;
 
 /// Why a list of instructions is no program; a number is the index of the instruction, from 0.
 #[derive(Clone, Copy, Debug, PartialEq, Eq)]
@@ -144,7 +141,7 @@ fn fault_of(op: Op, insn: Insn, i: u32, count: u32) -> Option<CheckFault>
                 Some(CheckFault::JumpOutside(i))
             }
         }
-        Op::LdAbs(_) => (insn.k >= EXTENSIONS_START && ext_at(insn.k).is_none()).then_some(
+        Op::LdAbs(_) => (insn.k >= FIRST_EXTENSION && ext_at(insn.k).is_none()).then_some(
             CheckFault::UnknownExtension(i),
         ),
         Op::Alu(AluOp::Add | AluOp::Sub | AluOp::Mul | AluOp::Or | AluOp::And | AluOp::Xor, _) =>

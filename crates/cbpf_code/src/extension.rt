@@ -24,7 +24,7 @@ pub enum Ext {
 }
 
 /// The place of the first extension; SKF_AD_OFF as an unsigned number.
-const FIRST: u32 = 0xfffff000;
+pub const FIRST_EXTENSION: u32 = 0xfffff000;
 
 /// The table of the 15 extensions: place, extension and name, handed row by row to one of the four
 /// macros below.
@@ -63,7 +63,7 @@ macro_rules! ext_of_place {
 macro_rules! offset_of_ext {
     ($value:expr; $($place:literal => $ext:pat, $name:literal;)*) => {
         match $value {
-            $($ext => $place - FIRST,)*
+            $($ext => $place - FIRST_EXTENSION,)*
         }
     };
 }

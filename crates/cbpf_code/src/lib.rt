@@ -17,7 +17,7 @@ mod writing;
 
 pub use c_form::write_c;
 pub use checker::{CheckFault, check};
-pub use extension::{Ext, ext_at, ext_name, ext_named, ext_offset};
+pub use extension::{Ext, FIRST_EXTENSION, ext_at, ext_name, ext_named, ext_offset};
 pub use form::Form;
 pub use insn::Insn;
 pub use opcode::{AluOp, Cond, Op, Size, Src, code_of, op_of};

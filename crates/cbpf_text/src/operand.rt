@@ -4,11 +4,8 @@ ghost use Rattle.std.specs.Prelude.{◌≡◌};
 ghost use Rattle.cbpf_grammar.specs.Views.{class_of, symbol_of};
 ghost use Rattle.cbpf_text.specs.Operands.{value_at};
 
-use cbpf_code::{ext_named, ext_offset};
+use cbpf_code::{FIRST_EXTENSION, ext_named, ext_offset};
 use cbpf_grammar::{Class, Symbol};
-
-/// The place of the first extension.
-const EXTENSIONS: u32 = 0xffff_f000;
 
 /// The value of a token at its class, where it has one.
 pub fn value_at(class: Class, symbol: Symbol<'_>) -> Option<u32>
@@ -17,7 +14,7 @@ pub fn value_at(class: Class, symbol: Symbol<'_>) -> Option<u32>
     match (class, symbol) {
         (Class::Literal, Symbol::Number(n)) => Some(n),
         (Class::Negated, Symbol::Number(n)) => Some(n.wrapping_neg()),
-        (Class::Extension, Symbol::Word(name)) => Some(EXTENSIONS + ext_offset(ext_named(name)?)),
+        (Class::Extension, Symbol::Word(name)) => Some(FIRST_EXTENSION + ext_offset(ext_named(name)?)),
         _ => None,
     }
 }
