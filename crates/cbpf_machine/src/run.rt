@@ -2,11 +2,11 @@ ghost use Rattle.std.specs.Prelude.{◌≡◌, ◌≤◌, ◌+◌, ◌^◌, leng
 ghost use Rattle.cbpf_machine.specs.Machine.{machine_of};
 ghost use Rattle.cbpf_machine.specs.Trace as spec;
 
-use crate::execute::uncounted_turn;
 use crate::meter::Meter;
 use crate::outcome::Outcome;
 use crate::packet::Packet;
 use crate::state::State;
+use crate::together::go_on;
 use crate::values::Values;
 use cbpf_code::Program;
 use std::alloc::Allocator;
@@ -36,9 +36,8 @@ pub fn run_packet<A: Allocator>(
     let mut turns = 0;
     let mut s = State::zero();
     'run: loop {
-        let end = uncounted_turn(p, packet, values, &mut s);
         turns += 1;
-        if let Some(outcome) = end {
+        if let Some(outcome) = go_on(&mut turns, p, packet, values, &mut s) {
             meter.add(turns);
             return outcome;
         }
