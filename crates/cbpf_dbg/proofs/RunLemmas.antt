@@ -19,11 +19,31 @@ use Rattle.cbpf_dbg.specs.Joined.{ahead, rest, counts, stop_at, why_of, is_unkno
 use Rattle.cbpf_dbg.specs.Hits.{hit_for}
 use Rattle.cbpf_dbg.specs.View.{View, start}
 use Rattle.cbpf_dbg.specs.Commands.{run_to, run_out, within_limit, finished, limited}
-use Rattle.cbpf_dbg.specs.Walk.{Stands, Moves, PassesTo, hit_of, view_at, entry_here, Runs, StepsOn, Below, is_limit}
+use Rattle.cbpf_dbg.specs.Walk.{Stands, Moves, PassesTo, hit_of, view_at, entry_here, Runs, StepsOn, Below, UpTo, NotBefore, is_limit}
 use Rattle.cbpf_dbg.proofs.JoinedLemmas.{rest-hit, rest-pass, rest-none}
 use Rattle.cbpf_dbg.specs.Breakpoints.{Breakpoints, carries}
 
 -- ---- the limit
+
+pub up_to_at_start : (limit : Option ℕ) (first packet : ℕ) → (limit ≡ Some 0 → ⊥) → packet ≤ first + 1 → UpTo limit first packet
+up_to_at_start None first packet h most = tt
+up_to_at_start (Some zero) first packet h most = absurd (h refl)
+up_to_at_start (Some (suc n)) first packet h most = omega arith
+
+pub not_before_forward : (new old : Place) → NotBefore new old → old.packet ≤ new.packet
+not_before_forward new old h = elim h [ inl more ↦ omega arith | inr same ↦ (let e = same.0 in omega arith) ]
+
+-- a packet that is not the limit, and the one after it
+pub up_to_next : (limit : Option ℕ) (first packet next : ℕ) → UpTo limit first packet → first ≤ packet → next ≡ packet + 1 → is_limit limit (packet - first) ≡ false → UpTo limit first next
+up_to_next None first packet next h forward e test = tt
+up_to_next (Some n) first packet next h forward e test =
+    let differs : n ≢ packet - first = grind (arith, nat_tests) in
+    omega arith
+
+-- after the last packet
+pub up_to_past : (limit : Option ℕ) (first packet count : ℕ) → UpTo limit first packet → count < packet → Below limit first packet count
+up_to_past None first packet count h past = tt
+up_to_past (Some n) first packet count h past = (h, inr past)
 
 -- where the capture still has the packet, the limit is not reached
 within_below : (limit : Option ℕ) (first packet count : ℕ) → Below limit first packet count → packet ≤ count → first ≤ packet → within_limit limit (packet - first) ≡ true
@@ -142,6 +162,9 @@ passes_entry machine capture breakpoints r old new at m none =
     let no = hit_none (carries breakpoints new.state) (turn machine m.0.bytes m.0.wire new.state) (rw same (sym none)) in
     sym (rest-pass machine capture breakpoints old.place new.place (entry_here machine m.0 new) m.4 no)
 
+place_by : (q : Place) (packet : ℕ) → q.packet ≡ packet → q.step ≡ 0 → q ≡ record { packet = packet; step = 0 }
+place_by q packet e before = rw (e, before) refl
+
 module _ (machine : Machine) (c : Savefile) (breakpoints : Breakpoints) (limit : Option ℕ) (w0 : Walk) where
   abbrev pub hits : Place → List Stop
   hits place = rest machine c.records breakpoints place
@@ -193,6 +216,16 @@ module _ (machine : Machine) (c : Savefile) (breakpoints : Breakpoints) (limit :
         place_is = rw out (rw place refl);
         origin_is = rw out origin;
       }
+
+  -- the same at the walk alone
+  pub run_limited_at : (w2 : Walk) → Stands machine c.records w2 → hits w2.place ≡ hits w0.place → w2.origin ≡ w0.origin
+      → w2.place.step ≡ 0 → w0.place.packet ≤ w2.place.packet
+      → is_limit limit (w2.place.packet - w0.place.packet) ≡ true → w2.place.packet ≤ length c.records
+      → Runs machine c breakpoints w0 w2 limit (Limit w2.counts)
+  run_limited_at w2 stands same origin before forward at here =
+      let one : w2.place.packet ≡ w2.place.packet - 1 + 1 = let a = stands.from_one in let b = stands.ordered in omega arith in
+      let place : w2.place ≡ record { packet = w2.place.packet - 1 + 1; step = 0 } = place_by w2.place (w2.place.packet - 1 + 1) one before in
+      run_limited (record w2 { place = record { packet = w2.place.packet - 1; step = 0 } }) w2 stands same origin place forward at here
 
 -- ---- a step on
 

@@ -128,6 +128,11 @@ abbrev pub Below : Option ℕ → ℕ → ℕ → ℕ → Type 0
 Below None first packet count = Unit {0}
 Below (Some n) first packet count = (packet ≤ first + n) × ((packet < first + n) ⊎ (count < packet))
 
+-- the limit of finished packets is not passed
+abbrev pub UpTo : Option ℕ → ℕ → ℕ → Type 0
+UpTo None first packet = Unit {0}
+UpTo (Some n) first packet = packet ≤ first + n
+
 -- one place is not before another
 abbrev pub NotBefore : Place → Place → Type 0
 NotBefore new old = (old.packet < new.packet) ⊎ ((old.packet ≡ new.packet) × (old.step ≤ new.step))

@@ -7,7 +7,7 @@ ghost use Rattle.cbpf_dbg.specs.Joined.{rest};
 ghost use Rattle.cbpf_dbg.specs.Loaded.{machine_in, records_in, breakpoints_in};
 ghost use Rattle.cbpf_dbg.specs.Session.{IsQuiet, Keeps, Watches};
 ghost use Rattle.cbpf_dbg.specs.declared.walk.Moved.TheVariants as moved;
-ghost use Rattle.cbpf_dbg.specs.Walk.{Stands, owed, Runs, run_turns, NotBefore, PassesOn, PassesTo, hit_of, is_limit as is_limit_at};
+ghost use Rattle.cbpf_dbg.specs.Walk.{IsHere, Stands, owed, Runs, run_turns, NotBefore, PassesOn, PassesTo, hit_of, is_limit as is_limit_at};
 
 use crate::hit::{hit, hit_at};
 use crate::loaded::Loaded;
@@ -253,33 +253,33 @@ fn pass_whole<A: Allocator>(
     w.pass(run_packet(meter, loaded.program, packet, loaded.values));
 }
 
-/// The same from any place of the packet.
-#[inline(always)]
-fn pass_packet<A: Allocator>(
+/// Goes on to the end of the place's packet, where it has begun: the record of the packet that comes then.
+// It isn't inlined, so that the walk of a begun packet is no part of the loop over whole ones.
+#[inline(never)]
+fn pass_begun<'a, A: Allocator>(
     meter: &mut Meter,
-    loaded: &Loaded<'_, A>,
-    here: &Captured<'_>,
+    loaded: &Loaded<'a, A>,
     w: &mut Walk,
-)
+) -> Option<Captured<'a>>
     requires stands { Stands (machine_in loaded.now) (records_in loaded.now) w.old }
-    requires here { slice_get (records_in loaded.now) (w.old.place.packet - 1) ≡ Some (record_of here.now) }
     requires quiet { IsQuiet (machine_in loaded.now) [] }
     requires spare { meter.old + owed (machine_in loaded.now) (records_in loaded.now) w.old.place + 1 < 2 ^ 128 }
-    requires few { meter.old + 8192 ≤ 2 ^ 128 }
     ensures stands { Stands (machine_in loaded.now) (records_in loaded.now) w.new }
-    ensures place { w.new.place ≡ record { packet = w.old.place.packet + 1; step = 0 } }
+    ensures here { IsHere (records_in loaded.now) w.new.place.packet result }
+    ensures before { w.new.place.step ≡ 0 }
     ensures origin { w.new.origin ≡ w.old.origin }
     ensures rest { rest (machine_in loaded.now) (records_in loaded.now) [] w.new.place ≡ rest (machine_in loaded.now) (records_in loaded.now) [] w.old.place }
+    ensures most { w.new.place.packet ≤ w.old.place.packet + 1 }
+    ensures order { NotBefore w.new.place w.old.place }
     ensures spent { meter.new + owed (machine_in loaded.now) (records_in loaded.now) w.new.place ≡ meter.old + owed (machine_in loaded.now) (records_in loaded.now) w.old.place }
 {
+    let here = record_at(loaded.capture, w.place.packet)?;
     if w.place.step == 0 {
-        pass_whole(meter, loaded, here, w);
-    } else {
-        // On copies, as only the first packet comes here, and the loop's own stay in registers.
-        let (here, mut rest) = (*here, *w);
-        pass_rest(meter, loaded, &here, &mut rest);
-        *w = rest;
+        return Some(here);
     }
+    let next = loaded.capture.following(&here);
+    pass_rest(meter, loaded, &here, w);
+    next
 }
 
 /// Goes on to the limit of finished packets, or to the end, where no entry can be a hit.
@@ -304,21 +304,20 @@ fn run_quietly<T: Trail, A: Allocator>(
 {
     let _few = loaded.capture.count();
     let start = w.place.packet;
-    let mut next = record_at(loaded.capture, start);
     trail.clear();
+    let mut next = pass_begun(meter, loaded, w);
     'go: loop {
         let Some(here) = next else {
             let counts = w.counts;
             *w = Walk::start();
             return RunReply::Finished(counts);
         };
-        // Asked for first, so that its header is fetched from memory while this packet runs.
-        let behind = loaded.capture.following(&here);
-        pass_packet(meter, loaded, &here, w);
-        next = behind;
-        if is_limit(limit, w.place.packet - start) && next.is_some() {
+        if is_limit(limit, w.place.packet - start) {
             return RunReply::Limit(w.counts);
         }
+        // Asked for first, so that its header is fetched from memory while this packet runs.
+        next = loaded.capture.following(&here);
+        pass_whole(meter, loaded, &here, w);
     }
 }
 

@@ -4,3 +4,4 @@ pub mod ListLemmas
 pub mod TraceLemmas
 pub mod AskedLemmas
 pub mod FollowLemmas
+pub mod RestLemmas

@@ -19,6 +19,7 @@ mod outcome;
 mod packet;
 mod run;
 mod state;
+mod together;
 mod trail;
 mod values;
 

@@ -2,15 +2,14 @@ ghost use Rattle.std.specs.Prelude.{◌≡◌, ◌≤◌, ◌+◌, ◌^◌, leng
 ghost use Rattle.cbpf_machine.specs.Machine.{machine_of};
 ghost use Rattle.cbpf_machine.specs.Trace as spec;
 
-use crate::execute::turn_in_place;
 use crate::meter::Meter;
 use crate::outcome::Outcome;
 use crate::packet::Packet;
 use crate::state::State;
+use crate::together::go_on;
 use crate::values::Values;
 use cbpf_code::Program;
 use std::alloc::Allocator;
-use std::mem;
 
 /// Runs a program on a packet, from the zero state to the packet's end, by at most as many turns
 /// as the program has instructions.
@@ -33,12 +32,13 @@ pub fn run_packet<A: Allocator>(
     ensures whole { spec.IsRun (machine_of p.now values.now) packet.entry.bytes.now packet.entry.wire (spec.trace (machine_of p.now values.now) packet.entry.bytes.now packet.entry.wire) }
 {
     let _sound = p.len();
-    // The meter stays in those registers too, while it is this function's own.
-    let mut spent = mem::replace(meter, Meter::new());
+    // The count and the state are this function's own, so both stay in those registers.
+    let mut turns = 0;
     let mut s = State::zero();
     'run: loop {
-        if let Some(outcome) = turn_in_place(&mut spent, p, packet, values, &mut s) {
-            *meter = spent;
+        turns += 1;
+        if let Some(outcome) = go_on(&mut turns, p, packet, values, &mut s) {
+            meter.add(turns);
             return outcome;
         }
     }

@@ -1,6 +1,6 @@
 use Rattle.std.proofs.Common.{◌≡◌, ◌+◌, ◌-◌, ◌≤◌, [], length}
 use Rattle.cbpf_dbg.specs.Joined.{rest}
-use Rattle.cbpf_dbg.specs.Walk.{Stands, owed, Below, NotBefore, IsHere}
+use Rattle.cbpf_dbg.specs.Walk.{Stands, owed, UpTo, NotBefore, IsHere}
 use Rattle.cbpf_dbg.specs.Loaded.{machine_in, records_in}
 use Rattle.cbpf_dbg.proofs.run.run_quietly.Given as goal
 
@@ -11,13 +11,14 @@ invariant-go g l =
       here : IsHere (records_in l.loaded) l.w.place.packet l.next;
       stands : Stands (machine_in l.loaded) (records_in l.loaded) l.w;
       empty : g.T.Trail.stands_for l.trail [];
-      began : l.start ≡ l.initial.w.place.packet;
-      same_origin : l.w.origin ≡ l.initial.w.origin;
-      same_rest : rest (machine_in l.loaded) (records_in l.loaded) [] l.w.place ≡ rest (machine_in l.loaded) (records_in l.loaded) [] l.initial.w.place;
-      forward : l.initial.w.place.packet ≤ l.w.place.packet;
-      order : NotBefore l.w.place l.initial.w.place;
-      in_limit : Below l.limit l.initial.w.place.packet l.w.place.packet (length (records_in l.loaded));
-      spent : l.meter + owed (machine_in l.loaded) (records_in l.loaded) l.w.place ≡ l.initial.meter + owed (machine_in l.loaded) (records_in l.loaded) l.initial.w.place;
+      began : l.start ≡ l.fn.w.place.packet;
+      same_origin : l.w.origin ≡ l.fn.w.origin;
+      same_rest : rest (machine_in l.loaded) (records_in l.loaded) [] l.w.place ≡ rest (machine_in l.loaded) (records_in l.loaded) [] l.fn.w.place;
+      forward : l.fn.w.place.packet ≤ l.w.place.packet;
+      order : NotBefore l.w.place l.fn.w.place;
+      before : l.w.place.step ≡ 0;
+      in_limit : UpTo l.limit l.fn.w.place.packet l.w.place.packet;
+      spent : l.meter + owed (machine_in l.loaded) (records_in l.loaded) l.w.place ≡ l.fn.meter + owed (machine_in l.loaded) (records_in l.loaded) l.fn.w.place;
     }
 
 abbrev pub decreases-go : goal.decreases-go

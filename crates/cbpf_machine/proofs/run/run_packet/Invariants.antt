@@ -11,7 +11,8 @@ invariant-run g l =
       sound : IsSound l.p;
       inside : l.s.pc < length l.p;
       ends : outcome_from (machine_of l.p l.values) l.packet.bytes.now l.packet.wire l.s ≡ outcome (machine_of l.p l.values) l.packet.bytes.now l.packet.wire;
-      spent : l.spent + length (trace_from (machine_of l.p l.values) l.packet.bytes.now l.packet.wire l.s) ≡ l.fn.meter + length (trace (machine_of l.p l.values) l.packet.bytes.now l.packet.wire);
+      turns : l.turns + length (trace_from (machine_of l.p l.values) l.packet.bytes.now l.packet.wire l.s) ≡ length (trace (machine_of l.p l.values) l.packet.bytes.now l.packet.wire);
+      early : l.meter ≡ l.fn.meter;
     }
 
 abbrev pub decreases-run : goal.decreases-run
