@@ -166,7 +166,7 @@ def check_spans(path):
         for span in CODE_SPAN.findall(line):
             if is_path(span):
                 check(is_there(span, path, near, line.startswith("|")), path, number, f"no file or folder {span}")
-            elif looks_like_a_name(span) and not span.isupper() and path.name not in OF_USERS:
+            elif looks_like_a_name(span) and not re.fullmatch("[A-Z0-9]+", span) and path.name not in OF_USERS:
                 name = re.sub(r"\(.*\)$", "", span)
                 check(is_known(name), path, number, f"no name {span}")
         for name in re.findall(r"(?<![\w/.])cbpf_\w+", CODE_SPAN.sub("", line)):
