@@ -20,7 +20,7 @@ BENCH = pathlib.Path(__file__).resolve().parent
 PAGE = BENCH / "README.md"
 MACHINE = BENCH.parent / "crates/bench_machine/out/bench_machine"
 QUIET = 0.5
-NUMBER = r"([\d.,]+)"
+NUMBER = r"(-?[\d.,]+)"
 
 
 def lines_of(script, *words):
@@ -68,14 +68,14 @@ def counts():
 
 
 def turns(lines):
-    """Ratios of times that were measured by turns."""
-    pattern = rf"(.+): .+, {NUMBER} times (.+) \({NUMBER} of the least\)"
-    rows = [(work, than, median, least) for work, median, than, least in matched(pattern, lines)]
+    """Ratios of times that were measured by turns: of the medians, as others' work may spoil the least."""
+    pattern = rf"(.+): .+, {NUMBER} times (.+) \(.+ of the least\)"
+    rows = [(work, than, ratio) for work, ratio, than in matched(pattern, lines)]
     if MACHINE.exists() and shutil.which("cc"):
-        pattern = rf"(\w+): .+ ratio {NUMBER} \(of the least {NUMBER}\).*"
+        pattern = rf"(\w+): .+ ratio {NUMBER} \(.*"
         found = matched(pattern, lines_of("compare.py"))
-        rows += [(f"`run_packet`, {work}", "bpf_filter", *ratios) for work, *ratios in found]
-    return table(["work", "beside", "ratio of the medians", "of the least"], rows)
+        rows += [(f"`run_packet`, {work}", "bpf_filter", ratio) for work, ratio in found]
+    return table(["work", "beside", "ratio of the medians"], rows)
 
 
 def times(lines):

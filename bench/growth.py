@@ -1,9 +1,9 @@
 """Measures how time and memory grow over three decades, and draws it: `asm` over sources of labels, and load with
 `run` over captures, beside tcpdump -r where it is on the PATH. The kernel's bpf_asm refuses such sources.
 
-growth.py PICTURE.svg [--callgrind]: the time is user and system time beyond the program's start, or with --callgrind
-the machine instructions in all, by valgrind, which don't depend on the machine's load. The memory is the peak of the
-process. Needs cc and crates/cbpf built by `make build`. Its lines: what, size: time or instructions, peak in MB
+growth.py PICTURE.svg [--callgrind]: the time is user and system time of whole processes, the median of 9, or with
+--callgrind their machine instructions by valgrind, which don't depend on the machine's load. The memory is the peak
+of the process. Needs cc and crates/cbpf built by `make build`. Its lines: what, size: time or instructions, peak in MB
 """
 import math
 import pathlib
@@ -24,16 +24,14 @@ COLORS = {"cbpf": "#1f6fb2", "tcpdump": "#c25b1e"}
 WIDTH, HEIGHT, LEFT, TOP, GAP = 300, 190, 60, 36, 90
 
 
-def spent(process, command, script):
-    """The time and the peak memory of a command over a script."""
+def spent(process, command):
+    """The time and the peak memory of a command."""
     words = [str(word) for word in command]
-    rounds = [processes.used(process, words, script) for _ in range(9)]
-    peak = max(bytes for _, bytes, _ in rounds)
+    rounds = [processes.used(process, words) for _ in range(9)]
+    peak = max(most for _, most, _ in rounds)
     if COUNTING:
-        return session.counted(words, script), peak
-    start = [processes.used(process, [words[0], "--version"]) for _ in range(9)]
-    least = statistics.median(seconds for seconds, _, _ in start)
-    return max(statistics.median(seconds for seconds, _, _ in rounds) - least, 1e-6) * 1e3, peak
+        return session.counted(words, "/dev/null"), peak
+    return statistics.median(seconds for seconds, _, _ in rounds) * 1e3, peak
 
 
 def assembled(folder, process):
@@ -42,7 +40,7 @@ def assembled(folder, process):
     points = []
     for step in STEPS:
         assembler.write(source, assembler.labels(f"l{i:07}" for i in range(LABELS * step)))
-        points.append((source.stat().st_size, *spent(process, [processes.cbpf, "asm", source], "/dev/null")))
+        points.append((source.stat().st_size, *spent(process, [processes.cbpf, "asm", source])))
     return {"cbpf": points}
 
 
@@ -55,10 +53,10 @@ def run(folder, process):
     for step in STEPS:
         file = session.capture(folder / "packets", PACKETS * step)
         script.write_text(f"load bpf {session.SIX}\nload pcap {file}\nrun\n")
-        points["cbpf"].append((PACKETS * step, *spent(process, [processes.cbpf, "dbg", script], "/dev/null")))
+        points["cbpf"].append((PACKETS * step, *spent(process, [processes.cbpf, "dbg", script])))
         if "tcpdump" in points:
             reading = ["tcpdump", "-q", "-r", file, "-w", "/dev/null", "ip proto 17"]
-            points["tcpdump"].append((PACKETS * step, *spent(process, reading, "/dev/null")))
+            points["tcpdump"].append((PACKETS * step, *spent(process, reading)))
     return points
 
 

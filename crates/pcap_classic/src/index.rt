@@ -92,7 +92,10 @@ fn pass_repeats<A: Allocator>(
     ensures on { IfOk result (λ passed. from.place ≤ passed.place) }
     ensures all { IfOk result (λ passed. spec.front_of order (drop passed.place file.now) ≡ WholeRecord length → ⊥) }
 {
-    let Passed { mut count, mut place } = from;
+    let Passed {
+        mut count,
+        mut place,
+    } = from;
     'repeats: while is_record_of(order, &file[place..], length) {
         keep_start(starts, count, place)?;
         count += 1;
