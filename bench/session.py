@@ -170,6 +170,7 @@ def print_runs(folder, large):
         if libpcap:
             print_filter_alone(folder, libpcap, what, words, PACKETS)
     if libpcap:
+        print_filter_alone(folder, libpcap, "35 instructions", FLAGS, PACKETS)
         for name, packets in [("arithmetic", PACKETS), ("straight", STRAIGHT_PACKETS)]:
             print_filter_alone(folder, libpcap, name, ",".join(program(folder, name)), packets)
 
