@@ -57,7 +57,7 @@ later-packet_after machine r p s q k [] h = refl
 later-packet_after machine r p s q k (x ∷ xs) h =
     later-yes p s (entry machine r q k x) (entries_from machine r q (k + 1) xs) (after_packet p s q k h) ∙ ap (λ rest. entry machine r q k x ∷ rest) (later-packet_after machine r p s q (k + 1) xs h)
 
--- so are the packet's own entries behind the step
+-- so are the packet's own entries after the step
 later-step_after : (machine : Machine) (r : Record) (p s k : ℕ) (xs : List Registers) → s < k → later p s (entries_from machine r p k xs) ≡ entries_from machine r p k xs
 later-step_after machine r p s k [] h = refl
 later-step_after machine r p s k (x ∷ xs) h =
@@ -93,7 +93,7 @@ later-joined machine p s q (suc n) (x ∷ rest) r h g =
     filter-append (λ (e : Entry). is_after (place_at p s) e.place) (packet_entries machine x q) (joined_from machine (q + 1) rest)
     ∙ (let e : suc n + 1 ≡ suc (n + 1) = omega arith in rw (later-packet_before machine x p s q 1 (trace machine x.bytes x.wire) (omega arith), e) ih)
 
--- a place behind all packets
+-- a place after all packets
 later-joined_none : (machine : Machine) (p s q : ℕ) (capture : List Record) → q + length capture ≤ p → later p s (joined_from machine q capture) ≡ []
 later-joined_none machine p s q [] h = refl
 later-joined_none machine p s q (x ∷ rest) h =
@@ -108,7 +108,7 @@ ahead-in machine capture p s r from_one at =
     let e : p - 1 + 1 ≡ p = omega arith in
     rw e at (later-joined machine p s 1 (p - 1) capture r (omega arith) at)
 
--- nothing is ahead behind the last packet
+-- nothing is ahead after the last packet
 pub ahead-end : (machine : Machine) (capture : List Record) (p s : ℕ) → length capture < p → ahead machine capture (place_at p s) ≡ []
 unfolding joined
 ahead-end machine capture p s h = later-joined_none machine p s 1 capture (omega arith)
@@ -147,7 +147,7 @@ joined-next machine capture p from_one =
           rw (drop-past capture p past.0) (sym (ahead-end machine capture (p + 1) 0 (omega arith)))
     ]
 
--- behind a packet's last entry comes the next packet
+-- after a packet's last entry comes the next packet
 pub ahead-leave : (machine : Machine) (capture : List Record) (p s : ℕ) (r : Record) → 1 ≤ p → slice_get capture (p - 1) ≡ Some r
     → length (trace machine r.bytes r.wire) ≤ s
     → ahead machine capture (place_at p s) ≡ ahead machine capture (place_at (p + 1) 0)

@@ -51,7 +51,7 @@ within_below None first packet count h here forward = refl
 within_below (Some n) first packet count h here forward =
     elim h.1 [ inl below ↦ grind (arith, nat_tests) | inr past ↦ absurd (omega arith) ]
 
--- a packet on, which is not the limit or is behind the last packet
+-- a packet on, which is not the limit or is after the last packet
 pub below_next : (limit : Option ℕ) (first packet next count : ℕ) → Below limit first packet count → packet ≤ count → first ≤ packet → next ≡ packet + 1
     → (is_limit limit (next - first) ≡ false) ⊎ (count < next) → Below limit first next count
 below_next None first packet next count h here forward e test = tt

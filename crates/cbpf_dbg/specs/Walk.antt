@@ -55,7 +55,7 @@ with_outcome n (outcome_is.Pass v) = record n { passes = n.passes + 1 }
 with_outcome n outcome_is.Fail = record n { fails = n.fails + 1 }
 with_outcome n (outcome_is.Unknown e) = record n { unknown = n.unknown + 1 }
 
--- the walk behind a packet with this outcome
+-- the walk after a packet with this outcome
 abbrev pub passed : Walk → Outcome → Walk
 passed w outcome = record w { place = record { packet = w.place.packet + 1; step = 0 }; counts = with_outcome w.counts outcome }
 
@@ -90,7 +90,7 @@ PassesTo machine capture breakpoints r old (Some y) new =
     (before : Walk) × (new.place.packet ≡ old.place.packet) × (rest machine capture breakpoints before.place ≡ rest machine capture breakpoints old.place)
     × (ahead machine capture before.place ≡ entry_here machine r new ∷ ahead machine capture new.place) × (hit_of machine breakpoints r new ≡ Some y)
 
--- a walk is behind the last packet
+-- a walk is after the last packet
 abbrev pub Ended : Machine → List Record → Walk → Type 0
 Ended machine capture w = (w.place.packet ≡ length capture + 1) × (ahead machine capture w.place ≡ []) × (w.place.step ≡ 0)
 
@@ -123,7 +123,7 @@ abbrev pub is_limit : Option ℕ → ℕ → Bool
 is_limit None packets = false
 is_limit (Some n) packets = nat_eq n packets
 
--- at a packet the limit is not passed, and is reached only behind the last packet
+-- at a packet the limit is not passed, and is reached only after the last packet
 abbrev pub Below : Option ℕ → ℕ → ℕ → ℕ → Type 0
 Below None first packet count = Unit {0}
 Below (Some n) first packet count = (packet ≤ first + n) × ((packet < first + n) ⊎ (count < packet))
@@ -149,7 +149,7 @@ pub record StepsBack (machine : Machine) (capture : List Record) (old new : Walk
   pub place_is : new.place ≡ back_place old.place b
   pub origin_is : new.origin ≡ old.origin
 
--- there are too few entries behind
+-- there are too few entries after
 pub record CannotStepBack (old new : Walk) (b most : ℕ) : Type 0 where
   pub beyond : old.place.step ≤ b
   pub most_is : most ≡ old.place.step - 1

@@ -6,7 +6,7 @@ use cbpf_machine::State;
 /// A place in a capture.
 ///
 /// At step `s` of 1 or more the current state is entry `s` of the packet's trace, whose instruction
-/// is not yet carried out. At step 0 the packet has not begun, and there is no current state.
+/// has not been executed yet. At step 0 the packet has not begun, and there is no current state.
 ///
 /// Places are ordered by the packet, then by the step.
 #[derive(Clone, Copy, Debug, PartialEq, Eq, PartialOrd, Ord)]
@@ -28,7 +28,7 @@ pub enum Why {
     Unknown(Ext),
 }
 
-/// A stop, before an instruction is carried out.
+/// A stop, before an instruction is executed.
 #[derive(Clone, Copy, Debug, PartialEq, Eq)]
 pub struct Stop {
     pub place: Place,

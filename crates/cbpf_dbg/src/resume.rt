@@ -68,7 +68,7 @@ fn refill<T: Trail, A: Allocator>(
     }
 }
 
-/// Goes to a step of a packet, or tells how many steps the packet has and moves nothing.
+/// Goes to a step of a packet, or returns how many steps the packet has and moves nothing.
 // The step is found before the trail is touched, so that a refusal leaves the trail.
 pub(crate) fn resume_at<T: Trail, A: Allocator>(
     meter: &mut Meter,

@@ -60,7 +60,7 @@ pub(crate) fn step_on<T: Trail, A: Allocator>(
     }
 }
 
-/// Goes back by that many entries in the same packet, or tells the most that fits.
+/// Goes back by that many entries in the same packet, or returns the most that fits.
 pub(crate) fn step_back<T: Trail, A: Allocator>(
     meter: &mut Meter,
     loaded: &Loaded<'_, A>,

@@ -44,7 +44,7 @@ impl<'a, A: Allocator> Model for Stops<'a, A> {
     ghost invariant = { λ s. Stands (machine_in s.loaded) (records_in s.loaded) s.walk × IsHere (records_in s.loaded) s.walk.place.packet s.here × Watches s.loaded.watched.now (machine_in s.loaded) (breakpoints_in s.loaded) × (s.meter + owed (machine_in s.loaded) (records_in s.loaded) s.walk.place + 1 < 2 ^ 128) };
 }
 
-/// Goes on to the next hit, or to the end, and tells the record of the place's packet.
+/// Goes on to the next hit, or to the end, and returns the record of the place's packet.
 #[inline(always)]
 fn next_stop<'a, A: Allocator>(
     meter: &mut Meter,

@@ -118,7 +118,7 @@ impl Walk {
     }
 }
 
-/// The record of a packet; `None` behind the last.
+/// The record of a packet; `None` after the last.
 pub(crate) fn record_at<A: Allocator>(capture: &Capture<A>, packet: u64) -> Option<Captured<'_>>
     requires { 1 ≤ packet }
     ensures { IsHere capture.entry.now.records packet result }

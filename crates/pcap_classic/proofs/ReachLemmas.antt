@@ -30,13 +30,13 @@ slice_get-inside [] i h = absurd (omega arith)
 slice_get-inside (x ∷ xs) zero h = (x, refl)
 slice_get-inside (x ∷ xs) (suc i) h = slice_get-inside xs i (omega arith)
 
--- the contents behind a whole record
+-- the contents after a whole record
 contents_from-whole : (order : Endianness) (n place : ℕ) (bytes : List ℕ) (size : ℕ) → front_of order bytes ≡ WholeRecord size → contents_from order n place bytes ≡ record_before (record_at order n place bytes) (contents_from order (n + 1) (place + size) (drop size bytes))
 contents_from-whole order n place bytes size whole =
     contents_go_by_front order n place bytes
     ∙ ap (λ (front : Front). by_front front place (record_at order n place bytes) (λ s. contents_from order (n + 1) (place + s) (drop s bytes))) whole
 
--- the first record, or the end, stands behind the file header
+-- the first record, or the end, stands after the file header
 pub reaches_first : (order : Endianness) (file : List ℕ) → 24 ≤ length file → Reaches order file 0 24
 reaches_first order file h = record { inside = h; records = refl; ending = refl; passed = omega arith }
 
@@ -46,7 +46,7 @@ reaches_record order file i place size here whole =
     let split = contents_from-whole order (i + 1) place (drop place file) size whole in
     slice_get-drop_head _ i _ _ (here.records ∙ ap (λ (c : Contents). c.records) split)
 
--- the next record, or the end, stands behind a whole record
+-- the next record, or the end, stands after a whole record
 pub reaches_next : (order : Endianness) (file : List ℕ) (i place size : ℕ) → Reaches order file i place → front_of order (drop place file) ≡ WholeRecord size → Reaches order file (i + 1) (place + size)
 reaches_next order file i place size here whole =
     let is = front_of-whole order (drop place file) size whole in
@@ -120,7 +120,7 @@ stands order file (suc i) r h found =
     let next = reaches_next order file i there.0 _ there.1.reached whole in
     (_, stands_after order file (suc i) _ r (rw add-one at next) found)
 
--- a record that stands before the end, and the place behind it
+-- a record that stands before the end, and the place after it
 pub record Onward (order : Endianness) (file : List ℕ) (i place size : ℕ) : Type 0 where
   pub header : 16 ≤ length (drop place file)
   pub within : size ≤ length (drop place file)
@@ -134,7 +134,7 @@ reaches_onward order file i place here more =
     let next = reaches_next order file i place _ here whole in
     record { header = omega arith; within = is.within; inside = next.inside; next = next }
 
--- the place behind a record of the file
+-- the place after a record of the file
 pub record Behind (order : Endianness) (file : List ℕ) (n place : ℕ) : Type 0 where
   pub within : n ≤ length (contents order file).records
   pub there : Reaches order file n place

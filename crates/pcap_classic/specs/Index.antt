@@ -7,7 +7,7 @@ use Rattle.pcap_classic.specs.declared.ending.Ending.TheVariants.{Whole, CutHead
 use Rattle.pcap_classic.specs.declared.front.Front.{Front}
 use Rattle.pcap_classic.specs.declared.front.Front.TheVariants.{Nothing, PartOfHeader, PartOfData, WholeRecord}
 
--- the record behind the first i ones stands at this place of the file, or would if there were one more
+-- the record after the first i ones stands at this place of the file, or would if there were one more
 pub record Reaches (order : Endianness) (file : List ℕ) (i place : ℕ) : Type 0 where
   pub inside : place ≤ length file
   pub records : drop i (contents order file).records ≡ (contents_from order (i + 1) place (drop place file)).records

@@ -23,7 +23,7 @@ front_of order bytes =
     else if nat_lt (length bytes) (record_length order bytes) then PartOfData
     else WholeRecord (record_length order bytes)
 
--- the whole records of some bytes, and how the bytes end behind them
+-- the whole records of some bytes, and how the bytes end after them
 pub record Contents : Type 0 where
   pub records : List Record
   pub ending : Ending
@@ -35,7 +35,7 @@ abbrev pub record_before : Record → Contents → Contents
 record_before r rest = record { records = r ∷ rest.records; ending = rest.ending }
 
 -- the contents of bytes that stand at a place of the file, by what they begin with, where the last
--- argument gives the contents behind a whole record of this length
+-- argument gives the contents after a whole record of this length
 abbrev pub by_front : Front → ℕ → Record → (ℕ → Contents) → Contents
 by_front Nothing place r rest = no_record Whole
 by_front PartOfHeader place r rest = no_record (CutHeader place)
@@ -54,7 +54,7 @@ contents_within (suc most) order n place bytes =
 abbrev pub contents_from : Endianness → ℕ → ℕ → List ℕ → Contents
 contents_from order n place bytes = contents_within (length bytes) order n place bytes
 
--- the contents of a file, behind its header of 24 bytes
+-- the contents of a file, after its header of 24 bytes
 abbrev pub contents : Endianness → List ℕ → Contents
 contents order file = contents_from order 1 24 (drop 24 file)
 
@@ -67,7 +67,7 @@ magic_of file =
     else if little_number 4 file == nanos_magic then Some (record { order = Little; nanos = true })
     else None
 
--- whether the two numbers behind the magic are those of version 2.4
+-- whether the two numbers after the magic are those of version 2.4
 abbrev pub is_version_2_4 : Endianness → List ℕ → Bool
 is_version_2_4 order file = (number_at order 4 2 file == 2) && (number_at order 6 2 file == 4)
 

@@ -89,7 +89,7 @@ impl<A: Allocator> Capture<A> {
         self.header.link
     }
 
-    /// How the file ends behind the last record.
+    /// How the file ends after the last record.
     #[inline]
     pub fn ending(&self) -> Ending
         ensures { result ≡ self.now.ending }
@@ -121,7 +121,7 @@ impl<A: Allocator> Capture<A> {
         record_at(order, file, n, place)
     }
 
-    /// The record behind `item`, which is one of this capture, or `None` behind the last.
+    /// The record after `item`, which is one of this capture, or `None` after the last.
     #[inline(always)]
     pub fn following(&self, item: &Captured<'_>) -> Option<Captured<'_>>
         requires { slice_get self.now.records (item.now.number - 1) ≡ Some (record_of item.now) }

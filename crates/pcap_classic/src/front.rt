@@ -1,4 +1,4 @@
-//! What the bytes behind the file header, or behind a record, begin with.
+//! What the bytes after the file header, or after a record, begin with.
 
 ghost use Rattle.std.specs.Prelude.{◌≡◌, ◌≤◌, length};
 ghost use Rattle.pcap_classic.specs.Records as records;
@@ -17,7 +17,7 @@ pub(crate) enum Front {
     Nothing,
     /// There are fewer bytes than a record's header has.
     PartOfHeader,
-    /// There is a record's header with fewer bytes behind it than its captured length says.
+    /// There is a record's header with fewer bytes after it than its captured length says.
     PartOfData,
     /// A record of this length, with its header.
     WholeRecord(usize),

@@ -14,7 +14,7 @@ const MICROS: u32 = 0xa1b2_c3d4;
 
 const NANOS: u32 = 0xa1b2_3c4d;
 
-/// What the magic number of a file tells.
+/// What the magic number of a file says.
 #[derive(Clone, Copy)]
 pub(crate) struct Magic {
     pub(crate) order: Endianness,
