@@ -206,3 +206,14 @@ fn long_pieces(rt: HostRuntime) -> Result<(), Fail> {
     }
     Ok(())
 }
+
+// A lexer that goes back over the line at each `#` doesn't end in time.
+#[test]
+fn many_hashes_on_one_line(rt: HostRuntime) -> Result<(), Fail> {
+    let mut text = Vec::new(rt.alloc());
+    for _ in 0..200_000u32 {
+        text.extend_from_slice(b"ret #0 ")?;
+    }
+    assert_eq!(rt; tokens(rt.alloc(), text.as_slice())?.len(), 600_000);
+    Ok(())
+}

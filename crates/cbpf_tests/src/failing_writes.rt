@@ -1,7 +1,8 @@
 // The calls that write, over writers that take one byte a call, and fail or take nothing at one call.
 use crate::icmp::{AT_1_2, FIRST_PACKET, ICMP_WORDS, program_of, session_of};
+use crate::sizes::repeated;
 use crate::worked::joined;
-use cbpf_code::{Program, WriteFault, write_bytes, write_c, write_words};
+use cbpf_code::{Insn, Program, WriteFault, write_bytes, write_c, write_words};
 use cbpf_dbg::{MarkTrail, Meter, RunReply, Session};
 use cbpf_text::write_listing;
 use fault_injection::{Fault, FaultyWriter};
@@ -108,6 +109,32 @@ fn each_form_of_a_program_leaves_the_bytes_before_the_fault(
         let result = write_form(&mut writer, &program, form);
         check_whole(&rt, result, &writer, text);
     }
+    Ok(())
+}
+
+// More lines than a writer gets at once.
+#[test]
+fn words_of_seventy_instructions_leave_the_bytes_before_the_fault(
+    rt: HostRuntime,
+) -> Result<(), AllocError> {
+    let text = repeated(rt.alloc(), b"70,", b"6 0 0 1,", 70, b"\n")?;
+    let insn = Insn {
+        code: 6,
+        jt: 0,
+        jf: 0,
+        k: 1,
+    };
+    let list = [insn; 70];
+    for (fault, kind) in FAULTS {
+        for call in 1..text.len() as u64 + 1 {
+            let mut writer = writer_with(fault, kind, call);
+            let result = write_words(&mut writer, &list);
+            check_fault(&rt, result, &writer, call, &text);
+        }
+    }
+    let mut writer = writer_with(Fault::Fails, ErrorKind::Other, 0);
+    let result = write_words(&mut writer, &list);
+    check_whole(&rt, result, &writer, &text);
     Ok(())
 }
 
