@@ -104,7 +104,7 @@ GROWING = [
     ("blanks", lambda size: around("", repeated(" ", size), "ret #0\n")),
     ("lines of comment", lambda size: around("", repeated("; comment\n", size), "ret #0\n")),
     ("one long line of misplaced numbers", lambda size: repeated("1 ", size)),
-    ("one long line of instructions, which A10 refuses", lambda size: repeated("ret #0 ", size)),
+    ("one long line of instructions", lambda size: repeated("ret #0 ", size)),
     ("one long word", lambda size: around("", repeated("a", size), ": ret #0\n")),
     ("labels", lambda size: labels(f"l{i:06}" for i in range(size // 9))),
     ("labels whose names collide", lambda size: labels(colliding(size // 10))),
