@@ -18,7 +18,11 @@ fn growths_of_words(rt: &impl Abort, alloc: Global, text: &[u8], count: usize) -
         match read_words(&refusing, text) {
             Ok(list) => {
                 assert_eq!(rt; list.len(), count);
-                assert!(rt; wanted.as_ref().is_ok_and(|whole| whole.as_slice() == list.as_slice()));
+                assert!(rt;
+                    wanted
+                        .as_ref()
+                        .is_ok_and(|whole| whole.as_slice() == list.as_slice())
+                );
                 assert!(rt; refusing.left() > 0);
                 return nth - 1;
             }
@@ -74,7 +78,11 @@ fn growths_of_tokens(rt: &impl Abort, alloc: Global, source: &[u8], count: usize
         match tokens(&refusing, source) {
             Ok(found) => {
                 assert_eq!(rt; found.len(), count);
-                assert!(rt; wanted.as_ref().is_ok_and(|whole| whole.as_slice() == found.as_slice()));
+                assert!(rt;
+                    wanted
+                        .as_ref()
+                        .is_ok_and(|whole| whole.as_slice() == found.as_slice())
+                );
                 assert!(rt; refusing.left() > 0);
                 return nth - 1;
             }
@@ -110,7 +118,11 @@ fn growths_of_source(
         let refusing = RefusingAllocator::refusing(alloc, nth);
         let answer = match assemble(&refusing, source) {
             Ok(list) => {
-                assert!(rt; ample.as_ref().is_ok_and(|whole| whole.as_slice() == list.as_slice()));
+                assert!(rt;
+                    ample
+                        .as_ref()
+                        .is_ok_and(|whole| whole.as_slice() == list.as_slice())
+                );
                 Ok(list.len())
             }
             Err(fault) => Err(fault),

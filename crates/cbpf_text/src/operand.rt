@@ -14,7 +14,9 @@ pub fn value_at(class: Class, symbol: Symbol<'_>) -> Option<u32>
     match (class, symbol) {
         (Class::Literal, Symbol::Number(n)) => Some(n),
         (Class::Negated, Symbol::Number(n)) => Some(n.wrapping_neg()),
-        (Class::Extension, Symbol::Word(name)) => Some(FIRST_EXTENSION + ext_offset(ext_named(name)?)),
+        (Class::Extension, Symbol::Word(name)) => Some(
+            FIRST_EXTENSION + ext_offset(ext_named(name)?),
+        ),
         _ => None,
     }
 }
