@@ -20,7 +20,7 @@ pub use checker::{CheckFault, check};
 pub use extension::{Ext, FIRST_EXTENSION, ext_at, ext_name, ext_named, ext_offset};
 pub use form::Form;
 pub use insn::Insn;
-pub use opcode::{AluOp, Cond, Op, Size, Src, code_of, op_of};
+pub use opcode::{AluOp, Cond, Op, Size, Src, code_of, op_of, op_of_byte};
 pub use program::Program;
 pub use scan::laws_of_marks;
 pub use word_form::write_words;

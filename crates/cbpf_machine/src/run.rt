@@ -32,13 +32,13 @@ pub fn run_packet<A: Allocator>(
     ensures whole { spec.IsRun (machine_of p.now values.now) packet.entry.bytes.now packet.entry.wire (spec.trace (machine_of p.now values.now) packet.entry.bytes.now packet.entry.wire) }
 {
     let _sound = p.len();
-    // The count and the state are this function's own, so both stay in those registers.
-    let mut turns = 0;
+    // Both are this function's own, so they stay in those registers.
+    let mut skipped = 0;
     let mut s = State::zero();
     'run: loop {
-        turns += 1;
-        if let Some(outcome) = go_on(&mut turns, p, packet, values, &mut s) {
-            meter.add(turns);
+        if let Some(outcome) = go_on(&mut skipped, p, packet, values, &mut s) {
+            // Each turn but the last went on by one instruction and what it skipped.
+            meter.add(s.pc() - skipped + 1);
             return outcome;
         }
     }

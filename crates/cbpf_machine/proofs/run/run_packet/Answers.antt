@@ -12,39 +12,37 @@ run-init g c =
       sound = c.len-sound.ensures.sound;
       inside = rw c.zero-s.ensures (sound_some c.args.p.now c.len-sound.ensures.sound);
       ends = rw c.zero-s.ensures;
+      fits = rw c.zero-s.ensures (omega arith);
       turns = rw c.zero-s.ensures (omega arith);
       early = refl;
     }
 
-pub overflow_add-turns : goal.overflow_add-turns
-overflow_add-turns g c =
-    omega (arith, c.run.invariant.turns, sound_few c.args.p.now c.run.invariant.sound, length-trace_from (machine_of c.args.p.now c.args.values.now) c.args.packet.bytes.now c.args.packet.wire zero_state)
-
-pub go_on-requires-clause-spare : goal.go_on-requires-clause-spare
-go_on-requires-clause-spare g c =
-    omega (arith, c.run.invariant.turns, sound_few c.args.p.now c.run.invariant.sound, length-trace_from (machine_of c.args.p.now c.args.values.now) c.args.packet.bytes.now c.args.packet.wire zero_state)
-
 pub run-preserved : goal.run-preserved
 run-preserved g c =
-    let left = c.in_default.ensures in
+    let left = c.in_default.ensures.leaves in
     record {
       sound = c.run.invariant.sound;
       inside = left.1;
       ends = left.2 ∙ c.run.invariant.ends;
+      fits = c.in_default.ensures.fits;
       turns = omega (arith, left.3, c.run.invariant.turns);
       early = c.run.invariant.early;
     }
 
 pub add-requires : goal.add-requires
 add-requires g c =
-    omega (arith, c.requires, c.run.invariant.early, c.in-Some.ensures.1, c.run.invariant.turns, sound_few c.args.p.now c.run.invariant.sound, length-trace_from (machine_of c.args.p.now c.args.values.now) c.args.packet.bytes.now c.args.packet.wire zero_state)
+    omega (arith, c.requires, c.run.invariant.early, c.in-Some.ensures.leaves.1, c.run.invariant.turns, sound_few c.args.p.now c.run.invariant.sound, length-trace_from (machine_of c.args.p.now c.args.values.now) c.args.packet.bytes.now c.args.packet.wire zero_state)
 
 pub returns-in-Some : goal.returns-in-Some
 returns-in-Some g c =
-    let spent : c.add.new.self ≡ c.args.meter.now + length (trace (machine_of c.args.p.now c.args.values.now) c.args.packet.bytes.now c.args.packet.wire) = omega (arith, c.in-Some.ensures.1, c.run.invariant.turns, c.run.invariant.early, c.add.ensures) in
+    let spent : c.add.new.self ≡ c.args.meter.now + length (trace (machine_of c.args.p.now c.args.values.now) c.args.packet.bytes.now c.args.packet.wire) = omega (arith, c.in-Some.ensures.leaves.1, c.run.invariant.turns, c.run.invariant.early, c.add.ensures) in
     record {
-      value = c.in-Some.ensures.0 ∙ c.run.invariant.ends;
+      value = c.in-Some.ensures.leaves.0 ∙ c.run.invariant.ends;
       turns = spent;
       few = omega (arith, spent, length-trace_from (machine_of c.args.p.now c.args.values.now) c.args.packet.bytes.now c.args.packet.wire zero_state);
       whole = trace-is_run (machine_of c.args.p.now c.args.values.now) c.args.packet.bytes.now c.args.packet.wire c.run.invariant.sound;
     }
+
+pub overflow_add-pc : goal.overflow_add-pc
+overflow_add-pc g c =
+    omega (arith, c.pc.ensures, c.in-Some.ensures.fits, c.in-Some.ensures.leaves.1, c.run.invariant.turns, sound_few c.args.p.now c.run.invariant.sound, length-trace_from (machine_of c.args.p.now c.args.values.now) c.args.packet.bytes.now c.args.packet.wire zero_state)

@@ -70,26 +70,26 @@ push-requires g c =
     let kept = g.met.Self.Trail.as_long c.follow.self (take ((g.Self.Trail.kept c.args.self.now) + c.follow.made) (trace (machine_of c.args.p.now c.args.values.now) c.args.packet.bytes.now c.args.packet.wire)) c.follow.invariant.stands in
     omega (arith, within, few, long, some, most, kept, length-take ((g.Self.Trail.kept c.args.self.now) + c.follow.made) (trace (machine_of c.args.p.now c.args.values.now) c.args.packet.bytes.now c.args.packet.wire))
 
-pub bounds-watched-pc : goal.bounds-watched-pc
-bounds-watched-pc g c =
+pub bounds-watched-index : goal.bounds-watched-index
+bounds-watched-index g c =
     let h : Passes (machine_of c.args.p.now c.args.values.now) c.args.packet.bytes.now c.args.packet.wire c.args.watched.now (trace (machine_of c.args.p.now c.args.values.now) c.args.packet.bytes.now c.args.packet.wire) ((g.Self.Trail.kept c.args.self.now) + c.follow.made - 1) c.pass_over-turns.new.s (c.pass_over-turns.result.0, None) =
     rw c.in_default.is at (c.pass_over-turns.ensures.passes (trace (machine_of c.args.p.now c.args.values.now) c.args.packet.bytes.now c.args.packet.wire) ((g.Self.Trail.kept c.args.self.now) + c.follow.made - 1) c.follow.invariant.here) in
     let on = follows_on (machine_of c.args.p.now c.args.values.now) c.args.packet.bytes.now c.args.packet.wire c.args.watched.now (g.Self.Trail.kept c.args.self.now) c.follow.made c.pass_over-turns.result.0 c.follow.invariant.sound c.requires.from_one c.pass_over-turns.ensures.some c.pass_over-turns.new.s c.follow.invariant.unwatched h in
     let at = goes_at (machine_of c.args.p.now c.args.values.now) c.args.packet.bytes.now c.args.packet.wire (trace (machine_of c.args.p.now c.args.values.now) c.args.packet.bytes.now c.args.packet.wire) ((g.Self.Trail.kept c.args.self.now) + (c.follow.made + c.pass_over-turns.result.0) - 1) c.pass_over-turns.new.s c.follow.invariant.sound on.1 in
     let few = sound_few c.args.p.now c.follow.invariant.sound in
-    omega (arith, c.pc.ensures, on.1.inside, few)
+    omega (arith, c.index.ensures, on.1.inside, few)
 
-pub returns-then-watched-pc-clause-follows : goal.returns-then-watched-pc-clause-follows
-returns-then-watched-pc-clause-follows g c =
+pub returns-then-watched-index-clause-follows : goal.returns-then-watched-index-clause-follows
+returns-then-watched-index-clause-follows g c =
     let h : Passes (machine_of c.args.p.now c.args.values.now) c.args.packet.bytes.now c.args.packet.wire c.args.watched.now (trace (machine_of c.args.p.now c.args.values.now) c.args.packet.bytes.now c.args.packet.wire) ((g.Self.Trail.kept c.args.self.now) + c.follow.made - 1) c.pass_over-turns.new.s (c.pass_over-turns.result.0, None) =
     rw c.in_default.is at (c.pass_over-turns.ensures.passes (trace (machine_of c.args.p.now c.args.values.now) c.args.packet.bytes.now c.args.packet.wire) ((g.Self.Trail.kept c.args.self.now) + c.follow.made - 1) c.follow.invariant.here) in
     let on = follows_on (machine_of c.args.p.now c.args.values.now) c.args.packet.bytes.now c.args.packet.wire c.args.watched.now (g.Self.Trail.kept c.args.self.now) c.follow.made c.pass_over-turns.result.0 c.follow.invariant.sound c.requires.from_one c.pass_over-turns.ensures.some c.pass_over-turns.new.s c.follow.invariant.unwatched h in
     let at = goes_at (machine_of c.args.p.now c.args.values.now) c.args.packet.bytes.now c.args.packet.wire (trace (machine_of c.args.p.now c.args.values.now) c.args.packet.bytes.now c.args.packet.wire) ((g.Self.Trail.kept c.args.self.now) + (c.follow.made + c.pass_over-turns.result.0) - 1) c.pass_over-turns.new.s c.follow.invariant.sound on.1 in
     let some = c.pass_over-turns.ensures.some in
-    (omega (arith, some), on.0, at, rw (← c.pc.ensures) c.if-watched-pc.true)
+    (omega (arith, some), on.0, at, rw (← c.index.ensures) c.if-watched-index.true)
 
-pub returns-then-watched-pc-clause-stands : goal.returns-then-watched-pc-clause-stands
-returns-then-watched-pc-clause-stands g c =
+pub returns-then-watched-index-clause-stands : goal.returns-then-watched-index-clause-stands
+returns-then-watched-index-clause-stands g c =
     let h : Passes (machine_of c.args.p.now c.args.values.now) c.args.packet.bytes.now c.args.packet.wire c.args.watched.now (trace (machine_of c.args.p.now c.args.values.now) c.args.packet.bytes.now c.args.packet.wire) ((g.Self.Trail.kept c.args.self.now) + c.follow.made - 1) c.pass_over-turns.new.s (c.pass_over-turns.result.0, None) =
     rw c.in_default.is at (c.pass_over-turns.ensures.passes (trace (machine_of c.args.p.now c.args.values.now) c.args.packet.bytes.now c.args.packet.wire) ((g.Self.Trail.kept c.args.self.now) + c.follow.made - 1) c.follow.invariant.here) in
     let on = follows_on (machine_of c.args.p.now c.args.values.now) c.args.packet.bytes.now c.args.packet.wire c.args.watched.now (g.Self.Trail.kept c.args.self.now) c.follow.made c.pass_over-turns.result.0 c.follow.invariant.sound c.requires.from_one c.pass_over-turns.ensures.some c.pass_over-turns.new.s c.follow.invariant.unwatched h in
@@ -114,7 +114,7 @@ follow-preserved g c =
     let n : (g.Self.Trail.kept c.args.self.now) + c.follow.made ≡ (g.Self.Trail.kept c.args.self.now) + (c.follow.made + c.pass_over-turns.result.0) - 1 = omega (arith, some, most) in
     let before = rw n at c.follow.invariant.stands in
     let stands = rw (← take-slice_get (trace (machine_of c.args.p.now c.args.values.now) c.args.packet.bytes.now c.args.packet.wire) ((g.Self.Trail.kept c.args.self.now) + (c.follow.made + c.pass_over-turns.result.0) - 1) c.pass_over-turns.new.s at) at (c.push.ensures _ before) in
-    let quiet : is_watched c.args.watched.now c.pass_over-turns.new.s ≡ false = rw (← c.pc.ensures) c.if-watched-pc.false in
+    let quiet : is_watched c.args.watched.now c.pass_over-turns.new.s ≡ false = rw (← c.index.ensures) c.if-watched-index.false in
     record {
       sound = c.follow.invariant.sound;
       here = on.1;
