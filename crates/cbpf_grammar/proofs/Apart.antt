@@ -1,9 +1,11 @@
 -- No two rows of the table fit the same tokens, unless one goes on with a comma where the other ends.
 use Rattle.std.proofs.Common.{◌≡◌, ℕ, Bool, true, false, not, ◌&&◌, ◌||◌, List, [], ◌∷◌, ◌++◌, length, refl, sym, ◌∙◌, ◌⊎◌, inl, inr, eq-eqb, eqb-true}
-use Rattle.std.specs.Prelude.{◌==◌}
+use Rattle.std.specs.Prelude.{◌==◌, bytes_eq}
 use Rattle.std.specs.List.{list_all}
+use Rattle.std.proofs.lemmas.Bool.{and_parts}
+use Rattle.std.proofs.lemmas.Slice.Eq.{bytes_eq-Decides}
 use Rattle.cbpf_grammar.specs.Classes.{Class}
-use Rattle.cbpf_grammar.specs.Lexemes.{Symbol, Lexeme, same_bytes}
+use Rattle.cbpf_grammar.specs.Lexemes.{Symbol, Lexeme}
 use Rattle.cbpf_grammar.specs.Fits.{fits, fits_all, is_one_of, is_reserved, extension_names, mnemonic_words}
 use Rattle.cbpf_grammar.specs.Table.{operand_words}
 use Rattle.cbpf_grammar.specs.Lexemes.Symbol.{word, number, mark}
@@ -21,7 +23,7 @@ is_numeric name = false
 
 -- whether some token may fit both
 abbrev pub overlap : Class → Class → Bool
-overlap (the_word v) (the_word w) = same_bytes v w
+overlap (the_word v) (the_word w) = bytes_eq v w
 overlap (the_word v) (the_mark b) = false
 overlap (the_word v) literal = false
 overlap (the_word v) negated = false
@@ -84,27 +86,19 @@ pub table_apart : all_apart table ≡ true
 unfolding mnemonics extension_names
 table_apart = refl
 
-pub and_parts : (a b : Bool) → (a && b) ≡ true → (a ≡ true) × (b ≡ true)
-and_parts true b e = (refl, e)
-and_parts false b e = cc
-
 or_case : (a b c : Bool) → b ≡ true → not ((a || b) || c) ≡ true → ⊥
 or_case true b c h e = cc
 or_case false true c h e = cc
 or_case false false c h e = cc
 
-pub same_bytes_eq : (xs ys : List ℕ) → same_bytes xs ys ≡ true → xs ≡ ys
-same_bytes_eq [] [] e = refl
-same_bytes_eq [] (y ∷ ys) e = cc
-same_bytes_eq (x ∷ xs) [] e = cc
-same_bytes_eq (x ∷ xs) (y ∷ ys) e = let parts : ((x == y) ≡ true) × (same_bytes xs ys ≡ true) = and_parts (x == y) (same_bytes xs ys) e in let h : x ≡ y = eqb-true x y parts.0 in let t : xs ≡ ys = same_bytes_eq xs ys parts.1 in cc
+pub equal_bytes : (v w : List ℕ) → bytes_eq v w ≡ true → v ≡ w
+equal_bytes v w e = (bytes_eq-Decides v w).0 e
 
-pub same_bytes_refl : (xs : List ℕ) → same_bytes xs xs ≡ true
-same_bytes_refl [] = refl
-same_bytes_refl (x ∷ xs) = rw (eq-eqb x x refl, same_bytes_refl xs) refl
+pub bytes_eq_self : (v : List ℕ) → bytes_eq v v ≡ true
+bytes_eq_self v = (bytes_eq-Decides v v).1 refl
 
-words_case : (u v w : List ℕ) → same_bytes u v ≡ true → same_bytes u w ≡ true → same_bytes v w ≡ true
-words_case u v w h e = rw (← same_bytes_eq u v h, ← same_bytes_eq u w e) (same_bytes_refl u)
+words_case : (u v w : List ℕ) → bytes_eq u v ≡ true → bytes_eq u w ≡ true → bytes_eq v w ≡ true
+words_case u v w h e = rw (← equal_bytes u v h, ← equal_bytes u w e) (bytes_eq_self u)
 
 mark_case : (o a b : ℕ) → (o == a) ≡ true → (o == b) ≡ true → (a == b) ≡ true
 mark_case o a b h e = let h' : o ≡ a = eqb-true o a h in let e' : o ≡ b = eqb-true o b e in eq-eqb a b (sym h' ∙ e')
@@ -119,20 +113,20 @@ overlap_sound (word u) (the_word v) (the_mark b) h e = cc
 overlap_sound (word u) (the_word v) (literal) h e = cc
 overlap_sound (word u) (the_word v) (negated) h e = cc
 overlap_sound (word u) (the_word v) (exactly k) h e = cc
-overlap_sound (word u) (the_word v) (extension) h e = rw (← same_bytes_eq u v h) e
-overlap_sound (word u) (the_word v) (name) h e = rw (← same_bytes_eq u v h) e
+overlap_sound (word u) (the_word v) (extension) h e = rw (← equal_bytes u v h) e
+overlap_sound (word u) (the_word v) (name) h e = rw (← equal_bytes u v h) e
 overlap_sound (word u) (the_mark a) d h e = cc
 overlap_sound (word u) (literal) d h e = cc
 overlap_sound (word u) (negated) d h e = cc
 overlap_sound (word u) (exactly m) d h e = cc
-overlap_sound (word u) (extension) (the_word w) h e = rw (← same_bytes_eq u w e) h
+overlap_sound (word u) (extension) (the_word w) h e = rw (← equal_bytes u w e) h
 overlap_sound (word u) (extension) (the_mark b) h e = cc
 overlap_sound (word u) (extension) (literal) h e = cc
 overlap_sound (word u) (extension) (negated) h e = cc
 overlap_sound (word u) (extension) (exactly k) h e = cc
 overlap_sound (word u) (extension) (extension) h e = refl
 overlap_sound (word u) (extension) (name) h e = absurd (ext_reserved u h e)
-overlap_sound (word u) (name) (the_word w) h e = rw (← same_bytes_eq u w e) h
+overlap_sound (word u) (name) (the_word w) h e = rw (← equal_bytes u w e) h
 overlap_sound (word u) (name) (the_mark b) h e = cc
 overlap_sound (word u) (name) (literal) h e = cc
 overlap_sound (word u) (name) (negated) h e = cc

@@ -1,11 +1,11 @@
 -- What begins items does so with fewer tokens.
 use Rattle.std.proofs.Common.{◌≡◌, ℕ, ◌≤◌, true, List, [], ◌∷◌, ◌++◌, length, take, drop, refl, arith, ap, sym, ◌∙◌, ◌⊎◌, inl, inr, subst, append_assoc}
 use Rattle.std.proofs.lemmas.List.{take-append-drop}
+use Rattle.std.proofs.lemmas.Bool.{and_parts}
 use Rattle.cbpf_grammar.specs.Lexemes.{Lexeme}
 use Rattle.cbpf_grammar.specs.Classes.{Class}
 use Rattle.cbpf_grammar.specs.Fits.{fits, fits_front}
 use Rattle.cbpf_grammar.specs.Items.{Item, Items, BeginsItem, BeginsItems, classes_of}
-use Rattle.cbpf_grammar.proofs.Apart.{and_parts}
 use Rattle.cbpf_grammar.proofs.Greedy.{whole_front, split_prefix}
 
 pub front_before : (cs : List Class) (ts us : List Lexeme) → fits_front cs (ts ++ us) ≡ true → fits_front cs ts ≡ true

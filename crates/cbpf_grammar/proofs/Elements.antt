@@ -1,7 +1,8 @@
 -- Elements of lists that are made of others.
-use Rattle.std.proofs.Common.{◌≡◌, ℕ, zero, suc, ◌+◌, ◌<◌, Bool, true, false, ◌||◌, List, [], ◌∷◌, ◌++◌, length, map, take, refl, arith, ap, ◌⊎◌, inl, inr, get_or, subst}
+use Rattle.std.proofs.Common.{◌≡◌, ℕ, zero, suc, ◌+◌, ◌<◌, Bool, true, List, [], ◌∷◌, ◌++◌, length, map, take, refl, arith, ap, ◌⊎◌, inl, inr, get_or, subst}
 use Rattle.std.specs.Prelude.{Contains, flat_map}
-use Rattle.std.specs.List.{list_any, common_prefix_len}
+use Rattle.std.specs.List.{list_all, list_any, common_prefix_len}
+use Rattle.std.proofs.lemmas.Bool.{and_parts, or_left, or_right, or_cases}
 use Rattle.std.proofs.lemmas.List.Elements.{Contains-append_left, Contains-append_right, Contains-append_cases}
 
 pub first_element : {X : Type 0} (x : X) (xs : List X) → Contains (x ∷ xs) x
@@ -52,30 +53,25 @@ into_flat_map f (z ∷ xs) x y c d = elim (which_element z xs x c) [
   | inr r ↦ Contains-append_right (f z) (flat_map f xs) y (into_flat_map f xs x y r d)
 ]
 
-or_first : (a b : Bool) → a ≡ true → (a || b) ≡ true
-or_first a b e = rw e refl
-
-or_second : (a b : Bool) → b ≡ true → (a || b) ≡ true
-or_second true b e = refl
-or_second false b e = e
-
-or_either : (a b : Bool) → (a || b) ≡ true → (a ≡ true) ⊎ (b ≡ true)
-or_either true b e = inl refl
-or_either false b e = inr e
-
 pub any_element : {X : Type 0} (p : X → Bool) (xs : List X) (x : X) → Contains xs x → p x ≡ true → list_any p xs ≡ true
 any_element p [] x c e = no_element x c
 any_element p (y ∷ xs) x c e = elim (which_element y xs x c) [
-  | inl h ↦ or_first (p y) (list_any p xs) (rw h e)
-  | inr d ↦ or_second (p y) (list_any p xs) (any_element p xs x d e)
+  | inl h ↦ or_left (p y) (list_any p xs) (rw h e)
+  | inr d ↦ or_right (p y) (list_any p xs) (any_element p xs x d e)
 ]
 
 pub some_element : {X : Type 0} (p : X → Bool) (xs : List X) → list_any p xs ≡ true → (x : X) × Contains xs x × (p x ≡ true)
 some_element p [] e = cc
-some_element p (x ∷ xs) e = elim (or_either (p x) (list_any p xs) e) [
+some_element p (x ∷ xs) e = elim (or_cases (p x) (list_any p xs) e) [
   | inl h ↦ (x, first_element x xs, h)
   | inr h ↦ let r = some_element p xs h in (r.0, later_element x xs r.0 r.1, r.2)
 ]
+
+-- what holds of all elements by a test holds of one of them
+pub list_all_at : {X : Type 0} (p : X → Bool) (xs : List X) (i : ℕ) (d : X) → list_all p xs ≡ true → i < length xs → p (get_or xs i d) ≡ true
+list_all_at p [] i d e l = absurd (omega arith)
+list_all_at p (x ∷ xs) zero d e l = (and_parts (p x) _ e).0
+list_all_at p (x ∷ xs) (suc i) d e l = list_all_at p xs i d (and_parts (p x) _ e).1 (omega arith)
 
 pub common_mapped : {X Y V W : Type 0} (e : V → W → Bool) (f : X → V) (g : Y → W) (xs : List X) (ys : List Y) → common_prefix_len e (map f xs) (map g ys) ≡ common_prefix_len (λ x y. e (f x) (g y)) xs ys
 common_mapped e f g [] ys = refl

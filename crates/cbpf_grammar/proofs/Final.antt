@@ -1,6 +1,6 @@
 -- A whole row after which no comma stands has more tokens that fit than any other.
 use Rattle.std.proofs.Common.{◌≡◌, ℕ, zero, suc, ◌+◌, ◌<◌, ◌≤◌, Bool, true, false, not, ◌||◌, cond, List, [], ◌∷◌, length, map, take, drop, refl, arith, ap, sym, ◌∙◌, inl, inr, subst, get_or, flat_map}
-use Rattle.std.specs.Prelude.{Contains}
+use Rattle.std.specs.Prelude.{Contains, bytes_eq}
 use Rattle.std.proofs.lemmas.List.{take-append-drop}
 use Rattle.std.proofs.lemmas.List.Elements.{Contains-append_left}
 use Rattle.cbpf_grammar.specs.declared.choice.Match.{Match}
@@ -8,12 +8,12 @@ use Rattle.cbpf_grammar.specs.declared.table.Entry as declared_entry
 use Rattle.cbpf_grammar.specs.declared.lexeme.Lexeme as declared_lexeme
 use Rattle.cbpf_grammar.specs.Classes.{Class}
 use Rattle.cbpf_grammar.specs.Classes.Class.{the_mark}
-use Rattle.cbpf_grammar.specs.Lexemes.{Lexeme, same_bytes}
+use Rattle.cbpf_grammar.specs.Lexemes.{Lexeme}
 use Rattle.cbpf_grammar.specs.Table.{Row, Mnemonic, mnemonics, rows_of, entry_rows}
 use Rattle.cbpf_grammar.specs.Fits.{fits}
 use Rattle.cbpf_grammar.specs.Views.{row_of, entry_of, symbol_of, lexeme_of}
 use Rattle.cbpf_grammar.specs.Choice.{common, IsBest, is_comma_at}
-use Rattle.cbpf_grammar.proofs.Apart.{apart, overlap, overlap_sound, comma_only, same_bytes_refl}
+use Rattle.cbpf_grammar.proofs.Apart.{apart, overlap, overlap_sound, comma_only, bytes_eq_self}
 use Rattle.cbpf_grammar.proofs.OneReading.{rows_apart}
 use Rattle.cbpf_grammar.proofs.Mnemonics.{row_known, row_word}
 use Rattle.cbpf_grammar.proofs.Elements.{which_element, from_map, into_map, from_flat_map, into_flat_map}
@@ -66,8 +66,8 @@ most_2 (c ∷ cs) (d ∷ ds) (t ∷ ts) a w n =
     let p = whole_step (fits d t.symbol) (common ds ts) (length ds) w in
     goes_step (fits c t.symbol) (common cs ts) (length ds) (λ f. most_2 cs ds ts (apart_rest (overlap d c) (apart ds cs) (overlap_sound t.symbol d c p.0 f) a) p.1 n)
 
-same_words : (v w : List ℕ) → v ≡ w → same_bytes v w ≡ true
-same_words v w e = rw e (same_bytes_refl w)
+same_words : (v w : List ℕ) → v ≡ w → bytes_eq v w ≡ true
+same_words v w e = rw e (bytes_eq_self w)
 
 -- no row of the mnemonic has more tokens that fit than a whole one after which no comma stands
 whole_most : (m : Mnemonic) (r s : Row) (ts : List Lexeme) → Contains mnemonics m → Contains (rows_of m) r → Contains (rows_of m) s → common r.operand ts ≡ length r.operand → is_comma_at ts (length r.operand) ≡ false → common s.operand ts ≤ length r.operand
@@ -76,8 +76,8 @@ whole_most m r s ts p k q w n =
     elim (rows_apart s r (row_known m s p q) (row_known m r p k)) [
       | inl e ↦ let c : common s.operand ts ≡ length r.operand = ap (λ (x : Row). common x.operand ts) e ∙ w in omega (arith, c)
       | inr a ↦ elim a [
-        | inl h ↦ most_1 s.operand r.operand ts (apart_rest (same_bytes s.mnemonic r.mnemonic) (apart s.operand r.operand) (same_words s.mnemonic r.mnemonic words) h) w n
-        | inr h ↦ most_2 s.operand r.operand ts (apart_rest (same_bytes r.mnemonic s.mnemonic) (apart r.operand s.operand) (same_words r.mnemonic s.mnemonic (sym words)) h) w n
+        | inl h ↦ most_1 s.operand r.operand ts (apart_rest (bytes_eq s.mnemonic r.mnemonic) (apart s.operand r.operand) (same_words s.mnemonic r.mnemonic words) h) w n
+        | inr h ↦ most_2 s.operand r.operand ts (apart_rest (bytes_eq r.mnemonic s.mnemonic) (apart r.operand s.operand) (same_words r.mnemonic s.mnemonic (sym words)) h) w n
       ]
     ]
 

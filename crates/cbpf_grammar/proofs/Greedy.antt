@@ -1,6 +1,7 @@
 -- What a parser may conclude that takes, item by item, a row that no row goes beyond.
 use Rattle.std.proofs.Common.{◌≡◌, ℕ, zero, suc, ◌+◌, ◌<◌, ◌≤◌, true, false, List, [], ◌∷◌, ◌++◌, length, refl, arith, ap, sym, ◌∙◌, ◌⊎◌, inl, inr, subst, append_assoc, length-append, append-nil}
 use Rattle.std.specs.Prelude.{Contains}
+use Rattle.std.proofs.lemmas.Bool.{and_parts}
 use Rattle.cbpf_grammar.specs.Classes.{Class}
 use Rattle.cbpf_grammar.specs.Lexemes.{Symbol, Lexeme}
 use Rattle.cbpf_grammar.specs.Fits.{fits, fits_all, fits_front}
@@ -8,7 +9,7 @@ use Rattle.cbpf_grammar.specs.Classes.Class.{the_word, the_mark, literal, negate
 use Rattle.cbpf_grammar.specs.Table.{Row, classes, table}
 use Rattle.cbpf_grammar.specs.Items.{Item, Form, Items, BeginsItem, BeginsItems, classes_of}
 use Rattle.cbpf_grammar.specs.Steps.{NoLonger, Stuck}
-use Rattle.cbpf_grammar.proofs.Apart.{overlap, apart, overlap_sound, starts_with_comma, and_parts, comma_only}
+use Rattle.cbpf_grammar.proofs.Apart.{overlap, apart, overlap_sound, starts_with_comma, comma_only}
 use Rattle.cbpf_grammar.proofs.OneReading.{three, Apart, readings_apart, row_starts, starts_reserved, comma_front, comma_name, same_front}
 
 -- Ours is as long as theirs at least, and as long only where it is whole: then theirs goes on with a comma.

@@ -1,7 +1,7 @@
 -- The instruction at the front of a token list, by its first token.
 use Rattle.std.proofs.Common.{◌≡◌, ◌≢◌, ℕ, suc, ◌+◌, ◌<◌, ◌≤◌, Bool, true, false, not, cond, ◌&&◌, List, [], ◌∷◌, length, take, refl, arith, ap, sym, ◌∙◌, subst, get_or}
 use Rattle.std.proofs.Math.Numerals.{one-add}
-use Rattle.std.specs.Prelude.{Contains}
+use Rattle.std.specs.Prelude.{Contains, bytes_eq}
 use Rattle.std.proofs.lemmas.List.{get_or_default}
 use Rattle.std.proofs.lemmas.List.Sums.{common_prefix_len-le}
 use Rattle.cbpf_code.specs.declared.opcode.Op.TheVariants.{Tax}
@@ -11,7 +11,7 @@ use Rattle.std.proofs.Common.{Bor, map, drop}
 use Rattle.cbpf_grammar.specs.declared.lexeme.Lexeme as declared_lexeme
 use Rattle.cbpf_grammar.specs.declared.lexeme.Symbol as declared_symbol
 use Rattle.cbpf_grammar.specs.declared.lexeme.Symbol.TheVariants.{Word, Number, Mark}
-use Rattle.cbpf_grammar.specs.Lexemes.{Lexeme, same_bytes}
+use Rattle.cbpf_grammar.specs.Lexemes.{Lexeme}
 use Rattle.cbpf_grammar.specs.Lexemes.Symbol.{word, number, mark}
 use Rattle.cbpf_grammar.specs.Classes.Class.{name}
 use Rattle.cbpf_grammar.specs.Table.{Row, classes, Mnemonic, mnemonics, table, rows_of}
@@ -19,7 +19,7 @@ use Rattle.cbpf_grammar.specs.Fits.{fits, is_reserved, is_one_of, mnemonic_words
 use Rattle.cbpf_grammar.specs.Views.{row_of, symbol_of, lexeme_of}
 use Rattle.cbpf_grammar.specs.Choice.{common, IsBest}
 use Rattle.cbpf_grammar.specs.Steps.{Stuck, IsNextItem, starts_with_name, starts_with_colon, starts_with_label}
-use Rattle.cbpf_grammar.proofs.Apart.{same_bytes_eq, table_length}
+use Rattle.cbpf_grammar.proofs.Apart.{equal_bytes, table_length}
 use Rattle.cbpf_grammar.proofs.Mnemonics.{same_mnemonic, row_mnemonic, row_word, row_known, word_reserved, word_listed}
 use Rattle.cbpf_grammar.proofs.Steps.{base_stuck, base_whole, name_stuck}
 
@@ -27,13 +27,13 @@ abbrev pub lexeme : List ℕ → ℕ → Lexeme
 lexeme w at = record { symbol = word w; at = at }
 
 -- a row of a mnemonic by the word, or none
-own_row : (w : List ℕ) (m : Mnemonic) (r : Row) → Contains mnemonics m → same_bytes w m.word ≡ true → Contains table r → same_bytes w r.mnemonic ≡ true → Contains (rows_of m) r
+own_row : (w : List ℕ) (m : Mnemonic) (r : Row) → Contains mnemonics m → bytes_eq w m.word ≡ true → Contains table r → bytes_eq w r.mnemonic ≡ true → Contains (rows_of m) r
 own_row w m r p e known h =
     let q = row_mnemonic r known in
-    let same : q.0.word ≡ m.word = row_word q.0 r q.2 ∙ (sym (same_bytes_eq w r.mnemonic h) ∙ same_bytes_eq w m.word e) in
+    let same : q.0.word ≡ m.word = row_word q.0 r q.2 ∙ (sym (equal_bytes w r.mnemonic h) ∙ equal_bytes w m.word e) in
     subst (λ n. Contains (rows_of n) r) (same_mnemonic q.0 m q.1 p same) q.2
 
-module _ (w : List ℕ) (at : ℕ) (us : List Lexeme) (m : Mnemonic) (best : Match) (p : Contains mnemonics m) (e : same_bytes w m.word ≡ true) (b : IsBest (rows_of m) us best) where
+module _ (w : List ℕ) (at : ℕ) (us : List Lexeme) (m : Mnemonic) (best : Match) (p : Contains mnemonics m) (e : bytes_eq w m.word ≡ true) (b : IsBest (rows_of m) us best) where
   row : Row
   row = row_of best.row
 
@@ -43,16 +43,16 @@ module _ (w : List ℕ) (at : ℕ) (us : List Lexeme) (m : Mnemonic) (best : Mat
   no_name : starts_with_name (lexeme w at ∷ us) ≡ false
   no_name = ap not (word_reserved w m p e)
 
-  own_word : same_bytes w (row_of best.row).mnemonic ≡ true
-  own_word = subst (λ v. same_bytes w v ≡ true) (row_word m (row_of best.row) b.known) e
+  own_word : bytes_eq w (row_of best.row).mnemonic ≡ true
+  own_word = subst (λ v. bytes_eq w v ≡ true) (row_word m (row_of best.row) b.known) e
 
   size : common (classes (row_of best.row)) (lexeme w at ∷ us) ≡ suc best.len
   size = rw (own_word, one-add) (ap suc (sym b.size))
 
   at_most : (r : Row) → Contains table r → common (classes r) (lexeme w at ∷ us) ≤ suc best.len
-  at_most r k = by_test (same_bytes w r.mnemonic) refl
+  at_most r k = by_test (bytes_eq w r.mnemonic) refl
     where
-      by_test : (t : Bool) → same_bytes w r.mnemonic ≡ t → cond t (1 + common r.operand us) 0 ≤ suc best.len
+      by_test : (t : Bool) → bytes_eq w r.mnemonic ≡ t → cond t (1 + common r.operand us) 0 ≤ suc best.len
       by_test true h = let l = b.most r (own_row w m r p e k h) in omega arith
       by_test false h = omega arith
 
@@ -71,9 +71,9 @@ module _ (w : List ℕ) (at : ℕ) (us : List Lexeme) (m : Mnemonic) (best : Mat
       subst (λ k. Stuck k (lexeme w at ∷ us)) size (base_stuck (lexeme w at ∷ us) (row_of best.row) known no_name most (λ r k q l. none r k (q ∙ size) (l ∙ size)))
     where
       none : (r : Row) → Contains table r → common (classes r) (lexeme w at ∷ us) ≡ suc best.len → length (classes r) ≡ suc best.len → ⊥
-      none r k q l = by_test (same_bytes w r.mnemonic) refl q
+      none r k q l = by_test (bytes_eq w r.mnemonic) refl q
         where
-          by_test : (t : Bool) → same_bytes w r.mnemonic ≡ t → cond t (1 + common r.operand us) 0 ≡ suc best.len → ⊥
+          by_test : (t : Bool) → bytes_eq w r.mnemonic ≡ t → cond t (1 + common r.operand us) 0 ≡ suc best.len → ⊥
           by_test true g q = b.goes_on h r (own_row w m r p e k g) (omega (arith, q)) (omega (arith, l))
           by_test false g q = omega (arith, q)
 
@@ -102,12 +102,12 @@ pub reserved_stuck : (w : List ℕ) (at : ℕ) (us : List Lexeme) → is_one_of 
 reserved_stuck w at us unlisted taken = none_begins (lexeme w at ∷ us) (ap not taken) (λ r k. none r k)
   where
     none : (r : Row) → Contains table r → common (classes r) (lexeme w at ∷ us) ≡ 0
-    none r k = by_test (same_bytes w r.mnemonic) refl
+    none r k = by_test (bytes_eq w r.mnemonic) refl
       where
-        by_test : (t : Bool) → same_bytes w r.mnemonic ≡ t → cond t (1 + common r.operand us) 0 ≡ 0
+        by_test : (t : Bool) → bytes_eq w r.mnemonic ≡ t → cond t (1 + common r.operand us) 0 ≡ 0
         by_test true h =
             let q = row_mnemonic r k in
-            let listed : is_one_of mnemonic_words w ≡ true = word_listed w q.0 q.1 (subst (λ v. same_bytes w v ≡ true) (sym (row_word q.0 r q.2)) h) in
+            let listed : is_one_of mnemonic_words w ≡ true = word_listed w q.0 q.1 (subst (λ v. bytes_eq w v ≡ true) (sym (row_word q.0 r q.2)) h) in
             let bad : true ≡ false = sym listed ∙ unlisted in cc
         by_test false h = refl
 

@@ -1,20 +1,20 @@
 -- The rows of a mnemonic, and that no two mnemonics have one word.
 use Rattle.std.proofs.Common.{◌≡◌, ℕ, zero, suc, ◌<◌, ◌≤◌, Bool, true, false, not, cond, map, ◌&&◌, ◌||◌, List, [], ◌∷◌, length, refl, arith, ap, sym, ◌∙◌, inl, inr, get_or, ltb-true}
-use Rattle.std.specs.Prelude.{Contains, nat_lt, nat_le}
+use Rattle.std.specs.Prelude.{Contains, nat_lt, nat_le, bytes_eq}
 use Rattle.std.proofs.lemmas.Bool.Decides.{nat_tests}
 use Rattle.std.specs.List.{list_all, filter}
 use Rattle.std.proofs.lemmas.List.{get_or_default}
-use Rattle.cbpf_grammar.specs.Lexemes.{same_bytes}
+use Rattle.std.proofs.lemmas.Bool.{and_parts}
 use Rattle.cbpf_grammar.specs.Fits.{is_one_of, mnemonic_words, is_reserved}
 use Rattle.cbpf_grammar.specs.Table.{Row, Mnemonic, mnemonics, table, rows_of, entry_rows}
 use Rattle.cbpf_grammar.specs.Initials.{begins_with, is_first}
-use Rattle.cbpf_grammar.proofs.Apart.{and_parts, same_bytes_refl, same_bytes_eq}
+use Rattle.cbpf_grammar.proofs.Apart.{bytes_eq_self, equal_bytes}
 use Rattle.cbpf_grammar.proofs.OneReading.{three}
-use Rattle.cbpf_grammar.proofs.Elements.{first_element, later_element, which_element, from_map, into_map, from_flat_map, into_flat_map, any_element, some_element}
+use Rattle.cbpf_grammar.proofs.Elements.{first_element, later_element, which_element, from_map, into_map, from_flat_map, into_flat_map, any_element, some_element, list_all_at}
 
 abbrev all_differ : List Mnemonic → Bool
 all_differ [] = true
-all_differ (m ∷ ms) = list_all (λ (n : Mnemonic). not (same_bytes m.word n.word)) ms && all_differ ms
+all_differ (m ∷ ms) = list_all (λ (n : Mnemonic). not (bytes_eq m.word n.word)) ms && all_differ ms
 
 words_differ : all_differ mnemonics ≡ true
 unfolding mnemonics
@@ -28,19 +28,14 @@ words_short : list_all (λ (m : Mnemonic). nat_le (length m.word) 4) mnemonics �
 unfolding mnemonics
 words_short = refl
 
-list_all_at : (p : Mnemonic → Bool) (ms : List Mnemonic) (i : ℕ) (d : Mnemonic) → list_all p ms ≡ true → i < length ms → p (get_or ms i d) ≡ true
-list_all_at p [] i d e l = absurd (omega arith)
-list_all_at p (m ∷ ms) zero d e l = (and_parts (p m) _ e).0
-list_all_at p (m ∷ ms) (suc i) d e l = list_all_at p ms i d (and_parts (p m) _ e).1 (omega arith)
-
-differ_at : (ms : List Mnemonic) (i j : ℕ) (d : Mnemonic) → all_differ ms ≡ true → i < j → j < length ms → not (same_bytes (get_or ms i d).word (get_or ms j d).word) ≡ true
+differ_at : (ms : List Mnemonic) (i j : ℕ) (d : Mnemonic) → all_differ ms ≡ true → i < j → j < length ms → not (bytes_eq (get_or ms i d).word (get_or ms j d).word) ≡ true
 differ_at [] i j d e l m = absurd (omega arith)
 differ_at (r ∷ rs) i zero d e l m = absurd (omega arith)
-differ_at (r ∷ rs) zero (suc j) d e l m = list_all_at (λ (s : Mnemonic). not (same_bytes r.word s.word)) rs j d (and_parts _ _ e).0 (omega arith)
-differ_at (r ∷ rs) (suc i) (suc j) d e l m = differ_at rs i j d (and_parts (list_all (λ (n : Mnemonic). not (same_bytes r.word n.word)) rs) _ e).1 (omega arith) (omega arith)
+differ_at (r ∷ rs) zero (suc j) d e l m = list_all_at (λ (s : Mnemonic). not (bytes_eq r.word s.word)) rs j d (and_parts _ _ e).0 (omega arith)
+differ_at (r ∷ rs) (suc i) (suc j) d e l m = differ_at rs i j d (and_parts (list_all (λ (n : Mnemonic). not (bytes_eq r.word n.word)) rs) _ e).1 (omega arith) (omega arith)
 
-not_same : {B : Type 0} (v w : List ℕ) → v ≡ w → not (same_bytes v w) ≡ true → B
-not_same v w e h = let k : not (same_bytes w w) ≡ true = rw e at h in let q : not true ≡ true = rw (same_bytes_refl w) at k in cc
+not_same : {B : Type 0} (v w : List ℕ) → v ≡ w → not (bytes_eq v w) ≡ true → B
+not_same v w e h = let k : not (bytes_eq w w) ≡ true = rw e at h in let q : not true ≡ true = rw (bytes_eq_self w) at k in cc
 
 pub same_mnemonic : (m n : Mnemonic) → Contains mnemonics m → Contains mnemonics n → m.word ≡ n.word → m ≡ n
 same_mnemonic m n p q w =
@@ -68,13 +63,13 @@ pub row_known : (m : Mnemonic) (r : Row) → Contains mnemonics m → Contains (
 row_known m r p q = into_flat_map rows_of mnemonics m r p q
 
 pub word_known : (m : Mnemonic) → Contains mnemonics m → is_one_of mnemonic_words m.word ≡ true
-word_known m p = any_element (λ v. same_bytes m.word v) mnemonic_words m.word (into_map (λ (n : Mnemonic). n.word) mnemonics m p) (same_bytes_refl m.word)
+word_known m p = any_element (λ v. bytes_eq m.word v) mnemonic_words m.word (into_map (λ (n : Mnemonic). n.word) mnemonics m p) (bytes_eq_self m.word)
 
-pub word_reserved : (w : List ℕ) (m : Mnemonic) → Contains mnemonics m → same_bytes w m.word ≡ true → is_reserved w ≡ true
-word_reserved w m p e = rw (same_bytes_eq w m.word e, word_known m p) refl
+pub word_reserved : (w : List ℕ) (m : Mnemonic) → Contains mnemonics m → bytes_eq w m.word ≡ true → is_reserved w ≡ true
+word_reserved w m p e = rw (equal_bytes w m.word e, word_known m p) refl
 
-pub word_listed : (w : List ℕ) (m : Mnemonic) → Contains mnemonics m → same_bytes w m.word ≡ true → is_one_of mnemonic_words w ≡ true
-word_listed w m p e = rw (same_bytes_eq w m.word e) (word_known m p)
+pub word_listed : (w : List ℕ) (m : Mnemonic) → Contains mnemonics m → bytes_eq w m.word ≡ true → is_one_of mnemonic_words w ≡ true
+word_listed w m p e = rw (equal_bytes w m.word e) (word_known m p)
 
 -- no mnemonic is longer than 4 bytes
 pub long_word : (w : List ℕ) → 4 < length w → is_one_of mnemonic_words w ≡ false
@@ -83,10 +78,10 @@ long_word w h = by_test (is_one_of mnemonic_words w) refl
     by_test : (t : Bool) → is_one_of mnemonic_words w ≡ t → t ≡ false
     by_test false e = refl
     by_test true e =
-        let s = some_element (λ v. same_bytes w v) mnemonic_words e in
+        let s = some_element (λ v. bytes_eq w v) mnemonic_words e in
         let m = from_map (λ (n : Mnemonic). n.word) mnemonics s.0 s.1 in
         let short : nat_le (length m.0.word) 4 ≡ true = rw m.1.2 at (list_all_at (λ (n : Mnemonic). nat_le (length n.word) 4) mnemonics m.1.0 m.0 words_short m.1.1) in
-        let same : length w ≡ length m.0.word = ap length (same_bytes_eq w s.0 s.2 ∙ sym m.2) in
+        let same : length w ≡ length m.0.word = ap length (equal_bytes w s.0 s.2 ∙ sym m.2) in
         let most : length m.0.word ≤ 4 = grind (arith, nat_tests) in
         absurd (omega (arith, most, same))
 
@@ -105,11 +100,11 @@ pub from_known : (b : ℕ) (ms : List Mnemonic) (m : Mnemonic) → Contains (fil
 from_known b [] m c = c
 from_known b (n ∷ ms) m c = kept_known (begins_with b n) n (filter (begins_with b) ms) ms m (from_known b ms m) c
 
-differ_first : (b : ℕ) (bs w : List ℕ) → is_first b w ≡ false → same_bytes (b ∷ bs) w ≡ false
+differ_first : (b : ℕ) (bs w : List ℕ) → is_first b w ≡ false → bytes_eq (b ∷ bs) w ≡ false
 differ_first b bs [] e = refl
 differ_first b bs (c ∷ cs) e = rw e refl
 
-kept_listed : (t : Bool) (w : List ℕ) (n : Mnemonic) (ns : List Mnemonic) (rest : Bool) → (t ≡ false → same_bytes w n.word ≡ false) → is_one_of (map (λ (m : Mnemonic). m.word) ns) w ≡ rest → is_one_of (map (λ (m : Mnemonic). m.word) (cond t (n ∷ ns) ns)) w ≡ (same_bytes w n.word || rest)
+kept_listed : (t : Bool) (w : List ℕ) (n : Mnemonic) (ns : List Mnemonic) (rest : Bool) → (t ≡ false → bytes_eq w n.word ≡ false) → is_one_of (map (λ (m : Mnemonic). m.word) ns) w ≡ rest → is_one_of (map (λ (m : Mnemonic). m.word) (cond t (n ∷ ns) ns)) w ≡ (bytes_eq w n.word || rest)
 kept_listed true w n ns rest other e = rw e refl
 kept_listed false w n ns rest other e = rw (other refl) e
 

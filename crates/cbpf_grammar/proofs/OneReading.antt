@@ -3,6 +3,8 @@ use Rattle.std.proofs.Common.{◌≡◌, ℕ, zero, suc, ◌+◌, ◌<◌, Bool,
 use Rattle.std.specs.Prelude.{Contains}
 use Rattle.std.specs.List.{list_all}
 use Rattle.std.proofs.lemmas.List.{get_or_default}
+use Rattle.std.proofs.lemmas.Bool.{and_parts}
+use Rattle.cbpf_grammar.proofs.Elements.{list_all_at}
 use Rattle.cbpf_grammar.specs.Classes.{Class}
 use Rattle.cbpf_grammar.specs.Lexemes.{Symbol, Lexeme}
 use Rattle.cbpf_grammar.specs.Fits.{fits, fits_all, is_reserved, extension_names}
@@ -10,7 +12,7 @@ use Rattle.cbpf_grammar.specs.Classes.Class.{the_word, the_mark, literal, negate
 use Rattle.cbpf_grammar.specs.Lexemes.Symbol.{word, number, mark}
 use Rattle.cbpf_grammar.specs.Table.{Row, classes, mnemonics, table}
 use Rattle.cbpf_grammar.specs.Items.{Item, Form, Items, label_classes, classes_of, names_at}
-use Rattle.cbpf_grammar.proofs.Apart.{apart, apart_from_all, all_apart, table_apart, apart_split, starts_with_comma, and_parts}
+use Rattle.cbpf_grammar.proofs.Apart.{apart, apart_from_all, all_apart, table_apart, apart_split, starts_with_comma}
 
 -- every row begins with a reserved word
 abbrev pub starts_reserved : List Class → Bool
@@ -26,11 +28,6 @@ starts_reserved (name ∷ cs) = false
 table_reserved : list_all (λ (r : Row). starts_reserved (classes r)) table ≡ true
 unfolding mnemonics extension_names
 table_reserved = refl
-
-pub list_all_at : (p : Row → Bool) (rows : List Row) (i : ℕ) (d : Row) → list_all p rows ≡ true → i < length rows → p (get_or rows i d) ≡ true
-list_all_at p [] i d e l = absurd (omega arith)
-list_all_at p (r ∷ rs) zero d e l = (and_parts (p r) _ e).0
-list_all_at p (r ∷ rs) (suc i) d e l = list_all_at p rs i d (and_parts (p r) _ e).1 (omega arith)
 
 apart_at : (rows : List Row) (i j : ℕ) (d : Row) → all_apart rows ≡ true → i < j → j < length rows → apart (classes (get_or rows i d)) (classes (get_or rows j d)) ≡ true
 apart_at [] i j d e l m = absurd (omega arith)

@@ -2,6 +2,8 @@
 use Rattle.std.proofs.Common.{◌≡◌, ℕ, zero, suc, ◌+◌, ◌≤◌, Bool, true, false, not, ◌&&◌, ◌||◌, List, [], ◌∷◌, ◌++◌, take, refl, arith, ap, sym, ◌∙◌, ◌⊎◌, inl, inr, subst, append_assoc, append-nil, Option, Some, eqb-true, eq-eqb}
 use Rattle.std.specs.Prelude.{◌==◌, Contains}
 use Rattle.std.specs.List.{list_all}
+use Rattle.std.proofs.lemmas.Bool.{and_parts}
+use Rattle.cbpf_grammar.proofs.Elements.{list_all_at}
 use Rattle.cbpf_grammar.specs.Refusals.ParseFault.{Misplaced, LargeNegative, Unfinished}
 use Rattle.cbpf_grammar.specs.Lexemes.{Symbol, Lexeme}
 use Rattle.cbpf_grammar.specs.Lexemes.Symbol.{number, mark}
@@ -12,8 +14,6 @@ use Rattle.cbpf_grammar.specs.Fits.{fits, fits_front}
 use Rattle.cbpf_grammar.specs.Items.{Item, Items, BeginsItem, BeginsItems, classes_of}
 use Rattle.cbpf_grammar.specs.Refusals.{ParseFault, symbol_at, IsLargeNegative, IsMisplaced, IsRefusedAt}
 use Rattle.cbpf_grammar.specs.Laws.{OneRefusal}
-use Rattle.cbpf_grammar.proofs.Apart.{and_parts}
-use Rattle.cbpf_grammar.proofs.OneReading.{list_all_at}
 use Rattle.cbpf_grammar.proofs.Greedy.{whole_front}
 use Rattle.cbpf_grammar.proofs.Refused.{large_within}
 

@@ -1,6 +1,7 @@
 -- Which refusal of a token list is the first.
-use Rattle.std.proofs.Common.{◌≡◌, ℕ, zero, suc, ◌+◌, ◌-◌, ◌<◌, ◌≤◌, List, [], ◌∷◌, ◌++◌, length, take, drop, map, refl, arith, ap, sym, ◌∙◌, ◌⊎◌, inl, inr, subst, append-nil, length-append, length-drop, get_or, Option, Some}
+use Rattle.std.proofs.Common.{◌≡◌, ℕ, zero, suc, ◌+◌, ◌-◌, ◌<◌, ◌≤◌, List, [], ◌∷◌, ◌++◌, length, take, drop, map, refl, arith, ap, sym, ◌∙◌, inl, inr, subst, append-nil, length-append, length-drop, get_or, Option, Some}
 use Rattle.std.proofs.lemmas.List.{take-append-drop, take_all, drop_all, drop_at, drop-drop, take-take, length-take-le}
+use Rattle.std.proofs.lemmas.Bool.{cases_lt}
 use Rattle.cbpf_grammar.specs.declared.lexeme.Lexeme as declared_lexeme
 use Rattle.cbpf_grammar.specs.Refusals.ParseFault.{Misplaced, LargeNegative, Unfinished}
 use Rattle.cbpf_grammar.specs.Lexemes.{Symbol, Lexeme}
@@ -48,18 +49,15 @@ not_large_here ts i d e some l none h =
 pub large_within : (ts : List Lexeme) (i : ℕ) → IsLargeNegative ts i → i < length ts
 large_within ts i h = symbol_within ts i h.digits h.digits_at
 
-order : (m n : ℕ) → (m < n) ⊎ (n ≤ m)
-order m n = grind arith
-
 -- no token is misplaced before the place to which the tokens begin items
 misplaced_from : (ts : List Lexeme) (s k : ℕ) → BeginsItems (take s ts) → IsMisplaced ts k → s ≤ k
-misplaced_from ts s k b m = elim (order k s) [
+misplaced_from ts s k b m = elim (cases_lt k s) [
   | inl l ↦ absurd (m.with_it (subst BeginsItems (take-take (k + 1) s ts (omega arith)) (begins_take (take s ts) (k + 1) b)))
   | inr l ↦ l
 ]
 
 from_not_before : (P : ℕ → Type 0) (s k : ℕ) → ((j : ℕ) → j < s → P j → ⊥) → P k → s ≤ k
-from_not_before P s k none p = elim (order k s) [ inl l ↦ absurd (none k l p) | inr l ↦ l ]
+from_not_before P s k none p = elim (cases_lt k s) [ inl l ↦ absurd (none k l p) | inr l ↦ l ]
 
 pub large_first : (ts : List Lexeme) (s i : ℕ) → IsStuckAt ts s → i < s → IsLargeNegative ts i → ((k : ℕ) → k < i → IsLargeNegative ts k → ⊥) → IsFirstRefusal ts (LargeNegative i)
 large_first ts s i stuck l large none = record { place = i; refused = (refl, large); first = first }

@@ -3,13 +3,14 @@ use Rattle.std.proofs.Common.{◌≡◌, ℕ, zero, suc, ◌+◌, ◌<◌, ◌�
 use Rattle.std.proofs.Math.Numerals.{one-add}
 use Rattle.std.specs.Prelude.{Contains}
 use Rattle.std.proofs.lemmas.List.{take-append-drop}
+use Rattle.std.proofs.lemmas.Bool.{and_parts}
 use Rattle.cbpf_grammar.specs.Classes.{Class}
 use Rattle.cbpf_grammar.specs.Lexemes.{Lexeme}
 use Rattle.cbpf_grammar.specs.Fits.{fits, fits_all, fits_front, is_reserved}
 use Rattle.cbpf_grammar.specs.Classes.Class.{the_word, the_mark, literal, negated, exactly, extension, name}
 use Rattle.cbpf_grammar.specs.Table.{Row, classes, table}
 use Rattle.cbpf_grammar.specs.Items.{Item, Form, label_classes, classes_of, names_at}
-use Rattle.cbpf_grammar.proofs.Apart.{and_parts, overlap_sound}
+use Rattle.cbpf_grammar.proofs.Apart.{overlap_sound}
 use Rattle.cbpf_grammar.proofs.OneReading.{row_starts, starts_reserved, no_classes}
 use Rattle.cbpf_grammar.proofs.Greedy.{whole_front, length_whole}
 use Rattle.cbpf_grammar.specs.Choice.{common}

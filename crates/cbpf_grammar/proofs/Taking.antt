@@ -1,9 +1,10 @@
 -- What is known of the lexemes of a text, of which some were taken and some are read ahead.
-use Rattle.std.proofs.Common.{◌≡◌, ℕ, zero, suc, ◌+◌, ◌-◌, ◌<◌, ◌≤◌, true, List, [], ◌∷◌, ◌++◌, length, map, take, drop, refl, arith, ap, sym, ◌∙◌, ◌⊎◌, inl, inr, subst, append_assoc, append-nil, length-append, length-drop, get_or, Option, Some, None}
+use Rattle.std.proofs.Common.{◌≡◌, ℕ, zero, suc, ◌+◌, ◌-◌, ◌<◌, ◌≤◌, true, List, [], ◌∷◌, ◌++◌, length, map, take, drop, refl, arith, ap, sym, ◌∙◌, inl, inr, subst, append_assoc, append-nil, length-append, length-drop, get_or, Option, Some, None}
 use Rattle.std.proofs.lemmas.List.{take-append-drop, take-append-le, drop-append-le, drop-drop, drop-map, map-append, length-map, length-take-le, take_rest}
 use Rattle.std.specs.Prelude.{slice_get, IfSome, IfNone}
 use Rattle.std.specs.List.{copy_within}
 use Rattle.std.proofs.lemmas.List.Edits.{take-paste}
+use Rattle.std.proofs.lemmas.Bool.{and_parts, cases_lt}
 use Rattle.cbpf_lex.specs.declared.token.Token.{Token}
 use Rattle.cbpf_lex.specs.Reading.{IsNextToken}
 use Rattle.cbpf_lex.proofs.Outcomes.{lexes_on}
@@ -16,7 +17,6 @@ use Rattle.cbpf_grammar.specs.Classes.Class.{the_word, name}
 use Rattle.cbpf_grammar.specs.Table.{Row}
 use Rattle.cbpf_grammar.specs.Fits.{fits, fits_front}
 use Rattle.cbpf_grammar.specs.Items.{Item, classes_of}
-use Rattle.cbpf_grammar.proofs.Apart.{and_parts}
 use Rattle.cbpf_grammar.proofs.Greedy.{whole_front}
 use Rattle.cbpf_grammar.proofs.Refused.{next_some, large_first, misplaced_first, unfinished_first}
 use Rattle.cbpf_grammar.specs.Views.{lexeme_of, row_of}
@@ -141,13 +141,10 @@ not_first ts ws rest m e l w h =
     let d : word w.0 ≡ number h.large.1 = s ∙ h.large.2 in
     cc
 
-order : (m n : ℕ) → (m < n) ⊎ (n ≤ m)
-order m n = grind arith
-
 -- where none of the tokens ahead is one, no more of all is
 none_large : (ts ws rest : List Lexeme) (m : ℕ) → drop m ts ≡ ws ++ rest → (0 < length ws → StartsWithWord ws) → ((k : ℕ) → k < m → IsLargeNegative ts k → ⊥) → (n : ℕ) → n ≤ length ws → ((k : ℕ) → k < n → IsLargeNegative ws k → ⊥) → (k : ℕ) → k < m + n → IsLargeNegative ts k → ⊥
 none_large ts ws rest m e w before n l none k lk h =
-    elim (order k m) [
+    elim (cases_lt k m) [
       | inl b ↦ before k b h
       | inr b ↦ let d : k ≡ m + (k - m) = omega (arith, b) in by_index (k - m) (omega (arith, lk, b)) (subst (λ i. IsLargeNegative ts i) d h)
     ]

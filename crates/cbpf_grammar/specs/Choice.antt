@@ -1,4 +1,5 @@
--- Which of the forms in the table of the kernel's Documentation/networking/filter (BPF engine and instruction set) the tokens at the front of a list go along farthest.
+-- Which of the forms in the table of the kernel's Documentation/networking/filter (BPF engine and instruction set)
+-- the tokens at the front of a list go along farthest.
 use Rattle.std.specs.Prelude.{◌≡◌, ◌≢◌, ◌≤◌, ℕ, zero, suc, Bool, false, List, [], ◌∷◌, length, Contains}
 use Rattle.std.specs.List.{common_prefix_len}
 use Rattle.cbpf_grammar.specs.declared.choice.Match.{Match}
@@ -24,4 +25,5 @@ pub record IsBest (rows : List Row) (ts : List Lexeme) (best : Match) : Type 0 w
   pub known : Contains rows (row_of best.row)
   pub size : best.len ≡ common (row_of best.row).operand ts
   pub most : (r : Row) → Contains rows r → common r.operand ts ≤ best.len
-  pub goes_on : length (row_of best.row).operand ≢ best.len → (r : Row) → Contains rows r → common r.operand ts ≡ best.len → length r.operand ≢ best.len
+  pub goes_on : length (row_of best.row).operand ≢ best.len → (r : Row) → Contains rows r
+      → common r.operand ts ≡ best.len → length r.operand ≢ best.len

@@ -1,15 +1,16 @@
--- Which tokens belong to which class, and which words are reserved: the mnemonics and operand words of the kernel's Documentation/networking/filter (BPF engine and instruction set), and its extensions' names.
-use Rattle.std.specs.Prelude.{ℕ, Bool, true, false, not, ◌&&◌, ◌||◌, List, [], ◌∷◌, ◌==◌, map}
+-- Which tokens belong to which class, and which words are reserved: the mnemonics and operand words of the kernel's
+-- Documentation/networking/filter (BPF engine and instruction set), and its extensions' names.
+use Rattle.std.specs.Prelude.{ℕ, Bool, true, false, not, ◌&&◌, ◌||◌, List, [], ◌∷◌, ◌==◌, map, bytes_eq}
 use Rattle.std.specs.List.{list_any}
 use Rattle.cbpf_code.specs.Extension.{ext_table, ext_name}
-use Rattle.cbpf_grammar.specs.Lexemes.{Symbol, Lexeme, same_bytes}
+use Rattle.cbpf_grammar.specs.Lexemes.{Symbol, Lexeme}
 use Rattle.cbpf_grammar.specs.Lexemes.Symbol.{word, number, mark}
 use Rattle.cbpf_grammar.specs.Classes.{Class}
 use Rattle.cbpf_grammar.specs.Classes.Class.{the_word, the_mark, literal, negated, exactly, extension, name}
 use Rattle.cbpf_grammar.specs.Table.{Mnemonic, mnemonics, operand_words}
 
 abbrev pub is_one_of : List (List ℕ) → List ℕ → Bool
-is_one_of words w = list_any (λ v. same_bytes w v) words
+is_one_of words w = list_any (λ v. bytes_eq w v) words
 
 unfoldable pub extension_names : List (List ℕ)
 extension_names = map (λ e. ext_name e.1) ext_table
@@ -21,7 +22,7 @@ abbrev pub is_reserved : List ℕ → Bool
 is_reserved w = is_one_of mnemonic_words w || is_one_of extension_names w || is_one_of operand_words w
 
 abbrev pub fits : Class → Symbol → Bool
-fits (the_word v) (word w) = same_bytes w v
+fits (the_word v) (word w) = bytes_eq w v
 fits (the_word v) (number n) = false
 fits (the_word v) (mark b) = false
 fits (the_mark a) (word w) = false

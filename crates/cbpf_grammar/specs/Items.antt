@@ -1,4 +1,5 @@
--- The items of a token list, instructions with their labels, as the forms of the kernel's Documentation/networking/filter (BPF engine and instruction set) make them, and what begins a list of items.
+-- The items of a token list, instructions with their labels, as the forms of the kernel's
+-- Documentation/networking/filter (BPF engine and instruction set) make them, and what begins a list of items.
 use Rattle.std.specs.Prelude.{◌≡◌, ℕ, zero, suc, ◌+◌, true, List, [], ◌∷◌, ◌++◌, drop, Contains}
 use Rattle.cbpf_grammar.specs.Classes.{Class}
 use Rattle.cbpf_grammar.specs.Lexemes.{Lexeme}
@@ -47,7 +48,8 @@ pub record Form (tokens : List Lexeme) (item : Item) : Type 0 where
 -- the tokens are the forms of the items, one after another
 abbrev pub Items : List Lexeme → List Item → Type 0
 Items tokens [] = tokens ≡ []
-Items tokens (item ∷ items) = (front : List Lexeme) × (rest : List Lexeme) × (tokens ≡ front ++ rest) × Form front item × Items rest items
+Items tokens (item ∷ items) = (front : List Lexeme) × (rest : List Lexeme) × (tokens ≡ front ++ rest)
+    × Form front item × Items rest items
 
 -- the tokens begin an item: they are the front of what fits labels and a row
 pub record BeginsItem (tokens : List Lexeme) : Type 0 where
@@ -58,4 +60,5 @@ pub record BeginsItem (tokens : List Lexeme) : Type 0 where
 
 -- the tokens begin items: they are items, and then what begins one
 abbrev pub BeginsItems : List Lexeme → Type 0
-BeginsItems tokens = (front : List Lexeme) × (rest : List Lexeme) × (items : List Item) × (tokens ≡ front ++ rest) × Items front items × BeginsItem rest
+BeginsItems tokens = (front : List Lexeme) × (rest : List Lexeme) × (items : List Item) × (tokens ≡ front ++ rest)
+    × Items front items × BeginsItem rest

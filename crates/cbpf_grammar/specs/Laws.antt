@@ -1,4 +1,5 @@
--- Laws of the forms in the kernel's Documentation/networking/filter (BPF engine and instruction set): a token list has one reading, and at most one first refusal.
+-- Laws of the forms in the kernel's Documentation/networking/filter (BPF engine and instruction set): a token list
+-- has one reading, and at most one first refusal.
 use Rattle.std.specs.Prelude.{◌≡◌, List}
 use Rattle.cbpf_grammar.specs.Lexemes.{Lexeme}
 use Rattle.cbpf_grammar.specs.Items.{Item, Items}

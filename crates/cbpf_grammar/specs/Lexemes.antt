@@ -1,5 +1,6 @@
--- Tokens as the grammar of the assembler sees them: words by their bytes, numbers by their values, marks. The tokens are those of the operands in the kernel's Documentation/networking/filter (BPF engine and instruction set).
-use Rattle.std.specs.Prelude.{◌≡◌, ℕ, Bool, true, false, ◌&&◌, ◌==◌, List, [], ◌∷◌, map, slice_range}
+-- Tokens as the grammar of the assembler sees them: words by their bytes, numbers by their values, marks. The tokens
+-- are those of the operands in the kernel's Documentation/networking/filter (BPF engine and instruction set).
+use Rattle.std.specs.Prelude.{◌≡◌, ℕ, List, map, slice_range}
 use Rattle.cbpf_lex.specs.declared.token.Kind.{Kind}
 use Rattle.cbpf_lex.specs.declared.token.Kind.TheVariants as kinds
 use Rattle.cbpf_lex.specs.declared.token.Token.{Token}
@@ -15,19 +16,14 @@ pub record Lexeme : Type 0 where
   pub symbol : Symbol
   pub at : ℕ
 
-abbrev pub same_bytes : List ℕ → List ℕ → Bool
-same_bytes [] [] = true
-same_bytes [] (y ∷ ys) = false
-same_bytes (x ∷ xs) [] = false
-same_bytes (x ∷ xs) (y ∷ ys) = x == y && same_bytes xs ys
-
 abbrev pub token_symbol : List ℕ → Kind → Symbol
 token_symbol bytes kinds.Word = word bytes
 token_symbol bytes (kinds.Number n) = number n
 token_symbol bytes (kinds.Mark b) = mark b
 
 abbrev pub token_lexeme : List ℕ → Token → Lexeme
-token_lexeme text token = record { symbol = token_symbol (slice_range text token.start token.end) token.kind; at = token.start }
+token_lexeme text token =
+    record { symbol = token_symbol (slice_range text token.start token.end) token.kind; at = token.start }
 
 -- the tokens of a text
 abbrev pub lexemes_of : List ℕ → List Token → List Lexeme

@@ -1,4 +1,5 @@
--- A source text whose items are taken one by one, with a few tokens read ahead: what stands next, by the forms of the kernel's Documentation/networking/filter (BPF engine and instruction set).
+-- A source text whose items are taken one by one, with a few tokens read ahead: what stands next, by the forms of the
+-- kernel's Documentation/networking/filter (BPF engine and instruction set).
 use Rattle.std.specs.Prelude.{◌≡◌, ◌≤◌, ◌<◌, ◌+◌, ◌-◌, ℕ, Bool, true, List, [], length, map, drop, slice_get, Option, Some, None, Ok}
 use Rattle.cbpf_lex.specs.declared.token.Token.{Token}
 use Rattle.cbpf_lex.specs.Tokens.{LexesTo}
@@ -25,7 +26,8 @@ pub record AreAhead (text : List ℕ) (at n : ℕ) (ahead : List Lexeme) : Type 
 abbrev pub ReadsOn : List ℕ → ℕ → ℕ → List Lexeme → List Lexeme → Type 0
 ReadsOn text at to old new = (n : ℕ) → AreAhead text at n old → AreAhead text to n new
 
--- a text whose tokens were read to a place, with those that were not taken; the place of the last one that was taken, and of the first literal of them that is too large
+-- a text whose tokens were read to a place, with those that were not taken; the place of the last one that was taken,
+-- and of the first literal of them that is too large
 pub record Ahead : Type 0 where
   pub text : List ℕ
   pub to : ℕ
@@ -62,7 +64,8 @@ IsPlaceOf ts i at = (t : Lexeme) × (slice_get ts i ≡ Some t) × (at ≡ t.at)
 -- the place of the first of so many tokens that is a number above 2147483648 after a `-`
 abbrev pub IsFirstLarge : List Lexeme → ℕ → Option ℕ → Type 0
 IsFirstLarge ts n None = (k : ℕ) → k < n → IsLargeNegative ts k → ⊥
-IsFirstLarge ts n (Some at) = (i : ℕ) × (i < n) × IsLargeNegative ts i × ((k : ℕ) → k < i → IsLargeNegative ts k → ⊥) × IsPlaceOf ts i at
+IsFirstLarge ts n (Some at) = (i : ℕ) × (i < n) × IsLargeNegative ts i × ((k : ℕ) → k < i → IsLargeNegative ts k → ⊥)
+    × IsPlaceOf ts i at
 
 -- the first refusal of tokens, by the place of the token that shows it
 abbrev pub IsRefusedFor : List Lexeme → Refusal → Type 0

@@ -1,4 +1,5 @@
--- Why a token list is no list of items, or has a literal out of range: this project's own rules, as the kernel's Documentation/networking/filter has no faults.
+-- Why a token list is no list of items, or has a literal out of range: this project's own rules, as the kernel's
+-- Documentation/networking/filter has no faults.
 use Rattle.std.specs.Prelude.{◌≡◌, ◌≤◌, ◌<◌, ℕ, zero, suc, ◌+◌, List, [], ◌∷◌, length, take, Option, Some, None}
 use Rattle.cbpf_grammar.specs.Lexemes.{Symbol, Lexeme}
 use Rattle.cbpf_grammar.specs.Lexemes.Symbol.{number, mark}

@@ -1,4 +1,5 @@
--- The item at the front of a token list, and how far the tokens go where there is none, by the forms of the kernel's Documentation/networking/filter (BPF engine and instruction set).
+-- The item at the front of a token list, and how far the tokens go where there is none, by the forms of the kernel's
+-- Documentation/networking/filter (BPF engine and instruction set).
 use Rattle.std.specs.Prelude.{◌≡◌, ◌≤◌, ◌<◌, ℕ, suc, Bool, true, false, ◌&&◌, List, [], ◌∷◌, ◌++◌, length, take, Contains, Result, Ok, Err}
 use Rattle.cbpf_grammar.specs.declared.item.Row as declared_row
 use Rattle.cbpf_grammar.specs.Lexemes.{Lexeme}
@@ -10,7 +11,8 @@ use Rattle.cbpf_grammar.specs.Views.{row_of}
 
 -- no labels and row fit more than the first n tokens
 abbrev pub NoLonger : ℕ → List Lexeme → Type 0
-NoLonger n ts = (m : ℕ) (r : Row) → Contains table r → (f g : List Lexeme) → ts ≡ f ++ g → n < length f → fits_front (classes_of m r) f ≡ true → ⊥
+NoLonger n ts = (m : ℕ) (r : Row) → Contains table r → (f g : List Lexeme) → ts ≡ f ++ g → n < length f
+    → fits_front (classes_of m r) f ≡ true → ⊥
 
 -- The longest front of the tokens that begins an item has n tokens, and is none.
 pub record Stuck (n : ℕ) (ts : List Lexeme) : Type 0 where
@@ -48,5 +50,7 @@ AreLabels (t ∷ u ∷ ts) = (fits name t.symbol ≡ true) × (fits (the_mark 58
 
 -- the row's mnemonic and operand stand at the front, or only a part of them does
 abbrev pub IsInstruction : List Lexeme → Result declared_row.Row ℕ → Type 0
-IsInstruction ts (Ok row) = let n = suc (length row.operand.now) in IsNextItem ts n (record { labels = []; row = row_of row; body = take n ts })
+IsInstruction ts (Ok row) =
+    let n = suc (length row.operand.now) in
+    IsNextItem ts n (record { labels = []; row = row_of row; body = take n ts })
 IsInstruction ts (Err n) = Stuck n ts

@@ -1,4 +1,7 @@
--- The table of instructions in the kernel's Documentation/networking/filter (BPF engine and instruction set): for each mnemonic its addressing modes, each with its operation and its forms, all options written out. This project's own are `ldi` and `ldxi` with a bare number, extensions for `ldh` and `ldb`, signs, `#` before an extension's name, and the spellings of 4 and 15.
+-- The table of instructions in the kernel's Documentation/networking/filter (BPF engine and instruction set): for
+-- each mnemonic its addressing modes, each with its operation and its forms, all options written out. This project's
+-- own are `ldi` and `ldxi` with a bare number, extensions for `ldh` and `ldb`, signs, `#` before an extension's name,
+-- and the spellings of 4 and 15.
 use Rattle.std.specs.Prelude.{ℕ, List, [], ◌∷◌, ◌++◌, map, codes, flat_map}
 use Rattle.cbpf_code.specs.declared.opcode.Op.{Op}
 use Rattle.cbpf_code.specs.declared.opcode.Op.TheVariants.{LdImm, LdAbs, LdInd, LdMem, LdLen, LdxImm, LdxMem, LdxLen, LdxMsh, St, Stx, Alu, Neg, Ja, Jump, RetK, RetA, Tax, Txa}
@@ -111,10 +114,12 @@ abbrev pub load : Size → List Entry
 load s = entry absolute (LdAbs s) Constant ∷ entry indexed (LdInd s) Constant ∷ entry ext (LdAbs s) Constant ∷ []
 
 abbrev pub one_target : Cond → Fields → List Entry
-one_target c fields = entry (immediate · comma · label) (Jump c src.K) fields ∷ entry (x · comma · label) (Jump c src.X) fields ∷ []
+one_target c fields = entry (immediate · comma · label) (Jump c src.K) fields
+    ∷ entry (x · comma · label) (Jump c src.X) fields ∷ []
 
 abbrev pub two_targets : Cond → List Entry
-two_targets c = entry (immediate · comma · label · comma · label) (Jump c src.K) Branch ∷ entry (x · comma · label · comma · label) (Jump c src.X) Branch ∷ []
+two_targets c = entry (immediate · comma · label · comma · label) (Jump c src.K) Branch
+    ∷ entry (x · comma · label · comma · label) (Jump c src.X) Branch ∷ []
 
 abbrev pub jump : Cond → List Entry
 jump c = two_targets c ++ one_target c Branch
@@ -130,11 +135,13 @@ mnemonic word entries = record { word = word; entries = entries }
 
 unfoldable pub mnemonics : List Mnemonic
 mnemonics =
-    mnemonic (codes "ld") (load size.Word ++ (entry memory LdMem Constant ∷ entry immediate LdImm Constant ∷ entry len LdLen Constant ∷ []))
+    mnemonic (codes "ld")
+    (load size.Word ++ (entry memory LdMem Constant ∷ entry immediate LdImm Constant ∷ entry len LdLen Constant ∷ []))
     ∷ mnemonic (codes "ldh") (load size.Half)
     ∷ mnemonic (codes "ldb") (load size.Byte)
     ∷ mnemonic (codes "ldi") (entry immediate LdImm Constant ∷ entry n LdImm Constant ∷ [])
-    ∷ mnemonic (codes "ldx") (entry memory LdxMem Constant ∷ entry immediate LdxImm Constant ∷ entry header LdxMsh Constant ∷ entry len LdxLen Constant ∷ [])
+    ∷ mnemonic (codes "ldx")
+    (entry memory LdxMem Constant ∷ entry immediate LdxImm Constant ∷ entry header LdxMsh Constant ∷ entry len LdxLen Constant ∷ [])
     ∷ mnemonic (codes "ldxi") (entry immediate LdxImm Constant ∷ entry n LdxImm Constant ∷ [])
     ∷ mnemonic (codes "ldxb") (only header LdxMsh Constant)
     ∷ mnemonic (codes "st") (only memory St Constant)

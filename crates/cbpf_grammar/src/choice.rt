@@ -58,7 +58,8 @@ fn match_row(row: Row, tokens: &[Lexeme<'_>]) -> Match
 /// The new one where more tokens fit it, or as many and it is whole.
 #[inline(always)]
 fn better(best: Match, new: Match) -> Match
-    ensures { (rs ss : List tables.Row) (ts : List lexemes.Lexeme) → IsBest rs ts best → IsBest ss ts new → IsBest (rs ++ ss) ts result }
+    ensures { (rs ss : List tables.Row) (ts : List lexemes.Lexeme) → IsBest rs ts best → IsBest ss ts new →
+        IsBest (rs ++ ss) ts result }
 {
     if new.len > best.len || (new.len == best.len && is_whole(&new)) {
         new
@@ -70,7 +71,12 @@ fn better(best: Match, new: Match) -> Match
 /// The row of an addressing mode's form.
 #[inline(always)]
 fn make_row(mnemonic: &Mnemonic, entry: &Entry, form: &'static [Class]) -> Row
-    ensures { row_of result ≡ record { mnemonic = mnemonic.now.word.now; operand = map class_of form.now; op = entry.now.op; fields = entry.now.fields } }
+    ensures { row_of result ≡ record {
+      mnemonic = mnemonic.now.word.now;
+      operand = map class_of form.now;
+      op = entry.now.op;
+      fields = entry.now.fields;
+    } }
 {
     Row {
         mnemonic: mnemonic.word,
@@ -84,7 +90,8 @@ fn make_row(mnemonic: &Mnemonic, entry: &Entry, form: &'static [Class]) -> Row
 /// are all of it and not all of the row.
 #[inline(always)]
 fn may_be_better(best: &Match, form: &[Class], tokens: &[Lexeme<'_>]) -> bool
-    ensures { result ≡ false → (rs : List tables.Row) (row : tables.Row) → row.operand ≡ map class_of form.now → IsBest rs (map lexeme_of tokens.now) best.now → IsBest (rs ++ row ∷ []) (map lexeme_of tokens.now) best.now }
+    ensures { result ≡ false → (rs : List tables.Row) (row : tables.Row) → row.operand ≡ map class_of form.now →
+        IsBest rs (map lexeme_of tokens.now) best.now → IsBest (rs ++ row ∷ []) (map lexeme_of tokens.now) best.now }
 {
     let n = best.len;
     if n < form.len() {
@@ -103,7 +110,13 @@ fn better_form(
     form: &'static [Class],
     tokens: &[Lexeme<'_>],
 ) -> Match
-    ensures { (rs : List tables.Row) → IsBest rs (map lexeme_of tokens.now) best → IsBest (rs ++ record { mnemonic = mnemonic.now.word.now; operand = map class_of form.now; op = entry.now.op; fields = entry.now.fields } ∷ []) (map lexeme_of tokens.now) result }
+    ensures { (rs : List tables.Row) → IsBest rs (map lexeme_of tokens.now) best →
+        IsBest (rs ++ record {
+          mnemonic = mnemonic.now.word.now;
+          operand = map class_of form.now;
+          op = entry.now.op;
+          fields = entry.now.fields;
+        } ∷ []) (map lexeme_of tokens.now) result }
 {
     if may_be_better(&best, form, tokens) {
         better(best, match_row(make_row(mnemonic, entry, form), tokens))
@@ -115,7 +128,8 @@ fn better_form(
 /// The best one of a row and the forms of an addressing mode.
 #[inline(always)]
 fn better_mode(best: Match, mnemonic: &Mnemonic, entry: &Entry, tokens: &[Lexeme<'_>]) -> Match
-    ensures { (rs : List tables.Row) → IsBest rs (map lexeme_of tokens.now) best → IsBest (rs ++ entry_rows mnemonic.now.word.now (entry_of entry.now)) (map lexeme_of tokens.now) result }
+    ensures { (rs : List tables.Row) → IsBest rs (map lexeme_of tokens.now) best →
+        IsBest (rs ++ entry_rows mnemonic.now.word.now (entry_of entry.now)) (map lexeme_of tokens.now) result }
 {
     let mut best = best;
     for form in forms(entry.mode) {
@@ -127,7 +141,8 @@ fn better_mode(best: Match, mnemonic: &Mnemonic, entry: &Entry, tokens: &[Lexeme
 /// The first form of a mnemonic.
 #[inline(always)]
 fn first_form(mnemonic: &Mnemonic, entry: &Entry, tokens: &[Lexeme<'_>]) -> Match
-    ensures { (r : tables.Row) × Contains (entry_rows mnemonic.now.word.now (entry_of entry.now)) r × IsBest (r ∷ []) (map lexeme_of tokens.now) result }
+    ensures { (r : tables.Row) × Contains (entry_rows mnemonic.now.word.now (entry_of entry.now)) r ×
+        IsBest (r ∷ []) (map lexeme_of tokens.now) result }
 {
     match_row(make_row(mnemonic, entry, forms(entry.mode)[0]), tokens)
 }

@@ -97,11 +97,13 @@ fn read_more<'a, A: Allocator>(
     requires within { lexer.old.at ≤ length text.now }
     ensures same { lexer.new.text ≡ text.now }
     ensures within { lexer.new.at ≤ length text.now }
-    ensures read { OnOk result (ReadsOn text.now lexer.old.at lexer.new.at (map lexeme_of ahead.old.items) (map lexeme_of ahead.new.items)) }
+    ensures read { OnOk result (
+        ReadsOn text.now lexer.old.at lexer.new.at (map lexeme_of ahead.old.items) (map lexeme_of ahead.new.items)) }
     ensures left { OnOk result (lexer.old.at + length ahead.new.items ≤ lexer.new.at + length ahead.old.items) }
     ensures more { IfOk result (λ ended. ended ≡ false → lexer.old.at < lexer.new.at) }
     ensures end { IfOk result (λ ended. ended ≡ true → lexer.new.at ≡ length text.now) }
-    ensures fault { IfErr result (λ fault. (n : ℕ) → AreAhead text.now lexer.old.at n (map lexeme_of ahead.old.items) → IsLexFault text.now fault) }
+    ensures fault { IfErr result (λ fault. (n : ℕ) →
+        AreAhead text.now lexer.old.at n (map lexeme_of ahead.old.items) → IsLexFault text.now fault) }
 {
     // A lexer of its own can stay in registers.
     let mut here = lexer.copied();
@@ -123,8 +125,10 @@ fn read_on(lexer: &mut Lexer<'_>) -> Result<(), LexFault>
     requires within { lexer.old.at ≤ length lexer.old.text }
     ensures same { lexer.new.text ≡ lexer.old.text }
     ensures within { lexer.new.at ≤ length lexer.new.text }
-    ensures lexed { OnOk result ((tokens : List Token) → LexesTo lexer.old.text lexer.old.at tokens → (all : List Token) × Lexes lexer.old.text all) }
-    ensures fault { IfErr result (λ fault. (tokens : List Token) → LexesTo lexer.old.text lexer.old.at tokens → IsLexFault lexer.old.text fault) }
+    ensures lexed { OnOk result ((tokens : List Token) → LexesTo lexer.old.text lexer.old.at tokens →
+        (all : List Token) × Lexes lexer.old.text all) }
+    ensures fault { IfErr result (λ fault. (tokens : List Token) → LexesTo lexer.old.text lexer.old.at tokens →
+        IsLexFault lexer.old.text fault) }
 {
     while let Some(_token) = lexer.next_token()? {}
     Ok(())
@@ -152,9 +156,17 @@ impl<'a, A: Allocator> Model for Reader<'a, A> {
 
     ghost Value = { Ahead };
 
-    ghost view = { λ r. record { text = r.text.now; to = r.lexer.at; tokens = drop r.at r.ahead.items; ended = r.ended; last = r.last; large = r.large } };
+    ghost view = { λ r. record {
+      text = r.text.now;
+      to = r.lexer.at;
+      tokens = drop r.at r.ahead.items;
+      ended = r.ended;
+      last = r.last;
+      large = r.large;
+    } };
 
-    ghost invariant = { λ r. (r.at ≤ length r.ahead.items) × (r.lexer.text ≡ r.text.now) × (r.lexer.at ≤ length r.text.now) };
+    ghost invariant = { λ r. (r.at ≤ length r.ahead.items) × (r.lexer.text ≡ r.text.now) ×
+        (r.lexer.at ≤ length r.text.now) };
 }
 
 impl<'a, A: Allocator> Reader<'a, A> {
@@ -210,7 +222,8 @@ impl<'a, A: Allocator> Reader<'a, A> {
         ensures text { OnOk result (self.new.text ≡ self.old.text) }
         ensures reading { OnOk result ((n : ℕ) → IsReading n self.old → IsReading n self.new) }
         ensures left { OnOk result (left self.new ≤ left self.old) }
-        ensures step { IfOk result (λ step. (n : ℕ) (ts : List lexemes.Lexeme) → IsReading n self.new → AreLexemes self.new.text ts → IsStepOf (drop n ts) step) }
+        ensures step { IfOk result (λ step. (n : ℕ) (ts : List lexemes.Lexeme) → IsReading n self.new →
+            AreLexemes self.new.text ts → IsStepOf (drop n ts) step) }
         ensures within { IfOk result (λ step. step_len step ≤ length self.new.tokens) }
         ensures none { IfOk result (λ step. IfNone step (length self.new.tokens ≡ 0)) }
         ensures some { IfOk result (λ step. IfSome step (λ _. 0 < length self.new.tokens)) }
@@ -254,7 +267,8 @@ impl<'a, A: Allocator> Reader<'a, A> {
         requires within { n ≤ length self.now.tokens }
         requires end { n ≡ length self.now.tokens → self.now.ended ≡ true }
         requires word { 0 < n → StartsWithWord (map lexeme_of self.now.tokens) }
-        ensures { (m : ℕ) (ts : List lexemes.Lexeme) → IsReading m self.now → AreLexemes self.now.text ts → 0 < m + length self.now.tokens → IsStuckAt ts (m + n) → IsRefusedFor ts result }
+        ensures { (m : ℕ) (ts : List lexemes.Lexeme) → IsReading m self.now → AreLexemes self.now.text ts →
+            0 < m + length self.now.tokens → IsStuckAt ts (m + n) → IsRefusedFor ts result }
     {
         let ahead = self.ahead();
         if let Some(at) = first_large(self.large, &ahead[..n]) {
@@ -271,7 +285,8 @@ impl<'a, A: Allocator> Reader<'a, A> {
 
     /// Reads the text to its end, from where its tokens were read, and keeps nothing of it.
     pub fn finish(&self) -> Result<(), LexFault>
-        ensures lexed { OnOk result ((n : ℕ) → IsReading n self.now → (ts : List lexemes.Lexeme) × AreLexemes self.now.text ts) }
+        ensures lexed { OnOk result ((n : ℕ) → IsReading n self.now → (ts : List lexemes.Lexeme) ×
+            AreLexemes self.now.text ts) }
         ensures fault { IfErr result (λ fault. (n : ℕ) → IsReading n self.now → IsLexFault self.now.text fault) }
     {
         let mut rest = self.lexer.copied();

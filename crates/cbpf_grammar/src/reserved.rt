@@ -1,8 +1,7 @@
 //! Reserved words, and which tokens belong to which class.
 
-ghost use Rattle.std.specs.Prelude.{◌≡◌, true, false, IfSome, IfNone, Contains};
+ghost use Rattle.std.specs.Prelude.{◌≡◌, true, false, IfSome, IfNone, Contains, bytes_eq};
 ghost use Rattle.std.specs.List.{list_any};
-ghost use Rattle.cbpf_grammar.specs.Lexemes.{same_bytes};
 ghost use Rattle.cbpf_grammar.specs.Table.{mnemonics, operand_words};
 ghost use Rattle.cbpf_grammar.specs.Fits.{fits, is_one_of, is_reserved, extension_names, mnemonic_words};
 ghost use Rattle.cbpf_grammar.specs.Views.{class_of, symbol_of, mnemonic_of};
@@ -13,13 +12,6 @@ use crate::mode::OPERAND_WORDS;
 use crate::table::{Mnemonic, mnemonics_from};
 use cbpf_code::ext_named;
 
-#[inline(always)]
-fn same_bytes(a: &[u8], b: &[u8]) -> bool
-    ensures { result ≡ same_bytes a.now b.now }
-{
-    a == b
-}
-
 /// The size of the longest mnemonic.
 const LONGEST: usize = 4;
 
@@ -27,7 +19,7 @@ const LONGEST: usize = 4;
 #[inline(always)]
 pub fn mnemonic_named(word: &[u8]) -> Option<&'static Mnemonic>
     ensures found { IfSome result (λ m. Contains mnemonics (mnemonic_of m.now)) }
-    ensures word { IfSome result (λ m. same_bytes word.now m.now.word.now ≡ true) }
+    ensures word { IfSome result (λ m. bytes_eq word.now m.now.word.now ≡ true) }
     ensures none { IfNone result (is_one_of mnemonic_words word.now ≡ false) }
 {
     if word.is_empty() {
@@ -37,7 +29,7 @@ pub fn mnemonic_named(word: &[u8]) -> Option<&'static Mnemonic>
         return None;
     }
     for mnemonic in mnemonics_from(word[0]) {
-        if same_bytes(word, mnemonic.word) {
+        if word == mnemonic.word {
             return Some(mnemonic);
         }
     }
@@ -59,7 +51,7 @@ fn is_extension(word: &[u8]) -> bool
 fn is_operand_word(word: &[u8]) -> bool
     ensures { result ≡ is_one_of operand_words word.now }
 {
-    OPERAND_WORDS.iter().any(|v| same_bytes(word, v))
+    OPERAND_WORDS.iter().any(|v| word == *v)
 }
 
 /// Whether a word ends with a digit, as no reserved word does.
@@ -94,7 +86,7 @@ pub fn fits(class: Class, symbol: Symbol<'_>) -> bool
     ensures { result ≡ fits (class_of class) (symbol_of symbol.entry) }
 {
     match (class, symbol) {
-        (Class::Word(v), Symbol::Word(w)) => same_bytes(w, v),
+        (Class::Word(v), Symbol::Word(w)) => w == v,
         (Class::Mark(a), Symbol::Mark(b)) => b == a,
         (Class::Literal, Symbol::Number(_)) => true,
         (Class::Negated, Symbol::Number(_)) => true,

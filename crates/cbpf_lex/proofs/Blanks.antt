@@ -47,6 +47,3 @@ to_here text from at l e more ts lexed = rw (run_of_none text at l e) at (more t
 
 pub to_next : (text : List ℕ) (from at : ℕ) → at < length text → is_blank (get_or text at 0) ≡ true → ((ts : List Token) → LexesTo text from ts → LexesTo text (run_end text at) ts) → (ts : List Token) → LexesTo text from ts → LexesTo text (run_end text (at + 1)) ts
 to_next text from at l e more ts lexed = rw (← run_next text at l e) (more ts lexed)
-
-pub to_end : (text : List ℕ) (from at : ℕ) → length text ≤ at → ((ts : List Token) → LexesTo text from ts → LexesTo text (run_end text at) ts) → (ts : List Token) → LexesTo text from ts → LexesTo text at ts
-to_end text from at l more ts lexed = rw (run_at_end text at l) at (more ts lexed)

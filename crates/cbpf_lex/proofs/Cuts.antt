@@ -1,5 +1,6 @@
 -- Cuts of a text: one more piece, and that there is only one.
-use Rattle.std.proofs.Common.{◌≡◌, ◌≢◌, ℕ, zero, suc, ◌+◌, ◌-◌, ◌<◌, ◌≤◌, Bool, true, false, ◌&&◌, List, [], ◌∷◌, ◌++◌, length, take, drop, refl, ap, sym, ◌∙◌, arith, Option, Some, None, append_assoc, append-nil, ◌⊎◌, inl, inr, get_or, length-drop}
+use Rattle.std.proofs.Common.{◌≡◌, ◌≢◌, ℕ, zero, suc, ◌+◌, ◌-◌, ◌<◌, ◌≤◌, Bool, true, List, [], ◌∷◌, ◌++◌, length, take, drop, refl, ap, sym, ◌∙◌, arith, Option, Some, None, append_assoc, append-nil, ◌⊎◌, inl, inr, get_or, length-drop}
+use Rattle.std.proofs.lemmas.Bool.{and_parts, cases_order}
 use Rattle.std.proofs.lemmas.List.{drop_all, drop_more, take_rest}
 use Rattle.std.specs.List.{list_all}
 use Rattle.cbpf_lex.specs.declared.piece.PieceKind.{PieceKind}
@@ -21,10 +22,6 @@ tokens_of-snoc : (text : List ℕ) (at : ℕ) (ps : List Piece) (to : ℕ) (p : 
 tokens_of-snoc text at [] to p e = rw (e, append-nil) refl
 tokens_of-snoc text at (q ∷ qs) to p cut = ap (λ ts. token_of q.kind at (at + q.size) ++ ts) (tokens_of-snoc text (at + q.size) qs to p cut.1) ∙ sym (append_assoc (token_of q.kind at (at + q.size)) (tokens_of (at + q.size) qs) (token_of p.kind to (to + p.size)))
 
-pub and_parts : (a b : Bool) → (a && b) ≡ true → (a ≡ true) × (b ≡ true)
-and_parts true b e = (refl, e)
-and_parts false b e = cc
-
 good-snoc : (ps : List Piece) (p : Piece) → list_all (λ (q : Piece). is_good q.kind) ps ≡ true → is_good p.kind ≡ true → list_all (λ (q : Piece). is_good q.kind) (ps ++ p ∷ []) ≡ true
 good-snoc [] p g h = rw h refl
 good-snoc (q ∷ qs) p g h = let parts : (is_good q.kind ≡ true) × (list_all (λ (x : Piece). is_good x.kind) qs ≡ true) = and_parts (is_good q.kind) _ g in rw (parts.0, good-snoc qs p parts.1 h) refl
@@ -41,17 +38,17 @@ LexesTo-more text at tokens p lexed next good = record {
 some-none : {A B : Type 0} (o : Option A) (x : A) → o ≡ Some x → o ≡ None → B
 some-none o x e h = cc
 
-lt_cases : (m n : ℕ) → (m < n) ⊎ ((n < m) ⊎ (m ≡ n))
-lt_cases m n = grind arith
-
 pub some-same : {A : Type 0} (x y : A) → ◌≡◌ {A = Option A} (Some x) (Some y) → x ≡ y
 some-same x y e = cc
 
 same_size : (fresh : Bool) (text : List ℕ) (p q : Piece) → IsNext fresh text p → IsNext fresh text q → p.size ≡ q.size
 same_size fresh text p q a b =
-    elim (lt_cases p.size q.size) [
-      | inl l ↦ some-none _ _ b.kind (a.longest q.size l b.within)
-      | inr r ↦ elim r [ inl l ↦ some-none _ _ a.kind (b.longest p.size l a.within) | inr e ↦ e ]
+    elim (cases_order p.size q.size) [
+      | inl e ↦ e
+      | inr r ↦ elim r [
+        | inl l ↦ some-none _ _ b.kind (a.longest q.size l b.within)
+        | inr l ↦ some-none _ _ a.kind (b.longest p.size l a.within)
+      ]
     ]
 
 pub one_next : (fresh : Bool) (text : List ℕ) (p q : Piece) → IsNext fresh text p → IsNext fresh text q → p ≡ q

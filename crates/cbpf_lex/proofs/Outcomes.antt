@@ -1,6 +1,7 @@
 -- A text has one list of tokens or one first bad piece.
 use Rattle.std.proofs.Common.{◌≡◌, ℕ, ◌+◌, Bool, true, false, List, [], ◌∷◌, ◌++◌, length, refl, ap, sym, ◌∙◌, subst, append_assoc}
 use Rattle.std.specs.List.{list_all}
+use Rattle.std.proofs.lemmas.Bool.{and_parts}
 use Rattle.cbpf_lex.specs.declared.piece.PieceKind.{PieceKind}
 use Rattle.cbpf_lex.specs.declared.piece.PieceKind.TheVariants.{Bad}
 use Rattle.cbpf_lex.specs.declared.piece.Piece.{Piece}
@@ -9,7 +10,7 @@ use Rattle.cbpf_lex.specs.Pieces.{IsPieceAt, IsCut}
 use Rattle.cbpf_lex.specs.declared.token.Token.{Token}
 use Rattle.cbpf_lex.specs.Tokens.{LexesTo, Lexes, tokens_of, token_of, line_of, is_good}
 use Rattle.cbpf_lex.specs.Laws.{OneCut, OneList, OneFault, NeverBoth}
-use Rattle.cbpf_lex.proofs.Cuts.{and_parts, one_next, past_end}
+use Rattle.cbpf_lex.proofs.Cuts.{one_next, past_end}
 use Rattle.cbpf_lex.proofs.Cuts as cuts
 
 abbrev are_good : List Piece → Bool

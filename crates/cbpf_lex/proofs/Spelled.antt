@@ -1,13 +1,16 @@
 -- A text that is written as segments, one for each piece, is cut into these pieces.
-use Rattle.std.proofs.Common.{◌≡◌, ℕ, zero, suc, ◌+◌, ◌^◌, ◌<◌, Bool, true, false, not, ◌&&◌, ◌||◌, List, [], ◌∷◌, ◌++◌, length, take, refl, ap, sym, subst, ◌∙◌, arith, Some, append_assoc, append-nil, length-append, ◌⊎◌, inl, inr, eqb-true, lt-ltb}
+use Rattle.std.proofs.Common.{◌≡◌, ℕ, ◌+◌, ◌^◌, ◌<◌, Bool, true, false, not, ◌&&◌, ◌||◌, List, [], ◌∷◌, ◌++◌, length, take, refl, ap, sym, subst, ◌∙◌, Some, append_assoc, append-nil, length-append, eqb-true, lt-ltb}
 use Rattle.std.specs.Prelude.{◌==◌, nat_lt}
 use Rattle.std.specs.List.{list_all, fold, prefix_len, flat_map}
+use Rattle.std.proofs.Math.Bool.{and-false, and-true, or-true}
+use Rattle.std.proofs.lemmas.Bool.{agree_below, agree_below_at, and_from, and_parts, false_from_ne_true, not-true, not_from_false, true≢false}
 use Rattle.std.proofs.lemmas.List.{take_at, drop_at}
 use Rattle.std.proofs.lemmas.List.Sums.{fold-append}
 use Rattle.std.proofs.Math.Numerals.{one-add}
 use Rattle.cbpf_lex.specs.declared.token.Kind.TheVariants.{Word, Number, Mark}
 use Rattle.cbpf_lex.specs.declared.piece.PieceKind.TheVariants.{Blanks, Lexeme}
-use Rattle.cbpf_lex.specs.declared.piece.Lead.TheVariants.{Blank, Letter, Digit, Single}
+use Rattle.cbpf_lex.specs.declared.piece.Lead.{Lead}
+use Rattle.cbpf_lex.specs.declared.piece.Lead.TheVariants.{Letter, Digit, Single}
 use Rattle.cbpf_lex.specs.declared.piece.Piece.{Piece}
 use Rattle.cbpf_lex.specs.Bytes.{is_blank, is_letter, is_digit, is_name_byte, is_mark}
 use Rattle.cbpf_lex.specs.Numbers.{number_value}
@@ -15,7 +18,8 @@ use Rattle.cbpf_lex.specs.Pieces.{IsNext, IsPieceAt, IsCut, is_line_blank, run_k
 use Rattle.cbpf_lex.specs.Leads.{lead_of}
 use Rattle.cbpf_lex.specs.Tokens.{Lexes, tokens_of, is_good}
 use Rattle.cbpf_lex.proofs.Runs.{blanks_next, word_next, number_next, mark_next}
-use Rattle.cbpf_lex.proofs.Cuts.{and_parts}
+use Rattle.cbpf_lex.proofs.Leads.{blank_lead}
+use Rattle.cbpf_lex.proofs.LeadTable.{number_of, same_lead}
 
 -- a blank; a word by its first byte and the rest; a number in the same way, with its value; a mark
 pub data Segment : Type 0 where
@@ -77,65 +81,29 @@ stay_apart fresh (word b bs ∷ ss) = ends_name ss && stay_apart false ss
 stay_apart fresh (number b bs n ∷ ss) = ends_name ss && stay_apart false ss
 stay_apart fresh (mark b ∷ ss) = not (fresh && b == 35) && stay_apart false ss
 
--- what holds of every byte by a test that computes
-abbrev all_below : ℕ → (ℕ → Bool) → Bool
-all_below zero p = true
-all_below (suc n) p = p n && all_below n p
+-- what holds of every number below n by a test that computes
+pub holds_below : (n : ℕ) (p : ℕ → Bool) (b : ℕ) → agree_below p (λ k. true) n ≡ true → b < n → p b ≡ true
+holds_below n p b e l = agree_below_at p (λ k. true) n b e l
 
-last_or_below : (b n : ℕ) → b < suc n → (b ≡ n) ⊎ (b < n)
-last_or_below b n l = grind arith
-
-holds_below : (n : ℕ) (p : ℕ → Bool) (b : ℕ) → all_below n p ≡ true → b < n → p b ≡ true
-holds_below zero p b e l = absurd (omega arith)
-holds_below (suc n) p b e l = elim (last_or_below b n l) [ inl h ↦ rw h (and_parts (p n) _ e).0 | inr h ↦ holds_below n p b (and_parts (p n) _ e).1 h ]
-
-abbrev letter_test : ℕ → Bool
-letter_test b = not (is_letter b) || (not (is_blank b) && (not (b == 59) && not (b == 35)))
-
-abbrev digit_test : ℕ → Bool
-digit_test b = not (is_digit b) || (not (is_blank b) && (not (b == 59) && (not (b == 35) && not (is_letter b))))
-
-abbrev mark_test : ℕ → Bool
-mark_test b = not (is_mark b) || (not (is_blank b) && (not (b == 59) && (not (is_letter b) && (not (is_digit b) && not (b == 47)))))
-
-not_true : (a : Bool) → not a ≡ true → a ≡ false
-not_true true h = sym h
-not_true false h = refl
-
-implied : (a c : Bool) → (not a || c) ≡ true → a ≡ true → c ≡ true
+pub implied : (a c : Bool) → (not a || c) ≡ true → a ≡ true → c ≡ true
 implied true c e h = e
 implied false c e h = cc
 
-lead_blank : (fresh : Bool) (b : ℕ) → is_blank b ≡ true → lead_of fresh b ≡ Blank
-lead_blank fresh b h = rw h refl
-
-lead_by : (fresh : Bool) (b : ℕ) → is_blank b ≡ false → (b == 59) ≡ false → (b == 35) ≡ false → lead_of fresh b ≡ lead_of false b
-lead_by true b h e f = rw (h, e, f) refl
-lead_by false b h e f = refl
+-- what the first byte of a piece says, where each byte that passes the test says the same
+lead_by : (fresh : Bool) (p : ℕ → Bool) (lead : Lead) (b : ℕ) → agree_below (λ c. not (p c) || number_of (lead_of fresh c) == number_of lead) (λ k. true) 256 ≡ true → b < 256 → p b ≡ true → lead_of fresh b ≡ lead
+lead_by fresh p lead b e l h = same_lead (lead_of fresh b) lead (implied (p b) _ (holds_below 256 (λ c. not (p c) || number_of (lead_of fresh c) == number_of lead) b e l) h)
 
 lead_letter : (fresh : Bool) (b : ℕ) → b < 256 → is_letter b ≡ true → lead_of fresh b ≡ Letter
-lead_letter fresh b l h =
-    let t : (not (is_blank b) && (not (b == 59) && not (b == 35))) ≡ true = implied (is_letter b) _ (holds_below 256 letter_test b refl l) h in
-    let p : (not (is_blank b) ≡ true) × ((not (b == 59) && not (b == 35)) ≡ true) = and_parts (not (is_blank b)) _ t in
-    let q : (not (b == 59) ≡ true) × (not (b == 35) ≡ true) = and_parts (not (b == 59)) _ p.1 in
-    lead_by fresh b (not_true _ p.0) (not_true _ q.0) (not_true _ q.1) ∙ rw (not_true (is_blank b) p.0, not_true (b == 59) q.0, h) refl
+lead_letter true b l h = lead_by true is_letter Letter b refl l h
+lead_letter false b l h = lead_by false is_letter Letter b refl l h
 
 lead_digit : (fresh : Bool) (b : ℕ) → b < 256 → is_digit b ≡ true → lead_of fresh b ≡ Digit
-lead_digit fresh b l h =
-    let t : (not (is_blank b) && (not (b == 59) && (not (b == 35) && not (is_letter b)))) ≡ true = implied (is_digit b) _ (holds_below 256 digit_test b refl l) h in
-    let p : (not (is_blank b) ≡ true) × ((not (b == 59) && (not (b == 35) && not (is_letter b))) ≡ true) = and_parts (not (is_blank b)) _ t in
-    let q : (not (b == 59) ≡ true) × ((not (b == 35) && not (is_letter b)) ≡ true) = and_parts (not (b == 59)) _ p.1 in
-    let r : (not (b == 35) ≡ true) × (not (is_letter b) ≡ true) = and_parts (not (b == 35)) _ q.1 in
-    lead_by fresh b (not_true _ p.0) (not_true _ q.0) (not_true _ r.0) ∙ rw (not_true (is_blank b) p.0, not_true (b == 59) q.0, not_true (is_letter b) r.1, h) refl
+lead_digit true b l h = lead_by true is_digit Digit b refl l h
+lead_digit false b l h = lead_by false is_digit Digit b refl l h
 
 lead_mark : (fresh : Bool) (b : ℕ) → b < 256 → is_mark b ≡ true → (fresh && b == 35) ≡ false → lead_of fresh b ≡ Single
-lead_mark fresh b l h f =
-    let t : (not (is_blank b) && (not (b == 59) && (not (is_letter b) && (not (is_digit b) && not (b == 47))))) ≡ true = implied (is_mark b) _ (holds_below 256 mark_test b refl l) h in
-    let p : (not (is_blank b) ≡ true) × ((not (b == 59) && (not (is_letter b) && (not (is_digit b) && not (b == 47)))) ≡ true) = and_parts (not (is_blank b)) _ t in
-    let q : (not (b == 59) ≡ true) × ((not (is_letter b) && (not (is_digit b) && not (b == 47))) ≡ true) = and_parts (not (b == 59)) _ p.1 in
-    let r : (not (is_letter b) ≡ true) × ((not (is_digit b) && not (b == 47)) ≡ true) = and_parts (not (is_letter b)) _ q.1 in
-    let u : (not (is_digit b) ≡ true) × (not (b == 47) ≡ true) = and_parts (not (is_digit b)) _ r.1 in
-    rw (not_true (is_blank b) p.0, not_true (b == 59) q.0, f, not_true (is_letter b) r.0, not_true (is_digit b) u.0, not_true (b == 47) u.1, h) refl
+lead_mark true b l h f = lead_by true (λ c. is_mark c && not (c == 35)) Single b refl l (and_from (is_mark b) (not (b == 35)) h (not_from_false (b == 35) f))
+lead_mark false b l h f = lead_by false is_mark Single b refl l h
 
 -- the run of a list that passes whole, before what does not
 run_before : (p : ℕ → Bool) (bs rest : List ℕ) → list_all p bs ≡ true → prefix_len p rest ≡ 0 → prefix_len p (bs ++ rest) ≡ length bs
@@ -143,8 +111,8 @@ run_before p [] rest a e = e
 run_before p (b ∷ bs) rest a e = let q : (p b ≡ true) × (list_all p bs ≡ true) = and_parts (p b) _ a in rw (q.0, run_before p bs rest q.1 e, one-add) refl
 
 -- no byte passes both tests
-not_both : (p q : ℕ → Bool) (b : ℕ) → all_below 256 (λ c. not (p c && q c)) ≡ true → b < 256 → p b ≡ true → q b ≡ false
-not_both p q b e l h = not_true (q b) (let t : not (p b && q b) ≡ true = holds_below 256 (λ c. not (p c && q c)) b e l in rw h at t)
+not_both : (p q : ℕ → Bool) (b : ℕ) → agree_below (λ c. not (p c && q c)) (λ k. true) 256 ≡ true → b < 256 → p b ≡ true → q b ≡ false
+not_both p q b e l h = not-true (q b) (let t : not (p b && q b) ≡ true = holds_below 256 (λ c. not (p c && q c)) b e l in rw h at t)
 
 name_ends : (ss : List Segment) → AreSegments ss → ends_name ss ≡ true → prefix_len is_name_byte (text_of ss) ≡ 0
 name_ends [] a e = refl
@@ -163,7 +131,7 @@ blank_ends (mark b ∷ ss) a e = rw (not_both is_mark is_blank b refl a.0.0 a.0.
 segment_next : (fresh : Bool) (s : Segment) (ss : List Segment) → IsSegment s → AreSegments ss → stay_apart fresh (s ∷ ss) ≡ true → IsNext fresh (bytes_of s ++ text_of ss) (piece_of s)
 segment_next fresh (blank b) ss a ok k =
     let e : prefix_len is_blank (text_of ss) ≡ 0 = blank_ends ss ok (and_parts (ends_blank ss) _ k).0 in
-    rw e at (blanks_next fresh b (text_of ss) (lead_blank fresh b a.1))
+    rw e at (blanks_next fresh b (text_of ss) (blank_lead fresh b a.1))
 segment_next fresh (word b bs) ss a ok k =
     let e : prefix_len is_name_byte (bs ++ text_of ss) ≡ length bs = run_before is_name_byte bs (text_of ss) a.2 (name_ends ss ok (and_parts (ends_name ss) _ k).0) in
     rw e at (word_next fresh b (bs ++ text_of ss) (lead_letter fresh b a.0 a.1))
@@ -174,57 +142,35 @@ segment_next fresh (number b bs n) ss a ok k =
     let next : IsNext fresh (b ∷ (bs ++ text_of ss)) (record { kind = run_kind (number_value (b ∷ bs)); size = 1 + length bs }) = rw (e, t) at (number_next fresh b (bs ++ text_of ss) (lead_digit fresh b a.0 a.1)) in
     let v : run_kind (number_value (b ∷ bs)) ≡ Lexeme (Number n) = ap run_kind a.3 ∙ rw f refl in
     subst (λ q. IsNext fresh (b ∷ (bs ++ text_of ss)) (record { kind = q; size = 1 + length bs })) v next
-segment_next fresh (mark b) ss a ok k = mark_next fresh b (text_of ss) (lead_mark fresh b a.0 a.1 (not_true (fresh && b == 35) (and_parts (not (fresh && b == 35)) _ k).0))
+segment_next fresh (mark b) ss a ok k = mark_next fresh b (text_of ss) (lead_mark fresh b a.0 a.1 (not-true (fresh && b == 35) (and_parts (not (fresh && b == 35)) _ k).0))
 
 -- whether the line is blank after a segment
 abbrev after : Bool → ℕ → Bool
 after fresh b = b == 10 || (fresh && is_blank b)
 
-name_not_newline : (c : ℕ) → is_name_byte c ≡ true → (c == 10) ≡ false
-name_not_newline c h = by_test (c == 10) refl
-  where
-    by_test : (t : Bool) → (c == 10) ≡ t → t ≡ false
-    by_test false e = refl
-    by_test true e = let k : is_name_byte 10 ≡ true = rw (eqb-true c 10 e) at h in cc
-
-and_false : (a : Bool) → (a && false) ≡ false
-and_false true = refl
-and_false false = refl
-
-and_true : (a : Bool) → (a && true) ≡ a
-and_true true = refl
-and_true false = refl
+-- a byte of a class without the newline
+not_newline : (p : ℕ → Bool) (b : ℕ) → p 10 ≡ false → p b ≡ true → (b == 10) ≡ false
+not_newline p b none h = false_from_ne_true (b == 10) (λ e. true≢false (sym h ∙ ap p (eqb-true b 10 e) ∙ none))
 
 names_not_blank : (bs : List ℕ) → list_all is_name_byte bs ≡ true → fold after false bs ≡ false
 names_not_blank [] a = refl
-names_not_blank (b ∷ bs) a = let q : (is_name_byte b ≡ true) × (list_all is_name_byte bs ≡ true) = and_parts (is_name_byte b) _ a in rw (name_not_newline b q.0, names_not_blank bs q.1) refl
+names_not_blank (b ∷ bs) a = let q : (is_name_byte b ≡ true) × (list_all is_name_byte bs ≡ true) = and_parts (is_name_byte b) _ a in rw (not_newline is_name_byte b refl q.0, names_not_blank bs q.1) refl
 
 name_after : (fresh : Bool) (b : ℕ) (bs : List ℕ) → is_name_byte b ≡ true → is_blank b ≡ false → list_all is_name_byte bs ≡ true → fold after fresh (b ∷ bs) ≡ false
-name_after fresh b bs h n a = rw (n, name_not_newline b h, and_false fresh, names_not_blank bs a) refl
+name_after fresh b bs h n a = rw (n, not_newline is_name_byte b refl h, and-false fresh, names_not_blank bs a) refl
 
 letter_name : (b : ℕ) → is_letter b ≡ true → is_name_byte b ≡ true
 letter_name b h = rw h refl
 
-or_true : (a : Bool) → (a || true) ≡ true
-or_true true = refl
-or_true false = refl
-
 digit_name : (b : ℕ) → is_digit b ≡ true → is_name_byte b ≡ true
-digit_name b h = rw (h, or_true (is_letter b)) refl
-
-mark_not_newline : (b : ℕ) → is_mark b ≡ true → (b == 10) ≡ false
-mark_not_newline b h = by_test (b == 10) refl
-  where
-    by_test : (t : Bool) → (b == 10) ≡ t → t ≡ false
-    by_test false e = refl
-    by_test true e = let k : is_mark 10 ≡ true = rw (eqb-true b 10 e) at h in cc
+digit_name b h = rw (h, or-true (is_letter b)) refl
 
 -- the segments after one more stay apart after its line
 apart_after : (fresh : Bool) (s : Segment) (ss : List Segment) → IsSegment s → stay_apart fresh (s ∷ ss) ≡ true → stay_apart (fold after fresh (bytes_of s)) ss ≡ true
-apart_after fresh (blank b) ss a k = rw (a.1, and_true fresh) (and_parts (ends_blank ss) _ k).1
+apart_after fresh (blank b) ss a k = rw (a.1, and-true fresh) (and_parts (ends_blank ss) _ k).1
 apart_after fresh (word b bs) ss a k = rw (name_after fresh b bs (letter_name b a.1) (not_both is_letter is_blank b refl a.0 a.1) a.2) (and_parts (ends_name ss) _ k).1
 apart_after fresh (number b bs n) ss a k = rw (name_after fresh b bs (digit_name b a.1) (not_both is_digit is_blank b refl a.0 a.1) a.2) (and_parts (ends_name ss) _ k).1
-apart_after fresh (mark b) ss a k = rw (not_both is_mark is_blank b refl a.0 a.1, mark_not_newline b a.1, and_false fresh) (and_parts (not (fresh && b == 35)) _ k).1
+apart_after fresh (mark b) ss a k = rw (not_both is_mark is_blank b refl a.0 a.1, not_newline is_mark b refl a.1, and-false fresh) (and_parts (not (fresh && b == 35)) _ k).1
 
 length_piece : (s : Segment) → length (bytes_of s) ≡ (piece_of s).size
 length_piece (blank b) = refl

@@ -1,4 +1,5 @@
--- The classes of bytes that a source text of the assembler is made of. The bytes of marks are those of the operands in the kernel's Documentation/networking/filter; what counts as a blank is this project's own.
+-- The classes of bytes that a source text of the assembler is made of. The bytes of marks are those of the operands
+-- in the kernel's Documentation/networking/filter; what counts as a blank is this project's own.
 use Rattle.std.specs.Prelude.{ℕ, Bool, ◌&&◌, ◌||◌, nat_le, ◌==◌}
 
 -- a space, a tab, a newline or a carriage return
@@ -17,4 +18,5 @@ is_name_byte b = is_letter b || is_digit b
 
 -- one of `[ ] ( ) * & + - , : # %`
 abbrev pub is_mark : ℕ → Bool
-is_mark b = b == 91 || b == 93 || b == 40 || b == 41 || b == 42 || b == 38 || b == 43 || b == 45 || b == 44 || b == 58 || b == 35 || b == 37
+is_mark b = b == 91 || b == 93 || b == 40 || b == 41 || b == 42 || b == 38 || b == 43 || b == 45 || b == 44 || b == 58
+    || b == 35 || b == 37

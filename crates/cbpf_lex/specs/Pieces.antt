@@ -1,4 +1,6 @@
--- How a source text is cut into pieces: blanks, comments, tokens and bad pieces, each the longest at its place. The kernel's Documentation/networking/filter shows words, numbers, marks and comments by example; these rules are this project's own.
+-- How a source text is cut into pieces: blanks, comments, tokens and bad pieces, each the longest at its place. The
+-- kernel's Documentation/networking/filter shows words, numbers, marks and comments by example; these rules are this
+-- project's own.
 use Rattle.std.specs.Prelude.{◌≡◌, ℕ, suc, ◌+◌, ◌^◌, ◌<◌, ◌≤◌, Bool, true, false, not, ◌&&◌, ◌||◌, List, [], ◌∷◌, length, take, drop, nat_lt, ◌==◌, if◌then◌else◌, fold, Option, Some, None, option_map}
 use Rattle.std.specs.List.{list_all}
 use Rattle.cbpf_lex.specs.declared.token.Kind.TheVariants.{Word, Number, Mark}
@@ -37,7 +39,8 @@ abbrev pub first_close : List ℕ → Option ℕ
 first_close [] = None
 first_close (b ∷ bs) = if begins_with_close (b ∷ bs) then Some 2 else option_map suc (first_close bs)
 
--- A `/*` and so many bytes after it, by the end of the first `*/` among them: a comment where the bytes end there, and an open comment where there is none.
+-- A `/*` and so many bytes after it, by the end of the first `*/` among them: a comment where the bytes end there,
+-- and an open comment where there is none.
 abbrev pub comment_kind : Option ℕ → ℕ → Option PieceKind
 comment_kind None size = Some (Bad OpenComment)
 comment_kind (Some close) size = only_if (close == size) Comment

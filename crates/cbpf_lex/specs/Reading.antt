@@ -1,4 +1,5 @@
--- A source text of which the tokens are taken one by one: what comes next after a place of it. This project's own rules, as those of the whole text.
+-- A source text of which the tokens are taken one by one: what comes next after a place of it. This project's own
+-- rules, as those of the whole text.
 use Rattle.std.specs.Prelude.{ℕ, List, [], ◌∷◌, ◌++◌, ◌<◌, ◌≤◌, length}
 use Rattle.cbpf_lex.specs.declared.token.Token.{Token}
 use Rattle.cbpf_lex.specs.declared.token.LexFault.{LexFault}

@@ -1,4 +1,5 @@
--- The tokens of a source text with their places, and the first piece that is bad: this project's own rules, as the kernel's Documentation/networking/filter has no faults.
+-- The tokens of a source text with their places, and the first piece that is bad: this project's own rules, as the
+-- kernel's Documentation/networking/filter has no faults.
 use Rattle.std.specs.Prelude.{◌≡◌, ℕ, ◌+◌, Bool, true, false, List, [], ◌∷◌, ◌++◌, ◌≤◌, length, take, count_by, ◌==◌}
 use Rattle.std.specs.List.{list_all}
 use Rattle.cbpf_lex.specs.declared.token.Token.{Token}

@@ -1,4 +1,6 @@
--- The listing of a program: a line for each instruction, in the assembler syntax of the kernel's Documentation/networking/filter ("BPF engine and instruction set"). The label before each instruction, `l` and its index, and targets as these labels, are this project's own.
+-- The listing of a program: a line for each instruction, in the assembler syntax of the kernel's
+-- Documentation/networking/filter ("BPF engine and instruction set"). The label before each instruction, `l` and its
+-- index, and targets as these labels, are this project's own.
 use Rattle.std.specs.Prelude.{ℕ, ◌+◌, ◌==◌, if◌then◌else◌, List, [], ◌∷◌, ◌++◌, Option, Some, None, slice_get, codes, decimal}
 use Rattle.std.specs.List.{flat_map, enumerate_from}
 use Rattle.cbpf_code.specs.declared.insn.Insn.{Insn}

@@ -1,7 +1,8 @@
 -- Items by their forms: how many targets each has, and its mnemonic.
-use Rattle.std.proofs.Common.{◌≡◌, refl, ◌∙◌, ap, ℕ, zero, suc, ◌+◌, ◌<◌, Bool, true, false, ◌&&◌, List, [], ◌∷◌, ◌++◌, length, drop, get_or, arith}
+use Rattle.std.proofs.Common.{◌≡◌, refl, ◌∙◌, ap, ℕ, zero, suc, ◌+◌, Bool, true, false, List, [], ◌∷◌, ◌++◌, length, drop, arith}
 use Rattle.std.specs.Prelude.{All, Contains, ◌==◌, ◌||◌}
 use Rattle.std.specs.List.{list_all}
+use Rattle.std.proofs.lemmas.Bool.{and_parts}
 use Rattle.cbpf_grammar.specs.declared.table.Fields.{Fields}
 use Rattle.cbpf_grammar.specs.declared.table.Fields.TheVariants.{Constant, Goto, Branch, Swapped}
 use Rattle.cbpf_grammar.specs.Classes.{Class}
@@ -10,6 +11,7 @@ use Rattle.cbpf_grammar.specs.Lexemes.{Lexeme}
 use Rattle.cbpf_grammar.specs.Fits.{fits, fits_all}
 use Rattle.cbpf_grammar.specs.Table.{Row, classes, table, mnemonics}
 use Rattle.cbpf_grammar.specs.Items.{Item, Items, Form, names_at, label_classes}
+use Rattle.cbpf_grammar.proofs.Elements.{list_all_at}
 use Rattle.cbpf_text.specs.Operands.{HasForm, targets_in}
 
 abbrev one_if : Class → ℕ
@@ -35,17 +37,8 @@ rows_take : list_all (λ (r : Row). takes r.fields (names_in (classes r))) table
 unfolding mnemonics
 rows_take = refl
 
-and_parts : (a b : Bool) → (a && b) ≡ true → (a ≡ true) × (b ≡ true)
-and_parts true b e = (refl, e)
-and_parts false b e = let k : false ≡ true = e in cc
-
-all_at : (p : Row → Bool) (rs : List Row) (i : ℕ) (d : Row) → list_all p rs ≡ true → i < length rs → p (get_or rs i d) ≡ true
-all_at p [] i d e l = absurd (omega arith)
-all_at p (r ∷ rs) zero d e l = (and_parts (p r) _ e).0
-all_at p (r ∷ rs) (suc i) d e l = all_at p rs i d (and_parts (p r) _ e).1 (omega arith)
-
 row_takes : (r : Row) → Contains table r → takes r.fields (names_in (classes r)) ≡ true
-row_takes r p = rw p.2 at (all_at (λ (s : Row). takes s.fields (names_in (classes s))) table p.0 r rows_take p.1)
+row_takes r p = rw p.2 at (list_all_at (λ (s : Row). takes s.fields (names_in (classes s))) table p.0 r rows_take p.1)
 
 names_count : (cs : List Class) (ts : List Lexeme) → fits_all cs ts ≡ true → length (names_at cs ts) ≡ names_in cs
 names_count [] [] e = refl

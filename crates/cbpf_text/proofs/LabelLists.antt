@@ -4,10 +4,11 @@ use Rattle.std.specs.Prelude.{bytes_eq}
 use Rattle.std.proofs.lemmas.List.Elements.{All-append}
 use Rattle.std.proofs.lemmas.List.Sums.{sum_by-append}
 use Rattle.cbpf_grammar.specs.Lexemes.{Lexeme}
+use Rattle.cbpf_grammar.proofs.Apart.{equal_bytes, bytes_eq_self}
 use Rattle.cbpf_text.specs.Labels.{name_of, times_among, AreDistinct}
 use Rattle.cbpf_text.specs.Drafts.{words}
 use Rattle.cbpf_text.specs.Tables.{Label, place_among}
-use Rattle.cbpf_text.proofs.Lists.{same_bytes_now, bytes_eq_self, all_one}
+use Rattle.cbpf_text.proofs.Lists.{all_one}
 
 pub times_append : (xs ys : List Lexeme) (name : List ℕ) → times_among (xs ++ ys) name ≡ times_among xs name + times_among ys name
 times_append xs ys name = sum_by-append (λ t. cond (bytes_eq (name_of t) name) 1 0) xs ys
@@ -32,7 +33,7 @@ distinct_more ts t h z =
     new = omega (arith, times_append ts (t ∷ []) (name_of t), z, times_hit t (name_of t) (bytes_eq_self (name_of t)))
 
     old : (u : Lexeme) → times_among ts (name_of u) ≡ 1 → (b : Bool) → bytes_eq (name_of t) (name_of u) ≡ b → times_among (ts ++ (t ∷ [])) (name_of u) ≡ 1
-    old u e true p = let s : times_among ts (name_of t) ≡ times_among ts (name_of u) = ap (times_among ts) (same_bytes_now (name_of t) (name_of u) p) in absurd (omega (arith, s, e, z))
+    old u e true p = let s : times_among ts (name_of t) ≡ times_among ts (name_of u) = ap (times_among ts) (equal_bytes (name_of t) (name_of u) p) in absurd (omega (arith, s, e, z))
     old u e false p = omega (arith, times_append ts (t ∷ []) (name_of u), e, times_miss t (name_of u) p)
 
 Found : List Lexeme → List ℕ → Type 0
@@ -44,7 +45,7 @@ found [] name m = absurd (m refl)
 found (u ∷ us) name m = by_test (bytes_eq (name_of u) name) refl (λ n. found us name n)
   where
     by_test : (b : Bool) → bytes_eq (name_of u) name ≡ b → (times_among us name ≢ 0 → Found us name) → Found (u ∷ us) name
-    by_test true e again = (0, omega arith, u, same_bytes_now (name_of u) name e)
+    by_test true e again = (0, omega arith, u, equal_bytes (name_of u) name e)
     by_test false e again =
         let f = again (λ z. m (omega (arith, times_cons u us name, times_miss u name e, z))) in
         (suc f.0, omega (arith, f.1), f.2, f.3)
@@ -92,5 +93,5 @@ place_more ls l name new = by_test (bytes_eq (name_of l.word) name) refl ∙ sym
     none_more (Some p) = refl
 
     by_test : (t : Bool) → bytes_eq (name_of l.word) name ≡ t → cond t (Some l.place) (place_among ls name) ≡ or_else (place_among ls name) (cond t (Some l.place) None)
-    by_test true e = let n : place_among ls name ≡ None = sym (ap (place_among ls) (same_bytes_now (name_of l.word) name e)) ∙ new in rw n refl
+    by_test true e = let n : place_among ls name ≡ None = sym (ap (place_among ls) (equal_bytes (name_of l.word) name e)) ∙ new in rw n refl
     by_test false e = none_more (place_among ls name)

@@ -1,8 +1,10 @@
 -- The labels and numbers of a listing, as segments.
 use Rattle.std.proofs.Common.{◌≡◌, ℕ, zero, suc, ◌^◌, ◌<◌, ◌≤◌, Bool, true, false, not, ◌&&◌, List, [], ◌∷◌, length, refl, ap, arith, lit<, Some, eqb-true, rules}
-use Rattle.std.specs.Prelude.{◌==◌, nat_le, decimal}
+use Rattle.std.specs.Prelude.{◌==◌, nat_le, decimal, bytes_eq}
 use Rattle.std.specs.List.{list_all}
 use Rattle.std.proofs.lemmas.Fmt.{decimal_nonempty}
+use Rattle.std.proofs.lemmas.Bool.{and_parts}
+use Rattle.std.proofs.Math.Bool.{and-false}
 use Rattle.cbpf_code.specs.Text.{hex}
 use Rattle.cbpf_lex.specs.Bytes.{is_digit, is_name_byte}
 use Rattle.cbpf_lex.specs.Numbers.{number_value}
@@ -11,14 +13,13 @@ use Rattle.cbpf_lex.proofs.Spelled.Segment.{word, number}
 use Rattle.cbpf_grammar.specs.Classes.{Class}
 use Rattle.cbpf_grammar.specs.Classes as forms
 use Rattle.cbpf_grammar.specs.Lexemes as grammar
-use Rattle.cbpf_grammar.specs.Lexemes.{Lexeme, same_bytes}
+use Rattle.cbpf_grammar.specs.Lexemes.{Lexeme}
 use Rattle.cbpf_grammar.specs.Fits.{fits, is_one_of, is_reserved, extension_names, mnemonic_words}
 use Rattle.cbpf_grammar.specs.Table.{operand_words, mnemonics}
 use Rattle.cbpf_grammar.specs.Items.{Item}
 use Rattle.cbpf_text.specs.Labels.{IsPlace}
 use Rattle.cbpf_text.proofs.ListedNumbers.{number_decimal, decimal_digits, decimal_names, hex_is_names, hex_value}
 use Rattle.cbpf_text.proofs.ListedRows.{first, rest}
-use Rattle.cbpf_lex.proofs.Cuts.{and_parts}
 
 abbrev pub label_name : ℕ → List ℕ
 label_name i = 108 ∷ decimal i
@@ -28,21 +29,13 @@ second_no_digit [] = true
 second_no_digit (a ∷ []) = true
 second_no_digit (a ∷ b ∷ bs) = not (is_digit b)
 
-differs : (d : ℕ) (ds w : List ℕ) → is_digit d ≡ true → second_no_digit w ≡ true → same_bytes (108 ∷ d ∷ ds) w ≡ false
+differs : (d : ℕ) (ds w : List ℕ) → is_digit d ≡ true → second_no_digit w ≡ true → bytes_eq (108 ∷ d ∷ ds) w ≡ false
 differs d ds [] h e = refl
-differs d ds (a ∷ []) h e = and_false (108 == a)
-  where
-    and_false : (t : Bool) → (t && false) ≡ false
-    and_false true = refl
-    and_false false = refl
+differs d ds (a ∷ []) h e = and-false (108 == a)
 differs d ds (a ∷ b ∷ bs) h e = by_test (d == b) refl
   where
-    both_false : (s t : Bool) → (s && (false && t)) ≡ false
-    both_false true t = refl
-    both_false false t = refl
-
-    by_test : (t : Bool) → (d == b) ≡ t → (108 == a && (t && same_bytes ds bs)) ≡ false
-    by_test false q = both_false (108 == a) (same_bytes ds bs)
+    by_test : (t : Bool) → (d == b) ≡ t → (108 == a && (t && bytes_eq ds bs)) ≡ false
+    by_test false q = and-false (108 == a)
     by_test true q = let k : not (is_digit d) ≡ true = rw (← eqb-true d b q) at e in let z : not true ≡ true = rw h at k in cc
 
 none_differs : (d : ℕ) (ds : List ℕ) (ws : List (List ℕ)) → is_digit d ≡ true → list_all second_no_digit ws ≡ true → is_one_of ws (108 ∷ d ∷ ds) ≡ false
@@ -106,10 +99,17 @@ is_decimal_segment k l =
     let m : k < 2 ^ 64 = omega arith in
     number_segment (decimal k) k (decimal_nonempty k m) (decimal_digits k m) (decimal_names k m) (number_decimal k m) l
 
--- `0`, or `0x` and hexadecimal digits
+-- `0` where the number is that, or `0x` and hexadecimal digits
+abbrev pub hex_rest : Bool → ℕ → List ℕ
+hex_rest true k = []
+hex_rest false k = 120 ∷ hex 1 k
+
+abbrev pub hex_given : Bool → ℕ → ℕ
+hex_given true k = 0
+hex_given false k = k
+
 abbrev pub hex_segment : Bool → ℕ → Segment
-hex_segment true k = number 48 [] 0
-hex_segment false k = number 48 (120 ∷ hex 1 k) k
+hex_segment t k = number 48 (hex_rest t k) (hex_given t k)
 
 ne_zero : (k : ℕ) → (k == 0) ≡ false → 0 < k
 ne_zero zero e = let z : true ≡ false = e in cc
@@ -118,3 +118,7 @@ ne_zero (suc k) e = omega arith
 pub is_hex_segment : (k : ℕ) (t : Bool) → (k == 0) ≡ t → k < 2 ^ 32 → IsSegment (hex_segment t k)
 is_hex_segment k true e l = (lit< tt, refl, refl, refl, lit< tt)
 is_hex_segment k false e l = (lit< tt, refl, hex_is_names k l, hex_value k l (ne_zero k e), l)
+
+pub given_is : (k : ℕ) (t : Bool) → (k == 0) ≡ t → k ≡ hex_given t k
+given_is k true e = eqb-true k 0 e
+given_is k false e = refl

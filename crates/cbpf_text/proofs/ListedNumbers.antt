@@ -1,27 +1,18 @@
 -- The numbers and labels of a listing, as the lexer reads them.
-use Rattle.std.proofs.Common.{◌≡◌, ℕ, zero, suc, ◌+◌, ◌-◌, ◌*◌, ◌/◌, ◌%◌, ◌^◌, ◌<◌, ◌≤◌, Bool, true, false, ◌&&◌, ◌||◌, cond, List, [], ◌∷◌, ◌++◌, length, get_or, drop, refl, ap, sym, subst, ◌∙◌, arith, Some, None, ◌⊎◌, inl, inr, eqb-true, lt-ltb, ltb-false, ltb-true, ne_eqb, length-append}
+use Rattle.std.proofs.Common.{◌≡◌, ℕ, zero, suc, ◌+◌, ◌-◌, ◌*◌, ◌/◌, ◌%◌, ◌^◌, ◌<◌, ◌≤◌, Bool, true, false, cond, List, [], ◌∷◌, ◌++◌, length, get_or, drop, refl, ap, sym, subst, ◌∙◌, arith, Some, None, eqb-true, lt-ltb, ltb-false, ltb-true, ne_eqb, length-append}
 use Rattle.std.specs.Prelude.{◌==◌, nat_lt, max, decimal}
 use Rattle.std.specs.List.{list_all}
 use Rattle.std.specs.Fmt.{digit_glyph}
 use Rattle.std.proofs.lemmas.Fmt.{decimal_by_steps, first_decimal, decimal_digit}
 use Rattle.std.proofs.lemmas.List.{drop-append-le, drop_all}
+use Rattle.std.proofs.Math.Bool.{or-true}
+use Rattle.std.proofs.lemmas.Bool.{and_parts}
 use Rattle.cbpf_lex.specs.Bytes.{is_letter, is_digit, is_name_byte}
 use Rattle.cbpf_lex.specs.Numbers.{digit_value, digits_value, number_value}
 use Rattle.cbpf_code.specs.Text.{hex}
 use Rattle.cbpf_code.specs.HexPlaces.{hex_digits}
 use Rattle.cbpf_code.proofs.HexLemmas.{hex-places}
-use Rattle.cbpf_lex.proofs.Cuts.{and_parts}
-
-abbrev all_below : ℕ → (ℕ → Bool) → Bool
-all_below zero p = true
-all_below (suc n) p = p n && all_below n p
-
-last_or_below : (b n : ℕ) → b < suc n → (b ≡ n) ⊎ (b < n)
-last_or_below b n l = grind arith
-
-holds_below : (n : ℕ) (p : ℕ → Bool) (b : ℕ) → all_below n p ≡ true → b < n → p b ≡ true
-holds_below zero p b e l = absurd (omega arith)
-holds_below (suc n) p b e l = elim (last_or_below b n l) [ inl h ↦ rw h (and_parts (p n) _ e).0 | inr h ↦ holds_below n p b (and_parts (p n) _ e).1 h ]
+use Rattle.cbpf_lex.proofs.Spelled.{holds_below}
 
 all_snoc : (p : ℕ → Bool) (xs : List ℕ) (x : ℕ) → list_all p xs ≡ true → p x ≡ true → list_all p (xs ++ x ∷ []) ≡ true
 all_snoc p [] x h e = rw e refl
@@ -68,13 +59,9 @@ pub number_decimal : (n : ℕ) → n < 2 ^ 64 → number_value (decimal n) ≡ S
 number_decimal zero l = rw (decimal_digit 0 (omega arith)) refl
 number_decimal (suc n) l = value_not_zero_led (decimal (suc n)) (suc n) (first_decimal (suc n) (omega arith) l) (reads_decimal (suc n) l).1
 
-or_true : (a : Bool) → (a || true) ≡ true
-or_true true = refl
-or_true false = refl
-
 digits_names : (ds : List ℕ) → list_all is_digit ds ≡ true → list_all is_name_byte ds ≡ true
 digits_names [] h = refl
-digits_names (d ∷ ds) h = let q : (is_digit d ≡ true) × (list_all is_digit ds ≡ true) = and_parts (is_digit d) _ h in rw (q.0, or_true (is_letter d), digits_names ds q.1) refl
+digits_names (d ∷ ds) h = let q : (is_digit d ≡ true) × (list_all is_digit ds ≡ true) = and_parts (is_digit d) _ h in rw (q.0, or-true (is_letter d), digits_names ds q.1) refl
 
 pub decimal_digits : (n : ℕ) → n < 2 ^ 64 → list_all is_digit (decimal n) ≡ true
 decimal_digits n l = (reads_decimal n l).0

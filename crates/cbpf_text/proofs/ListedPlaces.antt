@@ -5,8 +5,9 @@ use Rattle.std.proofs.lemmas.Fmt.{decimal_injective}
 use Rattle.std.proofs.lemmas.List.Elements.{All-append}
 use Rattle.cbpf_grammar.specs.Lexemes.{Lexeme}
 use Rattle.cbpf_grammar.specs.Items.{Item}
+use Rattle.cbpf_grammar.proofs.Apart.{equal_bytes, bytes_eq_self}
 use Rattle.cbpf_text.specs.Labels.{name_of, set_labels, times_among, times_set, AreDistinct, SetsAt}
-use Rattle.cbpf_text.proofs.Lists.{same_bytes_now, bytes_eq_self, all_one, all_none}
+use Rattle.cbpf_text.proofs.Lists.{all_one, all_none}
 use Rattle.cbpf_text.proofs.LabelLists.{times_append, times_miss, times_hit}
 use Rattle.cbpf_text.proofs.ListedLabels.{label_name, Places}
 
@@ -37,7 +38,7 @@ times_elsewhere i m item l k h n = rw h.only (times_miss h.label (label_name m) 
   where
     by_test : (t : Bool) → bytes_eq (name_of h.label) (label_name m) ≡ t → t ≡ false
     by_test false e = refl
-    by_test true e = absurd (n (label_differs i m l k (sym h.named ∙ same_bytes_now (name_of h.label) (label_name m) e)))
+    by_test true e = absurd (n (label_differs i m l k (sym h.named ∙ equal_bytes (name_of h.label) (label_name m) e)))
 
 -- how often the items set a label
 times_before : (i m : ℕ) (items : List Item) → i + length items < 2 ^ 64 → AreLabelled i items → m < i → times_set items (label_name m) ≡ 0

@@ -2,6 +2,7 @@
 use Rattle.std.proofs.Common.{◌≡◌, ℕ, suc, ◌+◌, ◌^◌, ◌<◌, true, false, List, [], ◌∷◌, ◌++◌, length, map, refl, ap, sym, ◌∙◌, append_assoc, append-nil, lit<, Some}
 use Rattle.std.specs.Prelude.{decimal, codes}
 use Rattle.std.specs.List.{flat_map, enumerate_from}
+use Rattle.std.proofs.lemmas.Bool.{and_parts}
 use Rattle.cbpf_code.specs.declared.insn.Insn.{Insn}
 use Rattle.cbpf_code.specs.declared.opcode.Op.{Op}
 use Rattle.cbpf_code.specs.Opcode.{op_of}
@@ -14,7 +15,7 @@ use Rattle.cbpf_grammar.specs.Lexemes.{Lexeme}
 use Rattle.cbpf_grammar.specs.Fits.{fits_all}
 use Rattle.cbpf_grammar.specs.Table.{Row, classes}
 use Rattle.cbpf_grammar.specs.Items.{Item, Form, Items}
-use Rattle.cbpf_grammar.proofs.Apart.{same_bytes_refl}
+use Rattle.cbpf_grammar.proofs.Apart.{bytes_eq_self}
 use Rattle.cbpf_listing.specs.Syntax.{mnemonic_of, operand_of}
 use Rattle.cbpf_listing.specs.Listing.{numbered_line, text_for, operand_text}
 use Rattle.cbpf_text.specs.Assembled.{EncodeEach, IsEncoded}
@@ -113,7 +114,7 @@ line_form at n i insn op s r l = record {
 }
   where
     body : fits_all (classes r.row) (body_tokens at i (mnemonic_of op) s.segments) ≡ true
-    body = rw (r.mnemonic, r.operand, (mnemonic_word op).0) (and_both _ _ (same_bytes_refl (mnemonic_of op)) (s.fits (operand_at at i (mnemonic_of op))))
+    body = rw (r.mnemonic, r.operand, (mnemonic_word op).0) (and_both _ _ (bytes_eq_self (mnemonic_of op)) (s.fits (operand_at at i (mnemonic_of op))))
 
 line_encoded : (at n i : ℕ) (insn : Insn) (op : Op) (s : Spells (operand_of op) n i insn) (r : HasRow op s.classes s.fields) → op_of insn.code ≡ Some op
     → (all : List Item) → Places n all → IsEncoded all i (line_item at i (mnemonic_of op) s.segments r.row) (plain insn)
@@ -128,13 +129,15 @@ pub lists_line : (n i : ℕ) (insn : Insn) (op : Op) (insns : List Insn) → op_
 lists_line n i insn op insns known l s b =
     let w = mnemonic_of op in
     let r : HasRow op s.classes s.fields = s.listed op refl in
+    let ends = and_parts _ _ s.apart in
+    let inside = and_parts _ _ ends.1 in
     record {
       segments = line_segments i w s.segments b.segments;
       text = line_text i insn op s.segments b.segments (flat_map numbered_line (enumerate_from (i + 1) insns)) known (mnemonic_word op).0 s.text b.text;
       are = (is_label_segment i l, ((lit< tt, refl), ((lit< tt, refl), (((mnemonic_word op).1, (mnemonic_word op).2, (mnemonic_word op).3), are_append s.segments (blank 10 ∷ b.segments) s.are ((lit< tt, refl), b.are)))));
       begins = refl;
-      apart = and_both _ _ (ends_before s.segments b.segments s.ends) (apart_before false s.segments b.segments s.apart b.begins b.apart);
-      positive = positive_append s.segments (blank 10 ∷ b.segments) s.positive b.positive;
+      apart = and_both _ _ (ends_before s.segments b.segments ends.0) (apart_before false s.segments b.segments inside.0 b.begins b.apart);
+      positive = positive_append s.segments (blank 10 ∷ b.segments) inside.1 b.positive;
       items = λ at. line_item at i w s.segments r.row ∷ b.items (behind_at at i w s.segments);
       size = λ at. ap suc (b.size (behind_at at i w s.segments));
       parsed = λ at. (line_tokens at i w s.segments, lexemes_at (behind_at at i w s.segments) b.segments, line_lexemes at i w s.segments b.segments, line_form at n i insn op s r l, b.parsed (behind_at at i w s.segments));

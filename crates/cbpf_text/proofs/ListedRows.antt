@@ -1,29 +1,27 @@
 -- Each operation has a row of the table for the tokens that a listing writes.
-use Rattle.std.proofs.Common.{◌≡◌, ℕ, ◌<◌, Bool, true, false, cond, ◌&&◌, List, [], ◌∷◌, refl, ap, ◌∙◌, eqb-true, ltb-true, Some}
-use Rattle.std.specs.Prelude.{◌==◌, nat_lt, codes, Contains}
+use Rattle.std.proofs.Common.{◌≡◌, ℕ, ◌<◌, Bool, true, false, cond, not, ◌&&◌, ◌||◌, List, [], ◌∷◌, refl, ap, ◌∙◌, eqb-true, ltb-true, Some}
+use Rattle.std.specs.Prelude.{◌==◌, nat_lt, codes, Contains, bytes_eq}
 use Rattle.std.specs.List.{list_all, list_any}
+use Rattle.std.proofs.lemmas.Bool.{and_parts}
+use Rattle.std.specs.Bool.{beq}
+use Rattle.std.specs.Cmp.{booleans_Decides}
 use Rattle.cbpf_code.specs.declared.insn.Insn.{Insn}
 use Rattle.cbpf_code.specs.declared.opcode.Op.{Op}
-use Rattle.cbpf_code.specs.declared.opcode.Op.TheVariants.{LdImm, LdAbs, LdInd, LdMem, LdLen, LdxImm, LdxMem, LdxLen, LdxMsh, St, Stx, Alu, Neg, Ja, Jump, RetK, RetA, Tax, Txa}
-use Rattle.cbpf_code.specs.declared.opcode.Size.{Size}
-use Rattle.cbpf_code.specs.declared.opcode.Size.TheVariants.{Word, Half, Byte}
-use Rattle.cbpf_code.specs.declared.opcode.Src.TheVariants as src
 use Rattle.cbpf_code.specs.Opcode.{op_table, look_up, op_of, code_of}
-use Rattle.cbpf_code.specs.Plain.{kept, plain, plain_for}
+use Rattle.cbpf_code.specs.Plain.{kept, plain, plain_for, uses_k, uses_offsets}
 use Rattle.cbpf_code.proofs.TableLemmas.{code_known}
 use Rattle.cbpf_lex.specs.Bytes.{is_letter, is_name_byte}
+use Rattle.cbpf_lex.proofs.Spelled.{implied}
 use Rattle.cbpf_grammar.specs.declared.table.Fields.{Fields}
 use Rattle.cbpf_grammar.specs.declared.table.Fields.TheVariants.{Constant, Goto, Branch}
 use Rattle.cbpf_grammar.specs.Classes.{Class}
 use Rattle.cbpf_grammar.specs.Classes.Class.{the_word, the_mark, literal, exactly, extension, name}
-use Rattle.cbpf_grammar.specs.Lexemes.{same_bytes}
 use Rattle.cbpf_grammar.specs.Table.{Row, table, mnemonics}
-use Rattle.cbpf_grammar.proofs.Apart.{same_bytes_eq}
+use Rattle.cbpf_grammar.proofs.Apart.{equal_bytes}
 use Rattle.cbpf_grammar.proofs.Elements.{some_element}
 use Rattle.cbpf_listing.specs.declared.syntax.Operand.{Operand}
 use Rattle.cbpf_listing.specs.declared.syntax.Operand.TheVariants as operands
 use Rattle.cbpf_listing.specs.Syntax.{mnemonic_of, operand_of}
-use Rattle.cbpf_lex.proofs.Cuts.{and_parts}
 
 -- the classes of the tokens that a listing writes after a mnemonic, and where they go
 abbrev pub operand_classes : Operand → List Class
@@ -41,21 +39,13 @@ operand_classes operands.ImmediateTwo = the_mark 35 ∷ literal ∷ the_mark 44 
 operand_classes operands.XTwo = the_word (codes "x") ∷ the_mark 44 ∷ name ∷ the_mark 44 ∷ name ∷ []
 
 abbrev pub operand_fields : Operand → Fields
-operand_fields operands.Bare = Constant
-operand_fields operands.X = Constant
-operand_fields operands.A = Constant
-operand_fields operands.Length = Constant
-operand_fields operands.Immediate = Constant
-operand_fields operands.Absolute = Constant
-operand_fields operands.Indexed = Constant
-operand_fields operands.Memory = Constant
-operand_fields operands.Header = Constant
 operand_fields operands.Label = Goto
 operand_fields operands.ImmediateTwo = Branch
 operand_fields operands.XTwo = Branch
+operand_fields o = Constant
 
 abbrev same_class : Class → Class → Bool
-same_class (the_word v) (the_word w) = same_bytes v w
+same_class (the_word v) (the_word w) = bytes_eq v w
 same_class (the_mark a) (the_mark b) = a == b
 same_class literal literal = true
 same_class (exactly m) (exactly n) = m == n
@@ -76,7 +66,7 @@ same_fields Branch Branch = true
 same_fields f g = false
 
 abbrev is_row_for : Op → List Class → Fields → Row → Bool
-is_row_for op cs f row = code_of row.op == code_of op && (same_bytes row.mnemonic (mnemonic_of op) && (same_classes row.operand cs && same_fields row.fields f))
+is_row_for op cs f row = code_of row.op == code_of op && (bytes_eq row.mnemonic (mnemonic_of op) && (same_classes row.operand cs && same_fields row.fields f))
 
 abbrev has_row : Op → Bool
 has_row op = list_any (is_row_for op (operand_classes (operand_of op)) (operand_fields (operand_of op))) table
@@ -86,15 +76,16 @@ operations_have_rows : list_all (λ (e : ℕ × Op). has_row e.1) op_table ≡ t
 unfolding mnemonics
 operations_have_rows = refl
 
--- and where k is an extension's place, the one with its name
-load_has_row : (s : Size) → list_any (is_row_for (LdAbs s) (extension ∷ []) Constant) table ≡ true
+-- and where k may be an extension's place, the one with its name
+abbrev has_named_row : Op → Bool
+has_named_row op = not (same_classes (operand_classes (operand_of op)) (operand_classes operands.Absolute)) || list_any (is_row_for op (extension ∷ []) Constant) table
+
+operations_have_named_rows : list_all (λ (e : ℕ × Op). has_named_row e.1) op_table ≡ true
 unfolding mnemonics
-load_has_row Word = refl
-load_has_row Half = refl
-load_has_row Byte = refl
+operations_have_named_rows = refl
 
 same_class_eq : (c d : Class) → same_class c d ≡ true → c ≡ d
-same_class_eq (the_word v) (the_word w) e = ap the_word (same_bytes_eq v w e)
+same_class_eq (the_word v) (the_word w) e = ap the_word (equal_bytes v w e)
 same_class_eq (the_mark a) (the_mark b) e = ap the_mark (eqb-true a b e)
 same_class_eq literal literal e = refl
 same_class_eq (exactly m) (exactly n) e = ap exactly (eqb-true m n e)
@@ -131,19 +122,19 @@ found_row : (op : Op) (cs : List Class) (f : Fields) → list_any (is_row_for op
 found_row op cs f e =
     let r = some_element (is_row_for op cs f) table e in
     let p = and_parts (code_of r.0.op == code_of op) _ r.2 in
-    let q = and_parts (same_bytes r.0.mnemonic (mnemonic_of op)) _ p.1 in
+    let q = and_parts (bytes_eq r.0.mnemonic (mnemonic_of op)) _ p.1 in
     let s = and_parts (same_classes r.0.operand cs) _ q.1 in
     record {
       row = r.0;
       known = r.1;
       code = eqb-true (code_of r.0.op) (code_of op) p.0;
-      mnemonic = same_bytes_eq r.0.mnemonic (mnemonic_of op) q.0;
+      mnemonic = equal_bytes r.0.mnemonic (mnemonic_of op) q.0;
       operand = same_classes_eq r.0.operand cs s.0;
       fields = same_fields_eq r.0.fields f s.1;
     }
 
 -- what holds of each entry of a table holds of what is found in it
-looked_up : {V : Type 0} (p : V → Bool) (t : List (ℕ × V)) (key : ℕ) (v : V) → list_all (λ (e : ℕ × V). p e.1) t ≡ true → look_up t key ≡ Some v → p v ≡ true
+pub looked_up : {V : Type 0} (p : V → Bool) (t : List (ℕ × V)) (key : ℕ) (v : V) → list_all (λ (e : ℕ × V). p e.1) t ≡ true → look_up t key ≡ Some v → p v ≡ true
 looked_up p [] key v a found = cc
 looked_up p (e ∷ es) key v a found = by_test (key == e.0) found (λ f. looked_up p es key v (and_parts (p e.1) _ a).1 f)
   where
@@ -159,30 +150,9 @@ pub operation_row : (op : Op) (o : Operand) → operand_of op ≡ o → HasRow o
 operation_row op o e = rw (← e) (found_row op (operand_classes (operand_of op)) (operand_fields (operand_of op)) (holds_for_all has_row operations_have_rows op))
 
 pub named_row : (op : Op) → operand_of op ≡ operands.Absolute → HasRow op (extension ∷ []) Constant
-named_row op e = by_op op e
-  where
-    by_op : (op : Op) → operand_of op ≡ operands.Absolute → HasRow op (extension ∷ []) Constant
-    by_op (LdAbs s) e = found_row (LdAbs s) (extension ∷ []) Constant (load_has_row s)
-    by_op LdImm e = cc
-    by_op (LdInd s) e = cc
-    by_op LdMem e = cc
-    by_op LdLen e = cc
-    by_op LdxImm e = cc
-    by_op LdxMem e = cc
-    by_op LdxLen e = cc
-    by_op LdxMsh e = cc
-    by_op St e = cc
-    by_op Stx e = cc
-    by_op (Alu a src.K) e = cc
-    by_op (Alu a src.X) e = cc
-    by_op Neg e = cc
-    by_op Ja e = cc
-    by_op (Jump c src.K) e = cc
-    by_op (Jump c src.X) e = cc
-    by_op RetK e = cc
-    by_op RetA e = cc
-    by_op Tax e = cc
-    by_op Txa e = cc
+named_row op e =
+    let absolute : same_classes (operand_classes (operand_of op)) (operand_classes operands.Absolute) ≡ true = rw e refl in
+    found_row op (extension ∷ []) Constant (implied _ _ (holds_for_all has_named_row operations_have_named_rows op) absolute)
 
 -- a mnemonic is a word
 abbrev pub first : List ℕ → ℕ
@@ -196,11 +166,11 @@ rest (b ∷ bs) = bs
 abbrev pub IsWord : List ℕ → Type 0
 IsWord w = (first w ∷ rest w ≡ w) × (first w < 256) × (is_letter (first w) ≡ true) × (list_all is_name_byte (rest w) ≡ true)
 
-abbrev is_word : List ℕ → Bool
+abbrev pub is_word : List ℕ → Bool
 is_word [] = false
 is_word (b ∷ bs) = nat_lt b 256 && (is_letter b && list_all is_name_byte bs)
 
-word_of_test : (w : List ℕ) → is_word w ≡ true → IsWord w
+pub word_of_test : (w : List ℕ) → is_word w ≡ true → IsWord w
 word_of_test [] e = let k : false ≡ true = e in cc
 word_of_test (b ∷ bs) e =
     let p = and_parts (nat_lt b 256) _ e in
@@ -219,54 +189,29 @@ keeps_k operands.Bare = false
 keeps_k operands.X = false
 keeps_k operands.A = false
 keeps_k operands.Length = false
-keeps_k operands.Immediate = true
-keeps_k operands.Absolute = true
-keeps_k operands.Indexed = true
-keeps_k operands.Memory = true
-keeps_k operands.Header = true
-keeps_k operands.Label = true
-keeps_k operands.ImmediateTwo = true
 keeps_k operands.XTwo = false
+keeps_k o = true
 
 abbrev pub keeps_offsets : Operand → Bool
-keeps_offsets operands.Bare = false
-keeps_offsets operands.X = false
-keeps_offsets operands.A = false
-keeps_offsets operands.Length = false
-keeps_offsets operands.Immediate = false
-keeps_offsets operands.Absolute = false
-keeps_offsets operands.Indexed = false
-keeps_offsets operands.Memory = false
-keeps_offsets operands.Header = false
-keeps_offsets operands.Label = false
 keeps_offsets operands.ImmediateTwo = true
 keeps_offsets operands.XTwo = true
+keeps_offsets o = false
 
 abbrev pub plain_as : Operand → Insn → Insn
 plain_as o insn = record insn { jt = kept (keeps_offsets o) insn.jt; jf = kept (keeps_offsets o) insn.jf; k = kept (keeps_k o) insn.k }
 
+abbrev keeps_its_fields : Op → Bool
+keeps_its_fields op = beq (uses_k op) (keeps_k (operand_of op)) && beq (uses_offsets op) (keeps_offsets (operand_of op))
+
+operations_keep_their_fields : list_all (λ (e : ℕ × Op). keeps_its_fields e.1) op_table ≡ true
+operations_keep_their_fields = refl
+
 plain_by : (insn : Insn) (op : Op) → plain_for insn (Some op) ≡ plain_as (operand_of op) insn
-plain_by insn LdImm = refl
-plain_by insn (LdAbs s) = refl
-plain_by insn (LdInd s) = refl
-plain_by insn LdMem = refl
-plain_by insn LdLen = refl
-plain_by insn LdxImm = refl
-plain_by insn LdxMem = refl
-plain_by insn LdxLen = refl
-plain_by insn LdxMsh = refl
-plain_by insn St = refl
-plain_by insn Stx = refl
-plain_by insn (Alu a src.K) = refl
-plain_by insn (Alu a src.X) = refl
-plain_by insn Neg = refl
-plain_by insn Ja = refl
-plain_by insn (Jump c src.K) = refl
-plain_by insn (Jump c src.X) = refl
-plain_by insn RetK = refl
-plain_by insn RetA = refl
-plain_by insn Tax = refl
-plain_by insn Txa = refl
+plain_by insn op =
+    let p = and_parts (beq (uses_k op) (keeps_k (operand_of op))) _ (holds_for_all keeps_its_fields operations_keep_their_fields op) in
+    let k : uses_k op ≡ keeps_k (operand_of op) = (booleans_Decides _ _).0 p.0 in
+    let o : uses_offsets op ≡ keeps_offsets (operand_of op) = (booleans_Decides _ _).0 p.1 in
+    λ i. record insn { jt = kept (o i) insn.jt; jf = kept (o i) insn.jf; k = kept (k i) insn.k }
 
 pub plain_is : (insn : Insn) (op : Op) → op_of insn.code ≡ Some op → plain insn ≡ plain_as (operand_of op) insn
 plain_is insn op e = ap (plain_for insn) e ∙ plain_by insn op

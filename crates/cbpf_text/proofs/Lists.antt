@@ -1,16 +1,6 @@
 -- Small facts on lists and names.
-use Rattle.std.proofs.Common.{◌≡◌, refl, ap, ℕ, zero, suc, ◌<◌, true, List, [], ◌∷◌, ◌++◌, length, take, drop, get_or, Option, Some, None, arith}
-use Rattle.std.specs.Prelude.{slice_get, bytes_eq, All}
-use Rattle.std.proofs.lemmas.Slice.Eq.{bytes_eq-Decides}
-
-pub same_bytes_now : (v w : List ℕ) → bytes_eq v w ≡ true → v ≡ w
-same_bytes_now v w e = (bytes_eq-Decides v w).0 e
-
-pub bytes_eq_self : (v : List ℕ) → bytes_eq v v ≡ true
-bytes_eq_self v = (bytes_eq-Decides v v).1 refl
-
-pub same_some : {A : Type 0} (x y : A) → ◌≡◌ {A = Option A} (Some x) (Some y) → x ≡ y
-same_some x y e = cc
+use Rattle.std.proofs.Common.{◌≡◌, refl, ap, ℕ, zero, suc, ◌<◌, List, [], ◌∷◌, ◌++◌, length, take, drop, get_or, Option, Some, None, arith}
+use Rattle.std.specs.Prelude.{slice_get, All}
 
 pub get_within : {A : Type 0} (xs : List A) (i : ℕ) (x : A) → slice_get xs i ≡ Some x → i < length xs
 get_within [] i x e = let k : ◌≡◌ {A = Option _} None (Some x) = e in cc

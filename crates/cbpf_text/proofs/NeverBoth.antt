@@ -8,6 +8,7 @@ use Rattle.cbpf_grammar.specs.Lexemes.{Lexeme, lexemes_of}
 use Rattle.cbpf_grammar.specs.Items.{Item}
 use Rattle.cbpf_grammar.proofs.OneReading.{one_reading}
 use Rattle.cbpf_grammar.proofs.Refused.{items_accepted}
+use Rattle.cbpf_grammar.proofs.Apart.{bytes_eq_self}
 use Rattle.cbpf_text.specs.declared.fault.AsmKind.{AsmKind}
 use Rattle.cbpf_text.specs.declared.fault.AsmFault.{AsmFault}
 use Rattle.cbpf_text.specs.declared.fault.AsmFault.TheVariants as faults
@@ -19,7 +20,7 @@ use Rattle.cbpf_text.specs.Refusals.IsItemsFault.{no_item, too_many, set_twice, 
 use Rattle.cbpf_text.specs.Refusals.IsTokensFault.{misplaced, large_negative, unfinished, of_items}
 use Rattle.cbpf_text.specs.Refusals.IsRefused.{memory, piece, token}
 use Rattle.cbpf_text.specs.Laws.{NeverBoth}
-use Rattle.cbpf_text.proofs.Lists.{get_within, all_front, all_behind, bytes_eq_self}
+use Rattle.cbpf_text.proofs.Lists.{get_within, all_front, all_behind}
 use Rattle.cbpf_text.proofs.LabelLists.{times_append, times_cons, times_hit}
 use Rattle.cbpf_text.proofs.Forms.{items_forms}
 use Rattle.cbpf_text.proofs.Encoding.{good_uses}

@@ -11,6 +11,7 @@ use Rattle.cbpf_text.specs.declared.fault.AsmKind.{AsmKind}
 use Rattle.cbpf_text.specs.declared.fault.AsmFault.{AsmFault}
 use Rattle.cbpf_text.specs.declared.fault.AsmFault.TheVariants as faults
 use Rattle.cbpf_lex.specs.Tokens.{line_of}
+use Rattle.cbpf_lex.proofs.Cuts.{some-same}
 use Rattle.cbpf_text.specs.Labels.{name_of, set_labels, times_set, AreDistinct, SetsAt}
 use Rattle.cbpf_text.specs.Refusals.{Use, IsUseFault, IsGoodUse, IsFirstRepeat, IsFirstBadUse, IsItemsFault, IsTokensFault, IsRefused, uses_from, piece_kind}
 use Rattle.cbpf_text.specs.Refusals.IsUseFault.{not_set, not_after, too_far}
@@ -18,7 +19,7 @@ use Rattle.cbpf_text.specs.Refusals.IsItemsFault.{no_item, too_many, set_twice, 
 use Rattle.cbpf_text.specs.Refusals.IsTokensFault.{misplaced, large_negative, unfinished, of_items}
 use Rattle.cbpf_text.specs.Refusals.IsRefused.{memory, piece, token}
 use Rattle.cbpf_text.specs.Laws.{OneRefusal}
-use Rattle.cbpf_text.proofs.Lists.{get_within, same_some}
+use Rattle.cbpf_text.proofs.Lists.{get_within}
 use Rattle.cbpf_text.proofs.LabelLists.{distinct_once}
 use Rattle.cbpf_text.proofs.Lookups.{sets_some, one_place}
 use Rattle.cbpf_text.proofs.NeverBoth.{all_middle, no_repeat}
@@ -89,8 +90,8 @@ of_length is item e g = let h : 4096 < length is = get_within is 4096 item g in 
 
 one_mnemonic : (is : List Item) (i j : Item) (t u : Lexeme) → slice_get is 4096 ≡ Some i → slice_get is 4096 ≡ Some j → slice_get i.body 0 ≡ Some t → slice_get j.body 0 ≡ Some u → t ≡ u
 one_mnemonic is i j t u g h p q =
-    let e : i ≡ j = same_some i j (sym g ∙ h) in
-    same_some t u (sym p ∙ (ap (λ (k : Item). slice_get k.body 0) e ∙ q))
+    let e : i ≡ j = some-same i j (sym g ∙ h) in
+    some-same t u (sym p ∙ (ap (λ (k : Item). slice_get k.body 0) e ∙ q))
 
 one_of_items : (is : List Item) (k l : AsmKind) (m n : ℕ) → IsItemsFault is k m → IsItemsFault is l n → (k ≡ l) × (m ≡ n)
 one_of_items is k l m n (no_item e) (no_item f) = (refl, refl)
@@ -126,7 +127,7 @@ large_unfinished : (i : ℕ) → parse.LargeNegative i ≡ parse.Unfinished → 
 large_unfinished i e = cc
 
 one_token : (ts : List Lexeme) (i j : ℕ) (t u : Lexeme) → i ≡ j → slice_get ts i ≡ Some t → slice_get ts j ≡ Some u → t.at ≡ u.at
-one_token ts i j t u e g h = ap (λ (v : Lexeme). v.at) (same_some t u (sym g ∙ (ap (slice_get ts) e ∙ h)))
+one_token ts i j t u e g h = ap (λ (v : Lexeme). v.at) (some-same t u (sym g ∙ (ap (slice_get ts) e ∙ h)))
 
 one_of_tokens : (ts : List Lexeme) (k l : AsmKind) (m n : ℕ) → IsTokensFault ts k m → IsTokensFault ts l n → (k ≡ l) × (m ≡ n)
 one_of_tokens ts k l m n (misplaced i t r g) (misplaced j u s h) = (refl, one_token ts i j t u (same_misplaced i j (grammar.one_refusal ts (parse.Misplaced i) (parse.Misplaced j) r s)) g h)
@@ -139,7 +140,7 @@ one_of_tokens ts k l m n (large_negative i t r g) (unfinished u s h) = absurd (l
 one_of_tokens ts k l m n (large_negative i t r g) (of_items is c p x a f) = absurd (a (parse.LargeNegative i) r.place r.refused)
 one_of_tokens ts k l m n (unfinished t r g) (misplaced j u s h) = absurd (misplaced_unfinished j (grammar.one_refusal ts (parse.Misplaced j) parse.Unfinished s r))
 one_of_tokens ts k l m n (unfinished t r g) (large_negative j u s h) = absurd (large_unfinished j (grammar.one_refusal ts (parse.LargeNegative j) parse.Unfinished s r))
-one_of_tokens ts k l m n (unfinished t r g) (unfinished u s h) = (refl, ap (λ (v : Lexeme). v.at) (same_some t u (sym g ∙ h)))
+one_of_tokens ts k l m n (unfinished t r g) (unfinished u s h) = (refl, ap (λ (v : Lexeme). v.at) (some-same t u (sym g ∙ h)))
 one_of_tokens ts k l m n (unfinished t r g) (of_items is c p x a f) = absurd (a parse.Unfinished r.place r.refused)
 one_of_tokens ts k l m n (of_items is c p x a f) (misplaced j u s h) = absurd (a (parse.Misplaced j) s.place s.refused)
 one_of_tokens ts k l m n (of_items is c p x a f) (large_negative j u s h) = absurd (a (parse.LargeNegative j) s.place s.refused)

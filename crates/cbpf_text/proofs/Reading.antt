@@ -11,12 +11,12 @@ use Rattle.cbpf_grammar.specs.Views.{lexeme_of, row_of, label_words}
 use Rattle.cbpf_grammar.specs.Reading.{Ahead, IsReading, IsRefusedFor, IsFirstLarge}
 use Rattle.std.specs.Prelude.{Ok}
 use Rattle.std.proofs.Math.Seq.{take-append_seam}
+use Rattle.std.proofs.lemmas.Bool.{and_parts}
 use Rattle.cbpf_grammar.specs.declared.item.Row as declared_row
 use Rattle.cbpf_grammar.specs.Classes.Class.{the_mark, name}
 use Rattle.cbpf_grammar.specs.Fits.{fits}
 use Rattle.cbpf_grammar.specs.Steps.{IsInstruction, IsNextItem, Stuck, AreLabels, starts_with_label}
 use Rattle.cbpf_grammar.specs.Refusals.{IsStuckAt}
-use Rattle.cbpf_grammar.proofs.Apart.{and_parts}
 use Rattle.cbpf_grammar.proofs.Greedy.{Greedy}
 use Rattle.cbpf_grammar.proofs.Labels.{labels_item, labels_stuck, labels_append}
 use Rattle.cbpf_grammar.proofs.Taking.{taken_is, ahead_is}

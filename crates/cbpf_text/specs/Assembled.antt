@@ -1,4 +1,5 @@
--- Which instructions a source text stands for: opcodes, literals and jump offsets as in the kernel's Documentation/networking/filter, as a relation between whole lists.
+-- Which instructions a source text stands for: opcodes, literals and jump offsets as in the kernel's
+-- Documentation/networking/filter, as a relation between whole lists.
 use Rattle.std.specs.Prelude.{◌≡◌, ℕ, ◌+◌, ◌<◌, ◌≤◌, List, [], ◌∷◌, length, slice_get, Option, Some, None}
 use Rattle.cbpf_lex.specs.declared.token.Token.{Token}
 use Rattle.cbpf_lex.specs.Tokens.{Lexes}
@@ -25,9 +26,12 @@ pub record IsShortOffset (items : List Item) (index : ℕ) (target : Option Lexe
 -- where the literal and the offsets of the targets stand
 abbrev pub FillsFields : Fields → List Item → ℕ → ℕ → List Lexeme → Insn → Type 0
 FillsFields Constant items index k targets insn = (insn.jt ≡ 0) × (insn.jf ≡ 0) × (insn.k ≡ k)
-FillsFields Goto items index k targets insn = (insn.jt ≡ 0) × (insn.jf ≡ 0) × IsOffset items index (slice_get targets 0) insn.k
-FillsFields Branch items index k targets insn = IsShortOffset items index (slice_get targets 0) insn.jt × IsShortOffset items index (slice_get targets 1) insn.jf × (insn.k ≡ k)
-FillsFields Swapped items index k targets insn = (insn.jt ≡ 0) × IsShortOffset items index (slice_get targets 0) insn.jf × (insn.k ≡ k)
+FillsFields Goto items index k targets insn = (insn.jt ≡ 0) × (insn.jf ≡ 0)
+    × IsOffset items index (slice_get targets 0) insn.k
+FillsFields Branch items index k targets insn = IsShortOffset items index (slice_get targets 0) insn.jt
+    × IsShortOffset items index (slice_get targets 1) insn.jf × (insn.k ≡ k)
+FillsFields Swapped items index k targets insn = (insn.jt ≡ 0)
+    × IsShortOffset items index (slice_get targets 0) insn.jf × (insn.k ≡ k)
 
 -- the instruction is that of the item at the index
 pub record IsEncoded (items : List Item) (index : ℕ) (item : Item) (insn : Insn) : Type 0 where
@@ -39,12 +43,14 @@ pub record HasProgramLength (items : List Item) : Type 0 where
   pub some : 0 < length items
   pub most : length items ≤ 4096
 
--- the instructions are those of the items, of which the first has the index, one for each; all items together set the labels
+-- the instructions are those of the items, of which the first has the index, one for each; all items together set the
+-- labels
 abbrev pub EncodeEach : List Item → ℕ → List Item → List Insn → Type 0
 EncodeEach all index [] [] = Unit {0}
 EncodeEach all index [] (insn ∷ insns) = ⊥
 EncodeEach all index (item ∷ items) [] = ⊥
-EncodeEach all index (item ∷ items) (insn ∷ insns) = IsEncoded all index item insn × EncodeEach all (index + 1) items insns
+EncodeEach all index (item ∷ items) (insn ∷ insns) = IsEncoded all index item insn
+    × EncodeEach all (index + 1) items insns
 
 -- there are 1 to 4096 items, each label is set once, and the instructions are the items'
 pub record AreEncoded (items : List Item) (insns : List Insn) : Type 0 where

@@ -1,4 +1,5 @@
--- What the assembler keeps of the items that it has read: their opcodes, literals, targets and labels, as the addressing modes of the kernel's Documentation/networking/filter have them.
+-- What the assembler keeps of the items that it has read: their opcodes, literals, targets and labels, as the
+-- addressing modes of the kernel's Documentation/networking/filter have them.
 use Rattle.std.specs.Prelude.{◌≡◌, ◌≤◌, ℕ, List, [], ◌∷◌, ◌++◌, length, map, slice_get, Option, Some, None}
 use Rattle.cbpf_code.specs.Opcode.{code_of}
 use Rattle.cbpf_grammar.specs.Lexemes.{Lexeme}
@@ -39,13 +40,15 @@ AreStatements (s ∷ ss) (i ∷ is) = IsStatement s i × AreStatements ss is
 abbrev pub words : List Label → List Lexeme
 words ls = map (λ (l : Label). l.word) ls
 
--- the look-ups answer where the labels are set, each once; or the place is that of the first label that is set a second time
+-- the look-ups answer where the labels are set, each once; or the place is that of the first label that is set a
+-- second time
 abbrev pub AreSet : List Label → Option ℕ → (Name → Option ℕ) → Type 0
 AreSet ls None lookup = ((k : Name) → lookup k ≡ place_among ls k.bytes.now) × AreDistinct (words ls)
 AreSet ls (Some at) lookup = (label : Lexeme) × (at ≡ label.at) × IsFirstRepeat (words ls) label
 
 -- the statements and labels are those of the items, and of labels after them that wait for theirs
-pub record IsKept (statements : List Statement) (repeat : Option ℕ) (lookup : Name → Option ℕ) (items : List Item) (waiting : List Lexeme) : Type 0 where
+pub record IsKept (statements : List Statement) (repeat : Option ℕ) (lookup : Name → Option ℕ)
+    (items : List Item) (waiting : List Lexeme) : Type 0 where
   pub same : AreStatements statements items
   pub set : AreSet (labels_from 0 items ++ labels_of (length items) (label_words waiting)) repeat lookup
   pub most : length items ≤ 4096

@@ -1,4 +1,5 @@
--- Which labels a list of items sets, and where: labels as the kernel's Documentation/networking/filter has them, each a name for the instruction after it.
+-- Which labels a list of items sets, and where: labels as the kernel's Documentation/networking/filter has them, each
+-- a name for the instruction after it.
 use Rattle.std.specs.Prelude.{◌≡◌, ◌≢◌, ℕ, List, [], bytes_eq, count_by, flat_map, slice_get, Some, All}
 use Rattle.cbpf_grammar.specs.Lexemes.{Symbol, Lexeme}
 use Rattle.cbpf_grammar.specs.Lexemes.Symbol.{word, number, mark}

@@ -1,4 +1,5 @@
--- Laws of the definitions: a text assembles to at most one list of instructions, has at most one refusal with a line, and never both; the listing of a checked program assembles to the plain forms of its instructions.
+-- Laws of the definitions: a text assembles to at most one list of instructions, has at most one refusal with a line,
+-- and never both; the listing of a checked program assembles to the plain forms of its instructions.
 use Rattle.std.specs.Prelude.{◌≡◌, ◌⊎◌, ℕ, List, map, All, Result, Ok, Err, IfOk, IfErr}
 use Rattle.cbpf_code.specs.declared.insn.Insn.{Insn}
 use Rattle.cbpf_code.specs.Plain.{plain}
@@ -16,10 +17,12 @@ OneAssembly = (text : List ℕ) (xs ys : List Insn) → Assembles text xs → As
 
 -- out of memory aside, a text is refused for one reason, at one line
 abbrev pub OneRefusal : Type 0
-OneRefusal = (text : List ℕ) (kind other : AsmKind) (line place : ℕ) → IsRefused text (At kind line) → IsRefused text (At other place) → (kind ≡ other) × (line ≡ place)
+OneRefusal = (text : List ℕ) (kind other : AsmKind) (line place : ℕ) → IsRefused text (At kind line)
+    → IsRefused text (At other place) → (kind ≡ other) × (line ≡ place)
 
 abbrev pub NeverBoth : Type 0
-NeverBoth = (text : List ℕ) (xs : List Insn) (kind : AsmKind) (line : ℕ) → Assembles text xs → IsRefused text (At kind line) → ⊥
+NeverBoth = (text : List ℕ) (xs : List Insn) (kind : AsmKind) (line : ℕ) → Assembles text xs
+    → IsRefused text (At kind line) → ⊥
 
 -- a list in which the checker finds no fault, of instructions whose fields are in their types' ranges
 abbrev pub ListingAssembles : Type 0

@@ -1,4 +1,5 @@
--- The literal and the targets of an instruction, by the addressing modes of the kernel's Documentation/networking/filter: numbers, extensions' names and labels.
+-- The literal and the targets of an instruction, by the addressing modes of the kernel's
+-- Documentation/networking/filter: numbers, extensions' names and labels.
 use Rattle.std.specs.Prelude.{◌≡◌, ℕ, true, Contains, ◌-◌, ◌%◌, ◌^◌, List, [], ◌∷◌, Option, Some, None, bytes_eq, if◌then◌else◌}
 use Rattle.cbpf_code.specs.declared.extension.Ext.{Ext}
 use Rattle.cbpf_code.specs.Extension.{ext_table, ext_name}

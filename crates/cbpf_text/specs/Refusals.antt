@@ -1,4 +1,5 @@
--- Why a source text is refused, and the line that is reported: this project's own rules, as the kernel's Documentation/networking/filter has no faults.
+-- Why a source text is refused, and the line that is reported: this project's own rules, as the kernel's
+-- Documentation/networking/filter has no faults.
 use Rattle.std.specs.Prelude.{◌≡◌, ◌≢◌, ℕ, ◌+◌, ◌-◌, ◌<◌, ◌≤◌, Bool, true, false, List, [], ◌∷◌, ◌++◌, length, map, slice_get, Option, Some, None, All}
 use Rattle.cbpf_lex.specs.declared.token.Token.{Token}
 use Rattle.cbpf_lex.specs.declared.token.BadPiece.{BadPiece}
@@ -46,7 +47,8 @@ is_conditional Branch = true
 is_conditional Swapped = true
 
 abbrev pub uses_of : ℕ → Item → List Use
-uses_of index item = map (λ t. record { index = index; target = t; short = is_conditional item.row.fields }) (targets_in item)
+uses_of index item =
+    map (λ t. record { index = index; target = t; short = is_conditional item.row.fields }) (targets_in item)
 
 -- the uses of items of which the first has the index, in text order
 abbrev pub uses_from : ℕ → List Item → List Use
@@ -57,7 +59,8 @@ uses_from index (item ∷ items) = uses_of index item ++ uses_from (index + 1) i
 pub data IsUseFault (items : List Item) (u : Use) : AsmKind → Type 0 where
   not_set : times_set items (name_of u.target) ≡ 0 → IsUseFault items u kinds.LabelNotSet
   not_after : (place : ℕ) → SetsAt items place (name_of u.target) → place ≤ u.index → IsUseFault items u kinds.NotAfter
-  too_far : (place : ℕ) → SetsAt items place (name_of u.target) → u.short ≡ true → u.index + 256 < place → IsUseFault items u kinds.TooFar
+  too_far : (place : ℕ) → SetsAt items place (name_of u.target) → u.short ≡ true → u.index + 256 < place
+      → IsUseFault items u kinds.TooFar
 
 abbrev pub IsGoodUse : List Item → Use → Type 0
 IsGoodUse items u = (kind : AsmKind) → IsUseFault items u kind → ⊥
@@ -75,22 +78,30 @@ pub record IsFirstBadUse (items : List Item) (uses : List Use) (kind : AsmKind) 
 -- why items are refused, and the place in the text that shows it
 pub data IsItemsFault (items : List Item) : AsmKind → ℕ → Type 0 where
   no_item : items ≡ [] → IsItemsFault items kinds.NoInstruction 0
-  too_many : (item : Item) (mnemonic : Lexeme) → slice_get items 4096 ≡ Some item → slice_get item.body 0 ≡ Some mnemonic → IsItemsFault items kinds.TooMany mnemonic.at
-  set_twice : (label : Lexeme) → HasProgramLength items → IsFirstRepeat (set_labels items) label → IsItemsFault items kinds.LabelSetTwice label.at
-  bad_use : (kind : AsmKind) (at : ℕ) → HasProgramLength items → AreDistinct (set_labels items) → IsFirstBadUse items (uses_from 0 items) kind at → IsItemsFault items kind at
+  too_many : (item : Item) (mnemonic : Lexeme) → slice_get items 4096 ≡ Some item
+      → slice_get item.body 0 ≡ Some mnemonic → IsItemsFault items kinds.TooMany mnemonic.at
+  set_twice : (label : Lexeme) → HasProgramLength items → IsFirstRepeat (set_labels items) label
+      → IsItemsFault items kinds.LabelSetTwice label.at
+  bad_use : (kind : AsmKind) (at : ℕ) → HasProgramLength items → AreDistinct (set_labels items)
+      → IsFirstBadUse items (uses_from 0 items) kind at → IsItemsFault items kind at
 
 -- why tokens are refused, and the place: the first refusal of the grammar, and where there is none that of the items
 pub data IsTokensFault (ts : List Lexeme) : AsmKind → ℕ → Type 0 where
-  misplaced : (i : ℕ) (t : Lexeme) → IsFirstRefusal ts (parse.Misplaced i) → slice_get ts i ≡ Some t → IsTokensFault ts kinds.Misplaced t.at
-  large_negative : (i : ℕ) (t : Lexeme) → IsFirstRefusal ts (parse.LargeNegative i) → slice_get ts i ≡ Some t → IsTokensFault ts kinds.LargeNumber t.at
-  unfinished : (t : Lexeme) → IsFirstRefusal ts parse.Unfinished → slice_get ts (length ts - 1) ≡ Some t → IsTokensFault ts kinds.Unfinished t.at
-  of_items : (items : List Item) (kind : AsmKind) (at : ℕ) → Items ts items → IsAccepted ts → IsItemsFault items kind at → IsTokensFault ts kind at
+  misplaced : (i : ℕ) (t : Lexeme) → IsFirstRefusal ts (parse.Misplaced i) → slice_get ts i ≡ Some t
+      → IsTokensFault ts kinds.Misplaced t.at
+  large_negative : (i : ℕ) (t : Lexeme) → IsFirstRefusal ts (parse.LargeNegative i) → slice_get ts i ≡ Some t
+      → IsTokensFault ts kinds.LargeNumber t.at
+  unfinished : (t : Lexeme) → IsFirstRefusal ts parse.Unfinished → slice_get ts (length ts - 1) ≡ Some t
+      → IsTokensFault ts kinds.Unfinished t.at
+  of_items : (items : List Item) (kind : AsmKind) (at : ℕ) → Items ts items → IsAccepted ts
+      → IsItemsFault items kind at → IsTokensFault ts kind at
 
 -- the fault of the text: its first bad piece, and where there is none that of its tokens; out of memory says nothing
 pub data IsRefused (text : List ℕ) : AsmFault → Type 0 where
   memory : IsRefused text faults.Memory
   piece : (bad : BadPiece) (line : ℕ) → IsFirstBad text bad line → IsRefused text (faults.At (piece_kind bad) line)
-  token : (tokens : List Token) (kind : AsmKind) (at : ℕ) → Lexes text tokens → IsTokensFault (lexemes_of text tokens) kind at → IsRefused text (faults.At kind (line_of text at))
+  token : (tokens : List Token) (kind : AsmKind) (at : ℕ) → Lexes text tokens
+      → IsTokensFault (lexemes_of text tokens) kind at → IsRefused text (faults.At kind (line_of text at))
 
 -- what `tokens` reports of a text that has none
 pub data IsLexRefused (text : List ℕ) : AsmFault → Type 0 where
@@ -105,7 +116,8 @@ Told Cause (refusals.At kind at) = Cause kind at
 -- the refusal of one target of the item at the index
 abbrev pub IsTargetFault : List Item → ℕ → Bool → Option Lexeme → AsmKind → ℕ → Type 0
 IsTargetFault items index short None kind at = ⊥
-IsTargetFault items index short (Some target) kind at = IsUseFault items (record { index = index; target = target; short = short }) kind × (at ≡ target.at)
+IsTargetFault items index short (Some target) kind at =
+    IsUseFault items (record { index = index; target = target; short = short }) kind × (at ≡ target.at)
 
 -- the fault reports the refusal with the line of its place
 abbrev pub IsToldAt : List ℕ → Refusal → AsmFault → Type 0

@@ -22,8 +22,14 @@ fn encode_draft<A: Allocator + Copy>(
     draft: &Draft<'_, A>,
 ) -> Result<Vec<Insn, A>, Refusal>
     requires { length draft.now.statements.items ≤ 4096 }
-    ensures encoded { (is : List items.Item) → IsDraft draft.now.excess draft.now.statements.items draft.now.labels.repeat (λ k. get same_name draft.now.labels.table k) is [] → All HasForm is → IfOk result (λ v. AreEncoded is v.items) }
-    ensures refused { (is : List items.Item) → IsDraft draft.now.excess draft.now.statements.items draft.now.labels.repeat (λ k. get same_name draft.now.labels.table k) is [] → All HasForm is → IfErr result (Told (IsItemsFault is)) }
+    ensures encoded { (is : List items.Item) →
+        IsDraft draft.now.excess draft.now.statements.items draft.now.labels.repeat
+        (λ k. get same_name draft.now.labels.table k) is [] →
+        All HasForm is → IfOk result (λ v. AreEncoded is v.items) }
+    ensures refused { (is : List items.Item) →
+        IsDraft draft.now.excess draft.now.statements.items draft.now.labels.repeat
+        (λ k. get same_name draft.now.labels.table k) is [] →
+        All HasForm is → IfErr result (Told (IsItemsFault is)) }
 {
     if let Some(at) = draft.excess {
         return Err(Refusal::At(AsmKind::TooMany, at));

@@ -67,7 +67,9 @@ fn put_target<'a>(statement: &mut Statement<'a>, label: &Lexeme<'a>)
     ensures code { statement.new.code ≡ statement.old.code }
     ensures fields { statement.new.fields ≡ statement.old.fields }
     ensures literal { statement.new.literal ≡ statement.old.literal }
-    ensures targets { (ls : List lexemes.Lexeme) → AreTargets statement.old.targets statement.old.first statement.old.second ls → AreTargets statement.new.targets statement.new.first statement.new.second (lexeme_of label.now ∷ ls) }
+    ensures targets { (ls : List lexemes.Lexeme) →
+        AreTargets statement.old.targets statement.old.first statement.old.second ls →
+        AreTargets statement.new.targets statement.new.first statement.new.second (lexeme_of label.now ∷ ls) }
 {
     statement.targets = if statement.targets == 0 { 1 } else { 2 };
     statement.second = statement.first;
@@ -79,7 +81,8 @@ fn put_target<'a>(statement: &mut Statement<'a>, label: &Lexeme<'a>)
 
 /// The statement of an instruction.
 fn make_statement<'a>(row: Row, body: &[Lexeme<'a>]) -> Statement<'a>
-    ensures { (labels : List lexemes.Lexeme) → IsStatement result (record { labels = labels; row = row_of row; body = map lexeme_of body.now }) }
+    ensures { (labels : List lexemes.Lexeme) →
+        IsStatement result (record { labels = labels; row = row_of row; body = map lexeme_of body.now }) }
 {
     let operand = row.operand;
     let mut statement = Statement {
@@ -116,7 +119,12 @@ fn add_label<'a, A: Allocator>(
 ) -> Result<(), AllocFailed<(Name<'a>, u32)>>
     requires { length draft.old.statements.items ≤ 4096 }
     ensures size { length draft.new.statements.items ≤ 4096 }
-    ensures label { OnOk result ((is : List items.Item) (ls : List lexemes.Lexeme) (colon : lexemes.Lexeme) → IsDraft draft.old.excess draft.old.statements.items draft.old.labels.repeat (λ k. get same_name draft.old.labels.table k) is ls → label_words (ls ++ lexeme_of word.entry ∷ colon ∷ []) ≡ label_words ls ++ lexeme_of word.entry ∷ [] → IsDraft draft.new.excess draft.new.statements.items draft.new.labels.repeat (λ k. get same_name draft.new.labels.table k) is (ls ++ lexeme_of word.entry ∷ colon ∷ [])) }
+    ensures label { OnOk result ((is : List items.Item) (ls : List lexemes.Lexeme) (colon : lexemes.Lexeme) →
+        IsDraft draft.old.excess draft.old.statements.items draft.old.labels.repeat
+        (λ k. get same_name draft.old.labels.table k) is ls →
+        label_words (ls ++ lexeme_of word.entry ∷ colon ∷ []) ≡ label_words ls ++ lexeme_of word.entry ∷ [] →
+        IsDraft draft.new.excess draft.new.statements.items draft.new.labels.repeat
+        (λ k. get same_name draft.new.labels.table k) is (ls ++ lexeme_of word.entry ∷ colon ∷ [])) }
 {
     if draft.excess.is_some() {
         return Ok(());
@@ -133,7 +141,11 @@ fn add_instruction<'a, A: Allocator>(
     requires size { length draft.old.statements.items ≤ 4096 }
     requires some { 0 < length body.now }
     ensures size { length draft.new.statements.items ≤ 4096 }
-    ensures item { OnOk result ((is : List items.Item) (ls : List lexemes.Lexeme) → IsDraft draft.old.excess draft.old.statements.items draft.old.labels.repeat (λ k. get same_name draft.old.labels.table k) is ls → IsDraft draft.new.excess draft.new.statements.items draft.new.labels.repeat (λ k. get same_name draft.new.labels.table k) (is ++ record { labels = label_words ls; row = row_of row; body = map lexeme_of body.now } ∷ []) []) }
+    ensures item { OnOk result ((is : List items.Item) (ls : List lexemes.Lexeme) →
+        IsDraft draft.old.excess draft.old.statements.items draft.old.labels.repeat
+        (λ k. get same_name draft.old.labels.table k) is ls →
+        IsDraft draft.new.excess draft.new.statements.items draft.new.labels.repeat
+        (λ k. get same_name draft.new.labels.table k) (is ++ record { labels = label_words ls; row = row_of row; body = map lexeme_of body.now } ∷ []) []) }
 {
     if draft.excess.is_some() {
         return Ok(());
@@ -164,7 +176,8 @@ fn fault_here<A: Allocator>(text: &[u8], reader: &mut Reader<'_, A>, n: usize) -
     requires within { n ≤ length reader.old.tokens }
     requires end { n ≡ length reader.old.tokens → reader.old.ended ≡ true }
     requires word { 0 < n → StartsWithWord (map lexeme_of reader.old.tokens) }
-    ensures { (m : ℕ) → IsReading m reader.old → 0 < m + length reader.old.tokens → ((ts : List lexemes.Lexeme) → AreLexemes text.now ts → IsStuckAt ts (m + n)) → IsRefused text.now result }
+    ensures { (m : ℕ) → IsReading m reader.old → 0 < m + length reader.old.tokens →
+        ((ts : List lexemes.Lexeme) → AreLexemes text.now ts → IsStuckAt ts (m + n)) → IsRefused text.now result }
 {
     let refused = reader.refusal(n);
     match reader.finish() {
@@ -175,7 +188,10 @@ fn fault_here<A: Allocator>(text: &[u8], reader: &mut Reader<'_, A>, n: usize) -
 
 /// The items of a text, of which only what their instructions depend on is kept.
 pub fn read<'a, A: Allocator + Copy>(alloc: A, text: &'a [u8]) -> Result<Draft<'a, A>, AsmFault>
-    ensures items { IfOk result (λ draft. (ts : List lexemes.Lexeme) × (is : List items.Item) × AreLexemes text.now ts × Items ts is × IsAccepted ts × IsDraft draft.excess draft.statements.items draft.labels.repeat (λ k. get same_name draft.labels.table k) is []) }
+    ensures items { IfOk result (λ draft. (ts : List lexemes.Lexeme) × (is : List items.Item) × AreLexemes text.now ts ×
+        Items ts is × IsAccepted ts ×
+        IsDraft draft.excess draft.statements.items draft.labels.repeat
+        (λ k. get same_name draft.labels.table k) is []) }
     ensures size { IfOk result (λ draft. length draft.statements.items ≤ 4096) }
     ensures refused { IfErr result (IsRefused text.now) }
 {

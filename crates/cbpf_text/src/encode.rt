@@ -27,8 +27,11 @@ fn distance<A: Allocator>(
     index: u32,
     target: &Target<'_>,
 ) -> Result<u32, Refusal>
-    ensures found { (is : List items.Item) (label : lexemes.Lexeme) → IsTarget target.now label → Resolves is (λ k. get same_name labels.now k) → IfOk result (IsOffset is index (Some label)) }
-    ensures refused { (is : List items.Item) (short : Bool) (label : lexemes.Lexeme) → IsTarget target.now label → Resolves is (λ k. get same_name labels.now k) → IfErr result (Told (IsTargetFault is index short (Some label))) }
+    ensures found { (is : List items.Item) (label : lexemes.Lexeme) → IsTarget target.now label →
+        Resolves is (λ k. get same_name labels.now k) → IfOk result (IsOffset is index (Some label)) }
+    ensures refused { (is : List items.Item) (short : Bool) (label : lexemes.Lexeme) → IsTarget target.now label →
+        Resolves is (λ k. get same_name labels.now k) →
+        IfErr result (Told (IsTargetFault is index short (Some label))) }
 {
     match labels.get(&target.name) {
         None => Err(Refusal::At(AsmKind::LabelNotSet, target.at)),
@@ -48,8 +51,10 @@ fn short_offset<A: Allocator>(
     index: u32,
     target: &Target<'_>,
 ) -> Result<u8, Refusal>
-    ensures found { (is : List items.Item) (label : lexemes.Lexeme) → IsTarget target.now label → Resolves is (λ k. get same_name labels.now k) → IfOk result (IsShortOffset is index (Some label)) }
-    ensures refused { (is : List items.Item) (label : lexemes.Lexeme) → IsTarget target.now label → Resolves is (λ k. get same_name labels.now k) → IfErr result (Told (IsTargetFault is index true (Some label))) }
+    ensures found { (is : List items.Item) (label : lexemes.Lexeme) → IsTarget target.now label →
+        Resolves is (λ k. get same_name labels.now k) → IfOk result (IsShortOffset is index (Some label)) }
+    ensures refused { (is : List items.Item) (label : lexemes.Lexeme) → IsTarget target.now label →
+        Resolves is (λ k. get same_name labels.now k) → IfErr result (Told (IsTargetFault is index true (Some label))) }
 {
     let distance = distance(labels, index, target)?;
     if distance > FARTHEST {
@@ -64,8 +69,10 @@ fn encode<A: Allocator>(
     index: u32,
     statement: &Statement<'_>,
 ) -> Result<Insn, Refusal>
-    ensures encoded { (is : List items.Item) (item : items.Item) → IsStatement statement.now item → HasForm item → Resolves is (λ k. get same_name labels.now k) → IfOk result (IsEncoded is index item) }
-    ensures refused { (is : List items.Item) (item : items.Item) → IsStatement statement.now item → HasForm item → Resolves is (λ k. get same_name labels.now k) → IfErr result (Told (IsFirstBadUse is (uses_of index item))) }
+    ensures encoded { (is : List items.Item) (item : items.Item) → IsStatement statement.now item → HasForm item →
+        Resolves is (λ k. get same_name labels.now k) → IfOk result (IsEncoded is index item) }
+    ensures refused { (is : List items.Item) (item : items.Item) → IsStatement statement.now item → HasForm item →
+        Resolves is (λ k. get same_name labels.now k) → IfErr result (Told (IsFirstBadUse is (uses_of index item))) }
 {
     let code = statement.code;
     let k = statement.literal;
@@ -109,8 +116,10 @@ pub fn encode_all<A: Allocator + Copy>(
     statements: &[Statement<'_>],
 ) -> Result<Vec<Insn, A>, Refusal>
     requires { length statements.now ≤ 4096 }
-    ensures encoded { (is : List items.Item) → AreStatements statements.now is → All HasForm is → Resolves is (λ k. get same_name labels.now k) → IfOk result (λ v. EncodeEach is 0 is v.items) }
-    ensures refused { (is : List items.Item) → AreStatements statements.now is → All HasForm is → Resolves is (λ k. get same_name labels.now k) → IfErr result (Told (IsFirstBadUse is (uses_from 0 is))) }
+    ensures encoded { (is : List items.Item) → AreStatements statements.now is → All HasForm is →
+        Resolves is (λ k. get same_name labels.now k) → IfOk result (λ v. EncodeEach is 0 is v.items) }
+    ensures refused { (is : List items.Item) → AreStatements statements.now is → All HasForm is →
+        Resolves is (λ k. get same_name labels.now k) → IfErr result (Told (IsFirstBadUse is (uses_from 0 is))) }
 {
     let mut insns = Vec::with_capacity(alloc, statements.len())?;
     for i in 0..statements.len() {

@@ -65,7 +65,10 @@ impl<'a, A: Allocator> Labels<'a, A> {
 
     /// One more label, which the item at the index sets.
     pub fn add(&mut self, label: Lexeme<'a>, index: u32) -> Result<(), AllocFailed<(Name<'a>, u32)>>
-        ensures { OnOk result ((ls : List tables.Label) → AreSet ls self.old.repeat (λ k. get same_name self.old.table k) → AreSet (ls ++ record { word = lexeme_of label.entry; place = index } ∷ []) self.new.repeat (λ k. get same_name self.new.table k)) }
+        ensures { OnOk result ((ls : List tables.Label) →
+            AreSet ls self.old.repeat (λ k. get same_name self.old.table k) →
+            AreSet (ls ++ record { word = lexeme_of label.entry; place = index } ∷ [])
+            self.new.repeat (λ k. get same_name self.new.table k)) }
     {
         if self.repeat.is_some() {
             return Ok(());

@@ -1,4 +1,3 @@
 mod ContentsLemmas
 mod ReachLemmas
-mod MarkLemmas
 pub mod SavefileLemmas

@@ -1,4 +1,5 @@
--- Numbers of a capture file, whose bytes stand in the order that the file's magic says (pcap-savefile(5), "File Header").
+-- Numbers of a capture file, whose bytes stand in the order that the file's magic says (pcap-savefile(5), "File
+-- Header").
 use Rattle.std.specs.Prelude.{ℕ, List, drop}
 use Rattle.byteorder.specs.Endian.{big_number, little_number}
 use Rattle.pcap_classic.specs.declared.endianness.Endianness.{Endianness}

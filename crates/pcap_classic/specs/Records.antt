@@ -1,4 +1,5 @@
--- The records after the file header of a capture, and how they end (pcap-savefile(5), "Packet Header"; that a cut last record is reported by its place is this crate's rule).
+-- The records after the file header of a capture, and how they end (pcap-savefile(5), "Packet Header"; that a cut
+-- last record is reported by its place is this crate's rule).
 use Rattle.std.specs.Prelude.{ℕ, ◌+◌, ◌≤◌, ◌<◌, List, [], ◌∷◌, length, take, drop}
 use Rattle.pcap_classic.specs.Numbers.{number_at}
 use Rattle.pcap_classic.specs.declared.endianness.Endianness.{Endianness}
@@ -36,6 +37,11 @@ record_at order n place bytes =
 -- after it; or they begin with a whole record, and the bytes after it hold the others
 pub data Holds (order : Endianness) : ℕ → ℕ → List ℕ → List Record → Ending → Type 0 where
   no_bytes : {n place : ℕ} → Holds order n place [] [] Whole
-  part_of_header : {n place : ℕ} (bytes : List ℕ) → 0 < length bytes → length bytes < 16 → Holds order n place bytes [] (CutHeader place)
-  part_of_data : {n place : ℕ} (bytes : List ℕ) → 16 ≤ length bytes → length bytes < record_length order bytes → Holds order n place bytes [] (CutData place)
-  whole_record : {n place : ℕ} {rest : List Record} {how : Ending} (bytes : List ℕ) → record_length order bytes ≤ length bytes → Holds order (n + 1) (place + record_length order bytes) (drop (record_length order bytes) bytes) rest how → Holds order n place bytes (record_at order n place bytes ∷ rest) how
+  part_of_header : {n place : ℕ} (bytes : List ℕ) → 0 < length bytes → length bytes < 16
+      → Holds order n place bytes [] (CutHeader place)
+  part_of_data : {n place : ℕ} (bytes : List ℕ) → 16 ≤ length bytes → length bytes < record_length order bytes
+      → Holds order n place bytes [] (CutData place)
+  whole_record : {n place : ℕ} {rest : List Record} {how : Ending} (bytes : List ℕ)
+      → record_length order bytes ≤ length bytes
+      → Holds order (n + 1) (place + record_length order bytes) (drop (record_length order bytes) bytes) rest how
+      → Holds order n place bytes (record_at order n place bytes ∷ rest) how

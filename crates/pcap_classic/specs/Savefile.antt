@@ -1,4 +1,5 @@
--- What the bytes of a capture file say, or why they are no capture (pcap-savefile(5), version 2.4, with the magics of microseconds and nanoseconds).
+-- What the bytes of a capture file say, or why they are no capture (pcap-savefile(5), version 2.4, with the magics of
+-- microseconds and nanoseconds).
 use Rattle.std.specs.Prelude.{◌≡◌, ◌≤◌, ◌<◌, ◌⊎◌, ℕ, if◌then◌else◌, Bool, List, length, drop}
 use Rattle.pcap_classic.specs.Numbers.{number_at}
 use Rattle.pcap_classic.specs.Records.{Record, Holds}
@@ -22,7 +23,8 @@ HasMagic order nanos file = number_at order 0 4 file ≡ (if nanos then nanos_ma
 abbrev pub HasVersion : Endianness → List ℕ → Type 0
 HasVersion order file = (number_at order 4 2 file ≡ 2) × (number_at order 6 2 file ≡ 4)
 
--- a capture: whether fractions of a second are nanoseconds, the link type, the whole records in order, and how the file ends after them
+-- a capture: whether fractions of a second are nanoseconds, the link type, the whole records in order, and how the
+-- file ends after them
 pub record Savefile : Type 0 where
   pub nanos : Bool
   pub link : ℕ
@@ -42,7 +44,8 @@ pub record IsSavefile (file : List ℕ) (c : Savefile) : Type 0 where
 abbrev pub IsRefusal : CaptureFault → List ℕ → Type 0
 IsRefusal FileHeaderCut file = length file < 24
 IsRefusal UnknownMagic file = (24 ≤ length file) × ((order : Endianness) (nanos : Bool) → ¬ HasMagic order nanos file)
-IsRefusal UnknownVersion file = (24 ≤ length file) × (order : Endianness) × (nanos : Bool) × HasMagic order nanos file × (¬ HasVersion order file)
+IsRefusal UnknownVersion file = (24 ≤ length file) × (order : Endianness) × (nanos : Bool) × HasMagic order nanos file
+    × (¬ HasVersion order file)
 IsRefusal Memory file = (c : Savefile) × IsSavefile file c
 
 -- a file holds one capture at most, and has one fault at most; a fault of one that holds a capture is `Memory`

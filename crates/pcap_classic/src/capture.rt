@@ -34,7 +34,8 @@ impl<A: Allocator> Model for Capture<A> {
 
     ghost view = { λ c. savefile_with c.header c.file.items };
 
-    ghost invariant = { λ c. (header_of c.file.items ≡ Ok c.header) × IsIndex c.header.magic.order c.file.items c.index.count c.index.starts.items c.index.ending };
+    ghost invariant = { λ c. (header_of c.file.items ≡ Ok c.header) ×
+        IsIndex c.header.magic.order c.file.items c.index.count c.index.starts.items c.index.ending };
 }
 
 impl<A: Allocator> Capture<A> {

@@ -59,7 +59,8 @@ fn keep_start<A: Allocator>(
     count: u64,
     place: usize,
 ) -> Result<(), AllocError>
-    ensures { IfOk result (λ _. (order : Endianness) → (file : List ℕ) → Reaches order file count place → IsMarked order file starts.old.items count → IsMarked order file starts.new.items (count + 1)) }
+    ensures { IfOk result (λ _. (order : Endianness) → (file : List ℕ) → Reaches order file count place →
+        IsMarked order file starts.old.items count → IsMarked order file starts.new.items (count + 1)) }
 {
     if count % STRIDE == 0 {
         starts.push(place)?;

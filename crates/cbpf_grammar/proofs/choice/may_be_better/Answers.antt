@@ -1,15 +1,12 @@
-use Rattle.std.proofs.Common.{◌≡◌, ◌∙◌, sym, Bool, true, false, not, refl, arith}
+use Rattle.std.proofs.Common.{◌∙◌, sym, arith}
 use Rattle.std.proofs.lemmas.List.Sums.{common_prefix_len-le}
+use Rattle.std.proofs.lemmas.Bool.{not-false}
 use Rattle.cbpf_grammar.specs.declared.class.Class.{Class}
 use Rattle.cbpf_grammar.specs.declared.lexeme.Lexeme.{Lexeme}
 use Rattle.cbpf_grammar.specs.Fits.{fits}
 use Rattle.cbpf_grammar.specs.Views.{class_of, symbol_of}
 use Rattle.cbpf_grammar.proofs.Best.{misfit_common, no_better_form}
 use Rattle.cbpf_grammar.proofs.choice.may_be_better.Goals as goal
-
-not_not : (t : Bool) → not t ≡ false → t ≡ true
-not_not true e = refl
-not_not false e = cc
 
 pub returns-then-n-tokens : goal.returns-then-n-tokens
 returns-then-n-tokens c e =
@@ -25,7 +22,7 @@ returns-else-n-tokens c e =
 pub returns-then-n-form-2 : goal.returns-then-n-form-2
 returns-then-n-form-2 c e =
     let l = (common_prefix_len-le (λ (k : Class) (t : Lexeme). fits (class_of k) (symbol_of t.symbol)) c.args.form.now c.args.tokens.now).0 in
-    no_better_form c.args.form.now c.args.tokens.now c.args.best.now (omega (arith, l, c.if-n-form.false)) (λ part. absurd (part (c.is_whole.ensures.0 (not_not c.is_whole.result e))))
+    no_better_form c.args.form.now c.args.tokens.now c.args.best.now (omega (arith, l, c.if-n-form.false)) (λ part. absurd (part (c.is_whole.ensures.0 (not-false c.is_whole.result e))))
 
 pub returns-else-n-form-2 : goal.returns-else-n-form-2
 returns-else-n-form-2 c e =

@@ -1,15 +1,14 @@
 use Rattle.std.proofs.Common.{◌≡◌, ◌∙◌, sym, ℕ, List, true, false, Option, Some, None, Bor}
-use Rattle.std.specs.Prelude.{Contains, IfSome, IfNone}
+use Rattle.std.specs.Prelude.{Contains, IfSome, IfNone, bytes_eq}
 use Rattle.std.specs.Option.{is_some}
 use Rattle.cbpf_grammar.specs.declared.table.Mnemonic.{Mnemonic}
-use Rattle.cbpf_grammar.specs.Lexemes.{same_bytes}
 use Rattle.cbpf_grammar.specs.Fits.{is_one_of, mnemonic_words}
 use Rattle.cbpf_grammar.specs.Table.{mnemonics}
 use Rattle.cbpf_grammar.specs.Views.{mnemonic_of}
 use Rattle.cbpf_grammar.proofs.Mnemonics.{word_listed}
 use Rattle.cbpf_grammar.proofs.reserved.is_mnemonic.Goals as goal
 
-mnemonic_test : (w : List ℕ) (o : Option (Bor Mnemonic)) → IfSome o (λ m. Contains mnemonics (mnemonic_of m.now)) → IfSome o (λ m. same_bytes w m.now.word.now ≡ true) → IfNone o (is_one_of mnemonic_words w ≡ false) → is_some o ≡ is_one_of mnemonic_words w
+mnemonic_test : (w : List ℕ) (o : Option (Bor Mnemonic)) → IfSome o (λ m. Contains mnemonics (mnemonic_of m.now)) → IfSome o (λ m. bytes_eq w m.now.word.now ≡ true) → IfNone o (is_one_of mnemonic_words w ≡ false) → is_some o ≡ is_one_of mnemonic_words w
 mnemonic_test w None f g h = sym h
 mnemonic_test w (Some m) f g h = sym (word_listed w (mnemonic_of m.now) f g)
 

@@ -23,8 +23,8 @@ returns-then-is_empty-clause-none c = no_word c.args.word.now (eqb-true (length 
 pub returns-then-word-gt-LONGEST-clause-none : goal.returns-then-word-gt-LONGEST-clause-none
 returns-then-word-gt-LONGEST-clause-none c = long_word c.args.word.now c.if-word-gt-LONGEST.true
 
-pub returns-then-same_bytes-clause-found : goal.returns-then-same_bytes-clause-found
-returns-then-same_bytes-clause-found c = known_at _ c.mnemonics_from-mnemonic-items.result.now c.loop-mnemonic.mnemonic-index _ c.loop-mnemonic-test.true c.mnemonics_from-mnemonic-items.ensures
+pub returns-then-eq-clause-found : goal.returns-then-eq-clause-found
+returns-then-eq-clause-found c = known_at _ c.mnemonics_from-mnemonic-items.result.now c.loop-mnemonic.mnemonic-index _ c.loop-mnemonic-test.true c.mnemonics_from-mnemonic-items.ensures
 
 pub returns-clause-none : goal.returns-clause-none
 returns-clause-none c =
