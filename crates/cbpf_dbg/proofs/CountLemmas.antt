@@ -2,7 +2,7 @@
 use Rattle.std.proofs.Common.{◌≡◌, ℕ, zero, suc, ◌+◌, ◌-◌, ◌≤◌, List, [], ◌∷◌, ◌++◌, length, drop, take, Bool, arith, ap, ◌∙◌, refl, cond, add-zero, length-drop}
 use Rattle.std.proofs.lemmas.List.Sums.{sum_by-append, count_by-le-length}
 use Rattle.std.proofs.Math.ListN.{length-map}
-use Rattle.cbpf_dbg.specs.declared.reply.Counts.{Counts}
+use Rattle.cbpf_reply.specs.declared.reply.Counts.{Counts}
 use Rattle.std.specs.Prelude.{Some, slice_get, map, count_by}
 use Rattle.cbpf_machine.specs.Machine.{Machine}
 use Rattle.cbpf_machine.specs.declared.outcome.Outcome.{Outcome}
@@ -11,7 +11,7 @@ use Rattle.cbpf_machine.specs.Trace.{outcome}
 use Rattle.pcap_classic.specs.Records.{Record}
 use Rattle.cbpf_machine.proofs.ListLemmas.{take-slice_get}
 use Rattle.cbpf_dbg.specs.Joined.{outcomes, counts, is_pass, is_fail, is_open}
-use Rattle.cbpf_dbg.specs.Walk.{with_outcome}
+use Rattle.cbpf_dbg.specs.Cursor.{with_outcome}
 
 slice_get-drop : {X : Type 0} (xs : List X) (n i : ℕ) → slice_get (drop n xs) i ≡ slice_get xs (n + i)
 slice_get-drop xs zero i = let e : 0 + i ≡ i = omega arith in rw e refl

@@ -1,4 +1,4 @@
--- A walk to the next entry at an instruction that is watched.
+-- Moves to the next entry at an instruction that is watched.
 use Rattle.std.proofs.Common.{◌≡◌, ℕ, ◌+◌, ◌-◌, ◌<◌, ◌≤◌, List, length, drop, take, arith, sym, ap, ◌∙◌, refl, length-append, length-drop, length-take}
 use Rattle.std.specs.Prelude.{Bool, Option, Some, slice_get, ◌++◌}
 use Rattle.std.proofs.lemmas.Option.{slice_get_within}
@@ -11,22 +11,22 @@ use Rattle.cbpf_machine.specs.Follow.{Follows, Unwatched}
 use Rattle.cbpf_machine.proofs.TraceLemmas.{goes_from_entry, length-trace_from}
 use Rattle.cbpf_machine.proofs.SoundLemmas.{sound_few, sound_some}
 use Rattle.pcap_classic.specs.Records.{Record}
-use Rattle.cbpf_dbg.specs.declared.walk.Walk.{Walk}
-use Rattle.cbpf_dbg.specs.declared.walk.Moved.TheVariants as moved
+use Rattle.cbpf_dbg.specs.declared.cursor.Cursor.{Cursor}
+use Rattle.cbpf_dbg.specs.declared.cursor.Moved.TheVariants as moved
 use Rattle.cbpf_dbg.specs.Breakpoints.{Breakpoints}
 use Rattle.cbpf_dbg.specs.Joined.{ahead, rest, entries_from, joined_from}
 use Rattle.cbpf_dbg.specs.Session.{Watches}
-use Rattle.cbpf_dbg.specs.Walk.{Stands, PassesOn, owed, passed}
+use Rattle.cbpf_dbg.specs.Cursor.{Stands, PassesOn, owed, passed}
 use Rattle.cbpf_dbg.proofs.JoinedLemmas.{place_at, ahead-in, ahead-entry, ahead-leave, rest-same}
 use Rattle.cbpf_dbg.proofs.TurnLemmas.{length_entries}
 use Rattle.cbpf_dbg.proofs.KeepLemmas.{entry_at_place}
 use Rattle.cbpf_dbg.proofs.QuietLemmas.{NoHits, entries-passed, stands-passed}
 
--- a walk so many entries on, in the same packet
-abbrev pub moved_on : Walk → ℕ → Registers → Walk
+-- a cursor so many entries on, in the same packet
+abbrev pub moved_on : Cursor → ℕ → Registers → Cursor
 moved_on w n s = record w { place = record { packet = w.place.packet; step = w.place.step + n }; state = s }
 
-module _ (machine : Machine) (capture : List Record) (w : Walk) (r : Record) (h : Stands machine capture w) (begun : 0 < w.place.step) (at : slice_get capture (w.place.packet - 1) ≡ Some r) where
+module _ (machine : Machine) (capture : List Record) (w : Cursor) (r : Record) (h : Stands machine capture w) (begun : 0 < w.place.step) (at : slice_get capture (w.place.packet - 1) ≡ Some r) where
   abbrev pub xs : List Registers
   xs = trace machine r.bytes r.wire
 

@@ -1,4 +1,4 @@
--- What a trail stands for, as a walk moves.
+-- What a trail stands for, as a cursor moves.
 use Rattle.std.proofs.Common.{◌≡◌, ℕ, ◌+◌, ◌-◌, ◌<◌, List, [], ◌∷◌, ◌++◌, length, take, arith, subst, length-take}
 use Rattle.std.specs.Prelude.{Some, slice_get}
 use Rattle.std.proofs.lemmas.Option.{slice_get_within}
@@ -7,22 +7,22 @@ use Rattle.cbpf_machine.specs.Registers.{Registers, zero_state}
 use Rattle.cbpf_machine.specs.Trace.{trace}
 use Rattle.cbpf_machine.proofs.TraceLemmas.{length-trace_from}
 use Rattle.pcap_classic.specs.Records.{Record}
-use Rattle.cbpf_dbg.specs.declared.reply.Place.{Place}
-use Rattle.cbpf_dbg.specs.declared.walk.Walk.{Walk}
+use Rattle.cbpf_reply.specs.declared.reply.Place.{Place}
+use Rattle.cbpf_dbg.specs.declared.cursor.Cursor.{Cursor}
 use Rattle.cbpf_dbg.specs.Session.{Keeps}
-use Rattle.cbpf_dbg.specs.Walk.{Stands}
+use Rattle.cbpf_dbg.specs.Cursor.{Stands}
 use Rattle.cbpf_machine.proofs.ListLemmas.{take-slice_get}
 use Rattle.cbpf_machine.proofs.SoundLemmas.{sound_few}
 
--- the entry at a walk's place, in a packet that is known
-pub entry_at_place : (machine : Machine) (capture : List Record) (w : Walk) (r : Record) → Stands machine capture w → 0 < w.place.step → slice_get capture (w.place.packet - 1) ≡ Some r
+-- the entry at a cursor's place, in a packet that is known
+pub entry_at_place : (machine : Machine) (capture : List Record) (w : Cursor) (r : Record) → Stands machine capture w → 0 < w.place.step → slice_get capture (w.place.packet - 1) ≡ Some r
     → slice_get (trace machine r.bytes r.wire) (w.place.step - 1) ≡ Some w.state
 entry_at_place machine capture w r h inside at =
     let e = h.at inside in
     let same : e.0 ≡ r = cc in
     subst (λ (q : Record). slice_get (trace machine q.bytes q.wire) (w.place.step - 1) ≡ Some w.state) same e.2
 
-pub keeps_push : (stands after : List Registers → Type 0) (machine : Machine) (capture : List Record) (old : Place) (w : Walk) (r : Record) → Stands machine capture w
+pub keeps_push : (stands after : List Registers → Type 0) (machine : Machine) (capture : List Record) (old : Place) (w : Cursor) (r : Record) → Stands machine capture w
     → slice_get capture (w.place.packet - 1) ≡ Some r → w.place.packet ≡ old.packet → w.place.step ≡ old.step + 1
     → ((xs : List Registers) → stands xs → after (xs ++ w.state ∷ [])) → Keeps stands machine capture old → Keeps after machine capture w.place
 keeps_push stands after machine capture old w r h at packet step pushed keeps = λ q there.
@@ -34,7 +34,7 @@ keeps_push stands after machine capture old w r h at packet step pushed keeps = 
     rw step (rw (take-slice_get (trace machine q.bytes q.wire) old.step w.state entry) (pushed _ (keeps q before)))
 
 -- fewer than 4096 are kept before the last entry
-pub keeps_few : (machine : Machine) (capture : List Record) (old : Place) (w : Walk) (r : Record) (kept : ℕ) → Stands machine capture w
+pub keeps_few : (machine : Machine) (capture : List Record) (old : Place) (w : Cursor) (r : Record) (kept : ℕ) → Stands machine capture w
     → slice_get capture (w.place.packet - 1) ≡ Some r → w.place.step ≡ old.step + 1
     → length (take old.step (trace machine r.bytes r.wire)) ≡ kept → kept < 4096
 keeps_few machine capture old w r kept h at step e =

@@ -1,6 +1,6 @@
 pub mod JoinedLemmas
 pub mod CountLemmas
-pub mod WalkLemmas
+pub mod CursorLemmas
 pub mod AskedLemmas
 pub mod CarryLemmas
 pub mod RunLemmas

@@ -10,11 +10,11 @@ use Rattle.cbpf_machine.specs.Trace.{trace, outcome}
 use Rattle.cbpf_machine.proofs.TraceLemmas.{goes_from_entry}
 use Rattle.cbpf_machine.proofs.SoundLemmas.{sound_some}
 use Rattle.pcap_classic.specs.Records.{Record}
-use Rattle.cbpf_dbg.specs.declared.walk.Walk.{Walk}
+use Rattle.cbpf_dbg.specs.declared.cursor.Cursor.{Cursor}
 use Rattle.cbpf_dbg.specs.Joined.{ahead, rest}
 use Rattle.cbpf_dbg.specs.Hits.{hit_for}
 use Rattle.cbpf_dbg.specs.Session.{IsQuiet}
-use Rattle.cbpf_dbg.specs.Walk.{Stands, passed}
+use Rattle.cbpf_dbg.specs.Cursor.{Stands, passed}
 use Rattle.cbpf_dbg.proofs.AskedLemmas.{quiet_hit}
 use Rattle.cbpf_dbg.proofs.CountLemmas.{counts-more}
 use Rattle.cbpf_dbg.proofs.JoinedLemmas.{place_at, entry, ahead-entry, ahead-leave, rest-pass, rest-same}
@@ -57,7 +57,7 @@ module _ (machine : Machine) (capture : List Record) (p : ℕ) (r : Record) (sou
       let leave = ahead-leave machine capture p m r from_one at (omega arith) in
       (all.0 ∙ rest-same machine capture [] (place_at p m) (place_at (p + 1) 0) leave, omega (arith, all.1, ap length leave))
 
-pub stands-passed : (machine : Machine) (capture : List Record) (w : Walk) (r : Record) → Stands machine capture w → slice_get capture (w.place.packet - 1) ≡ Some r
+pub stands-passed : (machine : Machine) (capture : List Record) (w : Cursor) (r : Record) → Stands machine capture w → slice_get capture (w.place.packet - 1) ≡ Some r
     → Stands machine capture (passed w (outcome machine r.bytes r.wire))
 stands-passed machine capture w r h at =
     let one : 1 ≤ w.place.packet = let a = h.from_one in let b = h.ordered in omega arith in

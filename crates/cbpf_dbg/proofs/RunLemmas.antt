@@ -8,18 +8,18 @@ use Rattle.cbpf_machine.specs.declared.outcome.Turn.TheVariants.{Next, Returned,
 use Rattle.cbpf_machine.specs.Step.{turn, asked}
 use Rattle.pcap_classic.specs.Records.{Record}
 use Rattle.pcap_classic.specs.Savefile.{Savefile}
-use Rattle.cbpf_dbg.specs.declared.reply.Place.{Place}
-use Rattle.cbpf_dbg.specs.declared.reply.Stop.{Stop}
-use Rattle.cbpf_dbg.specs.declared.reply.Why.{Why}
-use Rattle.cbpf_dbg.specs.declared.reply.Why.TheVariants as why
-use Rattle.cbpf_dbg.specs.declared.reply.RunReply.TheVariants.{Stopped, Limit, Finished}
-use Rattle.cbpf_dbg.specs.declared.walk.Walk.{Walk}
-use Rattle.cbpf_dbg.specs.declared.walk.Moved.TheVariants as moved
+use Rattle.cbpf_reply.specs.declared.reply.Place.{Place}
+use Rattle.cbpf_reply.specs.declared.reply.Stop.{Stop}
+use Rattle.cbpf_reply.specs.declared.reply.Why.{Why}
+use Rattle.cbpf_reply.specs.declared.reply.Why.TheVariants as why
+use Rattle.cbpf_reply.specs.declared.reply.RunReply.TheVariants.{Stopped, Limit, Finished}
+use Rattle.cbpf_dbg.specs.declared.cursor.Cursor.{Cursor}
+use Rattle.cbpf_dbg.specs.declared.cursor.Moved.TheVariants as moved
 use Rattle.cbpf_dbg.specs.Joined.{ahead, rest, counts, stop_at, why_of, is_unknown, is_after, stops}
 use Rattle.cbpf_dbg.specs.Hits.{hit_for}
 use Rattle.cbpf_dbg.specs.View.{View, start}
 use Rattle.cbpf_dbg.specs.Commands.{run_to, run_out, within_limit, finished, limited}
-use Rattle.cbpf_dbg.specs.Walk.{Stands, Moves, PassesTo, hit_of, view_at, entry_here, Runs, StepsOn, Below, UpTo, NotBefore, is_limit}
+use Rattle.cbpf_dbg.specs.Cursor.{Stands, Moves, PassesTo, hit_of, view_at, entry_here, Runs, StepsOn, Below, UpTo, NotBefore, is_limit}
 use Rattle.cbpf_dbg.proofs.JoinedLemmas.{rest-hit, rest-pass, rest-none}
 use Rattle.cbpf_dbg.specs.Breakpoints.{Breakpoints, carries}
 
@@ -93,7 +93,7 @@ hit_none true (Unknown e) h = absurd cc
 hit_none false (Unknown e) h = absurd cc
 
 -- a hit is the first that is ahead
-pub stop_front : (machine : Machine) (capture : List Record) (breakpoints : Breakpoints) (w1 w2 : Walk) (r : Record) (y : Why)
+pub stop_front : (machine : Machine) (capture : List Record) (breakpoints : Breakpoints) (w1 w2 : Cursor) (r : Record) (y : Why)
     → ahead machine capture w1.place ≡ entry_here machine r w2 ∷ ahead machine capture w2.place
     → hit_for (carries breakpoints w2.state) (asked (turn machine r.bytes r.wire w2.state)) ≡ Some y
     → rest machine capture breakpoints w1.place ≡ (record { place = w2.place; state = w2.state; why = y }) ∷ rest machine capture breakpoints w2.place
@@ -148,14 +148,14 @@ rest-behind machine capture breakpoints place h more e =
 pub rest-head : (machine : Machine) (capture : List Record) (breakpoints : Breakpoints) (place : Place) (h : Stop) (more : List Stop) → rest machine capture breakpoints place ≡ h ∷ more → is_after place h.place ≡ true
 rest-head machine capture breakpoints place h more e = filter-head (λ (k : Stop). is_after place k.place) (stops machine capture breakpoints) h more e
 
--- what passes to a hit from one walk does so from an earlier one, with no hit between
-pub passes_from : (machine : Machine) (capture : List Record) (breakpoints : Breakpoints) (r : Record) (old mid new : Walk) (y : Option Why) → mid.place.packet ≡ old.place.packet
+-- what passes to a hit from one cursor does so from an earlier one, with no hit between
+pub passes_from : (machine : Machine) (capture : List Record) (breakpoints : Breakpoints) (r : Record) (old mid new : Cursor) (y : Option Why) → mid.place.packet ≡ old.place.packet
     → rest machine capture breakpoints mid.place ≡ rest machine capture breakpoints old.place → PassesTo machine capture breakpoints r mid y new → PassesTo machine capture breakpoints r old y new
 passes_from machine capture breakpoints r old mid new None packet same h = (h.0 ∙ ap (λ n. record { packet = n + 1; step = 0 }) packet, h.1 ∙ same)
 passes_from machine capture breakpoints r old mid new (Some y) packet same h = (h.0, h.1 ∙ packet, h.2 ∙ same, h.3, h.4)
 
 -- no hit is passed from an entry that is none
-pub passes_entry : (machine : Machine) (capture : List Record) (breakpoints : Breakpoints) (r : Record) (old new : Walk) → slice_get capture (new.place.packet - 1) ≡ Some r
+pub passes_entry : (machine : Machine) (capture : List Record) (breakpoints : Breakpoints) (r : Record) (old new : Cursor) → slice_get capture (new.place.packet - 1) ≡ Some r
     → Moves machine capture old moved.Entry new → None ≡ hit_of machine breakpoints r new → rest machine capture breakpoints new.place ≡ rest machine capture breakpoints old.place
 passes_entry machine capture breakpoints r old new at m none =
     let same : m.0 ≡ r = (let there = m.1 in cc) in
@@ -165,14 +165,14 @@ passes_entry machine capture breakpoints r old new at m none =
 place_by : (q : Place) (packet : ℕ) → q.packet ≡ packet → q.step ≡ 0 → q ≡ record { packet = packet; step = 0 }
 place_by q packet e before = rw (e, before) refl
 
-module _ (machine : Machine) (c : Savefile) (breakpoints : Breakpoints) (limit : Option ℕ) (w0 : Walk) where
+module _ (machine : Machine) (c : Savefile) (breakpoints : Breakpoints) (limit : Option ℕ) (w0 : Cursor) where
   abbrev pub hits : Place → List Stop
   hits place = rest machine c.records breakpoints place
 
   abbrev pub view0 : View
   view0 = view_at machine c breakpoints w0
 
-  pub run_stopped : (w1 w2 : Walk) (r : Record) (y : Why) → hits w1.place ≡ hits w0.place → w2.origin ≡ w0.origin
+  pub run_stopped : (w1 w2 : Cursor) (r : Record) (y : Why) → hits w1.place ≡ hits w0.place → w2.origin ≡ w0.origin
       → ahead machine c.records w1.place ≡ entry_here machine r w2 ∷ ahead machine c.records w2.place
       → hit_for (carries breakpoints w2.state) (asked (turn machine r.bytes r.wire w2.state)) ≡ Some y
       → Below limit w0.place.packet w2.place.packet (length c.records) → w2.place.packet ≤ length c.records → w0.place.packet ≤ w2.place.packet
@@ -188,7 +188,7 @@ module _ (machine : Machine) (c : Savefile) (breakpoints : Breakpoints) (limit :
         origin_is = rw (front, inside) origin;
       }
 
-  pub run_finished : (w1 w2 : Walk) → Stands machine c.records w1 → hits w1.place ≡ hits w0.place → w1.origin ≡ w0.origin
+  pub run_finished : (w1 w2 : Cursor) → Stands machine c.records w1 → hits w1.place ≡ hits w0.place → w1.origin ≡ w0.origin
       → w1.place.packet ≡ length c.records + 1 → ahead machine c.records w1.place ≡ []
       → Below limit w0.place.packet w1.place.packet (length c.records)
       → w2.place ≡ start → w2.origin ≡ 1
@@ -203,7 +203,7 @@ module _ (machine : Machine) (c : Savefile) (breakpoints : Breakpoints) (limit :
         origin_is = rw (front, out) origin2;
       }
 
-  pub run_limited : (w1 w2 : Walk) → Stands machine c.records w2 → hits w2.place ≡ hits w0.place → w2.origin ≡ w0.origin
+  pub run_limited : (w1 w2 : Cursor) → Stands machine c.records w2 → hits w2.place ≡ hits w0.place → w2.origin ≡ w0.origin
       → w2.place ≡ record { packet = w1.place.packet + 1; step = 0 } → w0.place.packet ≤ w2.place.packet
       → is_limit limit (w2.place.packet - w0.place.packet) ≡ true → w2.place.packet ≤ length c.records
       → Runs machine c breakpoints w0 w2 limit (Limit w2.counts)
@@ -217,8 +217,8 @@ module _ (machine : Machine) (c : Savefile) (breakpoints : Breakpoints) (limit :
         origin_is = rw out origin;
       }
 
-  -- the same at the walk alone
-  pub run_limited_at : (w2 : Walk) → Stands machine c.records w2 → hits w2.place ≡ hits w0.place → w2.origin ≡ w0.origin
+  -- the same at the cursor alone
+  pub run_limited_at : (w2 : Cursor) → Stands machine c.records w2 → hits w2.place ≡ hits w0.place → w2.origin ≡ w0.origin
       → w2.place.step ≡ 0 → w0.place.packet ≤ w2.place.packet
       → is_limit limit (w2.place.packet - w0.place.packet) ≡ true → w2.place.packet ≤ length c.records
       → Runs machine c breakpoints w0 w2 limit (Limit w2.counts)
@@ -237,8 +237,8 @@ slice_get-later x xs k h =
 pub slice_get-first : {X : Type 0} (x : X) (xs : List X) (k : ℕ) → k ≡ 1 → slice_get (x ∷ xs) (k - 1) ≡ Some x
 slice_get-first x xs k h = rw h refl
 
-module _ (machine : Machine) (c : Savefile) (breakpoints : Breakpoints) (n : ℕ) (w0 : Walk) where
-  pub step_stopped : (w2 : Walk) (r : Record) (y : Why) → slice_get (ahead machine c.records w0.place) (n - 1) ≡ Some (entry_here machine r w2)
+module _ (machine : Machine) (c : Savefile) (breakpoints : Breakpoints) (n : ℕ) (w0 : Cursor) where
+  pub step_stopped : (w2 : Cursor) (r : Record) (y : Why) → slice_get (ahead machine c.records w0.place) (n - 1) ≡ Some (entry_here machine r w2)
       → y ≡ why_of why.Step (turn machine r.bytes r.wire w2.state) → w2.origin ≡ w0.origin
       → StepsOn machine c breakpoints w0 w2 n (Stopped (record { place = w2.place; state = w2.state; why = y }))
   step_stopped w2 r y sought reason origin =
@@ -248,7 +248,7 @@ module _ (machine : Machine) (c : Savefile) (breakpoints : Breakpoints) (n : ℕ
         origin_is = rw sought origin;
       }
 
-  pub step_finished : (w1 w2 : Walk) → slice_get (ahead machine c.records w0.place) (n - 1) ≡ None → Stands machine c.records w1 → w1.origin ≡ w0.origin
+  pub step_finished : (w1 w2 : Cursor) → slice_get (ahead machine c.records w0.place) (n - 1) ≡ None → Stands machine c.records w1 → w1.origin ≡ w0.origin
       → w1.place.packet ≡ length c.records + 1 → w2.place ≡ start → w2.origin ≡ 1
       → StepsOn machine c breakpoints w0 w2 n (Finished w1.counts)
   step_finished w1 w2 sought stands origin end place2 origin2 =

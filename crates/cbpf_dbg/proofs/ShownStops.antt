@@ -12,18 +12,18 @@ use Rattle.cbpf_machine.specs.Trace.{trace}
 use Rattle.cbpf_machine.proofs.TraceLemmas.{trace-is_run}
 use Rattle.pcap_classic.specs.Records.{Record}
 use Rattle.pcap_classic.specs.Savefile.{Savefile}
-use Rattle.cbpf_dbg.specs.declared.reply.Place.{Place}
-use Rattle.cbpf_dbg.specs.declared.reply.Stop.{Stop}
-use Rattle.cbpf_dbg.specs.declared.reply.Why.{Why}
-use Rattle.cbpf_dbg.specs.declared.reply.Why.TheVariants as why
-use Rattle.cbpf_dbg.specs.declared.reply.RunReply.{RunReply}
-use Rattle.cbpf_dbg.specs.declared.reply.RunReply.TheVariants.{Stopped, Limit, Finished}
-use Rattle.cbpf_dbg.specs.declared.walk.Walk.{Walk}
+use Rattle.cbpf_reply.specs.declared.reply.Place.{Place}
+use Rattle.cbpf_reply.specs.declared.reply.Stop.{Stop}
+use Rattle.cbpf_reply.specs.declared.reply.Why.{Why}
+use Rattle.cbpf_reply.specs.declared.reply.Why.TheVariants as why
+use Rattle.cbpf_reply.specs.declared.reply.RunReply.{RunReply}
+use Rattle.cbpf_reply.specs.declared.reply.RunReply.TheVariants.{Stopped, Limit, Finished}
+use Rattle.cbpf_dbg.specs.declared.cursor.Cursor.{Cursor}
 use Rattle.cbpf_dbg.specs.Joined.{Entry, entries_from, packet_entries, joined_from, joined, ahead, rest, is_after, is_hit, stop_at}
 use Rattle.cbpf_dbg.specs.View.{View}
 use Rattle.cbpf_dbg.specs.Commands.{run_to, run_out, within_limit, stopped, finished, limited, step_to, entry_in, back_place}
 use Rattle.cbpf_dbg.specs.Shown.{IsWithin, CanShow, Shows}
-use Rattle.cbpf_dbg.specs.Walk.{Stands, Runs, StepsOn, StepsBack, view_at}
+use Rattle.cbpf_dbg.specs.Cursor.{Stands, Runs, StepsOn, StepsBack, view_at}
 use Rattle.cbpf_dbg.proofs.JoinedLemmas.{entry}
 use Rattle.cbpf_dbg.proofs.WholeLemmas.{Holds}
 use Rattle.cbpf_dbg.specs.Breakpoints.{Breakpoints}
@@ -106,14 +106,14 @@ shows-reply machine c v (Limit n) h within = tt
 shows-reply machine c v (Finished n) h within = tt
 
 -- what a run answers
-pub shows-run : (machine : Machine) (c : Savefile) (breakpoints : Breakpoints) (old new : Walk) (limit : Option ℕ) (reply : RunReply) (v : View) → Holds machine c v → IsSound machine.list
+pub shows-run : (machine : Machine) (c : Savefile) (breakpoints : Breakpoints) (old new : Cursor) (limit : Option ℕ) (reply : RunReply) (v : View) → Holds machine c v → IsSound machine.list
     → Runs machine c breakpoints old new limit reply → Shows v reply
 shows-run machine c breakpoints old new limit reply v h sound runs =
     shows-reply machine c v reply h
     (rw runs.reply_is (within-run_to (view_at machine c breakpoints old) machine c.records limit (rest machine c.records breakpoints old.place) (within-rest machine c.records breakpoints old.place sound)))
 
 -- what a step on answers
-pub shows-step_on : (machine : Machine) (c : Savefile) (breakpoints : Breakpoints) (old new : Walk) (n : ℕ) (reply : RunReply) (v : View) → Holds machine c v → IsSound machine.list
+pub shows-step_on : (machine : Machine) (c : Savefile) (breakpoints : Breakpoints) (old new : Cursor) (n : ℕ) (reply : RunReply) (v : View) → Holds machine c v → IsSound machine.list
     → StepsOn machine c breakpoints old new n reply → Shows v reply
 shows-step_on machine c breakpoints old new n reply v h sound steps =
     shows-reply machine c v reply h
@@ -138,7 +138,7 @@ within-entry_in machine capture place (Some r) e sound from_one at is =
     (λ s here. (trace-is_run machine r.bytes r.wire sound).inside (place.step - 1) s here) is
 
 -- what a step back answers
-pub shows-step_back : (machine : Machine) (c : Savefile) (old new : Walk) (b : ℕ) (stop : Stop) (v : View) → Holds machine c v → Stands machine c.records new
+pub shows-step_back : (machine : Machine) (c : Savefile) (old new : Cursor) (b : ℕ) (stop : Stop) (v : View) → Holds machine c v → Stands machine c.records new
     → StepsBack machine c.records old new b stop → CanShow v stop
 shows-step_back machine c old new b stop v h stands back =
     let same : new.place.packet ≡ old.place.packet = ap (λ (p : Place). p.packet) back.place_is in

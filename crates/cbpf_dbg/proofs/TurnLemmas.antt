@@ -13,16 +13,16 @@ use Rattle.cbpf_machine.specs.Registers.{Registers}
 use Rattle.cbpf_machine.specs.Trace.{trace}
 use Rattle.pcap_classic.specs.Records.{Record}
 use Rattle.pcap_classic.specs.Savefile.{Savefile}
-use Rattle.cbpf_dbg.specs.declared.reply.Place.{Place}
-use Rattle.cbpf_dbg.specs.declared.reply.RunReply.{RunReply}
-use Rattle.cbpf_dbg.specs.declared.reply.RunReply.TheVariants.{Stopped, Limit, Finished}
-use Rattle.cbpf_dbg.specs.declared.walk.Walk.{Walk}
+use Rattle.cbpf_reply.specs.declared.reply.Place.{Place}
+use Rattle.cbpf_reply.specs.declared.reply.RunReply.{RunReply}
+use Rattle.cbpf_reply.specs.declared.reply.RunReply.TheVariants.{Stopped, Limit, Finished}
+use Rattle.cbpf_dbg.specs.declared.cursor.Cursor.{Cursor}
 use Rattle.cbpf_dbg.specs.Joined.{Entry, entries_from, packet_entries, joined_from, joined, ahead, rest, is_hit, stop_at, is_after, turns_between, turns_to_end}
-use Rattle.cbpf_dbg.specs.declared.reply.Why.TheVariants as why
+use Rattle.cbpf_reply.specs.declared.reply.Why.TheVariants as why
 use Rattle.std.proofs.lemmas.List.{length-map}
 use Rattle.cbpf_dbg.specs.View.{View}
 use Rattle.cbpf_dbg.specs.Commands.{turns_in}
-use Rattle.cbpf_dbg.specs.Walk.{Stands, owed, view_at, NotBefore, Runs, run_turns, run_from, StepsOn, step_turns, step_from}
+use Rattle.cbpf_dbg.specs.Cursor.{Stands, owed, view_at, NotBefore, Runs, run_turns, run_from, StepsOn, step_turns, step_from}
 use Rattle.cbpf_dbg.proofs.JoinedLemmas.{place_at, ahead-entry, rest-ahead}
 use Rattle.cbpf_dbg.specs.Breakpoints.{Breakpoints}
 
@@ -100,8 +100,8 @@ to_end_none machine capture p =
     (λ e k. at_or_after_none p e.place.packet e.place.step k)
     ∙ count_filter (λ e. is_after (place_at p 0) e.place) (joined_from machine 1 capture)
 
--- what a walk owes is what it takes to the end
-owed_at : (machine : Machine) (capture : List Record) (w : Walk) (k : ℕ) → Stands machine capture w → k ≡ w.place.step → turns_to_end machine capture (place_at w.place.packet k) ≡ owed machine capture (place_at w.place.packet k)
+-- what a cursor owes is what it takes to the end
+owed_at : (machine : Machine) (capture : List Record) (w : Cursor) (k : ℕ) → Stands machine capture w → k ≡ w.place.step → turns_to_end machine capture (place_at w.place.packet k) ≡ owed machine capture (place_at w.place.packet k)
 owed_at machine capture w zero h e = to_end_none machine capture w.place.packet ∙ omega arith
 owed_at machine capture w (suc k) h e =
     let at = h.at (omega arith) in
@@ -116,7 +116,7 @@ owed_at machine capture w (suc k) h e =
     let then_ = subst (λ x. length (ahead machine capture (place_at w.place.packet k)) ≡ suc (length (ahead machine capture (place_at w.place.packet x)))) n (ap length first) in
     omega (arith, sofar, then_)
 
-pub owed-turns : (machine : Machine) (capture : List Record) (w : Walk) → Stands machine capture w → turns_to_end machine capture w.place ≡ owed machine capture w.place
+pub owed-turns : (machine : Machine) (capture : List Record) (w : Cursor) → Stands machine capture w → turns_to_end machine capture w.place ≡ owed machine capture w.place
 owed-turns machine capture w h = owed_at machine capture w w.place.step h refl
 
 order_test : (old new e : Place) → NotBefore new old → is_after e new ≡ false → not (is_after e old) ≡ true
@@ -139,7 +139,7 @@ turns_in_at m machine capture (Stopped s) v = refl
 turns_in_at m machine capture (Limit n) v = refl
 turns_in_at m machine capture (Finished n) v = refl
 
-pub run_turns-reply : (machine : Machine) (c : Savefile) (breakpoints : Breakpoints) (old new : Walk) (limit : Option ℕ) (reply : RunReply) → Runs machine c breakpoints old new limit reply
+pub run_turns-reply : (machine : Machine) (c : Savefile) (breakpoints : Breakpoints) (old new : Cursor) (limit : Option ℕ) (reply : RunReply) → Runs machine c breakpoints old new limit reply
     → run_turns machine c breakpoints old limit ≡ reply_turns machine c.records old.place reply new.place
 run_turns-reply machine c breakpoints old new limit reply h =
     let a : RunReply × View = run_from machine c breakpoints old limit in
@@ -158,8 +158,8 @@ not_before_after old mid new h k = elim h [
 pub not_before_packet : (old mid new : Place) → NotBefore mid old → new.packet ≡ mid.packet + 1 → NotBefore new old
 not_before_packet old mid new h p = elim h [ inl less ↦ inl (omega arith) | inr same ↦ inl (let a = same.0 in omega arith) ]
 
--- the turns of a walk to a later place, by what it owed and owes
-pub spent_between : (machine : Machine) (capture : List Record) (old new : Walk) (before after : ℕ) → Stands machine capture old → Stands machine capture new → NotBefore new.place old.place
+-- the turns of a cursor to a later place, by what it owed and owes
+pub spent_between : (machine : Machine) (capture : List Record) (old new : Cursor) (before after : ℕ) → Stands machine capture old → Stands machine capture new → NotBefore new.place old.place
     → after + owed machine capture new.place ≡ before + owed machine capture old.place → after ≡ before + turns_between machine capture old.place new.place
 spent_between machine capture old new before after h k order e =
     let a = owed-turns machine capture old h in
@@ -201,7 +201,7 @@ few_hits machine capture breakpoints place h few =
     ap length (rest-ahead machine capture breakpoints place) ∙ length-map (filter (is_hit breakpoints) (ahead machine capture place)) (stop_at why.Break) in
     omega (arith, some, length_filter (is_hit breakpoints) (ahead machine capture place), length_filter (λ (e : Entry). is_after place e.place) (joined_from machine 1 capture), length_joined machine 1 capture h)
 
-pub step_turns-reply : (machine : Machine) (c : Savefile) (breakpoints : Breakpoints) (old new : Walk) (n : ℕ) (reply : RunReply) → StepsOn machine c breakpoints old new n reply
+pub step_turns-reply : (machine : Machine) (c : Savefile) (breakpoints : Breakpoints) (old new : Cursor) (n : ℕ) (reply : RunReply) → StepsOn machine c breakpoints old new n reply
     → step_turns machine c breakpoints old n ≡ reply_turns machine c.records old.place reply new.place
 step_turns-reply machine c breakpoints old new n reply h =
     let a : RunReply × View = step_from machine c breakpoints old n in

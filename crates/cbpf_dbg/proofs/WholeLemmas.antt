@@ -8,15 +8,15 @@ use Rattle.cbpf_machine.specs.Machine.{Machine, machine_of}
 use Rattle.cbpf_code.specs.Sound.{IsSound}
 use Rattle.pcap_classic.specs.Records.{Record}
 use Rattle.pcap_classic.specs.Savefile.{Savefile}
-use Rattle.cbpf_dbg.specs.declared.reply.Place.{Place}
-use Rattle.cbpf_dbg.specs.declared.reply.Stop.{Stop}
-use Rattle.cbpf_dbg.specs.declared.reply.RunReply.TheVariants.{Stopped, Limit, Finished}
-use Rattle.cbpf_dbg.specs.declared.reply.SessionFault.{SessionFault}
-use Rattle.cbpf_dbg.specs.declared.reply.Counts.{Counts}
-use Rattle.cbpf_dbg.specs.declared.reply.Why.TheVariants as why
+use Rattle.cbpf_reply.specs.declared.reply.Place.{Place}
+use Rattle.cbpf_reply.specs.declared.reply.Stop.{Stop}
+use Rattle.cbpf_reply.specs.declared.reply.RunReply.TheVariants.{Stopped, Limit, Finished}
+use Rattle.cbpf_reply.specs.declared.reply.SessionFault.{SessionFault}
+use Rattle.cbpf_reply.specs.declared.reply.Counts.{Counts}
+use Rattle.cbpf_reply.specs.declared.reply.Why.TheVariants as why
 use Rattle.cbpf_dbg.specs.Joined.{stops as every_hit}
 use Rattle.cbpf_dbg.specs.Joined.{Entry, joined, joined_from, ahead, rest, is_hit, stop_at, is_after, turns_between, turns_to_end, counts}
-use Rattle.cbpf_dbg.specs.Walk.{NotBefore}
+use Rattle.cbpf_dbg.specs.Cursor.{NotBefore}
 use Rattle.cbpf_dbg.specs.View.{View, start}
 use Rattle.cbpf_dbg.specs.Commands.{reply_of, view_after, run, run_to_end, stops, all_stops, Found, last_place, turns_forward, turns_left, Continues, stopped, finished}
 use Rattle.cbpf_dbg.proofs.TurnLemmas.{turns-split, length_joined}

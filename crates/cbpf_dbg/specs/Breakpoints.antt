@@ -3,8 +3,8 @@ use Rattle.std.specs.Prelude.{ℕ, nat_eq, Bool, true, false, List, option_map}
 use Rattle.std.specs.Option.{option_map_or}
 use Rattle.std.specs.Map.{lookup}
 use Rattle.cbpf_machine.specs.Registers.{Registers}
-use Rattle.cbpf_dbg.specs.declared.breakpoint.When.{When}
-use Rattle.cbpf_dbg.specs.declared.breakpoint.When.TheVariants.{Always, A, X}
+use Rattle.cbpf_reply.specs.declared.breakpoints.When.{When}
+use Rattle.cbpf_reply.specs.declared.breakpoints.When.TheVariants.{Always, A, X}
 
 -- numbers of instructions, each with its condition, in order of setting
 abbrev pub Breakpoints : Type 0

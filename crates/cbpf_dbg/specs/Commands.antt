@@ -4,22 +4,22 @@ use Rattle.cbpf_code.specs.declared.insn.Insn.{Insn}
 use Rattle.cbpf_code.specs.declared.extension.Ext.{Ext}
 use Rattle.std.specs.Option.{option_map}
 use Rattle.std.specs.Map.{lookup}
-use Rattle.cbpf_dbg.specs.declared.reply.Counts.{Counts}
-use Rattle.cbpf_dbg.specs.declared.breakpoint.When.{When}
-use Rattle.cbpf_dbg.specs.declared.breakpoint.When.TheVariants.{Always}
+use Rattle.cbpf_reply.specs.declared.reply.Counts.{Counts}
+use Rattle.cbpf_reply.specs.declared.breakpoints.When.{When}
+use Rattle.cbpf_reply.specs.declared.breakpoints.When.TheVariants.{Always}
 use Rattle.cbpf_machine.specs.Values.{with_value, takes_value}
 use Rattle.cbpf_machine.specs.Machine.{Machine, machine_of}
 use Rattle.cbpf_machine.specs.Step.{turn}
 use Rattle.cbpf_machine.specs.Trace.{trace}
 use Rattle.pcap_classic.specs.Records.{Record}
 use Rattle.pcap_classic.specs.Savefile.{Savefile}
-use Rattle.cbpf_dbg.specs.declared.reply.Place.{Place}
-use Rattle.cbpf_dbg.specs.declared.reply.Stop.{Stop}
-use Rattle.cbpf_dbg.specs.declared.reply.Why.TheVariants as why
-use Rattle.cbpf_dbg.specs.declared.reply.RunReply.{RunReply}
-use Rattle.cbpf_dbg.specs.declared.reply.RunReply.TheVariants.{Stopped, Limit, Finished}
-use Rattle.cbpf_dbg.specs.declared.reply.SessionFault.{SessionFault}
-use Rattle.cbpf_dbg.specs.declared.reply.SessionFault.TheVariants.{NoProgram, NoCapture, NoPackets, NoInstruction, NoPacket, NoStep, TooFarBack, ZeroCount, NoValue, Memory}
+use Rattle.cbpf_reply.specs.declared.reply.Place.{Place}
+use Rattle.cbpf_reply.specs.declared.reply.Stop.{Stop}
+use Rattle.cbpf_reply.specs.declared.reply.Why.TheVariants as why
+use Rattle.cbpf_reply.specs.declared.reply.RunReply.{RunReply}
+use Rattle.cbpf_reply.specs.declared.reply.RunReply.TheVariants.{Stopped, Limit, Finished}
+use Rattle.cbpf_reply.specs.declared.reply.SessionFault.{SessionFault}
+use Rattle.cbpf_reply.specs.declared.reply.SessionFault.TheVariants.{NoProgram, NoCapture, NoPackets, NoInstruction, NoPacket, NoStep, TooFarBack, ZeroCount, NoValue, Memory}
 use Rattle.cbpf_dbg.specs.Joined.{stops as every_hit}
 use Rattle.cbpf_dbg.specs.Joined.{Entry, ahead, rest, stop_at, counts, turns_between, turns_to_end}
 use Rattle.indexmap.specs.IndexMap.{insert_entry, shift_remove_entry}

@@ -3,7 +3,7 @@ pub mod Hits
 pub mod Joined
 pub mod View
 pub mod Commands
-pub mod Walk
+pub mod Cursor
 pub mod Loaded
 pub mod Session
 pub mod Shown

@@ -8,23 +8,23 @@ use Rattle.cbpf_machine.specs.Step.{turn, asked}
 use Rattle.cbpf_machine.specs.Trace.{trace}
 use Rattle.pcap_classic.specs.Records.{Record}
 use Rattle.pcap_classic.specs.Savefile.{Savefile}
-use Rattle.cbpf_dbg.specs.declared.reply.Place.{Place}
-use Rattle.cbpf_dbg.specs.declared.walk.Walk.{Walk}
+use Rattle.cbpf_reply.specs.declared.reply.Place.{Place}
+use Rattle.cbpf_dbg.specs.declared.cursor.Cursor.{Cursor}
 use Rattle.cbpf_dbg.specs.Breakpoints.{Breakpoints, carries}
 use Rattle.cbpf_dbg.specs.Hits.{hit_for}
 use Rattle.cbpf_dbg.specs.View.{start}
-use Rattle.cbpf_dbg.specs.Walk.{Stands}
+use Rattle.cbpf_dbg.specs.Cursor.{Stands}
 
 -- a trail stands for the entries of the place's packet up to its step
 abbrev pub Keeps : (List Registers → Type 0) → Machine → List Record → Place → Type 0
 Keeps stands_for machine capture place =
     (r : Record) → slice_get capture (place.packet - 1) ≡ Some r → stands_for (take place.step (trace machine r.bytes r.wire))
 
-abbrev pub IsStart : Walk → Type 0
+abbrev pub IsStart : Cursor → Type 0
 IsStart w = (w.place ≡ start) × (w.origin ≡ 1)
 
--- with a program and a capture the walk stands at its place, else at the start
-abbrev pub Fits : (List Registers → Type 0) → Option (List Insn) → Values → Option Savefile → Walk → Type 0
+-- with a program and a capture the cursor stands at its place, else at the start
+abbrev pub Fits : (List Registers → Type 0) → Option (List Insn) → Values → Option Savefile → Cursor → Type 0
 Fits stands_for (Some list) values (Some c) w = Stands (machine_of list values) c.records w × Keeps stands_for (machine_of list values) c.records w.place
 Fits stands_for (Some list) values None w = IsStart w
 Fits stands_for None values capture w = IsStart w

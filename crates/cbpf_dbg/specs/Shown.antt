@@ -1,47 +1,18 @@
 -- What is shown of a stop: the parts that the kernel's Documentation/networking/filter shows for `bpf_dbg`, of the stop's own packet.
-use Rattle.std.specs.Prelude.{ℕ, ◌-◌, ◌≤◌, ◌<◌, List, [], ◌∷◌, map, length, slice_get, slice_index, Option, Some, None}
+use Rattle.std.specs.Prelude.{ℕ, ◌-◌, ◌≤◌, ◌<◌, List, [], length, slice_get, Option, Some, None}
 use Rattle.cbpf_code.specs.declared.insn.Insn.{Insn}
-use Rattle.cbpf_dump.specs.declared.dump.Reason.{Reason}
-use Rattle.cbpf_dump.specs.declared.dump.Reason.TheVariants.{Breakpoint, Step, Extension}
-use Rattle.cbpf_dump.specs.Dump.{Shown, dump_text}
-use Rattle.cbpf_machine.specs.Registers.{Registers}
+use Rattle.cbpf_reply.specs.Dump.{shown_in, dump_text}
 use Rattle.pcap_classic.specs.Records.{Record}
 use Rattle.pcap_classic.specs.Savefile.{Savefile}
-use Rattle.cbpf_dbg.specs.declared.reply.RunReply.{RunReply}
-use Rattle.cbpf_dbg.specs.declared.reply.RunReply.TheVariants.{Stopped, Limit, Finished}
-use Rattle.cbpf_dbg.specs.declared.reply.Stop.{Stop}
-use Rattle.cbpf_dbg.specs.declared.reply.Why.{Why}
-use Rattle.cbpf_dbg.specs.declared.reply.Why.TheVariants as why
+use Rattle.cbpf_reply.specs.declared.reply.RunReply.{RunReply}
+use Rattle.cbpf_reply.specs.declared.reply.RunReply.TheVariants.{Stopped, Limit, Finished}
+use Rattle.cbpf_reply.specs.declared.reply.Stop.{Stop}
 use Rattle.cbpf_dbg.specs.View.{View}
-
-abbrev pub reason_of : Why → Reason
-reason_of why.Break = Breakpoint
-reason_of why.Step = Step
-reason_of (why.Unknown e) = Extension e
-
--- scratch memory, from slot 0 to slot 15
-abbrev pub slots_of : Registers → List ℕ
-slots_of s = map (λ i. slice_index s.slots i) (0 ∷ 1 ∷ 2 ∷ 3 ∷ 4 ∷ 5 ∷ 6 ∷ 7 ∷ 8 ∷ 9 ∷ 10 ∷ 11 ∷ 12 ∷ 13 ∷ 14 ∷ 15 ∷ [])
-
--- a stop in a packet
-abbrev pub shown_in : Record → Stop → Shown
-shown_in r stop =
-    record {
-      packet = stop.place.packet;
-      step = stop.place.step;
-      pc = stop.state.pc;
-      a = stop.state.a;
-      x = stop.state.x;
-      slots = slots_of stop.state;
-      bytes = r.bytes;
-      wire = r.wire;
-      reason = reason_of stop.why;
-    }
 
 -- a stop in a packet that the capture has, if it does
 abbrev pub text_in : List Insn → Option Record → Stop → List ℕ
 text_in list None stop = []
-text_in list (Some r) stop = dump_text list (shown_in r stop)
+text_in list (Some r) stop = dump_text list (shown_in r.bytes r.wire stop)
 
 abbrev pub text_with : Option (List Insn) → Option Savefile → Stop → List ℕ
 text_with (Some list) (Some c) stop = text_in list (slice_get c.records (stop.place.packet - 1)) stop

@@ -3,7 +3,7 @@ use Rattle.std.specs.Prelude.{ℕ, List, [], Option, None}
 use Rattle.cbpf_code.specs.declared.insn.Insn.{Insn}
 use Rattle.cbpf_machine.specs.Values.{Values, no_values}
 use Rattle.pcap_classic.specs.Savefile.{Savefile}
-use Rattle.cbpf_dbg.specs.declared.reply.Place.{Place}
+use Rattle.cbpf_reply.specs.declared.reply.Place.{Place}
 use Rattle.cbpf_dbg.specs.Breakpoints.{Breakpoints}
 
 pub record View : Type 0 where

@@ -5,16 +5,16 @@ ghost use Rattle.cbpf_dbg.specs.Commands as spec;
 ghost use Rattle.cbpf_dbg.specs.Shown.{CanShow, Shows};
 ghost use Rattle.std.specs.List.{All};
 
+use crate::cursor::{Cursor, record_at};
 use crate::hit::is_quiet;
 use crate::loaded::Loaded;
-use crate::reply::{Place, RunReply, SessionFault};
 use crate::resume::resume_at;
 use crate::run::run;
 use crate::session::Session;
 use crate::step::{step_back, step_on};
 use crate::stops::Stops;
-use crate::walk::{Walk, record_at};
 use cbpf_machine::{Meter, Trail};
+use cbpf_reply::{Place, RunReply, SessionFault};
 use std::alloc::Allocator;
 
 impl<T: Trail, A: Allocator> Session<T, A> {
@@ -33,7 +33,7 @@ impl<T: Trail, A: Allocator> Session<T, A> {
         if self.capture.is_none() {
             return Err(SessionFault::NoCapture);
         }
-        Ok(self.walk.place)
+        Ok(self.cursor.place)
     }
 
     /// Goes on to the next hit, where fewer than `limit` packets are finished before it, else to the
@@ -81,7 +81,7 @@ impl<T: Trail, A: Allocator> Session<T, A> {
             meter,
             &loaded,
             quiet,
-            &mut self.walk,
+            &mut self.cursor,
             &mut self.trail,
             limit,
         );
@@ -126,7 +126,7 @@ impl<T: Trail, A: Allocator> Session<T, A> {
             breakpoints: &self.breakpoints,
             watched: &self.watched,
         };
-        resume_at(meter, &loaded, &mut self.walk, &mut self.trail, place).map_err(
+        resume_at(meter, &loaded, &mut self.cursor, &mut self.trail, place).map_err(
             SessionFault::NoStep,
         )
     }
@@ -176,9 +176,9 @@ impl<T: Trail, A: Allocator> Session<T, A> {
         };
         let entries = n.unsigned_abs();
         if n > 0 {
-            return Ok(step_on(meter, &loaded, &mut self.walk, &mut self.trail, entries));
+            return Ok(step_on(meter, &loaded, &mut self.cursor, &mut self.trail, entries));
         }
-        match step_back(meter, &loaded, &mut self.walk, &mut self.trail, entries) {
+        match step_back(meter, &loaded, &mut self.cursor, &mut self.trail, entries) {
             Ok(stop) => Ok(RunReply::Stopped(stop)),
             Err(most) => Err(SessionFault::TooFarBack(most)),
         }
@@ -208,7 +208,7 @@ impl<T: Trail, A: Allocator> Session<T, A> {
             return Err(SessionFault::NoPacket);
         }
         let _sound = program.len();
-        self.walk = Walk::before(n);
+        self.cursor = Cursor::before(n);
         self.trail.clear();
         Ok(())
     }
@@ -240,8 +240,8 @@ impl<T: Trail, A: Allocator> Session<T, A> {
                 breakpoints: &self.breakpoints,
                 watched: &self.watched,
             },
-            walk: self.walk,
-            here: record_at(capture, self.walk.place.packet),
+            cursor: self.cursor,
+            here: record_at(capture, self.cursor.place.packet),
             meter: Meter::new(),
         })
     }

@@ -10,11 +10,11 @@ ghost use Rattle.cbpf_dbg.specs.Joined.{why_of};
 ghost use Rattle.cbpf_dbg.specs.Loaded.{machine_in, breakpoints_in};
 ghost use Rattle.cbpf_dbg.specs.Session.{IsQuiet, IsSilent, IsNoHit, IsSameBut, Watches};
 
-use crate::breakpoint::Breakpoints;
+use crate::breakpoint::{Breakpoints, holds};
 use crate::loaded::Loaded;
-use crate::reply::Why;
 use cbpf_code::{Ext, Program};
 use cbpf_machine::{State, Values, asks};
+use cbpf_reply::Why;
 use std::alloc::Allocator;
 
 /// For each instruction whether an entry there can be a hit.
@@ -105,7 +105,7 @@ pub(crate) fn hit_at<A: Allocator>(loaded: &Loaded<'_, A>, s: &State) -> Option<
     match asked_at(loaded, s) {
         Some(e) => Some(Why::Unknown(e)),
         None => match loaded.breakpoints.get(&s.pc()) {
-            Some(when) if when.holds(s) => Some(Why::Break),
+            Some(when) if holds(*when, s) => Some(Why::Break),
             _ => None,
         },
     }

@@ -8,21 +8,19 @@
 
 mod breakpoint;
 mod commands;
+mod cursor;
 mod hit;
 mod loaded;
-mod reply;
 mod resume;
 mod run;
+mod run_to_end;
 mod session;
 mod step;
 mod stops;
-mod walk;
-mod whole;
 mod write_stop;
 
-pub use breakpoint::When;
 pub use cbpf_machine::{ListTrail, MarkTrail, Meter, State, Trail};
-pub use reply::{Counts, Place, RunReply, SessionFault, Stop, Why};
+pub use cbpf_reply::{Counts, Place, RunReply, SessionFault, Stop, When, Why};
 pub use session::Session;
 pub use stops::Stops;
 

@@ -5,12 +5,12 @@ ghost use Rattle.cbpf_machine.specs.Trace.{trace};
 ghost use Rattle.cbpf_dbg.specs.Commands.{steps_of};
 ghost use Rattle.cbpf_dbg.specs.Loaded.{machine_in, records_in};
 ghost use Rattle.cbpf_dbg.specs.Session.{Keeps};
-ghost use Rattle.cbpf_dbg.specs.Walk.{Stands};
+ghost use Rattle.cbpf_dbg.specs.Cursor.{Stands};
 
+use crate::cursor::Cursor;
 use crate::loaded::Loaded;
-use crate::reply::Place;
-use crate::walk::Walk;
 use cbpf_machine::{Meter, Packet, State, Trail, Turn, turn};
+use cbpf_reply::Place;
 use std::alloc::Allocator;
 
 /// The state at a step of a packet, counted from 1, or how many steps there are.
@@ -73,7 +73,7 @@ fn refill<T: Trail, A: Allocator>(
 pub(crate) fn resume_at<T: Trail, A: Allocator>(
     meter: &mut Meter,
     loaded: &Loaded<'_, A>,
-    w: &mut Walk,
+    w: &mut Cursor,
     trail: &mut T,
     place: Place,
 ) -> Result<(), u32>
@@ -89,7 +89,7 @@ pub(crate) fn resume_at<T: Trail, A: Allocator>(
     let _sound = loaded.program.len();
     if place.step == 0 {
         trail.clear();
-        *w = Walk::before(place.packet);
+        *w = Cursor::before(place.packet);
         return Ok(());
     }
     let item = loaded.capture.item(place.packet);
@@ -99,6 +99,6 @@ pub(crate) fn resume_at<T: Trail, A: Allocator>(
     };
     let state = find_step(meter, loaded, packet, place.step)?;
     refill(meter, loaded, packet, trail, place.step);
-    *w = Walk::at_entry(place, state);
+    *w = Cursor::at_entry(place, state);
     Ok(())
 }

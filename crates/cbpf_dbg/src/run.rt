@@ -6,14 +6,14 @@ ghost use Rattle.cbpf_dbg.specs.Commands.{PassesHits, back_place};
 ghost use Rattle.cbpf_dbg.specs.Joined.{rest};
 ghost use Rattle.cbpf_dbg.specs.Loaded.{machine_in, records_in, breakpoints_in};
 ghost use Rattle.cbpf_dbg.specs.Session.{IsQuiet, Keeps, Watches};
-ghost use Rattle.cbpf_dbg.specs.declared.walk.Moved.TheVariants as moved;
-ghost use Rattle.cbpf_dbg.specs.Walk.{IsHere, Stands, owed, Runs, run_turns, NotBefore, PassesOn, PassesTo, hit_of, is_limit as is_limit_at};
+ghost use Rattle.cbpf_dbg.specs.declared.cursor.Moved.TheVariants as moved;
+ghost use Rattle.cbpf_dbg.specs.Cursor.{IsHere, Stands, owed, Runs, run_turns, NotBefore, PassesOn, PassesTo, hit_of, is_limit as is_limit_at};
 
+use crate::cursor::{Cursor, Moved, advance, enter_packet, record_at};
 use crate::hit::{hit, hit_at};
 use crate::loaded::Loaded;
-use crate::reply::{RunReply, Stop, Why};
-use crate::walk::{Moved, Walk, advance, enter_packet, record_at};
 use cbpf_machine::{Followed, Meter, Packet, Trail, run_packet};
+use cbpf_reply::{RunReply, Stop, Why};
 use pcap_classic::Captured;
 use std::alloc::Allocator;
 
@@ -33,7 +33,7 @@ fn is_limit(limit: Option<u64>, packets: u64) -> bool
 fn arrive<T: Trail, A: Allocator>(
     loaded: &Loaded<'_, A>,
     here: &Captured<'_>,
-    w: &Walk,
+    w: &Cursor,
     trail: &mut T,
 ) -> Option<Why>
     requires stands { Stands (machine_in loaded.now) (records_in loaded.now) w.now }
@@ -55,7 +55,7 @@ fn leave_unwatched<T: Trail, A: Allocator>(
     meter: &mut Meter,
     loaded: &Loaded<'_, A>,
     here: &Captured<'_>,
-    w: &mut Walk,
+    w: &mut Cursor,
     trail: &mut T,
 ) -> Moved
     requires stands { Stands (machine_in loaded.now) (records_in loaded.now) w.old }
@@ -95,7 +95,7 @@ fn pass_on<T: Trail, A: Allocator>(
     meter: &mut Meter,
     loaded: &Loaded<'_, A>,
     here: &Captured<'_>,
-    w: &mut Walk,
+    w: &mut Cursor,
     trail: &mut T,
 ) -> Option<Why>
     requires stands { Stands (machine_in loaded.now) (records_in loaded.now) w.old }
@@ -129,7 +129,7 @@ fn pass_to_hit<T: Trail, A: Allocator>(
     meter: &mut Meter,
     loaded: &Loaded<'_, A>,
     here: &Captured<'_>,
-    w: &mut Walk,
+    w: &mut Cursor,
     trail: &mut T,
 ) -> Option<Why>
     requires stands { Stands (machine_in loaded.now) (records_in loaded.now) w.old }
@@ -159,7 +159,7 @@ fn pass_to_hit<T: Trail, A: Allocator>(
 fn run_here<T: Trail, A: Allocator>(
     meter: &mut Meter,
     loaded: &Loaded<'_, A>,
-    w: &mut Walk,
+    w: &mut Cursor,
     trail: &mut T,
     limit: Option<u64>,
 ) -> RunReply
@@ -180,7 +180,7 @@ fn run_here<T: Trail, A: Allocator>(
         let Some(here) = next else {
             let counts = w.counts;
             trail.clear();
-            *w = Walk::start();
+            *w = Cursor::start();
             return RunReply::Finished(counts);
         };
         // Asked for first, so that its header is fetched from memory while this packet runs.
@@ -206,7 +206,7 @@ fn pass_rest<A: Allocator>(
     meter: &mut Meter,
     loaded: &Loaded<'_, A>,
     here: &Captured<'_>,
-    w: &mut Walk,
+    w: &mut Cursor,
 )
     requires stands { Stands (machine_in loaded.now) (records_in loaded.now) w.old }
     requires here { slice_get (records_in loaded.now) (w.old.place.packet - 1) ≡ Some (record_of here.now) }
@@ -232,7 +232,7 @@ fn pass_whole<A: Allocator>(
     meter: &mut Meter,
     loaded: &Loaded<'_, A>,
     here: &Captured<'_>,
-    w: &mut Walk,
+    w: &mut Cursor,
 )
     requires stands { Stands (machine_in loaded.now) (records_in loaded.now) w.old }
     requires here { slice_get (records_in loaded.now) (w.old.place.packet - 1) ≡ Some (record_of here.now) }
@@ -254,12 +254,12 @@ fn pass_whole<A: Allocator>(
 }
 
 /// Goes on to the end of the place's packet, where it has begun: the record of the packet that comes then.
-// It isn't inlined, so that the walk of a begun packet is no part of the loop over whole ones.
+// It isn't inlined, so that the cursor of a begun packet is no part of the loop over whole ones.
 #[inline(never)]
 fn pass_begun<'a, A: Allocator>(
     meter: &mut Meter,
     loaded: &Loaded<'a, A>,
-    w: &mut Walk,
+    w: &mut Cursor,
 ) -> Option<Captured<'a>>
     requires stands { Stands (machine_in loaded.now) (records_in loaded.now) w.old }
     requires quiet { IsQuiet (machine_in loaded.now) [] }
@@ -288,7 +288,7 @@ fn pass_begun<'a, A: Allocator>(
 fn run_quietly<T: Trail, A: Allocator>(
     meter: &mut Meter,
     loaded: &Loaded<'_, A>,
-    w: &mut Walk,
+    w: &mut Cursor,
     trail: &mut T,
     limit: Option<u64>,
 ) -> RunReply
@@ -309,7 +309,7 @@ fn run_quietly<T: Trail, A: Allocator>(
     'go: loop {
         let Some(here) = next else {
             let counts = w.counts;
-            *w = Walk::start();
+            *w = Cursor::start();
             return RunReply::Finished(counts);
         };
         if is_limit(limit, w.place.packet - start) {
@@ -322,12 +322,12 @@ fn run_quietly<T: Trail, A: Allocator>(
 }
 
 /// Goes on to the next hit, to the limit of finished packets, or to the end.
-// It walks on a copy, so that the place, the state and the counts stay in the machine's registers.
+// It moves a copy, so that the place, the state and the counts stay in the machine's registers.
 pub(crate) fn run<T: Trail, A: Allocator>(
     meter: &mut Meter,
     loaded: &Loaded<'_, A>,
     quiet: bool,
-    w: &mut Walk,
+    w: &mut Cursor,
     trail: &mut T,
     limit: Option<u64>,
 ) -> RunReply

@@ -6,14 +6,14 @@ ghost use Rattle.std.specs.Option.{option_map};
 ghost use Rattle.cbpf_machine.specs.Values.{value_of};
 ghost use Rattle.cbpf_dbg.specs.Commands as spec;
 ghost use Rattle.cbpf_dbg.specs.View.{empty_view};
-ghost use Rattle.cbpf_dbg.specs.declared.reply.SessionFault.TheVariants as fault;
+ghost use Rattle.cbpf_reply.specs.declared.reply.SessionFault.TheVariants as fault;
 
-use crate::breakpoint::{Breakpoints, When};
+use crate::breakpoint::Breakpoints;
+use crate::cursor::Cursor;
 use crate::hit::{Watched, is_silent, watch, watch_at};
-use crate::reply::{Place, SessionFault};
-use crate::walk::Walk;
 use cbpf_code::{Ext, Program};
 use cbpf_machine::{Trail, Values};
+use cbpf_reply::{Place, SessionFault, When};
 use indexmap::IndexMap;
 use pcap_classic::Capture;
 use std::alloc::{Allocator, Global};
@@ -32,7 +32,7 @@ pub struct Session<T: Trail, A: Allocator = Global> {
     pub(crate) watched: Watched,
     pub(crate) capture: Option<Capture<A>>,
     pub(crate) breakpoints: Breakpoints<A>,
-    pub(crate) walk: Walk,
+    pub(crate) cursor: Cursor,
     /// The entries of the place's packet up to its step.
     pub(crate) trail: T,
 }
@@ -43,9 +43,9 @@ impl<T: Trail, A: Allocator> Model for Session<T, A> {
 
     ghost Value = { View };
 
-    ghost view = { λ s. record { program = s.program; values = s.values; capture = s.capture; breakpoints = s.breakpoints.entries; origin = s.walk.origin; place = s.walk.place } };
+    ghost view = { λ s. record { program = s.program; values = s.values; capture = s.capture; breakpoints = s.breakpoints.entries; origin = s.cursor.origin; place = s.cursor.place } };
 
-    ghost invariant = { λ s. Fits (λ xs. T.stands_for s.trail xs) s.program s.values s.capture s.walk × IsKnown s.silent s.watched s.program s.values s.breakpoints.entries };
+    ghost invariant = { λ s. Fits (λ xs. T.stands_for s.trail xs) s.program s.values s.capture s.cursor × IsKnown s.silent s.watched s.program s.values s.breakpoints.entries };
 }
 
 impl<T: Trail, A: Allocator + Copy> Session<T, A> {
@@ -63,7 +63,7 @@ impl<T: Trail, A: Allocator + Copy> Session<T, A> {
             watched: [false; 4096],
             capture: None,
             breakpoints: IndexMap::new(alloc),
-            walk: Walk::start(),
+            cursor: Cursor::start(),
             trail,
         }
     }
@@ -132,7 +132,7 @@ impl<T: Trail, A: Allocator> Session<T, A> {
         self.silent = is_silent(&p, &self.values);
         watch(&mut self.watched, &p, &self.values, &self.breakpoints);
         self.program = Some(p);
-        self.walk = Walk::start();
+        self.cursor = Cursor::start();
         self.trail.clear();
     }
 
@@ -144,7 +144,7 @@ impl<T: Trail, A: Allocator> Session<T, A> {
             let _sound = p.len();
         }
         self.capture = Some(c);
-        self.walk = Walk::start();
+        self.cursor = Cursor::start();
         self.trail.clear();
     }
 
@@ -228,7 +228,7 @@ impl<T: Trail, A: Allocator> Session<T, A> {
             self.silent = is_silent(program, &self.values);
             watch(&mut self.watched, program, &self.values, &self.breakpoints);
         }
-        self.walk = Walk::before(packet);
+        self.cursor = Cursor::before(packet);
         self.trail.clear();
         Ok(())
     }
@@ -237,7 +237,7 @@ impl<T: Trail, A: Allocator> Session<T, A> {
     pub fn place(&self) -> Place
         ensures { result ≡ self.now.place }
     {
-        self.walk.place
+        self.cursor.place
     }
 
     /// How many breakpoints are set.

@@ -4,20 +4,20 @@ ghost use Rattle.std.specs.Prelude.{◌≡◌, ◌+◌, ◌<◌, ◌≤◌, ◌^
 ghost use Rattle.cbpf_dbg.specs.Breakpoints.{Breakpoints};
 ghost use Rattle.cbpf_dbg.specs.Loaded.{machine_in, records_in};
 ghost use Rattle.cbpf_dbg.specs.Session.{Keeps};
-ghost use Rattle.cbpf_dbg.specs.Walk.{Stands, owed, StepsOn, step_turns, StepsBack, CannotStepBack};
+ghost use Rattle.cbpf_dbg.specs.Cursor.{Stands, owed, StepsOn, step_turns, StepsBack, CannotStepBack};
 
+use crate::cursor::{Cursor, Moved, advance, record_at};
 use crate::hit::why_at;
 use crate::loaded::Loaded;
-use crate::reply::{RunReply, Stop, Why};
-use crate::walk::{Moved, Walk, advance, record_at};
 use cbpf_machine::{Meter, Packet, Trail};
+use cbpf_reply::{RunReply, Stop, Why};
 use std::alloc::Allocator;
 
 /// Goes on by that many entries, or to the end.
 pub(crate) fn step_on<T: Trail, A: Allocator>(
     meter: &mut Meter,
     loaded: &Loaded<'_, A>,
-    w: &mut Walk,
+    w: &mut Cursor,
     trail: &mut T,
     n: u64,
 ) -> RunReply
@@ -36,7 +36,7 @@ pub(crate) fn step_on<T: Trail, A: Allocator>(
         let Some(here) = next else {
             let counts = w.counts;
             trail.clear();
-            *w = Walk::start();
+            *w = Cursor::start();
             return RunReply::Finished(counts);
         };
         match advance(meter, loaded, &here, w) {
@@ -64,7 +64,7 @@ pub(crate) fn step_on<T: Trail, A: Allocator>(
 pub(crate) fn step_back<T: Trail, A: Allocator>(
     meter: &mut Meter,
     loaded: &Loaded<'_, A>,
-    w: &mut Walk,
+    w: &mut Cursor,
     trail: &mut T,
     b: u64,
 ) -> Result<Stop, u32>

@@ -5,14 +5,14 @@ ghost use Rattle.std.specs.Iterator.{YieldsFirst, item_count};
 ghost use Rattle.cbpf_dbg.specs.Joined.{rest};
 ghost use Rattle.cbpf_dbg.specs.Loaded.{machine_in, records_in, breakpoints_in};
 ghost use Rattle.cbpf_dbg.specs.Session.{Watches};
-ghost use Rattle.cbpf_dbg.specs.Walk.{Stands, owed, IsHere};
-ghost use Rattle.cbpf_dbg.specs.declared.walk.Walk.{Walk};
+ghost use Rattle.cbpf_dbg.specs.Cursor.{Stands, owed, IsHere};
+ghost use Rattle.cbpf_dbg.specs.declared.cursor.Cursor.{Cursor};
 
+use crate::cursor::{Cursor, Moved, advance};
 use crate::hit::hit;
 use crate::loaded::Loaded;
-use crate::reply::Stop;
-use crate::walk::{Moved, Walk, advance};
 use cbpf_machine::Meter;
+use cbpf_reply::Stop;
 use pcap_classic::Captured;
 use std::alloc::{Allocator, Global};
 use std::marker::Model;
@@ -23,7 +23,7 @@ use std::marker::Model;
 #[derive(Drop)]
 pub struct Stops<'a, A: Allocator = Global> {
     pub(crate) loaded: Loaded<'a, A>,
-    pub(crate) walk: Walk,
+    pub(crate) cursor: Cursor,
     /// The record of the place's packet.
     pub(crate) here: Option<Captured<'a>>,
     pub(crate) meter: Meter,
@@ -31,17 +31,17 @@ pub struct Stops<'a, A: Allocator = Global> {
 
 impl<'a, A: Allocator> Model for Stops<'a, A> {
     ghost use Rattle.std.specs.Prelude.{List, ◌≡◌, ◌+◌, ◌<◌, ◌^◌, true};
-    ghost use Rattle.cbpf_dbg.specs.declared.reply.Stop.{Stop};
+    ghost use Rattle.cbpf_reply.specs.declared.reply.Stop.{Stop};
     ghost use Rattle.cbpf_dbg.specs.Joined.{rest};
     ghost use Rattle.cbpf_dbg.specs.Loaded.{machine_in, records_in, breakpoints_in};
     ghost use Rattle.cbpf_dbg.specs.Session.{Watches};
-    ghost use Rattle.cbpf_dbg.specs.Walk.{Stands, owed, IsHere};
+    ghost use Rattle.cbpf_dbg.specs.Cursor.{Stands, owed, IsHere};
 
     ghost Value = { List Stop };
 
-    ghost view = { λ s. rest (machine_in s.loaded) (records_in s.loaded) (breakpoints_in s.loaded) s.walk.place };
+    ghost view = { λ s. rest (machine_in s.loaded) (records_in s.loaded) (breakpoints_in s.loaded) s.cursor.place };
 
-    ghost invariant = { λ s. Stands (machine_in s.loaded) (records_in s.loaded) s.walk × IsHere (records_in s.loaded) s.walk.place.packet s.here × Watches s.loaded.watched.now (machine_in s.loaded) (breakpoints_in s.loaded) × (s.meter + owed (machine_in s.loaded) (records_in s.loaded) s.walk.place + 1 < 2 ^ 128) };
+    ghost invariant = { λ s. Stands (machine_in s.loaded) (records_in s.loaded) s.cursor × IsHere (records_in s.loaded) s.cursor.place.packet s.here × Watches s.loaded.watched.now (machine_in s.loaded) (breakpoints_in s.loaded) × (s.meter + owed (machine_in s.loaded) (records_in s.loaded) s.cursor.place + 1 < 2 ^ 128) };
 }
 
 /// Goes on to the next hit, or to the end, and returns the record of the place's packet.
@@ -49,7 +49,7 @@ impl<'a, A: Allocator> Model for Stops<'a, A> {
 fn next_stop<'a, A: Allocator>(
     meter: &mut Meter,
     loaded: &Loaded<'a, A>,
-    w: &mut Walk,
+    w: &mut Cursor,
     first: Option<Captured<'a>>,
 ) -> (Option<Stop>, Option<Captured<'a>>)
     requires stands { Stands (machine_in loaded.now) (records_in loaded.now) w.old }
@@ -59,7 +59,7 @@ fn next_stop<'a, A: Allocator>(
     ensures stands { Stands (machine_in loaded.now) (records_in loaded.now) w.new }
     ensures here { IsHere (records_in loaded.now) w.new.place.packet result.1 }
     ensures spent { meter.new + owed (machine_in loaded.now) (records_in loaded.now) w.new.place ≡ meter.old + owed (machine_in loaded.now) (records_in loaded.now) w.old.place }
-    ensures next { YieldsFirst (λ (v : Walk). rest (machine_in loaded.now) (records_in loaded.now) (breakpoints_in loaded.now) v.place) w.old result.0 w.new }
+    ensures next { YieldsFirst (λ (v : Cursor). rest (machine_in loaded.now) (records_in loaded.now) (breakpoints_in loaded.now) v.place) w.old result.0 w.new }
 {
     let mut next = first;
     'go: loop {
@@ -89,11 +89,11 @@ impl<'a, A: Allocator> Iterator for Stops<'a, A> {
 
     ghost remaining = { item_count (λ left. left) };
 
-    // It walks on a copy, as a run does.
+    // It moves a copy, as a run does.
     fn next(&mut self) -> Option<Stop> {
-        let mut walk = self.walk;
-        let (stop, here) = next_stop(&mut self.meter, &self.loaded, &mut walk, self.here);
-        self.walk = walk;
+        let mut cursor = self.cursor;
+        let (stop, here) = next_stop(&mut self.meter, &self.loaded, &mut cursor, self.here);
+        self.cursor = cursor;
         self.here = here;
         stop
     }

@@ -1,5 +1,5 @@
 -- What the assembler's answers mean.
-use Rattle.std.proofs.Common.{◌≡◌, ℕ, List, []}
+use Rattle.std.proofs.Common.{ℕ, List, []}
 use Rattle.std.specs.Prelude.{◌≢◌, IfErr, Option, Result, Ok, Err}
 use Rattle.std.specs.Io.KnownBytes.{Keeps}
 use Rattle.cbpf_code.specs.Writing.{Appended, AppendedPart}

@@ -4,5 +4,7 @@ pub mod ReplyLemmas
 pub mod ScriptLemmas
 pub mod AssemblyLemmas
 pub mod SourceLemmas
-pub mod SaidLemmas
+pub mod SessionReplyLemmas
 pub mod OutputLaws
+pub mod EachText
+pub mod ListedLemmas

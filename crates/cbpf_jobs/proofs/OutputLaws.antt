@@ -11,35 +11,35 @@ use Rattle.cbpf_dbg.specs.View.{View}
 use Rattle.pcap_classic.specs.Savefile.{Savefile}
 use Rattle.pcap_classic.proofs.SavefileLemmas as captures
 use Rattle.cbpf_jobs.specs.FileMap.{FileMap}
-use Rattle.cbpf_jobs.specs.Output.{Output, at_end, at_quit, at_line}
-use Rattle.cbpf_jobs.specs.Replies.{Exactly, LoadsWords, unreadable, unsound, accepted, ReadsCapture, no_capture, a_capture, LoadsCapture, Answers, Replies}
+use Rattle.cbpf_jobs.specs.Output.{at_end, at_quit, at_line}
+use Rattle.cbpf_jobs.specs.Replies.{Writes, LoadsWords, unreadable, unsound, accepted, ReadsCapture, no_capture, a_capture, LoadsCapture, CommandReplies, LineReplies}
 use Rattle.cbpf_jobs.specs.Texts.{memory_text, device_text, word_fault_text, check_fault_text, program_text, capture_fault_text, capture_text}
 use Rattle.cbpf_dbg.specs.Commands.{with_program_loaded, with_capture_loaded}
-use Rattle.cbpf_jobs.specs.Laws.{Says, Line, OwnOutput, own_end, own_quit, own_line, Stands, OneOutput, NoOther}
+use Rattle.cbpf_jobs.specs.Laws.{OwnReply, OwnLineReply, OwnOutput, own_end, own_quit, own_line, Stands, OneOutput, NoOther}
 
 -- two replies with the text that each has
 abbrev Same : View → View → List ℕ → List ℕ → Type 0
 Same n n' t t' = (n' ≡ n) × (t' ≡ t)
 
-exactly-once : (text t t' : List ℕ) (m n n' : View) → Exactly text m n (λ s. s ≡ t) → Exactly text m n' (λ s. s ≡ t') → Same n n' t t'
-unfolding Exactly
-exactly-once text t t' m n n' a b = (b.0 ∙ sym a.0, sym b.1 ∙ a.1)
+writes-once : (reply : List ℕ × View) (t t' : List ℕ) (n n' : View) → Writes reply n (λ s. s ≡ t) → Writes reply n' (λ s. s ≡ t') → Same n n' t t'
+unfolding Writes
+writes-once reply t t' n n' a b = (b.0 ∙ sym a.0, sym b.1 ∙ a.1)
 
 -- the same of texts that are equal
-exactly-equal : (text text' t t' : List ℕ) (m m' n n' : View) → text' ≡ text → m' ≡ m → Exactly text m n (λ s. s ≡ t) → Exactly text' m' n' (λ s. s ≡ t') → Same n n' t t'
-unfolding Exactly
-exactly-equal text text' t t' m m' n n' e v a b = (b.0 ∙ v ∙ sym a.0, sym b.1 ∙ e ∙ a.1)
+writes-equal : (text text' t t' : List ℕ) (m m' n n' : View) → text' ≡ text → m' ≡ m → Writes (text, m) n (λ s. s ≡ t) → Writes (text', m') n' (λ s. s ≡ t') → Same n n' t t'
+unfolding Writes
+writes-equal text text' t t' m m' n n' e v a b = (b.0 ∙ v ∙ sym a.0, sym b.1 ∙ e ∙ a.1)
 
 words-once : (m n n' : View) (text t t' : List ℕ) → LoadsWords m n text (λ s. s ≡ t) → LoadsWords m n' text (λ s. s ≡ t') → Same n n' t t'
 words-once m n n' text t t' (unreadable f r u h) (unreadable f' r' u' h') =
-    exactly-equal _ _ t t' m m n n' (ap word_fault_text (refused-once text f f' u u' r r')) refl h h'
+    writes-equal _ _ t t' m m n n' (ap word_fault_text (refused-once text f f' u u' r r')) refl h h'
 words-once m n n' text t t' (unreadable f r u h) (unsound list e s o h') = absurd (spells-not_refused text list f s u r)
 words-once m n n' text t t' (unreadable f r u h) (accepted list s o h') = absurd (spells-not_refused text list f s u r)
 words-once m n n' text t t' (unsound list e s o h) (unreadable f r u h') = absurd (spells-not_refused text list f s u r)
 words-once m n n' text t t' (accepted list s o h) (unreadable f r u h') = absurd (spells-not_refused text list f s u r)
 words-once m n n' text t t' (unsound list e s o h) (unsound list' e' s' o' h') =
     let same = spells-once text list list' s s' in
-    exactly-equal _ _ t t' m m n n' (ap check_fault_text (first_fault-unique list e e' o (rw same at o'))) refl h h'
+    writes-equal _ _ t t' m m n n' (ap check_fault_text (first_fault-unique list e e' o (rw same at o'))) refl h h'
 words-once m n n' text t t' (unsound list e s o h) (accepted list' s' o' h') =
     let same = spells-once text list list' s s' in
     absurd ((rw same at o').none e o.present)
@@ -48,50 +48,50 @@ words-once m n n' text t t' (accepted list s o h) (unsound list' e s' o' h') =
     absurd (o.none e (rw same at o'.present))
 words-once m n n' text t t' (accepted list s o h) (accepted list' s' o' h') =
     let same = spells-once text list list' s s' in
-    exactly-equal _ _ t t' _ _ n n' (ap (λ (l : List Insn). program_text (length l)) same) (ap (λ (l : List Insn). with_program_loaded m l) same) h h'
+    writes-equal _ _ t t' _ _ n n' (ap (λ (l : List Insn). program_text (length l)) same) (ap (λ (l : List Insn). with_program_loaded m l) same) h h'
 
 reads-once : (m n n' : View) (bytes t t' : List ℕ) → ReadsCapture m n bytes (λ s. s ≡ t) → ReadsCapture m n' bytes (λ s. s ≡ t') → Same n n' t t'
 reads-once m n n' bytes t t' (no_capture f r u h) (no_capture f' r' u' h') =
-    exactly-equal _ _ t t' m m n n' (ap capture_fault_text (captures.one_refusal bytes f f' r r')) refl h h'
+    writes-equal _ _ t t' m m n n' (ap capture_fault_text (captures.one_refusal bytes f f' r r')) refl h h'
 reads-once m n n' bytes t t' (no_capture f r u h) (a_capture c s h') = absurd (u (captures.only_memory bytes c f s r))
 reads-once m n n' bytes t t' (a_capture c s h) (no_capture f r u h') = absurd (u (captures.only_memory bytes c f s r))
 reads-once m n n' bytes t t' (a_capture c s h) (a_capture c' s' h') =
     let same = captures.one_capture bytes c c' s s' in
-    exactly-equal _ _ t t' _ _ n n' (ap capture_text same) (ap (λ (x : Savefile). with_capture_loaded m x) same) h h'
+    writes-equal _ _ t t' _ _ n n' (ap capture_text same) (ap (λ (x : Savefile). with_capture_loaded m x) same) h h'
 
 capture-once : (m n n' : View) (bytes : Option (List ℕ)) (t t' : List ℕ) → LoadsCapture m n bytes (λ s. s ≡ t) → LoadsCapture m n' bytes (λ s. s ≡ t') → Same n n' t t'
-capture-once m n n' None t t' a b = exactly-once _ t t' m n n' a b
+capture-once m n n' None t t' a b = writes-once _ t t' n n' a b
 capture-once m n n' (Some bytes) t t' a b = reads-once m n n' bytes t t' a b
 
-says-once : (files : FileMap) (m n n' : View) (c : Spelled) (t t' : List ℕ) → Says files m n c t → Says files m n' c t' → Same n n' t t'
-says-once files m n n' (load_words text) t t' a b = words-once m n n' text t t' a b
-says-once files m n n' (load_capture name) t t' a b = capture-once m n n' (map.get files name) t t' a b
-says-once files m n n' (breakpoint k) t t' a b = exactly-once _ t t' _ n n' a b
-says-once files m n n' (breakpoint_when_a k v) t t' a b = exactly-once _ t t' _ n n' a b
-says-once files m n n' (breakpoint_when_x k v) t t' a b = exactly-once _ t t' _ n n' a b
-says-once files m n n' (run limit) t t' a b = exactly-once _ t t' _ n n' a b
-says-once files m n n' disassemble t t' a b = exactly-once _ t t' _ n n' a b
-says-once files m n n' dump t t' a b = exactly-once _ t t' _ n n' a b
-says-once files m n n' breakpoints t t' a b = exactly-once _ t t' _ n n' a b
-says-once files m n n' reset_breakpoints t t' a b = exactly-once _ t t' _ n n' a b
-says-once files m n n' (delete k) t t' a b = exactly-once _ t t' _ n n' a b
-says-once files m n n' (step k) t t' a b = exactly-once _ t t' _ n n' a b
-says-once files m n n' (select k) t t' a b = exactly-once _ t t' _ n n' a b
-says-once files m n n' mark t t' a b = exactly-once _ t t' _ n n' a b
-says-once files m n n' (resume p s) t t' a b = exactly-once _ t t' _ n n' a b
-says-once files m n n' stops t t' a b = exactly-once _ t t' _ n n' a b
-says-once files m n n' (value e k) t t' a b = exactly-once _ t t' _ n n' a b
-says-once files m n n' quit t t' a b = absurd a
+own-once : (files : FileMap) (m n n' : View) (c : Spelled) (t t' : List ℕ) → OwnReply files m n c t → OwnReply files m n' c t' → Same n n' t t'
+own-once files m n n' (load_words text) t t' a b = words-once m n n' text t t' a b
+own-once files m n n' (load_capture name) t t' a b = capture-once m n n' (map.get files name) t t' a b
+own-once files m n n' (breakpoint k) t t' a b = writes-once _ t t' n n' a b
+own-once files m n n' (breakpoint_when_a k v) t t' a b = writes-once _ t t' n n' a b
+own-once files m n n' (breakpoint_when_x k v) t t' a b = writes-once _ t t' n n' a b
+own-once files m n n' (run limit) t t' a b = writes-once _ t t' n n' a b
+own-once files m n n' disassemble t t' a b = writes-once _ t t' n n' a b
+own-once files m n n' dump t t' a b = writes-once _ t t' n n' a b
+own-once files m n n' breakpoints t t' a b = writes-once _ t t' n n' a b
+own-once files m n n' reset_breakpoints t t' a b = writes-once _ t t' n n' a b
+own-once files m n n' (delete k) t t' a b = writes-once _ t t' n n' a b
+own-once files m n n' (step k) t t' a b = writes-once _ t t' n n' a b
+own-once files m n n' (select k) t t' a b = writes-once _ t t' n n' a b
+own-once files m n n' mark t t' a b = writes-once _ t t' n n' a b
+own-once files m n n' (resume p s) t t' a b = writes-once _ t t' n n' a b
+own-once files m n n' stops t t' a b = writes-once _ t t' n n' a b
+own-once files m n n' (value e k) t t' a b = writes-once _ t t' n n' a b
+own-once files m n n' quit t t' a b = absurd a
 
-line-once : (files : FileMap) (m n n' : View) (said : Result (Option Spelled) LineRefusal) (t t' : List ℕ) → Line files m n said t → Line files m n' said t' → Same n n' t t'
-line-once files m n n' (Ok None) t t' a b = exactly-once _ t t' _ n n' a b
-line-once files m n n' (Ok (Some c)) t t' a b = says-once files m n n' c t t' a b
-line-once files m n n' (Err UnknownCommand) t t' a b = exactly-once _ t t' _ n n' a b
-line-once files m n n' (Err WrongArguments) t t' a b = exactly-once _ t t' _ n n' a b
+line-once : (files : FileMap) (m n n' : View) (spelled : Result (Option Spelled) LineRefusal) (t t' : List ℕ) → OwnLineReply files m n spelled t → OwnLineReply files m n' spelled t' → Same n n' t t'
+line-once files m n n' (Ok None) t t' a b = writes-once _ t t' n n' a b
+line-once files m n n' (Ok (Some c)) t t' a b = own-once files m n n' c t t' a b
+line-once files m n n' (Err UnknownCommand) t t' a b = writes-once _ t t' n n' a b
+line-once files m n n' (Err WrongArguments) t t' a b = writes-once _ t t' n n' a b
 
 -- `quit` has no reply
-quit-none : (files : FileMap) (m n : View) (said : Result (Option Spelled) LineRefusal) (t : List ℕ) → said ≡ Ok (Some quit) → Line files m n said t → ⊥
-quit-none files m n said t e h = subst (λ s. Line files m n s t) e h
+quit-none : (files : FileMap) (m n : View) (spelled : Result (Option Spelled) LineRefusal) (t : List ℕ) → spelled ≡ Ok (Some quit) → OwnLineReply files m n spelled t → ⊥
+quit-none files m n spelled t e h = subst (λ s. OwnLineReply files m n s t) e h
 
 pub one_output : OneOutput
 one_output files m [] t u own_end own_end = refl
@@ -105,36 +105,36 @@ one_output files m (l ∷ ls) t u (own_line {n = n} {rest = rest} _ text r o) (o
 
 -- ---- an output in which neither of the two other replies stands
 
-says-or : (files : FileMap) (m n : View) (f g : ℕ) (c : Spelled) (t : List ℕ) → Answers files m n f g c (λ s. s ≡ t) → Says files m n c t ⊎ ((memory_text ≡ t) ⊎ (device_text ≡ t))
-unfolding Exactly
-says-or files m n f g (load_words text) t (inl h) = inl h
-says-or files m n f g (load_words text) t (inr h) = inr (inl h.1)
-says-or files m n f g (load_capture name) t (inl h) = inl h
-says-or files m n f g (load_capture name) t (inr (inl h)) = inr (inl h.1)
-says-or files m n f g (load_capture name) t (inr (inr h)) = inr (inr h.1.1)
-says-or files m n f g (breakpoint k) t (inl h) = inl h
-says-or files m n f g (breakpoint k) t (inr h) = inr (inl h.1.1)
-says-or files m n f g (breakpoint_when_a k v) t (inl h) = inl h
-says-or files m n f g (breakpoint_when_a k v) t (inr h) = inr (inl h.1.1)
-says-or files m n f g (breakpoint_when_x k v) t (inl h) = inl h
-says-or files m n f g (breakpoint_when_x k v) t (inr h) = inr (inl h.1.1)
-says-or files m n f g (run limit) t h = inl h
-says-or files m n f g disassemble t h = inl h
-says-or files m n f g dump t h = inl h
-says-or files m n f g breakpoints t h = inl h
-says-or files m n f g reset_breakpoints t h = inl h
-says-or files m n f g (delete k) t h = inl h
-says-or files m n f g (step k) t h = inl h
-says-or files m n f g (select k) t h = inl h
-says-or files m n f g mark t h = inl h
-says-or files m n f g (resume p s) t h = inl h
-says-or files m n f g stops t h = inl h
-says-or files m n f g (value e k) t h = inl h
-says-or files m n f g quit t h = absurd h
+own-or : (files : FileMap) (m n : View) (f g : ℕ) (c : Spelled) (t : List ℕ) → CommandReplies files m n f g c (λ s. s ≡ t) → OwnReply files m n c t ⊎ ((memory_text ≡ t) ⊎ (device_text ≡ t))
+unfolding Writes
+own-or files m n f g (load_words text) t (inl h) = inl h
+own-or files m n f g (load_words text) t (inr h) = inr (inl h.1)
+own-or files m n f g (load_capture name) t (inl h) = inl h
+own-or files m n f g (load_capture name) t (inr (inl h)) = inr (inl h.1)
+own-or files m n f g (load_capture name) t (inr (inr h)) = inr (inr h.1.1)
+own-or files m n f g (breakpoint k) t (inl h) = inl h
+own-or files m n f g (breakpoint k) t (inr h) = inr (inl h.1.1)
+own-or files m n f g (breakpoint_when_a k v) t (inl h) = inl h
+own-or files m n f g (breakpoint_when_a k v) t (inr h) = inr (inl h.1.1)
+own-or files m n f g (breakpoint_when_x k v) t (inl h) = inl h
+own-or files m n f g (breakpoint_when_x k v) t (inr h) = inr (inl h.1.1)
+own-or files m n f g (run limit) t h = inl h
+own-or files m n f g disassemble t h = inl h
+own-or files m n f g dump t h = inl h
+own-or files m n f g breakpoints t h = inl h
+own-or files m n f g reset_breakpoints t h = inl h
+own-or files m n f g (delete k) t h = inl h
+own-or files m n f g (step k) t h = inl h
+own-or files m n f g (select k) t h = inl h
+own-or files m n f g mark t h = inl h
+own-or files m n f g (resume p s) t h = inl h
+own-or files m n f g stops t h = inl h
+own-or files m n f g (value e k) t h = inl h
+own-or files m n f g quit t h = absurd h
 
-line-or : (files : FileMap) (m n : View) (f g : ℕ) (said : Result (Option Spelled) LineRefusal) (t : List ℕ) → Replies files m n f g said (λ s. s ≡ t) → Line files m n said t ⊎ ((memory_text ≡ t) ⊎ (device_text ≡ t))
+line-or : (files : FileMap) (m n : View) (f g : ℕ) (spelled : Result (Option Spelled) LineRefusal) (t : List ℕ) → LineReplies files m n f g spelled (λ s. s ≡ t) → OwnLineReply files m n spelled t ⊎ ((memory_text ≡ t) ⊎ (device_text ≡ t))
 line-or files m n f g (Ok None) t h = inl h
-line-or files m n f g (Ok (Some c)) t h = says-or files m n f g c t h
+line-or files m n f g (Ok (Some c)) t h = own-or files m n f g c t h
 line-or files m n f g (Err UnknownCommand) t h = inl h
 line-or files m n f g (Err WrongArguments) t h = inl h
 

@@ -12,14 +12,14 @@ use Rattle.cbpf_jobs.specs.FileMap.{FileMap, Source}
 use Rattle.cbpf_jobs.specs.Lines.{lines, put_front, whole_lines, has_newline}
 use Rattle.cbpf_dbg.specs.View.{View, empty_view}
 use Rattle.cbpf_jobs.specs.Reading.{unread, Took, TakesLine}
-use Rattle.cbpf_jobs.specs.Replies.{Exactly, LoadsWords, unreadable, unsound, accepted, ReadsCapture, no_capture, a_capture, LoadsCapture, Answers, Replies}
+use Rattle.cbpf_jobs.specs.Replies.{Writes, LoadsWords, unreadable, unsound, accepted, ReadsCapture, no_capture, a_capture, LoadsCapture, CommandReplies, LineReplies}
 use Rattle.cbpf_jobs.specs.Output.{Output, at_end, at_quit, at_line, HasQuit}
-use Rattle.cbpf_jobs.specs.Progress.{CarriedOut, unlines, EachPlain, Ran, still, onward, Progress}
+use Rattle.cbpf_jobs.specs.Progress.{LineRan, unlines, EachPlain, LinesRan, still, onward, Progress}
 use Rattle.cbpf_jobs.specs.Debugged.{IsOutput, Faulted, Finished}
 use Rattle.cbpf_jobs.specs.declared.fault.ToolFault.{ToolFault}
 use Rattle.cbpf_jobs.specs.declared.fault.ToolFault.TheVariants.{Source as RefusedSource, Read, Write, Memory}
-use Rattle.cbpf_jobs.specs.declared.debugger.Behind.{Behind}
-use Rattle.cbpf_jobs.specs.declared.debugger.Behind.TheVariants.{NextLine, Quit}
+use Rattle.cbpf_jobs.specs.declared.debugger.AfterLine.{AfterLine}
+use Rattle.cbpf_jobs.specs.declared.debugger.AfterLine.TheVariants.{NextLine, Quit}
 
 lines-plain : (l bs : List ℕ) → has_newline l ≡ false → lines (l ++ 10 ∷ bs) ≡ l ∷ lines bs
 lines-plain [] bs h = refl
@@ -79,54 +79,54 @@ lines-some (b ∷ bs) n = elim (eqb b 10) as (λ t. (l : List ℕ) × (more : Li
 
 -- ---- the text of a reply
 
-exactly-named : (text : List ℕ) (m n : View) (W : List ℕ → Type 0) → Exactly text m n W → (t : List ℕ) × Exactly text m n (λ s. s ≡ t) × W t
-unfolding Exactly
-exactly-named text m n W h = (text, (h.0, refl), h.1)
+writes-named : (reply : List ℕ × View) (n : View) (W : List ℕ → Type 0) → Writes reply n W → (t : List ℕ) × Writes reply n (λ s. s ≡ t) × W t
+unfolding Writes
+writes-named reply n W h = (reply.0, (h.0, refl), h.1)
 
 words-named : (m n : View) (text : List ℕ) (W : List ℕ → Type 0) → LoadsWords m n text W → (t : List ℕ) × LoadsWords m n text (λ s. s ≡ t) × W t
-words-named m n text W (unreadable fault r u h) = let k = exactly-named _ m n W h in (k.0, unreadable fault r u k.1, k.2)
-words-named m n text W (unsound list fault s f h) = let k = exactly-named _ m n W h in (k.0, unsound list fault s f k.1, k.2)
-words-named m n text W (accepted list s f h) = let k = exactly-named _ _ n W h in (k.0, accepted list s f k.1, k.2)
+words-named m n text W (unreadable fault r u h) = let k = writes-named _ n W h in (k.0, unreadable fault r u k.1, k.2)
+words-named m n text W (unsound list fault s f h) = let k = writes-named _ n W h in (k.0, unsound list fault s f k.1, k.2)
+words-named m n text W (accepted list s f h) = let k = writes-named _ n W h in (k.0, accepted list s f k.1, k.2)
 
 reads-named : (m n : View) (bytes : List ℕ) (W : List ℕ → Type 0) → ReadsCapture m n bytes W → (t : List ℕ) × ReadsCapture m n bytes (λ s. s ≡ t) × W t
-reads-named m n bytes W (no_capture fault r u h) = let k = exactly-named _ m n W h in (k.0, no_capture fault r u k.1, k.2)
-reads-named m n bytes W (a_capture capture s h) = let k = exactly-named _ _ n W h in (k.0, a_capture capture s k.1, k.2)
+reads-named m n bytes W (no_capture fault r u h) = let k = writes-named _ n W h in (k.0, no_capture fault r u k.1, k.2)
+reads-named m n bytes W (a_capture capture s h) = let k = writes-named _ n W h in (k.0, a_capture capture s k.1, k.2)
 
 capture-named : (m n : View) (bytes : Option (List ℕ)) (W : List ℕ → Type 0) → LoadsCapture m n bytes W → (t : List ℕ) × LoadsCapture m n bytes (λ s. s ≡ t) × W t
-capture-named m n None W h = exactly-named _ m n W h
+capture-named m n None W h = writes-named _ n W h
 capture-named m n (Some bytes) W h = reads-named m n bytes W h
 
-answers-named : (files : FileMap) (m n : View) (f g : ℕ) (c : Spelled) (W : List ℕ → Type 0) → Answers files m n f g c W → (t : List ℕ) × Answers files m n f g c (λ s. s ≡ t) × W t
+answers-named : (files : FileMap) (m n : View) (f g : ℕ) (c : Spelled) (W : List ℕ → Type 0) → CommandReplies files m n f g c W → (t : List ℕ) × CommandReplies files m n f g c (λ s. s ≡ t) × W t
 answers-named files m n f g (load_words text) W (inl h) = let k = words-named m n text W h in (k.0, inl k.1, k.2)
-answers-named files m n f g (load_words text) W (inr h) = let k = exactly-named _ m n W h in (k.0, inr k.1, k.2)
+answers-named files m n f g (load_words text) W (inr h) = let k = writes-named _ n W h in (k.0, inr k.1, k.2)
 answers-named files m n f g (load_capture name) W (inl h) = let k = capture-named m n (map.get files name) W h in (k.0, inl k.1, k.2)
-answers-named files m n f g (load_capture name) W (inr (inl h)) = let k = exactly-named _ m n W h in (k.0, inr (inl k.1), k.2)
-answers-named files m n f g (load_capture name) W (inr (inr h)) = let k = exactly-named _ m n W h.1 in (k.0, inr (inr (h.0, k.1)), k.2)
-answers-named files m n f g (run limit) W h = exactly-named _ _ n W h
-answers-named files m n f g disassemble W h = exactly-named _ m n W h
-answers-named files m n f g dump W h = exactly-named _ m n W h
-answers-named files m n f g (breakpoint k) W (inl h) = let k = exactly-named _ _ n W h in (k.0, inl k.1, k.2)
-answers-named files m n f g (breakpoint k) W (inr h) = let k = exactly-named _ m n W h.1 in (k.0, inr (h.0, k.1), k.2)
-answers-named files m n f g (breakpoint_when_a k v) W (inl h) = let k = exactly-named _ _ n W h in (k.0, inl k.1, k.2)
-answers-named files m n f g (breakpoint_when_a k v) W (inr h) = let k = exactly-named _ m n W h.1 in (k.0, inr (h.0, k.1), k.2)
-answers-named files m n f g (breakpoint_when_x k v) W (inl h) = let k = exactly-named _ _ n W h in (k.0, inl k.1, k.2)
-answers-named files m n f g (breakpoint_when_x k v) W (inr h) = let k = exactly-named _ m n W h.1 in (k.0, inr (h.0, k.1), k.2)
-answers-named files m n f g breakpoints W h = exactly-named _ m n W h
-answers-named files m n f g reset_breakpoints W h = exactly-named _ _ n W h
-answers-named files m n f g (delete k) W h = exactly-named _ _ n W h
-answers-named files m n f g (step k) W h = exactly-named _ _ n W h
-answers-named files m n f g (select k) W h = exactly-named _ _ n W h
-answers-named files m n f g mark W h = exactly-named _ m n W h
-answers-named files m n f g (resume p s) W h = exactly-named _ _ n W h
-answers-named files m n f g stops W h = exactly-named _ m n W h
-answers-named files m n f g (value e k) W h = exactly-named _ _ n W h
+answers-named files m n f g (load_capture name) W (inr (inl h)) = let k = writes-named _ n W h in (k.0, inr (inl k.1), k.2)
+answers-named files m n f g (load_capture name) W (inr (inr h)) = let k = writes-named _ n W h.1 in (k.0, inr (inr (h.0, k.1)), k.2)
+answers-named files m n f g (run limit) W h = writes-named _ n W h
+answers-named files m n f g disassemble W h = writes-named _ n W h
+answers-named files m n f g dump W h = writes-named _ n W h
+answers-named files m n f g (breakpoint k) W (inl h) = let k = writes-named _ n W h in (k.0, inl k.1, k.2)
+answers-named files m n f g (breakpoint k) W (inr h) = let k = writes-named _ n W h.1 in (k.0, inr (h.0, k.1), k.2)
+answers-named files m n f g (breakpoint_when_a k v) W (inl h) = let k = writes-named _ n W h in (k.0, inl k.1, k.2)
+answers-named files m n f g (breakpoint_when_a k v) W (inr h) = let k = writes-named _ n W h.1 in (k.0, inr (h.0, k.1), k.2)
+answers-named files m n f g (breakpoint_when_x k v) W (inl h) = let k = writes-named _ n W h in (k.0, inl k.1, k.2)
+answers-named files m n f g (breakpoint_when_x k v) W (inr h) = let k = writes-named _ n W h.1 in (k.0, inr (h.0, k.1), k.2)
+answers-named files m n f g breakpoints W h = writes-named _ n W h
+answers-named files m n f g reset_breakpoints W h = writes-named _ n W h
+answers-named files m n f g (delete k) W h = writes-named _ n W h
+answers-named files m n f g (step k) W h = writes-named _ n W h
+answers-named files m n f g (select k) W h = writes-named _ n W h
+answers-named files m n f g mark W h = writes-named _ n W h
+answers-named files m n f g (resume p s) W h = writes-named _ n W h
+answers-named files m n f g stops W h = writes-named _ n W h
+answers-named files m n f g (value e k) W h = writes-named _ n W h
 answers-named files m n f g quit W h = absurd h
 
-reply-named : (files : FileMap) (m n : View) (f g : ℕ) (said : Result (Option Spelled) LineRefusal) (W : List ℕ → Type 0) → Replies files m n f g said W → (t : List ℕ) × Replies files m n f g said (λ s. s ≡ t) × W t
-reply-named files m n f g (Ok None) W h = exactly-named _ m n W h
+reply-named : (files : FileMap) (m n : View) (f g : ℕ) (spelled : Result (Option Spelled) LineRefusal) (W : List ℕ → Type 0) → LineReplies files m n f g spelled W → (t : List ℕ) × LineReplies files m n f g spelled (λ s. s ≡ t) × W t
+reply-named files m n f g (Ok None) W h = writes-named _ n W h
 reply-named files m n f g (Ok (Some c)) W h = answers-named files m n f g c W h
-reply-named files m n f g (Err UnknownCommand) W h = exactly-named _ m n W h
-reply-named files m n f g (Err WrongArguments) W h = exactly-named _ m n W h
+reply-named files m n f g (Err UnknownCommand) W h = writes-named _ n W h
+reply-named files m n f g (Err WrongArguments) W h = writes-named _ n W h
 
 -- ---- lines that were run
 
@@ -140,15 +140,15 @@ quit-last [] l (inr h) = absurd h
 quit-last (x ∷ xs) l (inl h) = inl (inl h)
 quit-last (x ∷ xs) l (inr h) = elim (quit-last xs l h) [ inl k ↦ inl (inr k) | inr k ↦ inr k ]
 
-ran-no-quit : (files : FileMap) (f g : ℕ) (m n : View) (ls : List (List ℕ)) (t : List ℕ) → Ran files m f ls t n g → HasQuit ls → ⊥
+ran-no-quit : (files : FileMap) (f g : ℕ) (m n : View) (ls : List (List ℕ)) (t : List ℕ) → LinesRan files m f ls t n g → HasQuit ls → ⊥
 ran-no-quit files f g m n ls t still h = h
 ran-no-quit files f g m n ls t (onward {n = k} {g = g'} {ls = ls'} {t = t'} l v r a le) h = elim (quit-last ls' l h) [
   | inl q ↦ ran-no-quit files f g' m k ls' t' r q
-  | inr e ↦ subst (λ said. Replies files k n g' g said (λ s. s ≡ v)) e a
+  | inr e ↦ subst (λ spelled. LineReplies files k n g' g spelled (λ s. s ≡ v)) e a
 ]
 
 -- what runs on after some lines
-ran-output : (files : FileMap) (f g h : ℕ) (m n : View) (ls : List (List ℕ)) (t : List ℕ) → Ran files m f ls t n g → (rest : List (List ℕ)) (u : List ℕ) → Output files n g rest u h → Output files m f (ls ++ rest) (t ++ u) h
+ran-output : (files : FileMap) (f g h : ℕ) (m n : View) (ls : List (List ℕ)) (t : List ℕ) → LinesRan files m f ls t n g → (rest : List (List ℕ)) (u : List ℕ) → Output files n g rest u h → Output files m f (ls ++ rest) (t ++ u) h
 ran-output files f g h m n ls t still rest u o = o
 ran-output files f g h m n ls t (onward {n = k} {g = g'} {ls = ls'} {t = t'} l v r a le) rest u o =
     rw (append_assoc ls' (l ∷ []) rest, append_assoc t' v u) (ran-output files f g' h m k ls' t' r (l ∷ rest) (v ++ u) (at_line l v a le o))
@@ -195,44 +195,44 @@ module _ (script pending : List ℕ) (left old new new' : Option (List ℕ)) (m 
   pub end-done : (left' : Option (List ℕ)) → p.rest ≡ [] → left' ≡ Some [] → Finished script left' old new' f g
   end-done left' e z = (p.text, subst (λ ls. IsOutput f g ls p.text) (sym (script_lines ∙ ap (λ (r : List ℕ). p.done ++ lines r) e ∙ append-nil p.done)) so_far, inr z, wrote)
 
-  module _ (new'' : Option (List ℕ)) (n : View) (g' : Source) (line : List ℕ) (more : List (List ℕ)) (next : lines p.rest ≡ line ∷ more) (tells : IsTrue f.tells) where
+  module _ (new'' : Option (List ℕ)) (n : View) (g' : Source) (line : List ℕ) (more : List (List ℕ)) (next : lines p.rest ≡ line ∷ more) (is_known : IsTrue f.is_known) where
     here : lines script ≡ p.done ++ (line ∷ more)
     here = script_lines ∙ ap (λ (r : List (List ℕ)). p.done ++ r) next
 
     -- the files are still known, and are the same
-    still_tells : IsTrue g.tells
-    still_tells = rw p.kept.tells tells
+    still_known : IsTrue g.is_known
+    still_known = rw p.kept.is_known is_known
 
-    same_files : (said : Result (Option Spelled) LineRefusal) (W : List ℕ → Type 0) → Replies g.files m n g.failures g'.failures said W → Replies f.files m n g.failures g'.failures said W
-    same_files said W h = subst (λ fs. Replies fs m n g.failures g'.failures said W) p.kept.files h
+    same_files : (spelled : Result (Option Spelled) LineRefusal) (W : List ℕ → Type 0) → LineReplies g.files m n g.failures g'.failures spelled W → LineReplies f.files m n g.failures g'.failures spelled W
+    same_files spelled W h = subst (λ fs. LineReplies fs m n g.failures g'.failures spelled W) p.kept.files h
 
-    pub quit-done : (left' : Option (List ℕ)) → CarriedOut g g' m n (command_of line) new' new'' (Ok Quit) → Finished script left' old new'' f g'
+    pub quit-done : (left' : Option (List ℕ)) → LineRan g g' m n (command_of line) new' new'' (Ok Quit) → Finished script left' old new'' f g'
     quit-done left' c =
-        let q = c.1 still_tells in
+        let q = c.1 still_known in
         let o : Output f.files empty_view f.failures (p.done ++ (line ∷ more)) (p.text ++ []) g.failures = ran-output f.files f.failures g.failures g.failures empty_view m p.done p.text p.ran (line ∷ more) [] (at_quit line more q.0) in
         let whole : Output f.files empty_view f.failures (lines script) (p.text ++ []) g.failures = subst (λ ls. Output f.files empty_view f.failures ls (p.text ++ []) g.failures) (sym here) o in
         (p.text ++ [], subst (λ h. Output f.files empty_view f.failures (lines script) (p.text ++ []) h) q.1 whole, inl (subst (λ ls. HasQuit ls) (sym here) (quit-in p.done line more q.0)), appended-then old new' new'' p.text [] wrote q.2)
 
-    one_line : (u : List ℕ) → Replies g.files m n g.failures g'.failures (command_of line) (λ s. s ≡ u) → g.failures ≤ g'.failures → IsOutput f g' (p.done ++ (line ∷ [])) (p.text ++ u)
+    one_line : (u : List ℕ) → LineReplies g.files m n g.failures g'.failures (command_of line) (λ s. s ≡ u) → g.failures ≤ g'.failures → IsOutput f g' (p.done ++ (line ∷ [])) (p.text ++ u)
     one_line u r le =
         let o : Output f.files empty_view f.failures (p.done ++ (line ∷ [])) (p.text ++ (u ++ [])) g'.failures = ran-output f.files f.failures g.failures g'.failures empty_view m p.done p.text p.ran (line ∷ []) (u ++ []) (at_line line u (same_files (command_of line) (λ s. s ≡ u) r) le at_end) in
         subst (λ t. IsOutput f g' (p.done ++ (line ∷ [])) (p.text ++ t)) (append-nil u) o
 
-    pub write-faulted : (left' : Option (List ℕ)) (e : WriteFault) → CarriedOut g g' m n (command_of line) new' new'' (Err e) → Faulted script left' old new'' f g' Write
+    pub write-faulted : (left' : Option (List ℕ)) (e : WriteFault) → LineRan g g' m n (command_of line) new' new'' (Err e) → Faulted script left' old new'' f g' Write
     write-faulted left' e c =
-        let r = reply-named g.files m n g.failures g'.failures (command_of line) (λ t. AppendedPart new' new'' t) (c.1 still_tells) in
+        let r = reply-named g.files m n g.failures g'.failures (command_of line) (λ t. AppendedPart new' new'' t) (c.1 still_known) in
         (p.done ++ (line ∷ []), more, p.text ++ r.0, here ∙ sym (append_assoc p.done (line ∷ []) more), one_line r.0 r.1 c.0.rises, part-then old new' new'' p.text r.0 wrote r.2)
 
     -- a last line without a newline
-    pub last-done : (left' : Option (List ℕ)) → left' ≡ Some [] → more ≡ [] → CarriedOut g g' m n (command_of line) new' new'' (Ok NextLine) → Finished script left' old new'' f g'
+    pub last-done : (left' : Option (List ℕ)) → left' ≡ Some [] → more ≡ [] → LineRan g g' m n (command_of line) new' new'' (Ok NextLine) → Finished script left' old new'' f g'
     last-done left' z e c =
-        let r = reply-named g.files m n g.failures g'.failures (command_of line) (λ t. Appended new' new'' t) (c.1 still_tells) in
+        let r = reply-named g.files m n g.failures g'.failures (command_of line) (λ t. Appended new' new'' t) (c.1 still_known) in
         let all : p.done ++ (line ∷ []) ≡ lines script = sym (here ∙ ap (λ (ls : List (List ℕ)). p.done ++ (line ∷ ls)) e) in
         (p.text ++ r.0, subst (λ ls. IsOutput f g' ls (p.text ++ r.0)) all (one_line r.0 r.1 c.0.rises), inr z, appended-then old new' new'' p.text r.0 wrote r.2)
 
-    pub line-done : (pending' : List ℕ) (left' : Option (List ℕ)) → has_newline line ≡ false → Took p.rest pending' left' (line ++ 10 ∷ []) → CarriedOut g g' m n (command_of line) new' new'' (Ok NextLine) → Progress script pending' left' old new'' f g' n
+    pub line-done : (pending' : List ℕ) (left' : Option (List ℕ)) → has_newline line ≡ false → Took p.rest pending' left' (line ++ 10 ∷ []) → LineRan g g' m n (command_of line) new' new'' (Ok NextLine) → Progress script pending' left' old new'' f g' n
     line-done pending' left' plain t c =
-        let r = reply-named g.files m n g.failures g'.failures (command_of line) (λ s. Appended new' new'' s) (c.1 still_tells) in
+        let r = reply-named g.files m n g.failures g'.failures (command_of line) (λ s. Appended new' new'' s) (c.1 still_known) in
         record {
           done = p.done ++ line ∷ [];
           text = p.text ++ r.0;
@@ -240,15 +240,15 @@ module _ (script pending : List ℕ) (left old new new' : Option (List ℕ)) (m 
           split = p.split ∙ ap (λ (b : List ℕ). unlines p.done ++ b) t.split ∙ sym (append_assoc (unlines p.done) (line ++ 10 ∷ []) t.rest) ∙ ap (λ (l : List ℕ). l ++ t.rest) (sym (unlines-push p.done line));
           plain = plain-push p.done line p.plain plain;
           known = t.known;
-          kept = record { files = c.0.files ∙ p.kept.files; tells = c.0.tells ∙ p.kept.tells; rises = le_trans p.kept.rises c.0.rises };
+          kept = record { files = c.0.files ∙ p.kept.files; is_known = c.0.is_known ∙ p.kept.is_known; rises = le_trans p.kept.rises c.0.rises };
           ran = onward line r.0 p.ran (same_files (command_of line) (λ s. s ≡ r.0) r.1) c.0.rises;
           wrote = appended-then old new' new'' p.text r.0 wrote r.2;
         }
 
 -- after a last line without a newline the input is at its end, whatever comes after the line
-pub either-done : (script pending : List ℕ) (left old new new' : Option (List ℕ)) (m : View) (f g : Source) (p : Progress script pending left old new f g m) (k : Keeps new new') (new'' : Option (List ℕ)) (n : View) (g' : Source) (line : List ℕ) (next : lines p.rest ≡ line ∷ []) (tells : IsTrue f.tells) (left' : Option (List ℕ)) → left' ≡ Some [] → (b : Behind) → CarriedOut g g' m n (command_of line) new' new'' (Ok b) → Finished script left' old new'' f g'
-either-done script pending left old new new' m f g p k new'' n g' line next tells left' z NextLine c = last-done script pending left old new new' m f g p k new'' n g' line [] next tells left' z refl c
-either-done script pending left old new new' m f g p k new'' n g' line next tells left' z Quit c = quit-done script pending left old new new' m f g p k new'' n g' line [] next tells left' c
+pub either-done : (script pending : List ℕ) (left old new new' : Option (List ℕ)) (m : View) (f g : Source) (p : Progress script pending left old new f g m) (k : Keeps new new') (new'' : Option (List ℕ)) (n : View) (g' : Source) (line : List ℕ) (next : lines p.rest ≡ line ∷ []) (is_known : IsTrue f.is_known) (left' : Option (List ℕ)) → left' ≡ Some [] → (b : AfterLine) → LineRan g g' m n (command_of line) new' new'' (Ok b) → Finished script left' old new'' f g'
+either-done script pending left old new new' m f g p k new'' n g' line next is_known left' z NextLine c = last-done script pending left old new new' m f g p k new'' n g' line [] next is_known left' z refl c
+either-done script pending left old new new' m f g p k new'' n g' line next is_known left' z Quit c = quit-done script pending left old new new' m f g p k new'' n g' line [] next is_known left' c
 
 pub progress-start : (script pending : List ℕ) (left old : Option (List ℕ)) (f : Source) → pending ≡ [] → left ≡ Some script → Progress script pending left old old f f empty_view
 unfolding unread
@@ -259,7 +259,7 @@ progress-start script pending left old f n e = record {
   split = refl;
   plain = tt;
   known = rw (n, e) refl;
-  kept = record { files = refl; tells = refl; rises = le_refl f.failures };
+  kept = record { files = refl; is_known = refl; rises = le_refl f.failures };
   ran = still;
   wrote = appended-nil old;
 }

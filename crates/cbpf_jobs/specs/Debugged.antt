@@ -27,4 +27,4 @@ Finished script left old new f g = (text : List ℕ) × IsOutput f g (lines scri
 
 -- where the script that the reader had is known, and the files say what they hold
 pub record Debugged {X : Type 0} (script : List ℕ) (left old new : Option (List ℕ)) (f g : Source) (r : Result X ToolFault) : Type 0 where
-  pub told : MatchResult r (λ _. Finished script left old new f g) (λ e. Faulted script left old new f g e)
+  pub outcome : MatchResult r (λ _. Finished script left old new f g) (λ e. Faulted script left old new f g e)

@@ -8,20 +8,20 @@ use Rattle.std.specs.FinMap as map
 abbrev pub FileMap : Type 0
 FileMap = map.FinMap (slice_cmp nat_cmp) (List ℕ)
 
--- a source of files: the files, how many loads failed for other reasons than an absent name or want of
--- memory, and whether the source says what it holds
+-- a source of files: the files, how many loads failed for other reasons than an absent name or a lack of
+-- memory, and whether it is known what the source holds
 pub record Source : Type 0 where
   pub files : FileMap
   pub failures : ℕ
-  pub tells : Bool
+  pub is_known : Bool
 
--- a source that says what it holds
-abbrev pub telling : FileMap → ℕ → Source
-telling files failures = record { files = files; failures = failures; tells = true }
+-- a source of which it is known what it holds
+abbrev pub known_source : FileMap → ℕ → Source
+known_source files failures = record { files = files; failures = failures; is_known = true }
 
--- a source that does not say what it holds
-abbrev pub silent : ℕ → Source
-silent failures = record { files = map.empty; failures = failures; tells = false }
+-- a source of which it is not known what it holds
+abbrev pub unknown_source : ℕ → Source
+unknown_source failures = record { files = map.empty; failures = failures; is_known = false }
 
 -- the map of a list of files, of which the first of a name counts
 abbrev pub files_of : List (List ℕ × List ℕ) → FileMap

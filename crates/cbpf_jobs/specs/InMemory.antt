@@ -2,7 +2,7 @@
 use Rattle.std.specs.Prelude.{ℕ, refl}
 use Rattle.std.specs.Coded.{Coded, code_by, coded×, coded_ℕ, coded_list}
 use Rattle.std.specs.FinMap as map
-use Rattle.cbpf_jobs.specs.FileMap.{FileMap, Source, telling}
+use Rattle.cbpf_jobs.specs.FileMap.{FileMap, Source, known_source}
 
 -- the files, how many loads failed for other reasons than an absent name or a lack of memory, and the number
 -- of the load that is to fail, counted from 1 from now on; 0 for none
@@ -21,4 +21,4 @@ in_memory_code =
 
 -- files in memory say what they hold
 abbrev pub source_of : InMemory → Source
-source_of m = telling m.files m.failures
+source_of m = known_source m.files m.failures

@@ -3,7 +3,8 @@ pub mod InMemory
 pub mod Loads
 pub mod Lines
 pub mod Reading
-pub mod Said
+pub mod RunText
+pub mod SessionReplies
 pub mod Texts
 pub mod Replies
 pub mod Output

@@ -1,123 +1,123 @@
-// Carries out a script line by line.
-ghost use Rattle.std.specs.Prelude.{◌≡◌, ℕ, List, Some, IsTrue, false};
+// Runs a script line by line.
+ghost use Rattle.std.specs.Prelude.{◌≡◌, ℕ, List, Some, IsTrue, Ok, false};
 ghost use Rattle.cbpf_code.specs.Writing.{Wrote};
-ghost use Rattle.cbpf_command.specs.Commands as command;
+ghost use Rattle.cbpf_command.specs.Commands as language;
 ghost use Rattle.cbpf_jobs.specs.Debugged.{Debugged};
-ghost use Rattle.cbpf_jobs.specs.Progress.{CommandReplied, CommandActed, CarriedOut};
-ghost use Rattle.cbpf_jobs.specs.Said as speech;
+ghost use Rattle.cbpf_jobs.specs.Progress.{CommandRan, LineRan};
+ghost use Rattle.cbpf_jobs.specs.SessionReplies as reply;
 
-use crate::commands;
 use crate::fault::ToolFault;
 use crate::files::Files;
 use crate::line_reader::{LineEnd, LineReader};
 use crate::loads::{load_capture, load_words};
+use crate::perform;
+use crate::session_replies::write_breakpoints;
 use cbpf_code::{WriteFault, write_bytes};
 use cbpf_command::{Command, LineRefusal, command_of};
 use cbpf_dbg::{MarkTrail, Session, When};
-use cbpf_reply::write_breakpoints;
 use std::alloc::Allocator;
 use std::io::{Read, Write};
 
 /// What comes after a line.
 #[derive(Clone, Copy, PartialEq, Eq, Debug)]
-pub enum Behind {
+pub enum AfterLine {
     NextLine,
     Quit,
 }
 
-fn is_quit(said: Command<'_>) -> bool
-    ensures { result ≡ speech.is_quit (command.meaning said.entry) }
+fn is_quit(command: Command<'_>) -> bool
+    ensures { result ≡ reply.is_quit (language.meaning command.entry) }
 {
-    matches!(said, Command::Quit)
+    matches!(command, Command::Quit)
 }
 
-/// Carries out a command other than `quit`, and writes its reply.
+/// Runs a command other than `quit`, and writes its reply.
 fn reply_to<A: Allocator + Copy, W: Write, F: Files>(
     alloc: A,
     w: &mut W,
     session: &mut Session<MarkTrail, A>,
     files: &mut F,
-    said: Command<'_>,
+    command: Command<'_>,
 ) -> Result<(), WriteFault>
-    requires { speech.is_quit (command.meaning said) ≡ false }
-    ensures { CommandReplied (F.source files.old) (F.source files.new) session.old session.new (command.meaning said.entry)
+    requires { reply.is_quit (language.meaning command) ≡ false }
+    ensures { CommandRan (F.source files.old) (F.source files.new) session.old session.new (language.meaning command.entry)
         (λ t. Wrote (W.contents w.old) (W.contents w.new) result t) }
 {
-    match said {
+    match command {
         Command::LoadWords(text) => load_words(alloc, w, session, text),
         Command::LoadCapture(name) => load_capture(alloc, w, session, files, name),
-        Command::Run(limit) => commands::run(w, session, limit),
-        Command::Disassemble => commands::disassemble(w, session),
-        Command::Dump => commands::dump(w, session),
-        Command::Breakpoint(n) => commands::set_breakpoint(w, session, n, When::Always),
-        Command::BreakpointWhenA(n, v) => commands::set_breakpoint(w, session, n, When::A(v)),
-        Command::BreakpointWhenX(n, v) => commands::set_breakpoint(w, session, n, When::X(v)),
+        Command::Run(limit) => perform::run(w, session, limit),
+        Command::Disassemble => perform::disassemble(w, session),
+        Command::Dump => perform::dump(w, session),
+        Command::Breakpoint(n) => perform::set_breakpoint(w, session, n, When::Always),
+        Command::BreakpointWhenA(n, v) => perform::set_breakpoint(w, session, n, When::A(v)),
+        Command::BreakpointWhenX(n, v) => perform::set_breakpoint(w, session, n, When::X(v)),
         Command::Breakpoints => write_breakpoints(w, session),
-        Command::ResetBreakpoints => commands::reset_breakpoints(w, session),
-        Command::Delete(n) => commands::delete(w, session, n),
-        Command::Step(n) => commands::step(w, session, n),
-        Command::Select(n) => commands::select(w, session, n),
-        Command::Mark => commands::mark(w, session),
-        Command::Resume { packet, step } => commands::resume(w, session, packet, step),
-        Command::Stops => commands::stops(w, session),
-        Command::Value(e, n) => commands::set_value(w, session, e, n),
+        Command::ResetBreakpoints => perform::reset_breakpoints(w, session),
+        Command::Delete(n) => perform::delete(w, session, n),
+        Command::Step(n) => perform::step(w, session, n),
+        Command::Select(n) => perform::select(w, session, n),
+        Command::Mark => perform::mark(w, session),
+        Command::Resume { packet, step } => perform::resume(w, session, packet, step),
+        Command::Stops => perform::stops(w, session),
+        Command::Value(e, n) => perform::set_value(w, session, e, n),
         Command::Quit => unreachable!(),
     }
 }
 
-/// Carries out a command, and writes its reply.
+/// Runs a command, and writes its reply.
 fn act<A: Allocator + Copy, W: Write, F: Files>(
     alloc: A,
     w: &mut W,
     session: &mut Session<MarkTrail, A>,
     files: &mut F,
-    said: Command<'_>,
-) -> Result<Behind, WriteFault>
-    ensures { CommandActed (F.source files.old) (F.source files.new) session.old session.new (command.meaning said.entry)
+    command: Command<'_>,
+) -> Result<AfterLine, WriteFault>
+    ensures { LineRan (F.source files.old) (F.source files.new) session.old session.new (Ok (Some (language.meaning command.entry)))
         (W.contents w.old) (W.contents w.new) result }
 {
-    if is_quit(said) {
-        return Ok(Behind::Quit);
+    if is_quit(command) {
+        return Ok(AfterLine::Quit);
     }
-    match reply_to(alloc, w, session, files, said) {
-        Ok(()) => Ok(Behind::NextLine),
+    match reply_to(alloc, w, session, files, command) {
+        Ok(()) => Ok(AfterLine::NextLine),
         Err(fault) => Err(fault),
     }
 }
 
-/// Carries out a line, and writes its reply.
-fn carry_out<A: Allocator + Copy, W: Write, F: Files>(
+/// Runs a line, and writes its reply.
+fn run_line<A: Allocator + Copy, W: Write, F: Files>(
     alloc: A,
     w: &mut W,
     session: &mut Session<MarkTrail, A>,
     files: &mut F,
     line: &[u8],
-) -> Result<Behind, WriteFault>
-    ensures { CarriedOut (F.source files.old) (F.source files.new) session.old session.new (command.command_of line.now)
+) -> Result<AfterLine, WriteFault>
+    ensures { LineRan (F.source files.old) (F.source files.new) session.old session.new (language.command_of line.now)
         (W.contents w.old) (W.contents w.new) result }
 {
     match command_of(line) {
-        Ok(None) => Ok(Behind::NextLine),
-        Ok(Some(said)) => act(alloc, w, session, files, said),
+        Ok(None) => Ok(AfterLine::NextLine),
+        Ok(Some(command)) => act(alloc, w, session, files, command),
         Err(LineRefusal::UnknownCommand) => {
             write_bytes(w, b"error: Q1 unknown command\n")?;
-            Ok(Behind::NextLine)
+            Ok(AfterLine::NextLine)
         }
         Err(LineRefusal::WrongArguments) => {
             write_bytes(w, b"error: Q2 wrong arguments\n")?;
-            Ok(Behind::NextLine)
+            Ok(AfterLine::NextLine)
         }
     }
 }
 
-/// Carries out the lines of the input up to `quit`.
+/// Runs the lines of the input up to `quit`.
 fn run<A: Allocator + Copy, R: Read, W: Write, F: Files>(
     alloc: A,
     reader: &mut R,
     writer: &mut W,
     files: &mut F,
 ) -> Result<(), ToolFault>
-    ensures { (script : List ℕ) → R.remaining reader.old ≡ Some script → IsTrue (F.source files.old).tells →
+    ensures { (script : List ℕ) → R.remaining reader.old ≡ Some script → IsTrue (F.source files.old).is_known →
         Debugged script (R.remaining reader.new) (W.contents writer.old) (W.contents writer.new) (F.source files.old) (F.source files.new) result }
 {
     let mut session = Session::new(alloc, MarkTrail::new());
@@ -128,10 +128,10 @@ fn run<A: Allocator + Copy, R: Read, W: Write, F: Files>(
             Err(fault) => return Err(fault),
             Ok(LineEnd::Input) => break,
             Ok(LineEnd::Newline) => {
-                match carry_out(alloc, writer, &mut session, files, line.as_slice()) {
+                match run_line(alloc, writer, &mut session, files, line.as_slice()) {
                     Err(_) => return Err(ToolFault::Write),
-                    Ok(Behind::Quit) => return Ok(()),
-                    Ok(Behind::NextLine) => {}
+                    Ok(AfterLine::Quit) => return Ok(()),
+                    Ok(AfterLine::NextLine) => {}
                 }
             }
         }
@@ -139,7 +139,7 @@ fn run<A: Allocator + Copy, R: Read, W: Write, F: Files>(
     if line.is_empty() {
         return Ok(());
     }
-    match carry_out(alloc, writer, &mut session, files, line.as_slice()) {
+    match run_line(alloc, writer, &mut session, files, line.as_slice()) {
         Err(_) => Err(ToolFault::Write),
         Ok(_) => Ok(()),
     }
@@ -161,7 +161,7 @@ pub fn debug<A: Allocator, R: Read, W: Write, F: Files>(
     writer: &mut W,
     files: &mut F,
 ) -> Result<(), ToolFault>
-    ensures { (script : List ℕ) → R.remaining reader.old ≡ Some script → IsTrue (F.source files.old).tells →
+    ensures { (script : List ℕ) → R.remaining reader.old ≡ Some script → IsTrue (F.source files.old).is_known →
         Debugged script (R.remaining reader.new) (W.contents writer.old) (W.contents writer.new) (F.source files.old) (F.source files.new) result }
 {
     run(&alloc, reader, writer, files)?;

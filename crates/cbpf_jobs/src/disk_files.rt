@@ -1,6 +1,6 @@
 // Files of the file system.
 ghost use Rattle.std.specs.Prelude.{◌≡◌};
-ghost use Rattle.cbpf_jobs.specs.FileMap.{silent};
+ghost use Rattle.cbpf_jobs.specs.FileMap.{unknown_source};
 ghost use Rattle.cbpf_jobs.specs.Loads as spec;
 
 use crate::files::{Files, LoadFault};
@@ -76,12 +76,12 @@ fn read_whole<R: rt::Files, B: Allocator>(
 }
 
 impl<'a, R: rt::Files> Files for DiskFiles<'a, R> {
-    ghost source = { λ d. silent d.failures };
+    ghost source = { λ d. unknown_source d.failures };
 
     /// `Absent` where opening says that there is no such file, `Memory` where there was none, and for any
     /// other reason `Device`, which counts one failure.
     fn load<B: Allocator>(&mut self, alloc: B, name: &str) -> Result<Vec<u8, B>, LoadFault>
-        ensures loads { spec.Loads (λ v. v.items) (silent self.old.failures) (silent self.new.failures) name.now result }
+        ensures loads { spec.Loads (λ v. v.items) (unknown_source self.old.failures) (unknown_source self.new.failures) name.now result }
         ensures counted { self.new.failures ≡ spec.counted result self.old.failures }
     {
         let result = read_whole(self.runtime, alloc, name);

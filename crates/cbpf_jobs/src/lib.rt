@@ -2,7 +2,6 @@
 #![tactic(auto)]
 
 mod assembler;
-mod commands;
 mod debugger;
 mod disk_files;
 mod fault;
@@ -11,7 +10,9 @@ mod law;
 mod line_reader;
 mod loads;
 mod memory_files;
+mod perform;
 mod replies;
+mod session_replies;
 
 pub use assembler::asm;
 pub use debugger::debug;

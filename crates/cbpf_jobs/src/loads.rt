@@ -1,8 +1,9 @@
 // Loads of programs and captures into a session.
 ghost use Rattle.std.specs.Prelude.{◌⊎◌};
 ghost use Rattle.cbpf_code.specs.Writing.{Wrote};
-ghost use Rattle.cbpf_jobs.specs.Progress.{CaptureLoaded};
-ghost use Rattle.cbpf_jobs.specs.Replies.{LoadsWords, Exactly};
+ghost use Rattle.cbpf_command.specs.Commands.{load_capture};
+ghost use Rattle.cbpf_jobs.specs.Progress.{CommandRan};
+ghost use Rattle.cbpf_jobs.specs.Replies.{LoadsWords, Writes};
 ghost use Rattle.cbpf_jobs.specs.Texts as texts;
 
 use crate::files::{Files, LoadFault};
@@ -23,7 +24,7 @@ pub fn load_words<A: Allocator, W: Write>(
     text: &[u8],
 ) -> Result<(), WriteFault>
     ensures { LoadsWords session.old session.new text.now (λ t. Wrote (W.contents w.old) (W.contents w.new) result t)
-        ⊎ Exactly texts.memory_text session.old session.new (λ t. Wrote (W.contents w.old) (W.contents w.new) result t) }
+        ⊎ Writes (texts.memory_text, session.old) session.new (λ t. Wrote (W.contents w.old) (W.contents w.new) result t) }
 {
     let list = match read_words(alloc, text) {
         Ok(list) => list,
@@ -47,7 +48,7 @@ pub fn load_capture<A: Allocator + Copy, W: Write, F: Files>(
     files: &mut F,
     name: &str,
 ) -> Result<(), WriteFault>
-    ensures { CaptureLoaded (F.source files.old) (F.source files.new) session.old session.new name.now
+    ensures { CommandRan (F.source files.old) (F.source files.new) session.old session.new (load_capture name.now)
         (λ t. Wrote (W.contents w.old) (W.contents w.new) result t) }
 {
     let bytes = match files.load(alloc, name) {

@@ -1,2 +1,5 @@
-pub mod EachText
-pub mod ListedLemmas
+pub mod SpaceLemmas
+pub mod RunLemmas
+pub mod ScratchLemmas
+pub mod RowLemmas
+pub mod ChainLemmas

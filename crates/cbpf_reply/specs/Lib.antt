@@ -1,1 +1,9 @@
-pub mod Texts
+pub mod Lines
+pub mod Scratch
+pub mod Packet
+pub mod Dump
+pub mod Faults
+pub mod Values
+pub mod Counts
+pub mod Breakpoints
+pub mod Stops

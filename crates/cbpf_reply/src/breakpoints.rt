@@ -1,17 +1,26 @@
-//! Breakpoints.
+//! When a breakpoint stops, and the texts of breakpoints.
 
 ghost use Rattle.std.specs.Prelude.{◌<◌, length};
-ghost use Rattle.std.specs.List.{flat_map};
 ghost use Rattle.cbpf_code.specs.Writing.{Wrote};
-ghost use Rattle.cbpf_reply.specs.Texts as spec;
+ghost use Rattle.cbpf_reply.specs.Breakpoints as spec;
 
 use crate::fault::write_with_number;
 use cbpf_code::{Program, WriteFault, write_bytes, write_parts};
-use cbpf_dbg::{Session, Trail, When};
 use cbpf_listing::write_line;
 use itoa::Buffer;
 use std::alloc::Allocator;
 use std::io::Write;
+
+/// When a breakpoint stops, by the registers before its instruction.
+#[derive(Clone, Copy, Debug, PartialEq, Eq)]
+pub enum When {
+    /// Each time.
+    Always,
+    /// Where the accumulator has this value.
+    A(u32),
+    /// Where the index register has this value.
+    X(u32),
+}
 
 /// The condition of a breakpoint that is set, and the line's end.
 fn write_condition<W: Write>(w: &mut W, when: When) -> Result<(), WriteFault>
@@ -39,7 +48,7 @@ fn write_line_with_condition<W: Write, A: Allocator>(
     write_condition(w, when)
 }
 
-#[tactic(auto, unfolding(crate::specs::Texts::set_head))]
+#[tactic(auto, unfolding(crate::specs::Breakpoints::set_head))]
 fn write_set_head<W: Write>(w: &mut W) -> Result<(), WriteFault>
     ensures { Wrote (W.contents w.old) (W.contents w.new) result spec.set_head }
 {
@@ -66,8 +75,12 @@ pub fn write_breakpoint<W: Write, A: Allocator>(
     write_line_with_condition(w, program, n, when)
 }
 
-/// A breakpoint in the list of them.
-fn write_listed<W: Write>(w: &mut W, n: u32, when: When) -> Result<(), WriteFault>
+/// Writes a breakpoint as the list of them has it, without the line's end.
+///
+/// # Errors
+///
+/// The writer failed, or took nothing of a text that isn't empty: a beginning of the text was written.
+pub fn write_listed<W: Write>(w: &mut W, n: u32, when: When) -> Result<(), WriteFault>
     ensures { Wrote (W.contents w.old) (W.contents w.new) result (spec.listed_text (n, when)) }
 {
     let mut number = Buffer::new();
@@ -80,52 +93,14 @@ fn write_listed<W: Write>(w: &mut W, n: u32, when: When) -> Result<(), WriteFaul
     }
 }
 
-/// The breakpoints of a session.
-fn write_all_listed<W: Write, T: Trail, A: Allocator>(
-    w: &mut W,
-    session: &Session<T, A>,
-) -> Result<(), WriteFault>
-    ensures { Wrote (W.contents w.old) (W.contents w.new) result (flat_map spec.listed_text session.now.breakpoints) }
-{
-    for i in 0..session.breakpoint_count() {
-        match (session.breakpoint_at(i), session.breakpoint_when_at(i)) {
-            (Some(n), Some(when)) => write_listed(w, n, when)?,
-            _ => unreachable!(),
-        }
-    }
-    Ok(())
-}
-
-#[tactic(auto, using(cbpf_code::proofs::WrittenLemmas::pairs))]
-fn write_list<W: Write, T: Trail, A: Allocator>(
-    w: &mut W,
-    session: &Session<T, A>,
-) -> Result<(), WriteFault>
-    ensures { Wrote (W.contents w.old) (W.contents w.new) result (spec.list_text session.now.breakpoints) }
-{
-    write_all_listed(w, session)?;
-    write_bytes(w, b"\n")
-}
-
-#[tactic(auto, unfolding(crate::specs::Texts::list_head))]
-fn write_list_head<W: Write>(w: &mut W) -> Result<(), WriteFault>
-    ensures { Wrote (W.contents w.old) (W.contents w.new) result spec.list_head }
-{
-    write_bytes(w, b"breakpoints:")
-}
-
-/// Writes the breakpoints of a session, in order of setting.
+/// Writes the beginning of the list of breakpoints.
 ///
 /// # Errors
 ///
-/// The writer failed, or took nothing of a text that isn't empty: a beginning of the line was written.
-#[tactic(auto, using(cbpf_code::proofs::WrittenLemmas::pairs), unfolding(crate::specs::Texts::breakpoints_text))]
-pub fn write_breakpoints<W: Write, T: Trail, A: Allocator>(
-    w: &mut W,
-    session: &Session<T, A>,
-) -> Result<(), WriteFault>
-    ensures { Wrote (W.contents w.old) (W.contents w.new) result (spec.breakpoints_text session.now.breakpoints) }
+/// The writer failed, or took nothing of a text that isn't empty: a beginning of the text was written.
+#[tactic(auto, unfolding(crate::specs::Breakpoints::list_head))]
+pub fn write_list_head<W: Write>(w: &mut W) -> Result<(), WriteFault>
+    ensures { Wrote (W.contents w.old) (W.contents w.new) result spec.list_head }
 {
-    write_list_head(w)?;
-    write_list(w, session)
+    write_bytes(w, b"breakpoints:")
 }

@@ -1,13 +1,11 @@
-//! Counts and places, and the answers of runs and steps.
+//! Counts and places.
 
 ghost use Rattle.cbpf_code.specs.Writing.{Wrote};
-ghost use Rattle.cbpf_dbg.specs.Shown.{Shows};
-ghost use Rattle.cbpf_reply.specs.Texts as spec;
+ghost use Rattle.cbpf_reply.specs.Counts as spec;
 
+use crate::reply::{Counts, Place};
 use cbpf_code::{WriteFault, write_bytes, write_parts};
-use cbpf_dbg::{Counts, Place, RunReply, Session, Trail};
 use itoa::Buffer;
-use std::alloc::Allocator;
 use std::io::Write;
 
 /// Writes a place after a text.
@@ -54,14 +52,14 @@ fn write_two<W: Write>(
 }
 
 /// How many packets passed and failed.
-#[tactic(auto, unfolding(crate::specs::Texts::known_text))]
+#[tactic(auto, unfolding(crate::specs::Counts::known_text))]
 fn write_known<W: Write>(w: &mut W, passes: u64, fails: u64) -> Result<(), WriteFault>
     ensures { Wrote (W.contents w.old) (W.contents w.new) result (spec.known_text passes fails) }
 {
     write_two(w, b"bpf passes:", passes, b" fails:", fails)
 }
 
-/// How many packets asked for an unknown extension, where one did.
+/// How many packets asked for an extension without a value, where one did.
 fn write_unknown<W: Write>(w: &mut W, unknown: u64) -> Result<(), WriteFault>
     ensures { Wrote (W.contents w.old) (W.contents w.new) result (spec.unknown_text unknown) }
 {
@@ -72,7 +70,7 @@ fn write_unknown<W: Write>(w: &mut W, unknown: u64) -> Result<(), WriteFault>
     write_parts(w, &[b" unknown:", number.format(unknown).as_bytes()])
 }
 
-#[tactic(auto, using(cbpf_code::proofs::WrittenLemmas::pairs), unfolding(crate::specs::Texts::counts_text))]
+#[tactic(auto, using(cbpf_code::proofs::WrittenLemmas::pairs), unfolding(crate::specs::Counts::counts_text))]
 fn write_counts<W: Write>(w: &mut W, counts: Counts) -> Result<(), WriteFault>
     ensures { Wrote (W.contents w.old) (W.contents w.new) result (spec.counts_text counts) }
 {
@@ -80,8 +78,13 @@ fn write_counts<W: Write>(w: &mut W, counts: Counts) -> Result<(), WriteFault>
     write_unknown(w, counts.unknown)
 }
 
+/// Writes the counts at the end of a capture.
+///
+/// # Errors
+///
+/// The writer failed, or took nothing of a text that isn't empty: a beginning of the line was written.
 #[tactic(auto, using(cbpf_code::proofs::WrittenLemmas::pairs))]
-fn write_finished<W: Write>(w: &mut W, counts: Counts) -> Result<(), WriteFault>
+pub fn write_finished<W: Write>(w: &mut W, counts: Counts) -> Result<(), WriteFault>
     ensures { Wrote (W.contents w.old) (W.contents w.new) result (spec.finished_text counts) }
 {
     write_counts(w, counts)?;
@@ -95,33 +98,15 @@ fn write_next<W: Write>(w: &mut W, packet: u64) -> Result<(), WriteFault>
     write_parts(w, &[b" next:", number.format(packet).as_bytes(), b"\n"])
 }
 
+/// Writes the counts at a limit, and the packet that comes next.
+///
+/// # Errors
+///
+/// The writer failed, or took nothing of a text that isn't empty: a beginning of the line was written.
 #[tactic(auto, using(cbpf_code::proofs::WrittenLemmas::pairs))]
-fn write_limit<W: Write>(w: &mut W, counts: Counts, packet: u64) -> Result<(), WriteFault>
+pub fn write_limit<W: Write>(w: &mut W, counts: Counts, packet: u64) -> Result<(), WriteFault>
     ensures { Wrote (W.contents w.old) (W.contents w.new) result (spec.limit_text counts packet) }
 {
     write_counts(w, counts)?;
     write_next(w, packet)
-}
-
-/// Writes the answer of a run or a step of this session: the dump of its stop, or the counts.
-///
-/// A stop is one of this session's, of the program and the capture that are loaded.
-///
-/// # Errors
-///
-/// The writer failed, or took nothing of a text that isn't empty: a beginning of the reply was written.
-#[tactic(auto, unfolding(crate::specs::Texts::run_text))]
-pub fn write_run<W: Write, T: Trail, A: Allocator>(
-    w: &mut W,
-    session: &Session<T, A>,
-    reply: RunReply,
-) -> Result<(), WriteFault>
-    requires { Shows session.now reply }
-    ensures { Wrote (W.contents w.old) (W.contents w.new) result (spec.run_text reply session.now) }
-{
-    match reply {
-        RunReply::Stopped(stop) => session.write_stop(w, &stop),
-        RunReply::Limit(counts) => write_limit(w, counts, session.place().packet),
-        RunReply::Finished(counts) => write_finished(w, counts),
-    }
 }

@@ -1,10 +1,10 @@
 //! Refusals of a session.
 
 ghost use Rattle.cbpf_code.specs.Writing.{Wrote};
-ghost use Rattle.cbpf_reply.specs.Texts as spec;
+ghost use Rattle.cbpf_reply.specs.Faults as spec;
 
+use crate::reply::SessionFault;
 use cbpf_code::{WriteFault, write_bytes, write_parts};
-use cbpf_dbg::SessionFault;
 use itoa::Buffer;
 use std::io::Write;
 
@@ -26,7 +26,7 @@ pub(crate) fn write_with_number<W: Write>(
 /// # Errors
 ///
 /// The writer failed, or took nothing of a text that isn't empty: a beginning of the line was written.
-#[tactic(auto, unfolding(crate::specs::Texts::fault_text))]
+#[tactic(auto, unfolding(crate::specs::Faults::fault_text))]
 pub fn write_fault<W: Write>(w: &mut W, fault: SessionFault) -> Result<(), WriteFault>
     ensures { Wrote (W.contents w.old) (W.contents w.new) result (spec.fault_text fault) }
 {

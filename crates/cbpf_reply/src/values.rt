@@ -2,7 +2,7 @@
 
 ghost use Rattle.std.specs.Prelude.{◌≡◌};
 ghost use Rattle.cbpf_code.specs.Writing.{Wrote};
-ghost use Rattle.cbpf_reply.specs.Texts as spec;
+ghost use Rattle.cbpf_reply.specs.Values as spec;
 
 use cbpf_code::{Ext, WriteFault, ext_name, write_parts};
 use itoa::Buffer;

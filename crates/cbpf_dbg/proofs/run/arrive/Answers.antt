@@ -1,6 +1,6 @@
 use Rattle.std.proofs.Common.{◌≡◌, ◌+◌, ◌-◌, arith, refl}
 use Rattle.cbpf_dbg.specs.Commands.{back_place}
-use Rattle.cbpf_dbg.proofs.WalkLemmas.{goes}
+use Rattle.cbpf_dbg.proofs.CursorLemmas.{goes}
 use Rattle.cbpf_dbg.proofs.KeepLemmas.{keeps_push, keeps_few}
 use Rattle.cbpf_dbg.specs.Loaded.{machine_in, records_in}
 use Rattle.cbpf_dbg.proofs.run.arrive.Goals as goal

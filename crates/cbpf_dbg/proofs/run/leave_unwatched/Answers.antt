@@ -6,10 +6,10 @@ use Rattle.cbpf_machine.specs.declared.follow.Followed.TheVariants.{Watched, End
 use Rattle.cbpf_machine.specs.Registers.{Registers}
 use Rattle.cbpf_machine.specs.Trace.{trace, outcome}
 use Rattle.cbpf_machine.specs.Follow.{Follows}
-use Rattle.cbpf_dbg.specs.declared.reply.Counts.{Counts}
-use Rattle.cbpf_dbg.specs.declared.walk.Walk.{Walk}
-use Rattle.cbpf_dbg.specs.declared.walk.Moved.TheVariants as moved
-use Rattle.cbpf_dbg.specs.Walk.{PassesOn, passed, owed}
+use Rattle.cbpf_reply.specs.declared.reply.Counts.{Counts}
+use Rattle.cbpf_dbg.specs.declared.cursor.Cursor.{Cursor}
+use Rattle.cbpf_dbg.specs.declared.cursor.Moved.TheVariants as moved
+use Rattle.cbpf_dbg.specs.Cursor.{PassesOn, passed, owed}
 use Rattle.cbpf_dbg.specs.Loaded.{machine_in, records_in, breakpoints_in}
 use Rattle.cbpf_dbg.proofs.CountLemmas.{counts-at_most}
 use Rattle.cbpf_dbg.proofs.KeepLemmas.{entry_at_place}
@@ -50,13 +50,13 @@ pub returns-in-Ended : goal.returns-in-Ended
 returns-in-Ended g c =
     let k = kept_steps (machine_in c.args.loaded.now) (records_in c.args.loaded.now) c.args.w.now (record_of c.args.here.now) c.requires.stands c.requires.begun c.requires.here (g.T.Trail.kept c.args.trail.now) (g.met.T.Trail.as_long c.args.trail.now _ (c.requires.keeps _ c.requires.here)) in
     let f : Follows c.args.loaded.now.watched.now (trace (machine_in c.args.loaded.now) c.args.here.now.bytes.now c.args.here.now.wire) (outcome (machine_in c.args.loaded.now) c.args.here.now.bytes.now c.args.here.now.wire) c.args.w.now.place.step c.args.w.now.state c.follow.new.s (Ended c.in-Ended.outcome) = rw k at c.in-Ended.ensures.follows in
-    let left : Walk = record c.args.w.now { state = c.follow.new.s } in
+    let left : Cursor = record c.args.w.now { state = c.follow.new.s } in
     let stays : left ≡ c.args.w.now = ap (λ (s : Registers). record c.args.w.now { state = s }) f.2 in
     let same : c.pass.new.self ≡ passed c.args.w.now (outcome (machine_in c.args.loaded.now) c.args.here.now.bytes.now c.args.here.now.wire) = c.pass.ensures ∙ ap (λ w. passed w c.in-Ended.outcome) stays ∙ ap (passed c.args.w.now) f.1 in
     record {
       stands = rw same (end_stands (machine_in c.args.loaded.now) (records_in c.args.loaded.now) c.args.w.now (record_of c.args.here.now) c.requires.stands c.requires.begun c.requires.here (breakpoints_in c.args.loaded.now) c.args.loaded.now.watched.now c.requires.watched);
       keeps = λ no_entry. absurd cc;
-      origin = ap (λ (n : Walk). n.origin) same;
+      origin = ap (λ (n : Cursor). n.origin) same;
       order = rw same (inl (omega arith));
       passes = rw same (end_passes (machine_in c.args.loaded.now) (records_in c.args.loaded.now) c.args.w.now (record_of c.args.here.now) c.requires.stands c.requires.begun c.requires.here (breakpoints_in c.args.loaded.now) c.args.loaded.now.watched.now c.requires.watched (outcome (machine_in c.args.loaded.now) c.args.here.now.bytes.now c.args.here.now.wire) f.0);
       spent = rw same (let turns = rw k at c.in-Ended.ensures.turns in omega (arith, turns, end_owed (machine_in c.args.loaded.now) (records_in c.args.loaded.now) c.args.w.now (record_of c.args.here.now) c.requires.stands c.requires.begun c.requires.here (breakpoints_in c.args.loaded.now) c.args.loaded.now.watched.now c.requires.watched (outcome (machine_in c.args.loaded.now) c.args.here.now.bytes.now c.args.here.now.wire), step_within (machine_in c.args.loaded.now) (records_in c.args.loaded.now) c.args.w.now (record_of c.args.here.now) c.requires.stands c.requires.begun c.requires.here));

@@ -2,12 +2,12 @@ use Rattle.std.proofs.Common.{◌≡◌, ◌+◌, ◌-◌, ◌<◌, length, arit
 use Rattle.pcap_classic.specs.Lent.{record_of}
 use Rattle.cbpf_machine.specs.Step.{turn}
 use Rattle.cbpf_dbg.specs.Breakpoints.{carries}
-use Rattle.cbpf_dbg.specs.Walk.{entry_here}
+use Rattle.cbpf_dbg.specs.Cursor.{entry_here}
 use Rattle.cbpf_dbg.specs.Loaded.{machine_in, records_in, breakpoints_in}
 use Rattle.cbpf_dbg.proofs.JoinedLemmas.{rest-pass}
 use Rattle.cbpf_dbg.proofs.RunLemmas.{hit_none}
 use Rattle.cbpf_dbg.proofs.TurnLemmas.{not_before_step}
-use Rattle.cbpf_dbg.proofs.WalkLemmas.{goes}
+use Rattle.cbpf_dbg.proofs.CursorLemmas.{goes}
 use Rattle.cbpf_dbg.proofs.FollowLemmas.{step_within, steps_few}
 use Rattle.cbpf_dbg.proofs.run.pass_on.Goals as goal
 

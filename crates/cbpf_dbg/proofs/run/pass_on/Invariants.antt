@@ -1,11 +1,11 @@
 use Rattle.std.proofs.Common.{◌≡◌, ◌+◌, ◌-◌, ◌<◌}
 use Rattle.cbpf_dbg.specs.Joined.{rest}
-use Rattle.cbpf_dbg.specs.Walk.{Stands, owed, NotBefore}
+use Rattle.cbpf_dbg.specs.Cursor.{Stands, owed, NotBefore}
 use Rattle.cbpf_dbg.specs.Session.{Keeps}
 use Rattle.cbpf_dbg.specs.Loaded.{machine_in, records_in, breakpoints_in}
 use Rattle.cbpf_dbg.proofs.run.pass_on.Given as goal
 
--- the walk is at an entry of the packet, and no hit was passed
+-- the cursor is at an entry of the packet, and no hit was passed
 abbrev pub invariant-pass : goal.invariant-pass
 invariant-pass g l =
     record {

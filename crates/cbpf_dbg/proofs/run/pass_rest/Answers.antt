@@ -1,9 +1,9 @@
 use Rattle.std.proofs.Common.{[], length, arith, sym, ap, ◌∙◌}
 use Rattle.cbpf_machine.specs.Step.{turn}
-use Rattle.cbpf_dbg.specs.Walk.{entry_here}
+use Rattle.cbpf_dbg.specs.Cursor.{entry_here}
 use Rattle.cbpf_dbg.proofs.AskedLemmas.{quiet_hit}
 use Rattle.cbpf_dbg.proofs.JoinedLemmas.{rest-pass, rest-same}
-use Rattle.cbpf_dbg.proofs.WalkLemmas.{goes}
+use Rattle.cbpf_dbg.proofs.CursorLemmas.{goes}
 use Rattle.cbpf_dbg.proofs.RunLemmas.{hit_none}
 use Rattle.cbpf_dbg.specs.Loaded.{machine_in, records_in}
 use Rattle.cbpf_dbg.specs.Breakpoints.{carries}

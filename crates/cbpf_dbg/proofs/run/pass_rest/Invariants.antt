@@ -1,10 +1,10 @@
 use Rattle.std.proofs.Common.{◌≡◌, ◌+◌, ◌-◌, [], length}
 use Rattle.cbpf_dbg.specs.Joined.{rest, ahead}
-use Rattle.cbpf_dbg.specs.Walk.{Stands, owed}
+use Rattle.cbpf_dbg.specs.Cursor.{Stands, owed}
 use Rattle.cbpf_dbg.specs.Loaded.{machine_in, records_in}
 use Rattle.cbpf_dbg.proofs.run.pass_rest.Given as goal
 
--- the walk is in the packet, and no hit was passed
+-- the cursor is in the packet, and no hit was passed
 abbrev pub invariant-pass : goal.invariant-pass
 invariant-pass g l =
     record {

@@ -1,8 +1,8 @@
 use Rattle.std.proofs.Common.{◌≡◌, ◌≤◌, arith, sym, ap, ◌∙◌}
-use Rattle.cbpf_dbg.specs.declared.reply.Counts.{Counts}
-use Rattle.cbpf_dbg.specs.declared.walk.Walk.{Walk}
+use Rattle.cbpf_reply.specs.declared.reply.Counts.{Counts}
+use Rattle.cbpf_dbg.specs.declared.cursor.Cursor.{Cursor}
 use Rattle.cbpf_machine.specs.Trace.{outcome}
-use Rattle.cbpf_dbg.specs.Walk.{passed}
+use Rattle.cbpf_dbg.specs.Cursor.{passed}
 use Rattle.cbpf_dbg.proofs.CountLemmas.{counts-at_most}
 use Rattle.cbpf_dbg.proofs.QuietLemmas.{packet-quiet, stands-passed}
 use Rattle.cbpf_dbg.specs.Loaded.{machine_in, records_in}
@@ -28,8 +28,8 @@ returns g c =
     let quiet = packet-quiet (machine_in c.args.loaded.now) (records_in c.args.loaded.now) c.args.w.now.place.packet _ c.requires.stands.sound c.requires.quiet one c.requires.here c.args.w.now.place.step c.requires.before in
     record {
       stands = rw same (stands-passed (machine_in c.args.loaded.now) (records_in c.args.loaded.now) c.args.w.now _ c.requires.stands c.requires.here);
-      place = ap (λ (n : Walk). n.place) same;
-      origin = ap (λ (n : Walk). n.origin) same;
+      place = ap (λ (n : Cursor). n.place) same;
+      origin = ap (λ (n : Cursor). n.origin) same;
       rest = rw same (sym quiet.0);
       spent = rw same (omega (arith, quiet.1, c.run_packet.ensures.turns, c.requires.before));
     }

@@ -1,8 +1,8 @@
 use Rattle.std.proofs.Common.{◌≡◌, ◌+◌, ◌-◌, [], length, arith, sym, ap, ◌∙◌, refl}
 use Rattle.std.proofs.lemmas.Option.{slice_get_within}
-use Rattle.cbpf_dbg.specs.declared.reply.Place.{Place}
+use Rattle.cbpf_reply.specs.declared.reply.Place.{Place}
 use Rattle.cbpf_dbg.proofs.JoinedLemmas.{rest-none}
-use Rattle.cbpf_dbg.proofs.WalkLemmas.{here_after, here_some, here_none, walk_ended}
+use Rattle.cbpf_dbg.proofs.CursorLemmas.{here_after, here_some, here_none, cursor_ended}
 use Rattle.cbpf_dbg.proofs.RunLemmas.{up_to_at_start, up_to_next, up_to_past, not_before_forward, run_finished, run_limited_at}
 use Rattle.cbpf_dbg.proofs.TurnLemmas.{run_turns-reply, spent_between, owed-turns, owed_bound, not_before_packet}
 use Rattle.cbpf_dbg.specs.Loaded.{machine_in, records_in}
@@ -33,19 +33,19 @@ go-init g c =
 
 pub returns-in_default-clause-runs : goal.returns-in_default-clause-runs
 returns-in_default-clause-runs g c =
-    let m = walk_ended (machine_in c.args.loaded.now) (records_in c.args.loaded.now) c.go.w c.go.invariant.stands (here_none (records_in c.args.loaded.now) c.go.w.place.packet c.go.next c.go.invariant.here c.in_default.is) in
+    let m = cursor_ended (machine_in c.args.loaded.now) (records_in c.args.loaded.now) c.go.w c.go.invariant.stands (here_none (records_in c.args.loaded.now) c.go.w.place.packet c.go.next c.go.invariant.here c.in_default.is) in
     run_finished (machine_in c.args.loaded.now) c.args.loaded.now.capture.now [] c.args.limit c.args.w.now c.go.w c.start.result
     c.go.invariant.stands c.go.invariant.same_rest c.go.invariant.same_origin m.0 m.1 (up_to_past c.args.limit c.args.w.now.place.packet c.go.w.place.packet (length (records_in c.args.loaded.now)) c.go.invariant.in_limit (omega (arith, m.0)))
     c.start.ensures.place c.start.ensures.origin
 
 pub returns-in_default-clause-ahead : goal.returns-in_default-clause-ahead
 returns-in_default-clause-ahead g c =
-    let m = walk_ended (machine_in c.args.loaded.now) (records_in c.args.loaded.now) c.go.w c.go.invariant.stands (here_none (records_in c.args.loaded.now) c.go.w.place.packet c.go.next c.go.invariant.here c.in_default.is) in
+    let m = cursor_ended (machine_in c.args.loaded.now) (records_in c.args.loaded.now) c.go.w c.go.invariant.stands (here_none (records_in c.args.loaded.now) c.go.w.place.packet c.go.next c.go.invariant.here c.in_default.is) in
     sym c.go.invariant.same_rest ∙ rest-none (machine_in c.args.loaded.now) (records_in c.args.loaded.now) [] c.go.w.place m.1
 
 pub returns-in_default-clause-turns : goal.returns-in_default-clause-turns
 returns-in_default-clause-turns g c =
-    let m = walk_ended (machine_in c.args.loaded.now) (records_in c.args.loaded.now) c.go.w c.go.invariant.stands (here_none (records_in c.args.loaded.now) c.go.w.place.packet c.go.next c.go.invariant.here c.in_default.is) in
+    let m = cursor_ended (machine_in c.args.loaded.now) (records_in c.args.loaded.now) c.go.w c.go.invariant.stands (here_none (records_in c.args.loaded.now) c.go.w.place.packet c.go.next c.go.invariant.here c.in_default.is) in
     let runs = returns-in_default-clause-runs g c in
     let all = owed-turns (machine_in c.args.loaded.now) (records_in c.args.loaded.now) c.args.w.now c.requires.stands in
     rw (run_turns-reply _ _ _ _ _ _ _ runs)

@@ -1,6 +1,6 @@
 use Rattle.std.proofs.Common.{◌≡◌, ◌+◌, ◌-◌, ◌≤◌, [], length}
 use Rattle.cbpf_dbg.specs.Joined.{rest}
-use Rattle.cbpf_dbg.specs.Walk.{Stands, owed, UpTo, NotBefore, IsHere}
+use Rattle.cbpf_dbg.specs.Cursor.{Stands, owed, UpTo, NotBefore, IsHere}
 use Rattle.cbpf_dbg.specs.Loaded.{machine_in, records_in}
 use Rattle.cbpf_dbg.proofs.run.run_quietly.Given as goal
 

@@ -1,8 +1,8 @@
 use Rattle.std.proofs.Common.{◌≡◌, ◌+◌, ◌-◌, length, arith, sym, ap, ◌∙◌, Some, None, slice_get, refl}
-use Rattle.cbpf_dbg.specs.declared.reply.Place.{Place}
+use Rattle.cbpf_reply.specs.declared.reply.Place.{Place}
 use Rattle.cbpf_dbg.specs.Joined.{ahead}
-use Rattle.cbpf_dbg.specs.Walk.{owed, entry_here}
-use Rattle.cbpf_dbg.proofs.WalkLemmas.{goes, here_after, here_some, here_none, walk_ended}
+use Rattle.cbpf_dbg.specs.Cursor.{owed, entry_here}
+use Rattle.cbpf_dbg.proofs.CursorLemmas.{goes, here_after, here_some, here_none, cursor_ended}
 use Rattle.cbpf_dbg.proofs.RunLemmas.{slice_get-later, slice_get-first, step_stopped, step_finished}
 use Rattle.cbpf_dbg.proofs.KeepLemmas.{keeps_push, keeps_few, keeps_clear}
 use Rattle.cbpf_dbg.proofs.TurnLemmas.{step_turns-reply, spent_between, owed-turns, not_before_step, not_before_packet}
@@ -64,14 +64,14 @@ go-preserved-in-Entry g c =
 
 pub returns-in_default-clause-steps : goal.returns-in_default-clause-steps
 returns-in_default-clause-steps g c = λ breakpoints.
-    let m = walk_ended (machine_in c.args.loaded.now) (records_in c.args.loaded.now) c.go.w c.go.invariant.stands (here_none (records_in c.args.loaded.now) c.go.w.place.packet c.go.next c.go.invariant.here c.in_default.is) in
+    let m = cursor_ended (machine_in c.args.loaded.now) (records_in c.args.loaded.now) c.go.w c.go.invariant.stands (here_none (records_in c.args.loaded.now) c.go.w.place.packet c.go.next c.go.invariant.here c.in_default.is) in
     let none : slice_get (ahead (machine_in c.args.loaded.now) (records_in c.args.loaded.now) c.go.w.place) (c.go.left - 1) ≡ None = rw m.1 refl in
     (step_finished (machine_in c.args.loaded.now) c.args.loaded.now.capture.now breakpoints c.args.n c.args.w.now c.go.w c.start.result
     (sym c.go.invariant.sought ∙ none) c.go.invariant.stands c.go.invariant.same_origin m.0 c.start.ensures.place c.start.ensures.origin)
 
 pub returns-in_default-clause-turns : goal.returns-in_default-clause-turns
 returns-in_default-clause-turns g c = λ breakpoints.
-    let m = walk_ended (machine_in c.args.loaded.now) (records_in c.args.loaded.now) c.go.w c.go.invariant.stands (here_none (records_in c.args.loaded.now) c.go.w.place.packet c.go.next c.go.invariant.here c.in_default.is) in
+    let m = cursor_ended (machine_in c.args.loaded.now) (records_in c.args.loaded.now) c.go.w c.go.invariant.stands (here_none (records_in c.args.loaded.now) c.go.w.place.packet c.go.next c.go.invariant.here c.in_default.is) in
     let steps = returns-in_default-clause-steps g c breakpoints in
     let all = owed-turns (machine_in c.args.loaded.now) (records_in c.args.loaded.now) c.args.w.now c.requires.stands in
     rw (step_turns-reply _ _ _ _ _ _ _ steps)

@@ -1,6 +1,6 @@
 use Rattle.std.proofs.Common.{◌≡◌, ◌+◌, ◌-◌, ◌≤◌, length, slice_get}
 use Rattle.cbpf_dbg.specs.Joined.{ahead}
-use Rattle.cbpf_dbg.specs.Walk.{Stands, owed, NotBefore, IsHere}
+use Rattle.cbpf_dbg.specs.Cursor.{Stands, owed, NotBefore, IsHere}
 use Rattle.cbpf_dbg.specs.Session.{Keeps}
 use Rattle.cbpf_dbg.specs.Loaded.{machine_in, records_in}
 use Rattle.cbpf_dbg.proofs.step.step_on.Given as goal

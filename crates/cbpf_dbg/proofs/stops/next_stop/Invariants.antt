@@ -1,6 +1,6 @@
 use Rattle.std.proofs.Common.{◌≡◌, ◌+◌, ◌-◌, length}
 use Rattle.cbpf_dbg.specs.Joined.{rest, ahead}
-use Rattle.cbpf_dbg.specs.Walk.{Stands, owed, IsHere}
+use Rattle.cbpf_dbg.specs.Cursor.{Stands, owed, IsHere}
 use Rattle.cbpf_dbg.specs.Loaded.{machine_in, records_in, breakpoints_in}
 use Rattle.cbpf_dbg.proofs.stops.next_stop.Given as goal
 

@@ -1,6 +1,5 @@
 use Rattle.std.proofs.Common.{◌≡◌, ℕ, List, Some, ap, sym, ◌∙◌, subst}
 use Rattle.cbpf_code.specs.Writing.{Wrote}
-use Rattle.cbpf_dump.specs.Dump.{shown}
 use Rattle.pcap_classic.specs.Lent.{record_of}
 use Rattle.cbpf_dbg.specs.View.{View}
 use Rattle.cbpf_dbg.proofs.ShownLemmas.{text-within}
@@ -10,6 +9,6 @@ pub returns : goal.returns
 returns g c =
     let p : c.args.self.now.program ≡ Some c.in-Some-Some.program = ap (λ (v : View). v.program) (sym c.self.view_is) ∙ c.in-Some-Some.is-0 in
     let q : c.args.self.now.capture ≡ Some c.in-Some-Some.capture = ap (λ (v : View). v.capture) (sym c.self.view_is) ∙ c.in-Some-Some.is-1 in
-    subst (λ (t : List ℕ). Wrote (g.W.Write.contents c.args.w.now) (g.W.Write.contents c.write_dump.new.w) c.write_dump.result t)
-    (text-within c.args.self.now c.args.stop.now c.in-Some-Some.program c.in-Some-Some.capture (record_of c.item-packet.result) (shown c.dump_of.result) p q c.item-packet.ensures.record c.dump_of.ensures)
-    c.write_dump.ensures
+    subst (λ (t : List ℕ). Wrote (g.W.Write.contents c.args.w.now) (g.W.Write.contents c.write_stop.new.w) c.write_stop.result t)
+    (text-within c.args.self.now c.args.stop.now c.in-Some-Some.program c.in-Some-Some.capture (record_of c.item-packet.result) p q c.item-packet.ensures.record)
+    c.write_stop.ensures

@@ -1,0 +1,170 @@
+-- A cursor over the entries of a capture: it is a matter of this crate alone, and no public clause names it.
+use Rattle.std.specs.Option.{option_map}
+use Rattle.std.specs.Prelude.{◌≡◌, ℕ, ◌+◌, ◌-◌, ◌≤◌, ◌<◌, List, [], ◌∷◌, length, slice_get, Option, Some, None, IfSome, min, Bool, false, nat_eq, ◌⊎◌}
+use Rattle.cbpf_code.specs.Sound.{IsSound}
+use Rattle.cbpf_machine.specs.Registers.{Registers, zero_state}
+use Rattle.cbpf_machine.specs.declared.outcome.Outcome.{Outcome}
+use Rattle.cbpf_machine.specs.declared.outcome.Outcome.TheVariants as outcome_is
+use Rattle.cbpf_machine.specs.Machine.{Machine}
+use Rattle.cbpf_machine.specs.Step.{turn, asked}
+use Rattle.cbpf_machine.specs.Trace.{trace}
+use Rattle.pcap_classic.specs.Records.{Record}
+use Rattle.pcap_classic.specs.Savefile.{Savefile}
+use Rattle.pcap_classic.specs.Lent.{record_of}
+use Rattle.pcap_classic.specs.declared.captured.Captured.{Captured}
+use Rattle.cbpf_reply.specs.declared.reply.Place.{Place}
+use Rattle.cbpf_reply.specs.declared.reply.Counts.{Counts}
+use Rattle.cbpf_dbg.specs.declared.cursor.Cursor.{Cursor}
+use Rattle.cbpf_dbg.specs.declared.cursor.Moved.{Moved}
+use Rattle.cbpf_dbg.specs.declared.cursor.Moved.TheVariants as moved
+use Rattle.cbpf_dbg.specs.Breakpoints.{Breakpoints, carries}
+use Rattle.cbpf_dbg.specs.Joined.{Entry, ahead, counts, rest, stop_at}
+use Rattle.cbpf_dbg.specs.Hits.{hit_for}
+use Rattle.cbpf_reply.specs.declared.reply.RunReply.{RunReply}
+use Rattle.cbpf_dbg.specs.View.{View}
+use Rattle.cbpf_dbg.specs.Commands.{run_to, step_to, turns_in, entry_in, back_place}
+use Rattle.cbpf_reply.specs.declared.reply.Stop.{Stop}
+use Rattle.cbpf_reply.specs.declared.reply.Why.{Why}
+use Rattle.cbpf_reply.specs.declared.reply.Why.TheVariants as why
+
+-- the state at a step of a packet
+abbrev pub IsEntry : Machine → List Record → Place → Registers → Type 0
+IsEntry machine capture place s =
+    (r : Record) × (slice_get capture (place.packet - 1) ≡ Some r) × (slice_get (trace machine r.bytes r.wire) (place.step - 1) ≡ Some s)
+
+-- a cursor stands at its place, with the outcomes from its origin on
+pub record Stands (machine : Machine) (capture : List Record) (w : Cursor) : Type 0 where
+  pub sound : IsSound machine.list
+  pub from_one : 1 ≤ w.origin
+  pub ordered : w.origin ≤ w.place.packet
+  pub within : w.place.packet ≤ length capture + 1
+  pub at : 0 < w.place.step → IsEntry machine capture w.place w.state
+  pub counted : w.counts ≡ counts machine capture w.origin w.place.packet
+
+-- the cursor at a packet's first entry
+abbrev pub entered : Cursor → Cursor
+entered w = record w { place = record { packet = w.place.packet; step = 1 }; state = zero_state }
+
+-- the cursor at the next entry
+abbrev pub stepped : Cursor → Registers → Cursor
+stepped w t = record w { place = record { packet = w.place.packet; step = w.place.step + 1 }; state = t }
+
+-- the counts with one more outcome
+abbrev pub with_outcome : Counts → Outcome → Counts
+with_outcome n (outcome_is.Pass v) = record n { passes = n.passes + 1 }
+with_outcome n outcome_is.Fail = record n { fails = n.fails + 1 }
+with_outcome n (outcome_is.Unknown e) = record n { unknown = n.unknown + 1 }
+
+-- the cursor after a packet with this outcome
+abbrev pub passed : Cursor → Outcome → Cursor
+passed w outcome = record w { place = record { packet = w.place.packet + 1; step = 0 }; counts = with_outcome w.counts outcome }
+
+abbrev pub entry_here : Machine → Record → Cursor → Entry
+entry_here machine r w = record { place = w.place; state = w.state; turn = turn machine r.bytes r.wire w.state }
+
+-- how a move changed what is ahead
+abbrev pub Moves : Machine → List Record → Cursor → Moved → Cursor → Type 0
+Moves machine capture old moved.Entry new =
+    (r : Record) × (slice_get capture (new.place.packet - 1) ≡ Some r) × (new.place.packet ≡ old.place.packet)
+    × (new.place.step ≡ old.place.step + 1) × (ahead machine capture old.place ≡ entry_here machine r new ∷ ahead machine capture new.place)
+Moves machine capture old moved.Packet new =
+    (new.place ≡ record { packet = old.place.packet + 1; step = 0 }) × (ahead machine capture old.place ≡ ahead machine capture new.place)
+
+-- why the entry of a cursor, in a packet, is a hit, where it is one
+abbrev pub hit_of : Machine → Breakpoints → Record → Cursor → Option Why
+hit_of machine breakpoints r w = hit_for (carries breakpoints w.state) (asked (turn machine r.bytes r.wire w.state))
+
+-- a move to a later entry of a packet, or out of the packet, past no hit
+abbrev pub PassesOn : Machine → List Record → Breakpoints → Record → Cursor → Moved → Cursor → Type 0
+PassesOn machine capture breakpoints r old moved.Packet new =
+    (new.place ≡ record { packet = old.place.packet + 1; step = 0 }) × (rest machine capture breakpoints new.place ≡ rest machine capture breakpoints old.place)
+PassesOn machine capture breakpoints r old moved.Entry new =
+    (before : Cursor) × (new.place.packet ≡ old.place.packet) × (rest machine capture breakpoints before.place ≡ rest machine capture breakpoints old.place)
+    × (ahead machine capture before.place ≡ entry_here machine r new ∷ ahead machine capture new.place) × (old.place.step < new.place.step)
+
+-- a move to the next hit in a packet, or out of the packet past no hit
+abbrev pub PassesTo : Machine → List Record → Breakpoints → Record → Cursor → Option Why → Cursor → Type 0
+PassesTo machine capture breakpoints r old None new =
+    (new.place ≡ record { packet = old.place.packet + 1; step = 0 }) × (rest machine capture breakpoints new.place ≡ rest machine capture breakpoints old.place)
+PassesTo machine capture breakpoints r old (Some y) new =
+    (before : Cursor) × (new.place.packet ≡ old.place.packet) × (rest machine capture breakpoints before.place ≡ rest machine capture breakpoints old.place)
+    × (ahead machine capture before.place ≡ entry_here machine r new ∷ ahead machine capture new.place) × (hit_of machine breakpoints r new ≡ Some y)
+
+-- a cursor is after the last packet
+abbrev pub Ended : Machine → List Record → Cursor → Type 0
+Ended machine capture w = (w.place.packet ≡ length capture + 1) × (ahead machine capture w.place ≡ []) × (w.place.step ≡ 0)
+
+-- the record of a place's packet, where there is one
+pub record IsHere (capture : List Record) (packet : ℕ) (here : Option Captured) : Type 0 where
+  pub record_is : option_map record_of here ≡ slice_get capture (packet - 1)
+  pub number_is : IfSome here (λ c. c.number ≡ packet)
+
+-- how many turns are owed to the end: one for each entry ahead, and one for the entry of the place
+abbrev pub owed : Machine → List Record → Place → ℕ
+owed machine capture place = length (ahead machine capture place) + min place.step 1
+
+-- a session's view with its cursor at a place
+abbrev pub view_at : Machine → Savefile → Breakpoints → Cursor → View
+view_at machine c breakpoints w = record { program = Some machine.list; values = machine.values; capture = Some c; breakpoints = breakpoints; origin = w.origin; place = w.place }
+
+-- what a run from a place answers, and where it ends
+abbrev pub run_from : Machine → Savefile → Breakpoints → Cursor → Option ℕ → RunReply × View
+run_from machine c breakpoints w limit =
+    run_to (view_at machine c breakpoints w) machine c.records limit (rest machine c.records breakpoints w.place)
+
+-- a run's answer and end
+pub record Runs (machine : Machine) (c : Savefile) (breakpoints : Breakpoints) (old new : Cursor) (limit : Option ℕ) (reply : RunReply) : Type 0 where
+  pub reply_is : reply ≡ (run_from machine c breakpoints old limit).0
+  pub place_is : new.place ≡ (run_from machine c breakpoints old limit).1.place
+  pub origin_is : new.origin ≡ (run_from machine c breakpoints old limit).1.origin
+
+-- whether this many packets are the limit
+abbrev pub is_limit : Option ℕ → ℕ → Bool
+is_limit None packets = false
+is_limit (Some n) packets = nat_eq n packets
+
+-- at a packet the limit is not passed, and is reached only after the last packet
+abbrev pub Below : Option ℕ → ℕ → ℕ → ℕ → Type 0
+Below None first packet count = Unit {0}
+Below (Some n) first packet count = (packet ≤ first + n) × ((packet < first + n) ⊎ (count < packet))
+
+-- the limit of finished packets is not passed
+abbrev pub UpTo : Option ℕ → ℕ → ℕ → Type 0
+UpTo None first packet = Unit {0}
+UpTo (Some n) first packet = packet ≤ first + n
+
+-- one place is not before another
+abbrev pub NotBefore : Place → Place → Type 0
+NotBefore new old = (old.packet < new.packet) ⊎ ((old.packet ≡ new.packet) × (old.step ≤ new.step))
+
+-- the turns of a run from a place
+abbrev pub run_turns : Machine → Savefile → Breakpoints → Cursor → Option ℕ → ℕ
+run_turns machine c breakpoints w limit =
+    turns_in (view_at machine c breakpoints w) machine c.records (run_from machine c breakpoints w limit)
+
+-- a step back answers the entry at that step, and the cursor stands there
+pub record StepsBack (machine : Machine) (capture : List Record) (old new : Cursor) (b : ℕ) (stop : Stop) : Type 0 where
+  pub within : b < old.place.step
+  pub entry : (e : Entry) × (entry_in machine (slice_get capture (old.place.packet - 1)) (back_place old.place b) ≡ Some e) × (stop ≡ stop_at why.Step e)
+  pub place_is : new.place ≡ back_place old.place b
+  pub origin_is : new.origin ≡ old.origin
+
+-- there are too few entries after
+pub record CannotStepBack (old new : Cursor) (b most : ℕ) : Type 0 where
+  pub beyond : old.place.step ≤ b
+  pub most_is : most ≡ old.place.step - 1
+  pub same : new ≡ old
+
+-- what a step on by n entries answers, and where it ends
+abbrev pub step_from : Machine → Savefile → Breakpoints → Cursor → ℕ → RunReply × View
+step_from machine c breakpoints w n =
+    step_to (view_at machine c breakpoints w) machine c.records (slice_get (ahead machine c.records w.place) (n - 1))
+
+pub record StepsOn (machine : Machine) (c : Savefile) (breakpoints : Breakpoints) (old new : Cursor) (n : ℕ) (reply : RunReply) : Type 0 where
+  pub reply_is : reply ≡ (step_from machine c breakpoints old n).0
+  pub place_is : new.place ≡ (step_from machine c breakpoints old n).1.place
+  pub origin_is : new.origin ≡ (step_from machine c breakpoints old n).1.origin
+
+abbrev pub step_turns : Machine → Savefile → Breakpoints → Cursor → ℕ → ℕ
+step_turns machine c breakpoints w n =
+    turns_in (view_at machine c breakpoints w) machine c.records (step_from machine c breakpoints w n)

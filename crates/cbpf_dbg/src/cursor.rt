@@ -1,0 +1,205 @@
+//! One move at a time over the entries of a capture.
+
+ghost use Rattle.std.specs.Prelude.{◌≡◌, ◌+◌, ◌-◌, ◌<◌, ◌≤◌, ◌^◌, List, length, min, Some, slice_get};
+ghost use Rattle.cbpf_code.specs.Sound.{IsSound};
+ghost use Rattle.cbpf_machine.specs.Machine.{Machine};
+ghost use Rattle.pcap_classic.specs.Lent.{record_of};
+ghost use Rattle.pcap_classic.specs.Records.{Record};
+ghost use Rattle.cbpf_dbg.specs.Loaded.{machine_in, records_in};
+ghost use Rattle.cbpf_dbg.specs.View.{start};
+ghost use Rattle.cbpf_dbg.specs.declared.cursor.Moved.TheVariants as moved;
+ghost use Rattle.cbpf_dbg.specs.Cursor.{Stands, Moves, IsEntry, IsHere, entered, stepped, passed};
+
+use crate::loaded::Loaded;
+use cbpf_machine::{Meter, Outcome, Packet, State, turn_in_place};
+use cbpf_reply::{Counts, Place};
+use pcap_classic::{Capture, Captured};
+use std::alloc::Allocator;
+
+/// A place with its state, and the outcomes of the packets from the origin up to the place's.
+#[derive(Clone, Copy, Debug)]
+pub(crate) struct Cursor {
+    /// The packet from which outcomes are counted.
+    pub(crate) origin: u64,
+    pub(crate) place: Place,
+    /// The entry at the place; of no meaning at step 0.
+    pub(crate) state: State,
+    pub(crate) counts: Counts,
+}
+
+/// Where a move led.
+#[derive(Clone, Copy, Debug)]
+pub(crate) enum Moved {
+    /// To the packet's next entry.
+    Entry,
+    /// Out of the packet, before the next one.
+    Packet,
+}
+
+impl Cursor {
+    #[inline(always)]
+    fn enter(&mut self)
+        ensures { self.new ≡ entered self.old }
+    {
+        self.place.step = 1;
+        self.state = State::zero();
+    }
+
+    #[inline(always)]
+    fn go_on(&mut self)
+        requires { self.old.place.step + 1 < 2 ^ 32 }
+        ensures { self.new ≡ stepped self.old self.old.state }
+    {
+        self.place.step += 1;
+    }
+
+    #[inline(always)]
+    pub(crate) fn pass(&mut self, outcome: Outcome)
+        requires packets { self.old.place.packet + 1 < 2 ^ 64 }
+        requires passes { self.old.counts.passes + 1 < 2 ^ 64 }
+        requires fails { self.old.counts.fails + 1 < 2 ^ 64 }
+        requires unknown { self.old.counts.unknown + 1 < 2 ^ 64 }
+        ensures { self.new ≡ passed self.old outcome }
+    {
+        match outcome {
+            Outcome::Pass(_) => self.counts.passes += 1,
+            Outcome::Fail => self.counts.fails += 1,
+            Outcome::Unknown(_) => self.counts.unknown += 1,
+        }
+        self.place.packet += 1;
+        self.place.step = 0;
+    }
+
+    /// Before a packet, from which it counts.
+    pub(crate) fn before(packet: u64) -> Cursor
+        requires { 1 ≤ packet }
+        ensures stands { (machine : Machine) (capture : List Record) → IsSound machine.list → packet ≤ length capture + 1 → Stands machine capture result }
+        ensures place { result.place ≡ record { packet = packet; step = 0 } }
+        ensures origin { result.origin ≡ packet }
+    {
+        Cursor {
+            origin: packet,
+            place: Place { packet, step: 0 },
+            state: State::zero(),
+            counts: Counts {
+                passes: 0,
+                fails: 0,
+                unknown: 0,
+            },
+        }
+    }
+
+    /// At an entry of a packet, from which it counts.
+    pub(crate) fn at_entry(place: Place, state: State) -> Cursor
+        requires { 1 ≤ place.packet }
+        ensures stands { (machine : Machine) (capture : List Record) → IsSound machine.list → place.packet ≤ length capture + 1 → IsEntry machine capture place state → Stands machine capture result }
+        ensures place { result.place ≡ place }
+        ensures origin { result.origin ≡ place.packet }
+    {
+        Cursor {
+            origin: place.packet,
+            place,
+            state,
+            counts: Counts {
+                passes: 0,
+                fails: 0,
+                unknown: 0,
+            },
+        }
+    }
+
+    /// At the start of a capture.
+    pub(crate) fn start() -> Cursor
+        ensures stands { (machine : Machine) (capture : List Record) → IsSound machine.list → Stands machine capture result }
+        ensures place { result.place ≡ start }
+        ensures origin { result.origin ≡ 1 }
+    {
+        Cursor::before(1)
+    }
+}
+
+/// The record of a packet; `None` after the last.
+pub(crate) fn record_at<A: Allocator>(capture: &Capture<A>, packet: u64) -> Option<Captured<'_>>
+    requires { 1 ≤ packet }
+    ensures { IsHere capture.entry.now.records packet result }
+{
+    if packet <= capture.count() {
+        Some(capture.item(packet))
+    } else {
+        None
+    }
+}
+
+/// Goes on by one entry from an entry of the packet, or out of the packet, whose record is `here`.
+#[inline(always)]
+fn leave_entry<A: Allocator>(
+    meter: &mut Meter,
+    loaded: &Loaded<'_, A>,
+    here: &Captured<'_>,
+    w: &mut Cursor,
+) -> Moved
+    requires stands { Stands (machine_in loaded.now) (records_in loaded.now) w.old }
+    requires here { slice_get (records_in loaded.now) (w.old.place.packet - 1) ≡ Some (record_of here.now) }
+    requires begun { 0 < w.old.place.step }
+    requires spare { meter.old + 1 < 2 ^ 128 }
+    ensures stands { Stands (machine_in loaded.now) (records_in loaded.now) w.new }
+    ensures moves { Moves (machine_in loaded.now) (records_in loaded.now) w.old result w.new }
+    ensures origin { w.new.origin ≡ w.old.origin }
+    ensures turns { meter.new ≡ meter.old + 1 }
+{
+    let _few = loaded.capture.count();
+    let packet = Packet {
+        bytes: here.bytes,
+        wire: here.wire,
+    };
+    match turn_in_place(meter, loaded.program, packet, loaded.values, &mut w.state) {
+        None => {
+            w.go_on();
+            Moved::Entry
+        }
+        Some(outcome) => {
+            w.pass(outcome);
+            Moved::Packet
+        }
+    }
+}
+
+/// Goes on by one entry, or out of the packet, whose record is `here`.
+#[inline(always)]
+pub(crate) fn advance<A: Allocator>(
+    meter: &mut Meter,
+    loaded: &Loaded<'_, A>,
+    here: &Captured<'_>,
+    w: &mut Cursor,
+) -> Moved
+    requires stands { Stands (machine_in loaded.now) (records_in loaded.now) w.old }
+    requires here { slice_get (records_in loaded.now) (w.old.place.packet - 1) ≡ Some (record_of here.now) }
+    requires spare { meter.old + 1 < 2 ^ 128 }
+    ensures stands { Stands (machine_in loaded.now) (records_in loaded.now) w.new }
+    ensures moves { Moves (machine_in loaded.now) (records_in loaded.now) w.old result w.new }
+    ensures origin { w.new.origin ≡ w.old.origin }
+    ensures turns { meter.new ≡ meter.old + min w.old.place.step 1 }
+{
+    if w.place.step == 0 {
+        enter_packet(loaded, here, w);
+        return Moved::Entry;
+    }
+    leave_entry(meter, loaded, here, w)
+}
+
+/// Goes to the first entry of a packet, whose record is `here`.
+#[inline(always)]
+pub(crate) fn enter_packet<A: Allocator>(
+    loaded: &Loaded<'_, A>,
+    here: &Captured<'_>,
+    w: &mut Cursor,
+)
+    requires stands { Stands (machine_in loaded.now) (records_in loaded.now) w.old }
+    requires here { slice_get (records_in loaded.now) (w.old.place.packet - 1) ≡ Some (record_of here.now) }
+    requires before { w.old.place.step ≡ 0 }
+    ensures stands { Stands (machine_in loaded.now) (records_in loaded.now) w.new }
+    ensures moves { Moves (machine_in loaded.now) (records_in loaded.now) w.old moved.Entry w.new }
+    ensures origin { w.new.origin ≡ w.old.origin }
+{
+    w.enter();
+}

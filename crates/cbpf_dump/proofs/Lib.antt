@@ -1,5 +1,0 @@
-pub mod SpaceLemmas
-pub mod RunLemmas
-pub mod ScratchLemmas
-pub mod RowLemmas
-pub mod ChainLemmas

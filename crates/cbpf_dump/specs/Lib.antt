@@ -1,4 +1,0 @@
-pub mod Lines
-pub mod Scratch
-pub mod Packet
-pub mod Dump

@@ -1,9 +1,0 @@
-use Rattle.cbpf_dbg.specs.Commands.{delete}
-use Rattle.cbpf_reply.specs.Texts.{breakpoints_text}
-use Rattle.cbpf_jobs.proofs.SaidLemmas.{said-ok}
-use Rattle.cbpf_jobs.proofs.commands.delete.Goals as goal
-
-pub returns-in-Ok : goal.returns-in-Ok
-returns-in-Ok g c =
-    said-ok (λ was v. breakpoints_text v.breakpoints) c.args.session.now c.delete.new.self (delete c.args.session.now c.args.n) c.in-Ok.field-0 _ _ _
-    c.in-Ok.ensures.reply c.in-Ok.ensures.after c.write_breakpoints.ensures

@@ -1,9 +1,0 @@
-use Rattle.cbpf_dbg.specs.Commands.{mark}
-use Rattle.std.proofs.Common.{[]}
-use Rattle.cbpf_reply.specs.Texts.{place_text}
-use Rattle.cbpf_jobs.proofs.SaidLemmas.{told-ok}
-use Rattle.cbpf_jobs.proofs.commands.mark.Goals as goal
-
-pub returns-in-Ok : goal.returns-in-Ok
-returns-in-Ok g c =
-    told-ok (λ place. place_text [] place) (mark c.args.session.now) c.in-Ok.place _ _ _ c.in-Ok.ensures c.write_place.ensures

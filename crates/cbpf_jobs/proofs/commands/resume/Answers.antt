@@ -1,9 +1,0 @@
-use Rattle.cbpf_dbg.specs.Commands.{resume}
-use Rattle.cbpf_jobs.specs.Said.{at_text, place_of}
-use Rattle.cbpf_jobs.proofs.SaidLemmas.{said-ok}
-use Rattle.cbpf_jobs.proofs.commands.resume.Goals as goal
-
-pub returns-in-Ok : goal.returns-in-Ok
-returns-in-Ok g c =
-    said-ok (λ u v. at_text (place_of c.args.packet c.args.step)) c.args.session.now c.resume.new.self (resume c.args.session.now (place_of c.args.packet c.args.step)) c.in-Ok.field-0 _ _ _
-    c.in-Ok.ensures.reply c.in-Ok.ensures.after c.write_place.ensures

@@ -1,0 +1,14 @@
+use Rattle.std.proofs.Common.{◌++◌}
+use Rattle.cbpf_code.proofs.WrittenLemmas.{first-failed}
+use Rattle.cbpf_reply.specs.Dump.{shown, heading, register_dump, packet_and_why}
+use Rattle.cbpf_reply.proofs.ChainLemmas.{second-failed, third-last}
+use Rattle.cbpf_reply.proofs.dump.write_dump.Goals as goal
+
+pub returns-in_err-write_heading : goal.returns-in_err-write_heading
+returns-in_err-write_heading g c = first-failed _ _ (heading c.args.dump.now.packet c.args.dump.now.step) (register_dump c.args.p.now (shown c.args.dump.now) ++ packet_and_why (shown c.args.dump.now)) _ c.from_residual.ensures.0 c.in_err-write_heading.ensures
+
+pub returns-in_err-write_register_dump : goal.returns-in_err-write_register_dump
+returns-in_err-write_register_dump g c = second-failed _ _ _ (heading c.args.dump.now.packet c.args.dump.now.step) (register_dump c.args.p.now (shown c.args.dump.now)) (packet_and_why (shown c.args.dump.now)) _ c.from_residual-in_err-write_register_dump.ensures.0 c.in_ok-write_heading.ensures c.in_err-write_register_dump.ensures
+
+pub returns : goal.returns
+returns g c = third-last _ _ _ _ (heading c.args.dump.now.packet c.args.dump.now.step) (register_dump c.args.p.now (shown c.args.dump.now)) (packet_and_why (shown c.args.dump.now)) _ c.in_ok-write_heading.ensures c.in_ok-write_register_dump.ensures c.write_ending.ensures

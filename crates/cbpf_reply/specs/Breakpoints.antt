@@ -1,0 +1,45 @@
+-- The replies that show breakpoints (this project's own).
+use Rattle.std.specs.Prelude.{ℕ, List, [], ◌∷◌, ◌++◌, codes, decimal, Option, Some, None}
+use Rattle.std.specs.List.{flat_map}
+use Rattle.cbpf_code.specs.Text.{joined}
+use Rattle.cbpf_code.specs.declared.insn.Insn.{Insn}
+use Rattle.cbpf_listing.specs.Listing.{line_text}
+use Rattle.cbpf_reply.specs.Faults.{with_number}
+use Rattle.cbpf_reply.specs.declared.breakpoints.When.{When}
+use Rattle.cbpf_reply.specs.declared.breakpoints.When.TheVariants.{Always, A, X}
+
+-- the condition of a breakpoint that is set, and the line's end
+abbrev pub condition_text : When → List ℕ
+condition_text Always = codes "\n"
+condition_text (A v) = with_number (codes " when a = ") v (codes "\n")
+condition_text (X v) = with_number (codes " when x = ") v (codes "\n")
+
+abbrev pub line_with_condition : List Insn → ℕ → When → List ℕ
+line_with_condition list n when = line_text list n ++ condition_text when
+
+unfoldable pub set_head : List ℕ
+set_head = codes "breakpoint at: "
+
+abbrev pub set_text : List Insn → ℕ → When → List ℕ
+set_text list n when = set_head ++ line_with_condition list n when
+
+-- the breakpoint's instruction, where a program is loaded
+abbrev pub set_in : Option (List Insn) → ℕ → When → List ℕ
+set_in None n when = []
+set_in (Some list) n when = set_text list n when
+
+-- a breakpoint in the list of them
+abbrev pub listed_text : ℕ × When → List ℕ
+listed_text (n, Always) = joined (codes " " ∷ decimal n ∷ [])
+listed_text (n, A v) = joined (codes " " ∷ decimal n ∷ codes "(a=" ∷ decimal v ∷ codes ")" ∷ [])
+listed_text (n, X v) = joined (codes " " ∷ decimal n ∷ codes "(x=" ∷ decimal v ∷ codes ")" ∷ [])
+
+abbrev pub list_text : List (ℕ × When) → List ℕ
+list_text breakpoints = flat_map listed_text breakpoints ++ codes "\n"
+
+unfoldable pub list_head : List ℕ
+list_head = codes "breakpoints:"
+
+-- in order of setting
+unfoldable pub breakpoints_text : List (ℕ × When) → List ℕ
+breakpoints_text breakpoints = list_head ++ list_text breakpoints

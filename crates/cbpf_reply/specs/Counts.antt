@@ -1,0 +1,33 @@
+-- Places, and counts of packets (the kernel's Documentation/networking/filter shows the counts of `run` for `bpf_dbg`; the rest is this project's own).
+use Rattle.std.specs.Prelude.{ℕ, ◌==◌, if◌then◌else◌, List, [], ◌∷◌, ◌++◌, codes, decimal}
+use Rattle.cbpf_code.specs.Text.{joined}
+use Rattle.cbpf_reply.specs.declared.reply.Counts.{Counts}
+use Rattle.cbpf_reply.specs.declared.reply.Place.{Place}
+
+abbrev pub place_text : List ℕ → Place → List ℕ
+place_text before p = joined (before ∷ decimal p.packet ∷ codes " " ∷ decimal p.step ∷ codes "\n" ∷ [])
+
+-- how many packets asked for an extension without a value, where one did
+abbrev pub unknown_text : ℕ → List ℕ
+unknown_text n = if n == 0 then [] else joined (codes " unknown:" ∷ decimal n ∷ [])
+
+-- two numbers, each after a text
+abbrev pub two : List ℕ → ℕ → List ℕ → ℕ → List ℕ
+two before m between n = joined (before ∷ decimal m ∷ between ∷ decimal n ∷ [])
+
+unfoldable pub known_text : ℕ → ℕ → List ℕ
+known_text passes fails = two (codes "bpf passes:") passes (codes " fails:") fails
+
+-- how many packets passed and failed, and how many asked for an extension without a value
+unfoldable pub counts_text : Counts → List ℕ
+counts_text n = known_text n.passes n.fails ++ unknown_text n.unknown
+
+-- with the next packet, where a limit was reached
+abbrev pub next_text : ℕ → List ℕ
+next_text packet = joined (codes " next:" ∷ decimal packet ∷ codes "\n" ∷ [])
+
+abbrev pub limit_text : Counts → ℕ → List ℕ
+limit_text n packet = counts_text n ++ next_text packet
+
+abbrev pub finished_text : Counts → List ℕ
+finished_text n = counts_text n ++ codes "\n"
