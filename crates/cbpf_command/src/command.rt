@@ -220,22 +220,23 @@ fn command_by<'a>(name: &[u8], text: &'a [u8]) -> Result<Option<Command<'a>>, Li
     ensures { spec.told result ≡ spec.by_reading (spec.reading_in spec.readings name.now) (words text.now) (trimmed (behind 1 text.now)) }
 {
     let arguments = arguments_in(text);
-    match name {
-        b"load" => or_wrong(load_by(text)),
-        b"run" => or_wrong(run_by(arguments)),
-        b"disassemble" => or_wrong(alone(arguments, Command::Disassemble)),
-        b"dump" => or_wrong(alone(arguments, Command::Dump)),
-        b"breakpoint" => or_wrong(breakpoint_by(arguments)),
-        b"delete" => or_wrong(delete_by(arguments)),
-        b"step" => or_wrong(step_by(arguments)),
-        b"select" => or_wrong(select_by(arguments)),
-        b"mark" => or_wrong(alone(arguments, Command::Mark)),
-        b"resume" => or_wrong(resume_by(arguments)),
-        b"stops" => or_wrong(alone(arguments, Command::Stops)),
-        b"value" => or_wrong(value_by(arguments)),
-        b"quit" => or_wrong(alone(arguments, Command::Quit)),
-        _ => Err(LineRefusal::UnknownCommand),
-    }
+    let command = match name {
+        b"load" => load_by(text),
+        b"run" => run_by(arguments),
+        b"disassemble" => alone(arguments, Command::Disassemble),
+        b"dump" => alone(arguments, Command::Dump),
+        b"breakpoint" => breakpoint_by(arguments),
+        b"delete" => delete_by(arguments),
+        b"step" => step_by(arguments),
+        b"select" => select_by(arguments),
+        b"mark" => alone(arguments, Command::Mark),
+        b"resume" => resume_by(arguments),
+        b"stops" => alone(arguments, Command::Stops),
+        b"value" => value_by(arguments),
+        b"quit" => alone(arguments, Command::Quit),
+        _ => return Err(LineRefusal::UnknownCommand),
+    };
+    or_wrong(command)
 }
 
 /// The command that a line spells; `None` for a line without words. Words are separated by blanks,
