@@ -1,4 +1,4 @@
 pub mod WordLemmas
-pub mod VerbLemmas
+pub mod CommandLemmas
 pub mod NumberLemmas
 pub mod NameLemmas

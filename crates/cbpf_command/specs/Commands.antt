@@ -5,8 +5,6 @@ use Rattle.cbpf_code.specs.declared.extension.Ext.{Ext}
 use Rattle.cbpf_code.specs.Extension.{ext_name, ext_table}
 use Rattle.cbpf_command.specs.Words.{words, behind, trimmed}
 use Rattle.cbpf_command.specs.Numbers.{number, signed_number}
-use Rattle.cbpf_command.specs.declared.command.Verb.{Verb}
-use Rattle.cbpf_command.specs.declared.command.Verb.TheVariants as verb
 use Rattle.cbpf_command.specs.declared.command.LineRefusal.{LineRefusal}
 use Rattle.cbpf_command.specs.declared.command.LineRefusal.TheVariants.{UnknownCommand, WrongArguments}
 use Rattle.cbpf_command.specs.declared.command.Command.{Command}
@@ -54,23 +52,6 @@ meaning command.Stops = stops
 meaning (command.Value e n) = value e n
 meaning command.Quit = quit
 
--- the first words of commands
-abbrev pub verb_named : List ℕ → Option Verb
-verb_named w =
-    if bytes_eq w (codes "load") then Some verb.Load
-    else (if bytes_eq w (codes "run") then Some verb.Run
-    else (if bytes_eq w (codes "disassemble") then Some verb.Disassemble
-    else (if bytes_eq w (codes "dump") then Some verb.Dump
-    else (if bytes_eq w (codes "breakpoint") then Some verb.Breakpoint
-    else (if bytes_eq w (codes "delete") then Some verb.Delete
-    else (if bytes_eq w (codes "step") then Some verb.Step
-    else (if bytes_eq w (codes "select") then Some verb.Select
-    else (if bytes_eq w (codes "mark") then Some verb.Mark
-    else (if bytes_eq w (codes "resume") then Some verb.Resume
-    else (if bytes_eq w (codes "stops") then Some verb.Stops
-    else (if bytes_eq w (codes "value") then Some verb.Value
-    else (if bytes_eq w (codes "quit") then Some verb.Quit else None))))))))))))
-
 -- a command without arguments
 abbrev pub alone : Spelled → List (List ℕ) → Option Spelled
 alone c [] = Some c
@@ -105,11 +86,17 @@ breakpoint_by (w ∷ []) = if bytes_eq w (codes "reset") then Some reset_breakpo
 breakpoint_by (n ∷ r ∷ v ∷ []) = by_both (breakpoint_when r) (number (2 ^ 64 - 1) n) (number (2 ^ 32 - 1) v)
 breakpoint_by _ = None
 
+abbrev pub delete_by : List (List ℕ) → Option Spelled
+delete_by ws = option_map delete (sole_number ws)
+
 -- how many instructions, to and fro; without a number it is one
 abbrev pub step_by : List (List ℕ) → Option Spelled
 step_by [] = Some (step (pos 1))
 step_by (w ∷ []) = option_map step (signed_number (2 ^ 63 - 1) w)
 step_by _ = None
+
+abbrev pub select_by : List (List ℕ) → Option Spelled
+select_by ws = option_map select (sole_number ws)
 
 -- a packet's number of 64 bits, and a step of 32
 abbrev pub resume_by : List (List ℕ) → Option Spelled
@@ -147,33 +134,43 @@ load_by [] text = None
 load_by (w ∷ ws) text =
     if bytes_eq w (codes "bpf") then words_in text else (if bytes_eq w (codes "pcap") then name_in text else None)
 
--- by the words after the verb; `text` is what stands after the first of them, without the blanks around it
-abbrev pub spelled_by : Verb → List (List ℕ) → List ℕ → Option Spelled
-spelled_by verb.Load ws text = load_by ws text
-spelled_by verb.Run ws text = run_by ws
-spelled_by verb.Disassemble ws text = alone disassemble ws
-spelled_by verb.Dump ws text = alone dump ws
-spelled_by verb.Breakpoint ws text = breakpoint_by ws
-spelled_by verb.Delete ws text = option_map delete (sole_number ws)
-spelled_by verb.Step ws text = step_by ws
-spelled_by verb.Select ws text = option_map select (sole_number ws)
-spelled_by verb.Mark ws text = alone mark ws
-spelled_by verb.Resume ws text = resume_by ws
-spelled_by verb.Stops ws text = alone stops ws
-spelled_by verb.Value ws text = value_by ws
-spelled_by verb.Quit ws text = alone quit ws
+-- how a command reads the words after its name; the text is what stands after the first of them, without the blanks around it
+abbrev pub Reading : Type 0
+Reading = List (List ℕ) → List ℕ → Option Spelled
+
+-- the commands by their names
+abbrev pub readings : List (List ℕ × Reading)
+readings =
+    (codes "load", load_by)
+    ∷ (codes "run", λ ws text. run_by ws)
+    ∷ (codes "disassemble", λ ws text. alone disassemble ws)
+    ∷ (codes "dump", λ ws text. alone dump ws)
+    ∷ (codes "breakpoint", λ ws text. breakpoint_by ws)
+    ∷ (codes "delete", λ ws text. delete_by ws)
+    ∷ (codes "step", λ ws text. step_by ws)
+    ∷ (codes "select", λ ws text. select_by ws)
+    ∷ (codes "mark", λ ws text. alone mark ws)
+    ∷ (codes "resume", λ ws text. resume_by ws)
+    ∷ (codes "stops", λ ws text. alone stops ws)
+    ∷ (codes "value", λ ws text. value_by ws)
+    ∷ (codes "quit", λ ws text. alone quit ws)
+    ∷ []
+
+abbrev pub reading_in : List (List ℕ × Reading) → List ℕ → Option Reading
+reading_in [] w = None
+reading_in (row ∷ rows) w = if bytes_eq w row.0 then Some row.1 else reading_in rows w
 
 abbrev pub or_wrong : Option Spelled → Result (Option Spelled) LineRefusal
 or_wrong None = Err WrongArguments
 or_wrong (Some c) = Ok (Some c)
 
-abbrev pub by_verb : Option Verb → List (List ℕ) → List ℕ → Result (Option Spelled) LineRefusal
-by_verb None ws text = Err UnknownCommand
-by_verb (Some v) ws text = or_wrong (spelled_by v ws text)
+abbrev pub by_reading : Option Reading → List (List ℕ) → List ℕ → Result (Option Spelled) LineRefusal
+by_reading None ws text = Err UnknownCommand
+by_reading (Some read) ws text = or_wrong (read ws text)
 
 abbrev pub by_words : List (List ℕ) → List ℕ → Result (Option Spelled) LineRefusal
 by_words [] text = Ok None
-by_words (w ∷ ws) text = by_verb (verb_named w) ws text
+by_words (w ∷ ws) text = by_reading (reading_in readings w) ws text
 
 -- what a line says: no command where it has no words
 unfoldable pub command_of : List ℕ → Result (Option Spelled) LineRefusal

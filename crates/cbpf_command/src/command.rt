@@ -68,45 +68,6 @@ pub enum LineRefusal {
     WrongArguments,
 }
 
-/// The first word of a command.
-#[derive(Clone, Copy)]
-enum Verb {
-    Load,
-    Run,
-    Disassemble,
-    Dump,
-    Breakpoint,
-    Delete,
-    Step,
-    Select,
-    Mark,
-    Resume,
-    Stops,
-    Value,
-    Quit,
-}
-
-fn verb_of(word: &[u8]) -> Option<Verb>
-    ensures { result ≡ spec.verb_named word.now }
-{
-    match word {
-        b"load" => Some(Verb::Load),
-        b"run" => Some(Verb::Run),
-        b"disassemble" => Some(Verb::Disassemble),
-        b"dump" => Some(Verb::Dump),
-        b"breakpoint" => Some(Verb::Breakpoint),
-        b"delete" => Some(Verb::Delete),
-        b"step" => Some(Verb::Step),
-        b"select" => Some(Verb::Select),
-        b"mark" => Some(Verb::Mark),
-        b"resume" => Some(Verb::Resume),
-        b"stops" => Some(Verb::Stops),
-        b"value" => Some(Verb::Value),
-        b"quit" => Some(Verb::Quit),
-        _ => None,
-    }
-}
-
 /// A command that has no arguments, if there are none.
 fn alone<'a>(arguments: Arguments<'a>, command: Command<'a>) -> Option<Command<'a>>
     ensures { (ws : List (List ℕ)) → Holds ws arguments.entry → option_map spec.meaning result ≡ spec.alone (spec.meaning command.entry) ws }
@@ -162,6 +123,12 @@ fn breakpoint_when(register: &[u8], n: u64, v: u32) -> Option<Command<'_>>
     }
 }
 
+fn delete_by(arguments: Arguments<'_>) -> Option<Command<'_>>
+    ensures { (ws : List (List ℕ)) → Holds ws arguments.entry → option_map spec.meaning result ≡ spec.delete_by ws }
+{
+    Some(Command::Delete(sole_number(arguments)?))
+}
+
 fn step_by(arguments: Arguments<'_>) -> Option<Command<'_>>
     ensures { (ws : List (List ℕ)) → Holds ws arguments.entry → option_map spec.meaning result ≡ spec.step_by ws }
 {
@@ -170,6 +137,12 @@ fn step_by(arguments: Arguments<'_>) -> Option<Command<'_>>
         Arguments::One(word) => Some(Command::Step(signed_number(word)?)),
         _ => None,
     }
+}
+
+fn select_by(arguments: Arguments<'_>) -> Option<Command<'_>>
+    ensures { (ws : List (List ℕ)) → Holds ws arguments.entry → option_map spec.meaning result ≡ spec.select_by ws }
+{
+    Some(Command::Select(sole_number(arguments)?))
 }
 
 fn resume_by(arguments: Arguments<'_>) -> Option<Command<'_>>
@@ -232,26 +205,38 @@ fn load_by(text: &[u8]) -> Option<Command<'_>>
     }
 }
 
-/// The command of a verb with what stands after it.
-fn command_by(verb: Verb, text: &[u8]) -> Option<Command<'_>>
-    ensures { option_map spec.meaning result ≡ spec.spelled_by verb (words text.now) (trimmed (behind 1 text.now)) }
+/// What the arguments spell, or that they are wrong.
+fn or_wrong(command: Option<Command<'_>>) -> Result<Option<Command<'_>>, LineRefusal>
+    ensures { spec.told result ≡ spec.or_wrong (option_map spec.meaning command.entry) }
+{
+    match command {
+        Some(command) => Ok(Some(command)),
+        None => Err(LineRefusal::WrongArguments),
+    }
+}
+
+/// The command of this name with what stands after it.
+fn command_by<'a>(name: &[u8], text: &'a [u8]) -> Result<Option<Command<'a>>, LineRefusal>
+    ensures { spec.told result ≡ spec.by_reading (spec.reading_in spec.readings name.now) (words text.now) (trimmed (behind 1 text.now)) }
 {
     let arguments = arguments_in(text);
-    match verb {
-        Verb::Load => load_by(text),
-        Verb::Run => run_by(arguments),
-        Verb::Disassemble => alone(arguments, Command::Disassemble),
-        Verb::Dump => alone(arguments, Command::Dump),
-        Verb::Breakpoint => breakpoint_by(arguments),
-        Verb::Delete => Some(Command::Delete(sole_number(arguments)?)),
-        Verb::Step => step_by(arguments),
-        Verb::Select => Some(Command::Select(sole_number(arguments)?)),
-        Verb::Mark => alone(arguments, Command::Mark),
-        Verb::Resume => resume_by(arguments),
-        Verb::Stops => alone(arguments, Command::Stops),
-        Verb::Value => value_by(arguments),
-        Verb::Quit => alone(arguments, Command::Quit),
-    }
+    let command = match name {
+        b"load" => load_by(text),
+        b"run" => run_by(arguments),
+        b"disassemble" => alone(arguments, Command::Disassemble),
+        b"dump" => alone(arguments, Command::Dump),
+        b"breakpoint" => breakpoint_by(arguments),
+        b"delete" => delete_by(arguments),
+        b"step" => step_by(arguments),
+        b"select" => select_by(arguments),
+        b"mark" => alone(arguments, Command::Mark),
+        b"resume" => resume_by(arguments),
+        b"stops" => alone(arguments, Command::Stops),
+        b"value" => value_by(arguments),
+        b"quit" => alone(arguments, Command::Quit),
+        _ => return Err(LineRefusal::UnknownCommand),
+    };
+    or_wrong(command)
 }
 
 /// The command that a line spells; `None` for a line without words. Words are separated by blanks,
@@ -263,11 +248,5 @@ pub fn command_of(line: &[u8]) -> Result<Option<Command<'_>>, LineRefusal>
     let Some((name, rest)) = next_word(line) else {
         return Ok(None);
     };
-    let Some(verb) = verb_of(name) else {
-        return Err(LineRefusal::UnknownCommand);
-    };
-    match command_by(verb, rest) {
-        Some(command) => Ok(Some(command)),
-        None => Err(LineRefusal::WrongArguments),
-    }
+    command_by(name, rest)
 }

@@ -1,5 +1,5 @@
 -- The number and the condition of a breakpoint, read one by one.
-use Rattle.std.proofs.Common.{◌≡◌, ℕ, List, length, ◌<◌, sym, ◌∙◌, ap, refl, slice_get, get_or}
+use Rattle.std.proofs.Common.{◌≡◌, ℕ, length, ◌<◌, ap, refl, slice_get, get_or}
 use Rattle.std.specs.Prelude.{Option, Some, None}
 use Rattle.std.specs.Option.{option_map}
 use Rattle.std.proofs.lemmas.Option.{slice_get-get_or}

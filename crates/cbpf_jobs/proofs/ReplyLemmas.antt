@@ -1,6 +1,6 @@
 -- From what a call answered to the reply of its line.
 use Rattle.std.proofs.Common.{◌≡◌, ◌⊎◌, inl, inr, refl, sym, subst, le_refl, ℕ, List, Option, Some, None, Result, Ok, Err, length}
-use Rattle.cbpf_code.specs.Writing.{AppendedPart}
+use Rattle.cbpf_code.specs.Writing.{AppendedPart, Wrote}
 use Rattle.cbpf_code.specs.WordText.{Spells, Refused}
 use Rattle.cbpf_code.specs.Sound.{IsSound}
 use Rattle.cbpf_code.specs.Faults.{FirstFault}
@@ -17,7 +17,8 @@ use Rattle.cbpf_jobs.specs.declared.debugger.AfterLine.{AfterLine}
 use Rattle.cbpf_jobs.specs.declared.files.LoadFault.TheVariants.{Absent, Device}
 use Rattle.cbpf_code.specs.declared.writing.WriteFault.{WriteFault}
 use Rattle.cbpf_command.specs.declared.command.LineRefusal.{LineRefusal}
-use Rattle.std.specs.Result.{IsErr}
+use Rattle.std.specs.Result.{IsErr, IsOkAnd, MatchResult}
+use Rattle.cbpf_jobs.specs.declared.debugger.AfterLine.TheVariants.{NextLine, Quit}
 use Rattle.cbpf_jobs.specs.Texts.{word_fault_text, check_fault_text, program_text, capture_fault_text, capture_text, absent_text, device_text, memory_text}
 use Rattle.cbpf_jobs.specs.Replies.{Writes, LoadsWords, unreadable, unsound, accepted, no_capture, a_capture, Failed, CommandReplies, LineReplies}
 use Rattle.cbpf_jobs.specs.declared.files.LoadFault.{LoadFault}
@@ -109,3 +110,10 @@ line-err files m n f g spelled old new (Err x) e a = a
 
 pub line-spelled : (f g : Source) (m n : View) (spelled spelled' : Result (Option Spelled) LineRefusal) (old new : Option (List ℕ)) (r : Result AfterLine WriteFault) → spelled ≡ spelled' → LineRan f g m n spelled old new r → LineRan f g m n spelled' old new r
 line-spelled f g m n spelled spelled' old new r e h = subst (λ s. LineRan f g m n s old new r) e h
+
+-- a command other than `quit` was run, and the next line comes after its reply
+pub replied : (f g : Source) (m n : View) (c : Spelled) (old new : Option (List ℕ)) (r : Result (Unit {0}) WriteFault) (a : Result AfterLine WriteFault) → MatchResult r (λ x. IsOkAnd a (λ b. b ≡ NextLine)) (λ e. a ≡ Err e) → CommandRan f g m n c (λ t. Wrote old new r t) → LineRan f g m n (Ok (Some c)) old new a
+replied f g m n c old new (Ok x) (Ok NextLine) e h = h
+replied f g m n c old new (Ok x) (Ok Quit) e h = absurd (cc)
+replied f g m n c old new (Ok x) (Err b) e h = absurd e
+replied f g m n c old new (Err x) a e h = rw e h

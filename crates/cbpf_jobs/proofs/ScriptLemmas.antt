@@ -161,7 +161,7 @@ unfolding unread
 unread-nil pending None r n e = absurd (cc)
 unread-nil pending (Some xs) r n e = rw n at e
 
-module _ (script pending : List ℕ) (left old new new' : Option (List ℕ)) (m : View) (f g : Source) (p : Progress script pending left old new f g m) (k : Keeps new new') where
+module _ {script pending : List ℕ} {left old new : Option (List ℕ)} {m : View} {f g : Source} (p : Progress script pending left old new f g m) (new' : Option (List ℕ)) (k : Keeps new new') where
   -- the text of the lines that were run
   so_far : IsOutput f g p.done p.text
   so_far = subst (λ t. IsOutput f g p.done t) (append-nil p.text) (subst (λ ls. IsOutput f g ls (p.text ++ [])) (append-nil p.done) (ran-output f.files f.failures g.failures g.failures empty_view m p.done p.text p.ran [] [] at_end))
@@ -195,7 +195,7 @@ module _ (script pending : List ℕ) (left old new new' : Option (List ℕ)) (m 
   pub end-done : (left' : Option (List ℕ)) → p.rest ≡ [] → left' ≡ Some [] → Finished script left' old new' f g
   end-done left' e z = (p.text, subst (λ ls. IsOutput f g ls p.text) (sym (script_lines ∙ ap (λ (r : List ℕ). p.done ++ lines r) e ∙ append-nil p.done)) so_far, inr z, wrote)
 
-  module _ (new'' : Option (List ℕ)) (n : View) (g' : Source) (line : List ℕ) (more : List (List ℕ)) (next : lines p.rest ≡ line ∷ more) (is_known : IsTrue f.is_known) where
+  module _ (new'' : Option (List ℕ)) (n : View) (g' : Source) {line : List ℕ} {more : List (List ℕ)} (next : lines p.rest ≡ line ∷ more) (is_known : IsTrue f.is_known) where
     here : lines script ≡ p.done ++ (line ∷ more)
     here = script_lines ∙ ap (λ (r : List (List ℕ)). p.done ++ r) next
 
@@ -224,14 +224,19 @@ module _ (script pending : List ℕ) (left old new new' : Option (List ℕ)) (m 
         (p.done ++ (line ∷ []), more, p.text ++ r.0, here ∙ sym (append_assoc p.done (line ∷ []) more), one_line r.0 r.1 c.0.rises, part-then old new' new'' p.text r.0 wrote r.2)
 
     -- a last line without a newline
-    pub last-done : (left' : Option (List ℕ)) → left' ≡ Some [] → more ≡ [] → LineRan g g' m n (command_of line) new' new'' (Ok NextLine) → Finished script left' old new'' f g'
+    last-done : (left' : Option (List ℕ)) → left' ≡ Some [] → more ≡ [] → LineRan g g' m n (command_of line) new' new'' (Ok NextLine) → Finished script left' old new'' f g'
     last-done left' z e c =
         let r = reply-named g.files m n g.failures g'.failures (command_of line) (λ t. Appended new' new'' t) (c.1 still_known) in
         let all : p.done ++ (line ∷ []) ≡ lines script = sym (here ∙ ap (λ (ls : List (List ℕ)). p.done ++ (line ∷ ls)) e) in
         (p.text ++ r.0, subst (λ ls. IsOutput f g' ls (p.text ++ r.0)) all (one_line r.0 r.1 c.0.rises), inr z, appended-then old new' new'' p.text r.0 wrote r.2)
 
-    pub line-done : (pending' : List ℕ) (left' : Option (List ℕ)) → has_newline line ≡ false → Took p.rest pending' left' (line ++ 10 ∷ []) → LineRan g g' m n (command_of line) new' new'' (Ok NextLine) → Progress script pending' left' old new'' f g' n
-    line-done pending' left' plain t c =
+    -- after it the input is at its end, whatever comes after the line
+    pub either-done : (left' : Option (List ℕ)) → left' ≡ Some [] → more ≡ [] → (b : AfterLine) → LineRan g g' m n (command_of line) new' new'' (Ok b) → Finished script left' old new'' f g'
+    either-done left' z e NextLine c = last-done left' z e c
+    either-done left' z e Quit c = quit-done left' c
+
+    pub line-done : {pending' : List ℕ} {left' : Option (List ℕ)} → has_newline line ≡ false → Took p.rest pending' left' (line ++ 10 ∷ []) → LineRan g g' m n (command_of line) new' new'' (Ok NextLine) → Progress script pending' left' old new'' f g' n
+    line-done plain t c =
         let r = reply-named g.files m n g.failures g'.failures (command_of line) (λ s. Appended new' new'' s) (c.1 still_known) in
         record {
           done = p.done ++ line ∷ [];
@@ -244,11 +249,6 @@ module _ (script pending : List ℕ) (left old new new' : Option (List ℕ)) (m 
           ran = onward line r.0 p.ran (same_files (command_of line) (λ s. s ≡ r.0) r.1) c.0.rises;
           wrote = appended-then old new' new'' p.text r.0 wrote r.2;
         }
-
--- after a last line without a newline the input is at its end, whatever comes after the line
-pub either-done : (script pending : List ℕ) (left old new new' : Option (List ℕ)) (m : View) (f g : Source) (p : Progress script pending left old new f g m) (k : Keeps new new') (new'' : Option (List ℕ)) (n : View) (g' : Source) (line : List ℕ) (next : lines p.rest ≡ line ∷ []) (is_known : IsTrue f.is_known) (left' : Option (List ℕ)) → left' ≡ Some [] → (b : AfterLine) → LineRan g g' m n (command_of line) new' new'' (Ok b) → Finished script left' old new'' f g'
-either-done script pending left old new new' m f g p k new'' n g' line next is_known left' z NextLine c = last-done script pending left old new new' m f g p k new'' n g' line [] next is_known left' z refl c
-either-done script pending left old new new' m f g p k new'' n g' line next is_known left' z Quit c = quit-done script pending left old new new' m f g p k new'' n g' line [] next is_known left' c
 
 pub progress-start : (script pending : List ℕ) (left old : Option (List ℕ)) (f : Source) → pending ≡ [] → left ≡ Some script → Progress script pending left old old f f empty_view
 unfolding unread
@@ -264,12 +264,13 @@ progress-start script pending left old f n e = record {
   wrote = appended-nil old;
 }
 
-pub next-whole : (rest pending line : List ℕ) (left : Option (List ℕ)) → has_newline line ≡ false → (t : Took rest pending left (line ++ 10 ∷ [])) → lines rest ≡ line ∷ lines t.rest
-next-whole rest pending line left h t = ap lines (t.split ∙ append_assoc line (10 ∷ []) t.rest) ∙ lines-plain line t.rest h
+-- `line` is the slice of the line `held` that was read
+pub next-whole : (rest pending held line : List ℕ) (left : Option (List ℕ)) → line ≡ held → has_newline held ≡ false → (t : Took rest pending left (held ++ 10 ∷ [])) → lines rest ≡ line ∷ lines t.rest
+next-whole rest pending held line left e h t = rw e (ap lines (t.split ∙ append_assoc held (10 ∷ []) t.rest) ∙ lines-plain held t.rest h)
 
-pub next-last : (rest line : List ℕ) → has_newline line ≡ false → (length line ≡ 0 → ⊥) → rest ≡ line → lines rest ≡ line ∷ []
-next-last rest [] h s e = absurd (s refl)
-next-last rest (b ∷ l) h s e = ap lines e ∙ lines-last b l h
+pub next-last : (rest held line : List ℕ) → line ≡ held → has_newline held ≡ false → (length held ≡ 0 → ⊥) → rest ≡ held → lines rest ≡ line ∷ []
+next-last rest [] line l h s e = absurd (s refl)
+next-last rest (b ∷ bs) line l h s e = ap lines e ∙ lines-last b bs h ∙ sym (ap (λ (x : List ℕ). x ∷ []) l)
 
 -- after the last flush
 pub flushed : (script : List ℕ) (left old new new' : Option (List ℕ)) (f g : Source) → Finished script left old new f g → Keeps new new' → Finished script left old new' f g

@@ -13,8 +13,7 @@ use Rattle.cbpf_reply.specs.declared.reply.SessionFault.TheVariants.{Memory, NoI
 use Rattle.cbpf_reply.specs.Faults.{fault_text}
 use Rattle.cbpf_jobs.specs.Texts.{memory_text}
 use Rattle.cbpf_jobs.specs.Replies.{Writes, Sets}
-use Rattle.cbpf_jobs.specs.SessionReplies.{reply_and_view, reply_text, IsInstruction, is_quit}
-use Rattle.cbpf_command.specs.Commands as line
+use Rattle.cbpf_jobs.specs.SessionReplies.{reply_and_view, reply_text, IsInstruction}
 
 -- a call that answered
 pub reply-ok : {R X E : Type 0} (text : R → View → List ℕ) (m n : View) (a : Answer R) (x : R) (old new : Option (List ℕ)) (r : Result X E) → Ok x ≡ reply_of a → n ≡ view_after m a → Wrote old new r (text x n) → Writes (reply_and_view text m a) n (λ s. Wrote old new r s)
@@ -86,25 +85,3 @@ set-refused m n k when f old new r (inr e) absent v w =
     inr ((e.1, absent at), writes-view memory_text m n old new r v (subst (λ (g : SessionFault). Wrote old new r (fault_text g)) is w))
 
 pub ruleset replies = (reply-ok, reply-err, text-ok, text-err, writes-view)
-
--- ---- the end of a script
-
-pub quit-only : (c : line.Spelled) → is_quit c ≡ true → c ≡ line.quit
-quit-only line.quit h = refl
-quit-only (line.load_words text) h = absurd (cc)
-quit-only (line.load_capture name) h = absurd (cc)
-quit-only (line.run limit) h = absurd (cc)
-quit-only line.disassemble h = absurd (cc)
-quit-only line.dump h = absurd (cc)
-quit-only (line.breakpoint n) h = absurd (cc)
-quit-only (line.breakpoint_when_a n v) h = absurd (cc)
-quit-only (line.breakpoint_when_x n v) h = absurd (cc)
-quit-only line.breakpoints h = absurd (cc)
-quit-only line.reset_breakpoints h = absurd (cc)
-quit-only (line.delete n) h = absurd (cc)
-quit-only (line.step n) h = absurd (cc)
-quit-only (line.select n) h = absurd (cc)
-quit-only line.mark h = absurd (cc)
-quit-only (line.resume packet s) h = absurd (cc)
-quit-only line.stops h = absurd (cc)
-quit-only (line.value e n) h = absurd (cc)

@@ -1,9 +1,8 @@
 -- The replies to the commands of a session, and the view of the session after them (kernel documentation, networking/filter, on `bpf_dbg`; saved places, limits, steps back and the list of stops are this project's own).
-use Rattle.std.specs.Prelude.{ℕ, ℤ, ◌<◌, length, List, [], codes, Bool, true, false, Option, Some, None, Result, Ok, Err}
+use Rattle.std.specs.Prelude.{ℕ, ℤ, ◌<◌, length, List, [], codes, Option, Some, None, Result, Ok, Err}
 use Rattle.cbpf_code.specs.declared.insn.Insn.{Insn}
 use Rattle.cbpf_code.specs.declared.extension.Ext.{Ext}
 use Rattle.cbpf_listing.specs.Listing.{listing}
-use Rattle.cbpf_command.specs.Commands as line
 use Rattle.cbpf_dbg.specs.Commands.{Answer, run, step, select, mark, resume, stops, breakpoint_when, delete, set_value}
 use Rattle.cbpf_dbg.specs.View.{View}
 use Rattle.cbpf_reply.specs.declared.breakpoints.When.{When}
@@ -72,23 +71,3 @@ IsInstruction (Some list) n = n < length list
 unfoldable pub listing_text : Option (List Insn) → List ℕ
 listing_text None = no_program_text
 listing_text (Some list) = listing list
-
-abbrev pub is_quit : line.Spelled → Bool
-is_quit line.quit = true
-is_quit (line.load_words text) = false
-is_quit (line.load_capture name) = false
-is_quit (line.run limit) = false
-is_quit line.disassemble = false
-is_quit line.dump = false
-is_quit (line.breakpoint n) = false
-is_quit (line.breakpoint_when_a n v) = false
-is_quit (line.breakpoint_when_x n v) = false
-is_quit line.breakpoints = false
-is_quit line.reset_breakpoints = false
-is_quit (line.delete n) = false
-is_quit (line.step n) = false
-is_quit (line.select n) = false
-is_quit line.mark = false
-is_quit (line.resume packet s) = false
-is_quit line.stops = false
-is_quit (line.value e n) = false

@@ -1,10 +1,8 @@
 // Runs a script line by line.
-ghost use Rattle.std.specs.Prelude.{◌≡◌, ℕ, List, Some, IsTrue, Ok, false};
-ghost use Rattle.cbpf_code.specs.Writing.{Wrote};
+ghost use Rattle.std.specs.Prelude.{◌≡◌, ℕ, List, Some, IsTrue, Ok};
 ghost use Rattle.cbpf_command.specs.Commands as language;
 ghost use Rattle.cbpf_jobs.specs.Debugged.{Debugged};
-ghost use Rattle.cbpf_jobs.specs.Progress.{CommandRan, LineRan};
-ghost use Rattle.cbpf_jobs.specs.SessionReplies as reply;
+ghost use Rattle.cbpf_jobs.specs.Progress.{LineRan};
 
 use crate::fault::ToolFault;
 use crate::files::Files;
@@ -25,25 +23,18 @@ pub enum AfterLine {
     Quit,
 }
 
-fn is_quit(command: Command<'_>) -> bool
-    ensures { result ≡ reply.is_quit (language.meaning command.entry) }
-{
-    matches!(command, Command::Quit)
-}
-
-/// Runs a command other than `quit`, and writes its reply.
-fn reply_to<A: Allocator + Copy, W: Write, F: Files>(
+/// Runs a command, and writes its reply; `quit` has none, and ends the script.
+fn act<A: Allocator + Copy, W: Write, F: Files>(
     alloc: A,
     w: &mut W,
     session: &mut Session<MarkTrail, A>,
     files: &mut F,
     command: Command<'_>,
-) -> Result<(), WriteFault>
-    requires { reply.is_quit (language.meaning command) ≡ false }
-    ensures { CommandRan (F.source files.old) (F.source files.new) session.old session.new (language.meaning command.entry)
-        (λ t. Wrote (W.contents w.old) (W.contents w.new) result t) }
+) -> Result<AfterLine, WriteFault>
+    ensures { LineRan (F.source files.old) (F.source files.new) session.old session.new (Ok (Some (language.meaning command.entry)))
+        (W.contents w.old) (W.contents w.new) result }
 {
-    match command {
+    let reply = match command {
         Command::LoadWords(text) => load_words(alloc, w, session, text),
         Command::LoadCapture(name) => load_capture(alloc, w, session, files, name),
         Command::Run(limit) => perform::run(w, session, limit),
@@ -61,28 +52,9 @@ fn reply_to<A: Allocator + Copy, W: Write, F: Files>(
         Command::Resume { packet, step } => perform::resume(w, session, packet, step),
         Command::Stops => perform::stops(w, session),
         Command::Value(e, n) => perform::set_value(w, session, e, n),
-        Command::Quit => unreachable!(),
-    }
-}
-
-/// Runs a command, and writes its reply.
-fn act<A: Allocator + Copy, W: Write, F: Files>(
-    alloc: A,
-    w: &mut W,
-    session: &mut Session<MarkTrail, A>,
-    files: &mut F,
-    command: Command<'_>,
-) -> Result<AfterLine, WriteFault>
-    ensures { LineRan (F.source files.old) (F.source files.new) session.old session.new (Ok (Some (language.meaning command.entry)))
-        (W.contents w.old) (W.contents w.new) result }
-{
-    if is_quit(command) {
-        return Ok(AfterLine::Quit);
-    }
-    match reply_to(alloc, w, session, files, command) {
-        Ok(()) => Ok(AfterLine::NextLine),
-        Err(fault) => Err(fault),
-    }
+        Command::Quit => return Ok(AfterLine::Quit),
+    };
+    reply.map(|_| AfterLine::NextLine)
 }
 
 /// Runs a line, and writes its reply.

@@ -1,6 +1,6 @@
 use Rattle.std.proofs.Common.{sym, ◌∙◌, ap, arith, rules, codes}
 use Rattle.cbpf_command.specs.Commands.{words_in, name_in}
-use Rattle.cbpf_command.proofs.VerbLemmas.{loads}
+use Rattle.cbpf_command.proofs.CommandLemmas.{loads}
 use Rattle.cbpf_command.proofs.command.load_by.Goals as goal
 
 pub returns-in-bpf : goal.returns-in-bpf

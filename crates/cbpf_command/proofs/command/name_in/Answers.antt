@@ -1,7 +1,7 @@
 use Rattle.std.proofs.Common.{sym, ◌∙◌, ap, Some, arith}
 use Rattle.std.proofs.lemmas.Grind.{common_steps}
 use Rattle.cbpf_command.specs.Commands.{load_capture}
-use Rattle.cbpf_command.proofs.VerbLemmas.{name-good, name-bad}
+use Rattle.cbpf_command.proofs.CommandLemmas.{name-good, name-bad}
 use Rattle.cbpf_command.proofs.command.name_in.Goals as goal
 
 pub returns-in-Ok : goal.returns-in-Ok

@@ -1,11 +1,8 @@
-use Rattle.std.proofs.Common.{◌≡◌, ◌∙◌, ℕ, List, [], length, Ok, Err, arith, sym, subst}
+use Rattle.std.proofs.Common.{◌≡◌, ◌∙◌, [], length, refl, arith, sym, subst}
 use Rattle.std.proofs.lemmas.Grind.{common_steps}
-use Rattle.cbpf_command.specs.Commands.{command_of}
-use Rattle.cbpf_jobs.specs.Lines.{lines}
 use Rattle.cbpf_dbg.specs.View.{View}
 use Rattle.cbpf_jobs.specs.Reading.{pending_in}
-use Rattle.cbpf_jobs.specs.Progress.{LineRan, Progress}
-use Rattle.cbpf_jobs.specs.declared.debugger.AfterLine.TheVariants.{NextLine, Quit}
+use Rattle.cbpf_jobs.specs.Progress.{Progress}
 use Rattle.cbpf_jobs.proofs.ScriptLemmas.{progress-start, line-faulted, write-faulted, quit-done, line-done, end-done, either-done, next-whole, next-last}
 use Rattle.cbpf_jobs.proofs.debugger.run.Goals as goal
 
@@ -17,143 +14,54 @@ script-init g c = λ script e is_known.
 pub returns-in-Err : goal.returns-in-Err
 returns-in-Err g c = λ script e is_known.
     let p = c.script.invariant script e is_known in
-    let pending = pending_in c.script.lines.chunk c.script.lines.start c.script.lines.end in
-    let pending' = pending_in c.next_line.new.self.chunk c.next_line.new.self.start c.next_line.new.self.end in
-    let left = g.R.Read.remaining c.script.reader in
-    let left' = g.R.Read.remaining c.next_line.new.reader in
-    let old = g.W.Write.contents c.args.writer.now in
-    let new = g.W.Write.contents c.script.writer in
-    let new' = g.W.Write.contents c.next_line.new.writer in
-    let f = g.F.Files.source c.args.files.now in
-    let f' = g.F.Files.source c.script.files in
-    let k = c.next_line.ensures.flushed in
-    let line = c.next_line.new.line.items in
-    record { outcome = line-faulted script pending left old new new' c.script.session f f' p k pending' line left' c.in-Err.fault (c.in-Err.ensures.line p.rest p.known) }
+    let pending = pending_in c.next_line.new.self.chunk c.next_line.new.self.start c.next_line.new.self.end in
+    record { outcome = line-faulted p (g.W.Write.contents c.next_line.new.writer) c.next_line.ensures.flushed pending c.next_line.new.line.items (g.R.Read.remaining c.next_line.new.reader) c.in-Err.fault (c.in-Err.ensures.line p.rest p.known) }
+
+-- ---- a line with its newline
 
 pub returns-in-Err-run_line : goal.returns-in-Err-run_line
 returns-in-Err-run_line g c = λ script e is_known.
     let p = c.script.invariant script e is_known in
-    let pending = pending_in c.script.lines.chunk c.script.lines.start c.script.lines.end in
-    let pending' = pending_in c.next_line.new.self.chunk c.next_line.new.self.start c.next_line.new.self.end in
-    let left = g.R.Read.remaining c.script.reader in
-    let left' = g.R.Read.remaining c.next_line.new.reader in
-    let old = g.W.Write.contents c.args.writer.now in
-    let new = g.W.Write.contents c.script.writer in
-    let new' = g.W.Write.contents c.next_line.new.writer in
-    let f = g.F.Files.source c.args.files.now in
-    let f' = g.F.Files.source c.script.files in
-    let k = c.next_line.ensures.flushed in
-    let line = c.next_line.new.line.items in
     let t = rw c.in-Ok-Newline.field-0-is at (c.in-Ok-Newline.ensures.line p.rest p.known) in
-    let next = next-whole p.rest pending' line left' t.0 t.1 in
-    let new'' = g.W.Write.contents c.run_line.new.w in
-    let f'' = g.F.Files.source c.run_line.new.files in
-    let n = c.run_line.new.session in
-    let done = subst (λ (l : List ℕ). LineRan f' f'' c.script.session n (command_of l) new' new'' (Err c.in-Err-run_line.field-0)) c.as_slice.ensures.value (c.in-Err-run_line.ensures {u = tt}) in
-    record { outcome = write-faulted script pending left old new new' c.script.session f f' p k new'' n f'' line (lines t.1.rest) next is_known left' c.in-Err-run_line.field-0 done }
+    let next = next-whole p.rest _ c.next_line.new.line.items c.as_slice.result.now _ c.as_slice.ensures.value t.0 t.1 in
+    record { outcome = write-faulted p (g.W.Write.contents c.next_line.new.writer) c.next_line.ensures.flushed (g.W.Write.contents c.run_line.new.w) c.run_line.new.session (g.F.Files.source c.run_line.new.files) next is_known (g.R.Read.remaining c.next_line.new.reader) c.in-Err-run_line.field-0 (c.in-Err-run_line.ensures {u = tt}) }
 
 pub returns-in-Ok-Quit : goal.returns-in-Ok-Quit
 returns-in-Ok-Quit g c = λ script e is_known.
     let p = c.script.invariant script e is_known in
-    let pending = pending_in c.script.lines.chunk c.script.lines.start c.script.lines.end in
-    let pending' = pending_in c.next_line.new.self.chunk c.next_line.new.self.start c.next_line.new.self.end in
-    let left = g.R.Read.remaining c.script.reader in
-    let left' = g.R.Read.remaining c.next_line.new.reader in
-    let old = g.W.Write.contents c.args.writer.now in
-    let new = g.W.Write.contents c.script.writer in
-    let new' = g.W.Write.contents c.next_line.new.writer in
-    let f = g.F.Files.source c.args.files.now in
-    let f' = g.F.Files.source c.script.files in
-    let k = c.next_line.ensures.flushed in
-    let line = c.next_line.new.line.items in
     let t = rw c.in-Ok-Newline.field-0-is at (c.in-Ok-Newline.ensures.line p.rest p.known) in
-    let next = next-whole p.rest pending' line left' t.0 t.1 in
-    let new'' = g.W.Write.contents c.run_line.new.w in
-    let f'' = g.F.Files.source c.run_line.new.files in
-    let n = c.run_line.new.session in
-    let done = subst (λ (l : List ℕ). LineRan f' f'' c.script.session n (command_of l) new' new'' (Ok Quit)) c.as_slice.ensures.value (rw c.in-Ok-Quit.field-0-is at (c.in-Ok-Quit.ensures {u = tt})) in
-    record { outcome = quit-done script pending left old new new' c.script.session f f' p k new'' n f'' line (lines t.1.rest) next is_known left' done }
+    let next = next-whole p.rest _ c.next_line.new.line.items c.as_slice.result.now _ c.as_slice.ensures.value t.0 t.1 in
+    record { outcome = quit-done p (g.W.Write.contents c.next_line.new.writer) c.next_line.ensures.flushed (g.W.Write.contents c.run_line.new.w) c.run_line.new.session (g.F.Files.source c.run_line.new.files) next is_known (g.R.Read.remaining c.next_line.new.reader) (rw c.in-Ok-Quit.field-0-is at (c.in-Ok-Quit.ensures {u = tt})) }
 
 pub script-preserved : goal.script-preserved
 script-preserved g c = λ script e is_known.
     let p = c.script.invariant script e is_known in
-    let pending = pending_in c.script.lines.chunk c.script.lines.start c.script.lines.end in
-    let pending' = pending_in c.next_line.new.self.chunk c.next_line.new.self.start c.next_line.new.self.end in
-    let left = g.R.Read.remaining c.script.reader in
-    let left' = g.R.Read.remaining c.next_line.new.reader in
-    let old = g.W.Write.contents c.args.writer.now in
-    let new = g.W.Write.contents c.script.writer in
-    let new' = g.W.Write.contents c.next_line.new.writer in
-    let f = g.F.Files.source c.args.files.now in
-    let f' = g.F.Files.source c.script.files in
-    let k = c.next_line.ensures.flushed in
-    let line = c.next_line.new.line.items in
     let t = rw c.in-Ok-Newline.field-0-is at (c.in-Ok-Newline.ensures.line p.rest p.known) in
-    let next = next-whole p.rest pending' line left' t.0 t.1 in
-    let new'' = g.W.Write.contents c.run_line.new.w in
-    let f'' = g.F.Files.source c.run_line.new.files in
-    let n = c.run_line.new.session in
-    let done = subst (λ (l : List ℕ). LineRan f' f'' c.script.session n (command_of l) new' new'' (Ok NextLine)) c.as_slice.ensures.value (rw c.in-Ok-NextLine.field-0-is at (c.in-Ok-NextLine.ensures {u = tt})) in
-    line-done script pending left old new new' c.script.session f f' p k new'' n f'' line (lines t.1.rest) next is_known pending' left' t.0 t.1 done
+    let next = next-whole p.rest _ c.next_line.new.line.items c.as_slice.result.now _ c.as_slice.ensures.value t.0 t.1 in
+    let q = rw (← c.as_slice.ensures.value) at t in
+    line-done p (g.W.Write.contents c.next_line.new.writer) c.next_line.ensures.flushed (g.W.Write.contents c.run_line.new.w) c.run_line.new.session (g.F.Files.source c.run_line.new.files) next is_known q.0 q.1 (rw c.in-Ok-NextLine.field-0-is at (c.in-Ok-NextLine.ensures {u = tt}))
+
+-- ---- the end, and a last line without a newline
 
 pub returns-then-is_empty : goal.returns-then-is_empty
 returns-then-is_empty g c = λ script e is_known.
     let p = c.script.invariant script e is_known in
-    let pending = pending_in c.script.lines.chunk c.script.lines.start c.script.lines.end in
-    let pending' = pending_in c.next_line.new.self.chunk c.next_line.new.self.start c.next_line.new.self.end in
-    let left = g.R.Read.remaining c.script.reader in
-    let left' = g.R.Read.remaining c.next_line.new.reader in
-    let old = g.W.Write.contents c.args.writer.now in
-    let new = g.W.Write.contents c.script.writer in
-    let new' = g.W.Write.contents c.next_line.new.writer in
-    let f = g.F.Files.source c.args.files.now in
-    let f' = g.F.Files.source c.script.files in
-    let k = c.next_line.ensures.flushed in
-    let line = c.next_line.new.line.items in
     let t = rw c.in-Ok-Input.field-0-is at (c.in-Ok-Input.ensures.line p.rest p.known) in
-    let none : line ≡ [] = grind (arith, common_steps) in
-    record { outcome = end-done script pending left old new new' c.script.session f f' p k left' (t.1 ∙ none) t.2 }
+    let none : c.next_line.new.line.items ≡ [] = grind (arith, common_steps) in
+    record { outcome = end-done p (g.W.Write.contents c.next_line.new.writer) c.next_line.ensures.flushed (g.R.Read.remaining c.next_line.new.reader) (t.1 ∙ none) t.2 }
 
 pub returns-in-Err-run_line-2 : goal.returns-in-Err-run_line-2
 returns-in-Err-run_line-2 g c = λ script e is_known.
     let p = c.script.invariant script e is_known in
-    let pending = pending_in c.script.lines.chunk c.script.lines.start c.script.lines.end in
-    let pending' = pending_in c.next_line.new.self.chunk c.next_line.new.self.start c.next_line.new.self.end in
-    let left = g.R.Read.remaining c.script.reader in
-    let left' = g.R.Read.remaining c.next_line.new.reader in
-    let old = g.W.Write.contents c.args.writer.now in
-    let new = g.W.Write.contents c.script.writer in
-    let new' = g.W.Write.contents c.next_line.new.writer in
-    let f = g.F.Files.source c.args.files.now in
-    let f' = g.F.Files.source c.script.files in
-    let k = c.next_line.ensures.flushed in
-    let line = c.next_line.new.line.items in
     let t = rw c.in-Ok-Input.field-0-is at (c.in-Ok-Input.ensures.line p.rest p.known) in
-    let some : length line ≡ 0 → ⊥ = grind (arith, common_steps) in
-    let new'' = g.W.Write.contents c.run_line-2.new.w in
-    let f'' = g.F.Files.source c.run_line-2.new.files in
-    let n = c.run_line-2.new.session in
-    let done = subst (λ (l : List ℕ). LineRan f' f'' c.script.session n (command_of l) new' new'' (Err c.in-Err-run_line-2.field-0)) c.as_slice-2.ensures.value (c.in-Err-run_line-2.ensures {u = tt}) in
-    record { outcome = write-faulted script pending left old new new' c.script.session f f' p k new'' n f'' line [] (next-last p.rest line t.0 some t.1) is_known left' c.in-Err-run_line-2.field-0 done }
+    let some : length c.next_line.new.line.items ≡ 0 → ⊥ = grind (arith, common_steps) in
+    let next = next-last p.rest c.next_line.new.line.items c.as_slice-2.result.now c.as_slice-2.ensures.value t.0 some t.1 in
+    record { outcome = write-faulted p (g.W.Write.contents c.next_line.new.writer) c.next_line.ensures.flushed (g.W.Write.contents c.run_line-2.new.w) c.run_line-2.new.session (g.F.Files.source c.run_line-2.new.files) next is_known (g.R.Read.remaining c.next_line.new.reader) c.in-Err-run_line-2.field-0 (c.in-Err-run_line-2.ensures {u = tt}) }
 
 pub returns : goal.returns
 returns g c = λ script e is_known.
     let p = c.script.invariant script e is_known in
-    let pending = pending_in c.script.lines.chunk c.script.lines.start c.script.lines.end in
-    let pending' = pending_in c.next_line.new.self.chunk c.next_line.new.self.start c.next_line.new.self.end in
-    let left = g.R.Read.remaining c.script.reader in
-    let left' = g.R.Read.remaining c.next_line.new.reader in
-    let old = g.W.Write.contents c.args.writer.now in
-    let new = g.W.Write.contents c.script.writer in
-    let new' = g.W.Write.contents c.next_line.new.writer in
-    let f = g.F.Files.source c.args.files.now in
-    let f' = g.F.Files.source c.script.files in
-    let k = c.next_line.ensures.flushed in
-    let line = c.next_line.new.line.items in
     let t = rw c.in-Ok-Input.field-0-is at (c.in-Ok-Input.ensures.line p.rest p.known) in
-    let some : length line ≡ 0 → ⊥ = grind (arith, common_steps) in
-    let new'' = g.W.Write.contents c.run_line-2.new.w in
-    let f'' = g.F.Files.source c.run_line-2.new.files in
-    let n = c.run_line-2.new.session in
-    let done = subst (λ (l : List ℕ). LineRan f' f'' c.script.session n (command_of l) new' new'' (Ok c.in-Ok.field-0)) c.as_slice-2.ensures.value (c.in-Ok.ensures {u = tt}) in
-    record { outcome = either-done script pending left old new new' c.script.session f f' p k new'' n f'' line (next-last p.rest line t.0 some t.1) is_known left' t.2 c.in-Ok.field-0 done }
+    let some : length c.next_line.new.line.items ≡ 0 → ⊥ = grind (arith, common_steps) in
+    let next = next-last p.rest c.next_line.new.line.items c.as_slice-2.result.now c.as_slice-2.ensures.value t.0 some t.1 in
+    record { outcome = either-done p (g.W.Write.contents c.next_line.new.writer) c.next_line.ensures.flushed (g.W.Write.contents c.run_line-2.new.w) c.run_line-2.new.session (g.F.Files.source c.run_line-2.new.files) next is_known (g.R.Read.remaining c.next_line.new.reader) t.2 refl c.in-Ok.field-0 (c.in-Ok.ensures {u = tt}) }

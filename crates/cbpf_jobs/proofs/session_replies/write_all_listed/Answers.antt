@@ -1,5 +1,5 @@
 use Rattle.std.proofs.Common.{sym, ◌≡◌, ◌<◌, ◌∙◌, length, arith}
-use Rattle.std.specs.Prelude.{Some, None, slice_get}
+use Rattle.std.specs.Prelude.{Some, slice_get}
 use Rattle.std.proofs.lemmas.Option.{get_or_from_slice_get, slice_get_within}
 use Rattle.cbpf_code.proofs.WrittenLemmas.{appended-nil, loop-next, loop-stop, loop-done, err-exit}
 use Rattle.cbpf_reply.specs.declared.breakpoints.When.TheVariants.{Always}

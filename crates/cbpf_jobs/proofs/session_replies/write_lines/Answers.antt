@@ -1,8 +1,5 @@
-use Rattle.std.proofs.Common.{rules, ◌≡◌, ◌∙◌, sym, ap, refl, ◌<◌, ◌+◌, ◌^◌, length, ℕ, List, [], ◌∷◌, ◌++◌, arith}
-use Rattle.std.specs.List.{flat_map}
-use Rattle.cbpf_code.specs.Writing.{Wrote}
+use Rattle.std.proofs.Common.{◌≡◌, ◌∙◌, sym, ap, refl, ◌+◌, length, ℕ, ◌∷◌, ◌++◌, arith}
 use Rattle.cbpf_code.proofs.WrittenLemmas.{appended-nil, err-exit}
-use Rattle.cbpf_reply.specs.declared.reply.Stop.{Stop}
 use Rattle.cbpf_reply.specs.Stops as spec
 use Rattle.cbpf_jobs.proofs.EachText.{each-next, each-failed, one-left, one-counted, none-left, some-left}
 use Rattle.cbpf_jobs.proofs.session_replies.write_lines.Goals as goal
