@@ -1,6 +1,6 @@
 -- Moves to the next entry at an instruction that is watched.
 use Rattle.std.proofs.Common.{◌≡◌, ℕ, ◌+◌, ◌-◌, ◌<◌, ◌≤◌, List, length, drop, take, arith, sym, ap, ◌∙◌, refl, length-append, length-drop, length-take}
-use Rattle.std.specs.Prelude.{Bool, Option, Some, slice_get, ◌++◌}
+use Rattle.std.specs.Prelude.{Bool, Some, slice_get}
 use Rattle.std.proofs.lemmas.Option.{slice_get_within}
 use Rattle.cbpf_machine.specs.Machine.{Machine}
 use Rattle.cbpf_machine.specs.Registers.{Registers, zero_state}
@@ -14,7 +14,7 @@ use Rattle.pcap_classic.specs.Records.{Record}
 use Rattle.cbpf_dbg.specs.declared.cursor.Cursor.{Cursor}
 use Rattle.cbpf_dbg.specs.declared.cursor.Moved.TheVariants as moved
 use Rattle.cbpf_dbg.specs.Breakpoints.{Breakpoints}
-use Rattle.cbpf_dbg.specs.Joined.{ahead, rest, entries_from, joined_from}
+use Rattle.cbpf_dbg.specs.Joined.{ahead, entries_from, joined_from}
 use Rattle.cbpf_dbg.specs.Session.{Watches}
 use Rattle.cbpf_dbg.specs.Cursor.{Stands, PassesOn, owed, passed}
 use Rattle.cbpf_dbg.proofs.JoinedLemmas.{place_at, ahead-in, ahead-entry, ahead-leave, rest-same}

@@ -13,12 +13,9 @@ ghost use Rattle.cbpf_dbg.specs.Session.{IsQuiet, IsSilent, IsNoHit, IsSameBut, 
 use crate::breakpoint::{Breakpoints, holds};
 use crate::loaded::Loaded;
 use cbpf_code::{Ext, Program};
-use cbpf_machine::{State, Values, asks};
+use cbpf_machine::{State, Values, Watched, asks};
 use cbpf_reply::Why;
 use std::alloc::Allocator;
-
-/// For each instruction whether an entry there can be a hit.
-pub(crate) type Watched = [bool; 4096];
 
 /// The extension without a value that the instruction of a state asks for, read without a turn.
 #[inline(always)]
@@ -75,7 +72,7 @@ pub(crate) fn watch<A: Allocator>(
     ensures { Watches watched.new (machine_of p.now values.now) breakpoints.now.entries }
 {
     'scan: for i in 0..p.len() {
-        watched[i as usize] = is_watched(p, values, breakpoints, i);
+        watched.set(i as usize, is_watched(p, values, breakpoints, i));
     }
 }
 
@@ -92,7 +89,7 @@ pub(crate) fn watch_at<A: Allocator>(
         → Watches watched.new (machine_of p.now values.now) breakpoints.now.entries }
 {
     let _few = p.len();
-    watched[i as usize] = is_watched(p, values, breakpoints, i);
+    watched.set(i as usize, is_watched(p, values, breakpoints, i));
 }
 
 /// Why an entry is a hit, where it is one.
@@ -120,7 +117,7 @@ pub(crate) fn hit<A: Allocator>(loaded: &Loaded<'_, A>, s: &State) -> Option<Why
         → result ≡ hit_for (carries (breakpoints_in loaded.now) s.now) (asked (turn (machine_in loaded.now) bytes wire s.now)) }
 {
     let _few = loaded.program.len();
-    if loaded.watched[s.pc() as usize] {
+    if loaded.watched.has(s.pc() as usize) {
         hit_at(loaded, s)
     } else {
         None

@@ -1,9 +1,8 @@
 //! What a session's commands work on.
 
 use crate::breakpoint::Breakpoints;
-use crate::hit::Watched;
 use cbpf_code::Program;
-use cbpf_machine::Values;
+use cbpf_machine::{Values, Watched};
 use pcap_classic::Capture;
 use std::alloc::Allocator;
 

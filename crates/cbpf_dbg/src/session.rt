@@ -10,9 +10,9 @@ ghost use Rattle.cbpf_reply.specs.declared.reply.SessionFault.TheVariants as fau
 
 use crate::breakpoint::Breakpoints;
 use crate::cursor::Cursor;
-use crate::hit::{Watched, is_silent, watch, watch_at};
+use crate::hit::{is_silent, watch, watch_at};
 use cbpf_code::{Ext, Program};
-use cbpf_machine::{Trail, Values};
+use cbpf_machine::{Trail, Values, Watched};
 use cbpf_reply::{Place, SessionFault, When};
 use indexmap::IndexMap;
 use pcap_classic::Capture;
@@ -60,7 +60,7 @@ impl<T: Trail, A: Allocator + Copy> Session<T, A> {
             program: None,
             values: Values::new(),
             silent: false,
-            watched: [false; 4096],
+            watched: Watched::none(),
             capture: None,
             breakpoints: IndexMap::new(alloc),
             cursor: Cursor::start(),

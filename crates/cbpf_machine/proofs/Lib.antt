@@ -5,3 +5,4 @@ pub mod TraceLemmas
 pub mod AskedLemmas
 pub mod FollowLemmas
 pub mod RestLemmas
+pub mod WatchedLemmas

@@ -22,6 +22,7 @@ mod state;
 mod together;
 mod trail;
 mod values;
+mod watched;
 
 pub use execute::{turn, turn_in_place};
 pub use extension::asks;
@@ -35,6 +36,7 @@ pub use run::run_packet;
 pub use state::State;
 pub use trail::Trail;
 pub use values::Values;
+pub use watched::Watched;
 
 #[cfg(test)]
 mod tests;

@@ -36,7 +36,8 @@ pub fn run_packet<A: Allocator>(
     let mut skipped = 0;
     let mut s = State::zero();
     'run: loop {
-        if let Some(outcome) = go_on(&mut skipped, p, packet, values, &mut s) {
+        let end = go_on::<A, false>(p.len() as usize, &mut skipped, p, packet, values, &mut s);
+        if let Some(outcome) = end {
             // Each turn but the last went on by one instruction and what it skipped.
             meter.add(s.pc() - skipped + 1);
             return outcome;

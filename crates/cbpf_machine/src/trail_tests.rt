@@ -97,8 +97,8 @@ fn filled_and_followed<T: Trail, A: Allocator>(
     assert!(rt; 1 <= count && count <= 4096 && watched < 4096);
     let _sound = p.len();
     fill(rt, trail, p, packet, &values, count);
-    let mut table = [false; 4096];
-    table[watched] = true;
+    let mut table = Watched::none();
+    table.set(watched, true);
     let mut meter = Meter::new();
     let mut s = trail.back(&mut meter, p, packet, &values, count);
     let before = meter.spent();

@@ -1,4 +1,4 @@
-use Rattle.std.proofs.Common.{◌≡◌, ◌+◌, ◌-◌, arith, refl}
+use Rattle.std.proofs.Common.{◌≡◌, ◌+◌, arith, refl}
 use Rattle.cbpf_dbg.specs.Commands.{back_place}
 use Rattle.cbpf_dbg.proofs.CursorLemmas.{goes}
 use Rattle.cbpf_dbg.proofs.KeepLemmas.{keeps_push, keeps_few}

@@ -1,5 +1,4 @@
-use Rattle.std.proofs.Common.{◌≡◌, ◌+◌, ◌-◌, ◌≤◌, length, arith, ap, ◌∙◌, refl, inl, take}
-use Rattle.std.specs.Prelude.{slice_get, Some}
+use Rattle.std.proofs.Common.{◌≡◌, ◌+◌, ◌-◌, arith, ap, ◌∙◌, inl}
 use Rattle.std.proofs.lemmas.Option.{slice_get_within}
 use Rattle.pcap_classic.specs.Lent.{record_of}
 use Rattle.cbpf_machine.specs.declared.follow.Followed.TheVariants.{Watched, Ended}
@@ -8,13 +7,11 @@ use Rattle.cbpf_machine.specs.Trace.{trace, outcome}
 use Rattle.cbpf_machine.specs.Follow.{Follows}
 use Rattle.cbpf_reply.specs.declared.reply.Counts.{Counts}
 use Rattle.cbpf_dbg.specs.declared.cursor.Cursor.{Cursor}
-use Rattle.cbpf_dbg.specs.declared.cursor.Moved.TheVariants as moved
-use Rattle.cbpf_dbg.specs.Cursor.{PassesOn, passed, owed}
+use Rattle.cbpf_dbg.specs.Cursor.{passed}
 use Rattle.cbpf_dbg.specs.Loaded.{machine_in, records_in, breakpoints_in}
 use Rattle.cbpf_dbg.proofs.CountLemmas.{counts-at_most}
 use Rattle.cbpf_dbg.proofs.KeepLemmas.{entry_at_place}
-use Rattle.cbpf_dbg.proofs.QuietLemmas.{stands-passed}
-use Rattle.cbpf_dbg.proofs.FollowLemmas.{moved_on, kept_steps, steps_few, room, step_within, on_stands, on_passes, on_owed, end_stands, end_passes, end_owed}
+use Rattle.cbpf_dbg.proofs.FollowLemmas.{kept_steps, steps_few, room, step_within, on_passes, on_owed, end_stands, end_passes, end_owed}
 use Rattle.cbpf_dbg.proofs.run.leave_unwatched.Goals as goal
 
 pub follow-requires : goal.follow-requires

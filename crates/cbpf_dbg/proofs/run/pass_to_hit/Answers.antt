@@ -1,4 +1,4 @@
-use Rattle.std.proofs.Common.{◌≡◌, ◌-◌, sym, ◌∙◌, Some, slice_get}
+use Rattle.std.proofs.Common.{◌≡◌, ◌-◌, Some, slice_get}
 use Rattle.pcap_classic.specs.Lent.{record_of}
 use Rattle.cbpf_dbg.proofs.RunLemmas.{passes_entry, passes_from}
 use Rattle.cbpf_dbg.specs.Loaded.{machine_in, records_in, breakpoints_in}

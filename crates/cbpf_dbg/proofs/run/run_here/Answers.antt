@@ -1,13 +1,13 @@
-use Rattle.std.proofs.Common.{◌≡◌, ◌+◌, ◌-◌, ◌<◌, length, arith, sym, ap, ◌∙◌, inl, inr, Some, false, refl, slice_get}
+use Rattle.std.proofs.Common.{◌≡◌, ◌+◌, ◌-◌, ◌<◌, length, arith, sym, ap, ◌∙◌, inl, inr, false, refl}
 use Rattle.std.specs.Prelude.{◌⊎◌}
 use Rattle.cbpf_reply.specs.declared.reply.Place.{Place}
 use Rattle.std.proofs.lemmas.Option.{slice_get_within}
-use Rattle.cbpf_dbg.specs.Cursor.{PassesTo, is_limit}
+use Rattle.cbpf_dbg.specs.Cursor.{is_limit}
 use Rattle.cbpf_dbg.proofs.JoinedLemmas.{rest-none}
 use Rattle.cbpf_dbg.proofs.CursorLemmas.{here_after, here_some, here_none, here_within, here_past, cursor_ended}
 use Rattle.cbpf_dbg.proofs.RunLemmas.{below_next, stop_front, run_stopped, run_finished, run_limited}
 use Rattle.cbpf_dbg.proofs.KeepLemmas.{keeps_clear}
-use Rattle.cbpf_dbg.proofs.TurnLemmas.{run_turns-reply, spent_between, owed-turns, not_before_packet, not_before_after}
+use Rattle.cbpf_dbg.proofs.TurnLemmas.{run_turns-reply, spent_between, owed-turns, not_before_after}
 use Rattle.cbpf_dbg.specs.Loaded.{machine_in, records_in, breakpoints_in}
 use Rattle.pcap_classic.specs.Lent.{record_of}
 use Rattle.cbpf_dbg.proofs.run.run_here.Goals as goal

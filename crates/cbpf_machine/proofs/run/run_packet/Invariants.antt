@@ -1,18 +1,17 @@
-use Rattle.std.proofs.Common.{◌≡◌, ◌<◌, ◌≤◌, ◌+◌, length, ◌-◌}
+use Rattle.std.proofs.Common.{◌≡◌, ◌≤◌, length, ◌-◌, None}
 use Rattle.cbpf_code.specs.Sound.{IsSound}
 use Rattle.cbpf_machine.specs.Machine.{machine_of}
-use Rattle.cbpf_machine.specs.Trace.{trace, trace_from, outcome, outcome_from}
+use Rattle.cbpf_machine.specs.Trace.{trace}
+use Rattle.cbpf_machine.specs.Rest.{Reaches}
 use Rattle.cbpf_machine.proofs.run.run_packet.Given as goal
 
--- what is left of the trace is the trace from this state
+-- the state is the entry of the trace after so many turns
 abbrev pub invariant-run : goal.invariant-run
 invariant-run g l =
     record {
       sound : IsSound l.p;
-      inside : l.s.pc < length l.p;
-      ends : outcome_from (machine_of l.p l.values) l.packet.bytes.now l.packet.wire l.s ≡ outcome (machine_of l.p l.values) l.packet.bytes.now l.packet.wire;
       fits : l.skipped ≤ l.s.pc;
-      turns : l.s.pc - l.skipped + length (trace_from (machine_of l.p l.values) l.packet.bytes.now l.packet.wire l.s) ≡ length (trace (machine_of l.p l.values) l.packet.bytes.now l.packet.wire);
+      reaches : Reaches (machine_of l.p l.values) l.packet.bytes.now l.packet.wire 0 (length l.p) (trace (machine_of l.p l.values) l.packet.bytes.now l.packet.wire) 0 l.s (l.s.pc - l.skipped) None;
       early : l.meter ≡ l.fn.meter;
     }
 

@@ -1,5 +1,5 @@
 use Rattle.std.proofs.Common.{ap, ◌∙◌}
-use Rattle.std.specs.Prelude.{ℕ, Option}
+use Rattle.std.specs.Prelude.{ℕ}
 use Rattle.std.specs.Option.{option_map}
 use Rattle.cbpf_reply.specs.declared.breakpoints.When.{When}
 use Rattle.cbpf_dbg.proofs.session.Session.breakpoint_at.Goals as goal

@@ -1,4 +1,4 @@
-use Rattle.std.proofs.Common.{◌≡◌, ◌+◌, ◌-◌, take, length, length-take, arith, refl, Some, None, false}
+use Rattle.std.proofs.Common.{◌≡◌, ◌+◌, ◌∙◌, ◌-◌, take, length, length-take, arith, refl, sym, Some, None, false}
 use Rattle.std.proofs.lemmas.Option.{slice_get_within}
 use Rattle.cbpf_machine.specs.Machine.{machine_of}
 use Rattle.cbpf_machine.specs.Registers.{zero_state}
@@ -70,8 +70,8 @@ push-requires g c =
     let kept = g.met.Self.Trail.as_long c.follow.self (take ((g.Self.Trail.kept c.args.self.now) + c.follow.made) (trace (machine_of c.args.p.now c.args.values.now) c.args.packet.bytes.now c.args.packet.wire)) c.follow.invariant.stands in
     omega (arith, within, few, long, some, most, kept, length-take ((g.Self.Trail.kept c.args.self.now) + c.follow.made) (trace (machine_of c.args.p.now c.args.values.now) c.args.packet.bytes.now c.args.packet.wire))
 
-pub bounds-watched-index : goal.bounds-watched-index
-bounds-watched-index g c =
+pub has-requires : goal.has-requires
+has-requires g c =
     let h : Passes (machine_of c.args.p.now c.args.values.now) c.args.packet.bytes.now c.args.packet.wire c.args.watched.now (trace (machine_of c.args.p.now c.args.values.now) c.args.packet.bytes.now c.args.packet.wire) ((g.Self.Trail.kept c.args.self.now) + c.follow.made - 1) c.pass_over-turns.new.s (c.pass_over-turns.result.0, None) =
     rw c.in_default.is at (c.pass_over-turns.ensures.passes (trace (machine_of c.args.p.now c.args.values.now) c.args.packet.bytes.now c.args.packet.wire) ((g.Self.Trail.kept c.args.self.now) + c.follow.made - 1) c.follow.invariant.here) in
     let on = follows_on (machine_of c.args.p.now c.args.values.now) c.args.packet.bytes.now c.args.packet.wire c.args.watched.now (g.Self.Trail.kept c.args.self.now) c.follow.made c.pass_over-turns.result.0 c.follow.invariant.sound c.requires.from_one c.pass_over-turns.ensures.some c.pass_over-turns.new.s c.follow.invariant.unwatched h in
@@ -79,17 +79,17 @@ bounds-watched-index g c =
     let few = sound_few c.args.p.now c.follow.invariant.sound in
     omega (arith, c.index.ensures, on.1.inside, few)
 
-pub returns-then-watched-index-clause-follows : goal.returns-then-watched-index-clause-follows
-returns-then-watched-index-clause-follows g c =
+pub returns-then-has-clause-follows : goal.returns-then-has-clause-follows
+returns-then-has-clause-follows g c =
     let h : Passes (machine_of c.args.p.now c.args.values.now) c.args.packet.bytes.now c.args.packet.wire c.args.watched.now (trace (machine_of c.args.p.now c.args.values.now) c.args.packet.bytes.now c.args.packet.wire) ((g.Self.Trail.kept c.args.self.now) + c.follow.made - 1) c.pass_over-turns.new.s (c.pass_over-turns.result.0, None) =
     rw c.in_default.is at (c.pass_over-turns.ensures.passes (trace (machine_of c.args.p.now c.args.values.now) c.args.packet.bytes.now c.args.packet.wire) ((g.Self.Trail.kept c.args.self.now) + c.follow.made - 1) c.follow.invariant.here) in
     let on = follows_on (machine_of c.args.p.now c.args.values.now) c.args.packet.bytes.now c.args.packet.wire c.args.watched.now (g.Self.Trail.kept c.args.self.now) c.follow.made c.pass_over-turns.result.0 c.follow.invariant.sound c.requires.from_one c.pass_over-turns.ensures.some c.pass_over-turns.new.s c.follow.invariant.unwatched h in
     let at = goes_at (machine_of c.args.p.now c.args.values.now) c.args.packet.bytes.now c.args.packet.wire (trace (machine_of c.args.p.now c.args.values.now) c.args.packet.bytes.now c.args.packet.wire) ((g.Self.Trail.kept c.args.self.now) + (c.follow.made + c.pass_over-turns.result.0) - 1) c.pass_over-turns.new.s c.follow.invariant.sound on.1 in
     let some = c.pass_over-turns.ensures.some in
-    (omega (arith, some), on.0, at, rw (← c.index.ensures) c.if-watched-index.true)
+    (omega (arith, some), on.0, at, rw (← c.index.ensures) (sym c.has.ensures ∙ c.if-has.true))
 
-pub returns-then-watched-index-clause-stands : goal.returns-then-watched-index-clause-stands
-returns-then-watched-index-clause-stands g c =
+pub returns-then-has-clause-stands : goal.returns-then-has-clause-stands
+returns-then-has-clause-stands g c =
     let h : Passes (machine_of c.args.p.now c.args.values.now) c.args.packet.bytes.now c.args.packet.wire c.args.watched.now (trace (machine_of c.args.p.now c.args.values.now) c.args.packet.bytes.now c.args.packet.wire) ((g.Self.Trail.kept c.args.self.now) + c.follow.made - 1) c.pass_over-turns.new.s (c.pass_over-turns.result.0, None) =
     rw c.in_default.is at (c.pass_over-turns.ensures.passes (trace (machine_of c.args.p.now c.args.values.now) c.args.packet.bytes.now c.args.packet.wire) ((g.Self.Trail.kept c.args.self.now) + c.follow.made - 1) c.follow.invariant.here) in
     let on = follows_on (machine_of c.args.p.now c.args.values.now) c.args.packet.bytes.now c.args.packet.wire c.args.watched.now (g.Self.Trail.kept c.args.self.now) c.follow.made c.pass_over-turns.result.0 c.follow.invariant.sound c.requires.from_one c.pass_over-turns.ensures.some c.pass_over-turns.new.s c.follow.invariant.unwatched h in
@@ -114,7 +114,7 @@ follow-preserved g c =
     let n : (g.Self.Trail.kept c.args.self.now) + c.follow.made ≡ (g.Self.Trail.kept c.args.self.now) + (c.follow.made + c.pass_over-turns.result.0) - 1 = omega (arith, some, most) in
     let before = rw n at c.follow.invariant.stands in
     let stands = rw (← take-slice_get (trace (machine_of c.args.p.now c.args.values.now) c.args.packet.bytes.now c.args.packet.wire) ((g.Self.Trail.kept c.args.self.now) + (c.follow.made + c.pass_over-turns.result.0) - 1) c.pass_over-turns.new.s at) at (c.push.ensures _ before) in
-    let quiet : is_watched c.args.watched.now c.pass_over-turns.new.s ≡ false = rw (← c.index.ensures) c.if-watched-index.false in
+    let quiet : is_watched c.args.watched.now c.pass_over-turns.new.s ≡ false = rw (← c.index.ensures) (sym c.has.ensures ∙ c.if-has.false) in
     record {
       sound = c.follow.invariant.sound;
       here = on.1;
