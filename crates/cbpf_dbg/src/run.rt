@@ -254,7 +254,7 @@ fn pass_whole<A: Allocator>(
 }
 
 /// Goes on to the end of the place's packet, where it has begun: the record of the packet that comes then.
-// It isn't inlined, so that the cursor of a begun packet is no part of the loop over whole ones.
+// It isn't inlined, so that the way through a begun packet is no part of the loop over whole ones.
 #[inline(never)]
 fn pass_begun<'a, A: Allocator>(
     meter: &mut Meter,

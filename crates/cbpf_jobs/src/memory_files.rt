@@ -95,7 +95,7 @@ impl<A: Allocator + Clone> MemoryFiles<A> {
 impl<A: Allocator + Clone> Files for MemoryFiles<A> {
     ghost source = { λ m. source_of m };
 
-    /// CommandReplies `Device` at the load that `fail_at` chose and at no other, and counts that one failure.
+    /// Answers `Device` at the load that `fail_at` chose and at no other, and counts that one failure.
     fn load<B: Allocator>(&mut self, alloc: B, name: &str) -> Result<Vec<u8, B>, LoadFault>
         ensures loads { Loads (λ v. v.items) (source_of self.old) (source_of self.new) name.now result }
         ensures same { self.new ≡ record self.old { failures = counted result self.old.failures; failing = self.old.failing - 1 } }
