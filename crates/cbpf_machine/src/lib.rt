@@ -26,7 +26,7 @@ mod watched;
 
 pub use execute::{turn, turn_in_place};
 pub use extension::asks;
-pub use follow::Followed;
+pub use follow::{Followed, follow_on, follow_packet};
 pub use list_trail::ListTrail;
 pub use mark_trail::MarkTrail;
 pub use meter::Meter;
