@@ -1,22 +1,25 @@
 -- Moves to the next entry at an instruction that is watched.
-use Rattle.std.proofs.Common.{◌≡◌, ℕ, ◌+◌, ◌-◌, ◌<◌, ◌≤◌, List, length, drop, take, arith, sym, ap, ◌∙◌, refl, length-append, length-drop, length-take}
-use Rattle.std.specs.Prelude.{Bool, Some, slice_get}
+use Rattle.std.proofs.Common.{◌≡◌, ℕ, zero, suc, ◌+◌, ◌-◌, ◌<◌, ◌≤◌, List, length, drop, take, arith, sym, ap, subst, ◌∙◌, refl, inl, inr, length-append, length-drop, length-take}
+use Rattle.std.specs.Prelude.{Bool, Some, slice_get, min}
+use Rattle.std.proofs.lemmas.Bool.{cases_lt}
 use Rattle.std.proofs.lemmas.Option.{slice_get_within}
 use Rattle.cbpf_machine.specs.Machine.{Machine}
 use Rattle.cbpf_machine.specs.Registers.{Registers, zero_state}
 use Rattle.cbpf_machine.specs.declared.outcome.Outcome.{Outcome}
-use Rattle.cbpf_machine.specs.declared.follow.Followed.TheVariants.{Watched}
+use Rattle.cbpf_machine.specs.declared.follow.Followed.{Followed}
+use Rattle.cbpf_machine.specs.declared.follow.Followed.TheVariants.{Watched, Ended}
 use Rattle.cbpf_machine.specs.Trace.{trace, outcome}
-use Rattle.cbpf_machine.specs.Follow.{Follows, Unwatched}
+use Rattle.cbpf_machine.specs.Follow.{Follows, Unwatched, turns_to}
 use Rattle.cbpf_machine.proofs.TraceLemmas.{goes_from_entry, length-trace_from}
 use Rattle.cbpf_machine.proofs.SoundLemmas.{sound_few, sound_some}
 use Rattle.pcap_classic.specs.Records.{Record}
 use Rattle.cbpf_dbg.specs.declared.cursor.Cursor.{Cursor}
+use Rattle.cbpf_dbg.specs.declared.cursor.Moved.{Moved}
 use Rattle.cbpf_dbg.specs.declared.cursor.Moved.TheVariants as moved
 use Rattle.cbpf_dbg.specs.Breakpoints.{Breakpoints}
 use Rattle.cbpf_dbg.specs.Joined.{ahead, entries_from, joined_from}
 use Rattle.cbpf_dbg.specs.Session.{Watches}
-use Rattle.cbpf_dbg.specs.Cursor.{Stands, PassesOn, owed, passed}
+use Rattle.cbpf_dbg.specs.Cursor.{Stands, NotBefore, PassesOn, followed, moved_by, owed, passed}
 use Rattle.cbpf_dbg.proofs.JoinedLemmas.{place_at, ahead-in, ahead-entry, ahead-leave, rest-same}
 use Rattle.cbpf_dbg.proofs.TurnLemmas.{length_entries}
 use Rattle.cbpf_dbg.proofs.KeepLemmas.{entry_at_place}
@@ -24,9 +27,17 @@ use Rattle.cbpf_dbg.proofs.QuietLemmas.{NoHits, entries-passed, stands-passed}
 
 -- a cursor so many entries on, in the same packet
 abbrev pub moved_on : Cursor → ℕ → Registers → Cursor
-moved_on w n s = record w { place = record { packet = w.place.packet; step = w.place.step + n }; state = s }
+moved_on w n s = followed (record w { state = s }) (Watched n)
 
-module _ (machine : Machine) (capture : List Record) (w : Cursor) (r : Record) (h : Stands machine capture w) (begun : 0 < w.place.step) (at : slice_get capture (w.place.packet - 1) ≡ Some r) where
+-- what a move to the next entry at an instruction that is watched, or out of the packet, leaves of the cursor and the meter
+pub record Leaves (machine : Machine) (capture : List Record) (breakpoints : Breakpoints) (r : Record) (w : Cursor) (m : Moved) (v : Cursor) (before after : ℕ) : Type 0 where
+  pub stands : Stands machine capture v
+  pub origin : v.origin ≡ w.origin
+  pub order : NotBefore v.place w.place
+  pub passes : PassesOn machine capture breakpoints r w m v
+  pub spent : after + owed machine capture v.place ≡ before + owed machine capture w.place
+
+module _ (machine : Machine) (capture : List Record) (w : Cursor) (r : Record) (h : Stands machine capture w) (at : slice_get capture (w.place.packet - 1) ≡ Some r) where
   abbrev pub xs : List Registers
   xs = trace machine r.bytes r.wire
 
@@ -34,9 +45,12 @@ module _ (machine : Machine) (capture : List Record) (w : Cursor) (r : Record) (
   from_one = let a = h.from_one in let b = h.ordered in omega arith
 
   pub step_within : w.place.step ≤ length xs
-  step_within =
-      let within = slice_get_within xs (w.place.step - 1) w.state (entry_at_place machine capture w r h begun at) in
-      omega (arith, within)
+  step_within = elim (cases_lt 0 w.place.step) [
+    | inl begun ↦
+        let within = slice_get_within xs (w.place.step - 1) w.state (entry_at_place machine capture w r h begun at) in
+        omega (arith, within)
+    | inr before ↦ omega (arith, before)
+  ]
 
   pub steps_few : length xs ≤ 4096
   steps_few = omega (arith, length-trace_from machine r.bytes r.wire zero_state, sound_few machine.list h.sound)
@@ -64,7 +78,7 @@ module _ (machine : Machine) (capture : List Record) (w : Cursor) (r : Record) (
       )
 
   -- what is owed makes room for the turns to the packet's end
-  pub room : length xs + 1 ≤ owed machine capture w.place + w.place.step
+  pub room : length xs + min w.place.step 1 ≤ owed machine capture w.place + w.place.step
   room = omega (arith, ahead_long w.place.step step_within)
 
   module _ (breakpoints : Breakpoints) (watched : List Bool) (watches : Watches watched machine breakpoints) where
@@ -72,7 +86,7 @@ module _ (machine : Machine) (capture : List Record) (w : Cursor) (r : Record) (
     no_hits m unwatched = λ i s from to there.
         watches s (goes_from_entry machine r.bytes r.wire i zero_state s h.sound (sound_some machine.list h.sound) there).inside (unwatched i s from to there) r.bytes r.wire
 
-    pub on_stands : (n : ℕ) (s : Registers) → Follows watched xs (outcome machine r.bytes r.wire) w.place.step w.state s (Watched n) → Stands machine capture (moved_on w n s)
+    on_stands : (n : ℕ) (s : Registers) → Follows watched xs (outcome machine r.bytes r.wire) w.place.step w.state s (Watched n) → Stands machine capture (moved_on w n s)
     on_stands n s f =
         record {
           sound = h.sound;
@@ -83,7 +97,7 @@ module _ (machine : Machine) (capture : List Record) (w : Cursor) (r : Record) (
           counted = h.counted;
         }
 
-    pub on_passes : (n : ℕ) (s : Registers) → Follows watched xs (outcome machine r.bytes r.wire) w.place.step w.state s (Watched n) → PassesOn machine capture breakpoints r w moved.Entry (moved_on w n s)
+    on_passes : (n : ℕ) (s : Registers) → Follows watched xs (outcome machine r.bytes r.wire) w.place.step w.state s (Watched n) → PassesOn machine capture breakpoints r w moved.Entry (moved_on w n s)
     on_passes n s f =
         let some = f.0 in
         let m : ℕ = w.place.step + n - 1 in
@@ -93,23 +107,52 @@ module _ (machine : Machine) (capture : List Record) (w : Cursor) (r : Record) (
         let first = ahead-entry machine capture w.place.packet m r s from_one at f.2 in
         (record w { place = place_at w.place.packet m }, refl, sym same.0, rw next at first, omega (arith, some))
 
-    pub on_owed : (n : ℕ) (s : Registers) → Follows watched xs (outcome machine r.bytes r.wire) w.place.step w.state s (Watched n) → owed machine capture w.place ≡ n + owed machine capture (moved_on w n s).place
+    on_owed : (n : ℕ) (s : Registers) → Follows watched xs (outcome machine r.bytes r.wire) w.place.step w.state s (Watched n) → owed machine capture w.place + 1 ≡ n + owed machine capture (moved_on w n s).place + min w.place.step 1
     on_owed n s f =
         let some = f.0 in
         let within = slice_get_within xs (w.place.step + n - 1) s f.2 in
         omega (arith, ahead_long w.place.step step_within, ahead_long (w.place.step + n) (omega (arith, within, some)), some)
 
-    pub end_passes : (o : Outcome) → Unwatched watched xs w.place.step (length xs) → PassesOn machine capture breakpoints r w moved.Packet (passed w o)
+    end_passes : (o : Outcome) → Unwatched watched xs w.place.step (length xs) → PassesOn machine capture breakpoints r w moved.Packet (passed w o)
     end_passes o unwatched =
         let n : ℕ = length xs - w.place.step in
         let same = entries-passed machine capture breakpoints w.place.packet r from_one at w.place.step n (length xs) (omega (arith, step_within)) (omega arith) (no_hits (length xs) unwatched) in
         let leave = ahead-leave machine capture w.place.packet (length xs) r from_one at (omega arith) in
         (refl, sym (same.0 ∙ rest-same machine capture breakpoints (place_at w.place.packet (length xs)) (place_at (w.place.packet + 1) 0) leave))
 
-    pub end_owed : (o : Outcome) → owed machine capture w.place + w.place.step ≡ length xs + 1 + owed machine capture (passed w o).place
+    end_owed : (o : Outcome) → owed machine capture w.place + w.place.step ≡ length xs + min w.place.step 1 + owed machine capture (passed w o).place
     end_owed o =
         let leave = ahead-leave machine capture w.place.packet (length xs) r from_one at (omega arith) in
         omega (arith, ahead_long w.place.step step_within, ap length leave)
 
-    pub end_stands : Stands machine capture (passed w (outcome machine r.bytes r.wire))
-    end_stands = stands-passed machine capture w r h at
+    -- the steps can be counted
+    pub steps_fit : (f : Followed) (s : Registers) → Follows watched xs (outcome machine r.bytes r.wire) w.place.step w.state s f → (n : ℕ) → f ≡ Watched n → w.place.step + n ≤ 4096
+    steps_fit f s follows n e =
+        let on : Follows watched xs (outcome machine r.bytes r.wire) w.place.step w.state s (Watched n) = rw e at follows in
+        let within = slice_get_within xs (w.place.step + n - 1) s on.2 in
+        omega (arith, within, steps_few)
+
+    pub leaves : (f : Followed) (s : Registers) (v : Cursor) (before after : ℕ) → v ≡ followed (record w { state = s }) f → Follows watched xs (outcome machine r.bytes r.wire) w.place.step w.state s f
+        → after + 1 ≡ before + turns_to xs w.place.step f + min w.place.step 1 → Leaves machine capture breakpoints r w (moved_by f) v before after
+    leaves (Watched n) s v before after e f turns =
+        let there : Leaves machine capture breakpoints r w moved.Entry (moved_on w n s) before after =
+        record {
+          stands = on_stands n s f;
+          origin = refl;
+          order = inr (refl, omega arith);
+          passes = on_passes n s f;
+          spent = omega (arith, on_owed n s f, turns);
+        } in
+        subst (λ u. Leaves machine capture breakpoints r w moved.Entry u before after) (sym e) there
+    leaves (Ended o) s v before after e f turns =
+        let same : followed (record w { state = s }) (Ended o) ≡ followed w (Ended o) = ap (λ (k : Registers). followed (record w { state = k }) (Ended o)) f.2 in
+        let outcome_is : passed w (outcome machine r.bytes r.wire) ≡ passed w o = ap (λ (k : Outcome). passed w k) (sym f.1) in
+        let there : Leaves machine capture breakpoints r w moved.Packet (passed w o) before after =
+        record {
+          stands = subst (λ u. Stands machine capture u) outcome_is (stands-passed machine capture w r h at);
+          origin = refl;
+          order = inl (omega arith);
+          passes = end_passes o f.0;
+          spent = omega (arith, end_owed o, turns, step_within);
+        } in
+        subst (λ u. Leaves machine capture breakpoints r w moved.Packet u before after) (sym (e ∙ same)) there

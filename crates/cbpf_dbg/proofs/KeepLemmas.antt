@@ -1,5 +1,5 @@
 -- What a trail stands for, as a cursor moves.
-use Rattle.std.proofs.Common.{◌≡◌, ℕ, ◌+◌, ◌-◌, ◌<◌, List, [], ◌∷◌, ◌++◌, length, take, arith, subst, length-take}
+use Rattle.std.proofs.Common.{◌≡◌, ℕ, ◌+◌, ◌-◌, ◌<◌, List, [], ◌∷◌, ◌++◌, length, take, arith, refl, sym, subst, length-take}
 use Rattle.std.specs.Prelude.{Some, slice_get}
 use Rattle.std.proofs.lemmas.Option.{slice_get_within}
 use Rattle.cbpf_machine.specs.Machine.{Machine}
@@ -10,7 +10,11 @@ use Rattle.pcap_classic.specs.Records.{Record}
 use Rattle.cbpf_reply.specs.declared.reply.Place.{Place}
 use Rattle.cbpf_dbg.specs.declared.cursor.Cursor.{Cursor}
 use Rattle.cbpf_dbg.specs.Session.{Keeps}
-use Rattle.cbpf_dbg.specs.Cursor.{Stands}
+use Rattle.cbpf_machine.specs.declared.follow.Followed.{Followed}
+use Rattle.cbpf_machine.specs.declared.follow.Followed.TheVariants.{Watched, Ended}
+use Rattle.cbpf_dbg.specs.declared.cursor.Moved.{Moved}
+use Rattle.cbpf_dbg.specs.declared.cursor.Moved.TheVariants as moved
+use Rattle.cbpf_dbg.specs.Cursor.{Stands, followed, moved_by}
 use Rattle.cbpf_machine.proofs.ListLemmas.{take-slice_get}
 use Rattle.cbpf_machine.proofs.SoundLemmas.{sound_few}
 
@@ -48,3 +52,14 @@ keeps_few machine capture old w r kept h at step e =
 
 pub keeps_clear : (after : List Registers → Type 0) (machine : Machine) (capture : List Record) (new : Place) → new.step ≡ 0 → after [] → Keeps after machine capture new
 keeps_clear after machine capture new step h = λ r at. rw step h
+
+-- after a packet was followed to an entry, whose step the trail keeps
+pub keeps_followed : (after : List Registers → Type 0) (machine : Machine) (capture : List Record) (old : Cursor) (r : Record) → slice_get capture (old.place.packet - 1) ≡ Some r
+    → (f : Followed) (s : Registers) (m : Moved) (v : Cursor) → v ≡ followed (record old { state = s }) f → m ≡ moved_by f
+    → ((n : ℕ) → f ≡ Watched n → after (take (old.place.step + n) (trace machine r.bytes r.wire))) → m ≡ moved.Entry → Keeps after machine capture v.place
+keeps_followed after machine capture old r at (Watched n) s m v e moves kept entry = λ q there.
+    let here : slice_get capture (old.place.packet - 1) ≡ Some q = subst (λ (u : Cursor). slice_get capture (u.place.packet - 1) ≡ Some q) e there in
+    let same : r ≡ q = cc in
+    let all : after (take (old.place.step + n) (trace machine q.bytes q.wire)) = subst (λ (k : Record). after (take (old.place.step + n) (trace machine k.bytes k.wire))) same (kept n refl) in
+    subst (λ (u : Cursor). after (take u.place.step (trace machine q.bytes q.wire))) (sym e) all
+keeps_followed after machine capture old r at (Ended o) s m v e moves kept entry = cc

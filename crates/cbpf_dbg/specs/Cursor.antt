@@ -5,6 +5,8 @@ use Rattle.cbpf_code.specs.Sound.{IsSound}
 use Rattle.cbpf_machine.specs.Registers.{Registers, zero_state}
 use Rattle.cbpf_machine.specs.declared.outcome.Outcome.{Outcome}
 use Rattle.cbpf_machine.specs.declared.outcome.Outcome.TheVariants as outcome_is
+use Rattle.cbpf_machine.specs.declared.follow.Followed.{Followed}
+use Rattle.cbpf_machine.specs.declared.follow.Followed.TheVariants as followed_to
 use Rattle.cbpf_machine.specs.Machine.{Machine}
 use Rattle.cbpf_machine.specs.Step.{turn, asked}
 use Rattle.cbpf_machine.specs.Trace.{trace}
@@ -58,6 +60,15 @@ with_outcome n (outcome_is.Unknown e) = record n { unknown = n.unknown + 1 }
 -- the cursor after a packet with this outcome
 abbrev pub passed : Cursor → Outcome → Cursor
 passed w outcome = record w { place = record { packet = w.place.packet + 1; step = 0 }; counts = with_outcome w.counts outcome }
+
+-- the cursor of a packet that was followed, with the state that this led to
+abbrev pub followed : Cursor → Followed → Cursor
+followed w (followed_to.Watched n) = record w { place = record { packet = w.place.packet; step = w.place.step + n } }
+followed w (followed_to.Ended o) = passed w o
+
+abbrev pub moved_by : Followed → Moved
+moved_by (followed_to.Watched n) = moved.Entry
+moved_by (followed_to.Ended o) = moved.Packet
 
 abbrev pub entry_here : Machine → Record → Cursor → Entry
 entry_here machine r w = record { place = w.place; state = w.state; turn = turn machine r.bytes r.wire w.state }

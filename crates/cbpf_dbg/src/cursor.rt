@@ -1,6 +1,6 @@
 //! One move at a time over the entries of a capture.
 
-ghost use Rattle.std.specs.Prelude.{◌≡◌, ◌+◌, ◌-◌, ◌<◌, ◌≤◌, ◌^◌, List, length, min, Some, slice_get};
+ghost use Rattle.std.specs.Prelude.{◌≡◌, ◌+◌, ◌-◌, ◌<◌, ◌≤◌, ◌^◌, ℕ, List, length, min, Some, slice_get};
 ghost use Rattle.cbpf_code.specs.Sound.{IsSound};
 ghost use Rattle.cbpf_machine.specs.Machine.{Machine};
 ghost use Rattle.pcap_classic.specs.Lent.{record_of};
@@ -8,10 +8,11 @@ ghost use Rattle.pcap_classic.specs.Records.{Record};
 ghost use Rattle.cbpf_dbg.specs.Loaded.{machine_in, records_in};
 ghost use Rattle.cbpf_dbg.specs.View.{start};
 ghost use Rattle.cbpf_dbg.specs.declared.cursor.Moved.TheVariants as moved;
-ghost use Rattle.cbpf_dbg.specs.Cursor.{Stands, Moves, IsEntry, IsHere, entered, stepped, passed};
+ghost use Rattle.cbpf_machine.specs.declared.follow.Followed.TheVariants as ways;
+ghost use Rattle.cbpf_dbg.specs.Cursor.{Stands, Moves, IsEntry, IsHere, entered, stepped, passed, followed as after, moved_by};
 
 use crate::loaded::Loaded;
-use cbpf_machine::{Meter, Outcome, Packet, State, turn_in_place};
+use cbpf_machine::{Followed, Meter, Outcome, Packet, State, turn_in_place};
 use cbpf_reply::{Counts, Place};
 use pcap_classic::{Capture, Captured};
 use std::alloc::Allocator;
@@ -68,6 +69,30 @@ impl Cursor {
         }
         self.place.packet += 1;
         self.place.step = 0;
+    }
+
+    /// After its packet was followed, of which it has the state already: at the entry that was come to, or before the
+    /// next packet.
+    #[inline(always)]
+    pub(crate) fn follow(&mut self, followed: Followed) -> Moved
+        requires packets { self.old.place.packet + 1 < 2 ^ 64 }
+        requires passes { self.old.counts.passes + 1 < 2 ^ 64 }
+        requires fails { self.old.counts.fails + 1 < 2 ^ 64 }
+        requires unknown { self.old.counts.unknown + 1 < 2 ^ 64 }
+        requires steps { (n : ℕ) → followed ≡ ways.Watched n → self.old.place.step + n < 2 ^ 32 }
+        ensures cursor { self.new ≡ after self.old followed }
+        ensures moved { result ≡ moved_by followed }
+    {
+        match followed {
+            Followed::Watched(entries) => {
+                self.place.step += entries;
+                Moved::Entry
+            }
+            Followed::Ended(outcome) => {
+                self.pass(outcome);
+                Moved::Packet
+            }
+        }
     }
 
     /// Before a packet, from which it counts.

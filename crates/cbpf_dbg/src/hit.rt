@@ -108,22 +108,6 @@ pub(crate) fn hit_at<A: Allocator>(loaded: &Loaded<'_, A>, s: &State) -> Option<
     }
 }
 
-/// The same, over what is known of each instruction.
-#[inline(always)]
-pub(crate) fn hit<A: Allocator>(loaded: &Loaded<'_, A>, s: &State) -> Option<Why>
-    requires inside { s.now.pc < length loaded.now.program.now }
-    requires watched { Watches loaded.now.watched.now (machine_in loaded.now) (breakpoints_in loaded.now) }
-    ensures { (bytes : List ℕ) (wire : ℕ)
-        → result ≡ hit_for (carries (breakpoints_in loaded.now) s.now) (asked (turn (machine_in loaded.now) bytes wire s.now)) }
-{
-    let _few = loaded.program.len();
-    if loaded.watched.has(s.pc() as usize) {
-        hit_at(loaded, s)
-    } else {
-        None
-    }
-}
-
 /// Why a step stops at a state.
 pub(crate) fn why_at<A: Allocator>(loaded: &Loaded<'_, A>, s: &State, reason: Why) -> Why
     requires { s.now.pc < length loaded.now.program.now }

@@ -2,17 +2,17 @@
 
 ghost use Rattle.std.specs.Prelude.{◌≡◌, ◌≢◌, ◌+◌, ◌-◌, ◌<◌, ◌≤◌, ◌^◌, [], Some, true, slice_get, IsSome};
 ghost use Rattle.pcap_classic.specs.Lent.{record_of};
-ghost use Rattle.cbpf_dbg.specs.Commands.{PassesHits, back_place};
+ghost use Rattle.cbpf_dbg.specs.Commands.{PassesHits};
 ghost use Rattle.cbpf_dbg.specs.Joined.{rest};
 ghost use Rattle.cbpf_dbg.specs.Loaded.{machine_in, records_in, breakpoints_in};
 ghost use Rattle.cbpf_dbg.specs.Session.{IsQuiet, Keeps, Watches};
 ghost use Rattle.cbpf_dbg.specs.declared.cursor.Moved.TheVariants as moved;
-ghost use Rattle.cbpf_dbg.specs.Cursor.{IsHere, Stands, owed, Runs, run_turns, NotBefore, PassesOn, PassesTo, hit_of, is_limit as is_limit_at};
+ghost use Rattle.cbpf_dbg.specs.Cursor.{IsHere, Stands, owed, Runs, run_turns, NotBefore, PassesOn, PassesTo, is_limit as is_limit_at};
 
-use crate::cursor::{Cursor, Moved, advance, enter_packet, record_at};
-use crate::hit::{hit, hit_at};
+use crate::cursor::{Cursor, Moved, advance, record_at};
+use crate::hit::hit_at;
 use crate::loaded::Loaded;
-use cbpf_machine::{Followed, Meter, Packet, Trail, run_packet};
+use cbpf_machine::{Meter, Packet, Trail, run_packet};
 use cbpf_reply::{RunReply, Stop, Why};
 use pcap_classic::Captured;
 use std::alloc::Allocator;
@@ -27,29 +27,8 @@ fn is_limit(limit: Option<u64>, packets: u64) -> bool
     }
 }
 
-/// Keeps an entry of a packet, whose record is `here`, on the trail, and reports why it is a hit, where
-/// it is one.
-#[inline(always)]
-fn arrive<T: Trail, A: Allocator>(
-    loaded: &Loaded<'_, A>,
-    here: &Captured<'_>,
-    w: &Cursor,
-    trail: &mut T,
-) -> Option<Why>
-    requires stands { Stands (machine_in loaded.now) (records_in loaded.now) w.now }
-    requires here { slice_get (records_in loaded.now) (w.now.place.packet - 1) ≡ Some (record_of here.now) }
-    requires begun { 0 < w.now.place.step }
-    requires keeps { Keeps (λ xs. T.stands_for trail.old xs) (machine_in loaded.now) (records_in loaded.now) (back_place w.now.place 1) }
-    requires watched { Watches loaded.now.watched.now (machine_in loaded.now) (breakpoints_in loaded.now) }
-    ensures keeps { Keeps (λ xs. T.stands_for trail.new xs) (machine_in loaded.now) (records_in loaded.now) w.now.place }
-    ensures hit { result ≡ hit_of (machine_in loaded.now) (breakpoints_in loaded.now) (record_of here.now) w.now }
-{
-    trail.push(w.state);
-    hit(loaded, &w.state)
-}
-
-/// Goes on from an entry of a packet, whose record is `here`, to the next one at an instruction that is
-/// watched, or out of the packet; no hit is passed.
+/// Goes on in a packet, whose record is `here`, to the next entry at an instruction that is watched, or out of
+/// the packet; no hit is passed.
 #[inline(always)]
 fn leave_unwatched<T: Trail, A: Allocator>(
     meter: &mut Meter,
@@ -60,7 +39,6 @@ fn leave_unwatched<T: Trail, A: Allocator>(
 ) -> Moved
     requires stands { Stands (machine_in loaded.now) (records_in loaded.now) w.old }
     requires here { slice_get (records_in loaded.now) (w.old.place.packet - 1) ≡ Some (record_of here.now) }
-    requires begun { 0 < w.old.place.step }
     requires keeps { Keeps (λ xs. T.stands_for trail.old xs) (machine_in loaded.now) (records_in loaded.now) w.old.place }
     requires spare { meter.old + owed (machine_in loaded.now) (records_in loaded.now) w.old.place + 1 < 2 ^ 128 }
     requires watched { Watches loaded.now.watched.now (machine_in loaded.now) (breakpoints_in loaded.now) }
@@ -76,54 +54,16 @@ fn leave_unwatched<T: Trail, A: Allocator>(
         bytes: here.bytes,
         wire: here.wire,
     };
-    let (program, values) = (loaded.program, loaded.values);
-    match trail.follow(meter, program, packet, values, loaded.watched, &mut w.state) {
-        Followed::Ended(outcome) => {
-            w.pass(outcome);
-            Moved::Packet
-        }
-        Followed::Watched(turns) => {
-            w.place.step += turns;
-            Moved::Entry
-        }
+    let (program, values, watched) = (loaded.program, loaded.values, loaded.watched);
+    if w.place.step == 0 {
+        let followed = trail.begin(meter, program, packet, values, watched, &mut w.state);
+        return w.follow(followed);
     }
+    let followed = trail.follow(meter, program, packet, values, watched, &mut w.state);
+    w.follow(followed)
 }
 
-/// Goes on from an entry of a packet, whose record is `here`, to the next hit, or out of the packet.
-#[inline(always)]
-fn pass_on<T: Trail, A: Allocator>(
-    meter: &mut Meter,
-    loaded: &Loaded<'_, A>,
-    here: &Captured<'_>,
-    w: &mut Cursor,
-    trail: &mut T,
-) -> Option<Why>
-    requires stands { Stands (machine_in loaded.now) (records_in loaded.now) w.old }
-    requires here { slice_get (records_in loaded.now) (w.old.place.packet - 1) ≡ Some (record_of here.now) }
-    requires begun { 0 < w.old.place.step }
-    requires keeps { Keeps (λ xs. T.stands_for trail.old xs) (machine_in loaded.now) (records_in loaded.now) w.old.place }
-    requires spare { meter.old + owed (machine_in loaded.now) (records_in loaded.now) w.old.place + 1 < 2 ^ 128 }
-    requires watched { Watches loaded.now.watched.now (machine_in loaded.now) (breakpoints_in loaded.now) }
-    ensures stands { Stands (machine_in loaded.now) (records_in loaded.now) w.new }
-    ensures keeps { IsSome result → Keeps (λ xs. T.stands_for trail.new xs) (machine_in loaded.now) (records_in loaded.now) w.new.place }
-    ensures origin { w.new.origin ≡ w.old.origin }
-    ensures order { NotBefore w.new.place w.old.place }
-    ensures passes { PassesTo (machine_in loaded.now) (records_in loaded.now) (breakpoints_in loaded.now) (record_of here.now) w.old result w.new }
-    ensures spent { meter.new + owed (machine_in loaded.now) (records_in loaded.now) w.new.place ≡ meter.old + owed (machine_in loaded.now) (records_in loaded.now) w.old.place }
-{
-    'pass: loop {
-        match leave_unwatched(meter, loaded, here, w, trail) {
-            Moved::Packet => return None,
-            Moved::Entry => {
-                if let Some(why) = hit_at(loaded, &w.state) {
-                    return Some(why);
-                }
-            }
-        }
-    }
-}
-
-/// The same from any place of the packet.
+/// Goes on in a packet, whose record is `here`, to the next hit, or out of the packet.
 #[inline(always)]
 fn pass_to_hit<T: Trail, A: Allocator>(
     meter: &mut Meter,
@@ -144,13 +84,15 @@ fn pass_to_hit<T: Trail, A: Allocator>(
     ensures passes { PassesTo (machine_in loaded.now) (records_in loaded.now) (breakpoints_in loaded.now) (record_of here.now) w.old result w.new }
     ensures spent { meter.new + owed (machine_in loaded.now) (records_in loaded.now) w.new.place ≡ meter.old + owed (machine_in loaded.now) (records_in loaded.now) w.old.place }
 {
-    if w.place.step > 0 {
-        return pass_on(meter, loaded, here, w, trail);
-    }
-    enter_packet(loaded, here, w);
-    match arrive(loaded, here, w, trail) {
-        Some(why) => Some(why),
-        None => pass_on(meter, loaded, here, w, trail),
+    'pass: loop {
+        match leave_unwatched(meter, loaded, here, w, trail) {
+            Moved::Packet => return None,
+            Moved::Entry => {
+                if let Some(why) = hit_at(loaded, &w.state) {
+                    return Some(why);
+                }
+            }
+        }
     }
 }
 

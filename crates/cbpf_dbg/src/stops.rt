@@ -1,17 +1,18 @@
 //! The list of stops.
 
-ghost use Rattle.std.specs.Prelude.{◌≡◌, ◌+◌, ◌<◌, ◌^◌, true};
+ghost use Rattle.std.specs.Prelude.{◌≡◌, ◌+◌, ◌-◌, ◌≤◌, ◌^◌, Some, slice_get};
 ghost use Rattle.std.specs.Iterator.{YieldsFirst, item_count};
 ghost use Rattle.cbpf_dbg.specs.Joined.{rest};
 ghost use Rattle.cbpf_dbg.specs.Loaded.{machine_in, records_in, breakpoints_in};
 ghost use Rattle.cbpf_dbg.specs.Session.{Watches};
-ghost use Rattle.cbpf_dbg.specs.Cursor.{Stands, owed, IsHere};
+ghost use Rattle.cbpf_dbg.specs.Cursor.{Stands, owed, IsHere, PassesOn};
+ghost use Rattle.pcap_classic.specs.Lent.{record_of};
 ghost use Rattle.cbpf_dbg.specs.declared.cursor.Cursor.{Cursor};
 
-use crate::cursor::{Cursor, Moved, advance};
-use crate::hit::hit;
+use crate::cursor::{Cursor, Moved};
+use crate::hit::hit_at;
 use crate::loaded::Loaded;
-use cbpf_machine::Meter;
+use cbpf_machine::{Meter, Packet, follow_on, follow_packet};
 use cbpf_reply::Stop;
 use pcap_classic::Captured;
 use std::alloc::{Allocator, Global};
@@ -30,7 +31,7 @@ pub struct Stops<'a, A: Allocator = Global> {
 }
 
 impl<'a, A: Allocator> Model for Stops<'a, A> {
-    ghost use Rattle.std.specs.Prelude.{List, ◌≡◌, ◌+◌, ◌<◌, ◌^◌, true};
+    ghost use Rattle.std.specs.Prelude.{List, ◌≡◌, ◌+◌, ◌≤◌, ◌^◌, true};
     ghost use Rattle.cbpf_reply.specs.declared.reply.Stop.{Stop};
     ghost use Rattle.cbpf_dbg.specs.Joined.{rest};
     ghost use Rattle.cbpf_dbg.specs.Loaded.{machine_in, records_in, breakpoints_in};
@@ -41,7 +42,38 @@ impl<'a, A: Allocator> Model for Stops<'a, A> {
 
     ghost view = { λ s. rest (machine_in s.loaded) (records_in s.loaded) (breakpoints_in s.loaded) s.cursor.place };
 
-    ghost invariant = { λ s. Stands (machine_in s.loaded) (records_in s.loaded) s.cursor × IsHere (records_in s.loaded) s.cursor.place.packet s.here × Watches s.loaded.watched.now (machine_in s.loaded) (breakpoints_in s.loaded) × (s.meter + owed (machine_in s.loaded) (records_in s.loaded) s.cursor.place + 1 < 2 ^ 128) };
+    ghost invariant = { λ s. Stands (machine_in s.loaded) (records_in s.loaded) s.cursor × IsHere (records_in s.loaded) s.cursor.place.packet s.here × Watches s.loaded.watched.now (machine_in s.loaded) (breakpoints_in s.loaded) × (s.meter + owed (machine_in s.loaded) (records_in s.loaded) s.cursor.place ≤ 2 ^ 127) };
+}
+
+/// Goes on in a packet, whose record is `here`, to the next entry at an instruction that is watched, or out of
+/// the packet; no hit is passed, and no entry is kept.
+#[inline(always)]
+fn skip_unwatched<A: Allocator>(
+    meter: &mut Meter,
+    loaded: &Loaded<'_, A>,
+    here: &Captured<'_>,
+    w: &mut Cursor,
+) -> Moved
+    requires stands { Stands (machine_in loaded.now) (records_in loaded.now) w.old }
+    requires here { slice_get (records_in loaded.now) (w.old.place.packet - 1) ≡ Some (record_of here.now) }
+    requires watched { Watches loaded.now.watched.now (machine_in loaded.now) (breakpoints_in loaded.now) }
+    requires spare { meter.old + 8192 ≤ 2 ^ 128 }
+    ensures stands { Stands (machine_in loaded.now) (records_in loaded.now) w.new }
+    ensures passes { PassesOn (machine_in loaded.now) (records_in loaded.now) (breakpoints_in loaded.now) (record_of here.now) w.old result w.new }
+    ensures spent { meter.new + owed (machine_in loaded.now) (records_in loaded.now) w.new.place ≡ meter.old + owed (machine_in loaded.now) (records_in loaded.now) w.old.place }
+{
+    let _few = loaded.capture.count();
+    let packet = Packet {
+        bytes: here.bytes,
+        wire: here.wire,
+    };
+    let (program, values, watched) = (loaded.program, loaded.values, loaded.watched);
+    if w.place.step == 0 {
+        let followed = follow_packet(meter, program, packet, values, watched, &mut w.state);
+        return w.follow(followed);
+    }
+    let followed = follow_on(meter, program, packet, values, watched, &mut w.state);
+    w.follow(followed)
 }
 
 /// Goes on to the next hit, or to the end, and returns the record of the place's packet.
@@ -55,7 +87,7 @@ fn next_stop<'a, A: Allocator>(
     requires stands { Stands (machine_in loaded.now) (records_in loaded.now) w.old }
     requires here { IsHere (records_in loaded.now) w.old.place.packet first }
     requires watched { Watches loaded.now.watched.now (machine_in loaded.now) (breakpoints_in loaded.now) }
-    requires spare { meter.old + owed (machine_in loaded.now) (records_in loaded.now) w.old.place + 1 < 2 ^ 128 }
+    requires spare { meter.old + owed (machine_in loaded.now) (records_in loaded.now) w.old.place ≤ 2 ^ 127 }
     ensures stands { Stands (machine_in loaded.now) (records_in loaded.now) w.new }
     ensures here { IsHere (records_in loaded.now) w.new.place.packet result.1 }
     ensures spent { meter.new + owed (machine_in loaded.now) (records_in loaded.now) w.new.place ≡ meter.old + owed (machine_in loaded.now) (records_in loaded.now) w.old.place }
@@ -66,9 +98,9 @@ fn next_stop<'a, A: Allocator>(
         let Some(here) = next else {
             return (None, None);
         };
-        match advance(meter, loaded, &here, w) {
+        match skip_unwatched(meter, loaded, &here, w) {
             Moved::Entry => {
-                if let Some(why) = hit(loaded, &w.state) {
+                if let Some(why) = hit_at(loaded, &w.state) {
                     let stop = Stop {
                         place: w.place,
                         state: w.state,

@@ -1,5 +1,5 @@
-use Rattle.std.proofs.Common.{◌≡◌, ◌+◌, ◌-◌, length}
-use Rattle.cbpf_dbg.specs.Joined.{rest, ahead}
+use Rattle.std.proofs.Common.{◌≡◌, ◌+◌, ◌-◌, ◌*◌, length}
+use Rattle.cbpf_dbg.specs.Joined.{rest}
 use Rattle.cbpf_dbg.specs.Cursor.{Stands, owed, IsHere}
 use Rattle.cbpf_dbg.specs.Loaded.{machine_in, records_in, breakpoints_in}
 use Rattle.cbpf_dbg.proofs.stops.next_stop.Given as goal
@@ -14,5 +14,6 @@ invariant-go g l =
       spent : l.meter + owed (machine_in l.loaded) (records_in l.loaded) l.w.place ≡ l.initial.meter + owed (machine_in l.loaded) (records_in l.loaded) l.initial.w.place;
     }
 
+-- by packet, then step
 abbrev pub decreases-go : goal.decreases-go
-decreases-go g l = length (ahead (machine_in l.loaded) (records_in l.loaded) l.w.place) + (length (records_in l.loaded) + 1 - l.w.place.packet)
+decreases-go g l = 4097 * (length (records_in l.loaded) + 1 - l.w.place.packet) + (4096 - l.w.place.step)
