@@ -1,5 +1,5 @@
 -- Moves to the next entry at an instruction that is watched.
-use Rattle.std.proofs.Common.{◌≡◌, ℕ, zero, suc, ◌+◌, ◌-◌, ◌<◌, ◌≤◌, List, length, drop, take, arith, sym, ap, subst, ◌∙◌, refl, inl, inr, length-append, length-drop, length-take}
+use Rattle.std.proofs.Common.{◌≡◌, ℕ, ◌+◌, ◌-◌, ◌≤◌, List, length, drop, take, arith, sym, ap, subst, ◌∙◌, refl, inl, inr, length-append, length-drop, length-take}
 use Rattle.std.specs.Prelude.{Bool, Some, slice_get, min}
 use Rattle.std.proofs.lemmas.Bool.{cases_lt}
 use Rattle.std.proofs.lemmas.Option.{slice_get_within}

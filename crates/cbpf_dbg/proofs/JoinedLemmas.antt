@@ -155,6 +155,13 @@ ahead-leave machine capture p s r from_one at long =
     ahead-in machine capture p s r from_one at
     ∙ rw (drop-past (trace machine r.bytes r.wire) s long) (joined-next machine capture p from_one)
 
+-- before a packet's first entry, its entries and those of the later packets
+pub ahead-whole : (machine : Machine) (capture : List Record) (p : ℕ) (r : Record) → 1 ≤ p → slice_get capture (p - 1) ≡ Some r
+    → ahead machine capture (place_at p 0) ≡ packet_entries machine r p ++ ahead machine capture (place_at (p + 1) 0)
+ahead-whole machine capture p r from_one at =
+    ahead-in machine capture p 0 r from_one at
+    ∙ ap (λ later. packet_entries machine r p ++ later) (joined-next machine capture p from_one)
+
 -- ---- the hits ahead
 
 swap_head : {X : Type 0} (f g : X → Bool) (x : X) (xs : List X) (b c : Bool) → f x ≡ b → g x ≡ c → filter f (filter g xs) ≡ filter g (filter f xs)

@@ -1,5 +1,5 @@
 -- What a run answers where it ends.
-use Rattle.std.proofs.Common.{◌≡◌, ℕ, zero, suc, ◌+◌, ◌-◌, ◌<◌, ◌≤◌, List, [], ◌∷◌, length, Bool, true, false, arith, sym, ap, ◌∙◌, refl, inl, inr, cond}
+use Rattle.std.proofs.Common.{◌≡◌, ℕ, zero, suc, ◌+◌, ◌-◌, ◌<◌, ◌≤◌, List, [], ◌∷◌, ◌++◌, length, Bool, true, false, arith, sym, ap, ◌∙◌, refl, inl, inr, cond}
 use Rattle.std.specs.Prelude.{Option, Some, None, slice_get, filter, ◌⊎◌, ◌||◌, nat_lt, nat_le, ◌≢◌}
 use Rattle.std.proofs.lemmas.Bool.Decides.{nat_tests}
 use Rattle.cbpf_machine.specs.Machine.{Machine}
@@ -236,6 +236,15 @@ slice_get-later x xs k h =
 
 pub slice_get-first : {X : Type 0} (x : X) (xs : List X) (k : ℕ) → k ≡ 1 → slice_get (x ∷ xs) (k - 1) ≡ Some x
 slice_get-first x xs k h = rw h refl
+
+-- past the first ones of a list
+pub slice_get-past : {X : Type 0} (xs ys : List X) (k n : ℕ) → length xs ≡ k → k < n → slice_get (xs ++ ys) (n - 1) ≡ slice_get ys (n - k - 1)
+slice_get-past [] ys k n e more = let i : n - 1 ≡ n - k - 1 = omega (arith, e) in ap (λ j. slice_get ys j) i
+slice_get-past (x ∷ xs) ys k n e more =
+    let i : n - 1 ≡ suc (n - 1 - 1) = omega (arith, e, more) in
+    let rest : length xs ≡ k - 1 = omega (arith, e) in
+    let j : n - 1 - (k - 1) - 1 ≡ n - k - 1 = omega (arith, e, more) in
+    ap (λ m. slice_get (x ∷ (xs ++ ys)) m) i ∙ slice_get-past xs ys (k - 1) (n - 1) rest (omega (arith, e, more)) ∙ ap (λ m. slice_get ys m) j
 
 module _ (machine : Machine) (c : Savefile) (breakpoints : Breakpoints) (n : ℕ) (w0 : Cursor) where
   pub step_stopped : (w2 : Cursor) (r : Record) (y : Why) → slice_get (ahead machine c.records w0.place) (n - 1) ≡ Some (entry_here machine r w2)

@@ -1,7 +1,9 @@
 //! Steps both ways.
 
-ghost use Rattle.std.specs.Prelude.{◌≡◌, ◌+◌, ◌<◌, ◌≤◌, ◌^◌, MatchResult, OnErr, OnOk};
+ghost use Rattle.std.specs.Prelude.{◌≡◌, ◌+◌, ◌-◌, ◌<◌, ◌≤◌, ◌^◌, ℕ, MatchResult, OnErr, OnOk, Some, length, slice_get};
+ghost use Rattle.pcap_classic.specs.Lent.{record_of};
 ghost use Rattle.cbpf_dbg.specs.Breakpoints.{Breakpoints};
+ghost use Rattle.cbpf_dbg.specs.Joined.{ahead};
 ghost use Rattle.cbpf_dbg.specs.Loaded.{machine_in, records_in};
 ghost use Rattle.cbpf_dbg.specs.Session.{Keeps};
 ghost use Rattle.cbpf_dbg.specs.Cursor.{Stands, owed, StepsOn, step_turns, StepsBack, CannotStepBack};
@@ -9,9 +11,41 @@ ghost use Rattle.cbpf_dbg.specs.Cursor.{Stands, owed, StepsOn, step_turns, Steps
 use crate::cursor::{Cursor, Moved, advance, record_at};
 use crate::hit::why_at;
 use crate::loaded::Loaded;
-use cbpf_machine::{Meter, Packet, Trail};
+use cbpf_machine::{Meter, Packet, Trail, run_packet};
 use cbpf_reply::{RunReply, Stop, Why};
+use pcap_classic::Captured;
 use std::alloc::Allocator;
+
+/// Passes over a packet, whose record is `here`, from before its first entry; how many entries it has.
+#[inline(always)]
+fn skip_packet<A: Allocator>(
+    meter: &mut Meter,
+    loaded: &Loaded<'_, A>,
+    here: &Captured<'_>,
+    w: &mut Cursor,
+) -> u64
+    requires stands { Stands (machine_in loaded.now) (records_in loaded.now) w.old }
+    requires here { slice_get (records_in loaded.now) (w.old.place.packet - 1) ≡ Some (record_of here.now) }
+    requires before { w.old.place.step ≡ 0 }
+    requires early { meter.old + 8192 ≤ 2 ^ 128 }
+    ensures stands { Stands (machine_in loaded.now) (records_in loaded.now) w.new }
+    ensures place { w.new.place ≡ record { packet = w.old.place.packet + 1; step = 0 } }
+    ensures origin { w.new.origin ≡ w.old.origin }
+    ensures few { result ≤ length loaded.now.program.now }
+    ensures later { (n : ℕ) → result < n → slice_get (ahead (machine_in loaded.now) (records_in loaded.now) w.old.place) (n - 1) ≡ slice_get (ahead (machine_in loaded.now) (records_in loaded.now) w.new.place) (n - result - 1) }
+    ensures ahead { length (ahead (machine_in loaded.now) (records_in loaded.now) w.old.place) ≡ result + length (ahead (machine_in loaded.now) (records_in loaded.now) w.new.place) }
+    ensures turns { meter.new ≡ meter.old + result }
+{
+    let _few = loaded.capture.count();
+    let _sound = loaded.program.len();
+    let packet = Packet {
+        bytes: here.bytes,
+        wire: here.wire,
+    };
+    let before = meter.spent();
+    w.pass(run_packet(meter, loaded.program, packet, loaded.values));
+    (meter.spent() - before) as u64
+}
 
 /// Goes on by that many entries, or to the end.
 pub(crate) fn step_on<T: Trail, A: Allocator>(
@@ -24,12 +58,15 @@ pub(crate) fn step_on<T: Trail, A: Allocator>(
     requires stands { Stands (machine_in loaded.now) (records_in loaded.now) w.old }
     requires keeps { Keeps (λ xs. T.stands_for trail.old xs) (machine_in loaded.now) (records_in loaded.now) w.old.place }
     requires spare { meter.old + owed (machine_in loaded.now) (records_in loaded.now) w.old.place + 1 < 2 ^ 128 }
+    requires early { meter.old ≤ 2 ^ 127 }
     requires some { 1 ≤ n }
     ensures stands { Stands (machine_in loaded.now) (records_in loaded.now) w.new }
     ensures keeps { Keeps (λ xs. T.stands_for trail.new xs) (machine_in loaded.now) (records_in loaded.now) w.new.place }
     ensures steps { (breakpoints : Breakpoints) → StepsOn (machine_in loaded.now) loaded.now.capture.now breakpoints w.old w.new n result }
     ensures turns { (breakpoints : Breakpoints) → meter.new ≡ meter.old + step_turns (machine_in loaded.now) loaded.now.capture.now breakpoints w.old n }
 {
+    let _few = loaded.capture.count();
+    let longest = u64::from(loaded.program.len());
     let mut left = n;
     let mut next = record_at(loaded.capture, w.place.packet);
     'go: loop {
@@ -39,6 +76,12 @@ pub(crate) fn step_on<T: Trail, A: Allocator>(
             *w = Cursor::start();
             return RunReply::Finished(counts);
         };
+        // The entry that is sought is in a later packet.
+        if w.place.step == 0 && left > longest {
+            left -= skip_packet(meter, loaded, &here, w);
+            next = loaded.capture.following(&here);
+            continue;
+        }
         match advance(meter, loaded, &here, w) {
             Moved::Entry => {
                 trail.push(w.state);

@@ -1,17 +1,13 @@
-use Rattle.std.proofs.Common.{◌≡◌, ◌<◌, ◌+◌, ◌-◌, [], arith, ap, sym, refl, ◌∙◌, subst, take, length, slice_get}
-use Rattle.std.specs.Prelude.{Some, min}
+use Rattle.std.proofs.Common.{◌≡◌, ◌<◌, ◌+◌, arith, ap, sym, subst, take}
 use Rattle.pcap_classic.specs.Lent.{record_of}
-use Rattle.pcap_classic.specs.Records.{Record}
-use Rattle.cbpf_machine.specs.declared.follow.Followed.TheVariants.{Watched, Ended}
 use Rattle.cbpf_machine.specs.Trace.{trace, outcome}
 use Rattle.cbpf_machine.specs.Follow.{Follows, turns_to}
 use Rattle.cbpf_reply.specs.declared.reply.Counts.{Counts}
 use Rattle.cbpf_dbg.specs.Loaded.{machine_in, records_in, breakpoints_in}
 use Rattle.cbpf_dbg.specs.Cursor.{moved_by}
-use Rattle.cbpf_dbg.specs.declared.cursor.Moved.TheVariants as moved
 use Rattle.cbpf_dbg.proofs.CountLemmas.{counts-at_most}
 use Rattle.cbpf_dbg.proofs.KeepLemmas.{entry_at_place}
-use Rattle.cbpf_dbg.proofs.FollowLemmas.{Leaves, kept_steps, steps_few, steps_fit, room, step_within, leaves}
+use Rattle.cbpf_dbg.proofs.FollowLemmas.{Leaves, kept_steps, steps_fit, room, leaves}
 use Rattle.cbpf_dbg.specs.Cursor.{PassesOn}
 use Rattle.cbpf_dbg.proofs.KeepLemmas.{keeps_followed}
 use Rattle.cbpf_dbg.proofs.run.leave_unwatched.Goals as goal

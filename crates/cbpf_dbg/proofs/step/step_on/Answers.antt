@@ -1,11 +1,12 @@
-use Rattle.std.proofs.Common.{◌≡◌, ◌+◌, ◌-◌, length, arith, sym, ap, ◌∙◌, Some, None, slice_get, refl}
+use Rattle.std.proofs.Common.{◌≡◌, ◌+◌, ◌-◌, ◌<◌, [], length, arith, sym, ap, ◌∙◌, Some, None, slice_get, refl}
+use Rattle.std.proofs.lemmas.Option.{slice_get_within}
 use Rattle.cbpf_reply.specs.declared.reply.Place.{Place}
 use Rattle.cbpf_dbg.specs.Joined.{ahead}
 use Rattle.cbpf_dbg.specs.Cursor.{owed, entry_here}
 use Rattle.cbpf_dbg.proofs.CursorLemmas.{goes, here_after, here_some, here_none, cursor_ended}
 use Rattle.cbpf_dbg.proofs.RunLemmas.{slice_get-later, slice_get-first, step_stopped, step_finished}
 use Rattle.cbpf_dbg.proofs.KeepLemmas.{keeps_push, keeps_few, keeps_clear}
-use Rattle.cbpf_dbg.proofs.TurnLemmas.{step_turns-reply, spent_between, owed-turns, not_before_step, not_before_packet}
+use Rattle.cbpf_dbg.proofs.TurnLemmas.{step_turns-reply, spent_between, owed-turns, not_before_step, not_before_packet, owed_bound}
 use Rattle.cbpf_dbg.specs.Loaded.{machine_in, records_in}
 use Rattle.cbpf_dbg.proofs.step.step_on.Goals as goal
 
@@ -84,7 +85,7 @@ go-preserved g c =
     let e : c.advance.new.w.place.packet ≡ c.go.w.place.packet + 1 = ap (λ (q : Place). q.packet) m.0 in
     let z : c.advance.new.w.place.step ≡ 0 = ap (λ (q : Place). q.step) m.0 in
     record {
-      here = here_after (records_in c.args.loaded.now) c.go.w.place.packet c.advance.new.w.place.packet c.in-Some.here c.following-next.result at.0 e c.following-next.ensures.record c.following-next.ensures.number;
+      here = here_after (records_in c.args.loaded.now) c.go.w.place.packet c.advance.new.w.place.packet c.in-Some.here c.following-next-in-Packet.result at.0 e c.following-next-in-Packet.ensures.record c.following-next-in-Packet.ensures.number;
       stands = c.in-Packet.ensures.stands;
       keeps = keeps_clear (λ xs. g.T.Trail.stands_for c.clear-in-Packet.new.self xs) (machine_in c.args.loaded.now) (records_in c.args.loaded.now) c.advance.new.w.place z c.clear-in-Packet.ensures;
       same_origin = c.in-Packet.ensures.origin ∙ c.go.invariant.same_origin;
@@ -92,4 +93,36 @@ go-preserved g c =
       sought = rw (← m.1) c.go.invariant.sought;
       order = not_before_packet c.args.w.now.place c.go.w.place c.advance.new.w.place c.go.invariant.order e;
       spent = omega (arith, ap length m.1, z, c.in-Packet.ensures.turns, c.go.invariant.spent);
+    }
+
+pub skip_packet-left-requires-clause-early : goal.skip_packet-left-requires-clause-early
+skip_packet-left-requires-clause-early g c =
+    let most = owed_bound (machine_in c.args.loaded.now) (records_in c.args.loaded.now) c.args.w.now.place c.requires.stands.sound (omega (arith, c.count-few.ensures.bounded, c.count-few.ensures.value)) in
+    let early = c.requires.early in
+    omega (arith, most, early, c.go.invariant.spent)
+
+pub go-smaller-then-left-longest : goal.go-smaller-then-left-longest
+go-smaller-then-left-longest g c =
+    let at = here_some (records_in c.args.loaded.now) c.go.w.place.packet c.go.next c.in-Some.here c.go.invariant.here c.in-Some.is in
+    let within = slice_get_within (records_in c.args.loaded.now) (c.go.w.place.packet - 1) _ at.1 in
+    let e : c.skip_packet-left.new.w.place.packet ≡ c.go.w.place.packet + 1 = ap (λ (q : Place). q.packet) c.skip_packet-left.ensures.place in
+    omega (arith, c.skip_packet-left.ensures.ahead, e, within)
+
+pub go-preserved-then-left-longest : goal.go-preserved-then-left-longest
+go-preserved-then-left-longest g c =
+    let at = here_some (records_in c.args.loaded.now) c.go.w.place.packet c.go.next c.in-Some.here c.go.invariant.here c.in-Some.is in
+    let e : c.skip_packet-left.new.w.place.packet ≡ c.go.w.place.packet + 1 = ap (λ (q : Place). q.packet) c.skip_packet-left.ensures.place in
+    let z : c.skip_packet-left.new.w.place.step ≡ 0 = ap (λ (q : Place). q.step) c.skip_packet-left.ensures.place in
+    let before : c.go.w.place.step ≡ 0 = omega (arith, c.if-w-eq0.true) in
+    let empty : g.T.Trail.stands_for c.go.trail [] = rw before at (c.go.invariant.keeps _ at.1) in
+    let fits : c.skip_packet-left.result < c.go.left = omega (arith, c.if-left-longest.true, c.skip_packet-left.ensures.few, c.from-longest.ensures, c.len.ensures.value) in
+    record {
+      here = here_after (records_in c.args.loaded.now) c.go.w.place.packet c.skip_packet-left.new.w.place.packet c.in-Some.here c.following-next.result at.0 e c.following-next.ensures.record c.following-next.ensures.number;
+      stands = c.skip_packet-left.ensures.stands;
+      keeps = keeps_clear (λ xs. g.T.Trail.stands_for c.go.trail xs) (machine_in c.args.loaded.now) (records_in c.args.loaded.now) c.skip_packet-left.new.w.place z empty;
+      same_origin = c.skip_packet-left.ensures.origin ∙ c.go.invariant.same_origin;
+      some = omega (arith, fits);
+      sought = sym (c.skip_packet-left.ensures.later c.go.left fits) ∙ c.go.invariant.sought;
+      order = not_before_packet c.args.w.now.place c.go.w.place c.skip_packet-left.new.w.place c.go.invariant.order e;
+      spent = omega (arith, c.skip_packet-left.ensures.ahead, c.skip_packet-left.ensures.turns, z, before, c.go.invariant.spent);
     }
