@@ -7,7 +7,6 @@ use Rattle.cbpf_listing.specs.Listing.{line_text}
 use Rattle.cbpf_reply.specs.Lines.{labelled, value_line}
 use Rattle.cbpf_reply.specs.Scratch.{scratch_lines}
 use Rattle.cbpf_reply.specs.Packet.{packet_dump}
-use Rattle.cbpf_reply.specs.declared.dump.Dump.{Dump}
 use Rattle.cbpf_reply.specs.declared.reply.Why.{Why}
 use Rattle.cbpf_reply.specs.declared.reply.Why.TheVariants as why_is
 use Rattle.cbpf_reply.specs.declared.reply.Stop.{Stop}
@@ -24,20 +23,6 @@ pub record Shown : Type 0 where
   pub bytes : List ℕ
   pub wire : ℕ
   pub why : Why
-
-abbrev pub shown : Dump → Shown
-shown d =
-    record {
-      packet = d.packet;
-      step = d.step;
-      pc = d.pc;
-      a = d.a;
-      x = d.x;
-      slots = d.slots;
-      bytes = d.bytes.now;
-      wire = d.wire;
-      why = d.why;
-    }
 
 abbrev pub heading : ℕ → ℕ → List ℕ
 heading packet step = joined (codes "-- packet " ∷ decimal packet ∷ codes ", step " ∷ decimal step ∷ codes " --\n" ∷ [])

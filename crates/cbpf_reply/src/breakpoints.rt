@@ -4,7 +4,7 @@ ghost use Rattle.std.specs.Prelude.{◌<◌, length};
 ghost use Rattle.cbpf_code.specs.Writing.{Wrote};
 ghost use Rattle.cbpf_reply.specs.Breakpoints as spec;
 
-use crate::fault::write_with_number;
+use crate::fault::write_numbered;
 use cbpf_code::{Program, WriteFault, write_bytes, write_parts};
 use cbpf_listing::write_line;
 use itoa::Buffer;
@@ -28,8 +28,8 @@ fn write_condition<W: Write>(w: &mut W, when: When) -> Result<(), WriteFault>
 {
     match when {
         When::Always => write_bytes(w, b"\n"),
-        When::A(v) => write_with_number(w, b" when a = ", v, b"\n"),
-        When::X(v) => write_with_number(w, b" when x = ", v, b"\n"),
+        When::A(v) => write_numbered(w, b" when a = ", v, b"\n"),
+        When::X(v) => write_numbered(w, b" when x = ", v, b"\n"),
     }
 }
 

@@ -1,7 +1,8 @@
 // The dump of a stop.
-ghost use Rattle.std.specs.Prelude.{◌≡◌, ◌<◌, ◌++◌, Some, length, slice_get};
+ghost use Rattle.std.specs.Prelude.{◌≡◌, ◌<◌, ◌++◌, ℕ, List, Some, length, slice_get};
 ghost use Rattle.cbpf_code.specs.Writing.{Wrote};
 ghost use Rattle.cbpf_reply.specs.Lines.{value_line};
+ghost use Rattle.cbpf_reply.specs.Scratch.{scratch_lines};
 ghost use Rattle.cbpf_reply.specs.Dump as spec;
 
 use crate::columns::eight_digits;
@@ -14,28 +15,6 @@ use cbpf_machine::State;
 use itoa::Buffer;
 use std::alloc::Allocator;
 use std::io::Write;
-
-/// What is shown of a stop, beside the program.
-#[derive(Clone, Copy, Debug)]
-pub struct Dump<'a> {
-    /// The packet's number, from 1.
-    pub packet: u64,
-    /// How many instructions of the packet were reached, with this one.
-    pub step: u32,
-    /// The index of the instruction that comes next; it is less than the program's length.
-    pub pc: u32,
-    /// The accumulator.
-    pub a: u32,
-    /// The index register.
-    pub x: u32,
-    /// The words of scratch memory.
-    pub slots: [u32; 16],
-    /// The packet's captured bytes.
-    pub bytes: &'a [u8],
-    /// The packet's original length.
-    pub wire: u32,
-    pub why: Why,
-}
 
 fn write_heading<W: Write>(w: &mut W, packet: u64, step: u32) -> Result<(), WriteFault>
     ensures { Wrote (W.contents w.old) (W.contents w.new) result (spec.heading packet step) }
@@ -143,60 +122,6 @@ fn write_x_line<W: Write>(w: &mut W, x: u32) -> Result<(), WriteFault>
     )
 }
 
-fn write_registers<W: Write>(w: &mut W, dump: &Dump<'_>) -> Result<(), WriteFault>
-    ensures { Wrote (W.contents w.old) (W.contents w.new) result (spec.register_lines (spec.shown dump.now)) }
-{
-    write_a_line(w, dump.a)?;
-    write_x_line(w, dump.x)?;
-    write_scratch(w, &dump.slots)
-}
-
-fn write_register_dump<W: Write, A: Allocator>(
-    w: &mut W,
-    p: &Program<A>,
-    dump: &Dump<'_>,
-) -> Result<(), WriteFault>
-    requires { dump.now.pc < length p.now }
-    ensures { Wrote (W.contents w.old) (W.contents w.new) result (spec.register_dump p.now (spec.shown dump.now)) }
-{
-    write_bytes(w, b"-- register dump --\n")?;
-    write_instruction(w, p, dump.pc)?;
-    write_registers(w, dump)
-}
-
-/// Writes why it stopped.
-pub fn write_why<W: Write>(w: &mut W, why: Why) -> Result<(), WriteFault>
-    ensures { Wrote (W.contents w.old) (W.contents w.new) result (spec.why_line why) }
-{
-    match why {
-        Why::Break => write_bytes(w, b"(breakpoint)\n"),
-        Why::Step => write_bytes(w, b"(step)\n"),
-        Why::Unknown(e) => write_parts(w, &[b"(extension ", ext_name(e).as_bytes(), b")\n"]),
-    }
-}
-
-/// The packet, and why it stopped.
-fn write_ending<W: Write>(w: &mut W, dump: &Dump<'_>) -> Result<(), WriteFault>
-    ensures { Wrote (W.contents w.old) (W.contents w.new) result (spec.packet_and_why (spec.shown dump.now)) }
-{
-    write_packet(w, dump.bytes, dump.wire)?;
-    write_why(w, dump.why)
-}
-
-/// Writes the dump of a stop. The pc must be less than the program's length.
-pub fn write_dump<W: Write, A: Allocator>(
-    w: &mut W,
-    p: &Program<A>,
-    dump: &Dump<'_>,
-) -> Result<(), WriteFault>
-    requires { dump.now.pc < length p.now }
-    ensures { Wrote (W.contents w.old) (W.contents w.new) result (spec.dump_text p.now (spec.shown dump.now)) }
-{
-    write_heading(w, dump.packet, dump.step)?;
-    write_register_dump(w, p, dump)?;
-    write_ending(w, dump)
-}
-
 /// The words of scratch memory.
 fn slots_of(s: &State) -> [u32; 16]
     ensures { result ≡ spec.slots_of s.now }
@@ -221,21 +146,45 @@ fn slots_of(s: &State) -> [u32; 16]
     ]
 }
 
-/// What is shown of a stop in a packet of these bytes.
-fn dump_of<'a>(stop: &Stop, bytes: &'a [u8], wire: u32) -> Dump<'a>
-    ensures { spec.shown result ≡ spec.shown_in bytes.now wire stop.now }
+fn write_register_lines<W: Write>(w: &mut W, state: &State) -> Result<(), WriteFault>
+    ensures { Wrote (W.contents w.old) (W.contents w.new) result (spec.a_line state.now.a ++ (spec.x_line state.now.x ++ scratch_lines (spec.slots_of state.now))) }
 {
-    Dump {
-        packet: stop.place.packet,
-        step: stop.place.step,
-        pc: stop.state.pc(),
-        a: stop.state.a(),
-        x: stop.state.x(),
-        slots: slots_of(&stop.state),
-        bytes,
-        wire,
-        why: stop.why,
+    write_a_line(w, state.a())?;
+    write_x_line(w, state.x())?;
+    write_scratch(w, &slots_of(state))
+}
+
+/// The registers of a stop; they are the same in any packet.
+fn write_register_dump<W: Write, A: Allocator>(
+    w: &mut W,
+    p: &Program<A>,
+    stop: &Stop,
+) -> Result<(), WriteFault>
+    requires { stop.now.state.pc < length p.now }
+    ensures { (bytes : List ℕ) (wire : ℕ) → Wrote (W.contents w.old) (W.contents w.new) result (spec.register_dump p.now (spec.shown_in bytes wire stop.now)) }
+{
+    write_bytes(w, b"-- register dump --\n")?;
+    write_instruction(w, p, stop.state.pc())?;
+    write_register_lines(w, &stop.state)
+}
+
+/// Writes why it stopped.
+pub fn write_why<W: Write>(w: &mut W, why: Why) -> Result<(), WriteFault>
+    ensures { Wrote (W.contents w.old) (W.contents w.new) result (spec.why_line why) }
+{
+    match why {
+        Why::Break => write_bytes(w, b"(breakpoint)\n"),
+        Why::Step => write_bytes(w, b"(step)\n"),
+        Why::Unknown(e) => write_parts(w, &[b"(extension ", ext_name(e).as_bytes(), b")\n"]),
     }
+}
+
+/// The packet, and why it stopped.
+fn write_ending<W: Write>(w: &mut W, stop: &Stop, bytes: &[u8], wire: u32) -> Result<(), WriteFault>
+    ensures { Wrote (W.contents w.old) (W.contents w.new) result (spec.packet_and_why (spec.shown_in bytes.now wire stop.now)) }
+{
+    write_packet(w, bytes, wire)?;
+    write_why(w, stop.why)
 }
 
 /// Writes the dump of a stop in a program: the place, the registers before the instruction, the
@@ -257,5 +206,7 @@ pub fn write_stop<W: Write, A: Allocator>(
     requires { stop.now.state.pc < length p.now }
     ensures { Wrote (W.contents w.old) (W.contents w.new) result (spec.dump_text p.now (spec.shown_in bytes.now wire stop.now)) }
 {
-    write_dump(w, p, &dump_of(stop, bytes, wire))
+    write_heading(w, stop.place.packet, stop.place.step)?;
+    write_register_dump(w, p, stop)?;
+    write_ending(w, stop, bytes, wire)
 }

@@ -9,7 +9,7 @@ use itoa::Buffer;
 use std::io::Write;
 
 /// A number between two texts.
-pub(crate) fn write_with_number<W: Write>(
+pub(crate) fn write_numbered<W: Write>(
     w: &mut W,
     before: &[u8],
     n: u32,
@@ -37,10 +37,10 @@ pub fn write_fault<W: Write>(w: &mut W, fault: SessionFault) -> Result<(), Write
         SessionFault::NoInstruction => write_bytes(w, b"error: S4 no such instruction\n"),
         SessionFault::NoPacket => write_bytes(w, b"error: S5 no such packet\n"),
         SessionFault::NoStep(steps) => {
-            write_with_number(w, b"error: S6 packet has ", steps, b" steps\n")
+            write_numbered(w, b"error: S6 packet has ", steps, b" steps\n")
         }
         SessionFault::TooFarBack(most) => {
-            write_with_number(w, b"error: S7 at most ", most, b" back\n")
+            write_numbered(w, b"error: S7 at most ", most, b" back\n")
         }
         SessionFault::ZeroCount => write_bytes(w, b"error: S8 count is zero\n"),
         SessionFault::NoValue => write_bytes(w, b"error: S9 no value for this extension\n"),

@@ -10,7 +10,7 @@ use itoa::Buffer;
 use std::io::Write;
 
 /// The place, the instruction and the registers of a stop.
-fn write_registers<W: Write>(w: &mut W, stop: &Stop) -> Result<(), WriteFault>
+fn write_place_and_registers<W: Write>(w: &mut W, stop: &Stop) -> Result<(), WriteFault>
     ensures { Wrote (W.contents w.old) (W.contents w.new) result (spec.registers_text stop.now) }
 {
     let (mut packet, mut step) = (Buffer::new(), Buffer::new());
@@ -41,7 +41,7 @@ fn write_registers<W: Write>(w: &mut W, stop: &Stop) -> Result<(), WriteFault>
 pub fn write_stop_line<W: Write>(w: &mut W, stop: &Stop) -> Result<(), WriteFault>
     ensures { Wrote (W.contents w.old) (W.contents w.new) result (spec.stop_line stop.now) }
 {
-    write_registers(w, stop)?;
+    write_place_and_registers(w, stop)?;
     write_why(w, stop.why)
 }
 

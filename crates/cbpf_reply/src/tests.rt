@@ -3,10 +3,10 @@
 //! `RULE` is `ldh [12]`, `jeq #2048, l2, l5`, `ldb [23]`, `jeq #1, l4, l5`, `ret #65535`, `ret #0`: it
 //! passes ICMP packets.
 
-use crate::Why;
-use crate::dump::{Dump, write_dump};
 use crate::packet::write_row;
+use crate::{Place, Stop, Why, write_stop};
 use cbpf_code::{Ext, Program, check, read_words};
+use cbpf_machine::{Meter, Packet, State, Turn, Values, turn};
 use std::alloc::Global;
 use std::process::Abort;
 
@@ -25,26 +25,38 @@ fn arp_packet() -> [u8; 42] {
     bytes
 }
 
-/// At instruction 1 of the rule, on the first packet.
-fn at_jeq(bytes: &[u8]) -> Dump<'_> {
-    Dump {
-        packet: 1,
-        step: 2,
-        pc: 1,
-        a: 2054,
-        x: 0,
-        slots: [0; 16],
-        bytes,
-        wire: 42,
-        why: Why::Break,
+/// The stop in packet 1 after some turns.
+fn stop_after(rt: &impl Abort, p: &Program, packet: Packet<'_>, turns: u32, why: Why) -> Stop {
+    let values = Values::new();
+    let mut state = State::zero();
+    for _ in 0..turns {
+        let mut meter = Meter::new();
+        assert!(rt; state.pc() < p.len());
+        match turn(&mut meter, p, packet, &values, &state) {
+            Turn::Next(next) => state = next,
+            _ => panic!(rt; "the packet ends before"),
+        }
+    }
+    Stop {
+        place: Place {
+            packet: 1,
+            step: turns.saturating_add(1),
+        },
+        state,
+        why,
     }
 }
 
-fn check_dump(rt: &impl Abort, p: &Program, dump: &Dump<'_>, want: &[u8]) {
-    assert!(rt; dump.pc < p.len());
+/// At instruction 1 of the rule, on an ARP packet.
+fn at_jeq(rt: &impl Abort, p: &Program, bytes: &[u8]) -> Stop {
+    stop_after(rt, p, Packet { bytes, wire: 42 }, 1, Why::Break)
+}
+
+fn check_stop(rt: &impl Abort, p: &Program, stop: &Stop, bytes: &[u8], wire: u32, want: &[u8]) {
+    assert!(rt; stop.state.pc() < p.len());
     let mut room = [0u8; 2048];
     let mut writer: &mut [u8] = &mut room;
-    assert!(rt; write_dump(&mut writer, p, dump).is_ok());
+    assert!(rt; write_stop(&mut writer, p, stop, bytes, wire).is_ok());
     let size = 2048usize.saturating_sub(writer.len());
     let written = &room[..size];
     assert!(rt; written == want);
@@ -54,10 +66,12 @@ fn check_dump(rt: &impl Abort, p: &Program, dump: &Dump<'_>, want: &[u8]) {
 fn a_stop_at_a_breakpoint(rt: HostRuntime) {
     let p = program(&rt, rt.alloc(), RULE);
     let bytes = arp_packet();
-    check_dump(
+    check_stop(
         &rt,
         &p,
-        &at_jeq(&bytes),
+        &at_jeq(&rt, &p, &bytes),
+        &bytes,
+        42,
         b"-- packet 1, step 2 --\n\
 -- register dump --\n\
 pc:       [1]\n\
@@ -79,16 +93,16 @@ fn scratch_lines_are_longest_runs(rt: HostRuntime) {
         rt.alloc(),
         b"5,0 0 0 9,2 0 0 0,0 0 0 4,2 0 0 0,22 0 0 0",
     );
-    let mut dump = at_jeq(b"");
-    dump.step = 4;
-    dump.pc = 3;
-    dump.a = 4;
-    dump.slots[0] = 9;
-    dump.why = Why::Step;
-    check_dump(
+    let packet = Packet {
+        bytes: b"",
+        wire: 42,
+    };
+    check_stop(
         &rt,
         &p,
-        &dump,
+        &stop_after(&rt, &p, packet, 3, Why::Step),
+        b"",
+        42,
         b"-- packet 1, step 4 --\n\
 -- register dump --\n\
 pc:       [3]\n\
@@ -106,25 +120,30 @@ len: 0 wire: 42\n\
 
 #[test]
 fn slots_of_many_values(rt: HostRuntime) {
-    let p = program(&rt, rt.alloc(), b"2,32 0 0 4294963256,22 0 0 0");
-    let mut dump = at_jeq(b"");
-    dump.packet = 18446744073709551615;
-    dump.step = 1;
-    dump.pc = 0;
-    dump.a = 4294967295;
-    dump.x = 4026531840;
-    dump.slots = [7, 7, 0, 7, 7, 7, 0, 0, 0, 1, 10, 10, 10, 2748, 2748, 2748];
-    dump.wire = 4294967295;
-    dump.why = Why::Unknown(Ext::Rand);
-    check_dump(
+    let p = program(
+        &rt,
+        rt.alloc(),
+        b"20,0 0 0 7,2 0 0 0,2 0 0 1,2 0 0 3,2 0 0 4,2 0 0 5,0 0 0 1,2 0 0 9,\
+0 0 0 10,2 0 0 10,2 0 0 11,2 0 0 12,0 0 0 2748,2 0 0 13,2 0 0 14,2 0 0 15,\
+1 0 0 4026531840,0 0 0 4294967295,32 0 0 4294963256,22 0 0 0",
+    );
+    let packet = Packet {
+        bytes: b"",
+        wire: 4294967295,
+    };
+    let mut stop = stop_after(&rt, &p, packet, 18, Why::Unknown(Ext::Rand));
+    stop.place.packet = 18446744073709551615;
+    check_stop(
         &rt,
         &p,
-        &dump,
-        b"-- packet 18446744073709551615, step 1 --\n\
+        &stop,
+        b"",
+        4294967295,
+        b"-- packet 18446744073709551615, step 19 --\n\
 -- register dump --\n\
-pc:       [0]\n\
+pc:       [18]\n\
 code:     [32] jt[0] jf[0] k[4294963256]\n\
-curr:     l0:\tld rand\n\
+curr:     l18:\tld rand\n\
 A:        [ffffffff][4294967295]\n\
 X:        [f0000000][4026531840]\n\
 M[0,1]:   [00000007][7]\n\
@@ -143,13 +162,16 @@ len: 0 wire: 4294967295\n\
 #[test]
 fn a_packet_of_no_bytes_has_no_row(rt: HostRuntime) {
     let p = program(&rt, rt.alloc(), b"2,128 0 0 0,22 0 0 0");
-    let mut dump = at_jeq(b"");
-    dump.a = 60;
-    dump.wire = 60;
-    check_dump(
+    let packet = Packet {
+        bytes: b"",
+        wire: 60,
+    };
+    check_stop(
         &rt,
         &p,
-        &dump,
+        &stop_after(&rt, &p, packet, 1, Why::Break),
+        b"",
+        60,
         b"-- packet 1, step 2 --\n\
 -- register dump --\n\
 pc:       [1]\n\
@@ -167,19 +189,19 @@ len: 0 wire: 60\n\
 #[test]
 fn a_seventeenth_byte_has_a_row_of_its_own(rt: HostRuntime) {
     let p = program(&rt, rt.alloc(), b"1,6 255 9 1");
-    let mut dump = at_jeq(b"\x00\x01\x09\x0a\x0f\x10\x1f\x7f\x80\x99\x9a\xa0\xaf\xf0\xfe\xff\xc3");
-    dump.pc = 0;
-    dump.step = 1;
-    check_dump(
+    let bytes = b"\x00\x01\x09\x0a\x0f\x10\x1f\x7f\x80\x99\x9a\xa0\xaf\xf0\xfe\xff\xc3";
+    check_stop(
         &rt,
         &p,
-        &dump,
+        &stop_after(&rt, &p, Packet { bytes, wire: 42 }, 0, Why::Break),
+        bytes,
+        42,
         b"-- packet 1, step 1 --\n\
 -- register dump --\n\
 pc:       [0]\n\
 code:     [6] jt[255] jf[9] k[1]\n\
 curr:     l0:\tret #0x1\n\
-A:        [00000806][2054]\n\
+A:        [00000000][0]\n\
 X:        [00000000][0]\n\
 M[0,15]:  [00000000][0]\n\
 -- packet dump --\n\
@@ -210,10 +232,10 @@ fn a_writer_without_room_is_a_fault(rt: HostRuntime) {
     let p = program(&rt, rt.alloc(), RULE);
     let bytes = arp_packet();
     let mut room = [0u8; 400];
-    let dump = at_jeq(&bytes);
-    assert!(rt; dump.pc < p.len());
+    let stop = at_jeq(&rt, &p, &bytes);
+    assert!(rt; stop.state.pc() < p.len());
     for size in 0..400usize {
         let mut writer: &mut [u8] = &mut room[..size];
-        assert!(rt; write_dump(&mut writer, &p, &dump).is_err() == (size < 395));
+        assert!(rt; write_stop(&mut writer, &p, &stop, &bytes, 42).is_err() == (size < 395));
     }
 }
