@@ -54,13 +54,14 @@ LONG = "4096," + "7 0 0 0," * 4095 + "6 0 0 1"
 
 @dataclasses.dataclass
 class Comparison:
-    """A command after the lines `head`, and the same command after the lines `base`."""
+    """A command after the lines `head`, and `beside`, or the same command, after the lines `base`."""
 
     what: str
     head: str
     than: str
     base: str
     command: str
+    beside: str = ""
 
 
 def timed(command, script, rounds=5):
@@ -193,7 +194,8 @@ def comparisons(folder, file):
         with_condition = quiet + "breakpoint 1 a 1\n"
         never = "a breakpoint that is never reached"
         yield Comparison(f"run with {never}, {what}", with_breakpoint, "a run without", quiet, "run")
-        yield Comparison(f"stops with {never}, {what}", with_breakpoint, "stops without", quiet, "stops")
+        yield Comparison(f"stops with {never}, {what}", with_breakpoint, "a run without", quiet, "stops", "run")
+        yield Comparison(f"a step past the capture's end, {what}", quiet, "a run", quiet, "step 1000000000", "run")
         name = f"run with a condition that never holds, {what}"
         yield Comparison(name, with_condition, f"a run with {never}", with_breakpoint, "run")
     mark, seven = (f"load bpf {words}\nload pcap {file}\n" for words in (MARK, SEVEN))
@@ -242,7 +244,7 @@ def print_compared(folder):
     for compared in measurable(folder, COMPARED_PACKETS):
         ours, theirs, ratio, least = by_turns(
             lambda: seconds_alone(folder, compared.head, compared.command),
-            lambda: seconds_alone(folder, compared.base, compared.command),
+            lambda: seconds_alone(folder, compared.base, compared.beside or compared.command),
         )
         print(
             f"{compared.what}: {ours / COMPARED_PACKETS * 1e9:.0f} ns a packet, {ratio:.2f} times {compared.than}"
@@ -253,7 +255,7 @@ def print_compared(folder):
 def print_counts(folder):
     for compared in measurable(folder, COUNTED_PACKETS):
         ours = instructions_alone(folder, compared.head, compared.command) / COUNTED_PACKETS
-        theirs = instructions_alone(folder, compared.base, compared.command) / COUNTED_PACKETS
+        theirs = instructions_alone(folder, compared.base, compared.beside or compared.command) / COUNTED_PACKETS
         print(
             f"{compared.what}: {ours:.1f} machine instructions a packet, {ours / theirs:.2f} times {compared.than}"
             f" ({theirs:.1f})"
