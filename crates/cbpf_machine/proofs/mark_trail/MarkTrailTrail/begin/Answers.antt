@@ -1,10 +1,10 @@
-use Rattle.std.proofs.Common.{◌≡◌, ◌+◌, ◌-◌, ◌∙◌, ◌<◌, ◌≤◌, [], ◌∷◌, length, take, length-take, arith, refl, sym, subst, Some, None, false, true, slice_get}
+use Rattle.std.proofs.Common.{◌≡◌, ◌+◌, ◌-◌, ◌∙◌, [], take, length-take, arith, refl, sym, subst, Some, None, slice_get}
 use Rattle.std.proofs.lemmas.Option.{slice_get_within}
 use Rattle.cbpf_machine.specs.Machine.{machine_of}
 use Rattle.cbpf_machine.specs.Registers.{zero_state}
 use Rattle.cbpf_machine.specs.Trace.{trace, outcome}
 use Rattle.cbpf_machine.specs.Trail.{Marks}
-use Rattle.cbpf_machine.specs.Follow.{Follows, Goes, Passes, Unwatched, is_watched}
+use Rattle.cbpf_machine.specs.Follow.{Follows, Passes, Unwatched}
 use Rattle.cbpf_machine.specs.declared.follow.Followed.TheVariants.{Watched, Ended}
 use Rattle.cbpf_machine.proofs.SoundLemmas.{sound_few}
 use Rattle.cbpf_machine.proofs.TraceLemmas.{goes_at, length-trace_from}

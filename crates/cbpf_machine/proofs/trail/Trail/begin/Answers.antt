@@ -1,12 +1,10 @@
-use Rattle.std.proofs.Common.{◌≡◌, ◌+◌, ◌-◌, ◌∙◌, ◌<◌, ◌≤◌, [], ◌∷◌, length, take, length-take, arith, refl, sym, subst, Some, None, false, true}
+use Rattle.std.proofs.Common.{◌≡◌, ◌+◌, ◌-◌, ◌∙◌, [], ◌∷◌, arith, sym, subst}
 use Rattle.std.proofs.lemmas.Option.{slice_get_within}
 use Rattle.cbpf_machine.specs.Machine.{machine_of}
 use Rattle.cbpf_machine.specs.Registers.{zero_state}
-use Rattle.cbpf_machine.specs.Trace.{trace, outcome}
-use Rattle.cbpf_machine.specs.Follow.{Follows, Goes, Passes, is_watched}
-use Rattle.cbpf_machine.proofs.SoundLemmas.{sound_few, sound_some}
-use Rattle.cbpf_machine.proofs.TraceLemmas.{goes_at, goes_from_entry, length-trace_from}
-use Rattle.cbpf_machine.specs.declared.follow.Followed.TheVariants.{Watched, Ended}
+use Rattle.cbpf_machine.specs.Trace.{trace}
+use Rattle.cbpf_machine.proofs.SoundLemmas.{sound_few}
+use Rattle.cbpf_machine.proofs.TraceLemmas.{length-trace_from}
 use Rattle.cbpf_machine.proofs.FollowLemmas.{start_at, start_taken, start_watched, start_follows, start_ends}
 use Rattle.cbpf_machine.proofs.trail.Trail.begin.Goals as goal
 
