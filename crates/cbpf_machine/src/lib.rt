@@ -39,6 +39,8 @@ pub use values::Values;
 pub use watched::Watched;
 
 #[cfg(test)]
+mod follow_tests;
+#[cfg(test)]
 mod tests;
 #[cfg(test)]
 mod trail_tests;

@@ -3,7 +3,7 @@ use Rattle.cbpf_machine.specs.Registers.{zero_state}
 use Rattle.cbpf_machine.specs.Machine.{machine_of}
 use Rattle.cbpf_machine.proofs.TraceLemmas.{length-trace_from}
 use Rattle.cbpf_machine.proofs.SoundLemmas.{sound_few}
-use Rattle.cbpf_machine.proofs.trail_tests.begun.Goals as goal
+use Rattle.cbpf_machine.proofs.follow_tests.begun.Goals as goal
 
 pub begin-followed-requires-clause-spare : goal.begin-followed-requires-clause-spare
 begin-followed-requires-clause-spare g c =

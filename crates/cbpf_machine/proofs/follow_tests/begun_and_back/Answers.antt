@@ -5,7 +5,7 @@ use Rattle.cbpf_machine.specs.Machine.{machine_of}
 use Rattle.cbpf_machine.specs.Trace.{trace}
 use Rattle.cbpf_machine.proofs.TraceLemmas.{length-trace_from}
 use Rattle.cbpf_machine.proofs.SoundLemmas.{sound_few}
-use Rattle.cbpf_machine.proofs.trail_tests.begun_and_back.Goals as goal
+use Rattle.cbpf_machine.proofs.follow_tests.begun_and_back.Goals as goal
 
 pub begin-requires-clause-spare : goal.begin-requires-clause-spare
 begin-requires-clause-spare g c =
