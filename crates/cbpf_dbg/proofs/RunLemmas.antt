@@ -14,13 +14,12 @@ use Rattle.cbpf_reply.specs.declared.reply.Why.{Why}
 use Rattle.cbpf_reply.specs.declared.reply.Why.TheVariants as why
 use Rattle.cbpf_reply.specs.declared.reply.RunReply.TheVariants.{Stopped, Limit, Finished}
 use Rattle.cbpf_dbg.specs.declared.cursor.Cursor.{Cursor}
-use Rattle.cbpf_dbg.specs.declared.cursor.Moved.TheVariants as moved
 use Rattle.cbpf_dbg.specs.Joined.{ahead, rest, counts, stop_at, why_of, is_unknown, is_after, stops}
 use Rattle.cbpf_dbg.specs.Hits.{hit_for}
 use Rattle.cbpf_dbg.specs.View.{View, start}
 use Rattle.cbpf_dbg.specs.Commands.{run_to, run_out, within_limit, finished, limited}
-use Rattle.cbpf_dbg.specs.Cursor.{Stands, Moves, PassesTo, hit_of, view_at, entry_here, Runs, StepsOn, Below, UpTo, NotBefore, is_limit}
-use Rattle.cbpf_dbg.proofs.JoinedLemmas.{rest-hit, rest-pass, rest-none}
+use Rattle.cbpf_dbg.specs.Cursor.{Stands, view_at, entry_here, Runs, StepsOn, Below, UpTo, NotBefore, is_limit}
+use Rattle.cbpf_dbg.proofs.JoinedLemmas.{rest-hit, rest-none}
 use Rattle.cbpf_dbg.specs.Breakpoints.{Breakpoints, carries}
 
 -- ---- the limit
@@ -147,20 +146,6 @@ rest-behind machine capture breakpoints place h more e =
 
 pub rest-head : (machine : Machine) (capture : List Record) (breakpoints : Breakpoints) (place : Place) (h : Stop) (more : List Stop) → rest machine capture breakpoints place ≡ h ∷ more → is_after place h.place ≡ true
 rest-head machine capture breakpoints place h more e = filter-head (λ (k : Stop). is_after place k.place) (stops machine capture breakpoints) h more e
-
--- what passes to a hit from one cursor does so from an earlier one, with no hit between
-pub passes_from : (machine : Machine) (capture : List Record) (breakpoints : Breakpoints) (r : Record) (old mid new : Cursor) (y : Option Why) → mid.place.packet ≡ old.place.packet
-    → rest machine capture breakpoints mid.place ≡ rest machine capture breakpoints old.place → PassesTo machine capture breakpoints r mid y new → PassesTo machine capture breakpoints r old y new
-passes_from machine capture breakpoints r old mid new None packet same h = (h.0 ∙ ap (λ n. record { packet = n + 1; step = 0 }) packet, h.1 ∙ same)
-passes_from machine capture breakpoints r old mid new (Some y) packet same h = (h.0, h.1 ∙ packet, h.2 ∙ same, h.3, h.4)
-
--- no hit is passed from an entry that is none
-pub passes_entry : (machine : Machine) (capture : List Record) (breakpoints : Breakpoints) (r : Record) (old new : Cursor) → slice_get capture (new.place.packet - 1) ≡ Some r
-    → Moves machine capture old moved.Entry new → None ≡ hit_of machine breakpoints r new → rest machine capture breakpoints new.place ≡ rest machine capture breakpoints old.place
-passes_entry machine capture breakpoints r old new at m none =
-    let same : m.0 ≡ r = (let there = m.1 in cc) in
-    let no = hit_none (carries breakpoints new.state) (turn machine m.0.bytes m.0.wire new.state) (rw same (sym none)) in
-    sym (rest-pass machine capture breakpoints old.place new.place (entry_here machine m.0 new) m.4 no)
 
 place_by : (q : Place) (packet : ℕ) → q.packet ≡ packet → q.step ≡ 0 → q ≡ record { packet = packet; step = 0 }
 place_by q packet e before = rw (e, before) refl
