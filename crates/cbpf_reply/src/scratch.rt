@@ -71,7 +71,13 @@ fn write_slots<W: Write>(w: &mut W, first: usize, last: usize, value: u32) -> Re
     )
 }
 
-fn write_run<W: Write>(w: &mut W, first: usize, last: usize, value: u32) -> Result<(), WriteFault>
+/// The line of slots `first` to `last`, which may be one slot.
+fn write_scratch_line<W: Write>(
+    w: &mut W,
+    first: usize,
+    last: usize,
+    value: u32,
+) -> Result<(), WriteFault>
     requires { first ≤ last }
     ensures { Wrote (W.contents w.old) (W.contents w.new) result (spec.scratch_line (record { first = first; last = last; value = value })) }
 {
@@ -89,7 +95,7 @@ pub fn write_scratch<W: Write>(w: &mut W, slots: &[u32]) -> Result<(), WriteFaul
     let mut first = 0;
     while first < slots.len() {
         let last = run_end(slots, first);
-        write_run(w, first, last, slots[first])?;
+        write_scratch_line(w, first, last, slots[first])?;
         first = last + 1;
     }
     Ok(())
