@@ -48,8 +48,8 @@ pub fn write_decimal<W: Write>(w: &mut W, n: u128) -> Result<(), WriteFault>
     write_bytes(w, buffer.format(n).as_bytes())
 }
 
-/// The glyph of a number's last hexadecimal digit.
-fn glyph(n: u32) -> u8
+/// The byte of a number's last hexadecimal digit.
+fn last_hex_digit(n: u32) -> u8
     ensures { result ≡ digit_glyph false (n % 16) }
 {
     let digit = (n % 16) as u8;
@@ -96,14 +96,14 @@ pub(crate) fn eight_digits(n: u32) -> [u8; 8]
     let n6 = n5 / 16;
     let n7 = n6 / 16;
     [
-        glyph(n7),
-        glyph(n6),
-        glyph(n5),
-        glyph(n4),
-        glyph(n3),
-        glyph(n2),
-        glyph(n1),
-        glyph(n),
+        last_hex_digit(n7),
+        last_hex_digit(n6),
+        last_hex_digit(n5),
+        last_hex_digit(n4),
+        last_hex_digit(n3),
+        last_hex_digit(n2),
+        last_hex_digit(n1),
+        last_hex_digit(n),
     ]
 }
 

@@ -3,9 +3,9 @@ ghost use Rattle.std.specs.Prelude.{◌≡◌, ◌<◌, ◌-◌, false};
 ghost use Rattle.std.specs.Fmt.{digit_glyph};
 ghost use Rattle.cbpf_code.specs.Text.{hex, spaces};
 
-/// The glyph of a hexadecimal digit.
+/// The byte of a hexadecimal digit.
 #[inline(always)]
-pub fn glyph(digit: u8) -> u8
+pub fn hex_digit(digit: u8) -> u8
     requires { digit < 16 }
     ensures { result ≡ digit_glyph false digit }
 {
@@ -28,14 +28,14 @@ pub fn eight_digits(n: u32) -> [u8; 8]
     let n6 = n5 / 16;
     let n7 = n6 / 16;
     [
-        glyph((n7 % 16) as u8),
-        glyph((n6 % 16) as u8),
-        glyph((n5 % 16) as u8),
-        glyph((n4 % 16) as u8),
-        glyph((n3 % 16) as u8),
-        glyph((n2 % 16) as u8),
-        glyph((n1 % 16) as u8),
-        glyph((n % 16) as u8),
+        hex_digit((n7 % 16) as u8),
+        hex_digit((n6 % 16) as u8),
+        hex_digit((n5 % 16) as u8),
+        hex_digit((n4 % 16) as u8),
+        hex_digit((n3 % 16) as u8),
+        hex_digit((n2 % 16) as u8),
+        hex_digit((n1 % 16) as u8),
+        hex_digit((n % 16) as u8),
     ]
 }
 

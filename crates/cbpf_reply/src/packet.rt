@@ -4,7 +4,7 @@ ghost use Rattle.std.specs.List.{flat_map};
 ghost use Rattle.cbpf_code.specs.Writing.{Wrote};
 ghost use Rattle.cbpf_reply.specs.Packet as spec;
 
-use crate::columns::{glyph, spaces_to_five};
+use crate::columns::{hex_digit, spaces_to_five};
 use cbpf_code::{WriteFault, write_parts};
 use itoa::Buffer;
 use std::io::Write;
@@ -20,8 +20,8 @@ fn cells(row: &[u8]) -> [u8; 48]
     let mut cells = [b' '; 48];
     for (i, b) in row.iter().enumerate() {
         cells[3 * i] = b' ';
-        cells[3 * i + 1] = glyph(*b / 16);
-        cells[3 * i + 2] = glyph(*b % 16);
+        cells[3 * i + 1] = hex_digit(*b / 16);
+        cells[3 * i + 2] = hex_digit(*b % 16);
     }
     cells
 }

@@ -4,4 +4,4 @@ use Rattle.cbpf_reply.proofs.columns.eight_digits.Goals as goal
 
 pub returns : goal.returns
 returns c =
-    rw (hex-eight c.args.n (omega arith), c.glyph.ensures, c.glyph-2.ensures, c.glyph-3.ensures, c.glyph-4.ensures, c.glyph-5.ensures, c.glyph-6.ensures, c.glyph-7.ensures, c.glyph-8.ensures) refl
+    rw (hex-eight c.args.n (omega arith), c.hex_digit.ensures, c.hex_digit-2.ensures, c.hex_digit-3.ensures, c.hex_digit-4.ensures, c.hex_digit-5.ensures, c.hex_digit-6.ensures, c.hex_digit-7.ensures, c.hex_digit-8.ensures) refl
