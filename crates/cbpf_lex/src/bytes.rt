@@ -42,11 +42,7 @@ pub fn name_len(text: &[u8]) -> usize
     ensures within { result ≤ length text.now }
     ensures run { result ≡ prefix_len is_name_byte text.now }
 {
-    let mut n = 0;
-    while n < text.len() && is_name_byte(text[n]) {
-        n += 1;
-    }
-    n
+    text.iter().take_while(|b| is_name_byte(**b)).count()
 }
 
 /// How many blanks are at the front.
@@ -54,11 +50,7 @@ pub fn blanks_len(text: &[u8]) -> usize
     ensures within { result ≤ length text.now }
     ensures run { result ≡ prefix_len is_blank text.now }
 {
-    let mut n = 0;
-    while n < text.len() && is_blank(text[n]) {
-        n += 1;
-    }
-    n
+    text.iter().take_while(|b| is_blank(**b)).count()
 }
 
 /// How many bytes are before the first newline.
@@ -66,11 +58,7 @@ pub fn line_len(text: &[u8]) -> usize
     ensures within { result ≤ length text.now }
     ensures run { result ≡ prefix_len (λ c. not (c == 10)) text.now }
 {
-    let mut n = 0;
-    while n < text.len() && text[n] != b'\n' {
-        n += 1;
-    }
-    n
+    text.iter().take_while(|b| **b != b'\n').count()
 }
 
 /// Whether the last line has only blanks.
