@@ -48,12 +48,12 @@ marks-decimal at n rest h stop =
 record Reads (text : List ℕ) (j m : ℕ) (ns : List ℕ) : Type 0 where
   good : (at : ℕ) → first_fault j (marks_from at text) ≡ None
   count : (at : ℕ) → length (marks_from at text) ≡ m
-  told : (at : ℕ) → numbers (marks_from at text) ≡ ns
+  spelled : (at : ℕ) → numbers (marks_from at text) ≡ ns
 
 reads-newline : Reads (codes "\n") 2 0 []
 reads-newline =
     let e = λ (at : ℕ). law-blank at 10 [] refl ∙ law-empty (at + 1) in
-    record { good = λ at. ap (first_fault 2) (e at); count = λ at. ap length (e at); told = λ at. ap numbers (e at) }
+    record { good = λ at. ap (first_fault 2) (e at); count = λ at. ap length (e at); spelled = λ at. ap numbers (e at) }
 
 reads-space : (text : List ℕ) (j m : ℕ) (ns : List ℕ) → Reads text j m ns → Reads (32 ∷ text) j m ns
 reads-space text j m ns r =
@@ -61,7 +61,7 @@ reads-space text j m ns r =
     record {
       good = λ at. ap (first_fault j) (e at) ∙ r.good (at + 1);
       count = λ at. ap length (e at) ∙ r.count (at + 1);
-      told = λ at. ap numbers (e at) ∙ r.told (at + 1);
+      spelled = λ at. ap numbers (e at) ∙ r.spelled (at + 1);
     }
 
 -- the comma after the count, and that after each instruction
@@ -71,14 +71,14 @@ reads-comma text m ns r =
     record {
       good = λ at. ap (first_fault 1) (e at) ∙ r.good (at + 1);
       count = λ at. omega (arith, ap length (e at), r.count (at + 1));
-      told = λ at. ap numbers (e at) ∙ r.told (at + 1);
+      spelled = λ at. ap numbers (e at) ∙ r.spelled (at + 1);
     }
 
 reads-next_comma : (text : List ℕ) (m : ℕ) (ns : List ℕ) → Reads text 1 m ns → Reads text 6 m ns
 reads-next_comma text m ns r = record {
   good = λ at. first_fault-shift 0 (marks_from at text) ∙ r.good at;
   count = r.count;
-  told = r.told;
+  spelled = r.spelled;
 }
 
 good-number : (at n range : ℕ) → n < 2 ^ 64 → n < range → number_fault range (run at (decimal n)) ≡ None
@@ -93,7 +93,7 @@ reads-number text n j m ns stop h good r =
     record {
       good = λ at. ap (first_fault j) (e at) ∙ ap (λ o. or_else o (first_fault (suc j) (marks_from (at + length (decimal n)) text))) (good at) ∙ r.good (at + length (decimal n));
       count = λ at. omega (arith, ap length (e at), r.count (at + length (decimal n)));
-      told = λ at. ap numbers (e at) ∙ ap (λ v. v ∷ numbers (marks_from (at + length (decimal n)) text)) (number-decimal n h) ∙ ap (λ (l : List ℕ). n ∷ l) (r.told (at + length (decimal n)));
+      spelled = λ at. ap numbers (e at) ∙ ap (λ v. v ∷ numbers (marks_from (at + length (decimal n)) text)) (number-decimal n h) ∙ ap (λ (l : List ℕ). n ∷ l) (r.spelled (at + length (decimal n)));
     }
 
 -- ---- instructions
@@ -131,5 +131,5 @@ pub words-spell : (list : List Insn) → All InRange list → length list ≤ 42
 words-spell list h l =
     let r : Reads (words list) 0 (5 * length list + 1 + 1) (length list ∷ fields_of list) = reads-words list (omega (arith, l)) h in
     let n = r.count 0 in
-    let w : IsReadWhole (words list) (length list) list = whole-by (words list) (length list) list (r.good 0) (omega (arith, n)) (inr (omega (arith, n))) (r.told 0) in
+    let w : IsReadWhole (words list) (length list) list = whole-by (words list) (length list) list (r.good 0) (omega (arith, n)) (inr (omega (arith, n))) (r.spelled 0) in
     record { loose = w.loose; counted = w.counted }

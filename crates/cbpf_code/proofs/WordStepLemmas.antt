@@ -15,7 +15,7 @@ passes-then text j at n mid m end ns ms x y =
       after = omega (arith, x.after, y.after);
       good = x.good ∙ y.good ∙ ap (λ i. first_fault i (marks_after text end)) sum;
       count = omega (arith, x.count, y.count);
-      told = x.told ∙ ap (λ (t : List ℕ). ns ++ t) y.told ∙ sym (append_assoc ns ms (numbers (marks_after text end)));
+      spelled = x.spelled ∙ ap (λ (t : List ℕ). ns ++ t) y.spelled ∙ sym (append_assoc ns ms (numbers (marks_after text end)));
     }
 
 -- marks are due in fives
@@ -60,7 +60,7 @@ read-start text c a b x y = record {
   within = y.within;
   good = x.good ∙ y.good;
   marks_so_far = omega (arith, x.count, y.count);
-  told = x.told ∙ ap (λ (t : List ℕ). c ∷ t) y.told;
+  spelled = x.spelled ∙ ap (λ (t : List ℕ). c ∷ t) y.spelled;
 }
 
 pub read-next : (text : List ℕ) (c : ℕ) (list : List Insn) (i : Insn) (at mid end : ℕ) → IsRead text c list at → Passes text 2 at 4 (i.code ∷ i.jt ∷ i.jf ∷ i.k ∷ []) mid → Passes text 1 mid 1 [] end → IsRead text c (list ++ i ∷ []) end
@@ -68,32 +68,32 @@ read-next text c list i at mid end r x y = record {
   within = y.within;
   good = r.good ∙ x.good ∙ first_fault-shift 0 (marks_after text mid) ∙ y.good;
   marks_so_far = omega (arith, r.marks_so_far, x.count, y.count, length-append list (i ∷ []));
-  told = r.told ∙ ap (λ (t : List ℕ). c ∷ (fields_of list ++ t)) (x.told ∙ ap (λ (t : List ℕ). i.code ∷ i.jt ∷ i.jf ∷ i.k ∷ t) y.told) ∙ ap (λ (t : List ℕ). c ∷ t) (fields_of-push list i (numbers (marks_after text end)));
+  spelled = r.spelled ∙ ap (λ (t : List ℕ). c ∷ (fields_of list ++ t)) (x.spelled ∙ ap (λ (t : List ℕ). i.code ∷ i.jt ∷ i.jf ∷ i.k ∷ t) y.spelled) ∙ ap (λ (t : List ℕ). c ∷ t) (fields_of-push list i (numbers (marks_after text end)));
 }
 
 -- the end, after a comma
 pub whole-by : (text : List ℕ) (c : ℕ) (list : List Insn) → first_fault 0 (marks text) ≡ None → 2 ≤ length (marks text) → (length (marks text) % 5 ≡ 1) ⊎ (length (marks text) % 5 ≡ 2) → numbers (marks text) ≡ c ∷ fields_of list → IsReadWhole text c list
-whole-by text c list good begun ended told = record {
+whole-by text c list good begun ended spelled = record {
   loose = record {
     none_bad = good;
     begun = begun;
     ended = ended;
-    reads = sym (ap in_fours (numbers-drop (marks text) good begun ∙ ap (λ (ns : List ℕ). drop 1 ns) told) ∙ in_fours-fields list);
+    reads = sym (ap in_fours (numbers-drop (marks text) good begun ∙ ap (λ (ns : List ℕ). drop 1 ns) spelled) ∙ in_fours-fields list);
   };
-  counted = ap (λ (ns : List ℕ). slice_index ns 0) told;
+  counted = ap (λ (ns : List ℕ). slice_index ns 0) spelled;
 }
 
 pub read-done : (text : List ℕ) (c : ℕ) (list : List Insn) (at : ℕ) → IsRead text c list at → marks_after text at ≡ [] → IsReadWhole text c list
 read-done text c list at r e =
     let len : length (marks_after text at) ≡ 0 = ap length e in
-    whole-by text c list (r.good ∙ ap (first_fault 2) e) (omega (arith, r.marks_so_far)) (inr (omega (arith, r.marks_so_far))) (r.told ∙ ap (λ (ms : List Mark). c ∷ (fields_of list ++ numbers ms)) e ∙ ap (λ (ns : List ℕ). c ∷ ns) (append-nil (fields_of list)))
+    whole-by text c list (r.good ∙ ap (first_fault 2) e) (omega (arith, r.marks_so_far)) (inr (omega (arith, r.marks_so_far))) (r.spelled ∙ ap (λ (ms : List Mark). c ∷ (fields_of list ++ numbers ms)) e ∙ ap (λ (ns : List ℕ). c ∷ ns) (append-nil (fields_of list)))
 
 -- and after an instruction
 pub read-last : (text : List ℕ) (c : ℕ) (list : List Insn) (i : Insn) (at end : ℕ) → IsRead text c list at → Passes text 2 at 4 (i.code ∷ i.jt ∷ i.jf ∷ i.k ∷ []) end → marks_after text end ≡ [] → IsReadWhole text c (list ++ i ∷ [])
 read-last text c list i at end r x e =
     let len : length (marks_after text end) ≡ 0 = ap length e in
     whole-by text c (list ++ i ∷ []) (r.good ∙ x.good ∙ ap (first_fault 6) e) (omega (arith, r.marks_so_far, x.count)) (inl (omega (arith, r.marks_so_far, x.count)))
-    (r.told ∙ ap (λ (t : List ℕ). c ∷ (fields_of list ++ t)) (x.told ∙ ap (λ (ms : List Mark). i.code ∷ i.jt ∷ i.jf ∷ i.k ∷ numbers ms) e) ∙ ap (λ (t : List ℕ). c ∷ t) (fields_of-push list i [] ∙ append-nil (fields_of (list ++ i ∷ []))))
+    (r.spelled ∙ ap (λ (t : List ℕ). c ∷ (fields_of list ++ t)) (x.spelled ∙ ap (λ (ms : List Mark). i.code ∷ i.jt ∷ i.jf ∷ i.k ∷ numbers ms) e) ∙ ap (λ (t : List ℕ). c ∷ t) (fields_of-push list i [] ∙ append-nil (fields_of (list ++ i ∷ []))))
 
 -- ---- refusals
 abbrev IsPlaced : WordFault → Type 0

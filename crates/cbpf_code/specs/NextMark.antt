@@ -10,12 +10,12 @@ abbrev pub mark_of : List ℕ → Found → Mark
 mark_of text f = elim f.lexeme [ Digits v ↦ run f.place (slice_range text f.place f.end) | Byte b ↦ single f.place b ]
 
 -- a number is read up to a cap that no field reaches
-abbrev pub ToldBy : List ℕ → Found → Lexeme → Type 0
-ToldBy text f (Digits v) = v ≡ min (number (slice_range text f.place f.end)) (2 ^ 32)
-ToldBy text f (Byte b) = Unit {0}
+abbrev pub HasValue : List ℕ → Found → Lexeme → Type 0
+HasValue text f (Digits v) = v ≡ min (number (slice_range text f.place f.end)) (2 ^ 32)
+HasValue text f (Byte b) = Unit {0}
 
 pub record IsNextMark (text : List ℕ) (at : ℕ) (f : Found) : Type 0 where
   pub within : f.end ≤ length text
   pub after : at < f.end
   pub first : marks_after text at ≡ mark_of text f ∷ marks_after text f.end
-  pub told : ToldBy text f f.lexeme
+  pub value : HasValue text f f.lexeme

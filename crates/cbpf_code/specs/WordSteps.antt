@@ -11,7 +11,7 @@ pub record Passes (text : List ℕ) (j at n : ℕ) (ns : List ℕ) (end : ℕ) :
   pub after : at < end
   pub good : first_fault j (marks_after text at) ≡ first_fault (n + j) (marks_after text end)
   pub count : length (marks_after text at) ≡ n + length (marks_after text end)
-  pub told : numbers (marks_after text at) ≡ ns ++ numbers (marks_after text end)
+  pub spelled : numbers (marks_after text at) ≡ ns ++ numbers (marks_after text end)
 
 -- the marks from a place on are bad, or fewer than n are left and the fault is that of the end
 pub record Stops (text : List ℕ) (j at n : ℕ) (e at_end : WordFault) : Type 0 where
@@ -27,7 +27,7 @@ pub record IsRead (text : List ℕ) (count : ℕ) (list : List Insn) (at : ℕ) 
   pub within : at ≤ length text
   pub good : first_fault 0 (marks text) ≡ first_fault 2 (marks_after text at)
   pub marks_so_far : length (marks text) ≡ 2 + 5 * length list + length (marks_after text at)
-  pub told : numbers (marks text) ≡ count ∷ (fields_of list ++ numbers (marks_after text at))
+  pub spelled : numbers (marks text) ≡ count ∷ (fields_of list ++ numbers (marks_after text at))
 
 -- the whole text was read
 pub record IsReadWhole (text : List ℕ) (count : ℕ) (list : List Insn) : Type 0 where

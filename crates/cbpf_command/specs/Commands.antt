@@ -176,7 +176,7 @@ by_words (w ∷ ws) text = by_reading (reading_in readings w) ws text
 unfoldable pub command_of : List ℕ → Result (Option Spelled) LineRefusal
 command_of line = by_words (words line) (trimmed (behind 2 line))
 
--- the same of the answer of the code
-abbrev pub told : Result (Option Command) LineRefusal → Result (Option Spelled) LineRefusal
-told (Ok c) = Ok (option_map meaning c)
-told (Err e) = Err e
+-- what the answer of the code stands for
+abbrev pub result_meaning : Result (Option Command) LineRefusal → Result (Option Spelled) LineRefusal
+result_meaning (Ok c) = Ok (option_map meaning c)
+result_meaning (Err e) = Err e

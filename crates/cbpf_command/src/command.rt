@@ -207,7 +207,7 @@ fn load_by(text: &[u8]) -> Option<Command<'_>>
 
 /// What the arguments spell, or that they are wrong.
 fn or_wrong(command: Option<Command<'_>>) -> Result<Option<Command<'_>>, LineRefusal>
-    ensures { spec.told result ≡ spec.or_wrong (option_map spec.meaning command.entry) }
+    ensures { spec.result_meaning result ≡ spec.or_wrong (option_map spec.meaning command.entry) }
 {
     match command {
         Some(command) => Ok(Some(command)),
@@ -217,7 +217,7 @@ fn or_wrong(command: Option<Command<'_>>) -> Result<Option<Command<'_>>, LineRef
 
 /// The command of this name with what stands after it.
 fn command_by<'a>(name: &[u8], text: &'a [u8]) -> Result<Option<Command<'a>>, LineRefusal>
-    ensures { spec.told result ≡ spec.by_reading (spec.reading_in spec.readings name.now) (words text.now) (trimmed (behind 1 text.now)) }
+    ensures { spec.result_meaning result ≡ spec.by_reading (spec.reading_in spec.readings name.now) (words text.now) (trimmed (behind 1 text.now)) }
 {
     let arguments = arguments_in(text);
     let command = match name {
@@ -243,7 +243,7 @@ fn command_by<'a>(name: &[u8], text: &'a [u8]) -> Result<Option<Command<'a>>, Li
 /// which are spaces, tabs, carriage returns and newlines.
 #[tactic(auto, unfolding(crate::specs::Commands::command_of))]
 pub fn command_of(line: &[u8]) -> Result<Option<Command<'_>>, LineRefusal>
-    ensures { spec.told result ≡ spec.command_of line.now }
+    ensures { spec.result_meaning result ≡ spec.command_of line.now }
 {
     let Some((name, rest)) = next_word(line) else {
         return Ok(None);

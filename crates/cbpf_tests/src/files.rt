@@ -42,7 +42,7 @@ fn a_name_is_the_rest_of_the_line(rt: HostRuntime) -> Result<(), AllocError> {
 }
 
 #[test]
-fn an_absent_file_is_told_apart_from_one_that_cannot_be_read(rt: HostRuntime) {
+fn an_absent_file_is_distinct_from_one_that_cannot_be_read(rt: HostRuntime) {
     let mut files = DiskFiles::new(&rt);
     assert!(rt;
         matches!(

@@ -11,14 +11,14 @@ use Rattle.cbpf_grammar.specs.Items.{Item}
 use Rattle.cbpf_text.specs.declared.fault.AsmKind.{AsmKind}
 use Rattle.cbpf_text.specs.Assembled.{IsEncoded, EncodeEach, FillsFields}
 use Rattle.cbpf_text.specs.Operands.{HasForm, targets_in, literal_in}
-use Rattle.cbpf_text.specs.Refusals.{Use, IsGoodUse, IsFirstBadUse, Told, uses_of, uses_from, is_conditional}
+use Rattle.cbpf_text.specs.Refusals.{Use, IsGoodUse, IsFirstBadUse, Reported, uses_of, uses_from, is_conditional}
 use Rattle.cbpf_text.specs.declared.refusal.Refusal.{Refusal}
 use Rattle.cbpf_grammar.proofs.Instructions.{some_known}
 use Rattle.cbpf_text.specs.declared.draft.Statement.{Statement}
 use Rattle.cbpf_text.specs.Drafts.{IsStatement, AreStatements}
 use Rattle.cbpf_text.proofs.Lists.{all_none, all_one, all_front, all_behind, all_prefix, split_at}
 use Rattle.cbpf_text.proofs.Forms.{takes, form_takes}
-use Rattle.cbpf_text.proofs.Uses.{use_of, good_use, told_more}
+use Rattle.cbpf_text.proofs.Uses.{use_of, good_use, reported_more}
 
 none_of : (is : List Item) (index : ℕ) (short : Bool) (ts : List Lexeme) → (length ts == 0) ≡ true → All (IsGoodUse is) (map (use_of index short) ts)
 none_of is index short [] e = all_none (IsGoodUse is)
@@ -94,13 +94,13 @@ bad_behind all front uses rest kind at g b = record {
 }
 
 -- the first target that is refused, after items that have their instructions
-pub bad_among : (is : List Item) (i : ℕ) (d : Item) (insns : List Insn) (r : Refusal) → i < length is → All HasForm is → EncodeEach is 0 (take i is) insns → Told (IsFirstBadUse is (uses_of i (get_or is i d))) r → Told (IsFirstBadUse is (uses_from 0 is)) r
+pub bad_among : (is : List Item) (i : ℕ) (d : Item) (insns : List Insn) (r : Refusal) → i < length is → All HasForm is → EncodeEach is 0 (take i is) insns → Reported (IsFirstBadUse is (uses_of i (get_or is i d))) r → Reported (IsFirstBadUse is (uses_from 0 is)) r
 bad_among is i d insns r l f p h =
     let s = uses_split 0 is i d l in
     let z : 0 + i ≡ i = omega arith in
     let front = take i is in
     let forms : All HasForm (take i is) = all_prefix HasForm (take i is) (get_or is i d ∷ drop (suc i) is) (subst (All HasForm) (split_at is i d l) f) in
-    told_more (IsFirstBadUse is (uses_of i (get_or is i d))) (IsFirstBadUse is (uses_from 0 is)) r
+    reported_more (IsFirstBadUse is (uses_of i (get_or is i d))) (IsFirstBadUse is (uses_from 0 is)) r
     (λ kind at b. subst (λ us. IsFirstBadUse is us kind at) (sym (s.1 ∙ ap (λ n. uses_from 0 front ++ (uses_of n (get_or is i d) ++ s.0)) z))
     (bad_behind is (uses_from 0 front) (uses_of i (get_or is i d)) s.0 kind at (good_uses is 0 front insns p forms) b))
     h

@@ -12,18 +12,18 @@ use Rattle.cbpf_text.specs.declared.refusal.Refusal.{Refusal}
 use Rattle.cbpf_text.specs.declared.refusal.Refusal.TheVariants as refusals
 use Rattle.cbpf_text.specs.Labels.{set_labels, AreDistinct}
 use Rattle.cbpf_text.specs.Assembled.{HasProgramLength, AreEncoded, AssembleTokens, Assembles}
-use Rattle.cbpf_text.specs.Refusals.{Told, IsItemsFault, IsFirstBadUse, uses_from, IsTokensFault, IsRefused, IsLexRefused, IsToldAt}
+use Rattle.cbpf_text.specs.Refusals.{Reported, IsItemsFault, IsFirstBadUse, uses_from, IsTokensFault, IsRefused, IsLexRefused, IsReportedAt}
 use Rattle.cbpf_text.specs.Refusals.IsItemsFault.{bad_use}
 use Rattle.cbpf_text.specs.Refusals.IsTokensFault.{of_items}
 use Rattle.cbpf_text.specs.Refusals.IsRefused.{memory as whole_memory, piece as whole_piece, token as whole_token}
 use Rattle.cbpf_text.specs.Refusals.IsLexRefused.{memory, piece}
-use Rattle.cbpf_text.proofs.Uses.{told_more}
+use Rattle.cbpf_text.proofs.Uses.{reported_more}
 
-pub uses_told : (is : List Item) (r : Refusal) → HasProgramLength is → AreDistinct (set_labels is) → Told (IsFirstBadUse is (uses_from 0 is)) r → Told (IsItemsFault is) r
-uses_told is r n d h = told_more (IsFirstBadUse is (uses_from 0 is)) (IsItemsFault is) r (λ kind at p. bad_use kind at n d p) h
+pub uses_reported : (is : List Item) (r : Refusal) → HasProgramLength is → AreDistinct (set_labels is) → Reported (IsFirstBadUse is (uses_from 0 is)) r → Reported (IsItemsFault is) r
+uses_reported is r n d h = reported_more (IsFirstBadUse is (uses_from 0 is)) (IsItemsFault is) r (λ kind at p. bad_use kind at n d p) h
 
-pub items_told : (ts : List Lexeme) (is : List Item) (r : Refusal) → Items ts is → IsAccepted ts → Told (IsItemsFault is) r → Told (IsTokensFault ts) r
-items_told ts is r p a h = told_more (IsItemsFault is) (IsTokensFault ts) r (λ kind at q. of_items is kind at p a q) h
+pub items_reported : (ts : List Lexeme) (is : List Item) (r : Refusal) → Items ts is → IsAccepted ts → Reported (IsItemsFault is) r → Reported (IsTokensFault ts) r
+items_reported ts is r p a h = reported_more (IsItemsFault is) (IsTokensFault ts) r (λ kind at q. of_items is kind at p a q) h
 
 pub tokens_assembled : (ts : List Lexeme) (is : List Item) (insns : List Insn) → Items ts is → IsAccepted ts → AreEncoded is insns → AssembleTokens ts insns
 tokens_assembled ts is insns p a e = record { items = is; parsed = p; ranged = λ i h. a (parse.LargeNegative i) i (refl, h); encoded = e }
@@ -32,7 +32,7 @@ pub lex_refused : (text : List ℕ) (fault : AsmFault) → IsLexRefused text fau
 lex_refused text fault memory = whole_memory
 lex_refused text fault (piece bad line p) = whole_piece bad line p
 
-pub refused_at : (text : List ℕ) (tokens : List Token) (ts : List Lexeme) (r : Refusal) (fault : AsmFault) → Lexes text tokens → ts ≡ lexemes_of text tokens → Told (IsTokensFault ts) r → IsToldAt text r fault → IsRefused text fault
+pub refused_at : (text : List ℕ) (tokens : List Token) (ts : List Lexeme) (r : Refusal) (fault : AsmFault) → Lexes text tokens → ts ≡ lexemes_of text tokens → Reported (IsTokensFault ts) r → IsReportedAt text r fault → IsRefused text fault
 refused_at text tokens ts refusals.Memory fault l e h t = subst (IsRefused text) (sym t) whole_memory
 refused_at text tokens ts (refusals.At kind at) fault l e h t = subst (IsRefused text) (sym t) (whole_token tokens kind at l (subst (λ us. IsTokensFault us kind at) e h))
 

@@ -152,8 +152,8 @@ one_of_tokens ts k l m n (of_items is c p x a f) (of_items js d q y b g) =
 same_at : (k l : AsmKind) (m n : ℕ) → faults.At k m ≡ faults.At l n → (k ≡ l) × (m ≡ n)
 same_at k l m n e = (cc, cc)
 
-told : (k l : AsmKind) (m n : ℕ) → (k ≡ l) × (m ≡ n) → faults.At k m ≡ faults.At l n
-told k l m n e = λ j. faults.At (e.0 j) (e.1 j)
+at_same : (k l : AsmKind) (m n : ℕ) → (k ≡ l) × (m ≡ n) → faults.At k m ≡ faults.At l n
+at_same k l m n e = λ j. faults.At (e.0 j) (e.1 j)
 
 no_memory : {B : Type 0} (k : AsmKind) (m : ℕ) → faults.Memory ≡ faults.At k m → B
 no_memory k m e = cc
@@ -163,14 +163,14 @@ one_fault text f g k l m n p q memory b = no_memory k m p
 one_fault text f g k l m n p q (piece c i x) memory = no_memory l n q
 one_fault text f g k l m n p q (piece c i x) (piece d j y) =
     let e = lexer.one_fault text c d i j x y in
-    told (piece_kind c) (piece_kind d) i j (ap piece_kind e.0, e.1)
+    at_same (piece_kind c) (piece_kind d) i j (ap piece_kind e.0, e.1)
 one_fault text f g k l m n p q (piece c i x) (token us d j y z) = absurd (lexer.never_both text us c i y x)
 one_fault text f g k l m n p q (token us d j y z) memory = no_memory l n q
 one_fault text f g k l m n p q (token us d j y z) (piece c i x) = absurd (lexer.never_both text us c i y x)
 one_fault text f g k l m n p q (token us d j y z) (token vs c i w x) =
     let s : us ≡ vs = lexer.one_list text us vs y w in
     let e = one_of_tokens (lexemes_of text vs) d c j i (subst (λ ws. IsTokensFault (lexemes_of text ws) d j) s z) x in
-    told d c (line_of text j) (line_of text i) (e.0, ap (line_of text) e.1)
+    at_same d c (line_of text j) (line_of text i) (e.0, ap (line_of text) e.1)
 
 pub one_refusal : OneRefusal
 one_refusal text kind other line place a b = same_at kind other line place (one_fault text (faults.At kind line) (faults.At other place) kind other line place refl refl a b)

@@ -26,7 +26,7 @@ use Rattle.cbpf_text.specs.declared.name.Name.{Name}
 use Rattle.cbpf_text.specs.declared.fault.AsmKind.TheVariants as kinds
 use Rattle.cbpf_text.specs.declared.fault.AsmFault.{AsmFault}
 use Rattle.cbpf_text.specs.declared.refusal.Refusal.{Refusal}
-use Rattle.cbpf_text.specs.Refusals.{Told, IsTokensFault, IsRefused, IsToldAt}
+use Rattle.cbpf_text.specs.Refusals.{Reported, IsTokensFault, IsRefused, IsReportedAt}
 use Rattle.cbpf_text.specs.Refusals.IsTokensFault.{misplaced, large_negative, unfinished}
 use Rattle.cbpf_text.specs.Labels.{set_labels, AreDistinct}
 use Rattle.cbpf_text.specs.Tables.{Label, labels_of, labels_from, Resolves}
@@ -50,8 +50,8 @@ pub unfinished_reported : (ts : List Lexeme) (at : ℕ) → IsRefusedFor ts (ref
 unfinished_reported ts at h = subst (λ a. IsTokensFault ts kinds.Unfinished a) (sym h.1.2) (unfinished h.1.0 h.0 h.1.1)
 
 -- the refusal of the text's tokens is the text's
-pub whole_refused : (text : List ℕ) (ts : List Lexeme) (r : Refusal) (fault : AsmFault) → AreLexemes text ts → Told (IsTokensFault ts) r → IsToldAt text r fault → IsRefused text fault
-whole_refused text ts r fault t h told = refused_at text t.tokens ts r fault t.lexed t.are h told
+pub whole_refused : (text : List ℕ) (ts : List Lexeme) (r : Refusal) (fault : AsmFault) → AreLexemes text ts → Reported (IsTokensFault ts) r → IsReportedAt text r fault → IsRefused text fault
+whole_refused text ts r fault t h line = refused_at text t.tokens ts r fault t.lexed t.are h line
 
 -- items with a literal that is too large
 pub items_refused : (ts : List Lexeme) (is : List Item) (n at : ℕ) → Items ts is → IsFirstLarge ts n (Some at) → IsRefusedFor ts (refused.LargeNegative at)

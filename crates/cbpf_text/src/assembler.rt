@@ -5,7 +5,7 @@ ghost use Rattle.indexmap.specs.IndexMap.{get};
 ghost use Rattle.cbpf_grammar.specs.Items as items;
 ghost use Rattle.cbpf_text.specs.Assembled.{Assembles, AreEncoded};
 ghost use Rattle.cbpf_text.specs.Drafts.{IsDraft};
-ghost use Rattle.cbpf_text.specs.Refusals.{Told, IsItemsFault, IsRefused};
+ghost use Rattle.cbpf_text.specs.Refusals.{Reported, IsItemsFault, IsRefused};
 ghost use Rattle.cbpf_text.specs.Operands.{HasForm};
 ghost use Rattle.cbpf_text.specs.Tables.{same_name};
 
@@ -29,7 +29,7 @@ fn encode_draft<A: Allocator + Copy>(
     ensures refused { (is : List items.Item) →
         IsDraft draft.now.excess draft.now.statements.items draft.now.labels.repeat
         (λ k. get same_name draft.now.labels.table k) is [] →
-        All HasForm is → IfErr result (Told (IsItemsFault is)) }
+        All HasForm is → IfErr result (Reported (IsItemsFault is)) }
 {
     if let Some(at) = draft.excess {
         return Err(Refusal::At(AsmKind::TooMany, at));

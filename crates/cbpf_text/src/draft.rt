@@ -11,7 +11,7 @@ ghost use Rattle.cbpf_grammar.specs.Refusals.{IsAccepted, IsStuckAt};
 ghost use Rattle.cbpf_grammar.specs.Reading.{IsReading, IsRefusedFor, StartsWithWord};
 ghost use Rattle.cbpf_grammar.specs.Views.{lexeme_of, row_of, label_words};
 ghost use Rattle.cbpf_text.specs.Drafts.{IsStatement, IsDraft, AreTargets};
-ghost use Rattle.cbpf_text.specs.Refusals.{Told, IsTokensFault, IsRefused};
+ghost use Rattle.cbpf_text.specs.Refusals.{Reported, IsTokensFault, IsRefused};
 ghost use Rattle.cbpf_text.specs.Tables.{same_name};
 
 use crate::fault::{AsmFault, AsmKind};
@@ -160,7 +160,7 @@ fn add_instruction<'a, A: Allocator>(
 
 /// Where the grammar's refusal is.
 fn refusal_of(refused: cbpf_grammar::Refusal) -> Refusal
-    ensures { (ts : List lexemes.Lexeme) → IsRefusedFor ts refused → Told (IsTokensFault ts) result }
+    ensures { (ts : List lexemes.Lexeme) → IsRefusedFor ts refused → Reported (IsTokensFault ts) result }
 {
     match refused {
         cbpf_grammar::Refusal::Misplaced(at) => Refusal::At(AsmKind::Misplaced, at),

@@ -5,7 +5,7 @@ ghost use Rattle.indexmap.specs.IndexMap.{get};
 ghost use Rattle.cbpf_grammar.specs.Items as items;
 ghost use Rattle.cbpf_grammar.specs.Lexemes as lexemes;
 ghost use Rattle.cbpf_text.specs.Assembled.{IsOffset, IsShortOffset, IsEncoded, EncodeEach};
-ghost use Rattle.cbpf_text.specs.Refusals.{Told, IsTargetFault, IsFirstBadUse, uses_of, uses_from};
+ghost use Rattle.cbpf_text.specs.Refusals.{Reported, IsTargetFault, IsFirstBadUse, uses_of, uses_from};
 ghost use Rattle.cbpf_text.specs.Tables.{same_name, Resolves};
 ghost use Rattle.cbpf_text.specs.Drafts.{IsStatement, AreStatements, IsTarget};
 ghost use Rattle.cbpf_text.specs.Operands.{HasForm};
@@ -31,7 +31,7 @@ fn distance<A: Allocator>(
         Resolves is (λ k. get same_name labels.now k) → IfOk result (IsOffset is index (Some label)) }
     ensures refused { (is : List items.Item) (short : Bool) (label : lexemes.Lexeme) → IsTarget target.now label →
         Resolves is (λ k. get same_name labels.now k) →
-        IfErr result (Told (IsTargetFault is index short (Some label))) }
+        IfErr result (Reported (IsTargetFault is index short (Some label))) }
 {
     match labels.get(&target.name) {
         None => Err(Refusal::At(AsmKind::LabelNotSet, target.at)),
@@ -54,7 +54,7 @@ fn short_offset<A: Allocator>(
     ensures found { (is : List items.Item) (label : lexemes.Lexeme) → IsTarget target.now label →
         Resolves is (λ k. get same_name labels.now k) → IfOk result (IsShortOffset is index (Some label)) }
     ensures refused { (is : List items.Item) (label : lexemes.Lexeme) → IsTarget target.now label →
-        Resolves is (λ k. get same_name labels.now k) → IfErr result (Told (IsTargetFault is index true (Some label))) }
+        Resolves is (λ k. get same_name labels.now k) → IfErr result (Reported (IsTargetFault is index true (Some label))) }
 {
     let distance = distance(labels, index, target)?;
     if distance > FARTHEST {
@@ -72,7 +72,7 @@ fn encode<A: Allocator>(
     ensures encoded { (is : List items.Item) (item : items.Item) → IsStatement statement.now item → HasForm item →
         Resolves is (λ k. get same_name labels.now k) → IfOk result (IsEncoded is index item) }
     ensures refused { (is : List items.Item) (item : items.Item) → IsStatement statement.now item → HasForm item →
-        Resolves is (λ k. get same_name labels.now k) → IfErr result (Told (IsFirstBadUse is (uses_of index item))) }
+        Resolves is (λ k. get same_name labels.now k) → IfErr result (Reported (IsFirstBadUse is (uses_of index item))) }
 {
     let code = statement.code;
     let k = statement.literal;
@@ -119,7 +119,7 @@ pub fn encode_all<A: Allocator + Copy>(
     ensures encoded { (is : List items.Item) → AreStatements statements.now is → All HasForm is →
         Resolves is (λ k. get same_name labels.now k) → IfOk result (λ v. EncodeEach is 0 is v.items) }
     ensures refused { (is : List items.Item) → AreStatements statements.now is → All HasForm is →
-        Resolves is (λ k. get same_name labels.now k) → IfErr result (Told (IsFirstBadUse is (uses_from 0 is))) }
+        Resolves is (λ k. get same_name labels.now k) → IfErr result (Reported (IsFirstBadUse is (uses_from 0 is))) }
 {
     let mut insns = Vec::with_capacity(alloc, statements.len())?;
     for i in 0..statements.len() {

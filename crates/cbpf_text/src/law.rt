@@ -2,8 +2,8 @@
 
 ghost use Rattle.cbpf_text.specs.Laws.{OneAssembly, OneRefusal, NeverBoth, ListingAssembles, ListingAnswers};
 
-/// A text assembles to at most one list of instructions, and one that does isn't refused. Want of
-/// memory aside, a text has at most one refusal.
+/// A text assembles to at most one list of instructions, and one that does isn't refused. Except
+/// for out of memory, a text has at most one refusal.
 pub fn one_assembly()
     ensures list { OneAssembly }
     ensures refusal { OneRefusal }

@@ -1,6 +1,6 @@
 //! A refusal by its place in the text, before its line is known.
 
-ghost use Rattle.cbpf_text.specs.Refusals.{IsToldAt};
+ghost use Rattle.cbpf_text.specs.Refusals.{IsReportedAt};
 
 use crate::fault::{AsmFault, AsmKind};
 use crate::source::line_of;
@@ -8,7 +8,7 @@ use std::alloc::{AllocError, AllocFailed};
 
 /// The refusal with its line.
 pub fn fault_of(text: &[u8], refusal: Refusal) -> AsmFault
-    ensures { IsToldAt text.now refusal result }
+    ensures { IsReportedAt text.now refusal result }
 {
     match refusal {
         Refusal::Memory => AsmFault::Memory,

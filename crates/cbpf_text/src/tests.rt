@@ -32,7 +32,7 @@ fn check_fault(
 ) {
     match assemble(alloc, source) {
         Ok(_) => assert!(rt; false, "row {row}"),
-        Err(told) => assert!(rt; told == AsmFault::At(kind, line), "row {row}"),
+        Err(fault) => assert!(rt; fault == AsmFault::At(kind, line), "row {row}"),
     }
 }
 
@@ -238,7 +238,7 @@ fn check_jump(
                 None => assert!(rt; false, "row {row}"),
             }
         }
-        (Err(told), Err(fault)) => assert!(rt; told == fault, "row {row}"),
+        (Err(found), Err(fault)) => assert!(rt; found == fault, "row {row}"),
         _ => assert!(rt; false, "row {row}"),
     }
 }
@@ -299,7 +299,7 @@ fn token_places(rt: HostRuntime) {
     }
     match tokens(rt.alloc(), b"ld #5\nld #0x") {
         Ok(_) => assert!(rt; false),
-        Err(told) => assert!(rt; told == AsmFault::At(AsmKind::NoToken, 2)),
+        Err(fault) => assert!(rt; fault == AsmFault::At(AsmKind::NoToken, 2)),
     }
 }
 

@@ -17,7 +17,7 @@ returns-then-is_digit_byte c =
       within = f.within;
       after = omega (arith, f.some);
       first = sym c.skip_blanks-place.ensures.same ∙ f.first;
-      told = ds.value ∙ ap (λ (t : List ℕ). min (number t) (2 ^ 32)) f.same;
+      value = ds.value ∙ ap (λ (t : List ℕ). min (number t) (2 ^ 32)) f.same;
     }
 
 pub returns : goal.returns
@@ -25,5 +25,5 @@ returns c = record {
   within = omega arith;
   after = omega arith;
   first = sym c.skip_blanks-place.ensures.same ∙ step-single _ _ (omega arith) (cc) (c.skip_blanks-place.ensures.stops (omega arith));
-  told = tt;
+  value = tt;
 }

@@ -1,6 +1,6 @@
 use Rattle.std.proofs.Common.{rules, []}
 use Rattle.std.proofs.lemmas.Result.{IfOk-weaker, IfErr-weaker}
-use Rattle.cbpf_text.proofs.Faults.{uses_told}
+use Rattle.cbpf_text.proofs.Faults.{uses_reported}
 use Rattle.cbpf_text.proofs.Reading.{draft_many, draft_kept, kept_none, kept_length, kept_repeat, kept_distinct, kept_resolves}
 use Rattle.cbpf_text.proofs.assembler.encode_draft.Goals as goal
 
@@ -27,4 +27,4 @@ returns-clause-refused g c is d f =
     let k = draft_kept c.args.draft.now.excess _ _ _ is [] c.in_default.not-Some d in
     let limits = kept_length _ _ _ is k (λ z. search (rules, z)) in
     let none = c.in_default-repeat.not-Some in
-    IfErr-weaker c.encode_all.result _ _ (λ r h. uses_told is r limits (kept_distinct _ c.args.draft.now.labels.repeat _ is none k) h) (c.encode_all.ensures.refused is (rw c.deref.ensures.value k.same) f (kept_resolves _ c.args.draft.now.labels.repeat _ is none k))
+    IfErr-weaker c.encode_all.result _ _ (λ r h. uses_reported is r limits (kept_distinct _ c.args.draft.now.labels.repeat _ is none k) h) (c.encode_all.ensures.refused is (rw c.deref.ensures.value k.same) f (kept_resolves _ c.args.draft.now.labels.repeat _ is none k))

@@ -4,7 +4,7 @@ use Rattle.cbpf_text.specs.Refusals.IsLexRefused.{memory, piece}
 use Rattle.cbpf_text.proofs.source.lex_refusal.Goals as goal
 
 pub returns-in-Memory : goal.returns-in-Memory
-returns-in-Memory c = λ text told. memory
+returns-in-Memory c = λ text fault. memory
 
 pub returns-in-At : goal.returns-in-At
-returns-in-At c = λ text told. rw c.piece_kind.ensures (piece c.in-At.bad c.in-At.line (subst (IsLexFault text) c.in-At.is told))
+returns-in-At c = λ text fault. rw c.piece_kind.ensures (piece c.in-At.bad c.in-At.line (subst (IsLexFault text) c.in-At.is fault))
