@@ -116,7 +116,7 @@ fn fault_of(op: Op, insn: Insn, i: u32, count: u32) -> Option<CheckFault>
     requires within { i < count }
     ensures { MatchOption result (IsAllowed op insn i count) (λ e. InsnHasFault op insn i count e × (spec.rank e ≡ 2) × (spec.index_of e ≡ i)) }
 {
-    let behind = count - i - 1; // how many instructions a jump can reach
+    let ahead = count - i - 1; // how many instructions a jump can reach
     match op {
         Op::LdMem | Op::LdxMem | Op::St | Op::Stx => (insn.k >= SLOTS).then_some(CheckFault::NoSlot(
             i,
@@ -128,14 +128,14 @@ fn fault_of(op: Op, insn: Insn, i: u32, count: u32) -> Option<CheckFault>
             CheckFault::WideShift(i),
         ),
         Op::Ja => {
-            if insn.k < behind {
+            if insn.k < ahead {
                 None
             } else {
                 Some(CheckFault::JumpOutside(i))
             }
         }
         Op::Jump(_, _) => {
-            if u32::from(insn.jt) < behind && u32::from(insn.jf) < behind {
+            if u32::from(insn.jt) < ahead && u32::from(insn.jf) < ahead {
                 None
             } else {
                 Some(CheckFault::JumpOutside(i))

@@ -4,7 +4,7 @@ use Rattle.std.specs.Prelude.{bytes_eq}
 use Rattle.std.specs.Str.{IsUtf8, is_utf8}
 use Rattle.std.proofs.lemmas.Slice.Eq.{bytes_eq-Decides, text_from_reads, HasBytesAt}
 use Rattle.std.proofs.lemmas.Str.{is_utf8-from_IsUtf8, IsUtf8-from_is_utf8}
-use Rattle.cbpf_command.specs.Words.{words, behind, trimmed}
+use Rattle.cbpf_command.specs.Words.{words, after_words, trimmed}
 use Rattle.cbpf_command.specs.Commands.{Spelled, Reading, meaning, readings, reading_in, by_reading, or_wrong, name_in, load_capture, load_by}
 use Rattle.cbpf_command.specs.declared.command.Command.{Command}
 use Rattle.cbpf_command.specs.declared.command.LineRefusal.TheVariants.{UnknownCommand}
@@ -42,11 +42,11 @@ pub name-bad : (s : List ℕ) → (IsUtf8 s → ⊥) → name_in s ≡ None
 name-bad [] n = refl
 name-bad (b ∷ bs) n = rw (utf8-not (b ∷ bs) (is_utf8 (b ∷ bs)) refl n) refl
 
-behind-none : (s : List ℕ) → behind 0 s ≡ s
-unfolding behind
-behind-none s = refl
+after_words-none : (s : List ℕ) → after_words 0 s ≡ s
+unfolding after_words
+after_words-none s = refl
 
-pub loads : (text kind rest p : List ℕ) → words text ≡ kind ∷ words rest → behind 1 text ≡ behind 0 rest → length kind ≡ length p → HasBytesAt kind 0 p → load_by (words text) (trimmed (behind 1 text)) ≡ load_by (p ∷ []) (trimmed rest)
+pub loads : (text kind rest p : List ℕ) → words text ≡ kind ∷ words rest → after_words 1 text ≡ after_words 0 rest → length kind ≡ length p → HasBytesAt kind 0 p → load_by (words text) (trimmed (after_words 1 text)) ≡ load_by (p ∷ []) (trimmed rest)
 loads text kind rest p w b l h =
     let k : kind ≡ p = text_from_reads kind p l h in
-    rw (w, b, behind-none rest, k) refl
+    rw (w, b, after_words-none rest, k) refl

@@ -2,7 +2,7 @@
 use Rattle.std.proofs.Common.{◌≡◌, ℕ, suc, ◌+◌, ◌<◌, ◌≤◌, Bool, true, false, not, ◌&&◌, List, [], ◌∷◌, ◌++◌, length, take, drop, get_or, drop-cons, add-one, length-drop, take_all, ◌-◌, ◌⊎◌, inl, inr, refl, sym, ap, ◌∙◌, arith}
 use Rattle.std.proofs.lemmas.List.{take-append-drop, take_more, nil_from_length}
 use Rattle.cbpf_code.specs.Marks.{is_blank}
-use Rattle.cbpf_command.specs.Words.{begins_word, put_front, words, behind, all_blank, trim_start, trim_end}
+use Rattle.cbpf_command.specs.Words.{begins_word, put_front, words, after_words, all_blank, trim_start, trim_end}
 
 pub trim_start-blank : (b : ℕ) (bs : List ℕ) → is_blank b ≡ true → trim_start (b ∷ bs) ≡ trim_start bs
 unfolding trim_start
@@ -71,21 +71,21 @@ run-words b (x ∷ w) rest h n e =
     let q : words (x ∷ (w ++ rest)) ≡ (x ∷ w) ∷ words rest = run-words x w rest p (and-right (not (is_blank x)) (no_blank w) n) e in
     rw (h, ap not p) (ap (λ (ws : List (List ℕ)). put_front b ws) q)
 
-run-behind : (n b : ℕ) (w rest : List ℕ) → is_blank b ≡ false → no_blank w ≡ true → begins_word rest ≡ false → behind (suc n) (b ∷ (w ++ rest)) ≡ behind n rest
-unfolding behind
-run-behind n b [] rest h m e = rw (h, e) refl
-run-behind n b (x ∷ w) rest h m e =
+run-after : (n b : ℕ) (w rest : List ℕ) → is_blank b ≡ false → no_blank w ≡ true → begins_word rest ≡ false → after_words (suc n) (b ∷ (w ++ rest)) ≡ after_words n rest
+unfolding after_words
+run-after n b [] rest h m e = rw (h, e) refl
+run-after n b (x ∷ w) rest h m e =
     let p : is_blank x ≡ false = not-true (is_blank x) (and-left (not (is_blank x)) (no_blank w) m) in
-    rw (h, ap not p) (run-behind n x w rest p (and-right (not (is_blank x)) (no_blank w) m) e)
+    rw (h, ap not p) (run-after n x w rest p (and-right (not (is_blank x)) (no_blank w) m) e)
 
 -- blanks in front
 words-step : (b : ℕ) (bs : List ℕ) → is_blank b ≡ true → words (b ∷ bs) ≡ words bs
 unfolding words
 words-step b bs h = rw h refl
 
-behind-step : (n b : ℕ) (bs : List ℕ) → is_blank b ≡ true → behind (suc n) (b ∷ bs) ≡ behind (suc n) bs
-unfolding behind
-behind-step n b bs h = rw h refl
+after_words-step : (n b : ℕ) (bs : List ℕ) → is_blank b ≡ true → after_words (suc n) (b ∷ bs) ≡ after_words (suc n) bs
+unfolding after_words
+after_words-step n b bs h = rw h refl
 
 words-nil : words [] ≡ []
 unfolding words
@@ -102,11 +102,11 @@ words-trim (b ∷ bs) = elim (bool-cases (is_blank b)) [
   | inr h ↦ ap words (sym (trim_start-other b bs h))
 ]
 
-pub behind-trim : (n : ℕ) (bs : List ℕ) → behind (suc n) bs ≡ behind (suc n) (trim_start bs)
-behind-trim n [] = ap (behind (suc n)) (sym trim_start-nil)
-behind-trim n (b ∷ bs) = elim (bool-cases (is_blank b)) [
-  | inl h ↦ behind-step n b bs h ∙ behind-trim n bs ∙ ap (behind (suc n)) (sym (trim_start-blank b bs h))
-  | inr h ↦ ap (behind (suc n)) (sym (trim_start-other b bs h))
+pub after_words-trim : (n : ℕ) (bs : List ℕ) → after_words (suc n) bs ≡ after_words (suc n) (trim_start bs)
+after_words-trim n [] = ap (after_words (suc n)) (sym trim_start-nil)
+after_words-trim n (b ∷ bs) = elim (bool-cases (is_blank b)) [
+  | inl h ↦ after_words-step n b bs h ∙ after_words-trim n bs ∙ ap (after_words (suc n)) (sym (trim_start-blank b bs h))
+  | inr h ↦ ap (after_words (suc n)) (sym (trim_start-other b bs h))
 ]
 
 -- what is left begins a word, or is empty
@@ -165,9 +165,9 @@ begins-some : (w rest : List ℕ) → begins_word rest ≡ false → begins_word
 begins-some [] rest e b n = absurd (let f : true ≡ false = sym b ∙ e in cc)
 begins-some (x ∷ w) rest e b n = run-words x w rest (not-true (is_blank x) b) (and-right (not (is_blank x)) (no_blank w) n) e
 
-begins-behind : (n : ℕ) (w rest : List ℕ) → begins_word rest ≡ false → begins_word (w ++ rest) ≡ true → no_blank w ≡ true → behind (suc n) (w ++ rest) ≡ behind n rest
-begins-behind n [] rest e b m = absurd (let f : true ≡ false = sym b ∙ e in cc)
-begins-behind n (x ∷ w) rest e b m = run-behind n x w rest (not-true (is_blank x) b) (and-right (not (is_blank x)) (no_blank w) m) e
+begins-after : (n : ℕ) (w rest : List ℕ) → begins_word rest ≡ false → begins_word (w ++ rest) ≡ true → no_blank w ≡ true → after_words (suc n) (w ++ rest) ≡ after_words n rest
+begins-after n [] rest e b m = absurd (let f : true ≡ false = sym b ∙ e in cc)
+begins-after n (x ∷ w) rest e b m = run-after n x w rest (not-true (is_blank x) b) (and-right (not (is_blank x)) (no_blank w) m) e
 
 -- a text whose first i bytes are no blanks
 word-split : (s : List ℕ) (i : ℕ) → no_blank (take i s) ≡ true → begins_word (drop i s) ≡ false → begins_word s ≡ true → words s ≡ take i s ∷ words (drop i s)
@@ -175,10 +175,10 @@ word-split s i h e b =
     let j : take i s ++ drop i s ≡ s = take-append-drop i s in
     ap words (sym j) ∙ begins-some (take i s) (drop i s) e (rw j b) h
 
-rest-split : (s : List ℕ) (i n : ℕ) → no_blank (take i s) ≡ true → begins_word (drop i s) ≡ false → begins_word s ≡ true → behind (suc n) s ≡ behind n (drop i s)
+rest-split : (s : List ℕ) (i n : ℕ) → no_blank (take i s) ≡ true → begins_word (drop i s) ≡ false → begins_word s ≡ true → after_words (suc n) s ≡ after_words n (drop i s)
 rest-split s i n h e b =
     let j : take i s ++ drop i s ≡ s = take-append-drop i s in
-    ap (behind (suc n)) (sym j) ∙ begins-behind n (take i s) (drop i s) e (rw j b) h
+    ap (after_words (suc n)) (sym j) ∙ begins-after n (take i s) (drop i s) e (rw j b) h
 
 stop-blank : (s : List ℕ) (i : ℕ) → i < length s → is_blank (get_or s i 0) ≡ true → begins_word (drop i s) ≡ false
 stop-blank s i l h = rw (drop-cons s i 0 l) (ap not h)
@@ -192,10 +192,10 @@ word-at-blank s i l h e b = word-split s i h (stop-blank s i l e) b
 pub word-at-end : (s : List ℕ) (i : ℕ) → length s ≤ i → no_blank (take i s) ≡ true → begins_word s ≡ true → words s ≡ take i s ∷ words (drop i s)
 word-at-end s i l h b = word-split s i h (stop-end s i l) b
 
-pub rest-at-blank : (s : List ℕ) (i n : ℕ) → i < length s → no_blank (take i s) ≡ true → is_blank (get_or s i 0) ≡ true → begins_word s ≡ true → behind (suc n) s ≡ behind n (drop i s)
+pub rest-at-blank : (s : List ℕ) (i n : ℕ) → i < length s → no_blank (take i s) ≡ true → is_blank (get_or s i 0) ≡ true → begins_word s ≡ true → after_words (suc n) s ≡ after_words n (drop i s)
 rest-at-blank s i n l h e b = rest-split s i n h (stop-blank s i l e) b
 
-pub rest-at-end : (s : List ℕ) (i n : ℕ) → length s ≤ i → no_blank (take i s) ≡ true → begins_word s ≡ true → behind (suc n) s ≡ behind n (drop i s)
+pub rest-at-end : (s : List ℕ) (i n : ℕ) → length s ≤ i → no_blank (take i s) ≡ true → begins_word s ≡ true → after_words (suc n) s ≡ after_words n (drop i s)
 rest-at-end s i n l h b = rest-split s i n h (stop-end s i l) b
 
 pub ruleset runs = (run-more, word-at-blank, word-at-end, rest-at-blank, rest-at-end)
@@ -208,9 +208,9 @@ next-words text s i e n h =
     let b : begins_word s ≡ true = ap begins_word e ∙ begun text (λ z. n (ap length e ∙ z)) in
     words-trim text ∙ ap words (sym e) ∙ h b ∙ ap (λ (r : List ℕ). take i s ∷ words r) (sym (rest-of s i))
 
-pub next-behind : (n : ℕ) (text s : List ℕ) (i : ℕ) → s ≡ trim_start text → (length s ≡ 0 → ⊥) → (begins_word s ≡ true → behind (suc n) s ≡ behind n (drop i s)) → behind (suc n) text ≡ behind n (take (length s - i) (drop i s))
-next-behind n text s i e z h =
+pub next-after : (n : ℕ) (text s : List ℕ) (i : ℕ) → s ≡ trim_start text → (length s ≡ 0 → ⊥) → (begins_word s ≡ true → after_words (suc n) s ≡ after_words n (drop i s)) → after_words (suc n) text ≡ after_words n (take (length s - i) (drop i s))
+next-after n text s i e z h =
     let b : begins_word s ≡ true = ap begins_word e ∙ begun text (λ y. z (ap length e ∙ y)) in
-    behind-trim n text ∙ ap (behind (suc n)) (sym e) ∙ h b ∙ ap (behind n) (sym (rest-of s i))
+    after_words-trim n text ∙ ap (after_words (suc n)) (sym e) ∙ h b ∙ ap (after_words n) (sym (rest-of s i))
 
 pub ruleset firsts = (no-words)

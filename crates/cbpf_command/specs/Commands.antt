@@ -3,7 +3,7 @@ use Rattle.std.specs.Prelude.{ℕ, ◌-◌, ◌^◌, ℤ, pos, if◌then◌else�
 use Rattle.std.specs.Str.{is_utf8}
 use Rattle.cbpf_code.specs.declared.extension.Ext.{Ext}
 use Rattle.cbpf_code.specs.Extension.{ext_name, ext_table}
-use Rattle.cbpf_command.specs.Words.{words, behind, trimmed}
+use Rattle.cbpf_command.specs.Words.{words, after_words, trimmed}
 use Rattle.cbpf_command.specs.Numbers.{number, signed_number}
 use Rattle.cbpf_command.specs.declared.command.LineRefusal.{LineRefusal}
 use Rattle.cbpf_command.specs.declared.command.LineRefusal.TheVariants.{UnknownCommand, WrongArguments}
@@ -174,7 +174,7 @@ by_words (w ∷ ws) text = by_reading (reading_in readings w) ws text
 
 -- what a line says: no command where it has no words
 unfoldable pub command_of : List ℕ → Result (Option Spelled) LineRefusal
-command_of line = by_words (words line) (trimmed (behind 2 line))
+command_of line = by_words (words line) (trimmed (after_words 2 line))
 
 -- what the answer of the code stands for
 abbrev pub result_meaning : Result (Option Command) LineRefusal → Result (Option Spelled) LineRefusal

@@ -17,10 +17,10 @@ words [] = []
 words (b ∷ bs) = if is_blank b then words bs else (if begins_word bs then put_front b (words bs) else ((b ∷ []) ∷ words bs))
 
 -- the text after its first n words
-unfoldable pub behind : ℕ → List ℕ → List ℕ
-behind zero bs = bs
-behind (suc n) [] = []
-behind (suc n) (b ∷ bs) = if is_blank b then behind (suc n) bs else (if begins_word bs then behind (suc n) bs else behind n bs)
+unfoldable pub after_words : ℕ → List ℕ → List ℕ
+after_words zero bs = bs
+after_words (suc n) [] = []
+after_words (suc n) (b ∷ bs) = if is_blank b then after_words (suc n) bs else (if begins_word bs then after_words (suc n) bs else after_words n bs)
 
 abbrev pub all_blank : List ℕ → Bool
 all_blank [] = true

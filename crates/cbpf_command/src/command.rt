@@ -3,7 +3,7 @@ ghost use Rattle.std.specs.Prelude.{◌≡◌, ℕ, List};
 ghost use Rattle.std.specs.Option.{option_map};
 ghost use Rattle.cbpf_code.specs.Extension.{ext_table};
 ghost use Rattle.cbpf_command.specs.Commands as spec;
-ghost use Rattle.cbpf_command.specs.Words.{words, behind, trimmed};
+ghost use Rattle.cbpf_command.specs.Words.{words, after_words, trimmed};
 ghost use Rattle.cbpf_command.specs.Arguments.{Holds};
 
 use crate::arguments::{Arguments, arguments_in};
@@ -195,7 +195,7 @@ fn name_in(text: &[u8]) -> Option<Command<'_>>
 }
 
 fn load_by(text: &[u8]) -> Option<Command<'_>>
-    ensures { option_map spec.meaning result ≡ spec.load_by (words text.now) (trimmed (behind 1 text.now)) }
+    ensures { option_map spec.meaning result ≡ spec.load_by (words text.now) (trimmed (after_words 1 text.now)) }
 {
     let (kind, rest) = next_word(text)?;
     match kind {
@@ -217,7 +217,7 @@ fn or_wrong(command: Option<Command<'_>>) -> Result<Option<Command<'_>>, LineRef
 
 /// The command of this name with what stands after it.
 fn command_by<'a>(name: &[u8], text: &'a [u8]) -> Result<Option<Command<'a>>, LineRefusal>
-    ensures { spec.result_meaning result ≡ spec.by_reading (spec.reading_in spec.readings name.now) (words text.now) (trimmed (behind 1 text.now)) }
+    ensures { spec.result_meaning result ≡ spec.by_reading (spec.reading_in spec.readings name.now) (words text.now) (trimmed (after_words 1 text.now)) }
 {
     let arguments = arguments_in(text);
     let command = match name {

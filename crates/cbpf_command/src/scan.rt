@@ -45,7 +45,7 @@ pub fn trimmed(text: &[u8]) -> &[u8]
 fn word_len(text: &[u8]) -> usize
     ensures within { result ≤ length text.now }
     ensures word { spec.begins_word text.now ≡ true → spec.words text.now ≡ take result text.now ∷ spec.words (drop result text.now) }
-    ensures rest { spec.begins_word text.now ≡ true → (n : ℕ) → spec.behind (suc n) text.now ≡ spec.behind n (drop result text.now) }
+    ensures rest { spec.begins_word text.now ≡ true → (n : ℕ) → spec.after_words (suc n) text.now ≡ spec.after_words n (drop result text.now) }
 {
     let mut len = 0;
     while len < text.len() && !is_blank(text[len]) {
@@ -58,7 +58,7 @@ fn word_len(text: &[u8]) -> usize
 #[tactic(auto, using(crate::proofs::WordLemmas::firsts))]
 pub fn next_word(text: &[u8]) -> Option<(&[u8], &[u8])>
     ensures words { MatchOption result (spec.words text.now ≡ []) (λ r. spec.words text.now ≡ r.0.now ∷ spec.words r.1.now) }
-    ensures rest { IfSome result (λ r. (n : ℕ) → spec.behind (suc n) text.now ≡ spec.behind n r.1.now) }
+    ensures rest { IfSome result (λ r. (n : ℕ) → spec.after_words (suc n) text.now ≡ spec.after_words n r.1.now) }
 {
     let begun = trim_start(text);
     if begun.is_empty() {

@@ -23,10 +23,10 @@ comma_at [] n d l = absurd (omega arith)
 comma_at (t ∷ ts) zero d l = refl
 comma_at (t ∷ ts) (suc n) d l = comma_at ts n d (omega arith)
 
-pub none_behind : (tokens : List declared_lexeme.Lexeme) (n : ℕ) → length tokens ≤ n → is_comma_at (map lexeme_of tokens) n ≡ false
-none_behind [] n l = refl
-none_behind (t ∷ ts) zero l = absurd (omega arith)
-none_behind (t ∷ ts) (suc n) l = none_behind ts n (omega arith)
+pub none_after : (tokens : List declared_lexeme.Lexeme) (n : ℕ) → length tokens ≤ n → is_comma_at (map lexeme_of tokens) n ≡ false
+none_after [] n l = refl
+none_after (t ∷ ts) zero l = absurd (omega arith)
+none_after (t ∷ ts) (suc n) l = none_after ts n (omega arith)
 
 comma_stops : (t : Bool) (k : ℕ) → (t ≡ true → ⊥) → cond t (1 + k) 0 ≤ 0
 comma_stops true k other = absurd (other refl)

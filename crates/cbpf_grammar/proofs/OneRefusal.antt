@@ -151,7 +151,7 @@ two_at (t ∷ ts) (suc b) s d e f =
 
 pub never_both : (ts : List Lexeme) (i : ℕ) → IsMisplaced ts i → IsLargeNegative ts i → ⊥
 never_both ts i p q =
-    let e : i ≡ suc q.before = omega (arith, q.behind) in
+    let e : i ≡ suc q.before = omega (arith, q.after) in
     let two = two_at ts q.before q.sign q.digits q.sign_at (ap (λ j. symbol_at ts j) (sym e) ∙ q.digits_at) in
     let b : BeginsItems (take (suc q.before) ts) = subst (λ j. BeginsItems (take j ts)) e p.before in
     let next : BeginsItems (take q.before ts ++ (two.0 ∷ two.1 ∷ [])) = begins_on b.0 b.1 (take q.before ts) two.0 two.1 q.large.1 b.2 (two.2 ∙ q.large.0) (two.3 ∙ q.large.2) b.4 b.5 (sym b.3 ∙ two.4) in

@@ -31,7 +31,7 @@ some-same x y e = cc
 pub large_here : (ts : List declared_lexeme.Lexeme) (i : ℕ) (d e : declared_lexeme.Lexeme) → 1 ≤ i → i < length ts → IsLarge (symbol_of (get_or ts (i - 1) d).symbol) (symbol_of (get_or ts i e).symbol) → IsLargeNegative (map lexeme_of ts) i
 large_here ts i d e some l h = record {
   before = i - 1;
-  behind = omega arith;
+  after = omega arith;
   sign = symbol_of (get_or ts (i - 1) d).symbol;
   digits = symbol_of (get_or ts i e).symbol;
   sign_at = symbol_at_get ts (i - 1) d (omega arith);
@@ -41,7 +41,7 @@ large_here ts i d e some l h = record {
 
 pub not_large_here : (ts : List declared_lexeme.Lexeme) (i : ℕ) (d e : declared_lexeme.Lexeme) → 1 ≤ i → i < length ts → (IsLarge (symbol_of (get_or ts (i - 1) d).symbol) (symbol_of (get_or ts i e).symbol) → ⊥) → IsLargeNegative (map lexeme_of ts) i → ⊥
 not_large_here ts i d e some l none h =
-    let b : h.before ≡ i - 1 = omega (arith, h.behind) in
+    let b : h.before ≡ i - 1 = omega (arith, h.after) in
     let s : symbol_of (get_or ts (i - 1) d).symbol ≡ h.sign = some-same _ _ (sym (symbol_at_get ts (i - 1) d (omega arith)) ∙ (ap (λ k. symbol_at (map lexeme_of ts) k) (sym b) ∙ h.sign_at)) in
     let n : symbol_of (get_or ts i e).symbol ≡ h.digits = some-same _ _ (sym (symbol_at_get ts i e l) ∙ h.digits_at) in
     none (s ∙ h.large.0, h.large.1, n ∙ h.large.2, h.large.3)

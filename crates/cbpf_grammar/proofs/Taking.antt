@@ -114,20 +114,20 @@ some-same x y e = cc
 large_in : (ts ws rest : List Lexeme) (m k : ℕ) → drop m ts ≡ ws ++ rest → k < length ws → IsLargeNegative ws k → IsLargeNegative ts (m + k)
 large_in ts ws rest m k e l h = record {
   before = m + h.before;
-  behind = omega (arith, h.behind);
+  after = omega (arith, h.after);
   sign = h.sign;
   digits = h.digits;
-  sign_at = symbol_ahead ts ws rest m h.before e (omega (arith, h.behind, l)) ∙ h.sign_at;
+  sign_at = symbol_ahead ts ws rest m h.before e (omega (arith, h.after, l)) ∙ h.sign_at;
   digits_at = symbol_ahead ts ws rest m k e l ∙ h.digits_at;
   large = h.large;
 }
 
 large_out : (ts ws rest : List Lexeme) (m k : ℕ) → drop m ts ≡ ws ++ rest → suc k < length ws → IsLargeNegative ts (m + suc k) → IsLargeNegative ws (suc k)
 large_out ts ws rest m k e l h =
-    let b : h.before ≡ m + k = omega (arith, h.behind) in
+    let b : h.before ≡ m + k = omega (arith, h.after) in
     record {
       before = k;
-      behind = omega arith;
+      after = omega arith;
       sign = h.sign;
       digits = h.digits;
       sign_at = sym (symbol_ahead ts ws rest m k e (omega (arith, l))) ∙ (ap (λ i. symbol_at ts i) (sym b) ∙ h.sign_at);

@@ -29,7 +29,7 @@ IsLarge sign digits = (sign ≡ mark 45) × (value : ℕ) × (digits ≡ number 
 -- A3: a number above 2147483648 after a `-`
 pub record IsLargeNegative (ts : List Lexeme) (i : ℕ) : Type 0 where
   pub before : ℕ
-  pub behind : i ≡ before + 1
+  pub after : i ≡ before + 1
   pub sign : Symbol
   pub digits : Symbol
   pub sign_at : symbol_at ts before ≡ Some sign

@@ -68,12 +68,12 @@ tokens_of-append : (text : List ℕ) (at : ℕ) (ps : List Piece) (to : ℕ) (qs
 tokens_of-append text at [] to qs e = ap (λ n. tokens_of n qs) e
 tokens_of-append text at (p ∷ ps) to qs cut = ap (λ ts. token_of p.kind at (at + p.size) ++ ts) (tokens_of-append text (at + p.size) ps to qs cut.1) ∙ sym (append_assoc (token_of p.kind at (at + p.size)) (tokens_of (at + p.size) ps) (tokens_of to qs))
 
-none_behind : (text : List ℕ) (at : ℕ) (rs : List Piece) → IsCut text at rs (length text) → at ≡ length text → tokens_of at rs ≡ []
-none_behind text at [] cut e = refl
-none_behind text at (r ∷ rs) cut e = past_end text at r e cut.0
+none_after : (text : List ℕ) (at : ℕ) (rs : List Piece) → IsCut text at rs (length text) → at ≡ length text → tokens_of at rs ≡ []
+none_after text at [] cut e = refl
+none_after text at (r ∷ rs) cut e = past_end text at r e cut.0
 
 -- the tokens up to a place are the first of the whole text's, and all of them where it is the end
 pub lexes_on : (text : List ℕ) (at : ℕ) (ts us : List Token) → LexesTo text at ts → Lexes text us → (rest : List Token) × (us ≡ ts ++ rest) × (at ≡ length text → rest ≡ [])
 lexes_on text at ts us a b =
     let c = cut_on text 0 a.pieces b.pieces at a.cut b.cut in
-    (tokens_of at c.0, b.spans ∙ (ap (λ ps. tokens_of 0 ps) c.1 ∙ (tokens_of-append text 0 a.pieces at c.0 a.cut ∙ ap (λ xs. xs ++ tokens_of at c.0) (sym a.spans))), none_behind text at c.0 c.2)
+    (tokens_of at c.0, b.spans ∙ (ap (λ ps. tokens_of 0 ps) c.1 ∙ (tokens_of-append text 0 a.pieces at c.0 a.cut ∙ ap (λ xs. xs ++ tokens_of at c.0) (sym a.spans))), none_after text at c.0 c.2)

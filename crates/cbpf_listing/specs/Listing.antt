@@ -15,7 +15,7 @@ use Rattle.cbpf_listing.specs.Syntax.{mnemonic_of, operand_of}
 
 -- a decimal number between two texts
 abbrev pub between : List ℕ → ℕ → List ℕ → List ℕ
-between before n behind = joined (before ∷ decimal n ∷ behind ∷ [])
+between before n after = joined (before ∷ decimal n ∷ after ∷ [])
 
 -- the label of the instruction at an index, and its mnemonic
 abbrev pub head : ℕ → List ℕ → List ℕ

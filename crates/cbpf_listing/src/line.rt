@@ -27,12 +27,12 @@ fn write_between<W: Write>(
     w: &mut W,
     before: &[u8],
     n: u64,
-    behind: &[u8],
+    after: &[u8],
 ) -> Result<(), WriteFault>
-    ensures { Wrote (W.contents w.old) (W.contents w.new) result (spec.between before.now n behind.now) }
+    ensures { Wrote (W.contents w.old) (W.contents w.new) result (spec.between before.now n after.now) }
 {
     let mut number = Buffer::new();
-    write_parts(w, &[before, number.format(n).as_bytes(), behind])
+    write_parts(w, &[before, number.format(n).as_bytes(), after])
 }
 
 /// A number in hexadecimal, or `#0`.

@@ -16,7 +16,7 @@ use Rattle.cbpf_text.specs.declared.refusal.Refusal.{Refusal}
 use Rattle.cbpf_grammar.proofs.Instructions.{some_known}
 use Rattle.cbpf_text.specs.declared.draft.Statement.{Statement}
 use Rattle.cbpf_text.specs.Drafts.{IsStatement, AreStatements}
-use Rattle.cbpf_text.proofs.Lists.{all_none, all_one, all_front, all_behind, all_prefix, split_at}
+use Rattle.cbpf_text.proofs.Lists.{all_none, all_one, all_front, all_after, all_prefix, split_at}
 use Rattle.cbpf_text.proofs.Forms.{takes, form_takes}
 use Rattle.cbpf_text.proofs.Uses.{use_of, good_use, reported_more}
 
@@ -55,7 +55,7 @@ good_uses all index (i ∷ is) [] p f = absurd p
 good_uses all index (i ∷ is) (insn ∷ insns) p f =
     All-append (IsGoodUse all) (uses_of index i) (uses_from (index + 1) is)
     (fields_good all index i.row.fields (literal_in i) (targets_in i) insn p.0.fields (form_takes i (all_front HasForm i is f)))
-    (good_uses all (index + 1) is insns p.1 (all_behind HasForm i is f))
+    (good_uses all (index + 1) is insns p.1 (all_after HasForm i is f))
 
 each_more : (all : List Item) (k : ℕ) (is : List Item) (insns : List Insn) (item : Item) (insn : Insn) → EncodeEach all k is insns → IsEncoded all (k + length is) item insn → EncodeEach all k (is ++ (item ∷ [])) (insns ++ (insn ∷ []))
 each_more all k [] [] item insn p q = let e : k + 0 ≡ k = omega arith in (subst (λ n. IsEncoded all n item insn) e q, tt)
@@ -82,12 +82,12 @@ uses_split k (x ∷ is) (suc i) d l =
           ∙ sym (append_assoc (uses_of k x) (uses_from (k + 1) (take i is)) (uses_of (k + suc i) (get_or is i d) ++ s.0)),
     )
 
-bad_behind : (all : List Item) (front uses rest : List Use) (kind : AsmKind) (at : ℕ) → All (IsGoodUse all) front → IsFirstBadUse all uses kind at → IsFirstBadUse all (front ++ (uses ++ rest)) kind at
-bad_behind all front uses rest kind at g b = record {
+bad_after : (all : List Item) (front uses rest : List Use) (kind : AsmKind) (at : ℕ) → All (IsGoodUse all) front → IsFirstBadUse all uses kind at → IsFirstBadUse all (front ++ (uses ++ rest)) kind at
+bad_after all front uses rest kind at g b = record {
   before = front ++ b.before;
   u = b.u;
-  behind = b.behind ++ rest;
-  split = ap (λ us. front ++ (us ++ rest)) b.split ∙ (ap (λ us. front ++ us) (append_assoc b.before (b.u ∷ b.behind) rest) ∙ sym (append_assoc front b.before (b.u ∷ (b.behind ++ rest))));
+  after = b.after ++ rest;
+  split = ap (λ us. front ++ (us ++ rest)) b.split ∙ (ap (λ us. front ++ us) (append_assoc b.before (b.u ∷ b.after) rest) ∙ sym (append_assoc front b.before (b.u ∷ (b.after ++ rest))));
   good = All-append (IsGoodUse all) front b.before g b.good;
   bad = b.bad;
   place = b.place;
@@ -102,7 +102,7 @@ bad_among is i d insns r l f p h =
     let forms : All HasForm (take i is) = all_prefix HasForm (take i is) (get_or is i d ∷ drop (suc i) is) (subst (All HasForm) (split_at is i d l) f) in
     reported_more (IsFirstBadUse is (uses_of i (get_or is i d))) (IsFirstBadUse is (uses_from 0 is)) r
     (λ kind at b. subst (λ us. IsFirstBadUse is us kind at) (sym (s.1 ∙ ap (λ n. uses_from 0 front ++ (uses_of n (get_or is i d) ++ s.0)) z))
-    (bad_behind is (uses_from 0 front) (uses_of i (get_or is i d)) s.0 kind at (good_uses is 0 front insns p forms) b))
+    (bad_after is (uses_from 0 front) (uses_of i (get_or is i d)) s.0 kind at (good_uses is 0 front insns p forms) b))
     h
 
 -- the statements of items, one by one

@@ -59,16 +59,16 @@ names_count (c ∷ cs) (t ∷ ts) e = by_class c (names_count cs ts (and_parts (
 pub form_takes : (item : Item) → HasForm item → takes item.row.fields (length (targets_in item)) ≡ true
 form_takes item h = ap (takes item.row.fields) (names_count (classes item.row) item.body h.fits) ∙ row_takes item.row h.known
 
-behind_labels : (n : ℕ) (cs : List Class) (ts : List Lexeme) → fits_all (label_classes n ++ cs) ts ≡ true → fits_all cs (drop (n + n) ts) ≡ true
-behind_labels zero cs ts e = e
-behind_labels (suc n) cs [] e = let k : false ≡ true = e in cc
-behind_labels (suc n) cs (t ∷ []) e = let k : false ≡ true = (and_parts (fits name t.symbol) false e).1 in cc
-behind_labels (suc n) cs (t ∷ u ∷ ts) e =
+after_labels : (n : ℕ) (cs : List Class) (ts : List Lexeme) → fits_all (label_classes n ++ cs) ts ≡ true → fits_all cs (drop (n + n) ts) ≡ true
+after_labels zero cs ts e = e
+after_labels (suc n) cs [] e = let k : false ≡ true = e in cc
+after_labels (suc n) cs (t ∷ []) e = let k : false ≡ true = (and_parts (fits name t.symbol) false e).1 in cc
+after_labels (suc n) cs (t ∷ u ∷ ts) e =
     let m : suc n + suc n ≡ suc (suc (n + n)) = omega arith in
-    rw m (behind_labels n cs ts (and_parts (fits (the_mark 58) u.symbol) _ (and_parts (fits name t.symbol) _ e).1).1)
+    rw m (after_labels n cs ts (and_parts (fits (the_mark 58) u.symbol) _ (and_parts (fits name t.symbol) _ e).1).1)
 
 -- the items of a token list have their forms
 pub items_forms : (ts : List Lexeme) (is : List Item) → Items ts is → All HasForm is
 items_forms ts [] p k d l = absurd (omega arith)
-items_forms ts (i ∷ is) p zero d l = let f : Form p.0 i = p.3 in record { known = f.row; fits = rw f.body (behind_labels f.count (classes i.row) p.0 f.fits) }
+items_forms ts (i ∷ is) p zero d l = let f : Form p.0 i = p.3 in record { known = f.row; fits = rw f.body (after_labels f.count (classes i.row) p.0 f.fits) }
 items_forms ts (i ∷ is) p (suc k) d l = items_forms p.1 is p.4 k d (omega arith)

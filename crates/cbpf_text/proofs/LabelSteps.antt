@@ -38,8 +38,8 @@ set_past ls l (Some at) look e s = (
   s.1,
   record {
     before = s.2.before;
-    behind = s.2.behind ++ (l.word ∷ []);
-    split = words_more ls l ∙ (ap (λ us. us ++ (l.word ∷ [])) s.2.split ∙ append_assoc s.2.before (s.0 ∷ s.2.behind) (l.word ∷ []));
+    after = s.2.after ++ (l.word ∷ []);
+    split = words_more ls l ∙ (ap (λ us. us ++ (l.word ∷ [])) s.2.split ∙ append_assoc s.2.before (s.0 ∷ s.2.after) (l.word ∷ []));
     distinct = s.2.distinct;
     given = s.2.given;
   },
@@ -54,7 +54,7 @@ set_again ls l None look look2 k e s n h =
       refl,
       record {
         before = words ls;
-        behind = [];
+        after = [];
         split = words_more ls l;
         distinct = s.1;
         given = subst (λ w. times_among (words ls) w ≢ 0) n (some_place ls k.bytes.now x.0 (sym (s.0 k) ∙ x.1));

@@ -55,25 +55,25 @@ lists_none n i = record {
 }
 
 -- a line's text, one piece after the other
-joins : (d w operand behind : List ℕ) → (((108 ∷ (d ++ (58 ∷ 9 ∷ (w ++ [])))) ++ operand) ++ (10 ∷ [])) ++ behind ≡ 108 ∷ (d ++ (58 ∷ 9 ∷ (w ++ (operand ++ (10 ∷ behind)))))
-joins d w operand behind =
+joins : (d w operand after : List ℕ) → (((108 ∷ (d ++ (58 ∷ 9 ∷ (w ++ [])))) ++ operand) ++ (10 ∷ [])) ++ after ≡ 108 ∷ (d ++ (58 ∷ 9 ∷ (w ++ (operand ++ (10 ∷ after)))))
+joins d w operand after =
     let front = 108 ∷ (d ++ (58 ∷ 9 ∷ (w ++ []))) in
-    append_assoc (front ++ operand) (10 ∷ []) behind
-    ∙ append_assoc front operand (10 ∷ behind)
-    ∙ ap (λ (t : List ℕ). 108 ∷ t) (append_assoc d (58 ∷ 9 ∷ (w ++ [])) (operand ++ (10 ∷ behind)))
-    ∙ ap (λ (t : List ℕ). 108 ∷ (d ++ (58 ∷ 9 ∷ (t ++ (operand ++ (10 ∷ behind)))))) (append-nil w)
+    append_assoc (front ++ operand) (10 ∷ []) after
+    ∙ append_assoc front operand (10 ∷ after)
+    ∙ ap (λ (t : List ℕ). 108 ∷ t) (append_assoc d (58 ∷ 9 ∷ (w ++ [])) (operand ++ (10 ∷ after)))
+    ∙ ap (λ (t : List ℕ). 108 ∷ (d ++ (58 ∷ 9 ∷ (t ++ (operand ++ (10 ∷ after)))))) (append-nil w)
 
 -- the segments of a line, before those after it
 abbrev line_segments : ℕ → List ℕ → List Segment → List Segment → List Segment
-line_segments i w operand behind = label_segment i ∷ mark 58 ∷ blank 9 ∷ word (first w) (rest w) ∷ (operand ++ (blank 10 ∷ behind))
+line_segments i w operand after = label_segment i ∷ mark 58 ∷ blank 9 ∷ word (first w) (rest w) ∷ (operand ++ (blank 10 ∷ after))
 
-line_text : (i : ℕ) (insn : Insn) (op : Op) (operand behind : List Segment) (lines : List ℕ) → op_of insn.code ≡ Some op → first (mnemonic_of op) ∷ rest (mnemonic_of op) ≡ mnemonic_of op
-    → text_of operand ≡ operand_text (operand_of op) i insn → text_of behind ≡ lines
-    → text_of (line_segments i (mnemonic_of op) operand behind) ≡ numbered_line (i, insn) ++ lines
-line_text i insn op operand behind lines known w e f =
-    ap (λ (t : List ℕ). 108 ∷ (decimal i ++ (58 ∷ 9 ∷ (first (mnemonic_of op) ∷ (rest (mnemonic_of op) ++ t))))) (text_append operand (blank 10 ∷ behind))
-    ∙ ap (λ (v : List ℕ). 108 ∷ (decimal i ++ (58 ∷ 9 ∷ (v ++ (text_of operand ++ (10 ∷ text_of behind)))))) w
-    ∙ ap (λ (t : List ℕ). 108 ∷ (decimal i ++ (58 ∷ 9 ∷ (mnemonic_of op ++ (t ++ (10 ∷ text_of behind)))))) e
+line_text : (i : ℕ) (insn : Insn) (op : Op) (operand after : List Segment) (lines : List ℕ) → op_of insn.code ≡ Some op → first (mnemonic_of op) ∷ rest (mnemonic_of op) ≡ mnemonic_of op
+    → text_of operand ≡ operand_text (operand_of op) i insn → text_of after ≡ lines
+    → text_of (line_segments i (mnemonic_of op) operand after) ≡ numbered_line (i, insn) ++ lines
+line_text i insn op operand after lines known w e f =
+    ap (λ (t : List ℕ). 108 ∷ (decimal i ++ (58 ∷ 9 ∷ (first (mnemonic_of op) ∷ (rest (mnemonic_of op) ++ t))))) (text_append operand (blank 10 ∷ after))
+    ∙ ap (λ (v : List ℕ). 108 ∷ (decimal i ++ (58 ∷ 9 ∷ (v ++ (text_of operand ++ (10 ∷ text_of after)))))) w
+    ∙ ap (λ (t : List ℕ). 108 ∷ (decimal i ++ (58 ∷ 9 ∷ (mnemonic_of op ++ (t ++ (10 ∷ text_of after)))))) e
     ∙ ap (λ (t : List ℕ). 108 ∷ (decimal i ++ (58 ∷ 9 ∷ (mnemonic_of op ++ (operand_text (operand_of op) i insn ++ (10 ∷ t)))))) f
     ∙ sym (joins (decimal i) (mnemonic_of op) (operand_text (operand_of op) i insn) lines)
     ∙ sym (ap (λ o. (text_for i insn o ++ codes "\n") ++ lines) known)
@@ -82,8 +82,8 @@ line_text i insn op operand behind lines known w e f =
 abbrev operand_at : ℕ → ℕ → List ℕ → ℕ
 operand_at at i w = at + (1 + length (decimal i)) + 1 + 1 + (1 + length (rest w))
 
-abbrev behind_at : ℕ → ℕ → List ℕ → List Segment → ℕ
-behind_at at i w operand = operand_at at i w + length (text_of operand) + 1
+abbrev after_at : ℕ → ℕ → List ℕ → List Segment → ℕ
+after_at at i w operand = operand_at at i w + length (text_of operand) + 1
 
 abbrev label_token : ℕ → ℕ → Lexeme
 label_token at i = record { symbol = grammar.Symbol.word (label_name i); at = at }
@@ -100,8 +100,8 @@ line_tokens at i w operand = label_token at i ∷ colon_token at i ∷ body_toke
 abbrev line_item : ℕ → ℕ → List ℕ → List Segment → Row → Item
 line_item at i w operand row = record { labels = label_token at i ∷ []; row = row; body = body_tokens at i w operand }
 
-line_lexemes : (at i : ℕ) (w : List ℕ) (operand behind : List Segment) → lexemes_at at (line_segments i w operand behind) ≡ line_tokens at i w operand ++ lexemes_at (behind_at at i w operand) behind
-line_lexemes at i w operand behind = ap (λ (ts : List Lexeme). label_token at i ∷ colon_token at i ∷ record { symbol = grammar.Symbol.word (first w ∷ rest w); at = at + (1 + length (decimal i)) + 1 + 1 } ∷ ts) (lexemes_append (operand_at at i w) operand (blank 10 ∷ behind))
+line_lexemes : (at i : ℕ) (w : List ℕ) (operand after : List Segment) → lexemes_at at (line_segments i w operand after) ≡ line_tokens at i w operand ++ lexemes_at (after_at at i w operand) after
+line_lexemes at i w operand after = ap (λ (ts : List Lexeme). label_token at i ∷ colon_token at i ∷ record { symbol = grammar.Symbol.word (first w ∷ rest w); at = at + (1 + length (decimal i)) + 1 + 1 } ∷ ts) (lexemes_append (operand_at at i w) operand (blank 10 ∷ after))
 
 line_form : (at n i : ℕ) (insn : Insn) (op : Op) (s : Spells (operand_of op) n i insn) (r : HasRow op s.classes s.fields) → i < 2 ^ 64
     → Form (line_tokens at i (mnemonic_of op) s.segments) (line_item at i (mnemonic_of op) s.segments r.row)
@@ -138,9 +138,9 @@ lists_line n i insn op insns known l s b =
       begins = refl;
       apart = and_both _ _ (ends_before s.segments b.segments ends.0) (apart_before false s.segments b.segments inside.0 b.begins b.apart);
       positive = positive_append s.segments (blank 10 ∷ b.segments) inside.1 b.positive;
-      items = λ at. line_item at i w s.segments r.row ∷ b.items (behind_at at i w s.segments);
-      size = λ at. ap suc (b.size (behind_at at i w s.segments));
-      parsed = λ at. (line_tokens at i w s.segments, lexemes_at (behind_at at i w s.segments) b.segments, line_lexemes at i w s.segments b.segments, line_form at n i insn op s r l, b.parsed (behind_at at i w s.segments));
-      labelled = λ at. (record { label = label_token at i; only = refl; named = refl }, b.labelled (behind_at at i w s.segments));
-      encoded = λ at all p. (line_encoded at n i insn op s r known all p, b.encoded (behind_at at i w s.segments) all p);
+      items = λ at. line_item at i w s.segments r.row ∷ b.items (after_at at i w s.segments);
+      size = λ at. ap suc (b.size (after_at at i w s.segments));
+      parsed = λ at. (line_tokens at i w s.segments, lexemes_at (after_at at i w s.segments) b.segments, line_lexemes at i w s.segments b.segments, line_form at n i insn op s r l, b.parsed (after_at at i w s.segments));
+      labelled = λ at. (record { label = label_token at i; only = refl; named = refl }, b.labelled (after_at at i w s.segments));
+      encoded = λ at all p. (line_encoded at n i insn op s r known all p, b.encoded (after_at at i w s.segments) all p);
     }

@@ -17,8 +17,8 @@ all_none P k d l = absurd (omega arith)
 pub all_front : {A : Type 0} (P : A → Type 0) (x : A) (xs : List A) → All P (x ∷ xs) → P x
 all_front P x xs h = h 0 x (omega arith)
 
-pub all_behind : {A : Type 0} (P : A → Type 0) (x : A) (xs : List A) → All P (x ∷ xs) → All P xs
-all_behind P x xs h k d l = h (suc k) d (omega arith)
+pub all_after : {A : Type 0} (P : A → Type 0) (x : A) (xs : List A) → All P (x ∷ xs) → All P xs
+all_after P x xs h k d l = h (suc k) d (omega arith)
 
 -- a list is the elements before one of its own, that one, and those after it
 pub split_at : {A : Type 0} (xs : List A) (i : ℕ) (d : A) → i < length xs → xs ≡ take i xs ++ (get_or xs i d ∷ drop (suc i) xs)
@@ -29,4 +29,4 @@ split_at (x ∷ xs) (suc i) d l = ap (λ ys. x ∷ ys) (split_at xs i d (omega a
 pub all_prefix : {A : Type 0} (P : A → Type 0) (xs ys : List A) → All P (xs ++ ys) → All P xs
 all_prefix P [] ys h k d l = absurd (omega arith)
 all_prefix P (x ∷ xs) ys h zero d l = all_front P x (xs ++ ys) h
-all_prefix P (x ∷ xs) ys h (suc k) d l = all_prefix P xs ys (all_behind P x (xs ++ ys) h) k d (omega arith)
+all_prefix P (x ∷ xs) ys h (suc k) d l = all_prefix P xs ys (all_after P x (xs ++ ys) h) k d (omega arith)

@@ -20,25 +20,25 @@ use Rattle.cbpf_text.specs.Refusals.IsItemsFault.{no_item, too_many, set_twice, 
 use Rattle.cbpf_text.specs.Refusals.IsTokensFault.{misplaced, large_negative, unfinished, of_items}
 use Rattle.cbpf_text.specs.Refusals.IsRefused.{memory, piece, token}
 use Rattle.cbpf_text.specs.Laws.{NeverBoth}
-use Rattle.cbpf_text.proofs.Lists.{get_within, all_front, all_behind}
+use Rattle.cbpf_text.proofs.Lists.{get_within, all_front, all_after}
 use Rattle.cbpf_text.proofs.LabelLists.{times_append, times_cons, times_hit}
 use Rattle.cbpf_text.proofs.Forms.{items_forms}
 use Rattle.cbpf_text.proofs.Encoding.{good_uses}
 
 pub all_middle : {A : Type 0} (P : A → Type 0) (xs : List A) (x : A) (ys : List A) → All P (xs ++ (x ∷ ys)) → P x
 all_middle P [] x ys h = all_front P x ys h
-all_middle P (z ∷ xs) x ys h = all_middle P xs x ys (all_behind P z (xs ++ (x ∷ ys)) h)
+all_middle P (z ∷ xs) x ys h = all_middle P xs x ys (all_after P z (xs ++ (x ∷ ys)) h)
 
-pub no_repeat : (before : List Lexeme) (t : Lexeme) (behind : List Lexeme) → AreDistinct (before ++ (t ∷ behind)) → times_among before (name_of t) ≢ 0 → ⊥
-no_repeat before t behind d n =
-    let one : times_among (before ++ (t ∷ behind)) (name_of t) ≡ 1 = all_middle (λ u. times_among (before ++ (t ∷ behind)) (name_of u) ≡ 1) before t behind d in
-    absurd (omega (arith, one, n, times_append before (t ∷ behind) (name_of t), times_cons t behind (name_of t), times_hit t (name_of t) (bytes_eq_self (name_of t))))
+pub no_repeat : (before : List Lexeme) (t : Lexeme) (after : List Lexeme) → AreDistinct (before ++ (t ∷ after)) → times_among before (name_of t) ≢ 0 → ⊥
+no_repeat before t after d n =
+    let one : times_among (before ++ (t ∷ after)) (name_of t) ≡ 1 = all_middle (λ u. times_among (before ++ (t ∷ after)) (name_of u) ≡ 1) before t after d in
+    absurd (omega (arith, one, n, times_append before (t ∷ after) (name_of t), times_cons t after (name_of t), times_hit t (name_of t) (bytes_eq_self (name_of t))))
 
 not_items : (is : List Item) (insns : List Insn) (kind : AsmKind) (at : ℕ) → All HasForm is → AreEncoded is insns → IsItemsFault is kind at → ⊥
 not_items is insns kind at f e (no_item p) = let z : length is ≡ 0 = ap length p in absurd (omega (arith, z, e.limits.some))
 not_items is insns kind at f e (too_many item t g h) = let l : 4096 < length is = get_within is 4096 item g in absurd (omega (arith, l, e.limits.most))
-not_items is insns kind at f e (set_twice t n r) = no_repeat r.before t r.behind (subst AreDistinct r.split e.distinct) r.given
-not_items is insns kind at f e (bad_use k a n d b) = all_middle (IsGoodUse is) b.before b.u b.behind (subst (All (IsGoodUse is)) b.split (good_uses is 0 is insns e.each f)) k b.bad
+not_items is insns kind at f e (set_twice t n r) = no_repeat r.before t r.after (subst AreDistinct r.split e.distinct) r.given
+not_items is insns kind at f e (bad_use k a n d b) = all_middle (IsGoodUse is) b.before b.u b.after (subst (All (IsGoodUse is)) b.split (good_uses is 0 is insns e.each f)) k b.bad
 
 not_tokens : (ts : List Lexeme) (insns : List Insn) (kind : AsmKind) (at : ℕ) → AssembleTokens ts insns → IsTokensFault ts kind at → ⊥
 not_tokens ts insns kind at a (misplaced i t r g) = items_accepted ts a.items a.parsed a.ranged (parse.Misplaced i) r.place r.refused

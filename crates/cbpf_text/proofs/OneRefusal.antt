@@ -28,7 +28,7 @@ use Rattle.cbpf_text.proofs.NeverBoth.{all_middle, no_repeat}
 data Order {A : Type 0} (b c : List A) (u v : A) : Type 0 where
   same : u ≡ v → Order b c u v
   before : (w : List A) → c ≡ b ++ (u ∷ w) → Order b c u v
-  behind : (w : List A) → b ≡ c ++ (v ∷ w) → Order b c u v
+  after : (w : List A) → b ≡ c ++ (v ∷ w) → Order b c u v
 
 same_head : {A : Type 0} (x y : A) (xs ys : List A) → ◌≡◌ {A = List A} (x ∷ xs) (y ∷ ys) → x ≡ y
 same_head x y xs ys e = cc
@@ -39,21 +39,21 @@ same_tail x y xs ys e = cc
 order_more : {A : Type 0} (x y : A) (b c : List A) (u v : A) → x ≡ y → Order b c u v → Order (x ∷ b) (y ∷ c) u v
 order_more x y b c u v e (same p) = same p
 order_more x y b c u v e (before w p) = before w (λ j. sym e j ∷ p j)
-order_more x y b c u v e (behind w p) = behind w (λ j. e j ∷ p j)
+order_more x y b c u v e (after w p) = after w (λ j. e j ∷ p j)
 
 order : {A : Type 0} (b c : List A) (u v : A) (r s : List A) → b ++ (u ∷ r) ≡ c ++ (v ∷ s) → Order b c u v
 order [] [] u v r s e = same (same_head u v r s e)
 order [] (y ∷ c) u v r s e = before c (ap (λ z. z ∷ c) (sym (same_head u y r (c ++ (v ∷ s)) e)))
-order (x ∷ b) [] u v r s e = behind b (ap (λ z. z ∷ b) (same_head x v (b ++ (u ∷ r)) s e))
+order (x ∷ b) [] u v r s e = after b (ap (λ z. z ∷ b) (same_head x v (b ++ (u ∷ r)) s e))
 order (x ∷ b) (y ∷ c) u v r s e = order_more x y b c u v (same_head x y (b ++ (u ∷ r)) (c ++ (v ∷ s)) e) (order b c u v r s (same_tail x y (b ++ (u ∷ r)) (c ++ (v ∷ s)) e))
 
 one_repeat : (ls : List Lexeme) (t u : Lexeme) → IsFirstRepeat ls t → IsFirstRepeat ls u → t ≡ u
-one_repeat ls t u a b = by_order (order a.before b.before t u a.behind b.behind (sym a.split ∙ b.split))
+one_repeat ls t u a b = by_order (order a.before b.before t u a.after b.after (sym a.split ∙ b.split))
   where
     by_order : Order a.before b.before t u → t ≡ u
     by_order (same e) = e
     by_order (before w e) = absurd (no_repeat a.before t w (subst AreDistinct e b.distinct) a.given)
-    by_order (behind w e) = absurd (no_repeat b.before u w (subst AreDistinct e a.distinct) b.given)
+    by_order (after w e) = absurd (no_repeat b.before u w (subst AreDistinct e a.distinct) b.given)
 
 same_set : (is : List Item) (p q : ℕ) (name : List ℕ) → AreDistinct (set_labels is) → SetsAt is p name → SetsAt is q name → p ≡ q
 same_set is p q name d s t =
@@ -72,12 +72,12 @@ one_kind is u k l d (too_far p s b h) (not_after q t g) = absurd (omega (arith, 
 one_kind is u k l d (too_far p s b h) (too_far q t c g) = refl
 
 one_bad : (is : List Item) (uses : List Use) (k l : AsmKind) (m n : ℕ) → AreDistinct (set_labels is) → IsFirstBadUse is uses k m → IsFirstBadUse is uses l n → (k ≡ l) × (m ≡ n)
-one_bad is uses k l m n d a b = by_order (order a.before b.before a.u b.u a.behind b.behind (sym a.split ∙ b.split))
+one_bad is uses k l m n d a b = by_order (order a.before b.before a.u b.u a.after b.after (sym a.split ∙ b.split))
   where
     by_order : Order a.before b.before a.u b.u → (k ≡ l) × (m ≡ n)
     by_order (same e) = (one_kind is b.u k l d (subst (λ u. IsUseFault is u k) e a.bad) b.bad, a.place ∙ (ap (λ (u : Use). u.target.at) e ∙ sym b.place))
     by_order (before w e) = absurd (all_middle (IsGoodUse is) a.before a.u w (subst (All (IsGoodUse is)) e b.good) k a.bad)
-    by_order (behind w e) = absurd (all_middle (IsGoodUse is) b.before b.u w (subst (All (IsGoodUse is)) e a.good) l b.bad)
+    by_order (after w e) = absurd (all_middle (IsGoodUse is) b.before b.u w (subst (All (IsGoodUse is)) e a.good) l b.bad)
 
 empty : (is : List Item) → is ≡ [] → 0 < length is → ⊥
 empty is e l = let z : length is ≡ 0 = ap length e in omega (arith, z, l)
@@ -105,10 +105,10 @@ one_of_items is k l m n (too_many i t g h) (bad_use c p s d b) = absurd (long is
 one_of_items is k l m n (set_twice t s r) (no_item e) = absurd (empty is e s.some)
 one_of_items is k l m n (set_twice t s r) (too_many i u g h) = absurd (long is i g s.most)
 one_of_items is k l m n (set_twice t s r) (set_twice u o q) = (refl, ap (λ (v : Lexeme). v.at) (one_repeat (set_labels is) t u r q))
-one_of_items is k l m n (set_twice t s r) (bad_use c p o d b) = absurd (no_repeat r.before t r.behind (subst AreDistinct r.split d) r.given)
+one_of_items is k l m n (set_twice t s r) (bad_use c p o d b) = absurd (no_repeat r.before t r.after (subst AreDistinct r.split d) r.given)
 one_of_items is k l m n (bad_use c p s d b) (no_item e) = absurd (empty is e s.some)
 one_of_items is k l m n (bad_use c p s d b) (too_many i t g h) = absurd (long is i g s.most)
-one_of_items is k l m n (bad_use c p s d b) (set_twice t o r) = absurd (no_repeat r.before t r.behind (subst AreDistinct r.split d) r.given)
+one_of_items is k l m n (bad_use c p s d b) (set_twice t o r) = absurd (no_repeat r.before t r.after (subst AreDistinct r.split d) r.given)
 one_of_items is k l m n (bad_use c p s d b) (bad_use f q o g h) = one_bad is (uses_from 0 is) c f p q d b h
 
 same_misplaced : (i j : ℕ) → parse.Misplaced i ≡ parse.Misplaced j → i ≡ j

@@ -220,10 +220,10 @@ label_state text a b o p ss ss' rep rep2 look look2 waits d s same is_label two 
           let f = s.front ts t in
           let part = taken_is a.text a.to n 2 a.tokens ts s.reading.read (subst (λ u. AreLexemes u ts) (sym same) t) two in
           let begins : drop (s.from + length s.ls) ts ≡ (x ∷ y ∷ []) ++ part.0 = part.1 ∙ ap (λ us. us ++ part.0) (two_of a.tokens d d two) in
-          let behind : drop (s.from + length s.ls + 2) ts ≡ part.0 = drop_front (x ∷ y ∷ []) part.0 ts (s.from + length s.ls) 2 begins refl in
+          let after : drop (s.from + length s.ls + 2) ts ≡ part.0 = drop_front (x ∷ y ∷ []) part.0 ts (s.from + length s.ls) 2 begins refl in
           record {
             greedy = f.greedy;
-            rest = f.rest ∙ (ap (λ us. s.ls ++ us) begins ∙ (sym (append_assoc s.ls (x ∷ y ∷ []) part.0) ∙ ap (λ us. (s.ls ++ (x ∷ y ∷ [])) ++ us) (sym behind ∙ ap (λ k. drop k ts) count)));
+            rest = f.rest ∙ (ap (λ us. s.ls ++ us) begins ∙ (sym (append_assoc s.ls (x ∷ y ∷ []) part.0) ∙ ap (λ us. (s.ls ++ (x ∷ y ∷ [])) ++ us) (sym after ∙ ap (λ k. drop k ts) count)));
             labels = labels_append s.ls (x ∷ y ∷ []) f.labels (two_labels x y part.0 (subst (λ us. starts_with_label us ≡ true) begins (is_label ts t)));
           };
     }

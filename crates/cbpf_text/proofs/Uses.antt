@@ -30,13 +30,13 @@ good_use is index t n short p le kind (too_far place s b l) = let e : place ≡ 
 -- the first target is refused
 pub first_bad : (is : List Item) (index : ℕ) (short : Bool) (ts : List Lexeme) (kind : AsmKind) (at : ℕ) → IsTargetFault is index short (slice_get ts 0) kind at → IsFirstBadUse is (map (use_of index short) ts) kind at
 first_bad is index short [] kind at f = absurd f
-first_bad is index short (t ∷ ts) kind at f = record { before = []; u = use_of index short t; behind = map (use_of index short) ts; split = refl; good = all_none (IsGoodUse is); bad = f.0; place = f.1 }
+first_bad is index short (t ∷ ts) kind at f = record { before = []; u = use_of index short t; after = map (use_of index short) ts; split = refl; good = all_none (IsGoodUse is); bad = f.0; place = f.1 }
 
 -- the second target of a conditional jump is refused, and the first is good
 pub second_bad : (is : List Item) (index : ℕ) (ts : List Lexeme) (n : ℕ) (kind : AsmKind) (at : ℕ) → IsShortOffset is index (slice_get ts 0) n → IsTargetFault is index true (slice_get ts 1) kind at → IsFirstBadUse is (map (use_of index true) ts) kind at
 second_bad is index [] n kind at o f = absurd f
 second_bad is index (t ∷ []) n kind at o f = absurd f
-second_bad is index (t ∷ u ∷ ts) n kind at o f = record { before = use_of index true t ∷ []; u = use_of index true u; behind = map (use_of index true) ts; split = refl; good = all_one (IsGoodUse is) (use_of index true t) (good_use is index t n true o.is (λ e. o.short)); bad = f.0; place = f.1 }
+second_bad is index (t ∷ u ∷ ts) n kind at o f = record { before = use_of index true t ∷ []; u = use_of index true u; after = map (use_of index true) ts; split = refl; good = all_one (IsGoodUse is) (use_of index true t) (good_use is index t n true o.is (λ e. o.short)); bad = f.0; place = f.1 }
 
 -- what a look-up says of a target
 pub found_after : (is : List Item) (name : List ℕ) (index place : ℕ) (o : Option ℕ) → IsLookup is name o → o ≡ Some place → index < place → IsPlace is name (index + 1 + (place - index - 1))

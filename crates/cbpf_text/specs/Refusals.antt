@@ -29,8 +29,8 @@ piece_kind pieces.LargeNumber = kinds.LargeNumber
 -- the label is the first whose name one before it has given already
 pub record IsFirstRepeat (labels : List Lexeme) (label : Lexeme) : Type 0 where
   pub before : List Lexeme
-  pub behind : List Lexeme
-  pub split : labels ≡ before ++ (label ∷ behind)
+  pub after : List Lexeme
+  pub split : labels ≡ before ++ (label ∷ after)
   pub distinct : AreDistinct before
   pub given : times_among before (name_of label) ≢ 0
 
@@ -69,8 +69,8 @@ IsGoodUse items u = (kind : AsmKind) → IsUseFault items u kind → ⊥
 pub record IsFirstBadUse (items : List Item) (uses : List Use) (kind : AsmKind) (at : ℕ) : Type 0 where
   pub before : List Use
   pub u : Use
-  pub behind : List Use
-  pub split : uses ≡ before ++ (u ∷ behind)
+  pub after : List Use
+  pub split : uses ≡ before ++ (u ∷ after)
   pub good : All (IsGoodUse items) before
   pub bad : IsUseFault items u kind
   pub place : at ≡ u.target.at

@@ -135,12 +135,12 @@ reaches_onward order file i place here more =
     record { header = omega arith; within = is.within; inside = next.inside; next = next }
 
 -- the place after a record of the file
-pub record Behind (order : Endianness) (file : List ℕ) (n place : ℕ) : Type 0 where
+pub record After (order : Endianness) (file : List ℕ) (n place : ℕ) : Type 0 where
   pub within : n ≤ length (contents order file).records
   pub there : Reaches order file n place
 
-pub behind : (order : Endianness) (file : List ℕ) (r : Record) → 24 ≤ length file → slice_get (contents order file).records (r.number - 1) ≡ Some r → Behind order file r.number (r.start + 16 + length r.bytes)
-behind order file r long found =
+pub after : (order : Endianness) (file : List ℕ) (r : Record) → 24 ≤ length file → slice_get (contents order file).records (r.number - 1) ≡ Some r → After order file r.number (r.start + 16 + length r.bytes)
+after order file r long found =
     let there = stands order file (r.number - 1) r long found in
     let inside = slice_get_within (contents order file).records (r.number - 1) r found in
     let on = reaches_onward order file (r.number - 1) there.0 there.1.reached inside in

@@ -84,8 +84,8 @@ header_of file = if nat_lt (length file) 24 then Err FileHeaderCut else header_b
 
 abbrev pub savefile_with : FileHeader → List ℕ → Savefile
 savefile_with header file =
-    let behind = contents header.magic.order file in
-    record { nanos = header.magic.nanos; link = header.link; records = behind.records; ending = behind.ending }
+    let after = contents header.magic.order file in
+    record { nanos = header.magic.nanos; link = header.link; records = after.records; ending = after.ending }
 
 abbrev pub savefile_by_header : Result FileHeader CaptureFault → List ℕ → Result Savefile CaptureFault
 savefile_by_header (Ok header) file = Ok (savefile_with header file)

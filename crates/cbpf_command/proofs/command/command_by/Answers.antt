@@ -1,6 +1,6 @@
 use Rattle.std.proofs.Common.{◌≡◌, arith, rules, codes, refl, sym, ◌∙◌}
 use Rattle.std.specs.Option.{option_map}
-use Rattle.cbpf_command.specs.Words.{words, behind, trimmed}
+use Rattle.cbpf_command.specs.Words.{words, after_words, trimmed}
 use Rattle.cbpf_command.specs.Commands.{meaning, readings, reading_in, by_reading, or_wrong}
 use Rattle.cbpf_command.proofs.CommandLemmas.{named, unknown}
 use Rattle.cbpf_command.proofs.command.command_by.Goals.{in-run, in-load, in-dump, in-step, in-mark, in-quit, in-stops, in-value, in-delete, in-select, in-resume, in-breakpoint, in-disassemble}
@@ -10,7 +10,7 @@ pub returns : goal.returns
 returns c =
     let s = c.args.name.now in
     let ws = words c.args.text.now in
-    let text = trimmed (behind 1 c.args.text.now) in
+    let text = trimmed (after_words 1 c.args.text.now) in
     let given = c.arguments_in-arguments.ensures in
     let read : by_reading (reading_in readings s) ws text ≡ or_wrong (option_map meaning c.if-name-lt4.command) = elim c.if-name-lt4.branch [
       | in-load w ↦ rw w.command-is (named s (codes "load") ws text _ _ (omega arith) (search rules) refl w.load_by-command.ensures)

@@ -1,7 +1,7 @@
 use Rattle.std.proofs.Common.{◌≡◌, ◌≤◌, ◌∙◌, sym, false, length, arith}
 use Rattle.std.specs.Prelude.{nat_lt}
 use Rattle.std.proofs.lemmas.Bool.Decides.{nat_tests}
-use Rattle.cbpf_grammar.proofs.Final.{comma_at, none_behind}
+use Rattle.cbpf_grammar.proofs.Final.{comma_at, none_after}
 use Rattle.cbpf_grammar.proofs.choice.is_comma_at.Goals as goal
 
 pub returns-then-at-tokens : goal.returns-then-at-tokens
@@ -11,4 +11,4 @@ pub returns-else-at-tokens : goal.returns-else-at-tokens
 returns-else-at-tokens c =
     let l : length c.args.tokens.now ≤ c.args.at = c.if-at-tokens.false in
     let e : nat_lt c.args.at (length c.args.tokens.now) ≡ false = grind (arith, nat_tests) in
-    e ∙ sym (none_behind c.args.tokens.now c.args.at l)
+    e ∙ sym (none_after c.args.tokens.now c.args.at l)
