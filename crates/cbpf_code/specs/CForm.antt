@@ -1,4 +1,5 @@
--- The C form of a program: one line an instruction, an initializer of `struct sock_filter` (kernel documentation, networking/filter).
+-- The C form of a program: one line an instruction, an initializer of `struct sock_filter` (kernel
+-- documentation, networking/filter).
 use Rattle.std.specs.Prelude.{ℕ, ◌==◌, ◌-◌, if◌then◌else◌, List, [], ◌∷◌, length, codes, decimal}
 use Rattle.std.specs.List.{flat_map}
 use Rattle.cbpf_code.specs.Text.{joined, spaces, hex}

@@ -1,4 +1,5 @@
--- What the passes of the checker promise one another; the rules themselves are those of Faults (bpf(4), "FILTER MACHINE").
+-- What the passes of the checker promise one another; the rules themselves are those of Faults (bpf(4),
+-- "FILTER MACHINE").
 use Rattle.std.specs.Prelude.{◌≡◌, ℕ, ◌+◌, ◌<◌, ◌≤◌, List, Some, length, slice_get}
 use Rattle.cbpf_code.specs.declared.insn.Insn.{Insn}
 use Rattle.cbpf_code.specs.declared.opcode.Op.{Op}

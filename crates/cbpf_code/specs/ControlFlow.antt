@@ -1,4 +1,6 @@
--- The jump graph of a list of instructions, and the slots of scratch memory that a path through it leaves unwritten (Documentation/networking/filter, "BPF engine and instruction set"; bpf(4), "FILTER MACHINE": jumps are relative to the next instruction).
+-- The jump graph of a list of instructions, and the slots of scratch memory that a path through it leaves
+-- unwritten (Documentation/networking/filter, "BPF engine and instruction set"; bpf(4), "FILTER MACHINE":
+-- jumps are relative to the next instruction).
 use Rattle.std.specs.Prelude.{◌≡◌, ◌⊎◌, ℕ, ◌+◌, ◌<◌, Bool, true, false, IsTrue, List, Option, Some, None, slice_get}
 use Rattle.cbpf_code.specs.declared.insn.Insn.{Insn}
 use Rattle.cbpf_code.specs.declared.opcode.Op.{Op}
@@ -7,7 +9,8 @@ use Rattle.cbpf_code.specs.Opcode.{op_of}
 
 -- i is an index of the list, and its instruction has a known operation for which a property holds
 abbrev pub InsnAt : List Insn → ℕ → (Op → Insn → Type 0) → Type 0
-InsnAt list i Has = (insn : Insn) × (op : Op) × (slice_get list i ≡ Some insn) × (op_of insn.code ≡ Some op) × Has op insn
+InsnAt list i Has =
+    (insn : Insn) × (op : Op) × (slice_get list i ≡ Some insn) × (op_of insn.code ≡ Some op) × Has op insn
 
 -- t is where the instruction at i may jump
 abbrev pub IsTarget : Op → Insn → ℕ → ℕ → Type 0
@@ -49,4 +52,5 @@ StoresSlot list i s = InsnAt list i (λ op insn. IsTrue (stores_slot op) × (ins
 -- some path from the first instruction to i has no store into slot s before i
 pub data MayBeUnwritten (list : List Insn) (s : ℕ) : ℕ → Type 0 where
   at_start : MayBeUnwritten list s 0
-  onward : {h i : ℕ} → h < i → MayBeUnwritten list s h → (StoresSlot list h s → ⊥) → IsSuccessor list h i → MayBeUnwritten list s i
+  onward : {h i : ℕ} → h < i → MayBeUnwritten list s h → (StoresSlot list h s → ⊥) → IsSuccessor list h i
+      → MayBeUnwritten list s i

@@ -1,4 +1,6 @@
--- What a checker refuses in a list of instructions, and which refusal it reports first (bpf(4), "FILTER MACHINE": branches lead forward and inside, and the end is a return; which further faults there are, and their order, is this project's).
+-- What a checker refuses in a list of instructions, and which refusal it reports first (bpf(4), "FILTER
+-- MACHINE": branches lead forward and inside, and the end is a return; which further faults there are, and
+-- their order, is this project's).
 use Rattle.std.specs.Prelude.{◌≡◌, ◌⊎◌, ℕ, ◌-◌, ◌<◌, ◌≤◌, Bool, true, false, IsTrue, List, Some, None, length, slice_get}
 use Rattle.cbpf_code.specs.declared.insn.Insn.{Insn}
 use Rattle.cbpf_code.specs.declared.opcode.Op.{Op}

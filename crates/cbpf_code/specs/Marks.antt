@@ -1,4 +1,5 @@
--- The marks of a text: its longest runs of digits, and its single bytes that are neither digit nor blank. Word text, as `tcpdump -ddd` prints it, is made of them.
+-- The marks of a text: its longest runs of digits, and its single bytes that are neither digit nor blank.
+-- Word text, as `tcpdump -ddd` prints it, is made of them.
 use Rattle.std.specs.Prelude.{ℕ, suc, ◌+◌, ◌-◌, ◌*◌, Bool, false, ◌&&◌, ◌||◌, ◌==◌, nat_lt, if◌then◌else◌, List, [], ◌∷◌, drop, fold}
 
 -- a run of digits or a single byte, with the place of its first byte

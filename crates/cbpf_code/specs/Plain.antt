@@ -1,4 +1,5 @@
--- The plain form of an instruction, without the fields that its operation does not use: what an assembler writes for it (Documentation/networking/filter, "BPF engine and instruction set").
+-- The plain form of an instruction, without the fields that its operation does not use: what an assembler
+-- writes for it (Documentation/networking/filter, "BPF engine and instruction set").
 use Rattle.std.specs.Prelude.{ℕ, Bool, true, false, Option, Some, None, if◌then◌else◌}
 use Rattle.cbpf_code.specs.declared.insn.Insn.{Insn}
 use Rattle.cbpf_code.specs.declared.opcode.Op.{Op}
@@ -28,7 +29,11 @@ kept b n = if b then n else 0
 
 abbrev pub plain_for : Insn → Option Op → Insn
 plain_for insn None = insn
-plain_for insn (Some op) = record insn { jt = kept (uses_offsets op) insn.jt; jf = kept (uses_offsets op) insn.jf; k = kept (uses_k op) insn.k }
+plain_for insn (Some op) = record insn {
+  jt = kept (uses_offsets op) insn.jt;
+  jf = kept (uses_offsets op) insn.jf;
+  k = kept (uses_k op) insn.k;
+}
 
 abbrev pub plain : Insn → Insn
 plain insn = plain_for insn (op_of insn.code)

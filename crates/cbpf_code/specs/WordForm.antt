@@ -1,4 +1,5 @@
--- The word text of a program, as the kernel tree's `bpf_asm` prints it: the count, a comma, the numbers and a comma for each instruction, and a newline.
+-- The word text of a program, as the kernel tree's `bpf_asm` prints it: the count, a comma, the numbers and a
+-- comma for each instruction, and a newline.
 use Rattle.std.specs.Prelude.{ℕ, ◌^◌, ◌<◌, List, [], ◌∷◌, ◌++◌, length, codes, decimal}
 use Rattle.std.specs.List.{flat_map}
 use Rattle.cbpf_code.specs.Text.{joined}
@@ -6,7 +7,9 @@ use Rattle.cbpf_code.specs.declared.insn.Insn.{Insn}
 
 -- code, jt, jf and k in decimal, a single space between two of them, and a comma
 abbrev pub word_line : Insn → List ℕ
-word_line i = joined (decimal i.code ∷ codes " " ∷ decimal i.jt ∷ codes " " ∷ decimal i.jf ∷ codes " " ∷ decimal i.k ∷ codes "," ∷ [])
+word_line i =
+    joined (decimal i.code ∷ codes " " ∷ decimal i.jt ∷ codes " " ∷ decimal i.jf ∷ codes " " ∷ decimal i.k
+    ∷ codes "," ∷ [])
 
 abbrev pub words : List Insn → List ℕ
 words list = decimal (length list) ++ codes "," ++ flat_map word_line list ++ codes "\n"

@@ -15,7 +15,8 @@ pub record Passes (text : List ℕ) (j at n : ℕ) (ns : List ℕ) (end : ℕ) :
 
 -- the marks from a place on are bad, or fewer than n are left and the fault is that of the end
 pub record Stops (text : List ℕ) (j at n : ℕ) (e at_end : WordFault) : Type 0 where
-  pub why : (first_fault j (marks_after text at) ≡ Some e) ⊎ ((first_fault j (marks_after text at) ≡ None) × (length (marks_after text at) < n) × (e ≡ at_end))
+  pub why : (first_fault j (marks_after text at) ≡ Some e)
+      ⊎ ((first_fault j (marks_after text at) ≡ None) × (length (marks_after text at) < n) × (e ≡ at_end))
 
 -- the numbers of the instructions
 abbrev pub fields_of : List Insn → List ℕ

@@ -7,7 +7,10 @@ use Rattle.cbpf_code.specs.declared.words.WordFault.TheVariants.{Memory, NumberE
 
 -- one more than the greatest number at mark j: the count, then code, jt, jf and k
 abbrev pub range_of : ℕ → ℕ
-range_of j = if j == 0 then 2 ^ 32 else (if j % 5 == 2 then 2 ^ 16 else (if j % 5 == 3 || j % 5 == 4 then 2 ^ 8 else 2 ^ 32))
+range_of j =
+    if j == 0 then 2 ^ 32
+    else (if j % 5 == 2 then 2 ^ 16
+    else (if j % 5 == 3 || j % 5 == 4 then 2 ^ 8 else 2 ^ 32))
 
 -- what is wrong with a mark where a comma is due
 abbrev pub comma_fault : Mark → Option WordFault
@@ -63,10 +66,12 @@ end_fault text = if length (marks text) == 1 then CommaExpected (length text) el
 
 -- the first bad mark, or where there is none and the text does not read as a list, its end
 pub record Breaks (text : List ℕ) (e : WordFault) : Type 0 where
-  pub why : (first_fault 0 (marks text) ≡ Some e) ⊎ ((first_fault 0 (marks text) ≡ None) × ((list : List Insn) → ¬ Loose text list) × (e ≡ end_fault text))
+  pub why : (first_fault 0 (marks text) ≡ Some e)
+      ⊎ ((first_fault 0 (marks text) ≡ None) × ((list : List Insn) → ¬ Loose text list) × (e ≡ end_fault text))
 
 -- `read_words` refuses the text by this fault
 abbrev pub Refused : List ℕ → WordFault → Type 0
 Refused text Memory = Unit {0}
-Refused text (CountDiffers said found) = (list : List Insn) × Loose text list × (said ≡ count_of text) × (found ≡ length list) × (said ≢ found)
+Refused text (CountDiffers said found) =
+    (list : List Insn) × Loose text list × (said ≡ count_of text) × (found ≡ length list) × (said ≢ found)
 Refused text e = Breaks text e

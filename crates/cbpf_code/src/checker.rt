@@ -101,7 +101,8 @@ fn fault_at(list: &[Insn], i: u32, count: u32) -> Option<CheckFault>
     requires within { i < count }
     requires all { count ≡ length list.now }
     requires few { count ≤ 4096 }
-    ensures { MatchOption result (AllowedAt list.now i) (λ e. HasFault list.now e × (spec.rank e ≡ 2) × (spec.index_of e ≡ i)) }
+    ensures { MatchOption result (AllowedAt list.now i)
+        (λ e. HasFault list.now e × (spec.rank e ≡ 2) × (spec.index_of e ≡ i)) }
 {
     let insn = list[i as usize];
     match op_of(insn.code) {
@@ -114,7 +115,8 @@ fn fault_at(list: &[Insn], i: u32, count: u32) -> Option<CheckFault>
 fn fault_of(op: Op, insn: Insn, i: u32, count: u32) -> Option<CheckFault>
     requires few { count ≤ 4096 }
     requires within { i < count }
-    ensures { MatchOption result (IsAllowed op insn i count) (λ e. InsnHasFault op insn i count e × (spec.rank e ≡ 2) × (spec.index_of e ≡ i)) }
+    ensures { MatchOption result (IsAllowed op insn i count)
+        (λ e. InsnHasFault op insn i count e × (spec.rank e ≡ 2) × (spec.index_of e ≡ i)) }
 {
     let ahead = count - i - 1; // how many instructions a jump can reach
     match op {

@@ -14,7 +14,8 @@ use crate::opcode::{Op, op_of};
 /// path to it leaves unwritten. No path gives an empty mask, as do paths that write all slots.
 pub(crate) fn first_unwritten(list: &[Insn]) -> Option<u32>
     requires { IsWellFormed list.now }
-    ensures { MatchOption result ((j : ℕ) → HasFault list.now (UnwrittenSlot j) → ⊥) (λ i. HasFault list.now (UnwrittenSlot i) × ((j : ℕ) → j < i → HasFault list.now (UnwrittenSlot j) → ⊥)) }
+    ensures { MatchOption result ((j : ℕ) → HasFault list.now (UnwrittenSlot j) → ⊥)
+        (λ i. HasFault list.now (UnwrittenSlot i) × ((j : ℕ) → j < i → HasFault list.now (UnwrittenSlot j) → ⊥)) }
 {
     let mut unwritten = [0u16; 4096];
     unwritten[0] = u16::MAX;

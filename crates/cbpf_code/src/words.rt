@@ -138,8 +138,10 @@ fn read_list<A: Allocator>(alloc: A, text: &[u8]) -> Result<Vec<Insn, A>, WordFa
 /// stand anywhere between, and numbers may have leading zeros.
 pub fn read_words<A: Allocator>(alloc: A, text: &[u8]) -> Result<Vec<Insn, A>, WordFault>
     ensures answer { MatchResult result (λ v. Spells text.now v.items) (λ e. Refused text.now e) }
-    ensures spelled { (list : List Insn) → Spells text.now list → MatchResult result (λ v. v.items ≡ list) (λ e. e ≡ Memory) }
-    ensures only { (f : WordFault) → f ≢ Memory → Refused text.now f → MatchResult result (λ v. ⊥) (λ e. (e ≡ Memory) ⊎ (e ≡ f)) }
+    ensures spelled { (list : List Insn) → Spells text.now list →
+        MatchResult result (λ v. v.items ≡ list) (λ e. e ≡ Memory) }
+    ensures only { (f : WordFault) → f ≢ Memory → Refused text.now f →
+        MatchResult result (λ v. ⊥) (λ e. (e ≡ Memory) ⊎ (e ≡ f)) }
 {
     read_list(alloc, text)
 }
