@@ -130,8 +130,8 @@ fn each_refused_growth_leaves_nothing_written(rt: HostRuntime) {
     }
 }
 
-fn check_refused(rt: &impl Abort, result: Result<(), ToolFault>, text: &[u8]) {
-    match result {
+fn check_refused(rt: &impl Abort, answer: Result<(), ToolFault>, text: &[u8]) {
+    match answer {
         Err(ToolFault::Source(AsmFault::At(..))) => assert!(rt; text.is_empty()),
         _ => assert!(rt; false),
     }
