@@ -23,12 +23,7 @@ fn write_head<W: Write>(w: &mut W, i: u32, mnemonic: &[u8]) -> Result<(), WriteF
 }
 
 /// A decimal number between two texts.
-fn write_between<W: Write>(
-    w: &mut W,
-    before: &[u8],
-    n: u64,
-    after: &[u8],
-) -> Result<(), WriteFault>
+fn write_between<W: Write>(w: &mut W, before: &[u8], n: u64, after: &[u8]) -> Result<(), WriteFault>
     ensures { Wrote (W.contents w.old) (W.contents w.new) result (spec.between before.now n after.now) }
 {
     let mut number = Buffer::new();
