@@ -6,4 +6,4 @@ pub mod TraceLemmas
 pub mod AskedLemmas
 pub mod FollowLemmas
 pub mod RestLemmas
-pub mod WatchedLemmas
+pub mod PassLemmas

@@ -9,4 +9,3 @@ pub mod Trail
 pub mod Follow
 pub mod InPlace
 pub mod Rest
-pub mod Watched

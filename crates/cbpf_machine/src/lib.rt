@@ -17,6 +17,8 @@ mod mark_trail;
 mod meter;
 mod outcome;
 mod packet;
+mod pass;
+mod pause;
 mod run;
 mod state;
 mod together;

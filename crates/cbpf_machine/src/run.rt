@@ -5,8 +5,9 @@ ghost use Rattle.cbpf_machine.specs.Trace as spec;
 use crate::meter::Meter;
 use crate::outcome::Outcome;
 use crate::packet::Packet;
+use crate::pass::pass;
+use crate::pause::Never;
 use crate::state::State;
-use crate::together::go_on;
 use crate::values::Values;
 use cbpf_code::Program;
 use std::alloc::Allocator;
@@ -32,15 +33,13 @@ pub fn run_packet<A: Allocator>(
     ensures whole { spec.IsRun (machine_of p.now values.now) packet.entry.bytes.now packet.entry.wire (spec.trace (machine_of p.now values.now) packet.entry.bytes.now packet.entry.wire) }
 {
     let _sound = p.len();
-    // Both are this function's own, so they stay in those registers.
-    let mut skipped = 0;
+    // It is this function's own, so it stays in those registers.
     let mut s = State::zero();
-    'run: loop {
-        let end = go_on::<A, false>(p.len() as usize, &mut skipped, p, packet, values, &mut s);
-        if let Some(outcome) = end {
-            // Each turn but the last went on by one instruction and what it skipped.
-            meter.add(s.pc() - skipped + 1);
-            return outcome;
+    match pass::<Never, A, false>(&Never, p, packet, values, &mut s) {
+        (turns, Some(outcome)) => {
+            meter.add(turns);
+            outcome
         }
+        _ => unreachable!(),
     }
 }
