@@ -1,6 +1,6 @@
 -- What a run answers where it ends.
 use Rattle.std.proofs.Common.{◌≡◌, ℕ, zero, suc, ◌+◌, ◌-◌, ◌<◌, ◌≤◌, List, [], ◌∷◌, ◌++◌, length, Bool, true, false, arith, sym, ap, ◌∙◌, refl, inl, inr, cond}
-use Rattle.std.specs.Prelude.{Option, Some, None, slice_get, filter, ◌⊎◌, ◌||◌, nat_lt, nat_le, ◌≢◌}
+use Rattle.std.specs.Prelude.{Option, Some, None, slice_get, filter, ◌||◌, nat_lt, nat_le, ◌≢◌}
 use Rattle.std.proofs.lemmas.Bool.Decides.{nat_tests}
 use Rattle.cbpf_machine.specs.Machine.{Machine}
 use Rattle.cbpf_machine.specs.declared.outcome.Turn.{Turn}
@@ -39,6 +39,21 @@ up_to_next (Some n) first packet next h forward e test =
     let differs : n ≢ packet - first = grind (arith, nat_tests) in
     omega arith
 
+-- a packet that is not the limit
+pub below_here : (limit : Option ℕ) (first packet count : ℕ) → UpTo limit first packet → first ≤ packet → is_limit limit (packet - first) ≡ false → Below limit first packet count
+below_here None first packet count h forward test = tt
+below_here (Some n) first packet count h forward test =
+    let differs : n ≢ packet - first = grind (arith, nat_tests) in
+    (h, inl (omega arith))
+
+-- the limit is not reached at the start
+pub limit_later : (limit : Option ℕ) (first packet : ℕ) → (limit ≡ Some 0 → ⊥) → first ≤ packet → is_limit limit (packet - first) ≡ true → first < packet
+limit_later None first packet h forward test = cc
+limit_later (Some zero) first packet h forward test = absurd (h refl)
+limit_later (Some (suc n)) first packet h forward test =
+    let same : suc n ≡ packet - first = grind (arith, nat_tests) in
+    omega arith
+
 -- after the last packet
 pub up_to_past : (limit : Option ℕ) (first packet count : ℕ) → UpTo limit first packet → count < packet → Below limit first packet count
 up_to_past None first packet count h past = tt
@@ -49,21 +64,6 @@ within_below : (limit : Option ℕ) (first packet count : ℕ) → Below limit f
 within_below None first packet count h here forward = refl
 within_below (Some n) first packet count h here forward =
     elim h.1 [ inl below ↦ grind (arith, nat_tests) | inr past ↦ absurd (omega arith) ]
-
--- a packet on, which is not the limit or is after the last packet
-pub below_next : (limit : Option ℕ) (first packet next count : ℕ) → Below limit first packet count → packet ≤ count → first ≤ packet → next ≡ packet + 1
-    → (is_limit limit (next - first) ≡ false) ⊎ (count < next) → Below limit first next count
-below_next None first packet next count h here forward e test = tt
-below_next (Some n) first packet next count h here forward e test =
-    let most : next ≤ first + n = elim h.1 [ inl below ↦ omega arith | inr past ↦ absurd (omega arith) ] in (
-      most,
-      elim test [
-        | inl other ↦
-            let differs : n ≢ next - first = grind (arith, nat_tests) in
-            inl (omega arith)
-        | inr past ↦ inr past
-      ],
-    )
 
 -- ---- hits
 
@@ -123,7 +123,7 @@ run_to_limit m machine capture (Some n) packet [] at forward here later =
     rw e (rw yes refl)
 run_to_limit m machine capture (Some n) packet (h ∷ more) at forward here later =
     let l = is_limit-some n (packet - m.place.packet) at in
-    let behind : packet ≤ h.place.packet = later h more refl in
+    let later_packet : packet ≤ h.place.packet = later h more refl in
     let e : m.place.packet + n ≡ packet = omega arith in
     let no : nat_lt (h.place.packet - m.place.packet) n ≡ false = grind (arith, nat_tests) in
     let yes : nat_le packet (length capture) ≡ true = grind (arith, nat_tests) in
@@ -140,8 +140,8 @@ filter-head f (y ∷ xs) x ys h = filter-head_at f y xs x ys (f y) refl (λ x' y
 not_before : (a b : Place) → is_after a b ≡ true → a.packet ≤ b.packet
 not_before a b h = grind (arith, nat_tests)
 
-rest-behind : (machine : Machine) (capture : List Record) (breakpoints : Breakpoints) (place : Place) (h : Stop) (more : List Stop) → rest machine capture breakpoints place ≡ h ∷ more → place.packet ≤ h.place.packet
-rest-behind machine capture breakpoints place h more e =
+rest-later : (machine : Machine) (capture : List Record) (breakpoints : Breakpoints) (place : Place) (h : Stop) (more : List Stop) → rest machine capture breakpoints place ≡ h ∷ more → place.packet ≤ h.place.packet
+rest-later machine capture breakpoints place h more e =
     not_before place h.place (filter-head (λ (k : Stop). is_after place k.place) (stops machine capture breakpoints) h more e)
 
 pub rest-head : (machine : Machine) (capture : List Record) (breakpoints : Breakpoints) (place : Place) (h : Stop) (more : List Stop) → rest machine capture breakpoints place ≡ h ∷ more → is_after place h.place ≡ true
@@ -194,7 +194,7 @@ module _ (machine : Machine) (c : Savefile) (breakpoints : Breakpoints) (limit :
       → Runs machine c breakpoints w0 w2 limit (Limit w2.counts)
   run_limited w1 w2 stands same origin place forward at here =
       let out : run_to view0 machine c.records limit (hits w0.place) ≡ limited view0 machine c.records w2.place.packet =
-      rw (← same) (run_to_limit view0 machine c.records limit w2.place.packet (hits w2.place) at forward here (λ h more e. rest-behind machine c.records breakpoints w2.place h more e)) in
+      rw (← same) (run_to_limit view0 machine c.records limit w2.place.packet (hits w2.place) at forward here (λ h more e. rest-later machine c.records breakpoints w2.place h more e)) in
       let counted : w2.counts ≡ counts machine c.records w0.origin w2.place.packet = rw (← origin) stands.counted in
       record {
         reply_is = rw out (ap Limit counted);

@@ -2,6 +2,7 @@
 
 ghost use Rattle.std.specs.Prelude.{◌≡◌, ◌≢◌, ◌+◌, ◌-◌, ◌<◌, ◌≤◌, ◌^◌, [], Some, true, slice_get, IsSome};
 ghost use Rattle.pcap_classic.specs.Lent.{record_of};
+ghost use Rattle.pcap_classic.specs.Records.{Record};
 ghost use Rattle.cbpf_dbg.specs.Commands.{PassesHits};
 ghost use Rattle.cbpf_dbg.specs.Joined.{rest};
 ghost use Rattle.cbpf_dbg.specs.Loaded.{machine_in, records_in, breakpoints_in};
@@ -27,8 +28,44 @@ fn is_limit(limit: Option<u64>, packets: u64) -> bool
     }
 }
 
-/// Goes on in a packet, whose record is `here`, to the next entry at an instruction that is watched, or out of
-/// the packet; no hit is passed.
+/// Goes on in a packet that has begun to the next entry at an instruction that is watched, or
+/// out of the packet; no hit is passed.
+// It isn't inlined, so that the loop over packets has their start alone in it. It takes the packet in place of its
+// record, so that the loop keeps no record in memory for it.
+#[inline(never)]
+fn leave_begun<T: Trail, A: Allocator>(
+    meter: &mut Meter,
+    loaded: &Loaded<'_, A>,
+    packet: Packet<'_>,
+    w: &mut Cursor,
+    trail: &mut T,
+) -> Moved
+    requires stands { Stands (machine_in loaded.now) (records_in loaded.now) w.old }
+    requires here { (r : Record) × (slice_get (records_in loaded.now) (w.old.place.packet - 1) ≡ Some (record r { bytes = packet.bytes.now; wire = packet.wire })) }
+    requires keeps { Keeps (λ xs. T.stands_for trail.old xs) (machine_in loaded.now) (records_in loaded.now) w.old.place }
+    requires begun { 0 < w.old.place.step }
+    requires spare { meter.old + owed (machine_in loaded.now) (records_in loaded.now) w.old.place + 1 < 2 ^ 128 }
+    requires watched { Watches loaded.now.watched.now (machine_in loaded.now) (breakpoints_in loaded.now) }
+    ensures stands { Stands (machine_in loaded.now) (records_in loaded.now) w.new }
+    ensures keeps { result ≡ moved.Entry → Keeps (λ xs. T.stands_for trail.new xs) (machine_in loaded.now) (records_in loaded.now) w.new.place }
+    ensures origin { w.new.origin ≡ w.old.origin }
+    ensures order { NotBefore w.new.place w.old.place }
+    ensures passes { (r : Record) → slice_get (records_in loaded.now) (w.old.place.packet - 1) ≡ Some r → PassesOn (machine_in loaded.now) (records_in loaded.now) (breakpoints_in loaded.now) r w.old result w.new }
+    ensures spent { meter.new + owed (machine_in loaded.now) (records_in loaded.now) w.new.place ≡ meter.old + owed (machine_in loaded.now) (records_in loaded.now) w.old.place }
+{
+    let _few = loaded.capture.count();
+    let followed = trail.follow(
+        meter,
+        loaded.program,
+        packet,
+        loaded.values,
+        loaded.watched,
+        &mut w.state,
+    );
+    w.follow(followed)
+}
+
+/// The same from an entry of the packet, or from before its first one.
 #[inline(always)]
 fn leave_unwatched<T: Trail, A: Allocator>(
     meter: &mut Meter,
@@ -54,12 +91,17 @@ fn leave_unwatched<T: Trail, A: Allocator>(
         bytes: here.bytes,
         wire: here.wire,
     };
-    let (program, values, watched) = (loaded.program, loaded.values, loaded.watched);
-    if w.place.step == 0 {
-        let followed = trail.begin(meter, program, packet, values, watched, &mut w.state);
-        return w.follow(followed);
+    if w.place.step > 0 {
+        return leave_begun(meter, loaded, packet, w, trail);
     }
-    let followed = trail.follow(meter, program, packet, values, watched, &mut w.state);
+    let followed = trail.begin(
+        meter,
+        loaded.program,
+        packet,
+        loaded.values,
+        loaded.watched,
+        &mut w.state,
+    );
     w.follow(followed)
 }
 
@@ -125,6 +167,10 @@ fn run_here<T: Trail, A: Allocator>(
             *w = Cursor::start();
             return RunReply::Finished(counts);
         };
+        // The packet hasn't begun then, as the limit is 1 at least.
+        if is_limit(limit, w.place.packet - start) {
+            return RunReply::Limit(w.counts);
+        }
         // Asked for first, so that its header is fetched from memory while this packet runs.
         let after = loaded.capture.following(&here);
         if let Some(why) = pass_to_hit(meter, loaded, &here, w, trail) {
@@ -136,9 +182,6 @@ fn run_here<T: Trail, A: Allocator>(
         }
         trail.clear();
         next = after;
-        if is_limit(limit, w.place.packet - start) && next.is_some() {
-            return RunReply::Limit(w.counts);
-        }
     }
 }
 

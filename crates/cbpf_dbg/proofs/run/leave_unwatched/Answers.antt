@@ -1,4 +1,4 @@
-use Rattle.std.proofs.Common.{◌≡◌, ◌<◌, ◌+◌, arith, ap, sym, subst, take}
+use Rattle.std.proofs.Common.{◌≡◌, ◌+◌, arith, ap, sym, subst, take}
 use Rattle.pcap_classic.specs.Lent.{record_of}
 use Rattle.cbpf_machine.specs.Trace.{trace, outcome}
 use Rattle.cbpf_machine.specs.Follow.{Follows, turns_to}
@@ -6,15 +6,20 @@ use Rattle.cbpf_reply.specs.declared.reply.Counts.{Counts}
 use Rattle.cbpf_dbg.specs.Loaded.{machine_in, records_in, breakpoints_in}
 use Rattle.cbpf_dbg.specs.Cursor.{moved_by}
 use Rattle.cbpf_dbg.proofs.CountLemmas.{counts-at_most}
-use Rattle.cbpf_dbg.proofs.KeepLemmas.{entry_at_place}
-use Rattle.cbpf_dbg.proofs.FollowLemmas.{Leaves, kept_steps, steps_fit, room, leaves}
+use Rattle.cbpf_dbg.proofs.FollowLemmas.{Leaves, steps_fit, room, leaves}
 use Rattle.cbpf_dbg.specs.Cursor.{PassesOn}
 use Rattle.cbpf_dbg.proofs.KeepLemmas.{keeps_followed}
 use Rattle.cbpf_dbg.proofs.run.leave_unwatched.Goals as goal
 
+pub leave_begun-requires-clause-here : goal.leave_begun-requires-clause-here
+leave_begun-requires-clause-here g c = (record_of c.args.here.now, c.requires.here)
+
+pub returns-then-w-gt0-clause-passes : goal.returns-then-w-gt0-clause-passes
+returns-then-w-gt0-clause-passes g c = c.leave_begun.ensures.passes (record_of c.args.here.now) c.requires.here
+
 pub begin-followed-requires : goal.begin-followed-requires
 begin-followed-requires g c =
-    let before : c.args.w.now.place.step ≡ 0 = omega (arith, c.if-w-eq0.true) in
+    let before : c.args.w.now.place.step ≡ 0 = omega (arith, c.if-w-gt0.false) in
     let roomy = room (machine_in c.args.loaded.now) (records_in c.args.loaded.now) c.args.w.now (record_of c.args.here.now) c.requires.stands c.requires.here in
     let spare = c.requires.spare in
     let empty : g.T.Trail.stands_for c.args.trail.now (take 0 (trace (machine_in c.args.loaded.now) c.args.here.now.bytes.now c.args.here.now.wire)) = rw before at (c.requires.keeps _ c.requires.here) in
@@ -28,7 +33,7 @@ follow-requires g c =
     let few = counts-at_most (machine_in c.args.loaded.now) (records_in c.args.loaded.now) c.args.w.now.origin c.args.w.now.place.packet in
     let counted = c.requires.stands.counted in
     let within = c.requires.stands.within in
-    let before : c.args.w.now.place.step ≡ 0 = omega (arith, c.if-w-eq0.true) in
+    let before : c.args.w.now.place.step ≡ 0 = omega (arith, c.if-w-gt0.false) in
     let f : Follows c.args.loaded.now.watched.now (trace (machine_in c.args.loaded.now) c.args.here.now.bytes.now c.args.here.now.wire) (outcome (machine_in c.args.loaded.now) c.args.here.now.bytes.now c.args.here.now.wire) c.args.w.now.place.step c.args.w.now.state c.begin-followed.new.s c.begin-followed.result = subst (λ k. Follows c.args.loaded.now.watched.now (trace (machine_in c.args.loaded.now) c.args.here.now.bytes.now c.args.here.now.wire) (outcome (machine_in c.args.loaded.now) c.args.here.now.bytes.now c.args.here.now.wire) k c.args.w.now.state c.begin-followed.new.s c.begin-followed.result) (sym before) c.begin-followed.ensures.follows in
     record {
       packets = omega (arith, within, c.count-few.ensures.bounded, c.count-few.ensures.value);
@@ -38,9 +43,9 @@ follow-requires g c =
       steps = λ n e. let fit = steps_fit (machine_in c.args.loaded.now) (records_in c.args.loaded.now) c.args.w.now (record_of c.args.here.now) c.requires.stands c.requires.here (breakpoints_in c.args.loaded.now) c.args.loaded.now.watched.now c.requires.watched c.begin-followed.result c.begin-followed.new.s f n e in omega (arith, fit);
     }
 
-pub returns-then-w-eq0 : goal.returns-then-w-eq0
-returns-then-w-eq0 g c =
-    let before : c.args.w.now.place.step ≡ 0 = omega (arith, c.if-w-eq0.true) in
+pub returns : goal.returns
+returns g c =
+    let before : c.args.w.now.place.step ≡ 0 = omega (arith, c.if-w-gt0.false) in
     let f : Follows c.args.loaded.now.watched.now (trace (machine_in c.args.loaded.now) c.args.here.now.bytes.now c.args.here.now.wire) (outcome (machine_in c.args.loaded.now) c.args.here.now.bytes.now c.args.here.now.wire) c.args.w.now.place.step c.args.w.now.state c.begin-followed.new.s c.begin-followed.result = subst (λ k. Follows c.args.loaded.now.watched.now (trace (machine_in c.args.loaded.now) c.args.here.now.bytes.now c.args.here.now.wire) (outcome (machine_in c.args.loaded.now) c.args.here.now.bytes.now c.args.here.now.wire) k c.args.w.now.state c.begin-followed.new.s c.begin-followed.result) (sym before) c.begin-followed.ensures.follows in
     let turns : c.begin-followed.new.meter + 1 ≡ c.args.meter.now + turns_to (trace (machine_in c.args.loaded.now) c.args.here.now.bytes.now c.args.here.now.wire) c.args.w.now.place.step c.begin-followed.result = subst (λ k. c.begin-followed.new.meter + 1 ≡ c.args.meter.now + turns_to (trace (machine_in c.args.loaded.now) c.args.here.now.bytes.now c.args.here.now.wire) k c.begin-followed.result) (sym before) c.begin-followed.ensures.turns in
     let left : Leaves (machine_in c.args.loaded.now) (records_in c.args.loaded.now) (breakpoints_in c.args.loaded.now) (record_of c.args.here.now) c.args.w.now (moved_by c.begin-followed.result) c.follow.new.self c.args.meter.now c.begin-followed.new.meter =
@@ -51,50 +56,5 @@ returns-then-w-eq0 g c =
       origin = left.origin;
       order = left.order;
       passes = subst (λ m. PassesOn (machine_in c.args.loaded.now) (records_in c.args.loaded.now) (breakpoints_in c.args.loaded.now) (record_of c.args.here.now) c.args.w.now m c.follow.new.self) (sym c.follow.ensures.moved) left.passes;
-      spent = left.spent;
-    }
-
-pub follow-followed-requires : goal.follow-followed-requires
-follow-followed-requires g c =
-    let begun : 0 < c.args.w.now.place.step = omega (arith, c.if-w-eq0.false) in
-    let k = kept_steps (machine_in c.args.loaded.now) (records_in c.args.loaded.now) c.args.w.now (record_of c.args.here.now) c.requires.stands c.requires.here (g.T.Trail.kept c.args.trail.now) (g.met.T.Trail.as_long c.args.trail.now _ (c.requires.keeps _ c.requires.here)) in
-    let roomy = room (machine_in c.args.loaded.now) (records_in c.args.loaded.now) c.args.w.now (record_of c.args.here.now) c.requires.stands c.requires.here in
-    record {
-      from_one = omega (arith, k, begun);
-      of_trace = rw k (c.requires.keeps _ c.requires.here);
-      last = rw k (entry_at_place (machine_in c.args.loaded.now) (records_in c.args.loaded.now) c.args.w.now (record_of c.args.here.now) c.requires.stands begun c.requires.here);
-      spare = let spare = c.requires.spare in omega (arith, k, spare, roomy, begun);
-    }
-
-pub follow-requires-2 : goal.follow-requires-2
-follow-requires-2 g c =
-    let few = counts-at_most (machine_in c.args.loaded.now) (records_in c.args.loaded.now) c.args.w.now.origin c.args.w.now.place.packet in
-    let counted = c.requires.stands.counted in
-    let within = c.requires.stands.within in
-    let begun : 0 < c.args.w.now.place.step = omega (arith, c.if-w-eq0.false) in
-    let k = kept_steps (machine_in c.args.loaded.now) (records_in c.args.loaded.now) c.args.w.now (record_of c.args.here.now) c.requires.stands c.requires.here (g.T.Trail.kept c.args.trail.now) (g.met.T.Trail.as_long c.args.trail.now _ (c.requires.keeps _ c.requires.here)) in
-    let f : Follows c.args.loaded.now.watched.now (trace (machine_in c.args.loaded.now) c.args.here.now.bytes.now c.args.here.now.wire) (outcome (machine_in c.args.loaded.now) c.args.here.now.bytes.now c.args.here.now.wire) c.args.w.now.place.step c.args.w.now.state c.follow-followed.new.s c.follow-followed.result = rw k at c.follow-followed.ensures.follows in
-    record {
-      packets = omega (arith, within, c.count-few.ensures.bounded, c.count-few.ensures.value);
-      passes = omega (arith, few.passes, ap (λ (n : Counts). n.passes) counted, c.count-few.ensures.bounded, c.count-few.ensures.value);
-      fails = omega (arith, few.fails, ap (λ (n : Counts). n.fails) counted, c.count-few.ensures.bounded, c.count-few.ensures.value);
-      unknown = omega (arith, few.unknown, ap (λ (n : Counts). n.unknown) counted, c.count-few.ensures.bounded, c.count-few.ensures.value);
-      steps = λ n e. let fit = steps_fit (machine_in c.args.loaded.now) (records_in c.args.loaded.now) c.args.w.now (record_of c.args.here.now) c.requires.stands c.requires.here (breakpoints_in c.args.loaded.now) c.args.loaded.now.watched.now c.requires.watched c.follow-followed.result c.follow-followed.new.s f n e in omega (arith, fit);
-    }
-
-pub returns : goal.returns
-returns g c =
-    let begun : 0 < c.args.w.now.place.step = omega (arith, c.if-w-eq0.false) in
-    let k = kept_steps (machine_in c.args.loaded.now) (records_in c.args.loaded.now) c.args.w.now (record_of c.args.here.now) c.requires.stands c.requires.here (g.T.Trail.kept c.args.trail.now) (g.met.T.Trail.as_long c.args.trail.now _ (c.requires.keeps _ c.requires.here)) in
-    let f : Follows c.args.loaded.now.watched.now (trace (machine_in c.args.loaded.now) c.args.here.now.bytes.now c.args.here.now.wire) (outcome (machine_in c.args.loaded.now) c.args.here.now.bytes.now c.args.here.now.wire) c.args.w.now.place.step c.args.w.now.state c.follow-followed.new.s c.follow-followed.result = rw k at c.follow-followed.ensures.follows in
-    let turns : c.follow-followed.new.meter ≡ c.args.meter.now + turns_to (trace (machine_in c.args.loaded.now) c.args.here.now.bytes.now c.args.here.now.wire) c.args.w.now.place.step c.follow-followed.result = rw k at c.follow-followed.ensures.turns in
-    let left : Leaves (machine_in c.args.loaded.now) (records_in c.args.loaded.now) (breakpoints_in c.args.loaded.now) (record_of c.args.here.now) c.args.w.now (moved_by c.follow-followed.result) c.follow-2.new.self c.args.meter.now c.follow-followed.new.meter =
-    leaves (machine_in c.args.loaded.now) (records_in c.args.loaded.now) c.args.w.now (record_of c.args.here.now) c.requires.stands c.requires.here (breakpoints_in c.args.loaded.now) c.args.loaded.now.watched.now c.requires.watched c.follow-followed.result c.follow-followed.new.s c.follow-2.new.self c.args.meter.now c.follow-followed.new.meter c.follow-2.ensures.cursor f (omega (arith, turns, begun)) in
-    record {
-      stands = left.stands;
-      keeps = keeps_followed (λ xs. g.T.Trail.stands_for c.follow-followed.new.self xs) (machine_in c.args.loaded.now) (records_in c.args.loaded.now) c.args.w.now (record_of c.args.here.now) c.requires.here c.follow-followed.result c.follow-followed.new.s c.follow-2.result c.follow-2.new.self c.follow-2.ensures.cursor c.follow-2.ensures.moved (λ n e. rw (k, e) at c.follow-followed.ensures.stands);
-      origin = left.origin;
-      order = left.order;
-      passes = subst (λ m. PassesOn (machine_in c.args.loaded.now) (records_in c.args.loaded.now) (breakpoints_in c.args.loaded.now) (record_of c.args.here.now) c.args.w.now m c.follow-2.new.self) (sym c.follow-2.ensures.moved) left.passes;
       spent = left.spent;
     }

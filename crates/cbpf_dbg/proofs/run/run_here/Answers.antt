@@ -1,17 +1,14 @@
-use Rattle.std.proofs.Common.{◌≡◌, ◌+◌, ◌-◌, ◌<◌, length, arith, sym, ap, ◌∙◌, inl, inr, false, refl}
-use Rattle.std.specs.Prelude.{◌⊎◌}
+use Rattle.std.proofs.Common.{◌≡◌, ◌+◌, ◌-◌, length, arith, sym, ap, ◌∙◌, inr, refl}
 use Rattle.cbpf_reply.specs.declared.reply.Place.{Place}
 use Rattle.std.proofs.lemmas.Option.{slice_get_within}
-use Rattle.cbpf_dbg.specs.Cursor.{is_limit}
 use Rattle.cbpf_dbg.proofs.JoinedLemmas.{rest-none}
-use Rattle.cbpf_dbg.proofs.CursorLemmas.{here_after, here_some, here_none, here_within, here_past, cursor_ended}
-use Rattle.cbpf_dbg.proofs.RunLemmas.{below_next, stop_front, run_stopped, run_finished, run_limited}
+use Rattle.cbpf_dbg.proofs.CursorLemmas.{here_after, here_some, here_none, cursor_ended}
+use Rattle.cbpf_dbg.proofs.RunLemmas.{below_here, limit_later, up_to_at_start, up_to_next, up_to_past, stop_front, run_stopped, run_finished, run_limited_at}
 use Rattle.cbpf_dbg.proofs.KeepLemmas.{keeps_clear}
 use Rattle.cbpf_dbg.proofs.TurnLemmas.{run_turns-reply, spent_between, owed-turns, not_before_after}
 use Rattle.cbpf_dbg.specs.Loaded.{machine_in, records_in, breakpoints_in}
 use Rattle.pcap_classic.specs.Lent.{record_of}
 use Rattle.cbpf_dbg.proofs.run.run_here.Goals as goal
-use Rattle.cbpf_dbg.proofs.run.run_here.Goals.{else-is_limit-via-then-is_limit+else-is_some, else-is_limit-via-else-is_limit}
 
 pub returns-in-Some-pass_to_hit-clause-runs : goal.returns-in-Some-pass_to_hit-clause-runs
 returns-in-Some-pass_to_hit-clause-runs g c =
@@ -22,7 +19,7 @@ returns-in-Some-pass_to_hit-clause-runs g c =
     let ordered = c.go.invariant.stands.ordered in
     run_stopped (machine_in c.args.loaded.now) c.args.loaded.now.capture.now (breakpoints_in c.args.loaded.now) c.args.limit c.args.w.now h.0 c.pass_to_hit.new.w (record_of c.in-Some.here) c.in-Some-pass_to_hit.why
     (h.2 ∙ c.go.invariant.same_rest) (c.in-Some-pass_to_hit.ensures.origin ∙ c.go.invariant.same_origin) h.3 h.4
-    (rw h.1 c.go.invariant.in_limit) (omega (arith, within, h.1, one, ordered)) (let f = c.go.invariant.forward in omega (arith, h.1))
+    (rw h.1 (below_here c.args.limit c.args.w.now.place.packet c.go.w.place.packet (length (records_in c.args.loaded.now)) c.go.invariant.in_limit c.go.invariant.forward (sym c.is_limit.ensures ∙ c.if-is_limit.false))) (omega (arith, within, h.1, one, ordered)) (let f = c.go.invariant.forward in omega (arith, h.1))
 
 pub returns-in-Some-pass_to_hit-clause-ahead : goal.returns-in-Some-pass_to_hit-clause-ahead
 returns-in-Some-pass_to_hit-clause-ahead g c =
@@ -37,23 +34,37 @@ returns-in-Some-pass_to_hit-clause-turns g c =
     (not_before_after c.args.w.now.place c.go.w.place c.pass_to_hit.new.w.place c.go.invariant.order c.in-Some-pass_to_hit.ensures.order)
     (c.in-Some-pass_to_hit.ensures.spent ∙ c.go.invariant.spent))
 
-pub returns-then-is_some-clause-runs : goal.returns-then-is_some-clause-runs
-returns-then-is_some-clause-runs g c =
-    let h = c.in_default-pass_to_hit.ensures.passes in
-    let at = here_some (records_in c.args.loaded.now) c.go.w.place.packet c.go.next c.in-Some.here c.go.invariant.here c.in-Some.is in
-    let e : c.pass_to_hit.new.w.place.packet ≡ c.go.w.place.packet + 1 = ap (λ (q : Place). q.packet) h.0 in
-    let here = here_after (records_in c.args.loaded.now) c.go.w.place.packet c.pass_to_hit.new.w.place.packet c.in-Some.here c.following-after.result at.0 e c.following-after.ensures.record c.following-after.ensures.number in
-    run_limited (machine_in c.args.loaded.now) c.args.loaded.now.capture.now (breakpoints_in c.args.loaded.now) c.args.limit c.args.w.now c.go.w c.pass_to_hit.new.w
-    c.in_default-pass_to_hit.ensures.stands (h.1 ∙ c.go.invariant.same_rest) (c.in_default-pass_to_hit.ensures.origin ∙ c.go.invariant.same_origin)
-    h.0 (let f = c.go.invariant.forward in omega (arith, e)) (sym c.is_limit.ensures ∙ c.if-is_limit.true) (let some = here_within (records_in c.args.loaded.now) c.pass_to_hit.new.w.place.packet c.following-after.result here (sym c.is_some.ensures ∙ c.if-is_some.true) in omega (arith, some, e))
+pub go-init : goal.go-init
+go-init g c =
+    record {
+      here = c.record_at-next.ensures;
+      stands = c.requires.stands;
+      keeps = c.requires.keeps;
+      began = refl;
+      same_origin = refl;
+      same_rest = refl;
+      forward = omega arith;
+      order = inr (refl, omega arith);
+      before = λ later. absurd (omega (arith, later));
+      in_limit = up_to_at_start c.args.limit c.args.w.now.place.packet c.args.w.now.place.packet c.requires.limit (omega arith);
+      spent = refl;
+    }
 
-pub returns-then-is_some-clause-turns : goal.returns-then-is_some-clause-turns
-returns-then-is_some-clause-turns g c =
-    let runs = returns-then-is_some-clause-runs g c in
+pub returns-then-is_limit-clause-runs : goal.returns-then-is_limit-clause-runs
+returns-then-is_limit-clause-runs g c =
+    let at = here_some (records_in c.args.loaded.now) c.go.w.place.packet c.go.next c.in-Some.here c.go.invariant.here c.in-Some.is in
+    let within = slice_get_within (records_in c.args.loaded.now) (c.go.w.place.packet - 1) _ at.1 in
+    let limit = (sym c.is_limit.ensures ∙ c.if-is_limit.true) in
+    run_limited_at (machine_in c.args.loaded.now) c.args.loaded.now.capture.now (breakpoints_in c.args.loaded.now) c.args.limit c.args.w.now c.go.w
+    c.go.invariant.stands c.go.invariant.same_rest c.go.invariant.same_origin
+    (c.go.invariant.before (limit_later c.args.limit c.args.w.now.place.packet c.go.w.place.packet c.requires.limit c.go.invariant.forward limit)) c.go.invariant.forward limit
+    (omega (arith, within))
+
+pub returns-then-is_limit-clause-turns : goal.returns-then-is_limit-clause-turns
+returns-then-is_limit-clause-turns g c =
+    let runs = returns-then-is_limit-clause-runs g c in
     rw (run_turns-reply _ _ _ _ _ _ _ runs)
-    (spent_between (machine_in c.args.loaded.now) (records_in c.args.loaded.now) c.args.w.now c.pass_to_hit.new.w c.args.meter.now c.pass_to_hit.new.meter c.requires.stands c.in_default-pass_to_hit.ensures.stands
-    (not_before_after c.args.w.now.place c.go.w.place c.pass_to_hit.new.w.place c.go.invariant.order c.in_default-pass_to_hit.ensures.order)
-    (c.in_default-pass_to_hit.ensures.spent ∙ c.go.invariant.spent))
+    (spent_between (machine_in c.args.loaded.now) (records_in c.args.loaded.now) c.args.w.now c.go.w c.args.meter.now c.go.meter c.requires.stands c.go.invariant.stands c.go.invariant.order c.go.invariant.spent)
 
 pub go-smaller : goal.go-smaller
 go-smaller g c =
@@ -70,22 +81,17 @@ go-preserved g c =
     let within = c.in_default-pass_to_hit.ensures.stands.within in
     let at = here_some (records_in c.args.loaded.now) c.go.w.place.packet c.go.next c.in-Some.here c.go.invariant.here c.in-Some.is in
     let here = here_after (records_in c.args.loaded.now) c.go.w.place.packet c.pass_to_hit.new.w.place.packet c.in-Some.here c.following-after.result at.0 e c.following-after.ensures.record c.following-after.ensures.number in
-    let test : (is_limit c.args.limit (c.pass_to_hit.new.w.place.packet - c.args.w.now.place.packet) ≡ false) ⊎ (length (records_in c.args.loaded.now) < c.pass_to_hit.new.w.place.packet) =
-    elim c.else-is_limit.branch [
-      | else-is_limit-via-then-is_limit+else-is_some w ↦ inr (let past = here_past (records_in c.args.loaded.now) c.pass_to_hit.new.w.place.packet c.following-after.result here (sym w.is_some.ensures ∙ w.if-is_some.false) in omega (arith, past, e))
-      | else-is_limit-via-else-is_limit w ↦ inl (sym c.is_limit.ensures ∙ w.if-is_limit.false)
-    ] in
     record {
       here = here;
       stands = c.in_default-pass_to_hit.ensures.stands;
       keeps = keeps_clear (λ xs. g.T.Trail.stands_for c.clear-in-go.new.self xs) (machine_in c.args.loaded.now) (records_in c.args.loaded.now) c.pass_to_hit.new.w.place z c.clear-in-go.ensures;
-      began = refl;
+      began = c.go.invariant.began;
       same_origin = c.in_default-pass_to_hit.ensures.origin ∙ c.go.invariant.same_origin;
       same_rest = h.1 ∙ c.go.invariant.same_rest;
       forward = let f = c.go.invariant.forward in omega (arith, e);
       order = not_before_after c.args.w.now.place c.go.w.place c.pass_to_hit.new.w.place c.go.invariant.order c.in_default-pass_to_hit.ensures.order;
-      in_limit = below_next c.args.limit c.args.w.now.place.packet c.go.w.place.packet c.pass_to_hit.new.w.place.packet (length (records_in c.args.loaded.now))
-          c.go.invariant.in_limit (omega (arith, e, within)) c.go.invariant.forward e test;
+      before = λ later. z;
+      in_limit = up_to_next c.args.limit c.args.w.now.place.packet c.go.w.place.packet c.pass_to_hit.new.w.place.packet c.go.invariant.in_limit c.go.invariant.forward e (sym c.is_limit.ensures ∙ c.if-is_limit.false);
       spent = c.in_default-pass_to_hit.ensures.spent ∙ c.go.invariant.spent;
     }
 
@@ -93,7 +99,7 @@ pub returns-in_default-clause-runs : goal.returns-in_default-clause-runs
 returns-in_default-clause-runs g c =
     let m = cursor_ended (machine_in c.args.loaded.now) (records_in c.args.loaded.now) c.go.w c.go.invariant.stands (here_none (records_in c.args.loaded.now) c.go.w.place.packet c.go.next c.go.invariant.here c.in_default.is) in
     (run_finished (machine_in c.args.loaded.now) c.args.loaded.now.capture.now (breakpoints_in c.args.loaded.now) c.args.limit c.args.w.now c.go.w c.start.result
-    c.go.invariant.stands c.go.invariant.same_rest c.go.invariant.same_origin m.0 m.1 c.go.invariant.in_limit
+    c.go.invariant.stands c.go.invariant.same_rest c.go.invariant.same_origin m.0 m.1 (up_to_past c.args.limit c.args.w.now.place.packet c.go.w.place.packet (length (records_in c.args.loaded.now)) c.go.invariant.in_limit (omega (arith, m.0)))
     c.start.ensures.place c.start.ensures.origin)
 
 pub returns-in_default-clause-ahead : goal.returns-in_default-clause-ahead

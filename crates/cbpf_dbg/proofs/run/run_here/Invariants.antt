@@ -1,6 +1,6 @@
-use Rattle.std.proofs.Common.{◌≡◌, ◌+◌, ◌-◌, ◌≤◌, length}
+use Rattle.std.proofs.Common.{◌≡◌, ◌<◌, ◌+◌, ◌-◌, ◌≤◌, length}
 use Rattle.cbpf_dbg.specs.Joined.{rest}
-use Rattle.cbpf_dbg.specs.Cursor.{Stands, owed, Below, NotBefore, IsHere}
+use Rattle.cbpf_dbg.specs.Cursor.{Stands, owed, UpTo, NotBefore, IsHere}
 use Rattle.cbpf_dbg.specs.Session.{Keeps}
 use Rattle.cbpf_dbg.specs.Loaded.{machine_in, records_in, breakpoints_in}
 use Rattle.cbpf_dbg.proofs.run.run_here.Given as goal
@@ -17,7 +17,8 @@ invariant-go g l =
       same_rest : rest (machine_in l.loaded) (records_in l.loaded) (breakpoints_in l.loaded) l.w.place ≡ rest (machine_in l.loaded) (records_in l.loaded) (breakpoints_in l.loaded) l.initial.w.place;
       forward : l.initial.w.place.packet ≤ l.w.place.packet;
       order : NotBefore l.w.place l.initial.w.place;
-      in_limit : Below l.limit l.initial.w.place.packet l.w.place.packet (length (records_in l.loaded));
+      before : l.initial.w.place.packet < l.w.place.packet → l.w.place.step ≡ 0;
+      in_limit : UpTo l.fn.limit l.initial.w.place.packet l.w.place.packet;
       spent : l.meter + owed (machine_in l.loaded) (records_in l.loaded) l.w.place ≡ l.initial.meter + owed (machine_in l.loaded) (records_in l.loaded) l.initial.w.place;
     }
 

@@ -17,7 +17,7 @@ invariant-go g l =
       forward : l.fn.w.place.packet ≤ l.w.place.packet;
       order : NotBefore l.w.place l.fn.w.place;
       before : l.w.place.step ≡ 0;
-      in_limit : UpTo l.limit l.fn.w.place.packet l.w.place.packet;
+      in_limit : UpTo l.fn.limit l.fn.w.place.packet l.w.place.packet;
       spent : l.meter + owed (machine_in l.loaded) (records_in l.loaded) l.w.place ≡ l.fn.meter + owed (machine_in l.loaded) (records_in l.loaded) l.fn.w.place;
     }
 
