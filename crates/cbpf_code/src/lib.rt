@@ -26,6 +26,3 @@ pub use scan::laws_of_marks;
 pub use word_form::write_words;
 pub use words::{WordFault, read_words};
 pub use writing::{WriteFault, write_bytes, write_decimal, write_hex, write_parts};
-
-#[cfg(test)]
-mod tests;

@@ -8,6 +8,3 @@ mod number;
 mod scan;
 
 pub use command::{Command, LineRefusal, command_of};
-
-#[cfg(test)]
-mod tests;

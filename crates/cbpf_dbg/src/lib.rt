@@ -23,6 +23,3 @@ pub use cbpf_machine::{ListTrail, MarkTrail, Meter, State, Trail};
 pub use cbpf_reply::{Counts, Place, RunReply, SessionFault, Stop, When, Why};
 pub use session::Session;
 pub use stops::Stops;
-
-#[cfg(test)]
-mod tests;

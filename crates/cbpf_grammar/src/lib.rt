@@ -15,8 +15,6 @@ mod range;
 mod reader;
 mod reserved;
 mod table;
-#[cfg(test)]
-mod tests;
 
 pub use class::Class;
 pub use item::Row;

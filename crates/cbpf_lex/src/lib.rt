@@ -10,8 +10,6 @@ mod law;
 mod lexer;
 mod number;
 mod piece;
-#[cfg(test)]
-mod tests;
 mod token;
 
 pub use law::{one_cut, one_outcome};

@@ -6,7 +6,5 @@
 
 mod line;
 mod syntax;
-#[cfg(test)]
-mod tests;
 
 pub use line::{write_line, write_lines};

@@ -39,10 +39,3 @@ pub use state::State;
 pub use trail::Trail;
 pub use values::Values;
 pub use watched::Watched;
-
-#[cfg(test)]
-mod follow_tests;
-#[cfg(test)]
-mod tests;
-#[cfg(test)]
-mod trail_tests;

@@ -23,6 +23,3 @@ pub use fault::write_fault;
 pub use reply::{Counts, Place, RunReply, SessionFault, Stop, Why};
 pub use stops::{write_stop_line, write_total};
 pub use values::write_value;
-
-#[cfg(test)]
-mod tests;

@@ -13,14 +13,10 @@ mod fault;
 mod labels;
 mod law;
 mod listing;
-#[cfg(test)]
-mod listing_tests;
 mod name;
 mod operand;
 mod refusal;
 mod source;
-#[cfg(test)]
-mod tests;
 
 pub use assembler::assemble;
 pub use cbpf_lex::{Kind, Token};

@@ -12,8 +12,6 @@ mod front;
 mod header;
 mod index;
 mod law;
-#[cfg(test)]
-mod tests;
 
 pub use capture::Capture;
 pub use captured::Captured;

@@ -1,0 +1,14 @@
+//! Tests of the assembler's crates: tokens (cbpf_lex), items (cbpf_grammar), sources and listings that
+//! are assembled back (cbpf_text), and lines of listings (cbpf_listing).
+#![tactic(auto)]
+
+#[cfg(test)]
+mod assembler;
+#[cfg(test)]
+mod grammar;
+#[cfg(test)]
+mod listing;
+#[cfg(test)]
+mod listing_back;
+#[cfg(test)]
+mod tokens;

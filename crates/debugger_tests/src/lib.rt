@@ -1,0 +1,18 @@
+//! Tests of the debugger's crates: the machine and its trails (cbpf_machine), captures (pcap_classic),
+//! sessions (cbpf_dbg), lines of a script (cbpf_command), and dumps of stops (cbpf_reply).
+#![tactic(auto)]
+
+#[cfg(test)]
+mod captures;
+#[cfg(test)]
+mod commands;
+#[cfg(test)]
+mod machine;
+#[cfg(test)]
+mod machine_follow;
+#[cfg(test)]
+mod machine_trail;
+#[cfg(test)]
+mod sessions;
+#[cfg(test)]
+mod stop_dump;
