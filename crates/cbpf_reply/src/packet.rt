@@ -26,7 +26,7 @@ fn cells(row: &[u8]) -> [u8; 48]
     cells
 }
 
-pub fn write_row<W: Write>(w: &mut W, at: usize, row: &[u8]) -> Result<(), WriteFault>
+fn write_row<W: Write>(w: &mut W, at: usize, row: &[u8]) -> Result<(), WriteFault>
     requires { length row.now ≤ 16 }
     ensures { Wrote (W.contents w.old) (W.contents w.new) result (spec.row_line at row.now) }
 {
