@@ -1,7 +1,6 @@
 //! Saved places.
 
-ghost use Rattle.std.specs.Prelude.{◌≡◌, ◌+◌, ◌-◌, ◌*◌, ◌<◌, ◌≤◌, ◌^◌, length, take, slice_get, Some, IfOk, IfErr, OnOk};
-ghost use Rattle.cbpf_machine.specs.Trace.{trace};
+ghost use Rattle.std.specs.Prelude.{◌≡◌, ◌+◌, ◌-◌, ◌*◌, ◌<◌, ◌≤◌, ◌^◌, length, slice_get, IfErr, OnOk};
 ghost use Rattle.cbpf_dbg.specs.Commands.{steps_of};
 ghost use Rattle.cbpf_dbg.specs.Loaded.{machine_in, records_in};
 ghost use Rattle.cbpf_dbg.specs.Session.{Keeps};
@@ -9,67 +8,11 @@ ghost use Rattle.cbpf_dbg.specs.Cursor.{Stands};
 
 use crate::cursor::Cursor;
 use crate::loaded::Loaded;
-use cbpf_machine::{Meter, Packet, State, Trail, Turn, turn};
+use cbpf_machine::{Meter, Packet, Trail};
 use cbpf_reply::Place;
 use std::alloc::Allocator;
 
-/// The state at a step of a packet, counted from 1, or how many steps there are.
-fn find_step<A: Allocator>(
-    meter: &mut Meter,
-    loaded: &Loaded<'_, A>,
-    packet: Packet<'_>,
-    step: u32,
-) -> Result<State, u32>
-    requires from_one { 1 ≤ step }
-    requires spare { meter.old + step < 2 ^ 128 }
-    ensures found { IfOk result (λ s. slice_get (trace (machine_in loaded.now) packet.entry.bytes.now packet.entry.wire) (step - 1) ≡ Some s) }
-    ensures short { IfErr result (λ n. (n ≡ length (trace (machine_in loaded.now) packet.entry.bytes.now packet.entry.wire)) × (n < step)) }
-    ensures counts { meter.old ≤ meter.new }
-    ensures few { meter.new ≤ meter.old + step }
-{
-    let _sound = loaded.program.len();
-    let mut s = State::zero();
-    'replay: for i in 1..step {
-        match turn(meter, loaded.program, packet, loaded.values, &s) {
-            Turn::Next(next) => s = next,
-            _ => return Err(i),
-        }
-    }
-    Ok(s)
-}
-
-/// Fills a trail with the entries of a packet up to a step.
-fn refill<T: Trail, A: Allocator>(
-    meter: &mut Meter,
-    loaded: &Loaded<'_, A>,
-    packet: Packet<'_>,
-    trail: &mut T,
-    step: u32,
-)
-    requires from_one { 1 ≤ step }
-    requires within { step ≤ length (trace (machine_in loaded.now) packet.bytes.now packet.wire) }
-    requires spare { meter.old + step < 2 ^ 128 }
-    ensures stands { T.stands_for trail.new (take step (trace (machine_in loaded.now) packet.entry.bytes.now packet.entry.wire)) }
-    ensures counts { meter.old ≤ meter.new }
-    ensures few { meter.new ≤ meter.old + step }
-{
-    let _sound = loaded.program.len();
-    let mut s = State::zero();
-    trail.clear();
-    trail.push(s);
-    'replay: for _i in 1..step {
-        match turn(meter, loaded.program, packet, loaded.values, &s) {
-            Turn::Next(next) => {
-                s = next;
-                trail.push(next);
-            }
-            _ => unreachable!(),
-        }
-    }
-}
-
 /// Goes to a step of a packet, or returns how many steps the packet has and moves nothing.
-// The step is found before the trail is touched, so that a refusal leaves the trail.
 pub(crate) fn resume_at<T: Trail, A: Allocator>(
     meter: &mut Meter,
     loaded: &Loaded<'_, A>,
@@ -97,8 +40,7 @@ pub(crate) fn resume_at<T: Trail, A: Allocator>(
         bytes: item.bytes,
         wire: item.wire,
     };
-    let state = find_step(meter, loaded, packet, place.step)?;
-    refill(meter, loaded, packet, trail, place.step);
+    let state = trail.go_to(meter, loaded.program, packet, loaded.values, place.step)?;
     *w = Cursor::at_entry(place, state);
     Ok(())
 }

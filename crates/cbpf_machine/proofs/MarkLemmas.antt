@@ -1,5 +1,5 @@
--- A trail of checkpoints as a packet begins.
-use Rattle.std.proofs.Common.{◌≡◌, ℕ, ◌+◌, ◌-◌, ◌≤◌, List, [], ◌∷◌, ◌++◌, length, take, arith, subst}
+-- A trail of checkpoints that goes on over some states, of which the last alone may be marked.
+use Rattle.std.proofs.Common.{◌≡◌, ℕ, ◌+◌, ◌-◌, ◌≤◌, List, [], ◌∷◌, ◌++◌, length, length-take, take, arith, subst}
 use Rattle.std.specs.Prelude.{Some, slice_get}
 use Rattle.std.proofs.lemmas.Option.{slice_get_within}
 use Rattle.cbpf_machine.specs.Registers.{Registers}
@@ -17,3 +17,16 @@ marks_begun xs zero here one few more n some first at begun unmarked pushed =
     let within = slice_get_within xs n here at in
     let next : Marks few (take n xs) = rw all at (unmarked xs (omega (arith, within, all)) taken) in
     rw (take-slice_get xs n here at) (pushed (take n xs) next)
+
+-- states none of which is marked, then one more
+pub marks_on : (xs : List Registers) (here : Registers) (old few more : Checkpoints) (k n : ℕ) → 1 ≤ n → old.kept + n ≡ k → slice_get xs (k - 1) ≡ Some here → Marks old (take old.kept xs)
+    → ((ys : List Registers) → old.kept + (n - 1) ≤ length ys → Marks old (take old.kept ys) → Marks few (take (old.kept + (n - 1)) ys))
+    → ((ys : List Registers) → Marks few ys → Marks more (ys ++ here ∷ [])) → Marks more (take k xs) × (more.kept ≡ k)
+marks_on xs here old few more k n some is at before unmarked pushed =
+    let all : old.kept + (n - 1) ≡ k - 1 = omega (arith, is, some) in
+    let within = slice_get_within xs (k - 1) here at in
+    let next : Marks few (take (k - 1) xs) = rw all at (unmarked xs (omega (arith, within, all)) before) in
+    let on : Marks more (take (k - 1 + 1) xs) = rw (take-slice_get xs (k - 1) here at) (pushed (take (k - 1) xs) next) in
+    let e : k - 1 + 1 ≡ k = omega (arith, is, some) in
+    let after : Marks more (take k xs) = rw e at on in
+    (after, omega (arith, after.long, within, length-take k xs))

@@ -8,6 +8,7 @@
 #![tactic(auto)]
 
 mod arithmetic;
+mod entries;
 mod execute;
 mod extension;
 mod follow;

@@ -5,7 +5,7 @@ use Rattle.cbpf_machine.specs.Step.{turn}
 use Rattle.cbpf_machine.specs.Trace.{next_of}
 use Rattle.cbpf_machine.proofs.SoundLemmas.{sound_some}
 use Rattle.cbpf_machine.proofs.TraceLemmas.{goes_from_entry, goes_next, goes_at, goes_last, next_of-none}
-use Rattle.cbpf_machine.proofs.mark_trail.entry_from.Goals as goal
+use Rattle.cbpf_machine.proofs.entries.entry_from.Goals as goal
 
 pub replay-init : goal.replay-init
 replay-init g c =

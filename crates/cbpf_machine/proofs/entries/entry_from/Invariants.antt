@@ -3,7 +3,7 @@ use Rattle.cbpf_code.specs.Sound.{IsSound}
 use Rattle.cbpf_machine.specs.Machine.{machine_of}
 use Rattle.cbpf_machine.specs.Trace.{trace}
 use Rattle.cbpf_machine.specs.Follow.{Goes}
-use Rattle.cbpf_machine.proofs.mark_trail.entry_from.Given as goal
+use Rattle.cbpf_machine.proofs.entries.entry_from.Given as goal
 
 -- the state is the entry at this place
 abbrev pub invariant-replay : goal.invariant-replay

@@ -2,14 +2,14 @@ use Rattle.std.proofs.Common.{◌≡◌, ◌+◌, ◌-◌, ◌≤◌}
 use Rattle.cbpf_code.specs.Sound.{IsSound}
 use Rattle.cbpf_machine.specs.Trace.{trace}
 use Rattle.cbpf_machine.specs.Follow.{Goes}
-use Rattle.cbpf_dbg.specs.Loaded.{machine_in}
-use Rattle.cbpf_dbg.proofs.resume.find_step.Given as goal
+use Rattle.cbpf_machine.specs.Machine.{machine_of}
+use Rattle.cbpf_machine.proofs.entries.find_entry.Given as goal
 
 abbrev pub invariant-replay : goal.invariant-replay
 invariant-replay g l =
     record {
-      sound : IsSound l.loaded.program.now;
+      sound : IsSound l.p;
       from_one : 1 ≤ l.i;
-      here : Goes (machine_in l.loaded) l.packet.bytes.now l.packet.wire (trace (machine_in l.loaded) l.packet.bytes.now l.packet.wire) (l.i - 1) l.s;
+      here : Goes (machine_of l.p l.values) l.packet.bytes.now l.packet.wire (trace (machine_of l.p l.values) l.packet.bytes.now l.packet.wire) (l.i - 1) l.s;
       turns : l.meter + 1 ≡ l.initial.meter + l.i;
     }
