@@ -1,10 +1,11 @@
 -- What a parse by the program's command gives.
-use Rattle.std.specs.Prelude.{◌≡◌, List, true}
-use Rattle.std.proofs.Common.{ap, refl, ◌∙◌, subst}
+use Rattle.std.specs.Prelude.{◌≡◌, ◌≤◌, List, [], ◌∷◌, None, length, true}
+use Rattle.std.proofs.Common.{ap, arith, refl, ◌∙◌, subst}
 use Rattle.clap.specs.Words.{App, Text, HasMatchesOf, is_simple, is_simple_and_free, fault_of, subcommand_of, subcommand_rows_of, Kinds, first_value, first_of, found_of, rows_of}
+use Rattle.clap.specs.Faults.{walk_fault, defaults_fault}
 use Rattle.clap.proofs.WalkLemmas.{first_value-rows}
 use Rattle.clap.specs.declared.parser.matches.ArgMatches.{ArgMatches}
-use Rattle.cbpf_command_line.specs.CommandLine.{cbpf_app, asked_for, asked_by, faults_in}
+use Rattle.cbpf_command_line.specs.CommandLine.{cbpf_app, dbg, asked_for, asked_by, faults_in}
 
 is_simple-cbpf : is_simple cbpf_app ≡ true
 is_simple-cbpf = refl
@@ -27,3 +28,16 @@ faults_in-command P a words e h =
 -- the first value of an argument is that of its row
 pub first_text : (m : ArgMatches) (id : Text) → first_value (found_of m) id ≡ first_of id (rows_of (found_of m))
 first_text m id = first_value-rows (found_of m) id
+
+-- without a word after the program's name it is the debugger
+pub asked_for-none : (words : List Text) → length words ≤ 1 → asked_for words ≡ dbg None None
+unfolding asked_for
+asked_for-none [] few = refl
+asked_for-none (name ∷ []) few = refl
+asked_for-none (name ∷ word ∷ words) few = absurd (omega (arith, few))
+
+pub faults_in-none : (words : List Text) → length words ≤ 1 → faults_in words ≡ []
+unfolding faults_in walk_fault defaults_fault
+faults_in-none [] few = refl
+faults_in-none (name ∷ []) few = refl
+faults_in-none (name ∷ word ∷ words) few = absurd (omega (arith, few))

@@ -211,6 +211,13 @@ fn job_asked(alloc: Global, words: &[String]) -> Result<Job, LineFault>
     ensures taken { IfOk result (λ _. spec.faults_in (map spec.text_of words.now) ≡ []) }
     ensures refused { IfErr result (spec.IsFaultOf (spec.faults_in (map spec.text_of words.now))) }
 {
+    // A script that is piped to the program comes without words: it need not wait for the parser to be built.
+    if words.len() <= 1 {
+        return Ok(Job::Dbg {
+            input: None,
+            output: None,
+        });
+    }
     let Ok(command) = command(alloc) else {
         return Err(LineFault::Memory);
     };
