@@ -27,6 +27,7 @@ PACKETS = 1_000_000
 STRAIGHT_PACKETS = 10_000
 COMPARED_PACKETS = 200_000
 COUNTED_PACKETS = 1_000
+RESUMED_PACKETS = 100
 # TCP over IPv4: a header of five words, no flags, ports of 0
 FRAME = bytes(12) + b"\x08\x00\x45" + bytes(8) + b"\x06" + bytes(40)
 # what `tcpdump -ddd` makes of `ip proto 17` and of `port 22`
@@ -205,6 +206,14 @@ def comparisons(folder, file):
     yield Comparison(what, header + "value mark 7\n", "a run without", header, "run")
 
 
+def resumes(folder):
+    """A `resume` at the last step of each packet, of a program whose 4096 instructions all run, beside a run."""
+    words = ",".join(program(folder, "straight"))
+    head = f"load bpf {words}\nload pcap {capture(folder / 'resumed', RESUMED_PACKETS)}\n"
+    commands = "\n".join(f"resume {packet} 4096" for packet in range(1, RESUMED_PACKETS + 1))
+    return Comparison("resume at step 4096 of each packet, 4096 instructions", head, "a run", head, commands, "run")
+
+
 def goes_through(folder, head):
     """Whether the debugger takes each of these lines, and a run after them meets nothing up to the capture's end."""
     with open(script(folder, head + "run\n")) as lines:
@@ -214,10 +223,12 @@ def goes_through(folder, head):
 
 
 def measurable(folder, packets):
-    """The comparisons over a capture of so many frames; those that don't hold what they say are named and left out."""
-    for compared in comparisons(folder, capture(folder / "compared", packets)):
+    """The comparisons over a capture of so many frames, and that of `resume`, each with the number of its packets;
+    those that don't hold what they say are named and left out."""
+    over_frames = [(compared, packets) for compared in comparisons(folder, capture(folder / "compared", packets))]
+    for compared, count in over_frames + [(resumes(folder), RESUMED_PACKETS)]:
         if goes_through(folder, compared.head):
-            yield compared
+            yield compared, count
         else:
             print(f"{compared.what}: not measured, as a line is refused or a run stops")
 
@@ -241,21 +252,21 @@ def instructions_alone(folder, head, command):
 
 
 def print_compared(folder):
-    for compared in measurable(folder, COMPARED_PACKETS):
+    for compared, packets in measurable(folder, COMPARED_PACKETS):
         ours, theirs, ratio, least = by_turns(
             lambda: seconds_alone(folder, compared.head, compared.command),
             lambda: seconds_alone(folder, compared.base, compared.beside or compared.command),
         )
         print(
-            f"{compared.what}: {ours / COMPARED_PACKETS * 1e9:.0f} ns a packet, {ratio:.2f} times {compared.than}"
+            f"{compared.what}: {ours / packets * 1e9:.0f} ns a packet, {ratio:.2f} times {compared.than}"
             f" ({least:.2f} of the least)"
         )
 
 
 def print_counts(folder):
-    for compared in measurable(folder, COUNTED_PACKETS):
-        ours = instructions_alone(folder, compared.head, compared.command) / COUNTED_PACKETS
-        theirs = instructions_alone(folder, compared.base, compared.beside or compared.command) / COUNTED_PACKETS
+    for compared, packets in measurable(folder, COUNTED_PACKETS):
+        ours = instructions_alone(folder, compared.head, compared.command) / packets
+        theirs = instructions_alone(folder, compared.base, compared.beside or compared.command) / packets
         print(
             f"{compared.what}: {ours:.1f} machine instructions a packet, {ours / theirs:.2f} times {compared.than}"
             f" ({theirs:.1f})"

@@ -148,11 +148,3 @@ pub here_some : (capture : List Record) (p : ℕ) (next : Option Captured) (item
 here_some capture p next item h some =
     let n = h.number_is in
     (rw some at n, sym h.record_is ∙ ap (λ o. option_map record_of o) some)
-
-pub here_within : (capture : List Record) (p : ℕ) (next : Option Captured) → IsHere capture p next → is_some next ≡ true → p - 1 < length capture
-here_within capture p None h e = absurd cc
-here_within capture p (Some item) h e = slice_get_within capture (p - 1) (record_of item) (sym h.record_is)
-
-pub here_past : (capture : List Record) (p : ℕ) (next : Option Captured) → IsHere capture p next → is_some next ≡ false → length capture ≤ p - 1
-here_past capture p None h e = slice_get-none capture (p - 1) (sym h.record_is)
-here_past capture p (Some item) h e = absurd cc

@@ -5,5 +5,5 @@ pub mod MarkLemmas
 pub mod TraceLemmas
 pub mod AskedLemmas
 pub mod FollowLemmas
-pub mod RestLemmas
+pub mod TogetherLemmas
 pub mod PassLemmas

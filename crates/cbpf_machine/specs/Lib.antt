@@ -8,4 +8,4 @@ pub mod Trace
 pub mod Trail
 pub mod Follow
 pub mod InPlace
-pub mod Rest
+pub mod Together
