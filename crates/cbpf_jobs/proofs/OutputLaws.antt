@@ -13,7 +13,8 @@ use Rattle.pcap_classic.proofs.SavefileLemmas as captures
 use Rattle.cbpf_jobs.specs.FileMap.{FileMap}
 use Rattle.cbpf_jobs.specs.Output.{at_end, at_quit, at_line}
 use Rattle.cbpf_jobs.specs.Replies.{Writes, LoadsWords, unreadable, unsound, accepted, ReadsCapture, no_capture, a_capture, LoadsCapture, CommandReplies, LineReplies}
-use Rattle.cbpf_jobs.specs.Texts.{memory_text, device_text, word_fault_text, check_fault_text, program_text, capture_fault_text, capture_text}
+use Rattle.cbpf_reply.specs.Errors.{memory_text, device_text, word_fault_text, check_fault_text, capture_fault_text}
+use Rattle.cbpf_reply.specs.Loads.{program_text, capture_text}
 use Rattle.cbpf_dbg.specs.Commands.{with_program_loaded, with_capture_loaded}
 use Rattle.cbpf_jobs.specs.Laws.{OwnReply, OwnLineReply, OwnOutput, own_end, own_quit, own_line, Stands, OneOutput, NoOther}
 

@@ -19,7 +19,8 @@ use Rattle.cbpf_code.specs.declared.writing.WriteFault.{WriteFault}
 use Rattle.cbpf_command.specs.declared.command.LineRefusal.{LineRefusal}
 use Rattle.std.specs.Result.{IsErr, IsOkAnd, MatchResult}
 use Rattle.cbpf_jobs.specs.declared.debugger.AfterLine.TheVariants.{NextLine, Quit}
-use Rattle.cbpf_jobs.specs.Texts.{word_fault_text, check_fault_text, program_text, capture_fault_text, capture_text, absent_text, device_text, memory_text}
+use Rattle.cbpf_reply.specs.Errors.{word_fault_text, check_fault_text, capture_fault_text, absent_text, device_text, memory_text}
+use Rattle.cbpf_reply.specs.Loads.{program_text, capture_text}
 use Rattle.cbpf_jobs.specs.Replies.{Writes, LoadsWords, unreadable, unsound, accepted, no_capture, a_capture, Failed, CommandReplies, LineReplies}
 use Rattle.cbpf_jobs.specs.declared.files.LoadFault.{LoadFault}
 use Rattle.cbpf_command.specs.Commands.{Spelled, load_capture}

@@ -10,8 +10,7 @@ use Rattle.cbpf_dbg.specs.View.{View}
 use Rattle.cbpf_reply.specs.declared.breakpoints.When.{When}
 use Rattle.cbpf_reply.specs.declared.reply.SessionFault.{SessionFault}
 use Rattle.cbpf_reply.specs.declared.reply.SessionFault.TheVariants.{Memory, NoInstruction}
-use Rattle.cbpf_reply.specs.Faults.{fault_text}
-use Rattle.cbpf_jobs.specs.Texts.{memory_text}
+use Rattle.cbpf_reply.specs.Errors.{fault_text, memory_text}
 use Rattle.cbpf_jobs.specs.Replies.{Writes, Sets}
 use Rattle.cbpf_jobs.specs.SessionReplies.{reply_and_view, reply_text, IsInstruction}
 

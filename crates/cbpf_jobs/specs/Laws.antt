@@ -10,7 +10,7 @@ use Rattle.cbpf_jobs.specs.FileMap.{FileMap}
 use Rattle.cbpf_jobs.specs.Output.{Output}
 use Rattle.cbpf_jobs.specs.Replies.{Writes, LoadsWords, LoadsCapture, CommandReplies, LineReplies}
 use Rattle.cbpf_jobs.specs.SessionReplies.{breakpoint_reply}
-use Rattle.cbpf_jobs.specs.Texts.{memory_text, device_text}
+use Rattle.cbpf_reply.specs.Errors.{memory_text, device_text}
 
 -- a command's own reply: that of `CommandReplies` without `error: out of memory` and F2
 abbrev pub OwnReply : FileMap → View → View → Spelled → List ℕ → Type 0

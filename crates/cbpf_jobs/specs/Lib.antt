@@ -5,7 +5,6 @@ pub mod Lines
 pub mod Reading
 pub mod RunText
 pub mod SessionReplies
-pub mod Texts
 pub mod Replies
 pub mod Output
 pub mod Debugged

@@ -22,7 +22,9 @@ use Rattle.cbpf_reply.specs.declared.breakpoints.When.TheVariants.{Always, A, X}
 use Rattle.cbpf_dbg.specs.Commands.{with_program_loaded, with_capture_loaded, without_breakpoints, breakpoint_when}
 use Rattle.cbpf_reply.specs.Breakpoints.{breakpoints_text}
 use Rattle.cbpf_jobs.specs.SessionReplies.{run_reply, step_reply, select_reply, resume_reply, breakpoint_reply, delete_reply, mark_reply, stops_reply, value_reply, listing_text}
-use Rattle.cbpf_jobs.specs.Texts.{unknown_command_text, wrong_arguments_text, absent_text, device_text, memory_text, word_fault_text, check_fault_text, capture_fault_text, program_text, capture_text, dump_text}
+use Rattle.cbpf_reply.specs.CDump.{c_dump_text}
+use Rattle.cbpf_reply.specs.Errors.{unknown_command_text, wrong_arguments_text, absent_text, device_text, memory_text, word_fault_text, check_fault_text, capture_fault_text}
+use Rattle.cbpf_reply.specs.Loads.{program_text, capture_text}
 
 -- the reply's text is written, as `Written` says, and the view after it is n
 unfoldable pub Writes : List ℕ × View → View → (List ℕ → Type 0) → Type 0
@@ -63,7 +65,7 @@ CommandReplies files m n f g (load_words text) Written = LoadsWords m n text Wri
 CommandReplies files m n f g (load_capture name) Written = LoadsCapture m n (map.get files name) Written ⊎ (Writes (memory_text, m) n Written ⊎ (Failed f g × Writes (device_text, m) n Written))
 CommandReplies files m n f g (run limit) Written = Writes (run_reply m limit) n Written
 CommandReplies files m n f g disassemble Written = Writes (listing_text m.program, m) n Written
-CommandReplies files m n f g dump Written = Writes (dump_text m.program, m) n Written
+CommandReplies files m n f g dump Written = Writes (c_dump_text m.program, m) n Written
 CommandReplies files m n f g (breakpoint k) Written = Sets m n k Always Written
 CommandReplies files m n f g (breakpoint_when_a k v) Written = Sets m n k (A v) Written
 CommandReplies files m n f g (breakpoint_when_x k v) Written = Sets m n k (X v) Written

@@ -10,11 +10,10 @@ use Rattle.cbpf_reply.specs.declared.reply.Place.{Place}
 use Rattle.cbpf_reply.specs.declared.reply.SessionFault.{SessionFault}
 use Rattle.cbpf_reply.specs.Breakpoints.{breakpoints_text, set_in}
 use Rattle.cbpf_reply.specs.Counts.{place_text}
-use Rattle.cbpf_reply.specs.Faults.{fault_text}
+use Rattle.cbpf_reply.specs.Errors.{fault_text, no_program_text}
 use Rattle.cbpf_reply.specs.Stops.{stops_text}
 use Rattle.cbpf_reply.specs.Values.{value_text}
 use Rattle.cbpf_jobs.specs.RunText.{run_text}
-use Rattle.cbpf_jobs.specs.Texts.{no_program_text}
 
 -- the text of an answer and the view after it; a refusal leaves the view
 unfoldable pub reply_and_view : {R : Type 0} → (R → View → List ℕ) → View → Answer R → List ℕ × View

@@ -10,9 +10,10 @@ use crate::line_reader::{LineEnd, LineReader};
 use crate::loads::{load_capture, load_words};
 use crate::perform;
 use crate::session_replies::write_breakpoints;
-use cbpf_code::{WriteFault, write_bytes};
+use cbpf_code::WriteFault;
 use cbpf_command::{Command, LineRefusal, command_of};
 use cbpf_dbg::{MarkTrail, Session, When};
+use cbpf_reply::{write_unknown_command, write_wrong_arguments};
 use std::alloc::Allocator;
 use std::io::{Read, Write};
 
@@ -72,11 +73,11 @@ fn run_line<A: Allocator + Copy, W: Write, F: Files>(
         Ok(None) => Ok(AfterLine::NextLine),
         Ok(Some(command)) => act(alloc, w, session, files, command),
         Err(LineRefusal::UnknownCommand) => {
-            write_bytes(w, b"error: Q1 unknown command\n")?;
+            write_unknown_command(w)?;
             Ok(AfterLine::NextLine)
         }
         Err(LineRefusal::WrongArguments) => {
-            write_bytes(w, b"error: Q2 wrong arguments\n")?;
+            write_wrong_arguments(w)?;
             Ok(AfterLine::NextLine)
         }
     }

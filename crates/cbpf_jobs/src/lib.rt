@@ -11,7 +11,6 @@ mod line_reader;
 mod loads;
 mod memory_files;
 mod perform;
-mod replies;
 mod session_replies;
 
 pub use assembler::asm;

@@ -4,14 +4,15 @@ ghost use Rattle.cbpf_code.specs.Writing.{Wrote};
 ghost use Rattle.cbpf_command.specs.Commands.{load_capture};
 ghost use Rattle.cbpf_jobs.specs.Progress.{CommandRan};
 ghost use Rattle.cbpf_jobs.specs.Replies.{LoadsWords, Writes};
-ghost use Rattle.cbpf_jobs.specs.Texts as texts;
+ghost use Rattle.cbpf_reply.specs.Errors as texts;
 
 use crate::files::{Files, LoadFault};
-use crate::replies::{
-    write_capture, write_capture_fault, write_check_fault, write_program, write_word_fault,
-};
-use cbpf_code::{WriteFault, check, read_words, write_bytes};
+use cbpf_code::{WriteFault, check, read_words};
 use cbpf_dbg::{MarkTrail, Session};
+use cbpf_reply::{
+    write_absent, write_capture, write_capture_fault, write_check_fault, write_out_of_memory,
+    write_program, write_unreadable, write_word_fault,
+};
 use pcap_classic::Capture;
 use std::alloc::Allocator;
 use std::io::Write;
@@ -53,9 +54,9 @@ pub fn load_capture<A: Allocator + Copy, W: Write, F: Files>(
 {
     let bytes = match files.load(alloc, name) {
         Ok(bytes) => bytes,
-        Err(LoadFault::Absent) => return write_bytes(w, b"error: F1 no such file\n"),
-        Err(LoadFault::Device) => return write_bytes(w, b"error: F2 file could not be read\n"),
-        Err(LoadFault::Memory) => return write_bytes(w, b"error: out of memory\n"),
+        Err(LoadFault::Absent) => return write_absent(w),
+        Err(LoadFault::Device) => return write_unreadable(w),
+        Err(LoadFault::Memory) => return write_out_of_memory(w),
     };
     match Capture::from_bytes(alloc, bytes) {
         Ok(capture) => {

@@ -5,13 +5,14 @@ ghost use Rattle.cbpf_dbg.specs.Commands.{without_breakpoints};
 ghost use Rattle.cbpf_reply.specs.Breakpoints.{breakpoints_text, set_in};
 ghost use Rattle.cbpf_jobs.specs.Replies.{Writes, Sets};
 ghost use Rattle.cbpf_jobs.specs.SessionReplies as reply;
-ghost use Rattle.cbpf_jobs.specs.Texts as texts;
+ghost use Rattle.cbpf_reply.specs.CDump.{c_dump_text};
 
-use crate::replies::write_dump;
 use crate::session_replies::{write_breakpoints, write_run, write_stops};
-use cbpf_code::{Ext, WriteFault, write_bytes};
+use cbpf_code::{Ext, WriteFault};
 use cbpf_dbg::{MarkTrail, Meter, Place, Session, When};
-use cbpf_reply::{write_breakpoint, write_fault, write_place, write_value};
+use cbpf_reply::{
+    write_breakpoint, write_c_dump, write_fault, write_no_program, write_place, write_value,
+};
 use cbpf_text::write_listing;
 use std::alloc::Allocator;
 use std::io::Write;
@@ -197,20 +198,20 @@ pub fn disassemble<A: Allocator, W: Write>(
 {
     match session.program() {
         Some(program) => write_listing(w, program),
-        None => write_bytes(w, b"error: S1 no program\n"),
+        None => write_no_program(w),
     }
 }
 
 /// `dump`
-#[tactic(auto, unfolding(crate::specs::Texts::dump_text))]
+#[tactic(auto, unfolding(cbpf_reply::specs::CDump::c_dump_text))]
 pub fn dump<A: Allocator, W: Write>(
     w: &mut W,
     session: &Session<MarkTrail, A>,
 ) -> Result<(), WriteFault>
-    ensures { Wrote (W.contents w.old) (W.contents w.new) result (texts.dump_text session.now.program) }
+    ensures { Wrote (W.contents w.old) (W.contents w.new) result (c_dump_text session.now.program) }
 {
     match session.program() {
-        Some(program) => write_dump(w, program.as_slice()),
-        None => write_bytes(w, b"error: S1 no program\n"),
+        Some(program) => write_c_dump(w, program.as_slice()),
+        None => write_no_program(w),
     }
 }

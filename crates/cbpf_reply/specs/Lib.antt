@@ -1,8 +1,11 @@
 pub mod Lines
+pub mod Numbers
 pub mod Scratch
 pub mod Packet
 pub mod Dump
-pub mod Faults
+pub mod Errors
+pub mod Loads
+pub mod CDump
 pub mod Values
 pub mod Counts
 pub mod Breakpoints

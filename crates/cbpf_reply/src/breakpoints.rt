@@ -4,7 +4,7 @@ ghost use Rattle.std.specs.Prelude.{◌<◌, length};
 ghost use Rattle.cbpf_code.specs.Writing.{Wrote};
 ghost use Rattle.cbpf_reply.specs.Breakpoints as spec;
 
-use crate::fault::write_numbered;
+use crate::lines::write_numbered;
 use cbpf_code::{Program, WriteFault, write_bytes, write_parts};
 use cbpf_listing::write_line;
 use itoa::Buffer;

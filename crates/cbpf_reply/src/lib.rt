@@ -1,15 +1,18 @@
-//! What a debugger's session answers, and how it is printed: stops, counts, places, breakpoints, values
-//! and refusals.
+//! What a debugger's session answers, and each text that the debugger prints but the listing: stops, counts, places,
+//! breakpoints, values, loads, the program in C form and the lines `error: ..`.
 //!
 //! The dump of a stop has the parts that the kernel's Documentation/networking/filter shows for
 //! `bpf_dbg`; its layout, and the other texts but the counts, are this project's own.
 #![tactic(auto)]
 
 mod breakpoints;
+mod c_dump;
 mod columns;
 mod counts;
 mod dump;
-mod fault;
+mod errors;
+mod lines;
+mod loads;
 mod packet;
 mod reply;
 mod scratch;
@@ -17,9 +20,15 @@ mod stops;
 mod values;
 
 pub use breakpoints::{When, write_breakpoint, write_list_head, write_listed};
+pub use c_dump::write_c_dump;
 pub use counts::{write_finished, write_limit, write_place};
 pub use dump::write_stop;
-pub use fault::write_fault;
+pub use errors::{
+    write_absent, write_capture_fault, write_check_fault, write_fault, write_no_program,
+    write_out_of_memory, write_unknown_command, write_unreadable, write_word_fault,
+    write_wrong_arguments,
+};
+pub use loads::{write_capture, write_program};
 pub use reply::{Counts, Place, RunReply, SessionFault, Stop, Why};
 pub use stops::{write_stop_line, write_total};
 pub use values::write_value;

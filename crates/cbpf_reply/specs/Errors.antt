@@ -1,27 +1,16 @@
--- The debugger's reply lines: refusals by their numbers, and what was loaded.
-use Rattle.std.specs.Prelude.{ℕ, List, [], ◌∷◌, ◌++◌, length, codes, decimal, Option, Some, None}
-use Rattle.cbpf_code.specs.Text.{joined}
-use Rattle.cbpf_code.specs.CForm.{c_form}
-use Rattle.cbpf_code.specs.declared.insn.Insn.{Insn}
+-- The lines `error: ..`, each once: refusals by their numbers, and out of memory (this project's own).
+use Rattle.std.specs.Prelude.{ℕ, List, codes}
 use Rattle.cbpf_code.specs.declared.words.WordFault.{WordFault}
 use Rattle.cbpf_code.specs.declared.words.WordFault.TheVariants as word
 use Rattle.cbpf_code.specs.declared.checker.CheckFault.{CheckFault}
 use Rattle.cbpf_code.specs.declared.checker.CheckFault.TheVariants as check
-use Rattle.pcap_classic.specs.Savefile.{Savefile}
-use Rattle.pcap_classic.specs.declared.ending.Ending.{Ending}
-use Rattle.pcap_classic.specs.declared.ending.Ending.TheVariants.{Whole, CutHeader, CutData}
 use Rattle.pcap_classic.specs.declared.fault.CaptureFault.{CaptureFault}
 use Rattle.pcap_classic.specs.declared.fault.CaptureFault.TheVariants as capture
+use Rattle.cbpf_reply.specs.Numbers.{with_number, with_numbers}
+use Rattle.cbpf_reply.specs.declared.reply.SessionFault.{SessionFault}
+use Rattle.cbpf_reply.specs.declared.reply.SessionFault.TheVariants.{NoProgram, NoCapture, NoPackets, NoInstruction, NoPacket, NoStep, TooFarBack, ZeroCount, NoValue, Memory}
 
--- a line with a number in it
-abbrev pub with_number : List ℕ → ℕ → List ℕ → List ℕ
-with_number before n after = joined (before ∷ decimal n ∷ after ∷ [])
-
--- a line with two
-abbrev pub with_numbers : List ℕ → ℕ → List ℕ → ℕ → List ℕ → List ℕ
-with_numbers before m between n after = joined (before ∷ decimal m ∷ between ∷ decimal n ∷ after ∷ [])
-
--- ---- refusals of a line, of a file, and for lack of memory
+-- ---- refusals of a line and of a file, and out of memory
 
 abbrev pub unknown_command_text : List ℕ
 unknown_command_text = codes "error: Q1 unknown command\n"
@@ -69,24 +58,16 @@ capture_fault_text capture.UnknownMagic = codes "error: P2 unknown magic\n"
 capture_fault_text capture.UnknownVersion = codes "error: P3 version is not 2.4\n"
 capture_fault_text capture.Memory = memory_text
 
--- ---- what was loaded
+-- ---- refusals of a session
 
-unfoldable pub program_text : ℕ → List ℕ
-program_text count = with_number (codes "bpf: ") count (codes " instructions\n")
-
-abbrev pub ending_text : ℕ → Ending → List ℕ
-ending_text count Whole = with_number (codes "pcap: ") count (codes " packets\n")
-ending_text count (CutHeader place) = with_numbers (codes "pcap: ") count (codes " packets, cut record header at ") place (codes "\n")
-ending_text count (CutData place) = with_numbers (codes "pcap: ") count (codes " packets, cut record data at ") place (codes "\n")
-
-unfoldable pub capture_text : Savefile → List ℕ
-capture_text c = ending_text (length c.records) c.ending
-
--- ---- `dump`
-
-unfoldable pub c_head : List ℕ
-c_head = codes "/* { op, jt, jf, k }, */\n"
-
-unfoldable pub dump_text : Option (List Insn) → List ℕ
-dump_text None = no_program_text
-dump_text (Some list) = c_head ++ c_form list
+unfoldable pub fault_text : SessionFault → List ℕ
+fault_text NoProgram = no_program_text
+fault_text NoCapture = codes "error: S2 no capture\n"
+fault_text NoPackets = codes "error: S3 capture has no packets\n"
+fault_text NoInstruction = codes "error: S4 no such instruction\n"
+fault_text NoPacket = codes "error: S5 no such packet\n"
+fault_text (NoStep n) = with_number (codes "error: S6 packet has ") n (codes " steps\n")
+fault_text (TooFarBack n) = with_number (codes "error: S7 at most ") n (codes " back\n")
+fault_text ZeroCount = codes "error: S8 count is zero\n"
+fault_text NoValue = codes "error: S9 no value for this extension\n"
+fault_text Memory = memory_text

@@ -1,5 +1,5 @@
-use Rattle.cbpf_jobs.specs.Texts.{check_fault_text}
-use Rattle.cbpf_jobs.proofs.replies.write_check_fault.Goals as goal
+use Rattle.cbpf_reply.specs.Errors.{check_fault_text}
+use Rattle.cbpf_reply.proofs.errors.write_check_fault.Goals as goal
 
 pub returns-in-NoInstruction : goal.returns-in-NoInstruction
 unfolding check_fault_text

@@ -1,5 +1,5 @@
-use Rattle.cbpf_jobs.specs.Texts.{capture_fault_text}
-use Rattle.cbpf_jobs.proofs.replies.write_capture_fault.Goals as goal
+use Rattle.cbpf_reply.specs.Errors.{capture_fault_text}
+use Rattle.cbpf_reply.proofs.errors.write_capture_fault.Goals as goal
 
 pub returns-in-FileHeaderCut : goal.returns-in-FileHeaderCut
 unfolding capture_fault_text
@@ -15,4 +15,4 @@ returns-in-UnknownVersion g c = rw c.in-UnknownVersion.is c.write_bytes-in-Unkno
 
 pub returns-in-Memory : goal.returns-in-Memory
 unfolding capture_fault_text
-returns-in-Memory g c = rw c.in-Memory.is c.write_bytes-in-Memory.ensures
+returns-in-Memory g c = rw c.in-Memory.is c.write_out_of_memory.ensures

@@ -1,9 +1,9 @@
-use Rattle.cbpf_jobs.specs.Texts.{word_fault_text}
-use Rattle.cbpf_jobs.proofs.replies.write_word_fault.Goals as goal
+use Rattle.cbpf_reply.specs.Errors.{word_fault_text}
+use Rattle.cbpf_reply.proofs.errors.write_word_fault.Goals as goal
 
 pub returns-in-Memory : goal.returns-in-Memory
 unfolding word_fault_text
-returns-in-Memory g c = rw c.in-Memory.is c.write_bytes.ensures
+returns-in-Memory g c = rw c.in-Memory.is c.write_out_of_memory.ensures
 
 pub returns-in-NumberExpected : goal.returns-in-NumberExpected
 unfolding word_fault_text

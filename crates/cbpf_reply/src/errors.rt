@@ -1,0 +1,221 @@
+//! The lines `error: ..`: refusals by their numbers, and out of memory.
+
+ghost use Rattle.cbpf_code.specs.Writing.{Wrote};
+ghost use Rattle.cbpf_reply.specs.Errors as spec;
+
+use crate::lines::{write_numbered, write_with_number, write_with_numbers};
+use crate::reply::SessionFault;
+use cbpf_code::{CheckFault, WordFault, WriteFault, write_bytes};
+use pcap_classic::CaptureFault;
+use std::io::Write;
+
+/// Writes Q1: no command has this name.
+///
+/// # Errors
+///
+/// The writer failed, or took nothing of a text that isn't empty: a beginning of the line was written.
+pub fn write_unknown_command<W: Write>(w: &mut W) -> Result<(), WriteFault>
+    ensures { Wrote (W.contents w.old) (W.contents w.new) result spec.unknown_command_text }
+{
+    write_bytes(w, b"error: Q1 unknown command\n")
+}
+
+/// Writes Q2: the command has other arguments.
+///
+/// # Errors
+///
+/// The writer failed, or took nothing of a text that isn't empty: a beginning of the line was written.
+pub fn write_wrong_arguments<W: Write>(w: &mut W) -> Result<(), WriteFault>
+    ensures { Wrote (W.contents w.old) (W.contents w.new) result spec.wrong_arguments_text }
+{
+    write_bytes(w, b"error: Q2 wrong arguments\n")
+}
+
+/// Writes F1: there is no such file.
+///
+/// # Errors
+///
+/// The writer failed, or took nothing of a text that isn't empty: a beginning of the line was written.
+pub fn write_absent<W: Write>(w: &mut W) -> Result<(), WriteFault>
+    ensures { Wrote (W.contents w.old) (W.contents w.new) result spec.absent_text }
+{
+    write_bytes(w, b"error: F1 no such file\n")
+}
+
+/// Writes F2: the file could not be read.
+///
+/// # Errors
+///
+/// The writer failed, or took nothing of a text that isn't empty: a beginning of the line was written.
+pub fn write_unreadable<W: Write>(w: &mut W) -> Result<(), WriteFault>
+    ensures { Wrote (W.contents w.old) (W.contents w.new) result spec.device_text }
+{
+    write_bytes(w, b"error: F2 file could not be read\n")
+}
+
+/// Writes that there was no memory.
+///
+/// # Errors
+///
+/// The writer failed, or took nothing of a text that isn't empty: a beginning of the line was written.
+pub fn write_out_of_memory<W: Write>(w: &mut W) -> Result<(), WriteFault>
+    ensures { Wrote (W.contents w.old) (W.contents w.new) result spec.memory_text }
+{
+    write_bytes(w, b"error: out of memory\n")
+}
+
+/// Writes S1: no program is loaded.
+///
+/// # Errors
+///
+/// The writer failed, or took nothing of a text that isn't empty: a beginning of the line was written.
+pub fn write_no_program<W: Write>(w: &mut W) -> Result<(), WriteFault>
+    ensures { Wrote (W.contents w.old) (W.contents w.new) result spec.no_program_text }
+{
+    write_bytes(w, b"error: S1 no program\n")
+}
+
+/// Writes the line of a word text's refusal, with its number N1 to N5, or that there was no memory.
+///
+/// # Errors
+///
+/// The writer failed, or took nothing of a text that isn't empty: a beginning of the line was written.
+pub fn write_word_fault<W: Write>(w: &mut W, fault: WordFault) -> Result<(), WriteFault>
+    ensures { Wrote (W.contents w.old) (W.contents w.new) result (spec.word_fault_text fault) }
+{
+    match fault {
+        WordFault::Memory => write_out_of_memory(w),
+        WordFault::NumberExpected(place) => {
+            write_with_number(
+                w,
+                b"error: N1 at byte ",
+                place as u64,
+                b": number expected\n",
+            )
+        }
+        WordFault::OutOfRange(place) => {
+            write_with_number(
+                w,
+                b"error: N2 at byte ",
+                place as u64,
+                b": number out of range\n",
+            )
+        }
+        WordFault::UnexpectedByte(place) => {
+            write_with_number(
+                w,
+                b"error: N3 at byte ",
+                place as u64,
+                b": unexpected byte\n",
+            )
+        }
+        WordFault::CountDiffers { said, found } => write_with_numbers(
+            w,
+            b"error: N4 count says ",
+            u64::from(said),
+            b", found ",
+            found as u64,
+            b"\n",
+        ),
+        WordFault::CommaExpected(place) => {
+            write_with_number(
+                w,
+                b"error: N5 at byte ",
+                place as u64,
+                b": comma expected\n",
+            )
+        }
+    }
+}
+
+/// Writes the line of the checker's refusal, with its number C1 to C10.
+///
+/// # Errors
+///
+/// The writer failed, or took nothing of a text that isn't empty: a beginning of the line was written.
+pub fn write_check_fault<W: Write>(w: &mut W, fault: CheckFault) -> Result<(), WriteFault>
+    ensures { Wrote (W.contents w.old) (W.contents w.new) result (spec.check_fault_text fault) }
+{
+    match fault {
+        CheckFault::NoInstruction => write_bytes(w, b"error: C1 no instruction\n"),
+        CheckFault::TooMany => write_bytes(w, b"error: C2 more than 4096 instructions\n"),
+        CheckFault::UnknownCode(i) => {
+            write_with_number(w, b"error: C3 at ", u64::from(i), b": unknown code\n")
+        }
+        CheckFault::NoSlot(i) => {
+            write_with_number(
+                w,
+                b"error: C4 at ",
+                u64::from(i),
+                b": no such scratch slot\n",
+            )
+        }
+        CheckFault::ZeroDivisor(i) => {
+            write_with_number(w, b"error: C5 at ", u64::from(i), b": division by zero\n")
+        }
+        CheckFault::WideShift(i) => {
+            write_with_number(
+                w,
+                b"error: C6 at ",
+                u64::from(i),
+                b": shift of 32 or more\n",
+            )
+        }
+        CheckFault::JumpOutside(i) => {
+            write_with_number(w, b"error: C7 at ", u64::from(i), b": jump outside\n")
+        }
+        CheckFault::UnknownExtension(i) => {
+            write_with_number(w, b"error: C8 at ", u64::from(i), b": unknown extension\n")
+        }
+        CheckFault::NoReturn => write_bytes(w, b"error: C9 last instruction is no return\n"),
+        CheckFault::UnwrittenSlot(i) => write_with_number(
+            w,
+            b"error: C10 at ",
+            u64::from(i),
+            b": scratch slot read before it is written\n",
+        ),
+    }
+}
+
+/// Writes the line of a capture's refusal, with its number P1 to P3, or that there was no memory.
+///
+/// # Errors
+///
+/// The writer failed, or took nothing of a text that isn't empty: a beginning of the line was written.
+pub fn write_capture_fault<W: Write>(w: &mut W, fault: CaptureFault) -> Result<(), WriteFault>
+    ensures { Wrote (W.contents w.old) (W.contents w.new) result (spec.capture_fault_text fault) }
+{
+    match fault {
+        CaptureFault::FileHeaderCut => write_bytes(w, b"error: P1 file header is cut\n"),
+        CaptureFault::UnknownMagic => write_bytes(w, b"error: P2 unknown magic\n"),
+        CaptureFault::UnknownVersion => write_bytes(w, b"error: P3 version is not 2.4\n"),
+        CaptureFault::Memory => write_out_of_memory(w),
+    }
+}
+
+/// Writes the line of a refusal, with its number S1 to S9, or that there was no memory.
+///
+/// # Errors
+///
+/// The writer failed, or took nothing of a text that isn't empty: a beginning of the line was written.
+#[tactic(auto, unfolding(crate::specs::Errors::fault_text))]
+pub fn write_fault<W: Write>(w: &mut W, fault: SessionFault) -> Result<(), WriteFault>
+    ensures { Wrote (W.contents w.old) (W.contents w.new) result (spec.fault_text fault) }
+{
+    match fault {
+        SessionFault::NoProgram => write_no_program(w),
+        SessionFault::NoCapture => write_bytes(w, b"error: S2 no capture\n"),
+        SessionFault::NoPackets => write_bytes(w, b"error: S3 capture has no packets\n"),
+        SessionFault::NoInstruction => write_bytes(w, b"error: S4 no such instruction\n"),
+        SessionFault::NoPacket => write_bytes(w, b"error: S5 no such packet\n"),
+        SessionFault::NoStep(steps) => {
+            write_numbered(w, b"error: S6 packet has ", steps, b" steps\n")
+        }
+        SessionFault::TooFarBack(most) => {
+            write_numbered(w, b"error: S7 at most ", most, b" back\n")
+        }
+        SessionFault::ZeroCount => write_bytes(w, b"error: S8 count is zero\n"),
+        SessionFault::NoValue => write_bytes(w, b"error: S9 no value for this extension\n"),
+        SessionFault::Memory => write_out_of_memory(w),
+    }
+}
