@@ -1,6 +1,6 @@
 -- Moves of a cursor.
 use Rattle.std.proofs.Common.{◌≡◌, ℕ, ◌+◌, ◌-◌, ◌<◌, ◌≤◌, List, ◌∷◌, length, arith, sym, ap, ◌∙◌, subst, refl}
-use Rattle.std.specs.Prelude.{Option, Some, None, IfSome, is_some, true, false, slice_get}
+use Rattle.std.specs.Prelude.{Option, Some, None, IfSome, slice_get}
 use Rattle.std.proofs.lemmas.Option.{slice_get_cases, slice_get_within}
 use Rattle.std.proofs.Common.{inl, inr}
 use Rattle.std.proofs.lemmas.Bool.{cases_lt}

@@ -1,11 +1,12 @@
 -- Places, and counts of packets (the kernel's Documentation/networking/filter shows the counts of `run` for `bpf_dbg`; the rest is this project's own).
 use Rattle.std.specs.Prelude.{ℕ, ◌==◌, if◌then◌else◌, List, [], ◌∷◌, ◌++◌, codes, decimal}
 use Rattle.cbpf_code.specs.Text.{joined}
+use Rattle.cbpf_reply.specs.Numbers.{with_number, with_numbers}
 use Rattle.cbpf_reply.specs.declared.reply.Counts.{Counts}
 use Rattle.cbpf_reply.specs.declared.reply.Place.{Place}
 
 abbrev pub place_text : List ℕ → Place → List ℕ
-place_text before p = joined (before ∷ decimal p.packet ∷ codes " " ∷ decimal p.step ∷ codes "\n" ∷ [])
+place_text before p = with_numbers before p.packet (codes " ") p.step (codes "\n")
 
 -- how many packets asked for an extension without a value, where one did
 abbrev pub unknown_text : ℕ → List ℕ
@@ -24,7 +25,7 @@ counts_text n = known_text n.passes n.fails ++ unknown_text n.unknown
 
 -- with the next packet, where a limit was reached
 abbrev pub next_text : ℕ → List ℕ
-next_text packet = joined (codes " next:" ∷ decimal packet ∷ codes "\n" ∷ [])
+next_text packet = with_number (codes " next:") packet (codes "\n")
 
 abbrev pub limit_text : Counts → ℕ → List ℕ
 limit_text n packet = counts_text n ++ next_text packet

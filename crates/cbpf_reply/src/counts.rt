@@ -3,6 +3,7 @@
 ghost use Rattle.cbpf_code.specs.Writing.{Wrote};
 ghost use Rattle.cbpf_reply.specs.Counts as spec;
 
+use crate::lines::{write_with_number, write_with_numbers};
 use crate::reply::{Counts, Place};
 use cbpf_code::{WriteFault, write_bytes, write_parts};
 use itoa::Buffer;
@@ -16,17 +17,7 @@ use std::io::Write;
 pub fn write_place<W: Write>(w: &mut W, before: &[u8], place: Place) -> Result<(), WriteFault>
     ensures { Wrote (W.contents w.old) (W.contents w.new) result (spec.place_text before.now place) }
 {
-    let (mut packet, mut step) = (Buffer::new(), Buffer::new());
-    write_parts(
-        w,
-        &[
-            before,
-            packet.format(place.packet).as_bytes(),
-            b" ",
-            step.format(place.step).as_bytes(),
-            b"\n",
-        ],
-    )
+    write_with_numbers(w, before, place.packet, b" ", u64::from(place.step), b"\n")
 }
 
 /// Two numbers, each after a text.
@@ -94,8 +85,7 @@ pub fn write_finished<W: Write>(w: &mut W, counts: Counts) -> Result<(), WriteFa
 fn write_next<W: Write>(w: &mut W, packet: u64) -> Result<(), WriteFault>
     ensures { Wrote (W.contents w.old) (W.contents w.new) result (spec.next_text packet) }
 {
-    let mut number = Buffer::new();
-    write_parts(w, &[b" next:", number.format(packet).as_bytes(), b"\n"])
+    write_with_number(w, b" next:", packet, b"\n")
 }
 
 /// Writes the counts at a limit, and the packet that comes next.

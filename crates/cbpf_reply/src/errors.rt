@@ -20,7 +20,7 @@ pub fn write_unknown_command<W: Write>(w: &mut W) -> Result<(), WriteFault>
     write_bytes(w, b"error: Q1 unknown command\n")
 }
 
-/// Writes Q2: the command has other arguments.
+/// Writes Q2: an argument is missing, too many, or none that the command takes.
 ///
 /// # Errors
 ///
@@ -140,38 +140,28 @@ pub fn write_check_fault<W: Write>(w: &mut W, fault: CheckFault) -> Result<(), W
         CheckFault::NoInstruction => write_bytes(w, b"error: C1 no instruction\n"),
         CheckFault::TooMany => write_bytes(w, b"error: C2 more than 4096 instructions\n"),
         CheckFault::UnknownCode(i) => {
-            write_with_number(w, b"error: C3 at ", u64::from(i), b": unknown code\n")
+            write_numbered(w, b"error: C3 at ", i, b": unknown code\n")
         }
         CheckFault::NoSlot(i) => {
-            write_with_number(
-                w,
-                b"error: C4 at ",
-                u64::from(i),
-                b": no such scratch slot\n",
-            )
+            write_numbered(w, b"error: C4 at ", i, b": no such scratch slot\n")
         }
         CheckFault::ZeroDivisor(i) => {
-            write_with_number(w, b"error: C5 at ", u64::from(i), b": division by zero\n")
+            write_numbered(w, b"error: C5 at ", i, b": division by zero\n")
         }
         CheckFault::WideShift(i) => {
-            write_with_number(
-                w,
-                b"error: C6 at ",
-                u64::from(i),
-                b": shift of 32 or more\n",
-            )
+            write_numbered(w, b"error: C6 at ", i, b": shift of 32 or more\n")
         }
         CheckFault::JumpOutside(i) => {
-            write_with_number(w, b"error: C7 at ", u64::from(i), b": jump outside\n")
+            write_numbered(w, b"error: C7 at ", i, b": jump outside\n")
         }
         CheckFault::UnknownExtension(i) => {
-            write_with_number(w, b"error: C8 at ", u64::from(i), b": unknown extension\n")
+            write_numbered(w, b"error: C8 at ", i, b": unknown extension\n")
         }
         CheckFault::NoReturn => write_bytes(w, b"error: C9 last instruction is no return\n"),
-        CheckFault::UnwrittenSlot(i) => write_with_number(
+        CheckFault::UnwrittenSlot(i) => write_numbered(
             w,
             b"error: C10 at ",
-            u64::from(i),
+            i,
             b": scratch slot read before it is written\n",
         ),
     }

@@ -3,7 +3,7 @@
 ghost use Rattle.cbpf_code.specs.Writing.{Wrote};
 ghost use Rattle.cbpf_reply.specs.Loads as spec;
 
-use crate::lines::{write_with_number, write_with_numbers};
+use crate::lines::{write_numbered, write_with_number, write_with_numbers};
 use cbpf_code::WriteFault;
 use pcap_classic::{Capture, Ending};
 use std::alloc::Allocator;
@@ -18,7 +18,7 @@ use std::io::Write;
 pub fn write_program<W: Write>(w: &mut W, count: u32) -> Result<(), WriteFault>
     ensures { Wrote (W.contents w.old) (W.contents w.new) result (spec.program_text count) }
 {
-    write_with_number(w, b"bpf: ", u64::from(count), b" instructions\n")
+    write_numbered(w, b"bpf: ", count, b" instructions\n")
 }
 
 /// Writes the reply to a capture that was loaded: how many packets it has, and where it is cut.

@@ -11,27 +11,27 @@ returns-in-TooMany g c = rw c.in-TooMany.is c.write_bytes-in-TooMany.ensures
 
 pub returns-in-UnknownCode : goal.returns-in-UnknownCode
 unfolding check_fault_text
-returns-in-UnknownCode g c = rw c.in-UnknownCode.is (rw c.from.ensures at c.write_with_number.ensures)
+returns-in-UnknownCode g c = rw c.in-UnknownCode.is c.write_numbered.ensures
 
 pub returns-in-NoSlot : goal.returns-in-NoSlot
 unfolding check_fault_text
-returns-in-NoSlot g c = rw c.in-NoSlot.is (rw c.from-in-NoSlot.ensures at c.write_with_number-in-NoSlot.ensures)
+returns-in-NoSlot g c = rw c.in-NoSlot.is c.write_numbered-in-NoSlot.ensures
 
 pub returns-in-ZeroDivisor : goal.returns-in-ZeroDivisor
 unfolding check_fault_text
-returns-in-ZeroDivisor g c = rw c.in-ZeroDivisor.is (rw c.from-in-ZeroDivisor.ensures at c.write_with_number-in-ZeroDivisor.ensures)
+returns-in-ZeroDivisor g c = rw c.in-ZeroDivisor.is c.write_numbered-in-ZeroDivisor.ensures
 
 pub returns-in-WideShift : goal.returns-in-WideShift
 unfolding check_fault_text
-returns-in-WideShift g c = rw c.in-WideShift.is (rw c.from-in-WideShift.ensures at c.write_with_number-in-WideShift.ensures)
+returns-in-WideShift g c = rw c.in-WideShift.is c.write_numbered-in-WideShift.ensures
 
 pub returns-in-JumpOutside : goal.returns-in-JumpOutside
 unfolding check_fault_text
-returns-in-JumpOutside g c = rw c.in-JumpOutside.is (rw c.from-in-JumpOutside.ensures at c.write_with_number-in-JumpOutside.ensures)
+returns-in-JumpOutside g c = rw c.in-JumpOutside.is c.write_numbered-in-JumpOutside.ensures
 
 pub returns-in-UnknownExtension : goal.returns-in-UnknownExtension
 unfolding check_fault_text
-returns-in-UnknownExtension g c = rw c.in-UnknownExtension.is (rw c.from-in-UnknownExtension.ensures at c.write_with_number-in-UnknownExtension.ensures)
+returns-in-UnknownExtension g c = rw c.in-UnknownExtension.is c.write_numbered-in-UnknownExtension.ensures
 
 pub returns-in-NoReturn : goal.returns-in-NoReturn
 unfolding check_fault_text
@@ -39,4 +39,4 @@ returns-in-NoReturn g c = rw c.in-NoReturn.is c.write_bytes-in-NoReturn.ensures
 
 pub returns-in-UnwrittenSlot : goal.returns-in-UnwrittenSlot
 unfolding check_fault_text
-returns-in-UnwrittenSlot g c = rw c.in-UnwrittenSlot.is (rw c.from-in-UnwrittenSlot.ensures at c.write_with_number-in-UnwrittenSlot.ensures)
+returns-in-UnwrittenSlot g c = rw c.in-UnwrittenSlot.is c.write_numbered-in-UnwrittenSlot.ensures
