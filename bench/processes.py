@@ -57,8 +57,8 @@ def works(folder):
     packets = session.capture(folder / "packets", PACKETS)
     script.write_text(f"load bpf {session.SIX}\nload pcap {packets}\nrun\n")
     empty = compiled(folder, "empty", "int main(void) { return 0; }\n")
-    start = [("`cbpf dbg`, no command", [cbpf, "dbg"])] + ([("an empty C program", [empty])] if empty else [])
-    yield start
+    start = [("`cbpf`, an empty script", [cbpf]), ("`cbpf dbg`, an empty script", [cbpf, "dbg"])]
+    yield start + ([("an empty C program", [empty])] if empty else [])
     for what, source in [("of 10 instructions", ten), ("of 4000 instructions with 2000 labels", large)]:
         theirs = [(f"`bpf_asm` {what}", ["bpf_asm", source])] if shutil.which("bpf_asm") else []
         yield [(f"`cbpf asm` {what}", [cbpf, "asm", source])] + theirs
