@@ -1,5 +1,6 @@
-//! What a debugger's session answers, and each text that the debugger prints but the listing: stops, counts, places,
-//! breakpoints, values, loads, the program in C form and the lines `error: ..`.
+//! What a debugger's session answers, and the texts that the debugger prints, but the listing: stops, counts, places,
+//! breakpoints, values, loads, the program in C form and the lines `error: ..`. The crate above puts `at` before a
+//! place, and ends the list of breakpoints.
 //!
 //! The dump of a stop has the parts that the kernel's Documentation/networking/filter shows for
 //! `bpf_dbg`; its layout, and the other texts but the counts, are this project's own.
