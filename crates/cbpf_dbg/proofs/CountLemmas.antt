@@ -1,5 +1,5 @@
 -- The outcomes of a run of packets.
-use Rattle.std.proofs.Common.{◌≡◌, ℕ, zero, suc, ◌+◌, ◌-◌, ◌≤◌, List, [], ◌∷◌, ◌++◌, length, drop, take, Bool, arith, ap, ◌∙◌, refl, cond, add-zero, length-drop}
+use Rattle.std.proofs.Common.{◌≡◌, ℕ, zero, suc, ◌+◌, ◌-◌, ◌<◌, ◌≤◌, ◌^◌, List, [], ◌∷◌, ◌++◌, length, drop, take, Bool, arith, ap, ◌∙◌, refl, cond, add-zero, length-drop}
 use Rattle.std.proofs.lemmas.List.Sums.{sum_by-append, count_by-le-length}
 use Rattle.std.proofs.Math.ListN.{length-map}
 use Rattle.cbpf_reply.specs.declared.reply.Counts.{Counts}
@@ -11,7 +11,8 @@ use Rattle.cbpf_machine.specs.Trace.{outcome}
 use Rattle.pcap_classic.specs.Records.{Record}
 use Rattle.cbpf_machine.proofs.ListLemmas.{take-slice_get}
 use Rattle.cbpf_dbg.specs.Joined.{outcomes, counts, is_pass, is_fail, is_open}
-use Rattle.cbpf_dbg.specs.Cursor.{with_outcome}
+use Rattle.cbpf_dbg.specs.Cursor.{Stands, with_outcome}
+use Rattle.cbpf_dbg.specs.declared.cursor.Cursor.{Cursor}
 
 slice_get-drop : {X : Type 0} (xs : List X) (n i : ℕ) → slice_get (drop n xs) i ≡ slice_get xs (n + i)
 slice_get-drop xs zero i = let e : 0 + i ≡ i = omega arith in rw e refl
@@ -91,4 +92,22 @@ counts-at_most machine capture from to =
       passes = omega (arith, l, count_by-le-length is_pass all);
       fails = omega (arith, l, count_by-le-length is_fail all);
       unknown = omega (arith, l, count_by-le-length is_open all);
+    }
+
+-- one more outcome can be counted
+pub record Countable (w : Cursor) : Type 0 where
+  pub packets : w.place.packet + 1 < 2 ^ 64
+  pub passes : w.counts.passes + 1 < 2 ^ 64
+  pub fails : w.counts.fails + 1 < 2 ^ 64
+  pub unknown : w.counts.unknown + 1 < 2 ^ 64
+
+pub countable : (machine : Machine) (capture : List Record) (w : Cursor) → Stands machine capture w → (packets : ℕ) → packets ≡ length capture → packets < 2 ^ 60 → Countable w
+countable machine capture w h packets all few =
+    let most = counts-at_most machine capture w.origin w.place.packet in
+    let within = h.within in
+    record {
+      packets = omega (arith, within, all, few);
+      passes = omega (arith, most.passes, ap (λ (n : Counts). n.passes) h.counted, all, few);
+      fails = omega (arith, most.fails, ap (λ (n : Counts). n.fails) h.counted, all, few);
+      unknown = omega (arith, most.unknown, ap (λ (n : Counts). n.unknown) h.counted, all, few);
     }

@@ -41,17 +41,21 @@ fn leave_begun<T: Trail, A: Allocator>(
     trail: &mut T,
 ) -> Moved
     requires stands { Stands (machine_in loaded.now) (records_in loaded.now) w.old }
-    requires here { (r : Record) × (slice_get (records_in loaded.now) (w.old.place.packet - 1) ≡ Some (record r { bytes = packet.bytes.now; wire = packet.wire })) }
+    requires here { (r : Record) × (slice_get (records_in loaded.now) (w.old.place.packet - 1)
+        ≡ Some (record r { bytes = packet.bytes.now; wire = packet.wire })) }
     requires keeps { Keeps (λ xs. T.stands_for trail.old xs) (machine_in loaded.now) (records_in loaded.now) w.old.place }
     requires begun { 0 < w.old.place.step }
     requires spare { meter.old + owed (machine_in loaded.now) (records_in loaded.now) w.old.place + 1 < 2 ^ 128 }
     requires watched { Watches loaded.now.watched.now (machine_in loaded.now) (breakpoints_in loaded.now) }
     ensures stands { Stands (machine_in loaded.now) (records_in loaded.now) w.new }
-    ensures keeps { result ≡ moved.Entry → Keeps (λ xs. T.stands_for trail.new xs) (machine_in loaded.now) (records_in loaded.now) w.new.place }
+    ensures keeps { result ≡ moved.Entry → Keeps (λ xs. T.stands_for trail.new xs) (machine_in loaded.now)
+        (records_in loaded.now) w.new.place }
     ensures origin { w.new.origin ≡ w.old.origin }
     ensures order { NotBefore w.new.place w.old.place }
-    ensures passes { (r : Record) → slice_get (records_in loaded.now) (w.old.place.packet - 1) ≡ Some r → PassesOn (machine_in loaded.now) (records_in loaded.now) (breakpoints_in loaded.now) r w.old result w.new }
-    ensures spent { meter.new + owed (machine_in loaded.now) (records_in loaded.now) w.new.place ≡ meter.old + owed (machine_in loaded.now) (records_in loaded.now) w.old.place }
+    ensures passes { (r : Record) → slice_get (records_in loaded.now) (w.old.place.packet - 1) ≡ Some r
+        → PassesOn (machine_in loaded.now) (records_in loaded.now) (breakpoints_in loaded.now) r w.old result w.new }
+    ensures spent { meter.new + owed (machine_in loaded.now) (records_in loaded.now) w.new.place
+        ≡ meter.old + owed (machine_in loaded.now) (records_in loaded.now) w.old.place }
 {
     let _few = loaded.capture.count();
     let followed = trail.follow(
@@ -80,11 +84,14 @@ fn leave_unwatched<T: Trail, A: Allocator>(
     requires spare { meter.old + owed (machine_in loaded.now) (records_in loaded.now) w.old.place + 1 < 2 ^ 128 }
     requires watched { Watches loaded.now.watched.now (machine_in loaded.now) (breakpoints_in loaded.now) }
     ensures stands { Stands (machine_in loaded.now) (records_in loaded.now) w.new }
-    ensures keeps { result ≡ moved.Entry → Keeps (λ xs. T.stands_for trail.new xs) (machine_in loaded.now) (records_in loaded.now) w.new.place }
+    ensures keeps { result ≡ moved.Entry → Keeps (λ xs. T.stands_for trail.new xs) (machine_in loaded.now)
+        (records_in loaded.now) w.new.place }
     ensures origin { w.new.origin ≡ w.old.origin }
     ensures order { NotBefore w.new.place w.old.place }
-    ensures passes { PassesOn (machine_in loaded.now) (records_in loaded.now) (breakpoints_in loaded.now) (record_of here.now) w.old result w.new }
-    ensures spent { meter.new + owed (machine_in loaded.now) (records_in loaded.now) w.new.place ≡ meter.old + owed (machine_in loaded.now) (records_in loaded.now) w.old.place }
+    ensures passes { PassesOn (machine_in loaded.now) (records_in loaded.now) (breakpoints_in loaded.now)
+        (record_of here.now) w.old result w.new }
+    ensures spent { meter.new + owed (machine_in loaded.now) (records_in loaded.now) w.new.place
+        ≡ meter.old + owed (machine_in loaded.now) (records_in loaded.now) w.old.place }
 {
     let _few = loaded.capture.count();
     let packet = Packet {
@@ -120,11 +127,14 @@ fn pass_to_hit<T: Trail, A: Allocator>(
     requires spare { meter.old + owed (machine_in loaded.now) (records_in loaded.now) w.old.place + 1 < 2 ^ 128 }
     requires watched { Watches loaded.now.watched.now (machine_in loaded.now) (breakpoints_in loaded.now) }
     ensures stands { Stands (machine_in loaded.now) (records_in loaded.now) w.new }
-    ensures keeps { IsSome result → Keeps (λ xs. T.stands_for trail.new xs) (machine_in loaded.now) (records_in loaded.now) w.new.place }
+    ensures keeps { IsSome result → Keeps (λ xs. T.stands_for trail.new xs) (machine_in loaded.now)
+        (records_in loaded.now) w.new.place }
     ensures origin { w.new.origin ≡ w.old.origin }
     ensures order { NotBefore w.new.place w.old.place }
-    ensures passes { PassesTo (machine_in loaded.now) (records_in loaded.now) (breakpoints_in loaded.now) (record_of here.now) w.old result w.new }
-    ensures spent { meter.new + owed (machine_in loaded.now) (records_in loaded.now) w.new.place ≡ meter.old + owed (machine_in loaded.now) (records_in loaded.now) w.old.place }
+    ensures passes { PassesTo (machine_in loaded.now) (records_in loaded.now) (breakpoints_in loaded.now)
+        (record_of here.now) w.old result w.new }
+    ensures spent { meter.new + owed (machine_in loaded.now) (records_in loaded.now) w.new.place
+        ≡ meter.old + owed (machine_in loaded.now) (records_in loaded.now) w.old.place }
 {
     'pass: loop {
         match leave_unwatched(meter, loaded, here, w, trail) {
@@ -154,9 +164,11 @@ fn run_here<T: Trail, A: Allocator>(
     requires watched { Watches loaded.now.watched.now (machine_in loaded.now) (breakpoints_in loaded.now) }
     ensures stands { Stands (machine_in loaded.now) (records_in loaded.now) w.new }
     ensures keeps { Keeps (λ xs. T.stands_for trail.new xs) (machine_in loaded.now) (records_in loaded.now) w.new.place }
-    ensures runs { Runs (machine_in loaded.now) loaded.now.capture.now (breakpoints_in loaded.now) w.old w.new limit result }
+    ensures runs { Runs (machine_in loaded.now) loaded.now.capture.now
+        (breakpoints_in loaded.now) w.old w.new limit result }
     ensures ahead { PassesHits result (rest (machine_in loaded.now) (records_in loaded.now) (breakpoints_in loaded.now) w.old.place) (rest (machine_in loaded.now) (records_in loaded.now) (breakpoints_in loaded.now) w.new.place) }
-    ensures turns { meter.new ≡ meter.old + run_turns (machine_in loaded.now) loaded.now.capture.now (breakpoints_in loaded.now) w.old limit }
+    ensures turns { meter.new ≡ meter.old + run_turns (machine_in loaded.now) loaded.now.capture.now
+        (breakpoints_in loaded.now) w.old limit }
 {
     let start = w.place.packet;
     let mut next = record_at(loaded.capture, start);
@@ -171,8 +183,6 @@ fn run_here<T: Trail, A: Allocator>(
         if is_limit(limit, w.place.packet - start) {
             return RunReply::Limit(w.counts);
         }
-        // Asked for first, so that its header is fetched from memory while this packet runs.
-        let after = loaded.capture.following(&here);
         if let Some(why) = pass_to_hit(meter, loaded, &here, w, trail) {
             return RunReply::Stopped(Stop {
                 place: w.place,
@@ -181,7 +191,7 @@ fn run_here<T: Trail, A: Allocator>(
             });
         }
         trail.clear();
-        next = after;
+        next = loaded.capture.following(&here);
     }
 }
 
@@ -200,8 +210,10 @@ fn pass_rest<A: Allocator>(
     ensures stands { Stands (machine_in loaded.now) (records_in loaded.now) w.new }
     ensures place { w.new.place ≡ record { packet = w.old.place.packet + 1; step = 0 } }
     ensures origin { w.new.origin ≡ w.old.origin }
-    ensures rest { rest (machine_in loaded.now) (records_in loaded.now) [] w.new.place ≡ rest (machine_in loaded.now) (records_in loaded.now) [] w.old.place }
-    ensures spent { meter.new + owed (machine_in loaded.now) (records_in loaded.now) w.new.place ≡ meter.old + owed (machine_in loaded.now) (records_in loaded.now) w.old.place }
+    ensures rest { rest (machine_in loaded.now) (records_in loaded.now) [] w.new.place
+        ≡ rest (machine_in loaded.now) (records_in loaded.now) [] w.old.place }
+    ensures spent { meter.new + owed (machine_in loaded.now) (records_in loaded.now) w.new.place
+        ≡ meter.old + owed (machine_in loaded.now) (records_in loaded.now) w.old.place }
 {
     'pass: loop {
         match advance(meter, loaded, here, w) {
@@ -227,8 +239,10 @@ fn pass_whole<A: Allocator>(
     ensures stands { Stands (machine_in loaded.now) (records_in loaded.now) w.new }
     ensures place { w.new.place ≡ record { packet = w.old.place.packet + 1; step = 0 } }
     ensures origin { w.new.origin ≡ w.old.origin }
-    ensures rest { rest (machine_in loaded.now) (records_in loaded.now) [] w.new.place ≡ rest (machine_in loaded.now) (records_in loaded.now) [] w.old.place }
-    ensures spent { meter.new + owed (machine_in loaded.now) (records_in loaded.now) w.new.place ≡ meter.old + owed (machine_in loaded.now) (records_in loaded.now) w.old.place }
+    ensures rest { rest (machine_in loaded.now) (records_in loaded.now) [] w.new.place
+        ≡ rest (machine_in loaded.now) (records_in loaded.now) [] w.old.place }
+    ensures spent { meter.new + owed (machine_in loaded.now) (records_in loaded.now) w.new.place
+        ≡ meter.old + owed (machine_in loaded.now) (records_in loaded.now) w.old.place }
 {
     let _few = loaded.capture.count();
     let packet = Packet {
@@ -253,10 +267,12 @@ fn pass_begun<'a, A: Allocator>(
     ensures here { IsHere (records_in loaded.now) w.new.place.packet result }
     ensures before { w.new.place.step ≡ 0 }
     ensures origin { w.new.origin ≡ w.old.origin }
-    ensures rest { rest (machine_in loaded.now) (records_in loaded.now) [] w.new.place ≡ rest (machine_in loaded.now) (records_in loaded.now) [] w.old.place }
+    ensures rest { rest (machine_in loaded.now) (records_in loaded.now) [] w.new.place
+        ≡ rest (machine_in loaded.now) (records_in loaded.now) [] w.old.place }
     ensures most { w.new.place.packet ≤ w.old.place.packet + 1 }
     ensures order { NotBefore w.new.place w.old.place }
-    ensures spent { meter.new + owed (machine_in loaded.now) (records_in loaded.now) w.new.place ≡ meter.old + owed (machine_in loaded.now) (records_in loaded.now) w.old.place }
+    ensures spent { meter.new + owed (machine_in loaded.now) (records_in loaded.now) w.new.place
+        ≡ meter.old + owed (machine_in loaded.now) (records_in loaded.now) w.old.place }
 {
     let here = record_at(loaded.capture, w.place.packet)?;
     if w.place.step == 0 {
@@ -284,25 +300,27 @@ fn run_quietly<T: Trail, A: Allocator>(
     ensures stands { Stands (machine_in loaded.now) (records_in loaded.now) w.new }
     ensures keeps { Keeps (λ xs. T.stands_for trail.new xs) (machine_in loaded.now) (records_in loaded.now) w.new.place }
     ensures runs { Runs (machine_in loaded.now) loaded.now.capture.now [] w.old w.new limit result }
-    ensures ahead { PassesHits result (rest (machine_in loaded.now) (records_in loaded.now) [] w.old.place) (rest (machine_in loaded.now) (records_in loaded.now) [] w.new.place) }
+    ensures ahead { PassesHits result (rest (machine_in loaded.now) (records_in loaded.now) [] w.old.place)
+        (rest (machine_in loaded.now) (records_in loaded.now) [] w.new.place) }
     ensures turns { meter.new ≡ meter.old + run_turns (machine_in loaded.now) loaded.now.capture.now [] w.old limit }
 {
     let _few = loaded.capture.count();
     let start = w.place.packet;
     trail.clear();
     let mut next = pass_begun(meter, loaded, w);
+    // It is lent to no call that isn't inlined, so that the place and the counts stay in the machine's registers.
+    let mut v = *w;
     'go: loop {
         let Some(here) = next else {
-            let counts = w.counts;
             *w = Cursor::start();
-            return RunReply::Finished(counts);
+            return RunReply::Finished(v.counts);
         };
-        if is_limit(limit, w.place.packet - start) {
-            return RunReply::Limit(w.counts);
+        if is_limit(limit, v.place.packet - start) {
+            *w = v;
+            return RunReply::Limit(v.counts);
         }
-        // Asked for first, so that its header is fetched from memory while this packet runs.
+        pass_whole(meter, loaded, &here, &mut v);
         next = loaded.capture.following(&here);
-        pass_whole(meter, loaded, &here, w);
     }
 }
 
@@ -325,9 +343,11 @@ pub(crate) fn run<T: Trail, A: Allocator>(
     requires limit { limit ≢ Some 0 }
     ensures stands { Stands (machine_in loaded.now) (records_in loaded.now) w.new }
     ensures keeps { Keeps (λ xs. T.stands_for trail.new xs) (machine_in loaded.now) (records_in loaded.now) w.new.place }
-    ensures runs { Runs (machine_in loaded.now) loaded.now.capture.now (breakpoints_in loaded.now) w.old w.new limit result }
+    ensures runs { Runs (machine_in loaded.now) loaded.now.capture.now
+        (breakpoints_in loaded.now) w.old w.new limit result }
     ensures ahead { PassesHits result (rest (machine_in loaded.now) (records_in loaded.now) (breakpoints_in loaded.now) w.old.place) (rest (machine_in loaded.now) (records_in loaded.now) (breakpoints_in loaded.now) w.new.place) }
-    ensures turns { meter.new ≡ meter.old + run_turns (machine_in loaded.now) loaded.now.capture.now (breakpoints_in loaded.now) w.old limit }
+    ensures turns { meter.new ≡ meter.old + run_turns (machine_in loaded.now) loaded.now.capture.now
+        (breakpoints_in loaded.now) w.old limit }
 {
     let mut here = *w;
     let reply = if quiet {

@@ -1,5 +1,4 @@
 use Rattle.std.proofs.Common.{◌≡◌, ◌-◌, arith, sym, subst, ap, ◌∙◌}
-use Rattle.cbpf_reply.specs.declared.reply.Counts.{Counts}
 use Rattle.cbpf_dbg.specs.declared.cursor.Cursor.{Cursor}
 use Rattle.std.proofs.lemmas.Option.{slice_get_within}
 use Rattle.cbpf_machine.specs.Step.{turn}
@@ -10,7 +9,7 @@ use Rattle.cbpf_machine.specs.Registers.{Registers, zero_state}
 use Rattle.cbpf_machine.proofs.SoundLemmas.{sound_few}
 use Rattle.cbpf_dbg.specs.declared.cursor.Moved.TheVariants as moved
 use Rattle.cbpf_dbg.specs.Cursor.{Moves, stepped, passed}
-use Rattle.cbpf_dbg.proofs.CountLemmas.{counts-at_most}
+use Rattle.cbpf_dbg.proofs.CountLemmas.{countable}
 use Rattle.cbpf_dbg.proofs.CursorLemmas.{stands-stepped, moves-stepped, stands-left, moves-left, goes}
 use Rattle.cbpf_dbg.specs.Loaded.{machine_in, records_in}
 use Rattle.cbpf_dbg.proofs.cursor.leave_entry.Goals as goal
@@ -27,14 +26,12 @@ go_on-requires g c =
 
 pub pass-requires : goal.pass-requires
 pass-requires g c =
-    let few = counts-at_most (machine_in c.args.loaded.now) (records_in c.args.loaded.now) c.args.w.now.origin c.args.w.now.place.packet in
-    let counted = c.requires.stands.counted in
-    let within = c.requires.stands.within in
+    let can = countable (machine_in c.args.loaded.now) (records_in c.args.loaded.now) c.args.w.now c.requires.stands _ c.count-few.ensures.value c.count-few.ensures.bounded in
     record {
-      packets = omega (arith, c.count-few.ensures.bounded);
-      passes = omega (arith, few.passes, ap (λ (n : Counts). n.passes) counted, c.count-few.ensures.bounded);
-      fails = omega (arith, few.fails, ap (λ (n : Counts). n.fails) counted, c.count-few.ensures.bounded);
-      unknown = omega (arith, few.unknown, ap (λ (n : Counts). n.unknown) counted, c.count-few.ensures.bounded);
+      packets = can.packets;
+      passes = can.passes;
+      fails = can.fails;
+      unknown = can.unknown;
     }
 
 pub returns-in-None : goal.returns-in-None

@@ -1,10 +1,9 @@
-use Rattle.std.proofs.Common.{◌≡◌, ◌<◌, ◌+◌, arith, ap, sym, subst}
+use Rattle.std.proofs.Common.{◌≡◌, ◌<◌, ◌+◌, arith, sym, subst}
 use Rattle.cbpf_machine.specs.Trace.{trace, outcome}
 use Rattle.cbpf_machine.specs.Follow.{Follows, turns_to}
-use Rattle.cbpf_reply.specs.declared.reply.Counts.{Counts}
 use Rattle.cbpf_dbg.specs.Loaded.{machine_in, records_in, breakpoints_in}
 use Rattle.cbpf_dbg.specs.Cursor.{moved_by}
-use Rattle.cbpf_dbg.proofs.CountLemmas.{counts-at_most}
+use Rattle.cbpf_dbg.proofs.CountLemmas.{countable}
 use Rattle.cbpf_dbg.proofs.KeepLemmas.{entry_at_place}
 use Rattle.cbpf_dbg.proofs.FollowLemmas.{Leaves, kept_steps, steps_fit, room, leaves}
 use Rattle.cbpf_dbg.specs.Cursor.{PassesOn}
@@ -25,17 +24,15 @@ follow-followed-requires g c =
 
 pub follow-requires : goal.follow-requires
 follow-requires g c =
-    let few = counts-at_most (machine_in c.args.loaded.now) (records_in c.args.loaded.now) c.args.w.now.origin c.args.w.now.place.packet in
-    let counted = c.requires.stands.counted in
-    let within = c.requires.stands.within in
+    let can = countable (machine_in c.args.loaded.now) (records_in c.args.loaded.now) c.args.w.now c.requires.stands _ c.count-few.ensures.value c.count-few.ensures.bounded in
     let begun : 0 < c.args.w.now.place.step = c.requires.begun in
     let k = kept_steps (machine_in c.args.loaded.now) (records_in c.args.loaded.now) c.args.w.now (record c.requires.here.0 { bytes = c.args.packet.bytes.now; wire = c.args.packet.wire }) c.requires.stands c.requires.here.1 (g.T.Trail.kept c.args.trail.now) (g.met.T.Trail.as_long c.args.trail.now _ (c.requires.keeps _ c.requires.here.1)) in
     let f : Follows c.args.loaded.now.watched.now (trace (machine_in c.args.loaded.now) c.args.packet.bytes.now c.args.packet.wire) (outcome (machine_in c.args.loaded.now) c.args.packet.bytes.now c.args.packet.wire) c.args.w.now.place.step c.args.w.now.state c.follow-followed.new.s c.follow-followed.result = rw k at c.follow-followed.ensures.follows in
     record {
-      packets = omega (arith, within, c.count-few.ensures.bounded, c.count-few.ensures.value);
-      passes = omega (arith, few.passes, ap (λ (n : Counts). n.passes) counted, c.count-few.ensures.bounded, c.count-few.ensures.value);
-      fails = omega (arith, few.fails, ap (λ (n : Counts). n.fails) counted, c.count-few.ensures.bounded, c.count-few.ensures.value);
-      unknown = omega (arith, few.unknown, ap (λ (n : Counts). n.unknown) counted, c.count-few.ensures.bounded, c.count-few.ensures.value);
+      packets = can.packets;
+      passes = can.passes;
+      fails = can.fails;
+      unknown = can.unknown;
       steps = λ n e. let fit = steps_fit (machine_in c.args.loaded.now) (records_in c.args.loaded.now) c.args.w.now (record c.requires.here.0 { bytes = c.args.packet.bytes.now; wire = c.args.packet.wire }) c.requires.stands c.requires.here.1 (breakpoints_in c.args.loaded.now) c.args.loaded.now.watched.now c.requires.watched c.follow-followed.result c.follow-followed.new.s f n e in omega (arith, fit);
     }
 

@@ -1,23 +1,20 @@
 use Rattle.std.proofs.Common.{◌≡◌, ◌≤◌, arith, sym, ap, ◌∙◌}
-use Rattle.cbpf_reply.specs.declared.reply.Counts.{Counts}
 use Rattle.cbpf_dbg.specs.declared.cursor.Cursor.{Cursor}
 use Rattle.cbpf_machine.specs.Trace.{outcome}
 use Rattle.cbpf_dbg.specs.Cursor.{passed}
-use Rattle.cbpf_dbg.proofs.CountLemmas.{counts-at_most}
+use Rattle.cbpf_dbg.proofs.CountLemmas.{countable}
 use Rattle.cbpf_dbg.proofs.QuietLemmas.{packet-quiet, stands-passed}
 use Rattle.cbpf_dbg.specs.Loaded.{machine_in, records_in}
 use Rattle.cbpf_dbg.proofs.run.pass_whole.Goals as goal
 
 pub pass-requires : goal.pass-requires
 pass-requires g c =
-    let few = counts-at_most (machine_in c.args.loaded.now) (records_in c.args.loaded.now) c.args.w.now.origin c.args.w.now.place.packet in
-    let counted = c.requires.stands.counted in
-    let within = c.requires.stands.within in
+    let can = countable (machine_in c.args.loaded.now) (records_in c.args.loaded.now) c.args.w.now c.requires.stands _ c.count-few.ensures.value c.count-few.ensures.bounded in
     record {
-      packets = omega (arith, c.count-few.ensures.bounded);
-      passes = omega (arith, few.passes, ap (λ (n : Counts). n.passes) counted, c.count-few.ensures.bounded);
-      fails = omega (arith, few.fails, ap (λ (n : Counts). n.fails) counted, c.count-few.ensures.bounded);
-      unknown = omega (arith, few.unknown, ap (λ (n : Counts). n.unknown) counted, c.count-few.ensures.bounded);
+      packets = can.packets;
+      passes = can.passes;
+      fails = can.fails;
+      unknown = can.unknown;
     }
 
 pub returns : goal.returns

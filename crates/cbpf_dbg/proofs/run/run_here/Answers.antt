@@ -80,7 +80,7 @@ go-preserved g c =
     let z : c.pass_to_hit.new.w.place.step ≡ 0 = ap (λ (q : Place). q.step) h.0 in
     let within = c.in_default-pass_to_hit.ensures.stands.within in
     let at = here_some (records_in c.args.loaded.now) c.go.w.place.packet c.go.next c.in-Some.here c.go.invariant.here c.in-Some.is in
-    let here = here_after (records_in c.args.loaded.now) c.go.w.place.packet c.pass_to_hit.new.w.place.packet c.in-Some.here c.following-after.result at.0 e c.following-after.ensures.record c.following-after.ensures.number in
+    let here = here_after (records_in c.args.loaded.now) c.go.w.place.packet c.pass_to_hit.new.w.place.packet c.in-Some.here c.following-next.result at.0 e c.following-next.ensures.record c.following-next.ensures.number in
     record {
       here = here;
       stands = c.in_default-pass_to_hit.ensures.stands;

@@ -33,19 +33,19 @@ go-init g c =
 
 pub returns-in_default-clause-runs : goal.returns-in_default-clause-runs
 returns-in_default-clause-runs g c =
-    let m = cursor_ended (machine_in c.args.loaded.now) (records_in c.args.loaded.now) c.go.w c.go.invariant.stands (here_none (records_in c.args.loaded.now) c.go.w.place.packet c.go.next c.go.invariant.here c.in_default.is) in
-    run_finished (machine_in c.args.loaded.now) c.args.loaded.now.capture.now [] c.args.limit c.args.w.now c.go.w c.start.result
-    c.go.invariant.stands c.go.invariant.same_rest c.go.invariant.same_origin m.0 m.1 (up_to_past c.args.limit c.args.w.now.place.packet c.go.w.place.packet (length (records_in c.args.loaded.now)) c.go.invariant.in_limit (omega (arith, m.0)))
+    let m = cursor_ended (machine_in c.args.loaded.now) (records_in c.args.loaded.now) c.go.v c.go.invariant.stands (here_none (records_in c.args.loaded.now) c.go.v.place.packet c.go.next c.go.invariant.here c.in_default.is) in
+    run_finished (machine_in c.args.loaded.now) c.args.loaded.now.capture.now [] c.args.limit c.args.w.now c.go.v c.start.result
+    c.go.invariant.stands c.go.invariant.same_rest c.go.invariant.same_origin m.0 m.1 (up_to_past c.args.limit c.args.w.now.place.packet c.go.v.place.packet (length (records_in c.args.loaded.now)) c.go.invariant.in_limit (omega (arith, m.0)))
     c.start.ensures.place c.start.ensures.origin
 
 pub returns-in_default-clause-ahead : goal.returns-in_default-clause-ahead
 returns-in_default-clause-ahead g c =
-    let m = cursor_ended (machine_in c.args.loaded.now) (records_in c.args.loaded.now) c.go.w c.go.invariant.stands (here_none (records_in c.args.loaded.now) c.go.w.place.packet c.go.next c.go.invariant.here c.in_default.is) in
-    sym c.go.invariant.same_rest ∙ rest-none (machine_in c.args.loaded.now) (records_in c.args.loaded.now) [] c.go.w.place m.1
+    let m = cursor_ended (machine_in c.args.loaded.now) (records_in c.args.loaded.now) c.go.v c.go.invariant.stands (here_none (records_in c.args.loaded.now) c.go.v.place.packet c.go.next c.go.invariant.here c.in_default.is) in
+    sym c.go.invariant.same_rest ∙ rest-none (machine_in c.args.loaded.now) (records_in c.args.loaded.now) [] c.go.v.place m.1
 
 pub returns-in_default-clause-turns : goal.returns-in_default-clause-turns
 returns-in_default-clause-turns g c =
-    let m = cursor_ended (machine_in c.args.loaded.now) (records_in c.args.loaded.now) c.go.w c.go.invariant.stands (here_none (records_in c.args.loaded.now) c.go.w.place.packet c.go.next c.go.invariant.here c.in_default.is) in
+    let m = cursor_ended (machine_in c.args.loaded.now) (records_in c.args.loaded.now) c.go.v c.go.invariant.stands (here_none (records_in c.args.loaded.now) c.go.v.place.packet c.go.next c.go.invariant.here c.in_default.is) in
     let runs = returns-in_default-clause-runs g c in
     let all = owed-turns (machine_in c.args.loaded.now) (records_in c.args.loaded.now) c.args.w.now c.requires.stands in
     rw (run_turns-reply _ _ _ _ _ _ _ runs)
@@ -53,9 +53,9 @@ returns-in_default-clause-turns g c =
 
 pub returns-then-is_limit-clause-runs : goal.returns-then-is_limit-clause-runs
 returns-then-is_limit-clause-runs g c =
-    let at = here_some (records_in c.args.loaded.now) c.go.w.place.packet c.go.next c.in-Some.here c.go.invariant.here c.in-Some.is in
-    let within = slice_get_within (records_in c.args.loaded.now) (c.go.w.place.packet - 1) _ at.1 in
-    run_limited_at (machine_in c.args.loaded.now) c.args.loaded.now.capture.now [] c.args.limit c.args.w.now c.go.w
+    let at = here_some (records_in c.args.loaded.now) c.go.v.place.packet c.go.next c.in-Some.here c.go.invariant.here c.in-Some.is in
+    let within = slice_get_within (records_in c.args.loaded.now) (c.go.v.place.packet - 1) _ at.1 in
+    run_limited_at (machine_in c.args.loaded.now) c.args.loaded.now.capture.now [] c.args.limit c.args.w.now c.go.v
     c.go.invariant.stands c.go.invariant.same_rest c.go.invariant.same_origin
     c.go.invariant.before c.go.invariant.forward (sym c.is_limit.ensures ∙ c.if-is_limit.true)
     (omega (arith, within))
@@ -64,13 +64,13 @@ pub returns-then-is_limit-clause-turns : goal.returns-then-is_limit-clause-turns
 returns-then-is_limit-clause-turns g c =
     let runs = returns-then-is_limit-clause-runs g c in
     rw (run_turns-reply _ _ _ _ _ _ _ runs)
-    (spent_between (machine_in c.args.loaded.now) (records_in c.args.loaded.now) c.args.w.now c.go.w c.args.meter.now c.go.meter c.requires.stands c.go.invariant.stands c.go.invariant.order c.go.invariant.spent)
+    (spent_between (machine_in c.args.loaded.now) (records_in c.args.loaded.now) c.args.w.now c.go.v c.args.meter.now c.go.meter c.requires.stands c.go.invariant.stands c.go.invariant.order c.go.invariant.spent)
 
 pub go-preserved : goal.go-preserved
 go-preserved g c =
-    let e : c.pass_whole.new.w.place.packet ≡ c.go.w.place.packet + 1 = ap (λ (q : Place). q.packet) c.pass_whole.ensures.place in
-    let at = here_some (records_in c.args.loaded.now) c.go.w.place.packet c.go.next c.in-Some.here c.go.invariant.here c.in-Some.is in
-    let here = here_after (records_in c.args.loaded.now) c.go.w.place.packet c.pass_whole.new.w.place.packet c.in-Some.here c.following-next.result at.0 e c.following-next.ensures.record c.following-next.ensures.number in
+    let e : c.pass_whole.new.w.place.packet ≡ c.go.v.place.packet + 1 = ap (λ (q : Place). q.packet) c.pass_whole.ensures.place in
+    let at = here_some (records_in c.args.loaded.now) c.go.v.place.packet c.go.next c.in-Some.here c.go.invariant.here c.in-Some.is in
+    let here = here_after (records_in c.args.loaded.now) c.go.v.place.packet c.pass_whole.new.w.place.packet c.in-Some.here c.following-next.result at.0 e c.following-next.ensures.record c.following-next.ensures.number in
     record {
       here = here;
       stands = c.pass_whole.ensures.stands;
@@ -79,9 +79,9 @@ go-preserved g c =
       same_origin = c.pass_whole.ensures.origin ∙ c.go.invariant.same_origin;
       same_rest = c.pass_whole.ensures.rest ∙ c.go.invariant.same_rest;
       forward = let f = c.go.invariant.forward in omega (arith, e);
-      order = not_before_packet c.args.w.now.place c.go.w.place c.pass_whole.new.w.place c.go.invariant.order e;
+      order = not_before_packet c.args.w.now.place c.go.v.place c.pass_whole.new.w.place c.go.invariant.order e;
       before = ap (λ (q : Place). q.step) c.pass_whole.ensures.place;
-      in_limit = up_to_next c.args.limit c.args.w.now.place.packet c.go.w.place.packet c.pass_whole.new.w.place.packet
+      in_limit = up_to_next c.args.limit c.args.w.now.place.packet c.go.v.place.packet c.pass_whole.new.w.place.packet
           c.go.invariant.in_limit c.go.invariant.forward e (sym c.is_limit.ensures ∙ c.if-is_limit.false);
       spent = c.pass_whole.ensures.spent ∙ c.go.invariant.spent;
     }

@@ -1,13 +1,12 @@
 use Rattle.std.proofs.Common.{◌≡◌, ◌+◌, ◌-◌, ◌≤◌, ◌++◌, length, length-append, arith, sym, ap, subst, ◌∙◌, slice_get}
 use Rattle.pcap_classic.specs.Lent.{record_of}
-use Rattle.cbpf_reply.specs.declared.reply.Counts.{Counts}
 use Rattle.cbpf_dbg.specs.declared.cursor.Cursor.{Cursor}
 use Rattle.cbpf_machine.specs.Registers.{zero_state}
 use Rattle.cbpf_machine.specs.Trace.{trace, outcome}
 use Rattle.cbpf_machine.proofs.TraceLemmas.{length-trace_from}
 use Rattle.cbpf_dbg.specs.Cursor.{Stands, passed}
 use Rattle.cbpf_dbg.specs.Joined.{ahead, packet_entries}
-use Rattle.cbpf_dbg.proofs.CountLemmas.{counts-at_most}
+use Rattle.cbpf_dbg.proofs.CountLemmas.{countable}
 use Rattle.cbpf_dbg.proofs.JoinedLemmas.{place_at, ahead-whole}
 use Rattle.cbpf_dbg.proofs.QuietLemmas.{stands-passed}
 use Rattle.cbpf_dbg.proofs.RunLemmas.{slice_get-past}
@@ -17,14 +16,12 @@ use Rattle.cbpf_dbg.proofs.step.skip_packet.Goals as goal
 
 pub pass-requires : goal.pass-requires
 pass-requires g c =
-    let few = counts-at_most (machine_in c.args.loaded.now) (records_in c.args.loaded.now) c.args.w.now.origin c.args.w.now.place.packet in
-    let counted = c.requires.stands.counted in
-    let within = c.requires.stands.within in
+    let can = countable (machine_in c.args.loaded.now) (records_in c.args.loaded.now) c.args.w.now c.requires.stands _ c.count-few.ensures.value c.count-few.ensures.bounded in
     record {
-      packets = omega (arith, c.count-few.ensures.bounded);
-      passes = omega (arith, few.passes, ap (λ (n : Counts). n.passes) counted, c.count-few.ensures.bounded);
-      fails = omega (arith, few.fails, ap (λ (n : Counts). n.fails) counted, c.count-few.ensures.bounded);
-      unknown = omega (arith, few.unknown, ap (λ (n : Counts). n.unknown) counted, c.count-few.ensures.bounded);
+      packets = can.packets;
+      passes = can.passes;
+      fails = can.fails;
+      unknown = can.unknown;
     }
 
 pub returns : goal.returns

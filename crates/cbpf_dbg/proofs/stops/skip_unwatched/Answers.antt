@@ -1,11 +1,10 @@
-use Rattle.std.proofs.Common.{◌≡◌, ◌<◌, ◌+◌, arith, ap, sym, subst}
+use Rattle.std.proofs.Common.{◌≡◌, ◌<◌, ◌+◌, arith, sym, subst}
 use Rattle.pcap_classic.specs.Lent.{record_of}
 use Rattle.cbpf_machine.specs.Trace.{trace, outcome}
 use Rattle.cbpf_machine.specs.Follow.{Follows, turns_to}
-use Rattle.cbpf_reply.specs.declared.reply.Counts.{Counts}
 use Rattle.cbpf_dbg.specs.Loaded.{machine_in, records_in, breakpoints_in}
 use Rattle.cbpf_dbg.specs.Cursor.{moved_by}
-use Rattle.cbpf_dbg.proofs.CountLemmas.{counts-at_most}
+use Rattle.cbpf_dbg.proofs.CountLemmas.{countable}
 use Rattle.cbpf_dbg.proofs.KeepLemmas.{entry_at_place}
 use Rattle.cbpf_dbg.proofs.FollowLemmas.{Leaves, steps_fit, leaves}
 use Rattle.cbpf_dbg.specs.Cursor.{PassesOn}
@@ -14,16 +13,14 @@ use Rattle.cbpf_dbg.proofs.stops.skip_unwatched.Goals as goal
 
 pub follow-requires : goal.follow-requires
 follow-requires g c =
-    let few = counts-at_most (machine_in c.args.loaded.now) (records_in c.args.loaded.now) c.args.w.now.origin c.args.w.now.place.packet in
-    let counted = c.requires.stands.counted in
-    let within = c.requires.stands.within in
+    let can = countable (machine_in c.args.loaded.now) (records_in c.args.loaded.now) c.args.w.now c.requires.stands _ c.count-few.ensures.value c.count-few.ensures.bounded in
     let before : c.args.w.now.place.step ≡ 0 = omega (arith, c.if-w-eq0.true) in
     let f : Follows c.args.loaded.now.watched.now (trace (machine_in c.args.loaded.now) c.args.here.now.bytes.now c.args.here.now.wire) (outcome (machine_in c.args.loaded.now) c.args.here.now.bytes.now c.args.here.now.wire) c.args.w.now.place.step c.args.w.now.state c.follow_packet-followed.new.s c.follow_packet-followed.result = subst (λ k. Follows c.args.loaded.now.watched.now (trace (machine_in c.args.loaded.now) c.args.here.now.bytes.now c.args.here.now.wire) (outcome (machine_in c.args.loaded.now) c.args.here.now.bytes.now c.args.here.now.wire) k c.args.w.now.state c.follow_packet-followed.new.s c.follow_packet-followed.result) (sym before) c.follow_packet-followed.ensures.follows in
     record {
-      packets = omega (arith, within, c.count-few.ensures.bounded, c.count-few.ensures.value);
-      passes = omega (arith, few.passes, ap (λ (n : Counts). n.passes) counted, c.count-few.ensures.bounded, c.count-few.ensures.value);
-      fails = omega (arith, few.fails, ap (λ (n : Counts). n.fails) counted, c.count-few.ensures.bounded, c.count-few.ensures.value);
-      unknown = omega (arith, few.unknown, ap (λ (n : Counts). n.unknown) counted, c.count-few.ensures.bounded, c.count-few.ensures.value);
+      packets = can.packets;
+      passes = can.passes;
+      fails = can.fails;
+      unknown = can.unknown;
       steps = λ n e. let fit = steps_fit (machine_in c.args.loaded.now) (records_in c.args.loaded.now) c.args.w.now (record_of c.args.here.now) c.requires.stands c.requires.here (breakpoints_in c.args.loaded.now) c.args.loaded.now.watched.now c.requires.watched c.follow_packet-followed.result c.follow_packet-followed.new.s f n e in omega (arith, fit);
     }
 
@@ -47,17 +44,15 @@ follow_on-followed-requires-clause-inside g c =
 
 pub follow-requires-2 : goal.follow-requires-2
 follow-requires-2 g c =
-    let few = counts-at_most (machine_in c.args.loaded.now) (records_in c.args.loaded.now) c.args.w.now.origin c.args.w.now.place.packet in
-    let counted = c.requires.stands.counted in
-    let within = c.requires.stands.within in
+    let can = countable (machine_in c.args.loaded.now) (records_in c.args.loaded.now) c.args.w.now c.requires.stands _ c.count-few.ensures.value c.count-few.ensures.bounded in
     let begun : 0 < c.args.w.now.place.step = omega (arith, c.if-w-eq0.false) in
     let entry = entry_at_place (machine_in c.args.loaded.now) (records_in c.args.loaded.now) c.args.w.now (record_of c.args.here.now) c.requires.stands begun c.requires.here in
     let f : Follows c.args.loaded.now.watched.now (trace (machine_in c.args.loaded.now) c.args.here.now.bytes.now c.args.here.now.wire) (outcome (machine_in c.args.loaded.now) c.args.here.now.bytes.now c.args.here.now.wire) c.args.w.now.place.step c.args.w.now.state c.follow_on-followed.new.s c.follow_on-followed.result = c.follow_on-followed.ensures.follows c.args.w.now.place.step begun entry in
     record {
-      packets = omega (arith, within, c.count-few.ensures.bounded, c.count-few.ensures.value);
-      passes = omega (arith, few.passes, ap (λ (n : Counts). n.passes) counted, c.count-few.ensures.bounded, c.count-few.ensures.value);
-      fails = omega (arith, few.fails, ap (λ (n : Counts). n.fails) counted, c.count-few.ensures.bounded, c.count-few.ensures.value);
-      unknown = omega (arith, few.unknown, ap (λ (n : Counts). n.unknown) counted, c.count-few.ensures.bounded, c.count-few.ensures.value);
+      packets = can.packets;
+      passes = can.passes;
+      fails = can.fails;
+      unknown = can.unknown;
       steps = λ n e. let fit = steps_fit (machine_in c.args.loaded.now) (records_in c.args.loaded.now) c.args.w.now (record_of c.args.here.now) c.requires.stands c.requires.here (breakpoints_in c.args.loaded.now) c.args.loaded.now.watched.now c.requires.watched c.follow_on-followed.result c.follow_on-followed.new.s f n e in omega (arith, fit);
     }
 
