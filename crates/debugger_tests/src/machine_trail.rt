@@ -4,8 +4,7 @@ ghost use Rattle.cbpf_machine.specs.Trace.{trace};
 
 use cbpf_code::{Insn, Program, check};
 use cbpf_machine::{
-    Followed, ListTrail, MarkTrail, Meter, Outcome, Packet, State, Trail, Turn, Values, Watched,
-    turn,
+    Followed, ListTrail, MarkTrail, Meter, Outcome, Packet, State, Trail, Values, Watched,
 };
 use std::alloc::Allocator;
 use std::process::Abort;
@@ -44,22 +43,14 @@ fn fill<T: Trail, A: Allocator>(
 )
     requires from_one { 1 ≤ count }
     requires few { count ≤ 4096 }
-    ensures stands { T.stands_for trail.new (take count (trace (machine_of p.now values.now) packet.entry.bytes.now packet.entry.wire)) }
+    ensures stands { T.stands_for trail.new
+        (take count (trace (machine_of p.now values.now) packet.entry.bytes.now packet.entry.wire)) }
     ensures kept { T.kept trail.new ≡ count }
 {
-    let _sound = p.len();
     let mut meter = Meter::new();
-    let mut s = State::zero();
-    trail.clear();
-    trail.push(s);
-    'fill: for i in 1..count {
-        match turn(&mut meter, p, packet, values, &s) {
-            Turn::Next(next) => {
-                s = next;
-                trail.push(next);
-            }
-            _ => panic!(rt; "the packet ends before"),
-        }
+    match trail.go_to(&mut meter, p, packet, values, count) {
+        Ok(_last) => {}
+        Err(_) => panic!(rt; "the packet ends before"),
     }
 }
 
