@@ -70,7 +70,8 @@ pub enum LineRefusal {
 
 /// A command that has no arguments, if there are none.
 fn alone<'a>(arguments: Arguments<'a>, command: Command<'a>) -> Option<Command<'a>>
-    ensures { (ws : List (List ℕ)) → Holds ws arguments.entry → option_map spec.meaning result ≡ spec.alone (spec.meaning command.entry) ws }
+    ensures { (ws : List (List ℕ)) → Holds ws arguments.entry
+        → option_map spec.meaning result ≡ spec.alone (spec.meaning command.entry) ws }
 {
     match arguments {
         Arguments::Zero => Some(command),
@@ -217,7 +218,8 @@ fn or_wrong(command: Option<Command<'_>>) -> Result<Option<Command<'_>>, LineRef
 
 /// The command of this name with what stands after it.
 fn command_by<'a>(name: &[u8], text: &'a [u8]) -> Result<Option<Command<'a>>, LineRefusal>
-    ensures { spec.result_meaning result ≡ spec.by_reading (spec.reading_in spec.readings name.now) (words text.now) (trimmed (after_words 1 text.now)) }
+    ensures { spec.result_meaning result ≡ spec.by_reading (spec.reading_in spec.readings name.now) (words text.now)
+        (trimmed (after_words 1 text.now)) }
 {
     let arguments = arguments_in(text);
     let command = match name {

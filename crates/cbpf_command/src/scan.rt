@@ -44,8 +44,10 @@ pub fn trimmed(text: &[u8]) -> &[u8]
 #[tactic(auto, using(crate::proofs::WordLemmas::runs))]
 fn word_len(text: &[u8]) -> usize
     ensures within { result ≤ length text.now }
-    ensures word { spec.begins_word text.now ≡ true → spec.words text.now ≡ take result text.now ∷ spec.words (drop result text.now) }
-    ensures rest { spec.begins_word text.now ≡ true → (n : ℕ) → spec.after_words (suc n) text.now ≡ spec.after_words n (drop result text.now) }
+    ensures word { spec.begins_word text.now ≡ true
+        → spec.words text.now ≡ take result text.now ∷ spec.words (drop result text.now) }
+    ensures rest { spec.begins_word text.now ≡ true → (n : ℕ)
+        → spec.after_words (suc n) text.now ≡ spec.after_words n (drop result text.now) }
 {
     let mut len = 0;
     while len < text.len() && !is_blank(text[len]) {
@@ -57,7 +59,8 @@ fn word_len(text: &[u8]) -> usize
 /// The first word, and what stands after it.
 #[tactic(auto, using(crate::proofs::WordLemmas::firsts))]
 pub fn next_word(text: &[u8]) -> Option<(&[u8], &[u8])>
-    ensures words { MatchOption result (spec.words text.now ≡ []) (λ r. spec.words text.now ≡ r.0.now ∷ spec.words r.1.now) }
+    ensures words { MatchOption result (spec.words text.now ≡ [])
+        (λ r. spec.words text.now ≡ r.0.now ∷ spec.words r.1.now) }
     ensures rest { IfSome result (λ r. (n : ℕ) → spec.after_words (suc n) text.now ≡ spec.after_words n r.1.now) }
 {
     let begun = trim_start(text);

@@ -149,7 +149,8 @@ fn form_of(flag: Option<&str>) -> Form
 
 /// The name that was given for an argument, in memory of its own.
 fn name_in(alloc: Global, matches: &ArgMatches<'_>, id: &str) -> Result<Option<String>, AllocError>
-    ensures { IfOk result (λ name. option_map (λ s. s.bytes.items) name ≡ first_of id.now (rows_of (found_of matches.now))) }
+    ensures { IfOk result (λ name. option_map (λ s. s.bytes.items) name
+        ≡ first_of id.now (rows_of (found_of matches.now))) }
 {
     match text_in(matches, id) {
         Some(name) => Ok(Some(String::from_str(alloc, name)?)),

@@ -98,7 +98,8 @@ impl Cursor {
     /// Before a packet, from which it counts.
     pub(crate) fn before(packet: u64) -> Cursor
         requires { 1 ≤ packet }
-        ensures stands { (machine : Machine) (capture : List Record) → IsSound machine.list → packet ≤ length capture + 1 → Stands machine capture result }
+        ensures stands { (machine : Machine) (capture : List Record) → IsSound machine.list
+            → packet ≤ length capture + 1 → Stands machine capture result }
         ensures place { result.place ≡ record { packet = packet; step = 0 } }
         ensures origin { result.origin ≡ packet }
     {
@@ -117,7 +118,8 @@ impl Cursor {
     /// At an entry of a packet, from which it counts.
     pub(crate) fn at_entry(place: Place, state: State) -> Cursor
         requires { 1 ≤ place.packet }
-        ensures stands { (machine : Machine) (capture : List Record) → IsSound machine.list → place.packet ≤ length capture + 1 → IsEntry machine capture place state → Stands machine capture result }
+        ensures stands { (machine : Machine) (capture : List Record) → IsSound machine.list
+            → place.packet ≤ length capture + 1 → IsEntry machine capture place state → Stands machine capture result }
         ensures place { result.place ≡ place }
         ensures origin { result.origin ≡ place.packet }
     {
@@ -135,7 +137,8 @@ impl Cursor {
 
     /// At the start of a capture.
     pub(crate) fn start() -> Cursor
-        ensures stands { (machine : Machine) (capture : List Record) → IsSound machine.list → Stands machine capture result }
+        ensures stands { (machine : Machine) (capture : List Record) → IsSound machine.list
+            → Stands machine capture result }
         ensures place { result.place ≡ start }
         ensures origin { result.origin ≡ 1 }
     {

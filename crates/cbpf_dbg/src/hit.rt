@@ -54,7 +54,8 @@ fn is_watched<A: Allocator>(
     i: u32,
 ) -> bool
     requires { i < length p.now }
-    ensures { (s : Registers) → s.pc ≡ i → result ≡ false → IsNoHit (machine_of p.now values.now) breakpoints.now.entries s }
+    ensures { (s : Registers) → s.pc ≡ i → result ≡ false
+        → IsNoHit (machine_of p.now values.now) breakpoints.now.entries s }
 {
     if asks(p.at_index(i), values).is_some() {
         return true;
@@ -97,7 +98,8 @@ pub(crate) fn watch_at<A: Allocator>(
 pub(crate) fn hit_at<A: Allocator>(loaded: &Loaded<'_, A>, s: &State) -> Option<Why>
     requires { s.now.pc < length loaded.now.program.now }
     ensures { (bytes : List ℕ) (wire : ℕ)
-        → result ≡ hit_for (carries (breakpoints_in loaded.now) s.now) (asked (turn (machine_in loaded.now) bytes wire s.now)) }
+        → result ≡ hit_for (carries (breakpoints_in loaded.now) s.now)
+        (asked (turn (machine_in loaded.now) bytes wire s.now)) }
 {
     match asked_at(loaded, s) {
         Some(e) => Some(Why::Unknown(e)),

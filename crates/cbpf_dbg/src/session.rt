@@ -75,7 +75,8 @@ impl<T: Trail, A: Allocator + Copy> Session<T, A> {
     ///
     /// `NoProgram`; `NoInstruction` where the program has no such instruction; `Memory`.
     pub fn breakpoint(&mut self, n: u64) -> Result<(), SessionFault>
-        ensures reply { (result ≡ spec.reply_of (spec.breakpoint self.old n)) ⊎ (result ≡ Err fault.Memory × IsOk (spec.breakpoint self.old n)) }
+        ensures reply { (result ≡ spec.reply_of (spec.breakpoint self.old n)) ⊎
+            (result ≡ Err fault.Memory × IsOk (spec.breakpoint self.old n)) }
         ensures after { OnOk result (self.new ≡ spec.view_after self.old (spec.breakpoint self.old n)) }
         ensures refused { OnErr result (self.new ≡ self.old) }
 
@@ -93,7 +94,8 @@ impl<T: Trail, A: Allocator + Copy> Session<T, A> {
     /// `NoProgram`; `NoInstruction` where the program has no such instruction; `Memory`.
     #[tactic(auto, unfolding(crate::specs::Commands::breakpoint_when))]
     pub fn breakpoint_when(&mut self, n: u64, when: When) -> Result<(), SessionFault>
-        ensures reply { (result ≡ spec.reply_of (spec.breakpoint_when self.old n when)) ⊎ (result ≡ Err fault.Memory × IsOk (spec.breakpoint_when self.old n when)) }
+        ensures reply { (result ≡ spec.reply_of (spec.breakpoint_when self.old n when)) ⊎
+            (result ≡ Err fault.Memory × IsOk (spec.breakpoint_when self.old n when)) }
         ensures after { OnOk result (self.new ≡ spec.view_after self.old (spec.breakpoint_when self.old n when)) }
         ensures refused { OnErr result (self.new ≡ self.old) }
 

@@ -32,8 +32,10 @@ fn skip_packet<A: Allocator>(
     ensures place { w.new.place ≡ record { packet = w.old.place.packet + 1; step = 0 } }
     ensures origin { w.new.origin ≡ w.old.origin }
     ensures few { result ≤ length loaded.now.program.now }
-    ensures later { (n : ℕ) → result < n → slice_get (ahead (machine_in loaded.now) (records_in loaded.now) w.old.place) (n - 1) ≡ slice_get (ahead (machine_in loaded.now) (records_in loaded.now) w.new.place) (n - result - 1) }
-    ensures ahead { length (ahead (machine_in loaded.now) (records_in loaded.now) w.old.place) ≡ result + length (ahead (machine_in loaded.now) (records_in loaded.now) w.new.place) }
+    ensures later { (n : ℕ) → result < n → slice_get (ahead (machine_in loaded.now) (records_in loaded.now) w.old.place)
+        (n - 1) ≡ slice_get (ahead (machine_in loaded.now) (records_in loaded.now) w.new.place) (n - result - 1) }
+    ensures ahead { length (ahead (machine_in loaded.now) (records_in loaded.now) w.old.place)
+        ≡ result + length (ahead (machine_in loaded.now) (records_in loaded.now) w.new.place) }
     ensures turns { meter.new ≡ meter.old + result }
 {
     let _few = loaded.capture.count();
@@ -62,8 +64,10 @@ pub(crate) fn step_on<T: Trail, A: Allocator>(
     requires some { 1 ≤ n }
     ensures stands { Stands (machine_in loaded.now) (records_in loaded.now) w.new }
     ensures keeps { Keeps (λ xs. T.stands_for trail.new xs) (machine_in loaded.now) (records_in loaded.now) w.new.place }
-    ensures steps { (breakpoints : Breakpoints) → StepsOn (machine_in loaded.now) loaded.now.capture.now breakpoints w.old w.new n result }
-    ensures turns { (breakpoints : Breakpoints) → meter.new ≡ meter.old + step_turns (machine_in loaded.now) loaded.now.capture.now breakpoints w.old n }
+    ensures steps { (breakpoints : Breakpoints) → StepsOn
+        (machine_in loaded.now) loaded.now.capture.now breakpoints w.old w.new n result }
+    ensures turns { (breakpoints : Breakpoints) → meter.new
+        ≡ meter.old + step_turns (machine_in loaded.now) loaded.now.capture.now breakpoints w.old n }
 {
     let _few = loaded.capture.count();
     let longest = u64::from(loaded.program.len());

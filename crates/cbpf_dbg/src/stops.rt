@@ -59,8 +59,10 @@ fn skip_unwatched<A: Allocator>(
     requires watched { Watches loaded.now.watched.now (machine_in loaded.now) (breakpoints_in loaded.now) }
     requires spare { meter.old + 8192 ≤ 2 ^ 128 }
     ensures stands { Stands (machine_in loaded.now) (records_in loaded.now) w.new }
-    ensures passes { PassesOn (machine_in loaded.now) (records_in loaded.now) (breakpoints_in loaded.now) (record_of here.now) w.old result w.new }
-    ensures spent { meter.new + owed (machine_in loaded.now) (records_in loaded.now) w.new.place ≡ meter.old + owed (machine_in loaded.now) (records_in loaded.now) w.old.place }
+    ensures passes { PassesOn (machine_in loaded.now) (records_in loaded.now) (breakpoints_in loaded.now)
+        (record_of here.now) w.old result w.new }
+    ensures spent { meter.new + owed (machine_in loaded.now) (records_in loaded.now) w.new.place
+        ≡ meter.old + owed (machine_in loaded.now) (records_in loaded.now) w.old.place }
 {
     let _few = loaded.capture.count();
     let packet = Packet {
@@ -90,7 +92,8 @@ fn next_stop<'a, A: Allocator>(
     requires spare { meter.old + owed (machine_in loaded.now) (records_in loaded.now) w.old.place ≤ 2 ^ 127 }
     ensures stands { Stands (machine_in loaded.now) (records_in loaded.now) w.new }
     ensures here { IsHere (records_in loaded.now) w.new.place.packet result.1 }
-    ensures spent { meter.new + owed (machine_in loaded.now) (records_in loaded.now) w.new.place ≡ meter.old + owed (machine_in loaded.now) (records_in loaded.now) w.old.place }
+    ensures spent { meter.new + owed (machine_in loaded.now) (records_in loaded.now) w.new.place
+        ≡ meter.old + owed (machine_in loaded.now) (records_in loaded.now) w.old.place }
     ensures next { YieldsFirst (λ (v : Cursor). rest (machine_in loaded.now) (records_in loaded.now) (breakpoints_in loaded.now) v.place) w.old result.0 w.new }
 {
     let mut next = first;

@@ -84,7 +84,8 @@ pub fn asm<A: Allocator, R: Read, W: Write>(
     writer: &mut W,
     form: Form,
 ) -> Result<(), ToolFault>
-    ensures written { (source : List ℕ) → R.remaining reader.old ≡ Some source → Assembled source form (W.contents writer.old) (W.contents writer.new) result }
+    ensures written { (source : List ℕ) → R.remaining reader.old ≡ Some source
+        → Assembled source form (W.contents writer.old) (W.contents writer.new) result }
     ensures ended { OnOk result (IsAtEnd (R.remaining reader.new)) }
     ensures untouched { IfErr result (λ e. IsEarly e → Appended (W.contents writer.old) (W.contents writer.new) []) }
 {

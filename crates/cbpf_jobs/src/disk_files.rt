@@ -81,7 +81,8 @@ impl<'a, R: rt::Files> Files for DiskFiles<'a, R> {
     /// `Absent` where opening says that there is no such file, `Memory` where there was none, and for any
     /// other reason `Device`, which counts one failure.
     fn load<B: Allocator>(&mut self, alloc: B, name: &str) -> Result<Vec<u8, B>, LoadFault>
-        ensures loads { spec.Loads (λ v. v.items) (unknown_source self.old.failures) (unknown_source self.new.failures) name.now result }
+        ensures loads { spec.Loads (λ v. v.items) (unknown_source self.old.failures)
+            (unknown_source self.new.failures) name.now result }
         ensures counted { self.new.failures ≡ spec.counted result self.old.failures }
     {
         let result = read_whole(self.runtime, alloc, name);

@@ -73,8 +73,10 @@ impl LineReader {
         ensures some { IfOk result (λ more. more ≡ true → self.new.start < self.new.end) }
         ensures bytes { MatchResult result
             (λ more. Consumes (R.remaining reader.old) (R.remaining reader.new) (pending_in self.new.chunk self.new.start self.new.end)
-            × (more ≡ false → (pending_in self.new.chunk self.new.start self.new.end ≡ []) × IsAtEnd (R.remaining reader.new)))
-            (λ e. Keeps (R.remaining reader.old) (R.remaining reader.new) × (pending_in self.new.chunk self.new.start self.new.end ≡ [])) }
+            × (more ≡ false → (pending_in self.new.chunk self.new.start self.new.end ≡ [])
+            × IsAtEnd (R.remaining reader.new)))
+            (λ e. Keeps (R.remaining reader.old) (R.remaining reader.new)
+            × (pending_in self.new.chunk self.new.start self.new.end ≡ [])) }
         ensures fault { IfErr result IsStreamFault }
     {
         if writer.flush().is_err() {
@@ -98,7 +100,8 @@ impl LineReader {
     /// Sees that there are bytes to take; false at the end of the input.
     fn fill<R: Read, W: Write>(&mut self, reader: &mut R, writer: &mut W) -> Result<bool, ToolFault>
         ensures flushed { Keeps (W.contents writer.old) (W.contents writer.new) }
-        ensures fewer { OnOk result (4097 * self.new.reads + (self.new.end - self.new.start) ≤ 4097 * self.old.reads + (self.old.end - self.old.start)) }
+        ensures fewer { OnOk result (4097 * self.new.reads + (self.new.end - self.new.start)
+            ≤ 4097 * self.old.reads + (self.old.end - self.old.start)) }
         ensures some { IfOk result (λ more. more ≡ true → self.new.start < self.new.end) }
         ensures bytes { (bytes : List ℕ) → unread (pending_in self.old.chunk self.old.start self.old.end) (R.remaining reader.old) ≡ Some bytes →
             Fills bytes (pending_in self.new.chunk self.new.start self.new.end) (R.remaining reader.new) result }
@@ -147,8 +150,10 @@ impl LineReader {
         ensures flushed { Keeps (W.contents writer.old) (W.contents writer.new) }
         ensures line { (bytes : List ℕ) → unread (pending_in self.old.chunk self.old.start self.old.end) (R.remaining reader.old) ≡ Some bytes →
             TakesLine bytes (pending_in self.new.chunk self.new.start self.new.end) (R.remaining reader.new) line.new.items result }
-        ensures fewer { OnOk result (4097 * self.new.reads + (self.new.end - self.new.start) ≤ 4097 * self.old.reads + (self.old.end - self.old.start)) }
-        ensures onward { result ≡ Ok end.Newline → 4097 * self.new.reads + (self.new.end - self.new.start) < 4097 * self.old.reads + (self.old.end - self.old.start) }
+        ensures fewer { OnOk result (4097 * self.new.reads + (self.new.end - self.new.start)
+            ≤ 4097 * self.old.reads + (self.old.end - self.old.start)) }
+        ensures onward { result ≡ Ok end.Newline → 4097 * self.new.reads + (self.new.end - self.new.start)
+            < 4097 * self.old.reads + (self.old.end - self.old.start) }
     {
         line.clear();
         'parts: loop {

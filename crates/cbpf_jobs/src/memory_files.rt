@@ -77,7 +77,8 @@ impl<A: Allocator + Clone> MemoryFiles<A> {
 
     /// A copy of the bytes of this name.
     fn copied<B: Allocator>(&self, alloc: B, name: &str) -> Result<Vec<u8, B>, LoadFault>
-        ensures gives { MatchResult result (λ v. finmap.get self.now.files name.now ≡ Some v.items) (λ e. e ≡ fault.Absent → finmap.get self.now.files name.now ≡ None) }
+        ensures gives { MatchResult result (λ v. finmap.get self.now.files name.now ≡ Some v.items)
+            (λ e. e ≡ fault.Absent → finmap.get self.now.files name.now ≡ None) }
         ensures reads { IfErr result (λ e. e ≡ fault.Device → ⊥) }
     {
         for entry in &self.log {

@@ -24,7 +24,8 @@ pub fn run<A: Allocator, W: Write>(
     session: &mut Session<MarkTrail, A>,
     limit: Option<u64>,
 ) -> Result<(), WriteFault>
-    ensures { Writes (reply.run_reply session.old limit) session.new (λ t. Wrote (W.contents w.old) (W.contents w.new) result t) }
+    ensures { Writes (reply.run_reply session.old limit) session.new
+        (λ t. Wrote (W.contents w.old) (W.contents w.new) result t) }
 {
     let mut meter = Meter::new();
     match session.run(&mut meter, limit) {
@@ -40,7 +41,8 @@ pub fn step<A: Allocator, W: Write>(
     session: &mut Session<MarkTrail, A>,
     n: i64,
 ) -> Result<(), WriteFault>
-    ensures { Writes (reply.step_reply session.old n) session.new (λ t. Wrote (W.contents w.old) (W.contents w.new) result t) }
+    ensures { Writes (reply.step_reply session.old n) session.new
+        (λ t. Wrote (W.contents w.old) (W.contents w.new) result t) }
 {
     let mut meter = Meter::new();
     match session.step(&mut meter, n) {
@@ -56,7 +58,8 @@ pub fn select<A: Allocator, W: Write>(
     session: &mut Session<MarkTrail, A>,
     n: u64,
 ) -> Result<(), WriteFault>
-    ensures { Writes (reply.select_reply session.old n) session.new (λ t. Wrote (W.contents w.old) (W.contents w.new) result t) }
+    ensures { Writes (reply.select_reply session.old n) session.new
+        (λ t. Wrote (W.contents w.old) (W.contents w.new) result t) }
 {
     match session.select(n) {
         Ok(()) => write_place(w, b"at ", Place { packet: n, step: 0 }),
@@ -72,7 +75,8 @@ pub fn resume<A: Allocator, W: Write>(
     packet: u64,
     step: u32,
 ) -> Result<(), WriteFault>
-    ensures { Writes (reply.resume_reply session.old packet step) session.new (λ t. Wrote (W.contents w.old) (W.contents w.new) result t) }
+    ensures { Writes (reply.resume_reply session.old packet step) session.new
+        (λ t. Wrote (W.contents w.old) (W.contents w.new) result t) }
 {
     let mut meter = Meter::new();
     let place = Place { packet, step };
@@ -123,7 +127,8 @@ pub fn reset_breakpoints<A: Allocator, W: Write>(
     w: &mut W,
     session: &mut Session<MarkTrail, A>,
 ) -> Result<(), WriteFault>
-    ensures { Writes (breakpoints_text [], without_breakpoints session.old) session.new (λ t. Wrote (W.contents w.old) (W.contents w.new) result t) }
+    ensures { Writes (breakpoints_text [], without_breakpoints session.old) session.new
+        (λ t. Wrote (W.contents w.old) (W.contents w.new) result t) }
 {
     session.reset_breakpoints();
     write_breakpoints(w, session)
@@ -136,7 +141,8 @@ pub fn delete<A: Allocator, W: Write>(
     session: &mut Session<MarkTrail, A>,
     n: u64,
 ) -> Result<(), WriteFault>
-    ensures { Writes (reply.delete_reply session.old n) session.new (λ t. Wrote (W.contents w.old) (W.contents w.new) result t) }
+    ensures { Writes (reply.delete_reply session.old n) session.new
+        (λ t. Wrote (W.contents w.old) (W.contents w.new) result t) }
 {
     match session.delete(n) {
         Ok(_) => write_breakpoints(w, session),
@@ -152,7 +158,8 @@ pub fn set_value<A: Allocator, W: Write>(
     e: Ext,
     n: u32,
 ) -> Result<(), WriteFault>
-    ensures { Writes (reply.value_reply session.old e n) session.new (λ t. Wrote (W.contents w.old) (W.contents w.new) result t) }
+    ensures { Writes (reply.value_reply session.old e n) session.new
+        (λ t. Wrote (W.contents w.old) (W.contents w.new) result t) }
 {
     match session.set_value(e, n) {
         Ok(()) => write_value(w, e, n),

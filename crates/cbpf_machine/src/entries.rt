@@ -27,7 +27,8 @@ pub(crate) fn entry_from<A: Allocator>(
     requires from { slice_get (trace (machine_of p.now values.now) packet.bytes.now packet.wire) at ≡ Some from }
     requires order { at ≤ to }
     requires within { to < length (trace (machine_of p.now values.now) packet.bytes.now packet.wire) }
-    ensures entry { slice_get (trace (machine_of p.now values.now) packet.entry.bytes.now packet.entry.wire) to ≡ Some result }
+    ensures entry { slice_get (trace (machine_of p.now values.now) packet.entry.bytes.now packet.entry.wire) to
+        ≡ Some result }
     ensures turns { meter.new + at ≡ meter.old + to }
 {
     let _sound = p.len();

@@ -30,7 +30,8 @@ pub fn run_packet<A: Allocator>(
     ensures few { meter.new ≤ meter.old + length p.now }
 
     // The definition's trace is the whole run: it ends by itself, and its program counters rise.
-    ensures whole { spec.IsRun (machine_of p.now values.now) packet.entry.bytes.now packet.entry.wire (spec.trace (machine_of p.now values.now) packet.entry.bytes.now packet.entry.wire) }
+    ensures whole { spec.IsRun (machine_of p.now values.now) packet.entry.bytes.now packet.entry.wire
+        (spec.trace (machine_of p.now values.now) packet.entry.bytes.now packet.entry.wire) }
 {
     let _sound = p.len();
     // It is this function's own, so it stays in those registers.

@@ -147,7 +147,8 @@ fn slots_of(s: &State) -> [u32; 16]
 }
 
 fn write_register_lines<W: Write>(w: &mut W, state: &State) -> Result<(), WriteFault>
-    ensures { Wrote (W.contents w.old) (W.contents w.new) result (spec.a_line state.now.a ++ (spec.x_line state.now.x ++ scratch_lines (spec.slots_of state.now))) }
+    ensures { Wrote (W.contents w.old) (W.contents w.new) result
+        (spec.a_line state.now.a ++ (spec.x_line state.now.x ++ scratch_lines (spec.slots_of state.now))) }
 {
     write_a_line(w, state.a())?;
     write_x_line(w, state.x())?;
@@ -161,7 +162,8 @@ fn write_register_dump<W: Write, A: Allocator>(
     stop: &Stop,
 ) -> Result<(), WriteFault>
     requires { stop.now.state.pc < length p.now }
-    ensures { (bytes : List ℕ) (wire : ℕ) → Wrote (W.contents w.old) (W.contents w.new) result (spec.register_dump p.now (spec.shown_in bytes wire stop.now)) }
+    ensures { (bytes : List ℕ) (wire : ℕ) → Wrote (W.contents w.old) (W.contents w.new) result
+        (spec.register_dump p.now (spec.shown_in bytes wire stop.now)) }
 {
     write_bytes(w, b"-- register dump --\n")?;
     write_instruction(w, p, stop.state.pc())?;
@@ -181,7 +183,8 @@ pub fn write_why<W: Write>(w: &mut W, why: Why) -> Result<(), WriteFault>
 
 /// The packet, and why it stopped.
 fn write_ending<W: Write>(w: &mut W, stop: &Stop, bytes: &[u8], wire: u32) -> Result<(), WriteFault>
-    ensures { Wrote (W.contents w.old) (W.contents w.new) result (spec.packet_and_why (spec.shown_in bytes.now wire stop.now)) }
+    ensures { Wrote (W.contents w.old) (W.contents w.new) result
+        (spec.packet_and_why (spec.shown_in bytes.now wire stop.now)) }
 {
     write_packet(w, bytes, wire)?;
     write_why(w, stop.why)
@@ -204,7 +207,8 @@ pub fn write_stop<W: Write, A: Allocator>(
     wire: u32,
 ) -> Result<(), WriteFault>
     requires { stop.now.state.pc < length p.now }
-    ensures { Wrote (W.contents w.old) (W.contents w.new) result (spec.dump_text p.now (spec.shown_in bytes.now wire stop.now)) }
+    ensures { Wrote (W.contents w.old) (W.contents w.new) result
+        (spec.dump_text p.now (spec.shown_in bytes.now wire stop.now)) }
 {
     write_heading(w, stop.place.packet, stop.place.step)?;
     write_register_dump(w, p, stop)?;

@@ -29,7 +29,8 @@ pub(crate) fn write_with_numbers<'a, W: Write>(
     n: u64,
     after: &'a [u8],
 ) -> Result<(), WriteFault>
-    ensures { Wrote (W.contents w.old) (W.contents w.new) result (spec.with_numbers before.now m between.now n after.now) }
+    ensures { Wrote (W.contents w.old) (W.contents w.new) result
+        (spec.with_numbers before.now m between.now n after.now) }
 {
     let (mut first, mut second) = (Buffer::new(), Buffer::new());
     write_parts(

@@ -14,7 +14,9 @@ fn run_end(slots: &[u32], first: usize) -> usize
     requires { first < length slots.now }
     ensures from { first ≤ result }
     ensures within { result < length slots.now }
-    ensures run { spec.runs_from first (drop first slots.now) ≡ record { first = first; last = result; value = slice_index slots.now first } ∷ spec.runs_from (result + 1) (drop (result + 1) slots.now) }
+    ensures run { spec.runs_from first (drop first slots.now)
+        ≡ record { first = first; last = result; value = slice_index slots.now first } ∷ spec.runs_from (result + 1)
+        (drop (result + 1) slots.now) }
 {
     let mut last = first;
     while last + 1 < slots.len() && slots[last + 1] == slots[first] {
@@ -25,7 +27,8 @@ fn run_end(slots: &[u32], first: usize) -> usize
 
 /// The line of one slot.
 fn write_slot<W: Write>(w: &mut W, slot: usize, value: u32) -> Result<(), WriteFault>
-    ensures { Wrote (W.contents w.old) (W.contents w.new) result (spec.scratch_line (record { first = slot; last = slot; value = value })) }
+    ensures { Wrote (W.contents w.old) (W.contents w.new) result
+        (spec.scratch_line (record { first = slot; last = slot; value = value })) }
 {
     let (mut number, mut decimal) = (Buffer::new(), Buffer::new());
     let number = number.format(slot).as_bytes();
@@ -48,7 +51,8 @@ fn write_slot<W: Write>(w: &mut W, slot: usize, value: u32) -> Result<(), WriteF
 /// The line of slots `first` to `last`, of which there are two at least.
 fn write_slots<W: Write>(w: &mut W, first: usize, last: usize, value: u32) -> Result<(), WriteFault>
     requires { first < last }
-    ensures { Wrote (W.contents w.old) (W.contents w.new) result (spec.scratch_line (record { first = first; last = last; value = value })) }
+    ensures { Wrote (W.contents w.old) (W.contents w.new) result
+        (spec.scratch_line (record { first = first; last = last; value = value })) }
 {
     let (mut from, mut to, mut decimal) = (Buffer::new(), Buffer::new(), Buffer::new());
     let from = from.format(first).as_bytes();
@@ -79,7 +83,8 @@ fn write_scratch_line<W: Write>(
     value: u32,
 ) -> Result<(), WriteFault>
     requires { first ≤ last }
-    ensures { Wrote (W.contents w.old) (W.contents w.new) result (spec.scratch_line (record { first = first; last = last; value = value })) }
+    ensures { Wrote (W.contents w.old) (W.contents w.new) result
+        (spec.scratch_line (record { first = first; last = last; value = value })) }
 {
     if first == last {
         write_slot(w, first, value)

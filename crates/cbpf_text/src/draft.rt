@@ -145,7 +145,8 @@ fn add_instruction<'a, A: Allocator>(
         IsDraft draft.old.excess draft.old.statements.items draft.old.labels.repeat
         (λ k. get same_name draft.old.labels.table k) is ls →
         IsDraft draft.new.excess draft.new.statements.items draft.new.labels.repeat
-        (λ k. get same_name draft.new.labels.table k) (is ++ record { labels = label_words ls; row = row_of row; body = map lexeme_of body.now } ∷ []) []) }
+        (λ k. get same_name draft.new.labels.table k)
+        (is ++ record { labels = label_words ls; row = row_of row; body = map lexeme_of body.now } ∷ []) []) }
 {
     if draft.excess.is_some() {
         return Ok(());
