@@ -325,7 +325,7 @@ fn run_quietly<T: Trail, A: Allocator>(
 }
 
 /// Goes on to the next hit, to the limit of finished packets, or to the end.
-// It moves a copy, so that the place, the state and the counts stay in the machine's registers.
+// It moves a copy, and writes it back once, at its end.
 pub(crate) fn run<T: Trail, A: Allocator>(
     meter: &mut Meter,
     loaded: &Loaded<'_, A>,
