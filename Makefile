@@ -11,7 +11,7 @@ root = $(DESTDIR)$(PREFIX)
 help: ## Lists the targets.
 	@grep -E '^[a-z]+:.*##' Makefile | sed -E 's/:.*## /\t/' | expand -t 12
 
-build: ## Proves and builds the program; from nothing some ten minutes on four processors, later less.
+build: ## Proves and builds the program; from nothing ten to thirty minutes on four processors, later less.
 	@python3 tools/build.py
 
 demo: ## Proves and builds the program, assembles an example, and debugs a filter of tcpdump over a capture.
@@ -29,7 +29,7 @@ test: built ## Runs the end-to-end cases and the examples of the documents on th
 bench: built ## Measures the program that is built beside its peers, and writes the tables of bench/README.md and bench/growth.svg.
 	python3 bench/all.py
 
-check: ## The gate: proves all crates and their tests from nothing, tries the must-fail edits, runs all tests; about an hour on four processors, longer on two.
+check: ## The gate: proves all crates and their tests from nothing, tries the must-fail edits, runs all tests; an hour to an hour and a half on four processors, longer on two.
 	python3 tests/names.py
 	@python3 tools/check.py
 	python3 tests/run.py "$(PROGRAM)"

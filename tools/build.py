@@ -10,7 +10,7 @@ from pathlib import Path
 
 ROOT = Path(__file__).resolve().parent.parent
 PROGRAM = "cbpf"
-BEFOREHAND = """This proves what isn't proved yet, and builds the program: some ten minutes on four processors
+BEFOREHAND = """This proves what isn't proved yet, and builds the program: ten to thirty minutes on four processors
 from nothing, and after `make check`, which keeps no proofs; after a change a few."""
 
 
