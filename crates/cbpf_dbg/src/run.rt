@@ -30,19 +30,20 @@ fn is_limit(limit: Option<u64>, packets: u64) -> bool
 
 /// Goes on in a packet that has begun to the next entry at an instruction that is watched, or
 /// out of the packet; no hit is passed.
-// It isn't inlined, so that the loop over packets has their start alone in it. It takes the packet in place of its
-// record, so that the loop keeps no record in memory for it.
+// It isn't inlined, so that the loop over packets has their start alone in it. It takes the packet's parts, so that the
+// loop keeps neither packet nor record in memory for it.
 #[inline(never)]
 fn leave_begun<T: Trail, A: Allocator>(
     meter: &mut Meter,
     loaded: &Loaded<'_, A>,
-    packet: Packet<'_>,
+    bytes: &[u8],
+    wire: u32,
     w: &mut Cursor,
     trail: &mut T,
 ) -> Moved
     requires stands { Stands (machine_in loaded.now) (records_in loaded.now) w.old }
     requires here { (r : Record) × (slice_get (records_in loaded.now) (w.old.place.packet - 1)
-        ≡ Some (record r { bytes = packet.bytes.now; wire = packet.wire })) }
+        ≡ Some (record r { bytes = bytes.now; wire = wire })) }
     requires keeps { Keeps (λ xs. T.stands_for trail.old xs) (machine_in loaded.now) (records_in loaded.now) w.old.place }
     requires begun { 0 < w.old.place.step }
     requires spare { meter.old + owed (machine_in loaded.now) (records_in loaded.now) w.old.place + 1 < 2 ^ 128 }
@@ -61,7 +62,7 @@ fn leave_begun<T: Trail, A: Allocator>(
     let followed = trail.follow(
         meter,
         loaded.program,
-        packet,
+        Packet { bytes, wire },
         loaded.values,
         loaded.watched,
         &mut w.state,
@@ -99,7 +100,7 @@ fn leave_unwatched<T: Trail, A: Allocator>(
         wire: here.wire,
     };
     if w.place.step > 0 {
-        return leave_begun(meter, loaded, packet, w, trail);
+        return leave_begun(meter, loaded, here.bytes, here.wire, w, trail);
     }
     let followed = trail.begin(
         meter,

@@ -9,3 +9,4 @@ pub mod Trail
 pub mod Follow
 pub mod InPlace
 pub mod Together
+pub mod Packed

@@ -17,6 +17,7 @@ mod load;
 mod mark_trail;
 mod meter;
 mod outcome;
+mod packed;
 mod packet;
 mod pass;
 mod pause;

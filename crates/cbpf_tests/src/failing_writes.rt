@@ -152,21 +152,26 @@ fn write_first_stop<W: Write>(
     }
 }
 
+/// The stop's text goes wrong at each call in each way, and then not at all.
+fn check_stops(rt: &impl Abort, session: &mut Session<MarkTrail>, text: &[u8]) {
+    for (fault, kind) in FAULTS {
+        for call in 1..text.len() as u64 + 1 {
+            let mut writer = writer_with(fault, kind, call);
+            let result = write_first_stop(&mut writer, session);
+            check_fault(rt, result, &writer, call, text);
+        }
+    }
+    let mut writer = writer_with(Fault::Fails, ErrorKind::Other, 0);
+    let result = write_first_stop(&mut writer, session);
+    check_whole(rt, result, &writer, text);
+}
+
 #[test]
 fn a_stop_leaves_the_bytes_before_the_fault(rt: HostRuntime) -> Result<(), AllocError> {
     let mut session = session_of(rt.alloc(), ICMP_WORDS)?;
     assert!(rt; session.breakpoint(1) == Ok(()));
     let text = joined(rt.alloc(), &[AT_1_2, FIRST_PACKET, b"(breakpoint)\n"])?;
-    for (fault, kind) in FAULTS {
-        for call in 1..text.len() as u64 + 1 {
-            let mut writer = writer_with(fault, kind, call);
-            let result = write_first_stop(&mut writer, &mut session);
-            check_fault(&rt, result, &writer, call, &text);
-        }
-    }
-    let mut writer = writer_with(Fault::Fails, ErrorKind::Other, 0);
-    let result = write_first_stop(&mut writer, &mut session);
-    check_whole(&rt, result, &writer, &text);
+    check_stops(&rt, &mut session, &text);
     Ok(())
 }
 
