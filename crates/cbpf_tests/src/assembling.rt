@@ -2,6 +2,7 @@
 use cbpf_text::AsmFault;
 use cbpf_tool::{Form, ToolFault, asm};
 use fault_injection::{Fault, FaultyReader, FaultyWriter, RefusingAllocator};
+use std::alloc::Global;
 use std::io::ErrorKind;
 use std::process::Abort;
 
@@ -35,21 +36,39 @@ const KINDS: [ErrorKind; 3] = [
     ErrorKind::OutOfMemory,
 ];
 
+fn check_failed_read(rt: &impl Abort, alloc: Global, form: Form, kind: ErrorKind, call: u64) {
+    let mut reader = FaultyReader::new(ARP, 1, call);
+    reader.set_error(kind);
+    let mut writer = no_fault();
+    let result = asm(alloc, &mut reader, &mut writer, form);
+    assert_eq!(rt; result, Err(ToolFault::Read));
+    assert_eq!(rt; reader.calls(), call);
+    assert!(rt; writer.written().is_empty());
+}
+
 #[test]
 fn each_read_that_fails_leaves_nothing_written(rt: HostRuntime) {
     for (form, _) in ARP_TEXTS {
         for kind in KINDS {
             for call in 1..ARP.len() as u64 + 2 {
-                let mut reader = FaultyReader::new(ARP, 1, call);
-                reader.set_error(kind);
-                let mut writer = no_fault();
-                let result = asm(rt.alloc(), &mut reader, &mut writer, form);
-                assert_eq!(rt; result, Err(ToolFault::Read));
-                assert_eq!(rt; reader.calls(), call);
-                assert!(rt; writer.written().is_empty());
+                check_failed_read(&rt, rt.alloc(), form, kind, call);
             }
         }
     }
+}
+
+fn check_read(
+    rt: &impl Abort,
+    alloc: Global,
+    reader: &mut FaultyReader<'_>,
+    form: Form,
+    text: &[u8],
+) {
+    let mut writer = no_fault();
+    let result = asm(alloc, reader, &mut writer, form);
+    assert_eq!(rt; result, Ok(()));
+    assert_eq!(rt; writer.written(), text);
+    assert_eq!(rt; writer.flushes(), 1);
 }
 
 #[test]
@@ -57,76 +76,98 @@ fn pieces_of_any_length_make_the_same_source(rt: HostRuntime) {
     for (form, text) in ARP_TEXTS {
         for piece in 1..60usize {
             let mut reader = FaultyReader::new(ARP, piece, 0);
-            let mut writer = no_fault();
-            let result = asm(rt.alloc(), &mut reader, &mut writer, form);
-            assert_eq!(rt; result, Ok(()));
-            assert_eq!(rt; writer.written(), text);
-            assert_eq!(rt; writer.flushes(), 1);
+            check_read(&rt, rt.alloc(), &mut reader, form, text);
         }
     }
+}
+
+/// The write of this number, which is one of its byte, goes wrong.
+fn check_failed_write(
+    rt: &impl Abort,
+    alloc: Global,
+    (form, text): (Form, &[u8]),
+    (fault, kind): (Fault, ErrorKind),
+    call: u64,
+) {
+    let mut reader = ARP;
+    let mut writer = FaultyWriter::<256>::new(fault, call);
+    writer.set_error(kind);
+    let result = asm(alloc, &mut reader, &mut writer, form);
+    assert_eq!(rt; result, Err(ToolFault::Write));
+    assert_eq!(rt; writer.calls(), call);
+    assert_eq!(rt;
+        Some(writer.written()),
+        text.get(..(call as usize).saturating_sub(1))
+    );
 }
 
 #[test]
 fn each_write_that_goes_wrong_leaves_the_bytes_before_it(rt: HostRuntime) {
     for (form, text) in ARP_TEXTS {
-        for (fault, kind) in [
+        for way in [
             (Fault::Fails, ErrorKind::Other),
             (Fault::Fails, ErrorKind::Interrupted),
             (Fault::Fails, ErrorKind::OutOfMemory),
             (Fault::TakesNothing, ErrorKind::Other),
         ] {
             for call in 1..text.len() as u64 + 1 {
-                let mut reader = ARP;
-                let mut writer = FaultyWriter::<256>::new(fault, call);
-                writer.set_error(kind);
-                let result = asm(rt.alloc(), &mut reader, &mut writer, form);
-                assert_eq!(rt; result, Err(ToolFault::Write));
-                assert_eq!(rt; writer.calls(), call);
-                assert_eq!(rt; Some(writer.written()), text.get(..call as usize - 1));
+                check_failed_write(&rt, rt.alloc(), (form, text), way, call);
             }
         }
     }
+}
+
+fn check_failed_flush(rt: &impl Abort, alloc: Global, form: Form, text: &[u8], kind: ErrorKind) {
+    let mut reader = ARP;
+    let mut writer = no_fault();
+    writer.set_flush_fails(true);
+    writer.set_error(kind);
+    let result = asm(alloc, &mut reader, &mut writer, form);
+    assert_eq!(rt; result, Err(ToolFault::Write));
+    assert_eq!(rt; writer.written(), text);
+    assert_eq!(rt; writer.flushes(), 1);
 }
 
 #[test]
 fn a_flush_that_fails_is_a_write_fault(rt: HostRuntime) {
     for (form, text) in ARP_TEXTS {
         for kind in KINDS {
-            let mut reader = ARP;
-            let mut writer = no_fault();
-            writer.set_flush_fails(true);
-            writer.set_error(kind);
-            let result = asm(rt.alloc(), &mut reader, &mut writer, form);
-            assert_eq!(rt; result, Err(ToolFault::Write));
-            assert_eq!(rt; writer.written(), text);
-            assert_eq!(rt; writer.flushes(), 1);
+            check_failed_flush(&rt, rt.alloc(), form, text, kind);
         }
     }
+}
+
+/// Whether the growth of this number was refused; without a refusal the text is whole.
+fn is_refused(rt: &impl Abort, alloc: Global, form: Form, text: &[u8], nth: u64) -> bool {
+    let alloc = RefusingAllocator::refusing(alloc, nth);
+    let mut reader = ARP;
+    let mut writer = no_fault();
+    let result = asm(&alloc, &mut reader, &mut writer, form);
+    if result == Ok(()) {
+        assert!(rt; alloc.left() > 0);
+        assert_eq!(rt; writer.written(), text);
+        return false;
+    }
+    assert_eq!(rt; result, Err(ToolFault::Memory));
+    assert_eq!(rt; alloc.left(), 0);
+    assert!(rt; writer.written().is_empty());
+    true
+}
+
+/// How many growths there are; each one is refused once.
+fn growths_of_a_form(rt: &impl Abort, alloc: Global, form: Form, text: &[u8]) -> u64 {
+    for nth in 1..200u64 {
+        if !is_refused(rt, alloc, form, text, nth) {
+            return nth - 1;
+        }
+    }
+    panic!(rt; "no end of growths")
 }
 
 #[test]
 fn each_refused_growth_leaves_nothing_written(rt: HostRuntime) {
     for (form, text) in ARP_TEXTS {
-        let mut refused = 0u64;
-        for nth in 1..200u64 {
-            let alloc = RefusingAllocator::refusing(rt.alloc(), nth);
-            let mut reader = ARP;
-            let mut writer = no_fault();
-            match asm(&alloc, &mut reader, &mut writer, form) {
-                Ok(()) => {
-                    assert!(rt; alloc.left() > 0);
-                    assert_eq!(rt; writer.written(), text);
-                    break;
-                }
-                Err(fault) => {
-                    assert_eq!(rt; fault, ToolFault::Memory);
-                    assert_eq!(rt; alloc.left(), 0);
-                    assert!(rt; writer.written().is_empty());
-                    refused = nth;
-                }
-            }
-        }
-        assert!(rt; refused > 3 && refused < 199);
+        assert!(rt; growths_of_a_form(&rt, rt.alloc(), form, text) > 3);
     }
 }
 

@@ -8,7 +8,7 @@ use cbpf_dbg::{Counts, MarkTrail, Meter, Place, RunReply, Session, SessionFault,
 use cbpf_text::{write_line, write_listing};
 use fault_injection::{Fault, FaultyWriter, RefusingAllocator};
 use pcap_classic::Capture;
-use std::alloc::{AllocError, Allocator};
+use std::alloc::{AllocError, Allocator, Global};
 use std::process::Abort;
 
 /// Twenty times `tax`, and a return of 1.
@@ -95,28 +95,36 @@ fn set_all<A: Allocator + Copy>(
     refused
 }
 
+/// How many breakpoints are refused where the growth of this number is; `None` where a load is.
+fn refused_breakpoints(rt: &impl Abort, alloc: Global, when: When, nth: u64) -> Option<u64> {
+    let refusing = RefusingAllocator::refusing(alloc, nth);
+    let Ok(mut session) = session_of(&refusing, STRAIGHT) else {
+        assert_eq!(rt; refusing.left(), 0);
+        return None;
+    };
+    assert!(rt; session.select(2) == Ok(()));
+    let refused = set_all(rt, &mut session, when);
+    assert_eq!(rt; refused, u64::from(refusing.left() == 0));
+    Some(refused)
+}
+
+/// How many growths of breakpoints there are; each one is refused once.
+fn growths_of_breakpoints(rt: &impl Abort, alloc: Global, when: When) -> u64 {
+    let mut growths = 0u64;
+    for nth in 1..100u64 {
+        match refused_breakpoints(rt, alloc, when, nth) {
+            None => (),
+            Some(0) => return growths,
+            Some(_) => growths = growths.saturating_add(1),
+        }
+    }
+    panic!(rt; "no end of growths")
+}
+
 #[test]
 fn each_growth_of_breakpoints(rt: HostRuntime) {
     for when in CONDITIONS {
-        let mut growths = 0u64;
-        let mut is_whole = false;
-        for nth in 1..100u64 {
-            let refusing = RefusingAllocator::refusing(rt.alloc(), nth);
-            let Ok(mut session) = session_of(&refusing, STRAIGHT) else {
-                assert_eq!(rt; refusing.left(), 0);
-                continue;
-            };
-            assert!(rt; session.select(2) == Ok(()));
-            let refused = set_all(&rt, &mut session, when);
-            if refusing.left() > 0 {
-                assert_eq!(rt; refused, 0);
-                is_whole = true;
-                break;
-            }
-            assert_eq!(rt; refused, 1);
-            growths = growths.saturating_add(1);
-        }
-        assert!(rt; is_whole && growths > 2);
+        assert!(rt; growths_of_breakpoints(&rt, rt.alloc(), when) > 2);
     }
 }
 

@@ -7,7 +7,7 @@ use cbpf_text::{AsmFault, AsmKind, assemble, tokens};
 use cbpf_tool::{Files, LoadFault, MemoryFiles};
 use fault_injection::RefusingAllocator;
 use pcap_classic::{Capture, CaptureFault};
-use std::alloc::{AllocError, Global};
+use std::alloc::{AllocError, Allocator, Global};
 use std::process::Abort;
 
 /// Reads word text with each growth refused; says how many there are.
@@ -43,29 +43,29 @@ fn each_growth_of_word_text(rt: HostRuntime) -> Result<(), AllocError> {
     Ok(())
 }
 
+/// Word texts of a great count, and their faults.
+const COUNTS: [(&[u8], WordFault); 4] = [
+    (
+        b"4294967295,",
+        WordFault::CountDiffers {
+            said: 4_294_967_295,
+            found: 0,
+        },
+    ),
+    (b"4294967295", WordFault::CommaExpected(10)),
+    (b"4294967295,x", WordFault::UnexpectedByte(11)),
+    (b"4294967295,6 0 0", WordFault::NumberExpected(16)),
+];
+
 #[test]
 fn a_count_asks_for_no_room(rt: HostRuntime) {
-    for (text, found) in [
-        (b"4294967295,".as_slice(), 0),
-        (b"4294967295", 0),
-        (b"4294967295,x", 0),
-        (b"4294967295,6 0 0", 0),
-    ] {
+    for (text, wanted) in COUNTS {
         let refusing = RefusingAllocator::refusing(rt.alloc(), 1);
         let fault = match read_words(&refusing, text) {
             Ok(_) => None,
             Err(fault) => Some(fault),
         };
         assert_eq!(rt; refusing.left(), 1);
-        let wanted = match text.len() {
-            11 => WordFault::CountDiffers {
-                said: 4_294_967_295,
-                found,
-            },
-            10 => WordFault::CommaExpected(10),
-            12 => WordFault::UnexpectedByte(11),
-            _ => WordFault::NumberExpected(16),
-        };
         assert_eq!(rt; fault, Some(wanted));
     }
 }
@@ -232,43 +232,70 @@ fn a_trail_of_all_states_grows_once(rt: HostRuntime) {
     assert_eq!(rt; refusing.left(), 1);
 }
 
-#[test]
-fn each_growth_of_files(rt: HostRuntime) -> Result<(), AllocError> {
-    // The first allocations are those of the files that are put before.
-    for nth in 1..100u64 {
-        let refusing = RefusingAllocator::refusing(rt.alloc(), nth);
-        let mut files = MemoryFiles::new(&refusing);
-        let mut refused = 0u64;
-        for count in 0..20u64 {
-            let Ok(bytes) = Vec::from_slice(&refusing, &[count as u8]) else {
-                refused = refused.saturating_add(1);
-                continue;
-            };
-            let name = if count % 2 == 0 { "even" } else { "odd" };
-            if let Err(back) = files.put(name, bytes) {
-                assert_eq!(rt; refusing.left(), 0);
-                assert_eq!(rt; back.as_slice(), [count as u8].as_slice());
-                // The name has the bytes that it had.
-                match files.load(rt.alloc(), name) {
-                    Ok(held) => {
-                        assert!(rt; count > 1);
-                        assert_eq!(rt;
-                            held.as_slice(),
-                            [(count as u8).saturating_sub(2)].as_slice()
-                        );
-                    }
-                    Err(fault) => {
-                        assert!(rt; count < 2);
-                        assert_eq!(rt; fault, LoadFault::Absent);
-                    }
-                }
-                refused = refused.saturating_add(1);
-            }
+/// A name has the byte that it was given last, before the file `count`.
+fn check_held<A: Allocator + Copy>(
+    rt: &impl Abort,
+    alloc: Global,
+    files: &mut MemoryFiles<A>,
+    name: &str,
+    count: u8,
+) {
+    match files.load(alloc, name) {
+        Ok(held) => {
+            assert!(rt; count > 1);
+            assert_eq!(rt; held.as_slice(), [count.saturating_sub(2)].as_slice());
         }
-        assert!(rt; refused == if refusing.left() == 0 { 1 } else { 0 });
-        if refused == 0 {
+        Err(fault) => {
+            assert!(rt; count < 2);
+            assert_eq!(rt; fault, LoadFault::Absent);
+        }
+    }
+}
+
+/// Gives one of two names a byte. Where memory is refused, it keeps the byte that it had.
+fn is_put<A: Allocator + Copy>(
+    rt: &impl Abort,
+    alloc: Global,
+    refusing: A,
+    files: &mut MemoryFiles<A>,
+    count: u8,
+) -> bool {
+    let Ok(bytes) = Vec::from_slice(refusing, &[count]) else {
+        return false;
+    };
+    let name = if count % 2 == 0 { "even" } else { "odd" };
+    match files.put(name, bytes) {
+        Ok(()) => true,
+        Err(back) => {
+            assert_eq!(rt; back.as_slice(), [count].as_slice());
+            check_held(rt, alloc, files, name, count);
+            false
+        }
+    }
+}
+
+/// Whether the growth of this number is one of those of twenty files.
+fn is_refused_to_files(rt: &impl Abort, alloc: Global, nth: u64) -> bool {
+    let refusing = RefusingAllocator::refusing(alloc, nth);
+    let mut files = MemoryFiles::new(&refusing);
+    let mut refused = 0u64;
+    for count in 0..20u8 {
+        if !is_put(rt, alloc, &refusing, &mut files, count) {
+            assert_eq!(rt; refusing.left(), 0);
+            refused = refused.saturating_add(1);
+        }
+    }
+    assert_eq!(rt; refused, u64::from(refusing.left() == 0));
+    refused > 0
+}
+
+#[test]
+fn each_growth_of_files(rt: HostRuntime) {
+    // Each file's byte is a growth too.
+    for nth in 1..100u64 {
+        if !is_refused_to_files(&rt, rt.alloc(), nth) {
             assert!(rt; nth > 40);
-            return Ok(());
+            return;
         }
     }
     panic!(rt; "no end of growths")

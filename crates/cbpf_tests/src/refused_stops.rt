@@ -65,30 +65,52 @@ fn check_part<A: Allocator>(
     Ok(())
 }
 
-/// Runs to the end with each growth refused; says how many there are. The session itself asks for no room.
-fn growths_of_a_run(rt: &impl Abort, alloc: Global, breakpoints: u64) -> Result<u64, AllocError> {
-    for nth in 1..100u64 {
-        let own = RefusingAllocator::refusing(alloc, 1000);
-        let mut session = straight_session(rt, &own, breakpoints)?;
-        let all = stops_ahead(rt, alloc, &session)?;
-        assert!(rt; all.len() as u64 == breakpoints.saturating_mul(2));
-        let left = own.left();
-        let refusing = RefusingAllocator::refusing(alloc, nth);
-        let mut found = Vec::new(&refusing);
-        let reply = session.run_to_end(&mut Meter::new(), &mut found);
-        if reply == Ok(COUNTS) {
-            assert!(rt; refusing.left() > 0);
-            assert!(rt; found.as_slice() == all.as_slice());
-            assert_eq!(rt; own.left(), left);
-            return Ok(nth - 1);
-        }
+/// Runs to the end with the growth of this number refused, and then on from there; says whether there was one.
+fn is_refused<A: Allocator>(
+    rt: &impl Abort,
+    alloc: Global,
+    session: &mut Session<MarkTrail, A>,
+    all: &[Stop],
+    nth: u64,
+) -> Result<bool, AllocError> {
+    let refusing = RefusingAllocator::refusing(alloc, nth);
+    let mut found = Vec::new(&refusing);
+    let reply = session.run_to_end(&mut Meter::new(), &mut found);
+    let is_whole = reply == Ok(COUNTS);
+    if !is_whole {
         assert!(rt; reply == Err(SessionFault::Memory));
         assert_eq!(rt; refusing.left(), 0);
-        check_part(rt, alloc, &session, &found, &all)?;
-        // The next one goes on from there.
+        check_part(rt, alloc, session, &found, all)?;
         assert!(rt; session.run_to_end(&mut Meter::new(), &mut found) == Ok(COUNTS));
-        assert!(rt; found.as_slice() == all.as_slice());
-        assert_eq!(rt; own.left(), left);
+    }
+    assert!(rt; found.as_slice() == all);
+    assert!(rt; refusing.left() > 0 || !is_whole);
+    Ok(!is_whole)
+}
+
+/// The same in a session of its own, which asks for no room.
+fn is_refused_in_a_session(
+    rt: &impl Abort,
+    alloc: Global,
+    breakpoints: u64,
+    nth: u64,
+) -> Result<bool, AllocError> {
+    let own = RefusingAllocator::refusing(alloc, 1000);
+    let mut session = straight_session(rt, &own, breakpoints)?;
+    let all = stops_ahead(rt, alloc, &session)?;
+    assert!(rt; all.len() as u64 == breakpoints.saturating_mul(2));
+    let left = own.left();
+    let is_refused = is_refused(rt, alloc, &mut session, &all, nth)?;
+    assert_eq!(rt; own.left(), left);
+    Ok(is_refused)
+}
+
+/// How many growths there are; each one is refused once.
+fn growths_of_a_run(rt: &impl Abort, alloc: Global, breakpoints: u64) -> Result<u64, AllocError> {
+    for nth in 1..100u64 {
+        if !is_refused_in_a_session(rt, alloc, breakpoints, nth)? {
+            return Ok(nth - 1);
+        }
     }
     panic!(rt; "no end of growths")
 }

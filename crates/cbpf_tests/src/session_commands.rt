@@ -3,8 +3,9 @@ use crate::icmp::TWO_PACKETS_AS_K;
 use crate::worked::files_of;
 use cbpf_tool::{MemoryFiles, ToolFault, debug};
 use fault_injection::{Fault, FaultyWriter, RefusingAllocator};
-use std::alloc::AllocError;
+use std::alloc::{AllocError, Global};
 use std::io::ErrorKind;
+use std::process::Abort;
 
 const SESSION: &[u8] =
     b"load bpf 2,0 0 0 7,22 0 0 0\nload pcap k\nbreakpoint 1\nstops\nrun\nstep -1\nmark\ndisassemble\nquit\n";
@@ -59,6 +60,28 @@ fn the_whole_session_writes_its_replies(rt: HostRuntime) -> Result<(), AllocErro
     Ok(())
 }
 
+/// The write of this number, which is one of its byte, goes wrong.
+fn check_failed_write(
+    rt: &impl Abort,
+    alloc: Global,
+    fault: Fault,
+    kind: ErrorKind,
+    call: u64,
+) -> Result<(), AllocError> {
+    let mut files = files_of(alloc, TWO_PACKETS_AS_K)?;
+    let mut reader = SESSION;
+    let mut writer = FaultyWriter::<2048>::new(fault, call);
+    writer.set_error(kind);
+    let result = debug(alloc, &mut reader, &mut writer, &mut files);
+    assert_eq!(rt; result, Err(ToolFault::Write));
+    assert_eq!(rt; writer.calls(), call);
+    assert_eq!(rt;
+        Some(writer.written()),
+        REPLIES.get(..(call as usize).saturating_sub(1))
+    );
+    Ok(())
+}
+
 #[test]
 fn each_write_of_a_session_that_goes_wrong_leaves_the_bytes_before_it(
     rt: HostRuntime,
@@ -71,14 +94,7 @@ fn each_write_of_a_session_that_goes_wrong_leaves_the_bytes_before_it(
         (Fault::TakesNothing, ErrorKind::Other),
     ] {
         for call in 1..900u64 {
-            let mut files = files_of(rt.alloc(), TWO_PACKETS_AS_K)?;
-            let mut reader = SESSION;
-            let mut writer = FaultyWriter::<2048>::new(fault, call);
-            writer.set_error(kind);
-            let result = debug(rt.alloc(), &mut reader, &mut writer, &mut files);
-            assert_eq!(rt; result, Err(ToolFault::Write));
-            assert_eq!(rt; writer.calls(), call);
-            assert_eq!(rt; Some(writer.written()), REPLIES.get(..call as usize - 1));
+            check_failed_write(&rt, rt.alloc(), fault, kind, call)?;
         }
     }
     Ok(())
@@ -114,52 +130,100 @@ error: S1 no program\n\
 error: S1 no program\n\
 breakpoints:\n";
 
-// A script, and its replies: with memory, where the first breakpoint finds none, and where the program
-// finds none. In no script is the condition that replaces another one refused: it grows nothing.
+/// A script, and its replies: with memory, where the first breakpoint finds none, and where the program
+/// finds none.
+struct Script {
+    text: &'static [u8],
+    set: &'static [u8],
+    not_set: &'static [u8],
+    no_program: &'static [u8],
+}
+
+// In no script is the condition that replaces another one refused: it grows nothing.
+const SCRIPTS: [Script; 3] = [
+    Script {
+        text: BREAKPOINT,
+        set: SET,
+        not_set: NOT_SET,
+        no_program: NO_PROGRAM,
+    },
+    Script {
+        text: CONDITION,
+        set: CONDITION_SET,
+        not_set: NOT_SET,
+        no_program: NO_PROGRAM,
+    },
+    Script {
+        text: REPLACED,
+        set: REPLACED_SET,
+        not_set: REPLACED_NOT_SET,
+        no_program: REPLACED_NO_PROGRAM,
+    },
+];
+
+/// Where a growth was refused.
+#[derive(Clone, Copy, PartialEq, Eq)]
+enum Refused {
+    /// Nowhere.
+    None,
+    /// In the first breakpoint.
+    Breakpoint,
+    /// In the load of the program.
+    Program,
+    /// In a line that was to be held, which ends the session.
+    Line,
+}
+
+/// The line that found no memory has no reply; each line before it has its own.
+fn check_lines_before(rt: &impl Abort, script: &Script, replies: &[u8]) {
+    assert!(rt; replies.len() < script.set.len());
+    assert!(rt; script.set.starts_with(replies));
+    assert!(rt; replies.is_empty() || replies.ends_with(b"\n"));
+}
+
+/// Where the growth of this number is refused.
+fn refused_in(rt: &impl Abort, alloc: Global, script: &Script, nth: u64) -> Refused {
+    let mut files = MemoryFiles::new(alloc);
+    let refusing = RefusingAllocator::refusing(alloc, nth);
+    let mut reader = script.text;
+    let mut writer = FaultyWriter::<256>::new(Fault::Fails, 0);
+    let result = debug(&refusing, &mut reader, &mut writer, &mut files);
+    let replies = writer.written();
+    if refusing.left() > 0 {
+        assert_eq!(rt; result, Ok(()));
+        assert_eq!(rt; replies, script.set);
+        return Refused::None;
+    }
+    if result == Ok(()) {
+        if replies == script.not_set {
+            return Refused::Breakpoint;
+        }
+        assert_eq!(rt; replies, script.no_program);
+        return Refused::Program;
+    }
+    assert_eq!(rt; result, Err(ToolFault::Memory));
+    check_lines_before(rt, script, replies);
+    Refused::Line
+}
+
+fn check_refusals(rt: &impl Abort, alloc: Global, script: &Script) {
+    let mut times_not_set = 0u64;
+    for nth in 1..100u64 {
+        match refused_in(rt, alloc, script, nth) {
+            Refused::None => {
+                assert!(rt; times_not_set > 0);
+                return;
+            }
+            Refused::Breakpoint => times_not_set = times_not_set.saturating_add(1),
+            _ => (),
+        }
+    }
+    panic!(rt; "no end of growths")
+}
+
 #[test]
 fn a_breakpoint_that_finds_no_memory_is_not_set(rt: HostRuntime) {
-    for (script, set, not_set, no_program) in [
-        (BREAKPOINT, SET, NOT_SET, NO_PROGRAM),
-        (CONDITION, CONDITION_SET, NOT_SET, NO_PROGRAM),
-        (
-            REPLACED,
-            REPLACED_SET,
-            REPLACED_NOT_SET,
-            REPLACED_NO_PROGRAM,
-        ),
-    ] {
-        let mut times_not_set = 0u64;
-        let mut is_whole = false;
-        for nth in 1..100u64 {
-            let mut files = MemoryFiles::new(rt.alloc());
-            let alloc = RefusingAllocator::refusing(rt.alloc(), nth);
-            let mut reader = script;
-            let mut writer = FaultyWriter::<256>::new(Fault::Fails, 0);
-            let result = debug(&alloc, &mut reader, &mut writer, &mut files);
-            let text = writer.written();
-            match result {
-                Ok(()) => {
-                    if alloc.left() > 0 {
-                        assert_eq!(rt; text, set);
-                        is_whole = true;
-                        break;
-                    }
-                    assert!(rt; text == not_set || text == no_program);
-                    if text == not_set {
-                        times_not_set = times_not_set.saturating_add(1);
-                    }
-                }
-                // The line that found no memory has no reply; each line before it has its own.
-                Err(fault) => {
-                    assert_eq!(rt; fault, ToolFault::Memory);
-                    assert_eq!(rt; alloc.left(), 0);
-                    assert!(rt; text.len() < set.len());
-                    assert!(rt; set.starts_with(text));
-                    assert!(rt; text.is_empty() || text.ends_with(b"\n"));
-                }
-            }
-        }
-        assert!(rt; is_whole);
-        assert!(rt; times_not_set > 0);
+    for script in &SCRIPTS {
+        check_refusals(&rt, rt.alloc(), script);
     }
 }

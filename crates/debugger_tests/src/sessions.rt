@@ -7,6 +7,7 @@
 mod breakpoints;
 mod conditions;
 mod places;
+mod rows;
 mod runs;
 mod shown;
 mod steps;
@@ -18,6 +19,7 @@ use cbpf_dbg::{
     Why,
 };
 use pcap_classic::Capture;
+use rows::{Answer, Row, Turns, check_both, check_rows};
 use std::alloc::Global;
 use std::process::Abort;
 
@@ -131,14 +133,6 @@ fn sessions(
     )
 }
 
-/// Asserts what the list of breakpoints is.
-fn assert_breakpoints<T: Trail>(rt: &impl Abort, s: &Session<T>, wanted: &[u32]) {
-    assert!(rt; s.breakpoint_count() == wanted.len());
-    for (i, n) in wanted.iter().enumerate() {
-        assert!(rt; s.breakpoint_at(i) == Some(*n));
-    }
-}
-
 fn at(packet: u64, step: u32) -> Place {
     Place { packet, step }
 }
@@ -159,38 +153,14 @@ fn stop_of(rt: &impl Abort, reply: Result<RunReply, SessionFault>) -> Stop {
     }
 }
 
-/// Asserts where a reply stopped, and gives why and the turns.
-fn assert_stop(
-    rt: &impl Abort,
-    reply: (Result<RunReply, SessionFault>, u128),
-    place: Place,
-    pc: u32,
-    a: u32,
-) -> (Why, u128) {
-    let stop = stop_of(rt, reply.0);
-    assert!(rt; stop.place == place);
-    assert!(rt; stop.state.pc() == pc);
-    assert!(rt; stop.state.a() == a);
-    (stop.why, reply.1)
+/// Where the next run stops.
+fn next_stop<T: Trail>(rt: &impl Abort, s: &mut Session<T>) -> Stop {
+    let mut meter = Meter::new();
+    stop_of(rt, s.run(&mut meter, None))
 }
 
-/// What `run` answers, and its turns.
-fn run<T: Trail>(s: &mut Session<T>, limit: Option<u64>) -> (Result<RunReply, SessionFault>, u128) {
+/// Where a step ends.
+fn stop_of_step<T: Trail>(rt: &impl Abort, s: &mut Session<T>, n: i64) -> Stop {
     let mut meter = Meter::new();
-    let reply = s.run(&mut meter, limit);
-    (reply, meter.spent())
-}
-
-/// What `step` answers, and its turns.
-fn step<T: Trail>(s: &mut Session<T>, n: i64) -> (Result<RunReply, SessionFault>, u128) {
-    let mut meter = Meter::new();
-    let reply = s.step(&mut meter, n);
-    (reply, meter.spent())
-}
-
-/// What `resume` answers, and its turns.
-fn resume<T: Trail>(s: &mut Session<T>, place: Place) -> (Result<(), SessionFault>, u128) {
-    let mut meter = Meter::new();
-    let reply = s.resume(&mut meter, place);
-    (reply, meter.spent())
+    stop_of(rt, s.step(&mut meter, n))
 }

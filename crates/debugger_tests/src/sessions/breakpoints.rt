@@ -19,22 +19,35 @@ fn delete_each_second<T: Trail>(rt: &impl Abort, s: &mut Session<T>, first: u64)
     assert!(rt; s.delete(first) == Ok(false));
 }
 
-/// The first instruction and those in the middle are `tax`, and the last returns 1.
-fn sets_and_deletes_each<T: Trail>(rt: &impl Abort, alloc: Global, s: &mut Session<T>) {
-    s.load_program(long_program(rt, alloc, (7, 0, 0, 0), 4094, (7, 0, 0, 0), (6, 0, 0, 1)));
-    set_each_breakpoint(rt, s);
-    assert!(rt; assert_stop(rt, run(s, None), at(1, 1), 0, 0) == (Why::Break, 0));
-    assert!(rt; assert_stop(rt, run(s, None), at(1, 2), 1, 0) == (Why::Break, 1));
-    delete_each_second(rt, s, 0);
+fn check_each_second<T: Trail>(rt: &impl Abort, s: &Session<T>) {
     assert!(rt; s.breakpoint_count() == 2048);
     assert!(rt; s.breakpoint_at(0) == Some(1));
     assert!(rt; s.breakpoint_at(2047) == Some(4095));
     assert!(rt; s.breakpoint_at(2048) == None);
-    assert!(rt; assert_stop(rt, run(s, None), at(1, 4), 3, 0) == (Why::Break, 2));
+}
+
+const AT_EACH: [Row; 2] = [
+    Row::Run(None, Answer::Breaks(1, 1, 0, 0), Turns::Exactly(0)),
+    Row::Run(None, Answer::Breaks(1, 2, 1, 0), Turns::Exactly(1)),
+];
+
+const AT_EACH_SECOND: [Row; 1] = [Row::Run(None, Answer::Breaks(1, 4, 3, 0), Turns::Exactly(2))];
+
+const AT_NONE: [Row; 2] = [
+    Row::Breakpoints(&[]),
+    Row::Run(None, Answer::Finishes(2, 0, 0), Turns::Exactly(8189)),
+];
+
+/// The first instruction and those in the middle are `tax`, and the last returns 1.
+fn sets_and_deletes_each<T: Trail>(rt: &impl Abort, alloc: Global, s: &mut Session<T>) {
+    s.load_program(long_program(rt, alloc, (7, 0, 0, 0), 4094, (7, 0, 0, 0), (6, 0, 0, 1)));
+    set_each_breakpoint(rt, s);
+    check_rows(rt, s, &AT_EACH);
+    delete_each_second(rt, s, 0);
+    check_each_second(rt, s);
+    check_rows(rt, s, &AT_EACH_SECOND);
     delete_each_second(rt, s, 1);
-    assert!(rt; s.breakpoint_count() == 0);
-    assert!(rt; s.breakpoint_at(0) == None);
-    assert!(rt; run(s, None) == (Ok(RunReply::Finished(counts(2, 0, 0))), 8189));
+    check_rows(rt, s, &AT_NONE);
 }
 
 #[test]

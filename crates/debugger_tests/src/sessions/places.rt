@@ -1,72 +1,69 @@
 use super::*;
 
-fn goes_on_from_a_saved_place<T: Trail>(rt: &impl Abort, s: &mut Session<T>) {
-    let saved = resume(s, at(2, 2));
-    assert!(rt; saved.0 == Ok(()) && saved.1 <= 4);
-    assert!(rt; s.mark() == Ok(at(2, 2)));
-    assert!(rt; assert_stop(rt, run(s, None), at(2, 5), 4, 1) == (Why::Break, 3));
-    assert!(rt; run(s, None) == (Ok(RunReply::Finished(counts(1, 0, 0))), 1));
-}
+const FROM_A_SAVED_PLACE: [Row; 4] = [
+    Row::Resume(2, 2, Ok(()), Turns::AtMost(4)),
+    Row::Mark(2, 2),
+    Row::Run(None, Answer::Breaks(2, 5, 4, 1), Turns::Exactly(3)),
+    Row::Run(None, Answer::Finishes(1, 0, 0), Turns::Exactly(1)),
+];
 
 #[test]
 fn the_rest_from_a_saved_place(rt: HostRuntime) {
-    let (mut marks, mut all) = sessions(&rt, rt.alloc(), &RULE, &[1, 4]);
-    goes_on_from_a_saved_place(&rt, &mut marks);
-    goes_on_from_a_saved_place(&rt, &mut all);
+    check_both(&rt, rt.alloc(), &RULE, &[1, 4], &FROM_A_SAVED_PLACE);
 }
 
-fn stops_at_the_last_entry<T: Trail>(rt: &impl Abort, s: &mut Session<T>) {
-    assert_breakpoints(rt, s, &[5, 0]);
-    assert!(rt; assert_stop(rt, run(s, None), at(1, 1), 0, 0) == (Why::Break, 0));
-    assert!(rt; assert_stop(rt, run(s, None), at(1, 3), 5, 2054) == (Why::Break, 2));
-    assert!(rt; s.mark() == Ok(at(1, 3)));
-}
+const AT_THE_LAST_ENTRY: [Row; 4] = [
+    Row::Breakpoints(&[(5, When::Always), (0, When::Always)]),
+    Row::Run(None, Answer::Breaks(1, 1, 0, 0), Turns::Exactly(0)),
+    Row::Run(None, Answer::Breaks(1, 3, 5, 2054), Turns::Exactly(2)),
+    Row::Mark(1, 3),
+];
 
-fn goes_on_to_the_next_packet<T: Trail>(rt: &impl Abort, s: &mut Session<T>) {
-    assert!(rt; resume(s, at(1, 3)).0 == Ok(()));
-    assert!(rt; assert_stop(rt, run(s, None), at(2, 1), 0, 0) == (Why::Break, 1));
-    assert!(rt; resume(s, at(2, 0)) == (Ok(()), 0));
-    assert!(rt; assert_stop(rt, run(s, None), at(2, 1), 0, 0) == (Why::Break, 0));
-}
+const ON_TO_THE_NEXT_PACKET: [Row; 4] = [
+    Row::Resume(1, 3, Ok(()), Turns::AtMost(6)),
+    Row::Run(None, Answer::Breaks(2, 1, 0, 0), Turns::Exactly(1)),
+    Row::Resume(2, 0, Ok(()), Turns::Exactly(0)),
+    Row::Run(None, Answer::Breaks(2, 1, 0, 0), Turns::Exactly(0)),
+];
 
 #[test]
 fn the_last_entry_and_the_next_packet_have_the_same_rest(rt: HostRuntime) {
-    let (mut marks, mut all) = sessions(&rt, rt.alloc(), &RULE, &[5, 0]);
-    stops_at_the_last_entry(&rt, &mut marks);
-    stops_at_the_last_entry(&rt, &mut all);
-    let (mut marks, mut all) = sessions(&rt, rt.alloc(), &RULE, &[5, 0]);
-    goes_on_to_the_next_packet(&rt, &mut marks);
-    goes_on_to_the_next_packet(&rt, &mut all);
+    check_both(&rt, rt.alloc(), &RULE, &[5, 0], &AT_THE_LAST_ENTRY);
+    check_both(&rt, rt.alloc(), &RULE, &[5, 0], &ON_TO_THE_NEXT_PACKET);
 }
 
-fn refuses_places<T: Trail>(rt: &impl Abort, s: &mut Session<T>) {
-    assert!(rt; assert_stop(rt, run(s, None), at(1, 2), 1, 2054).0 == Why::Break);
-    assert!(rt; resume(s, at(3, 0)) == (Err(SessionFault::NoPacket), 0));
-    assert!(rt; resume(s, at(0, 0)) == (Err(SessionFault::NoPacket), 0));
-    assert!(rt; resume(s, at(2, 6)).0 == Err(SessionFault::NoStep(5)));
-    assert!(rt; resume(s, at(1, 4)).0 == Err(SessionFault::NoStep(3)));
-    assert!(rt; s.mark() == Ok(at(1, 2)));
-    assert!(rt; assert_stop(rt, step(s, -1), at(1, 1), 0, 0).0 == Why::Step);
-}
+const REFUSED_PLACES: [Row; 7] = [
+    Row::Run(None, Answer::Breaks(1, 2, 1, 2054), Turns::Exactly(1)),
+    Row::Resume(3, 0, Err(SessionFault::NoPacket), Turns::Exactly(0)),
+    Row::Resume(0, 0, Err(SessionFault::NoPacket), Turns::Exactly(0)),
+    Row::Resume(2, 6, Err(SessionFault::NoStep(5)), Turns::AtMost(12)),
+    Row::Resume(1, 4, Err(SessionFault::NoStep(3)), Turns::AtMost(12)),
+    Row::Mark(1, 2),
+    Row::Step(-1, Answer::Steps(1, 1, 0, 0), Turns::AtMost(1)),
+];
 
 #[test]
 fn refused_places(rt: HostRuntime) {
-    let (mut marks, mut all) = sessions(&rt, rt.alloc(), &RULE, &[1]);
-    refuses_places(&rt, &mut marks);
-    refuses_places(&rt, &mut all);
+    check_both(&rt, rt.alloc(), &RULE, &[1], &REFUSED_PLACES);
 }
+
+const IN_A_LONG_PACKET: [Row; 6] = [
+    Row::Break(100, When::Always, Ok(())),
+    Row::Run(None, Answer::Breaks(1, 101, 100, 2153), Turns::Exactly(100)),
+    Row::Resume(
+        2,
+        4097,
+        Err(SessionFault::NoStep(4096)),
+        Turns::AtMost(8194),
+    ),
+    Row::Step(-1, Answer::Steps(1, 100, 99, 2152), Turns::AtMost(63)),
+    Row::Resume(1, 0, Ok(()), Turns::Exactly(0)),
+    Row::Resume(1, 2, Ok(()), Turns::AtMost(4)),
+];
 
 fn resumes_in_a_long_packet<T: Trail>(rt: &impl Abort, alloc: Global, s: &mut Session<T>) {
     s.load_program(long_program(rt, alloc, (40, 0, 0, 12), 4094, (4, 0, 0, 1), (22, 0, 0, 0)));
-    s.breakpoint(100).ok().expect(rt, "memory");
-    assert!(rt; assert_stop(rt, run(s, None), at(1, 101), 100, 2153) == (Why::Break, 100));
-    let refused = resume(s, at(2, 4097));
-    assert!(rt; refused.0 == Err(SessionFault::NoStep(4096)) && refused.1 <= 8194);
-    let back = assert_stop(rt, step(s, -1), at(1, 100), 99, 2152);
-    assert!(rt; back.0 == Why::Step && back.1 <= 63);
-    assert!(rt; resume(s, at(1, 0)) == (Ok(()), 0));
-    let taken = resume(s, at(1, 2));
-    assert!(rt; taken.0 == Ok(()) && taken.1 <= 4);
+    check_rows(rt, s, &IN_A_LONG_PACKET);
 }
 
 #[test]
@@ -76,30 +73,35 @@ fn turns_of_a_resume(rt: HostRuntime) {
     resumes_in_a_long_packet(&rt, rt.alloc(), &mut all);
 }
 
-fn selects<T: Trail>(rt: &impl Abort, s: &mut Session<T>) {
-    assert!(rt; s.select(2) == Ok(()));
-    assert!(rt; s.mark() == Ok(at(2, 0)));
-    assert!(rt; run(s, None) == (Ok(RunReply::Finished(counts(1, 0, 0))), 5));
-    assert!(rt; s.select(3) == Err(SessionFault::NoPacket));
-    assert!(rt; s.select(0) == Err(SessionFault::NoPacket));
-    assert!(rt; s.mark() == Ok(at(1, 0)));
-}
+const SELECTED: [Row; 6] = [
+    Row::Select(2, Ok(())),
+    Row::Mark(2, 0),
+    Row::Run(None, Answer::Finishes(1, 0, 0), Turns::Exactly(5)),
+    Row::Select(3, Err(SessionFault::NoPacket)),
+    Row::Select(0, Err(SessionFault::NoPacket)),
+    Row::Mark(1, 0),
+];
 
 #[test]
 fn selected_packets(rt: HostRuntime) {
-    let (mut marks, mut all) = sessions(&rt, rt.alloc(), &RULE, &[]);
-    selects(&rt, &mut marks);
-    selects(&rt, &mut all);
+    check_both(&rt, rt.alloc(), &RULE, &[], &SELECTED);
 }
 
+const BEFORE_LOADS: [Row; 1] = [Row::Run(None, Answer::Breaks(1, 2, 1, 2054), Turns::Exactly(1))];
+
+const AFTER_A_CAPTURE: [Row; 2] = [Row::Mark(1, 0), Row::Breakpoints(&[(1, When::Always)])];
+
+const AFTER_A_PROGRAM: [Row; 2] = [
+    Row::Breakpoints(&[]),
+    Row::Run(None, Answer::Finishes(1, 1, 0), Turns::Exactly(8)),
+];
+
 fn loads_again<T: Trail>(rt: &impl Abort, alloc: Global, s: &mut Session<T>) {
-    assert!(rt; assert_stop(rt, run(s, None), at(1, 2), 1, 2054).0 == Why::Break);
+    check_rows(rt, s, &BEFORE_LOADS);
     s.load_capture(packets(rt, alloc));
-    assert!(rt; s.mark() == Ok(at(1, 0)));
-    assert!(rt; s.breakpoint_count() == 1);
+    check_rows(rt, s, &AFTER_A_CAPTURE);
     s.load_program(program(rt, alloc, &RULE));
-    assert!(rt; s.breakpoint_count() == 0);
-    assert!(rt; run(s, None).0 == Ok(RunReply::Finished(counts(1, 1, 0))));
+    check_rows(rt, s, &AFTER_A_PROGRAM);
 }
 
 #[test]

@@ -30,7 +30,7 @@ fn assert_text<T: Trail>(rt: &impl Abort, s: &Session<T>, stop: &Stop, wanted: &
 }
 
 fn shows_the_first_breakpoint<T: Trail>(rt: &impl Abort, s: &mut Session<T>) {
-    let stop = stop_of(rt, run(s, None).0);
+    let stop = next_stop(rt, s);
     let text = b"-- packet 1, step 2 --\n\
 -- register dump --\n\
 pc:       [1]\n\
@@ -53,8 +53,8 @@ fn a_breakpoint_shows_its_packet(rt: HostRuntime) {
 }
 
 fn shows_the_scratch_before<T: Trail>(rt: &impl Abort, s: &mut Session<T>) {
-    assert!(rt; assert_stop(rt, step(s, 5), at(1, 5), 4, 4).0 == Why::Step);
-    let stop = stop_of(rt, step(s, -1).0);
+    assert!(rt; stop_of_step(rt, s, 5).place == at(1, 5));
+    let stop = stop_of_step(rt, s, -1);
     let text = b"-- packet 1, step 4 --\n\
 -- register dump --\n\
 pc:       [3]\n\
@@ -78,8 +78,8 @@ fn a_step_back_shows_the_scratch_memory_of_its_step(rt: HostRuntime) {
 }
 
 fn shows_an_extension<T: Trail>(rt: &impl Abort, s: &mut Session<T>) {
-    assert!(rt; assert_stop(rt, run(s, None), at(1, 1), 0, 0).0 == Why::Unknown(Ext::Rand));
-    let stop = stop_of(rt, run(s, None).0);
+    assert!(rt; next_stop(rt, s).place == at(1, 1));
+    let stop = next_stop(rt, s);
     let text = b"-- packet 2, step 1 --\n\
 -- register dump --\n\
 pc:       [0]\n\
@@ -103,7 +103,7 @@ fn an_extension_shows_its_name(rt: HostRuntime) {
 
 fn shows_an_empty_packet<T: Trail>(rt: &impl Abort, alloc: Global, s: &mut Session<T>) {
     s.load_capture(capture(rt, alloc, &EMPTY_RECORD, 1));
-    let stop = stop_of(rt, step(s, 1).0);
+    let stop = stop_of_step(rt, s, 1);
     let text = b"-- packet 1, step 1 --\n\
 -- register dump --\n\
 pc:       [0]\n\

@@ -1,58 +1,77 @@
 use super::*;
 
-fn steps_back_and_on<T: Trail>(rt: &impl Abort, s: &mut Session<T>) {
-    assert!(rt; assert_stop(rt, run(s, None), at(1, 2), 1, 2054).0 == Why::Break);
-    assert!(rt; assert_stop(rt, run(s, None), at(2, 2), 1, 2048).0 == Why::Break);
-    assert!(rt; assert_stop(rt, run(s, None), at(2, 5), 4, 1).0 == Why::Break);
-    assert!(rt; assert_stop(rt, step(s, -3), at(2, 2), 1, 2048).0 == Why::Step);
-    assert!(rt; step(s, -2) == (Err(SessionFault::TooFarBack(1)), 0));
-    assert!(rt; assert_stop(rt, step(s, 3), at(2, 5), 4, 1) == (Why::Step, 3));
-}
+const BOTH_WAYS: [Row; 6] = [
+    Row::Run(None, Answer::Breaks(1, 2, 1, 2054), Turns::Exactly(1)),
+    Row::Run(None, Answer::Breaks(2, 2, 1, 2048), Turns::Exactly(3)),
+    Row::Run(None, Answer::Breaks(2, 5, 4, 1), Turns::Exactly(3)),
+    Row::Step(-3, Answer::Steps(2, 2, 1, 2048), Turns::AtMost(63)),
+    Row::Step(
+        -2,
+        Answer::Refuses(SessionFault::TooFarBack(1)),
+        Turns::Exactly(0),
+    ),
+    Row::Step(3, Answer::Steps(2, 5, 4, 1), Turns::Exactly(3)),
+];
 
 #[test]
 fn both_ways(rt: HostRuntime) {
-    let (mut marks, mut all) = sessions(&rt, rt.alloc(), &RULE, &[1, 4]);
-    steps_back_and_on(&rt, &mut marks);
-    steps_back_and_on(&rt, &mut all);
+    check_both(&rt, rt.alloc(), &RULE, &[1, 4], &BOTH_WAYS);
 }
 
-fn steps_over_packets<T: Trail>(rt: &impl Abort, s: &mut Session<T>) {
-    assert!(rt; assert_stop(rt, step(s, 3), at(1, 3), 5, 2054) == (Why::Step, 2));
-    assert!(rt; assert_stop(rt, step(s, 1), at(2, 1), 0, 0) == (Why::Step, 1));
-    assert!(rt; s.select(1) == Ok(()));
-    assert!(rt; assert_stop(rt, step(s, 8), at(2, 5), 4, 1) == (Why::Step, 7));
-    assert!(rt; s.select(1) == Ok(()));
-    assert!(rt; step(s, 9) == (Ok(RunReply::Finished(counts(1, 1, 0))), 8));
-    assert!(rt; s.mark() == Ok(at(1, 0)));
-}
+const OVER_PACKETS: [Row; 7] = [
+    Row::Step(3, Answer::Steps(1, 3, 5, 2054), Turns::Exactly(2)),
+    Row::Step(1, Answer::Steps(2, 1, 0, 0), Turns::Exactly(1)),
+    Row::Select(1, Ok(())),
+    Row::Step(8, Answer::Steps(2, 5, 4, 1), Turns::Exactly(7)),
+    Row::Select(1, Ok(())),
+    Row::Step(9, Answer::Finishes(1, 1, 0), Turns::Exactly(8)),
+    Row::Mark(1, 0),
+];
 
 #[test]
 fn over_packets(rt: HostRuntime) {
-    let (mut marks, mut all) = sessions(&rt, rt.alloc(), &RULE, &[]);
-    steps_over_packets(&rt, &mut marks);
-    steps_over_packets(&rt, &mut all);
+    check_both(&rt, rt.alloc(), &RULE, &[], &OVER_PACKETS);
 }
 
-fn refuses_steps<T: Trail>(rt: &impl Abort, s: &mut Session<T>) {
-    assert!(rt; run(s, Some(1)).0 == Ok(RunReply::Limit(counts(0, 1, 0))));
-    assert!(rt; step(s, -1) == (Err(SessionFault::TooFarBack(0)), 0));
-    assert!(rt; s.mark() == Ok(at(2, 0)));
-    assert!(rt; step(s, 0) == (Err(SessionFault::ZeroCount), 0));
-    assert!(rt; step(s, i64::MIN) == (Err(SessionFault::TooFarBack(0)), 0));
-}
+const REFUSED_STEPS: [Row; 5] = [
+    Row::Run(Some(1), Answer::Limit(0, 1, 0), Turns::Exactly(3)),
+    Row::Step(
+        -1,
+        Answer::Refuses(SessionFault::TooFarBack(0)),
+        Turns::Exactly(0),
+    ),
+    Row::Mark(2, 0),
+    Row::Step(
+        0,
+        Answer::Refuses(SessionFault::ZeroCount),
+        Turns::Exactly(0),
+    ),
+    Row::Step(
+        i64::MIN,
+        Answer::Refuses(SessionFault::TooFarBack(0)),
+        Turns::Exactly(0),
+    ),
+];
 
 #[test]
 fn refused_steps(rt: HostRuntime) {
-    let (mut marks, mut all) = sessions(&rt, rt.alloc(), &RULE, &[]);
-    refuses_steps(&rt, &mut marks);
-    refuses_steps(&rt, &mut all);
+    check_both(&rt, rt.alloc(), &RULE, &[], &REFUSED_STEPS);
 }
 
+/// `ld #9`, `st M[0]`, `ld #4`, `st M[0]`, `ret a`.
+const STORES_TWICE: [Code; 5] = [
+    (0, 0, 0, 9),
+    (2, 0, 0, 0),
+    (0, 0, 0, 4),
+    (2, 0, 0, 0),
+    (22, 0, 0, 0),
+];
+
 fn brings_slots_back<T: Trail>(rt: &impl Abort, s: &mut Session<T>) {
-    let last = stop_of(rt, step(s, 5).0);
+    let last = stop_of_step(rt, s, 5);
     assert!(rt; last.state.a() == 4);
     assert!(rt; last.state.slot(0) == 4);
-    let back = stop_of(rt, step(s, -1).0);
+    let back = stop_of_step(rt, s, -1);
     assert!(rt; back.place == at(1, 4));
     assert!(rt; back.state.a() == 4);
     assert!(rt; back.state.slot(0) == 9);
@@ -63,72 +82,61 @@ fn brings_slots_back<T: Trail>(rt: &impl Abort, s: &mut Session<T>) {
 
 #[test]
 fn slots_come_back(rt: HostRuntime) {
-    let list = [
-        (0, 0, 0, 9),
-        (2, 0, 0, 0),
-        (0, 0, 0, 4),
-        (2, 0, 0, 0),
-        (22, 0, 0, 0),
-    ];
-    let (mut marks, mut all) = sessions(&rt, rt.alloc(), &list, &[]);
+    let (mut marks, mut all) = sessions(&rt, rt.alloc(), &STORES_TWICE, &[]);
     brings_slots_back(&rt, &mut marks);
     brings_slots_back(&rt, &mut all);
 }
 
-/// 4096 instructions, of which the last one returns 1.
-fn load_long_program<T: Trail>(rt: &impl Abort, alloc: Global, s: &mut Session<T>) {
-    s.load_program(long_program(rt, alloc, (7, 0, 0, 0), 4094, (7, 0, 0, 0), (6, 0, 0, 1)));
+/// In a packet of 4096 steps, where the steps back to the entries 4095, 64, 64 and 1 take so many turns.
+fn in_a_long_packet(turns: [u128; 4]) -> [Row; 10] {
+    [
+        Row::Break(4095, When::Always, Ok(())),
+        Row::Run(None, Answer::Breaks(1, 4096, 4095, 0), Turns::Exactly(4095)),
+        Row::Step(
+            -1,
+            Answer::Steps(1, 4095, 4094, 0),
+            Turns::Exactly(turns[0]),
+        ),
+        Row::Step(-4031, Answer::Steps(1, 64, 63, 0), Turns::Exactly(turns[1])),
+        Row::Step(1, Answer::Steps(1, 65, 64, 0), Turns::Exactly(1)),
+        Row::Step(-1, Answer::Steps(1, 64, 63, 0), Turns::Exactly(turns[2])),
+        Row::Step(-63, Answer::Steps(1, 1, 0, 0), Turns::Exactly(turns[3])),
+        Row::Delete(4095, Ok(true)),
+        Row::Select(1, Ok(())),
+        Row::Run(None, Answer::Finishes(2, 0, 0), Turns::Exactly(8192)),
+    ]
 }
 
-/// The steps back take so many turns: to the entries 4095, 64, 64 and 1.
-fn steps_in_a_long_packet<T: Trail>(rt: &impl Abort, s: &mut Session<T>, turns: [u128; 4]) {
-    s.breakpoint(4095).ok().expect(rt, "memory");
-    assert!(rt; assert_stop(rt, run(s, None), at(1, 4096), 4095, 0) == (Why::Break, 4095));
-    assert!(rt; assert_stop(rt, step(s, -1), at(1, 4095), 4094, 0) == (Why::Step, turns[0]));
-    assert!(rt; assert_stop(rt, step(s, -4031), at(1, 64), 63, 0) == (Why::Step, turns[1]));
-    assert!(rt; assert_stop(rt, step(s, 1), at(1, 65), 64, 0) == (Why::Step, 1));
-    assert!(rt; assert_stop(rt, step(s, -1), at(1, 64), 63, 0) == (Why::Step, turns[2]));
-    assert!(rt; assert_stop(rt, step(s, -63), at(1, 1), 0, 0) == (Why::Step, turns[3]));
-    assert!(rt; s.delete(4095) == Ok(true));
-    assert!(rt; s.select(1) == Ok(()));
-    assert!(rt; run(s, None) == (Ok(RunReply::Finished(counts(2, 0, 0))), 8192));
+/// 4096 instructions, of which the last one returns 1.
+fn steps_in_a_long_packet<T: Trail>(
+    rt: &impl Abort,
+    alloc: Global,
+    s: &mut Session<T>,
+    turns: [u128; 4],
+) {
+    s.load_program(long_program(rt, alloc, (7, 0, 0, 0), 4094, (7, 0, 0, 0), (6, 0, 0, 1)));
+    check_rows(rt, s, &in_a_long_packet(turns));
 }
 
 #[test]
 fn a_long_packet(rt: HostRuntime) {
     let (mut marks, mut all) = sessions(&rt, rt.alloc(), &RULE, &[]);
-    load_long_program(&rt, rt.alloc(), &mut marks);
-    load_long_program(&rt, rt.alloc(), &mut all);
-    steps_in_a_long_packet(&rt, &mut marks, [62, 63, 63, 0]);
-    steps_in_a_long_packet(&rt, &mut all, [0, 0, 0, 0]);
+    steps_in_a_long_packet(&rt, rt.alloc(), &mut marks, [62, 63, 63, 0]);
+    steps_in_a_long_packet(&rt, rt.alloc(), &mut all, [0, 0, 0, 0]);
 }
 
-fn lists_stops<T: Trail>(rt: &impl Abort, s: &Session<T>, wanted: &[(Place, u32, u32)]) {
-    let mut stops = s.stops().ok().expect(rt, "stops");
-    for (place, pc, a) in wanted {
-        let stop = stops.next().expect(rt, "a stop");
-        assert!(rt; stop.place == *place);
-        assert!(rt; stop.state.pc() == *pc);
-        assert!(rt; stop.state.a() == *a);
-        assert!(rt; stop.state.x() == 0);
-        assert!(rt; stop.why == Why::Break);
-    }
-    assert!(rt; stops.next().is_none());
-    assert!(rt; stops.next().is_none());
-    assert!(rt; s.mark() == Ok(at(1, 0)));
-}
+const LISTED: [Row; 2] = [
+    Row::Stops(&[(1, 2, 1, 2054), (2, 2, 1, 2048), (2, 5, 4, 1)]),
+    Row::Mark(1, 0),
+];
 
 #[test]
 fn the_list_of_stops(rt: HostRuntime) {
-    let wanted = [(at(1, 2), 1, 2054), (at(2, 2), 1, 2048), (at(2, 5), 4, 1)];
-    let (marks, all) = sessions(&rt, rt.alloc(), &RULE, &[1, 4]);
-    lists_stops(&rt, &marks, &wanted);
-    lists_stops(&rt, &all, &wanted);
+    check_both(&rt, rt.alloc(), &RULE, &[1, 4], &LISTED);
 }
 
 #[test]
 fn no_stops_without_breakpoints(rt: HostRuntime) {
-    let (marks, all) = sessions(&rt, rt.alloc(), &RULE, &[]);
-    lists_stops(&rt, &marks, &[]);
-    lists_stops(&rt, &all, &[]);
+    let rows = [Row::Stops(&[]), Row::Mark(1, 0)];
+    check_both(&rt, rt.alloc(), &RULE, &[], &rows);
 }
