@@ -37,6 +37,15 @@ const RULE: [Code; 6] = [
 /// `ld rand`, `ret a`.
 const RANDOM: [Code; 2] = [(32, 0, 0, 4294963256), (22, 0, 0, 0)];
 
+/// `ld #9`, `st M[0]`, `ld #4`, `st M[0]`, `ret a`.
+const STORES: [Code; 5] = [
+    (0, 0, 0, 9),
+    (2, 0, 0, 0),
+    (0, 0, 0, 4),
+    (2, 0, 0, 0),
+    (22, 0, 0, 0),
+];
+
 /// The file header, little-endian with microseconds.
 const HEADER: [u8; 24] = [
     0xd4, 0xc3, 0xb2, 0xa1, 2, 0, 4, 0, 0, 0, 0, 0, 0, 0, 0, 0, 0xff, 0xff, 0, 0, 1, 0, 0, 0,

@@ -1,15 +1,6 @@
 use super::*;
 use std::io::Write;
 
-/// `ld #9`, `st M[0]`, `ld #4`, `st M[0]`, `ret a`.
-const STORES: [Code; 5] = [
-    (0, 0, 0, 9),
-    (2, 0, 0, 0),
-    (0, 0, 0, 4),
-    (2, 0, 0, 0),
-    (22, 0, 0, 0),
-];
-
 /// Asserts how a stop is written.
 #[tactic(auto, using(cbpf_dbg::proofs::ShownLemmas::shows))]
 fn assert_text<T: Trail>(rt: &impl Abort, s: &Session<T>, stop: &Stop, wanted: &[u8]) {

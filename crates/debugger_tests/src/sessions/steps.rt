@@ -58,15 +58,6 @@ fn refused_steps(rt: HostRuntime) {
     check_both(&rt, rt.alloc(), &RULE, &[], &REFUSED_STEPS);
 }
 
-/// `ld #9`, `st M[0]`, `ld #4`, `st M[0]`, `ret a`.
-const STORES_TWICE: [Code; 5] = [
-    (0, 0, 0, 9),
-    (2, 0, 0, 0),
-    (0, 0, 0, 4),
-    (2, 0, 0, 0),
-    (22, 0, 0, 0),
-];
-
 fn brings_slots_back<T: Trail>(rt: &impl Abort, s: &mut Session<T>) {
     let last = stop_of_step(rt, s, 5);
     assert!(rt; last.state.a() == 4);
@@ -82,7 +73,7 @@ fn brings_slots_back<T: Trail>(rt: &impl Abort, s: &mut Session<T>) {
 
 #[test]
 fn slots_come_back(rt: HostRuntime) {
-    let (mut marks, mut all) = sessions(&rt, rt.alloc(), &STORES_TWICE, &[]);
+    let (mut marks, mut all) = sessions(&rt, rt.alloc(), &STORES, &[]);
     brings_slots_back(&rt, &mut marks);
     brings_slots_back(&rt, &mut all);
 }
