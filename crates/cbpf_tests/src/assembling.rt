@@ -1,4 +1,5 @@
 // The assembler over readers, writers and allocators that fail at one call.
+use crate::failing_writes::{FAULTS, check_bytes_before};
 use cbpf_text::AsmFault;
 use cbpf_tool::{Form, ToolFault, asm};
 use fault_injection::{Fault, FaultyReader, FaultyWriter, RefusingAllocator};
@@ -81,7 +82,6 @@ fn pieces_of_any_length_make_the_same_source(rt: HostRuntime) {
     }
 }
 
-/// The write of this number, which is one of its byte, goes wrong.
 fn check_failed_write(
     rt: &impl Abort,
     alloc: Global,
@@ -94,24 +94,15 @@ fn check_failed_write(
     writer.set_error(kind);
     let result = asm(alloc, &mut reader, &mut writer, form);
     assert_eq!(rt; result, Err(ToolFault::Write));
-    assert_eq!(rt; writer.calls(), call);
-    assert_eq!(rt;
-        Some(writer.written()),
-        text.get(..(call as usize).saturating_sub(1))
-    );
+    check_bytes_before(rt, &writer, call, text);
 }
 
 #[test]
 fn each_write_that_goes_wrong_leaves_the_bytes_before_it(rt: HostRuntime) {
     for (form, text) in ARP_TEXTS {
-        for way in [
-            (Fault::Fails, ErrorKind::Other),
-            (Fault::Fails, ErrorKind::Interrupted),
-            (Fault::Fails, ErrorKind::OutOfMemory),
-            (Fault::TakesNothing, ErrorKind::Other),
-        ] {
+        for fault in FAULTS {
             for call in 1..text.len() as u64 + 1 {
-                check_failed_write(&rt, rt.alloc(), (form, text), way, call);
+                check_failed_write(&rt, rt.alloc(), (form, text), fault, call);
             }
         }
     }

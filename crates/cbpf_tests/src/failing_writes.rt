@@ -11,7 +11,7 @@ use std::io::{ErrorKind, Write};
 use std::process::Abort;
 
 /// How a write goes wrong.
-const FAULTS: [(Fault, ErrorKind); 4] = [
+pub const FAULTS: [(Fault, ErrorKind); 4] = [
     (Fault::Fails, ErrorKind::Other),
     (Fault::Fails, ErrorKind::Interrupted),
     (Fault::Fails, ErrorKind::OutOfMemory),
@@ -25,7 +25,21 @@ fn writer_with(fault: Fault, kind: ErrorKind, call: u64) -> FaultyWriter<4096> {
     writer
 }
 
-/// After a fault exactly the bytes before it were written, and no write was tried again.
+/// After write number `call`, of one byte, went wrong, exactly the bytes before it were written, and no write was tried
+/// again.
+pub fn check_bytes_before<const N: usize>(
+    rt: &impl Abort,
+    writer: &FaultyWriter<N>,
+    call: u64,
+    text: &[u8],
+) {
+    assert_eq!(rt; writer.calls(), call);
+    assert_eq!(rt;
+        Some(writer.written()),
+        text.get(..(call as usize).saturating_sub(1))
+    );
+}
+
 fn check_fault(
     rt: &impl Abort,
     answer: Result<(), WriteFault>,
@@ -34,11 +48,7 @@ fn check_fault(
     text: &[u8],
 ) {
     assert_eq!(rt; answer, Err(WriteFault));
-    assert_eq!(rt; writer.calls(), call);
-    assert_eq!(rt;
-        Some(writer.written()),
-        text.get(..(call as usize).saturating_sub(1))
-    );
+    check_bytes_before(rt, writer, call, text);
 }
 
 fn check_whole(

@@ -95,7 +95,7 @@ fn set_all<A: Allocator + Copy>(
     refused
 }
 
-/// How many breakpoints are refused where the growth of this number is; `None` where a load is.
+/// How many breakpoints are refused if the growth of this number is refused; `None` if it is one of a load.
 fn refused_breakpoints(rt: &impl Abort, alloc: Global, when: When, nth: u64) -> Option<u64> {
     let refusing = RefusingAllocator::refusing(alloc, nth);
     let Ok(mut session) = session_of(&refusing, STRAIGHT) else {

@@ -232,7 +232,7 @@ fn a_trail_of_all_states_grows_once(rt: HostRuntime) {
     assert_eq!(rt; refusing.left(), 1);
 }
 
-/// A name has the byte that it was given last, before the file `count`.
+/// Before file `count` is put, its name has the byte that it was given last.
 fn check_held<A: Allocator + Copy>(
     rt: &impl Abort,
     alloc: Global,

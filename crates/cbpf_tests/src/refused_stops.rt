@@ -76,16 +76,17 @@ fn is_refused<A: Allocator>(
     let refusing = RefusingAllocator::refusing(alloc, nth);
     let mut found = Vec::new(&refusing);
     let reply = session.run_to_end(&mut Meter::new(), &mut found);
-    let is_whole = reply == Ok(COUNTS);
-    if !is_whole {
+    let is_refused = reply != Ok(COUNTS);
+    if is_refused {
         assert!(rt; reply == Err(SessionFault::Memory));
         assert_eq!(rt; refusing.left(), 0);
         check_part(rt, alloc, session, &found, all)?;
         assert!(rt; session.run_to_end(&mut Meter::new(), &mut found) == Ok(COUNTS));
+    } else {
+        assert!(rt; refusing.left() > 0);
     }
     assert!(rt; found.as_slice() == all);
-    assert!(rt; refusing.left() > 0 || !is_whole);
-    Ok(!is_whole)
+    Ok(is_refused)
 }
 
 /// The same in a session of its own, which asks for no room.

@@ -1,4 +1,5 @@
 // Commands of a session over writers and allocators that fail.
+use crate::failing_writes::{FAULTS, check_bytes_before};
 use crate::icmp::TWO_PACKETS_AS_K;
 use crate::worked::files_of;
 use cbpf_tool::{MemoryFiles, ToolFault, debug};
@@ -60,7 +61,6 @@ fn the_whole_session_writes_its_replies(rt: HostRuntime) -> Result<(), AllocErro
     Ok(())
 }
 
-/// The write of this number, which is one of its byte, goes wrong.
 fn check_failed_write(
     rt: &impl Abort,
     alloc: Global,
@@ -74,11 +74,7 @@ fn check_failed_write(
     writer.set_error(kind);
     let result = debug(alloc, &mut reader, &mut writer, &mut files);
     assert_eq!(rt; result, Err(ToolFault::Write));
-    assert_eq!(rt; writer.calls(), call);
-    assert_eq!(rt;
-        Some(writer.written()),
-        REPLIES.get(..(call as usize).saturating_sub(1))
-    );
+    check_bytes_before(rt, &writer, call, REPLIES);
     Ok(())
 }
 
@@ -87,12 +83,7 @@ fn each_write_of_a_session_that_goes_wrong_leaves_the_bytes_before_it(
     rt: HostRuntime,
 ) -> Result<(), AllocError> {
     assert_eq!(rt; REPLIES.len(), 899);
-    for (fault, kind) in [
-        (Fault::Fails, ErrorKind::Other),
-        (Fault::Fails, ErrorKind::Interrupted),
-        (Fault::Fails, ErrorKind::OutOfMemory),
-        (Fault::TakesNothing, ErrorKind::Other),
-    ] {
+    for (fault, kind) in FAULTS {
         for call in 1..900u64 {
             check_failed_write(&rt, rt.alloc(), fault, kind, call)?;
         }
@@ -164,14 +155,11 @@ const SCRIPTS: [Script; 3] = [
 /// Where a growth was refused.
 #[derive(Clone, Copy, PartialEq, Eq)]
 enum Refused {
-    /// Nowhere.
-    None,
+    Nowhere,
     /// In the first breakpoint.
     Breakpoint,
-    /// In the load of the program.
-    Program,
-    /// In a line that was to be held, which ends the session.
-    Line,
+    /// In the load of the program, or in a line that was to be held, which ends the session.
+    Elsewhere,
 }
 
 /// The line that found no memory has no reply; each line before it has its own.
@@ -192,30 +180,30 @@ fn refused_in(rt: &impl Abort, alloc: Global, script: &Script, nth: u64) -> Refu
     if refusing.left() > 0 {
         assert_eq!(rt; result, Ok(()));
         assert_eq!(rt; replies, script.set);
-        return Refused::None;
+        return Refused::Nowhere;
     }
     if result == Ok(()) {
         if replies == script.not_set {
             return Refused::Breakpoint;
         }
         assert_eq!(rt; replies, script.no_program);
-        return Refused::Program;
+        return Refused::Elsewhere;
     }
     assert_eq!(rt; result, Err(ToolFault::Memory));
     check_lines_before(rt, script, replies);
-    Refused::Line
+    Refused::Elsewhere
 }
 
 fn check_refusals(rt: &impl Abort, alloc: Global, script: &Script) {
     let mut times_not_set = 0u64;
     for nth in 1..100u64 {
         match refused_in(rt, alloc, script, nth) {
-            Refused::None => {
+            Refused::Nowhere => {
                 assert!(rt; times_not_set > 0);
                 return;
             }
             Refused::Breakpoint => times_not_set = times_not_set.saturating_add(1),
-            _ => (),
+            Refused::Elsewhere => (),
         }
     }
     panic!(rt; "no end of growths")

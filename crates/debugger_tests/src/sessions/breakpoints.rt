@@ -26,14 +26,18 @@ fn check_each_second<T: Trail>(rt: &impl Abort, s: &Session<T>) {
     assert!(rt; s.breakpoint_at(2048) == None);
 }
 
-const AT_EACH: [Row; 2] = [
+const STOPS_AT_EACH: [Row; 2] = [
     Row::Run(None, Answer::Breaks(1, 1, 0, 0), Turns::Exactly(0)),
     Row::Run(None, Answer::Breaks(1, 2, 1, 0), Turns::Exactly(1)),
 ];
 
-const AT_EACH_SECOND: [Row; 1] = [Row::Run(None, Answer::Breaks(1, 4, 3, 0), Turns::Exactly(2))];
+const STOPS_AT_EACH_SECOND: [Row; 1] = [Row::Run(
+    None,
+    Answer::Breaks(1, 4, 3, 0),
+    Turns::Exactly(2),
+)];
 
-const AT_NONE: [Row; 2] = [
+const STOPS_AT_NONE: [Row; 2] = [
     Row::Breakpoints(&[]),
     Row::Run(None, Answer::Finishes(2, 0, 0), Turns::Exactly(8189)),
 ];
@@ -42,12 +46,12 @@ const AT_NONE: [Row; 2] = [
 fn sets_and_deletes_each<T: Trail>(rt: &impl Abort, alloc: Global, s: &mut Session<T>) {
     s.load_program(long_program(rt, alloc, (7, 0, 0, 0), 4094, (7, 0, 0, 0), (6, 0, 0, 1)));
     set_each_breakpoint(rt, s);
-    check_rows(rt, s, &AT_EACH);
+    check_rows(rt, s, &STOPS_AT_EACH);
     delete_each_second(rt, s, 0);
     check_each_second(rt, s);
-    check_rows(rt, s, &AT_EACH_SECOND);
+    check_rows(rt, s, &STOPS_AT_EACH_SECOND);
     delete_each_second(rt, s, 1);
-    check_rows(rt, s, &AT_NONE);
+    check_rows(rt, s, &STOPS_AT_NONE);
 }
 
 #[test]

@@ -9,11 +9,11 @@ const SETS_BOTH: [Code; 5] = [
     (22, 0, 0, 0),
 ];
 
-// X is 0 at each instruction.
 const ON_THE_ACCUMULATOR: [Row; 5] = [
     Row::Break(1, When::A(2048), Ok(())),
     Row::Run(None, Answer::Breaks(2, 2, 1, 2048), Turns::Exactly(4)),
     Row::Run(None, Answer::Finishes(1, 1, 0), Turns::Exactly(4)),
+    // X is 0 at each instruction.
     Row::Break(1, When::X(0), Ok(())),
     Row::Stops(&[(1, 2, 1, 2054), (2, 2, 1, 2048)]),
 ];

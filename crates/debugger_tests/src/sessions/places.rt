@@ -37,7 +37,7 @@ const REFUSED_PLACES: [Row; 7] = [
     Row::Resume(3, 0, Err(SessionFault::NoPacket), Turns::Exactly(0)),
     Row::Resume(0, 0, Err(SessionFault::NoPacket), Turns::Exactly(0)),
     Row::Resume(2, 6, Err(SessionFault::NoStep(5)), Turns::AtMost(12)),
-    Row::Resume(1, 4, Err(SessionFault::NoStep(3)), Turns::AtMost(12)),
+    Row::Resume(1, 4, Err(SessionFault::NoStep(3)), Turns::AtMost(8)),
     Row::Mark(1, 2),
     Row::Step(-1, Answer::Steps(1, 1, 0, 0), Turns::AtMost(1)),
 ];

@@ -11,10 +11,11 @@ pub enum Row {
     /// To a packet and a step.
     Resume(u64, u32, Result<(), SessionFault>, Turns),
     Select(u64, Result<(), SessionFault>),
-    /// The place is that packet and step.
+    /// `mark` gives this packet and step.
     Mark(u64, u32),
+    /// `mark` is refused.
     NoMark(SessionFault),
-    /// Sets a breakpoint.
+    /// `breakpoint` for `When::Always`, and else `breakpoint_when`.
     Break(u64, When, Result<(), SessionFault>),
     Delete(u64, Result<bool, SessionFault>),
     ResetBreakpoints,
@@ -37,6 +38,7 @@ pub enum Answer {
     Asks(u64, Ext),
     /// The packets that passed, that failed, and that asked for an extension.
     Finishes(u64, u64, u64),
+    /// The same up to the run's limit.
     Limit(u64, u64, u64),
     Refuses(SessionFault),
 }
@@ -48,140 +50,132 @@ pub enum Turns {
     AtMost(u128),
 }
 
-fn check_stop(rt: &impl Abort, stop: &Stop, place: Place, pc: u32, a: u32, why: Why) {
-    assert!(rt; stop.place == place);
-    assert!(rt; stop.state.pc() == pc);
-    assert!(rt; stop.state.a() == a);
-    assert!(rt; stop.state.x() == 0);
-    assert!(rt; stop.why == why);
+fn matches_stop(stop: &Stop, place: Place, pc: u32, a: u32, why: Why) -> bool {
+    stop.place == place
+        && stop.state.pc() == pc
+        && stop.state.a() == a
+        && stop.state.x() == 0
+        && stop.why == why
 }
 
-fn check_answer(rt: &impl Abort, reply: Result<RunReply, SessionFault>, wanted: &Answer) {
-    match wanted {
-        Answer::Breaks(packet, step, pc, a) => {
-            let stop = stop_of(rt, reply);
-            check_stop(rt, &stop, at(*packet, *step), *pc, *a, Why::Break);
+fn matches_answer(reply: Result<RunReply, SessionFault>, wanted: &Answer) -> bool {
+    match (reply, wanted) {
+        (Ok(RunReply::Stopped(stop)), Answer::Breaks(packet, step, pc, a)) => {
+            matches_stop(&stop, at(*packet, *step), *pc, *a, Why::Break)
         }
-        Answer::Steps(packet, step, pc, a) => {
-            let stop = stop_of(rt, reply);
-            check_stop(rt, &stop, at(*packet, *step), *pc, *a, Why::Step);
+        (Ok(RunReply::Stopped(stop)), Answer::Steps(packet, step, pc, a)) => {
+            matches_stop(&stop, at(*packet, *step), *pc, *a, Why::Step)
         }
-        Answer::Asks(packet, e) => {
-            let stop = stop_of(rt, reply);
-            check_stop(rt, &stop, at(*packet, 1), 0, 0, Why::Unknown(*e));
+        (Ok(RunReply::Stopped(stop)), Answer::Asks(packet, e)) => {
+            matches_stop(&stop, at(*packet, 1), 0, 0, Why::Unknown(*e))
         }
-        Answer::Finishes(passes, fails, unknown) => {
-            assert!(rt; reply == Ok(RunReply::Finished(counts(*passes, *fails, *unknown))));
+        (Ok(RunReply::Finished(seen)), Answer::Finishes(passes, fails, unknown)) => {
+            seen == counts(*passes, *fails, *unknown)
         }
-        Answer::Limit(passes, fails, unknown) => {
-            assert!(rt; reply == Ok(RunReply::Limit(counts(*passes, *fails, *unknown))));
+        (Ok(RunReply::Limit(seen)), Answer::Limit(passes, fails, unknown)) => {
+            seen == counts(*passes, *fails, *unknown)
         }
-        Answer::Refuses(fault) => assert!(rt; reply == Err(*fault)),
+        (Err(seen), Answer::Refuses(fault)) => seen == *fault,
+        _ => false,
     }
 }
 
-fn check_turns(rt: &impl Abort, meter: &Meter, wanted: &Turns) {
-    let right = match wanted {
+fn matches_turns(meter: &Meter, wanted: &Turns) -> bool {
+    match wanted {
         Turns::Exactly(n) => meter.spent() == *n,
         Turns::AtMost(n) => meter.spent() <= *n,
-    };
-    assert!(rt; right);
+    }
 }
 
-fn check_breakpoints<T: Trail>(rt: &impl Abort, s: &Session<T>, wanted: &[(u32, When)]) {
-    assert!(rt; s.breakpoint_count() == wanted.len());
+fn matches_breakpoints<T: Trail>(s: &Session<T>, wanted: &[(u32, When)]) -> bool {
     for (i, (n, when)) in wanted.iter().enumerate() {
-        assert!(rt; s.breakpoint_at(i) == Some(*n));
-        assert!(rt; s.breakpoint_when_at(i) == Some(*when));
+        if s.breakpoint_at(i) != Some(*n) || s.breakpoint_when_at(i) != Some(*when) {
+            return false;
+        }
     }
-    assert!(rt; s.breakpoint_at(wanted.len()) == None);
-    assert!(rt; s.breakpoint_when_at(wanted.len()) == None);
+    s.breakpoint_count() == wanted.len()
+        && s.breakpoint_at(wanted.len()) == None
+        && s.breakpoint_when_at(wanted.len()) == None
 }
 
-fn check_stops<T: Trail>(rt: &impl Abort, s: &Session<T>, wanted: &[(u64, u32, u32, u32)]) {
-    let mut stops = s.stops().ok().expect(rt, "stops");
+fn matches_stops<T: Trail>(s: &Session<T>, wanted: &[(u64, u32, u32, u32)]) -> bool {
+    let Ok(mut stops) = s.stops() else {
+        return false;
+    };
     for (packet, step, pc, a) in wanted {
-        let stop = stops.next().expect(rt, "a stop");
-        check_stop(rt, &stop, at(*packet, *step), *pc, *a, Why::Break);
+        let Some(stop) = stops.next() else {
+            return false;
+        };
+        if !matches_stop(&stop, at(*packet, *step), *pc, *a, Why::Break) {
+            return false;
+        }
     }
-    assert!(rt; stops.next().is_none());
-    assert!(rt; stops.next().is_none());
+    stops.next().is_none() && stops.next().is_none()
 }
 
-fn check_run<T: Trail>(
-    rt: &impl Abort,
+fn matches_run<T: Trail>(
     s: &mut Session<T>,
     limit: Option<u64>,
     answer: &Answer,
     turns: &Turns,
-) {
+) -> bool {
     let mut meter = Meter::new();
-    check_answer(rt, s.run(&mut meter, limit), answer);
-    check_turns(rt, &meter, turns);
+    let reply = s.run(&mut meter, limit);
+    matches_answer(reply, answer) && matches_turns(&meter, turns)
 }
 
-fn check_step<T: Trail>(
-    rt: &impl Abort,
-    s: &mut Session<T>,
-    n: i64,
-    answer: &Answer,
-    turns: &Turns,
-) {
+fn matches_step<T: Trail>(s: &mut Session<T>, n: i64, answer: &Answer, turns: &Turns) -> bool {
     let mut meter = Meter::new();
-    check_answer(rt, s.step(&mut meter, n), answer);
-    check_turns(rt, &meter, turns);
+    let reply = s.step(&mut meter, n);
+    matches_answer(reply, answer) && matches_turns(&meter, turns)
 }
 
-fn check_resume<T: Trail>(
-    rt: &impl Abort,
+fn matches_resume<T: Trail>(
     s: &mut Session<T>,
     place: Place,
     answer: &Result<(), SessionFault>,
     turns: &Turns,
-) {
+) -> bool {
     let mut meter = Meter::new();
-    assert!(rt; s.resume(&mut meter, place) == *answer);
-    check_turns(rt, &meter, turns);
+    let reply = s.resume(&mut meter, place);
+    reply == *answer && matches_turns(&meter, turns)
 }
 
-fn check_break<T: Trail>(
-    rt: &impl Abort,
-    s: &mut Session<T>,
-    n: u64,
-    when: When,
-    answer: &Result<(), SessionFault>,
-) {
-    let seen = match when {
+fn set<T: Trail>(s: &mut Session<T>, n: u64, when: When) -> Result<(), SessionFault> {
+    match when {
         When::Always => s.breakpoint(n),
         _ => s.breakpoint_when(n, when),
-    };
-    assert!(rt; seen == *answer);
+    }
 }
 
-fn check_row<T: Trail>(rt: &impl Abort, s: &mut Session<T>, row: &Row) {
+/// Makes the call of a row, and says whether the session answers as the row has it.
+fn matches_row<T: Trail>(s: &mut Session<T>, row: &Row) -> bool {
     match row {
-        Row::Run(limit, answer, turns) => check_run(rt, s, *limit, answer, turns),
-        Row::Step(n, answer, turns) => check_step(rt, s, *n, answer, turns),
+        Row::Run(limit, answer, turns) => matches_run(s, *limit, answer, turns),
+        Row::Step(n, answer, turns) => matches_step(s, *n, answer, turns),
         Row::Resume(packet, step, answer, turns) => {
-            check_resume(rt, s, at(*packet, *step), answer, turns);
+            matches_resume(s, at(*packet, *step), answer, turns)
         }
-        Row::Select(k, answer) => assert!(rt; s.select(*k) == *answer),
-        Row::Mark(packet, step) => assert!(rt; s.mark() == Ok(at(*packet, *step))),
-        Row::NoMark(fault) => assert!(rt; s.mark() == Err(*fault)),
-        Row::Break(n, when, answer) => check_break(rt, s, *n, *when, answer),
-        Row::Delete(n, answer) => assert!(rt; s.delete(*n) == *answer),
-        Row::ResetBreakpoints => s.reset_breakpoints(),
-        Row::Breakpoints(list) => check_breakpoints(rt, s, list),
-        Row::SetValue(e, v, answer) => assert!(rt; s.set_value(*e, *v) == *answer),
-        Row::ValueOf(e, answer) => assert!(rt; s.value_of(*e) == *answer),
-        Row::Stops(list) => check_stops(rt, s, list),
+        Row::Select(k, answer) => s.select(*k) == *answer,
+        Row::Mark(packet, step) => s.mark() == Ok(at(*packet, *step)),
+        Row::NoMark(fault) => s.mark() == Err(*fault),
+        Row::Break(n, when, answer) => set(s, *n, *when) == *answer,
+        Row::Delete(n, answer) => s.delete(*n) == *answer,
+        Row::ResetBreakpoints => {
+            s.reset_breakpoints();
+            true
+        }
+        Row::Breakpoints(list) => matches_breakpoints(s, list),
+        Row::SetValue(e, v, answer) => s.set_value(*e, *v) == *answer,
+        Row::ValueOf(e, answer) => s.value_of(*e) == *answer,
+        Row::Stops(list) => matches_stops(s, list),
     }
 }
 
 /// Makes the calls of the rows one after the other, and asserts what each answers.
 pub fn check_rows<T: Trail>(rt: &impl Abort, s: &mut Session<T>, rows: &[Row]) {
-    for row in rows {
-        check_row(rt, s, row);
+    for (i, row) in rows.iter().enumerate() {
+        assert!(rt; matches_row(s, row), "row {i}");
     }
 }
 

@@ -77,14 +77,20 @@ fn an_unknown_extension(rt: HostRuntime) {
 #[test]
 fn an_indexed_load_that_wraps(rt: HostRuntime) {
     let wraps = [(1, 0, 0, 4294967295), (72, 0, 0, 13), (22, 0, 0, 0)];
-    let rows = [Row::Run(None, Answer::Finishes(2, 0, 0), Turns::Exactly(6))];
+    let rows = [
+        Row::Run(None, Answer::Finishes(2, 0, 0), Turns::Exactly(6)),
+        Row::Mark(1, 0),
+    ];
     check_both(&rt, rt.alloc(), &wraps, &[], &rows);
 }
 
 #[test]
 fn a_zero_divisor(rt: HostRuntime) {
     let divides = [(0, 0, 0, 7), (60, 0, 0, 0), (6, 0, 0, 1)];
-    let rows = [Row::Run(None, Answer::Finishes(0, 2, 0), Turns::Exactly(4))];
+    let rows = [
+        Row::Run(None, Answer::Finishes(0, 2, 0), Turns::Exactly(4)),
+        Row::Mark(1, 0),
+    ];
     check_both(&rt, rt.alloc(), &divides, &[], &rows);
 }
 

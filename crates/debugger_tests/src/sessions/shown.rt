@@ -43,8 +43,10 @@ fn a_breakpoint_shows_its_packet(rt: HostRuntime) {
     shows_the_first_breakpoint(&rt, &mut all);
 }
 
+const AT_THE_LAST_STEP: [Row; 1] = [Row::Step(5, Answer::Steps(1, 5, 4, 4), Turns::Exactly(4))];
+
 fn shows_the_scratch_before<T: Trail>(rt: &impl Abort, s: &mut Session<T>) {
-    assert!(rt; stop_of_step(rt, s, 5).place == at(1, 5));
+    check_rows(rt, s, &AT_THE_LAST_STEP);
     let stop = stop_of_step(rt, s, -1);
     let text = b"-- packet 1, step 4 --\n\
 -- register dump --\n\
@@ -68,8 +70,14 @@ fn a_step_back_shows_the_scratch_memory_of_its_step(rt: HostRuntime) {
     shows_the_scratch_before(&rt, &mut all);
 }
 
+const AT_THE_FIRST_EXTENSION: [Row; 1] = [Row::Run(
+    None,
+    Answer::Asks(1, Ext::Rand),
+    Turns::Exactly(0),
+)];
+
 fn shows_an_extension<T: Trail>(rt: &impl Abort, s: &mut Session<T>) {
-    assert!(rt; next_stop(rt, s).place == at(1, 1));
+    check_rows(rt, s, &AT_THE_FIRST_EXTENSION);
     let stop = next_stop(rt, s);
     let text = b"-- packet 2, step 1 --\n\
 -- register dump --\n\

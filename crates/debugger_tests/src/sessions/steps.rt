@@ -116,14 +116,14 @@ fn a_long_packet(rt: HostRuntime) {
     steps_in_a_long_packet(&rt, rt.alloc(), &mut all, [0, 0, 0, 0]);
 }
 
-const LISTED: [Row; 2] = [
+const LISTED_STOPS: [Row; 2] = [
     Row::Stops(&[(1, 2, 1, 2054), (2, 2, 1, 2048), (2, 5, 4, 1)]),
     Row::Mark(1, 0),
 ];
 
 #[test]
 fn the_list_of_stops(rt: HostRuntime) {
-    check_both(&rt, rt.alloc(), &RULE, &[1, 4], &LISTED);
+    check_both(&rt, rt.alloc(), &RULE, &[1, 4], &LISTED_STOPS);
 }
 
 #[test]

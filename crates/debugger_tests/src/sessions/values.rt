@@ -6,7 +6,7 @@ const MARK: [Code; 2] = [(32, 0, 0, 4294963220), (22, 0, 0, 0)];
 /// `ldb mark`, `ret a`.
 const MARK_BYTE: [Code; 2] = [(48, 0, 0, 4294963220), (22, 0, 0, 0)];
 
-const GIVEN: [Row; 10] = [
+const A_VALUE_AND_ANOTHER: [Row; 10] = [
     Row::Run(None, Answer::Asks(1, Ext::Mark), Turns::Exactly(0)),
     Row::Run(None, Answer::Asks(2, Ext::Mark), Turns::Exactly(1)),
     Row::ValueOf(Ext::Mark, None),
@@ -21,7 +21,7 @@ const GIVEN: [Row; 10] = [
 
 #[test]
 fn a_value_for_the_mark(rt: HostRuntime) {
-    check_both(&rt, rt.alloc(), &MARK, &[], &GIVEN);
+    check_both(&rt, rt.alloc(), &MARK, &[], &A_VALUE_AND_ANOTHER);
 }
 
 // A value begins the packet again, also where it is the same.
@@ -63,7 +63,7 @@ fn no_values_for_some(rt: HostRuntime) {
     check_both(&rt, rt.alloc(), &RANDOM, &[], &REFUSED_VALUES);
 }
 
-const KEPT: [Row; 2] = [
+const KEPT_BY_LOADS: [Row; 2] = [
     Row::ValueOf(Ext::Mark, Some(7)),
     Row::Run(None, Answer::Finishes(2, 0, 0), Turns::Exactly(4)),
 ];
@@ -75,5 +75,5 @@ fn a_value_before_the_loads(rt: HostRuntime) {
     assert!(rt; s.set_value(Ext::Mark, 7) == Ok(()));
     s.load_program(program(&rt, rt.alloc(), &MARK));
     s.load_capture(packets(&rt, rt.alloc()));
-    check_rows(&rt, &mut s, &KEPT);
+    check_rows(&rt, &mut s, &KEPT_BY_LOADS);
 }
