@@ -18,7 +18,6 @@ use std::alloc::Allocator;
 use std::io::Write;
 
 /// `run`
-#[tactic(auto, using(crate::proofs::SessionReplyLemmas::replies))]
 pub fn run<A: Allocator, W: Write>(
     w: &mut W,
     session: &mut Session<MarkTrail, A>,
@@ -35,7 +34,6 @@ pub fn run<A: Allocator, W: Write>(
 }
 
 /// `step`
-#[tactic(auto, using(crate::proofs::SessionReplyLemmas::replies))]
 pub fn step<A: Allocator, W: Write>(
     w: &mut W,
     session: &mut Session<MarkTrail, A>,
