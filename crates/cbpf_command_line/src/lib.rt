@@ -7,6 +7,3 @@ mod parse;
 pub use cbpf_code::Form;
 pub use job::{Job, LineFault};
 pub use parse::command_line;
-
-#[cfg(test)]
-mod tests;
