@@ -1,5 +1,4 @@
-//! Tests of the assembler's crates: tokens (cbpf_lex), items (cbpf_grammar), sources and listings that
-//! are assembled back (cbpf_text), and lines of listings (cbpf_listing).
+//! Tests of the assembler's crates: tokens (cbpf_lex), items (cbpf_grammar), sources (cbpf_text), and lines of listings (cbpf_listing).
 #![tactic(auto)]
 
 #[cfg(test)]
@@ -8,7 +7,5 @@ mod assembler;
 mod grammar;
 #[cfg(test)]
 mod listing;
-#[cfg(test)]
-mod listing_back;
 #[cfg(test)]
 mod tokens;

@@ -1,74 +1,33 @@
 //! Worked listings, and one line of each operation.
 
-use cbpf_code::{Program, WriteFault, check, read_words};
+use cbpf_code::{WriteFault, check, read_words};
 use cbpf_listing::{write_line, write_lines};
-use std::alloc::Global;
-use std::process::Abort;
+use std::test::Fail;
 
-fn program_of(rt: &impl Abort, alloc: Global, words: &[u8]) -> Program {
-    let list = read_words(alloc, words).expect(rt, "word text");
-    match check(list) {
-        Ok(program) => program,
-        Err((fault, _)) => panic!(rt; "{fault:?}"),
-    }
-}
-
-fn check_listing(rt: &impl Abort, alloc: Global, words: &[u8], want: &[u8]) {
-    let program = program_of(rt, alloc, words);
-    let mut room = [0u8; 2048];
-    let mut writer: &mut [u8] = &mut room;
-    assert!(rt; write_lines(&mut writer, &program).is_ok());
-    let size = 2048usize.saturating_sub(writer.len());
-    let written = &room[..size];
-    assert!(rt; written == want);
-}
-
-#[test]
-fn worked_listings(rt: HostRuntime) {
-    let alloc = rt.alloc();
-    check_listing(
-        &rt,
-        alloc,
+/// Programs as word text, and their listings.
+const LISTINGS: [(&[u8], &[u8]); 9] = [
+    (
         b"6,40 0 0 12,21 0 3 2048,48 0 0 23,21 0 1 1,6 0 0 65535,6 0 0 0",
         b"l0:\tldh [12]\nl1:\tjeq #0x800, l2, l5\nl2:\tldb [23]\nl3:\tjeq #0x1, l4, l5\nl4:\tret #0xffff\nl5:\tret #0\n",
-    );
-    check_listing(
-        &rt,
-        alloc,
+    ),
+    (
         b"4,0 0 0 5,53 0 1 10,6 0 0 0,6 0 0 1,",
         b"l0:\tld #0x5\nl1:\tjge #0xa, l2, l3\nl2:\tret #0\nl3:\tret #0x1\n",
-    );
-    check_listing(
-        &rt,
-        alloc,
+    ),
+    (
         b"3,32 0 0 4294963256,148 0 0 4,22 0 0 0,",
         b"l0:\tld rand\nl1:\tmod #0x4\nl2:\tret a\n",
-    );
-    check_listing(
-        &rt,
-        alloc,
+    ),
+    (
         b"3,48 0 0 4294963204,129 0 0 0,22 0 0 0,",
         b"l0:\tldb type\nl1:\tldx len\nl2:\tret a\n",
-    );
-}
-
-#[test]
-fn fields_without_use_do_not_show(rt: HostRuntime) {
-    let alloc = rt.alloc();
-    check_listing(&rt, alloc, b"1,6 9 9 1", b"l0:\tret #0x1\n");
-    check_listing(
-        &rt,
-        alloc,
+    ),
+    (b"1,6 9 9 1", b"l0:\tret #0x1\n"),
+    (
         b"8,128 1 2 3,12 7 8 9,29 0 0 77,5 5 6 0,7 1 1 1,135 1 1 1,132 1 1 1,22 3 4 5",
         b"l0:\tld len\nl1:\tadd x\nl2:\tjeq x, l3, l3\nl3:\tjmp l4\nl4:\ttax\nl5:\ttxa\nl6:\tneg\nl7:\tret a\n",
-    );
-}
-
-#[test]
-fn every_operation(rt: HostRuntime) {
-    check_listing(
-        &rt,
-        rt.alloc(),
+    ),
+    (
         b"49,\
           2 0 0 0,3 0 0 15,0 0 0 4294967295,32 0 0 4294963199,40 0 0 12,48 0 0 0,\
           64 0 0 0,72 0 0 4294967295,80 0 0 10,96 0 0 0,128 0 0 0,\
@@ -90,14 +49,8 @@ fn every_operation(rt: HostRuntime) {
           l41:\tjgt #0x9, l43, l42\nl42:\tjgt x, l43, l43\nl43:\tjge #0x63, l44, l45\n\
           l44:\tjge x, l46, l45\nl45:\tjset #0x800, l46, l47\nl46:\tjset x, l48, l47\n\
           l47:\tret a\nl48:\tret #0x40000\n",
-    );
-}
-
-#[test]
-fn every_extension(rt: HostRuntime) {
-    check_listing(
-        &rt,
-        rt.alloc(),
+    ),
+    (
         b"16,\
           32 0 0 4294963200,40 0 0 4294963204,48 0 0 4294963208,32 0 0 4294963212,\
           32 0 0 4294963216,32 0 0 4294963220,32 0 0 4294963224,32 0 0 4294963228,\
@@ -107,20 +60,29 @@ fn every_extension(rt: HostRuntime) {
           l5:\tld mark\nl6:\tld queue\nl7:\tld hatype\nl8:\tld rxhash\nl9:\tld cpu\n\
           l10:\tld vlan_tci\nl11:\tld vlan_avail\nl12:\tld poff\nl13:\tld rand\n\
           l14:\tld vlan_tpid\nl15:\tret a\n",
-    );
-}
+    ),
+    (b"2,5 0 0 0,6 0 0 255", b"l0:\tjmp l1\nl1:\tret #0xff\n"),
+];
 
+// The last one's lines are written one by one too, and then without room for the end.
 #[test]
-fn one_line(rt: HostRuntime) {
-    let program = program_of(&rt, rt.alloc(), b"2,5 0 0 0,6 0 0 255");
-    assert_eq!(rt; program.len(), 2);
-    let mut room = [0u8; 13];
-    let mut writer: &mut [u8] = &mut room;
-    assert!(rt; write_line(&mut writer, &program, 1).is_ok());
-    assert!(rt; writer.is_empty());
-    assert!(rt; room == *b"l1:\tret #0xff");
-    let mut short = [0u8; 6];
-    let mut writer: &mut [u8] = &mut short;
-    assert!(rt; write_line(&mut writer, &program, 0) == Err(WriteFault));
-    assert!(rt; short == *b"l0:\tjm");
+fn worked_listings(rt: HostRuntime) -> Result<(), Fail> {
+    for (row, (words, wanted)) in LISTINGS.iter().enumerate() {
+        let list = read_words(rt.alloc(), words)?;
+        let Ok(program) = check(list) else {
+            assert!(rt; false, "row {row}");
+            return Ok(());
+        };
+        let mut text = Vec::new(rt.alloc());
+        write_lines(&mut text, &program)?;
+        assert!(rt; text.as_slice() == *wanted, "row {row}");
+        if program.len() == 2 {
+            let mut room = [0u8; 17];
+            let mut writer: &mut [u8] = &mut room;
+            write_line(&mut writer, &program, 1)?;
+            assert!(rt; write_line(&mut writer, &program, 0) == Err(WriteFault));
+            assert!(rt; room == *b"l1:\tret #0xffl0:\t");
+        }
+    }
+    Ok(())
 }

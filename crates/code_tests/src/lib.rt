@@ -1,16 +1,12 @@
-//! Tests of cbpf_code: the tables, the checker, word text and the C form, and the calls that write.
+//! Tests of cbpf_code: the tables, the checker, word text, and the calls that write.
 #![tactic(auto)]
 
-#[cfg(test)]
-mod c_form;
 #[cfg(test)]
 mod checker;
 #[cfg(test)]
 mod random_lists;
 #[cfg(test)]
 mod tables;
-#[cfg(test)]
-mod word_form;
 #[cfg(test)]
 mod words;
 #[cfg(test)]

@@ -8,67 +8,66 @@ const CODES: [u16; 49] = [
     61, 69, 77,
 ];
 
+const OPERATIONS: [(u16, Op); 12] = [
+    (0x28, Op::LdAbs(Size::Half)),
+    (0x50, Op::LdInd(Size::Byte)),
+    (0x61, Op::LdxMem),
+    (0xb1, Op::LdxMsh),
+    (0x03, Op::Stx),
+    (0x9c, Op::Alu(AluOp::Mod, Src::X)),
+    (0xa4, Op::Alu(AluOp::Xor, Src::K)),
+    (0x84, Op::Neg),
+    (0x4d, Op::Jump(Cond::Bits, Src::X)),
+    (0x35, Op::Jump(Cond::Ge, Src::K)),
+    (0x16, Op::RetA),
+    (0x87, Op::Txa),
+];
+
+const EXTENSIONS: [(Ext, u32, &str); 15] = [
+    (Ext::Proto, 0, "proto"),
+    (Ext::PktType, 4, "type"),
+    (Ext::IfIdx, 8, "ifidx"),
+    (Ext::Nla, 12, "nla"),
+    (Ext::NlaN, 16, "nlan"),
+    (Ext::Mark, 20, "mark"),
+    (Ext::Queue, 24, "queue"),
+    (Ext::HaType, 28, "hatype"),
+    (Ext::RxHash, 32, "rxhash"),
+    (Ext::Cpu, 36, "cpu"),
+    (Ext::VlanTci, 44, "vlan_tci"),
+    (Ext::VlanAvail, 48, "vlan_avail"),
+    (Ext::PayOff, 52, "poff"),
+    (Ext::Rand, 56, "rand"),
+    (Ext::VlanTpid, 60, "vlan_tpid"),
+];
+
 #[test]
-fn codes(rt: HostRuntime) {
-    for code in CODES {
-        match op_of(code) {
-            Some(op) => assert_eq!(rt; code_of(op), code),
-            None => assert!(rt; false, "{code}"),
+fn codes_and_extensions(rt: HostRuntime) {
+    let mut known = 0u32;
+    for code in 0..=65535u16 {
+        let op = op_of(code);
+        assert!(rt; op.is_some() == CODES.contains(&code), "{code}");
+        if let Some(op) = op {
+            assert_eq!(rt; code_of(op), code);
+            known = known.saturating_add(1);
         }
     }
-    let known = (0..=65535u16).filter(|code| op_of(*code).is_some()).count();
     assert_eq!(rt; known, 49);
-
-    let operations = [
-        (0x28, Op::LdAbs(Size::Half)),
-        (0x50, Op::LdInd(Size::Byte)),
-        (0x61, Op::LdxMem),
-        (0xb1, Op::LdxMsh),
-        (0x03, Op::Stx),
-        (0x9c, Op::Alu(AluOp::Mod, Src::X)),
-        (0xa4, Op::Alu(AluOp::Xor, Src::K)),
-        (0x84, Op::Neg),
-        (0x4d, Op::Jump(Cond::Bits, Src::X)),
-        (0x35, Op::Jump(Cond::Ge, Src::K)),
-        (0x16, Op::RetA),
-        (0x87, Op::Txa),
-    ];
-    for (code, op) in operations {
-        assert_eq!(rt; op_of(code), Some(op));
+    for (code, op) in OPERATIONS {
+        assert!(rt; op_of(code) == Some(op), "{code}");
     }
-}
-
-#[test]
-fn extensions(rt: HostRuntime) {
-    let rows: [(Ext, u32, &str); 15] = [
-        (Ext::Proto, 0, "proto"),
-        (Ext::PktType, 4, "type"),
-        (Ext::IfIdx, 8, "ifidx"),
-        (Ext::Nla, 12, "nla"),
-        (Ext::NlaN, 16, "nlan"),
-        (Ext::Mark, 20, "mark"),
-        (Ext::Queue, 24, "queue"),
-        (Ext::HaType, 28, "hatype"),
-        (Ext::RxHash, 32, "rxhash"),
-        (Ext::Cpu, 36, "cpu"),
-        (Ext::VlanTci, 44, "vlan_tci"),
-        (Ext::VlanAvail, 48, "vlan_avail"),
-        (Ext::PayOff, 52, "poff"),
-        (Ext::Rand, 56, "rand"),
-        (Ext::VlanTpid, 60, "vlan_tpid"),
-    ];
-    for (ext, offset, name) in rows {
+    for (ext, offset, name) in EXTENSIONS {
         assert_eq!(rt; ext_offset(ext), offset);
-        assert_eq!(rt; ext_at(4294963200 + offset), Some(ext));
-        assert!(rt; ext_name(ext) == name);
-        assert_eq!(rt; ext_named(name.as_bytes()), Some(ext));
+        assert!(rt; ext_at(4294963200 + offset) == Some(ext), "{name}");
+        assert!(rt; ext_name(ext) == name, "{name}");
+        assert!(rt; ext_named(name.as_bytes()) == Some(ext), "{name}");
     }
     for k in [
         0, 4294963199, 4294963201, 4294963240, 4294963264, 4294967295,
     ] {
-        assert_eq!(rt; ext_at(k), None);
+        assert!(rt; ext_at(k).is_none(), "{k}");
     }
     for name in [b"len".as_slice(), b"", b"Rand", b"ran", b"rand "] {
-        assert_eq!(rt; ext_named(name), None);
+        assert!(rt; ext_named(name).is_none(), "{name:?}");
     }
 }

@@ -1,45 +1,73 @@
-use cbpf_code::{WriteFault, write_bytes, write_decimal, write_hex, write_parts};
+use cbpf_code::{
+    Insn, WriteFault, read_words, write_bytes, write_c, write_decimal, write_hex, write_parts,
+    write_words,
+};
 
+// The last write finds no room for its end.
 #[test]
-fn bytes_and_parts_fill_a_room(rt: HostRuntime) {
-    let mut room = [0u8; 12];
+fn texts_and_numbers(rt: HostRuntime) {
+    let mut room = [0u8; 83];
     let mut writer: &mut [u8] = &mut room;
     assert!(rt; write_bytes(&mut writer, b"ld ").is_ok());
     assert!(rt; write_bytes(&mut writer, b"").is_ok());
     assert!(rt; write_parts(&mut writer, &[b"#", b"", b"proto", b"\n\0\xff"]).is_ok());
-    assert!(rt; writer.is_empty());
-    assert!(rt; room == *b"ld #proto\n\0\xff");
-}
-
-#[test]
-fn decimal_numbers(rt: HostRuntime) {
-    let mut room = [0u8; 42];
-    let mut writer: &mut [u8] = &mut room;
-    assert!(rt; write_decimal(&mut writer, 0).is_ok());
-    assert!(rt; write_decimal(&mut writer, 10).is_ok());
-    assert!(rt; write_decimal(&mut writer, u128::MAX).is_ok());
-    assert!(rt; writer.is_empty());
-    assert!(rt; room == *b"010340282366920938463463374607431768211455");
-}
-
-#[test]
-fn hexadecimal_numbers(rt: HostRuntime) {
-    let mut room = [0u8; 23];
-    let mut writer: &mut [u8] = &mut room;
-    assert!(rt; write_hex(&mut writer, 0, 1).is_ok());
-    assert!(rt; write_hex(&mut writer, 255, 1).is_ok());
-    assert!(rt; write_hex(&mut writer, 255, 8).is_ok());
-    assert!(rt; write_hex(&mut writer, 60000, 2).is_ok());
-    assert!(rt; write_hex(&mut writer, u32::MAX, 1).is_ok());
-    assert!(rt; writer.is_empty());
-    assert!(rt; room == *b"0ff000000ffea60ffffffff");
-}
-
-#[test]
-fn a_full_room_is_a_fault_and_holds_a_beginning(rt: HostRuntime) {
-    let mut room = [0u8; 5];
-    let mut writer: &mut [u8] = &mut room;
+    for n in [0, 10, u128::MAX] {
+        assert!(rt; write_decimal(&mut writer, n).is_ok());
+    }
+    for (n, least) in [(0, 1), (255, 1), (255, 8), (60000, 2), (u32::MAX, 1)] {
+        assert!(rt; write_hex(&mut writer, n, least).is_ok());
+    }
+    assert!(rt; write_bytes(&mut writer, b"\n").is_ok());
     assert!(rt; write_parts(&mut writer, &[b"jeq", b" #0x800"]) == Err(WriteFault));
     assert!(rt; writer.is_empty());
-    assert!(rt; room == *b"jeq #");
+    let wanted = b"ld #proto\n\0\xff010340282366920938463463374607431768211455\
+0ff000000ffea60ffffffff\njeq #";
+    assert!(rt; room == *wanted);
+}
+
+/// The filter for ARP: `ldh [12]`, `jeq #0x806,drop`, `ret #-1`, `drop: ret #0`. Then the ends of the fields.
+const LISTS: [(&[(u16, u8, u8, u32)], &[u8], &[u8]); 3] = [
+    (
+        &[
+            (40, 0, 0, 12),
+            (21, 0, 1, 2054),
+            (6, 0, 0, 4294967295),
+            (6, 0, 0, 0),
+        ],
+        b"4,40 0 0 12,21 0 1 2054,6 0 0 4294967295,6 0 0 0,\n",
+        b"{ 0x28,  0,  0, 0x0000000c },\n{ 0x15,  0,  1, 0x00000806 },\n\
+{ 0x06,  0,  0, 0xffffffff },\n{ 0x06,  0,  0, 0000000000 },\n",
+    ),
+    (&[], b"0,\n", b""),
+    (
+        &[
+            (60000, 65, 7, 9),
+            (0, 0, 0, 0),
+            (6, 0, 255, 1),
+            (65535, 255, 255, 4294967295),
+        ],
+        b"4,60000 65 7 9,0 0 0 0,6 0 255 1,65535 255 255 4294967295,\n",
+        b"{ 0xea60, 65,  7, 0x00000009 },\n{ 0000,  0,  0, 0000000000 },\n\
+{ 0x06,  0, 255, 0x00000001 },\n{ 0xffff, 255, 255, 0xffffffff },\n",
+    ),
+];
+
+#[test]
+fn forms_of_instructions(rt: HostRuntime) {
+    for (row, (fields, words, c)) in LISTS.iter().enumerate() {
+        let mut list = Vec::new(rt.alloc());
+        for &(code, jt, jf, k) in *fields {
+            assert!(rt; list.push(Insn { code, jt, jf, k }).is_ok());
+        }
+        let mut text = Vec::new(rt.alloc());
+        assert!(rt; write_words(&mut text, &list).is_ok());
+        assert!(rt; text.as_slice() == *words, "row {row}");
+        match read_words(rt.alloc(), &text) {
+            Ok(back) => assert!(rt; back.as_slice() == list.as_slice(), "row {row}"),
+            Err(_) => assert!(rt; false, "row {row}"),
+        }
+        let mut text = Vec::new(rt.alloc());
+        assert!(rt; write_c(&mut text, &list).is_ok());
+        assert!(rt; text.as_slice() == *c, "row {row}");
+    }
 }
