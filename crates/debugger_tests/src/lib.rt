@@ -9,8 +9,6 @@ mod commands;
 #[cfg(test)]
 mod machine;
 #[cfg(test)]
-mod machine_follow;
-#[cfg(test)]
 mod machine_trail;
 #[cfg(test)]
 mod sessions;

@@ -1,175 +1,395 @@
-//! Sessions over small programs and captures.
+//! Sessions over a capture of an ARP packet and an ICMP packet, with the turns that each call makes.
 //!
-//! `RULE` is `ldh [12]`, `jeq #2048, l2, l5`, `ldb [23]`, `jeq #1, l4, l5`, `ret #65535`, `ret #0`: it
-//! passes ICMP packets. `RECORDS` are those of an ARP packet and an ICMP packet. Each test goes over
-//! both kinds of trail.
+//! `LOAD_RULE` is `ldh [12]`, `jeq #2048, l2, l5`, `ldb [23]`, `jeq #1, l4, l5`, `ret #65535`, `ret #0`: it
+//! passes ICMP packets. The ARP packet executes 3 of them, and the ICMP packet 5.
 
-mod breakpoints;
-mod conditions;
-mod places;
 mod rows;
-mod runs;
-mod shown;
-mod steps;
-mod values;
 
-use cbpf_code::{Ext, Insn, Program, check};
-use cbpf_dbg::{
-    Counts, ListTrail, MarkTrail, Meter, Place, RunReply, Session, SessionFault, Stop, Trail, When,
-    Why,
-};
-use pcap_classic::Capture;
-use rows::{Answer, Row, Turns, check_both, check_rows};
-use std::alloc::Global;
-use std::process::Abort;
+use cbpf_code::Ext;
+use cbpf_dbg::{ListTrail, MarkTrail, Meter, Place, RunReply, Session, SessionFault, When};
+use rows::{Answer, Row, Turns, capture, check_rows, program};
 
-type Code = (u16, u8, u8, u32);
-
-const RULE: [Code; 6] = [
+const LOAD_RULE: Row = Row::Program(
     (40, 0, 0, 12),
-    (21, 0, 3, 2048),
-    (48, 0, 0, 23),
-    (21, 0, 1, 1),
-    (6, 0, 0, 65535),
+    1,
+    &[
+        (21, 0, 3, 2048),
+        (48, 0, 0, 23),
+        (21, 0, 1, 1),
+        (6, 0, 0, 65535),
+    ],
     (6, 0, 0, 0),
-];
+);
+
+/// `ldh [12]`, 4094 times `add #1`, `ret a`.
+const LOAD_LONG: Row = Row::Program((40, 0, 0, 12), 4094, &[(4, 0, 0, 1)], (22, 0, 0, 0));
+
+/// `ld mark`, `ret a`.
+const LOAD_MARK: Row = Row::Program((32, 0, 0, 4294963220), 0, &[], (22, 0, 0, 0));
+
+/// `ldb mark`, `ret a`.
+const LOAD_MARK_BYTE: Row = Row::Program((48, 0, 0, 4294963220), 0, &[], (22, 0, 0, 0));
 
 /// `ld rand`, `ret a`.
-const RANDOM: [Code; 2] = [(32, 0, 0, 4294963256), (22, 0, 0, 0)];
+const LOAD_RANDOM: Row = Row::Program((32, 0, 0, 4294963256), 0, &[], (22, 0, 0, 0));
 
-/// `ld #9`, `st M[0]`, `ld #4`, `st M[0]`, `ret a`.
-const STORES: [Code; 5] = [
-    (0, 0, 0, 9),
-    (2, 0, 0, 0),
-    (0, 0, 0, 4),
-    (2, 0, 0, 0),
-    (22, 0, 0, 0),
-];
-
-/// The file header, little-endian with microseconds.
-const HEADER: [u8; 24] = [
-    0xd4, 0xc3, 0xb2, 0xa1, 2, 0, 4, 0, 0, 0, 0, 0, 0, 0, 0, 0, 0xff, 0xff, 0, 0, 1, 0, 0, 0,
-];
-
-/// Two records of 42 and 34 bytes.
-const RECORDS: [u8; 108] = [
-    1, 0, 0, 0, 0, 0, 0, 0, 42, 0, 0, 0, 42, 0, 0, 0, //
-    0, 0, 0, 0, 0, 0, 0, 0, 0, 0, 0, 0, 8, 6, 0, 0, 0, 0, 0, 0, 0, //
-    0, 0, 0, 0, 0, 0, 0, 0, 0, 0, 0, 0, 0, 0, 0, 0, 0, 0, 0, 0, 0, //
-    2, 0, 0, 0, 0, 0, 0, 0, 34, 0, 0, 0, 34, 0, 0, 0, //
-    0, 0, 0, 0, 0, 0, 0, 0, 0, 0, 0, 0, 8, 0, 0, 0, 0, //
-    0, 0, 0, 0, 0, 0, 1, 0, 0, 0, 0, 0, 0, 0, 0, 0, 0,
-];
-
-/// A record of no bytes and an original length of 60.
-const EMPTY_RECORD: [u8; 16] = [0, 0, 0, 0, 0, 0, 0, 0, 0, 0, 0, 0, 60, 0, 0, 0];
-
-fn program(rt: &impl Abort, alloc: Global, list: &[Code]) -> Program {
-    let mut all = Vec::new(alloc);
-    for (code, jt, jf, k) in list {
-        let insn = Insn {
-            code: *code,
-            jt: *jt,
-            jf: *jf,
-            k: *k,
-        };
-        all.push(insn).expect(rt, "memory");
-    }
-    check(all).ok().expect(rt, "a program")
-}
-
-/// The first instruction, `count` times the second, and the last.
-fn long_program(
-    rt: &impl Abort,
-    alloc: Global,
-    first: Code,
-    count: u32,
-    again: Code,
-    last: Code,
-) -> Program {
-    let mut all = Vec::new(alloc);
-    all.push(first).expect(rt, "memory");
-    for _i in 0..count {
-        all.push(again).expect(rt, "memory");
-    }
-    all.push(last).expect(rt, "memory");
-    program(rt, alloc, all.as_slice())
-}
-
-fn capture(rt: &impl Abort, alloc: Global, records: &[u8], count: u32) -> Capture {
-    let mut bytes = Vec::new(alloc);
-    bytes.extend_from_slice(&HEADER).expect(rt, "memory");
-    for _i in 0..count {
-        bytes.extend_from_slice(records).expect(rt, "memory");
-    }
-    Capture::from_bytes(alloc, bytes)
-        .ok()
-        .expect(rt, "a capture")
-}
-
-fn packets(rt: &impl Abort, alloc: Global) -> Capture {
-    capture(rt, alloc, &RECORDS, 1)
-}
-
-/// A session over a capture of `RECORDS`.
-fn session<T: Trail>(
-    rt: &impl Abort,
-    alloc: Global,
-    trail: T,
-    list: &[Code],
-    breakpoints: &[u64],
-) -> Session<T> {
-    let mut s = Session::new(alloc, trail);
-    s.load_program(program(rt, alloc, list));
-    s.load_capture(packets(rt, alloc));
-    for n in breakpoints {
-        s.breakpoint(*n).ok().expect(rt, "memory");
-    }
-    s
-}
-
-/// The same session twice, over a trail of checkpoints and over one of all states.
-fn sessions(
-    rt: &impl Abort,
-    alloc: Global,
-    list: &[Code],
-    breakpoints: &[u64],
-) -> (Session<MarkTrail>, Session<ListTrail>) {
-    let all = ListTrail::new(alloc).expect(rt, "memory");
+/// What a session shows, and its calls from nothing loaded on.
+const SESSIONS: &[(&str, &[Row])] = &[
     (
-        session(rt, alloc, MarkTrail::new(), list, breakpoints),
-        session(rt, alloc, all, list, breakpoints),
-    )
-}
+        "each hit once and in order, also from the start again",
+        &[
+            LOAD_RULE,
+            Row::Capture,
+            Row::Break(1, When::Always, Ok(())),
+            Row::Break(4, When::Always, Ok(())),
+            Row::Run(None, Answer::Breaks(1, 2, 1, 2054), Turns::Exactly(1)),
+            Row::Run(None, Answer::Breaks(2, 2, 1, 2048), Turns::Exactly(3)),
+            Row::Run(None, Answer::Breaks(2, 5, 4, 1), Turns::Exactly(3)),
+            Row::Run(None, Answer::Finishes(1, 1, 0), Turns::Exactly(1)),
+            Row::Mark(1, 0),
+            Row::Run(None, Answer::Breaks(1, 2, 1, 2054), Turns::Exactly(1)),
+            Row::Run(None, Answer::Breaks(2, 2, 1, 2048), Turns::Exactly(3)),
+            Row::Run(None, Answer::Breaks(2, 5, 4, 1), Turns::Exactly(3)),
+            Row::Run(None, Answer::Finishes(1, 1, 0), Turns::Exactly(1)),
+            Row::Mark(1, 0),
+        ],
+    ),
+    (
+        "the list of stops, and a run to the end, which finds them",
+        &[
+            LOAD_RULE,
+            Row::Capture,
+            Row::Break(1, When::Always, Ok(())),
+            Row::Break(4, When::Always, Ok(())),
+            Row::Stops(&[(1, 2, 1, 2054), (2, 2, 1, 2048), (2, 5, 4, 1)]),
+            Row::Mark(1, 0),
+            Row::RunToEnd(
+                &[(1, 2, 1, 2054), (2, 2, 1, 2048), (2, 5, 4, 1)],
+                (1, 1, 0),
+                Turns::Exactly(8),
+            ),
+            Row::Mark(1, 0),
+            Row::Select(2, Ok(())),
+            Row::RunToEnd(
+                &[(2, 2, 1, 2048), (2, 5, 4, 1)],
+                (1, 0, 0),
+                Turns::Exactly(5),
+            ),
+        ],
+    ),
+    (
+        "a breakpoint that is taken out between",
+        &[
+            LOAD_RULE,
+            Row::Capture,
+            Row::Break(1, When::Always, Ok(())),
+            Row::Break(4, When::Always, Ok(())),
+            Row::Run(None, Answer::Breaks(1, 2, 1, 2054), Turns::Exactly(1)),
+            Row::Delete(1, Ok(true)),
+            Row::Run(None, Answer::Breaks(2, 5, 4, 1), Turns::Exactly(6)),
+            Row::Delete(1, Ok(false)),
+            Row::Breakpoints(&[(4, When::Always)]),
+        ],
+    ),
+    (
+        "breakpoints that there are not leave the others and the place",
+        &[
+            LOAD_RULE,
+            Row::Capture,
+            Row::Break(3, When::Always, Ok(())),
+            Row::Break(2, When::X(7), Ok(())),
+            Row::Run(Some(1), Answer::Limit(0, 1, 0), Turns::Exactly(3)),
+            Row::Break(6, When::Always, Err(SessionFault::NoInstruction)),
+            Row::Break(4294967296, When::Always, Err(SessionFault::NoInstruction)),
+            Row::Break(4294967297, When::A(1), Err(SessionFault::NoInstruction)),
+            Row::Delete(18446744073709551615, Err(SessionFault::NoInstruction)),
+            Row::Breakpoints(&[(3, When::Always), (2, When::X(7))]),
+            Row::Mark(2, 0),
+        ],
+    ),
+    (
+        "a condition on A, and one on X, which is 0 at each instruction",
+        &[
+            LOAD_RULE,
+            Row::Capture,
+            Row::Break(1, When::A(2048), Ok(())),
+            Row::Run(None, Answer::Breaks(2, 2, 1, 2048), Turns::Exactly(4)),
+            Row::Run(None, Answer::Finishes(1, 1, 0), Turns::Exactly(4)),
+            Row::Break(1, When::X(0), Ok(())),
+            Row::Stops(&[(1, 2, 1, 2054), (2, 2, 1, 2048)]),
+        ],
+    ),
+    (
+        "limits",
+        &[
+            LOAD_RULE,
+            Row::Capture,
+            Row::Run(
+                Some(0),
+                Answer::Refuses(SessionFault::ZeroCount),
+                Turns::Exactly(0),
+            ),
+            Row::Run(Some(1), Answer::Limit(0, 1, 0), Turns::Exactly(3)),
+            Row::Mark(2, 0),
+            Row::Run(Some(1), Answer::Finishes(1, 1, 0), Turns::Exactly(5)),
+            Row::Run(Some(1), Answer::Limit(0, 1, 0), Turns::Exactly(3)),
+            Row::Run(
+                Some(18446744073709551615),
+                Answer::Finishes(1, 1, 0),
+                Turns::Exactly(5),
+            ),
+        ],
+    ),
+    (
+        "a saved place gives the rest, and counts from its packet",
+        &[
+            LOAD_RULE,
+            Row::Capture,
+            Row::Break(1, When::Always, Ok(())),
+            Row::Break(4, When::Always, Ok(())),
+            Row::Resume(2, 2, Ok(()), Turns::There(1)),
+            Row::Mark(2, 2),
+            Row::Run(None, Answer::Breaks(2, 5, 4, 1), Turns::Exactly(3)),
+            Row::Run(None, Answer::Finishes(1, 0, 0), Turns::Exactly(1)),
+            Row::Select(2, Ok(())),
+            Row::Mark(2, 0),
+            Row::Run(None, Answer::Breaks(2, 2, 1, 2048), Turns::Exactly(1)),
+            Row::Delete(4, Ok(true)),
+            Row::Run(None, Answer::Finishes(1, 0, 0), Turns::Exactly(4)),
+        ],
+    ),
+    (
+        "the last place of a packet and the place before the next one have the same rest",
+        &[
+            LOAD_RULE,
+            Row::Capture,
+            Row::Break(5, When::Always, Ok(())),
+            Row::Break(0, When::Always, Ok(())),
+            Row::Run(None, Answer::Breaks(1, 1, 0, 0), Turns::Exactly(0)),
+            Row::Run(None, Answer::Breaks(1, 3, 5, 2054), Turns::Exactly(2)),
+            Row::Mark(1, 3),
+            Row::Resume(1, 3, Ok(()), Turns::There(2)),
+            Row::Run(None, Answer::Breaks(2, 1, 0, 0), Turns::Exactly(1)),
+            Row::Resume(2, 0, Ok(()), Turns::Exactly(0)),
+            Row::Run(None, Answer::Breaks(2, 1, 0, 0), Turns::Exactly(0)),
+        ],
+    ),
+    (
+        "places that there are not leave the place",
+        &[
+            LOAD_RULE,
+            Row::Capture,
+            Row::Break(1, When::Always, Ok(())),
+            Row::Run(None, Answer::Breaks(1, 2, 1, 2054), Turns::Exactly(1)),
+            Row::Resume(3, 0, Err(SessionFault::NoPacket), Turns::Exactly(0)),
+            Row::Resume(0, 0, Err(SessionFault::NoPacket), Turns::Exactly(0)),
+            Row::Resume(2, 6, Err(SessionFault::NoStep(5)), Turns::Exactly(5)),
+            Row::Resume(1, 4, Err(SessionFault::NoStep(3)), Turns::Exactly(3)),
+            Row::Select(3, Err(SessionFault::NoPacket)),
+            Row::Select(0, Err(SessionFault::NoPacket)),
+            Row::Mark(1, 2),
+            Row::Step(-1, Answer::Steps(1, 1, 0, 0), Turns::Back(0)),
+        ],
+    ),
+    (
+        "loads go to the start; a program takes the breakpoints with it",
+        &[
+            LOAD_RULE,
+            Row::Capture,
+            Row::Break(1, When::Always, Ok(())),
+            Row::Run(None, Answer::Breaks(1, 2, 1, 2054), Turns::Exactly(1)),
+            Row::Capture,
+            Row::Mark(1, 0),
+            Row::Breakpoints(&[(1, When::Always)]),
+            Row::Run(None, Answer::Breaks(1, 2, 1, 2054), Turns::Exactly(1)),
+            LOAD_RULE,
+            Row::Mark(1, 0),
+            Row::Breakpoints(&[]),
+            Row::Run(None, Answer::Finishes(1, 1, 0), Turns::Exactly(8)),
+        ],
+    ),
+    (
+        "steps both ways",
+        &[
+            LOAD_RULE,
+            Row::Capture,
+            Row::Break(1, When::Always, Ok(())),
+            Row::Break(4, When::Always, Ok(())),
+            Row::Run(None, Answer::Breaks(1, 2, 1, 2054), Turns::Exactly(1)),
+            Row::Run(None, Answer::Breaks(2, 2, 1, 2048), Turns::Exactly(3)),
+            Row::Run(None, Answer::Breaks(2, 5, 4, 1), Turns::Exactly(3)),
+            Row::Step(-3, Answer::Steps(2, 2, 1, 2048), Turns::Back(1)),
+            Row::Step(
+                -2,
+                Answer::Refuses(SessionFault::TooFarBack(1)),
+                Turns::Exactly(0),
+            ),
+            Row::Step(3, Answer::Steps(2, 5, 4, 1), Turns::Exactly(3)),
+        ],
+    ),
+    (
+        "steps over packets",
+        &[
+            LOAD_RULE,
+            Row::Capture,
+            Row::Step(3, Answer::Steps(1, 3, 5, 2054), Turns::Exactly(2)),
+            Row::Step(1, Answer::Steps(2, 1, 0, 0), Turns::Exactly(1)),
+            Row::Select(1, Ok(())),
+            Row::Step(8, Answer::Steps(2, 5, 4, 1), Turns::Exactly(7)),
+            Row::Select(1, Ok(())),
+            Row::Step(9, Answer::Finishes(1, 1, 0), Turns::Exactly(8)),
+            Row::Mark(1, 0),
+            Row::Run(Some(1), Answer::Limit(0, 1, 0), Turns::Exactly(3)),
+            Row::Step(
+                -1,
+                Answer::Refuses(SessionFault::TooFarBack(0)),
+                Turns::Exactly(0),
+            ),
+            Row::Step(
+                0,
+                Answer::Refuses(SessionFault::ZeroCount),
+                Turns::Exactly(0),
+            ),
+            Row::Step(
+                i64::MIN,
+                Answer::Refuses(SessionFault::TooFarBack(0)),
+                Turns::Exactly(0),
+            ),
+            Row::Mark(2, 0),
+        ],
+    ),
+    (
+        "a packet of 4096 instructions",
+        &[
+            LOAD_LONG,
+            Row::Capture,
+            Row::Break(4095, When::Always, Ok(())),
+            Row::Break(100, When::Always, Ok(())),
+            Row::Run(None, Answer::Breaks(1, 101, 100, 2153), Turns::Exactly(100)),
+            Row::Resume(
+                2,
+                4097,
+                Err(SessionFault::NoStep(4096)),
+                Turns::Exactly(4096),
+            ),
+            Row::Step(-1, Answer::Steps(1, 100, 99, 2152), Turns::Back(35)),
+            Row::Delete(100, Ok(true)),
+            Row::Run(
+                None,
+                Answer::Breaks(1, 4096, 4095, 6148),
+                Turns::Exactly(3996),
+            ),
+            Row::Step(-1, Answer::Steps(1, 4095, 4094, 6147), Turns::Back(62)),
+            Row::Step(-4031, Answer::Steps(1, 64, 63, 2116), Turns::Back(63)),
+            Row::Step(1, Answer::Steps(1, 65, 64, 2117), Turns::Exactly(1)),
+            Row::Step(-1, Answer::Steps(1, 64, 63, 2116), Turns::Back(63)),
+            Row::Step(-63, Answer::Steps(1, 1, 0, 0), Turns::Back(0)),
+            Row::Resume(1, 2, Ok(()), Turns::There(1)),
+            Row::Resume(1, 0, Ok(()), Turns::Exactly(0)),
+            Row::Delete(4095, Ok(true)),
+            Row::Run(None, Answer::Finishes(2, 0, 0), Turns::Exactly(8192)),
+        ],
+    ),
+    (
+        "a value, which loads keep, and another one begin the packet again",
+        &[
+            Row::SetValue(Ext::Mark, 7, Ok(())),
+            LOAD_MARK,
+            Row::Capture,
+            Row::ValueOf(Ext::Mark, Some(7)),
+            Row::Run(None, Answer::Finishes(2, 0, 0), Turns::Exactly(4)),
+            Row::Select(2, Ok(())),
+            Row::SetValue(Ext::Mark, 0, Ok(())),
+            Row::Mark(2, 0),
+            Row::Run(None, Answer::Finishes(0, 1, 0), Turns::Exactly(2)),
+            Row::Run(None, Answer::Finishes(0, 2, 0), Turns::Exactly(4)),
+            // All bits are loaded, whatever the size of the load.
+            LOAD_MARK_BYTE,
+            Row::SetValue(Ext::Mark, 4294967295, Ok(())),
+            Row::Break(1, When::Always, Ok(())),
+            Row::Run(None, Answer::Breaks(1, 2, 1, 4294967295), Turns::Exactly(1)),
+            Row::SetValue(Ext::Mark, 4294967295, Ok(())),
+            Row::Mark(1, 0),
+            Row::Step(
+                -1,
+                Answer::Refuses(SessionFault::TooFarBack(0)),
+                Turns::Exactly(0),
+            ),
+            Row::Step(2, Answer::Steps(1, 2, 1, 4294967295), Turns::Exactly(1)),
+        ],
+    ),
+    (
+        "values that there are not leave the place",
+        &[
+            LOAD_RANDOM,
+            Row::Capture,
+            Row::Run(None, Answer::Asks(1, Ext::Rand), Turns::Exactly(0)),
+            Row::SetValue(Ext::Nla, 1, Err(SessionFault::NoValue)),
+            Row::SetValue(Ext::NlaN, 1, Err(SessionFault::NoValue)),
+            Row::SetValue(Ext::PayOff, 1, Err(SessionFault::NoValue)),
+            Row::SetValue(Ext::Rand, 1, Err(SessionFault::NoValue)),
+            Row::ValueOf(Ext::Nla, None),
+            Row::ValueOf(Ext::NlaN, None),
+            Row::ValueOf(Ext::PayOff, None),
+            Row::ValueOf(Ext::Rand, None),
+            Row::Mark(1, 1),
+            Row::Run(None, Answer::Asks(2, Ext::Rand), Turns::Exactly(1)),
+            Row::Run(None, Answer::Finishes(0, 0, 2), Turns::Exactly(1)),
+        ],
+    ),
+];
 
-fn at(packet: u64, step: u32) -> Place {
-    Place { packet, step }
-}
-
-fn counts(passes: u64, fails: u64, unknown: u64) -> Counts {
-    Counts {
-        passes,
-        fails,
-        unknown,
+#[test]
+fn sessions_over_two_packets(rt: HostRuntime) {
+    for (shows, rows) in SESSIONS {
+        check_rows(&rt, rt.alloc(), MarkTrail::new(), false, shows, rows);
+        let all = ListTrail::new(rt.alloc()).expect(&rt, "memory");
+        check_rows(&rt, rt.alloc(), all, true, shows, rows);
     }
+    assert!(rt;
+        Place {
+            packet: 1,
+            step: 4096
+        } < Place { packet: 2, step: 0 }
+    );
+    assert!(rt; Place { packet: 2, step: 1 } < Place { packet: 2, step: 2 });
+    assert!(rt;
+        !(Place { packet: 2, step: 0 }
+            < Place {
+                packet: 1,
+                step: 4096
+            })
+    );
 }
 
-/// The stop of a reply.
-fn stop_of(rt: &impl Abort, reply: Result<RunReply, SessionFault>) -> Stop {
-    match reply {
-        Ok(RunReply::Stopped(stop)) => stop,
-        _ => panic!(rt; "no stop"),
+/// Both the stops of the list and those of runs can be written as they are, with nothing to test.
+#[test]
+fn runs_show_the_stops_of_the_list(rt: HostRuntime) {
+    let mut s = Session::new(rt.alloc(), MarkTrail::new());
+    s.load_program(program(
+        &rt,
+        rt.alloc(),
+        (40, 0, 0, 12),
+        3,
+        &[(4, 0, 0, 1)],
+        (22, 0, 0, 0),
+    ));
+    s.load_capture(capture(&rt, rt.alloc()));
+    for n in [1, 4] {
+        assert!(rt; s.breakpoint(n) == Ok(()));
     }
-}
-
-/// Where the next run stops.
-fn next_stop<T: Trail>(rt: &impl Abort, s: &mut Session<T>) -> Stop {
-    let mut meter = Meter::new();
-    stop_of(rt, s.run(&mut meter, None))
-}
-
-/// Where a step ends.
-fn stop_of_step<T: Trail>(rt: &impl Abort, s: &mut Session<T>, n: i64) -> Stop {
-    let mut meter = Meter::new();
-    stop_of(rt, s.step(&mut meter, n))
+    let mut listed = Vec::new(rt.alloc());
+    for stop in s.stops().ok().expect(&rt, "stops") {
+        assert!(rt; s.write_stop(&mut listed, &stop).is_ok());
+    }
+    let mut met = Vec::new(rt.alloc());
+    for _ in 0..4 {
+        let Ok(RunReply::Stopped(stop)) = s.run(&mut Meter::new(), None) else {
+            panic!(&rt; "no stop")
+        };
+        assert!(rt; s.write_stop(&mut met, &stop).is_ok());
+    }
+    assert!(rt; listed.as_slice() == met.as_slice());
+    assert!(rt; listed.starts_with(b"-- packet 1, step 2 --\n"));
+    assert!(rt; listed.ends_with(b" 00 00\n(breakpoint)\n"));
 }

@@ -9,7 +9,7 @@ pub follow-followed-requires-clause-spare : goal.follow-followed-requires-clause
 follow-followed-requires-clause-spare g c =
     omega (
       arith,
-      c.back-s.ensures.few,
+      c.new-meter.ensures,
       sound_few c.args.p.now c.len-sound.ensures.sound,
       length-trace_from (machine_of c.args.p.now c.new-values.result) [] 0 zero_state,
     )
