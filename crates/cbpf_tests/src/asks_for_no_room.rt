@@ -8,63 +8,89 @@ use cbpf_dbg::{MarkTrail, Meter, Place, RunReply, Session, SessionFault, When};
 use cbpf_text::{write_line, write_listing};
 use fault_injection::{Fault, FaultyWriter, RefusingAllocator};
 use pcap_classic::Capture;
-use std::alloc::AllocError;
+use std::alloc::{AllocError, Allocator, Global};
+use std::process::Abort;
 
 #[test]
-fn calls_of_a_session(rt: HostRuntime) -> Result<(), AllocError> {
+fn a_session_with_nothing_loaded(rt: HostRuntime) {
     let refusing = RefusingAllocator::refusing(rt.alloc(), 1000);
     let mut session: Session<MarkTrail, _> = Session::new(&refusing, MarkTrail::new());
     let mut found = Vec::new(&refusing);
-    let mut meter = Meter::new();
-    assert!(rt; session.breakpoint(0) == Err(SessionFault::NoProgram));
-    assert!(rt; session.breakpoint_when(0, When::A(1)) == Err(SessionFault::NoProgram));
-    assert!(rt; session.run_to_end(&mut meter, &mut found) == Err(SessionFault::NoProgram));
+    let refused = Err(SessionFault::NoProgram);
+    assert!(rt; session.breakpoint(0) == refused);
+    assert!(rt; session.breakpoint_when(0, When::A(1)) == refused);
+    assert!(rt; session.run_to_end(&mut Meter::new(), &mut found) == Err(SessionFault::NoProgram));
     assert_eq!(rt; refusing.left(), 1000);
+}
 
-    let mut session = session_of(&refusing, ICMP_WORDS)?;
-    assert!(rt; session.breakpoint(1) == Ok(()));
-    assert!(rt; session.breakpoint_when(4, When::X(0)) == Ok(()));
-    let program = program_of(&refusing, STRAIGHT)?;
-    let bytes = Vec::from_slice(&refusing, TWO_PACKETS)?;
-    let Ok(capture) = Capture::from_bytes(&refusing, bytes) else {
-        return Err(AllocError);
-    };
-    let left = refusing.left();
-    assert!(rt; session.breakpoint(6) == Err(SessionFault::NoInstruction));
-    assert!(rt; session.breakpoint_when(6, When::A(1)) == Err(SessionFault::NoInstruction));
+/// Breakpoints that are refused, and two that are set already.
+fn set<A: Allocator + Copy>(rt: &impl Abort, session: &mut Session<MarkTrail, A>) {
+    let refused = Err(SessionFault::NoInstruction);
+    assert!(rt; session.breakpoint(6) == refused);
+    assert!(rt; session.breakpoint_when(6, When::A(1)) == refused);
     assert!(rt; session.breakpoint_when(1, When::A(2054)) == Ok(()));
     assert!(rt; session.breakpoint(4) == Ok(()));
-    match session.run(&mut meter, None) {
+}
+
+/// Runs, a dump, steps, and places.
+fn go<A: Allocator + Copy>(rt: &impl Abort, session: &mut Session<MarkTrail, A>) {
+    match session.run(&mut Meter::new(), None) {
         Ok(RunReply::Stopped(stop)) => {
             let mut w = FaultyWriter::<2048>::new(Fault::Fails, 0);
             assert!(rt; session.write_stop(&mut w, &stop) == Ok(()));
         }
         _ => assert!(rt; false),
     }
-    assert!(rt; session.step(&mut meter, 3).is_ok());
-    assert!(rt; session.step(&mut meter, -1).is_ok());
-    assert!(rt; session.run(&mut meter, Some(1)).is_ok());
-    assert!(rt;
-        session
-            .resume(&mut meter, Place { packet: 2, step: 3 })
-            .is_ok()
-    );
+    assert!(rt; session.step(&mut Meter::new(), 3).is_ok());
+    assert!(rt; session.step(&mut Meter::new(), -1).is_ok());
+    assert!(rt; session.run(&mut Meter::new(), Some(1)).is_ok());
+    let place = Place { packet: 2, step: 3 };
+    assert!(rt; session.resume(&mut Meter::new(), place).is_ok());
     assert!(rt; session.select(1) == Ok(()));
     assert!(rt; session.mark().is_ok());
     assert!(rt; session.set_value(Ext::Mark, 7) == Ok(()));
+}
+
+/// The stops ahead, which are two, and a run over them into another memory.
+fn list<A: Allocator + Copy>(rt: &impl Abort, alloc: Global, session: &mut Session<MarkTrail, A>) {
     match session.stops() {
         Ok(mut stops) => {
-            assert!(rt; stops.next().is_some());
-            assert!(rt; stops.next().is_some());
+            assert!(rt; stops.next().is_some() && stops.next().is_some());
             assert!(rt; stops.next().is_none());
         }
         Err(_) => assert!(rt; false),
     }
-    let mut found = Vec::new(rt.alloc());
-    assert!(rt; session.run_to_end(&mut meter, &mut found).is_ok());
-    assert_eq!(rt; found.len(), 2);
+    let mut found = Vec::new(alloc);
+    assert!(rt; session.run_to_end(&mut Meter::new(), &mut found).is_ok());
+    assert!(rt; found.len() == 2);
+}
+
+#[test]
+fn calls_of_a_session(rt: HostRuntime) -> Result<(), AllocError> {
+    let refusing = RefusingAllocator::refusing(rt.alloc(), 1000);
+    let mut session = session_of(&refusing, ICMP_WORDS)?;
+    assert!(rt; session.breakpoint(1) == Ok(()));
+    assert!(rt; session.breakpoint_when(4, When::X(0)) == Ok(()));
+    let left = refusing.left();
+    set(&rt, &mut session);
+    go(&rt, &mut session);
+    list(&rt, rt.alloc(), &mut session);
     assert!(rt; session.delete(4) == Ok(true));
     session.reset_breakpoints();
+    assert_eq!(rt; refusing.left(), left);
+    Ok(())
+}
+
+#[test]
+fn loads_of_a_session(rt: HostRuntime) -> Result<(), AllocError> {
+    let refusing = RefusingAllocator::refusing(rt.alloc(), 1000);
+    let mut session = session_of(&refusing, ICMP_WORDS)?;
+    let program = program_of(&refusing, STRAIGHT)?;
+    let bytes = Vec::from_slice(&refusing, TWO_PACKETS)?;
+    let Ok(capture) = Capture::from_bytes(&refusing, bytes) else {
+        return Err(AllocError);
+    };
+    let left = refusing.left();
     session.load_program(program);
     session.load_capture(capture);
     assert_eq!(rt; refusing.left(), left);
