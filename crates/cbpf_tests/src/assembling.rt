@@ -1,11 +1,8 @@
-// The assembler over readers, writers and allocators that fail at one call.
-use crate::failing_writes::{FAULTS, check_bytes_before};
-use cbpf_text::AsmFault;
+// The assembler over readers, flushes and allocators that fail at one call.
+use cbpf_text::{AsmFault, AsmKind};
 use cbpf_tool::{Form, ToolFault, asm};
 use fault_injection::{Fault, FaultyReader, FaultyWriter, RefusingAllocator};
-use std::alloc::Global;
 use std::io::ErrorKind;
-use std::process::Abort;
 
 /// A source of four instructions.
 const ARP: &[u8] = b"ldh [12]\njne #0x806, drop\nret #-1\ndrop: ret #0\n";
@@ -25,10 +22,6 @@ const ARP_TEXTS: [(Form, &[u8]); 2] = [
     ),
 ];
 
-fn no_fault() -> FaultyWriter<256> {
-    FaultyWriter::new(Fault::Fails, 0)
-}
-
 /// The kinds of error by which a read or a flush fails. `OutOfMemory` is here the reader's or the writer's, and
 /// not the allocator's.
 const KINDS: [ErrorKind; 3] = [
@@ -37,151 +30,81 @@ const KINDS: [ErrorKind; 3] = [
     ErrorKind::OutOfMemory,
 ];
 
-fn check_failed_read(rt: &impl Abort, alloc: Global, form: Form, kind: ErrorKind, call: u64) {
-    let mut reader = FaultyReader::new(ARP, 1, call);
-    reader.set_error(kind);
-    let mut writer = no_fault();
-    let result = asm(alloc, &mut reader, &mut writer, form);
-    assert_eq!(rt; result, Err(ToolFault::Read));
-    assert_eq!(rt; reader.calls(), call);
-    assert!(rt; writer.written().is_empty());
-}
-
 #[test]
-fn each_read_that_fails_leaves_nothing_written(rt: HostRuntime) {
-    for (form, _) in ARP_TEXTS {
+fn each_read_or_flush_that_fails(rt: HostRuntime) {
+    for (form, text) in ARP_TEXTS {
         for kind in KINDS {
             for call in 1..ARP.len() as u64 + 2 {
-                check_failed_read(&rt, rt.alloc(), form, kind, call);
+                let mut reader = FaultyReader::new(ARP, 1, call);
+                reader.set_error(kind);
+                let mut writer = FaultyWriter::<256>::new(Fault::Fails, 0);
+                let result = asm(rt.alloc(), &mut reader, &mut writer, form);
+                assert!(rt; result == Err(ToolFault::Read), "{call}");
+                assert!(rt; reader.calls() == call, "{call}");
+                assert!(rt; writer.written().is_empty(), "{call}");
             }
+            let mut reader = ARP;
+            let mut writer = FaultyWriter::<256>::new(Fault::Fails, 0);
+            writer.set_flush_fails(true);
+            writer.set_error(kind);
+            let result = asm(rt.alloc(), &mut reader, &mut writer, form);
+            assert!(rt; result == Err(ToolFault::Write));
+            assert!(rt; writer.written() == text);
+            assert!(rt; writer.flushes() == 1);
         }
-    }
-}
-
-fn check_read(
-    rt: &impl Abort,
-    alloc: Global,
-    reader: &mut FaultyReader<'_>,
-    form: Form,
-    text: &[u8],
-) {
-    let mut writer = no_fault();
-    let result = asm(alloc, reader, &mut writer, form);
-    assert_eq!(rt; result, Ok(()));
-    assert_eq!(rt; writer.written(), text);
-    assert_eq!(rt; writer.flushes(), 1);
-}
-
-#[test]
-fn pieces_of_any_length_make_the_same_source(rt: HostRuntime) {
-    for (form, text) in ARP_TEXTS {
         for piece in 1..60usize {
             let mut reader = FaultyReader::new(ARP, piece, 0);
-            check_read(&rt, rt.alloc(), &mut reader, form, text);
+            let mut writer = FaultyWriter::<256>::new(Fault::Fails, 0);
+            let result = asm(rt.alloc(), &mut reader, &mut writer, form);
+            assert!(rt; result == Ok(()), "{piece}");
+            // No read is made after the one that finds the end.
+            assert!(rt;
+                reader.calls() == ARP.len().div_ceil(piece) as u64 + 1,
+                "{piece}"
+            );
+            assert!(rt; writer.written() == text, "{piece}");
+            assert!(rt; writer.flushes() == 1, "{piece}");
         }
     }
 }
 
-fn check_failed_write(
-    rt: &impl Abort,
-    alloc: Global,
-    (form, text): (Form, &[u8]),
-    (fault, kind): (Fault, ErrorKind),
-    call: u64,
-) {
-    let mut reader = ARP;
-    let mut writer = FaultyWriter::<256>::new(fault, call);
-    writer.set_error(kind);
-    let result = asm(alloc, &mut reader, &mut writer, form);
-    assert_eq!(rt; result, Err(ToolFault::Write));
-    check_bytes_before(rt, &writer, call, text);
-}
-
-#[test]
-fn each_write_that_goes_wrong_leaves_the_bytes_before_it(rt: HostRuntime) {
-    for (form, text) in ARP_TEXTS {
-        for fault in FAULTS {
-            for call in 1..text.len() as u64 + 1 {
-                check_failed_write(&rt, rt.alloc(), (form, text), fault, call);
-            }
-        }
-    }
-}
-
-fn check_failed_flush(rt: &impl Abort, alloc: Global, form: Form, text: &[u8], kind: ErrorKind) {
-    let mut reader = ARP;
-    let mut writer = no_fault();
-    writer.set_flush_fails(true);
-    writer.set_error(kind);
-    let result = asm(alloc, &mut reader, &mut writer, form);
-    assert_eq!(rt; result, Err(ToolFault::Write));
-    assert_eq!(rt; writer.written(), text);
-    assert_eq!(rt; writer.flushes(), 1);
-}
-
-#[test]
-fn a_flush_that_fails_is_a_write_fault(rt: HostRuntime) {
-    for (form, text) in ARP_TEXTS {
-        for kind in KINDS {
-            check_failed_flush(&rt, rt.alloc(), form, text, kind);
-        }
-    }
-}
-
-/// Whether the growth of this number was refused; without a refusal the text is whole.
-fn is_refused(rt: &impl Abort, alloc: Global, form: Form, text: &[u8], nth: u64) -> bool {
-    let alloc = RefusingAllocator::refusing(alloc, nth);
-    let mut reader = ARP;
-    let mut writer = no_fault();
-    let result = asm(&alloc, &mut reader, &mut writer, form);
-    if result == Ok(()) {
-        assert!(rt; alloc.left() > 0);
-        assert_eq!(rt; writer.written(), text);
-        return false;
-    }
-    assert_eq!(rt; result, Err(ToolFault::Memory));
-    assert_eq!(rt; alloc.left(), 0);
-    assert!(rt; writer.written().is_empty());
-    true
-}
-
-/// How many growths there are; each one is refused once.
-fn growths_of_a_form(rt: &impl Abort, alloc: Global, form: Form, text: &[u8]) -> u64 {
-    for nth in 1..200u64 {
-        if !is_refused(rt, alloc, form, text, nth) {
-            return nth - 1;
-        }
-    }
-    panic!(rt; "no end of growths")
-}
+/// Sources, and their refusal and its line where they have one; and the least number of growths.
+const SOURCES: [(&[u8], Option<(AsmKind, u64)>, u64); 5] = [
+    (ARP, None, 4),
+    (b"ret #0\nret ret\n", Some((AsmKind::Misplaced, 2)), 1),
+    (b"", Some((AsmKind::NoInstruction, 1)), 0),
+    (b"jmp no\n", Some((AsmKind::LabelNotSet, 1)), 1),
+    (b"ret #0 /*", Some((AsmKind::OpenComment, 1)), 1),
+];
 
 #[test]
 fn each_refused_growth_leaves_nothing_written(rt: HostRuntime) {
     for (form, text) in ARP_TEXTS {
-        assert!(rt; growths_of_a_form(&rt, rt.alloc(), form, text) > 3);
-    }
-}
-
-fn check_refused(rt: &impl Abort, answer: Result<(), ToolFault>, text: &[u8]) {
-    match answer {
-        Err(ToolFault::Source(AsmFault::At(..))) => assert!(rt; text.is_empty()),
-        _ => assert!(rt; false),
-    }
-}
-
-#[test]
-fn a_refused_source_leaves_nothing_written(rt: HostRuntime) {
-    for source in [
-        b"ret #0\nret ret\n".as_slice(),
-        b"",
-        b"jmp no\n",
-        b"ret #0 /*",
-    ] {
-        for (form, _) in ARP_TEXTS {
-            let mut reader = source;
-            let mut writer = no_fault();
-            let result = asm(rt.alloc(), &mut reader, &mut writer, form);
-            check_refused(&rt, result, writer.written());
+        for (row, (source, refusal, least)) in SOURCES.iter().enumerate() {
+            let mut growths = 0u64;
+            for nth in 1..200u64 {
+                let alloc = RefusingAllocator::refusing(rt.alloc(), nth);
+                let mut reader = *source;
+                let mut writer = FaultyWriter::<256>::new(Fault::Fails, 0);
+                let result = asm(&alloc, &mut reader, &mut writer, form);
+                let (wanted, written) = match refusal {
+                    _ if alloc.left() == 0 => (Err(ToolFault::Memory), b"".as_slice()),
+                    None => (Ok(()), text),
+                    Some((kind, line)) => {
+                        (
+                            Err(ToolFault::Source(AsmFault::At(*kind, *line))),
+                            b"".as_slice(),
+                        )
+                    }
+                };
+                assert!(rt; result == wanted, "row {row}, growth {nth}");
+                assert!(rt; writer.written() == written, "row {row}, growth {nth}");
+                if alloc.left() > 0 {
+                    break;
+                }
+                growths = nth;
+            }
+            assert!(rt; growths >= *least && growths < 199, "row {row}: {growths}");
         }
     }
 }

@@ -1,7 +1,5 @@
 // Each beginning of a source, with its number of instructions or its refusal.
 use cbpf_text::{AsmFault, AsmKind, assemble};
-use std::alloc::Global;
-use std::process::Abort;
 
 /// What a beginning is answered by.
 #[derive(Clone, Copy, PartialEq, Eq, Debug)]
@@ -66,33 +64,24 @@ const COMMENTS_ANSWERS: [(usize, Answer); 19] = [
     (108, Answer::Assembled(4)),
 ];
 
-/// The answer to the beginning of this length.
-fn answer_to(answers: &[(usize, Answer)], len: usize) -> Option<Answer> {
-    for (last, answer) in answers {
-        if len <= *last {
-            return Some(*answer);
+#[test]
+fn each_beginning_of_two_sources(rt: HostRuntime) {
+    for (source, answers) in [
+        (BRANCH, BRANCH_ANSWERS.as_slice()),
+        (COMMENTS, COMMENTS_ANSWERS.as_slice()),
+    ] {
+        let mut next: usize = 0;
+        for (last, answer) in answers {
+            for len in next..=*last {
+                assert!(rt; len <= source.len());
+                let got = match assemble(rt.alloc(), &source[..len]) {
+                    Ok(list) => Answer::Assembled(list.len()),
+                    Err(fault) => Answer::Refused(fault),
+                };
+                assert!(rt; got == *answer, "length {len}");
+            }
+            next = last.saturating_add(1);
         }
+        assert_eq!(rt; next, source.len().saturating_add(1));
     }
-    None
-}
-
-fn check_beginnings(rt: &impl Abort, alloc: Global, source: &[u8], answers: &[(usize, Answer)]) {
-    for len in 0..source.len() + 1 {
-        let got = match assemble(alloc, &source[..len]) {
-            Ok(list) => Answer::Assembled(list.len()),
-            Err(fault) => Answer::Refused(fault),
-        };
-        assert!(rt; Some(got) == answer_to(answers, len), "length {len}");
-    }
-    assert!(rt; answer_to(answers, source.len() + 1).is_none());
-}
-
-#[test]
-fn of_a_source_with_two_branches(rt: HostRuntime) {
-    check_beginnings(&rt, rt.alloc(), BRANCH, &BRANCH_ANSWERS);
-}
-
-#[test]
-fn of_a_source_with_comments(rt: HostRuntime) {
-    check_beginnings(&rt, rt.alloc(), COMMENTS, &COMMENTS_ANSWERS);
 }

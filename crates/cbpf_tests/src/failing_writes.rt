@@ -1,85 +1,97 @@
 // The calls that write, over writers that take one byte a call, and fail or take nothing at one call.
-use crate::icmp::{AT_1_2, FIRST_PACKET, ICMP_WORDS, program_of, session_of};
-use crate::sizes::repeated;
-use crate::worked::joined;
-use cbpf_code::{Insn, Program, WriteFault, write_bytes, write_c, write_words};
-use cbpf_dbg::{MarkTrail, Meter, RunReply, Session};
+use crate::loaded::{ICMP_WORDS, program_of, two_packets_as_k};
+use cbpf_code::{write_bytes, write_c, write_words};
 use cbpf_text::write_listing;
+use cbpf_tool::{Form, ToolFault, asm, debug};
 use fault_injection::{Fault, FaultyWriter};
-use std::alloc::AllocError;
-use std::io::{ErrorKind, Write};
-use std::process::Abort;
+use std::alloc::Global;
+use std::io::ErrorKind;
 
 /// How a write goes wrong.
-pub const FAULTS: [(Fault, ErrorKind); 4] = [
+const FAULTS: [(Fault, ErrorKind); 4] = [
     (Fault::Fails, ErrorKind::Other),
     (Fault::Fails, ErrorKind::Interrupted),
     (Fault::Fails, ErrorKind::OutOfMemory),
     (Fault::TakesNothing, ErrorKind::Other),
 ];
 
-/// A writer whose one chosen call goes wrong.
-fn writer_with(fault: Fault, kind: ErrorKind, call: u64) -> FaultyWriter<4096> {
-    let mut writer = FaultyWriter::new(fault, call);
-    writer.set_error(kind);
-    writer
-}
+const SESSION: &[u8] =
+    b"load bpf 2,0 0 0 7,22 0 0 0\nload pcap k\nbreakpoint 1\nstops\nrun\nstep -1\nmark\ndisassemble\ndump\nquit\n";
 
-/// After write number `call`, of one byte, went wrong, exactly the bytes before it were written, and no write was tried
-/// again.
-pub fn check_bytes_before<const N: usize>(
-    rt: &impl Abort,
-    writer: &FaultyWriter<N>,
-    call: u64,
-    text: &[u8],
-) {
-    assert_eq!(rt; writer.calls(), call);
-    assert_eq!(rt;
-        Some(writer.written()),
-        text.get(..(call as usize).saturating_sub(1))
-    );
-}
+const REPLIES: &[u8] = b"bpf: 2 instructions\n\
+pcap: 2 packets\n\
+breakpoint at: l1:\tret a\n\
+1 2 l1 A 7 X 0 (breakpoint)\n\
+2 2 l1 A 7 X 0 (breakpoint)\n\
+stops: 2\n\
+-- packet 1, step 2 --\n\
+-- register dump --\n\
+pc:       [1]\n\
+code:     [22] jt[0] jf[0] k[0]\n\
+curr:     l1:\tret a\n\
+A:        [00000007][7]\n\
+X:        [00000000][0]\n\
+M[0,15]:  [00000000][0]\n\
+-- packet dump --\n\
+len: 42 wire: 42\n\
+\x20   0: 00 00 00 00 00 00 00 00 00 00 00 00 08 06 00 00\n\
+\x20  16: 00 00 00 00 00 00 00 00 00 00 00 00 00 00 00 00\n\
+\x20  32: 00 00 00 00 00 00 00 00 00 00\n\
+(breakpoint)\n\
+-- packet 1, step 1 --\n\
+-- register dump --\n\
+pc:       [0]\n\
+code:     [0] jt[0] jf[0] k[7]\n\
+curr:     l0:\tld #0x7\n\
+A:        [00000000][0]\n\
+X:        [00000000][0]\n\
+M[0,15]:  [00000000][0]\n\
+-- packet dump --\n\
+len: 42 wire: 42\n\
+\x20   0: 00 00 00 00 00 00 00 00 00 00 00 00 08 06 00 00\n\
+\x20  16: 00 00 00 00 00 00 00 00 00 00 00 00 00 00 00 00\n\
+\x20  32: 00 00 00 00 00 00 00 00 00 00\n\
+(step)\n\
+1 1\n\
+l0:\tld #0x7\n\
+l1:\tret a\n\
+/* { op, jt, jf, k }, */\n\
+{ 0000,  0,  0, 0x00000007 },\n\
+{ 0x16,  0,  0, 0000000000 },\n";
 
-fn check_fault(
-    rt: &impl Abort,
-    answer: Result<(), WriteFault>,
-    writer: &FaultyWriter<4096>,
-    call: u64,
-    text: &[u8],
-) {
-    assert_eq!(rt; answer, Err(WriteFault));
-    check_bytes_before(rt, writer, call, text);
-}
+/// More instructions than are written at once, which are 64.
+const SEVENTY: &[u8] =
+    b"70,7 0 0 0,7 0 0 0,7 0 0 0,7 0 0 0,7 0 0 0,7 0 0 0,7 0 0 0,7 0 0 0,7 0 0 0,7 0 0 0,\
+7 0 0 0,7 0 0 0,7 0 0 0,7 0 0 0,7 0 0 0,7 0 0 0,7 0 0 0,7 0 0 0,7 0 0 0,7 0 0 0,\
+7 0 0 0,7 0 0 0,7 0 0 0,7 0 0 0,7 0 0 0,7 0 0 0,7 0 0 0,7 0 0 0,7 0 0 0,7 0 0 0,\
+7 0 0 0,7 0 0 0,7 0 0 0,7 0 0 0,7 0 0 0,7 0 0 0,7 0 0 0,7 0 0 0,7 0 0 0,7 0 0 0,\
+7 0 0 0,7 0 0 0,7 0 0 0,7 0 0 0,7 0 0 0,7 0 0 0,7 0 0 0,7 0 0 0,7 0 0 0,7 0 0 0,\
+7 0 0 0,7 0 0 0,7 0 0 0,7 0 0 0,7 0 0 0,7 0 0 0,7 0 0 0,7 0 0 0,7 0 0 0,7 0 0 0,\
+7 0 0 0,7 0 0 0,7 0 0 0,7 0 0 0,7 0 0 0,7 0 0 0,7 0 0 0,7 0 0 0,7 0 0 0,6 0 0 1,\n";
 
-fn check_whole(
-    rt: &impl Abort,
-    answer: Result<(), WriteFault>,
-    writer: &FaultyWriter<4096>,
-    text: &[u8],
-) {
-    assert_eq!(rt; answer, Ok(()));
-    assert_eq!(rt; writer.written(), text);
-}
+/// A source of four instructions.
+const SOURCE: &[u8] = b"ldh [12]\njne #0x806, drop\nret #-1\ndrop: ret #0\n";
 
-/// The forms of a program.
-#[derive(Clone, Copy, PartialEq, Eq, Debug)]
-enum Form {
+/// What writes: bytes, a program in a form, which is the ICMP filter where none is named, and the two jobs.
+#[derive(Clone, Copy, Debug)]
+enum Call {
+    Bytes,
+    Words(&'static [u8]),
     C,
-    Words,
     Listing,
+    Asm(Form),
+    Debug,
 }
 
-fn write_form<W: Write>(w: &mut W, program: &Program, form: Form) -> Result<(), WriteFault> {
-    match form {
-        Form::C => write_c(w, program.as_slice()),
-        Form::Words => write_words(w, program.as_slice()),
-        Form::Listing => write_listing(w, program),
-    }
-}
-
-const FORMS: [(Form, &[u8]); 3] = [
+const CALLS: [(Call, &[u8]); 8] = [
+    (Call::Bytes, SOURCE),
     (
-        Form::C,
+        Call::Words(ICMP_WORDS),
+        b"6,40 0 0 12,21 0 3 2048,48 0 0 23,21 0 1 1,6 0 0 65535,6 0 0 0,\n",
+    ),
+    (Call::Words(SEVENTY), SEVENTY),
+    (
+        Call::C,
         b"{ 0x28,  0,  0, 0x0000000c },\n\
 { 0x15,  0,  3, 0x00000800 },\n\
 { 0x30,  0,  0, 0x00000017 },\n\
@@ -88,11 +100,7 @@ const FORMS: [(Form, &[u8]); 3] = [
 { 0x06,  0,  0, 0000000000 },\n",
     ),
     (
-        Form::Words,
-        b"6,40 0 0 12,21 0 3 2048,48 0 0 23,21 0 1 1,6 0 0 65535,6 0 0 0,\n",
-    ),
-    (
-        Form::Listing,
+        Call::Listing,
         b"l0:\tldh [12]\n\
 l1:\tjeq #0x800, l2, l5\n\
 l2:\tldb [23]\n\
@@ -100,111 +108,65 @@ l3:\tjeq #0x1, l4, l5\n\
 l4:\tret #0xffff\n\
 l5:\tret #0\n",
     ),
+    (
+        Call::Asm(Form::Decimal),
+        b"4,40 0 0 12,21 0 1 2054,6 0 0 4294967295,6 0 0 0,\n",
+    ),
+    (
+        Call::Asm(Form::C),
+        b"{ 0x28,  0,  0, 0x0000000c },\n\
+{ 0x15,  0,  1, 0x00000806 },\n\
+{ 0x06,  0,  0, 0xffffffff },\n\
+{ 0x06,  0,  0, 0000000000 },\n",
+    ),
+    (Call::Debug, REPLIES),
 ];
 
+fn write(alloc: Global, call: Call, w: &mut FaultyWriter<2048>) -> Result<(), ToolFault> {
+    let words = match call {
+        Call::Words(words) => words,
+        _ => ICMP_WORDS,
+    };
+    let Ok(program) = program_of(alloc, words) else {
+        return Err(ToolFault::Memory);
+    };
+    let Ok(mut files) = two_packets_as_k(alloc) else {
+        return Err(ToolFault::Memory);
+    };
+    let mut source = SOURCE;
+    let mut script = SESSION;
+    let written = match call {
+        Call::Bytes => write_bytes(w, SOURCE),
+        Call::Words(_) => write_words(w, program.as_slice()),
+        Call::C => write_c(w, program.as_slice()),
+        Call::Listing => write_listing(w, &program),
+        Call::Asm(form) => return asm(alloc, &mut source, w, form),
+        Call::Debug => return debug(alloc, &mut script, w, &mut files),
+    };
+    if written.is_ok() {
+        Ok(())
+    } else {
+        Err(ToolFault::Write)
+    }
+}
+
+// After the write that went wrong exactly the bytes before it were written, and no write is tried again.
 #[test]
-fn each_form_of_a_program_leaves_the_bytes_before_the_fault(
-    rt: HostRuntime,
-) -> Result<(), AllocError> {
-    let program = program_of(rt.alloc(), ICMP_WORDS)?;
-    for (form, text) in FORMS {
+fn a_write_that_goes_wrong_is_the_last_one(rt: HostRuntime) {
+    for (call, text) in CALLS {
+        let mut writer = FaultyWriter::new(Fault::Fails, 0);
+        assert!(rt; write(rt.alloc(), call, &mut writer) == Ok(()), "{call:?}");
+        assert!(rt; writer.written() == text, "{call:?}");
+        assert!(rt; writer.calls() == text.len() as u64, "{call:?}");
         for (fault, kind) in FAULTS {
-            for call in 1..text.len() as u64 + 1 {
-                let mut writer = writer_with(fault, kind, call);
-                let result = write_form(&mut writer, &program, form);
-                check_fault(&rt, result, &writer, call, text);
+            for i in 0..text.len() {
+                let mut writer = FaultyWriter::new(fault, i as u64 + 1);
+                writer.set_error(kind);
+                let result = write(rt.alloc(), call, &mut writer);
+                assert!(rt; result == Err(ToolFault::Write), "{call:?}, byte {i}");
+                assert!(rt; writer.written() == &text[..i], "{call:?}, byte {i}");
+                assert!(rt; writer.calls() == i as u64 + 1, "{call:?}, byte {i}");
             }
         }
-        let mut writer = writer_with(Fault::Fails, ErrorKind::Other, 0);
-        let result = write_form(&mut writer, &program, form);
-        check_whole(&rt, result, &writer, text);
     }
-    Ok(())
-}
-
-// More lines than a writer gets at once.
-#[test]
-fn words_of_seventy_instructions_leave_the_bytes_before_the_fault(
-    rt: HostRuntime,
-) -> Result<(), AllocError> {
-    let text = repeated(rt.alloc(), b"70,", b"6 0 0 1,", 70, b"\n")?;
-    let insn = Insn {
-        code: 6,
-        jt: 0,
-        jf: 0,
-        k: 1,
-    };
-    let list = [insn; 70];
-    for (fault, kind) in FAULTS {
-        for call in 1..text.len() as u64 + 1 {
-            let mut writer = writer_with(fault, kind, call);
-            let result = write_words(&mut writer, &list);
-            check_fault(&rt, result, &writer, call, &text);
-        }
-    }
-    let mut writer = writer_with(Fault::Fails, ErrorKind::Other, 0);
-    let result = write_words(&mut writer, &list);
-    check_whole(&rt, result, &writer, &text);
-    Ok(())
-}
-
-/// Runs from the first packet, and writes the stop.
-fn write_first_stop<W: Write>(
-    w: &mut W,
-    session: &mut Session<MarkTrail>,
-) -> Result<(), WriteFault> {
-    if session.select(1).is_err() {
-        return Ok(());
-    }
-    match session.run(&mut Meter::new(), None) {
-        Ok(RunReply::Stopped(stop)) => session.write_stop(w, &stop),
-        _ => Ok(()),
-    }
-}
-
-/// The stop's text goes wrong at each call in each way, and then not at all.
-fn check_stops(rt: &impl Abort, session: &mut Session<MarkTrail>, text: &[u8]) {
-    for (fault, kind) in FAULTS {
-        for call in 1..text.len() as u64 + 1 {
-            let mut writer = writer_with(fault, kind, call);
-            let result = write_first_stop(&mut writer, session);
-            check_fault(rt, result, &writer, call, text);
-        }
-    }
-    let mut writer = writer_with(Fault::Fails, ErrorKind::Other, 0);
-    let result = write_first_stop(&mut writer, session);
-    check_whole(rt, result, &writer, text);
-}
-
-#[test]
-fn a_stop_leaves_the_bytes_before_the_fault(rt: HostRuntime) -> Result<(), AllocError> {
-    let mut session = session_of(rt.alloc(), ICMP_WORDS)?;
-    assert!(rt; session.breakpoint(1) == Ok(()));
-    let text = joined(rt.alloc(), &[AT_1_2, FIRST_PACKET, b"(breakpoint)\n"])?;
-    check_stops(&rt, &mut session, &text);
-    Ok(())
-}
-
-#[test]
-fn some_thousand_bytes_at_once(rt: HostRuntime) -> Result<(), AllocError> {
-    let mut text = Vec::new(rt.alloc());
-    for n in 0..4000u32 {
-        text.push((n % 251) as u8)?;
-    }
-    let mut writer = writer_with(Fault::Fails, ErrorKind::Other, 0);
-    let result = write_bytes(&mut writer, &text);
-    check_whole(&rt, result, &writer, &text);
-    for (fault, kind) in FAULTS {
-        for call in [1, 101, 2049, 3999, 4000u64] {
-            let mut writer = writer_with(fault, kind, call);
-            let result = write_bytes(&mut writer, &text);
-            check_fault(&rt, result, &writer, call, &text);
-        }
-    }
-    let mut room = [0u8; 4096];
-    let mut slice: &mut [u8] = &mut room;
-    assert_eq!(rt; write_bytes(&mut slice, &text), Ok(()));
-    assert_eq!(rt; slice.len(), 96);
-    assert!(rt; room.starts_with(&text));
-    Ok(())
 }

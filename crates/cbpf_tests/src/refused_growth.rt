@@ -1,94 +1,112 @@
-// Growths of a script that are refused, one after another.
-use crate::icmp::TWO_PACKETS_AS_K;
-use crate::worked::files_of;
+// Scripts of which each growth is refused, one after another.
+use crate::loaded::two_packets_as_k;
 use cbpf_tool::{ToolFault, debug};
-use fault_injection::RefusingAllocator;
+use fault_injection::{Fault, FaultyWriter, RefusingAllocator};
 use std::alloc::AllocError;
-use std::process::Abort;
 
-const SCRIPT: &[u8] = b"load bpf 1,6 0 0 1\nload pcap k\nrun\nquit\n";
+const LOADS: &[u8] = b"load bpf 1,6 0 0 1\nload pcap k\nrun\nquit\n";
 
 /// The same, but the third line is longer than the first, and the only one that needs more room than it.
-const LONG_SCRIPT: &[u8] = b"load bpf 1,6 0 0 1\nload pcap k\n\
+const LONG_LINE: &[u8] = b"load bpf 1,6 0 0 1\nload pcap k\n\
 run                                                                                             \n\
 quit\n";
 
-const REPLIES: &[u8] = b"bpf: 1 instructions\npcap: 2 packets\nbpf passes:2 fails:0\n";
+const COUNTS: &[u8] = b"bpf: 1 instructions\npcap: 2 packets\nbpf passes:2 fails:0\n";
 
-const NO_PROGRAM: &[u8] = b"error: out of memory\npcap: 2 packets\nerror: S1 no program\n";
+/// A script, its replies where no growth is refused, the least number of growths, and what it writes where
+/// this growth is refused and the script goes on.
+type Row = (
+    &'static [u8],
+    &'static [u8],
+    u64,
+    &'static [(u64, &'static [u8])],
+);
 
-const NO_CAPTURE: &[u8] = b"bpf: 1 instructions\nerror: out of memory\nerror: S2 no capture\n";
-
-/// Where a growth was refused.
-#[derive(Clone, Copy, PartialEq, Eq, Debug)]
-enum Refused {
-    /// Nowhere.
-    None,
-    /// In the load of the program.
-    Program,
-    /// In the load of the capture.
-    Capture,
-    /// In a line that was to be held. The replies to the lines before it take this many bytes.
-    Line(usize),
-}
-
-/// Where the growth was refused, by what was answered and written.
-fn refused_in(rt: &impl Abort, answer: Result<(), ToolFault>, text: &[u8]) -> Refused {
-    match answer {
-        Ok(()) if text == REPLIES => Refused::None,
-        Ok(()) if text == NO_PROGRAM => Refused::Program,
-        Ok(()) => {
-            assert_eq!(rt; text, NO_CAPTURE);
-            Refused::Capture
-        }
-        Err(fault) => {
-            assert_eq!(rt; fault, ToolFault::Memory);
-            assert!(rt; REPLIES.starts_with(text));
-            Refused::Line(text.len())
-        }
-    }
-}
-
-/// Where the first growth of a script is refused, the second and so on.
-const SCRIPTS: [(&[u8], &[Refused]); 2] = [
+const SCRIPTS: [Row; 5] = [
     (
-        SCRIPT,
+        LOADS,
+        COUNTS,
+        4,
         &[
-            Refused::Line(0),
-            Refused::Program,
-            Refused::Capture,
-            Refused::Capture,
-            Refused::None,
+            (
+                2,
+                b"error: out of memory\npcap: 2 packets\nerror: S1 no program\n",
+            ),
+            (
+                3,
+                b"bpf: 1 instructions\nerror: out of memory\nerror: S2 no capture\n",
+            ),
+            (
+                4,
+                b"bpf: 1 instructions\nerror: out of memory\nerror: S2 no capture\n",
+            ),
         ],
     ),
+    (LONG_LINE, COUNTS, 5, &[]),
     (
-        LONG_SCRIPT,
-        &[
-            Refused::Line(0),
-            Refused::Program,
-            Refused::Capture,
-            Refused::Capture,
-            Refused::Line(36),
-            Refused::None,
-        ],
+        b"load bpf 1,6 0 0 1\nbreakpoint 0\nbreakpoint\nquit\n",
+        b"bpf: 1 instructions\nbreakpoint at: l0:\tret #0x1\nbreakpoints: 0\n",
+        3,
+        &[(
+            3,
+            b"bpf: 1 instructions\nerror: out of memory\nbreakpoints:\n",
+        )],
+    ),
+    (
+        b"load bpf 1,6 0 0 1\nbreakpoint 0 a 5\nbreakpoint\nquit\n",
+        b"bpf: 1 instructions\nbreakpoint at: l0:\tret #0x1 when a = 5\nbreakpoints: 0(a=5)\n",
+        3,
+        &[(
+            3,
+            b"bpf: 1 instructions\nerror: out of memory\nbreakpoints:\n",
+        )],
+    ),
+    (
+        b"load bpf 1,6 0 0 1\nbreakpoint 0\nbreakpoint 0 x 7\nbreakpoint\nquit\n",
+        b"bpf: 1 instructions\n\
+breakpoint at: l0:\tret #0x1\n\
+breakpoint at: l0:\tret #0x1 when x = 7\n\
+breakpoints: 0(x=7)\n",
+        3,
+        &[(
+            3,
+            b"bpf: 1 instructions\n\
+error: out of memory\n\
+breakpoint at: l0:\tret #0x1 when x = 7\n\
+breakpoints: 0(x=7)\n",
+        )],
     ),
 ];
 
+// Out of memory is a fault of the script, or the reply to a line, and neither comes of itself.
 #[test]
 fn each_growth_of_a_script(rt: HostRuntime) -> Result<(), AllocError> {
-    for (script, refusals) in SCRIPTS {
-        for (i, wanted) in refusals.iter().enumerate() {
-            let mut files = files_of(rt.alloc(), TWO_PACKETS_AS_K)?;
-            let alloc = RefusingAllocator::refusing(rt.alloc(), (i as u64).saturating_add(1));
-            let mut reader = script;
-            let mut room = [0u8; 256];
-            let mut writer: &mut [u8] = &mut room;
+    for (row, (script, replies, least, refused)) in SCRIPTS.iter().enumerate() {
+        let mut growths = 0u64;
+        for nth in 1..100u64 {
+            let mut files = two_packets_as_k(rt.alloc())?;
+            let alloc = RefusingAllocator::refusing(rt.alloc(), nth);
+            let mut reader = *script;
+            let mut writer = FaultyWriter::<256>::new(Fault::Fails, 0);
             let result = debug(&alloc, &mut reader, &mut writer, &mut files);
-            let size = 256usize.saturating_sub(writer.len());
-            let refused = refused_in(&rt, result, &room[..size]);
-            assert_eq!(rt; refused, *wanted);
-            assert_eq!(rt; alloc.left(), u64::from(refused == Refused::None));
+            let is_whole = result == Ok(()) && writer.written() == *replies;
+            assert!(rt; is_whole == (alloc.left() > 0), "row {row}, growth {nth}");
+            if is_whole {
+                break;
+            }
+            assert!(rt;
+                matches!(result, Ok(()) | Err(ToolFault::Memory)),
+                "row {row}"
+            );
+            for (growth, text) in *refused {
+                if *growth == nth {
+                    assert!(rt; result == Ok(()), "row {row}, growth {nth}");
+                    assert!(rt; writer.written() == *text, "row {row}, growth {nth}");
+                }
+            }
+            growths = nth;
         }
+        assert!(rt; *least <= growths && growths < 99, "row {row}: {growths}");
     }
     Ok(())
 }

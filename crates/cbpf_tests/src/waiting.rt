@@ -1,9 +1,8 @@
 // A reader that gives a line a call, and a writer, which share a count: before each read that waits, all
 // replies to the lines so far are written and flushed, and after a flush that fails nothing is read.
-use crate::icmp::TWO_PACKETS_AS_K;
-use crate::worked::files_of;
+use crate::loaded::two_packets_as_k;
 use cbpf_tool::{ToolFault, debug};
-use std::alloc::{AllocError, Global};
+use std::alloc::AllocError;
 use std::cell::Cell;
 use std::io;
 use std::io::{ErrorKind, Read, Write};
@@ -100,105 +99,61 @@ const EXCHANGES: [Exchange; 9] = [
     (b"quit\n", 0),
 ];
 
-/// What came of a script.
-#[derive(Drop)]
-struct Waited {
-    result: Result<(), ToolFault>,
-    /// How often the script was read, and how often before the replies so far were written and flushed.
-    reads: u64,
-    late: u64,
-    /// The length of the replies to the lines that were read.
-    replies: u64,
-    flushes: u64,
-    progress: Progress,
-}
-
-/// Runs the first `count` lines, where the flush `failing` fails.
-fn wait_through(
-    alloc: Global,
-    count: usize,
-    failing: u64,
-    error: ErrorKind,
-) -> Result<Waited, AllocError> {
-    let exchanges = EXCHANGES.as_slice();
-    let progress = Cell::new(Progress {
-        written: 0,
-        flushed: 0,
-    });
-    let mut reader = WaitingReader {
-        exchanges: exchanges.get(..count).unwrap_or(exchanges),
-        progress: &progress,
-        replies: 0,
-        reads: 0,
-        late: 0,
-    };
-    let mut writer = CountingWriter {
-        progress: &progress,
-        flushes: 0,
-        failing,
-        error,
-    };
-    let mut files = files_of(alloc, TWO_PACKETS_AS_K)?;
-    let result = debug(alloc, &mut reader, &mut writer, &mut files);
-    Ok(Waited {
-        result,
-        reads: reader.reads as u64,
-        late: reader.late,
-        replies: reader.replies,
-        flushes: writer.flushes,
-        progress: progress.get(),
-    })
-}
-
-/// How often the first `count` lines are read. After `quit` nothing is read; else the read that finds the
-/// end is one more.
-fn reads_of(count: usize) -> u64 {
-    if count == 9 {
-        9
-    } else {
-        (count as u64).saturating_add(1)
-    }
-}
-
 /// The first lines that end in the middle of one: it is answered after the read that finds the end.
 const CUT: usize = 6;
 
+// Each number of lines, with no flush that fails (0), and with each flush that fails.
 #[test]
-fn each_reply_is_written_and_flushed_before_the_next_read(
+fn each_reply_is_flushed_before_the_next_read_or_nothing_more_is_read(
     rt: HostRuntime,
 ) -> Result<(), AllocError> {
-    for count in 0..10usize {
-        let waited = wait_through(rt.alloc(), count, 0, ErrorKind::Other)?;
-        assert_eq!(rt; waited.result, Ok(()));
-        assert_eq!(rt; waited.late, 0);
-        assert_eq!(rt; waited.reads, reads_of(count));
-        // One before each read, and one before `Ok`.
-        assert_eq!(rt; waited.flushes, reads_of(count).saturating_add(1));
-        assert_eq!(rt; waited.progress.flushed, waited.progress.written);
-        if count != CUT {
-            assert_eq!(rt; waited.progress.written, waited.replies);
-        }
-    }
-    Ok(())
-}
-
-#[test]
-fn after_a_flush_that_fails_nothing_is_read(rt: HostRuntime) -> Result<(), AllocError> {
-    for error in [
-        ErrorKind::Other,
-        ErrorKind::Interrupted,
-        ErrorKind::OutOfMemory,
-    ] {
-        for count in 0..10usize {
-            let reads = reads_of(count);
-            for failing in 1..reads.saturating_add(2) {
-                let waited = wait_through(rt.alloc(), count, failing, error)?;
-                assert_eq!(rt; waited.result, Err(ToolFault::Write));
-                assert_eq!(rt; waited.flushes, failing);
-                assert_eq!(rt; waited.reads, reads.min(failing.saturating_sub(1)));
-                assert_eq!(rt; waited.late, 0);
-                if count != CUT || failing <= reads {
-                    assert_eq!(rt; waited.progress.written, waited.replies);
+    let exchanges = EXCHANGES.as_slice();
+    for count in 0..=exchanges.len() {
+        // After `quit` nothing is read; else the read that finds the end is one more.
+        let reads = (count as u64).saturating_add(u64::from(count < exchanges.len()));
+        for failing in 0..reads.saturating_add(2) {
+            for error in [
+                ErrorKind::Other,
+                ErrorKind::Interrupted,
+                ErrorKind::OutOfMemory,
+            ] {
+                let progress = Cell::new(Progress {
+                    written: 0,
+                    flushed: 0,
+                });
+                let mut reader = WaitingReader {
+                    exchanges: exchanges.get(..count).unwrap_or(exchanges),
+                    progress: &progress,
+                    replies: 0,
+                    reads: 0,
+                    late: 0,
+                };
+                let mut writer = CountingWriter {
+                    progress: &progress,
+                    flushes: 0,
+                    failing,
+                    error,
+                };
+                let mut files = two_packets_as_k(rt.alloc())?;
+                let result = debug(rt.alloc(), &mut reader, &mut writer, &mut files);
+                let (wanted, flushes, made) = if failing == 0 {
+                    // One before each read, and one before `Ok`.
+                    (Ok(()), reads.saturating_add(1), reads)
+                } else {
+                    (
+                        Err(ToolFault::Write),
+                        failing,
+                        reads.min(failing.saturating_sub(1)),
+                    )
+                };
+                assert!(rt; result == wanted, "{count} {failing}");
+                assert!(rt; writer.flushes == flushes, "{count} {failing}");
+                assert!(rt; reader.reads as u64 == made, "{count} {failing}");
+                assert!(rt; reader.late == 0, "{count} {failing}");
+                let done = progress.get();
+                assert!(rt; failing > 0 || done.flushed == done.written, "{count}");
+                if count != CUT || (failing > 0 && failing <= reads) {
+                    assert!(rt; done.written == reader.replies, "{count} {failing}");
                 }
             }
         }
