@@ -118,7 +118,7 @@ fn finds_no_memory<A: Allocator + Copy>(
                 // The rest, from where the run came to a halt.
                 assert!(rt; session.run_to_end(&mut Meter::new(), &mut stops).is_ok());
             }
-            assert!(rt; stops.len() as u64 == 2 * breakpoints);
+            assert!(rt; stops.len() as u64 == breakpoints.saturating_mul(2));
             found
         }
     })
