@@ -21,10 +21,11 @@ demo: ## Proves and builds the program, assembles an example, and debugs a filte
 try: ## Runs the demonstration on a program that is built with no proof, in about a minute; keeps no program.
 	@python3 tools/try.py
 
-test: built ## Runs the end-to-end cases, random sessions and the examples of the documents on the program that is built, and looks up the documents' names.
+test: built ## Runs the end-to-end cases, sessions, verdicts and the examples of the documents on the program that is built, and looks up the documents' names.
 	python3 tests/names.py
 	python3 tests/run.py "$(PROGRAM)"
 	python3 tests/sessions.py "$(PROGRAM)"
+	python3 tests/verdicts.py "$(PROGRAM)"
 	python3 tests/documents.py "$(PROGRAM)"
 
 bench: built ## Measures the program that is built beside its peers, and writes the tables of bench/README.md and bench/growth.svg.
@@ -35,6 +36,7 @@ check: ## The gate: proves all crates and their tests from nothing, tries the mu
 	@python3 tools/check.py
 	python3 tests/run.py "$(PROGRAM)"
 	python3 tests/sessions.py "$(PROGRAM)"
+	python3 tests/verdicts.py "$(PROGRAM)"
 	python3 tests/documents.py "$(PROGRAM)"
 
 built:
