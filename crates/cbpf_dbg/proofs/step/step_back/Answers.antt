@@ -1,4 +1,4 @@
-use Rattle.std.proofs.Common.{◌-◌, arith, refl}
+use Rattle.std.proofs.Common.{rules, ◌-◌, arith, refl}
 use Rattle.cbpf_machine.specs.Registers.{zero_state}
 use Rattle.cbpf_machine.specs.Step.{turn}
 use Rattle.cbpf_machine.proofs.SoundLemmas.{sound_some}
@@ -22,3 +22,9 @@ returns-clause-answer g c =
       place_is = refl;
       origin_is = refl;
     }
+
+pub returns-clause-turns : goal.returns-clause-turns
+returns-clause-turns g c = search rules
+
+pub returns-clause-stands : goal.returns-clause-stands
+returns-clause-stands g c = search rules
