@@ -1,26 +1,38 @@
 // Calls that ask an allocator for nothing.
-use crate::loaded::{ICMP_WORDS, STRAIGHT, TWO_PACKETS, program_of, session_of};
+use crate::loaded::{ICMP_WORDS, STRAIGHT, program_of, session_of, two_packets};
 use cbpf_code::{
-    CheckFault, Ext, check, read_words, write_bytes, write_c, write_decimal, write_hex,
-    write_parts, write_words,
+    CheckFault, Ext, Insn, Program, check, read_words, write_bytes, write_c, write_decimal,
+    write_hex, write_parts, write_words,
 };
 use cbpf_dbg::{MarkTrail, Meter, Place, RunReply, Session, SessionFault, When};
 use cbpf_text::{write_line, write_listing};
 use fault_injection::{Fault, FaultyWriter, RefusingAllocator};
-use pcap_classic::Capture;
-use std::alloc::{AllocError, Allocator, Global};
+use std::alloc::{Allocator, Global};
 use std::process::Abort;
 
-#[test]
-fn a_session_with_nothing_loaded(rt: HostRuntime) {
-    let refusing = RefusingAllocator::refusing(rt.alloc(), 1000);
-    let mut session: Session<MarkTrail, _> = Session::new(&refusing, MarkTrail::new());
-    let mut found = Vec::new(&refusing);
+/// Breakpoints and a run that are refused without a program.
+fn refused_without_a_program<A: Allocator + Copy>(
+    rt: &impl Abort,
+    alloc: A,
+    session: &mut Session<MarkTrail, A>,
+) {
+    let mut found = Vec::new(alloc);
     let refused = Err(SessionFault::NoProgram);
     assert!(rt; session.breakpoint(0) == refused);
     assert!(rt; session.breakpoint_when(0, When::A(1)) == refused);
     assert!(rt; session.run_to_end(&mut Meter::new(), &mut found) == Err(SessionFault::NoProgram));
-    assert_eq!(rt; refusing.left(), 1000);
+}
+
+fn call_with_nothing_loaded<A: Allocator + Copy>(rt: &impl Abort, alloc: A) {
+    let mut session = Session::new(alloc, MarkTrail::new());
+    refused_without_a_program(rt, alloc, &mut session);
+}
+
+#[test]
+fn a_session_with_nothing_loaded(rt: HostRuntime) {
+    let refusing = RefusingAllocator::refusing(rt.alloc(), 1000);
+    call_with_nothing_loaded(&rt, &refusing);
+    assert!(rt; refusing.left() == 1000);
 }
 
 /// Breakpoints that are refused, and two that are set already.
@@ -32,8 +44,8 @@ fn set<A: Allocator + Copy>(rt: &impl Abort, session: &mut Session<MarkTrail, A>
     assert!(rt; session.breakpoint(4) == Ok(()));
 }
 
-/// Runs, a dump, steps, and places.
-fn go<A: Allocator + Copy>(rt: &impl Abort, session: &mut Session<MarkTrail, A>) {
+/// A run to a stop, and its dump.
+fn dump<A: Allocator + Copy>(rt: &impl Abort, session: &mut Session<MarkTrail, A>) {
     match session.run(&mut Meter::new(), None) {
         Ok(RunReply::Stopped(stop)) => {
             let mut w = FaultyWriter::<2048>::new(Fault::Fails, 0);
@@ -41,9 +53,17 @@ fn go<A: Allocator + Copy>(rt: &impl Abort, session: &mut Session<MarkTrail, A>)
         }
         _ => assert!(rt; false),
     }
+}
+
+/// Steps, and a run of one packet.
+fn go<A: Allocator + Copy>(rt: &impl Abort, session: &mut Session<MarkTrail, A>) {
     assert!(rt; session.step(&mut Meter::new(), 3).is_ok());
     assert!(rt; session.step(&mut Meter::new(), -1).is_ok());
     assert!(rt; session.run(&mut Meter::new(), Some(1)).is_ok());
+}
+
+/// Places, and a value.
+fn go_to<A: Allocator + Copy>(rt: &impl Abort, session: &mut Session<MarkTrail, A>) {
     let place = Place { packet: 2, step: 3 };
     assert!(rt; session.resume(&mut Meter::new(), place).is_ok());
     assert!(rt; session.select(1) == Ok(()));
@@ -51,8 +71,8 @@ fn go<A: Allocator + Copy>(rt: &impl Abort, session: &mut Session<MarkTrail, A>)
     assert!(rt; session.set_value(Ext::Mark, 7) == Ok(()));
 }
 
-/// The stops ahead, which are two, and a run over them into another memory.
-fn list<A: Allocator + Copy>(rt: &impl Abort, alloc: Global, session: &mut Session<MarkTrail, A>) {
+/// The stops ahead, which are two.
+fn list<A: Allocator + Copy>(rt: &impl Abort, session: &Session<MarkTrail, A>) {
     match session.stops() {
         Ok(mut stops) => {
             assert!(rt; stops.next().is_some() && stops.next().is_some());
@@ -60,41 +80,102 @@ fn list<A: Allocator + Copy>(rt: &impl Abort, alloc: Global, session: &mut Sessi
         }
         Err(_) => assert!(rt; false),
     }
+}
+
+/// A run over both stops, into another memory.
+fn run_on<A: Allocator + Copy>(
+    rt: &impl Abort,
+    alloc: Global,
+    session: &mut Session<MarkTrail, A>,
+) {
     let mut found = Vec::new(alloc);
     assert!(rt; session.run_to_end(&mut Meter::new(), &mut found).is_ok());
     assert!(rt; found.len() == 2);
 }
 
-#[test]
-fn calls_of_a_session(rt: HostRuntime) -> Result<(), AllocError> {
-    let refusing = RefusingAllocator::refusing(rt.alloc(), 1000);
-    let mut session = session_of(&refusing, ICMP_WORDS)?;
-    assert!(rt; session.breakpoint(1) == Ok(()));
-    assert!(rt; session.breakpoint_when(4, When::X(0)) == Ok(()));
-    let left = refusing.left();
-    set(&rt, &mut session);
-    go(&rt, &mut session);
-    list(&rt, rt.alloc(), &mut session);
+/// Breakpoints that go.
+fn delete<A: Allocator + Copy>(rt: &impl Abort, session: &mut Session<MarkTrail, A>) {
     assert!(rt; session.delete(4) == Ok(true));
     session.reset_breakpoints();
-    assert_eq!(rt; refusing.left(), left);
-    Ok(())
+}
+
+/// A session over both packets, with two breakpoints.
+fn begin<A: Allocator + Copy>(rt: &impl Abort, alloc: A) -> Session<MarkTrail, A> {
+    let mut session = session_of(alloc, ICMP_WORDS).expect(rt, "the session");
+    assert!(rt; session.breakpoint(1) == Ok(()));
+    assert!(rt; session.breakpoint_when(4, When::X(0)) == Ok(()));
+    session
+}
+
+fn call_each<A: Allocator + Copy>(
+    rt: &impl Abort,
+    alloc: Global,
+    session: &mut Session<MarkTrail, A>,
+) {
+    set(rt, session);
+    dump(rt, session);
+    go(rt, session);
+    go_to(rt, session);
+    list(rt, session);
+    run_on(rt, alloc, session);
+    delete(rt, session);
+}
+
+/// Calls of a session of `alloc`, whose calls `refusing` counts, with `other` for the stops.
+fn calls_of<A: Allocator + Copy>(
+    rt: &impl Abort,
+    alloc: A,
+    refusing: &RefusingAllocator<Global>,
+    other: Global,
+) {
+    let mut session = begin(rt, alloc);
+    let left = refusing.left();
+    call_each(rt, other, &mut session);
+    assert!(rt; refusing.left() == left);
 }
 
 #[test]
-fn loads_of_a_session(rt: HostRuntime) -> Result<(), AllocError> {
+fn calls_of_a_session(rt: HostRuntime) {
     let refusing = RefusingAllocator::refusing(rt.alloc(), 1000);
-    let mut session = session_of(&refusing, ICMP_WORDS)?;
-    let program = program_of(&refusing, STRAIGHT)?;
-    let bytes = Vec::from_slice(&refusing, TWO_PACKETS)?;
-    let Ok(capture) = Capture::from_bytes(&refusing, bytes) else {
-        return Err(AllocError);
-    };
+    calls_of(&rt, &refusing, &refusing, rt.alloc());
+}
+
+/// A program of `alloc`, whose calls `refusing` counts, goes into a session.
+fn load_program<A: Allocator + Copy>(
+    rt: &impl Abort,
+    alloc: A,
+    refusing: &RefusingAllocator<Global>,
+    session: &mut Session<MarkTrail, A>,
+) {
+    let program = program_of(alloc, STRAIGHT).expect(rt, "the program");
     let left = refusing.left();
     session.load_program(program);
+    assert!(rt; refusing.left() == left);
+}
+
+/// The same of a capture.
+fn load_capture<A: Allocator + Copy>(
+    rt: &impl Abort,
+    alloc: A,
+    refusing: &RefusingAllocator<Global>,
+    session: &mut Session<MarkTrail, A>,
+) {
+    let capture = two_packets(alloc).expect(rt, "the capture");
+    let left = refusing.left();
     session.load_capture(capture);
-    assert_eq!(rt; refusing.left(), left);
-    Ok(())
+    assert!(rt; refusing.left() == left);
+}
+
+fn load_both<A: Allocator + Copy>(rt: &impl Abort, alloc: A, refusing: &RefusingAllocator<Global>) {
+    let mut session = session_of(alloc, ICMP_WORDS).expect(rt, "the session");
+    load_program(rt, alloc, refusing, &mut session);
+    load_capture(rt, alloc, refusing, &mut session);
+}
+
+#[test]
+fn loads_of_a_session(rt: HostRuntime) {
+    let refusing = RefusingAllocator::refusing(rt.alloc(), 1000);
+    load_both(&rt, &refusing, &refusing);
 }
 
 /// Word texts, and the fault of each that is no program.
@@ -113,35 +194,72 @@ const CHECKED: [(&[u8], Option<CheckFault>); 5] = [
     (b"1,0 0 0 0", Some(CheckFault::NoReturn)),
 ];
 
-#[test]
-fn the_checker_and_the_writers(rt: HostRuntime) -> Result<(), AllocError> {
-    for (words, wanted) in CHECKED {
-        let refusing = RefusingAllocator::refusing(rt.alloc(), 1000);
-        let Ok(list) = read_words(&refusing, words) else {
-            return Err(AllocError);
-        };
-        let left = refusing.left();
-        let fault = match check(list) {
-            Ok(_) => None,
-            Err((fault, _)) => Some(fault),
-        };
-        assert!(rt; fault == wanted);
-        assert_eq!(rt; refusing.left(), left);
+fn fault_of<A: Allocator>(list: Vec<Insn, A>) -> Option<CheckFault> {
+    match check(list) {
+        Ok(_) => None,
+        Err((fault, _)) => Some(fault),
     }
-    let refusing = RefusingAllocator::refusing(rt.alloc(), 1000);
-    let program = program_of(&refusing, ICMP_WORDS)?;
+}
+
+/// A check, around which no room is asked for.
+fn check_words(rt: &impl Abort, alloc: Global, words: &[u8], wanted: Option<CheckFault>) {
+    let refusing = RefusingAllocator::refusing(alloc, 1000);
+    let list = read_words(&refusing, words).expect(rt, "the list");
     let left = refusing.left();
-    let mut w = FaultyWriter::<2048>::new(Fault::Fails, 0);
-    assert!(rt; write_c(&mut w, program.as_slice()) == Ok(()));
-    assert!(rt; write_words(&mut w, program.as_slice()) == Ok(()));
-    assert!(rt; write_listing(&mut w, &program) == Ok(()));
-    for i in 0..program.len() {
-        assert!(rt; write_line(&mut w, &program, i) == Ok(()));
+    assert!(rt; fault_of(list) == wanted);
+    assert!(rt; refusing.left() == left);
+}
+
+fn check_each(rt: &impl Abort, alloc: Global) {
+    for (words, wanted) in CHECKED.iter() {
+        check_words(rt, alloc, words, *wanted);
     }
-    assert!(rt; write_bytes(&mut w, b"text") == Ok(()));
-    assert!(rt; write_parts(&mut w, &[b"two".as_slice(), b" parts"]) == Ok(()));
-    assert!(rt; write_decimal(&mut w, 12) == Ok(()));
-    assert!(rt; write_hex(&mut w, 12, 8) == Ok(()));
-    assert_eq!(rt; refusing.left(), left);
-    Ok(())
+}
+
+/// A program in each form.
+fn write_forms<A: Allocator>(rt: &impl Abort, w: &mut FaultyWriter<2048>, program: &Program<A>) {
+    assert!(rt; write_c(w, program.as_slice()) == Ok(()));
+    assert!(rt; write_words(w, program.as_slice()) == Ok(()));
+    assert!(rt; write_listing(w, program) == Ok(()));
+}
+
+fn write_each_line<A: Allocator>(
+    rt: &impl Abort,
+    w: &mut FaultyWriter<2048>,
+    program: &Program<A>,
+) {
+    for i in 0..program.len() {
+        assert!(rt; write_line(w, program, i) == Ok(()));
+    }
+}
+
+const PARTS: [&[u8]; 2] = [b"two", b" parts"];
+
+fn write_texts(rt: &impl Abort, w: &mut FaultyWriter<2048>) {
+    assert!(rt; write_bytes(w, b"text") == Ok(()));
+    assert!(rt; write_parts(w, &PARTS) == Ok(()));
+}
+
+fn write_numbers(rt: &impl Abort, w: &mut FaultyWriter<2048>) {
+    assert!(rt; write_decimal(w, 12) == Ok(()));
+    assert!(rt; write_hex(w, 12, 8) == Ok(()));
+}
+
+/// Writes of a program of `alloc`, whose calls `refusing` counts, and of other texts.
+fn write_all<A: Allocator>(rt: &impl Abort, alloc: A, refusing: &RefusingAllocator<Global>) {
+    let program = program_of(alloc, ICMP_WORDS).expect(rt, "the program");
+    let left = refusing.left();
+    let mut w = FaultyWriter::new(Fault::Fails, 0);
+    write_forms(rt, &mut w, &program);
+    write_each_line(rt, &mut w, &program);
+    write_texts(rt, &mut w);
+    write_numbers(rt, &mut w);
+    assert!(rt; refusing.left() == left);
+}
+
+#[test]
+fn the_checker_and_the_writers(rt: HostRuntime) {
+    check_each(&rt, rt.alloc());
+    let refusing = RefusingAllocator::refusing(rt.alloc(), 1000);
+    write_all(&rt, &refusing, &refusing);
 }

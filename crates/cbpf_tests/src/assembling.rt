@@ -1,8 +1,11 @@
 // The assembler over readers, flushes and allocators that fail at one call.
+use crate::places::assert_at;
 use cbpf_text::{AsmFault, AsmKind};
 use cbpf_tool::{Form, ToolFault, asm};
 use fault_injection::{Fault, FaultyReader, FaultyWriter, RefusingAllocator};
+use std::alloc::Global;
 use std::io::ErrorKind;
+use std::process::Abort;
 
 /// A source of four instructions.
 const ARP: &[u8] = b"ldh [12]\njne #0x806, drop\nret #-1\ndrop: ret #0\n";
@@ -30,46 +33,76 @@ const KINDS: [ErrorKind; 3] = [
     ErrorKind::OutOfMemory,
 ];
 
-#[test]
-fn each_read_or_flush_that_fails(rt: HostRuntime) {
-    for (form, text) in ARP_TEXTS {
-        for kind in KINDS {
-            for call in 1..ARP.len() as u64 + 2 {
-                let mut reader = FaultyReader::new(ARP, 1, call);
-                reader.set_error(kind);
-                let mut writer = FaultyWriter::<256>::new(Fault::Fails, 0);
-                let result = asm(rt.alloc(), &mut reader, &mut writer, form);
-                assert!(rt; result == Err(ToolFault::Read), "{call}");
-                assert!(rt; reader.calls() == call, "{call}");
-                assert!(rt; writer.written().is_empty(), "{call}");
-            }
-            let mut reader = ARP;
-            let mut writer = FaultyWriter::<256>::new(Fault::Fails, 0);
-            writer.set_flush_fails(true);
-            writer.set_error(kind);
-            let result = asm(rt.alloc(), &mut reader, &mut writer, form);
-            assert!(rt; result == Err(ToolFault::Write));
-            assert!(rt; writer.written() == text);
-            assert!(rt; writer.flushes() == 1);
-        }
-        for piece in 1..60usize {
-            let mut reader = FaultyReader::new(ARP, piece, 0);
-            let mut writer = FaultyWriter::<256>::new(Fault::Fails, 0);
-            let result = asm(rt.alloc(), &mut reader, &mut writer, form);
-            assert!(rt; result == Ok(()), "{piece}");
-            // No read is made after the one that finds the end.
-            assert!(rt;
-                reader.calls() == ARP.len().div_ceil(piece) as u64 + 1,
-                "{piece}"
-            );
-            assert!(rt; writer.written() == text, "{piece}");
-            assert!(rt; writer.flushes() == 1, "{piece}");
-        }
+/// One read after another fails.
+fn each_read_fails(rt: &impl Abort, alloc: Global, form: Form, kind: ErrorKind) {
+    for call in 1..ARP.len() as u64 + 2 {
+        let mut reader = FaultyReader::new(ARP, 1, call);
+        reader.set_error(kind);
+        let mut writer = FaultyWriter::<256>::new(Fault::Fails, 0);
+        let result = asm(alloc, &mut reader, &mut writer, form);
+        assert_at(rt, result == Err(ToolFault::Read), "the read fault", call);
+        assert_at(rt, reader.calls() == call, "the reads up to a fault", call);
+        assert_at(rt, writer.written().is_empty(), "no text", call);
     }
 }
 
-/// Sources, and their refusal and its line where they have one; and the least number of growths.
-const SOURCES: [(&[u8], Option<(AsmKind, u64)>, u64); 5] = [
+fn the_flush_fails(rt: &impl Abort, alloc: Global, form: Form, text: &[u8], kind: ErrorKind) {
+    let mut reader = ARP;
+    let mut writer = FaultyWriter::<256>::new(Fault::Fails, 0);
+    writer.set_flush_fails(true);
+    writer.set_error(kind);
+    let result = asm(alloc, &mut reader, &mut writer, form);
+    assert!(rt; result == Err(ToolFault::Write));
+    assert!(rt; writer.written() == text);
+    assert!(rt; writer.flushes() == 1);
+}
+
+/// Nothing fails over a reader that gives pieces of this length.
+fn assembles(
+    rt: &impl Abort,
+    alloc: Global,
+    form: Form,
+    text: &[u8],
+    piece: usize,
+    reader: &mut FaultyReader<'_>,
+) {
+    let mut writer = FaultyWriter::<256>::new(Fault::Fails, 0);
+    let result = asm(alloc, reader, &mut writer, form);
+    assert_at(rt, result == Ok(()), "the answer", piece);
+    assert_at(rt, writer.written() == text, "the text", piece);
+    assert_at(rt, writer.flushes() == 1, "the flushes", piece);
+}
+
+/// Nothing fails, and a read gives so many bytes at most.
+fn none_fails(rt: &impl Abort, alloc: Global, form: Form, text: &[u8]) {
+    for piece in 1..60usize {
+        let mut reader = FaultyReader::new(ARP, piece, 0);
+        assembles(rt, alloc, form, text, piece, &mut reader);
+        // No read is made after the one that finds the end.
+        let reads = ARP.len().div_ceil(piece) as u64 + 1;
+        assert_at(rt, reader.calls() == reads, "the reads", piece);
+    }
+}
+
+fn in_one_form(rt: &impl Abort, alloc: Global, form: Form, text: &[u8]) {
+    for kind in KINDS {
+        each_read_fails(rt, alloc, form, kind);
+        the_flush_fails(rt, alloc, form, text, kind);
+    }
+    none_fails(rt, alloc, form, text);
+}
+
+#[test]
+fn each_read_or_flush_that_fails(rt: HostRuntime) {
+    for (form, text) in ARP_TEXTS {
+        in_one_form(&rt, rt.alloc(), form, text);
+    }
+}
+
+/// A source, its refusal and its line where it has one, and the least number of growths.
+type Source = (&'static [u8], Option<(AsmKind, u64)>, u64);
+
+const SOURCES: [Source; 5] = [
     (ARP, None, 4),
     (b"ret #0\nret ret\n", Some((AsmKind::Misplaced, 2)), 1),
     (b"", Some((AsmKind::NoInstruction, 1)), 0),
@@ -77,34 +110,69 @@ const SOURCES: [(&[u8], Option<(AsmKind, u64)>, u64); 5] = [
     (b"ret #0 /*", Some((AsmKind::OpenComment, 1)), 1),
 ];
 
+/// Whether the growth `nth` is refused: then nothing is written, and else this answer is given.
+fn is_refused(
+    rt: &impl Abort,
+    alloc: Global,
+    form: Form,
+    source: &[u8],
+    answer: (Result<(), ToolFault>, &[u8]),
+    row: usize,
+    nth: u64,
+) -> bool {
+    let alloc = RefusingAllocator::refusing(alloc, nth);
+    let mut reader = source;
+    let mut writer = FaultyWriter::<256>::new(Fault::Fails, 0);
+    let result = asm(&alloc, &mut reader, &mut writer, form);
+    let is_refused = alloc.left() == 0;
+    let answer = if is_refused {
+        (Err(ToolFault::Memory), b"".as_slice())
+    } else {
+        answer
+    };
+    let (wanted, text) = answer;
+    assert_at(rt, result == wanted, "the answer", (row, nth));
+    assert_at(rt, writer.written() == text, "the text", (row, nth));
+    is_refused
+}
+
+/// Each growth over a source is refused, one after another.
+fn each_growth_is_refused(
+    rt: &impl Abort,
+    alloc: Global,
+    form: Form,
+    text: &[u8],
+    source: Source,
+    row: usize,
+) {
+    let (source, refusal, least) = source;
+    let answer = match refusal {
+        None => (Ok(()), text),
+        Some((kind, line)) => (
+            Err(ToolFault::Source(AsmFault::At(kind, line))),
+            b"".as_slice(),
+        ),
+    };
+    let mut growths = 0u64;
+    for nth in 1..200u64 {
+        if !is_refused(rt, alloc, form, source, answer, row, nth) {
+            break;
+        }
+        growths = nth;
+    }
+    let are_enough = growths >= least && growths < 199;
+    assert_at(rt, are_enough, "the number of growths", (row, growths));
+}
+
+fn each_source(rt: &impl Abort, alloc: Global, form: Form, text: &[u8]) {
+    for (row, source) in SOURCES.iter().enumerate() {
+        each_growth_is_refused(rt, alloc, form, text, *source, row);
+    }
+}
+
 #[test]
 fn each_refused_growth_leaves_nothing_written(rt: HostRuntime) {
     for (form, text) in ARP_TEXTS {
-        for (row, (source, refusal, least)) in SOURCES.iter().enumerate() {
-            let mut growths = 0u64;
-            for nth in 1..200u64 {
-                let alloc = RefusingAllocator::refusing(rt.alloc(), nth);
-                let mut reader = *source;
-                let mut writer = FaultyWriter::<256>::new(Fault::Fails, 0);
-                let result = asm(&alloc, &mut reader, &mut writer, form);
-                let (wanted, written) = match refusal {
-                    _ if alloc.left() == 0 => (Err(ToolFault::Memory), b"".as_slice()),
-                    None => (Ok(()), text),
-                    Some((kind, line)) => {
-                        (
-                            Err(ToolFault::Source(AsmFault::At(*kind, *line))),
-                            b"".as_slice(),
-                        )
-                    }
-                };
-                assert!(rt; result == wanted, "row {row}, growth {nth}");
-                assert!(rt; writer.written() == written, "row {row}, growth {nth}");
-                if alloc.left() > 0 {
-                    break;
-                }
-                growths = nth;
-            }
-            assert!(rt; growths >= *least && growths < 199, "row {row}: {growths}");
-        }
+        each_source(&rt, rt.alloc(), form, text);
     }
 }

@@ -1,8 +1,10 @@
 // Each beginning of a source, with its number of instructions or its refusal.
 use cbpf_text::{AsmFault, AsmKind, assemble};
+use std::alloc::Global;
+use std::process::Abort;
 
 /// What a beginning is answered by.
-#[derive(Clone, Copy, PartialEq, Eq, Debug)]
+#[derive(Clone, Copy, PartialEq)]
 enum Answer {
     /// This many instructions.
     Assembled(usize),
@@ -64,24 +66,39 @@ const COMMENTS_ANSWERS: [(usize, Answer); 19] = [
     (108, Answer::Assembled(4)),
 ];
 
+fn answer_to(alloc: Global, source: &[u8]) -> Answer {
+    match assemble(alloc, source) {
+        Ok(list) => Answer::Assembled(list.len()),
+        Err(fault) => Answer::Refused(fault),
+    }
+}
+
+/// The beginnings from one length to another have this answer.
+fn have_answer(
+    rt: &impl Abort,
+    alloc: Global,
+    source: &[u8],
+    first: usize,
+    last: usize,
+    answer: Answer,
+) {
+    for len in first..=last {
+        assert!(rt; len <= source.len());
+        assert!(rt; answer_to(alloc, &source[..len]) == answer, "length {len}");
+    }
+}
+
+fn each_beginning(rt: &impl Abort, alloc: Global, source: &[u8], answers: &[(usize, Answer)]) {
+    let mut next: usize = 0;
+    for (last, answer) in answers {
+        have_answer(rt, alloc, source, next, *last, *answer);
+        next = last.saturating_add(1);
+    }
+    assert!(rt; next == source.len().saturating_add(1));
+}
+
 #[test]
 fn each_beginning_of_two_sources(rt: HostRuntime) {
-    for (source, answers) in [
-        (BRANCH, BRANCH_ANSWERS.as_slice()),
-        (COMMENTS, COMMENTS_ANSWERS.as_slice()),
-    ] {
-        let mut next: usize = 0;
-        for (last, answer) in answers {
-            for len in next..=*last {
-                assert!(rt; len <= source.len());
-                let got = match assemble(rt.alloc(), &source[..len]) {
-                    Ok(list) => Answer::Assembled(list.len()),
-                    Err(fault) => Answer::Refused(fault),
-                };
-                assert!(rt; got == *answer, "length {len}");
-            }
-            next = last.saturating_add(1);
-        }
-        assert_eq!(rt; next, source.len().saturating_add(1));
-    }
+    each_beginning(&rt, rt.alloc(), BRANCH, &BRANCH_ANSWERS);
+    each_beginning(&rt, rt.alloc(), COMMENTS, &COMMENTS_ANSWERS);
 }

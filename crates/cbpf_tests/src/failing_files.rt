@@ -2,12 +2,11 @@
 use crate::loaded::two_packets_as_k;
 use cbpf_tool::debug;
 use fault_injection::{Fault, FaultyWriter};
-use std::alloc::AllocError;
 
 // A name that is no text asks for no load, and neither is a wrong line one.
 #[test]
-fn the_chosen_load_fails_alone(rt: HostRuntime) -> Result<(), AllocError> {
-    let mut files = two_packets_as_k(rt.alloc())?;
+fn the_chosen_load_fails_alone(rt: HostRuntime) {
+    let mut files = two_packets_as_k(rt.alloc()).expect(&rt, "the files");
     files.fail_at(1);
     files.fail_at(3);
     let mut reader = b"load pcap \xff\nload pcap\nload pcap k\nload pcap j\n\
@@ -15,10 +14,9 @@ load bpf 1,6 0 0 1\nselect 2\nload pcap k\nmark\nload pcap k\nmark\n"
         .as_slice();
     let mut writer = FaultyWriter::<512>::new(Fault::Fails, 0);
     let result = debug(rt.alloc(), &mut reader, &mut writer, &mut files);
-    assert_eq!(rt; result, Ok(()));
+    assert!(rt; result == Ok(()));
     let wanted = b"error: Q2 wrong arguments\nerror: Q2 wrong arguments\npcap: 2 packets\n\
 error: F1 no such file\nbpf: 1 instructions\nat 2 0\nerror: F2 file could not be read\n2 0\n\
 pcap: 2 packets\n1 0\n";
     assert!(rt; writer.written() == wanted.as_slice());
-    Ok(())
 }

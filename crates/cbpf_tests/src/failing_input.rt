@@ -1,7 +1,10 @@
 // A reader that gives a few bytes a call, and fails at one call.
+use crate::places::assert_at;
 use cbpf_tool::{MemoryFiles, ToolFault, debug};
 use fault_injection::{Fault, FaultyReader, FaultyWriter};
+use std::alloc::Global;
 use std::io::ErrorKind;
+use std::process::Abort;
 
 /// A program of four instructions and its dump.
 const ARP: &[u8] = b"load bpf 4,40 0 0 12,21 0 1 2054,6 0 0 4294967295,6 0 0 0,\ndump\nquit\n";
@@ -17,6 +20,60 @@ const ARP_REPLIES: &[u8] = b"bpf: 4 instructions\n\
 /// What the first line of `ARP` writes.
 const ARP_FIRST_REPLY: &[u8] = b"bpf: 4 instructions\n";
 
+/// The debugger over no files.
+fn run(
+    alloc: Global,
+    reader: &mut FaultyReader<'_>,
+    writer: &mut FaultyWriter<256>,
+) -> Result<(), ToolFault> {
+    let mut files = MemoryFiles::new(alloc);
+    debug(alloc, reader, writer, &mut files)
+}
+
+/// One read after another fails.
+fn each_read_fails(rt: &impl Abort, alloc: Global, kind: ErrorKind) {
+    for call in 1..=ARP.len() {
+        let mut reader = FaultyReader::new(ARP, 1, call as u64);
+        reader.set_error(kind);
+        let mut writer = FaultyWriter::<256>::new(Fault::Fails, 0);
+        let result = run(alloc, &mut reader, &mut writer);
+        assert_at(rt, result == Err(ToolFault::Read), "the fault", call);
+        assert_at(
+            rt,
+            reader.calls() == call as u64,
+            "the reads up to a fault",
+            call,
+        );
+        assert_at(
+            rt,
+            writer.written() == replies_before(call),
+            "the replies before a fault",
+            call,
+        );
+    }
+}
+
+/// The replies to the lines that end before this read.
+fn replies_before(call: usize) -> &'static [u8] {
+    // The first line takes 59 bytes, and the first two take 64.
+    match call {
+        0..=59 => b"",
+        60..=64 => ARP_FIRST_REPLY,
+        _ => ARP_REPLIES,
+    }
+}
+
+/// No read fails, and each gives so many bytes at most.
+fn none_fails(rt: &impl Abort, alloc: Global) {
+    for piece in 1..80usize {
+        let mut reader = FaultyReader::new(ARP, piece, 0);
+        let mut writer = FaultyWriter::<256>::new(Fault::Fails, 0);
+        let result = run(alloc, &mut reader, &mut writer);
+        assert_at(rt, result == Ok(()), "the answer", piece);
+        assert_at(rt, writer.written() == ARP_REPLIES, "the replies", piece);
+    }
+}
+
 #[test]
 fn each_read_that_fails_leaves_the_replies_to_the_whole_lines_before_it(rt: HostRuntime) {
     for kind in [
@@ -24,29 +81,7 @@ fn each_read_that_fails_leaves_the_replies_to_the_whole_lines_before_it(rt: Host
         ErrorKind::Interrupted,
         ErrorKind::OutOfMemory,
     ] {
-        for call in 1..=ARP.len() {
-            let mut reader = FaultyReader::new(ARP, 1, call as u64);
-            reader.set_error(kind);
-            let mut writer = FaultyWriter::<256>::new(Fault::Fails, 0);
-            let mut files = MemoryFiles::new(rt.alloc());
-            let result = debug(rt.alloc(), &mut reader, &mut writer, &mut files);
-            assert!(rt; result == Err(ToolFault::Read), "{call}");
-            assert!(rt; reader.calls() == call as u64, "{call}");
-            // The first line takes 59 bytes, and the first two take 64.
-            let wanted = match call {
-                0..=59 => b"",
-                60..=64 => ARP_FIRST_REPLY,
-                _ => ARP_REPLIES,
-            };
-            assert!(rt; writer.written() == wanted, "{call}");
-        }
+        each_read_fails(&rt, rt.alloc(), kind);
     }
-    for piece in 1..80usize {
-        let mut reader = FaultyReader::new(ARP, piece, 0);
-        let mut writer = FaultyWriter::<256>::new(Fault::Fails, 0);
-        let mut files = MemoryFiles::new(rt.alloc());
-        let result = debug(rt.alloc(), &mut reader, &mut writer, &mut files);
-        assert!(rt; result == Ok(()), "{piece}");
-        assert!(rt; writer.written() == ARP_REPLIES, "{piece}");
-    }
+    none_fails(&rt, rt.alloc());
 }

@@ -1,11 +1,13 @@
 // The calls that write, over writers that take one byte a call, and fail or take nothing at one call.
 use crate::loaded::{ICMP_WORDS, program_of, two_packets_as_k};
+use crate::places::assert_at;
 use cbpf_code::{write_bytes, write_c, write_words};
 use cbpf_text::write_listing;
 use cbpf_tool::{Form, ToolFault, asm, debug};
 use fault_injection::{Fault, FaultyWriter};
 use std::alloc::Global;
 use std::io::ErrorKind;
+use std::process::Abort;
 
 /// How a write goes wrong.
 const FAULTS: [(Fault, ErrorKind); 4] = [
@@ -122,51 +124,105 @@ l5:\tret #0\n",
     (Call::Debug, REPLIES),
 ];
 
-fn write(alloc: Global, call: Call, w: &mut FaultyWriter<2048>) -> Result<(), ToolFault> {
-    let words = match call {
-        Call::Words(words) => words,
-        _ => ICMP_WORDS,
-    };
+fn write_program(
+    alloc: Global,
+    call: Call,
+    words: &[u8],
+    w: &mut FaultyWriter<2048>,
+) -> Result<(), ToolFault> {
     let Ok(program) = program_of(alloc, words) else {
         return Err(ToolFault::Memory);
     };
+    let written = match call {
+        Call::C => write_c(w, program.as_slice()),
+        Call::Listing => write_listing(w, &program),
+        _ => write_words(w, program.as_slice()),
+    };
+    match written {
+        Ok(()) => Ok(()),
+        Err(_) => Err(ToolFault::Write),
+    }
+}
+
+fn write_session(alloc: Global, w: &mut FaultyWriter<2048>) -> Result<(), ToolFault> {
     let Ok(mut files) = two_packets_as_k(alloc) else {
         return Err(ToolFault::Memory);
     };
-    let mut source = SOURCE;
     let mut script = SESSION;
-    let written = match call {
-        Call::Bytes => write_bytes(w, SOURCE),
-        Call::Words(_) => write_words(w, program.as_slice()),
-        Call::C => write_c(w, program.as_slice()),
-        Call::Listing => write_listing(w, &program),
-        Call::Asm(form) => return asm(alloc, &mut source, w, form),
-        Call::Debug => return debug(alloc, &mut script, w, &mut files),
-    };
-    if written.is_ok() {
-        Ok(())
-    } else {
-        Err(ToolFault::Write)
+    debug(alloc, &mut script, w, &mut files)
+}
+
+fn write(alloc: Global, call: Call, w: &mut FaultyWriter<2048>) -> Result<(), ToolFault> {
+    match call {
+        Call::Bytes => match write_bytes(w, SOURCE) {
+            Ok(()) => Ok(()),
+            Err(_) => Err(ToolFault::Write),
+        },
+        Call::Words(words) => write_program(alloc, call, words, w),
+        Call::C | Call::Listing => write_program(alloc, call, ICMP_WORDS, w),
+        Call::Asm(form) => {
+            let mut source = SOURCE;
+            asm(alloc, &mut source, w, form)
+        }
+        Call::Debug => write_session(alloc, w),
+    }
+}
+
+/// No write goes wrong.
+fn none_goes_wrong(rt: &impl Abort, alloc: Global, call: Call, text: &[u8]) {
+    let mut writer = FaultyWriter::new(Fault::Fails, 0);
+    assert_at(
+        rt,
+        write(alloc, call, &mut writer) == Ok(()),
+        "the answer",
+        call,
+    );
+    assert_at(rt, writer.written() == text, "the text", call);
+    assert_at(rt, writer.calls() == text.len() as u64, "the writes", call);
+}
+
+/// A write goes wrong after these bytes.
+fn goes_wrong(
+    rt: &impl Abort,
+    alloc: Global,
+    call: Call,
+    text: &[u8],
+    writer: &mut FaultyWriter<2048>,
+) {
+    let i = text.len();
+    let result = write(alloc, call, writer);
+    assert_at(rt, result == Err(ToolFault::Write), "the fault", (call, i));
+    assert_at(rt, writer.written() == text, "the text", (call, i));
+    assert_at(rt, writer.calls() == i as u64 + 1, "the writes", (call, i));
+}
+
+/// One write after another goes wrong.
+fn each_goes_wrong(
+    rt: &impl Abort,
+    alloc: Global,
+    call: Call,
+    text: &[u8],
+    fault: Fault,
+    kind: ErrorKind,
+) {
+    for i in 0..text.len() {
+        let mut writer = FaultyWriter::new(fault, i as u64 + 1);
+        writer.set_error(kind);
+        goes_wrong(rt, alloc, call, &text[..i], &mut writer);
+    }
+}
+
+fn each_fault(rt: &impl Abort, alloc: Global, call: Call, text: &[u8]) {
+    for (fault, kind) in FAULTS {
+        each_goes_wrong(rt, alloc, call, text, fault, kind);
     }
 }
 
 // After the write that went wrong exactly the bytes before it were written, and no write is tried again.
 #[test]
 fn a_write_that_goes_wrong_is_the_last_one(rt: HostRuntime) {
-    for (call, text) in CALLS {
-        let mut writer = FaultyWriter::new(Fault::Fails, 0);
-        assert!(rt; write(rt.alloc(), call, &mut writer) == Ok(()), "{call:?}");
-        assert!(rt; writer.written() == text, "{call:?}");
-        assert!(rt; writer.calls() == text.len() as u64, "{call:?}");
-        for (fault, kind) in FAULTS {
-            for i in 0..text.len() {
-                let mut writer = FaultyWriter::new(fault, i as u64 + 1);
-                writer.set_error(kind);
-                let result = write(rt.alloc(), call, &mut writer);
-                assert!(rt; result == Err(ToolFault::Write), "{call:?}, byte {i}");
-                assert!(rt; writer.written() == &text[..i], "{call:?}, byte {i}");
-                assert!(rt; writer.calls() == i as u64 + 1, "{call:?}, byte {i}");
-            }
-        }
+    for (call, text) in CALLS.iter() {
+        none_goes_wrong(&rt, rt.alloc(), *call, text);
+        each_fault(&rt, rt.alloc(), *call, text);
     }
 }

@@ -17,6 +17,8 @@ mod failing_writes;
 #[cfg(test)]
 mod loaded;
 #[cfg(test)]
+mod places;
+#[cfg(test)]
 mod refused_calls;
 #[cfg(test)]
 mod refused_growth;

@@ -66,16 +66,23 @@ pub fn program_of<A: Allocator>(alloc: A, words: &[u8]) -> Result<Program<A>, Al
     }
 }
 
+/// The capture of two packets.
+pub fn two_packets<A: Allocator + Copy>(alloc: A) -> Result<Capture<A>, AllocError> {
+    match Capture::from_bytes(alloc, Vec::from_slice(alloc, TWO_PACKETS)?) {
+        Ok(capture) => Ok(capture),
+        Err(_) => Err(AllocError),
+    }
+}
+
 /// A session over this word text and both packets.
 pub fn session_of<A: Allocator + Copy>(
     alloc: A,
     words: &[u8],
 ) -> Result<Session<MarkTrail, A>, AllocError> {
+    let program = program_of(alloc, words)?;
+    let capture = two_packets(alloc)?;
     let mut session = Session::new(alloc, MarkTrail::new());
-    session.load_program(program_of(alloc, words)?);
-    let Ok(capture) = Capture::from_bytes(alloc, Vec::from_slice(alloc, TWO_PACKETS)?) else {
-        return Err(AllocError);
-    };
+    session.load_program(program);
     session.load_capture(capture);
     Ok(session)
 }

@@ -1,8 +1,10 @@
 // Scripts of which each growth is refused, one after another.
 use crate::loaded::two_packets_as_k;
+use crate::places::assert_at;
 use cbpf_tool::{ToolFault, debug};
 use fault_injection::{Fault, FaultyWriter, RefusingAllocator};
-use std::alloc::AllocError;
+use std::alloc::Global;
+use std::process::Abort;
 
 const LOADS: &[u8] = b"load bpf 1,6 0 0 1\nload pcap k\nrun\nquit\n";
 
@@ -15,12 +17,10 @@ const COUNTS: &[u8] = b"bpf: 1 instructions\npcap: 2 packets\nbpf passes:2 fails
 
 /// A script, its replies where no growth is refused, the least number of growths, and what it writes where
 /// this growth is refused and the script goes on.
-type Row = (
-    &'static [u8],
-    &'static [u8],
-    u64,
-    &'static [(u64, &'static [u8])],
-);
+type Row = (&'static [u8], &'static [u8], u64, &'static [Refused]);
+
+/// A growth, and what is written where it is refused.
+type Refused = (u64, &'static [u8]);
 
 const SCRIPTS: [Row; 5] = [
     (
@@ -78,35 +78,73 @@ breakpoints: 0(x=7)\n",
     ),
 ];
 
+/// What is to be written where the growth `nth` is refused, where that is said.
+fn text_after(refused: &[Refused], nth: u64) -> Option<&'static [u8]> {
+    for (growth, text) in refused {
+        if *growth == nth {
+            return Some(text);
+        }
+    }
+    None
+}
+
+/// Whether the growth `nth` is refused, and then out of memory is found.
+fn is_refused(rt: &impl Abort, alloc: Global, script: &Row, row: usize, nth: u64) -> bool {
+    let (script, replies, _, refused) = *script;
+    let mut files = two_packets_as_k(alloc).expect(rt, "the files");
+    let alloc = RefusingAllocator::refusing(alloc, nth);
+    let mut reader = script;
+    let mut writer = FaultyWriter::<256>::new(Fault::Fails, 0);
+    let result = debug(&alloc, &mut reader, &mut writer, &mut files);
+    let is_whole = result == Ok(()) && writer.written() == replies;
+    let is_refused = alloc.left() == 0;
+    assert_at(rt, is_whole != is_refused, "the whole text", (row, nth));
+    if !is_whole {
+        after_refusal(
+            rt,
+            result,
+            writer.written(),
+            text_after(refused, nth),
+            row,
+            nth,
+        );
+    }
+    !is_whole
+}
+
+fn after_refusal(
+    rt: &impl Abort,
+    answer: Result<(), ToolFault>,
+    written: &[u8],
+    wanted: Option<&[u8]>,
+    row: usize,
+    nth: u64,
+) {
+    let is_known = matches!(answer, Ok(()) | Err(ToolFault::Memory));
+    assert_at(rt, is_known, "success or no memory", (row, nth));
+    if let Some(text) = wanted {
+        assert_at(rt, answer == Ok(()), "the answer", (row, nth));
+        assert_at(rt, written == text, "the text", (row, nth));
+    }
+}
+
+/// Each growth of a script is refused, one after another.
+fn each_is_refused(rt: &impl Abort, alloc: Global, script: &Row, row: usize) {
+    let mut growths = 0u64;
+    for nth in 1..100u64 {
+        if !is_refused(rt, alloc, script, row, nth) {
+            break;
+        }
+        growths = nth;
+    }
+    let least = script.2;
+    assert!(rt; least <= growths && growths < 99, "row {row}: {growths}");
+}
+
 // Out of memory is a fault of the script, or the reply to a line, and neither comes of itself.
 #[test]
-fn each_growth_of_a_script(rt: HostRuntime) -> Result<(), AllocError> {
-    for (row, (script, replies, least, refused)) in SCRIPTS.iter().enumerate() {
-        let mut growths = 0u64;
-        for nth in 1..100u64 {
-            let mut files = two_packets_as_k(rt.alloc())?;
-            let alloc = RefusingAllocator::refusing(rt.alloc(), nth);
-            let mut reader = *script;
-            let mut writer = FaultyWriter::<256>::new(Fault::Fails, 0);
-            let result = debug(&alloc, &mut reader, &mut writer, &mut files);
-            let is_whole = result == Ok(()) && writer.written() == *replies;
-            assert!(rt; is_whole == (alloc.left() > 0), "row {row}, growth {nth}");
-            if is_whole {
-                break;
-            }
-            assert!(rt;
-                matches!(result, Ok(()) | Err(ToolFault::Memory)),
-                "row {row}"
-            );
-            for (growth, text) in *refused {
-                if *growth == nth {
-                    assert!(rt; result == Ok(()), "row {row}, growth {nth}");
-                    assert!(rt; writer.written() == *text, "row {row}, growth {nth}");
-                }
-            }
-            growths = nth;
-        }
-        assert!(rt; *least <= growths && growths < 99, "row {row}: {growths}");
+fn each_growth_of_a_script(rt: HostRuntime) {
+    for (row, script) in SCRIPTS.iter().enumerate() {
+        each_is_refused(&rt, rt.alloc(), script, row);
     }
-    Ok(())
 }

@@ -1,14 +1,16 @@
 // A reader that gives a line a call, and a writer, which share a count: before each read that waits, all
 // replies to the lines so far are written and flushed, and after a flush that fails nothing is read.
 use crate::loaded::two_packets_as_k;
+use crate::places::assert_at;
 use cbpf_tool::{ToolFault, debug};
-use std::alloc::AllocError;
+use std::alloc::Global;
 use std::cell::Cell;
 use std::io;
 use std::io::{ErrorKind, Read, Write};
+use std::process::Abort;
 
 /// How many bytes were written, and how many of these were flushed.
-#[derive(Clone, Copy, PartialEq, Eq, Debug)]
+#[derive(Clone, Copy, PartialEq)]
 struct Progress {
     written: u64,
     flushed: u64,
@@ -102,61 +104,100 @@ const EXCHANGES: [Exchange; 9] = [
 /// The first lines that end in the middle of one: it is answered after the read that finds the end.
 const CUT: usize = 6;
 
-// Each number of lines, with no flush that fails (0), and with each flush that fails.
-#[test]
-fn each_reply_is_flushed_before_the_next_read_or_nothing_more_is_read(
-    rt: HostRuntime,
-) -> Result<(), AllocError> {
-    let exchanges = EXCHANGES.as_slice();
-    for count in 0..=exchanges.len() {
-        // After `quit` nothing is read; else the read that finds the end is one more.
-        let reads = (count as u64).saturating_add(u64::from(count < exchanges.len()));
-        for failing in 0..reads.saturating_add(2) {
-            for error in [
-                ErrorKind::Other,
-                ErrorKind::Interrupted,
-                ErrorKind::OutOfMemory,
-            ] {
-                let progress = Cell::new(Progress {
-                    written: 0,
-                    flushed: 0,
-                });
-                let mut reader = WaitingReader {
-                    exchanges: exchanges.get(..count).unwrap_or(exchanges),
-                    progress: &progress,
-                    replies: 0,
-                    reads: 0,
-                    late: 0,
-                };
-                let mut writer = CountingWriter {
-                    progress: &progress,
-                    flushes: 0,
-                    failing,
-                    error,
-                };
-                let mut files = two_packets_as_k(rt.alloc())?;
-                let result = debug(rt.alloc(), &mut reader, &mut writer, &mut files);
-                let (wanted, flushes, made) = if failing == 0 {
-                    // One before each read, and one before `Ok`.
-                    (Ok(()), reads.saturating_add(1), reads)
-                } else {
-                    (
-                        Err(ToolFault::Write),
-                        failing,
-                        reads.min(failing.saturating_sub(1)),
-                    )
-                };
-                assert!(rt; result == wanted, "{count} {failing}");
-                assert!(rt; writer.flushes == flushes, "{count} {failing}");
-                assert!(rt; reader.reads as u64 == made, "{count} {failing}");
-                assert!(rt; reader.late == 0, "{count} {failing}");
-                let done = progress.get();
-                assert!(rt; failing > 0 || done.flushed == done.written, "{count}");
-                if count != CUT || (failing > 0 && failing <= reads) {
-                    assert!(rt; done.written == reader.replies, "{count} {failing}");
-                }
-            }
-        }
+/// What is answered, and the numbers of flushes and of reads, where so many reads would be made.
+fn wanted(reads: u64, failing: u64) -> (Result<(), ToolFault>, u64, u64) {
+    if failing == 0 {
+        // One before each read, and one before `Ok`.
+        (Ok(()), reads.saturating_add(1), reads)
+    } else {
+        let made = reads.min(failing.saturating_sub(1));
+        (Err(ToolFault::Write), failing, made)
     }
-    Ok(())
+}
+
+fn check_calls(
+    rt: &impl Abort,
+    count: usize,
+    failing: u64,
+    wanted: (Result<(), ToolFault>, u64, u64),
+    outcome: Result<(), ToolFault>,
+    reader: &WaitingReader<'_>,
+    writer: &CountingWriter<'_>,
+) {
+    let (answer, flushes, made) = wanted;
+    let place = (count, failing);
+    assert_at(rt, outcome == answer, "the answer", place);
+    assert_at(rt, writer.flushes == flushes, "the flushes", place);
+    assert_at(rt, reader.reads as u64 == made, "the reads", place);
+    assert_at(rt, reader.late == 0, "late replies", place);
+}
+
+/// What is written at the end, of the replies to the lines that were read.
+fn check_written(
+    rt: &impl Abort,
+    count: usize,
+    failing: u64,
+    reads: u64,
+    replies: u64,
+    done: Progress,
+) {
+    let place = (count, failing);
+    let is_flushed = failing > 0 || done.flushed == done.written;
+    assert_at(rt, is_flushed, "the flushed text", place);
+    if count != CUT || (failing > 0 && failing <= reads) {
+        assert_at(rt, done.written == replies, "the text", place);
+    }
+}
+
+/// A run over so many lines, with a flush that fails or none.
+fn run(rt: &impl Abort, alloc: Global, count: usize, reads: u64, failing: u64, error: ErrorKind) {
+    let progress = Cell::new(Progress {
+        written: 0,
+        flushed: 0,
+    });
+    let mut reader = WaitingReader {
+        exchanges: EXCHANGES.get(..count).unwrap_or(&EXCHANGES),
+        progress: &progress,
+        replies: 0,
+        reads: 0,
+        late: 0,
+    };
+    let mut writer = CountingWriter {
+        progress: &progress,
+        flushes: 0,
+        failing,
+        error,
+    };
+    let mut files = two_packets_as_k(alloc).expect(rt, "the files");
+    let outcome = debug(alloc, &mut reader, &mut writer, &mut files);
+    let wanted = wanted(reads, failing);
+    check_calls(rt, count, failing, wanted, outcome, &reader, &writer);
+    check_written(rt, count, failing, reads, reader.replies, progress.get());
+}
+
+fn each_error(rt: &impl Abort, alloc: Global, count: usize, reads: u64, failing: u64) {
+    for error in [
+        ErrorKind::Other,
+        ErrorKind::Interrupted,
+        ErrorKind::OutOfMemory,
+    ] {
+        run(rt, alloc, count, reads, failing, error);
+    }
+}
+
+/// With no flush that fails (0), and with each flush that fails.
+fn each_flush(rt: &impl Abort, alloc: Global, count: usize) {
+    // After `quit` nothing is read; else the read that finds the end is one more.
+    let reads = (count as u64).saturating_add(u64::from(count < EXCHANGES.len()));
+    for failing in 0..reads.saturating_add(2) {
+        each_error(rt, alloc, count, reads, failing);
+    }
+}
+
+// Each number of lines.
+#[test]
+fn each_reply_is_flushed_before_the_next_read_or_nothing_more_is_read(rt: HostRuntime) {
+    for count in 0..=EXCHANGES.len() {
+        each_flush(&rt, rt.alloc(), count);
+    }
 }
