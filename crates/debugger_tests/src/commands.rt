@@ -1,30 +1,87 @@
+use crate::assertions::assert_at;
 use cbpf_code::Ext;
 use cbpf_command::{Command, LineRefusal, command_of};
+use std::process::Abort;
 
-/// Whether two commands are one, with the same arguments.
-fn is_same(a: Command<'_>, b: Command<'_>) -> bool {
+/// Whether both load the same text.
+fn is_same_load(a: Command<'_>, b: Command<'_>) -> bool {
     match (a, b) {
         (Command::LoadWords(x), Command::LoadWords(y)) => x == y,
         (Command::LoadCapture(x), Command::LoadCapture(y)) => x == y,
+        _ => false,
+    }
+}
+
+/// Whether both are the same command with the same number, of those that have one.
+fn is_same_of_one_number(a: Command<'_>, b: Command<'_>) -> bool {
+    match (a, b) {
         (Command::Run(x), Command::Run(y)) => x == y,
         (Command::Breakpoint(x), Command::Breakpoint(y)) => x == y,
-        (Command::BreakpointWhenA(x, v), Command::BreakpointWhenA(y, w)) => x == y && v == w,
-        (Command::BreakpointWhenX(x, v), Command::BreakpointWhenX(y, w)) => x == y && v == w,
         (Command::Delete(x), Command::Delete(y)) => x == y,
         (Command::Step(x), Command::Step(y)) => x == y,
         (Command::Select(x), Command::Select(y)) => x == y,
+        _ => false,
+    }
+}
+
+/// Whether both are the same command with the same arguments, of those that have two.
+fn is_same_of_two_arguments(a: Command<'_>, b: Command<'_>) -> bool {
+    match (a, b) {
+        (Command::BreakpointWhenA(x, v), Command::BreakpointWhenA(y, w)) => x == y && v == w,
+        (Command::BreakpointWhenX(x, v), Command::BreakpointWhenX(y, w)) => x == y && v == w,
         (Command::Resume { packet: x, step: v }, Command::Resume { packet: y, step: w }) => {
             x == y && v == w
         }
         (Command::Value(e, v), Command::Value(f, w)) => e == f && v == w,
-        (Command::Disassemble, Command::Disassemble) => true,
-        (Command::Dump, Command::Dump) => true,
-        (Command::Breakpoints, Command::Breakpoints) => true,
-        (Command::ResetBreakpoints, Command::ResetBreakpoints) => true,
-        (Command::Mark, Command::Mark) => true,
-        (Command::Stops, Command::Stops) => true,
-        (Command::Quit, Command::Quit) => true,
         _ => false,
+    }
+}
+
+/// Whether both are the same command, of those that have no arguments.
+fn is_same_alone(a: Command<'_>, b: Command<'_>) -> bool {
+    match a {
+        Command::Disassemble => matches!(b, Command::Disassemble),
+        Command::Dump => matches!(b, Command::Dump),
+        Command::Breakpoints => matches!(b, Command::Breakpoints),
+        Command::ResetBreakpoints => matches!(b, Command::ResetBreakpoints),
+        Command::Mark => matches!(b, Command::Mark),
+        Command::Stops => matches!(b, Command::Stops),
+        Command::Quit => matches!(b, Command::Quit),
+        _ => false,
+    }
+}
+
+/// Whether two commands are one, with the same arguments.
+fn is_same(a: Command<'_>, b: Command<'_>) -> bool {
+    is_same_load(a, b)
+        || is_same_of_one_number(a, b)
+        || is_same_of_two_arguments(a, b)
+        || is_same_alone(a, b)
+}
+
+/// Whether a line is this command.
+fn is_command(line: &[u8], wanted: Command<'_>) -> bool {
+    match command_of(line) {
+        Ok(Some(found)) => is_same(found, wanted),
+        _ => false,
+    }
+}
+
+/// Whether a line is refused in this way.
+fn is_refused(line: &[u8], wanted: LineRefusal) -> bool {
+    match command_of(line) {
+        Err(found) => found == wanted,
+        Ok(_) => false,
+    }
+}
+
+fn is_blank(line: &[u8]) -> bool {
+    matches!(command_of(line), Ok(None))
+}
+
+fn assert_refused(rt: &impl Abort, lines: &[&[u8]], wanted: LineRefusal) {
+    for (i, line) in lines.iter().enumerate() {
+        assert_at(rt, i, is_refused(line, wanted));
     }
 }
 
@@ -119,11 +176,7 @@ const COMMANDS: &[(&[u8], Command<'static>)] = &[
 #[test]
 fn lines_that_are_commands(rt: HostRuntime) {
     for (i, (line, wanted)) in COMMANDS.iter().enumerate() {
-        let found = command_of(line);
-        assert!(rt;
-            matches!(found, Ok(Some(found)) if is_same(found, *wanted)),
-            "row {i}"
-        );
+        assert_at(&rt, i, is_command(line, *wanted));
     }
 }
 
@@ -154,7 +207,7 @@ const UNKNOWN: &[&[u8]] = &[
     b"hello",
 ];
 
-const WRONG: &[&[u8]] = &[
+const WRONG_LOADS: &[&[u8]] = &[
     b"quit x",
     b"dump 0",
     b"disassemble 0",
@@ -168,6 +221,9 @@ const WRONG: &[&[u8]] = &[
     b"load x y",
     b"load BPF 0,",
     b"load pcap \xff",
+];
+
+const WRONG_RUNS: &[&[u8]] = &[
     b"run 18446744073709551616",
     b"run 18446744073709551617",
     b"run 184467440737095516150",
@@ -182,6 +238,9 @@ const WRONG: &[&[u8]] = &[
     b"run 1\x0b",
     b"run 1\xff",
     b"run 1 2",
+];
+
+const WRONG_STEPS: &[&[u8]] = &[
     b"step 9223372036854775808",
     b"step +9223372036854775808",
     b"step -9223372036854775808",
@@ -197,6 +256,9 @@ const WRONG: &[&[u8]] = &[
     b"step + 1",
     b"step 1 2",
     b"step x",
+];
+
+const WRONG_BREAKPOINTS: &[&[u8]] = &[
     b"breakpoint 18446744073709551616",
     b"breakpoint +1",
     b"breakpoint -1",
@@ -211,6 +273,9 @@ const WRONG: &[&[u8]] = &[
     b"breakpoint 1 a 5 6",
     b"breakpoint 1 a 5 a 5",
     b"breakpoint reset a 1",
+];
+
+const WRONG_CONDITIONS: &[&[u8]] = &[
     b"breakpoint 1 m 0",
     b"breakpoint 1 A 5",
     b"breakpoint 1 X 5",
@@ -226,6 +291,9 @@ const WRONG: &[&[u8]] = &[
     b"breakpoint 1 x 0x5",
     b"breakpoint x 1 5",
     b"breakpoint 1 5 a",
+];
+
+const WRONG_PLACES: &[&[u8]] = &[
     b"delete",
     b"delete -1",
     b"delete 1 2",
@@ -246,6 +314,9 @@ const WRONG: &[&[u8]] = &[
     b"resume 1 +1",
     b"resume +1 0",
     b"resume 1 x",
+];
+
+const WRONG_VALUES: &[&[u8]] = &[
     b"value",
     b"value mark",
     b"value mark 4294967296",
@@ -259,23 +330,31 @@ const WRONG: &[&[u8]] = &[
     b"value mar 1",
 ];
 
+fn assert_wrong_loads_and_runs(rt: &impl Abort) {
+    assert_refused(rt, WRONG_LOADS, LineRefusal::WrongArguments);
+    assert_refused(rt, WRONG_RUNS, LineRefusal::WrongArguments);
+}
+
+fn assert_wrong_steps_and_breakpoints(rt: &impl Abort) {
+    assert_refused(rt, WRONG_STEPS, LineRefusal::WrongArguments);
+    assert_refused(rt, WRONG_BREAKPOINTS, LineRefusal::WrongArguments);
+}
+
+fn assert_wrong_conditions(rt: &impl Abort) {
+    assert_refused(rt, WRONG_CONDITIONS, LineRefusal::WrongArguments);
+}
+
+fn assert_wrong_places_and_values(rt: &impl Abort) {
+    assert_refused(rt, WRONG_PLACES, LineRefusal::WrongArguments);
+    assert_refused(rt, WRONG_VALUES, LineRefusal::WrongArguments);
+}
+
 #[test]
 fn lines_that_are_none(rt: HostRuntime) {
-    for line in [b"".as_slice(), b" \t\r", b"\r"] {
-        assert!(rt; matches!(command_of(line), Ok(None)));
-    }
-    for (i, line) in UNKNOWN.iter().enumerate() {
-        let found = command_of(line);
-        assert!(rt;
-            matches!(found, Err(LineRefusal::UnknownCommand)),
-            "row {i}"
-        );
-    }
-    for (i, line) in WRONG.iter().enumerate() {
-        let found = command_of(line);
-        assert!(rt;
-            matches!(found, Err(LineRefusal::WrongArguments)),
-            "row {i}"
-        );
-    }
+    assert!(rt; is_blank(b"") && is_blank(b" \t\r") && is_blank(b"\r"));
+    assert_refused(&rt, UNKNOWN, LineRefusal::UnknownCommand);
+    assert_wrong_loads_and_runs(&rt);
+    assert_wrong_steps_and_breakpoints(&rt);
+    assert_wrong_conditions(&rt);
+    assert_wrong_places_and_values(&rt);
 }

@@ -3,6 +3,8 @@
 #![tactic(auto)]
 
 #[cfg(test)]
+mod assertions;
+#[cfg(test)]
 mod captures;
 #[cfg(test)]
 mod commands;
@@ -11,6 +13,10 @@ mod machine;
 #[cfg(test)]
 mod machine_trail;
 #[cfg(test)]
+mod programs;
+#[cfg(test)]
 mod sessions;
 #[cfg(test)]
 mod stop_dump;
+#[cfg(test)]
+mod two_packets;

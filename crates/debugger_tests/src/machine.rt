@@ -1,24 +1,9 @@
-use cbpf_code::{Ext, Insn, Program, check};
+use crate::assertions::assert_at;
+use crate::programs::{Code, program_of};
+use cbpf_code::{Ext, Insn, Program};
 use cbpf_machine::{Meter, Outcome, Packet, State, Turn, Values, asks, run_packet, turn};
 use std::alloc::Global;
 use std::process::Abort;
-
-/// Code, jt, jf and k of an instruction.
-type Code = (u16, u8, u8, u32);
-
-fn program(rt: &impl Abort, alloc: Global, list: &[Code]) -> Program {
-    let mut all = Vec::new(alloc);
-    for (code, jt, jf, k) in list {
-        let insn = Insn {
-            code: *code,
-            jt: *jt,
-            jf: *jf,
-            k: *k,
-        };
-        all.push(insn).expect(rt, "memory");
-    }
-    check(all).ok().expect(rt, "a program")
-}
 
 /// How a packet ends.
 fn outcome(
@@ -28,7 +13,7 @@ fn outcome(
     packet: Packet<'_>,
     values: &Values,
 ) -> Outcome {
-    let p = program(rt, alloc, list);
+    let p = program_of(rt, alloc, list);
     run_packet(&mut Meter::new(), &p, packet, values)
 }
 
@@ -121,44 +106,56 @@ fn worked_programs(rt: HostRuntime) {
     for (i, (list, bytes, wire, wanted)) in WORKED.iter().enumerate() {
         let packet = Packet { bytes, wire: *wire };
         let found = outcome(&rt, rt.alloc(), list, packet, &Values::new());
-        assert!(rt; found == *wanted, "row {i}");
+        assert_at(&rt, i, found == *wanted);
     }
 }
 
-#[test]
-fn turns_one_by_one(rt: HostRuntime) {
-    let list = [
-        (1, 0, 0, 9),
-        (3, 0, 0, 5),
-        (97, 0, 0, 5),
-        (135, 0, 0, 0),
-        (53, 0, 1, 10),
-        (6, 0, 0, 0),
-        (22, 0, 0, 0),
-    ];
-    let p = program(&rt, rt.alloc(), &list);
+const REGISTERS_AND_A_SLOT: &[Code] = &[
+    (1, 0, 0, 9),
+    (3, 0, 0, 5),
+    (97, 0, 0, 5),
+    (135, 0, 0, 0),
+    (53, 0, 1, 10),
+    (6, 0, 0, 0),
+    (22, 0, 0, 0),
+];
+
+/// Where its turns lead, and A, X and slot 5 there.
+const TURNS: [(u32, u32, u32, u32); 5] = [
+    (1, 0, 9, 0),
+    (2, 0, 9, 9),
+    (3, 0, 9, 9),
+    (4, 9, 9, 9),
+    (6, 9, 9, 9),
+];
+
+/// The state after a turn that does not end the packet, which has no bytes.
+fn next_state(rt: &impl Abort, p: &Program, meter: &mut Meter, s: &State) -> State {
     let packet = Packet {
         bytes: b"",
         wire: 0,
     };
+    assert!(rt; s.pc() < p.len() && meter.spent() < 5);
+    match turn(meter, p, packet, &Values::new(), s) {
+        Turn::Next(next) => next,
+        _ => panic!(rt; "the packet ends"),
+    }
+}
+
+fn is_at(s: &State, (pc, a, x, slot): (u32, u32, u32, u32)) -> bool {
+    (s.pc(), s.a(), s.x(), s.slot(5)) == (pc, a, x, slot) && s.slot(4) == 0
+}
+
+#[test]
+fn turns_one_by_one(rt: HostRuntime) {
+    let p = program_of(&rt, rt.alloc(), REGISTERS_AND_A_SLOT);
     let mut meter = Meter::new();
     let mut s = State::zero();
-    for (pc, a, x, slot) in [
-        (1, 0, 9, 0),
-        (2, 0, 9, 9),
-        (3, 0, 9, 9),
-        (4, 9, 9, 9),
-        (6, 9, 9, 9),
-    ] {
-        assert!(rt; s.pc() < p.len() && meter.spent() < 5);
-        match turn(&mut meter, &p, packet, &Values::new(), &s) {
-            Turn::Next(next) => s = next,
-            _ => assert!(rt; false),
-        }
-        assert!(rt; (s.pc(), s.a(), s.x(), s.slot(5)) == (pc, a, x, slot));
-        assert_eq!(rt; s.slot(4), 0);
+    for row in TURNS {
+        s = next_state(&rt, &p, &mut meter, &s);
+        assert!(rt; is_at(&s, row));
     }
-    assert_eq!(rt; meter.spent(), 5);
+    assert!(rt; meter.spent() == 5);
 }
 
 /// Each extension, the place from which a load asks for it, and a value for it, where it takes one.
@@ -180,88 +177,120 @@ const EXTENSIONS: [(Ext, u32, Option<u32>); 15] = [
     (Ext::VlanTpid, 4294963260, Some(34984)),
 ];
 
-/// Asserts what loads from an extension's place ask for and how they end, whatever their size: all bits of
-/// a value are loaded.
-fn assert_loads(rt: &impl Abort, alloc: Global, values: &Values, e: Ext, place: u32) {
-    let (asked, wanted) = match values.value_of(e) {
+/// What loads from an extension's place ask for, and how they end.
+fn asked_and_outcome(values: &Values, e: Ext) -> (Option<Ext>, Outcome) {
+    match values.value_of(e) {
         None => (Some(e), Outcome::Unknown(e)),
         Some(0) => (None, Outcome::Fail),
         Some(n) => (None, Outcome::Pass(n)),
-    };
+    }
+}
+
+/// How a packet of 60 bytes ends, of which a load from a place is returned.
+fn loaded(rt: &impl Abort, alloc: Global, values: &Values, code: u16, place: u32) -> Outcome {
+    let list = [(code, 0, 0, place), (22, 0, 0, 0)];
     let packet = Packet {
         bytes: &[7; 60],
         wire: 60,
     };
-    for code in [32, 40, 48] {
-        let list = [(code, 0, 0, place), (22, 0, 0, 0)];
-        assert!(rt;
-            outcome(rt, alloc, &list, packet, values) == wanted,
-            "{code} {place}"
-        );
-        let load = Insn {
-            code,
-            jt: 0,
-            jf: 0,
-            k: place,
-        };
-        assert!(rt; asks(load, values) == asked, "{code} {place}");
+    outcome(rt, alloc, &list, packet, values)
+}
+
+/// What a load from a place asks for.
+fn asked(values: &Values, code: u16, k: u32) -> Option<Ext> {
+    let load = Insn {
+        code,
+        jt: 0,
+        jf: 0,
+        k,
+    };
+    asks(load, values)
+}
+
+/// Whether a load from an extension's place asks for what it is to ask for, and ends so.
+fn load_is_so(
+    rt: &impl Abort,
+    alloc: Global,
+    values: &Values,
+    code: u16,
+    e: Ext,
+    place: u32,
+) -> bool {
+    let (ext, wanted) = asked_and_outcome(values, e);
+    asked(values, code, place) == ext && loaded(rt, alloc, values, code, place) == wanted
+}
+
+/// Whether loads from an extension's place do, whatever their size: all bits of a value are loaded.
+fn loads_so(rt: &impl Abort, alloc: Global, values: &Values, e: Ext, place: u32) -> bool {
+    load_is_so(rt, alloc, values, 32, e, place)
+        && load_is_so(rt, alloc, values, 40, e, place)
+        && load_is_so(rt, alloc, values, 48, e, place)
+}
+
+fn assert_loads_without_values(rt: &impl Abort, alloc: Global) {
+    let none = Values::new();
+    for (e, place, _) in EXTENSIONS {
+        let is_wanted = none.value_of(e).is_none() && loads_so(rt, alloc, &none, e, place);
+        assert_at(rt, place as usize, is_wanted);
     }
+}
+
+/// Values for all extensions that take one.
+fn all_values(rt: &impl Abort) -> Values {
+    let mut values = Values::new();
+    for (e, place, value) in EXTENSIONS {
+        let had_none = values.value_of(e).is_none();
+        let is_set = values.set(e, value.unwrap_or(1));
+        let is_wanted = had_none && is_set == value.is_some();
+        assert_at(rt, place as usize, is_wanted);
+    }
+    values
+}
+
+fn assert_loads_with_values(rt: &impl Abort, alloc: Global, values: &Values) {
+    for (e, place, value) in EXTENSIONS {
+        let is_wanted = values.value_of(e) == value && loads_so(rt, alloc, values, e, place);
+        assert_at(rt, place as usize, is_wanted);
+    }
+}
+
+/// 0 is a value too, and takes the place of another.
+fn loads_0(rt: &impl Abort, alloc: Global, values: &mut Values) -> bool {
+    values.set(Ext::Mark, 0)
+        && values.value_of(Ext::Mark) == Some(0)
+        && loads_so(rt, alloc, values, Ext::Mark, 4294963220)
+}
+
+/// Nothing but `ld`, `ldh` and `ldb` from the place of an extension asks for one.
+fn others_ask_for_none() -> bool {
+    let none = Values::new();
+    asked(&none, 64, 4294963256).is_none()
+        && asked(&none, 177, 4294963256).is_none()
+        && asked(&none, 33, 4294963256).is_none()
+        && asked(&none, 32, 4294963240).is_none()
 }
 
 #[test]
 fn extensions_without_and_with_values(rt: HostRuntime) {
-    let none = Values::new();
-    let mut values = Values::new();
-    for (e, place, value) in EXTENSIONS {
-        assert_loads(&rt, rt.alloc(), &none, e, place);
-        assert!(rt;
-            none.value_of(e).is_none() && values.value_of(e).is_none(),
-            "{place}"
-        );
-        assert!(rt;
-            values.set(e, value.unwrap_or(1)) == value.is_some(),
-            "{place}"
-        );
-    }
-    for (e, place, value) in EXTENSIONS {
-        assert!(rt; values.value_of(e) == value, "{place}");
-        assert_loads(&rt, rt.alloc(), &values, e, place);
-    }
-    // 0 is a value too, and takes the place of another.
-    assert!(rt; values.set(Ext::Mark, 0));
-    assert!(rt; values.value_of(Ext::Mark) == Some(0));
-    assert_loads(&rt, rt.alloc(), &values, Ext::Mark, 4294963220);
-    // Nothing but `ld`, `ldh` and `ldb` from the place of an extension asks for one.
-    for (code, k) in [
-        (64, 4294963256),
-        (177, 4294963256),
-        (33, 4294963256),
-        (32, 4294963240),
-    ] {
-        let insn = Insn {
-            code,
-            jt: 0,
-            jf: 0,
-            k,
-        };
-        assert!(rt; asks(insn, &none).is_none(), "{code}");
-    }
+    assert_loads_without_values(&rt, rt.alloc());
+    let mut values = all_values(&rt);
+    assert_loads_with_values(&rt, rt.alloc(), &values);
+    assert!(rt; loads_0(&rt, rt.alloc(), &mut values) && others_ask_for_none());
+}
+
+fn is_packet(packet: Packet<'_>, bytes: &[u8], wire: u32) -> bool {
+    packet == Packet { bytes, wire }
 }
 
 #[test]
 fn packets_are_equal_by_their_bytes_and_their_length(rt: HostRuntime) {
-    let bytes = [7u8, 8];
     let packet = Packet {
-        bytes: &bytes,
+        bytes: &[7, 8],
         wire: 60,
     };
-    for (other, wire, is_equal) in [
-        (b"\x07\x08".as_slice(), 60, true),
-        (b"\x07\x08", 61, false),
-        (b"\x07\x09", 60, false),
-        (b"\x07", 60, false),
-    ] {
-        let other = Packet { bytes: other, wire };
-        assert!(rt; (packet == other) == is_equal, "{wire}");
-    }
+    assert!(rt; is_packet(packet, b"\x07\x08", 60));
+    let is_other = is_packet(packet, b"\x07\x08", 61)
+        || is_packet(packet, b"\x07\x09", 60)
+        || is_packet(packet, b"\x07", 60);
+    assert!(rt; !is_other);
 }

@@ -2,6 +2,7 @@ ghost use Rattle.std.specs.Prelude.{◌≡◌, ◌≤◌, ◌-◌, Some, slice_g
 ghost use Rattle.cbpf_machine.specs.Machine.{machine_of};
 ghost use Rattle.cbpf_machine.specs.Trace.{trace};
 
+use crate::assertions::{assert_at, assert_at_both};
 use cbpf_code::{Insn, Program, check};
 use cbpf_machine::{
     Followed, ListTrail, MarkTrail, Meter, Outcome, Packet, State, Trail, Values, Watched,
@@ -29,6 +30,11 @@ fn counting(rt: &impl Abort, alloc: Global) -> Program {
     }
     check(list).ok().expect(rt, "a program")
 }
+
+const EMPTY: Packet<'static> = Packet {
+    bytes: b"",
+    wire: 0,
+};
 
 /// Whether a state is entry `n` of the trace of `counting`, counted from 1.
 fn is_entry(s: &State, n: u32) -> bool {
@@ -89,34 +95,39 @@ fn filled_and_followed<T: Trail>(
     (followed, s, meter.spent())
 }
 
-/// Begins a packet, follows it to the instruction that is watched, and goes from there back to an entry: how
-/// many turns that took.
+/// Asserts where a packet is that was begun and followed to the instruction that is watched.
+fn check_begun(rt: &impl Abort, s: &State, count: u32, watched: u32, turns: u128) {
+    let is_there = is_entry(s, count) && s.pc() == watched;
+    let is_wanted = is_there && turns == u128::from(watched);
+    assert_at(rt, watched as usize, is_wanted);
+}
+
+/// Begins a packet, follows it to the instruction that is watched, and goes from there back to an
+/// entry: the state, and how many turns the way back took.
 fn begun_and_back<T: Trail>(
     rt: &impl Abort,
     trail: &mut T,
     p: &Program,
     watched: u32,
     to: u32,
-) -> u128 {
+) -> (State, u128) {
     let values = Values::new();
     let packet = Packet {
         bytes: b"",
         wire: 0,
     };
+    let table = only(rt, watched);
     let _sound = p.len();
     let mut meter = Meter::new();
     let mut s = State::zero();
     trail.clear();
-    match trail.begin(&mut meter, p, packet, &values, &only(rt, watched), &mut s) {
+    match trail.begin(&mut meter, p, packet, &values, &table, &mut s) {
         Followed::Watched(count) => {
-            assert!(rt; meter.spent() == u128::from(watched), "to {watched}");
-            assert!(rt; is_entry(&s, count) && s.pc() == watched, "to {watched}");
-            assert!(rt; 1 <= to);
-            assert!(rt; to <= count);
+            check_begun(rt, &s, count, watched, meter.spent());
+            assert!(rt; 1 <= to && to <= count);
             let mut meter = Meter::new();
             let back = trail.back(&mut meter, p, packet, &values, to);
-            assert!(rt; is_entry(&back, to), "from {watched} back to {to}");
-            meter.spent()
+            (back, meter.spent())
         }
         Followed::Ended(_) => panic!(rt; "the packet ends before"),
     }
@@ -157,26 +168,40 @@ const ONWARD: [(u32, u32); 10] = [
     (4096, 4095),
 ];
 
-/// Of a trail that keeps each 64th state, or all.
-fn check_trail<T: Trail>(rt: &impl Abort, trail: &mut T, p: &Program, keeps_all: bool) {
-    for (watched, to, turns) in BACK {
-        let found = begun_and_back(rt, trail, p, watched, to);
-        let wanted = if keeps_all { 0 } else { turns };
-        assert!(rt; found == wanted, "{watched} to {to}");
+/// How following goes on from entry `count` where one instruction is watched, the entry that it comes
+/// to, and how many turns that takes.
+fn onward(count: u32, watched: u32) -> (Followed, u32, u128) {
+    if watched < count {
+        let left = 4097u32.saturating_sub(count);
+        (Followed::Ended(Outcome::Pass(2048)), count, left.into())
+    } else {
+        let turns = (watched - count).saturating_add(1);
+        let entry = watched.saturating_add(1);
+        (Followed::Watched(turns), entry, turns.into())
     }
+}
+
+fn check_back<T: Trail>(rt: &impl Abort, trail: &mut T, p: &Program, keeps_all: bool) {
+    for (watched, to, turns) in BACK {
+        let (back, found) = begun_and_back(rt, trail, p, watched, to);
+        let wanted = if keeps_all { 0 } else { turns };
+        assert_at_both(rt, watched, to, is_entry(&back, to) && found == wanted);
+    }
+}
+
+fn check_onward<T: Trail>(rt: &impl Abort, trail: &mut T, p: &Program) {
     for (count, watched) in ONWARD {
         let (followed, s, turns) = filled_and_followed(rt, trail, p, count, watched);
-        let (wanted, entry, most) = if watched < count {
-            (Followed::Ended(Outcome::Pass(2048)), count, 4096)
-        } else {
-            let turns = (watched - count).saturating_add(1);
-            (Followed::Watched(turns), watched.saturating_add(1), watched)
-        };
-        assert!(rt; followed == wanted, "{count} {watched}");
-        assert!(rt; is_entry(&s, entry), "{count} {watched}");
-        let wanted = most.saturating_add(1).saturating_sub(count);
-        assert!(rt; turns == u128::from(wanted), "{count} {watched}");
+        let (wanted, entry, most) = onward(count, watched);
+        let is_wanted = followed == wanted && is_entry(&s, entry) && turns == most;
+        assert_at_both(rt, count, watched, is_wanted);
     }
+}
+
+/// Asserts the ways back and onward, of a trail that keeps all states, or each 64th.
+fn check_trail<T: Trail>(rt: &impl Abort, trail: &mut T, p: &Program, keeps_all: bool) {
+    check_back(rt, trail, p, keeps_all);
+    check_onward(rt, trail, p);
 }
 
 #[test]
@@ -187,64 +212,77 @@ fn trails_of_4096_entries(rt: HostRuntime) {
     check_trail(&rt, &mut MarkTrail::new(), &p, false);
 }
 
-/// From before the packet to the first instruction that is watched, and from there to the second one, or
-/// to the end where that lies before.
+/// Follows a packet from before it to the instruction that is watched: how, to which state, and in
+/// how many turns.
+fn followed_from_before(rt: &impl Abort, p: &Program, watched: u32) -> (Followed, State, u128) {
+    let mut s = State::zero();
+    let mut meter = Meter::new();
+    let table = only(rt, watched);
+    let followed = follow_packet(&mut meter, p, EMPTY, &Values::new(), &table, &mut s);
+    (followed, s, meter.spent())
+}
+
+/// Follows a packet from a state of it to the instruction that is watched, likewise.
+fn followed_on(rt: &impl Abort, p: &Program, from: State, watched: u32) -> (Followed, State, u128) {
+    assert!(rt; from.pc() < p.len());
+    let mut s = from;
+    let mut meter = Meter::new();
+    let table = only(rt, watched);
+    let followed = follow_on(&mut meter, p, EMPTY, &Values::new(), &table, &mut s);
+    (followed, s, meter.spent())
+}
+
+/// Asserts the way from before a packet to the first instruction that is watched: the state there.
+fn check_from_before(rt: &impl Abort, p: &Program, first: u32) -> State {
+    let (followed, s, turns) = followed_from_before(rt, p, first);
+    let entry = first.saturating_add(1);
+    let is_wanted = followed == Followed::Watched(entry)
+        && is_entry(&s, entry)
+        && turns == u128::from(first);
+    assert_at(rt, first as usize, is_wanted);
+    s
+}
+
+/// Asserts the way from the first instruction that is watched to the second one, or to the end.
+fn check_on(rt: &impl Abort, p: &Program, first: u32, second: u32) {
+    let from = check_from_before(rt, p, first);
+    let (followed, s, turns) = followed_on(rt, p, from, second);
+    let (wanted, entry, most) = onward(first.saturating_add(1), second);
+    let is_wanted = followed == wanted && is_entry(&s, entry) && turns == most;
+    assert_at_both(rt, first, second, is_wanted);
+}
+
+/// Where nothing is watched, the state stays.
+fn keeps_the_state(p: &Program, from: State) -> bool {
+    let mut s = from;
+    let mut meter = Meter::new();
+    let table = Watched::none();
+    let followed = follow_packet(&mut meter, p, EMPTY, &Values::new(), &table, &mut s);
+    followed == Followed::Ended(Outcome::Pass(2048)) && is_entry(&s, 2) && meter.spent() == 4096
+}
+
+/// The instructions that are watched, first and then.
+const FIRST_AND_SECOND: [(u32, u32); 13] = [
+    (0, 1),
+    (0, 63),
+    (0, 64),
+    (0, 65),
+    (0, 4095),
+    (63, 64),
+    (64, 2000),
+    (0, 0),
+    (1, 1),
+    (64, 63),
+    (64, 64),
+    (65, 64),
+    (4095, 4095),
+];
+
 #[test]
 fn a_packet_is_followed_with_no_trail(rt: HostRuntime) {
     let p = counting(&rt, rt.alloc());
-    let packet = Packet {
-        bytes: b"",
-        wire: 0,
-    };
-    let values = Values::new();
-    for (first, second) in [
-        (0u32, 1),
-        (0, 63),
-        (0, 64),
-        (0, 65),
-        (0, 4095),
-        (63, 64),
-        (64, 2000),
-        (0, 0),
-        (1, 1),
-        (64, 63),
-        (64, 64),
-        (65, 64),
-        (4095, 4095),
-    ] {
-        let (entry, mut s) = (first.saturating_add(1), State::zero());
-        let mut meter = Meter::new();
-        let table = only(&rt, first);
-        let followed = follow_packet(&mut meter, &p, packet, &values, &table, &mut s);
-        assert!(rt; followed == Followed::Watched(entry), "{first}");
-        assert!(rt; is_entry(&s, entry), "{first}");
-        assert!(rt; meter.spent() == u128::from(first), "{first}");
-        assert!(rt; s.pc() < p.len());
-        let mut meter = Meter::new();
-        let table = only(&rt, second);
-        let followed = follow_on(&mut meter, &p, packet, &values, &table, &mut s);
-        let turns = if second > first {
-            let turns = second - first;
-            assert!(rt; followed == Followed::Watched(turns), "{first} {second}");
-            assert!(rt; is_entry(&s, second.saturating_add(1)), "{first} {second}");
-            turns
-        } else {
-            assert!(rt;
-                followed == Followed::Ended(Outcome::Pass(2048)),
-                "{first} {second}"
-            );
-            assert!(rt; is_entry(&s, entry), "{first} {second}");
-            4096u32.saturating_sub(first)
-        };
-        assert!(rt; meter.spent() == u128::from(turns), "{first} {second}");
+    for (first, second) in FIRST_AND_SECOND {
+        check_on(&rt, &p, first, second);
     }
-    // Where nothing is watched, the state stays.
-    let mut s = State::zero();
-    let table = only(&rt, 1);
-    let followed = follow_packet(&mut Meter::new(), &p, packet, &values, &table, &mut s);
-    assert!(rt; followed == Followed::Watched(2));
-    let mut meter = Meter::new();
-    let followed = follow_packet(&mut meter, &p, packet, &values, &Watched::none(), &mut s);
-    assert!(rt; followed == Followed::Ended(Outcome::Pass(2048)));
-    assert!(rt; is_entry(&s, 2) && meter.spent() == 4096);
+    assert!(rt; keeps_the_state(&p, check_from_before(&rt, &p, 1)));
 }

@@ -8,6 +8,8 @@ mod rows;
 use cbpf_code::Ext;
 use cbpf_dbg::{ListTrail, MarkTrail, Meter, Place, RunReply, Session, SessionFault, When};
 use rows::{Answer, Row, Turns, capture, check_rows, program};
+use std::alloc::Global;
+use std::process::Abort;
 
 const LOAD_RULE: Row = Row::Program(
     (40, 0, 0, 12),
@@ -34,7 +36,9 @@ const LOAD_MARK_BYTE: Row = Row::Program((48, 0, 0, 4294963220), 0, &[], (22, 0,
 const LOAD_RANDOM: Row = Row::Program((32, 0, 0, 4294963256), 0, &[], (22, 0, 0, 0));
 
 /// What a session shows, and its calls from nothing loaded on.
-const SESSIONS: &[(&str, &[Row])] = &[
+type Shown = (&'static str, &'static [Row]);
+
+const RUNS: &[Shown] = &[
     (
         "each hit once and in order, also from the start again",
         &[
@@ -107,6 +111,9 @@ const SESSIONS: &[(&str, &[Row])] = &[
             Row::Mark(2, 0),
         ],
     ),
+];
+
+const CONDITIONS_AND_LIMITS: &[Shown] = &[
     (
         "a condition on A, and one on X, which is 0 at each instruction",
         &[
@@ -140,6 +147,9 @@ const SESSIONS: &[(&str, &[Row])] = &[
             ),
         ],
     ),
+];
+
+const PLACES: &[Shown] = &[
     (
         "a saved place gives the rest, and counts from its packet",
         &[
@@ -208,6 +218,9 @@ const SESSIONS: &[(&str, &[Row])] = &[
             Row::Run(None, Answer::Finishes(1, 1, 0), Turns::Exactly(8)),
         ],
     ),
+];
+
+const STEPS: &[Shown] = &[
     (
         "steps both ways",
         &[
@@ -290,6 +303,9 @@ const SESSIONS: &[(&str, &[Row])] = &[
             Row::Run(None, Answer::Finishes(2, 0, 0), Turns::Exactly(8192)),
         ],
     ),
+];
+
+const VALUES: &[Shown] = &[
     (
         "a value, which loads keep, and another one begin the packet again",
         &[
@@ -339,57 +355,109 @@ const SESSIONS: &[(&str, &[Row])] = &[
     ),
 ];
 
+/// The calls of a session, over either trail.
+fn check_session(rt: &impl Abort, alloc: Global, shows: &str, rows: &[Row]) {
+    check_rows(rt, alloc, MarkTrail::new(), false, shows, rows);
+    let all = ListTrail::new(alloc).expect(rt, "memory");
+    check_rows(rt, alloc, all, true, shows, rows);
+}
+
+const LATE_IN_1: Place = Place {
+    packet: 1,
+    step: 4096,
+};
+
+const BEFORE_2: Place = Place { packet: 2, step: 0 };
+
+fn places_are_in_order() -> bool {
+    LATE_IN_1 < BEFORE_2
+        && Place { packet: 2, step: 1 } < Place { packet: 2, step: 2 }
+        && !(BEFORE_2 < LATE_IN_1)
+}
+
+fn check_sessions(rt: &impl Abort, alloc: Global, sessions: &[Shown]) {
+    for (shows, rows) in sessions {
+        check_session(rt, alloc, shows, rows);
+    }
+}
+
+// The tables by calls, so that proofs do not carry their rows.
+fn runs() -> &'static [Shown] {
+    RUNS
+}
+
+fn conditions_and_limits() -> &'static [Shown] {
+    CONDITIONS_AND_LIMITS
+}
+
+fn places() -> &'static [Shown] {
+    PLACES
+}
+
+fn steps() -> &'static [Shown] {
+    STEPS
+}
+
+fn values() -> &'static [Shown] {
+    VALUES
+}
+
 #[test]
 fn sessions_over_two_packets(rt: HostRuntime) {
-    for (shows, rows) in SESSIONS {
-        check_rows(&rt, rt.alloc(), MarkTrail::new(), false, shows, rows);
-        let all = ListTrail::new(rt.alloc()).expect(&rt, "memory");
-        check_rows(&rt, rt.alloc(), all, true, shows, rows);
+    check_sessions(&rt, rt.alloc(), runs());
+    check_sessions(&rt, rt.alloc(), conditions_and_limits());
+    check_sessions(&rt, rt.alloc(), places());
+    check_sessions(&rt, rt.alloc(), steps());
+    check_sessions(&rt, rt.alloc(), values());
+    assert!(rt; places_are_in_order());
+}
+
+/// A session that stops twice in each of the two packets.
+fn session_with_stops(rt: &impl Abort, alloc: Global) -> Session<MarkTrail> {
+    let mut s = Session::new(alloc, MarkTrail::new());
+    let p = program(rt, alloc, (40, 0, 0, 12), 3, &[(4, 0, 0, 1)], (22, 0, 0, 0));
+    s.load_program(p);
+    s.load_capture(capture(rt, alloc));
+    assert!(rt; s.breakpoint(1) == Ok(()) && s.breakpoint(4) == Ok(()));
+    s
+}
+
+/// The dumps of the stops of the list.
+fn listed(rt: &impl Abort, alloc: Global, s: &Session<MarkTrail>) -> Vec<u8> {
+    let mut text = Vec::new(alloc);
+    for stop in s.stops().ok().expect(rt, "stops") {
+        assert!(rt; s.write_stop(&mut text, &stop).is_ok());
     }
-    assert!(rt;
-        Place {
-            packet: 1,
-            step: 4096
-        } < Place { packet: 2, step: 0 }
-    );
-    assert!(rt; Place { packet: 2, step: 1 } < Place { packet: 2, step: 2 });
-    assert!(rt;
-        !(Place { packet: 2, step: 0 }
-            < Place {
-                packet: 1,
-                step: 4096
-            })
-    );
+    text
+}
+
+/// The dump of the stop of a run.
+fn dump_next(rt: &impl Abort, s: &mut Session<MarkTrail>, text: &mut Vec<u8>) {
+    match s.run(&mut Meter::new(), None) {
+        Ok(RunReply::Stopped(stop)) => assert!(rt; s.write_stop(text, &stop).is_ok()),
+        _ => panic!(rt; "no stop"),
+    }
+}
+
+/// The dumps of the stops of four runs.
+fn met(rt: &impl Abort, alloc: Global, s: &mut Session<MarkTrail>) -> Vec<u8> {
+    let mut text = Vec::new(alloc);
+    for _ in 0..4 {
+        dump_next(rt, s, &mut text);
+    }
+    text
+}
+
+/// From the first stop to the last byte of the last one.
+fn is_whole(dumps: &[u8]) -> bool {
+    dumps.starts_with(b"-- packet 1, step 2 --\n") && dumps.ends_with(b" 00 00\n(breakpoint)\n")
 }
 
 /// Both the stops of the list and those of runs can be written as they are, with nothing to test.
 #[test]
 fn runs_show_the_stops_of_the_list(rt: HostRuntime) {
-    let mut s = Session::new(rt.alloc(), MarkTrail::new());
-    s.load_program(program(
-        &rt,
-        rt.alloc(),
-        (40, 0, 0, 12),
-        3,
-        &[(4, 0, 0, 1)],
-        (22, 0, 0, 0),
-    ));
-    s.load_capture(capture(&rt, rt.alloc()));
-    for n in [1, 4] {
-        assert!(rt; s.breakpoint(n) == Ok(()));
-    }
-    let mut listed = Vec::new(rt.alloc());
-    for stop in s.stops().ok().expect(&rt, "stops") {
-        assert!(rt; s.write_stop(&mut listed, &stop).is_ok());
-    }
-    let mut met = Vec::new(rt.alloc());
-    for _ in 0..4 {
-        let Ok(RunReply::Stopped(stop)) = s.run(&mut Meter::new(), None) else {
-            panic!(&rt; "no stop")
-        };
-        assert!(rt; s.write_stop(&mut met, &stop).is_ok());
-    }
-    assert!(rt; listed.as_slice() == met.as_slice());
-    assert!(rt; listed.starts_with(b"-- packet 1, step 2 --\n"));
-    assert!(rt; listed.ends_with(b" 00 00\n(breakpoint)\n"));
+    let mut s = session_with_stops(&rt, rt.alloc());
+    let listed = listed(&rt, rt.alloc(), &s);
+    let met = met(&rt, rt.alloc(), &mut s);
+    assert!(rt; listed.as_slice() == met.as_slice() && is_whole(&listed));
 }

@@ -1,10 +1,45 @@
 //! Dumps of stops, byte for byte.
 
-use cbpf_code::{Ext, check, read_words};
+use crate::assertions::assert_at;
+use cbpf_code::{Ext, Program, check, read_words};
 use cbpf_machine::{Meter, Packet, State, Turn, Values, turn};
 use cbpf_reply::{Place, Stop, Why, write_stop};
 use std::alloc::Global;
 use std::process::Abort;
+
+/// The state in a packet after some turns.
+fn state_after(rt: &impl Abort, p: &Program, packet: Packet<'_>, turns: u32) -> State {
+    let values = Values::new();
+    let mut state = State::zero();
+    for _ in 0..turns {
+        assert!(rt; state.pc() < p.len());
+        match turn(&mut Meter::new(), p, packet, &values, &state) {
+            Turn::Next(next) => state = next,
+            _ => panic!(rt; "the packet ends before"),
+        }
+    }
+    state
+}
+
+fn program(rt: &impl Abort, alloc: Global, words: &[u8]) -> Program {
+    let list = read_words(alloc, words).expect(rt, "word text");
+    check(list).ok().expect(rt, "a program")
+}
+
+fn written(
+    rt: &impl Abort,
+    alloc: Global,
+    p: &Program,
+    stop: &Stop,
+    packet: Packet<'_>,
+) -> Vec<u8> {
+    assert!(rt; stop.state.pc() < p.len());
+    let mut text = Vec::new(alloc);
+    write_stop(&mut text, p, stop, packet.bytes, packet.wire)
+        .ok()
+        .expect(rt, "a dump");
+    text
+}
 
 /// The dump of the stop in a packet of this number after some turns.
 fn dump(
@@ -16,29 +51,13 @@ fn dump(
     why: Why,
 ) -> Vec<u8> {
     let (number, packet) = packet;
-    let list = read_words(alloc, words).expect(rt, "word text");
-    let p = check(list).ok().expect(rt, "a program");
-    let values = Values::new();
-    let mut state = State::zero();
-    for _ in 0..turns {
-        assert!(rt; state.pc() < p.len());
-        match turn(&mut Meter::new(), &p, packet, &values, &state) {
-            Turn::Next(next) => state = next,
-            _ => panic!(rt; "the packet ends before"),
-        }
-    }
-    let stop = Stop {
-        place: Place {
-            packet: number,
-            step: turns.saturating_add(1),
-        },
-        state,
-        why,
+    let p = program(rt, alloc, words);
+    let place = Place {
+        packet: number,
+        step: turns.saturating_add(1),
     };
-    assert!(rt; state.pc() < p.len());
-    let mut text = Vec::new(alloc);
-    assert!(rt; write_stop(&mut text, &p, &stop, packet.bytes, packet.wire).is_ok());
-    text
+    let state = state_after(rt, &p, packet, turns);
+    written(rt, alloc, &p, &Stop { place, state, why }, packet)
 }
 
 /// 20 instructions that store many values, and load two registers.
@@ -99,25 +118,29 @@ len: 17 wire: 42\n    0: 00 01 09 0a 0f 10 1f 7f 80 99 9a a0 af f0 fe ff\n   16:
     assert!(rt; text.as_slice() == wanted.as_slice());
 }
 
-/// Packets that have so many bytes of 0, and then the bytes 2a and 00.
+/// The dump of a packet that has so many bytes of 0, and then the bytes 2a and 00.
+fn dump_after_zeros(rt: &impl Abort, alloc: Global, zeros: usize) -> Vec<u8> {
+    let mut bytes = vec![in alloc; 0u8; zeros].expect(rt, "memory");
+    bytes.extend_from_slice(b"\x2a\x00").expect(rt, "memory");
+    let packet = Packet {
+        bytes: &bytes,
+        wire: 42,
+    };
+    dump(rt, alloc, b"1,6 0 0 1", (1, packet), 0, Why::Break)
+}
+
+/// How many bytes of 0 there are, and how the dump ends.
+const OFFSETS: [(usize, &[u8]); 4] = [
+    (0, b"\n    0: 2a 00\n(breakpoint)\n"),
+    (9984, b"\n 9984: 2a 00\n(breakpoint)\n"),
+    (99984, b"\n99984: 2a 00\n(breakpoint)\n"),
+    (100000, b"\n100000: 2a 00\n(breakpoint)\n"),
+];
+
 #[test]
 fn offsets_are_right_in_five_places(rt: HostRuntime) {
-    for (zeros, end) in [
-        (0usize, b"\n    0: 2a 00\n(breakpoint)\n".as_slice()),
-        (9984, b"\n 9984: 2a 00\n(breakpoint)\n"),
-        (99984, b"\n99984: 2a 00\n(breakpoint)\n"),
-        (100000, b"\n100000: 2a 00\n(breakpoint)\n"),
-    ] {
-        let mut bytes = Vec::new(rt.alloc());
-        for _ in 0..zeros {
-            bytes.push(0u8).expect(&rt, "memory");
-        }
-        bytes.extend_from_slice(b"\x2a\x00").expect(&rt, "memory");
-        let packet = Packet {
-            bytes: &bytes,
-            wire: 42,
-        };
-        let text = dump(&rt, rt.alloc(), b"1,6 0 0 1", (1, packet), 0, Why::Break);
-        assert!(rt; text.ends_with(end), "{zeros}");
+    for (zeros, end) in OFFSETS {
+        let text = dump_after_zeros(&rt, rt.alloc(), zeros);
+        assert_at(&rt, zeros, text.ends_with(end));
     }
 }

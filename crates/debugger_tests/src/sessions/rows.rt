@@ -1,30 +1,17 @@
 //! Calls of a session in rows: what it is asked, what it answers, and in how many turns.
 
-use cbpf_code::{Ext, Insn, Program, check};
+use crate::assertions::assert_shown;
+use crate::programs::{Code, program_of};
+use crate::{captures, two_packets};
+use cbpf_code::{Ext, Program};
 use cbpf_dbg::{Meter, Place, RunReply, Session, SessionFault, Stop, Trail, When, Why};
 use pcap_classic::Capture;
 use std::alloc::Global;
 use std::process::Abort;
 
-/// Code, jt, jf and k of an instruction.
-pub type Code = (u16, u8, u8, u32);
-
-/// Little-endian with microseconds: two records of 42 and 34 bytes.
-const K: [u8; 132] = [
-    0xd4, 0xc3, 0xb2, 0xa1, 2, 0, 4, 0, 0, 0, 0, 0, 0, 0, 0, 0, 0xff, 0xff, 0, 0, 1, 0, 0, 0, //
-    1, 0, 0, 0, 0, 0, 0, 0, 42, 0, 0, 0, 42, 0, 0, 0, //
-    0, 0, 0, 0, 0, 0, 0, 0, 0, 0, 0, 0, 8, 6, 0, 0, 0, 0, 0, 0, 0, //
-    0, 0, 0, 0, 0, 0, 0, 0, 0, 0, 0, 0, 0, 0, 0, 0, 0, 0, 0, 0, 0, //
-    2, 0, 0, 0, 0, 0, 0, 0, 34, 0, 0, 0, 34, 0, 0, 0, //
-    0, 0, 0, 0, 0, 0, 0, 0, 0, 0, 0, 0, 8, 0, 0, 0, 0, //
-    0, 0, 0, 0, 0, 0, 1, 0, 0, 0, 0, 0, 0, 0, 0, 0, 0,
-];
-
+/// The capture of the two packets.
 pub fn capture(rt: &impl Abort, alloc: Global) -> Capture {
-    let bytes = Vec::from_slice(alloc, &K).expect(rt, "memory");
-    Capture::from_bytes(alloc, bytes)
-        .ok()
-        .expect(rt, "a capture")
+    captures::capture(rt, alloc, two_packets::little_endian())
 }
 
 /// The first instruction, so many times the others in their order, and the last.
@@ -42,11 +29,7 @@ pub fn program(
         all.extend_from_slice(others).expect(rt, "memory");
     }
     all.push(last).expect(rt, "memory");
-    let mut list = Vec::new(alloc);
-    for (code, jt, jf, k) in all {
-        list.push(Insn { code, jt, jf, k }).expect(rt, "memory");
-    }
-    check(list).ok().expect(rt, "a program")
+    program_of(rt, alloc, &all)
 }
 
 /// A call of a session, and its answer.
@@ -160,6 +143,120 @@ fn matches_stops(found: &[Stop], wanted: &[(u64, u32, u32, u32)]) -> bool {
     found.len() == wanted.len()
 }
 
+fn matches_run<T: Trail>(
+    s: &mut Session<T>,
+    limit: Option<u64>,
+    answer: &Answer,
+    turns: &Turns,
+    keeps_all: bool,
+) -> bool {
+    let mut meter = Meter::new();
+    let reply = s.run(&mut meter, limit);
+    matches_answer(reply, answer) && matches_turns(&meter, turns, keeps_all)
+}
+
+fn matches_run_to_end<T: Trail>(
+    alloc: Global,
+    s: &mut Session<T>,
+    stops: &[(u64, u32, u32, u32)],
+    (passes, fails, unknown): (u64, u64, u64),
+    turns: &Turns,
+    keeps_all: bool,
+) -> bool {
+    let mut meter = Meter::new();
+    let mut found = Vec::new(alloc);
+    let reply = match s.run_to_end(&mut meter, &mut found) {
+        Ok(counts) => Ok(RunReply::Finished(counts)),
+        Err(fault) => Err(fault),
+    };
+    matches_answer(reply, &Answer::Finishes(passes, fails, unknown))
+        && matches_stops(&found, stops)
+        && matches_turns(&meter, turns, keeps_all)
+}
+
+fn matches_step<T: Trail>(
+    s: &mut Session<T>,
+    n: i64,
+    answer: &Answer,
+    turns: &Turns,
+    keeps_all: bool,
+) -> bool {
+    let mut meter = Meter::new();
+    let reply = s.step(&mut meter, n);
+    matches_answer(reply, answer) && matches_turns(&meter, turns, keeps_all)
+}
+
+fn matches_resume<T: Trail>(
+    s: &mut Session<T>,
+    place: Place,
+    answer: &Result<(), SessionFault>,
+    turns: &Turns,
+    keeps_all: bool,
+) -> bool {
+    let mut meter = Meter::new();
+    s.resume(&mut meter, place) == *answer && matches_turns(&meter, turns, keeps_all)
+}
+
+fn matches_list<T: Trail>(
+    rt: &impl Abort,
+    alloc: Global,
+    s: &Session<T>,
+    list: &[(u64, u32, u32, u32)],
+) -> bool {
+    let mut found = Vec::new(alloc);
+    for stop in s.stops().ok().expect(rt, "stops") {
+        found.push(stop).expect(rt, "memory");
+    }
+    matches_stops(&found, list)
+}
+
+/// Makes the call of a row that lists or changes breakpoints.
+fn matches_at_breakpoints<T: Trail>(s: &mut Session<T>, row: &Row) -> bool {
+    match row {
+        Row::Break(n, When::Always, answer) => s.breakpoint(*n) == *answer,
+        Row::Break(n, when, answer) => s.breakpoint_when(*n, *when) == *answer,
+        Row::Delete(n, answer) => s.delete(*n) == *answer,
+        Row::Breakpoints(list) => matches_breakpoints(s, list),
+        _ => false,
+    }
+}
+
+/// Makes the call of a row that makes no turns.
+fn matches_still<T: Trail>(s: &mut Session<T>, row: &Row) -> bool {
+    match row {
+        Row::Select(k, answer) => s.select(*k) == *answer,
+        Row::Mark(packet, step) => {
+            let place = Place {
+                packet: *packet,
+                step: *step,
+            };
+            s.mark() == Ok(place)
+        }
+        Row::SetValue(e, v, answer) => s.set_value(*e, *v) == *answer,
+        Row::ValueOf(e, answer) => s.value_of(*e) == *answer,
+        _ => matches_at_breakpoints(s, row),
+    }
+}
+
+/// Makes the call of a row that makes turns, or that `matches_still` makes.
+fn matches_call<T: Trail>(alloc: Global, s: &mut Session<T>, row: &Row, keeps_all: bool) -> bool {
+    match row {
+        Row::Run(limit, answer, turns) => matches_run(s, *limit, answer, turns, keeps_all),
+        Row::RunToEnd(stops, ends, turns) => {
+            matches_run_to_end(alloc, s, stops, *ends, turns, keeps_all)
+        }
+        Row::Step(n, answer, turns) => matches_step(s, *n, answer, turns, keeps_all),
+        Row::Resume(packet, step, answer, turns) => {
+            let place = Place {
+                packet: *packet,
+                step: *step,
+            };
+            matches_resume(s, place, answer, turns, keeps_all)
+        }
+        _ => matches_still(s, row),
+    }
+}
+
 /// Makes the call of a row, and reports whether the session answers as the row has it.
 fn matches_row<T: Trail>(
     rt: &impl Abort,
@@ -168,7 +265,6 @@ fn matches_row<T: Trail>(
     row: &Row,
     keeps_all: bool,
 ) -> bool {
-    let mut meter = Meter::new();
     match row {
         Row::Program(first, count, others, last) => {
             s.load_program(program(rt, alloc, *first, *count, others, *last));
@@ -178,50 +274,8 @@ fn matches_row<T: Trail>(
             s.load_capture(capture(rt, alloc));
             true
         }
-        Row::Run(limit, answer, turns) => {
-            let reply = s.run(&mut meter, *limit);
-            matches_answer(reply, answer) && matches_turns(&meter, turns, keeps_all)
-        }
-        Row::RunToEnd(stops, (passes, fails, unknown), turns) => {
-            let mut found = Vec::new(alloc);
-            let reply = match s.run_to_end(&mut meter, &mut found) {
-                Ok(counts) => Ok(RunReply::Finished(counts)),
-                Err(fault) => Err(fault),
-            };
-            matches_answer(reply, &Answer::Finishes(*passes, *fails, *unknown))
-                && matches_stops(&found, stops)
-                && matches_turns(&meter, turns, keeps_all)
-        }
-        Row::Step(n, answer, turns) => {
-            let reply = s.step(&mut meter, *n);
-            matches_answer(reply, answer) && matches_turns(&meter, turns, keeps_all)
-        }
-        Row::Resume(packet, step, answer, turns) => {
-            let place = Place {
-                packet: *packet,
-                step: *step,
-            };
-            s.resume(&mut meter, place) == *answer && matches_turns(&meter, turns, keeps_all)
-        }
-        Row::Select(k, answer) => s.select(*k) == *answer,
-        Row::Mark(packet, step) => s.mark()
-            == Ok(Place {
-                packet: *packet,
-                step: *step,
-            }),
-        Row::Break(n, When::Always, answer) => s.breakpoint(*n) == *answer,
-        Row::Break(n, when, answer) => s.breakpoint_when(*n, *when) == *answer,
-        Row::Delete(n, answer) => s.delete(*n) == *answer,
-        Row::Breakpoints(list) => matches_breakpoints(s, list),
-        Row::SetValue(e, v, answer) => s.set_value(*e, *v) == *answer,
-        Row::ValueOf(e, answer) => s.value_of(*e) == *answer,
-        Row::Stops(list) => {
-            let mut found = Vec::new(alloc);
-            for stop in s.stops().ok().expect(rt, "stops") {
-                found.push(stop).expect(rt, "memory");
-            }
-            matches_stops(&found, list)
-        }
+        Row::Stops(list) => matches_list(rt, alloc, s, list),
+        _ => matches_call(alloc, s, row, keeps_all),
     }
 }
 
@@ -236,9 +290,7 @@ pub fn check_rows<T: Trail>(
 ) {
     let mut s = Session::new(alloc, trail);
     for (i, row) in rows.iter().enumerate() {
-        assert!(rt;
-            matches_row(rt, alloc, &mut s, row, keeps_all),
-            "{shows}: row {i}"
-        );
+        let holds = matches_row(rt, alloc, &mut s, row, keeps_all);
+        assert_shown(rt, shows, i, holds);
     }
 }

@@ -1,0 +1,18 @@
+//! Assertions of tables and loops, whose failures show at which numbers they failed.
+
+use std::process::Abort;
+
+/// Of a row, a record or a place.
+pub fn assert_at(rt: &impl Abort, at: usize, holds: bool) {
+    assert!(rt; holds, "at {at}");
+}
+
+/// Of a row by its first two numbers.
+pub fn assert_at_both(rt: &impl Abort, a: u32, b: u32, holds: bool) {
+    assert!(rt; holds, "at {a} and {b}");
+}
+
+/// Of a row of a table that shows something.
+pub fn assert_shown(rt: &impl Abort, shows: &str, row: usize, holds: bool) {
+    assert!(rt; holds, "{shows}: row {row}");
+}

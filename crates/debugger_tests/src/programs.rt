@@ -1,0 +1,22 @@
+//! Programs by the numbers of their instructions.
+
+use cbpf_code::{Insn, Program, check};
+use std::alloc::Global;
+use std::process::Abort;
+
+/// Code, jt, jf and k of an instruction.
+pub type Code = (u16, u8, u8, u32);
+
+pub fn program_of(rt: &impl Abort, alloc: Global, list: &[Code]) -> Program {
+    let mut all = Vec::new(alloc);
+    for (code, jt, jf, k) in list {
+        let insn = Insn {
+            code: *code,
+            jt: *jt,
+            jf: *jf,
+            k: *k,
+        };
+        all.push(insn).expect(rt, "memory");
+    }
+    check(all).ok().expect(rt, "a program")
+}
