@@ -2,12 +2,13 @@
 
 use cbpf_code::Insn;
 use cbpf_text::{AsmFault, AsmKind, assemble};
-use std::test::Fail;
+use std::alloc::Global;
+use std::process::Abort;
 
 type Fields = (u16, u8, u8, u32);
 
 /// Sources with their instructions, or with their refusal and its line.
-const SOURCES: [(&[u8], Result<&[Fields], (AsmKind, u64)>); 36] = [
+static SOURCES: [(&[u8], Result<&[Fields], (AsmKind, u64)>); 36] = [
     (
         b"ldh [12]\njne #0x806, drop\nret #-1\ndrop: ret #0\n",
         Ok(&[
@@ -100,20 +101,34 @@ const SOURCES: [(&[u8], Result<&[Fields], (AsmKind, u64)>); 36] = [
     ),
 ];
 
+fn assembled(rt: &impl Abort, alloc: Global, source: &[u8], row: usize) -> Vec<Insn> {
+    match assemble(alloc, source) {
+        Ok(list) => list,
+        Err(_) => panic!(rt; "row {row}"),
+    }
+}
+
+fn assert_list(rt: &impl Abort, list: &[Insn], wanted: &[Fields], row: usize) {
+    assert!(rt; list.len() == wanted.len(), "row {row}");
+    for (insn, &(code, jt, jf, k)) in list.iter().zip(wanted) {
+        assert!(rt; *insn == Insn { code, jt, jf, k }, "row {row}");
+    }
+}
+
+fn assert_refused(rt: &impl Abort, alloc: Global, source: &[u8], at: (AsmKind, u64), row: usize) {
+    let fault = assemble(alloc, source).err();
+    assert!(rt; fault == Some(AsmFault::At(at.0, at.1)), "row {row}");
+}
+
 #[test]
 fn worked_sources(rt: HostRuntime) {
     for (row, (source, wanted)) in SOURCES.iter().enumerate() {
-        match (assemble(rt.alloc(), source), wanted) {
-            (Ok(list), Ok(rows)) => {
-                assert_eq!(rt; list.len(), rows.len(), "row {row}");
-                for (insn, &(code, jt, jf, k)) in list.iter().zip(*rows) {
-                    assert!(rt; *insn == Insn { code, jt, jf, k }, "row {row}");
-                }
+        match wanted {
+            Ok(fields) => {
+                let list = assembled(&rt, rt.alloc(), source, row);
+                assert_list(&rt, &list, fields, row);
             }
-            (Err(found), Err((kind, line))) => {
-                assert!(rt; found == AsmFault::At(*kind, *line), "row {row}");
-            }
-            _ => assert!(rt; false, "row {row}"),
+            Err(at) => assert_refused(&rt, rt.alloc(), source, *at, row),
         }
     }
 }
@@ -126,7 +141,7 @@ type Long = (
     Result<(usize, Fields), (AsmKind, u64)>,
 );
 
-const LONG: [Long; 12] = [
+static LONG: [Long; 12] = [
     (
         b"jeq #0, far\n",
         255,
@@ -189,45 +204,44 @@ const LONG: [Long; 12] = [
     ),
 ];
 
+fn with_many(rt: &impl Abort, alloc: Global, first: &[u8], between: u32, last: &[u8]) -> Vec<u8> {
+    let mut source = first.to_vec(alloc).expect(rt, "memory");
+    for _ in 0..between {
+        source.extend_from_slice(b"tax\n").expect(rt, "memory");
+    }
+    source.extend_from_slice(last).expect(rt, "memory");
+    source
+}
+
+fn assert_one(rt: &impl Abort, list: &[Insn], i: usize, wanted: Fields, row: usize) {
+    let (code, jt, jf, k) = wanted;
+    assert!(rt; list.get(i) == Some(&Insn { code, jt, jf, k }), "row {row}");
+}
+
 #[test]
-fn far_jumps_and_many_instructions(rt: HostRuntime) -> Result<(), Fail> {
+fn far_jumps_and_many_instructions(rt: HostRuntime) {
     for (row, (first, between, last, wanted)) in LONG.iter().enumerate() {
-        let mut source = first.to_vec(rt.alloc())?;
-        for _ in 0..*between {
-            source.extend_from_slice(b"tax\n")?;
-        }
-        source.extend_from_slice(last)?;
-        match (assemble(rt.alloc(), &source), wanted) {
-            (Ok(list), Ok((i, (code, jt, jf, k)))) => {
-                let wanted = Insn {
-                    code: *code,
-                    jt: *jt,
-                    jf: *jf,
-                    k: *k,
-                };
-                assert!(rt; list.get(*i) == Some(&wanted), "row {row}");
+        let source = with_many(&rt, rt.alloc(), first, *between, last);
+        match wanted {
+            Ok((i, fields)) => {
+                let list = assembled(&rt, rt.alloc(), &source, row);
+                assert_one(&rt, &list, *i, *fields, row);
             }
-            (Err(found), Err((kind, line))) => {
-                assert!(rt; found == AsmFault::At(*kind, *line), "row {row}");
-            }
-            _ => assert!(rt; false, "row {row}"),
+            Err(at) => assert_refused(&rt, rt.alloc(), &source, *at, row),
         }
     }
-    Ok(())
+}
+
+fn assert_text(rt: &impl Abort, alloc: Global, fault: AsmFault, wanted: &str) {
+    let text = format!(in alloc; "{fault}").expect(rt, "memory");
+    assert!(rt; text.as_str() == wanted);
 }
 
 // The texts of the other faults are printed by end-to-end cases.
 #[test]
-fn texts_of_faults_that_no_source_has(rt: HostRuntime) -> Result<(), Fail> {
-    for (fault, wanted) in [
-        (AsmFault::Memory, "out of memory"),
-        (
-            AsmFault::At(AsmKind::Misplaced, 18446744073709551615),
-            "line 18446744073709551615: A4 token can't stand here",
-        ),
-    ] {
-        let text = format!(in rt.alloc(); "{fault}")?;
-        assert!(rt; text.as_str() == wanted);
-    }
-    Ok(())
+fn texts_of_faults_that_no_source_has(rt: HostRuntime) {
+    assert_text(&rt, rt.alloc(), AsmFault::Memory, "out of memory");
+    let misplaced = AsmFault::At(AsmKind::Misplaced, 18446744073709551615);
+    let wanted = "line 18446744073709551615: A4 token can't stand here";
+    assert_text(&rt, rt.alloc(), misplaced, wanted);
 }

@@ -3,9 +3,10 @@
 use cbpf_code::code_of;
 use cbpf_grammar::{Fields, Reader, Refusal, Row, Step};
 use std::alloc::Global;
+use std::process::Abort;
 
 /// Each mnemonic with each of its modes, and all spellings of each mode once: sources of one item, with its code.
-const ITEMS: [(&[u8], u16, Fields); 111] = [
+static ITEMS: [(&[u8], u16, Fields); 111] = [
     (b"ld [12]", 32, Fields::Constant),
     (b"ld [x + 12]", 64, Fields::Constant),
     (b"ld rand", 32, Fields::Constant),
@@ -123,7 +124,7 @@ const ITEMS: [(&[u8], u16, Fields); 111] = [
 ];
 
 /// Refused sources.
-const REFUSALS: [(&[u8], Refusal); 46] = [
+static REFUSALS: [(&[u8], Refusal); 46] = [
     (b"top:", Refusal::Unfinished(3)),
     (b"top", Refusal::Unfinished(0)),
     (b"ld", Refusal::Unfinished(0)),
@@ -216,24 +217,36 @@ fn read(alloc: Global, source: &[u8]) -> Outcome {
     Outcome::Unread
 }
 
+fn assert_item(rt: &impl Abort, items: &[Row], code: u16, fields: Fields, row: usize) {
+    match items {
+        [item] => {
+            assert!(rt; code_of(item.op) == code, "row {row}");
+            assert!(rt; item.fields == fields, "row {row}");
+        }
+        _ => assert!(rt; false, "row {row}"),
+    }
+}
+
+fn assert_refused(rt: &impl Abort, outcome: Outcome, refusal: Refusal, row: usize) {
+    match outcome {
+        Outcome::Refused(found) => assert!(rt; found == refusal, "refusal {row}"),
+        _ => assert!(rt; false, "refusal {row}"),
+    }
+}
+
+fn each_refusal(rt: &impl Abort, alloc: Global) {
+    for (row, (source, refusal)) in REFUSALS.iter().enumerate() {
+        assert_refused(rt, read(alloc, source), *refusal, row);
+    }
+}
+
 #[test]
 fn worked_sources(rt: HostRuntime) {
     for (row, (source, code, fields)) in ITEMS.iter().enumerate() {
         match read(rt.alloc(), source) {
-            Outcome::Items(items) => match items.as_slice() {
-                [item] => {
-                    assert!(rt; code_of(item.op) == *code, "row {row}");
-                    assert!(rt; item.fields == *fields, "row {row}");
-                }
-                _ => assert!(rt; false, "row {row}"),
-            },
+            Outcome::Items(items) => assert_item(&rt, &items, *code, *fields, row),
             _ => assert!(rt; false, "row {row}"),
         }
     }
-    for (row, (source, refusal)) in REFUSALS.iter().enumerate() {
-        match read(rt.alloc(), source) {
-            Outcome::Refused(found) => assert!(rt; found == *refusal, "refusal {row}"),
-            _ => assert!(rt; false, "refusal {row}"),
-        }
-    }
+    each_refusal(&rt, rt.alloc());
 }

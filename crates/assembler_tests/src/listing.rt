@@ -1,11 +1,12 @@
 //! Worked listings, and one line of each operation.
 
-use cbpf_code::{WriteFault, check, read_words};
+use cbpf_code::{Program, WriteFault, check, read_words};
 use cbpf_listing::{write_line, write_lines};
-use std::test::Fail;
+use std::alloc::Global;
+use std::process::Abort;
 
 /// Programs as word text, and their listings.
-const LISTINGS: [(&[u8], &[u8]); 9] = [
+static LISTINGS: [(&[u8], &[u8]); 9] = [
     (
         b"6,40 0 0 12,21 0 3 2048,48 0 0 23,21 0 1 1,6 0 0 65535,6 0 0 0",
         b"l0:\tldh [12]\nl1:\tjeq #0x800, l2, l5\nl2:\tldb [23]\nl3:\tjeq #0x1, l4, l5\nl4:\tret #0xffff\nl5:\tret #0\n",
@@ -64,25 +65,34 @@ const LISTINGS: [(&[u8], &[u8]); 9] = [
     (b"2,5 0 0 0,6 0 0 255", b"l0:\tjmp l1\nl1:\tret #0xff\n"),
 ];
 
+fn program_of(rt: &impl Abort, alloc: Global, words: &[u8]) -> Program {
+    let list = read_words(alloc, words).expect(rt, "a list");
+    check(list).ok().expect(rt, "a program")
+}
+
+fn assert_listing(rt: &impl Abort, alloc: Global, program: &Program, wanted: &[u8], row: usize) {
+    let mut text = Vec::new(alloc);
+    assert!(rt; write_lines(&mut text, program).is_ok());
+    assert!(rt; text.as_slice() == wanted, "row {row}");
+}
+
+fn assert_two_lines(rt: &impl Abort, program: &Program) {
+    assert!(rt; program.len() == 2);
+    let mut room = [0u8; 17];
+    let mut writer: &mut [u8] = &mut room;
+    assert!(rt; write_line(&mut writer, program, 1).is_ok());
+    assert!(rt; write_line(&mut writer, program, 0) == Err(WriteFault));
+    assert!(rt; room == *b"l1:\tret #0xffl0:\t");
+}
+
 // The last one's lines are written one by one too, and then without room for the end.
 #[test]
-fn worked_listings(rt: HostRuntime) -> Result<(), Fail> {
+fn worked_listings(rt: HostRuntime) {
     for (row, (words, wanted)) in LISTINGS.iter().enumerate() {
-        let list = read_words(rt.alloc(), words)?;
-        let Ok(program) = check(list) else {
-            assert!(rt; false, "row {row}");
-            return Ok(());
-        };
-        let mut text = Vec::new(rt.alloc());
-        write_lines(&mut text, &program)?;
-        assert!(rt; text.as_slice() == *wanted, "row {row}");
+        let program = program_of(&rt, rt.alloc(), words);
+        assert_listing(&rt, rt.alloc(), &program, wanted, row);
         if program.len() == 2 {
-            let mut room = [0u8; 17];
-            let mut writer: &mut [u8] = &mut room;
-            write_line(&mut writer, &program, 1)?;
-            assert!(rt; write_line(&mut writer, &program, 0) == Err(WriteFault));
-            assert!(rt; room == *b"l1:\tret #0xffl0:\t");
+            assert_two_lines(&rt, &program);
         }
     }
-    Ok(())
 }

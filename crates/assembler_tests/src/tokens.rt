@@ -1,7 +1,8 @@
 //! What the tokens of texts are, by hand.
 
 use cbpf_lex::{BadPiece, Kind, LexFault, Token, tokens};
-use std::test::Fail;
+use std::alloc::Global;
+use std::process::Abort;
 
 const WORD: Kind = Kind::Word;
 
@@ -10,7 +11,7 @@ const HASH: Kind = Kind::Mark(b'#');
 const STAR: Kind = Kind::Mark(b'*');
 
 /// Texts, and the kinds of their tokens.
-const KINDS: [(&[u8], &[Kind]); 21] = [
+static KINDS: [(&[u8], &[Kind]); 21] = [
     (b"", &[]),
     (b" \t\r\n /* \x00\xff */ ; \x0b", &[]),
     (b"_a9 Z", &[WORD, WORD]),
@@ -53,7 +54,7 @@ const KINDS: [(&[u8], &[Kind]); 21] = [
 ];
 
 /// Spellings of numbers.
-const NUMBERS: [(&[u8], u32); 14] = [
+static NUMBERS: [(&[u8], u32); 14] = [
     (b"0", 0),
     (b"00", 0),
     (b"017", 15),
@@ -71,7 +72,7 @@ const NUMBERS: [(&[u8], u32); 14] = [
 ];
 
 /// Texts with a piece that is no token, and its line.
-const FAULTS: [(&[u8], BadPiece, u64); 30] = [
+static FAULTS: [(&[u8], BadPiece, u64); 30] = [
     (b"ret ret\nret $", BadPiece::NoToken, 2),
     (b"ret #0 /* x", BadPiece::OpenComment, 1),
     (b"ret #0\n\n/*/ x", BadPiece::OpenComment, 3),
@@ -112,36 +113,55 @@ const FAULTS: [(&[u8], BadPiece, u64); 30] = [
     (b"a\r\r$\n", BadPiece::NoToken, 1),
 ];
 
-#[test]
-fn worked_texts(rt: HostRuntime) -> Result<(), Fail> {
+fn tokens_of(rt: &impl Abort, alloc: Global, text: &[u8]) -> Vec<Token> {
+    tokens(alloc, text).expect(rt, "tokens")
+}
+
+fn assert_kinds(rt: &impl Abort, found: &[Token], wanted: &[Kind], row: usize) {
+    assert!(rt; found.len() == wanted.len(), "row {row}");
+    for (token, kind) in found.iter().zip(wanted) {
+        assert!(rt; token.kind == *kind, "row {row}");
+    }
+}
+
+fn assert_number(rt: &impl Abort, found: &[Token], value: u32, end: usize, row: usize) {
+    let wanted = Token {
+        kind: Kind::Number(value),
+        start: 0,
+        end,
+    };
+    assert!(rt; found == [wanted].as_slice(), "number {row}");
+}
+
+fn each_kind(rt: &impl Abort, alloc: Global) {
     for (row, (text, wanted)) in KINDS.iter().enumerate() {
-        let found = tokens(rt.alloc(), text)?;
-        assert_eq!(rt; found.len(), wanted.len(), "row {row}");
-        for (token, kind) in found.iter().zip(*wanted) {
-            assert!(rt; token.kind == *kind, "row {row}");
-        }
+        assert_kinds(rt, &tokens_of(rt, alloc, text), wanted, row);
     }
+}
+
+fn each_number(rt: &impl Abort, alloc: Global) {
     for (row, (text, value)) in NUMBERS.iter().enumerate() {
-        let wanted = Token {
-            kind: Kind::Number(*value),
-            start: 0,
-            end: text.len(),
-        };
-        assert!(rt;
-            tokens(rt.alloc(), text)?.as_slice() == [wanted].as_slice(),
-            "number {row}"
-        );
+        assert_number(rt, &tokens_of(rt, alloc, text), *value, text.len(), row);
     }
+}
+
+fn each_fault(rt: &impl Abort, alloc: Global) {
     for (row, (text, bad, line)) in FAULTS.iter().enumerate() {
-        let fault = tokens(rt.alloc(), text).err();
+        let fault = tokens(alloc, text).err();
         assert!(rt; fault == Some(LexFault::At(*bad, *line)), "fault {row}");
     }
-    Ok(())
+}
+
+#[test]
+fn worked_texts(rt: HostRuntime) {
+    each_kind(&rt, rt.alloc());
+    each_number(&rt, rt.alloc());
+    each_fault(&rt, rt.alloc());
 }
 
 /// A piece many times, between a first and a last one, and the number of tokens. A lexer that goes back over
 /// the line at each `#` doesn't end in time.
-const LONG: [(&[u8], &[u8], u32, &[u8], usize); 7] = [
+static LONG: [(&[u8], &[u8], u32, &[u8], usize); 7] = [
     (b"/*", b"*", 1_000_000, b"/ a", 1),
     (b";", b";", 1_000_000, b"\na", 1),
     (b"#", b"\n", 1_000_000, b"a", 1),
@@ -151,19 +171,21 @@ const LONG: [(&[u8], &[u8], u32, &[u8], usize); 7] = [
     (b"", b"ret #0 ", 200_000, b"", 600_000),
 ];
 
-#[test]
-fn long_texts_take_no_long_time(rt: HostRuntime) -> Result<(), Fail> {
-    for (row, (first, piece, times, last, count)) in LONG.iter().enumerate() {
-        let mut text = first.to_vec(rt.alloc())?;
-        for _ in 0..*times {
-            text.extend_from_slice(piece)?;
-        }
-        text.extend_from_slice(last)?;
-        assert_eq!(rt;
-            tokens(rt.alloc(), text.as_slice())?.len(),
-            *count,
-            "row {row}"
-        );
+/// `piece` many times after `first`.
+fn repeated(rt: &impl Abort, alloc: Global, first: &[u8], piece: &[u8], times: u32) -> Vec<u8> {
+    let mut text = first.to_vec(alloc).expect(rt, "memory");
+    for _ in 0..times {
+        text.extend_from_slice(piece).expect(rt, "memory");
     }
-    Ok(())
+    text
+}
+
+#[test]
+fn long_texts_take_no_long_time(rt: HostRuntime) {
+    for (row, (first, piece, times, last, count)) in LONG.iter().enumerate() {
+        let mut text = repeated(&rt, rt.alloc(), first, piece, *times);
+        text.extend_from_slice(last).expect(&rt, "memory");
+        let found = tokens_of(&rt, rt.alloc(), &text);
+        assert!(rt; found.len() == *count, "row {row}");
+    }
 }

@@ -1,9 +1,9 @@
+use crate::lists::{Fields, list_of};
 use cbpf_code::{CheckFault, Insn, check};
-
-type Fields = (u16, u8, u8, u32);
+use std::process::Abort;
 
 /// Lists, and the fault of each that is refused.
-const LISTS: [(&[Fields], Option<CheckFault>); 26] = [
+static LISTS: [(&[Fields], Option<CheckFault>); 26] = [
     (&[], Some(CheckFault::NoInstruction)),
     (&[(0, 0, 0, 0)], Some(CheckFault::NoReturn)),
     (&[(5, 0, 0, 0)], Some(CheckFault::JumpOutside(0))),
@@ -101,17 +101,18 @@ const LISTS: [(&[Fields], Option<CheckFault>); 26] = [
     ),
 ];
 
+fn assert_fault(rt: &impl Abort, list: Vec<Insn>, wanted: Option<CheckFault>, row: usize) {
+    let found = match check(list) {
+        Ok(_) => None,
+        Err((fault, _)) => Some(fault),
+    };
+    assert!(rt; found == wanted, "row {row}");
+}
+
 #[test]
 fn worked_lists(rt: HostRuntime) {
     for (row, (fields, wanted)) in LISTS.iter().enumerate() {
-        let mut list = Vec::new(rt.alloc());
-        for &(code, jt, jf, k) in *fields {
-            assert!(rt; list.push(Insn { code, jt, jf, k }).is_ok());
-        }
-        let found = match check(list) {
-            Ok(_) => None,
-            Err((fault, _)) => Some(fault),
-        };
-        assert!(rt; found == *wanted, "row {row}");
+        let list = list_of(&rt, rt.alloc(), fields);
+        assert_fault(&rt, list, *wanted, row);
     }
 }

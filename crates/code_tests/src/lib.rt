@@ -4,6 +4,8 @@
 #[cfg(test)]
 mod checker;
 #[cfg(test)]
+mod lists;
+#[cfg(test)]
 mod random_lists;
 #[cfg(test)]
 mod tables;

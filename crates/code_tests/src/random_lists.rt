@@ -3,6 +3,8 @@
 ghost use Rattle.std.specs.Prelude.{◌<◌};
 
 use cbpf_code::{CheckFault, Insn, check};
+use std::alloc::Global;
+use std::process::Abort;
 
 /// A number below `end`, from a linear congruential generator by Knuth's constants for 64 bits.
 fn below(state: &mut u64, end: u32) -> u32
@@ -46,40 +48,62 @@ fn first_unwritten_on(list: &[Insn], branches: u32) -> Option<u32> {
     None
 }
 
+/// The first such place over every path of a list with at most eight jumps.
+fn first_unwritten(list: &[Insn]) -> Option<u32> {
+    let mut first = None;
+    for branches in 0..256u32 {
+        if let Some(at) = first_unwritten_on(list, branches) {
+            first = Some(at.min(first.unwrap_or(at)));
+        }
+    }
+    first
+}
+
+/// The place that the checker answers; `u32::MAX` for another fault.
+fn refused_at(list: Vec<Insn>) -> Option<u32> {
+    match check(list) {
+        Ok(_) => None,
+        Err((CheckFault::UnwrittenSlot(at), _)) => Some(at),
+        Err(_) => Some(u32::MAX),
+    }
+}
+
+const CODES: [u16; 8] = [21, 29, 2, 3, 96, 97, 5, 6];
+
+const RETURN: Insn = Insn {
+    code: 6,
+    jt: 0,
+    jf: 0,
+    k: 0,
+};
+
+fn random_insn(state: &mut u64) -> Insn {
+    let code = *CODES.get(below(state, 8) as usize).unwrap_or(&6);
+    let jt = below(state, 3) as u8;
+    let jf = below(state, 3) as u8;
+    let k = below(state, 2);
+    Insn { code, jt, jf, k }
+}
+
 // No jump goes over more than two instructions, and three returns stand at the end: none leads outside.
+fn random_list(rt: &impl Abort, alloc: Global, state: &mut u64) -> Vec<Insn> {
+    let mut list = Vec::new(alloc);
+    for _ in 0..below(state, 9) {
+        list.push(random_insn(state)).expect(rt, "memory");
+    }
+    list.extend_from_slice(&[RETURN; 3]).expect(rt, "memory");
+    list
+}
+
 #[test]
 fn slots_along_each_path(rt: HostRuntime) {
-    let codes: [u16; 8] = [21, 29, 2, 3, 96, 97, 5, 6];
     let mut state: u64 = 1;
     let mut accepted = 0u32;
     for n in 0..2000u32 {
-        let mut list = Vec::new(rt.alloc());
-        for _ in 0..below(&mut state, 9) {
-            let code = *codes.get(below(&mut state, 8) as usize).unwrap_or(&6);
-            let jt = below(&mut state, 3) as u8;
-            let jf = below(&mut state, 3) as u8;
-            let k = below(&mut state, 2);
-            assert!(rt; list.push(Insn { code, jt, jf, k }).is_ok());
-        }
-        let ret = Insn {
-            code: 6,
-            jt: 0,
-            jf: 0,
-            k: 0,
-        };
-        assert!(rt; list.extend_from_slice(&[ret; 3]).is_ok());
-        let mut wanted = None;
-        for branches in 0..256u32 {
-            if let Some(at) = first_unwritten_on(&list, branches) {
-                wanted = Some(at.min(wanted.unwrap_or(at)));
-            }
-        }
-        let found = match check(list) {
-            Ok(_) => None,
-            Err((CheckFault::UnwrittenSlot(at), _)) => Some(at),
-            Err(_) => Some(u32::MAX),
-        };
-        assert_eq!(rt; found, wanted, "list {n}");
+        let list = random_list(&rt, rt.alloc(), &mut state);
+        let wanted = first_unwritten(&list);
+        let found = refused_at(list);
+        assert!(rt; found == wanted, "list {n}");
         accepted = accepted.saturating_add(u32::from(found.is_none()));
     }
     assert!(rt; accepted > 500 && accepted < 1500, "{accepted}");

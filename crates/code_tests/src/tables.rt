@@ -1,14 +1,15 @@
 use cbpf_code::{
     AluOp, Cond, Ext, Op, Size, Src, code_of, ext_at, ext_name, ext_named, ext_offset, op_of,
 };
+use std::process::Abort;
 
-const CODES: [u16; 49] = [
+static CODES: [u16; 49] = [
     0, 32, 40, 48, 64, 72, 80, 96, 128, 1, 97, 129, 177, 2, 3, 132, 5, 6, 22, 7, 135, 4, 12, 20,
     28, 36, 44, 52, 60, 68, 76, 84, 92, 100, 108, 116, 124, 148, 156, 164, 172, 21, 29, 37, 45, 53,
     61, 69, 77,
 ];
 
-const OPERATIONS: [(u16, Op); 12] = [
+static OPERATIONS: [(u16, Op); 12] = [
     (0x28, Op::LdAbs(Size::Half)),
     (0x50, Op::LdInd(Size::Byte)),
     (0x61, Op::LdxMem),
@@ -23,7 +24,7 @@ const OPERATIONS: [(u16, Op); 12] = [
     (0x87, Op::Txa),
 ];
 
-const EXTENSIONS: [(Ext, u32, &str); 15] = [
+static EXTENSIONS: [(Ext, u32, &str); 15] = [
     (Ext::Proto, 0, "proto"),
     (Ext::PktType, 4, "type"),
     (Ext::IfIdx, 8, "ifidx"),
@@ -41,33 +42,61 @@ const EXTENSIONS: [(Ext, u32, &str); 15] = [
     (Ext::VlanTpid, 60, "vlan_tpid"),
 ];
 
-#[test]
-fn codes_and_extensions(rt: HostRuntime) {
+/// Whether the code is an operation's, which has the same code again.
+fn is_known(rt: &impl Abort, code: u16) -> bool {
+    let op = op_of(code);
+    assert!(rt; op.is_some() == CODES.contains(&code), "{code}");
+    if let Some(op) = op {
+        assert!(rt; code_of(op) == code);
+    }
+    op.is_some()
+}
+
+fn each_code(rt: &impl Abort) {
     let mut known = 0u32;
     for code in 0..=65535u16 {
-        let op = op_of(code);
-        assert!(rt; op.is_some() == CODES.contains(&code), "{code}");
-        if let Some(op) = op {
-            assert_eq!(rt; code_of(op), code);
-            known = known.saturating_add(1);
-        }
+        known = known.saturating_add(u32::from(is_known(rt, code)));
     }
-    assert_eq!(rt; known, 49);
-    for (code, op) in OPERATIONS {
-        assert!(rt; op_of(code) == Some(op), "{code}");
+    assert!(rt; known == 49);
+}
+
+fn each_operation(rt: &impl Abort) {
+    for (code, op) in &OPERATIONS {
+        assert!(rt; op_of(*code) == Some(*op), "{code}");
     }
-    for (ext, offset, name) in EXTENSIONS {
-        assert_eq!(rt; ext_offset(ext), offset);
-        assert!(rt; ext_at(4294963200 + offset) == Some(ext), "{name}");
-        assert!(rt; ext_name(ext) == name, "{name}");
-        assert!(rt; ext_named(name.as_bytes()) == Some(ext), "{name}");
+}
+
+fn assert_extension(rt: &impl Abort, ext: Ext, offset: u32, name: &str) {
+    assert!(rt; ext_offset(ext) == offset);
+    assert!(rt;
+        ext_at(4294963200u32.saturating_add(offset)) == Some(ext),
+        "{name}"
+    );
+    assert!(rt; ext_name(ext) == name, "{name}");
+    assert!(rt; ext_named(name.as_bytes()) == Some(ext), "{name}");
+}
+
+static NO_PLACES: [u32; 6] = [
+    0, 4294963199, 4294963201, 4294963240, 4294963264, 4294967295,
+];
+
+static NO_NAMES: [&[u8]; 5] = [b"len", b"", b"Rand", b"ran", b"rand "];
+
+fn no_extension(rt: &impl Abort) {
+    for k in &NO_PLACES {
+        assert!(rt; ext_at(*k).is_none(), "{k}");
     }
-    for k in [
-        0, 4294963199, 4294963201, 4294963240, 4294963264, 4294967295,
-    ] {
-        assert!(rt; ext_at(k).is_none(), "{k}");
-    }
-    for name in [b"len".as_slice(), b"", b"Rand", b"ran", b"rand "] {
+    for name in &NO_NAMES {
         assert!(rt; ext_named(name).is_none(), "{name:?}");
     }
+}
+
+#[test]
+fn codes_and_extensions(rt: HostRuntime) {
+    each_code(&rt);
+    each_operation(&rt);
+    for (ext, offset, name) in &EXTENSIONS {
+        assert_extension(&rt, *ext, *offset, name);
+    }
+    no_extension(&rt);
 }

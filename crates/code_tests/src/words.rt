@@ -1,9 +1,10 @@
+use crate::lists::{Fields, list_of};
 use cbpf_code::{Insn, WordFault, read_words};
-
-type Fields = (u16, u8, u8, u32);
+use std::alloc::Global;
+use std::process::Abort;
 
 /// Word texts with their instructions, or their fault.
-const TEXTS: [(&[u8], Result<&[Fields], WordFault>); 31] = [
+static TEXTS: [(&[u8], Result<&[Fields], WordFault>); 31] = [
     (b" 01 , 0006 0 0 07 ", Ok(&[(6, 0, 0, 7)])),
     (b"0,", Ok(&[])),
     (b"000,", Ok(&[])),
@@ -49,18 +50,27 @@ const TEXTS: [(&[u8], Result<&[Fields], WordFault>); 31] = [
     (b" 4 ", Err(WordFault::CommaExpected(3))),
 ];
 
+fn assert_read(rt: &impl Abort, alloc: Global, text: &[u8], wanted: &[Insn], row: usize) {
+    match read_words(alloc, text) {
+        Ok(list) => assert!(rt; list.as_slice() == wanted, "row {row}"),
+        Err(_) => assert!(rt; false, "row {row}"),
+    }
+}
+
+fn assert_refused(rt: &impl Abort, alloc: Global, text: &[u8], fault: WordFault, row: usize) {
+    let found = read_words(alloc, text).err();
+    assert!(rt; found == Some(fault), "row {row}");
+}
+
 #[test]
 fn worked_texts(rt: HostRuntime) {
     for (row, (text, wanted)) in TEXTS.iter().enumerate() {
-        match (read_words(rt.alloc(), text), wanted) {
-            (Ok(list), Ok(rows)) => {
-                assert_eq!(rt; list.len(), rows.len(), "row {row}");
-                for (insn, &(code, jt, jf, k)) in list.iter().zip(*rows) {
-                    assert!(rt; *insn == Insn { code, jt, jf, k }, "row {row}");
-                }
+        match wanted {
+            Ok(fields) => {
+                let list = list_of(&rt, rt.alloc(), fields);
+                assert_read(&rt, rt.alloc(), text, &list, row);
             }
-            (Err(found), Err(fault)) => assert!(rt; found == *fault, "row {row}"),
-            _ => assert!(rt; false, "row {row}"),
+            Err(fault) => assert_refused(&rt, rt.alloc(), text, *fault, row),
         }
     }
 }

@@ -1,5 +1,6 @@
+use crate::lists::{Fields, list_of};
 use cbpf_code::{
-    Insn, WriteFault, read_words, write_bytes, write_c, write_decimal, write_hex, write_parts,
+    WriteFault, read_words, write_bytes, write_c, write_decimal, write_hex, write_parts,
     write_words,
 };
 
@@ -26,7 +27,7 @@ fn texts_and_numbers(rt: HostRuntime) {
 }
 
 /// The filter for ARP: `ldh [12]`, `jeq #0x806,drop`, `ret #-1`, `drop: ret #0`. Then the ends of the fields.
-const LISTS: [(&[(u16, u8, u8, u32)], &[u8], &[u8]); 3] = [
+static LISTS: [(&[Fields], &[u8], &[u8]); 3] = [
     (
         &[
             (40, 0, 0, 12),
@@ -55,10 +56,7 @@ const LISTS: [(&[(u16, u8, u8, u32)], &[u8], &[u8]); 3] = [
 #[test]
 fn forms_of_instructions(rt: HostRuntime) {
     for (row, (fields, words, c)) in LISTS.iter().enumerate() {
-        let mut list = Vec::new(rt.alloc());
-        for &(code, jt, jf, k) in *fields {
-            assert!(rt; list.push(Insn { code, jt, jf, k }).is_ok());
-        }
+        let list = list_of(&rt, rt.alloc(), fields);
         let mut text = Vec::new(rt.alloc());
         assert!(rt; write_words(&mut text, &list).is_ok());
         assert!(rt; text.as_slice() == *words, "row {row}");
