@@ -3,12 +3,12 @@
 
 usage: verdicts.py PROGRAM
 
-Each line of tests/verdicts/programs is a program in the form of `tcpdump -ddd`, with commas for newlines, of some forty
-expressions. The line of the same number in tests/verdicts/verdicts has the packets of examples/mixed.pcap that it
-passes, by tcpdump; or how the program is refused. The last line is `N programs, M failed`.
+Each line of tests/verdicts/programs is a program in the form of `tcpdump -ddd`, with commas for newlines, of one of 79
+expressions, with tcpdump's optimizer or without. The line of the same number in tests/verdicts/verdicts has the packets
+of examples/mixed.pcap that it passes, by tcpdump; or how the program is refused. The whole output is compared. The last
+line is `N programs, M failed`.
 """
 
-import re
 import subprocess
 import sys
 from pathlib import Path
@@ -18,18 +18,24 @@ CAPTURE = DATA.parent.parent / "examples" / "mixed.pcap"
 PACKETS = 35
 
 
-def verdict(program, words):
-    """What the program says of each packet, selected by itself."""
+def wanted_of(words, verdict):
+    """The replies to the script of `replies_to`, where each packet has its verdict."""
+    if verdict.startswith("error: "):
+        return [verdict, f"pcap: {PACKETS} packets", *["error: S1 no program"] * (2 * PACKETS)]
+    passes = {int(n) for n in verdict.split()[1:]}
+    found = [f"bpf: {words.split(',')[0]} instructions", f"pcap: {PACKETS} packets"]
+    for n in range(1, PACKETS + 1):
+        end = f" next:{n + 1}" if n < PACKETS else ""
+        found += [f"at {n} 0", f"bpf passes:{int(n in passes)} fails:{int(n not in passes)}{end}"]
+    return found
+
+
+def replies_to(program, words):
+    """What the program prints where each packet is selected and run by itself."""
     packets = "".join(f"select {n}\nrun 1\n" for n in range(1, PACKETS + 1))
     script = f"load bpf {words}\nload pcap {CAPTURE.name}\n{packets}"
     done = subprocess.run([program], input=script, capture_output=True, text=True, cwd=CAPTURE.parent, timeout=60)
-    loaded, _, *replies = done.stdout.splitlines()
-    if loaded.startswith("error: "):
-        return loaded
-    counts = [re.match(r"bpf passes:([01]) fails:([01])( next:\d+)?$", reply) for reply in replies[1::2]]
-    if len(counts) != PACKETS or not all(counts):
-        return done.stdout
-    return " ".join(["passes", *(str(n) for n, found in enumerate(counts, 1) if found[1] == "1")])
+    return [*done.stdout.splitlines(), *done.stderr.splitlines(), *([done.returncode] if done.returncode else [])]
 
 
 def main():
@@ -39,11 +45,11 @@ def main():
     programs = (DATA / "programs").read_text().splitlines()
     verdicts = (DATA / "verdicts").read_text().splitlines()
     failed = 0
-    for line, (words, wanted) in enumerate(zip(programs, verdicts, strict=True), 1):
-        got = verdict(program, words)
-        if got != wanted:
+    for line, (words, verdict) in enumerate(zip(programs, verdicts, strict=True), 1):
+        got = replies_to(program, words)
+        if got != wanted_of(words, verdict):
             failed += 1
-            print(f"failed line {line}: wanted {wanted}, got {got}")
+            print(f"failed line {line}: wanted {verdict}, got {got}")
     print(f"{len(programs)} programs, {failed} failed")
     sys.exit(1 if failed or not programs else 0)
 
