@@ -1,4 +1,5 @@
 // Calls that ask an allocator for nothing.
+use crate::fault_injection::{Fault, FaultyWriter, RefusingAllocator};
 use crate::loaded::{ICMP_WORDS, STRAIGHT, program_of, session_of, two_packets};
 use cbpf_code::{
     CheckFault, Ext, Insn, Program, check, read_words, write_bytes, write_c, write_decimal,
@@ -6,7 +7,6 @@ use cbpf_code::{
 };
 use cbpf_dbg::{MarkTrail, Meter, Place, RunReply, Session, SessionFault, When};
 use cbpf_text::{write_line, write_listing};
-use fault_injection::{Fault, FaultyWriter, RefusingAllocator};
 use std::alloc::{Allocator, Global};
 use std::process::Abort;
 

@@ -1,37 +1,15 @@
 // The assembler over readers, flushes and allocators that fail at one call.
+use crate::fault_injection::{ERROR_KINDS, Fault, FaultyReader, FaultyWriter, RefusingAllocator};
+use crate::loaded::{ARP, ARP_C, ARP_WORDS};
 use crate::places::assert_at;
 use cbpf_text::{AsmFault, AsmKind};
 use cbpf_tool::{Form, ToolFault, asm};
-use fault_injection::{Fault, FaultyReader, FaultyWriter, RefusingAllocator};
 use std::alloc::Global;
 use std::io::ErrorKind;
 use std::process::Abort;
 
-/// A source of four instructions.
-const ARP: &[u8] = b"ldh [12]\njne #0x806, drop\nret #-1\ndrop: ret #0\n";
-
-/// What it assembles to, in both forms.
-const ARP_TEXTS: [(Form, &[u8]); 2] = [
-    (
-        Form::Decimal,
-        b"4,40 0 0 12,21 0 1 2054,6 0 0 4294967295,6 0 0 0,\n",
-    ),
-    (
-        Form::C,
-        b"{ 0x28,  0,  0, 0x0000000c },\n\
-{ 0x15,  0,  1, 0x00000806 },\n\
-{ 0x06,  0,  0, 0xffffffff },\n\
-{ 0x06,  0,  0, 0000000000 },\n",
-    ),
-];
-
-/// The kinds of error by which a read or a flush fails. `OutOfMemory` is here the reader's or the writer's, and
-/// not the allocator's.
-const KINDS: [ErrorKind; 3] = [
-    ErrorKind::Other,
-    ErrorKind::Interrupted,
-    ErrorKind::OutOfMemory,
-];
+/// What the source assembles to, in both forms.
+const ARP_TEXTS: [(Form, &[u8]); 2] = [(Form::Decimal, ARP_WORDS), (Form::C, ARP_C)];
 
 /// One read after another fails.
 fn each_read_fails(rt: &impl Abort, alloc: Global, form: Form, kind: ErrorKind) {
@@ -85,7 +63,7 @@ fn none_fails(rt: &impl Abort, alloc: Global, form: Form, text: &[u8]) {
 }
 
 fn in_one_form(rt: &impl Abort, alloc: Global, form: Form, text: &[u8]) {
-    for kind in KINDS {
+    for kind in ERROR_KINDS {
         each_read_fails(rt, alloc, form, kind);
         the_flush_fails(rt, alloc, form, text, kind);
     }

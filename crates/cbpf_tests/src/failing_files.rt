@@ -1,7 +1,7 @@
 // A file in memory of which one load fails.
+use crate::fault_injection::{Fault, FaultyWriter};
 use crate::loaded::two_packets_as_k;
 use cbpf_tool::debug;
-use fault_injection::{Fault, FaultyWriter};
 
 // A name that is no text asks for no load, and neither is a wrong line one.
 #[test]

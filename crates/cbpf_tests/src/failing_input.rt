@@ -1,7 +1,7 @@
 // A reader that gives a few bytes a call, and fails at one call.
+use crate::fault_injection::{ERROR_KINDS, Fault, FaultyReader, FaultyWriter};
 use crate::places::assert_at;
 use cbpf_tool::{MemoryFiles, ToolFault, debug};
-use fault_injection::{Fault, FaultyReader, FaultyWriter};
 use std::alloc::Global;
 use std::io::ErrorKind;
 use std::process::Abort;
@@ -76,11 +76,7 @@ fn none_fails(rt: &impl Abort, alloc: Global) {
 
 #[test]
 fn each_read_that_fails_leaves_the_replies_to_the_whole_lines_before_it(rt: HostRuntime) {
-    for kind in [
-        ErrorKind::Other,
-        ErrorKind::Interrupted,
-        ErrorKind::OutOfMemory,
-    ] {
+    for kind in ERROR_KINDS {
         each_read_fails(&rt, rt.alloc(), kind);
     }
     none_fails(&rt, rt.alloc());

@@ -1,10 +1,10 @@
 // The calls that write, over writers that take one byte a call, and fail or take nothing at one call.
-use crate::loaded::{ICMP_WORDS, program_of, two_packets_as_k};
+use crate::fault_injection::{Fault, FaultyWriter};
+use crate::loaded::{ARP, ARP_C, ARP_WORDS, ICMP_WORDS, program_of, two_packets_as_k};
 use crate::places::assert_at;
 use cbpf_code::{write_bytes, write_c, write_words};
 use cbpf_text::write_listing;
 use cbpf_tool::{Form, ToolFault, asm, debug};
-use fault_injection::{Fault, FaultyWriter};
 use std::alloc::Global;
 use std::io::ErrorKind;
 use std::process::Abort;
@@ -71,9 +71,6 @@ const SEVENTY: &[u8] =
 7 0 0 0,7 0 0 0,7 0 0 0,7 0 0 0,7 0 0 0,7 0 0 0,7 0 0 0,7 0 0 0,7 0 0 0,7 0 0 0,\
 7 0 0 0,7 0 0 0,7 0 0 0,7 0 0 0,7 0 0 0,7 0 0 0,7 0 0 0,7 0 0 0,7 0 0 0,6 0 0 1,\n";
 
-/// A source of four instructions.
-const SOURCE: &[u8] = b"ldh [12]\njne #0x806, drop\nret #-1\ndrop: ret #0\n";
-
 /// What writes: bytes, a program in a form, which is the ICMP filter where none is named, and the two jobs.
 #[derive(Clone, Copy, Debug)]
 enum Call {
@@ -86,7 +83,7 @@ enum Call {
 }
 
 const CALLS: [(Call, &[u8]); 8] = [
-    (Call::Bytes, SOURCE),
+    (Call::Bytes, ARP),
     (
         Call::Words(ICMP_WORDS),
         b"6,40 0 0 12,21 0 3 2048,48 0 0 23,21 0 1 1,6 0 0 65535,6 0 0 0,\n",
@@ -110,17 +107,8 @@ l3:\tjeq #0x1, l4, l5\n\
 l4:\tret #0xffff\n\
 l5:\tret #0\n",
     ),
-    (
-        Call::Asm(Form::Decimal),
-        b"4,40 0 0 12,21 0 1 2054,6 0 0 4294967295,6 0 0 0,\n",
-    ),
-    (
-        Call::Asm(Form::C),
-        b"{ 0x28,  0,  0, 0x0000000c },\n\
-{ 0x15,  0,  1, 0x00000806 },\n\
-{ 0x06,  0,  0, 0xffffffff },\n\
-{ 0x06,  0,  0, 0000000000 },\n",
-    ),
+    (Call::Asm(Form::Decimal), ARP_WORDS),
+    (Call::Asm(Form::C), ARP_C),
     (Call::Debug, REPLIES),
 ];
 
@@ -154,14 +142,14 @@ fn write_session(alloc: Global, w: &mut FaultyWriter<2048>) -> Result<(), ToolFa
 
 fn write(alloc: Global, call: Call, w: &mut FaultyWriter<2048>) -> Result<(), ToolFault> {
     match call {
-        Call::Bytes => match write_bytes(w, SOURCE) {
+        Call::Bytes => match write_bytes(w, ARP) {
             Ok(()) => Ok(()),
             Err(_) => Err(ToolFault::Write),
         },
         Call::Words(words) => write_program(alloc, call, words, w),
         Call::C | Call::Listing => write_program(alloc, call, ICMP_WORDS, w),
         Call::Asm(form) => {
-            let mut source = SOURCE;
+            let mut source = ARP;
             asm(alloc, &mut source, w, form)
         }
         Call::Debug => write_session(alloc, w),

@@ -1,9 +1,21 @@
-// Programs, captures and files that several tests load.
+// Sources, programs, captures and files that several tests load.
 use cbpf_code::{Program, check, read_words};
 use cbpf_dbg::{MarkTrail, Session};
 use cbpf_tool::MemoryFiles;
 use pcap_classic::Capture;
 use std::alloc::{AllocError, Allocator, Global};
+
+/// A source of four instructions.
+pub const ARP: &[u8] = b"ldh [12]\njne #0x806, drop\nret #-1\ndrop: ret #0\n";
+
+/// What it assembles to, as words.
+pub const ARP_WORDS: &[u8] = b"4,40 0 0 12,21 0 1 2054,6 0 0 4294967295,6 0 0 0,\n";
+
+/// The same in the C form.
+pub const ARP_C: &[u8] = b"{ 0x28,  0,  0, 0x0000000c },\n\
+{ 0x15,  0,  1, 0x00000806 },\n\
+{ 0x06,  0,  0, 0xffffffff },\n\
+{ 0x06,  0,  0, 0000000000 },\n";
 
 /// The word text of the ICMP filter.
 pub const ICMP_WORDS: &[u8] = b"6,40 0 0 12,21 0 3 2048,48 0 0 23,21 0 1 1,6 0 0 65535,6 0 0 0";

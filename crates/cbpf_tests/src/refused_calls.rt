@@ -1,4 +1,5 @@
 // Calls of which each growth is refused, one after another, and which find out of memory then alone.
+use crate::fault_injection::RefusingAllocator;
 use crate::loaded::{
     HEADER, ICMP_WORDS, RECORD, STRAIGHT, TWO_PACKETS, repeated, session_of, two_packets_as_k,
 };
@@ -7,7 +8,6 @@ use cbpf_code::{WordFault, read_words};
 use cbpf_dbg::{ListTrail, MarkTrail, Meter, Session, SessionFault, Stop, When};
 use cbpf_text::{AsmFault, assemble, tokens};
 use cbpf_tool::{DiskFiles, Files, LoadFault, MemoryFiles};
-use fault_injection::RefusingAllocator;
 use pcap_classic::{Capture, CaptureFault};
 use std::alloc::{Allocator, Global};
 use std::process::Abort;

@@ -1,8 +1,8 @@
 // Scripts of which each growth is refused, one after another.
+use crate::fault_injection::{Fault, FaultyWriter, RefusingAllocator};
 use crate::loaded::two_packets_as_k;
 use crate::places::assert_at;
 use cbpf_tool::{ToolFault, debug};
-use fault_injection::{Fault, FaultyWriter, RefusingAllocator};
 use std::alloc::Global;
 use std::process::Abort;
 

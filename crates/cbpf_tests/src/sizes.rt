@@ -1,10 +1,10 @@
 // Large inputs: thousands of records, instructions, tokens and breakpoints, with memory at hand.
+use crate::fault_injection::FaultyReader;
 use crate::loaded::{HEADER, RECORD, program_of, repeated};
 use cbpf_code::read_words;
 use cbpf_dbg::{MarkTrail, Session, SessionFault, When};
 use cbpf_text::{assemble, tokens, write_listing};
 use cbpf_tool::{Form, MemoryFiles, asm, debug};
-use fault_injection::FaultyReader;
 use pcap_classic::{Capture, Ending};
 use std::alloc::Global;
 use std::process::Abort;

@@ -1,5 +1,6 @@
 // A reader that gives a line a call, and a writer, which share a count: before each read that waits, all
 // replies to the lines so far are written and flushed, and after a flush that fails nothing is read.
+use crate::fault_injection::ERROR_KINDS;
 use crate::loaded::two_packets_as_k;
 use crate::places::assert_at;
 use cbpf_tool::{ToolFault, debug};
@@ -176,11 +177,7 @@ fn run(rt: &impl Abort, alloc: Global, count: usize, reads: u64, failing: u64, e
 }
 
 fn each_error(rt: &impl Abort, alloc: Global, count: usize, reads: u64, failing: u64) {
-    for error in [
-        ErrorKind::Other,
-        ErrorKind::Interrupted,
-        ErrorKind::OutOfMemory,
-    ] {
+    for error in ERROR_KINDS {
         run(rt, alloc, count, reads, failing, error);
     }
 }

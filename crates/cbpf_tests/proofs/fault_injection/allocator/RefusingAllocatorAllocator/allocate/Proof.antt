@@ -32,12 +32,12 @@ use denote.Triple.Call.{calls_at}
 use denote.Triple.Clauses.{Ended}
 use denote.Triple.Table.{framed}
 use denote.Triple.Walked.{Stays, stay_dropped, walk_of, ends_at, Goes-dropped}
-use Rattle.fault_injection.proofs.Passing.{generics, self_slot, inner_at, count_at}
-use Rattle.fault_injection.proofs.Refusal.{Count, Asks, at_asks, asks-handed, asks-said}
-use Rattle.fault_injection.proofs.allocator.is_refused.Met as is_refused
-use Rattle.fault_injection.specs.contracts.allocator.RefusingAllocatorAllocator.allocate as f
-use Rattle.fault_injection.proofs.allocator.RefusingAllocatorAllocator.allocate.Statement.{statement}
-use Rattle.fault_injection.proofs.allocator.RefusingAllocatorAllocator.allocate.Code as code
+use Rattle.cbpf_tests.proofs.Passing.{generics, self_slot, inner_at, count_at}
+use Rattle.cbpf_tests.proofs.Refusal.{Count, Asks, at_asks, asks-handed, asks-said}
+use Rattle.cbpf_tests.proofs.fault_injection.allocator.is_refused.Met as is_refused
+use Rattle.cbpf_tests.specs.contracts.fault_injection.allocator.RefusingAllocatorAllocator.allocate as f
+use Rattle.cbpf_tests.proofs.fault_injection.allocator.RefusingAllocatorAllocator.allocate.Statement.{statement}
+use Rattle.cbpf_tests.proofs.fault_injection.allocator.RefusingAllocatorAllocator.allocate.Code as code
 
 module _ (inner : Al) where
   abbrev body : Fn
@@ -87,7 +87,7 @@ allocate_spec 𝓤 𝓛 𝓜 𝓡 wired B laws ghosts methods drops met _ =
     let G = Asks 𝓛 𝓜.mem 𝓡.returns in
     let z : G.Ghost = at_asks 𝓛 𝓜.mem 𝓡.returns κ q count in
     use2 𝓛 (raw (G.pre z)) (asks-handed 𝓛 𝓜.mem 𝓡.returns κ q count) $
-    calls_at ! (framed 𝓤 𝓛.H 𝓜 𝓣) G (is_refused.met 𝓤 𝓛 𝓜 𝓡 (code.calls-fault_injection::allocator::is_refused 𝓡.env wired)) z (and_then ! (get ! refl) (no_more !)) (λ v.
+    calls_at ! (framed 𝓤 𝓛.H 𝓜 𝓣) G (is_refused.met 𝓤 𝓛 𝓜 𝓡 (code.calls-cbpf_tests::fault_injection::allocator::is_refused 𝓡.env wired)) z (and_then ! (get ! refl) (no_more !)) (λ v.
     use1 𝓛 (later (some (λ (t : Bool). given (v ≡ vbool t) (‵ (flft κ q))))) (asks-said 𝓛 𝓜.mem 𝓡.returns κ q count v) $
     await ! tt $ pick ! (λ refused. learn ! (λ is_refused. lands_as ! is_refused refl (tt, tt) $
     -- [the token of κ; the inner allocator; the other token; the locals]

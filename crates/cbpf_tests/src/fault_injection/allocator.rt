@@ -1,6 +1,6 @@
 ghost use Rattle.std.specs.Prelude.{◌≡◌};
 
-use crate::calls::CallCounter;
+use crate::fault_injection::calls::CallCounter;
 use std::alloc::{AllocError, Allocator};
 use std::cell::Cell;
 
@@ -12,17 +12,17 @@ use std::cell::Cell;
 /// it goes into calls that make several collections, and [`left`](RefusingAllocator::left) says
 /// afterwards whether the refusal was met. A growth of a collection is one allocation.
 #[derive(Drop)]
-pub struct RefusingAllocator<B: Allocator> {
+pub(crate) struct RefusingAllocator<B: Allocator> {
     inner: B,
     calls: Cell<CallCounter>,
 }
 
 impl<B: Allocator> RefusingAllocator<B> {
-    ghost use Rattle.fault_injection.specs.RefusingAllocator.{inner_of};
+    ghost use Rattle.cbpf_tests.specs.RefusingAllocator.{inner_of};
 
     /// Refuses the allocation with the number `nth`, counted from 1 from now on, and no other; 0 for
     /// none.
-    pub fn refusing(inner: B, nth: u64) -> RefusingAllocator<B>
+    pub(crate) fn refusing(inner: B, nth: u64) -> RefusingAllocator<B>
         ensures { inner_of result ≡ inner }
     {
         RefusingAllocator {
@@ -33,7 +33,7 @@ impl<B: Allocator> RefusingAllocator<B> {
 
     /// How many allocations are still to come up to the refused one, which is counted; 0 once it was
     /// refused, and where none is to be.
-    pub fn left(&self) -> u64 {
+    pub(crate) fn left(&self) -> u64 {
         self.calls.get().left()
     }
 }

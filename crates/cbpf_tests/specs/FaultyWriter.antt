@@ -1,8 +1,8 @@
 -- What a faulty writer holds, and when it goes wrong.
 use Rattle.std.specs.Prelude.{◌≡◌, ℕ, ◌+◌, ◌-◌, ◌==◌, if◌then◌else◌, min, Bool, List, length, take}
 use Rattle.std.specs.declared.io.ErrorKind.{ErrorKind}
-use Rattle.fault_injection.specs.declared.writer.Fault.{Fault}
-use Rattle.fault_injection.specs.declared.writer.FaultyWriter.{FaultyWriter}
+use Rattle.cbpf_tests.specs.declared.fault_injection.writer.Fault.{Fault}
+use Rattle.cbpf_tests.specs.declared.fault_injection.writer.FaultyWriter.{FaultyWriter}
 
 module _ {N : ℕ} where
   -- the bytes that it took

@@ -29,10 +29,10 @@ use denote.Triple.Call.{calls_at}
 use denote.Triple.Clauses.{Ended}
 use denote.Triple.Table.{framed}
 use denote.Triple.Walked.{Stays, stay_dropped, walk_of, ends_at, Goes-dropped}
-use Rattle.fault_injection.proofs.Passing.{generics, self_slot, inner_at}
-use Rattle.fault_injection.specs.contracts.allocator.RefusingAllocatorAllocator.deallocate as f
-use Rattle.fault_injection.proofs.allocator.RefusingAllocatorAllocator.deallocate.Statement.{statement}
-use Rattle.fault_injection.proofs.allocator.RefusingAllocatorAllocator.deallocate.Code as code
+use Rattle.cbpf_tests.proofs.Passing.{generics, self_slot, inner_at}
+use Rattle.cbpf_tests.specs.contracts.fault_injection.allocator.RefusingAllocatorAllocator.deallocate as f
+use Rattle.cbpf_tests.proofs.fault_injection.allocator.RefusingAllocatorAllocator.deallocate.Statement.{statement}
+use Rattle.cbpf_tests.proofs.fault_injection.allocator.RefusingAllocatorAllocator.deallocate.Code as code
 
 module _ (inner : Al) where
   abbrev body : Fn

@@ -16,8 +16,8 @@ use denote.Steps.{nothing, only}
 use denote.Triple.Statement.{Contract}
 use denote.Triple.Spec.{triple_of}
 use Rattle.std.specs.contracts.cell.Cell as cell
-use Rattle.fault_injection.specs.contracts.calls.CallCounter as counter
-use Rattle.fault_injection.specs.contracts.allocator.is_refused as f
+use Rattle.cbpf_tests.specs.contracts.fault_injection.calls.CallCounter as counter
+use Rattle.cbpf_tests.specs.contracts.fault_injection.allocator.is_refused as f
 
 abbrev pub Count : RattleType
 Count = cell.the_row counter.the_row

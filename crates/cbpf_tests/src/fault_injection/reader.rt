@@ -3,9 +3,9 @@ ghost use Rattle.std.specs.Io.{ReadsAtMost};
 ghost use Rattle.std.specs.Io.KnownBytes.{ReadConsumes};
 ghost use Rattle.std.specs.IoError.{error_kind};
 ghost use Rattle.std.specs.declared.io.ErrorKind.TheVariants.{Other};
-ghost use Rattle.fault_injection.specs.Counting.{count_after};
+ghost use Rattle.cbpf_tests.specs.Counting.{count_after};
 
-use crate::calls::CallCounter;
+use crate::fault_injection::calls::CallCounter;
 use std::io;
 use std::io::Read;
 
@@ -13,7 +13,7 @@ use std::io::Read;
 ///
 /// A call that fails takes nothing away: the next one goes on with the byte that was due.
 #[derive(Drop)]
-pub struct FaultyReader<'a> {
+pub(crate) struct FaultyReader<'a> {
     bytes: &'a [u8],
     chunk: usize,
     calls: CallCounter,
@@ -22,11 +22,11 @@ pub struct FaultyReader<'a> {
 }
 
 impl<'a> FaultyReader<'a> {
-    ghost use Rattle.fault_injection.specs.FaultyReader.{bytes_left, most_a_call, reads_made, failing_read, read_error};
+    ghost use Rattle.cbpf_tests.specs.FaultyReader.{bytes_left, most_a_call, reads_made, failing_read, read_error};
 
     /// Gives at most `chunk` bytes a call. The call of `read` with the number `failing_call`, counted
     /// from 1, fails with an error of the kind `Other`, and no other does; 0 for none.
-    pub fn new(bytes: &'a [u8], chunk: usize, failing_call: u64) -> FaultyReader<'a>
+    pub(crate) fn new(bytes: &'a [u8], chunk: usize, failing_call: u64) -> FaultyReader<'a>
         requires { 0 < chunk }
         ensures bytes { bytes_left result ≡ bytes.now }
         ensures chunk { most_a_call result ≡ chunk }
@@ -43,7 +43,7 @@ impl<'a> FaultyReader<'a> {
     }
 
     /// The kind of error that the failing call answers from now on.
-    pub fn set_error(&mut self, kind: io::ErrorKind)
+    pub(crate) fn set_error(&mut self, kind: io::ErrorKind)
         ensures error { read_error self.new ≡ kind }
         ensures bytes { bytes_left self.new ≡ bytes_left self.old }
         ensures chunk { most_a_call self.new ≡ most_a_call self.old }
@@ -54,7 +54,7 @@ impl<'a> FaultyReader<'a> {
     }
 
     /// How often `read` was called, the failing call included. The count stops at `u64::MAX`.
-    pub fn calls(&self) -> u64
+    pub(crate) fn calls(&self) -> u64
         ensures { result ≡ reads_made self.now }
     {
         self.calls.made
@@ -62,7 +62,7 @@ impl<'a> FaultyReader<'a> {
 }
 
 impl<'a> Read for FaultyReader<'a> {
-    ghost use Rattle.fault_injection.specs.FaultyReader.{bytes_left, most_a_call, reads_made, failing_read, read_error};
+    ghost use Rattle.cbpf_tests.specs.FaultyReader.{bytes_left, most_a_call, reads_made, failing_read, read_error};
 
     ghost remaining = { λ r. Some (bytes_left r) };
 

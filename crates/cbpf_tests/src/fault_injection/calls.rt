@@ -1,5 +1,5 @@
 ghost use Rattle.std.specs.Prelude.{◌≡◌, ◌↔◌, ◌+◌, ◌-◌, IsTrue};
-ghost use Rattle.fault_injection.specs.Counting.{count_after};
+ghost use Rattle.cbpf_tests.specs.Counting.{count_after};
 
 /// Counts calls, and knows which of them is to go wrong.
 #[derive(Clone, Copy)]

@@ -1,7 +1,7 @@
 -- What a faulty reader still has to give, and when it fails.
 use Rattle.std.specs.Prelude.{ℕ, List}
 use Rattle.std.specs.declared.io.ErrorKind.{ErrorKind}
-use Rattle.fault_injection.specs.declared.reader.FaultyReader.{FaultyReader}
+use Rattle.cbpf_tests.specs.declared.fault_injection.reader.FaultyReader.{FaultyReader}
 
 -- the bytes that it still has to give
 abbrev pub bytes_left : FaultyReader → List ℕ

@@ -3,15 +3,15 @@ ghost use Rattle.std.specs.Io.{WritesAtMost};
 ghost use Rattle.std.specs.Io.KnownBytes.{WriteAppends, Keeps};
 ghost use Rattle.std.specs.IoError.{error_kind};
 ghost use Rattle.std.specs.declared.io.ErrorKind.TheVariants.{Other};
-ghost use Rattle.fault_injection.specs.Counting.{count_after};
+ghost use Rattle.cbpf_tests.specs.Counting.{count_after};
 
-use crate::calls::CallCounter;
+use crate::fault_injection::calls::CallCounter;
 use std::io;
 use std::io::Write;
 
 /// What a [`FaultyWriter`] does at the chosen call of `write`.
 #[derive(Clone, Copy, Debug, PartialEq, Eq)]
-pub enum Fault {
+pub(crate) enum Fault {
     /// It answers an error.
     Fails,
     /// It answers that it took 0 bytes.
@@ -24,7 +24,7 @@ pub enum Fault {
 /// Once the room is full every call takes 0 bytes. It counts its flushes, and fails at each of them
 /// where that was asked for.
 #[derive(Drop)]
-pub struct FaultyWriter<const N: usize> {
+pub(crate) struct FaultyWriter<const N: usize> {
     room: [u8; N],
     len: usize,
     fault: Fault,
@@ -36,11 +36,11 @@ pub struct FaultyWriter<const N: usize> {
 }
 
 impl<const N: usize> FaultyWriter<N> {
-    ghost use Rattle.fault_injection.specs.FaultyWriter.{written_bytes, room_left, fault_kind, faulty_write, writes_made, flushes_made, fails_at_flush, with_flush_fails, write_error, with_write_error};
+    ghost use Rattle.cbpf_tests.specs.FaultyWriter.{written_bytes, room_left, fault_kind, faulty_write, writes_made, flushes_made, fails_at_flush, with_flush_fails, write_error, with_write_error};
 
     /// The call of `write` with the number `faulty_call`, counted from 1, goes wrong by `fault`, and no
     /// other; 0 for none. Its errors are of the kind `Other`.
-    pub fn new(fault: Fault, faulty_call: u64) -> FaultyWriter<N>
+    pub(crate) fn new(fault: Fault, faulty_call: u64) -> FaultyWriter<N>
         ensures empty { written_bytes result ≡ [] }
         ensures room { room_left result ≡ N }
         ensures fault { fault_kind result ≡ fault }
@@ -62,35 +62,35 @@ impl<const N: usize> FaultyWriter<N> {
     }
 
     /// Whether each `flush` from now on fails.
-    pub fn set_flush_fails(&mut self, fails: bool)
+    pub(crate) fn set_flush_fails(&mut self, fails: bool)
         ensures { self.new ≡ with_flush_fails self.old fails }
     {
         self.flush_fails = fails;
     }
 
     /// The kind of its errors from now on.
-    pub fn set_error(&mut self, kind: io::ErrorKind)
+    pub(crate) fn set_error(&mut self, kind: io::ErrorKind)
         ensures { self.new ≡ with_write_error self.old kind }
     {
         self.error = kind;
     }
 
     /// The bytes that it took, in the order in which they came.
-    pub fn written(&self) -> &[u8]
+    pub(crate) fn written(&self) -> &[u8]
         ensures { result.now ≡ written_bytes self.now }
     {
         &self.room[..self.len]
     }
 
     /// How often `write` was called, the faulty call included. The count stops at `u64::MAX`.
-    pub fn calls(&self) -> u64
+    pub(crate) fn calls(&self) -> u64
         ensures { result ≡ writes_made self.now }
     {
         self.calls.made
     }
 
     /// How often `flush` was called, failing calls included. The count stops at `u64::MAX`.
-    pub fn flushes(&self) -> u64
+    pub(crate) fn flushes(&self) -> u64
         ensures { result ≡ flushes_made self.now }
     {
         self.flushes
@@ -98,7 +98,7 @@ impl<const N: usize> FaultyWriter<N> {
 }
 
 impl<const N: usize> Write for FaultyWriter<N> {
-    ghost use Rattle.fault_injection.specs.FaultyWriter.{written_bytes, fault_kind, writes_made, flushes_made, fails_at_flush, is_due, count_taken, write_error, HasSameFaults};
+    ghost use Rattle.cbpf_tests.specs.FaultyWriter.{written_bytes, fault_kind, writes_made, flushes_made, fails_at_flush, is_due, count_taken, write_error, HasSameFaults};
 
     ghost contents = { λ w. Some (written_bytes w) };
 

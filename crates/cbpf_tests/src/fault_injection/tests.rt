@@ -1,4 +1,4 @@
-use crate::{Fault, FaultyReader, FaultyWriter, RefusingAllocator};
+use crate::fault_injection::{Fault, FaultyReader, FaultyWriter, RefusingAllocator};
 use std::alloc::Global;
 use std::io::{ErrorKind, Read, Write};
 use std::process::Abort;

@@ -6,7 +6,7 @@ use denote.Builtin.{RefOf}
 use denote.Param.{bounded, param}
 use denote.Signature.{Slot, plain}
 use Rattle.std.proofs.alloc.Calls.{Al, α}
-use Rattle.fault_injection.specs.contracts.allocator.RefusingAllocator as refusing
+use Rattle.cbpf_tests.specs.contracts.fault_injection.allocator.RefusingAllocator as refusing
 
 module _ (inner : Al) where
   abbrev pub generics : Args

@@ -1,0 +1,22 @@
+//! Faults on purpose: an allocator that refuses one allocation, a reader with one failing read, and a
+//! writer with one failing or empty write.
+
+mod allocator;
+mod calls;
+mod reader;
+#[cfg(test)]
+mod tests;
+mod writer;
+
+pub(crate) use allocator::RefusingAllocator;
+pub(crate) use reader::FaultyReader;
+pub(crate) use writer::{Fault, FaultyWriter};
+
+/// The kinds of error by which a read, a write or a flush fails. `OutOfMemory` is here the reader's or the
+/// writer's, and not the allocator's.
+#[cfg(test)]
+pub(crate) const ERROR_KINDS: [std::io::ErrorKind; 3] = [
+    std::io::ErrorKind::Other,
+    std::io::ErrorKind::Interrupted,
+    std::io::ErrorKind::OutOfMemory,
+];
