@@ -3,13 +3,15 @@
 //! `LOAD_RULE` is `ldh [12]`, `jeq #2048, l2, l5`, `ldb [23]`, `jeq #1, l4, l5`, `ret #65535`, `ret #0`: it
 //! passes ICMP packets. The ARP packet executes 3 of them, and the ICMP packet 5.
 
+mod listed_stops;
 mod rows;
+mod values;
 
-use cbpf_code::Ext;
-use cbpf_dbg::{ListTrail, MarkTrail, Meter, Place, RunReply, Session, SessionFault, When};
-use rows::{Answer, Row, Turns, capture, check_rows, program};
+use cbpf_dbg::{ListTrail, MarkTrail, Place, SessionFault, When};
+use rows::{Answer, Row, Turns, check_rows};
 use std::alloc::Global;
 use std::process::Abort;
+use values::values;
 
 const LOAD_RULE: Row = Row::Program(
     (40, 0, 0, 12),
@@ -26,17 +28,8 @@ const LOAD_RULE: Row = Row::Program(
 /// `ldh [12]`, 4094 times `add #1`, `ret a`.
 const LOAD_LONG: Row = Row::Program((40, 0, 0, 12), 4094, &[(4, 0, 0, 1)], (22, 0, 0, 0));
 
-/// `ld mark`, `ret a`.
-const LOAD_MARK: Row = Row::Program((32, 0, 0, 4294963220), 0, &[], (22, 0, 0, 0));
-
-/// `ldb mark`, `ret a`.
-const LOAD_MARK_BYTE: Row = Row::Program((48, 0, 0, 4294963220), 0, &[], (22, 0, 0, 0));
-
-/// `ld rand`, `ret a`.
-const LOAD_RANDOM: Row = Row::Program((32, 0, 0, 4294963256), 0, &[], (22, 0, 0, 0));
-
 /// What a session shows, and its calls from nothing loaded on.
-type Shown = (&'static str, &'static [Row]);
+pub(crate) type Shown = (&'static str, &'static [Row]);
 
 const RUNS: &[Shown] = &[
     (
@@ -305,56 +298,6 @@ const STEPS: &[Shown] = &[
     ),
 ];
 
-const VALUES: &[Shown] = &[
-    (
-        "a value, which loads keep, and another one begin the packet again",
-        &[
-            Row::SetValue(Ext::Mark, 7, Ok(())),
-            LOAD_MARK,
-            Row::Capture,
-            Row::ValueOf(Ext::Mark, Some(7)),
-            Row::Run(None, Answer::Finishes(2, 0, 0), Turns::Exactly(4)),
-            Row::Select(2, Ok(())),
-            Row::SetValue(Ext::Mark, 0, Ok(())),
-            Row::Mark(2, 0),
-            Row::Run(None, Answer::Finishes(0, 1, 0), Turns::Exactly(2)),
-            Row::Run(None, Answer::Finishes(0, 2, 0), Turns::Exactly(4)),
-            // All bits are loaded, whatever the size of the load.
-            LOAD_MARK_BYTE,
-            Row::SetValue(Ext::Mark, 4294967295, Ok(())),
-            Row::Break(1, When::Always, Ok(())),
-            Row::Run(None, Answer::Breaks(1, 2, 1, 4294967295), Turns::Exactly(1)),
-            Row::SetValue(Ext::Mark, 4294967295, Ok(())),
-            Row::Mark(1, 0),
-            Row::Step(
-                -1,
-                Answer::Refuses(SessionFault::TooFarBack(0)),
-                Turns::Exactly(0),
-            ),
-            Row::Step(2, Answer::Steps(1, 2, 1, 4294967295), Turns::Exactly(1)),
-        ],
-    ),
-    (
-        "values that there are not leave the place",
-        &[
-            LOAD_RANDOM,
-            Row::Capture,
-            Row::Run(None, Answer::Asks(1, Ext::Rand), Turns::Exactly(0)),
-            Row::SetValue(Ext::Nla, 1, Err(SessionFault::NoValue)),
-            Row::SetValue(Ext::NlaN, 1, Err(SessionFault::NoValue)),
-            Row::SetValue(Ext::PayOff, 1, Err(SessionFault::NoValue)),
-            Row::SetValue(Ext::Rand, 1, Err(SessionFault::NoValue)),
-            Row::ValueOf(Ext::Nla, None),
-            Row::ValueOf(Ext::NlaN, None),
-            Row::ValueOf(Ext::PayOff, None),
-            Row::ValueOf(Ext::Rand, None),
-            Row::Mark(1, 1),
-            Row::Run(None, Answer::Asks(2, Ext::Rand), Turns::Exactly(1)),
-            Row::Run(None, Answer::Finishes(0, 0, 2), Turns::Exactly(1)),
-        ],
-    ),
-];
-
 /// The calls of a session, over either trail.
 fn check_session(rt: &impl Abort, alloc: Global, shows: &str, rows: &[Row]) {
     check_rows(rt, alloc, MarkTrail::new(), false, shows, rows);
@@ -398,10 +341,6 @@ fn steps() -> &'static [Shown] {
     STEPS
 }
 
-fn values() -> &'static [Shown] {
-    VALUES
-}
-
 #[test]
 fn sessions_over_two_packets(rt: HostRuntime) {
     check_sessions(&rt, rt.alloc(), runs());
@@ -410,54 +349,4 @@ fn sessions_over_two_packets(rt: HostRuntime) {
     check_sessions(&rt, rt.alloc(), steps());
     check_sessions(&rt, rt.alloc(), values());
     assert!(rt; places_are_in_order());
-}
-
-/// A session that stops twice in each of the two packets.
-fn session_with_stops(rt: &impl Abort, alloc: Global) -> Session<MarkTrail> {
-    let mut s = Session::new(alloc, MarkTrail::new());
-    let p = program(rt, alloc, (40, 0, 0, 12), 3, &[(4, 0, 0, 1)], (22, 0, 0, 0));
-    s.load_program(p);
-    s.load_capture(capture(rt, alloc));
-    assert!(rt; s.breakpoint(1) == Ok(()) && s.breakpoint(4) == Ok(()));
-    s
-}
-
-/// The dumps of the stops of the list.
-fn listed(rt: &impl Abort, alloc: Global, s: &Session<MarkTrail>) -> Vec<u8> {
-    let mut text = Vec::new(alloc);
-    for stop in s.stops().ok().expect(rt, "stops") {
-        assert!(rt; s.write_stop(&mut text, &stop).is_ok());
-    }
-    text
-}
-
-/// The dump of the stop of a run.
-fn dump_next(rt: &impl Abort, s: &mut Session<MarkTrail>, text: &mut Vec<u8>) {
-    match s.run(&mut Meter::new(), None) {
-        Ok(RunReply::Stopped(stop)) => assert!(rt; s.write_stop(text, &stop).is_ok()),
-        _ => panic!(rt; "no stop"),
-    }
-}
-
-/// The dumps of the stops of four runs.
-fn met(rt: &impl Abort, alloc: Global, s: &mut Session<MarkTrail>) -> Vec<u8> {
-    let mut text = Vec::new(alloc);
-    for _ in 0..4 {
-        dump_next(rt, s, &mut text);
-    }
-    text
-}
-
-/// From the first stop to the last byte of the last one.
-fn is_whole(dumps: &[u8]) -> bool {
-    dumps.starts_with(b"-- packet 1, step 2 --\n") && dumps.ends_with(b" 00 00\n(breakpoint)\n")
-}
-
-/// Both the stops of the list and those of runs can be written as they are, with nothing to test.
-#[test]
-fn runs_show_the_stops_of_the_list(rt: HostRuntime) {
-    let mut s = session_with_stops(&rt, rt.alloc());
-    let listed = listed(&rt, rt.alloc(), &s);
-    let met = met(&rt, rt.alloc(), &mut s);
-    assert!(rt; listed.as_slice() == met.as_slice() && is_whole(&listed));
 }
