@@ -1,7 +1,7 @@
 //! Reads a command line.
 
 ghost use Rattle.std.specs.Prelude.{◌≡◌, false, List, [], map, option_map, IfOk, IfErr};
-ghost use Rattle.clap.specs.Words.{app_of, first_of, subcommand_rows_of, rows_of, found_of};
+ghost use Rattle.clap.specs.Words.{app_of, new_app, new_rule, rule_of, first_of, subcommand_rows_of, rows_of, found_of};
 ghost use Rattle.clap.specs.declared.builder.command.Command.TheViews.{out-Command as fields_of};
 ghost use Rattle.clap.specs.Kinds.{HasKind};
 ghost use Rattle.cbpf_command_line.specs.CommandLine as spec;
@@ -83,39 +83,55 @@ Examples:
   Write the replies to a file:
     $ cbpf dbg session.dbg replies.txt";
 
+const SOURCE: &str = "The source [default: standard input]";
+
+const COMMANDS: &str = "The commands [default: standard input]";
+
+const REPLIES: &str = "Where the replies go, overwritten [default: standard output]";
+
+/// The flag `-c`.
+fn form_flag<'a>(alloc: Global) -> Arg<'a>
+    ensures rule { rule_of result ≡ spec.form_rule }
+    ensures local { result.global ≡ false }
+{
+    Arg::new(alloc, "c")
+        .short('c')
+        .action(ArgAction::SetTrue)
+        .help("Write one line of C for each instruction")
+}
+
+/// The name of a file, which may be left out.
+fn file_name<'a>(alloc: Global, id: &'a str, name: &'a str, help: &'a str) -> Arg<'a>
+    ensures rule { rule_of result ≡ record (new_rule id.entry.now) { value_names = 1 } }
+    ensures local { result.global ≡ false }
+{
+    Arg::new(alloc, id).value_name(name).help(help)
+}
+
+/// A subcommand without arguments.
+fn bare<'a>(alloc: Global, name: &'a str, about: &'a str, examples: &'a str) -> Command<'a>
+    ensures app { app_of result ≡ new_app name.entry.now }
+    ensures local { (fields_of result).has_globals ≡ false }
+{
+    Command::new(alloc, name).about(about).after_help(examples)
+}
+
 fn asm_command<'a>(alloc: Global) -> Result<Command<'a>, AllocError>
     ensures app { IfOk result (λ c. app_of c ≡ spec.asm_app) }
     ensures local { IfOk result (λ c. (fields_of c).has_globals ≡ false) }
 {
-    let form = Arg::new(alloc, "c")
-        .short('c')
-        .action(ArgAction::SetTrue)
-        .help("Write one line of C for each instruction");
-    let file = Arg::new(alloc, "file")
-        .value_name("FILE")
-        .help("The source [default: standard input]");
-    Command::new(alloc, "asm")
-        .about(ASM_ABOUT)
-        .after_help(ASM_EXAMPLES)
-        .arg(form)?
-        .arg(file)
+    bare(alloc, "asm", ASM_ABOUT, ASM_EXAMPLES)
+        .arg(form_flag(alloc))?
+        .arg(file_name(alloc, "file", "FILE", SOURCE))
 }
 
 fn dbg_command<'a>(alloc: Global) -> Result<Command<'a>, AllocError>
     ensures app { IfOk result (λ c. app_of c ≡ spec.dbg_app) }
     ensures local { IfOk result (λ c. (fields_of c).has_globals ≡ false) }
 {
-    let input = Arg::new(alloc, "input")
-        .value_name("INPUT")
-        .help("The commands [default: standard input]");
-    let output = Arg::new(alloc, "output").value_name("OUTPUT").help(
-        "Where the replies go, overwritten [default: standard output]",
-    );
-    Command::new(alloc, "dbg")
-        .about(DBG_ABOUT)
-        .after_help(DBG_EXAMPLES)
-        .arg(input)?
-        .arg(output)
+    bare(alloc, "dbg", DBG_ABOUT, DBG_EXAMPLES)
+        .arg(file_name(alloc, "input", "INPUT", COMMANDS))?
+        .arg(file_name(alloc, "output", "OUTPUT", REPLIES))
 }
 
 fn command<'a>(alloc: Global) -> Result<Command<'a>, AllocError>
