@@ -55,7 +55,7 @@ pub struct Found {
 
 /// The place of the first byte from `at` on that is no blank, or the text's length.
 #[tactic(auto, using(crate::proofs::WordMarkLemmas::mark_steps))]
-pub fn skip_blanks(text: &[u8], at: usize) -> usize
+pub(crate) fn skip_blanks(text: &[u8], at: usize) -> usize
     requires { at ≤ length text.now }
     ensures range { (at ≤ result) × (result ≤ length text.now) }
     ensures same { marks_after text.now result ≡ marks_after text.now at }
@@ -69,7 +69,7 @@ pub fn skip_blanks(text: &[u8], at: usize) -> usize
 }
 
 /// The first mark from `at` on.
-pub fn next_mark(text: &[u8], at: usize) -> Option<Found>
+pub(crate) fn next_mark(text: &[u8], at: usize) -> Option<Found>
     requires { at ≤ length text.now }
     ensures { MatchOption result (marks_after text.now at ≡ []) (λ f. IsNextMark text.now at f) }
 {

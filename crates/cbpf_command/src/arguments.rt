@@ -15,7 +15,7 @@ pub enum Arguments<'a> {
 }
 
 /// The words of a text.
-pub fn arguments_in(text: &[u8]) -> Arguments<'_>
+pub(crate) fn arguments_in(text: &[u8]) -> Arguments<'_>
     ensures { Holds (words text.now) result }
 {
     let Some((first, text)) = next_word(text) else {

@@ -11,7 +11,7 @@ fn is_digit(b: u8) -> bool
 
 /// The decimal number that a word spells, of those up to `most`. Zeros may stand in front, as many as
 /// there are.
-pub fn number(word: &[u8], most: u64) -> Option<u64>
+pub(crate) fn number(word: &[u8], most: u64) -> Option<u64>
     ensures { result ≡ spec.number most word.now }
 {
     if word.is_empty() {
@@ -28,7 +28,7 @@ pub fn number(word: &[u8], most: u64) -> Option<u64>
 }
 
 /// The same of 32 bits.
-pub fn number_32(word: &[u8]) -> Option<u32>
+pub(crate) fn number_32(word: &[u8]) -> Option<u32>
     ensures { result ≡ spec.number (2 ^ 32 - 1) word.now }
 {
     Some(number(word, u64::from(u32::MAX))? as u32)
@@ -36,7 +36,7 @@ pub fn number_32(word: &[u8]) -> Option<u32>
 
 /// The number that a word spells with or without a sign in front, of at most 9223372036854775807 and
 /// at least the same below 0. So its negation is a number too.
-pub fn signed_number(word: &[u8]) -> Option<i64>
+pub(crate) fn signed_number(word: &[u8]) -> Option<i64>
     ensures { result ≡ spec.signed_number (2 ^ 63 - 1) word.now }
 {
     match word {

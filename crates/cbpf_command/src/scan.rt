@@ -34,7 +34,7 @@ fn trim_end(text: &[u8]) -> &[u8]
 }
 
 /// Without the blanks around it.
-pub fn trimmed(text: &[u8]) -> &[u8]
+pub(crate) fn trimmed(text: &[u8]) -> &[u8]
     ensures { result.now ≡ spec.trimmed text.now }
 {
     trim_end(trim_start(text))
@@ -58,7 +58,7 @@ fn word_len(text: &[u8]) -> usize
 
 /// The first word, and what stands after it.
 #[tactic(auto, using(crate::proofs::WordLemmas::firsts))]
-pub fn next_word(text: &[u8]) -> Option<(&[u8], &[u8])>
+pub(crate) fn next_word(text: &[u8]) -> Option<(&[u8], &[u8])>
     ensures words { MatchOption result (spec.words text.now ≡ [])
         (λ r. spec.words text.now ≡ r.0.now ∷ spec.words r.1.now) }
     ensures rest { IfSome result (λ r. (n : ℕ) → spec.after_words (suc n) text.now ≡ spec.after_words n r.1.now) }

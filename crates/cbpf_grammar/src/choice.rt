@@ -26,7 +26,7 @@ pub struct Match {
 
 /// Whether the tokens fit the whole operand.
 #[inline(always)]
-pub fn is_whole(found: &Match) -> bool
+pub(crate) fn is_whole(found: &Match) -> bool
     ensures { IsTrue result ↔ (length found.now.row.operand.now ≡ found.now.len) }
 {
     found.len == found.row.operand.len()
@@ -166,7 +166,7 @@ fn is_final(best: &Match, tokens: &[Lexeme<'_>]) -> bool
 }
 
 /// The best form of a mnemonic.
-pub fn best_row(mnemonic: &Mnemonic, tokens: &[Lexeme<'_>]) -> Match
+pub(crate) fn best_row(mnemonic: &Mnemonic, tokens: &[Lexeme<'_>]) -> Match
     requires some { 0 < length mnemonic.now.entries.now }
     requires known { Contains mnemonics (mnemonic_of mnemonic.now) }
     ensures { IsBest (rows_of (mnemonic_of mnemonic.now)) (map lexeme_of tokens.now) result }

@@ -22,7 +22,7 @@ pub struct Row {
 }
 
 /// Whether a label and a colon stand at the front.
-pub fn starts_with_label(tokens: &[Lexeme<'_>]) -> bool
+pub(crate) fn starts_with_label(tokens: &[Lexeme<'_>]) -> bool
     ensures { result ≡ starts_with_label (map lexeme_of tokens.now) }
 {
     tokens.len() > 1
@@ -31,7 +31,7 @@ pub fn starts_with_label(tokens: &[Lexeme<'_>]) -> bool
 }
 
 /// The row of the instruction at the front, or how many tokens fit one.
-pub fn instruction(tokens: &[Lexeme<'_>]) -> Result<Row, usize>
+pub(crate) fn instruction(tokens: &[Lexeme<'_>]) -> Result<Row, usize>
     requires { starts_with_label (map lexeme_of tokens.now) ≡ false }
     ensures { IsInstruction (map lexeme_of tokens.now) result }
 {

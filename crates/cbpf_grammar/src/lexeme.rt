@@ -26,7 +26,7 @@ pub struct Lexeme<'a> {
 }
 
 /// What a token of the text says.
-pub fn read_token(text: &[u8], token: Token) -> Lexeme<'_>
+pub(crate) fn read_token(text: &[u8], token: Token) -> Lexeme<'_>
     requires { IsSpanOf text.now token }
     ensures { lexeme_of result ≡ token_lexeme text.now token }
 {

@@ -210,7 +210,7 @@ static BARE_FORMS: [&[Class]; 1] = [&[]];
 
 /// The forms of a mode's operand, one for each choice of its options.
 #[inline]
-pub fn forms(mode: Mode) -> &'static [&'static [Class]]
+pub(crate) fn forms(mode: Mode) -> &'static [&'static [Class]]
     ensures forms { map (λ f. map class_of f.now) result.now ≡ mode_forms mode }
     ensures some { 0 < length result.now }
 {

@@ -20,7 +20,7 @@ fn is_large_negative(sign: Symbol<'_>, number: Symbol<'_>) -> bool
 }
 
 /// The first number after a `-` that is too large.
-pub fn large_negative(tokens: &[Lexeme<'_>]) -> Option<usize>
+pub(crate) fn large_negative(tokens: &[Lexeme<'_>]) -> Option<usize>
     ensures none { IfNone result ((k : ℕ) → IsLargeNegative (map lexeme_of tokens.now) k → ⊥) }
     ensures first { IfSome result (λ i. (k : ℕ) → k < i → IsLargeNegative (map lexeme_of tokens.now) k → ⊥) }
     ensures large { IfSome result (λ i. IsLargeNegative (map lexeme_of tokens.now) i) }

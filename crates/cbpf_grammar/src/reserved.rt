@@ -17,7 +17,7 @@ const LONGEST: usize = 4;
 
 /// The mnemonic of this word.
 #[inline(always)]
-pub fn mnemonic_named(word: &[u8]) -> Option<&'static Mnemonic>
+pub(crate) fn mnemonic_named(word: &[u8]) -> Option<&'static Mnemonic>
     ensures found { IfSome result (λ m. Contains mnemonics (mnemonic_of m.now)) }
     ensures word { IfSome result (λ m. bytes_eq word.now m.now.word.now ≡ true) }
     ensures none { IfNone result (is_one_of mnemonic_words word.now ≡ false) }
@@ -82,7 +82,7 @@ pub fn is_reserved(word: &[u8]) -> bool
 
 /// Whether a token may stand at a place of a form.
 #[inline(always)]
-pub fn fits(class: Class, symbol: Symbol<'_>) -> bool
+pub(crate) fn fits(class: Class, symbol: Symbol<'_>) -> bool
     ensures { result ≡ fits (class_of class) (symbol_of symbol.entry) }
 {
     match (class, symbol) {

@@ -264,7 +264,7 @@ static T_MNEMONICS: [Mnemonic; 2] = [
 /// The mnemonics whose word begins with a byte.
 #[inline]
 #[tactic(auto, unfolding(crate::specs::Table::mnemonics))]
-pub fn mnemonics_from(first: u8) -> &'static [Mnemonic]
+pub(crate) fn mnemonics_from(first: u8) -> &'static [Mnemonic]
     ensures { map mnemonic_of result.now ≡ filter (begins_with first) mnemonics }
 {
     match first {

@@ -48,7 +48,7 @@ pub struct LineReader {
 }
 
 impl LineReader {
-    pub fn new() -> LineReader
+    pub(crate) fn new() -> LineReader
         ensures empty { pending_in result.chunk result.start result.end ≡ [] }
         ensures reads { result.reads ≡ 2 ^ 64 - 1 }
     {
@@ -141,7 +141,7 @@ impl LineReader {
     }
 
     /// Takes the next line, without its newline. At the end of the input it is what was left there.
-    pub fn next_line<R: Read, W: Write, A: Allocator>(
+    pub(crate) fn next_line<R: Read, W: Write, A: Allocator>(
         &mut self,
         reader: &mut R,
         writer: &mut W,

@@ -18,7 +18,7 @@ use std::alloc::Allocator;
 use std::io::Write;
 
 /// `load bpf`
-pub fn load_words<A: Allocator, W: Write>(
+pub(crate) fn load_words<A: Allocator, W: Write>(
     alloc: A,
     w: &mut W,
     session: &mut Session<MarkTrail, A>,
@@ -42,7 +42,7 @@ pub fn load_words<A: Allocator, W: Write>(
 }
 
 /// `load pcap`
-pub fn load_capture<A: Allocator + Copy, W: Write, F: Files>(
+pub(crate) fn load_capture<A: Allocator + Copy, W: Write, F: Files>(
     alloc: A,
     w: &mut W,
     session: &mut Session<MarkTrail, A>,

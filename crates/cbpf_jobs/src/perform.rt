@@ -18,7 +18,7 @@ use std::alloc::Allocator;
 use std::io::Write;
 
 /// `run`
-pub fn run<A: Allocator, W: Write>(
+pub(crate) fn run<A: Allocator, W: Write>(
     w: &mut W,
     session: &mut Session<MarkTrail, A>,
     limit: Option<u64>,
@@ -34,7 +34,7 @@ pub fn run<A: Allocator, W: Write>(
 }
 
 /// `step`
-pub fn step<A: Allocator, W: Write>(
+pub(crate) fn step<A: Allocator, W: Write>(
     w: &mut W,
     session: &mut Session<MarkTrail, A>,
     n: i64,
@@ -51,7 +51,7 @@ pub fn step<A: Allocator, W: Write>(
 
 /// `select`
 #[tactic(auto, using(crate::proofs::SessionReplyLemmas::replies))]
-pub fn select<A: Allocator, W: Write>(
+pub(crate) fn select<A: Allocator, W: Write>(
     w: &mut W,
     session: &mut Session<MarkTrail, A>,
     n: u64,
@@ -67,7 +67,7 @@ pub fn select<A: Allocator, W: Write>(
 
 /// `resume`
 #[tactic(auto, using(crate::proofs::SessionReplyLemmas::replies))]
-pub fn resume<A: Allocator, W: Write>(
+pub(crate) fn resume<A: Allocator, W: Write>(
     w: &mut W,
     session: &mut Session<MarkTrail, A>,
     packet: u64,
@@ -105,7 +105,7 @@ fn write_set<A: Allocator, W: Write>(
 
 /// `breakpoint n`, also with a condition
 #[tactic(auto, using(crate::proofs::SessionReplyLemmas::replies))]
-pub fn set_breakpoint<A: Allocator + Copy, W: Write>(
+pub(crate) fn set_breakpoint<A: Allocator + Copy, W: Write>(
     w: &mut W,
     session: &mut Session<MarkTrail, A>,
     n: u64,
@@ -121,7 +121,7 @@ pub fn set_breakpoint<A: Allocator + Copy, W: Write>(
 
 /// `breakpoint reset`
 #[tactic(auto, using(crate::proofs::SessionReplyLemmas::replies))]
-pub fn reset_breakpoints<A: Allocator, W: Write>(
+pub(crate) fn reset_breakpoints<A: Allocator, W: Write>(
     w: &mut W,
     session: &mut Session<MarkTrail, A>,
 ) -> Result<(), WriteFault>
@@ -134,7 +134,7 @@ pub fn reset_breakpoints<A: Allocator, W: Write>(
 
 /// `delete`
 #[tactic(auto, using(crate::proofs::SessionReplyLemmas::replies))]
-pub fn delete<A: Allocator, W: Write>(
+pub(crate) fn delete<A: Allocator, W: Write>(
     w: &mut W,
     session: &mut Session<MarkTrail, A>,
     n: u64,
@@ -150,7 +150,7 @@ pub fn delete<A: Allocator, W: Write>(
 
 /// `value`
 #[tactic(auto, using(crate::proofs::SessionReplyLemmas::replies))]
-pub fn set_value<A: Allocator, W: Write>(
+pub(crate) fn set_value<A: Allocator, W: Write>(
     w: &mut W,
     session: &mut Session<MarkTrail, A>,
     e: Ext,
@@ -167,7 +167,7 @@ pub fn set_value<A: Allocator, W: Write>(
 
 /// `mark`
 #[tactic(auto, using(crate::proofs::SessionReplyLemmas::replies))]
-pub fn mark<A: Allocator, W: Write>(
+pub(crate) fn mark<A: Allocator, W: Write>(
     w: &mut W,
     session: &Session<MarkTrail, A>,
 ) -> Result<(), WriteFault>
@@ -181,7 +181,7 @@ pub fn mark<A: Allocator, W: Write>(
 
 /// `stops`
 #[tactic(auto, using(crate::proofs::SessionReplyLemmas::replies))]
-pub fn stops<A: Allocator, W: Write>(
+pub(crate) fn stops<A: Allocator, W: Write>(
     w: &mut W,
     session: &Session<MarkTrail, A>,
 ) -> Result<(), WriteFault>
@@ -195,7 +195,7 @@ pub fn stops<A: Allocator, W: Write>(
 
 /// `disassemble`
 #[tactic(auto, unfolding(crate::specs::SessionReplies::listing_text))]
-pub fn disassemble<A: Allocator, W: Write>(
+pub(crate) fn disassemble<A: Allocator, W: Write>(
     w: &mut W,
     session: &Session<MarkTrail, A>,
 ) -> Result<(), WriteFault>
@@ -209,7 +209,7 @@ pub fn disassemble<A: Allocator, W: Write>(
 
 /// `dump`
 #[tactic(auto, unfolding(cbpf_reply::specs::CDump::c_dump_text))]
-pub fn dump<A: Allocator, W: Write>(
+pub(crate) fn dump<A: Allocator, W: Write>(
     w: &mut W,
     session: &Session<MarkTrail, A>,
 ) -> Result<(), WriteFault>

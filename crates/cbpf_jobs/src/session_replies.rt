@@ -24,7 +24,7 @@ use std::io::Write;
 ///
 /// The writer failed, or took nothing of a text that isn't empty: a beginning of the reply was written.
 #[tactic(auto, unfolding(crate::specs::RunText::run_text))]
-pub fn write_run<W: Write, T: Trail, A: Allocator>(
+pub(crate) fn write_run<W: Write, T: Trail, A: Allocator>(
     w: &mut W,
     session: &Session<T, A>,
     reply: RunReply,
@@ -72,7 +72,7 @@ fn write_list<W: Write, T: Trail, A: Allocator>(
 ///
 /// The writer failed, or took nothing of a text that isn't empty: a beginning of the line was written.
 #[tactic(auto, using(cbpf_code::proofs::WrittenLemmas::pairs), unfolding(cbpf_reply::specs::Breakpoints::breakpoints_text))]
-pub fn write_breakpoints<W: Write, T: Trail, A: Allocator>(
+pub(crate) fn write_breakpoints<W: Write, T: Trail, A: Allocator>(
     w: &mut W,
     session: &Session<T, A>,
 ) -> Result<(), WriteFault>
@@ -102,7 +102,10 @@ fn write_lines<W: Write, A: Allocator>(w: &mut W, stops: Stops<'_, A>) -> Result
 ///
 /// The writer failed, or took nothing of a text that isn't empty: a beginning of the lines was written.
 #[tactic(auto, using(cbpf_code::proofs::WrittenLemmas::pairs), unfolding(cbpf_reply::specs::Stops::stops_text))]
-pub fn write_stops<W: Write, A: Allocator>(w: &mut W, stops: Stops<'_, A>) -> Result<(), WriteFault>
+pub(crate) fn write_stops<W: Write, A: Allocator>(
+    w: &mut W,
+    stops: Stops<'_, A>,
+) -> Result<(), WriteFault>
     requires { length stops < 2 ^ 128 }
     ensures { Wrote (W.contents w.old) (W.contents w.new) result (stops_text stops.entry) }
 {

@@ -6,13 +6,13 @@ ghost use Rattle.cbpf_lex.specs.Bytes.{is_blank, is_digit, is_name_byte};
 ghost use Rattle.cbpf_lex.specs.Pieces.{is_line_blank};
 
 /// A space, a tab, a newline or a carriage return.
-pub fn is_blank(b: u8) -> bool
+pub(crate) fn is_blank(b: u8) -> bool
     ensures { result ≡ is_blank b }
 {
     b <= b' ' && matches!(b, b' ' | b'\t' | b'\n' | b'\r')
 }
 
-pub fn is_digit(b: u8) -> bool
+pub(crate) fn is_digit(b: u8) -> bool
     ensures { result ≡ is_digit b }
 {
     b >= b'0' && b <= b'9'
@@ -31,14 +31,14 @@ static NAME_BYTES: [u8; 256] = *b"\
 
 /// An ASCII letter, a digit or `_`.
 #[inline(always)]
-pub fn is_name_byte(b: u8) -> bool
+pub(crate) fn is_name_byte(b: u8) -> bool
     ensures { result ≡ is_name_byte b }
 {
     NAME_BYTES[b as usize] != b'.'
 }
 
 /// How many bytes at the front may stand in a name.
-pub fn name_len(text: &[u8]) -> usize
+pub(crate) fn name_len(text: &[u8]) -> usize
     ensures within { result ≤ length text.now }
     ensures run { result ≡ prefix_len is_name_byte text.now }
 {
@@ -46,7 +46,7 @@ pub fn name_len(text: &[u8]) -> usize
 }
 
 /// How many blanks are at the front.
-pub fn blanks_len(text: &[u8]) -> usize
+pub(crate) fn blanks_len(text: &[u8]) -> usize
     ensures within { result ≤ length text.now }
     ensures run { result ≡ prefix_len is_blank text.now }
 {
@@ -54,7 +54,7 @@ pub fn blanks_len(text: &[u8]) -> usize
 }
 
 /// How many bytes are before the first newline.
-pub fn line_len(text: &[u8]) -> usize
+pub(crate) fn line_len(text: &[u8]) -> usize
     ensures within { result ≤ length text.now }
     ensures run { result ≡ prefix_len (λ c. not (c == 10)) text.now }
 {
@@ -63,7 +63,7 @@ pub fn line_len(text: &[u8]) -> usize
 
 /// Whether the last line has only blanks.
 // It looks from the end: the last newline, or a byte after it that isn't blank, decides.
-pub fn is_line_blank(bytes: &[u8]) -> bool
+pub(crate) fn is_line_blank(bytes: &[u8]) -> bool
     ensures { result ≡ is_line_blank bytes.now }
 {
     let mut n = bytes.len();

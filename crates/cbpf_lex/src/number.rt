@@ -54,7 +54,7 @@ fn some_digits_value(base: u64, bytes: &[u8]) -> Option<u64>
 }
 
 /// The number that a run of bytes spells, at most `LIMIT`.
-pub fn number_value(first: u8, rest: &[u8]) -> Option<u64>
+pub(crate) fn number_value(first: u8, rest: &[u8]) -> Option<u64>
     ensures { IsCapped result (number_value (first ∷ rest.now)) }
 {
     if first != b'0' {

@@ -152,7 +152,7 @@ fn slash_piece(rest: &[u8]) -> Piece
 
 /// The piece at the front of a text, which isn't empty, after the bytes before it.
 #[inline(always)]
-pub fn next_piece(before: &[u8], first: u8, rest: &[u8]) -> Piece
+pub(crate) fn next_piece(before: &[u8], first: u8, rest: &[u8]) -> Piece
     ensures { IsNext (is_line_blank before.now) (first ∷ rest.now) result }
 {
     match lead_of(before, first) {
@@ -188,7 +188,7 @@ pub fn next_piece(before: &[u8], first: u8, rest: &[u8]) -> Piece
 }
 
 /// What is wrong with a bad piece.
-pub fn fault_of(kind: PieceKind) -> Option<BadPiece>
+pub(crate) fn fault_of(kind: PieceKind) -> Option<BadPiece>
     ensures bad { IfSome result (λ fault. kind ≡ Bad fault) }
     ensures good { IfNone result (is_good kind ≡ true) }
 {

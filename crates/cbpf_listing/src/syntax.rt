@@ -75,7 +75,7 @@ fn jump_mnemonic(cond: Cond) -> &'static [u8]
 
 /// The mnemonic of an operation.
 #[inline]
-pub fn mnemonic_of(op: Op) -> &'static [u8]
+pub(crate) fn mnemonic_of(op: Op) -> &'static [u8]
     ensures { result.now ≡ spec.mnemonic_of op }
 {
     match op {
@@ -98,7 +98,7 @@ pub fn mnemonic_of(op: Op) -> &'static [u8]
 
 /// What stands after the mnemonic of an operation.
 #[inline]
-pub fn operand_of(op: Op) -> Operand
+pub(crate) fn operand_of(op: Op) -> Operand
     ensures { result ≡ spec.operand_of op }
 {
     match op {

@@ -5,7 +5,7 @@ ghost use Rattle.cbpf_code.specs.Text.{hex, spaces};
 
 /// The byte of a hexadecimal digit.
 #[inline(always)]
-pub fn hex_digit(digit: u8) -> u8
+pub(crate) fn hex_digit(digit: u8) -> u8
     requires { digit < 16 }
     ensures { result ≡ digit_glyph false digit }
 {
@@ -17,7 +17,7 @@ pub fn hex_digit(digit: u8) -> u8
 }
 
 /// A number as eight hexadecimal digits.
-pub fn eight_digits(n: u32) -> [u8; 8]
+pub(crate) fn eight_digits(n: u32) -> [u8; 8]
     ensures { result ≡ hex 8 n }
 {
     let n1 = n / 16;
@@ -41,7 +41,7 @@ pub fn eight_digits(n: u32) -> [u8; 8]
 
 /// The spaces that fill a text of this length up to ten places.
 #[tactic(auto, using(crate::proofs::SpaceLemmas::pads))]
-pub fn spaces_to_ten(len: usize) -> &'static [u8]
+pub(crate) fn spaces_to_ten(len: usize) -> &'static [u8]
     ensures { result.now ≡ spaces (10 - len) }
 {
     &b"          "[..10usize.saturating_sub(len)]
@@ -49,7 +49,7 @@ pub fn spaces_to_ten(len: usize) -> &'static [u8]
 
 /// The spaces that set a text of this length right in five places.
 #[tactic(auto, using(crate::proofs::SpaceLemmas::pads))]
-pub fn spaces_to_five(len: usize) -> &'static [u8]
+pub(crate) fn spaces_to_five(len: usize) -> &'static [u8]
     ensures { result.now ≡ spaces (5 - len) }
 {
     &b"     "[..5usize.saturating_sub(len)]

@@ -171,7 +171,7 @@ fn write_register_dump<W: Write, A: Allocator>(
 }
 
 /// Writes why it stopped.
-pub fn write_why<W: Write>(w: &mut W, why: Why) -> Result<(), WriteFault>
+pub(crate) fn write_why<W: Write>(w: &mut W, why: Why) -> Result<(), WriteFault>
     ensures { Wrote (W.contents w.old) (W.contents w.new) result (spec.why_line why) }
 {
     match why {

@@ -76,7 +76,7 @@ fn write_lengths<W: Write>(w: &mut W, captured: usize, wire: u32) -> Result<(), 
 
 /// Writes the lengths of a packet, and its captured bytes.
 #[tactic(auto, using(cbpf_code::proofs::WrittenLemmas::pairs))]
-pub fn write_packet<W: Write>(w: &mut W, bytes: &[u8], wire: u32) -> Result<(), WriteFault>
+pub(crate) fn write_packet<W: Write>(w: &mut W, bytes: &[u8], wire: u32) -> Result<(), WriteFault>
     ensures { Wrote (W.contents w.old) (W.contents w.new) result (spec.packet_dump bytes.now wire) }
 {
     write_lengths(w, bytes.len(), wire)?;

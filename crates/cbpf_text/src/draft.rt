@@ -188,7 +188,10 @@ fn fault_here<A: Allocator>(text: &[u8], reader: &mut Reader<'_, A>, n: usize) -
 }
 
 /// The items of a text, of which only what their instructions depend on is kept.
-pub fn read<'a, A: Allocator + Copy>(alloc: A, text: &'a [u8]) -> Result<Draft<'a, A>, AsmFault>
+pub(crate) fn read<'a, A: Allocator + Copy>(
+    alloc: A,
+    text: &'a [u8],
+) -> Result<Draft<'a, A>, AsmFault>
     ensures items { IfOk result (λ draft. (ts : List lexemes.Lexeme) × (is : List items.Item) × AreLexemes text.now ts ×
         Items ts is × IsAccepted ts ×
         IsDraft draft.excess draft.statements.items draft.labels.repeat

@@ -110,7 +110,7 @@ fn encode<A: Allocator>(
 }
 
 /// The instructions of all statements, or the first target that is refused.
-pub fn encode_all<A: Allocator + Copy>(
+pub(crate) fn encode_all<A: Allocator + Copy>(
     alloc: A,
     labels: &LabelTable<'_, A>,
     statements: &[Statement<'_>],

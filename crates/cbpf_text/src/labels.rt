@@ -52,7 +52,7 @@ pub struct Labels<'a, A: Allocator> {
 
 impl<'a, A: Allocator> Labels<'a, A> {
     /// No labels, of this source.
-    pub fn new(alloc: A, text: &[u8]) -> Self
+    pub(crate) fn new(alloc: A, text: &[u8]) -> Self
     where
         A: Copy,
         ensures { AreSet [] result.repeat (λ k. get same_name result.table k) }
@@ -64,7 +64,11 @@ impl<'a, A: Allocator> Labels<'a, A> {
     }
 
     /// One more label, which the item at the index sets.
-    pub fn add(&mut self, label: Lexeme<'a>, index: u32) -> Result<(), AllocFailed<(Name<'a>, u32)>>
+    pub(crate) fn add(
+        &mut self,
+        label: Lexeme<'a>,
+        index: u32,
+    ) -> Result<(), AllocFailed<(Name<'a>, u32)>>
         ensures { OnOk result ((ls : List tables.Label) →
             AreSet ls self.old.repeat (λ k. get same_name self.old.table k) →
             AreSet (ls ++ record { word = lexeme_of label.entry; place = index } ∷ [])

@@ -28,7 +28,7 @@ impl<'a> Hash for Name<'a> {
 }
 
 /// The bytes of a word, none of another token.
-pub fn name_of<'a>(symbol: Symbol<'a>) -> Name<'a>
+pub(crate) fn name_of<'a>(symbol: Symbol<'a>) -> Name<'a>
     ensures { result.bytes.now ≡ bytes_of (symbol_of symbol.entry) }
 {
     match symbol {

@@ -8,7 +8,7 @@ use cbpf_code::{FIRST_EXTENSION, ext_named, ext_offset};
 use cbpf_grammar::{Class, Symbol};
 
 /// The value of a token at its class, where it has one.
-pub fn value_at(class: Class, symbol: Symbol<'_>) -> Option<u32>
+pub(crate) fn value_at(class: Class, symbol: Symbol<'_>) -> Option<u32>
     ensures { result ≡ value_at (class_of class) (symbol_of symbol.entry) }
 {
     match (class, symbol) {

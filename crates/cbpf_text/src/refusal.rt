@@ -7,7 +7,7 @@ use crate::source::line_of;
 use std::alloc::{AllocError, AllocFailed};
 
 /// The refusal with its line.
-pub fn fault_of(text: &[u8], refusal: Refusal) -> AsmFault
+pub(crate) fn fault_of(text: &[u8], refusal: Refusal) -> AsmFault
     ensures { IsReportedAt text.now refusal result }
 {
     match refusal {

@@ -19,7 +19,7 @@ fn piece_kind(bad: BadPiece) -> AsmKind
 }
 
 /// What is reported of a text that has no tokens.
-pub fn lex_refusal(fault: LexFault) -> AsmFault
+pub(crate) fn lex_refusal(fault: LexFault) -> AsmFault
     ensures { (text : List ℕ) → IsLexFault text fault → IsLexRefused text result }
 {
     match fault {
@@ -29,7 +29,7 @@ pub fn lex_refusal(fault: LexFault) -> AsmFault
 }
 
 /// The line of a place in the text, counted from 1. A place after the text is its end's.
-pub fn line_of(text: &[u8], at: usize) -> u64
+pub(crate) fn line_of(text: &[u8], at: usize) -> u64
     ensures { result ≡ line_of text.now at }
 {
     cbpf_lex::line_of(text, at.min(text.len()))
