@@ -21,5 +21,4 @@ pub use item::Row;
 pub use law::{one_reading, one_refusal};
 pub use lexeme::{Lexeme, Symbol};
 pub use reader::{Reader, Refusal, Step};
-pub use reserved::is_reserved;
 pub use table::Fields;

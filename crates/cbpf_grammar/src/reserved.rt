@@ -74,7 +74,7 @@ fn is_listed(word: &[u8]) -> bool
 /// Whether a word is a mnemonic, an extension's name, `len`, `x`, `a` or `M`, and so no label.
 // Labels often end with a number, and then there is no need to look them up.
 #[inline(always)]
-pub fn is_reserved(word: &[u8]) -> bool
+pub(crate) fn is_reserved(word: &[u8]) -> bool
     ensures { result ≡ is_reserved word.now }
 {
     !ends_with_digit(word) && is_listed(word)

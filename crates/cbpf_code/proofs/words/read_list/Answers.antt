@@ -20,3 +20,6 @@ returns-in_err-at-2 g c =
     let some : marks_after c.args.text.now c.in_ok-insn.end ≡ [] → ⊥ = search rules in
     let h : Refused c.args.text.now c.in_err-at-2.field-0.0 = stops-comma _ _ _ _ _ _ _ c.loop-list.invariant c.in_ok-insn.ensures some c.in_err-at-2.ensures in
     grind (arith, h)
+
+pub loop-list-init : goal.loop-list-init
+loop-list-init g c = search rules

@@ -1,4 +1,4 @@
-use Rattle.std.proofs.Common.{◌≡◌, ◌-◌, Some, arith, take, slice_get, subst}
+use Rattle.std.proofs.Common.{rules, ◌≡◌, ◌-◌, Some, arith, take, slice_get, subst}
 use Rattle.std.proofs.lemmas.Option.{slice_get_within}
 use Rattle.cbpf_machine.specs.Trace.{trace}
 use Rattle.pcap_classic.specs.Records.{Record}
@@ -22,3 +22,6 @@ returns-clause-found g c =
       c.at_entry.ensures.origin,
       rw at (omega (arith, within)),
     )
+
+pub returns-in_err-state-clause-short : goal.returns-in_err-state-clause-short
+returns-in_err-state-clause-short g c = search rules

@@ -24,3 +24,6 @@ loop-preserved g c =
     let joined = consumes-then old mid new c.loop.source.items got c.loop.invariant c.in-Ok.ensures.bytes.0 in
     let items : c.extend_from_slice.new.self.items ≡ c.loop.source.items ++ got = search rules in
     rw items joined
+
+pub returns-in_default-clause-fault : goal.returns-in_default-clause-fault
+returns-in_default-clause-fault g c = search rules

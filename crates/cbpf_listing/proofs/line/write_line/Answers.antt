@@ -1,3 +1,4 @@
+use Rattle.std.proofs.Common.{rules}
 use Rattle.cbpf_code.proofs.SoundLemmas.{sound_known}
 use Rattle.cbpf_listing.proofs.line.write_line.Goals as goal
 
@@ -6,3 +7,6 @@ pub unreachable-requires : goal.unreachable-requires
 unreachable-requires g c =
     let known = sound_known c.args.p.now c.args.i _ c.at_index-insn.ensures.sound c.at_index-insn.ensures.value in
     absurd cc
+
+pub returns : goal.returns
+returns g c = search rules

@@ -1,3 +1,4 @@
+use Rattle.std.proofs.Common.{rules}
 use Rattle.cbpf_dbg.proofs.CarryLemmas.{same-but, known-at}
 use Rattle.cbpf_dbg.proofs.session.Session.breakpoint_when.Goals as goal
 
@@ -6,3 +7,6 @@ invariant_of-self g c = (
   c.self.invariant.0,
   known-at _ _ _ _ _ _ _ _ c.in-Some.is c.self.invariant.1 (λ w. c.watch_at.ensures _ w (same-but c.args.n _ _ (λ q h. c.in-Ok.ensures.updates.2 q h))),
 )
+
+pub watch_at-requires : goal.watch_at-requires
+watch_at-requires g c = search rules

@@ -1,5 +1,5 @@
 use Rattle.cbpf_machine.specs.Machine.{machine_of}
-use Rattle.std.proofs.Common.{◌≡◌, [], ◌∷◌, ◌++◌, arith, sym, append-nil, refl, ap, ◌∙◌, inl}
+use Rattle.std.proofs.Common.{rules, ◌≡◌, [], ◌∷◌, ◌++◌, arith, sym, append-nil, refl, ap, ◌∙◌, inl}
 use Rattle.cbpf_reply.specs.declared.reply.RunReply.TheVariants.{Stopped, Finished}
 use Rattle.cbpf_dbg.proofs.WholeLemmas.{Holds, stops-held, from_start, going-spare, going-found, going-stop, going-end, fewer, going-turns, end-turns}
 use Rattle.cbpf_dbg.proofs.session.Session.run_to_end.Goals as goal
@@ -81,3 +81,6 @@ returns-in-Finished-clause-turns g c =
 
 pub returns-in-Finished-clause-from_start : goal.returns-in-Finished-clause-from_start
 returns-in-Finished-clause-from_start g c = from_start c.args.self.now
+
+pub returns-in_default-clause-refused : goal.returns-in_default-clause-refused
+returns-in_default-clause-refused g c = search rules

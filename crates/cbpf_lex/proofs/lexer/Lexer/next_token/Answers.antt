@@ -1,4 +1,4 @@
-use Rattle.std.proofs.Common.{arith, refl, ◌≡◌, ◌∙◌, sym, subst, get_or, false}
+use Rattle.std.proofs.Common.{rules, arith, refl, ◌≡◌, ◌∙◌, sym, subst, get_or, false}
 use Rattle.cbpf_lex.specs.Bytes.{is_blank}
 use Rattle.cbpf_lex.specs.Pieces.{IsPieceAt}
 use Rattle.cbpf_lex.proofs.Blanks.{to_run_end, to_here, to_next}
@@ -69,3 +69,6 @@ loop-at-smaller c =
     let piece = c.next_piece-piece.result in
     let next = next_at text c.loop-at.at piece c.loop-at-test.true c.next_piece-piece.ensures in
     omega (arith, piece_some text c.loop-at.at piece next, c.loop-at-test.true)
+
+pub returns-clause-finished : goal.returns-clause-finished
+returns-clause-finished c = search rules

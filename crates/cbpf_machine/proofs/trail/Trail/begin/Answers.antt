@@ -1,4 +1,4 @@
-use Rattle.std.proofs.Common.{◌≡◌, ◌+◌, ◌-◌, ◌∙◌, [], ◌∷◌, arith, sym, subst}
+use Rattle.std.proofs.Common.{rules, ◌≡◌, ◌+◌, ◌-◌, ◌∙◌, [], ◌∷◌, arith, sym, subst}
 use Rattle.std.proofs.lemmas.Option.{slice_get_within}
 use Rattle.cbpf_machine.specs.Machine.{machine_of}
 use Rattle.cbpf_machine.specs.Registers.{zero_state}
@@ -40,3 +40,9 @@ pub returns-in-Ended-clause-follows : goal.returns-in-Ended-clause-follows
 returns-in-Ended-clause-follows g c =
     let one : 1 ≡ g.Self.Trail.kept c.push.new.self = g.met.Self.Trail.as_long c.push.new.self (c.zero-here.result ∷ []) (c.push.ensures [] c.requires.empty) in
     start_ends (machine_of c.args.p.now c.args.values.now) c.args.packet.bytes.now c.args.packet.wire c.args.watched.now c.zero-here.result c.zero-here.ensures c.len-few.ensures.sound (sym c.has.ensures ∙ c.if-has.false) c.args.s.now c.follow.new.s c.in-Ended.outcome (g.Self.Trail.kept c.push.new.self) one c.in-Ended.ensures.follows
+
+pub returns-in-Watched-clause-turns : goal.returns-in-Watched-clause-turns
+returns-in-Watched-clause-turns g c = search rules
+
+pub returns-in-Ended-clause-turns : goal.returns-in-Ended-clause-turns
+returns-in-Ended-clause-turns g c = search rules
