@@ -6,7 +6,7 @@ pub mod SlotMaskLemmas
 pub mod SoundLemmas
 pub mod TableLemmas
 pub mod WordAnswerLemmas
-pub mod WordMarkLemmas
+pub mod WordTokenLemmas
 pub mod WordStepLemmas
 pub mod WrittenLemmas
 pub mod WordFormLemmas

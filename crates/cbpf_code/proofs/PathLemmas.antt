@@ -55,8 +55,8 @@ reached-unwritten_at list s _ (onward {h} below unwritten keeps next) = inr (h, 
 -- the masks say what the first m instructions lead to, and none of these loads a slot that may be unwritten
 pub record TracksPaths (list : List Insn) (m : ℕ) (masks : List ℕ) : Type 0 where
   pub long : length masks ≡ 4096
-  pub marks : (t s : ℕ) → s < 16 → InMaskOf masks t s → ReachedUnwritten list s m t
-  pub marked : (t s : ℕ) → s < 16 → ReachedUnwritten list s m t → InMaskOf masks t s
+  pub only_reached : (t s : ℕ) → s < 16 → InMaskOf masks t s → ReachedUnwritten list s m t
+  pub each_reached : (t s : ℕ) → s < 16 → ReachedUnwritten list s m t → InMaskOf masks t s
   pub written : (j : ℕ) → j < m → HasFault list (UnwrittenSlot j) → ⊥
 
 get_or-zeros : (n t : ℕ) → ◌≡◌ {A = ℕ} (get_or (replicate n 0) t 0) 0
@@ -65,7 +65,7 @@ get_or-zeros n t = elim (cases_lt t n) [ inl h ↦ get_or-replicate n t 0 0 h | 
 pub tracks_paths-start : (list : List Insn) → TracksPaths list 0 (slice_set (replicate 4096 0) 0 65535)
 tracks_paths-start list = record {
   long = length-set {A = ℕ} (replicate 4096 0) 0 65535;
-  marks = λ t s small here.
+  only_reached = λ t s small here.
       elim (cases_eq t 0) [
         | inl e ↦ inl e
         | inr n ↦
@@ -75,7 +75,7 @@ tracks_paths-start list = record {
             let off = bit_at-zero s in
             absurd (omega arith)
       ];
-  marked = λ t s small reached.
+  each_reached = λ t s small reached.
       elim reached [
         | inl e ↦ subst (λ m. InMask m s) (sym (get_or-set_at {X = ℕ} (replicate 4096 0) 0 t 65535 0 e (omega arith))) (bit_at_ones 16 s small)
         | inr r ↦ absurd (omega arith)
@@ -90,30 +90,30 @@ reached-further list s m t (inr r) = inr (r.0, omega arith, r.2, r.3, r.4)
 pub tracks_paths-next : (list : List Insn) (i : ℕ) (insn : Insn) (op : Op) (masks next_masks : List ℕ) (left : ℕ) → slice_get list i ≡ Some insn → op_of insn.code ≡ Some op → TracksPaths list i masks → LeavesUnwritten (slice_index masks i) op insn left → AddsToMasks masks next_masks left (λ t. Follows op insn i t) → (HasFault list (UnwrittenSlot i) → ⊥) → TracksPaths list (i + 1) next_masks
 tracks_paths-next list i insn op masks next_masks left here known tracks leaves adds fine = record {
   long = adds.long ∙ tracks.long;
-  marks = λ t s small marked.
-      elim (adds.only t s marked) [
-        | inl old ↦ reached-further list s i t (tracks.marks t s small old)
+  only_reached = λ t s small set.
+      elim (adds.only t s set) [
+        | inl old ↦ reached-further list s i t (tracks.only_reached t s small old)
         | inr new ↦ inr (
           i,
           omega arith,
-          unwritten_at-reached list s i (tracks.marks i s small (leaves.only s small new.1)),
+          unwritten_at-reached list s i (tracks.only_reached i s small (leaves.only s small new.1)),
           (λ stores.
               let same = insn_at-same list i (λ o x. IsTrue (stores_slot o) × (x.k ≡ s)) insn op stores here known in
               leaves.stored s small new.1 same.0 same.1),
           successor_of list i t insn op here known new.0,
         )
       ];
-  marked = λ t s small reached.
+  each_reached = λ t s small reached.
       elim reached [
-        | inl first ↦ adds.kept t s (tracks.marked t s small (inl first))
+        | inl first ↦ adds.kept t s (tracks.each_reached t s small (inl first))
         | inr r ↦ elim (cases_eq r.0 i) [
           | inl e ↦
               let unwritten : MayBeUnwritten list s i = subst (MayBeUnwritten list s) e r.2 in
               let next : IsSuccessor list i t = subst (λ h. IsSuccessor list h t) e r.4 in
               let keeps : StoresSlot list i s → ⊥ = subst (λ h. StoresSlot list h s → ⊥) e r.3 in
               adds.added t s (successor-same list i t insn op next here known)
-              (leaves.kept s small (tracks.marked i s small (reached-unwritten_at list s i unwritten)) (λ is at_s. keeps (insn, op, here, known, (is, at_s))))
-          | inr n ↦ adds.kept t s (tracks.marked t s small (inr (r.0, omega arith, r.2, r.3, r.4)))
+              (leaves.kept s small (tracks.each_reached i s small (reached-unwritten_at list s i unwritten)) (λ is at_s. keeps (insn, op, here, known, (is, at_s))))
+          | inr n ↦ adds.kept t s (tracks.each_reached t s small (inr (r.0, omega arith, r.2, r.3, r.4)))
         ]
       ];
   written = λ j below stands.
@@ -124,13 +124,13 @@ tracks_paths-next list i insn op masks next_masks left here known tracks leaves 
 }
 
 pub unwritten_at : (list : List Insn) (i : ℕ) (insn : Insn) (op : Op) (masks : List ℕ) → slice_get list i ≡ Some insn → op_of insn.code ≡ Some op → insn.k < 16 → TracksPaths list i masks → IsTrue (loads_slot op) → InMaskOf masks i insn.k → HasFault list (UnwrittenSlot i)
-unwritten_at list i insn op masks here known small tracks loads marked =
-    (insn, op, here, known, (loads, unwritten_at-reached list insn.k i (tracks.marks i insn.k small marked)))
+unwritten_at list i insn op masks here known small tracks loads set =
+    (insn, op, here, known, (loads, unwritten_at-reached list insn.k i (tracks.only_reached i insn.k small set)))
 
 pub written_at : (list : List Insn) (i : ℕ) (insn : Insn) (op : Op) (masks : List ℕ) → slice_get list i ≡ Some insn → op_of insn.code ≡ Some op → (IsTrue (loads_slot op) → insn.k < 16) → TracksPaths list i masks → ((IsTrue (loads_slot op) × InMaskOf masks i insn.k) → ⊥) → HasFault list (UnwrittenSlot i) → ⊥
 written_at list i insn op masks here known small tracks fine stands =
     let same = insn_at-same list i (λ o x. IsTrue (loads_slot o) × MayBeUnwritten list x.k i) insn op stands here known in
-    fine (same.0, tracks.marked i insn.k (small same.0) (reached-unwritten_at list insn.k i same.1))
+    fine (same.0, tracks.each_reached i insn.k (small same.0) (reached-unwritten_at list insn.k i same.1))
 
 pub written-all : (list : List Insn) (masks : List ℕ) → TracksPaths list (length list) masks → (j : ℕ) → HasFault list (UnwrittenSlot j) → ⊥
 written-all list masks tracks j stands = tracks.written j (slice_get_within list j stands.0 stands.2) stands

@@ -18,7 +18,7 @@ breaks-loose text list e loose broken = elim broken.why [
   | inr end ↦ end.1 list loose
 ]
 
--- a fault other than out of memory is that of a bad mark or of the end, or the count's
+-- a fault other than out of memory is that of a bad token or of the end, or the count's
 refused-cases : (text : List ℕ) (e : WordFault) → e ≢ Memory → Refused text e → Breaks text e ⊎ ((list : List Insn) × Loose text list × (e ≡ CountDiffers (count_of text) (length list)) × (count_of text ≢ length list))
 refused-cases text Memory other r = absurd (other refl)
 refused-cases text (NumberExpected p) other r = inl r

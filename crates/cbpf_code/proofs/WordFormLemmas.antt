@@ -7,11 +7,11 @@ use Rattle.std.proofs.lemmas.Fmt.{decimal_is_IsNumeral, decimal_nonempty}
 use Rattle.std.proofs.lemmas.List.Elements.{All-head, All-tail}
 use Rattle.std.proofs.lemmas.Str.{digit_value_digit}
 use Rattle.std.proofs.lemmas.Str.Parse.{digit_from_value}
-use Rattle.cbpf_code.specs.Marks.{run, is_digit, begins_with_digit, number, marks_from}
-use Rattle.cbpf_code.specs.WordText.{number_fault, mark_fault, first_fault, or_else, numbers, Spells}
+use Rattle.cbpf_code.specs.WordTokens.{run, is_digit, begins_with_digit, number, tokens_from}
+use Rattle.cbpf_code.specs.WordText.{number_fault, token_fault, first_fault, or_else, numbers, Spells}
 use Rattle.cbpf_code.specs.WordForm.{InRange, word_line, words}
 use Rattle.cbpf_code.specs.WordSteps.{fields_of, IsReadWhole}
-use Rattle.cbpf_code.proofs.WordMarkLemmas.{law-empty, law-blank, law-single, law-run}
+use Rattle.cbpf_code.proofs.WordTokenLemmas.{law-empty, law-blank, law-single, law-run}
 use Rattle.cbpf_code.proofs.WordStepLemmas.{first_fault-shift, whole-by}
 use Rattle.cbpf_code.specs.declared.insn.Insn.{Insn}
 
@@ -38,17 +38,17 @@ some_digits : (ds : List ℕ) → 0 < length ds → ds ≢ []
 some_digits [] l e = omega (arith, l)
 some_digits (c ∷ cs) l e = cc
 
-marks-decimal : (at n : ℕ) (rest : List ℕ) → n < 2 ^ 64 → begins_with_digit rest ≡ false → marks_from at (decimal n ++ rest) ≡ run at (decimal n) ∷ marks_from (at + length (decimal n)) rest
-marks-decimal at n rest h stop =
+tokens-decimal : (at n : ℕ) (rest : List ℕ) → n < 2 ^ 64 → begins_with_digit rest ≡ false → tokens_from at (decimal n ++ rest) ≡ run at (decimal n) ∷ tokens_from (at + length (decimal n)) rest
+tokens-decimal at n rest h stop =
     law-run at (decimal n) rest (some_digits (decimal n) (decimal_nonempty n h)) (all_digits (decimal n) (decimal_is_IsNumeral n h).0.1) stop
 
 -- ---- texts, wherever they stand
 
--- m marks, of which the first is due as mark j: none is bad, and their numbers are ns
+-- m tokens, of which the first is due as token j: none is bad, and their numbers are ns
 record Reads (text : List ℕ) (j m : ℕ) (ns : List ℕ) : Type 0 where
-  good : (at : ℕ) → first_fault j (marks_from at text) ≡ None
-  count : (at : ℕ) → length (marks_from at text) ≡ m
-  spelled : (at : ℕ) → numbers (marks_from at text) ≡ ns
+  good : (at : ℕ) → first_fault j (tokens_from at text) ≡ None
+  count : (at : ℕ) → length (tokens_from at text) ≡ m
+  spelled : (at : ℕ) → numbers (tokens_from at text) ≡ ns
 
 reads-newline : Reads (codes "\n") 2 0 []
 reads-newline =
@@ -76,7 +76,7 @@ reads-comma text m ns r =
 
 reads-next_comma : (text : List ℕ) (m : ℕ) (ns : List ℕ) → Reads text 1 m ns → Reads text 6 m ns
 reads-next_comma text m ns r = record {
-  good = λ at. first_fault-shift 0 (marks_from at text) ∙ r.good at;
+  good = λ at. first_fault-shift 0 (tokens_from at text) ∙ r.good at;
   count = r.count;
   spelled = r.spelled;
 }
@@ -87,13 +87,13 @@ good-number at n range h l =
     let t : nat_lt n range ≡ true = grind (arith, tests) in
     rw (v, t) refl
 
-reads-number : (text : List ℕ) (n j m : ℕ) (ns : List ℕ) → begins_with_digit text ≡ false → n < 2 ^ 64 → ((at : ℕ) → mark_fault j (run at (decimal n)) ≡ None) → Reads text (suc j) m ns → Reads (decimal n ++ text) j (m + 1) (n ∷ ns)
+reads-number : (text : List ℕ) (n j m : ℕ) (ns : List ℕ) → begins_with_digit text ≡ false → n < 2 ^ 64 → ((at : ℕ) → token_fault j (run at (decimal n)) ≡ None) → Reads text (suc j) m ns → Reads (decimal n ++ text) j (m + 1) (n ∷ ns)
 reads-number text n j m ns stop h good r =
-    let e = λ (at : ℕ). marks-decimal at n text h stop in
+    let e = λ (at : ℕ). tokens-decimal at n text h stop in
     record {
-      good = λ at. ap (first_fault j) (e at) ∙ ap (λ o. or_else o (first_fault (suc j) (marks_from (at + length (decimal n)) text))) (good at) ∙ r.good (at + length (decimal n));
+      good = λ at. ap (first_fault j) (e at) ∙ ap (λ o. or_else o (first_fault (suc j) (tokens_from (at + length (decimal n)) text))) (good at) ∙ r.good (at + length (decimal n));
       count = λ at. omega (arith, ap length (e at), r.count (at + length (decimal n)));
-      spelled = λ at. ap numbers (e at) ∙ ap (λ v. v ∷ numbers (marks_from (at + length (decimal n)) text)) (number-decimal n h) ∙ ap (λ (l : List ℕ). n ∷ l) (r.spelled (at + length (decimal n)));
+      spelled = λ at. ap numbers (e at) ∙ ap (λ v. v ∷ numbers (tokens_from (at + length (decimal n)) text)) (number-decimal n h) ∙ ap (λ (l : List ℕ). n ∷ l) (r.spelled (at + length (decimal n)));
     }
 
 -- ---- instructions

@@ -1,7 +1,7 @@
 -- Steps of the reader, one after another.
 use Rattle.std.proofs.Common.{◌≡◌, ℕ, suc, ◌+◌, ◌%◌, ◌<◌, ◌≤◌, ◌⊎◌, inl, inr, List, [], ◌∷◌, ◌++◌, length, length-append, drop, append_assoc, append-nil, refl, sym, ◌∙◌, ap, subst, tests, true, false, cond, eqb, nat_lt, ◌==◌, ◌^◌, slice_index, arith, Option, Some, None}
-use Rattle.cbpf_code.specs.Marks.{Mark, run, single, marks, marks_after, number}
-use Rattle.cbpf_code.specs.WordText.{range_of, comma_fault, number_fault, mark_fault, first_fault, or_else, numbers, in_fours, Loose, Breaks, Refused, end_fault}
+use Rattle.cbpf_code.specs.WordTokens.{Token, run, single, tokens, tokens_after, number}
+use Rattle.cbpf_code.specs.WordText.{range_of, comma_fault, number_fault, token_fault, first_fault, or_else, numbers, in_fours, Loose, Breaks, Refused, end_fault}
 use Rattle.cbpf_code.specs.WordSteps.{Passes, Stops, IsRead, IsReadWhole, fields_of}
 use Rattle.cbpf_code.specs.declared.insn.Insn.{Insn}
 use Rattle.cbpf_code.specs.declared.words.WordFault.TheVariants.{Memory, NumberExpected, OutOfRange, UnexpectedByte, CountDiffers, CommaExpected}
@@ -13,24 +13,24 @@ passes-then text j at n mid m end ns ms x y =
     record {
       within = y.within;
       after = omega (arith, x.after, y.after);
-      good = x.good ∙ y.good ∙ ap (λ i. first_fault i (marks_after text end)) sum;
+      good = x.good ∙ y.good ∙ ap (λ i. first_fault i (tokens_after text end)) sum;
       count = omega (arith, x.count, y.count);
-      spelled = x.spelled ∙ ap (λ (t : List ℕ). ns ++ t) y.spelled ∙ sym (append_assoc ns ms (numbers (marks_after text end)));
+      spelled = x.spelled ∙ ap (λ (t : List ℕ). ns ++ t) y.spelled ∙ sym (append_assoc ns ms (numbers (tokens_after text end)));
     }
 
--- marks are due in fives
-mark_fault-shift : (j : ℕ) (m : Mark) → mark_fault (j + 6) m ≡ mark_fault (suc j) m
-mark_fault-shift j m =
+-- tokens are due in fives
+token_fault-shift : (j : ℕ) (m : Token) → token_fault (j + 6) m ≡ token_fault (suc j) m
+token_fault-shift j m =
     let e : (j + 6) % 5 ≡ suc j % 5 = omega arith in
     let z : (j + 6 == 0) ≡ false = grind (arith, tests) in
     let y : (suc j == 0) ≡ false = grind (arith, tests) in
     rw (e, z, y) refl
 
-pub first_fault-shift : (j : ℕ) (ms : List Mark) → first_fault (j + 6) ms ≡ first_fault (suc j) ms
+pub first_fault-shift : (j : ℕ) (ms : List Token) → first_fault (j + 6) ms ≡ first_fault (suc j) ms
 first_fault-shift j [] = refl
 first_fault-shift j (m ∷ ms) =
     let e : suc (j + 6) ≡ suc j + 6 = omega arith in
-    ap (λ o. or_else o (first_fault (suc (j + 6)) ms)) (mark_fault-shift j m) ∙ ap (λ i. or_else (mark_fault (suc j) m) (first_fault i ms)) e ∙ ap (λ o. or_else (mark_fault (suc j) m) o) (first_fault-shift (suc j) ms)
+    ap (λ o. or_else o (first_fault (suc (j + 6)) ms)) (token_fault-shift j m) ∙ ap (λ i. or_else (token_fault (suc j) m) (first_fault i ms)) e ∙ ap (λ o. or_else (token_fault (suc j) m) o) (first_fault-shift (suc j) ms)
 
 pub in_fours-fields : (list : List Insn) → in_fours (fields_of list) ≡ list
 in_fours-fields [] = refl
@@ -47,8 +47,8 @@ no_comma : (q : ℕ) (es : List ℕ) (o o' : Option WordFault) → or_else o (or
 no_comma q es None o' h = cc
 no_comma q es (Some x) o' h = cc
 
--- after two good marks the numbers from mark 2 on are those after the first
-numbers-drop : (ms : List Mark) → first_fault 0 ms ≡ None → 2 ≤ length ms → numbers (drop 2 ms) ≡ drop 1 (numbers ms)
+-- after two good tokens the numbers from token 2 on are those after the first
+numbers-drop : (ms : List Token) → first_fault 0 ms ≡ None → 2 ≤ length ms → numbers (drop 2 ms) ≡ drop 1 (numbers ms)
 numbers-drop [] g l = absurd (omega (arith, l))
 numbers-drop (m ∷ []) g l = absurd (omega (arith, l))
 numbers-drop (single p b ∷ m ∷ ms) g l = absurd (no_number p b (2 ^ 32) (first_fault 1 (m ∷ ms)) g)
@@ -59,41 +59,41 @@ pub read-start : (text : List ℕ) (c a b : ℕ) → Passes text 0 0 1 (c ∷ []
 read-start text c a b x y = record {
   within = y.within;
   good = x.good ∙ y.good;
-  marks_so_far = omega (arith, x.count, y.count);
+  tokens_so_far = omega (arith, x.count, y.count);
   spelled = x.spelled ∙ ap (λ (t : List ℕ). c ∷ t) y.spelled;
 }
 
 pub read-next : (text : List ℕ) (c : ℕ) (list : List Insn) (i : Insn) (at mid end : ℕ) → IsRead text c list at → Passes text 2 at 4 (i.code ∷ i.jt ∷ i.jf ∷ i.k ∷ []) mid → Passes text 1 mid 1 [] end → IsRead text c (list ++ i ∷ []) end
 read-next text c list i at mid end r x y = record {
   within = y.within;
-  good = r.good ∙ x.good ∙ first_fault-shift 0 (marks_after text mid) ∙ y.good;
-  marks_so_far = omega (arith, r.marks_so_far, x.count, y.count, length-append list (i ∷ []));
-  spelled = r.spelled ∙ ap (λ (t : List ℕ). c ∷ (fields_of list ++ t)) (x.spelled ∙ ap (λ (t : List ℕ). i.code ∷ i.jt ∷ i.jf ∷ i.k ∷ t) y.spelled) ∙ ap (λ (t : List ℕ). c ∷ t) (fields_of-push list i (numbers (marks_after text end)));
+  good = r.good ∙ x.good ∙ first_fault-shift 0 (tokens_after text mid) ∙ y.good;
+  tokens_so_far = omega (arith, r.tokens_so_far, x.count, y.count, length-append list (i ∷ []));
+  spelled = r.spelled ∙ ap (λ (t : List ℕ). c ∷ (fields_of list ++ t)) (x.spelled ∙ ap (λ (t : List ℕ). i.code ∷ i.jt ∷ i.jf ∷ i.k ∷ t) y.spelled) ∙ ap (λ (t : List ℕ). c ∷ t) (fields_of-push list i (numbers (tokens_after text end)));
 }
 
 -- the end, after a comma
-pub whole-by : (text : List ℕ) (c : ℕ) (list : List Insn) → first_fault 0 (marks text) ≡ None → 2 ≤ length (marks text) → (length (marks text) % 5 ≡ 1) ⊎ (length (marks text) % 5 ≡ 2) → numbers (marks text) ≡ c ∷ fields_of list → IsReadWhole text c list
+pub whole-by : (text : List ℕ) (c : ℕ) (list : List Insn) → first_fault 0 (tokens text) ≡ None → 2 ≤ length (tokens text) → (length (tokens text) % 5 ≡ 1) ⊎ (length (tokens text) % 5 ≡ 2) → numbers (tokens text) ≡ c ∷ fields_of list → IsReadWhole text c list
 whole-by text c list good begun ended spelled = record {
   loose = record {
     none_bad = good;
     begun = begun;
     ended = ended;
-    reads = sym (ap in_fours (numbers-drop (marks text) good begun ∙ ap (λ (ns : List ℕ). drop 1 ns) spelled) ∙ in_fours-fields list);
+    reads = sym (ap in_fours (numbers-drop (tokens text) good begun ∙ ap (λ (ns : List ℕ). drop 1 ns) spelled) ∙ in_fours-fields list);
   };
   counted = ap (λ (ns : List ℕ). slice_index ns 0) spelled;
 }
 
-pub read-done : (text : List ℕ) (c : ℕ) (list : List Insn) (at : ℕ) → IsRead text c list at → marks_after text at ≡ [] → IsReadWhole text c list
+pub read-done : (text : List ℕ) (c : ℕ) (list : List Insn) (at : ℕ) → IsRead text c list at → tokens_after text at ≡ [] → IsReadWhole text c list
 read-done text c list at r e =
-    let len : length (marks_after text at) ≡ 0 = ap length e in
-    whole-by text c list (r.good ∙ ap (first_fault 2) e) (omega (arith, r.marks_so_far)) (inr (omega (arith, r.marks_so_far))) (r.spelled ∙ ap (λ (ms : List Mark). c ∷ (fields_of list ++ numbers ms)) e ∙ ap (λ (ns : List ℕ). c ∷ ns) (append-nil (fields_of list)))
+    let len : length (tokens_after text at) ≡ 0 = ap length e in
+    whole-by text c list (r.good ∙ ap (first_fault 2) e) (omega (arith, r.tokens_so_far)) (inr (omega (arith, r.tokens_so_far))) (r.spelled ∙ ap (λ (ms : List Token). c ∷ (fields_of list ++ numbers ms)) e ∙ ap (λ (ns : List ℕ). c ∷ ns) (append-nil (fields_of list)))
 
 -- and after an instruction
-pub read-last : (text : List ℕ) (c : ℕ) (list : List Insn) (i : Insn) (at end : ℕ) → IsRead text c list at → Passes text 2 at 4 (i.code ∷ i.jt ∷ i.jf ∷ i.k ∷ []) end → marks_after text end ≡ [] → IsReadWhole text c (list ++ i ∷ [])
+pub read-last : (text : List ℕ) (c : ℕ) (list : List Insn) (i : Insn) (at end : ℕ) → IsRead text c list at → Passes text 2 at 4 (i.code ∷ i.jt ∷ i.jf ∷ i.k ∷ []) end → tokens_after text end ≡ [] → IsReadWhole text c (list ++ i ∷ [])
 read-last text c list i at end r x e =
-    let len : length (marks_after text end) ≡ 0 = ap length e in
-    whole-by text c (list ++ i ∷ []) (r.good ∙ x.good ∙ ap (first_fault 6) e) (omega (arith, r.marks_so_far, x.count)) (inl (omega (arith, r.marks_so_far, x.count)))
-    (r.spelled ∙ ap (λ (t : List ℕ). c ∷ (fields_of list ++ t)) (x.spelled ∙ ap (λ (ms : List Mark). i.code ∷ i.jt ∷ i.jf ∷ i.k ∷ numbers ms) e) ∙ ap (λ (t : List ℕ). c ∷ t) (fields_of-push list i [] ∙ append-nil (fields_of (list ++ i ∷ []))))
+    let len : length (tokens_after text end) ≡ 0 = ap length e in
+    whole-by text c (list ++ i ∷ []) (r.good ∙ x.good ∙ ap (first_fault 6) e) (omega (arith, r.tokens_so_far, x.count)) (inl (omega (arith, r.tokens_so_far, x.count)))
+    (r.spelled ∙ ap (λ (t : List ℕ). c ∷ (fields_of list ++ t)) (x.spelled ∙ ap (λ (ms : List Token). i.code ∷ i.jt ∷ i.jf ∷ i.k ∷ numbers ms) e) ∙ ap (λ (t : List ℕ). c ∷ t) (fields_of-push list i [] ∙ append-nil (fields_of (list ++ i ∷ []))))
 
 -- ---- refusals
 abbrev IsPlaced : WordFault → Type 0
@@ -116,70 +116,70 @@ refused-by text (OutOfRange q) p b = b
 refused-by text (UnexpectedByte q) p b = b
 refused-by text (CommaExpected q) p b = b
 
-comma-placed : (m : Mark) → EachPlaced (comma_fault m)
+comma-placed : (m : Token) → EachPlaced (comma_fault m)
 comma-placed (run p ds) = tt
 comma-placed (single p b) = elim (eqb b 44) as (λ t. EachPlaced (cond t None (Some (UnexpectedByte p)))) [ true ↦ tt | false ↦ tt ]
 
-number-placed : (r : ℕ) (m : Mark) → EachPlaced (number_fault r m)
+number-placed : (r : ℕ) (m : Token) → EachPlaced (number_fault r m)
 number-placed r (run p ds) = elim (nat_lt (number ds) r) as (λ t. EachPlaced (cond t None (Some (OutOfRange p)))) [ true ↦ tt | false ↦ tt ]
 number-placed r (single p b) = elim (eqb b 44) as (λ t. EachPlaced (cond t (Some (NumberExpected p)) (Some (UnexpectedByte p)))) [ true ↦ tt | false ↦ tt ]
 
-mark-placed : (j : ℕ) (m : Mark) → EachPlaced (mark_fault j m)
-mark-placed j m = elim (eqb (j % 5) 1) as (λ t. EachPlaced (cond t (comma_fault m) (number_fault (range_of j) m))) [ true ↦ comma-placed m | false ↦ number-placed (range_of j) m ]
+token-placed : (j : ℕ) (m : Token) → EachPlaced (token_fault j m)
+token-placed j m = elim (eqb (j % 5) 1) as (λ t. EachPlaced (cond t (comma_fault m) (number_fault (range_of j) m))) [ true ↦ comma-placed m | false ↦ number-placed (range_of j) m ]
 
 or-placed : (o o' : Option WordFault) → EachPlaced o → EachPlaced o' → EachPlaced (or_else o o')
 or-placed None o' h h' = h'
 or-placed (Some e) o' h h' = h
 
-first-placed : (j : ℕ) (ms : List Mark) → EachPlaced (first_fault j ms)
+first-placed : (j : ℕ) (ms : List Token) → EachPlaced (first_fault j ms)
 first-placed j [] = tt
-first-placed j (m ∷ ms) = or-placed (mark_fault j m) (first_fault (suc j) ms) (mark-placed j m) (first-placed (suc j) ms)
+first-placed j (m ∷ ms) = or-placed (token_fault j m) (first_fault (suc j) ms) (token-placed j m) (first-placed (suc j) ms)
 
--- the first bad mark
-refused-mark : (text : List ℕ) (e : WordFault) → first_fault 0 (marks text) ≡ Some e → Refused text e
-refused-mark text e h = refused-by text e (subst EachPlaced h (first-placed 0 (marks text))) (record { why = inl h })
+-- the first bad token
+refused-token : (text : List ℕ) (e : WordFault) → first_fault 0 (tokens text) ≡ Some e → Refused text e
+refused-token text e h = refused-by text e (subst EachPlaced h (first-placed 0 (tokens text))) (record { why = inl h })
 
 -- the end, where no list ends
-refused-end : (text : List ℕ) (e e' : WordFault) → first_fault 0 (marks text) ≡ None → ((length (marks text) < 2) ⊎ ((length (marks text) % 5 ≡ 1 → ⊥) × (length (marks text) % 5 ≡ 2 → ⊥))) → IsPlaced e' → e ≡ e' → e' ≡ end_fault text → Refused text e
+refused-end : (text : List ℕ) (e e' : WordFault) → first_fault 0 (tokens text) ≡ None → ((length (tokens text) < 2) ⊎ ((length (tokens text) % 5 ≡ 1 → ⊥) × (length (tokens text) % 5 ≡ 2 → ⊥))) → IsPlaced e' → e ≡ e' → e' ≡ end_fault text → Refused text e
 refused-end text e e' h short p same which = refused-by text e (subst IsPlaced (sym same) p) (record { why = inr (h, no_reading, same ∙ which) }) where
   no_reading : (list : List Insn) → Loose text list → ⊥
   no_reading list l = elim short [ inl s ↦ omega (arith, s, l.begun) | inr n ↦ elim l.ended [ inl a ↦ n.0 a | inr b ↦ n.1 b ] ]
 
-nonempty : (ms : List Mark) → (ms ≡ [] → ⊥) → 0 < length ms
+nonempty : (ms : List Token) → (ms ≡ [] → ⊥) → 0 < length ms
 nonempty [] h = absurd (h refl)
 nonempty (m ∷ ms) h = omega arith
 
-end-number : (text : List ℕ) → (length (marks text) ≡ 1 → ⊥) → NumberExpected (length text) ≡ end_fault text
-end-number text h = let z : (length (marks text) == 1) ≡ false = grind (arith, tests) in rw z refl
+end-number : (text : List ℕ) → (length (tokens text) ≡ 1 → ⊥) → NumberExpected (length text) ≡ end_fault text
+end-number text h = let z : (length (tokens text) == 1) ≡ false = grind (arith, tests) in rw z refl
 
-end-comma : (text : List ℕ) → length (marks text) ≡ 1 → CommaExpected (length text) ≡ end_fault text
-end-comma text h = let z : (length (marks text) == 1) ≡ true = grind (arith, tests) in rw z refl
+end-comma : (text : List ℕ) → length (tokens text) ≡ 1 → CommaExpected (length text) ≡ end_fault text
+end-comma text h = let z : (length (tokens text) == 1) ≡ true = grind (arith, tests) in rw z refl
 
 pub stops-first : (text : List ℕ) (e : WordFault) → Stops text 0 0 1 e (NumberExpected (length text)) → Refused text e
 stops-first text e s = elim s.why [
-  | inl h ↦ refused-mark text e h
+  | inl h ↦ refused-token text e h
   | inr h ↦ refused-end text e (NumberExpected (length text)) h.0 (inl (omega (arith, h.1))) tt h.2 (end-number text (λ one. omega (arith, h.1, one)))
 ]
 
 pub stops-count : (text : List ℕ) (c a : ℕ) (e : WordFault) → Passes text 0 0 1 (c ∷ []) a → Stops text 1 a 1 e (CommaExpected (length text)) → Refused text e
 stops-count text c a e x s = elim s.why [
-  | inl h ↦ refused-mark text e (x.good ∙ h)
+  | inl h ↦ refused-token text e (x.good ∙ h)
   | inr h ↦ refused-end text e (CommaExpected (length text)) (x.good ∙ h.0) (inl (omega (arith, h.1, x.count))) tt h.2 (end-comma text (omega (arith, h.1, x.count)))
 ]
 
-pub stops-fields : (text : List ℕ) (c : ℕ) (list : List Insn) (at : ℕ) (e : WordFault) → IsRead text c list at → (marks_after text at ≡ [] → ⊥) → Stops text 2 at 4 e (NumberExpected (length text)) → Refused text e
+pub stops-fields : (text : List ℕ) (c : ℕ) (list : List Insn) (at : ℕ) (e : WordFault) → IsRead text c list at → (tokens_after text at ≡ [] → ⊥) → Stops text 2 at 4 e (NumberExpected (length text)) → Refused text e
 stops-fields text c list at e r some s =
-    let more : 0 < length (marks_after text at) = nonempty _ some in
+    let more : 0 < length (tokens_after text at) = nonempty _ some in
     elim s.why [
-      | inl h ↦ refused-mark text e (r.good ∙ h)
-      | inr h ↦ refused-end text e (NumberExpected (length text)) (r.good ∙ h.0) (inr (λ a. omega (arith, h.1, r.marks_so_far, a), λ b. omega (arith, h.1, r.marks_so_far, b))) tt h.2 (end-number text (λ one. omega (arith, h.1, r.marks_so_far, one)))
+      | inl h ↦ refused-token text e (r.good ∙ h)
+      | inr h ↦ refused-end text e (NumberExpected (length text)) (r.good ∙ h.0) (inr (λ a. omega (arith, h.1, r.tokens_so_far, a), λ b. omega (arith, h.1, r.tokens_so_far, b))) tt h.2 (end-number text (λ one. omega (arith, h.1, r.tokens_so_far, one)))
     ]
 
-pub stops-comma : (text : List ℕ) (c : ℕ) (list : List Insn) (ns : List ℕ) (at mid : ℕ) (e : WordFault) → IsRead text c list at → Passes text 2 at 4 ns mid → (marks_after text mid ≡ [] → ⊥) → Stops text 1 mid 1 e (CommaExpected (length text)) → Refused text e
+pub stops-comma : (text : List ℕ) (c : ℕ) (list : List Insn) (ns : List ℕ) (at mid : ℕ) (e : WordFault) → IsRead text c list at → Passes text 2 at 4 ns mid → (tokens_after text mid ≡ [] → ⊥) → Stops text 1 mid 1 e (CommaExpected (length text)) → Refused text e
 stops-comma text c list ns at mid e r x some s =
-    let more : 0 < length (marks_after text mid) = nonempty _ some in
+    let more : 0 < length (tokens_after text mid) = nonempty _ some in
     elim s.why [
-      | inl h ↦ refused-mark text e (r.good ∙ x.good ∙ first_fault-shift 0 (marks_after text mid) ∙ h)
+      | inl h ↦ refused-token text e (r.good ∙ x.good ∙ first_fault-shift 0 (tokens_after text mid) ∙ h)
       | inr h ↦ absurd (omega (arith, h.1, more))
     ]
 

@@ -3,8 +3,8 @@ pub mod CheckSteps
 pub mod ControlFlow
 pub mod Extension
 pub mod Faults
-pub mod Marks
-pub mod NextMark
+pub mod WordTokens
+pub mod NextToken
 pub mod Opcode
 pub mod Plain
 pub mod SlotMasks

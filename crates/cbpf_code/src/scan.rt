@@ -1,8 +1,8 @@
-// Finds the marks of a text one after another.
+// Finds the tokens of a text one after another.
 ghost use Rattle.std.specs.Prelude.{◌≡◌, ◌≢◌, ◌+◌, ◌<◌, ◌≤◌, ◌^◌, ℕ, min, take, length, slice_index, true, false, List, [], ◌∷◌, ◌++◌, MatchOption};
 ghost use Rattle.std.specs.List.{AllByRecursion};
-ghost use Rattle.cbpf_code.specs.Marks.{single, run, is_digit, is_blank, begins_with_digit, number, marks_from, marks_after};
-ghost use Rattle.cbpf_code.specs.NextMark.{IsNextMark};
+ghost use Rattle.cbpf_code.specs.WordTokens.{single, run, is_digit, is_blank, begins_with_digit, number, tokens_from, tokens_after};
+ghost use Rattle.cbpf_code.specs.NextToken.{IsNextToken};
 
 /// No field of word text reaches this number, so greater ones stand for it.
 const CAP: u64 = 4_294_967_296;
@@ -36,7 +36,7 @@ fn leading_digits(text: &[u8]) -> (usize, u64)
     (text.len(), value)
 }
 
-/// What a mark is.
+/// What a token is.
 #[derive(Clone, Copy)]
 pub enum Lexeme {
     /// A run of digits, and the number that they spell, at most `CAP`.
@@ -45,7 +45,7 @@ pub enum Lexeme {
     Byte(u8),
 }
 
-/// A mark with the place of its first byte and the place after its last.
+/// A token with the place of its first byte and the place after its last.
 #[derive(Clone, Copy)]
 pub struct Found {
     pub place: usize,
@@ -54,11 +54,11 @@ pub struct Found {
 }
 
 /// The place of the first byte from `at` on that is no blank, or the text's length.
-#[tactic(auto, using(crate::proofs::WordMarkLemmas::mark_steps))]
+#[tactic(auto, using(crate::proofs::WordTokenLemmas::token_steps))]
 pub(crate) fn skip_blanks(text: &[u8], at: usize) -> usize
     requires { at ≤ length text.now }
     ensures range { (at ≤ result) × (result ≤ length text.now) }
-    ensures same { marks_after text.now result ≡ marks_after text.now at }
+    ensures same { tokens_after text.now result ≡ tokens_after text.now at }
     ensures stops { result < length text.now → is_blank (slice_index text.now result) ≡ false }
 {
     let mut i = at;
@@ -68,10 +68,10 @@ pub(crate) fn skip_blanks(text: &[u8], at: usize) -> usize
     i
 }
 
-/// The first mark from `at` on.
-pub(crate) fn next_mark(text: &[u8], at: usize) -> Option<Found>
+/// The first token from `at` on.
+pub(crate) fn next_token(text: &[u8], at: usize) -> Option<Found>
     requires { at ≤ length text.now }
-    ensures { MatchOption result (marks_after text.now at ≡ []) (λ f. IsNextMark text.now at f) }
+    ensures { MatchOption result (tokens_after text.now at ≡ []) (λ f. IsNextToken text.now at f) }
 {
     let place = skip_blanks(text, at);
     if place == text.len() {
@@ -93,16 +93,16 @@ pub(crate) fn next_mark(text: &[u8], at: usize) -> Option<Found>
     })
 }
 
-/// How a text falls into marks, read from its front: a blank is passed, a byte that is neither blank
+/// How a text falls into tokens, read from its front: a blank is passed, a byte that is neither blank
 /// nor digit stands alone, and digits are one run up to a byte that is none. It does nothing; its
-/// clauses are laws of the marks that [`read_words`](crate::read_words) is defined by.
+/// clauses are laws of the tokens that [`read_words`](crate::read_words) is defined by.
 pub fn laws_of_marks()
-    ensures empty { (at : ℕ) → marks_from at [] ≡ [] }
+    ensures empty { (at : ℕ) → tokens_from at [] ≡ [] }
     ensures blank { (at b : ℕ) (rest : List ℕ) → is_blank b ≡ true →
-        marks_from at (b ∷ rest) ≡ marks_from (at + 1) rest }
+        tokens_from at (b ∷ rest) ≡ tokens_from (at + 1) rest }
     ensures single { (at b : ℕ) (rest : List ℕ) → is_blank b ≡ false → is_digit b ≡ false →
-        marks_from at (b ∷ rest) ≡ single at b ∷ marks_from (at + 1) rest }
+        tokens_from at (b ∷ rest) ≡ single at b ∷ tokens_from (at + 1) rest }
     ensures run { (at : ℕ) (digits rest : List ℕ) → digits ≢ [] → AllByRecursion (λ b. is_digit b ≡ true) digits →
         begins_with_digit rest ≡ false →
-        marks_from at (digits ++ rest) ≡ run at digits ∷ marks_from (at + length digits) rest }
+        tokens_from at (digits ++ rest) ≡ run at digits ∷ tokens_from (at + length digits) rest }
 {}

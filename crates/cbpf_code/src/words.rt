@@ -1,6 +1,6 @@
 // Reads word text, as `tcpdump -ddd` and `bpf_asm` print it.
 ghost use Rattle.std.specs.Prelude.{◌≡◌, ◌+◌, ◌<◌, ◌≤◌, ◌^◌, ◌%◌, ◌↔◌, ℕ, length, [], ◌∷◌, IsTrue, IfOk, MatchResult, List, ◌≢◌, ◌⊎◌};
-ghost use Rattle.cbpf_code.specs.Marks.{marks_after};
+ghost use Rattle.cbpf_code.specs.WordTokens.{tokens_after};
 ghost use Rattle.cbpf_code.specs.WordText.{range_of, Spells, Refused};
 ghost use Rattle.cbpf_code.specs.WordSteps.{Passes, Stops, IsReadWhole};
 ghost use Rattle.cbpf_code.specs.declared.insn.Insn.{Insn};
@@ -8,7 +8,7 @@ ghost use Rattle.cbpf_code.specs.declared.words.WordFault.{WordFault};
 ghost use Rattle.cbpf_code.specs.declared.words.WordFault.TheVariants.{Memory, NumberExpected, CommaExpected};
 
 use crate::insn::Insn;
-use crate::scan::{Lexeme, next_mark, skip_blanks};
+use crate::scan::{Lexeme, next_token, skip_blanks};
 use std::alloc::Allocator;
 
 /// Why word text is refused. A place is a byte's, counted from 0.
@@ -29,10 +29,10 @@ pub enum WordFault {
     CommaExpected(usize),
 }
 
-/// Whether no mark is left.
+/// Whether no token is left.
 fn is_end(text: &[u8], at: usize) -> bool
     requires { at ≤ length text.now }
-    ensures { IsTrue result ↔ marks_after text.now at ≡ [] }
+    ensures { IsTrue result ↔ tokens_after text.now at ≡ [] }
 {
     skip_blanks(text, at) == text.len()
 }
@@ -46,7 +46,7 @@ fn number_at(text: &[u8], at: usize, range: u64) -> Result<(u64, usize), WordFau
         MatchResult result (λ r. Passes text.now j at 1 (r.0 ∷ []) r.1)
         (λ e. Stops text.now j at 1 e (NumberExpected (length text.now))) }
 {
-    match next_mark(text, at) {
+    match next_token(text, at) {
         None => Err(WordFault::NumberExpected(text.len())),
         Some(found) => match found.lexeme {
             Lexeme::Digits(n) if n < range => Ok((n, found.end)),
@@ -63,7 +63,7 @@ fn comma_at(text: &[u8], at: usize) -> Result<usize, WordFault>
     ensures { MatchResult result (λ end. Passes text.now 1 at 1 [] end)
         (λ e. Stops text.now 1 at 1 e (CommaExpected (length text.now))) }
 {
-    match next_mark(text, at) {
+    match next_token(text, at) {
         None => Err(WordFault::CommaExpected(text.len())),
         Some(found) => match found.lexeme {
             Lexeme::Digits(_) => Err(WordFault::CommaExpected(found.place)),

@@ -2,7 +2,7 @@
 use Rattle.std.proofs.Common.{◌≡◌, ℕ, ◌+◌, ◌-◌, ◌*◌, ◌<◌, ◌≤◌, Bool, true, false, ◌&&◌, nat_le, List, [], ◌∷◌, ◌++◌, length, take, drop, get_or, None, fold, refl, sym, ap, ◌∙◌, arith, tests}
 use Rattle.std.proofs.lemmas.List.{take-append-drop, take_more}
 use Rattle.std.proofs.lemmas.List.Sums.{fold-append}
-use Rattle.cbpf_code.specs.Marks.{is_digit, number as value}
+use Rattle.cbpf_code.specs.WordTokens.{is_digit, number as value}
 use Rattle.cbpf_command.specs.Numbers.{all_digits, number}
 
 abbrev onward : ℕ → ℕ → ℕ

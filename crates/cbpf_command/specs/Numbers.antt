@@ -1,6 +1,6 @@
 -- The numbers that the words of a line spell (this project's own: the kernel's documentation shows decimal ones).
 use Rattle.std.specs.Prelude.{ℕ, zero, suc, ℤ, pos, negsuc, Bool, true, ◌&&◌, ◌==◌, nat_le, if◌then◌else◌, List, [], ◌∷◌, Option, Some, None, option_map}
-use Rattle.cbpf_code.specs.Marks.{is_digit, number as digits_value}
+use Rattle.cbpf_code.specs.WordTokens.{is_digit, number as digits_value}
 
 abbrev pub all_digits : List ℕ → Bool
 all_digits [] = true

@@ -1,6 +1,6 @@
 -- The words of a command line, and what stands after them.
 use Rattle.std.specs.Prelude.{ℕ, zero, suc, Bool, true, false, ◌&&◌, not, if◌then◌else◌, List, [], ◌∷◌}
-use Rattle.cbpf_code.specs.Marks.{is_blank}
+use Rattle.cbpf_code.specs.WordTokens.{is_blank}
 
 -- the text goes on with a byte that is no blank
 abbrev pub begins_word : List ℕ → Bool

@@ -1,6 +1,6 @@
 // Numbers in a line.
 ghost use Rattle.std.specs.Prelude.{◌≡◌, ◌-◌, ◌^◌};
-ghost use Rattle.cbpf_code.specs.Marks.{is_digit};
+ghost use Rattle.cbpf_code.specs.WordTokens.{is_digit};
 ghost use Rattle.cbpf_command.specs.Numbers as spec;
 
 fn is_digit(b: u8) -> bool

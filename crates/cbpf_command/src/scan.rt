@@ -1,6 +1,6 @@
 // The words of a line.
 ghost use Rattle.std.specs.Prelude.{◌≡◌, ◌≤◌, ◌∷◌, ℕ, suc, drop, take, length, [], true, MatchOption, IfSome};
-ghost use Rattle.cbpf_code.specs.Marks.{is_blank};
+ghost use Rattle.cbpf_code.specs.WordTokens.{is_blank};
 ghost use Rattle.cbpf_command.specs.Words as spec;
 
 fn is_blank(b: u8) -> bool

@@ -6,13 +6,13 @@ ghost use Rattle.cbpf_dbg.specs.Shown.{CanShow, Shows};
 ghost use Rattle.std.specs.List.{All};
 
 use crate::cursor::{Cursor, record_at};
-use crate::hit::is_quiet;
 use crate::loaded::Loaded;
 use crate::resume::resume_at;
 use crate::run::run;
 use crate::session::Session;
 use crate::step::{step_back, step_on};
 use crate::stops::Stops;
+use crate::watching::is_quiet;
 use cbpf_machine::{Meter, Trail};
 use cbpf_reply::{Place, RunReply, SessionFault};
 use std::alloc::Allocator;

@@ -17,6 +17,7 @@ mod run_to_end;
 mod session;
 mod step;
 mod stops;
+mod watching;
 mod write_stop;
 
 pub use cbpf_machine::{ListTrail, MarkTrail, Meter, State, Trail};

@@ -151,7 +151,7 @@ fn pass_to_hit<T: Trail, A: Allocator>(
 
 /// Goes on to the next hit, to the limit of finished packets, or to the end.
 #[inline(always)]
-fn run_here<T: Trail, A: Allocator>(
+fn run_to_hit<T: Trail, A: Allocator>(
     meter: &mut Meter,
     loaded: &Loaded<'_, A>,
     w: &mut Cursor,
@@ -198,7 +198,7 @@ fn run_here<T: Trail, A: Allocator>(
 
 /// Goes on to the end of a packet, whose record is `here`, past entries of which none is a hit.
 #[inline(never)]
-fn pass_rest<A: Allocator>(
+fn finish_packet<A: Allocator>(
     meter: &mut Meter,
     loaded: &Loaded<'_, A>,
     here: &Captured<'_>,
@@ -280,14 +280,14 @@ fn pass_begun<'a, A: Allocator>(
         return Some(here);
     }
     let next = loaded.capture.following(&here);
-    pass_rest(meter, loaded, &here, w);
+    finish_packet(meter, loaded, &here, w);
     next
 }
 
 /// Goes on to the limit of finished packets, or to the end, where no entry can be a hit.
 // It ends before a packet, of which nothing has passed: so the trail keeps nothing meanwhile.
 #[inline(always)]
-fn run_quietly<T: Trail, A: Allocator>(
+fn run_without_stops<T: Trail, A: Allocator>(
     meter: &mut Meter,
     loaded: &Loaded<'_, A>,
     w: &mut Cursor,
@@ -352,9 +352,9 @@ pub(crate) fn run<T: Trail, A: Allocator>(
 {
     let mut here = *w;
     let reply = if quiet {
-        run_quietly(meter, loaded, &mut here, trail, limit)
+        run_without_stops(meter, loaded, &mut here, trail, limit)
     } else {
-        run_here(meter, loaded, &mut here, trail, limit)
+        run_to_hit(meter, loaded, &mut here, trail, limit)
     };
     *w = here;
     reply

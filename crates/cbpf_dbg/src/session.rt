@@ -10,7 +10,7 @@ ghost use Rattle.cbpf_reply.specs.declared.reply.SessionFault.TheVariants as fau
 
 use crate::breakpoint::Breakpoints;
 use crate::cursor::Cursor;
-use crate::hit::{is_silent, watch, watch_at};
+use crate::watching::{is_silent, watch, watch_at};
 use cbpf_code::{Ext, Program};
 use cbpf_machine::{Trail, Values, Watched};
 use cbpf_reply::{Place, SessionFault, When};

@@ -1,7 +1,7 @@
 pub mod SoundLemmas
 pub mod StepLemmas
 pub mod ListLemmas
-pub mod MarkLemmas
+pub mod CheckpointLemmas
 pub mod TraceLemmas
 pub mod AskedLemmas
 pub mod FollowLemmas

@@ -4,10 +4,10 @@ use Rattle.cbpf_machine.specs.Registers.{Registers}
 
 -- the kept states, and how many states they stand for
 pub record Checkpoints : Type 0 where
-  pub marks : List Registers
+  pub checkpoints : List Registers
   pub kept : ℕ
 
 -- each kept state is the one at its place of the list
-pub record Marks (c : Checkpoints) (xs : List Registers) : Type 0 where
+pub record AreCheckpoints (c : Checkpoints) (xs : List Registers) : Type 0 where
   pub long : length xs ≡ c.kept
-  pub at : (j : ℕ) → j < length c.marks → slice_get c.marks j ≡ slice_get xs (64 * j)
+  pub at : (j : ℕ) → j < length c.checkpoints → slice_get c.checkpoints j ≡ slice_get xs (64 * j)

@@ -7,13 +7,13 @@ mod assertions;
 #[cfg(test)]
 mod captures;
 #[cfg(test)]
-mod commands;
-#[cfg(test)]
 mod machine;
 #[cfg(test)]
 mod machine_trail;
 #[cfg(test)]
 mod programs;
+#[cfg(test)]
+mod script_lines;
 #[cfg(test)]
 mod sessions;
 #[cfg(test)]

@@ -15,7 +15,7 @@ pub record Reaches (order : Endianness) (file : List ℕ) (i place : ℕ) : Type
   pub passed : i ≤ length (contents order file).records
 
 -- the starts are the places of the records 1, 65, 129 and so on of the first `count` ones
-pub record IsMarked (order : Endianness) (file : List ℕ) (starts : List ℕ) (count : ℕ) : Type 0 where
+pub record AreKept (order : Endianness) (file : List ℕ) (starts : List ℕ) (count : ℕ) : Type 0 where
   pub enough : count ≤ 64 * length starts
   pub no_more : 64 * length starts < count + 64
   pub each : (j : ℕ) → j < length starts → Reaches order file (64 * j) (slice_index starts j)
@@ -25,7 +25,7 @@ pub record IsIndex (order : Endianness) (file : List ℕ) (count : ℕ) (starts 
   pub long : 24 ≤ length file
   pub counted : count ≡ length (contents order file).records
   pub few : count < 2 ^ 60
-  pub marked : IsMarked order file starts count
+  pub kept : AreKept order file starts count
   pub ended : how ≡ (contents order file).ending
 
 -- how the file ends where no whole record is in front

@@ -116,9 +116,9 @@ impl<A: Allocator> Capture<A> {
     {
         let order = self.header.magic.order;
         let file = self.file.as_slice();
-        let mark = (n - 1) / STRIDE;
-        let start = self.index.starts[mark as usize];
-        let place = place_of(order, file, mark * STRIDE, start, n - 1);
+        let kept = (n - 1) / STRIDE;
+        let start = self.index.starts[kept as usize];
+        let place = place_of(order, file, kept * STRIDE, start, n - 1);
         record_at(order, file, n, place)
     }
 

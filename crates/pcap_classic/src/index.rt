@@ -1,7 +1,7 @@
 //! The pass over the headers of all records, and the way from a kept start to a later one.
 
 ghost use Rattle.std.specs.Prelude.{◌≡◌, ◌≤◌, ◌+◌, ◌*◌, ◌↔◌, ℕ, List, length, drop, true, IfOk};
-ghost use Rattle.pcap_classic.specs.Index.{IsIndex, IsMarked, Reaches, ending_by};
+ghost use Rattle.pcap_classic.specs.Index.{IsIndex, AreKept, Reaches, ending_by};
 ghost use Rattle.pcap_classic.specs.Scan as spec;
 ghost use Rattle.pcap_classic.specs.declared.front.Front.TheVariants.{WholeRecord};
 
@@ -60,7 +60,7 @@ fn keep_start<A: Allocator>(
     place: usize,
 ) -> Result<(), AllocError>
     ensures { IfOk result (λ _. (order : Endianness) → (file : List ℕ) → Reaches order file count place →
-        IsMarked order file starts.old.items count → IsMarked order file starts.new.items (count + 1)) }
+        AreKept order file starts.old.items count → AreKept order file starts.new.items (count + 1)) }
 {
     if count % STRIDE == 0 {
         starts.push(place)?;
@@ -86,10 +86,10 @@ fn pass_repeats<A: Allocator>(
 ) -> Result<Passed, AllocError>
     requires here { Reaches order file.now from.count from.place }
     requires few { 16 * from.count + 24 ≤ from.place }
-    requires marked { IsMarked order file.now starts.old.items from.count }
+    requires kept { AreKept order file.now starts.old.items from.count }
     ensures here { IfOk result (λ passed. Reaches order file.now passed.count passed.place) }
     ensures few { IfOk result (λ passed. 16 * passed.count + 24 ≤ passed.place) }
-    ensures marked { IfOk result (λ passed. IsMarked order file.now starts.new.items passed.count) }
+    ensures kept { IfOk result (λ passed. AreKept order file.now starts.new.items passed.count) }
     ensures on { IfOk result (λ passed. from.place ≤ passed.place) }
     ensures all { IfOk result (λ passed. spec.front_of order (drop passed.place file.now) ≡ WholeRecord length → ⊥) }
 {

@@ -1,4 +1,4 @@
-use Rattle.cbpf_code.proofs.WordMarkLemmas.{law-empty, law-blank, law-single, law-run}
+use Rattle.cbpf_code.proofs.WordTokenLemmas.{law-empty, law-blank, law-single, law-run}
 use Rattle.cbpf_code.proofs.scan.laws_of_marks.Goals as goal
 
 pub returns-clause-empty : goal.returns-clause-empty

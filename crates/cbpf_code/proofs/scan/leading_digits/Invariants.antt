@@ -1,5 +1,5 @@
 use Rattle.std.proofs.Common.{◌≡◌, ℕ, ◌<◌, ◌^◌, min, take, get_or, true}
-use Rattle.cbpf_code.specs.Marks.{is_digit, number}
+use Rattle.cbpf_code.specs.WordTokens.{is_digit, number}
 use Rattle.cbpf_code.proofs.scan.leading_digits.Given as goal
 
 abbrev pub invariant-loop-i : goal.invariant-loop-i

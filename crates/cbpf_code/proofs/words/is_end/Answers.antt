@@ -1,4 +1,4 @@
-use Rattle.cbpf_code.proofs.WordMarkLemmas.{end-or-not}
+use Rattle.cbpf_code.proofs.WordTokenLemmas.{end-or-not}
 use Rattle.cbpf_code.proofs.words.is_end.Goals as goal
 
 pub returns : goal.returns

@@ -1,6 +1,6 @@
 use Rattle.std.proofs.Common.{◌≡◌, [], ◌∷◌, ◌++◌, arith, rules}
 use Rattle.std.proofs.lemmas.Grind.{common_steps}
-use Rattle.cbpf_code.specs.Marks.{marks_after}
+use Rattle.cbpf_code.specs.WordTokens.{tokens_after}
 use Rattle.cbpf_code.specs.WordText.{Refused}
 use Rattle.cbpf_code.proofs.WordStepLemmas.{stops-comma, read-next, read-done}
 use Rattle.cbpf_code.proofs.words.read_list.Goals as goal
@@ -12,12 +12,12 @@ loop-list-preserved g c =
 
 pub counted-requires-2 : goal.counted-requires-2
 counted-requires-2 g c =
-    let e : marks_after c.args.text.now c.loop-list.at ≡ [] = search rules in
+    let e : tokens_after c.args.text.now c.loop-list.at ≡ [] = search rules in
     read-done _ _ _ _ c.loop-list.invariant e
 
 pub returns-in_err-at-2 : goal.returns-in_err-at-2
 returns-in_err-at-2 g c =
-    let some : marks_after c.args.text.now c.in_ok-insn.end ≡ [] → ⊥ = search rules in
+    let some : tokens_after c.args.text.now c.in_ok-insn.end ≡ [] → ⊥ = search rules in
     let h : Refused c.args.text.now c.in_err-at-2.field-0.0 = stops-comma _ _ _ _ _ _ _ c.loop-list.invariant c.in_ok-insn.ensures some c.in_err-at-2.ensures in
     grind (arith, h)
 

@@ -1,5 +1,5 @@
 use Rattle.std.proofs.Common.{◌≡◌, take, true}
-use Rattle.cbpf_code.specs.Marks.{number as value}
+use Rattle.cbpf_code.specs.WordTokens.{number as value}
 use Rattle.cbpf_command.specs.Numbers.{all_digits}
 use Rattle.cbpf_command.proofs.number.number.Given as goal
 

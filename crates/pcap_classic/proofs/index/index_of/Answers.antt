@@ -23,7 +23,7 @@ records-preserved g c =
     let here = c.records.invariant.here in
     record {
       here = reaches_next _ _ _ _ _ here whole;
-      marked = c.in_ok-keep_start.ensures _ _ here c.records.invariant.marked;
+      kept = c.in_ok-keep_start.ensures _ _ here c.records.invariant.kept;
       few = omega (arith, is.header);
       repeated = elim c.if-length-last.branch [
         | then-length-last w ↦ (let before = c.records.invariant.repeated in let other = c.if-repeats-eq-REPEATS.false in omega (arith, w.repeats-is))
@@ -36,4 +36,4 @@ returns g c =
     let front : c.front_of.result ≡ front_of c.args.order (drop c.records.place c.args.file.now) =
     rw take_rest at c.front_of.ensures in
     let end = reaches_end _ _ _ _ c.records.invariant.here (λ size whole. c.in_default.not-WholeRecord size (front ∙ whole)) in
-    record { long = c.requires; counted = end.count; few = omega arith; marked = c.records.invariant.marked; ended = c.ending_at-ending.ensures ∙ end.ending }
+    record { long = c.requires; counted = end.count; few = omega arith; kept = c.records.invariant.kept; ended = c.ending_at-ending.ensures ∙ end.ending }

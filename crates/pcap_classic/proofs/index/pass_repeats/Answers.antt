@@ -14,7 +14,7 @@ repeats-preserved g c =
     let here = c.repeats.invariant.here in
     record {
       here = reaches_next _ _ _ _ _ here whole;
-      marked = c.in_ok-keep_start.ensures _ _ here c.repeats.invariant.marked;
+      kept = c.in_ok-keep_start.ensures _ _ here c.repeats.invariant.kept;
       few = (let few = c.repeats.invariant.few in omega (arith, is.header, few));
       on = (let on = c.repeats.invariant.on in omega (arith, on));
     }

@@ -33,8 +33,8 @@ add-requires g c =
     let from_one = c.requires.from_one in
     omega (arith, within, from_one, c.requires.spare, c.follow.invariant.spent)
 
-pub keep_unmarked-requires : goal.keep_unmarked-requires
-keep_unmarked-requires g c =
+pub keep_between-requires : goal.keep_between-requires
+keep_between-requires g c =
     let h = c.pass_some-turns.ensures.passes (trace (machine_of c.args.p.now c.args.values.now) c.args.packet.bytes.now c.args.packet.wire) (c.args.self.now.kept + c.follow.made - 1) c.follow.invariant.here in
     let within = follows_within (machine_of c.args.p.now c.args.values.now) c.args.packet.bytes.now c.args.packet.wire c.args.watched.now c.args.self.now.kept c.follow.made c.pass_some-turns.result.0 c.follow.invariant.sound c.requires.from_one c.pass_some-turns.ensures.some h.0 c.pass_some-turns.result.1 c.follow.invariant.unwatched h.1 in
     let few = sound_few c.args.p.now c.follow.invariant.sound in
@@ -43,7 +43,7 @@ keep_unmarked-requires g c =
     let same : c.self.inside.kept ≡ c.follow.self.kept = ap (λ (t : Checkpoints). t.kept) c.self.view_is in
     record {
       few = omega (arith, within, few, long, some, c.follow.invariant.kept);
-      unmarked = omega (arith, some, c.pass_some-turns.ensures.few, same, c.follow.invariant.kept, c.requires.from_one);
+      between = omega (arith, some, c.pass_some-turns.ensures.few, same, c.follow.invariant.kept, c.requires.from_one);
     }
 
 pub returns-in-Some-clause-follows : goal.returns-in-Some-clause-follows
@@ -58,7 +58,7 @@ returns-in-Some-clause-stands g c =
     let end = follows_end (machine_of c.args.p.now c.args.values.now) c.args.packet.bytes.now c.args.packet.wire c.args.watched.now c.args.self.now.kept c.follow.made c.pass_some-turns.result.0 c.follow.invariant.sound c.requires.from_one c.pass_some-turns.ensures.some h.0 c.in-Some.outcome c.follow.invariant.unwatched h.1 in
     let some = c.pass_some-turns.ensures.some in
     let n : c.follow.self.kept + (c.pass_some-turns.result.0 - 1) ≡ length (trace (machine_of c.args.p.now c.args.values.now) c.args.packet.bytes.now c.args.packet.wire) = omega (arith, end.0, some, c.follow.invariant.kept) in
-    rw n at (c.keep_unmarked.ensures.stands (trace (machine_of c.args.p.now c.args.values.now) c.args.packet.bytes.now c.args.packet.wire) (omega (arith, n)) (rw (sym c.follow.invariant.kept) at c.follow.invariant.stands))
+    rw n at (c.keep_between.ensures.stands (trace (machine_of c.args.p.now c.args.values.now) c.args.packet.bytes.now c.args.packet.wire) (omega (arith, n)) (rw (sym c.follow.invariant.kept) at c.follow.invariant.stands))
 
 pub returns-in-Some-clause-turns : goal.returns-in-Some-clause-turns
 returns-in-Some-clause-turns g c =
@@ -77,7 +77,7 @@ push-requires g c =
     let few = sound_few c.args.p.now c.follow.invariant.sound in
     let long = length-trace_from (machine_of c.args.p.now c.args.values.now) c.args.packet.bytes.now c.args.packet.wire zero_state in
     let some = c.pass_some-turns.ensures.some in
-    omega (arith, within, few, long, some, c.keep_unmarked.ensures.kept, c.follow.invariant.kept)
+    omega (arith, within, few, long, some, c.keep_between.ensures.kept, c.follow.invariant.kept)
 
 pub has-requires : goal.has-requires
 has-requires g c =
@@ -104,7 +104,7 @@ returns-then-has-clause-stands g c =
     let e : c.args.self.now.kept + (c.follow.made + c.pass_some-turns.result.0) - 1 + 1 ≡ c.args.self.now.kept + (c.follow.made + c.pass_some-turns.result.0) = omega (arith, some) in
     let n : c.follow.self.kept + (c.pass_some-turns.result.0 - 1) ≡ c.args.self.now.kept + (c.follow.made + c.pass_some-turns.result.0) - 1 = omega (arith, some, c.follow.invariant.kept) in
     let within = slice_get_within (trace (machine_of c.args.p.now c.args.values.now) c.args.packet.bytes.now c.args.packet.wire) (c.args.self.now.kept + (c.follow.made + c.pass_some-turns.result.0) - 1) c.pass_some-turns.new.s at in
-    let before = rw n at (c.keep_unmarked.ensures.stands (trace (machine_of c.args.p.now c.args.values.now) c.args.packet.bytes.now c.args.packet.wire) (omega (arith, n, within)) (rw (sym c.follow.invariant.kept) at c.follow.invariant.stands)) in
+    let before = rw n at (c.keep_between.ensures.stands (trace (machine_of c.args.p.now c.args.values.now) c.args.packet.bytes.now c.args.packet.wire) (omega (arith, n, within)) (rw (sym c.follow.invariant.kept) at c.follow.invariant.stands)) in
     let stands = rw (← take-slice_get (trace (machine_of c.args.p.now c.args.values.now) c.args.packet.bytes.now c.args.packet.wire) (c.args.self.now.kept + (c.follow.made + c.pass_some-turns.result.0) - 1) c.pass_some-turns.new.s at) at (c.push.ensures _ before) in
     rw e at stands
 
@@ -117,7 +117,7 @@ follow-preserved g c =
     let e : c.args.self.now.kept + (c.follow.made + c.pass_some-turns.result.0) - 1 + 1 ≡ c.args.self.now.kept + (c.follow.made + c.pass_some-turns.result.0) = omega (arith, some) in
     let n : c.follow.self.kept + (c.pass_some-turns.result.0 - 1) ≡ c.args.self.now.kept + (c.follow.made + c.pass_some-turns.result.0) - 1 = omega (arith, some, c.follow.invariant.kept) in
     let within = slice_get_within (trace (machine_of c.args.p.now c.args.values.now) c.args.packet.bytes.now c.args.packet.wire) (c.args.self.now.kept + (c.follow.made + c.pass_some-turns.result.0) - 1) c.pass_some-turns.new.s at in
-    let before = rw n at (c.keep_unmarked.ensures.stands (trace (machine_of c.args.p.now c.args.values.now) c.args.packet.bytes.now c.args.packet.wire) (omega (arith, n, within)) (rw (sym c.follow.invariant.kept) at c.follow.invariant.stands)) in
+    let before = rw n at (c.keep_between.ensures.stands (trace (machine_of c.args.p.now c.args.values.now) c.args.packet.bytes.now c.args.packet.wire) (omega (arith, n, within)) (rw (sym c.follow.invariant.kept) at c.follow.invariant.stands)) in
     let stands = rw (← take-slice_get (trace (machine_of c.args.p.now c.args.values.now) c.args.packet.bytes.now c.args.packet.wire) (c.args.self.now.kept + (c.follow.made + c.pass_some-turns.result.0) - 1) c.pass_some-turns.new.s at) at (c.push.ensures _ before) in
     let quiet : is_watched c.args.watched.now c.pass_some-turns.new.s ≡ false = rw (← c.index.ensures) (sym c.has.ensures ∙ c.if-has.false) in
     record {

@@ -2,7 +2,7 @@ use Rattle.std.proofs.Common.{◌≡◌, ◌+◌, ◌-◌, ◌≤◌, take}
 use Rattle.cbpf_code.specs.Sound.{IsSound}
 use Rattle.cbpf_machine.specs.Machine.{machine_of}
 use Rattle.cbpf_machine.specs.Trace.{trace}
-use Rattle.cbpf_machine.specs.Trail.{Marks}
+use Rattle.cbpf_machine.specs.Trail.{AreCheckpoints}
 use Rattle.cbpf_machine.specs.Follow.{Goes}
 use Rattle.cbpf_machine.proofs.mark_trail.MarkTrailTrail.go_to.Given as goal
 
@@ -14,7 +14,7 @@ invariant-fill g l =
       from_one : 1 ≤ l.filled.kept;
       within : l.filled.kept ≤ l.to;
       here : Goes (machine_of l.p l.values) l.packet.bytes.now l.packet.wire (trace (machine_of l.p l.values) l.packet.bytes.now l.packet.wire) (l.filled.kept - 1) l.here;
-      stands : Marks l.filled (take l.filled.kept (trace (machine_of l.p l.values) l.packet.bytes.now l.packet.wire));
+      stands : AreCheckpoints l.filled (take l.filled.kept (trace (machine_of l.p l.values) l.packet.bytes.now l.packet.wire));
       spent : l.meter + 1 ≡ l.fn.meter + l.filled.kept;
     }
 

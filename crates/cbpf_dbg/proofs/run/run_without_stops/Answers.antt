@@ -6,7 +6,7 @@ use Rattle.cbpf_dbg.proofs.CursorLemmas.{here_after, here_some, here_none, curso
 use Rattle.cbpf_dbg.proofs.RunLemmas.{up_to_at_start, up_to_next, up_to_past, not_before_forward, run_finished, run_limited_at}
 use Rattle.cbpf_dbg.proofs.TurnLemmas.{run_turns-reply, spent_between, owed-turns, owed_bound, not_before_packet}
 use Rattle.cbpf_dbg.specs.Loaded.{machine_in, records_in}
-use Rattle.cbpf_dbg.proofs.run.run_quietly.Goals as goal
+use Rattle.cbpf_dbg.proofs.run.run_without_stops.Goals as goal
 
 pub pass_begun-next-requires-clause-spare : goal.pass_begun-next-requires-clause-spare
 pass_begun-next-requires-clause-spare g c =

@@ -2,7 +2,7 @@ use Rattle.std.proofs.Common.{◌≡◌, arith, sym, ◌∙◌, inl, inr, get_or
 use Rattle.std.proofs.lemmas.List.{get_or-set_other}
 use Rattle.cbpf_machine.proofs.SoundLemmas.{sound_few}
 use Rattle.cbpf_dbg.proofs.CarryLemmas.{same_or_other}
-use Rattle.cbpf_dbg.proofs.hit.watch_at.Goals as goal
+use Rattle.cbpf_dbg.proofs.watching.watch_at.Goals as goal
 
 pub set-requires : goal.set-requires
 set-requires g c = omega (arith, c.requires, sound_few c.args.p.now c.len-few.ensures.sound)

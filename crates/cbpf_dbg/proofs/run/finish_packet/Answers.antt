@@ -7,7 +7,7 @@ use Rattle.cbpf_dbg.proofs.CursorLemmas.{goes}
 use Rattle.cbpf_dbg.proofs.RunLemmas.{hit_none}
 use Rattle.cbpf_dbg.specs.Loaded.{machine_in, records_in}
 use Rattle.cbpf_dbg.specs.Breakpoints.{carries}
-use Rattle.cbpf_dbg.proofs.run.pass_rest.Goals as goal
+use Rattle.cbpf_dbg.proofs.run.finish_packet.Goals as goal
 
 pub pass-preserved : goal.pass-preserved
 pass-preserved g c =

@@ -8,7 +8,7 @@ use Rattle.cbpf_dbg.proofs.KeepLemmas.{keeps_clear}
 use Rattle.cbpf_dbg.proofs.TurnLemmas.{run_turns-reply, spent_between, owed-turns, not_before_after}
 use Rattle.cbpf_dbg.specs.Loaded.{machine_in, records_in, breakpoints_in}
 use Rattle.pcap_classic.specs.Lent.{record_of}
-use Rattle.cbpf_dbg.proofs.run.run_here.Goals as goal
+use Rattle.cbpf_dbg.proofs.run.run_to_hit.Goals as goal
 
 pub returns-in-Some-pass_to_hit-clause-runs : goal.returns-in-Some-pass_to_hit-clause-runs
 returns-in-Some-pass_to_hit-clause-runs g c =

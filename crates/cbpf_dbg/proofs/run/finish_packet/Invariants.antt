@@ -2,7 +2,7 @@ use Rattle.std.proofs.Common.{◌≡◌, ◌+◌, ◌-◌, [], length}
 use Rattle.cbpf_dbg.specs.Joined.{rest, ahead}
 use Rattle.cbpf_dbg.specs.Cursor.{Stands, owed}
 use Rattle.cbpf_dbg.specs.Loaded.{machine_in, records_in}
-use Rattle.cbpf_dbg.proofs.run.pass_rest.Given as goal
+use Rattle.cbpf_dbg.proofs.run.finish_packet.Given as goal
 
 -- the cursor is in the packet, and no hit was passed
 abbrev pub invariant-pass : goal.invariant-pass

@@ -1,21 +1,21 @@
--- What the scanner finds: the next mark of a text.
+-- What the scanner finds: the next token of a text.
 use Rattle.std.specs.Prelude.{◌≡◌, ℕ, ◌<◌, ◌≤◌, ◌^◌, min, List, ◌∷◌, length, slice_range}
-use Rattle.cbpf_code.specs.Marks.{Mark, run, single, number, marks_after}
+use Rattle.cbpf_code.specs.WordTokens.{Token, run, single, number, tokens_after}
 use Rattle.cbpf_code.specs.declared.scan.Found.{Found}
 use Rattle.cbpf_code.specs.declared.scan.Lexeme.{Lexeme}
 use Rattle.cbpf_code.specs.declared.scan.Lexeme.TheVariants.{Digits, Byte}
 
--- the mark that was found, in a text
-abbrev pub mark_of : List ℕ → Found → Mark
-mark_of text f = elim f.lexeme [ Digits v ↦ run f.place (slice_range text f.place f.end) | Byte b ↦ single f.place b ]
+-- the token that was found, in a text
+abbrev pub token_of : List ℕ → Found → Token
+token_of text f = elim f.lexeme [ Digits v ↦ run f.place (slice_range text f.place f.end) | Byte b ↦ single f.place b ]
 
 -- a number is read up to a cap that no field reaches
 abbrev pub HasValue : List ℕ → Found → Lexeme → Type 0
 HasValue text f (Digits v) = v ≡ min (number (slice_range text f.place f.end)) (2 ^ 32)
 HasValue text f (Byte b) = Unit {0}
 
-pub record IsNextMark (text : List ℕ) (at : ℕ) (f : Found) : Type 0 where
+pub record IsNextToken (text : List ℕ) (at : ℕ) (f : Found) : Type 0 where
   pub within : f.end ≤ length text
   pub after : at < f.end
-  pub first : marks_after text at ≡ mark_of text f ∷ marks_after text f.end
+  pub first : tokens_after text at ≡ token_of text f ∷ tokens_after text f.end
   pub value : HasValue text f f.lexeme

@@ -1,7 +1,7 @@
 use Rattle.std.proofs.Common.{◌∙◌, ℕ, ◌-◌, ◌^◌, min, List, length, take, drop, sym, ap, refl, arith}
-use Rattle.cbpf_code.specs.Marks.{number}
-use Rattle.cbpf_code.proofs.WordMarkLemmas.{step-single, step-end, RunFound, found-run}
-use Rattle.cbpf_code.proofs.scan.next_mark.Goals as goal
+use Rattle.cbpf_code.specs.WordTokens.{number}
+use Rattle.cbpf_code.proofs.WordTokenLemmas.{step-single, step-end, RunFound, found-run}
+use Rattle.cbpf_code.proofs.scan.next_token.Goals as goal
 
 pub returns-then-place-text : goal.returns-then-place-text
 returns-then-place-text c = sym c.skip_blanks-place.ensures.same ∙ step-end _ _ (omega arith)

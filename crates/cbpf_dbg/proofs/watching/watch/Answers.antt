@@ -2,7 +2,7 @@ use Rattle.std.proofs.Common.{◌≡◌, ◌≢◌, arith, sym, ◌∙◌, inl, 
 use Rattle.std.proofs.lemmas.List.{get_or-set_other}
 use Rattle.std.proofs.lemmas.Bool.{cases_lt}
 use Rattle.cbpf_machine.proofs.SoundLemmas.{sound_few}
-use Rattle.cbpf_dbg.proofs.hit.watch.Goals as goal
+use Rattle.cbpf_dbg.proofs.watching.watch.Goals as goal
 
 pub set-requires : goal.set-requires
 set-requires g c = omega (arith, c.scan-test.true, c.len-i-end.ensures.value, c.scan.auto.i-end, sound_few c.args.p.now c.len-i-end.ensures.sound)

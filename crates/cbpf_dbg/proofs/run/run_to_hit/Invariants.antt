@@ -3,7 +3,7 @@ use Rattle.cbpf_dbg.specs.Joined.{rest}
 use Rattle.cbpf_dbg.specs.Cursor.{Stands, owed, UpTo, NotBefore, IsHere}
 use Rattle.cbpf_dbg.specs.Session.{Keeps}
 use Rattle.cbpf_dbg.specs.Loaded.{machine_in, records_in, breakpoints_in}
-use Rattle.cbpf_dbg.proofs.run.run_here.Given as goal
+use Rattle.cbpf_dbg.proofs.run.run_to_hit.Given as goal
 
 -- the hits ahead are those at the start, and the limit is not reached
 abbrev pub invariant-go : goal.invariant-go

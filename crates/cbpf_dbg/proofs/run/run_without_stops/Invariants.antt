@@ -2,7 +2,7 @@ use Rattle.std.proofs.Common.{◌≡◌, ◌+◌, ◌-◌, ◌≤◌, [], length
 use Rattle.cbpf_dbg.specs.Joined.{rest}
 use Rattle.cbpf_dbg.specs.Cursor.{Stands, owed, UpTo, NotBefore, IsHere}
 use Rattle.cbpf_dbg.specs.Loaded.{machine_in, records_in}
-use Rattle.cbpf_dbg.proofs.run.run_quietly.Given as goal
+use Rattle.cbpf_dbg.proofs.run.run_without_stops.Given as goal
 
 -- no hit is ahead that was not ahead at the start, the limit is not reached, and the trail keeps nothing
 abbrev pub invariant-go : goal.invariant-go
