@@ -1,7 +1,7 @@
 //! What sources stand for, by hand.
 
 use cbpf_code::code_of;
-use cbpf_grammar::{Fields, Reader, Refusal, Row, Step};
+use cbpf_grammar::{Fields, Reader, Row, Step, SyntaxFault};
 use std::alloc::Global;
 use std::process::Abort;
 
@@ -124,56 +124,56 @@ static ITEMS: [(&[u8], u16, Fields); 111] = [
 ];
 
 /// Refused sources.
-static REFUSALS: [(&[u8], Refusal); 46] = [
-    (b"top:", Refusal::Unfinished(3)),
-    (b"top", Refusal::Unfinished(0)),
-    (b"ld", Refusal::Unfinished(0)),
-    (b"ld [", Refusal::Unfinished(3)),
-    (b"ld #", Refusal::Unfinished(3)),
-    (b"ld #-", Refusal::Unfinished(4)),
-    (b"ld [x +", Refusal::Unfinished(6)),
-    (b"ldx 4*([14]&15", Refusal::Unfinished(12)),
-    (b"jeq #1", Refusal::Unfinished(5)),
-    (b"jeq #1,", Refusal::Unfinished(6)),
-    (b"jeq #1, l,", Refusal::Unfinished(9)),
-    (b"tax top:", Refusal::Unfinished(7)),
-    (b"ret #0 ld\n#5", Refusal::Unfinished(7)),
-    (b"a: ret #0", Refusal::Misplaced(0)),
-    (b"ret ret", Refusal::Misplaced(4)),
-    (b"ldx type", Refusal::Misplaced(4)),
-    (b"ldh len", Refusal::Misplaced(4)),
-    (b"ret x", Refusal::Misplaced(4)),
-    (b"ldi x", Refusal::Misplaced(4)),
-    (b"ld x", Refusal::Misplaced(3)),
-    (b"LD #1", Refusal::Misplaced(3)),
-    (b"foo ret", Refusal::Misplaced(4)),
-    (b"vlan_pr ret", Refusal::Misplaced(8)),
-    (b"5", Refusal::Misplaced(0)),
-    (b"/**/ #5", Refusal::Misplaced(5)),
-    (b"x: tax", Refusal::Misplaced(0)),
-    (b"M: tax", Refusal::Misplaced(0)),
-    (b"len: tax", Refusal::Misplaced(0)),
-    (b"rand: tax", Refusal::Misplaced(0)),
-    (b"ret: tax", Refusal::Misplaced(3)),
-    (b"jmp ret", Refusal::Misplaced(4)),
-    (b"jmp x", Refusal::Misplaced(4)),
-    (b"jeq #1, a", Refusal::Misplaced(8)),
-    (b"jmp l :", Refusal::Misplaced(6)),
-    (b"ld [x - 1]", Refusal::Misplaced(6)),
-    (b"ldx 5*([14]&15)", Refusal::Misplaced(4)),
-    (b"ldx 4*([14]&14)", Refusal::Misplaced(12)),
-    (b"ldx 4*([14]&0)", Refusal::Misplaced(12)),
-    (b"ldx +4*([14]&15)", Refusal::Misplaced(4)),
-    (b"jne #1, t, f", Refusal::Misplaced(9)),
-    (b"ld /* c */ # 5 5", Refusal::Misplaced(15)),
-    (b"tax l: m: 5 ld #-2147483649", Refusal::Misplaced(10)),
+static FAULTS: [(&[u8], SyntaxFault); 46] = [
+    (b"top:", SyntaxFault::Unfinished(3)),
+    (b"top", SyntaxFault::Unfinished(0)),
+    (b"ld", SyntaxFault::Unfinished(0)),
+    (b"ld [", SyntaxFault::Unfinished(3)),
+    (b"ld #", SyntaxFault::Unfinished(3)),
+    (b"ld #-", SyntaxFault::Unfinished(4)),
+    (b"ld [x +", SyntaxFault::Unfinished(6)),
+    (b"ldx 4*([14]&15", SyntaxFault::Unfinished(12)),
+    (b"jeq #1", SyntaxFault::Unfinished(5)),
+    (b"jeq #1,", SyntaxFault::Unfinished(6)),
+    (b"jeq #1, l,", SyntaxFault::Unfinished(9)),
+    (b"tax top:", SyntaxFault::Unfinished(7)),
+    (b"ret #0 ld\n#5", SyntaxFault::Unfinished(7)),
+    (b"a: ret #0", SyntaxFault::Misplaced(0)),
+    (b"ret ret", SyntaxFault::Misplaced(4)),
+    (b"ldx type", SyntaxFault::Misplaced(4)),
+    (b"ldh len", SyntaxFault::Misplaced(4)),
+    (b"ret x", SyntaxFault::Misplaced(4)),
+    (b"ldi x", SyntaxFault::Misplaced(4)),
+    (b"ld x", SyntaxFault::Misplaced(3)),
+    (b"LD #1", SyntaxFault::Misplaced(3)),
+    (b"foo ret", SyntaxFault::Misplaced(4)),
+    (b"vlan_pr ret", SyntaxFault::Misplaced(8)),
+    (b"5", SyntaxFault::Misplaced(0)),
+    (b"/**/ #5", SyntaxFault::Misplaced(5)),
+    (b"x: tax", SyntaxFault::Misplaced(0)),
+    (b"M: tax", SyntaxFault::Misplaced(0)),
+    (b"len: tax", SyntaxFault::Misplaced(0)),
+    (b"rand: tax", SyntaxFault::Misplaced(0)),
+    (b"ret: tax", SyntaxFault::Misplaced(3)),
+    (b"jmp ret", SyntaxFault::Misplaced(4)),
+    (b"jmp x", SyntaxFault::Misplaced(4)),
+    (b"jeq #1, a", SyntaxFault::Misplaced(8)),
+    (b"jmp l :", SyntaxFault::Misplaced(6)),
+    (b"ld [x - 1]", SyntaxFault::Misplaced(6)),
+    (b"ldx 5*([14]&15)", SyntaxFault::Misplaced(4)),
+    (b"ldx 4*([14]&14)", SyntaxFault::Misplaced(12)),
+    (b"ldx 4*([14]&0)", SyntaxFault::Misplaced(12)),
+    (b"ldx +4*([14]&15)", SyntaxFault::Misplaced(4)),
+    (b"jne #1, t, f", SyntaxFault::Misplaced(9)),
+    (b"ld /* c */ # 5 5", SyntaxFault::Misplaced(15)),
+    (b"tax l: m: 5 ld #-2147483649", SyntaxFault::Misplaced(10)),
     // By place in the text.
-    (b"ld #-2147483649", Refusal::LargeNegative(5)),
-    (b"ld #-4294967295 5", Refusal::LargeNegative(5)),
-    (b"ld [-2147483649", Refusal::LargeNegative(5)),
+    (b"ld #-2147483649", SyntaxFault::LargeNegative(5)),
+    (b"ld #-4294967295 5", SyntaxFault::LargeNegative(5)),
+    (b"ld [-2147483649", SyntaxFault::LargeNegative(5)),
     (
         b"ret #-2147483648 ret #-2147483649 tax",
-        Refusal::LargeNegative(23),
+        SyntaxFault::LargeNegative(23),
     ),
 ];
 
@@ -181,7 +181,7 @@ static REFUSALS: [(&[u8], Refusal); 46] = [
 #[derive(Drop)]
 enum Outcome {
     Items(Vec<Row>),
-    Refused(Refusal),
+    Refused(SyntaxFault),
     /// The source has a bad piece, or the allocator refused.
     Unread,
 }
@@ -193,10 +193,10 @@ fn read(alloc: Global, source: &[u8]) -> Outcome {
     for _ in 0..=source.len() {
         match reader.step() {
             Err(_) => return Outcome::Unread,
-            Ok(None) if labelled => return Outcome::Refused(reader.refusal(0)),
+            Ok(None) if labelled => return Outcome::Refused(reader.fault(0)),
             Ok(None) => {
                 return match reader.large() {
-                    Some(at) => Outcome::Refused(Refusal::LargeNegative(at)),
+                    Some(at) => Outcome::Refused(SyntaxFault::LargeNegative(at)),
                     None => Outcome::Items(items),
                 };
             }
@@ -211,7 +211,7 @@ fn read(alloc: Global, source: &[u8]) -> Outcome {
                     return Outcome::Unread;
                 }
             }
-            Ok(Some(Step::Stuck(n))) => return Outcome::Refused(reader.refusal(n)),
+            Ok(Some(Step::Stuck(n))) => return Outcome::Refused(reader.fault(n)),
         }
     }
     Outcome::Unread
@@ -227,16 +227,16 @@ fn assert_item(rt: &impl Abort, items: &[Row], code: u16, fields: Fields, row: u
     }
 }
 
-fn assert_refused(rt: &impl Abort, outcome: Outcome, refusal: Refusal, row: usize) {
+fn assert_refused(rt: &impl Abort, outcome: Outcome, fault: SyntaxFault, row: usize) {
     match outcome {
-        Outcome::Refused(found) => assert!(rt; found == refusal, "refusal {row}"),
-        _ => assert!(rt; false, "refusal {row}"),
+        Outcome::Refused(found) => assert!(rt; found == fault, "fault {row}"),
+        _ => assert!(rt; false, "fault {row}"),
     }
 }
 
 fn each_refusal(rt: &impl Abort, alloc: Global) {
-    for (row, (source, refusal)) in REFUSALS.iter().enumerate() {
-        assert_refused(rt, read(alloc, source), *refusal, row);
+    for (row, (source, fault)) in FAULTS.iter().enumerate() {
+        assert_refused(rt, read(alloc, source), *fault, row);
     }
 }
 

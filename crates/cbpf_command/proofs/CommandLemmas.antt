@@ -7,7 +7,7 @@ use Rattle.std.proofs.lemmas.Str.{is_utf8-from_IsUtf8, IsUtf8-from_is_utf8}
 use Rattle.cbpf_command.specs.Words.{words, after_words, trimmed}
 use Rattle.cbpf_command.specs.Commands.{Spelled, Reading, meaning, readings, reading_in, by_reading, or_wrong, name_in, load_capture, load_by}
 use Rattle.cbpf_command.specs.declared.command.Command.{Command}
-use Rattle.cbpf_command.specs.declared.command.LineRefusal.TheVariants.{UnknownCommand}
+use Rattle.cbpf_command.specs.declared.command.CommandFault.TheVariants.{UnknownCommand}
 use Rattle.std.specs.Option.{option_map}
 
 -- a known name, and what its command reads

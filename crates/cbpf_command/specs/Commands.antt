@@ -5,8 +5,8 @@ use Rattle.cbpf_code.specs.declared.extension.Ext.{Ext}
 use Rattle.cbpf_code.specs.Extension.{ext_name, ext_table}
 use Rattle.cbpf_command.specs.Words.{words, after_words, trimmed}
 use Rattle.cbpf_command.specs.Numbers.{number, signed_number}
-use Rattle.cbpf_command.specs.declared.command.LineRefusal.{LineRefusal}
-use Rattle.cbpf_command.specs.declared.command.LineRefusal.TheVariants.{UnknownCommand, WrongArguments}
+use Rattle.cbpf_command.specs.declared.command.CommandFault.{CommandFault}
+use Rattle.cbpf_command.specs.declared.command.CommandFault.TheVariants.{UnknownCommand, WrongArguments}
 use Rattle.cbpf_command.specs.declared.command.Command.{Command}
 use Rattle.cbpf_command.specs.declared.command.Command.TheVariants as command
 
@@ -160,23 +160,23 @@ abbrev pub reading_in : List (List ℕ × Reading) → List ℕ → Option Readi
 reading_in [] w = None
 reading_in (row ∷ rows) w = if bytes_eq w row.0 then Some row.1 else reading_in rows w
 
-abbrev pub or_wrong : Option Spelled → Result (Option Spelled) LineRefusal
+abbrev pub or_wrong : Option Spelled → Result (Option Spelled) CommandFault
 or_wrong None = Err WrongArguments
 or_wrong (Some c) = Ok (Some c)
 
-abbrev pub by_reading : Option Reading → List (List ℕ) → List ℕ → Result (Option Spelled) LineRefusal
+abbrev pub by_reading : Option Reading → List (List ℕ) → List ℕ → Result (Option Spelled) CommandFault
 by_reading None ws text = Err UnknownCommand
 by_reading (Some read) ws text = or_wrong (read ws text)
 
-abbrev pub by_words : List (List ℕ) → List ℕ → Result (Option Spelled) LineRefusal
+abbrev pub by_words : List (List ℕ) → List ℕ → Result (Option Spelled) CommandFault
 by_words [] text = Ok None
 by_words (w ∷ ws) text = by_reading (reading_in readings w) ws text
 
 -- what a line says: no command where it has no words
-unfoldable pub command_of : List ℕ → Result (Option Spelled) LineRefusal
+unfoldable pub command_of : List ℕ → Result (Option Spelled) CommandFault
 command_of line = by_words (words line) (trimmed (after_words 2 line))
 
 -- what the answer of the code stands for
-abbrev pub result_meaning : Result (Option Command) LineRefusal → Result (Option Spelled) LineRefusal
+abbrev pub result_meaning : Result (Option Command) CommandFault → Result (Option Spelled) CommandFault
 result_meaning (Ok c) = Ok (option_map meaning c)
 result_meaning (Err e) = Err e

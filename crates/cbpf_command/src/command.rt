@@ -61,7 +61,7 @@ pub enum Command<'a> {
 
 /// Why a line is no command.
 #[derive(Clone, Copy, Debug, PartialEq, Eq)]
-pub enum LineRefusal {
+pub enum CommandFault {
     /// Q1: the first word is no command's.
     UnknownCommand,
     /// Q2: a missing, extra or unreadable argument.
@@ -207,17 +207,17 @@ fn load_by(text: &[u8]) -> Option<Command<'_>>
 }
 
 /// What the arguments spell, or that they are wrong.
-fn or_wrong(command: Option<Command<'_>>) -> Result<Option<Command<'_>>, LineRefusal>
+fn or_wrong(command: Option<Command<'_>>) -> Result<Option<Command<'_>>, CommandFault>
     ensures { spec.result_meaning result ≡ spec.or_wrong (option_map spec.meaning command.entry) }
 {
     match command {
         Some(command) => Ok(Some(command)),
-        None => Err(LineRefusal::WrongArguments),
+        None => Err(CommandFault::WrongArguments),
     }
 }
 
 /// The command of this name with what stands after it.
-fn command_by<'a>(name: &[u8], text: &'a [u8]) -> Result<Option<Command<'a>>, LineRefusal>
+fn command_by<'a>(name: &[u8], text: &'a [u8]) -> Result<Option<Command<'a>>, CommandFault>
     ensures { spec.result_meaning result ≡ spec.by_reading (spec.reading_in spec.readings name.now) (words text.now)
         (trimmed (after_words 1 text.now)) }
 {
@@ -236,7 +236,7 @@ fn command_by<'a>(name: &[u8], text: &'a [u8]) -> Result<Option<Command<'a>>, Li
         b"stops" => alone(arguments, Command::Stops),
         b"value" => value_by(arguments),
         b"quit" => alone(arguments, Command::Quit),
-        _ => return Err(LineRefusal::UnknownCommand),
+        _ => return Err(CommandFault::UnknownCommand),
     };
     or_wrong(command)
 }
@@ -244,7 +244,7 @@ fn command_by<'a>(name: &[u8], text: &'a [u8]) -> Result<Option<Command<'a>>, Li
 /// The command that a line spells; `None` for a line without words. Words are separated by blanks,
 /// which are spaces, tabs, carriage returns and newlines.
 #[tactic(auto, unfolding(crate::specs::Commands::command_of))]
-pub fn command_of(line: &[u8]) -> Result<Option<Command<'_>>, LineRefusal>
+pub fn command_of(line: &[u8]) -> Result<Option<Command<'_>>, CommandFault>
     ensures { spec.result_meaning result ≡ spec.command_of line.now }
 {
     let Some((name, rest)) = next_word(line) else {

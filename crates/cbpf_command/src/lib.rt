@@ -7,4 +7,4 @@ mod command;
 mod number;
 mod scan;
 
-pub use command::{Command, LineRefusal, command_of};
+pub use command::{Command, CommandFault, command_of};

@@ -21,7 +21,7 @@ use Rattle.cbpf_grammar.proofs.Greedy.{whole_front}
 use Rattle.cbpf_grammar.proofs.Refused.{next_some, large_first, misplaced_first, unfinished_first}
 use Rattle.cbpf_grammar.specs.Views.{lexeme_of, row_of}
 use Rattle.cbpf_grammar.specs.Steps.{IsNextItem, Stuck, starts_with_label}
-use Rattle.cbpf_grammar.specs.declared.reader.Refusal.TheVariants as refusal
+use Rattle.cbpf_grammar.specs.declared.reader.SyntaxFault.TheVariants as refusal
 use Rattle.cbpf_grammar.specs.Refusals.{symbol_at, IsLargeNegative, IsStuckAt}
 use Rattle.cbpf_grammar.specs.Reading.{AreAhead, IsStepOf, step_len, StartsWithWord, IsPlaceOf, IsFirstLarge, IsRefusedFor}
 use Rattle.cbpf_grammar.proofs.Ahead.{next_more, stuck_more, label_more}

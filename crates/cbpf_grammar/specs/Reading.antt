@@ -6,8 +6,8 @@ use Rattle.cbpf_lex.specs.Tokens.{LexesTo}
 use Rattle.cbpf_grammar.specs.declared.lexeme.Lexeme as declared_lexeme
 use Rattle.cbpf_grammar.specs.declared.reader.Step.{Step}
 use Rattle.cbpf_grammar.specs.declared.reader.Step.TheVariants.{Label, Instruction, Stuck as stuck_step}
-use Rattle.cbpf_grammar.specs.declared.reader.Refusal.{Refusal}
-use Rattle.cbpf_grammar.specs.declared.reader.Refusal.TheVariants as refused
+use Rattle.cbpf_grammar.specs.declared.reader.SyntaxFault.{SyntaxFault}
+use Rattle.cbpf_grammar.specs.declared.reader.SyntaxFault.TheVariants as refused
 use Rattle.cbpf_grammar.specs.Refusals.{ParseFault as faults}
 use Rattle.cbpf_grammar.specs.Lexemes.{Lexeme, lexemes_of, AreLexemes}
 use Rattle.cbpf_grammar.specs.Lexemes.Symbol.{word}
@@ -68,7 +68,7 @@ IsFirstLarge ts n (Some at) = (i : ℕ) × (i < n) × IsLargeNegative ts i × ((
     × IsPlaceOf ts i at
 
 -- the first refusal of tokens, by the place of the token that shows it
-abbrev pub IsRefusedFor : List Lexeme → Refusal → Type 0
+abbrev pub IsRefusedFor : List Lexeme → SyntaxFault → Type 0
 IsRefusedFor ts (refused.Misplaced at) = (i : ℕ) × IsFirstRefusal ts (faults.Misplaced i) × IsPlaceOf ts i at
 IsRefusedFor ts (refused.LargeNegative at) = (i : ℕ) × IsFirstRefusal ts (faults.LargeNegative i) × IsPlaceOf ts i at
 IsRefusedFor ts (refused.Unfinished at) = IsFirstRefusal ts faults.Unfinished × IsPlaceOf ts (length ts - 1) at

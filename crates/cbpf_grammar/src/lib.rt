@@ -20,5 +20,5 @@ pub use class::Class;
 pub use item::Row;
 pub use law::{one_reading, one_refusal};
 pub use lexeme::{Lexeme, Symbol};
-pub use reader::{Reader, Refusal, Step};
+pub use reader::{Reader, Step, SyntaxFault};
 pub use table::Fields;

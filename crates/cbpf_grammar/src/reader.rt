@@ -32,7 +32,7 @@ pub enum Step {
 
 /// Why tokens are refused, with the place in the text of the token that shows it, counted from 0.
 #[derive(Clone, Copy, Debug, PartialEq, Eq)]
-pub enum Refusal {
+pub enum SyntaxFault {
     /// A4: the tokens before this one begin a list of items, and with it they don't.
     Misplaced(usize),
     /// A3: a number above 2147483648 after a `-`.
@@ -263,7 +263,7 @@ impl<'a, A: Allocator> Reader<'a, A> {
     }
 
     /// The first refusal where the tokens go on so far and no farther.
-    pub fn refusal(&self, n: usize) -> Refusal
+    pub fn fault(&self, n: usize) -> SyntaxFault
         requires within { n ≤ length self.now.tokens }
         requires end { n ≡ length self.now.tokens → self.now.ended ≡ true }
         requires word { 0 < n → StartsWithWord (map lexeme_of self.now.tokens) }
@@ -272,14 +272,14 @@ impl<'a, A: Allocator> Reader<'a, A> {
     {
         let ahead = self.ahead();
         if let Some(at) = first_large(self.large, &ahead[..n]) {
-            return Refusal::LargeNegative(at);
+            return SyntaxFault::LargeNegative(at);
         }
         if n < ahead.len() {
-            Refusal::Misplaced(ahead[n].at)
+            SyntaxFault::Misplaced(ahead[n].at)
         } else if n > 0 {
-            Refusal::Unfinished(ahead[n - 1].at)
+            SyntaxFault::Unfinished(ahead[n - 1].at)
         } else {
-            Refusal::Unfinished(self.last)
+            SyntaxFault::Unfinished(self.last)
         }
     }
 

@@ -5,8 +5,8 @@ use Rattle.cbpf_code.proofs.WordAnswerLemmas.{spells-once, spells-not_refused, r
 use Rattle.cbpf_code.proofs.FirstFaultLemmas.{first_fault-unique}
 use Rattle.cbpf_code.specs.declared.insn.Insn.{Insn}
 use Rattle.cbpf_command.specs.Commands.{Spelled, load_words, load_capture, run, disassemble, dump, breakpoint, breakpoint_when_a, breakpoint_when_x, breakpoints, reset_breakpoints, delete, step, select, mark, resume, stops, value, quit, command_of}
-use Rattle.cbpf_command.specs.declared.command.LineRefusal.{LineRefusal}
-use Rattle.cbpf_command.specs.declared.command.LineRefusal.TheVariants.{UnknownCommand, WrongArguments}
+use Rattle.cbpf_command.specs.declared.command.CommandFault.{CommandFault}
+use Rattle.cbpf_command.specs.declared.command.CommandFault.TheVariants.{UnknownCommand, WrongArguments}
 use Rattle.cbpf_dbg.specs.View.{View}
 use Rattle.pcap_classic.specs.Savefile.{Savefile}
 use Rattle.pcap_classic.proofs.SavefileLemmas as captures
@@ -84,14 +84,14 @@ own-once files m n n' stops t t' a b = writes-once _ t t' n n' a b
 own-once files m n n' (value e k) t t' a b = writes-once _ t t' n n' a b
 own-once files m n n' quit t t' a b = absurd a
 
-line-once : (files : FileMap) (m n n' : View) (spelled : Result (Option Spelled) LineRefusal) (t t' : List ℕ) → OwnLineReply files m n spelled t → OwnLineReply files m n' spelled t' → Same n n' t t'
+line-once : (files : FileMap) (m n n' : View) (spelled : Result (Option Spelled) CommandFault) (t t' : List ℕ) → OwnLineReply files m n spelled t → OwnLineReply files m n' spelled t' → Same n n' t t'
 line-once files m n n' (Ok None) t t' a b = writes-once _ t t' n n' a b
 line-once files m n n' (Ok (Some c)) t t' a b = own-once files m n n' c t t' a b
 line-once files m n n' (Err UnknownCommand) t t' a b = writes-once _ t t' n n' a b
 line-once files m n n' (Err WrongArguments) t t' a b = writes-once _ t t' n n' a b
 
 -- `quit` has no reply
-quit-none : (files : FileMap) (m n : View) (spelled : Result (Option Spelled) LineRefusal) (t : List ℕ) → spelled ≡ Ok (Some quit) → OwnLineReply files m n spelled t → ⊥
+quit-none : (files : FileMap) (m n : View) (spelled : Result (Option Spelled) CommandFault) (t : List ℕ) → spelled ≡ Ok (Some quit) → OwnLineReply files m n spelled t → ⊥
 quit-none files m n spelled t e h = subst (λ s. OwnLineReply files m n s t) e h
 
 pub one_output : OneOutput
@@ -133,7 +133,7 @@ own-or files m n f g stops t h = inl h
 own-or files m n f g (value e k) t h = inl h
 own-or files m n f g quit t h = absurd h
 
-line-or : (files : FileMap) (m n : View) (f g : ℕ) (spelled : Result (Option Spelled) LineRefusal) (t : List ℕ) → LineReplies files m n f g spelled (λ s. s ≡ t) → OwnLineReply files m n spelled t ⊎ ((memory_text ≡ t) ⊎ (device_text ≡ t))
+line-or : (files : FileMap) (m n : View) (f g : ℕ) (spelled : Result (Option Spelled) CommandFault) (t : List ℕ) → LineReplies files m n f g spelled (λ s. s ≡ t) → OwnLineReply files m n spelled t ⊎ ((memory_text ≡ t) ⊎ (device_text ≡ t))
 line-or files m n f g (Ok None) t h = inl h
 line-or files m n f g (Ok (Some c)) t h = own-or files m n f g c t h
 line-or files m n f g (Err UnknownCommand) t h = inl h

@@ -16,7 +16,7 @@ use Rattle.cbpf_jobs.specs.Progress.{Kept, CommandRan, LineResult, LineRan}
 use Rattle.cbpf_jobs.specs.declared.debugger.AfterLine.{AfterLine}
 use Rattle.cbpf_jobs.specs.declared.files.LoadFault.TheVariants.{Absent, Device}
 use Rattle.cbpf_code.specs.declared.writing.WriteFault.{WriteFault}
-use Rattle.cbpf_command.specs.declared.command.LineRefusal.{LineRefusal}
+use Rattle.cbpf_command.specs.declared.command.CommandFault.{CommandFault}
 use Rattle.std.specs.Result.{IsErr, IsOkAnd, MatchResult}
 use Rattle.cbpf_jobs.specs.declared.debugger.AfterLine.TheVariants.{NextLine, Quit}
 use Rattle.cbpf_reply.specs.Errors.{word_fault_text, check_fault_text, capture_fault_text, absent_text, device_text, memory_text}
@@ -105,11 +105,11 @@ load-accepted items f g m n name Written v capture l h e w =
 
 -- ---- a command, and a line
 
-pub line-err : (files : FileMap) (m n : View) (f g : ℕ) (spelled : Result (Option Spelled) LineRefusal) (old new : Option (List ℕ)) (r : Result AfterLine WriteFault) → IsErr r → LineReplies files m n f g spelled (λ t. AppendedPart old new t) → LineResult files m n f g spelled old new r
+pub line-err : (files : FileMap) (m n : View) (f g : ℕ) (spelled : Result (Option Spelled) CommandFault) (old new : Option (List ℕ)) (r : Result AfterLine WriteFault) → IsErr r → LineReplies files m n f g spelled (λ t. AppendedPart old new t) → LineResult files m n f g spelled old new r
 line-err files m n f g spelled old new (Ok b) e a = absurd (cc)
 line-err files m n f g spelled old new (Err x) e a = a
 
-pub line-spelled : (f g : Source) (m n : View) (spelled spelled' : Result (Option Spelled) LineRefusal) (old new : Option (List ℕ)) (r : Result AfterLine WriteFault) → spelled ≡ spelled' → LineRan f g m n spelled old new r → LineRan f g m n spelled' old new r
+pub line-spelled : (f g : Source) (m n : View) (spelled spelled' : Result (Option Spelled) CommandFault) (old new : Option (List ℕ)) (r : Result AfterLine WriteFault) → spelled ≡ spelled' → LineRan f g m n spelled old new r → LineRan f g m n spelled' old new r
 line-spelled f g m n spelled spelled' old new r e h = subst (λ s. LineRan f g m n s old new r) e h
 
 -- a command other than `quit` was run, and the next line comes after its reply

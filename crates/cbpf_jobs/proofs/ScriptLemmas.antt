@@ -6,8 +6,8 @@ use Rattle.cbpf_code.specs.Writing.{Appended, AppendedPart}
 use Rattle.cbpf_code.specs.declared.writing.WriteFault.{WriteFault}
 use Rattle.cbpf_code.proofs.WrittenLemmas.{appended-nil, appended-then, appended-kept, part-then, part-take}
 use Rattle.cbpf_command.specs.Commands.{Spelled, load_words, load_capture, run, disassemble, dump, breakpoint, breakpoint_when_a, breakpoint_when_x, breakpoints, reset_breakpoints, delete, step, select, mark, resume, stops, value, quit, command_of}
-use Rattle.cbpf_command.specs.declared.command.LineRefusal.{LineRefusal}
-use Rattle.cbpf_command.specs.declared.command.LineRefusal.TheVariants.{UnknownCommand, WrongArguments}
+use Rattle.cbpf_command.specs.declared.command.CommandFault.{CommandFault}
+use Rattle.cbpf_command.specs.declared.command.CommandFault.TheVariants.{UnknownCommand, WrongArguments}
 use Rattle.cbpf_jobs.specs.FileMap.{FileMap, Source}
 use Rattle.cbpf_jobs.specs.Lines.{lines, put_front, whole_lines, has_newline}
 use Rattle.cbpf_dbg.specs.View.{View, empty_view}
@@ -122,7 +122,7 @@ answers-named files m n f g stops W h = writes-named _ n W h
 answers-named files m n f g (value e k) W h = writes-named _ n W h
 answers-named files m n f g quit W h = absurd h
 
-reply-named : (files : FileMap) (m n : View) (f g : ℕ) (spelled : Result (Option Spelled) LineRefusal) (W : List ℕ → Type 0) → LineReplies files m n f g spelled W → (t : List ℕ) × LineReplies files m n f g spelled (λ s. s ≡ t) × W t
+reply-named : (files : FileMap) (m n : View) (f g : ℕ) (spelled : Result (Option Spelled) CommandFault) (W : List ℕ → Type 0) → LineReplies files m n f g spelled W → (t : List ℕ) × LineReplies files m n f g spelled (λ s. s ≡ t) × W t
 reply-named files m n f g (Ok None) W h = writes-named _ n W h
 reply-named files m n f g (Ok (Some c)) W h = answers-named files m n f g c W h
 reply-named files m n f g (Err UnknownCommand) W h = writes-named _ n W h
@@ -203,7 +203,7 @@ module _ {script pending : List ℕ} {left old new : Option (List ℕ)} {m : Vie
     still_known : IsTrue g.is_known
     still_known = rw p.kept.is_known is_known
 
-    same_files : (spelled : Result (Option Spelled) LineRefusal) (W : List ℕ → Type 0) → LineReplies g.files m n g.failures g'.failures spelled W → LineReplies f.files m n g.failures g'.failures spelled W
+    same_files : (spelled : Result (Option Spelled) CommandFault) (W : List ℕ → Type 0) → LineReplies g.files m n g.failures g'.failures spelled W → LineReplies f.files m n g.failures g'.failures spelled W
     same_files spelled W h = subst (λ fs. LineReplies fs m n g.failures g'.failures spelled W) p.kept.files h
 
     pub quit-done : (left' : Option (List ℕ)) → LineRan g g' m n (command_of line) new' new'' (Ok Quit) → Finished script left' old new'' f g'

@@ -2,8 +2,8 @@
 use Rattle.std.specs.Prelude.{◌≡◌, ℕ, List, [], ◌∷◌, ◌++◌, Option, Some, None, Result, Ok, Err}
 use Rattle.std.specs.FinMap as map
 use Rattle.cbpf_command.specs.Commands.{Spelled, load_words, load_capture, run, disassemble, dump, breakpoint, breakpoint_when_a, breakpoint_when_x, breakpoints, reset_breakpoints, delete, step, select, mark, resume, stops, value, quit, command_of}
-use Rattle.cbpf_command.specs.declared.command.LineRefusal.{LineRefusal}
-use Rattle.cbpf_command.specs.declared.command.LineRefusal.TheVariants.{UnknownCommand, WrongArguments}
+use Rattle.cbpf_command.specs.declared.command.CommandFault.{CommandFault}
+use Rattle.cbpf_command.specs.declared.command.CommandFault.TheVariants.{UnknownCommand, WrongArguments}
 use Rattle.cbpf_dbg.specs.View.{View}
 use Rattle.cbpf_reply.specs.declared.breakpoints.When.TheVariants.{Always, A, X}
 use Rattle.cbpf_jobs.specs.FileMap.{FileMap}
@@ -34,7 +34,7 @@ OwnReply files m n (value e k) t = CommandReplies files m n 0 0 (value e k) (λ 
 OwnReply files m n quit t = ⊥
 
 -- a line's own reply
-abbrev pub OwnLineReply : FileMap → View → View → Result (Option Spelled) LineRefusal → List ℕ → Type 0
+abbrev pub OwnLineReply : FileMap → View → View → Result (Option Spelled) CommandFault → List ℕ → Type 0
 OwnLineReply files m n (Ok None) t = LineReplies files m n 0 0 (Ok None) (λ s. s ≡ t)
 OwnLineReply files m n (Ok (Some c)) t = OwnReply files m n c t
 OwnLineReply files m n (Err UnknownCommand) t = LineReplies files m n 0 0 (Err UnknownCommand) (λ s. s ≡ t)

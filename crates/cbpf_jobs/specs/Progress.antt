@@ -3,7 +3,7 @@ use Rattle.std.specs.Prelude.{◌≡◌, ◌≤◌, ℕ, false, IsTrue, List, []
 use Rattle.cbpf_code.specs.Writing.{Appended, AppendedPart}
 use Rattle.cbpf_code.specs.declared.writing.WriteFault.{WriteFault}
 use Rattle.cbpf_command.specs.Commands.{Spelled, command_of, quit}
-use Rattle.cbpf_command.specs.declared.command.LineRefusal.{LineRefusal}
+use Rattle.cbpf_command.specs.declared.command.CommandFault.{CommandFault}
 use Rattle.cbpf_jobs.specs.FileMap.{FileMap, Source}
 use Rattle.cbpf_jobs.specs.Lines.{has_newline}
 use Rattle.cbpf_dbg.specs.View.{View, empty_view}
@@ -23,13 +23,13 @@ abbrev pub CommandRan : Source → Source → View → View → Spelled → (Lis
 CommandRan f g m n c Written = Kept f g × (IsTrue f.is_known → CommandReplies f.files m n f.failures g.failures c Written)
 
 -- what a line wrote that was run, by what comes after it
-abbrev pub LineResult : FileMap → View → View → ℕ → ℕ → Result (Option Spelled) LineRefusal → Option (List ℕ) → Option (List ℕ) → Result AfterLine WriteFault → Type 0
+abbrev pub LineResult : FileMap → View → View → ℕ → ℕ → Result (Option Spelled) CommandFault → Option (List ℕ) → Option (List ℕ) → Result AfterLine WriteFault → Type 0
 LineResult files m n f g spelled old new (Ok NextLine) = LineReplies files m n f g spelled (λ t. Appended old new t)
 LineResult files m n f g spelled old new (Ok Quit) = (spelled ≡ Ok (Some quit)) × (f ≡ g) × Appended old new []
 LineResult files m n f g spelled old new (Err e) = LineReplies files m n f g spelled (λ t. AppendedPart old new t)
 
 -- a line was run, where it is known what the files hold
-abbrev pub LineRan : Source → Source → View → View → Result (Option Spelled) LineRefusal → Option (List ℕ) → Option (List ℕ) → Result AfterLine WriteFault → Type 0
+abbrev pub LineRan : Source → Source → View → View → Result (Option Spelled) CommandFault → Option (List ℕ) → Option (List ℕ) → Result AfterLine WriteFault → Type 0
 LineRan f g m n spelled old new r = Kept f g × (IsTrue f.is_known → LineResult f.files m n f.failures g.failures spelled old new r)
 
 -- lines with their newlines

@@ -10,8 +10,8 @@ use Rattle.cbpf_code.specs.declared.words.WordFault.{WordFault}
 use Rattle.cbpf_code.specs.declared.words.WordFault.TheVariants.{Memory}
 use Rattle.cbpf_code.specs.declared.checker.CheckFault.{CheckFault}
 use Rattle.cbpf_command.specs.Commands.{Spelled, load_words, load_capture, run, disassemble, dump, breakpoint, breakpoint_when_a, breakpoint_when_x, breakpoints, reset_breakpoints, delete, step, select, mark, resume, stops, value, quit}
-use Rattle.cbpf_command.specs.declared.command.LineRefusal.{LineRefusal}
-use Rattle.cbpf_command.specs.declared.command.LineRefusal.TheVariants.{UnknownCommand, WrongArguments}
+use Rattle.cbpf_command.specs.declared.command.CommandFault.{CommandFault}
+use Rattle.cbpf_command.specs.declared.command.CommandFault.TheVariants.{UnknownCommand, WrongArguments}
 use Rattle.pcap_classic.specs.Savefile.{Savefile, IsSavefile, IsRefusal}
 use Rattle.pcap_classic.specs.declared.fault.CaptureFault.{CaptureFault}
 use Rattle.pcap_classic.specs.declared.fault.CaptureFault.TheVariants as capture_fault
@@ -81,7 +81,7 @@ CommandReplies files m n f g (value e k) Written = Writes (value_reply m e k) n 
 CommandReplies files m n f g quit Written = ⊥
 
 -- a line's reply, by what the line says
-abbrev pub LineReplies : FileMap → View → View → ℕ → ℕ → Result (Option Spelled) LineRefusal → (List ℕ → Type 0) → Type 0
+abbrev pub LineReplies : FileMap → View → View → ℕ → ℕ → Result (Option Spelled) CommandFault → (List ℕ → Type 0) → Type 0
 LineReplies files m n f g (Ok None) Written = Writes ([], m) n Written
 LineReplies files m n f g (Ok (Some c)) Written = CommandReplies files m n f g c Written
 LineReplies files m n f g (Err UnknownCommand) Written = Writes (unknown_command_text, m) n Written

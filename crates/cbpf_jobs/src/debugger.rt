@@ -11,7 +11,7 @@ use crate::loads::{load_capture, load_words};
 use crate::perform;
 use crate::session_replies::write_breakpoints;
 use cbpf_code::WriteFault;
-use cbpf_command::{Command, LineRefusal, command_of};
+use cbpf_command::{Command, CommandFault, command_of};
 use cbpf_dbg::{MarkTrail, Session, When};
 use cbpf_reply::{write_unknown_command, write_wrong_arguments};
 use std::alloc::Allocator;
@@ -72,11 +72,11 @@ fn run_line<A: Allocator + Copy, W: Write, F: Files>(
     match command_of(line) {
         Ok(None) => Ok(AfterLine::NextLine),
         Ok(Some(command)) => act(alloc, w, session, files, command),
-        Err(LineRefusal::UnknownCommand) => {
+        Err(CommandFault::UnknownCommand) => {
             write_unknown_command(w)?;
             Ok(AfterLine::NextLine)
         }
-        Err(LineRefusal::WrongArguments) => {
+        Err(CommandFault::WrongArguments) => {
             write_wrong_arguments(w)?;
             Ok(AfterLine::NextLine)
         }

@@ -12,7 +12,7 @@ use Rattle.cbpf_text.specs.declared.fault.AsmKind.{AsmKind}
 use Rattle.cbpf_text.specs.Assembled.{IsEncoded, EncodeEach, FillsFields}
 use Rattle.cbpf_text.specs.Operands.{HasForm, targets_in, literal_in}
 use Rattle.cbpf_text.specs.Refusals.{Use, IsGoodUse, IsFirstBadUse, Reported, uses_of, uses_from, is_conditional}
-use Rattle.cbpf_text.specs.declared.refusal.Refusal.{Refusal}
+use Rattle.cbpf_text.specs.declared.placed_fault.PlacedFault.{PlacedFault}
 use Rattle.cbpf_grammar.proofs.Instructions.{some_known}
 use Rattle.cbpf_text.specs.declared.draft.Statement.{Statement}
 use Rattle.cbpf_text.specs.Drafts.{IsStatement, AreStatements}
@@ -94,7 +94,7 @@ bad_after all front uses rest kind at g b = record {
 }
 
 -- the first target that is refused, after items that have their instructions
-pub bad_among : (is : List Item) (i : ℕ) (d : Item) (insns : List Insn) (r : Refusal) → i < length is → All HasForm is → EncodeEach is 0 (take i is) insns → Reported (IsFirstBadUse is (uses_of i (get_or is i d))) r → Reported (IsFirstBadUse is (uses_from 0 is)) r
+pub bad_among : (is : List Item) (i : ℕ) (d : Item) (insns : List Insn) (r : PlacedFault) → i < length is → All HasForm is → EncodeEach is 0 (take i is) insns → Reported (IsFirstBadUse is (uses_of i (get_or is i d))) r → Reported (IsFirstBadUse is (uses_from 0 is)) r
 bad_among is i d insns r l f p h =
     let s = uses_split 0 is i d l in
     let z : 0 + i ≡ i = omega arith in

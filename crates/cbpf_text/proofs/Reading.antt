@@ -4,7 +4,7 @@ use Rattle.std.specs.Prelude.{slice_get, is_some}
 use Rattle.std.proofs.lemmas.List.{map-append, length-map, length-take-le, drop-drop, drop_at}
 use Rattle.cbpf_lex.specs.Tokens.{LexesTo}
 use Rattle.cbpf_grammar.specs.declared.lexeme.Lexeme as declared_lexeme
-use Rattle.cbpf_grammar.specs.declared.reader.Refusal.TheVariants as refused
+use Rattle.cbpf_grammar.specs.declared.reader.SyntaxFault.TheVariants as refused
 use Rattle.cbpf_grammar.specs.Lexemes.{Lexeme, lexemes_of, AreLexemes}
 use Rattle.cbpf_grammar.specs.Items.{Item, Items}
 use Rattle.cbpf_grammar.specs.Views.{lexeme_of, row_of, label_words}
@@ -25,7 +25,7 @@ use Rattle.cbpf_grammar.specs.Refusals.{IsAccepted}
 use Rattle.cbpf_text.specs.declared.name.Name.{Name}
 use Rattle.cbpf_text.specs.declared.fault.AsmKind.TheVariants as kinds
 use Rattle.cbpf_text.specs.declared.fault.AsmFault.{AsmFault}
-use Rattle.cbpf_text.specs.declared.refusal.Refusal.{Refusal}
+use Rattle.cbpf_text.specs.declared.placed_fault.PlacedFault.{PlacedFault}
 use Rattle.cbpf_text.specs.Refusals.{Reported, IsTokensFault, IsRefused, IsReportedAt}
 use Rattle.cbpf_text.specs.Refusals.IsTokensFault.{misplaced, large_negative, unfinished}
 use Rattle.cbpf_text.specs.Labels.{set_labels, AreDistinct}
@@ -50,7 +50,7 @@ pub unfinished_reported : (ts : List Lexeme) (at : ℕ) → IsRefusedFor ts (ref
 unfinished_reported ts at h = subst (λ a. IsTokensFault ts kinds.Unfinished a) (sym h.1.2) (unfinished h.1.0 h.0 h.1.1)
 
 -- the refusal of the text's tokens is the text's
-pub whole_refused : (text : List ℕ) (ts : List Lexeme) (r : Refusal) (fault : AsmFault) → AreLexemes text ts → Reported (IsTokensFault ts) r → IsReportedAt text r fault → IsRefused text fault
+pub whole_refused : (text : List ℕ) (ts : List Lexeme) (r : PlacedFault) (fault : AsmFault) → AreLexemes text ts → Reported (IsTokensFault ts) r → IsReportedAt text r fault → IsRefused text fault
 whole_refused text ts r fault t h line = refused_at text t.tokens ts r fault t.lexed t.are h line
 
 -- items with a literal that is too large

@@ -9,8 +9,8 @@ use Rattle.cbpf_text.specs.declared.fault.AsmKind.TheVariants as kinds
 use Rattle.cbpf_text.specs.Labels.{name_of, IsPlace}
 use Rattle.cbpf_text.specs.Assembled.{IsShortOffset}
 use Rattle.cbpf_text.specs.Refusals.{Use, IsGoodUse, IsFirstBadUse, IsTargetFault, Reported, uses_of, is_conditional}
-use Rattle.cbpf_text.specs.declared.refusal.Refusal.{Refusal}
-use Rattle.cbpf_text.specs.declared.refusal.Refusal.TheVariants as refusals
+use Rattle.cbpf_text.specs.declared.placed_fault.PlacedFault.{PlacedFault}
+use Rattle.cbpf_text.specs.declared.placed_fault.PlacedFault.TheVariants as placed
 use Rattle.cbpf_grammar.specs.declared.table.Fields.TheVariants.{Branch}
 use Rattle.cbpf_text.specs.Operands.{targets_in}
 use Rattle.cbpf_text.specs.Refusals.IsUseFault.{not_set, not_after, too_far}
@@ -54,17 +54,17 @@ found_nowhere is index short t o l e = (not_set (subst (IsLookup is (name_of t))
 pub found_far : (is : List Item) (index : ℕ) (t : Lexeme) (n : ℕ) → IsPlace is (name_of t) (index + 1 + n) → 255 < n → IsTargetFault is index true (Some t) kinds.TooFar t.at
 found_far is index t n p h = (too_far (index + 1 + n) p.sets refl (omega (arith, h)), refl)
 
-pub reported_more : (P Q : AsmKind → ℕ → Type 0) (r : Refusal) → ((kind : AsmKind) (at : ℕ) → P kind at → Q kind at) → Reported P r → Reported Q r
-reported_more P Q refusals.Memory f p = p
-reported_more P Q (refusals.At kind at) f p = f kind at p
+pub reported_more : (P Q : AsmKind → ℕ → Type 0) (r : PlacedFault) → ((kind : AsmKind) (at : ℕ) → P kind at → Q kind at) → Reported P r → Reported Q r
+reported_more P Q placed.Memory f p = p
+reported_more P Q (placed.At kind at) f p = f kind at p
 
-pub first_reported : (is : List Item) (index : ℕ) (item : Item) (f : Fields) (o : Option Lexeme) (r : Refusal) → item.row.fields ≡ f → o ≡ slice_get (targets_in item) 0 → Reported (IsTargetFault is index (is_conditional f) o) r → Reported (IsFirstBadUse is (uses_of index item)) r
+pub first_reported : (is : List Item) (index : ℕ) (item : Item) (f : Fields) (o : Option Lexeme) (r : PlacedFault) → item.row.fields ≡ f → o ≡ slice_get (targets_in item) 0 → Reported (IsTargetFault is index (is_conditional f) o) r → Reported (IsFirstBadUse is (uses_of index item)) r
 first_reported is index item f o r e t h =
     reported_more (IsTargetFault is index (is_conditional f) o) (IsFirstBadUse is (uses_of index item)) r
     (λ kind at p. first_bad is index (is_conditional item.row.fields) (targets_in item) kind at (subst (λ (q : Option Lexeme). IsTargetFault is index (is_conditional item.row.fields) q kind at) t (subst (λ (g : Fields). IsTargetFault is index (is_conditional g) o kind at) (sym e) p)))
     h
 
-pub second_reported : (is : List Item) (index : ℕ) (item : Item) (o q : Option Lexeme) (n : ℕ) (r : Refusal) → item.row.fields ≡ Branch → o ≡ slice_get (targets_in item) 0 → q ≡ slice_get (targets_in item) 1 → IsShortOffset is index o n → Reported (IsTargetFault is index true q) r → Reported (IsFirstBadUse is (uses_of index item)) r
+pub second_reported : (is : List Item) (index : ℕ) (item : Item) (o q : Option Lexeme) (n : ℕ) (r : PlacedFault) → item.row.fields ≡ Branch → o ≡ slice_get (targets_in item) 0 → q ≡ slice_get (targets_in item) 1 → IsShortOffset is index o n → Reported (IsTargetFault is index true q) r → Reported (IsFirstBadUse is (uses_of index item)) r
 second_reported is index item o q n r e t u s h =
     reported_more (IsTargetFault is index true q) (IsFirstBadUse is (uses_of index item)) r
     (λ kind at p. subst (λ (g : Fields). IsFirstBadUse is (map (use_of index (is_conditional g)) (targets_in item)) kind at) (sym e)

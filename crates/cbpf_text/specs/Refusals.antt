@@ -15,8 +15,8 @@ use Rattle.cbpf_text.specs.declared.fault.AsmKind.{AsmKind}
 use Rattle.cbpf_text.specs.declared.fault.AsmKind.TheVariants as kinds
 use Rattle.cbpf_text.specs.declared.fault.AsmFault.{AsmFault}
 use Rattle.cbpf_text.specs.declared.fault.AsmFault.TheVariants as faults
-use Rattle.cbpf_text.specs.declared.refusal.Refusal.{Refusal}
-use Rattle.cbpf_text.specs.declared.refusal.Refusal.TheVariants as refusals
+use Rattle.cbpf_text.specs.declared.placed_fault.PlacedFault.{PlacedFault}
+use Rattle.cbpf_text.specs.declared.placed_fault.PlacedFault.TheVariants as placed
 use Rattle.cbpf_text.specs.Labels.{name_of, set_labels, times_among, times_set, AreDistinct, SetsAt}
 use Rattle.cbpf_text.specs.Operands.{targets_in}
 use Rattle.cbpf_text.specs.Assembled.{HasProgramLength}
@@ -109,9 +109,9 @@ pub data IsLexRefused (text : List ℕ) : AsmFault → Type 0 where
   piece : (bad : BadPiece) (line : ℕ) → IsFirstBad text bad line → IsLexRefused text (faults.At (piece_kind bad) line)
 
 -- the refusal has this cause; out of memory says nothing
-abbrev pub Reported : (AsmKind → ℕ → Type 0) → Refusal → Type 0
-Reported Cause refusals.Memory = Unit {0}
-Reported Cause (refusals.At kind at) = Cause kind at
+abbrev pub Reported : (AsmKind → ℕ → Type 0) → PlacedFault → Type 0
+Reported Cause placed.Memory = Unit {0}
+Reported Cause (placed.At kind at) = Cause kind at
 
 -- the refusal of one target of the item at the index
 abbrev pub IsTargetFault : List Item → ℕ → Bool → Option Lexeme → AsmKind → ℕ → Type 0
@@ -120,6 +120,6 @@ IsTargetFault items index short (Some target) kind at =
     IsUseFault items (record { index = index; target = target; short = short }) kind × (at ≡ target.at)
 
 -- the fault reports the refusal with the line of its place
-abbrev pub IsReportedAt : List ℕ → Refusal → AsmFault → Type 0
-IsReportedAt text refusals.Memory fault = fault ≡ faults.Memory
-IsReportedAt text (refusals.At kind at) fault = fault ≡ faults.At kind (line_of text at)
+abbrev pub IsReportedAt : List ℕ → PlacedFault → AsmFault → Type 0
+IsReportedAt text placed.Memory fault = fault ≡ faults.Memory
+IsReportedAt text (placed.At kind at) fault = fault ≡ faults.At kind (line_of text at)

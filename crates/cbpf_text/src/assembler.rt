@@ -12,7 +12,7 @@ ghost use Rattle.cbpf_text.specs.Tables.{same_name};
 use crate::draft::{Draft, read};
 use crate::encode::encode_all;
 use crate::fault::{AsmFault, AsmKind};
-use crate::refusal::{Refusal, fault_of};
+use crate::placed_fault::{PlacedFault, fault_of};
 use cbpf_code::Insn;
 use std::alloc::Allocator;
 
@@ -20,7 +20,7 @@ use std::alloc::Allocator;
 fn encode_draft<A: Allocator + Copy>(
     alloc: A,
     draft: &Draft<'_, A>,
-) -> Result<Vec<Insn, A>, Refusal>
+) -> Result<Vec<Insn, A>, PlacedFault>
     requires { length draft.now.statements.items ≤ 4096 }
     ensures encoded { (is : List items.Item) →
         IsDraft draft.now.excess draft.now.statements.items draft.now.labels.repeat
@@ -32,13 +32,13 @@ fn encode_draft<A: Allocator + Copy>(
         All HasForm is → IfErr result (Reported (IsItemsFault is)) }
 {
     if let Some(at) = draft.excess {
-        return Err(Refusal::At(AsmKind::TooMany, at));
+        return Err(PlacedFault::At(AsmKind::TooMany, at));
     }
     if draft.statements.is_empty() {
-        return Err(Refusal::At(AsmKind::NoInstruction, 0));
+        return Err(PlacedFault::At(AsmKind::NoInstruction, 0));
     }
     if let Some(at) = draft.labels.repeat {
-        return Err(Refusal::At(AsmKind::LabelSetTwice, at));
+        return Err(PlacedFault::At(AsmKind::LabelSetTwice, at));
     }
     encode_all(alloc, &draft.labels.table, &draft.statements)
 }
@@ -63,6 +63,6 @@ pub fn assemble<A: Allocator + Copy>(alloc: A, text: &[u8]) -> Result<Vec<Insn, 
     let draft = read(alloc, text)?;
     match encode_draft(alloc, &draft) {
         Ok(insns) => Ok(insns),
-        Err(refusal) => Err(fault_of(text, refusal)),
+        Err(fault) => Err(fault_of(text, fault)),
     }
 }

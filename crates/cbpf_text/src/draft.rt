@@ -18,8 +18,8 @@ use crate::fault::{AsmFault, AsmKind};
 use crate::labels::Labels;
 use crate::name::{Name, name_of};
 use crate::operand::value_at;
-use crate::refusal::{Refusal, fault_of};
-use crate::source::lex_refusal;
+use crate::placed_fault::{PlacedFault, fault_of};
+use crate::source::asm_fault;
 use cbpf_code::code_of;
 use cbpf_grammar::{Class, Fields, Lexeme, Reader, Row, Step};
 use std::alloc::{AllocFailed, Allocator};
@@ -159,19 +159,19 @@ fn add_instruction<'a, A: Allocator>(
     Ok(())
 }
 
-/// Where the grammar's refusal is.
-fn refusal_of(refused: cbpf_grammar::Refusal) -> Refusal
+/// The fault of the syntax, as one of the assembler.
+fn placed(refused: cbpf_grammar::SyntaxFault) -> PlacedFault
     ensures { (ts : List lexemes.Lexeme) → IsRefusedFor ts refused → Reported (IsTokensFault ts) result }
 {
     match refused {
-        cbpf_grammar::Refusal::Misplaced(at) => Refusal::At(AsmKind::Misplaced, at),
-        cbpf_grammar::Refusal::LargeNegative(at) => Refusal::At(AsmKind::LargeNumber, at),
-        cbpf_grammar::Refusal::Unfinished(at) => Refusal::At(AsmKind::Unfinished, at),
+        cbpf_grammar::SyntaxFault::Misplaced(at) => PlacedFault::At(AsmKind::Misplaced, at),
+        cbpf_grammar::SyntaxFault::LargeNegative(at) => PlacedFault::At(AsmKind::LargeNumber, at),
+        cbpf_grammar::SyntaxFault::Unfinished(at) => PlacedFault::At(AsmKind::Unfinished, at),
     }
 }
 
 /// The fault of a text whose tokens go on so far and no farther: its first bad piece, if one comes
-/// later, and else the tokens' refusal.
+/// later, and else the tokens' fault.
 fn fault_here<A: Allocator>(text: &[u8], reader: &mut Reader<'_, A>, n: usize) -> AsmFault
     requires text { reader.old.text ≡ text.now }
     requires within { n ≤ length reader.old.tokens }
@@ -180,10 +180,10 @@ fn fault_here<A: Allocator>(text: &[u8], reader: &mut Reader<'_, A>, n: usize) -
     ensures { (m : ℕ) → IsReading m reader.old → 0 < m + length reader.old.tokens →
         ((ts : List lexemes.Lexeme) → AreLexemes text.now ts → IsStuckAt ts (m + n)) → IsRefused text.now result }
 {
-    let refused = reader.refusal(n);
+    let refused = reader.fault(n);
     match reader.finish() {
-        Ok(()) => fault_of(text, refusal_of(refused)),
-        Err(fault) => lex_refusal(fault),
+        Ok(()) => fault_of(text, placed(refused)),
+        Err(fault) => asm_fault(fault),
     }
 }
 
@@ -209,7 +209,7 @@ pub(crate) fn read<'a, A: Allocator + Copy>(
     loop {
         let next = match reader.step() {
             Ok(next) => next,
-            Err(fault) => return Err(lex_refusal(fault)),
+            Err(fault) => return Err(asm_fault(fault)),
         };
         match next {
             Some(Step::Label) => {
@@ -227,7 +227,7 @@ pub(crate) fn read<'a, A: Allocator + Copy>(
             None if waits => return Err(fault_here(text, &mut reader, 0)),
             None => {
                 return match reader.large() {
-                    Some(at) => Err(fault_of(text, Refusal::At(AsmKind::LargeNumber, at))),
+                    Some(at) => Err(fault_of(text, PlacedFault::At(AsmKind::LargeNumber, at))),
                     None => Ok(draft),
                 };
             }

@@ -13,7 +13,7 @@ ghost use Rattle.cbpf_text.specs.Operands.{HasForm};
 use crate::draft::{Statement, Target};
 use crate::fault::AsmKind;
 use crate::labels::LabelTable;
-use crate::refusal::Refusal;
+use crate::placed_fault::PlacedFault;
 use cbpf_code::Insn;
 use cbpf_grammar::Fields;
 use std::alloc::Allocator;
@@ -26,7 +26,7 @@ fn distance<A: Allocator>(
     labels: &LabelTable<'_, A>,
     index: u32,
     target: &Target<'_>,
-) -> Result<u32, Refusal>
+) -> Result<u32, PlacedFault>
     ensures found { (is : List items.Item) (label : lexemes.Lexeme) → IsTarget target.now label →
         Resolves is (λ k. get same_name labels.now k) → IfOk result (IsOffset is index (Some label)) }
     ensures refused { (is : List items.Item) (short : Bool) (label : lexemes.Lexeme) → IsTarget target.now label →
@@ -34,12 +34,12 @@ fn distance<A: Allocator>(
         IfErr result (Reported (IsTargetFault is index short (Some label))) }
 {
     match labels.get(&target.name) {
-        None => Err(Refusal::At(AsmKind::LabelNotSet, target.at)),
+        None => Err(PlacedFault::At(AsmKind::LabelNotSet, target.at)),
         Some(place) => {
             if *place > index {
                 Ok(*place - index - 1)
             } else {
-                Err(Refusal::At(AsmKind::NotAfter, target.at))
+                Err(PlacedFault::At(AsmKind::NotAfter, target.at))
             }
         }
     }
@@ -50,7 +50,7 @@ fn short_offset<A: Allocator>(
     labels: &LabelTable<'_, A>,
     index: u32,
     target: &Target<'_>,
-) -> Result<u8, Refusal>
+) -> Result<u8, PlacedFault>
     ensures found { (is : List items.Item) (label : lexemes.Lexeme) → IsTarget target.now label →
         Resolves is (λ k. get same_name labels.now k) → IfOk result (IsShortOffset is index (Some label)) }
     ensures refused { (is : List items.Item) (label : lexemes.Lexeme) → IsTarget target.now label →
@@ -58,7 +58,7 @@ fn short_offset<A: Allocator>(
 {
     let distance = distance(labels, index, target)?;
     if distance > FARTHEST {
-        return Err(Refusal::At(AsmKind::TooFar, target.at));
+        return Err(PlacedFault::At(AsmKind::TooFar, target.at));
     }
     Ok(distance as u8)
 }
@@ -68,7 +68,7 @@ fn encode<A: Allocator>(
     labels: &LabelTable<'_, A>,
     index: u32,
     statement: &Statement<'_>,
-) -> Result<Insn, Refusal>
+) -> Result<Insn, PlacedFault>
     ensures encoded { (is : List items.Item) (item : items.Item) → IsStatement statement.now item → HasForm item →
         Resolves is (λ k. get same_name labels.now k) → IfOk result (IsEncoded is index item) }
     ensures refused { (is : List items.Item) (item : items.Item) → IsStatement statement.now item → HasForm item →
@@ -114,7 +114,7 @@ pub(crate) fn encode_all<A: Allocator + Copy>(
     alloc: A,
     labels: &LabelTable<'_, A>,
     statements: &[Statement<'_>],
-) -> Result<Vec<Insn, A>, Refusal>
+) -> Result<Vec<Insn, A>, PlacedFault>
     requires { length statements.now ≤ 4096 }
     ensures encoded { (is : List items.Item) → AreStatements statements.now is → All HasForm is →
         Resolves is (λ k. get same_name labels.now k) → IfOk result (λ v. EncodeEach is 0 is v.items) }

@@ -15,7 +15,7 @@ mod law;
 mod listing;
 mod name;
 mod operand;
-mod refusal;
+mod placed_fault;
 mod source;
 
 pub use assembler::assemble;

@@ -19,7 +19,7 @@ fn piece_kind(bad: BadPiece) -> AsmKind
 }
 
 /// What is reported of a text that has no tokens.
-pub(crate) fn lex_refusal(fault: LexFault) -> AsmFault
+pub(crate) fn asm_fault(fault: LexFault) -> AsmFault
     ensures { (text : List ℕ) → IsLexFault text fault → IsLexRefused text result }
 {
     match fault {
@@ -48,6 +48,6 @@ pub fn tokens<A: Allocator>(alloc: A, text: &[u8]) -> Result<Vec<Token, A>, AsmF
 {
     match cbpf_lex::tokens(alloc, text) {
         Ok(found) => Ok(found),
-        Err(fault) => Err(lex_refusal(fault)),
+        Err(fault) => Err(asm_fault(fault)),
     }
 }

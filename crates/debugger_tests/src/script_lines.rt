@@ -1,6 +1,6 @@
 use crate::assertions::assert_at;
 use cbpf_code::Ext;
-use cbpf_command::{Command, LineRefusal, command_of};
+use cbpf_command::{Command, CommandFault, command_of};
 use std::process::Abort;
 
 /// Whether both load the same text.
@@ -68,7 +68,7 @@ fn is_command(line: &[u8], wanted: Command<'_>) -> bool {
 }
 
 /// Whether a line is refused in this way.
-fn is_refused(line: &[u8], wanted: LineRefusal) -> bool {
+fn is_refused(line: &[u8], wanted: CommandFault) -> bool {
     match command_of(line) {
         Err(found) => found == wanted,
         Ok(_) => false,
@@ -79,7 +79,7 @@ fn is_blank(line: &[u8]) -> bool {
     matches!(command_of(line), Ok(None))
 }
 
-fn assert_refused(rt: &impl Abort, lines: &[&[u8]], wanted: LineRefusal) {
+fn assert_refused(rt: &impl Abort, lines: &[&[u8]], wanted: CommandFault) {
     for (i, line) in lines.iter().enumerate() {
         assert_at(rt, i, is_refused(line, wanted));
     }
@@ -331,28 +331,28 @@ const WRONG_VALUES: &[&[u8]] = &[
 ];
 
 fn assert_wrong_loads_and_runs(rt: &impl Abort) {
-    assert_refused(rt, WRONG_LOADS, LineRefusal::WrongArguments);
-    assert_refused(rt, WRONG_RUNS, LineRefusal::WrongArguments);
+    assert_refused(rt, WRONG_LOADS, CommandFault::WrongArguments);
+    assert_refused(rt, WRONG_RUNS, CommandFault::WrongArguments);
 }
 
 fn assert_wrong_steps_and_breakpoints(rt: &impl Abort) {
-    assert_refused(rt, WRONG_STEPS, LineRefusal::WrongArguments);
-    assert_refused(rt, WRONG_BREAKPOINTS, LineRefusal::WrongArguments);
+    assert_refused(rt, WRONG_STEPS, CommandFault::WrongArguments);
+    assert_refused(rt, WRONG_BREAKPOINTS, CommandFault::WrongArguments);
 }
 
 fn assert_wrong_conditions(rt: &impl Abort) {
-    assert_refused(rt, WRONG_CONDITIONS, LineRefusal::WrongArguments);
+    assert_refused(rt, WRONG_CONDITIONS, CommandFault::WrongArguments);
 }
 
 fn assert_wrong_places_and_values(rt: &impl Abort) {
-    assert_refused(rt, WRONG_PLACES, LineRefusal::WrongArguments);
-    assert_refused(rt, WRONG_VALUES, LineRefusal::WrongArguments);
+    assert_refused(rt, WRONG_PLACES, CommandFault::WrongArguments);
+    assert_refused(rt, WRONG_VALUES, CommandFault::WrongArguments);
 }
 
 #[test]
 fn lines_that_are_none(rt: HostRuntime) {
     assert!(rt; is_blank(b"") && is_blank(b" \t\r") && is_blank(b"\r"));
-    assert_refused(&rt, UNKNOWN, LineRefusal::UnknownCommand);
+    assert_refused(&rt, UNKNOWN, CommandFault::UnknownCommand);
     assert_wrong_loads_and_runs(&rt);
     assert_wrong_steps_and_breakpoints(&rt);
     assert_wrong_conditions(&rt);

@@ -1,7 +1,7 @@
 use Rattle.std.proofs.Common.{◌≡◌, List, ℕ, [], Ok, Err, Some, None}
 use Rattle.cbpf_code.specs.Writing.{Appended, AppendedPart}
 use Rattle.cbpf_code.proofs.WrittenLemmas.{appended-nil}
-use Rattle.cbpf_command.specs.declared.command.LineRefusal.TheVariants.{UnknownCommand, WrongArguments}
+use Rattle.cbpf_command.specs.declared.command.CommandFault.TheVariants.{UnknownCommand, WrongArguments}
 use Rattle.cbpf_command.specs.Commands.{command_of, meaning}
 use Rattle.cbpf_reply.specs.Errors.{unknown_command_text, wrong_arguments_text}
 use Rattle.cbpf_jobs.specs.declared.debugger.AfterLine.TheVariants.{NextLine}

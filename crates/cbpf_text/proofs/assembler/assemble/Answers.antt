@@ -11,4 +11,4 @@ returns-in-Ok-clause-assembled g c =
 pub returns-clause-refused : goal.returns-clause-refused
 returns-clause-refused g c =
     let d = c.in_ok-draft.ensures.items in
-    whole_refused c.args.text.now d.0 c.in-Err.refusal c.fault_of.result d.2 (items_reported d.0 d.1 c.in-Err.refusal d.3 d.4 (c.in-Err.ensures.refused d.1 d.5 (items_forms d.0 d.1 d.3))) c.fault_of.ensures
+    whole_refused c.args.text.now d.0 c.in-Err.fault c.fault_of.result d.2 (items_reported d.0 d.1 c.in-Err.fault d.3 d.4 (c.in-Err.ensures.refused d.1 d.5 (items_forms d.0 d.1 d.3))) c.fault_of.ensures

@@ -8,7 +8,7 @@ use Rattle.cbpf_grammar.specs.declared.reader.Step.TheVariants.{Label, Instructi
 use Rattle.cbpf_grammar.specs.Steps.{Stuck}
 use Rattle.cbpf_grammar.proofs.Instructions.{end_stuck}
 use Rattle.cbpf_text.specs.declared.fault.AsmKind.TheVariants as kinds
-use Rattle.cbpf_text.specs.declared.refusal.Refusal.TheVariants as refusals
+use Rattle.cbpf_text.specs.declared.placed_fault.PlacedFault.TheVariants as placed
 use Rattle.cbpf_text.specs.Refusals.IsRefused.{memory}
 use Rattle.cbpf_text.proofs.Faults.{lex_refused}
 use Rattle.cbpf_text.proofs.Reading.{state_quiet, state_init, state_step, state_inside, state_stuck, state_items, state_lexemes, label_state, item_state, whole_refused, items_refused, all_accepted, large_reported}
@@ -26,7 +26,7 @@ loop-next-init g c =
 pub returns-in-Err-clause-refused : goal.returns-in-Err-clause-refused
 returns-in-Err-clause-refused g c =
     let inv = c.loop-next.invariant in
-    lex_refused c.args.text.now c.lex_refusal.result (c.lex_refusal.ensures c.args.text.now (subst (λ u. IsLexFault u c.in-Err.fault) inv.text (c.in-Err.ensures.fault _ inv.state.reading)))
+    lex_refused c.args.text.now c.asm_fault.result (c.asm_fault.ensures c.args.text.now (subst (λ u. IsLexFault u c.in-Err.fault) inv.text (c.in-Err.ensures.fault _ inv.state.reading)))
 
 pub returns-in_err-add_label-in-Some-Label-clause-refused : goal.returns-in_err-add_label-in-Some-Label-clause-refused
 returns-in_err-add_label-in-Some-Label-clause-refused g c = let p = err_from_is_err_and c.from_residual-in_err-add_label-in-Some-Label.result c.from_residual-in_err-add_label-in-Some-Label.ensures.1 in rw (p.1, p.2) memory
@@ -133,6 +133,6 @@ returns-in-None-2-clause-refused g c =
     elim c.match-large.branch [
       | in-Some w ↦
           let large = subst (λ o. IsFirstLarge all.0 (s.from + length s.ls) o) (sym c.large.ensures ∙ w.in-Some.is) (s.reading.large all.0 u) in
-          rw w.result-is (whole_refused text all.0 (refusals.At kinds.LargeNumber w.in-Some.at) w.fault_of.result all.1 (large_reported all.0 w.in-Some.at (items_refused all.0 s.is (s.from + length s.ls) w.in-Some.at end.0 large)) w.fault_of.ensures)
+          rw w.result-is (whole_refused text all.0 (placed.At kinds.LargeNumber w.in-Some.at) w.fault_of.result all.1 (large_reported all.0 w.in-Some.at (items_refused all.0 s.is (s.from + length s.ls) w.in-Some.at end.0 large)) w.fault_of.ensures)
       | in-None-large w ↦ rw w.result-is tt
     ]

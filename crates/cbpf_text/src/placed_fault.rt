@@ -1,4 +1,4 @@
-//! A refusal by its place in the text, before its line is known.
+//! A fault by its place in the text, before its line is known.
 
 ghost use Rattle.cbpf_text.specs.Refusals.{IsReportedAt};
 
@@ -6,43 +6,43 @@ use crate::fault::{AsmFault, AsmKind};
 use crate::source::line_of;
 use std::alloc::{AllocError, AllocFailed};
 
-/// The refusal with its line.
-pub(crate) fn fault_of(text: &[u8], refusal: Refusal) -> AsmFault
-    ensures { IsReportedAt text.now refusal result }
+/// The fault with its line.
+pub(crate) fn fault_of(text: &[u8], fault: PlacedFault) -> AsmFault
+    ensures { IsReportedAt text.now fault result }
 {
-    match refusal {
-        Refusal::Memory => AsmFault::Memory,
-        Refusal::At(kind, at) => AsmFault::At(kind, line_of(text, at)),
+    match fault {
+        PlacedFault::Memory => AsmFault::Memory,
+        PlacedFault::At(kind, at) => AsmFault::At(kind, line_of(text, at)),
     }
 }
 
 /// Why tokens have no instructions.
 #[derive(Clone, Copy, Debug, PartialEq, Eq)]
-pub enum Refusal {
+pub enum PlacedFault {
     /// The allocator refused.
     Memory,
     /// What is wrong, and the place of the token that shows it, counted in bytes from 0.
     At(AsmKind, usize),
 }
 
-impl<T: Drop> From<AllocFailed<T>> for Refusal {
+impl<T: Drop> From<AllocFailed<T>> for PlacedFault {
     ghost use Rattle.std.specs.Prelude.{◌≡◌};
-    ghost use Rattle.cbpf_text.specs.declared.refusal.Refusal.TheVariants.{Memory};
+    ghost use Rattle.cbpf_text.specs.declared.placed_fault.PlacedFault.TheVariants.{Memory};
 
     ghost from_gives = { λ _ e. e ≡ Memory };
 
     fn from(_: AllocFailed<T>) -> Self {
-        Refusal::Memory
+        PlacedFault::Memory
     }
 }
 
-impl From<AllocError> for Refusal {
+impl From<AllocError> for PlacedFault {
     ghost use Rattle.std.specs.Prelude.{◌≡◌};
-    ghost use Rattle.cbpf_text.specs.declared.refusal.Refusal.TheVariants.{Memory};
+    ghost use Rattle.cbpf_text.specs.declared.placed_fault.PlacedFault.TheVariants.{Memory};
 
     ghost from_gives = { λ _ e. e ≡ Memory };
 
     fn from(_: AllocError) -> Self {
-        Refusal::Memory
+        PlacedFault::Memory
     }
 }

@@ -1,7 +1,7 @@
 use Rattle.std.proofs.Common.{subst}
 use Rattle.cbpf_grammar.specs.Reading.{IsRefusedFor}
 use Rattle.cbpf_text.proofs.Reading.{misplaced_reported, large_reported, unfinished_reported}
-use Rattle.cbpf_text.proofs.draft.refusal_of.Goals as goal
+use Rattle.cbpf_text.proofs.draft.placed.Goals as goal
 
 pub returns-in-Misplaced : goal.returns-in-Misplaced
 returns-in-Misplaced c = λ ts h. misplaced_reported ts c.in-Misplaced.at (subst (IsRefusedFor ts) c.in-Misplaced.is h)

@@ -1,7 +1,7 @@
 use Rattle.std.proofs.Common.{◌≡◌, ◌≤◌, ◌<◌, ◌+◌, ℕ, Option, Some, None, refl, subst, length, drop, arith}
 use Rattle.cbpf_grammar.specs.Reading.{IsFirstLarge}
 use Rattle.cbpf_grammar.proofs.Taking.{large_taken, refused_large, refused_misplaced, refused_unfinished, refused_last}
-use Rattle.cbpf_grammar.proofs.reader.Reader.refusal.Goals as goal
+use Rattle.cbpf_grammar.proofs.reader.Reader.fault.Goals as goal
 
 none_of : (o : Option ℕ) → ((x : ℕ) → o ≡ Some x → ⊥) → o ≡ None
 none_of None h = refl

@@ -1,7 +1,7 @@
 use Rattle.std.proofs.Common.{subst}
 use Rattle.cbpf_lex.specs.Tokens.{IsLexFault}
 use Rattle.cbpf_text.specs.Refusals.IsLexRefused.{memory, piece}
-use Rattle.cbpf_text.proofs.source.lex_refusal.Goals as goal
+use Rattle.cbpf_text.proofs.source.asm_fault.Goals as goal
 
 pub returns-in-Memory : goal.returns-in-Memory
 returns-in-Memory c = λ text fault. memory
