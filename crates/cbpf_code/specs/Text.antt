@@ -1,11 +1,21 @@
--- Texts of numbers: hexadecimal digits in lower case, and padding. Decimal numbers are std's `decimal`.
-use Rattle.std.specs.Prelude.{ℕ, false, ◌-◌, ◌++◌, length, codes, List}
+-- Texts and their parts: numbers between texts, hexadecimal digits in lower case, and padding. Decimal numbers are
+-- std's `decimal`.
+use Rattle.std.specs.Prelude.{ℕ, false, ◌-◌, ◌++◌, length, codes, decimal, List, [], ◌∷◌}
 use Rattle.std.specs.List.{flat_map, repeat}
 use Rattle.std.specs.Fmt.{digits}
 
 -- pieces of text, one after another
 abbrev pub joined : List (List ℕ) → List ℕ
 joined parts = flat_map (λ p. p) parts
+
+-- a byte at the front of the first of some parts
+abbrev pub put_front : ℕ → List (List ℕ) → List (List ℕ)
+put_front b [] = (b ∷ []) ∷ []
+put_front b (part ∷ parts) = (b ∷ part) ∷ parts
+
+-- a decimal number between two texts
+abbrev pub with_number : List ℕ → ℕ → List ℕ → List ℕ
+with_number before n after = joined (before ∷ decimal n ∷ after ∷ [])
 
 abbrev pub spaces : ℕ → List ℕ
 spaces n = repeat n (codes " ")

@@ -22,7 +22,9 @@ pub use form::Form;
 pub use insn::Insn;
 pub use opcode::{AluOp, Cond, Op, Size, Src, code_of, op_of, op_of_byte};
 pub use program::Program;
-pub use scan::laws_of_marks;
+pub use scan::{is_blank, is_digit, laws_of_marks};
 pub use word_form::write_words;
 pub use words::{WordFault, read_words};
-pub use writing::{WriteFault, write_bytes, write_decimal, write_hex, write_parts};
+pub use writing::{
+    WriteFault, write_bytes, write_decimal, write_hex, write_parts, write_with_number,
+};

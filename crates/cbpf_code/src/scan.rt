@@ -7,13 +7,17 @@ ghost use Rattle.cbpf_code.specs.NextToken.{IsNextToken};
 /// No field of word text reaches this number, so greater ones stand for it.
 const CAP: u64 = 4_294_967_296;
 
-fn is_digit_byte(b: u8) -> bool
+/// Whether a byte is one of the digits `0` to `9`.
+#[inline(always)]
+pub fn is_digit(b: u8) -> bool
     ensures { result ≡ is_digit b }
 {
     b > 47 && b < 58
 }
 
-fn is_blank_byte(b: u8) -> bool
+/// Whether a byte is a blank of word text and of scripts: a space, a tab, a carriage return or a newline.
+#[inline(always)]
+pub fn is_blank(b: u8) -> bool
     ensures { result ≡ is_blank b }
 {
     b == b' ' || b == b'\t' || b == b'\r' || b == b'\n'
@@ -28,7 +32,7 @@ fn leading_digits(text: &[u8]) -> (usize, u64)
 {
     let mut value = 0;
     for (i, b) in text.iter().enumerate() {
-        if !is_digit_byte(*b) {
+        if !is_digit(*b) {
             return (i, value);
         }
         value = (10 * value + u64::from(*b - b'0')).min(CAP);
@@ -62,7 +66,7 @@ pub(crate) fn skip_blanks(text: &[u8], at: usize) -> usize
     ensures stops { result < length text.now → is_blank (slice_index text.now result) ≡ false }
 {
     let mut i = at;
-    while i < text.len() && is_blank_byte(text[i]) {
+    while i < text.len() && is_blank(text[i]) {
         i += 1;
     }
     i
@@ -78,7 +82,7 @@ pub(crate) fn next_token(text: &[u8], at: usize) -> Option<Found>
         return None;
     }
     let byte = text[place];
-    if is_digit_byte(byte) {
+    if is_digit(byte) {
         let (len, value) = leading_digits(&text[place..]);
         return Some(Found {
             place,

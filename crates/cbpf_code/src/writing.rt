@@ -4,7 +4,7 @@ ghost use Rattle.std.specs.List.{flat_map};
 ghost use Rattle.std.specs.Fmt.{digit_glyph};
 ghost use Rattle.cbpf_code.specs.Writing.{Wrote};
 ghost use Rattle.cbpf_code.specs.HexPlaces.{hex_digits, hex_places};
-ghost use Rattle.cbpf_code.specs.Text.{hex, spaces};
+ghost use Rattle.cbpf_code.specs.Text.{hex, spaces, with_number};
 
 use itoa::Buffer;
 use std::io::Write;
@@ -46,6 +46,19 @@ pub fn write_decimal<W: Write>(w: &mut W, n: u128) -> Result<(), WriteFault>
 {
     let mut buffer = Buffer::new();
     write_bytes(w, buffer.format(n).as_bytes())
+}
+
+/// Writes a number in decimal, without leading zeros, between two texts.
+pub fn write_with_number<W: Write>(
+    w: &mut W,
+    before: &[u8],
+    n: u64,
+    after: &[u8],
+) -> Result<(), WriteFault>
+    ensures { Wrote (W.contents w.old) (W.contents w.new) result (with_number before.now n after.now) }
+{
+    let mut number = Buffer::new();
+    write_parts(w, &[before, number.format(n).as_bytes(), after])
 }
 
 /// The byte of a number's last hexadecimal digit.

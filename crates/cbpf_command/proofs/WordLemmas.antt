@@ -2,7 +2,8 @@
 use Rattle.std.proofs.Common.{◌≡◌, ℕ, suc, ◌+◌, ◌<◌, ◌≤◌, Bool, true, false, not, ◌&&◌, List, [], ◌∷◌, ◌++◌, length, take, drop, get_or, drop-cons, add-one, length-drop, take_all, ◌-◌, ◌⊎◌, inl, inr, refl, sym, ap, ◌∙◌, arith}
 use Rattle.std.proofs.lemmas.List.{take-append-drop, take_more, nil_from_length}
 use Rattle.cbpf_code.specs.WordTokens.{is_blank}
-use Rattle.cbpf_command.specs.Words.{begins_word, put_front, words, after_words, all_blank, trim_start, trim_end}
+use Rattle.cbpf_code.specs.Text.{put_front}
+use Rattle.cbpf_command.specs.Words.{begins_word, words, after_words, all_blank, trim_start, trim_end}
 
 pub trim_start-blank : (b : ℕ) (bs : List ℕ) → is_blank b ≡ true → trim_start (b ∷ bs) ≡ trim_start bs
 unfolding trim_start

@@ -1,15 +1,12 @@
 -- The words of a command line, and what stands after them.
 use Rattle.std.specs.Prelude.{ℕ, zero, suc, Bool, true, false, ◌&&◌, not, if◌then◌else◌, List, [], ◌∷◌}
+use Rattle.cbpf_code.specs.Text.{put_front}
 use Rattle.cbpf_code.specs.WordTokens.{is_blank}
 
 -- the text goes on with a byte that is no blank
 abbrev pub begins_word : List ℕ → Bool
 begins_word [] = false
 begins_word (b ∷ bs) = not (is_blank b)
-
-abbrev pub put_front : ℕ → List (List ℕ) → List (List ℕ)
-put_front b [] = (b ∷ []) ∷ []
-put_front b (w ∷ ws) = (b ∷ w) ∷ ws
 
 -- the longest runs of bytes that are no blanks
 unfoldable pub words : List ℕ → List (List ℕ)

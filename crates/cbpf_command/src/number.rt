@@ -1,13 +1,8 @@
 // Numbers in a line.
 ghost use Rattle.std.specs.Prelude.{◌≡◌, ◌-◌, ◌^◌};
-ghost use Rattle.cbpf_code.specs.WordTokens.{is_digit};
 ghost use Rattle.cbpf_command.specs.Numbers as spec;
 
-fn is_digit(b: u8) -> bool
-    ensures { result ≡ is_digit b }
-{
-    47 < b && b < 58
-}
+use cbpf_code::is_digit;
 
 /// The decimal number that a word spells, of those up to `most`. Zeros may stand in front, as many as
 /// there are.

@@ -1,13 +1,8 @@
 // The words of a line.
 ghost use Rattle.std.specs.Prelude.{◌≡◌, ◌≤◌, ◌∷◌, ℕ, suc, drop, take, length, [], true, MatchOption, IfSome};
-ghost use Rattle.cbpf_code.specs.WordTokens.{is_blank};
 ghost use Rattle.cbpf_command.specs.Words as spec;
 
-fn is_blank(b: u8) -> bool
-    ensures { result ≡ is_blank b }
-{
-    matches!(b, b' ' | b'\t' | b'\r' | b'\n')
-}
+use cbpf_code::is_blank;
 
 /// Without the blanks at its front.
 #[tactic(auto, using(crate::proofs::WordLemmas::starts))]

@@ -9,7 +9,8 @@ use Rattle.cbpf_command.specs.Commands.{Spelled, load_words, load_capture, run, 
 use Rattle.cbpf_command.specs.declared.command.CommandFault.{CommandFault}
 use Rattle.cbpf_command.specs.declared.command.CommandFault.TheVariants.{UnknownCommand, WrongArguments}
 use Rattle.cbpf_jobs.specs.FileMap.{FileMap, Source}
-use Rattle.cbpf_jobs.specs.Lines.{lines, put_front, whole_lines, has_newline}
+use Rattle.cbpf_code.specs.Text.{put_front}
+use Rattle.cbpf_jobs.specs.Lines.{lines, whole_lines, has_newline}
 use Rattle.cbpf_dbg.specs.View.{View, empty_view}
 use Rattle.cbpf_jobs.specs.Reading.{unread, Took, TakesLine}
 use Rattle.cbpf_jobs.specs.Replies.{Writes, LoadsWords, unreadable, unsound, accepted, ReadsCapture, no_capture, a_capture, LoadsCapture, CommandReplies, LineReplies}

@@ -1,9 +1,6 @@
 -- The lines of a script: each ends at a newline, and the last needs none.
 use Rattle.std.specs.Prelude.{ℕ, Bool, false, ◌||◌, ◌==◌, if◌then◌else◌, List, [], ◌∷◌}
-
-abbrev pub put_front : ℕ → List (List ℕ) → List (List ℕ)
-put_front b [] = (b ∷ []) ∷ []
-put_front b (l ∷ ls) = (b ∷ l) ∷ ls
+use Rattle.cbpf_code.specs.Text.{put_front}
 
 -- the lines, without their newlines
 abbrev pub lines : List ℕ → List (List ℕ)

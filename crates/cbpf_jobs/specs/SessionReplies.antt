@@ -9,7 +9,7 @@ use Rattle.cbpf_reply.specs.declared.breakpoints.When.{When}
 use Rattle.cbpf_reply.specs.declared.reply.Place.{Place}
 use Rattle.cbpf_reply.specs.declared.reply.SessionFault.{SessionFault}
 use Rattle.cbpf_reply.specs.Breakpoints.{breakpoints_text, set_in}
-use Rattle.cbpf_reply.specs.Counts.{place_text}
+use Rattle.cbpf_reply.specs.Counts.{at_text, place_text}
 use Rattle.cbpf_reply.specs.Errors.{fault_text, no_program_text}
 use Rattle.cbpf_reply.specs.Stops.{stops_text}
 use Rattle.cbpf_reply.specs.Values.{value_text}
@@ -24,9 +24,6 @@ reply_and_view text m (Err e) = (fault_text e, m)
 unfoldable pub reply_text : {R : Type 0} → (R → List ℕ) → Result R SessionFault → List ℕ
 reply_text text (Ok r) = text r
 reply_text text (Err e) = fault_text e
-
-abbrev pub at_text : Place → List ℕ
-at_text place = place_text (codes "at ") place
 
 abbrev pub before_packet : ℕ → Place
 before_packet n = record { packet = n; step = 0 }
@@ -56,7 +53,7 @@ abbrev pub value_reply : View → Ext → ℕ → List ℕ × View
 value_reply m e n = reply_and_view (λ u v. value_text e n) m (set_value m e n)
 
 abbrev pub mark_reply : View → List ℕ
-mark_reply m = reply_text (λ place. place_text [] place) (mark m)
+mark_reply m = reply_text place_text (mark m)
 
 abbrev pub stops_reply : View → List ℕ
 stops_reply m = reply_text stops_text (stops m)

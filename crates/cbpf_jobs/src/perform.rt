@@ -11,7 +11,8 @@ use crate::session_replies::{write_breakpoints, write_run, write_stops};
 use cbpf_code::{Ext, WriteFault};
 use cbpf_dbg::{MarkTrail, Meter, Place, Session, When};
 use cbpf_reply::{
-    write_breakpoint, write_c_dump, write_fault, write_no_program, write_place, write_value,
+    write_at, write_breakpoint, write_c_dump, write_fault, write_no_program, write_place,
+    write_value,
 };
 use cbpf_text::write_listing;
 use std::alloc::Allocator;
@@ -60,7 +61,7 @@ pub(crate) fn select<A: Allocator, W: Write>(
         (λ t. Wrote (W.contents w.old) (W.contents w.new) result t) }
 {
     match session.select(n) {
-        Ok(()) => write_place(w, b"at ", Place { packet: n, step: 0 }),
+        Ok(()) => write_at(w, Place { packet: n, step: 0 }),
         Err(fault) => write_fault(w, fault),
     }
 }
@@ -79,7 +80,7 @@ pub(crate) fn resume<A: Allocator, W: Write>(
     let mut meter = Meter::new();
     let place = Place { packet, step };
     match session.resume(&mut meter, place) {
-        Ok(()) => write_place(w, b"at ", place),
+        Ok(()) => write_at(w, place),
         Err(fault) => write_fault(w, fault),
     }
 }
@@ -174,7 +175,7 @@ pub(crate) fn mark<A: Allocator, W: Write>(
     ensures { Wrote (W.contents w.old) (W.contents w.new) result (reply.mark_reply session.now) }
 {
     match session.mark() {
-        Ok(place) => write_place(w, b"", place),
+        Ok(place) => write_place(w, place),
         Err(fault) => write_fault(w, fault),
     }
 }

@@ -8,10 +8,11 @@ ghost use Rattle.cbpf_jobs.specs.RunText.{run_text};
 ghost use Rattle.cbpf_reply.specs.Breakpoints.{listed_text, list_text, breakpoints_text};
 ghost use Rattle.cbpf_reply.specs.Stops.{stop_line, stops_text};
 
-use cbpf_code::{WriteFault, write_bytes};
+use cbpf_code::WriteFault;
 use cbpf_dbg::{RunReply, Session, Stops, Trail};
 use cbpf_reply::{
-    write_finished, write_limit, write_list_head, write_listed, write_stop_line, write_total,
+    write_finished, write_limit, write_list_end, write_list_head, write_listed, write_stop_line,
+    write_total,
 };
 use std::alloc::Allocator;
 use std::io::Write;
@@ -63,7 +64,7 @@ fn write_list<W: Write, T: Trail, A: Allocator>(
     ensures { Wrote (W.contents w.old) (W.contents w.new) result (list_text session.now.breakpoints) }
 {
     write_all_listed(w, session)?;
-    write_bytes(w, b"\n")
+    write_list_end(w)
 }
 
 /// Writes the breakpoints of a session, in order of setting.

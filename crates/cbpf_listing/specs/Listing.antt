@@ -8,14 +8,10 @@ use Rattle.cbpf_code.specs.declared.opcode.Op.{Op}
 use Rattle.cbpf_code.specs.declared.extension.Ext.{Ext}
 use Rattle.cbpf_code.specs.Opcode.{op_of}
 use Rattle.cbpf_code.specs.Extension.{ext_at, ext_name}
-use Rattle.cbpf_code.specs.Text.{joined, hex}
+use Rattle.cbpf_code.specs.Text.{joined, with_number, hex}
 use Rattle.cbpf_listing.specs.declared.syntax.Operand.{Operand}
 use Rattle.cbpf_listing.specs.declared.syntax.Operand.TheVariants.{Bare, X, A, Length, Immediate, Absolute, Indexed, Memory, Header, Label, ImmediateTwo, XTwo}
 use Rattle.cbpf_listing.specs.Syntax.{mnemonic_of, operand_of}
-
--- a decimal number between two texts
-abbrev pub between : List ℕ → ℕ → List ℕ → List ℕ
-between before n after = joined (before ∷ decimal n ∷ after ∷ [])
 
 -- the label of the instruction at an index, and its mnemonic
 abbrev pub head : ℕ → List ℕ → List ℕ
@@ -27,7 +23,7 @@ immediate k = if k == 0 then codes " #0" else codes " #0x" ++ hex 1 k
 
 -- a place of the packet, or the name of the extension that has the place
 abbrev pub place_or_name : Option Ext → ℕ → List ℕ
-place_or_name None k = between (codes " [") k (codes "]")
+place_or_name None k = with_number (codes " [") k (codes "]")
 place_or_name (Some e) k = joined (codes " " ∷ ext_name e ∷ [])
 
 abbrev pub absolute : ℕ → List ℕ
@@ -45,10 +41,10 @@ operand_text A i insn = codes " a"
 operand_text Length i insn = codes " len"
 operand_text Immediate i insn = immediate insn.k
 operand_text Absolute i insn = absolute insn.k
-operand_text Indexed i insn = between (codes " [x + ") insn.k (codes "]")
-operand_text Memory i insn = between (codes " M[") insn.k (codes "]")
-operand_text Header i insn = between (codes " 4*([") insn.k (codes "]&0xf)")
-operand_text Label i insn = between (codes " l") (i + 1 + insn.k) []
+operand_text Indexed i insn = with_number (codes " [x + ") insn.k (codes "]")
+operand_text Memory i insn = with_number (codes " M[") insn.k (codes "]")
+operand_text Header i insn = with_number (codes " 4*([") insn.k (codes "]&0xf)")
+operand_text Label i insn = with_number (codes " l") (i + 1 + insn.k) []
 operand_text ImmediateTwo i insn = immediate insn.k ++ targets i insn
 operand_text XTwo i insn = codes " x" ++ targets i insn
 

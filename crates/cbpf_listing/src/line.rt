@@ -9,6 +9,7 @@ ghost use Rattle.cbpf_listing.specs.Listing as spec;
 use crate::syntax::{Operand, mnemonic_of, operand_of};
 use cbpf_code::{
     Insn, Op, Program, WriteFault, ext_at, ext_name, op_of, write_bytes, write_hex, write_parts,
+    write_with_number,
 };
 use itoa::Buffer;
 use std::alloc::Allocator;
@@ -20,14 +21,6 @@ fn write_head<W: Write>(w: &mut W, i: u32, mnemonic: &[u8]) -> Result<(), WriteF
 {
     let mut index = Buffer::new();
     write_parts(w, &[b"l", index.format(i).as_bytes(), b":\t", mnemonic])
-}
-
-/// A decimal number between two texts.
-fn write_between<W: Write>(w: &mut W, before: &[u8], n: u64, after: &[u8]) -> Result<(), WriteFault>
-    ensures { Wrote (W.contents w.old) (W.contents w.new) result (spec.between before.now n after.now) }
-{
-    let mut number = Buffer::new();
-    write_parts(w, &[before, number.format(n).as_bytes(), after])
 }
 
 /// A number in hexadecimal, or `#0`.
@@ -48,7 +41,7 @@ fn write_absolute<W: Write>(w: &mut W, k: u32) -> Result<(), WriteFault>
 {
     match ext_at(k) {
         Some(e) => write_parts(w, &[b" ", ext_name(e).as_bytes()]),
-        None => write_between(w, b" [", u64::from(k), b"]"),
+        None => write_with_number(w, b" [", u64::from(k), b"]"),
     }
 }
 
@@ -86,10 +79,10 @@ fn write_operand<W: Write>(
         Operand::Length => write_bytes(w, b" len"),
         Operand::Immediate => write_immediate(w, insn.k),
         Operand::Absolute => write_absolute(w, insn.k),
-        Operand::Indexed => write_between(w, b" [x + ", u64::from(insn.k), b"]"),
-        Operand::Memory => write_between(w, b" M[", u64::from(insn.k), b"]"),
-        Operand::Header => write_between(w, b" 4*([", u64::from(insn.k), b"]&0xf)"),
-        Operand::Label => write_between(w, b" l", u64::from(i) + 1 + u64::from(insn.k), b""),
+        Operand::Indexed => write_with_number(w, b" [x + ", u64::from(insn.k), b"]"),
+        Operand::Memory => write_with_number(w, b" M[", u64::from(insn.k), b"]"),
+        Operand::Header => write_with_number(w, b" 4*([", u64::from(insn.k), b"]&0xf)"),
+        Operand::Label => write_with_number(w, b" l", u64::from(i) + 1 + u64::from(insn.k), b""),
         Operand::ImmediateTwo => {
             write_immediate(w, insn.k)?;
             write_targets(w, i, insn)

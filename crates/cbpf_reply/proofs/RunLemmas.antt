@@ -2,7 +2,7 @@
 use Rattle.std.proofs.Common.{◌≡◌, ℕ, suc, ◌+◌, ◌-◌, ◌<◌, ◌≤◌, true, false, cond, ◌==◌, List, [], ◌∷◌, ◌++◌, length, drop, get_or, codes, refl, sym, ap, ◌∙◌, arith, tests, drop-cons, add-one, length-drop, length-append, decimal}
 use Rattle.std.proofs.lemmas.List.{nil_from_length}
 use Rattle.cbpf_code.specs.Text.{joined, spaces}
-use Rattle.cbpf_reply.specs.Lines.{value_pieces}
+use Rattle.cbpf_reply.specs.Columns.{value_pieces}
 use Rattle.cbpf_reply.specs.Scratch.{Run, before, runs_from, scratch_line}
 
 same-eq : (v : ℕ) → (v == v) ≡ true

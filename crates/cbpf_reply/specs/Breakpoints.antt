@@ -4,7 +4,7 @@ use Rattle.std.specs.List.{flat_map}
 use Rattle.cbpf_code.specs.Text.{joined}
 use Rattle.cbpf_code.specs.declared.insn.Insn.{Insn}
 use Rattle.cbpf_listing.specs.Listing.{line_text}
-use Rattle.cbpf_reply.specs.Numbers.{with_number}
+use Rattle.cbpf_code.specs.Text.{with_number}
 use Rattle.cbpf_reply.specs.declared.breakpoints.When.{When}
 use Rattle.cbpf_reply.specs.declared.breakpoints.When.TheVariants.{Always, A, X}
 
@@ -34,8 +34,11 @@ listed_text (n, Always) = joined (codes " " ∷ decimal n ∷ [])
 listed_text (n, A v) = joined (codes " " ∷ decimal n ∷ codes "(a=" ∷ decimal v ∷ codes ")" ∷ [])
 listed_text (n, X v) = joined (codes " " ∷ decimal n ∷ codes "(x=" ∷ decimal v ∷ codes ")" ∷ [])
 
+abbrev pub list_end : List ℕ
+list_end = codes "\n"
+
 abbrev pub list_text : List (ℕ × When) → List ℕ
-list_text breakpoints = flat_map listed_text breakpoints ++ codes "\n"
+list_text breakpoints = flat_map listed_text breakpoints ++ list_end
 
 unfoldable pub list_head : List ℕ
 list_head = codes "breakpoints:"

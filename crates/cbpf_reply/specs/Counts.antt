@@ -1,12 +1,21 @@
 -- Places, and counts of packets (the kernel's Documentation/networking/filter shows the counts of `run` for `bpf_dbg`; the rest is this project's own).
 use Rattle.std.specs.Prelude.{ℕ, ◌==◌, if◌then◌else◌, List, [], ◌∷◌, ◌++◌, codes, decimal}
 use Rattle.cbpf_code.specs.Text.{joined}
-use Rattle.cbpf_reply.specs.Numbers.{with_number, with_numbers}
+use Rattle.cbpf_code.specs.Text.{with_number}
+use Rattle.cbpf_reply.specs.Numbers.{with_numbers}
 use Rattle.cbpf_reply.specs.declared.reply.Counts.{Counts}
 use Rattle.cbpf_reply.specs.declared.reply.Place.{Place}
 
-abbrev pub place_text : List ℕ → Place → List ℕ
-place_text before p = with_numbers before p.packet (codes " ") p.step (codes "\n")
+-- a place after a text
+abbrev pub place_after : List ℕ → Place → List ℕ
+place_after before p = with_numbers before p.packet (codes " ") p.step (codes "\n")
+
+abbrev pub place_text : Place → List ℕ
+place_text p = place_after [] p
+
+-- the place that a command went to
+abbrev pub at_text : Place → List ℕ
+at_text p = place_after (codes "at ") p
 
 -- how many packets asked for an extension without a value, where one did
 abbrev pub unknown_text : ℕ → List ℕ

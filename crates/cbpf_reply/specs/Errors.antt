@@ -6,7 +6,8 @@ use Rattle.cbpf_code.specs.declared.checker.CheckFault.{CheckFault}
 use Rattle.cbpf_code.specs.declared.checker.CheckFault.TheVariants as check
 use Rattle.pcap_classic.specs.declared.fault.CaptureFault.{CaptureFault}
 use Rattle.pcap_classic.specs.declared.fault.CaptureFault.TheVariants as capture
-use Rattle.cbpf_reply.specs.Numbers.{with_number, with_numbers}
+use Rattle.cbpf_code.specs.Text.{with_number}
+use Rattle.cbpf_reply.specs.Numbers.{with_numbers}
 use Rattle.cbpf_reply.specs.declared.reply.SessionFault.{SessionFault}
 use Rattle.cbpf_reply.specs.declared.reply.SessionFault.TheVariants.{NoProgram, NoCapture, NoPackets, NoInstruction, NoPacket, NoStep, TooFarBack, ZeroCount, NoValue, Memory}
 

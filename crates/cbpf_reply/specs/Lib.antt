@@ -1,4 +1,4 @@
-pub mod Lines
+pub mod Columns
 pub mod Numbers
 pub mod Scratch
 pub mod Packet

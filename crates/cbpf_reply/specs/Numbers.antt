@@ -2,10 +2,6 @@
 use Rattle.std.specs.Prelude.{ℕ, List, [], ◌∷◌, decimal}
 use Rattle.cbpf_code.specs.Text.{joined}
 
--- a line with a number in it
-abbrev pub with_number : List ℕ → ℕ → List ℕ → List ℕ
-with_number before n after = joined (before ∷ decimal n ∷ after ∷ [])
-
--- a line with two
+-- two decimal numbers between texts
 abbrev pub with_numbers : List ℕ → ℕ → List ℕ → ℕ → List ℕ → List ℕ
 with_numbers before m between n after = joined (before ∷ decimal m ∷ between ∷ decimal n ∷ after ∷ [])

@@ -1,7 +1,7 @@
 -- The scratch memory in a dump: a line for each longest run of neighbouring slots of equal value (the kernel's `bpf_dbg` shows runs of zeros so; this layout is this project's own).
 use Rattle.std.specs.Prelude.{ℕ, suc, ◌==◌, if◌then◌else◌, List, [], ◌∷◌, decimal, codes}
 use Rattle.std.specs.List.{flat_map}
-use Rattle.cbpf_reply.specs.Lines.{value_line}
+use Rattle.cbpf_reply.specs.Columns.{value_line}
 
 -- neighbouring slots of one value
 pub record Run : Type 0 where

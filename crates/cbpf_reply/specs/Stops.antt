@@ -3,7 +3,7 @@ use Rattle.std.specs.Prelude.{ℕ, List, [], ◌∷◌, ◌++◌, length, codes,
 use Rattle.std.specs.List.{flat_map}
 use Rattle.cbpf_code.specs.Text.{joined}
 use Rattle.cbpf_reply.specs.Dump.{why_line}
-use Rattle.cbpf_reply.specs.Numbers.{with_number}
+use Rattle.cbpf_code.specs.Text.{with_number}
 use Rattle.cbpf_reply.specs.declared.reply.Stop.{Stop}
 
 abbrev pub registers_text : Stop → List ℕ

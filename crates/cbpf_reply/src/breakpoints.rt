@@ -4,7 +4,7 @@ ghost use Rattle.std.specs.Prelude.{◌<◌, length};
 ghost use Rattle.cbpf_code.specs.Writing.{Wrote};
 ghost use Rattle.cbpf_reply.specs.Breakpoints as spec;
 
-use crate::lines::write_numbered;
+use crate::numbers::write_numbered;
 use cbpf_code::{Program, WriteFault, write_bytes, write_parts};
 use cbpf_listing::write_line;
 use itoa::Buffer;
@@ -103,4 +103,15 @@ pub fn write_list_head<W: Write>(w: &mut W) -> Result<(), WriteFault>
     ensures { Wrote (W.contents w.old) (W.contents w.new) result spec.list_head }
 {
     write_bytes(w, b"breakpoints:")
+}
+
+/// Writes the end of the list of breakpoints.
+///
+/// # Errors
+///
+/// The writer failed, or took nothing of a text that isn't empty.
+pub fn write_list_end<W: Write>(w: &mut W) -> Result<(), WriteFault>
+    ensures { Wrote (W.contents w.old) (W.contents w.new) result spec.list_end }
+{
+    write_bytes(w, b"\n")
 }

@@ -3,21 +3,39 @@
 ghost use Rattle.cbpf_code.specs.Writing.{Wrote};
 ghost use Rattle.cbpf_reply.specs.Counts as spec;
 
-use crate::lines::{write_with_number, write_with_numbers};
+use crate::numbers::write_with_numbers;
 use crate::reply::{Counts, Place};
-use cbpf_code::{WriteFault, write_bytes, write_parts};
+use cbpf_code::{WriteFault, write_bytes, write_parts, write_with_number};
 use itoa::Buffer;
 use std::io::Write;
 
-/// Writes a place after a text.
+/// A place after a text.
+fn write_place_after<W: Write>(w: &mut W, before: &[u8], place: Place) -> Result<(), WriteFault>
+    ensures { Wrote (W.contents w.old) (W.contents w.new) result (spec.place_after before.now place) }
+{
+    write_with_numbers(w, before, place.packet, b" ", u64::from(place.step), b"\n")
+}
+
+/// Writes a place.
 ///
 /// # Errors
 ///
 /// The writer failed, or took nothing of a text that isn't empty: a beginning of the line was written.
-pub fn write_place<W: Write>(w: &mut W, before: &[u8], place: Place) -> Result<(), WriteFault>
-    ensures { Wrote (W.contents w.old) (W.contents w.new) result (spec.place_text before.now place) }
+pub fn write_place<W: Write>(w: &mut W, place: Place) -> Result<(), WriteFault>
+    ensures { Wrote (W.contents w.old) (W.contents w.new) result (spec.place_text place) }
 {
-    write_with_numbers(w, before, place.packet, b" ", u64::from(place.step), b"\n")
+    write_place_after(w, b"", place)
+}
+
+/// Writes the place that a command went to.
+///
+/// # Errors
+///
+/// The writer failed, or took nothing of a text that isn't empty: a beginning of the line was written.
+pub fn write_at<W: Write>(w: &mut W, place: Place) -> Result<(), WriteFault>
+    ensures { Wrote (W.contents w.old) (W.contents w.new) result (spec.at_text place) }
+{
+    write_place_after(w, b"at ", place)
 }
 
 /// Two numbers, each after a text.

@@ -1,7 +1,7 @@
 // The dump of a stop.
 ghost use Rattle.std.specs.Prelude.{◌≡◌, ◌<◌, ◌++◌, ℕ, List, Some, length, slice_get};
 ghost use Rattle.cbpf_code.specs.Writing.{Wrote};
-ghost use Rattle.cbpf_reply.specs.Lines.{value_line};
+ghost use Rattle.cbpf_reply.specs.Columns.{value_line};
 ghost use Rattle.cbpf_reply.specs.Scratch.{scratch_lines};
 ghost use Rattle.cbpf_reply.specs.Dump as spec;
 

@@ -3,7 +3,7 @@
 ghost use Rattle.cbpf_code.specs.Writing.{Wrote};
 ghost use Rattle.cbpf_reply.specs.Errors as spec;
 
-use crate::lines::{write_numbered, write_with_number, write_with_numbers};
+use crate::numbers::{write_numbered, write_with_numbers};
 use crate::reply::SessionFault;
 use cbpf_code::{CheckFault, WordFault, WriteFault, write_bytes};
 use pcap_classic::CaptureFault;

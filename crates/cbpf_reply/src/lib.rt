@@ -1,6 +1,5 @@
 //! What a debugger's session answers, and the texts that the debugger prints, but the listing: stops, counts, places,
-//! breakpoints, values, loads, the program in C form and the lines `error: ..`. The crate above puts `at` before a
-//! place, and ends the list of breakpoints.
+//! breakpoints, values, loads, the program in C form and the lines `error: ..`.
 //!
 //! The dump of a stop has the parts that the kernel's Documentation/networking/filter shows for
 //! `bpf_dbg`; its layout, and the other texts but the counts, are this project's own.
@@ -12,17 +11,17 @@ mod columns;
 mod counts;
 mod dump;
 mod errors;
-mod lines;
 mod loads;
+mod numbers;
 mod packet;
 mod reply;
 mod scratch;
 mod stops;
 mod values;
 
-pub use breakpoints::{When, write_breakpoint, write_list_head, write_listed};
+pub use breakpoints::{When, write_breakpoint, write_list_end, write_list_head, write_listed};
 pub use c_dump::write_c_dump;
-pub use counts::{write_finished, write_limit, write_place};
+pub use counts::{write_at, write_finished, write_limit, write_place};
 pub use dump::write_stop;
 pub use errors::{
     write_absent, write_capture_fault, write_check_fault, write_fault, write_no_program,

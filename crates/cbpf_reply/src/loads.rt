@@ -3,8 +3,8 @@
 ghost use Rattle.cbpf_code.specs.Writing.{Wrote};
 ghost use Rattle.cbpf_reply.specs.Loads as spec;
 
-use crate::lines::{write_numbered, write_with_number, write_with_numbers};
-use cbpf_code::WriteFault;
+use crate::numbers::write_numbered;
+use cbpf_code::{WriteFault, write_bytes, write_with_number};
 use pcap_classic::{Capture, Ending};
 use std::alloc::Allocator;
 use std::io::Write;
@@ -21,36 +21,41 @@ pub fn write_program<W: Write>(w: &mut W, count: u32) -> Result<(), WriteFault>
     write_numbered(w, b"bpf: ", count, b" instructions\n")
 }
 
+/// Where a capture is cut, if it is, and the line's end.
+fn write_ending<W: Write>(w: &mut W, ending: Ending) -> Result<(), WriteFault>
+    ensures { Wrote (W.contents w.old) (W.contents w.new) result (spec.ending_text ending) }
+{
+    match ending {
+        Ending::Whole => write_bytes(w, b"\n"),
+        Ending::CutHeader(place) => {
+            write_with_number(w, b", cut record header at ", place as u64, b"\n")
+        }
+        Ending::CutData(place) => {
+            write_with_number(w, b", cut record data at ", place as u64, b"\n")
+        }
+    }
+}
+
+/// How many packets a capture has.
+#[tactic(auto, unfolding(crate::specs::Loads::packets_text))]
+fn write_packets<W: Write>(w: &mut W, count: u64) -> Result<(), WriteFault>
+    ensures { Wrote (W.contents w.old) (W.contents w.new) result (spec.packets_text count) }
+{
+    write_with_number(w, b"pcap: ", count, b" packets")
+}
+
 /// Writes the reply to a capture that was loaded: how many packets it has, and where it is cut.
 ///
 /// # Errors
 ///
 /// The writer failed, or took nothing of a text that isn't empty: a beginning of the line was written.
-#[tactic(auto, unfolding(crate::specs::Loads::capture_text))]
+#[tactic(auto, using(cbpf_code::proofs::WrittenLemmas::pairs), unfolding(crate::specs::Loads::capture_text))]
 pub fn write_capture<W: Write, A: Allocator>(
     w: &mut W,
     capture: &Capture<A>,
 ) -> Result<(), WriteFault>
     ensures { Wrote (W.contents w.old) (W.contents w.new) result (spec.capture_text capture.now) }
 {
-    let count = capture.count();
-    match capture.ending() {
-        Ending::Whole => write_with_number(w, b"pcap: ", count, b" packets\n"),
-        Ending::CutHeader(place) => write_with_numbers(
-            w,
-            b"pcap: ",
-            count,
-            b" packets, cut record header at ",
-            place as u64,
-            b"\n",
-        ),
-        Ending::CutData(place) => write_with_numbers(
-            w,
-            b"pcap: ",
-            count,
-            b" packets, cut record data at ",
-            place as u64,
-            b"\n",
-        ),
-    }
+    write_packets(w, capture.count())?;
+    write_ending(w, capture.ending())
 }

@@ -6,8 +6,8 @@ use Rattle.cbpf_code.proofs.scan.next_token.Goals as goal
 pub returns-then-place-text : goal.returns-then-place-text
 returns-then-place-text c = sym c.skip_blanks-place.ensures.same ∙ step-end _ _ (omega arith)
 
-pub returns-then-is_digit_byte : goal.returns-then-is_digit_byte
-returns-then-is_digit_byte c =
+pub returns-then-is_digit : goal.returns-then-is_digit
+returns-then-is_digit c =
     let text = c.args.text.now in
     let i = c.skip_blanks-place.result in
     let n = c.leading_digits-len.result.0 in

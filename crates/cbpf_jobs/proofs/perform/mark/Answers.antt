@@ -6,4 +6,4 @@ use Rattle.cbpf_jobs.proofs.perform.mark.Goals as goal
 
 pub returns-in-Ok : goal.returns-in-Ok
 returns-in-Ok g c =
-    text-ok (λ place. place_text [] place) (mark c.args.session.now) c.in-Ok.place _ _ _ c.in-Ok.ensures c.write_place.ensures
+    text-ok place_text (mark c.args.session.now) c.in-Ok.place _ _ _ c.in-Ok.ensures c.write_place.ensures

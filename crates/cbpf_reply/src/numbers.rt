@@ -1,24 +1,12 @@
 //! Texts with numbers in them.
 
+ghost use Rattle.cbpf_code.specs.Text.{with_number};
 ghost use Rattle.cbpf_code.specs.Writing.{Wrote};
 ghost use Rattle.cbpf_reply.specs.Numbers as spec;
 
-use cbpf_code::{WriteFault, write_parts};
+use cbpf_code::{WriteFault, write_parts, write_with_number};
 use itoa::Buffer;
 use std::io::Write;
-
-/// A line with a number in it.
-pub(crate) fn write_with_number<W: Write>(
-    w: &mut W,
-    before: &[u8],
-    n: u64,
-    after: &[u8],
-) -> Result<(), WriteFault>
-    ensures { Wrote (W.contents w.old) (W.contents w.new) result (spec.with_number before.now n after.now) }
-{
-    let mut buffer = Buffer::new();
-    write_parts(w, &[before, buffer.format(n).as_bytes(), after])
-}
 
 /// A line with two numbers in it.
 pub(crate) fn write_with_numbers<'a, W: Write>(
@@ -52,7 +40,7 @@ pub(crate) fn write_numbered<W: Write>(
     n: u32,
     after: &[u8],
 ) -> Result<(), WriteFault>
-    ensures { Wrote (W.contents w.old) (W.contents w.new) result (spec.with_number before.now n after.now) }
+    ensures { Wrote (W.contents w.old) (W.contents w.new) result (with_number before.now n after.now) }
 {
     write_with_number(w, before, u64::from(n), after)
 }
