@@ -5,7 +5,7 @@ ghost use Rattle.cbpf_reply.specs.Errors as spec;
 
 use crate::numbers::{write_numbered, write_with_numbers};
 use crate::reply::SessionFault;
-use cbpf_code::{CheckFault, WordFault, WriteFault, write_bytes};
+use cbpf_code::{CheckFault, WordFault, WriteFault, write_bytes, write_with_number};
 use pcap_classic::CaptureFault;
 use std::io::Write;
 
