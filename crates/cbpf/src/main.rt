@@ -126,7 +126,7 @@ fn report<R: Eprint>(rt: &R, failure: &Failure) -> ExitCode {
     ExitCode::FAILURE
 }
 
-/// Prints help or the version. A reader that closes its pipe has seen all that it wants of such a text.
+/// Prints help or the version. A reader that closes its pipe has seen enough of such a text.
 fn explain<R: Print + Eprint>(rt: &R, text: &str) -> ExitCode {
     match print!(rt; "{text}") {
         Ok(()) => ExitCode::SUCCESS,

@@ -1,4 +1,4 @@
--- The answer of the reader is one: a text that spells a list is refused by nothing but a lack of memory, and a text has one fault at most.
+-- The answer of the reader is one: a text that spells a list is refused only when out of memory, and a text has one fault at most.
 use Rattle.std.proofs.Common.{◌≡◌, ◌≢◌, ℕ, ◌⊎◌, inl, inr, List, length, refl, sym, ap, ◌∙◌, Option, Some}
 use Rattle.std.specs.Prelude.{MatchResult, Result, Ok, Err}
 use Rattle.cbpf_code.specs.WordText.{Loose, Spells, Breaks, Refused, count_of}

@@ -14,7 +14,7 @@ use std::alloc::Allocator;
 /// Why word text is refused. A place is a byte's, counted from 0.
 #[derive(Clone, Copy, PartialEq, Eq, Debug)]
 pub enum WordFault {
-    /// There was no memory for the list.
+    /// Out of memory for the list.
     Memory,
     /// N1: a comma, or the end of the text, where a number must stand; at the comma, or at the
     /// text's length.

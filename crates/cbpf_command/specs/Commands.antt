@@ -89,7 +89,7 @@ breakpoint_by _ = None
 abbrev pub delete_by : List (List ℕ) → Option Spelled
 delete_by ws = option_map delete (sole_number ws)
 
--- how many instructions, to and fro; without a number it is one
+-- how many instructions, forward or back; without a number it is one
 abbrev pub step_by : List (List ℕ) → Option Spelled
 step_by [] = Some (step (pos 1))
 step_by (w ∷ []) = option_map step (signed_number (2 ^ 63 - 1) w)

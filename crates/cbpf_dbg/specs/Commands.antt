@@ -37,12 +37,12 @@ abbrev pub view_after : {R : Type 0} → View → Answer R → View
 view_after m (Ok a) = a.1
 view_after m (Err e) = m
 
--- a command that wants a program
+-- a command that needs a program
 abbrev pub with_program : {R : Type 0} → Option (List Insn) → (List Insn → Result R SessionFault) → Result R SessionFault
 with_program None act = Err NoProgram
 with_program (Some list) act = act list
 
--- one that wants a capture too
+-- one that needs a capture too
 abbrev pub with_capture : {R : Type 0} → Option Savefile → (List Record → Result R SessionFault) → Result R SessionFault
 with_capture None act = Err NoCapture
 with_capture (Some c) act = act c.records
@@ -50,7 +50,7 @@ with_capture (Some c) act = act c.records
 abbrev pub loaded : {R : Type 0} → View → (Machine → List Record → Result R SessionFault) → Result R SessionFault
 loaded m act = with_program m.program (λ list. with_capture m.capture (act (machine_of list m.values)))
 
--- one that wants a packet too
+-- one that needs a packet too
 abbrev pub with_packets : {R : Type 0} → List Record → Result R SessionFault → Result R SessionFault
 with_packets [] answer = Err NoPackets
 with_packets (r ∷ rest) answer = answer

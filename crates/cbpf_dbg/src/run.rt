@@ -309,7 +309,8 @@ fn run_without_stops<T: Trail, A: Allocator>(
     let start = w.place.packet;
     trail.clear();
     let mut next = pass_begun(meter, loaded, w);
-    // It is lent to no call that isn't inlined, so that the place and the counts stay in the machine's registers.
+    // No call that isn't inlined borrows it, so that the place and the counts stay in the
+    // machine's registers.
     let mut v = *w;
     'go: loop {
         let Some(here) = next else {

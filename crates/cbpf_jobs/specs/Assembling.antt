@@ -35,7 +35,7 @@ IsReadingFault Write = ⊥
 abbrev pub WroteWhole : List ℕ → Form → Option (List ℕ) → Option (List ℕ) → Type 0
 WroteWhole source form old new = (list : List Insn) × Assembles source list × Appended old new (form_text form list)
 
--- after a refused source nothing was written, nor after a read that failed or a lack of memory.
+-- after a refused source nothing was written, nor after a read that failed or out of memory.
 -- After a write that failed a beginning of the text was
 abbrev pub Failed : List ℕ → Form → Option (List ℕ) → Option (List ℕ) → ToolFault → Type 0
 Failed source form old new (Source f) = IsRefused source f × (f ≢ asm.Memory) × Appended old new []

@@ -11,7 +11,7 @@ pub enum LoadFault {
     Absent,
     /// F2: the file could not be read.
     Device,
-    /// There was no memory for its bytes.
+    /// Out of memory for its bytes.
     Memory,
 }
 

@@ -57,7 +57,7 @@ impl<A: Allocator + Clone> MemoryFiles<A> {
     ///
     /// # Errors
     ///
-    /// The bytes, where there was no memory; the files are then as before.
+    /// The bytes, where it is out of memory; the files are then as before.
     pub fn put(&mut self, name: &str, bytes: Vec<u8, A>) -> Result<(), Vec<u8, A>>
         ensures ok { OnOk result (self.new ≡ record self.old { files = finmap.insert self.old.files name.now bytes.items }) }
         ensures err { OnErr result (self.new ≡ self.old) }

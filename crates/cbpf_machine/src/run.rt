@@ -16,7 +16,7 @@ use std::alloc::Allocator;
 /// as the program has instructions.
 ///
 /// The meter is at least 8192 turns below 2 to the 128 before.
-// It isn't inlined, so that nothing but the packet's state wants the processor's registers.
+// It isn't inlined, so that only the packet's state needs the processor's registers.
 #[inline(never)]
 pub fn run_packet<A: Allocator>(
     meter: &mut Meter,

@@ -53,7 +53,7 @@ pub fn write_unreadable<W: Write>(w: &mut W) -> Result<(), WriteFault>
     write_bytes(w, b"error: F2 file could not be read\n")
 }
 
-/// Writes that there was no memory.
+/// Writes that it is out of memory.
 ///
 /// # Errors
 ///
@@ -75,7 +75,7 @@ pub fn write_no_program<W: Write>(w: &mut W) -> Result<(), WriteFault>
     write_bytes(w, b"error: S1 no program\n")
 }
 
-/// Writes the line of a word text's refusal, with its number N1 to N5, or that there was no memory.
+/// Writes the line of a word text's refusal, with its number N1 to N5, or that it is out of memory.
 ///
 /// # Errors
 ///
@@ -167,7 +167,7 @@ pub fn write_check_fault<W: Write>(w: &mut W, fault: CheckFault) -> Result<(), W
     }
 }
 
-/// Writes the line of a capture's refusal, with its number P1 to P3, or that there was no memory.
+/// Writes the line of a capture's refusal, with its number P1 to P3, or that it is out of memory.
 ///
 /// # Errors
 ///
@@ -183,7 +183,7 @@ pub fn write_capture_fault<W: Write>(w: &mut W, fault: CaptureFault) -> Result<(
     }
 }
 
-/// Writes the line of a refusal, with its number S1 to S9, or that there was no memory.
+/// Writes the line of a refusal, with its number S1 to S9, or that it is out of memory.
 ///
 /// # Errors
 ///

@@ -80,6 +80,6 @@ pub enum SessionFault {
     ZeroCount,
     /// S9: the extension takes no value.
     NoValue,
-    /// There was no memory.
+    /// Out of memory.
     Memory,
 }

@@ -1,4 +1,4 @@
-// Calls of which each growth is refused, one after another, and which find out of memory then alone.
+// Calls of which each growth is refused, one after another, and which run out of memory only then.
 use crate::fault_injection::RefusingAllocator;
 use crate::loaded::{
     HEADER, ICMP_WORDS, RECORD, STRAIGHT, TWO_PACKETS, repeated, session_of, two_packets_as_k,
@@ -123,7 +123,7 @@ fn set<A: Allocator + Copy>(
     }
 }
 
-/// Whether a breakpoint finds no memory. The same call then sets it.
+/// Whether a breakpoint runs out of memory. The same call then sets it.
 fn finds_none_for_one<A: Allocator + Copy>(
     rt: &impl Abort,
     session: &mut Session<MarkTrail, A>,
@@ -294,7 +294,7 @@ const SESSION_ROWS: [Row<'static>; 7] = [
     (Call::RunToEnd(21), 4, 99),
 ];
 
-/// Whether the growth `nth` is refused. Out of memory is found then alone.
+/// Whether the growth `nth` is refused. It runs out of memory only then.
 fn is_refused(
     rt: &impl Abort,
     host: &HostRuntime,

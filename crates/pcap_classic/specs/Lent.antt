@@ -1,4 +1,4 @@
--- The record that a value lends.
+-- The record that a value borrows from a capture.
 use Rattle.pcap_classic.specs.Records.{Record}
 use Rattle.pcap_classic.specs.declared.captured.Captured.{Captured}
 

@@ -40,7 +40,7 @@ pub record IsSavefile (file : List ℕ) (c : Savefile) : Type 0 where
   pub link : c.link ≡ number_at order 20 4 file
   pub contents : Holds order 1 24 (drop 24 file) c.records c.ending
 
--- a fault stands: why the file holds no capture, or that there was no memory for one that it does hold
+-- a fault stands: why the file holds no capture, or that it is out of memory for one that it does hold
 abbrev pub IsRefusal : CaptureFault → List ℕ → Type 0
 IsRefusal FileHeaderCut file = length file < 24
 IsRefusal UnknownMagic file = (24 ≤ length file) × ((order : Endianness) (nanos : Bool) → ¬ HasMagic order nanos file)

@@ -45,7 +45,7 @@ impl<A: Allocator> Capture<A> {
     ///
     /// The first of these that stands, with the same bytes: `FileHeaderCut` where there are fewer than
     /// 24 bytes, `UnknownMagic` where the first four are no magic number, `UnknownVersion` where the
-    /// version is not 2.4, `Memory` where the index of the records finds no memory.
+    /// version is not 2.4, `Memory` where the index of the records runs out of memory.
     pub fn from_bytes(alloc: A, bytes: Vec<u8, A>) -> Result<Capture<A>, (CaptureFault, Vec<u8, A>)>
         ensures capture { IfOk result (λ c. IsSavefile bytes.items c) }
         ensures refused { IfErr result (λ e. IsRefusal e.0 bytes.items) }

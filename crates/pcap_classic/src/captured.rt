@@ -1,4 +1,4 @@
-//! A record that a capture lends.
+//! A record, borrowed from a capture.
 
 ghost use Rattle.std.specs.Prelude.{◌≡◌, ◌≤◌, ◌-◌, length, slice_get, Some};
 ghost use Rattle.pcap_classic.specs.Index.{Reaches};

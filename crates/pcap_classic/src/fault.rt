@@ -7,6 +7,6 @@ pub enum CaptureFault {
     UnknownMagic,
     /// P3: the version is not 2.4.
     UnknownVersion,
-    /// There was no memory for the index of the records. The bytes are a capture.
+    /// Out of memory for the index of the records. The bytes are a capture.
     Memory,
 }

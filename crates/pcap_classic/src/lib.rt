@@ -1,6 +1,7 @@
 //! Reads captures in the classic format of pcap-savefile(5), version 2.4, in both byte orders and
 //! with time stamps in microseconds or nanoseconds. A capture keeps the bytes of its file as they
-//! are, and lends each record from there. A file that is cut gives the whole records before the cut.
+//! are, and each record borrows from there. A file that is cut gives the whole records before the
+//! cut.
 #![tactic(auto)]
 
 mod capture;

@@ -6,7 +6,7 @@ use std::cell::Cell;
 
 /// An allocator over another one that refuses one chosen allocation, and passes every other call on.
 ///
-/// A test that a function withstands a lack of memory runs it over `&RefusingAllocator` with the first
+/// A test that a function can run out of memory runs it over `&RefusingAllocator` with the first
 /// allocation refused, then the second, and so on, until a run meets no refusal: each place that
 /// allocates has then been refused once. A `&RefusingAllocator` is an allocator, `Copy` and `Clone`, so
 /// it goes into calls that make several collections, and [`left`](RefusingAllocator::left) says
