@@ -18,7 +18,7 @@ use pcap_classic::{Capture, Captured};
 use std::alloc::Allocator;
 
 /// A place with its state, and the outcomes of the packets from the origin up to the place's.
-#[derive(Clone, Copy, Debug)]
+#[derive(Clone, Copy)]
 pub(crate) struct Cursor {
     /// The packet from which outcomes are counted.
     pub(crate) origin: u64,
@@ -29,7 +29,7 @@ pub(crate) struct Cursor {
 }
 
 /// Where a move led.
-#[derive(Clone, Copy, Debug)]
+#[derive(Clone, Copy)]
 pub(crate) enum Moved {
     /// To the packet's next entry.
     Entry,

@@ -18,7 +18,7 @@ use crate::reserved::fits;
 use crate::table::{Entry, Mnemonic};
 
 /// A row, and how many tokens fit its operand.
-#[derive(Clone, Copy, Debug)]
+#[derive(Clone, Copy)]
 pub struct Match {
     pub row: Row,
     pub len: usize,

@@ -7,7 +7,7 @@ use crate::class::Class;
 use crate::class::Class::{Exactly, Extension, Literal, Mark, Name, Negated, Word};
 
 /// An addressing mode.
-#[derive(Clone, Copy, Debug)]
+#[derive(Clone, Copy)]
 pub enum Mode {
     /// `x`
     X,

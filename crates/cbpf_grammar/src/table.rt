@@ -23,7 +23,7 @@ pub enum Fields {
 }
 
 /// An addressing mode of a mnemonic.
-#[derive(Clone, Copy, Debug)]
+#[derive(Clone, Copy)]
 pub struct Entry {
     pub mode: Mode,
     pub op: Op,
@@ -31,7 +31,7 @@ pub struct Entry {
 }
 
 /// A mnemonic with its addressing modes.
-#[derive(Clone, Copy, Debug)]
+#[derive(Clone, Copy)]
 pub struct Mnemonic {
     pub word: &'static [u8],
     pub entries: &'static [Entry],

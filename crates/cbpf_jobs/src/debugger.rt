@@ -18,7 +18,7 @@ use std::alloc::Allocator;
 use std::io::{Read, Write};
 
 /// What comes after a line.
-#[derive(Clone, Copy, PartialEq, Eq, Debug)]
+#[derive(Clone, Copy)]
 pub enum AfterLine {
     NextLine,
     Quit,

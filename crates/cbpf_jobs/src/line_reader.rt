@@ -13,7 +13,7 @@ use std::io::{Read, Write};
 const CHUNK: usize = 4096;
 
 /// What a line ends at.
-#[derive(Clone, Copy, PartialEq, Eq, Debug)]
+#[derive(Clone, Copy)]
 pub enum LineEnd {
     /// Its newline.
     Newline,

@@ -13,7 +13,7 @@ use crate::number::{LIMIT, number_value};
 use crate::token::{BadPiece, Kind};
 
 /// What a piece is.
-#[derive(Clone, Copy, Debug)]
+#[derive(Clone, Copy)]
 pub enum PieceKind {
     Blanks,
     Comment,
@@ -22,14 +22,14 @@ pub enum PieceKind {
 }
 
 /// A piece, with its size in bytes.
-#[derive(Clone, Copy, Debug)]
+#[derive(Clone, Copy)]
 pub struct Piece {
     pub kind: PieceKind,
     pub size: usize,
 }
 
 /// What the first byte of a piece says of it.
-#[derive(Clone, Copy, Debug)]
+#[derive(Clone, Copy)]
 pub enum Lead {
     Blank,
     LineComment,

@@ -7,7 +7,7 @@ use cbpf_code::{AluOp, Cond, Op, Size, Src};
 
 /// What stands after a mnemonic: one of the addressing modes of the kernel's
 /// Documentation/networking/filter, in the form that a listing has it.
-#[derive(Clone, Copy, Debug, PartialEq, Eq)]
+#[derive(Clone, Copy)]
 pub enum Operand {
     /// Nothing.
     Bare,

@@ -17,7 +17,7 @@ pub enum Turn {
 }
 
 /// How a packet's last turn ends it.
-#[derive(Clone, Copy, Debug)]
+#[derive(Clone, Copy)]
 pub(crate) enum End {
     Returned(u32),
     Outside,

@@ -28,7 +28,7 @@ use std::alloc::{AllocFailed, Allocator};
 const MOST_INSTRUCTIONS: usize = 4096;
 
 /// A label in an operand.
-#[derive(Clone, Copy, Debug)]
+#[derive(Clone, Copy)]
 pub struct Target<'a> {
     pub name: Name<'a>,
     /// The place of its first byte in the text.
@@ -36,7 +36,7 @@ pub struct Target<'a> {
 }
 
 /// An instruction whose targets have no offsets yet.
-#[derive(Clone, Copy, Debug)]
+#[derive(Clone, Copy)]
 pub struct Statement<'a> {
     pub literal: u32,
     pub code: u16,

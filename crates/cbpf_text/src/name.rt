@@ -8,7 +8,7 @@ use cbpf_grammar::Symbol;
 use std::hash::{Hash, Hasher};
 
 /// A label's name, which is hashed as a whole and not byte by byte.
-#[derive(Clone, Copy, Debug, PartialEq, Eq)]
+#[derive(Clone, Copy, PartialEq, Eq)]
 pub struct Name<'a> {
     pub bytes: &'a [u8],
 }

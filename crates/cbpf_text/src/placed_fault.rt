@@ -17,7 +17,7 @@ pub(crate) fn fault_of(text: &[u8], fault: PlacedFault) -> AsmFault
 }
 
 /// Why tokens have no instructions.
-#[derive(Clone, Copy, Debug, PartialEq, Eq)]
+#[derive(Clone, Copy)]
 pub enum PlacedFault {
     /// The allocator refused.
     Memory,
