@@ -20,4 +20,5 @@ pub mod ListedJumps
 pub mod ListedPlaces
 pub mod ListedProgram
 pub mod ListedLaw
+pub mod Kept
 pub mod Reading

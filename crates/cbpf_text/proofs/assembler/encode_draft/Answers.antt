@@ -1,7 +1,7 @@
 use Rattle.std.proofs.Common.{rules, []}
 use Rattle.std.proofs.lemmas.Result.{IfOk-weaker, IfErr-weaker}
 use Rattle.cbpf_text.proofs.Faults.{uses_reported}
-use Rattle.cbpf_text.proofs.Reading.{draft_many, draft_kept, kept_none, kept_length, kept_repeat, kept_distinct, kept_resolves}
+use Rattle.cbpf_text.proofs.Kept.{draft_many, draft_kept, kept_none, kept_length, kept_repeat, kept_distinct, kept_resolves}
 use Rattle.cbpf_text.proofs.assembler.encode_draft.Goals as goal
 
 pub returns-in-Some-clause-refused : goal.returns-in-Some-clause-refused
