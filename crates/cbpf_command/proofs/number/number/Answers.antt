@@ -1,4 +1,4 @@
-use Rattle.std.proofs.Common.{arith, sym, ◌∙◌}
+use Rattle.std.proofs.Common.{rules, arith, sym, ◌∙◌}
 use Rattle.cbpf_command.proofs.NumberLemmas.{number-letter, next-too-big, sum-too-big, sum-next, digits-more}
 use Rattle.cbpf_command.proofs.number.number.Goals as goal
 
@@ -16,3 +16,6 @@ loop-b-preserved c = record {
   digits = digits-more c.args.word.now c.loop-b.b-index (omega arith) c.loop-b.invariant.digits (sym c.is_digit.ensures ∙ c.if-not-is_digit.false);
   sum = sum-next c.args.word.now c.loop-b.b-index c.loop-b.value c.in_ok-checked_mul.field-0 c.from.result c.in_ok-value.value (omega arith) c.loop-b.invariant.sum (c.in_ok-checked_mul.ensures {u = tt}).1 c.from.ensures (c.in_ok-value.ensures {u = tt}).1;
 }
+
+pub returns-then-is_empty : goal.returns-then-is_empty
+returns-then-is_empty c = search rules
