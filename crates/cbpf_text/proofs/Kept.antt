@@ -1,33 +1,13 @@
 -- What is kept of items that are read one by one: statements, and labels with their places.
-use Rattle.std.proofs.Common.{◌≡◌, refl, sym, ◌∙◌, ap, subst, ℕ, zero, suc, ◌+◌, ◌<◌, ◌≤◌, Bool, true, false, List, [], ◌∷◌, ◌++◌, length, map, take, drop, get_or, Option, Some, None, arith, append_assoc, append-nil, length-append, length-drop}
+use Rattle.std.proofs.Common.{◌≡◌, refl, sym, ◌∙◌, ap, subst, ℕ, zero, suc, ◌+◌, ◌<◌, true, false, List, [], ◌∷◌, ◌++◌, length, map, get_or, Option, Some, None, arith, append_assoc, append-nil, length-append}
 use Rattle.std.specs.Prelude.{slice_get, is_some}
-use Rattle.std.proofs.lemmas.List.{map-append, length-map, length-take-le, drop-drop, drop_at}
-use Rattle.cbpf_lex.specs.Tokens.{LexesTo}
+use Rattle.std.proofs.lemmas.List.{map-append}
 use Rattle.cbpf_grammar.specs.declared.lexeme.Lexeme as declared_lexeme
-use Rattle.cbpf_grammar.specs.declared.reader.SyntaxFault.TheVariants as refused
-use Rattle.cbpf_grammar.specs.Lexemes.{Lexeme, lexemes_of, AreLexemes}
-use Rattle.cbpf_grammar.specs.Items.{Item, Items}
-use Rattle.cbpf_grammar.specs.Views.{lexeme_of, row_of, label_words}
-use Rattle.cbpf_grammar.specs.Reading.{Ahead, IsReading, IsRefusedFor, IsFirstLarge}
-use Rattle.std.specs.Prelude.{Ok}
-use Rattle.std.proofs.Math.Seq.{take-append_seam}
-use Rattle.std.proofs.lemmas.Bool.{and_parts}
-use Rattle.cbpf_grammar.specs.declared.item.Row as declared_row
-use Rattle.cbpf_grammar.specs.Classes.Class.{the_mark, name}
-use Rattle.cbpf_grammar.specs.Fits.{fits}
-use Rattle.cbpf_grammar.specs.Steps.{IsInstruction, IsNextItem, Stuck, AreLabels, starts_with_label}
-use Rattle.cbpf_grammar.specs.Refusals.{IsStuckAt}
-use Rattle.cbpf_grammar.proofs.Greedy.{Greedy}
-use Rattle.cbpf_grammar.proofs.Labels.{labels_item, labels_stuck, labels_append}
-use Rattle.cbpf_grammar.proofs.Taking.{taken_is, ahead_is}
-use Rattle.cbpf_grammar.proofs.Refused.{items_large, large_within, items_accepted, greedy_more, greedy_all, stuck_at}
-use Rattle.cbpf_grammar.specs.Refusals.{IsAccepted}
+use Rattle.cbpf_grammar.specs.Lexemes.{Lexeme}
+use Rattle.cbpf_grammar.specs.Items.{Item}
+use Rattle.cbpf_grammar.specs.Views.{lexeme_of, label_words}
 use Rattle.cbpf_text.specs.declared.name.Name.{Name}
 use Rattle.cbpf_text.specs.declared.fault.AsmKind.TheVariants as kinds
-use Rattle.cbpf_text.specs.declared.fault.AsmFault.{AsmFault}
-use Rattle.cbpf_text.specs.declared.placed_fault.PlacedFault.{PlacedFault}
-use Rattle.cbpf_text.specs.Refusals.{Reported, IsTokensFault, IsRefused, IsReportedAt}
-use Rattle.cbpf_text.specs.Refusals.IsTokensFault.{misplaced, large_negative, unfinished}
 use Rattle.cbpf_text.specs.Labels.{set_labels, AreDistinct}
 use Rattle.cbpf_text.specs.Tables.{Label, labels_of, labels_from, Resolves}
 use Rattle.cbpf_text.specs.declared.draft.Statement.{Statement}
@@ -36,7 +16,6 @@ use Rattle.cbpf_text.specs.Refusals.{IsItemsFault, IsFirstRepeat}
 use Rattle.cbpf_text.specs.Refusals.IsItemsFault.{no_item, too_many, set_twice}
 use Rattle.cbpf_text.specs.Assembled.{HasProgramLength}
 use Rattle.cbpf_text.proofs.Encoding.{statements_size, statements_more}
-use Rattle.cbpf_text.proofs.Faults.{refused_at}
 use Rattle.cbpf_text.proofs.LabelSteps.{words_from}
 use Rattle.cbpf_text.proofs.Lookups.{lookup_found}
 

@@ -1,7 +1,6 @@
 -- The refusals of a text whose items are read one by one, and what is kept of them.
 use Rattle.std.proofs.Common.{◌≡◌, refl, sym, ◌∙◌, ap, subst, ℕ, zero, suc, ◌+◌, ◌<◌, ◌≤◌, Bool, true, false, List, [], ◌∷◌, ◌++◌, length, map, take, drop, get_or, Option, Some, None, arith, append_assoc, append-nil, length-append, length-drop}
-use Rattle.std.specs.Prelude.{slice_get, is_some}
-use Rattle.std.proofs.lemmas.List.{map-append, length-map, length-take-le, drop-drop, drop_at}
+use Rattle.std.proofs.lemmas.List.{length-map, length-take-le, drop-drop, drop_at}
 use Rattle.cbpf_lex.specs.Tokens.{LexesTo}
 use Rattle.cbpf_grammar.specs.declared.lexeme.Lexeme as declared_lexeme
 use Rattle.cbpf_grammar.specs.declared.reader.SyntaxFault.TheVariants as refused
@@ -28,17 +27,9 @@ use Rattle.cbpf_text.specs.declared.fault.AsmFault.{AsmFault}
 use Rattle.cbpf_text.specs.declared.placed_fault.PlacedFault.{PlacedFault}
 use Rattle.cbpf_text.specs.Refusals.{Reported, IsTokensFault, IsRefused, IsReportedAt}
 use Rattle.cbpf_text.specs.Refusals.IsTokensFault.{misplaced, large_negative, unfinished}
-use Rattle.cbpf_text.specs.Labels.{set_labels, AreDistinct}
-use Rattle.cbpf_text.specs.Tables.{Label, labels_of, labels_from, Resolves}
 use Rattle.cbpf_text.specs.declared.draft.Statement.{Statement}
-use Rattle.cbpf_text.specs.Drafts.{IsStatement, AreSet, IsKept, IsExcess, IsDraft}
-use Rattle.cbpf_text.specs.Refusals.{IsItemsFault, IsFirstRepeat}
-use Rattle.cbpf_text.specs.Refusals.IsItemsFault.{no_item, too_many, set_twice}
-use Rattle.cbpf_text.specs.Assembled.{HasProgramLength}
-use Rattle.cbpf_text.proofs.Encoding.{statements_size, statements_more}
+use Rattle.cbpf_text.specs.Drafts.{AreSet, IsKept, IsDraft}
 use Rattle.cbpf_text.proofs.Faults.{refused_at}
-use Rattle.cbpf_text.proofs.LabelSteps.{words_from}
-use Rattle.cbpf_text.proofs.Lookups.{lookup_found}
 
 pub misplaced_reported : (ts : List Lexeme) (at : ℕ) → IsRefusedFor ts (refused.Misplaced at) → IsTokensFault ts kinds.Misplaced at
 misplaced_reported ts at h = subst (λ a. IsTokensFault ts kinds.Misplaced a) (sym h.2.2) (misplaced h.0 h.2.0 h.1 h.2.1)
