@@ -1,5 +1,5 @@
 use Rattle.std.proofs.lemmas.Grind.{common_steps}
-use Rattle.std.proofs.Common.{rules, arith}
+use Rattle.std.proofs.Common.{arith}
 use Rattle.cbpf_code.specs.CForm.{c_line}
 use Rattle.cbpf_code.proofs.WrittenLemmas.{loop-next, loop-stop, err-exit}
 use Rattle.cbpf_code.proofs.c_form.write_c.Goals as goal

@@ -1,4 +1,4 @@
-use Rattle.std.proofs.Common.{rules, arith}
+use Rattle.std.proofs.Common.{arith}
 use Rattle.cbpf_code.proofs.WrittenLemmas.{loop-next, loop-stop, err-exit}
 use Rattle.cbpf_code.proofs.writing.write_parts.Goals as goal
 

@@ -1,4 +1,4 @@
-use Rattle.std.proofs.Common.{rules, ◌≡◌, ◌+◌, ◌-◌, length, arith, sym, ap, ◌∙◌, inr, refl}
+use Rattle.std.proofs.Common.{◌≡◌, ◌+◌, ◌-◌, length, arith, sym, ap, ◌∙◌, inr, refl}
 use Rattle.cbpf_reply.specs.declared.reply.Place.{Place}
 use Rattle.std.proofs.lemmas.Option.{slice_get_within}
 use Rattle.cbpf_dbg.proofs.JoinedLemmas.{rest-none}

@@ -1,5 +1,4 @@
 use Rattle.cbpf_dbg.specs.Commands.{mark}
-use Rattle.std.proofs.Common.{[]}
 use Rattle.cbpf_reply.specs.Counts.{place_text}
 use Rattle.cbpf_jobs.proofs.SessionReplyLemmas.{text-ok}
 use Rattle.cbpf_jobs.proofs.perform.mark.Goals as goal

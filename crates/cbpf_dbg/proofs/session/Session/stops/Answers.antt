@@ -1,4 +1,4 @@
-use Rattle.std.proofs.Common.{rules, refl}
+use Rattle.std.proofs.Common.{refl}
 use Rattle.cbpf_machine.specs.Machine.{machine_of}
 use Rattle.cbpf_dbg.proofs.WholeLemmas.{Holds}
 use Rattle.std.proofs.Common.{arith}
