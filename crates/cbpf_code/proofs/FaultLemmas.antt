@@ -6,17 +6,22 @@ use Rattle.std.proofs.lemmas.Option.{slice_get_within, slice_get-get_or}
 use Rattle.cbpf_code.specs.declared.insn.Insn.{Insn}
 use Rattle.cbpf_code.specs.declared.opcode.Op.{Op}
 use Rattle.cbpf_code.specs.declared.checker.CheckFault.{CheckFault}
-use Rattle.cbpf_code.specs.declared.checker.CheckFault.TheVariants.{NoInstruction, TooMany, UnknownCode, NoSlot, ZeroDivisor, WideShift, JumpOutside, UnknownExtension, NoReturn, UnwrittenSlot}
+use Rattle.cbpf_code.specs.declared.checker.CheckFault.TheVariants.{NoInstruction, TooMany, UnknownCode, NoSlot}
+use Rattle.cbpf_code.specs.declared.checker.CheckFault.TheVariants.{ZeroDivisor, WideShift, JumpOutside}
+use Rattle.cbpf_code.specs.declared.checker.CheckFault.TheVariants.{UnknownExtension, NoReturn, UnwrittenSlot}
 use Rattle.cbpf_code.specs.Opcode.{op_of}
 use Rattle.cbpf_code.specs.Faults.{IsReturn, HasFault, FirstFault, rank, index_of}
 use Rattle.cbpf_code.specs.Sound.{IsSound}
 use Rattle.cbpf_code.specs.CheckSteps.{PassesBefore, IsWellFormed, IsAllowed, AllowedAt}
 use Rattle.cbpf_code.proofs.PathLemmas.{allowed_at-same}
 
-pub allowed_of : (list : List Insn) (m i : ℕ) (insn : Insn) (op : Op) → PassesBefore list m → i < m → slice_get list i ≡ Some insn → op_of insn.code ≡ Some op → IsAllowed op insn i (length list)
-allowed_of list m i insn op passed below here known = allowed_at-same list i insn op (passed.allowed i below) here known
+pub allowed_of : (list : List Insn) (m i : ℕ) (insn : Insn) (op : Op) → PassesBefore list m → i < m
+    → slice_get list i ≡ Some insn → op_of insn.code ≡ Some op → IsAllowed op insn i (length list)
+allowed_of list m i insn op passed below here known =
+    allowed_at-same list i insn op (passed.allowed i below) here known
 
-pub known_of : (list : List Insn) (m i : ℕ) (insn : Insn) → PassesBefore list m → i < m → slice_get list i ≡ Some insn → op_of insn.code ≡ None → ⊥
+pub known_of : (list : List Insn) (m i : ℕ) (insn : Insn) → PassesBefore list m → i < m → slice_get list i ≡ Some insn
+    → op_of insn.code ≡ None → ⊥
 known_of list m i insn passed below here unknown =
     let a = passed.allowed i below in
     let same : a.0 ≡ insn = cc in
@@ -31,10 +36,12 @@ inside : (i m : ℕ) → (2 < 2) ⊎ ((◌≡◌ {A = ℕ} 2 2) × (i < m)) → 
 inside i m (inl h) = absurd (omega arith)
 inside i m (inr h) = h.1
 
-pub passes_before-excludes : (list : List Insn) (m : ℕ) (f : CheckFault) → PassesBefore list m → Before m f → HasFault list f → ⊥
+pub passes_before-excludes : (list : List Insn) (m : ℕ) (f : CheckFault) → PassesBefore list m → Before m f
+    → HasFault list f → ⊥
 passes_before-excludes list m NoInstruction passed before st = let some = passed.some in omega arith
 passes_before-excludes list m TooMany passed before st = let few = passed.few in omega arith
-passes_before-excludes list m (UnknownCode i) passed before st = known_of list m i st.0 passed (inside i m before) st.1 st.2
+passes_before-excludes list m (UnknownCode i) passed before st =
+    known_of list m i st.0 passed (inside i m before) st.1 st.2
 passes_before-excludes list m (NoSlot i) passed before st =
     let a = allowed_of list m i st.0 st.1 passed (inside i m before) st.2 st.3 in
     a.slot st.4
@@ -50,19 +57,33 @@ passes_before-excludes list m (JumpOutside i) passed before st =
 passes_before-excludes list m (UnknownExtension i) passed before st =
     let a = allowed_of list m i st.0 st.1 passed (inside i m before) st.2 st.3 in
     a.extension st.4
-passes_before-excludes list m NoReturn passed before st = elim before [ inl h ↦ omega arith | inr h ↦ omega (arith, h.0) ]
-passes_before-excludes list m (UnwrittenSlot i) passed before st = elim before [ inl h ↦ omega arith | inr h ↦ omega (arith, h.0) ]
+passes_before-excludes list m NoReturn passed before st = elim before [
+  | inl h ↦ omega arith
+  | inr h ↦ omega (arith, h.0)
+]
+passes_before-excludes list m (UnwrittenSlot i) passed before st = elim before [
+  | inl h ↦ omega arith
+  | inr h ↦ omega (arith, h.0)
+]
 
 -- where all instructions passed and the last one is a return, only a slot can be refused
 pub well_formed-excludes : (list : List Insn) (f : CheckFault) → IsWellFormed list → rank f < 4 → HasFault list f → ⊥
-well_formed-excludes list NoInstruction formed g st = passes_before-excludes list _ NoInstruction formed.passed (inl (omega arith)) st
-well_formed-excludes list TooMany formed g st = passes_before-excludes list _ TooMany formed.passed (inl (omega arith)) st
-well_formed-excludes list (UnknownCode i) formed g st = passes_before-excludes list _ (UnknownCode i) formed.passed (inr (refl, slice_get_within list i st.0 st.1)) st
-well_formed-excludes list (NoSlot i) formed g st = passes_before-excludes list _ (NoSlot i) formed.passed (inr (refl, slice_get_within list i st.0 st.2)) st
-well_formed-excludes list (ZeroDivisor i) formed g st = passes_before-excludes list _ (ZeroDivisor i) formed.passed (inr (refl, slice_get_within list i st.0 st.2)) st
-well_formed-excludes list (WideShift i) formed g st = passes_before-excludes list _ (WideShift i) formed.passed (inr (refl, slice_get_within list i st.0 st.2)) st
-well_formed-excludes list (JumpOutside i) formed g st = passes_before-excludes list _ (JumpOutside i) formed.passed (inr (refl, slice_get_within list i st.0 st.2)) st
-well_formed-excludes list (UnknownExtension i) formed g st = passes_before-excludes list _ (UnknownExtension i) formed.passed (inr (refl, slice_get_within list i st.0 st.2)) st
+well_formed-excludes list NoInstruction formed g st =
+    passes_before-excludes list _ NoInstruction formed.passed (inl (omega arith)) st
+well_formed-excludes list TooMany formed g st =
+    passes_before-excludes list _ TooMany formed.passed (inl (omega arith)) st
+well_formed-excludes list (UnknownCode i) formed g st =
+    passes_before-excludes list _ (UnknownCode i) formed.passed (inr (refl, slice_get_within list i st.0 st.1)) st
+well_formed-excludes list (NoSlot i) formed g st =
+    passes_before-excludes list _ (NoSlot i) formed.passed (inr (refl, slice_get_within list i st.0 st.2)) st
+well_formed-excludes list (ZeroDivisor i) formed g st =
+    passes_before-excludes list _ (ZeroDivisor i) formed.passed (inr (refl, slice_get_within list i st.0 st.2)) st
+well_formed-excludes list (WideShift i) formed g st =
+    passes_before-excludes list _ (WideShift i) formed.passed (inr (refl, slice_get_within list i st.0 st.2)) st
+well_formed-excludes list (JumpOutside i) formed g st =
+    passes_before-excludes list _ (JumpOutside i) formed.passed (inr (refl, slice_get_within list i st.0 st.2)) st
+well_formed-excludes list (UnknownExtension i) formed g st = passes_before-excludes list _ (UnknownExtension i)
+    formed.passed (inr (refl, slice_get_within list i st.0 st.2)) st
 well_formed-excludes list NoReturn formed g st =
     let some = formed.passed.some in
     let last : (length list - 1) + 1 ≡ length list = omega arith in
@@ -70,21 +91,30 @@ well_formed-excludes list NoReturn formed g st =
 well_formed-excludes list (UnwrittenSlot i) formed g st = absurd (omega arith)
 
 -- where all passed, none but those of the last instruction and of slots
-pub passes_all-excludes : (list : List Insn) (f : CheckFault) → PassesBefore list (length list) → rank f < 3 → HasFault list f → ⊥
-passes_all-excludes list NoInstruction passed g st = passes_before-excludes list _ NoInstruction passed (inl (omega arith)) st
+pub passes_all-excludes : (list : List Insn) (f : CheckFault) → PassesBefore list (length list) → rank f < 3
+    → HasFault list f → ⊥
+passes_all-excludes list NoInstruction passed g st =
+    passes_before-excludes list _ NoInstruction passed (inl (omega arith)) st
 passes_all-excludes list TooMany passed g st = passes_before-excludes list _ TooMany passed (inl (omega arith)) st
-passes_all-excludes list (UnknownCode i) passed g st = passes_before-excludes list _ (UnknownCode i) passed (inr (refl, slice_get_within list i st.0 st.1)) st
-passes_all-excludes list (NoSlot i) passed g st = passes_before-excludes list _ (NoSlot i) passed (inr (refl, slice_get_within list i st.0 st.2)) st
-passes_all-excludes list (ZeroDivisor i) passed g st = passes_before-excludes list _ (ZeroDivisor i) passed (inr (refl, slice_get_within list i st.0 st.2)) st
-passes_all-excludes list (WideShift i) passed g st = passes_before-excludes list _ (WideShift i) passed (inr (refl, slice_get_within list i st.0 st.2)) st
-passes_all-excludes list (JumpOutside i) passed g st = passes_before-excludes list _ (JumpOutside i) passed (inr (refl, slice_get_within list i st.0 st.2)) st
-passes_all-excludes list (UnknownExtension i) passed g st = passes_before-excludes list _ (UnknownExtension i) passed (inr (refl, slice_get_within list i st.0 st.2)) st
+passes_all-excludes list (UnknownCode i) passed g st =
+    passes_before-excludes list _ (UnknownCode i) passed (inr (refl, slice_get_within list i st.0 st.1)) st
+passes_all-excludes list (NoSlot i) passed g st =
+    passes_before-excludes list _ (NoSlot i) passed (inr (refl, slice_get_within list i st.0 st.2)) st
+passes_all-excludes list (ZeroDivisor i) passed g st =
+    passes_before-excludes list _ (ZeroDivisor i) passed (inr (refl, slice_get_within list i st.0 st.2)) st
+passes_all-excludes list (WideShift i) passed g st =
+    passes_before-excludes list _ (WideShift i) passed (inr (refl, slice_get_within list i st.0 st.2)) st
+passes_all-excludes list (JumpOutside i) passed g st =
+    passes_before-excludes list _ (JumpOutside i) passed (inr (refl, slice_get_within list i st.0 st.2)) st
+passes_all-excludes list (UnknownExtension i) passed g st =
+    passes_before-excludes list _ (UnknownExtension i) passed (inr (refl, slice_get_within list i st.0 st.2)) st
 passes_all-excludes list NoReturn passed g st = absurd (omega arith)
 passes_all-excludes list (UnwrittenSlot i) passed g st = absurd (omega arith)
 
 -- ---- the first one
 
-pub first_fault-insn : (list : List Insn) (m : ℕ) (e : CheckFault) → PassesBefore list m → HasFault list e → rank e ≡ 2 → index_of e ≡ m → FirstFault list e
+pub first_fault-insn : (list : List Insn) (m : ℕ) (e : CheckFault) → PassesBefore list m → HasFault list e
+    → rank e ≡ 2 → index_of e ≡ m → FirstFault list e
 first_fault-insn list m e passed st g at = record {
   present = st;
   none_earlier = λ f earlier there. elim earlier [
@@ -93,13 +123,18 @@ first_fault-insn list m e passed st g at = record {
   ];
 }
 
-pub first_fault-end : (list : List Insn) → PassesBefore list (length list) → HasFault list NoReturn → FirstFault list NoReturn
+pub first_fault-end : (list : List Insn) → PassesBefore list (length list) → HasFault list NoReturn
+    → FirstFault list NoReturn
 first_fault-end list passed st = record {
   present = st;
-  none_earlier = λ f earlier there. elim earlier [ inl h ↦ passes_all-excludes list f passed h there | inr h ↦ absurd (omega (arith, h.1)) ];
+  none_earlier = λ f earlier there. elim earlier [
+    | inl h ↦ passes_all-excludes list f passed h there
+    | inr h ↦ absurd (omega (arith, h.1))
+  ];
 }
 
-unwritten_only : (list : List Insn) (i : ℕ) (f : CheckFault) → ((j : ℕ) → j < i → HasFault list (UnwrittenSlot j) → ⊥) → rank f ≡ 4 → index_of f < i → HasFault list f → ⊥
+unwritten_only : (list : List Insn) (i : ℕ) (f : CheckFault) → ((j : ℕ) → j < i → HasFault list (UnwrittenSlot j) → ⊥)
+    → rank f ≡ 4 → index_of f < i → HasFault list f → ⊥
 unwritten_only list i NoInstruction none g p st = absurd (omega arith)
 unwritten_only list i TooMany none g p st = absurd (omega arith)
 unwritten_only list i (UnknownCode j) none g p st = absurd (omega arith)
@@ -111,13 +146,18 @@ unwritten_only list i (UnknownExtension j) none g p st = absurd (omega arith)
 unwritten_only list i NoReturn none g p st = absurd (omega arith)
 unwritten_only list i (UnwrittenSlot j) none g p st = none j p st
 
-pub first_fault-slot : (list : List Insn) (i : ℕ) → IsWellFormed list → HasFault list (UnwrittenSlot i) → ((j : ℕ) → j < i → HasFault list (UnwrittenSlot j) → ⊥) → FirstFault list (UnwrittenSlot i)
+pub first_fault-slot : (list : List Insn) (i : ℕ) → IsWellFormed list → HasFault list (UnwrittenSlot i)
+    → ((j : ℕ) → j < i → HasFault list (UnwrittenSlot j) → ⊥) → FirstFault list (UnwrittenSlot i)
 first_fault-slot list i formed st none = record {
   present = st;
-  none_earlier = λ f earlier there. elim earlier [ inl h ↦ well_formed-excludes list f formed h there | inr h ↦ unwritten_only list i f none h.0 h.1 there ];
+  none_earlier = λ f earlier there. elim earlier [
+    | inl h ↦ well_formed-excludes list f formed h there
+    | inr h ↦ unwritten_only list i f none h.0 h.1 there
+  ];
 }
 
-none_present : (list : List Insn) → IsWellFormed list → ((j : ℕ) → HasFault list (UnwrittenSlot j) → ⊥) → (f : CheckFault) → HasFault list f → ⊥
+none_present : (list : List Insn) → IsWellFormed list → ((j : ℕ) → HasFault list (UnwrittenSlot j) → ⊥)
+    → (f : CheckFault) → HasFault list f → ⊥
 none_present list formed none NoInstruction st = well_formed-excludes list NoInstruction formed (omega arith) st
 none_present list formed none TooMany st = well_formed-excludes list TooMany formed (omega arith) st
 none_present list formed none (UnknownCode i) st = well_formed-excludes list (UnknownCode i) formed (omega arith) st
@@ -125,7 +165,8 @@ none_present list formed none (NoSlot i) st = well_formed-excludes list (NoSlot 
 none_present list formed none (ZeroDivisor i) st = well_formed-excludes list (ZeroDivisor i) formed (omega arith) st
 none_present list formed none (WideShift i) st = well_formed-excludes list (WideShift i) formed (omega arith) st
 none_present list formed none (JumpOutside i) st = well_formed-excludes list (JumpOutside i) formed (omega arith) st
-none_present list formed none (UnknownExtension i) st = well_formed-excludes list (UnknownExtension i) formed (omega arith) st
+none_present list formed none (UnknownExtension i) st =
+    well_formed-excludes list (UnknownExtension i) formed (omega arith) st
 none_present list formed none NoReturn st = well_formed-excludes list NoReturn formed (omega arith) st
 none_present list formed none (UnwrittenSlot i) st = none i st
 
@@ -133,19 +174,25 @@ pub sound_of : (list : List Insn) → IsWellFormed list → ((j : ℕ) → HasFa
 sound_of list formed none = record { none = none_present list formed none }
 
 -- one more instruction passed
-pub passes_before-next : (list : List Insn) (m : ℕ) → PassesBefore list m → AllowedAt list m → PassesBefore list (m + 1)
+pub passes_before-next : (list : List Insn) (m : ℕ) → PassesBefore list m → AllowedAt list m
+    → PassesBefore list (m + 1)
 passes_before-next list m passed here = record {
   some = passed.some;
   few = passed.few;
-  allowed = λ j below. elim (cases_eq j m) [ inl e ↦ subst (AllowedAt list) (sym e) here | inr n ↦ passed.allowed j (omega arith) ];
+  allowed = λ j below. elim (cases_eq j m) [
+    | inl e ↦ subst (AllowedAt list) (sym e) here
+    | inr n ↦ passed.allowed j (omega arith)
+  ];
 }
 
-pub well_formed_of : (list : List Insn) (last : Insn) → PassesBefore list (length list) → slice_get list (length list - 1) ≡ Some last → IsReturn last → IsWellFormed list
+pub well_formed_of : (list : List Insn) (last : Insn) → PassesBefore list (length list)
+    → slice_get list (length list - 1) ≡ Some last → IsReturn last → IsWellFormed list
 well_formed_of list last passed here returns = record {
   passed = passed;
   ends = λ insn i at_end there.
       let e : i ≡ length list - 1 = omega arith in
-      let at_last : slice_get list (length list - 1) ≡ Some insn = subst (λ k. slice_get list k ≡ Some insn) e there in
+      let at_last : slice_get list (length list - 1) ≡ Some insn =
+      subst (λ k. slice_get list k ≡ Some insn) e there in
       let same : last ≡ insn = cc in
       subst IsReturn same returns;
 }
@@ -154,15 +201,18 @@ well_formed_of list last passed here returns = record {
 abbrev pub zero_insn : Insn
 zero_insn = record { code = 0; jt = 0; jf = 0; k = 0 }
 
-slice_get-last : (list : List Insn) → 0 < length list → slice_get list (length list - 1) ≡ Some (get_or list (length list - 1) zero_insn)
+slice_get-last : (list : List Insn) → 0 < length list
+    → slice_get list (length list - 1) ≡ Some (get_or list (length list - 1) zero_insn)
 slice_get-last list some = slice_get-get_or list (length list - 1) zero_insn (omega arith)
 
-pub well_formed-at_end : (list : List Insn) (i : ℕ) → PassesBefore list i → i ≡ length list → IsReturn (get_or list (length list - 1) zero_insn) → IsWellFormed list
+pub well_formed-at_end : (list : List Insn) (i : ℕ) → PassesBefore list i → i ≡ length list
+    → IsReturn (get_or list (length list - 1) zero_insn) → IsWellFormed list
 well_formed-at_end list i passed all returns =
     let whole = subst (PassesBefore list) all passed in
     well_formed_of list _ whole (slice_get-last list whole.some) returns
 
-pub first_fault-at_end : (list : List Insn) (i : ℕ) → PassesBefore list i → i ≡ length list → (IsReturn (get_or list (length list - 1) zero_insn) → ⊥) → FirstFault list NoReturn
+pub first_fault-at_end : (list : List Insn) (i : ℕ) → PassesBefore list i → i ≡ length list
+    → (IsReturn (get_or list (length list - 1) zero_insn) → ⊥) → FirstFault list NoReturn
 first_fault-at_end list i passed all never =
     let whole = subst (PassesBefore list) all passed in
     first_fault-end list whole (_, slice_get-last list whole.some, never)

@@ -8,10 +8,13 @@ use Rattle.cbpf_code.specs.declared.opcode.Op.TheVariants.{LdAbs, LdMem, LdxMem,
 use Rattle.cbpf_code.specs.declared.opcode.AluOp.TheVariants.{Div, Mod, Lsh, Rsh}
 use Rattle.cbpf_code.specs.declared.opcode.Src.TheVariants.{K}
 use Rattle.cbpf_code.specs.declared.checker.CheckFault.{CheckFault}
-use Rattle.cbpf_code.specs.declared.checker.CheckFault.TheVariants.{NoInstruction, TooMany, UnknownCode, NoSlot, ZeroDivisor, WideShift, JumpOutside, UnknownExtension, NoReturn, UnwrittenSlot}
+use Rattle.cbpf_code.specs.declared.checker.CheckFault.TheVariants.{NoInstruction, TooMany, UnknownCode, NoSlot}
+use Rattle.cbpf_code.specs.declared.checker.CheckFault.TheVariants.{ZeroDivisor, WideShift, JumpOutside}
+use Rattle.cbpf_code.specs.declared.checker.CheckFault.TheVariants.{UnknownExtension, NoReturn, UnwrittenSlot}
 use Rattle.cbpf_code.specs.Opcode.{op_of}
 use Rattle.cbpf_code.specs.ControlFlow.{IsTarget}
-use Rattle.cbpf_code.specs.Faults.{HasFault, FirstFault, rank, index_of, uses_slot, divides_by_k, shifts_by_k, loads_absolute}
+use Rattle.cbpf_code.specs.Faults.{HasFault, FirstFault, rank, index_of, uses_slot, divides_by_k, shifts_by_k}
+use Rattle.cbpf_code.specs.Faults.{loads_absolute}
 
 -- the number of a refusal, and the refusal of a number at an index
 abbrev number : CheckFault → ℕ
@@ -52,7 +55,8 @@ fault_of-number NoReturn = refl
 fault_of-number (UnwrittenSlot i) = refl
 
 same_number : (e f : CheckFault) → number e ≡ number f → index_of e ≡ index_of f → e ≡ f
-same_number e f n i = sym (fault_of-number e) ∙ ap (λ m. fault_of m (index_of e)) n ∙ ap (fault_of (number f)) i ∙ fault_of-number f
+same_number e f n i =
+    sym (fault_of-number e) ∙ ap (λ m. fault_of m (index_of e)) n ∙ ap (fault_of (number f)) i ∙ fault_of-number f
 
 -- the one number of C4 to C8 that an operation can be refused by, or 0
 abbrev number_for : Op → ℕ
@@ -104,7 +108,8 @@ for_extension _ h = absurd (cc)
 abbrev NumberAt : List Insn → ℕ → ℕ → Type 0
 NumberAt list i n = (insn : Insn) × (slice_get list i ≡ Some insn) × (number_by_code (op_of insn.code) ≡ n)
 
-number_at-known : (list : List Insn) (i n : ℕ) (insn : Insn) (op : Op) → slice_get list i ≡ Some insn → op_of insn.code ≡ Some op → number_for op ≡ n → NumberAt list i n
+number_at-known : (list : List Insn) (i n : ℕ) (insn : Insn) (op : Op) → slice_get list i ≡ Some insn
+    → op_of insn.code ≡ Some op → number_for op ≡ n → NumberAt list i n
 number_at-known list i n insn op here known is = (insn, here, ap number_by_code known ∙ is)
 
 number_at : (list : List Insn) (e : CheckFault) → rank e ≡ 2 → HasFault list e → NumberAt list (index_of e) (number e)
@@ -112,8 +117,10 @@ number_at list (UnknownCode i) r has = (has.0, has.1, ap number_by_code has.2)
 number_at list (NoSlot i) r has = number_at-known list i 4 has.0 has.1 has.2 has.3 (for_slot has.1 has.4.0)
 number_at list (ZeroDivisor i) r has = number_at-known list i 5 has.0 has.1 has.2 has.3 (for_divisor has.1 has.4.0)
 number_at list (WideShift i) r has = number_at-known list i 6 has.0 has.1 has.2 has.3 (for_shift has.1 has.4.0)
-number_at list (JumpOutside i) r has = number_at-known list i 7 has.0 has.1 has.2 has.3 (for_target has.1 has.0 i has.4.0 has.4.1)
-number_at list (UnknownExtension i) r has = number_at-known list i 8 has.0 has.1 has.2 has.3 (for_extension has.1 has.4.0)
+number_at list (JumpOutside i) r has =
+    number_at-known list i 7 has.0 has.1 has.2 has.3 (for_target has.1 has.0 i has.4.0 has.4.1)
+number_at list (UnknownExtension i) r has =
+    number_at-known list i 8 has.0 has.1 has.2 has.3 (for_extension has.1 has.4.0)
 number_at list NoInstruction r has = absurd (omega arith)
 number_at list TooMany r has = absurd (omega arith)
 number_at list NoReturn r has = absurd (omega arith)
@@ -141,19 +148,25 @@ number-by_rank (JumpOutside i) never = absurd (never refl)
 number-by_rank (UnknownExtension i) never = absurd (never refl)
 
 -- two faults of one rank and index that a list has are the same
-same_place : (list : List Insn) (e f : CheckFault) → rank e ≡ rank f → index_of e ≡ index_of f → HasFault list e → HasFault list f → e ≡ f
+same_place : (list : List Insn) (e f : CheckFault) → rank e ≡ rank f → index_of e ≡ index_of f → HasFault list e
+    → HasFault list f → e ≡ f
 same_place list e f ranks indexes has_e has_f =
     elim (cases_eq (rank e) 2) [
       | inl two ↦
           let at_e = subst (λ i. NumberAt list i (number e)) indexes (number_at list e two has_e) in
-          same_number e f (number_at-same list (index_of f) (number e) (number f) at_e (number_at list f (sym ranks ∙ two) has_f)) indexes
+          same_number e f
+          (number_at-same list (index_of f) (number e) (number f) at_e (number_at list f (sym ranks ∙ two) has_f))
+          indexes
       | inr never ↦
           let never_f : rank f ≡ 2 → ⊥ = λ two. never (ranks ∙ two) in
           same_number e f (number-by_rank e never ∙ ap number_of_rank ranks ∙ sym (number-by_rank f never_f)) indexes
     ]
 
 order : (a b : ℕ) → (a < b) ⊎ ((b < a) ⊎ (a ≡ b))
-order a b = elim (cases_lt a b) [ inl h ↦ inl h | inr h ↦ elim (cases_eq a b) [ inl e ↦ inr (inr e) | inr n ↦ inr (inl (omega arith)) ] ]
+order a b = elim (cases_lt a b) [
+  | inl h ↦ inl h
+  | inr h ↦ elim (cases_eq a b) [ inl e ↦ inr (inr e) | inr n ↦ inr (inl (omega arith)) ]
+]
 
 pub first_fault-unique : (list : List Insn) (e f : CheckFault) → FirstFault list e → FirstFault list f → f ≡ e
 first_fault-unique list e f one two =

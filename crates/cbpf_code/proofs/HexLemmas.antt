@@ -1,5 +1,7 @@
 -- Hexadecimal digits by places are those of `hex`.
-use Rattle.std.proofs.Common.{◌≡◌, ℕ, zero, suc, ◌+◌, ◌-◌, ◌/◌, ◌%◌, ◌^◌, ◌<◌, ◌≤◌, Bool, true, false, cond, List, [], ◌∷◌, ◌++◌, length, drop, refl, sym, ap, ◌∙◌, arith, append_assoc, append-nil, length-append, length-drop, take, take_all, ne_eqb, ltb-true, ltb-false}
+use Rattle.std.proofs.Common.{◌≡◌, ℕ, zero, suc, ◌+◌, ◌-◌, ◌/◌, ◌%◌, ◌^◌, ◌<◌, ◌≤◌, Bool, true, false, cond, List, []}
+use Rattle.std.proofs.Common.{◌∷◌, ◌++◌, length, drop, refl, sym, ap, ◌∙◌, arith, append_assoc, append-nil}
+use Rattle.std.proofs.Common.{length-append, length-drop, take, take_all, ne_eqb, ltb-true, ltb-false}
 use Rattle.std.specs.Prelude.{nat_lt, max}
 use Rattle.std.specs.List.{repeat}
 use Rattle.std.specs.Fmt.{digit_glyph, digits, digits_onto}
@@ -12,14 +14,16 @@ HasPlaces zero n = ⊥
 HasPlaces (suc zero) n = n < 16
 HasPlaces (suc (suc p)) n = (16 ≤ n) × HasPlaces (suc p) (n / 16)
 
-onto-places : (k p n : ℕ) (acc : List ℕ) → p ≤ k → HasPlaces p n → digits_onto k 16 false n acc ≡ hex_digits p n ++ acc
+onto-places : (k p n : ℕ) (acc : List ℕ) → p ≤ k → HasPlaces p n
+    → digits_onto k 16 false n acc ≡ hex_digits p n ++ acc
 onto-places k zero n acc l h = absurd h
 onto-places zero (suc p) n acc l h = absurd (omega arith)
 onto-places (suc k) (suc zero) n acc l h = let z : n / 16 ≡ 0 = omega arith in rw z refl
 onto-places (suc k) (suc (suc p)) n acc l h =
     let few : 16 ≤ n = h.0 in
     rw (ne_eqb (n / 16) 0 (λ e. omega (arith, e, few)))
-    (onto-places k (suc p) (n / 16) (digit_glyph false (n % 16) ∷ acc) (omega arith) h.1 ∙ sym (append_assoc (hex_digits (suc p) (n / 16)) (digit_glyph false (n % 16) ∷ []) acc))
+    (onto-places k (suc p) (n / 16) (digit_glyph false (n % 16) ∷ acc) (omega arith) h.1
+    ∙ sym (append_assoc (hex_digits (suc p) (n / 16)) (digit_glyph false (n % 16) ∷ []) acc))
 
 digits-places : (p n : ℕ) → p ≤ 64 → HasPlaces p n → digits 16 false n ≡ hex_digits p n
 unfolding digits
@@ -53,12 +57,14 @@ zeros-front m (suc zero) n h =
     rw e (ap (λ (t : List ℕ). t ++ digit_glyph false (n % 16) ∷ []) (hex_digits-zero m (n / 16) z))
 zeros-front m (suc (suc p)) n h =
     let e : m + suc (suc p) ≡ suc (m + suc p) = omega arith in
-    rw e (ap (λ (t : List ℕ). t ++ digit_glyph false (n % 16) ∷ []) (zeros-front m (suc p) (n / 16) h.1) ∙ append_assoc (zeros m) (hex_digits (suc p) (n / 16)) (digit_glyph false (n % 16) ∷ []))
+    rw e (ap (λ (t : List ℕ). t ++ digit_glyph false (n % 16) ∷ []) (zeros-front m (suc p) (n / 16) h.1)
+    ∙ append_assoc (zeros m) (hex_digits (suc p) (n / 16)) (digit_glyph false (n % 16) ∷ []))
 
 drop-zeros : (j m : ℕ) (ys : List ℕ) → j ≤ m → drop j (zeros m ++ ys) ≡ zeros (m - j) ++ ys
 drop-zeros zero m ys l = let e : m - 0 ≡ m = omega arith in rw e refl
 drop-zeros (suc j) zero ys l = absurd (omega arith)
-drop-zeros (suc j) (suc m) ys l = let e : suc m - suc j ≡ m - j = omega arith in rw e (drop-zeros j m ys (omega arith))
+drop-zeros (suc j) (suc m) ys l = let e : suc m - suc j ≡ m - j = omega arith in
+    rw e (drop-zeros j m ys (omega arith))
 
 hex-given : (least n p : ℕ) → p ≤ 8 → HasPlaces p n → hex least n ≡ zeros (least - p) ++ hex_digits p n
 hex-given least n p l h = rw (digits-places p n (omega arith) h, length-hex_digits p n) refl
@@ -76,7 +82,8 @@ hex-of least n p l m h =
     ∙ drop-zeros (8 - max least p) (8 - p) (hex_digits p n) (omega arith)
     ∙ ap (λ q. zeros q ++ hex_digits p n) left)
 
-hex-step : (least n bound p q : ℕ) → (n < bound → HexOf least n p) → (bound ≤ n → HexOf least n q) → (t : Bool) → nat_lt n bound ≡ t → HexOf least n (cond t p q)
+hex-step : (least n bound p q : ℕ) → (n < bound → HexOf least n p) → (bound ≤ n → HexOf least n q) → (t : Bool)
+    → nat_lt n bound ≡ t → HexOf least n (cond t p q)
 hex-step least n bound p q low high true e = low (ltb-true n bound e)
 hex-step least n bound p q low high false e = high (ltb-false n bound e)
 
@@ -85,14 +92,22 @@ hex-places least n m l =
     hex-step least n 16 1 _ (λ h. hex-of least n 1 (omega arith) m h)
     (λ a. hex-step least n 256 2 _ (λ h. hex-of least n 2 (omega arith) m (a, omega arith))
     (λ a. hex-step least n 4096 3 _ (λ h. hex-of least n 3 (omega arith) m (omega arith, (omega arith, omega arith)))
-    (λ a. hex-step least n 65536 4 _ (λ h. hex-of least n 4 (omega arith) m (omega arith, (omega arith, (omega arith, omega arith))))
-    (λ a. hex-step least n 1048576 5 _ (λ h. hex-of least n 5 (omega arith) m (omega arith, (omega arith, (omega arith, (omega arith, omega arith)))))
-    (λ a. hex-step least n 16777216 6 _ (λ h. hex-of least n 6 (omega arith) m (omega arith, (omega arith, (omega arith, (omega arith, (omega arith, omega arith))))))
-    (λ a. hex-step least n 268435456 7 8 (λ h. hex-of least n 7 (omega arith) m (omega arith, (omega arith, (omega arith, (omega arith, (omega arith, (omega arith, omega arith)))))))
-    (λ a. hex-of least n 8 (omega arith) m (omega arith, (omega arith, (omega arith, (omega arith, (omega arith, (omega arith, (omega arith, omega arith)))))))) _ refl) _ refl) _ refl) _ refl) _ refl) _ refl) _ refl
+    (λ a. hex-step least n 65536 4 _
+    (λ h. hex-of least n 4 (omega arith) m (omega arith, (omega arith, (omega arith, omega arith))))
+    (λ a. hex-step least n 1048576 5 _
+    (λ h. hex-of least n 5 (omega arith) m (omega arith, (omega arith, (omega arith, (omega arith, omega arith)))))
+    (λ a. hex-step least n 16777216 6 _ (λ h. hex-of least n 6 (omega arith) m
+    (omega arith, (omega arith, (omega arith, (omega arith, (omega arith, omega arith))))))
+    (λ a. hex-step least n 268435456 7 8 (λ h. hex-of least n 7 (omega arith) m
+    (omega arith, (omega arith, (omega arith, (omega arith, (omega arith, (omega arith, omega arith)))))))
+    (λ a. hex-of least n 8 (omega arith) m (
+      omega arith,
+      (omega arith, (omega arith, (omega arith, (omega arith, (omega arith, (omega arith, omega arith)))))),
+    )) _ refl) _ refl) _ refl) _ refl) _ refl) _ refl) _ refl
 
 few_places : (n : ℕ) → hex_places n ≤ 8
-few_places n = by (nat_lt n 16) (nat_lt n 256) (nat_lt n 4096) (nat_lt n 65536) (nat_lt n 1048576) (nat_lt n 16777216) (nat_lt n 268435456)
+few_places n = by (nat_lt n 16) (nat_lt n 256) (nat_lt n 4096) (nat_lt n 65536) (nat_lt n 1048576) (nat_lt n 16777216)
+    (nat_lt n 268435456)
   where
     by : (a b c d e f g : Bool) → cond a 1 (cond b 2 (cond c 3 (cond d 4 (cond e 5 (cond f 6 (cond g 7 8)))))) ≤ 8
     by true b c d e f g = omega arith
@@ -120,7 +135,8 @@ hex-two b l = by (nat_lt b 16) refl
     by false e = hex-given 2 b 2 (omega arith) (ltb-false b 16 e, omega arith)
 
 -- a slice of eight digits
-pub hex-slice : (least n r : ℕ) (ds : List ℕ) → ds ≡ hex_digits 8 n → r ≡ max (hex_places n) least → least ≤ 8 → n < 2 ^ 32 → take (8 - (8 - r)) (drop (8 - r) ds) ≡ hex least n
+pub hex-slice : (least n r : ℕ) (ds : List ℕ) → ds ≡ hex_digits 8 n → r ≡ max (hex_places n) least → least ≤ 8
+    → n < 2 ^ 32 → take (8 - (8 - r)) (drop (8 - r) ds) ≡ hex least n
 hex-slice least n r ds e p m l =
     let long : length ds ≡ 8 = ap (λ (t : List ℕ). length t) e ∙ length-hex_digits 8 n in
     let same : 8 - r ≡ 8 - max least (hex_places n) = omega (arith, p) in

@@ -1,5 +1,6 @@
 -- Paths through a list of instructions, and the masks that stand for them.
-use Rattle.std.proofs.Common.{◌≡◌, ℕ, ◌+◌, ◌<◌, List, length, get_or, replicate, arith, refl, sym, ◌∙◌, subst, inl, inr}
+use Rattle.std.proofs.Common.{◌≡◌, ℕ, ◌+◌, ◌<◌, List, length, get_or, replicate, arith, refl, sym, ◌∙◌, subst, inl}
+use Rattle.std.proofs.Common.{inr}
 use Rattle.std.specs.Prelude.{◌⊎◌, Option, Some, IsTrue, slice_get, slice_set, slice_index}
 use Rattle.std.proofs.lemmas.Bool.{cases_eq, cases_lt}
 use Rattle.std.proofs.lemmas.Nat.Bits.{bit_at-zero, bit_at_ones}
@@ -12,7 +13,8 @@ use Rattle.cbpf_code.specs.declared.opcode.Op.{Op}
 use Rattle.cbpf_code.specs.declared.opcode.Op.TheVariants.{LdMem, LdxMem, St, Stx, Ja, Jump, RetK, RetA}
 use Rattle.cbpf_code.specs.declared.checker.CheckFault.TheVariants.{UnwrittenSlot}
 use Rattle.cbpf_code.specs.Opcode.{op_of}
-use Rattle.cbpf_code.specs.ControlFlow.{InsnAt, Follows, FollowsCode, IsSuccessor, StoresSlot, MayBeUnwritten, loads_slot, stores_slot}
+use Rattle.cbpf_code.specs.ControlFlow.{InsnAt, Follows, FollowsCode, IsSuccessor, StoresSlot, MayBeUnwritten}
+use Rattle.cbpf_code.specs.ControlFlow.{loads_slot, stores_slot}
 use Rattle.cbpf_code.specs.ControlFlow.MayBeUnwritten.{at_start, onward}
 use Rattle.cbpf_code.specs.Faults.{uses_slot, HasFault}
 use Rattle.cbpf_code.specs.CheckSteps.{IsWellFormed, IsAllowed, AllowedAt}
@@ -20,29 +22,36 @@ use Rattle.cbpf_code.specs.SlotMasks.{InMask, InMaskOf, LeavesUnwritten, AddsToM
 
 -- ---- an instruction of a list
 
-pub insn_at-same : (list : List Insn) (i : ℕ) (Has : Op → Insn → Type 0) (insn : Insn) (op : Op) → InsnAt list i Has → slice_get list i ≡ Some insn → op_of insn.code ≡ Some op → Has op insn
+pub insn_at-same : (list : List Insn) (i : ℕ) (Has : Op → Insn → Type 0) (insn : Insn) (op : Op) → InsnAt list i Has
+    → slice_get list i ≡ Some insn → op_of insn.code ≡ Some op → Has op insn
 insn_at-same list i Has insn op a here known =
     let same_insn : a.0 ≡ insn = cc in
     let known_here : op_of insn.code ≡ Some a.1 = subst (λ (x : Insn). op_of x.code ≡ Some a.1) same_insn a.3 in
     let same_op : a.1 ≡ op = cc in
     subst (λ o. Has o insn) same_op (subst (λ x. Has a.1 x) same_insn a.4)
 
-pub allowed_at-same : (list : List Insn) (i : ℕ) (insn : Insn) (op : Op) → AllowedAt list i → slice_get list i ≡ Some insn → op_of insn.code ≡ Some op → IsAllowed op insn i (length list)
-allowed_at-same list i insn op a here known = insn_at-same list i (λ o x. IsAllowed o x i (length list)) insn op a here known
+pub allowed_at-same : (list : List Insn) (i : ℕ) (insn : Insn) (op : Op) → AllowedAt list i
+    → slice_get list i ≡ Some insn → op_of insn.code ≡ Some op → IsAllowed op insn i (length list)
+allowed_at-same list i insn op a here known =
+    insn_at-same list i (λ o x. IsAllowed o x i (length list)) insn op a here known
 
-successor-same : (list : List Insn) (i t : ℕ) (insn : Insn) (op : Op) → IsSuccessor list i t → slice_get list i ≡ Some insn → op_of insn.code ≡ Some op → Follows op insn i t
+successor-same : (list : List Insn) (i t : ℕ) (insn : Insn) (op : Op) → IsSuccessor list i t
+    → slice_get list i ≡ Some insn → op_of insn.code ≡ Some op → Follows op insn i t
 successor-same list i t insn op next here known =
     let same : next.0 ≡ insn = cc in
     subst (λ o. FollowsCode o insn i t) known (subst (λ (x : Insn). FollowsCode (op_of x.code) x i t) same next.2)
 
-successor_of : (list : List Insn) (i t : ℕ) (insn : Insn) (op : Op) → slice_get list i ≡ Some insn → op_of insn.code ≡ Some op → Follows op insn i t → IsSuccessor list i t
-successor_of list i t insn op here known follows = (insn, here, subst (λ o. FollowsCode o insn i t) (sym known) follows)
+successor_of : (list : List Insn) (i t : ℕ) (insn : Insn) (op : Op) → slice_get list i ≡ Some insn
+    → op_of insn.code ≡ Some op → Follows op insn i t → IsSuccessor list i t
+successor_of list i t insn op here known follows =
+    (insn, here, subst (λ o. FollowsCode o insn i t) (sym known) follows)
 
 -- ---- paths
 
 -- t is the first instruction, or one below m passes slot s on to it unwritten
 abbrev pub ReachedUnwritten : List Insn → ℕ → ℕ → ℕ → Type 0
-ReachedUnwritten list s m t = (t ≡ 0) ⊎ ((h : ℕ) × (h < m) × MayBeUnwritten list s h × (StoresSlot list h s → ⊥) × IsSuccessor list h t)
+ReachedUnwritten list s m t =
+    (t ≡ 0) ⊎ ((h : ℕ) × (h < m) × MayBeUnwritten list s h × (StoresSlot list h s → ⊥) × IsSuccessor list h t)
 
 pub unwritten_at-reached : (list : List Insn) (s i : ℕ) → ReachedUnwritten list s i i → MayBeUnwritten list s i
 unwritten_at-reached list s i (inl first) = subst (MayBeUnwritten list s) (sym first) at_start
@@ -60,7 +69,10 @@ pub record TracksPaths (list : List Insn) (m : ℕ) (masks : List ℕ) : Type 0 
   pub written : (j : ℕ) → j < m → HasFault list (UnwrittenSlot j) → ⊥
 
 get_or-zeros : (n t : ℕ) → ◌≡◌ {A = ℕ} (get_or (replicate n 0) t 0) 0
-get_or-zeros n t = elim (cases_lt t n) [ inl h ↦ get_or-replicate n t 0 0 h | inr h ↦ get_or-eq_default (replicate n 0) 0 (omega (arith, length-replicate {A = ℕ})) ]
+get_or-zeros n t = elim (cases_lt t n) [
+  | inl h ↦ get_or-replicate n t 0 0 h
+  | inr h ↦ get_or-eq_default (replicate n 0) 0 (omega (arith, length-replicate {A = ℕ}))
+]
 
 pub tracks_paths-start : (list : List Insn) → TracksPaths list 0 (slice_set (replicate 4096 0) 0 65535)
 tracks_paths-start list = record {
@@ -77,7 +89,8 @@ tracks_paths-start list = record {
       ];
   each_reached = λ t s small reached.
       elim reached [
-        | inl e ↦ subst (λ m. InMask m s) (sym (get_or-set_at {X = ℕ} (replicate 4096 0) 0 t 65535 0 e (omega arith))) (bit_at_ones 16 s small)
+        | inl e ↦ subst (λ m. InMask m s) (sym (get_or-set_at {X = ℕ} (replicate 4096 0) 0 t 65535 0 e (omega arith)))
+            (bit_at_ones 16 s small)
         | inr r ↦ absurd (omega arith)
       ];
   written = λ j below stands. absurd (omega arith);
@@ -87,7 +100,11 @@ reached-further : (list : List Insn) (s m t : ℕ) → ReachedUnwritten list s m
 reached-further list s m t (inl first) = inl first
 reached-further list s m t (inr r) = inr (r.0, omega arith, r.2, r.3, r.4)
 
-pub tracks_paths-next : (list : List Insn) (i : ℕ) (insn : Insn) (op : Op) (masks next_masks : List ℕ) (left : ℕ) → slice_get list i ≡ Some insn → op_of insn.code ≡ Some op → TracksPaths list i masks → LeavesUnwritten (slice_index masks i) op insn left → AddsToMasks masks next_masks left (λ t. Follows op insn i t) → (HasFault list (UnwrittenSlot i) → ⊥) → TracksPaths list (i + 1) next_masks
+pub tracks_paths-next : (list : List Insn) (i : ℕ) (insn : Insn) (op : Op) (masks next_masks : List ℕ) (left : ℕ)
+    → slice_get list i ≡ Some insn → op_of insn.code ≡ Some op → TracksPaths list i masks
+    → LeavesUnwritten (slice_index masks i) op insn left
+    → AddsToMasks masks next_masks left (λ t. Follows op insn i t) → (HasFault list (UnwrittenSlot i) → ⊥)
+    → TracksPaths list (i + 1) next_masks
 tracks_paths-next list i insn op masks next_masks left here known tracks leaves adds fine = record {
   long = adds.long ∙ tracks.long;
   only_reached = λ t s small set.
@@ -112,7 +129,8 @@ tracks_paths-next list i insn op masks next_masks left here known tracks leaves 
               let next : IsSuccessor list i t = subst (λ h. IsSuccessor list h t) e r.4 in
               let keeps : StoresSlot list i s → ⊥ = subst (λ h. StoresSlot list h s → ⊥) e r.3 in
               adds.added t s (successor-same list i t insn op next here known)
-              (leaves.kept s small (tracks.each_reached i s small (reached-unwritten_at list s i unwritten)) (λ is at_s. keeps (insn, op, here, known, (is, at_s))))
+              (leaves.kept s small (tracks.each_reached i s small (reached-unwritten_at list s i unwritten))
+              (λ is at_s. keeps (insn, op, here, known, (is, at_s))))
           | inr n ↦ adds.kept t s (tracks.each_reached t s small (inr (r.0, omega arith, r.2, r.3, r.4)))
         ]
       ];
@@ -123,37 +141,57 @@ tracks_paths-next list i insn op masks next_masks left here known tracks leaves 
       ];
 }
 
-pub unwritten_at : (list : List Insn) (i : ℕ) (insn : Insn) (op : Op) (masks : List ℕ) → slice_get list i ≡ Some insn → op_of insn.code ≡ Some op → insn.k < 16 → TracksPaths list i masks → IsTrue (loads_slot op) → InMaskOf masks i insn.k → HasFault list (UnwrittenSlot i)
+pub unwritten_at : (list : List Insn) (i : ℕ) (insn : Insn) (op : Op) (masks : List ℕ) → slice_get list i ≡ Some insn
+    → op_of insn.code ≡ Some op → insn.k < 16 → TracksPaths list i masks → IsTrue (loads_slot op)
+    → InMaskOf masks i insn.k → HasFault list (UnwrittenSlot i)
 unwritten_at list i insn op masks here known small tracks loads set =
     (insn, op, here, known, (loads, unwritten_at-reached list insn.k i (tracks.only_reached i insn.k small set)))
 
-pub written_at : (list : List Insn) (i : ℕ) (insn : Insn) (op : Op) (masks : List ℕ) → slice_get list i ≡ Some insn → op_of insn.code ≡ Some op → (IsTrue (loads_slot op) → insn.k < 16) → TracksPaths list i masks → ((IsTrue (loads_slot op) × InMaskOf masks i insn.k) → ⊥) → HasFault list (UnwrittenSlot i) → ⊥
+pub written_at : (list : List Insn) (i : ℕ) (insn : Insn) (op : Op) (masks : List ℕ) → slice_get list i ≡ Some insn
+    → op_of insn.code ≡ Some op → (IsTrue (loads_slot op) → insn.k < 16) → TracksPaths list i masks
+    → ((IsTrue (loads_slot op) × InMaskOf masks i insn.k) → ⊥) → HasFault list (UnwrittenSlot i) → ⊥
 written_at list i insn op masks here known small tracks fine stands =
-    let same = insn_at-same list i (λ o x. IsTrue (loads_slot o) × MayBeUnwritten list x.k i) insn op stands here known in
+    let same =
+    insn_at-same list i (λ o x. IsTrue (loads_slot o) × MayBeUnwritten list x.k i) insn op stands here known in
     fine (same.0, tracks.each_reached i insn.k (small same.0) (reached-unwritten_at list insn.k i same.1))
 
-pub written-all : (list : List Insn) (masks : List ℕ) → TracksPaths list (length list) masks → (j : ℕ) → HasFault list (UnwrittenSlot j) → ⊥
+pub written-all : (list : List Insn) (masks : List ℕ) → TracksPaths list (length list) masks → (j : ℕ)
+    → HasFault list (UnwrittenSlot j) → ⊥
 written-all list masks tracks j stands = tracks.written j (slice_get_within list j stands.0 stands.2) stands
 
 -- ---- what follows is inside
 
-allowed_follows-inside : (op : Op) (insn : Insn) (i n t : ℕ) → IsAllowed op insn i n → i < n → (i + 1 ≡ n → (op ≡ RetK) ⊎ (op ≡ RetA)) → Follows op insn i t → t < n
-allowed_follows-inside Ja insn i n t allowed below last h = elim (cases_lt t n) [ inl l ↦ l | inr past ↦ absurd (allowed.targets (t, h, past)) ]
-allowed_follows-inside (Jump k src) insn i n t allowed below last h = elim (cases_lt t n) [ inl l ↦ l | inr past ↦ absurd (allowed.targets (t, h, past)) ]
+allowed_follows-inside : (op : Op) (insn : Insn) (i n t : ℕ) → IsAllowed op insn i n → i < n
+    → (i + 1 ≡ n → (op ≡ RetK) ⊎ (op ≡ RetA)) → Follows op insn i t → t < n
+allowed_follows-inside Ja insn i n t allowed below last h = elim (cases_lt t n) [
+  | inl l ↦ l
+  | inr past ↦ absurd (allowed.targets (t, h, past))
+]
+allowed_follows-inside (Jump k src) insn i n t allowed below last h = elim (cases_lt t n) [
+  | inl l ↦ l
+  | inr past ↦ absurd (allowed.targets (t, h, past))
+]
 allowed_follows-inside RetK insn i n t allowed below last h = absurd h
 allowed_follows-inside RetA insn i n t allowed below last h = absurd h
 allowed_follows-inside _ insn i n t allowed below last h =
-    elim (cases_eq (i + 1) n) [ inl e ↦ elim (last e) [ inl a ↦ absurd (cc) | inr b ↦ absurd (cc) ] | inr ne ↦ omega arith ]
+    elim (cases_eq (i + 1) n) [
+      | inl e ↦ elim (last e) [ inl a ↦ absurd (cc) | inr b ↦ absurd (cc) ]
+      | inr ne ↦ omega arith
+    ]
 
 some-same : (o : Option Op) (a b : Op) → o ≡ Some a → o ≡ Some b → a ≡ b
 some-same o a b h k = cc
 
-pub follows-inside : (list : List Insn) (i : ℕ) (insn : Insn) (op : Op) → IsWellFormed list → slice_get list i ≡ Some insn → op_of insn.code ≡ Some op → (t : ℕ) → Follows op insn i t → t < length list
+pub follows-inside : (list : List Insn) (i : ℕ) (insn : Insn) (op : Op) → IsWellFormed list
+    → slice_get list i ≡ Some insn → op_of insn.code ≡ Some op → (t : ℕ) → Follows op insn i t → t < length list
 follows-inside list i insn op formed here known t follows =
     let below = slice_get_within list i insn here in
-    allowed_follows-inside op insn i (length list) t (allowed_at-same list i insn op (formed.passed.allowed i below) here known) below
-    (λ last. elim (formed.ends insn i last here) [ inl a ↦ inl (some-same _ op RetK known a) | inr b ↦ inr (some-same _ op RetA known b) ])
-    follows
+    allowed_follows-inside op insn i (length list) t
+    (allowed_at-same list i insn op (formed.passed.allowed i below) here known) below
+    (λ last. elim (formed.ends insn i last here) [
+      | inl a ↦ inl (some-same _ op RetK known a)
+      | inr b ↦ inr (some-same _ op RetA known b)
+    ]) follows
 
 -- a slot that is loaded or stored is named
 pub loads_use-slot : (op : Op) → IsTrue (loads_slot op) → IsTrue (uses_slot op)

@@ -1,5 +1,6 @@
 -- Masks of slots: one mask, and the masks of all instructions.
-use Rattle.std.proofs.Common.{◌≡◌, ℕ, zero, suc, ◌+◌, ◌*◌, ◌%◌, ◌^◌, ◌<◌, List, length, get_or, arith, refl, sym, ◌∙◌, subst, inl, inr, max}
+use Rattle.std.proofs.Common.{◌≡◌, ℕ, zero, suc, ◌+◌, ◌*◌, ◌%◌, ◌^◌, ◌<◌, List, length, get_or, arith, refl, sym, ◌∙◌}
+use Rattle.std.proofs.Common.{subst, inl, inr, max}
 use Rattle.std.specs.Prelude.{◌⊎◌, IsTrue, slice_set, slice_index, bit_and, bit_or}
 use Rattle.std.specs.Int.{bit_at, bit_not, w16}
 use Rattle.std.proofs.lemmas.Bool.{cases_eq}
@@ -29,7 +30,8 @@ in_mask-or-right a b s h = let l = bit_at-lt a s in bit_at_or a b s ∙ omega ar
 in_or-mask : (a b s : ℕ) → InMask (bit_or a b) s → InMask a s ⊎ InMask b s
 in_or-mask a b s h = max-one (bit_at a s) (bit_at b s) (sym (bit_at_or a b s) ∙ h)
 
-pub leaves_unwritten-cleared : (mask : ℕ) (op : Op) (insn : Insn) → insn.k < 16 → IsTrue (stores_slot op) → LeavesUnwritten mask op insn (bit_and mask (bit_not w16 (1 * 2 ^ insn.k % 2 ^ 16)))
+pub leaves_unwritten-cleared : (mask : ℕ) (op : Op) (insn : Insn) → insn.k < 16 → IsTrue (stores_slot op)
+    → LeavesUnwritten mask op insn (bit_and mask (bit_not w16 (1 * 2 ^ insn.k % 2 ^ 16)))
 leaves_unwritten-cleared mask op insn within stores = record {
   kept = λ s small here away. bit_at_clear_other w16 mask insn.k within s small (λ e. away stores (sym e)) ∙ here;
   only = λ s small here.
@@ -48,28 +50,34 @@ leaves_unwritten-cleared mask op insn within stores = record {
 
 -- ---- the masks of all instructions
 
-pub adds_to_masks-one : (masks : List ℕ) (at left : ℕ) → at < length masks → AddsToMasks masks (slice_set masks at (bit_or (slice_index masks at) left)) left (λ t. t ≡ at)
+pub adds_to_masks-one : (masks : List ℕ) (at left : ℕ) → at < length masks
+    → AddsToMasks masks (slice_set masks at (bit_or (slice_index masks at) left)) left (λ t. t ≡ at)
 adds_to_masks-one masks at left inside =
     let v : ℕ = bit_or (get_or masks at 0) left in
     record {
       long = length-set masks at v;
       kept = λ t s here.
           elim (cases_eq t at) [
-            | inl e ↦ subst (λ m. InMask m s) (sym (get_or-set_at masks at t v 0 e inside)) (in_mask-or-left (get_or masks at 0) left s (subst (λ u. InMaskOf masks u s) e here))
+            | inl e ↦ subst (λ m. InMask m s) (sym (get_or-set_at masks at t v 0 e inside))
+                (in_mask-or-left (get_or masks at 0) left s (subst (λ u. InMaskOf masks u s) e here))
             | inr n ↦ subst (λ m. InMask m s) (sym (get_or-set_other masks at t v 0 n)) here
           ];
-      added = λ t s e here. subst (λ m. InMask m s) (sym (get_or-set_at masks at t v 0 e inside)) (in_mask-or-right (get_or masks at 0) left s here);
+      added = λ t s e here. subst (λ m. InMask m s) (sym (get_or-set_at masks at t v 0 e inside))
+          (in_mask-or-right (get_or masks at 0) left s here);
       only = λ t s here.
           elim (cases_eq t at) [
-            | inl e ↦ elim (in_or-mask (get_or masks at 0) left s (subst (λ m. InMask m s) (get_or-set_at masks at t v 0 e inside) here)) [
-              | inl a ↦ inl (subst (λ u. InMaskOf masks u s) (sym e) a)
-              | inr b ↦ inr (e, b)
-            ]
+            | inl e ↦ elim (in_or-mask (get_or masks at 0) left s
+                (subst (λ m. InMask m s) (get_or-set_at masks at t v 0 e inside) here)) [
+                  | inl a ↦ inl (subst (λ u. InMaskOf masks u s) (sym e) a)
+                  | inr b ↦ inr (e, b)
+                ]
             | inr n ↦ inl (subst (λ m. InMask m s) (get_or-set_other masks at t v 0 n) here)
           ];
     }
 
-pub follows-next : (op : Op) (insn : Insn) (i : ℕ) → (op ≡ Ja → ⊥) → ((cond_is : _) (src : _) → op ≡ Jump cond_is src → ⊥) → (op ≡ RetK → ⊥) → (op ≡ RetA → ⊥) → Follows op insn i (i + 1)
+pub follows-next : (op : Op) (insn : Insn) (i : ℕ) → (op ≡ Ja → ⊥)
+    → ((cond_is : _) (src : _) → op ≡ Jump cond_is src → ⊥) → (op ≡ RetK → ⊥) → (op ≡ RetA → ⊥)
+    → Follows op insn i (i + 1)
 follows-next Ja insn i a b c d = absurd (a refl)
 follows-next (Jump k src) insn i a b c d = absurd (b k src refl)
 follows-next RetK insn i a b c d = absurd (c refl)

@@ -6,7 +6,9 @@ use Rattle.std.proofs.lemmas.Option.{slice_get_cases}
 use Rattle.cbpf_code.specs.declared.insn.Insn.{Insn}
 use Rattle.cbpf_code.specs.declared.opcode.Op.{Op}
 use Rattle.cbpf_code.specs.declared.opcode.Op.TheVariants.{RetK, RetA}
-use Rattle.cbpf_code.specs.declared.checker.CheckFault.TheVariants.{NoInstruction, TooMany, UnknownCode, NoSlot, ZeroDivisor, WideShift, JumpOutside, UnknownExtension, NoReturn}
+use Rattle.cbpf_code.specs.declared.checker.CheckFault.TheVariants.{NoInstruction, TooMany, UnknownCode, NoSlot}
+use Rattle.cbpf_code.specs.declared.checker.CheckFault.TheVariants.{ZeroDivisor, WideShift, JumpOutside}
+use Rattle.cbpf_code.specs.declared.checker.CheckFault.TheVariants.{UnknownExtension, NoReturn}
 use Rattle.cbpf_code.specs.Opcode.{op_of}
 use Rattle.cbpf_code.specs.Extension.{ext_at}
 use Rattle.cbpf_code.specs.ControlFlow.{Follows, IsTarget}
@@ -22,8 +24,12 @@ known_or : (o : Option Op) → (o ≡ None) ⊎ ((op : Op) × (o ≡ Some op))
 known_or None = inl refl
 known_or (Some op) = inr (op, refl)
 
-pub sound_known : (list : List Insn) (i : ℕ) (insn : Insn) → IsSound list → slice_get list i ≡ Some insn → (op : Op) × (op_of insn.code ≡ Some op)
-sound_known list i insn sound here = elim (known_or (op_of insn.code)) [ inl none ↦ absurd (sound.none (UnknownCode i) (insn, here, none)) | inr known ↦ known ]
+pub sound_known : (list : List Insn) (i : ℕ) (insn : Insn) → IsSound list → slice_get list i ≡ Some insn
+    → (op : Op) × (op_of insn.code ≡ Some op)
+sound_known list i insn sound here = elim (known_or (op_of insn.code)) [
+  | inl none ↦ absurd (sound.none (UnknownCode i) (insn, here, none))
+  | inr known ↦ known
+]
 
 -- what the absence of C4 to C8 says of an instruction at i of n
 pub record Allowed (op : Op) (insn : Insn) (i n : ℕ) : Type 0 where
@@ -33,16 +39,30 @@ pub record Allowed (op : Op) (insn : Insn) (i n : ℕ) : Type 0 where
   pub targets : (t : ℕ) → IsTarget op insn i t → t < n
   pub extension : IsTrue (loads_absolute op) → 4294963200 ≤ insn.k → ext_at insn.k ≡ None → ⊥
 
-pub sound_allowed : (list : List Insn) (i : ℕ) (insn : Insn) (op : Op) → IsSound list → slice_get list i ≡ Some insn → op_of insn.code ≡ Some op → Allowed op insn i (length list)
+pub sound_allowed : (list : List Insn) (i : ℕ) (insn : Insn) (op : Op) → IsSound list → slice_get list i ≡ Some insn
+    → op_of insn.code ≡ Some op → Allowed op insn i (length list)
 sound_allowed list i insn op sound here known = record {
-  slot = λ names. elim (cases_lt insn.k 16) [ inl h ↦ h | inr h ↦ absurd (sound.none (NoSlot i) (insn, op, here, known, (names, h))) ];
-  divisor = λ divides. elim (cases_eq insn.k 0) [ inl e ↦ absurd (sound.none (ZeroDivisor i) (insn, op, here, known, (divides, e))) | inr n ↦ omega arith ];
-  shift = λ shifts. elim (cases_lt insn.k 32) [ inl h ↦ h | inr h ↦ absurd (sound.none (WideShift i) (insn, op, here, known, (shifts, h))) ];
-  targets = λ t target. elim (cases_lt t (length list)) [ inl h ↦ h | inr h ↦ absurd (sound.none (JumpOutside i) (insn, op, here, known, (t, target, h))) ];
+  slot = λ names. elim (cases_lt insn.k 16) [
+    | inl h ↦ h
+    | inr h ↦ absurd (sound.none (NoSlot i) (insn, op, here, known, (names, h)))
+  ];
+  divisor = λ divides. elim (cases_eq insn.k 0) [
+    | inl e ↦ absurd (sound.none (ZeroDivisor i) (insn, op, here, known, (divides, e)))
+    | inr n ↦ omega arith
+  ];
+  shift = λ shifts. elim (cases_lt insn.k 32) [
+    | inl h ↦ h
+    | inr h ↦ absurd (sound.none (WideShift i) (insn, op, here, known, (shifts, h)))
+  ];
+  targets = λ t target. elim (cases_lt t (length list)) [
+    | inl h ↦ h
+    | inr h ↦ absurd (sound.none (JumpOutside i) (insn, op, here, known, (t, target, h)))
+  ];
   extension = λ loads far none. sound.none (UnknownExtension i) (insn, op, here, known, (loads, far, none));
 }
 
-none_of : (list : List Insn) (i : ℕ) (insn : Insn) (op : Op) → IsSound list → slice_get list i ≡ Some insn → op_of insn.code ≡ Some op → IsAllowed op insn i (length list)
+none_of : (list : List Insn) (i : ℕ) (insn : Insn) (op : Op) → IsSound list → slice_get list i ≡ Some insn
+    → op_of insn.code ≡ Some op → IsAllowed op insn i (length list)
 none_of list i insn op sound here known = record {
   slot = λ h. sound.none (NoSlot i) (insn, op, here, known, h);
   divisor = λ h. sound.none (ZeroDivisor i) (insn, op, here, known, h);
@@ -52,14 +72,18 @@ none_of list i insn op sound here known = record {
 }
 
 pub sound_some : (list : List Insn) → IsSound list → 0 < length list
-sound_some list sound = elim (cases_eq (length list) 0) [ inl e ↦ absurd (sound.none NoInstruction e) | inr n ↦ omega arith ]
+sound_some list sound = elim (cases_eq (length list) 0) [
+  | inl e ↦ absurd (sound.none NoInstruction e)
+  | inr n ↦ omega arith
+]
 
 returns_or : (o : Option Op) → (((o ≡ Some RetK) ⊎ (o ≡ Some RetA)) → ⊥) ⊎ ((o ≡ Some RetK) ⊎ (o ≡ Some RetA))
 returns_or (Some RetK) = inr (inl refl)
 returns_or (Some RetA) = inr (inr refl)
 returns_or _ = inl (λ h. elim h [ inl e ↦ absurd (cc) | inr e ↦ absurd (cc) ])
 
-sound_ends : (list : List Insn) → IsSound list → (insn : Insn) (i : ℕ) → i + 1 ≡ length list → slice_get list i ≡ Some insn → IsReturn insn
+sound_ends : (list : List Insn) → IsSound list → (insn : Insn) (i : ℕ) → i + 1 ≡ length list
+    → slice_get list i ≡ Some insn → IsReturn insn
 sound_ends list sound insn i last here =
     elim (returns_or (op_of insn.code)) [
       | inl never ↦
@@ -85,5 +109,6 @@ sound_well_formed list sound = record {
 }
 
 -- what follows an instruction of a checked program is one of its indices
-pub sound_next : (list : List Insn) (i : ℕ) (insn : Insn) (op : Op) → IsSound list → slice_get list i ≡ Some insn → op_of insn.code ≡ Some op → (t : ℕ) → Follows op insn i t → t < length list
+pub sound_next : (list : List Insn) (i : ℕ) (insn : Insn) (op : Op) → IsSound list → slice_get list i ≡ Some insn
+    → op_of insn.code ≡ Some op → (t : ℕ) → Follows op insn i t → t < length list
 sound_next list i insn op sound here known = follows-inside list i insn op (sound_well_formed list sound) here known

@@ -1,5 +1,6 @@
 -- Word text as it is written is read back.
-use Rattle.std.proofs.Common.{◌≡◌, ◌≢◌, ℕ, suc, ◌+◌, ◌-◌, ◌*◌, ◌^◌, ◌<◌, ◌≤◌, nat_lt, true, false, List, [], ◌∷◌, ◌++◌, length, codes, decimal, append_assoc, None, inr, refl, ap, ◌∙◌, arith, tests}
+use Rattle.std.proofs.Common.{◌≡◌, ◌≢◌, ℕ, suc, ◌+◌, ◌-◌, ◌*◌, ◌^◌, ◌<◌, ◌≤◌, nat_lt, true, false, List, [], ◌∷◌}
+use Rattle.std.proofs.Common.{◌++◌, length, codes, decimal, append_assoc, None, inr, refl, ap, ◌∙◌, arith, tests}
 use Rattle.std.specs.List.{All, AllByRecursion, flat_map, fold}
 use Rattle.std.specs.Char.{digit_value}
 use Rattle.std.specs.Str.Parse.{AllDigits, digits_value_after}
@@ -24,7 +25,8 @@ all_digits : (ds : List ℕ) → AllDigits 10 ds → AllByRecursion (λ b. is_di
 all_digits [] h = tt
 all_digits (c ∷ cs) h = (digit-test c h.0, all_digits cs h.1)
 
-number_after : (n : ℕ) (ds : List ℕ) → AllDigits 10 ds → fold (λ m b. 10 * m + (b - 48)) n ds ≡ digits_value_after 10 n ds
+number_after : (n : ℕ) (ds : List ℕ) → AllDigits 10 ds
+    → fold (λ m b. 10 * m + (b - 48)) n ds ≡ digits_value_after 10 n ds
 number_after n [] h = refl
 number_after n (c ∷ cs) h =
     let v : digit_value c + 48 ≡ c = digit_value_digit c (digit_from_value c h.0) in
@@ -38,9 +40,11 @@ some_digits : (ds : List ℕ) → 0 < length ds → ds ≢ []
 some_digits [] l e = omega (arith, l)
 some_digits (c ∷ cs) l e = cc
 
-tokens-decimal : (at n : ℕ) (rest : List ℕ) → n < 2 ^ 64 → begins_with_digit rest ≡ false → tokens_from at (decimal n ++ rest) ≡ run at (decimal n) ∷ tokens_from (at + length (decimal n)) rest
+tokens-decimal : (at n : ℕ) (rest : List ℕ) → n < 2 ^ 64 → begins_with_digit rest ≡ false
+    → tokens_from at (decimal n ++ rest) ≡ run at (decimal n) ∷ tokens_from (at + length (decimal n)) rest
 tokens-decimal at n rest h stop =
-    law-run at (decimal n) rest (some_digits (decimal n) (decimal_nonempty n h)) (all_digits (decimal n) (decimal_is_IsNumeral n h).0.1) stop
+    law-run at (decimal n) rest (some_digits (decimal n) (decimal_nonempty n h))
+    (all_digits (decimal n) (decimal_is_IsNumeral n h).0.1) stop
 
 -- ---- texts, wherever they stand
 
@@ -53,7 +57,11 @@ record Reads (text : List ℕ) (j m : ℕ) (ns : List ℕ) : Type 0 where
 reads-newline : Reads (codes "\n") 2 0 []
 reads-newline =
     let e = λ (at : ℕ). law-blank at 10 [] refl ∙ law-empty (at + 1) in
-    record { good = λ at. ap (first_fault 2) (e at); count = λ at. ap length (e at); spelled = λ at. ap numbers (e at) }
+    record {
+      good = λ at. ap (first_fault 2) (e at);
+      count = λ at. ap length (e at);
+      spelled = λ at. ap numbers (e at);
+    }
 
 reads-space : (text : List ℕ) (j m : ℕ) (ns : List ℕ) → Reads text j m ns → Reads (32 ∷ text) j m ns
 reads-space text j m ns r =
@@ -87,49 +95,69 @@ good-number at n range h l =
     let t : nat_lt n range ≡ true = grind (arith, tests) in
     rw (v, t) refl
 
-reads-number : (text : List ℕ) (n j m : ℕ) (ns : List ℕ) → begins_with_digit text ≡ false → n < 2 ^ 64 → ((at : ℕ) → token_fault j (run at (decimal n)) ≡ None) → Reads text (suc j) m ns → Reads (decimal n ++ text) j (m + 1) (n ∷ ns)
+reads-number : (text : List ℕ) (n j m : ℕ) (ns : List ℕ) → begins_with_digit text ≡ false → n < 2 ^ 64
+    → ((at : ℕ) → token_fault j (run at (decimal n)) ≡ None) → Reads text (suc j) m ns
+    → Reads (decimal n ++ text) j (m + 1) (n ∷ ns)
 reads-number text n j m ns stop h good r =
     let e = λ (at : ℕ). tokens-decimal at n text h stop in
     record {
-      good = λ at. ap (first_fault j) (e at) ∙ ap (λ o. or_else o (first_fault (suc j) (tokens_from (at + length (decimal n)) text))) (good at) ∙ r.good (at + length (decimal n));
+      good = λ at. ap (first_fault j) (e at)
+          ∙ ap (λ o. or_else o (first_fault (suc j) (tokens_from (at + length (decimal n)) text))) (good at)
+          ∙ r.good (at + length (decimal n));
       count = λ at. omega (arith, ap length (e at), r.count (at + length (decimal n)));
-      spelled = λ at. ap numbers (e at) ∙ ap (λ v. v ∷ numbers (tokens_from (at + length (decimal n)) text)) (number-decimal n h) ∙ ap (λ (l : List ℕ). n ∷ l) (r.spelled (at + length (decimal n)));
+      spelled = λ at. ap numbers (e at)
+          ∙ ap (λ v. v ∷ numbers (tokens_from (at + length (decimal n)) text)) (number-decimal n h)
+          ∙ ap (λ (l : List ℕ). n ∷ l) (r.spelled (at + length (decimal n)));
     }
 
 -- ---- instructions
 
-line-split : (i : Insn) (text : List ℕ) → word_line i ++ text ≡ decimal i.code ++ (32 ∷ decimal i.jt ++ (32 ∷ decimal i.jf ++ (32 ∷ decimal i.k ++ (44 ∷ text))))
+line-split : (i : Insn) (text : List ℕ) → word_line i ++ text
+    ≡ decimal i.code ++ (32 ∷ decimal i.jt ++ (32 ∷ decimal i.jf ++ (32 ∷ decimal i.k ++ (44 ∷ text))))
 line-split i text = simp append_assoc
 
-reads-line : (i : Insn) (text : List ℕ) (m : ℕ) (ns : List ℕ) → InRange i → Reads text 2 m ns → Reads (word_line i ++ text) 2 (m + 5) (i.code ∷ i.jt ∷ i.jf ∷ i.k ∷ ns)
+reads-line : (i : Insn) (text : List ℕ) (m : ℕ) (ns : List ℕ) → InRange i → Reads text 2 m ns
+    → Reads (word_line i ++ text) 2 (m + 5) (i.code ∷ i.jt ∷ i.jf ∷ i.k ∷ ns)
 reads-line i text m ns h r =
     let comma : Reads (44 ∷ text) 6 (m + 1) ns = reads-next_comma _ _ _ (reads-comma text m ns r) in
-    let k : Reads (decimal i.k ++ (44 ∷ text)) 5 (m + 1 + 1) (i.k ∷ ns) = reads-number _ i.k 5 _ _ refl (omega (arith, h.k)) (λ at. good-number at i.k (2 ^ 32) (omega (arith, h.k)) h.k) comma in
-    let jf = reads-number _ i.jf 4 _ _ refl (omega (arith, h.jf)) (λ at. good-number at i.jf (2 ^ 8) (omega (arith, h.jf)) h.jf) (reads-space _ _ _ _ k) in
-    let jt = reads-number _ i.jt 3 _ _ refl (omega (arith, h.jt)) (λ at. good-number at i.jt (2 ^ 8) (omega (arith, h.jt)) h.jt) (reads-space _ _ _ _ jf) in
-    let code = reads-number _ i.code 2 _ _ refl (omega (arith, h.code)) (λ at. good-number at i.code (2 ^ 16) (omega (arith, h.code)) h.code) (reads-space _ _ _ _ jt) in
+    let k : Reads (decimal i.k ++ (44 ∷ text)) 5 (m + 1 + 1) (i.k ∷ ns) = reads-number _ i.k 5 _ _ refl
+    (omega (arith, h.k)) (λ at. good-number at i.k (2 ^ 32) (omega (arith, h.k)) h.k) comma in
+    let jf = reads-number _ i.jf 4 _ _ refl (omega (arith, h.jf))
+    (λ at. good-number at i.jf (2 ^ 8) (omega (arith, h.jf)) h.jf) (reads-space _ _ _ _ k) in
+    let jt = reads-number _ i.jt 3 _ _ refl (omega (arith, h.jt))
+    (λ at. good-number at i.jt (2 ^ 8) (omega (arith, h.jt)) h.jt) (reads-space _ _ _ _ jf) in
+    let code = reads-number _ i.code 2 _ _ refl (omega (arith, h.code))
+    (λ at. good-number at i.code (2 ^ 16) (omega (arith, h.code)) h.code) (reads-space _ _ _ _ jt) in
     let sum : m + 1 + 1 + 1 + 1 + 1 ≡ m + 5 = omega arith in
     rw (line-split i text, ← sum) code
 
-reads-lines : (list : List Insn) → All InRange list → Reads (flat_map word_line list ++ codes "\n") 2 (5 * length list) (fields_of list)
+reads-lines : (list : List Insn) → All InRange list
+    → Reads (flat_map word_line list ++ codes "\n") 2 (5 * length list) (fields_of list)
 reads-lines [] h = reads-newline
 reads-lines (i ∷ is) h =
-    let more : Reads (flat_map word_line is ++ codes "\n") 2 (5 * length is) (fields_of is) = reads-lines is (All-tail InRange i is h) in
+    let more : Reads (flat_map word_line is ++ codes "\n") 2 (5 * length is) (fields_of is) =
+    reads-lines is (All-tail InRange i is h) in
     let sum : 5 * length is + 5 ≡ 5 * length (i ∷ is) = omega arith in
-    rw (append_assoc (word_line i) (flat_map word_line is) (codes "\n"), ← sum) (reads-line i _ _ _ (All-head InRange i is h) more)
+    rw (append_assoc (word_line i) (flat_map word_line is) (codes "\n"), ← sum)
+    (reads-line i _ _ _ (All-head InRange i is h) more)
 
-words-split : (list : List Insn) → words list ≡ decimal (length list) ++ (44 ∷ (flat_map word_line list ++ codes "\n"))
+words-split : (list : List Insn)
+    → words list ≡ decimal (length list) ++ (44 ∷ (flat_map word_line list ++ codes "\n"))
 words-split list = simp append_assoc
 
-reads-words : (list : List Insn) → length list < 2 ^ 32 → All InRange list → Reads (words list) 0 (5 * length list + 1 + 1) (length list ∷ fields_of list)
+reads-words : (list : List Insn) → length list < 2 ^ 32 → All InRange list
+    → Reads (words list) 0 (5 * length list + 1 + 1) (length list ∷ fields_of list)
 reads-words list l h =
     rw (words-split list)
-    (reads-number _ (length list) 0 _ _ refl (omega (arith, l)) (λ at. good-number at (length list) (2 ^ 32) (omega (arith, l)) l) (reads-comma _ _ _ (reads-lines list h)))
+    (reads-number _ (length list) 0 _ _ refl (omega (arith, l))
+    (λ at. good-number at (length list) (2 ^ 32) (omega (arith, l)) l) (reads-comma _ _ _ (reads-lines list h)))
 
 -- the law that a list is read back from its text
 pub words-spell : (list : List Insn) → All InRange list → length list ≤ 4294967295 → Spells (words list) list
 words-spell list h l =
-    let r : Reads (words list) 0 (5 * length list + 1 + 1) (length list ∷ fields_of list) = reads-words list (omega (arith, l)) h in
+    let r : Reads (words list) 0 (5 * length list + 1 + 1) (length list ∷ fields_of list) =
+    reads-words list (omega (arith, l)) h in
     let n = r.count 0 in
-    let w : IsReadWhole (words list) (length list) list = whole-by (words list) (length list) list (r.good 0) (omega (arith, n)) (inr (omega (arith, n))) (r.spelled 0) in
+    let w : IsReadWhole (words list) (length list) list =
+    whole-by (words list) (length list) list (r.good 0) (omega (arith, n)) (inr (omega (arith, n))) (r.spelled 0) in
     record { loose = w.loose; counted = w.counted }

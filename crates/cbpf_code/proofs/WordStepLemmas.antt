@@ -1,13 +1,18 @@
 -- Steps of the reader, one after another.
-use Rattle.std.proofs.Common.{◌≡◌, ℕ, suc, ◌+◌, ◌%◌, ◌<◌, ◌≤◌, ◌⊎◌, inl, inr, List, [], ◌∷◌, ◌++◌, length, length-append, drop, append_assoc, append-nil, refl, sym, ◌∙◌, ap, subst, tests, true, false, cond, eqb, nat_lt, ◌==◌, ◌^◌, slice_index, arith, Option, Some, None}
+use Rattle.std.proofs.Common.{◌≡◌, ℕ, suc, ◌+◌, ◌%◌, ◌<◌, ◌≤◌, ◌⊎◌, inl, inr, List, [], ◌∷◌, ◌++◌, length}
+use Rattle.std.proofs.Common.{length-append, drop, append_assoc, append-nil, refl, sym, ◌∙◌, ap, subst, tests, true}
+use Rattle.std.proofs.Common.{false, cond, eqb, nat_lt, ◌==◌, ◌^◌, slice_index, arith, Option, Some, None}
 use Rattle.cbpf_code.specs.WordTokens.{Token, run, single, tokens, tokens_after, number}
-use Rattle.cbpf_code.specs.WordText.{range_of, comma_fault, number_fault, token_fault, first_fault, or_else, numbers, in_fours, Loose, Breaks, Refused, end_fault}
+use Rattle.cbpf_code.specs.WordText.{range_of, comma_fault, number_fault, token_fault, first_fault, or_else, numbers}
+use Rattle.cbpf_code.specs.WordText.{in_fours, Loose, Breaks, Refused, end_fault}
 use Rattle.cbpf_code.specs.WordSteps.{Passes, Stops, IsRead, IsReadWhole, fields_of}
 use Rattle.cbpf_code.specs.declared.insn.Insn.{Insn}
-use Rattle.cbpf_code.specs.declared.words.WordFault.TheVariants.{Memory, NumberExpected, OutOfRange, UnexpectedByte, CountDiffers, CommaExpected}
+use Rattle.cbpf_code.specs.declared.words.WordFault.TheVariants.{Memory, NumberExpected, OutOfRange, UnexpectedByte}
+use Rattle.cbpf_code.specs.declared.words.WordFault.TheVariants.{CountDiffers, CommaExpected}
 use Rattle.cbpf_code.specs.declared.words.WordFault.{WordFault}
 
-pub passes-then : (text : List ℕ) (j at n mid m end : ℕ) (ns ms : List ℕ) → Passes text j at n ns mid → Passes text (n + j) mid m ms end → Passes text j at (m + n) (ns ++ ms) end
+pub passes-then : (text : List ℕ) (j at n mid m end : ℕ) (ns ms : List ℕ) → Passes text j at n ns mid
+    → Passes text (n + j) mid m ms end → Passes text j at (m + n) (ns ++ ms) end
 passes-then text j at n mid m end ns ms x y =
     let sum : m + (n + j) ≡ m + n + j = omega arith in
     record {
@@ -15,7 +20,8 @@ passes-then text j at n mid m end ns ms x y =
       after = omega (arith, x.after, y.after);
       good = x.good ∙ y.good ∙ ap (λ i. first_fault i (tokens_after text end)) sum;
       count = omega (arith, x.count, y.count);
-      spelled = x.spelled ∙ ap (λ (t : List ℕ). ns ++ t) y.spelled ∙ sym (append_assoc ns ms (numbers (tokens_after text end)));
+      spelled = x.spelled ∙ ap (λ (t : List ℕ). ns ++ t) y.spelled
+          ∙ sym (append_assoc ns ms (numbers (tokens_after text end)));
     }
 
 -- tokens are due in fives
@@ -30,20 +36,24 @@ pub first_fault-shift : (j : ℕ) (ms : List Token) → first_fault (j + 6) ms �
 first_fault-shift j [] = refl
 first_fault-shift j (m ∷ ms) =
     let e : suc (j + 6) ≡ suc j + 6 = omega arith in
-    ap (λ o. or_else o (first_fault (suc (j + 6)) ms)) (token_fault-shift j m) ∙ ap (λ i. or_else (token_fault (suc j) m) (first_fault i ms)) e ∙ ap (λ o. or_else (token_fault (suc j) m) o) (first_fault-shift (suc j) ms)
+    ap (λ o. or_else o (first_fault (suc (j + 6)) ms)) (token_fault-shift j m)
+    ∙ ap (λ i. or_else (token_fault (suc j) m) (first_fault i ms)) e
+    ∙ ap (λ o. or_else (token_fault (suc j) m) o) (first_fault-shift (suc j) ms)
 
 pub in_fours-fields : (list : List Insn) → in_fours (fields_of list) ≡ list
 in_fours-fields [] = refl
 in_fours-fields (i ∷ is) = ap (λ (l : List Insn). i ∷ l) (in_fours-fields is)
 
-fields_of-push : (list : List Insn) (i : Insn) (ns : List ℕ) → fields_of list ++ (i.code ∷ i.jt ∷ i.jf ∷ i.k ∷ ns) ≡ fields_of (list ++ i ∷ []) ++ ns
+fields_of-push : (list : List Insn) (i : Insn) (ns : List ℕ)
+    → fields_of list ++ (i.code ∷ i.jt ∷ i.jf ∷ i.k ∷ ns) ≡ fields_of (list ++ i ∷ []) ++ ns
 fields_of-push [] i ns = refl
 fields_of-push (x ∷ xs) i ns = ap (λ (l : List ℕ). x.code ∷ x.jt ∷ x.jf ∷ x.k ∷ l) (fields_of-push xs i ns)
 
 no_number : (p b r : ℕ) (o : Option WordFault) → or_else (number_fault r (single p b)) o ≡ None → ⊥
 no_number p b r o h = grind (arith, tests)
 
-no_comma : (q : ℕ) (es : List ℕ) (o o' : Option WordFault) → or_else o (or_else (comma_fault (run q es)) o') ≡ None → ⊥
+no_comma : (q : ℕ) (es : List ℕ) (o o' : Option WordFault)
+    → or_else o (or_else (comma_fault (run q es)) o') ≡ None → ⊥
 no_comma q es None o' h = cc
 no_comma q es (Some x) o' h = cc
 
@@ -52,10 +62,12 @@ numbers-drop : (ms : List Token) → first_fault 0 ms ≡ None → 2 ≤ length 
 numbers-drop [] g l = absurd (omega (arith, l))
 numbers-drop (m ∷ []) g l = absurd (omega (arith, l))
 numbers-drop (single p b ∷ m ∷ ms) g l = absurd (no_number p b (2 ^ 32) (first_fault 1 (m ∷ ms)) g)
-numbers-drop (run p ds ∷ run q es ∷ ms) g l = absurd (no_comma q es (number_fault (2 ^ 32) (run p ds)) (first_fault 2 ms) g)
+numbers-drop (run p ds ∷ run q es ∷ ms) g l =
+    absurd (no_comma q es (number_fault (2 ^ 32) (run p ds)) (first_fault 2 ms) g)
 numbers-drop (run p ds ∷ single q b ∷ ms) g l = refl
 
-pub read-start : (text : List ℕ) (c a b : ℕ) → Passes text 0 0 1 (c ∷ []) a → Passes text 1 a 1 [] b → IsRead text c [] b
+pub read-start : (text : List ℕ) (c a b : ℕ) → Passes text 0 0 1 (c ∷ []) a → Passes text 1 a 1 [] b
+    → IsRead text c [] b
 read-start text c a b x y = record {
   within = y.within;
   good = x.good ∙ y.good;
@@ -63,37 +75,52 @@ read-start text c a b x y = record {
   spelled = x.spelled ∙ ap (λ (t : List ℕ). c ∷ t) y.spelled;
 }
 
-pub read-next : (text : List ℕ) (c : ℕ) (list : List Insn) (i : Insn) (at mid end : ℕ) → IsRead text c list at → Passes text 2 at 4 (i.code ∷ i.jt ∷ i.jf ∷ i.k ∷ []) mid → Passes text 1 mid 1 [] end → IsRead text c (list ++ i ∷ []) end
+pub read-next : (text : List ℕ) (c : ℕ) (list : List Insn) (i : Insn) (at mid end : ℕ) → IsRead text c list at
+    → Passes text 2 at 4 (i.code ∷ i.jt ∷ i.jf ∷ i.k ∷ []) mid → Passes text 1 mid 1 [] end
+    → IsRead text c (list ++ i ∷ []) end
 read-next text c list i at mid end r x y = record {
   within = y.within;
   good = r.good ∙ x.good ∙ first_fault-shift 0 (tokens_after text mid) ∙ y.good;
   tokens_so_far = omega (arith, r.tokens_so_far, x.count, y.count, length-append list (i ∷ []));
-  spelled = r.spelled ∙ ap (λ (t : List ℕ). c ∷ (fields_of list ++ t)) (x.spelled ∙ ap (λ (t : List ℕ). i.code ∷ i.jt ∷ i.jf ∷ i.k ∷ t) y.spelled) ∙ ap (λ (t : List ℕ). c ∷ t) (fields_of-push list i (numbers (tokens_after text end)));
+  spelled = r.spelled ∙ ap (λ (t : List ℕ). c ∷ (fields_of list ++ t))
+      (x.spelled ∙ ap (λ (t : List ℕ). i.code ∷ i.jt ∷ i.jf ∷ i.k ∷ t) y.spelled)
+      ∙ ap (λ (t : List ℕ). c ∷ t) (fields_of-push list i (numbers (tokens_after text end)));
 }
 
 -- the end, after a comma
-pub whole-by : (text : List ℕ) (c : ℕ) (list : List Insn) → first_fault 0 (tokens text) ≡ None → 2 ≤ length (tokens text) → (length (tokens text) % 5 ≡ 1) ⊎ (length (tokens text) % 5 ≡ 2) → numbers (tokens text) ≡ c ∷ fields_of list → IsReadWhole text c list
+pub whole-by : (text : List ℕ) (c : ℕ) (list : List Insn) → first_fault 0 (tokens text) ≡ None
+    → 2 ≤ length (tokens text) → (length (tokens text) % 5 ≡ 1) ⊎ (length (tokens text) % 5 ≡ 2)
+    → numbers (tokens text) ≡ c ∷ fields_of list → IsReadWhole text c list
 whole-by text c list good begun ended spelled = record {
   loose = record {
     none_bad = good;
     begun = begun;
     ended = ended;
-    reads = sym (ap in_fours (numbers-drop (tokens text) good begun ∙ ap (λ (ns : List ℕ). drop 1 ns) spelled) ∙ in_fours-fields list);
+    reads = sym (ap in_fours (numbers-drop (tokens text) good begun ∙ ap (λ (ns : List ℕ). drop 1 ns) spelled)
+        ∙ in_fours-fields list);
   };
   counted = ap (λ (ns : List ℕ). slice_index ns 0) spelled;
 }
 
-pub read-done : (text : List ℕ) (c : ℕ) (list : List Insn) (at : ℕ) → IsRead text c list at → tokens_after text at ≡ [] → IsReadWhole text c list
+pub read-done : (text : List ℕ) (c : ℕ) (list : List Insn) (at : ℕ) → IsRead text c list at
+    → tokens_after text at ≡ [] → IsReadWhole text c list
 read-done text c list at r e =
     let len : length (tokens_after text at) ≡ 0 = ap length e in
-    whole-by text c list (r.good ∙ ap (first_fault 2) e) (omega (arith, r.tokens_so_far)) (inr (omega (arith, r.tokens_so_far))) (r.spelled ∙ ap (λ (ms : List Token). c ∷ (fields_of list ++ numbers ms)) e ∙ ap (λ (ns : List ℕ). c ∷ ns) (append-nil (fields_of list)))
+    whole-by text c list (r.good ∙ ap (first_fault 2) e) (omega (arith, r.tokens_so_far))
+    (inr (omega (arith, r.tokens_so_far))) (r.spelled ∙ ap (λ (ms : List Token). c ∷ (fields_of list ++ numbers ms)) e
+    ∙ ap (λ (ns : List ℕ). c ∷ ns) (append-nil (fields_of list)))
 
 -- and after an instruction
-pub read-last : (text : List ℕ) (c : ℕ) (list : List Insn) (i : Insn) (at end : ℕ) → IsRead text c list at → Passes text 2 at 4 (i.code ∷ i.jt ∷ i.jf ∷ i.k ∷ []) end → tokens_after text end ≡ [] → IsReadWhole text c (list ++ i ∷ [])
+pub read-last : (text : List ℕ) (c : ℕ) (list : List Insn) (i : Insn) (at end : ℕ) → IsRead text c list at
+    → Passes text 2 at 4 (i.code ∷ i.jt ∷ i.jf ∷ i.k ∷ []) end → tokens_after text end ≡ []
+    → IsReadWhole text c (list ++ i ∷ [])
 read-last text c list i at end r x e =
     let len : length (tokens_after text end) ≡ 0 = ap length e in
-    whole-by text c (list ++ i ∷ []) (r.good ∙ x.good ∙ ap (first_fault 6) e) (omega (arith, r.tokens_so_far, x.count)) (inl (omega (arith, r.tokens_so_far, x.count)))
-    (r.spelled ∙ ap (λ (t : List ℕ). c ∷ (fields_of list ++ t)) (x.spelled ∙ ap (λ (ms : List Token). i.code ∷ i.jt ∷ i.jf ∷ i.k ∷ numbers ms) e) ∙ ap (λ (t : List ℕ). c ∷ t) (fields_of-push list i [] ∙ append-nil (fields_of (list ++ i ∷ []))))
+    whole-by text c (list ++ i ∷ []) (r.good ∙ x.good ∙ ap (first_fault 6) e)
+    (omega (arith, r.tokens_so_far, x.count)) (inl (omega (arith, r.tokens_so_far, x.count)))
+    (r.spelled ∙ ap (λ (t : List ℕ). c ∷ (fields_of list ++ t))
+    (x.spelled ∙ ap (λ (ms : List Token). i.code ∷ i.jt ∷ i.jf ∷ i.k ∷ numbers ms) e)
+    ∙ ap (λ (t : List ℕ). c ∷ t) (fields_of-push list i [] ∙ append-nil (fields_of (list ++ i ∷ []))))
 
 -- ---- refusals
 abbrev IsPlaced : WordFault → Type 0
@@ -118,14 +145,24 @@ refused-by text (CommaExpected q) p b = b
 
 comma-placed : (m : Token) → EachPlaced (comma_fault m)
 comma-placed (run p ds) = tt
-comma-placed (single p b) = elim (eqb b 44) as (λ t. EachPlaced (cond t None (Some (UnexpectedByte p)))) [ true ↦ tt | false ↦ tt ]
+comma-placed (single p b) = elim (eqb b 44) as (λ t. EachPlaced (cond t None (Some (UnexpectedByte p)))) [
+  | true ↦ tt
+  | false ↦ tt
+]
 
 number-placed : (r : ℕ) (m : Token) → EachPlaced (number_fault r m)
-number-placed r (run p ds) = elim (nat_lt (number ds) r) as (λ t. EachPlaced (cond t None (Some (OutOfRange p)))) [ true ↦ tt | false ↦ tt ]
-number-placed r (single p b) = elim (eqb b 44) as (λ t. EachPlaced (cond t (Some (NumberExpected p)) (Some (UnexpectedByte p)))) [ true ↦ tt | false ↦ tt ]
+number-placed r (run p ds) = elim (nat_lt (number ds) r) as (λ t. EachPlaced (cond t None (Some (OutOfRange p)))) [
+  | true ↦ tt
+  | false ↦ tt
+]
+number-placed r (single p b) = elim (eqb b 44)
+    as (λ t. EachPlaced (cond t (Some (NumberExpected p)) (Some (UnexpectedByte p)))) [ true ↦ tt | false ↦ tt ]
 
 token-placed : (j : ℕ) (m : Token) → EachPlaced (token_fault j m)
-token-placed j m = elim (eqb (j % 5) 1) as (λ t. EachPlaced (cond t (comma_fault m) (number_fault (range_of j) m))) [ true ↦ comma-placed m | false ↦ number-placed (range_of j) m ]
+token-placed j m = elim (eqb (j % 5) 1) as (λ t. EachPlaced (cond t (comma_fault m) (number_fault (range_of j) m))) [
+  | true ↦ comma-placed m
+  | false ↦ number-placed (range_of j) m
+]
 
 or-placed : (o o' : Option WordFault) → EachPlaced o → EachPlaced o' → EachPlaced (or_else o o')
 or-placed None o' h h' = h'
@@ -133,17 +170,25 @@ or-placed (Some e) o' h h' = h
 
 first-placed : (j : ℕ) (ms : List Token) → EachPlaced (first_fault j ms)
 first-placed j [] = tt
-first-placed j (m ∷ ms) = or-placed (token_fault j m) (first_fault (suc j) ms) (token-placed j m) (first-placed (suc j) ms)
+first-placed j (m ∷ ms) =
+    or-placed (token_fault j m) (first_fault (suc j) ms) (token-placed j m) (first-placed (suc j) ms)
 
 -- the first bad token
 refused-token : (text : List ℕ) (e : WordFault) → first_fault 0 (tokens text) ≡ Some e → Refused text e
-refused-token text e h = refused-by text e (subst EachPlaced h (first-placed 0 (tokens text))) (record { why = inl h })
+refused-token text e h =
+    refused-by text e (subst EachPlaced h (first-placed 0 (tokens text))) (record { why = inl h })
 
 -- the end, where no list ends
-refused-end : (text : List ℕ) (e e' : WordFault) → first_fault 0 (tokens text) ≡ None → ((length (tokens text) < 2) ⊎ ((length (tokens text) % 5 ≡ 1 → ⊥) × (length (tokens text) % 5 ≡ 2 → ⊥))) → IsPlaced e' → e ≡ e' → e' ≡ end_fault text → Refused text e
-refused-end text e e' h short p same which = refused-by text e (subst IsPlaced (sym same) p) (record { why = inr (h, no_reading, same ∙ which) }) where
-  no_reading : (list : List Insn) → Loose text list → ⊥
-  no_reading list l = elim short [ inl s ↦ omega (arith, s, l.begun) | inr n ↦ elim l.ended [ inl a ↦ n.0 a | inr b ↦ n.1 b ] ]
+refused-end : (text : List ℕ) (e e' : WordFault) → first_fault 0 (tokens text) ≡ None
+    → ((length (tokens text) < 2) ⊎ ((length (tokens text) % 5 ≡ 1 → ⊥) × (length (tokens text) % 5 ≡ 2 → ⊥)))
+    → IsPlaced e' → e ≡ e' → e' ≡ end_fault text → Refused text e
+refused-end text e e' h short p same which =
+    refused-by text e (subst IsPlaced (sym same) p) (record { why = inr (h, no_reading, same ∙ which) }) where
+      no_reading : (list : List Insn) → Loose text list → ⊥
+      no_reading list l = elim short [
+        | inl s ↦ omega (arith, s, l.begun)
+        | inr n ↦ elim l.ended [ inl a ↦ n.0 a | inr b ↦ n.1 b ]
+      ]
 
 nonempty : (ms : List Token) → (ms ≡ [] → ⊥) → 0 < length ms
 nonempty [] h = absurd (h refl)
@@ -158,24 +203,32 @@ end-comma text h = let z : (length (tokens text) == 1) ≡ true = grind (arith, 
 pub stops-first : (text : List ℕ) (e : WordFault) → Stops text 0 0 1 e (NumberExpected (length text)) → Refused text e
 stops-first text e s = elim s.why [
   | inl h ↦ refused-token text e h
-  | inr h ↦ refused-end text e (NumberExpected (length text)) h.0 (inl (omega (arith, h.1))) tt h.2 (end-number text (λ one. omega (arith, h.1, one)))
+  | inr h ↦ refused-end text e (NumberExpected (length text)) h.0 (inl (omega (arith, h.1))) tt h.2
+      (end-number text (λ one. omega (arith, h.1, one)))
 ]
 
-pub stops-count : (text : List ℕ) (c a : ℕ) (e : WordFault) → Passes text 0 0 1 (c ∷ []) a → Stops text 1 a 1 e (CommaExpected (length text)) → Refused text e
+pub stops-count : (text : List ℕ) (c a : ℕ) (e : WordFault) → Passes text 0 0 1 (c ∷ []) a
+    → Stops text 1 a 1 e (CommaExpected (length text)) → Refused text e
 stops-count text c a e x s = elim s.why [
   | inl h ↦ refused-token text e (x.good ∙ h)
-  | inr h ↦ refused-end text e (CommaExpected (length text)) (x.good ∙ h.0) (inl (omega (arith, h.1, x.count))) tt h.2 (end-comma text (omega (arith, h.1, x.count)))
+  | inr h ↦ refused-end text e (CommaExpected (length text)) (x.good ∙ h.0) (inl (omega (arith, h.1, x.count))) tt h.2
+      (end-comma text (omega (arith, h.1, x.count)))
 ]
 
-pub stops-fields : (text : List ℕ) (c : ℕ) (list : List Insn) (at : ℕ) (e : WordFault) → IsRead text c list at → (tokens_after text at ≡ [] → ⊥) → Stops text 2 at 4 e (NumberExpected (length text)) → Refused text e
+pub stops-fields : (text : List ℕ) (c : ℕ) (list : List Insn) (at : ℕ) (e : WordFault) → IsRead text c list at
+    → (tokens_after text at ≡ [] → ⊥) → Stops text 2 at 4 e (NumberExpected (length text)) → Refused text e
 stops-fields text c list at e r some s =
     let more : 0 < length (tokens_after text at) = nonempty _ some in
     elim s.why [
       | inl h ↦ refused-token text e (r.good ∙ h)
-      | inr h ↦ refused-end text e (NumberExpected (length text)) (r.good ∙ h.0) (inr (λ a. omega (arith, h.1, r.tokens_so_far, a), λ b. omega (arith, h.1, r.tokens_so_far, b))) tt h.2 (end-number text (λ one. omega (arith, h.1, r.tokens_so_far, one)))
+      | inr h ↦ refused-end text e (NumberExpected (length text)) (r.good ∙ h.0)
+          (inr (λ a. omega (arith, h.1, r.tokens_so_far, a), λ b. omega (arith, h.1, r.tokens_so_far, b))) tt h.2
+          (end-number text (λ one. omega (arith, h.1, r.tokens_so_far, one)))
     ]
 
-pub stops-comma : (text : List ℕ) (c : ℕ) (list : List Insn) (ns : List ℕ) (at mid : ℕ) (e : WordFault) → IsRead text c list at → Passes text 2 at 4 ns mid → (tokens_after text mid ≡ [] → ⊥) → Stops text 1 mid 1 e (CommaExpected (length text)) → Refused text e
+pub stops-comma : (text : List ℕ) (c : ℕ) (list : List Insn) (ns : List ℕ) (at mid : ℕ) (e : WordFault)
+    → IsRead text c list at → Passes text 2 at 4 ns mid → (tokens_after text mid ≡ [] → ⊥)
+    → Stops text 1 mid 1 e (CommaExpected (length text)) → Refused text e
 stops-comma text c list ns at mid e r x some s =
     let more : 0 < length (tokens_after text mid) = nonempty _ some in
     elim s.why [
@@ -183,4 +236,5 @@ stops-comma text c list ns at mid e r x some s =
       | inr h ↦ absurd (omega (arith, h.1, more))
     ]
 
-pub ruleset reading = (stops-first, stops-count, stops-fields, stops-comma, read-start, read-next, read-done, read-last)
+pub ruleset reading =
+    (stops-first, stops-count, stops-fields, stops-comma, read-start, read-next, read-done, read-last)

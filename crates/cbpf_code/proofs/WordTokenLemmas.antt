@@ -1,24 +1,31 @@
 -- How the tokens of a text begin.
-use Rattle.std.proofs.Common.{IsTrue, nat_eq, ◌↔◌, ◌≡◌, ℕ, ◌+◌, ◌-◌, ◌<◌, ◌≤◌, ◌≢◌, Bool, true, false, nat_lt, ◌⊎◌, inl, inr, List, [], ◌∷◌, ◌++◌, length, take, drop, get_or, slice_range, refl, sym, ◌∙◌, ap, arith, tests, drop-cons, add-one, zero, suc, take_all, length-drop}
+use Rattle.std.proofs.Common.{IsTrue, nat_eq, ◌↔◌, ◌≡◌, ℕ, ◌+◌, ◌-◌, ◌<◌, ◌≤◌, ◌≢◌, Bool, true, false, nat_lt, ◌⊎◌}
+use Rattle.std.proofs.Common.{inl, inr, List, [], ◌∷◌, ◌++◌, length, take, drop, get_or, slice_range, refl, sym, ◌∙◌}
+use Rattle.std.proofs.Common.{ap, arith, tests, drop-cons, add-one, zero, suc, take_all, length-drop}
 use Rattle.std.specs.List.{AllByRecursion}
 use Rattle.std.proofs.lemmas.Bool.{eq-eqb, eqb-true}
 use Rattle.std.proofs.lemmas.List.{drop_all}
 use Rattle.std.proofs.lemmas.Grind.{common_steps}
-use Rattle.cbpf_code.specs.WordTokens.{Token, run, single, is_digit, is_blank, begins_with_digit, join_digit, tokens_from, tokens_after}
+use Rattle.cbpf_code.specs.WordTokens.{Token, run, single, is_digit, is_blank, begins_with_digit, join_digit}
+use Rattle.cbpf_code.specs.WordTokens.{tokens_from, tokens_after}
 
-tokens-blank : (at b : ℕ) (bs : List ℕ) → is_digit b ≡ false → is_blank b ≡ true → tokens_from at (b ∷ bs) ≡ tokens_from (suc at) bs
+tokens-blank : (at b : ℕ) (bs : List ℕ) → is_digit b ≡ false → is_blank b ≡ true
+    → tokens_from at (b ∷ bs) ≡ tokens_from (suc at) bs
 unfolding tokens_from
 tokens-blank at b bs d e = rw (d, e) refl
 
-tokens-single : (at b : ℕ) (bs : List ℕ) → is_digit b ≡ false → is_blank b ≡ false → tokens_from at (b ∷ bs) ≡ single at b ∷ tokens_from (suc at) bs
+tokens-single : (at b : ℕ) (bs : List ℕ) → is_digit b ≡ false → is_blank b ≡ false
+    → tokens_from at (b ∷ bs) ≡ single at b ∷ tokens_from (suc at) bs
 unfolding tokens_from
 tokens-single at b bs d e = rw (d, e) refl
 
-tokens-last_digit : (at b : ℕ) (bs : List ℕ) → is_digit b ≡ true → begins_with_digit bs ≡ false → tokens_from at (b ∷ bs) ≡ run at (b ∷ []) ∷ tokens_from (suc at) bs
+tokens-last_digit : (at b : ℕ) (bs : List ℕ) → is_digit b ≡ true → begins_with_digit bs ≡ false
+    → tokens_from at (b ∷ bs) ≡ run at (b ∷ []) ∷ tokens_from (suc at) bs
 unfolding tokens_from
 tokens-last_digit at b bs d e = rw (d, e) refl
 
-tokens-digit : (at b : ℕ) (bs : List ℕ) → is_digit b ≡ true → begins_with_digit bs ≡ true → tokens_from at (b ∷ bs) ≡ join_digit at b (tokens_from (suc at) bs)
+tokens-digit : (at b : ℕ) (bs : List ℕ) → is_digit b ≡ true → begins_with_digit bs ≡ true
+    → tokens_from at (b ∷ bs) ≡ join_digit at b (tokens_from (suc at) bs)
 unfolding tokens_from
 tokens-digit at b bs d e = rw (d, e) refl
 
@@ -37,33 +44,47 @@ at_no_digit : (bs : List ℕ) → (0 < length bs → is_digit (get_or bs 0 0) �
 at_no_digit [] d = refl
 at_no_digit (b ∷ bs) d = d (omega arith)
 
-tokens-run : (n at : ℕ) (bs : List ℕ) → n < length bs → ((k : ℕ) → k < suc n → is_digit (get_or bs k 0) ≡ true) → (suc n < length bs → is_digit (get_or bs (suc n) 0) ≡ false) → tokens_from at bs ≡ run at (take (suc n) bs) ∷ tokens_from (at + suc n) (drop (suc n) bs)
+tokens-run : (n at : ℕ) (bs : List ℕ) → n < length bs → ((k : ℕ) → k < suc n → is_digit (get_or bs k 0) ≡ true)
+    → (suc n < length bs → is_digit (get_or bs (suc n) 0) ≡ false)
+    → tokens_from at bs ≡ run at (take (suc n) bs) ∷ tokens_from (at + suc n) (drop (suc n) bs)
 tokens-run n at [] l d s = absurd (omega (arith, l))
-tokens-run zero at (b ∷ bs) l d s = rw add-one (tokens-last_digit at b bs (d 0 (omega arith)) (at_no_digit bs (λ h. s (omega (arith, h)))))
+tokens-run zero at (b ∷ bs) l d s =
+    rw add-one (tokens-last_digit at b bs (d 0 (omega arith)) (at_no_digit bs (λ h. s (omega (arith, h)))))
 tokens-run (suc n) at (b ∷ bs) l d s =
-    let more : tokens_from (suc at) bs ≡ run (suc at) (take (suc n) bs) ∷ tokens_from (suc at + suc n) (drop (suc n) bs) =
+    let more : tokens_from (suc at) bs
+    ≡ run (suc at) (take (suc n) bs) ∷ tokens_from (suc at + suc n) (drop (suc n) bs) =
     tokens-run n (suc at) bs (omega (arith, l)) (λ k h. d (suc k) (omega (arith, h))) (λ h. s (omega (arith, h))) in
     let seam : suc at + suc n ≡ at + suc (suc n) = omega arith in
-    tokens-digit at b bs (d 0 (omega arith)) (at_digit bs (omega (arith, l)) (d 1 (omega arith))) ∙ ap (λ (ms : List Token). join_digit at b ms) more
+    tokens-digit at b bs (d 0 (omega arith)) (at_digit bs (omega (arith, l)) (d 1 (omega arith)))
+    ∙ ap (λ (ms : List Token). join_digit at b ms) more
     ∙ ap (λ (m : ℕ). run at (b ∷ take (suc n) bs) ∷ tokens_from m (drop (suc n) bs)) seam
 
 drop-drop_at : (text : List ℕ) (i n : ℕ) → drop n (drop i text) ≡ drop (i + n) text
 drop-drop_at text i n = grind (arith, common_steps)
 
-pub step-blank : (text : List ℕ) (i : ℕ) → i < length text → is_blank (get_or text i 0) ≡ true → tokens_after text i ≡ tokens_after text (i + 1)
-step-blank text i l e = (rw (drop-cons text i 0) (rw add-one (tokens-blank i (get_or text i 0) (drop (suc i) text) (blank_no_digit (get_or text i 0) e) e)))
+pub step-blank : (text : List ℕ) (i : ℕ) → i < length text → is_blank (get_or text i 0) ≡ true
+    → tokens_after text i ≡ tokens_after text (i + 1)
+step-blank text i l e = (rw (drop-cons text i 0)
+    (rw add-one (tokens-blank i (get_or text i 0) (drop (suc i) text) (blank_no_digit (get_or text i 0) e) e)))
 
-pub step-single : (text : List ℕ) (i : ℕ) → i < length text → is_digit (get_or text i 0) ≡ false → is_blank (get_or text i 0) ≡ false → tokens_after text i ≡ single i (get_or text i 0) ∷ tokens_after text (i + 1)
-step-single text i l d e = (rw (drop-cons text i 0) (rw add-one (tokens-single i (get_or text i 0) (drop (suc i) text) d e)))
+pub step-single : (text : List ℕ) (i : ℕ) → i < length text → is_digit (get_or text i 0) ≡ false
+    → is_blank (get_or text i 0) ≡ false
+    → tokens_after text i ≡ single i (get_or text i 0) ∷ tokens_after text (i + 1)
+step-single text i l d e =
+    (rw (drop-cons text i 0) (rw add-one (tokens-single i (get_or text i 0) (drop (suc i) text) d e)))
 
 pub step-end : (text : List ℕ) (i : ℕ) → length text ≤ i → tokens_after text i ≡ []
 step-end text i l = rw (drop_all i text l) (tokens-none i)
 
 -- `sub` is the text from i on, and begins with n digits and no more
-pub step-run : (text : List ℕ) (i n : ℕ) (sub : List ℕ) → sub ≡ drop i text → 0 < n → n ≤ length sub → ((k : ℕ) → k < n → is_digit (get_or sub k 0) ≡ true) → (n < length sub → is_digit (get_or sub n 0) ≡ false) → tokens_after text i ≡ run i (take n sub) ∷ tokens_after text (i + n)
+pub step-run : (text : List ℕ) (i n : ℕ) (sub : List ℕ) → sub ≡ drop i text → 0 < n → n ≤ length sub
+    → ((k : ℕ) → k < n → is_digit (get_or sub k 0) ≡ true) → (n < length sub → is_digit (get_or sub n 0) ≡ false)
+    → tokens_after text i ≡ run i (take n sub) ∷ tokens_after text (i + n)
 step-run text i zero sub e p l d s = absurd (omega (arith, p))
 step-run text i (suc n) sub e p l d s =
-    rw (← e) (tokens-run n i sub (omega (arith, l)) d s) ∙ ap (λ (bs : List ℕ). run i (take (suc n) sub) ∷ tokens_from (i + suc n) bs) (ap (λ (t : List ℕ). drop (suc n) t) e ∙ drop-drop_at text i (suc n))
+    rw (← e) (tokens-run n i sub (omega (arith, l)) d s)
+    ∙ ap (λ (bs : List ℕ). run i (take (suc n) sub) ∷ tokens_from (i + suc n) bs)
+    (ap (λ (t : List ℕ). drop (suc n) t) e ∙ drop-drop_at text i (suc n))
 
 pub ruleset token_steps = (step-blank, step-end)
 
@@ -73,7 +94,10 @@ pub record RunFound (text : List ℕ) (i n : ℕ) (sub : List ℕ) : Type 0 wher
   pub first : tokens_after text i ≡ run i (slice_range text i (i + n)) ∷ tokens_after text (i + n)
   pub same : take n sub ≡ slice_range text i (i + n)
 
-pub found-run : (text : List ℕ) (i n : ℕ) (sub : List ℕ) → i < length text → is_digit (get_or text i 0) ≡ true → sub ≡ take (length text - i) (drop i text) → n ≤ length sub → ((k : ℕ) → k < n → is_digit (get_or sub k 0) ≡ true) → (n < length sub → is_digit (get_or sub n 0) ≡ false) → RunFound text i n sub
+pub found-run : (text : List ℕ) (i n : ℕ) (sub : List ℕ) → i < length text → is_digit (get_or text i 0) ≡ true
+    → sub ≡ take (length text - i) (drop i text) → n ≤ length sub
+    → ((k : ℕ) → k < n → is_digit (get_or sub k 0) ≡ true) → (n < length sub → is_digit (get_or sub n 0) ≡ false)
+    → RunFound text i n sub
 found-run text i n sub l d e w ds s =
     let whole : sub ≡ drop i text = e ∙ take_all _ _ (omega (arith, length-drop i text)) in
     let len : length sub ≡ length text - i = ap length whole ∙ length-drop i text in
@@ -103,28 +127,38 @@ join-some at b (run p ds ∷ ms) h e = cc
 -- a byte that is no blank begins a token
 tokens-some : (at b : ℕ) (bs : List ℕ) → is_blank b ≡ false → tokens_from at (b ∷ bs) ≡ [] → ⊥
 tokens-some at b [] n e = elim (bool-cases (is_digit b)) [
-  | inl d ↦ (let f : run at (b ∷ []) ∷ tokens_from (suc at) [] ≡ [] = sym (tokens-last_digit at b [] d refl) ∙ e in cc)
+  | inl d ↦
+      (let f : run at (b ∷ []) ∷ tokens_from (suc at) [] ≡ [] = sym (tokens-last_digit at b [] d refl) ∙ e in cc)
   | inr d ↦ (let f : single at b ∷ tokens_from (suc at) [] ≡ [] = sym (tokens-single at b [] d n) ∙ e in cc)
 ]
 tokens-some at b (x ∷ xs) n e = elim (bool-cases (is_digit b)) [
   | inl d ↦ elim (bool-cases (is_digit x)) [
-    | inl y ↦ join-some at b (tokens_from (suc at) (x ∷ xs)) (tokens-some (suc at) x xs (digit_no_blank x y)) (sym (tokens-digit at b (x ∷ xs) d y) ∙ e)
-    | inr y ↦ (let f : run at (b ∷ []) ∷ tokens_from (suc at) (x ∷ xs) ≡ [] = sym (tokens-last_digit at b (x ∷ xs) d y) ∙ e in cc)
+    | inl y ↦ join-some at b (tokens_from (suc at) (x ∷ xs)) (tokens-some (suc at) x xs (digit_no_blank x y))
+        (sym (tokens-digit at b (x ∷ xs) d y) ∙ e)
+    | inr y ↦ (let f : run at (b ∷ []) ∷ tokens_from (suc at) (x ∷ xs) ≡ [] = sym
+        (tokens-last_digit at b (x ∷ xs) d y) ∙ e in
+        cc)
   ]
-  | inr d ↦ (let f : single at b ∷ tokens_from (suc at) (x ∷ xs) ≡ [] = sym (tokens-single at b (x ∷ xs) d n) ∙ e in cc)
+  | inr d ↦
+      (let f : single at b ∷ tokens_from (suc at) (x ∷ xs) ≡ [] = sym (tokens-single at b (x ∷ xs) d n) ∙ e in cc)
 ]
 
-pub some-token : (text : List ℕ) (i : ℕ) → i < length text → is_blank (get_or text i 0) ≡ false → tokens_after text i ≡ [] → ⊥
+pub some-token : (text : List ℕ) (i : ℕ) → i < length text → is_blank (get_or text i 0) ≡ false
+    → tokens_after text i ≡ [] → ⊥
 some-token text i l b e =
     let front : drop i text ≡ get_or text i 0 ∷ drop (suc i) text = drop-cons text i 0 l in
     tokens-some i (get_or text i 0) (drop (suc i) text) b (sym (ap (tokens_from i) front) ∙ e)
 
 -- `place` is the first place from `at` on that is no blank
-pub end-or-not : (text : List ℕ) (at place : ℕ) → place ≤ length text → tokens_after text place ≡ tokens_after text at → (place < length text → is_blank (get_or text place 0) ≡ false) → IsTrue (nat_eq place (length text)) ↔ (tokens_after text at ≡ [])
+pub end-or-not : (text : List ℕ) (at place : ℕ) → place ≤ length text → tokens_after text place ≡ tokens_after text at
+    → (place < length text → is_blank (get_or text place 0) ≡ false)
+    → IsTrue (nat_eq place (length text)) ↔ (tokens_after text at ≡ [])
 end-or-not text at place w same stops = (
-  (λ h. let e : place ≡ length text = eqb-true place (length text) h in sym same ∙ step-end text place (omega (arith, e))),
+  (λ h. let e : place ≡ length text = eqb-true place (length text) h in
+      sym same ∙ step-end text place (omega (arith, e))),
   (λ e. elim (bool-cases (nat_lt place (length text))) [
-    | inl t ↦ (let l : place < length text = grind (arith, tests) in absurd (some-token text place l (stops l) (same ∙ e)))
+    | inl t ↦
+        (let l : place < length text = grind (arith, tests) in absurd (some-token text place l (stops l) (same ∙ e)))
     | inr f ↦ (let g : nat_lt place (length text) ≡ false = f in eq-eqb place (length text) (grind (arith, tests)))
   ]),
 )
@@ -137,14 +171,18 @@ law-empty = tokens-none
 pub law-blank : (at b : ℕ) (rest : List ℕ) → is_blank b ≡ true → tokens_from at (b ∷ rest) ≡ tokens_from (at + 1) rest
 law-blank at b rest e = rw add-one (tokens-blank at b rest (blank_no_digit b e) e)
 
-pub law-single : (at b : ℕ) (rest : List ℕ) → is_blank b ≡ false → is_digit b ≡ false → tokens_from at (b ∷ rest) ≡ single at b ∷ tokens_from (at + 1) rest
+pub law-single : (at b : ℕ) (rest : List ℕ) → is_blank b ≡ false → is_digit b ≡ false
+    → tokens_from at (b ∷ rest) ≡ single at b ∷ tokens_from (at + 1) rest
 law-single at b rest n d = rw add-one (tokens-single at b rest d n)
 
-pub law-run : (at : ℕ) (digits rest : List ℕ) → digits ≢ [] → AllByRecursion (λ b. is_digit b ≡ true) digits → begins_with_digit rest ≡ false → tokens_from at (digits ++ rest) ≡ run at digits ∷ tokens_from (at + length digits) rest
+pub law-run : (at : ℕ) (digits rest : List ℕ) → digits ≢ [] → AllByRecursion (λ b. is_digit b ≡ true) digits
+    → begins_with_digit rest ≡ false
+    → tokens_from at (digits ++ rest) ≡ run at digits ∷ tokens_from (at + length digits) rest
 law-run at [] rest some all stop = absurd (some refl)
 law-run at (b ∷ []) rest some all stop = rw add-one (tokens-last_digit at b rest all.0 stop)
 law-run at (b ∷ d ∷ ds) rest some all stop =
-    let more : tokens_from (suc at) (d ∷ ds ++ rest) ≡ run (suc at) (d ∷ ds) ∷ tokens_from (suc at + length (d ∷ ds)) rest =
+    let more : tokens_from (suc at) (d ∷ ds ++ rest)
+    ≡ run (suc at) (d ∷ ds) ∷ tokens_from (suc at + length (d ∷ ds)) rest =
     law-run (suc at) (d ∷ ds) rest (λ h. cc) all.1 stop in
     let seam : suc at + length (d ∷ ds) ≡ at + length (b ∷ d ∷ ds) = omega arith in
     tokens-digit at b (d ∷ ds ++ rest) all.0 all.1.0 ∙ ap (λ (ms : List Token). join_digit at b ms) more

@@ -1,5 +1,6 @@
 -- Writes one after another.
-use Rattle.std.proofs.Common.{◌≡◌, ℕ, ◌+◌, ◌-◌, ◌≤◌, List, [], ◌++◌, take, drop, get_or, ◌<◌, ◌∷◌, zero, suc, codes, length, length-drop, take_all, append_assoc, append-nil, sym, ◌∙◌, ap, refl, arith}
+use Rattle.std.proofs.Common.{◌≡◌, ℕ, ◌+◌, ◌-◌, ◌≤◌, List, [], ◌++◌, take, drop, get_or, ◌<◌, ◌∷◌, zero, suc, codes}
+use Rattle.std.proofs.Common.{length, length-drop, take_all, append_assoc, append-nil, sym, ◌∙◌, ap, refl, arith}
 use Rattle.std.proofs.Common.{Option, None, Some, Result, Ok, Err}
 use Rattle.std.specs.Io.KnownBytes.{Appends, Keeps}
 use Rattle.std.proofs.lemmas.List.{take-append-drop, take_more}
@@ -45,9 +46,11 @@ pub part-more : (u v : Option (List ℕ)) (a b : List ℕ) → AppendedPart u v 
 unfolding AppendedPart
 part-more u v a b x = (x.0, x.1 ++ b, sym (append_assoc x.0 x.1 b) ∙ ap (λ (t : List ℕ). t ++ b) x.2, x.3)
 
-pub part-then : (u v w : Option (List ℕ)) (a b : List ℕ) → Appended u v a → AppendedPart v w b → AppendedPart u w (a ++ b)
+pub part-then : (u v w : Option (List ℕ)) (a b : List ℕ) → Appended u v a → AppendedPart v w b
+    → AppendedPart u w (a ++ b)
 unfolding Appended AppendedPart
-part-then u v w a b x y = (a ++ y.0, y.1, append_assoc a y.0 y.1 ∙ ap (λ (t : List ℕ). a ++ t) y.2, appends-then u v w a y.0 x y.3)
+part-then u v w a b x y =
+    (a ++ y.0, y.1, append_assoc a y.0 y.1 ∙ ap (λ (t : List ℕ). a ++ t) y.2, appends-then u v w a y.0 x y.3)
 
 -- what was appended so far is a part of the whole
 pub part-take : (u v : Option (List ℕ)) (n : ℕ) (text : List ℕ) → Appended u v (take n text) → AppendedPart u v text
@@ -57,45 +60,59 @@ part-take u v n text x = (take n text, drop n text, take-append-drop n text, x)
 take-len-drop : (text : List ℕ) (at : ℕ) → take (length text - at) (drop at text) ≡ drop at text
 take-len-drop text at = take_all _ _ (omega (arith, length-drop at text))
 
-next_taken : (text : List ℕ) (at n : ℕ) → at + n ≤ length text → take (at + n) text ≡ take at text ++ take n (take (length text - at) (drop at text))
+next_taken : (text : List ℕ) (at n : ℕ) → at + n ≤ length text
+    → take (at + n) text ≡ take at text ++ take n (take (length text - at) (drop at text))
 next_taken text at n h =
     let all : take (length text - at) (drop at text) ≡ drop at text = take-len-drop text at in
     take-add at n text ∙ ap (λ (t : List ℕ). take at text ++ take n t) (sym all)
 
 -- `write(&text[at..])` took n bytes
-pub stepped : (u v w : Option (List ℕ)) (text : List ℕ) (at n : ℕ) → at + n ≤ length text → Appended u v (take at text) → Appends v w (take n (take (length text - at) (drop at text))) → Appended u w (take (at + n) text)
+pub stepped : (u v w : Option (List ℕ)) (text : List ℕ) (at n : ℕ) → at + n ≤ length text
+    → Appended u v (take at text) → Appends v w (take n (take (length text - at) (drop at text)))
+    → Appended u w (take (at + n) text)
 stepped u v w text at n h x y = rw (next_taken text at n h) (appended-by u v w _ _ x y)
 
-pub err-exit : {X E : Type 0} (u w : Option (List ℕ)) (a : List ℕ) (r : Result X E) → IsErr r → AppendedPart u w a → Wrote u w r a
+pub err-exit : {X E : Type 0} (u w : Option (List ℕ)) (a : List ℕ) (r : Result X E) → IsErr r → AppendedPart u w a
+    → Wrote u w r a
 err-exit u w a (Ok y) e h = absurd (cc)
 err-exit u w a (Err y) e h = h
 
 -- ---- a loop that writes the text of each element
 flat-append : {X : Type 0} (f : X → List ℕ) (xs ys : List X) → flat_map f (xs ++ ys) ≡ flat_map f xs ++ flat_map f ys
 flat-append f [] ys = refl
-flat-append f (x ∷ xs) ys = ap (λ (t : List ℕ). f x ++ t) (flat-append f xs ys) ∙ sym (append_assoc (f x) (flat_map f xs) (flat_map f ys))
+flat-append f (x ∷ xs) ys =
+    ap (λ (t : List ℕ). f x ++ t) (flat-append f xs ys) ∙ sym (append_assoc (f x) (flat_map f xs) (flat_map f ys))
 
-flat-more : {X : Type 0} (f : X → List ℕ) (xs : List X) (i : ℕ) (d : X) → i < length xs → flat_map f (take (i + 1) xs) ≡ flat_map f (take i xs) ++ f (get_or xs i d)
-flat-more f xs i d l = ap (λ ys. flat_map f ys) (take_more xs i d l) ∙ flat-append f (take i xs) (get_or xs i d ∷ []) ∙ ap (λ (t : List ℕ). flat_map f (take i xs) ++ t) (append-nil (f (get_or xs i d)))
+flat-more : {X : Type 0} (f : X → List ℕ) (xs : List X) (i : ℕ) (d : X) → i < length xs
+    → flat_map f (take (i + 1) xs) ≡ flat_map f (take i xs) ++ f (get_or xs i d)
+flat-more f xs i d l = ap (λ ys. flat_map f ys) (take_more xs i d l) ∙ flat-append f (take i xs) (get_or xs i d ∷ [])
+    ∙ ap (λ (t : List ℕ). flat_map f (take i xs) ++ t) (append-nil (f (get_or xs i d)))
 
-flat-split : {X : Type 0} (f : X → List ℕ) (xs : List X) (n : ℕ) → flat_map f (take n xs) ++ flat_map f (drop n xs) ≡ flat_map f xs
+flat-split : {X : Type 0} (f : X → List ℕ) (xs : List X) (n : ℕ)
+    → flat_map f (take n xs) ++ flat_map f (drop n xs) ≡ flat_map f xs
 flat-split f xs n = sym (flat-append f (take n xs) (drop n xs)) ∙ ap (λ ys. flat_map f ys) (take-append-drop n xs)
 
-pub loop-next : {X : Type 0} (f : X → List ℕ) (xs : List X) (i : ℕ) (d : X) (u v w : Option (List ℕ)) → i < length xs → Appended u v (flat_map f (take i xs)) → Appended v w (f (get_or xs i d)) → Appended u w (flat_map f (take (i + 1) xs))
+pub loop-next : {X : Type 0} (f : X → List ℕ) (xs : List X) (i : ℕ) (d : X) (u v w : Option (List ℕ)) → i < length xs
+    → Appended u v (flat_map f (take i xs)) → Appended v w (f (get_or xs i d))
+    → Appended u w (flat_map f (take (i + 1) xs))
 loop-next f xs i d u v w l x y = rw (flat-more f xs i d l) (appended-then u v w _ _ x y)
 
-pub loop-stop : {X : Type 0} (f : X → List ℕ) (xs : List X) (i : ℕ) (d : X) (u v w : Option (List ℕ)) → i < length xs → Appended u v (flat_map f (take i xs)) → AppendedPart v w (f (get_or xs i d)) → AppendedPart u w (flat_map f xs)
+pub loop-stop : {X : Type 0} (f : X → List ℕ) (xs : List X) (i : ℕ) (d : X) (u v w : Option (List ℕ)) → i < length xs
+    → Appended u v (flat_map f (take i xs)) → AppendedPart v w (f (get_or xs i d)) → AppendedPart u w (flat_map f xs)
 loop-stop f xs i d u v w l x y =
-    let part : AppendedPart u w (flat_map f (take (i + 1) xs)) = rw (flat-more f xs i d l) (part-then u v w _ _ x y) in
+    let part : AppendedPart u w (flat_map f (take (i + 1) xs)) =
+    rw (flat-more f xs i d l) (part-then u v w _ _ x y) in
     rw (← flat-split f xs (i + 1)) (part-more u w _ (flat_map f (drop (i + 1) xs)) part)
 
-pub loop-done : {X : Type 0} (f : X → List ℕ) (xs : List X) (n : ℕ) (u v : Option (List ℕ)) → length xs ≤ n → Appended u v (flat_map f (take n xs)) → Appended u v (flat_map f xs)
+pub loop-done : {X : Type 0} (f : X → List ℕ) (xs : List X) (n : ℕ) (u v : Option (List ℕ)) → length xs ≤ n
+    → Appended u v (flat_map f (take n xs)) → Appended u v (flat_map f xs)
 loop-done f xs n u v l x = rw (← take_all n xs l) x
 
 pub ruleset loops = (appended-nil, loop-next, loop-stop, loop-done)
 
 -- a call at the end: its result is the caller's
-pub wrote-then : {A E : Type 0} (u v w : Option (List ℕ)) (a b : List ℕ) (r : Result A E) → Appended u v a → Wrote v w r b → Wrote u w r (a ++ b)
+pub wrote-then : {A E : Type 0} (u v w : Option (List ℕ)) (a b : List ℕ) (r : Result A E) → Appended u v a
+    → Wrote v w r b → Wrote u w r (a ++ b)
 wrote-then u v w a b (Ok z) x y = appended-then u v w a b x y
 wrote-then u v w a b (Err z) x y = part-then u v w a b x y
 
@@ -111,22 +128,29 @@ pub ruleset pads = (take-spaces)
 
 -- ---- two calls, one after the other
 
-pub first-failed : {A E : Type 0} (u v : Option (List ℕ)) (a b : List ℕ) (r : Result A E) → IsErr r → AppendedPart u v a → Wrote u v r (a ++ b)
+pub first-failed : {A E : Type 0} (u v : Option (List ℕ)) (a b : List ℕ) (r : Result A E) → IsErr r
+    → AppendedPart u v a → Wrote u v r (a ++ b)
 first-failed u v a b r e h = err-exit u v (a ++ b) r e (part-more u v a b h)
 
 pub ruleset pairs = (first-failed, wrote-then)
 
 -- ---- a loop that writes the texts of some elements at once
 
-chunk-more : {X : Type 0} (f : X → List ℕ) (xs : List X) (i e : ℕ) → i ≤ e → flat_map f (take e xs) ≡ flat_map f (take i xs) ++ flat_map f (take (e - i) (drop i xs))
+chunk-more : {X : Type 0} (f : X → List ℕ) (xs : List X) (i e : ℕ) → i ≤ e
+    → flat_map f (take e xs) ≡ flat_map f (take i xs) ++ flat_map f (take (e - i) (drop i xs))
 chunk-more f xs i e l =
     let whole : e ≡ i + (e - i) = omega (arith, l) in
-    ap (λ (k : ℕ). flat_map f (take k xs)) whole ∙ ap (λ ys. flat_map f ys) (take-add i (e - i) xs) ∙ flat-append f (take i xs) (take (e - i) (drop i xs))
+    ap (λ (k : ℕ). flat_map f (take k xs)) whole ∙ ap (λ ys. flat_map f ys) (take-add i (e - i) xs)
+    ∙ flat-append f (take i xs) (take (e - i) (drop i xs))
 
-pub chunk-next : {X : Type 0} (f : X → List ℕ) (xs : List X) (i e : ℕ) (u v w : Option (List ℕ)) → i ≤ e → Appended u v (flat_map f (take i xs)) → Appended v w (flat_map f (take (e - i) (drop i xs))) → Appended u w (flat_map f (take e xs))
+pub chunk-next : {X : Type 0} (f : X → List ℕ) (xs : List X) (i e : ℕ) (u v w : Option (List ℕ)) → i ≤ e
+    → Appended u v (flat_map f (take i xs)) → Appended v w (flat_map f (take (e - i) (drop i xs)))
+    → Appended u w (flat_map f (take e xs))
 chunk-next f xs i e u v w l x y = rw (chunk-more f xs i e l) (appended-then u v w _ _ x y)
 
-pub chunk-stop : {X : Type 0} (f : X → List ℕ) (xs : List X) (i e : ℕ) (u v w : Option (List ℕ)) → i ≤ e → Appended u v (flat_map f (take i xs)) → AppendedPart v w (flat_map f (take (e - i) (drop i xs))) → AppendedPart u w (flat_map f xs)
+pub chunk-stop : {X : Type 0} (f : X → List ℕ) (xs : List X) (i e : ℕ) (u v w : Option (List ℕ)) → i ≤ e
+    → Appended u v (flat_map f (take i xs)) → AppendedPart v w (flat_map f (take (e - i) (drop i xs)))
+    → AppendedPart u w (flat_map f xs)
 chunk-stop f xs i e u v w l x y =
     let part : AppendedPart u w (flat_map f (take e xs)) = rw (chunk-more f xs i e l) (part-then u v w _ _ x y) in
     rw (← flat-split f xs e) (part-more u w _ (flat_map f (drop e xs)) part)

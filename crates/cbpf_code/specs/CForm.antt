@@ -16,7 +16,8 @@ padding n = spaces (2 - length (decimal n))
 -- the code in at least two hexadecimal digits, jt and jf in decimal, k in eight hexadecimal digits
 abbrev pub c_line : Insn → List ℕ
 c_line i = joined (
-    codes "{ " ∷ hex_prefix i.code ∷ hex 2 i.code ∷ codes ", " ∷ padding i.jt ∷ decimal i.jt ∷ codes ", " ∷ padding i.jf ∷ decimal i.jf
+    codes "{ " ∷ hex_prefix i.code ∷ hex 2 i.code ∷ codes ", " ∷ padding i.jt ∷ decimal i.jt ∷ codes ", "
+    ∷ padding i.jf ∷ decimal i.jf
     ∷ codes ", " ∷ hex_prefix i.k ∷ hex 8 i.k ∷ codes " },\n" ∷ [])
 
 abbrev pub c_form : List Insn → List ℕ

@@ -7,7 +7,10 @@ use Rattle.cbpf_code.specs.declared.scan.Lexeme.TheVariants.{Digits, Byte}
 
 -- the token that was found, in a text
 abbrev pub token_of : List ℕ → Found → Token
-token_of text f = elim f.lexeme [ Digits v ↦ run f.place (slice_range text f.place f.end) | Byte b ↦ single f.place b ]
+token_of text f = elim f.lexeme [
+  | Digits v ↦ run f.place (slice_range text f.place f.end)
+  | Byte b ↦ single f.place b
+]
 
 -- a number is read up to a cap that no field reaches
 abbrev pub HasValue : List ℕ → Found → Lexeme → Type 0

@@ -1,6 +1,7 @@
 -- The tokens of a text: its longest runs of digits, and its single bytes that are neither digit nor blank.
 -- Word text, as `tcpdump -ddd` prints it, is made of them.
-use Rattle.std.specs.Prelude.{ℕ, suc, ◌+◌, ◌-◌, ◌*◌, Bool, false, ◌&&◌, ◌||◌, ◌==◌, nat_lt, if◌then◌else◌, List, [], ◌∷◌, drop, fold}
+use Rattle.std.specs.Prelude.{ℕ, suc, ◌+◌, ◌-◌, ◌*◌, Bool, false, ◌&&◌, ◌||◌, ◌==◌, nat_lt, if◌then◌else◌, List, []}
+use Rattle.std.specs.Prelude.{◌∷◌, drop, fold}
 
 -- a run of digits or a single byte, with the place of its first byte
 pub data Token : Type 0 where
@@ -28,7 +29,8 @@ join_digit at b (run p ds ∷ ms) = run at (b ∷ ds) ∷ ms
 unfoldable pub tokens_from : ℕ → List ℕ → List Token
 tokens_from at [] = []
 tokens_from at (b ∷ bs) =
-    if is_digit b then (if begins_with_digit bs then join_digit at b (tokens_from (suc at) bs) else (run at (b ∷ []) ∷ tokens_from (suc at) bs))
+    if is_digit b then (if begins_with_digit bs then join_digit at b (tokens_from (suc at) bs)
+    else (run at (b ∷ []) ∷ tokens_from (suc at) bs))
     else (if is_blank b then tokens_from (suc at) bs else (single at b ∷ tokens_from (suc at) bs))
 
 abbrev pub tokens : List ℕ → List Token

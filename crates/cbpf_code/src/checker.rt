@@ -1,4 +1,5 @@
-ghost use Rattle.std.specs.Prelude.{◌≡◌, ◌<◌, ◌≤◌, ◌+◌, ◌-◌, ◌↔◌, ◌⊎◌, ℕ, Some, length, slice_get, slice_index, MatchOption, IsOk, IfOk, IfErr, IsTrue};
+ghost use Rattle.std.specs.Prelude.{◌≡◌, ◌<◌, ◌≤◌, ◌+◌, ◌-◌, ◌↔◌, ◌⊎◌, ℕ, Some, length, slice_get, slice_index};
+ghost use Rattle.std.specs.Prelude.{MatchOption, IsOk, IfOk, IfErr, IsTrue};
 ghost use Rattle.cbpf_code.specs.Faults.{FirstFault, HasFault, IsReturn};
 ghost use Rattle.cbpf_code.specs.Faults as spec;
 ghost use Rattle.cbpf_code.specs.Sound.{IsSound};

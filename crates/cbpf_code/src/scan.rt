@@ -1,7 +1,9 @@
 // Finds the tokens of a text one after another.
-ghost use Rattle.std.specs.Prelude.{◌≡◌, ◌≢◌, ◌+◌, ◌<◌, ◌≤◌, ◌^◌, ℕ, min, take, length, slice_index, true, false, List, [], ◌∷◌, ◌++◌, MatchOption};
+ghost use Rattle.std.specs.Prelude.{◌≡◌, ◌≢◌, ◌+◌, ◌<◌, ◌≤◌, ◌^◌, ℕ, min, take, length, slice_index, true, false};
+ghost use Rattle.std.specs.Prelude.{List, [], ◌∷◌, ◌++◌, MatchOption};
 ghost use Rattle.std.specs.List.{AllByRecursion};
-ghost use Rattle.cbpf_code.specs.WordTokens.{single, run, is_digit, is_blank, begins_with_digit, number, tokens_from, tokens_after};
+ghost use Rattle.cbpf_code.specs.WordTokens.{single, run, is_digit, is_blank, begins_with_digit, number, tokens_from};
+ghost use Rattle.cbpf_code.specs.WordTokens.{tokens_after};
 ghost use Rattle.cbpf_code.specs.NextToken.{IsNextToken};
 
 /// No field of word text reaches this number, so greater ones stand for it.

@@ -1,4 +1,5 @@
-ghost use Rattle.std.specs.Prelude.{◌≡◌, ◌<◌, ◌≤◌, ◌+◌, ◌↔◌, ◌⊎◌, ℕ, Some, length, slice_get, slice_index, MatchOption, IsTrue};
+ghost use Rattle.std.specs.Prelude.{◌≡◌, ◌<◌, ◌≤◌, ◌+◌, ◌↔◌, ◌⊎◌, ℕ, Some, length, slice_get, slice_index};
+ghost use Rattle.std.specs.Prelude.{MatchOption, IsTrue};
 ghost use Rattle.cbpf_code.specs.ControlFlow as flow;
 ghost use Rattle.cbpf_code.specs.Faults.{HasFault};
 ghost use Rattle.cbpf_code.specs.CheckSteps.{IsWellFormed};

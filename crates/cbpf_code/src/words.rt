@@ -1,5 +1,6 @@
 // Reads word text, as `tcpdump -ddd` and `bpf_asm` print it.
-ghost use Rattle.std.specs.Prelude.{◌≡◌, ◌+◌, ◌<◌, ◌≤◌, ◌^◌, ◌%◌, ◌↔◌, ℕ, length, [], ◌∷◌, IsTrue, IfOk, MatchResult, List, ◌≢◌, ◌⊎◌};
+ghost use Rattle.std.specs.Prelude.{◌≡◌, ◌+◌, ◌<◌, ◌≤◌, ◌^◌, ◌%◌, ◌↔◌, ℕ, length, [], ◌∷◌, IsTrue, IfOk, MatchResult};
+ghost use Rattle.std.specs.Prelude.{List, ◌≢◌, ◌⊎◌};
 ghost use Rattle.cbpf_code.specs.WordTokens.{tokens_after};
 ghost use Rattle.cbpf_code.specs.WordText.{range_of, Spells, Refused};
 ghost use Rattle.cbpf_code.specs.WordSteps.{Passes, Stops, IsReadWhole};

@@ -1,5 +1,7 @@
 -- Words and blanks of a text.
-use Rattle.std.proofs.Common.{◌≡◌, ℕ, suc, ◌+◌, ◌<◌, ◌≤◌, Bool, true, false, not, ◌&&◌, List, [], ◌∷◌, ◌++◌, length, take, drop, get_or, drop-cons, add-one, length-drop, take_all, ◌-◌, ◌⊎◌, inl, inr, refl, sym, ap, ◌∙◌, arith}
+use Rattle.std.proofs.Common.{◌≡◌, ℕ, suc, ◌+◌, ◌<◌, ◌≤◌, Bool, true, false, not, ◌&&◌, List, [], ◌∷◌, ◌++◌, length}
+use Rattle.std.proofs.Common.{take, drop, get_or, drop-cons, add-one, length-drop, take_all, ◌-◌, ◌⊎◌, inl, inr, refl}
+use Rattle.std.proofs.Common.{sym, ap, ◌∙◌, arith}
 use Rattle.std.proofs.lemmas.List.{take-append-drop, take_more, nil_from_length}
 use Rattle.cbpf_code.specs.WordTokens.{is_blank}
 use Rattle.cbpf_code.specs.Text.{put_front}
@@ -19,7 +21,8 @@ trim_start-nil = refl
 
 all_blank-last : (b : ℕ) (bs : List ℕ) → all_blank (bs ++ b ∷ []) ≡ all_blank bs && is_blank b
 all_blank-last b [] = elim (is_blank b) as (λ t. (t && true) ≡ t) [ true ↦ refl | false ↦ refl ]
-all_blank-last b (x ∷ xs) = elim (is_blank x) as (λ t. (t && all_blank (xs ++ b ∷ [])) ≡ ((t && all_blank xs) && is_blank b)) [ true ↦ all_blank-last b xs | false ↦ refl ]
+all_blank-last b (x ∷ xs) = elim (is_blank x) as (λ t. (t && all_blank (xs ++ b ∷ []))
+    ≡ ((t && all_blank xs) && is_blank b)) [ true ↦ all_blank-last b xs | false ↦ refl ]
 
 and-true : (t : Bool) → (t && true) ≡ t
 and-true true = refl
@@ -64,15 +67,18 @@ and-right true t h = h
 and-right false t h = absurd (cc)
 
 -- a run that ends at the text's end or at a blank is a word
-run-words : (b : ℕ) (w rest : List ℕ) → is_blank b ≡ false → no_blank w ≡ true → begins_word rest ≡ false → words (b ∷ (w ++ rest)) ≡ (b ∷ w) ∷ words rest
+run-words : (b : ℕ) (w rest : List ℕ) → is_blank b ≡ false → no_blank w ≡ true → begins_word rest ≡ false
+    → words (b ∷ (w ++ rest)) ≡ (b ∷ w) ∷ words rest
 unfolding words
 run-words b [] rest h n e = rw (h, e) refl
 run-words b (x ∷ w) rest h n e =
     let p : is_blank x ≡ false = not-true (is_blank x) (and-left (not (is_blank x)) (no_blank w) n) in
-    let q : words (x ∷ (w ++ rest)) ≡ (x ∷ w) ∷ words rest = run-words x w rest p (and-right (not (is_blank x)) (no_blank w) n) e in
+    let q : words (x ∷ (w ++ rest)) ≡ (x ∷ w) ∷ words rest =
+    run-words x w rest p (and-right (not (is_blank x)) (no_blank w) n) e in
     rw (h, ap not p) (ap (λ (ws : List (List ℕ)). put_front b ws) q)
 
-run-after : (n b : ℕ) (w rest : List ℕ) → is_blank b ≡ false → no_blank w ≡ true → begins_word rest ≡ false → after_words (suc n) (b ∷ (w ++ rest)) ≡ after_words n rest
+run-after : (n b : ℕ) (w rest : List ℕ) → is_blank b ≡ false → no_blank w ≡ true → begins_word rest ≡ false
+    → after_words (suc n) (b ∷ (w ++ rest)) ≡ after_words n rest
 unfolding after_words
 run-after n b [] rest h m e = rw (h, e) refl
 run-after n b (x ∷ w) rest h m e =
@@ -106,7 +112,8 @@ words-trim (b ∷ bs) = elim (bool-cases (is_blank b)) [
 pub after_words-trim : (n : ℕ) (bs : List ℕ) → after_words (suc n) bs ≡ after_words (suc n) (trim_start bs)
 after_words-trim n [] = ap (after_words (suc n)) (sym trim_start-nil)
 after_words-trim n (b ∷ bs) = elim (bool-cases (is_blank b)) [
-  | inl h ↦ after_words-step n b bs h ∙ after_words-trim n bs ∙ ap (after_words (suc n)) (sym (trim_start-blank b bs h))
+  | inl h ↦
+      after_words-step n b bs h ∙ after_words-trim n bs ∙ ap (after_words (suc n)) (sym (trim_start-blank b bs h))
   | inr h ↦ ap (after_words (suc n)) (sym (trim_start-other b bs h))
 ]
 
@@ -132,26 +139,32 @@ no_blank-more (x ∷ xs) b h e =
 
 -- ---- by index
 
-pub start-step : (s : List ℕ) (i : ℕ) → i < length s → is_blank (get_or s i 0) ≡ true → trim_start (drop i s) ≡ trim_start (drop (i + 1) s)
+pub start-step : (s : List ℕ) (i : ℕ) → i < length s → is_blank (get_or s i 0) ≡ true
+    → trim_start (drop i s) ≡ trim_start (drop (i + 1) s)
 start-step s i l h = ap trim_start (drop-cons s i 0 l) ∙ trim_start-blank _ _ h ∙ rw add-one refl
 
-pub start-stop : (s : List ℕ) (i : ℕ) → i < length s → is_blank (get_or s i 0) ≡ false → trim_start (drop i s) ≡ drop i s
+pub start-stop : (s : List ℕ) (i : ℕ) → i < length s → is_blank (get_or s i 0) ≡ false
+    → trim_start (drop i s) ≡ drop i s
 start-stop s i l h = ap trim_start (drop-cons s i 0 l) ∙ trim_start-other _ _ h ∙ sym (drop-cons s i 0 l)
 
 pub start-end : (s : List ℕ) (i : ℕ) → length s ≤ i → trim_start (drop i s) ≡ drop i s
-start-end s i l = let e : drop i s ≡ [] = nil_from_length (drop i s) (omega (arith, length-drop i s)) in rw e trim_start-nil
+start-end s i l = let e : drop i s ≡ [] = nil_from_length (drop i s) (omega (arith, length-drop i s)) in
+    rw e trim_start-nil
 
 pub ruleset starts = (start-step, start-stop, start-end)
 
-pub end-step : (s : List ℕ) (e : ℕ) → 0 < e → e ≤ length s → is_blank (get_or s (e - 1) 0) ≡ true → trim_end (take e s) ≡ trim_end (take (e - 1) s)
+pub end-step : (s : List ℕ) (e : ℕ) → 0 < e → e ≤ length s → is_blank (get_or s (e - 1) 0) ≡ true
+    → trim_end (take e s) ≡ trim_end (take (e - 1) s)
 end-step s e p l h =
     let k : e ≡ (e - 1) + 1 = omega arith in
     ap (λ n. trim_end (take n s)) k ∙ ap trim_end (take_more s (e - 1) 0 (omega arith)) ∙ trim_end-blank _ _ h
 
-pub end-stop : (s : List ℕ) (e : ℕ) → 0 < e → e ≤ length s → is_blank (get_or s (e - 1) 0) ≡ false → trim_end (take e s) ≡ take e s
+pub end-stop : (s : List ℕ) (e : ℕ) → 0 < e → e ≤ length s → is_blank (get_or s (e - 1) 0) ≡ false
+    → trim_end (take e s) ≡ take e s
 end-stop s e p l h =
     let k : e ≡ (e - 1) + 1 = omega arith in
-    let t : take e s ≡ take (e - 1) s ++ get_or s (e - 1) 0 ∷ [] = ap (λ n. take n s) k ∙ take_more s (e - 1) 0 (omega arith) in
+    let t : take e s ≡ take (e - 1) s ++ get_or s (e - 1) 0 ∷ [] =
+    ap (λ n. take n s) k ∙ take_more s (e - 1) 0 (omega arith) in
     ap trim_end t ∙ trim_end-other _ _ h ∙ sym t
 
 pub end-none : (s : List ℕ) (e : ℕ) → e ≤ 0 → trim_end (take e s) ≡ take e s
@@ -159,24 +172,31 @@ end-none s e l = let z : e ≡ 0 = omega arith in rw z trim_end-nil
 
 pub ruleset ends = (end-step, end-stop, end-none)
 
-pub run-more : (s : List ℕ) (i : ℕ) → i < length s → no_blank (take i s) ≡ true → is_blank (get_or s i 0) ≡ false → no_blank (take (i + 1) s) ≡ true
+pub run-more : (s : List ℕ) (i : ℕ) → i < length s → no_blank (take i s) ≡ true → is_blank (get_or s i 0) ≡ false
+    → no_blank (take (i + 1) s) ≡ true
 run-more s i l h e = rw (take_more s i 0 l) (no_blank-more (take i s) (get_or s i 0) h e)
 
-begins-some : (w rest : List ℕ) → begins_word rest ≡ false → begins_word (w ++ rest) ≡ true → no_blank w ≡ true → words (w ++ rest) ≡ w ∷ words rest
+begins-some : (w rest : List ℕ) → begins_word rest ≡ false → begins_word (w ++ rest) ≡ true → no_blank w ≡ true
+    → words (w ++ rest) ≡ w ∷ words rest
 begins-some [] rest e b n = absurd (let f : true ≡ false = sym b ∙ e in cc)
-begins-some (x ∷ w) rest e b n = run-words x w rest (not-true (is_blank x) b) (and-right (not (is_blank x)) (no_blank w) n) e
+begins-some (x ∷ w) rest e b n =
+    run-words x w rest (not-true (is_blank x) b) (and-right (not (is_blank x)) (no_blank w) n) e
 
-begins-after : (n : ℕ) (w rest : List ℕ) → begins_word rest ≡ false → begins_word (w ++ rest) ≡ true → no_blank w ≡ true → after_words (suc n) (w ++ rest) ≡ after_words n rest
+begins-after : (n : ℕ) (w rest : List ℕ) → begins_word rest ≡ false → begins_word (w ++ rest) ≡ true
+    → no_blank w ≡ true → after_words (suc n) (w ++ rest) ≡ after_words n rest
 begins-after n [] rest e b m = absurd (let f : true ≡ false = sym b ∙ e in cc)
-begins-after n (x ∷ w) rest e b m = run-after n x w rest (not-true (is_blank x) b) (and-right (not (is_blank x)) (no_blank w) m) e
+begins-after n (x ∷ w) rest e b m =
+    run-after n x w rest (not-true (is_blank x) b) (and-right (not (is_blank x)) (no_blank w) m) e
 
 -- a text whose first i bytes are no blanks
-word-split : (s : List ℕ) (i : ℕ) → no_blank (take i s) ≡ true → begins_word (drop i s) ≡ false → begins_word s ≡ true → words s ≡ take i s ∷ words (drop i s)
+word-split : (s : List ℕ) (i : ℕ) → no_blank (take i s) ≡ true → begins_word (drop i s) ≡ false → begins_word s ≡ true
+    → words s ≡ take i s ∷ words (drop i s)
 word-split s i h e b =
     let j : take i s ++ drop i s ≡ s = take-append-drop i s in
     ap words (sym j) ∙ begins-some (take i s) (drop i s) e (rw j b) h
 
-rest-split : (s : List ℕ) (i n : ℕ) → no_blank (take i s) ≡ true → begins_word (drop i s) ≡ false → begins_word s ≡ true → after_words (suc n) s ≡ after_words n (drop i s)
+rest-split : (s : List ℕ) (i n : ℕ) → no_blank (take i s) ≡ true → begins_word (drop i s) ≡ false
+    → begins_word s ≡ true → after_words (suc n) s ≡ after_words n (drop i s)
 rest-split s i n h e b =
     let j : take i s ++ drop i s ≡ s = take-append-drop i s in
     ap (after_words (suc n)) (sym j) ∙ begins-after n (take i s) (drop i s) e (rw j b) h
@@ -187,16 +207,20 @@ stop-blank s i l h = rw (drop-cons s i 0 l) (ap not h)
 stop-end : (s : List ℕ) (i : ℕ) → length s ≤ i → begins_word (drop i s) ≡ false
 stop-end s i l = let e : drop i s ≡ [] = nil_from_length (drop i s) (omega (arith, length-drop i s)) in rw e refl
 
-pub word-at-blank : (s : List ℕ) (i : ℕ) → i < length s → no_blank (take i s) ≡ true → is_blank (get_or s i 0) ≡ true → begins_word s ≡ true → words s ≡ take i s ∷ words (drop i s)
+pub word-at-blank : (s : List ℕ) (i : ℕ) → i < length s → no_blank (take i s) ≡ true → is_blank (get_or s i 0) ≡ true
+    → begins_word s ≡ true → words s ≡ take i s ∷ words (drop i s)
 word-at-blank s i l h e b = word-split s i h (stop-blank s i l e) b
 
-pub word-at-end : (s : List ℕ) (i : ℕ) → length s ≤ i → no_blank (take i s) ≡ true → begins_word s ≡ true → words s ≡ take i s ∷ words (drop i s)
+pub word-at-end : (s : List ℕ) (i : ℕ) → length s ≤ i → no_blank (take i s) ≡ true → begins_word s ≡ true
+    → words s ≡ take i s ∷ words (drop i s)
 word-at-end s i l h b = word-split s i h (stop-end s i l) b
 
-pub rest-at-blank : (s : List ℕ) (i n : ℕ) → i < length s → no_blank (take i s) ≡ true → is_blank (get_or s i 0) ≡ true → begins_word s ≡ true → after_words (suc n) s ≡ after_words n (drop i s)
+pub rest-at-blank : (s : List ℕ) (i n : ℕ) → i < length s → no_blank (take i s) ≡ true
+    → is_blank (get_or s i 0) ≡ true → begins_word s ≡ true → after_words (suc n) s ≡ after_words n (drop i s)
 rest-at-blank s i n l h e b = rest-split s i n h (stop-blank s i l e) b
 
-pub rest-at-end : (s : List ℕ) (i n : ℕ) → length s ≤ i → no_blank (take i s) ≡ true → begins_word s ≡ true → after_words (suc n) s ≡ after_words n (drop i s)
+pub rest-at-end : (s : List ℕ) (i n : ℕ) → length s ≤ i → no_blank (take i s) ≡ true → begins_word s ≡ true
+    → after_words (suc n) s ≡ after_words n (drop i s)
 rest-at-end s i n l h b = rest-split s i n h (stop-end s i l) b
 
 pub ruleset runs = (run-more, word-at-blank, word-at-end, rest-at-blank, rest-at-end)
@@ -204,12 +228,16 @@ pub ruleset runs = (run-more, word-at-blank, word-at-end, rest-at-blank, rest-at
 pub rest-of : (s : List ℕ) (i : ℕ) → take (length s - i) (drop i s) ≡ drop i s
 rest-of s i = take_all _ _ (omega (arith, length-drop i s))
 
-pub next-words : (text s : List ℕ) (i : ℕ) → s ≡ trim_start text → (length s ≡ 0 → ⊥) → (begins_word s ≡ true → words s ≡ take i s ∷ words (drop i s)) → words text ≡ take i s ∷ words (take (length s - i) (drop i s))
+pub next-words : (text s : List ℕ) (i : ℕ) → s ≡ trim_start text → (length s ≡ 0 → ⊥)
+    → (begins_word s ≡ true → words s ≡ take i s ∷ words (drop i s))
+    → words text ≡ take i s ∷ words (take (length s - i) (drop i s))
 next-words text s i e n h =
     let b : begins_word s ≡ true = ap begins_word e ∙ begun text (λ z. n (ap length e ∙ z)) in
     words-trim text ∙ ap words (sym e) ∙ h b ∙ ap (λ (r : List ℕ). take i s ∷ words r) (sym (rest-of s i))
 
-pub next-after : (n : ℕ) (text s : List ℕ) (i : ℕ) → s ≡ trim_start text → (length s ≡ 0 → ⊥) → (begins_word s ≡ true → after_words (suc n) s ≡ after_words n (drop i s)) → after_words (suc n) text ≡ after_words n (take (length s - i) (drop i s))
+pub next-after : (n : ℕ) (text s : List ℕ) (i : ℕ) → s ≡ trim_start text → (length s ≡ 0 → ⊥)
+    → (begins_word s ≡ true → after_words (suc n) s ≡ after_words n (drop i s))
+    → after_words (suc n) text ≡ after_words n (take (length s - i) (drop i s))
 next-after n text s i e z h =
     let b : begins_word s ≡ true = ap begins_word e ∙ begun text (λ y. z (ap length e ∙ y)) in
     after_words-trim n text ∙ ap (after_words (suc n)) (sym e) ∙ h b ∙ ap (after_words n) (sym (rest-of s i))

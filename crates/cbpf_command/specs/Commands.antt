@@ -1,5 +1,8 @@
--- The debugger's commands, and how lines spell them (kernel documentation, networking/filter, on `bpf_dbg`; breakpoints with a condition, `breakpoint reset`, `delete`, `mark`, `resume`, `stops` and `value` are this project's own).
-use Rattle.std.specs.Prelude.{ℕ, ◌-◌, ◌^◌, ℤ, pos, if◌then◌else◌, List, [], ◌∷◌, Option, Some, None, option_map, Result, Ok, Err, codes, bytes_eq}
+-- The debugger's commands, and how lines spell them (kernel documentation, networking/filter, on `bpf_dbg`;
+-- breakpoints with a condition, `breakpoint reset`, `delete`, `mark`, `resume`,
+-- `stops` and `value` are this project's own).
+use Rattle.std.specs.Prelude.{ℕ, ◌-◌, ◌^◌, ℤ, pos, if◌then◌else◌, List, [], ◌∷◌, Option, Some, None, option_map}
+use Rattle.std.specs.Prelude.{Result, Ok, Err, codes, bytes_eq}
 use Rattle.std.specs.Str.{is_utf8}
 use Rattle.cbpf_code.specs.declared.extension.Ext.{Ext}
 use Rattle.cbpf_code.specs.Extension.{ext_name, ext_table}
@@ -77,12 +80,14 @@ by_both f None m = None
 -- by the name of a register: a is the accumulator, x the index register
 abbrev pub breakpoint_when : List ℕ → ℕ → ℕ → Option Spelled
 breakpoint_when r n v =
-    if bytes_eq r (codes "a") then Some (breakpoint_when_a n v) else (if bytes_eq r (codes "x") then Some (breakpoint_when_x n v) else None)
+    if bytes_eq r (codes "a") then Some (breakpoint_when_a n v)
+    else (if bytes_eq r (codes "x") then Some (breakpoint_when_x n v) else None)
 
 -- an instruction's number of 64 bits, and a register's value of 32
 abbrev pub breakpoint_by : List (List ℕ) → Option Spelled
 breakpoint_by [] = Some breakpoints
-breakpoint_by (w ∷ []) = if bytes_eq w (codes "reset") then Some reset_breakpoints else option_map breakpoint (number (2 ^ 64 - 1) w)
+breakpoint_by (w ∷ []) =
+    if bytes_eq w (codes "reset") then Some reset_breakpoints else option_map breakpoint (number (2 ^ 64 - 1) w)
 breakpoint_by (n ∷ r ∷ v ∷ []) = by_both (breakpoint_when r) (number (2 ^ 64 - 1) n) (number (2 ^ 32 - 1) v)
 breakpoint_by _ = None
 
@@ -134,7 +139,8 @@ load_by [] text = None
 load_by (w ∷ ws) text =
     if bytes_eq w (codes "bpf") then words_in text else (if bytes_eq w (codes "pcap") then name_in text else None)
 
--- how a command reads the words after its name; the text is what stands after the first of them, without the blanks around it
+-- how a command reads the words after its name; the text is what stands after the first of them,
+-- without the blanks around it
 abbrev pub Reading : Type 0
 Reading = List (List ℕ) → List ℕ → Option Spelled
 

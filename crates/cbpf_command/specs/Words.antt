@@ -11,13 +11,15 @@ begins_word (b ∷ bs) = not (is_blank b)
 -- the longest runs of bytes that are no blanks
 unfoldable pub words : List ℕ → List (List ℕ)
 words [] = []
-words (b ∷ bs) = if is_blank b then words bs else (if begins_word bs then put_front b (words bs) else ((b ∷ []) ∷ words bs))
+words (b ∷ bs) =
+    if is_blank b then words bs else (if begins_word bs then put_front b (words bs) else ((b ∷ []) ∷ words bs))
 
 -- the text after its first n words
 unfoldable pub after_words : ℕ → List ℕ → List ℕ
 after_words zero bs = bs
 after_words (suc n) [] = []
-after_words (suc n) (b ∷ bs) = if is_blank b then after_words (suc n) bs else (if begins_word bs then after_words (suc n) bs else after_words n bs)
+after_words (suc n) (b ∷ bs) = if is_blank b then after_words (suc n) bs
+    else (if begins_word bs then after_words (suc n) bs else after_words n bs)
 
 abbrev pub all_blank : List ℕ → Bool
 all_blank [] = true

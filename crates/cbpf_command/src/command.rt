@@ -100,7 +100,8 @@ fn run_by(arguments: Arguments<'_>) -> Option<Command<'_>>
 }
 
 fn breakpoint_by(arguments: Arguments<'_>) -> Option<Command<'_>>
-    ensures { (ws : List (List ℕ)) → Holds ws arguments.entry → option_map spec.meaning result ≡ spec.breakpoint_by ws }
+    ensures { (ws : List (List ℕ)) → Holds ws arguments.entry
+        → option_map spec.meaning result ≡ spec.breakpoint_by ws }
 {
     match arguments {
         Arguments::Zero => Some(Command::Breakpoints),

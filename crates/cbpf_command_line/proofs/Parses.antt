@@ -1,7 +1,8 @@
 -- What a parse by the program's command gives.
 use Rattle.std.specs.Prelude.{◌≡◌, ◌≤◌, List, [], ◌∷◌, None, length, true}
 use Rattle.std.proofs.Common.{ap, arith, refl, ◌∙◌, subst}
-use Rattle.clap.specs.Words.{App, Text, HasMatchesOf, is_simple, is_simple_and_free, fault_of, subcommand_of, subcommand_rows_of, Kinds, first_value, first_of, found_of, rows_of}
+use Rattle.clap.specs.Words.{App, Text, HasMatchesOf, is_simple, is_simple_and_free, fault_of, subcommand_of}
+use Rattle.clap.specs.Words.{subcommand_rows_of, Kinds, first_value, first_of, found_of, rows_of}
 use Rattle.clap.specs.Faults.{walk_fault, defaults_fault}
 use Rattle.clap.proofs.WalkLemmas.{first_value-rows}
 use Rattle.clap.specs.declared.parser.matches.ArgMatches.{ArgMatches}
@@ -14,13 +15,15 @@ is_free-cbpf : is_simple_and_free cbpf_app ≡ true
 is_free-cbpf = refl
 
 -- the job asked for is that of the subcommand's matches
-pub asked_for-matches : (a : App) (words : List Text) (m : ArgMatches) → a ≡ cbpf_app → HasMatchesOf a words m → asked_by (subcommand_rows_of m) ≡ asked_for words
+pub asked_for-matches : (a : App) (words : List Text) (m : ArgMatches) → a ≡ cbpf_app → HasMatchesOf a words m
+    → asked_by (subcommand_rows_of m) ≡ asked_for words
 unfolding asked_for
 asked_for-matches a words m e h =
     ap asked_by ((h (ap is_simple e ∙ is_simple-cbpf)).1 ∙ ap (λ b. subcommand_of b words) e)
 
 -- what holds of the command's faults holds of those of the words
-pub faults_in-command : (P : Kinds → Type 0) (a : App) (words : List Text) → a ≡ cbpf_app → (is_simple_and_free a ≡ true → P (fault_of a words)) → P (faults_in words)
+pub faults_in-command : (P : Kinds → Type 0) (a : App) (words : List Text) → a ≡ cbpf_app
+    → (is_simple_and_free a ≡ true → P (fault_of a words)) → P (faults_in words)
 unfolding faults_in
 faults_in-command P a words e h =
     subst P (ap (λ b. fault_of b words) e) (h (ap is_simple_and_free e ∙ is_free-cbpf))

@@ -1,6 +1,9 @@
--- The command line of the program, and what its words ask for: this project's own, by `clap`'s meaning of a command line.
-use Rattle.std.specs.Prelude.{◌≢◌, ◌⊎◌, if◌then◌else◌, true, [], List, Option, Some, None, option_map, codes, bytes_eq, String}
-use Rattle.clap.specs.Words.{App, Rule, Row, Text, new_app, new_rule, with_rule, with_subcommand, first_of, subcommand_of, fault_of}
+-- The command line of the program, and what its words ask for:
+-- this project's own, by `clap`'s meaning of a command line.
+use Rattle.std.specs.Prelude.{◌≢◌, ◌⊎◌, if◌then◌else◌, true, [], List, Option, Some, None, option_map, codes}
+use Rattle.std.specs.Prelude.{bytes_eq, String}
+use Rattle.clap.specs.Words.{App, Rule, Row, Text, new_app, new_rule, with_rule, with_subcommand, first_of}
+use Rattle.clap.specs.Words.{subcommand_of, fault_of}
 use Rattle.clap.specs.Kinds.{IsAmong}
 use Rattle.clap.specs.declared.builder.action.ArgAction.TheVariants.{SetTrue}
 use Rattle.clap.specs.declared.error.kind.ErrorKind.{ErrorKind}
@@ -18,11 +21,13 @@ form_rule = record (new_rule (codes "c")) { short = Some 99; action = Some SetTr
 
 -- `asm [-c] [file]`
 abbrev pub asm_app : App
-asm_app = with_rule (with_rule (new_app (codes "asm")) form_rule) (record (new_rule (codes "file")) { value_names = 1 })
+asm_app =
+    with_rule (with_rule (new_app (codes "asm")) form_rule) (record (new_rule (codes "file")) { value_names = 1 })
 
 -- `dbg [input [output]]`
 abbrev pub dbg_app : App
-dbg_app = with_rule (with_rule (new_app (codes "dbg")) (record (new_rule (codes "input")) { value_names = 1 })) (record (new_rule (codes "output")) { value_names = 1 })
+dbg_app = with_rule (with_rule (new_app (codes "dbg")) (record (new_rule (codes "input")) { value_names = 1 }))
+    (record (new_rule (codes "output")) { value_names = 1 })
 
 -- `cbpf [--version]`
 abbrev pub bare_app : App
@@ -74,8 +79,10 @@ abbrev pub meaning : Job → Asked
 meaning (job.Asm form file) = asm form (option_map text_of file)
 meaning (job.Dbg input output) = dbg (option_map text_of input) (option_map text_of output)
 
--- help or the version where it is asked for, a refusal for every other kind of fault; `Memory` says nothing of the words
+-- help or the version where it is asked for, a refusal for every other kind of fault;
+-- `Memory` says nothing of the words
 abbrev pub IsFaultOf : List ErrorKind → LineFault → Type 0
 IsFaultOf kinds (Help text) = IsAmong DisplayHelp kinds ⊎ IsAmong DisplayVersion kinds
-IsFaultOf kinds (Refused text) = (kind : ErrorKind) × (kind ≢ DisplayHelp) × (kind ≢ DisplayVersion) × IsAmong kind kinds
+IsFaultOf kinds (Refused text) =
+    (kind : ErrorKind) × (kind ≢ DisplayHelp) × (kind ≢ DisplayVersion) × IsAmong kind kinds
 IsFaultOf kinds Memory = Unit {0}

@@ -26,6 +26,7 @@ why_asked reason ZeroDivisor = refl
 why_asked reason (Unknown e) = refl
 
 -- where nothing can be a hit
-pub quiet_hit : (machine : Machine) (breakpoints : Breakpoints) (bytes : List ℕ) (wire : ℕ) (s : Registers) → s.pc < length machine.list → IsQuiet machine breakpoints
+pub quiet_hit : (machine : Machine) (breakpoints : Breakpoints) (bytes : List ℕ) (wire : ℕ) (s : Registers)
+    → s.pc < length machine.list → IsQuiet machine breakpoints
     → None ≡ hit_for (carries breakpoints s) (asked (turn machine bytes wire s))
 quiet_hit machine breakpoints bytes wire s inside quiet = rw (quiet.0, quiet.1 bytes wire s inside) refl

@@ -14,8 +14,10 @@ differs : (i p : ℕ) → (p ≡ i → ⊥) → nat_eq i p ≡ false
 differs i p h = grind (arith, nat_tests)
 
 -- a map whose other entries stay
-pub same-but : (i : ℕ) (before after : Breakpoints) → ((q : ℕ) → nat_eq i q ≡ false → lookup (nat_eq q) after ≡ lookup (nat_eq q) before) → IsSameBut i before after
-same-but i before after others = λ s h. ap (λ found. option_map_or (λ when. holds when s) found false) (others s.pc (differs i s.pc h))
+pub same-but : (i : ℕ) (before after : Breakpoints)
+    → ((q : ℕ) → nat_eq i q ≡ false → lookup (nat_eq q) after ≡ lookup (nat_eq q) before) → IsSameBut i before after
+same-but i before after others = λ s h.
+    ap (λ found. option_map_or (λ when. holds when s) found false) (others s.pc (differs i s.pc h))
 
 pub same_or_other : (p i : ℕ) → (p ≡ i) ⊎ (p ≡ i → ⊥)
 same_or_other p i = by_test (nat_eq p i) refl
@@ -25,8 +27,10 @@ same_or_other p i = by_test (nat_eq p i) refl
     by_test false e = inr (λ q. grind (arith, nat_tests))
 
 -- what is known of a program stays known where its breakpoints change at one instruction
-pub known-at : (silent : Bool) (old new : List Bool) (program : Option (List Insn)) (list : List Insn) (values : Values) (before after : Breakpoints) → program ≡ Some list → IsKnown silent old program values before
-    → (Watches old (machine_of list values) before → Watches new (machine_of list values) after) → IsKnown silent new program values after
+pub known-at : (silent : Bool) (old new : List Bool) (program : Option (List Insn)) (list : List Insn)
+    (values : Values) (before after : Breakpoints) → program ≡ Some list → IsKnown silent old program values before
+    → (Watches old (machine_of list values) before → Watches new (machine_of list values) after)
+    → IsKnown silent new program values after
 known-at silent old new program list values before after e known step =
     let k : IsKnown silent old (Some list) values before = rw e at known in
     rw e (k.0, step k.1)

@@ -1,5 +1,6 @@
 -- The outcomes of a run of packets.
-use Rattle.std.proofs.Common.{◌≡◌, ℕ, zero, suc, ◌+◌, ◌-◌, ◌<◌, ◌≤◌, ◌^◌, List, [], ◌∷◌, ◌++◌, length, drop, take, Bool, arith, ap, ◌∙◌, refl, cond, add-zero, length-drop}
+use Rattle.std.proofs.Common.{◌≡◌, ℕ, zero, suc, ◌+◌, ◌-◌, ◌<◌, ◌≤◌, ◌^◌, List, [], ◌∷◌, ◌++◌, length, drop, take}
+use Rattle.std.proofs.Common.{Bool, arith, ap, ◌∙◌, refl, cond, add-zero, length-drop}
 use Rattle.std.proofs.lemmas.List.Sums.{sum_by-append, count_by-le-length}
 use Rattle.std.proofs.Math.ListN.{length-map}
 use Rattle.cbpf_reply.specs.declared.reply.Counts.{Counts}
@@ -23,52 +24,74 @@ map-append_one : {X Y : Type 0} (f : X → Y) (xs : List X) (x : X) → map f (x
 map-append_one f [] x = refl
 map-append_one f (y ∷ ys) x = ap (λ rest. f y ∷ rest) (map-append_one f ys x)
 
-pub outcomes-more : (machine : Machine) (capture : List Record) (from p : ℕ) (r : Record) → 1 ≤ from → from ≤ p → slice_get capture (p - 1) ≡ Some r
+pub outcomes-more : (machine : Machine) (capture : List Record) (from p : ℕ) (r : Record) → 1 ≤ from → from ≤ p
+    → slice_get capture (p - 1) ≡ Some r
     → outcomes machine capture from (p + 1) ≡ outcomes machine capture from p ++ outcome machine r.bytes r.wire ∷ []
 outcomes-more machine capture from p r from_one ordered at =
     let e : p + 1 - from ≡ p - from + 1 = omega arith in
     let i : from - 1 + (p - from) ≡ p - 1 = omega arith in
-    let here : slice_get (drop (from - 1) capture) (p - from) ≡ Some r = rw (slice_get-drop capture (from - 1) (p - from), i) at in
-    rw e (rw (take-slice_get (drop (from - 1) capture) (p - from) r here) (map-append_one (λ (q : Record). outcome machine q.bytes q.wire) (take (p - from) (drop (from - 1) capture)) r))
+    let here : slice_get (drop (from - 1) capture) (p - from) ≡ Some r =
+    rw (slice_get-drop capture (from - 1) (p - from), i) at in
+    rw e (rw (take-slice_get (drop (from - 1) capture) (p - from) r here)
+    (map-append_one (λ (q : Record). outcome machine q.bytes q.wire) (take (p - from) (drop (from - 1) capture)) r))
 
-count_more : {X : Type 0} (f : X → Bool) (xs : List X) (x : X) → count_by f (xs ++ x ∷ []) ≡ count_by f xs + cond (f x) 1 0
+count_more : {X : Type 0} (f : X → Bool) (xs : List X) (x : X)
+    → count_by f (xs ++ x ∷ []) ≡ count_by f xs + cond (f x) 1 0
 count_more f xs x =
     let e = sum_by-append (λ y. cond (f y) 1 0) xs (x ∷ []) in
     let z : 0 + cond (f x) 1 0 ≡ cond (f x) 1 0 = omega arith in
     rw z at e
 
 with_one : (xs : List Outcome) (o : Outcome)
-    → ◌≡◌ {A = Counts} (record { passes = count_by is_pass (xs ++ o ∷ []); fails = count_by is_fail (xs ++ o ∷ []); unknown = count_by is_open (xs ++ o ∷ []) })
-    (with_outcome (record { passes = count_by is_pass xs; fails = count_by is_fail xs; unknown = count_by is_open xs }) o)
+    → ◌≡◌ {A = Counts} (record {
+      passes = count_by is_pass (xs ++ o ∷ []);
+      fails = count_by is_fail (xs ++ o ∷ []);
+      unknown = count_by is_open (xs ++ o ∷ []);
+    })
+    (with_outcome
+    (record { passes = count_by is_pass xs; fails = count_by is_fail xs; unknown = count_by is_open xs }) o)
 with_one xs (outcome_is.Pass v) =
-    let a : count_by is_pass (xs ++ outcome_is.Pass v ∷ []) ≡ count_by is_pass xs + 1 = count_more is_pass xs (outcome_is.Pass v) in
-    let b : count_by is_fail (xs ++ outcome_is.Pass v ∷ []) ≡ count_by is_fail xs = count_more is_fail xs (outcome_is.Pass v) ∙ add-zero _ in
-    let c : count_by is_open (xs ++ outcome_is.Pass v ∷ []) ≡ count_by is_open xs = count_more is_open xs (outcome_is.Pass v) ∙ add-zero _ in
+    let a : count_by is_pass (xs ++ outcome_is.Pass v ∷ []) ≡ count_by is_pass xs + 1 =
+    count_more is_pass xs (outcome_is.Pass v) in
+    let b : count_by is_fail (xs ++ outcome_is.Pass v ∷ []) ≡ count_by is_fail xs =
+    count_more is_fail xs (outcome_is.Pass v) ∙ add-zero _ in
+    let c : count_by is_open (xs ++ outcome_is.Pass v ∷ []) ≡ count_by is_open xs =
+    count_more is_open xs (outcome_is.Pass v) ∙ add-zero _ in
     rw (a, b, c) refl
 with_one xs outcome_is.Fail =
-    let a : count_by is_pass (xs ++ outcome_is.Fail ∷ []) ≡ count_by is_pass xs = count_more is_pass xs outcome_is.Fail ∙ add-zero _ in
-    let b : count_by is_fail (xs ++ outcome_is.Fail ∷ []) ≡ count_by is_fail xs + 1 = count_more is_fail xs outcome_is.Fail in
-    let c : count_by is_open (xs ++ outcome_is.Fail ∷ []) ≡ count_by is_open xs = count_more is_open xs outcome_is.Fail ∙ add-zero _ in
+    let a : count_by is_pass (xs ++ outcome_is.Fail ∷ []) ≡ count_by is_pass xs =
+    count_more is_pass xs outcome_is.Fail ∙ add-zero _ in
+    let b : count_by is_fail (xs ++ outcome_is.Fail ∷ []) ≡ count_by is_fail xs + 1 =
+    count_more is_fail xs outcome_is.Fail in
+    let c : count_by is_open (xs ++ outcome_is.Fail ∷ []) ≡ count_by is_open xs =
+    count_more is_open xs outcome_is.Fail ∙ add-zero _ in
     rw (a, b, c) refl
 with_one xs (outcome_is.Unknown e) =
-    let a : count_by is_pass (xs ++ outcome_is.Unknown e ∷ []) ≡ count_by is_pass xs = count_more is_pass xs (outcome_is.Unknown e) ∙ add-zero _ in
-    let b : count_by is_fail (xs ++ outcome_is.Unknown e ∷ []) ≡ count_by is_fail xs = count_more is_fail xs (outcome_is.Unknown e) ∙ add-zero _ in
-    let c : count_by is_open (xs ++ outcome_is.Unknown e ∷ []) ≡ count_by is_open xs + 1 = count_more is_open xs (outcome_is.Unknown e) in
+    let a : count_by is_pass (xs ++ outcome_is.Unknown e ∷ []) ≡ count_by is_pass xs =
+    count_more is_pass xs (outcome_is.Unknown e) ∙ add-zero _ in
+    let b : count_by is_fail (xs ++ outcome_is.Unknown e ∷ []) ≡ count_by is_fail xs =
+    count_more is_fail xs (outcome_is.Unknown e) ∙ add-zero _ in
+    let c : count_by is_open (xs ++ outcome_is.Unknown e ∷ []) ≡ count_by is_open xs + 1 =
+    count_more is_open xs (outcome_is.Unknown e) in
     rw (a, b, c) refl
 
 -- one more packet is one more outcome
-pub counts-more : (machine : Machine) (capture : List Record) (from p : ℕ) (r : Record) → 1 ≤ from → from ≤ p → slice_get capture (p - 1) ≡ Some r
-    → counts machine capture from (p + 1) ≡ with_outcome (counts machine capture from p) (outcome machine r.bytes r.wire)
+pub counts-more : (machine : Machine) (capture : List Record) (from p : ℕ) (r : Record) → 1 ≤ from → from ≤ p
+    → slice_get capture (p - 1) ≡ Some r
+    → counts machine capture from (p + 1)
+    ≡ with_outcome (counts machine capture from p) (outcome machine r.bytes r.wire)
 unfolding counts
 counts-more machine capture from p r from_one ordered at =
-    rw (outcomes-more machine capture from p r from_one ordered at) (with_one (outcomes machine capture from p) (outcome machine r.bytes r.wire))
+    rw (outcomes-more machine capture from p r from_one ordered at)
+    (with_one (outcomes machine capture from p) (outcome machine r.bytes r.wire))
 
 length-take_le : {X : Type 0} (n : ℕ) (xs : List X) → length (take n xs) ≤ length xs
 length-take_le zero xs = omega arith
 length-take_le (suc n) [] = omega arith
 length-take_le (suc n) (x ∷ xs) = omega (arith, length-take_le n xs)
 
-length-outcomes : (machine : Machine) (capture : List Record) (from to : ℕ) → length (outcomes machine capture from to) ≤ length capture
+length-outcomes : (machine : Machine) (capture : List Record) (from to : ℕ)
+    → length (outcomes machine capture from to) ≤ length capture
 length-outcomes machine capture from to =
     omega (
       arith,
@@ -83,7 +106,8 @@ pub record AtMost (n : Counts) (k : ℕ) : Type 0 where
   pub fails : n.fails ≤ k
   pub unknown : n.unknown ≤ k
 
-pub counts-at_most : (machine : Machine) (capture : List Record) (from to : ℕ) → AtMost (counts machine capture from to) (length capture)
+pub counts-at_most : (machine : Machine) (capture : List Record) (from to : ℕ)
+    → AtMost (counts machine capture from to) (length capture)
 unfolding counts
 counts-at_most machine capture from to =
     let all : List Outcome = outcomes machine capture from to in
@@ -101,7 +125,8 @@ pub record Countable (w : Cursor) : Type 0 where
   pub fails : w.counts.fails + 1 < 2 ^ 64
   pub unknown : w.counts.unknown + 1 < 2 ^ 64
 
-pub countable : (machine : Machine) (capture : List Record) (w : Cursor) → Stands machine capture w → (packets : ℕ) → packets ≡ length capture → packets < 2 ^ 60 → Countable w
+pub countable : (machine : Machine) (capture : List Record) (w : Cursor) → Stands machine capture w → (packets : ℕ)
+    → packets ≡ length capture → packets < 2 ^ 60 → Countable w
 countable machine capture w h packets all few =
     let most = counts-at_most machine capture w.origin w.place.packet in
     let within = h.within in

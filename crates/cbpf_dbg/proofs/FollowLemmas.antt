@@ -1,5 +1,6 @@
 -- Moves to the next entry at an instruction that is watched.
-use Rattle.std.proofs.Common.{◌≡◌, ℕ, ◌+◌, ◌-◌, ◌≤◌, List, length, drop, take, arith, sym, ap, subst, ◌∙◌, refl, inl, inr, length-append, length-drop, length-take}
+use Rattle.std.proofs.Common.{◌≡◌, ℕ, ◌+◌, ◌-◌, ◌≤◌, List, length, drop, take, arith, sym, ap, subst, ◌∙◌, refl, inl}
+use Rattle.std.proofs.Common.{inr, length-append, length-drop, length-take}
 use Rattle.std.specs.Prelude.{Bool, Some, slice_get, min}
 use Rattle.std.proofs.lemmas.Bool.{cases_lt}
 use Rattle.std.proofs.lemmas.Option.{slice_get_within}
@@ -29,15 +30,18 @@ use Rattle.cbpf_dbg.proofs.QuietLemmas.{NoHits, entries-passed, stands-passed}
 abbrev pub moved_on : Cursor → ℕ → Registers → Cursor
 moved_on w n s = followed (record w { state = s }) (Watched n)
 
--- what a move to the next entry at an instruction that is watched, or out of the packet, leaves of the cursor and the meter
-pub record Leaves (machine : Machine) (capture : List Record) (breakpoints : Breakpoints) (r : Record) (w : Cursor) (m : Moved) (v : Cursor) (before after : ℕ) : Type 0 where
+-- what a move to the next entry at an instruction that is watched, or out of the packet,
+-- leaves of the cursor and the meter
+pub record Leaves (machine : Machine) (capture : List Record) (breakpoints : Breakpoints) (r : Record) (w : Cursor)
+    (m : Moved) (v : Cursor) (before after : ℕ) : Type 0 where
   pub stands : Stands machine capture v
   pub origin : v.origin ≡ w.origin
   pub order : NotBefore v.place w.place
   pub passes : PassesOn machine capture breakpoints r w m v
   pub spent : after + owed machine capture v.place ≡ before + owed machine capture w.place
 
-module _ (machine : Machine) (capture : List Record) (w : Cursor) (r : Record) (h : Stands machine capture w) (at : slice_get capture (w.place.packet - 1) ≡ Some r) where
+module _ (machine : Machine) (capture : List Record) (w : Cursor) (r : Record) (h : Stands machine capture w)
+    (at : slice_get capture (w.place.packet - 1) ≡ Some r) where
   abbrev pub xs : List Registers
   xs = trace machine r.bytes r.wire
 
@@ -60,7 +64,8 @@ module _ (machine : Machine) (capture : List Record) (w : Cursor) (r : Record) (
   kept_steps kept e = omega (arith, e, step_within, length-take w.place.step xs)
 
   -- the entries ahead are those of the packet, and those of the later packets
-  pub ahead_long : (k : ℕ) → k ≤ length xs → length (ahead machine capture (place_at w.place.packet k)) + k ≡ length xs + length (ahead machine capture (place_at w.place.packet (length xs)))
+  pub ahead_long : (k : ℕ) → k ≤ length xs → length (ahead machine capture (place_at w.place.packet k)) + k
+      ≡ length xs + length (ahead machine capture (place_at w.place.packet (length xs)))
   ahead_long k within =
       let later = joined_from machine (w.place.packet + 1) (drop w.place.packet capture) in
       let here = ahead-in machine capture w.place.packet k r from_one at in
@@ -82,11 +87,16 @@ module _ (machine : Machine) (capture : List Record) (w : Cursor) (r : Record) (
   room = omega (arith, ahead_long w.place.step step_within)
 
   module _ (breakpoints : Breakpoints) (watched : List Bool) (watches : Watches watched machine breakpoints) where
-    no_hits : (m : ℕ) → Unwatched watched xs w.place.step m → NoHits machine capture breakpoints w.place.packet r from_one at w.place.step m
+    no_hits : (m : ℕ) → Unwatched watched xs w.place.step m
+        → NoHits machine capture breakpoints w.place.packet r from_one at w.place.step m
     no_hits m unwatched = λ i s from to there.
-        watches s (goes_from_entry machine r.bytes r.wire i zero_state s h.sound (sound_some machine.list h.sound) there).inside (unwatched i s from to there) r.bytes r.wire
+        watches s
+        (goes_from_entry machine r.bytes r.wire i zero_state s h.sound (sound_some machine.list h.sound) there).inside
+        (unwatched i s from to there) r.bytes r.wire
 
-    on_stands : (n : ℕ) (s : Registers) → Follows watched xs (outcome machine r.bytes r.wire) w.place.step w.state s (Watched n) → Stands machine capture (moved_on w n s)
+    on_stands : (n : ℕ) (s : Registers)
+        → Follows watched xs (outcome machine r.bytes r.wire) w.place.step w.state s (Watched n)
+        → Stands machine capture (moved_on w n s)
     on_stands n s f =
         record {
           sound = h.sound;
@@ -97,43 +107,65 @@ module _ (machine : Machine) (capture : List Record) (w : Cursor) (r : Record) (
           counted = h.counted;
         }
 
-    on_passes : (n : ℕ) (s : Registers) → Follows watched xs (outcome machine r.bytes r.wire) w.place.step w.state s (Watched n) → PassesOn machine capture breakpoints r w moved.Entry (moved_on w n s)
+    on_passes : (n : ℕ) (s : Registers)
+        → Follows watched xs (outcome machine r.bytes r.wire) w.place.step w.state s (Watched n)
+        → PassesOn machine capture breakpoints r w moved.Entry (moved_on w n s)
     on_passes n s f =
         let some = f.0 in
         let m : ℕ = w.place.step + n - 1 in
         let next : m + 1 ≡ w.place.step + n = omega arith in
         let within = slice_get_within xs m s f.2 in
-        let same = entries-passed machine capture breakpoints w.place.packet r from_one at w.place.step (n - 1) m (omega arith) (omega (arith, within)) (no_hits m f.1) in
+        let same = entries-passed machine capture breakpoints w.place.packet r from_one at w.place.step (n - 1) m
+        (omega arith) (omega (arith, within)) (no_hits m f.1) in
         let first = ahead-entry machine capture w.place.packet m r s from_one at f.2 in
         (record w { place = place_at w.place.packet m }, refl, sym same.0, rw next at first, omega (arith, some))
 
-    on_owed : (n : ℕ) (s : Registers) → Follows watched xs (outcome machine r.bytes r.wire) w.place.step w.state s (Watched n) → owed machine capture w.place + 1 ≡ n + owed machine capture (moved_on w n s).place + min w.place.step 1
+    on_owed : (n : ℕ) (s : Registers)
+        → Follows watched xs (outcome machine r.bytes r.wire) w.place.step w.state s (Watched n)
+        → owed machine capture w.place + 1 ≡ n + owed machine capture (moved_on w n s).place + min w.place.step 1
     on_owed n s f =
         let some = f.0 in
         let within = slice_get_within xs (w.place.step + n - 1) s f.2 in
-        omega (arith, ahead_long w.place.step step_within, ahead_long (w.place.step + n) (omega (arith, within, some)), some)
+        omega (
+          arith,
+          ahead_long w.place.step step_within,
+          ahead_long (w.place.step + n) (omega (arith, within, some)),
+          some,
+        )
 
-    end_passes : (o : Outcome) → Unwatched watched xs w.place.step (length xs) → PassesOn machine capture breakpoints r w moved.Packet (passed w o)
+    end_passes : (o : Outcome) → Unwatched watched xs w.place.step (length xs)
+        → PassesOn machine capture breakpoints r w moved.Packet (passed w o)
     end_passes o unwatched =
         let n : ℕ = length xs - w.place.step in
-        let same = entries-passed machine capture breakpoints w.place.packet r from_one at w.place.step n (length xs) (omega (arith, step_within)) (omega arith) (no_hits (length xs) unwatched) in
-        let leave = ahead-leave machine capture w.place.packet (length xs) r from_one at (omega arith) in
-        (refl, sym (same.0 ∙ rest-same machine capture breakpoints (place_at w.place.packet (length xs)) (place_at (w.place.packet + 1) 0) leave))
+        let same = entries-passed machine capture breakpoints w.place.packet r from_one at w.place.step n (length xs)
+        (omega (arith, step_within)) (omega arith) (no_hits (length xs) unwatched) in
+        let leave = ahead-leave machine capture w.place.packet (length xs) r from_one at (omega arith) in (
+          refl,
+          sym (same.0 ∙ rest-same machine capture breakpoints (place_at w.place.packet (length xs))
+              (place_at (w.place.packet + 1) 0) leave),
+        )
 
-    end_owed : (o : Outcome) → owed machine capture w.place + w.place.step ≡ length xs + min w.place.step 1 + owed machine capture (passed w o).place
+    end_owed : (o : Outcome) → owed machine capture w.place + w.place.step
+        ≡ length xs + min w.place.step 1 + owed machine capture (passed w o).place
     end_owed o =
         let leave = ahead-leave machine capture w.place.packet (length xs) r from_one at (omega arith) in
         omega (arith, ahead_long w.place.step step_within, ap length leave)
 
     -- the steps can be counted
-    pub steps_fit : (f : Followed) (s : Registers) → Follows watched xs (outcome machine r.bytes r.wire) w.place.step w.state s f → (n : ℕ) → f ≡ Watched n → w.place.step + n ≤ 4096
+    pub steps_fit : (f : Followed) (s : Registers)
+        → Follows watched xs (outcome machine r.bytes r.wire) w.place.step w.state s f → (n : ℕ) → f ≡ Watched n
+        → w.place.step + n ≤ 4096
     steps_fit f s follows n e =
-        let on : Follows watched xs (outcome machine r.bytes r.wire) w.place.step w.state s (Watched n) = rw e at follows in
+        let on : Follows watched xs (outcome machine r.bytes r.wire) w.place.step w.state s (Watched n) =
+        rw e at follows in
         let within = slice_get_within xs (w.place.step + n - 1) s on.2 in
         omega (arith, within, steps_few)
 
-    pub leaves : (f : Followed) (s : Registers) (v : Cursor) (before after : ℕ) → v ≡ followed (record w { state = s }) f → Follows watched xs (outcome machine r.bytes r.wire) w.place.step w.state s f
-        → after + 1 ≡ before + turns_to xs w.place.step f + min w.place.step 1 → Leaves machine capture breakpoints r w (moved_by f) v before after
+    pub leaves : (f : Followed) (s : Registers) (v : Cursor) (before after : ℕ)
+        → v ≡ followed (record w { state = s }) f
+        → Follows watched xs (outcome machine r.bytes r.wire) w.place.step w.state s f
+        → after + 1 ≡ before + turns_to xs w.place.step f + min w.place.step 1
+        → Leaves machine capture breakpoints r w (moved_by f) v before after
     leaves (Watched n) s v before after e f turns =
         let there : Leaves machine capture breakpoints r w moved.Entry (moved_on w n s) before after =
         record {
@@ -145,8 +177,10 @@ module _ (machine : Machine) (capture : List Record) (w : Cursor) (r : Record) (
         } in
         subst (λ u. Leaves machine capture breakpoints r w moved.Entry u before after) (sym e) there
     leaves (Ended o) s v before after e f turns =
-        let same : followed (record w { state = s }) (Ended o) ≡ followed w (Ended o) = ap (λ (k : Registers). followed (record w { state = k }) (Ended o)) f.2 in
-        let outcome_is : passed w (outcome machine r.bytes r.wire) ≡ passed w o = ap (λ (k : Outcome). passed w k) (sym f.1) in
+        let same : followed (record w { state = s }) (Ended o) ≡ followed w (Ended o) =
+        ap (λ (k : Registers). followed (record w { state = k }) (Ended o)) f.2 in
+        let outcome_is : passed w (outcome machine r.bytes r.wire) ≡ passed w o =
+        ap (λ (k : Outcome). passed w k) (sym f.1) in
         let there : Leaves machine capture breakpoints r w moved.Packet (passed w o) before after =
         record {
           stands = subst (λ u. Stands machine capture u) outcome_is (stands-passed machine capture w r h at);

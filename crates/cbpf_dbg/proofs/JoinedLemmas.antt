@@ -1,5 +1,6 @@
 -- The joined list from a place on.
-use Rattle.std.proofs.Common.{◌≡◌, ℕ, zero, suc, ◌+◌, ◌-◌, ◌<◌, ◌≤◌, List, [], ◌∷◌, ◌++◌, length, drop, Bool, true, false, arith, sym, ap, ◌∙◌, refl, inl, inr, cond}
+use Rattle.std.proofs.Common.{◌≡◌, ℕ, zero, suc, ◌+◌, ◌-◌, ◌<◌, ◌≤◌, List, [], ◌∷◌, ◌++◌, length, drop, Bool, true}
+use Rattle.std.proofs.Common.{false, arith, sym, ap, ◌∙◌, refl, inl, inr, cond}
 use Rattle.std.specs.Prelude.{Some, slice_get, filter, map}
 use Rattle.std.proofs.lemmas.Bool.Decides.{nat_tests}
 use Rattle.std.proofs.lemmas.List.Elements.{filter-append}
@@ -9,7 +10,8 @@ use Rattle.cbpf_machine.specs.Step.{turn}
 use Rattle.cbpf_machine.specs.Trace.{trace}
 use Rattle.pcap_classic.specs.Records.{Record}
 use Rattle.cbpf_reply.specs.declared.reply.Place.{Place}
-use Rattle.cbpf_dbg.specs.Joined.{Entry, entries_from, packet_entries, joined_from, joined, is_after, ahead, is_hit, stop_at, rest}
+use Rattle.cbpf_dbg.specs.Joined.{Entry, entries_from, packet_entries, joined_from, joined, is_after, ahead, is_hit}
+use Rattle.cbpf_dbg.specs.Joined.{stop_at, rest}
 use Rattle.cbpf_reply.specs.declared.reply.Stop.{Stop}
 use Rattle.cbpf_reply.specs.declared.reply.Why.TheVariants as why
 use Rattle.std.proofs.lemmas.Option.{slice_get_cases}
@@ -17,7 +19,11 @@ use Rattle.cbpf_dbg.specs.Breakpoints.{Breakpoints}
 
 -- the entry of a packet at a step
 abbrev pub entry : Machine → Record → ℕ → ℕ → Registers → Entry
-entry machine r packet step s = record { place = record { packet = packet; step = step }; state = s; turn = turn machine r.bytes r.wire s }
+entry machine r packet step s = record {
+  place = record { packet = packet; step = step };
+  state = s;
+  turn = turn machine r.bytes r.wire s;
+}
 
 abbrev pub place_at : ℕ → ℕ → Place
 place_at p s = record { packet = p; step = s }
@@ -39,81 +45,113 @@ not_after_step : (p s k : ℕ) → k ≤ s → is_after (place_at p s) (place_at
 not_after_step p s k h = grind (arith, nat_tests)
 
 -- the place's test at the head of a list
-later-yes : (p s : ℕ) (e : Entry) (es : List Entry) → is_after (place_at p s) e.place ≡ true → later p s (e ∷ es) ≡ e ∷ later p s es
+later-yes : (p s : ℕ) (e : Entry) (es : List Entry) → is_after (place_at p s) e.place ≡ true
+    → later p s (e ∷ es) ≡ e ∷ later p s es
 later-yes p s e es h = rw h
 
-later-no : (p s : ℕ) (e : Entry) (es : List Entry) → is_after (place_at p s) e.place ≡ false → later p s (e ∷ es) ≡ later p s es
+later-no : (p s : ℕ) (e : Entry) (es : List Entry) → is_after (place_at p s) e.place ≡ false
+    → later p s (e ∷ es) ≡ later p s es
 later-no p s e es h = rw h
 
 -- entries of an earlier packet are not after the place
-later-packet_before : (machine : Machine) (r : Record) (p s q k : ℕ) (xs : List Registers) → q < p → later p s (entries_from machine r q k xs) ≡ []
+later-packet_before : (machine : Machine) (r : Record) (p s q k : ℕ) (xs : List Registers) → q < p
+    → later p s (entries_from machine r q k xs) ≡ []
 later-packet_before machine r p s q k [] h = refl
 later-packet_before machine r p s q k (x ∷ xs) h =
-    later-no p s (entry machine r q k x) (entries_from machine r q (k + 1) xs) (not_after_packet p s q k h) ∙ later-packet_before machine r p s q (k + 1) xs h
+    later-no p s (entry machine r q k x) (entries_from machine r q (k + 1) xs) (not_after_packet p s q k h)
+    ∙ later-packet_before machine r p s q (k + 1) xs h
 
 -- entries of a later packet are all after it
-later-packet_after : (machine : Machine) (r : Record) (p s q k : ℕ) (xs : List Registers) → p < q → later p s (entries_from machine r q k xs) ≡ entries_from machine r q k xs
+later-packet_after : (machine : Machine) (r : Record) (p s q k : ℕ) (xs : List Registers) → p < q
+    → later p s (entries_from machine r q k xs) ≡ entries_from machine r q k xs
 later-packet_after machine r p s q k [] h = refl
 later-packet_after machine r p s q k (x ∷ xs) h =
-    later-yes p s (entry machine r q k x) (entries_from machine r q (k + 1) xs) (after_packet p s q k h) ∙ ap (λ rest. entry machine r q k x ∷ rest) (later-packet_after machine r p s q (k + 1) xs h)
+    later-yes p s (entry machine r q k x) (entries_from machine r q (k + 1) xs) (after_packet p s q k h)
+    ∙ ap (λ rest. entry machine r q k x ∷ rest) (later-packet_after machine r p s q (k + 1) xs h)
 
 -- so are the packet's own entries after the step
-later-step_after : (machine : Machine) (r : Record) (p s k : ℕ) (xs : List Registers) → s < k → later p s (entries_from machine r p k xs) ≡ entries_from machine r p k xs
+later-step_after : (machine : Machine) (r : Record) (p s k : ℕ) (xs : List Registers) → s < k
+    → later p s (entries_from machine r p k xs) ≡ entries_from machine r p k xs
 later-step_after machine r p s k [] h = refl
 later-step_after machine r p s k (x ∷ xs) h =
-    later-yes p s (entry machine r p k x) (entries_from machine r p (k + 1) xs) (after_step p s k h) ∙ ap (λ rest. entry machine r p k x ∷ rest) (later-step_after machine r p s (k + 1) xs (omega arith))
+    later-yes p s (entry machine r p k x) (entries_from machine r p (k + 1) xs) (after_step p s k h)
+    ∙ ap (λ rest. entry machine r p k x ∷ rest) (later-step_after machine r p s (k + 1) xs (omega arith))
 
 -- of the packet's own entries, those that n more steps pass are not
-later-step : (machine : Machine) (r : Record) (p s k n : ℕ) (xs : List Registers) → k + n ≡ s + 1 → later p s (entries_from machine r p k xs) ≡ entries_from machine r p (s + 1) (drop n xs)
+later-step : (machine : Machine) (r : Record) (p s k n : ℕ) (xs : List Registers) → k + n ≡ s + 1
+    → later p s (entries_from machine r p k xs) ≡ entries_from machine r p (s + 1) (drop n xs)
 later-step machine r p s k zero xs h =
     let e : k ≡ s + 1 = omega arith in
     rw e (later-step_after machine r p s (s + 1) xs (omega arith))
 later-step machine r p s k (suc n) [] h = refl
 later-step machine r p s k (suc n) (x ∷ xs) h =
-    later-no p s (entry machine r p k x) (entries_from machine r p (k + 1) xs) (not_after_step p s k (omega arith)) ∙ later-step machine r p s (k + 1) n xs (omega arith)
+    later-no p s (entry machine r p k x) (entries_from machine r p (k + 1) xs) (not_after_step p s k (omega arith))
+    ∙ later-step machine r p s (k + 1) n xs (omega arith)
 
 -- all packets from a later one on
-later-joined_after : (machine : Machine) (p s q : ℕ) (capture : List Record) → p < q → later p s (joined_from machine q capture) ≡ joined_from machine q capture
+later-joined_after : (machine : Machine) (p s q : ℕ) (capture : List Record) → p < q
+    → later p s (joined_from machine q capture) ≡ joined_from machine q capture
 later-joined_after machine p s q [] h = refl
 later-joined_after machine p s q (r ∷ rest) h =
-    filter-append (λ (e : Entry). is_after (place_at p s) e.place) (packet_entries machine r q) (joined_from machine (q + 1) rest)
-    ∙ rw (later-packet_after machine r p s q 1 (trace machine r.bytes r.wire) h, later-joined_after machine p s (q + 1) rest (omega arith)) refl
+    filter-append (λ (e : Entry). is_after (place_at p s) e.place) (packet_entries machine r q)
+    (joined_from machine (q + 1) rest)
+    ∙ rw (
+      later-packet_after machine r p s q 1 (trace machine r.bytes r.wire) h,
+      later-joined_after machine p s (q + 1) rest (omega arith),
+    ) refl
 
 -- all packets, where the place is in the n-th of them
-later-joined : (machine : Machine) (p s q n : ℕ) (capture : List Record) (r : Record) → q + n ≡ p → slice_get capture n ≡ Some r
-    → later p s (joined_from machine q capture) ≡ entries_from machine r p (s + 1) (drop s (trace machine r.bytes r.wire)) ++ joined_from machine (p + 1) (drop (n + 1) capture)
+later-joined : (machine : Machine) (p s q n : ℕ) (capture : List Record) (r : Record) → q + n ≡ p
+    → slice_get capture n ≡ Some r
+    → later p s (joined_from machine q capture) ≡ entries_from machine r p (s + 1)
+    (drop s (trace machine r.bytes r.wire)) ++ joined_from machine (p + 1) (drop (n + 1) capture)
 later-joined machine p s q n [] r h g = absurd cc
 later-joined machine p s q zero (x ∷ rest) r h g =
     let same : x ≡ r = cc in
     let at : q ≡ p = omega arith in
-    filter-append (λ (e : Entry). is_after (place_at p s) e.place) (packet_entries machine x q) (joined_from machine (q + 1) rest)
-    ∙ rw (at, same) (rw (later-step machine r p s 1 s (trace machine r.bytes r.wire) (omega arith), later-joined_after machine p s (p + 1) rest (omega arith)) refl)
+    filter-append (λ (e : Entry). is_after (place_at p s) e.place) (packet_entries machine x q)
+    (joined_from machine (q + 1) rest)
+    ∙ rw (at, same) (rw (
+      later-step machine r p s 1 s (trace machine r.bytes r.wire) (omega arith),
+      later-joined_after machine p s (p + 1) rest (omega arith),
+    ) refl)
 later-joined machine p s q (suc n) (x ∷ rest) r h g =
     let ih = later-joined machine p s (q + 1) n rest r (omega arith) g in
-    filter-append (λ (e : Entry). is_after (place_at p s) e.place) (packet_entries machine x q) (joined_from machine (q + 1) rest)
-    ∙ (let e : suc n + 1 ≡ suc (n + 1) = omega arith in rw (later-packet_before machine x p s q 1 (trace machine x.bytes x.wire) (omega arith), e) ih)
+    filter-append (λ (e : Entry). is_after (place_at p s) e.place) (packet_entries machine x q)
+    (joined_from machine (q + 1) rest)
+    ∙ (let e : suc n + 1 ≡ suc (n + 1) = omega arith in
+    rw (later-packet_before machine x p s q 1 (trace machine x.bytes x.wire) (omega arith), e) ih)
 
 -- a place after all packets
-later-joined_none : (machine : Machine) (p s q : ℕ) (capture : List Record) → q + length capture ≤ p → later p s (joined_from machine q capture) ≡ []
+later-joined_none : (machine : Machine) (p s q : ℕ) (capture : List Record) → q + length capture ≤ p
+    → later p s (joined_from machine q capture) ≡ []
 later-joined_none machine p s q [] h = refl
 later-joined_none machine p s q (x ∷ rest) h =
-    filter-append (λ (e : Entry). is_after (place_at p s) e.place) (packet_entries machine x q) (joined_from machine (q + 1) rest)
-    ∙ rw (later-packet_before machine x p s q 1 (trace machine x.bytes x.wire) (omega arith), later-joined_none machine p s (q + 1) rest (omega arith)) refl
+    filter-append (λ (e : Entry). is_after (place_at p s) e.place) (packet_entries machine x q)
+    (joined_from machine (q + 1) rest)
+    ∙ rw (
+      later-packet_before machine x p s q 1 (trace machine x.bytes x.wire) (omega arith),
+      later-joined_none machine p s (q + 1) rest (omega arith),
+    ) refl
 
 -- what is ahead of a step of a packet of the capture
-pub ahead-in : (machine : Machine) (capture : List Record) (p s : ℕ) (r : Record) → 1 ≤ p → slice_get capture (p - 1) ≡ Some r
-    → ahead machine capture (place_at p s) ≡ entries_from machine r p (s + 1) (drop s (trace machine r.bytes r.wire)) ++ joined_from machine (p + 1) (drop p capture)
+pub ahead-in : (machine : Machine) (capture : List Record) (p s : ℕ) (r : Record) → 1 ≤ p
+    → slice_get capture (p - 1) ≡ Some r
+    → ahead machine capture (place_at p s) ≡ entries_from machine r p (s + 1) (drop s (trace machine r.bytes r.wire))
+    ++ joined_from machine (p + 1) (drop p capture)
 unfolding joined
 ahead-in machine capture p s r from_one at =
     let e : p - 1 + 1 ≡ p = omega arith in
     rw e at (later-joined machine p s 1 (p - 1) capture r (omega arith) at)
 
 -- nothing is ahead after the last packet
-pub ahead-end : (machine : Machine) (capture : List Record) (p s : ℕ) → length capture < p → ahead machine capture (place_at p s) ≡ []
+pub ahead-end : (machine : Machine) (capture : List Record) (p s : ℕ) → length capture < p
+    → ahead machine capture (place_at p s) ≡ []
 unfolding joined
 ahead-end machine capture p s h = later-joined_none machine p s 1 capture (omega arith)
 
-drop-slice_get : {X : Type 0} (xs : List X) (i : ℕ) (x : X) → slice_get xs i ≡ Some x → drop i xs ≡ x ∷ drop (i + 1) xs
+drop-slice_get : {X : Type 0} (xs : List X) (i : ℕ) (x : X) → slice_get xs i ≡ Some x
+    → drop i xs ≡ x ∷ drop (i + 1) xs
 drop-slice_get [] i x h = cc
 drop-slice_get (y ∷ ys) zero x h = let same : y ≡ x = cc in rw same refl
 drop-slice_get (y ∷ ys) (suc i) x h =
@@ -128,7 +166,8 @@ drop-past (x ∷ xs) zero h = absurd (omega arith)
 drop-past (x ∷ xs) (suc i) h = drop-past xs i (omega arith)
 
 -- the packet's next entry is the first ahead
-pub ahead-entry : (machine : Machine) (capture : List Record) (p s : ℕ) (r : Record) (t : Registers) → 1 ≤ p → slice_get capture (p - 1) ≡ Some r
+pub ahead-entry : (machine : Machine) (capture : List Record) (p s : ℕ) (r : Record) (t : Registers) → 1 ≤ p
+    → slice_get capture (p - 1) ≡ Some r
     → slice_get (trace machine r.bytes r.wire) s ≡ Some t
     → ahead machine capture (place_at p s) ≡ entry machine r p (s + 1) t ∷ ahead machine capture (place_at p (s + 1))
 ahead-entry machine capture p s r t from_one at entry_is =
@@ -136,19 +175,22 @@ ahead-entry machine capture p s r t from_one at entry_is =
     ∙ rw (drop-slice_get (trace machine r.bytes r.wire) s t entry_is)
     (ap (λ rest. entry machine r p (s + 1) t ∷ rest) (sym (ahead-in machine capture p (s + 1) r from_one at)))
 
-joined-next : (machine : Machine) (capture : List Record) (p : ℕ) → 1 ≤ p → joined_from machine (p + 1) (drop p capture) ≡ ahead machine capture (place_at (p + 1) 0)
+joined-next : (machine : Machine) (capture : List Record) (p : ℕ) → 1 ≤ p
+    → joined_from machine (p + 1) (drop p capture) ≡ ahead machine capture (place_at (p + 1) 0)
 joined-next machine capture p from_one =
     elim (slice_get_cases capture p).1 [
       | inl found ↦
           let e : p + 1 - 1 ≡ p = omega arith in
           let at : slice_get capture (p + 1 - 1) ≡ Some found.0 = rw e found.2 in
-          rw (drop-slice_get capture p found.0 found.2) (sym (ahead-in machine capture (p + 1) 0 found.0 (omega arith) at))
+          rw (drop-slice_get capture p found.0 found.2)
+          (sym (ahead-in machine capture (p + 1) 0 found.0 (omega arith) at))
       | inr past ↦
           rw (drop-past capture p past.0) (sym (ahead-end machine capture (p + 1) 0 (omega arith)))
     ]
 
 -- after a packet's last entry comes the next packet
-pub ahead-leave : (machine : Machine) (capture : List Record) (p s : ℕ) (r : Record) → 1 ≤ p → slice_get capture (p - 1) ≡ Some r
+pub ahead-leave : (machine : Machine) (capture : List Record) (p s : ℕ) (r : Record) → 1 ≤ p
+    → slice_get capture (p - 1) ≡ Some r
     → length (trace machine r.bytes r.wire) ≤ s
     → ahead machine capture (place_at p s) ≡ ahead machine capture (place_at (p + 1) 0)
 ahead-leave machine capture p s r from_one at long =
@@ -156,7 +198,8 @@ ahead-leave machine capture p s r from_one at long =
     ∙ rw (drop-past (trace machine r.bytes r.wire) s long) (joined-next machine capture p from_one)
 
 -- before a packet's first entry, its entries and those of the later packets
-pub ahead-whole : (machine : Machine) (capture : List Record) (p : ℕ) (r : Record) → 1 ≤ p → slice_get capture (p - 1) ≡ Some r
+pub ahead-whole : (machine : Machine) (capture : List Record) (p : ℕ) (r : Record) → 1 ≤ p
+    → slice_get capture (p - 1) ≡ Some r
     → ahead machine capture (place_at p 0) ≡ packet_entries machine r p ++ ahead machine capture (place_at (p + 1) 0)
 ahead-whole machine capture p r from_one at =
     ahead-in machine capture p 0 r from_one at
@@ -164,7 +207,8 @@ ahead-whole machine capture p r from_one at =
 
 -- ---- the hits ahead
 
-swap_head : {X : Type 0} (f g : X → Bool) (x : X) (xs : List X) (b c : Bool) → f x ≡ b → g x ≡ c → filter f (filter g xs) ≡ filter g (filter f xs)
+swap_head : {X : Type 0} (f g : X → Bool) (x : X) (xs : List X) (b c : Bool) → f x ≡ b → g x ≡ c
+    → filter f (filter g xs) ≡ filter g (filter f xs)
     → filter f (cond c (x ∷ filter g xs) (filter g xs)) ≡ filter g (cond b (x ∷ filter f xs) (filter f xs))
 swap_head f g x xs true true hf hg ih = rw (hf, hg) (ap (λ rest. x ∷ rest) ih)
 swap_head f g x xs true false hf hg ih = rw hg ih
@@ -175,19 +219,24 @@ filter-swap : {X : Type 0} (f g : X → Bool) (xs : List X) → filter f (filter
 filter-swap f g [] = refl
 filter-swap f g (x ∷ xs) = swap_head f g x xs (f x) (g x) refl refl (filter-swap f g xs)
 
-map_head : {X Y : Type 0} (f : X → Y) (b : Bool) (x : X) (xs : List X) (ys : List Y) → ys ≡ map f xs → cond b (f x ∷ ys) ys ≡ map f (cond b (x ∷ xs) xs)
+map_head : {X Y : Type 0} (f : X → Y) (b : Bool) (x : X) (xs : List X) (ys : List Y) → ys ≡ map f xs
+    → cond b (f x ∷ ys) ys ≡ map f (cond b (x ∷ xs) xs)
 map_head f true x xs ys h = ap (λ rest. f x ∷ rest) h
 map_head f false x xs ys h = h
 
-later-stops : (place : Place) (es : List Entry) → filter (λ (h : Stop). is_after place h.place) (map (stop_at why.Break) es) ≡ map (stop_at why.Break) (filter (λ (e : Entry). is_after place e.place) es)
+later-stops : (place : Place) (es : List Entry)
+    → filter (λ (h : Stop). is_after place h.place) (map (stop_at why.Break) es)
+    ≡ map (stop_at why.Break) (filter (λ (e : Entry). is_after place e.place) es)
 later-stops place [] = refl
 later-stops place (e ∷ es) = map_head (stop_at why.Break) (is_after place e.place) e _ _ (later-stops place es)
 
 pub rest-ahead : (machine : Machine) (capture : List Record) (breakpoints : Breakpoints) (place : Place)
-    → rest machine capture breakpoints place ≡ map (stop_at why.Break) (filter (is_hit breakpoints) (ahead machine capture place))
+    → rest machine capture breakpoints place
+    ≡ map (stop_at why.Break) (filter (is_hit breakpoints) (ahead machine capture place))
 rest-ahead machine capture breakpoints place =
     later-stops place (filter (is_hit breakpoints) (joined machine capture))
-    ∙ ap (map (stop_at why.Break)) (filter-swap (λ (e : Entry). is_after place e.place) (is_hit breakpoints) (joined machine capture))
+    ∙ ap (map (stop_at why.Break))
+    (filter-swap (λ (e : Entry). is_after place e.place) (is_hit breakpoints) (joined machine capture))
 
 -- ---- what a run passes over and stops at
 

@@ -1,5 +1,6 @@
 -- What a trail stands for, as a cursor moves.
-use Rattle.std.proofs.Common.{◌≡◌, ℕ, ◌+◌, ◌-◌, ◌<◌, List, [], ◌∷◌, ◌++◌, length, take, arith, refl, sym, subst, length-take}
+use Rattle.std.proofs.Common.{◌≡◌, ℕ, ◌+◌, ◌-◌, ◌<◌, List, [], ◌∷◌, ◌++◌, length, take, arith, refl, sym, subst}
+use Rattle.std.proofs.Common.{length-take}
 use Rattle.std.specs.Prelude.{Some, slice_get}
 use Rattle.std.proofs.lemmas.Option.{slice_get_within}
 use Rattle.cbpf_machine.specs.Machine.{Machine}
@@ -19,16 +20,19 @@ use Rattle.cbpf_machine.proofs.ListLemmas.{take-slice_get}
 use Rattle.cbpf_machine.proofs.SoundLemmas.{sound_few}
 
 -- the entry at a cursor's place, in a packet that is known
-pub entry_at_place : (machine : Machine) (capture : List Record) (w : Cursor) (r : Record) → Stands machine capture w → 0 < w.place.step → slice_get capture (w.place.packet - 1) ≡ Some r
+pub entry_at_place : (machine : Machine) (capture : List Record) (w : Cursor) (r : Record) → Stands machine capture w
+    → 0 < w.place.step → slice_get capture (w.place.packet - 1) ≡ Some r
     → slice_get (trace machine r.bytes r.wire) (w.place.step - 1) ≡ Some w.state
 entry_at_place machine capture w r h inside at =
     let e = h.at inside in
     let same : e.0 ≡ r = cc in
     subst (λ (q : Record). slice_get (trace machine q.bytes q.wire) (w.place.step - 1) ≡ Some w.state) same e.2
 
-pub keeps_push : (stands after : List Registers → Type 0) (machine : Machine) (capture : List Record) (old : Place) (w : Cursor) (r : Record) → Stands machine capture w
+pub keeps_push : (stands after : List Registers → Type 0) (machine : Machine) (capture : List Record) (old : Place)
+    (w : Cursor) (r : Record) → Stands machine capture w
     → slice_get capture (w.place.packet - 1) ≡ Some r → w.place.packet ≡ old.packet → w.place.step ≡ old.step + 1
-    → ((xs : List Registers) → stands xs → after (xs ++ w.state ∷ [])) → Keeps stands machine capture old → Keeps after machine capture w.place
+    → ((xs : List Registers) → stands xs → after (xs ++ w.state ∷ [])) → Keeps stands machine capture old
+    → Keeps after machine capture w.place
 keeps_push stands after machine capture old w r h at packet step pushed keeps = λ q there.
     let same : r ≡ q = cc in
     let before : slice_get capture (old.packet - 1) ≡ Some q = rw packet at there in
@@ -38,7 +42,8 @@ keeps_push stands after machine capture old w r h at packet step pushed keeps = 
     rw step (rw (take-slice_get (trace machine q.bytes q.wire) old.step w.state entry) (pushed _ (keeps q before)))
 
 -- fewer than 4096 are kept before the last entry
-pub keeps_few : (machine : Machine) (capture : List Record) (old : Place) (w : Cursor) (r : Record) (kept : ℕ) → Stands machine capture w
+pub keeps_few : (machine : Machine) (capture : List Record) (old : Place) (w : Cursor) (r : Record) (kept : ℕ)
+    → Stands machine capture w
     → slice_get capture (w.place.packet - 1) ≡ Some r → w.place.step ≡ old.step + 1
     → length (take old.step (trace machine r.bytes r.wire)) ≡ kept → kept < 4096
 keeps_few machine capture old w r kept h at step e =
@@ -50,16 +55,22 @@ keeps_few machine capture old w r kept h at step e =
     let least = sound_few machine.list h.sound in
     omega (arith, within, few, least, e, length-take old.step (trace machine r.bytes r.wire))
 
-pub keeps_clear : (after : List Registers → Type 0) (machine : Machine) (capture : List Record) (new : Place) → new.step ≡ 0 → after [] → Keeps after machine capture new
+pub keeps_clear : (after : List Registers → Type 0) (machine : Machine) (capture : List Record) (new : Place)
+    → new.step ≡ 0 → after [] → Keeps after machine capture new
 keeps_clear after machine capture new step h = λ r at. rw step h
 
 -- after a packet was followed to an entry, whose step the trail keeps
-pub keeps_followed : (after : List Registers → Type 0) (machine : Machine) (capture : List Record) (old : Cursor) (r : Record) → slice_get capture (old.place.packet - 1) ≡ Some r
-    → (f : Followed) (s : Registers) (m : Moved) (v : Cursor) → v ≡ followed (record old { state = s }) f → m ≡ moved_by f
-    → ((n : ℕ) → f ≡ Watched n → after (take (old.place.step + n) (trace machine r.bytes r.wire))) → m ≡ moved.Entry → Keeps after machine capture v.place
+pub keeps_followed : (after : List Registers → Type 0) (machine : Machine) (capture : List Record) (old : Cursor)
+    (r : Record) → slice_get capture (old.place.packet - 1) ≡ Some r
+    → (f : Followed) (s : Registers) (m : Moved) (v : Cursor) → v ≡ followed (record old { state = s }) f
+    → m ≡ moved_by f
+    → ((n : ℕ) → f ≡ Watched n → after (take (old.place.step + n) (trace machine r.bytes r.wire))) → m ≡ moved.Entry
+    → Keeps after machine capture v.place
 keeps_followed after machine capture old r at (Watched n) s m v e moves kept entry = λ q there.
-    let here : slice_get capture (old.place.packet - 1) ≡ Some q = subst (λ (u : Cursor). slice_get capture (u.place.packet - 1) ≡ Some q) e there in
+    let here : slice_get capture (old.place.packet - 1) ≡ Some q =
+    subst (λ (u : Cursor). slice_get capture (u.place.packet - 1) ≡ Some q) e there in
     let same : r ≡ q = cc in
-    let all : after (take (old.place.step + n) (trace machine q.bytes q.wire)) = subst (λ (k : Record). after (take (old.place.step + n) (trace machine k.bytes k.wire))) same (kept n refl) in
+    let all : after (take (old.place.step + n) (trace machine q.bytes q.wire)) =
+    subst (λ (k : Record). after (take (old.place.step + n) (trace machine k.bytes k.wire))) same (kept n refl) in
     subst (λ (u : Cursor). after (take u.place.step (trace machine q.bytes q.wire))) (sym e) all
 keeps_followed after machine capture old r at (Ended o) s m v e moves kept entry = cc

@@ -1,5 +1,6 @@
 -- Packets of which no entry is a hit.
-use Rattle.std.proofs.Common.{◌≡◌, ℕ, zero, suc, ◌+◌, ◌-◌, ◌<◌, ◌≤◌, List, [], length, arith, sym, ap, ◌∙◌, refl, inl, inr}
+use Rattle.std.proofs.Common.{◌≡◌, ℕ, zero, suc, ◌+◌, ◌-◌, ◌<◌, ◌≤◌, List, [], length, arith, sym, ap, ◌∙◌, refl, inl}
+use Rattle.std.proofs.Common.{inr}
 use Rattle.std.specs.Prelude.{Some, None, slice_get}
 use Rattle.std.proofs.lemmas.Option.{slice_get_cases, slice_get_within}
 use Rattle.cbpf_machine.specs.Machine.{Machine}
@@ -24,10 +25,12 @@ use Rattle.cbpf_dbg.specs.Breakpoints.{Breakpoints, carries}
 there : {X : Type 0} (xs : List X) (i : ℕ) → i < length xs → (x : X) × (slice_get xs i ≡ Some x)
 there xs i h = elim (slice_get_cases xs i).1 [ inl found ↦ (found.0, found.2) | inr past ↦ absurd (omega arith) ]
 
-module _ (machine : Machine) (capture : List Record) (breakpoints : Breakpoints) (p : ℕ) (r : Record) (from_one : 1 ≤ p) (at : slice_get capture (p - 1) ≡ Some r) where
+module _ (machine : Machine) (capture : List Record) (breakpoints : Breakpoints) (p : ℕ) (r : Record)
+    (from_one : 1 ≤ p) (at : slice_get capture (p - 1) ≡ Some r) where
   -- none of the entries of a packet from one place of its trace up to another is a hit
   abbrev pub NoHits : ℕ → ℕ → Type 0
-  NoHits k m = (i : ℕ) (s : Registers) → k ≤ i → i < m → slice_get (trace machine r.bytes r.wire) i ≡ Some s → hit_for (carries breakpoints s) (asked (turn machine r.bytes r.wire s)) ≡ None
+  NoHits k m = (i : ℕ) (s : Registers) → k ≤ i → i < m → slice_get (trace machine r.bytes r.wire) i ≡ Some s
+      → hit_for (carries breakpoints s) (asked (turn machine r.bytes r.wire s)) ≡ None
 
   -- n entries from a step on that are no hits are passed
   pub entries-passed : (k n m : ℕ) → k + n ≡ m → m ≤ length (trace machine r.bytes r.wire) → NoHits k m
@@ -39,25 +42,34 @@ module _ (machine : Machine) (capture : List Record) (breakpoints : Breakpoints)
   entries-passed k (suc n) m e within none =
       let s = there (trace machine r.bytes r.wire) k (omega arith) in
       let first = ahead-entry machine capture p k r s.0 from_one at s.1 in
-      let no = hit_none (carries breakpoints s.0) (turn machine r.bytes r.wire s.0) (none k s.0 (omega arith) (omega arith) s.1) in
-      let same = rest-pass machine capture breakpoints (place_at p k) (place_at p (k + 1)) (entry machine r p (k + 1) s.0) first no in
-      let more = entries-passed (k + 1) n m (omega arith) within (λ i t from to there_. none i t (omega arith) to there_) in
+      let no = hit_none (carries breakpoints s.0) (turn machine r.bytes r.wire s.0)
+      (none k s.0 (omega arith) (omega arith) s.1) in
+      let same = rest-pass machine capture breakpoints (place_at p k) (place_at p (k + 1))
+      (entry machine r p (k + 1) s.0) first no in
+      let more =
+      entries-passed (k + 1) n m (omega arith) within (λ i t from to there_. none i t (omega arith) to there_) in
       (same ∙ more.0, omega (arith, ap length first, more.1))
 
-module _ (machine : Machine) (capture : List Record) (p : ℕ) (r : Record) (sound : IsSound machine.list) (quiet : IsQuiet machine []) (from_one : 1 ≤ p) (at : slice_get capture (p - 1) ≡ Some r) where
+module _ (machine : Machine) (capture : List Record) (p : ℕ) (r : Record) (sound : IsSound machine.list)
+    (quiet : IsQuiet machine []) (from_one : 1 ≤ p) (at : slice_get capture (p - 1) ≡ Some r) where
   -- none of a packet is
   pub packet-quiet : (k : ℕ) → k ≡ 0
       → (rest machine capture [] (place_at p k) ≡ rest machine capture [] (place_at (p + 1) 0))
-      × (length (ahead machine capture (place_at p k)) ≡ length (trace machine r.bytes r.wire) + length (ahead machine capture (place_at (p + 1) 0)))
+      × (length (ahead machine capture (place_at p k))
+      ≡ length (trace machine r.bytes r.wire) + length (ahead machine capture (place_at (p + 1) 0)))
   packet-quiet k e =
       let m : ℕ = length (trace machine r.bytes r.wire) in
       let none : NoHits machine capture [] p r from_one at k m = λ i s from to there_.
-      sym (quiet_hit machine [] r.bytes r.wire s (goes_from_entry machine r.bytes r.wire i zero_state s sound (sound_some machine.list sound) there_).inside quiet) in
+      sym (quiet_hit machine [] r.bytes r.wire s (goes_from_entry machine r.bytes r.wire i zero_state s sound
+      (sound_some machine.list sound) there_).inside quiet) in
       let all = entries-passed machine capture [] p r from_one at k m m (omega arith) (omega arith) none in
-      let leave = ahead-leave machine capture p m r from_one at (omega arith) in
-      (all.0 ∙ rest-same machine capture [] (place_at p m) (place_at (p + 1) 0) leave, omega (arith, all.1, ap length leave))
+      let leave = ahead-leave machine capture p m r from_one at (omega arith) in (
+        all.0 ∙ rest-same machine capture [] (place_at p m) (place_at (p + 1) 0) leave,
+        omega (arith, all.1, ap length leave),
+      )
 
-pub stands-passed : (machine : Machine) (capture : List Record) (w : Cursor) (r : Record) → Stands machine capture w → slice_get capture (w.place.packet - 1) ≡ Some r
+pub stands-passed : (machine : Machine) (capture : List Record) (w : Cursor) (r : Record) → Stands machine capture w
+    → slice_get capture (w.place.packet - 1) ≡ Some r
     → Stands machine capture (passed w (outcome machine r.bytes r.wire))
 stands-passed machine capture w r h at =
     let one : 1 ≤ w.place.packet = let a = h.from_one in let b = h.ordered in omega arith in

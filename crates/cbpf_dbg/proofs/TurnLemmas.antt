@@ -1,5 +1,6 @@
 -- How many turns lead from one place to another.
-use Rattle.std.proofs.Common.{◌≡◌, ℕ, zero, suc, ◌+◌, ◌-◌, ◌<◌, ◌≤◌, List, [], ◌∷◌, ◌++◌, length, Bool, true, false, arith, sym, ap, ◌∙◌, subst, refl, inl, inr, cond}
+use Rattle.std.proofs.Common.{◌≡◌, ℕ, zero, suc, ◌+◌, ◌-◌, ◌<◌, ◌≤◌, List, [], ◌∷◌, ◌++◌, length, Bool, true, false}
+use Rattle.std.proofs.Common.{arith, sym, ap, ◌∙◌, subst, refl, inl, inr, cond}
 use Rattle.std.specs.Prelude.{Option, Some, slice_get, filter, count_by, not, ◌&&◌}
 use Rattle.std.proofs.lemmas.Bool.Decides.{nat_tests}
 use Rattle.std.proofs.lemmas.List.Sums.{sum_by-append, count_by-le-length}
@@ -17,12 +18,14 @@ use Rattle.cbpf_reply.specs.declared.reply.Place.{Place}
 use Rattle.cbpf_reply.specs.declared.reply.RunReply.{RunReply}
 use Rattle.cbpf_reply.specs.declared.reply.RunReply.TheVariants.{Stopped, Limit, Finished}
 use Rattle.cbpf_dbg.specs.declared.cursor.Cursor.{Cursor}
-use Rattle.cbpf_dbg.specs.Joined.{Entry, entries_from, packet_entries, joined_from, joined, ahead, rest, is_hit, stop_at, is_after, turns_between, turns_to_end}
+use Rattle.cbpf_dbg.specs.Joined.{Entry, entries_from, packet_entries, joined_from, joined, ahead, rest, is_hit}
+use Rattle.cbpf_dbg.specs.Joined.{stop_at, is_after, turns_between, turns_to_end}
 use Rattle.cbpf_reply.specs.declared.reply.Why.TheVariants as why
 use Rattle.std.proofs.lemmas.List.{length-map}
 use Rattle.cbpf_dbg.specs.View.{View}
 use Rattle.cbpf_dbg.specs.Commands.{turns_in}
-use Rattle.cbpf_dbg.specs.Cursor.{Stands, owed, view_at, NotBefore, Runs, run_turns, run_from, StepsOn, step_turns, step_from}
+use Rattle.cbpf_dbg.specs.Cursor.{Stands, owed, view_at, NotBefore, Runs, run_turns, run_from, StepsOn, step_turns}
+use Rattle.cbpf_dbg.specs.Cursor.{step_from}
 use Rattle.cbpf_dbg.proofs.JoinedLemmas.{place_at, ahead-entry, rest-ahead}
 use Rattle.cbpf_dbg.specs.Breakpoints.{Breakpoints}
 
@@ -32,13 +35,15 @@ count_cons f x xs =
     let z : 0 + cond (f x) 1 0 ≡ cond (f x) 1 0 = omega arith in
     rw z at e
 
-count_filter_at : {X : Type 0} (b : Bool) (x : X) (xs : List X) (n : ℕ) → n ≡ length xs → cond b 1 0 + n ≡ length (cond b (x ∷ xs) xs)
+count_filter_at : {X : Type 0} (b : Bool) (x : X) (xs : List X) (n : ℕ) → n ≡ length xs
+    → cond b 1 0 + n ≡ length (cond b (x ∷ xs) xs)
 count_filter_at true x xs n h = omega arith
 count_filter_at false x xs n h = omega arith
 
 count_filter : {X : Type 0} (f : X → Bool) (xs : List X) → count_by f xs ≡ length (filter f xs)
 count_filter f [] = refl
-count_filter f (x ∷ xs) = count_cons f x xs ∙ count_filter_at (f x) x (filter f xs) (count_by f xs) (count_filter f xs)
+count_filter f (x ∷ xs) =
+    count_cons f x xs ∙ count_filter_at (f x) x (filter f xs) (count_by f xs) (count_filter f xs)
 
 split_at : (b c : Bool) → (c ≡ false → b ≡ true) → cond b 1 0 ≡ cond (b && c) 1 0 + cond (not c) 1 0
 split_at true true h = refl
@@ -66,42 +71,55 @@ from_one-append : (xs ys : List Entry) → FromOne xs → FromOne ys → FromOne
 from_one-append [] ys h k = k
 from_one-append (x ∷ xs) ys h k = (h.0, from_one-append xs ys h.1 k)
 
-from_one-entries : (machine : Machine) (r : Record) (p k : ℕ) (xs : List Registers) → 1 ≤ k → FromOne (entries_from machine r p k xs)
+from_one-entries : (machine : Machine) (r : Record) (p k : ℕ) (xs : List Registers) → 1 ≤ k
+    → FromOne (entries_from machine r p k xs)
 from_one-entries machine r p k [] h = tt
 from_one-entries machine r p k (x ∷ xs) h = (h, from_one-entries machine r p (k + 1) xs (omega arith))
 
 from_one-joined : (machine : Machine) (p : ℕ) (capture : List Record) → FromOne (joined_from machine p capture)
 from_one-joined machine p [] = tt
 from_one-joined machine p (r ∷ rest) =
-    from_one-append (packet_entries machine r p) (joined_from machine (p + 1) rest) (from_one-entries machine r p 1 (trace machine r.bytes r.wire) (omega arith)) (from_one-joined machine (p + 1) rest)
+    from_one-append (packet_entries machine r p) (joined_from machine (p + 1) rest)
+    (from_one-entries machine r p 1 (trace machine r.bytes r.wire) (omega arith))
+    (from_one-joined machine (p + 1) rest)
 
-count_same : (f g : Entry → Bool) (xs : List Entry) → FromOne xs → ((e : Entry) → 1 ≤ e.place.step → f e ≡ g e) → count_by f xs ≡ count_by g xs
+count_same : (f g : Entry → Bool) (xs : List Entry) → FromOne xs → ((e : Entry) → 1 ≤ e.place.step → f e ≡ g e)
+    → count_by f xs ≡ count_by g xs
 count_same f g [] h same = refl
-count_same f g (x ∷ xs) h same = count_cons f x xs ∙ rw (same x h.0, count_same f g xs h.1 same) (sym (count_cons g x xs))
+count_same f g (x ∷ xs) h same =
+    count_cons f x xs ∙ rw (same x h.0, count_same f g xs h.1 same) (sym (count_cons g x xs))
 
 -- at or after a step is after the step before
-at_or_after : (p s q k : ℕ) → 1 ≤ s → not (is_after (place_at q k) (place_at p s)) ≡ is_after (place_at p (s - 1)) (place_at q k)
+at_or_after : (p s q k : ℕ) → 1 ≤ s
+    → not (is_after (place_at q k) (place_at p s)) ≡ is_after (place_at p (s - 1)) (place_at q k)
 at_or_after p s q k h = grind (arith, nat_tests)
 
-at_or_after_none : (p q k : ℕ) → 1 ≤ k → not (is_after (place_at q k) (place_at p 0)) ≡ is_after (place_at p 0) (place_at q k)
+at_or_after_none : (p q k : ℕ) → 1 ≤ k
+    → not (is_after (place_at q k) (place_at p 0)) ≡ is_after (place_at p 0) (place_at q k)
 at_or_after_none p q k h = grind (arith, nat_tests)
 
-to_end_step : (machine : Machine) (capture : List Record) (p s : ℕ) → 1 ≤ s → turns_to_end machine capture (place_at p s) ≡ length (ahead machine capture (place_at p (s - 1)))
+to_end_step : (machine : Machine) (capture : List Record) (p s : ℕ) → 1 ≤ s
+    → turns_to_end machine capture (place_at p s) ≡ length (ahead machine capture (place_at p (s - 1)))
 unfolding joined
 to_end_step machine capture p s h =
-    count_same (λ e. not (is_after e.place (place_at p s))) (λ e. is_after (place_at p (s - 1)) e.place) (joined_from machine 1 capture) (from_one-joined machine 1 capture)
+    count_same (λ e. not (is_after e.place (place_at p s))) (λ e. is_after (place_at p (s - 1)) e.place)
+    (joined_from machine 1 capture) (from_one-joined machine 1 capture)
     (λ e k. at_or_after p s e.place.packet e.place.step h)
     ∙ count_filter (λ e. is_after (place_at p (s - 1)) e.place) (joined_from machine 1 capture)
 
-to_end_none : (machine : Machine) (capture : List Record) (p : ℕ) → turns_to_end machine capture (place_at p 0) ≡ length (ahead machine capture (place_at p 0))
+to_end_none : (machine : Machine) (capture : List Record) (p : ℕ)
+    → turns_to_end machine capture (place_at p 0) ≡ length (ahead machine capture (place_at p 0))
 unfolding joined
 to_end_none machine capture p =
-    count_same (λ e. not (is_after e.place (place_at p 0))) (λ e. is_after (place_at p 0) e.place) (joined_from machine 1 capture) (from_one-joined machine 1 capture)
+    count_same (λ e. not (is_after e.place (place_at p 0))) (λ e. is_after (place_at p 0) e.place)
+    (joined_from machine 1 capture) (from_one-joined machine 1 capture)
     (λ e k. at_or_after_none p e.place.packet e.place.step k)
     ∙ count_filter (λ e. is_after (place_at p 0) e.place) (joined_from machine 1 capture)
 
 -- what a cursor owes is what it takes to the end
-owed_at : (machine : Machine) (capture : List Record) (w : Cursor) (k : ℕ) → Stands machine capture w → k ≡ w.place.step → turns_to_end machine capture (place_at w.place.packet k) ≡ owed machine capture (place_at w.place.packet k)
+owed_at : (machine : Machine) (capture : List Record) (w : Cursor) (k : ℕ) → Stands machine capture w
+    → k ≡ w.place.step
+    → turns_to_end machine capture (place_at w.place.packet k) ≡ owed machine capture (place_at w.place.packet k)
 owed_at machine capture w zero h e = to_end_none machine capture w.place.packet ∙ omega arith
 owed_at machine capture w (suc k) h e =
     let at = h.at (omega arith) in
@@ -111,21 +129,29 @@ owed_at machine capture w (suc k) h e =
     let first = ahead-entry machine capture w.place.packet k at.0 w.state one at.1 here in
     let total = to_end_step machine capture w.place.packet (suc k) (omega arith) in
     let j : suc k - 1 ≡ k = omega arith in
-    let sofar : turns_to_end machine capture (place_at w.place.packet (suc k)) ≡ length (ahead machine capture (place_at w.place.packet k)) = rw j at total in
+    let sofar : turns_to_end machine capture (place_at w.place.packet (suc k))
+    ≡ length (ahead machine capture (place_at w.place.packet k)) = rw j at total in
     let n : k + 1 ≡ suc k = omega arith in
-    let then_ = subst (λ x. length (ahead machine capture (place_at w.place.packet k)) ≡ suc (length (ahead machine capture (place_at w.place.packet x)))) n (ap length first) in
+    let then_ = subst (λ x. length (ahead machine capture (place_at w.place.packet k))
+    ≡ suc (length (ahead machine capture (place_at w.place.packet x)))) n (ap length first) in
     omega (arith, sofar, then_)
 
-pub owed-turns : (machine : Machine) (capture : List Record) (w : Cursor) → Stands machine capture w → turns_to_end machine capture w.place ≡ owed machine capture w.place
+pub owed-turns : (machine : Machine) (capture : List Record) (w : Cursor) → Stands machine capture w
+    → turns_to_end machine capture w.place ≡ owed machine capture w.place
 owed-turns machine capture w h = owed_at machine capture w w.place.step h refl
 
 order_test : (old new e : Place) → NotBefore new old → is_after e new ≡ false → not (is_after e old) ≡ true
-order_test old new e h k = elim h [ inl less ↦ grind (arith, nat_tests) | inr same ↦ (let a = same.0 in let b = same.1 in grind (arith, nat_tests)) ]
+order_test old new e h k = elim h [
+  | inl less ↦ grind (arith, nat_tests)
+  | inr same ↦ (let a = same.0 in let b = same.1 in grind (arith, nat_tests))
+]
 
 -- the turns to a later place and from it to the end
-pub turns-split : (machine : Machine) (capture : List Record) (old new : Place) → NotBefore new old → turns_to_end machine capture old ≡ turns_between machine capture old new + turns_to_end machine capture new
+pub turns-split : (machine : Machine) (capture : List Record) (old new : Place) → NotBefore new old
+    → turns_to_end machine capture old ≡ turns_between machine capture old new + turns_to_end machine capture new
 turns-split machine capture old new h =
-    count_split (λ e. not (is_after e.place old)) (λ e. is_after e.place new) (joined machine capture) (λ e k. order_test old new e.place h k)
+    count_split (λ e. not (is_after e.place old)) (λ e. is_after e.place new) (joined machine capture)
+    (λ e k. order_test old new e.place h k)
 
 -- ---- by a run's answer
 
@@ -134,33 +160,48 @@ reply_turns machine capture old (Stopped s) new = turns_between machine capture 
 reply_turns machine capture old (Limit n) new = turns_between machine capture old new
 reply_turns machine capture old (Finished n) new = turns_to_end machine capture old
 
-turns_in_at : (m : View) (machine : Machine) (capture : List Record) (r : RunReply) (v : View) → turns_in m machine capture (r, v) ≡ reply_turns machine capture m.place r v.place
+turns_in_at : (m : View) (machine : Machine) (capture : List Record) (r : RunReply) (v : View)
+    → turns_in m machine capture (r, v) ≡ reply_turns machine capture m.place r v.place
 turns_in_at m machine capture (Stopped s) v = refl
 turns_in_at m machine capture (Limit n) v = refl
 turns_in_at m machine capture (Finished n) v = refl
 
-pub run_turns-reply : (machine : Machine) (c : Savefile) (breakpoints : Breakpoints) (old new : Cursor) (limit : Option ℕ) (reply : RunReply) → Runs machine c breakpoints old new limit reply
+pub run_turns-reply : (machine : Machine) (c : Savefile) (breakpoints : Breakpoints) (old new : Cursor)
+    (limit : Option ℕ) (reply : RunReply) → Runs machine c breakpoints old new limit reply
     → run_turns machine c breakpoints old limit ≡ reply_turns machine c.records old.place reply new.place
 run_turns-reply machine c breakpoints old new limit reply h =
     let a : RunReply × View = run_from machine c breakpoints old limit in
     turns_in_at (view_at machine c breakpoints old) machine c.records a.0 a.1
     ∙ rw (h.reply_is, h.place_is) refl
 
-pub not_before_step : (old mid new : Place) → NotBefore mid old → new.packet ≡ mid.packet → mid.step < new.step → NotBefore new old
-not_before_step old mid new h p s = elim h [ inl less ↦ inl (omega arith) | inr same ↦ inr (let a = same.0 in omega arith, let b = same.1 in omega arith) ]
+pub not_before_step : (old mid new : Place) → NotBefore mid old → new.packet ≡ mid.packet → mid.step < new.step
+    → NotBefore new old
+not_before_step old mid new h p s = elim h [
+  | inl less ↦ inl (omega arith)
+  | inr same ↦ inr (let a = same.0 in omega arith, let b = same.1 in omega arith)
+]
 
 pub not_before_after : (old mid new : Place) → NotBefore mid old → NotBefore new mid → NotBefore new old
 not_before_after old mid new h k = elim h [
   | inl less ↦ elim k [ inl more ↦ inl (omega arith) | inr here ↦ inl (let a = here.0 in omega arith) ]
-  | inr same ↦ elim k [ inl more ↦ inl (let a = same.0 in omega arith) | inr here ↦ inr (let a = same.0 in let b = here.0 in omega arith, let a = same.1 in let b = here.1 in omega arith) ]
+  | inr same ↦ elim k [
+    | inl more ↦ inl (let a = same.0 in omega arith)
+    | inr here ↦
+        inr (let a = same.0 in let b = here.0 in omega arith, let a = same.1 in let b = here.1 in omega arith)
+  ]
 ]
 
 pub not_before_packet : (old mid new : Place) → NotBefore mid old → new.packet ≡ mid.packet + 1 → NotBefore new old
-not_before_packet old mid new h p = elim h [ inl less ↦ inl (omega arith) | inr same ↦ inl (let a = same.0 in omega arith) ]
+not_before_packet old mid new h p = elim h [
+  | inl less ↦ inl (omega arith)
+  | inr same ↦ inl (let a = same.0 in omega arith)
+]
 
 -- the turns of a cursor to a later place, by what it owed and owes
-pub spent_between : (machine : Machine) (capture : List Record) (old new : Cursor) (before after : ℕ) → Stands machine capture old → Stands machine capture new → NotBefore new.place old.place
-    → after + owed machine capture new.place ≡ before + owed machine capture old.place → after ≡ before + turns_between machine capture old.place new.place
+pub spent_between : (machine : Machine) (capture : List Record) (old new : Cursor) (before after : ℕ)
+    → Stands machine capture old → Stands machine capture new → NotBefore new.place old.place
+    → after + owed machine capture new.place ≡ before + owed machine capture old.place
+    → after ≡ before + turns_between machine capture old.place new.place
 spent_between machine capture old new before after h k order e =
     let a = owed-turns machine capture old h in
     let b = owed-turns machine capture new k in
@@ -171,11 +212,13 @@ length_filter : {X : Type 0} (f : X → Bool) (xs : List X) → length (filter f
 length_filter f [] = omega arith
 length_filter f (x ∷ xs) = omega (arith, count_filter f (x ∷ xs), count_by-le-length f (x ∷ xs))
 
-pub length_entries : (machine : Machine) (r : Record) (p k : ℕ) (xs : List Registers) → length (entries_from machine r p k xs) ≡ length xs
+pub length_entries : (machine : Machine) (r : Record) (p k : ℕ) (xs : List Registers)
+    → length (entries_from machine r p k xs) ≡ length xs
 length_entries machine r p k [] = refl
 length_entries machine r p k (x ∷ xs) = ap suc (length_entries machine r p (k + 1) xs)
 
-pub length_joined : (machine : Machine) (p : ℕ) (capture : List Record) → IsSound machine.list → length (joined_from machine p capture) ≤ 4096 * length capture
+pub length_joined : (machine : Machine) (p : ℕ) (capture : List Record) → IsSound machine.list
+    → length (joined_from machine p capture) ≤ 4096 * length capture
 length_joined machine p [] h = omega arith
 length_joined machine p (r ∷ rest) h =
     omega (
@@ -188,20 +231,35 @@ length_joined machine p (r ∷ rest) h =
     )
 
 -- a session owes few turns
-pub owed_bound : (machine : Machine) (capture : List Record) (place : Place) → IsSound machine.list → length capture < 2 ^ 60 → owed machine capture place ≤ 2 ^ 76
+pub owed_bound : (machine : Machine) (capture : List Record) (place : Place) → IsSound machine.list
+    → length capture < 2 ^ 60 → owed machine capture place ≤ 2 ^ 76
 unfolding joined
 owed_bound machine capture place h few =
-    omega (arith, length_filter (λ (e : Entry). is_after place e.place) (joined_from machine 1 capture), length_joined machine 1 capture h)
+    omega (
+      arith,
+      length_filter (λ (e : Entry). is_after place e.place) (joined_from machine 1 capture),
+      length_joined machine 1 capture h,
+    )
 
 -- the hits ahead can be counted
-pub few_hits : (machine : Machine) (capture : List Record) (breakpoints : Breakpoints) (place : Place) → IsSound machine.list → length capture < 2 ^ 60 → length (rest machine capture breakpoints place) < 2 ^ 128
+pub few_hits : (machine : Machine) (capture : List Record) (breakpoints : Breakpoints) (place : Place)
+    → IsSound machine.list → length capture < 2 ^ 60 → length (rest machine capture breakpoints place) < 2 ^ 128
 unfolding joined
 few_hits machine capture breakpoints place h few =
-    let some : length (rest machine capture breakpoints place) ≡ length (filter (is_hit breakpoints) (ahead machine capture place)) =
-    ap length (rest-ahead machine capture breakpoints place) ∙ length-map (filter (is_hit breakpoints) (ahead machine capture place)) (stop_at why.Break) in
-    omega (arith, some, length_filter (is_hit breakpoints) (ahead machine capture place), length_filter (λ (e : Entry). is_after place e.place) (joined_from machine 1 capture), length_joined machine 1 capture h)
+    let some : length (rest machine capture breakpoints place)
+    ≡ length (filter (is_hit breakpoints) (ahead machine capture place)) =
+    ap length (rest-ahead machine capture breakpoints place)
+    ∙ length-map (filter (is_hit breakpoints) (ahead machine capture place)) (stop_at why.Break) in
+    omega (
+      arith,
+      some,
+      length_filter (is_hit breakpoints) (ahead machine capture place),
+      length_filter (λ (e : Entry). is_after place e.place) (joined_from machine 1 capture),
+      length_joined machine 1 capture h,
+    )
 
-pub step_turns-reply : (machine : Machine) (c : Savefile) (breakpoints : Breakpoints) (old new : Cursor) (n : ℕ) (reply : RunReply) → StepsOn machine c breakpoints old new n reply
+pub step_turns-reply : (machine : Machine) (c : Savefile) (breakpoints : Breakpoints) (old new : Cursor) (n : ℕ)
+    (reply : RunReply) → StepsOn machine c breakpoints old new n reply
     → step_turns machine c breakpoints old n ≡ reply_turns machine c.records old.place reply new.place
 step_turns-reply machine c breakpoints old new n reply h =
     let a : RunReply × View = step_from machine c breakpoints old n in

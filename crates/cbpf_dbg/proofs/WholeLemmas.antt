@@ -1,5 +1,6 @@
 -- Runs without a limit, one after another.
-use Rattle.std.proofs.Common.{◌≡◌, ℕ, ◌+◌, ◌^◌, ◌<◌, ◌≤◌, List, [], ◌∷◌, ◌++◌, length, arith, sym, ap, ◌∙◌, refl, true}
+use Rattle.std.proofs.Common.{◌≡◌, ℕ, ◌+◌, ◌^◌, ◌<◌, ◌≤◌, List, [], ◌∷◌, ◌++◌, length, arith, sym, ap, ◌∙◌, refl}
+use Rattle.std.proofs.Common.{true}
 use Rattle.std.specs.Prelude.{Option, Some, None, Result, Ok, Err, not, filter, map}
 use Rattle.std.proofs.lemmas.Bool.Decides.{nat_tests}
 use Rattle.std.proofs.lemmas.List.Sums.{count_by-le-length}
@@ -15,10 +16,12 @@ use Rattle.cbpf_reply.specs.declared.reply.SessionFault.{SessionFault}
 use Rattle.cbpf_reply.specs.declared.reply.Counts.{Counts}
 use Rattle.cbpf_reply.specs.declared.reply.Why.TheVariants as why
 use Rattle.cbpf_dbg.specs.Joined.{stops as every_hit}
-use Rattle.cbpf_dbg.specs.Joined.{Entry, joined, joined_from, ahead, rest, is_hit, stop_at, is_after, turns_between, turns_to_end, counts}
+use Rattle.cbpf_dbg.specs.Joined.{Entry, joined, joined_from, ahead, rest, is_hit, stop_at, is_after, turns_between}
+use Rattle.cbpf_dbg.specs.Joined.{turns_to_end, counts}
 use Rattle.cbpf_dbg.specs.Cursor.{NotBefore}
 use Rattle.cbpf_dbg.specs.View.{View, start}
-use Rattle.cbpf_dbg.specs.Commands.{reply_of, view_after, run, run_to_end, stops, all_stops, Found, last_place, turns_forward, turns_left, Continues, stopped, finished}
+use Rattle.cbpf_dbg.specs.Commands.{reply_of, view_after, run, run_to_end, stops, all_stops, Found, last_place}
+use Rattle.cbpf_dbg.specs.Commands.{turns_forward, turns_left, Continues, stopped, finished}
 use Rattle.cbpf_dbg.proofs.TurnLemmas.{turns-split, length_joined}
 use Rattle.cbpf_dbg.proofs.RunLemmas.{rest-head}
 use Rattle.cbpf_dbg.proofs.JoinedLemmas.{ahead-in, rest-ahead}
@@ -31,7 +34,8 @@ pub record Holds (machine : Machine) (c : Savefile) (v : View) : Type 0 where
   pub values : v.values ≡ machine.values
   pub capture : v.capture ≡ Some c
 
-pub stops-held : (machine : Machine) (c : Savefile) (v : View) → Holds machine c v → stops v ≡ Ok (rest machine c.records v.breakpoints v.place)
+pub stops-held : (machine : Machine) (c : Savefile) (v : View) → Holds machine c v
+    → stops v ≡ Ok (rest machine c.records v.breakpoints v.place)
 unfolding stops
 stops-held machine c v h = rw (h.program, h.values, h.capture) refl
 
@@ -48,22 +52,31 @@ unfolding run
 run-last machine c v h e = rw (h.program, h.values, h.capture, e) refl
 
 pub turns-first : (machine : Machine) (c : Savefile) (v : View) (stop : Stop) (left : List Stop) → Holds machine c v
-    → rest machine c.records v.breakpoints v.place ≡ stop ∷ left → turns_forward v (run v None) ≡ turns_between machine c.records v.place stop.place
+    → rest machine c.records v.breakpoints v.place ≡ stop ∷ left
+    → turns_forward v (run v None) ≡ turns_between machine c.records v.place stop.place
 turns-first machine c v stop left h e = rw (run-first machine c v stop left h e, h.program, h.values, h.capture) refl
 
-pub turns_to_end-bound : (machine : Machine) (capture : List Record) (place : Place) → IsSound machine.list → length capture < 2 ^ 60 → turns_to_end machine capture place ≤ 2 ^ 76
+pub turns_to_end-bound : (machine : Machine) (capture : List Record) (place : Place) → IsSound machine.list
+    → length capture < 2 ^ 60 → turns_to_end machine capture place ≤ 2 ^ 76
 unfolding joined
 turns_to_end-bound machine capture place sound few =
-    omega (arith, count_by-le-length (λ (e : Entry). not (is_after e.place place)) (joined_from machine 1 capture), length_joined machine 1 capture sound)
+    omega (
+      arith,
+      count_by-le-length (λ (e : Entry). not (is_after e.place place)) (joined_from machine 1 capture),
+      length_joined machine 1 capture sound,
+    )
 
 after_is : (a b : Place) → is_after a b ≡ true → NotBefore b a
 after_is a b h = grind (arith, nat_tests)
 
 -- the turns to a hit and from it to the end
-pub turns-rest : (machine : Machine) (c : Savefile) (v : View) (stop : Stop) (left : List Stop) → rest machine c.records v.breakpoints v.place ≡ stop ∷ left
-    → turns_to_end machine c.records v.place ≡ turns_between machine c.records v.place stop.place + turns_to_end machine c.records stop.place
+pub turns-rest : (machine : Machine) (c : Savefile) (v : View) (stop : Stop) (left : List Stop)
+    → rest machine c.records v.breakpoints v.place ≡ stop ∷ left
+    → turns_to_end machine c.records v.place
+    ≡ turns_between machine c.records v.place stop.place + turns_to_end machine c.records stop.place
 turns-rest machine c v stop left e =
-    turns-split machine c.records v.place stop.place (after_is v.place stop.place (rest-head machine c.records v.breakpoints v.place stop left e))
+    turns-split machine c.records v.place stop.place
+    (after_is v.place stop.place (rest-head machine c.records v.breakpoints v.place stop left e))
 
 -- from the start all hits are ahead
 ahead-start : (machine : Machine) (capture : List Record) → ahead machine capture start ≡ joined machine capture
@@ -71,20 +84,25 @@ unfolding joined
 ahead-start machine [] = refl
 ahead-start machine (r ∷ more) = ahead-in machine (r ∷ more) 1 0 r (omega arith) refl
 
-rest-start : (machine : Machine) (capture : List Record) (breakpoints : Breakpoints) → rest machine capture breakpoints start ≡ every_hit machine capture breakpoints
-rest-start machine capture breakpoints = rest-ahead machine capture breakpoints start ∙ ap (λ es. map (stop_at why.Break) (filter (is_hit breakpoints) es)) (ahead-start machine capture)
+rest-start : (machine : Machine) (capture : List Record) (breakpoints : Breakpoints)
+    → rest machine capture breakpoints start ≡ every_hit machine capture breakpoints
+rest-start machine capture breakpoints = rest-ahead machine capture breakpoints start
+    ∙ ap (λ es. map (stop_at why.Break) (filter (is_hit breakpoints) es)) (ahead-start machine capture)
 
-from_start-held : (program : Option (List Insn)) (capture : Option Savefile) (v : View) → v.program ≡ program → v.capture ≡ capture → v.place ≡ start → stops v ≡ all_stops v
+from_start-held : (program : Option (List Insn)) (capture : Option Savefile) (v : View) → v.program ≡ program
+    → v.capture ≡ capture → v.place ≡ start → stops v ≡ all_stops v
 unfolding stops all_stops
 from_start-held None capture v p c e = rw p refl
 from_start-held (Some list) None v p c e = rw (p, c) refl
-from_start-held (Some list) (Some s) v p c e = rw (p, c, e) (ap Ok (rest-start (machine_of list v.values) s.records v.breakpoints))
+from_start-held (Some list) (Some s) v p c e =
+    rw (p, c, e) (ap Ok (rest-start (machine_of list v.values) s.records v.breakpoints))
 
 pub from_start : (v : View) → v.place ≡ start → stops v ≡ all_stops v
 from_start v e = from_start-held v.program v.capture v refl refl e
 
 -- how far runs from a view have come
-pub record Going (machine : Machine) (c : Savefile) (old new : View) (old_found new_found : List Stop) (before after : ℕ) : Type 0 where
+pub record Going (machine : Machine) (c : Savefile) (old new : View) (old_found new_found : List Stop)
+    (before after : ℕ) : Type 0 where
   pub sound : IsSound machine.list
   pub few : length c.records < 2 ^ 60
   pub old_holds : Holds machine c old
@@ -94,40 +112,57 @@ pub record Going (machine : Machine) (c : Savefile) (old new : View) (old_found 
   pub origin : new.origin ≡ old.origin
   pub breakpoints : new.breakpoints ≡ old.breakpoints
   pub found : new_found ≡ old_found ++ passed
-  pub hits : rest machine c.records old.breakpoints old.place ≡ passed ++ rest machine c.records new.breakpoints new.place
+  pub hits : rest machine c.records old.breakpoints old.place
+      ≡ passed ++ rest machine c.records new.breakpoints new.place
   pub spent : after + turns_to_end machine c.records new.place ≡ before + turns_to_end machine c.records old.place
   pub spare : before ≤ 2 ^ 126
 
-pub going-spare : (machine : Machine) (c : Savefile) (old new : View) (f g : List Stop) (m n : ℕ) → Going machine c old new f g m n → n ≤ 2 ^ 127
+pub going-spare : (machine : Machine) (c : Savefile) (old new : View) (f g : List Stop) (m n : ℕ)
+    → Going machine c old new f g m n → n ≤ 2 ^ 127
 going-spare machine c old new f g m n h =
     let all = turns_to_end-bound machine c.records old.place h.sound h.few in
     let spent = h.spent in
     let spare = h.spare in
     omega (arith, all, spent, spare)
 
-pub going-found : (machine : Machine) (c : Savefile) (old new : View) (f g : List Stop) (m n : ℕ) → Going machine c old new f g m n → Found old new f g
-going-found machine c old new f g m n h = (h.passed, _, stops-held machine c old h.old_holds ∙ ap Ok h.hits, stops-held machine c new h.new_holds, h.found, h.place)
+pub going-found : (machine : Machine) (c : Savefile) (old new : View) (f g : List Stop) (m n : ℕ)
+    → Going machine c old new f g m n → Found old new f g
+going-found machine c old new f g m n h = (
+  h.passed,
+  _,
+  stops-held machine c old h.old_holds ∙ ap Ok h.hits,
+  stops-held machine c new h.new_holds,
+  h.found,
+  h.place,
+)
 
-last_place-append : (place : Place) (hits : List Stop) (stop : Stop) → last_place place (hits ++ stop ∷ []) ≡ stop.place
+last_place-append : (place : Place) (hits : List Stop) (stop : Stop)
+    → last_place place (hits ++ stop ∷ []) ≡ stop.place
 last_place-append place [] stop = refl
 last_place-append place (h ∷ hits) stop = last_place-append h.place hits stop
 
 -- a stop
-first-hit : (machine : Machine) (c : Savefile) (v new : View) (stop : Stop) → Holds machine c v → Continues v new (Stopped stop) → (left : List Stop) × (rest machine c.records v.breakpoints v.place ≡ stop ∷ left) × (stops new ≡ Ok left)
+first-hit : (machine : Machine) (c : Savefile) (v new : View) (stop : Stop) → Holds machine c v
+    → Continues v new (Stopped stop)
+    → (left : List Stop) × (rest machine c.records v.breakpoints v.place ≡ stop ∷ left) × (stops new ≡ Ok left)
 first-hit machine c v new stop h k =
     let here = stops-held machine c v h in
     let ahead_is = k.2 in
     let same : rest machine c.records v.breakpoints v.place ≡ k.0 = cc in
     (k.1, same ∙ k.4, k.3)
 
-pub going-stop : (machine : Machine) (c : Savefile) (old v new : View) (f g g2 : List Stop) (m n k : ℕ) (stop : Stop) → Going machine c old v f g m n → Continues v new (Stopped stop)
-    → new ≡ view_after v (run v None) → k ≡ n + turns_forward v (run v None) → g2 ≡ g ++ stop ∷ [] → Going machine c old new f g2 m k
+pub going-stop : (machine : Machine) (c : Savefile) (old v new : View) (f g g2 : List Stop) (m n k : ℕ) (stop : Stop)
+    → Going machine c old v f g m n → Continues v new (Stopped stop)
+    → new ≡ view_after v (run v None) → k ≡ n + turns_forward v (run v None) → g2 ≡ g ++ stop ∷ []
+    → Going machine c old new f g2 m k
 going-stop machine c old v new f g g2 m n k stop h ahead_is after turns pushed =
     let first = first-hit machine c v new stop h.new_holds ahead_is in
     let ran = run-first machine c v stop first.0 h.new_holds first.1 in
     let there : new ≡ record v { place = stop.place } = after ∙ ap (view_after v) ran in
-    let holds : Holds machine c new = rw there (record { program = h.new_holds.program; values = h.new_holds.values; capture = h.new_holds.capture }) in
-    let left : rest machine c.records new.breakpoints new.place ≡ first.0 = (let s = stops-held machine c new holds in let t = first.2 in cc) in
+    let holds : Holds machine c new =
+    rw there (record { program = h.new_holds.program; values = h.new_holds.values; capture = h.new_holds.capture }) in
+    let left : rest machine c.records new.breakpoints new.place ≡ first.0 =
+    (let s = stops-held machine c new holds in let t = first.2 in cc) in
     let spent = turns ∙ ap (λ t. n + t) (turns-first machine c v stop first.0 h.new_holds first.1) in
     let split = turns-rest machine c v stop first.0 first.1 in
     let sofar = h.spent in
@@ -138,7 +173,8 @@ going-stop machine c old v new f g g2 m n k stop h ahead_is after turns pushed =
       old_holds = h.old_holds;
       new_holds = holds;
       passed = h.passed ++ stop ∷ [];
-      place = rw (last_place-append old.place h.passed stop) (there ∙ ap (λ (x : View). record x { place = stop.place }) h.place);
+      place = rw (last_place-append old.place h.passed stop)
+          (there ∙ ap (λ (x : View). record x { place = stop.place }) h.place);
       origin = rw there h.origin;
       breakpoints = rw there h.breakpoints;
       found = pushed ∙ ap (λ xs. xs ++ stop ∷ []) h.found ∙ append_assoc f h.passed (stop ∷ []);
@@ -148,39 +184,62 @@ going-stop machine c old v new f g g2 m n k stop h ahead_is after turns pushed =
     }
 
 -- the end
-pub going-end : (machine : Machine) (c : Savefile) (old v new : View) (f g : List Stop) (m n : ℕ) (counted : Counts) → Going machine c old v f g m n → Continues v new (Finished counted)
+pub going-end : (machine : Machine) (c : Savefile) (old v new : View) (f g : List Stop) (m n : ℕ) (counted : Counts)
+    → Going machine c old v f g m n → Continues v new (Finished counted)
     → Ok (Finished counted) ≡ reply_of (run v None) → new ≡ view_after v (run v None)
-    → (Ok counted ≡ reply_of (run_to_end old)) × (new ≡ view_after old (run_to_end old)) × (g ≡ f ++ rest machine c.records old.breakpoints old.place)
+    → (Ok counted ≡ reply_of (run_to_end old)) × (new ≡ view_after old (run_to_end old))
+    × (g ≡ f ++ rest machine c.records old.breakpoints old.place)
 unfolding run_to_end
 going-end machine c old v new f g m n counted h ahead_is reply after =
     let here = stops-held machine c v h.new_holds in
-    let none : rest machine c.records v.breakpoints v.place ≡ [] = (let k2 = ahead_is.2 in let same : rest machine c.records v.breakpoints v.place ≡ ahead_is.0 = cc in same ∙ ahead_is.4) in
+    let none : rest machine c.records v.breakpoints v.place ≡ [] =
+    (let k2 = ahead_is.2 in let same : rest machine c.records v.breakpoints v.place ≡ ahead_is.0 = cc in
+    same ∙ ahead_is.4) in
     let ran = run-last machine c v h.new_holds none in
     let there : new ≡ record v { place = start; origin = 1 } = after ∙ ap (view_after v) ran in
-    let answered : Ok (Finished counted) ≡ Ok (Finished (counts machine c.records v.origin (length c.records + 1))) = reply ∙ ap reply_of ran in
-    let n : counted ≡ counts machine c.records old.origin (length c.records + 1) = (let o = h.origin in let e : counted ≡ counts machine c.records v.origin (length c.records + 1) = cc in rw o at e) in (
+    let answered : Ok (Finished counted) ≡ Ok (Finished (counts machine c.records v.origin (length c.records + 1))) =
+    reply ∙ ap reply_of ran in
+    let n : counted ≡ counts machine c.records old.origin (length c.records + 1) =
+    (let o = h.origin in let e : counted ≡ counts machine c.records v.origin (length c.records + 1) = cc in
+    rw o at e) in (
       rw (h.old_holds.program, h.old_holds.values, h.old_holds.capture, n) refl,
-      rw (h.old_holds.program, h.old_holds.values, h.old_holds.capture, there, h.new_holds.program, h.new_holds.values, h.new_holds.capture, h.breakpoints) refl,
+      rw (
+        h.old_holds.program,
+        h.old_holds.values,
+        h.old_holds.capture,
+        there,
+        h.new_holds.program,
+        h.new_holds.values,
+        h.new_holds.capture,
+        h.breakpoints,
+      ) refl,
       h.found ∙ ap (λ xs. f ++ xs) (sym ((rw none at h.hits) ∙ append-nil h.passed)),
     )
 
 pub turns-last : (machine : Machine) (c : Savefile) (v : View) → Holds machine c v
-    → rest machine c.records v.breakpoints v.place ≡ [] → turns_forward v (run v None) ≡ turns_to_end machine c.records v.place
+    → rest machine c.records v.breakpoints v.place ≡ []
+    → turns_forward v (run v None) ≡ turns_to_end machine c.records v.place
 turns-last machine c v h e = rw (run-last machine c v h e, h.program, h.values, h.capture) refl
 
-turns_left-held : (machine : Machine) (c : Savefile) (v : View) → Holds machine c v → turns_left v ≡ turns_to_end machine c.records v.place
+turns_left-held : (machine : Machine) (c : Savefile) (v : View) → Holds machine c v
+    → turns_left v ≡ turns_to_end machine c.records v.place
 turns_left-held machine c v h = rw (h.program, h.values, h.capture) refl
 
 -- the turns so far
-pub going-turns : (machine : Machine) (c : Savefile) (old new : View) (f g : List Stop) (m n : ℕ) → Going machine c old new f g m n → n + turns_left new ≡ m + turns_left old
-going-turns machine c old new f g m n h = rw (turns_left-held machine c new h.new_holds, turns_left-held machine c old h.old_holds) h.spent
+pub going-turns : (machine : Machine) (c : Savefile) (old new : View) (f g : List Stop) (m n : ℕ)
+    → Going machine c old new f g m n → n + turns_left new ≡ m + turns_left old
+going-turns machine c old new f g m n h =
+    rw (turns_left-held machine c new h.new_holds, turns_left-held machine c old h.old_holds) h.spent
 
 -- and all turns
-pub end-turns : (machine : Machine) (c : Savefile) (old v new : View) (f g : List Stop) (m n k : ℕ) (counted : Counts) → Going machine c old v f g m n → Continues v new (Finished counted)
+pub end-turns : (machine : Machine) (c : Savefile) (old v new : View) (f g : List Stop) (m n k : ℕ) (counted : Counts)
+    → Going machine c old v f g m n → Continues v new (Finished counted)
     → k ≡ n + turns_forward v (run v None) → k ≡ m + turns_left old
 end-turns machine c old v new f g m n k counted h ahead_is turns =
     let here = stops-held machine c v h.new_holds in
-    let none : rest machine c.records v.breakpoints v.place ≡ [] = (let k2 = ahead_is.2 in let same : rest machine c.records v.breakpoints v.place ≡ ahead_is.0 = cc in same ∙ ahead_is.4) in
+    let none : rest machine c.records v.breakpoints v.place ≡ [] =
+    (let k2 = ahead_is.2 in let same : rest machine c.records v.breakpoints v.place ≡ ahead_is.0 = cc in
+    same ∙ ahead_is.4) in
     let last = turns-last machine c v h.new_holds none in
     let all = turns_left-held machine c old h.old_holds in
     let spent = h.spent in
@@ -191,5 +250,6 @@ abbrev pub how_many : Result (List Stop) SessionFault → ℕ
 how_many (Ok hits) = length hits
 how_many (Err e) = 0
 
-pub fewer : (old new : View) (stop : Stop) → Continues old new (Stopped stop) → how_many (stops new) < how_many (stops old)
+pub fewer : (old new : View) (stop : Stop) → Continues old new (Stopped stop)
+    → how_many (stops new) < how_many (stops old)
 fewer old new stop k = rw (k.2, k.3, k.4) (omega arith)

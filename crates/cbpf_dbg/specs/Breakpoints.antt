@@ -1,4 +1,5 @@
--- Breakpoints (Linux Documentation/networking/filter, "BPF debugger", on `breakpoint`), and their conditions (this project's own).
+-- Breakpoints (Linux Documentation/networking/filter, "BPF debugger", on `breakpoint`),
+-- and their conditions (this project's own).
 use Rattle.std.specs.Prelude.{ℕ, nat_eq, Bool, true, false, List}
 use Rattle.std.specs.Option.{option_map_or}
 use Rattle.std.specs.Map.{lookup}

@@ -1,5 +1,9 @@
--- What each command of a session answers, which view it leaves, and how many turns it makes (the commands `run`, `breakpoint`, `step` and `select` are named in Linux Documentation/networking/filter; the rest is this project's own).
-use Rattle.std.specs.Prelude.{◌≡◌, ℕ, ◌+◌, ◌-◌, ◌≤◌, zero, suc, nat_lt, nat_le, nat_eq, is_some, ◌&&◌, Bool, true, List, [], ◌∷◌, ◌++◌, length, slice_get, Option, Some, None, Result, Ok, Err, if◌then◌else◌, ℤ, pos, negsuc}
+-- What each command of a session answers, which view it leaves, and how many turns it makes
+-- (the commands `run`, `breakpoint`, `step` and `select` are named in Linux Documentation/networking/filter;
+-- the rest is this project's own).
+use Rattle.std.specs.Prelude.{◌≡◌, ℕ, ◌+◌, ◌-◌, ◌≤◌, zero, suc, nat_lt, nat_le, nat_eq, is_some, ◌&&◌, Bool, true}
+use Rattle.std.specs.Prelude.{List, [], ◌∷◌, ◌++◌, length, slice_get, Option, Some, None, Result, Ok, Err}
+use Rattle.std.specs.Prelude.{if◌then◌else◌, ℤ, pos, negsuc}
 use Rattle.cbpf_code.specs.declared.insn.Insn.{Insn}
 use Rattle.cbpf_code.specs.declared.extension.Ext.{Ext}
 use Rattle.std.specs.Option.{option_map}
@@ -19,7 +23,9 @@ use Rattle.cbpf_reply.specs.declared.reply.Why.TheVariants as why
 use Rattle.cbpf_reply.specs.declared.reply.RunReply.{RunReply}
 use Rattle.cbpf_reply.specs.declared.reply.RunReply.TheVariants.{Stopped, Limit, Finished}
 use Rattle.cbpf_reply.specs.declared.reply.SessionFault.{SessionFault}
-use Rattle.cbpf_reply.specs.declared.reply.SessionFault.TheVariants.{NoProgram, NoCapture, NoPackets, NoInstruction, NoPacket, NoStep, TooFarBack, ZeroCount, NoValue, Memory}
+use Rattle.cbpf_reply.specs.declared.reply.SessionFault.TheVariants.{NoProgram, NoCapture, NoPackets, NoInstruction}
+use Rattle.cbpf_reply.specs.declared.reply.SessionFault.TheVariants.{NoPacket, NoStep, TooFarBack, ZeroCount, NoValue}
+use Rattle.cbpf_reply.specs.declared.reply.SessionFault.TheVariants.{Memory}
 use Rattle.cbpf_dbg.specs.Joined.{stops as every_hit}
 use Rattle.cbpf_dbg.specs.Joined.{Entry, ahead, rest, stop_at, counts, turns_between, turns_to_end}
 use Rattle.indexmap.specs.IndexMap.{insert_entry, shift_remove_entry}
@@ -38,12 +44,14 @@ view_after m (Ok a) = a.1
 view_after m (Err e) = m
 
 -- a command that needs a program
-abbrev pub with_program : {R : Type 0} → Option (List Insn) → (List Insn → Result R SessionFault) → Result R SessionFault
+abbrev pub with_program : {R : Type 0} → Option (List Insn) → (List Insn → Result R SessionFault)
+    → Result R SessionFault
 with_program None act = Err NoProgram
 with_program (Some list) act = act list
 
 -- one that needs a capture too
-abbrev pub with_capture : {R : Type 0} → Option Savefile → (List Record → Result R SessionFault) → Result R SessionFault
+abbrev pub with_capture : {R : Type 0} → Option Savefile → (List Record → Result R SessionFault)
+    → Result R SessionFault
 with_capture None act = Err NoCapture
 with_capture (Some c) act = act c.records
 
@@ -59,10 +67,12 @@ abbrev pub stopped : View → Stop → RunReply × View
 stopped m stop = (Stopped stop, record m { place = stop.place })
 
 abbrev pub finished : View → Machine → List Record → RunReply × View
-finished m machine capture = (Finished (counts machine capture m.origin (length capture + 1)), record m { place = start; origin = 1 })
+finished m machine capture =
+    (Finished (counts machine capture m.origin (length capture + 1)), record m { place = start; origin = 1 })
 
 abbrev pub limited : View → Machine → List Record → ℕ → RunReply × View
-limited m machine capture next = (Limit (counts machine capture m.origin next), record m { place = record { packet = next; step = 0 } })
+limited m machine capture next =
+    (Limit (counts machine capture m.origin next), record m { place = record { packet = next; step = 0 } })
 
 -- ---- run
 
@@ -70,7 +80,8 @@ limited m machine capture next = (Limit (counts machine capture m.origin next), 
 abbrev pub run_out : View → Machine → List Record → Option ℕ → RunReply × View
 run_out m machine capture None = finished m machine capture
 run_out m machine capture (Some n) =
-    if nat_le (m.place.packet + n) (length capture) then limited m machine capture (m.place.packet + n) else finished m machine capture
+    if nat_le (m.place.packet + n) (length capture) then limited m machine capture (m.place.packet + n)
+    else finished m machine capture
 
 abbrev pub within_limit : Option ℕ → ℕ → Bool
 within_limit None packets = true
@@ -90,7 +101,8 @@ checked_limit (Some (suc n)) answer = answer
 
 unfoldable pub run : View → Option ℕ → Answer RunReply
 run m limit =
-    loaded m (λ machine capture. checked_limit limit (Ok (run_to m machine capture limit (rest machine capture m.breakpoints m.place))))
+    loaded m (λ machine capture.
+    checked_limit limit (Ok (run_to m machine capture limit (rest machine capture m.breakpoints m.place))))
 
 -- ---- step
 
@@ -102,7 +114,8 @@ step_to m machine capture (Some e) = stopped m (stop_at why.Step e)
 abbrev pub entry_in : Machine → Option Record → Place → Option Entry
 entry_in machine None place = None
 entry_in machine (Some r) place =
-    option_map (λ s. record { place = place; state = s; turn = turn machine r.bytes r.wire s }) (slice_get (trace machine r.bytes r.wire) (place.step - 1))
+    option_map (λ s. record { place = place; state = s; turn = turn machine r.bytes r.wire s })
+    (slice_get (trace machine r.bytes r.wire) (place.step - 1))
 
 abbrev pub back_place : Place → ℕ → Place
 back_place place b = record { packet = place.packet; step = place.step - b }
@@ -114,7 +127,8 @@ back_at m (Some e) = Ok (stopped m (stop_at why.Step e))
 
 abbrev pub back_to : View → Machine → List Record → ℕ → Answer RunReply
 back_to m machine capture b =
-    back_at m (if nat_lt b m.place.step then entry_in machine (slice_get capture (m.place.packet - 1)) (back_place m.place b) else None)
+    back_at m (if nat_lt b m.place.step
+    then entry_in machine (slice_get capture (m.place.packet - 1)) (back_place m.place b) else None)
 
 abbrev pub step_by : View → Machine → List Record → ℤ → Answer RunReply
 step_by m machine capture (pos zero) = Err ZeroCount
@@ -176,7 +190,8 @@ turns_forward m answer = turns_loaded m m.program m.capture answer
 unfoldable pub stops : View → Result (List Stop) SessionFault
 stops m = loaded m (λ machine capture. Ok (rest machine capture m.breakpoints m.place))
 
--- how a run's answer goes with the hits ahead before it and after it: a stop is the first of them, and the others stay; up to a limit there is none; and at the end there is none left
+-- how a run's answer goes with the hits ahead before it and after it: a stop is the first of them,
+-- and the others stay; up to a limit there is none; and at the end there is none left
 abbrev pub PassesHits : RunReply → List Stop → List Stop → Type 0
 PassesHits (Stopped h) before after = before ≡ h ∷ after
 PassesHits (Limit n) before after = before ≡ after
@@ -185,13 +200,15 @@ PassesHits (Finished n) before after = before ≡ []
 -- the same by the views
 abbrev pub Continues : View → View → RunReply → Type 0
 Continues old new reply =
-    (before : List Stop) × (after : List Stop) × (stops old ≡ Ok before) × (stops new ≡ Ok after) × PassesHits reply before after
+    (before : List Stop) × (after : List Stop) × (stops old ≡ Ok before) × (stops new ≡ Ok after)
+    × PassesHits reply before after
 
 -- ---- whole runs
 
 -- runs without a limit until the last packet is finished answer its counts, and go back to the start
 unfoldable pub run_to_end : View → Answer Counts
-run_to_end m = loaded m (λ machine capture. Ok (counts machine capture m.origin (length capture + 1), record m { place = start; origin = 1 }))
+run_to_end m = loaded m (λ machine capture.
+    Ok (counts machine capture m.origin (length capture + 1), record m { place = start; origin = 1 }))
 
 -- all hits, from the start
 unfoldable pub all_stops : View → Result (List Stop) SessionFault
@@ -202,7 +219,8 @@ abbrev pub last_place : Place → List Stop → Place
 last_place place [] = place
 last_place place (h ∷ hits) = last_place h.place hits
 
--- the stops found are the first of those that were ahead, the others are still ahead, and only the place differs: it is the last one's
+-- the stops found are the first of those that were ahead, the others are still ahead,
+-- and only the place differs: it is the last one's
 abbrev pub Found : View → View → List Stop → List Stop → Type 0
 Found old new old_found new_found =
     (hits : List Stop) × (after : List Stop) × (stops old ≡ Ok (hits ++ after)) × (stops new ≡ Ok after)
@@ -228,7 +246,11 @@ with_capture_loaded m c = record m { capture = Some c; place = start; origin = 1
 -- a value for an extension: the place's packet begins anew, and is the first that counts
 abbrev pub with_value_set : View → Ext → ℕ → View
 with_value_set m e n =
-    record m { values = with_value m.values e n; place = record { packet = m.place.packet; step = 0 }; origin = m.place.packet }
+    record m {
+      values = with_value m.values e n;
+      place = record { packet = m.place.packet; step = 0 };
+      origin = m.place.packet;
+    }
 
 unfoldable pub set_value : View → Ext → ℕ → Answer (Unit {0})
 set_value m e n = if takes_value e then Ok (tt, with_value_set m e n) else Err NoValue
@@ -240,7 +262,8 @@ at_instruction m n answer =
 
 -- a breakpoint goes last; one that is set keeps its place and takes the condition
 unfoldable pub breakpoint_when : View → ℕ → When → Answer (Unit {0})
-breakpoint_when m n when = at_instruction m n (Ok (tt, record m { breakpoints = insert_entry nat_eq m.breakpoints n when }))
+breakpoint_when m n when =
+    at_instruction m n (Ok (tt, record m { breakpoints = insert_entry nat_eq m.breakpoints n when }))
 
 -- one without a condition
 abbrev pub breakpoint : View → ℕ → Answer (Unit {0})
@@ -249,7 +272,10 @@ breakpoint m n = breakpoint_when m n Always
 -- whether it was set; the others keep their order
 unfoldable pub delete : View → ℕ → Answer Bool
 delete m n =
-    at_instruction m n (Ok (is_some (lookup (nat_eq n) m.breakpoints), record m { breakpoints = shift_remove_entry (nat_eq n) m.breakpoints }))
+    at_instruction m n (Ok (
+      is_some (lookup (nat_eq n) m.breakpoints),
+      record m { breakpoints = shift_remove_entry (nat_eq n) m.breakpoints },
+    ))
 
 abbrev pub without_breakpoints : View → View
 without_breakpoints m = record m { breakpoints = [] }

@@ -1,6 +1,7 @@
 -- A cursor over the entries of a capture: it is a matter of this crate alone, and no public clause names it.
 use Rattle.std.specs.Option.{option_map}
-use Rattle.std.specs.Prelude.{◌≡◌, ℕ, ◌+◌, ◌-◌, ◌≤◌, ◌<◌, List, [], ◌∷◌, length, slice_get, Option, Some, None, IfSome, min, Bool, false, nat_eq, ◌⊎◌}
+use Rattle.std.specs.Prelude.{◌≡◌, ℕ, ◌+◌, ◌-◌, ◌≤◌, ◌<◌, List, [], ◌∷◌, length, slice_get, Option, Some, None}
+use Rattle.std.specs.Prelude.{IfSome, min, Bool, false, nat_eq, ◌⊎◌}
 use Rattle.cbpf_code.specs.Sound.{IsSound}
 use Rattle.cbpf_machine.specs.Registers.{Registers, zero_state}
 use Rattle.cbpf_machine.specs.declared.outcome.Outcome.{Outcome}
@@ -32,7 +33,8 @@ use Rattle.cbpf_reply.specs.declared.reply.Why.TheVariants as why
 -- the state at a step of a packet
 abbrev pub IsEntry : Machine → List Record → Place → Registers → Type 0
 IsEntry machine capture place s =
-    (r : Record) × (slice_get capture (place.packet - 1) ≡ Some r) × (slice_get (trace machine r.bytes r.wire) (place.step - 1) ≡ Some s)
+    (r : Record) × (slice_get capture (place.packet - 1) ≡ Some r)
+    × (slice_get (trace machine r.bytes r.wire) (place.step - 1) ≡ Some s)
 
 -- a cursor stands at its place, with the outcomes from its origin on
 pub record Stands (machine : Machine) (capture : List Record) (w : Cursor) : Type 0 where
@@ -59,7 +61,10 @@ with_outcome n (outcome_is.Unknown e) = record n { unknown = n.unknown + 1 }
 
 -- the cursor after a packet with this outcome
 abbrev pub passed : Cursor → Outcome → Cursor
-passed w outcome = record w { place = record { packet = w.place.packet + 1; step = 0 }; counts = with_outcome w.counts outcome }
+passed w outcome = record w {
+  place = record { packet = w.place.packet + 1; step = 0 };
+  counts = with_outcome w.counts outcome;
+}
 
 -- the cursor of a packet that was followed, with the state that this led to
 abbrev pub followed : Cursor → Followed → Cursor
@@ -77,9 +82,11 @@ entry_here machine r w = record { place = w.place; state = w.state; turn = turn 
 abbrev pub Moves : Machine → List Record → Cursor → Moved → Cursor → Type 0
 Moves machine capture old moved.Entry new =
     (r : Record) × (slice_get capture (new.place.packet - 1) ≡ Some r) × (new.place.packet ≡ old.place.packet)
-    × (new.place.step ≡ old.place.step + 1) × (ahead machine capture old.place ≡ entry_here machine r new ∷ ahead machine capture new.place)
+    × (new.place.step ≡ old.place.step + 1)
+    × (ahead machine capture old.place ≡ entry_here machine r new ∷ ahead machine capture new.place)
 Moves machine capture old moved.Packet new =
-    (new.place ≡ record { packet = old.place.packet + 1; step = 0 }) × (ahead machine capture old.place ≡ ahead machine capture new.place)
+    (new.place ≡ record { packet = old.place.packet + 1; step = 0 })
+    × (ahead machine capture old.place ≡ ahead machine capture new.place)
 
 -- why the entry of a cursor, in a packet, is a hit, where it is one
 abbrev pub hit_of : Machine → Breakpoints → Record → Cursor → Option Why
@@ -88,22 +95,29 @@ hit_of machine breakpoints r w = hit_for (carries breakpoints w.state) (asked (t
 -- a move to a later entry of a packet, or out of the packet, past no hit
 abbrev pub PassesOn : Machine → List Record → Breakpoints → Record → Cursor → Moved → Cursor → Type 0
 PassesOn machine capture breakpoints r old moved.Packet new =
-    (new.place ≡ record { packet = old.place.packet + 1; step = 0 }) × (rest machine capture breakpoints new.place ≡ rest machine capture breakpoints old.place)
+    (new.place ≡ record { packet = old.place.packet + 1; step = 0 })
+    × (rest machine capture breakpoints new.place ≡ rest machine capture breakpoints old.place)
 PassesOn machine capture breakpoints r old moved.Entry new =
-    (before : Cursor) × (new.place.packet ≡ old.place.packet) × (rest machine capture breakpoints before.place ≡ rest machine capture breakpoints old.place)
-    × (ahead machine capture before.place ≡ entry_here machine r new ∷ ahead machine capture new.place) × (old.place.step < new.place.step)
+    (before : Cursor) × (new.place.packet ≡ old.place.packet)
+    × (rest machine capture breakpoints before.place ≡ rest machine capture breakpoints old.place)
+    × (ahead machine capture before.place ≡ entry_here machine r new ∷ ahead machine capture new.place)
+    × (old.place.step < new.place.step)
 
 -- a move to the next hit in a packet, or out of the packet past no hit
 abbrev pub PassesTo : Machine → List Record → Breakpoints → Record → Cursor → Option Why → Cursor → Type 0
 PassesTo machine capture breakpoints r old None new =
-    (new.place ≡ record { packet = old.place.packet + 1; step = 0 }) × (rest machine capture breakpoints new.place ≡ rest machine capture breakpoints old.place)
+    (new.place ≡ record { packet = old.place.packet + 1; step = 0 })
+    × (rest machine capture breakpoints new.place ≡ rest machine capture breakpoints old.place)
 PassesTo machine capture breakpoints r old (Some y) new =
-    (before : Cursor) × (new.place.packet ≡ old.place.packet) × (rest machine capture breakpoints before.place ≡ rest machine capture breakpoints old.place)
-    × (ahead machine capture before.place ≡ entry_here machine r new ∷ ahead machine capture new.place) × (hit_of machine breakpoints r new ≡ Some y)
+    (before : Cursor) × (new.place.packet ≡ old.place.packet)
+    × (rest machine capture breakpoints before.place ≡ rest machine capture breakpoints old.place)
+    × (ahead machine capture before.place ≡ entry_here machine r new ∷ ahead machine capture new.place)
+    × (hit_of machine breakpoints r new ≡ Some y)
 
 -- a cursor is after the last packet
 abbrev pub Ended : Machine → List Record → Cursor → Type 0
-Ended machine capture w = (w.place.packet ≡ length capture + 1) × (ahead machine capture w.place ≡ []) × (w.place.step ≡ 0)
+Ended machine capture w =
+    (w.place.packet ≡ length capture + 1) × (ahead machine capture w.place ≡ []) × (w.place.step ≡ 0)
 
 -- the record of a place's packet, where there is one
 pub record IsHere (capture : List Record) (packet : ℕ) (here : Option Captured) : Type 0 where
@@ -116,7 +130,14 @@ owed machine capture place = length (ahead machine capture place) + min place.st
 
 -- a session's view with its cursor at a place
 abbrev pub view_at : Machine → Savefile → Breakpoints → Cursor → View
-view_at machine c breakpoints w = record { program = Some machine.list; values = machine.values; capture = Some c; breakpoints = breakpoints; origin = w.origin; place = w.place }
+view_at machine c breakpoints w = record {
+  program = Some machine.list;
+  values = machine.values;
+  capture = Some c;
+  breakpoints = breakpoints;
+  origin = w.origin;
+  place = w.place;
+}
 
 -- what a run from a place answers, and where it ends
 abbrev pub run_from : Machine → Savefile → Breakpoints → Cursor → Option ℕ → RunReply × View
@@ -124,7 +145,8 @@ run_from machine c breakpoints w limit =
     run_to (view_at machine c breakpoints w) machine c.records limit (rest machine c.records breakpoints w.place)
 
 -- a run's answer and end
-pub record Runs (machine : Machine) (c : Savefile) (breakpoints : Breakpoints) (old new : Cursor) (limit : Option ℕ) (reply : RunReply) : Type 0 where
+pub record Runs (machine : Machine) (c : Savefile) (breakpoints : Breakpoints) (old new : Cursor) (limit : Option ℕ)
+    (reply : RunReply) : Type 0 where
   pub reply_is : reply ≡ (run_from machine c breakpoints old limit).0
   pub place_is : new.place ≡ (run_from machine c breakpoints old limit).1.place
   pub origin_is : new.origin ≡ (run_from machine c breakpoints old limit).1.origin
@@ -154,9 +176,12 @@ run_turns machine c breakpoints w limit =
     turns_in (view_at machine c breakpoints w) machine c.records (run_from machine c breakpoints w limit)
 
 -- a step back answers the entry at that step, and the cursor stands there
-pub record StepsBack (machine : Machine) (capture : List Record) (old new : Cursor) (b : ℕ) (stop : Stop) : Type 0 where
+pub record StepsBack (machine : Machine) (capture : List Record) (old new : Cursor) (b : ℕ) (stop : Stop) :
+    Type 0 where
   pub within : b < old.place.step
-  pub entry : (e : Entry) × (entry_in machine (slice_get capture (old.place.packet - 1)) (back_place old.place b) ≡ Some e) × (stop ≡ stop_at why.Step e)
+  pub entry : (e : Entry)
+      × (entry_in machine (slice_get capture (old.place.packet - 1)) (back_place old.place b) ≡ Some e)
+      × (stop ≡ stop_at why.Step e)
   pub place_is : new.place ≡ back_place old.place b
   pub origin_is : new.origin ≡ old.origin
 
@@ -171,7 +196,8 @@ abbrev pub step_from : Machine → Savefile → Breakpoints → Cursor → ℕ �
 step_from machine c breakpoints w n =
     step_to (view_at machine c breakpoints w) machine c.records (slice_get (ahead machine c.records w.place) (n - 1))
 
-pub record StepsOn (machine : Machine) (c : Savefile) (breakpoints : Breakpoints) (old new : Cursor) (n : ℕ) (reply : RunReply) : Type 0 where
+pub record StepsOn (machine : Machine) (c : Savefile) (breakpoints : Breakpoints) (old new : Cursor) (n : ℕ)
+    (reply : RunReply) : Type 0 where
   pub reply_is : reply ≡ (step_from machine c breakpoints old n).0
   pub place_is : new.place ≡ (step_from machine c breakpoints old n).1.place
   pub origin_is : new.origin ≡ (step_from machine c breakpoints old n).1.origin

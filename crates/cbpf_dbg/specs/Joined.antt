@@ -1,5 +1,8 @@
--- The entries of all packets of a capture, in order, the ones among them at which a debugger stops, and the outcomes of packets (this project's own, over the trace of Linux Documentation/networking/filter's machine and the records of pcap-savefile(5)).
-use Rattle.std.specs.Prelude.{ℕ, ◌+◌, ◌-◌, nat_lt, nat_eq, ◌&&◌, ◌||◌, not, Bool, true, false, List, [], ◌∷◌, ◌++◌, map, filter, take, drop, count_by}
+-- The entries of all packets of a capture, in order, the ones among them at which a debugger stops,
+-- and the outcomes of packets (this project's own, over the trace of Linux Documentation/networking/filter's machine
+-- and the records of pcap-savefile(5)).
+use Rattle.std.specs.Prelude.{ℕ, ◌+◌, ◌-◌, nat_lt, nat_eq, ◌&&◌, ◌||◌, not, Bool, true, false, List, [], ◌∷◌, ◌++◌}
+use Rattle.std.specs.Prelude.{map, filter, take, drop, count_by}
 use Rattle.cbpf_machine.specs.Registers.{Registers}
 use Rattle.cbpf_machine.specs.declared.outcome.Turn.{Turn}
 use Rattle.cbpf_machine.specs.declared.outcome.Turn.TheVariants.{Next, Returned, Outside, ZeroDivisor, Unknown}
@@ -96,7 +99,8 @@ is_open (outcome_is.Unknown e) = true
 
 -- the outcomes of the packets from a number up to, not including, another
 abbrev pub outcomes : Machine → List Record → ℕ → ℕ → List Outcome
-outcomes machine capture from to = map (λ r. outcome machine r.bytes r.wire) (take (to - from) (drop (from - 1) capture))
+outcomes machine capture from to =
+    map (λ r. outcome machine r.bytes r.wire) (take (to - from) (drop (from - 1) capture))
 
 unfoldable pub counts : Machine → List Record → ℕ → ℕ → Counts
 counts machine capture from to =

@@ -1,5 +1,7 @@
--- What the parts of a session have to do with one another: it is a matter of this crate alone, and no public clause names it.
-use Rattle.std.specs.Prelude.{◌≡◌, ℕ, ◌-◌, ◌<◌, List, [], Bool, true, false, Option, Some, None, length, take, slice_get, slice_index_or}
+-- What the parts of a session have to do with one another: it is a matter of this crate alone,
+-- and no public clause names it.
+use Rattle.std.specs.Prelude.{◌≡◌, ℕ, ◌-◌, ◌<◌, List, [], Bool, true, false, Option, Some, None, length, take}
+use Rattle.std.specs.Prelude.{slice_get, slice_index_or}
 use Rattle.cbpf_code.specs.declared.insn.Insn.{Insn}
 use Rattle.cbpf_machine.specs.Registers.{Registers}
 use Rattle.cbpf_machine.specs.Values.{Values}
@@ -18,20 +20,23 @@ use Rattle.cbpf_dbg.specs.Cursor.{Stands}
 -- a trail stands for the entries of the place's packet up to its step
 abbrev pub Keeps : (List Registers → Type 0) → Machine → List Record → Place → Type 0
 Keeps stands_for machine capture place =
-    (r : Record) → slice_get capture (place.packet - 1) ≡ Some r → stands_for (take place.step (trace machine r.bytes r.wire))
+    (r : Record) → slice_get capture (place.packet - 1) ≡ Some r
+    → stands_for (take place.step (trace machine r.bytes r.wire))
 
 abbrev pub IsStart : Cursor → Type 0
 IsStart w = (w.place ≡ start) × (w.origin ≡ 1)
 
 -- with a program and a capture the cursor stands at its place, else at the start
 abbrev pub Fits : (List Registers → Type 0) → Option (List Insn) → Values → Option Savefile → Cursor → Type 0
-Fits stands_for (Some list) values (Some c) w = Stands (machine_of list values) c.records w × Keeps stands_for (machine_of list values) c.records w.place
+Fits stands_for (Some list) values (Some c) w =
+    Stands (machine_of list values) c.records w × Keeps stands_for (machine_of list values) c.records w.place
 Fits stands_for (Some list) values None w = IsStart w
 Fits stands_for None values capture w = IsStart w
 
 -- no turn of a machine asks for an extension that has no value
 abbrev pub IsSilent : Machine → Type 0
-IsSilent machine = (bytes : List ℕ) (wire : ℕ) (s : Registers) → s.pc < length machine.list → asked (turn machine bytes wire s) ≡ None
+IsSilent machine = (bytes : List ℕ) (wire : ℕ) (s : Registers) → s.pc < length machine.list
+    → asked (turn machine bytes wire s) ≡ None
 
 -- no entry can be a hit
 abbrev pub IsQuiet : Machine → Breakpoints → Type 0
@@ -39,11 +44,13 @@ IsQuiet machine breakpoints = (breakpoints ≡ []) × IsSilent machine
 
 -- an entry at this instruction is no hit
 abbrev pub IsNoHit : Machine → Breakpoints → Registers → Type 0
-IsNoHit machine breakpoints s = (bytes : List ℕ) (wire : ℕ) → hit_for (carries breakpoints s) (asked (turn machine bytes wire s)) ≡ None
+IsNoHit machine breakpoints s = (bytes : List ℕ) (wire : ℕ)
+    → hit_for (carries breakpoints s) (asked (turn machine bytes wire s)) ≡ None
 
 -- of the first n instructions only those that are watched can be hit
 abbrev pub WatchesTo : List Bool → Machine → Breakpoints → ℕ → Type 0
-WatchesTo watched machine breakpoints n = (s : Registers) → s.pc < n → slice_index_or watched s.pc false ≡ false → IsNoHit machine breakpoints s
+WatchesTo watched machine breakpoints n = (s : Registers) → s.pc < n → slice_index_or watched s.pc false ≡ false
+    → IsNoHit machine breakpoints s
 
 abbrev pub Watches : List Bool → Machine → Breakpoints → Type 0
 Watches watched machine breakpoints = WatchesTo watched machine breakpoints (length machine.list)
@@ -54,5 +61,6 @@ IsSameBut i before after = (s : Registers) → (s.pc ≡ i → ⊥) → carries 
 
 -- what is known of a program
 abbrev pub IsKnown : Bool → List Bool → Option (List Insn) → Values → Breakpoints → Type 0
-IsKnown silent watched (Some list) values breakpoints = (silent ≡ true → IsSilent (machine_of list values)) × Watches watched (machine_of list values) breakpoints
+IsKnown silent watched (Some list) values breakpoints =
+    (silent ≡ true → IsSilent (machine_of list values)) × Watches watched (machine_of list values) breakpoints
 IsKnown silent watched None values breakpoints = Unit {0}

@@ -1,4 +1,5 @@
--- What is seen of a session: its program, its values for extensions, its capture, its breakpoints in order of setting, the packet from which it counts, and its place (this project's own).
+-- What is seen of a session: its program, its values for extensions, its capture,
+-- its breakpoints in order of setting, the packet from which it counts, and its place (this project's own).
 use Rattle.std.specs.Prelude.{ℕ, List, [], Option, None}
 use Rattle.cbpf_code.specs.declared.insn.Insn.{Insn}
 use Rattle.cbpf_machine.specs.Values.{Values, no_values}
@@ -19,4 +20,5 @@ abbrev pub start : Place
 start = record { packet = 1; step = 0 }
 
 abbrev pub empty_view : View
-empty_view = record { program = None; values = no_values; capture = None; breakpoints = []; origin = 1; place = start }
+empty_view =
+    record { program = None; values = no_values; capture = None; breakpoints = []; origin = 1; place = start }

@@ -9,7 +9,8 @@ ghost use Rattle.cbpf_dbg.specs.Loaded.{machine_in, records_in};
 ghost use Rattle.cbpf_dbg.specs.View.{start};
 ghost use Rattle.cbpf_dbg.specs.declared.cursor.Moved.TheVariants as moved;
 ghost use Rattle.cbpf_machine.specs.declared.follow.Followed.TheVariants as ways;
-ghost use Rattle.cbpf_dbg.specs.Cursor.{Stands, Moves, IsEntry, IsHere, entered, stepped, passed, followed as after, moved_by};
+ghost use Rattle.cbpf_dbg.specs.Cursor.{Stands, Moves, IsEntry, IsHere, entered, stepped, passed, followed as after};
+ghost use Rattle.cbpf_dbg.specs.Cursor.{moved_by};
 
 use crate::loaded::Loaded;
 use cbpf_machine::{Followed, Meter, Outcome, Packet, State, turn_in_place};
@@ -119,7 +120,8 @@ impl Cursor {
     pub(crate) fn at_entry(place: Place, state: State) -> Cursor
         requires { 1 ≤ place.packet }
         ensures stands { (machine : Machine) (capture : List Record) → IsSound machine.list
-            → place.packet ≤ length capture + 1 → IsEntry machine capture place state → Stands machine capture result }
+            → place.packet ≤ length capture + 1 → IsEntry machine capture place state
+            → Stands machine capture result }
         ensures place { result.place ≡ place }
         ensures origin { result.origin ≡ place.packet }
     {

@@ -23,10 +23,13 @@ pub(crate) fn resume_at<T: Trail, A: Allocator>(
     requires from_one { 1 ≤ place.packet }
     requires within { place.packet ≤ length (records_in loaded.now) }
     requires spare { meter.old ≤ 2 ^ 127 }
-    ensures found { OnOk result (Stands (machine_in loaded.now) (records_in loaded.now) w.new × Keeps (λ xs. T.stands_for trail.new xs) (machine_in loaded.now) (records_in loaded.now) w.new.place
+    ensures found { OnOk result (Stands (machine_in loaded.now) (records_in loaded.now) w.new
+        × Keeps (λ xs. T.stands_for trail.new xs) (machine_in loaded.now) (records_in loaded.now) w.new.place
         × (w.new.place ≡ place) × (w.new.origin ≡ place.packet)
         × (place.step ≤ steps_of (machine_in loaded.now) (slice_get (records_in loaded.now) (place.packet - 1)))) }
-    ensures short { IfErr result (λ n. (n ≡ steps_of (machine_in loaded.now) (slice_get (records_in loaded.now) (place.packet - 1))) × (n < place.step) × (w.new ≡ w.old) × (trail.new ≡ trail.old)) }
+    ensures short { IfErr result
+        (λ n. (n ≡ steps_of (machine_in loaded.now) (slice_get (records_in loaded.now) (place.packet - 1)))
+        × (n < place.step) × (w.new ≡ w.old) × (trail.new ≡ trail.old)) }
     ensures counts { meter.old ≤ meter.new }
     ensures few { meter.new ≤ meter.old + 2 * place.step }
 {

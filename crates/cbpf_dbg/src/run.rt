@@ -8,7 +8,8 @@ ghost use Rattle.cbpf_dbg.specs.Joined.{rest};
 ghost use Rattle.cbpf_dbg.specs.Loaded.{machine_in, records_in, breakpoints_in};
 ghost use Rattle.cbpf_dbg.specs.Session.{IsQuiet, Keeps, Watches};
 ghost use Rattle.cbpf_dbg.specs.declared.cursor.Moved.TheVariants as moved;
-ghost use Rattle.cbpf_dbg.specs.Cursor.{IsHere, Stands, owed, Runs, run_turns, NotBefore, PassesOn, PassesTo, is_limit as is_limit_at};
+ghost use Rattle.cbpf_dbg.specs.Cursor.{IsHere, Stands, owed, Runs, run_turns, NotBefore, PassesOn, PassesTo};
+ghost use Rattle.cbpf_dbg.specs.Cursor.{is_limit as is_limit_at};
 
 use crate::cursor::{Cursor, Moved, advance, record_at};
 use crate::hit::hit_at;
@@ -44,7 +45,8 @@ fn leave_begun<T: Trail, A: Allocator>(
     requires stands { Stands (machine_in loaded.now) (records_in loaded.now) w.old }
     requires here { (r : Record) × (slice_get (records_in loaded.now) (w.old.place.packet - 1)
         ≡ Some (record r { bytes = bytes.now; wire = wire })) }
-    requires keeps { Keeps (λ xs. T.stands_for trail.old xs) (machine_in loaded.now) (records_in loaded.now) w.old.place }
+    requires keeps { Keeps (λ xs. T.stands_for trail.old xs) (machine_in loaded.now)
+        (records_in loaded.now) w.old.place }
     requires begun { 0 < w.old.place.step }
     requires spare { meter.old + owed (machine_in loaded.now) (records_in loaded.now) w.old.place + 1 < 2 ^ 128 }
     requires watched { Watches loaded.now.watched.now (machine_in loaded.now) (breakpoints_in loaded.now) }
@@ -81,7 +83,8 @@ fn leave_unwatched<T: Trail, A: Allocator>(
 ) -> Moved
     requires stands { Stands (machine_in loaded.now) (records_in loaded.now) w.old }
     requires here { slice_get (records_in loaded.now) (w.old.place.packet - 1) ≡ Some (record_of here.now) }
-    requires keeps { Keeps (λ xs. T.stands_for trail.old xs) (machine_in loaded.now) (records_in loaded.now) w.old.place }
+    requires keeps { Keeps (λ xs. T.stands_for trail.old xs) (machine_in loaded.now)
+        (records_in loaded.now) w.old.place }
     requires spare { meter.old + owed (machine_in loaded.now) (records_in loaded.now) w.old.place + 1 < 2 ^ 128 }
     requires watched { Watches loaded.now.watched.now (machine_in loaded.now) (breakpoints_in loaded.now) }
     ensures stands { Stands (machine_in loaded.now) (records_in loaded.now) w.new }
@@ -124,7 +127,8 @@ fn pass_to_hit<T: Trail, A: Allocator>(
 ) -> Option<Why>
     requires stands { Stands (machine_in loaded.now) (records_in loaded.now) w.old }
     requires here { slice_get (records_in loaded.now) (w.old.place.packet - 1) ≡ Some (record_of here.now) }
-    requires keeps { Keeps (λ xs. T.stands_for trail.old xs) (machine_in loaded.now) (records_in loaded.now) w.old.place }
+    requires keeps { Keeps (λ xs. T.stands_for trail.old xs) (machine_in loaded.now)
+        (records_in loaded.now) w.old.place }
     requires spare { meter.old + owed (machine_in loaded.now) (records_in loaded.now) w.old.place + 1 < 2 ^ 128 }
     requires watched { Watches loaded.now.watched.now (machine_in loaded.now) (breakpoints_in loaded.now) }
     ensures stands { Stands (machine_in loaded.now) (records_in loaded.now) w.new }
@@ -159,15 +163,19 @@ fn run_to_hit<T: Trail, A: Allocator>(
     limit: Option<u64>,
 ) -> RunReply
     requires stands { Stands (machine_in loaded.now) (records_in loaded.now) w.old }
-    requires keeps { Keeps (λ xs. T.stands_for trail.old xs) (machine_in loaded.now) (records_in loaded.now) w.old.place }
+    requires keeps { Keeps (λ xs. T.stands_for trail.old xs) (machine_in loaded.now)
+        (records_in loaded.now) w.old.place }
     requires spare { meter.old + owed (machine_in loaded.now) (records_in loaded.now) w.old.place + 1 < 2 ^ 128 }
     requires limit { limit ≢ Some 0 }
     requires watched { Watches loaded.now.watched.now (machine_in loaded.now) (breakpoints_in loaded.now) }
     ensures stands { Stands (machine_in loaded.now) (records_in loaded.now) w.new }
-    ensures keeps { Keeps (λ xs. T.stands_for trail.new xs) (machine_in loaded.now) (records_in loaded.now) w.new.place }
+    ensures keeps { Keeps (λ xs. T.stands_for trail.new xs) (machine_in loaded.now)
+        (records_in loaded.now) w.new.place }
     ensures runs { Runs (machine_in loaded.now) loaded.now.capture.now
         (breakpoints_in loaded.now) w.old w.new limit result }
-    ensures ahead { PassesHits result (rest (machine_in loaded.now) (records_in loaded.now) (breakpoints_in loaded.now) w.old.place) (rest (machine_in loaded.now) (records_in loaded.now) (breakpoints_in loaded.now) w.new.place) }
+    ensures ahead { PassesHits result
+        (rest (machine_in loaded.now) (records_in loaded.now) (breakpoints_in loaded.now) w.old.place)
+        (rest (machine_in loaded.now) (records_in loaded.now) (breakpoints_in loaded.now) w.new.place) }
     ensures turns { meter.new ≡ meter.old + run_turns (machine_in loaded.now) loaded.now.capture.now
         (breakpoints_in loaded.now) w.old limit }
 {
@@ -299,7 +307,8 @@ fn run_without_stops<T: Trail, A: Allocator>(
     requires spare { meter.old ≤ 2 ^ 127 }
     requires limit { limit ≢ Some 0 }
     ensures stands { Stands (machine_in loaded.now) (records_in loaded.now) w.new }
-    ensures keeps { Keeps (λ xs. T.stands_for trail.new xs) (machine_in loaded.now) (records_in loaded.now) w.new.place }
+    ensures keeps { Keeps (λ xs. T.stands_for trail.new xs) (machine_in loaded.now)
+        (records_in loaded.now) w.new.place }
     ensures runs { Runs (machine_in loaded.now) loaded.now.capture.now [] w.old w.new limit result }
     ensures ahead { PassesHits result (rest (machine_in loaded.now) (records_in loaded.now) [] w.old.place)
         (rest (machine_in loaded.now) (records_in loaded.now) [] w.new.place) }
@@ -337,17 +346,21 @@ pub(crate) fn run<T: Trail, A: Allocator>(
     limit: Option<u64>,
 ) -> RunReply
     requires stands { Stands (machine_in loaded.now) (records_in loaded.now) w.old }
-    requires keeps { Keeps (λ xs. T.stands_for trail.old xs) (machine_in loaded.now) (records_in loaded.now) w.old.place }
+    requires keeps { Keeps (λ xs. T.stands_for trail.old xs) (machine_in loaded.now)
+        (records_in loaded.now) w.old.place }
     requires quiet { quiet ≡ true → IsQuiet (machine_in loaded.now) (breakpoints_in loaded.now) }
     requires watched { Watches loaded.now.watched.now (machine_in loaded.now) (breakpoints_in loaded.now) }
     requires spare { meter.old + owed (machine_in loaded.now) (records_in loaded.now) w.old.place + 1 < 2 ^ 128 }
     requires early { meter.old ≤ 2 ^ 127 }
     requires limit { limit ≢ Some 0 }
     ensures stands { Stands (machine_in loaded.now) (records_in loaded.now) w.new }
-    ensures keeps { Keeps (λ xs. T.stands_for trail.new xs) (machine_in loaded.now) (records_in loaded.now) w.new.place }
+    ensures keeps { Keeps (λ xs. T.stands_for trail.new xs) (machine_in loaded.now)
+        (records_in loaded.now) w.new.place }
     ensures runs { Runs (machine_in loaded.now) loaded.now.capture.now
         (breakpoints_in loaded.now) w.old w.new limit result }
-    ensures ahead { PassesHits result (rest (machine_in loaded.now) (records_in loaded.now) (breakpoints_in loaded.now) w.old.place) (rest (machine_in loaded.now) (records_in loaded.now) (breakpoints_in loaded.now) w.new.place) }
+    ensures ahead { PassesHits result
+        (rest (machine_in loaded.now) (records_in loaded.now) (breakpoints_in loaded.now) w.old.place)
+        (rest (machine_in loaded.now) (records_in loaded.now) (breakpoints_in loaded.now) w.new.place) }
     ensures turns { meter.new ≡ meter.old + run_turns (machine_in loaded.now) loaded.now.capture.now
         (breakpoints_in loaded.now) w.old limit }
 {

@@ -1,6 +1,7 @@
 //! A session: what is loaded, and the breakpoints.
 
-ghost use Rattle.std.specs.Prelude.{◌≡◌, ◌≤◌, ◌⊎◌, length, slice_get, nat_eq, None, Err, IfErr, IsOk, OnErr, OnOk, Option};
+ghost use Rattle.std.specs.Prelude.{◌≡◌, ◌≤◌, ◌⊎◌, length, slice_get, nat_eq, None, Err, IfErr, IsOk, OnErr, OnOk};
+ghost use Rattle.std.specs.Prelude.{Option};
 ghost use Rattle.std.specs.Map.{lookup};
 ghost use Rattle.std.specs.Option.{option_map};
 ghost use Rattle.cbpf_machine.specs.Values.{value_of};
@@ -43,9 +44,17 @@ impl<T: Trail, A: Allocator> Model for Session<T, A> {
 
     ghost Value = { View };
 
-    ghost view = { λ s. record { program = s.program; values = s.values; capture = s.capture; breakpoints = s.breakpoints.entries; origin = s.cursor.origin; place = s.cursor.place } };
+    ghost view = { λ s. record {
+      program = s.program;
+      values = s.values;
+      capture = s.capture;
+      breakpoints = s.breakpoints.entries;
+      origin = s.cursor.origin;
+      place = s.cursor.place;
+    } };
 
-    ghost invariant = { λ s. Fits (λ xs. T.stands_for s.trail xs) s.program s.values s.capture s.cursor × IsKnown s.silent s.watched s.program s.values s.breakpoints.entries };
+    ghost invariant = { λ s. Fits (λ xs. T.stands_for s.trail xs) s.program s.values s.capture s.cursor
+        × IsKnown s.silent s.watched s.program s.values s.breakpoints.entries };
 }
 
 impl<T: Trail, A: Allocator + Copy> Session<T, A> {

@@ -1,6 +1,7 @@
 //! Steps both ways.
 
-ghost use Rattle.std.specs.Prelude.{◌≡◌, ◌+◌, ◌-◌, ◌<◌, ◌≤◌, ◌^◌, ℕ, MatchResult, OnErr, OnOk, Some, length, slice_get};
+ghost use Rattle.std.specs.Prelude.{◌≡◌, ◌+◌, ◌-◌, ◌<◌, ◌≤◌, ◌^◌, ℕ, MatchResult, OnErr, OnOk, Some, length};
+ghost use Rattle.std.specs.Prelude.{slice_get};
 ghost use Rattle.pcap_classic.specs.Lent.{record_of};
 ghost use Rattle.cbpf_dbg.specs.Breakpoints.{Breakpoints};
 ghost use Rattle.cbpf_dbg.specs.Joined.{ahead};
@@ -32,7 +33,8 @@ fn skip_packet<A: Allocator>(
     ensures place { w.new.place ≡ record { packet = w.old.place.packet + 1; step = 0 } }
     ensures origin { w.new.origin ≡ w.old.origin }
     ensures few { result ≤ length loaded.now.program.now }
-    ensures later { (n : ℕ) → result < n → slice_get (ahead (machine_in loaded.now) (records_in loaded.now) w.old.place)
+    ensures later { (n : ℕ) → result < n
+        → slice_get (ahead (machine_in loaded.now) (records_in loaded.now) w.old.place)
         (n - 1) ≡ slice_get (ahead (machine_in loaded.now) (records_in loaded.now) w.new.place) (n - result - 1) }
     ensures ahead { length (ahead (machine_in loaded.now) (records_in loaded.now) w.old.place)
         ≡ result + length (ahead (machine_in loaded.now) (records_in loaded.now) w.new.place) }
@@ -58,12 +60,14 @@ pub(crate) fn step_on<T: Trail, A: Allocator>(
     n: u64,
 ) -> RunReply
     requires stands { Stands (machine_in loaded.now) (records_in loaded.now) w.old }
-    requires keeps { Keeps (λ xs. T.stands_for trail.old xs) (machine_in loaded.now) (records_in loaded.now) w.old.place }
+    requires keeps { Keeps (λ xs. T.stands_for trail.old xs) (machine_in loaded.now)
+        (records_in loaded.now) w.old.place }
     requires spare { meter.old + owed (machine_in loaded.now) (records_in loaded.now) w.old.place + 1 < 2 ^ 128 }
     requires early { meter.old ≤ 2 ^ 127 }
     requires some { 1 ≤ n }
     ensures stands { Stands (machine_in loaded.now) (records_in loaded.now) w.new }
-    ensures keeps { Keeps (λ xs. T.stands_for trail.new xs) (machine_in loaded.now) (records_in loaded.now) w.new.place }
+    ensures keeps { Keeps (λ xs. T.stands_for trail.new xs) (machine_in loaded.now)
+        (records_in loaded.now) w.new.place }
     ensures steps { (breakpoints : Breakpoints) → StepsOn
         (machine_in loaded.now) loaded.now.capture.now breakpoints w.old w.new n result }
     ensures turns { (breakpoints : Breakpoints) → meter.new
@@ -116,12 +120,16 @@ pub(crate) fn step_back<T: Trail, A: Allocator>(
     b: u64,
 ) -> Result<Stop, u32>
     requires stands { Stands (machine_in loaded.now) (records_in loaded.now) w.old }
-    requires keeps { Keeps (λ xs. T.stands_for trail.old xs) (machine_in loaded.now) (records_in loaded.now) w.old.place }
+    requires keeps { Keeps (λ xs. T.stands_for trail.old xs) (machine_in loaded.now)
+        (records_in loaded.now) w.old.place }
     requires some { 1 ≤ b }
     requires spare { meter.old ≤ 2 ^ 127 }
     ensures stands { Stands (machine_in loaded.now) (records_in loaded.now) w.new }
-    ensures keeps { Keeps (λ xs. T.stands_for trail.new xs) (machine_in loaded.now) (records_in loaded.now) w.new.place }
-    ensures answer { MatchResult result (λ stop. StepsBack (machine_in loaded.now) (records_in loaded.now) w.old w.new b stop) (λ most. CannotStepBack w.old w.new b most) }
+    ensures keeps { Keeps (λ xs. T.stands_for trail.new xs) (machine_in loaded.now)
+        (records_in loaded.now) w.new.place }
+    ensures answer { MatchResult result
+        (λ stop. StepsBack (machine_in loaded.now) (records_in loaded.now) w.old w.new b stop)
+        (λ most. CannotStepBack w.old w.new b most) }
     ensures counts { meter.old ≤ meter.new }
     ensures turns { OnOk result (meter.new ≡ meter.old + T.turns_back w.new.place.step) }
     ensures few { meter.new ≤ meter.old + 63 }

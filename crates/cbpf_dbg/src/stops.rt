@@ -42,7 +42,10 @@ impl<'a, A: Allocator> Model for Stops<'a, A> {
 
     ghost view = { λ s. rest (machine_in s.loaded) (records_in s.loaded) (breakpoints_in s.loaded) s.cursor.place };
 
-    ghost invariant = { λ s. Stands (machine_in s.loaded) (records_in s.loaded) s.cursor × IsHere (records_in s.loaded) s.cursor.place.packet s.here × Watches s.loaded.watched.now (machine_in s.loaded) (breakpoints_in s.loaded) × (s.meter + owed (machine_in s.loaded) (records_in s.loaded) s.cursor.place ≤ 2 ^ 127) };
+    ghost invariant = { λ s. Stands (machine_in s.loaded) (records_in s.loaded) s.cursor
+        × IsHere (records_in s.loaded) s.cursor.place.packet s.here
+        × Watches s.loaded.watched.now (machine_in s.loaded) (breakpoints_in s.loaded)
+        × (s.meter + owed (machine_in s.loaded) (records_in s.loaded) s.cursor.place ≤ 2 ^ 127) };
 }
 
 /// Goes on in a packet, whose record is `here`, to the next entry at an instruction that is watched, or out of
@@ -94,7 +97,9 @@ fn next_stop<'a, A: Allocator>(
     ensures here { IsHere (records_in loaded.now) w.new.place.packet result.1 }
     ensures spent { meter.new + owed (machine_in loaded.now) (records_in loaded.now) w.new.place
         ≡ meter.old + owed (machine_in loaded.now) (records_in loaded.now) w.old.place }
-    ensures next { YieldsFirst (λ (v : Cursor). rest (machine_in loaded.now) (records_in loaded.now) (breakpoints_in loaded.now) v.place) w.old result.0 w.new }
+    ensures next { YieldsFirst
+        (λ (v : Cursor). rest (machine_in loaded.now) (records_in loaded.now) (breakpoints_in loaded.now) v.place)
+        w.old result.0 w.new }
 {
     let mut next = first;
     'go: loop {

@@ -73,7 +73,8 @@ pub(crate) fn watch_at<A: Allocator>(
     i: u32,
 )
     requires { i < length p.now }
-    ensures { (before : SomeBreakpoints) → Watches watched.old (machine_of p.now values.now) before → IsSameBut i before breakpoints.now.entries
+    ensures { (before : SomeBreakpoints) → Watches watched.old (machine_of p.now values.now) before
+        → IsSameBut i before breakpoints.now.entries
         → Watches watched.new (machine_of p.now values.now) breakpoints.now.entries }
 {
     let _few = p.len();

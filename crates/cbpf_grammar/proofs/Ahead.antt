@@ -1,5 +1,6 @@
 -- What holds of tokens whatever tokens follow.
-use Rattle.std.proofs.Common.{◌≡◌, ℕ, suc, ◌<◌, Bool, true, false, ◌&&◌, List, [], ◌∷◌, ◌++◌, length, take, drop, arith, ap, sym, ◌∙◌, subst, append_assoc, length-append}
+use Rattle.std.proofs.Common.{◌≡◌, ℕ, suc, ◌<◌, Bool, true, false, ◌&&◌, List, [], ◌∷◌, ◌++◌, length, take, drop}
+use Rattle.std.proofs.Common.{arith, ap, sym, ◌∙◌, subst, append_assoc, length-append}
 use Rattle.std.proofs.lemmas.List.{take-append-drop, take-append-le, length-take-le}
 use Rattle.cbpf_grammar.specs.Lexemes.{Lexeme}
 use Rattle.cbpf_grammar.specs.Classes.{Class}
@@ -13,9 +14,12 @@ pub no_longer_more : (n : ℕ) (ts us : List Lexeme) → n < length ts → NoLon
 no_longer_more n ts us l most m r known f g e k h =
     let cut : take (suc n) f ++ drop (suc n) f ≡ f = take-append-drop (suc n) f in
     let size : length (take (suc n) f) ≡ suc n = length-take-le (suc n) f (omega (arith, k)) in
-    let short : fits_front (classes_of m r) (take (suc n) f) ≡ true = front_before (classes_of m r) (take (suc n) f) (drop (suc n) f) (subst (λ x. fits_front (classes_of m r) x ≡ true) (sym cut) h) in
-    let same : take (suc n) f ≡ take (suc n) ts = sym (take-append-le (suc n) f g (omega (arith, k))) ∙ (ap (λ x. take (suc n) x) (sym e) ∙ take-append-le (suc n) ts us (omega (arith, l))) in
-    most m r known (take (suc n) f) (drop (suc n) ts) (sym (take-append-drop (suc n) ts) ∙ ap (λ x. x ++ drop (suc n) ts) (sym same)) (omega (arith, size)) short
+    let short : fits_front (classes_of m r) (take (suc n) f) ≡ true = front_before (classes_of m r) (take (suc n) f)
+    (drop (suc n) f) (subst (λ x. fits_front (classes_of m r) x ≡ true) (sym cut) h) in
+    let same : take (suc n) f ≡ take (suc n) ts = sym (take-append-le (suc n) f g (omega (arith, k)))
+    ∙ (ap (λ x. take (suc n) x) (sym e) ∙ take-append-le (suc n) ts us (omega (arith, l))) in
+    most m r known (take (suc n) f) (drop (suc n) ts)
+    (sym (take-append-drop (suc n) ts) ∙ ap (λ x. x ++ drop (suc n) ts) (sym same)) (omega (arith, size)) short
 
 pub stuck_more : (n : ℕ) (ts us : List Lexeme) → n < length ts → Stuck n ts → Stuck n (ts ++ us)
 stuck_more n ts us l s = record {
@@ -28,7 +32,8 @@ stuck_more n ts us l s = record {
   none = s.none;
 }
 
-pub next_more : (n : ℕ) (ts us : List Lexeme) (item : Item) → n < length ts → IsNextItem ts n item → IsNextItem (ts ++ us) n item
+pub next_more : (n : ℕ) (ts us : List Lexeme) (item : Item) → n < length ts → IsNextItem ts n item
+    → IsNextItem (ts ++ us) n item
 next_more n ts us item l next =
     let same : take n ts ≡ take n (ts ++ us) = sym (take-append-le n ts us next.within) in
     record {

@@ -1,5 +1,6 @@
 -- No two rows of the table fit the same tokens, unless one goes on with a comma where the other ends.
-use Rattle.std.proofs.Common.{◌≡◌, ℕ, Bool, true, false, not, ◌&&◌, ◌||◌, List, [], ◌∷◌, ◌++◌, length, refl, sym, ◌∙◌, ◌⊎◌, inl, inr, eq-eqb, eqb-true}
+use Rattle.std.proofs.Common.{◌≡◌, ℕ, Bool, true, false, not, ◌&&◌, ◌||◌, List, [], ◌∷◌, ◌++◌, length, refl, sym, ◌∙◌}
+use Rattle.std.proofs.Common.{◌⊎◌, inl, inr, eq-eqb, eqb-true}
 use Rattle.std.specs.Prelude.{◌==◌, bytes_eq}
 use Rattle.std.specs.List.{list_all}
 use Rattle.std.proofs.lemmas.Bool.{and_parts}
@@ -104,7 +105,8 @@ mark_case : (o a b : ℕ) → (o == a) ≡ true → (o == b) ≡ true → (a == 
 mark_case o a b h e = let h' : o ≡ a = eqb-true o a h in let e' : o ≡ b = eqb-true o b e in eq-eqb a b (sym h' ∙ e')
 
 ext_reserved : (u : List ℕ) → is_one_of extension_names u ≡ true → not (is_reserved u) ≡ true → ⊥
-ext_reserved u h e = or_case (is_one_of mnemonic_words u) (is_one_of extension_names u) (is_one_of operand_words u) h e
+ext_reserved u h e =
+    or_case (is_one_of mnemonic_words u) (is_one_of extension_names u) (is_one_of operand_words u) h e
 
 -- what fits two classes shows that they overlap
 pub overlap_sound : (t : Symbol) (c d : Class) → fits c t ≡ true → fits d t ≡ true → overlap c d ≡ true
@@ -187,7 +189,8 @@ comma_only extension t h e = cc
 comma_only name t h e = cc
 
 -- the classes of two readings are apart, so one of them goes on with a comma
-pub apart_split : (cs ds : List Class) (ts x us y : List Lexeme) → apart cs ds ≡ true → fits_all cs ts ≡ true → fits_all ds us ≡ true → ts ++ x ≡ us ++ y → (starts_with_comma x ≡ true) ⊎ (starts_with_comma y ≡ true)
+pub apart_split : (cs ds : List Class) (ts x us y : List Lexeme) → apart cs ds ≡ true → fits_all cs ts ≡ true
+    → fits_all ds us ≡ true → ts ++ x ≡ us ++ y → (starts_with_comma x ≡ true) ⊎ (starts_with_comma y ≡ true)
 apart_split [] [] ts x us y a f g e = cc
 apart_split [] (d ∷ ds) (t ∷ ts) x us y a f g e = cc
 apart_split [] (d ∷ ds) [] x [] y a f g e = cc

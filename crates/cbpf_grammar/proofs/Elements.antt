@@ -1,5 +1,6 @@
 -- Elements of lists that are made of others.
-use Rattle.std.proofs.Common.{◌≡◌, ℕ, zero, suc, ◌+◌, ◌<◌, Bool, true, List, [], ◌∷◌, ◌++◌, length, map, take, refl, arith, ap, ◌⊎◌, inl, inr, get_or, subst}
+use Rattle.std.proofs.Common.{◌≡◌, ℕ, zero, suc, ◌+◌, ◌<◌, Bool, true, List, [], ◌∷◌, ◌++◌, length, map, take, refl}
+use Rattle.std.proofs.Common.{arith, ap, ◌⊎◌, inl, inr, get_or, subst}
 use Rattle.std.specs.Prelude.{Contains, flat_map}
 use Rattle.std.specs.List.{list_all, list_any, common_prefix_len}
 use Rattle.std.proofs.lemmas.Bool.{and_parts, or_left, or_right, or_cases}
@@ -25,7 +26,8 @@ which_element x xs y c = by_place c.0 c.1 c.2
 pub only_element : {X : Type 0} (x y : X) → Contains (x ∷ []) y → x ≡ y
 only_element x y c = elim (which_element x [] y c) [ inl e ↦ e | inr d ↦ no_element y d ]
 
-pub from_map : {X Y : Type 0} (f : X → Y) (xs : List X) (y : Y) → Contains (map f xs) y → (x : X) × Contains xs x × (f x ≡ y)
+pub from_map : {X Y : Type 0} (f : X → Y) (xs : List X) (y : Y) → Contains (map f xs) y
+    → (x : X) × Contains xs x × (f x ≡ y)
 from_map f [] y c = no_element y c
 from_map f (x ∷ xs) y c = elim (which_element (f x) (map f xs) y c) [
   | inl e ↦ (x, first_element x xs, e)
@@ -39,28 +41,32 @@ into_map f (y ∷ xs) x c = elim (which_element y xs x c) [
   | inr d ↦ later_element (f y) (map f xs) (f x) (into_map f xs x d)
 ]
 
-pub from_flat_map : {X Y : Type 0} (f : X → List Y) (xs : List X) (y : Y) → Contains (flat_map f xs) y → (x : X) × Contains xs x × Contains (f x) y
+pub from_flat_map : {X Y : Type 0} (f : X → List Y) (xs : List X) (y : Y) → Contains (flat_map f xs) y
+    → (x : X) × Contains xs x × Contains (f x) y
 from_flat_map f [] y c = no_element y c
 from_flat_map f (x ∷ xs) y c = elim (Contains-append_cases (f x) (flat_map f xs) y c) [
   | inl d ↦ (x, first_element x xs, d)
   | inr d ↦ let r = from_flat_map f xs y d in (r.0, later_element x xs r.0 r.1, r.2)
 ]
 
-pub into_flat_map : {X Y : Type 0} (f : X → List Y) (xs : List X) (x : X) (y : Y) → Contains xs x → Contains (f x) y → Contains (flat_map f xs) y
+pub into_flat_map : {X Y : Type 0} (f : X → List Y) (xs : List X) (x : X) (y : Y) → Contains xs x → Contains (f x) y
+    → Contains (flat_map f xs) y
 into_flat_map f [] x y c d = no_element x c
 into_flat_map f (z ∷ xs) x y c d = elim (which_element z xs x c) [
   | inl e ↦ Contains-append_left (f z) (flat_map f xs) y (rw e d)
   | inr r ↦ Contains-append_right (f z) (flat_map f xs) y (into_flat_map f xs x y r d)
 ]
 
-pub any_element : {X : Type 0} (p : X → Bool) (xs : List X) (x : X) → Contains xs x → p x ≡ true → list_any p xs ≡ true
+pub any_element : {X : Type 0} (p : X → Bool) (xs : List X) (x : X) → Contains xs x → p x ≡ true
+    → list_any p xs ≡ true
 any_element p [] x c e = no_element x c
 any_element p (y ∷ xs) x c e = elim (which_element y xs x c) [
   | inl h ↦ or_left (p y) (list_any p xs) (rw h e)
   | inr d ↦ or_right (p y) (list_any p xs) (any_element p xs x d e)
 ]
 
-pub some_element : {X : Type 0} (p : X → Bool) (xs : List X) → list_any p xs ≡ true → (x : X) × Contains xs x × (p x ≡ true)
+pub some_element : {X : Type 0} (p : X → Bool) (xs : List X) → list_any p xs ≡ true
+    → (x : X) × Contains xs x × (p x ≡ true)
 some_element p [] e = cc
 some_element p (x ∷ xs) e = elim (or_cases (p x) (list_any p xs) e) [
   | inl h ↦ (x, first_element x xs, h)
@@ -68,17 +74,21 @@ some_element p (x ∷ xs) e = elim (or_cases (p x) (list_any p xs) e) [
 ]
 
 -- what holds of all elements by a test holds of one of them
-pub list_all_at : {X : Type 0} (p : X → Bool) (xs : List X) (i : ℕ) (d : X) → list_all p xs ≡ true → i < length xs → p (get_or xs i d) ≡ true
+pub list_all_at : {X : Type 0} (p : X → Bool) (xs : List X) (i : ℕ) (d : X) → list_all p xs ≡ true → i < length xs
+    → p (get_or xs i d) ≡ true
 list_all_at p [] i d e l = absurd (omega arith)
 list_all_at p (x ∷ xs) zero d e l = (and_parts (p x) _ e).0
 list_all_at p (x ∷ xs) (suc i) d e l = list_all_at p xs i d (and_parts (p x) _ e).1 (omega arith)
 
-pub common_mapped : {X Y V W : Type 0} (e : V → W → Bool) (f : X → V) (g : Y → W) (xs : List X) (ys : List Y) → common_prefix_len e (map f xs) (map g ys) ≡ common_prefix_len (λ x y. e (f x) (g y)) xs ys
+pub common_mapped : {X Y V W : Type 0} (e : V → W → Bool) (f : X → V) (g : Y → W) (xs : List X) (ys : List Y)
+    → common_prefix_len e (map f xs) (map g ys) ≡ common_prefix_len (λ x y. e (f x) (g y)) xs ys
 common_mapped e f g [] ys = refl
 common_mapped e f g (x ∷ xs) [] = refl
 common_mapped e f g (x ∷ xs) (y ∷ ys) = rw (common_mapped e f g xs ys) refl
 
-pub take_next : {X : Type 0} (xs : List X) (i : ℕ) (d : X) → i < length xs → take (i + 1) xs ≡ take i xs ++ (get_or xs i d ∷ [])
+pub take_next : {X : Type 0} (xs : List X) (i : ℕ) (d : X) → i < length xs
+    → take (i + 1) xs ≡ take i xs ++ (get_or xs i d ∷ [])
 take_next [] i d l = absurd (omega arith)
 take_next (x ∷ xs) zero d l = refl
-take_next (x ∷ xs) (suc i) d l = let e : suc i + 1 ≡ suc (i + 1) = omega arith in rw e (ap (λ ys. x ∷ ys) (take_next xs i d (omega arith)))
+take_next (x ∷ xs) (suc i) d l = let e : suc i + 1 ≡ suc (i + 1) = omega arith in
+    rw e (ap (λ ys. x ∷ ys) (take_next xs i d (omega arith)))

@@ -13,7 +13,9 @@ labels_stuck (t ∷ u ∷ ls) ts n a s =
     let e : suc (suc (length ls)) + n ≡ suc (suc (length ls + n)) = omega arith in
     rw e (label_stuck t u (ls ++ ts) (length ls + n) a.0 a.1 (labels_stuck ls ts n a.2 s))
 
-pub labels_item : (ls ts : List Lexeme) (n : ℕ) (item : Item) → AreLabels ls → IsNextItem ts n item → IsNextItem (ls ++ ts) (length ls + n) (record { labels = label_words ls ++ item.labels; row = item.row; body = item.body })
+pub labels_item : (ls ts : List Lexeme) (n : ℕ) (item : Item) → AreLabels ls → IsNextItem ts n item
+    → IsNextItem (ls ++ ts) (length ls + n)
+    (record { labels = label_words ls ++ item.labels; row = item.row; body = item.body })
 labels_item [] ts n item a s = let e : 0 + n ≡ n = omega arith in rw e s
 labels_item (t ∷ []) ts n item a s = absurd a
 labels_item (t ∷ u ∷ ls) ts n item a s =
@@ -21,7 +23,8 @@ labels_item (t ∷ u ∷ ls) ts n item a s =
     let more = labels_item ls ts n item a.2 s in
     rw e (record {
       within = omega (arith, more.within);
-      form = label_whole t u (take (length ls + n) (ls ++ ts)) (record { labels = label_words ls ++ item.labels; row = item.row; body = item.body }) a.0 a.1 more.form;
+      form = label_whole t u (take (length ls + n) (ls ++ ts))
+          (record { labels = label_words ls ++ item.labels; row = item.row; body = item.body }) a.0 a.1 more.form;
       longest = label_no_longer t u (ls ++ ts) (length ls + n) a.0 more.longest;
     })
 

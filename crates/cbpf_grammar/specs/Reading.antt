@@ -1,6 +1,7 @@
 -- A source text whose items are taken one by one, with a few tokens read ahead: what stands next, by the forms of the
 -- kernel's Documentation/networking/filter (BPF engine and instruction set).
-use Rattle.std.specs.Prelude.{◌≡◌, ◌≤◌, ◌<◌, ◌+◌, ◌-◌, ℕ, Bool, true, List, [], length, map, drop, slice_get, Option, Some, None, Ok}
+use Rattle.std.specs.Prelude.{◌≡◌, ◌≤◌, ◌<◌, ◌+◌, ◌-◌, ℕ, Bool, true, List, [], length, map, drop, slice_get, Option}
+use Rattle.std.specs.Prelude.{Some, None, Ok}
 use Rattle.cbpf_lex.specs.declared.token.Token.{Token}
 use Rattle.cbpf_lex.specs.Tokens.{LexesTo}
 use Rattle.cbpf_grammar.specs.declared.lexeme.Lexeme as declared_lexeme

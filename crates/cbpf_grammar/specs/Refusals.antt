@@ -41,7 +41,8 @@ pub record IsUnfinished (ts : List Lexeme) : Type 0 where
   pub begins : BeginsItems ts
   pub none : (items : List Item) → Items ts items → ⊥
 
--- the tokens begin items up to the place, and with the next token, or where there is none as a whole, they don't go on
+-- the tokens begin items up to the place, and with the next token,
+-- or where there is none as a whole, they don't go on
 pub record IsStuckAt (ts : List Lexeme) (i : ℕ) : Type 0 where
   pub within : i ≤ length ts
   pub before : BeginsItems (take i ts)

@@ -1,6 +1,7 @@
 -- The item at the front of a token list, and how far the tokens go where there is none, by the forms of the kernel's
 -- Documentation/networking/filter (BPF engine and instruction set).
-use Rattle.std.specs.Prelude.{◌≡◌, ◌≤◌, ◌<◌, ℕ, suc, Bool, true, false, ◌&&◌, List, [], ◌∷◌, ◌++◌, length, take, Contains, Result, Ok, Err}
+use Rattle.std.specs.Prelude.{◌≡◌, ◌≤◌, ◌<◌, ℕ, suc, Bool, true, false, ◌&&◌, List, [], ◌∷◌, ◌++◌, length, take}
+use Rattle.std.specs.Prelude.{Contains, Result, Ok, Err}
 use Rattle.cbpf_grammar.specs.declared.item.Row as declared_row
 use Rattle.cbpf_grammar.specs.Lexemes.{Lexeme}
 use Rattle.cbpf_grammar.specs.Classes.Class.{the_mark, name}

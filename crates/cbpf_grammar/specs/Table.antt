@@ -4,7 +4,8 @@
 -- and the spellings of 4 and 15.
 use Rattle.std.specs.Prelude.{ℕ, List, [], ◌∷◌, ◌++◌, map, codes, flat_map}
 use Rattle.cbpf_code.specs.declared.opcode.Op.{Op}
-use Rattle.cbpf_code.specs.declared.opcode.Op.TheVariants.{LdImm, LdAbs, LdInd, LdMem, LdLen, LdxImm, LdxMem, LdxLen, LdxMsh, St, Stx, Alu, Neg, Ja, Jump, RetK, RetA, Tax, Txa}
+use Rattle.cbpf_code.specs.declared.opcode.Op.TheVariants.{LdImm, LdAbs, LdInd, LdMem, LdLen, LdxImm, LdxMem, LdxLen}
+use Rattle.cbpf_code.specs.declared.opcode.Op.TheVariants.{LdxMsh, St, Stx, Alu, Neg, Ja, Jump, RetK, RetA, Tax, Txa}
 use Rattle.cbpf_code.specs.declared.opcode.Size.{Size}
 use Rattle.cbpf_code.specs.declared.opcode.AluOp.{AluOp}
 use Rattle.cbpf_code.specs.declared.opcode.Cond.{Cond}
@@ -141,7 +142,8 @@ mnemonics =
     ∷ mnemonic (codes "ldb") (load size.Byte)
     ∷ mnemonic (codes "ldi") (entry immediate LdImm Constant ∷ entry n LdImm Constant ∷ [])
     ∷ mnemonic (codes "ldx")
-    (entry memory LdxMem Constant ∷ entry immediate LdxImm Constant ∷ entry header LdxMsh Constant ∷ entry len LdxLen Constant ∷ [])
+    (entry memory LdxMem Constant ∷ entry immediate LdxImm Constant ∷ entry header LdxMsh Constant
+    ∷ entry len LdxLen Constant ∷ [])
     ∷ mnemonic (codes "ldxi") (entry immediate LdxImm Constant ∷ entry n LdxImm Constant ∷ [])
     ∷ mnemonic (codes "ldxb") (only header LdxMsh Constant)
     ∷ mnemonic (codes "st") (only memory St Constant)

@@ -2,7 +2,8 @@
 -- Documentation/networking/filter (BPF engine and instruction set).
 use Rattle.std.specs.Prelude.{List, [], ◌∷◌, map}
 use Rattle.cbpf_grammar.specs.declared.class.Class.{Class}
-use Rattle.cbpf_grammar.specs.declared.class.Class.TheVariants.{Word, Mark, Literal, Negated, Exactly, Extension, Name}
+use Rattle.cbpf_grammar.specs.declared.class.Class.TheVariants.{Word, Mark, Literal, Negated, Exactly, Extension}
+use Rattle.cbpf_grammar.specs.declared.class.Class.TheVariants.{Name}
 use Rattle.cbpf_grammar.specs.declared.mode.Mode.{Mode}
 use Rattle.cbpf_grammar.specs.declared.mode.Mode.TheVariants as modes
 use Rattle.cbpf_grammar.specs.declared.table.Entry.{Entry}
@@ -15,7 +16,8 @@ use Rattle.cbpf_grammar.specs.Lexemes as lexemes
 use Rattle.cbpf_grammar.specs.Classes as classes
 use Rattle.cbpf_grammar.specs.Classes.Class.{the_word, the_mark, literal, negated, exactly, extension, name}
 use Rattle.cbpf_grammar.specs.Table as tables
-use Rattle.cbpf_grammar.specs.Table.{◌·◌, x, a, n, ext, len, label, absolute, indexed, memory, immediate, header, comma, none, entry, mnemonic}
+use Rattle.cbpf_grammar.specs.Table.{◌·◌, x, a, n, ext, len, label, absolute, indexed, memory, immediate, header}
+use Rattle.cbpf_grammar.specs.Table.{comma, none, entry, mnemonic}
 
 abbrev pub class_of : Class → classes.Class
 class_of (Word w) = the_word w.now

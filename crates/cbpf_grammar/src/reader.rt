@@ -1,12 +1,14 @@
 //! What stands next in a text: labels and instructions, one after another.
 
-ghost use Rattle.std.specs.Prelude.{◌≡◌, ◌≤◌, ◌<◌, ◌+◌, ◌-◌, ℕ, List, [], true, false, length, map, drop, take, Some, None, IfOk, IfErr, IfSome, IfNone, OnOk};
+ghost use Rattle.std.specs.Prelude.{◌≡◌, ◌≤◌, ◌<◌, ◌+◌, ◌-◌, ℕ, List, [], true, false, length, map, drop, take, Some};
+ghost use Rattle.std.specs.Prelude.{None, IfOk, IfErr, IfSome, IfNone, OnOk};
 ghost use Rattle.cbpf_lex.specs.declared.token.Token.{Token};
 ghost use Rattle.cbpf_lex.specs.Tokens.{Lexes, LexesTo, IsLexFault};
 ghost use Rattle.cbpf_grammar.specs.Lexemes.{AreLexemes};
 ghost use Rattle.cbpf_grammar.specs.Lexemes as lexemes;
 ghost use Rattle.cbpf_grammar.specs.Refusals.{IsStuckAt};
-ghost use Rattle.cbpf_grammar.specs.Reading.{AreAhead, IsReading, IsStepOf, step_len, left, StartsWithWord, IsFirstLarge, IsRefusedFor, ReadsOn};
+ghost use Rattle.cbpf_grammar.specs.Reading.{AreAhead, IsReading, IsStepOf, step_len, left, StartsWithWord};
+ghost use Rattle.cbpf_grammar.specs.Reading.{IsFirstLarge, IsRefusedFor, ReadsOn};
 ghost use Rattle.cbpf_grammar.specs.Views.{lexeme_of};
 
 use crate::item::{Row, instruction, starts_with_label};

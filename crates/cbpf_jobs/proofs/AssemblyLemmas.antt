@@ -20,7 +20,8 @@ module _ (source : List ℕ) (form : Form) (old : Option (List ℕ)) where
   unfolding Assembled
   asm-memory = appended-nil old
 
-  pub asm-refused : (fault : AsmFault) → IsRefused source fault → fault ≢ asm.Memory → Assembled source form old old (Err (Source fault))
+  pub asm-refused : (fault : AsmFault) → IsRefused source fault → fault ≢ asm.Memory
+      → Assembled source form old old (Err (Source fault))
   unfolding Assembled
   asm-refused fault r n = (r, n, appended-nil old)
 
@@ -32,19 +33,24 @@ module _ (source : List ℕ) (form : Form) (old : Option (List ℕ)) where
   asm-unread (Source f) h = absurd h
 
   module _ (list : List Insn) (a : Assembles source list) where
-    pub asm-unwritten : (new : Option (List ℕ)) → AppendedPart old new (form_text form list) → Assembled source form old new (Err Write)
+    pub asm-unwritten : (new : Option (List ℕ)) → AppendedPart old new (form_text form list)
+        → Assembled source form old new (Err Write)
     unfolding Assembled
     asm-unwritten new w = (list, a, w)
 
-    pub asm-unflushed : (mid new : Option (List ℕ)) → Appended old mid (form_text form list) → Keeps mid new → Assembled source form old new (Err Write)
+    pub asm-unflushed : (mid new : Option (List ℕ)) → Appended old mid (form_text form list) → Keeps mid new
+        → Assembled source form old new (Err Write)
     unfolding Assembled
-    asm-unflushed mid new w k = (list, a, part-whole old new (form_text form list) (appended-kept old mid new (form_text form list) w k))
+    asm-unflushed mid new w k =
+        (list, a, part-whole old new (form_text form list) (appended-kept old mid new (form_text form list) w k))
 
-    pub asm-done : (mid new : Option (List ℕ)) (x : Unit {0}) → Appended old mid (form_text form list) → Keeps mid new → Assembled source form old new (Ok x)
+    pub asm-done : (mid new : Option (List ℕ)) (x : Unit {0}) → Appended old mid (form_text form list) → Keeps mid new
+        → Assembled source form old new (Ok x)
     unfolding Assembled
     asm-done mid new x w k = (list, a, appended-kept old mid new (form_text form list) w k)
 
-pub asm-untouched : (source : List ℕ) (form : Form) (old new : Option (List ℕ)) (r : Result (Unit {0}) ToolFault) → Assembled source form old new r → IfErr r (λ e. IsEarly e → Appended old new [])
+pub asm-untouched : (source : List ℕ) (form : Form) (old new : Option (List ℕ)) (r : Result (Unit {0}) ToolFault)
+    → Assembled source form old new r → IfErr r (λ e. IsEarly e → Appended old new [])
 unfolding Assembled
 asm-untouched source form old new (Ok x) h = tt
 asm-untouched source form old new (Err (Source f)) h = λ i. h.2
@@ -52,4 +58,5 @@ asm-untouched source form old new (Err Read) h = λ i. h
 asm-untouched source form old new (Err Memory) h = λ i. h
 asm-untouched source form old new (Err Write) h = λ i. absurd i
 
-pub ruleset asm_answers = (asm-memory, asm-refused, asm-unread, asm-unwritten, asm-unflushed, asm-done, asm-untouched, appended-nil)
+pub ruleset asm_answers =
+    (asm-memory, asm-refused, asm-unread, asm-unwritten, asm-unflushed, asm-done, asm-untouched, appended-nil)

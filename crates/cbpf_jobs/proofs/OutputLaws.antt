@@ -1,10 +1,13 @@
 -- Laws of the output of a script.
-use Rattle.std.proofs.Common.{◌≡◌, ℕ, length, List, [], ◌∷◌, ◌++◌, Option, Some, None, Result, Ok, Err, ◌⊎◌, inl, inr, refl, sym, ◌∙◌, ap, subst, append_assoc}
+use Rattle.std.proofs.Common.{◌≡◌, ℕ, length, List, [], ◌∷◌, ◌++◌, Option, Some, None, Result, Ok, Err, ◌⊎◌, inl, inr}
+use Rattle.std.proofs.Common.{refl, sym, ◌∙◌, ap, subst, append_assoc}
 use Rattle.std.specs.FinMap as map
 use Rattle.cbpf_code.proofs.WordAnswerLemmas.{spells-once, spells-not_refused, refused-once}
 use Rattle.cbpf_code.proofs.FirstFaultLemmas.{first_fault-unique}
 use Rattle.cbpf_code.specs.declared.insn.Insn.{Insn}
-use Rattle.cbpf_command.specs.Commands.{Spelled, load_words, load_capture, run, disassemble, dump, breakpoint, breakpoint_when_a, breakpoint_when_x, breakpoints, reset_breakpoints, delete, step, select, mark, resume, stops, value, quit, command_of}
+use Rattle.cbpf_command.specs.Commands.{Spelled, load_words, load_capture, run, disassemble, dump, breakpoint}
+use Rattle.cbpf_command.specs.Commands.{breakpoint_when_a, breakpoint_when_x, breakpoints, reset_breakpoints, delete}
+use Rattle.cbpf_command.specs.Commands.{step, select, mark, resume, stops, value, quit, command_of}
 use Rattle.cbpf_command.specs.declared.command.CommandFault.{CommandFault}
 use Rattle.cbpf_command.specs.declared.command.CommandFault.TheVariants.{UnknownCommand, WrongArguments}
 use Rattle.cbpf_dbg.specs.View.{View}
@@ -12,32 +15,41 @@ use Rattle.pcap_classic.specs.Savefile.{Savefile}
 use Rattle.pcap_classic.proofs.SavefileLemmas as captures
 use Rattle.cbpf_jobs.specs.FileMap.{FileMap}
 use Rattle.cbpf_jobs.specs.Output.{at_end, at_quit, at_line}
-use Rattle.cbpf_jobs.specs.Replies.{Writes, LoadsWords, unreadable, unsound, accepted, ReadsCapture, no_capture, a_capture, LoadsCapture, CommandReplies, LineReplies}
+use Rattle.cbpf_jobs.specs.Replies.{Writes, LoadsWords, unreadable, unsound, accepted, ReadsCapture, no_capture}
+use Rattle.cbpf_jobs.specs.Replies.{a_capture, LoadsCapture, CommandReplies, LineReplies}
 use Rattle.cbpf_reply.specs.Errors.{memory_text, device_text, word_fault_text, check_fault_text, capture_fault_text}
 use Rattle.cbpf_reply.specs.Loads.{program_text, capture_text}
 use Rattle.cbpf_dbg.specs.Commands.{with_program_loaded, with_capture_loaded}
-use Rattle.cbpf_jobs.specs.Laws.{OwnReply, OwnLineReply, OwnOutput, own_end, own_quit, own_line, Stands, OneOutput, NoOther}
+use Rattle.cbpf_jobs.specs.Laws.{OwnReply, OwnLineReply, OwnOutput, own_end, own_quit, own_line, Stands, OneOutput}
+use Rattle.cbpf_jobs.specs.Laws.{NoOther}
 
 -- two replies with the text that each has
 abbrev Same : View → View → List ℕ → List ℕ → Type 0
 Same n n' t t' = (n' ≡ n) × (t' ≡ t)
 
-writes-once : (reply : List ℕ × View) (t t' : List ℕ) (n n' : View) → Writes reply n (λ s. s ≡ t) → Writes reply n' (λ s. s ≡ t') → Same n n' t t'
+writes-once : (reply : List ℕ × View) (t t' : List ℕ) (n n' : View) → Writes reply n (λ s. s ≡ t)
+    → Writes reply n' (λ s. s ≡ t') → Same n n' t t'
 unfolding Writes
 writes-once reply t t' n n' a b = (b.0 ∙ sym a.0, sym b.1 ∙ a.1)
 
 -- the same of texts that are equal
-writes-equal : (text text' t t' : List ℕ) (m m' n n' : View) → text' ≡ text → m' ≡ m → Writes (text, m) n (λ s. s ≡ t) → Writes (text', m') n' (λ s. s ≡ t') → Same n n' t t'
+writes-equal : (text text' t t' : List ℕ) (m m' n n' : View) → text' ≡ text → m' ≡ m → Writes (text, m) n (λ s. s ≡ t)
+    → Writes (text', m') n' (λ s. s ≡ t') → Same n n' t t'
 unfolding Writes
 writes-equal text text' t t' m m' n n' e v a b = (b.0 ∙ v ∙ sym a.0, sym b.1 ∙ e ∙ a.1)
 
-words-once : (m n n' : View) (text t t' : List ℕ) → LoadsWords m n text (λ s. s ≡ t) → LoadsWords m n' text (λ s. s ≡ t') → Same n n' t t'
+words-once : (m n n' : View) (text t t' : List ℕ) → LoadsWords m n text (λ s. s ≡ t)
+    → LoadsWords m n' text (λ s. s ≡ t') → Same n n' t t'
 words-once m n n' text t t' (unreadable f r u h) (unreadable f' r' u' h') =
     writes-equal _ _ t t' m m n n' (ap word_fault_text (refused-once text f f' u u' r r')) refl h h'
-words-once m n n' text t t' (unreadable f r u h) (unsound list e s o h') = absurd (spells-not_refused text list f s u r)
-words-once m n n' text t t' (unreadable f r u h) (accepted list s o h') = absurd (spells-not_refused text list f s u r)
-words-once m n n' text t t' (unsound list e s o h) (unreadable f r u h') = absurd (spells-not_refused text list f s u r)
-words-once m n n' text t t' (accepted list s o h) (unreadable f r u h') = absurd (spells-not_refused text list f s u r)
+words-once m n n' text t t' (unreadable f r u h) (unsound list e s o h') =
+    absurd (spells-not_refused text list f s u r)
+words-once m n n' text t t' (unreadable f r u h) (accepted list s o h') =
+    absurd (spells-not_refused text list f s u r)
+words-once m n n' text t t' (unsound list e s o h) (unreadable f r u h') =
+    absurd (spells-not_refused text list f s u r)
+words-once m n n' text t t' (accepted list s o h) (unreadable f r u h') =
+    absurd (spells-not_refused text list f s u r)
 words-once m n n' text t t' (unsound list e s o h) (unsound list' e' s' o' h') =
     let same = spells-once text list list' s s' in
     writes-equal _ _ t t' m m n n' (ap check_fault_text (first_fault-unique list e e' o (rw same at o'))) refl h h'
@@ -49,9 +61,11 @@ words-once m n n' text t t' (accepted list s o h) (unsound list' e s' o' h') =
     absurd (o.none e (rw same at o'.present))
 words-once m n n' text t t' (accepted list s o h) (accepted list' s' o' h') =
     let same = spells-once text list list' s s' in
-    writes-equal _ _ t t' _ _ n n' (ap (λ (l : List Insn). program_text (length l)) same) (ap (λ (l : List Insn). with_program_loaded m l) same) h h'
+    writes-equal _ _ t t' _ _ n n' (ap (λ (l : List Insn). program_text (length l)) same)
+    (ap (λ (l : List Insn). with_program_loaded m l) same) h h'
 
-reads-once : (m n n' : View) (bytes t t' : List ℕ) → ReadsCapture m n bytes (λ s. s ≡ t) → ReadsCapture m n' bytes (λ s. s ≡ t') → Same n n' t t'
+reads-once : (m n n' : View) (bytes t t' : List ℕ) → ReadsCapture m n bytes (λ s. s ≡ t)
+    → ReadsCapture m n' bytes (λ s. s ≡ t') → Same n n' t t'
 reads-once m n n' bytes t t' (no_capture f r u h) (no_capture f' r' u' h') =
     writes-equal _ _ t t' m m n n' (ap capture_fault_text (captures.one_refusal bytes f f' r r')) refl h h'
 reads-once m n n' bytes t t' (no_capture f r u h) (a_capture c s h') = absurd (u (captures.only_memory bytes c f s r))
@@ -60,11 +74,13 @@ reads-once m n n' bytes t t' (a_capture c s h) (a_capture c' s' h') =
     let same = captures.one_capture bytes c c' s s' in
     writes-equal _ _ t t' _ _ n n' (ap capture_text same) (ap (λ (x : Savefile). with_capture_loaded m x) same) h h'
 
-capture-once : (m n n' : View) (bytes : Option (List ℕ)) (t t' : List ℕ) → LoadsCapture m n bytes (λ s. s ≡ t) → LoadsCapture m n' bytes (λ s. s ≡ t') → Same n n' t t'
+capture-once : (m n n' : View) (bytes : Option (List ℕ)) (t t' : List ℕ) → LoadsCapture m n bytes (λ s. s ≡ t)
+    → LoadsCapture m n' bytes (λ s. s ≡ t') → Same n n' t t'
 capture-once m n n' None t t' a b = writes-once _ t t' n n' a b
 capture-once m n n' (Some bytes) t t' a b = reads-once m n n' bytes t t' a b
 
-own-once : (files : FileMap) (m n n' : View) (c : Spelled) (t t' : List ℕ) → OwnReply files m n c t → OwnReply files m n' c t' → Same n n' t t'
+own-once : (files : FileMap) (m n n' : View) (c : Spelled) (t t' : List ℕ) → OwnReply files m n c t
+    → OwnReply files m n' c t' → Same n n' t t'
 own-once files m n n' (load_words text) t t' a b = words-once m n n' text t t' a b
 own-once files m n n' (load_capture name) t t' a b = capture-once m n n' (map.get files name) t t' a b
 own-once files m n n' (breakpoint k) t t' a b = writes-once _ t t' n n' a b
@@ -84,29 +100,36 @@ own-once files m n n' stops t t' a b = writes-once _ t t' n n' a b
 own-once files m n n' (value e k) t t' a b = writes-once _ t t' n n' a b
 own-once files m n n' quit t t' a b = absurd a
 
-line-once : (files : FileMap) (m n n' : View) (spelled : Result (Option Spelled) CommandFault) (t t' : List ℕ) → OwnLineReply files m n spelled t → OwnLineReply files m n' spelled t' → Same n n' t t'
+line-once : (files : FileMap) (m n n' : View) (spelled : Result (Option Spelled) CommandFault) (t t' : List ℕ)
+    → OwnLineReply files m n spelled t → OwnLineReply files m n' spelled t' → Same n n' t t'
 line-once files m n n' (Ok None) t t' a b = writes-once _ t t' n n' a b
 line-once files m n n' (Ok (Some c)) t t' a b = own-once files m n n' c t t' a b
 line-once files m n n' (Err UnknownCommand) t t' a b = writes-once _ t t' n n' a b
 line-once files m n n' (Err WrongArguments) t t' a b = writes-once _ t t' n n' a b
 
 -- `quit` has no reply
-quit-none : (files : FileMap) (m n : View) (spelled : Result (Option Spelled) CommandFault) (t : List ℕ) → spelled ≡ Ok (Some quit) → OwnLineReply files m n spelled t → ⊥
+quit-none : (files : FileMap) (m n : View) (spelled : Result (Option Spelled) CommandFault) (t : List ℕ)
+    → spelled ≡ Ok (Some quit) → OwnLineReply files m n spelled t → ⊥
 quit-none files m n spelled t e h = subst (λ s. OwnLineReply files m n s t) e h
 
 pub one_output : OneOutput
 one_output files m [] t u own_end own_end = refl
 one_output files m (l ∷ ls) t u (own_quit _ _ q) (own_quit _ _ r) = refl
-one_output files m (l ∷ ls) t u (own_quit _ _ q) (own_line {n = n} _ text r o) = absurd (quit-none files m n (command_of l) text q r)
-one_output files m (l ∷ ls) t u (own_line {n = n} _ text r o) (own_quit _ _ q) = absurd (quit-none files m n (command_of l) text q r)
-one_output files m (l ∷ ls) t u (own_line {n = n} {rest = rest} _ text r o) (own_line {n = n'} {rest = rest'} _ text' r' o') =
+one_output files m (l ∷ ls) t u (own_quit _ _ q) (own_line {n = n} _ text r o) =
+    absurd (quit-none files m n (command_of l) text q r)
+one_output files m (l ∷ ls) t u (own_line {n = n} _ text r o) (own_quit _ _ q) =
+    absurd (quit-none files m n (command_of l) text q r)
+one_output files m (l ∷ ls) t u (own_line {n = n} {rest = rest} _ text r o)
+    (own_line {n = n'} {rest = rest'} _ text' r' o') =
     let same = line-once files m n n' (command_of l) text text' r r' in
-    let tail : rest' ≡ rest = one_output files n ls rest rest' o (subst (λ v. OwnOutput files v ls rest') same.0 o') in
+    let tail : rest' ≡ rest =
+    one_output files n ls rest rest' o (subst (λ v. OwnOutput files v ls rest') same.0 o') in
     ap (λ (x : List ℕ). x ++ rest') same.1 ∙ ap (λ (x : List ℕ). text ++ x) tail
 
 -- ---- an output in which neither of the two other replies stands
 
-own-or : (files : FileMap) (m n : View) (f g : ℕ) (c : Spelled) (t : List ℕ) → CommandReplies files m n f g c (λ s. s ≡ t) → OwnReply files m n c t ⊎ ((memory_text ≡ t) ⊎ (device_text ≡ t))
+own-or : (files : FileMap) (m n : View) (f g : ℕ) (c : Spelled) (t : List ℕ)
+    → CommandReplies files m n f g c (λ s. s ≡ t) → OwnReply files m n c t ⊎ ((memory_text ≡ t) ⊎ (device_text ≡ t))
 unfolding Writes
 own-or files m n f g (load_words text) t (inl h) = inl h
 own-or files m n f g (load_words text) t (inr h) = inr (inl h.1)
@@ -133,7 +156,9 @@ own-or files m n f g stops t h = inl h
 own-or files m n f g (value e k) t h = inl h
 own-or files m n f g quit t h = absurd h
 
-line-or : (files : FileMap) (m n : View) (f g : ℕ) (spelled : Result (Option Spelled) CommandFault) (t : List ℕ) → LineReplies files m n f g spelled (λ s. s ≡ t) → OwnLineReply files m n spelled t ⊎ ((memory_text ≡ t) ⊎ (device_text ≡ t))
+line-or : (files : FileMap) (m n : View) (f g : ℕ) (spelled : Result (Option Spelled) CommandFault) (t : List ℕ)
+    → LineReplies files m n f g spelled (λ s. s ≡ t)
+    → OwnLineReply files m n spelled t ⊎ ((memory_text ≡ t) ⊎ (device_text ≡ t))
 line-or files m n f g (Ok None) t h = inl h
 line-or files m n f g (Ok (Some c)) t h = own-or files m n f g c t h
 line-or files m n f g (Err UnknownCommand) t h = inl h
@@ -143,14 +168,16 @@ first-stands : (reply t rest : List ℕ) → reply ≡ t → Stands reply (t ++ 
 first-stands reply t rest e = ([], rest, ap (λ (x : List ℕ). x ++ rest) (sym e))
 
 later-stands : (reply t rest : List ℕ) → Stands reply rest → Stands reply (t ++ rest)
-later-stands reply t rest h = (t ++ h.0, h.1, ap (λ (x : List ℕ). t ++ x) h.2 ∙ sym (append_assoc t h.0 (reply ++ h.1)))
+later-stands reply t rest h =
+    (t ++ h.0, h.1, ap (λ (x : List ℕ). t ++ x) h.2 ∙ sym (append_assoc t h.0 (reply ++ h.1)))
 
 pub no_other : NoOther
 no_other files m f g ls t at_end memory device = own_end
 no_other files m f g ls t (at_quit l more q) memory device = own_quit l more q
 no_other files m f g ls t (at_line {n = n} {g = mid} {rest = rest} {ls = more} l text r le o) memory device =
     elim (line-or files m n f mid (command_of l) text r) [
-      | inl own ↦ own_line l text own (no_other files n mid g more rest o (λ h. memory (later-stands memory_text text rest h)) (λ h. device (later-stands device_text text rest h)))
+      | inl own ↦ own_line l text own (no_other files n mid g more rest o
+          (λ h. memory (later-stands memory_text text rest h)) (λ h. device (later-stands device_text text rest h)))
       | inr other ↦ elim other [
         | inl e ↦ absurd (memory (first-stands memory_text text rest e))
         | inr e ↦ absurd (device (first-stands device_text text rest e))

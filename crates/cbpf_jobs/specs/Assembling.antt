@@ -1,4 +1,5 @@
--- What the assembler leaves in its writer: the instructions of a source in one of two forms (kernel documentation, networking/filter, on `bpf_asm`).
+-- What the assembler leaves in its writer: the instructions of a source in one of two forms
+-- (kernel documentation, networking/filter, on `bpf_asm`).
 use Rattle.std.specs.Prelude.{◌≢◌, ℕ, List, [], Option, Result, Ok, Err}
 use Rattle.cbpf_code.specs.Writing.{Appended, AppendedPart}
 use Rattle.cbpf_code.specs.WordForm.{words}
@@ -41,7 +42,8 @@ abbrev pub Failed : List ℕ → Form → Option (List ℕ) → Option (List ℕ
 Failed source form old new (Source f) = IsRefused source f × (f ≢ asm.Memory) × Appended old new []
 Failed source form old new Read = Appended old new []
 Failed source form old new Memory = Appended old new []
-Failed source form old new Write = (list : List Insn) × Assembles source list × AppendedPart old new (form_text form list)
+Failed source form old new Write =
+    (list : List Insn) × Assembles source list × AppendedPart old new (form_text form list)
 
 -- an answer of the assembler over a source
 unfoldable pub Assembled : List ℕ → Form → Option (List ℕ) → Option (List ℕ) → Result (Unit {0}) ToolFault → Type 0

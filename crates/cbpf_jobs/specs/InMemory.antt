@@ -17,7 +17,8 @@ files_code = map.code (coded_list coded_ℕ) (coded_list coded_ℕ)
 -- files in memory are stored as the tuple of their fields
 abbrev pub in_memory_code : Coded InMemory
 in_memory_code =
-    code_by ((FileMap × ℕ) × ℕ) (coded× (coded× files_code coded_ℕ) coded_ℕ) (λ m. ((m.files, m.failures), m.failing)) (λ p. record { files = p.0.0; failures = p.0.1; failing = p.1 }) (λ _. refl)
+    code_by ((FileMap × ℕ) × ℕ) (coded× (coded× files_code coded_ℕ) coded_ℕ) (λ m. ((m.files, m.failures), m.failing))
+    (λ p. record { files = p.0.0; failures = p.0.1; failing = p.1 }) (λ _. refl)
 
 -- files in memory say what they hold
 abbrev pub source_of : InMemory → Source

@@ -1,7 +1,9 @@
 -- The one output of a script, where no growth is refused and no file fails.
 use Rattle.std.specs.Prelude.{◌≡◌, ℕ, List, [], ◌∷◌, ◌++◌, Option, Some, None, Result, Ok, Err}
 use Rattle.std.specs.FinMap as map
-use Rattle.cbpf_command.specs.Commands.{Spelled, load_words, load_capture, run, disassemble, dump, breakpoint, breakpoint_when_a, breakpoint_when_x, breakpoints, reset_breakpoints, delete, step, select, mark, resume, stops, value, quit, command_of}
+use Rattle.cbpf_command.specs.Commands.{Spelled, load_words, load_capture, run, disassemble, dump, breakpoint}
+use Rattle.cbpf_command.specs.Commands.{breakpoint_when_a, breakpoint_when_x, breakpoints, reset_breakpoints, delete}
+use Rattle.cbpf_command.specs.Commands.{step, select, mark, resume, stops, value, quit, command_of}
 use Rattle.cbpf_command.specs.declared.command.CommandFault.{CommandFault}
 use Rattle.cbpf_command.specs.declared.command.CommandFault.TheVariants.{UnknownCommand, WrongArguments}
 use Rattle.cbpf_dbg.specs.View.{View}
@@ -43,8 +45,11 @@ OwnLineReply files m n (Err WrongArguments) t = LineReplies files m n 0 0 (Err W
 -- the output of some lines, each with its own reply
 pub data OwnOutput (files : FileMap) : View → List (List ℕ) → List ℕ → Type 0 where
   own_end : {m : View} → OwnOutput files m [] []
-  own_quit : {m : View} (l : List ℕ) (ls : List (List ℕ)) → command_of l ≡ Ok (Some quit) → OwnOutput files m (l ∷ ls) []
-  own_line : {m n : View} {rest : List ℕ} {ls : List (List ℕ)} (l text : List ℕ) → OwnLineReply files m n (command_of l) text → OwnOutput files n ls rest → OwnOutput files m (l ∷ ls) (text ++ rest)
+  own_quit : {m : View} (l : List ℕ) (ls : List (List ℕ)) → command_of l ≡ Ok (Some quit)
+      → OwnOutput files m (l ∷ ls) []
+  own_line : {m n : View} {rest : List ℕ} {ls : List (List ℕ)} (l text : List ℕ)
+      → OwnLineReply files m n (command_of l) text → OwnOutput files n ls rest
+      → OwnOutput files m (l ∷ ls) (text ++ rest)
 
 -- a reply stands in a text
 abbrev pub Stands : List ℕ → List ℕ → Type 0
@@ -52,8 +57,10 @@ Stands reply text = (before after : List ℕ) × (text ≡ before ++ (reply ++ a
 
 -- some lines have one output at most
 abbrev pub OneOutput : Type 0
-OneOutput = (files : FileMap) (m : View) (ls : List (List ℕ)) (t u : List ℕ) → OwnOutput files m ls t → OwnOutput files m ls u → u ≡ t
+OneOutput = (files : FileMap) (m : View) (ls : List (List ℕ)) (t u : List ℕ) → OwnOutput files m ls t
+    → OwnOutput files m ls u → u ≡ t
 
 -- an output in which neither of the two other replies stands is that one
 abbrev pub NoOther : Type 0
-NoOther = (files : FileMap) (m : View) (f g : ℕ) (ls : List (List ℕ)) (t : List ℕ) → Output files m f ls t g → ¬ Stands memory_text t → ¬ Stands device_text t → OwnOutput files m ls t
+NoOther = (files : FileMap) (m : View) (f g : ℕ) (ls : List (List ℕ)) (t : List ℕ) → Output files m f ls t g
+    → ¬ Stands memory_text t → ¬ Stands device_text t → OwnOutput files m ls t

@@ -1,5 +1,6 @@
 -- What a load from a source of files may answer, and what a failure of the file system is reported as.
-use Rattle.std.specs.Prelude.{◌≡◌, ◌≤◌, ◌<◌, ◌+◌, ◌-◌, ◌^◌, ◌⊎◌, min, ℕ, List, Some, None, Result, Ok, Err, MatchResult, IsTrue}
+use Rattle.std.specs.Prelude.{◌≡◌, ◌≤◌, ◌<◌, ◌+◌, ◌-◌, ◌^◌, ◌⊎◌, min, ℕ, List, Some, None, Result, Ok, Err}
+use Rattle.std.specs.Prelude.{MatchResult, IsTrue}
 use Rattle.std.specs.FinMap as map
 use Rattle.std.specs.declared.io.ErrorKind.{ErrorKind}
 use Rattle.std.specs.declared.io.ErrorKind.TheVariants.{NotFound, OutOfMemory}
@@ -7,19 +8,22 @@ use Rattle.cbpf_jobs.specs.FileMap.{Source}
 use Rattle.cbpf_jobs.specs.declared.files.LoadFault.{LoadFault}
 use Rattle.cbpf_jobs.specs.declared.files.LoadFault.TheVariants.{Absent, Device, Memory}
 
--- why a load failed: where the source says what it holds, an absent name is not in its map; a device fault raises the count, which stops at its greatest value
+-- why a load failed: where the source says what it holds, an absent name is not in its map;
+-- a device fault raises the count, which stops at its greatest value
 abbrev pub Faults : Source → Source → List ℕ → LoadFault → Type 0
 Faults old new name Absent = IsTrue old.is_known → map.get old.files name ≡ None
 Faults old new name Device = (old.failures < new.failures) ⊎ (old.failures ≡ 2 ^ 64 - 1)
 Faults old new name Memory = Unit {0}
 
 -- a load of the name with bytes `name`. A count at its greatest value stays there
-pub record Loads {V : Type 0} (items : V → List ℕ) (old new : Source) (name : List ℕ) (r : Result V LoadFault) : Type 0 where
+pub record Loads {V : Type 0} (items : V → List ℕ) (old new : Source) (name : List ℕ) (r : Result V LoadFault) :
+    Type 0 where
   pub same_files : new.files ≡ old.files
   pub same_known : new.is_known ≡ old.is_known
   pub rises : old.failures ≤ new.failures
   pub stops : old.failures ≡ 2 ^ 64 - 1 → new.failures ≡ 2 ^ 64 - 1
-  pub gives : MatchResult r (λ v. IsTrue old.is_known → map.get old.files name ≡ Some (items v)) (λ e. Faults old new name e)
+  pub gives :
+      MatchResult r (λ v. IsTrue old.is_known → map.get old.files name ≡ Some (items v)) (λ e. Faults old new name e)
 
 -- the count of failures after a load, where each device fault is counted once
 abbrev pub counted : {V : Type 0} → Result V LoadFault → ℕ → ℕ

@@ -9,8 +9,11 @@ use Rattle.cbpf_jobs.specs.Replies.{LineReplies}
 -- goes from one number to another
 pub data Output (files : FileMap) : View → ℕ → List (List ℕ) → List ℕ → ℕ → Type 0 where
   at_end : {m : View} {f : ℕ} → Output files m f [] [] f
-  at_quit : {m : View} {f : ℕ} (l : List ℕ) (ls : List (List ℕ)) → command_of l ≡ Ok (Some quit) → Output files m f (l ∷ ls) [] f
-  at_line : {m n : View} {f g h : ℕ} {rest : List ℕ} {ls : List (List ℕ)} (l text : List ℕ) → LineReplies files m n f g (command_of l) (λ t. t ≡ text) → f ≤ g → Output files n g ls rest h → Output files m f (l ∷ ls) (text ++ rest) h
+  at_quit : {m : View} {f : ℕ} (l : List ℕ) (ls : List (List ℕ)) → command_of l ≡ Ok (Some quit)
+      → Output files m f (l ∷ ls) [] f
+  at_line : {m n : View} {f g h : ℕ} {rest : List ℕ} {ls : List (List ℕ)} (l text : List ℕ)
+      → LineReplies files m n f g (command_of l) (λ t. t ≡ text) → f ≤ g → Output files n g ls rest h
+      → Output files m f (l ∷ ls) (text ++ rest) h
 
 -- one of the lines is `quit`
 abbrev pub HasQuit : List (List ℕ) → Type 0

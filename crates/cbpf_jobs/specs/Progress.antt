@@ -20,17 +20,21 @@ pub record Kept (f g : Source) : Type 0 where
 
 -- a command other than `quit` was run, where it is known what the files hold
 abbrev pub CommandRan : Source → Source → View → View → Spelled → (List ℕ → Type 0) → Type 0
-CommandRan f g m n c Written = Kept f g × (IsTrue f.is_known → CommandReplies f.files m n f.failures g.failures c Written)
+CommandRan f g m n c Written =
+    Kept f g × (IsTrue f.is_known → CommandReplies f.files m n f.failures g.failures c Written)
 
 -- what a line wrote that was run, by what comes after it
-abbrev pub LineResult : FileMap → View → View → ℕ → ℕ → Result (Option Spelled) CommandFault → Option (List ℕ) → Option (List ℕ) → Result AfterLine WriteFault → Type 0
+abbrev pub LineResult : FileMap → View → View → ℕ → ℕ → Result (Option Spelled) CommandFault → Option (List ℕ)
+    → Option (List ℕ) → Result AfterLine WriteFault → Type 0
 LineResult files m n f g spelled old new (Ok NextLine) = LineReplies files m n f g spelled (λ t. Appended old new t)
 LineResult files m n f g spelled old new (Ok Quit) = (spelled ≡ Ok (Some quit)) × (f ≡ g) × Appended old new []
 LineResult files m n f g spelled old new (Err e) = LineReplies files m n f g spelled (λ t. AppendedPart old new t)
 
 -- a line was run, where it is known what the files hold
-abbrev pub LineRan : Source → Source → View → View → Result (Option Spelled) CommandFault → Option (List ℕ) → Option (List ℕ) → Result AfterLine WriteFault → Type 0
-LineRan f g m n spelled old new r = Kept f g × (IsTrue f.is_known → LineResult f.files m n f.failures g.failures spelled old new r)
+abbrev pub LineRan : Source → Source → View → View → Result (Option Spelled) CommandFault → Option (List ℕ)
+    → Option (List ℕ) → Result AfterLine WriteFault → Type 0
+LineRan f g m n spelled old new r =
+    Kept f g × (IsTrue f.is_known → LineResult f.files m n f.failures g.failures spelled old new r)
 
 -- lines with their newlines
 abbrev pub unlines : List (List ℕ) → List ℕ
@@ -44,9 +48,11 @@ EachPlain (l ∷ ls) = (has_newline l ≡ false) × EachPlain ls
 -- the replies to lines of which none is `quit`
 pub data LinesRan (files : FileMap) : View → ℕ → List (List ℕ) → List ℕ → View → ℕ → Type 0 where
   still : {m : View} {f : ℕ} → LinesRan files m f [] [] m f
-  onward : {m n p : View} {f g h : ℕ} {ls : List (List ℕ)} {t : List ℕ} (l u : List ℕ) → LinesRan files m f ls t n g → LineReplies files n p g h (command_of l) (λ s. s ≡ u) → g ≤ h → LinesRan files m f (ls ++ l ∷ []) (t ++ u) p h
+  onward : {m n p : View} {f g h : ℕ} {ls : List (List ℕ)} {t : List ℕ} (l u : List ℕ) → LinesRan files m f ls t n g
+      → LineReplies files n p g h (command_of l) (λ s. s ≡ u) → g ≤ h → LinesRan files m f (ls ++ l ∷ []) (t ++ u) p h
 
-pub record Progress (script pending : List ℕ) (left old new : Option (List ℕ)) (f g : Source) (m : View) : Type 0 where
+pub record Progress (script pending : List ℕ) (left old new : Option (List ℕ)) (f g : Source) (m : View) :
+    Type 0 where
   pub done : List (List ℕ)
   pub text : List ℕ
   pub rest : List ℕ

@@ -1,5 +1,6 @@
 -- What taking one line from a reader leaves, where its bytes are known. No public clause names it.
-use Rattle.std.specs.Prelude.{◌≡◌, ℕ, false, List, [], ◌∷◌, ◌++◌, slice_range, Bool, true, Option, Some, Result, Ok, Err}
+use Rattle.std.specs.Prelude.{◌≡◌, ℕ, false, List, [], ◌∷◌, ◌++◌, slice_range, Bool, true, Option, Some, Result, Ok}
+use Rattle.std.specs.Prelude.{Err}
 use Rattle.std.specs.Option.{option_map}
 use Rattle.cbpf_jobs.specs.Lines.{has_newline}
 use Rattle.cbpf_jobs.specs.declared.fault.ToolFault.{ToolFault}
@@ -36,16 +37,21 @@ Fills bytes pending left (Err e) = (unread pending left ≡ Some bytes) × (pend
 
 -- a line got the pending bytes up to a newline, or all of them, of which none is a newline
 abbrev pub TakesPart : List ℕ → List ℕ → List ℕ → List ℕ → Result Bool ToolFault → Type 0
-TakesPart pending pending' line line' (Ok true) = (part : List ℕ) × (has_newline part ≡ false) × (pending ≡ part ++ 10 ∷ pending') × (line' ≡ line ++ part)
-TakesPart pending pending' line line' (Ok false) = (has_newline pending ≡ false) × (pending' ≡ []) × (line' ≡ line ++ pending)
+TakesPart pending pending' line line' (Ok true) =
+    (part : List ℕ) × (has_newline part ≡ false) × (pending ≡ part ++ 10 ∷ pending') × (line' ≡ line ++ part)
+TakesPart pending pending' line line' (Ok false) =
+    (has_newline pending ≡ false) × (pending' ≡ []) × (line' ≡ line ++ pending)
 TakesPart pending pending' line line' (Err e) = e ≡ Memory
 
--- a line and its newline; all that was left, without a newline, and the reader is at its end; a part of a line after which a read
+-- a line and its newline; all that was left, without a newline, and the reader is at its end;
+-- a part of a line after which a read
 -- failed; or that there is a line
 abbrev pub TakesLine : List ℕ → List ℕ → Option (List ℕ) → List ℕ → Result LineEnd ToolFault → Type 0
-TakesLine bytes pending left line (Ok Newline) = (has_newline line ≡ false) × Took bytes pending left (line ++ 10 ∷ [])
+TakesLine bytes pending left line (Ok Newline) =
+    (has_newline line ≡ false) × Took bytes pending left (line ++ 10 ∷ [])
 TakesLine bytes pending left line (Ok Input) = (has_newline line ≡ false) × (bytes ≡ line) × (left ≡ Some [])
-TakesLine bytes pending left line (Err Read) = (has_newline line ≡ false) × (pending ≡ []) × Took bytes pending left line
+TakesLine bytes pending left line (Err Read) =
+    (has_newline line ≡ false) × (pending ≡ []) × Took bytes pending left line
 TakesLine bytes pending left line (Err Write) = Unit {0}
 TakesLine bytes pending left line (Err Memory) = bytes ≡ [] → ⊥
 TakesLine bytes pending left line (Err (Source f)) = ⊥

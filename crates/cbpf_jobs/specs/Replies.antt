@@ -1,5 +1,6 @@
 -- What a line of a script replies, and the view of the session after it.
-use Rattle.std.specs.Prelude.{◌≡◌, ◌<◌, ◌-◌, ◌^◌, ◌⊎◌, ℕ, List, [], Option, Some, None, Result, Ok, Err, IsOk, nat_eq, length}
+use Rattle.std.specs.Prelude.{◌≡◌, ◌<◌, ◌-◌, ◌^◌, ◌⊎◌, ℕ, List, [], Option, Some, None, Result, Ok, Err, IsOk, nat_eq}
+use Rattle.std.specs.Prelude.{length}
 use Rattle.std.specs.FinMap as map
 use Rattle.std.specs.Map.{lookup}
 use Rattle.cbpf_code.specs.WordText.{Spells, Refused}
@@ -9,7 +10,9 @@ use Rattle.cbpf_code.specs.declared.insn.Insn.{Insn}
 use Rattle.cbpf_code.specs.declared.words.WordFault.{WordFault}
 use Rattle.cbpf_code.specs.declared.words.WordFault.TheVariants.{Memory}
 use Rattle.cbpf_code.specs.declared.checker.CheckFault.{CheckFault}
-use Rattle.cbpf_command.specs.Commands.{Spelled, load_words, load_capture, run, disassemble, dump, breakpoint, breakpoint_when_a, breakpoint_when_x, breakpoints, reset_breakpoints, delete, step, select, mark, resume, stops, value, quit}
+use Rattle.cbpf_command.specs.Commands.{Spelled, load_words, load_capture, run, disassemble, dump, breakpoint}
+use Rattle.cbpf_command.specs.Commands.{breakpoint_when_a, breakpoint_when_x, breakpoints, reset_breakpoints, delete}
+use Rattle.cbpf_command.specs.Commands.{step, select, mark, resume, stops, value, quit}
 use Rattle.cbpf_command.specs.declared.command.CommandFault.{CommandFault}
 use Rattle.cbpf_command.specs.declared.command.CommandFault.TheVariants.{UnknownCommand, WrongArguments}
 use Rattle.pcap_classic.specs.Savefile.{Savefile, IsSavefile, IsRefusal}
@@ -21,9 +24,11 @@ use Rattle.cbpf_reply.specs.declared.breakpoints.When.{When}
 use Rattle.cbpf_reply.specs.declared.breakpoints.When.TheVariants.{Always, A, X}
 use Rattle.cbpf_dbg.specs.Commands.{with_program_loaded, with_capture_loaded, without_breakpoints, breakpoint_when}
 use Rattle.cbpf_reply.specs.Breakpoints.{breakpoints_text}
-use Rattle.cbpf_jobs.specs.SessionReplies.{run_reply, step_reply, select_reply, resume_reply, breakpoint_reply, delete_reply, mark_reply, stops_reply, value_reply, listing_text}
+use Rattle.cbpf_jobs.specs.SessionReplies.{run_reply, step_reply, select_reply, resume_reply, breakpoint_reply}
+use Rattle.cbpf_jobs.specs.SessionReplies.{delete_reply, mark_reply, stops_reply, value_reply, listing_text}
 use Rattle.cbpf_reply.specs.CDump.{c_dump_text}
-use Rattle.cbpf_reply.specs.Errors.{unknown_command_text, wrong_arguments_text, absent_text, device_text, memory_text, word_fault_text, check_fault_text, capture_fault_text}
+use Rattle.cbpf_reply.specs.Errors.{unknown_command_text, wrong_arguments_text, absent_text, device_text, memory_text}
+use Rattle.cbpf_reply.specs.Errors.{word_fault_text, check_fault_text, capture_fault_text}
 use Rattle.cbpf_reply.specs.Loads.{program_text, capture_text}
 
 -- the reply's text is written, as `Written` says, and the view after it is n
@@ -32,14 +37,19 @@ Writes reply n Written = (n ≡ reply.1) × Written reply.0
 
 -- `load bpf`: the word text's refusal, else the checker's, else the program is held
 pub data LoadsWords (m n : View) (text : List ℕ) (Written : List ℕ → Type 0) : Type 0 where
-  unreadable : (fault : WordFault) → Refused text fault → (fault ≡ Memory → ⊥) → Writes (word_fault_text fault, m) n Written → LoadsWords m n text Written
-  unsound : (list : List Insn) (fault : CheckFault) → Spells text list → FirstFault list fault → Writes (check_fault_text fault, m) n Written → LoadsWords m n text Written
-  accepted : (list : List Insn) → Spells text list → IsSound list → Writes (program_text (length list), with_program_loaded m list) n Written → LoadsWords m n text Written
+  unreadable : (fault : WordFault) → Refused text fault → (fault ≡ Memory → ⊥)
+      → Writes (word_fault_text fault, m) n Written → LoadsWords m n text Written
+  unsound : (list : List Insn) (fault : CheckFault) → Spells text list → FirstFault list fault
+      → Writes (check_fault_text fault, m) n Written → LoadsWords m n text Written
+  accepted : (list : List Insn) → Spells text list → IsSound list
+      → Writes (program_text (length list), with_program_loaded m list) n Written → LoadsWords m n text Written
 
 -- `load pcap` of a file with these bytes: why they are no capture, else the capture is held
 pub data ReadsCapture (m n : View) (bytes : List ℕ) (Written : List ℕ → Type 0) : Type 0 where
-  no_capture : (fault : CaptureFault) → IsRefusal fault bytes → (fault ≡ capture_fault.Memory → ⊥) → Writes (capture_fault_text fault, m) n Written → ReadsCapture m n bytes Written
-  a_capture : (capture : Savefile) → IsSavefile bytes capture → Writes (capture_text capture, with_capture_loaded m capture) n Written → ReadsCapture m n bytes Written
+  no_capture : (fault : CaptureFault) → IsRefusal fault bytes → (fault ≡ capture_fault.Memory → ⊥)
+      → Writes (capture_fault_text fault, m) n Written → ReadsCapture m n bytes Written
+  a_capture : (capture : Savefile) → IsSavefile bytes capture
+      → Writes (capture_text capture, with_capture_loaded m capture) n Written → ReadsCapture m n bytes Written
 
 abbrev pub LoadsCapture : View → View → Option (List ℕ) → (List ℕ → Type 0) → Type 0
 LoadsCapture m n None Written = Writes (absent_text, m) n Written
@@ -55,14 +65,17 @@ CanRunOut m k when = IsOk (breakpoint_when m k when) × (lookup (nat_eq k) m.bre
 
 -- a breakpoint that is set: its reply, or `error: out of memory`
 abbrev pub Sets : View → View → ℕ → When → (List ℕ → Type 0) → Type 0
-Sets m n k when Written = Writes (breakpoint_reply m k when) n Written ⊎ (CanRunOut m k when × Writes (memory_text, m) n Written)
+Sets m n k when Written =
+    Writes (breakpoint_reply m k when) n Written ⊎ (CanRunOut m k when × Writes (memory_text, m) n Written)
 
 -- a command's reply, while the count of failures goes from f to g. `error: out of memory` may come in place
 -- of the reply of a load and of a new breakpoint that is not refused, and F2, where a failure is counted, in place of
 -- that of a capture's load. `quit` has none
 abbrev pub CommandReplies : FileMap → View → View → ℕ → ℕ → Spelled → (List ℕ → Type 0) → Type 0
-CommandReplies files m n f g (load_words text) Written = LoadsWords m n text Written ⊎ Writes (memory_text, m) n Written
-CommandReplies files m n f g (load_capture name) Written = LoadsCapture m n (map.get files name) Written ⊎ (Writes (memory_text, m) n Written ⊎ (Failed f g × Writes (device_text, m) n Written))
+CommandReplies files m n f g (load_words text) Written =
+    LoadsWords m n text Written ⊎ Writes (memory_text, m) n Written
+CommandReplies files m n f g (load_capture name) Written = LoadsCapture m n (map.get files name) Written
+    ⊎ (Writes (memory_text, m) n Written ⊎ (Failed f g × Writes (device_text, m) n Written))
 CommandReplies files m n f g (run limit) Written = Writes (run_reply m limit) n Written
 CommandReplies files m n f g disassemble Written = Writes (listing_text m.program, m) n Written
 CommandReplies files m n f g dump Written = Writes (c_dump_text m.program, m) n Written
@@ -81,7 +94,8 @@ CommandReplies files m n f g (value e k) Written = Writes (value_reply m e k) n 
 CommandReplies files m n f g quit Written = ⊥
 
 -- a line's reply, by what the line says
-abbrev pub LineReplies : FileMap → View → View → ℕ → ℕ → Result (Option Spelled) CommandFault → (List ℕ → Type 0) → Type 0
+abbrev pub LineReplies : FileMap → View → View → ℕ → ℕ → Result (Option Spelled) CommandFault
+    → (List ℕ → Type 0) → Type 0
 LineReplies files m n f g (Ok None) Written = Writes ([], m) n Written
 LineReplies files m n f g (Ok (Some c)) Written = CommandReplies files m n f g c Written
 LineReplies files m n f g (Err UnknownCommand) Written = Writes (unknown_command_text, m) n Written

@@ -1,9 +1,12 @@
--- The replies to the commands of a session, and the view of the session after them (kernel documentation, networking/filter, on `bpf_dbg`; saved places, limits, steps back and the list of stops are this project's own).
+-- The replies to the commands of a session, and the view of the session after them
+-- (kernel documentation, networking/filter, on `bpf_dbg`; saved places, limits,
+-- steps back and the list of stops are this project's own).
 use Rattle.std.specs.Prelude.{ℕ, ℤ, ◌<◌, length, List, Option, Some, None, Result, Ok, Err}
 use Rattle.cbpf_code.specs.declared.insn.Insn.{Insn}
 use Rattle.cbpf_code.specs.declared.extension.Ext.{Ext}
 use Rattle.cbpf_listing.specs.Listing.{listing}
-use Rattle.cbpf_dbg.specs.Commands.{Answer, run, step, select, mark, resume, stops, breakpoint_when, delete, set_value}
+use Rattle.cbpf_dbg.specs.Commands.{Answer, run, step, select, mark, resume, stops, breakpoint_when, delete}
+use Rattle.cbpf_dbg.specs.Commands.{set_value}
 use Rattle.cbpf_dbg.specs.View.{View}
 use Rattle.cbpf_reply.specs.declared.breakpoints.When.{When}
 use Rattle.cbpf_reply.specs.declared.reply.Place.{Place}

@@ -32,7 +32,8 @@ fn act<A: Allocator + Copy, W: Write, F: Files>(
     files: &mut F,
     command: Command<'_>,
 ) -> Result<AfterLine, WriteFault>
-    ensures { LineRan (F.source files.old) (F.source files.new) session.old session.new (Ok (Some (language.meaning command.entry)))
+    ensures { LineRan (F.source files.old) (F.source files.new) session.old session.new
+        (Ok (Some (language.meaning command.entry)))
         (W.contents w.old) (W.contents w.new) result }
 {
     let reply = match command {
@@ -91,7 +92,8 @@ fn run<A: Allocator + Copy, R: Read, W: Write, F: Files>(
     files: &mut F,
 ) -> Result<(), ToolFault>
     ensures { (script : List ℕ) → R.remaining reader.old ≡ Some script → IsTrue (F.source files.old).is_known →
-        Debugged script (R.remaining reader.new) (W.contents writer.old) (W.contents writer.new) (F.source files.old) (F.source files.new) result }
+        Debugged script (R.remaining reader.new) (W.contents writer.old) (W.contents writer.new) (F.source files.old)
+        (F.source files.new) result }
 {
     let mut session = Session::new(alloc, MarkTrail::new());
     let mut lines = LineReader::new();
@@ -135,7 +137,8 @@ pub fn debug<A: Allocator, R: Read, W: Write, F: Files>(
     files: &mut F,
 ) -> Result<(), ToolFault>
     ensures { (script : List ℕ) → R.remaining reader.old ≡ Some script → IsTrue (F.source files.old).is_known →
-        Debugged script (R.remaining reader.new) (W.contents writer.old) (W.contents writer.new) (F.source files.old) (F.source files.new) result }
+        Debugged script (R.remaining reader.new) (W.contents writer.old) (W.contents writer.new) (F.source files.old)
+        (F.source files.new) result }
 {
     run(&alloc, reader, writer, files)?;
     match writer.flush() {

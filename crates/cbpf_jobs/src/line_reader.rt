@@ -1,5 +1,6 @@
 // Takes the lines of a reader one after another, in chunks.
-ghost use Rattle.std.specs.Prelude.{◌≡◌, ◌+◌, ◌*◌, ◌-◌, ◌^◌, ◌<◌, ◌≤◌, ℕ, List, Some, Ok, [], take, length, slice_index, true, false, OnOk, IfOk, IfErr, MatchOption, MatchResult};
+ghost use Rattle.std.specs.Prelude.{◌≡◌, ◌+◌, ◌*◌, ◌-◌, ◌^◌, ◌<◌, ◌≤◌, ℕ, List, Some, Ok, [], take, length};
+ghost use Rattle.std.specs.Prelude.{slice_index, true, false, OnOk, IfOk, IfErr, MatchOption, MatchResult};
 ghost use Rattle.std.specs.Io.KnownBytes.{Keeps, Consumes, IsAtEnd};
 ghost use Rattle.cbpf_jobs.specs.Lines.{has_newline};
 ghost use Rattle.cbpf_jobs.specs.Reading.{IsStreamFault, pending_in, unread, Fills, TakesPart, TakesLine};
@@ -72,7 +73,8 @@ impl LineReader {
         ensures fewer { OnOk result (self.new.reads < self.old.reads) }
         ensures some { IfOk result (λ more. more ≡ true → self.new.start < self.new.end) }
         ensures bytes { MatchResult result
-            (λ more. Consumes (R.remaining reader.old) (R.remaining reader.new) (pending_in self.new.chunk self.new.start self.new.end)
+            (λ more. Consumes (R.remaining reader.old) (R.remaining reader.new)
+            (pending_in self.new.chunk self.new.start self.new.end)
             × (more ≡ false → (pending_in self.new.chunk self.new.start self.new.end ≡ [])
             × IsAtEnd (R.remaining reader.new)))
             (λ e. Keeps (R.remaining reader.old) (R.remaining reader.new)
@@ -103,7 +105,8 @@ impl LineReader {
         ensures fewer { OnOk result (4097 * self.new.reads + (self.new.end - self.new.start)
             ≤ 4097 * self.old.reads + (self.old.end - self.old.start)) }
         ensures some { IfOk result (λ more. more ≡ true → self.new.start < self.new.end) }
-        ensures bytes { (bytes : List ℕ) → unread (pending_in self.old.chunk self.old.start self.old.end) (R.remaining reader.old) ≡ Some bytes →
+        ensures bytes { (bytes : List ℕ)
+            → unread (pending_in self.old.chunk self.old.start self.old.end) (R.remaining reader.old) ≡ Some bytes →
             Fills bytes (pending_in self.new.chunk self.new.start self.new.end) (R.remaining reader.new) result }
         ensures fault { IfErr result IsStreamFault }
     {
@@ -116,7 +119,8 @@ impl LineReader {
     /// Takes what was read up to the line's end; true where its newline was found.
     fn take_part<A: Allocator>(&mut self, line: &mut Vec<u8, A>) -> Result<bool, ToolFault>
         requires { self.old.start < self.old.end }
-        ensures taken { TakesPart (pending_in self.old.chunk self.old.start self.old.end) (pending_in self.new.chunk self.new.start self.new.end)
+        ensures taken { TakesPart (pending_in self.old.chunk self.old.start self.old.end)
+            (pending_in self.new.chunk self.new.start self.new.end)
             line.old.items line.new.items result }
         ensures fewer { OnOk result (self.new.end - self.new.start < self.old.end - self.old.start) }
         ensures reads { self.new.reads ≡ self.old.reads }
@@ -148,8 +152,10 @@ impl LineReader {
         line: &mut Vec<u8, A>,
     ) -> Result<LineEnd, ToolFault>
         ensures flushed { Keeps (W.contents writer.old) (W.contents writer.new) }
-        ensures line { (bytes : List ℕ) → unread (pending_in self.old.chunk self.old.start self.old.end) (R.remaining reader.old) ≡ Some bytes →
-            TakesLine bytes (pending_in self.new.chunk self.new.start self.new.end) (R.remaining reader.new) line.new.items result }
+        ensures line { (bytes : List ℕ)
+            → unread (pending_in self.old.chunk self.old.start self.old.end) (R.remaining reader.old) ≡ Some bytes →
+            TakesLine bytes (pending_in self.new.chunk self.new.start self.new.end) (R.remaining reader.new)
+            line.new.items result }
         ensures fewer { OnOk result (4097 * self.new.reads + (self.new.end - self.new.start)
             ≤ 4097 * self.old.reads + (self.old.end - self.old.start)) }
         ensures onward { result ≡ Ok end.Newline → 4097 * self.new.reads + (self.new.end - self.new.start)

@@ -25,7 +25,8 @@ pub(crate) fn load_words<A: Allocator, W: Write>(
     text: &[u8],
 ) -> Result<(), WriteFault>
     ensures { LoadsWords session.old session.new text.now (λ t. Wrote (W.contents w.old) (W.contents w.new) result t)
-        ⊎ Writes (texts.memory_text, session.old) session.new (λ t. Wrote (W.contents w.old) (W.contents w.new) result t) }
+        ⊎ Writes (texts.memory_text, session.old) session.new
+        (λ t. Wrote (W.contents w.old) (W.contents w.new) result t) }
 {
     let list = match read_words(alloc, text) {
         Ok(list) => list,

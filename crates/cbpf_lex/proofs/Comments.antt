@@ -1,11 +1,13 @@
 -- The scan for the first `*/`, and texts that are cut after it.
-use Rattle.std.proofs.Common.{◌≡◌, ℕ, zero, suc, ◌+◌, ◌<◌, ◌≤◌, Bool, true, false, ◌&&◌, cond, List, [], ◌∷◌, length, take, drop, refl, ap, sym, subst, ◌∙◌, arith, Option, Some, None, get_or, drop-cons}
+use Rattle.std.proofs.Common.{◌≡◌, ℕ, zero, suc, ◌+◌, ◌<◌, ◌≤◌, Bool, true, false, ◌&&◌, cond, List, [], ◌∷◌, length}
+use Rattle.std.proofs.Common.{take, drop, refl, ap, sym, subst, ◌∙◌, arith, Option, Some, None, get_or, drop-cons}
 use Rattle.std.specs.Prelude.{◌==◌, option_map}
 use Rattle.std.proofs.lemmas.List.{drop_all}
 use Rattle.cbpf_lex.specs.Pieces.{begins_with_close, first_close}
 use Rattle.cbpf_lex.proofs.Cuts.{some-same}
 
--- the first `*/` of the bytes after one more, of which is known whether it is a `*`: how many of these bytes there are up to its end
+-- the first `*/` of the bytes after one more, of which is known whether it is a `*`:
+-- how many of these bytes there are up to its end
 abbrev pub close_after : Bool → List ℕ → Option ℕ
 close_after star [] = None
 close_after star (b ∷ bs) = cond (star && b == 47) (Some 1) (option_map suc (close_after (b == 42) bs))
@@ -14,7 +16,9 @@ close_step : (b : ℕ) (bs : List ℕ) → option_map suc (close_after (b == 42)
 close_step b [] = refl
 close_step b (c ∷ cs) = by_test (b == 42 && c == 47) (close_step c cs)
   where
-    by_test : (t : Bool) → option_map suc (close_after (c == 42) cs) ≡ first_close (c ∷ cs) → option_map suc (cond t (Some 1) (option_map suc (close_after (c == 42) cs))) ≡ cond t (Some 2) (option_map suc (first_close (c ∷ cs)))
+    by_test : (t : Bool) → option_map suc (close_after (c == 42) cs) ≡ first_close (c ∷ cs)
+        → option_map suc (cond t (Some 1) (option_map suc (close_after (c == 42) cs)))
+        ≡ cond t (Some 2) (option_map suc (first_close (c ∷ cs)))
     by_test true e = refl
     by_test false e = ap (option_map suc) e
 
@@ -37,15 +41,19 @@ shift : (i : ℕ) (o : Option ℕ) → option_map (λ n. i + n) (option_map suc 
 shift i None = refl
 shift i (Some n) = let e : i + suc n ≡ suc i + n = omega arith in ap (λ k. Some k) e
 
-pub open_more : (body : List ℕ) (i : ℕ) (star : Bool) → i < length body → (star && get_or body i 0 == 47) ≡ false → IsOpenTo body i star → IsOpenTo body (i + 1) (get_or body i 0 == 42)
+pub open_more : (body : List ℕ) (i : ℕ) (star : Bool) → i < length body → (star && get_or body i 0 == 47) ≡ false
+    → IsOpenTo body i star → IsOpenTo body (i + 1) (get_or body i 0 == 42)
 open_more body i star l kept inv =
     let e : suc i ≡ i + 1 = omega arith in
-    subst (λ j. IsOpenTo body j (get_or body i 0 == 42)) e (inv ∙ rw (drop-cons body i 0, kept) (shift i (close_after (get_or body i 0 == 42) (drop (suc i) body))))
+    subst (λ j. IsOpenTo body j (get_or body i 0 == 42)) e
+    (inv ∙ rw (drop-cons body i 0, kept) (shift i (close_after (get_or body i 0 == 42) (drop (suc i) body))))
 
-pub close_here : (body : List ℕ) (i : ℕ) (star : Bool) → i < length body → (star && get_or body i 0 == 47) ≡ true → IsOpenTo body i star → first_close body ≡ Some (i + 1)
+pub close_here : (body : List ℕ) (i : ℕ) (star : Bool) → i < length body → (star && get_or body i 0 == 47) ≡ true
+    → IsOpenTo body i star → first_close body ≡ Some (i + 1)
 close_here body i star l shut inv = inv ∙ rw (drop-cons body i 0, shut) refl
 
-pub never_closed : (body : List ℕ) (i : ℕ) (star : Bool) → length body ≤ i → IsOpenTo body i star → first_close body ≡ None
+pub never_closed : (body : List ℕ) (i : ℕ) (star : Bool) → length body ≤ i → IsOpenTo body i star
+    → first_close body ≡ None
 never_closed body i star l inv = inv ∙ rw (drop_all i body l) refl
 
 mapped_some : (o : Option ℕ) (n : ℕ) → option_map suc o ≡ Some n → (k : ℕ) × (o ≡ Some k) × (n ≡ suc k)
@@ -56,7 +64,8 @@ close_least : (bs : List ℕ) (n : ℕ) → first_close bs ≡ Some n → 2 ≤ 
 close_least [] n e = cc
 close_least (b ∷ bs) n e = by_test (begins_with_close (b ∷ bs)) (close_least bs) e
   where
-    by_test : (t : Bool) → ((k : ℕ) → first_close bs ≡ Some k → 2 ≤ k) → cond t (Some 2) (option_map suc (first_close bs)) ≡ Some n → 2 ≤ n
+    by_test : (t : Bool) → ((k : ℕ) → first_close bs ≡ Some k → 2 ≤ k)
+        → cond t (Some 2) (option_map suc (first_close bs)) ≡ Some n → 2 ≤ n
     by_test true more h = let k : n ≡ 2 = some-same n 2 (sym h) in omega (arith, k)
     by_test false more h = let p = mapped_some (first_close bs) n h in omega (arith, p.2, more p.0 p.1)
 
@@ -66,8 +75,13 @@ close_taken [] n m e l = cc
 close_taken (b ∷ bs) n zero e l = absurd (omega (arith, l, close_least (b ∷ bs) n e))
 close_taken (b ∷ []) n (suc m) e l = cc
 close_taken (b ∷ c ∷ cs) n (suc zero) e l = absurd (omega (arith, l, close_least (b ∷ c ∷ cs) n e))
-close_taken (b ∷ c ∷ cs) n (suc (suc m)) e l = by_test (b == 42 && c == 47) (λ k h q. close_taken (c ∷ cs) k (suc m) h q) e
+close_taken (b ∷ c ∷ cs) n (suc (suc m)) e l =
+    by_test (b == 42 && c == 47) (λ k h q. close_taken (c ∷ cs) k (suc m) h q) e
   where
-    by_test : (t : Bool) → ((k : ℕ) → first_close (c ∷ cs) ≡ Some k → k ≤ suc m → first_close (c ∷ take m cs) ≡ Some k) → cond t (Some 2) (option_map suc (first_close (c ∷ cs))) ≡ Some n → cond t (Some 2) (option_map suc (first_close (c ∷ take m cs))) ≡ Some n
+    by_test : (t : Bool)
+        → ((k : ℕ) → first_close (c ∷ cs) ≡ Some k → k ≤ suc m → first_close (c ∷ take m cs) ≡ Some k)
+        → cond t (Some 2) (option_map suc (first_close (c ∷ cs))) ≡ Some n
+        → cond t (Some 2) (option_map suc (first_close (c ∷ take m cs))) ≡ Some n
     by_test true more h = h
-    by_test false more h = let p = mapped_some (first_close (c ∷ cs)) n h in ap (option_map suc) (more p.0 p.1 (omega (arith, l, p.2))) ∙ ap (λ k. Some k) (sym p.2)
+    by_test false more h = let p = mapped_some (first_close (c ∷ cs)) n h in
+        ap (option_map suc) (more p.0 p.1 (omega (arith, l, p.2))) ∙ ap (λ k. Some k) (sym p.2)

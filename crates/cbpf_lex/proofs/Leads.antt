@@ -23,7 +23,8 @@ led_kind Single b bs = alone bs (Lexeme (Mark b))
 led_kind Other b bs = alone bs (Bad NoToken)
 
 chosen : {A B : Type 0} (f : A → B) (p q r s t u : Bool) (a c d e g h i : A)
-    → cond p (f a) (cond q (f c) (cond r (f d) (cond s (f e) (cond t (f g) (cond u (f h) (f i)))))) ≡ f (cond p a (cond q c (cond r d (cond s e (cond t g (cond u h i))))))
+    → cond p (f a) (cond q (f c) (cond r (f d) (cond s (f e) (cond t (f g) (cond u (f h) (f i))))))
+    ≡ f (cond p a (cond q c (cond r d (cond s e (cond t g (cond u h i))))))
 chosen f true q r s t u a c d e g h i = refl
 chosen f false true r s t u a c d e g h i = refl
 chosen f false false true s t u a c d e g h i = refl
@@ -32,8 +33,10 @@ chosen f false false false false true u a c d e g h i = refl
 chosen f false false false false false true a c d e g h i = refl
 chosen f false false false false false false a c d e g h i = refl
 
-pub led : (fresh : Bool) (b : ℕ) (bs : List ℕ) (lead : Lead) → lead_of fresh b ≡ lead → piece_kind fresh (b ∷ bs) ≡ led_kind lead b bs
-led fresh b bs lead e = chosen (λ l. led_kind l b bs) (is_blank b) (b == 59 || (fresh && b == 35)) (is_letter b) (is_digit b) (b == 47) (is_mark b) Blank LineComment Letter Digit Slash Single Other ∙ ap (λ l. led_kind l b bs) e
+pub led : (fresh : Bool) (b : ℕ) (bs : List ℕ) (lead : Lead) → lead_of fresh b ≡ lead
+    → piece_kind fresh (b ∷ bs) ≡ led_kind lead b bs
+led fresh b bs lead e = chosen (λ l. led_kind l b bs) (is_blank b) (b == 59 || (fresh && b == 35)) (is_letter b)
+    (is_digit b) (b == 47) (is_mark b) Blank LineComment Letter Digit Slash Single Other ∙ ap (λ l. led_kind l b bs) e
 
 pub blank_lead : (fresh : Bool) (b : ℕ) → is_blank b ≡ true → lead_of fresh b ≡ Blank
 blank_lead fresh b e = rw e refl

@@ -7,7 +7,8 @@ use Rattle.cbpf_lex.specs.Pieces.{IsCut}
 use Rattle.cbpf_lex.specs.Tokens.{Lexes, IsFirstBad}
 
 abbrev pub OneCut : Type 0
-OneCut = (text : List ℕ) (ps qs : List Piece) → IsCut text 0 ps (length text) → IsCut text 0 qs (length text) → ps ≡ qs
+OneCut = (text : List ℕ) (ps qs : List Piece) → IsCut text 0 ps (length text)
+    → IsCut text 0 qs (length text) → ps ≡ qs
 
 abbrev pub OneList : Type 0
 OneList = (text : List ℕ) (ts us : List Token) → Lexes text ts → Lexes text us → ts ≡ us

@@ -1,6 +1,7 @@
 -- The numbers that runs of bytes spell. The kernel's Documentation/networking/filter shows decimal and hexadecimal
 -- ones; octal and binary ones are this project's own.
-use Rattle.std.specs.Prelude.{◌≡◌, ◌^◌, min, ℕ, ◌+◌, ◌-◌, ◌*◌, ◌&&◌, List, [], ◌∷◌, nat_lt, nat_le, ◌==◌, if◌then◌else◌, Option, Some, None}
+use Rattle.std.specs.Prelude.{◌≡◌, ◌^◌, min, ℕ, ◌+◌, ◌-◌, ◌*◌, ◌&&◌, List, [], ◌∷◌, nat_lt, nat_le, ◌==◌}
+use Rattle.std.specs.Prelude.{if◌then◌else◌, Option, Some, None}
 use Rattle.cbpf_lex.specs.Bytes.{is_digit}
 
 -- the value of a digit of either case, and 16 for any other byte

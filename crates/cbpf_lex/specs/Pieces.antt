@@ -1,7 +1,8 @@
 -- How a source text is cut into pieces: blanks, comments, tokens and bad pieces, each the longest at its place. The
 -- kernel's Documentation/networking/filter shows words, numbers, marks and comments by example; these rules are this
 -- project's own.
-use Rattle.std.specs.Prelude.{◌≡◌, ℕ, suc, ◌+◌, ◌^◌, ◌<◌, ◌≤◌, Bool, true, false, not, ◌&&◌, ◌||◌, List, [], ◌∷◌, length, take, drop, nat_lt, ◌==◌, if◌then◌else◌, fold, Option, Some, None, option_map}
+use Rattle.std.specs.Prelude.{◌≡◌, ℕ, suc, ◌+◌, ◌^◌, ◌<◌, ◌≤◌, Bool, true, false, not, ◌&&◌, ◌||◌, List, [], ◌∷◌}
+use Rattle.std.specs.Prelude.{length, take, drop, nat_lt, ◌==◌, if◌then◌else◌, fold, Option, Some, None, option_map}
 use Rattle.std.specs.List.{list_all}
 use Rattle.cbpf_lex.specs.declared.token.Kind.TheVariants.{Word, Number, Mark}
 use Rattle.cbpf_lex.specs.declared.token.BadPiece.TheVariants.{NoToken, OpenComment, LargeNumber}

@@ -1,7 +1,8 @@
 -- The listing of a program: a line for each instruction, in the assembler syntax of the kernel's
 -- Documentation/networking/filter ("BPF engine and instruction set"). The label before each instruction, `l` and its
 -- index, and targets as these labels, are this project's own.
-use Rattle.std.specs.Prelude.{ℕ, ◌+◌, ◌==◌, if◌then◌else◌, List, [], ◌∷◌, ◌++◌, Option, Some, None, slice_get, codes, decimal}
+use Rattle.std.specs.Prelude.{ℕ, ◌+◌, ◌==◌, if◌then◌else◌, List, [], ◌∷◌, ◌++◌, Option, Some, None, slice_get, codes}
+use Rattle.std.specs.Prelude.{decimal}
 use Rattle.std.specs.List.{flat_map, enumerate_from}
 use Rattle.cbpf_code.specs.declared.insn.Insn.{Insn}
 use Rattle.cbpf_code.specs.declared.opcode.Op.{Op}
@@ -10,7 +11,8 @@ use Rattle.cbpf_code.specs.Opcode.{op_of}
 use Rattle.cbpf_code.specs.Extension.{ext_at, ext_name}
 use Rattle.cbpf_code.specs.Text.{joined, with_number, hex}
 use Rattle.cbpf_listing.specs.declared.syntax.Operand.{Operand}
-use Rattle.cbpf_listing.specs.declared.syntax.Operand.TheVariants.{Bare, X, A, Length, Immediate, Absolute, Indexed, Memory, Header, Label, ImmediateTwo, XTwo}
+use Rattle.cbpf_listing.specs.declared.syntax.Operand.TheVariants.{Bare, X, A, Length, Immediate, Absolute, Indexed}
+use Rattle.cbpf_listing.specs.declared.syntax.Operand.TheVariants.{Memory, Header, Label, ImmediateTwo, XTwo}
 use Rattle.cbpf_listing.specs.Syntax.{mnemonic_of, operand_of}
 
 -- the label of the instruction at an index, and its mnemonic

@@ -3,7 +3,8 @@
 -- operation a listing has one.
 use Rattle.std.specs.Prelude.{ℕ, List, codes}
 use Rattle.cbpf_code.specs.declared.opcode.Op.{Op}
-use Rattle.cbpf_code.specs.declared.opcode.Op.TheVariants.{LdImm, LdAbs, LdInd, LdMem, LdLen, LdxImm, LdxMem, LdxLen, LdxMsh, St, Stx, Alu, Neg, Ja, Jump, RetK, RetA, Tax, Txa}
+use Rattle.cbpf_code.specs.declared.opcode.Op.TheVariants.{LdImm, LdAbs, LdInd, LdMem, LdLen, LdxImm, LdxMem, LdxLen}
+use Rattle.cbpf_code.specs.declared.opcode.Op.TheVariants.{LdxMsh, St, Stx, Alu, Neg, Ja, Jump, RetK, RetA, Tax, Txa}
 use Rattle.cbpf_code.specs.declared.opcode.Size.{Size}
 use Rattle.cbpf_code.specs.declared.opcode.Size.TheVariants.{Word, Half, Byte}
 use Rattle.cbpf_code.specs.declared.opcode.AluOp.{AluOp}

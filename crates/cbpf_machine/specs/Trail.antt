@@ -1,4 +1,5 @@
--- What a trail of checkpoints stands for: a list of states of which every 64th is kept (this project's own; no standard speaks of it).
+-- What a trail of checkpoints stands for: a list of states of which every 64th is kept (this project's own;
+-- no standard speaks of it).
 use Rattle.std.specs.Prelude.{◌≡◌, ℕ, ◌*◌, ◌<◌, List, length, slice_get}
 use Rattle.cbpf_machine.specs.Registers.{Registers}
 

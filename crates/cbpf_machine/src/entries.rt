@@ -52,8 +52,10 @@ pub(crate) fn find_entry<A: Allocator>(
 ) -> Result<State, u32>
     requires from_one { 1 ≤ to }
     requires spare { meter.old + to < 2 ^ 128 }
-    ensures entry { IfOk result (λ s. slice_get (trace (machine_of p.now values.now) packet.entry.bytes.now packet.entry.wire) (to - 1) ≡ Some s) }
-    ensures short { IfErr result (λ n. (n ≡ length (trace (machine_of p.now values.now) packet.entry.bytes.now packet.entry.wire)) × (n < to)) }
+    ensures entry { IfOk result (λ s.
+        slice_get (trace (machine_of p.now values.now) packet.entry.bytes.now packet.entry.wire) (to - 1) ≡ Some s) }
+    ensures short { IfErr result (λ n.
+        (n ≡ length (trace (machine_of p.now values.now) packet.entry.bytes.now packet.entry.wire)) × (n < to)) }
     ensures counts { meter.old ≤ meter.new }
     ensures few { meter.new ≤ meter.old + to }
 {

@@ -23,7 +23,8 @@ fn is_absolute_load(op: Op) -> bool
 #[inline(always)]
 pub fn asks(insn: Insn, values: &Values) -> Option<Ext>
     ensures { (list : List Insn) (bytes : List ℕ) (wire : ℕ) (s : Registers)
-        → slice_get list s.pc ≡ Some insn → result ≡ spec.asked (spec.turn (machine_of list values.now) bytes wire s) }
+        → slice_get list s.pc ≡ Some insn
+        → result ≡ spec.asked (spec.turn (machine_of list values.now) bytes wire s) }
 {
     let e = ext_at(insn.k)?;
     if values.value_of(e).is_some() {

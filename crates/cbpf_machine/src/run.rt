@@ -26,7 +26,8 @@ pub fn run_packet<A: Allocator>(
 ) -> Outcome
     requires { meter.old + 8192 ≤ 2 ^ 128 }
     ensures value { result ≡ spec.outcome (machine_of p.now values.now) packet.entry.bytes.now packet.entry.wire }
-    ensures turns { meter.new ≡ meter.old + length (spec.trace (machine_of p.now values.now) packet.entry.bytes.now packet.entry.wire) }
+    ensures turns { meter.new
+        ≡ meter.old + length (spec.trace (machine_of p.now values.now) packet.entry.bytes.now packet.entry.wire) }
     ensures few { meter.new ≤ meter.old + length p.now }
 
     // The definition's trace is the whole run: it ends by itself, and its program counters rise.

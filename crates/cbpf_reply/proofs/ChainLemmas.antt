@@ -4,10 +4,13 @@ use Rattle.std.specs.Result.{IsErr}
 use Rattle.cbpf_code.specs.Writing.{Appended, AppendedPart, Wrote}
 use Rattle.cbpf_code.proofs.WrittenLemmas.{err-exit, part-then, part-more, wrote-then}
 
-pub second-failed : {A E : Type 0} (u v w : Option (List ℕ)) (a b c : List ℕ) (r : Result A E) → IsErr r → Appended u v a → AppendedPart v w b → Wrote u w r (a ++ (b ++ c))
-second-failed u v w a b c r e x y = err-exit u w (a ++ (b ++ c)) r e (part-then u v w a (b ++ c) x (part-more v w b c y))
+pub second-failed : {A E : Type 0} (u v w : Option (List ℕ)) (a b c : List ℕ) (r : Result A E) → IsErr r
+    → Appended u v a → AppendedPart v w b → Wrote u w r (a ++ (b ++ c))
+second-failed u v w a b c r e x y =
+    err-exit u w (a ++ (b ++ c)) r e (part-then u v w a (b ++ c) x (part-more v w b c y))
 
-pub third-last : {A E : Type 0} (u v w z : Option (List ℕ)) (a b c : List ℕ) (r : Result A E) → Appended u v a → Appended v w b → Wrote w z r c → Wrote u z r (a ++ (b ++ c))
+pub third-last : {A E : Type 0} (u v w z : Option (List ℕ)) (a b c : List ℕ) (r : Result A E) → Appended u v a
+    → Appended v w b → Wrote w z r c → Wrote u z r (a ++ (b ++ c))
 third-last u v w z a b c r x y h = wrote-then u v z a (b ++ c) r x (wrote-then v w z b c r y h)
 
 -- the same text in other words

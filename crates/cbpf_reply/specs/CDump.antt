@@ -1,4 +1,5 @@
--- The program that is loaded, as `dump` prints it: initializers of a C array under a head line (the kernel's Documentation/networking/filter shows it for `bpf_dbg`).
+-- The program that is loaded, as `dump` prints it: initializers of a C array under a head line
+-- (the kernel's Documentation/networking/filter shows it for `bpf_dbg`).
 use Rattle.std.specs.Prelude.{ℕ, List, ◌++◌, codes, Option, Some, None}
 use Rattle.cbpf_code.specs.CForm.{c_form}
 use Rattle.cbpf_code.specs.declared.insn.Insn.{Insn}

@@ -1,4 +1,5 @@
--- The lines of a dump: a label left in ten places, and what it names (the kernel's Documentation/networking/filter shows such lines; this layout is this project's own).
+-- The lines of a dump: a label left in ten places, and what it names
+-- (the kernel's Documentation/networking/filter shows such lines; this layout is this project's own).
 use Rattle.std.specs.Prelude.{ℕ, ◌-◌, ◌++◌, List, [], ◌∷◌, length, codes, decimal}
 use Rattle.cbpf_code.specs.Text.{joined, spaces, hex}
 

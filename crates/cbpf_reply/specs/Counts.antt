@@ -1,4 +1,5 @@
--- Places, and counts of packets (the kernel's Documentation/networking/filter shows the counts of `run` for `bpf_dbg`; the rest is this project's own).
+-- Places, and counts of packets (the kernel's Documentation/networking/filter shows the counts of `run` for
+-- `bpf_dbg`; the rest is this project's own).
 use Rattle.std.specs.Prelude.{ℕ, ◌==◌, if◌then◌else◌, List, [], ◌∷◌, ◌++◌, codes, decimal}
 use Rattle.cbpf_code.specs.Text.{joined}
 use Rattle.cbpf_code.specs.Text.{with_number}

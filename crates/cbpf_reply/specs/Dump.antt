@@ -1,4 +1,6 @@
--- What is shown of a stop: the place, the instruction, the registers and the scratch memory before it, the packet, and why it stopped (the kernel's Documentation/networking/filter shows such a dump; this layout is this project's own).
+-- What is shown of a stop: the place, the instruction, the registers and the scratch memory before it, the packet,
+-- and why it stopped (the kernel's Documentation/networking/filter shows such a dump;
+-- this layout is this project's own).
 use Rattle.std.specs.Prelude.{ℕ, List, [], ◌∷◌, ◌++◌, Option, Some, None, slice_get, slice_index, map, decimal, codes}
 use Rattle.cbpf_code.specs.declared.insn.Insn.{Insn}
 use Rattle.cbpf_code.specs.Extension.{ext_name}
@@ -12,7 +14,8 @@ use Rattle.cbpf_reply.specs.declared.reply.Why.TheVariants as why_is
 use Rattle.cbpf_reply.specs.declared.reply.Stop.{Stop}
 use Rattle.cbpf_machine.specs.Registers.{Registers}
 
--- what a dump shows beside the program: slots are the words of scratch memory, bytes the captured ones, wire is the packet's original length
+-- what a dump shows beside the program: slots are the words of scratch memory, bytes the captured ones,
+-- wire is the packet's original length
 pub record Shown : Type 0 where
   pub packet : ℕ
   pub step : ℕ
@@ -25,7 +28,8 @@ pub record Shown : Type 0 where
   pub why : Why
 
 abbrev pub heading : ℕ → ℕ → List ℕ
-heading packet step = joined (codes "-- packet " ∷ decimal packet ∷ codes ", step " ∷ decimal step ∷ codes " --\n" ∷ [])
+heading packet step =
+    joined (codes "-- packet " ∷ decimal packet ∷ codes ", step " ∷ decimal step ∷ codes " --\n" ∷ [])
 
 abbrev pub pc_line : ℕ → List ℕ
 pc_line pc = labelled (codes "pc:" ∷ []) (codes "[" ∷ decimal pc ∷ codes "]\n" ∷ [])
@@ -35,7 +39,8 @@ abbrev pub code_line : Option Insn → List ℕ
 code_line None = []
 code_line (Some i) =
     labelled (codes "code:" ∷ [])
-    (codes "[" ∷ decimal i.code ∷ codes "] jt[" ∷ decimal i.jt ∷ codes "] jf[" ∷ decimal i.jf ∷ codes "] k[" ∷ decimal i.k ∷ codes "]\n" ∷ [])
+    (codes "[" ∷ decimal i.code ∷ codes "] jt[" ∷ decimal i.jt ∷ codes "] jf[" ∷ decimal i.jf ∷ codes "] k["
+    ∷ decimal i.k ∷ codes "]\n" ∷ [])
 
 -- the instruction as the listing has it
 abbrev pub current_line : List Insn → ℕ → List ℕ
@@ -72,7 +77,8 @@ dump_text list s = heading s.packet s.step ++ (register_dump list s ++ packet_an
 
 -- scratch memory, from slot 0 to slot 15
 abbrev pub slots_of : Registers → List ℕ
-slots_of s = map (λ i. slice_index s.slots i) (0 ∷ 1 ∷ 2 ∷ 3 ∷ 4 ∷ 5 ∷ 6 ∷ 7 ∷ 8 ∷ 9 ∷ 10 ∷ 11 ∷ 12 ∷ 13 ∷ 14 ∷ 15 ∷ [])
+slots_of s =
+    map (λ i. slice_index s.slots i) (0 ∷ 1 ∷ 2 ∷ 3 ∷ 4 ∷ 5 ∷ 6 ∷ 7 ∷ 8 ∷ 9 ∷ 10 ∷ 11 ∷ 12 ∷ 13 ∷ 14 ∷ 15 ∷ [])
 
 -- a stop in a packet of these captured bytes and this original length
 abbrev pub shown_in : List ℕ → ℕ → Stop → Shown

@@ -9,7 +9,9 @@ use Rattle.pcap_classic.specs.declared.fault.CaptureFault.TheVariants as capture
 use Rattle.cbpf_code.specs.Text.{with_number}
 use Rattle.cbpf_reply.specs.Numbers.{with_numbers}
 use Rattle.cbpf_reply.specs.declared.reply.SessionFault.{SessionFault}
-use Rattle.cbpf_reply.specs.declared.reply.SessionFault.TheVariants.{NoProgram, NoCapture, NoPackets, NoInstruction, NoPacket, NoStep, TooFarBack, ZeroCount, NoValue, Memory}
+use Rattle.cbpf_reply.specs.declared.reply.SessionFault.TheVariants.{NoProgram, NoCapture, NoPackets, NoInstruction}
+use Rattle.cbpf_reply.specs.declared.reply.SessionFault.TheVariants.{NoPacket, NoStep, TooFarBack, ZeroCount, NoValue}
+use Rattle.cbpf_reply.specs.declared.reply.SessionFault.TheVariants.{Memory}
 
 -- ---- refusals of a line and of a file, and out of memory
 
@@ -38,7 +40,8 @@ word_fault_text word.Memory = memory_text
 word_fault_text (word.NumberExpected p) = with_number (codes "error: N1 at byte ") p (codes ": number expected\n")
 word_fault_text (word.OutOfRange p) = with_number (codes "error: N2 at byte ") p (codes ": number out of range\n")
 word_fault_text (word.UnexpectedByte p) = with_number (codes "error: N3 at byte ") p (codes ": unexpected byte\n")
-word_fault_text (word.CountDiffers said found) = with_numbers (codes "error: N4 count says ") said (codes ", found ") found (codes "\n")
+word_fault_text (word.CountDiffers said found) =
+    with_numbers (codes "error: N4 count says ") said (codes ", found ") found (codes "\n")
 word_fault_text (word.CommaExpected p) = with_number (codes "error: N5 at byte ") p (codes ": comma expected\n")
 
 unfoldable pub check_fault_text : CheckFault → List ℕ
@@ -51,7 +54,8 @@ check_fault_text (check.WideShift i) = with_number (codes "error: C6 at ") i (co
 check_fault_text (check.JumpOutside i) = with_number (codes "error: C7 at ") i (codes ": jump outside\n")
 check_fault_text (check.UnknownExtension i) = with_number (codes "error: C8 at ") i (codes ": unknown extension\n")
 check_fault_text check.NoReturn = codes "error: C9 last instruction is no return\n"
-check_fault_text (check.UnwrittenSlot i) = with_number (codes "error: C10 at ") i (codes ": scratch slot read before it is written\n")
+check_fault_text (check.UnwrittenSlot i) =
+    with_number (codes "error: C10 at ") i (codes ": scratch slot read before it is written\n")
 
 unfoldable pub capture_fault_text : CaptureFault → List ℕ
 capture_fault_text capture.FileHeaderCut = codes "error: P1 file header is cut\n"

@@ -15,7 +15,8 @@ byte_text b = joined (codes " " ∷ hex 2 b ∷ [])
 
 -- the offset, right in five places, and the bytes
 abbrev pub row_line : ℕ → List ℕ → List ℕ
-row_line at row = joined (spaces (5 - length (decimal at)) ∷ decimal at ∷ codes ":" ∷ flat_map byte_text row ∷ codes "\n" ∷ [])
+row_line at row =
+    joined (spaces (5 - length (decimal at)) ∷ decimal at ∷ codes ":" ∷ flat_map byte_text row ∷ codes "\n" ∷ [])
 
 -- row r, of 16 bytes or of those that are left
 abbrev pub row : List ℕ → ℕ → List ℕ
@@ -26,7 +27,8 @@ packet_rows bytes = texts_to (row bytes) (div_ceil (length bytes) 16)
 
 -- captured and original length
 abbrev pub length_line : ℕ → ℕ → List ℕ
-length_line captured wire = joined (codes "len: " ∷ decimal captured ∷ codes " wire: " ∷ decimal wire ∷ codes "\n" ∷ [])
+length_line captured wire =
+    joined (codes "len: " ∷ decimal captured ∷ codes " wire: " ∷ decimal wire ∷ codes "\n" ∷ [])
 
 abbrev pub packet_head : ℕ → ℕ → List ℕ
 packet_head captured wire = codes "-- packet dump --\n" ++ length_line captured wire

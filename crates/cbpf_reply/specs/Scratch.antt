@@ -1,4 +1,5 @@
--- The scratch memory in a dump: a line for each longest run of neighbouring slots of equal value (the kernel's `bpf_dbg` shows runs of zeros so; this layout is this project's own).
+-- The scratch memory in a dump: a line for each longest run of neighbouring slots of equal value
+-- (the kernel's `bpf_dbg` shows runs of zeros so; this layout is this project's own).
 use Rattle.std.specs.Prelude.{ℕ, suc, ◌==◌, if◌then◌else◌, List, [], ◌∷◌, decimal, codes}
 use Rattle.std.specs.List.{flat_map}
 use Rattle.cbpf_reply.specs.Columns.{value_line}
@@ -13,7 +14,8 @@ pub record Run : Type 0 where
 abbrev pub before : ℕ → ℕ → ℕ → List Run → List Run
 before i j v [] = record { first = i; last = j; value = v } ∷ []
 before i j v (r ∷ rs) =
-    if v == r.value then (record { first = i; last = r.last; value = v } ∷ rs) else (record { first = i; last = j; value = v } ∷ r ∷ rs)
+    if v == r.value then (record { first = i; last = r.last; value = v } ∷ rs)
+    else (record { first = i; last = j; value = v } ∷ r ∷ rs)
 
 -- the longest runs of neighbouring slots of equal value, where the first slot has number i
 unfoldable pub runs_from : ℕ → List ℕ → List Run

@@ -8,7 +8,8 @@ use Rattle.cbpf_reply.specs.declared.reply.Stop.{Stop}
 
 abbrev pub registers_text : Stop → List ℕ
 registers_text s =
-    joined (decimal s.place.packet ∷ codes " " ∷ decimal s.place.step ∷ codes " l" ∷ decimal s.state.pc ∷ codes " A " ∷ decimal s.state.a ∷ codes " X " ∷ decimal s.state.x ∷ codes " " ∷ [])
+    joined (decimal s.place.packet ∷ codes " " ∷ decimal s.place.step ∷ codes " l" ∷ decimal s.state.pc ∷ codes " A "
+    ∷ decimal s.state.a ∷ codes " X " ∷ decimal s.state.x ∷ codes " " ∷ [])
 
 unfoldable pub stop_line : Stop → List ℕ
 stop_line s = registers_text s ++ why_line s.why

@@ -1,5 +1,6 @@
 -- The instructions of a list of items, one by one.
-use Rattle.std.proofs.Common.{◌≡◌, refl, sym, ◌∙◌, ap, subst, ℕ, zero, suc, ◌+◌, ◌<◌, ◌≤◌, Bool, true, false, List, [], ◌∷◌, ◌++◌, length, map, take, drop, get_or, arith, eqb-true}
+use Rattle.std.proofs.Common.{◌≡◌, refl, sym, ◌∙◌, ap, subst, ℕ, zero, suc, ◌+◌, ◌<◌, ◌≤◌, Bool, true, false, List}
+use Rattle.std.proofs.Common.{[], ◌∷◌, ◌++◌, length, map, take, drop, get_or, arith, eqb-true}
 use Rattle.std.specs.Prelude.{All, ◌==◌, ◌||◌}
 use Rattle.std.proofs.lemmas.List.{append_assoc, take_more, length-take-le}
 use Rattle.std.proofs.lemmas.List.Elements.{All-append}
@@ -20,88 +21,121 @@ use Rattle.cbpf_text.proofs.Lists.{all_none, all_one, all_front, all_after, all_
 use Rattle.cbpf_text.proofs.Forms.{takes, form_takes}
 use Rattle.cbpf_text.proofs.Uses.{use_of, good_use, reported_more}
 
-none_of : (is : List Item) (index : ℕ) (short : Bool) (ts : List Lexeme) → (length ts == 0) ≡ true → All (IsGoodUse is) (map (use_of index short) ts)
+none_of : (is : List Item) (index : ℕ) (short : Bool) (ts : List Lexeme) → (length ts == 0) ≡ true
+    → All (IsGoodUse is) (map (use_of index short) ts)
 none_of is index short [] e = all_none (IsGoodUse is)
-none_of is index short (t ∷ ts) e = let k : suc (length ts) ≡ 0 = eqb-true (suc (length ts)) 0 e in absurd (omega (arith, k))
+none_of is index short (t ∷ ts) e = let k : suc (length ts) ≡ 0 = eqb-true (suc (length ts)) 0 e in
+    absurd (omega (arith, k))
 
 neither : (a b : Bool) → (a ≡ true → ⊥) → (b ≡ true → ⊥) → (a || b) ≡ true → ⊥
 neither true b h k e = h refl
 neither false true h k e = k refl
 neither false false h k e = let c : false ≡ true = e in cc
 
-fields_good : (is : List Item) (index : ℕ) (f : Fields) (k : ℕ) (ts : List Lexeme) (insn : Insn) → FillsFields f is index k ts insn → takes f (length ts) ≡ true → All (IsGoodUse is) (map (use_of index (is_conditional f)) ts)
+fields_good : (is : List Item) (index : ℕ) (f : Fields) (k : ℕ) (ts : List Lexeme) (insn : Insn)
+    → FillsFields f is index k ts insn → takes f (length ts) ≡ true
+    → All (IsGoodUse is) (map (use_of index (is_conditional f)) ts)
 fields_good is index Constant k ts insn p e = none_of is index false ts e
 fields_good is index Goto k [] insn p e = all_none (IsGoodUse is)
-fields_good is index Goto k (t ∷ []) insn p e = all_one (IsGoodUse is) (use_of index false t) (good_use is index t insn.k false p.2 (λ z. let c : false ≡ true = z in cc))
-fields_good is index Goto k (t ∷ u ∷ ts) insn p e = let n : suc (suc (length ts)) ≡ 1 = eqb-true (suc (suc (length ts))) 1 e in absurd (omega (arith, n))
+fields_good is index Goto k (t ∷ []) insn p e = all_one (IsGoodUse is) (use_of index false t)
+    (good_use is index t insn.k false p.2 (λ z. let c : false ≡ true = z in cc))
+fields_good is index Goto k (t ∷ u ∷ ts) insn p e =
+    let n : suc (suc (length ts)) ≡ 1 = eqb-true (suc (suc (length ts))) 1 e in
+    absurd (omega (arith, n))
 fields_good is index Branch k [] insn p e = all_none (IsGoodUse is)
-fields_good is index Branch k (t ∷ []) insn p e = all_one (IsGoodUse is) (use_of index true t) (good_use is index t insn.jt true p.0.is (λ z. p.0.short))
+fields_good is index Branch k (t ∷ []) insn p e =
+    all_one (IsGoodUse is) (use_of index true t) (good_use is index t insn.jt true p.0.is (λ z. p.0.short))
 fields_good is index Branch k (t ∷ u ∷ []) insn p e =
     All-append (IsGoodUse is) (use_of index true t ∷ []) (use_of index true u ∷ [])
     (all_one (IsGoodUse is) (use_of index true t) (good_use is index t insn.jt true p.0.is (λ z. p.0.short)))
     (all_one (IsGoodUse is) (use_of index true u) (good_use is index u insn.jf true p.1.is (λ z. p.1.short)))
-fields_good is index Branch k (t ∷ u ∷ v ∷ ts) insn p e = absurd (neither (suc (suc (suc (length ts))) == 1) (suc (suc (suc (length ts))) == 2)
-    (λ q. let n : suc (suc (suc (length ts))) ≡ 1 = eqb-true (suc (suc (suc (length ts)))) 1 q in absurd (omega (arith, n)))
-    (λ q. let n : suc (suc (suc (length ts))) ≡ 2 = eqb-true (suc (suc (suc (length ts)))) 2 q in absurd (omega (arith, n)))
-    e)
+fields_good is index Branch k (t ∷ u ∷ v ∷ ts) insn p e =
+    absurd (neither (suc (suc (suc (length ts))) == 1) (suc (suc (suc (length ts))) == 2)
+    (λ q. let n : suc (suc (suc (length ts))) ≡ 1 = eqb-true (suc (suc (suc (length ts)))) 1 q in
+    absurd (omega (arith, n)))
+    (λ q. let n : suc (suc (suc (length ts))) ≡ 2 = eqb-true (suc (suc (suc (length ts)))) 2 q in
+    absurd (omega (arith, n))) e)
 fields_good is index Swapped k [] insn p e = all_none (IsGoodUse is)
-fields_good is index Swapped k (t ∷ []) insn p e = all_one (IsGoodUse is) (use_of index true t) (good_use is index t insn.jf true p.1.is (λ z. p.1.short))
-fields_good is index Swapped k (t ∷ u ∷ ts) insn p e = let n : suc (suc (length ts)) ≡ 1 = eqb-true (suc (suc (length ts))) 1 e in absurd (omega (arith, n))
+fields_good is index Swapped k (t ∷ []) insn p e =
+    all_one (IsGoodUse is) (use_of index true t) (good_use is index t insn.jf true p.1.is (λ z. p.1.short))
+fields_good is index Swapped k (t ∷ u ∷ ts) insn p e =
+    let n : suc (suc (length ts)) ≡ 1 = eqb-true (suc (suc (length ts))) 1 e in
+    absurd (omega (arith, n))
 
 -- where the instructions are the items', no target is refused
-pub good_uses : (all : List Item) (index : ℕ) (is : List Item) (insns : List Insn) → EncodeEach all index is insns → All HasForm is → All (IsGoodUse all) (uses_from index is)
+pub good_uses : (all : List Item) (index : ℕ) (is : List Item) (insns : List Insn) → EncodeEach all index is insns
+    → All HasForm is → All (IsGoodUse all) (uses_from index is)
 good_uses all index [] insns p f = all_none (IsGoodUse all)
 good_uses all index (i ∷ is) [] p f = absurd p
 good_uses all index (i ∷ is) (insn ∷ insns) p f =
     All-append (IsGoodUse all) (uses_of index i) (uses_from (index + 1) is)
-    (fields_good all index i.row.fields (literal_in i) (targets_in i) insn p.0.fields (form_takes i (all_front HasForm i is f)))
+    (fields_good all index i.row.fields (literal_in i) (targets_in i) insn p.0.fields
+    (form_takes i (all_front HasForm i is f)))
     (good_uses all (index + 1) is insns p.1 (all_after HasForm i is f))
 
-each_more : (all : List Item) (k : ℕ) (is : List Item) (insns : List Insn) (item : Item) (insn : Insn) → EncodeEach all k is insns → IsEncoded all (k + length is) item insn → EncodeEach all k (is ++ (item ∷ [])) (insns ++ (insn ∷ []))
-each_more all k [] [] item insn p q = let e : k + 0 ≡ k = omega arith in (subst (λ n. IsEncoded all n item insn) e q, tt)
+each_more : (all : List Item) (k : ℕ) (is : List Item) (insns : List Insn) (item : Item) (insn : Insn)
+    → EncodeEach all k is insns → IsEncoded all (k + length is) item insn
+    → EncodeEach all k (is ++ (item ∷ [])) (insns ++ (insn ∷ []))
+each_more all k [] [] item insn p q = let e : k + 0 ≡ k = omega arith in
+    (subst (λ n. IsEncoded all n item insn) e q, tt)
 each_more all k [] (y ∷ insns) item insn p q = absurd p
 each_more all k (i ∷ is) [] item insn p q = absurd p
-each_more all k (i ∷ is) (y ∷ insns) item insn p q = let e : k + suc (length is) ≡ k + 1 + length is = omega arith in (p.0, each_more all (k + 1) is insns item insn p.1 (subst (λ n. IsEncoded all n item insn) e q))
+each_more all k (i ∷ is) (y ∷ insns) item insn p q = let e : k + suc (length is) ≡ k + 1 + length is = omega arith in
+    (p.0, each_more all (k + 1) is insns item insn p.1 (subst (λ n. IsEncoded all n item insn) e q))
 
-pub each_grows : (all is : List Item) (i : ℕ) (d : Item) (insns : List Insn) (insn : Insn) → i < length is → EncodeEach all 0 (take i is) insns → IsEncoded all i (get_or is i d) insn → EncodeEach all 0 (take (i + 1) is) (insns ++ (insn ∷ []))
+pub each_grows : (all is : List Item) (i : ℕ) (d : Item) (insns : List Insn) (insn : Insn) → i < length is
+    → EncodeEach all 0 (take i is) insns → IsEncoded all i (get_or is i d) insn
+    → EncodeEach all 0 (take (i + 1) is) (insns ++ (insn ∷ []))
 each_grows all is i d insns insn l p q =
     let m : i ≤ length is = omega (arith, l) in
     let n : length (take i is) ≡ i = length-take-le i is m in
     let z : 0 + i ≡ i = omega arith in
     subst (λ js. EncodeEach all 0 js (insns ++ (insn ∷ []))) (sym (take_more is i d l))
-    (each_more all 0 (take i is) insns (get_or is i d) insn p (subst (λ k. IsEncoded all k (get_or is i d) insn) (sym (ap (λ k. 0 + k) n ∙ z)) q))
+    (each_more all 0 (take i is) insns (get_or is i d) insn p
+    (subst (λ k. IsEncoded all k (get_or is i d) insn) (sym (ap (λ k. 0 + k) n ∙ z)) q))
 
-uses_split : (k : ℕ) (is : List Item) (i : ℕ) (d : Item) → i < length is → (rest : List Use) × (uses_from k is ≡ uses_from k (take i is) ++ (uses_of (k + i) (get_or is i d) ++ rest))
+uses_split : (k : ℕ) (is : List Item) (i : ℕ) (d : Item) → i < length is
+    → (rest : List Use) × (uses_from k is ≡ uses_from k (take i is) ++ (uses_of (k + i) (get_or is i d) ++ rest))
 uses_split k [] i d l = absurd (omega arith)
-uses_split k (x ∷ is) zero d l = let e : k ≡ k + 0 = omega arith in (uses_from (k + 1) is, ap (λ n. uses_of n x ++ uses_from (k + 1) is) e)
+uses_split k (x ∷ is) zero d l = let e : k ≡ k + 0 = omega arith in
+    (uses_from (k + 1) is, ap (λ n. uses_of n x ++ uses_from (k + 1) is) e)
 uses_split k (x ∷ is) (suc i) d l =
     let s = uses_split (k + 1) is i d (omega arith) in
     let e : k + 1 + i ≡ k + suc i = omega arith in (
       s.0,
-      ap (λ us. uses_of k x ++ us) (s.1 ∙ ap (λ n. uses_from (k + 1) (take i is) ++ (uses_of n (get_or is i d) ++ s.0)) e)
-          ∙ sym (append_assoc (uses_of k x) (uses_from (k + 1) (take i is)) (uses_of (k + suc i) (get_or is i d) ++ s.0)),
+      ap (λ us. uses_of k x ++ us)
+          (s.1 ∙ ap (λ n. uses_from (k + 1) (take i is) ++ (uses_of n (get_or is i d) ++ s.0)) e)
+          ∙ sym
+          (append_assoc (uses_of k x) (uses_from (k + 1) (take i is)) (uses_of (k + suc i) (get_or is i d) ++ s.0)),
     )
 
-bad_after : (all : List Item) (front uses rest : List Use) (kind : AsmKind) (at : ℕ) → All (IsGoodUse all) front → IsFirstBadUse all uses kind at → IsFirstBadUse all (front ++ (uses ++ rest)) kind at
+bad_after : (all : List Item) (front uses rest : List Use) (kind : AsmKind) (at : ℕ) → All (IsGoodUse all) front
+    → IsFirstBadUse all uses kind at → IsFirstBadUse all (front ++ (uses ++ rest)) kind at
 bad_after all front uses rest kind at g b = record {
   before = front ++ b.before;
   u = b.u;
   after = b.after ++ rest;
-  split = ap (λ us. front ++ (us ++ rest)) b.split ∙ (ap (λ us. front ++ us) (append_assoc b.before (b.u ∷ b.after) rest) ∙ sym (append_assoc front b.before (b.u ∷ (b.after ++ rest))));
+  split =
+      ap (λ us. front ++ (us ++ rest)) b.split ∙ (ap (λ us. front ++ us) (append_assoc b.before (b.u ∷ b.after) rest)
+      ∙ sym (append_assoc front b.before (b.u ∷ (b.after ++ rest))));
   good = All-append (IsGoodUse all) front b.before g b.good;
   bad = b.bad;
   place = b.place;
 }
 
 -- the first target that is refused, after items that have their instructions
-pub bad_among : (is : List Item) (i : ℕ) (d : Item) (insns : List Insn) (r : PlacedFault) → i < length is → All HasForm is → EncodeEach is 0 (take i is) insns → Reported (IsFirstBadUse is (uses_of i (get_or is i d))) r → Reported (IsFirstBadUse is (uses_from 0 is)) r
+pub bad_among : (is : List Item) (i : ℕ) (d : Item) (insns : List Insn) (r : PlacedFault) → i < length is
+    → All HasForm is → EncodeEach is 0 (take i is) insns → Reported (IsFirstBadUse is (uses_of i (get_or is i d))) r
+    → Reported (IsFirstBadUse is (uses_from 0 is)) r
 bad_among is i d insns r l f p h =
     let s = uses_split 0 is i d l in
     let z : 0 + i ≡ i = omega arith in
     let front = take i is in
-    let forms : All HasForm (take i is) = all_prefix HasForm (take i is) (get_or is i d ∷ drop (suc i) is) (subst (All HasForm) (split_at is i d l) f) in
+    let forms : All HasForm (take i is) =
+    all_prefix HasForm (take i is) (get_or is i d ∷ drop (suc i) is) (subst (All HasForm) (split_at is i d l) f) in
     reported_more (IsFirstBadUse is (uses_of i (get_or is i d))) (IsFirstBadUse is (uses_from 0 is)) r
-    (λ kind at b. subst (λ us. IsFirstBadUse is us kind at) (sym (s.1 ∙ ap (λ n. uses_from 0 front ++ (uses_of n (get_or is i d) ++ s.0)) z))
+    (λ kind at b. subst (λ us. IsFirstBadUse is us kind at)
+    (sym (s.1 ∙ ap (λ n. uses_from 0 front ++ (uses_of n (get_or is i d) ++ s.0)) z))
     (bad_after is (uses_from 0 front) (uses_of i (get_or is i d)) s.0 kind at (good_uses is 0 front insns p forms) b))
     h
 
@@ -112,13 +146,15 @@ statements_size [] (i ∷ is) p = absurd p
 statements_size (s ∷ ss) [] p = absurd p
 statements_size (s ∷ ss) (i ∷ is) p = ap suc (statements_size ss is p.1)
 
-pub statement_at : (ss : List Statement) (is : List Item) (k : ℕ) (d : Statement) (e : Item) → AreStatements ss is → k < length ss → IsStatement (get_or ss k d) (get_or is k e)
+pub statement_at : (ss : List Statement) (is : List Item) (k : ℕ) (d : Statement) (e : Item) → AreStatements ss is
+    → k < length ss → IsStatement (get_or ss k d) (get_or is k e)
 statement_at [] is k d e p l = absurd (omega (arith, l))
 statement_at (s ∷ ss) [] k d e p l = absurd p
 statement_at (s ∷ ss) (i ∷ is) zero d e p l = p.0
 statement_at (s ∷ ss) (i ∷ is) (suc k) d e p l = statement_at ss is k d e p.1 (omega (arith, l))
 
-pub statements_more : (ss : List Statement) (is : List Item) (s : Statement) (i : Item) → AreStatements ss is → IsStatement s i → AreStatements (ss ++ (s ∷ [])) (is ++ (i ∷ []))
+pub statements_more : (ss : List Statement) (is : List Item) (s : Statement) (i : Item) → AreStatements ss is
+    → IsStatement s i → AreStatements (ss ++ (s ∷ [])) (is ++ (i ∷ []))
 statements_more [] [] s i p q = (q, tt)
 statements_more [] (j ∷ is) s i p q = absurd p
 statements_more (t ∷ ss) [] s i p q = absurd p

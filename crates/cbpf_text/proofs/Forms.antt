@@ -1,5 +1,6 @@
 -- Items by their forms: how many targets each has, and its mnemonic.
-use Rattle.std.proofs.Common.{◌≡◌, refl, ◌∙◌, ap, ℕ, zero, suc, ◌+◌, Bool, true, false, List, [], ◌∷◌, ◌++◌, length, drop, arith}
+use Rattle.std.proofs.Common.{◌≡◌, refl, ◌∙◌, ap, ℕ, zero, suc, ◌+◌, Bool, true, false, List, [], ◌∷◌, ◌++◌, length}
+use Rattle.std.proofs.Common.{drop, arith}
 use Rattle.std.specs.Prelude.{All, Contains, ◌==◌, ◌||◌}
 use Rattle.std.specs.List.{list_all}
 use Rattle.std.proofs.lemmas.Bool.{and_parts}
@@ -46,7 +47,8 @@ names_count [] (t ∷ ts) e = refl
 names_count (c ∷ cs) [] e = let k : false ≡ true = e in cc
 names_count (c ∷ cs) (t ∷ ts) e = by_class c (names_count cs ts (and_parts (fits c t.symbol) (fits_all cs ts) e).1)
   where
-    by_class : (c : Class) → length (names_at cs ts) ≡ names_in cs → length (names_at (c ∷ cs) (t ∷ ts)) ≡ one_if c + names_in cs
+    by_class : (c : Class) → length (names_at cs ts) ≡ names_in cs
+        → length (names_at (c ∷ cs) (t ∷ ts)) ≡ one_if c + names_in cs
     by_class (the_word w) h = omega (arith, h)
     by_class (the_mark b) h = omega (arith, h)
     by_class literal h = omega (arith, h)
@@ -57,9 +59,11 @@ names_count (c ∷ cs) (t ∷ ts) e = by_class c (names_count cs ts (and_parts (
 
 -- an instruction has as many targets as its fields take
 pub form_takes : (item : Item) → HasForm item → takes item.row.fields (length (targets_in item)) ≡ true
-form_takes item h = ap (takes item.row.fields) (names_count (classes item.row) item.body h.fits) ∙ row_takes item.row h.known
+form_takes item h =
+    ap (takes item.row.fields) (names_count (classes item.row) item.body h.fits) ∙ row_takes item.row h.known
 
-after_labels : (n : ℕ) (cs : List Class) (ts : List Lexeme) → fits_all (label_classes n ++ cs) ts ≡ true → fits_all cs (drop (n + n) ts) ≡ true
+after_labels : (n : ℕ) (cs : List Class) (ts : List Lexeme) → fits_all (label_classes n ++ cs) ts ≡ true
+    → fits_all cs (drop (n + n) ts) ≡ true
 after_labels zero cs ts e = e
 after_labels (suc n) cs [] e = let k : false ≡ true = e in cc
 after_labels (suc n) cs (t ∷ []) e = let k : false ≡ true = (and_parts (fits name t.symbol) false e).1 in cc
@@ -70,5 +74,6 @@ after_labels (suc n) cs (t ∷ u ∷ ts) e =
 -- the items of a token list have their forms
 pub items_forms : (ts : List Lexeme) (is : List Item) → Items ts is → All HasForm is
 items_forms ts [] p k d l = absurd (omega arith)
-items_forms ts (i ∷ is) p zero d l = let f : Form p.0 i = p.3 in record { known = f.row; fits = rw f.body (after_labels f.count (classes i.row) p.0 f.fits) }
+items_forms ts (i ∷ is) p zero d l = let f : Form p.0 i = p.3 in
+    record { known = f.row; fits = rw f.body (after_labels f.count (classes i.row) p.0 f.fits) }
 items_forms ts (i ∷ is) p (suc k) d l = items_forms p.1 is p.4 k d (omega arith)

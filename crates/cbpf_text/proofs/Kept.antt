@@ -1,5 +1,7 @@
 -- What is kept of items that are read one by one: statements, and labels with their places.
-use Rattle.std.proofs.Common.{◌≡◌, refl, sym, ◌∙◌, ap, subst, ℕ, zero, suc, ◌+◌, ◌<◌, true, false, List, [], ◌∷◌, ◌++◌, length, map, get_or, Option, Some, None, arith, append_assoc, append-nil, length-append}
+use Rattle.std.proofs.Common.{◌≡◌, refl, sym, ◌∙◌, ap, subst, ℕ, zero, suc, ◌+◌, ◌<◌, true, false, List, [], ◌∷◌}
+use Rattle.std.proofs.Common.{◌++◌, length, map, get_or, Option, Some, None, arith, append_assoc, append-nil}
+use Rattle.std.proofs.Common.{length-append}
 use Rattle.std.specs.Prelude.{slice_get, is_some}
 use Rattle.std.proofs.lemmas.List.{map-append}
 use Rattle.cbpf_grammar.specs.declared.lexeme.Lexeme as declared_lexeme
@@ -20,14 +22,18 @@ use Rattle.cbpf_text.proofs.LabelSteps.{words_from}
 use Rattle.cbpf_text.proofs.Lookups.{lookup_found}
 
 -- the labels of one more item
-pub labels_snoc : (k : ℕ) (is : List Item) (i : Item) → labels_from k (is ++ (i ∷ [])) ≡ labels_from k is ++ labels_of (k + length is) i.labels
-labels_snoc k [] i = let e : k ≡ k + 0 = omega arith in append-nil (labels_of k i.labels) ∙ ap (λ n. labels_of n i.labels) e
+pub labels_snoc : (k : ℕ) (is : List Item) (i : Item)
+    → labels_from k (is ++ (i ∷ [])) ≡ labels_from k is ++ labels_of (k + length is) i.labels
+labels_snoc k [] i = let e : k ≡ k + 0 = omega arith in
+    append-nil (labels_of k i.labels) ∙ ap (λ n. labels_of n i.labels) e
 labels_snoc k (x ∷ is) i =
     let e : k + 1 + length is ≡ k + suc (length is) = omega arith in
-    ap (λ ls. labels_of k x.labels ++ ls) (labels_snoc (k + 1) is i ∙ ap (λ n. labels_from (k + 1) is ++ labels_of n i.labels) e)
+    ap (λ ls. labels_of k x.labels ++ ls)
+    (labels_snoc (k + 1) is i ∙ ap (λ n. labels_from (k + 1) is ++ labels_of n i.labels) e)
     ∙ sym (append_assoc (labels_of k x.labels) (labels_from (k + 1) is) (labels_of (k + suc (length is)) i.labels))
 
-get_front : (is : List Item) (js : List Item) (k : ℕ) (i : Item) → slice_get is k ≡ Some i → slice_get (is ++ js) k ≡ Some i
+get_front : (is : List Item) (js : List Item) (k : ℕ) (i : Item) → slice_get is k ≡ Some i
+    → slice_get (is ++ js) k ≡ Some i
 get_front [] js k i e = cc
 get_front (x ∷ is) js zero i e = e
 get_front (x ∷ is) js (suc k) i e = get_front is js k i e
@@ -37,82 +43,126 @@ get_last [] i = refl
 get_last (x ∷ is) i = get_last is i
 
 -- what is kept where nothing more is
-pub kept_skip : (o : Option ℕ) (ss : List Statement) (rep : Option ℕ) (look : Name → Option ℕ) (is : List Item) (v w : List Lexeme) → true ≡ is_some o → IsDraft o ss rep look is v → IsDraft o ss rep look is w
+pub kept_skip : (o : Option ℕ) (ss : List Statement) (rep : Option ℕ) (look : Name → Option ℕ) (is : List Item)
+    (v w : List Lexeme) → true ≡ is_some o → IsDraft o ss rep look is v → IsDraft o ss rep look is w
 kept_skip None ss rep look is v w e d = let k : true ≡ false = e in cc
 kept_skip (Some at) ss rep look is v w e d = d
 
-pub kept_past : (o : Option ℕ) (ss : List Statement) (rep : Option ℕ) (look : Name → Option ℕ) (is : List Item) (i : Item) (v w : List Lexeme) → true ≡ is_some o → IsDraft o ss rep look is v → IsDraft o ss rep look (is ++ (i ∷ [])) w
+pub kept_past : (o : Option ℕ) (ss : List Statement) (rep : Option ℕ) (look : Name → Option ℕ) (is : List Item)
+    (i : Item) (v w : List Lexeme)
+    → true ≡ is_some o → IsDraft o ss rep look is v → IsDraft o ss rep look (is ++ (i ∷ [])) w
 kept_past None ss rep look is i v w e d = let k : true ≡ false = e in cc
-kept_past (Some at) ss rep look is i v w e d = record { item = d.item; mnemonic = d.mnemonic; found = get_front is (i ∷ []) 4096 d.item d.found; first = d.first; place = d.place }
+kept_past (Some at) ss rep look is i v w e d = record {
+  item = d.item;
+  mnemonic = d.mnemonic;
+  found = get_front is (i ∷ []) 4096 d.item d.found;
+  first = d.first;
+  place = d.place;
+}
 
 pub none_if : (o : Option ℕ) → false ≡ is_some o → o ≡ None
 none_if None e = refl
 none_if (Some x) e = let k : false ≡ true = e in cc
 
 -- one more label
-pub kept_label : (ss : List Statement) (rep rep2 : Option ℕ) (look look2 : Name → Option ℕ) (is : List Item) (ls ms : List Lexeme) (word : Lexeme) (place : ℕ) → IsKept ss rep look is ls → place ≡ length ss → label_words ms ≡ label_words ls ++ (word ∷ [])
-    → ((all : List Label) → AreSet all rep look → AreSet (all ++ (record { word = word; place = place } ∷ [])) rep2 look2) → IsKept ss rep2 look2 is ms
+pub kept_label : (ss : List Statement) (rep rep2 : Option ℕ) (look look2 : Name → Option ℕ) (is : List Item)
+    (ls ms : List Lexeme) (word : Lexeme) (place : ℕ)
+    → IsKept ss rep look is ls → place ≡ length ss → label_words ms ≡ label_words ls ++ (word ∷ [])
+    → ((all : List Label) → AreSet all rep look
+    → AreSet (all ++ (record { word = word; place = place } ∷ [])) rep2 look2)
+    → IsKept ss rep2 look2 is ms
 kept_label ss rep rep2 look look2 is ls ms word place k e w more =
     let n : place ≡ length is = e ∙ statements_size ss is k.same in
-    let joined : (labels_from 0 is ++ labels_of (length is) (label_words ls)) ++ (record { word = word; place = place } ∷ []) ≡ labels_from 0 is ++ labels_of (length is) (label_words ms) =
-    append_assoc (labels_from 0 is) (labels_of (length is) (label_words ls)) (record { word = word; place = place } ∷ [])
-    ∙ ap (λ us. labels_from 0 is ++ us) (ap (λ q. labels_of (length is) (label_words ls) ++ labels_of q (word ∷ [])) n ∙ (sym (map-append (λ (t : Lexeme). record { word = t; place = length is }) (label_words ls) (word ∷ [])) ∙ ap (λ us. labels_of (length is) us) (sym w))) in
+    let joined : (labels_from 0 is ++ labels_of (length is) (label_words ls))
+    ++ (record { word = word; place = place } ∷ []) ≡ labels_from 0 is ++ labels_of (length is) (label_words ms) =
+    append_assoc (labels_from 0 is) (labels_of (length is) (label_words ls))
+    (record { word = word; place = place } ∷ [])
+    ∙ ap (λ us. labels_from 0 is ++ us) (ap (λ q. labels_of (length is) (label_words ls) ++ labels_of q (word ∷ [])) n
+    ∙ (sym (map-append (λ (t : Lexeme). record { word = t; place = length is }) (label_words ls) (word ∷ []))
+    ∙ ap (λ us. labels_of (length is) us) (sym w))) in
     record {
       same = k.same;
-      set = subst (λ (us : List Label). AreSet us rep2 look2) joined (more (labels_from 0 is ++ labels_of (length is) (label_words ls)) k.set);
+      set = subst (λ (us : List Label). AreSet us rep2 look2) joined
+          (more (labels_from 0 is ++ labels_of (length is) (label_words ls)) k.set);
       most = k.most;
     }
 
 -- one more item
-pub kept_item : (ss : List Statement) (rep : Option ℕ) (look : Name → Option ℕ) (is : List Item) (ls : List Lexeme) (s : Statement) (i : Item) → IsKept ss rep look is ls → IsStatement s i → i.labels ≡ label_words ls → length ss < 4096 → IsKept (ss ++ (s ∷ [])) rep look (is ++ (i ∷ [])) []
+pub kept_item : (ss : List Statement) (rep : Option ℕ) (look : Name → Option ℕ) (is : List Item) (ls : List Lexeme)
+    (s : Statement) (i : Item) → IsKept ss rep look is ls → IsStatement s i → i.labels ≡ label_words ls
+    → length ss < 4096 → IsKept (ss ++ (s ∷ [])) rep look (is ++ (i ∷ [])) []
 kept_item ss rep look is ls s i k t e l =
     let z : 0 + length is ≡ length is = omega arith in
     record {
       same = statements_more ss is s i k.same t;
-      set = subst (λ (us : List Label). AreSet us rep look) (ap (λ us. labels_from 0 is ++ labels_of (length is) us) (sym e) ∙ (ap (λ q. labels_from 0 is ++ labels_of q i.labels) (sym z) ∙ (sym (labels_snoc 0 is i) ∙ sym (append-nil (labels_from 0 (is ++ (i ∷ []))))))) k.set;
+      set = subst (λ (us : List Label). AreSet us rep look) (ap (λ us. labels_from 0 is ++ labels_of (length is) us)
+          (sym e) ∙ (ap (λ q. labels_from 0 is ++ labels_of q i.labels) (sym z)
+          ∙ (sym (labels_snoc 0 is i) ∙ sym (append-nil (labels_from 0 (is ++ (i ∷ []))))))) k.set;
       most = omega (arith, l, statements_size ss is k.same, length-append is (i ∷ []));
     }
 
 -- the 4097th item
-pub kept_excess : (ss : List Statement) (rep : Option ℕ) (look : Name → Option ℕ) (is : List Item) (ls : List Lexeme) (i : Item) (body : List declared_lexeme.Lexeme) (d : declared_lexeme.Lexeme) → IsKept ss rep look is ls → length ss ≡ 4096 → i.body ≡ map lexeme_of body → 0 < length body → IsExcess (is ++ (i ∷ [])) (get_or body 0 d).at
+pub kept_excess : (ss : List Statement) (rep : Option ℕ) (look : Name → Option ℕ) (is : List Item) (ls : List Lexeme)
+    (i : Item) (body : List declared_lexeme.Lexeme) (d : declared_lexeme.Lexeme)
+    → IsKept ss rep look is ls → length ss ≡ 4096 → i.body ≡ map lexeme_of body → 0 < length body
+    → IsExcess (is ++ (i ∷ [])) (get_or body 0 d).at
 kept_excess ss rep look is ls i [] d k e b l = absurd (omega (arith, l))
 kept_excess ss rep look is ls i (t ∷ body) d k e b l =
     let n : length is ≡ 4096 = sym (statements_size ss is k.same) ∙ e in
-    record { item = i; mnemonic = lexeme_of t; found = ap (λ q. slice_get (is ++ (i ∷ [])) q) (sym n) ∙ get_last is i; first = ap (λ us. slice_get us 0) b; place = refl }
+    record {
+      item = i;
+      mnemonic = lexeme_of t;
+      found = ap (λ q. slice_get (is ++ (i ∷ [])) q) (sym n) ∙ get_last is i;
+      first = ap (λ us. slice_get us 0) b;
+      place = refl;
+    }
 
 -- what a draft says of its items
-pub draft_many : (o : Option ℕ) (at : ℕ) (ss : List Statement) (rep : Option ℕ) (look : Name → Option ℕ) (is : List Item) (w : List Lexeme) → o ≡ Some at → IsDraft o ss rep look is w → IsItemsFault is kinds.TooMany at
+pub draft_many : (o : Option ℕ) (at : ℕ) (ss : List Statement) (rep : Option ℕ) (look : Name → Option ℕ)
+    (is : List Item) (w : List Lexeme) → o ≡ Some at → IsDraft o ss rep look is w → IsItemsFault is kinds.TooMany at
 draft_many o at ss rep look is w e d =
     let x : IsExcess is at = subst (λ p. IsDraft p ss rep look is w) e d in
     subst (λ a. IsItemsFault is kinds.TooMany a) (sym x.place) (too_many x.item x.mnemonic x.found x.first)
 
-pub draft_kept : (o : Option ℕ) (ss : List Statement) (rep : Option ℕ) (look : Name → Option ℕ) (is : List Item) (w : List Lexeme) → ((x : ℕ) → o ≡ Some x → ⊥) → IsDraft o ss rep look is w → IsKept ss rep look is w
+pub draft_kept : (o : Option ℕ) (ss : List Statement) (rep : Option ℕ) (look : Name → Option ℕ) (is : List Item)
+    (w : List Lexeme) → ((x : ℕ) → o ≡ Some x → ⊥) → IsDraft o ss rep look is w → IsKept ss rep look is w
 draft_kept None ss rep look is w h d = d
 draft_kept (Some x) ss rep look is w h d = absurd (h x refl)
 
-pub kept_none : (ss : List Statement) (rep : Option ℕ) (look : Name → Option ℕ) (is : List Item) → IsKept ss rep look is [] → length ss ≡ 0 → IsItemsFault is kinds.NoInstruction 0
+pub kept_none : (ss : List Statement) (rep : Option ℕ) (look : Name → Option ℕ) (is : List Item)
+    → IsKept ss rep look is [] → length ss ≡ 0 → IsItemsFault is kinds.NoInstruction 0
 kept_none ss rep look [] k e = no_item refl
-kept_none ss rep look (i ∷ is) k e = let n : length ss ≡ suc (length is) = statements_size ss (i ∷ is) k.same in absurd (omega (arith, e, n))
+kept_none ss rep look (i ∷ is) k e = let n : length ss ≡ suc (length is) = statements_size ss (i ∷ is) k.same in
+    absurd (omega (arith, e, n))
 
-pub kept_length : (ss : List Statement) (rep : Option ℕ) (look : Name → Option ℕ) (is : List Item) → IsKept ss rep look is [] → (length ss ≡ 0 → ⊥) → HasProgramLength is
+pub kept_length : (ss : List Statement) (rep : Option ℕ) (look : Name → Option ℕ) (is : List Item)
+    → IsKept ss rep look is [] → (length ss ≡ 0 → ⊥) → HasProgramLength is
 kept_length ss rep look [] k z = absurd (z (statements_size ss [] k.same))
 kept_length ss rep look (i ∷ is) k z = record { some = omega arith; most = k.most }
 
-kept_labels : (ss : List Statement) (rep : Option ℕ) (look : Name → Option ℕ) (is : List Item) → IsKept ss rep look is [] → AreSet (labels_from 0 is) rep look
+kept_labels : (ss : List Statement) (rep : Option ℕ) (look : Name → Option ℕ) (is : List Item)
+    → IsKept ss rep look is [] → AreSet (labels_from 0 is) rep look
 kept_labels ss rep look is k = subst (λ (us : List Label). AreSet us rep look) (append-nil (labels_from 0 is)) k.set
 
 -- where a label is set a second time, and where none is
-pub kept_repeat : (ss : List Statement) (rep : Option ℕ) (look : Name → Option ℕ) (is : List Item) (at : ℕ) → rep ≡ Some at → HasProgramLength is → IsKept ss rep look is [] → IsItemsFault is kinds.LabelSetTwice at
+pub kept_repeat : (ss : List Statement) (rep : Option ℕ) (look : Name → Option ℕ) (is : List Item) (at : ℕ)
+    → rep ≡ Some at → HasProgramLength is → IsKept ss rep look is [] → IsItemsFault is kinds.LabelSetTwice at
 kept_repeat ss rep look is at e limits k =
-    let s : AreSet (labels_from 0 is) (Some at) look = subst (λ o. AreSet (labels_from 0 is) o look) e (kept_labels ss rep look is k) in
-    subst (λ a. IsItemsFault is kinds.LabelSetTwice a) (sym s.1) (set_twice s.0 limits (subst (λ ts. IsFirstRepeat ts s.0) (words_from 0 is) s.2))
+    let s : AreSet (labels_from 0 is) (Some at) look =
+    subst (λ o. AreSet (labels_from 0 is) o look) e (kept_labels ss rep look is k) in
+    subst (λ a. IsItemsFault is kinds.LabelSetTwice a) (sym s.1)
+    (set_twice s.0 limits (subst (λ ts. IsFirstRepeat ts s.0) (words_from 0 is) s.2))
 
-kept_once : (ss : List Statement) (rep : Option ℕ) (look : Name → Option ℕ) (is : List Item) → ((x : ℕ) → rep ≡ Some x → ⊥) → IsKept ss rep look is [] → AreSet (labels_from 0 is) None look
+kept_once : (ss : List Statement) (rep : Option ℕ) (look : Name → Option ℕ) (is : List Item)
+    → ((x : ℕ) → rep ≡ Some x → ⊥) → IsKept ss rep look is [] → AreSet (labels_from 0 is) None look
 kept_once ss None look is none k = kept_labels ss None look is k
 kept_once ss (Some x) look is none k = absurd (none x refl)
 
-pub kept_distinct : (ss : List Statement) (rep : Option ℕ) (look : Name → Option ℕ) (is : List Item) → ((x : ℕ) → rep ≡ Some x → ⊥) → IsKept ss rep look is [] → AreDistinct (set_labels is)
+pub kept_distinct : (ss : List Statement) (rep : Option ℕ) (look : Name → Option ℕ) (is : List Item)
+    → ((x : ℕ) → rep ≡ Some x → ⊥) → IsKept ss rep look is [] → AreDistinct (set_labels is)
 kept_distinct ss rep look is none k = subst AreDistinct (words_from 0 is) (kept_once ss rep look is none k).1
 
-pub kept_resolves : (ss : List Statement) (rep : Option ℕ) (look : Name → Option ℕ) (is : List Item) → ((x : ℕ) → rep ≡ Some x → ⊥) → IsKept ss rep look is [] → Resolves is look
-kept_resolves ss rep look is none k j = lookup_found is j.bytes.now (look j) (kept_distinct ss rep look is none k) (sym ((kept_once ss rep look is none k).0 j))
+pub kept_resolves : (ss : List Statement) (rep : Option ℕ) (look : Name → Option ℕ) (is : List Item)
+    → ((x : ℕ) → rep ≡ Some x → ⊥) → IsKept ss rep look is [] → Resolves is look
+kept_resolves ss rep look is none k j = lookup_found is j.bytes.now (look j) (kept_distinct ss rep look is none k)
+    (sym ((kept_once ss rep look is none k).0 j))

@@ -1,5 +1,6 @@
 -- The labels of items, one more at a time.
-use Rattle.std.proofs.Common.{◌≡◌, ◌≢◌, refl, sym, ◌∙◌, ap, ℕ, ◌+◌, true, false, cond, subst, List, [], ◌∷◌, ◌++◌, Option, Some, None, append_assoc}
+use Rattle.std.proofs.Common.{◌≡◌, ◌≢◌, refl, sym, ◌∙◌, ap, ℕ, ◌+◌, true, false, cond, subst, List, [], ◌∷◌, ◌++◌}
+use Rattle.std.proofs.Common.{Option, Some, None, append_assoc}
 use Rattle.std.specs.Prelude.{is_some, bytes_eq}
 use Rattle.std.proofs.lemmas.List.{map-append}
 use Rattle.cbpf_grammar.specs.Lexemes.{Lexeme}
@@ -17,7 +18,8 @@ words_of place (t ∷ ts) = ap (λ us. t ∷ us) (words_of place ts)
 -- the labels of items are those that the items set
 pub words_from : (k : ℕ) (is : List Item) → words (labels_from k is) ≡ set_labels is
 words_from k [] = refl
-words_from k (i ∷ is) = map-append (λ (l : Label). l.word) (labels_of k i.labels) (labels_from (k + 1) is) ∙ (λ j. words_of k i.labels j ++ words_from (k + 1) is j)
+words_from k (i ∷ is) = map-append (λ (l : Label). l.word) (labels_of k i.labels) (labels_from (k + 1) is)
+    ∙ (λ j. words_of k i.labels j ++ words_from (k + 1) is j)
 
 is_some_false : (o : Option ℕ) → false ≡ is_some o → o ≡ None
 is_some_false None e = refl
@@ -31,7 +33,8 @@ words_more : (ls : List Label) (l : Label) → words (ls ++ (l ∷ [])) ≡ word
 words_more ls l = map-append (λ (k : Label). k.word) ls (l ∷ [])
 
 -- a label after the first that is set a second time
-pub set_past : (ls : List Label) (l : Label) (rep : Option ℕ) (look : Name → Option ℕ) → true ≡ is_some rep → AreSet ls rep look → AreSet (ls ++ (l ∷ [])) rep look
+pub set_past : (ls : List Label) (l : Label) (rep : Option ℕ) (look : Name → Option ℕ) → true ≡ is_some rep
+    → AreSet ls rep look → AreSet (ls ++ (l ∷ [])) rep look
 set_past ls l None look e s = let k : true ≡ false = e in cc
 set_past ls l (Some at) look e s = (
   s.0,
@@ -39,14 +42,17 @@ set_past ls l (Some at) look e s = (
   record {
     before = s.2.before;
     after = s.2.after ++ (l.word ∷ []);
-    split = words_more ls l ∙ (ap (λ us. us ++ (l.word ∷ [])) s.2.split ∙ append_assoc s.2.before (s.0 ∷ s.2.after) (l.word ∷ []));
+    split = words_more ls l
+        ∙ (ap (λ us. us ++ (l.word ∷ [])) s.2.split ∙ append_assoc s.2.before (s.0 ∷ s.2.after) (l.word ∷ []));
     distinct = s.2.distinct;
     given = s.2.given;
   },
 )
 
 -- the first label that is set a second time
-pub set_again : (ls : List Label) (l : Label) (rep : Option ℕ) (look look2 : Name → Option ℕ) (k : Name) → false ≡ is_some rep → AreSet ls rep look → k.bytes.now ≡ name_of l.word → true ≡ is_some (look k) → AreSet (ls ++ (l ∷ [])) (Some l.word.at) look2
+pub set_again : (ls : List Label) (l : Label) (rep : Option ℕ) (look look2 : Name → Option ℕ) (k : Name)
+    → false ≡ is_some rep → AreSet ls rep look → k.bytes.now ≡ name_of l.word → true ≡ is_some (look k)
+    → AreSet (ls ++ (l ∷ [])) (Some l.word.at) look2
 set_again ls l (Some at) look look2 k e s n h = let q : false ≡ true = e in cc
 set_again ls l None look look2 k e s n h =
     let x = is_some_true (look k) h in (
@@ -62,11 +68,17 @@ set_again ls l None look look2 k e s n h =
     )
 
 -- a label of a new name
-pub set_new : (ls : List Label) (l : Label) (rep : Option ℕ) (look look2 : Name → Option ℕ) (k : Name) → false ≡ is_some rep → AreSet ls rep look → k.bytes.now ≡ name_of l.word → false ≡ is_some (look k)
-    → ((j : Name) → look2 j ≡ cond (bytes_eq k.bytes.now j.bytes.now) (Some l.place) (look j)) → AreSet (ls ++ (l ∷ [])) rep look2
+pub set_new : (ls : List Label) (l : Label) (rep : Option ℕ) (look look2 : Name → Option ℕ) (k : Name)
+    → false ≡ is_some rep → AreSet ls rep look → k.bytes.now ≡ name_of l.word → false ≡ is_some (look k)
+    → ((j : Name) → look2 j ≡ cond (bytes_eq k.bytes.now j.bytes.now) (Some l.place) (look j))
+    → AreSet (ls ++ (l ∷ [])) rep look2
 set_new ls l (Some at) look look2 k e s n h up = let q : false ≡ true = e in cc
 set_new ls l None look look2 k e s n h up =
-    let new : place_among ls (name_of l.word) ≡ None = ap (place_among ls) (sym n) ∙ (sym (s.0 k) ∙ is_some_false (look k) h) in (
-      λ j. up j ∙ (ap (λ o. cond (bytes_eq k.bytes.now j.bytes.now) (Some l.place) o) (s.0 j) ∙ (ap (λ w. cond (bytes_eq w j.bytes.now) (Some l.place) (place_among ls j.bytes.now)) n ∙ place_more ls l j.bytes.now new)),
-      subst AreDistinct (sym (words_more ls l)) (distinct_more (words ls) l.word s.1 (no_place ls (name_of l.word) new)),
+    let new : place_among ls (name_of l.word) ≡ None =
+    ap (place_among ls) (sym n) ∙ (sym (s.0 k) ∙ is_some_false (look k) h) in (
+      λ j. up j ∙ (ap (λ o. cond (bytes_eq k.bytes.now j.bytes.now) (Some l.place) o) (s.0 j)
+          ∙ (ap (λ w. cond (bytes_eq w j.bytes.now) (Some l.place) (place_among ls j.bytes.now)) n
+          ∙ place_more ls l j.bytes.now new)),
+      subst AreDistinct (sym (words_more ls l))
+          (distinct_more (words ls) l.word s.1 (no_place ls (name_of l.word) new)),
     )

@@ -1,5 +1,6 @@
 -- The labels and numbers of a listing, as segments.
-use Rattle.std.proofs.Common.{◌≡◌, ℕ, zero, suc, ◌^◌, ◌<◌, ◌≤◌, Bool, true, false, not, ◌&&◌, List, [], ◌∷◌, length, refl, ap, arith, lit<, Some, eqb-true, rules}
+use Rattle.std.proofs.Common.{◌≡◌, ℕ, zero, suc, ◌^◌, ◌<◌, ◌≤◌, Bool, true, false, not, ◌&&◌, List, [], ◌∷◌, length}
+use Rattle.std.proofs.Common.{refl, ap, arith, lit<, Some, eqb-true, rules}
 use Rattle.std.specs.Prelude.{◌==◌, nat_le, decimal, bytes_eq}
 use Rattle.std.specs.List.{list_all}
 use Rattle.std.proofs.lemmas.Fmt.{decimal_nonempty}
@@ -36,11 +37,16 @@ differs d ds (a ∷ b ∷ bs) h e = by_test (d == b) refl
   where
     by_test : (t : Bool) → (d == b) ≡ t → (108 == a && (t && bytes_eq ds bs)) ≡ false
     by_test false q = and-false (108 == a)
-    by_test true q = let k : not (is_digit d) ≡ true = rw (← eqb-true d b q) at e in let z : not true ≡ true = rw h at k in cc
+    by_test true q = let k : not (is_digit d) ≡ true = rw (← eqb-true d b q) at e in
+        let z : not true ≡ true = rw h at k in
+        cc
 
-none_differs : (d : ℕ) (ds : List ℕ) (ws : List (List ℕ)) → is_digit d ≡ true → list_all second_no_digit ws ≡ true → is_one_of ws (108 ∷ d ∷ ds) ≡ false
+none_differs : (d : ℕ) (ds : List ℕ) (ws : List (List ℕ)) → is_digit d ≡ true → list_all second_no_digit ws ≡ true
+    → is_one_of ws (108 ∷ d ∷ ds) ≡ false
 none_differs d ds [] h e = refl
-none_differs d ds (w ∷ ws) h e = let q : (second_no_digit w ≡ true) × (list_all second_no_digit ws ≡ true) = and_parts (second_no_digit w) _ e in rw (differs d ds w h q.0, none_differs d ds ws h q.1) refl
+none_differs d ds (w ∷ ws) h e =
+    let q : (second_no_digit w ≡ true) × (list_all second_no_digit ws ≡ true) = and_parts (second_no_digit w) _ e in
+    rw (differs d ds w h q.0, none_differs d ds ws h q.1) refl
 
 mnemonics_differ : list_all second_no_digit mnemonic_words ≡ true
 unfolding mnemonics
@@ -54,7 +60,11 @@ free_digits : (ds : List ℕ) → list_all is_digit ds ≡ true → 0 < length d
 free_digits [] h l = absurd (omega arith)
 free_digits (d ∷ ds) h l =
     let q : is_digit d ≡ true = (and_parts (is_digit d) _ h).0 in
-    rw (none_differs d ds mnemonic_words q mnemonics_differ, none_differs d ds extension_names q names_differ, none_differs d ds operand_words q refl) refl
+    rw (
+      none_differs d ds mnemonic_words q mnemonics_differ,
+      none_differs d ds extension_names q names_differ,
+      none_differs d ds operand_words q refl,
+    ) refl
 
 label_free : (i : ℕ) → i < 2 ^ 64 → is_reserved (label_name i) ≡ false
 label_free i l = free_digits (decimal i) (decimal_digits i l) (decimal_nonempty i l)
@@ -88,7 +98,8 @@ spelled (b ∷ bs) l = refl
 pub spelled_decimal : (k : ℕ) → k < 2 ^ 64 → first (decimal k) ∷ rest (decimal k) ≡ decimal k
 spelled_decimal k l = spelled (decimal k) (decimal_nonempty k l)
 
-number_segment : (w : List ℕ) (n : ℕ) → 0 < length w → list_all is_digit w ≡ true → list_all is_name_byte w ≡ true → number_value w ≡ Some n → n < 2 ^ 32 → IsSegment (number (first w) (rest w) n)
+number_segment : (w : List ℕ) (n : ℕ) → 0 < length w → list_all is_digit w ≡ true → list_all is_name_byte w ≡ true
+    → number_value w ≡ Some n → n < 2 ^ 32 → IsSegment (number (first w) (rest w) n)
 number_segment [] n l d a v m = absurd (omega arith)
 number_segment (b ∷ bs) n l d a v m =
     let p = and_parts (is_digit b) _ d in
@@ -97,7 +108,8 @@ number_segment (b ∷ bs) n l d a v m =
 pub is_decimal_segment : (k : ℕ) → k < 2 ^ 32 → IsSegment (decimal_segment k)
 is_decimal_segment k l =
     let m : k < 2 ^ 64 = omega arith in
-    number_segment (decimal k) k (decimal_nonempty k m) (decimal_digits k m) (decimal_names k m) (number_decimal k m) l
+    number_segment (decimal k) k (decimal_nonempty k m) (decimal_digits k m) (decimal_names k m)
+    (number_decimal k m) l
 
 -- `0` where the number is that, or `0x` and hexadecimal digits
 abbrev pub hex_rest : Bool → ℕ → List ℕ

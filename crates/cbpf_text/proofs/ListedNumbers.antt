@@ -1,5 +1,7 @@
 -- The numbers and labels of a listing, as the lexer reads them.
-use Rattle.std.proofs.Common.{◌≡◌, ℕ, zero, suc, ◌+◌, ◌-◌, ◌*◌, ◌/◌, ◌%◌, ◌^◌, ◌<◌, ◌≤◌, Bool, true, false, cond, List, [], ◌∷◌, ◌++◌, length, get_or, drop, refl, ap, sym, subst, ◌∙◌, arith, Some, None, eqb-true, lt-ltb, ltb-false, ltb-true, ne_eqb, length-append}
+use Rattle.std.proofs.Common.{◌≡◌, ℕ, zero, suc, ◌+◌, ◌-◌, ◌*◌, ◌/◌, ◌%◌, ◌^◌, ◌<◌, ◌≤◌, Bool, true, false, cond}
+use Rattle.std.proofs.Common.{List, [], ◌∷◌, ◌++◌, length, get_or, drop, refl, ap, sym, subst, ◌∙◌, arith, Some, None}
+use Rattle.std.proofs.Common.{eqb-true, lt-ltb, ltb-false, ltb-true, ne_eqb, length-append}
 use Rattle.std.specs.Prelude.{◌==◌, nat_lt, max, decimal}
 use Rattle.std.specs.List.{list_all}
 use Rattle.std.specs.Fmt.{digit_glyph}
@@ -16,13 +18,21 @@ use Rattle.cbpf_lex.proofs.Spelled.{holds_below}
 
 all_snoc : (p : ℕ → Bool) (xs : List ℕ) (x : ℕ) → list_all p xs ≡ true → p x ≡ true → list_all p (xs ++ x ∷ []) ≡ true
 all_snoc p [] x h e = rw e refl
-all_snoc p (y ∷ ys) x h e = let q : (p y ≡ true) × (list_all p ys ≡ true) = and_parts (p y) _ h in rw (q.0, all_snoc p ys x q.1 e) refl
+all_snoc p (y ∷ ys) x h e = let q : (p y ≡ true) × (list_all p ys ≡ true) = and_parts (p y) _ h in
+    rw (q.0, all_snoc p ys x q.1 e) refl
 
-value_snoc : (base high : ℕ) (xs : List ℕ) (x v : ℕ) → digits_value base high xs ≡ Some v → digit_value x < base → digits_value base high (xs ++ x ∷ []) ≡ Some (v * base + digit_value x)
+value_snoc : (base high : ℕ) (xs : List ℕ) (x v : ℕ) → digits_value base high xs ≡ Some v → digit_value x < base
+    → digits_value base high (xs ++ x ∷ []) ≡ Some (v * base + digit_value x)
 value_snoc base high [] x v e l = let h : high ≡ v = cc in rw (lt-ltb (digit_value x) base l, h) refl
-value_snoc base high (y ∷ ys) x v e l = by_test (λ h e. value_snoc base h ys x v e l) (nat_lt (digit_value y) base) refl e
+value_snoc base high (y ∷ ys) x v e l =
+    by_test (λ h e. value_snoc base h ys x v e l) (nat_lt (digit_value y) base) refl e
   where
-    by_test : ((h : ℕ) → digits_value base h ys ≡ Some v → digits_value base h (ys ++ x ∷ []) ≡ Some (v * base + digit_value x)) → (t : Bool) → nat_lt (digit_value y) base ≡ t → cond t (digits_value base (high * base + digit_value y) ys) None ≡ Some v → cond t (digits_value base (high * base + digit_value y) (ys ++ x ∷ [])) None ≡ Some (v * base + digit_value x)
+    by_test : ((h : ℕ) → digits_value base h ys ≡ Some v
+        → digits_value base h (ys ++ x ∷ []) ≡ Some (v * base + digit_value x))
+        → (t : Bool) → nat_lt (digit_value y) base ≡ t
+        → cond t (digits_value base (high * base + digit_value y) ys) None ≡ Some v
+        → cond t (digits_value base (high * base + digit_value y) (ys ++ x ∷ [])) None
+        ≡ Some (v * base + digit_value x)
     by_test again true q e = again (high * base + digit_value y) e
     by_test again false q e = cc
 
@@ -31,7 +41,10 @@ abbrev ReadsDecimal : ℕ → List ℕ → Type 0
 ReadsDecimal n ds = (list_all is_digit ds ≡ true) × (digits_value 10 0 ds ≡ Some n)
 
 decimal_glyph : (d : ℕ) → d < 10 → (is_digit (48 + d) ≡ true) × (digit_value (48 + d) ≡ d)
-decimal_glyph d l = (holds_below 10 (λ d. is_digit (48 + d)) d refl l, eqb-true (digit_value (48 + d)) d (holds_below 10 (λ d. digit_value (48 + d) == d) d refl l))
+decimal_glyph d l = (
+  holds_below 10 (λ d. is_digit (48 + d)) d refl l,
+  eqb-true (digit_value (48 + d)) d (holds_below 10 (λ d. digit_value (48 + d) == d) d refl l),
+)
 
 one_digit : (n : ℕ) → n < 10 → ReadsDecimal n ((48 + n) ∷ [])
 one_digit n l =
@@ -51,17 +64,20 @@ more_digits n ds l r =
 reads_decimal : (n : ℕ) → n < 2 ^ 64 → ReadsDecimal n (decimal n)
 reads_decimal n l = decimal_by_steps ReadsDecimal one_digit more_digits n l
 
-value_not_zero_led : (ds : List ℕ) (n : ℕ) → 48 < get_or ds 0 0 → digits_value 10 0 ds ≡ Some n → number_value ds ≡ Some n
+value_not_zero_led : (ds : List ℕ) (n : ℕ) → 48 < get_or ds 0 0 → digits_value 10 0 ds ≡ Some n
+    → number_value ds ≡ Some n
 value_not_zero_led [] n l e = absurd (omega arith)
 value_not_zero_led (d ∷ ds) n l e = let h : (d == 48) ≡ false = ne_eqb d 48 (omega arith) in rw h e
 
 pub number_decimal : (n : ℕ) → n < 2 ^ 64 → number_value (decimal n) ≡ Some n
 number_decimal zero l = rw (decimal_digit 0 (omega arith)) refl
-number_decimal (suc n) l = value_not_zero_led (decimal (suc n)) (suc n) (first_decimal (suc n) (omega arith) l) (reads_decimal (suc n) l).1
+number_decimal (suc n) l =
+    value_not_zero_led (decimal (suc n)) (suc n) (first_decimal (suc n) (omega arith) l) (reads_decimal (suc n) l).1
 
 digits_names : (ds : List ℕ) → list_all is_digit ds ≡ true → list_all is_name_byte ds ≡ true
 digits_names [] h = refl
-digits_names (d ∷ ds) h = let q : (is_digit d ≡ true) × (list_all is_digit ds ≡ true) = and_parts (is_digit d) _ h in rw (q.0, or-true (is_letter d), digits_names ds q.1) refl
+digits_names (d ∷ ds) h = let q : (is_digit d ≡ true) × (list_all is_digit ds ≡ true) = and_parts (is_digit d) _ h in
+    rw (q.0, or-true (is_letter d), digits_names ds q.1) refl
 
 pub decimal_digits : (n : ℕ) → n < 2 ^ 64 → list_all is_digit (decimal n) ≡ true
 decimal_digits n l = (reads_decimal n l).0
@@ -75,7 +91,11 @@ FitsHex zero n = n < 1
 FitsHex (suc places) n = FitsHex places (n / 16)
 
 hex_glyph : (d : ℕ) → d < 16 → (is_name_byte (digit_glyph false d) ≡ true) × (digit_value (digit_glyph false d) ≡ d)
-hex_glyph d l = (holds_below 16 (λ d. is_name_byte (digit_glyph false d)) d refl l, eqb-true (digit_value (digit_glyph false d)) d (holds_below 16 (λ d. digit_value (digit_glyph false d) == d) d refl l))
+hex_glyph d l = (
+  holds_below 16 (λ d. is_name_byte (digit_glyph false d)) d refl l,
+  eqb-true (digit_value (digit_glyph false d)) d
+      (holds_below 16 (λ d. digit_value (digit_glyph false d) == d) d refl l),
+)
 
 reads_hex : (places n : ℕ) → FitsHex places n → digits_value 16 0 (hex_digits places n) ≡ Some n
 reads_hex zero n f = let z : n ≡ 0 = omega arith in rw z refl
@@ -83,11 +103,13 @@ reads_hex (suc places) n f =
     let m : n % 16 < 16 = omega arith in
     let g : digit_value (digit_glyph false (n % 16)) ≡ n % 16 = (hex_glyph (n % 16) m).1 in
     let e : n / 16 * 16 + digit_value (digit_glyph false (n % 16)) ≡ n = rw g (omega arith) in
-    value_snoc 16 0 (hex_digits places (n / 16)) (digit_glyph false (n % 16)) (n / 16) (reads_hex places (n / 16) f) (rw g m) ∙ ap Some e
+    value_snoc 16 0 (hex_digits places (n / 16)) (digit_glyph false (n % 16)) (n / 16) (reads_hex places (n / 16) f)
+    (rw g m) ∙ ap Some e
 
 hex_names : (places n : ℕ) → list_all is_name_byte (hex_digits places n) ≡ true
 hex_names zero n = refl
-hex_names (suc places) n = all_snoc is_name_byte (hex_digits places (n / 16)) (digit_glyph false (n % 16)) (hex_names places (n / 16)) (hex_glyph (n % 16) (omega arith)).0
+hex_names (suc places) n = all_snoc is_name_byte (hex_digits places (n / 16)) (digit_glyph false (n % 16))
+    (hex_names places (n / 16)) (hex_glyph (n % 16) (omega arith)).0
 
 length_hex : (places n : ℕ) → length (hex_digits places n) ≡ places
 length_hex zero n = refl
@@ -100,7 +122,8 @@ last_hex m zero n = drop_all m (hex_digits (m + 0) n) (omega (arith, length_hex 
 last_hex m (suc p) n =
     let e : m + suc p ≡ suc (m + p) = omega arith in
     let l : m ≤ length (hex_digits (m + p) (n / 16)) = omega (arith, length_hex (m + p) (n / 16)) in
-    rw e (drop-append-le m (hex_digits (m + p) (n / 16)) (digit_glyph false (n % 16) ∷ []) l ∙ ap (λ ds. ds ++ digit_glyph false (n % 16) ∷ []) (last_hex m p (n / 16)))
+    rw e (drop-append-le m (hex_digits (m + p) (n / 16)) (digit_glyph false (n % 16) ∷ []) l
+    ∙ ap (λ ds. ds ++ digit_glyph false (n % 16) ∷ []) (last_hex m p (n / 16)))
 
 record IsHex (k : ℕ) (ds : List ℕ) : Type 0 where
   value : digits_value 16 0 ds ≡ Some k
@@ -110,13 +133,15 @@ hex_of : (k p : ℕ) → 1 ≤ p → p ≤ 8 → FitsHex p k → IsHex k (drop (
 hex_of k p least most f =
     let a : max 1 p ≡ p = omega arith in
     let b : 8 - p + p ≡ 8 = omega arith in
-    let e : drop (8 - max 1 p) (hex_digits 8 k) ≡ hex_digits p k = ap (λ q. drop (8 - q) (hex_digits 8 k)) a ∙ ap (λ q. drop (8 - p) (hex_digits q k)) (sym b) ∙ last_hex (8 - p) p k in
+    let e : drop (8 - max 1 p) (hex_digits 8 k) ≡ hex_digits p k = ap (λ q. drop (8 - q) (hex_digits 8 k)) a
+    ∙ ap (λ q. drop (8 - p) (hex_digits q k)) (sym b) ∙ last_hex (8 - p) p k in
     subst (IsHex k) (sym e) (record { value = reads_hex p k f; names = hex_names p k })
 
 abbrev HexOf : ℕ → ℕ → Type 0
 HexOf k p = IsHex k (drop (8 - max 1 p) (hex_digits 8 k))
 
-hex_step : (k bound p q : ℕ) → (k < bound → HexOf k p) → (bound ≤ k → HexOf k q) → (t : Bool) → nat_lt k bound ≡ t → HexOf k (cond t p q)
+hex_step : (k bound p q : ℕ) → (k < bound → HexOf k p) → (bound ≤ k → HexOf k q) → (t : Bool) → nat_lt k bound ≡ t
+    → HexOf k (cond t p q)
 hex_step k bound p q low high true e = low (ltb-true k bound e)
 hex_step k bound p q low high false e = high (ltb-false k bound e)
 
@@ -129,7 +154,8 @@ is_hex k l = subst (IsHex k) (sym (hex-places 1 k (omega arith) l)) (
     (λ _. hex_step k 1048576 5 _ (λ h. hex_of k 5 (omega arith) (omega arith) (omega arith))
     (λ _. hex_step k 16777216 6 _ (λ h. hex_of k 6 (omega arith) (omega arith) (omega arith))
     (λ _. hex_step k 268435456 7 8 (λ h. hex_of k 7 (omega arith) (omega arith) (omega arith))
-    (λ _. hex_of k 8 (omega arith) (omega arith) (omega arith)) _ refl) _ refl) _ refl) _ refl) _ refl) _ refl) _ refl)
+    (λ _. hex_of k 8 (omega arith) (omega arith) (omega arith)) _ refl) _ refl) _ refl) _ refl) _ refl)
+    _ refl) _ refl)
 
 pub hex_is_names : (k : ℕ) → k < 2 ^ 32 → list_all is_name_byte (hex 1 k) ≡ true
 hex_is_names k l = (is_hex k l).names

@@ -1,5 +1,7 @@
--- Each operand of a listing is spelled by segments, whose tokens fit its row of the table and give the instruction's fields back.
-use Rattle.std.proofs.Common.{◌≡◌, ℕ, ◌+◌, ◌^◌, ◌<◌, Bool, true, false, cond, ◌&&◌, List, [], ◌∷◌, ◌++◌, refl, ap, sym, ◌∙◌, arith, append-nil, lit<, Option, Some, None, eqb-true}
+-- Each operand of a listing is spelled by segments, whose tokens fit its row of the table and give the
+-- instruction's fields back.
+use Rattle.std.proofs.Common.{◌≡◌, ℕ, ◌+◌, ◌^◌, ◌<◌, Bool, true, false, cond, ◌&&◌, List, [], ◌∷◌, ◌++◌, refl, ap}
+use Rattle.std.proofs.Common.{sym, ◌∙◌, arith, append-nil, lit<, Option, Some, None, eqb-true}
 use Rattle.std.specs.Prelude.{◌==◌, codes}
 use Rattle.std.specs.List.{list_all}
 use Rattle.cbpf_code.specs.declared.insn.Insn.{Insn}
@@ -23,9 +25,11 @@ use Rattle.cbpf_listing.specs.Syntax.{operand_of}
 use Rattle.cbpf_listing.specs.Listing.{immediate, operand_text, place_or_name}
 use Rattle.cbpf_text.specs.Assembled.{FillsFields}
 use Rattle.cbpf_text.specs.Operands.{literal_of, place_named}
-use Rattle.cbpf_text.proofs.ListedRows.{HasRow, operation_row, named_row, looked_up, operand_classes, operand_fields, first, rest, IsWord, is_word, word_of_test, plain_as}
+use Rattle.cbpf_text.proofs.ListedRows.{HasRow, operation_row, named_row, looked_up, operand_classes, operand_fields}
+use Rattle.cbpf_text.proofs.ListedRows.{first, rest, IsWord, is_word, word_of_test, plain_as}
 use Rattle.cbpf_text.proofs.ListedTokens.{lexemes_at, newline, are_positive}
-use Rattle.cbpf_text.proofs.ListedLabels.{Places, decimal_segment, spelled_decimal, is_decimal_segment, hex_segment, is_hex_segment, given_is}
+use Rattle.cbpf_text.proofs.ListedLabels.{Places, decimal_segment, spelled_decimal, is_decimal_segment, hex_segment}
+use Rattle.cbpf_text.proofs.ListedLabels.{is_hex_segment, given_is}
 
 abbrev pub EachFits : List Class → List Lexeme → Type 0
 EachFits [] [] = Unit {0}
@@ -46,7 +50,8 @@ are_apart ss = ends_name (ss ++ newline) && (stay_apart false (ss ++ newline) &&
 -- what the tokens of the segments give the instruction at i of n
 abbrev Fills : (n i : ℕ) → Insn → Fields → List Class → List Segment → Type 0
 Fills n i insn fields classes segments = (at : ℕ) (all : List Item) → Places n all
-    → FillsFields fields all i (literal_of classes (lexemes_at at segments)) (names_at classes (lexemes_at at segments)) insn
+    → FillsFields fields all i (literal_of classes (lexemes_at at segments))
+    (names_at classes (lexemes_at at segments)) insn
 
 -- the operand of the instruction at i of n, as segments, and the classes of its row
 pub record Spells (o : Operand) (n i : ℕ) (insn : Insn) : Type 0 where
@@ -61,8 +66,10 @@ pub record Spells (o : Operand) (n i : ℕ) (insn : Insn) : Type 0 where
   pub fills : Fills n i (plain_as o insn) fields classes segments
 
 -- the same where the row is that of the operand
-pub by_row : (o : Operand) (n i : ℕ) (insn : Insn) (segments : List Segment) → text_of segments ≡ operand_text o i insn → AreSegments segments → are_apart segments ≡ true
-    → ((at : ℕ) → fits_all (operand_classes o) (lexemes_at at segments) ≡ true) → Fills n i (plain_as o insn) (operand_fields o) (operand_classes o) segments → Spells o n i insn
+pub by_row : (o : Operand) (n i : ℕ) (insn : Insn) (segments : List Segment)
+    → text_of segments ≡ operand_text o i insn → AreSegments segments → are_apart segments ≡ true
+    → ((at : ℕ) → fits_all (operand_classes o) (lexemes_at at segments) ≡ true)
+    → Fills n i (plain_as o insn) (operand_fields o) (operand_classes o) segments → Spells o n i insn
 by_row o n i insn segments text are apart fits fills = record {
   segments = segments;
   classes = operand_classes o;
@@ -83,45 +90,80 @@ spells_bare n i insn = by_row operands.Bare n i insn [] refl tt refl (λ at. ref
 
 -- a word alone
 pub spells_x : (n i : ℕ) (insn : Insn) → Spells operands.X n i insn
-spells_x n i insn = by_row operands.X n i insn (blank 32 ∷ word 120 [] ∷ []) refl (is_blank_segment, ((lit< tt, refl, refl), tt)) refl (λ at. refl) (λ at all p. (refl, refl, refl))
+spells_x n i insn = by_row operands.X n i insn (blank 32 ∷ word 120 [] ∷ []) refl
+    (is_blank_segment, ((lit< tt, refl, refl), tt)) refl (λ at. refl) (λ at all p. (refl, refl, refl))
 
 pub spells_a : (n i : ℕ) (insn : Insn) → Spells operands.A n i insn
-spells_a n i insn = by_row operands.A n i insn (blank 32 ∷ word 97 [] ∷ []) refl (is_blank_segment, ((lit< tt, refl, refl), tt)) refl (λ at. refl) (λ at all p. (refl, refl, refl))
+spells_a n i insn = by_row operands.A n i insn (blank 32 ∷ word 97 [] ∷ []) refl
+    (is_blank_segment, ((lit< tt, refl, refl), tt)) refl (λ at. refl) (λ at all p. (refl, refl, refl))
 
 pub spells_length : (n i : ℕ) (insn : Insn) → Spells operands.Length n i insn
-spells_length n i insn = by_row operands.Length n i insn (blank 32 ∷ word 108 (101 ∷ 110 ∷ []) ∷ []) refl (is_blank_segment, ((lit< tt, refl, refl), tt)) refl (λ at. refl) (λ at all p. (refl, refl, refl))
+spells_length n i insn = by_row operands.Length n i insn (blank 32 ∷ word 108 (101 ∷ 110 ∷ []) ∷ []) refl
+    (is_blank_segment, ((lit< tt, refl, refl), tt)) refl (λ at. refl) (λ at all p. (refl, refl, refl))
 
 -- `#` and a hexadecimal number, before others
-pub hex_text : (t : Bool) (k : ℕ) (ss : List Segment) → text_of (blank 32 ∷ mark 35 ∷ hex_segment t k ∷ ss) ≡ cond t (codes " #0") (codes " #0x" ++ hex 1 k) ++ text_of ss
+pub hex_text : (t : Bool) (k : ℕ) (ss : List Segment) → text_of (blank 32 ∷ mark 35 ∷ hex_segment t k ∷ ss)
+    ≡ cond t (codes " #0") (codes " #0x" ++ hex 1 k) ++ text_of ss
 hex_text true k ss = refl
 hex_text false k ss = refl
 
 pub spells_immediate : (n i : ℕ) (insn : Insn) → insn.k < 2 ^ 32 → Spells operands.Immediate n i insn
 spells_immediate n i insn l =
     let t = insn.k == 0 in
-    by_row operands.Immediate n i insn (blank 32 ∷ mark 35 ∷ hex_segment t insn.k ∷ []) (hex_text t insn.k [] ∙ append-nil (immediate insn.k))
-    (is_blank_segment, ((lit< tt, refl), (is_hex_segment insn.k t refl l, tt))) refl (λ at. refl) (λ at all p. (refl, refl, given_is insn.k t refl))
+    by_row operands.Immediate n i insn (blank 32 ∷ mark 35 ∷ hex_segment t insn.k ∷ [])
+    (hex_text t insn.k [] ∙ append-nil (immediate insn.k))
+    (is_blank_segment, ((lit< tt, refl), (is_hex_segment insn.k t refl l, tt))) refl (λ at. refl)
+    (λ at all p. (refl, refl, given_is insn.k t refl))
 
 pub spells_memory : (n i : ℕ) (insn : Insn) → insn.k < 2 ^ 32 → Spells operands.Memory n i insn
 spells_memory n i insn l =
     by_row operands.Memory n i insn (blank 32 ∷ word 77 [] ∷ mark 91 ∷ decimal_segment insn.k ∷ mark 93 ∷ [])
-    (ap (λ (w : List ℕ). codes " M[" ++ (w ++ codes "]")) (spelled_decimal insn.k (omega arith)))
-    (is_blank_segment, ((lit< tt, refl, refl), ((lit< tt, refl), (is_decimal_segment insn.k l, ((lit< tt, refl), tt))))) refl
-    (λ at. refl) (λ at all p. (refl, refl, refl))
+    (ap (λ (w : List ℕ). codes " M[" ++ (w ++ codes "]")) (spelled_decimal insn.k (omega arith))) (
+      is_blank_segment,
+      ((lit< tt, refl, refl), ((lit< tt, refl), (is_decimal_segment insn.k l, ((lit< tt, refl), tt)))),
+    ) refl (λ at. refl) (λ at all p. (refl, refl, refl))
 
 pub spells_indexed : (n i : ℕ) (insn : Insn) → insn.k < 2 ^ 32 → Spells operands.Indexed n i insn
 spells_indexed n i insn l =
-    by_row operands.Indexed n i insn (blank 32 ∷ mark 91 ∷ word 120 [] ∷ blank 32 ∷ mark 43 ∷ blank 32 ∷ decimal_segment insn.k ∷ mark 93 ∷ [])
-    (ap (λ (w : List ℕ). codes " [x + " ++ (w ++ codes "]")) (spelled_decimal insn.k (omega arith)))
-    (is_blank_segment, ((lit< tt, refl), ((lit< tt, refl, refl), (is_blank_segment, ((lit< tt, refl), (is_blank_segment, (is_decimal_segment insn.k l, ((lit< tt, refl), tt)))))))) refl
-    (λ at. refl) (λ at all p. (refl, refl, refl))
+    by_row operands.Indexed n i insn
+    (blank 32 ∷ mark 91 ∷ word 120 [] ∷ blank 32 ∷ mark 43 ∷ blank 32 ∷ decimal_segment insn.k ∷ mark 93 ∷ [])
+    (ap (λ (w : List ℕ). codes " [x + " ++ (w ++ codes "]")) (spelled_decimal insn.k (omega arith))) (
+      is_blank_segment,
+      (
+        (lit< tt, refl),
+        (
+          (lit< tt, refl, refl),
+          (
+            is_blank_segment,
+            ((lit< tt, refl), (is_blank_segment, (is_decimal_segment insn.k l, ((lit< tt, refl), tt)))),
+          ),
+        ),
+      ),
+    ) refl (λ at. refl) (λ at all p. (refl, refl, refl))
 
 pub spells_header : (n i : ℕ) (insn : Insn) → insn.k < 2 ^ 32 → Spells operands.Header n i insn
 spells_header n i insn l =
-    by_row operands.Header n i insn (blank 32 ∷ number 52 [] 4 ∷ mark 42 ∷ mark 40 ∷ mark 91 ∷ decimal_segment insn.k ∷ mark 93 ∷ mark 38 ∷ number 48 (120 ∷ 102 ∷ []) 15 ∷ mark 41 ∷ [])
-    (ap (λ (w : List ℕ). codes " 4*([" ++ (w ++ codes "]&0xf)")) (spelled_decimal insn.k (omega arith)))
-    (is_blank_segment, ((lit< tt, refl, refl, refl, lit< tt), ((lit< tt, refl), ((lit< tt, refl), ((lit< tt, refl), (is_decimal_segment insn.k l, ((lit< tt, refl), ((lit< tt, refl), ((lit< tt, refl, refl, refl, lit< tt), ((lit< tt, refl), tt)))))))))) refl
-    (λ at. refl) (λ at all p. (refl, refl, refl))
+    by_row operands.Header n i insn (blank 32 ∷ number 52 [] 4 ∷ mark 42 ∷ mark 40 ∷ mark 91 ∷ decimal_segment insn.k
+    ∷ mark 93 ∷ mark 38 ∷ number 48 (120 ∷ 102 ∷ []) 15 ∷ mark 41 ∷ [])
+    (ap (λ (w : List ℕ). codes " 4*([" ++ (w ++ codes "]&0xf)")) (spelled_decimal insn.k (omega arith))) (
+      is_blank_segment,
+      (
+        (lit< tt, refl, refl, refl, lit< tt),
+        (
+          (lit< tt, refl),
+          (
+            (lit< tt, refl),
+            (
+              (lit< tt, refl),
+              (
+                is_decimal_segment insn.k l,
+                ((lit< tt, refl), ((lit< tt, refl), ((lit< tt, refl, refl, refl, lit< tt), ((lit< tt, refl), tt)))),
+              ),
+            ),
+          ),
+        ),
+      ),
+    ) refl (λ at. refl) (λ at all p. (refl, refl, refl))
 
 -- what holds of each extension of the table holds of all
 ext_holds : (p : Ext → Bool) → list_all (λ (e : ℕ × Ext). p e.1) ext_table ≡ true → (e : Ext) → p e ≡ true
@@ -152,11 +194,15 @@ some_of : (n : ℕ) (o : Option ℕ) → is_some_of n o ≡ true → o ≡ Some 
 some_of n None e = cc
 some_of n (Some m) e = ap (λ k. Some k) (eqb-true m n e)
 
-names_have_values : list_all (λ (e : ℕ × Ext). is_some_of (4294963200 + ext_offset e.1) (place_named ext_table (name_of_ext e.1))) ext_table ≡ true
+names_have_values :
+    list_all (λ (e : ℕ × Ext). is_some_of (4294963200 + ext_offset e.1) (place_named ext_table (name_of_ext e.1)))
+    ext_table ≡ true
 names_have_values = refl
 
 ext_value : (e : Ext) → place_named ext_table (name_of_ext e) ≡ Some (4294963200 + ext_offset e)
-ext_value e = some_of _ _ (ext_holds (λ x. is_some_of (4294963200 + ext_offset x) (place_named ext_table (name_of_ext x))) names_have_values e)
+ext_value e =
+    some_of _ _ (ext_holds (λ x. is_some_of (4294963200 + ext_offset x) (place_named ext_table (name_of_ext x)))
+    names_have_values e)
 
 abbrev name_classes : List Class
 name_classes = forms.Class.extension ∷ []
@@ -164,13 +210,16 @@ name_classes = forms.Class.extension ∷ []
 abbrev name_segments : Ext → List Segment
 name_segments e = blank 32 ∷ word (first (ext_name e)) (rest (ext_name e)) ∷ []
 
-name_literal : (at : ℕ) (e : Ext) → literal_of name_classes (lexemes_at at (name_segments e)) ≡ 4294963200 + ext_offset e
+name_literal : (at : ℕ) (e : Ext)
+    → literal_of name_classes (lexemes_at at (name_segments e)) ≡ 4294963200 + ext_offset e
 name_literal at e = rw (ext_value e) refl
 
-absolute_by : (n i : ℕ) (insn : Insn) (o : Option Ext) → ext_at insn.k ≡ o → insn.k < 2 ^ 32 → Spells operands.Absolute n i insn
+absolute_by : (n i : ℕ) (insn : Insn) (o : Option Ext) → ext_at insn.k ≡ o → insn.k < 2 ^ 32
+    → Spells operands.Absolute n i insn
 absolute_by n i insn None e l =
     by_row operands.Absolute n i insn (blank 32 ∷ mark 91 ∷ decimal_segment insn.k ∷ mark 93 ∷ [])
-    (ap (λ (w : List ℕ). codes " [" ++ (w ++ codes "]")) (spelled_decimal insn.k (omega arith)) ∙ sym (ap (λ p. place_or_name p insn.k) e))
+    (ap (λ (w : List ℕ). codes " [" ++ (w ++ codes "]")) (spelled_decimal insn.k (omega arith))
+    ∙ sym (ap (λ p. place_or_name p insn.k) e))
     (is_blank_segment, ((lit< tt, refl), (is_decimal_segment insn.k l, ((lit< tt, refl), tt)))) refl
     (λ at. refl) (λ at all p. (refl, refl, refl))
 absolute_by n i insn (Some x) e l = record {

@@ -1,5 +1,6 @@
 -- Items that are labelled by their numbers: each label is set once, by its item.
-use Rattle.std.proofs.Common.{◌≡◌, ℕ, zero, suc, ◌+◌, ◌^◌, ◌<◌, ◌≤◌, Bool, true, false, List, [], ◌∷◌, length, get_or, refl, sym, subst, ◌∙◌, arith, ◌⊎◌, inl, inr}
+use Rattle.std.proofs.Common.{◌≡◌, ℕ, zero, suc, ◌+◌, ◌^◌, ◌<◌, ◌≤◌, Bool, true, false, List, [], ◌∷◌, length, get_or}
+use Rattle.std.proofs.Common.{refl, sym, subst, ◌∙◌, arith, ◌⊎◌, inl, inr}
 use Rattle.std.specs.Prelude.{decimal, bytes_eq, All}
 use Rattle.std.proofs.lemmas.Fmt.{decimal_injective}
 use Rattle.std.proofs.lemmas.List.Elements.{All-append}
@@ -33,34 +34,42 @@ times_here : (i m : ℕ) (item : Item) → IsLabelled i item → i ≡ m → tim
 times_here i m item h e =
     rw h.only (times_hit h.label (label_name m) (rw (h.named, e) (bytes_eq_self (label_name m))))
 
-times_elsewhere : (i m : ℕ) (item : Item) → i < 2 ^ 64 → m < 2 ^ 64 → IsLabelled i item → (i ≡ m → ⊥) → times_among item.labels (label_name m) ≡ 0
-times_elsewhere i m item l k h n = rw h.only (times_miss h.label (label_name m) (by_test (bytes_eq (name_of h.label) (label_name m)) refl))
+times_elsewhere : (i m : ℕ) (item : Item) → i < 2 ^ 64 → m < 2 ^ 64 → IsLabelled i item → (i ≡ m → ⊥)
+    → times_among item.labels (label_name m) ≡ 0
+times_elsewhere i m item l k h n =
+    rw h.only (times_miss h.label (label_name m) (by_test (bytes_eq (name_of h.label) (label_name m)) refl))
   where
     by_test : (t : Bool) → bytes_eq (name_of h.label) (label_name m) ≡ t → t ≡ false
     by_test false e = refl
     by_test true e = absurd (n (label_differs i m l k (sym h.named ∙ equal_bytes (name_of h.label) (label_name m) e)))
 
 -- how often the items set a label
-times_before : (i m : ℕ) (items : List Item) → i + length items < 2 ^ 64 → AreLabelled i items → m < i → times_set items (label_name m) ≡ 0
+times_before : (i m : ℕ) (items : List Item) → i + length items < 2 ^ 64 → AreLabelled i items → m < i
+    → times_set items (label_name m) ≡ 0
 times_before i m [] l h b = refl
 times_before i m (item ∷ items) l h b =
-    let x : times_among item.labels (label_name m) ≡ 0 = times_elsewhere i m item (omega arith) (omega arith) h.0 (λ e. omega (arith, e, b)) in
+    let x : times_among item.labels (label_name m) ≡ 0 =
+    times_elsewhere i m item (omega arith) (omega arith) h.0 (λ e. omega (arith, e, b)) in
     let y : times_set items (label_name m) ≡ 0 = times_before (i + 1) m items (omega arith) h.1 (omega arith) in
     omega (arith, times_append item.labels (set_labels items) (label_name m), x, y)
 
 here_or_later : (i m : ℕ) → i ≤ m → (i ≡ m) ⊎ (i < m)
 here_or_later i m h = grind arith
 
-times_inside : (i m : ℕ) (items : List Item) → i + length items < 2 ^ 64 → AreLabelled i items → i ≤ m → m < i + length items → times_set items (label_name m) ≡ 1
+times_inside : (i m : ℕ) (items : List Item) → i + length items < 2 ^ 64 → AreLabelled i items → i ≤ m
+    → m < i + length items → times_set items (label_name m) ≡ 1
 times_inside i m [] l h a b = absurd (omega arith)
 times_inside i m (item ∷ items) l h a b = elim (here_or_later i m a) [
   | inl e ↦
       let x : times_among item.labels (label_name m) ≡ 1 = times_here i m item h.0 e in
-      let y : times_set items (label_name m) ≡ 0 = times_before (i + 1) m items (omega arith) h.1 (omega (arith, e)) in
+      let y : times_set items (label_name m) ≡ 0 =
+      times_before (i + 1) m items (omega arith) h.1 (omega (arith, e)) in
       omega (arith, times_append item.labels (set_labels items) (label_name m), x, y)
   | inr g ↦
-      let x : times_among item.labels (label_name m) ≡ 0 = times_elsewhere i m item (omega arith) (omega arith) h.0 (λ e. omega (arith, e, g)) in
-      let y : times_set items (label_name m) ≡ 1 = times_inside (i + 1) m items (omega arith) h.1 (omega arith) (omega arith) in
+      let x : times_among item.labels (label_name m) ≡ 0 =
+      times_elsewhere i m item (omega arith) (omega arith) h.0 (λ e. omega (arith, e, g)) in
+      let y : times_set items (label_name m) ≡ 1 =
+      times_inside (i + 1) m items (omega arith) h.1 (omega arith) (omega arith) in
       omega (arith, times_append item.labels (set_labels items) (label_name m), x, y)
 ]
 
@@ -87,14 +96,17 @@ labels_place items few h m l =
 abbrev Numbered : ℕ → Lexeme → Type 0
 Numbered to t = (m : ℕ) × (m < to) × (name_of t ≡ label_name m)
 
-numbered : (i to : ℕ) (items : List Item) → i + length items ≤ to → AreLabelled i items → All (Numbered to) (set_labels items)
+numbered : (i to : ℕ) (items : List Item) → i + length items ≤ to → AreLabelled i items
+    → All (Numbered to) (set_labels items)
 numbered i to [] l h = all_none (Numbered to)
 numbered i to (item ∷ items) l h =
     let one : All (Numbered to) (h.0.label ∷ []) = all_one (Numbered to) h.0.label (i, omega arith, h.0.named) in
     let front : All (Numbered to) item.labels = subst (All (Numbered to)) (sym h.0.only) one in
     All-append (Numbered to) item.labels (set_labels items) front (numbered (i + 1) to items (omega arith) h.1)
 
-pub labels_distinct_by_number : (items : List Item) → length items ≤ 4096 → AreLabelled 0 items → AreDistinct (set_labels items)
+pub labels_distinct_by_number : (items : List Item) → length items ≤ 4096 → AreLabelled 0 items
+    → AreDistinct (set_labels items)
 labels_distinct_by_number items few h k d l =
-    let n : Numbered (length items) (get_or (set_labels items) k d) = numbered 0 (length items) items (omega arith) h k d l in
+    let n : Numbered (length items) (get_or (set_labels items) k d) =
+    numbered 0 (length items) items (omega arith) h k d l in
     rw n.2 (times_inside 0 n.0 items (omega arith) h (omega arith) (omega (arith, n.1)))

@@ -1,5 +1,6 @@
 -- The lines of a listing as segments, whose tokens are the items of the instructions.
-use Rattle.std.proofs.Common.{◌≡◌, ℕ, suc, ◌+◌, ◌^◌, ◌<◌, true, false, List, [], ◌∷◌, ◌++◌, length, map, refl, ap, sym, ◌∙◌, append_assoc, append-nil, lit<, Some}
+use Rattle.std.proofs.Common.{◌≡◌, ℕ, suc, ◌+◌, ◌^◌, ◌<◌, true, false, List, [], ◌∷◌, ◌++◌, length, map, refl, ap}
+use Rattle.std.proofs.Common.{sym, ◌∙◌, append_assoc, append-nil, lit<, Some}
 use Rattle.std.specs.Prelude.{decimal, codes}
 use Rattle.std.specs.List.{flat_map, enumerate_from}
 use Rattle.std.proofs.lemmas.Bool.{and_parts}
@@ -20,7 +21,8 @@ use Rattle.cbpf_listing.specs.Syntax.{mnemonic_of, operand_of}
 use Rattle.cbpf_listing.specs.Listing.{numbered_line, text_for, operand_text}
 use Rattle.cbpf_text.specs.Assembled.{EncodeEach, IsEncoded}
 use Rattle.cbpf_text.proofs.ListedRows.{HasRow, first, rest, mnemonic_word, plain_as, plain_is}
-use Rattle.cbpf_text.proofs.ListedTokens.{and_both, lexemes_at, lexemes_append, text_append, are_append, ends_before, apart_before, are_positive, positive_append}
+use Rattle.cbpf_text.proofs.ListedTokens.{and_both, lexemes_at, lexemes_append, text_append, are_append, ends_before}
+use Rattle.cbpf_text.proofs.ListedTokens.{apart_before, are_positive, positive_append}
 use Rattle.cbpf_text.proofs.ListedLabels.{label_name, label_fits, label_segment, is_label_segment, Places}
 use Rattle.cbpf_text.proofs.ListedOperands.{Spells}
 use Rattle.cbpf_text.proofs.ListedPlaces.{AreLabelled}
@@ -55,7 +57,8 @@ lists_none n i = record {
 }
 
 -- a line's text, one piece after the other
-joins : (d w operand after : List ℕ) → (((108 ∷ (d ++ (58 ∷ 9 ∷ (w ++ [])))) ++ operand) ++ (10 ∷ [])) ++ after ≡ 108 ∷ (d ++ (58 ∷ 9 ∷ (w ++ (operand ++ (10 ∷ after)))))
+joins : (d w operand after : List ℕ) → (((108 ∷ (d ++ (58 ∷ 9 ∷ (w ++ [])))) ++ operand) ++ (10 ∷ [])) ++ after
+    ≡ 108 ∷ (d ++ (58 ∷ 9 ∷ (w ++ (operand ++ (10 ∷ after)))))
 joins d w operand after =
     let front = 108 ∷ (d ++ (58 ∷ 9 ∷ (w ++ []))) in
     append_assoc (front ++ operand) (10 ∷ []) after
@@ -65,16 +68,20 @@ joins d w operand after =
 
 -- the segments of a line, before those after it
 abbrev line_segments : ℕ → List ℕ → List Segment → List Segment → List Segment
-line_segments i w operand after = label_segment i ∷ mark 58 ∷ blank 9 ∷ word (first w) (rest w) ∷ (operand ++ (blank 10 ∷ after))
+line_segments i w operand after =
+    label_segment i ∷ mark 58 ∷ blank 9 ∷ word (first w) (rest w) ∷ (operand ++ (blank 10 ∷ after))
 
-line_text : (i : ℕ) (insn : Insn) (op : Op) (operand after : List Segment) (lines : List ℕ) → op_of insn.code ≡ Some op → first (mnemonic_of op) ∷ rest (mnemonic_of op) ≡ mnemonic_of op
+line_text : (i : ℕ) (insn : Insn) (op : Op) (operand after : List Segment) (lines : List ℕ)
+    → op_of insn.code ≡ Some op → first (mnemonic_of op) ∷ rest (mnemonic_of op) ≡ mnemonic_of op
     → text_of operand ≡ operand_text (operand_of op) i insn → text_of after ≡ lines
     → text_of (line_segments i (mnemonic_of op) operand after) ≡ numbered_line (i, insn) ++ lines
 line_text i insn op operand after lines known w e f =
-    ap (λ (t : List ℕ). 108 ∷ (decimal i ++ (58 ∷ 9 ∷ (first (mnemonic_of op) ∷ (rest (mnemonic_of op) ++ t))))) (text_append operand (blank 10 ∷ after))
+    ap (λ (t : List ℕ). 108 ∷ (decimal i ++ (58 ∷ 9 ∷ (first (mnemonic_of op) ∷ (rest (mnemonic_of op) ++ t)))))
+    (text_append operand (blank 10 ∷ after))
     ∙ ap (λ (v : List ℕ). 108 ∷ (decimal i ++ (58 ∷ 9 ∷ (v ++ (text_of operand ++ (10 ∷ text_of after)))))) w
     ∙ ap (λ (t : List ℕ). 108 ∷ (decimal i ++ (58 ∷ 9 ∷ (mnemonic_of op ++ (t ++ (10 ∷ text_of after)))))) e
-    ∙ ap (λ (t : List ℕ). 108 ∷ (decimal i ++ (58 ∷ 9 ∷ (mnemonic_of op ++ (operand_text (operand_of op) i insn ++ (10 ∷ t)))))) f
+    ∙ ap (λ (t : List ℕ).
+    108 ∷ (decimal i ++ (58 ∷ 9 ∷ (mnemonic_of op ++ (operand_text (operand_of op) i insn ++ (10 ∷ t)))))) f
     ∙ sym (joins (decimal i) (mnemonic_of op) (operand_text (operand_of op) i insn) lines)
     ∙ sym (ap (λ o. (text_for i insn o ++ codes "\n") ++ lines) known)
 
@@ -92,7 +99,9 @@ abbrev colon_token : ℕ → ℕ → Lexeme
 colon_token at i = record { symbol = grammar.Symbol.mark 58; at = at + (1 + length (decimal i)) }
 
 abbrev body_tokens : ℕ → ℕ → List ℕ → List Segment → List Lexeme
-body_tokens at i w operand = record { symbol = grammar.Symbol.word (first w ∷ rest w); at = at + (1 + length (decimal i)) + 1 + 1 } ∷ lexemes_at (operand_at at i w) operand
+body_tokens at i w operand =
+    record { symbol = grammar.Symbol.word (first w ∷ rest w); at = at + (1 + length (decimal i)) + 1 + 1 }
+    ∷ lexemes_at (operand_at at i w) operand
 
 abbrev line_tokens : ℕ → ℕ → List ℕ → List Segment → List Lexeme
 line_tokens at i w operand = label_token at i ∷ colon_token at i ∷ body_tokens at i w operand
@@ -100,10 +109,15 @@ line_tokens at i w operand = label_token at i ∷ colon_token at i ∷ body_toke
 abbrev line_item : ℕ → ℕ → List ℕ → List Segment → Row → Item
 line_item at i w operand row = record { labels = label_token at i ∷ []; row = row; body = body_tokens at i w operand }
 
-line_lexemes : (at i : ℕ) (w : List ℕ) (operand after : List Segment) → lexemes_at at (line_segments i w operand after) ≡ line_tokens at i w operand ++ lexemes_at (after_at at i w operand) after
-line_lexemes at i w operand after = ap (λ (ts : List Lexeme). label_token at i ∷ colon_token at i ∷ record { symbol = grammar.Symbol.word (first w ∷ rest w); at = at + (1 + length (decimal i)) + 1 + 1 } ∷ ts) (lexemes_append (operand_at at i w) operand (blank 10 ∷ after))
+line_lexemes : (at i : ℕ) (w : List ℕ) (operand after : List Segment)
+    → lexemes_at at (line_segments i w operand after)
+    ≡ line_tokens at i w operand ++ lexemes_at (after_at at i w operand) after
+line_lexemes at i w operand after = ap (λ (ts : List Lexeme). label_token at i ∷ colon_token at i
+    ∷ record { symbol = grammar.Symbol.word (first w ∷ rest w); at = at + (1 + length (decimal i)) + 1 + 1 } ∷ ts)
+    (lexemes_append (operand_at at i w) operand (blank 10 ∷ after))
 
-line_form : (at n i : ℕ) (insn : Insn) (op : Op) (s : Spells (operand_of op) n i insn) (r : HasRow op s.classes s.fields) → i < 2 ^ 64
+line_form : (at n i : ℕ) (insn : Insn) (op : Op) (s : Spells (operand_of op) n i insn)
+    (r : HasRow op s.classes s.fields) → i < 2 ^ 64
     → Form (line_tokens at i (mnemonic_of op) s.segments) (line_item at i (mnemonic_of op) s.segments r.row)
 line_form at n i insn op s r l = record {
   count = 1;
@@ -114,10 +128,13 @@ line_form at n i insn op s r l = record {
 }
   where
     body : fits_all (classes r.row) (body_tokens at i (mnemonic_of op) s.segments) ≡ true
-    body = rw (r.mnemonic, r.operand, (mnemonic_word op).0) (and_both _ _ (bytes_eq_self (mnemonic_of op)) (s.fits (operand_at at i (mnemonic_of op))))
+    body = rw (r.mnemonic, r.operand, (mnemonic_word op).0)
+        (and_both _ _ (bytes_eq_self (mnemonic_of op)) (s.fits (operand_at at i (mnemonic_of op))))
 
-line_encoded : (at n i : ℕ) (insn : Insn) (op : Op) (s : Spells (operand_of op) n i insn) (r : HasRow op s.classes s.fields) → op_of insn.code ≡ Some op
-    → (all : List Item) → Places n all → IsEncoded all i (line_item at i (mnemonic_of op) s.segments r.row) (plain insn)
+line_encoded : (at n i : ℕ) (insn : Insn) (op : Op) (s : Spells (operand_of op) n i insn)
+    (r : HasRow op s.classes s.fields) → op_of insn.code ≡ Some op
+    → (all : List Item) → Places n all
+    → IsEncoded all i (line_item at i (mnemonic_of op) s.segments r.row) (plain insn)
 line_encoded at n i insn op s r known all p =
     let e : plain insn ≡ plain_as (operand_of op) insn = plain_is insn op known in
     record {
@@ -125,7 +142,8 @@ line_encoded at n i insn op s r known all p =
       fields = rw (r.fields, r.operand, e) (s.fills (operand_at at i (mnemonic_of op)) all p);
     }
 
-pub lists_line : (n i : ℕ) (insn : Insn) (op : Op) (insns : List Insn) → op_of insn.code ≡ Some op → i < 2 ^ 64 → Spells (operand_of op) n i insn → Lists n (i + 1) insns → Lists n i (insn ∷ insns)
+pub lists_line : (n i : ℕ) (insn : Insn) (op : Op) (insns : List Insn) → op_of insn.code ≡ Some op → i < 2 ^ 64
+    → Spells (operand_of op) n i insn → Lists n (i + 1) insns → Lists n i (insn ∷ insns)
 lists_line n i insn op insns known l s b =
     let w = mnemonic_of op in
     let r : HasRow op s.classes s.fields = s.listed op refl in
@@ -133,14 +151,36 @@ lists_line n i insn op insns known l s b =
     let inside = and_parts _ _ ends.1 in
     record {
       segments = line_segments i w s.segments b.segments;
-      text = line_text i insn op s.segments b.segments (flat_map numbered_line (enumerate_from (i + 1) insns)) known (mnemonic_word op).0 s.text b.text;
-      are = (is_label_segment i l, ((lit< tt, refl), ((lit< tt, refl), (((mnemonic_word op).1, (mnemonic_word op).2, (mnemonic_word op).3), are_append s.segments (blank 10 ∷ b.segments) s.are ((lit< tt, refl), b.are)))));
+      text = line_text i insn op s.segments b.segments (flat_map numbered_line (enumerate_from (i + 1) insns)) known
+          (mnemonic_word op).0 s.text b.text;
+      are = (
+        is_label_segment i l,
+        (
+          (lit< tt, refl),
+          (
+            (lit< tt, refl),
+            (
+              ((mnemonic_word op).1, (mnemonic_word op).2, (mnemonic_word op).3),
+              are_append s.segments (blank 10 ∷ b.segments) s.are ((lit< tt, refl), b.are),
+            ),
+          ),
+        ),
+      );
       begins = refl;
-      apart = and_both _ _ (ends_before s.segments b.segments ends.0) (apart_before false s.segments b.segments inside.0 b.begins b.apart);
+      apart = and_both _ _ (ends_before s.segments b.segments ends.0)
+          (apart_before false s.segments b.segments inside.0 b.begins b.apart);
       positive = positive_append s.segments (blank 10 ∷ b.segments) inside.1 b.positive;
       items = λ at. line_item at i w s.segments r.row ∷ b.items (after_at at i w s.segments);
       size = λ at. ap suc (b.size (after_at at i w s.segments));
-      parsed = λ at. (line_tokens at i w s.segments, lexemes_at (after_at at i w s.segments) b.segments, line_lexemes at i w s.segments b.segments, line_form at n i insn op s r l, b.parsed (after_at at i w s.segments));
-      labelled = λ at. (record { label = label_token at i; only = refl; named = refl }, b.labelled (after_at at i w s.segments));
-      encoded = λ at all p. (line_encoded at n i insn op s r known all p, b.encoded (after_at at i w s.segments) all p);
+      parsed = λ at. (
+        line_tokens at i w s.segments,
+        lexemes_at (after_at at i w s.segments) b.segments,
+        line_lexemes at i w s.segments b.segments,
+        line_form at n i insn op s r l,
+        b.parsed (after_at at i w s.segments),
+      );
+      labelled = λ at.
+          (record { label = label_token at i; only = refl; named = refl }, b.labelled (after_at at i w s.segments));
+      encoded = λ at all p.
+          (line_encoded at n i insn op s r known all p, b.encoded (after_at at i w s.segments) all p);
     }

@@ -1,5 +1,6 @@
 -- Each operation has a row of the table for the tokens that a listing writes.
-use Rattle.std.proofs.Common.{◌≡◌, ℕ, ◌<◌, Bool, true, false, cond, not, ◌&&◌, ◌||◌, List, [], ◌∷◌, refl, ap, ◌∙◌, eqb-true, ltb-true, Some}
+use Rattle.std.proofs.Common.{◌≡◌, ℕ, ◌<◌, Bool, true, false, cond, not, ◌&&◌, ◌||◌, List, [], ◌∷◌, refl, ap, ◌∙◌}
+use Rattle.std.proofs.Common.{eqb-true, ltb-true, Some}
 use Rattle.std.specs.Prelude.{◌==◌, nat_lt, codes, Contains, bytes_eq}
 use Rattle.std.specs.List.{list_all, list_any}
 use Rattle.std.proofs.lemmas.Bool.{and_parts}
@@ -33,7 +34,8 @@ operand_classes operands.Immediate = the_mark 35 ∷ literal ∷ []
 operand_classes operands.Absolute = the_mark 91 ∷ literal ∷ the_mark 93 ∷ []
 operand_classes operands.Indexed = the_mark 91 ∷ the_word (codes "x") ∷ the_mark 43 ∷ literal ∷ the_mark 93 ∷ []
 operand_classes operands.Memory = the_word (codes "M") ∷ the_mark 91 ∷ literal ∷ the_mark 93 ∷ []
-operand_classes operands.Header = exactly 4 ∷ the_mark 42 ∷ the_mark 40 ∷ the_mark 91 ∷ literal ∷ the_mark 93 ∷ the_mark 38 ∷ exactly 15 ∷ the_mark 41 ∷ []
+operand_classes operands.Header = exactly 4 ∷ the_mark 42 ∷ the_mark 40 ∷ the_mark 91 ∷ literal ∷ the_mark 93
+    ∷ the_mark 38 ∷ exactly 15 ∷ the_mark 41 ∷ []
 operand_classes operands.Label = name ∷ []
 operand_classes operands.ImmediateTwo = the_mark 35 ∷ literal ∷ the_mark 44 ∷ name ∷ the_mark 44 ∷ name ∷ []
 operand_classes operands.XTwo = the_word (codes "x") ∷ the_mark 44 ∷ name ∷ the_mark 44 ∷ name ∷ []
@@ -66,7 +68,8 @@ same_fields Branch Branch = true
 same_fields f g = false
 
 abbrev is_row_for : Op → List Class → Fields → Row → Bool
-is_row_for op cs f row = code_of row.op == code_of op && (bytes_eq row.mnemonic (mnemonic_of op) && (same_classes row.operand cs && same_fields row.fields f))
+is_row_for op cs f row = code_of row.op == code_of op
+    && (bytes_eq row.mnemonic (mnemonic_of op) && (same_classes row.operand cs && same_fields row.fields f))
 
 abbrev has_row : Op → Bool
 has_row op = list_any (is_row_for op (operand_classes (operand_of op)) (operand_fields (operand_of op))) table
@@ -78,7 +81,8 @@ operations_have_rows = refl
 
 -- and where k may be an extension's place, the one with its name
 abbrev has_named_row : Op → Bool
-has_named_row op = not (same_classes (operand_classes (operand_of op)) (operand_classes operands.Absolute)) || list_any (is_row_for op (extension ∷ []) Constant) table
+has_named_row op = not (same_classes (operand_classes (operand_of op)) (operand_classes operands.Absolute))
+    || list_any (is_row_for op (extension ∷ []) Constant) table
 
 operations_have_named_rows : list_all (λ (e : ℕ × Op). has_named_row e.1) op_table ≡ true
 unfolding mnemonics
@@ -134,11 +138,14 @@ found_row op cs f e =
     }
 
 -- what holds of each entry of a table holds of what is found in it
-pub looked_up : {V : Type 0} (p : V → Bool) (t : List (ℕ × V)) (key : ℕ) (v : V) → list_all (λ (e : ℕ × V). p e.1) t ≡ true → look_up t key ≡ Some v → p v ≡ true
+pub looked_up : {V : Type 0} (p : V → Bool) (t : List (ℕ × V)) (key : ℕ) (v : V)
+    → list_all (λ (e : ℕ × V). p e.1) t ≡ true → look_up t key ≡ Some v → p v ≡ true
 looked_up p [] key v a found = cc
-looked_up p (e ∷ es) key v a found = by_test (key == e.0) found (λ f. looked_up p es key v (and_parts (p e.1) _ a).1 f)
+looked_up p (e ∷ es) key v a found =
+    by_test (key == e.0) found (λ f. looked_up p es key v (and_parts (p e.1) _ a).1 f)
   where
-    by_test : (t : Bool) → cond t (Some e.1) (look_up es key) ≡ Some v → (look_up es key ≡ Some v → p v ≡ true) → p v ≡ true
+    by_test : (t : Bool) → cond t (Some e.1) (look_up es key) ≡ Some v
+        → (look_up es key ≡ Some v → p v ≡ true) → p v ≡ true
     by_test true f again = let h : e.1 ≡ v = cc in rw (← h) (and_parts (p e.1) _ a).0
     by_test false f again = again f
 
@@ -147,12 +154,15 @@ unfolding op_of
 holds_for_all p a op = looked_up p op_table (code_of op) op a (code_known op)
 
 pub operation_row : (op : Op) (o : Operand) → operand_of op ≡ o → HasRow op (operand_classes o) (operand_fields o)
-operation_row op o e = rw (← e) (found_row op (operand_classes (operand_of op)) (operand_fields (operand_of op)) (holds_for_all has_row operations_have_rows op))
+operation_row op o e = rw (← e) (found_row op (operand_classes (operand_of op)) (operand_fields (operand_of op))
+    (holds_for_all has_row operations_have_rows op))
 
 pub named_row : (op : Op) → operand_of op ≡ operands.Absolute → HasRow op (extension ∷ []) Constant
 named_row op e =
-    let absolute : same_classes (operand_classes (operand_of op)) (operand_classes operands.Absolute) ≡ true = rw e refl in
-    found_row op (extension ∷ []) Constant (implied _ _ (holds_for_all has_named_row operations_have_named_rows op) absolute)
+    let absolute : same_classes (operand_classes (operand_of op)) (operand_classes operands.Absolute) ≡ true =
+    rw e refl in
+    found_row op (extension ∷ []) Constant
+    (implied _ _ (holds_for_all has_named_row operations_have_named_rows op) absolute)
 
 -- a mnemonic is a word
 abbrev pub first : List ℕ → ℕ
@@ -164,7 +174,8 @@ rest [] = []
 rest (b ∷ bs) = bs
 
 abbrev pub IsWord : List ℕ → Type 0
-IsWord w = (first w ∷ rest w ≡ w) × (first w < 256) × (is_letter (first w) ≡ true) × (list_all is_name_byte (rest w) ≡ true)
+IsWord w =
+    (first w ∷ rest w ≡ w) × (first w < 256) × (is_letter (first w) ≡ true) × (list_all is_name_byte (rest w) ≡ true)
 
 abbrev pub is_word : List ℕ → Bool
 is_word [] = false
@@ -198,17 +209,23 @@ keeps_offsets operands.XTwo = true
 keeps_offsets o = false
 
 abbrev pub plain_as : Operand → Insn → Insn
-plain_as o insn = record insn { jt = kept (keeps_offsets o) insn.jt; jf = kept (keeps_offsets o) insn.jf; k = kept (keeps_k o) insn.k }
+plain_as o insn = record insn {
+  jt = kept (keeps_offsets o) insn.jt;
+  jf = kept (keeps_offsets o) insn.jf;
+  k = kept (keeps_k o) insn.k;
+}
 
 abbrev keeps_its_fields : Op → Bool
-keeps_its_fields op = beq (uses_k op) (keeps_k (operand_of op)) && beq (uses_offsets op) (keeps_offsets (operand_of op))
+keeps_its_fields op =
+    beq (uses_k op) (keeps_k (operand_of op)) && beq (uses_offsets op) (keeps_offsets (operand_of op))
 
 operations_keep_their_fields : list_all (λ (e : ℕ × Op). keeps_its_fields e.1) op_table ≡ true
 operations_keep_their_fields = refl
 
 plain_by : (insn : Insn) (op : Op) → plain_for insn (Some op) ≡ plain_as (operand_of op) insn
 plain_by insn op =
-    let p = and_parts (beq (uses_k op) (keeps_k (operand_of op))) _ (holds_for_all keeps_its_fields operations_keep_their_fields op) in
+    let p = and_parts (beq (uses_k op) (keeps_k (operand_of op))) _
+    (holds_for_all keeps_its_fields operations_keep_their_fields op) in
     let k : uses_k op ≡ keeps_k (operand_of op) = (booleans_Decides _ _).0 p.0 in
     let o : uses_offsets op ≡ keeps_offsets (operand_of op) = (booleans_Decides _ _).0 p.1 in
     λ i. record insn { jt = kept (o i) insn.jt; jf = kept (o i) insn.jf; k = kept (k i) insn.k }

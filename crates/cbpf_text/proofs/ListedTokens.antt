@@ -1,12 +1,14 @@
 -- The tokens of a text that is spelled by segments.
-use Rattle.std.proofs.Common.{◌≡◌, ℕ, zero, suc, ◌+◌, ◌-◌, Bool, true, false, not, ◌&&◌, List, [], ◌∷◌, ◌++◌, length, refl, ap, sym, subst, ◌∙◌, arith, append_assoc, length-append, Option, Some, None}
+use Rattle.std.proofs.Common.{◌≡◌, ℕ, zero, suc, ◌+◌, ◌-◌, Bool, true, false, not, ◌&&◌, List, [], ◌∷◌, ◌++◌, length}
+use Rattle.std.proofs.Common.{refl, ap, sym, subst, ◌∙◌, arith, append_assoc, length-append, Option, Some, None}
 use Rattle.std.specs.Prelude.{◌==◌, slice_range}
 use Rattle.std.specs.List.{list_all}
 use Rattle.std.proofs.lemmas.List.{take_at, drop_at}
 use Rattle.std.proofs.Math.Numerals.{one-add}
 use Rattle.std.proofs.lemmas.Bool.{and_parts}
 use Rattle.cbpf_lex.specs.Tokens.{tokens_of}
-use Rattle.cbpf_lex.proofs.Spelled.{Segment, bytes_of, text_of, pieces_of, piece_of, AreSegments, ends_name, ends_blank, stay_apart}
+use Rattle.cbpf_lex.proofs.Spelled.{Segment, bytes_of, text_of, pieces_of, piece_of, AreSegments, ends_name}
+use Rattle.cbpf_lex.proofs.Spelled.{ends_blank, stay_apart}
 use Rattle.cbpf_lex.proofs.Spelled.Segment.{blank, word, number, mark}
 use Rattle.cbpf_grammar.specs.Lexemes as grammar
 use Rattle.cbpf_grammar.specs.Lexemes.{Lexeme, lexemes_of}
@@ -16,56 +18,85 @@ use Rattle.cbpf_grammar.specs.Refusals.{symbol_at, IsLargeNegative}
 abbrev pub lexemes_at : ℕ → List Segment → List Lexeme
 lexemes_at at [] = []
 lexemes_at at (blank b ∷ ss) = lexemes_at (at + 1) ss
-lexemes_at at (word b bs ∷ ss) = record { symbol = grammar.Symbol.word (b ∷ bs); at = at } ∷ lexemes_at (at + (1 + length bs)) ss
-lexemes_at at (number b bs n ∷ ss) = record { symbol = grammar.Symbol.number n; at = at } ∷ lexemes_at (at + (1 + length bs)) ss
+lexemes_at at (word b bs ∷ ss) = record { symbol = grammar.Symbol.word (b ∷ bs); at = at }
+    ∷ lexemes_at (at + (1 + length bs)) ss
+lexemes_at at (number b bs n ∷ ss) = record { symbol = grammar.Symbol.number n; at = at }
+    ∷ lexemes_at (at + (1 + length bs)) ss
 lexemes_at at (mark b ∷ ss) = record { symbol = grammar.Symbol.mark b; at = at } ∷ lexemes_at (at + 1) ss
 
 -- the bytes of the segment after a front
-part_at : (before : List ℕ) (b : ℕ) (bs rest : List ℕ) → slice_range (before ++ (b ∷ (bs ++ rest))) (length before) (length before + (1 + length bs)) ≡ b ∷ bs
+part_at : (before : List ℕ) (b : ℕ) (bs rest : List ℕ)
+    → slice_range (before ++ (b ∷ (bs ++ rest))) (length before) (length before + (1 + length bs)) ≡ b ∷ bs
 part_at before b bs rest =
     let n : length before + (1 + length bs) - length before ≡ length (b ∷ bs) = omega (arith, one-add (length bs)) in
     rw (n, drop_at before (b ∷ (bs ++ rest)) (length before) refl) (take_at (b ∷ bs) rest (length (b ∷ bs)) refl)
 
 -- the tokens of a text of segments, after a front, as the grammar sees them
-pub lexemes_spelled : (before : List ℕ) (ss : List Segment) → lexemes_of (before ++ text_of ss) (tokens_of (length before) (pieces_of ss)) ≡ lexemes_at (length before) ss
+pub lexemes_spelled : (before : List ℕ) (ss : List Segment)
+    → lexemes_of (before ++ text_of ss) (tokens_of (length before) (pieces_of ss)) ≡ lexemes_at (length before) ss
 lexemes_spelled before [] = refl
 lexemes_spelled before (s ∷ ss) = by_kind s (moved s (lexemes_spelled (before ++ bytes_of s) ss))
   where
-    moved : (s : Segment) → lexemes_of ((before ++ bytes_of s) ++ text_of ss) (tokens_of (length (before ++ bytes_of s)) (pieces_of ss)) ≡ lexemes_at (length (before ++ bytes_of s)) ss
-        → lexemes_of (before ++ text_of (s ∷ ss)) (tokens_of (length before + length (bytes_of s)) (pieces_of ss)) ≡ lexemes_at (length before + length (bytes_of s)) ss
+    moved : (s : Segment)
+        → lexemes_of ((before ++ bytes_of s) ++ text_of ss) (tokens_of (length (before ++ bytes_of s)) (pieces_of ss))
+        ≡ lexemes_at (length (before ++ bytes_of s)) ss
+        → lexemes_of (before ++ text_of (s ∷ ss)) (tokens_of (length before + length (bytes_of s)) (pieces_of ss))
+        ≡ lexemes_at (length before + length (bytes_of s)) ss
     moved s e =
-        let t : (before ++ bytes_of s) ++ text_of ss ≡ before ++ (bytes_of s ++ text_of ss) = append_assoc before (bytes_of s) (text_of ss) in
-        let n : length (before ++ bytes_of s) ≡ length before + length (bytes_of s) = length-append before (bytes_of s) in
-        subst (λ k. lexemes_of (before ++ (bytes_of s ++ text_of ss)) (tokens_of k (pieces_of ss)) ≡ lexemes_at k ss) n
-        (subst (λ x. lexemes_of x (tokens_of (length (before ++ bytes_of s)) (pieces_of ss)) ≡ lexemes_at (length (before ++ bytes_of s)) ss) t e)
+        let t : (before ++ bytes_of s) ++ text_of ss ≡ before ++ (bytes_of s ++ text_of ss) =
+        append_assoc before (bytes_of s) (text_of ss) in
+        let n : length (before ++ bytes_of s) ≡ length before + length (bytes_of s) =
+        length-append before (bytes_of s) in
+        subst (λ k. lexemes_of (before ++ (bytes_of s ++ text_of ss)) (tokens_of k (pieces_of ss)) ≡ lexemes_at k ss)
+        n
+        (subst (λ x. lexemes_of x (tokens_of (length (before ++ bytes_of s)) (pieces_of ss))
+        ≡ lexemes_at (length (before ++ bytes_of s)) ss) t e)
 
-    by_kind : (s : Segment) → lexemes_of (before ++ text_of (s ∷ ss)) (tokens_of (length before + length (bytes_of s)) (pieces_of ss)) ≡ lexemes_at (length before + length (bytes_of s)) ss
-        → lexemes_of (before ++ text_of (s ∷ ss)) (tokens_of (length before) (piece_of s ∷ pieces_of ss)) ≡ lexemes_at (length before) (s ∷ ss)
+    by_kind : (s : Segment)
+        → lexemes_of (before ++ text_of (s ∷ ss)) (tokens_of (length before + length (bytes_of s)) (pieces_of ss))
+        ≡ lexemes_at (length before + length (bytes_of s)) ss
+        → lexemes_of (before ++ text_of (s ∷ ss)) (tokens_of (length before) (piece_of s ∷ pieces_of ss))
+        ≡ lexemes_at (length before) (s ∷ ss)
     by_kind (blank b) e = e
     by_kind (word b bs) e =
-        let p : slice_range (before ++ (b ∷ (bs ++ text_of ss))) (length before) (length before + (1 + length bs)) ≡ b ∷ bs = part_at before b bs (text_of ss) in
-        let r = subst (λ m. lexemes_of (before ++ text_of (word b bs ∷ ss)) (tokens_of (length before + m) (pieces_of ss)) ≡ lexemes_at (length before + m) ss) (sym (one-add (length bs))) e in
+        let p : slice_range (before ++ (b ∷ (bs ++ text_of ss))) (length before) (length before + (1 + length bs))
+        ≡ b ∷ bs = part_at before b bs (text_of ss) in
+        let r =
+        subst (λ m. lexemes_of (before ++ text_of (word b bs ∷ ss)) (tokens_of (length before + m) (pieces_of ss))
+        ≡ lexemes_at (length before + m) ss) (sym (one-add (length bs))) e in
         λ k. record { symbol = grammar.Symbol.word (p k); at = length before } ∷ r k
     by_kind (number b bs n) e =
-        let r = subst (λ m. lexemes_of (before ++ text_of (number b bs n ∷ ss)) (tokens_of (length before + m) (pieces_of ss)) ≡ lexemes_at (length before + m) ss) (sym (one-add (length bs))) e in
+        let r =
+        subst (λ m. lexemes_of (before ++ text_of (number b bs n ∷ ss)) (tokens_of (length before + m) (pieces_of ss))
+        ≡ lexemes_at (length before + m) ss) (sym (one-add (length bs))) e in
         λ k. record { symbol = grammar.Symbol.number n; at = length before } ∷ r k
     by_kind (mark b) e = λ k. record { symbol = grammar.Symbol.mark b; at = length before } ∷ e k
 
 -- segments after one another
-pub lexemes_append : (at : ℕ) (ss us : List Segment) → lexemes_at at (ss ++ us) ≡ lexemes_at at ss ++ lexemes_at (at + length (text_of ss)) us
+pub lexemes_append : (at : ℕ) (ss us : List Segment)
+    → lexemes_at at (ss ++ us) ≡ lexemes_at at ss ++ lexemes_at (at + length (text_of ss)) us
 lexemes_append at [] us = let e : at + 0 ≡ at = omega arith in rw e refl
-lexemes_append at (blank b ∷ ss) us = let e : at + suc (length (text_of ss)) ≡ at + 1 + length (text_of ss) = omega arith in rw e (lexemes_append (at + 1) ss us)
-lexemes_append at (mark b ∷ ss) us = let e : at + suc (length (text_of ss)) ≡ at + 1 + length (text_of ss) = omega arith in rw e (ap (λ ts. record { symbol = grammar.Symbol.mark b; at = at } ∷ ts) (lexemes_append (at + 1) ss us))
+lexemes_append at (blank b ∷ ss) us =
+    let e : at + suc (length (text_of ss)) ≡ at + 1 + length (text_of ss) = omega arith in
+    rw e (lexemes_append (at + 1) ss us)
+lexemes_append at (mark b ∷ ss) us =
+    let e : at + suc (length (text_of ss)) ≡ at + 1 + length (text_of ss) = omega arith in
+    rw e (ap (λ ts. record { symbol = grammar.Symbol.mark b; at = at } ∷ ts) (lexemes_append (at + 1) ss us))
 lexemes_append at (word b bs ∷ ss) us =
-    let e : at + suc (length (bs ++ text_of ss)) ≡ at + (1 + length bs) + length (text_of ss) = omega (arith, length-append bs (text_of ss)) in
-    rw e (ap (λ ts. record { symbol = grammar.Symbol.word (b ∷ bs); at = at } ∷ ts) (lexemes_append (at + (1 + length bs)) ss us))
+    let e : at + suc (length (bs ++ text_of ss)) ≡ at + (1 + length bs) + length (text_of ss) =
+    omega (arith, length-append bs (text_of ss)) in
+    rw e (ap (λ ts. record { symbol = grammar.Symbol.word (b ∷ bs); at = at } ∷ ts)
+    (lexemes_append (at + (1 + length bs)) ss us))
 lexemes_append at (number b bs n ∷ ss) us =
-    let e : at + suc (length (bs ++ text_of ss)) ≡ at + (1 + length bs) + length (text_of ss) = omega (arith, length-append bs (text_of ss)) in
-    rw e (ap (λ ts. record { symbol = grammar.Symbol.number n; at = at } ∷ ts) (lexemes_append (at + (1 + length bs)) ss us))
+    let e : at + suc (length (bs ++ text_of ss)) ≡ at + (1 + length bs) + length (text_of ss) =
+    omega (arith, length-append bs (text_of ss)) in
+    rw e (ap (λ ts. record { symbol = grammar.Symbol.number n; at = at } ∷ ts)
+    (lexemes_append (at + (1 + length bs)) ss us))
 
 pub text_append : (ss us : List Segment) → text_of (ss ++ us) ≡ text_of ss ++ text_of us
 text_append [] us = refl
-text_append (s ∷ ss) us = ap (λ t. bytes_of s ++ t) (text_append ss us) ∙ sym (append_assoc (bytes_of s) (text_of ss) (text_of us))
+text_append (s ∷ ss) us =
+    ap (λ t. bytes_of s ++ t) (text_append ss us) ∙ sym (append_assoc (bytes_of s) (text_of ss) (text_of us))
 
 pub are_append : (ss us : List Segment) → AreSegments ss → AreSegments us → AreSegments (ss ++ us)
 are_append [] us p q = q
@@ -95,7 +126,8 @@ blank_before (mark b ∷ ss) us = refl
 pub ends_before : (ss us : List Segment) → ends_name (ss ++ newline) ≡ true → ends_name (ss ++ (blank 10 ∷ us)) ≡ true
 ends_before ss us e = name_before ss us ∙ e
 
-pub apart_before : (fresh : Bool) (ss us : List Segment) → stay_apart fresh (ss ++ newline) ≡ true → ends_blank us ≡ true → stay_apart true us ≡ true → stay_apart fresh (ss ++ (blank 10 ∷ us)) ≡ true
+pub apart_before : (fresh : Bool) (ss us : List Segment) → stay_apart fresh (ss ++ newline) ≡ true
+    → ends_blank us ≡ true → stay_apart true us ≡ true → stay_apart fresh (ss ++ (blank 10 ∷ us)) ≡ true
 apart_before fresh [] us h b k = rw (b, k) refl
 apart_before fresh (blank c ∷ ss) us h b k =
     let p = and_parts (ends_blank (ss ++ newline)) _ h in
@@ -120,16 +152,20 @@ no_minus (mark b) = not (b == 45)
 abbrev pub are_positive : List Segment → Bool
 are_positive ss = list_all no_minus ss
 
-pub positive_append : (ss us : List Segment) → are_positive ss ≡ true → are_positive us ≡ true → are_positive (ss ++ us) ≡ true
+pub positive_append : (ss us : List Segment) → are_positive ss ≡ true → are_positive us ≡ true
+    → are_positive (ss ++ us) ≡ true
 positive_append [] us p q = q
 positive_append (s ∷ ss) us p q = let r = and_parts (no_minus s) _ p in and_both _ _ r.0 (positive_append ss us r.1 q)
 
-never_minus : (at : ℕ) (ss : List Segment) (j : ℕ) (s : grammar.Symbol) → are_positive ss ≡ true → symbol_at (lexemes_at at ss) j ≡ Some s → s ≡ grammar.Symbol.mark 45 → ⊥
+never_minus : (at : ℕ) (ss : List Segment) (j : ℕ) (s : grammar.Symbol) → are_positive ss ≡ true
+    → symbol_at (lexemes_at at ss) j ≡ Some s → s ≡ grammar.Symbol.mark 45 → ⊥
 never_minus at [] j s p g e = let k : ◌≡◌ {A = Option grammar.Symbol} None (Some s) = g in cc
 never_minus at (blank b ∷ ss) j s p g e = never_minus (at + 1) ss j s p g e
-never_minus at (word b bs ∷ ss) zero s p g e = let k : grammar.Symbol.word (b ∷ bs) ≡ grammar.Symbol.mark 45 = (cc) in cc
+never_minus at (word b bs ∷ ss) zero s p g e = let k : grammar.Symbol.word (b ∷ bs) ≡ grammar.Symbol.mark 45 = (cc) in
+    cc
 never_minus at (word b bs ∷ ss) (suc j) s p g e = never_minus (at + (1 + length bs)) ss j s p g e
-never_minus at (number b bs n ∷ ss) zero s p g e = let k : grammar.Symbol.number n ≡ grammar.Symbol.mark 45 = (cc) in cc
+never_minus at (number b bs n ∷ ss) zero s p g e = let k : grammar.Symbol.number n ≡ grammar.Symbol.mark 45 = (cc) in
+    cc
 never_minus at (number b bs n ∷ ss) (suc j) s p g e = never_minus (at + (1 + length bs)) ss j s p g e
 never_minus at (mark b ∷ ss) zero s p g e =
     let k : grammar.Symbol.mark b ≡ grammar.Symbol.mark 45 = (cc) in
@@ -139,5 +175,6 @@ never_minus at (mark b ∷ ss) zero s p g e =
     cc
 never_minus at (mark b ∷ ss) (suc j) s p g e = never_minus (at + 1) ss j s (and_parts (not (b == 45)) _ p).1 g e
 
-pub no_large_negative : (at : ℕ) (ss : List Segment) → are_positive ss ≡ true → (i : ℕ) → IsLargeNegative (lexemes_at at ss) i → ⊥
+pub no_large_negative : (at : ℕ) (ss : List Segment) → are_positive ss ≡ true → (i : ℕ)
+    → IsLargeNegative (lexemes_at at ss) i → ⊥
 no_large_negative at ss p i l = never_minus at ss l.before l.sign p l.sign_at l.large.0

@@ -1,5 +1,6 @@
 -- Small facts on lists and names.
-use Rattle.std.proofs.Common.{◌≡◌, refl, ap, ℕ, zero, suc, ◌<◌, List, [], ◌∷◌, ◌++◌, length, take, drop, get_or, Option, Some, None, arith}
+use Rattle.std.proofs.Common.{◌≡◌, refl, ap, ℕ, zero, suc, ◌<◌, List, [], ◌∷◌, ◌++◌, length, take, drop, get_or}
+use Rattle.std.proofs.Common.{Option, Some, None, arith}
 use Rattle.std.specs.Prelude.{slice_get, All}
 
 pub get_within : {A : Type 0} (xs : List A) (i : ℕ) (x : A) → slice_get xs i ≡ Some x → i < length xs
@@ -21,7 +22,8 @@ pub all_after : {A : Type 0} (P : A → Type 0) (x : A) (xs : List A) → All P 
 all_after P x xs h k d l = h (suc k) d (omega arith)
 
 -- a list is the elements before one of its own, that one, and those after it
-pub split_at : {A : Type 0} (xs : List A) (i : ℕ) (d : A) → i < length xs → xs ≡ take i xs ++ (get_or xs i d ∷ drop (suc i) xs)
+pub split_at : {A : Type 0} (xs : List A) (i : ℕ) (d : A) → i < length xs
+    → xs ≡ take i xs ++ (get_or xs i d ∷ drop (suc i) xs)
 split_at [] i d l = absurd (omega arith)
 split_at (x ∷ xs) zero d l = refl
 split_at (x ∷ xs) (suc i) d l = ap (λ ys. x ∷ ys) (split_at xs i d (omega arith))

@@ -1,5 +1,7 @@
 -- The refusals of a text whose items are read one by one, and what is kept of them.
-use Rattle.std.proofs.Common.{◌≡◌, refl, sym, ◌∙◌, ap, subst, ℕ, zero, suc, ◌+◌, ◌<◌, ◌≤◌, Bool, true, false, List, [], ◌∷◌, ◌++◌, length, map, take, drop, get_or, Option, Some, None, arith, append_assoc, append-nil, length-append, length-drop}
+use Rattle.std.proofs.Common.{◌≡◌, refl, sym, ◌∙◌, ap, subst, ℕ, zero, suc, ◌+◌, ◌<◌, ◌≤◌, Bool, true, false, List}
+use Rattle.std.proofs.Common.{[], ◌∷◌, ◌++◌, length, map, take, drop, get_or, Option, Some, None, arith, append_assoc}
+use Rattle.std.proofs.Common.{append-nil, length-append, length-drop}
 use Rattle.std.proofs.lemmas.List.{length-map, length-take-le, drop-drop, drop_at}
 use Rattle.cbpf_lex.specs.Tokens.{LexesTo}
 use Rattle.cbpf_grammar.specs.declared.lexeme.Lexeme as declared_lexeme
@@ -31,33 +33,44 @@ use Rattle.cbpf_text.specs.declared.draft.Statement.{Statement}
 use Rattle.cbpf_text.specs.Drafts.{AreSet, IsKept, IsDraft}
 use Rattle.cbpf_text.proofs.Faults.{refused_at}
 
-pub misplaced_reported : (ts : List Lexeme) (at : ℕ) → IsRefusedFor ts (refused.Misplaced at) → IsTokensFault ts kinds.Misplaced at
-misplaced_reported ts at h = subst (λ a. IsTokensFault ts kinds.Misplaced a) (sym h.2.2) (misplaced h.0 h.2.0 h.1 h.2.1)
+pub misplaced_reported : (ts : List Lexeme) (at : ℕ) → IsRefusedFor ts (refused.Misplaced at)
+    → IsTokensFault ts kinds.Misplaced at
+misplaced_reported ts at h =
+    subst (λ a. IsTokensFault ts kinds.Misplaced a) (sym h.2.2) (misplaced h.0 h.2.0 h.1 h.2.1)
 
-pub large_reported : (ts : List Lexeme) (at : ℕ) → IsRefusedFor ts (refused.LargeNegative at) → IsTokensFault ts kinds.LargeNumber at
-large_reported ts at h = subst (λ a. IsTokensFault ts kinds.LargeNumber a) (sym h.2.2) (large_negative h.0 h.2.0 h.1 h.2.1)
+pub large_reported : (ts : List Lexeme) (at : ℕ) → IsRefusedFor ts (refused.LargeNegative at)
+    → IsTokensFault ts kinds.LargeNumber at
+large_reported ts at h =
+    subst (λ a. IsTokensFault ts kinds.LargeNumber a) (sym h.2.2) (large_negative h.0 h.2.0 h.1 h.2.1)
 
-pub unfinished_reported : (ts : List Lexeme) (at : ℕ) → IsRefusedFor ts (refused.Unfinished at) → IsTokensFault ts kinds.Unfinished at
-unfinished_reported ts at h = subst (λ a. IsTokensFault ts kinds.Unfinished a) (sym h.1.2) (unfinished h.1.0 h.0 h.1.1)
+pub unfinished_reported : (ts : List Lexeme) (at : ℕ) → IsRefusedFor ts (refused.Unfinished at)
+    → IsTokensFault ts kinds.Unfinished at
+unfinished_reported ts at h =
+    subst (λ a. IsTokensFault ts kinds.Unfinished a) (sym h.1.2) (unfinished h.1.0 h.0 h.1.1)
 
 -- the refusal of the text's tokens is the text's
-pub whole_refused : (text : List ℕ) (ts : List Lexeme) (r : PlacedFault) (fault : AsmFault) → AreLexemes text ts → Reported (IsTokensFault ts) r → IsReportedAt text r fault → IsRefused text fault
+pub whole_refused : (text : List ℕ) (ts : List Lexeme) (r : PlacedFault) (fault : AsmFault) → AreLexemes text ts
+    → Reported (IsTokensFault ts) r → IsReportedAt text r fault → IsRefused text fault
 whole_refused text ts r fault t h line = refused_at text t.tokens ts r fault t.lexed t.are h line
 
 -- items with a literal that is too large
-pub items_refused : (ts : List Lexeme) (is : List Item) (n at : ℕ) → Items ts is → IsFirstLarge ts n (Some at) → IsRefusedFor ts (refused.LargeNegative at)
+pub items_refused : (ts : List Lexeme) (is : List Item) (n at : ℕ) → Items ts is → IsFirstLarge ts n (Some at)
+    → IsRefusedFor ts (refused.LargeNegative at)
 items_refused ts is n at p h = (h.0, items_large ts is h.0 p h.2 h.3, h.4)
 
-pub all_accepted : (ts : List Lexeme) (is : List Item) (n : ℕ) → Items ts is → length ts ≤ n → IsFirstLarge ts n None → IsAccepted ts
+pub all_accepted : (ts : List Lexeme) (is : List Item) (n : ℕ) → Items ts is → length ts ≤ n → IsFirstLarge ts n None
+    → IsAccepted ts
 all_accepted ts is n p l h = items_accepted ts is p (λ k q. h k (omega (arith, l, large_within ts k q)) q)
 
--- What the reader of items stands at: so many tokens were taken, which are items and then labels that wait for theirs.
+-- What the reader of items stands at: so many tokens were taken,
+-- which are items and then labels that wait for theirs.
 pub record Front (ts : List Lexeme) (is : List Item) (ls : List Lexeme) (from n : ℕ) : Type 0 where
   pub greedy : Greedy ts is (drop from ts)
   pub rest : drop from ts ≡ ls ++ drop n ts
   pub labels : AreLabels ls
 
-pub record IsState (text : List ℕ) (a : Ahead) (o : Option ℕ) (ss : List Statement) (rep : Option ℕ) (look : Name → Option ℕ) (waits : Bool) : Type 0 where
+pub record IsState (text : List ℕ) (a : Ahead) (o : Option ℕ) (ss : List Statement) (rep : Option ℕ)
+    (look : Name → Option ℕ) (waits : Bool) : Type 0 where
   pub from : ℕ
   pub is : List Item
   pub ls : List Lexeme
@@ -70,14 +83,16 @@ pub record IsState (text : List ℕ) (a : Ahead) (o : Option ℕ) (ss : List Sta
   pub front : (ts : List Lexeme) → AreLexemes text ts → Front ts is ls from (from + length ls)
 
 -- two more tokens, of which the first is one more label
-pub words_on : (ls : List Lexeme) (m : ℕ) (x y : Lexeme) → length ls ≡ m + m → label_words (ls ++ (x ∷ y ∷ [])) ≡ label_words ls ++ (x ∷ [])
+pub words_on : (ls : List Lexeme) (m : ℕ) (x y : Lexeme) → length ls ≡ m + m
+    → label_words (ls ++ (x ∷ y ∷ [])) ≡ label_words ls ++ (x ∷ [])
 words_on [] m x y e = refl
 words_on (t ∷ []) zero x y e = absurd (omega (arith, e))
 words_on (t ∷ []) (suc m) x y e = absurd (omega (arith, e))
 words_on (t ∷ u ∷ ls) zero x y e = absurd (omega (arith, e))
 words_on (t ∷ u ∷ ls) (suc m) x y e = ap (λ us. t ∷ us) (words_on ls m x y (omega (arith, e)))
 
-two_of : (window : List declared_lexeme.Lexeme) (d e : declared_lexeme.Lexeme) → 2 ≤ length window → map lexeme_of (take 2 window) ≡ lexeme_of (get_or window 0 d) ∷ lexeme_of (get_or window 1 e) ∷ []
+two_of : (window : List declared_lexeme.Lexeme) (d e : declared_lexeme.Lexeme) → 2 ≤ length window
+    → map lexeme_of (take 2 window) ≡ lexeme_of (get_or window 0 d) ∷ lexeme_of (get_or window 1 e) ∷ []
 two_of [] d e l = absurd (omega (arith, l))
 two_of (t ∷ []) d e l = absurd (omega (arith, l))
 two_of (t ∷ u ∷ window) d e l = refl
@@ -85,20 +100,30 @@ two_of (t ∷ u ∷ window) d e l = refl
 two_labels : (t u : Lexeme) (ts : List Lexeme) → starts_with_label (t ∷ u ∷ ts) ≡ true → AreLabels (t ∷ u ∷ [])
 two_labels t u ts h = let p = and_parts (fits name t.symbol) (fits (the_mark 58) u.symbol) h in (p.0, p.1, tt)
 
-drop_front : (xs ys : List Lexeme) (ts : List Lexeme) (n m : ℕ) → drop n ts ≡ xs ++ ys → length xs ≡ m → drop (n + m) ts ≡ ys
+drop_front : (xs ys : List Lexeme) (ts : List Lexeme) (n m : ℕ) → drop n ts ≡ xs ++ ys → length xs ≡ m
+    → drop (n + m) ts ≡ ys
 drop_front xs ys ts n m e l = sym (drop-drop m n ts) ∙ (ap (λ us. drop m us) e ∙ drop_at xs ys m l)
 
-pub label_state : (text : List ℕ) (a b : Ahead) (o p : Option ℕ) (ss tt : List Statement) (rep rep2 : Option ℕ) (look look2 : Name → Option ℕ) (waits : Bool) (d : declared_lexeme.Lexeme) → (s : IsState text a o ss rep look waits) → a.text ≡ text
-    → ((ts : List Lexeme) → AreLexemes text ts → starts_with_label (drop (s.from + length s.ls) ts) ≡ true) → 2 ≤ length a.tokens
+pub label_state : (text : List ℕ) (a b : Ahead) (o p : Option ℕ) (ss tt : List Statement) (rep rep2 : Option ℕ)
+    (look look2 : Name → Option ℕ) (waits : Bool) (d : declared_lexeme.Lexeme)
+    → (s : IsState text a o ss rep look waits) → a.text ≡ text
+    → ((ts : List Lexeme) → AreLexemes text ts → starts_with_label (drop (s.from + length s.ls) ts) ≡ true)
+    → 2 ≤ length a.tokens
     → ((m : ℕ) → IsReading m a → IsReading (m + 2) b)
-    → ((is : List Item) (ls : List Lexeme) (colon : Lexeme) → IsDraft o ss rep look is ls → label_words (ls ++ (lexeme_of (get_or a.tokens 0 d) ∷ colon ∷ [])) ≡ label_words ls ++ (lexeme_of (get_or a.tokens 0 d) ∷ []) → IsDraft p tt rep2 look2 is (ls ++ (lexeme_of (get_or a.tokens 0 d) ∷ colon ∷ [])))
+    → ((is : List Item) (ls : List Lexeme) (colon : Lexeme) → IsDraft o ss rep look is ls
+    → label_words (ls ++ (lexeme_of (get_or a.tokens 0 d) ∷ colon ∷ []))
+    ≡ label_words ls ++ (lexeme_of (get_or a.tokens 0 d) ∷ [])
+    → IsDraft p tt rep2 look2 is (ls ++ (lexeme_of (get_or a.tokens 0 d) ∷ colon ∷ [])))
     → IsState text b p tt rep2 look2 true
 label_state text a b o p ss ss' rep rep2 look look2 waits d s same is_label two taken kept =
     let x = lexeme_of (get_or a.tokens 0 d) in
     let y = lexeme_of (get_or a.tokens 1 d) in
     let n = s.from + length s.ls in
-    let size : length (s.ls ++ (lexeme_of (get_or a.tokens 0 d) ∷ lexeme_of (get_or a.tokens 1 d) ∷ [])) ≡ length s.ls + 2 = length-append s.ls (lexeme_of (get_or a.tokens 0 d) ∷ lexeme_of (get_or a.tokens 1 d) ∷ []) in
-    let count : s.from + length s.ls + 2 ≡ s.from + length (s.ls ++ (lexeme_of (get_or a.tokens 0 d) ∷ lexeme_of (get_or a.tokens 1 d) ∷ [])) = omega (arith, size) in
+    let size : length (s.ls ++ (lexeme_of (get_or a.tokens 0 d) ∷ lexeme_of (get_or a.tokens 1 d) ∷ []))
+    ≡ length s.ls + 2 = length-append s.ls (lexeme_of (get_or a.tokens 0 d) ∷ lexeme_of (get_or a.tokens 1 d) ∷ []) in
+    let count : s.from + length s.ls + 2
+    ≡ s.from + length (s.ls ++ (lexeme_of (get_or a.tokens 0 d) ∷ lexeme_of (get_or a.tokens 1 d) ∷ [])) =
+    omega (arith, size) in
     record {
       from = s.from;
       is = s.is;
@@ -111,23 +136,36 @@ label_state text a b o p ss ss' rep rep2 look look2 waits d s same is_label two 
       draft = kept s.is s.ls y s.draft (words_on s.ls s.half x y s.even);
       front = λ ts t.
           let f = s.front ts t in
-          let part = taken_is a.text a.to n 2 a.tokens ts s.reading.read (subst (λ u. AreLexemes u ts) (sym same) t) two in
-          let begins : drop (s.from + length s.ls) ts ≡ (x ∷ y ∷ []) ++ part.0 = part.1 ∙ ap (λ us. us ++ part.0) (two_of a.tokens d d two) in
-          let after : drop (s.from + length s.ls + 2) ts ≡ part.0 = drop_front (x ∷ y ∷ []) part.0 ts (s.from + length s.ls) 2 begins refl in
+          let part =
+          taken_is a.text a.to n 2 a.tokens ts s.reading.read (subst (λ u. AreLexemes u ts) (sym same) t) two in
+          let begins : drop (s.from + length s.ls) ts ≡ (x ∷ y ∷ []) ++ part.0 =
+          part.1 ∙ ap (λ us. us ++ part.0) (two_of a.tokens d d two) in
+          let after : drop (s.from + length s.ls + 2) ts ≡ part.0 =
+          drop_front (x ∷ y ∷ []) part.0 ts (s.from + length s.ls) 2 begins refl in
           record {
             greedy = f.greedy;
-            rest = f.rest ∙ (ap (λ us. s.ls ++ us) begins ∙ (sym (append_assoc s.ls (x ∷ y ∷ []) part.0) ∙ ap (λ us. (s.ls ++ (x ∷ y ∷ [])) ++ us) (sym after ∙ ap (λ k. drop k ts) count)));
-            labels = labels_append s.ls (x ∷ y ∷ []) f.labels (two_labels x y part.0 (subst (λ us. starts_with_label us ≡ true) begins (is_label ts t)));
+            rest = f.rest ∙ (ap (λ us. s.ls ++ us) begins ∙ (sym (append_assoc s.ls (x ∷ y ∷ []) part.0)
+                ∙ ap (λ us. (s.ls ++ (x ∷ y ∷ [])) ++ us) (sym after ∙ ap (λ k. drop k ts) count)));
+            labels = labels_append s.ls (x ∷ y ∷ []) f.labels
+                (two_labels x y part.0 (subst (λ us. starts_with_label us ≡ true) begins (is_label ts t)));
           };
     }
 
-pub item_state : (text : List ℕ) (a b : Ahead) (o p : Option ℕ) (ss tt : List Statement) (rep rep2 : Option ℕ) (look look2 : Name → Option ℕ) (waits : Bool) (row : declared_row.Row) (m : ℕ) → (s : IsState text a o ss rep look waits) → a.text ≡ text → m ≡ 1 + length row.operand.now
-    → ((ts : List Lexeme) → AreLexemes text ts → IsInstruction (drop (s.from + length s.ls) ts) (Ok row)) → m ≤ length a.tokens
+pub item_state : (text : List ℕ) (a b : Ahead) (o p : Option ℕ) (ss tt : List Statement) (rep rep2 : Option ℕ)
+    (look look2 : Name → Option ℕ) (waits : Bool) (row : declared_row.Row) (m : ℕ)
+    → (s : IsState text a o ss rep look waits) → a.text ≡ text → m ≡ 1 + length row.operand.now
+    → ((ts : List Lexeme) → AreLexemes text ts → IsInstruction (drop (s.from + length s.ls) ts) (Ok row))
+    → m ≤ length a.tokens
     → ((k : ℕ) → IsReading k a → IsReading (k + m) b)
-    → ((is : List Item) (ls : List Lexeme) → IsDraft o ss rep look is ls → IsDraft p tt rep2 look2 (is ++ (record { labels = label_words ls; row = row_of row; body = map lexeme_of (take m a.tokens) } ∷ [])) [])
+    → ((is : List Item) (ls : List Lexeme) → IsDraft o ss rep look is ls → IsDraft p tt rep2 look2
+    (is ++ (record { labels = label_words ls; row = row_of row; body = map lexeme_of (take m a.tokens) } ∷ [])) [])
     → IsState text b p tt rep2 look2 false
 item_state text a b o p ss ss' rep rep2 look look2 waits row m s same size next within taken kept =
-    let item : Item = record { labels = label_words s.ls; row = row_of row; body = map lexeme_of (take m a.tokens) } in
+    let item : Item = record {
+      labels = label_words s.ls;
+      row = row_of row;
+      body = map lexeme_of (take m a.tokens);
+    } in
     let n = s.from + length s.ls in
     let zero_more : s.from + length s.ls + m ≡ s.from + length s.ls + m + 0 = omega arith in
     record {
@@ -142,33 +180,51 @@ item_state text a b o p ss ss' rep rep2 look look2 waits row m s same size next 
       draft = kept s.is s.ls s.draft;
       front = λ ts t.
           let f = s.front ts t in
-          let part = taken_is a.text a.to n m a.tokens ts s.reading.read (subst (λ u. AreLexemes u ts) (sym same) t) within in
+          let part =
+          taken_is a.text a.to n m a.tokens ts s.reading.read (subst (λ u. AreLexemes u ts) (sym same) t) within in
           let count : suc (length row.operand.now) ≡ m = omega (arith, size) in
-          let long : length (map lexeme_of (take m a.tokens)) ≡ m = length-map (take m a.tokens) lexeme_of ∙ length-take-le m a.tokens within in
-          let body : take m (drop (s.from + length s.ls) ts) ≡ map lexeme_of (take m a.tokens) = ap (λ us. take m us) part.1 ∙ (ap (λ k. take k (map lexeme_of (take m a.tokens) ++ part.0)) (sym long) ∙ take-append_seam (map lexeme_of (take m a.tokens)) part.0) in
-          let one : IsNextItem (drop (s.from + length s.ls) ts) m (record { labels = []; row = row_of row; body = map lexeme_of (take m a.tokens) }) =
-          subst (λ (us : List Lexeme). IsNextItem (drop (s.from + length s.ls) ts) m (record { labels = []; row = row_of row; body = us })) body
-          (subst (λ k. IsNextItem (drop (s.from + length s.ls) ts) k (record { labels = []; row = row_of row; body = take k (drop (s.from + length s.ls) ts) })) count (next ts t)) in
+          let long : length (map lexeme_of (take m a.tokens)) ≡ m =
+          length-map (take m a.tokens) lexeme_of ∙ length-take-le m a.tokens within in
+          let body : take m (drop (s.from + length s.ls) ts) ≡ map lexeme_of (take m a.tokens) =
+          ap (λ us. take m us) part.1 ∙ (ap (λ k. take k (map lexeme_of (take m a.tokens) ++ part.0)) (sym long)
+          ∙ take-append_seam (map lexeme_of (take m a.tokens)) part.0) in
+          let one : IsNextItem (drop (s.from + length s.ls) ts) m
+          (record { labels = []; row = row_of row; body = map lexeme_of (take m a.tokens) }) =
+          subst (λ (us : List Lexeme).
+          IsNextItem (drop (s.from + length s.ls) ts) m (record { labels = []; row = row_of row; body = us })) body
+          (subst (λ k. IsNextItem (drop (s.from + length s.ls) ts) k
+          (record { labels = []; row = row_of row; body = take k (drop (s.from + length s.ls) ts) }))
+          count (next ts t)) in
           let all : IsNextItem (drop s.from ts) (length s.ls + m) item =
           subst (λ (us : List Lexeme). IsNextItem us (length s.ls + m) item) (sym f.rest)
-          (subst (λ (ws : List Lexeme). IsNextItem (s.ls ++ drop (s.from + length s.ls) ts) (length s.ls + m) (record { labels = ws; row = row_of row; body = map lexeme_of (take m a.tokens) })) (append-nil (label_words s.ls))
-          (labels_item s.ls (drop (s.from + length s.ls) ts) m (record { labels = []; row = row_of row; body = map lexeme_of (take m a.tokens) }) f.labels one)) in
+          (subst (λ (ws : List Lexeme). IsNextItem (s.ls ++ drop (s.from + length s.ls) ts) (length s.ls + m)
+          (record { labels = ws; row = row_of row; body = map lexeme_of (take m a.tokens) }))
+          (append-nil (label_words s.ls))
+          (labels_item s.ls (drop (s.from + length s.ls) ts) m
+          (record { labels = []; row = row_of row; body = map lexeme_of (take m a.tokens) }) f.labels one)) in
           let end : s.from + (length s.ls + m) ≡ s.from + length s.ls + m = omega arith in
           record {
-            greedy = subst (λ k. Greedy ts (s.is ++ (item ∷ [])) (drop k ts)) end (greedy_more ts s.is s.from (length s.ls + m) item f.greedy all);
+            greedy = subst (λ k. Greedy ts (s.is ++ (item ∷ [])) (drop k ts)) end
+                (greedy_more ts s.is s.from (length s.ls + m) item f.greedy all);
             rest = ap (λ k. drop k ts) zero_more;
             labels = tt;
           };
     }
 
 -- where the tokens do not go on
-pub state_stuck : (text : List ℕ) (a : Ahead) (o : Option ℕ) (ss : List Statement) (rep : Option ℕ) (look : Name → Option ℕ) (waits : Bool) (k : ℕ) (ts : List Lexeme) → (s : IsState text a o ss rep look waits) → AreLexemes text ts → s.from < length ts → Stuck k (drop (s.from + length s.ls) ts) → IsStuckAt ts (s.from + length s.ls + k)
+pub state_stuck : (text : List ℕ) (a : Ahead) (o : Option ℕ) (ss : List Statement) (rep : Option ℕ)
+    (look : Name → Option ℕ) (waits : Bool) (k : ℕ) (ts : List Lexeme)
+    → (s : IsState text a o ss rep look waits) → AreLexemes text ts → s.from < length ts
+    → Stuck k (drop (s.from + length s.ls) ts) → IsStuckAt ts (s.from + length s.ls + k)
 state_stuck text a o ss rep look waits k ts s t l stuck =
     let f = s.front ts t in
     let e : s.from + (length s.ls + k) ≡ s.from + length s.ls + k = omega arith in
-    subst (λ j. IsStuckAt ts j) e (stuck_at ts s.is s.from (length s.ls + k) l f.greedy (subst (λ us. Stuck (length s.ls + k) us) (sym f.rest) (labels_stuck s.ls (drop (s.from + length s.ls) ts) k f.labels stuck)))
+    subst (λ j. IsStuckAt ts j) e
+    (stuck_at ts s.is s.from (length s.ls + k) l f.greedy (subst (λ us. Stuck (length s.ls + k) us) (sym f.rest)
+    (labels_stuck s.ls (drop (s.from + length s.ls) ts) k f.labels stuck)))
 
-pub state_init : (text : List ℕ) (a : Ahead) (ss : List Statement) (rep : Option ℕ) (look : Name → Option ℕ) → IsReading 0 a → ss ≡ [] → AreSet [] rep look → IsState text a None ss rep look false
+pub state_init : (text : List ℕ) (a : Ahead) (ss : List Statement) (rep : Option ℕ) (look : Name → Option ℕ)
+    → IsReading 0 a → ss ≡ [] → AreSet [] rep look → IsState text a None ss rep look false
 state_init text a ss rep look r e h = record {
   from = 0;
   is = [];
@@ -182,30 +238,71 @@ state_init text a ss rep look r e h = record {
   front = λ ts t. record { greedy = refl; rest = refl; labels = tt };
 }
 
-pub state_step : (text : List ℕ) (a b : Ahead) (o : Option ℕ) (ss : List Statement) (rep : Option ℕ) (look : Name → Option ℕ) (waits : Bool) → IsState text a o ss rep look waits → ((n : ℕ) → IsReading n a → IsReading n b) → IsState text b o ss rep look waits
-state_step text a b o ss rep look waits s on = record { from = s.from; is = s.is; ls = s.ls; reading = on (s.from + length s.ls) s.reading; half = s.half; even = s.even; none = s.none; some = s.some; draft = s.draft; front = s.front }
+pub state_step : (text : List ℕ) (a b : Ahead) (o : Option ℕ) (ss : List Statement) (rep : Option ℕ)
+    (look : Name → Option ℕ) (waits : Bool) → IsState text a o ss rep look waits
+    → ((n : ℕ) → IsReading n a → IsReading n b) → IsState text b o ss rep look waits
+state_step text a b o ss rep look waits s on = record {
+  from = s.from;
+  is = s.is;
+  ls = s.ls;
+  reading = on (s.from + length s.ls) s.reading;
+  half = s.half;
+  even = s.even;
+  none = s.none;
+  some = s.some;
+  draft = s.draft;
+  front = s.front;
+}
 
-pub state_quiet : (text : List ℕ) (a : Ahead) (o : Option ℕ) (ss : List Statement) (rep : Option ℕ) (look : Name → Option ℕ) (waits : Bool) → waits ≡ false → IsState text a o ss rep look waits → IsState text a o ss rep look false
+pub state_quiet : (text : List ℕ) (a : Ahead) (o : Option ℕ) (ss : List Statement) (rep : Option ℕ)
+    (look : Name → Option ℕ) (waits : Bool)
+    → waits ≡ false → IsState text a o ss rep look waits → IsState text a o ss rep look false
 state_quiet text a o ss rep look waits e s = subst (λ b. IsState text a o ss rep look b) e s
 
 -- there are tokens after the items
-pub state_inside : (text : List ℕ) (a : Ahead) (o : Option ℕ) (ss : List Statement) (rep : Option ℕ) (look : Name → Option ℕ) (waits : Bool) (ts : List Lexeme) → (s : IsState text a o ss rep look waits) → a.text ≡ text → AreLexemes text ts → 0 < length s.ls + length a.tokens → s.from < length ts
+pub state_inside : (text : List ℕ) (a : Ahead) (o : Option ℕ) (ss : List Statement) (rep : Option ℕ)
+    (look : Name → Option ℕ) (waits : Bool) (ts : List Lexeme) → (s : IsState text a o ss rep look waits)
+    → a.text ≡ text → AreLexemes text ts → 0 < length s.ls + length a.tokens → s.from < length ts
 state_inside text a o ss rep look waits ts s same t l =
-    let all = ahead_is a.text a.to (s.from + length s.ls) (map lexeme_of a.tokens) ts s.reading.read (subst (λ u. AreLexemes u ts) (sym same) t) in
-    omega (arith, l, all.3, length-map a.tokens lexeme_of, length-drop (s.from + length s.ls) ts, ap length all.1, length-append (map lexeme_of a.tokens) all.0)
+    let all = ahead_is a.text a.to (s.from + length s.ls) (map lexeme_of a.tokens) ts s.reading.read
+    (subst (λ u. AreLexemes u ts) (sym same) t) in
+    omega (
+      arith,
+      l,
+      all.3,
+      length-map a.tokens lexeme_of,
+      length-drop (s.from + length s.ls) ts,
+      ap length all.1,
+      length-append (map lexeme_of a.tokens) all.0,
+    )
 
 -- the end of a text whose tokens are items
-pub state_items : (text : List ℕ) (a : Ahead) (o : Option ℕ) (ss : List Statement) (rep : Option ℕ) (look : Name → Option ℕ) (ts : List Lexeme) → (s : IsState text a o ss rep look false) → AreLexemes text ts → drop (s.from + length s.ls) ts ≡ [] → Items ts s.is × (length ts ≤ s.from + length s.ls) × IsDraft o ss rep look s.is []
+pub state_items : (text : List ℕ) (a : Ahead) (o : Option ℕ) (ss : List Statement) (rep : Option ℕ)
+    (look : Name → Option ℕ) (ts : List Lexeme)
+    → (s : IsState text a o ss rep look false) → AreLexemes text ts → drop (s.from + length s.ls) ts ≡ []
+    → Items ts s.is × (length ts ≤ s.from + length s.ls) × IsDraft o ss rep look s.is []
 state_items text a o ss rep look ts s t e =
     let f = s.front ts t in
     let no = s.none refl in
     let past : length ts ≤ s.from + length s.ls = omega (arith, length-drop (s.from + length s.ls) ts, ap length e) in
-    let size : length s.ls ≡ 0 = ap length no in
-    (greedy_all ts s.is s.from (omega (arith, past, size)) f.greedy, past, subst (λ us. IsDraft o ss rep look s.is us) no s.draft)
+    let size : length s.ls ≡ 0 = ap length no in (
+      greedy_all ts s.is s.from (omega (arith, past, size)) f.greedy,
+      past,
+      subst (λ us. IsDraft o ss rep look s.is us) no s.draft,
+    )
 
 -- all lexemes of a text that was read to its end
-pub state_lexemes : (text : List ℕ) (a : Ahead) (o : Option ℕ) (ss : List Statement) (rep : Option ℕ) (look : Name → Option ℕ) (waits : Bool) → (s : IsState text a o ss rep look waits) → a.text ≡ text → a.ended ≡ true → (ts : List Lexeme) × AreLexemes text ts
+pub state_lexemes : (text : List ℕ) (a : Ahead) (o : Option ℕ) (ss : List Statement) (rep : Option ℕ)
+    (look : Name → Option ℕ) (waits : Bool) → (s : IsState text a o ss rep look waits) → a.text ≡ text
+    → a.ended ≡ true → (ts : List Lexeme) × AreLexemes text ts
 state_lexemes text a o ss rep look waits s same e =
     let r = s.reading in
-    let end : a.to ≡ length text = r.end e ∙ ap length same in
-    (lexemes_of text r.read.tokens, record { tokens = r.read.tokens; lexed = subst (λ k. LexesTo text k r.read.tokens) end (subst (λ u. LexesTo u a.to r.read.tokens) same r.read.lexed); are = refl })
+    let end : a.to ≡ length text = r.end e ∙ ap length same in (
+      lexemes_of text r.read.tokens,
+      record {
+        tokens = r.read.tokens;
+        lexed = subst (λ k. LexesTo text k r.read.tokens) end
+            (subst (λ u. LexesTo u a.to r.read.tokens) same r.read.lexed);
+        are = refl;
+      },
+    )

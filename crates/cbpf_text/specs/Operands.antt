@@ -1,6 +1,7 @@
 -- The literal and the targets of an instruction, by the addressing modes of the kernel's
 -- Documentation/networking/filter: numbers, extensions' names and labels.
-use Rattle.std.specs.Prelude.{◌≡◌, ℕ, true, Contains, ◌-◌, ◌%◌, ◌^◌, List, [], ◌∷◌, Option, Some, None, bytes_eq, if◌then◌else◌}
+use Rattle.std.specs.Prelude.{◌≡◌, ℕ, true, Contains, ◌-◌, ◌%◌, ◌^◌, List, [], ◌∷◌, Option, Some, None, bytes_eq}
+use Rattle.std.specs.Prelude.{if◌then◌else◌}
 use Rattle.cbpf_code.specs.declared.extension.Ext.{Ext}
 use Rattle.cbpf_code.specs.Extension.{ext_table, ext_name}
 use Rattle.cbpf_grammar.specs.Classes.{Class}

@@ -1,6 +1,7 @@
 -- Why a source text is refused, and the line that is reported: this project's own rules, as the kernel's
 -- Documentation/networking/filter has no faults.
-use Rattle.std.specs.Prelude.{◌≡◌, ◌≢◌, ℕ, ◌+◌, ◌-◌, ◌<◌, ◌≤◌, Bool, true, false, List, [], ◌∷◌, ◌++◌, length, map, slice_get, Option, Some, None, All}
+use Rattle.std.specs.Prelude.{◌≡◌, ◌≢◌, ℕ, ◌+◌, ◌-◌, ◌<◌, ◌≤◌, Bool, true, false, List, [], ◌∷◌, ◌++◌, length, map}
+use Rattle.std.specs.Prelude.{slice_get, Option, Some, None, All}
 use Rattle.cbpf_lex.specs.declared.token.Token.{Token}
 use Rattle.cbpf_lex.specs.declared.token.BadPiece.{BadPiece}
 use Rattle.cbpf_lex.specs.declared.token.BadPiece.TheVariants as pieces
@@ -58,7 +59,8 @@ uses_from index (item ∷ items) = uses_of index item ++ uses_from (index + 1) i
 -- why a use is refused: its label is set nowhere; not after the jump; further than a conditional jump goes
 pub data IsUseFault (items : List Item) (u : Use) : AsmKind → Type 0 where
   not_set : times_set items (name_of u.target) ≡ 0 → IsUseFault items u kinds.LabelNotSet
-  not_after : (place : ℕ) → SetsAt items place (name_of u.target) → place ≤ u.index → IsUseFault items u kinds.NotAfter
+  not_after : (place : ℕ) → SetsAt items place (name_of u.target) → place ≤ u.index
+      → IsUseFault items u kinds.NotAfter
   too_far : (place : ℕ) → SetsAt items place (name_of u.target) → u.short ≡ true → u.index + 256 < place
       → IsUseFault items u kinds.TooFar
 

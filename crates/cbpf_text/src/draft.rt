@@ -1,6 +1,7 @@
 //! The items of a source text, as far as their instructions depend on them.
 
-ghost use Rattle.std.specs.Prelude.{◌≡◌, ◌≤◌, ◌<◌, ◌+◌, ◌++◌, ◌∷◌, [], true, ℕ, List, length, map, None, IfOk, IfErr, OnOk};
+ghost use Rattle.std.specs.Prelude.{◌≡◌, ◌≤◌, ◌<◌, ◌+◌, ◌++◌, ◌∷◌, [], true, ℕ, List, length, map, None, IfOk, IfErr};
+ghost use Rattle.std.specs.Prelude.{OnOk};
 ghost use Rattle.indexmap.specs.IndexMap.{get};
 ghost use Rattle.cbpf_lex.specs.Tokens.{IsLexFault};
 ghost use Rattle.cbpf_grammar.specs.Lexemes as lexemes;
@@ -192,7 +193,8 @@ pub(crate) fn read<'a, A: Allocator + Copy>(
     alloc: A,
     text: &'a [u8],
 ) -> Result<Draft<'a, A>, AsmFault>
-    ensures items { IfOk result (λ draft. (ts : List lexemes.Lexeme) × (is : List items.Item) × AreLexemes text.now ts ×
+    ensures items { IfOk result
+        (λ draft. (ts : List lexemes.Lexeme) × (is : List items.Item) × AreLexemes text.now ts ×
         Items ts is × IsAccepted ts ×
         IsDraft draft.excess draft.statements.items draft.labels.repeat
         (λ k. get same_name draft.labels.table k) is []) }

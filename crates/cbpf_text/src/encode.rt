@@ -54,7 +54,8 @@ fn short_offset<A: Allocator>(
     ensures found { (is : List items.Item) (label : lexemes.Lexeme) → IsTarget target.now label →
         Resolves is (λ k. get same_name labels.now k) → IfOk result (IsShortOffset is index (Some label)) }
     ensures refused { (is : List items.Item) (label : lexemes.Lexeme) → IsTarget target.now label →
-        Resolves is (λ k. get same_name labels.now k) → IfErr result (Reported (IsTargetFault is index true (Some label))) }
+        Resolves is (λ k. get same_name labels.now k)
+        → IfErr result (Reported (IsTargetFault is index true (Some label))) }
 {
     let distance = distance(labels, index, target)?;
     if distance > FARTHEST {
@@ -72,7 +73,8 @@ fn encode<A: Allocator>(
     ensures encoded { (is : List items.Item) (item : items.Item) → IsStatement statement.now item → HasForm item →
         Resolves is (λ k. get same_name labels.now k) → IfOk result (IsEncoded is index item) }
     ensures refused { (is : List items.Item) (item : items.Item) → IsStatement statement.now item → HasForm item →
-        Resolves is (λ k. get same_name labels.now k) → IfErr result (Reported (IsFirstBadUse is (uses_of index item))) }
+        Resolves is (λ k. get same_name labels.now k)
+        → IfErr result (Reported (IsFirstBadUse is (uses_of index item))) }
 {
     let code = statement.code;
     let k = statement.literal;

@@ -61,7 +61,8 @@ fn fill<T: Trail>(
 ) -> State
     requires from_one { 1 ≤ count }
     requires few { count ≤ 4096 }
-    ensures last { slice_get (trace (machine_of p.now values.now) packet.entry.bytes.now packet.entry.wire) (count - 1) ≡ Some result }
+    ensures last { slice_get (trace (machine_of p.now values.now) packet.entry.bytes.now packet.entry.wire)
+        (count - 1) ≡ Some result }
     ensures stands { T.stands_for trail.new
         (take count (trace (machine_of p.now values.now) packet.entry.bytes.now packet.entry.wire)) }
     ensures kept { T.kept trail.new ≡ count }

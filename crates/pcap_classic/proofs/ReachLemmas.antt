@@ -1,5 +1,6 @@
 -- Steps from record to record.
-use Rattle.std.proofs.Common.{◌≡◌, ℕ, zero, suc, ◌+◌, ◌-◌, ◌<◌, ◌≤◌, List, [], ◌∷◌, length, drop, arith, sym, ap, ◌∙◌, refl, length-drop, add-one}
+use Rattle.std.proofs.Common.{◌≡◌, ℕ, zero, suc, ◌+◌, ◌-◌, ◌<◌, ◌≤◌, List, [], ◌∷◌, length, drop, arith, sym, ap, ◌∙◌}
+use Rattle.std.proofs.Common.{refl, length-drop, add-one}
 use Rattle.std.specs.Prelude.{Some, slice_get}
 use Rattle.std.proofs.lemmas.List.{drop-drop, length-take-le}
 use Rattle.std.proofs.lemmas.Option.{slice_get_within}
@@ -12,7 +13,8 @@ use Rattle.pcap_classic.specs.Numbers.{number_at}
 use Rattle.pcap_classic.specs.Index.{Reaches, ending_by}
 use Rattle.pcap_classic.proofs.ContentsLemmas.{front_of-whole, contents_go_by_front}
 
-slice_get-drop_head : {X : Type 0} (xs : List X) (i : ℕ) (x : X) (rest : List X) → drop i xs ≡ x ∷ rest → slice_get xs i ≡ Some x
+slice_get-drop_head : {X : Type 0} (xs : List X) (i : ℕ) (x : X) (rest : List X) → drop i xs ≡ x ∷ rest
+    → slice_get xs i ≡ Some x
 slice_get-drop_head [] zero x rest h = cc
 slice_get-drop_head [] (suc i) x rest h = cc
 slice_get-drop_head (y ∷ xs) zero x rest h = cc
@@ -31,23 +33,29 @@ slice_get-inside (x ∷ xs) zero h = (x, refl)
 slice_get-inside (x ∷ xs) (suc i) h = slice_get-inside xs i (omega arith)
 
 -- the contents after a whole record
-contents_from-whole : (order : Endianness) (n place : ℕ) (bytes : List ℕ) (size : ℕ) → front_of order bytes ≡ WholeRecord size → contents_from order n place bytes ≡ record_before (record_at order n place bytes) (contents_from order (n + 1) (place + size) (drop size bytes))
+contents_from-whole : (order : Endianness) (n place : ℕ) (bytes : List ℕ) (size : ℕ)
+    → front_of order bytes ≡ WholeRecord size → contents_from order n place bytes
+    ≡ record_before (record_at order n place bytes) (contents_from order (n + 1) (place + size) (drop size bytes))
 contents_from-whole order n place bytes size whole =
     contents_go_by_front order n place bytes
-    ∙ ap (λ (front : Front). by_front front place (record_at order n place bytes) (λ s. contents_from order (n + 1) (place + s) (drop s bytes))) whole
+    ∙ ap (λ (front : Front). by_front front place (record_at order n place bytes)
+    (λ s. contents_from order (n + 1) (place + s) (drop s bytes))) whole
 
 -- the first record, or the end, stands after the file header
 pub reaches_first : (order : Endianness) (file : List ℕ) → 24 ≤ length file → Reaches order file 0 24
 reaches_first order file h = record { inside = h; records = refl; ending = refl; passed = omega arith }
 
 -- a whole record is the next one of the file
-pub reaches_record : (order : Endianness) (file : List ℕ) (i place size : ℕ) → Reaches order file i place → front_of order (drop place file) ≡ WholeRecord size → slice_get (contents order file).records i ≡ Some (record_at order (i + 1) place (drop place file))
+pub reaches_record : (order : Endianness) (file : List ℕ) (i place size : ℕ) → Reaches order file i place
+    → front_of order (drop place file) ≡ WholeRecord size
+    → slice_get (contents order file).records i ≡ Some (record_at order (i + 1) place (drop place file))
 reaches_record order file i place size here whole =
     let split = contents_from-whole order (i + 1) place (drop place file) size whole in
     slice_get-drop_head _ i _ _ (here.records ∙ ap (λ (c : Contents). c.records) split)
 
 -- the next record, or the end, stands after a whole record
-pub reaches_next : (order : Endianness) (file : List ℕ) (i place size : ℕ) → Reaches order file i place → front_of order (drop place file) ≡ WholeRecord size → Reaches order file (i + 1) (place + size)
+pub reaches_next : (order : Endianness) (file : List ℕ) (i place size : ℕ) → Reaches order file i place
+    → front_of order (drop place file) ≡ WholeRecord size → Reaches order file (i + 1) (place + size)
 reaches_next order file i place size here whole =
     let is = front_of-whole order (drop place file) size whole in
     let split = contents_from-whole order (i + 1) place (drop place file) size whole in
@@ -61,7 +69,8 @@ reaches_next order file i place size here whole =
       passed = let inside = slice_get_within _ i _ found in omega (arith, inside);
     }
 
-ends : (front : Front) (place : ℕ) (r : Record) (rest : ℕ → Contents) → ((size : ℕ) → front ≡ WholeRecord size → ⊥) → by_front front place r rest ≡ record { records = []; ending = ending_by front place }
+ends : (front : Front) (place : ℕ) (r : Record) (rest : ℕ → Contents) → ((size : ℕ) → front ≡ WholeRecord size → ⊥)
+    → by_front front place r rest ≡ record { records = []; ending = ending_by front place }
 ends Nothing place r rest none = refl
 ends PartOfHeader place r rest none = refl
 ends PartOfData place r rest none = refl
@@ -72,10 +81,13 @@ pub record IsEnd (order : Endianness) (file : List ℕ) (i place : ℕ) : Type 0
   pub ending : ending_by (front_of order (drop place file)) place ≡ (contents order file).ending
 
 -- with no whole record in front the file ends
-pub reaches_end : (order : Endianness) (file : List ℕ) (i place : ℕ) → Reaches order file i place → ((size : ℕ) → front_of order (drop place file) ≡ WholeRecord size → ⊥) → IsEnd order file i place
+pub reaches_end : (order : Endianness) (file : List ℕ) (i place : ℕ) → Reaches order file i place
+    → ((size : ℕ) → front_of order (drop place file) ≡ WholeRecord size → ⊥) → IsEnd order file i place
 reaches_end order file i place here none =
-    let at_end = contents_go_by_front order (i + 1) place (drop place file) ∙ ends (front_of order (drop place file)) place _ _ none in
-    let nothing : length (drop i (contents order file).records) ≡ 0 = ap length (here.records ∙ ap (λ (c : Contents). c.records) at_end) in
+    let at_end = contents_go_by_front order (i + 1) place (drop place file)
+    ∙ ends (front_of order (drop place file)) place _ _ none in
+    let nothing : length (drop i (contents order file).records) ≡ 0 =
+    ap length (here.records ∙ ap (λ (c : Contents). c.records) at_end) in
     let left = length-drop i (contents order file).records in
     let passed = here.passed in
     record {
@@ -83,26 +95,36 @@ reaches_end order file i place here none =
       ending = sym (here.ending ∙ ap (λ (c : Contents). c.ending) at_end);
     }
 
-whole_or_empty : (order : Endianness) (bytes : List ℕ) (front : Front) (place : ℕ) (r : Record) (rest : ℕ → Contents) → front_of order bytes ≡ front → 0 < length (by_front front place r rest).records → front_of order bytes ≡ WholeRecord (record_length order bytes)
+whole_or_empty : (order : Endianness) (bytes : List ℕ) (front : Front) (place : ℕ) (r : Record) (rest : ℕ → Contents)
+    → front_of order bytes ≡ front → 0 < length (by_front front place r rest).records
+    → front_of order bytes ≡ WholeRecord (record_length order bytes)
 whole_or_empty order bytes Nothing place r rest e some = absurd (omega arith)
 whole_or_empty order bytes PartOfHeader place r rest e some = absurd (omega arith)
 whole_or_empty order bytes PartOfData place r rest e some = absurd (omega arith)
-whole_or_empty order bytes (WholeRecord size) place r rest e some = e ∙ ap (λ (n : ℕ). WholeRecord n) (front_of-whole order bytes size e).size_is
+whole_or_empty order bytes (WholeRecord size) place r rest e some =
+    e ∙ ap (λ (n : ℕ). WholeRecord n) (front_of-whole order bytes size e).size_is
 
 -- before the last record a whole record is in front
-pub reaches_whole : (order : Endianness) (file : List ℕ) (i place : ℕ) → Reaches order file i place → i < length (contents order file).records → front_of order (drop place file) ≡ WholeRecord (record_length order (drop place file))
+pub reaches_whole : (order : Endianness) (file : List ℕ) (i place : ℕ) → Reaches order file i place
+    → i < length (contents order file).records
+    → front_of order (drop place file) ≡ WholeRecord (record_length order (drop place file))
 reaches_whole order file i place here more =
-    let by_cases = ap (λ (c : Contents). length c.records) (contents_go_by_front order (i + 1) place (drop place file)) in
+    let by_cases =
+    ap (λ (c : Contents). length c.records) (contents_go_by_front order (i + 1) place (drop place file)) in
     let same = ap (λ (rs : List Record). length rs) here.records in
     let left = length-drop i (contents order file).records in
-    whole_or_empty order (drop place file) (front_of order (drop place file)) place (record_at order (i + 1) place (drop place file)) (λ s. contents_from order (i + 1 + 1) (place + s) (drop s (drop place file))) refl (omega (arith, by_cases, same, left, more))
+    whole_or_empty order (drop place file) (front_of order (drop place file)) place
+    (record_at order (i + 1) place (drop place file))
+    (λ s. contents_from order (i + 1 + 1) (place + s) (drop s (drop place file))) refl
+    (omega (arith, by_cases, same, left, more))
 
 -- where a record of the file stands
 pub record Stands (order : Endianness) (file : List ℕ) (i place : ℕ) (r : Record) : Type 0 where
   pub reached : Reaches order file i place
   pub is : r ≡ record_at order (i + 1) place (drop place file)
 
-stands_after : (order : Endianness) (file : List ℕ) (i place : ℕ) (r : Record) → Reaches order file i place → slice_get (contents order file).records i ≡ Some r → Stands order file i place r
+stands_after : (order : Endianness) (file : List ℕ) (i place : ℕ) (r : Record) → Reaches order file i place
+    → slice_get (contents order file).records i ≡ Some r → Stands order file i place r
 stands_after order file i place r here found =
     let inside = slice_get_within _ i _ found in
     let whole = reaches_whole order file i place here inside in
@@ -110,7 +132,8 @@ stands_after order file i place r here found =
     record { reached = here; is = cc }
 
 -- each record of the file stands somewhere
-pub stands : (order : Endianness) (file : List ℕ) (i : ℕ) (r : Record) → 24 ≤ length file → slice_get (contents order file).records i ≡ Some r → (place : ℕ) × Stands order file i place r
+pub stands : (order : Endianness) (file : List ℕ) (i : ℕ) (r : Record) → 24 ≤ length file
+    → slice_get (contents order file).records i ≡ Some r → (place : ℕ) × Stands order file i place r
 stands order file zero r h found = (24, stands_after order file 0 24 r (reaches_first order file h) found)
 stands order file (suc i) r h found =
     let inside = slice_get_within _ (suc i) _ found in
@@ -127,7 +150,8 @@ pub record Onward (order : Endianness) (file : List ℕ) (i place size : ℕ) : 
   pub inside : place + size ≤ length file
   pub next : Reaches order file (i + 1) (place + size)
 
-pub reaches_onward : (order : Endianness) (file : List ℕ) (i place : ℕ) → Reaches order file i place → i < length (contents order file).records → Onward order file i place (record_length order (drop place file))
+pub reaches_onward : (order : Endianness) (file : List ℕ) (i place : ℕ) → Reaches order file i place
+    → i < length (contents order file).records → Onward order file i place (record_length order (drop place file))
 reaches_onward order file i place here more =
     let whole = reaches_whole order file i place here more in
     let is = front_of-whole order (drop place file) _ whole in
@@ -139,7 +163,9 @@ pub record After (order : Endianness) (file : List ℕ) (n place : ℕ) : Type 0
   pub within : n ≤ length (contents order file).records
   pub there : Reaches order file n place
 
-pub after : (order : Endianness) (file : List ℕ) (r : Record) → 24 ≤ length file → slice_get (contents order file).records (r.number - 1) ≡ Some r → After order file r.number (r.start + 16 + length r.bytes)
+pub after : (order : Endianness) (file : List ℕ) (r : Record) → 24 ≤ length file
+    → slice_get (contents order file).records (r.number - 1) ≡ Some r
+    → After order file r.number (r.start + 16 + length r.bytes)
 after order file r long found =
     let there = stands order file (r.number - 1) r long found in
     let inside = slice_get_within (contents order file).records (r.number - 1) r found in
@@ -147,7 +173,9 @@ after order file r long found =
     let starts : r.start ≡ there.0 = ap (λ (x : Record). x.start) there.1.is in
     let captured : length r.bytes ≡ number_at order 8 4 (drop there.0 file) =
     ap (λ (x : Record). length x.bytes) there.1.is
-    ∙ length-take-le (number_at order 8 4 (drop there.0 file)) (drop 16 (drop there.0 file)) (omega (arith, on.within, length-drop 16 (drop there.0 file))) in
-    let place : there.0 + record_length order (drop there.0 file) ≡ r.start + 16 + length r.bytes = omega (arith, starts, captured) in
+    ∙ length-take-le (number_at order 8 4 (drop there.0 file)) (drop 16 (drop there.0 file))
+    (omega (arith, on.within, length-drop 16 (drop there.0 file))) in
+    let place : there.0 + record_length order (drop there.0 file) ≡ r.start + 16 + length r.bytes =
+    omega (arith, starts, captured) in
     let number : r.number - 1 + 1 ≡ r.number = sym (ap (λ (x : Record). x.number) there.1.is) in
     record { within = omega (arith, inside, number); there = rw (number, place) at on.next }

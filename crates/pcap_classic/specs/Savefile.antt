@@ -6,7 +6,8 @@ use Rattle.pcap_classic.specs.Records.{Record, Holds}
 use Rattle.pcap_classic.specs.declared.endianness.Endianness.{Endianness}
 use Rattle.pcap_classic.specs.declared.ending.Ending.{Ending}
 use Rattle.pcap_classic.specs.declared.fault.CaptureFault.{CaptureFault}
-use Rattle.pcap_classic.specs.declared.fault.CaptureFault.TheVariants.{FileHeaderCut, UnknownMagic, UnknownVersion, Memory}
+use Rattle.pcap_classic.specs.declared.fault.CaptureFault.TheVariants.{FileHeaderCut, UnknownMagic, UnknownVersion}
+use Rattle.pcap_classic.specs.declared.fault.CaptureFault.TheVariants.{Memory}
 
 -- the magic number of time stamps in microseconds, and in nanoseconds
 abbrev pub micros_magic : ℕ

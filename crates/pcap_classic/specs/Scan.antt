@@ -1,6 +1,7 @@
 -- What a file holds, as a function of its bytes: it is a matter of this crate alone, and no public clause names it.
 -- That it gives what the relations of Records and Savefile say is proved.
-use Rattle.std.specs.Prelude.{ℕ, zero, suc, ◌+◌, ◌==◌, ◌&&◌, nat_lt, if◌then◌else◌, Bool, true, false, List, [], ◌∷◌, length, drop, Option, Some, None, Result, Ok, Err}
+use Rattle.std.specs.Prelude.{ℕ, zero, suc, ◌+◌, ◌==◌, ◌&&◌, nat_lt, if◌then◌else◌, Bool, true, false, List, [], ◌∷◌}
+use Rattle.std.specs.Prelude.{length, drop, Option, Some, None, Result, Ok, Err}
 use Rattle.byteorder.specs.Endian.{big_number, little_number}
 use Rattle.pcap_classic.specs.Numbers.{number_at}
 use Rattle.pcap_classic.specs.Records.{Record, record_length, record_at}

@@ -71,7 +71,8 @@ impl<'a> Read for FaultyReader<'a> {
         ensures bytes { ReadConsumes (Some (bytes_left self.old)) (Some (bytes_left self.new)) result buf.new }
         ensures fault { IsErr result ↔ (reads_made self.old + 1 ≡ failing_read self.old) }
         ensures kind { IfErr result (λ e. error_kind e ≡ read_error self.old) }
-        ensures count { IfOk result (λ n. n ≡ min (length (bytes_left self.old)) (min (most_a_call self.old) (length buf.old))) }
+        ensures count { IfOk result
+            (λ n. n ≡ min (length (bytes_left self.old)) (min (most_a_call self.old) (length buf.old))) }
         ensures counted { reads_made self.new ≡ count_after (reads_made self.old) }
         ensures same_chunk { most_a_call self.new ≡ most_a_call self.old }
         ensures same_failing { failing_read self.new ≡ failing_read self.old }

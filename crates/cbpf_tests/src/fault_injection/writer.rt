@@ -36,7 +36,9 @@ pub(crate) struct FaultyWriter<const N: usize> {
 }
 
 impl<const N: usize> FaultyWriter<N> {
-    ghost use Rattle.cbpf_tests.specs.FaultyWriter.{written_bytes, room_left, fault_kind, faulty_write, writes_made, flushes_made, fails_at_flush, with_flush_fails, write_error, with_write_error};
+    ghost use Rattle.cbpf_tests.specs.FaultyWriter.{written_bytes, room_left, fault_kind, faulty_write, writes_made};
+    ghost use Rattle.cbpf_tests.specs.FaultyWriter.{flushes_made, fails_at_flush, with_flush_fails, write_error};
+    ghost use Rattle.cbpf_tests.specs.FaultyWriter.{with_write_error};
 
     /// The call of `write` with the number `faulty_call`, counted from 1, goes wrong by `fault`, and no
     /// other; 0 for none. Its errors are of the kind `Other`.
@@ -98,7 +100,8 @@ impl<const N: usize> FaultyWriter<N> {
 }
 
 impl<const N: usize> Write for FaultyWriter<N> {
-    ghost use Rattle.cbpf_tests.specs.FaultyWriter.{written_bytes, fault_kind, writes_made, flushes_made, fails_at_flush, is_due, count_taken, write_error, HasSameFaults};
+    ghost use Rattle.cbpf_tests.specs.FaultyWriter.{written_bytes, fault_kind, writes_made, flushes_made};
+    ghost use Rattle.cbpf_tests.specs.FaultyWriter.{fails_at_flush, is_due, count_taken, write_error, HasSameFaults};
 
     ghost contents = { λ w. Some (written_bytes w) };
 

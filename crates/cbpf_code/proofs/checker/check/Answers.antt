@@ -5,7 +5,8 @@ use Rattle.cbpf_code.proofs.checker.check.Goals as goal
 
 pub returns-in-Some-clause-only : goal.returns-in-Some-clause-only
 returns-in-Some-clause-only g c = λ f first.
-    first_fault-unique c.args.list.items c.in-Some.fault f (subst (λ xs. FirstFault xs c.in-Some.fault) c.deref.ensures.value c.in-Some.ensures) first
+    first_fault-unique c.args.list.items c.in-Some.fault f
+    (subst (λ xs. FirstFault xs c.in-Some.fault) c.deref.ensures.value c.in-Some.ensures) first
 
 pub returns-in-Some-clause-back : goal.returns-in-Some-clause-back
 returns-in-Some-clause-back g c = search rules

@@ -12,7 +12,8 @@ returns-then-is_digit c =
     let i = c.skip_blanks-place.result in
     let n = c.leading_digits-len.result.0 in
     let ds = c.leading_digits-len.ensures in
-    let f : RunFound text i n (take (length text - i) (drop i text)) = found-run text i n (take (length text - i) (drop i text)) (omega arith) (cc) refl ds.within ds.digits ds.stops in
+    let f : RunFound text i n (take (length text - i) (drop i text)) =
+    found-run text i n (take (length text - i) (drop i text)) (omega arith) (cc) refl ds.within ds.digits ds.stops in
     record {
       within = f.within;
       after = omega (arith, f.some);
@@ -24,6 +25,7 @@ pub returns : goal.returns
 returns c = record {
   within = omega arith;
   after = omega arith;
-  first = sym c.skip_blanks-place.ensures.same ∙ step-single _ _ (omega arith) (cc) (c.skip_blanks-place.ensures.stops (omega arith));
+  first = sym c.skip_blanks-place.ensures.same
+      ∙ step-single _ _ (omega arith) (cc) (c.skip_blanks-place.ensures.stops (omega arith));
   value = tt;
 }

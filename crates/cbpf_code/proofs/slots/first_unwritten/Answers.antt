@@ -7,14 +7,16 @@ use Rattle.cbpf_code.specs.declared.opcode.Op.{Op}
 use Rattle.cbpf_code.specs.Opcode.{op_of}
 use Rattle.cbpf_code.specs.Faults.{uses_slot}
 use Rattle.cbpf_code.specs.CheckSteps.{IsWellFormed}
-use Rattle.cbpf_code.proofs.PathLemmas.{tracks_paths-start, tracks_paths-next, unwritten_at, written_at, written-all, follows-inside, loads_use-slot, stores_use-slot, TracksPaths}
+use Rattle.cbpf_code.proofs.PathLemmas.{tracks_paths-start, tracks_paths-next, unwritten_at, written_at, written-all}
+use Rattle.cbpf_code.proofs.PathLemmas.{follows-inside, loads_use-slot, stores_use-slot, TracksPaths}
 use Rattle.cbpf_code.proofs.FaultLemmas.{known_of, allowed_of, zero_insn}
 use Rattle.cbpf_code.proofs.slots.first_unwritten.Goals as goal
 
 here : (list : List Insn) (i : ℕ) → i < length list → slice_get list i ≡ Some (get_or list i zero_insn)
 here list i below = slice_get-get_or list i zero_insn below
 
-slot_below : (list : List Insn) (i : ℕ) (op : Op) → IsWellFormed list → i < length list → op_of (get_or list i zero_insn).code ≡ Some op → IsTrue (uses_slot op) → (get_or list i zero_insn).k < 16
+slot_below : (list : List Insn) (i : ℕ) (op : Op) → IsWellFormed list → i < length list
+    → op_of (get_or list i zero_insn).code ≡ Some op → IsTrue (uses_slot op) → (get_or list i zero_insn).k < 16
 slot_below list i op formed below known uses = elim (cases_lt (get_or list i zero_insn).k 16) [
   | inl fits ↦ fits
   | inr past ↦ absurd ((allowed_of list _ i _ op formed.passed below (here list i below) known).slot (uses, past))
@@ -25,29 +27,35 @@ loop-i-init c = tracks_paths-start c.args.list.now
 
 pub unreachable-requires : goal.unreachable-requires
 unreachable-requires c =
-    known_of c.args.list.now _ c.loop-i.i _ c.requires.passed c.loop-i-test.true (here c.args.list.now c.loop-i.i c.loop-i-test.true) (sym c.op_of.ensures ∙ c.in-None.is)
+    known_of c.args.list.now _ c.loop-i.i _ c.requires.passed c.loop-i-test.true
+    (here c.args.list.now c.loop-i.i c.loop-i-test.true) (sym c.op_of.ensures ∙ c.in-None.is)
 
 pub loads_any-requires : goal.loads_any-requires
 loads_any-requires c = λ loads.
-    slot_below c.args.list.now c.loop-i.i c.in-Some.op c.requires c.loop-i-test.true (sym c.op_of.ensures ∙ c.in-Some.is) (loads_use-slot c.in-Some.op loads)
+    slot_below c.args.list.now c.loop-i.i c.in-Some.op c.requires c.loop-i-test.true
+    (sym c.op_of.ensures ∙ c.in-Some.is) (loads_use-slot c.in-Some.op loads)
 
 pub still_unwritten-left-requires : goal.still_unwritten-left-requires
 still_unwritten-left-requires c = λ stores.
-    slot_below c.args.list.now c.loop-i.i c.in-Some.op c.requires c.loop-i-test.true (sym c.op_of.ensures ∙ c.in-Some.is) (stores_use-slot c.in-Some.op stores)
+    slot_below c.args.list.now c.loop-i.i c.in-Some.op c.requires c.loop-i-test.true
+    (sym c.op_of.ensures ∙ c.in-Some.is) (stores_use-slot c.in-Some.op stores)
 
 pub propagate-requires-clause-inside : goal.propagate-requires-clause-inside
 propagate-requires-clause-inside c = λ t follows.
     let long = c.loop-i.invariant.long in
     let few = c.requires.passed.few in
-    let below = follows-inside c.args.list.now c.loop-i.i _ c.in-Some.op c.requires (here c.args.list.now c.loop-i.i c.loop-i-test.true) (sym c.op_of.ensures ∙ c.in-Some.is) t follows in
+    let below = follows-inside c.args.list.now c.loop-i.i _ c.in-Some.op c.requires
+    (here c.args.list.now c.loop-i.i c.loop-i-test.true) (sym c.op_of.ensures ∙ c.in-Some.is) t follows in
     omega arith
 
 pub returns-then-loads_any : goal.returns-then-loads_any
 returns-then-loads_any c =
     let known = sym c.op_of.ensures ∙ c.in-Some.is in
     let loaded = c.if-loads_any.ensures.0 refl in
-    let small = slot_below c.args.list.now c.loop-i.i c.in-Some.op c.requires c.loop-i-test.true known (loads_use-slot c.in-Some.op loaded.0) in (
-      unwritten_at c.args.list.now c.loop-i.i _ c.in-Some.op c.loop-i.unwritten (here c.args.list.now c.loop-i.i c.loop-i-test.true) known small c.loop-i.invariant loaded.0 loaded.1,
+    let small = slot_below c.args.list.now c.loop-i.i c.in-Some.op c.requires c.loop-i-test.true known
+    (loads_use-slot c.in-Some.op loaded.0) in (
+      unwritten_at c.args.list.now c.loop-i.i _ c.in-Some.op c.loop-i.unwritten
+          (here c.args.list.now c.loop-i.i c.loop-i-test.true) known small c.loop-i.invariant loaded.0 loaded.1,
       c.loop-i.invariant.written,
     )
 
@@ -55,13 +63,15 @@ pub loop-i-preserved : goal.loop-i-preserved
 loop-i-preserved c =
     let known = sym c.op_of.ensures ∙ c.in-Some.is in
     let at = here c.args.list.now c.loop-i.i c.loop-i-test.true in
-    tracks_paths-next c.args.list.now c.loop-i.i _ c.in-Some.op c.loop-i.unwritten _ c.still_unwritten-left.result at known c.loop-i.invariant
-    c.still_unwritten-left.ensures c.propagate.ensures
+    tracks_paths-next c.args.list.now c.loop-i.i _ c.in-Some.op c.loop-i.unwritten _ c.still_unwritten-left.result at
+    known c.loop-i.invariant c.still_unwritten-left.ensures c.propagate.ensures
     (written_at c.args.list.now c.loop-i.i _ c.in-Some.op c.loop-i.unwritten at known
-    (λ loads. slot_below c.args.list.now c.loop-i.i c.in-Some.op c.requires c.loop-i-test.true known (loads_use-slot c.in-Some.op loads))
+    (λ loads. slot_below c.args.list.now c.loop-i.i c.in-Some.op c.requires c.loop-i-test.true known
+    (loads_use-slot c.in-Some.op loads))
     c.loop-i.invariant (λ loaded. let never = c.if-loads_any.ensures.1 loaded in absurd (cc)))
 
 pub returns : goal.returns
 returns c =
     let e : c.loop-i.i ≡ length c.args.list.now = omega arith in
-    written-all c.args.list.now c.loop-i.unwritten (subst (λ m. TracksPaths c.args.list.now m c.loop-i.unwritten) e c.loop-i.invariant)
+    written-all c.args.list.now c.loop-i.unwritten
+    (subst (λ m. TracksPaths c.args.list.now m c.loop-i.unwritten) e c.loop-i.invariant)

@@ -7,5 +7,8 @@ use Rattle.cbpf_code.proofs.slots.still_unwritten.Goals as goal
 pub returns-in-St : goal.returns-in-St
 returns-in-St c =
     let stores : IsTrue (stores_slot c.args.op) =
-    elim c.in-St.is [ inl e ↦ subst (λ o. IsTrue (stores_slot o)) (sym e) refl | inr e ↦ subst (λ o. IsTrue (stores_slot o)) (sym e) refl ] in
+    elim c.in-St.is [
+      | inl e ↦ subst (λ o. IsTrue (stores_slot o)) (sym e) refl
+      | inr e ↦ subst (λ o. IsTrue (stores_slot o)) (sym e) refl
+    ] in
     leaves_unwritten-cleared c.args.mask c.args.op c.args.insn (c.requires stores) stores

@@ -4,5 +4,9 @@ use Rattle.cbpf_code.proofs.word_form.put_word_lines.Goals as goal
 
 pub loop-i-init : goal.loop-i-init
 loop-i-init c =
-    let full : drop 1600 c.args.text.now ≡ [] = drop_all 1600 c.args.text.now (omega (arith, c.told-text)) in
-    (omega (arith, c.requires.few), omega arith, omega arith, rw (full, drop_all (length c.args.list.now) c.args.list.now (omega arith)) refl)
+    let full : drop 1600 c.args.text.now ≡ [] = drop_all 1600 c.args.text.now (omega (arith, c.told-text)) in (
+      omega (arith, c.requires.few),
+      omega arith,
+      omega arith,
+      rw (full, drop_all (length c.args.list.now) c.args.list.now (omega arith)) refl,
+    )

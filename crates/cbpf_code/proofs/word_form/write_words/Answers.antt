@@ -10,7 +10,8 @@ returns-in_err-write_count-clause-written g c =
     let list = c.args.list.now in
     let head = decimal (length list) ++ codes "," in
     err-exit _ _ _ _ c.from_residual.ensures.0
-    (part-more _ _ (head ++ flat_map word_line list) (codes "\n") (part-more _ _ head (flat_map word_line list) c.in_err-write_count.ensures))
+    (part-more _ _ (head ++ flat_map word_line list) (codes "\n")
+    (part-more _ _ head (flat_map word_line list) c.in_err-write_count.ensures))
 
 pub returns-in_err-write_count-clause-read_back : goal.returns-in_err-write_count-clause-read_back
 returns-in_err-write_count-clause-read_back g c = words-spell c.args.list.now c.all_are_in_range.ensures
@@ -21,7 +22,8 @@ returns-in_err-write_word_lines-clause-written g c =
     let list = c.args.list.now in
     let head = decimal (length list) ++ codes "," in
     err-exit _ _ _ _ c.from_residual-in_err-write_word_lines.ensures.0
-    (part-more _ _ (head ++ flat_map word_line list) (codes "\n") (part-then _ _ _ head (flat_map word_line list) c.in_ok-write_count.ensures c.in_err-write_word_lines.ensures))
+    (part-more _ _ (head ++ flat_map word_line list) (codes "\n")
+    (part-then _ _ _ head (flat_map word_line list) c.in_ok-write_count.ensures c.in_err-write_word_lines.ensures))
 
 pub returns-in_err-write_word_lines-clause-read_back :
     goal.returns-in_err-write_word_lines-clause-read_back
@@ -32,7 +34,8 @@ returns-clause-written g c =
     let list = c.args.list.now in
     let head = decimal (length list) ++ codes "," in
     wrote-then _ _ _ (head ++ flat_map word_line list) (codes "\n") _
-    (appended-then _ _ _ head (flat_map word_line list) c.in_ok-write_count.ensures c.in_ok-write_word_lines.ensures) c.write_bytes.ensures
+    (appended-then _ _ _ head (flat_map word_line list) c.in_ok-write_count.ensures c.in_ok-write_word_lines.ensures)
+    c.write_bytes.ensures
 
 pub returns-clause-read_back : goal.returns-clause-read_back
 returns-clause-read_back g c = words-spell c.args.list.now c.all_are_in_range.ensures

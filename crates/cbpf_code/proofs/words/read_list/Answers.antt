@@ -7,7 +7,8 @@ use Rattle.cbpf_code.proofs.words.read_list.Goals as goal
 
 pub loop-list-preserved : goal.loop-list-preserved
 loop-list-preserved g c =
-    let items : c.push.new.self.items ≡ c.loop-list.list.items ++ c.in_ok-insn.insn ∷ [] = grind (arith, common_steps) in
+    let items : c.push.new.self.items ≡ c.loop-list.list.items ++ c.in_ok-insn.insn ∷ [] =
+    grind (arith, common_steps) in
     rw items (read-next _ _ _ _ _ _ _ c.loop-list.invariant c.in_ok-insn.ensures c.in_ok-at-2.ensures)
 
 pub counted-requires-2 : goal.counted-requires-2
@@ -18,7 +19,8 @@ counted-requires-2 g c =
 pub returns-in_err-at-2 : goal.returns-in_err-at-2
 returns-in_err-at-2 g c =
     let some : tokens_after c.args.text.now c.in_ok-insn.end ≡ [] → ⊥ = search rules in
-    let h : Refused c.args.text.now c.in_err-at-2.field-0.0 = stops-comma _ _ _ _ _ _ _ c.loop-list.invariant c.in_ok-insn.ensures some c.in_err-at-2.ensures in
+    let h : Refused c.args.text.now c.in_err-at-2.field-0.0 =
+    stops-comma _ _ _ _ _ _ _ c.loop-list.invariant c.in_ok-insn.ensures some c.in_err-at-2.ensures in
     grind (arith, h)
 
 pub loop-list-init : goal.loop-list-init

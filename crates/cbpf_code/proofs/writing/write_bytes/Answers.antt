@@ -6,7 +6,8 @@ use Rattle.cbpf_code.proofs.writing.write_bytes.Goals as goal
 pub returns-in-Ok-eq0 : goal.returns-in-Ok-eq0
 returns-in-Ok-eq0 g c =
     part-take _ _ (c.loop-at.at + c.in-Ok-eq0.field-0) _
-    (stepped _ _ _ _ c.loop-at.at c.in-Ok-eq0.field-0 (omega arith) c.loop-at.invariant.so_far c.in-Ok-eq0.ensures.bytes)
+    (stepped _ _ _ _ c.loop-at.at c.in-Ok-eq0.field-0 (omega arith) c.loop-at.invariant.so_far
+    c.in-Ok-eq0.ensures.bytes)
 
 pub returns-in-Err : goal.returns-in-Err
 returns-in-Err g c =
@@ -15,7 +16,8 @@ returns-in-Err g c =
 pub loop-at-preserved : goal.loop-at-preserved
 loop-at-preserved g c = record {
   within = grind (arith, common_steps);
-  so_far = stepped _ _ _ _ c.loop-at.at c.in-Ok.n (grind (arith, common_steps)) c.loop-at.invariant.so_far c.in-Ok.ensures.bytes;
+  so_far = stepped _ _ _ _ c.loop-at.at c.in-Ok.n (grind (arith, common_steps)) c.loop-at.invariant.so_far
+      c.in-Ok.ensures.bytes;
 }
 
 pub loop-at-init : goal.loop-at-init

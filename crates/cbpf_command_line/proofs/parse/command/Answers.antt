@@ -11,4 +11,6 @@ returns c =
     let dbg_is : app_of c.in_ok-dbg_command.field-0 ≡ dbg_app = search rules in
     let with_asm : app_of c.in_ok-subcommand.field-0 ≡ with_subcommand bare_app asm_app.top =
     c.in_ok-subcommand.ensures.shape (search rules) ∙ ap₂ with_subcommand bare (ap (λ (a : App). a.top) asm_is) in
-    IfOk-weaker c.subcommand-2.result _ _ (λ m h. h.shape (search rules) ∙ ap₂ with_subcommand with_asm (ap (λ (a : App). a.top) dbg_is)) c.subcommand-2.ensures
+    IfOk-weaker c.subcommand-2.result _ _
+    (λ m h. h.shape (search rules) ∙ ap₂ with_subcommand with_asm (ap (λ (a : App). a.top) dbg_is))
+    c.subcommand-2.ensures

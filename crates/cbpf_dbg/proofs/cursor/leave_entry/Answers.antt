@@ -16,17 +16,25 @@ use Rattle.cbpf_dbg.proofs.cursor.leave_entry.Goals as goal
 
 pub turn_in_place-requires-clause-inside : goal.turn_in_place-requires-clause-inside
 turn_in_place-requires-clause-inside g c =
-    (goes (machine_in c.args.loaded.now) (records_in c.args.loaded.now) c.args.w.now _ c.requires.stands c.requires.begun c.requires.here).inside
+    (goes (machine_in c.args.loaded.now) (records_in c.args.loaded.now) c.args.w.now _ c.requires.stands
+    c.requires.begun c.requires.here).inside
 
 pub go_on-requires : goal.go_on-requires
 go_on-requires g c =
     let at = c.requires.stands.at c.requires.begun in
-    let within = slice_get_within (trace (machine_in c.args.loaded.now) at.0.bytes at.0.wire) (c.args.w.now.place.step - 1) _ at.2 in
-    omega (arith, within, length-trace_from (machine_in c.args.loaded.now) at.0.bytes at.0.wire zero_state, sound_few c.args.loaded.now.program.now c.requires.stands.sound)
+    let within = slice_get_within (trace (machine_in c.args.loaded.now) at.0.bytes at.0.wire)
+    (c.args.w.now.place.step - 1) _ at.2 in
+    omega (
+      arith,
+      within,
+      length-trace_from (machine_in c.args.loaded.now) at.0.bytes at.0.wire zero_state,
+      sound_few c.args.loaded.now.program.now c.requires.stands.sound,
+    )
 
 pub pass-requires : goal.pass-requires
 pass-requires g c =
-    let can = countable (machine_in c.args.loaded.now) (records_in c.args.loaded.now) c.args.w.now c.requires.stands _ c.count-few.ensures.value c.count-few.ensures.bounded in
+    let can = countable (machine_in c.args.loaded.now) (records_in c.args.loaded.now) c.args.w.now c.requires.stands _
+    c.count-few.ensures.value c.count-few.ensures.bounded in
     record {
       packets = can.packets;
       passes = can.passes;
@@ -37,11 +45,16 @@ pass-requires g c =
 pub returns-in-None : goal.returns-in-None
 returns-in-None g c =
     let same : c.go_on.new.self ≡ stepped c.args.w.now c.turn_in_place.new.s = c.go_on.ensures in
-    let on : turn (machine_in c.args.loaded.now) c.args.here.now.bytes.now c.args.here.now.wire c.args.w.now.state ≡ Next c.turn_in_place.new.s = c.in-None.ensures.value in
+    let on : turn (machine_in c.args.loaded.now) c.args.here.now.bytes.now c.args.here.now.wire c.args.w.now.state
+    ≡ Next c.turn_in_place.new.s = c.in-None.ensures.value in
     record {
-      stands = rw same (stands-stepped _ _ c.args.w.now _ c.turn_in_place.new.s c.requires.stands c.requires.begun c.requires.here on);
-      moves = subst (λ n. Moves (machine_in c.args.loaded.now) (records_in c.args.loaded.now) c.args.w.now moved.Entry n) (sym same)
-          (moves-stepped _ _ c.args.w.now _ c.turn_in_place.new.s c.requires.stands c.requires.begun c.requires.here on);
+      stands = rw same (stands-stepped _ _ c.args.w.now _ c.turn_in_place.new.s c.requires.stands c.requires.begun
+          c.requires.here on);
+      moves =
+          subst (λ n. Moves (machine_in c.args.loaded.now) (records_in c.args.loaded.now) c.args.w.now moved.Entry n)
+          (sym same)
+          (moves-stepped _ _ c.args.w.now _ c.turn_in_place.new.s c.requires.stands c.requires.begun
+          c.requires.here on);
       origin = ap (λ (n : Cursor). n.origin) same;
       turns = c.turn_in_place.ensures.spent;
     }
@@ -49,14 +62,21 @@ returns-in-None g c =
 pub returns-in-Some : goal.returns-in-Some
 returns-in-Some g c =
     let v = c.in-Some.ensures.value in
-    let here : Cursor = record { origin = c.args.w.now.origin; place = c.args.w.now.place; state = c.turn_in_place.new.s; counts = c.args.w.now.counts } in
+    let here : Cursor = record {
+      origin = c.args.w.now.origin;
+      place = c.args.w.now.place;
+      state = c.turn_in_place.new.s;
+      counts = c.args.w.now.counts;
+    } in
     let stays : here ≡ c.args.w.now = ap (λ (s : Registers). record c.args.w.now { state = s }) v.2 in
-    let same : c.pass.new.self ≡ passed c.args.w.now (outcome_of (turn (machine_in c.args.loaded.now) c.args.here.now.bytes.now c.args.here.now.wire c.args.w.now.state)) =
+    let same : c.pass.new.self ≡ passed c.args.w.now (outcome_of
+    (turn (machine_in c.args.loaded.now) c.args.here.now.bytes.now c.args.here.now.wire c.args.w.now.state)) =
     c.pass.ensures ∙ ap (λ w. passed w c.in-Some.outcome) stays ∙ ap (passed c.args.w.now) v.1 in
     record {
       stands = rw same (stands-left _ _ c.args.w.now _ c.requires.stands c.requires.begun c.requires.here v.0);
-      moves = subst (λ n. Moves (machine_in c.args.loaded.now) (records_in c.args.loaded.now) c.args.w.now moved.Packet n) (sym same)
-          (moves-left _ _ c.args.w.now _ c.requires.stands c.requires.begun c.requires.here v.0);
+      moves =
+          subst (λ n. Moves (machine_in c.args.loaded.now) (records_in c.args.loaded.now) c.args.w.now moved.Packet n)
+          (sym same) (moves-left _ _ c.args.w.now _ c.requires.stands c.requires.begun c.requires.here v.0);
       origin = ap (λ (n : Cursor). n.origin) same;
       turns = c.turn_in_place.ensures.spent;
     }

@@ -12,10 +12,14 @@ use Rattle.cbpf_dbg.proofs.run.finish_packet.Goals as goal
 pub pass-preserved : goal.pass-preserved
 pass-preserved g c =
     let m = c.in-Entry.ensures.moves in
-    let inside = (goes (machine_in c.args.loaded.now) (records_in c.args.loaded.now) c.advance.new.w m.0 c.in-Entry.ensures.stands (omega (arith, m.3)) m.1).inside in
-    let no = hit_none (carries [] c.advance.new.w.state) (turn (machine_in c.args.loaded.now) m.0.bytes m.0.wire c.advance.new.w.state)
-    (sym (quiet_hit (machine_in c.args.loaded.now) [] m.0.bytes m.0.wire c.advance.new.w.state inside c.requires.quiet)) in
-    let same = rest-pass (machine_in c.args.loaded.now) (records_in c.args.loaded.now) [] c.pass.w.place c.advance.new.w.place (entry_here (machine_in c.args.loaded.now) m.0 c.advance.new.w) m.4 no in
+    let inside = (goes (machine_in c.args.loaded.now) (records_in c.args.loaded.now) c.advance.new.w m.0
+    c.in-Entry.ensures.stands (omega (arith, m.3)) m.1).inside in
+    let no = hit_none (carries [] c.advance.new.w.state)
+    (turn (machine_in c.args.loaded.now) m.0.bytes m.0.wire c.advance.new.w.state)
+    (sym
+    (quiet_hit (machine_in c.args.loaded.now) [] m.0.bytes m.0.wire c.advance.new.w.state inside c.requires.quiet)) in
+    let same = rest-pass (machine_in c.args.loaded.now) (records_in c.args.loaded.now) [] c.pass.w.place
+    c.advance.new.w.place (entry_here (machine_in c.args.loaded.now) m.0 c.advance.new.w) m.4 no in
     record {
       stands = c.in-Entry.ensures.stands;
       same_packet = m.2 ∙ c.pass.invariant.same_packet;
@@ -26,4 +30,6 @@ pass-preserved g c =
 
 pub returns-in-Packet-clause-rest : goal.returns-in-Packet-clause-rest
 returns-in-Packet-clause-rest g c =
-    sym (rest-same (machine_in c.args.loaded.now) (records_in c.args.loaded.now) [] c.pass.w.place c.advance.new.w.place c.in-Packet.ensures.moves.1) ∙ c.pass.invariant.same_rest
+    sym (rest-same (machine_in c.args.loaded.now) (records_in c.args.loaded.now) [] c.pass.w.place
+    c.advance.new.w.place c.in-Packet.ensures.moves.1)
+    ∙ c.pass.invariant.same_rest

@@ -11,9 +11,12 @@ invariant-pass g l =
       stands : Stands (machine_in l.loaded) (records_in l.loaded) l.w;
       same_packet : l.w.place.packet ≡ l.initial.w.place.packet;
       same_origin : l.w.origin ≡ l.initial.w.origin;
-      same_rest : rest (machine_in l.loaded) (records_in l.loaded) [] l.w.place ≡ rest (machine_in l.loaded) (records_in l.loaded) [] l.initial.w.place;
-      spent : l.meter + owed (machine_in l.loaded) (records_in l.loaded) l.w.place ≡ l.initial.meter + owed (machine_in l.loaded) (records_in l.loaded) l.initial.w.place;
+      same_rest : rest (machine_in l.loaded) (records_in l.loaded) [] l.w.place
+          ≡ rest (machine_in l.loaded) (records_in l.loaded) [] l.initial.w.place;
+      spent : l.meter + owed (machine_in l.loaded) (records_in l.loaded) l.w.place
+          ≡ l.initial.meter + owed (machine_in l.loaded) (records_in l.loaded) l.initial.w.place;
     }
 
 abbrev pub decreases-pass : goal.decreases-pass
-decreases-pass g l = length (ahead (machine_in l.loaded) (records_in l.loaded) l.w.place) + (length (records_in l.loaded) + 1 - l.w.place.packet)
+decreases-pass g l = length (ahead (machine_in l.loaded) (records_in l.loaded) l.w.place)
+    + (length (records_in l.loaded) + 1 - l.w.place.packet)

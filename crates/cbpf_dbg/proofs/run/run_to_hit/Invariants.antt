@@ -14,12 +14,14 @@ invariant-go g l =
       keeps : Keeps (λ xs. g.T.Trail.stands_for l.trail xs) (machine_in l.loaded) (records_in l.loaded) l.w.place;
       began : l.start ≡ l.initial.w.place.packet;
       same_origin : l.w.origin ≡ l.initial.w.origin;
-      same_rest : rest (machine_in l.loaded) (records_in l.loaded) (breakpoints_in l.loaded) l.w.place ≡ rest (machine_in l.loaded) (records_in l.loaded) (breakpoints_in l.loaded) l.initial.w.place;
+      same_rest : rest (machine_in l.loaded) (records_in l.loaded) (breakpoints_in l.loaded) l.w.place
+          ≡ rest (machine_in l.loaded) (records_in l.loaded) (breakpoints_in l.loaded) l.initial.w.place;
       forward : l.initial.w.place.packet ≤ l.w.place.packet;
       order : NotBefore l.w.place l.initial.w.place;
       before : l.initial.w.place.packet < l.w.place.packet → l.w.place.step ≡ 0;
       in_limit : UpTo l.fn.limit l.initial.w.place.packet l.w.place.packet;
-      spent : l.meter + owed (machine_in l.loaded) (records_in l.loaded) l.w.place ≡ l.initial.meter + owed (machine_in l.loaded) (records_in l.loaded) l.initial.w.place;
+      spent : l.meter + owed (machine_in l.loaded) (records_in l.loaded) l.w.place
+          ≡ l.initial.meter + owed (machine_in l.loaded) (records_in l.loaded) l.initial.w.place;
     }
 
 abbrev pub decreases-go : goal.decreases-go

@@ -13,12 +13,14 @@ invariant-go g l =
       empty : g.T.Trail.stands_for l.trail [];
       began : l.start ≡ l.fn.w.place.packet;
       same_origin : l.v.origin ≡ l.fn.w.origin;
-      same_rest : rest (machine_in l.loaded) (records_in l.loaded) [] l.v.place ≡ rest (machine_in l.loaded) (records_in l.loaded) [] l.fn.w.place;
+      same_rest : rest (machine_in l.loaded) (records_in l.loaded) [] l.v.place
+          ≡ rest (machine_in l.loaded) (records_in l.loaded) [] l.fn.w.place;
       forward : l.fn.w.place.packet ≤ l.v.place.packet;
       order : NotBefore l.v.place l.fn.w.place;
       before : l.v.place.step ≡ 0;
       in_limit : UpTo l.fn.limit l.fn.w.place.packet l.v.place.packet;
-      spent : l.meter + owed (machine_in l.loaded) (records_in l.loaded) l.v.place ≡ l.fn.meter + owed (machine_in l.loaded) (records_in l.loaded) l.fn.w.place;
+      spent : l.meter + owed (machine_in l.loaded) (records_in l.loaded) l.v.place
+          ≡ l.fn.meter + owed (machine_in l.loaded) (records_in l.loaded) l.fn.w.place;
     }
 
 abbrev pub decreases-go : goal.decreases-go

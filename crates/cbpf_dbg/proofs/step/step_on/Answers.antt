@@ -6,7 +6,8 @@ use Rattle.cbpf_dbg.specs.Cursor.{owed, entry_here}
 use Rattle.cbpf_dbg.proofs.CursorLemmas.{goes, here_after, here_some, here_none, cursor_ended}
 use Rattle.cbpf_dbg.proofs.RunLemmas.{slice_get-later, slice_get-first, step_stopped, step_finished}
 use Rattle.cbpf_dbg.proofs.KeepLemmas.{keeps_push, keeps_few, keeps_clear}
-use Rattle.cbpf_dbg.proofs.TurnLemmas.{step_turns-reply, spent_between, owed-turns, not_before_step, not_before_packet, owed_bound}
+use Rattle.cbpf_dbg.proofs.TurnLemmas.{step_turns-reply, spent_between, owed-turns, not_before_step}
+use Rattle.cbpf_dbg.proofs.TurnLemmas.{not_before_packet, owed_bound}
 use Rattle.cbpf_dbg.specs.Loaded.{machine_in, records_in}
 use Rattle.cbpf_dbg.proofs.step.step_on.Goals as goal
 
@@ -14,80 +15,107 @@ pub push-requires : goal.push-requires
 push-requires g c =
     let m = c.in-Entry.ensures.moves in
     let before : slice_get (records_in c.args.loaded.now) (c.go.w.place.packet - 1) ≡ Some m.0 = rw m.2 at m.1 in
-    keeps_few (machine_in c.args.loaded.now) (records_in c.args.loaded.now) c.go.w.place c.advance.new.w m.0 (g.T.Trail.kept c.go.trail) c.in-Entry.ensures.stands m.1 m.3
+    keeps_few (machine_in c.args.loaded.now) (records_in c.args.loaded.now) c.go.w.place c.advance.new.w m.0
+    (g.T.Trail.kept c.go.trail) c.in-Entry.ensures.stands m.1 m.3
     (g.met.T.Trail.as_long c.go.trail _ (c.go.invariant.keeps m.0 before))
 
 pub why_at-why-requires : goal.why_at-why-requires
 why_at-why-requires g c =
     let m = c.in-Entry.ensures.moves in
-    (goes (machine_in c.args.loaded.now) (records_in c.args.loaded.now) c.advance.new.w m.0 c.in-Entry.ensures.stands (omega (arith, m.3)) m.1).inside
+    (goes (machine_in c.args.loaded.now) (records_in c.args.loaded.now) c.advance.new.w m.0 c.in-Entry.ensures.stands
+    (omega (arith, m.3)) m.1).inside
 
 pub returns-then-left-eq1-clause-keeps : goal.returns-then-left-eq1-clause-keeps
 returns-then-left-eq1-clause-keeps g c =
     let m = c.in-Entry.ensures.moves in
-    keeps_push (λ xs. g.T.Trail.stands_for c.go.trail xs) (λ xs. g.T.Trail.stands_for c.push.new.self xs) (machine_in c.args.loaded.now) (records_in c.args.loaded.now) c.go.w.place c.advance.new.w m.0
+    keeps_push (λ xs. g.T.Trail.stands_for c.go.trail xs) (λ xs. g.T.Trail.stands_for c.push.new.self xs)
+    (machine_in c.args.loaded.now) (records_in c.args.loaded.now) c.go.w.place c.advance.new.w m.0
     c.in-Entry.ensures.stands m.1 m.2 m.3 c.push.ensures c.go.invariant.keeps
 
 pub returns-then-left-eq1-clause-steps : goal.returns-then-left-eq1-clause-steps
 returns-then-left-eq1-clause-steps g c = λ breakpoints.
     let m = c.in-Entry.ensures.moves in
-    let here : slice_get (ahead (machine_in c.args.loaded.now) (records_in c.args.loaded.now) c.go.w.place) (c.go.left - 1) ≡ Some (entry_here (machine_in c.args.loaded.now) m.0 c.advance.new.w) =
-    rw m.4 (slice_get-first (entry_here (machine_in c.args.loaded.now) m.0 c.advance.new.w) _ c.go.left (omega arith)) in
-    step_stopped (machine_in c.args.loaded.now) c.args.loaded.now.capture.now breakpoints c.args.n c.args.w.now c.advance.new.w m.0 c.why_at-why.result
-    (sym c.go.invariant.sought ∙ here) (c.why_at-why.ensures m.0.bytes m.0.wire) (c.in-Entry.ensures.origin ∙ c.go.invariant.same_origin)
+    let here : slice_get (ahead (machine_in c.args.loaded.now) (records_in c.args.loaded.now) c.go.w.place)
+    (c.go.left - 1) ≡ Some (entry_here (machine_in c.args.loaded.now) m.0 c.advance.new.w) =
+    rw m.4
+    (slice_get-first (entry_here (machine_in c.args.loaded.now) m.0 c.advance.new.w) _ c.go.left (omega arith)) in
+    step_stopped (machine_in c.args.loaded.now) c.args.loaded.now.capture.now breakpoints c.args.n c.args.w.now
+    c.advance.new.w m.0 c.why_at-why.result
+    (sym c.go.invariant.sought ∙ here) (c.why_at-why.ensures m.0.bytes m.0.wire)
+    (c.in-Entry.ensures.origin ∙ c.go.invariant.same_origin)
 
 pub returns-then-left-eq1-clause-turns : goal.returns-then-left-eq1-clause-turns
 returns-then-left-eq1-clause-turns g c = λ breakpoints.
     let m = c.in-Entry.ensures.moves in
     let steps = returns-then-left-eq1-clause-steps g c breakpoints in
-    let order = not_before_step c.args.w.now.place c.go.w.place c.advance.new.w.place c.go.invariant.order m.2 (omega (arith, m.3)) in
-    let spent : c.advance.new.meter + owed (machine_in c.args.loaded.now) (records_in c.args.loaded.now) c.advance.new.w.place ≡ c.args.meter.now + owed (machine_in c.args.loaded.now) (records_in c.args.loaded.now) c.args.w.now.place =
+    let order = not_before_step c.args.w.now.place c.go.w.place c.advance.new.w.place c.go.invariant.order m.2
+    (omega (arith, m.3)) in
+    let spent : c.advance.new.meter
+    + owed (machine_in c.args.loaded.now) (records_in c.args.loaded.now) c.advance.new.w.place
+    ≡ c.args.meter.now + owed (machine_in c.args.loaded.now) (records_in c.args.loaded.now) c.args.w.now.place =
     omega (arith, ap length m.4, m.3, c.in-Entry.ensures.turns, c.go.invariant.spent) in
     rw (step_turns-reply _ _ _ _ _ _ _ steps)
-    (spent_between (machine_in c.args.loaded.now) (records_in c.args.loaded.now) c.args.w.now c.advance.new.w c.args.meter.now c.advance.new.meter c.requires.stands c.in-Entry.ensures.stands order spent)
+    (spent_between (machine_in c.args.loaded.now) (records_in c.args.loaded.now) c.args.w.now c.advance.new.w
+    c.args.meter.now c.advance.new.meter c.requires.stands c.in-Entry.ensures.stands order spent)
 
 pub go-preserved-in-Entry : goal.go-preserved-in-Entry
 go-preserved-in-Entry g c =
     let m = c.in-Entry.ensures.moves in
-    let later : slice_get (ahead (machine_in c.args.loaded.now) (records_in c.args.loaded.now) c.go.w.place) (c.go.left - 1) ≡ slice_get (ahead (machine_in c.args.loaded.now) (records_in c.args.loaded.now) c.advance.new.w.place) (c.go.left - 1 - 1) =
-    rw m.4 (slice_get-later (entry_here (machine_in c.args.loaded.now) m.0 c.advance.new.w) _ c.go.left (omega arith)) in
+    let later :
+    slice_get (ahead (machine_in c.args.loaded.now) (records_in c.args.loaded.now) c.go.w.place) (c.go.left - 1)
+    ≡ slice_get (ahead (machine_in c.args.loaded.now) (records_in c.args.loaded.now) c.advance.new.w.place)
+    (c.go.left - 1 - 1) =
+    rw m.4
+    (slice_get-later (entry_here (machine_in c.args.loaded.now) m.0 c.advance.new.w) _ c.go.left (omega arith)) in
     record {
       here = rw m.2 c.go.invariant.here;
       stands = c.in-Entry.ensures.stands;
-      keeps = keeps_push (λ xs. g.T.Trail.stands_for c.go.trail xs) (λ xs. g.T.Trail.stands_for c.push.new.self xs) (machine_in c.args.loaded.now) (records_in c.args.loaded.now) c.go.w.place c.advance.new.w m.0
+      keeps = keeps_push (λ xs. g.T.Trail.stands_for c.go.trail xs) (λ xs. g.T.Trail.stands_for c.push.new.self xs)
+          (machine_in c.args.loaded.now) (records_in c.args.loaded.now) c.go.w.place c.advance.new.w m.0
           c.in-Entry.ensures.stands m.1 m.2 m.3 c.push.ensures c.go.invariant.keeps;
       same_origin = c.in-Entry.ensures.origin ∙ c.go.invariant.same_origin;
       some = omega arith;
       sought = sym later ∙ c.go.invariant.sought;
-      order = not_before_step c.args.w.now.place c.go.w.place c.advance.new.w.place c.go.invariant.order m.2 (omega (arith, m.3));
+      order = not_before_step c.args.w.now.place c.go.w.place c.advance.new.w.place c.go.invariant.order m.2
+          (omega (arith, m.3));
       spent = omega (arith, ap length m.4, m.3, c.in-Entry.ensures.turns, c.go.invariant.spent);
     }
 
 pub returns-in_default-clause-steps : goal.returns-in_default-clause-steps
 returns-in_default-clause-steps g c = λ breakpoints.
-    let m = cursor_ended (machine_in c.args.loaded.now) (records_in c.args.loaded.now) c.go.w c.go.invariant.stands (here_none (records_in c.args.loaded.now) c.go.w.place.packet c.go.next c.go.invariant.here c.in_default.is) in
-    let none : slice_get (ahead (machine_in c.args.loaded.now) (records_in c.args.loaded.now) c.go.w.place) (c.go.left - 1) ≡ None = rw m.1 refl in
-    (step_finished (machine_in c.args.loaded.now) c.args.loaded.now.capture.now breakpoints c.args.n c.args.w.now c.go.w c.start.result
-    (sym c.go.invariant.sought ∙ none) c.go.invariant.stands c.go.invariant.same_origin m.0 c.start.ensures.place c.start.ensures.origin)
+    let m = cursor_ended (machine_in c.args.loaded.now) (records_in c.args.loaded.now) c.go.w c.go.invariant.stands
+    (here_none (records_in c.args.loaded.now) c.go.w.place.packet c.go.next c.go.invariant.here c.in_default.is) in
+    let none : slice_get (ahead (machine_in c.args.loaded.now) (records_in c.args.loaded.now) c.go.w.place)
+    (c.go.left - 1) ≡ None = rw m.1 refl in
+    (step_finished (machine_in c.args.loaded.now) c.args.loaded.now.capture.now breakpoints c.args.n c.args.w.now
+    c.go.w c.start.result
+    (sym c.go.invariant.sought ∙ none) c.go.invariant.stands c.go.invariant.same_origin m.0 c.start.ensures.place
+    c.start.ensures.origin)
 
 pub returns-in_default-clause-turns : goal.returns-in_default-clause-turns
 returns-in_default-clause-turns g c = λ breakpoints.
-    let m = cursor_ended (machine_in c.args.loaded.now) (records_in c.args.loaded.now) c.go.w c.go.invariant.stands (here_none (records_in c.args.loaded.now) c.go.w.place.packet c.go.next c.go.invariant.here c.in_default.is) in
+    let m = cursor_ended (machine_in c.args.loaded.now) (records_in c.args.loaded.now) c.go.w c.go.invariant.stands
+    (here_none (records_in c.args.loaded.now) c.go.w.place.packet c.go.next c.go.invariant.here c.in_default.is) in
     let steps = returns-in_default-clause-steps g c breakpoints in
-    let all = owed-turns (machine_in c.args.loaded.now) (records_in c.args.loaded.now) c.args.w.now c.requires.stands in
+    let all =
+    owed-turns (machine_in c.args.loaded.now) (records_in c.args.loaded.now) c.args.w.now c.requires.stands in
     rw (step_turns-reply _ _ _ _ _ _ _ steps)
     (omega (arith, all, ap length m.1, m.2, c.go.invariant.spent))
 
 pub go-preserved : goal.go-preserved
 go-preserved g c =
     let m = c.in-Packet.ensures.moves in
-    let at = here_some (records_in c.args.loaded.now) c.go.w.place.packet c.go.next c.in-Some.here c.go.invariant.here c.in-Some.is in
+    let at = here_some (records_in c.args.loaded.now) c.go.w.place.packet c.go.next c.in-Some.here c.go.invariant.here
+    c.in-Some.is in
     let e : c.advance.new.w.place.packet ≡ c.go.w.place.packet + 1 = ap (λ (q : Place). q.packet) m.0 in
     let z : c.advance.new.w.place.step ≡ 0 = ap (λ (q : Place). q.step) m.0 in
     record {
-      here = here_after (records_in c.args.loaded.now) c.go.w.place.packet c.advance.new.w.place.packet c.in-Some.here c.following-next-in-Packet.result at.0 e c.following-next-in-Packet.ensures.record c.following-next-in-Packet.ensures.number;
+      here = here_after (records_in c.args.loaded.now) c.go.w.place.packet c.advance.new.w.place.packet c.in-Some.here
+          c.following-next-in-Packet.result at.0 e
+          c.following-next-in-Packet.ensures.record c.following-next-in-Packet.ensures.number;
       stands = c.in-Packet.ensures.stands;
-      keeps = keeps_clear (λ xs. g.T.Trail.stands_for c.clear-in-Packet.new.self xs) (machine_in c.args.loaded.now) (records_in c.args.loaded.now) c.advance.new.w.place z c.clear-in-Packet.ensures;
+      keeps = keeps_clear (λ xs. g.T.Trail.stands_for c.clear-in-Packet.new.self xs) (machine_in c.args.loaded.now)
+          (records_in c.args.loaded.now) c.advance.new.w.place z c.clear-in-Packet.ensures;
       same_origin = c.in-Packet.ensures.origin ∙ c.go.invariant.same_origin;
       some = c.go.invariant.some;
       sought = rw (← m.1) c.go.invariant.sought;
@@ -97,32 +125,48 @@ go-preserved g c =
 
 pub skip_packet-left-requires-clause-early : goal.skip_packet-left-requires-clause-early
 skip_packet-left-requires-clause-early g c =
-    let most = owed_bound (machine_in c.args.loaded.now) (records_in c.args.loaded.now) c.args.w.now.place c.requires.stands.sound (omega (arith, c.count-few.ensures.bounded, c.count-few.ensures.value)) in
+    let most = owed_bound (machine_in c.args.loaded.now) (records_in c.args.loaded.now) c.args.w.now.place
+    c.requires.stands.sound (omega (arith, c.count-few.ensures.bounded, c.count-few.ensures.value)) in
     let early = c.requires.early in
     omega (arith, most, early, c.go.invariant.spent)
 
 pub go-smaller-then-left-longest : goal.go-smaller-then-left-longest
 go-smaller-then-left-longest g c =
-    let at = here_some (records_in c.args.loaded.now) c.go.w.place.packet c.go.next c.in-Some.here c.go.invariant.here c.in-Some.is in
+    let at = here_some (records_in c.args.loaded.now) c.go.w.place.packet c.go.next c.in-Some.here c.go.invariant.here
+    c.in-Some.is in
     let within = slice_get_within (records_in c.args.loaded.now) (c.go.w.place.packet - 1) _ at.1 in
-    let e : c.skip_packet-left.new.w.place.packet ≡ c.go.w.place.packet + 1 = ap (λ (q : Place). q.packet) c.skip_packet-left.ensures.place in
+    let e : c.skip_packet-left.new.w.place.packet ≡ c.go.w.place.packet + 1 =
+    ap (λ (q : Place). q.packet) c.skip_packet-left.ensures.place in
     omega (arith, c.skip_packet-left.ensures.ahead, e, within)
 
 pub go-preserved-then-left-longest : goal.go-preserved-then-left-longest
 go-preserved-then-left-longest g c =
-    let at = here_some (records_in c.args.loaded.now) c.go.w.place.packet c.go.next c.in-Some.here c.go.invariant.here c.in-Some.is in
-    let e : c.skip_packet-left.new.w.place.packet ≡ c.go.w.place.packet + 1 = ap (λ (q : Place). q.packet) c.skip_packet-left.ensures.place in
+    let at = here_some (records_in c.args.loaded.now) c.go.w.place.packet c.go.next c.in-Some.here c.go.invariant.here
+    c.in-Some.is in
+    let e : c.skip_packet-left.new.w.place.packet ≡ c.go.w.place.packet + 1 =
+    ap (λ (q : Place). q.packet) c.skip_packet-left.ensures.place in
     let z : c.skip_packet-left.new.w.place.step ≡ 0 = ap (λ (q : Place). q.step) c.skip_packet-left.ensures.place in
     let before : c.go.w.place.step ≡ 0 = omega (arith, c.if-w-eq0.true) in
     let empty : g.T.Trail.stands_for c.go.trail [] = rw before at (c.go.invariant.keeps _ at.1) in
-    let fits : c.skip_packet-left.result < c.go.left = omega (arith, c.if-left-longest.true, c.skip_packet-left.ensures.few, c.from-longest.ensures, c.len.ensures.value) in
+    let fits : c.skip_packet-left.result < c.go.left = omega
+    (arith, c.if-left-longest.true, c.skip_packet-left.ensures.few, c.from-longest.ensures, c.len.ensures.value) in
     record {
-      here = here_after (records_in c.args.loaded.now) c.go.w.place.packet c.skip_packet-left.new.w.place.packet c.in-Some.here c.following-next.result at.0 e c.following-next.ensures.record c.following-next.ensures.number;
+      here = here_after (records_in c.args.loaded.now) c.go.w.place.packet c.skip_packet-left.new.w.place.packet
+          c.in-Some.here c.following-next.result at.0 e
+          c.following-next.ensures.record c.following-next.ensures.number;
       stands = c.skip_packet-left.ensures.stands;
-      keeps = keeps_clear (λ xs. g.T.Trail.stands_for c.go.trail xs) (machine_in c.args.loaded.now) (records_in c.args.loaded.now) c.skip_packet-left.new.w.place z empty;
+      keeps = keeps_clear (λ xs. g.T.Trail.stands_for c.go.trail xs) (machine_in c.args.loaded.now)
+          (records_in c.args.loaded.now) c.skip_packet-left.new.w.place z empty;
       same_origin = c.skip_packet-left.ensures.origin ∙ c.go.invariant.same_origin;
       some = omega (arith, fits);
       sought = sym (c.skip_packet-left.ensures.later c.go.left fits) ∙ c.go.invariant.sought;
       order = not_before_packet c.args.w.now.place c.go.w.place c.skip_packet-left.new.w.place c.go.invariant.order e;
-      spent = omega (arith, c.skip_packet-left.ensures.ahead, c.skip_packet-left.ensures.turns, z, before, c.go.invariant.spent);
+      spent = omega (
+        arith,
+        c.skip_packet-left.ensures.ahead,
+        c.skip_packet-left.ensures.turns,
+        z,
+        before,
+        c.go.invariant.spent,
+      );
     }

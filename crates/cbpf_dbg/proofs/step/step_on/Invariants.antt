@@ -14,10 +14,13 @@ invariant-go g l =
       keeps : Keeps (λ xs. g.T.Trail.stands_for l.trail xs) (machine_in l.loaded) (records_in l.loaded) l.w.place;
       same_origin : l.w.origin ≡ l.initial.w.origin;
       some : 1 ≤ l.left;
-      sought : slice_get (ahead (machine_in l.loaded) (records_in l.loaded) l.w.place) (l.left - 1) ≡ slice_get (ahead (machine_in l.loaded) (records_in l.loaded) l.initial.w.place) (l.n - 1);
+      sought : slice_get (ahead (machine_in l.loaded) (records_in l.loaded) l.w.place) (l.left - 1)
+          ≡ slice_get (ahead (machine_in l.loaded) (records_in l.loaded) l.initial.w.place) (l.n - 1);
       order : NotBefore l.w.place l.initial.w.place;
-      spent : l.meter + owed (machine_in l.loaded) (records_in l.loaded) l.w.place ≡ l.initial.meter + owed (machine_in l.loaded) (records_in l.loaded) l.initial.w.place;
+      spent : l.meter + owed (machine_in l.loaded) (records_in l.loaded) l.w.place
+          ≡ l.initial.meter + owed (machine_in l.loaded) (records_in l.loaded) l.initial.w.place;
     }
 
 abbrev pub decreases-go : goal.decreases-go
-decreases-go g l = length (ahead (machine_in l.loaded) (records_in l.loaded) l.w.place) + (length (records_in l.loaded) + 1 - l.w.place.packet)
+decreases-go g l = length (ahead (machine_in l.loaded) (records_in l.loaded) l.w.place)
+    + (length (records_in l.loaded) + 1 - l.w.place.packet)

@@ -10,8 +10,10 @@ invariant-go g l =
     record {
       here : IsHere (records_in l.loaded) l.w.place.packet l.next;
       stands : Stands (machine_in l.loaded) (records_in l.loaded) l.w;
-      same_rest : rest (machine_in l.loaded) (records_in l.loaded) (breakpoints_in l.loaded) l.w.place ≡ rest (machine_in l.loaded) (records_in l.loaded) (breakpoints_in l.loaded) l.initial.w.place;
-      spent : l.meter + owed (machine_in l.loaded) (records_in l.loaded) l.w.place ≡ l.initial.meter + owed (machine_in l.loaded) (records_in l.loaded) l.initial.w.place;
+      same_rest : rest (machine_in l.loaded) (records_in l.loaded) (breakpoints_in l.loaded) l.w.place
+          ≡ rest (machine_in l.loaded) (records_in l.loaded) (breakpoints_in l.loaded) l.initial.w.place;
+      spent : l.meter + owed (machine_in l.loaded) (records_in l.loaded) l.w.place
+          ≡ l.initial.meter + owed (machine_in l.loaded) (records_in l.loaded) l.initial.w.place;
     }
 
 -- by packet, then step

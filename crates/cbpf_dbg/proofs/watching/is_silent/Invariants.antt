@@ -8,5 +8,6 @@ use Rattle.cbpf_dbg.proofs.watching.is_silent.Given as goal
 abbrev pub invariant-scan : goal.invariant-scan
 invariant-scan g l =
     record {
-      silent : (bytes : List ℕ) (wire : ℕ) (s : Registers) → s.pc < l.i → asked (turn (machine_of l.p l.values) bytes wire s) ≡ None;
+      silent : (bytes : List ℕ) (wire : ℕ) (s : Registers) → s.pc < l.i
+          → asked (turn (machine_of l.p l.values) bytes wire s) ≡ None;
     }

@@ -12,6 +12,8 @@ returns g c = λ before watches same s inside no.
     elim (same_or_other s.pc c.args.i) [
       | inl here ↦ c.is_watched.ensures s here (sym c.set.ensures.here ∙ rw here at no)
       | inr other ↦ λ bytes wire.
-          let was : get_or c.args.watched.now s.pc false ≡ false = sym (get_or-set_other c.args.watched.now c.args.i s.pc c.is_watched.result false other) ∙ rw c.set.ensures.value at no in
+          let was : get_or c.args.watched.now s.pc false ≡ false =
+          sym (get_or-set_other c.args.watched.now c.args.i s.pc c.is_watched.result false other)
+          ∙ rw c.set.ensures.value at no in
           rw (same s other) (watches s inside was bytes wire)
     ]

@@ -7,5 +7,7 @@ use Rattle.cbpf_grammar.proofs.Best.{one_row}
 use Rattle.cbpf_grammar.proofs.choice.match_row.Goals as goal
 
 pub returns : goal.returns
-returns c = one_row (row_of c.args.row) (map lexeme_of c.args.tokens.now) (record { row = c.args.row; len = c.common_len.result }) refl
-    (c.common_len.ensures ∙ sym (common_mapped (λ k (t : lexemes.Lexeme). fits k t.symbol) class_of lexeme_of c.args.row.operand.now c.args.tokens.now))
+returns c = one_row (row_of c.args.row) (map lexeme_of c.args.tokens.now)
+    (record { row = c.args.row; len = c.common_len.result }) refl
+    (c.common_len.ensures ∙ sym (common_mapped (λ k (t : lexemes.Lexeme). fits k t.symbol) class_of lexeme_of
+    c.args.row.operand.now c.args.tokens.now))

@@ -8,7 +8,8 @@ invariant-loop-i g l = record {
   kept : l.lexer ≡ l.initial.lexer;
   text : l.here.text ≡ l.text;
   within : l.here.at ≤ length l.text;
-  read : ReadsOn l.text l.initial.lexer.at l.here.at (map lexeme_of l.initial.ahead.items) (map lexeme_of l.ahead.items);
+  read :
+      ReadsOn l.text l.initial.lexer.at l.here.at (map lexeme_of l.initial.ahead.items) (map lexeme_of l.ahead.items);
   left : l.initial.lexer.at + length l.ahead.items ≤ l.here.at + length l.initial.ahead.items;
   farther : l.initial.lexer.at + l.i ≤ l.here.at;
 }

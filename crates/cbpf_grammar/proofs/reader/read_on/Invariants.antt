@@ -7,7 +7,8 @@ abbrev pub invariant-loop-token : goal.invariant-loop-token
 invariant-loop-token l = record {
   text : l.lexer.text ≡ l.initial.lexer.text;
   within : l.lexer.at ≤ length l.initial.lexer.text;
-  read : (ts : List Token) → LexesTo l.initial.lexer.text l.initial.lexer.at ts → (us : List Token) × LexesTo l.initial.lexer.text l.lexer.at us;
+  read : (ts : List Token) → LexesTo l.initial.lexer.text l.initial.lexer.at ts
+      → (us : List Token) × LexesTo l.initial.lexer.text l.lexer.at us;
 }
 
 abbrev pub decreases-loop-token : goal.decreases-loop-token

@@ -5,4 +5,6 @@ use Rattle.cbpf_grammar.specs.Table.{Mnemonic}
 use Rattle.cbpf_grammar.proofs.reserved.mnemonic_named.Given as goal
 
 abbrev pub invariant-loop-mnemonic : goal.invariant-loop-mnemonic
-invariant-loop-mnemonic l = is_one_of (map (λ (m : Mnemonic). m.word) (map mnemonic_of (take l.mnemonic-index l.mnemonic-items))) l.word ≡ false
+invariant-loop-mnemonic l =
+    is_one_of (map (λ (m : Mnemonic). m.word) (map mnemonic_of (take l.mnemonic-index l.mnemonic-items))) l.word
+    ≡ false

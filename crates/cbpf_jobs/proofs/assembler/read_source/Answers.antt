@@ -12,7 +12,8 @@ returns-then-count-eq0-clause-bytes g c = λ text e.
     let mid = g.R.Read.remaining c.loop.reader in
     let new = g.R.Read.remaining c.read.new.self in
     let none : got ≡ [] = rw c.if-count-eq0.true refl in
-    let whole = consumes-all old new text (c.loop.source.items ++ got) (consumes-then old mid new c.loop.source.items got c.loop.invariant c.in-Ok.ensures.bytes.0) (c.in-Ok.ensures.bytes.1 c.if-count-eq0.true (omega arith)) e in
+    let whole = consumes-all old new text (c.loop.source.items ++ got) (consumes-then old mid new c.loop.source.items
+    got c.loop.invariant c.in-Ok.ensures.bytes.0) (c.in-Ok.ensures.bytes.1 c.if-count-eq0.true (omega arith)) e in
     sym (append-nil c.loop.source.items) ∙ ap (λ (l : List ℕ). c.loop.source.items ++ l) (sym none) ∙ whole
 
 pub loop-preserved : goal.loop-preserved

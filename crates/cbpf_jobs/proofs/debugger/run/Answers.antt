@@ -3,19 +3,27 @@ use Rattle.std.proofs.lemmas.Grind.{common_steps}
 use Rattle.cbpf_dbg.specs.View.{View}
 use Rattle.cbpf_jobs.specs.Reading.{pending_in}
 use Rattle.cbpf_jobs.specs.Progress.{Progress}
-use Rattle.cbpf_jobs.proofs.ScriptLemmas.{progress-start, line-faulted, write-faulted, quit-done, line-done, end-done, either-done, next-whole, next-last}
+use Rattle.cbpf_jobs.proofs.ScriptLemmas.{progress-start, line-faulted, write-faulted, quit-done, line-done, end-done}
+use Rattle.cbpf_jobs.proofs.ScriptLemmas.{either-done, next-whole, next-last}
 use Rattle.cbpf_jobs.proofs.debugger.run.Goals as goal
 
 pub script-init : goal.script-init
 script-init g c = λ script e is_known.
-    subst (λ (m : View). Progress script (pending_in c.new-lines.result.chunk c.new-lines.result.start c.new-lines.result.end) (g.R.Read.remaining c.args.reader.now) (g.W.Write.contents c.args.writer.now) (g.W.Write.contents c.args.writer.now) (g.F.Files.source c.args.files.now) (g.F.Files.source c.args.files.now) m)
-    (sym c.new-session.ensures) (progress-start script _ _ (g.W.Write.contents c.args.writer.now) (g.F.Files.source c.args.files.now) c.new-lines.ensures.empty e)
+    subst (λ (m : View). Progress script (pending_in c.new-lines.result.chunk c.new-lines.result.start
+    c.new-lines.result.end) (g.R.Read.remaining c.args.reader.now) (g.W.Write.contents c.args.writer.now)
+    (g.W.Write.contents c.args.writer.now) (g.F.Files.source c.args.files.now) (g.F.Files.source c.args.files.now) m)
+    (sym c.new-session.ensures) (progress-start script _ _ (g.W.Write.contents c.args.writer.now)
+    (g.F.Files.source c.args.files.now) c.new-lines.ensures.empty e)
 
 pub returns-in-Err : goal.returns-in-Err
 returns-in-Err g c = λ script e is_known.
     let p = c.script.invariant script e is_known in
     let pending = pending_in c.next_line.new.self.chunk c.next_line.new.self.start c.next_line.new.self.end in
-    record { outcome = line-faulted p (g.W.Write.contents c.next_line.new.writer) c.next_line.ensures.flushed pending c.next_line.new.line.items (g.R.Read.remaining c.next_line.new.reader) c.in-Err.fault (c.in-Err.ensures.line p.rest p.known) }
+    record {
+      outcome = line-faulted p (g.W.Write.contents c.next_line.new.writer) c.next_line.ensures.flushed pending
+          c.next_line.new.line.items (g.R.Read.remaining c.next_line.new.reader) c.in-Err.fault
+          (c.in-Err.ensures.line p.rest p.known);
+    }
 
 -- ---- a line with its newline
 
@@ -23,23 +31,38 @@ pub returns-in-Err-run_line : goal.returns-in-Err-run_line
 returns-in-Err-run_line g c = λ script e is_known.
     let p = c.script.invariant script e is_known in
     let t = rw c.in-Ok-Newline.field-0-is at (c.in-Ok-Newline.ensures.line p.rest p.known) in
-    let next = next-whole p.rest _ c.next_line.new.line.items c.as_slice.result.now _ c.as_slice.ensures.value t.0 t.1 in
-    record { outcome = write-faulted p (g.W.Write.contents c.next_line.new.writer) c.next_line.ensures.flushed (g.W.Write.contents c.run_line.new.w) c.run_line.new.session (g.F.Files.source c.run_line.new.files) next is_known (g.R.Read.remaining c.next_line.new.reader) c.in-Err-run_line.field-0 (c.in-Err-run_line.ensures {u = tt}) }
+    let next =
+    next-whole p.rest _ c.next_line.new.line.items c.as_slice.result.now _ c.as_slice.ensures.value t.0 t.1 in
+    record {
+      outcome = write-faulted p (g.W.Write.contents c.next_line.new.writer) c.next_line.ensures.flushed
+          (g.W.Write.contents c.run_line.new.w) c.run_line.new.session (g.F.Files.source c.run_line.new.files) next
+          is_known (g.R.Read.remaining c.next_line.new.reader) c.in-Err-run_line.field-0
+          (c.in-Err-run_line.ensures {u = tt});
+    }
 
 pub returns-in-Ok-Quit : goal.returns-in-Ok-Quit
 returns-in-Ok-Quit g c = λ script e is_known.
     let p = c.script.invariant script e is_known in
     let t = rw c.in-Ok-Newline.field-0-is at (c.in-Ok-Newline.ensures.line p.rest p.known) in
-    let next = next-whole p.rest _ c.next_line.new.line.items c.as_slice.result.now _ c.as_slice.ensures.value t.0 t.1 in
-    record { outcome = quit-done p (g.W.Write.contents c.next_line.new.writer) c.next_line.ensures.flushed (g.W.Write.contents c.run_line.new.w) c.run_line.new.session (g.F.Files.source c.run_line.new.files) next is_known (g.R.Read.remaining c.next_line.new.reader) (rw c.in-Ok-Quit.field-0-is at (c.in-Ok-Quit.ensures {u = tt})) }
+    let next =
+    next-whole p.rest _ c.next_line.new.line.items c.as_slice.result.now _ c.as_slice.ensures.value t.0 t.1 in
+    record {
+      outcome = quit-done p (g.W.Write.contents c.next_line.new.writer) c.next_line.ensures.flushed
+          (g.W.Write.contents c.run_line.new.w) c.run_line.new.session (g.F.Files.source c.run_line.new.files) next
+          is_known (g.R.Read.remaining c.next_line.new.reader)
+          (rw c.in-Ok-Quit.field-0-is at (c.in-Ok-Quit.ensures {u = tt}));
+    }
 
 pub script-preserved : goal.script-preserved
 script-preserved g c = λ script e is_known.
     let p = c.script.invariant script e is_known in
     let t = rw c.in-Ok-Newline.field-0-is at (c.in-Ok-Newline.ensures.line p.rest p.known) in
-    let next = next-whole p.rest _ c.next_line.new.line.items c.as_slice.result.now _ c.as_slice.ensures.value t.0 t.1 in
+    let next =
+    next-whole p.rest _ c.next_line.new.line.items c.as_slice.result.now _ c.as_slice.ensures.value t.0 t.1 in
     let q = rw (← c.as_slice.ensures.value) at t in
-    line-done p (g.W.Write.contents c.next_line.new.writer) c.next_line.ensures.flushed (g.W.Write.contents c.run_line.new.w) c.run_line.new.session (g.F.Files.source c.run_line.new.files) next is_known q.0 q.1 (rw c.in-Ok-NextLine.field-0-is at (c.in-Ok-NextLine.ensures {u = tt}))
+    line-done p (g.W.Write.contents c.next_line.new.writer) c.next_line.ensures.flushed
+    (g.W.Write.contents c.run_line.new.w) c.run_line.new.session (g.F.Files.source c.run_line.new.files) next is_known
+    q.0 q.1 (rw c.in-Ok-NextLine.field-0-is at (c.in-Ok-NextLine.ensures {u = tt}))
 
 -- ---- the end, and a last line without a newline
 
@@ -48,20 +71,35 @@ returns-then-is_empty g c = λ script e is_known.
     let p = c.script.invariant script e is_known in
     let t = rw c.in-Ok-Input.field-0-is at (c.in-Ok-Input.ensures.line p.rest p.known) in
     let none : c.next_line.new.line.items ≡ [] = grind (arith, common_steps) in
-    record { outcome = end-done p (g.W.Write.contents c.next_line.new.writer) c.next_line.ensures.flushed (g.R.Read.remaining c.next_line.new.reader) (t.1 ∙ none) t.2 }
+    record {
+      outcome = end-done p (g.W.Write.contents c.next_line.new.writer) c.next_line.ensures.flushed
+          (g.R.Read.remaining c.next_line.new.reader) (t.1 ∙ none) t.2;
+    }
 
 pub returns-in-Err-run_line-2 : goal.returns-in-Err-run_line-2
 returns-in-Err-run_line-2 g c = λ script e is_known.
     let p = c.script.invariant script e is_known in
     let t = rw c.in-Ok-Input.field-0-is at (c.in-Ok-Input.ensures.line p.rest p.known) in
     let some : length c.next_line.new.line.items ≡ 0 → ⊥ = grind (arith, common_steps) in
-    let next = next-last p.rest c.next_line.new.line.items c.as_slice-2.result.now c.as_slice-2.ensures.value t.0 some t.1 in
-    record { outcome = write-faulted p (g.W.Write.contents c.next_line.new.writer) c.next_line.ensures.flushed (g.W.Write.contents c.run_line-2.new.w) c.run_line-2.new.session (g.F.Files.source c.run_line-2.new.files) next is_known (g.R.Read.remaining c.next_line.new.reader) c.in-Err-run_line-2.field-0 (c.in-Err-run_line-2.ensures {u = tt}) }
+    let next =
+    next-last p.rest c.next_line.new.line.items c.as_slice-2.result.now c.as_slice-2.ensures.value t.0 some t.1 in
+    record {
+      outcome = write-faulted p (g.W.Write.contents c.next_line.new.writer) c.next_line.ensures.flushed
+          (g.W.Write.contents c.run_line-2.new.w) c.run_line-2.new.session (g.F.Files.source c.run_line-2.new.files)
+          next is_known (g.R.Read.remaining c.next_line.new.reader) c.in-Err-run_line-2.field-0
+          (c.in-Err-run_line-2.ensures {u = tt});
+    }
 
 pub returns : goal.returns
 returns g c = λ script e is_known.
     let p = c.script.invariant script e is_known in
     let t = rw c.in-Ok-Input.field-0-is at (c.in-Ok-Input.ensures.line p.rest p.known) in
     let some : length c.next_line.new.line.items ≡ 0 → ⊥ = grind (arith, common_steps) in
-    let next = next-last p.rest c.next_line.new.line.items c.as_slice-2.result.now c.as_slice-2.ensures.value t.0 some t.1 in
-    record { outcome = either-done p (g.W.Write.contents c.next_line.new.writer) c.next_line.ensures.flushed (g.W.Write.contents c.run_line-2.new.w) c.run_line-2.new.session (g.F.Files.source c.run_line-2.new.files) next is_known (g.R.Read.remaining c.next_line.new.reader) t.2 refl c.in-Ok.field-0 (c.in-Ok.ensures {u = tt}) }
+    let next =
+    next-last p.rest c.next_line.new.line.items c.as_slice-2.result.now c.as_slice-2.ensures.value t.0 some t.1 in
+    record {
+      outcome = either-done p (g.W.Write.contents c.next_line.new.writer) c.next_line.ensures.flushed
+          (g.W.Write.contents c.run_line-2.new.w) c.run_line-2.new.session (g.F.Files.source c.run_line-2.new.files)
+          next is_known (g.R.Read.remaining c.next_line.new.reader) t.2 refl c.in-Ok.field-0
+          (c.in-Ok.ensures {u = tt});
+    }

@@ -4,8 +4,11 @@ use Rattle.cbpf_jobs.specs.Progress.{Progress}
 use Rattle.cbpf_jobs.proofs.debugger.run.Given as goal
 
 abbrev pub invariant-script : goal.invariant-script
-invariant-script g l = (script : List ℕ) → g.R.Read.remaining l.fn.reader ≡ Some script → IsTrue (g.F.Files.source l.fn.files).is_known →
-    Progress script (pending_in l.lines.chunk l.lines.start l.lines.end) (g.R.Read.remaining l.reader) (g.W.Write.contents l.fn.writer) (g.W.Write.contents l.writer) (g.F.Files.source l.fn.files) (g.F.Files.source l.files) l.session
+invariant-script g l = (script : List ℕ) → g.R.Read.remaining l.fn.reader ≡ Some script
+    → IsTrue (g.F.Files.source l.fn.files).is_known →
+    Progress script (pending_in l.lines.chunk l.lines.start l.lines.end) (g.R.Read.remaining l.reader)
+    (g.W.Write.contents l.fn.writer) (g.W.Write.contents l.writer) (g.F.Files.source l.fn.files)
+    (g.F.Files.source l.files) l.session
 
 abbrev pub decreases-script : goal.decreases-script
 decreases-script g l = 4097 * l.lines.reads + (l.lines.end - l.lines.start)

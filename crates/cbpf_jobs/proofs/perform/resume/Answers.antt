@@ -6,5 +6,6 @@ use Rattle.cbpf_jobs.proofs.perform.resume.Goals as goal
 
 pub returns-in-Ok : goal.returns-in-Ok
 returns-in-Ok g c =
-    reply-ok (λ u v. at_text (place_of c.args.packet c.args.step)) c.args.session.now c.resume.new.self (resume c.args.session.now (place_of c.args.packet c.args.step)) c.in-Ok.field-0 _ _ _
+    reply-ok (λ u v. at_text (place_of c.args.packet c.args.step)) c.args.session.now c.resume.new.self
+    (resume c.args.session.now (place_of c.args.packet c.args.step)) c.in-Ok.field-0 _ _ _
     c.in-Ok.ensures.reply c.in-Ok.ensures.after c.write_at.ensures

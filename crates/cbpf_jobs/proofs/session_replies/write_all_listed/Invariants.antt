@@ -5,4 +5,5 @@ use Rattle.cbpf_reply.specs.Breakpoints as spec
 use Rattle.cbpf_jobs.proofs.session_replies.write_all_listed.Given as goal
 
 abbrev pub invariant-loop-i : goal.invariant-loop-i
-invariant-loop-i g l = Appended (g.W.Write.contents l.initial.w) (g.W.Write.contents l.w) (flat_map spec.listed_text (take l.i l.session.breakpoints))
+invariant-loop-i g l = Appended (g.W.Write.contents l.initial.w) (g.W.Write.contents l.w)
+    (flat_map spec.listed_text (take l.i l.session.breakpoints))

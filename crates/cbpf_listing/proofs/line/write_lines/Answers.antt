@@ -34,4 +34,5 @@ pub returns : goal.returns
 returns g c =
     let list = c.args.p.now in
     let size : length (enumerate_from 0 list) ≡ length list = length-enumerate_from 0 list in
-    loop-done numbered_line (enumerate_from 0 list) c.loop-i.i _ _ (omega (arith, c.loop-i-test.false, c.len-i-end.ensures.value)) c.loop-i.invariant
+    loop-done numbered_line (enumerate_from 0 list) c.loop-i.i _ _
+    (omega (arith, c.loop-i-test.false, c.len-i-end.ensures.value)) c.loop-i.invariant

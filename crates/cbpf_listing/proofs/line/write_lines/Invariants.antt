@@ -5,4 +5,5 @@ use Rattle.cbpf_listing.specs.Listing.{numbered_line}
 use Rattle.cbpf_listing.proofs.line.write_lines.Given as goal
 
 abbrev pub invariant-loop-i : goal.invariant-loop-i
-invariant-loop-i g l = Appended (g.W.Write.contents l.initial.w) (g.W.Write.contents l.w) (flat_map numbered_line (take l.i (enumerate_from 0 l.p)))
+invariant-loop-i g l = Appended (g.W.Write.contents l.initial.w) (g.W.Write.contents l.w)
+    (flat_map numbered_line (take l.i (enumerate_from 0 l.p)))

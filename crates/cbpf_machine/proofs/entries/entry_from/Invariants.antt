@@ -10,6 +10,7 @@ abbrev pub invariant-replay : goal.invariant-replay
 invariant-replay g l =
     record {
       sound : IsSound l.p;
-      here : Goes (machine_of l.p l.values) l.packet.bytes.now l.packet.wire (trace (machine_of l.p l.values) l.packet.bytes.now l.packet.wire) l.i l.s;
+      here : Goes (machine_of l.p l.values) l.packet.bytes.now l.packet.wire
+          (trace (machine_of l.p l.values) l.packet.bytes.now l.packet.wire) l.i l.s;
       turns : l.meter + l.fn.at ≡ l.initial.meter + l.i;
     }

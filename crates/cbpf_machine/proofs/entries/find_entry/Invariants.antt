@@ -10,6 +10,7 @@ invariant-replay g l =
     record {
       sound : IsSound l.p;
       from_one : 1 ≤ l.i;
-      here : Goes (machine_of l.p l.values) l.packet.bytes.now l.packet.wire (trace (machine_of l.p l.values) l.packet.bytes.now l.packet.wire) (l.i - 1) l.s;
+      here : Goes (machine_of l.p l.values) l.packet.bytes.now l.packet.wire
+          (trace (machine_of l.p l.values) l.packet.bytes.now l.packet.wire) (l.i - 1) l.s;
       turns : l.meter + 1 ≡ l.initial.meter + l.i;
     }

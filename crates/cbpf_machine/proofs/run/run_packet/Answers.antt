@@ -9,28 +9,63 @@ use Rattle.cbpf_machine.proofs.PassLemmas.{whole_run}
 use Rattle.cbpf_machine.proofs.run.run_packet.Goals as goal
 
 pub pass-requires : goal.pass-requires
-pass-requires g c = start_inside (machine_of c.args.p.now c.args.values.now) c.args.packet.bytes.now c.args.packet.wire [] c.zero-s.result c.zero-s.ensures c.len-sound.ensures.sound
+pass-requires g c = start_inside (machine_of c.args.p.now c.args.values.now) c.args.packet.bytes.now
+    c.args.packet.wire [] c.zero-s.result c.zero-s.ensures c.len-sound.ensures.sound
 
 pub add-requires : goal.add-requires
 add-requires g c =
-    let whole = whole_run (machine_of c.args.p.now c.args.values.now) c.args.packet.bytes.now c.args.packet.wire (λ r. false) c.pass.new.s c.pass.result.0 c.pass.result.1 c.in_default-Some.outcome c.len-sound.ensures.sound c.pass.ensures.some c.in_default-Some.is-1 (c.pass.ensures.reaches (trace (machine_of c.args.p.now c.args.values.now) c.args.packet.bytes.now c.args.packet.wire) 0 (start_goes (machine_of c.args.p.now c.args.values.now) c.args.packet.bytes.now c.args.packet.wire [] c.zero-s.result c.zero-s.ensures c.len-sound.ensures.sound)) in
+    let whole = whole_run (machine_of c.args.p.now c.args.values.now) c.args.packet.bytes.now c.args.packet.wire
+    (λ r. false) c.pass.new.s c.pass.result.0 c.pass.result.1 c.in_default-Some.outcome c.len-sound.ensures.sound
+    c.pass.ensures.some c.in_default-Some.is-1 (c.pass.ensures.reaches
+    (trace (machine_of c.args.p.now c.args.values.now) c.args.packet.bytes.now c.args.packet.wire)
+    0 (start_goes (machine_of c.args.p.now c.args.values.now) c.args.packet.bytes.now c.args.packet.wire []
+    c.zero-s.result c.zero-s.ensures c.len-sound.ensures.sound)) in
     let long = whole.0 in
-    omega (arith, c.requires, long, sound_few c.args.p.now c.len-sound.ensures.sound, length-trace_from (machine_of c.args.p.now c.args.values.now) c.args.packet.bytes.now c.args.packet.wire zero_state)
+    omega (
+      arith,
+      c.requires,
+      long,
+      sound_few c.args.p.now c.len-sound.ensures.sound,
+      length-trace_from (machine_of c.args.p.now c.args.values.now) c.args.packet.bytes.now
+          c.args.packet.wire zero_state,
+    )
 
 pub returns-clause-value : goal.returns-clause-value
-returns-clause-value g c = (whole_run (machine_of c.args.p.now c.args.values.now) c.args.packet.bytes.now c.args.packet.wire (λ r. false) c.pass.new.s c.pass.result.0 c.pass.result.1 c.in_default-Some.outcome c.len-sound.ensures.sound c.pass.ensures.some c.in_default-Some.is-1 (c.pass.ensures.reaches (trace (machine_of c.args.p.now c.args.values.now) c.args.packet.bytes.now c.args.packet.wire) 0 (start_goes (machine_of c.args.p.now c.args.values.now) c.args.packet.bytes.now c.args.packet.wire [] c.zero-s.result c.zero-s.ensures c.len-sound.ensures.sound))).1
+returns-clause-value g c = (whole_run (machine_of c.args.p.now c.args.values.now) c.args.packet.bytes.now
+    c.args.packet.wire (λ r. false) c.pass.new.s c.pass.result.0 c.pass.result.1 c.in_default-Some.outcome
+    c.len-sound.ensures.sound c.pass.ensures.some c.in_default-Some.is-1 (c.pass.ensures.reaches
+    (trace (machine_of c.args.p.now c.args.values.now) c.args.packet.bytes.now c.args.packet.wire)
+    0 (start_goes (machine_of c.args.p.now c.args.values.now) c.args.packet.bytes.now c.args.packet.wire []
+    c.zero-s.result c.zero-s.ensures c.len-sound.ensures.sound))).1
 
 pub returns-clause-turns : goal.returns-clause-turns
 returns-clause-turns g c =
-    let whole = whole_run (machine_of c.args.p.now c.args.values.now) c.args.packet.bytes.now c.args.packet.wire (λ r. false) c.pass.new.s c.pass.result.0 c.pass.result.1 c.in_default-Some.outcome c.len-sound.ensures.sound c.pass.ensures.some c.in_default-Some.is-1 (c.pass.ensures.reaches (trace (machine_of c.args.p.now c.args.values.now) c.args.packet.bytes.now c.args.packet.wire) 0 (start_goes (machine_of c.args.p.now c.args.values.now) c.args.packet.bytes.now c.args.packet.wire [] c.zero-s.result c.zero-s.ensures c.len-sound.ensures.sound)) in
+    let whole = whole_run (machine_of c.args.p.now c.args.values.now) c.args.packet.bytes.now c.args.packet.wire
+    (λ r. false) c.pass.new.s c.pass.result.0 c.pass.result.1 c.in_default-Some.outcome c.len-sound.ensures.sound
+    c.pass.ensures.some c.in_default-Some.is-1 (c.pass.ensures.reaches
+    (trace (machine_of c.args.p.now c.args.values.now) c.args.packet.bytes.now c.args.packet.wire)
+    0 (start_goes (machine_of c.args.p.now c.args.values.now) c.args.packet.bytes.now c.args.packet.wire []
+    c.zero-s.result c.zero-s.ensures c.len-sound.ensures.sound)) in
     let long = whole.0 in
     omega (arith, long, c.add.ensures)
 
 pub returns-clause-few : goal.returns-clause-few
 returns-clause-few g c =
-    let whole = whole_run (machine_of c.args.p.now c.args.values.now) c.args.packet.bytes.now c.args.packet.wire (λ r. false) c.pass.new.s c.pass.result.0 c.pass.result.1 c.in_default-Some.outcome c.len-sound.ensures.sound c.pass.ensures.some c.in_default-Some.is-1 (c.pass.ensures.reaches (trace (machine_of c.args.p.now c.args.values.now) c.args.packet.bytes.now c.args.packet.wire) 0 (start_goes (machine_of c.args.p.now c.args.values.now) c.args.packet.bytes.now c.args.packet.wire [] c.zero-s.result c.zero-s.ensures c.len-sound.ensures.sound)) in
+    let whole = whole_run (machine_of c.args.p.now c.args.values.now) c.args.packet.bytes.now c.args.packet.wire
+    (λ r. false) c.pass.new.s c.pass.result.0 c.pass.result.1 c.in_default-Some.outcome c.len-sound.ensures.sound
+    c.pass.ensures.some c.in_default-Some.is-1 (c.pass.ensures.reaches
+    (trace (machine_of c.args.p.now c.args.values.now) c.args.packet.bytes.now c.args.packet.wire)
+    0 (start_goes (machine_of c.args.p.now c.args.values.now) c.args.packet.bytes.now c.args.packet.wire []
+    c.zero-s.result c.zero-s.ensures c.len-sound.ensures.sound)) in
     let long = whole.0 in
-    omega (arith, long, c.add.ensures, length-trace_from (machine_of c.args.p.now c.args.values.now) c.args.packet.bytes.now c.args.packet.wire zero_state)
+    omega (
+      arith,
+      long,
+      c.add.ensures,
+      length-trace_from (machine_of c.args.p.now c.args.values.now) c.args.packet.bytes.now
+          c.args.packet.wire zero_state,
+    )
 
 pub returns-clause-whole : goal.returns-clause-whole
-returns-clause-whole g c = trace-is_run (machine_of c.args.p.now c.args.values.now) c.args.packet.bytes.now c.args.packet.wire c.len-sound.ensures.sound
+returns-clause-whole g c = trace-is_run (machine_of c.args.p.now c.args.values.now) c.args.packet.bytes.now
+    c.args.packet.wire c.len-sound.ensures.sound

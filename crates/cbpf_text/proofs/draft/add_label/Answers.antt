@@ -7,10 +7,13 @@ use Rattle.cbpf_text.proofs.Kept.{kept_skip, kept_label, none_if}
 use Rattle.cbpf_text.proofs.draft.add_label.Goals as goal
 
 pub returns-then-is_some-clause-label : goal.returns-then-is_some-clause-label
-returns-then-is_some-clause-label g c is ls colon d w = kept_skip c.args.draft.now.excess _ _ _ is ls _ c.if-is_some.ensures d
+returns-then-is_some-clause-label g c is ls colon d w =
+    kept_skip c.args.draft.now.excess _ _ _ is ls _ c.if-is_some.ensures d
 
 pub returns-clause-label : goal.returns-clause-label
 returns-clause-label g c =
     let none = none_if c.args.draft.now.excess c.if-is_some.ensures in
     let place : c.len.result ≡ length c.args.draft.now.statements.items = search rules in
-    rw none (on_ok_weaker c.add.result (λ more is ls colon d w. kept_label c.args.draft.now.statements.items c.args.draft.now.labels.repeat _ (λ k. get same_name c.args.draft.now.labels.table k) _ is ls _ (lexeme_of c.args.word) c.len.result d place w more) c.add.ensures)
+    rw none (on_ok_weaker c.add.result (λ more is ls colon d w. kept_label c.args.draft.now.statements.items
+    c.args.draft.now.labels.repeat _ (λ k. get same_name c.args.draft.now.labels.table k) _ is ls _
+    (lexeme_of c.args.word) c.len.result d place w more) c.add.ensures)

@@ -9,7 +9,10 @@ pub returns-in-Ok : goal.returns-in-Ok
 returns-in-Ok g c m r some stuck =
     let all = c.in-Ok.ensures.lexed m r in
     let t = subst (λ u. AreLexemes u all.0) c.requires.text all.1 in
-    whole_refused c.args.text.now all.0 c.placed.result c.fault_of.result t (c.placed.ensures all.0 (c.fault-refused.ensures m all.0 r all.1 some (stuck all.0 t))) c.fault_of.ensures
+    whole_refused c.args.text.now all.0 c.placed.result c.fault_of.result t
+    (c.placed.ensures all.0 (c.fault-refused.ensures m all.0 r all.1 some (stuck all.0 t))) c.fault_of.ensures
 
 pub returns-in-Err : goal.returns-in-Err
-returns-in-Err g c m r some stuck = lex_refused c.args.text.now c.asm_fault.result (c.asm_fault.ensures c.args.text.now (subst (λ u. IsLexFault u c.in-Err.fault) c.requires.text (c.in-Err.ensures.fault m r)))
+returns-in-Err g c m r some stuck =
+    lex_refused c.args.text.now c.asm_fault.result (c.asm_fault.ensures c.args.text.now
+    (subst (λ u. IsLexFault u c.in-Err.fault) c.requires.text (c.in-Err.ensures.fault m r)))

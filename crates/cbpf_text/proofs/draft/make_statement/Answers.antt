@@ -3,7 +3,8 @@ use Rattle.cbpf_grammar.specs.Items.{names_at}
 use Rattle.cbpf_grammar.specs.Views.{class_of, lexeme_of}
 use Rattle.cbpf_text.specs.Drafts.{AreTargets}
 use Rattle.cbpf_text.specs.Operands.{literal_of, first_of}
-use Rattle.cbpf_text.proofs.Operands.{literal_begin, names_begin, literal_put, literal_at_name, literal_at_mark, name_put, other_put, literal_past, names_past, past_one}
+use Rattle.cbpf_text.proofs.Operands.{literal_begin, names_begin, literal_put, literal_at_name, literal_at_mark}
+use Rattle.cbpf_text.proofs.Operands.{name_put, other_put, literal_past, names_past, past_one}
 use Rattle.cbpf_text.proofs.draft.make_statement.Goals as goal
 
 pub loop-i-init : goal.loop-i-init
@@ -33,8 +34,11 @@ loop-i-preserved-in-Name c =
       tokens = omega (arith, inv.tokens);
       code = c.put_target.ensures.code ∙ inv.code;
       fields = c.put_target.ensures.fields ∙ inv.fields;
-      literal = c.put_target.ensures.literal ∙ (inv.literal ∙ sym (literal_at_name os bs i _ c.loop-i-test.true inv.classes inv.tokens c.in-Name.is));
-      targets = subst (AreTargets s.targets s.first s.second) (sym (name_put os bs i _ _ c.loop-i-test.true inv.classes inv.tokens c.in-Name.is)) (c.put_target.ensures.targets _ inv.targets);
+      literal = c.put_target.ensures.literal
+          ∙ (inv.literal ∙ sym (literal_at_name os bs i _ c.loop-i-test.true inv.classes inv.tokens c.in-Name.is));
+      targets = subst (AreTargets s.targets s.first s.second)
+          (sym (name_put os bs i _ _ c.loop-i-test.true inv.classes inv.tokens c.in-Name.is))
+          (c.put_target.ensures.targets _ inv.targets);
     }
 
 pub loop-i-preserved-in-Mark : goal.loop-i-preserved-in-Mark
@@ -49,8 +53,11 @@ loop-i-preserved-in-Mark c =
       tokens = omega (arith, inv.tokens);
       code = inv.code;
       fields = inv.fields;
-      literal = inv.literal ∙ sym (literal_at_mark os bs i _ _ c.loop-i-test.true inv.classes inv.tokens c.in-Mark.is);
-      targets = subst (AreTargets s.targets s.first s.second) (sym (other_put os bs i _ c.loop-i-test.true inv.classes inv.tokens (λ n. let k = sym c.in-Mark.is ∙ n in cc))) inv.targets;
+      literal =
+          inv.literal ∙ sym (literal_at_mark os bs i _ _ c.loop-i-test.true inv.classes inv.tokens c.in-Mark.is);
+      targets = subst (AreTargets s.targets s.first s.second) (sym
+          (other_put os bs i _ c.loop-i-test.true inv.classes inv.tokens (λ n. let k = sym c.in-Mark.is ∙ n in cc)))
+          inv.targets;
     }
 
 pub loop-i-preserved-in-Some : goal.loop-i-preserved-in-Some
@@ -65,8 +72,12 @@ loop-i-preserved-in-Some c =
       tokens = omega (arith, inv.tokens);
       code = inv.code;
       fields = inv.fields;
-      literal = sym (literal_put os bs i _ _ c.loop-i-test.true inv.classes inv.tokens c.value_at.result c.value_at.ensures ∙ ap (λ o. first_of o (literal_of (drop i (map class_of os)) (drop (i + 1) (map lexeme_of bs)))) c.in-Some.is);
-      targets = subst (AreTargets s.targets s.first s.second) (sym (other_put os bs i _ c.loop-i-test.true inv.classes inv.tokens c.in_default.not-Name)) inv.targets;
+      literal =
+          sym (literal_put os bs i _ _ c.loop-i-test.true inv.classes inv.tokens c.value_at.result c.value_at.ensures
+          ∙ ap (λ o. first_of o (literal_of (drop i (map class_of os)) (drop (i + 1) (map lexeme_of bs))))
+          c.in-Some.is);
+      targets = subst (AreTargets s.targets s.first s.second)
+          (sym (other_put os bs i _ c.loop-i-test.true inv.classes inv.tokens c.in_default.not-Name)) inv.targets;
     }
 
 pub loop-i-preserved : goal.loop-i-preserved
@@ -81,8 +92,12 @@ loop-i-preserved c =
       tokens = omega (arith, inv.tokens);
       code = inv.code;
       fields = inv.fields;
-      literal = inv.literal ∙ sym (literal_put os bs i _ _ c.loop-i-test.true inv.classes inv.tokens c.value_at.result c.value_at.ensures ∙ ap (λ o. first_of o (literal_of (drop i (map class_of os)) (drop (i + 1) (map lexeme_of bs)))) c.in_default-value_at.is);
-      targets = subst (AreTargets s.targets s.first s.second) (sym (other_put os bs i _ c.loop-i-test.true inv.classes inv.tokens c.in_default.not-Name)) inv.targets;
+      literal = inv.literal ∙ sym
+          (literal_put os bs i _ _ c.loop-i-test.true inv.classes inv.tokens c.value_at.result c.value_at.ensures
+          ∙ ap (λ o. first_of o (literal_of (drop i (map class_of os)) (drop (i + 1) (map lexeme_of bs))))
+          c.in_default-value_at.is);
+      targets = subst (AreTargets s.targets s.first s.second)
+          (sym (other_put os bs i _ c.loop-i-test.true inv.classes inv.tokens c.in_default.not-Name)) inv.targets;
     }
 
 pub returns : goal.returns
@@ -97,5 +112,6 @@ returns c labels =
       code = inv.code;
       fields = inv.fields;
       literal = inv.literal ∙ (ap (λ k. literal_of (drop k cs) (drop (k + 1) ts)) none ∙ sym (literal_begin w cs ts));
-      targets = subst (AreTargets s.targets s.first s.second) (ap (λ k. names_at (drop k cs) (drop (k + 1) ts)) none ∙ sym (names_begin w cs ts)) inv.targets;
+      targets = subst (AreTargets s.targets s.first s.second)
+          (ap (λ k. names_at (drop k cs) (drop (k + 1) ts)) none ∙ sym (names_begin w cs ts)) inv.targets;
     }

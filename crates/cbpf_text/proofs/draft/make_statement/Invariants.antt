@@ -12,8 +12,10 @@ invariant-loop-i l = record {
   tokens : l.i ≤ length l.body - 1;
   code : l.statement.code ≡ code_of l.row.op;
   fields : l.statement.fields ≡ l.row.fields;
-  literal : l.statement.literal ≡ literal_of (drop l.i (map class_of l.operand)) (drop (l.i + 1) (map lexeme_of l.body));
-  targets : AreTargets l.statement.targets l.statement.first l.statement.second (names_at (drop l.i (map class_of l.operand)) (drop (l.i + 1) (map lexeme_of l.body)));
+  literal : l.statement.literal
+      ≡ literal_of (drop l.i (map class_of l.operand)) (drop (l.i + 1) (map lexeme_of l.body));
+  targets : AreTargets l.statement.targets l.statement.first l.statement.second
+      (names_at (drop l.i (map class_of l.operand)) (drop (l.i + 1) (map lexeme_of l.body)));
 }
 
 abbrev pub decreases-loop-i : goal.decreases-loop-i

@@ -7,7 +7,9 @@ pub returns-in-Misplaced : goal.returns-in-Misplaced
 returns-in-Misplaced c = λ ts h. misplaced_reported ts c.in-Misplaced.at (subst (IsRefusedFor ts) c.in-Misplaced.is h)
 
 pub returns-in-LargeNegative : goal.returns-in-LargeNegative
-returns-in-LargeNegative c = λ ts h. large_reported ts c.in-LargeNegative.at (subst (IsRefusedFor ts) c.in-LargeNegative.is h)
+returns-in-LargeNegative c = λ ts h.
+    large_reported ts c.in-LargeNegative.at (subst (IsRefusedFor ts) c.in-LargeNegative.is h)
 
 pub returns-in-Unfinished : goal.returns-in-Unfinished
-returns-in-Unfinished c = λ ts h. unfinished_reported ts c.in-Unfinished.at (subst (IsRefusedFor ts) c.in-Unfinished.is h)
+returns-in-Unfinished c = λ ts h.
+    unfinished_reported ts c.in-Unfinished.at (subst (IsRefusedFor ts) c.in-Unfinished.is h)

@@ -9,4 +9,5 @@ use Rattle.cbpf_text.specs.Tables.{same_name, Resolves}
 use Rattle.cbpf_text.proofs.encode.encode_all.Given as goal
 
 abbrev pub invariant-loop-i : goal.invariant-loop-i
-invariant-loop-i g l = (is : List Item) → AreStatements l.statements is → All HasForm is → Resolves is (λ k. get same_name l.labels k) → EncodeEach is 0 (take l.i is) l.insns.items
+invariant-loop-i g l = (is : List Item) → AreStatements l.statements is → All HasForm is
+    → Resolves is (λ k. get same_name l.labels k) → EncodeEach is 0 (take l.i is) l.insns.items

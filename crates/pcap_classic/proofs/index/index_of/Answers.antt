@@ -26,7 +26,9 @@ records-preserved g c =
       kept = c.in_ok-keep_start.ensures _ _ here c.records.invariant.kept;
       few = omega (arith, is.header);
       repeated = elim c.if-length-last.branch [
-        | then-length-last w ↦ (let before = c.records.invariant.repeated in let other = c.if-repeats-eq-REPEATS.false in omega (arith, w.repeats-is))
+        | then-length-last w ↦
+            (let before = c.records.invariant.repeated in let other = c.if-repeats-eq-REPEATS.false in
+            omega (arith, w.repeats-is))
         | else-length-last w ↦ rw w.repeats-is (omega arith)
       ];
     }
@@ -35,5 +37,12 @@ pub returns : goal.returns
 returns g c =
     let front : c.front_of.result ≡ front_of c.args.order (drop c.records.place c.args.file.now) =
     rw take_rest at c.front_of.ensures in
-    let end = reaches_end _ _ _ _ c.records.invariant.here (λ size whole. c.in_default.not-WholeRecord size (front ∙ whole)) in
-    record { long = c.requires; counted = end.count; few = omega arith; kept = c.records.invariant.kept; ended = c.ending_at-ending.ensures ∙ end.ending }
+    let end =
+    reaches_end _ _ _ _ c.records.invariant.here (λ size whole. c.in_default.not-WholeRecord size (front ∙ whole)) in
+    record {
+      long = c.requires;
+      counted = end.count;
+      few = omega arith;
+      kept = c.records.invariant.kept;
+      ended = c.ending_at-ending.ensures ∙ end.ending;
+    }

@@ -5,7 +5,8 @@ use Rattle.cbpf_dbg.proofs.session.Session.breakpoint_when.Goals as goal
 pub invariant_of-self : goal.invariant_of-self
 invariant_of-self g c = (
   c.self.invariant.0,
-  known-at _ _ _ _ _ _ _ _ c.in-Some.is c.self.invariant.1 (λ w. c.watch_at.ensures _ w (same-but c.args.n _ _ (λ q h. c.in-Ok.ensures.updates.2 q h))),
+  known-at _ _ _ _ _ _ _ _ c.in-Some.is c.self.invariant.1
+      (λ w. c.watch_at.ensures _ w (same-but c.args.n _ _ (λ q h. c.in-Ok.ensures.updates.2 q h))),
 )
 
 pub watch_at-requires : goal.watch_at-requires

@@ -14,4 +14,5 @@ returns-clause-shown g c =
       origin = c.run-reply.new.w.origin;
       place = c.run-reply.new.w.place;
     } in
-    shows-run _ _ _ _ _ _ _ after (record { program = c.in-Some.is; values = refl; capture = c.in-Some-capture.is }) c.len-sound.ensures.sound c.run-reply.ensures.runs
+    shows-run _ _ _ _ _ _ _ after (record { program = c.in-Some.is; values = refl; capture = c.in-Some-capture.is })
+    c.len-sound.ensures.sound c.run-reply.ensures.runs

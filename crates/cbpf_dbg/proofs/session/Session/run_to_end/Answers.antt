@@ -1,12 +1,18 @@
 use Rattle.cbpf_machine.specs.Machine.{machine_of}
 use Rattle.std.proofs.Common.{rules, ◌≡◌, [], ◌∷◌, ◌++◌, arith, sym, append-nil, refl, ap, ◌∙◌, inl}
 use Rattle.cbpf_reply.specs.declared.reply.RunReply.TheVariants.{Stopped, Finished}
-use Rattle.cbpf_dbg.proofs.WholeLemmas.{Holds, stops-held, from_start, going-spare, going-found, going-stop, going-end, fewer, going-turns, end-turns}
+use Rattle.cbpf_dbg.proofs.WholeLemmas.{Holds, stops-held, from_start, going-spare, going-found, going-stop}
+use Rattle.cbpf_dbg.proofs.WholeLemmas.{going-end, fewer, going-turns, end-turns}
 use Rattle.cbpf_dbg.proofs.session.Session.run_to_end.Goals as goal
 
 pub runs-init : goal.runs-init
 runs-init g c =
-    let holds : Holds (machine_of c.in-Some.program c.args.self.now.values) c.in-Some-capture.capture c.args.self.now = record { program = rw (← c.self.view_is) c.in-Some.is; values = refl; capture = rw (← c.self.view_is) c.in-Some-capture.is } in
+    let holds :
+    Holds (machine_of c.in-Some.program c.args.self.now.values) c.in-Some-capture.capture c.args.self.now = record {
+      program = rw (← c.self.view_is) c.in-Some.is;
+      values = refl;
+      capture = rw (← c.self.view_is) c.in-Some-capture.is;
+    } in
     record {
       going = (
         machine_of c.in-Some.program c.args.self.now.values,
@@ -32,7 +38,8 @@ pub returns-then-is_err-clause-from_start : goal.returns-then-is_err-clause-from
 returns-then-is_err-clause-from_start g c = from_start c.args.self.now
 
 pub returns-then-is_err-clause-memory : goal.returns-then-is_err-clause-memory
-returns-then-is_err-clause-memory g c = λ _. let w = c.runs.invariant.going in rw c.reserve.ensures.items (going-found _ _ _ _ _ _ _ _ w.2)
+returns-then-is_err-clause-memory g c = λ _. let w = c.runs.invariant.going in
+    rw c.reserve.ensures.items (going-found _ _ _ _ _ _ _ _ w.2)
 
 pub returns-then-is_err-clause-memory_turns : goal.returns-then-is_err-clause-memory_turns
 returns-then-is_err-clause-memory_turns g c = λ _. let w = c.runs.invariant.going in going-turns _ _ _ _ _ _ _ _ w.2
@@ -48,29 +55,38 @@ runs-smaller g c =
 pub runs-preserved : goal.runs-preserved
 runs-preserved g c =
     let w = c.runs.invariant.going in
-    let pushed : c.push.new.self.items ≡ c.runs.found.items ++ c.in-Stopped.stop ∷ [] = c.in-Ok-push.ensures.items ∙ ap (λ xs. xs ++ c.in-Stopped.stop ∷ []) c.reserve.ensures.items in
+    let pushed : c.push.new.self.items ≡ c.runs.found.items ++ c.in-Stopped.stop ∷ [] =
+    c.in-Ok-push.ensures.items ∙ ap (λ xs. xs ++ c.in-Stopped.stop ∷ []) c.reserve.ensures.items in
     let e : c.in-Ok.reply ≡ Stopped c.in-Stopped.stop = c.in-Stopped.is in
     record {
-      going = (w.0, w.1, going-stop _ _ _ _ _ _ _ _ _ _ _ _ w.2 (rw e at c.in-Ok.ensures.ahead) c.run.ensures.after c.run.ensures.turns pushed);
+      going = (
+        w.0,
+        w.1,
+        going-stop _ _ _ _ _ _ _ _ _ _ _ _ w.2 (rw e at c.in-Ok.ensures.ahead) c.run.ensures.after
+            c.run.ensures.turns pushed,
+      );
     }
 
 pub returns-in-Finished-clause-reply : goal.returns-in-Finished-clause-reply
 returns-in-Finished-clause-reply g c =
     let w = c.runs.invariant.going in
     let e : c.in-Ok.reply ≡ Finished c.in-Finished.counts = c.in-Finished.is in
-    inl ((going-end _ _ _ _ _ _ _ _ _ _ w.2 (rw e at c.in-Ok.ensures.ahead) (rw e at c.in-Ok.ensures.reply) c.run.ensures.after).0)
+    inl ((going-end _ _ _ _ _ _ _ _ _ _ w.2 (rw e at c.in-Ok.ensures.ahead) (rw e at c.in-Ok.ensures.reply)
+    c.run.ensures.after).0)
 
 pub returns-in-Finished-clause-after : goal.returns-in-Finished-clause-after
 returns-in-Finished-clause-after g c =
     let w = c.runs.invariant.going in
     let e : c.in-Ok.reply ≡ Finished c.in-Finished.counts = c.in-Finished.is in
-    (going-end _ _ _ _ _ _ _ _ _ _ w.2 (rw e at c.in-Ok.ensures.ahead) (rw e at c.in-Ok.ensures.reply) c.run.ensures.after).1
+    (going-end _ _ _ _ _ _ _ _ _ _ w.2 (rw e at c.in-Ok.ensures.ahead) (rw e at c.in-Ok.ensures.reply)
+    c.run.ensures.after).1
 
 pub returns-in-Finished-clause-stops : goal.returns-in-Finished-clause-stops
 returns-in-Finished-clause-stops g c =
     let w = c.runs.invariant.going in
     let e : c.in-Ok.reply ≡ Finished c.in-Finished.counts = c.in-Finished.is in
-    let e = going-end _ _ _ _ _ _ _ _ _ _ w.2 (rw e at c.in-Ok.ensures.ahead) (rw e at c.in-Ok.ensures.reply) c.run.ensures.after in
+    let e = going-end _ _ _ _ _ _ _ _ _ _ w.2 (rw e at c.in-Ok.ensures.ahead) (rw e at c.in-Ok.ensures.reply)
+    c.run.ensures.after in
     (_, stops-held _ _ _ ((w.2).old_holds), c.reserve.ensures.items ∙ e.2)
 
 pub returns-in-Finished-clause-turns : goal.returns-in-Finished-clause-turns

@@ -7,7 +7,8 @@ use Rattle.cbpf_dbg.proofs.session.Session.run_to_end.Given as goal
 abbrev pub invariant-runs : goal.invariant-runs
 invariant-runs g l =
     record {
-      going : (machine : Machine) × (c : Savefile) × Going machine c l.initial.self l.self l.initial.found.items l.found.items l.initial.meter l.meter;
+      going : (machine : Machine) × (c : Savefile)
+          × Going machine c l.initial.self l.self l.initial.found.items l.found.items l.initial.meter l.meter;
     }
 
 abbrev pub decreases-runs : goal.decreases-runs

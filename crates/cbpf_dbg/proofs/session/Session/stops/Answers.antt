@@ -8,8 +8,14 @@ use Rattle.cbpf_dbg.proofs.session.Session.stops.Goals as goal
 
 pub returns-clause-shown : goal.returns-clause-shown
 returns-clause-shown g c =
-    let holds : Holds (machine_of c.in-Some.program c.self.inside.values) c.in-Some-capture.capture c.args.self.now = record { program = rw (← c.self.view_is) c.in-Some.is; values = rw (← c.self.view_is) refl; capture = rw (← c.self.view_is) c.in-Some-capture.is } in
+    let holds : Holds (machine_of c.in-Some.program c.self.inside.values) c.in-Some-capture.capture c.args.self.now =
+    record {
+      program = rw (← c.self.view_is) c.in-Some.is;
+      values = rw (← c.self.view_is) refl;
+      capture = rw (← c.self.view_is) c.in-Some-capture.is;
+    } in
     shows-rest _ _ _ _ _ holds c.len-sound.ensures.sound
 
 pub returns-clause-few : goal.returns-clause-few
-returns-clause-few g c = few_hits _ _ _ _ c.len-sound.ensures.sound (omega (arith, c.count-few.ensures.value, c.count-few.ensures.bounded))
+returns-clause-few g c =
+    few_hits _ _ _ _ c.len-sound.ensures.sound (omega (arith, c.count-few.ensures.value, c.count-few.ensures.bounded))

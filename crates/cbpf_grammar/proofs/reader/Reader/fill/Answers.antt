@@ -11,16 +11,23 @@ returns-in_err-self-inside-clause-fault g c =
     let p = err_from_is_err_and c.from_residual.result c.from_residual.ensures.1 in
     let s = c.self.inside in
     let size : c.self.inside.ahead.len ≡ length c.self.inside.ahead.items = search rules in
-    let kept : c.truncate.new.self.items ≡ drop c.self.inside.at c.self.inside.ahead.items = rw (c.truncate.ensures.items, c.copy_within.ensures.items, c.len.ensures) (kept_paste c.self.inside.ahead.items c.self.inside.at c.self.inside.ahead.len size (rw (← size) at c.self.invariant.0)) in
-    rw (p.1, p.2, ← c.self.view_is) (λ n r. c.in_err-self-inside.ensures.fault n (subst (λ (us : List declared_lexeme.Lexeme). AreAhead s.text.now s.lexer.at n (map lexeme_of us)) (sym kept) r.read))
+    let kept : c.truncate.new.self.items ≡ drop c.self.inside.at c.self.inside.ahead.items =
+    rw (c.truncate.ensures.items, c.copy_within.ensures.items, c.len.ensures) (kept_paste c.self.inside.ahead.items
+    c.self.inside.at c.self.inside.ahead.len size (rw (← size) at c.self.invariant.0)) in
+    rw (p.1, p.2, ← c.self.view_is) (λ n r. c.in_err-self-inside.ensures.fault n (subst
+    (λ (us : List declared_lexeme.Lexeme). AreAhead s.text.now s.lexer.at n (map lexeme_of us)) (sym kept) r.read))
 
 pub returns-clause-reading : goal.returns-clause-reading
 returns-clause-reading g c =
     let s = c.self.inside in
     let size : c.self.inside.ahead.len ≡ length c.self.inside.ahead.items = search rules in
-    let kept : c.truncate.new.self.items ≡ drop c.self.inside.at c.self.inside.ahead.items = rw (c.truncate.ensures.items, c.copy_within.ensures.items, c.len.ensures) (kept_paste c.self.inside.ahead.items c.self.inside.at c.self.inside.ahead.len size (rw (← size) at c.self.invariant.0)) in
+    let kept : c.truncate.new.self.items ≡ drop c.self.inside.at c.self.inside.ahead.items =
+    rw (c.truncate.ensures.items, c.copy_within.ensures.items, c.len.ensures) (kept_paste c.self.inside.ahead.items
+    c.self.inside.at c.self.inside.ahead.len size (rw (← size) at c.self.invariant.0)) in
     rw (← c.self.view_is) (λ n r. record {
-      read = c.in_ok-self-inside.ensures.read n (subst (λ (us : List declared_lexeme.Lexeme). AreAhead s.text.now s.lexer.at n (map lexeme_of us)) (sym kept) r.read);
+      read = c.in_ok-self-inside.ensures.read n
+          (subst (λ (us : List declared_lexeme.Lexeme). AreAhead s.text.now s.lexer.at n (map lexeme_of us))
+          (sym kept) r.read);
       end = c.in_ok-self-inside.ensures.end;
       last = r.last;
       large = r.large;

@@ -1,6 +1,7 @@
 use Rattle.std.proofs.Common.{◌<◌, length, arith}
 use Rattle.cbpf_jobs.specs.Reading.{pending_in}
-use Rattle.cbpf_jobs.proofs.LineLemmas.{line-unfilled, line-unheld, took-filled, took-end, took-part, took-all, plain-append, pending-some, kept-then}
+use Rattle.cbpf_jobs.proofs.LineLemmas.{line-unfilled, line-unheld, took-filled, took-end, took-part, took-all}
+use Rattle.cbpf_jobs.proofs.LineLemmas.{plain-append, pending-some, kept-then}
 use Rattle.cbpf_jobs.proofs.line_reader.LineReader.next_line.Goals as goal
 
 pub returns-in-Err-clause-line : goal.returns-in-Err-clause-line
@@ -9,7 +10,8 @@ returns-in-Err-clause-line g c = λ bytes e.
     let pending' = pending_in c.fill.new.self.chunk c.fill.new.self.start c.fill.new.self.end in
     let left = g.R.Read.remaining c.parts.reader in
     let left' = g.R.Read.remaining c.fill.new.reader in
-    line-unfilled bytes pending pending' c.parts.line.items left left' c.in-Err.fault (c.parts.invariant.so_far bytes e) c.parts.invariant.plain c.in-Err.ensures.fault c.in-Err.ensures.bytes
+    line-unfilled bytes pending pending' c.parts.line.items left left' c.in-Err.fault
+    (c.parts.invariant.so_far bytes e) c.parts.invariant.plain c.in-Err.ensures.fault c.in-Err.ensures.bytes
 
 pub returns-in-Ok-false-clause-line : goal.returns-in-Ok-false-clause-line
 returns-in-Ok-false-clause-line g c = λ bytes e.
@@ -27,9 +29,12 @@ returns-in-Err-take_part-clause-line g c = λ bytes e.
     let left = g.R.Read.remaining c.parts.reader in
     let left' = g.R.Read.remaining c.fill.new.reader in
     let t = c.parts.invariant.so_far bytes e in
-    let s = took-filled bytes pending pending' c.parts.line.items left left' t (rw c.in-Ok-true.field-0-test at (c.in-Ok-true.ensures.bytes t.rest t.known)) in
-    let some : 0 < length pending' = pending-some c.fill.new.self.chunk c.fill.new.self.start c.fill.new.self.end c.fill.new.self.within (c.in-Ok-true.ensures.some c.in-Ok-true.field-0-test) in
-    line-unheld bytes pending' pending'' c.parts.line.items c.take_part.new.line.items left' left' c.in-Err-take_part.fault s some c.in-Err-take_part.ensures.taken
+    let s = took-filled bytes pending pending' c.parts.line.items left left' t
+    (rw c.in-Ok-true.field-0-test at (c.in-Ok-true.ensures.bytes t.rest t.known)) in
+    let some : 0 < length pending' = pending-some c.fill.new.self.chunk c.fill.new.self.start c.fill.new.self.end
+    c.fill.new.self.within (c.in-Ok-true.ensures.some c.in-Ok-true.field-0-test) in
+    line-unheld bytes pending' pending'' c.parts.line.items c.take_part.new.line.items left' left'
+    c.in-Err-take_part.fault s some c.in-Err-take_part.ensures.taken
 
 pub returns-in-Ok-true-take_part-clause-line : goal.returns-in-Ok-true-take_part-clause-line
 returns-in-Ok-true-take_part-clause-line g c = λ bytes e.
@@ -39,9 +44,12 @@ returns-in-Ok-true-take_part-clause-line g c = λ bytes e.
     let left = g.R.Read.remaining c.parts.reader in
     let left' = g.R.Read.remaining c.fill.new.reader in
     let t = c.parts.invariant.so_far bytes e in
-    let s = took-filled bytes pending pending' c.parts.line.items left left' t (rw c.in-Ok-true.field-0-test at (c.in-Ok-true.ensures.bytes t.rest t.known)) in
-    let p = rw c.in-Ok-true-take_part.field-0-test at c.in-Ok-true-take_part.ensures.taken in
-    (rw p.3 (plain-append c.parts.line.items p.0 c.parts.invariant.plain p.1), took-part bytes pending' pending'' p.0 c.parts.line.items c.take_part.new.line.items left' s p.2 p.3)
+    let s = took-filled bytes pending pending' c.parts.line.items left left' t
+    (rw c.in-Ok-true.field-0-test at (c.in-Ok-true.ensures.bytes t.rest t.known)) in
+    let p = rw c.in-Ok-true-take_part.field-0-test at c.in-Ok-true-take_part.ensures.taken in (
+      rw p.3 (plain-append c.parts.line.items p.0 c.parts.invariant.plain p.1),
+      took-part bytes pending' pending'' p.0 c.parts.line.items c.take_part.new.line.items left' s p.2 p.3,
+    )
 
 pub parts-preserved : goal.parts-preserved
 parts-preserved g c =
@@ -57,9 +65,16 @@ parts-preserved g c =
     record {
       kept = kept-then writer writer' writer'' c.parts.invariant.kept c.fill.ensures.flushed;
       plain = rw p.2 (plain-append c.parts.line.items pending' c.parts.invariant.plain p.0);
-      fewer = omega (arith, c.in-Ok-false-take_part.ensures.fewer, c.in-Ok-false-take_part.ensures.reads, c.in-Ok-true.ensures.fewer, c.parts.invariant.fewer);
+      fewer = omega (
+        arith,
+        c.in-Ok-false-take_part.ensures.fewer,
+        c.in-Ok-false-take_part.ensures.reads,
+        c.in-Ok-true.ensures.fewer,
+        c.parts.invariant.fewer,
+      );
       so_far = λ bytes e.
           let t = c.parts.invariant.so_far bytes e in
-          let s = took-filled bytes pending pending' c.parts.line.items left left' t (rw c.in-Ok-true.field-0-test at (c.in-Ok-true.ensures.bytes t.rest t.known)) in
+          let s = took-filled bytes pending pending' c.parts.line.items left left' t
+          (rw c.in-Ok-true.field-0-test at (c.in-Ok-true.ensures.bytes t.rest t.known)) in
           took-all bytes pending' pending'' c.parts.line.items c.take_part.new.line.items left' s p.1 p.2;
     }

@@ -8,8 +8,11 @@ abbrev pub invariant-parts : goal.invariant-parts
 invariant-parts g l = record {
   kept : Keeps (g.W.Write.contents l.fn.writer) (g.W.Write.contents l.writer);
   plain : has_newline l.line.items ≡ false;
-  fewer : 4097 * l.self.reads + (l.self.end - l.self.start) ≤ 4097 * l.fn.self.reads + (l.fn.self.end - l.fn.self.start);
-  so_far : (bytes : List ℕ) → unread (pending_in l.fn.self.chunk l.fn.self.start l.fn.self.end) (g.R.Read.remaining l.fn.reader) ≡ Some bytes →
+  fewer : 4097 * l.self.reads + (l.self.end - l.self.start)
+      ≤ 4097 * l.fn.self.reads + (l.fn.self.end - l.fn.self.start);
+  so_far : (bytes : List ℕ)
+      → unread (pending_in l.fn.self.chunk l.fn.self.start l.fn.self.end) (g.R.Read.remaining l.fn.reader)
+      ≡ Some bytes →
       Took bytes (pending_in l.self.chunk l.self.start l.self.end) (g.R.Read.remaining l.reader) l.line.items;
 }
 

@@ -13,7 +13,14 @@ returns-in-Some-clause-fault c =
     let next = next_at text at piece c.loop-at-test.true c.next_piece-piece.ensures in
     let other : is_blank (get_or text at 0) ≡ false = sym c.is_blank.ensures ∙ c.if-is_blank.false in
     let more = to_here text c.self.inside.at at c.loop-at-test.true other c.loop-at.invariant.more in
-    rw (← c.self.view_is) (λ ts lexed. record { at = at; tokens = ts; before = more ts lexed; size = piece.size; bad = subst (λ k. IsPieceAt text at (record { kind = k; size = piece.size })) c.in-Some.ensures.bad next; line = c.line_of.ensures })
+    rw (← c.self.view_is) (λ ts lexed. record {
+      at = at;
+      tokens = ts;
+      before = more ts lexed;
+      size = piece.size;
+      bad = subst (λ k. IsPieceAt text at (record { kind = k; size = piece.size })) c.in-Some.ensures.bad next;
+      line = c.line_of.ensures;
+    })
 
 pub invariant_of-self-in-Lexeme : goal.invariant_of-self-in-Lexeme
 invariant_of-self-in-Lexeme c =
@@ -32,10 +39,20 @@ returns-in-Lexeme-clause-token c =
     let more = to_here text c.self.inside.at at c.loop-at-test.true other c.loop-at.invariant.more in
     let some = piece_some text at piece next in
     let within = piece_within text at piece c.loop-at-test.true next in
-    rw (← c.self.view_is) (record { more = token_more text c.self.inside.at at piece c.in-Lexeme.kind more next c.in-Lexeme.is; span = (omega arith, within); farther = omega (arith, some, c.loop-at.invariant.from); within = within })
+    rw (← c.self.view_is) (record {
+      more = token_more text c.self.inside.at at piece c.in-Lexeme.kind more next c.in-Lexeme.is;
+      span = (omega arith, within);
+      farther = omega (arith, some, c.loop-at.invariant.from);
+      within = within;
+    })
 
 pub loop-at-init : goal.loop-at-init
-loop-at-init c = record { same = refl; from = omega arith; within = c.self.invariant; more = to_run_end c.self.inside.text.now c.self.inside.at c.self.inside.at c.self.invariant (λ ts lexed. lexed) }
+loop-at-init c = record {
+  same = refl;
+  from = omega arith;
+  within = c.self.invariant;
+  more = to_run_end c.self.inside.text.now c.self.inside.at c.self.inside.at c.self.invariant (λ ts lexed. lexed);
+}
 
 pub loop-at-preserved : goal.loop-at-preserved
 loop-at-preserved c =
@@ -50,7 +67,8 @@ loop-at-preserved c =
       same = c.loop-at.invariant.same;
       from = omega (arith, c.loop-at.invariant.from);
       within = within;
-      more = to_run_end text c.self.inside.at _ within (piece_more text c.self.inside.at at piece more next c.in_default.ensures.good c.in_default-kind.not-Lexeme);
+      more = to_run_end text c.self.inside.at _ within (piece_more text c.self.inside.at at piece more next
+          c.in_default.ensures.good c.in_default-kind.not-Lexeme);
     }
 
 pub loop-at-preserved-then-is_blank : goal.loop-at-preserved-then-is_blank
@@ -60,7 +78,8 @@ loop-at-preserved-then-is_blank c =
       same = c.loop-at.invariant.same;
       from = omega (arith, c.loop-at.invariant.from);
       within = omega (arith, c.loop-at-test.true);
-      more = to_next text c.self.inside.at c.loop-at.at c.loop-at-test.true (sym c.is_blank.ensures ∙ c.if-is_blank.true) c.loop-at.invariant.more;
+      more = to_next text c.self.inside.at c.loop-at.at c.loop-at-test.true
+          (sym c.is_blank.ensures ∙ c.if-is_blank.true) c.loop-at.invariant.more;
     }
 
 pub loop-at-smaller : goal.loop-at-smaller

@@ -9,10 +9,21 @@ use Rattle.cbpf_machine.proofs.mark_trail.MarkTrail.follow_begun.Goals as goal
 
 pub has-requires : goal.has-requires
 has-requires g c =
-    let h = goes_from_entry (machine_of c.args.p.now c.args.values.now) c.args.packet.bytes.now c.args.packet.wire (c.args.self.now.kept - 1) zero_state c.args.s.now c.len-few.ensures.sound (sound_some c.args.p.now c.len-few.ensures.sound) c.requires.last in
+    let h = goes_from_entry (machine_of c.args.p.now c.args.values.now) c.args.packet.bytes.now c.args.packet.wire
+    (c.args.self.now.kept - 1) zero_state c.args.s.now c.len-few.ensures.sound
+    (sound_some c.args.p.now c.len-few.ensures.sound) c.requires.last in
     omega (arith, c.index.ensures, h.inside, sound_few c.args.p.now c.len-few.ensures.sound)
 
 pub overflow_add-result : goal.overflow_add-result
 overflow_add-result g c =
-    let within = slice_get_within (trace (machine_of c.args.p.now c.args.values.now) c.args.packet.bytes.now c.args.packet.wire) (c.args.self.now.kept + c.in-Watched.more - 1) c.follow.new.s c.in-Watched.ensures.follows.2 in
-    omega (arith, within, c.self.invariant.0, length-trace_from (machine_of c.args.p.now c.args.values.now) c.args.packet.bytes.now c.args.packet.wire zero_state, sound_few c.args.p.now c.len-few.ensures.sound)
+    let within =
+    slice_get_within (trace (machine_of c.args.p.now c.args.values.now) c.args.packet.bytes.now c.args.packet.wire)
+    (c.args.self.now.kept + c.in-Watched.more - 1) c.follow.new.s c.in-Watched.ensures.follows.2 in
+    omega (
+      arith,
+      within,
+      c.self.invariant.0,
+      length-trace_from (machine_of c.args.p.now c.args.values.now) c.args.packet.bytes.now
+          c.args.packet.wire zero_state,
+      sound_few c.args.p.now c.len-few.ensures.sound,
+    )

@@ -13,8 +13,10 @@ invariant-fill g l =
       sound : IsSound l.p;
       from_one : 1 ≤ l.filled.kept;
       within : l.filled.kept ≤ l.to;
-      here : Goes (machine_of l.p l.values) l.packet.bytes.now l.packet.wire (trace (machine_of l.p l.values) l.packet.bytes.now l.packet.wire) (l.filled.kept - 1) l.here;
-      stands : AreCheckpoints l.filled (take l.filled.kept (trace (machine_of l.p l.values) l.packet.bytes.now l.packet.wire));
+      here : Goes (machine_of l.p l.values) l.packet.bytes.now l.packet.wire
+          (trace (machine_of l.p l.values) l.packet.bytes.now l.packet.wire) (l.filled.kept - 1) l.here;
+      stands : AreCheckpoints l.filled
+          (take l.filled.kept (trace (machine_of l.p l.values) l.packet.bytes.now l.packet.wire));
       spent : l.meter + 1 ≡ l.fn.meter + l.filled.kept;
     }
 

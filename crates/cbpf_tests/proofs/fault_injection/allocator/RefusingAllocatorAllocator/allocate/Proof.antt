@@ -2,7 +2,8 @@
 use Rattle.std.proofs.Common.{◌≡◌, ℕ, Bool, true, false, [], ◌∷◌, Ok, Err, refl, w64}
 use Rattle.std.proofs.VecSteps.Shapes.{after}
 use Rattle.std.proofs.raw_atomic.Walks.{proved}
-use Rattle.std.proofs.alloc.Calls.{Al, seen, token, Answer, answer_val, Answer-typed, Answer-Ok, Answer-err, Takes, at_takes, Answered, Takes-goes, Takes-gives, answers}
+use Rattle.std.proofs.alloc.Calls.{Al, seen, token, Answer, answer_val, Answer-typed, Answer-Ok, Answer-err, Takes}
+use Rattle.std.proofs.alloc.Calls.{at_takes, Answered, Takes-goes, Takes-gives, answers}
 use Rattle.std.specs.Allocator.{block_if_ok}
 use mir.Syntax.{Fn}
 use mir.Val.{vbool, vint}
@@ -14,7 +15,8 @@ use types.Logic.{sem}
 use contract.BorrowLft.{◌⊑◌, ⊑_trans}
 use contract.Monad.{fact}
 use contract.Running.{tables}
-use types.Kit.{‵, raw, ◌⊛◌, some, later, given, prop, at_ret, Sq, ◌$◌, ◌∵◌, !, qed, move, keep, use0, use1, use2, split, join, pick, learn, group, fsplit, fjoin, suffices, await, done}
+use types.Kit.{‵, raw, ◌⊛◌, some, later, given, prop, at_ret, Sq, ◌$◌, ◌∵◌, !, qed, move, keep, use0, use1, use2}
+use types.Kit.{split, join, pick, learn, group, fsplit, fjoin, suffices, await, done}
 use types.Part.{agg}
 use types.Run.{stop, fld, addr, lit, no_more, and_then, first, branches, skips, exec, returns, returns_within, enter}
 use types.ByLocal.{alloc_all, pass_all, free_all, look_at, get, through, sets, lands_as, env}
@@ -47,7 +49,10 @@ module _ (inner : Al) where
   ended = f.ended inner.row inner.g inner.d inner.drops
 
   abbrev stayed : Stays ended.signature.params ended.kept
-  stayed = (stay_dropped (self_slot inner) yes, (stay_dropped (plain (λ _. usize)) yes, (stay_dropped (plain (λ _. usize)) yes, tt)))
+  stayed = (
+    stay_dropped (self_slot inner) yes,
+    (stay_dropped (plain (λ _. usize)) yes, (stay_dropped (plain (λ _. usize)) yes, tt)),
+  )
 
 pub allocate_spec : {M : Type 1} → statement M
 allocate_spec 𝓤 𝓛 𝓜 𝓡 wired B laws ghosts methods drops met _ =
@@ -60,17 +65,21 @@ allocate_spec 𝓤 𝓛 𝓜 𝓡 wired B laws ghosts methods drops met _ =
     let goes_self = Goes-dropped 𝓛 2 (self_slot inner) yes (λ κs x w. refl) in
     proved 𝓛 T hs c 𝓜 𝓡 (goes_self, (goes_word, (goes_word, tt)))
     (f.Key.name (generics inner)) (body inner) (code.unfolded 𝓤 𝓛.H 𝓜 𝓡 wired (B, tt) methods drops)
-    (λ κs. (shr_vals, (uint_vals w64, (uint_vals w64, tt)))) (λ κs. ((λ r vs s. s.0), (uint_Tells w64, (uint_Tells w64, tt))))
+    (λ κs. (shr_vals, (uint_vals w64, (uint_vals w64, tt))))
+    (λ κs. ((λ r vs s. s.0), (uint_Tells w64, (uint_Tells w64, tt))))
     (λ κs qs bounds a τ are.
     let κ = κs.0 in let q = qs.0 in let long = κs.1.0 in let q_long = qs.1.0 in
     let r = a.0 in let n = a.1.0 in let m = a.1.1.0 in
     let fn = are.1.0.1 in let fm = are.1.1.0.1 in
     let place = inner_at inner r.ref_ptr in let count = count_at inner r.ref_ptr in let heap = r.now.inner in
-    let y : W.Ghost = ((κs, qs, bounds, (r, (n, (m, tt))), (shr_vals r, (vint w64 n ∷ [], (vint w64 m ∷ [], tt)))), τ) in
+    let y : W.Ghost =
+    ((κs, qs, bounds, (r, (n, (m, tt))), (shr_vals r, (vint w64 n ∷ [], (vint w64 m ∷ [], tt)))), τ) in
     let Fits : Type 0 = (capped (size τ) ≡ n) × (capped (align τ) ≡ m) in
     -- the exit, with the answer `got`: [what comes with it; the two tokens]
-    let leaves : (t : Bool) (b o : ℕ) (got : Answer.Denot) → ent 𝓤 (emp 𝓤) (sem 𝓛 (Answer.own_val got (answer_val t b o ∷ [])))
-    → Sq 𝓛 (‵ (block_if_ok (token inner heap) τ got) ∷ ‵ (flft κ q) ∷ (‵ (flft long q_long) ⊛ ‵ ftrue) ∷ []) (prop (W.post y (answer_val t b o))) = λ t b o got owned.
+    let leaves : (t : Bool) (b o : ℕ) (got : Answer.Denot)
+    → ent 𝓤 (emp 𝓤) (sem 𝓛 (Answer.own_val got (answer_val t b o ∷ [])))
+    → Sq 𝓛 (‵ (block_if_ok (token inner heap) τ got) ∷ ‵ (flft κ q) ∷ (‵ (flft long q_long) ⊛ ‵ ftrue) ∷ [])
+    (prop (W.post y (answer_val t b o))) = λ t b o got owned.
     suffices ! _ (ends_at 𝓛 T hs c y (answer_val t b o) got (tt, (tt, (tt, tt))) (tt, (tt, (tt, tt)))) $
     use0 𝓛 (‵ (Answer.own_val got (answer_val t b o ∷ []))) owned $
     nothing ! $ nothing ! $ join ! $ nothing ! $ join ! $ nothing ! $ join ! $
@@ -82,13 +91,17 @@ allocate_spec 𝓤 𝓛 𝓜 𝓡 wired B laws ghosts methods drops met _ =
     use1 𝓛 (‵ (seen inner κ place heap)) (id⊢ 𝓤 _) $ move ! (1 ∷ []) $ fsplit ! $
     use1 𝓛 (‵ (hidden_shr Count κ (record { value = tt }) count.0 count.1)) (id⊢ 𝓤 _) $ keep ! (0 ∷ 6 ∷ 2 ∷ 7 ∷ []) $
     -- [the count; the token of κ; the inner allocator; the other token; the locals]
-    enter ! _ _ _ _ _ $ alloc_all ! (λ l. pass_all ! refl ((tt, tt), ((tt, record { fits = fn }), ((tt, record { fits = fm }), tt))) $
+    enter ! _ _ _ _ _ $
+    alloc_all ! (λ l. pass_all ! refl ((tt, tt), ((tt, record { fits = fn }), ((tt, record { fits = fm }), tt))) $
     sets ! (addr ! (through ! refl (fld ! refl (stop !)))) refl (tt, tt) $
     let G = Asks 𝓛 𝓜.mem 𝓡.returns in
     let z : G.Ghost = at_asks 𝓛 𝓜.mem 𝓡.returns κ q count in
     use2 𝓛 (raw (G.pre z)) (asks-handed 𝓛 𝓜.mem 𝓡.returns κ q count) $
-    calls_at ! (framed 𝓤 𝓛.H 𝓜 𝓣) G (is_refused.met 𝓤 𝓛 𝓜 𝓡 (code.calls-cbpf_tests::fault_injection::allocator::is_refused 𝓡.env wired)) z (and_then ! (get ! refl) (no_more !)) (λ v.
-    use1 𝓛 (later (some (λ (t : Bool). given (v ≡ vbool t) (‵ (flft κ q))))) (asks-said 𝓛 𝓜.mem 𝓡.returns κ q count v) $
+    calls_at ! (framed 𝓤 𝓛.H 𝓜 𝓣) G
+    (is_refused.met 𝓤 𝓛 𝓜 𝓡 (code.calls-cbpf_tests::fault_injection::allocator::is_refused 𝓡.env wired)) z
+    (and_then ! (get ! refl) (no_more !)) (λ v.
+    use1 𝓛 (later (some (λ (t : Bool). given (v ≡ vbool t) (‵ (flft κ q)))))
+    (asks-said 𝓛 𝓜.mem 𝓡.returns κ q count v) $
     await ! tt $ pick ! (λ refused. learn ! (λ is_refused. lands_as ! is_refused refl (tt, tt) $
     -- [the token of κ; the inner allocator; the other token; the locals]
     first ! $ branches ! (get ! refl)
@@ -100,11 +113,16 @@ allocate_spec 𝓤 𝓛 𝓜 𝓡 wired B laws ghosts methods drops met _ =
     sets ! (addr ! (through ! refl (fld ! refl (stop !)))) refl (tt, tt) $ move ! (1 ∷ 0 ∷ []) $
     let G' = Takes inner 𝓛 𝓜.mem 𝓡.returns in
     let z' : G'.Ghost = at_takes inner 𝓛 𝓜.mem 𝓡.returns κ q place heap n m τ in
-    use2 𝓛 (raw (G'.pre z')) (Takes-goes inner 𝓛 𝓜.mem 𝓡.returns κ q place heap (⊑_trans κ long B.lives bounds.0 outlived) n m τ fits.0 fits.1 fn fm) $
-    calls_at ! (framed 𝓤 𝓛.H 𝓜 𝓣) G' (met.allocate drops) z' (and_then ! (get ! refl) (and_then ! (get ! refl) (and_then ! (get ! refl) (no_more !)))) (λ w.
-    use1 𝓛 (later (raw (Answered inner 𝓛 𝓜.mem 𝓡.returns heap τ w) ⊛ ‵ (flft κ q))) (Takes-gives inner 𝓛 𝓜.mem 𝓡.returns κ q place heap n m τ w) $ await ! tt $ split ! $
+    use2 𝓛 (raw (G'.pre z')) (Takes-goes inner 𝓛 𝓜.mem 𝓡.returns κ q place heap
+    (⊑_trans κ long B.lives bounds.0 outlived) n m τ fits.0 fits.1 fn fm) $
+    calls_at ! (framed 𝓤 𝓛.H 𝓜 𝓣) G' (met.allocate drops) z'
+    (and_then ! (get ! refl) (and_then ! (get ! refl) (and_then ! (get ! refl) (no_more !)))) (λ w.
+    use1 𝓛 (later (raw (Answered inner 𝓛 𝓜.mem 𝓡.returns heap τ w) ⊛ ‵ (flft κ q)))
+    (Takes-gives inner 𝓛 𝓜.mem 𝓡.returns κ q place heap n m τ w) $
+    await ! tt $ split ! $
     answers inner ! 𝓜.mem 𝓡.returns heap τ w
-    (λ b o is_ok. fjoin ! $ lands_as ! is_ok refl (Answer-typed true b o) $ returns ! (look_at ! 0 refl) $ free_all ! refl $
+    (λ b o is_ok. fjoin ! $ lands_as ! is_ok refl (Answer-typed true b o) $ returns ! (look_at ! 0 refl) $
+    free_all ! refl $
     leaves true b o (Ok (block_ptr b o)) (Answer-Ok 𝓛 b o))
     (λ is_err. lands_as ! is_err refl (Answer-typed false 0 0) $ returns ! (look_at ! 0 refl) $ free_all ! refl $
     nothing ! $ leaves false 0 0 (Err (record {})) (Answer-err 𝓛)))))))))))
