@@ -8,7 +8,8 @@ Each folder below tests/cases that has a file `stdout` is a case. The program ru
   args     its arguments, one a line
   command  a shell command to run in its place, where the program is $PROGRAM and examples/ is $EXAMPLES
   files/   files that lie where it runs
-  captures one line for each capture of tests/captures that lies there too: its name, a space, its name there
+  captures one line for each capture of tests/captures that lies there too: its name (../../examples/NAME for one of
+           examples/), a space, its name there
   setup    one shell command a line, run there first
 and must give
   stdout   exactly this
