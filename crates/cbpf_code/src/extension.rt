@@ -76,14 +76,14 @@ macro_rules! name_of_ext {
     };
 }
 
-macro_rules! ext_of_name {
-    ($value:expr; $($place:literal => $ext:expr, $name:literal;)*) => {{
-        $(if $value == $name.as_bytes() {
-            return Some($ext);
-        })*
-        None
-    }};
+macro_rules! each_ext {
+    ($value:expr; $($place:literal => $ext:expr, $name:literal;)*) => {
+        [$($ext,)*]
+    };
 }
+
+/// All extensions, in the order of their places.
+static EXTENSIONS: [Ext; 15] = extensions!(each_ext, ());
 
 /// The extension that an absolute load from place `k` asks for; `None` where the place has none.
 #[inline(always)]
@@ -120,5 +120,10 @@ pub fn ext_name(e: Ext) -> &'static str
 pub fn ext_named(name: &[u8]) -> Option<Ext>
     ensures { MatchOption result ((e : Ext) → name.now ≡ spec.ext_name e → ⊥) (λ e. name.now ≡ spec.ext_name e) }
 {
-    extensions!(ext_of_name, name)
+    for e in &EXTENSIONS {
+        if name == ext_name(*e).as_bytes() {
+            return Some(*e);
+        }
+    }
+    None
 }

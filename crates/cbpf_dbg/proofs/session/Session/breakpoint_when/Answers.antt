@@ -1,3 +1,4 @@
+use Rattle.cbpf_dbg.specs.Commands.{breakpoint_when}
 use Rattle.std.proofs.Common.{rules}
 use Rattle.cbpf_dbg.proofs.CarryLemmas.{same-but, known-at}
 use Rattle.cbpf_dbg.proofs.session.Session.breakpoint_when.Goals as goal
@@ -11,3 +12,7 @@ invariant_of-self g c = (
 
 pub watch_at-requires : goal.watch_at-requires
 watch_at-requires g c = search rules
+
+pub returns-in-Ok-clause-after : goal.returns-in-Ok-clause-after
+unfolding breakpoint_when
+returns-in-Ok-clause-after g c = search rules

@@ -1,4 +1,5 @@
-use Rattle.std.proofs.Common.{refl}
+use Rattle.cbpf_dbg.specs.Commands.{run, stops}
+use Rattle.std.proofs.Common.{refl, rules}
 use Rattle.cbpf_dbg.specs.View.{View}
 use Rattle.cbpf_dbg.proofs.ShownStops.{shows-run}
 use Rattle.cbpf_dbg.proofs.session.Session.run.Goals as goal
@@ -16,3 +17,15 @@ returns-clause-shown g c =
     } in
     shows-run _ _ _ _ _ _ _ after (record { program = c.in-Some.is; values = refl; capture = c.in-Some-capture.is })
     c.len-sound.ensures.sound c.run-reply.ensures.runs
+
+pub returns-clause-reply : goal.returns-clause-reply
+unfolding run stops
+returns-clause-reply g c = search rules
+
+pub returns-clause-after : goal.returns-clause-after
+unfolding run stops
+returns-clause-after g c = search rules
+
+pub returns-clause-turns : goal.returns-clause-turns
+unfolding run stops
+returns-clause-turns g c = search rules
