@@ -1,8 +1,10 @@
 // Runs a script line by line.
-ghost use Rattle.std.specs.Prelude.{◌≡◌, ℕ, List, Some, IsTrue, Ok};
+ghost use Rattle.std.specs.Prelude.{◌≡◌, ℕ, List, [], Some, IsTrue, Ok};
+ghost use Rattle.cbpf_dbg.specs.View.{empty_view};
 ghost use Rattle.cbpf_command.specs.Commands as language;
 ghost use Rattle.cbpf_jobs.specs.Debugged.{Debugged};
 ghost use Rattle.cbpf_jobs.specs.Progress.{LineRan};
+ghost use Rattle.cbpf_jobs.specs.Reading.{pending_in};
 
 use crate::fault::ToolFault;
 use crate::files::Files;
@@ -84,7 +86,43 @@ fn run_line<A: Allocator + Copy, W: Write, F: Files>(
     }
 }
 
-/// Runs the lines of the input up to `quit`.
+/// Runs the lines of the input up to `quit`, in a session with nothing loaded.
+fn run_lines<A: Allocator + Copy, R: Read, W: Write, F: Files>(
+    alloc: A,
+    reader: &mut R,
+    writer: &mut W,
+    files: &mut F,
+    session: &mut Session<MarkTrail, A>,
+    lines: &mut LineReader,
+    line: &mut Vec<u8, A>,
+) -> Result<(), ToolFault>
+    requires session { session.old ≡ empty_view }
+    requires lines { pending_in lines.old.chunk lines.old.start lines.old.end ≡ [] }
+    ensures { (script : List ℕ) → R.remaining reader.old ≡ Some script → IsTrue (F.source files.old).is_known →
+        Debugged script (R.remaining reader.new) (W.contents writer.old) (W.contents writer.new) (F.source files.old)
+        (F.source files.new) result }
+{
+    'script: loop {
+        match lines.next_line(reader, writer, line) {
+            Err(fault) => return Err(fault),
+            Ok(LineEnd::Input) => break,
+            Ok(LineEnd::Newline) => match run_line(alloc, writer, session, files, line.as_slice()) {
+                Err(_) => return Err(ToolFault::Write),
+                Ok(AfterLine::Quit) => return Ok(()),
+                Ok(AfterLine::NextLine) => {}
+            },
+        }
+    }
+    if line.is_empty() {
+        return Ok(());
+    }
+    match run_line(alloc, writer, session, files, line.as_slice()) {
+        Err(_) => Err(ToolFault::Write),
+        Ok(_) => Ok(()),
+    }
+}
+
+/// The same, with the session and the reader of lines that it begins with.
 fn run<A: Allocator + Copy, R: Read, W: Write, F: Files>(
     alloc: A,
     reader: &mut R,
@@ -98,26 +136,15 @@ fn run<A: Allocator + Copy, R: Read, W: Write, F: Files>(
     let mut session = Session::new(alloc, MarkTrail::new());
     let mut lines = LineReader::new();
     let mut line = Vec::new(alloc);
-    'script: loop {
-        match lines.next_line(reader, writer, &mut line) {
-            Err(fault) => return Err(fault),
-            Ok(LineEnd::Input) => break,
-            Ok(LineEnd::Newline) => {
-                match run_line(alloc, writer, &mut session, files, line.as_slice()) {
-                    Err(_) => return Err(ToolFault::Write),
-                    Ok(AfterLine::Quit) => return Ok(()),
-                    Ok(AfterLine::NextLine) => {}
-                }
-            }
-        }
-    }
-    if line.is_empty() {
-        return Ok(());
-    }
-    match run_line(alloc, writer, &mut session, files, line.as_slice()) {
-        Err(_) => Err(ToolFault::Write),
-        Ok(_) => Ok(()),
-    }
+    run_lines(
+        alloc,
+        reader,
+        writer,
+        files,
+        &mut session,
+        &mut lines,
+        &mut line,
+    )
 }
 
 /// Runs a script of commands: reads lines up to `quit` or the end of the input, and writes the reply of

@@ -5,15 +5,15 @@ use Rattle.cbpf_jobs.specs.Reading.{pending_in}
 use Rattle.cbpf_jobs.specs.Progress.{Progress}
 use Rattle.cbpf_jobs.proofs.ScriptLemmas.{progress-start, line-faulted, write-faulted, quit-done, line-done, end-done}
 use Rattle.cbpf_jobs.proofs.ScriptLemmas.{either-done, next-whole, next-last}
-use Rattle.cbpf_jobs.proofs.debugger.run.Goals as goal
+use Rattle.cbpf_jobs.proofs.debugger.run_lines.Goals as goal
 
 pub script-init : goal.script-init
 script-init g c = λ script e is_known.
-    subst (λ (m : View). Progress script (pending_in c.new-lines.result.chunk c.new-lines.result.start
-    c.new-lines.result.end) (g.R.Read.remaining c.args.reader.now) (g.W.Write.contents c.args.writer.now)
+    subst (λ (m : View). Progress script (pending_in c.args.lines.now.chunk c.args.lines.now.start
+    c.args.lines.now.end) (g.R.Read.remaining c.args.reader.now) (g.W.Write.contents c.args.writer.now)
     (g.W.Write.contents c.args.writer.now) (g.F.Files.source c.args.files.now) (g.F.Files.source c.args.files.now) m)
-    (sym c.new-session.ensures) (progress-start script _ _ (g.W.Write.contents c.args.writer.now)
-    (g.F.Files.source c.args.files.now) c.new-lines.ensures.empty e)
+    (sym c.requires.session) (progress-start script _ _ (g.W.Write.contents c.args.writer.now)
+    (g.F.Files.source c.args.files.now) c.requires.lines e)
 
 pub returns-in-Err : goal.returns-in-Err
 returns-in-Err g c = λ script e is_known.
@@ -90,8 +90,8 @@ returns-in-Err-run_line-2 g c = λ script e is_known.
           (c.in-Err-run_line-2.ensures {u = tt});
     }
 
-pub returns : goal.returns
-returns g c = λ script e is_known.
+pub returns-in-Ok : goal.returns-in-Ok
+returns-in-Ok g c = λ script e is_known.
     let p = c.script.invariant script e is_known in
     let t = rw c.in-Ok-Input.field-0-is at (c.in-Ok-Input.ensures.line p.rest p.known) in
     let some : length c.next_line.new.line.items ≡ 0 → ⊥ = grind (arith, common_steps) in

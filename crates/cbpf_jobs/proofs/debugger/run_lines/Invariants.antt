@@ -1,7 +1,7 @@
 use Rattle.std.proofs.Common.{◌≡◌, ℕ, ◌+◌, ◌*◌, ◌-◌, List, Some, IsTrue}
 use Rattle.cbpf_jobs.specs.Reading.{pending_in}
 use Rattle.cbpf_jobs.specs.Progress.{Progress}
-use Rattle.cbpf_jobs.proofs.debugger.run.Given as goal
+use Rattle.cbpf_jobs.proofs.debugger.run_lines.Given as goal
 
 abbrev pub invariant-script : goal.invariant-script
 invariant-script g l = (script : List ℕ) → g.R.Read.remaining l.fn.reader ≡ Some script
