@@ -11,7 +11,7 @@ ghost use Rattle.cbpf_grammar.specs.Items.{Items};
 ghost use Rattle.cbpf_grammar.specs.Refusals.{IsAccepted, IsStuckAt};
 ghost use Rattle.cbpf_grammar.specs.Reading.{IsReading, IsRefusedFor, StartsWithWord};
 ghost use Rattle.cbpf_grammar.specs.Views.{lexeme_of, row_of, label_words};
-ghost use Rattle.cbpf_text.specs.Drafts.{IsStatement, IsDraft, AreTargets};
+ghost use Rattle.cbpf_text.specs.Drafts.{IsStatement, IsDraft, AreTargets, AreSet};
 ghost use Rattle.cbpf_text.specs.Refusals.{Reported, IsTokensFault, IsRefused};
 ghost use Rattle.cbpf_text.specs.Tables.{same_name};
 
@@ -188,6 +188,54 @@ fn fault_here<A: Allocator>(text: &[u8], reader: &mut Reader<'_, A>, n: usize) -
     }
 }
 
+/// Reads the items of a text to its end, and puts what is kept of them into an empty draft.
+fn read_items<'a, A: Allocator + Copy>(
+    text: &'a [u8],
+    reader: &mut Reader<'a, A>,
+    draft: &mut Draft<'a, A>,
+) -> Result<(), AsmFault>
+    requires text { reader.old.text ≡ text.now }
+    requires reading { IsReading 0 reader.old }
+    requires statements { draft.old.statements.items ≡ [] }
+    requires excess { draft.old.excess ≡ None }
+    requires labels { AreSet [] draft.old.labels.repeat (λ k. get same_name draft.old.labels.table k) }
+    ensures items { OnOk result ((ts : List lexemes.Lexeme) × (is : List items.Item) × AreLexemes text.now ts ×
+        Items ts is × IsAccepted ts ×
+        IsDraft draft.new.excess draft.new.statements.items draft.new.labels.repeat
+        (λ k. get same_name draft.new.labels.table k) is []) }
+    ensures size { OnOk result (length draft.new.statements.items ≤ 4096) }
+    ensures refused { IfErr result (IsRefused text.now) }
+{
+    let mut waits = false;
+    loop {
+        let next = match reader.step() {
+            Ok(next) => next,
+            Err(fault) => return Err(asm_fault(fault)),
+        };
+        match next {
+            Some(Step::Label) => {
+                add_label(draft, reader.ahead()[0])?;
+                reader.take(2);
+                waits = true;
+            }
+            Some(Step::Instruction(row)) => {
+                let n = 1 + row.operand.len();
+                add_instruction(draft, row, &reader.ahead()[..n])?;
+                reader.take(n);
+                waits = false;
+            }
+            Some(Step::Stuck(n)) => return Err(fault_here(text, reader, n)),
+            None if waits => return Err(fault_here(text, reader, 0)),
+            None => {
+                return match reader.large() {
+                    Some(at) => Err(fault_of(text, PlacedFault::At(AsmKind::LargeNumber, at))),
+                    None => Ok(()),
+                };
+            }
+        }
+    }
+}
+
 /// The items of a text, of which only what their instructions depend on is kept.
 pub(crate) fn read<'a, A: Allocator + Copy>(
     alloc: A,
@@ -207,32 +255,8 @@ pub(crate) fn read<'a, A: Allocator + Copy>(
         labels: Labels::new(alloc, text),
         excess: None,
     };
-    let mut waits = false;
-    loop {
-        let next = match reader.step() {
-            Ok(next) => next,
-            Err(fault) => return Err(asm_fault(fault)),
-        };
-        match next {
-            Some(Step::Label) => {
-                add_label(&mut draft, reader.ahead()[0])?;
-                reader.take(2);
-                waits = true;
-            }
-            Some(Step::Instruction(row)) => {
-                let n = 1 + row.operand.len();
-                add_instruction(&mut draft, row, &reader.ahead()[..n])?;
-                reader.take(n);
-                waits = false;
-            }
-            Some(Step::Stuck(n)) => return Err(fault_here(text, &mut reader, n)),
-            None if waits => return Err(fault_here(text, &mut reader, 0)),
-            None => {
-                return match reader.large() {
-                    Some(at) => Err(fault_of(text, PlacedFault::At(AsmKind::LargeNumber, at))),
-                    None => Ok(draft),
-                };
-            }
-        }
+    match read_items(text, &mut reader, &mut draft) {
+        Ok(()) => Ok(draft),
+        Err(fault) => Err(fault),
     }
 }

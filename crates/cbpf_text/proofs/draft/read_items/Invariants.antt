@@ -3,7 +3,7 @@ use Rattle.indexmap.specs.IndexMap.{get}
 use Rattle.cbpf_grammar.specs.Reading.{left}
 use Rattle.cbpf_text.specs.Tables.{same_name}
 use Rattle.cbpf_text.proofs.Reading.{IsState}
-use Rattle.cbpf_text.proofs.draft.read.Given as goal
+use Rattle.cbpf_text.proofs.draft.read_items.Given as goal
 
 abbrev pub invariant-loop-next : goal.invariant-loop-next
 invariant-loop-next g l = record {
