@@ -39,3 +39,6 @@ returns-clause-turns g c = search rules
 
 pub returns-clause-stands : goal.returns-clause-stands
 returns-clause-stands g c = search rules
+
+pub returns-then-b-from-clause-answer : goal.returns-then-b-from-clause-answer
+returns-then-b-from-clause-answer g c = search rules
