@@ -1,7 +1,8 @@
-use Rattle.std.proofs.Common.{refl}
+use Rattle.cbpf_dbg.specs.Commands.{stops}
+use Rattle.std.proofs.Common.{refl, rules}
 use Rattle.cbpf_machine.specs.Machine.{machine_of}
 use Rattle.cbpf_dbg.proofs.WholeLemmas.{Holds}
-use Rattle.std.proofs.Common.{arith}
+use Rattle.std.proofs.Common.{arith, rules}
 use Rattle.cbpf_dbg.proofs.TurnLemmas.{few_hits}
 use Rattle.cbpf_dbg.proofs.ShownStops.{shows-rest}
 use Rattle.cbpf_dbg.proofs.session.Session.stops.Goals as goal
@@ -19,3 +20,7 @@ returns-clause-shown g c =
 pub returns-clause-few : goal.returns-clause-few
 returns-clause-few g c =
     few_hits _ _ _ _ c.len-sound.ensures.sound (omega (arith, c.count-few.ensures.value, c.count-few.ensures.bounded))
+
+pub returns-clause-hits : goal.returns-clause-hits
+unfolding stops
+returns-clause-hits g c = search rules
