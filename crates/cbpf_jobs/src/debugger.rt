@@ -86,7 +86,8 @@ fn run_line<A: Allocator + Copy, W: Write, F: Files>(
     }
 }
 
-/// Runs the lines of the input up to `quit`, in a session with nothing loaded.
+/// Runs the lines of the input up to `quit`, in a session with nothing loaded. `line` is room for one line.
+// What it goes on with is lent, so that none of its exits has to drop it: that makes its proof short.
 fn run_lines<A: Allocator + Copy, R: Read, W: Write, F: Files>(
     alloc: A,
     reader: &mut R,
@@ -122,7 +123,7 @@ fn run_lines<A: Allocator + Copy, R: Read, W: Write, F: Files>(
     }
 }
 
-/// The same, with the session and the reader of lines that it begins with.
+/// The same, with a session and a reader of lines made here.
 fn run<A: Allocator + Copy, R: Read, W: Write, F: Files>(
     alloc: A,
     reader: &mut R,

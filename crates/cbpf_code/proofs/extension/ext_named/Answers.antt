@@ -11,7 +11,8 @@ extensions =
     ∷ VlanTpid ∷ []
 
 -- what holds at each place of the list holds of each extension
-of_none : (w : List ℕ) → ((k : ℕ) → k < 15 → w ≡ ext_name (get_or extensions k Proto) → ⊥) → (e : Ext) → w ≡ ext_name e → ⊥
+of_none : (w : List ℕ) → ((k : ℕ) → k < 15 → w ≡ ext_name (get_or extensions k Proto) → ⊥) → (e : Ext)
+    → w ≡ ext_name e → ⊥
 of_none w at Proto = at 0 (omega arith)
 of_none w at PktType = at 1 (omega arith)
 of_none w at IfIdx = at 2 (omega arith)

@@ -1,8 +1,7 @@
 use Rattle.cbpf_dbg.specs.Commands.{stops}
-use Rattle.std.proofs.Common.{refl, rules}
 use Rattle.cbpf_machine.specs.Machine.{machine_of}
 use Rattle.cbpf_dbg.proofs.WholeLemmas.{Holds}
-use Rattle.std.proofs.Common.{arith, rules}
+use Rattle.std.proofs.Common.{arith, refl, rules}
 use Rattle.cbpf_dbg.proofs.TurnLemmas.{few_hits}
 use Rattle.cbpf_dbg.proofs.ShownStops.{shows-rest}
 use Rattle.cbpf_dbg.proofs.session.Session.stops.Goals as goal
