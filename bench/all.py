@@ -18,7 +18,6 @@ import session
 
 BENCH = pathlib.Path(__file__).resolve().parent
 PAGE = BENCH / "README.md"
-MACHINE = BENCH.parent / "crates/bench_machine/out/bench_machine"
 QUIET = 0.5
 NUMBER = r"(-?[\d.,]+)"
 
@@ -71,10 +70,6 @@ def turns(lines):
     """Ratios of times that were measured by turns: of the medians, as others' work may spoil the least."""
     pattern = rf"(.+): .+, {NUMBER} times (.+) \(.+ of the least\)"
     rows = [(work, than, ratio) for work, ratio, than in matched(pattern, lines)]
-    if MACHINE.exists() and shutil.which("cc"):
-        pattern = rf"(\w+): .+ ratio {NUMBER} \(.*"
-        found = matched(pattern, lines_of("compare.py"))
-        rows += [(f"`run_packet`, {work}", "bpf_filter", ratio) for work, ratio in found]
     return table(["work", "beside", "ratio of the medians"], rows)
 
 

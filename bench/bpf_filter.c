@@ -1,5 +1,4 @@
 /* Runs libpcap's bpf_filter again and again, for a comparison of time.
- * bpf_filter PROGRAM PACKETS: over one packet of 64 bytes, which differs in its last byte.
  * bpf_filter PROGRAM TIMES CAPTURE: over all packets of a little-endian capture, which is mapped into memory.
  * The program is in the form of `tcpdump -ddd`. */
 #include <sys/types.h>
@@ -20,16 +19,6 @@ static void filter(const struct bpf_insn *list, const unsigned char *bytes, unsi
     returned += v;
 }
 
-static void filter_one(const struct bpf_insn *list, unsigned long packets) {
-    unsigned char bytes[64];
-    for (int i = 0; i < 64; i++) bytes[i] = (unsigned char)(i * 7);
-    bytes[12] = 8; bytes[13] = 0; bytes[14] = 0x45; bytes[20] = 0; bytes[21] = 0; bytes[23] = 6;
-    for (unsigned long i = 0; i < packets; i++) {
-        bytes[63] = (unsigned char)i;
-        filter(list, bytes, 64, 64);
-    }
-}
-
 static void filter_all(const struct bpf_insn *list, unsigned long times, const unsigned char *file, const unsigned char *end) {
     for (; times > 0; times--) {
         for (const unsigned char *at = file + 24; at + 16 <= end;) {
@@ -44,7 +33,7 @@ static void filter_all(const struct bpf_insn *list, unsigned long times, const u
 }
 
 int main(int argc, char **argv) {
-    if (argc < 3) return 2;
+    if (argc < 4) return 2;
     FILE *f = fopen(argv[1], "r");
     unsigned n;
     if (!f || fscanf(f, "%u", &n) != 1) return 2;
@@ -55,16 +44,12 @@ int main(int argc, char **argv) {
         list[i] = (struct bpf_insn){ code, jt, jf, k };
     }
     unsigned long count = strtoul(argv[2], 0, 10);
-    if (argc == 3) {
-        filter_one(list, count);
-    } else {
-        int fd = open(argv[3], O_RDONLY);
-        struct stat st;
-        if (fd < 0 || fstat(fd, &st)) return 2;
-        const unsigned char *file = mmap(0, st.st_size, PROT_READ, MAP_PRIVATE, fd, 0);
-        if (file == MAP_FAILED) return 2;
-        filter_all(list, count, file, file + st.st_size);
-    }
+    int fd = open(argv[3], O_RDONLY);
+    struct stat st;
+    if (fd < 0 || fstat(fd, &st)) return 2;
+    const unsigned char *file = mmap(0, st.st_size, PROT_READ, MAP_PRIVATE, fd, 0);
+    if (file == MAP_FAILED) return 2;
+    filter_all(list, count, file, file + st.st_size);
     printf("passes:%lu fails:%lu unknown:0 returned:%lu\n", passes, fails, returned);
     return 0;
 }
