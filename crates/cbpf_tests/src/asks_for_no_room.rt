@@ -1,31 +1,30 @@
-// Calls that ask an allocator for nothing.
+// Calls that ask an allocator for nothing, though what they are given holds one. The writers are given none: a
+// slice, and a `Program` that doesn't lend its own.
 use crate::fault_injection::{Fault, FaultyWriter, RefusingAllocator};
 use crate::loaded::{ICMP_WORDS, STRAIGHT, program_of, session_of, two_packets};
-use cbpf_code::{
-    CheckFault, Ext, Insn, Program, check, read_words, write_bytes, write_c, write_decimal,
-    write_hex, write_parts, write_words,
-};
-use cbpf_dbg::{MarkTrail, Meter, Place, RunReply, Session, SessionFault, When};
-use cbpf_text::{write_line, write_listing};
+use cbpf_code::{CheckFault, Ext, Insn, check, read_words};
+use cbpf_dbg::{MarkTrail, Meter, Place, RunReply, Session, SessionFault, Stop, When};
 use std::alloc::{Allocator, Global};
 use std::process::Abort;
 
-/// Breakpoints and a run that are refused without a program.
-fn refused_without_a_program<A: Allocator + Copy>(
-    rt: &impl Abort,
-    alloc: A,
+/// Whether a whole run is refused without a program.
+fn is_run_refused<A: Allocator + Copy>(
     session: &mut Session<MarkTrail, A>,
-) {
-    let mut found = Vec::new(alloc);
+    found: &mut Vec<Stop, A>,
+) -> bool {
+    session.run_to_end(&mut Meter::new(), found) == Err(SessionFault::NoProgram)
+}
+
+/// Whether breakpoints are refused without a program.
+fn are_breakpoints_refused<A: Allocator + Copy>(session: &mut Session<MarkTrail, A>) -> bool {
     let refused = Err(SessionFault::NoProgram);
-    assert!(rt; session.breakpoint(0) == refused);
-    assert!(rt; session.breakpoint_when(0, When::A(1)) == refused);
-    assert!(rt; session.run_to_end(&mut Meter::new(), &mut found) == Err(SessionFault::NoProgram));
+    session.breakpoint(0) == refused && session.breakpoint_when(0, When::A(1)) == refused
 }
 
 fn call_with_nothing_loaded<A: Allocator + Copy>(rt: &impl Abort, alloc: A) {
     let mut session = Session::new(alloc, MarkTrail::new());
-    refused_without_a_program(rt, alloc, &mut session);
+    assert!(rt; are_breakpoints_refused(&mut session));
+    assert!(rt; is_run_refused(&mut session, &mut Vec::new(alloc)));
 }
 
 #[test]
@@ -210,56 +209,9 @@ fn check_words(rt: &impl Abort, alloc: Global, words: &[u8], wanted: Option<Chec
     assert!(rt; refusing.left() == left);
 }
 
-fn check_each(rt: &impl Abort, alloc: Global) {
-    for (words, wanted) in CHECKED.iter() {
-        check_words(rt, alloc, words, *wanted);
-    }
-}
-
-/// A program in each form.
-fn write_forms<A: Allocator>(rt: &impl Abort, w: &mut FaultyWriter<2048>, program: &Program<A>) {
-    assert!(rt; write_c(w, program.as_slice()) == Ok(()));
-    assert!(rt; write_words(w, program.as_slice()) == Ok(()));
-    assert!(rt; write_listing(w, program) == Ok(()));
-}
-
-fn write_each_line<A: Allocator>(
-    rt: &impl Abort,
-    w: &mut FaultyWriter<2048>,
-    program: &Program<A>,
-) {
-    for i in 0..program.len() {
-        assert!(rt; write_line(w, program, i) == Ok(()));
-    }
-}
-
-const PARTS: [&[u8]; 2] = [b"two", b" parts"];
-
-fn write_texts(rt: &impl Abort, w: &mut FaultyWriter<2048>) {
-    assert!(rt; write_bytes(w, b"text") == Ok(()));
-    assert!(rt; write_parts(w, &PARTS) == Ok(()));
-}
-
-fn write_numbers(rt: &impl Abort, w: &mut FaultyWriter<2048>) {
-    assert!(rt; write_decimal(w, 12) == Ok(()));
-    assert!(rt; write_hex(w, 12, 8) == Ok(()));
-}
-
-/// Writes of a program of `alloc`, whose calls `refusing` counts, and of other texts.
-fn write_all<A: Allocator>(rt: &impl Abort, alloc: A, refusing: &RefusingAllocator<Global>) {
-    let program = program_of(alloc, ICMP_WORDS).expect(rt, "the program");
-    let left = refusing.left();
-    let mut w = FaultyWriter::new(Fault::Fails, 0);
-    write_forms(rt, &mut w, &program);
-    write_each_line(rt, &mut w, &program);
-    write_texts(rt, &mut w);
-    write_numbers(rt, &mut w);
-    assert!(rt; refusing.left() == left);
-}
-
 #[test]
-fn the_checker_and_the_writers(rt: HostRuntime) {
-    check_each(&rt, rt.alloc());
-    let refusing = RefusingAllocator::refusing(rt.alloc(), 1000);
-    write_all(&rt, &refusing, &refusing);
+fn the_checker(rt: HostRuntime) {
+    for (words, wanted) in CHECKED.iter() {
+        check_words(&rt, rt.alloc(), words, *wanted);
+    }
 }

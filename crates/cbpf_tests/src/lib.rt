@@ -14,6 +14,7 @@ mod failing_files;
 mod failing_input;
 #[cfg(test)]
 mod failing_writes;
+#[cfg(test)]
 mod fault_injection;
 #[cfg(test)]
 mod loaded;

@@ -1,5 +1,5 @@
 //! Tests of the debugger's crates: the machine and its trails (cbpf_machine), captures (pcap_classic),
-//! sessions (cbpf_dbg), lines of a script (cbpf_command), and dumps of stops (cbpf_reply).
+//! sessions (cbpf_dbg), and dumps of stops (cbpf_reply).
 #![tactic(auto)]
 
 #[cfg(test)]
@@ -12,8 +12,6 @@ mod machine;
 mod machine_trail;
 #[cfg(test)]
 mod programs;
-#[cfg(test)]
-mod script_lines;
 #[cfg(test)]
 mod sessions;
 #[cfg(test)]

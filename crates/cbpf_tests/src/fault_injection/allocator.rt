@@ -1,5 +1,3 @@
-ghost use Rattle.std.specs.Prelude.{◌≡◌};
-
 use crate::fault_injection::calls::CallCounter;
 use std::alloc::{AllocError, Allocator};
 use std::cell::Cell;
@@ -18,13 +16,9 @@ pub(crate) struct RefusingAllocator<B: Allocator> {
 }
 
 impl<B: Allocator> RefusingAllocator<B> {
-    ghost use Rattle.cbpf_tests.specs.RefusingAllocator.{inner_of};
-
     /// Refuses the allocation with the number `nth`, counted from 1 from now on, and no other; 0 for
     /// none.
-    pub(crate) fn refusing(inner: B, nth: u64) -> RefusingAllocator<B>
-        ensures { inner_of result ≡ inner }
-    {
+    pub(crate) fn refusing(inner: B, nth: u64) -> RefusingAllocator<B> {
         RefusingAllocator {
             inner,
             calls: Cell::new(CallCounter::new(nth)),

@@ -1,6 +1,3 @@
-ghost use Rattle.std.specs.Prelude.{◌≡◌, ◌↔◌, ◌+◌, ◌-◌, IsTrue};
-ghost use Rattle.cbpf_tests.specs.Counting.{count_after};
-
 /// Counts calls, and knows which of them is to go wrong.
 #[derive(Clone, Copy)]
 pub(crate) struct CallCounter {
@@ -10,26 +7,19 @@ pub(crate) struct CallCounter {
 }
 
 impl CallCounter {
-    pub(crate) fn new(faulty: u64) -> CallCounter
-        ensures { result ≡ record { made = 0; faulty = faulty } }
-    {
+    pub(crate) fn new(faulty: u64) -> CallCounter {
         CallCounter { made: 0, faulty }
     }
 
     /// Counts a call, and says whether it is the one to go wrong.
-    pub(crate) fn next_is_faulty(&mut self) -> bool
-        ensures faulty { IsTrue result ↔ (self.old.made + 1 ≡ self.old.faulty) }
-        ensures counted { self.new ≡ record self.old { made = count_after self.old.made } }
-    {
+    pub(crate) fn next_is_faulty(&mut self) -> bool {
         let is_faulty = self.faulty.checked_sub(1) == Some(self.made);
         self.made = self.made.saturating_add(1);
         is_faulty
     }
 
     /// How many calls are still to come up to the faulty one, which is counted; 0 once it was made.
-    pub(crate) fn left(self) -> u64
-        ensures { result ≡ self.faulty - self.made }
-    {
+    pub(crate) fn left(self) -> u64 {
         self.faulty.saturating_sub(self.made)
     }
 }

@@ -1,9 +1,4 @@
-ghost use Rattle.std.specs.Prelude.{◌≡◌, ◌↔◌, ◌≤◌, [], length, Some, IsTrue, IsErr, IfErr, IfOk, false};
-ghost use Rattle.std.specs.Io.{WritesAtMost};
-ghost use Rattle.std.specs.Io.KnownBytes.{WriteAppends, Keeps};
-ghost use Rattle.std.specs.IoError.{error_kind};
-ghost use Rattle.std.specs.declared.io.ErrorKind.TheVariants.{Other};
-ghost use Rattle.cbpf_tests.specs.Counting.{count_after};
+ghost use Rattle.std.specs.Prelude.{◌≤◌, Some, take};
 
 use crate::fault_injection::calls::CallCounter;
 use std::io;
@@ -36,22 +31,9 @@ pub(crate) struct FaultyWriter<const N: usize> {
 }
 
 impl<const N: usize> FaultyWriter<N> {
-    ghost use Rattle.cbpf_tests.specs.FaultyWriter.{written_bytes, room_left, fault_kind, faulty_write, writes_made};
-    ghost use Rattle.cbpf_tests.specs.FaultyWriter.{flushes_made, fails_at_flush, with_flush_fails, write_error};
-    ghost use Rattle.cbpf_tests.specs.FaultyWriter.{with_write_error};
-
     /// The call of `write` with the number `faulty_call`, counted from 1, goes wrong by `fault`, and no
     /// other; 0 for none. Its errors are of the kind `Other`.
-    pub(crate) fn new(fault: Fault, faulty_call: u64) -> FaultyWriter<N>
-        ensures empty { written_bytes result ≡ [] }
-        ensures room { room_left result ≡ N }
-        ensures fault { fault_kind result ≡ fault }
-        ensures faulty { faulty_write result ≡ faulty_call }
-        ensures none_made { writes_made result ≡ 0 }
-        ensures none_flushed { flushes_made result ≡ 0 }
-        ensures flush_works { fails_at_flush result ≡ false }
-        ensures error { write_error result ≡ Other }
-    {
+    pub(crate) fn new(fault: Fault, faulty_call: u64) -> FaultyWriter<N> {
         FaultyWriter {
             room: [0; N],
             len: 0,
@@ -64,57 +46,35 @@ impl<const N: usize> FaultyWriter<N> {
     }
 
     /// Whether each `flush` from now on fails.
-    pub(crate) fn set_flush_fails(&mut self, fails: bool)
-        ensures { self.new ≡ with_flush_fails self.old fails }
-    {
+    pub(crate) fn set_flush_fails(&mut self, fails: bool) {
         self.flush_fails = fails;
     }
 
     /// The kind of its errors from now on.
-    pub(crate) fn set_error(&mut self, kind: io::ErrorKind)
-        ensures { self.new ≡ with_write_error self.old kind }
-    {
+    pub(crate) fn set_error(&mut self, kind: io::ErrorKind) {
         self.error = kind;
     }
 
     /// The bytes that it took, in the order in which they came.
-    pub(crate) fn written(&self) -> &[u8]
-        ensures { result.now ≡ written_bytes self.now }
-    {
+    pub(crate) fn written(&self) -> &[u8] {
         &self.room[..self.len]
     }
 
     /// How often `write` was called, the faulty call included. The count stops at `u64::MAX`.
-    pub(crate) fn calls(&self) -> u64
-        ensures { result ≡ writes_made self.now }
-    {
+    pub(crate) fn calls(&self) -> u64 {
         self.calls.made
     }
 
     /// How often `flush` was called, failing calls included. The count stops at `u64::MAX`.
-    pub(crate) fn flushes(&self) -> u64
-        ensures { result ≡ flushes_made self.now }
-    {
+    pub(crate) fn flushes(&self) -> u64 {
         self.flushes
     }
 }
 
 impl<const N: usize> Write for FaultyWriter<N> {
-    ghost use Rattle.cbpf_tests.specs.FaultyWriter.{written_bytes, fault_kind, writes_made, flushes_made};
-    ghost use Rattle.cbpf_tests.specs.FaultyWriter.{fails_at_flush, is_due, count_taken, write_error, HasSameFaults};
+    ghost contents = { λ w. Some (take w.len w.room) };
 
-    ghost contents = { λ w. Some (written_bytes w) };
-
-    fn write(&mut self, buf: &[u8]) -> io::Result<usize>
-        ensures bound { WritesAtMost result buf.now }
-        ensures bytes { WriteAppends (Some (written_bytes self.old)) (Some (written_bytes self.new)) result buf.now }
-        ensures fault { IsErr result ↔ (IsTrue (is_due self.old) × (fault_kind self.old ≡ Fault.Fails)) }
-        ensures kind { IfErr result (λ e. error_kind e ≡ write_error self.old) }
-        ensures count { IfOk result (λ n. n ≡ count_taken self.old (length buf.now)) }
-        ensures counted { writes_made self.new ≡ count_after (writes_made self.old) }
-        ensures flushes { flushes_made self.new ≡ flushes_made self.old }
-        ensures same_faults { HasSameFaults self.old self.new }
-    {
+    fn write(&mut self, buf: &[u8]) -> io::Result<usize> {
         if self.calls.next_is_faulty() {
             return match self.fault {
                 Fault::Fails => Err(io::Error::from(self.error)),
@@ -131,14 +91,7 @@ impl<const N: usize> Write for FaultyWriter<N> {
         }
     }
 
-    fn flush(&mut self) -> io::Result<()>
-        ensures bytes { Keeps (Some (written_bytes self.old)) (Some (written_bytes self.new)) }
-        ensures fault { IsErr result ↔ IsTrue (fails_at_flush self.old) }
-        ensures kind { IfErr result (λ e. error_kind e ≡ write_error self.old) }
-        ensures counted { flushes_made self.new ≡ count_after (flushes_made self.old) }
-        ensures writes { writes_made self.new ≡ writes_made self.old }
-        ensures same_faults { HasSameFaults self.old self.new }
-    {
+    fn flush(&mut self) -> io::Result<()> {
         self.flushes = self.flushes.saturating_add(1);
         if self.flush_fails {
             return Err(io::Error::from(self.error));

@@ -34,8 +34,8 @@ use denote.Triple.Call.{calls_at}
 use denote.Triple.Clauses.{Ended}
 use denote.Triple.Table.{framed}
 use denote.Triple.Walked.{Stays, stay_dropped, walk_of, ends_at, Goes-dropped}
-use Rattle.cbpf_tests.proofs.Passing.{generics, self_slot, inner_at, count_at}
-use Rattle.cbpf_tests.proofs.Refusal.{Count, Asks, at_asks, asks-handed, asks-said}
+use Rattle.cbpf_tests.proofs.fault_injection.Passing.{generics, self_slot, inner_at, count_at}
+use Rattle.cbpf_tests.proofs.fault_injection.Refusal.{Count, Asks, at_asks, asks-handed, asks-said}
 use Rattle.cbpf_tests.proofs.fault_injection.allocator.is_refused.Met as is_refused
 use Rattle.cbpf_tests.specs.contracts.fault_injection.allocator.RefusingAllocatorAllocator.allocate as f
 use Rattle.cbpf_tests.proofs.fault_injection.allocator.RefusingAllocatorAllocator.allocate.Statement.{statement}

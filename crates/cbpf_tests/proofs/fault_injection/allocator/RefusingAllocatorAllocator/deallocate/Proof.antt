@@ -30,7 +30,7 @@ use denote.Triple.Call.{calls_at}
 use denote.Triple.Clauses.{Ended}
 use denote.Triple.Table.{framed}
 use denote.Triple.Walked.{Stays, stay_dropped, walk_of, ends_at, Goes-dropped}
-use Rattle.cbpf_tests.proofs.Passing.{generics, self_slot, inner_at}
+use Rattle.cbpf_tests.proofs.fault_injection.Passing.{generics, self_slot, inner_at}
 use Rattle.cbpf_tests.specs.contracts.fault_injection.allocator.RefusingAllocatorAllocator.deallocate as f
 use Rattle.cbpf_tests.proofs.fault_injection.allocator.RefusingAllocatorAllocator.deallocate.Statement.{statement}
 use Rattle.cbpf_tests.proofs.fault_injection.allocator.RefusingAllocatorAllocator.deallocate.Code as code

@@ -1,4 +1,0 @@
-pub mod Counting
-pub mod FaultyReader
-pub mod FaultyWriter
-pub mod RefusingAllocator
