@@ -39,8 +39,7 @@ fn assemble_from<R: Print + AllocGlobal, I: Read>(
     form: Form,
 ) -> Result<(), Failure> {
     let mut writer = buffered(rt.alloc(), io::writer(rt))?;
-    asm(rt.alloc(), reader, &mut writer, form)?;
-    Ok(())
+    Ok(asm(rt.alloc(), reader, &mut writer, form)?)
 }
 
 fn assemble<R: Input + Print + Files + AllocGlobal>(
@@ -57,6 +56,15 @@ fn assemble<R: Input + Print + Files + AllocGlobal>(
     }
 }
 
+/// Runs the commands that a reader gives, over files of the disk.
+fn debug_over<R: Files + AllocGlobal, I: Read, O: Write>(
+    rt: &R,
+    reader: &mut I,
+    writer: &mut O,
+) -> Result<(), ToolFault> {
+    debug(rt.alloc(), reader, writer, &mut DiskFiles::new(rt))
+}
+
 /// Runs the commands that a reader gives, and writes the replies.
 fn debug_into<R: Files + AllocGlobal, I: Read, O: Write + Drop>(
     rt: &R,
@@ -64,9 +72,7 @@ fn debug_into<R: Files + AllocGlobal, I: Read, O: Write + Drop>(
     replies: O,
 ) -> Result<(), Failure> {
     let mut writer = buffered(rt.alloc(), replies)?;
-    let mut files = DiskFiles::new(rt);
-    debug(rt.alloc(), reader, &mut writer, &mut files)?;
-    Ok(())
+    Ok(debug_over(rt, reader, &mut writer)?)
 }
 
 fn debug_from<R: Print + Files + AllocGlobal, I: Read>(
