@@ -1,5 +1,6 @@
 //! Sources with their instructions, and refused sources with their lines.
 
+use crate::assertions::assert_at;
 use cbpf_code::Insn;
 use cbpf_text::{AsmFault, AsmKind, assemble};
 use std::alloc::Global;
@@ -101,35 +102,41 @@ static SOURCES: [(&[u8], Result<&[Fields], (AsmKind, u64)>); 36] = [
     ),
 ];
 
-fn assembled(rt: &impl Abort, alloc: Global, source: &[u8], row: usize) -> Vec<Insn> {
+fn insn_of((code, jt, jf, k): Fields) -> Insn {
+    Insn { code, jt, jf, k }
+}
+
+fn is_list(list: &[Insn], wanted: &[Fields]) -> bool {
+    for (insn, fields) in list.iter().zip(wanted) {
+        if *insn != insn_of(*fields) {
+            return false;
+        }
+    }
+    list.len() == wanted.len()
+}
+
+fn is_refused(alloc: Global, source: &[u8], (kind, line): (AsmKind, u64)) -> bool {
+    assemble(alloc, source).err() == Some(AsmFault::At(kind, line))
+}
+
+fn is_assembled_to(alloc: Global, source: &[u8], wanted: &[Fields]) -> bool {
     match assemble(alloc, source) {
-        Ok(list) => list,
-        Err(_) => panic!(rt; "row {row}"),
+        Ok(list) => is_list(&list, wanted),
+        Err(_) => false,
     }
 }
 
-fn assert_list(rt: &impl Abort, list: &[Insn], wanted: &[Fields], row: usize) {
-    assert!(rt; list.len() == wanted.len(), "row {row}");
-    for (insn, &(code, jt, jf, k)) in list.iter().zip(wanted) {
-        assert!(rt; *insn == Insn { code, jt, jf, k }, "row {row}");
+fn is_answered(alloc: Global, source: &[u8], wanted: &Result<&[Fields], (AsmKind, u64)>) -> bool {
+    match wanted {
+        Ok(fields) => is_assembled_to(alloc, source, fields),
+        Err(at) => is_refused(alloc, source, *at),
     }
-}
-
-fn assert_refused(rt: &impl Abort, alloc: Global, source: &[u8], at: (AsmKind, u64), row: usize) {
-    let fault = assemble(alloc, source).err();
-    assert!(rt; fault == Some(AsmFault::At(at.0, at.1)), "row {row}");
 }
 
 #[test]
 fn worked_sources(rt: HostRuntime) {
     for (row, (source, wanted)) in SOURCES.iter().enumerate() {
-        match wanted {
-            Ok(fields) => {
-                let list = assembled(&rt, rt.alloc(), source, row);
-                assert_list(&rt, &list, fields, row);
-            }
-            Err(at) => assert_refused(&rt, rt.alloc(), source, *at, row),
-        }
+        assert_at(&rt, row, is_answered(rt.alloc(), source, wanted));
     }
 }
 
@@ -213,22 +220,29 @@ fn with_many(rt: &impl Abort, alloc: Global, first: &[u8], between: u32, last: &
     source
 }
 
-fn assert_one(rt: &impl Abort, list: &[Insn], i: usize, wanted: Fields, row: usize) {
-    let (code, jt, jf, k) = wanted;
-    assert!(rt; list.get(i) == Some(&Insn { code, jt, jf, k }), "row {row}");
+fn has_at(alloc: Global, source: &[u8], i: usize, wanted: Fields) -> bool {
+    match assemble(alloc, source) {
+        Ok(list) => list.get(i) == Some(&insn_of(wanted)),
+        Err(_) => false,
+    }
+}
+
+fn is_long_answered(
+    alloc: Global,
+    source: &[u8],
+    wanted: &Result<(usize, Fields), (AsmKind, u64)>,
+) -> bool {
+    match wanted {
+        Ok((i, fields)) => has_at(alloc, source, *i, *fields),
+        Err(at) => is_refused(alloc, source, *at),
+    }
 }
 
 #[test]
 fn far_jumps_and_many_instructions(rt: HostRuntime) {
     for (row, (first, between, last, wanted)) in LONG.iter().enumerate() {
         let source = with_many(&rt, rt.alloc(), first, *between, last);
-        match wanted {
-            Ok((i, fields)) => {
-                let list = assembled(&rt, rt.alloc(), &source, row);
-                assert_one(&rt, &list, *i, *fields, row);
-            }
-            Err(at) => assert_refused(&rt, rt.alloc(), &source, *at, row),
-        }
+        assert_at(&rt, row, is_long_answered(rt.alloc(), &source, wanted));
     }
 }
 

@@ -1,9 +1,9 @@
 //! What sources stand for, by hand.
 
+use crate::assertions::assert_at;
 use cbpf_code::code_of;
 use cbpf_grammar::{Fields, Reader, Row, Step, SyntaxFault};
 use std::alloc::Global;
-use std::process::Abort;
 
 /// Each mnemonic with each of its modes, and all spellings of each mode once: sources of one item, with its code.
 static ITEMS: [(&[u8], u16, Fields); 111] = [
@@ -217,36 +217,38 @@ fn read(alloc: Global, source: &[u8]) -> Outcome {
     Outcome::Unread
 }
 
-fn assert_item(rt: &impl Abort, items: &[Row], code: u16, fields: Fields, row: usize) {
+fn is_item(items: &[Row], code: u16, fields: Fields) -> bool {
     match items {
-        [item] => {
-            assert!(rt; code_of(item.op) == code, "row {row}");
-            assert!(rt; item.fields == fields, "row {row}");
-        }
-        _ => assert!(rt; false, "row {row}"),
+        [item] => code_of(item.op) == code && item.fields == fields,
+        _ => false,
     }
 }
 
-fn assert_refused(rt: &impl Abort, outcome: Outcome, fault: SyntaxFault, row: usize) {
-    match outcome {
-        Outcome::Refused(found) => assert!(rt; found == fault, "fault {row}"),
-        _ => assert!(rt; false, "fault {row}"),
+/// Whether the source is one item of this code.
+fn has_item(alloc: Global, source: &[u8], code: u16, fields: Fields) -> bool {
+    match read(alloc, source) {
+        Outcome::Items(items) => is_item(&items, code, fields),
+        _ => false,
     }
 }
 
-fn each_refusal(rt: &impl Abort, alloc: Global) {
-    for (row, (source, fault)) in FAULTS.iter().enumerate() {
-        assert_refused(rt, read(alloc, source), *fault, row);
+fn is_refused(alloc: Global, source: &[u8], fault: SyntaxFault) -> bool {
+    match read(alloc, source) {
+        Outcome::Refused(found) => found == fault,
+        _ => false,
     }
 }
 
 #[test]
 fn worked_sources(rt: HostRuntime) {
     for (row, (source, code, fields)) in ITEMS.iter().enumerate() {
-        match read(rt.alloc(), source) {
-            Outcome::Items(items) => assert_item(&rt, &items, *code, *fields, row),
-            _ => assert!(rt; false, "row {row}"),
-        }
+        assert_at(&rt, row, has_item(rt.alloc(), source, *code, *fields));
     }
-    each_refusal(&rt, rt.alloc());
+}
+
+#[test]
+fn each_refusal(rt: HostRuntime) {
+    for (row, (source, fault)) in FAULTS.iter().enumerate() {
+        assert_at(&rt, row, is_refused(rt.alloc(), source, *fault));
+    }
 }

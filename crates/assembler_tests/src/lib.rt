@@ -4,6 +4,8 @@
 #[cfg(test)]
 mod assembler;
 #[cfg(test)]
+mod assertions;
+#[cfg(test)]
 mod grammar;
 #[cfg(test)]
 mod listing;

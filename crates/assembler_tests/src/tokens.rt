@@ -1,5 +1,6 @@
 //! What the tokens of texts are, by hand.
 
+use crate::assertions::assert_at;
 use cbpf_lex::{BadPiece, Kind, LexFault, Token, tokens};
 use std::alloc::Global;
 use std::process::Abort;
@@ -113,50 +114,58 @@ static FAULTS: [(&[u8], BadPiece, u64); 30] = [
     (b"a\r\r$\n", BadPiece::NoToken, 1),
 ];
 
-fn tokens_of(rt: &impl Abort, alloc: Global, text: &[u8]) -> Vec<Token> {
-    tokens(alloc, text).expect(rt, "tokens")
+fn are_kinds(found: &[Token], wanted: &[Kind]) -> bool {
+    for (token, kind) in found.iter().zip(wanted) {
+        if token.kind != *kind {
+            return false;
+        }
+    }
+    found.len() == wanted.len()
 }
 
-fn assert_kinds(rt: &impl Abort, found: &[Token], wanted: &[Kind], row: usize) {
-    assert!(rt; found.len() == wanted.len(), "row {row}");
-    for (token, kind) in found.iter().zip(wanted) {
-        assert!(rt; token.kind == *kind, "row {row}");
+fn has_kinds(alloc: Global, text: &[u8], wanted: &[Kind]) -> bool {
+    match tokens(alloc, text) {
+        Ok(found) => are_kinds(&found, wanted),
+        Err(_) => false,
     }
 }
 
-fn assert_number(rt: &impl Abort, found: &[Token], value: u32, end: usize, row: usize) {
+/// Whether the whole text is this number.
+fn is_number(alloc: Global, text: &[u8], value: u32) -> bool {
     let wanted = Token {
         kind: Kind::Number(value),
         start: 0,
-        end,
+        end: text.len(),
     };
-    assert!(rt; found == [wanted].as_slice(), "number {row}");
+    match tokens(alloc, text) {
+        Ok(found) => found.as_slice() == [wanted].as_slice(),
+        Err(_) => false,
+    }
 }
 
-fn each_kind(rt: &impl Abort, alloc: Global) {
+fn is_bad(alloc: Global, text: &[u8], bad: BadPiece, line: u64) -> bool {
+    tokens(alloc, text).err() == Some(LexFault::At(bad, line))
+}
+
+#[test]
+fn each_kind(rt: HostRuntime) {
     for (row, (text, wanted)) in KINDS.iter().enumerate() {
-        assert_kinds(rt, &tokens_of(rt, alloc, text), wanted, row);
-    }
-}
-
-fn each_number(rt: &impl Abort, alloc: Global) {
-    for (row, (text, value)) in NUMBERS.iter().enumerate() {
-        assert_number(rt, &tokens_of(rt, alloc, text), *value, text.len(), row);
-    }
-}
-
-fn each_fault(rt: &impl Abort, alloc: Global) {
-    for (row, (text, bad, line)) in FAULTS.iter().enumerate() {
-        let fault = tokens(alloc, text).err();
-        assert!(rt; fault == Some(LexFault::At(*bad, *line)), "fault {row}");
+        assert_at(&rt, row, has_kinds(rt.alloc(), text, wanted));
     }
 }
 
 #[test]
-fn worked_texts(rt: HostRuntime) {
-    each_kind(&rt, rt.alloc());
-    each_number(&rt, rt.alloc());
-    each_fault(&rt, rt.alloc());
+fn each_number(rt: HostRuntime) {
+    for (row, (text, value)) in NUMBERS.iter().enumerate() {
+        assert_at(&rt, row, is_number(rt.alloc(), text, *value));
+    }
+}
+
+#[test]
+fn each_fault(rt: HostRuntime) {
+    for (row, (text, bad, line)) in FAULTS.iter().enumerate() {
+        assert_at(&rt, row, is_bad(rt.alloc(), text, *bad, *line));
+    }
 }
 
 /// A piece many times, between a first and a last one, and the number of tokens. A lexer that goes back over
@@ -180,12 +189,18 @@ fn repeated(rt: &impl Abort, alloc: Global, first: &[u8], piece: &[u8], times: u
     text
 }
 
+fn has_count(alloc: Global, text: &[u8], count: usize) -> bool {
+    match tokens(alloc, text) {
+        Ok(found) => found.len() == count,
+        Err(_) => false,
+    }
+}
+
 #[test]
 fn long_texts_take_no_long_time(rt: HostRuntime) {
     for (row, (first, piece, times, last, count)) in LONG.iter().enumerate() {
         let mut text = repeated(&rt, rt.alloc(), first, piece, *times);
         text.extend_from_slice(last).expect(&rt, "memory");
-        let found = tokens_of(&rt, rt.alloc(), &text);
-        assert!(rt; found.len() == *count, "row {row}");
+        assert_at(&rt, row, has_count(rt.alloc(), &text, *count));
     }
 }
