@@ -1,41 +1,44 @@
 -- Names and arguments that are known texts.
 use Rattle.std.proofs.Common.{◌≡◌, ℕ, List, [], ◌∷◌, length, Option, Some, None, Err, true, false, Bool, ap, refl}
-use Rattle.std.proofs.Common.{sym, ◌∙◌}
-use Rattle.std.specs.Prelude.{bytes_eq}
-use Rattle.std.specs.Str.{IsUtf8, is_utf8}
+use Rattle.std.proofs.Common.{sym, subst, arith}
+use Rattle.std.specs.Prelude.{bytes_eq, nat_lt}
+use Rattle.std.specs.List.{list_all}
+use Rattle.std.specs.Str.{IsUtf8, is_utf8, IsAscii}
+use Rattle.std.proofs.lemmas.Bool.{and_parts}
+use Rattle.std.proofs.lemmas.Bool.Decides.{nat_tests}
 use Rattle.std.proofs.lemmas.Slice.Eq.{bytes_eq-Decides, text_from_reads, HasBytesAt}
-use Rattle.std.proofs.lemmas.Str.{is_utf8-from_IsUtf8, IsUtf8-from_is_utf8}
+use Rattle.std.proofs.lemmas.Str.{is_utf8-from_IsUtf8, IsUtf8-from_is_utf8, IsUtf8-from_ascii}
+use Rattle.std.proofs.lemmas.Str.Ascii.{IsAscii-nil, IsAscii-cons}
 use Rattle.cbpf_command.specs.Words.{words, after_words, trimmed}
-use Rattle.cbpf_command.specs.Commands.{Spelled, Reading, meaning, readings, reading_in, by_reading, or_wrong}
+use Rattle.cbpf_command.specs.Commands.{Reading, readings, reading_in, by_reading}
 use Rattle.cbpf_command.specs.Commands.{name_in, load_capture, load_by}
-use Rattle.cbpf_command.specs.declared.command.Command.{Command}
 use Rattle.cbpf_command.specs.declared.command.CommandFault.TheVariants.{UnknownCommand}
-use Rattle.std.specs.Option.{option_map}
-
--- a known name, and what its command reads
-pub named : (s p : List ℕ) (ws : List (List ℕ)) (text : List ℕ) (c : Option Command) (o : Option Spelled)
-    → length s ≡ length p → HasBytesAt s 0 p → by_reading (reading_in readings p) ws text ≡ or_wrong o
-    → option_map meaning c ≡ o → by_reading (reading_in readings s) ws text ≡ or_wrong (option_map meaning c)
-named s p ws text c o l h is e =
-    ap (λ (w : List ℕ). by_reading (reading_in readings w) ws text) (text_from_reads s p l h) ∙ is
-    ∙ ap or_wrong (sym e)
 
 differs : (w p : List ℕ) (t : Bool) → bytes_eq w p ≡ t → (w ≡ p → ⊥) → bytes_eq w p ≡ false
 differs w p true e n = absurd (n ((bytes_eq-Decides w p).0 e))
 differs w p false e n = e
 
--- a word that is no name of the table
-abbrev pub NoneOf : List (List ℕ × Reading) → List ℕ → Type 0
-NoneOf [] w = Unit {0}
-NoneOf (row ∷ rows) w = (w ≡ row.0 → ⊥) × NoneOf rows w
+abbrev is_ascii : List ℕ → Bool
+is_ascii = list_all (λ b. nat_lt b 128)
 
-none-named : (rows : List (List ℕ × Reading)) (w : List ℕ) → NoneOf rows w → reading_in rows w ≡ None
-none-named [] w h = refl
-none-named (row ∷ rows) w h = rw (differs w row.0 (bytes_eq w row.0) refl h.0) (none-named rows w h.1)
+ascii : (s : List ℕ) → is_ascii s ≡ true → IsAscii s
+ascii [] e = IsAscii-nil
+ascii (b ∷ s) e =
+    let both : (nat_lt b 128 ≡ true) × (is_ascii s ≡ true) = and_parts _ _ e in
+    IsAscii-cons b s (grind (arith, nat_tests)) (ascii s both.1)
 
-pub unknown : (w : List ℕ) (ws : List (List ℕ)) (text : List ℕ) → NoneOf readings w
+none-named : (rows : List (List ℕ × Reading)) (w : List ℕ) → (IsUtf8 w → ⊥)
+    → list_all (λ row. is_ascii row.0) rows ≡ true → reading_in rows w ≡ None
+none-named [] w n h = refl
+none-named (row ∷ rows) w n h =
+    let both : (is_ascii row.0 ≡ true) × (list_all (λ row. is_ascii row.0) rows ≡ true) = and_parts _ _ h in
+    let other : w ≡ row.0 → ⊥ = λ e. n (subst IsUtf8 (sym e) (IsUtf8-from_ascii row.0 (ascii row.0 both.0))) in
+    rw (differs w row.0 (bytes_eq w row.0) refl other) (none-named rows w n both.1)
+
+-- the names of the table are UTF-8, so other bytes are none of them
+pub unknown : (w : List ℕ) (ws : List (List ℕ)) (text : List ℕ) → (IsUtf8 w → ⊥)
     → Err UnknownCommand ≡ by_reading (reading_in readings w) ws text
-unknown w ws text h = sym (ap (λ (r : Option Reading). by_reading r ws text) (none-named readings w h))
+unknown w ws text n = sym (ap (λ (r : Option Reading). by_reading r ws text) (none-named readings w n refl))
 
 pub name-good : (s : List ℕ) → (length s ≡ 0 → ⊥) → IsUtf8 s → name_in s ≡ Some (load_capture s)
 name-good [] n h = absurd (n refl)

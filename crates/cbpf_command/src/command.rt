@@ -217,26 +217,37 @@ fn or_wrong(command: Option<Command<'_>>) -> Result<Option<Command<'_>>, Command
     }
 }
 
-/// The command of this name with what stands after it.
+/// The command of this name with what stands after it. Each name is ASCII, so bytes that are no text are none.
 fn command_by<'a>(name: &[u8], text: &'a [u8]) -> Result<Option<Command<'a>>, CommandFault>
+    ensures { spec.result_meaning result ≡ spec.by_reading (spec.reading_in spec.readings name.now) (words text.now)
+        (trimmed (after_words 1 text.now)) }
+{
+    match from_utf8(name) {
+        Ok(name) => command_named(name, text),
+        Err(_) => Err(CommandFault::UnknownCommand),
+    }
+}
+
+/// The command of a name that is text. Bytes would be compared one by one, in many more steps of the proof.
+fn command_named<'a>(name: &str, text: &'a [u8]) -> Result<Option<Command<'a>>, CommandFault>
     ensures { spec.result_meaning result ≡ spec.by_reading (spec.reading_in spec.readings name.now) (words text.now)
         (trimmed (after_words 1 text.now)) }
 {
     let arguments = arguments_in(text);
     let command = match name {
-        b"load" => load_by(text),
-        b"run" => run_by(arguments),
-        b"disassemble" => alone(arguments, Command::Disassemble),
-        b"dump" => alone(arguments, Command::Dump),
-        b"breakpoint" => breakpoint_by(arguments),
-        b"delete" => delete_by(arguments),
-        b"step" => step_by(arguments),
-        b"select" => select_by(arguments),
-        b"mark" => alone(arguments, Command::Mark),
-        b"resume" => resume_by(arguments),
-        b"stops" => alone(arguments, Command::Stops),
-        b"value" => value_by(arguments),
-        b"quit" => alone(arguments, Command::Quit),
+        "load" => load_by(text),
+        "run" => run_by(arguments),
+        "disassemble" => alone(arguments, Command::Disassemble),
+        "dump" => alone(arguments, Command::Dump),
+        "breakpoint" => breakpoint_by(arguments),
+        "delete" => delete_by(arguments),
+        "step" => step_by(arguments),
+        "select" => select_by(arguments),
+        "mark" => alone(arguments, Command::Mark),
+        "resume" => resume_by(arguments),
+        "stops" => alone(arguments, Command::Stops),
+        "value" => value_by(arguments),
+        "quit" => alone(arguments, Command::Quit),
         _ => return Err(CommandFault::UnknownCommand),
     };
     or_wrong(command)
