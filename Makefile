@@ -31,7 +31,7 @@ test: built ## Runs the end-to-end cases, sessions, verdicts and the examples of
 bench: built ## Measures the program that is built beside its peers, and writes the tables of bench/README.md and bench/growth.svg.
 	python3 bench/all.py
 
-check: ## The gate: proves all crates and their tests from nothing, tries the must-fail edits, runs all tests; half an hour to an hour on four processors, 73 minutes on two of a slow machine.
+check: ## The gate: proves all crates and their tests from nothing, tries the must-fail edits, runs all tests; about an hour on two processors, by the machine.
 	python3 tests/names.py
 	@python3 tools/check.py
 	python3 tests/run.py "$(PROGRAM)"
