@@ -19,13 +19,10 @@ while len(arithmetic) < 60:
     turn += 1
 arithmetic = arithmetic[:60] + [(68, 0, 0, 1), (22, 0, 0, 0)]
 
-# six instructions: TCP over IPv4
-short = [(40, 0, 0, 12), (21, 0, 3, 2048), (48, 0, 0, 23), (21, 0, 1, 6), (6, 0, 0, 65535), (6, 0, 0, 0)]
-
 # the longest program, straight on
 step = [(12, 0, 0, 0), (2, 0, 0, 3), (7, 0, 0, 0)]
 straight = [(7, 0, 0, 0)] + [((4, 0, 0, i) if i % 4 == 0 else step[i % 4 - 1]) for i in range(4094)] + [(6, 0, 0, 1)]
 
-for name, program in [("arithmetic", arithmetic), ("short", short), ("straight", straight)]:
+for name, program in [("arithmetic", arithmetic), ("straight", straight)]:
     lines = [str(len(program))] + [" ".join(map(str, insn)) for insn in program]
     (folder / f"{name}.txt").write_text("\n".join(lines) + "\n")
