@@ -1,4 +1,4 @@
--- Names and arguments that are known texts.
+-- Words that are no name, and arguments that are known texts.
 use Rattle.std.proofs.Common.{◌≡◌, ℕ, List, [], ◌∷◌, length, Option, Some, None, Err, true, false, Bool, ap, refl}
 use Rattle.std.proofs.Common.{sym, subst, arith}
 use Rattle.std.specs.Prelude.{bytes_eq, nat_lt}

@@ -217,7 +217,7 @@ fn or_wrong(command: Option<Command<'_>>) -> Result<Option<Command<'_>>, Command
     }
 }
 
-/// The command of this name with what stands after it. Each name is ASCII, so bytes that are no text are none.
+/// The command of this name with what stands after it. Each command's name is ASCII, so a word that isn't UTF-8 is none.
 fn command_by<'a>(name: &[u8], text: &'a [u8]) -> Result<Option<Command<'a>>, CommandFault>
     ensures { spec.result_meaning result ≡ spec.by_reading (spec.reading_in spec.readings name.now) (words text.now)
         (trimmed (after_words 1 text.now)) }
@@ -228,7 +228,7 @@ fn command_by<'a>(name: &[u8], text: &'a [u8]) -> Result<Option<Command<'a>>, Co
     }
 }
 
-/// The command of a name that is text. Bytes would be compared one by one, in many more steps of the proof.
+/// The command of a name that is UTF-8. It is compared as `str`: bytes are compared one by one, in many more steps of the proof.
 fn command_named<'a>(name: &str, text: &'a [u8]) -> Result<Option<Command<'a>>, CommandFault>
     ensures { spec.result_meaning result ≡ spec.by_reading (spec.reading_in spec.readings name.now) (words text.now)
         (trimmed (after_words 1 text.now)) }

@@ -4,7 +4,6 @@
 mod allocator;
 mod calls;
 mod reader;
-#[cfg(test)]
 mod tests;
 mod writer;
 
@@ -14,7 +13,6 @@ pub(crate) use writer::{Fault, FaultyWriter};
 
 /// The kinds of error by which a read, a write or a flush fails. `OutOfMemory` is here the reader's or the
 /// writer's, and not the allocator's.
-#[cfg(test)]
 pub(crate) const ERROR_KINDS: [std::io::ErrorKind; 3] = [
     std::io::ErrorKind::Other,
     std::io::ErrorKind::Interrupted,
