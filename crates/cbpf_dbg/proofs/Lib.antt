@@ -11,3 +11,6 @@ pub mod KeepLemmas
 pub mod WholeLemmas
 pub mod ShownLemmas
 pub mod ShownStops
+pub mod RisingLemmas
+pub mod InsideLemmas
+pub mod ResumeLemmas

@@ -32,12 +32,12 @@ use Rattle.cbpf_dbg.proofs.WholeLemmas.{Holds}
 use Rattle.cbpf_dbg.specs.Breakpoints.{Breakpoints}
 
 -- an element has what all have
-All-slice_get : {X : Type 0} (P : X → Type 0) (xs : List X) (i : ℕ) (x : X) → All P xs → slice_get xs i ≡ Some x → P x
+pub All-slice_get : {X : Type 0} (P : X → Type 0) (xs : List X) (i : ℕ) (x : X) → All P xs → slice_get xs i ≡ Some x → P x
 All-slice_get P xs i x all e =
     subst P (get_or_from_slice_get xs i x x e) (All-get_or P xs i x (slice_get_within xs i x e) all)
 
 -- an entry would be a stop within the program and the capture
-abbrev EntryWithin : Machine → List Record → Why → Entry → Type 0
+abbrev pub EntryWithin : Machine → List Record → Why → Entry → Type 0
 EntryWithin machine capture reason e = IsWithin machine.list capture (stop_at reason e)
 
 -- each state of a packet's run is inside the program
@@ -67,14 +67,14 @@ unfolding joined
 within-joined machine capture reason sound =
     within-joined_from machine capture reason 1 capture sound (omega arith) (omega arith)
 
-within-ahead : (machine : Machine) (capture : List Record) (reason : Why) (place : Place) → IsSound machine.list
+pub within-ahead : (machine : Machine) (capture : List Record) (reason : Why) (place : Place) → IsSound machine.list
     → All (EntryWithin machine capture reason) (ahead machine capture place)
 within-ahead machine capture reason place sound =
     All-filter (λ (e : Entry). is_after place e.place) (EntryWithin machine capture reason) (joined machine capture)
     (within-joined machine capture reason sound)
 
 -- each hit ahead
-within-rest : (machine : Machine) (capture : List Record) (breakpoints : Breakpoints) (place : Place)
+pub within-rest : (machine : Machine) (capture : List Record) (breakpoints : Breakpoints) (place : Place)
     → IsSound machine.list → All (IsWithin machine.list capture) (rest machine capture breakpoints place)
 within-rest machine capture breakpoints place sound =
     All-filter (λ (h : Stop). is_after place h.place) (IsWithin machine.list capture)

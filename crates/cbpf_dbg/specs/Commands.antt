@@ -3,7 +3,7 @@
 -- the rest is this project's own).
 use Rattle.std.specs.Prelude.{◌≡◌, ℕ, ◌+◌, ◌-◌, ◌≤◌, zero, suc, nat_lt, nat_le, nat_eq, is_some, ◌&&◌, Bool, true}
 use Rattle.std.specs.Prelude.{List, [], ◌∷◌, ◌++◌, length, slice_get, Option, Some, None, Result, Ok, Err}
-use Rattle.std.specs.Prelude.{if◌then◌else◌, ℤ, pos, negsuc}
+use Rattle.std.specs.Prelude.{if◌then◌else◌, ℤ, pos, negsuc, ◌⊎◌, IsOk}
 use Rattle.cbpf_code.specs.declared.insn.Insn.{Insn}
 use Rattle.cbpf_code.specs.declared.extension.Ext.{Ext}
 use Rattle.std.specs.Option.{option_map}
@@ -168,6 +168,12 @@ unfoldable pub resume : View → Place → Answer (Unit {0})
 resume m place =
     loaded m (λ machine capture. with_packets capture
     (if has_packet capture place.packet then resume_in m machine capture place else Err NoPacket))
+
+-- a place that `resume` takes wherever this program, these values and this capture are loaded, but for a capture
+-- that has no packets
+abbrev pub IsResumable : View → Place → Type 0
+IsResumable m place = (n : View) → n.program ≡ m.program → n.values ≡ m.values → n.capture ≡ m.capture
+    → IsOk (resume n place) ⊎ (resume n place ≡ Err NoPackets)
 
 -- ---- turns
 

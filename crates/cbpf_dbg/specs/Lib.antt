@@ -1,6 +1,7 @@
 pub mod Breakpoints
 pub mod Hits
 pub mod Joined
+pub mod Laws
 pub mod View
 pub mod Commands
 pub mod Cursor

@@ -1,6 +1,6 @@
 -- What the parts of a session have to do with one another: it is a matter of this crate alone,
 -- and no public clause names it.
-use Rattle.std.specs.Prelude.{◌≡◌, ℕ, ◌-◌, ◌<◌, List, [], Bool, true, false, Option, Some, None, length, take}
+use Rattle.std.specs.Prelude.{◌≡◌, ℕ, ◌-◌, ◌<◌, ◌≤◌, List, [], Bool, true, false, Option, Some, None, length, take}
 use Rattle.std.specs.Prelude.{slice_get, slice_index_or}
 use Rattle.cbpf_code.specs.declared.insn.Insn.{Insn}
 use Rattle.cbpf_machine.specs.Registers.{Registers}
@@ -26,10 +26,15 @@ Keeps stands_for machine capture place =
 abbrev pub IsStart : Cursor → Type 0
 IsStart w = (w.place ≡ start) × (w.origin ≡ 1)
 
+-- no place is after the last packet, where there is one
+abbrev pub IsInside : List Record → Place → Type 0
+IsInside capture place = 0 < length capture → place.packet ≤ length capture
+
 -- with a program and a capture the cursor stands at its place, else at the start
 abbrev pub Fits : (List Registers → Type 0) → Option (List Insn) → Values → Option Savefile → Cursor → Type 0
 Fits stands_for (Some list) values (Some c) w =
     Stands (machine_of list values) c.records w × Keeps stands_for (machine_of list values) c.records w.place
+    × IsInside c.records w.place
 Fits stands_for (Some list) values None w = IsStart w
 Fits stands_for None values capture w = IsStart w
 

@@ -25,7 +25,8 @@ impl<T: Trail, A: Allocator> Session<T, A> {
     /// `NoProgram`, `NoCapture`.
     #[tactic(auto, unfolding(crate::specs::Commands::mark))]
     pub fn mark(&self) -> Result<Place, SessionFault>
-        ensures { result ≡ spec.mark self.now }
+        ensures place { result ≡ spec.mark self.now }
+        ensures resumable { IfOk result (spec.IsResumable self.now) }
     {
         if self.program.is_none() {
             return Err(SessionFault::NoProgram);

@@ -10,6 +10,7 @@ mod breakpoint;
 mod commands;
 mod cursor;
 mod hit;
+mod law;
 mod loaded;
 mod resume;
 mod run;
@@ -22,5 +23,6 @@ mod write_stop;
 
 pub use cbpf_machine::{ListTrail, MarkTrail, Meter, State, Trail};
 pub use cbpf_reply::{Counts, Place, RunReply, SessionFault, Stop, When, Why};
+pub use law::{place_order, rising_places};
 pub use session::Session;
 pub use stops::Stops;

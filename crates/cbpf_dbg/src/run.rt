@@ -6,7 +6,7 @@ ghost use Rattle.pcap_classic.specs.Records.{Record};
 ghost use Rattle.cbpf_dbg.specs.Commands.{PassesHits};
 ghost use Rattle.cbpf_dbg.specs.Joined.{rest};
 ghost use Rattle.cbpf_dbg.specs.Loaded.{machine_in, records_in, breakpoints_in};
-ghost use Rattle.cbpf_dbg.specs.Session.{IsQuiet, Keeps, Watches};
+ghost use Rattle.cbpf_dbg.specs.Session.{IsInside, IsQuiet, Keeps, Watches};
 ghost use Rattle.cbpf_dbg.specs.declared.cursor.Moved.TheVariants as moved;
 ghost use Rattle.cbpf_dbg.specs.Cursor.{IsHere, Stands, owed, Runs, run_turns, NotBefore, PassesOn, PassesTo};
 ghost use Rattle.cbpf_dbg.specs.Cursor.{is_limit as is_limit_at};
@@ -358,6 +358,7 @@ pub(crate) fn run<T: Trail, A: Allocator>(
         (records_in loaded.now) w.new.place }
     ensures runs { Runs (machine_in loaded.now) loaded.now.capture.now
         (breakpoints_in loaded.now) w.old w.new limit result }
+    ensures inside { IsInside (records_in loaded.now) w.new.place }
     ensures ahead { PassesHits result
         (rest (machine_in loaded.now) (records_in loaded.now) (breakpoints_in loaded.now) w.old.place)
         (rest (machine_in loaded.now) (records_in loaded.now) (breakpoints_in loaded.now) w.new.place) }

@@ -6,7 +6,7 @@ ghost use Rattle.pcap_classic.specs.Lent.{record_of};
 ghost use Rattle.cbpf_dbg.specs.Breakpoints.{Breakpoints};
 ghost use Rattle.cbpf_dbg.specs.Joined.{ahead};
 ghost use Rattle.cbpf_dbg.specs.Loaded.{machine_in, records_in};
-ghost use Rattle.cbpf_dbg.specs.Session.{Keeps};
+ghost use Rattle.cbpf_dbg.specs.Session.{IsInside, Keeps};
 ghost use Rattle.cbpf_dbg.specs.Cursor.{Stands, owed, StepsOn, step_turns, StepsBack, CannotStepBack};
 
 use crate::cursor::{Cursor, Moved, advance, record_at};
@@ -70,6 +70,7 @@ pub(crate) fn step_on<T: Trail, A: Allocator>(
         (records_in loaded.now) w.new.place }
     ensures steps { (breakpoints : Breakpoints) → StepsOn
         (machine_in loaded.now) loaded.now.capture.now breakpoints w.old w.new n result }
+    ensures inside { IsInside (records_in loaded.now) w.new.place }
     ensures turns { (breakpoints : Breakpoints) → meter.new
         ≡ meter.old + step_turns (machine_in loaded.now) loaded.now.capture.now breakpoints w.old n }
 {
@@ -130,6 +131,7 @@ pub(crate) fn step_back<T: Trail, A: Allocator>(
     ensures answer { MatchResult result
         (λ stop. StepsBack (machine_in loaded.now) (records_in loaded.now) w.old w.new b stop)
         (λ most. CannotStepBack w.old w.new b most) }
+    ensures inside { IsInside (records_in loaded.now) w.old.place → IsInside (records_in loaded.now) w.new.place }
     ensures counts { meter.old ≤ meter.new }
     ensures turns { OnOk result (meter.new ≡ meter.old + T.turns_back w.new.place.step) }
     ensures few { meter.new ≤ meter.old + 63 }

@@ -1,7 +1,8 @@
 //! What stands next in a text: labels and instructions, one after another.
 
 ghost use Rattle.std.specs.Prelude.{◌≡◌, ◌≤◌, ◌<◌, ◌+◌, ◌-◌, ℕ, List, [], true, false, length, map, drop, take, Some};
-ghost use Rattle.std.specs.Prelude.{None, IfOk, IfErr, IfSome, IfNone, OnOk};
+ghost use Rattle.std.specs.Prelude.{None, IfOk, IfErr, IfSome, IfNone, OnOk, ◌≢◌};
+ghost use Rattle.cbpf_lex.specs.declared.token.LexFault.TheVariants.{Memory};
 ghost use Rattle.cbpf_lex.specs.declared.token.Token.{Token};
 ghost use Rattle.cbpf_lex.specs.Tokens.{Lexes, LexesTo, IsLexFault};
 ghost use Rattle.cbpf_grammar.specs.Lexemes.{AreLexemes};
@@ -131,6 +132,7 @@ fn read_on(lexer: &mut Lexer<'_>) -> Result<(), LexFault>
         (all : List Token) × Lexes lexer.old.text all) }
     ensures fault { IfErr result (λ fault. (tokens : List Token) → LexesTo lexer.old.text lexer.old.at tokens →
         IsLexFault lexer.old.text fault) }
+    ensures no_memory { IfErr result (λ fault. fault ≢ Memory) }
 {
     while let Some(_token) = lexer.next_token()? {}
     Ok(())
@@ -205,6 +207,8 @@ impl<'a, A: Allocator> Reader<'a, A> {
         ensures within { OnOk result (self.new.to ≤ length self.new.text) }
         ensures end { OnOk result (self.new.ended ≡ true → self.new.to ≡ length self.new.text) }
         ensures fault { IfErr result (λ fault. (n : ℕ) → IsReading n self.old → IsLexFault self.old.text fault) }
+        ensures same_end { IfErr result (λ _. self.new.ended ≡ self.old.ended) }
+        ensures same_text { IfErr result (λ _. self.new.text ≡ self.old.text) }
     {
         let rest = self.ahead.len() - self.at;
         self.ahead.copy_within(self.at.., 0);
@@ -232,6 +236,8 @@ impl<'a, A: Allocator> Reader<'a, A> {
         ensures end { IfOk result (λ step. step_len step ≡ length self.new.tokens → self.new.ended ≡ true) }
         ensures word { IfOk result (λ step. 0 < step_len step → StartsWithWord (map lexeme_of self.new.tokens)) }
         ensures fault { IfErr result (λ fault. (n : ℕ) → IsReading n self.old → IsLexFault self.old.text fault) }
+        ensures not_ended { IfErr result (λ _. self.new.ended ≡ false) }
+        ensures same_text { IfErr result (λ _. self.new.text ≡ self.old.text) }
     {
         loop {
             let step = step_at(self.ahead());
@@ -290,6 +296,7 @@ impl<'a, A: Allocator> Reader<'a, A> {
         ensures lexed { OnOk result ((n : ℕ) → IsReading n self.now → (ts : List lexemes.Lexeme) ×
             AreLexemes self.now.text ts) }
         ensures fault { IfErr result (λ fault. (n : ℕ) → IsReading n self.now → IsLexFault self.now.text fault) }
+        ensures no_memory { IfErr result (λ fault. fault ≢ Memory) }
     {
         let mut rest = self.lexer.copied();
         read_on(&mut rest)

@@ -133,8 +133,8 @@ own-or : (files : FileMap) (m n : View) (f g : ℕ) (c : Spelled) (t : List ℕ)
 unfolding Writes
 own-or files m n f g (load_words text) t (inl h) = inl h
 own-or files m n f g (load_words text) t (inr h) = inr (inl h.1)
-own-or files m n f g (load_capture name) t (inl h) = inl h
-own-or files m n f g (load_capture name) t (inr (inl h)) = inr (inl h.1)
+own-or files m n f g (load_capture name) t (inl h) = inl h.1
+own-or files m n f g (load_capture name) t (inr (inl h)) = inr (inl h.1.1)
 own-or files m n f g (load_capture name) t (inr (inr h)) = inr (inr h.1.1)
 own-or files m n f g (breakpoint k) t (inl h) = inl h
 own-or files m n f g (breakpoint k) t (inr h) = inr (inl h.1.1)

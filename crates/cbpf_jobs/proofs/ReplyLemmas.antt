@@ -15,7 +15,7 @@ use Rattle.cbpf_jobs.specs.FileMap.{FileMap, Source}
 use Rattle.cbpf_jobs.specs.Loads.{Loads}
 use Rattle.cbpf_jobs.specs.Progress.{Kept, CommandRan, LineResult, LineRan}
 use Rattle.cbpf_jobs.specs.declared.debugger.AfterLine.{AfterLine}
-use Rattle.cbpf_jobs.specs.declared.files.LoadFault.TheVariants.{Absent, Device}
+use Rattle.cbpf_jobs.specs.declared.files.LoadFault.TheVariants.{Absent, Device, Memory}
 use Rattle.cbpf_code.specs.declared.writing.WriteFault.{WriteFault}
 use Rattle.cbpf_command.specs.declared.command.CommandFault.{CommandFault}
 use Rattle.std.specs.Result.{IsErr, IsOkAnd, MatchResult}
@@ -71,36 +71,36 @@ words-accepted m n text list program count Written s e sound c v w =
 -- ---- `load pcap`
 
 pub capture-refused : (m : View) (bytes : List ℕ) (fault : CaptureFault) (files : FileMap) (f g : ℕ) (name : List ℕ)
-    (Written : List ℕ → Type 0) → map.get files name ≡ Some bytes → IsRefusal fault bytes
+    (Written : List ℕ → Type 0) → map.get files name ≡ Some bytes → g ≡ f → IsRefusal fault bytes
     → Written (capture_fault_text fault) → CommandReplies files m m f g (load_capture name) Written
 unfolding capture_fault_text
-capture-refused m bytes capture_fault.Memory files f g name Written e r w =
-    inr (inl (writes-same memory_text m Written w))
-capture-refused m bytes capture_fault.FileHeaderCut files f g name Written e r w =
-    inl (rw e (no_capture capture_fault.FileHeaderCut r (λ z. cc) (writes-same _ m Written w)))
-capture-refused m bytes capture_fault.UnknownMagic files f g name Written e r w =
-    inl (rw e (no_capture capture_fault.UnknownMagic r (λ z. cc) (writes-same _ m Written w)))
-capture-refused m bytes capture_fault.UnknownVersion files f g name Written e r w =
-    inl (rw e (no_capture capture_fault.UnknownVersion r (λ z. cc) (writes-same _ m Written w)))
+capture-refused m bytes capture_fault.Memory files f g name Written e k r w =
+    inr (inl (k, writes-same memory_text m Written w))
+capture-refused m bytes capture_fault.FileHeaderCut files f g name Written e k r w =
+    inl (k, rw e (no_capture capture_fault.FileHeaderCut r (λ z. cc) (writes-same _ m Written w)))
+capture-refused m bytes capture_fault.UnknownMagic files f g name Written e k r w =
+    inl (k, rw e (no_capture capture_fault.UnknownMagic r (λ z. cc) (writes-same _ m Written w)))
+capture-refused m bytes capture_fault.UnknownVersion files f g name Written e k r w =
+    inl (k, rw e (no_capture capture_fault.UnknownVersion r (λ z. cc) (writes-same _ m Written w)))
 
 pub capture-accepted : (m n : View) (bytes : List ℕ) (capture : Savefile) (files : FileMap) (f g : ℕ) (name : List ℕ)
     (Written : List ℕ → Type 0)
-    → map.get files name ≡ Some bytes → IsSavefile bytes capture → n ≡ with_capture_loaded m capture
+    → map.get files name ≡ Some bytes → g ≡ f → IsSavefile bytes capture → n ≡ with_capture_loaded m capture
     → Written (capture_text capture) → CommandReplies files m n f g (load_capture name) Written
 unfolding Writes
-capture-accepted m n bytes capture files f g name Written e h v w = inl (rw e (a_capture capture h (v, w)))
+capture-accepted m n bytes capture files f g name Written e k h v w = inl (k, rw e (a_capture capture h (v, w)))
 
 pub capture-absent : (m : View) (files : FileMap) (f g : ℕ) (name : List ℕ) (Written : List ℕ → Type 0)
-    → map.get files name ≡ None → Written absent_text → CommandReplies files m m f g (load_capture name) Written
-capture-absent m files f g name Written e w = inl (rw e (writes-same _ m Written w))
+    → map.get files name ≡ None → g ≡ f → Written absent_text → CommandReplies files m m f g (load_capture name) Written
+capture-absent m files f g name Written e k w = inl (k, rw e (writes-same _ m Written w))
 
 pub capture-unread : (m : View) (files : FileMap) (f g : ℕ) (name : List ℕ) (Written : List ℕ → Type 0) → Failed f g
     → Written device_text → CommandReplies files m m f g (load_capture name) Written
 capture-unread m files f g name Written h w = inr (inr (h, writes-same _ m Written w))
 
-pub capture-unheld : (m : View) (files : FileMap) (f g : ℕ) (name : List ℕ) (Written : List ℕ → Type 0)
+pub capture-unheld : (m : View) (files : FileMap) (f g : ℕ) (name : List ℕ) (Written : List ℕ → Type 0) → g ≡ f
     → Written memory_text → CommandReplies files m m f g (load_capture name) Written
-capture-unheld m files f g name Written w = inr (inl (writes-same _ m Written w))
+capture-unheld m files f g name Written k w = inr (inl (k, writes-same memory_text m Written w))
 
 pub kept-from : {V : Type 0} (items : V → List ℕ) (f g : Source) (name : List ℕ) (r : Result V LoadFault)
     → Loads items f g name r → Kept f g
@@ -114,8 +114,8 @@ pub load-absent : {V : Type 0} (items : V → List ℕ) (f g : Source) (m : View
     → Loads items f g name (Err e) → e ≡ Absent → Written absent_text → CommandRan f g m m (load_capture name) Written
 load-absent items f g m name Written e l h w =
     let k = subst (λ (x : LoadFault). Loads items f g name (Err x)) h l in (
-      kept-from items f g name (Err Absent) k,
-      λ t. capture-absent m f.files f.failures g.failures name Written (k.gives t) w,
+      (kept-from items f g name (Err Absent) k, k.rises),
+      λ t. capture-absent m f.files f.failures g.failures name Written (k.gives t) k.counts w,
     )
 
 pub load-failed : {V : Type 0} (items : V → List ℕ) (f g : Source) (m : View) (name : List ℕ)
@@ -123,22 +123,25 @@ pub load-failed : {V : Type 0} (items : V → List ℕ) (f g : Source) (m : View
     → Loads items f g name (Err e) → e ≡ Device → Written device_text → CommandRan f g m m (load_capture name) Written
 load-failed items f g m name Written e l h w =
     let k = subst (λ (x : LoadFault). Loads items f g name (Err x)) h l in (
-      kept-from items f g name (Err Device) k,
-      λ t. capture-unread m f.files f.failures g.failures name Written k.gives w,
+      (kept-from items f g name (Err Device) k, k.rises),
+      λ t. capture-unread m f.files f.failures g.failures name Written k.counts w,
     )
 
 pub load-unheld : {V : Type 0} (items : V → List ℕ) (f g : Source) (m : View) (name : List ℕ)
     (Written : List ℕ → Type 0) (e : LoadFault)
-    → Loads items f g name (Err e) → Written memory_text → CommandRan f g m m (load_capture name) Written
-load-unheld items f g m name Written e l w =
-    (kept-from items f g name (Err e) l, λ t. capture-unheld m f.files f.failures g.failures name Written w)
+    → Loads items f g name (Err e) → e ≡ Memory → Written memory_text → CommandRan f g m m (load_capture name) Written
+load-unheld items f g m name Written e l h w =
+    let k = subst (λ (x : LoadFault). Loads items f g name (Err x)) h l in (
+      (kept-from items f g name (Err Memory) k, k.rises),
+      λ t. capture-unheld m f.files f.failures g.failures name Written k.counts w,
+    )
 
 pub load-refused : {V : Type 0} (items : V → List ℕ) (f g : Source) (m : View) (name : List ℕ)
     (Written : List ℕ → Type 0) (v : V) (fault : CaptureFault) → Loads items f g name (Ok v)
     → IsRefusal fault (items v) → Written (capture_fault_text fault) → CommandRan f g m m (load_capture name) Written
 load-refused items f g m name Written v fault l r w = (
-  kept-from items f g name (Ok v) l,
-  λ t. capture-refused m (items v) fault f.files f.failures g.failures name Written (l.gives t) r w,
+  (kept-from items f g name (Ok v) l, l.rises),
+  λ t. capture-refused m (items v) fault f.files f.failures g.failures name Written (l.gives t) l.counts r w,
 )
 
 pub load-accepted : {V : Type 0} (items : V → List ℕ) (f g : Source) (m n : View) (name : List ℕ)
@@ -146,8 +149,8 @@ pub load-accepted : {V : Type 0} (items : V → List ℕ) (f g : Source) (m n : 
     → Loads items f g name (Ok v) → IsSavefile (items v) capture → n ≡ with_capture_loaded m capture
     → Written (capture_text capture) → CommandRan f g m n (load_capture name) Written
 load-accepted items f g m n name Written v capture l h e w = (
-  kept-from items f g name (Ok v) l,
-  λ t. capture-accepted m n (items v) capture f.files f.failures g.failures name Written (l.gives t) h e w,
+  (kept-from items f g name (Ok v) l, l.rises),
+  λ t. capture-accepted m n (items v) capture f.files f.failures g.failures name Written (l.gives t) l.counts h e w,
 )
 
 -- ---- a command, and a line

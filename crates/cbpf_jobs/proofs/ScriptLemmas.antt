@@ -1,5 +1,5 @@
 -- Lines of a script, and the replies to them.
-use Rattle.std.proofs.Common.{◌≡◌, ℕ, ◌≤◌, le_refl, le_trans, true, false, cond, eqb, ◌||◌, List, [], ◌∷◌, ◌++◌}
+use Rattle.std.proofs.Common.{◌≡◌, ℕ, le_refl, le_trans, true, false, cond, eqb, ◌||◌, List, [], ◌∷◌, ◌++◌}
 use Rattle.std.proofs.Common.{length, take_all, Option, Some, None, Result, Ok, Err, IsTrue, ◌⊎◌, inl, inr, refl, sym}
 use Rattle.std.proofs.Common.{◌∙◌, ap, subst, append_assoc, append-nil, arith}
 use Rattle.std.specs.Io.KnownBytes.{Keeps}
@@ -18,7 +18,7 @@ use Rattle.cbpf_jobs.specs.Lines.{lines, whole_lines, has_newline}
 use Rattle.cbpf_dbg.specs.View.{View, empty_view}
 use Rattle.cbpf_jobs.specs.Reading.{unread, Took, TakesLine}
 use Rattle.cbpf_jobs.specs.Replies.{Writes, LoadsWords, unreadable, unsound, accepted, ReadsCapture, no_capture}
-use Rattle.cbpf_jobs.specs.Replies.{a_capture, LoadsCapture, CommandReplies, LineReplies}
+use Rattle.cbpf_jobs.specs.Replies.{a_capture, LoadsCapture, CommandReplies, LineReplies, KeepsCount}
 use Rattle.cbpf_jobs.specs.Output.{Output, at_end, at_quit, at_line, HasQuit}
 use Rattle.cbpf_jobs.specs.Progress.{LineRan, unlines, EachPlain, LinesRan, still, onward, Progress}
 use Rattle.cbpf_jobs.specs.Debugged.{IsOutput, Faulted, Finished}
@@ -123,10 +123,10 @@ answers-named : (files : FileMap) (m n : View) (f g : ℕ) (c : Spelled) (W : Li
     → CommandReplies files m n f g c W → (t : List ℕ) × CommandReplies files m n f g c (λ s. s ≡ t) × W t
 answers-named files m n f g (load_words text) W (inl h) = let k = words-named m n text W h in (k.0, inl k.1, k.2)
 answers-named files m n f g (load_words text) W (inr h) = let k = writes-named _ n W h in (k.0, inr k.1, k.2)
-answers-named files m n f g (load_capture name) W (inl h) = let k = capture-named m n (map.get files name) W h in
-    (k.0, inl k.1, k.2)
-answers-named files m n f g (load_capture name) W (inr (inl h)) = let k = writes-named _ n W h in
-    (k.0, inr (inl k.1), k.2)
+answers-named files m n f g (load_capture name) W (inl h) = let k = capture-named m n (map.get files name) W h.1 in
+    (k.0, inl (h.0, k.1), k.2)
+answers-named files m n f g (load_capture name) W (inr (inl h)) = let k = writes-named _ n W h.1 in
+    (k.0, inr (inl (h.0, k.1)), k.2)
 answers-named files m n f g (load_capture name) W (inr (inr h)) = let k = writes-named _ n W h.1 in
     (k.0, inr (inr (h.0, k.1)), k.2)
 answers-named files m n f g (run limit) W h = writes-named _ n W h
@@ -291,7 +291,7 @@ module _ {script pending : List ℕ} {left old new : Option (List ℕ)} {m : Vie
         )
 
     one_line : (u : List ℕ) → LineReplies g.files m n g.failures g'.failures (command_of line) (λ s. s ≡ u)
-        → g.failures ≤ g'.failures → IsOutput f g' (p.done ++ (line ∷ [])) (p.text ++ u)
+        → KeepsCount (command_of line) g.failures g'.failures → IsOutput f g' (p.done ++ (line ∷ [])) (p.text ++ u)
     one_line u r le =
         let o : Output f.files empty_view f.failures (p.done ++ (line ∷ [])) (p.text ++ (u ++ [])) g'.failures =
         ran-output f.files f.failures g.failures g'.failures empty_view m p.done p.text p.ran (line ∷ []) (u ++ [])
@@ -307,7 +307,7 @@ module _ {script pending : List ℕ} {left old new : Option (List ℕ)} {m : Vie
           more,
           p.text ++ r.0,
           here ∙ sym (append_assoc p.done (line ∷ []) more),
-          one_line r.0 r.1 c.0.rises,
+          one_line r.0 r.1 c.0.1,
           part-then old new' new'' p.text r.0 wrote r.2,
         )
 
@@ -320,7 +320,7 @@ module _ {script pending : List ℕ} {left old new : Option (List ℕ)} {m : Vie
         let all : p.done ++ (line ∷ []) ≡ lines script =
         sym (here ∙ ap (λ (ls : List (List ℕ)). p.done ++ (line ∷ ls)) e) in (
           p.text ++ r.0,
-          subst (λ ls. IsOutput f g' ls (p.text ++ r.0)) all (one_line r.0 r.1 c.0.rises),
+          subst (λ ls. IsOutput f g' ls (p.text ++ r.0)) all (one_line r.0 r.1 c.0.1),
           inr z,
           appended-then old new' new'' p.text r.0 wrote r.2,
         )
@@ -347,11 +347,11 @@ module _ {script pending : List ℕ} {left old new : Option (List ℕ)} {m : Vie
           plain = plain-push p.done line p.plain plain;
           known = t.known;
           kept = record {
-            files = c.0.files ∙ p.kept.files;
-            is_known = c.0.is_known ∙ p.kept.is_known;
-            rises = le_trans p.kept.rises c.0.rises;
+            files = c.0.0.files ∙ p.kept.files;
+            is_known = c.0.0.is_known ∙ p.kept.is_known;
+            rises = le_trans p.kept.rises c.0.0.rises;
           };
-          ran = onward line r.0 p.ran (same_files (command_of line) (λ s. s ≡ r.0) r.1) c.0.rises;
+          ran = onward line r.0 p.ran (same_files (command_of line) (λ s. s ≡ r.0) r.1) c.0.1;
           wrote = appended-then old new' new'' p.text r.0 wrote r.2;
         }
 

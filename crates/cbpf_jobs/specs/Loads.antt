@@ -15,6 +15,13 @@ Faults old new name Absent = IsTrue old.is_known → map.get old.files name ≡ 
 Faults old new name Device = (old.failures < new.failures) ⊎ (old.failures ≡ 2 ^ 64 - 1)
 Faults old new name Memory = Unit {0}
 
+-- the count of failures after a load, where each device fault is counted once
+abbrev pub counted : {V : Type 0} → Result V LoadFault → ℕ → ℕ
+counted (Ok v) failures = failures
+counted (Err Absent) failures = failures
+counted (Err Device) failures = min (failures + 1) (2 ^ 64 - 1)
+counted (Err Memory) failures = failures
+
 -- a load of the name with bytes `name`. A count at its greatest value stays there
 pub record Loads {V : Type 0} (items : V → List ℕ) (old new : Source) (name : List ℕ) (r : Result V LoadFault) :
     Type 0 where
@@ -22,15 +29,9 @@ pub record Loads {V : Type 0} (items : V → List ℕ) (old new : Source) (name 
   pub same_known : new.is_known ≡ old.is_known
   pub rises : old.failures ≤ new.failures
   pub stops : old.failures ≡ 2 ^ 64 - 1 → new.failures ≡ 2 ^ 64 - 1
+  pub counts : new.failures ≡ counted r old.failures
   pub gives :
       MatchResult r (λ v. IsTrue old.is_known → map.get old.files name ≡ Some (items v)) (λ e. Faults old new name e)
-
--- the count of failures after a load, where each device fault is counted once
-abbrev pub counted : {V : Type 0} → Result V LoadFault → ℕ → ℕ
-counted (Ok v) failures = failures
-counted (Err Absent) failures = failures
-counted (Err Device) failures = min (failures + 1) (2 ^ 64 - 1)
-counted (Err Memory) failures = failures
 
 -- a failure to read a file that is open, or to find room for its bytes
 abbrev pub reading_fault : ErrorKind → LoadFault

@@ -8,7 +8,7 @@ use Rattle.cbpf_jobs.specs.FileMap.{FileMap, Source}
 use Rattle.cbpf_jobs.specs.Lines.{has_newline}
 use Rattle.cbpf_dbg.specs.View.{View, empty_view}
 use Rattle.cbpf_jobs.specs.Reading.{unread}
-use Rattle.cbpf_jobs.specs.Replies.{CommandReplies, LineReplies}
+use Rattle.cbpf_jobs.specs.Replies.{CommandReplies, LineReplies, KeepsCount}
 use Rattle.cbpf_jobs.specs.declared.debugger.AfterLine.{AfterLine}
 use Rattle.cbpf_jobs.specs.declared.debugger.AfterLine.TheVariants.{NextLine, Quit}
 
@@ -20,8 +20,8 @@ pub record Kept (f g : Source) : Type 0 where
 
 -- a command other than `quit` was run, where it is known what the files hold
 abbrev pub CommandRan : Source → Source → View → View → Spelled → (List ℕ → Type 0) → Type 0
-CommandRan f g m n c Written =
-    Kept f g × (IsTrue f.is_known → CommandReplies f.files m n f.failures g.failures c Written)
+CommandRan f g m n c Written = (Kept f g × KeepsCount (Ok (Some c)) f.failures g.failures)
+    × (IsTrue f.is_known → CommandReplies f.files m n f.failures g.failures c Written)
 
 -- what a line wrote that was run, by what comes after it
 abbrev pub LineResult : FileMap → View → View → ℕ → ℕ → Result (Option Spelled) CommandFault → Option (List ℕ)
@@ -33,8 +33,8 @@ LineResult files m n f g spelled old new (Err e) = LineReplies files m n f g spe
 -- a line was run, where it is known what the files hold
 abbrev pub LineRan : Source → Source → View → View → Result (Option Spelled) CommandFault → Option (List ℕ)
     → Option (List ℕ) → Result AfterLine WriteFault → Type 0
-LineRan f g m n spelled old new r =
-    Kept f g × (IsTrue f.is_known → LineResult f.files m n f.failures g.failures spelled old new r)
+LineRan f g m n spelled old new r = (Kept f g × KeepsCount spelled f.failures g.failures)
+    × (IsTrue f.is_known → LineResult f.files m n f.failures g.failures spelled old new r)
 
 -- lines with their newlines
 abbrev pub unlines : List (List ℕ) → List ℕ
@@ -49,7 +49,7 @@ EachPlain (l ∷ ls) = (has_newline l ≡ false) × EachPlain ls
 pub data LinesRan (files : FileMap) : View → ℕ → List (List ℕ) → List ℕ → View → ℕ → Type 0 where
   still : {m : View} {f : ℕ} → LinesRan files m f [] [] m f
   onward : {m n p : View} {f g h : ℕ} {ls : List (List ℕ)} {t : List ℕ} (l u : List ℕ) → LinesRan files m f ls t n g
-      → LineReplies files n p g h (command_of l) (λ s. s ≡ u) → g ≤ h → LinesRan files m f (ls ++ l ∷ []) (t ++ u) p h
+      → LineReplies files n p g h (command_of l) (λ s. s ≡ u) → KeepsCount (command_of l) g h → LinesRan files m f (ls ++ l ∷ []) (t ++ u) p h
 
 pub record Progress (script pending : List ℕ) (left old new : Option (List ℕ)) (f g : Source) (m : View) :
     Type 0 where

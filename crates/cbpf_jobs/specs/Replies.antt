@@ -1,5 +1,5 @@
 -- What a line of a script replies, and the view of the session after it.
-use Rattle.std.specs.Prelude.{◌≡◌, ◌<◌, ◌-◌, ◌^◌, ◌⊎◌, ℕ, List, [], Option, Some, None, Result, Ok, Err, IsOk, nat_eq}
+use Rattle.std.specs.Prelude.{◌≡◌, ◌≤◌, ◌+◌, ◌-◌, ◌^◌, ◌⊎◌, min, ℕ, List, [], Option, Some, None, Result, Ok, Err, IsOk, nat_eq}
 use Rattle.std.specs.Prelude.{length}
 use Rattle.std.specs.FinMap as map
 use Rattle.std.specs.Map.{lookup}
@@ -55,9 +55,14 @@ abbrev pub LoadsCapture : View → View → Option (List ℕ) → (List ℕ → 
 LoadsCapture m n None Written = Writes (absent_text, m) n Written
 LoadsCapture m n (Some bytes) Written = ReadsCapture m n bytes Written
 
--- the count of failures rose, or could not
+-- one failure was counted; the count stops at its greatest value
 abbrev pub Failed : ℕ → ℕ → Type 0
-Failed f g = (f < g) ⊎ (f ≡ 2 ^ 64 - 1)
+Failed f g = g ≡ min (f + 1) (2 ^ 64 - 1)
+
+-- only the load of a capture may change the count of failures
+abbrev pub KeepsCount : Result (Option Spelled) CommandFault → ℕ → ℕ → Type 0
+KeepsCount (Ok (Some (load_capture name))) f g = f ≤ g
+KeepsCount _ f g = g ≡ f
 
 -- a breakpoint that is set can run out of memory: it is not refused, and its number is not set yet
 abbrev pub CanRunOut : View → ℕ → When → Type 0
@@ -69,13 +74,14 @@ Sets m n k when Written =
     Writes (breakpoint_reply m k when) n Written ⊎ (CanRunOut m k when × Writes (memory_text, m) n Written)
 
 -- a command's reply, while the count of failures goes from f to g. `error: out of memory` may come in place
--- of the reply of a load and of a new breakpoint that is not refused, and F2, where a failure is counted, in place of
--- that of a capture's load. `quit` has none
+-- of the reply of a load and of a new breakpoint that is not refused, and F2 in place of that of a capture's load:
+-- one failure is counted at F2, and none at the other replies of a load. `quit` has none
 abbrev pub CommandReplies : FileMap → View → View → ℕ → ℕ → Spelled → (List ℕ → Type 0) → Type 0
 CommandReplies files m n f g (load_words text) Written =
     LoadsWords m n text Written ⊎ Writes (memory_text, m) n Written
-CommandReplies files m n f g (load_capture name) Written = LoadsCapture m n (map.get files name) Written
-    ⊎ (Writes (memory_text, m) n Written ⊎ (Failed f g × Writes (device_text, m) n Written))
+CommandReplies files m n f g (load_capture name) Written =
+    ((g ≡ f) × LoadsCapture m n (map.get files name) Written)
+    ⊎ (((g ≡ f) × Writes (memory_text, m) n Written) ⊎ (Failed f g × Writes (device_text, m) n Written))
 CommandReplies files m n f g (run limit) Written = Writes (run_reply m limit) n Written
 CommandReplies files m n f g disassemble Written = Writes (listing_text m.program, m) n Written
 CommandReplies files m n f g dump Written = Writes (c_dump_text m.program, m) n Written

@@ -1,12 +1,15 @@
 // Files of the file system.
-ghost use Rattle.std.specs.Prelude.{◌≡◌};
+ghost use Rattle.std.specs.Prelude.{◌≡◌, ◌≢◌, ℕ, List, IfErr, IfOk, MatchResult, OnOk};
+ghost use Rattle.std.specs.Io.KnownBytes.{IsAtEnd};
+ghost use Rattle.std.specs.IoError.{error_kind};
 ghost use Rattle.cbpf_jobs.specs.FileMap.{unknown_source};
 ghost use Rattle.cbpf_jobs.specs.Loads as spec;
+ghost use Rattle.cbpf_jobs.specs.declared.files.LoadFault.TheVariants as fault;
 
 use crate::files::{Files, LoadFault};
 use std::alloc::Allocator;
 use std::fs::{self, OpenFile};
-use std::io::{ErrorKind, Read};
+use std::io::{self, ErrorKind, Read};
 use std::rt;
 
 /// The files of the file system. What it holds is not known.
@@ -57,21 +60,53 @@ fn reading_fault(kind: ErrorKind) -> LoadFault
     }
 }
 
-fn read_whole<R: rt::Files, B: Allocator>(
-    runtime: &R,
-    alloc: B,
-    name: &str,
-) -> Result<Vec<u8, B>, LoadFault> {
-    let mut file = match fs::open(runtime, name) {
-        Ok(file) => file,
-        Err(e) => return Err(opening_fault(e.kind())),
-    };
-    let Ok(mut bytes) = Vec::with_capacity(alloc, room_for(&file)) else {
-        return Err(LoadFault::Memory);
-    };
-    match file.read_to_end(&mut bytes) {
+/// What reading a file to its end gave: its bytes, or what the failure is reported as.
+fn bytes_read<B: Allocator>(
+    bytes: Vec<u8, B>,
+    read: io::Result<usize>,
+) -> Result<Vec<u8, B>, LoadFault>
+    ensures { MatchResult read (λ _. result ≡ Ok bytes) (λ e. result ≡ Err (spec.reading_fault (error_kind e))) }
+{
+    match read {
         Ok(_) => Ok(bytes),
         Err(e) => Err(reading_fault(e.kind())),
+    }
+}
+
+/// All bytes of a file that is open, with room for so many at first.
+fn read_open<F: Read, B: Allocator>(
+    file: &mut F,
+    alloc: B,
+    room: usize,
+) -> Result<Vec<u8, B>, LoadFault>
+    ensures bytes { IfOk result (λ v. (text : List ℕ) → F.remaining file.old ≡ Some text → v.items ≡ text) }
+    ensures end { OnOk result (IsAtEnd (F.remaining file.new)) }
+    ensures fault { IfErr result (λ e. e ≢ fault.Absent) }
+{
+    let Ok(mut bytes) = Vec::with_capacity(alloc, room) else {
+        return Err(LoadFault::Memory);
+    };
+    let read = file.read_to_end(&mut bytes);
+    bytes_read(bytes, read)
+}
+
+/// All bytes of a file, where opening it gave one; else what the failure to open it is reported as.
+fn read_opened<F: Read + OpenFile + Drop, B: Allocator>(
+    opened: io::Result<F>,
+    alloc: B,
+) -> Result<Vec<u8, B>, LoadFault>
+    ensures opened { IfOk opened (λ file. IfOk result (λ v. (text : List ℕ) → F.remaining file ≡ Some text →
+        v.items ≡ text)) }
+    ensures there { OnOk opened (result ≢ Err fault.Absent) }
+    ensures failed { IfErr opened (λ e. result ≡ Err (spec.opening_fault (error_kind e))) }
+{
+    match opened {
+        Ok(file) => {
+            let mut file = file;
+            let room = room_for(&file);
+            read_open(&mut file, alloc, room)
+        }
+        Err(e) => Err(opening_fault(e.kind())),
     }
 }
 
@@ -85,7 +120,7 @@ impl<'a, R: rt::Files> Files for DiskFiles<'a, R> {
             (unknown_source self.new.failures) name.now result }
         ensures counted { self.new.failures ≡ spec.counted result self.old.failures }
     {
-        let result = read_whole(self.runtime, alloc, name);
+        let result = read_opened(fs::open(self.runtime, name), alloc);
         if matches!(result, Err(LoadFault::Device)) {
             self.failures = self.failures.saturating_add(1);
         }

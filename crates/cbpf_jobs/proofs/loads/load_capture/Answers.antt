@@ -11,7 +11,7 @@ returns-in-Err-Device g c = load-failed _ _ _ c.args.session.now c.args.name.now
 
 pub returns-in-Err-Memory : goal.returns-in-Err-Memory
 returns-in-Err-Memory g c = load-unheld _ _ _ c.args.session.now c.args.name.now _ c.in-Err-Memory.field-0
-    (c.in-Err-Memory.ensures {u = tt}) c.write_out_of_memory.ensures
+    (c.in-Err-Memory.ensures {u = tt}) c.in-Err-Memory.field-0-is c.write_out_of_memory.ensures
 
 pub returns-in-Ok-from_bytes : goal.returns-in-Ok-from_bytes
 returns-in-Ok-from_bytes g c = load-accepted (λ v. v.items) _ _ c.args.session.now _ c.args.name.now _ c.in-Ok.bytes

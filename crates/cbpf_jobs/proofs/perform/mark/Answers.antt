@@ -5,4 +5,4 @@ use Rattle.cbpf_jobs.proofs.perform.mark.Goals as goal
 
 pub returns-in-Ok : goal.returns-in-Ok
 returns-in-Ok g c =
-    text-ok place_text (mark c.args.session.now) c.in-Ok.place _ _ _ c.in-Ok.ensures c.write_place.ensures
+    text-ok place_text (mark c.args.session.now) c.in-Ok.place _ _ _ c.in-Ok.ensures.place c.write_place.ensures

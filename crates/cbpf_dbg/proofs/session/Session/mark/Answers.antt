@@ -1,7 +1,14 @@
-use Rattle.std.proofs.Common.{rules}
+use Rattle.std.proofs.Common.{rules, refl}
 use Rattle.cbpf_dbg.specs.Commands.{mark}
+use Rattle.cbpf_dbg.proofs.ResumeLemmas.{resumable}
 use Rattle.cbpf_dbg.proofs.session.Session.mark.Goals as goal
 
-pub returns : goal.returns
+pub returns-clause-place : goal.returns-clause-place
 unfolding mark
-returns g c = search rules
+returns-clause-place g c = search rules
+
+pub returns-clause-resumable : goal.returns-clause-resumable
+returns-clause-resumable g c =
+    resumable (λ xs. g.T.Trail.stands_for c.self.inside.trail xs) c.self.inside.program c.self.inside.values c.self.inside.capture c.self.inside.cursor
+    c.args.self.now c.self.invariant.0 (rw (← c.self.view_is) refl) (rw (← c.self.view_is) refl)
+    (rw (← c.self.view_is) refl) (search rules) (search rules)
