@@ -15,6 +15,9 @@ crates/*/must-fail/README.md. Each is read outside its blocks of code, and names
                    that its row names
   an edit          in the first column of a table of must-fail/README.md: its file is there, and each of its `old:` texts
                    stands once where it says. Each edit has one row, whose function and clause are there
+  a definition     of a file specs/: it is reached from the clauses of public functions, traits and models, or its row of
+                   docs/DEFINITIONS.md says that only private functions cite it, or docs/ARCHITECTURE.md has its file in
+                   the column `only for the crate`; and something cites it
   a call           in a block ```calls of docs/ARCHITECTURE.md: the function stands in the line's file
 The last line is `N names, M failed`.
 """
@@ -330,6 +333,192 @@ def check_calls(path):
             for name in filter(None, called):
                 check(name in known, path, number, f"no function {name} in {file}")
 
+# A word of the definitions, and the head of one.
+SPEC_WORD = re.compile(r"[^\s(){}\[\],;]+")
+SPEC_HEAD = re.compile(r"(?:abbrev |unfoldable )*(?:pub )?(?:(?:data|record) (\S+)|([^\s:(){}]+) :)")
+IMPORT = re.compile(r"^ *(?:ghost )?(?:pub )?use Rattle\.(\w+)\.specs\.(\w+)((?:\.\w+)*)(?:\.\{([^}]*)\}| as (\w+));?$", re.M)
+FOR_PRIVATE = re.compile(r"[Nn]o public clause (?:cites|names) (?:it|them)|cited only by (?:a )?private function")
+ONLY_PRIVATE = re.compile(r"[Oo]nly private functions cite ((?:these\b|them\b|it\b|`\w+`|[ ,]|and\b)+)")
+
+
+@cache
+def spec_items(path):
+    """The definitions of a file: for each its text, and for each name (a constructor's too) whose it is."""
+    texts, owner, item = {}, {}, None
+    for line in re.sub(r"^\s*--.*$", "", text_of(path), flags=re.M).splitlines():
+        if match := SPEC_HEAD.match(line):
+            item = match[1] or match[2]
+            owner[item] = item
+        elif item and (match := re.match(r"  (?:pub )?([^\s:(){}]+) :", line)):
+            owner.setdefault(match[1], item)
+        if item and not line.startswith("use "):
+            texts[item] = texts.get(item, "") + line + "\n"
+    return texts, owner
+
+
+@cache
+def spec_files():
+    return {(path.parent.parent.name, path.stem): path for path in sorted(CRATES.glob("*/specs/*.antt"))}
+
+
+@cache
+def imported(path):
+    """What the names of a file stand for: a definition of a file of definitions, or such a file by another name."""
+    single, files = {}, {}
+    for crate, module, inner, several, alias in IMPORT.findall(text_of(path)):
+        if (crate, module) not in spec_files():
+            continue
+        owner = spec_items(spec_files()[crate, module])[1]
+        inside = inner.lstrip(".").split(".")[0]
+        for name in filter(None, (name.strip() for name in several.split(","))):
+            name, _, new = name.partition(" as ")
+            item = owner.get(inside or name)
+            if item:
+                single[new or name] = (crate, module, item)
+        if alias and inside:
+            single[alias] = (crate, module, owner.get(inside))
+        elif alias:
+            files[alias] = (crate, module)
+    return single, files
+
+
+def cited_in(text, path):
+    """The definitions that some text of a file names."""
+    single, files = imported(path)
+    here = (path.parent.parent.name, path.stem)
+    own = spec_items(path)[1] if here in spec_files() else {}
+    found = set()
+    for word in SPEC_WORD.findall(text):
+        head, _, rest = word.lstrip("¬λ").partition(".")
+        if head in files and rest:
+            crate, module = files[head]
+            item = spec_items(spec_files()[crate, module])[1].get(rest.split(".")[0])
+            found |= {(crate, module, item)} if item else set()
+        elif head in own:
+            found.add((*here, own[head]))
+        elif head in single:
+            found.add(single[head])
+    return found
+
+
+def all_reached(start):
+    reached, left = set(), set(start)
+    while left:
+        crate, module, item = one = left.pop()
+        if one not in reached and item:
+            reached.add(one)
+            path = spec_files()[crate, module]
+            left |= cited_in(spec_items(path)[0][item], path)
+    return reached
+
+
+def public_clauses(path):
+    """The clauses of public functions, and of all that stands in public traits and impl blocks of traits."""
+    public, within, found, inside = False, False, [], None
+    for line in re.sub(r"//.*", "", text_of(path)).splitlines():
+        if re.match(r"(?:pub )?trait |(?:unsafe )?impl\b|[})]", line):
+            within = re.match(r"pub trait |(?:unsafe )?impl\b.* for ", line) is not None
+        if match := re.match(r"\s*(pub )?(?:const )?fn |\s*(pub\(crate\) )fn ", line):
+            public = bool(match[1]) or (within and not match[2])
+            inside = None
+        if match := re.match(r"\s*(ensures|requires|ghost)\b(?! use)(?! invariant)", line):
+            inside = within if match[1] == "ghost" else public
+        elif re.match(r"\s*(?:\{|\}|ghost invariant)", line):
+            inside = None
+        if inside:
+            found.append(line)
+    return "\n".join(found)
+
+
+def marked_private(text, names):
+    """Of the names of a row, those which it says that only private functions cite."""
+    if FOR_PRIVATE.search(text):
+        return set(names)
+    found = set()
+    for said in ONLY_PRIVATE.findall(text):
+        found |= set(CODE_SPAN.findall(said)) or set(names)
+    return found
+
+
+def described(path):
+    """The definitions that docs/DEFINITIONS.md explains: line, name, file, and whether only for private functions."""
+    rows, seen = [], None
+    for number, heading, head, cells in tables(path):
+        if heading != seen:
+            files, seen = [], heading
+        if head[-1].startswith("file"):
+            files = definition_files(cells[-1], files, crates_in(" ".join(head)) or crates_in(heading))
+            names = [name.split()[0] for name in CODE_SPAN.findall(cells[0])]
+            rows.append((number, names, files, " ".join(cells)))
+    own, files = [], []
+    for number, line in lines_of(path):
+        if line.startswith("#"):
+            own, files = crates_in(line), []
+        elif own and (match := re.match(r"- (.+?) \(([^)]*)\)", line)):
+            files = definition_files(match[2], files, own)
+            rows.append((number, re.findall(r"\w+", match[1]), files, line))
+    for number, names, files, text in rows:
+        private = marked_private(text, names)
+        for name in [*names, *(private - set(names))]:
+            for file in files:
+                if name in spec_items(file)[1]:
+                    item = spec_items(file)[1][name]
+                    yield number, (file.parent.parent.name, file.stem, item), name in private
+
+
+@cache
+def reached():
+    """All definitions that the clauses of public functions, traits and models name, or that those rest on."""
+    found = set()
+    for source in sorted(CRATES.glob("*/src/**/*.rt")):
+        found |= cited_in(public_clauses(source), source)
+    return all_reached(found)
+
+
+@cache
+def cited_anywhere():
+    """All definitions that some code, proof or other definition names."""
+    found = set()
+    for path in all_paths():
+        if path.suffix == ".rt" or (path.suffix == ".antt" and path not in spec_files().values()):
+            found |= cited_in(re.sub(r"(?m)(?://|--).*|^ *(?:ghost )?use .*", "", text_of(path)), path)
+    for (crate, module), path in spec_files().items():
+        for item, text in spec_items(path)[0].items():
+            found |= cited_in(text, path) - {(crate, module, item)}
+    return found
+
+
+def own_files(path):
+    """The files in the column `only for the crate` of docs/ARCHITECTURE.md: line, crate, module."""
+    for number, _, head, cells in tables(path):
+        if head[-1] == "only for the crate":
+            for module in re.findall(r"specs/(\w+)\.antt", cells[-1]):
+                yield number, crates_in(cells[0])[0], module
+
+
+def check_own_files(path):
+    for number, crate, module in own_files(path):
+        named = sorted(item for c, m, item in reached() if (c, m) == (crate, module))
+        check(not named, path, number, f"a public clause reaches {', '.join(named)} of {crate}/specs/{module}.antt")
+
+
+def check_reached(path):
+    marked = set()
+    for number, one, private in described(path):
+        name = f"{one[2]} of {one[0]}/specs/{one[1]}.antt"
+        marked |= {one} if private else set()
+        if private:
+            check(one not in reached(), path, number, f"a public clause reaches {name}")
+        else:
+            check(one in reached(), path, number, f"no public clause reaches {name}, and the page doesn't say so")
+    own = {(crate, module) for _, crate, module in own_files(path.parent / "ARCHITECTURE.md")}
+    for (crate, module), file in spec_files().items():
+        for item in spec_items(file)[0]:
+            one = (crate, module, item)
+            check(one in cited_anywhere(), file, 1, f"nothing cites {item}")
+            known = one in reached() or one in marked or (crate, module) in own
+            check(known, file, 1, f"no public clause reaches {item}, and no document says so")
+
 
 def main():
     documents = [TOP / "README.md", TOP / "CONTRIBUTING.md"]
@@ -342,6 +531,9 @@ def main():
             check_promises(path)
         if path.name == "DEFINITIONS.md":
             check_definitions(path)
+            check_reached(path)
+        if path.name == "ARCHITECTURE.md":
+            check_own_files(path)
         if path.parent.name == "must-fail":
             check_edits(path)
     for folder in sorted(CRATES.glob("*/must-fail")):

@@ -12,7 +12,8 @@ use Rattle.pcap_classic.specs.Records.{Record}
 use Rattle.cbpf_reply.specs.declared.reply.Place.{Place}
 use Rattle.cbpf_reply.specs.declared.reply.Stop.{Stop}
 use Rattle.cbpf_reply.specs.declared.reply.Why.TheVariants as why
-use Rattle.cbpf_dbg.specs.Joined.{Entry, entries_from, packet_entries, joined_from, joined, is_after, is_hit, stop_at}
+use Rattle.cbpf_reply.specs.Places.{is_after}
+use Rattle.cbpf_dbg.specs.Joined.{Entry, entries_from, packet_entries, joined_from, joined, is_hit, stop_at}
 use Rattle.cbpf_dbg.specs.Joined.{stops}
 use Rattle.cbpf_dbg.specs.Laws.{Rises, EntriesRise, HitsRise, RestRises}
 use Rattle.cbpf_dbg.proofs.JoinedLemmas.{entry}

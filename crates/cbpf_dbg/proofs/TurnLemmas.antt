@@ -17,9 +17,10 @@ use Rattle.pcap_classic.specs.Savefile.{Savefile}
 use Rattle.cbpf_reply.specs.declared.reply.Place.{Place}
 use Rattle.cbpf_reply.specs.declared.reply.RunReply.{RunReply}
 use Rattle.cbpf_reply.specs.declared.reply.RunReply.TheVariants.{Stopped, Limit, Finished}
+use Rattle.cbpf_reply.specs.Places.{is_after}
 use Rattle.cbpf_dbg.specs.declared.cursor.Cursor.{Cursor}
 use Rattle.cbpf_dbg.specs.Joined.{Entry, entries_from, packet_entries, joined_from, joined, ahead, rest, is_hit}
-use Rattle.cbpf_dbg.specs.Joined.{stop_at, is_after, turns_between, turns_to_end}
+use Rattle.cbpf_dbg.specs.Joined.{stop_at, turns_between, turns_to_end}
 use Rattle.cbpf_reply.specs.declared.reply.Why.TheVariants as why
 use Rattle.std.proofs.lemmas.List.{length-map}
 use Rattle.cbpf_dbg.specs.View.{View}

@@ -15,8 +15,9 @@ use Rattle.cbpf_reply.specs.declared.reply.RunReply.TheVariants.{Stopped, Finish
 use Rattle.cbpf_reply.specs.declared.reply.SessionFault.{SessionFault}
 use Rattle.cbpf_reply.specs.declared.reply.Counts.{Counts}
 use Rattle.cbpf_reply.specs.declared.reply.Why.TheVariants as why
+use Rattle.cbpf_reply.specs.Places.{is_after}
 use Rattle.cbpf_dbg.specs.Joined.{stops as every_hit}
-use Rattle.cbpf_dbg.specs.Joined.{Entry, joined, joined_from, ahead, rest, is_hit, stop_at, is_after, turns_between}
+use Rattle.cbpf_dbg.specs.Joined.{Entry, joined, joined_from, ahead, rest, is_hit, stop_at, turns_between}
 use Rattle.cbpf_dbg.specs.Joined.{turns_to_end, counts}
 use Rattle.cbpf_dbg.specs.Cursor.{NotBefore}
 use Rattle.cbpf_dbg.specs.View.{View, start}

@@ -17,6 +17,7 @@ use Rattle.cbpf_reply.specs.declared.reply.Stop.{Stop}
 use Rattle.cbpf_reply.specs.declared.reply.Why.{Why}
 use Rattle.cbpf_reply.specs.declared.reply.Why.TheVariants as why
 use Rattle.cbpf_reply.specs.declared.reply.Counts.{Counts}
+use Rattle.cbpf_reply.specs.Places.{is_after}
 use Rattle.cbpf_dbg.specs.Breakpoints.{Breakpoints, carries}
 
 -- an executed instruction: where it stands, the state before it, and what its turn gives
@@ -43,10 +44,6 @@ joined_from machine packet (r ∷ rest) = packet_entries machine r packet ++ joi
 -- the traces of all packets, in order
 unfoldable pub joined : Machine → List Record → List Entry
 joined machine capture = joined_from machine 1 capture
-
--- places are ordered by packet, then step
-abbrev pub is_after : Place → Place → Bool
-is_after a b = nat_lt a.packet b.packet || (nat_eq a.packet b.packet && nat_lt a.step b.step)
 
 -- the members of the joined list after a place
 abbrev pub ahead : Machine → List Record → Place → List Entry

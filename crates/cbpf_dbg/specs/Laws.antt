@@ -4,8 +4,9 @@ use Rattle.std.specs.List.{All}
 use Rattle.cbpf_machine.specs.Machine.{Machine}
 use Rattle.pcap_classic.specs.Records.{Record}
 use Rattle.cbpf_reply.specs.declared.reply.Place.{Place}
+use Rattle.cbpf_reply.specs.Places.{is_after}
 use Rattle.cbpf_dbg.specs.Breakpoints.{Breakpoints}
-use Rattle.cbpf_dbg.specs.Joined.{joined, stops, rest, is_after}
+use Rattle.cbpf_dbg.specs.Joined.{joined, stops, rest}
 
 -- each member of a list stands after all that come before it
 abbrev pub Rises : {X : Type 0} → (X → Place) → List X → Type 0

@@ -23,6 +23,6 @@ mod write_stop;
 
 pub use cbpf_machine::{ListTrail, MarkTrail, Meter, State, Trail};
 pub use cbpf_reply::{Counts, Place, RunReply, SessionFault, Stop, When, Why};
-pub use law::{place_order, rising_places};
+pub use law::rising_places;
 pub use session::Session;
 pub use stops::Stops;

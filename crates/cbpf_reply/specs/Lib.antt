@@ -10,3 +10,4 @@ pub mod Values
 pub mod Counts
 pub mod Breakpoints
 pub mod Stops
+pub mod Places

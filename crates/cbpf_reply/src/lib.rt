@@ -11,6 +11,7 @@ mod columns;
 mod counts;
 mod dump;
 mod errors;
+mod law;
 mod loads;
 mod numbers;
 mod packet;
@@ -28,6 +29,7 @@ pub use errors::{
     write_out_of_memory, write_unknown_command, write_unreadable, write_word_fault,
     write_wrong_arguments,
 };
+pub use law::place_order;
 pub use loads::{write_capture, write_program};
 pub use reply::{Counts, Place, RunReply, SessionFault, Stop, Why};
 pub use stops::{write_stop_line, write_total};

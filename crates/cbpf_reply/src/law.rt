@@ -1,0 +1,14 @@
+//! Laws of the definitions, which hold whatever a program does.
+
+ghost use Rattle.std.specs.Prelude.{◌≡◌, ◌↔◌, true};
+ghost use Rattle.std.specs.declared.cmp.Ordering.TheVariants.{Less, Equal};
+ghost use Rattle.cbpf_reply.specs.declared.reply.Place as declared_place;
+ghost use Rattle.cbpf_reply.specs.Places.{is_after};
+
+use crate::reply::Place;
+
+/// Places are ordered by the packet, then by the step, and two that are equal in order are the same.
+pub fn place_order()
+    ensures less { (a b : declared_place.Place) → (⟦<Place as Ord>⟧.cmp a b ≡ Less) ↔ (is_after a b ≡ true) }
+    ensures same { (a b : declared_place.Place) → (⟦<Place as Ord>⟧.cmp a b ≡ Equal) ↔ (b ≡ a) }
+{}
