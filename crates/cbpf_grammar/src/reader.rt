@@ -1,7 +1,7 @@
 //! What stands next in a text: labels and instructions, one after another.
 
 ghost use Rattle.std.specs.Prelude.{◌≡◌, ◌≤◌, ◌<◌, ◌+◌, ◌-◌, ℕ, List, [], true, false, length, map, drop, take, Some};
-ghost use Rattle.std.specs.Prelude.{None, IfOk, IfErr, IfSome, IfNone, OnOk, ◌≢◌};
+ghost use Rattle.std.specs.Prelude.{None, IfOk, IfErr, IfSome, IfNone, OnOk, OnErr, ◌≢◌};
 ghost use Rattle.cbpf_lex.specs.declared.token.LexFault.TheVariants.{Memory};
 ghost use Rattle.cbpf_lex.specs.declared.token.Token.{Token};
 ghost use Rattle.cbpf_lex.specs.Tokens.{Lexes, LexesTo, IsLexFault};
@@ -107,6 +107,8 @@ fn read_more<'a, A: Allocator>(
     ensures end { IfOk result (λ ended. ended ≡ true → lexer.new.at ≡ length text.now) }
     ensures fault { IfErr result (λ fault. (n : ℕ) →
         AreAhead text.now lexer.old.at n (map lexeme_of ahead.old.items) → IsLexFault text.now fault) }
+    ensures still { OnErr result (lexer.new.at ≡ lexer.old.at) }
+    ensures kept { take (length ahead.old.items) ahead.new.items ≡ ahead.old.items }
 {
     // A lexer of its own can stay in registers.
     let mut here = lexer.copied();
@@ -207,15 +209,22 @@ impl<'a, A: Allocator> Reader<'a, A> {
         ensures within { OnOk result (self.new.to ≤ length self.new.text) }
         ensures end { OnOk result (self.new.ended ≡ true → self.new.to ≡ length self.new.text) }
         ensures fault { IfErr result (λ fault. (n : ℕ) → IsReading n self.old → IsLexFault self.old.text fault) }
-        ensures same_end { IfErr result (λ _. self.new.ended ≡ self.old.ended) }
-        ensures same_text { IfErr result (λ _. self.new.text ≡ self.old.text) }
+        ensures same { OnErr result (self.new ≡ self.old) }
     {
         let rest = self.ahead.len() - self.at;
         self.ahead.copy_within(self.at.., 0);
         self.ahead.truncate(rest);
         self.at = 0;
-        self.ended = read_more(self.text, &mut self.lexer, &mut self.ahead)?;
-        Ok(())
+        match read_more(self.text, &mut self.lexer, &mut self.ahead) {
+            Ok(ended) => {
+                self.ended = ended;
+                Ok(())
+            }
+            Err(fault) => {
+                self.ahead.truncate(rest);
+                Err(fault)
+            }
+        }
     }
 
     /// What stands next, or `None` at the text's end.
@@ -223,7 +232,7 @@ impl<'a, A: Allocator> Reader<'a, A> {
     /// # Errors
     ///
     /// `At`: the first bad piece of the text, and its line. `Memory`: the allocator refused,
-    /// whatever the text is.
+    /// whatever the text is. The reader stays where it is, and another call tries again.
     pub fn step(&mut self) -> Result<Option<Step>, LexFault>
         ensures text { OnOk result (self.new.text ≡ self.old.text) }
         ensures reading { OnOk result ((n : ℕ) → IsReading n self.old → IsReading n self.new) }
@@ -236,8 +245,9 @@ impl<'a, A: Allocator> Reader<'a, A> {
         ensures end { IfOk result (λ step. step_len step ≡ length self.new.tokens → self.new.ended ≡ true) }
         ensures word { IfOk result (λ step. 0 < step_len step → StartsWithWord (map lexeme_of self.new.tokens)) }
         ensures fault { IfErr result (λ fault. (n : ℕ) → IsReading n self.old → IsLexFault self.old.text fault) }
-        ensures not_ended { IfErr result (λ _. self.new.ended ≡ false) }
-        ensures same_text { IfErr result (λ _. self.new.text ≡ self.old.text) }
+        ensures same_text { OnErr result (self.new.text ≡ self.old.text) }
+        ensures reads_on { OnErr result ((n : ℕ) → IsReading n self.old → IsReading n self.new) }
+        ensures not_ended { OnErr result (self.new.ended ≡ false) }
     {
         loop {
             let step = step_at(self.ahead());

@@ -124,7 +124,7 @@ pub load-failed : {V : Type 0} (items : V → List ℕ) (f g : Source) (m : View
 load-failed items f g m name Written e l h w =
     let k = subst (λ (x : LoadFault). Loads items f g name (Err x)) h l in (
       (kept-from items f g name (Err Device) k, k.rises),
-      λ t. capture-unread m f.files f.failures g.failures name Written k.counts w,
+      λ t. capture-unread m f.files f.failures g.failures name Written (k.rises, k.counts) w,
     )
 
 pub load-unheld : {V : Type 0} (items : V → List ℕ) (f g : Source) (m : View) (name : List ℕ)

@@ -1,6 +1,6 @@
 -- What a line of a script replies, and the view of the session after it.
-use Rattle.std.specs.Prelude.{◌≡◌, ◌≤◌, ◌+◌, ◌-◌, ◌^◌, ◌⊎◌, min, ℕ, List, [], Option, Some, None, Result, Ok, Err, IsOk, nat_eq}
-use Rattle.std.specs.Prelude.{length}
+use Rattle.std.specs.Prelude.{◌≡◌, ◌≤◌, ◌+◌, ◌-◌, ◌^◌, ◌⊎◌, min, ℕ, List, [], length, Option, Some, None}
+use Rattle.std.specs.Prelude.{Result, Ok, Err, IsOk, nat_eq}
 use Rattle.std.specs.FinMap as map
 use Rattle.std.specs.Map.{lookup}
 use Rattle.cbpf_code.specs.WordText.{Spells, Refused}
@@ -55,11 +55,11 @@ abbrev pub LoadsCapture : View → View → Option (List ℕ) → (List ℕ → 
 LoadsCapture m n None Written = Writes (absent_text, m) n Written
 LoadsCapture m n (Some bytes) Written = ReadsCapture m n bytes Written
 
--- one failure was counted; the count stops at its greatest value
+-- one failure was counted, or the count stays at its greatest value
 abbrev pub Failed : ℕ → ℕ → Type 0
-Failed f g = g ≡ min (f + 1) (2 ^ 64 - 1)
+Failed f g = (f ≤ g) × (g ≡ min (f + 1) (2 ^ 64 - 1))
 
--- only the load of a capture may change the count of failures
+-- the count of failures never falls, and stays where a line does not load a capture
 abbrev pub KeepsCount : Result (Option Spelled) CommandFault → ℕ → ℕ → Type 0
 KeepsCount (Ok (Some (load_capture name))) f g = f ≤ g
 KeepsCount _ f g = g ≡ f

@@ -74,7 +74,7 @@ fn bytes_read<B: Allocator>(
 }
 
 /// All bytes of a file that is open, with room for so many at first.
-fn read_open<F: Read, B: Allocator>(
+fn read_all<F: Read, B: Allocator>(
     file: &mut F,
     alloc: B,
     room: usize,
@@ -104,7 +104,7 @@ fn read_opened<F: Read + OpenFile + Drop, B: Allocator>(
         Ok(file) => {
             let mut file = file;
             let room = room_for(&file);
-            read_open(&mut file, alloc, room)
+            read_all(&mut file, alloc, room)
         }
         Err(e) => Err(opening_fault(e.kind())),
     }

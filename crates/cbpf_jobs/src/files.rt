@@ -16,8 +16,8 @@ pub enum LoadFault {
 }
 
 /// A source of files by name. A load leaves the files as they are. Where the source says what it
-/// holds, a load gives the bytes of the name, and answers `Absent` only where there is no such name;
-/// `Device` comes only where the count of failures rises, or stands at its greatest value.
+/// holds, a load gives the bytes of the name, and answers `Absent` only where there is no such name.
+/// The count of failures rises by one at `Device`, up to its greatest value, and at nothing else.
 pub trait Files {
     /// The files, the count of failures, and whether the source says what it holds.
     ghost source: { Self → Source };

@@ -1,5 +1,5 @@
-use Rattle.std.proofs.Common.{◌∙◌, ◌∷◌, [], map, arith, length-append}
-use Rattle.std.proofs.lemmas.List.{map-append}
+use Rattle.std.proofs.Common.{◌∙◌, ◌∷◌, [], length, map, arith, length-append}
+use Rattle.std.proofs.lemmas.List.{map-append, take-append-le}
 use Rattle.std.proofs.lemmas.Result.{err_from_is_err_and}
 use Rattle.cbpf_lex.proofs.Cuts.{text_fault}
 use Rattle.cbpf_lex.specs.Reading.{IsNextToken}
@@ -33,4 +33,10 @@ loop-i-preserved g c =
       left = rw c.in_ok-push-in-Some.ensures.items
           (omega (arith, inv.left, next.farther, length-append c.loop-i.ahead.items (c.read_token.result ∷ [])));
       farther = omega (arith, inv.farther, next.farther);
+      long = rw c.in_ok-push-in-Some.ensures.items
+          (omega (arith, inv.long, length-append c.loop-i.ahead.items (c.read_token.result ∷ [])));
+      before = rw (
+        c.in_ok-push-in-Some.ensures.items,
+        take-append-le (length c.args.ahead.now.items) c.loop-i.ahead.items (c.read_token.result ∷ []) inv.long,
+      ) inv.before;
     }

@@ -1,4 +1,4 @@
-use Rattle.std.proofs.Common.{◌≡◌, ◌≤◌, ◌+◌, length, map}
+use Rattle.std.proofs.Common.{◌≡◌, ◌≤◌, ◌+◌, length, map, take}
 use Rattle.cbpf_grammar.specs.Reading.{ReadsOn}
 use Rattle.cbpf_grammar.specs.Views.{lexeme_of}
 use Rattle.cbpf_grammar.proofs.reader.read_more.Given as goal
@@ -12,4 +12,6 @@ invariant-loop-i g l = record {
       ReadsOn l.text l.initial.lexer.at l.here.at (map lexeme_of l.initial.ahead.items) (map lexeme_of l.ahead.items);
   left : l.initial.lexer.at + length l.ahead.items ≤ l.here.at + length l.initial.ahead.items;
   farther : l.initial.lexer.at + l.i ≤ l.here.at;
+  long : length l.initial.ahead.items ≤ length l.ahead.items;
+  before : take (length l.initial.ahead.items) l.ahead.items ≡ l.initial.ahead.items;
 }

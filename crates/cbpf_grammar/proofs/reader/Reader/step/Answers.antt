@@ -16,6 +16,11 @@ returns-in_err-fill-clause-fault g c =
     rw (p.1, p.2) (λ n r. subst (λ (t : List ℕ). IsLexFault t c.in_err-fill.field-0.0) inv.text
     (c.in_err-fill.ensures.fault n (inv.reading n r)))
 
+pub returns-in_err-fill-clause-reads_on : goal.returns-in_err-fill-clause-reads_on
+returns-in_err-fill-clause-reads_on g c =
+    let p = err_from_is_err_and c.from_residual.result c.from_residual.ensures.1 in
+    rw (p.1, p.2, c.in_err-fill.ensures.same) c.loop-self.invariant.reading
+
 pub loop-self-preserved : goal.loop-self-preserved
 loop-self-preserved g c =
     let inv = c.loop-self.invariant in
