@@ -336,7 +336,9 @@ def check_calls(path):
 # A word of the definitions, and the head of one.
 SPEC_WORD = re.compile(r"[^\s(){}\[\],;]+")
 SPEC_HEAD = re.compile(r"(?:abbrev |unfoldable )*(?:pub )?(?:(?:data|record) (\S+)|([^\s:(){}]+) :)")
-IMPORT = re.compile(r"^ *(?:ghost )?(?:pub )?use Rattle\.(\w+)\.specs\.(\w+)((?:\.\w+)*)(?:\.\{([^}]*)\}| as (\w+));?$", re.M)
+IMPORT = re.compile(
+    r"^ *(?:ghost )?(?:pub )?use Rattle\.(\w+)\.specs\.(\w+)((?:\.\w+)*)(?:\.\{([^}]*)\}| as (\w+));?$", re.M
+)
 FOR_PRIVATE = re.compile(r"[Nn]o public clause (?:cites|names) (?:it|them)|cited only by (?:a )?private function")
 ONLY_PRIVATE = re.compile(r"[Oo]nly private functions cite ((?:these\b|them\b|it\b|`\w+`|[ ,]|and\b)+)")
 

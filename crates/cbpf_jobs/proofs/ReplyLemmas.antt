@@ -109,6 +109,10 @@ kept-from items f g name r h = record { files = h.same_files; is_known = h.same_
 pub kept-same : (f : Source) → Kept f f
 kept-same f = record { files = refl; is_known = refl; rises = le_refl f.failures }
 
+-- a line that loads no file leaves the files and the count
+pub stays : (f : Source) → Kept f f × (f.failures ≡ f.failures)
+stays f = (kept-same f, refl)
+
 pub load-absent : {V : Type 0} (items : V → List ℕ) (f g : Source) (m : View) (name : List ℕ)
     (Written : List ℕ → Type 0) (e : LoadFault)
     → Loads items f g name (Err e) → e ≡ Absent → Written absent_text → CommandRan f g m m (load_capture name) Written

@@ -12,8 +12,8 @@ pub data Output (files : FileMap) : View → ℕ → List (List ℕ) → List �
   at_quit : {m : View} {f : ℕ} (l : List ℕ) (ls : List (List ℕ)) → command_of l ≡ Ok (Some quit)
       → Output files m f (l ∷ ls) [] f
   at_line : {m n : View} {f g h : ℕ} {rest : List ℕ} {ls : List (List ℕ)} (l text : List ℕ)
-      → LineReplies files m n f g (command_of l) (λ t. t ≡ text) → KeepsCount (command_of l) f g → Output files n g ls rest h
-      → Output files m f (l ∷ ls) (text ++ rest) h
+      → LineReplies files m n f g (command_of l) (λ t. t ≡ text) → KeepsCount (command_of l) f g
+      → Output files n g ls rest h → Output files m f (l ∷ ls) (text ++ rest) h
 
 -- one of the lines is `quit`
 abbrev pub HasQuit : List (List ℕ) → Type 0

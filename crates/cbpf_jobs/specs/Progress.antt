@@ -49,7 +49,8 @@ EachPlain (l ∷ ls) = (has_newline l ≡ false) × EachPlain ls
 pub data LinesRan (files : FileMap) : View → ℕ → List (List ℕ) → List ℕ → View → ℕ → Type 0 where
   still : {m : View} {f : ℕ} → LinesRan files m f [] [] m f
   onward : {m n p : View} {f g h : ℕ} {ls : List (List ℕ)} {t : List ℕ} (l u : List ℕ) → LinesRan files m f ls t n g
-      → LineReplies files n p g h (command_of l) (λ s. s ≡ u) → KeepsCount (command_of l) g h → LinesRan files m f (ls ++ l ∷ []) (t ++ u) p h
+      → LineReplies files n p g h (command_of l) (λ s. s ≡ u) → KeepsCount (command_of l) g h
+      → LinesRan files m f (ls ++ l ∷ []) (t ++ u) p h
 
 pub record Progress (script pending : List ℕ) (left old new : Option (List ℕ)) (f g : Source) (m : View) :
     Type 0 where

@@ -1,11 +1,11 @@
-use Rattle.std.proofs.Common.{◌≡◌, List, ℕ, [], refl, Ok, Err, Some, None}
+use Rattle.std.proofs.Common.{◌≡◌, List, ℕ, [], Ok, Err, Some, None}
 use Rattle.cbpf_code.specs.Writing.{Appended, AppendedPart}
 use Rattle.cbpf_code.proofs.WrittenLemmas.{appended-nil}
 use Rattle.cbpf_command.specs.declared.command.CommandFault.TheVariants.{UnknownCommand, WrongArguments}
 use Rattle.cbpf_command.specs.Commands.{command_of, meaning}
 use Rattle.cbpf_reply.specs.Errors.{unknown_command_text, wrong_arguments_text}
 use Rattle.cbpf_jobs.specs.declared.debugger.AfterLine.TheVariants.{NextLine}
-use Rattle.cbpf_jobs.proofs.ReplyLemmas.{line-err, line-spelled, kept-same, writes-same}
+use Rattle.cbpf_jobs.proofs.ReplyLemmas.{line-err, line-spelled, stays, writes-same}
 use Rattle.cbpf_jobs.proofs.debugger.run_line.Goals as goal
 
 pub returns-in-Ok-None : goal.returns-in-Ok-None
@@ -15,7 +15,7 @@ returns-in-Ok-None g c =
     let w0 = g.W.Write.contents c.args.w.now in
     line-spelled f f m m (Ok None) (command_of c.args.line.now) w0 w0 (Ok NextLine)
     (rw c.in-Ok-None.field-0-is at (c.in-Ok-None.ensures {u = tt}))
-    ((kept-same f, refl), λ t. writes-same [] m (λ (s : List ℕ). Appended w0 w0 s) (appended-nil w0))
+    (stays f, λ t. writes-same [] m (λ (s : List ℕ). Appended w0 w0 s) (appended-nil w0))
 
 pub returns-in-Ok-Some : goal.returns-in-Ok-Some
 returns-in-Ok-Some g c = line-spelled _ _ _ _ (Ok (Some (meaning c.in-Ok-Some.command))) _ _ _ c.act.result
@@ -31,7 +31,7 @@ returns-in_err-write_unknown_command-in-Err-UnknownCommand g c =
     let spelled : Err UnknownCommand ≡ command_of c.args.line.now =
     rw c.in-Err-UnknownCommand.field-0-is at (c.in-Err-UnknownCommand.ensures {u = tt}) in
     line-spelled f f m m (Err UnknownCommand) (command_of c.args.line.now) w0 w1 c.from_residual.result spelled (
-      (kept-same f, refl),
+      stays f,
       λ t. line-err f.files m m f.failures f.failures (Err UnknownCommand) w0 w1 c.from_residual.result
           c.from_residual.ensures.0 (writes-same unknown_command_text m (λ (s : List ℕ). AppendedPart w0 w1 s)
           (c.in_err-write_unknown_command-in-Err-UnknownCommand.ensures {u = tt})),
@@ -47,7 +47,7 @@ returns-in_ok-write_unknown_command-in-Err-UnknownCommand g c =
     let spelled : Err UnknownCommand ≡ command_of c.args.line.now =
     rw c.in-Err-UnknownCommand.field-0-is at (c.in-Err-UnknownCommand.ensures {u = tt}) in
     line-spelled f f m m (Err UnknownCommand) (command_of c.args.line.now) w0 w1 (Ok NextLine) spelled (
-      (kept-same f, refl),
+      stays f,
       λ t. writes-same unknown_command_text m (λ (s : List ℕ). Appended w0 w1 s)
           (c.in_ok-write_unknown_command-in-Err-UnknownCommand.ensures {u = tt}),
     )
@@ -63,7 +63,7 @@ returns-in_err-write_wrong_arguments-in-Err-WrongArguments g c =
     rw c.in-Err-WrongArguments.field-0-is at (c.in-Err-WrongArguments.ensures {u = tt}) in
     line-spelled f f m m (Err WrongArguments) (command_of c.args.line.now) w0 w1
     c.from_residual-in_err-write_wrong_arguments-in-Err-WrongArguments.result spelled (
-      (kept-same f, refl),
+      stays f,
       λ t. line-err f.files m m f.failures f.failures (Err WrongArguments) w0 w1
           c.from_residual-in_err-write_wrong_arguments-in-Err-WrongArguments.result
           c.from_residual-in_err-write_wrong_arguments-in-Err-WrongArguments.ensures.0
@@ -81,7 +81,7 @@ returns-in_ok-write_wrong_arguments-in-Err-WrongArguments g c =
     let spelled : Err WrongArguments ≡ command_of c.args.line.now =
     rw c.in-Err-WrongArguments.field-0-is at (c.in-Err-WrongArguments.ensures {u = tt}) in
     line-spelled f f m m (Err WrongArguments) (command_of c.args.line.now) w0 w1 (Ok NextLine) spelled (
-      (kept-same f, refl),
+      stays f,
       λ t. writes-same wrong_arguments_text m (λ (s : List ℕ). Appended w0 w1 s)
           (c.in_ok-write_wrong_arguments-in-Err-WrongArguments.ensures {u = tt}),
     )

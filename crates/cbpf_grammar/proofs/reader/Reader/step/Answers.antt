@@ -2,7 +2,7 @@ use Rattle.std.proofs.Common.{ℕ, ◌∙◌, sym, ap, subst, map, arith, List}
 use Rattle.std.proofs.lemmas.Result.{err_from_is_err_and}
 use Rattle.std.proofs.lemmas.List.{length-map}
 use Rattle.cbpf_lex.specs.Tokens.{IsLexFault}
-use Rattle.cbpf_grammar.specs.Reading.{Ahead, IsStepOf}
+use Rattle.cbpf_grammar.specs.Reading.{Ahead, IsReading, IsStepOf}
 use Rattle.cbpf_grammar.specs.Views.{lexeme_of}
 use Rattle.cbpf_grammar.proofs.Taking.{ahead_is, step_more, step_all}
 use Rattle.cbpf_grammar.proofs.reader.Reader.step.Goals.{then-self-via-then-self}
@@ -19,7 +19,8 @@ returns-in_err-fill-clause-fault g c =
 pub returns-in_err-fill-clause-reads_on : goal.returns-in_err-fill-clause-reads_on
 returns-in_err-fill-clause-reads_on g c =
     let p = err_from_is_err_and c.from_residual.result c.from_residual.ensures.1 in
-    rw (p.1, p.2, c.in_err-fill.ensures.same) c.loop-self.invariant.reading
+    let inv = c.loop-self.invariant in
+    rw p.1 (λ n r. subst (λ (a : Ahead). IsReading n a) (sym c.in_err-fill.ensures.same) (inv.reading n r))
 
 pub loop-self-preserved : goal.loop-self-preserved
 loop-self-preserved g c =
