@@ -1,3 +1,4 @@
+pub mod AnswerLaws
 pub mod FaultLemmas
 pub mod FirstFaultLemmas
 pub mod HexLemmas

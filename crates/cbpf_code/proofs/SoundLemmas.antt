@@ -20,7 +20,7 @@ use Rattle.cbpf_code.proofs.PathLemmas.{follows-inside}
 pub sound_few : (list : List Insn) → IsSound list → length list ≤ 4096
 sound_few list sound = elim (cases_lt 4096 (length list)) [ inl h ↦ absurd (sound.none TooMany h) | inr h ↦ h ]
 
-known_or : (o : Option Op) → (o ≡ None) ⊎ ((op : Op) × (o ≡ Some op))
+pub known_or : (o : Option Op) → (o ≡ None) ⊎ ((op : Op) × (o ≡ Some op))
 known_or None = inl refl
 known_or (Some op) = inr (op, refl)
 
@@ -77,7 +77,7 @@ sound_some list sound = elim (cases_eq (length list) 0) [
   | inr n ↦ omega arith
 ]
 
-returns_or : (o : Option Op) → (((o ≡ Some RetK) ⊎ (o ≡ Some RetA)) → ⊥) ⊎ ((o ≡ Some RetK) ⊎ (o ≡ Some RetA))
+pub returns_or : (o : Option Op) → (((o ≡ Some RetK) ⊎ (o ≡ Some RetA)) → ⊥) ⊎ ((o ≡ Some RetK) ⊎ (o ≡ Some RetA))
 returns_or (Some RetK) = inr (inl refl)
 returns_or (Some RetA) = inr (inr refl)
 returns_or _ = inl (λ h. elim h [ inl e ↦ absurd (cc) | inr e ↦ absurd (cc) ])

@@ -3,6 +3,7 @@ pub mod CheckSteps
 pub mod ControlFlow
 pub mod Extension
 pub mod Faults
+pub mod Laws
 pub mod WordTokens
 pub mod NextToken
 pub mod Opcode

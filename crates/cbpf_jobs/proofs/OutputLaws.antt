@@ -1,9 +1,10 @@
 -- Laws of the output of a script.
 use Rattle.std.proofs.Common.{◌≡◌, ℕ, length, List, [], ◌∷◌, ◌++◌, Option, Some, None, Result, Ok, Err, ◌⊎◌, inl, inr}
-use Rattle.std.proofs.Common.{refl, sym, ◌∙◌, ap, subst, append_assoc}
+use Rattle.std.proofs.Common.{arith, refl, sym, ◌∙◌, ap, subst, append_assoc}
 use Rattle.std.specs.FinMap as map
 use Rattle.cbpf_code.proofs.WordAnswerLemmas.{spells-once, spells-not_refused, refused-once}
 use Rattle.cbpf_code.proofs.FirstFaultLemmas.{first_fault-unique}
+use Rattle.cbpf_code.proofs.AnswerLaws.{each_text_is_read, each_list_is_checked}
 use Rattle.cbpf_code.specs.declared.insn.Insn.{Insn}
 use Rattle.cbpf_command.specs.Commands.{Spelled, load_words, load_capture, run, disassemble, dump, breakpoint}
 use Rattle.cbpf_command.specs.Commands.{breakpoint_when_a, breakpoint_when_x, breakpoints, reset_breakpoints, delete}
@@ -11,17 +12,20 @@ use Rattle.cbpf_command.specs.Commands.{step, select, mark, resume, stops, value
 use Rattle.cbpf_command.specs.declared.command.CommandFault.{CommandFault}
 use Rattle.cbpf_command.specs.declared.command.CommandFault.TheVariants.{UnknownCommand, WrongArguments}
 use Rattle.cbpf_dbg.specs.View.{View}
-use Rattle.pcap_classic.specs.Savefile.{Savefile}
+use Rattle.pcap_classic.specs.Savefile.{Savefile, IsSavefile, IsRefusal}
+use Rattle.pcap_classic.specs.declared.fault.CaptureFault.{CaptureFault}
+use Rattle.pcap_classic.specs.declared.fault.CaptureFault.TheVariants as capture_fault
 use Rattle.pcap_classic.proofs.SavefileLemmas as captures
 use Rattle.cbpf_jobs.specs.FileMap.{FileMap}
 use Rattle.cbpf_jobs.specs.Output.{at_end, at_quit, at_line}
 use Rattle.cbpf_jobs.specs.Replies.{Writes, LoadsWords, unreadable, unsound, accepted, ReadsCapture, no_capture}
-use Rattle.cbpf_jobs.specs.Replies.{a_capture, LoadsCapture, CommandReplies, LineReplies}
+use Rattle.cbpf_jobs.specs.Replies.{a_capture, LoadsCapture, KeepsCount, CommandReplies, LineReplies}
 use Rattle.cbpf_reply.specs.Errors.{memory_text, device_text, word_fault_text, check_fault_text, capture_fault_text}
+use Rattle.cbpf_reply.specs.Errors.{absent_text}
 use Rattle.cbpf_reply.specs.Loads.{program_text, capture_text}
 use Rattle.cbpf_dbg.specs.Commands.{with_program_loaded, with_capture_loaded}
 use Rattle.cbpf_jobs.specs.Laws.{OwnReply, OwnLineReply, OwnOutput, own_end, own_quit, own_line, Stands, OneOutput}
-use Rattle.cbpf_jobs.specs.Laws.{NoOther}
+use Rattle.cbpf_jobs.specs.Laws.{NoOther, HasOutput, OwnIsOutput}
 
 -- two replies with the text that each has
 abbrev Same : View → View → List ℕ → List ℕ → Type 0
@@ -125,6 +129,104 @@ one_output files m (l ∷ ls) t u (own_line {n = n} {rest = rest} _ text r o)
     let tail : rest' ≡ rest =
     one_output files n ls rest rest' o (subst (λ v. OwnOutput files v ls rest') same.0 o') in
     ap (λ (x : List ℕ). x ++ rest') same.1 ∙ ap (λ (x : List ℕ). text ++ x) tail
+
+-- ---- there is one, and it is one of the outputs
+
+-- a reply of some kind, and the view after it
+abbrev SomeReply : (View → List ℕ → Type 0) → Type 0
+SomeReply Replies = (n : View) × (t : List ℕ) × Replies n t
+
+some-writes : (reply : List ℕ × View) → SomeReply (λ n t. Writes reply n (λ s. s ≡ t))
+unfolding Writes
+some-writes reply = (reply.1, reply.0, (refl, refl))
+
+some-words : (m : View) (text : List ℕ) → SomeReply (λ n t. LoadsWords m n text (λ s. s ≡ t))
+some-words m text =
+    elim (each_text_is_read text) [
+      | inl read ↦ elim (each_list_is_checked read.0) [
+        | inl sound ↦
+            let w = some-writes (program_text (length read.0), with_program_loaded m read.0) in
+            (w.0, w.1, accepted read.0 read.1 sound w.2)
+        | inr first ↦
+            let w = some-writes (check_fault_text first.0, m) in
+            (w.0, w.1, unsound read.0 first.0 read.1 first.1 w.2)
+      ]
+      | inr refused ↦
+          let w = some-writes (word_fault_text refused.0, m) in
+          (w.0, w.1, unreadable refused.0 refused.2 refused.1 w.2)
+    ]
+
+some-reads : (m : View) (bytes : List ℕ) → SomeReply (λ n t. ReadsCapture m n bytes (λ s. s ≡ t))
+some-reads m bytes = elim (captures.has_answer bytes) [
+  | inl held ↦ capture held.0 held.1
+  | inr refused ↦ by refused.0 refused.1
+]
+  where
+    capture : (c : Savefile) → IsSavefile bytes c → SomeReply (λ n t. ReadsCapture m n bytes (λ s. s ≡ t))
+    capture c is =
+        let w = some-writes (capture_text c, with_capture_loaded m c) in
+        (w.0, w.1, a_capture c is w.2)
+
+    by : (e : CaptureFault) → IsRefusal e bytes → SomeReply (λ n t. ReadsCapture m n bytes (λ s. s ≡ t))
+    by capture_fault.Memory r = capture r.0 r.1
+    by e r = let w = some-writes (capture_fault_text e, m) in (w.0, w.1, no_capture e r (λ z. cc) w.2)
+
+some-capture : (m : View) (bytes : Option (List ℕ)) → SomeReply (λ n t. LoadsCapture m n bytes (λ s. s ≡ t))
+some-capture m None = some-writes (absent_text, m)
+some-capture m (Some bytes) = some-reads m bytes
+
+own-some : (files : FileMap) (m : View) (c : Spelled) → (c ≡ quit) ⊎ SomeReply (λ n t. OwnReply files m n c t)
+own-some files m (load_words text) = inr (some-words m text)
+own-some files m (load_capture name) = inr (some-capture m (map.get files name))
+own-some files m quit = inl refl
+own-some files m _ = inr (some-writes _)
+
+line-some : (files : FileMap) (m : View) (spelled : Result (Option Spelled) CommandFault)
+    → (spelled ≡ Ok (Some quit)) ⊎ SomeReply (λ n t. OwnLineReply files m n spelled t)
+line-some files m (Ok (Some c)) = elim (own-some files m c) [
+  | inl e ↦ inl (ap (λ (x : Spelled). Ok (Some x)) e)
+  | inr reply ↦ inr reply
+]
+line-some files m (Ok None) = inr (some-writes _)
+line-some files m (Err UnknownCommand) = inr (some-writes _)
+line-some files m (Err WrongArguments) = inr (some-writes _)
+
+pub has_output : HasOutput
+has_output files m [] = ([], own_end)
+has_output files m (l ∷ ls) =
+    elim (line-some files m (command_of l)) [
+      | inl is_quit ↦ ([], own_quit l ls is_quit)
+      | inr reply ↦
+          let rest = has_output files reply.0 ls in
+          (reply.1 ++ rest.0, own_line l reply.1 reply.2 rest.1)
+    ]
+
+command-of_own : (files : FileMap) (m n : View) (f : ℕ) (c : Spelled) (t : List ℕ) → OwnReply files m n c t
+    → CommandReplies files m n f f c (λ s. s ≡ t)
+command-of_own files m n f (load_words text) t h = inl h
+command-of_own files m n f (load_capture name) t h = inl (refl, h)
+command-of_own files m n f (breakpoint k) t h = inl h
+command-of_own files m n f (breakpoint_when_a k v) t h = inl h
+command-of_own files m n f (breakpoint_when_x k v) t h = inl h
+command-of_own files m n f _ t h = h
+
+line-of_own : (files : FileMap) (m n : View) (f : ℕ) (spelled : Result (Option Spelled) CommandFault) (t : List ℕ)
+    → OwnLineReply files m n spelled t → LineReplies files m n f f spelled (λ s. s ≡ t)
+line-of_own files m n f (Ok None) t h = h
+line-of_own files m n f (Ok (Some c)) t h = command-of_own files m n f c t h
+line-of_own files m n f (Err UnknownCommand) t h = h
+line-of_own files m n f (Err WrongArguments) t h = h
+
+count-kept : (spelled : Result (Option Spelled) CommandFault) (f : ℕ) → KeepsCount spelled f f
+count-kept (Ok (Some (load_capture name))) f = omega arith
+count-kept _ f = refl
+
+pub own_is_output : OwnIsOutput
+own_is_output files m f ls t own_end = at_end
+own_is_output files m f ls t (own_quit l more q) = at_quit l more q
+own_is_output files m f ls t (own_line {n = n} {rest = rest} {ls = more} l text r o) =
+    at_line l text (line-of_own files m n f (command_of l) text r) (count-kept (command_of l) f)
+    (own_is_output files n f more rest o)
 
 -- ---- an output in which neither of the two other replies stands
 

@@ -60,6 +60,15 @@ abbrev pub OneOutput : Type 0
 OneOutput = (files : FileMap) (m : View) (ls : List (List ℕ)) (t u : List ℕ) → OwnOutput files m ls t
     → OwnOutput files m ls u → u ≡ t
 
+-- some lines have an output
+abbrev pub HasOutput : Type 0
+HasOutput = (files : FileMap) (m : View) (ls : List (List ℕ)) → (t : List ℕ) × OwnOutput files m ls t
+
+-- it is one of their outputs, by which no failure is counted
+abbrev pub OwnIsOutput : Type 0
+OwnIsOutput = (files : FileMap) (m : View) (f : ℕ) (ls : List (List ℕ)) (t : List ℕ) → OwnOutput files m ls t
+    → Output files m f ls t f
+
 -- an output in which neither of the two other replies stands is that one
 abbrev pub NoOther : Type 0
 NoOther = (files : FileMap) (m : View) (f g : ℕ) (ls : List (List ℕ)) (t : List ℕ) → Output files m f ls t g

@@ -1,0 +1,355 @@
+-- Each text and each list has an answer. No axiom is used: what a definition says is decided by computing it.
+use Rattle.std.proofs.Common.{◌≡◌, ◌≢◌, ℕ, zero, suc, ◌+◌, ◌%◌, ◌<◌, ◌≤◌, Bool, true, false, List, [], ◌∷◌, length}
+use Rattle.std.proofs.Common.{arith, refl, sym, subst, inl, inr}
+use Rattle.std.specs.Prelude.{◌⊎◌, ◌==◌, if◌then◌else◌, Option, Some, None, IsTrue, slice_get, nat_lt}
+use Rattle.std.proofs.lemmas.Bool.{cases_eq, cases_lt}
+use Rattle.std.proofs.lemmas.Option.{slice_get_cases, slice_get_within}
+use Rattle.cbpf_code.specs.declared.insn.Insn.{Insn}
+use Rattle.cbpf_code.specs.declared.opcode.Op.{Op}
+use Rattle.cbpf_code.specs.declared.opcode.Op.TheVariants.{Ja, Jump, RetK, RetA}
+use Rattle.cbpf_code.specs.declared.checker.CheckFault.{CheckFault}
+use Rattle.cbpf_code.specs.declared.checker.CheckFault.TheVariants.{NoInstruction, TooMany, UnknownCode, NoSlot}
+use Rattle.cbpf_code.specs.declared.checker.CheckFault.TheVariants.{ZeroDivisor, WideShift, JumpOutside}
+use Rattle.cbpf_code.specs.declared.checker.CheckFault.TheVariants.{UnknownExtension, NoReturn, UnwrittenSlot}
+use Rattle.cbpf_code.specs.declared.words.WordFault.{WordFault}
+use Rattle.cbpf_code.specs.declared.words.WordFault.TheVariants.{Memory, NumberExpected, OutOfRange, UnexpectedByte}
+use Rattle.cbpf_code.specs.declared.words.WordFault.TheVariants.{CountDiffers, CommaExpected}
+use Rattle.cbpf_code.specs.Opcode.{op_of}
+use Rattle.cbpf_code.specs.Extension.{ext_at}
+use Rattle.cbpf_code.specs.ControlFlow.{InsnAt, FollowsCode, IsSuccessor, StoresSlot, MayBeUnwritten, loads_slot}
+use Rattle.cbpf_code.specs.ControlFlow.{stores_slot}
+use Rattle.cbpf_code.specs.ControlFlow.MayBeUnwritten.{at_start, onward}
+use Rattle.cbpf_code.specs.Faults.{HasFault, FirstFault, rank, index_of, NamesNoSlot, DividesByZero}
+use Rattle.cbpf_code.specs.Faults.{ShiftsTooFar, JumpsOutside, LoadsNoExtension, uses_slot, divides_by_k, shifts_by_k}
+use Rattle.cbpf_code.specs.Faults.{loads_absolute}
+use Rattle.cbpf_code.specs.Sound.{IsSound}
+use Rattle.cbpf_code.specs.CheckSteps.{PassesBefore, IsWellFormed, AllowedAt}
+use Rattle.cbpf_code.specs.WordTokens.{Token, run, single, tokens, number}
+use Rattle.cbpf_code.specs.WordText.{range_of, comma_fault, number_fault, token_fault, or_else, first_fault}
+use Rattle.cbpf_code.specs.WordText.{count_of, Loose, Spells, end_fault, Breaks, Refused}
+use Rattle.cbpf_code.specs.Laws.{EachTextIsRead, EachListIsChecked}
+use Rattle.cbpf_code.proofs.PathLemmas.{insn_at-same, reached-unwritten_at}
+use Rattle.cbpf_code.proofs.SoundLemmas.{known_or, returns_or}
+use Rattle.cbpf_code.proofs.FaultLemmas.{first_fault-insn, first_fault-at_end, first_fault-slot, passes_before-next}
+use Rattle.cbpf_code.proofs.FaultLemmas.{well_formed-at_end, sound_of}
+
+-- ---- what is decided
+
+abbrev Decided : Type 0 → Type 0
+Decided P = P ⊎ (P → ⊥)
+
+is_true : (b : Bool) → Decided (IsTrue b)
+is_true true = inl refl
+is_true false = inr (λ h. absurd (cc))
+
+at_most : (m n : ℕ) → Decided (m ≤ n)
+at_most m n = elim (cases_lt n m) [ inl h ↦ inr (λ le. omega arith) | inr h ↦ inl h ]
+
+both : {P Q : Type 0} → Decided P → Decided Q → Decided (P × Q)
+both (inl p) (inl q) = inl (p, q)
+both (inr n) d = inr (λ h. n h.0)
+both (inl p) (inr n) = inr (λ h. n h.1)
+
+either : {P Q : Type 0} → Decided P → Decided Q → Decided (P ⊎ Q)
+either (inl p) d = inl (inl p)
+either (inr n) (inl q) = inl (inr q)
+either (inr n) (inr m) = inr (λ h. elim h [ inl p ↦ n p | inr q ↦ m q ])
+
+-- the least number below n with a property, or that there is none
+least : (P : ℕ → Type 0) (n : ℕ) → ((j : ℕ) → j < n → Decided (P j))
+    → ((j : ℕ) × (j < n) × P j × ((h : ℕ) → h < j → P h → ⊥)) ⊎ ((j : ℕ) → j < n → P j → ⊥)
+least P zero decided = inr (λ j below h. omega arith)
+least P (suc n) decided =
+    elim (least P n (λ j below. decided j (omega arith))) [
+      | inl found ↦ inl (found.0, omega arith, found.2, found.3)
+      | inr none ↦ elim (decided n (omega arith)) [
+        | inl last ↦ inl (n, omega arith, last, none)
+        | inr never ↦ inr (λ j below h. elim (cases_eq j n) [
+          | inl e ↦ never (subst P e h)
+          | inr ne ↦ none j (omega arith) h
+        ])
+      ]
+    ]
+
+-- ---- an instruction of a list
+
+insn_at : (list : List Insn) (i : ℕ) (Has : Op → Insn → Type 0) → ((op : Op) (insn : Insn) → Decided (Has op insn))
+    → Decided (InsnAt list i Has)
+insn_at list i Has decided =
+    elim (slice_get_cases list i).1 [
+      | inr past ↦ inr (λ a. let none = past.1 in let some = a.2 in absurd (cc))
+      | inl found ↦ elim (known_or (op_of found.0.code)) [
+        | inl none ↦ inr (λ a.
+            let same : a.0 ≡ found.0 = cc in
+            let known : op_of found.0.code ≡ Some a.1 = subst (λ (x : Insn). op_of x.code ≡ Some a.1) same a.3 in
+            absurd (cc))
+        | inr known ↦ elim (decided known.0 found.0) [
+          | inl has ↦ inl (found.0, known.0, found.2, known.1, has)
+          | inr never ↦ inr (λ a. never (insn_at-same list i Has found.0 known.0 a found.2 known.1))
+        ]
+      ]
+    ]
+
+names_no_slot : (op : Op) (insn : Insn) → Decided (NamesNoSlot op insn)
+names_no_slot op insn = both (is_true (uses_slot op)) (at_most 16 insn.k)
+
+divides_by_zero : (op : Op) (insn : Insn) → Decided (DividesByZero op insn)
+divides_by_zero op insn = both (is_true (divides_by_k op)) (cases_eq insn.k 0)
+
+shifts_too_far : (op : Op) (insn : Insn) → Decided (ShiftsTooFar op insn)
+shifts_too_far op insn = both (is_true (shifts_by_k op)) (at_most 32 insn.k)
+
+jumps_outside : (op : Op) (insn : Insn) (i n : ℕ) → Decided (JumpsOutside op insn i n)
+jumps_outside Ja insn i n = elim (at_most n (i + 1 + insn.k)) [
+  | inl far ↦ inl (_, refl, far)
+  | inr near ↦ inr (λ h. near (subst (λ t. n ≤ t) h.1 h.2))
+]
+jumps_outside (Jump cond src) insn i n = elim (at_most n (i + 1 + insn.jt)) [
+  | inl far ↦ inl (_, inl refl, far)
+  | inr near ↦ elim (at_most n (i + 1 + insn.jf)) [
+    | inl far ↦ inl (_, inr refl, far)
+    | inr near_f ↦ inr (λ h. elim h.1 [
+      | inl e ↦ near (subst (λ t. n ≤ t) e h.2)
+      | inr e ↦ near_f (subst (λ t. n ≤ t) e h.2)
+    ])
+  ]
+]
+jumps_outside _ insn i n = inr (λ h. h.1)
+
+is_none : {X : Type 0} (o : Option X) → Decided (o ≡ None)
+is_none None = inl refl
+is_none (Some x) = inr (λ h. absurd (cc))
+
+loads_no_extension : (op : Op) (insn : Insn) → Decided (LoadsNoExtension op insn)
+loads_no_extension op insn =
+    elim (both (is_true (loads_absolute op)) (both (at_most 4294963200 insn.k) (is_none (ext_at insn.k)))) [
+      | inl h ↦ inl (h.0, h.1.0, h.1.1)
+      | inr never ↦ inr (λ h. never (h.0, (h.1, h.2)))
+    ]
+
+-- the instruction at i is allowed, or has a fault of C3 to C8
+abbrev FaultAt : List Insn → ℕ → Type 0
+FaultAt list i = (e : CheckFault) × HasFault list e × (rank e ≡ 2) × (index_of e ≡ i)
+
+known-fault : (list : List Insn) (i : ℕ) (insn : Insn) (op : Op) → slice_get list i ≡ Some insn
+    → op_of insn.code ≡ Some op → AllowedAt list i ⊎ FaultAt list i
+known-fault list i insn op here known =
+    elim (names_no_slot op insn) [
+      | inl h ↦ inr (NoSlot i, (insn, op, here, known, h), refl, refl)
+      | inr slot ↦ elim (divides_by_zero op insn) [
+        | inl h ↦ inr (ZeroDivisor i, (insn, op, here, known, h), refl, refl)
+        | inr divisor ↦ elim (shifts_too_far op insn) [
+          | inl h ↦ inr (WideShift i, (insn, op, here, known, h), refl, refl)
+          | inr shift ↦ elim (jumps_outside op insn i (length list)) [
+            | inl h ↦ inr (JumpOutside i, (insn, op, here, known, h), refl, refl)
+            | inr targets ↦ elim (loads_no_extension op insn) [
+              | inl h ↦ inr (UnknownExtension i, (insn, op, here, known, h), refl, refl)
+              | inr extension ↦ inl (
+                insn,
+                op,
+                here,
+                known,
+                record {
+                  slot = slot;
+                  divisor = divisor;
+                  shift = shift;
+                  targets = targets;
+                  extension = extension;
+                },
+              )
+            ]
+          ]
+        ]
+      ]
+    ]
+
+fault_at : (list : List Insn) (i : ℕ) → i < length list → AllowedAt list i ⊎ FaultAt list i
+fault_at list i below = elim (slice_get_cases list i).1 [
+  | inr past ↦ absurd (omega arith)
+  | inl found ↦ elim (known_or (op_of found.0.code)) [
+    | inl none ↦ inr (UnknownCode i, (found.0, found.2, none), refl, refl)
+    | inr known ↦ known-fault list i found.0 known.0 found.2 known.1
+  ]
+]
+
+-- ---- paths
+
+stores : (list : List Insn) (i s : ℕ) → Decided (StoresSlot list i s)
+stores list i s =
+    insn_at list i (λ op insn. IsTrue (stores_slot op) × (insn.k ≡ s))
+    (λ op insn. both (is_true (stores_slot op)) (cases_eq insn.k s))
+
+follows : (o : Option Op) (insn : Insn) (i t : ℕ) → Decided (FollowsCode o insn i t)
+follows None insn i t = cases_eq t (i + 1)
+follows (Some RetK) insn i t = inr (λ h. h)
+follows (Some RetA) insn i t = inr (λ h. h)
+follows (Some Ja) insn i t = cases_eq t (i + 1 + insn.k)
+follows (Some (Jump cond src)) insn i t = either (cases_eq t (i + 1 + insn.jt)) (cases_eq t (i + 1 + insn.jf))
+follows (Some _) insn i t = cases_eq t (i + 1)
+
+successor : (list : List Insn) (i t : ℕ) → Decided (IsSuccessor list i t)
+successor list i t =
+    elim (slice_get_cases list i).1 [
+      | inr past ↦ inr (λ a. let none = past.1 in let some = a.1 in absurd (cc))
+      | inl found ↦ elim (follows (op_of found.0.code) found.0 i t) [
+        | inl next ↦ inl (found.0, found.2, next)
+        | inr never ↦ inr (λ a.
+            let same : a.0 ≡ found.0 = cc in
+            never (subst (λ (x : Insn). FollowsCode (op_of x.code) x i t) same a.2))
+      ]
+    ]
+
+-- instruction h passes slot s on to t unwritten
+abbrev PassesOn : List Insn → ℕ → ℕ → ℕ → Type 0
+PassesOn list s t h = MayBeUnwritten list s h × ((StoresSlot list h s → ⊥) × IsSuccessor list h t)
+
+unwritten_below : (list : List Insn) (s m i : ℕ) → i < m → Decided (MayBeUnwritten list s i)
+unwritten_below list s zero i below = absurd (omega arith)
+unwritten_below list s (suc m) i below =
+    elim (least (PassesOn list s i) i (λ h before.
+    both (unwritten_below list s m h (omega arith)) (both (keeps h) (successor list h i)))) [
+      | inl found ↦ inl (onward found.1 found.2.0 found.2.1.0 found.2.1.1)
+      | inr none ↦ elim (cases_eq i 0) [
+        | inl first ↦ inl (subst (MayBeUnwritten list s) (sym first) at_start)
+        | inr later ↦ inr (λ u. elim (reached-unwritten_at list s i u) [
+          | inl first ↦ later first
+          | inr r ↦ none r.0 r.1 (r.2, (r.3, r.4))
+        ])
+      ]
+    ]
+  where
+    keeps : (h : ℕ) → Decided (StoresSlot list h s → ⊥)
+    keeps h = elim (stores list h s) [ inl st ↦ inr (λ never. never st) | inr never ↦ inl never ]
+
+unwritten : (list : List Insn) (i : ℕ) → Decided (HasFault list (UnwrittenSlot i))
+unwritten list i =
+    insn_at list i (λ op insn. IsTrue (loads_slot op) × MayBeUnwritten list insn.k i)
+    (λ op insn. both (is_true (loads_slot op)) (unwritten_below list insn.k (suc i) i (omega arith)))
+
+-- ---- each list
+
+abbrev Checked : List Insn → Type 0
+Checked list = IsSound list ⊎ ((e : CheckFault) × FirstFault list e)
+
+passes : (list : List Insn) (m : ℕ) → 0 < length list → length list ≤ 4096 → m ≤ length list
+    → PassesBefore list m ⊎ ((e : CheckFault) × FirstFault list e)
+passes list zero some few within =
+    inl (record { some = some; few = few; allowed = λ j below. absurd (omega arith) })
+passes list (suc m) some few within =
+    elim (passes list m some few (omega arith)) [
+      | inr first ↦ inr first
+      | inl passed ↦ elim (fault_at list m (omega arith)) [
+        | inl here ↦ inl (subst (PassesBefore list) (omega arith) (passes_before-next list m passed here))
+        | inr f ↦ inr (f.0, first_fault-insn list m f.0 passed f.1 f.2 f.3)
+      ]
+    ]
+
+formed-checked : (list : List Insn) → IsWellFormed list → Checked list
+formed-checked list formed =
+    elim (least (λ j. HasFault list (UnwrittenSlot j)) (length list) (λ j below. unwritten list j)) [
+      | inl found ↦ inr (UnwrittenSlot found.0, first_fault-slot list found.0 formed found.2 found.3)
+      | inr none ↦ inl (sound_of list formed (λ j has. none j (slice_get_within list j has.0 has.2) has))
+    ]
+
+only_empty : (list : List Insn) (f : CheckFault) → rank f < 1 → HasFault list f → length list ≡ 0
+only_empty list NoInstruction r has = has
+only_empty list _ r has = absurd (omega arith)
+
+pub each_list_is_checked : EachListIsChecked
+each_list_is_checked list = elim (cases_eq (length list) 0) [
+  | inl none ↦ inr (
+    NoInstruction,
+    record {
+      present = none;
+      none_earlier = λ f earlier has. omega arith;
+    },
+  )
+  | inr some ↦ elim (cases_lt 4096 (length list)) [
+    | inl many ↦ inr (
+      TooMany,
+      record {
+        present = many;
+        none_earlier = λ f earlier has. elim earlier [
+          | inl h ↦ some (only_empty list f h has)
+          | inr h ↦ omega arith
+        ];
+      },
+    )
+    | inr few ↦ elim (passes list (length list) (omega arith) few (omega arith)) [
+      | inr first ↦ inr first
+      | inl passed ↦ elim (returns_or _) [
+        | inl never ↦ inr (NoReturn, first_fault-at_end list _ passed refl never)
+        | inr returns ↦ formed-checked list (well_formed-at_end list _ passed refl returns)
+      ]
+    ]
+  ]
+]
+
+-- ---- each text
+
+-- no fault, or one of a token
+abbrev OfToken : Option WordFault → Type 0
+OfToken (Some Memory) = ⊥
+OfToken (Some (CountDiffers said found)) = ⊥
+OfToken _ = Unit {0}
+
+of_token-if : (b : Bool) (o p : Option WordFault) → OfToken o → OfToken p → OfToken (if b then o else p)
+of_token-if true o p h k = h
+of_token-if false o p h k = k
+
+of_token-or : (o p : Option WordFault) → OfToken o → OfToken p → OfToken (or_else o p)
+of_token-or None p h k = k
+of_token-or (Some e) p h k = h
+
+comma-of_token : (m : Token) → OfToken (comma_fault m)
+comma-of_token (run p ds) = tt
+comma-of_token (single p b) = of_token-if (b == 44) None (Some (UnexpectedByte p)) tt tt
+
+number-of_token : (range : ℕ) (m : Token) → OfToken (number_fault range m)
+number-of_token range (run p ds) = of_token-if (nat_lt (number ds) range) None (Some (OutOfRange p)) tt tt
+number-of_token range (single p b) = of_token-if (b == 44) (Some (NumberExpected p)) (Some (UnexpectedByte p)) tt tt
+
+first-of_token : (j : ℕ) (ms : List Token) → OfToken (first_fault j ms)
+first-of_token j [] = tt
+first-of_token j (m ∷ ms) = of_token-or (token_fault j m) (first_fault (suc j) ms)
+    (of_token-if (j % 5 == 1) (comma_fault m) (number_fault (range_of j) m) (comma-of_token m)
+    (number-of_token (range_of j) m)) (first-of_token (suc j) ms)
+
+end-of_token : (b : Bool) (p : ℕ) → OfToken (Some (if b then CommaExpected p else NumberExpected p))
+end-of_token true p = tt
+end-of_token false p = tt
+
+breaks-refused : (text : List ℕ) (e : WordFault) → OfToken (Some e) → Breaks text e → (e ≢ Memory) × Refused text e
+breaks-refused text Memory h broken = absurd h
+breaks-refused text (CountDiffers said found) h broken = absurd h
+breaks-refused text (NumberExpected p) h broken = (λ z. cc, broken)
+breaks-refused text (OutOfRange p) h broken = (λ z. cc, broken)
+breaks-refused text (UnexpectedByte p) h broken = (λ z. cc, broken)
+breaks-refused text (CommaExpected p) h broken = (λ z. cc, broken)
+
+abbrev Read : List ℕ → Type 0
+Read text = ((list : List Insn) × Spells text list) ⊎ ((e : WordFault) × (e ≢ Memory) × Refused text e)
+
+broken-read : (text : List ℕ) (e : WordFault) → OfToken (Some e) → Breaks text e → Read text
+broken-read text e h broken = let r = breaks-refused text e h broken in inr (e, r.0, r.1)
+
+loose-read : (text : List ℕ) (list : List Insn) → Loose text list → Read text
+loose-read text list loose = elim (cases_eq (count_of text) (length list)) [
+  | inl same ↦ inl (list, record { loose = loose; counted = same })
+  | inr differ ↦ inr (CountDiffers (count_of text) (length list), λ z. cc, (list, loose, refl, refl, differ))
+]
+
+fault-read : (text : List ℕ) (o : Option WordFault) → first_fault 0 (tokens text) ≡ o → Read text
+fault-read text (Some e) is =
+    broken-read text e (subst OfToken is (first-of_token 0 (tokens text))) (record { why = inl is })
+fault-read text None is =
+    elim (both (at_most 2 (length (tokens text)))
+    (either (cases_eq (length (tokens text) % 5) 1) (cases_eq (length (tokens text) % 5) 2))) [
+      | inl shape ↦ loose-read text _ (record { none_bad = is; begun = shape.0; ended = shape.1; reads = refl })
+      | inr other ↦ broken-read text (end_fault text)
+          (end-of_token (length (tokens text) == 1) (length text))
+          (record { why = inr (is, λ list loose. other (loose.begun, loose.ended), refl) })
+    ]
+
+pub each_text_is_read : EachTextIsRead
+each_text_is_read text = fault-read text (first_fault 0 (tokens text)) refl
