@@ -14,3 +14,4 @@ pub mod Refused
 pub mod OneRefusal
 pub mod Ahead
 pub mod Taking
+pub mod Answered

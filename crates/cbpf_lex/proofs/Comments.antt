@@ -69,6 +69,17 @@ close_least (b ∷ bs) n e = by_test (begins_with_close (b ∷ bs)) (close_least
     by_test true more h = let k : n ≡ 2 = some-same n 2 (sym h) in omega (arith, k)
     by_test false more h = let p = mapped_some (first_close bs) n h in omega (arith, p.2, more p.0 p.1)
 
+-- a comment ends within the text
+pub close_within : (bs : List ℕ) (n : ℕ) → first_close bs ≡ Some n → n ≤ length bs
+close_within [] n e = cc
+close_within (b ∷ []) n e = cc
+close_within (b ∷ c ∷ cs) n e = by_test (b == 42 && c == 47) (close_within (c ∷ cs)) e
+  where
+    by_test : (t : Bool) → ((k : ℕ) → first_close (c ∷ cs) ≡ Some k → k ≤ suc (length cs))
+        → cond t (Some 2) (option_map suc (first_close (c ∷ cs))) ≡ Some n → n ≤ suc (suc (length cs))
+    by_test true more h = let k : n ≡ 2 = some-same n 2 (sym h) in omega (arith, k)
+    by_test false more h = let p = mapped_some (first_close (c ∷ cs)) n h in omega (arith, p.2, more p.0 p.1)
+
 -- the first `*/` of a text is that of each front of the text that has it
 pub close_taken : (bs : List ℕ) (n m : ℕ) → first_close bs ≡ Some n → n ≤ m → first_close (take m bs) ≡ Some n
 close_taken [] n m e l = cc

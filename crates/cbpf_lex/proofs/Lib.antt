@@ -6,3 +6,4 @@ pub mod Cuts
 pub mod Blanks
 pub mod Spelled
 pub mod Outcomes
+pub mod Answered

@@ -1,5 +1,5 @@
 -- Laws of the cut: a text has one, and so one list of tokens or one first bad piece.
-use Rattle.std.specs.Prelude.{◌≡◌, ℕ, List, length}
+use Rattle.std.specs.Prelude.{◌≡◌, ◌⊎◌, ℕ, List, length}
 use Rattle.cbpf_lex.specs.declared.piece.Piece.{Piece}
 use Rattle.cbpf_lex.specs.declared.token.Token.{Token}
 use Rattle.cbpf_lex.specs.declared.token.BadPiece.{BadPiece}
@@ -18,3 +18,8 @@ OneFault = (text : List ℕ) (f g : BadPiece) (l m : ℕ) → IsFirstBad text f 
 
 abbrev pub NeverBoth : Type 0
 NeverBoth = (text : List ℕ) (ts : List Token) (f : BadPiece) (l : ℕ) → Lexes text ts → IsFirstBad text f l → ⊥
+
+-- each text has tokens, or a first bad piece
+abbrev pub EachLexed : Type 0
+EachLexed = (text : List ℕ)
+    → ((ts : List Token) × Lexes text ts) ⊎ ((f : BadPiece) × (l : ℕ) × IsFirstBad text f l)

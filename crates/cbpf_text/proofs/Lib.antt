@@ -22,3 +22,4 @@ pub mod ListedProgram
 pub mod ListedLaw
 pub mod Kept
 pub mod Reading
+pub mod Answered

@@ -1,5 +1,5 @@
--- Laws of the definitions: a text assembles to at most one list of instructions, has at most one refusal with a line,
--- and never both; the listing of a checked program assembles to the plain forms of its instructions.
+-- Laws of the definitions: a text assembles to one list of instructions or has one refusal with a line, and never
+-- both; the listing of a checked program assembles to the plain forms of its instructions.
 use Rattle.std.specs.Prelude.{◌≡◌, ◌⊎◌, ℕ, List, map, All, Result, Ok, Err, IfOk, IfErr}
 use Rattle.cbpf_code.specs.declared.insn.Insn.{Insn}
 use Rattle.cbpf_code.specs.Plain.{plain}
@@ -23,6 +23,11 @@ OneRefusal = (text : List ℕ) (kind other : AsmKind) (line place : ℕ) → IsR
 abbrev pub NeverBoth : Type 0
 NeverBoth = (text : List ℕ) (xs : List Insn) (kind : AsmKind) (line : ℕ) → Assembles text xs
     → IsRefused text (At kind line) → ⊥
+
+-- each text assembles, or is refused at a line
+abbrev pub EachAnswered : Type 0
+EachAnswered = (text : List ℕ) → ((xs : List Insn) × Assembles text xs)
+    ⊎ ((kind : AsmKind) × (line : ℕ) × IsRefused text (At kind line))
 
 -- a list in which the checker finds no fault, of instructions whose fields are in their types' ranges
 abbrev pub ListingAssembles : Type 0

@@ -1,13 +1,15 @@
 //! Laws of the definitions, which hold whatever a program does.
 
-ghost use Rattle.cbpf_text.specs.Laws.{OneAssembly, OneRefusal, NeverBoth, ListingAssembles, ListingAnswers};
+ghost use Rattle.cbpf_text.specs.Laws.{OneAssembly, OneRefusal, NeverBoth, EachAnswered};
+ghost use Rattle.cbpf_text.specs.Laws.{ListingAssembles, ListingAnswers};
 
-/// A text assembles to at most one list of instructions, and one that does isn't refused. Except
-/// for out of memory, a text has at most one refusal.
+/// A text assembles to one list of instructions, or it is refused for one reason at one line,
+/// and never both. Out of memory is no such reason.
 pub fn one_assembly()
     ensures list { OneAssembly }
     ensures refusal { OneRefusal }
     ensures never_both { NeverBoth }
+    ensures answered { EachAnswered }
 {}
 
 /// The listing of a checked program assembles to its instructions, each with the fields that

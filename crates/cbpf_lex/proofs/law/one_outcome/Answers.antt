@@ -1,4 +1,5 @@
 use Rattle.cbpf_lex.proofs.Outcomes as laws
+use Rattle.cbpf_lex.proofs.Answered as answered
 use Rattle.cbpf_lex.proofs.law.one_outcome.Goals as goal
 
 pub returns-clause-list : goal.returns-clause-list
@@ -9,3 +10,6 @@ returns-clause-fault c = laws.one_fault
 
 pub returns-clause-never_both : goal.returns-clause-never_both
 returns-clause-never_both c = laws.never_both
+
+pub returns-clause-answered : goal.returns-clause-answered
+returns-clause-answered c = answered.each_lexed

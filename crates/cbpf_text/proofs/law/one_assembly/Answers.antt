@@ -1,6 +1,7 @@
 use Rattle.cbpf_text.proofs.OneAssembly as assembly
 use Rattle.cbpf_text.proofs.NeverBoth as refusal
 use Rattle.cbpf_text.proofs.OneRefusal as only
+use Rattle.cbpf_text.proofs.Answered as answered
 use Rattle.cbpf_text.proofs.law.one_assembly.Goals as goal
 
 pub returns-clause-list : goal.returns-clause-list
@@ -11,3 +12,6 @@ returns-clause-never_both c = refusal.never_both
 
 pub returns-clause-refusal : goal.returns-clause-refusal
 returns-clause-refusal c = only.one_refusal
+
+pub returns-clause-answered : goal.returns-clause-answered
+returns-clause-answered c = answered.each_answered

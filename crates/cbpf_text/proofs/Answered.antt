@@ -1,0 +1,263 @@
+-- Each text assembles or is refused at a line: its labels and targets are looked up one by one.
+use Rattle.std.proofs.Common.{◌≡◌, refl, sym, ◌∙◌, ap, subst, ℕ, zero, suc, ◌+◌, ◌-◌, ◌<◌, ◌≤◌, Bool, true, false}
+use Rattle.std.proofs.Common.{List, [], ◌∷◌, ◌++◌, length, map, Option, Some, None, ◌⊎◌, inl, inr, arith, append_assoc}
+use Rattle.std.proofs.Common.{append-nil}
+use Rattle.std.specs.Prelude.{slice_get, All}
+use Rattle.std.proofs.lemmas.Bool.{cases_lt}
+use Rattle.std.proofs.lemmas.List.Elements.{All-append}
+use Rattle.cbpf_lex.specs.Tokens.{line_of}
+use Rattle.cbpf_lex.proofs.Cuts.{some-same}
+use Rattle.cbpf_lex.proofs.Answered.{each_lexed}
+use Rattle.cbpf_code.specs.declared.insn.Insn.{Insn}
+use Rattle.cbpf_code.specs.Opcode.{code_of}
+use Rattle.cbpf_grammar.specs.declared.table.Fields.{Fields}
+use Rattle.cbpf_grammar.specs.declared.table.Fields.TheVariants.{Constant, Goto, Branch, Swapped}
+use Rattle.cbpf_grammar.specs.Classes.{Class}
+use Rattle.cbpf_grammar.specs.Classes.Class.{the_word}
+use Rattle.cbpf_grammar.specs.Lexemes.{Lexeme, lexemes_of}
+use Rattle.cbpf_grammar.specs.Fits.{fits_all}
+use Rattle.cbpf_grammar.specs.Items.{Item}
+use Rattle.cbpf_grammar.specs.Refusals.{ParseFault as parse, IsFirstRefusal, IsUnfinished}
+use Rattle.cbpf_grammar.proofs.Refused.{large_within}
+use Rattle.cbpf_grammar.proofs.Answered.{each_parsed}
+use Rattle.cbpf_text.specs.declared.fault.AsmKind.{AsmKind}
+use Rattle.cbpf_text.specs.declared.fault.AsmKind.TheVariants as kinds
+use Rattle.cbpf_text.specs.Labels.{name_of, set_labels, times_among, AreDistinct, IsPlace}
+use Rattle.cbpf_text.specs.Operands.{HasForm, literal_in, targets_in}
+use Rattle.cbpf_text.specs.Assembled.{IsOffset, FillsFields, IsEncoded, EncodeEach, HasProgramLength, AreEncoded}
+use Rattle.cbpf_text.specs.Assembled.{AssembleTokens}
+use Rattle.cbpf_text.specs.Refusals.{IsFirstRepeat, Use, is_conditional, uses_of, uses_from, IsUseFault, IsGoodUse}
+use Rattle.cbpf_text.specs.Refusals.{IsFirstBadUse, IsItemsFault, IsTokensFault, piece_kind}
+use Rattle.cbpf_text.specs.Refusals.IsUseFault.{not_set, not_after, too_far}
+use Rattle.cbpf_text.specs.Refusals.IsItemsFault.{no_item, too_many, set_twice, bad_use}
+use Rattle.cbpf_text.specs.Refusals.IsTokensFault.{misplaced, large_negative, unfinished, of_items}
+use Rattle.cbpf_text.specs.Refusals.IsRefused.{piece, token}
+use Rattle.cbpf_text.specs.Tables.{labels_from, place_among, IsLookup}
+use Rattle.cbpf_text.specs.Laws.{EachAnswered}
+use Rattle.cbpf_text.proofs.Lists.{all_none, all_one, all_front, all_after}
+use Rattle.cbpf_text.proofs.LabelLists.{distinct_more}
+use Rattle.cbpf_text.proofs.Lookups.{lookup_found}
+use Rattle.cbpf_text.proofs.Uses.{use_of, good_use}
+use Rattle.cbpf_text.proofs.Forms.{items_forms}
+use Rattle.cbpf_text.proofs.Faults.{tokens_assembled}
+
+get_some : {A : Type 0} (xs : List A) (i : ℕ) → i < length xs → (x : A) × (slice_get xs i ≡ Some x)
+get_some [] i l = absurd (omega (arith, l))
+get_some (x ∷ xs) zero l = (x, refl)
+get_some (x ∷ xs) (suc i) l = get_some xs i (omega (arith, l))
+
+-- labels after some that are distinct: all are, or one of them is the first that is set a second time
+labels_once : (before after : List Lexeme) → AreDistinct before
+    → AreDistinct (before ++ after) ⊎ ((t : Lexeme) × IsFirstRepeat (before ++ after) t)
+labels_once before [] d = inl (subst AreDistinct (sym (append-nil before)) d)
+labels_once before (t ∷ after) d = elim (cases_lt 0 (times_among before (name_of t))) [
+  | inl l ↦ inr (
+    t,
+    record {
+      before = before;
+      after = after;
+      split = refl;
+      distinct = d;
+      given = λ z. omega (arith, l, z);
+    },
+  )
+  | inr l ↦ subst (λ ts. AreDistinct ts ⊎ ((u : Lexeme) × IsFirstRepeat ts u)) (append_assoc before (t ∷ []) after)
+      (labels_once (before ++ (t ∷ [])) after (distinct_more before t d (omega (arith, l))))
+]
+
+-- a use with a place that it may go to
+abbrev HasPlace : List Item → Use → Type 0
+HasPlace is u = (place : ℕ) × IsPlace is (name_of u.target) place × (u.index < place)
+    × (u.short ≡ true → place ≤ u.index + 256)
+
+each_use : (is : List Item) (u : Use) → AreDistinct (set_labels is)
+    → ((kind : AsmKind) × IsUseFault is u kind) ⊎ HasPlace is u
+each_use is u d =
+    by_lookup (place_among (labels_from 0 is) (name_of u.target)) (lookup_found is (name_of u.target) _ d refl)
+  where
+    by_short : (b : Bool) → u.short ≡ b → (p : ℕ) → IsPlace is (name_of u.target) p → u.index < p
+        → ((kind : AsmKind) × IsUseFault is u kind) ⊎ HasPlace is u
+    by_short true e p at l = elim (cases_lt (u.index + 256) p) [
+      | inl far ↦ inl (kinds.TooFar, too_far p at.sets e far)
+      | inr near ↦ inr (p, at, l, λ _. near)
+    ]
+    by_short false e p at l = inr (p, at, l, λ z. let k : false ≡ true = sym e ∙ z in cc)
+
+    by_lookup : (o : Option ℕ) → IsLookup is (name_of u.target) o
+        → ((kind : AsmKind) × IsUseFault is u kind) ⊎ HasPlace is u
+    by_lookup None e = inl (kinds.LabelNotSet, not_set e)
+    by_lookup (Some p) at = elim (cases_lt u.index p) [
+      | inl l ↦ by_short u.short refl p at l
+      | inr l ↦ inl (kinds.NotAfter, not_after p at.sets l)
+    ]
+
+-- the offset of a target
+abbrev HasOffset : List Item → ℕ → Bool → Option Lexeme → Type 0
+HasOffset is index short o = (n : ℕ) × IsOffset is index o n × (short ≡ true → n ≤ 255)
+
+place_offset : (is : List Item) (index : ℕ) (short : Bool) (t : Lexeme) → HasPlace is (use_of index short t)
+    → HasOffset is index short (Some t)
+place_offset is index short t p = let e : p.0 ≡ index + 1 + (p.0 - index - 1) = omega (arith, p.2) in
+    (p.0 - index - 1, subst (IsPlace is (name_of t)) e p.1, λ z. omega (arith, p.2, p.3 z))
+
+place_good : (is : List Item) (u : Use) → HasPlace is u → IsGoodUse is u
+place_good is u p = let o = place_offset is u.index u.short u.target p in
+    good_use is u.index u.target o.0 u.short o.1 o.2
+
+abbrev AllPlaced : List Item → List Use → Type 0
+AllPlaced is [] = Unit {0}
+AllPlaced is (u ∷ us) = HasPlace is u × AllPlaced is us
+
+abbrev HasBad : List Item → List Use → Type 0
+HasBad is uses = (kind : AsmKind) × (at : ℕ) × IsFirstBadUse is uses kind at
+
+bad_first : (is : List Item) (u : Use) (us : List Use) (kind : AsmKind) → IsUseFault is u kind → HasBad is (u ∷ us)
+bad_first is u us kind f = (
+  kind,
+  u.target.at,
+  record {
+    before = [];
+    u = u;
+    after = us;
+    split = refl;
+    good = all_none (IsGoodUse is);
+    bad = f;
+    place = refl;
+  },
+)
+
+bad_later : (is : List Item) (u : Use) (us : List Use) → IsGoodUse is u → HasBad is us → HasBad is (u ∷ us)
+bad_later is u us g b = (
+  b.0,
+  b.1,
+  record {
+    before = u ∷ b.2.before;
+    u = b.2.u;
+    after = b.2.after;
+    split = ap (λ vs. u ∷ vs) b.2.split;
+    good = All-append (IsGoodUse is) (u ∷ []) b.2.before (all_one (IsGoodUse is) u g) b.2.good;
+    bad = b.2.bad;
+    place = b.2.place;
+  },
+)
+
+each_placed : (is : List Item) (us : List Use) → AreDistinct (set_labels is) → HasBad is us ⊎ AllPlaced is us
+each_placed is [] d = inr tt
+each_placed is (u ∷ us) d = elim (each_use is u d) [
+  | inl f ↦ inl (bad_first is u us f.0 f.1)
+  | inr p ↦ elim (each_placed is us d) [
+    | inl b ↦ inl (bad_later is u us (place_good is u p) b)
+    | inr q ↦ inr (p, q)
+  ]
+]
+
+placed_parts : (is : List Item) (us vs : List Use) → AllPlaced is (us ++ vs) → AllPlaced is us × AllPlaced is vs
+placed_parts is [] vs p = (tt, p)
+placed_parts is (u ∷ us) vs p = let q = placed_parts is us vs p.1 in ((p.0, q.0), q.1)
+
+-- the instructions of items whose targets have places
+offset_at : (is : List Item) (index : ℕ) (short : Bool) (ts : List Lexeme) (i : ℕ)
+    → AllPlaced is (map (use_of index short) ts) → HasOffset is index short (slice_get ts i)
+offset_at is index short [] i p = (0, refl, λ _. omega arith)
+offset_at is index short (t ∷ ts) zero p = place_offset is index short t p.0
+offset_at is index short (t ∷ ts) (suc i) p = offset_at is index short ts i p.1
+
+filled : (is : List Item) (index : ℕ) (f : Fields) (code k : ℕ) (ts : List Lexeme)
+    → AllPlaced is (map (use_of index (is_conditional f)) ts)
+    → (insn : Insn) × (insn.code ≡ code) × FillsFields f is index k ts insn
+filled is index Constant code k ts p = (record { code = code; jt = 0; jf = 0; k = k }, refl, (refl, refl, refl))
+filled is index Goto code k ts p = let o = offset_at is index false ts 0 p in
+    (record { code = code; jt = 0; jf = 0; k = o.0 }, refl, (refl, refl, o.1))
+filled is index Branch code k ts p =
+    let o = offset_at is index true ts 0 p in
+    let q = offset_at is index true ts 1 p in (
+      record { code = code; jt = o.0; jf = q.0; k = k },
+      refl,
+      (record { is = o.1; short = o.2 refl }, record { is = q.1; short = q.2 refl }, refl),
+    )
+filled is index Swapped code k ts p = let o = offset_at is index true ts 0 p in
+    (record { code = code; jt = 0; jf = o.0; k = k }, refl, (refl, record { is = o.1; short = o.2 refl }, refl))
+
+encoded : (is : List Item) (index : ℕ) (item : Item) → AllPlaced is (uses_of index item)
+    → (insn : Insn) × IsEncoded is index item insn
+encoded is index item p =
+    let f = filled is index item.row.fields (code_of item.row.op) (literal_in item) (targets_in item) p in
+    (f.0, record { code = f.1; fields = f.2 })
+
+all_encoded : (all : List Item) (index : ℕ) (is : List Item) → AllPlaced all (uses_from index is)
+    → (insns : List Insn) × EncodeEach all index is insns
+all_encoded all index [] p = ([], tt)
+all_encoded all index (i ∷ is) p =
+    let q = placed_parts all (uses_of index i) (uses_from (index + 1) is) p in
+    let first = encoded all index i q.0 in
+    let rest = all_encoded all (index + 1) is q.1 in
+    (first.0 ∷ rest.0, (first.1, rest.1))
+
+-- each item has a mnemonic
+form_at : (is : List Item) (k : ℕ) (item : Item) → All HasForm is → slice_get is k ≡ Some item → HasForm item
+form_at [] k item f e = let z : ◌≡◌ {A = Option Item} None (Some item) = e in cc
+form_at (i ∷ is) zero item f e = subst HasForm (some-same i item e) (all_front HasForm i is f)
+form_at (i ∷ is) (suc k) item f e = form_at is k item (all_after HasForm i is f) e
+
+body_some : (c : Class) (cs : List Class) (ts : List Lexeme) → fits_all (c ∷ cs) ts ≡ true → 0 < length ts
+body_some c cs [] e = let z : false ≡ true = e in cc
+body_some c cs (t ∷ ts) e = omega arith
+
+abbrev ItemsAnswer : List Item → Type 0
+ItemsAnswer is = ((insns : List Insn) × AreEncoded is insns) ⊎ ((kind : AsmKind) × (at : ℕ) × IsItemsFault is kind at)
+
+many_items : (is : List Item) → All HasForm is → 4096 < length is → ItemsAnswer is
+many_items is f l =
+    let item = get_some is 4096 l in
+    let form : HasForm item.0 = form_at is 4096 item.0 f item.1 in
+    let mnemonic = get_some item.0.body 0 (body_some (the_word item.0.row.mnemonic) item.0.row.operand item.0.body form.fits) in
+    inr (kinds.TooMany, mnemonic.0.at, too_many item.0 mnemonic.0 item.1 mnemonic.1)
+
+counted_items : (is : List Item) → HasProgramLength is → ItemsAnswer is
+counted_items is n = elim (labels_once [] (set_labels is) (all_none (λ t. times_among [] (name_of t) ≡ 1))) [
+  | inr r ↦ inr (kinds.LabelSetTwice, r.0.at, set_twice r.0 n r.1)
+  | inl d ↦ elim (each_placed is (uses_from 0 is) d) [
+    | inl b ↦ inr (b.0, b.1, bad_use b.0 b.1 n d b.2)
+    | inr p ↦ let e = all_encoded is 0 is p in inl (e.0, record { limits = n; distinct = d; each = e.1 })
+  ]
+]
+
+each_items : (is : List Item) → All HasForm is → ItemsAnswer is
+each_items [] f = inr (kinds.NoInstruction, 0, no_item refl)
+each_items (i ∷ is) f = elim (cases_lt 4096 (length (i ∷ is))) [
+  | inl l ↦ many_items (i ∷ is) f l
+  | inr l ↦ counted_items (i ∷ is) (record { some = omega arith; most = l })
+]
+
+-- tokens that are refused by the grammar
+unfinished_some : (ts : List Lexeme) → IsUnfinished ts → length ts - 1 < length ts
+unfinished_some [] u = absurd (u.none [] refl)
+unfinished_some (t ∷ ts) u = omega arith
+
+refused_tokens : (ts : List Lexeme) (f : parse) → IsFirstRefusal ts f
+    → (kind : AsmKind) × (at : ℕ) × IsTokensFault ts kind at
+refused_tokens ts (parse.Misplaced i) r = let t = get_some ts i r.refused.1.within in
+    (kinds.Misplaced, t.0.at, misplaced i t.0 r t.1)
+refused_tokens ts (parse.LargeNegative i) r = let t = get_some ts i (large_within ts i r.refused.1) in
+    (kinds.LargeNumber, t.0.at, large_negative i t.0 r t.1)
+refused_tokens ts parse.Unfinished r = let t = get_some ts (length ts - 1) (unfinished_some ts r.refused.1) in
+    (kinds.Unfinished, t.0.at, unfinished t.0 r t.1)
+
+each_tokens : (ts : List Lexeme)
+    → ((insns : List Insn) × AssembleTokens ts insns) ⊎ ((kind : AsmKind) × (at : ℕ) × IsTokensFault ts kind at)
+each_tokens ts = elim (each_parsed ts) [
+  | inr r ↦ inr (refused_tokens ts r.0 r.1)
+  | inl p ↦ elim (each_items p.0 (items_forms ts p.0 p.1)) [
+    | inl e ↦ inl (e.0, tokens_assembled ts p.0 e.0 p.1 p.2 e.1)
+    | inr f ↦ inr (f.0, f.1, of_items p.0 f.0 f.1 p.1 p.2 f.2)
+  ]
+]
+
+pub each_answered : EachAnswered
+each_answered text = elim (each_lexed text) [
+  | inr b ↦ inr (piece_kind b.0, b.1, piece b.0 b.1 b.2)
+  | inl l ↦ elim (each_tokens (lexemes_of text l.0)) [
+    | inl a ↦ inl (a.0, record { tokens = l.0; lexed = l.1; assembled = a.1 })
+    | inr f ↦ inr (f.0, line_of text f.1, token l.0 f.0 f.1 l.1 f.2)
+  ]
+]
