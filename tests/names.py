@@ -21,6 +21,7 @@ A line of tests/shown.txt is a sentence and, each behind ` | `, what shows it, w
                    module below M, or of one of the crate that M names
   case D/N         the folder below tests/cases has a file `stdout`; a text stands in one of its files
   edit C/N         the edit N of the crate C is there; a text stands in it
+  script N         the file tests/N is there, and the gate of the Makefile runs it; a text stands in it
 Blanks and line ends of a text and of a file may differ in number.
 The last line is `N names, M failed`.
 """
@@ -42,7 +43,7 @@ STANDARD = set("grow shrink cmp partial_cmp madvise".split())
 OF_USERS = {"REFERENCE.md", "KERNEL_TOOLS.md"}
 CODE_SPAN = re.compile(r"(?<!`)`([^`]+)`(?!`)")
 IDENTIFIER = re.compile(r"[A-Za-z_]\w*")
-SHOWN_BY = re.compile(r"(test|case|edit) ([\w:/]+)((?: `[^`]+`)*)")
+SHOWN_BY = re.compile(r"(test|case|edit|script) ([\w:/.]+)((?: `[^`]+`)*)")
 FUNCTION = re.compile(r"\bfn (\w+)")
 
 faults = []
@@ -282,6 +283,64 @@ def check_items(path):
             check(any(name in defined(file) for file in files), path, number, f"no definition {name} in {match[2]}")
 
 
+def test_files(name):
+    """The files in which a text of a test may stand; none where there is no such test."""
+    if "::" not in name:
+        return []
+    crate, *modules, function = name.split("::")
+    source = CRATES / crate / "src"
+    file, folder = source / "lib.rt", source
+    for module in modules:
+        if not file.is_file() or not re.search(rf"^(?:pub )?mod {module};", text_of(file), re.M):
+            return []
+        file, folder = folder / f"{module}.rt", folder / module
+    if not file.is_file() or not re.search(rf"#\[test\]\s*fn {function}\b", text_of(file)):
+        return []
+    files = [file, *sorted(folder.rglob("*.rt"))]
+    used = re.findall(r"\bcrate::(?:(\w+)|\{([^}]*)\})", "".join(map(text_of, files)))
+    return files + [source / f"{word}.rt" for names in used for word in re.findall(r"\w+", "".join(names))]
+
+
+def shown_files(kind, name):
+    """The files in which a text beside a name may stand; none where what the name stands for is not there."""
+    found = []
+    if kind == "test":
+        found = test_files(name)
+    elif kind == "edit":
+        crate, _, edit = name.partition("/")
+        found = [CRATES / crate / "must-fail" / f"{edit}.edit"]
+    elif kind == "script" and f" tests/{name}" in text_of(TOP / "Makefile").partition("\ncheck:")[2]:
+        found = [TOP / "tests" / name]
+    elif kind == "case" and (TOP / "tests/cases" / name / "stdout").is_file():
+        found = (TOP / "tests/cases" / name).rglob("*")
+    return [file for file in found if file.is_file()]
+
+
+@cache
+def joined_by_blanks(path):
+    return " ".join(text_of(path).split())
+
+
+def check_shown(path):
+    """Whether each line of the list says once what is shown, and by what that is there."""
+    sentences = set()
+    for number, line in enumerate(text_of(path).splitlines(), 1):
+        if not line or line.startswith("#"):
+            continue
+        sentence, *shown_by = line.split(" | ")
+        check(sentence not in sentences, path, number, f"stands twice: {sentence}")
+        check(bool(shown_by), path, number, f"nothing shows: {sentence}")
+        sentences.add(sentence)
+        for part in shown_by:
+            match = SHOWN_BY.fullmatch(part)
+            files = shown_files(match[1], match[2]) if match else []
+            check(bool(files), path, number, f"not there: {part}")
+            for text in CODE_SPAN.findall(match[3]) if files else []:
+                wanted = " ".join(text.split())
+                holds = any(wanted in joined_by_blanks(file) for file in files)
+                check(holds, path, number, f"no text {text} in {match[2]}")
+
+
 def check_edit(path, crate):
     """Whether each of an edit's texts stands once in its file, as the edit before it left that."""
     texts, target, old = {}, None, None
@@ -336,58 +395,6 @@ def check_calls(path):
             known = set(FUNCTION.findall(text_of(target))) if target.is_file() else set()
             for name in filter(None, called):
                 check(name in known, path, number, f"no function {name} in {file}")
-
-
-def test_files(name):
-    """The files in which a text of a test may stand; none where there is no such test."""
-    crate, *modules, function = name.split("::")
-    source = CRATES / crate / "src"
-    file, folder = source / "lib.rt", source
-    for module in modules:
-        if not file.is_file() or not re.search(rf"^(?:pub )?mod {module};", text_of(file), re.M):
-            return []
-        file, folder = folder / f"{module}.rt", folder / module
-    if not file.is_file() or not re.search(rf"#\[test\]\s*fn {function}\b", text_of(file)):
-        return []
-    files = [file, *sorted(folder.rglob("*.rt"))]
-    used = re.findall(r"\bcrate::(?:(\w+)|\{([^}]*)\})", "".join(map(text_of, files)))
-    return files + [source / f"{word}.rt" for names in used for word in re.findall(r"\w+", "".join(names))]
-
-
-def shown_files(kind, name):
-    """The files in which a text beside a test, a case or an edit may stand; none where that is not there."""
-    if kind == "test":
-        return [file for file in test_files(name) if file.is_file()]
-    if kind == "edit":
-        crate, _, edit = name.partition("/")
-        return [file for file in [CRATES / crate / "must-fail" / f"{edit}.edit"] if file.is_file()]
-    case = TOP / "tests/cases" / name
-    return [file for file in case.rglob("*") if file.is_file()] if (case / "stdout").is_file() else []
-
-
-@cache
-def joined_by_blanks(path):
-    return " ".join(text_of(path).split())
-
-
-def check_shown(path):
-    """Whether each line of the list says once what is shown, and by what that is there."""
-    sentences = set()
-    for number, line in enumerate(text_of(path).splitlines(), 1):
-        if not line or line.startswith("#"):
-            continue
-        sentence, *shown_by = line.split(" | ")
-        check(sentence not in sentences, path, number, f"stands twice: {sentence}")
-        check(bool(shown_by), path, number, f"nothing shows: {sentence}")
-        sentences.add(sentence)
-        for part in shown_by:
-            match = SHOWN_BY.fullmatch(part)
-            files = shown_files(match[1], match[2]) if match else []
-            check(bool(files), path, number, f"no test, case or edit {part}")
-            for text in CODE_SPAN.findall(match[3]) if files else []:
-                wanted = " ".join(text.split())
-                holds = any(wanted in joined_by_blanks(file) for file in files)
-                check(holds, path, number, f"no text {text} in {match[2]}")
 
 
 def main():
