@@ -19,6 +19,13 @@ crates/*/must-fail/README.md. Each is read outside its blocks of code, and names
                    docs/DEFINITIONS.md says that only private functions cite it, or docs/ARCHITECTURE.md has its file in
                    the column `only for the crate`; and something cites it
   a call           in a block ```calls of docs/ARCHITECTURE.md: the function stands in the line's file
+A line of tests/shown.txt is a sentence and, each behind ` | `, what shows it, with texts between backquotes:
+  test C::M::F     the function F has #[test] in the module M of the crate C; a text stands in the file of M, of a
+                   module below M, or of one of the crate that M names
+  case D/N         the folder below tests/cases has a file `stdout`; a text stands in one of its files
+  edit C/N         the edit N of the crate C is there; a text stands in it
+  script N         the file tests/N is there, and the gate of the Makefile runs it; a text stands in it
+Blanks and line ends of a text and of a file may differ in number.
 The last line is `N names, M failed`.
 """
 
@@ -39,6 +46,7 @@ STANDARD = set("grow shrink cmp partial_cmp madvise".split())
 OF_USERS = {"REFERENCE.md", "KERNEL_TOOLS.md"}
 CODE_SPAN = re.compile(r"(?<!`)`([^`]+)`(?!`)")
 IDENTIFIER = re.compile(r"[A-Za-z_]\w*")
+SHOWN_BY = re.compile(r"(test|case|edit|script) ([\w:/.]+)((?: `[^`]+`)*)")
 FUNCTION = re.compile(r"\bfn (\w+)")
 
 faults = []
@@ -276,6 +284,64 @@ def check_items(path):
         files = definition_files(match[2], files, own)
         for name in re.findall(r"\w+", match[1]):
             check(any(name in defined(file) for file in files), path, number, f"no definition {name} in {match[2]}")
+
+
+def test_files(name):
+    """The files in which a text of a test may stand; none where there is no such test."""
+    if "::" not in name:
+        return []
+    crate, *modules, function = name.split("::")
+    source = CRATES / crate / "src"
+    file, folder = source / "lib.rt", source
+    for module in modules:
+        if not file.is_file() or not re.search(rf"^(?:pub )?mod {module};", text_of(file), re.M):
+            return []
+        file, folder = folder / f"{module}.rt", folder / module
+    if not file.is_file() or not re.search(rf"#\[test\]\s*fn {function}\b", text_of(file)):
+        return []
+    files = [file, *sorted(folder.rglob("*.rt"))]
+    used = re.findall(r"\bcrate::(?:(\w+)|\{([^}]*)\})", "".join(map(text_of, files)))
+    return files + [source / f"{word}.rt" for names in used for word in re.findall(r"\w+", "".join(names))]
+
+
+def shown_files(kind, name):
+    """The files in which a text beside a name may stand; none where what the name stands for is not there."""
+    found = []
+    if kind == "test":
+        found = test_files(name)
+    elif kind == "edit":
+        crate, _, edit = name.partition("/")
+        found = [CRATES / crate / "must-fail" / f"{edit}.edit"]
+    elif kind == "script" and f" tests/{name}" in text_of(TOP / "Makefile").partition("\ncheck:")[2]:
+        found = [TOP / "tests" / name]
+    elif kind == "case" and (TOP / "tests/cases" / name / "stdout").is_file():
+        found = (TOP / "tests/cases" / name).rglob("*")
+    return [file for file in found if file.is_file()]
+
+
+@cache
+def joined_by_blanks(path):
+    return " ".join(text_of(path).split())
+
+
+def check_shown(path):
+    """Whether each line of the list says once what is shown, and by what that is there."""
+    sentences = set()
+    for number, line in enumerate(text_of(path).splitlines(), 1):
+        if not line or line.startswith("#"):
+            continue
+        sentence, *shown_by = line.split(" | ")
+        check(sentence not in sentences, path, number, f"stands twice: {sentence}")
+        check(bool(shown_by), path, number, f"nothing shows: {sentence}")
+        sentences.add(sentence)
+        for part in shown_by:
+            match = SHOWN_BY.fullmatch(part)
+            files = shown_files(match[1], match[2]) if match else []
+            check(bool(files), path, number, f"not there: {part}")
+            for text in CODE_SPAN.findall(match[3]) if files else []:
+                wanted = " ".join(text.split())
+                holds = any(wanted in joined_by_blanks(file) for file in files)
+                check(holds, path, number, f"no text {text} in {match[2]}")
 
 
 def check_edit(path, crate):
@@ -523,6 +589,7 @@ def check_reached(path):
 
 
 def main():
+    check_shown(TOP / "tests/shown.txt")
     documents = [TOP / "README.md", TOP / "CONTRIBUTING.md"]
     for pattern in ("docs/*.md", "bench/*.md", "tests/*.md", "crates/*/README*", "crates/*/must-fail/README.md"):
         documents += sorted(TOP.glob(pattern))

@@ -104,6 +104,20 @@ const RUNS: &[Shown] = &[
             Row::Mark(2, 0),
         ],
     ),
+    (
+        "the same hits and turns over the file in the other byte order",
+        &[
+            LOAD_RULE,
+            Row::SwappedCapture,
+            Row::Break(1, When::Always, Ok(())),
+            Row::Break(4, When::Always, Ok(())),
+            Row::Run(None, Answer::Breaks(1, 2, 1, 2054), Turns::Exactly(1)),
+            Row::Run(None, Answer::Breaks(2, 2, 1, 2048), Turns::Exactly(3)),
+            Row::Run(None, Answer::Breaks(2, 5, 4, 1), Turns::Exactly(3)),
+            Row::Run(None, Answer::Finishes(1, 1, 0), Turns::Exactly(1)),
+            Row::Mark(1, 0),
+        ],
+    ),
 ];
 
 const CONDITIONS_AND_LIMITS: &[Shown] = &[

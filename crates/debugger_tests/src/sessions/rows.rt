@@ -39,6 +39,8 @@ pub enum Row {
     Program(Code, u32, &'static [Code], Code),
     /// Loads the two packets.
     Capture,
+    /// Loads them from the file in the other byte order.
+    SwappedCapture,
     /// A run with its limit.
     Run(Option<u64>, Answer, Turns),
     /// A run to the end, which finds these stops, and the packets of each end, as `Answer::Finishes` has them.
@@ -272,6 +274,11 @@ fn matches_row<T: Trail>(
         }
         Row::Capture => {
             s.load_capture(capture(rt, alloc));
+            true
+        }
+        Row::SwappedCapture => {
+            let file = two_packets::big_endian();
+            s.load_capture(captures::capture(rt, alloc, file));
             true
         }
         Row::Stops(list) => matches_list(rt, alloc, s, list),
