@@ -34,6 +34,7 @@ bench: built ## Measures the program that is built beside its peers, and writes 
 check: ## The gate: proves all crates and their tests from nothing, tries the must-fail edits, runs all tests; about an hour on two processors, by the machine.
 	python3 tests/names.py
 	@python3 tools/check.py
+	python3 tests/compile.py
 	python3 tests/run.py "$(PROGRAM)"
 	python3 tests/sessions.py "$(PROGRAM)"
 	python3 tests/verdicts.py "$(PROGRAM)"

@@ -168,6 +168,33 @@ fn each_fault(rt: HostRuntime) {
     }
 }
 
+/// The tokens of `ld #0x5`.
+static PLACED: [Token; 3] = [
+    Token {
+        kind: WORD,
+        start: 0,
+        end: 2,
+    },
+    Token {
+        kind: HASH,
+        start: 3,
+        end: 4,
+    },
+    Token {
+        kind: Kind::Number(5),
+        start: 4,
+        end: 7,
+    },
+];
+
+#[test]
+fn each_place(rt: HostRuntime) {
+    match tokens(rt.alloc(), b"ld #0x5") {
+        Ok(found) => assert!(rt; found.as_slice() == PLACED.as_slice()),
+        Err(_) => assert!(rt; false),
+    }
+}
+
 /// A piece many times, between a first and a last one, and the number of tokens. A lexer that goes back over
 /// the line at each `#` doesn't end in time.
 static LONG: [(&[u8], &[u8], u32, &[u8], usize); 7] = [

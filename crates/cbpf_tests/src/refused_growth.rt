@@ -148,3 +148,56 @@ fn each_growth_of_a_script(rt: HostRuntime) {
         each_is_refused(&rt, rt.alloc(), script, row);
     }
 }
+
+/// How `LOADS` ends where room is refused for its first line, for the program and for the capture, and where
+/// no growth is refused.
+static ENDS: [(Result<(), ToolFault>, &[u8]); 4] = [
+    (Err(ToolFault::Memory), b""),
+    (
+        Ok(()),
+        b"error: out of memory\npcap: 2 packets\nerror: S1 no program\n",
+    ),
+    (
+        Ok(()),
+        b"bpf: 1 instructions\nerror: out of memory\nerror: S2 no capture\n",
+    ),
+    (Ok(()), COUNTS),
+];
+
+/// Which of `ENDS` an answer and what was written are, or 4 for none.
+fn end_of(answer: Result<(), ToolFault>, written: &[u8]) -> usize {
+    for (i, (wanted, text)) in ENDS.iter().enumerate() {
+        if answer == *wanted && written == *text {
+            return i;
+        }
+    }
+    4
+}
+
+/// Which of `ENDS` comes of `LOADS` over a slice as writer, and whether the growth `nth` was refused.
+fn end_over_a_slice(rt: &impl Abort, alloc: Global, nth: u64) -> (usize, bool) {
+    let mut files = two_packets_as_k(alloc).expect(rt, "the files");
+    let alloc = RefusingAllocator::refusing(alloc, nth);
+    let mut reader = LOADS;
+    let mut room = [0u8; 128];
+    let mut writer: &mut [u8] = &mut room;
+    let answer = debug(&alloc, &mut reader, &mut writer, &mut files);
+    let written = 128usize.saturating_sub(writer.len());
+    (end_of(answer, &room[..written]), alloc.left() == 0)
+}
+
+#[test]
+fn each_growth_over_a_slice(rt: HostRuntime) {
+    let mut met = [false; 4];
+    for nth in 1..100u64 {
+        let (end, is_refused) = end_over_a_slice(&rt, rt.alloc(), nth);
+        assert_at(&rt, is_refused == (end < 3), "the end", nth);
+        if let Some(is_met) = met.get_mut(end) {
+            *is_met = true;
+        }
+        if !is_refused {
+            break;
+        }
+    }
+    assert!(rt; met == [true; 4]);
+}

@@ -6,6 +6,8 @@ mod checker;
 #[cfg(test)]
 mod lists;
 #[cfg(test)]
+mod plain_words;
+#[cfg(test)]
 mod random_lists;
 #[cfg(test)]
 mod tables;

@@ -28,6 +28,9 @@ const LOAD_RULE: Row = Row::Program(
 /// `ldh [12]`, 4094 times `add #1`, `ret a`.
 const LOAD_LONG: Row = Row::Program((40, 0, 0, 12), 4094, &[(4, 0, 0, 1)], (22, 0, 0, 0));
 
+/// 4095 times `tax`, and `ret #1`.
+const LOAD_STRAIGHT: Row = Row::Program((7, 0, 0, 0), 4094, &[(7, 0, 0, 0)], (6, 0, 0, 1));
+
 /// What a session shows, and its calls from nothing loaded on.
 pub(crate) type Shown = (&'static str, &'static [Row]);
 
@@ -307,6 +310,22 @@ const STEPS: &[Shown] = &[
             Row::Resume(1, 2, Ok(()), Turns::There(1)),
             Row::Resume(1, 0, Ok(()), Turns::Exactly(0)),
             Row::Delete(4095, Ok(true)),
+            Row::Run(None, Answer::Finishes(2, 0, 0), Turns::Exactly(8192)),
+        ],
+    ),
+    (
+        "4095 times `tax` and a return, back from its end and onto entry 64, and without the breakpoint",
+        &[
+            LOAD_STRAIGHT,
+            Row::Capture,
+            Row::Break(4095, When::Always, Ok(())),
+            Row::Run(None, Answer::Breaks(1, 4096, 4095, 0), Turns::Exactly(4095)),
+            Row::Step(-1, Answer::Steps(1, 4095, 4094, 0), Turns::Back(62)),
+            Row::Step(-4031, Answer::Steps(1, 64, 63, 0), Turns::Back(63)),
+            Row::Step(1, Answer::Steps(1, 65, 64, 0), Turns::Exactly(1)),
+            Row::Step(-1, Answer::Steps(1, 64, 63, 0), Turns::Back(63)),
+            Row::Step(-63, Answer::Steps(1, 1, 0, 0), Turns::Back(0)),
+            LOAD_STRAIGHT,
             Row::Run(None, Answer::Finishes(2, 0, 0), Turns::Exactly(8192)),
         ],
     ),

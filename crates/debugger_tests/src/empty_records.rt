@@ -1,0 +1,73 @@
+//! Captures whose records have no bytes, of which each 64th one's start is kept.
+
+use crate::assertions::assert_at;
+use crate::captures::capture;
+use crate::programs::program_of;
+use crate::two_packets;
+use cbpf_dbg::{ListTrail, MarkTrail, Meter, RunReply, Session, Trail};
+use pcap_classic::Capture;
+use std::alloc::Global;
+use std::process::Abort;
+
+/// A file header, and so many record headers of captured length 0.
+fn empty_records(rt: &impl Abort, alloc: Global, count: u32) -> Vec<u8> {
+    let header = two_packets::little_endian().get(..24).unwrap_or(b"");
+    let mut file = Vec::from_slice(alloc, header).expect(rt, "memory");
+    for _ in 0..count {
+        file.extend_from_slice(&[0; 16]).expect(rt, "memory");
+    }
+    file
+}
+
+/// Numbers of records, and how many starts are kept of them.
+const MARKS: [(u32, usize); 4] = [(130, 3), (65, 2), (64, 1), (0, 0)];
+
+#[test]
+fn starts_that_are_kept(rt: HostRuntime) {
+    for (count, marks) in MARKS {
+        let file = empty_records(&rt, rt.alloc(), count);
+        let capture = capture(&rt, rt.alloc(), &file);
+        let is_kept = capture.count() == u64::from(count) && capture.marks() == marks;
+        assert_at(&rt, count as usize, is_kept);
+    }
+}
+
+/// Whether a capture of 130 records has them where they are, and one after the other.
+fn has_130(capture: &Capture) -> bool {
+    if capture.count() != 130 {
+        return false;
+    }
+    let (at_mark, last) = (capture.item(65), capture.item(130));
+    at_mark.start == 1048
+        && last.start == 2088
+        && capture.following(&capture.item(64)) == Some(at_mark)
+        && capture.following(&last) == None
+}
+
+/// The packets that passed and that failed, and the turns of a run to the end.
+fn run<T: Trail>(s: &mut Session<T>) -> Option<(u64, u64, u128)> {
+    let mut meter = Meter::new();
+    match s.run(&mut meter, None) {
+        Ok(RunReply::Finished(counts)) => Some((counts.passes, counts.fails, meter.spent())),
+        _ => None,
+    }
+}
+
+/// Runs `ret #1` over each record.
+fn assert_run<T: Trail>(rt: &impl Abort, alloc: Global, trail: T, capture: Capture) {
+    let mut s = Session::new(alloc, trail);
+    s.load_program(program_of(rt, alloc, &[(6, 0, 0, 1)]));
+    s.load_capture(capture);
+    assert!(rt; run(&mut s) == Some((130, 0, 130)));
+}
+
+#[test]
+fn a_capture_of_130_records(rt: HostRuntime) {
+    let file = empty_records(&rt, rt.alloc(), 130);
+    assert!(rt; file.len() == 2104);
+    let first = capture(&rt, rt.alloc(), &file);
+    assert!(rt; has_130(&first));
+    assert_run(&rt, rt.alloc(), MarkTrail::new(), first);
+    let all = ListTrail::new(rt.alloc()).expect(&rt, "memory");
+    assert_run(&rt, rt.alloc(), all, capture(&rt, rt.alloc(), &file));
+}

@@ -1,0 +1,140 @@
+#!/usr/bin/env python3
+"""Checks that another crate can't make or change a state, a meter or values but by the calls of cbpf_machine.
+
+usage: compile.py
+
+Each row is a function of a crate over cbpf_machine: its head, a body that compiles, and lines in that body's place,
+each with the error that the compiler is to give. The crate is made below a copy of cbpf_machine, with no proof. With
+the first bodies it compiles and runs; with the others the compiler gives exactly these errors, each at its line.
+The last line is `N lines refused, M failed`.
+"""
+
+import re
+import shutil
+import subprocess
+import sys
+import tempfile
+from pathlib import Path
+
+TOP = Path(__file__).resolve().parent.parent
+BELOW = "cbpf_machine"
+ERROR = re.compile(r"src/main\.rt:(\d+):\d+: error\[([\w-]+)\]")
+SECONDS = 600
+
+PRIVATE = "private-field"
+ROWS = [
+    (
+        "fn make_state(s: State) -> State",
+        "s",
+        [
+            ("State { pc: 1, a: 0, x: 0, slots: [0; 16] }", PRIVATE),
+            ("State { a: 1, ..s }", PRIVATE),
+        ],
+    ),
+    (
+        "fn write_state(s: &mut State)",
+        "*s = State::zero();",
+        [
+            ("s.pc = 1;", PRIVATE),
+            ("s.a = 1;", PRIVATE),
+            ("s.x = 1;", PRIVATE),
+            ("s.slots[0] = 1;", PRIVATE),
+        ],
+    ),
+    ("fn make_meter() -> Meter", "Meter::new()", [("Meter { turns: 1 }", PRIVATE)]),
+    (
+        "fn write_meter(m: &mut Meter)",
+        "*m = Meter::new();",
+        [
+            ("m.turns = 1;", PRIVATE),
+            ("m.tick();", "private-item"),
+            ("m.add(1);", "private-item"),
+        ],
+    ),
+    (
+        "fn copy_meter(m: &Meter) -> Meter",
+        "Meter::new()",
+        [("*m", "move-out-of-place"), ("m.clone()", "unsupported-method")],
+    ),
+    ("fn write_values(v: &mut Values)", "*v = Values::new();", [("v.places[0] = None;", PRIVATE)]),
+]
+HEAD = """#![tactic(auto)]
+#![allow(dead_code)]
+
+use cbpf_machine::{Meter, State, Values};
+
+fn main(_rt: HostRuntime) {}
+"""
+
+
+def source(bodies):
+    """The crate's text with these heads and bodies, and the line at which each body stands."""
+    text, lines = HEAD, []
+    for number, (head, body) in enumerate(bodies):
+        head = re.sub(r"fn (\w+)", rf"fn \1_{number}", head)
+        text += f"\n{head} {{\n"
+        lines.append(text.count("\n") + 1)
+        text += f"    {body}\n}}\n"
+    return text, lines
+
+
+def dependencies(crate):
+    """The crates of this repository below one, and itself."""
+    listed = dict(
+        line.split(":", 1) for line in (TOP / "crates.txt").read_text().splitlines() if re.match(r"\w", line)
+    )
+    found = {crate}
+    for name in listed[crate].split():
+        if name in listed:
+            found.update(dependencies(name))
+    return {name: listed[name] for name in found}
+
+
+def compiled(folder, text):
+    """Whether the crate compiles and runs, what the compiler said, and its errors by line."""
+    crate = Path(folder) / "crates" / "outside"
+    (crate / "src").mkdir(parents=True, exist_ok=True)
+    (crate / "src" / "main.rt").write_text(text)
+    done = subprocess.run(
+        ["rt", "try"], cwd=crate, stdin=subprocess.DEVNULL, capture_output=True, text=True, timeout=SECONDS
+    )
+    said = done.stdout + done.stderr
+    return done.returncode == 0, said, {(int(line), name) for line, name in ERROR.findall(said)}
+
+
+def main():
+    if not shutil.which("rt"):
+        sys.exit("The command rt of the Rattle toolchain is not on the PATH.")
+    faults = []
+    with tempfile.TemporaryDirectory() as folder:
+        needed = dependencies(BELOW)
+        for name in needed:
+            shutil.copytree(
+                TOP / "crates" / name, Path(folder) / "crates" / name, ignore=shutil.ignore_patterns("out")
+            )
+        shutil.copy(TOP / "HANDLES", folder)
+        lines = [f"{name}:{below}" for name, below in needed.items()] + [f"outside: {BELOW}"]
+        (Path(folder) / "crates.txt").write_text("\n".join(lines) + "\n")
+
+        text, _ = source([(head, body) for head, body, _ in ROWS])
+        holds, said, _ = compiled(folder, text)
+        if not holds:
+            faults.append(f"what is allowed doesn't compile:\n{said}")
+
+        refused = [(head, line, error) for head, _, lines in ROWS for line, error in lines]
+        text, places = source([(head, line) for head, line, _ in refused])
+        holds, said, found = compiled(folder, text)
+        wanted = {(place, error) for place, (_, _, error) in zip(places, refused)}
+        for place, (_, line, error) in zip(places, refused):
+            if holds or (place, error) not in found:
+                faults.append(f"no error[{error}]: {line}")
+        if found - wanted:
+            faults.append(f"other errors at lines {sorted(found - wanted)}:\n{said}")
+    for fault in faults:
+        print(fault)
+    print(f"{len(refused)} lines refused, {len(faults)} failed")
+    sys.exit(1 if faults else 0)
+
+
+if __name__ == "__main__":
+    main()
