@@ -116,7 +116,12 @@ fn answers_and_refusals(rt: HostRuntime) {
     let counting = CountingAllocator::new(rt.alloc());
     for (row, (call, refused)) in CALLS.iter().enumerate() {
         let asked = counting.asked();
-        assert_at(&rt, is_refused(&rt, &counting, *call) == *refused, "the answer", row);
+        assert_at(
+            &rt,
+            is_refused(&rt, &counting, *call) == *refused,
+            "the answer",
+            row,
+        );
         assert_at(&rt, counting.asked() > asked || *refused, "asked for", row);
         assert_at(&rt, counting.held() == 0, "held", row);
     }
@@ -125,7 +130,11 @@ fn answers_and_refusals(rt: HostRuntime) {
 #[test]
 fn loads_of_files(rt: HostRuntime) {
     let counting = CountingAllocator::new(rt.alloc());
-    assert!(rt; DiskFiles::new(&rt).load(&counting, "/proc/self/status").is_ok());
+    assert!(rt;
+        DiskFiles::new(&rt)
+            .load(&counting, "/proc/self/status")
+            .is_ok()
+    );
     assert!(rt; counting.asked() > 0 && counting.held() == 0);
     let mut files = two_packets_as_k(rt.alloc()).expect(&rt, "the files");
     assert!(rt; files.load(&counting, "k").is_ok());
@@ -236,9 +245,14 @@ fn index_of<A: Allocator + Copy>(
 ) -> (u64, u64) {
     let bytes = Vec::from_slice(alloc, bytes).expect(rt, "the bytes");
     let (asked, held) = (counting.asked(), counting.held());
-    let capture = Capture::from_bytes(alloc, bytes).ok().expect(rt, "the capture");
+    let capture = Capture::from_bytes(alloc, bytes)
+        .ok()
+        .expect(rt, "the capture");
     assert!(rt; capture.count() < 10000);
-    (counting.asked().saturating_sub(asked), counting.held().saturating_sub(held))
+    (
+        counting.asked().saturating_sub(asked),
+        counting.held().saturating_sub(held),
+    )
 }
 
 #[test]
@@ -247,7 +261,12 @@ fn room_for_the_index_of_a_capture(rt: HostRuntime) {
         let counting = CountingAllocator::new(rt.alloc());
         let bytes = repeated(rt.alloc(), HEADER, RECORD, *records, b"").expect(&rt, "the bytes");
         let found = index_of(&rt, &counting, &counting, &bytes);
-        assert_at(&rt, found == (*asked, *held), "the bytes of the index", *records);
+        assert_at(
+            &rt,
+            found == (*asked, *held),
+            "the bytes of the index",
+            *records,
+        );
         assert_at(&rt, counting.held() == 0, "held", *records);
     }
 }

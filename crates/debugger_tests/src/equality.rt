@@ -29,25 +29,27 @@ fn compare<T: PartialEq>(rt: &impl Abort, ones: &[T], others: &[T]) {
     }
 }
 
-/// Four instructions, of which the last is a return, with the state before that.
-const BASE: [Code; 4] = [(0, 0, 0, 0), (2, 0, 0, 0), (0, 0, 0, 0), (6, 0, 0, 0)];
-
-/// Programs whose states before their last instruction differ from that of the first one in pc, A or X.
-static PROGRAMS: [&[Code]; 9] = [
-    &BASE,
-    &[(0, 0, 0, 0), (2, 0, 0, 0), (0, 0, 0, 0), (0, 0, 0, 0), (6, 0, 0, 0)],
-    &[(0, 0, 0, 0), (2, 0, 0, 0), (5, 0, 0, 1), (0, 0, 0, 0), (0, 0, 0, 0), (6, 0, 0, 0)],
-    &[(0, 0, 0, 0), (2, 0, 0, 0), (0, 0, 0, 1), (6, 0, 0, 0)],
-    &[(0, 0, 0, 0), (2, 0, 0, 0), (0, 0, 0, 65536), (6, 0, 0, 0)],
-    &[(0, 0, 0, 0), (2, 0, 0, 0), (0, 0, 0, 2147483648), (6, 0, 0, 0)],
-    &[(0, 0, 0, 0), (2, 0, 0, 0), (1, 0, 0, 1), (6, 0, 0, 0)],
-    &[(0, 0, 0, 0), (2, 0, 0, 0), (1, 0, 0, 65536), (6, 0, 0, 0)],
-    &[(0, 0, 0, 0), (2, 0, 0, 0), (1, 0, 0, 2147483648), (6, 0, 0, 0)],
+/// Programs, and numbers of turns: the states after these differ from that of the first row in pc, A or X.
+static ROWS: [(&[Code], u32); 9] = [
+    (&[(0, 0, 0, 0), (2, 0, 0, 0), (0, 0, 0, 0), (6, 0, 0, 0)], 3),
+    (&[(0, 0, 0, 0), (2, 0, 0, 0), (0, 0, 0, 0), (0, 0, 0, 0), (6, 0, 0, 0)], 4),
+    (&[(0, 0, 0, 0), (2, 0, 0, 0), (0, 0, 0, 0), (6, 0, 0, 0)], 2),
+    (&[(0, 0, 0, 0), (2, 0, 0, 0), (0, 0, 0, 1), (6, 0, 0, 0)], 3),
+    (&[(0, 0, 0, 0), (2, 0, 0, 0), (0, 0, 0, 65536), (6, 0, 0, 0)], 3),
+    (&[(0, 0, 0, 0), (2, 0, 0, 0), (0, 0, 0, 2147483648), (6, 0, 0, 0)], 3),
+    (&[(0, 0, 0, 0), (2, 0, 0, 0), (1, 0, 0, 1), (6, 0, 0, 0)], 3),
+    (&[(0, 0, 0, 0), (2, 0, 0, 0), (1, 0, 0, 65536), (6, 0, 0, 0)], 3),
+    (&[(0, 0, 0, 0), (2, 0, 0, 0), (1, 0, 0, 2147483648), (6, 0, 0, 0)], 3),
 ];
 
-/// Programs whose states differ from that of the base in one slot.
+/// A program whose state after three turns differs from that of the first row in one slot.
 fn store(value: u32, slot: u32) -> [Code; 4] {
-    [(0, 0, 0, value), (2, 0, 0, slot), (0, 0, 0, 0), (6, 0, 0, 0)]
+    [
+        (0, 0, 0, value),
+        (2, 0, 0, slot),
+        (0, 0, 0, 0),
+        (6, 0, 0, 0),
+    ]
 }
 
 fn next_state(rt: &impl Abort, p: &Program, meter: &mut Meter, s: &State) -> State {
@@ -73,26 +75,24 @@ fn state_of(rt: &impl Abort, alloc: Global, list: &[Code], turns: u32) -> State 
     s
 }
 
-/// The numbers of turns of the programs.
-static TURNS: [u32; 9] = [3, 4, 3, 3, 3, 3, 3, 3, 3];
-
 /// States that differ from the first one in pc, A or X.
 fn registers(rt: &impl Abort, alloc: Global) -> Vec<State> {
     let mut states = Vec::new(alloc);
-    for (list, turns) in PROGRAMS.iter().zip(TURNS.iter()) {
-        states.push(state_of(rt, alloc, list, *turns)).expect(rt, "memory");
+    for (list, turns) in ROWS.iter() {
+        states
+            .push(state_of(rt, alloc, list, *turns))
+            .expect(rt, "memory");
     }
     states
 }
 
-/// The same, and states that differ from the first one in one slot.
+/// The same, and states that differ from the first one in one slot, each by two values.
 fn states(rt: &impl Abort, alloc: Global) -> Vec<State> {
     let mut states = registers(rt, alloc);
-    for slot in 0..16u32 {
-        for value in [1, 65536] {
-            let state = state_of(rt, alloc, &store(value, slot), 3);
-            states.push(state).expect(rt, "memory");
-        }
+    for n in 0..32u32 {
+        let value = if n < 16 { 1 } else { 65536 };
+        let state = state_of(rt, alloc, &store(value, n % 16), 3);
+        states.push(state).expect(rt, "memory");
     }
     states
 }
@@ -108,28 +108,67 @@ static PLACES: [Place; 5] = [
     Place { packet: 1, step: 1 },
     Place { packet: 2, step: 1 },
     Place { packet: 1, step: 2 },
-    Place { packet: 4294967297, step: 1 },
-    Place { packet: 1, step: 65537 },
+    Place {
+        packet: 4294967297,
+        step: 1,
+    },
+    Place {
+        packet: 1,
+        step: 65537,
+    },
 ];
 
-static REASONS: [Why; 4] = [Why::Break, Why::Step, Why::Unknown(Ext::Mark), Why::Unknown(Ext::Cpu)];
+static REASONS: [Why; 4] = [
+    Why::Break,
+    Why::Step,
+    Why::Unknown(Ext::Mark),
+    Why::Unknown(Ext::Cpu),
+];
+
+/// A stop for each state.
+fn add_states(rt: &impl Abort, stops: &mut Vec<Stop>, states: &[State]) {
+    for state in states {
+        let stop = Stop {
+            place: PLACES[0],
+            state: *state,
+            why: Why::Break,
+        };
+        stops.push(stop).expect(rt, "memory");
+    }
+}
+
+/// A stop for each place but the first.
+fn add_places(rt: &impl Abort, stops: &mut Vec<Stop>, state: State) {
+    for place in &PLACES[1..] {
+        let stop = Stop {
+            place: *place,
+            state,
+            why: Why::Break,
+        };
+        stops.push(stop).expect(rt, "memory");
+    }
+}
+
+/// A stop for each reason but the first.
+fn add_reasons(rt: &impl Abort, stops: &mut Vec<Stop>, state: State) {
+    for why in &REASONS[1..] {
+        let stop = Stop {
+            place: PLACES[0],
+            state,
+            why: *why,
+        };
+        stops.push(stop).expect(rt, "memory");
+    }
+}
 
 /// Stops that differ from the first one in the state, then in the place, then in the reason.
 fn stops(rt: &impl Abort, alloc: Global) -> Vec<Stop> {
     let states = states(rt, alloc);
+    let state = *states.first().expect(rt, "a state");
     let mut stops = Vec::new(alloc);
-    for state in &states {
-        let stop = Stop { place: PLACES[0], state: *state, why: REASONS[0] };
-        stops.push(stop).expect(rt, "memory");
-    }
-    for place in &PLACES[1..] {
-        let stop = Stop { place: *place, state: states[0], why: REASONS[0] };
-        stops.push(stop).expect(rt, "memory");
-    }
-    for why in &REASONS[1..] {
-        let stop = Stop { place: PLACES[0], state: states[0], why: *why };
-        stops.push(stop).expect(rt, "memory");
-    }
+    add_states(rt, &mut stops, &states);
+    add_places(rt, &mut stops, state);
+    add_reasons(rt, &mut stops, state);
     stops
 }
 
@@ -141,21 +180,54 @@ fn stops_differ_where_a_field_does(rt: HostRuntime) {
 }
 
 static COUNTS: [Counts; 7] = [
-    Counts { passes: 1, fails: 1, unknown: 1 },
-    Counts { passes: 2, fails: 1, unknown: 1 },
-    Counts { passes: 1, fails: 2, unknown: 1 },
-    Counts { passes: 1, fails: 1, unknown: 2 },
-    Counts { passes: 4294967297, fails: 1, unknown: 1 },
-    Counts { passes: 1, fails: 4294967297, unknown: 1 },
-    Counts { passes: 1, fails: 1, unknown: 4294967297 },
+    Counts {
+        passes: 1,
+        fails: 1,
+        unknown: 1,
+    },
+    Counts {
+        passes: 2,
+        fails: 1,
+        unknown: 1,
+    },
+    Counts {
+        passes: 1,
+        fails: 2,
+        unknown: 1,
+    },
+    Counts {
+        passes: 1,
+        fails: 1,
+        unknown: 2,
+    },
+    Counts {
+        passes: 4294967297,
+        fails: 1,
+        unknown: 1,
+    },
+    Counts {
+        passes: 1,
+        fails: 4294967297,
+        unknown: 1,
+    },
+    Counts {
+        passes: 1,
+        fails: 1,
+        unknown: 4294967297,
+    },
 ];
 
-fn replies(rt: &impl Abort, alloc: Global) -> Vec<RunReply> {
-    let mut replies = Vec::new(alloc);
+fn add_counts(rt: &impl Abort, replies: &mut Vec<RunReply>) {
     for counts in &COUNTS {
         replies.push(RunReply::Limit(*counts)).expect(rt, "memory");
         replies.push(RunReply::Finished(*counts)).expect(rt, "memory");
     }
+}
+
+/// Each of these counts in both replies that have some, and each stop.
+fn replies(rt: &impl Abort, alloc: Global) -> Vec<RunReply> {
+    let mut replies = Vec::new(alloc);
+    add_counts(rt, &mut replies);
     for stop in &stops(rt, alloc) {
         replies.push(RunReply::Stopped(*stop)).expect(rt, "memory");
     }
@@ -183,11 +255,23 @@ fn records(bytes: &[u8; 4]) -> [Captured<'_>; 9] {
         Captured { number: 2, ..base },
         Captured { start: 25, ..base },
         Captured { seconds: 4, ..base },
-        Captured { fraction: 5, ..base },
+        Captured {
+            fraction: 5,
+            ..base
+        },
         Captured { wire: 6, ..base },
-        Captured { bytes: &bytes[..1], ..base },
-        Captured { bytes: &bytes[1..3], ..base },
-        Captured { bytes: &bytes[2..4], ..base },
+        Captured {
+            bytes: &bytes[..1],
+            ..base
+        },
+        Captured {
+            bytes: &bytes[1..3],
+            ..base
+        },
+        Captured {
+            bytes: &bytes[2..4],
+            ..base
+        },
     ]
 }
 

@@ -1,6 +1,5 @@
 -- It counts the bytes, and answers what the inner allocator answers. Assumes `Logic`.
 use Rattle.std.proofs.Common.{◌≡◌, ℕ, Bool, true, false, [], ◌∷◌, Ok, Err, refl, w64}
-use Rattle.std.proofs.VecSteps.Shapes.{after}
 use Rattle.std.proofs.raw_atomic.Walks.{proved}
 use Rattle.std.proofs.alloc.Calls.{Al, seen, token, Answer, answer_val, Answer-typed, Answer-Ok, Answer-err, Takes}
 use Rattle.std.proofs.alloc.Calls.{at_takes, Answered, Takes-goes, Takes-gives, answers}
@@ -15,11 +14,10 @@ use types.Logic.{sem}
 use contract.BorrowLft.{◌⊑◌, ⊑_trans}
 use contract.Monad.{fact}
 use contract.Running.{tables}
-use types.Kit.{‵, raw, ◌⊛◌, some, later, given, prop, at_ret, Sq, ◌$◌, ◌∵◌, !, qed, move, keep, use0, use1, use2}
-use types.Kit.{split, join, pick, learn, group, fsplit, fjoin, suffices, await, done}
-use types.Part.{agg}
-use types.Run.{stop, fld, addr, lit, no_more, and_then, first, branches, skips, exec, returns, returns_within, enter}
-use types.ByLocal.{alloc_all, pass_all, free_all, look_at, get, through, sets, lands_as, env}
+use types.Kit.{‵, raw, ◌⊛◌, later, given, prop, Sq, ◌$◌, ◌∵◌, !, qed, move, keep, use0, use1, use2}
+use types.Kit.{split, join, learn, group, fsplit, fjoin, suffices, await, done}
+use types.Run.{stop, fld, addr, no_more, and_then, returns, enter}
+use types.ByLocal.{alloc_all, pass_all, free_all, look_at, get, through, sets, lands_as}
 use denote.Builtin.{usize}
 use denote.Exit.{yes}
 use denote.Memory.{hidden_shr}
