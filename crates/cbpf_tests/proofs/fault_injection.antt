@@ -1,2 +1,3 @@
+mod Counts
 mod Passing
 mod Refusal

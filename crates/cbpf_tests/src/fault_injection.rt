@@ -1,13 +1,15 @@
 //! Faults on purpose: an allocator that refuses one allocation, a reader with one failing read, and a
-//! writer with one failing or empty write.
+//! writer with one failing or empty write. Beside these, an allocator that counts bytes.
 
 mod allocator;
 mod calls;
+mod counting;
 mod reader;
 mod tests;
 mod writer;
 
 pub(crate) use allocator::RefusingAllocator;
+pub(crate) use counting::CountingAllocator;
 pub(crate) use reader::FaultyReader;
 pub(crate) use writer::{Fault, FaultyWriter};
 

@@ -1,5 +1,5 @@
 //! Tests that cross the crates: each beginning of a source, the assembler and the debugger over readers,
-//! writers and allocators that fail, and large inputs.
+//! writers and allocators that fail, memory that is given back, and large inputs.
 #![tactic(auto)]
 
 #[cfg(test)]
@@ -16,6 +16,10 @@ mod failing_input;
 mod failing_writes;
 #[cfg(test)]
 mod fault_injection;
+#[cfg(test)]
+mod given_back;
+#[cfg(test)]
+mod great_sizes;
 #[cfg(test)]
 mod loaded;
 #[cfg(test)]

@@ -9,6 +9,8 @@ mod captures;
 #[cfg(test)]
 mod empty_records;
 #[cfg(test)]
+mod equality;
+#[cfg(test)]
 mod machine;
 #[cfg(test)]
 mod machine_trail;

@@ -1,0 +1,282 @@
+// What was asked for of an allocator is given back: by loads that take the place of others, by refused loads,
+// by breakpoints that are set and taken out, and by what is dropped.
+use crate::fault_injection::CountingAllocator;
+use crate::loaded::{
+    ARP, HEADER, ICMP_WORDS, RECORD, STRAIGHT, program_of, repeated, two_packets, two_packets_as_k,
+};
+use crate::places::assert_at;
+use cbpf_code::{check, read_words};
+use cbpf_dbg::{ListTrail, MarkTrail, Session, Trail, When};
+use cbpf_text::{assemble, tokens};
+use cbpf_tool::{DiskFiles, Files, Form, asm, debug};
+use pcap_classic::Capture;
+use std::alloc::{Allocator, Global};
+use std::io;
+use std::io::Read;
+use std::process::Abort;
+
+/// A breakpoint at each of 20 instructions, in turn with a condition.
+fn set<T: Trail, A: Allocator + Copy>(rt: &impl Abort, session: &mut Session<T, A>) {
+    for n in 0..20u64 {
+        let set = if n % 2 == 0 {
+            session.breakpoint(n)
+        } else {
+            session.breakpoint_when(n, When::A(7))
+        };
+        assert_at(rt, set == Ok(()), "a breakpoint", n);
+    }
+}
+
+fn take_out<T: Trail, A: Allocator + Copy>(rt: &impl Abort, session: &mut Session<T, A>) {
+    for n in 0..20u64 {
+        assert_at(rt, session.delete(n) == Ok(true), "a breakpoint", n);
+    }
+}
+
+/// Loads in the place of others, and breakpoints that are set and go.
+fn load<T: Trail, A: Allocator + Copy>(rt: &impl Abort, alloc: A, session: &mut Session<T, A>) {
+    session.load_program(program_of(alloc, STRAIGHT).expect(rt, "the program"));
+    session.load_capture(two_packets(alloc).expect(rt, "the capture"));
+    set(rt, session);
+    take_out(rt, session);
+    set(rt, session);
+    session.reset_breakpoints();
+}
+
+/// A session of `alloc`, whose bytes `counting` counts: of each further round of loads nothing is held.
+fn load_again_and_again<T: Trail, A: Allocator + Copy>(
+    rt: &impl Abort,
+    alloc: A,
+    counting: &CountingAllocator<Global>,
+    trail: T,
+) {
+    let mut session = Session::new(alloc, trail);
+    load(rt, alloc, &mut session);
+    let held = counting.held();
+    assert!(rt; held > 0);
+    for round in 2..=10u32 {
+        load(rt, alloc, &mut session);
+        assert_at(rt, counting.held() == held, "held after a round", round);
+    }
+}
+
+#[test]
+fn loads_and_breakpoints_of_a_session(rt: HostRuntime) {
+    let counting = CountingAllocator::new(rt.alloc());
+    load_again_and_again(&rt, &counting, &counting, MarkTrail::new());
+    assert!(rt; counting.held() == 0);
+    let trail = ListTrail::new(&counting).expect(&rt, "the trail");
+    load_again_and_again(&rt, &counting, &counting, trail);
+    assert!(rt; counting.held() == 0);
+    assert!(rt; counting.asked() > 0);
+}
+
+/// What is called, and whether it is refused. Its answer goes.
+#[derive(Clone, Copy)]
+enum Call {
+    Words(&'static [u8]),
+    Program(&'static [u8]),
+    Capture(&'static [u8]),
+    Tokens(&'static [u8]),
+    Source(&'static [u8]),
+}
+
+fn is_refused<A: Allocator + Copy>(rt: &impl Abort, alloc: A, call: Call) -> bool {
+    match call {
+        Call::Words(text) => read_words(alloc, text).is_err(),
+        Call::Program(text) => check(read_words(alloc, text).expect(rt, "the list")).is_err(),
+        Call::Capture(bytes) => {
+            let bytes = Vec::from_slice(alloc, bytes).expect(rt, "the bytes");
+            Capture::from_bytes(alloc, bytes).is_err()
+        }
+        Call::Tokens(source) => tokens(alloc, source).is_err(),
+        Call::Source(source) => assemble(alloc, source).is_err(),
+    }
+}
+
+/// A call, and whether it is refused.
+static CALLS: [(Call, bool); 13] = [
+    (Call::Words(ICMP_WORDS), false),
+    (Call::Words(b"3,6 0 0 1,6 0 0 1"), true),
+    (Call::Words(b"2,6 0 0 1,6 0 0 x"), true),
+    (Call::Program(STRAIGHT), false),
+    (Call::Program(b"2,6 0 0 1,5 0 0 0"), true),
+    (Call::Program(b"2,96 0 0 0,22 0 0 0"), true),
+    (Call::Capture(HEADER), false),
+    (Call::Capture(RECORD), true),
+    (Call::Capture(b"no capture, as its magic says"), true),
+    (Call::Tokens(b"ldh [12] $"), true),
+    (Call::Source(ARP), false),
+    (Call::Source(b"a: ld #1\njmp b\nret #0"), true),
+    (Call::Source(b"a: ld #1\nret ret"), true),
+];
+
+#[test]
+fn answers_and_refusals(rt: HostRuntime) {
+    let counting = CountingAllocator::new(rt.alloc());
+    for (row, (call, refused)) in CALLS.iter().enumerate() {
+        let asked = counting.asked();
+        assert_at(
+            &rt,
+            is_refused(&rt, &counting, *call) == *refused,
+            "the answer",
+            row,
+        );
+        assert_at(&rt, counting.asked() > asked || *refused, "asked for", row);
+        assert_at(&rt, counting.held() == 0, "held", row);
+    }
+}
+
+#[test]
+fn loads_of_files(rt: HostRuntime) {
+    let counting = CountingAllocator::new(rt.alloc());
+    assert!(rt;
+        DiskFiles::new(&rt)
+            .load(&counting, "/proc/self/status")
+            .is_ok()
+    );
+    assert!(rt; counting.asked() > 0 && counting.held() == 0);
+    let mut files = two_packets_as_k(rt.alloc()).expect(&rt, "the files");
+    assert!(rt; files.load(&counting, "k").is_ok());
+    assert!(rt; files.load(&counting, "absent").is_err());
+    assert!(rt; counting.held() == 0);
+}
+
+/// Lines that are read again and again: loads, refused loads, and breakpoints that are set and go. All are of
+/// one length at most, so that the room for a line stays.
+static LINES: [&[u8]; 12] = [
+    b"load bpf 6,40 0 0 12,21 0 3 2048,48 0 0 23,21 0 1 1,6 0 0 65535,6 0 0 0\n",
+    b"load pcap k\n",
+    b"breakpoint 1\n",
+    b"breakpoint 4 a 7\n",
+    b"run\n",
+    b"step -1\n",
+    b"delete 4\n",
+    b"load bpf 6,40 0 0 12,21 0 3 2048,48 0 0 23,21 0 1 1,6 0 0 65535,6 0 0 x\n",
+    b"load bpf 6,40 0 0 12,21 0 3 2048,48 0 0 23,21 0 1 1,6 0 0 65535,5 0 0 0\n",
+    b"load pcap absent\n",
+    b"load pcap bad\n",
+    b"breakpoint reset\n",
+];
+
+/// A reader that gives one line a call, for ten rounds, and compares what is held before each round.
+#[derive(Drop)]
+struct NotingReader<'a> {
+    counting: &'a CountingAllocator<Global>,
+    reads: usize,
+    /// What was held after the first round.
+    held: u64,
+    /// How often it was something else later.
+    differing: u64,
+}
+
+impl<'a> NotingReader<'a> {
+    fn note(&mut self) {
+        if self.reads == LINES.len() {
+            self.held = self.counting.held();
+        } else if self.reads % LINES.len() == 0 && self.counting.held() != self.held {
+            self.differing = self.differing.saturating_add(1);
+        }
+    }
+}
+
+impl<'a> Read for NotingReader<'a> {
+    fn read(&mut self, buf: &mut [u8]) -> io::Result<usize> {
+        self.note();
+        if self.reads >= 10 * LINES.len() {
+            return Ok(0);
+        }
+        let mut line = LINES[self.reads % LINES.len()];
+        self.reads += 1;
+        line.read(buf)
+    }
+}
+
+#[test]
+fn commands_of_a_script(rt: HostRuntime) {
+    let counting = CountingAllocator::new(rt.alloc());
+    let mut reader = NotingReader {
+        counting: &counting,
+        reads: 0,
+        held: 0,
+        differing: 0,
+    };
+    let mut files = two_packets_as_k(rt.alloc()).expect(&rt, "the files");
+    let bad = Vec::from_slice(rt.alloc(), RECORD).expect(&rt, "the bytes");
+    assert!(rt; files.put("bad", bad).is_ok());
+    let mut replies = Vec::new(rt.alloc());
+    assert!(rt; debug(&counting, &mut reader, &mut replies, &mut files) == Ok(()));
+    assert!(rt; reader.reads == 120 && reader.held > 0);
+    assert!(rt; reader.differing == 0);
+    assert!(rt; counting.held() == 0);
+}
+
+#[test]
+fn sources(rt: HostRuntime) {
+    let counting = CountingAllocator::new(rt.alloc());
+    for (source, is_taken) in [(ARP, true), (b"a: ld #1\njmp b\nret #0".as_slice(), false)] {
+        let mut reader = source;
+        let mut words = Vec::new(rt.alloc());
+        let answer = asm(&counting, &mut reader, &mut words, Form::Decimal);
+        assert!(rt; answer.is_ok() == is_taken);
+        assert!(rt; counting.asked() > 0 && counting.held() == 0);
+    }
+}
+
+/// The number of records of a capture; the bytes that its index asks for, and those that it holds. There is a place
+/// of 8 bytes for each 64 records, and the room for places doubles from 4 on.
+static INDEXES: [(u32, u64, u64); 8] = [
+    (0, 0, 0),
+    (1, 32, 32),
+    (256, 32, 32),
+    (257, 96, 64),
+    (512, 96, 64),
+    (513, 224, 128),
+    (3000, 992, 512),
+    (8192, 2016, 1024),
+];
+
+/// What an index asks for and holds, over the bytes of `alloc`, which `counting` counts.
+fn index_of<A: Allocator + Copy>(
+    rt: &impl Abort,
+    alloc: A,
+    counting: &CountingAllocator<Global>,
+    bytes: &[u8],
+) -> (u64, u64) {
+    let bytes = Vec::from_slice(alloc, bytes).expect(rt, "the bytes");
+    let (asked, held) = (counting.asked(), counting.held());
+    let capture = Capture::from_bytes(alloc, bytes)
+        .ok()
+        .expect(rt, "the capture");
+    assert!(rt; capture.count() < 10000);
+    (
+        counting.asked().saturating_sub(asked),
+        counting.held().saturating_sub(held),
+    )
+}
+
+#[test]
+fn room_for_the_index_of_a_capture(rt: HostRuntime) {
+    for (records, asked, held) in INDEXES.iter() {
+        let counting = CountingAllocator::new(rt.alloc());
+        let bytes = repeated(rt.alloc(), HEADER, RECORD, *records, b"").expect(&rt, "the bytes");
+        let found = index_of(&rt, &counting, &counting, &bytes);
+        assert_at(
+            &rt,
+            found == (*asked, *held),
+            "the bytes of the index",
+            *records,
+        );
+        assert_at(&rt, counting.held() == 0, "held", *records);
+    }
+}
+
+#[test]
+fn room_for_a_list_of_states(rt: HostRuntime) {
+    let counting = CountingAllocator::new(rt.alloc());
+    let trail = ListTrail::new(&counting).expect(&rt, "the trail");
+    // 4096 states of 80 bytes.
+    assert!(rt; counting.asked() == 327680 && counting.held() == 327680);
+    drop(trail);
+    assert!(rt; counting.held() == 0);
+}

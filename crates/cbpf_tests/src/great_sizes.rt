@@ -1,0 +1,106 @@
+// Calls at sizes near their greatest sensible ones, with memory at hand, which no script of the program makes.
+use crate::loaded::{HEADER, RECORD, STRAIGHT, program_of, repeated};
+use crate::places::assert_at;
+use cbpf_dbg::{Counts, MarkTrail, Meter, Place, Session, Stop};
+use cbpf_text::tokens;
+use cbpf_tool::{Files, MemoryFiles};
+use pcap_classic::Capture;
+use std::alloc::{AllocError, Global};
+use std::process::Abort;
+
+/// A session of 21 instructions over 2500 packets.
+fn session_of_2500(alloc: Global) -> Result<Session<MarkTrail>, AllocError> {
+    let program = program_of(alloc, STRAIGHT)?;
+    let bytes = repeated(alloc, HEADER, RECORD, 2500, b"")?;
+    let Ok(capture) = Capture::from_bytes(alloc, bytes) else {
+        return Err(AllocError);
+    };
+    let mut session = Session::new(alloc, MarkTrail::new());
+    session.load_program(program);
+    session.load_capture(capture);
+    Ok(session)
+}
+
+/// A run over all packets, which finishes.
+fn run_to_end(rt: &impl Abort, session: &mut Session<MarkTrail>, stops: &mut Vec<Stop>) {
+    let finished = Counts {
+        passes: 2500,
+        fails: 0,
+        unknown: 0,
+    };
+    assert!(rt; session.run_to_end(&mut Meter::new(), stops) == Ok(finished));
+}
+
+/// The first and the last instruction of each packet.
+fn are_both_of_each(rt: &impl Abort, stops: &[Stop]) {
+    let mut wanted = Place { packet: 1, step: 1 };
+    for stop in stops {
+        assert_at(rt, stop.place == wanted, "the stop", wanted.packet);
+        wanted = if wanted.step == 1 {
+            Place { step: 21, ..wanted }
+        } else {
+            Place {
+                packet: wanted.packet.saturating_add(1),
+                step: 1,
+            }
+        };
+    }
+}
+
+#[test]
+fn a_run_to_the_end_with_5000_stops(rt: HostRuntime) {
+    let mut session = session_of_2500(rt.alloc()).expect(&rt, "the session");
+    assert!(rt; session.breakpoint(0) == Ok(()));
+    assert!(rt; session.breakpoint(20) == Ok(()));
+    let mut stops = Vec::new(rt.alloc());
+    run_to_end(&rt, &mut session, &mut stops);
+    assert!(rt; stops.len() == 5000);
+    are_both_of_each(&rt, &stops);
+}
+
+#[test]
+fn two_million_tokens(rt: HostRuntime) {
+    let source = repeated(rt.alloc(), b"", b"tax\n", 2000000, b"").expect(&rt, "the source");
+    let tokens = tokens(rt.alloc(), &source).expect(&rt, "the tokens");
+    assert!(rt; tokens.len() == 2000000);
+    assert!(rt; tokens[1999999].start == 7999996);
+}
+
+/// A name of 300 bytes.
+fn name_of(n: u8) -> [u8; 300] {
+    let mut name = [b'n'; 300];
+    name[299] = n;
+    name
+}
+
+/// The bytes of a file: one of them is of a million bytes.
+fn bytes_of(alloc: Global, n: u8) -> Result<Vec<u8>, AllocError> {
+    let count = if n == 50 { 1000000 } else { 1 };
+    repeated(alloc, b"", &[n], count, b"")
+}
+
+fn put(rt: &impl Abort, alloc: Global, files: &mut MemoryFiles, n: u8) {
+    let bytes = bytes_of(alloc, n).expect(rt, "the bytes");
+    let name = name_of(n);
+    let name = std::str::from_utf8(&name).ok().expect(rt, "the name");
+    assert_at(rt, files.put(name, bytes).is_ok(), "a file", n);
+}
+
+fn is_there(rt: &impl Abort, alloc: Global, files: &mut MemoryFiles, n: u8) {
+    let wanted = bytes_of(alloc, n).expect(rt, "the bytes");
+    let name = name_of(n);
+    let name = std::str::from_utf8(&name).ok().expect(rt, "the name");
+    let bytes = files.load(alloc, name).ok().expect(rt, "the load");
+    assert_at(rt, bytes.as_slice() == wanted.as_slice(), "the bytes", n);
+}
+
+#[test]
+fn a_hundred_files_with_long_names(rt: HostRuntime) {
+    let mut files = MemoryFiles::new(rt.alloc());
+    for n in 0..100u8 {
+        put(&rt, rt.alloc(), &mut files, n);
+    }
+    for n in 0..100u8 {
+        is_there(&rt, rt.alloc(), &mut files, n);
+    }
+}

@@ -1,0 +1,282 @@
+//! Values are equal where all their fields are: those that differ in one field alone differ.
+
+use crate::assertions::assert_at_both;
+use crate::programs::{Code, program_of};
+use cbpf_code::{Ext, Program};
+use cbpf_machine::{Meter, Packet, State, Turn, Values, turn};
+use cbpf_reply::{Counts, Place, RunReply, Stop, Why};
+use pcap_classic::Captured;
+use std::alloc::Global;
+use std::process::Abort;
+
+/// The value at a place equals that of the same place alone.
+fn compare_one<T: PartialEq>(rt: &impl Abort, at: u32, one: &T, others: &[T]) {
+    let mut place = 0;
+    for other in others {
+        let is_same = place == at;
+        assert_at_both(rt, at, place, (one == other) == is_same);
+        assert_at_both(rt, at, place, (one != other) != is_same);
+        place = place.saturating_add(1);
+    }
+}
+
+/// Of two lists that were made apart, the values at the same places are equal, and no others.
+fn compare<T: PartialEq>(rt: &impl Abort, ones: &[T], others: &[T]) {
+    let mut place = 0;
+    for one in ones {
+        compare_one(rt, place, one, others);
+        place = place.saturating_add(1);
+    }
+}
+
+/// Programs, and numbers of turns: the states after these differ from that of the first row in pc, A or X.
+static ROWS: [(&[Code], u32); 9] = [
+    (&[(0, 0, 0, 0), (2, 0, 0, 0), (0, 0, 0, 0), (6, 0, 0, 0)], 3),
+    (&[(0, 0, 0, 0), (2, 0, 0, 0), (0, 0, 0, 0), (0, 0, 0, 0), (6, 0, 0, 0)], 4),
+    (&[(0, 0, 0, 0), (2, 0, 0, 0), (0, 0, 0, 0), (6, 0, 0, 0)], 2),
+    (&[(0, 0, 0, 0), (2, 0, 0, 0), (0, 0, 0, 1), (6, 0, 0, 0)], 3),
+    (&[(0, 0, 0, 0), (2, 0, 0, 0), (0, 0, 0, 65536), (6, 0, 0, 0)], 3),
+    (&[(0, 0, 0, 0), (2, 0, 0, 0), (0, 0, 0, 2147483648), (6, 0, 0, 0)], 3),
+    (&[(0, 0, 0, 0), (2, 0, 0, 0), (1, 0, 0, 1), (6, 0, 0, 0)], 3),
+    (&[(0, 0, 0, 0), (2, 0, 0, 0), (1, 0, 0, 65536), (6, 0, 0, 0)], 3),
+    (&[(0, 0, 0, 0), (2, 0, 0, 0), (1, 0, 0, 2147483648), (6, 0, 0, 0)], 3),
+];
+
+/// A program whose state after three turns differs from that of the first row in one slot.
+fn store(value: u32, slot: u32) -> [Code; 4] {
+    [
+        (0, 0, 0, value),
+        (2, 0, 0, slot),
+        (0, 0, 0, 0),
+        (6, 0, 0, 0),
+    ]
+}
+
+fn next_state(rt: &impl Abort, p: &Program, meter: &mut Meter, s: &State) -> State {
+    let packet = Packet {
+        bytes: b"",
+        wire: 0,
+    };
+    assert!(rt; s.pc() < p.len() && meter.spent() < 5);
+    match turn(meter, p, packet, &Values::new(), s) {
+        Turn::Next(next) => next,
+        _ => panic!(rt; "the packet ends"),
+    }
+}
+
+/// The state after so many turns.
+fn state_of(rt: &impl Abort, alloc: Global, list: &[Code], turns: u32) -> State {
+    let p = program_of(rt, alloc, list);
+    let mut meter = Meter::new();
+    let mut s = State::zero();
+    for _ in 0..turns {
+        s = next_state(rt, &p, &mut meter, &s);
+    }
+    s
+}
+
+/// States that differ from the first one in pc, A or X.
+fn registers(rt: &impl Abort, alloc: Global) -> Vec<State> {
+    let mut states = Vec::new(alloc);
+    for (list, turns) in ROWS.iter() {
+        states
+            .push(state_of(rt, alloc, list, *turns))
+            .expect(rt, "memory");
+    }
+    states
+}
+
+/// The same, and states that differ from the first one in one slot, each by two values.
+fn states(rt: &impl Abort, alloc: Global) -> Vec<State> {
+    let mut states = registers(rt, alloc);
+    for n in 0..32u32 {
+        let value = if n < 16 { 1 } else { 65536 };
+        let state = state_of(rt, alloc, &store(value, n % 16), 3);
+        states.push(state).expect(rt, "memory");
+    }
+    states
+}
+
+#[test]
+fn states_differ_where_a_register_or_a_slot_does(rt: HostRuntime) {
+    let ones = states(&rt, rt.alloc());
+    assert!(rt; ones.len() == 41);
+    compare(&rt, &ones, &states(&rt, rt.alloc()));
+}
+
+static PLACES: [Place; 5] = [
+    Place { packet: 1, step: 1 },
+    Place { packet: 2, step: 1 },
+    Place { packet: 1, step: 2 },
+    Place {
+        packet: 4294967297,
+        step: 1,
+    },
+    Place {
+        packet: 1,
+        step: 65537,
+    },
+];
+
+static REASONS: [Why; 4] = [
+    Why::Break,
+    Why::Step,
+    Why::Unknown(Ext::Mark),
+    Why::Unknown(Ext::Cpu),
+];
+
+/// A stop for each state.
+fn add_states(rt: &impl Abort, stops: &mut Vec<Stop>, states: &[State]) {
+    for state in states {
+        let stop = Stop {
+            place: PLACES[0],
+            state: *state,
+            why: Why::Break,
+        };
+        stops.push(stop).expect(rt, "memory");
+    }
+}
+
+/// A stop for each place but the first.
+fn add_places(rt: &impl Abort, stops: &mut Vec<Stop>, state: State) {
+    for place in &PLACES[1..] {
+        let stop = Stop {
+            place: *place,
+            state,
+            why: Why::Break,
+        };
+        stops.push(stop).expect(rt, "memory");
+    }
+}
+
+/// A stop for each reason but the first.
+fn add_reasons(rt: &impl Abort, stops: &mut Vec<Stop>, state: State) {
+    for why in &REASONS[1..] {
+        let stop = Stop {
+            place: PLACES[0],
+            state,
+            why: *why,
+        };
+        stops.push(stop).expect(rt, "memory");
+    }
+}
+
+/// Stops that differ from the first one in the state, then in the place, then in the reason.
+fn stops(rt: &impl Abort, alloc: Global) -> Vec<Stop> {
+    let states = states(rt, alloc);
+    let state = *states.first().expect(rt, "a state");
+    let mut stops = Vec::new(alloc);
+    add_states(rt, &mut stops, &states);
+    add_places(rt, &mut stops, state);
+    add_reasons(rt, &mut stops, state);
+    stops
+}
+
+#[test]
+fn stops_differ_where_a_field_does(rt: HostRuntime) {
+    compare(&rt, &PLACES, &PLACES);
+    compare(&rt, &REASONS, &REASONS);
+    compare(&rt, &stops(&rt, rt.alloc()), &stops(&rt, rt.alloc()));
+}
+
+static COUNTS: [Counts; 7] = [
+    Counts {
+        passes: 1,
+        fails: 1,
+        unknown: 1,
+    },
+    Counts {
+        passes: 2,
+        fails: 1,
+        unknown: 1,
+    },
+    Counts {
+        passes: 1,
+        fails: 2,
+        unknown: 1,
+    },
+    Counts {
+        passes: 1,
+        fails: 1,
+        unknown: 2,
+    },
+    Counts {
+        passes: 4294967297,
+        fails: 1,
+        unknown: 1,
+    },
+    Counts {
+        passes: 1,
+        fails: 4294967297,
+        unknown: 1,
+    },
+    Counts {
+        passes: 1,
+        fails: 1,
+        unknown: 4294967297,
+    },
+];
+
+fn add_counts(rt: &impl Abort, replies: &mut Vec<RunReply>) {
+    for counts in &COUNTS {
+        replies.push(RunReply::Limit(*counts)).expect(rt, "memory");
+        replies.push(RunReply::Finished(*counts)).expect(rt, "memory");
+    }
+}
+
+/// Each of these counts in both replies that have some, and each stop.
+fn replies(rt: &impl Abort, alloc: Global) -> Vec<RunReply> {
+    let mut replies = Vec::new(alloc);
+    add_counts(rt, &mut replies);
+    for stop in &stops(rt, alloc) {
+        replies.push(RunReply::Stopped(*stop)).expect(rt, "memory");
+    }
+    replies
+}
+
+#[test]
+fn replies_differ_where_a_field_does(rt: HostRuntime) {
+    compare(&rt, &COUNTS, &COUNTS);
+    compare(&rt, &replies(&rt, rt.alloc()), &replies(&rt, rt.alloc()));
+}
+
+/// Records that differ from the first one in one field, the last three in their bytes.
+fn records(bytes: &[u8; 4]) -> [Captured<'_>; 9] {
+    let base = Captured {
+        number: 1,
+        start: 24,
+        seconds: 3,
+        fraction: 4,
+        wire: 5,
+        bytes: &bytes[..2],
+    };
+    [
+        base,
+        Captured { number: 2, ..base },
+        Captured { start: 25, ..base },
+        Captured { seconds: 4, ..base },
+        Captured {
+            fraction: 5,
+            ..base
+        },
+        Captured { wire: 6, ..base },
+        Captured {
+            bytes: &bytes[..1],
+            ..base
+        },
+        Captured {
+            bytes: &bytes[1..3],
+            ..base
+        },
+        Captured {
+            bytes: &bytes[2..4],
+            ..base
+        },
+    ]
+}
+
+#[test]
+fn records_differ_where_a_field_does(rt: HostRuntime) {
+    let (one, other) = (*b"abac", *b"abac");
+    compare(&rt, &records(&one), &records(&other));
+}
