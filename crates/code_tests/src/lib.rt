@@ -6,6 +6,8 @@ mod checker;
 #[cfg(test)]
 mod lists;
 #[cfg(test)]
+mod numbers;
+#[cfg(test)]
 mod random_lists;
 #[cfg(test)]
 mod tables;

@@ -7,6 +7,8 @@ mod assertions;
 #[cfg(test)]
 mod captures;
 #[cfg(test)]
+mod counts;
+#[cfg(test)]
 mod machine;
 #[cfg(test)]
 mod machine_trail;
