@@ -35,7 +35,9 @@ fn replies(rt: &impl Abort, alloc: Global, script: &[u8], wanted: &[u8]) {
 #[test]
 fn a_line(rt: HostRuntime) {
     let alloc = rt.alloc();
-    let line = repeated(alloc, b"load bpf ", b" \t", 35_000, b"1,6 0 0 1\n").expect(&rt, "the line");
+    let line = repeated(alloc, b"load bpf ", b" \t", 35_000, b"1,6 0 0 1\n").expect(
+        &rt, "the line",
+    );
     replies(&rt, alloc, &line, b"bpf: 1 instructions\n");
 }
 

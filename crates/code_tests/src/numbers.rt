@@ -1,4 +1,6 @@
 // Numbers of each length, and many parts: beside digits that are worked out here.
+ghost use Rattle.std.specs.Prelude.{◌≤◌};
+
 use cbpf_code::{write_decimal, write_hex, write_parts};
 use std::alloc::Global;
 use std::process::Abort;
