@@ -130,8 +130,8 @@ def sources(crate):
 
 
 def is_lent(words, at):
-    """Whether the word at a place is the type of a parameter or a field that is lent: `: &mut Meter`."""
-    return [w for w, _, _ in words[max(at - 3, 0) : at]] == [":", "&", "mut"]
+    """Whether the word at a place is the whole type of a parameter or a field that is lent: `: &mut Meter,`."""
+    return [w for w, _, _ in words[max(at - 3, 0) : at]] == [":", "&", "mut"] and words[at + 1][0] in ",)"
 
 
 def list_meters(files):
