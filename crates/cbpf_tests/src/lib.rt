@@ -9,6 +9,8 @@ mod assembling;
 #[cfg(test)]
 mod beginnings;
 #[cfg(test)]
+mod byte_by_byte;
+#[cfg(test)]
 mod failing_files;
 #[cfg(test)]
 mod failing_input;

@@ -6,6 +6,8 @@ mod checker;
 #[cfg(test)]
 mod lists;
 #[cfg(test)]
+mod numbers;
+#[cfg(test)]
 mod plain_words;
 #[cfg(test)]
 mod random_lists;

@@ -7,6 +7,8 @@ mod assertions;
 #[cfg(test)]
 mod captures;
 #[cfg(test)]
+mod counts;
+#[cfg(test)]
 mod empty_records;
 #[cfg(test)]
 mod equality;
