@@ -65,6 +65,9 @@ const INDEXED: &[Code] = &[
     (22, 0, 0, 0),
 ];
 
+/// Byte 1 of the packet: the index register and an extension's number, modulo 2 to the 32.
+const INDEXED_BY_AN_EXTENSION: &[Code] = &[(1, 0, 0, 4041), (80, 0, 0, 4294963256), (22, 0, 0, 0)];
+
 /// Programs, a packet's bytes and original length, and how the packet ends.
 const WORKED: &[(&[Code], &[u8], u32, Outcome)] = &[
     (NEGATE, b"", 0, Outcome::Pass(4294967295)),
@@ -99,6 +102,15 @@ const WORKED: &[(&[Code], &[u8], u32, Outcome)] = &[
     (INDEXED, &[10, 20, 30, 40, 50], 2, Outcome::Pass(10)),
     (INDEXED, &[10, 20, 30, 40, 50], 3, Outcome::Pass(20)),
     (INDEXED, &[10, 20, 30, 40, 50], 4, Outcome::Pass(30)),
+    // An indexed load at an extension's number goes into the packet, and asks for nothing.
+    (INDEXED_BY_AN_EXTENSION, &[10, 20, 30], 3, Outcome::Pass(20)),
+    (INDEXED_BY_AN_EXTENSION, &[10], 1, Outcome::Fail),
+    (
+        &[(64, 0, 0, 4294963256), (22, 0, 0, 0)],
+        b"\x08\x06",
+        2,
+        Outcome::Fail,
+    ),
 ];
 
 #[test]
