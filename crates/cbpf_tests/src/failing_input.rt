@@ -1,23 +1,13 @@
 // A reader that gives a few bytes a call, and fails at one call.
 use crate::fault_injection::{ERROR_KINDS, Fault, FaultyReader, FaultyWriter};
+use crate::loaded::{ARP_SCRIPT, ARP_SCRIPT_REPLIES};
 use crate::places::assert_at;
 use cbpf_tool::{MemoryFiles, ToolFault, debug};
 use std::alloc::Global;
 use std::io::ErrorKind;
 use std::process::Abort;
 
-/// A program of four instructions and its dump.
-const ARP: &[u8] = b"load bpf 4,40 0 0 12,21 0 1 2054,6 0 0 4294967295,6 0 0 0,\ndump\nquit\n";
-
-/// What `ARP` writes.
-const ARP_REPLIES: &[u8] = b"bpf: 4 instructions\n\
-/* { op, jt, jf, k }, */\n\
-{ 0x28,  0,  0, 0x0000000c },\n\
-{ 0x15,  0,  1, 0x00000806 },\n\
-{ 0x06,  0,  0, 0xffffffff },\n\
-{ 0x06,  0,  0, 0000000000 },\n";
-
-/// What the first line of `ARP` writes.
+/// What the first line of `ARP_SCRIPT` writes.
 const ARP_FIRST_REPLY: &[u8] = b"bpf: 4 instructions\n";
 
 /// The debugger over no files.
@@ -32,8 +22,8 @@ fn run(
 
 /// One read after another fails.
 fn each_read_fails(rt: &impl Abort, alloc: Global, kind: ErrorKind) {
-    for call in 1..=ARP.len() {
-        let mut reader = FaultyReader::new(ARP, 1, call as u64);
+    for call in 1..=ARP_SCRIPT.len() {
+        let mut reader = FaultyReader::new(ARP_SCRIPT, 1, call as u64);
         reader.set_error(kind);
         let mut writer = FaultyWriter::<256>::new(Fault::Fails, 0);
         let result = run(alloc, &mut reader, &mut writer);
@@ -59,18 +49,23 @@ fn replies_before(call: usize) -> &'static [u8] {
     match call {
         0..=59 => b"",
         60..=64 => ARP_FIRST_REPLY,
-        _ => ARP_REPLIES,
+        _ => ARP_SCRIPT_REPLIES,
     }
 }
 
 /// No read fails, and each gives so many bytes at most.
 fn none_fails(rt: &impl Abort, alloc: Global) {
     for piece in 1..80usize {
-        let mut reader = FaultyReader::new(ARP, piece, 0);
+        let mut reader = FaultyReader::new(ARP_SCRIPT, piece, 0);
         let mut writer = FaultyWriter::<256>::new(Fault::Fails, 0);
         let result = run(alloc, &mut reader, &mut writer);
         assert_at(rt, result == Ok(()), "the answer", piece);
-        assert_at(rt, writer.written() == ARP_REPLIES, "the replies", piece);
+        assert_at(
+            rt,
+            writer.written() == ARP_SCRIPT_REPLIES,
+            "the replies",
+            piece,
+        );
     }
 }
 

@@ -1,8 +1,12 @@
 // The calls that write, over writers that take one byte a call, and fail or take nothing at one call.
 use crate::fault_injection::{Fault, FaultyWriter};
-use crate::loaded::{ARP, ARP_C, ARP_WORDS, ICMP_WORDS, program_of, two_packets_as_k};
+use crate::loaded::{
+    ARP, ARP_C, ARP_SCRIPT, ARP_SCRIPT_REPLIES, ARP_WORDS, ICMP_WORDS, program_of, session_of,
+    two_packets_as_k,
+};
 use crate::places::assert_at;
 use cbpf_code::{write_bytes, write_c, write_words};
+use cbpf_dbg::{Meter, RunReply};
 use cbpf_text::write_listing;
 use cbpf_tool::{Form, ToolFault, asm, debug};
 use std::alloc::Global;
@@ -61,6 +65,22 @@ l1:\tret a\n\
 { 0000,  0,  0, 0x00000007 },\n\
 { 0x16,  0,  0, 0000000000 },\n";
 
+/// The dump of the first stop of the ICMP filter with a breakpoint at instruction 1.
+const FIRST_STOP: &[u8] = b"-- packet 1, step 2 --\n\
+-- register dump --\n\
+pc:       [1]\n\
+code:     [21] jt[0] jf[3] k[2048]\n\
+curr:     l1:\tjeq #0x800, l2, l5\n\
+A:        [00000806][2054]\n\
+X:        [00000000][0]\n\
+M[0,15]:  [00000000][0]\n\
+-- packet dump --\n\
+len: 42 wire: 42\n\
+\x20   0: 00 00 00 00 00 00 00 00 00 00 00 00 08 06 00 00\n\
+\x20  16: 00 00 00 00 00 00 00 00 00 00 00 00 00 00 00 00\n\
+\x20  32: 00 00 00 00 00 00 00 00 00 00\n\
+(breakpoint)\n";
+
 /// More instructions than are written at once, which are 64.
 const SEVENTY: &[u8] =
     b"70,7 0 0 0,7 0 0 0,7 0 0 0,7 0 0 0,7 0 0 0,7 0 0 0,7 0 0 0,7 0 0 0,7 0 0 0,7 0 0 0,\
@@ -71,18 +91,20 @@ const SEVENTY: &[u8] =
 7 0 0 0,7 0 0 0,7 0 0 0,7 0 0 0,7 0 0 0,7 0 0 0,7 0 0 0,7 0 0 0,7 0 0 0,7 0 0 0,\
 7 0 0 0,7 0 0 0,7 0 0 0,7 0 0 0,7 0 0 0,7 0 0 0,7 0 0 0,7 0 0 0,7 0 0 0,6 0 0 1,\n";
 
-/// What writes: bytes, a program in a form, which is the ICMP filter where none is named, and the two jobs.
+/// What writes: bytes, a program in a form, which is the ICMP filter where none is named, a session its first
+/// stop, and the two jobs.
 #[derive(Clone, Copy, Debug)]
 enum Call {
     Bytes,
     Words(&'static [u8]),
     C,
     Listing,
+    Stop,
     Asm(Form),
-    Debug,
+    Debug(&'static [u8]),
 }
 
-const CALLS: [(Call, &[u8]); 8] = [
+const CALLS: [(Call, &[u8]); 10] = [
     (Call::Bytes, ARP),
     (
         Call::Words(ICMP_WORDS),
@@ -107,9 +129,11 @@ l3:\tjeq #0x1, l4, l5\n\
 l4:\tret #0xffff\n\
 l5:\tret #0\n",
     ),
+    (Call::Stop, FIRST_STOP),
     (Call::Asm(Form::Decimal), ARP_WORDS),
     (Call::Asm(Form::C), ARP_C),
-    (Call::Debug, REPLIES),
+    (Call::Debug(ARP_SCRIPT), ARP_SCRIPT_REPLIES),
+    (Call::Debug(SESSION), REPLIES),
 ];
 
 fn write_program(
@@ -132,12 +156,32 @@ fn write_program(
     }
 }
 
-fn write_session(alloc: Global, w: &mut FaultyWriter<2048>) -> Result<(), ToolFault> {
+fn write_first_stop(alloc: Global, w: &mut FaultyWriter<2048>) -> Result<(), ToolFault> {
+    let Ok(mut session) = session_of(alloc, ICMP_WORDS) else {
+        return Err(ToolFault::Memory);
+    };
+    if session.breakpoint(1).is_err() {
+        return Err(ToolFault::Memory);
+    }
+    match session.run(&mut Meter::new(), None) {
+        Ok(RunReply::Stopped(stop)) => match session.write_stop(w, &stop) {
+            Ok(()) => Ok(()),
+            Err(_) => Err(ToolFault::Write),
+        },
+        _ => Err(ToolFault::Memory),
+    }
+}
+
+fn write_replies(
+    alloc: Global,
+    script: &[u8],
+    w: &mut FaultyWriter<2048>,
+) -> Result<(), ToolFault> {
     let Ok(mut files) = two_packets_as_k(alloc) else {
         return Err(ToolFault::Memory);
     };
-    let mut script = SESSION;
-    debug(alloc, &mut script, w, &mut files)
+    let mut reader = script;
+    debug(alloc, &mut reader, w, &mut files)
 }
 
 fn write(alloc: Global, call: Call, w: &mut FaultyWriter<2048>) -> Result<(), ToolFault> {
@@ -152,7 +196,8 @@ fn write(alloc: Global, call: Call, w: &mut FaultyWriter<2048>) -> Result<(), To
             let mut source = ARP;
             asm(alloc, &mut source, w, form)
         }
-        Call::Debug => write_session(alloc, w),
+        Call::Stop => write_first_stop(alloc, w),
+        Call::Debug(script) => write_replies(alloc, script, w),
     }
 }
 

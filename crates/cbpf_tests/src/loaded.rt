@@ -17,6 +17,18 @@ pub const ARP_C: &[u8] = b"{ 0x28,  0,  0, 0x0000000c },\n\
 { 0x06,  0,  0, 0xffffffff },\n\
 { 0x06,  0,  0, 0000000000 },\n";
 
+/// A script that loads this program and dumps it.
+pub const ARP_SCRIPT: &[u8] =
+    b"load bpf 4,40 0 0 12,21 0 1 2054,6 0 0 4294967295,6 0 0 0,\ndump\nquit\n";
+
+/// Its replies, of 165 bytes.
+pub const ARP_SCRIPT_REPLIES: &[u8] = b"bpf: 4 instructions\n\
+/* { op, jt, jf, k }, */\n\
+{ 0x28,  0,  0, 0x0000000c },\n\
+{ 0x15,  0,  1, 0x00000806 },\n\
+{ 0x06,  0,  0, 0xffffffff },\n\
+{ 0x06,  0,  0, 0000000000 },\n";
+
 /// The word text of the ICMP filter.
 pub const ICMP_WORDS: &[u8] = b"6,40 0 0 12,21 0 3 2048,48 0 0 23,21 0 1 1,6 0 0 65535,6 0 0 0";
 
