@@ -107,8 +107,8 @@ static CALLS: [(Call, bool); 13] = [
     (Call::Capture(b"no capture, as its magic says"), true),
     (Call::Tokens(b"ldh [12] $"), true),
     (Call::Source(ARP), false),
-    (Call::Source(b"a: ld #1\njmp b\nret #0"), true),
-    (Call::Source(b"a: ld #1\nret ret"), true),
+    (Call::Source(b"in: ld #1\njmp no\nret #0"), true),
+    (Call::Source(b"in: ld #1\nret ret"), true),
 ];
 
 #[test]
@@ -214,7 +214,10 @@ fn commands_of_a_script(rt: HostRuntime) {
 #[test]
 fn sources(rt: HostRuntime) {
     let counting = CountingAllocator::new(rt.alloc());
-    for (source, is_taken) in [(ARP, true), (b"a: ld #1\njmp b\nret #0".as_slice(), false)] {
+    for (source, is_taken) in [
+        (ARP, true),
+        (b"in: ld #1\njmp no\nret #0".as_slice(), false),
+    ] {
         let mut reader = source;
         let mut words = Vec::new(rt.alloc());
         let answer = asm(&counting, &mut reader, &mut words, Form::Decimal);

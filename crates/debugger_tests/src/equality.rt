@@ -32,14 +32,45 @@ fn compare<T: PartialEq>(rt: &impl Abort, ones: &[T], others: &[T]) {
 /// Programs, and numbers of turns: the states after these differ from that of the first row in pc, A or X.
 static ROWS: [(&[Code], u32); 9] = [
     (&[(0, 0, 0, 0), (2, 0, 0, 0), (0, 0, 0, 0), (6, 0, 0, 0)], 3),
-    (&[(0, 0, 0, 0), (2, 0, 0, 0), (0, 0, 0, 0), (0, 0, 0, 0), (6, 0, 0, 0)], 4),
+    (
+        &[
+            (0, 0, 0, 0),
+            (2, 0, 0, 0),
+            (0, 0, 0, 0),
+            (0, 0, 0, 0),
+            (6, 0, 0, 0),
+        ],
+        4,
+    ),
     (&[(0, 0, 0, 0), (2, 0, 0, 0), (0, 0, 0, 0), (6, 0, 0, 0)], 2),
     (&[(0, 0, 0, 0), (2, 0, 0, 0), (0, 0, 0, 1), (6, 0, 0, 0)], 3),
-    (&[(0, 0, 0, 0), (2, 0, 0, 0), (0, 0, 0, 65536), (6, 0, 0, 0)], 3),
-    (&[(0, 0, 0, 0), (2, 0, 0, 0), (0, 0, 0, 2147483648), (6, 0, 0, 0)], 3),
+    (
+        &[(0, 0, 0, 0), (2, 0, 0, 0), (0, 0, 0, 65536), (6, 0, 0, 0)],
+        3,
+    ),
+    (
+        &[
+            (0, 0, 0, 0),
+            (2, 0, 0, 0),
+            (0, 0, 0, 2147483648),
+            (6, 0, 0, 0),
+        ],
+        3,
+    ),
     (&[(0, 0, 0, 0), (2, 0, 0, 0), (1, 0, 0, 1), (6, 0, 0, 0)], 3),
-    (&[(0, 0, 0, 0), (2, 0, 0, 0), (1, 0, 0, 65536), (6, 0, 0, 0)], 3),
-    (&[(0, 0, 0, 0), (2, 0, 0, 0), (1, 0, 0, 2147483648), (6, 0, 0, 0)], 3),
+    (
+        &[(0, 0, 0, 0), (2, 0, 0, 0), (1, 0, 0, 65536), (6, 0, 0, 0)],
+        3,
+    ),
+    (
+        &[
+            (0, 0, 0, 0),
+            (2, 0, 0, 0),
+            (1, 0, 0, 2147483648),
+            (6, 0, 0, 0),
+        ],
+        3,
+    ),
 ];
 
 /// A program whose state after three turns differs from that of the first row in one slot.
@@ -220,7 +251,9 @@ static COUNTS: [Counts; 7] = [
 fn add_counts(rt: &impl Abort, replies: &mut Vec<RunReply>) {
     for counts in &COUNTS {
         replies.push(RunReply::Limit(*counts)).expect(rt, "memory");
-        replies.push(RunReply::Finished(*counts)).expect(rt, "memory");
+        replies
+            .push(RunReply::Finished(*counts))
+            .expect(rt, "memory");
     }
 }
 
