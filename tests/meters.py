@@ -12,7 +12,7 @@ its own word in any form of a call. It lists
   in each of these crates: the imports that give another name, or all names
   in cbpf_machine: the word Meter as above; the derives of Meter, its functions, the words Self and turns in its file;
     each literal of a state; what it exports; for each function that makes turns, by itself or by a call, how often it
-    names each such function, and whether other crates can call it
+    names each such function and how many loops it has, and whether other crates can call it
 """
 
 import re
@@ -24,6 +24,8 @@ CRATES = Path(__file__).resolve().parent.parent / "crates"
 MACHINE = "cbpf_machine"
 # What changes a state, calculates or loads for a turn: whoever names one of these, or names who does, makes turns.
 ROOTS = "set_a set_x set_slot skip alu negated compares number_at op_of op_of_byte".split()
+# The words of loops, which make turns again.
+LOOPS = {"for", "while", "loop"}
 TOKEN = re.compile(
     r"""//[^\n]*|/\*.*?\*/|b?"(?:\\.|[^"\\])*"|b?'(?:\\.[^']*|[^'\\])'|'?[A-Za-z_]\w*|\d\w*|\s+|.""",
     re.S,
@@ -191,10 +193,11 @@ def makers_of(functions):
         makers |= more
 
 
-def list_named(functions, wanted):
+def list_named(functions, wanted, beside=()):
+    """What functions name of the wanted words, and where they name some, of the others beside them."""
     for name, words in sorted(functions.items()):
-        named = [f"{word} {times}" for word, times in sorted(words.items()) if word in wanted]
-        if named:
+        if wanted & set(words):
+            named = [f"{word} {times}" for word, times in sorted(words.items()) if word in wanted or word in beside]
             print(f"  {name}: {', '.join(named)}")
 
 
@@ -223,8 +226,8 @@ def list_machine(files):
         for name in seen_outside(file):
             if name in makers:
                 print(f"  {file.name}, {name}")
-    print("what makes turns, and what it names:")
-    list_named(functions, makers)
+    print("what makes turns, what it names, and its loops:")
+    list_named(functions, makers, LOOPS)
 
 
 def main():
