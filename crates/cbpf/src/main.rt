@@ -1,120 +1,66 @@
 //! `cbpf`: an assembler and a debugger for classic BPF.
 #![tactic(auto)]
 
-use cbpf_tool::{DiskFiles, Form, Job, LineFault, ToolFault, asm, command_line, debug};
-use std::alloc::Global;
-use std::io::{self, BufWriter, ErrorKind, Read, Write};
+ghost use Rattle.cbpf_jobs.specs.Hosted.{unknown};
+
+use cbpf_tool::{
+    CreateFault, DiskFiles, Failure, Host, LineFault, ToolFault, command_line, run_on, status_of,
+};
+use std::io::{self, BufWriter, ErrorKind, Printer};
 use std::process::ExitCode;
 use std::rt::{Env, Files};
 use std::{env, fs};
-use thiserror::Error;
 
-/// Why the program failed.
-#[derive(Debug, Drop, Error)]
-enum Failure {
-    #[error("{0}")]
-    Tool(ToolFault),
-    #[error("cannot open {0}")]
-    CannotOpen(String),
+/// The machine that `rt` reaches. What it holds is not known.
+#[derive(Drop)]
+struct Machine<'a, R> {
+    rt: &'a R,
 }
 
-impl From<ToolFault> for Failure {
-    fn from(fault: ToolFault) -> Failure {
-        Failure::Tool(fault)
+impl<'a, R: Input + Print + Files + AllocGlobal> Host for Machine<'a, R> {
+    ghost view = { λ _. unknown };
+
+    type Source = R::File;
+
+    type Input = R::Reader;
+
+    type Sink = BufWriter<R::File>;
+
+    type Output = BufWriter<Printer<'a, R>>;
+
+    type Disk = DiskFiles<'a, R>;
+
+    fn open(&mut self, name: &str) -> io::Result<R::File> {
+        fs::open(self.rt, name)
     }
-}
 
-/// Output that goes out in large pieces.
-fn buffered<O: Write + Drop>(alloc: Global, output: O) -> Result<BufWriter<O>, Failure> {
-    match BufWriter::new(alloc, output) {
-        Ok(writer) => Ok(writer),
-        Err(_) => Err(Failure::Tool(ToolFault::Memory)),
+    fn input(&mut self) -> R::Reader {
+        self.rt.reader()
     }
-}
 
-/// Assembles what a reader gives to the standard output.
-fn assemble_from<R: Print + AllocGlobal, I: Read>(
-    rt: &R,
-    reader: &mut I,
-    form: Form,
-) -> Result<(), Failure> {
-    let mut writer = buffered(rt.alloc(), io::writer(rt))?;
-    Ok(asm(rt.alloc(), reader, &mut writer, form)?)
-}
-
-fn assemble<R: Input + Print + Files + AllocGlobal>(
-    rt: &R,
-    form: Form,
-    file: Option<String>,
-) -> Result<(), Failure> {
-    match file {
-        None => assemble_from(rt, &mut rt.reader(), form),
-        Some(name) => match fs::open(rt, name.as_str()) {
-            Ok(mut source) => assemble_from(rt, &mut source, form),
-            Err(_) => Err(Failure::CannotOpen(name)),
-        },
+    fn create(&mut self, name: &str) -> Result<BufWriter<R::File>, CreateFault> {
+        match fs::create(self.rt, name) {
+            Ok(file) => match BufWriter::new(self.rt.alloc(), file) {
+                Ok(sink) => Ok(sink),
+                Err(_) => Err(CreateFault::Memory),
+            },
+            Err(_) => Err(CreateFault::NotCreated),
+        }
     }
-}
 
-/// Runs the commands that a reader gives, over files of the disk.
-fn debug_over<R: Files + AllocGlobal, I: Read, O: Write>(
-    rt: &R,
-    reader: &mut I,
-    writer: &mut O,
-) -> Result<(), ToolFault> {
-    debug(rt.alloc(), reader, writer, &mut DiskFiles::new(rt))
-}
+    fn close(&mut self, _name: &str, _sink: BufWriter<R::File>) {}
 
-/// Runs the commands that a reader gives, and writes the replies.
-fn debug_into<R: Files + AllocGlobal, I: Read, O: Write + Drop>(
-    rt: &R,
-    reader: &mut I,
-    replies: O,
-) -> Result<(), Failure> {
-    let mut writer = buffered(rt.alloc(), replies)?;
-    Ok(debug_over(rt, reader, &mut writer)?)
-}
-
-fn debug_from<R: Print + Files + AllocGlobal, I: Read>(
-    rt: &R,
-    reader: &mut I,
-    output: Option<String>,
-) -> Result<(), Failure> {
-    match output {
-        None => debug_into(rt, reader, io::writer(rt)),
-        Some(name) => match fs::create(rt, name.as_str()) {
-            Ok(replies) => debug_into(rt, reader, replies),
-            Err(_) => Err(Failure::CannotOpen(name)),
-        },
+    fn output(&mut self) -> Result<BufWriter<Printer<'a, R>>, CreateFault> {
+        match BufWriter::new(self.rt.alloc(), io::writer(self.rt)) {
+            Ok(output) => Ok(output),
+            Err(_) => Err(CreateFault::Memory),
+        }
     }
-}
 
-/// Standard input's reader has a buffer in it, which only a session that reads from there needs.
-fn debug_standard_input<R: Input + Print + Files + AllocGlobal>(
-    rt: &R,
-    output: Option<String>,
-) -> Result<(), Failure> {
-    debug_from(rt, &mut rt.reader(), output)
-}
+    fn print(&mut self, _output: BufWriter<Printer<'a, R>>) {}
 
-fn debug_commands<R: Input + Print + Files + AllocGlobal>(
-    rt: &R,
-    input: Option<String>,
-    output: Option<String>,
-) -> Result<(), Failure> {
-    match input {
-        None => debug_standard_input(rt, output),
-        Some(name) => match fs::open(rt, name.as_str()) {
-            Ok(mut commands) => debug_from(rt, &mut commands, output),
-            Err(_) => Err(Failure::CannotOpen(name)),
-        },
-    }
-}
-
-fn run_job<R: Input + Print + Files + AllocGlobal>(rt: &R, job: Job) -> Result<(), Failure> {
-    match job {
-        Job::Asm { form, file } => assemble(rt, form, file),
-        Job::Dbg { input, output } => debug_commands(rt, input, output),
+    fn disk(&mut self) -> DiskFiles<'a, R> {
+        DiskFiles::new(self.rt)
     }
 }
 
@@ -127,8 +73,12 @@ fn words<R: Env + AllocGlobal>(rt: &R) -> io::Result<Vec<String>> {
     Ok(words)
 }
 
-fn report<R: Eprint>(rt: &R, failure: &Failure) -> ExitCode {
+fn complain<R: Eprint>(rt: &R, failure: &Failure) {
     let _ = eprintln!(rt; "cbpf: {failure}");
+}
+
+fn report<R: Eprint>(rt: &R, failure: &Failure) -> ExitCode {
+    complain(rt, failure);
     ExitCode::FAILURE
 }
 
@@ -143,10 +93,13 @@ fn explain<R: Print + Eprint>(rt: &R, text: &str) -> ExitCode {
 
 fn run<R: Input + Print + Eprint + Files + AllocGlobal>(rt: &R, words: Vec<String>) -> ExitCode {
     match command_line(rt.alloc(), words) {
-        Ok(job) => match run_job(rt, job) {
-            Ok(()) => ExitCode::SUCCESS,
-            Err(failure) => report(rt, &failure),
-        },
+        Ok(job) => {
+            let done = run_on(rt.alloc(), &mut Machine { rt }, job);
+            if let Err(failure) = &done {
+                complain(rt, failure);
+            }
+            status_of(&done)
+        }
         Err(LineFault::Help(text)) => explain(rt, text.as_str()),
         Err(LineFault::Refused(text)) => {
             let _ = eprint!(rt; "{text}");

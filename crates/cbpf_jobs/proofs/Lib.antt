@@ -6,5 +6,6 @@ pub mod AssemblyLemmas
 pub mod SourceLemmas
 pub mod SessionReplyLemmas
 pub mod OutputLaws
+pub mod HostLemmas
 pub mod EachText
 pub mod ListedLemmas

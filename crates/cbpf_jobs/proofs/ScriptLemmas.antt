@@ -2,6 +2,7 @@
 use Rattle.std.proofs.Common.{◌≡◌, ℕ, le_refl, le_trans, true, false, cond, eqb, ◌||◌, List, [], ◌∷◌, ◌++◌}
 use Rattle.std.proofs.Common.{length, take_all, Option, Some, None, Result, Ok, Err, IsTrue, ◌⊎◌, inl, inr, refl, sym}
 use Rattle.std.proofs.Common.{◌∙◌, ap, subst, append_assoc, append-nil, arith}
+use Rattle.std.specs.Prelude.{IfErr, MatchResult}
 use Rattle.std.specs.Io.KnownBytes.{Keeps}
 use Rattle.std.specs.FinMap as map
 use Rattle.cbpf_code.specs.Writing.{Appended, AppendedPart}
@@ -251,6 +252,12 @@ module _ {script pending : List ℕ} {left old new : Option (List ℕ)} {m : Vie
   line-faulted pending' line left' Memory h = memory-faulted left' h
   line-faulted pending' line left' (RefusedSource e) h = absurd h
 
+  -- a flush before a line failed
+  pub unflushed : (left' : Option (List ℕ)) (e : ToolFault) → e ≡ Write → Faulted script left' old new' f g e
+  unflushed left' e w =
+      subst (λ (x : ToolFault). Faulted script left' old new' f g x) (sym w)
+      (p.done, lines p.rest, p.text, script_lines, so_far, part-whole old new' p.text wrote)
+
   -- the input ended after a newline
   pub end-done : (left' : Option (List ℕ)) → p.rest ≡ [] → left' ≡ Some [] → Finished script left' old new' f g
   end-done left' e z = (
@@ -382,11 +389,11 @@ next-last rest [] line l h s e = absurd (s refl)
 next-last rest (b ∷ bs) line l h s e = ap lines e ∙ lines-last b bs h ∙ sym (ap (λ (x : List ℕ). x ∷ []) l)
 
 -- after the last flush
-pub flushed : (script : List ℕ) (left old new new' : Option (List ℕ)) (f g : Source)
+flushed : (script : List ℕ) (left old new new' : Option (List ℕ)) (f g : Source)
     → Finished script left old new f g → Keeps new new' → Finished script left old new' f g
 flushed script left old new new' f g h k = (h.0, h.1, h.2, appended-kept old new new' h.0 h.3 k)
 
-pub not-flushed : (script : List ℕ) (left old new new' : Option (List ℕ)) (f g : Source)
+not-flushed : (script : List ℕ) (left old new new' : Option (List ℕ)) (f g : Source)
     → Finished script left old new f g → Keeps new new' → Faulted script left old new' f g Write
 not-flushed script left old new new' f g h k = (
   lines script,
@@ -396,3 +403,10 @@ not-flushed script left old new new' f g h k = (
   h.1,
   part-whole old new' h.0 (appended-kept old new new' h.0 h.3 k),
 )
+
+pub ended : (script : List ℕ) (left old new new' : Option (List ℕ)) (f g : Source) (r : Result (Unit {0}) ToolFault)
+    → Finished script left old new f g → Keeps new new' → IfErr r (λ e. e ≡ Write)
+    → MatchResult r (λ _. Finished script left old new' f g) (λ e. Faulted script left old new' f g e)
+ended script left old new new' f g (Ok x) h k w = flushed script left old new new' f g h k
+ended script left old new new' f g (Err e) h k w =
+    subst (λ (y : ToolFault). Faulted script left old new' f g y) (sym w) (not-flushed script left old new new' f g h k)

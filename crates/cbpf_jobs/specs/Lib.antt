@@ -10,4 +10,6 @@ pub mod Output
 pub mod Debugged
 pub mod Progress
 pub mod Assembling
+pub mod Hosted
+pub mod Jobs
 pub mod Laws

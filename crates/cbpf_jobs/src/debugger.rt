@@ -1,13 +1,16 @@
 // Runs a script line by line.
-ghost use Rattle.std.specs.Prelude.{◌≡◌, ℕ, List, [], Some, IsTrue, Ok};
+ghost use Rattle.std.specs.Prelude.{◌≡◌, ℕ, List, [], Some, IsTrue, Ok, IfErr};
+ghost use Rattle.std.specs.Io.KnownBytes.{Keeps};
 ghost use Rattle.cbpf_dbg.specs.View.{empty_view};
 ghost use Rattle.cbpf_command.specs.Commands as language;
 ghost use Rattle.cbpf_jobs.specs.Debugged.{Debugged};
 ghost use Rattle.cbpf_jobs.specs.Progress.{LineRan};
 ghost use Rattle.cbpf_jobs.specs.Reading.{pending_in};
+ghost use Rattle.cbpf_jobs.specs.declared.fault.ToolFault.TheVariants as fault;
 
 use crate::fault::ToolFault;
 use crate::files::Files;
+use crate::flushing::flush;
 use crate::line_reader::{LineEnd, LineReader};
 use crate::loads::{load_capture, load_words};
 use crate::perform;
@@ -61,18 +64,58 @@ fn act<A: Allocator + Copy, W: Write, F: Files>(
     reply.map(|_| AfterLine::NextLine)
 }
 
-/// Runs a line, and writes its reply.
+/// What a line says, as `command_of` answers it.
+type Spelled<'a> = Result<Option<Command<'a>>, CommandFault>;
+
+/// Whether a command can pass more than a packet, or wait for a file.
+fn may_take_long(spelled: &Spelled<'_>) -> bool {
+    matches!(
+        spelled,
+        Ok(Some(
+            Command::LoadCapture(_)
+                | Command::Run(_)
+                | Command::Step(_)
+                | Command::Resume { .. }
+                | Command::Stops
+        ))
+    )
+}
+
+/// Whether a line has no reply.
+fn has_no_reply(spelled: &Spelled<'_>) -> bool {
+    matches!(spelled, Ok(None) | Ok(Some(Command::Quit)))
+}
+
+/// Flushes the replies so far before a command that may take long. What comes next is the line's reply.
+fn flush_before<W: Write>(
+    w: &mut W,
+    unflushed: &mut bool,
+    spelled: &Spelled<'_>,
+) -> Result<(), ToolFault>
+    ensures kept { Keeps (W.contents w.old) (W.contents w.new) }
+    ensures fault { IfErr result (λ e. e ≡ fault.Write) }
+{
+    if may_take_long(spelled) {
+        flush(w, unflushed)?;
+    }
+    if !has_no_reply(spelled) {
+        *unflushed = true;
+    }
+    Ok(())
+}
+
+/// Runs a line that was read, and writes its reply.
 fn run_line<A: Allocator + Copy, W: Write, F: Files>(
     alloc: A,
     w: &mut W,
     session: &mut Session<MarkTrail, A>,
     files: &mut F,
-    line: &[u8],
+    spelled: Spelled<'_>,
 ) -> Result<AfterLine, WriteFault>
-    ensures { LineRan (F.source files.old) (F.source files.new) session.old session.new (language.command_of line.now)
-        (W.contents w.old) (W.contents w.new) result }
+    ensures { LineRan (F.source files.old) (F.source files.new) session.old session.new
+        (language.result_meaning spelled.entry) (W.contents w.old) (W.contents w.new) result }
 {
-    match command_of(line) {
+    match spelled {
         Ok(None) => Ok(AfterLine::NextLine),
         Ok(Some(command)) => act(alloc, w, session, files, command),
         Err(CommandFault::UnknownCommand) => {
@@ -96,6 +139,7 @@ fn run_lines<A: Allocator + Copy, R: Read, W: Write, F: Files>(
     session: &mut Session<MarkTrail, A>,
     lines: &mut LineReader,
     line: &mut Vec<u8, A>,
+    unflushed: &mut bool,
 ) -> Result<(), ToolFault>
     requires session { session.old ≡ empty_view }
     requires lines { pending_in lines.old.chunk lines.old.start lines.old.end ≡ [] }
@@ -104,26 +148,36 @@ fn run_lines<A: Allocator + Copy, R: Read, W: Write, F: Files>(
         (F.source files.new) result }
 {
     'script: loop {
-        match lines.next_line(reader, writer, line) {
+        match lines.next_line(reader, writer, unflushed, line) {
             Err(fault) => return Err(fault),
             Ok(LineEnd::Input) => break,
-            Ok(LineEnd::Newline) => match run_line(alloc, writer, session, files, line.as_slice()) {
-                Err(_) => return Err(ToolFault::Write),
-                Ok(AfterLine::Quit) => return Ok(()),
-                Ok(AfterLine::NextLine) => {}
-            },
+            Ok(LineEnd::Newline) => {
+                let spelled = command_of(line.as_slice());
+                if let Err(fault) = flush_before(writer, unflushed, &spelled) {
+                    return Err(fault);
+                }
+                match run_line(alloc, writer, session, files, spelled) {
+                    Err(_) => return Err(ToolFault::Write),
+                    Ok(AfterLine::Quit) => return Ok(()),
+                    Ok(AfterLine::NextLine) => {}
+                }
+            }
         }
     }
     if line.is_empty() {
         return Ok(());
     }
-    match run_line(alloc, writer, session, files, line.as_slice()) {
+    let spelled = command_of(line.as_slice());
+    if let Err(fault) = flush_before(writer, unflushed, &spelled) {
+        return Err(fault);
+    }
+    match run_line(alloc, writer, session, files, spelled) {
         Err(_) => Err(ToolFault::Write),
         Ok(_) => Ok(()),
     }
 }
 
-/// The same, with a session and a reader of lines made here.
+/// The same, with a session and a reader of lines made here; what was written is flushed at the end.
 fn run<A: Allocator + Copy, R: Read, W: Write, F: Files>(
     alloc: A,
     reader: &mut R,
@@ -137,6 +191,8 @@ fn run<A: Allocator + Copy, R: Read, W: Write, F: Files>(
     let mut session = Session::new(alloc, MarkTrail::new());
     let mut lines = LineReader::new();
     let mut line = Vec::new(alloc);
+    // What the writer was given earlier goes out with the first flush.
+    let mut unflushed = true;
     run_lines(
         alloc,
         reader,
@@ -145,12 +201,15 @@ fn run<A: Allocator + Copy, R: Read, W: Write, F: Files>(
         &mut session,
         &mut lines,
         &mut line,
-    )
+        &mut unflushed,
+    )?;
+    flush(writer, &mut unflushed)
 }
 
 /// Runs a script of commands: reads lines up to `quit` or the end of the input, and writes the reply of
 /// each before the next one acts. A refused command is answered by a line `error: ..`, and the script goes
-/// on. What was written is flushed before more input is waited for, and before `Ok`.
+/// on. What was written is flushed before each `load pcap`, `run`, `step`, `resume` and `stops`, which may take
+/// long, before more input is waited for, and before `Ok`.
 ///
 /// # Errors
 ///
@@ -168,9 +227,5 @@ pub fn debug<A: Allocator, R: Read, W: Write, F: Files>(
         Debugged script (R.remaining reader.new) (W.contents writer.old) (W.contents writer.new) (F.source files.old)
         (F.source files.new) result }
 {
-    run(&alloc, reader, writer, files)?;
-    match writer.flush() {
-        Ok(()) => Ok(()),
-        Err(_) => Err(ToolFault::Write),
-    }
+    run(&alloc, reader, writer, files)
 }

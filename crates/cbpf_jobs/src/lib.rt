@@ -1,11 +1,16 @@
 //! The jobs of `cbpf`: the debugger over a script of commands, and the assembler over a source.
 #![tactic(auto)]
 
+mod asm_on_host;
 mod assembler;
+mod dbg_on_host;
 mod debugger;
 mod disk_files;
+mod failure;
 mod fault;
 mod files;
+mod flushing;
+mod host;
 mod law;
 mod line_reader;
 mod loads;
@@ -13,10 +18,14 @@ mod memory_files;
 mod perform;
 mod session_replies;
 
+pub use asm_on_host::asm_job;
 pub use assembler::asm;
+pub use dbg_on_host::dbg_job;
 pub use debugger::debug;
 pub use disk_files::DiskFiles;
+pub use failure::Failure;
 pub use fault::ToolFault;
 pub use files::{Files, LoadFault};
+pub use host::{CreateFault, Host};
 pub use law::one_output;
 pub use memory_files::MemoryFiles;

@@ -7,6 +7,7 @@ ghost use Rattle.cbpf_jobs.specs.Reading.{IsStreamFault, pending_in, unread, Fil
 ghost use Rattle.cbpf_jobs.specs.declared.line_reader.LineEnd.TheVariants as end;
 
 use crate::fault::ToolFault;
+use crate::flushing::flush;
 use std::alloc::Allocator;
 use std::io::{Read, Write};
 
@@ -67,6 +68,7 @@ impl LineReader {
         &mut self,
         reader: &mut R,
         writer: &mut W,
+        unflushed: &mut bool,
     ) -> Result<bool, ToolFault>
         requires { self.old.start ≡ self.old.end }
         ensures flushed { Keeps (W.contents writer.old) (W.contents writer.new) }
@@ -81,9 +83,7 @@ impl LineReader {
             × (pending_in self.new.chunk self.new.start self.new.end ≡ [])) }
         ensures fault { IfErr result IsStreamFault }
     {
-        if writer.flush().is_err() {
-            return Err(ToolFault::Write);
-        }
+        flush(writer, unflushed)?;
         if self.reads == 0 {
             return Err(ToolFault::Read);
         }
@@ -100,7 +100,12 @@ impl LineReader {
     }
 
     /// Sees that there are bytes to take; false at the end of the input.
-    fn fill<R: Read, W: Write>(&mut self, reader: &mut R, writer: &mut W) -> Result<bool, ToolFault>
+    fn fill<R: Read, W: Write>(
+        &mut self,
+        reader: &mut R,
+        writer: &mut W,
+        unflushed: &mut bool,
+    ) -> Result<bool, ToolFault>
         ensures flushed { Keeps (W.contents writer.old) (W.contents writer.new) }
         ensures fewer { OnOk result (4097 * self.new.reads + (self.new.end - self.new.start)
             ≤ 4097 * self.old.reads + (self.old.end - self.old.start)) }
@@ -113,10 +118,12 @@ impl LineReader {
         if self.start < self.end {
             return Ok(true);
         }
-        self.refill(reader, writer)
+        self.refill(reader, writer, unflushed)
     }
 
     /// Takes what was read up to the line's end; true where its newline was found.
+    // As a call it makes a tenth more machine instructions for a short line.
+    #[inline(always)]
     fn take_part<A: Allocator>(&mut self, line: &mut Vec<u8, A>) -> Result<bool, ToolFault>
         requires { self.old.start < self.old.end }
         ensures taken { TakesPart (pending_in self.old.chunk self.old.start self.old.end)
@@ -149,6 +156,7 @@ impl LineReader {
         &mut self,
         reader: &mut R,
         writer: &mut W,
+        unflushed: &mut bool,
         line: &mut Vec<u8, A>,
     ) -> Result<LineEnd, ToolFault>
         ensures flushed { Keeps (W.contents writer.old) (W.contents writer.new) }
@@ -163,7 +171,7 @@ impl LineReader {
     {
         line.clear();
         'parts: loop {
-            match self.fill(reader, writer) {
+            match self.fill(reader, writer, unflushed) {
                 Err(fault) => return Err(fault),
                 Ok(false) => return Ok(LineEnd::Input),
                 Ok(true) => {}

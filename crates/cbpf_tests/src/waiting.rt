@@ -1,57 +1,80 @@
-// A reader that gives a line a call, and a writer, which share a count: before each read that waits, all
-// replies to the lines so far are written and flushed, and after a flush that fails nothing is read.
+// A reader and a writer that share a count. Before each read that waits, and before each command that may take
+// long, the replies so far are written and flushed; nothing is flushed twice; and after a flush that fails
+// nothing is read and nothing is written.
 use crate::fault_injection::ERROR_KINDS;
 use crate::loaded::two_packets_as_k;
 use crate::places::assert_at;
 use cbpf_tool::{ToolFault, debug};
-use std::alloc::Global;
+use std::alloc::{AllocError, Global};
 use std::cell::Cell;
 use std::io;
 use std::io::{ErrorKind, Read, Write};
 use std::process::Abort;
 
-/// How many bytes were written, and how many of these were flushed.
-#[derive(Clone, Copy, PartialEq)]
+/// How many bytes were written, how many of these were flushed, and what came too late.
+#[derive(Clone, Copy)]
 struct Progress {
     written: u64,
     flushed: u64,
+    /// Whether a flush failed.
+    failed: bool,
+    /// How many reads were made while replies waited, and how many reads and writes after a flush that failed.
+    late: u64,
 }
 
-/// A writer that takes all that it is given, and counts it. One flush may be chosen to fail.
+const NOTHING: Progress = Progress {
+    written: 0,
+    flushed: 0,
+    failed: false,
+    late: 0,
+};
+
+/// A writer that takes all that it is given, and keeps how much that was at each flush. One flush may be chosen
+/// to fail.
 #[derive(Drop)]
 struct CountingWriter<'a> {
     progress: &'a Cell<Progress>,
-    flushes: u64,
+    flushes: Vec<u64>,
     /// The number of the flush that fails, counted from 1; 0 for none.
-    failing: u64,
+    failing: usize,
     error: ErrorKind,
 }
 
 impl<'a> Write for CountingWriter<'a> {
     fn write(&mut self, buf: &[u8]) -> io::Result<usize> {
         let mut progress = self.progress.get();
+        progress.late = progress.late.saturating_add(u64::from(progress.failed));
         progress.written = progress.written.saturating_add(buf.len() as u64);
         self.progress.set(progress);
         Ok(buf.len())
     }
 
     fn flush(&mut self) -> io::Result<()> {
-        self.flushes = self.flushes.saturating_add(1);
-        if self.flushes == self.failing {
-            return Err(io::Error::from(self.error));
-        }
         let mut progress = self.progress.get();
+        self.flushes.push(progress.written)?;
+        progress.failed = self.flushes.len() == self.failing;
         progress.flushed = progress.written;
         self.progress.set(progress);
+        if progress.failed {
+            return Err(io::Error::from(self.error));
+        }
         Ok(())
     }
 }
 
-/// A line of a script, and the length of its reply.
-type Exchange = (&'static [u8], u64);
+/// Whether a command may take long.
+#[derive(Clone, Copy, PartialEq)]
+enum Length {
+    Short,
+    Long,
+}
 
-/// A reader that gives one line a call, as a terminal does. It counts the calls at which the replies so
-/// far were not all written and flushed.
+use Length::{Long, Short};
+
+/// A line of a script or a part of one, whether its command may take long, and the length of its reply.
+type Exchange = (&'static [u8], Length, u64);
+
+/// A reader that gives one line a call, as a terminal does.
 #[derive(Drop)]
 struct WaitingReader<'a> {
     exchanges: &'a [Exchange],
@@ -59,21 +82,19 @@ struct WaitingReader<'a> {
     /// The length of the replies to the lines that it gave.
     replies: u64,
     reads: usize,
-    late: u64,
 }
 
 impl<'a> Read for WaitingReader<'a> {
     fn read(&mut self, buf: &mut [u8]) -> io::Result<usize> {
-        let wanted = Progress {
-            written: self.replies,
-            flushed: self.replies,
-        };
-        if self.progress.get() != wanted {
-            self.late = self.late.saturating_add(1);
-        }
+        let mut progress = self.progress.get();
+        let is_late = progress.failed
+            || progress.written != self.replies
+            || progress.flushed != self.replies;
+        progress.late = progress.late.saturating_add(u64::from(is_late));
+        self.progress.set(progress);
         let exchange = self.exchanges.get(self.reads);
         self.reads = self.reads.saturating_add(1);
-        let Some((line, reply)) = exchange else {
+        let Some((line, _, reply)) = exchange else {
             return Ok(0);
         };
         self.replies = self.replies.saturating_add(*reply);
@@ -82,112 +103,125 @@ impl<'a> Read for WaitingReader<'a> {
     }
 }
 
-/// Each line with the length of its reply.
-const EXCHANGES: [Exchange; 9] = [
+static EXCHANGES: [Exchange; 9] = [
     // bpf: 1 instructions
-    (b"load bpf 1,6 0 0 1\n", 20),
+    (b"load bpf 1,6 0 0 1\n", Short, 20),
     // pcap: 2 packets
-    (b"load pcap k\n", 16),
+    (b"load pcap k\n", Long, 16),
     // bpf passes:2 fails:0
-    (b"run\n", 21),
-    (b"\n", 0),
+    (b"run\n", Long, 21),
+    (b"\n", Short, 0),
     // error: Q1 unknown command
-    (b"hello\n", 26),
+    (b"hello\n", Short, 26),
     // A line in two parts: the first has no reply.
-    (b"ma", 0),
+    (b"ma", Short, 0),
     // 1 0
-    (b"rk\n", 4),
+    (b"rk\n", Short, 4),
     // stops: 0, and 1 0
-    (b"stops\nmark\n", 13),
-    (b"quit\n", 0),
+    (b"stops\nmark\n", Long, 13),
+    (b"quit\n", Short, 0),
 ];
 
 /// The first lines that end in the middle of one: it is answered after the read that finds the end.
 const CUT: usize = 6;
 
-/// What is answered, and the numbers of flushes and of reads, where so many reads would be made.
-fn wanted(reads: u64, failing: u64) -> (Result<(), ToolFault>, u64, u64) {
-    if failing == 0 {
-        // One before each read, and one before `Ok`.
-        (Ok(()), reads.saturating_add(1), reads)
-    } else {
-        let made = reads.min(failing.saturating_sub(1));
-        (Err(ToolFault::Write), failing, made)
+/// error: Q1 unknown command
+const ANSWER_TO_A_CUT_LINE: u64 = 26;
+
+/// How many bytes are written at each flush that is wanted, where each line comes in a read of its own or all come
+/// in one.
+fn wanted_flushes(
+    alloc: Global,
+    exchanges: &[Exchange],
+    in_one_read: bool,
+) -> Result<Vec<u64>, AllocError> {
+    // Before the first read goes out what the writer was given earlier.
+    let mut flushes = Vec::new(alloc);
+    flushes.push(0)?;
+    let mut written: u64 = 0;
+    let mut flushed = 0;
+    for (_, length, reply) in exchanges {
+        if (*length == Long || !in_one_read) && written > flushed {
+            flushes.push(written)?;
+            flushed = written;
+        }
+        written = written.saturating_add(*reply);
     }
+    if written > flushed {
+        flushes.push(written)?;
+    }
+    if exchanges.len() == CUT {
+        flushes.push(written.saturating_add(ANSWER_TO_A_CUT_LINE))?;
+    }
+    Ok(flushes)
 }
 
-fn check_calls(
+/// A run that ended is compared with what is wanted, where no flush fails or one does.
+fn check(
     rt: &impl Abort,
-    count: usize,
-    failing: u64,
-    wanted: (Result<(), ToolFault>, u64, u64),
     outcome: Result<(), ToolFault>,
-    reader: &WaitingReader<'_>,
     writer: &CountingWriter<'_>,
+    wanted: &[u64],
+    place: (usize, usize),
 ) {
-    let (answer, flushes, made) = wanted;
-    let place = (count, failing);
+    let failing = writer.failing;
+    let answer = if failing == 0 {
+        Ok(())
+    } else {
+        Err(ToolFault::Write)
+    };
+    let made = if failing == 0 { wanted.len() } else { failing };
+    let done = writer.progress.get();
     assert_at(rt, outcome == answer, "the answer", place);
-    assert_at(rt, writer.flushes == flushes, "the flushes", place);
-    assert_at(rt, reader.reads as u64 == made, "the reads", place);
-    assert_at(rt, reader.late == 0, "late replies", place);
+    assert_at(
+        rt,
+        wanted.get(..made) == Some(writer.flushes.as_slice()),
+        "the flushes",
+        place,
+    );
+    assert_at(rt, done.late == 0, "late replies", place);
+    assert_at(rt, done.flushed == done.written, "the flushed text", place);
 }
 
-/// What is written at the end, of the replies to the lines that were read.
-fn check_written(
+/// A run over some lines, each in a read of its own, with a flush that fails or none (0).
+fn run_line_by_line(
     rt: &impl Abort,
-    count: usize,
-    failing: u64,
-    reads: u64,
-    replies: u64,
-    done: Progress,
+    alloc: Global,
+    exchanges: &[Exchange],
+    wanted: &[u64],
+    failing: usize,
+    error: ErrorKind,
 ) {
-    let place = (count, failing);
-    let is_flushed = failing > 0 || done.flushed == done.written;
-    assert_at(rt, is_flushed, "the flushed text", place);
-    if count != CUT || (failing > 0 && failing <= reads) {
-        assert_at(rt, done.written == replies, "the text", place);
-    }
-}
-
-/// A run over so many lines, with a flush that fails or none.
-fn run(rt: &impl Abort, alloc: Global, count: usize, reads: u64, failing: u64, error: ErrorKind) {
-    let progress = Cell::new(Progress {
-        written: 0,
-        flushed: 0,
-    });
+    let progress = Cell::new(NOTHING);
     let mut reader = WaitingReader {
-        exchanges: EXCHANGES.get(..count).unwrap_or(&EXCHANGES),
+        exchanges,
         progress: &progress,
         replies: 0,
         reads: 0,
-        late: 0,
     };
     let mut writer = CountingWriter {
         progress: &progress,
-        flushes: 0,
+        flushes: Vec::new(alloc),
         failing,
         error,
     };
     let mut files = two_packets_as_k(alloc).expect(rt, "the files");
     let outcome = debug(alloc, &mut reader, &mut writer, &mut files);
-    let wanted = wanted(reads, failing);
-    check_calls(rt, count, failing, wanted, outcome, &reader, &writer);
-    check_written(rt, count, failing, reads, reader.replies, progress.get());
+    check(rt, outcome, &writer, wanted, (exchanges.len(), failing));
 }
 
-fn each_error(rt: &impl Abort, alloc: Global, count: usize, reads: u64, failing: u64) {
+fn each_error(rt: &impl Abort, alloc: Global, lines: &[Exchange], wanted: &[u64], failing: usize) {
     for error in ERROR_KINDS {
-        run(rt, alloc, count, reads, failing, error);
+        run_line_by_line(rt, alloc, lines, wanted, failing, error);
     }
 }
 
 /// With no flush that fails (0), and with each flush that fails.
 fn each_flush(rt: &impl Abort, alloc: Global, count: usize) {
-    // After `quit` nothing is read; else the read that finds the end is one more.
-    let reads = (count as u64).saturating_add(u64::from(count < EXCHANGES.len()));
-    for failing in 0..reads.saturating_add(2) {
-        each_error(rt, alloc, count, reads, failing);
+    let exchanges = EXCHANGES.get(..count).unwrap_or(&EXCHANGES);
+    let wanted = wanted_flushes(alloc, exchanges, false).expect(rt, "the flushes");
+    for failing in 0..=wanted.len() {
+        each_error(rt, alloc, exchanges, wanted.as_slice(), failing);
     }
 }
 
@@ -196,5 +230,61 @@ fn each_flush(rt: &impl Abort, alloc: Global, count: usize) {
 fn each_reply_is_flushed_before_the_next_read_or_nothing_more_is_read(rt: HostRuntime) {
     for count in 0..=EXCHANGES.len() {
         each_flush(&rt, rt.alloc(), count);
+    }
+}
+
+/// Each command that may take long, after another one that has a reply, and after one that has not.
+static SCRIPT: [Exchange; 17] = [
+    (b"load bpf 1,6 0 0 1\n", Short, 20),
+    (b"mark\n", Short, 21),
+    (b"load pcap k\n", Long, 16),
+    (b"run\n", Long, 21),
+    (b"\n", Short, 0),
+    (b"mark\n", Short, 4),
+    (b"mark\n", Short, 4),
+    // at 1 0
+    (b"resume 1 0\n", Long, 7),
+    (b"mark\n", Short, 4),
+    // error: S8 count is zero
+    (b"step 0\n", Long, 24),
+    (b"step 0\n", Long, 24),
+    (b"hello\n", Short, 26),
+    (b"stops\n", Long, 9),
+    (b"select 1\n", Short, 7),
+    (b"select 2\n", Short, 7),
+    (b"run 1\n", Long, 21),
+    (b"quit\n", Short, 0),
+];
+
+fn lines_of(alloc: Global, exchanges: &[Exchange]) -> Result<Vec<u8>, AllocError> {
+    let mut lines = Vec::new(alloc);
+    for (line, _, _) in exchanges {
+        lines.extend_from_slice(line)?;
+    }
+    Ok(lines)
+}
+
+/// A run over the script in one read, with a flush that fails or none (0).
+fn run_at_once(rt: &impl Abort, alloc: Global, script: &[u8], wanted: &[u64], failing: usize) {
+    let progress = Cell::new(NOTHING);
+    let mut reader = script;
+    let mut writer = CountingWriter {
+        progress: &progress,
+        flushes: Vec::new(alloc),
+        failing,
+        error: ErrorKind::Other,
+    };
+    let mut files = two_packets_as_k(alloc).expect(rt, "the files");
+    let outcome = debug(alloc, &mut reader, &mut writer, &mut files);
+    check(rt, outcome, &writer, wanted, (SCRIPT.len(), failing));
+}
+
+#[test]
+fn replies_are_flushed_before_a_command_that_may_take_long(rt: HostRuntime) {
+    let alloc = rt.alloc();
+    let script = lines_of(alloc, &SCRIPT).expect(&rt, "the script");
+    let wanted = wanted_flushes(alloc, &SCRIPT, true).expect(&rt, "the flushes");
+    for failing in 0..=wanted.len() {
+        run_at_once(&rt, alloc, script.as_slice(), wanted.as_slice(), failing);
     }
 }

@@ -2,5 +2,11 @@
 //! a job reads clap.
 #![tactic(auto)]
 
+mod run_job;
+
 pub use cbpf_command_line::{Form, Job, LineFault, command_line};
-pub use cbpf_jobs::{DiskFiles, Files, LoadFault, MemoryFiles, ToolFault, asm, debug, one_output};
+pub use cbpf_jobs::{
+    CreateFault, DiskFiles, Failure, Files, Host, LoadFault, MemoryFiles, ToolFault, asm, debug,
+    one_output,
+};
+pub use run_job::{run_on, status_of};

@@ -1,8 +1,9 @@
-use Rattle.std.proofs.Common.{◌≡◌, List, ℕ, [], Ok, Err, Some, None}
+use Rattle.std.proofs.Common.{◌≡◌, List, ℕ, [], Ok, Err, None, ap, sym}
 use Rattle.cbpf_code.specs.Writing.{Appended, AppendedPart}
 use Rattle.cbpf_code.proofs.WrittenLemmas.{appended-nil}
 use Rattle.cbpf_command.specs.declared.command.CommandFault.TheVariants.{UnknownCommand, WrongArguments}
-use Rattle.cbpf_command.specs.Commands.{command_of, meaning}
+use Rattle.std.specs.Option.{option_map}
+use Rattle.cbpf_command.specs.Commands.{meaning, result_meaning}
 use Rattle.cbpf_reply.specs.Errors.{unknown_command_text, wrong_arguments_text}
 use Rattle.cbpf_jobs.specs.declared.debugger.AfterLine.TheVariants.{NextLine}
 use Rattle.cbpf_jobs.proofs.ReplyLemmas.{line-err, line-spelled, stays, writes-same}
@@ -13,13 +14,9 @@ returns-in-Ok-None g c =
     let f = g.F.Files.source c.args.files.now in
     let m = c.args.session.now in
     let w0 = g.W.Write.contents c.args.w.now in
-    line-spelled f f m m (Ok None) (command_of c.args.line.now) w0 w0 (Ok NextLine)
-    (rw c.in-Ok-None.field-0-is at (c.in-Ok-None.ensures {u = tt}))
+    line-spelled f f m m (Ok None) (result_meaning c.args.spelled) w0 w0 (Ok NextLine)
+    (rw c.in-Ok-None.is (ap (λ o. Ok (option_map meaning o)) (sym (rw c.in-Ok-None.is at c.in-Ok-None.field-0-is))))
     (stays f, λ t. writes-same [] m (λ (s : List ℕ). Appended w0 w0 s) (appended-nil w0))
-
-pub returns-in-Ok-Some : goal.returns-in-Ok-Some
-returns-in-Ok-Some g c = line-spelled _ _ _ _ (Ok (Some (meaning c.in-Ok-Some.command))) _ _ _ c.act.result
-    (rw c.in-Ok-Some.field-0-is at (c.in-Ok-Some.ensures {u = tt})) c.act.ensures
 
 pub returns-in_err-write_unknown_command-in-Err-UnknownCommand :
     goal.returns-in_err-write_unknown_command-in-Err-UnknownCommand
@@ -28,9 +25,9 @@ returns-in_err-write_unknown_command-in-Err-UnknownCommand g c =
     let m = c.args.session.now in
     let w0 = g.W.Write.contents c.args.w.now in
     let w1 = g.W.Write.contents c.write_unknown_command.new.w in
-    let spelled : Err UnknownCommand ≡ command_of c.args.line.now =
-    rw c.in-Err-UnknownCommand.field-0-is at (c.in-Err-UnknownCommand.ensures {u = tt}) in
-    line-spelled f f m m (Err UnknownCommand) (command_of c.args.line.now) w0 w1 c.from_residual.result spelled (
+    let spelled : Err UnknownCommand ≡ result_meaning c.args.spelled =
+    rw c.in-Err-UnknownCommand.is (ap Err (sym (rw c.in-Err-UnknownCommand.is at c.in-Err-UnknownCommand.field-0-is))) in
+    line-spelled f f m m (Err UnknownCommand) (result_meaning c.args.spelled) w0 w1 c.from_residual.result spelled (
       stays f,
       λ t. line-err f.files m m f.failures f.failures (Err UnknownCommand) w0 w1 c.from_residual.result
           c.from_residual.ensures.0 (writes-same unknown_command_text m (λ (s : List ℕ). AppendedPart w0 w1 s)
@@ -44,9 +41,9 @@ returns-in_ok-write_unknown_command-in-Err-UnknownCommand g c =
     let m = c.args.session.now in
     let w0 = g.W.Write.contents c.args.w.now in
     let w1 = g.W.Write.contents c.write_unknown_command.new.w in
-    let spelled : Err UnknownCommand ≡ command_of c.args.line.now =
-    rw c.in-Err-UnknownCommand.field-0-is at (c.in-Err-UnknownCommand.ensures {u = tt}) in
-    line-spelled f f m m (Err UnknownCommand) (command_of c.args.line.now) w0 w1 (Ok NextLine) spelled (
+    let spelled : Err UnknownCommand ≡ result_meaning c.args.spelled =
+    rw c.in-Err-UnknownCommand.is (ap Err (sym (rw c.in-Err-UnknownCommand.is at c.in-Err-UnknownCommand.field-0-is))) in
+    line-spelled f f m m (Err UnknownCommand) (result_meaning c.args.spelled) w0 w1 (Ok NextLine) spelled (
       stays f,
       λ t. writes-same unknown_command_text m (λ (s : List ℕ). Appended w0 w1 s)
           (c.in_ok-write_unknown_command-in-Err-UnknownCommand.ensures {u = tt}),
@@ -59,9 +56,9 @@ returns-in_err-write_wrong_arguments-in-Err-WrongArguments g c =
     let m = c.args.session.now in
     let w0 = g.W.Write.contents c.args.w.now in
     let w1 = g.W.Write.contents c.write_wrong_arguments.new.w in
-    let spelled : Err WrongArguments ≡ command_of c.args.line.now =
-    rw c.in-Err-WrongArguments.field-0-is at (c.in-Err-WrongArguments.ensures {u = tt}) in
-    line-spelled f f m m (Err WrongArguments) (command_of c.args.line.now) w0 w1
+    let spelled : Err WrongArguments ≡ result_meaning c.args.spelled =
+    rw c.in-Err-WrongArguments.is (ap Err (sym (rw c.in-Err-WrongArguments.is at c.in-Err-WrongArguments.field-0-is))) in
+    line-spelled f f m m (Err WrongArguments) (result_meaning c.args.spelled) w0 w1
     c.from_residual-in_err-write_wrong_arguments-in-Err-WrongArguments.result spelled (
       stays f,
       λ t. line-err f.files m m f.failures f.failures (Err WrongArguments) w0 w1
@@ -78,9 +75,9 @@ returns-in_ok-write_wrong_arguments-in-Err-WrongArguments g c =
     let m = c.args.session.now in
     let w0 = g.W.Write.contents c.args.w.now in
     let w1 = g.W.Write.contents c.write_wrong_arguments.new.w in
-    let spelled : Err WrongArguments ≡ command_of c.args.line.now =
-    rw c.in-Err-WrongArguments.field-0-is at (c.in-Err-WrongArguments.ensures {u = tt}) in
-    line-spelled f f m m (Err WrongArguments) (command_of c.args.line.now) w0 w1 (Ok NextLine) spelled (
+    let spelled : Err WrongArguments ≡ result_meaning c.args.spelled =
+    rw c.in-Err-WrongArguments.is (ap Err (sym (rw c.in-Err-WrongArguments.is at c.in-Err-WrongArguments.field-0-is))) in
+    line-spelled f f m m (Err WrongArguments) (result_meaning c.args.spelled) w0 w1 (Ok NextLine) spelled (
       stays f,
       λ t. writes-same wrong_arguments_text m (λ (s : List ℕ). Appended w0 w1 s)
           (c.in_ok-write_wrong_arguments-in-Err-WrongArguments.ensures {u = tt}),

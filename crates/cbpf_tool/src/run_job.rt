@@ -1,0 +1,29 @@
+// The job that a command line asks for.
+ghost use Rattle.std.specs.Prelude.{◌≡◌, IsTrue};
+ghost use Rattle.std.specs.Process.{exit_status};
+ghost use Rattle.cbpf_tool.specs.Run as spec;
+
+use cbpf_command_line::Job;
+use cbpf_jobs::{Failure, Host, asm_job, dbg_job};
+use std::alloc::Allocator;
+use std::process::ExitCode;
+
+/// Runs a job on a machine.
+pub fn run_on<A: Allocator, H: Host>(alloc: A, host: &mut H, job: Job) -> Result<(), Failure>
+    ensures { IsTrue (H.view host.old).is_known → spec.JobDone (H.view host.old) (H.view host.new) job result }
+{
+    match job {
+        Job::Asm { form, file } => asm_job(alloc, host, form, file),
+        Job::Dbg { input, output } => dbg_job(alloc, host, input, output),
+    }
+}
+
+/// The status with which the program ends.
+pub fn status_of(done: &Result<(), Failure>) -> ExitCode
+    ensures { exit_status result ≡ spec.status done.now }
+{
+    match done {
+        Ok(_) => ExitCode::SUCCESS,
+        Err(_) => ExitCode::FAILURE,
+    }
+}
