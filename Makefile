@@ -31,7 +31,7 @@ test: built ## Runs the end-to-end cases, sessions, verdicts and the examples of
 bench: built ## Measures the program that is built beside its peers, and writes the tables of bench/README.md and bench/growth.svg.
 	python3 bench/all.py
 
-check: ## The gate: proves all crates and their tests from nothing, tries the must-fail edits, runs all tests; about an hour on two processors, by the machine.
+check: ## The gate: proves all crates and their tests from nothing, tries the must-fail edits, runs all tests; an hour and more on two processors, by the machine.
 	python3 tests/names.py
 	@python3 tools/check.py
 	python3 tests/compile.py
@@ -43,15 +43,16 @@ check: ## The gate: proves all crates and their tests from nothing, tries the mu
 built:
 	@test -x "$(PROGRAM)" || { echo 'There is no $(PROGRAM): `make build` proves and builds it.' >&2; exit 1; }
 
-install: built ## Puts the program that is built, its manual page, completion and words into PREFIX (/usr/local).
+install: built ## Puts the program that is built, cbpf-transcript, the manual page, completion and words into PREFIX (/usr/local).
 	install -D -m 755 "$(PROGRAM)" "$(root)/bin/cbpf"
+	install -D -m 755 tools/cbpf-transcript "$(root)/bin/cbpf-transcript"
 	install -D -m 644 man/cbpf.1 "$(root)/share/man/man1/cbpf.1"
 	install -D -m 644 completion/cbpf.bash "$(root)/share/bash-completion/completions/cbpf"
 	install -D -m 644 completion/cbpf.words "$(root)/share/cbpf/cbpf.words"
 
 # Folders that others may use stay; only below DESTDIR those that are empty go too.
 uninstall: ## Takes out of PREFIX what `install` put there.
-	rm -f "$(root)/bin/cbpf" "$(root)/share/man/man1/cbpf.1"
+	rm -f "$(root)/bin/cbpf" "$(root)/bin/cbpf-transcript" "$(root)/share/man/man1/cbpf.1"
 	rm -f "$(root)/share/bash-completion/completions/cbpf" "$(root)/share/cbpf/cbpf.words"
 	@if test -d "$(root)/share/cbpf"; then rmdir --ignore-fail-on-non-empty "$(root)/share/cbpf"; fi
 	@if test -n "$(DESTDIR)"; then for folder in bin share/man/man1 share/bash-completion/completions share; do \

@@ -18,7 +18,8 @@ _cbpf() {
     fi
     case ${COMP_WORDS[1]} in
         asm) options='-c --help' most=1 ;;
-        dbg) options='--help' most=2 ;;
+        # The second name is the output's, which is emptied: no file that is there is offered.
+        dbg) options='--help' most=1 ;;
         help)
             ((COMP_CWORD == 2)) && _cbpf_words "$word" 'asm dbg help'
             return

@@ -5,8 +5,8 @@ usage: documents.py PROGRAM [DOCUMENT..]
 
 The documents are README.md, CONTRIBUTING.md, docs/*.md and man/cbpf.1; README.md, docs/REFERENCE.md and the page have
 examples. In Markdown an example stands between ```console and ```, in the page between .Bd -literal and .Ed. A line that
-begins with `$ ` is a command, which `sh` runs in a copy of examples/, with completion/ beside it, one for each document,
-with PROGRAM as `cbpf` on the PATH. The lines after it are what it prints, on standard output and standard error. Where
+begins with `$ ` is a command, which `sh` runs in a copy of examples/, with completion/ and tools/ beside it, one for each
+document, with PROGRAM as `cbpf` on the PATH. The lines after it are what it prints, on standard output and standard error. Where
 the command takes the keyboard (`cbpf`, `cbpf dbg` or `.. cat) | cbpf`), they are a session: each line that is no reply
 is typed, and a block without a command goes on with it. A line `..` stands for any lines. A command whose tool is
 missing isn't run, and neither is its session.
@@ -151,7 +151,8 @@ def main():
             program.mkdir()
             (program / "cbpf").symlink_to(Path(sys.argv[1]).resolve())
             copy = shutil.copytree(TOP / "examples", Path(folder) / "examples")
-            shutil.copytree(TOP / "completion", Path(folder) / "completion")
+            for beside in ("completion", "tools"):
+                shutil.copytree(TOP / beside, Path(folder) / beside)
             found = examples(path)
             if path in REQUIRED and not found:
                 faults.append("no example")

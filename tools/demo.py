@@ -4,19 +4,14 @@
 usage: demo PROGRAM
 """
 
+import os
 import subprocess
 import sys
 from pathlib import Path
 
-EXAMPLES = Path(__file__).resolve().parent.parent / "examples"
+TOOLS = Path(__file__).resolve().parent
+EXAMPLES = TOOLS.parent / "examples"
 SCRIPT = "port22.dbg"
-
-
-def replies(program, commands):
-    done = subprocess.run(
-        [program, "dbg"], input=commands, cwd=EXAMPLES, capture_output=True, text=True, check=True
-    )
-    return done.stdout
 
 
 def main():
@@ -24,15 +19,9 @@ def main():
     for words in (["asm", "arp.asm"], ["asm", "-c", "arp.asm"]):
         print("$", "cbpf", *words, flush=True)
         subprocess.run([program, *words], cwd=EXAMPLES, check=True)
-    print("$ cbpf dbg", SCRIPT)
-    commands = ""
-    shown = 0
-    for command in (EXAMPLES / SCRIPT).read_text().splitlines(keepends=True):
-        commands += command
-        printed = replies(program, commands)
-        print(">", command, end="")
-        print(printed[shown:], end="")
-        shown = len(printed)
+    print("$ cbpf-transcript", SCRIPT, flush=True)
+    transcript = [TOOLS / "cbpf-transcript", SCRIPT]
+    subprocess.run(transcript, cwd=EXAMPLES, env={**os.environ, "CBPF": program}, check=True)
     print("Done. Next: `make install`, and then `cbpf dbg --help`; or type these commands in examples/ yourself.")
 
 

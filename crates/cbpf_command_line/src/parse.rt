@@ -25,11 +25,11 @@ Examples:
   Run the debugger's commands in a file:
     $ cbpf dbg session.dbg
   Count the packets of a capture that a filter passes:
-    $ (printf 'load bpf '; cbpf asm filter.asm
-       printf '\\nload pcap trace.pcap\\nrun\\n') | cbpf
+    $ (echo \"load bpf $(cbpf asm filter.asm)\"
+       echo load pcap trace.pcap; echo run) | cbpf
   The same for a filter of tcpdump, compiled for the capture's link type:
-    $ (printf 'load bpf '; tcpdump -r trace.pcap -ddd arp | tr '\\n' ','
-       printf '\\nload pcap trace.pcap\\nrun\\n') | cbpf
+    $ (echo \"load bpf $(tcpdump -r trace.pcap -ddd arp | tr '\\n' ',')\"
+       echo load pcap trace.pcap; echo run) | cbpf
 
 Exit status:
   0  done, also where the debugger refused commands (its replies `error: ..`)
@@ -76,6 +76,9 @@ EXT is proto, type, ifidx, mark, queue, hatype, rxhash, cpu, vlan_tci,
 vlan_avail or vlan_tpid. A refused command is answered by a line `error: ..`
 and changes nothing; the commands after it run.
 
+OUTPUT is emptied before the first command runs: swapped names, the name of a
+capture there, or one file as both destroy that file.
+
 Examples:
   Type commands at the terminal:
     $ cbpf dbg
@@ -88,7 +91,7 @@ const SOURCE: &str = "The source [default: standard input]";
 
 const COMMANDS: &str = "The commands [default: standard input]";
 
-const REPLIES: &str = "Where the replies go, overwritten [default: standard output]";
+const REPLIES: &str = "Where the replies go, emptied first [default: standard output]";
 
 /// The flag `-c`.
 fn form_flag<'a>(alloc: Global) -> Arg<'a>
