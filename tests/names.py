@@ -19,7 +19,7 @@ crates/*/must-fail/README.md. Each is read outside its blocks of code, and names
                    docs/DEFINITIONS.md says that only private functions cite it, or docs/ARCHITECTURE.md has its file in
                    the column `only for the crate`; and something cites it
   a call           in a block ```calls of docs/ARCHITECTURE.md: the function stands in the line's file
-A line of tests/shown.txt is a sentence and, each behind ` | `, what shows it, with texts between backquotes:
+A line of tests/shown.txt is a sentence and, each after ` | `, what shows it, with texts between backquotes:
   test C::M::F     the function F has #[test] in the module M of the crate C; a text stands in the file of M, of a
                    module below M, or of one of the crate that M names
   case D/N         the folder below tests/cases has a file `stdout`; a text stands in one of its files

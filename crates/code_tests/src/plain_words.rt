@@ -43,8 +43,8 @@ fn marks_of(rt: &impl Abort, alloc: Global, text: &[u8]) -> Vec<Mark> {
     marks
 }
 
-/// The greatest number that may stand at a mark, and none where a comma is due: behind the count and
-/// behind each fourth field.
+/// The greatest number that may stand at a mark, and none where a comma is due: after the count and
+/// after each fourth field.
 fn greatest_at(mark: usize) -> Option<u64> {
     match mark % 5 {
         1 => None,
@@ -110,7 +110,7 @@ fn is_at(marks: &[Mark], first: usize, insn: Insn) -> bool {
     true
 }
 
-/// Whether the instructions are the numbers behind the count.
+/// Whether the instructions are the numbers after the count.
 fn are_at(marks: &[Mark], list: &[Insn]) -> bool {
     for (i, insn) in list.iter().enumerate() {
         if !is_at(marks, i.saturating_mul(5).saturating_add(2), *insn) {
