@@ -1,7 +1,6 @@
 pub mod SoundLemmas
 pub mod StepLemmas
 pub mod ListLemmas
-pub mod CheckpointLemmas
 pub mod TraceLemmas
 pub mod AskedLemmas
 pub mod FollowLemmas

@@ -44,6 +44,8 @@ impl<A: Allocator> Trail for ListTrail<A> {
 
     ghost kept = { λ t. length t };
 
+    ghost gap = { λ i. 1 };
+
     ghost turns_back = { λ to. 0 };
 
     ghost as_long = { λ t xs h. Prim.search rules };
@@ -60,6 +62,19 @@ impl<A: Allocator> Trail for ListTrail<A> {
             Err(_) => unreachable!(),
         }
     }
+
+    #[inline(always)]
+    fn first_gap() -> u32 {
+        1
+    }
+
+    #[inline(always)]
+    fn gap(&self) -> u32 {
+        1
+    }
+
+    #[inline(always)]
+    fn keep_unstored(&mut self, _count: u32) {}
 
     fn back<B: Allocator>(
         &mut self,

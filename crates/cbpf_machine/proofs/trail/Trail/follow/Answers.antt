@@ -1,273 +1,128 @@
-use Rattle.std.proofs.Common.{◌≡◌, ◌+◌, ◌∙◌, ◌-◌, take, length, length-take, arith, refl, sym, false}
-use Rattle.std.proofs.lemmas.Option.{slice_get_within}
+use Rattle.std.proofs.Common.{◌≡◌, ◌+◌, ◌∙◌, ◌-◌, length, arith, refl, sym, false}
 use Rattle.cbpf_machine.specs.Machine.{machine_of}
 use Rattle.cbpf_machine.specs.Registers.{zero_state}
 use Rattle.cbpf_machine.specs.Trace.{trace}
 use Rattle.cbpf_machine.specs.Follow.{is_watched}
 use Rattle.cbpf_machine.proofs.SoundLemmas.{sound_few, sound_some}
-use Rattle.cbpf_machine.proofs.ListLemmas.{take-slice_get}
-use Rattle.cbpf_machine.proofs.TraceLemmas.{goes_at, goes_from_entry, length-trace_from}
-use Rattle.cbpf_machine.proofs.PassLemmas.{passed_none, passed_some}
-use Rattle.cbpf_machine.proofs.FollowLemmas.{unwatched_none, unwatched_next, follows_on, follows_end, follows_within}
+use Rattle.cbpf_machine.proofs.TraceLemmas.{goes_from_entry}
+use Rattle.cbpf_machine.proofs.FollowLemmas.{unwatched_none, unwatched_next, came, ended, came_within}
 use Rattle.cbpf_machine.proofs.trail.Trail.follow.Goals as goal
 
 pub follow-init : goal.follow-init
 follow-init g c =
     let sound = c.len-few.ensures.sound in
-    let k : (g.Self.Trail.kept c.args.self.now) + 0 ≡ (g.Self.Trail.kept c.args.self.now) = omega arith in
     record {
       sound = sound;
-      here = rw k (goes_from_entry (machine_of c.args.p.now c.args.values.now) c.args.packet.bytes.now
-          c.args.packet.wire ((g.Self.Trail.kept c.args.self.now) - 1) zero_state c.args.s.now sound
-          (sound_some c.args.p.now sound) c.requires.last);
-      stands = rw k c.requires.of_trace;
-      unwatched = unwatched_none c.args.watched.now
-          (trace (machine_of c.args.p.now c.args.values.now) c.args.packet.bytes.now c.args.packet.wire)
-          (g.Self.Trail.kept c.args.self.now) ((g.Self.Trail.kept c.args.self.now) + 0) (omega arith);
+      from_one = c.requires.from_one;
+      kept = omega arith;
+      here = goes_from_entry _ _ _ _ zero_state _ sound (sound_some _ sound) c.requires.last;
+      stands = c.requires.of_trace;
+      unwatched = unwatched_none _ _ _ _ (omega arith);
       state = refl;
       spent = omega arith;
     }
 
 pub add-requires : goal.add-requires
 add-requires g c =
-    let h = c.pass_some-turns.ensures.passes (trace (machine_of c.args.p.now c.args.values.now)
-    c.args.packet.bytes.now c.args.packet.wire)
-    ((g.Self.Trail.kept c.args.self.now) + c.follow.made - 1) c.follow.invariant.here in
-    let within = follows_within (machine_of c.args.p.now c.args.values.now) c.args.packet.bytes.now c.args.packet.wire
-    c.args.watched.now (g.Self.Trail.kept c.args.self.now) c.follow.made c.pass_some-turns.result.0
-    c.follow.invariant.sound c.requires.from_one c.pass_some-turns.ensures.some h.0 c.pass_some-turns.result.1
-    c.follow.invariant.unwatched h.1 in
-    let from_one = c.requires.from_one in
-    omega (arith, within, from_one, c.requires.spare, c.follow.invariant.spent)
+    let within = came_within _ _ _ _ _ _ _ _ _ _ c.follow.invariant.sound c.follow.invariant.from_one c.pass_some-turns.ensures.some
+    c.follow.invariant.unwatched (c.pass_some-turns.ensures.passes _ _ c.follow.invariant.here) in
+    omega (arith, within.0, c.requires.spare, c.follow.invariant.spent, c.follow.invariant.kept)
+
+pub keep_unstored-requires : goal.keep_unstored-requires
+keep_unstored-requires g c =
+    let within = came_within _ _ _ _ _ _ _ _ _ _ c.follow.invariant.sound c.follow.invariant.from_one c.pass_some-turns.ensures.some
+    c.follow.invariant.unwatched (c.pass_some-turns.ensures.passes _ _ c.follow.invariant.here) in
+    let some = c.pass_some-turns.ensures.some in
+    record {
+      few = omega (arith, within.0, within.1, some);
+      from_one = c.follow.invariant.from_one;
+      between = omega (arith, some, c.pass_some-turns.ensures.few, c.gap-most.ensures.value);
+    }
 
 pub returns-in-Some-clause-follows : goal.returns-in-Some-clause-follows
 returns-in-Some-clause-follows g c =
-    let h = passed_some (machine_of c.args.p.now c.args.values.now) c.args.packet.bytes.now c.args.packet.wire
-    c.args.watched.now (trace (machine_of c.args.p.now c.args.values.now) c.args.packet.bytes.now c.args.packet.wire)
-    ((g.Self.Trail.kept c.args.self.now) + c.follow.made - 1) c.follow.here c.pass_some-turns.new.s
-    c.pass_some-turns.result.0 _ c.in-Some.outcome c.in-Some.is (c.pass_some-turns.ensures.passes
-    (trace (machine_of c.args.p.now c.args.values.now) c.args.packet.bytes.now c.args.packet.wire)
-    ((g.Self.Trail.kept c.args.self.now) + c.follow.made - 1) c.follow.invariant.here) in
-    let end = follows_end (machine_of c.args.p.now c.args.values.now) c.args.packet.bytes.now c.args.packet.wire
-    c.args.watched.now (g.Self.Trail.kept c.args.self.now) c.follow.made c.pass_some-turns.result.0
-    c.follow.invariant.sound c.requires.from_one c.pass_some-turns.ensures.some h.0 c.in-Some.outcome
-    c.follow.invariant.unwatched h.1 in
+    let end = ended _ _ _ _ _ _ _ _ _ _ c.follow.invariant.sound c.follow.invariant.from_one c.pass_some-turns.ensures.some
+    c.follow.invariant.unwatched (c.pass_some-turns.ensures.passes _ _ c.follow.invariant.here) _ c.in-Some.is in
     (end.1, end.2, c.follow.invariant.state)
 
 pub returns-in-Some-clause-stands : goal.returns-in-Some-clause-stands
 returns-in-Some-clause-stands g c =
-    let h = passed_some (machine_of c.args.p.now c.args.values.now) c.args.packet.bytes.now c.args.packet.wire
-    c.args.watched.now (trace (machine_of c.args.p.now c.args.values.now) c.args.packet.bytes.now c.args.packet.wire)
-    ((g.Self.Trail.kept c.args.self.now) + c.follow.made - 1) c.follow.here c.pass_some-turns.new.s
-    c.pass_some-turns.result.0 _ c.in-Some.outcome c.in-Some.is (c.pass_some-turns.ensures.passes
-    (trace (machine_of c.args.p.now c.args.values.now) c.args.packet.bytes.now c.args.packet.wire)
-    ((g.Self.Trail.kept c.args.self.now) + c.follow.made - 1) c.follow.invariant.here) in
-    let end = follows_end (machine_of c.args.p.now c.args.values.now) c.args.packet.bytes.now c.args.packet.wire
-    c.args.watched.now (g.Self.Trail.kept c.args.self.now) c.follow.made c.pass_some-turns.result.0
-    c.follow.invariant.sound c.requires.from_one c.pass_some-turns.ensures.some h.0 c.in-Some.outcome
-    c.follow.invariant.unwatched h.1 in
+    let end = ended _ _ _ _ _ _ _ _ _ _ c.follow.invariant.sound c.follow.invariant.from_one c.pass_some-turns.ensures.some
+    c.follow.invariant.unwatched (c.pass_some-turns.ensures.passes _ _ c.follow.invariant.here) _ c.in-Some.is in
     let some = c.pass_some-turns.ensures.some in
-    let few = c.pass_some-turns.ensures.few in
-    let n : (g.Self.Trail.kept c.args.self.now) + c.follow.made
+    let n : g.Self.Trail.kept c.follow.self + (c.pass_some-turns.result.0 - 1)
     ≡ length (trace (machine_of c.args.p.now c.args.values.now) c.args.packet.bytes.now c.args.packet.wire) =
-    omega (arith, end.0, some, few) in
-    rw n at c.follow.invariant.stands
+    omega (arith, end.0, some) in
+    rw n at (c.keep_unstored.ensures.stands _ (omega (arith, n)) c.follow.invariant.stands)
 
 pub returns-in-Some-clause-turns : goal.returns-in-Some-clause-turns
 returns-in-Some-clause-turns g c =
-    let h = passed_some (machine_of c.args.p.now c.args.values.now) c.args.packet.bytes.now c.args.packet.wire
-    c.args.watched.now (trace (machine_of c.args.p.now c.args.values.now) c.args.packet.bytes.now c.args.packet.wire)
-    ((g.Self.Trail.kept c.args.self.now) + c.follow.made - 1) c.follow.here c.pass_some-turns.new.s
-    c.pass_some-turns.result.0 _ c.in-Some.outcome c.in-Some.is (c.pass_some-turns.ensures.passes
-    (trace (machine_of c.args.p.now c.args.values.now) c.args.packet.bytes.now c.args.packet.wire)
-    ((g.Self.Trail.kept c.args.self.now) + c.follow.made - 1) c.follow.invariant.here) in
-    let end = follows_end (machine_of c.args.p.now c.args.values.now) c.args.packet.bytes.now c.args.packet.wire
-    c.args.watched.now (g.Self.Trail.kept c.args.self.now) c.follow.made c.pass_some-turns.result.0
-    c.follow.invariant.sound c.requires.from_one c.pass_some-turns.ensures.some h.0 c.in-Some.outcome
-    c.follow.invariant.unwatched h.1 in
+    let end = ended _ _ _ _ _ _ _ _ _ _ c.follow.invariant.sound c.follow.invariant.from_one c.pass_some-turns.ensures.some
+    c.follow.invariant.unwatched (c.pass_some-turns.ensures.passes _ _ c.follow.invariant.here) _ c.in-Some.is in
     let some = c.pass_some-turns.ensures.some in
-    let from_one = c.requires.from_one in
-    omega (arith, end.0, some, from_one, c.add.ensures, c.follow.invariant.spent)
+    omega (arith, end.0, some, c.requires.from_one, c.add.ensures, c.follow.invariant.spent, c.follow.invariant.kept)
 
-pub push-requires : goal.push-requires
-push-requires g c =
-    let h = passed_none (machine_of c.args.p.now c.args.values.now) c.args.packet.bytes.now c.args.packet.wire
-    c.args.watched.now (trace (machine_of c.args.p.now c.args.values.now) c.args.packet.bytes.now c.args.packet.wire)
-    ((g.Self.Trail.kept c.args.self.now) + c.follow.made - 1) c.follow.here c.pass_some-turns.new.s
-    c.pass_some-turns.result.0 _ c.in_default.is (c.pass_some-turns.ensures.passes
-    (trace (machine_of c.args.p.now c.args.values.now) c.args.packet.bytes.now c.args.packet.wire)
-    ((g.Self.Trail.kept c.args.self.now) + c.follow.made - 1) c.follow.invariant.here) in
-    let on = follows_on (machine_of c.args.p.now c.args.values.now) c.args.packet.bytes.now c.args.packet.wire
-    c.args.watched.now (g.Self.Trail.kept c.args.self.now) c.follow.made c.pass_some-turns.result.0
-    c.follow.invariant.sound c.requires.from_one c.pass_some-turns.ensures.some c.pass_some-turns.new.s
-    c.follow.invariant.unwatched h in
-    let at = goes_at (machine_of c.args.p.now c.args.values.now) c.args.packet.bytes.now c.args.packet.wire
-    (trace (machine_of c.args.p.now c.args.values.now) c.args.packet.bytes.now c.args.packet.wire)
-    ((g.Self.Trail.kept c.args.self.now) + (c.follow.made + c.pass_some-turns.result.0) - 1) c.pass_some-turns.new.s
-    c.follow.invariant.sound on.1 in
-    let within = slice_get_within (trace (machine_of c.args.p.now c.args.values.now) c.args.packet.bytes.now
-    c.args.packet.wire) ((g.Self.Trail.kept c.args.self.now) + (c.follow.made + c.pass_some-turns.result.0) - 1)
-    c.pass_some-turns.new.s at in
-    let few = sound_few c.args.p.now c.follow.invariant.sound in
-    let long = length-trace_from (machine_of c.args.p.now c.args.values.now) c.args.packet.bytes.now
-    c.args.packet.wire zero_state in
-    let some = c.pass_some-turns.ensures.some in
-    let most = c.pass_some-turns.ensures.few in
-    let kept = g.met.Self.Trail.as_long c.follow.self (take ((g.Self.Trail.kept c.args.self.now) + c.follow.made)
-    (trace (machine_of c.args.p.now c.args.values.now) c.args.packet.bytes.now c.args.packet.wire))
-    c.follow.invariant.stands in
-    omega (
-      arith,
-      within,
-      few,
-      long,
-      some,
-      most,
-      kept,
-      length-take ((g.Self.Trail.kept c.args.self.now) + c.follow.made)
-          (trace (machine_of c.args.p.now c.args.values.now) c.args.packet.bytes.now c.args.packet.wire),
-    )
-
-pub has-requires : goal.has-requires
-has-requires g c =
-    let h = passed_none (machine_of c.args.p.now c.args.values.now) c.args.packet.bytes.now c.args.packet.wire
-    c.args.watched.now (trace (machine_of c.args.p.now c.args.values.now) c.args.packet.bytes.now c.args.packet.wire)
-    ((g.Self.Trail.kept c.args.self.now) + c.follow.made - 1) c.follow.here c.pass_some-turns.new.s
-    c.pass_some-turns.result.0 _ c.in_default.is (c.pass_some-turns.ensures.passes
-    (trace (machine_of c.args.p.now c.args.values.now) c.args.packet.bytes.now c.args.packet.wire)
-    ((g.Self.Trail.kept c.args.self.now) + c.follow.made - 1) c.follow.invariant.here) in
-    let on = follows_on (machine_of c.args.p.now c.args.values.now) c.args.packet.bytes.now c.args.packet.wire
-    c.args.watched.now (g.Self.Trail.kept c.args.self.now) c.follow.made c.pass_some-turns.result.0
-    c.follow.invariant.sound c.requires.from_one c.pass_some-turns.ensures.some c.pass_some-turns.new.s
-    c.follow.invariant.unwatched h in
-    let at = goes_at (machine_of c.args.p.now c.args.values.now) c.args.packet.bytes.now c.args.packet.wire
-    (trace (machine_of c.args.p.now c.args.values.now) c.args.packet.bytes.now c.args.packet.wire)
-    ((g.Self.Trail.kept c.args.self.now) + (c.follow.made + c.pass_some-turns.result.0) - 1) c.pass_some-turns.new.s
-    c.follow.invariant.sound on.1 in
-    let few = sound_few c.args.p.now c.follow.invariant.sound in
-    omega (arith, c.index.ensures, on.1.inside, few)
-
-pub returns-then-has-clause-follows : goal.returns-then-has-clause-follows
-returns-then-has-clause-follows g c =
-    let h = passed_none (machine_of c.args.p.now c.args.values.now) c.args.packet.bytes.now c.args.packet.wire
-    c.args.watched.now (trace (machine_of c.args.p.now c.args.values.now) c.args.packet.bytes.now c.args.packet.wire)
-    ((g.Self.Trail.kept c.args.self.now) + c.follow.made - 1) c.follow.here c.pass_some-turns.new.s
-    c.pass_some-turns.result.0 _ c.in_default.is (c.pass_some-turns.ensures.passes
-    (trace (machine_of c.args.p.now c.args.values.now) c.args.packet.bytes.now c.args.packet.wire)
-    ((g.Self.Trail.kept c.args.self.now) + c.follow.made - 1) c.follow.invariant.here) in
-    let on = follows_on (machine_of c.args.p.now c.args.values.now) c.args.packet.bytes.now c.args.packet.wire
-    c.args.watched.now (g.Self.Trail.kept c.args.self.now) c.follow.made c.pass_some-turns.result.0
-    c.follow.invariant.sound c.requires.from_one c.pass_some-turns.ensures.some c.pass_some-turns.new.s
-    c.follow.invariant.unwatched h in
-    let at = goes_at (machine_of c.args.p.now c.args.values.now) c.args.packet.bytes.now c.args.packet.wire
-    (trace (machine_of c.args.p.now c.args.values.now) c.args.packet.bytes.now c.args.packet.wire)
-    ((g.Self.Trail.kept c.args.self.now) + (c.follow.made + c.pass_some-turns.result.0) - 1) c.pass_some-turns.new.s
-    c.follow.invariant.sound on.1 in
-    let some = c.pass_some-turns.ensures.some in
-    (omega (arith, some), on.0, at, rw (← c.index.ensures) (sym c.has.ensures ∙ c.if-has.true))
-
-pub returns-then-has-clause-stands : goal.returns-then-has-clause-stands
-returns-then-has-clause-stands g c =
-    let h = passed_none (machine_of c.args.p.now c.args.values.now) c.args.packet.bytes.now c.args.packet.wire
-    c.args.watched.now (trace (machine_of c.args.p.now c.args.values.now) c.args.packet.bytes.now c.args.packet.wire)
-    ((g.Self.Trail.kept c.args.self.now) + c.follow.made - 1) c.follow.here c.pass_some-turns.new.s
-    c.pass_some-turns.result.0 _ c.in_default.is (c.pass_some-turns.ensures.passes
-    (trace (machine_of c.args.p.now c.args.values.now) c.args.packet.bytes.now c.args.packet.wire)
-    ((g.Self.Trail.kept c.args.self.now) + c.follow.made - 1) c.follow.invariant.here) in
-    let on = follows_on (machine_of c.args.p.now c.args.values.now) c.args.packet.bytes.now c.args.packet.wire
-    c.args.watched.now (g.Self.Trail.kept c.args.self.now) c.follow.made c.pass_some-turns.result.0
-    c.follow.invariant.sound c.requires.from_one c.pass_some-turns.ensures.some c.pass_some-turns.new.s
-    c.follow.invariant.unwatched h in
-    let at = goes_at (machine_of c.args.p.now c.args.values.now) c.args.packet.bytes.now c.args.packet.wire
-    (trace (machine_of c.args.p.now c.args.values.now) c.args.packet.bytes.now c.args.packet.wire)
-    ((g.Self.Trail.kept c.args.self.now) + (c.follow.made + c.pass_some-turns.result.0) - 1) c.pass_some-turns.new.s
-    c.follow.invariant.sound on.1 in
-    let some = c.pass_some-turns.ensures.some in
-    let most = c.pass_some-turns.ensures.few in
-    let e : (g.Self.Trail.kept c.args.self.now) + (c.follow.made + c.pass_some-turns.result.0) - 1 + 1
-    ≡ (g.Self.Trail.kept c.args.self.now) + (c.follow.made + c.pass_some-turns.result.0) = omega (arith, some) in
-    let n : (g.Self.Trail.kept c.args.self.now) + c.follow.made ≡ (g.Self.Trail.kept c.args.self.now)
-    + (c.follow.made + c.pass_some-turns.result.0) - 1 = omega (arith, some, most) in
-    let before = rw n at c.follow.invariant.stands in
-    let stands = rw (← take-slice_get (trace (machine_of c.args.p.now c.args.values.now) c.args.packet.bytes.now
-    c.args.packet.wire) ((g.Self.Trail.kept c.args.self.now) + (c.follow.made + c.pass_some-turns.result.0) - 1)
-    c.pass_some-turns.new.s at) at (c.push.ensures _ before) in
-    rw e at stands
-
-pub follow-preserved : goal.follow-preserved
-follow-preserved g c =
-    let h = passed_none (machine_of c.args.p.now c.args.values.now) c.args.packet.bytes.now c.args.packet.wire
-    c.args.watched.now (trace (machine_of c.args.p.now c.args.values.now) c.args.packet.bytes.now c.args.packet.wire)
-    ((g.Self.Trail.kept c.args.self.now) + c.follow.made - 1) c.follow.here c.pass_some-turns.new.s
-    c.pass_some-turns.result.0 _ c.in_default.is (c.pass_some-turns.ensures.passes
-    (trace (machine_of c.args.p.now c.args.values.now) c.args.packet.bytes.now c.args.packet.wire)
-    ((g.Self.Trail.kept c.args.self.now) + c.follow.made - 1) c.follow.invariant.here) in
-    let on = follows_on (machine_of c.args.p.now c.args.values.now) c.args.packet.bytes.now c.args.packet.wire
-    c.args.watched.now (g.Self.Trail.kept c.args.self.now) c.follow.made c.pass_some-turns.result.0
-    c.follow.invariant.sound c.requires.from_one c.pass_some-turns.ensures.some c.pass_some-turns.new.s
-    c.follow.invariant.unwatched h in
-    let at = goes_at (machine_of c.args.p.now c.args.values.now) c.args.packet.bytes.now c.args.packet.wire
-    (trace (machine_of c.args.p.now c.args.values.now) c.args.packet.bytes.now c.args.packet.wire)
-    ((g.Self.Trail.kept c.args.self.now) + (c.follow.made + c.pass_some-turns.result.0) - 1) c.pass_some-turns.new.s
-    c.follow.invariant.sound on.1 in
-    let some = c.pass_some-turns.ensures.some in
-    let most = c.pass_some-turns.ensures.few in
-    let e : (g.Self.Trail.kept c.args.self.now) + (c.follow.made + c.pass_some-turns.result.0) - 1 + 1
-    ≡ (g.Self.Trail.kept c.args.self.now) + (c.follow.made + c.pass_some-turns.result.0) = omega (arith, some) in
-    let n : (g.Self.Trail.kept c.args.self.now) + c.follow.made ≡ (g.Self.Trail.kept c.args.self.now)
-    + (c.follow.made + c.pass_some-turns.result.0) - 1 = omega (arith, some, most) in
-    let before = rw n at c.follow.invariant.stands in
-    let stands = rw (← take-slice_get (trace (machine_of c.args.p.now c.args.values.now) c.args.packet.bytes.now
-    c.args.packet.wire) ((g.Self.Trail.kept c.args.self.now) + (c.follow.made + c.pass_some-turns.result.0) - 1)
-    c.pass_some-turns.new.s at) at (c.push.ensures _ before) in
-    let quiet : is_watched c.args.watched.now c.pass_some-turns.new.s ≡ false =
-    rw (← c.index.ensures) (sym c.has.ensures ∙ c.if-has.false) in
+pub keep-requires : goal.keep-requires
+keep-requires g c =
+    let on = came _ _ _ _ _ _ _ _ _ _ c.follow.invariant.sound c.follow.invariant.from_one c.pass_some-turns.ensures.some
+    c.follow.invariant.unwatched (c.pass_some-turns.ensures.passes _ _ c.follow.invariant.here) c.in_default.is in
+    let within = came_within _ _ _ _ _ _ _ _ _ _ c.follow.invariant.sound c.follow.invariant.from_one c.pass_some-turns.ensures.some
+    c.follow.invariant.unwatched (c.pass_some-turns.ensures.passes _ _ c.follow.invariant.here) in
     record {
-      sound = c.follow.invariant.sound;
-      here = on.1;
-      stands = rw e at stands;
-      unwatched = rw e at (unwatched_next c.args.watched.now
-          (trace (machine_of c.args.p.now c.args.values.now) c.args.packet.bytes.now c.args.packet.wire)
-          (g.Self.Trail.kept c.args.self.now) ((g.Self.Trail.kept c.args.self.now)
-          + (c.follow.made + c.pass_some-turns.result.0) - 1) c.pass_some-turns.new.s on.0 at quiet);
-      state = c.follow.invariant.state;
-      spent = omega (arith, c.add.ensures, c.follow.invariant.spent);
+      from_one = c.follow.invariant.from_one;
+      some = c.pass_some-turns.ensures.some;
+      near = omega (arith, c.pass_some-turns.ensures.few, c.gap-most.ensures.value);
+      few = omega (arith, on.3, within.1);
     }
 
 pub overflow_add-made : goal.overflow_add-made
 overflow_add-made g c =
-    let h = c.pass_some-turns.ensures.passes (trace (machine_of c.args.p.now c.args.values.now)
-    c.args.packet.bytes.now c.args.packet.wire)
-    ((g.Self.Trail.kept c.args.self.now) + c.follow.made - 1) c.follow.invariant.here in
-    let within = follows_within (machine_of c.args.p.now c.args.values.now) c.args.packet.bytes.now c.args.packet.wire
-    c.args.watched.now (g.Self.Trail.kept c.args.self.now) c.follow.made c.pass_some-turns.result.0
-    c.follow.invariant.sound c.requires.from_one c.pass_some-turns.ensures.some h.0 c.pass_some-turns.result.1
-    c.follow.invariant.unwatched h.1 in
-    let few = sound_few c.args.p.now c.follow.invariant.sound in
-    let long = length-trace_from (machine_of c.args.p.now c.args.values.now) c.args.packet.bytes.now
-    c.args.packet.wire zero_state in
-    let from_one = c.requires.from_one in
-    omega (arith, within, few, long, from_one)
+    let within = came_within _ _ _ _ _ _ _ _ _ _ c.follow.invariant.sound c.follow.invariant.from_one c.pass_some-turns.ensures.some
+    c.follow.invariant.unwatched (c.pass_some-turns.ensures.passes _ _ c.follow.invariant.here) in
+    omega (arith, within.0, within.1, c.requires.from_one, c.follow.invariant.kept)
 
-pub follow-smaller : goal.follow-smaller
-follow-smaller g c =
-    let h = passed_none (machine_of c.args.p.now c.args.values.now) c.args.packet.bytes.now c.args.packet.wire
-    c.args.watched.now (trace (machine_of c.args.p.now c.args.values.now) c.args.packet.bytes.now c.args.packet.wire)
-    ((g.Self.Trail.kept c.args.self.now) + c.follow.made - 1) c.follow.here c.pass_some-turns.new.s
-    c.pass_some-turns.result.0 _ c.in_default.is (c.pass_some-turns.ensures.passes
-    (trace (machine_of c.args.p.now c.args.values.now) c.args.packet.bytes.now c.args.packet.wire)
-    ((g.Self.Trail.kept c.args.self.now) + c.follow.made - 1) c.follow.invariant.here) in
-    let on = follows_on (machine_of c.args.p.now c.args.values.now) c.args.packet.bytes.now c.args.packet.wire
-    c.args.watched.now (g.Self.Trail.kept c.args.self.now) c.follow.made c.pass_some-turns.result.0
-    c.follow.invariant.sound c.requires.from_one c.pass_some-turns.ensures.some c.pass_some-turns.new.s
-    c.follow.invariant.unwatched h in
-    let at = goes_at (machine_of c.args.p.now c.args.values.now) c.args.packet.bytes.now c.args.packet.wire
-    (trace (machine_of c.args.p.now c.args.values.now) c.args.packet.bytes.now c.args.packet.wire)
-    ((g.Self.Trail.kept c.args.self.now) + (c.follow.made + c.pass_some-turns.result.0) - 1) c.pass_some-turns.new.s
-    c.follow.invariant.sound on.1 in
-    let within = slice_get_within (trace (machine_of c.args.p.now c.args.values.now) c.args.packet.bytes.now
-    c.args.packet.wire) ((g.Self.Trail.kept c.args.self.now) + (c.follow.made + c.pass_some-turns.result.0) - 1)
-    c.pass_some-turns.new.s at in
+pub has-requires : goal.has-requires
+has-requires g c =
+    let on = came _ _ _ _ _ _ _ _ _ _ c.follow.invariant.sound c.follow.invariant.from_one c.pass_some-turns.ensures.some
+    c.follow.invariant.unwatched (c.pass_some-turns.ensures.passes _ _ c.follow.invariant.here) c.in_default.is in
+    omega (arith, c.index.ensures, on.1.inside, sound_few c.args.p.now c.follow.invariant.sound)
+
+pub returns-then-has-clause-follows : goal.returns-then-has-clause-follows
+returns-then-has-clause-follows g c =
+    let on = came _ _ _ _ _ _ _ _ _ _ c.follow.invariant.sound c.follow.invariant.from_one c.pass_some-turns.ensures.some
+    c.follow.invariant.unwatched (c.pass_some-turns.ensures.passes _ _ c.follow.invariant.here) c.in_default.is in
     let some = c.pass_some-turns.ensures.some in
-    let from_one = c.requires.from_one in
-    omega (arith, within, some, from_one)
+    let to : g.Self.Trail.kept c.follow.self + c.pass_some-turns.result.0 - 1
+    ≡ g.Self.Trail.kept c.args.self.now + (c.follow.made + c.pass_some-turns.result.0) - 1 =
+    omega (arith, c.follow.invariant.kept) in
+    (omega (arith, some), rw to at on.0, rw to at on.2, rw (← c.index.ensures) (sym c.has.ensures ∙ c.if-has.true))
+
+pub returns-then-has-clause-stands : goal.returns-then-has-clause-stands
+returns-then-has-clause-stands g c =
+    let on = came _ _ _ _ _ _ _ _ _ _ c.follow.invariant.sound c.follow.invariant.from_one c.pass_some-turns.ensures.some
+    c.follow.invariant.unwatched (c.pass_some-turns.ensures.passes _ _ c.follow.invariant.here) c.in_default.is in
+    let to : g.Self.Trail.kept c.follow.self + c.pass_some-turns.result.0
+    ≡ g.Self.Trail.kept c.args.self.now + (c.follow.made + c.pass_some-turns.result.0) =
+    omega (arith, c.follow.invariant.kept) in
+    rw to at (c.keep.ensures.stands _ on.2 c.follow.invariant.stands).0
+
+pub follow-preserved : goal.follow-preserved
+follow-preserved g c =
+    let on = came _ _ _ _ _ _ _ _ _ _ c.follow.invariant.sound c.follow.invariant.from_one c.pass_some-turns.ensures.some
+    c.follow.invariant.unwatched (c.pass_some-turns.ensures.passes _ _ c.follow.invariant.here) c.in_default.is in
+    let kept = c.keep.ensures.stands _ on.2 c.follow.invariant.stands in
+    let some = c.pass_some-turns.ensures.some in
+    let quiet : is_watched c.args.watched.now c.pass_some-turns.new.s ≡ false =
+    rw (← c.index.ensures) (sym c.has.ensures ∙ c.if-has.false) in
+    let all : g.Self.Trail.kept c.follow.self + c.pass_some-turns.result.0 - 1 + 1
+    ≡ g.Self.Trail.kept c.keep.new.self = omega (arith, some, kept.1) in
+    record {
+      sound = c.follow.invariant.sound;
+      from_one = omega (arith, some, kept.1);
+      kept = omega (arith, kept.1, c.follow.invariant.kept);
+      here = rw (← kept.1) at on.1;
+      stands = rw (← kept.1) at kept.0;
+      unwatched = rw all at (unwatched_next _ _ _ _ c.pass_some-turns.new.s on.0 on.2 quiet);
+      state = c.follow.invariant.state;
+      spent = omega (arith, c.add.ensures, c.follow.invariant.spent);
+    }

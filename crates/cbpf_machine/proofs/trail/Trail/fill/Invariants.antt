@@ -1,0 +1,24 @@
+use Rattle.std.proofs.Common.{◌≡◌, ◌≤◌, ◌+◌, ◌-◌, take}
+use Rattle.cbpf_code.specs.Sound.{IsSound}
+use Rattle.cbpf_machine.specs.Machine.{machine_of}
+use Rattle.cbpf_machine.specs.Trace.{trace}
+use Rattle.cbpf_machine.specs.Follow.{Goes}
+use Rattle.cbpf_machine.proofs.trail.Trail.fill.Given as goal
+
+-- the trail keeps so many entries, of which the state is the last
+abbrev pub invariant-fill : goal.invariant-fill
+invariant-fill g l =
+    record {
+      sound : IsSound l.p;
+      from_one : 1 ≤ l.entries;
+      within : l.entries ≤ l.to;
+      kept : g.Self.Trail.kept l.self ≡ l.entries;
+      here : Goes (machine_of l.p l.values) l.packet.bytes.now l.packet.wire
+          (trace (machine_of l.p l.values) l.packet.bytes.now l.packet.wire) (l.entries - 1) l.state;
+      stands : g.Self.Trail.stands_for l.self
+          (take l.entries (trace (machine_of l.p l.values) l.packet.bytes.now l.packet.wire));
+      spent : l.meter + 1 ≡ l.fn.meter + l.entries;
+    }
+
+abbrev pub decreases-fill : goal.decreases-fill
+decreases-fill g l = l.to - l.entries
