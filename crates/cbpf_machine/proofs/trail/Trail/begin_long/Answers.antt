@@ -8,14 +8,16 @@ use Rattle.cbpf_machine.proofs.FollowLemmas.{start_end, follows_begun, ends_begu
 use Rattle.cbpf_machine.proofs.trail.Trail.begin_long.Goals as goal
 
 pub returns-then-has-clause-follows : goal.returns-then-has-clause-follows
-returns-then-has-clause-follows g c = start_watched (machine_of c.args.p.now c.args.values.now) c.args.bytes.now c.args.wire
+returns-then-has-clause-follows g c = start_watched (machine_of c.args.p.now c.args.values.now) c.args.bytes.now
+    c.args.wire
     c.args.watched.now c.zero-first.result c.zero-first.ensures c.len-few.ensures.sound c.args.s.now
     (sym c.has.ensures ∙ c.if-has.true)
 
 pub returns-then-has-clause-stands : goal.returns-then-has-clause-stands
 returns-then-has-clause-stands g c = λ n e.
     let one : 1 ≡ n = cc in
-    subst (λ xs. g.Self.Trail.stands_for c.push.new.self xs) (start_taken (machine_of c.args.p.now c.args.values.now) c.args.bytes.now c.args.wire
+    subst (λ xs. g.Self.Trail.stands_for c.push.new.self xs) (start_taken (machine_of c.args.p.now c.args.values.now)
+    c.args.bytes.now c.args.wire
     c.args.watched.now c.zero-first.result c.zero-first.ensures c.len-few.ensures.sound n one)
     (c.push.ensures [] c.requires.empty)
 
@@ -49,7 +51,8 @@ keep-requires g c =
     c.args.watched.now c.zero-first.result c.zero-first.ensures c.len-few.ensures.sound
     (sym c.has.ensures ∙ c.if-has.false) _ c.pass_some_from_start-turns.ensures.some _ _ _
     c.pass_some_from_start-turns.ensures.passes c.in_default.is in
-    let one : 1 ≡ g.Self.Trail.kept c.push-2.new.self = g.met.Self.Trail.as_long _ _ (c.push-2.ensures [] c.requires.empty) in
+    let one : 1 ≡ g.Self.Trail.kept c.push-2.new.self = g.met.Self.Trail.as_long _ _ (c.push-2.ensures []
+    c.requires.empty) in
     let same : 0 ≡ g.Self.Trail.kept c.push-2.new.self - 1 = omega (arith, one) in
     let gap : c.first_gap-most.result ≡ g.Self.Trail.gap (g.Self.Trail.kept c.push-2.new.self - 1) =
     rw same at c.first_gap-most.ensures.value in
@@ -58,7 +61,8 @@ keep-requires g c =
       from_one = omega (arith, one);
       some = c.pass_some_from_start-turns.ensures.some;
       near = omega (arith, few, gap);
-      few = omega (arith, one, on.3, few_entries (machine_of c.args.p.now c.args.values.now) c.args.bytes.now c.args.wire c.len-few.ensures.sound);
+      few = omega (arith, one, on.3, few_entries (machine_of c.args.p.now c.args.values.now) c.args.bytes.now
+          c.args.wire c.len-few.ensures.sound);
     }
 
 pub has-requires-2 : goal.has-requires-2
@@ -86,7 +90,8 @@ overflow_add-result-in-Watched g c =
     omega (arith, within.0, within.1)
 
 pub returns-then-has-2-clause-follows : goal.returns-then-has-2-clause-follows
-returns-then-has-2-clause-follows g c = start_on (machine_of c.args.p.now c.args.values.now) c.args.bytes.now c.args.wire
+returns-then-has-2-clause-follows g c = start_on (machine_of c.args.p.now c.args.values.now) c.args.bytes.now
+    c.args.wire
     c.args.watched.now c.zero-first.result c.zero-first.ensures c.len-few.ensures.sound
     (sym c.has.ensures ∙ c.if-has.false) _ c.pass_some_from_start-turns.ensures.some _ _ _
     c.pass_some_from_start-turns.ensures.passes c.in_default.is c.args.s.now
@@ -102,11 +107,14 @@ returns-then-has-2-clause-stands g c = λ n e.
     let one : 1 ≡ g.Self.Trail.kept c.push-2.new.self = g.met.Self.Trail.as_long _ _ pushed in
     let last : c.pass_some_from_start-turns.result.0
     ≡ g.Self.Trail.kept c.push-2.new.self + c.pass_some_from_start-turns.result.0 - 1 = omega (arith, one) in
-    let begun = subst (λ xs. g.Self.Trail.stands_for c.push-2.new.self xs) (start_taken (machine_of c.args.p.now c.args.values.now) c.args.bytes.now c.args.wire
+    let begun = subst (λ xs. g.Self.Trail.stands_for c.push-2.new.self xs) (start_taken (machine_of c.args.p.now
+    c.args.values.now) c.args.bytes.now c.args.wire
     c.args.watched.now c.zero-first.result c.zero-first.ensures c.len-few.ensures.sound _ one) pushed in
-    let kept = c.keep.ensures.stands (trace (machine_of c.args.p.now c.args.values.now) c.args.bytes.now c.args.wire) (rw last at on.2) begun in
+    let kept = c.keep.ensures.stands (trace (machine_of c.args.p.now c.args.values.now) c.args.bytes.now c.args.wire)
+    (rw last at on.2) begun in
     let same : c.pass_some_from_start-turns.result.0 + 1 ≡ n = cc in
-    let all : g.Self.Trail.kept c.push-2.new.self + c.pass_some_from_start-turns.result.0 ≡ n = omega (arith, one, same) in
+    let all : g.Self.Trail.kept c.push-2.new.self + c.pass_some_from_start-turns.result.0 ≡ n =
+    omega (arith, one, same) in
     rw all at kept.0
 
 pub follow-requires : goal.follow-requires
@@ -119,10 +127,13 @@ follow-requires g c =
     let one : 1 ≡ g.Self.Trail.kept c.push-2.new.self = g.met.Self.Trail.as_long _ _ pushed in
     let last : c.pass_some_from_start-turns.result.0
     ≡ g.Self.Trail.kept c.push-2.new.self + c.pass_some_from_start-turns.result.0 - 1 = omega (arith, one) in
-    let begun = subst (λ xs. g.Self.Trail.stands_for c.push-2.new.self xs) (start_taken (machine_of c.args.p.now c.args.values.now) c.args.bytes.now c.args.wire
+    let begun = subst (λ xs. g.Self.Trail.stands_for c.push-2.new.self xs) (start_taken (machine_of c.args.p.now
+    c.args.values.now) c.args.bytes.now c.args.wire
     c.args.watched.now c.zero-first.result c.zero-first.ensures c.len-few.ensures.sound _ one) pushed in
-    let kept = c.keep.ensures.stands (trace (machine_of c.args.p.now c.args.values.now) c.args.bytes.now c.args.wire) (rw last at on.2) begun in
-    let now : c.pass_some_from_start-turns.result.0 ≡ g.Self.Trail.kept c.keep.new.self - 1 = omega (arith, one, kept.1) in
+    let kept = c.keep.ensures.stands (trace (machine_of c.args.p.now c.args.values.now) c.args.bytes.now c.args.wire)
+    (rw last at on.2) begun in
+    let now : c.pass_some_from_start-turns.result.0 ≡ g.Self.Trail.kept c.keep.new.self - 1 =
+    omega (arith, one, kept.1) in
     record {
       from_one = omega (arith, one, kept.1);
       of_trace = rw (← kept.1) at kept.0;
@@ -140,12 +151,15 @@ overflow_add-result-in-Watched-2 g c =
     let one : 1 ≡ g.Self.Trail.kept c.push-2.new.self = g.met.Self.Trail.as_long _ _ pushed in
     let last : c.pass_some_from_start-turns.result.0
     ≡ g.Self.Trail.kept c.push-2.new.self + c.pass_some_from_start-turns.result.0 - 1 = omega (arith, one) in
-    let begun = subst (λ xs. g.Self.Trail.stands_for c.push-2.new.self xs) (start_taken (machine_of c.args.p.now c.args.values.now) c.args.bytes.now c.args.wire
+    let begun = subst (λ xs. g.Self.Trail.stands_for c.push-2.new.self xs) (start_taken (machine_of c.args.p.now
+    c.args.values.now) c.args.bytes.now c.args.wire
     c.args.watched.now c.zero-first.result c.zero-first.ensures c.len-few.ensures.sound _ one) pushed in
-    let kept = c.keep.ensures.stands (trace (machine_of c.args.p.now c.args.values.now) c.args.bytes.now c.args.wire) (rw last at on.2) begun in
+    let kept = c.keep.ensures.stands (trace (machine_of c.args.p.now c.args.values.now) c.args.bytes.now c.args.wire)
+    (rw last at on.2) begun in
     let within = slice_get_within (trace (machine_of c.args.p.now c.args.values.now) c.args.bytes.now c.args.wire)
     (g.Self.Trail.kept c.keep.new.self + c.in-Watched.more - 1) c.follow.new.s c.in-Watched.ensures.follows.2 in
-    omega (arith, one, kept.1, within, few_entries (machine_of c.args.p.now c.args.values.now) c.args.bytes.now c.args.wire c.len-few.ensures.sound)
+    omega (arith, one, kept.1, within, few_entries (machine_of c.args.p.now c.args.values.now) c.args.bytes.now
+    c.args.wire c.len-few.ensures.sound)
 
 pub returns-in-Watched-clause-follows : goal.returns-in-Watched-clause-follows
 returns-in-Watched-clause-follows g c =
@@ -157,13 +171,20 @@ returns-in-Watched-clause-follows g c =
     let one : 1 ≡ g.Self.Trail.kept c.push-2.new.self = g.met.Self.Trail.as_long _ _ pushed in
     let last : c.pass_some_from_start-turns.result.0
     ≡ g.Self.Trail.kept c.push-2.new.self + c.pass_some_from_start-turns.result.0 - 1 = omega (arith, one) in
-    let begun = subst (λ xs. g.Self.Trail.stands_for c.push-2.new.self xs) (start_taken (machine_of c.args.p.now c.args.values.now) c.args.bytes.now c.args.wire
+    let begun = subst (λ xs. g.Self.Trail.stands_for c.push-2.new.self xs) (start_taken (machine_of c.args.p.now
+    c.args.values.now) c.args.bytes.now c.args.wire
     c.args.watched.now c.zero-first.result c.zero-first.ensures c.len-few.ensures.sound _ one) pushed in
-    let kept = c.keep.ensures.stands (trace (machine_of c.args.p.now c.args.values.now) c.args.bytes.now c.args.wire) (rw last at on.2) begun in
-    let now : c.pass_some_from_start-turns.result.0 ≡ g.Self.Trail.kept c.keep.new.self - 1 = omega (arith, one, kept.1) in
-    let all : g.Self.Trail.kept c.keep.new.self ≡ c.pass_some_from_start-turns.result.0 + 1 = omega (arith, one, kept.1) in
-    rw all at (follows_begun c.args.watched.now (trace (machine_of c.args.p.now c.args.values.now) c.args.bytes.now c.args.wire)
-    (outcome (machine_of c.args.p.now c.args.values.now) c.args.bytes.now c.args.wire) (g.Self.Trail.kept c.keep.new.self) c.in-Watched.more c.args.s.now c.pass_some_from_start-turns.new.s c.follow.new.s (omega (arith, one, kept.1)) (rw now at on.0) (rw now at on.2)
+    let kept = c.keep.ensures.stands (trace (machine_of c.args.p.now c.args.values.now) c.args.bytes.now c.args.wire)
+    (rw last at on.2) begun in
+    let now : c.pass_some_from_start-turns.result.0 ≡ g.Self.Trail.kept c.keep.new.self - 1 =
+    omega (arith, one, kept.1) in
+    let all : g.Self.Trail.kept c.keep.new.self ≡ c.pass_some_from_start-turns.result.0 + 1 =
+    omega (arith, one, kept.1) in
+    rw all at (follows_begun c.args.watched.now (trace (machine_of c.args.p.now c.args.values.now) c.args.bytes.now
+    c.args.wire)
+    (outcome (machine_of c.args.p.now c.args.values.now) c.args.bytes.now c.args.wire) (g.Self.Trail.kept
+    c.keep.new.self) c.in-Watched.more c.args.s.now c.pass_some_from_start-turns.new.s c.follow.new.s (omega (arith,
+    one, kept.1)) (rw now at on.0) (rw now at on.2)
     (rw (← c.index.ensures) (sym c.has-2.ensures ∙ c.if-has-2.false)) c.in-Watched.ensures.follows)
 
 pub returns-in-Watched-clause-stands : goal.returns-in-Watched-clause-stands
@@ -176,9 +197,11 @@ returns-in-Watched-clause-stands g c = λ n e.
     let one : 1 ≡ g.Self.Trail.kept c.push-2.new.self = g.met.Self.Trail.as_long _ _ pushed in
     let last : c.pass_some_from_start-turns.result.0
     ≡ g.Self.Trail.kept c.push-2.new.self + c.pass_some_from_start-turns.result.0 - 1 = omega (arith, one) in
-    let begun = subst (λ xs. g.Self.Trail.stands_for c.push-2.new.self xs) (start_taken (machine_of c.args.p.now c.args.values.now) c.args.bytes.now c.args.wire
+    let begun = subst (λ xs. g.Self.Trail.stands_for c.push-2.new.self xs) (start_taken (machine_of c.args.p.now
+    c.args.values.now) c.args.bytes.now c.args.wire
     c.args.watched.now c.zero-first.result c.zero-first.ensures c.len-few.ensures.sound _ one) pushed in
-    let kept = c.keep.ensures.stands (trace (machine_of c.args.p.now c.args.values.now) c.args.bytes.now c.args.wire) (rw last at on.2) begun in
+    let kept = c.keep.ensures.stands (trace (machine_of c.args.p.now c.args.values.now) c.args.bytes.now c.args.wire)
+    (rw last at on.2) begun in
     let same : c.pass_some_from_start-turns.result.0 + 1 + c.in-Watched.more ≡ n = cc in
     let all : g.Self.Trail.kept c.keep.new.self + c.in-Watched.more ≡ n = omega (arith, one, kept.1, same) in
     rw all at c.in-Watched.ensures.stands
@@ -196,10 +219,13 @@ returns-in-Ended-clause-follows g c =
     let one : 1 ≡ g.Self.Trail.kept c.push-2.new.self = g.met.Self.Trail.as_long _ _ pushed in
     let last : c.pass_some_from_start-turns.result.0
     ≡ g.Self.Trail.kept c.push-2.new.self + c.pass_some_from_start-turns.result.0 - 1 = omega (arith, one) in
-    let begun = subst (λ xs. g.Self.Trail.stands_for c.push-2.new.self xs) (start_taken (machine_of c.args.p.now c.args.values.now) c.args.bytes.now c.args.wire
+    let begun = subst (λ xs. g.Self.Trail.stands_for c.push-2.new.self xs) (start_taken (machine_of c.args.p.now
+    c.args.values.now) c.args.bytes.now c.args.wire
     c.args.watched.now c.zero-first.result c.zero-first.ensures c.len-few.ensures.sound _ one) pushed in
-    let kept = c.keep.ensures.stands (trace (machine_of c.args.p.now c.args.values.now) c.args.bytes.now c.args.wire) (rw last at on.2) begun in
-    let now : c.pass_some_from_start-turns.result.0 ≡ g.Self.Trail.kept c.keep.new.self - 1 = omega (arith, one, kept.1) in
+    let kept = c.keep.ensures.stands (trace (machine_of c.args.p.now c.args.values.now) c.args.bytes.now c.args.wire)
+    (rw last at on.2) begun in
+    let now : c.pass_some_from_start-turns.result.0 ≡ g.Self.Trail.kept c.keep.new.self - 1 =
+    omega (arith, one, kept.1) in
     ends_begun _ _ _ _ _ _ _ _ (omega (arith, one, kept.1)) (rw now at on.0) (rw now at on.2)
     (rw (← c.index.ensures) (sym c.has-2.ensures ∙ c.if-has-2.false)) c.in-Ended.ensures.follows
 
@@ -213,7 +239,9 @@ returns-in-Ended-clause-turns g c =
     let one : 1 ≡ g.Self.Trail.kept c.push-2.new.self = g.met.Self.Trail.as_long _ _ pushed in
     let last : c.pass_some_from_start-turns.result.0
     ≡ g.Self.Trail.kept c.push-2.new.self + c.pass_some_from_start-turns.result.0 - 1 = omega (arith, one) in
-    let begun = subst (λ xs. g.Self.Trail.stands_for c.push-2.new.self xs) (start_taken (machine_of c.args.p.now c.args.values.now) c.args.bytes.now c.args.wire
+    let begun = subst (λ xs. g.Self.Trail.stands_for c.push-2.new.self xs) (start_taken (machine_of c.args.p.now
+    c.args.values.now) c.args.bytes.now c.args.wire
     c.args.watched.now c.zero-first.result c.zero-first.ensures c.len-few.ensures.sound _ one) pushed in
-    let kept = c.keep.ensures.stands (trace (machine_of c.args.p.now c.args.values.now) c.args.bytes.now c.args.wire) (rw last at on.2) begun in
+    let kept = c.keep.ensures.stands (trace (machine_of c.args.p.now c.args.values.now) c.args.bytes.now c.args.wire)
+    (rw last at on.2) begun in
     omega (arith, one, kept.1, on.3, c.add.ensures, c.in-Ended.ensures.turns)

@@ -24,13 +24,15 @@ follow-init g c =
 
 pub add-requires : goal.add-requires
 add-requires g c =
-    let within = came_within _ _ _ _ _ _ _ _ _ _ c.follow.invariant.sound c.follow.invariant.from_one c.pass_some-turns.ensures.some
+    let within = came_within _ _ _ _ _ _ _ _ _ _ c.follow.invariant.sound c.follow.invariant.from_one
+    c.pass_some-turns.ensures.some
     c.follow.invariant.unwatched (c.pass_some-turns.ensures.passes _ _ c.follow.invariant.here) in
     omega (arith, within.0, c.requires.spare, c.follow.invariant.spent, c.follow.invariant.kept)
 
 pub keep_unstored-requires : goal.keep_unstored-requires
 keep_unstored-requires g c =
-    let within = came_within _ _ _ _ _ _ _ _ _ _ c.follow.invariant.sound c.follow.invariant.from_one c.pass_some-turns.ensures.some
+    let within = came_within _ _ _ _ _ _ _ _ _ _ c.follow.invariant.sound c.follow.invariant.from_one
+    c.pass_some-turns.ensures.some
     c.follow.invariant.unwatched (c.pass_some-turns.ensures.passes _ _ c.follow.invariant.here) in
     let some = c.pass_some-turns.ensures.some in
     record {
@@ -41,13 +43,15 @@ keep_unstored-requires g c =
 
 pub returns-in-Some-clause-follows : goal.returns-in-Some-clause-follows
 returns-in-Some-clause-follows g c =
-    let end = ended _ _ _ _ _ _ _ _ _ _ c.follow.invariant.sound c.follow.invariant.from_one c.pass_some-turns.ensures.some
+    let end = ended _ _ _ _ _ _ _ _ _ _ c.follow.invariant.sound c.follow.invariant.from_one
+    c.pass_some-turns.ensures.some
     c.follow.invariant.unwatched (c.pass_some-turns.ensures.passes _ _ c.follow.invariant.here) _ c.in-Some.is in
     (end.1, end.2, c.follow.invariant.state)
 
 pub returns-in-Some-clause-stands : goal.returns-in-Some-clause-stands
 returns-in-Some-clause-stands g c =
-    let end = ended _ _ _ _ _ _ _ _ _ _ c.follow.invariant.sound c.follow.invariant.from_one c.pass_some-turns.ensures.some
+    let end = ended _ _ _ _ _ _ _ _ _ _ c.follow.invariant.sound c.follow.invariant.from_one
+    c.pass_some-turns.ensures.some
     c.follow.invariant.unwatched (c.pass_some-turns.ensures.passes _ _ c.follow.invariant.here) _ c.in-Some.is in
     let some = c.pass_some-turns.ensures.some in
     let n : g.Self.Trail.kept c.follow.self + (c.pass_some-turns.result.0 - 1)
@@ -57,16 +61,19 @@ returns-in-Some-clause-stands g c =
 
 pub returns-in-Some-clause-turns : goal.returns-in-Some-clause-turns
 returns-in-Some-clause-turns g c =
-    let end = ended _ _ _ _ _ _ _ _ _ _ c.follow.invariant.sound c.follow.invariant.from_one c.pass_some-turns.ensures.some
+    let end = ended _ _ _ _ _ _ _ _ _ _ c.follow.invariant.sound c.follow.invariant.from_one
+    c.pass_some-turns.ensures.some
     c.follow.invariant.unwatched (c.pass_some-turns.ensures.passes _ _ c.follow.invariant.here) _ c.in-Some.is in
     let some = c.pass_some-turns.ensures.some in
     omega (arith, end.0, some, c.requires.from_one, c.add.ensures, c.follow.invariant.spent, c.follow.invariant.kept)
 
 pub keep-requires : goal.keep-requires
 keep-requires g c =
-    let on = came _ _ _ _ _ _ _ _ _ _ c.follow.invariant.sound c.follow.invariant.from_one c.pass_some-turns.ensures.some
+    let on = came _ _ _ _ _ _ _ _ _ _ c.follow.invariant.sound c.follow.invariant.from_one
+    c.pass_some-turns.ensures.some
     c.follow.invariant.unwatched (c.pass_some-turns.ensures.passes _ _ c.follow.invariant.here) c.in_default.is in
-    let within = came_within _ _ _ _ _ _ _ _ _ _ c.follow.invariant.sound c.follow.invariant.from_one c.pass_some-turns.ensures.some
+    let within = came_within _ _ _ _ _ _ _ _ _ _ c.follow.invariant.sound c.follow.invariant.from_one
+    c.pass_some-turns.ensures.some
     c.follow.invariant.unwatched (c.pass_some-turns.ensures.passes _ _ c.follow.invariant.here) in
     record {
       from_one = c.follow.invariant.from_one;
@@ -77,19 +84,22 @@ keep-requires g c =
 
 pub overflow_add-made : goal.overflow_add-made
 overflow_add-made g c =
-    let within = came_within _ _ _ _ _ _ _ _ _ _ c.follow.invariant.sound c.follow.invariant.from_one c.pass_some-turns.ensures.some
+    let within = came_within _ _ _ _ _ _ _ _ _ _ c.follow.invariant.sound c.follow.invariant.from_one
+    c.pass_some-turns.ensures.some
     c.follow.invariant.unwatched (c.pass_some-turns.ensures.passes _ _ c.follow.invariant.here) in
     omega (arith, within.0, within.1, c.requires.from_one, c.follow.invariant.kept)
 
 pub has-requires : goal.has-requires
 has-requires g c =
-    let on = came _ _ _ _ _ _ _ _ _ _ c.follow.invariant.sound c.follow.invariant.from_one c.pass_some-turns.ensures.some
+    let on = came _ _ _ _ _ _ _ _ _ _ c.follow.invariant.sound c.follow.invariant.from_one
+    c.pass_some-turns.ensures.some
     c.follow.invariant.unwatched (c.pass_some-turns.ensures.passes _ _ c.follow.invariant.here) c.in_default.is in
     omega (arith, c.index.ensures, on.1.inside, sound_few c.args.p.now c.follow.invariant.sound)
 
 pub returns-then-has-clause-follows : goal.returns-then-has-clause-follows
 returns-then-has-clause-follows g c =
-    let on = came _ _ _ _ _ _ _ _ _ _ c.follow.invariant.sound c.follow.invariant.from_one c.pass_some-turns.ensures.some
+    let on = came _ _ _ _ _ _ _ _ _ _ c.follow.invariant.sound c.follow.invariant.from_one
+    c.pass_some-turns.ensures.some
     c.follow.invariant.unwatched (c.pass_some-turns.ensures.passes _ _ c.follow.invariant.here) c.in_default.is in
     let some = c.pass_some-turns.ensures.some in
     let to : g.Self.Trail.kept c.follow.self + c.pass_some-turns.result.0 - 1
@@ -99,7 +109,8 @@ returns-then-has-clause-follows g c =
 
 pub returns-then-has-clause-stands : goal.returns-then-has-clause-stands
 returns-then-has-clause-stands g c =
-    let on = came _ _ _ _ _ _ _ _ _ _ c.follow.invariant.sound c.follow.invariant.from_one c.pass_some-turns.ensures.some
+    let on = came _ _ _ _ _ _ _ _ _ _ c.follow.invariant.sound c.follow.invariant.from_one
+    c.pass_some-turns.ensures.some
     c.follow.invariant.unwatched (c.pass_some-turns.ensures.passes _ _ c.follow.invariant.here) c.in_default.is in
     let to : g.Self.Trail.kept c.follow.self + c.pass_some-turns.result.0
     ≡ g.Self.Trail.kept c.args.self.now + (c.follow.made + c.pass_some-turns.result.0) =
@@ -108,7 +119,8 @@ returns-then-has-clause-stands g c =
 
 pub follow-preserved : goal.follow-preserved
 follow-preserved g c =
-    let on = came _ _ _ _ _ _ _ _ _ _ c.follow.invariant.sound c.follow.invariant.from_one c.pass_some-turns.ensures.some
+    let on = came _ _ _ _ _ _ _ _ _ _ c.follow.invariant.sound c.follow.invariant.from_one
+    c.pass_some-turns.ensures.some
     c.follow.invariant.unwatched (c.pass_some-turns.ensures.passes _ _ c.follow.invariant.here) c.in_default.is in
     let kept = c.keep.ensures.stands _ on.2 c.follow.invariant.stands in
     let some = c.pass_some-turns.ensures.some in

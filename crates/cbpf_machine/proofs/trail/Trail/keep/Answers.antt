@@ -8,9 +8,11 @@ returns g c = record {
   stands = λ xs at before.
       let some = c.requires.some in
       let within = slice_get_within xs (g.Self.Trail.kept c.args.self.now + c.args.count - 1) c.args.s at in
-      let to : g.Self.Trail.kept c.args.self.now + (c.args.count - 1) ≡ g.Self.Trail.kept c.args.self.now + c.args.count - 1 =
+      let to : g.Self.Trail.kept c.args.self.now + (c.args.count - 1)
+      ≡ g.Self.Trail.kept c.args.self.now + c.args.count - 1 =
       omega (arith, some) in
-      let all : g.Self.Trail.kept c.args.self.now + c.args.count - 1 + 1 ≡ g.Self.Trail.kept c.args.self.now + c.args.count =
+      let all : g.Self.Trail.kept c.args.self.now + c.args.count - 1 + 1 ≡ g.Self.Trail.kept c.args.self.now +
+      c.args.count =
       omega (arith, some) in
       let next = rw to at (c.keep_unstored.ensures.stands xs (omega (arith, within, to)) before) in
       let on = rw all at (rw (← take-slice_get xs (g.Self.Trail.kept c.args.self.now + c.args.count - 1) c.args.s at)
