@@ -1,8 +1,10 @@
 -- Hexadecimal digits by places are those of `hex`.
 use Rattle.std.proofs.Common.{◌≡◌, ℕ, zero, suc, ◌+◌, ◌-◌, ◌/◌, ◌%◌, ◌^◌, ◌<◌, ◌≤◌, Bool, true, false, cond, List, []}
 use Rattle.std.proofs.Common.{◌∷◌, ◌++◌, length, drop, refl, sym, ap, ◌∙◌, arith, append_assoc, append-nil}
-use Rattle.std.proofs.Common.{length-append, length-drop, take, take_all, ne_eqb, ltb-true, ltb-false}
-use Rattle.std.specs.Prelude.{nat_lt, max}
+use Rattle.std.proofs.Common.{get_or, length-append, ne_eqb, ltb-true, ltb-false}
+use Rattle.std.proofs.lemmas.List.{drop-append-le}
+use Rattle.std.proofs.lemmas.Bool.{agree_below_at, eqb-true}
+use Rattle.std.specs.Prelude.{nat_lt, max, codes, ◌==◌}
 use Rattle.std.specs.List.{repeat}
 use Rattle.std.specs.Fmt.{digit_glyph, digits, digits_onto}
 use Rattle.cbpf_code.specs.Text.{hex}
@@ -105,42 +107,19 @@ hex-places least n m l =
       (omega arith, (omega arith, (omega arith, (omega arith, (omega arith, (omega arith, omega arith)))))),
     )) _ refl) _ refl) _ refl) _ refl) _ refl) _ refl) _ refl
 
-few_places : (n : ℕ) → hex_places n ≤ 8
-few_places n = by (nat_lt n 16) (nat_lt n 256) (nat_lt n 4096) (nat_lt n 65536) (nat_lt n 1048576) (nat_lt n 16777216)
-    (nat_lt n 268435456)
-  where
-    by : (a b c d e f g : Bool) → cond a 1 (cond b 2 (cond c 3 (cond d 4 (cond e 5 (cond f 6 (cond g 7 8)))))) ≤ 8
-    by true b c d e f g = omega arith
-    by false true c d e f g = omega arith
-    by false false true d e f g = omega arith
-    by false false false true e f g = omega arith
-    by false false false false true f g = omega arith
-    by false false false false false true g = omega arith
-    by false false false false false false true = omega arith
-    by false false false false false false false = omega arith
-
--- all eight digits
-pub hex-eight : (n : ℕ) → n < 2 ^ 32 → hex 8 n ≡ hex_digits 8 n
-hex-eight n l =
-    let few : hex_places n ≤ 8 = few_places n in
-    let none : 8 - max 8 (hex_places n) ≡ 0 = omega (arith, few) in
-    hex-places 8 n (omega arith) l ∙ ap (λ q. drop q (hex_digits 8 n)) none
-
--- the two digits of a byte
-pub hex-two : (b : ℕ) → b < 256 → hex 2 b ≡ hex_digits 2 b
-hex-two b l = by (nat_lt b 16) refl
-  where
-    by : (t : Bool) → nat_lt b 16 ≡ t → hex 2 b ≡ hex_digits 2 b
-    by true e = hex-given 2 b 1 (omega arith) (ltb-true b 16 e) ∙ sym (zeros-front 1 1 b (ltb-true b 16 e))
-    by false e = hex-given 2 b 2 (omega arith) (ltb-false b 16 e, omega arith)
-
--- a slice of eight digits
-pub hex-slice : (least n r : ℕ) (ds : List ℕ) → ds ≡ hex_digits 8 n → r ≡ max (hex_places n) least → least ≤ 8
-    → n < 2 ^ 32 → take (8 - (8 - r)) (drop (8 - r) ds) ≡ hex least n
-hex-slice least n r ds e p m l =
+-- the last of eight digits, before a text
+pub hex-last : (least n r : ℕ) (ds text : List ℕ) → ds ≡ hex_digits 8 n → r ≡ max (hex_places n) least → least ≤ 8
+    → n < 2 ^ 32 → drop (8 - r) (ds ++ text) ≡ hex least n ++ text
+hex-last least n r ds text e p m l =
     let long : length ds ≡ 8 = ap (λ (t : List ℕ). length t) e ∙ length-hex_digits 8 n in
     let same : 8 - r ≡ 8 - max least (hex_places n) = omega (arith, p) in
-    take_all (8 - (8 - r)) (drop (8 - r) ds) (omega (arith, long, length-drop (8 - r) ds))
-    ∙ ap (λ q. drop q ds) same
-    ∙ ap (λ (t : List ℕ). drop (8 - max least (hex_places n)) t) e
-    ∙ sym (hex-places least n m l)
+    drop-append-le (8 - r) ds text (omega (arith, long))
+    ∙ ap (λ (t : List ℕ). t ++ text)
+    (ap (λ q. drop q ds) same ∙ ap (λ (t : List ℕ). drop (8 - max least (hex_places n)) t) e
+    ∙ sym (hex-places least n m l))
+
+-- the byte of a digit stands in a table
+pub glyph_at : (d : ℕ) → d < 16 → get_or (codes "0123456789abcdef") d 0 ≡ digit_glyph false d
+glyph_at d l =
+    eqb-true _ _
+    (agree_below_at (λ k. get_or (codes "0123456789abcdef") k 0 == digit_glyph false k) (λ k. true) 16 d refl l)

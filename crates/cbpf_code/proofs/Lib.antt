@@ -2,6 +2,7 @@ pub mod AnswerLaws
 pub mod FaultLemmas
 pub mod FirstFaultLemmas
 pub mod HexLemmas
+pub mod NameLemmas
 pub mod PathLemmas
 pub mod SlotMaskLemmas
 pub mod SoundLemmas

@@ -1,11 +1,10 @@
 -- Writes one after another.
-use Rattle.std.proofs.Common.{◌≡◌, ℕ, ◌+◌, ◌-◌, ◌≤◌, List, [], ◌++◌, take, drop, get_or, ◌<◌, ◌∷◌, zero, suc, codes}
+use Rattle.std.proofs.Common.{◌≡◌, ℕ, ◌+◌, ◌-◌, ◌≤◌, List, [], ◌++◌, take, drop, get_or, ◌<◌, ◌∷◌}
 use Rattle.std.proofs.Common.{length, length-drop, take_all, append_assoc, append-nil, sym, ◌∙◌, ap, refl, arith}
 use Rattle.std.proofs.Common.{Option, None, Some, Result, Ok, Err}
 use Rattle.std.specs.Io.KnownBytes.{Appends, Keeps}
 use Rattle.std.proofs.lemmas.List.{take-append-drop, take_more}
-use Rattle.std.specs.List.{flat_map, repeat}
-use Rattle.cbpf_code.specs.Text.{spaces}
+use Rattle.std.specs.List.{flat_map}
 use Rattle.std.specs.Result.{IsErr}
 use Rattle.std.proofs.Math.Seq.{take-add}
 use Rattle.cbpf_code.specs.Writing.{Appended, AppendedPart, Wrote}
@@ -115,16 +114,6 @@ pub wrote-then : {A E : Type 0} (u v w : Option (List ℕ)) (a b : List ℕ) (r 
     → Wrote v w r b → Wrote u w r (a ++ b)
 wrote-then u v w a b (Ok z) x y = appended-then u v w a b x y
 wrote-then u v w a b (Err z) x y = part-then u v w a b x y
-
-take-repeat : (b k n : ℕ) → k ≤ n → take k (repeat n (b ∷ [])) ≡ repeat k (b ∷ [])
-take-repeat b zero n h = refl
-take-repeat b (suc k) zero h = absurd (omega (arith, h))
-take-repeat b (suc k) (suc n) h = ap (λ (t : List ℕ). b ∷ t) (take-repeat b k n (omega (arith, h)))
-
-pub take-spaces : (k : ℕ) → k ≤ 2 → take k (codes "  ") ≡ spaces k
-take-spaces k h = take-repeat 32 k 2 h
-
-pub ruleset pads = (take-spaces)
 
 -- ---- two calls, one after the other
 

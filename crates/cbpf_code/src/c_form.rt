@@ -1,11 +1,11 @@
 // A program as the initializers of a C array.
-ghost use Rattle.std.specs.Prelude.{◌≡◌};
+ghost use Rattle.std.specs.Prelude.{◌≡◌, ◌≤◌, ◌+◌, ◌++◌, length, decimal};
 ghost use Rattle.cbpf_code.specs.Writing.{Wrote};
-ghost use Rattle.cbpf_code.specs.CForm.{hex_prefix, c_line, c_form};
+ghost use Rattle.cbpf_code.specs.CForm.{hex_prefix, padding, c_line, c_form};
 
 use crate::insn::Insn;
-use crate::writing::{WriteFault, eight_digits, last_digits, spaces_before, write_parts};
-use itoa::Buffer;
+use crate::line::Line;
+use crate::writing::WriteFault;
 use std::io::Write;
 
 fn prefix_of(n: u32) -> &'static [u8]
@@ -14,33 +14,36 @@ fn prefix_of(n: u32) -> &'static [u8]
     if n == 0 { b"00" } else { b"0x" }
 }
 
+/// Puts a number in decimal, right in two places.
+#[inline(always)]
+fn put_padded(line: &mut Line, n: u8)
+    requires room { length line.old + 11 ≤ 256 }
+    ensures text { line.new ≡ padding n ++ decimal n ++ line.old }
+    ensures grown { length line.new ≤ length line.old + 11 }
+{
+    line.put_u32(u32::from(n));
+    if n < 10 {
+        line.put(b" ");
+    }
+}
+
 fn write_c_line<W: Write>(w: &mut W, insn: Insn) -> Result<(), WriteFault>
     ensures { Wrote (W.contents w.old) (W.contents w.new) result (c_line insn) }
 {
-    let (mut jt_buffer, mut jf_buffer) = (Buffer::new(), Buffer::new());
-    let jt = jt_buffer.format(insn.jt).as_bytes();
-    let jf = jf_buffer.format(insn.jf).as_bytes();
-    let opcode = u32::from(insn.code);
-    let code = eight_digits(opcode);
-    let k = eight_digits(insn.k);
-    write_parts(
-        w,
-        &[
-            b"{ ",
-            prefix_of(opcode),
-            last_digits(&code, opcode, 2),
-            b", ",
-            spaces_before(jt),
-            jt,
-            b", ",
-            spaces_before(jf),
-            jf,
-            b", ",
-            prefix_of(insn.k),
-            last_digits(&k, insn.k, 8),
-            b" },\n",
-        ],
-    )
+    let code = u32::from(insn.code);
+    let mut line = Line::new();
+    line.put(b" },\n");
+    line.put_hex(insn.k, 8);
+    line.put(prefix_of(insn.k));
+    line.put(b", ");
+    put_padded(&mut line, insn.jf);
+    line.put(b", ");
+    put_padded(&mut line, insn.jt);
+    line.put(b", ");
+    line.put_hex(code, 2);
+    line.put(prefix_of(code));
+    line.put(b"{ ");
+    line.write(w)
 }
 
 /// Writes one line an instruction, as `{ 0x28,  0,  0, 0x0000000c },`: the code and k in

@@ -8,6 +8,7 @@ mod extension;
 mod form;
 mod insn;
 mod law;
+mod line;
 mod opcode;
 mod program;
 mod scan;
@@ -22,6 +23,7 @@ pub use extension::{Ext, FIRST_EXTENSION, ext_at, ext_name, ext_named, ext_offse
 pub use form::Form;
 pub use insn::Insn;
 pub use law::each_has_answer;
+pub use line::Line;
 pub use opcode::{AluOp, Cond, Op, Size, Src, code_of, op_of, op_of_byte};
 pub use program::Program;
 pub use scan::{is_blank, is_digit, laws_of_marks};

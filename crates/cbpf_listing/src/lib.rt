@@ -7,4 +7,4 @@
 mod line;
 mod syntax;
 
-pub use line::{write_line, write_lines};
+pub use line::{put_line, write_line, write_lines};

@@ -1,106 +1,135 @@
 //! The lines of a listing.
 
-ghost use Rattle.std.specs.Prelude.{◌≡◌, ◌<◌, ℕ, length, Some};
+ghost use Rattle.std.specs.Prelude.{◌≡◌, ◌<◌, ◌≤◌, ◌+◌, ◌++◌, ℕ, length, Some};
+ghost use Rattle.cbpf_code.specs.Text.{with_number};
 ghost use Rattle.cbpf_code.specs.Writing.{Wrote};
 ghost use Rattle.cbpf_code.specs.Opcode.{op_of};
 ghost use Rattle.cbpf_code.specs.declared.opcode.Op.{Op};
 ghost use Rattle.cbpf_listing.specs.Listing as spec;
 
 use crate::syntax::{Operand, mnemonic_of, operand_of};
-use cbpf_code::{
-    Insn, Op, Program, WriteFault, ext_at, ext_name, op_of, write_bytes, write_hex, write_parts,
-    write_with_number,
-};
-use itoa::Buffer;
+use cbpf_code::{Insn, Line, Op, Program, WriteFault, ext_at, ext_name, op_of};
 use std::alloc::Allocator;
 use std::io::Write;
 
-/// The label of the instruction at an index, and the mnemonic.
-fn write_head<W: Write>(w: &mut W, i: u32, mnemonic: &[u8]) -> Result<(), WriteFault>
-    ensures { Wrote (W.contents w.old) (W.contents w.new) result (spec.head i mnemonic.now) }
+/// Puts a number between two texts.
+#[inline(always)]
+fn put_between(line: &mut Line, before: &[u8], n: u64, after: &[u8])
+    requires short { (length before.now ≤ 8) × (length after.now ≤ 8) }
+    requires room { length line.old + 36 ≤ 256 }
+    ensures text { line.new ≡ with_number before.now n after.now ++ line.old }
+    ensures grown { length line.new ≤ length line.old + 36 }
 {
-    let mut index = Buffer::new();
-    write_parts(w, &[b"l", index.format(i).as_bytes(), b":\t", mnemonic])
+    line.put(after);
+    line.put_u64(n);
+    line.put(before);
 }
 
-/// A number in hexadecimal, or `#0`.
-#[tactic(auto, using(cbpf_code::proofs::WrittenLemmas::pairs))]
-fn write_immediate<W: Write>(w: &mut W, k: u32) -> Result<(), WriteFault>
-    ensures { Wrote (W.contents w.old) (W.contents w.new) result (spec.immediate k) }
+/// Puts a number in hexadecimal, or `#0`.
+#[inline(always)]
+fn put_immediate(line: &mut Line, k: u32)
+    requires room { length line.old + 13 ≤ 256 }
+    ensures text { line.new ≡ spec.immediate k ++ line.old }
+    ensures grown { length line.new ≤ length line.old + 13 }
 {
     if k == 0 {
-        return write_bytes(w, b" #0");
+        line.put(b" #0");
+    } else {
+        line.put_hex(k, 1);
+        line.put(b" #0x");
     }
-    write_bytes(w, b" #0x")?;
-    write_hex(w, k, 1)
 }
 
-/// A place of the packet, or the extension that has this place.
-fn write_absolute<W: Write>(w: &mut W, k: u32) -> Result<(), WriteFault>
-    ensures { Wrote (W.contents w.old) (W.contents w.new) result (spec.absolute k) }
+/// Puts a place of the packet, or the extension that has this place.
+#[inline(always)]
+#[tactic(auto, using(cbpf_code::proofs::NameLemmas::names))]
+fn put_absolute(line: &mut Line, k: u32)
+    requires room { length line.old + 36 ≤ 256 }
+    ensures text { line.new ≡ spec.absolute k ++ line.old }
+    ensures grown { length line.new ≤ length line.old + 36 }
 {
     match ext_at(k) {
-        Some(e) => write_parts(w, &[b" ", ext_name(e).as_bytes()]),
-        None => write_with_number(w, b" [", u64::from(k), b"]"),
+        Some(e) => {
+            line.put(ext_name(e).as_bytes());
+            line.put(b" ");
+        }
+        None => put_between(line, b" [", u64::from(k), b"]"),
     }
 }
 
-/// Both targets of the conditional jump at an index.
-fn write_targets<W: Write>(w: &mut W, i: u32, insn: Insn) -> Result<(), WriteFault>
-    ensures { Wrote (W.contents w.old) (W.contents w.new) result (spec.targets i insn) }
+/// Puts both targets of the conditional jump at an index.
+#[inline(always)]
+fn put_targets(line: &mut Line, i: u32, insn: Insn)
+    requires room { length line.old + 46 ≤ 256 }
+    ensures text { line.new ≡ spec.targets i insn ++ line.old }
+    ensures grown { length line.new ≤ length line.old + 46 }
 {
     let next = u64::from(i) + 1;
-    let (mut holds, mut fails) = (Buffer::new(), Buffer::new());
-    write_parts(
-        w,
-        &[
-            b", l",
-            holds.format(next + u64::from(insn.jt)).as_bytes(),
-            b", l",
-            fails.format(next + u64::from(insn.jf)).as_bytes(),
-        ],
-    )
+    line.put_u64(next + u64::from(insn.jf));
+    line.put(b", l");
+    line.put_u64(next + u64::from(insn.jt));
+    line.put(b", l");
 }
 
-/// What stands after the mnemonic of the instruction at an index.
-#[tactic(auto, using(cbpf_code::proofs::WrittenLemmas::pairs))]
-fn write_operand<W: Write>(
-    w: &mut W,
-    i: u32,
-    insn: Insn,
-    operand: Operand,
-) -> Result<(), WriteFault>
-    ensures { Wrote (W.contents w.old) (W.contents w.new) result (spec.operand_text operand i insn) }
+/// Puts what stands after the mnemonic of the instruction at an index.
+#[inline(always)]
+fn put_operand(line: &mut Line, i: u32, insn: Insn, operand: Operand)
+    requires room { length line.old + 60 ≤ 256 }
+    ensures text { line.new ≡ spec.operand_text operand i insn ++ line.old }
+    ensures grown { length line.new ≤ length line.old + 60 }
 {
     match operand {
-        Operand::Bare => Ok(()),
-        Operand::X => write_bytes(w, b" x"),
-        Operand::A => write_bytes(w, b" a"),
-        Operand::Length => write_bytes(w, b" len"),
-        Operand::Immediate => write_immediate(w, insn.k),
-        Operand::Absolute => write_absolute(w, insn.k),
-        Operand::Indexed => write_with_number(w, b" [x + ", u64::from(insn.k), b"]"),
-        Operand::Memory => write_with_number(w, b" M[", u64::from(insn.k), b"]"),
-        Operand::Header => write_with_number(w, b" 4*([", u64::from(insn.k), b"]&0xf)"),
-        Operand::Label => write_with_number(w, b" l", u64::from(i) + 1 + u64::from(insn.k), b""),
+        Operand::Bare => {}
+        Operand::X => line.put(b" x"),
+        Operand::A => line.put(b" a"),
+        Operand::Length => line.put(b" len"),
+        Operand::Immediate => put_immediate(line, insn.k),
+        Operand::Absolute => put_absolute(line, insn.k),
+        Operand::Indexed => put_between(line, b" [x + ", u64::from(insn.k), b"]"),
+        Operand::Memory => put_between(line, b" M[", u64::from(insn.k), b"]"),
+        Operand::Header => put_between(line, b" 4*([", u64::from(insn.k), b"]&0xf)"),
+        Operand::Label => put_between(line, b" l", u64::from(i) + 1 + u64::from(insn.k), b""),
         Operand::ImmediateTwo => {
-            write_immediate(w, insn.k)?;
-            write_targets(w, i, insn)
+            put_targets(line, i, insn);
+            put_immediate(line, insn.k);
         }
         Operand::XTwo => {
-            write_bytes(w, b" x")?;
-            write_targets(w, i, insn)
+            put_targets(line, i, insn);
+            line.put(b" x");
         }
     }
 }
 
-/// The line of an operation.
-#[tactic(auto, using(cbpf_code::proofs::WrittenLemmas::pairs))]
-fn write_operation<W: Write>(w: &mut W, i: u32, insn: Insn, op: Op) -> Result<(), WriteFault>
-    ensures { Wrote (W.contents w.old) (W.contents w.new) result (spec.operation_text i insn op) }
+/// Puts the line of an operation.
+#[inline(always)]
+fn put_operation(line: &mut Line, i: u32, insn: Insn, op: Op)
+    requires room { length line.old + 77 ≤ 256 }
+    ensures text { line.new ≡ spec.operation_text i insn op ++ line.old }
+    ensures grown { length line.new ≤ length line.old + 77 }
 {
-    write_head(w, i, mnemonic_of(op))?;
-    write_operand(w, i, insn, operand_of(op))
+    put_operand(line, i, insn, operand_of(op));
+    line.put(mnemonic_of(op));
+    line.put(b":\t");
+    line.put_u32(i);
+    line.put(b"l");
+}
+
+/// Puts the line of the instruction at index `i`, without a newline, of at most 77 bytes, before
+/// a text: what [`write_line`] writes.
+///
+/// `i` must be less than the program's length, and the line must have room for 77 bytes.
+#[inline(always)]
+pub fn put_line<A: Allocator>(line: &mut Line, p: &Program<A>, i: u32)
+    requires within { i < length p.now }
+    requires room { length line.old + 77 ≤ 256 }
+    ensures text { line.new ≡ spec.line_text p.now i ++ line.old }
+    ensures grown { length line.new ≤ length line.old + 77 }
+{
+    let insn = p.at_index(i);
+    match op_of(insn.code) {
+        Some(op) => put_operation(line, i, insn, op),
+        None => unreachable!(),
+    }
 }
 
 /// Writes the line of the instruction at index `i`, without a newline: `l`, the index in
@@ -116,15 +145,12 @@ pub fn write_line<W: Write, A: Allocator>(
     requires { i < length p.now }
     ensures { Wrote (W.contents w.old) (W.contents w.new) result (spec.line_text p.now i) }
 {
-    let insn = p.at_index(i);
-    match op_of(insn.code) {
-        Some(op) => write_operation(w, i, insn, op),
-        None => unreachable!(),
-    }
+    let mut line = Line::new();
+    put_line(&mut line, p, i);
+    line.write(w)
 }
 
 /// A line and its newline.
-#[tactic(auto, using(cbpf_code::proofs::WrittenLemmas::pairs))]
 fn write_whole_line<W: Write, A: Allocator>(
     w: &mut W,
     p: &Program<A>,
@@ -133,8 +159,10 @@ fn write_whole_line<W: Write, A: Allocator>(
     requires { i < length p.now }
     ensures { Wrote (W.contents w.old) (W.contents w.new) result (spec.whole_line p.now i) }
 {
-    write_line(w, p, i)?;
-    write_bytes(w, b"\n")
+    let mut line = Line::new();
+    line.put(b"\n");
+    put_line(&mut line, p, i);
+    line.write(w)
 }
 
 /// Writes the lines of all instructions in order, each with a newline.

@@ -1,6 +1,6 @@
 //! How each operation is written: its mnemonic, and what stands after it.
 
-ghost use Rattle.std.specs.Prelude.{◌≡◌};
+ghost use Rattle.std.specs.Prelude.{◌≡◌, ◌≤◌, length};
 ghost use Rattle.cbpf_listing.specs.Syntax as spec;
 
 use cbpf_code::{AluOp, Cond, Op, Size, Src};
@@ -36,7 +36,8 @@ pub enum Operand {
 }
 
 fn load_mnemonic(size: Size) -> &'static [u8]
-    ensures { result.now ≡ spec.load_mnemonic size }
+    ensures same { result.now ≡ spec.load_mnemonic size }
+    ensures short { length result.now ≤ 3 }
 {
     match size {
         Size::Word => b"ld",
@@ -46,7 +47,8 @@ fn load_mnemonic(size: Size) -> &'static [u8]
 }
 
 fn alu_mnemonic(op: AluOp) -> &'static [u8]
-    ensures { result.now ≡ spec.alu_mnemonic op }
+    ensures same { result.now ≡ spec.alu_mnemonic op }
+    ensures short { length result.now ≤ 3 }
 {
     match op {
         AluOp::Add => b"add",
@@ -63,7 +65,8 @@ fn alu_mnemonic(op: AluOp) -> &'static [u8]
 }
 
 fn jump_mnemonic(cond: Cond) -> &'static [u8]
-    ensures { result.now ≡ spec.jump_mnemonic cond }
+    ensures same { result.now ≡ spec.jump_mnemonic cond }
+    ensures short { length result.now ≤ 4 }
 {
     match cond {
         Cond::Eq => b"jeq",
@@ -76,7 +79,8 @@ fn jump_mnemonic(cond: Cond) -> &'static [u8]
 /// The mnemonic of an operation.
 #[inline]
 pub(crate) fn mnemonic_of(op: Op) -> &'static [u8]
-    ensures { result.now ≡ spec.mnemonic_of op }
+    ensures same { result.now ≡ spec.mnemonic_of op }
+    ensures short { length result.now ≤ 4 }
 {
     match op {
         Op::LdImm | Op::LdMem | Op::LdLen => b"ld",

@@ -1,5 +1,5 @@
 -- Three calls that write, one after the other: the second failed, or all went through up to the third.
-use Rattle.std.proofs.Common.{◌≡◌, ℕ, List, ◌++◌, Option, Result, subst}
+use Rattle.std.proofs.Common.{ℕ, List, ◌++◌, Option, Result, subst, append_assoc}
 use Rattle.std.specs.Result.{IsErr}
 use Rattle.cbpf_code.specs.Writing.{Appended, AppendedPart, Wrote}
 use Rattle.cbpf_code.proofs.WrittenLemmas.{err-exit, part-then, part-more, wrote-then}
@@ -13,9 +13,15 @@ pub third-last : {A E : Type 0} (u v w z : Option (List ℕ)) (a b c : List ℕ)
     → Appended v w b → Wrote w z r c → Wrote u z r (a ++ (b ++ c))
 third-last u v w z a b c r x y h = wrote-then u v z a (b ++ c) r x (wrote-then v w z b c r y h)
 
--- the same text in other words
-pub appended-as : (u v : Option (List ℕ)) (a b : List ℕ) → a ≡ b → Appended u v a → Appended u v b
-appended-as u v a b e x = subst (λ (t : List ℕ). Appended u v t) e x
+-- two calls, the first of which writes two texts
 
-pub part-as : (u v : Option (List ℕ)) (a b : List ℕ) → a ≡ b → AppendedPart u v a → AppendedPart u v b
-part-as u v a b e x = subst (λ (t : List ℕ). AppendedPart u v t) e x
+pub pair-failed : {A E : Type 0} (u v : Option (List ℕ)) (a b c : List ℕ) (r : Result A E) → IsErr r
+    → AppendedPart u v (a ++ b) → Wrote u v r (a ++ (b ++ c))
+pair-failed u v a b c r e h =
+    err-exit u v (a ++ (b ++ c)) r e
+    (subst (λ (t : List ℕ). AppendedPart u v t) (append_assoc a b c) (part-more u v (a ++ b) c h))
+
+pub pair-then : {A E : Type 0} (u v w : Option (List ℕ)) (a b c : List ℕ) (r : Result A E) → Appended u v (a ++ b)
+    → Wrote v w r c → Wrote u w r (a ++ (b ++ c))
+pair-then u v w a b c r x y =
+    subst (λ (t : List ℕ). Wrote u w r t) (append_assoc a b c) (wrote-then u v w (a ++ b) c r x y)

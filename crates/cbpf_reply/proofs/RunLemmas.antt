@@ -1,11 +1,11 @@
 -- Runs of equal slots.
 use Rattle.std.proofs.Common.{◌≡◌, ℕ, suc, ◌+◌, ◌-◌, ◌<◌, ◌≤◌, true, false, cond, ◌==◌, List, [], ◌∷◌, ◌++◌, length}
-use Rattle.std.proofs.Common.{drop, get_or, codes, refl, sym, ap, ◌∙◌, arith, tests, drop-cons, add-one, length-drop}
-use Rattle.std.proofs.Common.{length-append, decimal}
+use Rattle.std.proofs.Common.{drop, get_or, refl, sym, ap, ◌∙◌, arith, tests, drop-cons, add-one, length-drop}
 use Rattle.std.proofs.lemmas.List.{nil_from_length}
 use Rattle.cbpf_code.specs.Text.{joined, spaces}
-use Rattle.cbpf_reply.specs.Columns.{value_pieces}
-use Rattle.cbpf_reply.specs.Scratch.{Run, before, runs_from, scratch_line}
+use Rattle.std.proofs.lemmas.Grind.{flat_map-append}
+use Rattle.cbpf_reply.specs.Columns.{labelled}
+use Rattle.cbpf_reply.specs.Scratch.{Run, before, runs_from}
 
 same-eq : (v : ℕ) → (v == v) ≡ true
 same-eq v = grind (arith, tests)
@@ -64,21 +64,8 @@ run-last s i j v l =
 
 pub ruleset runs = (run-begin, run-more, run-stop, run-last)
 
-four-more : (a : List ℕ) → 10 - length (joined (codes "M[" ∷ a ∷ codes "]:" ∷ [])) ≡ 10 - (length a + 4)
-four-more a = omega (arith, length-append a (93 ∷ 58 ∷ []))
-
-five-more : (a b : List ℕ)
-    → 10 - length (joined (codes "M[" ∷ a ∷ codes "," ∷ b ∷ codes "]:" ∷ [])) ≡ 10 - (length a + length b + 5)
-five-more a b = omega (arith, length-append a (44 ∷ (b ++ (93 ∷ 58 ∷ []))), length-append b (93 ∷ 58 ∷ []))
-
--- the pieces of a line of one slot
-pub scratch-one : (i v : ℕ) → scratch_line (record { first = i; last = i; value = v })
-    ≡ joined (codes "M[" ∷ decimal i ∷ codes "]:" ∷ spaces (10 - (length (decimal i) + 4)) ∷ value_pieces v)
-scratch-one i v = rw (same-eq i, four-more (decimal i)) refl
-
-pub scratch-many : (i j v : ℕ) → i < j
-    → scratch_line (record { first = i; last = j; value = v }) ≡ joined (codes "M[" ∷ decimal i ∷ codes ","
-    ∷ decimal j ∷ codes "]:" ∷ spaces (10 - (length (decimal i) + length (decimal j) + 5)) ∷ value_pieces v)
-scratch-many i j v l =
-    let other : (i == j) ≡ false = grind (arith, tests) in
-    rw (other, five-more (decimal i) (decimal j)) refl
+-- the texts of a line with a label
+pub labelled-parts : (label pieces : List (List ℕ))
+    → labelled label pieces ≡ joined label ++ (spaces (10 - length (joined label)) ++ joined pieces)
+labelled-parts label pieces =
+    flat_map-append (λ (p : List ℕ). p) label (spaces (10 - length (joined label)) ∷ pieces)

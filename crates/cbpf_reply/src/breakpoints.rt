@@ -1,13 +1,11 @@
 //! When a breakpoint stops, and the texts of breakpoints.
 
-ghost use Rattle.std.specs.Prelude.{◌<◌, length};
+ghost use Rattle.std.specs.Prelude.{ℕ, ◌≡◌, ◌<◌, ◌≤◌, ◌+◌, ◌++◌, codes, decimal, length};
 ghost use Rattle.cbpf_code.specs.Writing.{Wrote};
 ghost use Rattle.cbpf_reply.specs.Breakpoints as spec;
 
-use crate::numbers::write_numbered;
-use cbpf_code::{Program, WriteFault, write_bytes, write_parts};
-use cbpf_listing::write_line;
-use itoa::Buffer;
+use cbpf_code::{Line, Program, WriteFault, write_bytes};
+use cbpf_listing::put_line;
 use std::alloc::Allocator;
 use std::io::Write;
 
@@ -22,37 +20,25 @@ pub enum When {
     X(u32),
 }
 
-/// The condition of a breakpoint that is set, and the line's end.
-fn write_condition<W: Write>(w: &mut W, when: When) -> Result<(), WriteFault>
-    ensures { Wrote (W.contents w.old) (W.contents w.new) result (spec.condition_text when) }
+/// Puts the condition of a breakpoint that is set, and the line's end.
+#[inline(always)]
+fn put_condition(line: &mut Line, when: When)
+    requires room { length line.old + 21 ≤ 256 }
+    ensures text { line.new ≡ spec.condition_text when ++ line.old }
+    ensures grown { length line.new ≤ length line.old + 21 }
 {
+    line.put(b"\n");
     match when {
-        When::Always => write_bytes(w, b"\n"),
-        When::A(v) => write_numbered(w, b" when a = ", v, b"\n"),
-        When::X(v) => write_numbered(w, b" when x = ", v, b"\n"),
+        When::Always => {}
+        When::A(v) => {
+            line.put_u32(v);
+            line.put(b" when a = ");
+        }
+        When::X(v) => {
+            line.put_u32(v);
+            line.put(b" when x = ");
+        }
     }
-}
-
-/// The line of an instruction, and a condition.
-#[tactic(auto, using(cbpf_code::proofs::WrittenLemmas::pairs))]
-fn write_line_with_condition<W: Write, A: Allocator>(
-    w: &mut W,
-    program: &Program<A>,
-    n: u32,
-    when: When,
-) -> Result<(), WriteFault>
-    requires { n < length program.now }
-    ensures { Wrote (W.contents w.old) (W.contents w.new) result (spec.line_with_condition program.now n when) }
-{
-    write_line(w, program, n)?;
-    write_condition(w, when)
-}
-
-#[tactic(auto, unfolding(crate::specs::Breakpoints::set_head))]
-fn write_set_head<W: Write>(w: &mut W) -> Result<(), WriteFault>
-    ensures { Wrote (W.contents w.old) (W.contents w.new) result spec.set_head }
-{
-    write_bytes(w, b"breakpoint at: ")
 }
 
 /// Writes where a breakpoint was set: the line of its instruction, and its condition. `n` is less than
@@ -61,7 +47,7 @@ fn write_set_head<W: Write>(w: &mut W) -> Result<(), WriteFault>
 /// # Errors
 ///
 /// The writer failed, or took nothing of a text that isn't empty: a beginning of the line was written.
-#[tactic(auto, using(cbpf_code::proofs::WrittenLemmas::pairs))]
+#[tactic(auto, unfolding(crate::specs::Breakpoints::set_head))]
 pub fn write_breakpoint<W: Write, A: Allocator>(
     w: &mut W,
     program: &Program<A>,
@@ -71,8 +57,33 @@ pub fn write_breakpoint<W: Write, A: Allocator>(
     requires { n < length program.now }
     ensures { Wrote (W.contents w.old) (W.contents w.new) result (spec.set_text program.now n when) }
 {
-    write_set_head(w)?;
-    write_line_with_condition(w, program, n, when)
+    let mut line = Line::new();
+    put_condition(&mut line, when);
+    put_line(&mut line, program, n);
+    line.put(b"breakpoint at: ");
+    line.write(w)
+}
+
+/// Puts the value of a register that a condition names, in parentheses.
+#[inline(always)]
+fn put_listed_value(line: &mut Line, when: When)
+    requires room { length line.old + 14 ≤ 256 }
+    ensures text { (n : ℕ) → spec.listed_text (n, when) ++ line.old ≡ codes " " ++ (decimal n ++ line.new) }
+    ensures grown { length line.new ≤ length line.old + 14 }
+{
+    match when {
+        When::Always => {}
+        When::A(v) => {
+            line.put(b")");
+            line.put_u32(v);
+            line.put(b"(a=");
+        }
+        When::X(v) => {
+            line.put(b")");
+            line.put_u32(v);
+            line.put(b"(x=");
+        }
+    }
 }
 
 /// Writes a breakpoint as the list of them has it, without the line's end.
@@ -83,14 +94,11 @@ pub fn write_breakpoint<W: Write, A: Allocator>(
 pub fn write_listed<W: Write>(w: &mut W, n: u32, when: When) -> Result<(), WriteFault>
     ensures { Wrote (W.contents w.old) (W.contents w.new) result (spec.listed_text (n, when)) }
 {
-    let mut number = Buffer::new();
-    let mut value = Buffer::new();
-    let number = number.format(n).as_bytes();
-    match when {
-        When::Always => write_parts(w, &[b" ", number]),
-        When::A(v) => write_parts(w, &[b" ", number, b"(a=", value.format(v).as_bytes(), b")"]),
-        When::X(v) => write_parts(w, &[b" ", number, b"(x=", value.format(v).as_bytes(), b")"]),
-    }
+    let mut line = Line::new();
+    put_listed_value(&mut line, when);
+    line.put_u32(n);
+    line.put(b" ");
+    line.write(w)
 }
 
 /// Writes the beginning of the list of breakpoints.

@@ -1,48 +1,29 @@
 // Values in hexadecimal and in decimal, and the spaces around them.
-ghost use Rattle.std.specs.Prelude.{◌≡◌, ◌<◌, ◌-◌, false};
-ghost use Rattle.std.specs.Fmt.{digit_glyph};
-ghost use Rattle.cbpf_code.specs.Text.{hex, spaces};
+ghost use Rattle.std.specs.Prelude.{◌≡◌, ◌≤◌, ◌+◌, ◌-◌, ◌++◌, length};
+ghost use Rattle.cbpf_code.specs.Text.{joined, spaces};
+ghost use Rattle.cbpf_reply.specs.Columns.{value_pieces};
 
-/// The byte of a hexadecimal digit.
+use cbpf_code::Line;
+
+/// Puts a value in hexadecimal and in decimal, and the line's end.
 #[inline(always)]
-pub(crate) fn hex_digit(digit: u8) -> u8
-    requires { digit < 16 }
-    ensures { result ≡ digit_glyph false digit }
+pub(crate) fn put_value(line: &mut Line, value: u32)
+    requires room { length line.old + 23 ≤ 256 }
+    ensures text { line.new ≡ joined (value_pieces value) ++ line.old }
+    ensures grown { length line.new ≤ length line.old + 23 }
 {
-    if digit < 10 {
-        b'0' + digit
-    } else {
-        b'a' - 10 + digit
-    }
-}
-
-/// A number as eight hexadecimal digits.
-pub(crate) fn eight_digits(n: u32) -> [u8; 8]
-    ensures { result ≡ hex 8 n }
-{
-    let n1 = n / 16;
-    let n2 = n1 / 16;
-    let n3 = n2 / 16;
-    let n4 = n3 / 16;
-    let n5 = n4 / 16;
-    let n6 = n5 / 16;
-    let n7 = n6 / 16;
-    [
-        hex_digit((n7 % 16) as u8),
-        hex_digit((n6 % 16) as u8),
-        hex_digit((n5 % 16) as u8),
-        hex_digit((n4 % 16) as u8),
-        hex_digit((n3 % 16) as u8),
-        hex_digit((n2 % 16) as u8),
-        hex_digit((n1 % 16) as u8),
-        hex_digit((n % 16) as u8),
-    ]
+    line.put(b"]\n");
+    line.put_u32(value);
+    line.put(b"][");
+    line.put_hex(value, 8);
+    line.put(b"[");
 }
 
 /// The spaces that fill a text of this length up to ten places.
 #[tactic(auto, using(crate::proofs::SpaceLemmas::pads))]
 pub(crate) fn spaces_to_ten(len: usize) -> &'static [u8]
-    ensures { result.now ≡ spaces (10 - len) }
+    ensures same { result.now ≡ spaces (10 - len) }
+    ensures short { length result.now ≤ 10 }
 {
     &b"          "[..10usize.saturating_sub(len)]
 }
@@ -50,7 +31,8 @@ pub(crate) fn spaces_to_ten(len: usize) -> &'static [u8]
 /// The spaces that set a text of this length right in five places.
 #[tactic(auto, using(crate::proofs::SpaceLemmas::pads))]
 pub(crate) fn spaces_to_five(len: usize) -> &'static [u8]
-    ensures { result.now ≡ spaces (5 - len) }
+    ensures same { result.now ≡ spaces (5 - len) }
+    ensures short { length result.now ≤ 5 }
 {
     &b"     "[..5usize.saturating_sub(len)]
 }

@@ -1,19 +1,25 @@
 //! Counts and places.
 
+ghost use Rattle.std.specs.Prelude.{◌≡◌, ◌≤◌, ◌+◌, ◌++◌, length};
 ghost use Rattle.cbpf_code.specs.Writing.{Wrote};
 ghost use Rattle.cbpf_reply.specs.Counts as spec;
 
-use crate::numbers::write_with_numbers;
 use crate::reply::{Counts, Place};
-use cbpf_code::{WriteFault, write_bytes, write_parts, write_with_number};
-use itoa::Buffer;
+use cbpf_code::{Line, WriteFault};
 use std::io::Write;
 
 /// A place after a text.
 fn write_place_after<W: Write>(w: &mut W, before: &[u8], place: Place) -> Result<(), WriteFault>
+    requires { length before.now ≤ 3 }
     ensures { Wrote (W.contents w.old) (W.contents w.new) result (spec.place_after before.now place) }
 {
-    write_with_numbers(w, before, place.packet, b" ", u64::from(place.step), b"\n")
+    let mut line = Line::new();
+    line.put(b"\n");
+    line.put_u32(place.step);
+    line.put(b" ");
+    line.put_u64(place.packet);
+    line.put(before);
+    line.write(w)
 }
 
 /// Writes a place.
@@ -38,53 +44,31 @@ pub fn write_at<W: Write>(w: &mut W, place: Place) -> Result<(), WriteFault>
     write_place_after(w, b"at ", place)
 }
 
-/// Two numbers, each after a text.
-fn write_two<W: Write>(
-    w: &mut W,
-    before: &[u8],
-    m: u64,
-    between: &[u8],
-    n: u64,
-) -> Result<(), WriteFault>
-    ensures { Wrote (W.contents w.old) (W.contents w.new) result (spec.two before.now m between.now n) }
+/// Puts how many packets asked for an extension without a value, where one did.
+#[inline(always)]
+fn put_unknown(line: &mut Line, unknown: u64)
+    requires room { length line.old + 29 ≤ 256 }
+    ensures text { line.new ≡ spec.unknown_text unknown ++ line.old }
+    ensures grown { length line.new ≤ length line.old + 29 }
 {
-    let (mut first, mut second) = (Buffer::new(), Buffer::new());
-    write_parts(
-        w,
-        &[
-            before,
-            first.format(m).as_bytes(),
-            between,
-            second.format(n).as_bytes(),
-        ],
-    )
-}
-
-/// How many packets passed and failed.
-#[tactic(auto, unfolding(crate::specs::Counts::known_text))]
-fn write_known<W: Write>(w: &mut W, passes: u64, fails: u64) -> Result<(), WriteFault>
-    ensures { Wrote (W.contents w.old) (W.contents w.new) result (spec.known_text passes fails) }
-{
-    write_two(w, b"bpf passes:", passes, b" fails:", fails)
-}
-
-/// How many packets asked for an extension without a value, where one did.
-fn write_unknown<W: Write>(w: &mut W, unknown: u64) -> Result<(), WriteFault>
-    ensures { Wrote (W.contents w.old) (W.contents w.new) result (spec.unknown_text unknown) }
-{
-    if unknown == 0 {
-        return write_bytes(w, b"");
+    if unknown != 0 {
+        line.put_u64(unknown);
+        line.put(b" unknown:");
     }
-    let mut number = Buffer::new();
-    write_parts(w, &[b" unknown:", number.format(unknown).as_bytes()])
 }
 
-#[tactic(auto, using(cbpf_code::proofs::WrittenLemmas::pairs), unfolding(crate::specs::Counts::counts_text))]
-fn write_counts<W: Write>(w: &mut W, counts: Counts) -> Result<(), WriteFault>
-    ensures { Wrote (W.contents w.old) (W.contents w.new) result (spec.counts_text counts) }
+/// Puts how many packets passed and failed, and how many asked for an extension without a value.
+#[inline(always)]
+#[tactic(auto, unfolding(crate::specs::Counts::counts_text, crate::specs::Counts::known_text))]
+fn put_counts(line: &mut Line, counts: Counts)
+    requires room { length line.old + 88 ≤ 256 }
+    ensures { line.new ≡ spec.counts_text counts ++ line.old }
 {
-    write_known(w, counts.passes, counts.fails)?;
-    write_unknown(w, counts.unknown)
+    put_unknown(line, counts.unknown);
+    line.put_u64(counts.fails);
+    line.put(b" fails:");
+    line.put_u64(counts.passes);
+    line.put(b"bpf passes:");
 }
 
 /// Writes the counts at the end of a capture.
@@ -92,18 +76,13 @@ fn write_counts<W: Write>(w: &mut W, counts: Counts) -> Result<(), WriteFault>
 /// # Errors
 ///
 /// The writer failed, or took nothing of a text that isn't empty: a beginning of the line was written.
-#[tactic(auto, using(cbpf_code::proofs::WrittenLemmas::pairs))]
 pub fn write_finished<W: Write>(w: &mut W, counts: Counts) -> Result<(), WriteFault>
     ensures { Wrote (W.contents w.old) (W.contents w.new) result (spec.finished_text counts) }
 {
-    write_counts(w, counts)?;
-    write_bytes(w, b"\n")
-}
-
-fn write_next<W: Write>(w: &mut W, packet: u64) -> Result<(), WriteFault>
-    ensures { Wrote (W.contents w.old) (W.contents w.new) result (spec.next_text packet) }
-{
-    write_with_number(w, b" next:", packet, b"\n")
+    let mut line = Line::new();
+    line.put(b"\n");
+    put_counts(&mut line, counts);
+    line.write(w)
 }
 
 /// Writes the counts at a limit, and the packet that comes next.
@@ -111,10 +90,13 @@ fn write_next<W: Write>(w: &mut W, packet: u64) -> Result<(), WriteFault>
 /// # Errors
 ///
 /// The writer failed, or took nothing of a text that isn't empty: a beginning of the line was written.
-#[tactic(auto, using(cbpf_code::proofs::WrittenLemmas::pairs))]
 pub fn write_limit<W: Write>(w: &mut W, counts: Counts, packet: u64) -> Result<(), WriteFault>
     ensures { Wrote (W.contents w.old) (W.contents w.new) result (spec.limit_text counts packet) }
 {
-    write_counts(w, counts)?;
-    write_next(w, packet)
+    let mut line = Line::new();
+    line.put(b"\n");
+    line.put_u64(packet);
+    line.put(b" next:");
+    put_counts(&mut line, counts);
+    line.write(w)
 }

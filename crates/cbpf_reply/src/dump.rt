@@ -1,125 +1,99 @@
 // The dump of a stop.
-ghost use Rattle.std.specs.Prelude.{◌≡◌, ◌<◌, ◌++◌, ℕ, List, Some, length, slice_get};
+ghost use Rattle.std.specs.Prelude.{◌≡◌, ◌<◌, ◌≤◌, ◌+◌, ◌++◌, ℕ, List, Some, codes, length};
 ghost use Rattle.cbpf_code.specs.Writing.{Wrote};
-ghost use Rattle.cbpf_reply.specs.Columns.{value_line};
 ghost use Rattle.cbpf_reply.specs.Scratch.{scratch_lines};
 ghost use Rattle.cbpf_reply.specs.Dump as spec;
 
-use crate::columns::eight_digits;
+use crate::columns::put_value;
 use crate::packet::write_packet;
 use crate::reply::{Stop, Why};
 use crate::scratch::write_scratch;
-use cbpf_code::{Insn, Program, WriteFault, ext_name, write_bytes, write_parts};
-use cbpf_listing::write_line;
+use cbpf_code::{Insn, Line, Program, WriteFault, ext_name};
+use cbpf_listing::put_line;
 use cbpf_machine::State;
-use itoa::Buffer;
 use std::alloc::Allocator;
 use std::io::Write;
 
 fn write_heading<W: Write>(w: &mut W, packet: u64, step: u32) -> Result<(), WriteFault>
     ensures { Wrote (W.contents w.old) (W.contents w.new) result (spec.heading packet step) }
 {
-    let (mut packet_buffer, mut step_buffer) = (Buffer::new(), Buffer::new());
-    write_parts(
-        w,
-        &[
-            b"-- packet ",
-            packet_buffer.format(packet).as_bytes(),
-            b", step ",
-            step_buffer.format(step).as_bytes(),
-            b" --\n",
-        ],
-    )
+    let mut line = Line::new();
+    line.put(b" --\n");
+    line.put_u32(step);
+    line.put(b", step ");
+    line.put_u64(packet);
+    line.put(b"-- packet ");
+    line.write(w)
 }
 
-fn write_pc_line<W: Write>(w: &mut W, pc: u32) -> Result<(), WriteFault>
-    ensures { Wrote (W.contents w.old) (W.contents w.new) result (spec.pc_line pc) }
+#[inline(always)]
+fn put_pc_line(line: &mut Line, pc: u32)
+    requires room { length line.old + 23 ≤ 256 }
+    ensures text { line.new ≡ spec.pc_line pc ++ line.old }
+    ensures grown { length line.new ≤ length line.old + 23 }
 {
-    let mut buffer = Buffer::new();
-    write_parts(w, &[b"pc:       [", buffer.format(pc).as_bytes(), b"]\n"])
+    line.put(b"]\n");
+    line.put_u32(pc);
+    line.put(b"pc:       [");
 }
 
-fn write_code_line<W: Write>(w: &mut W, insn: Insn) -> Result<(), WriteFault>
-    ensures { Wrote (W.contents w.old) (W.contents w.new) result (spec.code_line (Some insn)) }
+#[inline(always)]
+fn put_code_line(line: &mut Line, insn: Insn)
+    requires room { length line.old + 71 ≤ 256 }
+    ensures text { line.new ≡ spec.code_line (Some insn) ++ line.old }
+    ensures grown { length line.new ≤ length line.old + 71 }
 {
-    let (mut code, mut jt, mut jf, mut k) = (
-        Buffer::new(),
-        Buffer::new(),
-        Buffer::new(),
-        Buffer::new(),
-    );
-    write_parts(
-        w,
-        &[
-            b"code:     [",
-            code.format(insn.code).as_bytes(),
-            b"] jt[",
-            jt.format(insn.jt).as_bytes(),
-            b"] jf[",
-            jf.format(insn.jf).as_bytes(),
-            b"] k[",
-            k.format(insn.k).as_bytes(),
-            b"]\n",
-        ],
-    )
+    line.put(b"]\n");
+    line.put_u32(insn.k);
+    line.put(b"] k[");
+    line.put_u32(u32::from(insn.jf));
+    line.put(b"] jf[");
+    line.put_u32(u32::from(insn.jt));
+    line.put(b"] jt[");
+    line.put_u32(u32::from(insn.code));
+    line.put(b"code:     [");
 }
 
-fn write_current_line<W: Write, A: Allocator>(
-    w: &mut W,
-    p: &Program<A>,
-    pc: u32,
-) -> Result<(), WriteFault>
-    requires { pc < length p.now }
-    ensures { Wrote (W.contents w.old) (W.contents w.new) result (spec.current_line p.now pc) }
+#[inline(always)]
+fn put_current_line<A: Allocator>(line: &mut Line, p: &Program<A>, pc: u32)
+    requires within { pc < length p.now }
+    requires room { length line.old + 88 ≤ 256 }
+    ensures text { line.new ≡ spec.current_line p.now pc ++ line.old }
+    ensures grown { length line.new ≤ length line.old + 88 }
 {
-    write_bytes(w, b"curr:     ")?;
-    write_line(w, p, pc)?;
-    write_bytes(w, b"\n")
+    line.put(b"\n");
+    put_line(line, p, pc);
+    line.put(b"curr:     ");
 }
 
+/// The head of the registers, and the instruction.
 fn write_instruction<W: Write, A: Allocator>(
     w: &mut W,
     p: &Program<A>,
     pc: u32,
 ) -> Result<(), WriteFault>
     requires { pc < length p.now }
-    ensures { Wrote (W.contents w.old) (W.contents w.new) result (spec.instruction_lines p.now pc) }
+    ensures { Wrote (W.contents w.old) (W.contents w.new) result
+        (codes "-- register dump --\n" ++ spec.instruction_lines p.now pc) }
 {
-    write_pc_line(w, pc)?;
-    write_code_line(w, p.at_index(pc))?;
-    write_current_line(w, p, pc)
+    let mut line = Line::new();
+    put_current_line(&mut line, p, pc);
+    put_code_line(&mut line, p.at_index(pc));
+    put_pc_line(&mut line, pc);
+    line.put(b"-- register dump --\n");
+    line.write(w)
 }
 
-fn write_a_line<W: Write>(w: &mut W, a: u32) -> Result<(), WriteFault>
-    ensures { Wrote (W.contents w.old) (W.contents w.new) result (spec.a_line a) }
+/// The lines of A and X.
+fn write_registers<W: Write>(w: &mut W, a: u32, x: u32) -> Result<(), WriteFault>
+    ensures { Wrote (W.contents w.old) (W.contents w.new) result (spec.a_line a ++ spec.x_line x) }
 {
-    let mut buffer = Buffer::new();
-    write_parts(
-        w,
-        &[
-            b"A:        [",
-            &eight_digits(a),
-            b"][",
-            buffer.format(a).as_bytes(),
-            b"]\n",
-        ],
-    )
-}
-
-fn write_x_line<W: Write>(w: &mut W, x: u32) -> Result<(), WriteFault>
-    ensures { Wrote (W.contents w.old) (W.contents w.new) result (spec.x_line x) }
-{
-    let mut buffer = Buffer::new();
-    write_parts(
-        w,
-        &[
-            b"X:        [",
-            &eight_digits(x),
-            b"][",
-            buffer.format(x).as_bytes(),
-            b"]\n",
-        ],
-    )
+    let mut line = Line::new();
+    put_value(&mut line, x);
+    line.put(b"X:        ");
+    put_value(&mut line, a);
+    line.put(b"A:        ");
+    line.write(w)
 }
 
 /// The words of scratch memory.
@@ -150,8 +124,7 @@ fn write_register_lines<W: Write>(w: &mut W, state: &State) -> Result<(), WriteF
     ensures { Wrote (W.contents w.old) (W.contents w.new) result
         (spec.a_line state.now.a ++ (spec.x_line state.now.x ++ scratch_lines (spec.slots_of state.now))) }
 {
-    write_a_line(w, state.a())?;
-    write_x_line(w, state.x())?;
+    write_registers(w, state.a(), state.x())?;
     write_scratch(w, &slots_of(state))
 }
 
@@ -165,20 +138,35 @@ fn write_register_dump<W: Write, A: Allocator>(
     ensures { (bytes : List ℕ) (wire : ℕ) → Wrote (W.contents w.old) (W.contents w.new) result
         (spec.register_dump p.now (spec.shown_in bytes wire stop.now)) }
 {
-    write_bytes(w, b"-- register dump --\n")?;
     write_instruction(w, p, stop.state.pc())?;
     write_register_lines(w, &stop.state)
 }
 
-/// Writes why it stopped.
-pub(crate) fn write_why<W: Write>(w: &mut W, why: Why) -> Result<(), WriteFault>
-    ensures { Wrote (W.contents w.old) (W.contents w.new) result (spec.why_line why) }
+/// Puts why it stopped.
+#[inline(always)]
+#[tactic(auto, using(cbpf_code::proofs::NameLemmas::names))]
+pub(crate) fn put_why(line: &mut Line, why: Why)
+    requires room { length line.old + 23 ≤ 256 }
+    ensures text { line.new ≡ spec.why_line why ++ line.old }
+    ensures grown { length line.new ≤ length line.old + 23 }
 {
     match why {
-        Why::Break => write_bytes(w, b"(breakpoint)\n"),
-        Why::Step => write_bytes(w, b"(step)\n"),
-        Why::Unknown(e) => write_parts(w, &[b"(extension ", ext_name(e).as_bytes(), b")\n"]),
+        Why::Break => line.put(b"(breakpoint)\n"),
+        Why::Step => line.put(b"(step)\n"),
+        Why::Unknown(e) => {
+            line.put(b")\n");
+            line.put(ext_name(e).as_bytes());
+            line.put(b"(extension ");
+        }
     }
+}
+
+fn write_why<W: Write>(w: &mut W, why: Why) -> Result<(), WriteFault>
+    ensures { Wrote (W.contents w.old) (W.contents w.new) result (spec.why_line why) }
+{
+    let mut line = Line::new();
+    put_why(&mut line, why);
+    line.write(w)
 }
 
 /// The packet, and why it stopped.

@@ -1,11 +1,11 @@
 // The lines of scratch memory.
-ghost use Rattle.std.specs.Prelude.{◌≡◌, ◌≤◌, ◌<◌, ◌∷◌, ◌+◌, length, drop, slice_index};
+ghost use Rattle.std.specs.Prelude.{ℕ, ◌≡◌, ◌≤◌, ◌<◌, ◌∷◌, ◌+◌, ◌++◌, length, drop, slice_index};
+ghost use Rattle.cbpf_code.specs.Text.{joined};
 ghost use Rattle.cbpf_code.specs.Writing.{Wrote};
 ghost use Rattle.cbpf_reply.specs.Scratch as spec;
 
-use crate::columns::{eight_digits, spaces_to_ten};
-use cbpf_code::{WriteFault, write_parts};
-use itoa::Buffer;
+use crate::columns::{put_value, spaces_to_ten};
+use cbpf_code::{Line, WriteFault};
 use std::io::Write;
 
 /// The last slot of the run that begins at `first`.
@@ -25,57 +25,25 @@ fn run_end(slots: &[u32], first: usize) -> usize
     last
 }
 
-/// The line of one slot.
-fn write_slot<W: Write>(w: &mut W, slot: usize, value: u32) -> Result<(), WriteFault>
-    ensures { Wrote (W.contents w.old) (W.contents w.new) result
-        (spec.scratch_line (record { first = slot; last = slot; value = value })) }
+/// The label of slots `first` to `last`, which may be one slot.
+#[inline(always)]
+fn put_label(line: &mut Line, first: usize, last: usize)
+    requires within { first ≤ last }
+    requires room { length line.old + 45 ≤ 256 }
+    ensures text { (value : ℕ) → line.new
+        ≡ joined (spec.label (record { first = first; last = last; value = value })) ++ line.old }
+    ensures grown { length line.new ≤ length line.old + 45 }
 {
-    let (mut number, mut decimal) = (Buffer::new(), Buffer::new());
-    let number = number.format(slot).as_bytes();
-    write_parts(
-        w,
-        &[
-            b"M[",
-            number,
-            b"]:",
-            spaces_to_ten(number.len() + 4),
-            b"[",
-            &eight_digits(value),
-            b"][",
-            decimal.format(value).as_bytes(),
-            b"]\n",
-        ],
-    )
+    line.put(b"]:");
+    line.put_u64(last as u64);
+    if first < last {
+        line.put(b",");
+        line.put_u64(first as u64);
+    }
+    line.put(b"M[");
 }
 
-/// The line of slots `first` to `last`, of which there are two at least.
-fn write_slots<W: Write>(w: &mut W, first: usize, last: usize, value: u32) -> Result<(), WriteFault>
-    requires { first < last }
-    ensures { Wrote (W.contents w.old) (W.contents w.new) result
-        (spec.scratch_line (record { first = first; last = last; value = value })) }
-{
-    let (mut from, mut to, mut decimal) = (Buffer::new(), Buffer::new(), Buffer::new());
-    let from = from.format(first).as_bytes();
-    let to = to.format(last).as_bytes();
-    write_parts(
-        w,
-        &[
-            b"M[",
-            from,
-            b",",
-            to,
-            b"]:",
-            spaces_to_ten(from.len() + to.len() + 5),
-            b"[",
-            &eight_digits(value),
-            b"][",
-            decimal.format(value).as_bytes(),
-            b"]\n",
-        ],
-    )
-}
-
-/// The line of slots `first` to `last`, which may be one slot.
+/// The line of slots `first` to `last`.
 fn write_scratch_line<W: Write>(
     w: &mut W,
     first: usize,
@@ -86,11 +54,14 @@ fn write_scratch_line<W: Write>(
     ensures { Wrote (W.contents w.old) (W.contents w.new) result
         (spec.scratch_line (record { first = first; last = last; value = value })) }
 {
-    if first == last {
-        write_slot(w, first, value)
-    } else {
-        write_slots(w, first, last, value)
-    }
+    let mut label = Line::new();
+    put_label(&mut label, first, last);
+    let label = label.as_bytes();
+    let mut line = Line::new();
+    put_value(&mut line, value);
+    line.put(spaces_to_ten(label.len()));
+    line.put(label);
+    line.write(w)
 }
 
 /// Writes a line for each longest run of neighbouring slots of equal value.

@@ -4,8 +4,7 @@ ghost use Rattle.std.specs.Prelude.{◌≡◌};
 ghost use Rattle.cbpf_code.specs.Writing.{Wrote};
 ghost use Rattle.cbpf_reply.specs.Values as spec;
 
-use cbpf_code::{Ext, WriteFault, ext_name, write_parts};
-use itoa::Buffer;
+use cbpf_code::{Ext, Line, WriteFault, ext_name};
 use std::io::Write;
 
 /// Writes the reply to `value`.
@@ -13,18 +12,15 @@ use std::io::Write;
 /// # Errors
 ///
 /// The writer failed, or took nothing of a text that isn't empty: a beginning of the line was written.
+#[tactic(auto, using(cbpf_code::proofs::NameLemmas::names))]
 pub fn write_value<W: Write>(w: &mut W, e: Ext, n: u32) -> Result<(), WriteFault>
     ensures { Wrote (W.contents w.old) (W.contents w.new) result (spec.value_text e n) }
 {
-    let mut number = Buffer::new();
-    write_parts(
-        w,
-        &[
-            b"value ",
-            ext_name(e).as_bytes(),
-            b" ",
-            number.format(n).as_bytes(),
-            b"\n",
-        ],
-    )
+    let mut line = Line::new();
+    line.put(b"\n");
+    line.put_u32(n);
+    line.put(b" ");
+    line.put(ext_name(e).as_bytes());
+    line.put(b"value ");
+    line.write(w)
 }

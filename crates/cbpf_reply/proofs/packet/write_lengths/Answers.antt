@@ -1,6 +1,11 @@
 use Rattle.cbpf_reply.proofs.packet.write_lengths.Goals as goal
 
 pub returns : goal.returns
-returns g c =
-    rw (c.as_bytes.ensures.value, c.format.ensures.text, c.as_bytes-2.ensures.value, c.format-2.ensures.text) at
-    c.write_parts.ensures
+returns g c = rw (
+  c.put-3.ensures.text,
+  c.put_u64.ensures.text,
+  c.put-2.ensures.text,
+  c.put_u32.ensures.text,
+  c.put.ensures.text,
+  c.new-line.ensures,
+) at c.write.ensures

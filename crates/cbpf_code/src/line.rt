@@ -1,0 +1,158 @@
+//! Texts that are made from their end, and written at once.
+ghost use Rattle.std.specs.Prelude.{◌≡◌, ◌≤◌, ◌+◌, ◌%◌, ◌++◌, [], false, length, decimal};
+ghost use Rattle.std.specs.Fmt.{digit_glyph};
+ghost use Rattle.cbpf_code.specs.HexPlaces.{hex_digits, hex_places};
+ghost use Rattle.cbpf_code.specs.Text.{hex};
+ghost use Rattle.cbpf_code.specs.Writing.{Wrote};
+
+use crate::writing::{WriteFault, write_bytes};
+use itoa::write_digits;
+use std::io::Write;
+use std::marker::Model;
+
+/// The byte of a number's last hexadecimal digit.
+fn last_hex_digit(n: u32) -> u8
+    ensures { result ≡ digit_glyph false (n % 16) }
+{
+    b"0123456789abcdef"[(n % 16) as usize]
+}
+
+/// How many hexadecimal digits a number needs, at least 1 and at most 8.
+fn digits_needed(n: u32) -> usize
+    ensures same { result ≡ hex_places n }
+    ensures few { (1 ≤ result) × (result ≤ 8) }
+{
+    if n < 16 {
+        1
+    } else if n < 256 {
+        2
+    } else if n < 4096 {
+        3
+    } else if n < 65536 {
+        4
+    } else if n < 1_048_576 {
+        5
+    } else if n < 16_777_216 {
+        6
+    } else if n < 268_435_456 {
+        7
+    } else {
+        8
+    }
+}
+
+/// A number as eight hexadecimal digits, in lower case.
+fn eight_digits(n: u32) -> [u8; 8]
+    ensures { result ≡ hex_digits 8 n }
+{
+    let n1 = n / 16;
+    let n2 = n1 / 16;
+    let n3 = n2 / 16;
+    let n4 = n3 / 16;
+    let n5 = n4 / 16;
+    let n6 = n5 / 16;
+    let n7 = n6 / 16;
+    [
+        last_hex_digit(n7),
+        last_hex_digit(n6),
+        last_hex_digit(n5),
+        last_hex_digit(n4),
+        last_hex_digit(n3),
+        last_hex_digit(n2),
+        last_hex_digit(n1),
+        last_hex_digit(n),
+    ]
+}
+
+/// A text of at most 256 bytes. What is put stands before what was put so far, so that a line is
+/// put from its last part to its first.
+#[derive(Drop)]
+pub struct Line {
+    bytes: [u8; 256],
+    at: usize,
+}
+
+impl Model for Line {
+    ghost use Rattle.std.specs.Prelude.{ℕ, List, ◌≤◌, drop};
+
+    ghost Value = { List ℕ };
+
+    ghost view = { λ l. drop l.at l.bytes };
+
+    ghost invariant = { λ l. l.at ≤ 256 };
+}
+
+impl Line {
+    /// The empty text.
+    #[inline(always)]
+    pub fn new() -> Self
+        ensures { result ≡ [] }
+    {
+        Line {
+            bytes: [0; 256],
+            at: 256,
+        }
+    }
+
+    /// Puts a text.
+    #[inline(always)]
+    pub fn put(&mut self, text: &[u8])
+        requires { length self.old + length text.now ≤ 256 }
+        ensures text { self.new ≡ text.now ++ self.old }
+        ensures grown { length self.new ≡ length self.old + length text.now }
+    {
+        let end = self.at;
+        self.at = end - text.len();
+        self.bytes[self.at..end].copy_from_slice(text);
+    }
+
+    /// Puts a number of 64 bits in decimal, which takes at most 20 places.
+    #[inline(always)]
+    pub fn put_u64(&mut self, n: u64)
+        requires { length self.old + 20 ≤ 256 }
+        ensures text { self.new ≡ decimal n ++ self.old }
+        ensures grown { length self.new ≤ length self.old + 20 }
+    {
+        self.at = write_digits(n, &mut self.bytes, self.at);
+    }
+
+    /// Puts a number of 32 bits in decimal, which takes at most 10 places.
+    #[inline(always)]
+    pub fn put_u32(&mut self, n: u32)
+        requires { length self.old + 10 ≤ 256 }
+        ensures text { self.new ≡ decimal n ++ self.old }
+        ensures grown { length self.new ≤ length self.old + 10 }
+    {
+        self.at = write_digits(n as u64, &mut self.bytes, self.at);
+    }
+
+    /// Puts a number in lower case hexadecimal, in at least `least` digits, of which there are at
+    /// most 8.
+    #[inline(always)]
+    pub fn put_hex(&mut self, n: u32, least: u32)
+        requires few { least ≤ 8 }
+        requires room { length self.old + 8 ≤ 256 }
+        ensures text { self.new ≡ hex least n ++ self.old }
+        ensures grown { length self.new ≤ length self.old + 8 }
+    {
+        let places = digits_needed(n).max(least as usize);
+        self.put(&eight_digits(n));
+        self.at += 8 - places;
+    }
+
+    /// The text.
+    #[inline(always)]
+    pub fn as_bytes(&self) -> &[u8]
+        ensures { result.now ≡ self.now }
+    {
+        &self.bytes[self.at..]
+    }
+
+    /// Writes the text.
+    #[inline(always)]
+    pub fn write<W: Write>(&self, w: &mut W) -> Result<(), WriteFault>
+        ensures { Wrote (W.contents w.old) (W.contents w.new) result self.now }
+    {
+        write_bytes(w, self.as_bytes())
+    }
+}

@@ -1,6 +1,0 @@
-use Rattle.std.proofs.Common.{arith}
-use Rattle.cbpf_code.proofs.WrittenLemmas.{pairs}
-use Rattle.cbpf_reply.proofs.counts.write_limit.Goals as goal
-
-pub returns : goal.returns
-returns g c = grind (arith, pairs)

@@ -1,4 +1,0 @@
-use Rattle.cbpf_reply.proofs.dump.write_a_line.Goals as goal
-
-pub returns : goal.returns
-returns g c = rw (c.as_bytes.ensures.value, c.format.ensures.text, c.eight_digits.ensures) at c.write_parts.ensures

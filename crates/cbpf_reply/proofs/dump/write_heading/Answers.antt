@@ -1,6 +1,0 @@
-use Rattle.cbpf_reply.proofs.dump.write_heading.Goals as goal
-
-pub returns : goal.returns
-returns g c =
-    rw (c.as_bytes.ensures.value, c.format.ensures.text, c.as_bytes-2.ensures.value, c.format-2.ensures.text) at
-    c.write_parts.ensures

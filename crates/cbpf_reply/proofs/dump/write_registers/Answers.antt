@@ -1,0 +1,14 @@
+use Rattle.std.proofs.Common.{append-nil}
+use Rattle.cbpf_code.specs.Text.{joined}
+use Rattle.cbpf_reply.specs.Columns.{value_pieces}
+use Rattle.cbpf_reply.proofs.dump.write_registers.Goals as goal
+
+pub returns : goal.returns
+returns g c = rw (
+  c.put-2.ensures.text,
+  c.put_value-2.ensures.text,
+  c.put.ensures.text,
+  c.put_value.ensures.text,
+  c.new-line.ensures,
+  append-nil (joined (value_pieces c.args.x)),
+) at c.write.ensures
