@@ -107,6 +107,14 @@ hex-places least n m l =
       (omega arith, (omega arith, (omega arith, (omega arith, (omega arith, (omega arith, omega arith)))))),
     )) _ refl) _ refl) _ refl) _ refl) _ refl) _ refl) _ refl
 
+-- the two digits of a byte
+pub hex-two : (b : ℕ) → b < 256 → hex 2 b ≡ hex_digits 2 b
+hex-two b l = by (nat_lt b 16) refl
+  where
+    by : (t : Bool) → nat_lt b 16 ≡ t → hex 2 b ≡ hex_digits 2 b
+    by true e = hex-given 2 b 1 (omega arith) (ltb-true b 16 e) ∙ sym (zeros-front 1 1 b (ltb-true b 16 e))
+    by false e = hex-given 2 b 2 (omega arith) (ltb-false b 16 e, omega arith)
+
 -- the last of eight digits, before a text
 pub hex-last : (least n r : ℕ) (ds text : List ℕ) → ds ≡ hex_digits 8 n → r ≡ max (hex_places n) least → least ≤ 8
     → n < 2 ^ 32 → drop (8 - r) (ds ++ text) ≡ hex least n ++ text

@@ -140,6 +140,17 @@ impl Line {
         self.at += 8 - places;
     }
 
+    /// Puts a byte as two hexadecimal digits, in lower case.
+    #[inline(always)]
+    pub fn put_byte(&mut self, n: u8)
+        requires { length self.old + 2 ≤ 256 }
+        ensures text { self.new ≡ hex 2 n ++ self.old }
+        ensures grown { length self.new ≡ length self.old + 2 }
+    {
+        let n = u32::from(n);
+        self.put(&[last_hex_digit(n / 16), last_hex_digit(n)]);
+    }
+
     /// The text.
     #[inline(always)]
     pub fn as_bytes(&self) -> &[u8]
