@@ -1,5 +1,5 @@
 -- Three calls that write, one after the other: the second failed, or all went through up to the third.
-use Rattle.std.proofs.Common.{ℕ, List, ◌++◌, Option, Result, subst, append_assoc}
+use Rattle.std.proofs.Common.{◌≡◌, ◌∙◌, ap, sym, ℕ, List, ◌++◌, Option, Result, subst, append_assoc}
 use Rattle.std.specs.Result.{IsErr}
 use Rattle.cbpf_code.specs.Writing.{Appended, AppendedPart, Wrote}
 use Rattle.cbpf_code.proofs.WrittenLemmas.{err-exit, part-then, part-more, wrote-then}
@@ -25,3 +25,10 @@ pub pair-then : {A E : Type 0} (u v w : Option (List ℕ)) (a b c : List ℕ) (r
     → Wrote v w r c → Wrote u w r (a ++ (b ++ c))
 pair-then u v w a b c r x y =
     subst (λ (t : List ℕ). Wrote u w r t) (append_assoc a b c) (wrote-then u v w (a ++ b) c r x y)
+
+-- five texts, of which three calls write two, one and two
+pub regrouped : (a b c d e : List ℕ) → a ++ ((b ++ (c ++ d)) ++ e) ≡ (a ++ (b ++ c)) ++ (d ++ e)
+regrouped a b c d e =
+    ap (λ (t : List ℕ). a ++ t)
+    (append_assoc b (c ++ d) e ∙ ap (λ (t : List ℕ). b ++ t) (append_assoc c d e) ∙ sym (append_assoc b c (d ++ e)))
+    ∙ sym (append_assoc a (b ++ c) (d ++ e))

@@ -1,5 +1,5 @@
 -- The packet in a dump: its captured and its original length, and rows of 16 captured bytes (this project's own).
-use Rattle.std.specs.Prelude.{ℕ, zero, suc, ◌-◌, ◌*◌, List, [], ◌∷◌, ◌++◌, length, take, drop, decimal, codes}
+use Rattle.std.specs.Prelude.{ℕ, zero, suc, ◌+◌, ◌-◌, ◌*◌, List, [], ◌∷◌, ◌++◌, length, take, drop, decimal, codes}
 use Rattle.std.specs.List.{flat_map}
 use Rattle.std.specs.Int.{div_ceil}
 use Rattle.cbpf_code.specs.Text.{joined, spaces, hex}
@@ -8,6 +8,10 @@ use Rattle.cbpf_code.specs.Text.{joined, spaces, hex}
 abbrev pub texts_to : (ℕ → List ℕ) → ℕ → List ℕ
 texts_to f zero = []
 texts_to f (suc n) = texts_to f n ++ f n
+
+-- the texts of a, a + 1 and so on, before b
+abbrev pub texts_between : (ℕ → List ℕ) → ℕ → ℕ → List ℕ
+texts_between f a b = texts_to (λ i. f (a + i)) (b - a)
 
 -- two hexadecimal digits after a space
 abbrev pub byte_text : ℕ → List ℕ

@@ -1,12 +1,12 @@
 // The dump of a stop.
-ghost use Rattle.std.specs.Prelude.{◌≡◌, ◌<◌, ◌≤◌, ◌+◌, ◌++◌, ℕ, List, Some, codes, length};
+ghost use Rattle.std.specs.Prelude.{◌≡◌, ◌<◌, ◌≤◌, ◌+◌, ◌++◌, Some, codes, length};
 ghost use Rattle.cbpf_code.specs.Writing.{Wrote};
 ghost use Rattle.cbpf_reply.specs.Scratch.{scratch_lines};
 ghost use Rattle.cbpf_reply.specs.Dump as spec;
 
 use crate::columns::put_value;
 use crate::packet::write_packet;
-use crate::reply::{Stop, Why};
+use crate::reply::{Place, Stop, Why};
 use crate::scratch::write_scratch;
 use cbpf_code::{Insn, Line, Program, WriteFault, ext_name};
 use cbpf_listing::put_line;
@@ -14,16 +14,16 @@ use cbpf_machine::State;
 use std::alloc::Allocator;
 use std::io::Write;
 
-fn write_heading<W: Write>(w: &mut W, packet: u64, step: u32) -> Result<(), WriteFault>
-    ensures { Wrote (W.contents w.old) (W.contents w.new) result (spec.heading packet step) }
+#[inline(always)]
+fn put_heading(line: &mut Line, packet: u64, step: u32)
+    requires { length line.old + 51 ≤ 256 }
+    ensures { line.new ≡ spec.heading packet step ++ line.old }
 {
-    let mut line = Line::new();
     line.put(b" --\n");
     line.put_u32(step);
     line.put(b", step ");
     line.put_u64(packet);
     line.put(b"-- packet ");
-    line.write(w)
 }
 
 #[inline(always)]
@@ -67,20 +67,34 @@ fn put_current_line<A: Allocator>(line: &mut Line, p: &Program<A>, pc: u32)
 }
 
 /// The head of the registers, and the instruction.
-fn write_instruction<W: Write, A: Allocator>(
+#[inline(always)]
+fn put_instruction<A: Allocator>(line: &mut Line, p: &Program<A>, pc: u32)
+    requires within { pc < length p.now }
+    requires room { length line.old + 202 ≤ 256 }
+    ensures text { line.new ≡ codes "-- register dump --\n" ++ (spec.instruction_lines p.now pc ++ line.old) }
+    ensures grown { length line.new ≤ length line.old + 202 }
+{
+    put_current_line(line, p, pc);
+    put_code_line(line, p.at_index(pc));
+    put_pc_line(line, pc);
+    line.put(b"-- register dump --\n");
+}
+
+/// The place, the head of the registers, and the instruction.
+fn write_place_and_instruction<W: Write, A: Allocator>(
     w: &mut W,
     p: &Program<A>,
+    place: Place,
     pc: u32,
 ) -> Result<(), WriteFault>
     requires { pc < length p.now }
     ensures { Wrote (W.contents w.old) (W.contents w.new) result
-        (codes "-- register dump --\n" ++ spec.instruction_lines p.now pc) }
+        (spec.heading place.packet place.step
+        ++ (codes "-- register dump --\n" ++ spec.instruction_lines p.now pc)) }
 {
     let mut line = Line::new();
-    put_current_line(&mut line, p, pc);
-    put_code_line(&mut line, p.at_index(pc));
-    put_pc_line(&mut line, pc);
-    line.put(b"-- register dump --\n");
+    put_instruction(&mut line, p, pc);
+    put_heading(&mut line, place.packet, place.step);
     line.write(w)
 }
 
@@ -128,20 +142,6 @@ fn write_register_lines<W: Write>(w: &mut W, state: &State) -> Result<(), WriteF
     write_scratch(w, &slots_of(state))
 }
 
-/// The registers of a stop; they are the same in any packet.
-fn write_register_dump<W: Write, A: Allocator>(
-    w: &mut W,
-    p: &Program<A>,
-    stop: &Stop,
-) -> Result<(), WriteFault>
-    requires { stop.now.state.pc < length p.now }
-    ensures { (bytes : List ℕ) (wire : ℕ) → Wrote (W.contents w.old) (W.contents w.new) result
-        (spec.register_dump p.now (spec.shown_in bytes wire stop.now)) }
-{
-    write_instruction(w, p, stop.state.pc())?;
-    write_register_lines(w, &stop.state)
-}
-
 /// Puts why it stopped.
 #[inline(always)]
 #[tactic(auto, using(cbpf_code::proofs::NameLemmas::names))]
@@ -159,23 +159,6 @@ pub(crate) fn put_why(line: &mut Line, why: Why)
             line.put(b"(extension ");
         }
     }
-}
-
-fn write_why<W: Write>(w: &mut W, why: Why) -> Result<(), WriteFault>
-    ensures { Wrote (W.contents w.old) (W.contents w.new) result (spec.why_line why) }
-{
-    let mut line = Line::new();
-    put_why(&mut line, why);
-    line.write(w)
-}
-
-/// The packet, and why it stopped.
-fn write_ending<W: Write>(w: &mut W, stop: &Stop, bytes: &[u8], wire: u32) -> Result<(), WriteFault>
-    ensures { Wrote (W.contents w.old) (W.contents w.new) result
-        (spec.packet_and_why (spec.shown_in bytes.now wire stop.now)) }
-{
-    write_packet(w, bytes, wire)?;
-    write_why(w, stop.why)
 }
 
 /// Writes the dump of a stop in a program: the place, the registers before the instruction, the
@@ -198,7 +181,7 @@ pub fn write_stop<W: Write, A: Allocator>(
     ensures { Wrote (W.contents w.old) (W.contents w.new) result
         (spec.dump_text p.now (spec.shown_in bytes.now wire stop.now)) }
 {
-    write_heading(w, stop.place.packet, stop.place.step)?;
-    write_register_dump(w, p, stop)?;
-    write_ending(w, stop, bytes, wire)
+    write_place_and_instruction(w, p, stop.place, stop.state.pc())?;
+    write_register_lines(w, &stop.state)?;
+    write_packet(w, bytes, wire, stop.why)
 }

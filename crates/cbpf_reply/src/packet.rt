@@ -1,11 +1,15 @@
 // The packet's bytes.
 ghost use Rattle.std.specs.Prelude.{◌≡◌, ◌≤◌, ◌+◌, ◌-◌, ◌++◌, length, decimal};
+ghost use Rattle.std.specs.Int.{div_ceil};
 ghost use Rattle.std.specs.List.{flat_map};
 ghost use Rattle.cbpf_code.specs.Writing.{Wrote};
 ghost use Rattle.cbpf_code.specs.Text.{spaces};
+ghost use Rattle.cbpf_reply.specs.Dump.{why_line};
 ghost use Rattle.cbpf_reply.specs.Packet as spec;
 
 use crate::columns::spaces_to_five;
+use crate::dump::put_why;
+use crate::reply::Why;
 use cbpf_code::{Line, WriteFault};
 use std::io::Write;
 
@@ -16,14 +20,14 @@ const ROW: usize = 16;
 #[inline(always)]
 fn put_cells(line: &mut Line, row: &[u8])
     requires few { length row.now ≤ 16 }
-    requires room { length line.old + 144 ≤ 256 }
+    requires room { length line.old + 48 ≤ 256 }
     ensures text { line.new ≡ flat_map spec.byte_text row.now ++ line.old }
-    ensures grown { length line.new ≤ length line.old + 144 }
+    ensures grown { length line.new ≤ length line.old + 48 }
 {
     let mut i = row.len();
     while i > 0 {
         i -= 1;
-        line.put_hex(u32::from(row[i]), 2);
+        line.put_byte(row[i]);
         line.put(b" ");
     }
 }
@@ -33,6 +37,7 @@ fn put_cells(line: &mut Line, row: &[u8])
 fn put_offset(line: &mut Line, at: usize)
     requires room { length line.old + 25 ≤ 256 }
     ensures text { line.new ≡ spaces (5 - length (decimal at)) ++ decimal at ++ line.old }
+    ensures grown { length line.new ≤ length line.old + 25 }
 {
     let before = line.as_bytes().len();
     line.put_u64(at as u64);
@@ -40,29 +45,83 @@ fn put_offset(line: &mut Line, at: usize)
     line.put(spaces_to_five(digits));
 }
 
-fn write_row<W: Write>(w: &mut W, at: usize, row: &[u8]) -> Result<(), WriteFault>
-    requires { length row.now ≤ 16 }
-    ensures { Wrote (W.contents w.old) (W.contents w.new) result (spec.row_line at row.now) }
+/// Puts a row of at most 16 bytes, the first of which has offset `at`.
+#[inline(always)]
+fn put_row(line: &mut Line, at: usize, row: &[u8])
+    requires few { length row.now ≤ 16 }
+    requires room { length line.old + 75 ≤ 256 }
+    ensures text { line.new ≡ spec.row_line at row.now ++ line.old }
+    ensures grown { length line.new ≤ length line.old + 75 }
+{
+    line.put(b"\n");
+    put_cells(line, row);
+    line.put(b":");
+    put_offset(line, at);
+}
+
+/// Puts the rows from `from` on and before `to`, of which there are at most three.
+#[inline(always)]
+fn put_rows(line: &mut Line, bytes: &[u8], from: usize, to: usize)
+    requires order { from ≤ to }
+    requires few { to ≤ from + 3 }
+    requires within { to ≤ div_ceil (length bytes.now) 16 }
+    requires room { length line.old + 225 ≤ 256 }
+    ensures text { line.new ≡ spec.texts_between (spec.row bytes.now) from to ++ line.old }
+{
+    let mut r = to;
+    while r > from {
+        r -= 1;
+        let at = ROW * r;
+        let end = bytes.len().min(at + ROW);
+        put_row(line, at, &bytes[at..end]);
+    }
+}
+
+/// Writes the rows from `from` on and before `to`, of which there are at most three.
+fn write_rows<W: Write>(w: &mut W, bytes: &[u8], from: usize, to: usize) -> Result<(), WriteFault>
+    requires order { from ≤ to }
+    requires few { to ≤ from + 3 }
+    requires within { to ≤ div_ceil (length bytes.now) 16 }
+    ensures { Wrote (W.contents w.old) (W.contents w.new) result
+        (spec.texts_between (spec.row bytes.now) from to) }
 {
     let mut line = Line::new();
-    line.put(b"\n");
-    put_cells(&mut line, row);
-    line.put(b":");
-    put_offset(&mut line, at);
+    put_rows(&mut line, bytes, from, to);
     line.write(w)
 }
 
-/// A row for each 16 bytes.
-fn write_rows<W: Write>(w: &mut W, bytes: &[u8]) -> Result<(), WriteFault>
-    ensures { Wrote (W.contents w.old) (W.contents w.new) result (spec.packet_rows bytes.now) }
+/// Writes the last rows, of which there are at most three, and why it stopped.
+fn write_last_rows<W: Write>(
+    w: &mut W,
+    bytes: &[u8],
+    from: usize,
+    to: usize,
+    why: Why,
+) -> Result<(), WriteFault>
+    requires order { from ≤ to }
+    requires few { to ≤ from + 3 }
+    requires within { to ≤ div_ceil (length bytes.now) 16 }
+    ensures { Wrote (W.contents w.old) (W.contents w.new) result
+        (spec.texts_between (spec.row bytes.now) from to ++ why_line why) }
+{
+    let mut line = Line::new();
+    put_why(&mut line, why);
+    put_rows(&mut line, bytes, from, to);
+    line.write(w)
+}
+
+/// Writes a row for each 16 bytes, and why it stopped.
+fn write_rows_and_why<W: Write>(w: &mut W, bytes: &[u8], why: Why) -> Result<(), WriteFault>
+    ensures { Wrote (W.contents w.old) (W.contents w.new) result
+        (spec.packet_rows bytes.now ++ why_line why) }
 {
     let count = bytes.len().div_ceil(ROW);
-    for r in 0..count {
-        let at = ROW * r;
-        let end = bytes.len().min(at + ROW);
-        write_row(w, at, &bytes[at..end])?;
+    let mut from = 0;
+    while count - from > 3 {
+        write_rows(w, bytes, from, from + 3)?;
+        from += 3;
     }
-    Ok(())
+    write_last_rows(w, bytes, from, count, why)
 }
 
 fn write_lengths<W: Write>(w: &mut W, captured: usize, wire: u32) -> Result<(), WriteFault>
@@ -77,11 +136,16 @@ fn write_lengths<W: Write>(w: &mut W, captured: usize, wire: u32) -> Result<(), 
     line.write(w)
 }
 
-/// Writes the lengths of a packet, and its captured bytes.
-#[tactic(auto, using(cbpf_code::proofs::WrittenLemmas::pairs))]
-pub(crate) fn write_packet<W: Write>(w: &mut W, bytes: &[u8], wire: u32) -> Result<(), WriteFault>
-    ensures { Wrote (W.contents w.old) (W.contents w.new) result (spec.packet_dump bytes.now wire) }
+/// Writes the lengths of a packet, its captured bytes, and why it stopped.
+pub(crate) fn write_packet<W: Write>(
+    w: &mut W,
+    bytes: &[u8],
+    wire: u32,
+    why: Why,
+) -> Result<(), WriteFault>
+    ensures { Wrote (W.contents w.old) (W.contents w.new) result
+        (spec.packet_dump bytes.now wire ++ why_line why) }
 {
     write_lengths(w, bytes.len(), wire)?;
-    write_rows(w, bytes)
+    write_rows_and_why(w, bytes, why)
 }

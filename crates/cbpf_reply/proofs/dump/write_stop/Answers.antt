@@ -1,25 +1,34 @@
-use Rattle.std.proofs.Common.{◌++◌}
+use Rattle.std.proofs.Common.{◌++◌, codes}
 use Rattle.cbpf_code.proofs.WrittenLemmas.{first-failed}
-use Rattle.cbpf_reply.specs.Dump.{shown_in, heading, register_dump, packet_and_why}
-use Rattle.cbpf_reply.proofs.ChainLemmas.{second-failed, third-last}
+use Rattle.cbpf_reply.specs.Dump.{shown_in, heading, instruction_lines, register_lines, packet_and_why}
+use Rattle.cbpf_reply.proofs.ChainLemmas.{second-failed, third-last, regrouped}
 use Rattle.cbpf_reply.proofs.dump.write_stop.Goals as goal
 
-pub returns-in_err-write_heading : goal.returns-in_err-write_heading
-returns-in_err-write_heading g c = first-failed _ _ (heading c.args.stop.now.place.packet c.args.stop.now.place.step)
-    (register_dump c.args.p.now (shown_in c.args.bytes.now c.args.wire c.args.stop.now)
-    ++ packet_and_why (shown_in c.args.bytes.now c.args.wire c.args.stop.now))
-    _ c.from_residual.ensures.0 c.in_err-write_heading.ensures
+pub returns-in_err-write_place_and_instruction : goal.returns-in_err-write_place_and_instruction
+returns-in_err-write_place_and_instruction g c =
+    let s = shown_in c.args.bytes.now c.args.wire c.args.stop.now in
+    rw (regrouped (heading s.packet s.step) (codes "-- register dump --\n") (instruction_lines c.args.p.now s.pc)
+    (register_lines s) (packet_and_why s))
+    (first-failed _ _ (heading s.packet s.step ++ (codes "-- register dump --\n" ++ instruction_lines c.args.p.now s.pc))
+    (register_lines s ++ packet_and_why s) _ c.from_residual.ensures.0
+    (rw c.pc.ensures at c.in_err-write_place_and_instruction.ensures))
 
-pub returns-in_err-write_register_dump : goal.returns-in_err-write_register_dump
-returns-in_err-write_register_dump g c =
-    second-failed _ _ _ (heading c.args.stop.now.place.packet c.args.stop.now.place.step)
-    (register_dump c.args.p.now (shown_in c.args.bytes.now c.args.wire c.args.stop.now))
-    (packet_and_why (shown_in c.args.bytes.now c.args.wire c.args.stop.now)) _
-    c.from_residual-in_err-write_register_dump.ensures.0 c.in_ok-write_heading.ensures
-    (c.in_err-write_register_dump.ensures c.args.bytes.now c.args.wire)
+pub returns-in_err-write_register_lines : goal.returns-in_err-write_register_lines
+returns-in_err-write_register_lines g c =
+    let s = shown_in c.args.bytes.now c.args.wire c.args.stop.now in
+    rw (regrouped (heading s.packet s.step) (codes "-- register dump --\n") (instruction_lines c.args.p.now s.pc)
+    (register_lines s) (packet_and_why s))
+    (second-failed _ _ _
+    (heading s.packet s.step ++ (codes "-- register dump --\n" ++ instruction_lines c.args.p.now s.pc))
+    (register_lines s) (packet_and_why s) _ c.from_residual-in_err-write_register_lines.ensures.0
+    (rw c.pc.ensures at c.in_ok-write_place_and_instruction.ensures) c.in_err-write_register_lines.ensures)
 
 pub returns : goal.returns
-returns g c = third-last _ _ _ _ (heading c.args.stop.now.place.packet c.args.stop.now.place.step)
-    (register_dump c.args.p.now (shown_in c.args.bytes.now c.args.wire c.args.stop.now))
-    (packet_and_why (shown_in c.args.bytes.now c.args.wire c.args.stop.now)) _ c.in_ok-write_heading.ensures
-    (c.in_ok-write_register_dump.ensures c.args.bytes.now c.args.wire) c.write_ending.ensures
+returns g c =
+    let s = shown_in c.args.bytes.now c.args.wire c.args.stop.now in
+    rw (regrouped (heading s.packet s.step) (codes "-- register dump --\n") (instruction_lines c.args.p.now s.pc)
+    (register_lines s) (packet_and_why s))
+    (third-last _ _ _ _
+    (heading s.packet s.step ++ (codes "-- register dump --\n" ++ instruction_lines c.args.p.now s.pc))
+    (register_lines s) (packet_and_why s) _ (rw c.pc.ensures at c.in_ok-write_place_and_instruction.ensures)
+    c.in_ok-write_register_lines.ensures c.write_packet.ensures)

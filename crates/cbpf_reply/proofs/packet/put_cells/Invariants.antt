@@ -7,7 +7,7 @@ abbrev pub invariant-loop-i : goal.invariant-loop-i
 invariant-loop-i l = record {
   within : l.i ≤ length l.row;
   text : l.line ≡ flat_map byte_text (drop l.i l.row) ++ l.initial.line;
-  grown : length l.line + 9 * l.i ≤ length l.initial.line + 9 * length l.row;
+  grown : length l.line + 3 * l.i ≤ length l.initial.line + 3 * length l.row;
 }
 
 abbrev pub decreases-loop-i : goal.decreases-loop-i
