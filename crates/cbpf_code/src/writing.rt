@@ -14,8 +14,6 @@ use std::io::Write;
 pub struct WriteFault;
 
 /// Writes a text whole, by as many calls of `write` as the writer needs.
-// Inlined: a line goes out by one call, of which the call itself would take a third.
-#[inline(always)]
 pub fn write_bytes<W: Write>(w: &mut W, text: &[u8]) -> Result<(), WriteFault>
     ensures { Wrote (W.contents w.old) (W.contents w.new) result text.now }
 {
