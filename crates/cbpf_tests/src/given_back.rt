@@ -226,17 +226,19 @@ fn sources(rt: HostRuntime) {
     }
 }
 
-/// The number of records of a capture; the bytes that its index asks for, and those that it holds. There is a place
-/// of 8 bytes for each 64 records, and the room for places doubles from 4 on.
-static INDEXES: [(u32, u64, u64); 8] = [
-    (0, 0, 0),
-    (1, 32, 32),
-    (256, 32, 32),
-    (257, 96, 64),
-    (512, 96, 64),
-    (513, 224, 128),
-    (3000, 992, 512),
-    (8192, 2016, 1024),
+/// The number of records of a capture, and the bytes that its index asks for: a place of 8 bytes for each 64 records
+/// and for what is left of them. It holds them all.
+static INDEXES: [(u32, u64); 10] = [
+    (0, 0),
+    (1, 8),
+    (64, 8),
+    (65, 16),
+    (256, 32),
+    (257, 40),
+    (512, 64),
+    (513, 72),
+    (3000, 376),
+    (8192, 1024),
 ];
 
 /// What an index asks for and holds, over the bytes of `alloc`, which `counting` counts.
@@ -260,13 +262,13 @@ fn index_of<A: Allocator + Copy>(
 
 #[test]
 fn room_for_the_index_of_a_capture(rt: HostRuntime) {
-    for (records, asked, held) in INDEXES.iter() {
+    for (records, room) in INDEXES.iter() {
         let counting = CountingAllocator::new(rt.alloc());
         let bytes = repeated(rt.alloc(), HEADER, RECORD, *records, b"").expect(&rt, "the bytes");
         let found = index_of(&rt, &counting, &counting, &bytes);
         assert_at(
             &rt,
-            found == (*asked, *held),
+            found == (*room, *room),
             "the bytes of the index",
             *records,
         );

@@ -363,7 +363,7 @@ fn check_large_capture(rt: &impl Abort, host: &HostRuntime) {
         host,
         "large captures",
         0,
-        &(Call::Capture(&capture), 4, 99),
+        &(Call::Capture(&capture), 2, 2),
     );
 }
 

@@ -1,3 +1,4 @@
 mod ContentsLemmas
+mod EvenLemmas
 mod ReachLemmas
 pub mod SavefileLemmas

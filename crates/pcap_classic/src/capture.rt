@@ -40,7 +40,8 @@ impl<A: Allocator> Model for Capture<A> {
 }
 
 impl<A: Allocator> Capture<A> {
-    /// The capture that a file's bytes hold. The bytes are kept, and no record is copied.
+    /// The capture that a file's bytes hold. The bytes are kept, and no record is copied. The allocator is
+    /// asked once, for 8 bytes for each 64 records and for what is left of them.
     ///
     /// # Errors
     ///

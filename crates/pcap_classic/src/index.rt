@@ -1,7 +1,7 @@
-//! The pass over the headers of all records, and the way from a kept start to a later one.
+//! The passes over the headers of all records, and the way from a kept start to a later one.
 
-ghost use Rattle.std.specs.Prelude.{◌≡◌, ◌≤◌, ◌+◌, ◌*◌, ◌↔◌, ℕ, List, length, drop, true, IfOk};
-ghost use Rattle.pcap_classic.specs.Index.{IsIndex, AreKept, Reaches, ending_by};
+ghost use Rattle.std.specs.Prelude.{◌≡◌, ◌≤◌, ◌<◌, ◌+◌, ◌*◌, ◌^◌, ◌↔◌, ℕ, List, length, drop, true, IfOk};
+ghost use Rattle.pcap_classic.specs.Index.{IsIndex, AreEven, AreKept, AreStarts, Reaches, ending_by};
 ghost use Rattle.pcap_classic.specs.Scan as spec;
 ghost use Rattle.pcap_classic.specs.declared.front.Front.TheVariants.{WholeRecord};
 
@@ -9,12 +9,13 @@ use crate::endianness::Endianness;
 use crate::ending::Ending;
 use crate::front::{Front, front_of, record_length};
 use crate::header::FILE_HEADER;
+use arrayvec::ArrayVec;
 use std::alloc::{AllocError, Allocator};
 
 /// How many records apart the kept starts are.
 pub(crate) const STRIDE: u64 = 64;
 
-/// What one pass over the headers of all records finds out.
+/// What the passes over the headers of all records find out.
 #[derive(Drop)]
 pub(crate) struct Index<A: Allocator> {
     /// The number of whole records.
@@ -52,20 +53,19 @@ fn is_record_of(order: Endianness, bytes: &[u8], length: usize) -> bool
     }
 }
 
-/// Keeps the place of the record after `count` others, where that is one of those that are kept.
+/// The starts that the pass over the headers keeps, as long as there is room for them.
+// They lie on the stack: 64,000 bytes, for the first 512,000 records.
+type Starts = ArrayVec<usize, 8000>;
+
+/// Keeps the place of the record after `count` others, where it is the next one to keep.
 #[inline(always)]
-fn keep_start<A: Allocator>(
-    starts: &mut Vec<usize, A>,
-    count: u64,
-    place: usize,
-) -> Result<(), AllocError>
-    ensures { IfOk result (λ _. (order : Endianness) → (file : List ℕ) → Reaches order file count place →
-        AreKept order file starts.old.items count → AreKept order file starts.new.items (count + 1)) }
+fn keep_start(starts: &mut Starts, count: u64, place: usize)
+    ensures { (order : Endianness) → (file : List ℕ) → Reaches order file count place →
+        AreStarts order file starts.old.items → AreStarts order file starts.new.items }
 {
-    if count % STRIDE == 0 {
-        starts.push(place)?;
+    if count % STRIDE == 0 && count / STRIDE == starts.len() as u64 {
+        let _ = starts.try_push(place);
     }
-    Ok(())
 }
 
 /// The records before a place, and the place.
@@ -77,35 +77,139 @@ struct Passed {
 
 /// Passes the records from a place on that have this length.
 #[inline]
-fn pass_repeats<A: Allocator>(
+fn pass_repeats(
     order: Endianness,
     file: &[u8],
     length: usize,
-    starts: &mut Vec<usize, A>,
+    starts: &mut Starts,
     from: Passed,
-) -> Result<Passed, AllocError>
+) -> Passed
     requires here { Reaches order file.now from.count from.place }
     requires few { 16 * from.count + 24 ≤ from.place }
-    requires kept { AreKept order file.now starts.old.items from.count }
-    ensures here { IfOk result (λ passed. Reaches order file.now passed.count passed.place) }
-    ensures few { IfOk result (λ passed. 16 * passed.count + 24 ≤ passed.place) }
-    ensures kept { IfOk result (λ passed. AreKept order file.now starts.new.items passed.count) }
-    ensures on { IfOk result (λ passed. from.place ≤ passed.place) }
-    ensures all { IfOk result (λ passed. spec.front_of order (drop passed.place file.now) ≡ WholeRecord length → ⊥) }
+    requires kept { AreStarts order file.now starts.old.items }
+    ensures here { Reaches order file.now result.count result.place }
+    ensures few { 16 * result.count + 24 ≤ result.place }
+    ensures kept { AreStarts order file.now starts.new.items }
+    ensures on { from.place ≤ result.place }
+    ensures even { AreEven order file.now from.count from.place length result.count }
+    ensures all { spec.front_of order (drop result.place file.now) ≡ WholeRecord length → ⊥ }
 {
     let Passed {
         mut count,
         mut place,
     } = from;
     'repeats: while is_record_of(order, &file[place..], length) {
-        keep_start(starts, count, place)?;
+        keep_start(starts, count, place);
         count += 1;
         place += length;
     }
-    Ok(Passed { count, place })
+    Passed { count, place }
+}
+
+/// Passes all records from a place on.
+fn pass_all(order: Endianness, file: &[u8], starts: &mut Starts, from: Passed) -> Passed
+    requires here { Reaches order file.now from.count from.place }
+    requires few { 16 * from.count + 24 ≤ from.place }
+    requires kept { AreStarts order file.now starts.old.items }
+    ensures here { Reaches order file.now result.count result.place }
+    ensures few { 16 * result.count + 24 ≤ result.place }
+    ensures kept { AreStarts order file.now starts.new.items }
+    ensures end { (size : ℕ) → spec.front_of order (drop result.place file.now) ≡ WholeRecord size → ⊥ }
+{
+    let Passed {
+        mut count,
+        mut place,
+    } = from;
+    let mut last = 0;
+    let mut repeats = 0u32;
+    'records: while let Front::WholeRecord(length) = front_of(order, &file[place..]) {
+        keep_start(starts, count, place);
+        count += 1;
+        place += length;
+        repeats = if length == last { repeats + 1 } else { 0 };
+        last = length;
+        if repeats == REPEATS {
+            let passed = pass_repeats(order, file, length, starts, Passed { count, place });
+            count = passed.count;
+            place = passed.place;
+            repeats = 0;
+        }
+    }
+    Passed { count, place }
+}
+
+/// The first records of a file, up to the first one of another length.
+#[derive(Clone, Copy)]
+struct FirstRun {
+    length: usize,
+    count: u64,
+}
+
+/// The place of the record after `count` others: by the first run or by the starts that are kept, and else by the way
+/// from an earlier record.
+fn start_after(
+    order: Endianness,
+    file: &[u8],
+    run: FirstRun,
+    starts: &[usize],
+    from: Passed,
+    count: u64,
+) -> usize
+    requires here { Reaches order file.now from.count from.place }
+    requires ahead { from.count ≤ count }
+    requires within { count ≤ length (spec.contents order file.now).records }
+    requires kept { AreStarts order file.now starts.now }
+    requires even { AreEven order file.now 0 24 run.length run.count }
+    ensures { Reaches order file.now count result }
+{
+    if count <= run.count {
+        return FILE_HEADER + count as usize * run.length;
+    }
+    if count % STRIDE == 0 {
+        if let Some(start) = starts.get((count / STRIDE) as usize) {
+            return *start;
+        }
+    }
+    place_of(order, file, from.count, from.place, count)
+}
+
+/// The places of the records 1, 65, 129 and so on of a file that has so many records.
+fn starts_of<A: Allocator>(
+    alloc: A,
+    order: Endianness,
+    file: &[u8],
+    run: FirstRun,
+    starts: &[usize],
+    count: u64,
+) -> Result<Vec<usize, A>, AllocError>
+    requires long { 24 ≤ length file.now }
+    requires count { count ≡ length (spec.contents order file.now).records }
+    requires few { count < 2 ^ 60 }
+    requires kept { AreStarts order file.now starts.now }
+    requires even { AreEven order file.now 0 24 run.length run.count }
+    ensures { IfOk result (λ all. AreKept order file.now all.items count) }
+{
+    let room = (count + (STRIDE - 1)) / STRIDE;
+    let mut all = Vec::with_capacity(alloc, room as usize)?;
+    let mut from = Passed {
+        count: 0,
+        place: FILE_HEADER,
+    };
+    'starts: for n in 0..room {
+        let place = start_after(order, file, run, starts, from, n * STRIDE);
+        all.push(place)?;
+        from = Passed {
+            count: n * STRIDE,
+            place,
+        };
+    }
+    Ok(all)
 }
 
 /// The index of a file of at least 24 bytes.
+// The starts get their room at once, when the number of records is known. So no room is left over, and none is asked
+// for twice. What the pass over the headers keeps meanwhile spares a second pass, but for the records of mixed lengths
+// after the first 512,000.
 pub(crate) fn index_of<A: Allocator>(
     alloc: A,
     order: Endianness,
@@ -114,24 +218,22 @@ pub(crate) fn index_of<A: Allocator>(
     requires { 24 ≤ length file.now }
     ensures { IfOk result (λ index. IsIndex order file.now index.count index.starts.items index.ending) }
 {
-    let mut starts = Vec::new(alloc);
-    let mut count = 0;
-    let mut place = FILE_HEADER;
-    let mut last = 0;
-    let mut repeats = 0u32;
-    'records: while let Front::WholeRecord(length) = front_of(order, &file[place..]) {
-        keep_start(&mut starts, count, place)?;
-        count += 1;
-        place += length;
-        repeats = if length == last { repeats + 1 } else { 0 };
-        last = length;
-        if repeats == REPEATS {
-            let passed = pass_repeats(order, file, length, &mut starts, Passed { count, place })?;
-            count = passed.count;
-            place = passed.place;
-            repeats = 0;
-        }
-    }
+    let mut kept = Starts::new();
+    let length = match front_of(order, &file[FILE_HEADER..]) {
+        Front::WholeRecord(length) => length,
+        _ => 0,
+    };
+    let header = Passed {
+        count: 0,
+        place: FILE_HEADER,
+    };
+    let first = pass_repeats(order, file, length, &mut kept, header);
+    let run = FirstRun {
+        length,
+        count: first.count,
+    };
+    let Passed { count, place } = pass_all(order, file, &mut kept, first);
+    let starts = starts_of(alloc, order, file, run, kept.as_slice(), count)?;
     let ending = ending_at(order, file, place);
     Ok(Index {
         count,

@@ -1,48 +1,20 @@
-use Rattle.std.proofs.Common.{◌≡◌, drop, arith, ◌∙◌, sym}
-use Rattle.std.proofs.lemmas.List.{take_rest}
-use Rattle.pcap_classic.specs.declared.front.Front.TheVariants.{WholeRecord}
-use Rattle.pcap_classic.specs.Scan.{front_of}
-use Rattle.pcap_classic.proofs.ContentsLemmas.{front_of-whole}
-use Rattle.pcap_classic.proofs.ReachLemmas.{reaches_next, reaches_end}
+use Rattle.std.proofs.Common.{arith, ◌∙◌}
+use Rattle.pcap_classic.proofs.ReachLemmas.{reaches_end}
 use Rattle.pcap_classic.proofs.index.index_of.Goals as goal
-use Rattle.pcap_classic.proofs.index.index_of.Goals.{then-length-last, else-length-last}
 
-pub pass_repeats-requires-clause-here : goal.pass_repeats-requires-clause-here
-pass_repeats-requires-clause-here g c =
-    let front : c.front_of.result ≡ front_of c.args.order (drop c.records.place c.args.file.now) =
-    rw take_rest at c.front_of.ensures in
-    reaches_next _ _ _ _ _ c.records.invariant.here (sym front ∙ c.in-WholeRecord.is)
-
-pub records-preserved : goal.records-preserved
-records-preserved g c =
-    let front : c.front_of.result ≡ front_of c.args.order (drop c.records.place c.args.file.now) =
-    rw take_rest at c.front_of.ensures in
-    let whole : front_of c.args.order (drop c.records.place c.args.file.now) ≡ WholeRecord c.in-WholeRecord.length =
-    sym front ∙ c.in-WholeRecord.is in
-    let is = front_of-whole c.args.order (drop c.records.place c.args.file.now) _ whole in
-    let here = c.records.invariant.here in
-    record {
-      here = reaches_next _ _ _ _ _ here whole;
-      kept = c.in_ok-keep_start.ensures _ _ here c.records.invariant.kept;
-      few = omega (arith, is.header);
-      repeated = elim c.if-length-last.branch [
-        | then-length-last w ↦
-            (let before = c.records.invariant.repeated in let other = c.if-repeats-eq-REPEATS.false in
-            omega (arith, w.repeats-is))
-        | else-length-last w ↦ rw w.repeats-is (omega arith)
-      ];
-    }
+pub starts_of-requires-clause-count : goal.starts_of-requires-clause-count
+starts_of-requires-clause-count g c =
+    let end = reaches_end _ _ _ _ c.pass_all-count.ensures.here c.pass_all-count.ensures.end in end.count
 
 pub returns : goal.returns
 returns g c =
-    let front : c.front_of.result ≡ front_of c.args.order (drop c.records.place c.args.file.now) =
-    rw take_rest at c.front_of.ensures in
-    let end =
-    reaches_end _ _ _ _ c.records.invariant.here (λ size whole. c.in_default.not-WholeRecord size (front ∙ whole)) in
+    let end = reaches_end _ _ _ _ c.pass_all-count.ensures.here c.pass_all-count.ensures.end in
+    let few = c.pass_all-count.ensures.few in
+    let inside = c.pass_all-count.ensures.here.inside in
     record {
       long = c.requires;
       counted = end.count;
-      few = omega arith;
-      kept = c.records.invariant.kept;
+      few = omega (arith, few, inside);
+      kept = c.in_ok-starts.ensures;
       ended = c.ending_at-ending.ensures ∙ end.ending;
     }

@@ -1,15 +1,15 @@
 use Rattle.std.proofs.Common.{◌-◌, ◌+◌, ◌*◌, ◌<◌, ◌≤◌, length}
-use Rattle.pcap_classic.specs.Index.{Reaches, AreKept}
-use Rattle.pcap_classic.proofs.index.index_of.Given as goal
+use Rattle.pcap_classic.specs.Index.{Reaches, AreStarts}
+use Rattle.pcap_classic.proofs.index.pass_all.Given as goal
 
 abbrev pub invariant-records : goal.invariant-records
-invariant-records g l =
+invariant-records l =
     record {
       here : Reaches l.order l.file l.count l.place;
-      kept : AreKept l.order l.file l.starts.items l.count;
+      kept : AreStarts l.order l.file l.starts.items;
       few : 16 * l.count + 24 ≤ l.place;
       repeated : l.repeats < 4;
     }
 
 abbrev pub decreases-records : goal.decreases-records
-decreases-records g l = length l.file - l.place
+decreases-records l = length l.file - l.place
