@@ -1,6 +1,7 @@
 pub mod LineLemmas
 pub mod FileLemmas
 pub mod ReplyLemmas
+pub mod ReplyText
 pub mod ScriptLemmas
 pub mod AssemblyLemmas
 pub mod SourceLemmas
