@@ -191,8 +191,7 @@ fn run<A: Allocator + Copy, R: Read, W: Write, F: Files>(
     let mut session = Session::new(alloc, MarkTrail::new());
     let mut lines = LineReader::new();
     let mut line = Vec::new(alloc);
-    // What the writer was given earlier goes out with the first flush.
-    let mut unflushed = true;
+    let mut unflushed = false;
     run_lines(
         alloc,
         reader,
@@ -208,8 +207,9 @@ fn run<A: Allocator + Copy, R: Read, W: Write, F: Files>(
 
 /// Runs a script of commands: reads lines up to `quit` or the end of the input, and writes the reply of
 /// each before the next one acts. A refused command is answered by a line `error: ..`, and the script goes
-/// on. What was written is flushed before each `load pcap`, `run`, `step`, `resume` and `stops`, which may take
-/// long, before more input is waited for, and before `Ok`.
+/// on. The replies are flushed before each `load pcap`, `run`, `step`, `resume` and `stops`, which may take
+/// long, before each read, and before `Ok`; where none was written since the last flush, nothing is flushed.
+/// So what the writer was given before the call goes out with the first replies.
 ///
 /// # Errors
 ///

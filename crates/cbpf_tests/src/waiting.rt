@@ -135,9 +135,7 @@ fn wanted_flushes(
     exchanges: &[Exchange],
     in_one_read: bool,
 ) -> Result<Vec<u64>, AllocError> {
-    // Before the first read goes out what the writer was given earlier.
     let mut flushes = Vec::new(alloc);
-    flushes.push(0)?;
     let mut written: u64 = 0;
     let mut flushed = 0;
     for (_, length, reply) in exchanges {
@@ -217,8 +215,7 @@ fn each_error(rt: &impl Abort, alloc: Global, lines: &[Exchange], wanted: &[u64]
 }
 
 /// With no flush that fails (0), and with each flush that fails.
-fn each_flush(rt: &impl Abort, alloc: Global, count: usize) {
-    let exchanges = EXCHANGES.get(..count).unwrap_or(&EXCHANGES);
+fn each_flush(rt: &impl Abort, alloc: Global, exchanges: &[Exchange]) {
     let wanted = wanted_flushes(alloc, exchanges, false).expect(rt, "the flushes");
     for failing in 0..=wanted.len() {
         each_error(rt, alloc, exchanges, wanted.as_slice(), failing);
@@ -229,8 +226,17 @@ fn each_flush(rt: &impl Abort, alloc: Global, count: usize) {
 #[test]
 fn each_reply_is_flushed_before_the_next_read_or_nothing_more_is_read(rt: HostRuntime) {
     for count in 0..=EXCHANGES.len() {
-        each_flush(&rt, rt.alloc(), count);
+        let exchanges = EXCHANGES.get(..count).unwrap_or(&EXCHANGES);
+        each_flush(&rt, rt.alloc(), exchanges);
     }
+}
+
+/// Lines that have no reply.
+static SILENT: [Exchange; 3] = [(b"\n", Short, 0), (b" \n", Short, 0), (b"quit\n", Short, 0)];
+
+#[test]
+fn a_script_without_replies_flushes_nothing(rt: HostRuntime) {
+    each_flush(&rt, rt.alloc(), &SILENT);
 }
 
 /// Each command that may take long, after another one that has a reply, and after one that has not.
