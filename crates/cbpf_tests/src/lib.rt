@@ -10,6 +10,7 @@ mod assembling;
 mod beginnings;
 #[cfg(test)]
 mod byte_by_byte;
+mod done;
 #[cfg(test)]
 mod failing_files;
 #[cfg(test)]
@@ -24,6 +25,8 @@ mod given_back;
 mod great_sizes;
 #[cfg(test)]
 mod loaded;
+#[cfg(test)]
+mod memory_host;
 #[cfg(test)]
 mod places;
 #[cfg(test)]

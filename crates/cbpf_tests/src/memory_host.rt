@@ -1,0 +1,249 @@
+// A machine in memory that says what it holds, and the jobs over it.
+ghost use Rattle.std.specs.Prelude.{◌≡◌, ◌++◌, ◌∷◌, [], List, ℕ, map, true, Some, MatchOption, None};
+ghost use Rattle.std.specs.FinMap as finmap;
+ghost use Rattle.cbpf_jobs.specs.FileMap.{files_of, known_source};
+ghost use Rattle.cbpf_tests.specs.Events.{event};
+
+use crate::done::Done;
+use crate::fault_injection::RefusingAllocator;
+use crate::loaded::{ARP, ARP_WORDS, TWO_PACKETS};
+use cbpf_jobs::{asm_job, dbg_job};
+use cbpf_tool::{
+    CreateFault, Failure, Files, Form, Host, Job, LoadFault, ToolFault, run_on, status_of,
+};
+use std::alloc::Allocator;
+use std::io::{self, ErrorKind};
+use std::process::{Abort, ExitCode};
+
+/// A name and the file's bytes.
+type File = (&'static str, &'static [u8]);
+
+/// The bytes of the first file of this name.
+fn bytes_of(files: &[File], name: &str) -> Option<&'static [u8]>
+    ensures { MatchOption result (finmap.get (files_of (map (λ f. (f.0.now, f.1.now)) files.now)) name.now ≡ None)
+        (λ bytes. finmap.get (files_of (map (λ f. (f.0.now, f.1.now)) files.now)) name.now ≡ Some bytes.now) }
+{
+    for file in files {
+        if name == file.0 {
+            return Some(file.1);
+        }
+    }
+    None
+}
+
+/// Files that commands load.
+#[derive(Drop)]
+struct ListedFiles {
+    files: &'static [File],
+}
+
+impl Files for ListedFiles {
+    ghost source = { λ d. known_source (files_of (map (λ f. (f.0.now, f.1.now)) d.files.now)) 0 };
+
+    fn load<A: Allocator>(&mut self, alloc: A, name: &str) -> Result<Vec<u8, A>, LoadFault> {
+        let Some(bytes) = bytes_of(self.files, name) else {
+            return Err(LoadFault::Absent);
+        };
+        match Vec::from_slice(alloc, bytes) {
+            Ok(copy) => Ok(copy),
+            Err(_) => Err(LoadFault::Memory),
+        }
+    }
+}
+
+fn copied<R: Abort + AllocGlobal>(rt: &R, bytes: &[u8]) -> Vec<u8>
+    ensures { result.items ≡ bytes.now }
+{
+    Vec::from_slice(rt.alloc(), bytes).expect(rt, "a copy")
+}
+
+/// Files, a standard input, and the log of what was done. Its outputs take memory of `alloc`, and `refusal` says why
+/// there is none. As the log has to grow, it ends the test where it can't.
+#[derive(Drop)]
+struct MemoryHost<'a, R: Abort + AllocGlobal, A: Allocator + Copy> {
+    rt: &'a R,
+    alloc: A,
+    files: &'static [File],
+    input: &'static [u8],
+    refusal: Option<CreateFault>,
+    log: Vec<Done>,
+}
+
+/// Adds an event to a log.
+fn add<R: Abort>(rt: &R, log: &mut Vec<Done>, done: Done)
+    ensures { map event log.new.items ≡ map event log.old.items ++ event done ∷ [] }
+{
+    assert!(rt; log.push(done).is_ok());
+}
+
+impl<'a, R: Abort + AllocGlobal, A: Allocator + Copy> Host for MemoryHost<'a, R, A> {
+    ghost view = { λ h. record {
+      is_known = true;
+      files = files_of (map (λ f. (f.0.now, f.1.now)) h.files.now);
+      input = h.input.now;
+      events = map event h.log.items;
+    } };
+
+    type Source = &'static [u8];
+
+    type Input = &'static [u8];
+
+    type Sink = Vec<u8, A>;
+
+    type Output = Vec<u8, A>;
+
+    type Disk = ListedFiles;
+
+    fn open(&mut self, name: &str) -> io::Result<&'static [u8]> {
+        let copy = copied(self.rt, name.as_bytes());
+        match bytes_of(self.files, name) {
+            Some(bytes) => {
+                add(self.rt, &mut self.log, Done::Opened(copy));
+                Ok(bytes)
+            }
+            None => {
+                add(self.rt, &mut self.log, Done::NotOpened(copy));
+                Err(io::Error::from(ErrorKind::NotFound))
+            }
+        }
+    }
+
+    fn input(&mut self) -> &'static [u8] {
+        self.input
+    }
+
+    fn create(&mut self, name: &str) -> Result<Vec<u8, A>, CreateFault> {
+        let name = copied(self.rt, name.as_bytes());
+        if let Some(CreateFault::NotCreated) = self.refusal {
+            add(self.rt, &mut self.log, Done::NotCreated(name));
+            return Err(CreateFault::NotCreated);
+        }
+        add(self.rt, &mut self.log, Done::Created(name));
+        match self.refusal {
+            Some(_) => Err(CreateFault::Memory),
+            None => Ok(Vec::new(self.alloc)),
+        }
+    }
+
+    fn close(&mut self, name: &str, sink: Vec<u8, A>) {
+        let name = copied(self.rt, name.as_bytes());
+        let text = copied(self.rt, sink.as_slice());
+        add(self.rt, &mut self.log, Done::Wrote(name, text));
+    }
+
+    fn output(&mut self) -> Result<Vec<u8, A>, CreateFault> {
+        match self.refusal {
+            Some(fault) => Err(fault),
+            None => Ok(Vec::new(self.alloc)),
+        }
+    }
+
+    fn print(&mut self, output: Vec<u8, A>) {
+        let text = copied(self.rt, output.as_slice());
+        add(self.rt, &mut self.log, Done::Printed(text));
+    }
+
+    fn disk(&mut self) -> ListedFiles {
+        ListedFiles { files: self.files }
+    }
+}
+
+/// A script, a source whose name is `-`, and a capture.
+static FILES: [File; 3] = [
+    ("script", b"load pcap k\nquit\n"),
+    ("-", ARP),
+    ("k", TWO_PACKETS),
+];
+
+fn machine<R: Abort + AllocGlobal, A: Allocator + Copy>(rt: &R, alloc: A) -> MemoryHost<'_, R, A> {
+    MemoryHost {
+        rt,
+        alloc,
+        files: &FILES,
+        input: b"ret #0\n",
+        refusal: None,
+        log: Vec::new(rt.alloc()),
+    }
+}
+
+fn named<R: Abort + AllocGlobal>(rt: &R, name: &str) -> Option<String> {
+    Some(String::from_str(rt.alloc(), name).expect(rt, "a name"))
+}
+
+fn assert_unopened(rt: &impl Abort, outcome: Result<(), Failure>, name: &str) {
+    assert!(rt; status_of(&outcome) == ExitCode::FAILURE);
+    assert!(rt; matches!(&outcome, Err(Failure::CannotOpen(file)) if file.as_str() == name));
+}
+
+#[test]
+fn an_input_that_is_missing_leaves_no_output_created(rt: HostRuntime) {
+    let mut host = machine(&rt, rt.alloc());
+    let job = Job::Dbg {
+        input: named(&rt, "gone"),
+        output: named(&rt, "out"),
+    };
+    assert_unopened(&rt, run_on(rt.alloc(), &mut host, job), "gone");
+    assert!(rt; host.log.as_slice() == [Done::NotOpened(copied(&rt, b"gone"))].as_slice());
+}
+
+#[test]
+fn an_output_that_is_not_created_ends_the_job(rt: HostRuntime) {
+    let mut host = machine(&rt, rt.alloc());
+    host.refusal = Some(CreateFault::NotCreated);
+    let (script, out) = (named(&rt, "script"), named(&rt, "out"));
+    let result = dbg_job(rt.alloc(), &mut host, script, out);
+    assert_unopened(&rt, result, "out");
+    let opened = Done::Opened(copied(&rt, b"script"));
+    let refused = Done::NotCreated(copied(&rt, b"out"));
+    assert!(rt; host.log.as_slice() == [opened, refused].as_slice());
+}
+
+#[test]
+fn the_replies_stand_in_the_output_file(rt: HostRuntime) {
+    let mut host = machine(&rt, rt.alloc());
+    let (script, out) = (named(&rt, "script"), named(&rt, "out"));
+    let result = dbg_job(rt.alloc(), &mut host, script, out);
+    assert!(rt; status_of(&result) == ExitCode::SUCCESS);
+    let opened = Done::Opened(copied(&rt, b"script"));
+    let created = Done::Created(copied(&rt, b"out"));
+    let wrote = Done::Wrote(copied(&rt, b"out"), copied(&rt, b"pcap: 2 packets\n"));
+    assert!(rt; host.log.as_slice() == [opened, created, wrote].as_slice());
+}
+
+#[test]
+fn a_minus_is_the_name_of_a_file_and_no_name_the_standard_input(rt: HostRuntime) {
+    let mut host = machine(&rt, rt.alloc());
+    let of_file = asm_job(rt.alloc(), &mut host, Form::Decimal, named(&rt, "-"));
+    let of_input = asm_job(rt.alloc(), &mut host, Form::Decimal, None);
+    assert!(rt; of_file.is_ok() && of_input.is_ok());
+    let opened = Done::Opened(copied(&rt, b"-"));
+    let file = Done::Printed(copied(&rt, ARP_WORDS));
+    let input = Done::Printed(copied(&rt, b"1,6 0 0 0,\n"));
+    assert!(rt; host.log.as_slice() == [opened, file, input].as_slice());
+}
+
+/// Assembles the standard input with this refusal of an output, which fails.
+fn assert_fault<A: Allocator + Copy, B: Allocator + Copy>(
+    rt: &(impl Abort + AllocGlobal),
+    job: A,
+    output: B,
+    refusal: Option<CreateFault>,
+    wanted: ToolFault,
+) {
+    let mut host = machine(rt, output);
+    host.refusal = refusal;
+    let outcome = asm_job(job, &mut host, Form::Decimal, None);
+    assert!(rt; status_of(&outcome) == ExitCode::FAILURE);
+    assert!(rt; matches!(&outcome, Err(Failure::Tool(fault)) if *fault == wanted));
+}
+
+#[test]
+fn a_fault_of_memory_or_of_writing_is_no_success(rt: HostRuntime) {
+    let alloc = rt.alloc();
+    let job = RefusingAllocator::refusing(alloc, 1);
+    assert_fault(&rt, &job, alloc, None, ToolFault::Memory);
+    let output = RefusingAllocator::refusing(alloc, 1);
+    assert_fault(&rt, alloc, &output, None, ToolFault::Write);
+    let refusal = Some(CreateFault::Memory);
+    assert_fault(&rt, alloc, alloc, refusal, ToolFault::Memory);
+}
