@@ -3,8 +3,9 @@
 
 all.py [--times]: machine instructions, page faults, peak memory, and times by turns as ratios are written at any load
 of the machine, which the page names. Times alone are written only where the load is below 0.5 at first, or with
---times; else the page keeps those that it has. Peers that are missing are named and left out. Needs crates/cbpf built
-by `make build`; bench/README.md says what else is used.
+--times; else the page keeps those that it has. Peers that are missing are named and left out. Where a program answers
+something else than what is measured, its script says so, and page and picture stay as they were. Needs crates/cbpf
+built by `make build`; bench/README.md says what else is used.
 """
 import os
 import pathlib
@@ -13,6 +14,7 @@ import shutil
 import subprocess
 import sys
 import tempfile
+import time
 
 import session
 
@@ -22,12 +24,22 @@ QUIET = 0.5
 NUMBER = r"(-?[\d.,]+)"
 
 
+written = {}
+
+
 def lines_of(script, *words):
     """The lines that a script of this folder prints; they are printed here too."""
     print(f"-- {script} {' '.join(words)}".rstrip(), flush=True)
-    done = subprocess.run([sys.executable, BENCH / script, *words], stdout=subprocess.PIPE, text=True, check=True)
-    print(done.stdout, end="", flush=True)
-    return done.stdout.splitlines()
+    began = time.time()
+    lines = []
+    with subprocess.Popen([sys.executable, BENCH / script, *words], stdout=subprocess.PIPE, text=True) as running:
+        for line in running.stdout:
+            print(line, end="", flush=True)
+            lines.append(line.rstrip("\n"))
+    if running.returncode:
+        sys.exit(f"{script} ended with status {running.returncode}: {PAGE.name} and the picture stay as they were.")
+    print(f"-- {script}: {time.time() - began:.0f} s", flush=True)
+    return lines
 
 
 def table(head, rows):
@@ -41,11 +53,18 @@ def matched(pattern, lines):
 
 
 def put(name, lines):
-    """Writes lines between the markers of this name."""
-    begin, end = f"<!-- {name}, by bench/all.py -->\n", f"<!-- end of {name} -->\n"
-    before, rest = PAGE.read_text().split(begin)
-    _, after = rest.split(end)
-    PAGE.write_text(before + begin + "\n".join(["", *lines, "", ""]) + end + after)
+    """Keeps lines for the page, to stand between the markers of this name."""
+    written[name] = lines
+
+
+def write_page():
+    text = PAGE.read_text()
+    for name, lines in written.items():
+        begin, end = f"<!-- {name}, by bench/all.py -->\n", f"<!-- end of {name} -->\n"
+        before, rest = text.split(begin)
+        _, after = rest.split(end)
+        text = before + begin + "\n".join(["", *lines, "", ""]) + end + after
+    PAGE.write_text(text)
 
 
 def processes():
@@ -59,23 +78,47 @@ def processes():
     return table(head, rows)
 
 
-def counts():
-    pattern = rf"(.+): {NUMBER} machine instructions a packet, {NUMBER} times (.+) \({NUMBER}\)"
-    rows = matched(pattern, lines_of("session.py", "--callgrind"))
-    head = ["work", "machine instructions a packet", "beside", "which takes"]
-    return table(head, [(work, ours, f"{ratio} times {than}", theirs) for work, ours, ratio, than, theirs in rows])
+def counts(lines):
+    """Machine instructions, with what they stand beside where there is such."""
+    pattern = rf"(.+): {NUMBER} machine instructions (.+?)(?:, {NUMBER} times (.+) \({NUMBER}\))?"
+    for work, ours, unit, ratio, than, theirs in matched(pattern, lines):
+        yield work, f"{ours} {unit}", f"{ratio} times {than}" if ratio else "", theirs or ""
 
 
 def turns(lines):
     """Ratios of times that were measured by turns: of the medians, as others' work may spoil the least."""
     pattern = rf"(.+): .+, {NUMBER} times (.+) \(.+ of the least\)"
-    rows = [(work, than, ratio) for work, ratio, than in matched(pattern, lines)]
-    return table(["work", "beside", "ratio of the medians"], rows)
+    return [(work, than, ratio) for work, ratio, than in matched(pattern, lines)]
+
+
+def left_out(lines):
+    """What a script left out, in its own words."""
+    return [line.capitalize() + "." for line in lines if line.startswith("left out: ")]
+
+
+def loads(lines):
+    """What loads take, beside C programs."""
+    pattern = rf"(.+), packets of (\d+) bytes: .+ ms, {NUMBER} page faults, {NUMBER} MB, {NUMBER} % in the kernel, {NUMBER} times cbpf"
+    rows = [(size, work, *rest) for work, size, *rest in matched(pattern, lines)]
+    head = ["bytes of a packet", "work", "page faults", "peak memory in MB", "% in the kernel", "time as a ratio to `load pcap`'s"]
+    return table(head, rows) + [""] * bool(left_out(lines)) + left_out(lines)
+
+
+def beside_tcpdump(lines):
+    """Load and run as ratios to each of tcpdump's two ways, a column each."""
+    rows, peers = {}, []
+    for work, than, ratio in turns(lines):
+        if than not in peers:
+            peers.append(than)
+        rows.setdefault(work, {})[than] = ratio
+    head = ["work", *(f"ratio to `{peer.replace('tcpdump', 'tcpdump -r', 1)}`" for peer in peers)]
+    return table(head, [[work, *(each.get(peer, "") for peer in peers)] for work, each in rows.items()])
 
 
 def times(lines):
-    rows = [line.split(": ", 1) for line in lines + lines_of("debugger.py")]
-    return table(["work", "seen"], [(what, re.sub(r", [\d.]+ times .*", "", seen)) for what, seen in rows])
+    seen = [line.split(": ", 1) for line in lines if not line.startswith("left out: ")]
+    rows = [(what, re.sub(r", ([\d.]+ times|\d+ page faults).*", "", said)) for what, said in seen if ": " not in said]
+    return table(["work", "seen"], rows)
 
 
 def sources():
@@ -90,8 +133,8 @@ def sources():
     yield "sizes", table(["time in ms of growing sources", "0.01 MB", "0.1 MB", "1 MB", "10 MB"], growing)
 
 
-def growth(quiet):
-    words = [str(BENCH / "growth.svg")] + ([] if quiet else ["--callgrind"])
+def growth(quiet, picture):
+    words = [str(picture)] + ([] if quiet else ["--callgrind"])
     cost = "ms" if quiet else "machine instructions"
     rows = matched(rf"(.+), {NUMBER}: {NUMBER} {cost}, {NUMBER} MB", lines_of("growth.py", *words))
     return table(["work", "bytes or packets", "time in ms" if quiet else cost, "peak memory in MB"], rows)
@@ -106,24 +149,42 @@ def absent():
     return names
 
 
+def measure(said, quiet, missing, picture):
+    put("processes", [said, "", *processes()])
+    if "valgrind" not in missing:
+        scripts = ["session.py", "debugger.py", "loading.py"]
+        rows = [row for script in scripts for row in counts(lines_of(script, "--callgrind"))]
+        put("instructions", table(["work", "machine instructions", "beside", "which takes"], rows))
+    loading = lines_of("loading.py") if "cc" not in missing else []
+    if loading:
+        put("loads", [said, "", *loads(loading)])
+    if "tcpdump" not in missing and loading:
+        put("tcpdump", [said, "", *beside_tcpdump(loading)])
+    lines = lines_of("session.py") + lines_of("debugger.py")
+    put("ratios", [said, "", *table(["work", "beside", "ratio of the medians"], turns(lines))])
+    if "cc" not in missing and (quiet or "valgrind" not in missing):
+        put("growth", growth(quiet, picture))
+    if quiet:
+        put("times", [said, "", *times(loading + lines)])
+        for name, rows in sources():
+            put(name, rows)
+
+
 def main():
+    began = time.time()
     load = os.getloadavg()[0]
     quiet = load < QUIET or "--times" in sys.argv[1:]
     missing = absent()
     said = f"A load of {load:.1f} on {os.cpu_count()} processors at first."
     said += f" Missing: {', '.join(missing)}." if missing else ""
     print(said + ("" if quiet else " Times alone are left as they are."), flush=True)
-    put("processes", [said, "", *processes()])
-    if "valgrind" not in missing:
-        put("instructions", counts())
-    lines = lines_of("session.py")
-    put("ratios", [said, "", *turns(lines)])
-    if "cc" not in missing and (quiet or "valgrind" not in missing):
-        put("growth", growth(quiet))
-    if quiet:
-        put("times", [said, "", *times(lines)])
-        for name, rows in sources():
-            put(name, rows)
+    with tempfile.TemporaryDirectory() as folder:
+        picture = pathlib.Path(folder) / "growth.svg"
+        measure(said, quiet, missing, picture)
+        write_page()
+        if picture.exists():
+            shutil.copy(picture, BENCH / "growth.svg")
+    print(f"{time.time() - began:.0f} s in all", flush=True)
 
 
 if __name__ == "__main__":

@@ -2,7 +2,8 @@
 of growing size.
 
 User and system time of whole processes. Each run is followed by one of a source with a single instruction, whose
-time is taken away; of the differences the median is printed. The peak is the largest resident set of the process
+time is taken away; of the differences the median is printed. What the source is answered is looked at before it is timed
+(answers.py). The peak is the largest resident set of the process
 (`ru_maxrss`), which is never less than this script's own before it starts the program, some 12 MB; so sources are
 written in pieces. Needs crates/cbpf built by `make build`, or takes the program's path as its argument.
 """
@@ -13,24 +14,28 @@ import subprocess
 import sys
 import tempfile
 
+import answers
+
 top = pathlib.Path(__file__).resolve().parent.parent
 cbpf = sys.argv[1] if len(sys.argv) > 1 else str(top / "crates/cbpf/out/cbpf")
 
 LABELS = 2000
 
 
-def run(source):
-    """The seconds of user and system time of one run, and its peak memory in bytes."""
+def run(source, status):
+    """The seconds of user and system time of one run, which ends with this status, and its peak memory in bytes."""
     with open(os.devnull, "wb") as nowhere:
         process = subprocess.Popen([cbpf, "asm", str(source)], stdout=nowhere, stderr=nowhere)
-        _, _, used = os.wait4(process.pid, 0)
-        process.returncode = 0
+        _, ended, used = os.wait4(process.pid, 0)
+        process.returncode = os.waitstatus_to_exitcode(ended)
+    if process.returncode != status:
+        answers.fault(cbpf, f"status {process.returncode}, where {status} is wanted")
     return used.ru_utime + used.ru_stime, used.ru_maxrss * 1024
 
 
-def beyond_start(source, start, rounds):
+def beyond_start(source, start, rounds, status):
     """The median of the seconds that a source takes beyond the program's start, and the peak memory."""
-    pairs = [(run(source), run(start)) for _ in range(rounds)]
+    pairs = [(run(source, status), run(start, 0)) for _ in range(rounds)]
     spent = statistics.median(longer - least for (longer, _), (least, _) in pairs)
     return spent, max(peak for (_, peak), _ in pairs)
 
@@ -71,7 +76,11 @@ def colliding(count):
         program = pathlib.Path(name) / "colliding_names"
         subprocess.run(["cc", "-O2", "-o", program, top / "bench/colliding_names.c"], check=True)
         with subprocess.Popen([program, str(count)], stdout=subprocess.PIPE, text=True) as names:
-            yield from (line.rstrip() for line in names.stdout)
+            made = 0
+            for made, line in enumerate(names.stdout, 1):
+                answers.holds(program, len(line) == 9, "a name of eight letters", line)
+                yield line.rstrip()
+        answers.holds(program, made == count, f"{count} names", f"{made} names")
 
 
 def repeated(unit, size):
@@ -88,28 +97,39 @@ def around(begin, pieces, end):
     yield end
 
 
+# How the answers begin: words, or a refusal.
+ONE = "1,6 0 0 0,\n"
+MISPLACED = "cbpf: line 1: A4 "
 HOSTILE = [
-    ("`y` and newlines", repeated("y\n", 10**8), 5),
-    ("`ret #0`", repeated("ret #0\n", 21 * 10**6), 5),
-    ("`b:`", repeated("b:", 30 * 10**6), 5),
-    ("2000000 labels", labels(f"l{i}" for i in range(2 * 10**6)), 5),
-    ("32768 labels, plain", labels(plain(32768)), 20),
-    ("32768 labels whose names collide", labels(colliding(32768)), 20),
-    ("100000 labels, plain", labels(plain(100000)), 20),
-    ("100000 labels whose names collide", labels(colliding(100000)), 20),
+    ("`y` and newlines", repeated("y\n", 10**8), 3, "cbpf: line 2: A4 "),
+    ("`ret #0`", repeated("ret #0\n", 21 * 10**6), 3, "cbpf: line 4097: A10 "),
+    ("`b:`", repeated("b:", 30 * 10**6), 3, "cbpf: line 1: A5 "),
+    ("2000000 labels", labels(f"l{i}" for i in range(2 * 10**6)), 3, ONE),
+    ("32768 labels, plain", labels(plain(32768)), 11, ONE),
+    ("32768 labels whose names collide", labels(colliding(32768)), 11, ONE),
+    ("100000 labels, plain", labels(plain(100000)), 11, ONE),
+    ("100000 labels whose names collide", labels(colliding(100000)), 11, ONE),
 ]
 
+def instructions(size, line):
+    """The answer to so many bytes of `ret #0` and a blank or a line end, with instruction 4097 in this line."""
+    count = size // 7
+    return f"{count},6 0 0 0," if count <= 4096 else f"cbpf: line {line}: A10 "
+
+
 GROWING = [
-    ("one comment", lambda size: around("/*", repeated("*", size), "*/ ret #0\n")),
-    ("blanks", lambda size: around("", repeated(" ", size), "ret #0\n")),
-    ("lines of comment", lambda size: around("", repeated("; comment\n", size), "ret #0\n")),
-    ("one long line of misplaced numbers", lambda size: repeated("1 ", size)),
-    ("one long line of instructions", lambda size: repeated("ret #0 ", size)),
-    ("one long word", lambda size: around("", repeated("a", size), ": ret #0\n")),
-    ("labels", lambda size: labels(f"l{i:06}" for i in range(size // 9))),
-    ("labels whose names collide", lambda size: labels(colliding(size // 10))),
-    ("instructions", lambda size: repeated("ret #0\n", size)),
+    ("one comment", lambda size: around("/*", repeated("*", size), "*/ ret #0\n"), lambda size: ONE),
+    ("blanks", lambda size: around("", repeated(" ", size), "ret #0\n"), lambda size: ONE),
+    ("lines of comment", lambda size: around("", repeated("; comment\n", size), "ret #0\n"), lambda size: ONE),
+    ("one long line of misplaced numbers", lambda size: repeated("1 ", size), lambda size: MISPLACED),
+    ("one long line of instructions", lambda size: repeated("ret #0 ", size), lambda size: instructions(size, 1)),
+    ("one long word", lambda size: around("", repeated("a", size), ": ret #0\n"), lambda size: ONE),
+    ("labels", lambda size: labels(f"l{i:06}" for i in range(size // 9)), lambda size: ONE),
+    ("labels whose names collide", lambda size: labels(colliding(size // 10)), lambda size: ONE),
+    ("instructions", lambda size: repeated("ret #0\n", size), lambda size: instructions(size, 4097)),
 ]
+
+
 
 
 def main():
@@ -118,18 +138,21 @@ def main():
         start = pathlib.Path(name) / "start"
         write(start, ["ret #0\n"])
 
-        def row(what, pieces, rounds):
+        def row(what, pieces, rounds, wanted):
             write(path, pieces)
-            spent, peak = beyond_start(path, start, rounds)
+            refused = int(wanted.startswith("cbpf:"))
+            answer = answers.asked([cbpf, "asm", path], status=refused)[refused]
+            answers.holds(cbpf, answer.startswith(wanted), repr(wanted), answer)
+            spent, peak = beyond_start(path, start, rounds, refused)
             size = path.stat().st_size
             print(f"{what}, {size / 1e6:.2f} MB: {spent * 1e3:.2f} ms, {peak / 1e6:.1f} MB", flush=True)
 
-        row("4000 instructions with 2000 labels", [with_labels()], 200)
-        for what, pieces, rounds in HOSTILE:
-            row(what, pieces, rounds)
-        for what, pieces in GROWING:
-            for size, rounds in [(10**4, 200), (10**5, 100), (10**6, 20), (10**7, 5)]:
-                row(what, pieces(size), rounds)
+        row("4000 instructions with 2000 labels", [with_labels()], 51, "4000,40 0 0 0,21 0 2 0,")
+        for what, pieces, rounds, wanted in HOSTILE:
+            row(what, pieces, rounds, wanted)
+        for what, pieces, wanted in GROWING:
+            for size, rounds in [(10**4, 51), (10**5, 31), (10**6, 9), (10**7, 3)]:
+                row(what, pieces(size), rounds, wanted(size))
 
 
 if __name__ == "__main__":

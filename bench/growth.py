@@ -1,9 +1,10 @@
 """Measures how time and memory grow over three decades, and draws it: `asm` over sources of labels, and load with
 `run` over captures, beside tcpdump -r where it is on the PATH. The kernel's bpf_asm refuses such sources.
 
-growth.py PICTURE.svg [--callgrind]: the time is user and system time of whole processes, the median of 9, or with
+growth.py PICTURE.svg [--callgrind]: the time is user and system time of whole processes, the median of 7 turns, or with
 --callgrind their machine instructions by valgrind, which don't depend on the machine's load. The memory is the peak
-of the process. Needs cc and crates/cbpf built by `make build`. Its lines: what, size: time or instructions, peak in MB
+of the process. Each program's answer is looked at before it is measured (answers.py). Needs cc and crates/cbpf built
+by `make build`. Its lines: what, size: time or instructions, peak in MB
 """
 import math
 import pathlib
@@ -12,26 +13,31 @@ import statistics
 import sys
 import tempfile
 
+import answers
 import assembler
 import processes
 import session
 
 COUNTING = "--callgrind" in sys.argv[1:]
 STEPS = [1, 10, 100, 1000]
+ROUNDS = 7
 LABELS = 1000
 PACKETS = 1000
 COLORS = {"cbpf": "#1f6fb2", "tcpdump": "#c25b1e"}
 WIDTH, HEIGHT, LEFT, TOP, GAP = 300, 190, 60, 36, 90
 
 
-def spent(process, command):
-    """The time and the peak memory of a command."""
-    words = [str(word) for word in command]
-    rounds = [processes.used(process, words) for _ in range(9)]
-    peak = max(most for _, most, _ in rounds)
-    if COUNTING:
-        return session.counted(words, "/dev/null"), peak
-    return statistics.median(seconds for seconds, _, _ in rounds) * 1e3, peak
+def spent(process, *commands):
+    """The time and the peak memory of each command, by turns."""
+    each = [[str(word) for word in command] for command in commands]
+    rounds = [[processes.used(process, words) for words in each] for _ in range(1 if COUNTING else ROUNDS)]
+    for place, words in enumerate(each):
+        mine = [turn[place] for turn in rounds]
+        if COUNTING:
+            cost = session.counted(words)
+        else:
+            cost = statistics.median(used.seconds() for used in mine) * 1e3
+        yield cost, max(used.peak for used in mine)
 
 
 def assembled(folder, process):
@@ -40,7 +46,9 @@ def assembled(folder, process):
     points = []
     for step in STEPS:
         assembler.write(source, assembler.labels(f"l{i:07}" for i in range(LABELS * step)))
-        points.append((source.stat().st_size, *spent(process, [processes.cbpf, "asm", source])))
+        answer, _ = answers.asked([processes.cbpf, "asm", source])
+        answers.same(processes.cbpf, "1,6 0 0 0,\n", answer)
+        points += [(source.stat().st_size, *each) for each in spent(process, [processes.cbpf, "asm", source])]
     return {"cbpf": points}
 
 
@@ -51,12 +59,16 @@ def run(folder, process):
     if shutil.which("tcpdump"):
         points["tcpdump"] = []
     for step in STEPS:
-        file = session.capture(folder / "packets", PACKETS * step)
+        packets = PACKETS * step
+        file = session.capture(folder / "packets", packets)
         script.write_text(f"load bpf {session.SIX}\nload pcap {file}\nrun\n")
-        points["cbpf"].append((PACKETS * step, *spent(process, [processes.cbpf, "dbg", script])))
+        passes = answers.counts(processes.cbpf, script, packets)
+        commands = [[processes.cbpf, "dbg", script]]
         if "tcpdump" in points:
-            reading = ["tcpdump", "-q", "-r", file, "-w", "/dev/null", "ip proto 17"]
-            points["tcpdump"].append((PACKETS * step, *spent(process, reading)))
+            answers.read_by_tcpdump(file, "ip proto 17", passes, 16 + len(session.FRAME))
+            commands.append(["tcpdump", "-q", "-r", file, "--count", "ip proto 17"])
+        for name, each in zip(points, spent(process, *commands)):
+            points[name].append((packets, *each))
     return points
 
 

@@ -1,6 +1,6 @@
 /* process INPUT COMMAND..: runs a command over a file as its input, without its output, and prints the microseconds of
- * user and system time that it took, its peak memory in KiB and its page faults. Linux counts the memory of whoever
- * starts a process as that process's own, so this is a small program; vfork copies none of it. */
+ * user and of system time that it took, its peak memory in KiB, its page faults and its exit status. Linux counts the
+ * memory of whoever starts a process as that process's own, so this is a small program; vfork copies none of it. */
 #include <fcntl.h>
 #include <stdio.h>
 #include <sys/resource.h>
@@ -25,7 +25,8 @@ int main(int count, char **words) {
     int status;
     struct rusage used;
     if (wait4(child, &status, 0, &used) < 0 || !WIFEXITED(status) || WEXITSTATUS(status) == 127) return 2;
-    long micros = (used.ru_utime.tv_sec + used.ru_stime.tv_sec) * 1000000L + used.ru_utime.tv_usec + used.ru_stime.tv_usec;
-    printf("%ld %ld %ld\n", micros, used.ru_maxrss, used.ru_minflt);
+    long user = used.ru_utime.tv_sec * 1000000L + used.ru_utime.tv_usec;
+    long system = used.ru_stime.tv_sec * 1000000L + used.ru_stime.tv_usec;
+    printf("%ld %ld %ld %ld %d\n", user, system, used.ru_maxrss, used.ru_minflt, WEXITSTATUS(status));
     return 0;
 }

@@ -2,17 +2,19 @@
 
 Machine instructions by valgrind, page faults and peak memory don't depend on the machine's load. Times are compared
 by turns, as ratios. Peers are an empty C program, the kernel's bpf_asm and tcpdump; what is missing is left out, and
-without cc or valgrind so are the columns that need it. Needs crates/cbpf built by `make build`.
+without cc or valgrind so are the columns that need it. Each program's answer is looked at before it is measured
+(answers.py). Needs crates/cbpf built by `make build`.
 
 Its lines: what: instructions, page faults, peak memory in MB, ratio of the times to cbpf's in the row before
 """
+import dataclasses
 import pathlib
-import re
 import shutil
 import statistics
 import subprocess
 import tempfile
 
+import answers
 import assembler
 import session
 
@@ -37,11 +39,26 @@ def compiled(folder, name, text=None):
     return folder / name
 
 
-def used(process, command, script="/dev/null"):
-    """The seconds, the bytes at most and the page faults of a process."""
-    done = subprocess.run([process, script, *command], capture_output=True, text=True, check=True)
-    micros, kilobytes, faults = map(int, done.stdout.split())
-    return micros / 1e6, kilobytes * 1024, faults
+@dataclasses.dataclass
+class Used:
+    """What a process took: seconds of its own and of the kernel's for it, bytes at most, page faults."""
+
+    user: float
+    system: float
+    peak: int
+    faults: int
+
+    def seconds(self):
+        return self.user + self.system
+
+
+def used(process, command, script="/dev/null", env=None):
+    words = [str(word) for word in command]
+    answer, _ = answers.asked([process, script, *words], env=env)
+    user, system, kilobytes, faults, status = map(int, answer.split())
+    if status:
+        answers.fault(words[0], f"status {status} of {' '.join(words)}")
+    return Used(user / 1e6, system / 1e6, kilobytes * 1024, faults)
 
 
 def instructions(command, script="/dev/null"):
@@ -49,22 +66,44 @@ def instructions(command, script="/dev/null"):
     return session.counted(command, script) if shutil.which("valgrind") else None
 
 
+def assembled(source, count):
+    """The commands that assemble a source of so many instructions, whose words are the same by both."""
+    ours, _ = answers.asked([cbpf, "asm", source])
+    answers.holds(cbpf, ours.startswith(f"{count},") and ours.count(",") == count + 1, f"{count} instructions", ours)
+    commands = [("`cbpf asm`", [cbpf, "asm", source])]
+    if shutil.which("bpf_asm"):
+        theirs, _ = answers.asked(["bpf_asm", source])
+        answers.same("bpf_asm", ours.replace(",", "\n"), theirs.replace(",", "\n"))
+        commands.append(("`bpf_asm`", ["bpf_asm", source]))
+    return commands
+
+
+def loaded(folder):
+    """The commands that read 100,000 packets and filter them."""
+    packets, script = session.capture(folder / "packets", PACKETS), folder / "script"
+    script.write_text(f"load bpf {session.SIX}\nload pcap {packets}\nrun\n")
+    passes = answers.counts(cbpf, script, PACKETS)
+    yield "load and `run` of 100,000 packets of 64 bytes, `ip proto 17`", [cbpf, "dbg", script]
+    if shutil.which("tcpdump"):
+        answers.read_by_tcpdump(packets, "ip proto 17", passes, 16 + len(session.FRAME))
+        for what, words in [("--count", ["--count"]), ("-w /dev/null", ["-w", "/dev/null"])]:
+            yield f"`tcpdump -r {what}` with that filter", ["tcpdump", "-q", "-r", packets, *words, "ip proto 17"]
+
+
 def works(folder):
     """Each work with the commands that do it: cbpf first."""
-    ten, large, script = folder / "ten", folder / "large", folder / "script"
+    ten, large = folder / "ten", folder / "large"
     ten.write_text(TEN)
     large.write_text(assembler.with_labels())
-    packets = session.capture(folder / "packets", PACKETS)
-    script.write_text(f"load bpf {session.SIX}\nload pcap {packets}\nrun\n")
     empty = compiled(folder, "empty", "int main(void) { return 0; }\n")
     start = [("`cbpf`, an empty script", [cbpf]), ("`cbpf dbg`, an empty script", [cbpf, "dbg"])]
-    yield start + ([("an empty C program", [empty])] if empty else [])
-    for what, source in [("of 10 instructions", ten), ("of 4000 instructions with 2000 labels", large)]:
-        theirs = [(f"`bpf_asm` {what}", ["bpf_asm", source])] if shutil.which("bpf_asm") else []
-        yield [(f"`cbpf asm` {what}", [cbpf, "asm", source])] + theirs
-    reading = ["tcpdump", "-q", "-r", packets, "-w", "/dev/null", "ip proto 17"]
-    theirs = [("`tcpdump -r` with that filter", reading)] if shutil.which("tcpdump") else []
-    yield [("load and `run` of 100,000 packets of 64 bytes, `ip proto 17`", [cbpf, "dbg", script])] + theirs
+    start += [("an empty C program", [empty])] if empty else []
+    for _, command in start:
+        answers.same(command[0], "", answers.asked(command)[0])
+    yield start
+    for what, source, count in [("of 10 instructions", ten, 10), ("of 4000 instructions with 2000 labels", large, 4000)]:
+        yield [(f"{who} {what}", command) for who, command in assembled(source, count)]
+    yield list(loaded(folder))
 
 
 def print_work(process, commands):
@@ -77,10 +116,10 @@ def print_work(process, commands):
             parts.append(f"{count:,} machine instructions")
         if rounds:
             mine = [each[place] for each in rounds]
-            parts.append(f"{statistics.median(faults for _, _, faults in mine):.0f} page faults")
-            parts.append(f"{max(peak for _, peak, _ in mine) / 1e6:.1f} MB")
+            parts.append(f"{statistics.median(each.faults for each in mine):.0f} page faults")
+            parts.append(f"{max(each.peak for each in mine) / 1e6:.1f} MB")
             if place:
-                ratio = statistics.median(each[place][0] / each[0][0] for each in rounds)
+                ratio = statistics.median(each[place].seconds() / each[0].seconds() for each in rounds)
                 parts.append(f"{ratio:.2f} times as long")
         print(f"{what}: " + ", ".join(parts), flush=True)
 

@@ -1,12 +1,12 @@
 """Times the debugger at work: runs over a capture, with breakpoints and values too, stops with their dumps, steps
 back, and short commands.
 
-User and system time of whole processes: the least of several, or medians where two are compared by turns. Where
-tcpdump is on the PATH, it reads the same capture; where cc and libpcap (libpcap-dev) are there, libpcap's
-bpf_filter runs over it. Wants crates/cbpf built by `make build`.
+User and system time of whole processes: the least of several, or medians where two are compared by turns. Where cc and
+libpcap (libpcap-dev) are there, libpcap's bpf_filter runs over the same capture. Each program's answer is looked at
+before it is timed (answers.py). Wants crates/cbpf built by `make build`.
 
-`session.py --callgrind` counts in their place the machine instructions of runs with breakpoints and values, by
-valgrind: one command more less the same script without it. These don't depend on the machine's load.
+`session.py --callgrind` counts in their place the machine instructions of the same works, by valgrind: one command
+more less the same script without it. These don't depend on the machine's load.
 """
 import dataclasses
 import os
@@ -20,14 +20,18 @@ import subprocess
 import sys
 import tempfile
 
+import answers
+
 top = pathlib.Path(__file__).resolve().parent.parent
 cbpf = top / "crates/cbpf/out/cbpf"
 
 PACKETS = 1_000_000
 STRAIGHT_PACKETS = 10_000
+ROUNDS = 7
 COMPARED_PACKETS = 200_000
 COUNTED_PACKETS = 1_000
 RESUMED_PACKETS = 100
+LISTED_PACKETS = 100_000
 # TCP over IPv4: a header of five words, no flags, ports of 0
 FRAME = bytes(12) + b"\x08\x00\x45" + bytes(8) + b"\x06" + bytes(40)
 # what `tcpdump -ddd` makes of `ip proto 17` and of `port 22`
@@ -55,7 +59,8 @@ LONG = "4096," + "7 0 0 0," * 4095 + "6 0 0 1"
 
 @dataclasses.dataclass
 class Comparison:
-    """A command after the lines `head`, and `beside`, or the same command, after the lines `base`."""
+    """A command after the lines `head`, and `beside`, or the same command, after the lines `base`. Its reply has a line
+    that begins with `reply` for each line of the command, and so has that of `beside`."""
 
     what: str
     head: str
@@ -63,40 +68,36 @@ class Comparison:
     base: str
     command: str
     beside: str = ""
+    reply: str = "bpf passes:"
+    replied_beside: str = "bpf passes:"
 
 
-def timed(command, script, rounds=5):
-    least = None
+def timed(command, script, rounds=5, env=None):
+    """The least seconds of user and system time of a command over this input."""
+    words, least = [str(word) for word in command], None
     for _ in range(rounds):
         before = resource.getrusage(resource.RUSAGE_CHILDREN)
-        subprocess.run(
-            [str(word) for word in command],
-            stdin=open(script),
-            stdout=subprocess.DEVNULL,
-            stderr=subprocess.DEVNULL,
-            check=True,
-        )
+        with open(script) as lines, open(os.devnull, "w") as nowhere:
+            done = subprocess.run(words, stdin=lines, stdout=nowhere, stderr=nowhere, env=env)
         after = resource.getrusage(resource.RUSAGE_CHILDREN)
+        if done.returncode:
+            answers.fault(words[0], f"status {done.returncode} of {' '.join(words)}")
         spent = after.ru_utime + after.ru_stime - before.ru_utime - before.ru_stime
         least = spent if least is None else min(least, spent)
     return least
 
 
-def counted(command, script):
+def counted(command, script="/dev/null", status=0):
     """The machine instructions of a process, whose start reads all of its environment: so it has little."""
-    done = subprocess.run(
-        ["valgrind", "--tool=callgrind", "--callgrind-out-file=/dev/null"] + [str(word) for word in command],
-        env={"PATH": os.environ["PATH"]},
-        stdin=open(script),
-        stdout=subprocess.DEVNULL,
-        stderr=subprocess.PIPE,
-        text=True,
-        check=True,
-    )
-    return int(re.search(r"Collected : (\d+)", done.stderr)[1])
+    valgrind = ["valgrind", "--tool=callgrind", "--callgrind-out-file=/dev/null"]
+    env = {name: os.environ[name] for name in ("PATH", "HOME") if name in os.environ}
+    _, said = answers.asked(valgrind + [str(word) for word in command], script, status, env=env)
+    found = re.search(r"Collected : (\d+)", said)
+    answers.holds("valgrind", found, "a count of instructions", said)
+    return int(found[1])
 
 
-def by_turns(ours, theirs, rounds=9):
+def by_turns(ours, theirs, rounds=ROUNDS):
     """The times of both, called in turns: their medians, and the ratios of the medians and of the least."""
     pairs = [(ours(), theirs()) for _ in range(rounds)]
     ours, theirs = zip(*pairs)
@@ -114,9 +115,16 @@ def bpf_filter(folder):
     return folder / "bpf_filter" if made.returncode == 0 else None
 
 
-def capture(path, packets):
-    record = struct.pack("<IIII", 1, 0, len(FRAME), len(FRAME)) + FRAME
-    path.write_bytes(struct.pack("<IHHIIII", 0xA1B2C3D4, 2, 4, 0, 0, 65535, 1) + record * packets)
+def capture(path, packets, frames=(FRAME,)):
+    """A capture of so many packets, which are these frames again and again."""
+    records = b"".join(struct.pack("<IIII", 1, 0, len(frame), len(frame)) + frame for frame in frames)
+    piece = max(1, 10**6 // len(records))
+    with open(path, "wb") as file:
+        file.write(struct.pack("<IHHIIII", 0xA1B2C3D4, 2, 4, 0, 0, 65535, 1))
+        left = packets // len(frames)
+        while left > 0:
+            file.write(records * min(piece, left))
+            left -= piece
     return path
 
 
@@ -136,6 +144,8 @@ def print_filter_alone(folder, libpcap, what, words, packets):
     file = capture(folder / "some", packets)
     (folder / "words").write_text(words.replace(",", "\n") + "\n")
     head = f"load bpf {words}\nload pcap {file}\n"
+    passes = answers.counts(cbpf, script(folder, head + "run\n"), packets)
+    answers.filtered(libpcap, [libpcap, folder / "words", 1, file], passes, packets)
 
     def runs(times):
         return timed([cbpf], script(folder, head + "run\n" * times), 1)
@@ -146,35 +156,44 @@ def print_filter_alone(folder, libpcap, what, words, packets):
     ours, theirs, ratio, least = by_turns(lambda: (runs(11) - runs(1)) / 10, lambda: (filters(11) - filters(1)) / 10)
     print(
         f"run alone, {what}: {ours / packets * 1e9:.0f} ns a packet, {ratio:.2f} times bpf_filter"
-        f" ({least:.2f} of the least)"
+        f" ({least:.2f} of the least)",
+        flush=True,
     )
 
 
-def print_runs(folder, large):
-    """Times loads, lists of no stops and runs, beside tcpdump and bpf_filter."""
-    empty = timed([cbpf], script(folder, "quit\n"))
-    loading = timed([cbpf], script(folder, f"load pcap {large}\n")) - empty
-    print(f"load pcap: {loading / PACKETS * 1e9:.0f} ns a packet of 64 bytes")
+def alone(folder):
+    """The programs that run beside bpf_filter, each with the number of its packets."""
+    yield "ip proto 17", SIX, PACKETS
+    yield "port 22", PORT, PACKETS
+    yield "35 instructions", FLAGS, PACKETS
+    for name, packets in [("arithmetic", PACKETS), ("straight", STRAIGHT_PACKETS)]:
+        yield name, ",".join(program(folder, name)), packets
+
+
+def print_runs(folder):
+    """Times runs beside bpf_filter."""
     libpcap = bpf_filter(folder)
-    for what, words in [("ip proto 17", SIX), ("port 22", PORT)]:
-        head = f"load bpf {words}\nload pcap {large}\n"
-        listed = timed([cbpf], script(folder, head + "stops\n"), 3) - empty
-        print(f"stops, {what}, none: {(listed - loading) / PACKETS * 1e9:.0f} ns a packet")
-        if shutil.which("tcpdump"):
-            ours, theirs, ratio, least = by_turns(
-                lambda: timed([cbpf], script(folder, head + "run\n"), 1),
-                lambda: timed(["tcpdump", "-q", "-r", large, "-w", "/dev/null", what], "/dev/null", 1),
-            )
-            print(
-                f"load and run, {what}: {ours / PACKETS * 1e9:.0f} ns a packet, {ratio:.2f} times tcpdump -r"
-                f" ({least:.2f} of the least)"
-            )
+    for what, words, packets in alone(folder) if libpcap else ():
+        print_filter_alone(folder, libpcap, what, words, packets)
+
+
+def print_counted_runs(folder):
+    """Counts the machine instructions of runs beside those of bpf_filter with its loop."""
+    libpcap = bpf_filter(folder)
+    for what, words, packets in alone(folder):
+        packets //= PACKETS // COUNTED_PACKETS
+        file = capture(folder / "some", packets)
+        head = f"load bpf {words}\nload pcap {file}\n"
+        passes = answers.counts(cbpf, script(folder, head + "run\n"), packets)
+        ours = instructions_alone(folder, head, "run") / packets
+        line = f"run alone, {what}: {ours:.1f} machine instructions a packet"
         if libpcap:
-            print_filter_alone(folder, libpcap, what, words, PACKETS)
-    if libpcap:
-        print_filter_alone(folder, libpcap, "35 instructions", FLAGS, PACKETS)
-        for name, packets in [("arithmetic", PACKETS), ("straight", STRAIGHT_PACKETS)]:
-            print_filter_alone(folder, libpcap, name, ",".join(program(folder, name)), packets)
+            (folder / "words").write_text(words.replace(",", "\n") + "\n")
+            answers.filtered(libpcap, [libpcap, folder / "words", 1, file], passes, packets)
+            twice, once = (counted([libpcap, folder / "words", times, file]) for times in (2, 1))
+            theirs = (twice - once) / packets
+            line += f", {ours / theirs:.2f} times bpf_filter ({theirs:.1f})"
+        print(line, flush=True)
 
 
 def comparisons(folder, file):
@@ -195,7 +214,9 @@ def comparisons(folder, file):
         with_condition = quiet + "breakpoint 1 a 1\n"
         never = "a breakpoint that is never reached"
         yield Comparison(f"run with {never}, {what}", with_breakpoint, "a run without", quiet, "run")
-        yield Comparison(f"stops with {never}, {what}", with_breakpoint, "a run without", quiet, "stops", "run")
+        yield Comparison(
+            f"stops with {never}, {what}", with_breakpoint, "a run without", quiet, "stops", "run", "stops: 0"
+        )
         yield Comparison(f"a step past the capture's end, {what}", quiet, "a run", quiet, "step 1000000000", "run")
         name = f"run with a condition that never holds, {what}"
         yield Comparison(name, with_condition, f"a run with {never}", with_breakpoint, "run")
@@ -211,26 +232,27 @@ def resumes(folder):
     words = ",".join(program(folder, "straight"))
     head = f"load bpf {words}\nload pcap {capture(folder / 'resumed', RESUMED_PACKETS)}\n"
     commands = "\n".join(f"resume {packet} 4096" for packet in range(1, RESUMED_PACKETS + 1))
-    return Comparison("resume at step 4096 of each packet, 4096 instructions", head, "a run", head, commands, "run")
+    what = "resume at step 4096 of each packet, 4096 instructions"
+    return Comparison(what, head, "a run", head, commands, "run", "at ")
 
 
-def goes_through(folder, head):
-    """Whether the debugger takes each of these lines, and a run after them meets nothing up to the capture's end."""
-    with open(script(folder, head + "run\n")) as lines:
-        done = subprocess.run([str(cbpf)], stdin=lines, capture_output=True, text=True, check=True)
-    replies = done.stdout.splitlines()
-    return replies[-1].startswith("bpf passes:") and not any(line.startswith("error:") for line in replies)
+def check(folder, compared):
+    """Looks whether each line is taken, and each command answers what its comparison says."""
+    for head, command, reply in [
+        (compared.head, compared.command, compared.reply),
+        (compared.base, compared.beside or compared.command, compared.replied_beside),
+    ]:
+        lines = len(command.splitlines())
+        answers.debugged(cbpf, script(folder, head + f"{command}\n"), (reply, lines), ("(breakpoint)", 0))
+        answers.debugged(cbpf, script(folder, head + "run\n"), ("bpf passes:", 1))
 
 
 def measurable(folder, packets):
-    """The comparisons over a capture of so many frames, and that of `resume`, each with the number of its packets;
-    those that don't hold what they say are named and left out."""
+    """The comparisons over a capture of so many frames, and that of `resume`, each with the number of its packets."""
     over_frames = [(compared, packets) for compared in comparisons(folder, capture(folder / "compared", packets))]
     for compared, count in over_frames + [(resumes(folder), RESUMED_PACKETS)]:
-        if goes_through(folder, compared.head):
-            yield compared, count
-        else:
-            print(f"{compared.what}: not measured, as a line is refused or a run stops")
+        check(folder, compared)
+        yield compared, count
 
 
 def seconds_alone(folder, head, command):
@@ -259,7 +281,8 @@ def print_compared(folder):
         )
         print(
             f"{compared.what}: {ours / packets * 1e9:.0f} ns a packet, {ratio:.2f} times {compared.than}"
-            f" ({least:.2f} of the least)"
+            f" ({least:.2f} of the least)",
+            flush=True,
         )
 
 
@@ -269,44 +292,53 @@ def print_counts(folder):
         theirs = instructions_alone(folder, compared.base, compared.beside or compared.command) / packets
         print(
             f"{compared.what}: {ours:.1f} machine instructions a packet, {ours / theirs:.2f} times {compared.than}"
-            f" ({theirs:.1f})"
+            f" ({theirs:.1f})",
+            flush=True,
         )
 
 
-def print_stops(folder, large):
-    """Times stops with their dumps, and lists of stops."""
-    head = f"load bpf {SIX}\nload pcap {large}\nbreakpoint 1\n"
-    base = timed([cbpf], script(folder, head), 3)
-    spent = timed([cbpf], script(folder, head + "run\n" * 10000), 3) - base
-    print(f"a stop with its dump: {spent / 10000 * 1e6:.2f} us")
-    spent = timed([cbpf], script(folder, head + "stops\n"), 3) - base
-    print(f"stops, one a packet: {spent / PACKETS * 1e9:.0f} ns a line")
+def singles(folder):
+    """Commands that stand beside no other: what, the lines before, the command, how often it is given, how the lines
+    that answer it begin and how many each time has, its unit, and how many units."""
+    large = capture(folder / "large", LISTED_PACKETS)
+    for what, words in [("ip proto 17", SIX), ("port 22", PORT)]:
+        head = f"load bpf {words}\nload pcap {large}\n"
+        yield f"stops, {what}, none", head, "stops", 10, "stops: 0", 1, "packet", LISTED_PACKETS
+    stopped = f"load bpf {SIX}\nload pcap {large}\nbreakpoint 1\n"
+    yield "stops, one a packet", stopped, "stops", 1, f"stops: {LISTED_PACKETS}", 1, "line", LISTED_PACKETS
+    yield "a stop with its dump", stopped, "run", 10000, "(breakpoint)", 1, "stop", 1
+    far = f"load bpf {LONG}\nload pcap {capture(folder / 'small', 2)}\nstep 4000\n"
+    yield "step -1 and step 1 at step 4000, with their dumps", far, "step -1\nstep 1", 5000, "-- packet 1,", 2, "pair", 1
+    yield "disassemble", far, "disassemble", 100, "l", 4096, "line", 4096
+    yield "mark", far, "mark", 100000, "1 4000", 1, "command", 1
 
 
-def print_steps(folder):
-    """Times steps back and short commands, far inside a packet."""
-    head = f"load bpf {LONG}\nload pcap {capture(folder / 'small', 2)}\nstep 4000\n"
-    base = timed([cbpf], script(folder, head), 3)
-    spent = timed([cbpf], script(folder, head + "step -1\nstep 1\n" * 5000), 3) - base
-    print(f"step -1 and step 1 at step 4000, with their dumps: {spent / 5000 * 1e6:.2f} us the two")
-    spent = timed([cbpf], script(folder, head + "disassemble\n" * 100), 3) - base
-    print(f"disassemble: {spent / 100 / 4096 * 1e9:.0f} ns a line")
-    spent = timed([cbpf], script(folder, head + "mark\n" * 100000), 3) - base
-    print(f"100,000 lines of mark: {spent:.3f} s")
+def print_singles(folder, counting):
+    for what, head, command, times, beginning, lines, unit, units in singles(folder):
+        before = answers.debugged(cbpf, script(folder, head)).splitlines()
+        wanted = sum(line.startswith(beginning) for line in before) + lines * times
+        answers.debugged(cbpf, script(folder, head + f"{command}\n" * times), (beginning, wanted))
+        if counting:
+            spent = instructions_alone(folder, head, command) / units
+            print(f"{what}: {spent:.1f} machine instructions a {unit}", flush=True)
+            continue
+        base = timed([cbpf], script(folder, head), 3)
+        spent = (timed([cbpf], script(folder, head + f"{command}\n" * times), 3) - base) / times / units
+        print(f"{what}: {spent * 1e9:.0f} ns a {unit}", flush=True)
 
 
 def main():
+    counting = "--callgrind" in sys.argv[1:]
     with tempfile.TemporaryDirectory() as name:
         folder = pathlib.Path(name)
         subprocess.run([sys.executable, top / "bench/programs.py", folder], check=True)
-        if "--callgrind" in sys.argv[1:]:
+        if counting:
+            print_counted_runs(folder)
             print_counts(folder)
         else:
-            large = capture(folder / "large", PACKETS)
-            print_runs(folder, large)
+            print_runs(folder)
             print_compared(folder)
-            print_stops(folder, large)
-            print_steps(folder)
+        print_singles(folder, counting)
 
 
 if __name__ == "__main__":
