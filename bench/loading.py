@@ -3,7 +3,7 @@ run beside tcpdump -r, which counts the packets that pass, or writes them to /de
 
 User and system time of whole processes, by turns: the ratios are of medians. The captures were just written, so the
 kernel has them in memory. `large pages` is GLIBC_TUNABLES=glibc.malloc.hugetlb=1, which the C programs get as well.
-glibc 2.36 takes it at some starts only: so a start without them, which its page faults tell, is made again. Each
+glibc 2.36 may take it at some starts only: so a start without them, which its page faults tell, is made again. Each
 program's answer is looked at before it is timed (answers.py). What is missing is left out, and so is the capture of
 1 GB where disk or memory have no room for it, which a line says. Needs cc, and crates/cbpf built by `make build`.
 
