@@ -93,12 +93,12 @@ def turns(lines):
 
 def left_out(lines):
     """What a script left out, in its own words."""
-    return [line.capitalize() + "." for line in lines if line.startswith("left out: ")]
+    return [f"L{line[1:]}." for line in dict.fromkeys(lines) if line.startswith("left out: ")]
 
 
 def loads(lines):
     """What loads take, beside C programs."""
-    pattern = rf"(.+), packets of (\d+) bytes: .+ ms, {NUMBER} page faults, {NUMBER} MB, {NUMBER} % in the kernel, {NUMBER} times cbpf"
+    pattern = rf"(.+), packets of (\d+) bytes: .+ ms, {NUMBER} page faults, {NUMBER} MB, {NUMBER} % in the kernel, {NUMBER} times load pcap"
     rows = [(size, work, *rest) for work, size, *rest in matched(pattern, lines)]
     head = ["bytes of a packet", "work", "page faults", "peak memory in MB", "% in the kernel", "time as a ratio to `load pcap`'s"]
     return table(head, rows) + [""] * bool(left_out(lines)) + left_out(lines)
@@ -117,7 +117,7 @@ def beside_tcpdump(lines):
 
 def times(lines):
     seen = [line.split(": ", 1) for line in lines if not line.startswith("left out: ")]
-    rows = [(what, re.sub(r", ([\d.]+ times|\d+ page faults).*", "", said)) for what, said in seen if ": " not in said]
+    rows = [(what, re.sub(r", ([\d.]+ times|\d+ page faults).*", "", said)) for what, said in seen]
     return table(["work", "seen"], rows)
 
 

@@ -90,18 +90,18 @@ def take_turns(process, works, file, rounds):
 
 
 def floors(folder, file, packets, size):
-    """Each load with what it takes: by cbpf, and by the C program."""
+    """A load by cbpf, and the least that a C program takes for the same bytes."""
     script = session.script(folder, f"load pcap {file}\n")
     reading = processes.compiled(folder, "reading")
     reply = f"pcap: {packets} packets\n"
-    yield Work("cbpf: load pcap", [cbpf, "dbg", script], reply=reply)
-    yield Work("cbpf: load pcap, large pages", [cbpf, "dbg", script], True, reply)
+    yield Work("load pcap", [cbpf, "dbg", script], reply=reply)
+    yield Work("load pcap, large pages", [cbpf, "dbg", script], True, reply)
     counted, alone = (f"bytes:{size_of(packets, size)} records:{count}\n" for count in (packets, 0))
-    for what, way in [("zeros, then a read", "zeroed"), ("reads without zeros", "plain")]:
-        yield Work(f"C: {what}", [reading, way, file], reply=alone)
-        yield Work(f"C: {what}; its records", [reading, way, file, "records"], reply=counted)
-        yield Work(f"C: {what}; its records, large pages", [reading, way, file, "records"], True, counted)
-    yield Work("C: mmap; its records", [reading, "mapped", file, "records"], reply=counted)
+    for what, way in [("zeros and reads", "zeroed"), ("reads", "plain")]:
+        yield Work(f"C, {what}", [reading, way, file], reply=alone)
+        yield Work(f"C, {what}, the records", [reading, way, file, "records"], reply=counted)
+        yield Work(f"C, {what}, the records, large pages", [reading, way, file, "records"], True, counted)
+    yield Work("C, mmap, the records", [reading, "mapped", file, "records"], reply=counted)
 
 
 def print_loads(folder, process, file, packets, size):
@@ -116,7 +116,7 @@ def print_loads(folder, process, file, packets, size):
         print(
             f"{work.what}, packets of {size} bytes: {spent * 1e3:.1f} ms, {work.median(lambda used: used.faults):.0f} page"
             f" faults, {max(used.peak for used in work.turns) / 1e6:.1f} MB,"
-            f" {work.median(lambda used: used.system) / spent * 100:.0f} % in the kernel, {spent / base:.2f} times cbpf",
+            f" {work.median(lambda used: used.system) / spent * 100:.0f} % in the kernel, {spent / base:.2f} times load pcap",
             flush=True,
         )
 

@@ -9,6 +9,7 @@ Its lines: what: instructions, page faults, peak memory in MB, ratio of the time
 """
 import dataclasses
 import pathlib
+import re
 import shutil
 import statistics
 import subprocess
@@ -55,6 +56,7 @@ class Used:
 def used(process, command, script="/dev/null", env=None):
     words = [str(word) for word in command]
     answer, _ = answers.asked([process, script, *words], env=env)
+    answers.holds(process, re.fullmatch(r"(\d+ ){4}\d+\n", answer), "five numbers", answer)
     user, system, kilobytes, faults, status = map(int, answer.split())
     if status:
         answers.fault(words[0], f"status {status} of {' '.join(words)}")

@@ -9,6 +9,7 @@ before it is timed (answers.py). Wants crates/cbpf built by `make build`.
 more less the same script without it. These don't depend on the machine's load.
 """
 import dataclasses
+import functools
 import os
 import pathlib
 import re
@@ -25,8 +26,7 @@ import answers
 top = pathlib.Path(__file__).resolve().parent.parent
 cbpf = top / "crates/cbpf/out/cbpf"
 
-PACKETS = 1_000_000
-STRAIGHT_PACKETS = 10_000
+STRAIGHT_PACKETS = 3_000
 ROUNDS = 7
 COMPARED_PACKETS = 200_000
 COUNTED_PACKETS = 1_000
@@ -163,10 +163,10 @@ def print_filter_alone(folder, libpcap, what, words, packets):
 
 def alone(folder):
     """The programs that run beside bpf_filter, each with the number of its packets."""
-    yield "ip proto 17", SIX, PACKETS
-    yield "port 22", PORT, PACKETS
-    yield "35 instructions", FLAGS, PACKETS
-    for name, packets in [("arithmetic", PACKETS), ("straight", STRAIGHT_PACKETS)]:
+    yield "ip proto 17", SIX, COMPARED_PACKETS
+    yield "port 22", PORT, COMPARED_PACKETS
+    yield "35 instructions", FLAGS, COMPARED_PACKETS
+    for name, packets in [("arithmetic", COMPARED_PACKETS), ("straight", STRAIGHT_PACKETS)]:
         yield name, ",".join(program(folder, name)), packets
 
 
@@ -181,7 +181,7 @@ def print_counted_runs(folder):
     """Counts the machine instructions of runs beside those of bpf_filter with its loop."""
     libpcap = bpf_filter(folder)
     for what, words, packets in alone(folder):
-        packets //= PACKETS // COUNTED_PACKETS
+        packets //= COMPARED_PACKETS // COUNTED_PACKETS
         file = capture(folder / "some", packets)
         head = f"load bpf {words}\nload pcap {file}\n"
         passes = answers.counts(cbpf, script(folder, head + "run\n"), packets)
@@ -264,6 +264,7 @@ def seconds_alone(folder, head, command):
     return (taken(11) - taken(1)) / 10
 
 
+@functools.cache
 def instructions_alone(folder, head, command):
     """The machine instructions of a command without the lines before it, and without what its first time costs more."""
 
@@ -297,15 +298,15 @@ def print_counts(folder):
         )
 
 
-def singles(folder):
+def singles(folder, packets):
     """Commands that stand beside no other: what, the lines before, the command, how often it is given, how the lines
     that answer it begin and how many each time has, its unit, and how many units."""
-    large = capture(folder / "large", LISTED_PACKETS)
+    large = capture(folder / "large", packets)
     for what, words in [("ip proto 17", SIX), ("port 22", PORT)]:
         head = f"load bpf {words}\nload pcap {large}\n"
-        yield f"stops, {what}, none", head, "stops", 10, "stops: 0", 1, "packet", LISTED_PACKETS
+        yield f"stops, {what}, none", head, "stops", 10, "stops: 0", 1, "packet", packets
     stopped = f"load bpf {SIX}\nload pcap {large}\nbreakpoint 1\n"
-    yield "stops, one a packet", stopped, "stops", 1, f"stops: {LISTED_PACKETS}", 1, "line", LISTED_PACKETS
+    yield "stops, one a packet", stopped, "stops", 1, f"stops: {packets}", 1, "line", packets
     yield "a stop with its dump", stopped, "run", 10000, "(breakpoint)", 1, "stop", 1
     far = f"load bpf {LONG}\nload pcap {capture(folder / 'small', 2)}\nstep 4000\n"
     yield "step -1 and step 1 at step 4000, with their dumps", far, "step -1\nstep 1", 5000, "-- packet 1,", 2, "pair", 1
@@ -314,7 +315,10 @@ def singles(folder):
 
 
 def print_singles(folder, counting):
-    for what, head, command, times, beginning, lines, unit, units in singles(folder):
+    packets = COUNTED_PACKETS if counting else LISTED_PACKETS
+    for what, head, command, times, beginning, lines, unit, units in singles(folder, packets):
+        if counting:
+            times = 1
         before = answers.debugged(cbpf, script(folder, head)).splitlines()
         wanted = sum(line.startswith(beginning) for line in before) + lines * times
         answers.debugged(cbpf, script(folder, head + f"{command}\n" * times), (beginning, wanted))
