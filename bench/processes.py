@@ -5,7 +5,7 @@ by turns, as ratios. Peers are an empty C program, the kernel's bpf_asm and tcpd
 without cc or valgrind so are the columns that need it. Each program's answer is looked at before it is measured
 (answers.py). Needs crates/cbpf built by `make build`.
 
-Its lines: what: instructions, page faults, peak memory in MB, ratio of the times to cbpf's in the row before
+Its lines: what: instructions, page faults, peak memory in MB, ratio of the times to those of cbpf's line above
 """
 import dataclasses
 import pathlib
