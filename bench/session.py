@@ -27,7 +27,9 @@ top = pathlib.Path(__file__).resolve().parent.parent
 cbpf = top / "crates/cbpf/out/cbpf"
 
 STRAIGHT_PACKETS = 3_000
+# How many turns two works take, and how often a command is given beyond its first time.
 ROUNDS = 7
+TIMES = 5
 COMPARED_PACKETS = 200_000
 COUNTED_PACKETS = 1_000
 RESUMED_PACKETS = 100
@@ -153,7 +155,9 @@ def print_filter_alone(folder, libpcap, what, words, packets):
     def filters(times):
         return timed([libpcap, folder / "words", times, file], "/dev/null", 1)
 
-    ours, theirs, ratio, least = by_turns(lambda: (runs(11) - runs(1)) / 10, lambda: (filters(11) - filters(1)) / 10)
+    ours, theirs, ratio, least = by_turns(
+        lambda: (runs(TIMES + 1) - runs(1)) / TIMES, lambda: (filters(TIMES + 1) - filters(1)) / TIMES
+    )
     print(
         f"run alone, {what}: {ours / packets * 1e9:.0f} ns a packet, {ratio:.2f} times bpf_filter"
         f" ({least:.2f} of the least)",
@@ -261,7 +265,7 @@ def seconds_alone(folder, head, command):
     def taken(times):
         return timed([cbpf], script(folder, head + f"{command}\n" * times), 1)
 
-    return (taken(11) - taken(1)) / 10
+    return (taken(TIMES + 1) - taken(1)) / TIMES
 
 
 @functools.cache
