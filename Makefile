@@ -1,12 +1,44 @@
 # `build`, `demo`, `try` and `check` need the Rattle toolchain's command `rt` on the PATH; these, `test` and `bench` need python3.
+# `install`, `uninstall` and `dist` need only common commands, and `dist` also strip.
 
 PREFIX ?= /usr/local
 DESTDIR ?=
+# Where `dist` puts its file.
+DIST ?= $(CURDIR)/out
+# As words of the environment they may hold any byte.
+export PREFIX DESTDIR
 PROGRAM = crates/cbpf/out/cbpf
 
-root = $(DESTDIR)$(PREFIX)
 
-.PHONY: help build built demo try test bench check install uninstall clean
+# The one place of the version, and that of its date.
+VERSION = $(shell sed -n 's/^const VERSION: &str = "\(.*\)";$$/\1/p' crates/cbpf_command_line/src/parse.rt)
+DATE = $(shell sed -n 's/^## $(VERSION), //p' CHANGES.md)
+PACKAGE = cbpf-$(VERSION)-x86_64-linux
+
+# What `install` puts into PREFIX, beside the program and its pages: a mode, a file, and its place.
+define FILES
+755 tools/cbpf-transcript bin/cbpf-transcript
+644 completion/cbpf.bash share/bash-completion/completions/cbpf
+644 completion/_cbpf share/zsh/site-functions/_cbpf
+644 completion/cbpf.fish share/fish/vendor_completions.d/cbpf.fish
+644 completion/cbpf.words share/cbpf/cbpf.words
+644 CHANGES.md share/doc/cbpf/CHANGES.md
+644 docs/REFERENCE.md share/doc/cbpf/REFERENCE.md
+644 docs/KERNEL_TOOLS.md share/doc/cbpf/KERNEL_TOOLS.md
+644 examples/arp.asm share/doc/cbpf/examples/arp.asm
+644 examples/arp.dbg share/doc/cbpf/examples/arp.dbg
+644 examples/icmp_sampling.asm share/doc/cbpf/examples/icmp_sampling.asm
+644 examples/ipv4_tcp.asm share/doc/cbpf/examples/ipv4_tcp.asm
+644 examples/mixed.pcap share/doc/cbpf/examples/mixed.pcap
+644 examples/port22.bpf share/doc/cbpf/examples/port22.bpf
+644 examples/port22.dbg share/doc/cbpf/examples/port22.dbg
+644 examples/two-packets.pcap share/doc/cbpf/examples/two-packets.pcap
+644 examples/two-packets.pcapng share/doc/cbpf/examples/two-packets.pcapng
+644 examples/vlan.asm share/doc/cbpf/examples/vlan.asm
+endef
+export FILES
+
+.PHONY: help build built unchanged rooted demo try test bench check install uninstall dist clean
 
 help: ## Lists the targets.
 	@grep -E '^[a-z]+:.*##' Makefile | sed -E 's/:.*## /\t/' | expand -t 12
@@ -43,22 +75,42 @@ check: ## The gate: proves all crates and their tests from nothing, tries the mu
 built:
 	@test -x "$(PROGRAM)" || { echo 'There is no $(PROGRAM): `make build` proves and builds it.' >&2; exit 1; }
 
-install: built ## Puts the program that is built, cbpf-transcript, the manual page, completion and words into PREFIX (/usr/local).
-	install -D -m 755 "$(PROGRAM)" "$(root)/bin/cbpf"
-	install -D -m 755 tools/cbpf-transcript "$(root)/bin/cbpf-transcript"
-	install -D -m 644 man/cbpf.1 "$(root)/share/man/man1/cbpf.1"
-	install -D -m 644 completion/cbpf.bash "$(root)/share/bash-completion/completions/cbpf"
-	install -D -m 644 completion/cbpf.words "$(root)/share/cbpf/cbpf.words"
+unchanged: built
+	@{ tools/sources; sha256sum < "$(PROGRAM)"; } | cmp -s - "$(PROGRAM).sources" || \
+		{ echo '$(PROGRAM) is not what the sources make: `make build` proves and builds it anew.' >&2; exit 1; }
+	@test -n "$(DATE)" || { echo 'CHANGES.md has no date for version $(VERSION).' >&2; exit 1; }
 
-# Folders that others may use stay; only below DESTDIR those that are empty go too.
-uninstall: ## Takes out of PREFIX what `install` put there.
-	rm -f "$(root)/bin/cbpf" "$(root)/bin/cbpf-transcript" "$(root)/share/man/man1/cbpf.1"
-	rm -f "$(root)/share/bash-completion/completions/cbpf" "$(root)/share/cbpf/cbpf.words"
-	@if test -d "$(root)/share/cbpf"; then rmdir --ignore-fail-on-non-empty "$(root)/share/cbpf"; fi
-	@if test -n "$(DESTDIR)"; then for folder in bin share/man/man1 share/bash-completion/completions share; do \
-		if test -d "$(root)/$$folder"; then \
-			(cd "$(DESTDIR)" && rmdir -p --ignore-fail-on-non-empty "$(PREFIX:/%=%)/$$folder"); \
-		fi; done; fi
+rooted:
+	@case $$PREFIX in /*) ;; *) echo "PREFIX has to begin with a slash: $$PREFIX" >&2; exit 1;; esac
+
+install: unchanged rooted ## Puts the program that is built, cbpf-transcript, pages, completion, documents and examples into PREFIX (/usr/local).
+	@install -D -m 755 "$(PROGRAM)" "$$DESTDIR$$PREFIX/bin/cbpf"
+	@sed -e 's/^\.Dd .*/.Dd $(DATE)/' -e 's/^\.Os .*/.Os cbpf $(VERSION)/' man/cbpf.1 | \
+		install -D -m 644 /dev/stdin "$$DESTDIR$$PREFIX/share/man/man1/cbpf.1"
+	@echo .so man1/cbpf.1 | install -D -m 644 /dev/stdin "$$DESTDIR$$PREFIX/share/man/man1/cbpf-transcript.1"
+	@echo "$$FILES" | while read -r mode file place; do \
+		install -D -m "$$mode" "$$file" "$$DESTDIR$$PREFIX/$$place" || exit; done
+	@echo "cbpf $(VERSION) is installed below $$DESTDIR$$PREFIX; its documents are in share/doc/cbpf there."
+
+# Folders that others may use stay.
+uninstall: rooted ## Takes out of PREFIX what `install` put there.
+	@for place in bin/cbpf share/man/man1/cbpf.1 share/man/man1/cbpf-transcript.1; do \
+		rm -f "$$DESTDIR$$PREFIX/$$place" || exit; done
+	@echo "$$FILES" | while read -r mode file place; do rm -f "$$DESTDIR$$PREFIX/$$place" || exit; done
+	@for folder in share/cbpf share/doc/cbpf/examples share/doc/cbpf; do \
+		test ! -d "$$DESTDIR$$PREFIX/$$folder" || rmdir --ignore-fail-on-non-empty "$$DESTDIR$$PREFIX/$$folder"; done
+
+dist: unchanged ## Makes out/cbpf-VERSION-x86_64-linux.tar.gz: what `install` puts, the program stripped, with a script that installs it.
+	@rm -rf "$(DIST)/$(PACKAGE)" "$(DIST)/$(PACKAGE).tar.gz"
+	@$(MAKE) -s --no-print-directory install DESTDIR="$(DIST)/$(PACKAGE)" PREFIX=/ > /dev/null
+	@strip -R .comment "$(DIST)/$(PACKAGE)/bin/cbpf"
+	@install -m 755 tools/package/install "$(DIST)/$(PACKAGE)/install"
+	@install -m 644 tools/package/README "$(DIST)/$(PACKAGE)/README"
+	@cd "$(DIST)/$(PACKAGE)" && find * -type f | LC_ALL=C sort | xargs sha256sum > ../SHA256SUMS && mv ../SHA256SUMS .
+	@cd "$(DIST)" && chmod -R u=rwX,go=rX "$(PACKAGE)" && tar --sort=name --format=ustar --owner=0 --group=0 \
+		--numeric-owner --mtime='$(DATE) 00:00 UTC' -c "$(PACKAGE)" | gzip -9n > "$(PACKAGE).tar.gz"
+	@rm -rf "$(DIST)/$(PACKAGE)"
+	@echo '$(PACKAGE).tar.gz is in $(DIST)'
 
 clean: ## Removes what was built and what the checks kept.
-	rm -rf crates/*/out
+	rm -rf crates/*/out out

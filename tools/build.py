@@ -1,6 +1,7 @@
 #!/usr/bin/env python3
 """Proves and builds the program by `rt run`, and says which crate is at work."""
 
+import hashlib
 import re
 import shutil
 import subprocess
@@ -12,6 +13,18 @@ ROOT = Path(__file__).resolve().parent.parent
 PROGRAM = "cbpf"
 BEFOREHAND = """This proves what isn't proved yet, and builds the program: ten to thirty minutes on four processors
 from nothing, and after `make check`, which keeps no proofs; after a change a few."""
+
+
+def sources():
+    """A checksum of what the program is built from."""
+    return subprocess.run([ROOT / "tools" / "sources"], stdout=subprocess.PIPE, check=True, text=True).stdout
+
+
+def record(built_from):
+    """Notes what the program was built from, as `make install` wants to know."""
+    program = ROOT / "crates" / PROGRAM / "out" / PROGRAM
+    own = hashlib.sha256(program.read_bytes()).hexdigest()
+    (program.parent / f"{PROGRAM}.sources").write_text(f"{built_from}{own}  -\n")
 
 
 def order(libraries, name, done):
@@ -31,6 +44,7 @@ def main():
     libraries = {head.split()[0]: tail.split() for head, tail in rows}
     crates = order(libraries, PROGRAM, [])
     print(BEFOREHAND, flush=True)
+    built_from = sources()
     began = time.time()
     output = []
     with subprocess.Popen(
@@ -55,6 +69,7 @@ def main():
     if rt.returncode:
         sys.stderr.writelines(output[-60:])
         sys.exit(1)
+    record(built_from)
     print(f"proved: {len(crates)} crates; the program is crates/{PROGRAM}/out/{PROGRAM}")
 
 

@@ -13,6 +13,8 @@ import sys
 import time
 from pathlib import Path
 
+from build import record, sources
+
 ROOT = Path(__file__).resolve().parent.parent
 STEP = re.compile(r"rt: (\w+)(: its tests are)? (proved|NOT PROVED|ran)|rt: (\w+): trying its must-fail edits")
 
@@ -24,6 +26,7 @@ def main():
     crates = sum(1 for line in lines if re.match(r"\w", line))
     edits = sum(1 for _ in ROOT.glob("crates/*/must-fail/*.edit"))
     print(f"{crates} crates to prove, then their tests, and {edits} must-fail edits to refuse.", flush=True)
+    built_from = sources()
     began = time.time()
     with subprocess.Popen(
         ["rt", "ci"],
@@ -39,6 +42,8 @@ def main():
             minutes, seconds = divmod(int(time.time() - began), 60)
             passed = f"[{minutes}:{seconds:02}] " if STEP.match(line) else ""
             print(passed + line, end="", flush=True)
+    if not rt.returncode:
+        record(built_from)
     sys.exit(rt.returncode)
 
 
