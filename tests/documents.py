@@ -21,10 +21,19 @@ import shutil
 import subprocess
 import sys
 import tempfile
+from functools import cache
 from pathlib import Path
 
 TOP = Path(__file__).resolve().parent.parent
-TOOLS = "tcpdump rlwrap gzip grep head tail yes tr seq"
+TOOLS = "tcpdump rlwrap gzip grep head tail yes tr seq sed awk xargs mkfifo diff timeout cpp cc ss tc unshare setpriv bwrap"
+# What some need beside being there: headers, or rights that a user may not have.
+TRIALS = {
+    "cpp": "echo | cpp -imacros linux/if_ether.h",
+    "cc": "echo '#include <linux/filter.h>' | cc -x c -c -o /dev/null -",
+    "unshare": "unshare -n true",
+    "setpriv": "setpriv --reuid=nobody --regid=nogroup --clear-groups true",
+    "bwrap": "bwrap --unshare-all --ro-bind / / true",
+}
 REQUIRED = [TOP / "README.md", TOP / "docs/REFERENCE.md", TOP / "man/cbpf.1"]
 SECONDS = 60
 SESSION = re.compile(r"(rlwrap .*)?cbpf( dbg)?|.*\bcat\) \| (rlwrap .*)?cbpf( dbg)?")
@@ -106,9 +115,18 @@ def difference(command, lines, folder, program):
     return None if fits(got, lines) else f"wanted {lines}, got {got}"
 
 
+@cache
+def is_there(tool):
+    if not shutil.which(tool):
+        return False
+    trial = TRIALS.get(tool, "true")
+    return subprocess.run(trial, shell=True, capture_output=True, stdin=subprocess.DEVNULL).returncode == 0
+
+
 def missing_tool(command):
+    """The tool for want of which a command can't run: one of its own words, or of a command that made its file."""
     words = re.findall(r"\w+", command)
-    return next((tool for tool in TOOLS.split() if tool in words and not shutil.which(tool)), None)
+    return next((tool for tool in TOOLS.split() if tool in words and not is_there(tool)), None)
 
 
 def broken_links(path):
@@ -149,7 +167,10 @@ def main():
         with tempfile.TemporaryDirectory() as folder:
             program = Path(folder) / "bin"
             program.mkdir()
-            (program / "cbpf").symlink_to(Path(sys.argv[1]).resolve())
+            # Another user may run it, too.
+            os.chmod(folder, 0o755)
+            shutil.copy(sys.argv[1], program / "cbpf")
+            (program / "cbpf").chmod(0o755)
             copy = shutil.copytree(TOP / "examples", Path(folder) / "examples")
             for beside in ("completion", "tools"):
                 shutil.copytree(TOP / beside, Path(folder) / beside)
