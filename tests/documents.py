@@ -9,7 +9,8 @@ begins with `$ ` is a command, which `sh` runs in a copy of examples/, with comp
 document, with PROGRAM as `cbpf` on the PATH. The lines after it are what it prints, on standard output and standard error. Where
 the command takes the keyboard (`cbpf`, `cbpf dbg` or `.. cat) | cbpf`), they are a session: each line that is no reply
 is typed, and a block without a command goes on with it. A line `..` stands for any lines. A command whose tool is
-missing isn't run, and neither is its session.
+missing, or may not do what it has to, isn't run; neither are its session, the commands after it in its block, and those
+that name a file which it makes by `> `.
 Each relative link of the Markdown documents names a file that is there, and the arrows of docs/ARCHITECTURE.md lead
 from each crate to those below it by crates.txt, directly or not.
 The last line is `N passed, M failed`, and how many weren't run where there are such.
@@ -60,14 +61,14 @@ def blocks(path):
 
 
 def examples(path):
-    """The examples of a document: line number, command, and the lines after it."""
+    """The examples of a document: the line numbers of the block and the command, the command, and the lines after it."""
     found = []
     for start, lines in blocks(path):
         for number, line in enumerate(lines, start):
             if line.startswith("$ "):
-                found.append((number, line[2:], []))
+                found.append((start, number, line[2:], []))
             elif found:
-                found[-1][2].append(line)
+                found[-1][3].append(line)
     return found
 
 
@@ -124,7 +125,7 @@ def is_there(tool):
 
 
 def missing_tool(command):
-    """The tool for want of which a command can't run: one of its own words, or of a command that made its file."""
+    """The tool of a command that isn't there."""
     words = re.findall(r"\w+", command)
     return next((tool for tool in TOOLS.split() if tool in words and not is_there(tool)), None)
 
@@ -177,10 +178,15 @@ def main():
             found = examples(path)
             if path in REQUIRED and not found:
                 faults.append("no example")
-            for number, command, lines in found:
-                if tool := missing_tool(command):
+            # Files that were not made, and the last block that was not run to its end.
+            unmade, left = set(), None
+            for block, number, command, lines in found:
+                missing = missing_tool(command) or next(iter(unmade & set(re.findall(r"[\w.-]+", command))), None)
+                if missing or block == left:
+                    unmade |= set(re.findall(r"> ([\w.-]+)", command))
+                    left = block
                     not_run += 1
-                    print(f"not run {path.name}:{number}: no {tool}")
+                    print(f"not run {path.name}:{number}: no {missing or 'command before it'}")
                     continue
                 try:
                     fault = difference(command, lines, copy, program)
