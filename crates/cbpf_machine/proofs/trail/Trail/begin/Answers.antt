@@ -22,8 +22,14 @@ keep_unstored-requires g c =
     record {
       from_one = omega (arith, one);
       between = omega (arith, some, within, long, gap, c.if-len-first_gap.false, c.len.ensures.value);
-      few = omega (arith, one, some, within, few_entries (machine_of c.args.p.now c.args.values.now)
-          c.args.packet.bytes.now c.args.packet.wire c.len.ensures.sound);
+      few = omega (
+        arith,
+        one,
+        some,
+        within,
+        few_entries (machine_of c.args.p.now c.args.values.now)
+            c.args.packet.bytes.now c.args.packet.wire c.len.ensures.sound,
+      );
     }
 
 pub returns-in-Watched-clause-stands : goal.returns-in-Watched-clause-stands

@@ -61,8 +61,13 @@ keep-requires g c =
       from_one = omega (arith, one);
       some = c.pass_some_from_start-turns.ensures.some;
       near = omega (arith, few, gap);
-      few = omega (arith, one, on.3, few_entries (machine_of c.args.p.now c.args.values.now) c.args.bytes.now
-          c.args.wire c.len-few.ensures.sound);
+      few = omega (
+        arith,
+        one,
+        on.3,
+        few_entries (machine_of c.args.p.now c.args.values.now) c.args.bytes.now
+            c.args.wire c.len-few.ensures.sound,
+      );
     }
 
 pub has-requires-2 : goal.has-requires-2
@@ -158,8 +163,14 @@ overflow_add-result-in-Watched-2 g c =
     (rw last at on.2) begun in
     let within = slice_get_within (trace (machine_of c.args.p.now c.args.values.now) c.args.bytes.now c.args.wire)
     (g.Self.Trail.kept c.keep.new.self + c.in-Watched.more - 1) c.follow.new.s c.in-Watched.ensures.follows.2 in
-    omega (arith, one, kept.1, within, few_entries (machine_of c.args.p.now c.args.values.now) c.args.bytes.now
-    c.args.wire c.len-few.ensures.sound)
+    omega (
+      arith,
+      one,
+      kept.1,
+      within,
+      few_entries (machine_of c.args.p.now c.args.values.now) c.args.bytes.now
+          c.args.wire c.len-few.ensures.sound,
+    )
 
 pub returns-in-Watched-clause-follows : goal.returns-in-Watched-clause-follows
 returns-in-Watched-clause-follows g c =
@@ -183,8 +194,11 @@ returns-in-Watched-clause-follows g c =
     rw all at (follows_begun c.args.watched.now (trace (machine_of c.args.p.now c.args.values.now) c.args.bytes.now
     c.args.wire)
     (outcome (machine_of c.args.p.now c.args.values.now) c.args.bytes.now c.args.wire) (g.Self.Trail.kept
-    c.keep.new.self) c.in-Watched.more c.args.s.now c.pass_some_from_start-turns.new.s c.follow.new.s (omega (arith,
-    one, kept.1)) (rw now at on.0) (rw now at on.2)
+    c.keep.new.self) c.in-Watched.more c.args.s.now c.pass_some_from_start-turns.new.s c.follow.new.s (omega (
+      arith,
+      one,
+      kept.1,
+    )) (rw now at on.0) (rw now at on.2)
     (rw (← c.index.ensures) (sym c.has-2.ensures ∙ c.if-has-2.false)) c.in-Watched.ensures.follows)
 
 pub returns-in-Watched-clause-stands : goal.returns-in-Watched-clause-stands
