@@ -48,6 +48,9 @@ CODE_SPAN = re.compile(r"(?<!`)`([^`]+)`(?!`)")
 IDENTIFIER = re.compile(r"[A-Za-z_]\w*")
 SHOWN_BY = re.compile(r"(test|case|edit|script) ([\w:/.]+)((?: `[^`]+`)*)")
 FUNCTION = re.compile(r"\bfn (\w+)")
+# A goal of a row of must-fail/README.md, and one that has an answer.
+GOAL = re.compile(r"(?<!answer of )`([a-z]\w*(?:-\w+)+)`")
+ANSWER = re.compile(r"^pub ([\w-]+) : goal\.", re.M)
 
 faults = []
 names = 0
@@ -362,6 +365,13 @@ def check_edit(path, crate):
     check(bool(texts), path, 1, "no file")
 
 
+@cache
+def answers(crate, function):
+    """The goals of a function that have an answer."""
+    folders = [folder for folder in (CRATES / crate / "proofs").rglob(function) if folder.is_dir()]
+    return {goal for folder in folders for file in folder.glob("*.antt") for goal in ANSWER.findall(text_of(file))}
+
+
 def check_edits(path):
     crate = path.parent.parent.name
     rows = {}
@@ -381,6 +391,9 @@ def check_edits(path):
             if not holds and not clauses:
                 holds = any(last in found for found in functions(crate).values()) or last in words()
             check(holds, path, number, f"no function or clause {name} in {crate}")
+        for goal in GOAL.findall(cells[-1]):
+            answered = any(goal in answers(crate, f.split("::")[-1]) for f in called)
+            check(not answered, path, number, f"the goal {goal} has an answer")
     for edit in sorted(path.parent.glob("*.edit")):
         check(len(rows.get(edit.stem, [])) == 1, path, 1, f"{len(rows.get(edit.stem, []))} rows for {edit.name}")
         check_edit(edit, crate)
