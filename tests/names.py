@@ -14,7 +14,8 @@ crates/*/must-fail/README.md. Each is read outside its blocks of code, and names
   a definition     in the first column of docs/DEFINITIONS.md, or at the head of an item there: it stands in the file
                    that its row names
   an edit          in the first column of a table of must-fail/README.md: its file is there, and each of its `old:` texts
-                   stands once where it says. Each edit has one row, whose function and clause are there
+                   stands once where it says. Each edit has one row, whose function and clause are there, and whose
+                   goals have no answer below proofs/, unless it is named as `the answer of` one
   a definition     of a file specs/: it is reached from the clauses of public functions, traits and models, or its row of
                    docs/DEFINITIONS.md says that only private functions cite it, or docs/ARCHITECTURE.md has its file in
                    the column `only for the crate`; and something cites it
