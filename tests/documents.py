@@ -6,11 +6,11 @@ usage: documents.py PROGRAM [DOCUMENT..]
 The documents are README.md, CONTRIBUTING.md, docs/*.md and man/cbpf.1; README.md, docs/REFERENCE.md and the page have
 examples. In Markdown an example stands between ```console and ```, in the page between .Bd -literal and .Ed. A line that
 begins with `$ ` is a command, which `sh` runs in a copy of examples/, with completion/ and tools/ beside it, one for each
-document, with PROGRAM as `cbpf` on the PATH. The lines after it are what it prints, on standard output and standard error. Where
-the command takes the keyboard (`cbpf`, `cbpf dbg` or `.. cat) | cbpf`), they are a session: each line that is no reply
-is typed, and a block without a command goes on with it. A line `..` stands for any lines. A command whose tool is
-missing, or may not do what it has to, isn't run; neither are its session, the commands after it in its block, and those
-that name a file which it makes by `> `.
+document, in the locale C. PROGRAM is `cbpf` on the PATH, with cbpf-transcript beside it. The lines after the command are
+what it prints, on standard output and standard error. Where it takes the keyboard (`cbpf`, `cbpf dbg` or
+`.. cat) | cbpf`), they are a session: each line that is no reply is typed, and a block without a command goes on with it.
+A line `..` stands for any lines. A command whose tool is missing, or may not do what it has to, isn't run; neither are its
+session, the commands after it in its block, and those that name a file which it makes by `> `.
 Each relative link of the Markdown documents names a file that is there, and the arrows of docs/ARCHITECTURE.md lead
 from each crate to those below it by crates.txt, directly or not.
 The last line is `N passed, M failed`, and how many weren't run where there are such.
@@ -31,6 +31,11 @@ TOOLS = "tcpdump rlwrap gzip grep head tail yes tr seq sed awk xargs mkfifo diff
 TRIALS = {
     "cpp": "echo | cpp -imacros linux/if_ether.h",
     "cc": "echo '#include <linux/filter.h>' | cc -x c -c -o /dev/null -",
+    # A filter that is listed: ss says nothing of one where the kernel doesn't tell.
+    "ss": "unshare -n sh -c 'ip link set lo up; tcpdump -i lo -w /dev/null arp & for n in 1 2 3 4 5; do sleep 1; "
+    "ss -0b | grep -q \"bpf filter\" && found=yes && break; done; kill $!; test $found'",
+    "tc": "unshare -n sh -c 'tc qdisc add dev lo clsact && "
+    "tc filter add dev lo ingress bpf bytecode \"1,6 0 0 0\" flowid 1:1'",
     "unshare": "unshare -n true",
     "setpriv": "setpriv --reuid=nobody --regid=nogroup --clear-groups true",
     "bwrap": "bwrap --unshare-all --ro-bind / / true",
@@ -88,7 +93,7 @@ def output(command, typed, folder, program):
         stdout=subprocess.PIPE,
         stderr=subprocess.STDOUT,
         cwd=folder,
-        env={**os.environ, "PATH": f"{program}:{os.environ['PATH']}"},
+        env={**os.environ, "LC_ALL": "C", "PATH": f"{program}:{os.environ['PATH']}"},
         timeout=SECONDS,
     )
     return done.stdout.decode(errors="replace").splitlines()
@@ -172,6 +177,7 @@ def main():
             os.chmod(folder, 0o755)
             shutil.copy(sys.argv[1], program / "cbpf")
             (program / "cbpf").chmod(0o755)
+            shutil.copy(TOP / "tools/cbpf-transcript", program)
             copy = shutil.copytree(TOP / "examples", Path(folder) / "examples")
             for beside in ("completion", "tools"):
                 shutil.copytree(TOP / beside, Path(folder) / beside)

@@ -15,7 +15,9 @@ and must give
   stdout   exactly this
   stderr   exactly this (no file: nothing)
   status   this exit status (no file: 0)
-The last line is `N passed, M failed`.
+The locale is C. A command that can't do a part of its case writes what it lacks into a file `not_run` there, one a line, and
+gives what the part is to give; each such line is printed.
+The last line is `N passed, M failed`, and how many have a part that wasn't run where there are such.
 """
 
 import os
@@ -35,7 +37,9 @@ def content(path, default=b""):
     return path.read_bytes() if path.exists() else default
 
 
-def differences(case, program):
+def tried(case, program):
+    """What differs, and what is lacking for a part of the case."""
+    environment = {**os.environ, "LC_ALL": "C", "PROGRAM": program, "EXAMPLES": str(EXAMPLES)}
     with tempfile.TemporaryDirectory() as folder:
         if (case / "files").is_dir():
             shutil.copytree(case / "files", folder, dirs_exist_ok=True)
@@ -43,7 +47,7 @@ def differences(case, program):
             capture, name = line.split(" ", 1)
             shutil.copy(CAPTURES / capture, Path(folder) / name)
         for command in content(case / "setup").decode().splitlines():
-            subprocess.run(command, shell=True, cwd=folder, check=True)
+            subprocess.run(command, shell=True, cwd=folder, env=environment, check=True)
         words = [program, *content(case / "args").decode().splitlines()]
         if (case / "command").exists():
             words = ["sh", "-c", content(case / "command").decode()]
@@ -52,19 +56,21 @@ def differences(case, program):
             input=content(case / "stdin"),
             capture_output=True,
             cwd=folder,
-            env={**os.environ, "PROGRAM": program, "EXAMPLES": str(EXAMPLES)},
+            env=environment,
             timeout=SECONDS,
         )
+        lacking = content(Path(folder) / "not_run").decode().splitlines()
     wanted = {
         "stdout": (content(case / "stdout"), done.stdout),
         "stderr": (content(case / "stderr"), done.stderr),
         "status": (int(content(case / "status", b"0")), done.returncode),
     }
-    return [
+    found = [
         f"{what}: wanted {want!r}, got {got!r}"
         for what, (want, got) in wanted.items()
         if want != got
     ]
+    return found, lacking
 
 
 def main():
@@ -73,15 +79,18 @@ def main():
     program = str(Path(sys.argv[1]).resolve())
     names = sys.argv[2:]
     cases = sorted(path.parent for path in CASES.rglob("stdout"))
-    passed = failed = 0
+    passed = failed = in_part = 0
     for case in cases:
         name = str(case.relative_to(CASES))
         if names and not any(word in name for word in names):
             continue
         try:
-            found = differences(case, program)
+            found, lacking = tried(case, program)
         except subprocess.TimeoutExpired:
-            found = [f"no end within {SECONDS} seconds"]
+            found, lacking = [f"no end within {SECONDS} seconds"], []
+        in_part += bool(lacking)
+        for what in lacking:
+            print(f"not run {name}: no {what}")
         if found:
             failed += 1
             print(f"failed {name}")
@@ -89,7 +98,7 @@ def main():
                 print("   ", line[:2000])
         else:
             passed += 1
-    print(f"{passed} passed, {failed} failed")
+    print(f"{passed} passed, {failed} failed" + (f", {in_part} with a part not run" if in_part else ""))
     sys.exit(1 if failed or not passed else 0)
 
 
