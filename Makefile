@@ -103,7 +103,7 @@ uninstall: rooted ## Takes out of PREFIX what `install` put there.
 dist: unchanged ## Makes out/cbpf-VERSION-x86_64-linux.tar.gz: what `install` puts, the program stripped, with a script that installs it.
 	@rm -rf "$(DIST)/$(PACKAGE)" "$(DIST)/$(PACKAGE).tar.gz"
 	@$(MAKE) -s --no-print-directory install DESTDIR="$(DIST)/$(PACKAGE)" PREFIX=/ > /dev/null
-	@strip -R .comment "$(DIST)/$(PACKAGE)/bin/cbpf"
+	@strip -R .comment "$(DIST)/$(PACKAGE)/bin/cbpf" || { rm -rf "$(DIST)/$(PACKAGE)"; exit 1; }
 	@install -m 755 tools/package/install "$(DIST)/$(PACKAGE)/install"
 	@install -m 644 tools/package/README "$(DIST)/$(PACKAGE)/README"
 	@cd "$(DIST)/$(PACKAGE)" && find * -type f | LC_ALL=C sort | xargs sha256sum > ../SHA256SUMS && mv ../SHA256SUMS .
