@@ -25,6 +25,8 @@ import shutil
 import subprocess
 import sys
 import tempfile
+from concurrent.futures import ThreadPoolExecutor
+from functools import partial
 from pathlib import Path
 
 CASES = Path(__file__).resolve().parent / "cases"
@@ -73,31 +75,36 @@ def tried(case, program):
     return found, lacking
 
 
+def outcome(program, case):
+    """What `tried` says, or that the case came to no end."""
+    try:
+        return tried(case, program)
+    except subprocess.TimeoutExpired:
+        return [f"no end within {SECONDS} seconds"], []
+
+
 def main():
     if len(sys.argv) < 2:
         sys.exit(__doc__)
     program = str(Path(sys.argv[1]).resolve())
-    names = sys.argv[2:]
-    cases = sorted(path.parent for path in CASES.rglob("stdout"))
+    words = sys.argv[2:]
+    cases = {str(path.parent.relative_to(CASES)): path.parent for path in sorted(CASES.rglob("stdout"))}
+    chosen = {name: case for name, case in cases.items() if not words or any(word in name for word in words)}
     passed = failed = in_part = 0
-    for case in cases:
-        name = str(case.relative_to(CASES))
-        if names and not any(word in name for word in names):
-            continue
-        try:
-            found, lacking = tried(case, program)
-        except subprocess.TimeoutExpired:
-            found, lacking = [f"no end within {SECONDS} seconds"], []
-        in_part += bool(lacking)
-        for what in lacking:
-            print(f"not run {name}: no {what}")
-        if found:
-            failed += 1
-            print(f"failed {name}")
-            for line in found:
-                print("   ", line[:2000])
-        else:
-            passed += 1
+    # As many cases at once as there are processors.
+    with ThreadPoolExecutor(len(os.sched_getaffinity(0))) as pool:
+        outcomes = pool.map(partial(outcome, program), chosen.values())
+        for name, (found, lacking) in zip(chosen, outcomes):
+            in_part += bool(lacking)
+            for what in lacking:
+                print(f"not run {name}: no {what}")
+            if found:
+                failed += 1
+                print(f"failed {name}")
+                for line in found:
+                    print("   ", line[:2000])
+            else:
+                passed += 1
     print(f"{passed} passed, {failed} failed" + (f", {in_part} with a part not run" if in_part else ""))
     sys.exit(1 if failed or not passed else 0)
 
