@@ -118,7 +118,8 @@ def beside_tcpdump(lines):
 def times(lines):
     seen = [line.split(": ", 1) for line in lines if not line.startswith("left out: ")]
     rows = [(what, re.sub(r", ([\d.]+ times|\d+ page faults).*", "", said)) for what, said in seen]
-    return table(["work", "seen"], rows)
+    # A run beside two others is said twice.
+    return table(["work", "seen"], list(dict.fromkeys(rows)))
 
 
 def sources():
