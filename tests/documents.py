@@ -26,7 +26,7 @@ from functools import cache
 from pathlib import Path
 
 TOP = Path(__file__).resolve().parent.parent
-TOOLS = "tcpdump rlwrap gzip grep head tail yes tr seq sed awk xargs mkfifo diff timeout cpp cc ss tc unshare setpriv bwrap"
+TOOLS = "tcpdump rlwrap gzip grep head tail yes tr seq sed awk xargs mkfifo diff timeout cpp cc ss tc unshare setpriv bwrap bash"
 # What some need beside being there: headers, or rights that a user may not have.
 TRIALS = {
     "cpp": "echo | cpp -imacros linux/if_ether.h",
