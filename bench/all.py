@@ -115,13 +115,6 @@ def beside_tcpdump(lines):
     return table(head, [[work, *(each.get(peer, "") for peer in peers)] for work, each in rows.items()])
 
 
-def times(lines):
-    seen = [line.split(": ", 1) for line in lines if not line.startswith("left out: ")]
-    rows = [(what, re.sub(r", ([\d.]+ times|\d+ page faults).*", "", said)) for what, said in seen]
-    # A run beside two others is said twice.
-    return table(["work", "seen"], list(dict.fromkeys(rows)))
-
-
 def sources():
     """A table of sources with one size, and one of those that grow."""
     rows = matched(rf"(.+), {NUMBER} MB: {NUMBER} ms, {NUMBER} MB", lines_of("assembler.py"))
@@ -166,7 +159,6 @@ def measure(said, quiet, missing, picture):
     if "cc" not in missing and (quiet or "valgrind" not in missing):
         put("growth", growth(quiet, picture))
     if quiet:
-        put("times", [said, "", *times(loading + lines)])
         for name, rows in sources():
             put(name, rows)
 
