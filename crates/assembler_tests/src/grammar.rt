@@ -2,7 +2,7 @@
 
 use crate::assertions::assert_at;
 use cbpf_code::code_of;
-use cbpf_grammar::{Fields, Reader, Row, Step, SyntaxFault};
+use cbpf_syntax::{Fields, Reader, Row, Step, SyntaxFault};
 use std::alloc::Global;
 
 /// Each mnemonic with each of its modes, and all spellings of each mode once: sources of one item, with its code.

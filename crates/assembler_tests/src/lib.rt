@@ -1,4 +1,5 @@
-//! Tests of the assembler's crates: tokens (cbpf_lex), items (cbpf_grammar), sources (cbpf_text), and lines of listings (cbpf_listing).
+//! Tests of the assembler and of what it stands on: tables, the checker, word text, and the calls that write and list (cbpf_code),
+//! tokens and items (cbpf_syntax), and sources (cbpf_text).
 #![tactic(auto)]
 
 #[cfg(test)]
@@ -6,8 +7,24 @@ mod assembler;
 #[cfg(test)]
 mod assertions;
 #[cfg(test)]
+mod checker;
+#[cfg(test)]
 mod grammar;
 #[cfg(test)]
 mod listing;
 #[cfg(test)]
+mod lists;
+#[cfg(test)]
+mod numbers;
+#[cfg(test)]
+mod plain_words;
+#[cfg(test)]
+mod random_lists;
+#[cfg(test)]
+mod tables;
+#[cfg(test)]
 mod tokens;
+#[cfg(test)]
+mod words;
+#[cfg(test)]
+mod writing;

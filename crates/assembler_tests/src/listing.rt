@@ -1,7 +1,6 @@
 //! Worked listings, and one line of each operation.
 
-use cbpf_code::{Program, WriteFault, check, read_words};
-use cbpf_listing::{write_line, write_lines};
+use cbpf_code::{Program, WriteFault, check, read_words, write_line, write_lines};
 use std::alloc::Global;
 use std::process::Abort;
 

@@ -1,7 +1,7 @@
 //! What the tokens of texts are, by hand.
 
 use crate::assertions::assert_at;
-use cbpf_lex::{BadPiece, Kind, LexFault, Token, tokens};
+use cbpf_syntax::{BadPiece, Kind, LexFault, Token, tokens};
 use std::alloc::Global;
 use std::process::Abort;
 

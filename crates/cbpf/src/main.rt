@@ -1,7 +1,7 @@
 //! `cbpf`: an assembler and a debugger for classic BPF.
 #![tactic(auto)]
 
-ghost use Rattle.cbpf_jobs.specs.Hosted.{unknown};
+ghost use Rattle.cbpf_tool.specs.Hosted.{unknown};
 
 use cbpf_tool::{
     CreateFault, DiskFiles, Failure, Host, LineFault, ToolFault, command_line, run_on, status_of,

@@ -12,3 +12,4 @@ pub mod WordTokenLemmas
 pub mod WordStepLemmas
 pub mod WrittenLemmas
 pub mod WordFormLemmas
+pub mod ListingLemmas

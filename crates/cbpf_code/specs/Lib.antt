@@ -16,3 +16,5 @@ pub mod WordSteps
 pub mod WordText
 pub mod Writing
 pub mod WordForm
+pub mod Syntax
+pub mod Listing

@@ -1,5 +1,5 @@
 //! Classic BPF: instructions, the code table, the extensions and the checker, and the texts in which
-//! a program is read and written.
+//! a program is read, written and listed.
 #![tactic(auto)]
 
 mod c_form;
@@ -9,10 +9,12 @@ mod form;
 mod insn;
 mod law;
 mod line;
+mod listing;
 mod opcode;
 mod program;
 mod scan;
 mod slots;
+mod syntax;
 mod word_form;
 mod words;
 mod writing;
@@ -24,6 +26,7 @@ pub use form::Form;
 pub use insn::Insn;
 pub use law::each_has_answer;
 pub use line::Line;
+pub use listing::{put_line, write_line, write_lines};
 pub use opcode::{AluOp, Cond, Op, Size, Src, code_of, op_of, op_of_byte};
 pub use program::Program;
 pub use scan::{is_blank, is_digit, laws_of_marks};

@@ -3,7 +3,7 @@ use Rattle.std.specs.Prelude.{ℕ, List, [], ◌∷◌, ◌++◌, codes, decimal
 use Rattle.std.specs.List.{flat_map}
 use Rattle.cbpf_code.specs.Text.{joined}
 use Rattle.cbpf_code.specs.declared.insn.Insn.{Insn}
-use Rattle.cbpf_listing.specs.Listing.{line_text}
+use Rattle.cbpf_code.specs.Listing.{line_text}
 use Rattle.cbpf_code.specs.Text.{with_number}
 use Rattle.cbpf_reply.specs.declared.breakpoints.When.{When}
 use Rattle.cbpf_reply.specs.declared.breakpoints.When.TheVariants.{Always, A, X}

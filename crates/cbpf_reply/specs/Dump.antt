@@ -5,7 +5,7 @@ use Rattle.std.specs.Prelude.{ℕ, List, [], ◌∷◌, ◌++◌, Option, Some, 
 use Rattle.cbpf_code.specs.declared.insn.Insn.{Insn}
 use Rattle.cbpf_code.specs.Extension.{ext_name}
 use Rattle.cbpf_code.specs.Text.{joined}
-use Rattle.cbpf_listing.specs.Listing.{line_text}
+use Rattle.cbpf_code.specs.Listing.{line_text}
 use Rattle.cbpf_reply.specs.Columns.{labelled, value_line}
 use Rattle.cbpf_reply.specs.Scratch.{scratch_lines}
 use Rattle.cbpf_reply.specs.Packet.{packet_dump}

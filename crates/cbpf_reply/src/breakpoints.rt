@@ -4,8 +4,7 @@ ghost use Rattle.std.specs.Prelude.{ℕ, ◌≡◌, ◌<◌, ◌≤◌, ◌+◌,
 ghost use Rattle.cbpf_code.specs.Writing.{Wrote};
 ghost use Rattle.cbpf_reply.specs.Breakpoints as spec;
 
-use cbpf_code::{Line, Program, WriteFault, write_bytes};
-use cbpf_listing::put_line;
+use cbpf_code::{Line, Program, WriteFault, put_line, write_bytes};
 use std::alloc::Allocator;
 use std::io::Write;
 

@@ -1,5 +1,6 @@
-//! Tests that cross the crates: each beginning of a source, the assembler and the debugger over readers,
-//! writers and allocators that fail, memory that is given back, and large inputs.
+//! Tests of the debugger and of the program: the machine and its trails (cbpf_machine), captures (pcap_classic), sessions (cbpf_dbg),
+//! dumps of stops (cbpf_reply); and over readers, writers and allocators that fail, memory that is given back, and large inputs
+//! (cbpf_tool, cbpf_text).
 #![tactic(auto)]
 
 #[cfg(test)]
@@ -7,10 +8,20 @@ mod asks_for_no_room;
 #[cfg(test)]
 mod assembling;
 #[cfg(test)]
+mod assertions;
+#[cfg(test)]
 mod beginnings;
 #[cfg(test)]
 mod byte_by_byte;
+#[cfg(test)]
+mod captures;
+#[cfg(test)]
+mod counts;
 mod done;
+#[cfg(test)]
+mod empty_records;
+#[cfg(test)]
+mod equality;
 #[cfg(test)]
 mod failing_files;
 #[cfg(test)]
@@ -26,14 +37,26 @@ mod great_sizes;
 #[cfg(test)]
 mod loaded;
 #[cfg(test)]
+mod machine;
+#[cfg(test)]
+mod machine_trail;
+#[cfg(test)]
 mod memory_host;
 #[cfg(test)]
 mod places;
+#[cfg(test)]
+mod programs;
 #[cfg(test)]
 mod refused_calls;
 #[cfg(test)]
 mod refused_growth;
 #[cfg(test)]
+mod sessions;
+#[cfg(test)]
 mod sizes;
+#[cfg(test)]
+mod stop_dump;
+#[cfg(test)]
+mod two_packets;
 #[cfg(test)]
 mod waiting;

@@ -1,13 +1,13 @@
 // A machine in memory that says what it holds, and the jobs over it.
 ghost use Rattle.std.specs.Prelude.{◌≡◌, ◌++◌, ◌∷◌, [], List, ℕ, map, true, Some, MatchOption, None};
 ghost use Rattle.std.specs.FinMap as finmap;
-ghost use Rattle.cbpf_jobs.specs.FileMap.{files_of, known_source};
+ghost use Rattle.cbpf_tool.specs.FileMap.{files_of, known_source};
 ghost use Rattle.cbpf_tests.specs.Events.{event};
 
 use crate::done::Done;
 use crate::fault_injection::RefusingAllocator;
 use crate::loaded::{ARP, ARP_WORDS, TWO_PACKETS};
-use cbpf_jobs::{asm_job, dbg_job};
+use cbpf_tool::{asm_job, dbg_job};
 use cbpf_tool::{
     CreateFault, Failure, Files, Form, Host, Job, LoadFault, ToolFault, run_on, status_of,
 };

@@ -5,21 +5,21 @@ use Rattle.std.proofs.Common.{append-nil}
 use Rattle.std.specs.Prelude.{slice_get, All}
 use Rattle.std.proofs.lemmas.Bool.{cases_lt}
 use Rattle.std.proofs.lemmas.List.Elements.{All-append}
-use Rattle.cbpf_lex.specs.Tokens.{line_of}
-use Rattle.cbpf_lex.proofs.Cuts.{some-same}
-use Rattle.cbpf_lex.proofs.Answered.{each_lexed}
+use Rattle.cbpf_syntax.specs.Tokens.{line_of}
+use Rattle.cbpf_syntax.proofs.Cuts.{some-same}
+use Rattle.cbpf_syntax.proofs.EachLexed.{each_lexed}
 use Rattle.cbpf_code.specs.declared.insn.Insn.{Insn}
 use Rattle.cbpf_code.specs.Opcode.{code_of}
-use Rattle.cbpf_grammar.specs.declared.table.Fields.{Fields}
-use Rattle.cbpf_grammar.specs.declared.table.Fields.TheVariants.{Constant, Goto, Branch, Swapped}
-use Rattle.cbpf_grammar.specs.Classes.{Class}
-use Rattle.cbpf_grammar.specs.Classes.Class.{the_word}
-use Rattle.cbpf_grammar.specs.Lexemes.{Lexeme, lexemes_of}
-use Rattle.cbpf_grammar.specs.Fits.{fits_all}
-use Rattle.cbpf_grammar.specs.Items.{Item}
-use Rattle.cbpf_grammar.specs.Refusals.{ParseFault as parse, IsFirstRefusal, IsUnfinished}
-use Rattle.cbpf_grammar.proofs.Refused.{large_within}
-use Rattle.cbpf_grammar.proofs.Answered.{each_parsed}
+use Rattle.cbpf_syntax.specs.declared.table.Fields.{Fields}
+use Rattle.cbpf_syntax.specs.declared.table.Fields.TheVariants.{Constant, Goto, Branch, Swapped}
+use Rattle.cbpf_syntax.specs.Classes.{Class}
+use Rattle.cbpf_syntax.specs.Classes.Class.{the_word}
+use Rattle.cbpf_syntax.specs.Lexemes.{Lexeme, lexemes_of}
+use Rattle.cbpf_syntax.specs.Fits.{fits_all}
+use Rattle.cbpf_syntax.specs.Items.{Item}
+use Rattle.cbpf_syntax.specs.Refusals.{ParseFault as parse, IsFirstRefusal, IsUnfinished}
+use Rattle.cbpf_syntax.proofs.Refused.{large_within}
+use Rattle.cbpf_syntax.proofs.Answered.{each_parsed}
 use Rattle.cbpf_text.specs.declared.fault.AsmKind.{AsmKind}
 use Rattle.cbpf_text.specs.declared.fault.AsmKind.TheVariants as kinds
 use Rattle.cbpf_text.specs.Labels.{name_of, set_labels, times_among, AreDistinct, IsPlace}

@@ -1,11 +1,11 @@
 -- From the refusal of a part to the refusal of the whole.
 use Rattle.std.proofs.Common.{◌≡◌, refl, sym, subst, ℕ, List}
-use Rattle.cbpf_lex.specs.declared.token.Token.{Token}
-use Rattle.cbpf_lex.specs.Tokens.{Lexes}
-use Rattle.cbpf_grammar.specs.Refusals.{ParseFault as parse}
-use Rattle.cbpf_grammar.specs.Lexemes.{Lexeme, lexemes_of}
-use Rattle.cbpf_grammar.specs.Items.{Item, Items}
-use Rattle.cbpf_grammar.specs.Refusals.{IsAccepted}
+use Rattle.cbpf_syntax.specs.declared.token.Token.{Token}
+use Rattle.cbpf_syntax.specs.Tokens.{Lexes}
+use Rattle.cbpf_syntax.specs.Refusals.{ParseFault as parse}
+use Rattle.cbpf_syntax.specs.Lexemes.{Lexeme, lexemes_of}
+use Rattle.cbpf_syntax.specs.Items.{Item, Items}
+use Rattle.cbpf_syntax.specs.Refusals.{IsAccepted}
 use Rattle.cbpf_code.specs.declared.insn.Insn.{Insn}
 use Rattle.cbpf_text.specs.declared.fault.AsmFault.{AsmFault}
 use Rattle.cbpf_text.specs.declared.placed_fault.PlacedFault.{PlacedFault}

@@ -4,15 +4,15 @@ use Rattle.std.proofs.Common.{drop, arith}
 use Rattle.std.specs.Prelude.{All, Contains, ◌==◌, ◌||◌}
 use Rattle.std.specs.List.{list_all}
 use Rattle.std.proofs.lemmas.Bool.{and_parts}
-use Rattle.cbpf_grammar.specs.declared.table.Fields.{Fields}
-use Rattle.cbpf_grammar.specs.declared.table.Fields.TheVariants.{Constant, Goto, Branch, Swapped}
-use Rattle.cbpf_grammar.specs.Classes.{Class}
-use Rattle.cbpf_grammar.specs.Classes.Class.{the_word, the_mark, literal, negated, exactly, extension, name}
-use Rattle.cbpf_grammar.specs.Lexemes.{Lexeme}
-use Rattle.cbpf_grammar.specs.Fits.{fits, fits_all}
-use Rattle.cbpf_grammar.specs.Table.{Row, classes, table, mnemonics}
-use Rattle.cbpf_grammar.specs.Items.{Item, Items, Form, names_at, label_classes}
-use Rattle.cbpf_grammar.proofs.Elements.{list_all_at}
+use Rattle.cbpf_syntax.specs.declared.table.Fields.{Fields}
+use Rattle.cbpf_syntax.specs.declared.table.Fields.TheVariants.{Constant, Goto, Branch, Swapped}
+use Rattle.cbpf_syntax.specs.Classes.{Class}
+use Rattle.cbpf_syntax.specs.Classes.Class.{the_word, the_mark, literal, negated, exactly, extension, name}
+use Rattle.cbpf_syntax.specs.Lexemes.{Lexeme}
+use Rattle.cbpf_syntax.specs.Fits.{fits, fits_all}
+use Rattle.cbpf_syntax.specs.Table.{Row, classes, table, mnemonics}
+use Rattle.cbpf_syntax.specs.Items.{Item, Items, Form, names_at, label_classes}
+use Rattle.cbpf_syntax.proofs.Elements.{list_all_at}
 use Rattle.cbpf_text.specs.Operands.{HasForm, targets_in}
 
 abbrev one_if : Class → ℕ

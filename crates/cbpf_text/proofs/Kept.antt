@@ -4,10 +4,10 @@ use Rattle.std.proofs.Common.{◌++◌, length, map, get_or, Option, Some, None,
 use Rattle.std.proofs.Common.{length-append}
 use Rattle.std.specs.Prelude.{slice_get, is_some}
 use Rattle.std.proofs.lemmas.List.{map-append}
-use Rattle.cbpf_grammar.specs.declared.lexeme.Lexeme as declared_lexeme
-use Rattle.cbpf_grammar.specs.Lexemes.{Lexeme}
-use Rattle.cbpf_grammar.specs.Items.{Item}
-use Rattle.cbpf_grammar.specs.Views.{lexeme_of, label_words}
+use Rattle.cbpf_syntax.specs.declared.lexeme.Lexeme as declared_lexeme
+use Rattle.cbpf_syntax.specs.Lexemes.{Lexeme}
+use Rattle.cbpf_syntax.specs.Items.{Item}
+use Rattle.cbpf_syntax.specs.Views.{lexeme_of, label_words}
 use Rattle.cbpf_text.specs.declared.name.Name.{Name}
 use Rattle.cbpf_text.specs.declared.fault.AsmKind.TheVariants as kinds
 use Rattle.cbpf_text.specs.Labels.{set_labels, AreDistinct}

@@ -4,8 +4,8 @@ use Rattle.std.proofs.Common.{[], ◌∷◌, ◌++◌, length, get_or, Option, S
 use Rattle.std.specs.Prelude.{bytes_eq}
 use Rattle.std.proofs.lemmas.List.Elements.{All-append}
 use Rattle.std.proofs.lemmas.List.Sums.{sum_by-append}
-use Rattle.cbpf_grammar.specs.Lexemes.{Lexeme}
-use Rattle.cbpf_grammar.proofs.Apart.{equal_bytes, bytes_eq_self}
+use Rattle.cbpf_syntax.specs.Lexemes.{Lexeme}
+use Rattle.cbpf_syntax.proofs.Apart.{equal_bytes, bytes_eq_self}
 use Rattle.cbpf_text.specs.Labels.{name_of, times_among, AreDistinct}
 use Rattle.cbpf_text.specs.Drafts.{words}
 use Rattle.cbpf_text.specs.Tables.{Label, place_among}

@@ -3,11 +3,11 @@
 use Rattle.std.proofs.Common.{ℕ, ◌+◌, ◌^◌, ◌<◌, ◌≤◌, List, [], ◌∷◌, length, refl, arith, lit<}
 use Rattle.std.specs.Prelude.{◌==◌}
 use Rattle.cbpf_code.specs.declared.insn.Insn.{Insn}
-use Rattle.cbpf_lex.proofs.Spelled.{Segment, AreSegments}
-use Rattle.cbpf_lex.proofs.Spelled.Segment.{blank, word, mark}
-use Rattle.cbpf_grammar.specs.Classes.{Class}
-use Rattle.cbpf_grammar.specs.Classes as forms
-use Rattle.cbpf_listing.specs.declared.syntax.Operand.TheVariants as operands
+use Rattle.cbpf_syntax.proofs.Spelled.{Segment, AreSegments}
+use Rattle.cbpf_syntax.proofs.Spelled.Segment.{blank, word, mark}
+use Rattle.cbpf_syntax.specs.Classes.{Class}
+use Rattle.cbpf_syntax.specs.Classes as forms
+use Rattle.cbpf_code.specs.declared.syntax.Operand.TheVariants as operands
 use Rattle.cbpf_text.proofs.ListedRows.{operand_classes}
 use Rattle.cbpf_text.proofs.ListedTokens.{lexemes_at}
 use Rattle.cbpf_text.proofs.ListedLabels.{label_fits, label_segment, is_label_segment, hex_rest, hex_segment}

@@ -7,17 +7,17 @@ use Rattle.std.proofs.lemmas.Fmt.{decimal_nonempty}
 use Rattle.std.proofs.lemmas.Bool.{and_parts}
 use Rattle.std.proofs.Math.Bool.{and-false}
 use Rattle.cbpf_code.specs.Text.{hex}
-use Rattle.cbpf_lex.specs.Bytes.{is_digit, is_name_byte}
-use Rattle.cbpf_lex.specs.Numbers.{number_value}
-use Rattle.cbpf_lex.proofs.Spelled.{Segment, IsSegment}
-use Rattle.cbpf_lex.proofs.Spelled.Segment.{word, number}
-use Rattle.cbpf_grammar.specs.Classes.{Class}
-use Rattle.cbpf_grammar.specs.Classes as forms
-use Rattle.cbpf_grammar.specs.Lexemes as grammar
-use Rattle.cbpf_grammar.specs.Lexemes.{Lexeme}
-use Rattle.cbpf_grammar.specs.Fits.{fits, is_one_of, is_reserved, extension_names, mnemonic_words}
-use Rattle.cbpf_grammar.specs.Table.{operand_words, mnemonics}
-use Rattle.cbpf_grammar.specs.Items.{Item}
+use Rattle.cbpf_syntax.specs.Bytes.{is_digit, is_name_byte}
+use Rattle.cbpf_syntax.specs.Numbers.{number_value}
+use Rattle.cbpf_syntax.proofs.Spelled.{Segment, IsSegment}
+use Rattle.cbpf_syntax.proofs.Spelled.Segment.{word, number}
+use Rattle.cbpf_syntax.specs.Classes.{Class}
+use Rattle.cbpf_syntax.specs.Classes as forms
+use Rattle.cbpf_syntax.specs.Lexemes as grammar
+use Rattle.cbpf_syntax.specs.Lexemes.{Lexeme}
+use Rattle.cbpf_syntax.specs.Fits.{fits, is_one_of, is_reserved, extension_names, mnemonic_words}
+use Rattle.cbpf_syntax.specs.Table.{operand_words, mnemonics}
+use Rattle.cbpf_syntax.specs.Items.{Item}
 use Rattle.cbpf_text.specs.Labels.{IsPlace}
 use Rattle.cbpf_text.proofs.ListedNumbers.{number_decimal, decimal_digits, decimal_names, hex_is_names, hex_value}
 use Rattle.cbpf_text.proofs.ListedRows.{first, rest}

@@ -14,10 +14,10 @@ use Rattle.cbpf_code.specs.ControlFlow.{IsTarget}
 use Rattle.cbpf_code.specs.Sound.{IsSound}
 use Rattle.cbpf_code.specs.WordForm.{InRange}
 use Rattle.cbpf_code.proofs.SoundLemmas.{sound_few, sound_some, sound_known, sound_allowed}
-use Rattle.cbpf_lex.specs.Tokens.{tokens_of}
-use Rattle.cbpf_lex.proofs.Spelled.{text_of, pieces_of, lexes_spelled}
-use Rattle.cbpf_listing.specs.Syntax.{operand_of}
-use Rattle.cbpf_listing.specs.Listing.{listing}
+use Rattle.cbpf_syntax.specs.Tokens.{tokens_of}
+use Rattle.cbpf_syntax.proofs.Spelled.{text_of, pieces_of, lexes_spelled}
+use Rattle.cbpf_code.specs.Syntax.{operand_of}
+use Rattle.cbpf_code.specs.Listing.{listing}
 use Rattle.cbpf_text.specs.declared.fault.AsmFault.TheVariants.{Memory, At}
 use Rattle.cbpf_text.specs.Assembled.{Assembles, AssembleTokens, AreEncoded}
 use Rattle.cbpf_text.specs.Laws.{ListingAssembles, ListingAnswers}

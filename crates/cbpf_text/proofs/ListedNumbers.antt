@@ -9,12 +9,12 @@ use Rattle.std.proofs.lemmas.Fmt.{decimal_by_steps, first_decimal, decimal_digit
 use Rattle.std.proofs.lemmas.List.{drop-append-le, drop_all}
 use Rattle.std.proofs.Math.Bool.{or-true}
 use Rattle.std.proofs.lemmas.Bool.{and_parts}
-use Rattle.cbpf_lex.specs.Bytes.{is_letter, is_digit, is_name_byte}
-use Rattle.cbpf_lex.specs.Numbers.{digit_value, digits_value, number_value}
+use Rattle.cbpf_syntax.specs.Bytes.{is_letter, is_digit, is_name_byte}
+use Rattle.cbpf_syntax.specs.Numbers.{digit_value, digits_value, number_value}
 use Rattle.cbpf_code.specs.Text.{hex}
 use Rattle.cbpf_code.specs.HexPlaces.{hex_digits}
 use Rattle.cbpf_code.proofs.HexLemmas.{hex-places}
-use Rattle.cbpf_lex.proofs.Spelled.{holds_below}
+use Rattle.cbpf_syntax.proofs.Spelled.{holds_below}
 
 all_snoc : (p : ℕ → Bool) (xs : List ℕ) (x : ℕ) → list_all p xs ≡ true → p x ≡ true → list_all p (xs ++ x ∷ []) ≡ true
 all_snoc p [] x h e = rw e refl

@@ -10,19 +10,19 @@ use Rattle.cbpf_code.specs.declared.extension.Ext.{Ext}
 use Rattle.cbpf_code.specs.Extension.{ext_at, ext_name, ext_offset, ext_table}
 use Rattle.cbpf_code.specs.Text.{hex}
 use Rattle.cbpf_code.proofs.TableLemmas.{ext_known, ext_only}
-use Rattle.cbpf_lex.proofs.Spelled.{Segment, text_of, IsSegment, AreSegments, ends_name, stay_apart}
-use Rattle.cbpf_lex.proofs.Spelled.Segment.{blank, word, number, mark}
-use Rattle.cbpf_grammar.specs.declared.table.Fields.{Fields}
-use Rattle.cbpf_grammar.specs.declared.table.Fields.TheVariants.{Constant}
-use Rattle.cbpf_grammar.specs.Classes.{Class}
-use Rattle.cbpf_grammar.specs.Classes as forms
-use Rattle.cbpf_grammar.specs.Lexemes.{Lexeme}
-use Rattle.cbpf_grammar.specs.Fits.{fits, fits_all, is_one_of, extension_names}
-use Rattle.cbpf_grammar.specs.Items.{Item, names_at}
-use Rattle.cbpf_listing.specs.declared.syntax.Operand.{Operand}
-use Rattle.cbpf_listing.specs.declared.syntax.Operand.TheVariants as operands
-use Rattle.cbpf_listing.specs.Syntax.{operand_of}
-use Rattle.cbpf_listing.specs.Listing.{immediate, operand_text, place_or_name}
+use Rattle.cbpf_syntax.proofs.Spelled.{Segment, text_of, IsSegment, AreSegments, ends_name, stay_apart}
+use Rattle.cbpf_syntax.proofs.Spelled.Segment.{blank, word, number, mark}
+use Rattle.cbpf_syntax.specs.declared.table.Fields.{Fields}
+use Rattle.cbpf_syntax.specs.declared.table.Fields.TheVariants.{Constant}
+use Rattle.cbpf_syntax.specs.Classes.{Class}
+use Rattle.cbpf_syntax.specs.Classes as forms
+use Rattle.cbpf_syntax.specs.Lexemes.{Lexeme}
+use Rattle.cbpf_syntax.specs.Fits.{fits, fits_all, is_one_of, extension_names}
+use Rattle.cbpf_syntax.specs.Items.{Item, names_at}
+use Rattle.cbpf_code.specs.declared.syntax.Operand.{Operand}
+use Rattle.cbpf_code.specs.declared.syntax.Operand.TheVariants as operands
+use Rattle.cbpf_code.specs.Syntax.{operand_of}
+use Rattle.cbpf_code.specs.Listing.{immediate, operand_text, place_or_name}
 use Rattle.cbpf_text.specs.Assembled.{FillsFields}
 use Rattle.cbpf_text.specs.Operands.{literal_of, place_named}
 use Rattle.cbpf_text.proofs.ListedRows.{HasRow, operation_row, named_row, looked_up, operand_classes, operand_fields}

@@ -4,9 +4,9 @@ use Rattle.std.proofs.Common.{refl, sym, subst, ◌∙◌, arith, ◌⊎◌, inl
 use Rattle.std.specs.Prelude.{decimal, bytes_eq, All}
 use Rattle.std.proofs.lemmas.Fmt.{decimal_injective}
 use Rattle.std.proofs.lemmas.List.Elements.{All-append}
-use Rattle.cbpf_grammar.specs.Lexemes.{Lexeme}
-use Rattle.cbpf_grammar.specs.Items.{Item}
-use Rattle.cbpf_grammar.proofs.Apart.{equal_bytes, bytes_eq_self}
+use Rattle.cbpf_syntax.specs.Lexemes.{Lexeme}
+use Rattle.cbpf_syntax.specs.Items.{Item}
+use Rattle.cbpf_syntax.proofs.Apart.{equal_bytes, bytes_eq_self}
 use Rattle.cbpf_text.specs.Labels.{name_of, set_labels, times_among, times_set, AreDistinct, SetsAt}
 use Rattle.cbpf_text.proofs.Lists.{all_one, all_none}
 use Rattle.cbpf_text.proofs.LabelLists.{times_append, times_miss, times_hit}

@@ -9,16 +9,16 @@ use Rattle.cbpf_code.specs.declared.opcode.Op.{Op}
 use Rattle.cbpf_code.specs.Opcode.{op_of}
 use Rattle.cbpf_code.specs.Plain.{plain}
 use Rattle.cbpf_code.proofs.TableLemmas.{code_only}
-use Rattle.cbpf_lex.proofs.Spelled.{Segment, text_of, AreSegments, ends_blank, stay_apart}
-use Rattle.cbpf_lex.proofs.Spelled.Segment.{blank, word, mark}
-use Rattle.cbpf_grammar.specs.Lexemes as grammar
-use Rattle.cbpf_grammar.specs.Lexemes.{Lexeme}
-use Rattle.cbpf_grammar.specs.Fits.{fits_all}
-use Rattle.cbpf_grammar.specs.Table.{Row, classes}
-use Rattle.cbpf_grammar.specs.Items.{Item, Form, Items}
-use Rattle.cbpf_grammar.proofs.Apart.{bytes_eq_self}
-use Rattle.cbpf_listing.specs.Syntax.{mnemonic_of, operand_of}
-use Rattle.cbpf_listing.specs.Listing.{numbered_line, text_for, operand_text}
+use Rattle.cbpf_syntax.proofs.Spelled.{Segment, text_of, AreSegments, ends_blank, stay_apart}
+use Rattle.cbpf_syntax.proofs.Spelled.Segment.{blank, word, mark}
+use Rattle.cbpf_syntax.specs.Lexemes as grammar
+use Rattle.cbpf_syntax.specs.Lexemes.{Lexeme}
+use Rattle.cbpf_syntax.specs.Fits.{fits_all}
+use Rattle.cbpf_syntax.specs.Table.{Row, classes}
+use Rattle.cbpf_syntax.specs.Items.{Item, Form, Items}
+use Rattle.cbpf_syntax.proofs.Apart.{bytes_eq_self}
+use Rattle.cbpf_code.specs.Syntax.{mnemonic_of, operand_of}
+use Rattle.cbpf_code.specs.Listing.{numbered_line, text_for, operand_text}
 use Rattle.cbpf_text.specs.Assembled.{EncodeEach, IsEncoded}
 use Rattle.cbpf_text.proofs.ListedRows.{HasRow, first, rest, mnemonic_word, plain_as, plain_is}
 use Rattle.cbpf_text.proofs.ListedTokens.{and_both, lexemes_at, lexemes_append, text_append, are_append, ends_before}

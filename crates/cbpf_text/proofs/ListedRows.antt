@@ -11,18 +11,18 @@ use Rattle.cbpf_code.specs.declared.opcode.Op.{Op}
 use Rattle.cbpf_code.specs.Opcode.{op_table, look_up, op_of, code_of}
 use Rattle.cbpf_code.specs.Plain.{kept, plain, plain_for, uses_k, uses_offsets}
 use Rattle.cbpf_code.proofs.TableLemmas.{code_known}
-use Rattle.cbpf_lex.specs.Bytes.{is_letter, is_name_byte}
-use Rattle.cbpf_lex.proofs.Spelled.{implied}
-use Rattle.cbpf_grammar.specs.declared.table.Fields.{Fields}
-use Rattle.cbpf_grammar.specs.declared.table.Fields.TheVariants.{Constant, Goto, Branch}
-use Rattle.cbpf_grammar.specs.Classes.{Class}
-use Rattle.cbpf_grammar.specs.Classes.Class.{the_word, the_mark, literal, exactly, extension, name}
-use Rattle.cbpf_grammar.specs.Table.{Row, table, mnemonics}
-use Rattle.cbpf_grammar.proofs.Apart.{equal_bytes}
-use Rattle.cbpf_grammar.proofs.Elements.{some_element}
-use Rattle.cbpf_listing.specs.declared.syntax.Operand.{Operand}
-use Rattle.cbpf_listing.specs.declared.syntax.Operand.TheVariants as operands
-use Rattle.cbpf_listing.specs.Syntax.{mnemonic_of, operand_of}
+use Rattle.cbpf_syntax.specs.Bytes.{is_letter, is_name_byte}
+use Rattle.cbpf_syntax.proofs.Spelled.{implied}
+use Rattle.cbpf_syntax.specs.declared.table.Fields.{Fields}
+use Rattle.cbpf_syntax.specs.declared.table.Fields.TheVariants.{Constant, Goto, Branch}
+use Rattle.cbpf_syntax.specs.Classes.{Class}
+use Rattle.cbpf_syntax.specs.Classes.Class.{the_word, the_mark, literal, exactly, extension, name}
+use Rattle.cbpf_syntax.specs.Table.{Row, table, mnemonics}
+use Rattle.cbpf_syntax.proofs.Apart.{equal_bytes}
+use Rattle.cbpf_syntax.proofs.Elements.{some_element}
+use Rattle.cbpf_code.specs.declared.syntax.Operand.{Operand}
+use Rattle.cbpf_code.specs.declared.syntax.Operand.TheVariants as operands
+use Rattle.cbpf_code.specs.Syntax.{mnemonic_of, operand_of}
 
 -- the classes of the tokens that a listing writes after a mnemonic, and where they go
 abbrev pub operand_classes : Operand → List Class

@@ -6,13 +6,13 @@ use Rattle.std.specs.List.{list_all}
 use Rattle.std.proofs.lemmas.List.{take_at, drop_at}
 use Rattle.std.proofs.Math.Numerals.{one-add}
 use Rattle.std.proofs.lemmas.Bool.{and_parts}
-use Rattle.cbpf_lex.specs.Tokens.{tokens_of}
-use Rattle.cbpf_lex.proofs.Spelled.{Segment, bytes_of, text_of, pieces_of, piece_of, AreSegments, ends_name}
-use Rattle.cbpf_lex.proofs.Spelled.{ends_blank, stay_apart}
-use Rattle.cbpf_lex.proofs.Spelled.Segment.{blank, word, number, mark}
-use Rattle.cbpf_grammar.specs.Lexemes as grammar
-use Rattle.cbpf_grammar.specs.Lexemes.{Lexeme, lexemes_of}
-use Rattle.cbpf_grammar.specs.Refusals.{symbol_at, IsLargeNegative}
+use Rattle.cbpf_syntax.specs.Tokens.{tokens_of}
+use Rattle.cbpf_syntax.proofs.Spelled.{Segment, bytes_of, text_of, pieces_of, piece_of, AreSegments, ends_name}
+use Rattle.cbpf_syntax.proofs.Spelled.{ends_blank, stay_apart}
+use Rattle.cbpf_syntax.proofs.Spelled.Segment.{blank, word, number, mark}
+use Rattle.cbpf_syntax.specs.Lexemes as grammar
+use Rattle.cbpf_syntax.specs.Lexemes.{Lexeme, lexemes_of}
+use Rattle.cbpf_syntax.specs.Refusals.{symbol_at, IsLargeNegative}
 
 -- the tokens of segments that begin at a place
 abbrev pub lexemes_at : ℕ → List Segment → List Lexeme

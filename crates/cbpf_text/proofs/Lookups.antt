@@ -2,14 +2,14 @@
 use Rattle.std.proofs.Common.{◌≡◌, ◌≢◌, refl, sym, ◌∙◌, ap, subst, cond, ℕ, zero, suc, ◌+◌, ◌<◌, Bool, true, false}
 use Rattle.std.proofs.Common.{List, [], ◌∷◌, Option, Some, None, arith}
 use Rattle.std.specs.Prelude.{bytes_eq}
-use Rattle.cbpf_grammar.specs.Lexemes.{Lexeme}
-use Rattle.cbpf_grammar.specs.Items.{Item}
+use Rattle.cbpf_syntax.specs.Lexemes.{Lexeme}
+use Rattle.cbpf_syntax.specs.Items.{Item}
 use Rattle.cbpf_text.specs.Labels.{name_of, set_labels, times_among, times_set, AreDistinct, SetsAt}
 use Rattle.cbpf_text.specs.Tables.{labels_of, labels_from, place_among, IsLookup}
 use Rattle.cbpf_text.proofs.LabelLists.{times_append, times_cons, times_hit, distinct_once, or_else, place_append}
 use Rattle.cbpf_text.proofs.LabelLists.{no_place}
 use Rattle.cbpf_text.proofs.LabelSteps.{words_from}
-use Rattle.cbpf_lex.proofs.Cuts.{some-same}
+use Rattle.cbpf_syntax.proofs.Cuts.{some-same}
 
 -- the items that set a name do so more than no times
 pub sets_some : (is : List Item) (p : ℕ) (name : List ℕ) → SetsAt is p name → 0 < times_set is name

@@ -1,14 +1,14 @@
 -- A text that assembles isn't refused.
 use Rattle.std.proofs.Common.{◌≡◌, ◌≢◌, refl, ap, subst, ℕ, ◌<◌, List, [], ◌∷◌, ◌++◌, length, arith}
 use Rattle.std.specs.Prelude.{All}
-use Rattle.cbpf_lex.proofs.Outcomes as lexer
+use Rattle.cbpf_syntax.proofs.Outcomes as lexer
 use Rattle.cbpf_code.specs.declared.insn.Insn.{Insn}
-use Rattle.cbpf_grammar.specs.Refusals.{ParseFault as parse}
-use Rattle.cbpf_grammar.specs.Lexemes.{Lexeme, lexemes_of}
-use Rattle.cbpf_grammar.specs.Items.{Item}
-use Rattle.cbpf_grammar.proofs.OneReading.{one_reading}
-use Rattle.cbpf_grammar.proofs.Refused.{items_accepted}
-use Rattle.cbpf_grammar.proofs.Apart.{bytes_eq_self}
+use Rattle.cbpf_syntax.specs.Refusals.{ParseFault as parse}
+use Rattle.cbpf_syntax.specs.Lexemes.{Lexeme, lexemes_of}
+use Rattle.cbpf_syntax.specs.Items.{Item}
+use Rattle.cbpf_syntax.proofs.OneReading.{one_reading}
+use Rattle.cbpf_syntax.proofs.Refused.{items_accepted}
+use Rattle.cbpf_syntax.proofs.Apart.{bytes_eq_self}
 use Rattle.cbpf_text.specs.declared.fault.AsmKind.{AsmKind}
 use Rattle.cbpf_text.specs.declared.fault.AsmFault.{AsmFault}
 use Rattle.cbpf_text.specs.declared.fault.AsmFault.TheVariants as faults

@@ -1,13 +1,13 @@
 -- A text assembles to at most one list of instructions.
 use Rattle.std.proofs.Common.{◌≡◌, refl, sym, ◌∙◌, subst, ℕ, ◌+◌, List, [], ◌∷◌, Option, Some, None, arith}
 use Rattle.std.specs.Prelude.{slice_get}
-use Rattle.cbpf_lex.proofs.Outcomes.{one_list}
+use Rattle.cbpf_syntax.proofs.Outcomes.{one_list}
 use Rattle.cbpf_code.specs.declared.insn.Insn.{Insn}
-use Rattle.cbpf_grammar.specs.declared.table.Fields.{Fields}
-use Rattle.cbpf_grammar.specs.declared.table.Fields.TheVariants.{Constant, Goto, Branch, Swapped}
-use Rattle.cbpf_grammar.specs.Lexemes.{Lexeme, lexemes_of}
-use Rattle.cbpf_grammar.specs.Items.{Item}
-use Rattle.cbpf_grammar.proofs.OneReading.{one_reading}
+use Rattle.cbpf_syntax.specs.declared.table.Fields.{Fields}
+use Rattle.cbpf_syntax.specs.declared.table.Fields.TheVariants.{Constant, Goto, Branch, Swapped}
+use Rattle.cbpf_syntax.specs.Lexemes.{Lexeme, lexemes_of}
+use Rattle.cbpf_syntax.specs.Items.{Item}
+use Rattle.cbpf_syntax.proofs.OneReading.{one_reading}
 use Rattle.cbpf_text.specs.Labels.{name_of}
 use Rattle.cbpf_text.specs.Assembled.{AssembleTokens, EncodeEach, IsEncoded, FillsFields, IsOffset}
 use Rattle.cbpf_text.specs.Operands.{literal_in, targets_in}

@@ -1,17 +1,17 @@
 -- A text has at most one refusal with a line.
 use Rattle.std.proofs.Common.{◌≡◌, refl, sym, ◌∙◌, ap, subst, ℕ, ◌<◌, ◌≤◌, List, [], ◌∷◌, ◌++◌, length, Some, arith}
 use Rattle.std.specs.Prelude.{slice_get, All}
-use Rattle.cbpf_lex.proofs.Outcomes as lexer
-use Rattle.cbpf_grammar.specs.Refusals.{ParseFault as parse}
-use Rattle.cbpf_grammar.specs.Lexemes.{Lexeme, lexemes_of}
-use Rattle.cbpf_grammar.specs.Items.{Item}
-use Rattle.cbpf_grammar.proofs.OneReading.{one_reading}
-use Rattle.cbpf_grammar.proofs.OneRefusal as grammar
+use Rattle.cbpf_syntax.proofs.Outcomes as lexer
+use Rattle.cbpf_syntax.specs.Refusals.{ParseFault as parse}
+use Rattle.cbpf_syntax.specs.Lexemes.{Lexeme, lexemes_of}
+use Rattle.cbpf_syntax.specs.Items.{Item}
+use Rattle.cbpf_syntax.proofs.OneReading.{one_reading}
+use Rattle.cbpf_syntax.proofs.OneRefusal as grammar
 use Rattle.cbpf_text.specs.declared.fault.AsmKind.{AsmKind}
 use Rattle.cbpf_text.specs.declared.fault.AsmFault.{AsmFault}
 use Rattle.cbpf_text.specs.declared.fault.AsmFault.TheVariants as faults
-use Rattle.cbpf_lex.specs.Tokens.{line_of}
-use Rattle.cbpf_lex.proofs.Cuts.{some-same}
+use Rattle.cbpf_syntax.specs.Tokens.{line_of}
+use Rattle.cbpf_syntax.proofs.Cuts.{some-same}
 use Rattle.cbpf_text.specs.Labels.{name_of, set_labels, times_set, AreDistinct, SetsAt}
 use Rattle.cbpf_text.specs.Refusals.{Use, IsUseFault, IsGoodUse, IsFirstRepeat, IsFirstBadUse, IsItemsFault}
 use Rattle.cbpf_text.specs.Refusals.{IsTokensFault, IsRefused, uses_from, piece_kind}

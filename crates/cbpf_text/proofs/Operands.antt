@@ -7,15 +7,15 @@ use Rattle.std.proofs.Math.Numerals.{add-one}
 use Rattle.std.proofs.lemmas.Slice.Eq.{bytes_eq-Decides}
 use Rattle.cbpf_code.specs.declared.extension.Ext.{Ext}
 use Rattle.cbpf_code.specs.Extension.{ext_name}
-use Rattle.cbpf_grammar.specs.declared.class.Class as declared_class
-use Rattle.cbpf_grammar.specs.declared.class.Class.TheVariants as variants
-use Rattle.cbpf_grammar.specs.declared.lexeme.Lexeme as declared_lexeme
-use Rattle.cbpf_grammar.specs.declared.lexeme.Symbol.TheVariants as symbols
-use Rattle.cbpf_grammar.specs.Classes.{Class}
-use Rattle.cbpf_grammar.specs.Classes.Class.{the_word}
-use Rattle.cbpf_grammar.specs.Lexemes.{Symbol, Lexeme}
-use Rattle.cbpf_grammar.specs.Items.{names_at, when_name}
-use Rattle.cbpf_grammar.specs.Views.{class_of, symbol_of, lexeme_of}
+use Rattle.cbpf_syntax.specs.declared.class.Class as declared_class
+use Rattle.cbpf_syntax.specs.declared.class.Class.TheVariants as variants
+use Rattle.cbpf_syntax.specs.declared.lexeme.Lexeme as declared_lexeme
+use Rattle.cbpf_syntax.specs.declared.lexeme.Symbol.TheVariants as symbols
+use Rattle.cbpf_syntax.specs.Classes.{Class}
+use Rattle.cbpf_syntax.specs.Classes.Class.{the_word}
+use Rattle.cbpf_syntax.specs.Lexemes.{Symbol, Lexeme}
+use Rattle.cbpf_syntax.specs.Items.{names_at, when_name}
+use Rattle.cbpf_syntax.specs.Views.{class_of, symbol_of, lexeme_of}
 use Rattle.cbpf_text.specs.Operands.{value_at, first_of, literal_of, place_named}
 
 next_of : {A B : Type 0} (f : A → B) (xs : List A) (i : ℕ) (d : A) → i < length xs

@@ -3,26 +3,26 @@ use Rattle.std.proofs.Common.{◌≡◌, refl, sym, ◌∙◌, ap, subst, ℕ, z
 use Rattle.std.proofs.Common.{[], ◌∷◌, ◌++◌, length, map, take, drop, get_or, Option, Some, None, arith, append_assoc}
 use Rattle.std.proofs.Common.{append-nil, length-append, length-drop}
 use Rattle.std.proofs.lemmas.List.{length-map, length-take-le, drop-drop, drop_at}
-use Rattle.cbpf_lex.specs.Tokens.{LexesTo}
-use Rattle.cbpf_grammar.specs.declared.lexeme.Lexeme as declared_lexeme
-use Rattle.cbpf_grammar.specs.declared.reader.SyntaxFault.TheVariants as refused
-use Rattle.cbpf_grammar.specs.Lexemes.{Lexeme, lexemes_of, AreLexemes}
-use Rattle.cbpf_grammar.specs.Items.{Item, Items}
-use Rattle.cbpf_grammar.specs.Views.{lexeme_of, row_of, label_words}
-use Rattle.cbpf_grammar.specs.Reading.{Ahead, IsReading, IsRefusedFor, IsFirstLarge}
+use Rattle.cbpf_syntax.specs.Tokens.{LexesTo}
+use Rattle.cbpf_syntax.specs.declared.lexeme.Lexeme as declared_lexeme
+use Rattle.cbpf_syntax.specs.declared.reader.SyntaxFault.TheVariants as refused
+use Rattle.cbpf_syntax.specs.Lexemes.{Lexeme, lexemes_of, AreLexemes}
+use Rattle.cbpf_syntax.specs.Items.{Item, Items}
+use Rattle.cbpf_syntax.specs.Views.{lexeme_of, row_of, label_words}
+use Rattle.cbpf_syntax.specs.Reading.{Ahead, IsReading, IsRefusedFor, IsFirstLarge}
 use Rattle.std.specs.Prelude.{Ok}
 use Rattle.std.proofs.Math.Seq.{take-append_seam}
 use Rattle.std.proofs.lemmas.Bool.{and_parts}
-use Rattle.cbpf_grammar.specs.declared.item.Row as declared_row
-use Rattle.cbpf_grammar.specs.Classes.Class.{the_mark, name}
-use Rattle.cbpf_grammar.specs.Fits.{fits}
-use Rattle.cbpf_grammar.specs.Steps.{IsInstruction, IsNextItem, Stuck, AreLabels, starts_with_label}
-use Rattle.cbpf_grammar.specs.Refusals.{IsStuckAt}
-use Rattle.cbpf_grammar.proofs.Greedy.{Greedy}
-use Rattle.cbpf_grammar.proofs.Labels.{labels_item, labels_stuck, labels_append}
-use Rattle.cbpf_grammar.proofs.Taking.{taken_is, ahead_is}
-use Rattle.cbpf_grammar.proofs.Refused.{items_large, large_within, items_accepted, greedy_more, greedy_all, stuck_at}
-use Rattle.cbpf_grammar.specs.Refusals.{IsAccepted}
+use Rattle.cbpf_syntax.specs.declared.item.Row as declared_row
+use Rattle.cbpf_syntax.specs.Classes.Class.{the_mark, name}
+use Rattle.cbpf_syntax.specs.Fits.{fits}
+use Rattle.cbpf_syntax.specs.Steps.{IsInstruction, IsNextItem, Stuck, AreLabels, starts_with_label}
+use Rattle.cbpf_syntax.specs.Refusals.{IsStuckAt}
+use Rattle.cbpf_syntax.proofs.Greedy.{Greedy}
+use Rattle.cbpf_syntax.proofs.Labels.{labels_item, labels_stuck, labels_append}
+use Rattle.cbpf_syntax.proofs.Taking.{taken_is, ahead_is}
+use Rattle.cbpf_syntax.proofs.Refused.{items_large, large_within, items_accepted, greedy_more, greedy_all, stuck_at}
+use Rattle.cbpf_syntax.specs.Refusals.{IsAccepted}
 use Rattle.cbpf_text.specs.declared.name.Name.{Name}
 use Rattle.cbpf_text.specs.declared.fault.AsmKind.TheVariants as kinds
 use Rattle.cbpf_text.specs.declared.fault.AsmFault.{AsmFault}

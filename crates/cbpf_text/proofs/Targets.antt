@@ -2,12 +2,12 @@
 use Rattle.std.proofs.Common.{◌≡◌, refl, sym, ◌∙◌, subst, ℕ, true, false, List, [], ◌∷◌, length, Option, Some, None}
 use Rattle.std.proofs.Common.{arith}
 use Rattle.std.specs.Prelude.{slice_get}
-use Rattle.cbpf_grammar.specs.declared.table.Fields.{Fields}
-use Rattle.cbpf_grammar.specs.declared.table.Fields.TheVariants.{Constant, Goto, Branch, Swapped}
-use Rattle.cbpf_grammar.specs.Lexemes.{Lexeme}
+use Rattle.cbpf_syntax.specs.declared.table.Fields.{Fields}
+use Rattle.cbpf_syntax.specs.declared.table.Fields.TheVariants.{Constant, Goto, Branch, Swapped}
+use Rattle.cbpf_syntax.specs.Lexemes.{Lexeme}
 use Rattle.cbpf_text.specs.declared.draft.Target.{Target}
 use Rattle.cbpf_text.specs.Drafts.{IsTarget, AreTargets}
-use Rattle.cbpf_grammar.specs.Items.{Item}
+use Rattle.cbpf_syntax.specs.Items.{Item}
 use Rattle.cbpf_text.specs.declared.draft.Statement.{Statement}
 use Rattle.cbpf_text.specs.Assembled.{IsOffset, IsShortOffset, IsEncoded, FillsFields}
 use Rattle.cbpf_text.specs.Drafts.{IsStatement}

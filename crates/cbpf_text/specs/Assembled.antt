@@ -1,15 +1,15 @@
 -- Which instructions a source text stands for: opcodes, literals and jump offsets as in the kernel's
 -- Documentation/networking/filter, as a relation between whole lists.
 use Rattle.std.specs.Prelude.{◌≡◌, ℕ, ◌+◌, ◌<◌, ◌≤◌, List, [], ◌∷◌, length, slice_get, Option, Some, None}
-use Rattle.cbpf_lex.specs.declared.token.Token.{Token}
-use Rattle.cbpf_lex.specs.Tokens.{Lexes}
+use Rattle.cbpf_syntax.specs.declared.token.Token.{Token}
+use Rattle.cbpf_syntax.specs.Tokens.{Lexes}
 use Rattle.cbpf_code.specs.declared.insn.Insn.{Insn}
 use Rattle.cbpf_code.specs.Opcode.{code_of}
-use Rattle.cbpf_grammar.specs.declared.table.Fields.{Fields}
-use Rattle.cbpf_grammar.specs.declared.table.Fields.TheVariants.{Constant, Goto, Branch, Swapped}
-use Rattle.cbpf_grammar.specs.Lexemes.{Lexeme, lexemes_of}
-use Rattle.cbpf_grammar.specs.Items.{Item, Items}
-use Rattle.cbpf_grammar.specs.Refusals.{IsLargeNegative}
+use Rattle.cbpf_syntax.specs.declared.table.Fields.{Fields}
+use Rattle.cbpf_syntax.specs.declared.table.Fields.TheVariants.{Constant, Goto, Branch, Swapped}
+use Rattle.cbpf_syntax.specs.Lexemes.{Lexeme, lexemes_of}
+use Rattle.cbpf_syntax.specs.Items.{Item, Items}
+use Rattle.cbpf_syntax.specs.Refusals.{IsLargeNegative}
 use Rattle.cbpf_text.specs.Labels.{name_of, set_labels, AreDistinct, IsPlace}
 use Rattle.cbpf_text.specs.Operands.{literal_in, targets_in}
 

@@ -2,9 +2,9 @@
 -- addressing modes of the kernel's Documentation/networking/filter have them.
 use Rattle.std.specs.Prelude.{◌≡◌, ◌≤◌, ℕ, List, [], ◌∷◌, ◌++◌, length, map, slice_get, Option, Some, None}
 use Rattle.cbpf_code.specs.Opcode.{code_of}
-use Rattle.cbpf_grammar.specs.Lexemes.{Lexeme}
-use Rattle.cbpf_grammar.specs.Items.{Item}
-use Rattle.cbpf_grammar.specs.Views.{label_words}
+use Rattle.cbpf_syntax.specs.Lexemes.{Lexeme}
+use Rattle.cbpf_syntax.specs.Items.{Item}
+use Rattle.cbpf_syntax.specs.Views.{label_words}
 use Rattle.cbpf_text.specs.declared.draft.Statement.{Statement}
 use Rattle.cbpf_text.specs.declared.draft.Target.{Target}
 use Rattle.cbpf_text.specs.declared.name.Name.{Name}

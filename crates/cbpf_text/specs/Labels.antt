@@ -1,9 +1,9 @@
 -- Which labels a list of items sets, and where: labels as the kernel's Documentation/networking/filter has them, each
 -- a name for the instruction after it.
 use Rattle.std.specs.Prelude.{◌≡◌, ◌≢◌, ℕ, List, [], bytes_eq, count_by, flat_map, slice_get, Some, All}
-use Rattle.cbpf_grammar.specs.Lexemes.{Symbol, Lexeme}
-use Rattle.cbpf_grammar.specs.Lexemes.Symbol.{word, number, mark}
-use Rattle.cbpf_grammar.specs.Items.{Item}
+use Rattle.cbpf_syntax.specs.Lexemes.{Symbol, Lexeme}
+use Rattle.cbpf_syntax.specs.Lexemes.Symbol.{word, number, mark}
+use Rattle.cbpf_syntax.specs.Items.{Item}
 
 -- the bytes of a word
 abbrev pub bytes_of : Symbol → List ℕ

@@ -5,7 +5,7 @@ use Rattle.cbpf_code.specs.declared.insn.Insn.{Insn}
 use Rattle.cbpf_code.specs.Plain.{plain}
 use Rattle.cbpf_code.specs.Sound.{IsSound}
 use Rattle.cbpf_code.specs.WordForm.{InRange}
-use Rattle.cbpf_listing.specs.Listing.{listing}
+use Rattle.cbpf_code.specs.Listing.{listing}
 use Rattle.cbpf_text.specs.declared.fault.AsmKind.{AsmKind}
 use Rattle.cbpf_text.specs.declared.fault.AsmFault.{AsmFault}
 use Rattle.cbpf_text.specs.declared.fault.AsmFault.TheVariants.{Memory, At}

@@ -4,13 +4,13 @@ use Rattle.std.specs.Prelude.{◌≡◌, ℕ, true, Contains, ◌-◌, ◌%◌, 
 use Rattle.std.specs.Prelude.{if◌then◌else◌}
 use Rattle.cbpf_code.specs.declared.extension.Ext.{Ext}
 use Rattle.cbpf_code.specs.Extension.{ext_table, ext_name}
-use Rattle.cbpf_grammar.specs.Classes.{Class}
-use Rattle.cbpf_grammar.specs.Classes.Class.{the_word, the_mark, literal, negated, exactly, extension, name}
-use Rattle.cbpf_grammar.specs.Lexemes.{Symbol, Lexeme}
-use Rattle.cbpf_grammar.specs.Lexemes.Symbol.{word, number, mark}
-use Rattle.cbpf_grammar.specs.Table.{classes, table}
-use Rattle.cbpf_grammar.specs.Fits.{fits_all}
-use Rattle.cbpf_grammar.specs.Items.{Item, names_at}
+use Rattle.cbpf_syntax.specs.Classes.{Class}
+use Rattle.cbpf_syntax.specs.Classes.Class.{the_word, the_mark, literal, negated, exactly, extension, name}
+use Rattle.cbpf_syntax.specs.Lexemes.{Symbol, Lexeme}
+use Rattle.cbpf_syntax.specs.Lexemes.Symbol.{word, number, mark}
+use Rattle.cbpf_syntax.specs.Table.{classes, table}
+use Rattle.cbpf_syntax.specs.Fits.{fits_all}
+use Rattle.cbpf_syntax.specs.Items.{Item, names_at}
 
 -- the place that stands for the extension of this name
 abbrev pub place_named : List (ℕ × Ext) → List ℕ → Option ℕ

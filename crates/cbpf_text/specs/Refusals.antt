@@ -2,16 +2,16 @@
 -- Documentation/networking/filter has no faults.
 use Rattle.std.specs.Prelude.{◌≡◌, ◌≢◌, ℕ, ◌+◌, ◌-◌, ◌<◌, ◌≤◌, Bool, true, false, List, [], ◌∷◌, ◌++◌, length, map}
 use Rattle.std.specs.Prelude.{slice_get, Option, Some, None, All}
-use Rattle.cbpf_lex.specs.declared.token.Token.{Token}
-use Rattle.cbpf_lex.specs.declared.token.BadPiece.{BadPiece}
-use Rattle.cbpf_lex.specs.declared.token.BadPiece.TheVariants as pieces
-use Rattle.cbpf_lex.specs.Tokens.{Lexes, IsFirstBad, line_of}
-use Rattle.cbpf_grammar.specs.declared.table.Fields.{Fields}
-use Rattle.cbpf_grammar.specs.declared.table.Fields.TheVariants.{Constant, Goto, Branch, Swapped}
-use Rattle.cbpf_grammar.specs.Refusals.{ParseFault as parse}
-use Rattle.cbpf_grammar.specs.Lexemes.{Lexeme, lexemes_of}
-use Rattle.cbpf_grammar.specs.Items.{Item, Items}
-use Rattle.cbpf_grammar.specs.Refusals.{IsFirstRefusal, IsAccepted}
+use Rattle.cbpf_syntax.specs.declared.token.Token.{Token}
+use Rattle.cbpf_syntax.specs.declared.token.BadPiece.{BadPiece}
+use Rattle.cbpf_syntax.specs.declared.token.BadPiece.TheVariants as pieces
+use Rattle.cbpf_syntax.specs.Tokens.{Lexes, IsFirstBad, line_of}
+use Rattle.cbpf_syntax.specs.declared.table.Fields.{Fields}
+use Rattle.cbpf_syntax.specs.declared.table.Fields.TheVariants.{Constant, Goto, Branch, Swapped}
+use Rattle.cbpf_syntax.specs.Refusals.{ParseFault as parse}
+use Rattle.cbpf_syntax.specs.Lexemes.{Lexeme, lexemes_of}
+use Rattle.cbpf_syntax.specs.Items.{Item, Items}
+use Rattle.cbpf_syntax.specs.Refusals.{IsFirstRefusal, IsAccepted}
 use Rattle.cbpf_text.specs.declared.fault.AsmKind.{AsmKind}
 use Rattle.cbpf_text.specs.declared.fault.AsmKind.TheVariants as kinds
 use Rattle.cbpf_text.specs.declared.fault.AsmFault.{AsmFault}

@@ -2,7 +2,7 @@
 
 ghost use Rattle.std.specs.Prelude.{◌≡◌, ◌≤◌, List, [], length, IfOk, IfErr, All};
 ghost use Rattle.indexmap.specs.IndexMap.{get};
-ghost use Rattle.cbpf_grammar.specs.Items as items;
+ghost use Rattle.cbpf_syntax.specs.Items as items;
 ghost use Rattle.cbpf_text.specs.Assembled.{Assembles, AreEncoded};
 ghost use Rattle.cbpf_text.specs.Drafts.{IsDraft};
 ghost use Rattle.cbpf_text.specs.Refusals.{Reported, IsItemsFault, IsRefused};

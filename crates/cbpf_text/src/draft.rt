@@ -3,14 +3,14 @@
 ghost use Rattle.std.specs.Prelude.{◌≡◌, ◌≤◌, ◌<◌, ◌+◌, ◌++◌, ◌∷◌, [], true, ℕ, List, length, map, None, IfOk, IfErr};
 ghost use Rattle.std.specs.Prelude.{OnOk};
 ghost use Rattle.indexmap.specs.IndexMap.{get};
-ghost use Rattle.cbpf_lex.specs.Tokens.{IsLexFault};
-ghost use Rattle.cbpf_grammar.specs.Lexemes as lexemes;
-ghost use Rattle.cbpf_grammar.specs.Lexemes.{AreLexemes};
-ghost use Rattle.cbpf_grammar.specs.Items as items;
-ghost use Rattle.cbpf_grammar.specs.Items.{Items};
-ghost use Rattle.cbpf_grammar.specs.Refusals.{IsAccepted, IsStuckAt};
-ghost use Rattle.cbpf_grammar.specs.Reading.{IsReading, IsRefusedFor, StartsWithWord};
-ghost use Rattle.cbpf_grammar.specs.Views.{lexeme_of, row_of, label_words};
+ghost use Rattle.cbpf_syntax.specs.Tokens.{IsLexFault};
+ghost use Rattle.cbpf_syntax.specs.Lexemes as lexemes;
+ghost use Rattle.cbpf_syntax.specs.Lexemes.{AreLexemes};
+ghost use Rattle.cbpf_syntax.specs.Items as items;
+ghost use Rattle.cbpf_syntax.specs.Items.{Items};
+ghost use Rattle.cbpf_syntax.specs.Refusals.{IsAccepted, IsStuckAt};
+ghost use Rattle.cbpf_syntax.specs.Reading.{IsReading, IsRefusedFor, StartsWithWord};
+ghost use Rattle.cbpf_syntax.specs.Views.{lexeme_of, row_of, label_words};
 ghost use Rattle.cbpf_text.specs.Drafts.{IsStatement, IsDraft, AreTargets, AreSet};
 ghost use Rattle.cbpf_text.specs.Refusals.{Reported, IsTokensFault, IsRefused};
 ghost use Rattle.cbpf_text.specs.Tables.{same_name};
@@ -22,7 +22,7 @@ use crate::operand::value_at;
 use crate::placed_fault::{PlacedFault, fault_of};
 use crate::source::asm_fault;
 use cbpf_code::code_of;
-use cbpf_grammar::{Class, Fields, Lexeme, Reader, Row, Step};
+use cbpf_syntax::{Class, Fields, Lexeme, Reader, Row, Step};
 use std::alloc::{AllocFailed, Allocator};
 
 /// The most instructions that a program has.
@@ -161,13 +161,13 @@ fn add_instruction<'a, A: Allocator>(
 }
 
 /// The fault of the syntax, as one of the assembler.
-fn placed(refused: cbpf_grammar::SyntaxFault) -> PlacedFault
+fn placed(refused: cbpf_syntax::SyntaxFault) -> PlacedFault
     ensures { (ts : List lexemes.Lexeme) → IsRefusedFor ts refused → Reported (IsTokensFault ts) result }
 {
     match refused {
-        cbpf_grammar::SyntaxFault::Misplaced(at) => PlacedFault::At(AsmKind::Misplaced, at),
-        cbpf_grammar::SyntaxFault::LargeNegative(at) => PlacedFault::At(AsmKind::LargeNumber, at),
-        cbpf_grammar::SyntaxFault::Unfinished(at) => PlacedFault::At(AsmKind::Unfinished, at),
+        cbpf_syntax::SyntaxFault::Misplaced(at) => PlacedFault::At(AsmKind::Misplaced, at),
+        cbpf_syntax::SyntaxFault::LargeNegative(at) => PlacedFault::At(AsmKind::LargeNumber, at),
+        cbpf_syntax::SyntaxFault::Unfinished(at) => PlacedFault::At(AsmKind::Unfinished, at),
     }
 }
 

@@ -2,8 +2,8 @@
 
 ghost use Rattle.std.specs.Prelude.{◌≤◌, Bool, true, List, length, Some, IfOk, IfErr, All};
 ghost use Rattle.indexmap.specs.IndexMap.{get};
-ghost use Rattle.cbpf_grammar.specs.Items as items;
-ghost use Rattle.cbpf_grammar.specs.Lexemes as lexemes;
+ghost use Rattle.cbpf_syntax.specs.Items as items;
+ghost use Rattle.cbpf_syntax.specs.Lexemes as lexemes;
 ghost use Rattle.cbpf_text.specs.Assembled.{IsOffset, IsShortOffset, IsEncoded, EncodeEach};
 ghost use Rattle.cbpf_text.specs.Refusals.{Reported, IsTargetFault, IsFirstBadUse, uses_of, uses_from};
 ghost use Rattle.cbpf_text.specs.Tables.{same_name, Resolves};
@@ -15,7 +15,7 @@ use crate::fault::AsmKind;
 use crate::labels::LabelTable;
 use crate::placed_fault::PlacedFault;
 use cbpf_code::Insn;
-use cbpf_grammar::Fields;
+use cbpf_syntax::Fields;
 use std::alloc::Allocator;
 
 /// The most instructions that a conditional jump goes over.

@@ -2,13 +2,13 @@
 
 ghost use Rattle.std.specs.Prelude.{[], ◌∷◌, ◌++◌, List, OnOk};
 ghost use Rattle.indexmap.specs.IndexMap.{get};
-ghost use Rattle.cbpf_grammar.specs.Views.{lexeme_of};
+ghost use Rattle.cbpf_syntax.specs.Views.{lexeme_of};
 ghost use Rattle.cbpf_text.specs.Drafts.{AreSet};
 ghost use Rattle.cbpf_text.specs.Tables as tables;
 ghost use Rattle.cbpf_text.specs.Tables.{same_name};
 
 use crate::name::{Name, name_of};
-use cbpf_grammar::Lexeme;
+use cbpf_syntax::Lexeme;
 use indexmap::IndexMap;
 use std::alloc::{AllocFailed, Allocator};
 use std::hash::{BuildHasher, DefaultHasher, FoldHasher, Hasher};

@@ -4,11 +4,10 @@ ghost use Rattle.std.specs.Prelude.{map, All};
 ghost use Rattle.cbpf_code.specs.Writing.{Wrote};
 ghost use Rattle.cbpf_code.specs.WordForm.{InRange};
 ghost use Rattle.cbpf_code.specs.Plain.{plain};
-ghost use Rattle.cbpf_listing.specs.Listing.{listing};
+ghost use Rattle.cbpf_code.specs.Listing.{listing};
 ghost use Rattle.cbpf_text.specs.Assembled.{Assembles};
 
-use cbpf_code::{Insn, Program, WriteFault};
-use cbpf_listing::write_lines;
+use cbpf_code::{Insn, Program, WriteFault, write_lines};
 use std::alloc::Allocator;
 use std::io::Write;
 

@@ -1,10 +1,10 @@
 //! The names of labels.
 
 ghost use Rattle.std.specs.Prelude.{◌≡◌};
-ghost use Rattle.cbpf_grammar.specs.Views.{symbol_of};
+ghost use Rattle.cbpf_syntax.specs.Views.{symbol_of};
 ghost use Rattle.cbpf_text.specs.Labels.{bytes_of};
 
-use cbpf_grammar::Symbol;
+use cbpf_syntax::Symbol;
 use std::hash::{Hash, Hasher};
 
 /// A label's name, which is hashed as a whole and not byte by byte.

@@ -1,11 +1,11 @@
 //! The literals of instructions.
 
 ghost use Rattle.std.specs.Prelude.{◌≡◌};
-ghost use Rattle.cbpf_grammar.specs.Views.{class_of, symbol_of};
+ghost use Rattle.cbpf_syntax.specs.Views.{class_of, symbol_of};
 ghost use Rattle.cbpf_text.specs.Operands.{value_at};
 
 use cbpf_code::{FIRST_EXTENSION, ext_named, ext_offset};
-use cbpf_grammar::{Class, Symbol};
+use cbpf_syntax::{Class, Symbol};
 
 /// The value of a token at its class, where it has one.
 pub(crate) fn value_at(class: Class, symbol: Symbol<'_>) -> Option<u32>

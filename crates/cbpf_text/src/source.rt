@@ -1,11 +1,11 @@
 //! The tokens of a source text, and what is reported of one that has none.
 
 ghost use Rattle.std.specs.Prelude.{◌≡◌, ℕ, List, IfOk, IfErr, All};
-ghost use Rattle.cbpf_lex.specs.Tokens.{Lexes, IsLexFault, IsSpanOf, line_of};
+ghost use Rattle.cbpf_syntax.specs.Tokens.{Lexes, IsLexFault, IsSpanOf, line_of};
 ghost use Rattle.cbpf_text.specs.Refusals.{IsLexRefused, piece_kind};
 
 use crate::fault::{AsmFault, AsmKind};
-use cbpf_lex::{BadPiece, LexFault, Token};
+use cbpf_syntax::{BadPiece, LexFault, Token};
 use std::alloc::Allocator;
 
 fn piece_kind(bad: BadPiece) -> AsmKind
@@ -32,7 +32,7 @@ pub(crate) fn asm_fault(fault: LexFault) -> AsmFault
 pub(crate) fn line_of(text: &[u8], at: usize) -> u64
     ensures { result ≡ line_of text.now at }
 {
-    cbpf_lex::line_of(text, at.min(text.len()))
+    cbpf_syntax::line_of(text, at.min(text.len()))
 }
 
 /// The tokens of a source text, in order, each with its place.
@@ -46,7 +46,7 @@ pub fn tokens<A: Allocator>(alloc: A, text: &[u8]) -> Result<Vec<Token, A>, AsmF
     ensures spans { IfOk result (λ v. All (IsSpanOf text.now) v.items) }
     ensures refused { IfErr result (IsLexRefused text.now) }
 {
-    match cbpf_lex::tokens(alloc, text) {
+    match cbpf_syntax::tokens(alloc, text) {
         Ok(found) => Ok(found),
         Err(fault) => Err(asm_fault(fault)),
     }

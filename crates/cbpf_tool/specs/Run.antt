@@ -3,9 +3,9 @@ use Rattle.std.specs.Prelude.{ℕ, Result, Ok, Err, string_bytes}
 use Rattle.std.specs.Option.{option_map}
 use Rattle.cbpf_command_line.specs.declared.job.Job.{Job}
 use Rattle.cbpf_command_line.specs.declared.job.Job.TheVariants.{Asm, Dbg}
-use Rattle.cbpf_jobs.specs.Hosted.{Hosted}
-use Rattle.cbpf_jobs.specs.Jobs.{AsmJob, DbgJob}
-use Rattle.cbpf_jobs.specs.declared.failure.Failure.{Failure}
+use Rattle.cbpf_tool.specs.Hosted.{Hosted}
+use Rattle.cbpf_tool.specs.Jobs.{AsmJob, DbgJob}
+use Rattle.cbpf_tool.specs.declared.failure.Failure.{Failure}
 
 abbrev pub JobDone : Hosted → Hosted → Job → Result (Unit {0}) Failure → Type 0
 JobDone old new (Asm form file) r = AsmJob old new form (option_map (λ n. string_bytes n) file) r

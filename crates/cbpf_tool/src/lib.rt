@@ -1,12 +1,39 @@
-//! All that `cbpf` calls: its command line, and its two jobs. Each stands in a crate of its own, so that no proof of
-//! a job reads clap.
+//! The jobs of `cbpf`: the debugger over a script of commands, and the assembler over a source; and what a command line and a
+//! line of a script say.
 #![tactic(auto)]
 
+mod arguments;
+mod asm_on_host;
+mod assembler;
+mod command;
+mod dbg_on_host;
+mod debugger;
+mod disk_files;
+mod failure;
+mod fault;
+mod files;
+mod flushing;
+mod host;
+mod law;
+mod line_reader;
+mod loads;
+mod memory_files;
+mod number;
+mod perform;
 mod run_job;
+mod scan;
+mod session_replies;
 
+pub use asm_on_host::asm_job;
+pub use assembler::asm;
 pub use cbpf_command_line::{Form, Job, LineFault, command_line};
-pub use cbpf_jobs::{
-    CreateFault, DiskFiles, Failure, Files, Host, LoadFault, MemoryFiles, ToolFault, asm, debug,
-    one_output,
-};
+pub use dbg_on_host::dbg_job;
+pub use debugger::debug;
+pub use disk_files::DiskFiles;
+pub use failure::Failure;
+pub use fault::ToolFault;
+pub use files::{Files, LoadFault};
+pub use host::{CreateFault, Host};
+pub use law::one_output;
+pub use memory_files::MemoryFiles;
 pub use run_job::{run_on, status_of};

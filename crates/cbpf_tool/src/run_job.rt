@@ -3,8 +3,11 @@ ghost use Rattle.std.specs.Prelude.{◌≡◌, IsTrue};
 ghost use Rattle.std.specs.Process.{exit_status};
 ghost use Rattle.cbpf_tool.specs.Run as spec;
 
+use crate::asm_on_host::asm_job;
+use crate::dbg_on_host::dbg_job;
+use crate::failure::Failure;
+use crate::host::Host;
 use cbpf_command_line::Job;
-use cbpf_jobs::{Failure, Host, asm_job, dbg_job};
 use std::alloc::Allocator;
 use std::process::ExitCode;
 

@@ -4,7 +4,7 @@ use Rattle.std.specs.Ordering.{nat_cmp}
 use Rattle.std.specs.Cmp.Lexicographic.{slice_cmp, nat_list_cmp_total}
 use Rattle.std.specs.FinMap.{find, get-from_entries}
 use Rattle.std.specs.Prelude.{bytes_eq}
-use Rattle.cbpf_jobs.proofs.FileLemmas.{scan-miss, scan-hit}
+use Rattle.cbpf_tool.proofs.FileLemmas.{scan-miss, scan-hit}
 use Rattle.cbpf_tests.proofs.memory_host.bytes_of.Goals as goal
 
 pub loop-file-init : goal.loop-file-init

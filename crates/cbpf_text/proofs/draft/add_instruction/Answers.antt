@@ -1,5 +1,5 @@
 use Rattle.std.proofs.Common.{rules, ◌≡◌, ◌<◌, length, refl, subst}
-use Rattle.cbpf_grammar.specs.Views.{label_words}
+use Rattle.cbpf_syntax.specs.Views.{label_words}
 use Rattle.indexmap.specs.IndexMap.{get}
 use Rattle.cbpf_text.specs.Drafts.{IsDraft}
 use Rattle.cbpf_text.specs.Tables.{same_name}

@@ -1,6 +1,6 @@
 use Rattle.std.proofs.Common.{subst}
-use Rattle.cbpf_lex.specs.Tokens.{IsLexFault}
-use Rattle.cbpf_grammar.specs.Lexemes.{AreLexemes}
+use Rattle.cbpf_syntax.specs.Tokens.{IsLexFault}
+use Rattle.cbpf_syntax.specs.Lexemes.{AreLexemes}
 use Rattle.cbpf_text.proofs.Faults.{lex_refused}
 use Rattle.cbpf_text.proofs.Reading.{whole_refused}
 use Rattle.cbpf_text.proofs.draft.fault_here.Goals as goal

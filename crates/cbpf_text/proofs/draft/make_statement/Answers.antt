@@ -1,6 +1,6 @@
 use Rattle.std.proofs.Common.{◌≡◌, ◌∙◌, refl, sym, ap, subst, ◌+◌, length, map, drop, arith}
-use Rattle.cbpf_grammar.specs.Items.{names_at}
-use Rattle.cbpf_grammar.specs.Views.{class_of, lexeme_of}
+use Rattle.cbpf_syntax.specs.Items.{names_at}
+use Rattle.cbpf_syntax.specs.Views.{class_of, lexeme_of}
 use Rattle.cbpf_text.specs.Drafts.{AreTargets}
 use Rattle.cbpf_text.specs.Operands.{literal_of, first_of}
 use Rattle.cbpf_text.proofs.Operands.{literal_begin, names_begin, literal_put, literal_at_name, literal_at_mark}

@@ -1,7 +1,7 @@
 use Rattle.std.proofs.Common.{◌≡◌, ◌≤◌, ◌+◌, ◌-◌, length, map, drop}
 use Rattle.cbpf_code.specs.Opcode.{code_of}
-use Rattle.cbpf_grammar.specs.Items.{names_at}
-use Rattle.cbpf_grammar.specs.Views.{class_of, lexeme_of}
+use Rattle.cbpf_syntax.specs.Items.{names_at}
+use Rattle.cbpf_syntax.specs.Views.{class_of, lexeme_of}
 use Rattle.cbpf_text.specs.Drafts.{AreTargets}
 use Rattle.cbpf_text.specs.Operands.{literal_of}
 use Rattle.cbpf_text.proofs.draft.make_statement.Given as goal

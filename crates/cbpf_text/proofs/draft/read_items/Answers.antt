@@ -2,12 +2,12 @@ use Rattle.std.proofs.Common.{◌≡◌, ◌≤◌, ◌<◌, ◌+◌, ◌∙◌,
 use Rattle.std.proofs.Common.{arith}
 use Rattle.std.specs.Prelude.{IfSome, IfNone}
 use Rattle.std.proofs.lemmas.Result.{err_from_is_err_and}
-use Rattle.cbpf_lex.specs.Tokens.{IsLexFault}
-use Rattle.cbpf_grammar.specs.Lexemes.{AreLexemes}
-use Rattle.cbpf_grammar.specs.Reading.{IsStepOf, IsFirstLarge, step_len}
-use Rattle.cbpf_grammar.specs.declared.reader.Step.TheVariants.{Label, Instruction, Stuck as stuck_step}
-use Rattle.cbpf_grammar.specs.Steps.{Stuck}
-use Rattle.cbpf_grammar.proofs.Instructions.{end_stuck}
+use Rattle.cbpf_syntax.specs.Tokens.{IsLexFault}
+use Rattle.cbpf_syntax.specs.Lexemes.{AreLexemes}
+use Rattle.cbpf_syntax.specs.Reading.{IsStepOf, IsFirstLarge, step_len}
+use Rattle.cbpf_syntax.specs.declared.reader.Step.TheVariants.{Label, Instruction, Stuck as stuck_step}
+use Rattle.cbpf_syntax.specs.Steps.{Stuck}
+use Rattle.cbpf_syntax.proofs.Instructions.{end_stuck}
 use Rattle.cbpf_text.specs.declared.fault.AsmKind.TheVariants as kinds
 use Rattle.cbpf_text.specs.declared.placed_fault.PlacedFault.TheVariants as placed
 use Rattle.cbpf_text.specs.Refusals.IsRefused.{memory}

@@ -1,6 +1,6 @@
 use Rattle.std.proofs.Common.{◌≡◌, ◌≤◌, length}
 use Rattle.indexmap.specs.IndexMap.{get}
-use Rattle.cbpf_grammar.specs.Reading.{left}
+use Rattle.cbpf_syntax.specs.Reading.{left}
 use Rattle.cbpf_text.specs.Tables.{same_name}
 use Rattle.cbpf_text.proofs.Reading.{IsState}
 use Rattle.cbpf_text.proofs.draft.read_items.Given as goal

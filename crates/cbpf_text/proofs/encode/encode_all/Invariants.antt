@@ -1,7 +1,7 @@
 use Rattle.std.proofs.Common.{List, take}
 use Rattle.std.specs.Prelude.{All}
 use Rattle.indexmap.specs.IndexMap.{get}
-use Rattle.cbpf_grammar.specs.Items.{Item}
+use Rattle.cbpf_syntax.specs.Items.{Item}
 use Rattle.cbpf_text.specs.Assembled.{EncodeEach}
 use Rattle.cbpf_text.specs.Drafts.{AreStatements}
 use Rattle.cbpf_text.specs.Operands.{HasForm}

@@ -1,5 +1,5 @@
 use Rattle.std.proofs.Common.{subst}
-use Rattle.cbpf_lex.specs.Tokens.{IsLexFault}
+use Rattle.cbpf_syntax.specs.Tokens.{IsLexFault}
 use Rattle.cbpf_text.specs.Refusals.IsLexRefused.{memory, piece}
 use Rattle.cbpf_text.proofs.source.asm_fault.Goals as goal
 

@@ -1,0 +1,81 @@
+-- The listing of a program: a line for each instruction, in the assembler syntax of the kernel's
+-- Documentation/networking/filter ("BPF engine and instruction set"). The label before each instruction, `l` and its
+-- index, and targets as these labels, are this project's own.
+use Rattle.std.specs.Prelude.{ℕ, ◌+◌, ◌==◌, if◌then◌else◌, List, [], ◌∷◌, ◌++◌, Option, Some, None, slice_get, codes}
+use Rattle.std.specs.Prelude.{decimal}
+use Rattle.std.specs.List.{flat_map, enumerate_from}
+use Rattle.cbpf_code.specs.declared.insn.Insn.{Insn}
+use Rattle.cbpf_code.specs.declared.opcode.Op.{Op}
+use Rattle.cbpf_code.specs.declared.extension.Ext.{Ext}
+use Rattle.cbpf_code.specs.Opcode.{op_of}
+use Rattle.cbpf_code.specs.Extension.{ext_at, ext_name}
+use Rattle.cbpf_code.specs.Text.{joined, with_number, hex}
+use Rattle.cbpf_code.specs.declared.syntax.Operand.{Operand}
+use Rattle.cbpf_code.specs.declared.syntax.Operand.TheVariants.{Bare, X, A, Length, Immediate, Absolute, Indexed}
+use Rattle.cbpf_code.specs.declared.syntax.Operand.TheVariants.{Memory, Header, Label, ImmediateTwo, XTwo}
+use Rattle.cbpf_code.specs.Syntax.{mnemonic_of, operand_of}
+
+-- the label of the instruction at an index, and its mnemonic
+abbrev pub head : ℕ → List ℕ → List ℕ
+head i word = joined (codes "l" ∷ decimal i ∷ codes ":\t" ∷ word ∷ [])
+
+-- k in hexadecimal without leading zeros, or `#0`; each operand has its space before it
+abbrev pub immediate : ℕ → List ℕ
+immediate k = if k == 0 then codes " #0" else codes " #0x" ++ hex 1 k
+
+-- a place of the packet, or the name of the extension that has the place
+abbrev pub place_or_name : Option Ext → ℕ → List ℕ
+place_or_name None k = with_number (codes " [") k (codes "]")
+place_or_name (Some e) k = joined (codes " " ∷ ext_name e ∷ [])
+
+abbrev pub absolute : ℕ → List ℕ
+absolute k = place_or_name (ext_at k) k
+
+-- the targets of the conditional jump at an index: where it holds, and where it doesn't
+abbrev pub targets : ℕ → Insn → List ℕ
+targets i insn = joined (codes ", l" ∷ decimal (i + 1 + insn.jt) ∷ codes ", l" ∷ decimal (i + 1 + insn.jf) ∷ [])
+
+-- what stands after the mnemonic of the instruction at an index
+abbrev pub operand_text : Operand → ℕ → Insn → List ℕ
+operand_text Bare i insn = []
+operand_text X i insn = codes " x"
+operand_text A i insn = codes " a"
+operand_text Length i insn = codes " len"
+operand_text Immediate i insn = immediate insn.k
+operand_text Absolute i insn = absolute insn.k
+operand_text Indexed i insn = with_number (codes " [x + ") insn.k (codes "]")
+operand_text Memory i insn = with_number (codes " M[") insn.k (codes "]")
+operand_text Header i insn = with_number (codes " 4*([") insn.k (codes "]&0xf)")
+operand_text Label i insn = with_number (codes " l") (i + 1 + insn.k) []
+operand_text ImmediateTwo i insn = immediate insn.k ++ targets i insn
+operand_text XTwo i insn = codes " x" ++ targets i insn
+
+-- the instruction at an index, of this operation
+abbrev pub operation_text : ℕ → Insn → Op → List ℕ
+operation_text i insn op = head i (mnemonic_of op) ++ operand_text (operand_of op) i insn
+
+-- a code that no operation has, has no text
+abbrev pub text_for : ℕ → Insn → Option Op → List ℕ
+text_for i insn None = []
+text_for i insn (Some op) = operation_text i insn op
+
+abbrev pub insn_text : ℕ → Insn → List ℕ
+insn_text i insn = text_for i insn (op_of insn.code)
+
+abbrev pub text_where : ℕ → Option Insn → List ℕ
+text_where i None = []
+text_where i (Some insn) = insn_text i insn
+
+-- line i without its newline, and with it
+abbrev pub line_text : List Insn → ℕ → List ℕ
+line_text list i = text_where i (slice_get list i)
+
+abbrev pub whole_line : List Insn → ℕ → List ℕ
+whole_line list i = line_text list i ++ codes "\n"
+
+-- all lines in order
+abbrev pub numbered_line : ℕ × Insn → List ℕ
+numbered_line e = insn_text e.0 e.1 ++ codes "\n"
+
+abbrev pub listing : List Insn → List ℕ
+listing list = flat_map numbered_line (enumerate_from 0 list)

@@ -1,0 +1,184 @@
+//! Listings: the disassembly of a program, one line of assembler text an instruction.
+//!
+//! Mnemonics and operands are those of the kernel's Documentation/networking/filter; the
+//! label before each instruction, and jump targets as these labels, are this project's own.
+
+ghost use Rattle.std.specs.Prelude.{◌≡◌, ◌<◌, ◌≤◌, ◌+◌, ◌++◌, ℕ, length, Some};
+ghost use Rattle.cbpf_code.specs.Text.{with_number};
+ghost use Rattle.cbpf_code.specs.Writing.{Wrote};
+ghost use Rattle.cbpf_code.specs.Opcode.{op_of};
+ghost use Rattle.cbpf_code.specs.declared.opcode.Op.{Op};
+ghost use Rattle.cbpf_code.specs.Listing as spec;
+
+use crate::extension::{ext_at, ext_name};
+use crate::insn::Insn;
+use crate::line::Line;
+use crate::opcode::{Op, op_of};
+use crate::program::Program;
+use crate::syntax::{Operand, mnemonic_of, operand_of};
+use crate::writing::WriteFault;
+use std::alloc::Allocator;
+use std::io::Write;
+
+/// Puts a number between two texts.
+#[inline(always)]
+fn put_between(line: &mut Line, before: &[u8], n: u64, after: &[u8])
+    requires short { (length before.now ≤ 8) × (length after.now ≤ 8) }
+    requires room { length line.old + 36 ≤ 256 }
+    ensures text { line.new ≡ with_number before.now n after.now ++ line.old }
+    ensures grown { length line.new ≤ length line.old + 36 }
+{
+    line.put(after);
+    line.put_u64(n);
+    line.put(before);
+}
+
+/// Puts a number in hexadecimal, or `#0`.
+#[inline(always)]
+fn put_immediate(line: &mut Line, k: u32)
+    requires room { length line.old + 13 ≤ 256 }
+    ensures text { line.new ≡ spec.immediate k ++ line.old }
+    ensures grown { length line.new ≤ length line.old + 13 }
+{
+    if k == 0 {
+        line.put(b" #0");
+    } else {
+        line.put_hex(k, 1);
+        line.put(b" #0x");
+    }
+}
+
+/// Puts a place of the packet, or the extension that has this place.
+#[inline(always)]
+#[tactic(auto, using(crate::proofs::NameLemmas::names))]
+fn put_absolute(line: &mut Line, k: u32)
+    requires room { length line.old + 36 ≤ 256 }
+    ensures text { line.new ≡ spec.absolute k ++ line.old }
+    ensures grown { length line.new ≤ length line.old + 36 }
+{
+    match ext_at(k) {
+        Some(e) => {
+            line.put(ext_name(e).as_bytes());
+            line.put(b" ");
+        }
+        None => put_between(line, b" [", u64::from(k), b"]"),
+    }
+}
+
+/// Puts both targets of the conditional jump at an index.
+#[inline(always)]
+fn put_targets(line: &mut Line, i: u32, insn: Insn)
+    requires room { length line.old + 46 ≤ 256 }
+    ensures text { line.new ≡ spec.targets i insn ++ line.old }
+    ensures grown { length line.new ≤ length line.old + 46 }
+{
+    let next = u64::from(i) + 1;
+    line.put_u64(next + u64::from(insn.jf));
+    line.put(b", l");
+    line.put_u64(next + u64::from(insn.jt));
+    line.put(b", l");
+}
+
+/// Puts what stands after the mnemonic of the instruction at an index.
+#[inline(always)]
+fn put_operand(line: &mut Line, i: u32, insn: Insn, operand: Operand)
+    requires room { length line.old + 60 ≤ 256 }
+    ensures text { line.new ≡ spec.operand_text operand i insn ++ line.old }
+    ensures grown { length line.new ≤ length line.old + 60 }
+{
+    match operand {
+        Operand::Bare => {}
+        Operand::X => line.put(b" x"),
+        Operand::A => line.put(b" a"),
+        Operand::Length => line.put(b" len"),
+        Operand::Immediate => put_immediate(line, insn.k),
+        Operand::Absolute => put_absolute(line, insn.k),
+        Operand::Indexed => put_between(line, b" [x + ", u64::from(insn.k), b"]"),
+        Operand::Memory => put_between(line, b" M[", u64::from(insn.k), b"]"),
+        Operand::Header => put_between(line, b" 4*([", u64::from(insn.k), b"]&0xf)"),
+        Operand::Label => put_between(line, b" l", u64::from(i) + 1 + u64::from(insn.k), b""),
+        Operand::ImmediateTwo => {
+            put_targets(line, i, insn);
+            put_immediate(line, insn.k);
+        }
+        Operand::XTwo => {
+            put_targets(line, i, insn);
+            line.put(b" x");
+        }
+    }
+}
+
+/// Puts the line of an operation.
+#[inline(always)]
+fn put_operation(line: &mut Line, i: u32, insn: Insn, op: Op)
+    requires room { length line.old + 77 ≤ 256 }
+    ensures text { line.new ≡ spec.operation_text i insn op ++ line.old }
+    ensures grown { length line.new ≤ length line.old + 77 }
+{
+    put_operand(line, i, insn, operand_of(op));
+    line.put(mnemonic_of(op));
+    line.put(b":\t");
+    line.put_u32(i);
+    line.put(b"l");
+}
+
+/// Puts the line of the instruction at index `i`, without a newline, of at most 77 bytes, before
+/// a text: what [`write_line`] writes.
+///
+/// `i` must be less than the program's length, and the line must have room for 77 bytes.
+#[inline(always)]
+pub fn put_line<A: Allocator>(line: &mut Line, p: &Program<A>, i: u32)
+    requires within { i < length p.now }
+    requires room { length line.old + 77 ≤ 256 }
+    ensures text { line.new ≡ spec.line_text p.now i ++ line.old }
+    ensures grown { length line.new ≤ length line.old + 77 }
+{
+    let insn = p.at_index(i);
+    match op_of(insn.code) {
+        Some(op) => put_operation(line, i, insn, op),
+        None => unreachable!(),
+    }
+}
+
+/// Writes the line of the instruction at index `i`, without a newline: `l`, the index in
+/// decimal, a colon, a tab, the mnemonic, and where the operation has an operand a space and
+/// the operand. Fields that the operation doesn't use don't show.
+///
+/// `i` must be less than the program's length.
+pub fn write_line<W: Write, A: Allocator>(
+    w: &mut W,
+    p: &Program<A>,
+    i: u32,
+) -> Result<(), WriteFault>
+    requires { i < length p.now }
+    ensures { Wrote (W.contents w.old) (W.contents w.new) result (spec.line_text p.now i) }
+{
+    let mut line = Line::new();
+    put_line(&mut line, p, i);
+    line.write(w)
+}
+
+/// A line and its newline.
+fn write_whole_line<W: Write, A: Allocator>(
+    w: &mut W,
+    p: &Program<A>,
+    i: u32,
+) -> Result<(), WriteFault>
+    requires { i < length p.now }
+    ensures { Wrote (W.contents w.old) (W.contents w.new) result (spec.whole_line p.now i) }
+{
+    let mut line = Line::new();
+    line.put(b"\n");
+    put_line(&mut line, p, i);
+    line.write(w)
+}
+
+/// Writes the lines of all instructions in order, each with a newline.
+pub fn write_lines<W: Write, A: Allocator>(w: &mut W, p: &Program<A>) -> Result<(), WriteFault>
+    ensures { Wrote (W.contents w.old) (W.contents w.new) result (spec.listing p.now) }
+{
+    for i in 0..p.len() {
+        write_whole_line(w, p, i)?;
+    }
+    Ok(())
+}

@@ -1,4 +1,0 @@
-pub mod WordLemmas
-pub mod CommandLemmas
-pub mod NumberLemmas
-pub mod NameLemmas

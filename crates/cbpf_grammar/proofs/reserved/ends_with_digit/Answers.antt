@@ -1,5 +1,0 @@
-use Rattle.cbpf_grammar.proofs.Words.{digit_free}
-use Rattle.cbpf_grammar.proofs.reserved.ends_with_digit.Goals as goal
-
-pub returns : goal.returns
-returns c h = digit_free c.args.word.now h

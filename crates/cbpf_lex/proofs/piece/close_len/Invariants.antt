@@ -1,5 +1,0 @@
-use Rattle.cbpf_lex.proofs.Comments.{IsOpenTo}
-use Rattle.cbpf_lex.proofs.piece.close_len.Given as goal
-
-abbrev pub invariant-loop-i : goal.invariant-loop-i
-invariant-loop-i l = IsOpenTo l.body l.i l.star

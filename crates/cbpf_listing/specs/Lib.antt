@@ -1,2 +1,0 @@
-pub mod Syntax
-pub mod Listing

@@ -1,0 +1,52 @@
+-- What holds of tokens whatever tokens follow.
+use Rattle.std.proofs.Common.{◌≡◌, ℕ, suc, ◌<◌, Bool, true, false, ◌&&◌, List, [], ◌∷◌, ◌++◌, length, take, drop}
+use Rattle.std.proofs.Common.{arith, ap, sym, ◌∙◌, subst, append_assoc, length-append}
+use Rattle.std.proofs.lemmas.List.{take-append-drop, take-append-le, length-take-le}
+use Rattle.cbpf_syntax.specs.Lexemes.{Lexeme}
+use Rattle.cbpf_syntax.specs.Classes.{Class}
+use Rattle.cbpf_syntax.specs.Fits.{fits, fits_front}
+use Rattle.cbpf_syntax.specs.Items.{Item, Form, classes_of}
+use Rattle.cbpf_syntax.specs.Steps.{NoLonger, Stuck, IsNextItem, starts_with_label}
+use Rattle.cbpf_syntax.proofs.Begins.{front_before}
+
+-- a front of more than n tokens begins with n + 1 tokens that are all of the first part
+pub no_longer_more : (n : ℕ) (ts us : List Lexeme) → n < length ts → NoLonger n ts → NoLonger n (ts ++ us)
+no_longer_more n ts us l most m r known f g e k h =
+    let cut : take (suc n) f ++ drop (suc n) f ≡ f = take-append-drop (suc n) f in
+    let size : length (take (suc n) f) ≡ suc n = length-take-le (suc n) f (omega (arith, k)) in
+    let short : fits_front (classes_of m r) (take (suc n) f) ≡ true = front_before (classes_of m r) (take (suc n) f)
+    (drop (suc n) f) (subst (λ x. fits_front (classes_of m r) x ≡ true) (sym cut) h) in
+    let same : take (suc n) f ≡ take (suc n) ts = sym (take-append-le (suc n) f g (omega (arith, k)))
+    ∙ (ap (λ x. take (suc n) x) (sym e) ∙ take-append-le (suc n) ts us (omega (arith, l))) in
+    most m r known (take (suc n) f) (drop (suc n) ts)
+    (sym (take-append-drop (suc n) ts) ∙ ap (λ x. x ++ drop (suc n) ts) (sym same)) (omega (arith, size)) short
+
+pub stuck_more : (n : ℕ) (ts us : List Lexeme) → n < length ts → Stuck n ts → Stuck n (ts ++ us)
+stuck_more n ts us l s = record {
+  front = s.front;
+  more = s.more ++ us;
+  split = ap (λ x. x ++ us) s.split ∙ append_assoc s.front s.more us;
+  size = s.size;
+  begins = s.begins;
+  longest = no_longer_more n ts us l s.longest;
+  none = s.none;
+}
+
+pub next_more : (n : ℕ) (ts us : List Lexeme) (item : Item) → n < length ts → IsNextItem ts n item
+    → IsNextItem (ts ++ us) n item
+next_more n ts us item l next =
+    let same : take n ts ≡ take n (ts ++ us) = sym (take-append-le n ts us next.within) in
+    record {
+      within = omega (arith, next.within, length-append ts us);
+      form = subst (λ x. Form x item) same next.form;
+      longest = no_longer_more n ts us l next.longest;
+    }
+
+pub label_more : (ts us : List Lexeme) → starts_with_label ts ≡ true → starts_with_label (ts ++ us) ≡ true
+label_more [] us h = cc
+label_more (t ∷ []) us h = absurd (let p = and_second (fits (Class.name) t.symbol) false h in cc)
+  where
+    and_second : (a b : Bool) → (a && b) ≡ true → b ≡ true
+    and_second true b e = e
+    and_second false b e = cc
+label_more (t ∷ u ∷ ts) us h = h

@@ -1,0 +1,268 @@
+-- Each token list is items, or has a first refusal: of each the longest row is found in the table.
+use Rattle.std.proofs.Common.{◌≡◌, ◌≢◌, ℕ, zero, suc, ◌+◌, ◌<◌, ◌≤◌, Bool, true, false, List, [], ◌∷◌, ◌++◌, length}
+use Rattle.std.proofs.Common.{take, drop, refl, arith, ap, sym, ◌∙◌, ◌⊎◌, inl, inr, subst, Option, Some, None}
+use Rattle.std.proofs.Common.{eqb-true, eq-eqb}
+use Rattle.std.specs.Prelude.{◌==◌, Contains}
+use Rattle.std.proofs.lemmas.Bool.{cases_lt}
+use Rattle.std.proofs.lemmas.List.Sums.{common_prefix_len-le}
+use Rattle.cbpf_syntax.specs.Classes.Class.{the_mark, name}
+use Rattle.cbpf_syntax.specs.Lexemes.{Symbol, Lexeme}
+use Rattle.cbpf_syntax.specs.Lexemes.Symbol.{word, number, mark}
+use Rattle.cbpf_syntax.specs.Table.{Row, classes, table}
+use Rattle.cbpf_syntax.specs.Fits.{fits}
+use Rattle.cbpf_syntax.specs.Items.{Item, Items}
+use Rattle.cbpf_syntax.specs.Choice.{common}
+use Rattle.cbpf_syntax.specs.Steps.{Stuck, IsNextItem, starts_with_name, starts_with_colon}
+use Rattle.cbpf_syntax.specs.Refusals.{symbol_at, IsLarge, IsLargeNegative, IsStuckAt}
+use Rattle.cbpf_syntax.specs.Refusals.ParseFault.{Misplaced, LargeNegative, Unfinished}
+use Rattle.cbpf_syntax.specs.Laws.{EachParsed}
+use Rattle.cbpf_syntax.proofs.Elements.{first_element, later_element, which_element, only_element}
+use Rattle.cbpf_syntax.proofs.OneReading.{three}
+use Rattle.cbpf_syntax.proofs.Greedy.{Greedy}
+use Rattle.cbpf_syntax.proofs.Steps.{base_stuck, base_whole, name_stuck, label_stuck, label_whole, label_no_longer}
+use Rattle.cbpf_syntax.proofs.Instructions.{some_known, end_stuck}
+use Rattle.cbpf_syntax.proofs.Refused.{greedy_more, greedy_all, next_some, stuck_at, large_within, large_first}
+use Rattle.cbpf_syntax.proofs.Refused.{misplaced_first, unfinished_first, items_accepted, items_large}
+
+-- Of the rows most tokens fit this one. Where it is not whole, none that as many fit is.
+record IsLongest (rows : List Row) (ts : List Lexeme) (row : Row) : Type 0 where
+  known : Contains rows row
+  most : (r : Row) → Contains rows r → common (classes r) ts ≤ common (classes row) ts
+  goes_on : length (classes row) ≢ common (classes row) ts → (r : Row) → Contains rows r
+      → common (classes r) ts ≡ common (classes row) ts → length (classes r) ≢ common (classes row) ts
+
+only_longest : (ts : List Lexeme) (d : Row) → IsLongest (d ∷ []) ts d
+only_longest ts d = record {
+  known = first_element d [];
+  most = λ r c. let e : common (classes d) ts ≡ common (classes r) ts =
+      ap (λ (q : Row). common (classes q) ts) (only_element d r c) in omega (arith, e);
+  goes_on = λ n r c m w. n (ap (λ (q : Row). length (classes q)) (only_element d r c) ∙ w);
+}
+
+-- one more row, which is no longer
+longest_stays : (rows : List Row) (ts : List Lexeme) (d row : Row) → IsLongest rows ts row
+    → common (classes d) ts ≤ common (classes row) ts
+    → (common (classes d) ts ≡ common (classes row) ts → length (classes d) ≢ common (classes row) ts)
+    → IsLongest (d ∷ rows) ts row
+longest_stays rows ts d row b l n = record {
+  known = later_element d rows row b.known;
+  most = λ r c. elim (which_element d rows r c) [
+    | inl e ↦ let q : common (classes d) ts ≡ common (classes r) ts = ap (λ (x : Row). common (classes x) ts) e in
+        omega (arith, q, l)
+    | inr k ↦ b.most r k
+  ];
+  goes_on = λ part r c m w. elim (which_element d rows r c) [
+    | inl e ↦ n (ap (λ (x : Row). common (classes x) ts) e ∙ m) (ap (λ (x : Row). length (classes x)) e ∙ w)
+    | inr k ↦ b.goes_on part r k m w
+  ];
+}
+
+-- one more row, which is longer, or as long and whole
+longest_next : (rows : List Row) (ts : List Lexeme) (d row : Row) → IsLongest rows ts row
+    → common (classes row) ts ≤ common (classes d) ts
+    → (common (classes row) ts ≡ common (classes d) ts → length (classes d) ≡ common (classes d) ts)
+    → IsLongest (d ∷ rows) ts d
+longest_next rows ts d row b l n = record {
+  known = first_element d rows;
+  most = λ r c. elim (which_element d rows r c) [
+    | inl e ↦ let q : common (classes d) ts ≡ common (classes r) ts = ap (λ (x : Row). common (classes x) ts) e in
+        omega (arith, q)
+    | inr k ↦ omega (arith, l, b.most r k)
+  ];
+  goes_on = λ part r c m w. elim (which_element d rows r c) [
+    | inl e ↦ part (ap (λ (x : Row). length (classes x)) e ∙ w)
+    | inr k ↦ part (n (omega (arith, l, m, b.most r k)))
+  ];
+}
+
+longest : (rows : List Row) (d : Row) (ts : List Lexeme) → (row : Row) × IsLongest (d ∷ rows) ts row
+longest [] d ts = (d, only_longest ts d)
+longest (r ∷ rows) d ts = by_size (longest rows r ts)
+  where
+    by_size : (row : Row) × IsLongest (r ∷ rows) ts row → (row : Row) × IsLongest (d ∷ r ∷ rows) ts row
+    by_size b = elim (three (common (classes d) ts) (common (classes b.0) ts)) [
+      | inl l ↦ (b.0, longest_stays (r ∷ rows) ts d b.0 b.1 (omega (arith, l)) (λ e. absurd (omega (arith, e, l))))
+      | inr h ↦ elim h [
+        | inl l ↦ (d, longest_next (r ∷ rows) ts d b.0 b.1 (omega (arith, l)) (λ e. absurd (omega (arith, e, l))))
+        | inr e ↦ elim (three (length (classes d)) (common (classes d) ts)) [
+          | inl s ↦ (b.0, longest_stays (r ∷ rows) ts d b.0 b.1 (omega (arith, e)) (λ q w. omega (arith, e, s, w)))
+          | inr k ↦ elim k [
+            | inl s ↦ (b.0, longest_stays (r ∷ rows) ts d b.0 b.1 (omega (arith, e)) (λ q w. omega (arith, e, s, w)))
+            | inr w ↦ (d, longest_next (r ∷ rows) ts d b.0 b.1 (omega (arith, e)) (λ q. w))
+          ]
+        ]
+      ]
+    ]
+
+-- what stands at the front of tokens
+abbrev Step : List Lexeme → Type 0
+Step ts = ((n : ℕ) × (i : Item) × IsNextItem ts n i) ⊎ ((n : ℕ) × Stuck n ts)
+
+base_step : (ts : List Lexeme) → starts_with_name ts ≡ false → Step ts
+base_step ts s = by_row (longest table some_known.0 ts)
+  where
+    by_row : (row : Row) × IsLongest (some_known.0 ∷ table) ts row → Step ts
+    by_row b =
+        let known : Contains table b.0 = elim (which_element some_known.0 table b.0 b.1.known) [
+          | inl e ↦ subst (Contains table) e some_known.1
+          | inr k ↦ k
+        ] in
+        let best : (r : Row) → Contains table r → common (classes r) ts ≤ common (classes b.0) ts =
+        λ r k. b.1.most r (later_element some_known.0 table r k) in
+        let stuck : length (classes b.0) ≢ common (classes b.0) ts → Step ts = λ part. inr (
+          common (classes b.0) ts,
+          base_stuck ts b.0 known s best (λ r k. b.1.goes_on part r (later_element some_known.0 table r k)),
+        ) in
+        elim (three (length (classes b.0)) (common (classes b.0) ts)) [
+          | inl l ↦ stuck (λ e. absurd (omega (arith, l, e)))
+          | inr h ↦ elim h [
+            | inl l ↦ stuck (λ e. absurd (omega (arith, l, e)))
+            | inr e ↦ inl (
+              common (classes b.0) ts,
+              _,
+              base_whole ts b.0 known s best e (common_prefix_len-le (λ c (t : Lexeme). fits c t.symbol) (classes b.0) ts).1,
+            )
+          ]
+        ]
+
+bare_step : (t : Lexeme) (ts : List Lexeme) → starts_with_colon ts ≡ false → Step (t ∷ ts)
+bare_step t ts c = by_name (fits name t.symbol) refl
+  where
+    by_name : (b : Bool) → fits name t.symbol ≡ b → Step (t ∷ ts)
+    by_name true e = inr (1, name_stuck t ts some_known.0 some_known.1 e c)
+    by_name false e = base_step (t ∷ ts) e
+
+-- a label and its colon before a step
+label_step : (t u : Lexeme) (ts : List Lexeme) → fits name t.symbol ≡ true → fits (the_mark 58) u.symbol ≡ true
+    → Step ts → Step (t ∷ u ∷ ts)
+label_step t u ts a b (inl p) = inl (
+  suc (suc p.0),
+  record { labels = t ∷ p.1.labels; row = p.1.row; body = p.1.body },
+  record {
+    within = omega (arith, p.2.within);
+    form = label_whole t u (take p.0 ts) p.1 a b p.2.form;
+    longest = label_no_longer t u ts p.0 a p.2.longest;
+  },
+)
+label_step t u ts a b (inr p) = inr (suc (suc p.0), label_stuck t u ts p.0 a b p.1)
+
+two_step : (t u : Lexeme) (ts : List Lexeme) → Step ts → Step (t ∷ u ∷ ts)
+two_step t u ts rest = by_colon (fits (the_mark 58) u.symbol) refl
+  where
+    by_name : (b : Bool) → fits name t.symbol ≡ b → fits (the_mark 58) u.symbol ≡ true → Step (t ∷ u ∷ ts)
+    by_name true e c = label_step t u ts e c rest
+    by_name false e c = base_step (t ∷ u ∷ ts) e
+
+    by_colon : (b : Bool) → fits (the_mark 58) u.symbol ≡ b → Step (t ∷ u ∷ ts)
+    by_colon true c = by_name (fits name t.symbol) refl c
+    by_colon false c = bare_step t (u ∷ ts) c
+
+step : (ts : List Lexeme) → Step ts
+step [] = inr (0, end_stuck)
+step (t ∷ []) = bare_step t [] refl
+step (t ∷ u ∷ ts) = two_step t u ts (step ts)
+
+-- the tokens are items, or don't go on at a place; of those after the ones that were read there are so many at most
+reach : (ts : List Lexeme) (left at : ℕ) (is : List Item) → length ts ≤ at + left → Greedy ts is (drop at ts)
+    → ((js : List Item) × Items ts js) ⊎ ((s : ℕ) × IsStuckAt ts s)
+reach ts zero at is l p = inl (is, greedy_all ts is at (omega (arith, l)) p)
+reach ts (suc left) at is l p = elim (cases_lt at (length ts)) [
+  | inr end ↦ inl (is, greedy_all ts is at end p)
+  | inl more ↦ elim (step (drop at ts)) [
+    | inl q ↦ reach ts left (at + q.0) (is ++ (q.1 ∷ [])) (omega (arith, l, next_some (drop at ts) q.0 q.1 q.2))
+        (greedy_more ts is at q.0 q.1 p q.2)
+    | inr q ↦ inr (at + q.0, stuck_at ts is at q.0 more p q.1)
+  ]
+]
+
+-- whether a number too large stands after a `-`
+abbrev Either : Type 0 → Type 0
+Either P = P ⊎ (P → ⊥)
+
+sign_pair : (b n : ℕ) (t : Bool) → (b == 45) ≡ t → Either (IsLarge (mark b) (number n))
+sign_pair b n true e = elim (cases_lt 2147483648 n) [
+  | inl l ↦ inl (ap mark (eqb-true b 45 e), n, refl, l)
+  | inr l ↦ inr (λ h. let k : n ≡ h.1 = same_number n h.1 h.2 in omega (arith, k, l, h.3))
+]
+  where
+    same_number : (m n : ℕ) → number m ≡ number n → m ≡ n
+    same_number m n e = cc
+sign_pair b n false e = inr (λ h. let k : true ≡ false = sym (eq-eqb b 45 (same_mark b 45 h.0)) ∙ e in cc)
+  where
+    same_mark : (m n : ℕ) → mark m ≡ mark n → m ≡ n
+    same_mark m n e = cc
+
+large_pair : (s d : Symbol) → Either (IsLarge s d)
+large_pair (mark b) (number n) = sign_pair b n (b == 45) refl
+large_pair (mark b) (mark c) = inr (λ h. let k : mark c ≡ number h.1 = h.2 in cc)
+large_pair (mark b) (word w) = inr (λ h. let k : word w ≡ number h.1 = h.2 in cc)
+large_pair (word w) d = inr (λ h. let k : word w ≡ mark 45 = h.0 in cc)
+large_pair (number n) d = inr (λ h. let k : number n ≡ mark 45 = h.0 in cc)
+
+some-same : (x y : Symbol) → ◌≡◌ {A = Option Symbol} (Some x) (Some y) → x ≡ y
+some-same x y e = cc
+
+large_at : (ts : List Lexeme) (i : ℕ) → Either (IsLargeNegative ts i)
+large_at ts zero = inr (λ h. omega (arith, h.after))
+large_at ts (suc b) = by_symbols (symbol_at ts b) (symbol_at ts (suc b)) refl refl
+  where
+    sign_of : (h : IsLargeNegative ts (suc b)) → symbol_at ts b ≡ Some h.sign
+    sign_of h = let e : b ≡ h.before = omega (arith, h.after) in ap (symbol_at ts) e ∙ h.sign_at
+
+    by_symbols : (o q : Option Symbol) → symbol_at ts b ≡ o → symbol_at ts (suc b) ≡ q
+        → Either (IsLargeNegative ts (suc b))
+    by_symbols None q e f = inr (λ h. let k : ◌≡◌ {A = Option Symbol} None (Some h.sign) = sym e ∙ sign_of h in cc)
+    by_symbols (Some s) None e f =
+        inr (λ h. let k : ◌≡◌ {A = Option Symbol} None (Some h.digits) = sym f ∙ h.digits_at in cc)
+    by_symbols (Some s) (Some d) e f = elim (large_pair s d) [
+      | inl l ↦ inl (record {
+        before = b;
+        after = omega arith;
+        sign = s;
+        digits = d;
+        sign_at = e;
+        digits_at = f;
+        large = l;
+      })
+      | inr none ↦ inr (λ h.
+          let a : h.sign ≡ s = some-same h.sign s (sym (sign_of h) ∙ e) in
+          let c : h.digits ≡ d = some-same h.digits d (sym h.digits_at ∙ f) in
+          none (subst (λ x. IsLarge s x) c (subst (λ x. IsLarge x h.digits) a h.large)))
+    ]
+
+-- the first of those before a place, or none is there
+abbrev HasFirst : List Lexeme → ℕ → Type 0
+HasFirst ts n = ((i : ℕ) × (i < n) × IsLargeNegative ts i × ((k : ℕ) → k < i → IsLargeNegative ts k → ⊥))
+    ⊎ ((k : ℕ) → k < n → IsLargeNegative ts k → ⊥)
+
+none_more : (ts : List Lexeme) (n : ℕ) → ((k : ℕ) → k < n → IsLargeNegative ts k → ⊥) → (IsLargeNegative ts n → ⊥)
+    → (k : ℕ) → k < suc n → IsLargeNegative ts k → ⊥
+none_more ts n none last k l h = elim (cases_lt k n) [
+  | inl m ↦ none k m h
+  | inr m ↦ let e : k ≡ n = omega (arith, l, m) in last (subst (IsLargeNegative ts) e h)
+]
+
+first_large : (ts : List Lexeme) (n : ℕ) → HasFirst ts n
+first_large ts zero = inr (λ k l h. omega (arith, l))
+first_large ts (suc n) = elim (first_large ts n) [
+  | inl f ↦ inl (f.0, omega (arith, f.1), f.2, f.3)
+  | inr none ↦ elim (large_at ts n) [
+    | inl h ↦ inl (n, omega arith, h, none)
+    | inr last ↦ inr (none_more ts n none last)
+  ]
+]
+
+pub each_parsed : EachParsed
+each_parsed ts = elim (reach ts (length ts) 0 [] (omega arith) refl) [
+  | inl p ↦ elim (first_large ts (length ts)) [
+    | inl f ↦ inr (LargeNegative f.0, items_large ts p.0 f.0 p.1 f.2 f.3)
+    | inr none ↦ inl (p.0, p.1, items_accepted ts p.0 p.1 (λ k h. none k (large_within ts k h) h))
+  ]
+  | inr q ↦ elim (first_large ts q.0) [
+    | inl f ↦ inr (LargeNegative f.0, large_first ts q.0 f.0 q.1 f.1 f.2 f.3)
+    | inr none ↦ elim (cases_lt q.0 (length ts)) [
+      | inl l ↦ inr (Misplaced q.0, misplaced_first ts q.0 q.1 l none)
+      | inr l ↦ inr (Unfinished, unfinished_first ts q.0 q.1 l none)
+    ]
+  ]
+]

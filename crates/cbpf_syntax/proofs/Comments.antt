@@ -1,0 +1,98 @@
+-- The scan for the first `*/`, and texts that are cut after it.
+use Rattle.std.proofs.Common.{◌≡◌, ℕ, zero, suc, ◌+◌, ◌<◌, ◌≤◌, Bool, true, false, ◌&&◌, cond, List, [], ◌∷◌, length}
+use Rattle.std.proofs.Common.{take, drop, refl, ap, sym, subst, ◌∙◌, arith, Option, Some, None, get_or, drop-cons}
+use Rattle.std.specs.Prelude.{◌==◌, option_map}
+use Rattle.std.proofs.lemmas.List.{drop_all}
+use Rattle.cbpf_syntax.specs.Pieces.{begins_with_close, first_close}
+use Rattle.cbpf_syntax.proofs.Cuts.{some-same}
+
+-- the first `*/` of the bytes after one more, of which is known whether it is a `*`:
+-- how many of these bytes there are up to its end
+abbrev pub close_after : Bool → List ℕ → Option ℕ
+close_after star [] = None
+close_after star (b ∷ bs) = cond (star && b == 47) (Some 1) (option_map suc (close_after (b == 42) bs))
+
+close_step : (b : ℕ) (bs : List ℕ) → option_map suc (close_after (b == 42) bs) ≡ first_close (b ∷ bs)
+close_step b [] = refl
+close_step b (c ∷ cs) = by_test (b == 42 && c == 47) (close_step c cs)
+  where
+    by_test : (t : Bool) → option_map suc (close_after (c == 42) cs) ≡ first_close (c ∷ cs)
+        → option_map suc (cond t (Some 1) (option_map suc (close_after (c == 42) cs)))
+        ≡ cond t (Some 2) (option_map suc (first_close (c ∷ cs)))
+    by_test true e = refl
+    by_test false e = ap (option_map suc) e
+
+pub close_first : (bs : List ℕ) → close_after false bs ≡ first_close bs
+close_first [] = refl
+close_first (b ∷ bs) = close_step b bs
+
+-- where the first i bytes have no `*/`, the rest decides
+abbrev pub IsOpenTo : List ℕ → ℕ → Bool → Type 0
+IsOpenTo body i star = first_close body ≡ option_map (λ n. i + n) (close_after star (drop i body))
+
+pub open_start : (body : List ℕ) → IsOpenTo body 0 false
+open_start body = sym (close_first body) ∙ by_option (close_after false body)
+  where
+    by_option : (o : Option ℕ) → o ≡ option_map (λ n. 0 + n) o
+    by_option None = refl
+    by_option (Some n) = let e : n ≡ 0 + n = omega arith in ap (λ k. Some k) e
+
+shift : (i : ℕ) (o : Option ℕ) → option_map (λ n. i + n) (option_map suc o) ≡ option_map (λ n. suc i + n) o
+shift i None = refl
+shift i (Some n) = let e : i + suc n ≡ suc i + n = omega arith in ap (λ k. Some k) e
+
+pub open_more : (body : List ℕ) (i : ℕ) (star : Bool) → i < length body → (star && get_or body i 0 == 47) ≡ false
+    → IsOpenTo body i star → IsOpenTo body (i + 1) (get_or body i 0 == 42)
+open_more body i star l kept inv =
+    let e : suc i ≡ i + 1 = omega arith in
+    subst (λ j. IsOpenTo body j (get_or body i 0 == 42)) e
+    (inv ∙ rw (drop-cons body i 0, kept) (shift i (close_after (get_or body i 0 == 42) (drop (suc i) body))))
+
+pub close_here : (body : List ℕ) (i : ℕ) (star : Bool) → i < length body → (star && get_or body i 0 == 47) ≡ true
+    → IsOpenTo body i star → first_close body ≡ Some (i + 1)
+close_here body i star l shut inv = inv ∙ rw (drop-cons body i 0, shut) refl
+
+pub never_closed : (body : List ℕ) (i : ℕ) (star : Bool) → length body ≤ i → IsOpenTo body i star
+    → first_close body ≡ None
+never_closed body i star l inv = inv ∙ rw (drop_all i body l) refl
+
+mapped_some : (o : Option ℕ) (n : ℕ) → option_map suc o ≡ Some n → (k : ℕ) × (o ≡ Some k) × (n ≡ suc k)
+mapped_some None n e = cc
+mapped_some (Some k) n e = (k, refl, some-same n (suc k) (sym e))
+
+close_least : (bs : List ℕ) (n : ℕ) → first_close bs ≡ Some n → 2 ≤ n
+close_least [] n e = cc
+close_least (b ∷ bs) n e = by_test (begins_with_close (b ∷ bs)) (close_least bs) e
+  where
+    by_test : (t : Bool) → ((k : ℕ) → first_close bs ≡ Some k → 2 ≤ k)
+        → cond t (Some 2) (option_map suc (first_close bs)) ≡ Some n → 2 ≤ n
+    by_test true more h = let k : n ≡ 2 = some-same n 2 (sym h) in omega (arith, k)
+    by_test false more h = let p = mapped_some (first_close bs) n h in omega (arith, p.2, more p.0 p.1)
+
+-- a comment ends within the text
+pub close_within : (bs : List ℕ) (n : ℕ) → first_close bs ≡ Some n → n ≤ length bs
+close_within [] n e = cc
+close_within (b ∷ []) n e = cc
+close_within (b ∷ c ∷ cs) n e = by_test (b == 42 && c == 47) (close_within (c ∷ cs)) e
+  where
+    by_test : (t : Bool) → ((k : ℕ) → first_close (c ∷ cs) ≡ Some k → k ≤ suc (length cs))
+        → cond t (Some 2) (option_map suc (first_close (c ∷ cs))) ≡ Some n → n ≤ suc (suc (length cs))
+    by_test true more h = let k : n ≡ 2 = some-same n 2 (sym h) in omega (arith, k)
+    by_test false more h = let p = mapped_some (first_close (c ∷ cs)) n h in omega (arith, p.2, more p.0 p.1)
+
+-- the first `*/` of a text is that of each front of the text that has it
+pub close_taken : (bs : List ℕ) (n m : ℕ) → first_close bs ≡ Some n → n ≤ m → first_close (take m bs) ≡ Some n
+close_taken [] n m e l = cc
+close_taken (b ∷ bs) n zero e l = absurd (omega (arith, l, close_least (b ∷ bs) n e))
+close_taken (b ∷ []) n (suc m) e l = cc
+close_taken (b ∷ c ∷ cs) n (suc zero) e l = absurd (omega (arith, l, close_least (b ∷ c ∷ cs) n e))
+close_taken (b ∷ c ∷ cs) n (suc (suc m)) e l =
+    by_test (b == 42 && c == 47) (λ k h q. close_taken (c ∷ cs) k (suc m) h q) e
+  where
+    by_test : (t : Bool)
+        → ((k : ℕ) → first_close (c ∷ cs) ≡ Some k → k ≤ suc m → first_close (c ∷ take m cs) ≡ Some k)
+        → cond t (Some 2) (option_map suc (first_close (c ∷ cs))) ≡ Some n
+        → cond t (Some 2) (option_map suc (first_close (c ∷ take m cs))) ≡ Some n
+    by_test true more h = h
+    by_test false more h = let p = mapped_some (first_close (c ∷ cs)) n h in
+        ap (option_map suc) (more p.0 p.1 (omega (arith, l, p.2))) ∙ ap (λ k. Some k) (sym p.2)

@@ -1,0 +1,85 @@
+-- The table of first bytes is held against the definition at each of the 256 bytes, by computing.
+use Rattle.std.proofs.Common.{◌≡◌, ◌≢◌, ℕ, zero, suc, ◌<◌, Bool, true, false, cond, get_or, refl, ap, sym, ◌∙◌}
+use Rattle.std.specs.Prelude.{◌==◌, if◌then◌else◌}
+use Rattle.std.proofs.lemmas.Bool.{agree_below, agree_below_at, eqb-true, ne_eqb}
+use Rattle.cbpf_syntax.specs.declared.piece.TheConstants.{LEADS}
+use Rattle.cbpf_syntax.specs.declared.piece.Lead.{Lead}
+use Rattle.cbpf_syntax.specs.declared.piece.Lead.TheVariants.{Blank, LineComment, Letter, Digit, Slash, Single, Other}
+use Rattle.cbpf_syntax.specs.Leads.{lead_of}
+
+-- what a letter of the table says
+abbrev pub by_letter : Bool → ℕ → Lead
+by_letter fresh g =
+    if g == 66 then Blank
+    else (if g == 67 then LineComment
+    else (if g == 68 then Digit
+    else (if g == 72 then (if fresh then LineComment else Single)
+    else (if g == 76 then Letter
+    else (if g == 77 then Single
+    else (if g == 83 then Slash
+    else Other))))))
+
+-- the variants by numbers, so that tests of them compute
+abbrev pub number_of : Lead → ℕ
+number_of Blank = 0
+number_of LineComment = 1
+number_of Letter = 2
+number_of Digit = 3
+number_of Slash = 4
+number_of Single = 5
+number_of Other = 6
+
+abbrev lead_at : ℕ → Lead
+lead_at zero = Blank
+lead_at (suc zero) = LineComment
+lead_at (suc (suc zero)) = Letter
+lead_at (suc (suc (suc zero))) = Digit
+lead_at (suc (suc (suc (suc zero)))) = Slash
+lead_at (suc (suc (suc (suc (suc zero))))) = Single
+lead_at (suc (suc (suc (suc (suc (suc n)))))) = Other
+
+numbered : (l : Lead) → lead_at (number_of l) ≡ l
+numbered Blank = refl
+numbered LineComment = refl
+numbered Letter = refl
+numbered Digit = refl
+numbered Slash = refl
+numbered Single = refl
+numbered Other = refl
+
+pub same_lead : (l m : Lead) → (number_of l == number_of m) ≡ true → l ≡ m
+same_lead l m h = sym (numbered l) ∙ ap lead_at (eqb-true (number_of l) (number_of m) h) ∙ numbered m
+
+-- the two leads are the same at each byte
+agree : (f g : ℕ → Lead) (b : ℕ) → agree_below (λ k. number_of (f k) == number_of (g k)) (λ k. true) 256 ≡ true
+    → b < 256 → f b ≡ g b
+agree f g b h lt =
+    same_lead (f b) (g b) (agree_below_at (λ k. number_of (f k) == number_of (g k)) (λ k. true) 256 b h lt)
+
+pub letter_lead : (fresh : Bool) (b : ℕ) → b < 256 → by_letter fresh (get_or LEADS b 0) ≡ lead_of fresh b
+letter_lead true b lt = agree (λ k. by_letter true (get_or LEADS k 0)) (lead_of true) b refl lt
+letter_lead false b lt = agree (λ k. by_letter false (get_or LEADS k 0)) (lead_of false) b refl lt
+
+pub hash_lead : (fresh t : Bool) (b : ℕ) → fresh ≡ t → b < 256 → get_or LEADS b 0 ≡ 72
+    → cond t LineComment Single ≡ lead_of fresh b
+hash_lead fresh t b e lt h = rw (← e) (rw h at (letter_lead fresh b lt))
+
+-- a letter that says nothing else
+other_letter : (fresh : Bool) (g : ℕ) → g ≢ 76 → g ≢ 68 → g ≢ 77 → g ≢ 66 → g ≢ 67 → g ≢ 72 → g ≢ 83
+    → by_letter fresh g ≡ Other
+other_letter fresh g n76 n68 n77 n66 n67 n72 n83 =
+    rw (
+      ne_eqb g 66 n66,
+      ne_eqb g 67 n67,
+      ne_eqb g 68 n68,
+      ne_eqb g 72 n72,
+      ne_eqb g 76 n76,
+      ne_eqb g 77 n77,
+      ne_eqb g 83 n83,
+    ) refl
+
+pub other_lead : (fresh : Bool) (b : ℕ) → b < 256 → get_or LEADS b 0 ≢ 76 → get_or LEADS b 0 ≢ 68
+    → get_or LEADS b 0 ≢ 77 → get_or LEADS b 0 ≢ 66 → get_or LEADS b 0 ≢ 67 → get_or LEADS b 0 ≢ 72
+    → get_or LEADS b 0 ≢ 83 → Other ≡ lead_of fresh b
+other_lead fresh b lt n76 n68 n77 n66 n67 n72 n83 =
+    sym (other_letter fresh (get_or LEADS b 0) n76 n68 n77 n66 n67 n72 n83) ∙ letter_lead fresh b lt

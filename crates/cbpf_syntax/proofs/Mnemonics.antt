@@ -1,0 +1,144 @@
+-- The rows of a mnemonic, and that no two mnemonics have one word.
+use Rattle.std.proofs.Common.{◌≡◌, ℕ, zero, suc, ◌<◌, ◌≤◌, Bool, true, false, not, cond, map, ◌&&◌, ◌||◌, List, []}
+use Rattle.std.proofs.Common.{◌∷◌, length, refl, arith, ap, sym, ◌∙◌, inl, inr, get_or, ltb-true}
+use Rattle.std.specs.Prelude.{Contains, nat_lt, nat_le, bytes_eq}
+use Rattle.std.proofs.lemmas.Bool.Decides.{nat_tests}
+use Rattle.std.specs.List.{list_all, filter}
+use Rattle.std.proofs.lemmas.List.{get_or_default}
+use Rattle.std.proofs.lemmas.Bool.{and_parts}
+use Rattle.cbpf_syntax.specs.Fits.{is_one_of, mnemonic_words, is_reserved}
+use Rattle.cbpf_syntax.specs.Table.{Row, Mnemonic, mnemonics, table, rows_of, entry_rows}
+use Rattle.cbpf_syntax.specs.Initials.{begins_with, is_first}
+use Rattle.cbpf_syntax.proofs.Apart.{bytes_eq_self, equal_bytes}
+use Rattle.cbpf_syntax.proofs.OneReading.{three}
+use Rattle.cbpf_syntax.proofs.Elements.{first_element, later_element, which_element, from_map, into_map}
+use Rattle.cbpf_syntax.proofs.Elements.{from_flat_map, into_flat_map, any_element, some_element, list_all_at}
+
+abbrev all_differ : List Mnemonic → Bool
+all_differ [] = true
+all_differ (m ∷ ms) = list_all (λ (n : Mnemonic). not (bytes_eq m.word n.word)) ms && all_differ ms
+
+words_differ : all_differ mnemonics ≡ true
+unfolding mnemonics
+words_differ = refl
+
+modes_given : list_all (λ (m : Mnemonic). nat_lt 0 (length m.entries)) mnemonics ≡ true
+unfolding mnemonics
+modes_given = refl
+
+words_short : list_all (λ (m : Mnemonic). nat_le (length m.word) 4) mnemonics ≡ true
+unfolding mnemonics
+words_short = refl
+
+differ_at : (ms : List Mnemonic) (i j : ℕ) (d : Mnemonic) → all_differ ms ≡ true → i < j → j < length ms
+    → not (bytes_eq (get_or ms i d).word (get_or ms j d).word) ≡ true
+differ_at [] i j d e l m = absurd (omega arith)
+differ_at (r ∷ rs) i zero d e l m = absurd (omega arith)
+differ_at (r ∷ rs) zero (suc j) d e l m =
+    list_all_at (λ (s : Mnemonic). not (bytes_eq r.word s.word)) rs j d (and_parts _ _ e).0 (omega arith)
+differ_at (r ∷ rs) (suc i) (suc j) d e l m = differ_at rs i j d
+    (and_parts (list_all (λ (n : Mnemonic). not (bytes_eq r.word n.word)) rs) _ e).1 (omega arith) (omega arith)
+
+not_same : {B : Type 0} (v w : List ℕ) → v ≡ w → not (bytes_eq v w) ≡ true → B
+not_same v w e h = let k : not (bytes_eq w w) ≡ true = rw e at h in
+    let q : not true ≡ true = rw (bytes_eq_self w) at k in
+    cc
+
+pub same_mnemonic : (m n : Mnemonic) → Contains mnemonics m → Contains mnemonics n → m.word ≡ n.word → m ≡ n
+same_mnemonic m n p q w =
+    elim (three p.0 q.0) [
+      | inl l ↦ not_same m.word n.word w
+          (rw (p.2, get_or_default mnemonics q.0 m n q.1, q.2) at (differ_at mnemonics p.0 q.0 m words_differ l q.1))
+      | inr h ↦ elim h [
+        | inl l ↦ not_same n.word m.word (sym w) (rw (q.2, get_or_default mnemonics p.0 n m p.1, p.2) at
+            (differ_at mnemonics q.0 p.0 n words_differ l p.1))
+        | inr e ↦ sym p.2 ∙ ap (λ k. get_or mnemonics k m) e ∙ get_or_default mnemonics q.0 m n q.1 ∙ q.2
+      ]
+    ]
+
+pub has_modes : (m : Mnemonic) → Contains mnemonics m → 0 < length m.entries
+has_modes m p = ltb-true 0 (length m.entries)
+    (rw p.2 at (list_all_at (λ (n : Mnemonic). nat_lt 0 (length n.entries)) mnemonics p.0 m modes_given p.1))
+
+pub row_mnemonic : (r : Row) → Contains table r → (m : Mnemonic) × Contains mnemonics m × Contains (rows_of m) r
+row_mnemonic r p = from_flat_map rows_of mnemonics r p
+
+pub row_word : (m : Mnemonic) (r : Row) → Contains (rows_of m) r → m.word ≡ r.mnemonic
+row_word m r p =
+    let e = from_flat_map (entry_rows m.word) m.entries r p in
+    let f = from_map (λ form. record { mnemonic = m.word; operand = form; op = e.0.op; fields = e.0.fields })
+    e.0.forms r e.2 in
+    ap (λ (s : Row). s.mnemonic) f.2
+
+pub row_known : (m : Mnemonic) (r : Row) → Contains mnemonics m → Contains (rows_of m) r → Contains table r
+row_known m r p q = into_flat_map rows_of mnemonics m r p q
+
+pub word_known : (m : Mnemonic) → Contains mnemonics m → is_one_of mnemonic_words m.word ≡ true
+word_known m p = any_element (λ v. bytes_eq m.word v) mnemonic_words m.word
+    (into_map (λ (n : Mnemonic). n.word) mnemonics m p) (bytes_eq_self m.word)
+
+pub word_reserved : (w : List ℕ) (m : Mnemonic) → Contains mnemonics m → bytes_eq w m.word ≡ true
+    → is_reserved w ≡ true
+word_reserved w m p e = rw (equal_bytes w m.word e, word_known m p) refl
+
+pub word_listed : (w : List ℕ) (m : Mnemonic) → Contains mnemonics m → bytes_eq w m.word ≡ true
+    → is_one_of mnemonic_words w ≡ true
+word_listed w m p e = rw (equal_bytes w m.word e) (word_known m p)
+
+-- no mnemonic is longer than 4 bytes
+pub long_word : (w : List ℕ) → 4 < length w → is_one_of mnemonic_words w ≡ false
+long_word w h = by_test (is_one_of mnemonic_words w) refl
+  where
+    by_test : (t : Bool) → is_one_of mnemonic_words w ≡ t → t ≡ false
+    by_test false e = refl
+    by_test true e =
+        let s = some_element (λ v. bytes_eq w v) mnemonic_words e in
+        let m = from_map (λ (n : Mnemonic). n.word) mnemonics s.0 s.1 in
+        let short : nat_le (length m.0.word) 4 ≡ true = rw m.1.2 at
+        (list_all_at (λ (n : Mnemonic). nat_le (length n.word) 4) mnemonics m.1.0 m.0 words_short m.1.1) in
+        let same : length w ≡ length m.0.word = ap length (equal_bytes w s.0 s.2 ∙ sym m.2) in
+        let most : length m.0.word ≤ 4 = grind (arith, nat_tests) in
+        absurd (omega (arith, most, same))
+
+-- the empty word is no mnemonic
+pub no_word : (w : List ℕ) → length w ≡ 0 → is_one_of mnemonic_words w ≡ false
+unfolding mnemonics
+no_word [] e = refl
+no_word (b ∷ bs) e = absurd (omega (arith, e))
+
+-- the mnemonics that begin with a byte
+kept_known : (t : Bool) (n : Mnemonic) (ns ms : List Mnemonic) (m : Mnemonic) → (Contains ns m → Contains ms m)
+    → Contains (cond t (n ∷ ns) ns) m → Contains (n ∷ ms) m
+kept_known true n ns ms m rest c = elim (which_element n ns m c) [
+  | inl e ↦ rw e (first_element m ms)
+  | inr d ↦ later_element n ms m (rest d)
+]
+kept_known false n ns ms m rest c = later_element n ms m (rest c)
+
+pub from_known : (b : ℕ) (ms : List Mnemonic) (m : Mnemonic) → Contains (filter (begins_with b) ms) m → Contains ms m
+from_known b [] m c = c
+from_known b (n ∷ ms) m c = kept_known (begins_with b n) n (filter (begins_with b) ms) ms m (from_known b ms m) c
+
+differ_first : (b : ℕ) (bs w : List ℕ) → is_first b w ≡ false → bytes_eq (b ∷ bs) w ≡ false
+differ_first b bs [] e = refl
+differ_first b bs (c ∷ cs) e = rw e refl
+
+kept_listed : (t : Bool) (w : List ℕ) (n : Mnemonic) (ns : List Mnemonic) (rest : Bool)
+    → (t ≡ false → bytes_eq w n.word ≡ false) → is_one_of (map (λ (m : Mnemonic). m.word) ns) w ≡ rest
+    → is_one_of (map (λ (m : Mnemonic). m.word) (cond t (n ∷ ns) ns)) w ≡ (bytes_eq w n.word || rest)
+kept_listed true w n ns rest other e = rw e refl
+kept_listed false w n ns rest other e = rw (other refl) e
+
+from_listed : (b : ℕ) (bs : List ℕ) (ms : List Mnemonic)
+    → is_one_of (map (λ (m : Mnemonic). m.word) (filter (begins_with b) ms)) (b ∷ bs)
+    ≡ is_one_of (map (λ (m : Mnemonic). m.word) ms) (b ∷ bs)
+from_listed b bs [] = refl
+from_listed b bs (n ∷ ms) = kept_listed (begins_with b n) (b ∷ bs) n (filter (begins_with b) ms) _
+    (differ_first b bs n.word) (from_listed b bs ms)
+
+-- a word that none of those that begin with its first byte is
+pub none_from : (w : List ℕ) (d : ℕ) → 0 < length w
+    → is_one_of (map (λ (m : Mnemonic). m.word) (filter (begins_with (get_or w 0 d)) mnemonics)) w ≡ false
+    → is_one_of mnemonic_words w ≡ false
+none_from [] d l e = absurd (omega arith)
+none_from (b ∷ bs) d l e = sym (from_listed b bs mnemonics) ∙ e

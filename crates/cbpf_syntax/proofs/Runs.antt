@@ -1,0 +1,169 @@
+-- The piece at the front of a text, by its first byte.
+use Rattle.std.proofs.Common.{◌≡◌, ℕ, zero, suc, ◌+◌, ◌<◌, ◌≤◌, Bool, true, false, not, cond, List, [], ◌∷◌, length}
+use Rattle.std.proofs.Common.{take, drop, refl, ap, ◌∙◌, arith, Some, None}
+use Rattle.std.proofs.Math.Numerals.{one-add}
+use Rattle.std.specs.Prelude.{◌==◌, slice_index, ◌≢◌}
+use Rattle.std.specs.List.{list_all, prefix_len}
+use Rattle.std.proofs.Common.{ne_eqb, eq-eqb, length-take-le}
+use Rattle.cbpf_syntax.specs.declared.piece.PieceKind.{PieceKind}
+use Rattle.cbpf_syntax.specs.declared.piece.PieceKind.TheVariants.{Blanks, Comment, Lexeme, Bad}
+use Rattle.cbpf_syntax.specs.declared.token.Kind.TheVariants.{Word, Mark}
+use Rattle.cbpf_syntax.specs.Bytes.{is_blank, is_name_byte}
+use Rattle.cbpf_syntax.specs.Numbers.{number_value}
+use Rattle.cbpf_syntax.specs.Pieces.{IsNext, piece_kind, only_if, run_kind, alone, first_close, comment_kind}
+use Rattle.cbpf_syntax.specs.Leads.{lead_of}
+use Rattle.cbpf_syntax.proofs.Leads.{led}
+use Rattle.cbpf_syntax.proofs.Comments.{close_taken}
+use Rattle.cbpf_syntax.specs.declared.token.BadPiece.TheVariants.{NoToken, OpenComment}
+use Rattle.cbpf_syntax.specs.declared.piece.Lead.TheVariants.{Blank, LineComment, Letter, Digit, Slash, Single, Other}
+use Rattle.std.proofs.lemmas.List.Sums.{prefix_len-le-length}
+use Rattle.std.proofs.lemmas.List.{take_all}
+
+-- the run that prefix_len finds passes, and no longer one does
+whole_step : (p : ℕ → Bool) (b : ℕ) (bs : List ℕ) (t : Bool) → p b ≡ t → list_all p (take (prefix_len p bs) bs) ≡ true
+    → list_all p (take (cond t (1 + prefix_len p bs) 0) (b ∷ bs)) ≡ true
+whole_step p b bs true e h = rw (one-add, e) h
+whole_step p b bs false e h = refl
+
+pub run_whole : (p : ℕ → Bool) (bs : List ℕ) → list_all p (take (prefix_len p bs) bs) ≡ true
+run_whole p [] = refl
+run_whole p (b ∷ bs) = whole_step p b bs (p b) refl (run_whole p bs)
+
+longer_step : (p : ℕ → Bool) (b : ℕ) (bs : List ℕ) (n : ℕ) (t : Bool) → p b ≡ t
+    → (prefix_len p bs < n → list_all p (take n bs) ≡ false) → cond t (1 + prefix_len p bs) 0 < suc n
+    → list_all p (take (suc n) (b ∷ bs)) ≡ false
+longer_step p b bs n true e h l = rw e (h (omega arith))
+longer_step p b bs n false e h l = rw e
+
+pub run_longer : (p : ℕ → Bool) (bs : List ℕ) (n : ℕ) → n ≤ length bs → prefix_len p bs < n
+    → list_all p (take n bs) ≡ false
+run_longer p bs zero w l = absurd (omega arith)
+run_longer p [] (suc n) w l = absurd (omega arith)
+run_longer p (b ∷ bs) (suc n) w l = longer_step p b bs n (p b) refl (λ l'. run_longer p bs n (omega arith) l') l
+
+two-add : (n : ℕ) → 2 + n ≡ suc (suc n)
+two-add n = omega arith
+
+-- A text whose first byte decides that it begins with a run of p after it, of one kind.
+module _ (fresh : Bool) (p : ℕ → Bool) (kind : List ℕ → PieceKind) (b : ℕ) (bs : List ℕ)
+    (decides : (cs : List ℕ) → piece_kind fresh (b ∷ cs) ≡ only_if (list_all p cs) (kind cs)) where
+  longest_run : (n : ℕ) → suc (prefix_len p bs) < n → n ≤ suc (length bs) → piece_kind fresh (take n (b ∷ bs)) ≡ None
+  longest_run zero l w = absurd (omega arith)
+  longest_run (suc n) l w =
+      decides (take n bs) ∙ ap (λ t. only_if t (kind (take n bs))) (run_longer p bs n (omega arith) (omega arith))
+
+  pub run_next :
+      IsNext fresh (b ∷ bs) (record { kind = kind (take (prefix_len p bs) bs); size = 1 + prefix_len p bs })
+  run_next = rw one-add (record {
+    within = omega (arith, prefix_len-le-length p bs);
+    kind =
+        decides (take (prefix_len p bs) bs) ∙ ap (λ t. only_if t (kind (take (prefix_len p bs) bs))) (run_whole p bs);
+    longest = longest_run;
+  })
+
+pub blanks_next : (fresh : Bool) (b : ℕ) (bs : List ℕ) → lead_of fresh b ≡ Blank
+    → IsNext fresh (b ∷ bs) (record { kind = Blanks; size = 1 + prefix_len is_blank bs })
+blanks_next fresh b bs e = run_next fresh is_blank (λ _. Blanks) b bs (λ cs. led fresh b cs _ e)
+
+pub line_next : (fresh : Bool) (b : ℕ) (bs : List ℕ) → lead_of fresh b ≡ LineComment
+    → IsNext fresh (b ∷ bs) (record { kind = Comment; size = 1 + prefix_len (λ c. not (c == 10)) bs })
+line_next fresh b bs e = run_next fresh (λ c. not (c == 10)) (λ _. Comment) b bs (λ cs. led fresh b cs _ e)
+
+pub word_next : (fresh : Bool) (b : ℕ) (bs : List ℕ) → lead_of fresh b ≡ Letter
+    → IsNext fresh (b ∷ bs) (record { kind = Lexeme Word; size = 1 + prefix_len is_name_byte bs })
+word_next fresh b bs e = run_next fresh is_name_byte (λ _. Lexeme Word) b bs (λ cs. led fresh b cs _ e)
+
+pub number_next : (fresh : Bool) (b : ℕ) (bs : List ℕ) → lead_of fresh b ≡ Digit → IsNext fresh (b ∷ bs) (record {
+  kind = run_kind (number_value (b ∷ take (prefix_len is_name_byte bs) bs));
+  size = 1 + prefix_len is_name_byte bs;
+})
+number_next fresh b bs e =
+    run_next fresh is_name_byte (λ cs. run_kind (number_value (b ∷ cs))) b bs (λ cs. led fresh b cs _ e)
+
+-- a byte that is a piece by itself alone
+alone_longer : (fresh : Bool) (kind : PieceKind) (b : ℕ) (bs : List ℕ)
+    → ((cs : List ℕ) → piece_kind fresh (b ∷ cs) ≡ alone cs kind) → (n : ℕ) → 1 < n → n ≤ suc (length bs)
+    → piece_kind fresh (take n (b ∷ bs)) ≡ None
+alone_longer fresh kind b bs d zero l w = absurd (omega arith)
+alone_longer fresh kind b bs d (suc zero) l w = absurd (omega arith)
+alone_longer fresh kind b [] d (suc (suc n)) l w = absurd (omega arith)
+alone_longer fresh kind b (c ∷ cs) d (suc (suc n)) l w = d (c ∷ take n cs)
+
+pub alone_next : (fresh : Bool) (kind : PieceKind) (b : ℕ) (bs : List ℕ)
+    → ((cs : List ℕ) → piece_kind fresh (b ∷ cs) ≡ alone cs kind)
+    → IsNext fresh (b ∷ bs) (record { kind = kind; size = 1 })
+alone_next fresh kind b bs d = record { within = omega arith; kind = d []; longest = alone_longer fresh kind b bs d }
+
+pub mark_next : (fresh : Bool) (b : ℕ) (bs : List ℕ) → lead_of fresh b ≡ Single
+    → IsNext fresh (b ∷ bs) (record { kind = Lexeme (Mark b); size = 1 })
+mark_next fresh b bs e = alone_next fresh (Lexeme (Mark b)) b bs (λ cs. led fresh b cs _ e)
+
+pub other_next : (fresh : Bool) (b : ℕ) (bs : List ℕ) → lead_of fresh b ≡ Other
+    → IsNext fresh (b ∷ bs) (record { kind = Bad NoToken; size = 1 })
+other_next fresh b bs e = alone_next fresh (Bad NoToken) b bs (λ cs. led fresh b cs _ e)
+
+-- a `/` without a `*` after it
+slash_longer : (fresh : Bool) (b : ℕ) (bs : List ℕ) → lead_of fresh b ≡ Slash → (slice_index bs 0 == 42) ≡ false
+    → (n : ℕ) → 1 < n → n ≤ suc (length bs) → piece_kind fresh (take n (b ∷ bs)) ≡ None
+slash_longer fresh b bs e h zero l w = absurd (omega arith)
+slash_longer fresh b bs e h (suc zero) l w = absurd (omega arith)
+slash_longer fresh b [] e h (suc (suc n)) l w = absurd (omega arith)
+slash_longer fresh b (c ∷ cs) e h (suc (suc n)) l w = led fresh b (c ∷ take n cs) Slash e ∙ rw h refl
+
+pub slash_next : (fresh : Bool) (b : ℕ) (bs : List ℕ) → lead_of fresh b ≡ Slash → (slice_index bs 0 == 42) ≡ false
+    → IsNext fresh (b ∷ bs) (record { kind = Bad NoToken; size = 1 })
+slash_next fresh b bs e h = record {
+  within = omega arith;
+  kind = led fresh b [] Slash e;
+  longest = slash_longer fresh b bs e h;
+}
+
+-- a comment that ends at the first `*/` after `/*`
+pub comment_next : (fresh : Bool) (b : ℕ) (bs : List ℕ) (n : ℕ) → lead_of fresh b ≡ Slash → n ≤ length bs
+    → first_close bs ≡ Some n → IsNext fresh (b ∷ 42 ∷ bs) (record { kind = Comment; size = 2 + n })
+comment_next fresh b bs n e w h = rw (two-add n) (record { within = omega arith; kind = shut; longest = longer })
+  where
+    cut : (m : ℕ) → n ≤ m → m ≤ length bs → piece_kind fresh (b ∷ 42 ∷ take m bs) ≡ only_if (n == m) Comment
+    cut m l w' = led fresh b (42 ∷ take m bs) Slash e
+        ∙ (λ i. comment_kind (close_taken bs n m h l i) (length-take-le m bs w' i))
+
+    shut : piece_kind fresh (b ∷ 42 ∷ take n bs) ≡ Some Comment
+    shut = let l : n ≤ n = omega arith in cut n l w ∙ ap (λ t. only_if t Comment) (eq-eqb n n refl)
+
+    longer : (m : ℕ) → suc (suc n) < m → m ≤ suc (suc (length bs)) → piece_kind fresh (take m (b ∷ 42 ∷ bs)) ≡ None
+    longer zero l w' = absurd (omega arith)
+    longer (suc zero) l w' = absurd (omega arith)
+    longer (suc (suc m)) l w' = let d : n ≢ m = λ q. absurd (omega (arith, l, q)) in
+        cut m (omega arith) (omega arith) ∙ ap (λ t. only_if t Comment) (ne_eqb n m d)
+
+-- an open comment, which is all of the text
+pub open_next : (fresh : Bool) (b : ℕ) (bs : List ℕ) → lead_of fresh b ≡ Slash → first_close bs ≡ None
+    → IsNext fresh (b ∷ 42 ∷ bs) (record { kind = Bad OpenComment; size = 2 + length bs })
+open_next fresh b bs e h = rw (two-add (length bs)) (record {
+  within = omega arith;
+  kind = rw (take_all (length bs) bs (omega arith))
+      (led fresh b (42 ∷ bs) Slash e ∙ ap (λ o. comment_kind o (length bs)) h);
+  longest = λ n l w. absurd (omega arith);
+})
+
+-- the same two by the bytes after the `/`
+pub comment_at : (fresh : Bool) (b : ℕ) (bs : List ℕ) (n : ℕ) → lead_of fresh b ≡ Slash → slice_index bs 0 ≡ 42
+    → n ≤ length (drop 1 bs) → first_close (drop 1 bs) ≡ Some n
+    → IsNext fresh (b ∷ bs) (record { kind = Comment; size = 2 + n })
+comment_at fresh b [] n e h w k = absurd (omega arith)
+comment_at fresh b (d ∷ ds) n e h w k = rw h (comment_next fresh b ds n e w k)
+
+pub open_at : (fresh : Bool) (b : ℕ) (bs : List ℕ) → lead_of fresh b ≡ Slash → slice_index bs 0 ≡ 42
+    → first_close (drop 1 bs) ≡ None
+    → IsNext fresh (b ∷ bs) (record { kind = Bad OpenComment; size = 2 + length (drop 1 bs) })
+open_at fresh b [] e h k = absurd (omega arith)
+open_at fresh b (d ∷ ds) e h k = rw h (open_next fresh b ds e k)
+
+pub slash_last : (fresh : Bool) (b : ℕ) (bs : List ℕ) → lead_of fresh b ≡ Slash → length bs ≡ 0
+    → IsNext fresh (b ∷ bs) (record { kind = Bad NoToken; size = 1 })
+slash_last fresh b [] e h = slash_next fresh b [] e refl
+slash_last fresh b (d ∷ ds) e h = absurd (omega arith)
+
+pub slash_past : (fresh : Bool) (b : ℕ) (bs : List ℕ) → lead_of fresh b ≡ Slash → (slice_index bs 0 ≢ 42)
+    → IsNext fresh (b ∷ bs) (record { kind = Bad NoToken; size = 1 })
+slash_past fresh b bs e h = slash_next fresh b bs e (ne_eqb (slice_index bs 0) 42 h)

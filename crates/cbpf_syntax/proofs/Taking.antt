@@ -1,0 +1,377 @@
+-- What is known of the lexemes of a text, of which some were taken and some are read ahead.
+use Rattle.std.proofs.Common.{◌≡◌, ℕ, zero, suc, ◌+◌, ◌-◌, ◌<◌, ◌≤◌, true, List, [], ◌∷◌, ◌++◌, length, map, take}
+use Rattle.std.proofs.Common.{drop, refl, arith, ap, sym, ◌∙◌, inl, inr, subst, append_assoc, append-nil}
+use Rattle.std.proofs.Common.{length-append, length-drop, get_or, Option, Some, None}
+use Rattle.std.proofs.lemmas.List.{take-append-drop, take-append-le, drop-append-le, drop-drop, drop-map, map-append}
+use Rattle.std.proofs.lemmas.List.{length-map, length-take-le, take_rest}
+use Rattle.std.specs.Prelude.{slice_get, IfSome, IfNone}
+use Rattle.std.specs.List.{copy_within}
+use Rattle.std.proofs.lemmas.List.Edits.{take-paste}
+use Rattle.std.proofs.lemmas.Bool.{and_parts, cases_lt}
+use Rattle.cbpf_syntax.specs.declared.token.Token.{Token}
+use Rattle.cbpf_syntax.specs.TokenReading.{IsNextToken}
+use Rattle.cbpf_syntax.proofs.Outcomes.{lexes_on}
+use Rattle.cbpf_syntax.specs.declared.lexeme.Lexeme as declared_lexeme
+use Rattle.cbpf_syntax.specs.declared.reader.Step.{Step}
+use Rattle.cbpf_syntax.specs.declared.reader.Step.TheVariants.{Label, Instruction, Stuck as stuck_step}
+use Rattle.cbpf_syntax.specs.Lexemes.{Symbol, Lexeme, lexemes_of, token_lexeme, AreLexemes}
+use Rattle.cbpf_syntax.specs.Lexemes.Symbol.{word, number, mark}
+use Rattle.cbpf_syntax.specs.Classes.Class.{the_word, name}
+use Rattle.cbpf_syntax.specs.Table.{Row}
+use Rattle.cbpf_syntax.specs.Fits.{fits, fits_front}
+use Rattle.cbpf_syntax.specs.Items.{Item, classes_of}
+use Rattle.cbpf_syntax.proofs.Greedy.{whole_front}
+use Rattle.cbpf_syntax.proofs.Refused.{next_some, large_first, misplaced_first, unfinished_first}
+use Rattle.cbpf_syntax.specs.Views.{lexeme_of, row_of}
+use Rattle.cbpf_syntax.specs.Steps.{IsNextItem, Stuck, starts_with_label}
+use Rattle.cbpf_syntax.specs.declared.reader.SyntaxFault.TheVariants as refusal
+use Rattle.cbpf_syntax.specs.Refusals.{symbol_at, IsLargeNegative, IsStuckAt}
+use Rattle.cbpf_syntax.specs.Reading.{AreAhead, IsStepOf, step_len, StartsWithWord, IsPlaceOf, IsFirstLarge}
+use Rattle.cbpf_syntax.specs.Reading.{IsRefusedFor}
+use Rattle.cbpf_syntax.proofs.Ahead.{next_more, stuck_more, label_more}
+
+-- the lexemes ahead are the next of the whole text's
+pub ahead_is : (text : List ℕ) (at n : ℕ) (ahead ts : List Lexeme) → AreAhead text at n ahead → AreLexemes text ts
+    → (rest : List Lexeme) × (drop n ts ≡ ahead ++ rest) × (at ≡ length text → rest ≡ []) × (n ≤ length ts)
+ahead_is text at n ahead ts a t =
+    let r = lexes_on text at a.tokens t.tokens a.lexed t.lexed in
+    let whole : ts ≡ lexemes_of text a.tokens ++ lexemes_of text r.0 =
+    t.are ∙ (ap (λ us. lexemes_of text us) r.1 ∙ map-append (token_lexeme text) a.tokens r.0) in
+    let size : length (lexemes_of text a.tokens) ≡ length a.tokens = length-map a.tokens (token_lexeme text) in
+    let within : n ≤ length (lexemes_of text a.tokens) = omega (arith, size, a.taken) in (
+      lexemes_of text r.0,
+      ap (λ us. drop n us) whole ∙ (drop-append-le n (lexemes_of text a.tokens) (lexemes_of text r.0) within
+          ∙ ap (λ us. us ++ lexemes_of text r.0) a.are),
+      (λ e. ap (λ us. lexemes_of text us) (r.2 e)),
+      omega (arith, within, ap length whole, length-append (lexemes_of text a.tokens) (lexemes_of text r.0)),
+    )
+
+-- one more token is read
+pub ahead_more : (text : List ℕ) (at to n : ℕ) (ahead : List Lexeme) (token : Token) → AreAhead text at n ahead
+    → IsNextToken text at to token → AreAhead text to n (ahead ++ (token_lexeme text token ∷ []))
+ahead_more text at to n ahead token a next =
+    let size : length (lexemes_of text a.tokens) ≡ length a.tokens = length-map a.tokens (token_lexeme text) in
+    let within : n ≤ length (lexemes_of text a.tokens) = omega (arith, size, a.taken) in
+    record {
+      tokens = a.tokens ++ (token ∷ []);
+      lexed = next.more a.tokens a.lexed;
+      taken = omega (arith, a.taken, length-append a.tokens (token ∷ []));
+      are = ap (λ us. drop n us) (map-append (token_lexeme text) a.tokens (token ∷ []))
+          ∙ (drop-append-le n (lexemes_of text a.tokens) (token_lexeme text token ∷ []) within
+          ∙ ap (λ us. us ++ (token_lexeme text token ∷ [])) a.are);
+    }
+
+-- some of the tokens ahead are taken
+pub ahead_taken : (text : List ℕ) (at m n : ℕ) (ahead : List Lexeme) → AreAhead text at m ahead → n ≤ length ahead
+    → AreAhead text at (m + n) (drop n ahead)
+ahead_taken text at m n ahead a l =
+    let size : length (lexemes_of text a.tokens) ≡ length a.tokens = length-map a.tokens (token_lexeme text) in
+    let rest : length (lexemes_of text a.tokens) - m ≡ length ahead =
+    sym (length-drop m (lexemes_of text a.tokens)) ∙ ap length a.are in
+    record {
+      tokens = a.tokens;
+      lexed = a.lexed;
+      taken = omega (arith, size, rest, a.taken, l);
+      are = sym (drop-drop n m (lexemes_of text a.tokens)) ∙ ap (λ us. drop n us) a.are;
+    }
+
+-- a step over the tokens ahead is one over all, where a token follows it or none is left
+pub step_more : (ws rest : List Lexeme) (s : Option Step) → IsStepOf ws s → step_len s < length ws
+    → IsStepOf (ws ++ rest) s
+step_more ws rest None h l = let z : length ws ≡ 0 = ap length h in absurd (omega (arith, z, l))
+step_more ws rest (Some Label) h l = label_more ws rest h
+step_more ws rest (Some (Instruction row)) h l =
+    let n : ℕ = suc (length row.operand.now) in
+    let e : take (suc (length row.operand.now)) (ws ++ rest) ≡ take (suc (length row.operand.now)) ws =
+    take-append-le (suc (length row.operand.now)) ws rest (omega (arith, l)) in
+    subst (λ (us : List Lexeme). IsNextItem (ws ++ rest) (suc (length row.operand.now))
+    (record { labels = []; row = row_of row; body = us })) (sym e)
+    (next_more (suc (length row.operand.now)) ws rest
+    (record { labels = []; row = row_of row; body = take (suc (length row.operand.now)) ws }) (omega (arith, l)) h)
+step_more ws rest (Some (stuck_step n)) h l = stuck_more n ws rest l h
+
+pub step_all : (ws rest : List Lexeme) (s : Option Step) → IsStepOf ws s → rest ≡ [] → IsStepOf (ws ++ rest) s
+step_all ws rest s h e = subst (λ us. IsStepOf us s) (sym (ap (λ us. ws ++ us) e ∙ append-nil ws)) h
+
+-- what stands at an index of the tokens ahead
+symbol_front : (ws rest : List Lexeme) (k : ℕ) → k < length ws → symbol_at (ws ++ rest) k ≡ symbol_at ws k
+symbol_front [] rest k l = absurd (omega (arith, l))
+symbol_front (w ∷ ws) rest zero l = refl
+symbol_front (w ∷ ws) rest (suc k) l = symbol_front ws rest k (omega (arith, l))
+
+symbol_drop : (ts : List Lexeme) (m k : ℕ) → symbol_at (drop m ts) k ≡ symbol_at ts (m + k)
+symbol_drop ts zero k = let e : 0 + k ≡ k = omega arith in ap (λ i. symbol_at ts i) (sym e)
+symbol_drop [] (suc m) k = nothing k (suc m + k)
+  where
+    nothing : (i j : ℕ) → symbol_at [] i ≡ symbol_at [] j
+    nothing i j = refl
+symbol_drop (t ∷ ts) (suc m) k = let e : suc m + k ≡ suc (m + k) = omega arith in
+    symbol_drop ts m k ∙ ap (λ i. symbol_at (t ∷ ts) i) (sym e)
+
+pub symbol_ahead : (ts ws rest : List Lexeme) (m k : ℕ) → drop m ts ≡ ws ++ rest → k < length ws
+    → symbol_at ts (m + k) ≡ symbol_at ws k
+symbol_ahead ts ws rest m k e l = sym (symbol_drop ts m k) ∙ (ap (λ us. symbol_at us k) e ∙ symbol_front ws rest k l)
+
+get_front : (ws rest : List Lexeme) (k : ℕ) → k < length ws → slice_get (ws ++ rest) k ≡ slice_get ws k
+get_front [] rest k l = absurd (omega (arith, l))
+get_front (w ∷ ws) rest zero l = refl
+get_front (w ∷ ws) rest (suc k) l = get_front ws rest k (omega (arith, l))
+
+get_drop : (ts : List Lexeme) (m k : ℕ) → slice_get (drop m ts) k ≡ slice_get ts (m + k)
+get_drop ts zero k = let e : 0 + k ≡ k = omega arith in ap (λ i. slice_get ts i) (sym e)
+get_drop [] (suc m) k = refl
+get_drop (t ∷ ts) (suc m) k = let e : suc m + k ≡ suc (m + k) = omega arith in
+    get_drop ts m k ∙ ap (λ i. slice_get (t ∷ ts) i) (sym e)
+
+pub get_ahead : (ts ws rest : List Lexeme) (m k : ℕ) → drop m ts ≡ ws ++ rest → k < length ws
+    → slice_get ts (m + k) ≡ slice_get ws k
+get_ahead ts ws rest m k e l = sym (get_drop ts m k) ∙ (ap (λ us. slice_get us k) e ∙ get_front ws rest k l)
+
+some-same : (x y : Symbol) → ◌≡◌ {A = Option Symbol} (Some x) (Some y) → x ≡ y
+some-same x y e = cc
+
+-- a literal that is too large, of the tokens ahead and of all
+large_in : (ts ws rest : List Lexeme) (m k : ℕ) → drop m ts ≡ ws ++ rest → k < length ws → IsLargeNegative ws k
+    → IsLargeNegative ts (m + k)
+large_in ts ws rest m k e l h = record {
+  before = m + h.before;
+  after = omega (arith, h.after);
+  sign = h.sign;
+  digits = h.digits;
+  sign_at = symbol_ahead ts ws rest m h.before e (omega (arith, h.after, l)) ∙ h.sign_at;
+  digits_at = symbol_ahead ts ws rest m k e l ∙ h.digits_at;
+  large = h.large;
+}
+
+large_out : (ts ws rest : List Lexeme) (m k : ℕ) → drop m ts ≡ ws ++ rest → suc k < length ws
+    → IsLargeNegative ts (m + suc k) → IsLargeNegative ws (suc k)
+large_out ts ws rest m k e l h =
+    let b : h.before ≡ m + k = omega (arith, h.after) in
+    record {
+      before = k;
+      after = omega arith;
+      sign = h.sign;
+      digits = h.digits;
+      sign_at =
+          sym (symbol_ahead ts ws rest m k e (omega (arith, l))) ∙ (ap (λ i. symbol_at ts i) (sym b) ∙ h.sign_at);
+      digits_at = sym (symbol_ahead ts ws rest m (suc k) e l) ∙ h.digits_at;
+      large = h.large;
+    }
+
+not_first : (ts ws rest : List Lexeme) (m : ℕ) → drop m ts ≡ ws ++ rest → 0 < length ws → StartsWithWord ws
+    → IsLargeNegative ts (m + 0) → ⊥
+not_first ts ws rest m e l w h =
+    let s : word w.0 ≡ h.digits =
+    some-same (word w.0) h.digits (sym w.1 ∙ (sym (symbol_ahead ts ws rest m 0 e l) ∙ h.digits_at)) in
+    let d : word w.0 ≡ number h.large.1 = s ∙ h.large.2 in
+    cc
+
+-- where none of the tokens ahead is one, no more of all is
+none_large : (ts ws rest : List Lexeme) (m : ℕ) → drop m ts ≡ ws ++ rest → (0 < length ws → StartsWithWord ws)
+    → ((k : ℕ) → k < m → IsLargeNegative ts k → ⊥) → (n : ℕ) → n ≤ length ws
+    → ((k : ℕ) → k < n → IsLargeNegative ws k → ⊥) → (k : ℕ) → k < m + n → IsLargeNegative ts k → ⊥
+none_large ts ws rest m e w before n l none k lk h =
+    elim (cases_lt k m) [
+      | inl b ↦ before k b h
+      | inr b ↦ let d : k ≡ m + (k - m) = omega (arith, b) in
+          by_index (k - m) (omega (arith, lk, b)) (subst (λ i. IsLargeNegative ts i) d h)
+    ]
+  where
+    by_index : (j : ℕ) → j < n → IsLargeNegative ts (m + j) → ⊥
+    by_index zero lj g = let some : 0 < length ws = omega (arith, l, lj) in not_first ts ws rest m e some (w some) g
+    by_index (suc j) lj g = none (suc j) lj (large_out ts ws rest m j e (omega (arith, l, lj)) g)
+
+pub large_on : (ts ws rest : List Lexeme) (m : ℕ) (old new : Option ℕ) → drop m ts ≡ ws ++ rest
+    → (0 < length ws → StartsWithWord ws) → IsFirstLarge ts m old → IfSome old (λ at. new ≡ Some at)
+    → IfNone old (IsFirstLarge ws (length ws) new) → IsFirstLarge ts (m + length ws) new
+large_on ts ws rest m (Some at) new e w h known found =
+    subst (λ o. IsFirstLarge ts (m + length ws) o) (sym known) (h.0, omega (arith, h.1), h.2, h.3, h.4)
+large_on ts ws rest m None None e w h known found = none_large ts ws rest m e w h (length ws) (omega arith) found
+large_on ts ws rest m None (Some at) e w h known found = (
+  m + found.0,
+  omega (arith, found.1),
+  large_in ts ws rest m found.0 e found.1 found.2,
+  none_large ts ws rest m e w h found.0 (omega (arith, found.1)) found.3,
+  (found.4.0, get_ahead ts ws rest m found.0 e found.1 ∙ found.4.1, found.4.2),
+)
+
+pub get_mapped : (ts : List declared_lexeme.Lexeme) (i : ℕ) (d : declared_lexeme.Lexeme) → i < length ts
+    → slice_get (map lexeme_of ts) i ≡ Some (lexeme_of (get_or ts i d))
+get_mapped [] i d l = absurd (omega (arith, l))
+get_mapped (t ∷ ts) zero d l = refl
+get_mapped (t ∷ ts) (suc i) d l = get_mapped ts i d (omega (arith, l))
+
+pub place_mapped : (ts : List declared_lexeme.Lexeme) (i : ℕ) (d : declared_lexeme.Lexeme) → i < length ts
+    → IsPlaceOf (map lexeme_of ts) i (get_or ts i d).at
+place_mapped ts i d l = (lexeme_of (get_or ts i d), get_mapped ts i d l, refl)
+
+pub place_ahead : (ts ws rest : List Lexeme) (m k at : ℕ) → drop m ts ≡ ws ++ rest → k < length ws → IsPlaceOf ws k at
+    → IsPlaceOf ts (m + k) at
+place_ahead ts ws rest m k at e l p = (p.0, get_ahead ts ws rest m k e l ∙ p.1, p.2)
+
+-- what begins an item, and has a token, begins with a word
+word_of : (w : List ℕ) (s : Symbol) → fits (the_word w) s ≡ true → (v : List ℕ) × (s ≡ word v)
+word_of w (word v) h = (v, refl)
+word_of w (number n) h = cc
+word_of w (mark b) h = cc
+
+name_of : (s : Symbol) → fits name s ≡ true → (v : List ℕ) × (s ≡ word v)
+name_of (word v) h = (v, refl)
+name_of (number n) h = cc
+name_of (mark b) h = cc
+
+front_word : (m : ℕ) (r : Row) (f : List Lexeme) → fits_front (classes_of m r) f ≡ true → 0 < length f
+    → StartsWithWord f
+front_word m r [] h l = absurd (omega (arith, l))
+front_word zero r (t ∷ f) h l =
+    let v = word_of r.mnemonic t.symbol (and_parts (fits (the_word r.mnemonic) t.symbol) _ h).0 in
+    (v.0, ap (λ s. Some s) v.1)
+front_word (suc m) r (t ∷ f) h l = let v = name_of t.symbol (and_parts (fits name t.symbol) _ h).0 in
+    (v.0, ap (λ s. Some s) v.1)
+
+starts_on : (f g : List Lexeme) → 0 < length f → StartsWithWord f → StartsWithWord (f ++ g)
+starts_on [] g l w = absurd (omega (arith, l))
+starts_on (t ∷ f) g l w = w
+
+pub stuck_within : (n : ℕ) (ts : List Lexeme) → Stuck n ts → n ≤ length ts
+stuck_within n ts s = omega (arith, s.size, ap length s.split, length-append s.front s.more)
+
+pub stuck_word : (n : ℕ) (ts : List Lexeme) → Stuck n ts → 0 < n → StartsWithWord ts
+stuck_word n ts s l =
+    let some : 0 < length s.front = omega (arith, s.size, l) in
+    subst StartsWithWord (sym s.split)
+    (starts_on s.front s.more some (front_word s.begins.count s.begins.row s.front s.begins.fits some))
+
+pub next_word : (ts : List Lexeme) (n : ℕ) (item : Item) → IsNextItem ts n item → StartsWithWord ts
+next_word ts n item next =
+    let some : 0 < length (take n ts) = omega (arith, next_some ts n item next, length-take-le n ts next.within) in
+    subst StartsWithWord (take-append-drop n ts) (starts_on (take n ts) (drop n ts) some (front_word next.form.count
+    item.row (take n ts) (whole_front (classes_of next.form.count item.row) (take n ts) next.form.fits) some))
+
+pub label_word : (ts : List Lexeme) → starts_with_label ts ≡ true → StartsWithWord ts
+label_word [] h = cc
+label_word (t ∷ ts) h = let v = name_of t.symbol (and_parts (fits name t.symbol) _ h).0 in (v.0, ap (λ s. Some s) v.1)
+
+-- the tokens that stay where some are taken
+pub kept_paste : (xs : List declared_lexeme.Lexeme) (n len : ℕ) → len ≡ length xs → n ≤ len
+    → take (len - n) (copy_within xs n len 0) ≡ drop n xs
+kept_paste xs n len e l =
+    let z : 0 + (len - n) ≡ len - n = omega arith in
+    ap (λ k. take k (copy_within xs n len 0)) (sym z)
+    ∙ (take-paste xs 0 (drop n xs) (len - n) (omega arith) (omega (arith, length-drop n xs, e))
+    ∙ (ap (λ k. take (k - n) (drop n xs)) e ∙ take_rest xs n))
+
+-- the first of the tokens ahead, as far as they are taken
+pub taken_is : (text : List ℕ) (at m n : ℕ) (window : List declared_lexeme.Lexeme) (ts : List Lexeme)
+    → AreAhead text at m (map lexeme_of window) → AreLexemes text ts → n ≤ length window
+    → (rest : List Lexeme) × (drop m ts ≡ map lexeme_of (take n window) ++ rest)
+taken_is text at m n window ts a t l =
+    let all = ahead_is text at m (map lexeme_of window) ts a t in
+    let cut : map lexeme_of window ≡ map lexeme_of (take n window) ++ map lexeme_of (drop n window) =
+    ap (λ us. map lexeme_of us) (sym (take-append-drop n window))
+    ∙ map-append lexeme_of (take n window) (drop n window) in (
+      map lexeme_of (drop n window) ++ all.0,
+      all.1 ∙ (ap (λ us. us ++ all.0) cut
+          ∙ append_assoc (map lexeme_of (take n window)) (map lexeme_of (drop n window)) all.0),
+    )
+
+taken_size : (n : ℕ) (window : List declared_lexeme.Lexeme) → n ≤ length window
+    → length (map lexeme_of (take n window)) ≡ n
+taken_size n window l = length-map (take n window) lexeme_of ∙ length-take-le n window l
+
+taken_word : (n : ℕ) (window : List declared_lexeme.Lexeme) → (0 < n → StartsWithWord (map lexeme_of window))
+    → 0 < length (map lexeme_of (take n window)) → StartsWithWord (map lexeme_of (take n window))
+taken_word zero window w l = absurd (omega (arith, l))
+taken_word (suc n) [] w l = absurd (omega (arith, l))
+taken_word (suc n) (t ∷ window) w l = w (omega arith)
+
+pub large_taken : (text : List ℕ) (at m n : ℕ) (window : List declared_lexeme.Lexeme) (ts : List Lexeme)
+    (old new : Option ℕ) → AreAhead text at m (map lexeme_of window) → AreLexemes text ts → n ≤ length window
+    → (0 < n → StartsWithWord (map lexeme_of window))
+    → IsFirstLarge ts m old → IfSome old (λ at. new ≡ Some at)
+    → IfNone old (IsFirstLarge (map lexeme_of (take n window)) (length (take n window)) new)
+    → IsFirstLarge ts (m + n) new
+large_taken text at m n window ts old new a t l w h known found =
+    let part = taken_is text at m n window ts a t l in
+    let same : length (take n window) ≡ length (map lexeme_of (take n window)) =
+    sym (length-map (take n window) lexeme_of) in
+    subst (λ k. IsFirstLarge ts (m + k) new) (taken_size n window l)
+    (large_on ts (map lexeme_of (take n window)) part.0 m old new part.1 (taken_word n window w) h known
+    (subst (λ k. IfNone old (IsFirstLarge (map lexeme_of (take n window)) k new)) same found))
+
+pub last_taken : (text : List ℕ) (at m n : ℕ) (window : List declared_lexeme.Lexeme) (ts : List Lexeme)
+    (d : declared_lexeme.Lexeme) → AreAhead text at m (map lexeme_of window) → AreLexemes text ts → n ≤ length window
+    → 0 < n → IsPlaceOf ts (m + n - 1) (get_or (take n window) (n - 1) d).at
+last_taken text at m n window ts d a t l some =
+    let part = taken_is text at m n window ts a t l in
+    let e : m + (n - 1) ≡ m + n - 1 = omega (arith, some) in
+    subst (λ k. IsPlaceOf ts k (get_or (take n window) (n - 1) d).at) e
+    (place_ahead ts (map lexeme_of (take n window)) part.0 m (n - 1) _ part.1
+    (omega (arith, taken_size n window l, some))
+    (place_mapped (take n window) (n - 1) d (omega (arith, length-take-le n window l, some))))
+
+pub taken_ahead : (text : List ℕ) (at m n k : ℕ) (items : List declared_lexeme.Lexeme)
+    → AreAhead text at m (map lexeme_of (drop k items)) → n ≤ length (drop k items)
+    → AreAhead text at (m + n) (map lexeme_of (drop (k + n) items))
+taken_ahead text at m n k items a l =
+    let e : drop n (map lexeme_of (drop k items)) ≡ map lexeme_of (drop (k + n) items) =
+    drop-map lexeme_of n (drop k items) ∙ ap (λ us. map lexeme_of us) (drop-drop n k items) in
+    subst (λ us. AreAhead text at (m + n) us) e
+    (ahead_taken text at m n (map lexeme_of (drop k items)) a (omega (arith, l, length-map (drop k items) lexeme_of)))
+
+-- the refusal of tokens that go on so far and no farther
+pub refused_large : (ts : List Lexeme) (s at : ℕ) → IsStuckAt ts s → IsFirstLarge ts s (Some at)
+    → IsRefusedFor ts (refusal.LargeNegative at)
+refused_large ts s at stuck h = (h.0, large_first ts s h.0 stuck h.1 h.2 h.3, h.4)
+
+pub refused_misplaced : (text : List ℕ) (to m n : ℕ) (window : List declared_lexeme.Lexeme) (ts : List Lexeme)
+    (d : declared_lexeme.Lexeme) → AreAhead text to m (map lexeme_of window) → AreLexemes text ts → n < length window
+    → IsStuckAt ts (m + n) → IsFirstLarge ts (m + n) None → IsRefusedFor ts (refusal.Misplaced (get_or window n d).at)
+refused_misplaced text to m n window ts d a t l stuck none =
+    let all = ahead_is text to m (map lexeme_of window) ts a t in
+    let size : length (map lexeme_of window) ≡ length window = length-map window lexeme_of in
+    let within : m + n < length ts =
+    omega (arith, l, size, all.3, length-drop m ts, ap length all.1, length-append (map lexeme_of window) all.0) in (
+      m + n,
+      misplaced_first ts (m + n) stuck within none,
+      place_ahead ts (map lexeme_of window) all.0 m n _ all.1 (omega (arith, l, size)) (place_mapped window n d l),
+    )
+
+whole_size : (text : List ℕ) (to m : ℕ) (window : List declared_lexeme.Lexeme) (ts : List Lexeme)
+    → AreAhead text to m (map lexeme_of window) → AreLexemes text ts → to ≡ length text
+    → length ts ≡ m + length window
+whole_size text to m window ts a t e =
+    let all = ahead_is text to m (map lexeme_of window) ts a t in
+    let none : length all.0 ≡ 0 = ap length (all.2 e) in
+    omega (
+      arith,
+      none,
+      all.3,
+      length-map window lexeme_of,
+      length-drop m ts,
+      ap length all.1,
+      length-append (map lexeme_of window) all.0,
+    )
+
+pub refused_unfinished : (text : List ℕ) (to m n : ℕ) (window : List declared_lexeme.Lexeme) (ts : List Lexeme)
+    (d : declared_lexeme.Lexeme) → AreAhead text to m (map lexeme_of window) → AreLexemes text ts → n ≡ length window
+    → 0 < n → to ≡ length text → IsStuckAt ts (m + n) → IsFirstLarge ts (m + n) None
+    → IsRefusedFor ts (refusal.Unfinished (get_or window (n - 1) d).at)
+refused_unfinished text to m n window ts d a t l some e stuck none =
+    let all = ahead_is text to m (map lexeme_of window) ts a t in
+    let size = whole_size text to m window ts a t e in
+    let i : m + (n - 1) ≡ length ts - 1 = omega (arith, size, l, some) in (
+      unfinished_first ts (m + n) stuck (omega (arith, size, l)) none,
+      subst (λ k. IsPlaceOf ts k (get_or window (n - 1) d).at) i (place_ahead ts (map lexeme_of window) all.0 m
+          (n - 1) _ all.1 (omega (arith, l, some, length-map window lexeme_of))
+          (place_mapped window (n - 1) d (omega (arith, l, some)))),
+    )
+
+pub refused_last : (text : List ℕ) (to m n at : ℕ) (window : List declared_lexeme.Lexeme) (ts : List Lexeme)
+    → AreAhead text to m (map lexeme_of window) → AreLexemes text ts → n ≡ 0 → n ≡ length window → to ≡ length text
+    → IsPlaceOf ts (m - 1) at → IsStuckAt ts (m + n) → IsFirstLarge ts (m + n) None
+    → IsRefusedFor ts (refusal.Unfinished at)
+refused_last text to m n at window ts a t z l e last stuck none =
+    let size = whole_size text to m window ts a t e in
+    let i : m - 1 ≡ length ts - 1 = omega (arith, size, l, z) in
+    (unfinished_first ts (m + n) stuck (omega (arith, size, l)) none, subst (λ k. IsPlaceOf ts k at) i last)

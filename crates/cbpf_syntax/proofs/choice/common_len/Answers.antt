@@ -1,0 +1,19 @@
+use Rattle.std.proofs.Common.{◌≡◌, List, [], ◌∷◌, drop, refl, arith, Bool}
+use Rattle.std.specs.List.{common_prefix_len}
+use Rattle.std.proofs.lemmas.List.{drop_all}
+use Rattle.cbpf_syntax.specs.Fits.{fits}
+use Rattle.cbpf_syntax.specs.Views.{class_of, symbol_of}
+use Rattle.cbpf_syntax.specs.declared.class.Class.{Class}
+use Rattle.cbpf_syntax.specs.declared.lexeme.Lexeme.{Lexeme}
+use Rattle.cbpf_syntax.proofs.choice.common_len.Goals as goal
+
+none_left : {X Y : Type 0} (e : X → Y → Bool) (xs : List X) → common_prefix_len e xs [] ≡ 0
+none_left e [] = refl
+none_left e (x ∷ xs) = refl
+
+pub returns-else-n-tokens : goal.returns-else-n-tokens
+returns-else-n-tokens c =
+    let d : drop c.loop-n.n c.args.tokens.now ≡ [] = drop_all c.loop-n.n c.args.tokens.now c.if-n-tokens.false in
+    let z = none_left (λ (k : Class) (t : Lexeme). fits (class_of k) (symbol_of t.symbol))
+    (drop c.loop-n.n c.args.form.now) in
+    omega (arith, (rw (d, z) at c.loop-n.invariant.2))

@@ -1,0 +1,5 @@
+use Rattle.cbpf_syntax.proofs.OneReading as readings
+use Rattle.cbpf_syntax.proofs.law.one_reading.Goals as goal
+
+pub returns : goal.returns
+returns c = readings.one_reading

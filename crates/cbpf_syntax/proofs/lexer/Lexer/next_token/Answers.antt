@@ -1,0 +1,93 @@
+use Rattle.std.proofs.Common.{rules, arith, refl, ◌≡◌, ◌∙◌, sym, subst, get_or, false}
+use Rattle.cbpf_syntax.specs.Bytes.{is_blank}
+use Rattle.cbpf_syntax.specs.Pieces.{IsPieceAt}
+use Rattle.cbpf_syntax.proofs.Blanks.{to_run_end, to_here, to_next}
+use Rattle.cbpf_syntax.proofs.Cuts.{next_at, piece_within, piece_some, token_more, piece_more}
+use Rattle.cbpf_syntax.proofs.lexer.Lexer.next_token.Goals as goal
+
+pub returns-in-Some-clause-fault : goal.returns-in-Some-clause-fault
+returns-in-Some-clause-fault c =
+    let text = c.self.inside.text.now in
+    let at = c.loop-at.at in
+    let piece = c.next_piece-piece.result in
+    let next = next_at text at piece c.loop-at-test.true c.next_piece-piece.ensures in
+    let other : is_blank (get_or text at 0) ≡ false = sym c.is_blank.ensures ∙ c.if-is_blank.false in
+    let more = to_here text c.self.inside.at at c.loop-at-test.true other c.loop-at.invariant.more in
+    rw (← c.self.view_is) (λ ts lexed. record {
+      at = at;
+      tokens = ts;
+      before = more ts lexed;
+      size = piece.size;
+      bad = subst (λ k. IsPieceAt text at (record { kind = k; size = piece.size })) c.in-Some.ensures.bad next;
+      line = c.line_of.ensures;
+    })
+
+pub invariant_of-self-in-Lexeme : goal.invariant_of-self-in-Lexeme
+invariant_of-self-in-Lexeme c =
+    let text = c.self.inside.text.now in
+    let piece = c.next_piece-piece.result in
+    let next = next_at text c.loop-at.at piece c.loop-at-test.true c.next_piece-piece.ensures in
+    rw c.loop-at.invariant.same (piece_within text c.loop-at.at piece c.loop-at-test.true next)
+
+pub returns-in-Lexeme-clause-token : goal.returns-in-Lexeme-clause-token
+returns-in-Lexeme-clause-token c =
+    let text = c.self.inside.text.now in
+    let at = c.loop-at.at in
+    let piece = c.next_piece-piece.result in
+    let next = next_at text at piece c.loop-at-test.true c.next_piece-piece.ensures in
+    let other : is_blank (get_or text at 0) ≡ false = sym c.is_blank.ensures ∙ c.if-is_blank.false in
+    let more = to_here text c.self.inside.at at c.loop-at-test.true other c.loop-at.invariant.more in
+    let some = piece_some text at piece next in
+    let within = piece_within text at piece c.loop-at-test.true next in
+    rw (← c.self.view_is) (record {
+      more = token_more text c.self.inside.at at piece c.in-Lexeme.kind more next c.in-Lexeme.is;
+      span = (omega arith, within);
+      farther = omega (arith, some, c.loop-at.invariant.from);
+      within = within;
+    })
+
+pub loop-at-init : goal.loop-at-init
+loop-at-init c = record {
+  same = refl;
+  from = omega arith;
+  within = c.self.invariant;
+  more = to_run_end c.self.inside.text.now c.self.inside.at c.self.inside.at c.self.invariant (λ ts lexed. lexed);
+}
+
+pub loop-at-preserved : goal.loop-at-preserved
+loop-at-preserved c =
+    let text = c.self.inside.text.now in
+    let at = c.loop-at.at in
+    let piece = c.next_piece-piece.result in
+    let next = next_at text at piece c.loop-at-test.true c.next_piece-piece.ensures in
+    let other : is_blank (get_or text at 0) ≡ false = sym c.is_blank.ensures ∙ c.if-is_blank.false in
+    let more = to_here text c.self.inside.at at c.loop-at-test.true other c.loop-at.invariant.more in
+    let within = piece_within text at piece c.loop-at-test.true next in
+    record {
+      same = c.loop-at.invariant.same;
+      from = omega (arith, c.loop-at.invariant.from);
+      within = within;
+      more = to_run_end text c.self.inside.at _ within (piece_more text c.self.inside.at at piece more next
+          c.in_default.ensures.good c.in_default-kind.not-Lexeme);
+    }
+
+pub loop-at-preserved-then-is_blank : goal.loop-at-preserved-then-is_blank
+loop-at-preserved-then-is_blank c =
+    let text = c.self.inside.text.now in
+    record {
+      same = c.loop-at.invariant.same;
+      from = omega (arith, c.loop-at.invariant.from);
+      within = omega (arith, c.loop-at-test.true);
+      more = to_next text c.self.inside.at c.loop-at.at c.loop-at-test.true
+          (sym c.is_blank.ensures ∙ c.if-is_blank.true) c.loop-at.invariant.more;
+    }
+
+pub loop-at-smaller : goal.loop-at-smaller
+loop-at-smaller c =
+    let text = c.self.inside.text.now in
+    let piece = c.next_piece-piece.result in
+    let next = next_at text c.loop-at.at piece c.loop-at-test.true c.next_piece-piece.ensures in
+    omega (arith, piece_some text c.loop-at.at piece next, c.loop-at-test.true)
+
+pub returns-clause-finished : goal.returns-clause-finished
+returns-clause-finished c = search rules

@@ -1,0 +1,21 @@
+use Rattle.std.proofs.Common.{◌≡◌, ◌∙◌, ◌<◌, sym, true, false, length, map, arith, below_more}
+use Rattle.std.proofs.lemmas.List.{length-map}
+use Rattle.cbpf_syntax.specs.Views.{lexeme_of}
+use Rattle.cbpf_syntax.specs.Refusals.{IsLargeNegative}
+use Rattle.cbpf_syntax.proofs.Refused.{large_here, not_large_here, large_within}
+use Rattle.cbpf_syntax.proofs.range.large_negative.Goals as goal
+
+pub returns-then-is_large_negative-clause-large : goal.returns-then-is_large_negative-clause-large
+returns-then-is_large_negative-clause-large c = large_here c.args.tokens.now c.loop-i.i _ _ c.loop-i.auto.i
+    c.loop-i-test.true (c.is_large_negative.ensures.0 c.if-is_large_negative.true)
+
+pub loop-i-preserved : goal.loop-i-preserved
+loop-i-preserved c =
+    below_more (λ k. IsLargeNegative (map lexeme_of c.args.tokens.now) k → ⊥) c.loop-i.i c.loop-i.invariant
+    (not_large_here c.args.tokens.now c.loop-i.i _ _ c.loop-i.auto.i c.loop-i-test.true
+    (λ h. let k : true ≡ false = sym (c.is_large_negative.ensures.1 h) ∙ c.if-is_large_negative.false in cc))
+
+pub returns-clause-none : goal.returns-clause-none
+returns-clause-none c k h = let l = large_within (map lexeme_of c.args.tokens.now) k h in
+    let m : k < length c.args.tokens.now = rw (length-map c.args.tokens.now lexeme_of) at l in
+    c.loop-i.invariant k (omega arith) h

@@ -1,0 +1,25 @@
+-- Laws of the cut: a text has one, and so one list of tokens or one first bad piece.
+use Rattle.std.specs.Prelude.{◌≡◌, ◌⊎◌, ℕ, List, length}
+use Rattle.cbpf_syntax.specs.declared.piece.Piece.{Piece}
+use Rattle.cbpf_syntax.specs.declared.token.Token.{Token}
+use Rattle.cbpf_syntax.specs.declared.token.BadPiece.{BadPiece}
+use Rattle.cbpf_syntax.specs.Pieces.{IsCut}
+use Rattle.cbpf_syntax.specs.Tokens.{Lexes, IsFirstBad}
+
+abbrev pub OneCut : Type 0
+OneCut = (text : List ℕ) (ps qs : List Piece) → IsCut text 0 ps (length text)
+    → IsCut text 0 qs (length text) → ps ≡ qs
+
+abbrev pub OneList : Type 0
+OneList = (text : List ℕ) (ts us : List Token) → Lexes text ts → Lexes text us → ts ≡ us
+
+abbrev pub OneFault : Type 0
+OneFault = (text : List ℕ) (f g : BadPiece) (l m : ℕ) → IsFirstBad text f l → IsFirstBad text g m → (f ≡ g) × (l ≡ m)
+
+abbrev pub NeverBoth : Type 0
+NeverBoth = (text : List ℕ) (ts : List Token) (f : BadPiece) (l : ℕ) → Lexes text ts → IsFirstBad text f l → ⊥
+
+-- each text has tokens, or a first bad piece
+abbrev pub EachLexed : Type 0
+EachLexed = (text : List ℕ)
+    → ((ts : List Token) × Lexes text ts) ⊎ ((f : BadPiece) × (l : ℕ) × IsFirstBad text f l)

@@ -1,0 +1,17 @@
+-- Laws of the forms in the kernel's Documentation/networking/filter (BPF engine and instruction set): a token list
+-- has one reading or one first refusal.
+use Rattle.std.specs.Prelude.{◌≡◌, ◌⊎◌, List}
+use Rattle.cbpf_syntax.specs.Lexemes.{Lexeme}
+use Rattle.cbpf_syntax.specs.Items.{Item, Items}
+use Rattle.cbpf_syntax.specs.Refusals.{ParseFault, IsFirstRefusal, IsAccepted}
+
+abbrev pub OneReading : Type 0
+OneReading = (ts : List Lexeme) (is js : List Item) → Items ts is → Items ts js → is ≡ js
+
+abbrev pub OneRefusal : Type 0
+OneRefusal = (ts : List Lexeme) (f g : ParseFault) → IsFirstRefusal ts f → IsFirstRefusal ts g → f ≡ g
+
+-- each token list is items and has no refusal, or has a first refusal
+abbrev pub EachParsed : Type 0
+EachParsed = (ts : List Lexeme)
+    → ((is : List Item) × Items ts is × IsAccepted ts) ⊎ ((f : ParseFault) × IsFirstRefusal ts f)

@@ -1,0 +1,17 @@
+-- What the first byte of a piece says of it, as the lexer asks: it is a matter of this crate alone, and no public
+-- clause names it.
+use Rattle.std.specs.Prelude.{ℕ, Bool, ◌&&◌, ◌||◌, ◌==◌, if◌then◌else◌}
+use Rattle.cbpf_syntax.specs.declared.piece.Lead.{Lead}
+use Rattle.cbpf_syntax.specs.declared.piece.Lead.TheVariants.{Blank, LineComment, Letter, Digit, Slash, Single, Other}
+use Rattle.cbpf_syntax.specs.Bytes.{is_blank, is_digit, is_letter, is_mark}
+
+-- `fresh` says that the line before the byte has only blanks
+abbrev pub lead_of : Bool → ℕ → Lead
+lead_of fresh b =
+    if is_blank b then Blank
+    else (if b == 59 || (fresh && b == 35) then LineComment
+    else (if is_letter b then Letter
+    else (if is_digit b then Digit
+    else (if b == 47 then Slash
+    else (if is_mark b then Single
+    else Other)))))

@@ -1,0 +1,36 @@
+-- Tokens as the grammar of the assembler sees them: words by their bytes, numbers by their values, marks. The tokens
+-- are those of the operands in the kernel's Documentation/networking/filter (BPF engine and instruction set).
+use Rattle.std.specs.Prelude.{◌≡◌, ℕ, List, map, slice_range}
+use Rattle.cbpf_syntax.specs.declared.token.Kind.{Kind}
+use Rattle.cbpf_syntax.specs.declared.token.Kind.TheVariants as kinds
+use Rattle.cbpf_syntax.specs.declared.token.Token.{Token}
+use Rattle.cbpf_syntax.specs.Tokens.{Lexes}
+
+pub data Symbol : Type 0 where
+  word : List ℕ → Symbol
+  number : ℕ → Symbol
+  mark : ℕ → Symbol
+
+-- a symbol with the place in the text at which it begins
+pub record Lexeme : Type 0 where
+  pub symbol : Symbol
+  pub at : ℕ
+
+abbrev pub token_symbol : List ℕ → Kind → Symbol
+token_symbol bytes kinds.Word = word bytes
+token_symbol bytes (kinds.Number n) = number n
+token_symbol bytes (kinds.Mark b) = mark b
+
+abbrev pub token_lexeme : List ℕ → Token → Lexeme
+token_lexeme text token =
+    record { symbol = token_symbol (slice_range text token.start token.end) token.kind; at = token.start }
+
+-- the tokens of a text
+abbrev pub lexemes_of : List ℕ → List Token → List Lexeme
+lexemes_of text tokens = map (token_lexeme text) tokens
+
+-- the text has these tokens
+pub record AreLexemes (text : List ℕ) (lexemes : List Lexeme) : Type 0 where
+  pub tokens : List Token
+  pub lexed : Lexes text tokens
+  pub are : lexemes ≡ lexemes_of text tokens

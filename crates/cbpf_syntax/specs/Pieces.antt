@@ -1,0 +1,79 @@
+-- How a source text is cut into pieces: blanks, comments, tokens and bad pieces, each the longest at its place. The
+-- kernel's Documentation/networking/filter shows words, numbers, marks and comments by example; these rules are this
+-- project's own.
+use Rattle.std.specs.Prelude.{◌≡◌, ℕ, suc, ◌+◌, ◌^◌, ◌<◌, ◌≤◌, Bool, true, false, not, ◌&&◌, ◌||◌, List, [], ◌∷◌}
+use Rattle.std.specs.Prelude.{length, take, drop, nat_lt, ◌==◌, if◌then◌else◌, fold, Option, Some, None, option_map}
+use Rattle.std.specs.List.{list_all}
+use Rattle.cbpf_syntax.specs.declared.token.Kind.TheVariants.{Word, Number, Mark}
+use Rattle.cbpf_syntax.specs.declared.token.BadPiece.TheVariants.{NoToken, OpenComment, LargeNumber}
+use Rattle.cbpf_syntax.specs.declared.piece.PieceKind.{PieceKind}
+use Rattle.cbpf_syntax.specs.declared.piece.PieceKind.TheVariants.{Blanks, Comment, Lexeme, Bad}
+use Rattle.cbpf_syntax.specs.declared.piece.Piece.{Piece}
+use Rattle.cbpf_syntax.specs.Bytes.{is_blank, is_digit, is_letter, is_name_byte, is_mark}
+use Rattle.cbpf_syntax.specs.Numbers.{number_value}
+
+-- whether the last line of a text, which may not be whole, has only blanks
+abbrev pub is_line_blank : List ℕ → Bool
+is_line_blank text = fold (λ blank b. b == 10 || (blank && is_blank b)) true text
+
+abbrev pub alone : List ℕ → PieceKind → Option PieceKind
+alone [] kind = Some kind
+alone (b ∷ bs) kind = None
+
+abbrev pub only_if : Bool → PieceKind → Option PieceKind
+only_if true kind = Some kind
+only_if false kind = None
+
+-- a run that begins with a digit: a number, where it spells one that fits 32 bits
+abbrev pub run_kind : Option ℕ → PieceKind
+run_kind None = Bad NoToken
+run_kind (Some n) = if nat_lt n (2 ^ 32) then Lexeme (Number n) else Bad LargeNumber
+
+-- the bytes begin with `*/`
+abbrev pub begins_with_close : List ℕ → Bool
+begins_with_close [] = false
+begins_with_close (b ∷ []) = false
+begins_with_close (b ∷ c ∷ bs) = b == 42 && c == 47
+
+-- how many bytes there are up to the end of the first `*/`, where there is one
+abbrev pub first_close : List ℕ → Option ℕ
+first_close [] = None
+first_close (b ∷ bs) = if begins_with_close (b ∷ bs) then Some 2 else option_map suc (first_close bs)
+
+-- A `/*` and so many bytes after it, by the end of the first `*/` among them: a comment where the bytes end there,
+-- and an open comment where there is none.
+abbrev pub comment_kind : Option ℕ → ℕ → Option PieceKind
+comment_kind None size = Some (Bad OpenComment)
+comment_kind (Some close) size = only_if (close == size) Comment
+
+-- a `/` and the bytes after it
+abbrev pub slash_kind : List ℕ → Option PieceKind
+slash_kind [] = Some (Bad NoToken)
+slash_kind (b ∷ bs) = if b == 42 then comment_kind (first_close bs) (length bs) else None
+
+-- Which kind of piece the bytes are, if they are one. `fresh` says that the line before them has only blanks.
+abbrev pub piece_kind : Bool → List ℕ → Option PieceKind
+piece_kind fresh [] = None
+piece_kind fresh (b ∷ bs) =
+    if is_blank b then only_if (list_all is_blank bs) Blanks
+    else (if b == 59 || (fresh && b == 35) then only_if (list_all (λ c. not (c == 10)) bs) Comment
+    else (if is_letter b then only_if (list_all is_name_byte bs) (Lexeme Word)
+    else (if is_digit b then only_if (list_all is_name_byte bs) (run_kind (number_value (b ∷ bs)))
+    else (if b == 47 then slash_kind bs
+    else (if is_mark b then alone bs (Lexeme (Mark b))
+    else alone bs (Bad NoToken))))))
+
+-- the piece stands at the front of the text, and no longer one does
+pub record IsNext (fresh : Bool) (text : List ℕ) (piece : Piece) : Type 0 where
+  pub within : piece.size ≤ length text
+  pub kind : piece_kind fresh (take piece.size text) ≡ Some piece.kind
+  pub longest : (n : ℕ) → piece.size < n → n ≤ length text → piece_kind fresh (take n text) ≡ None
+
+-- the piece is the next of the text at a place
+abbrev pub IsPieceAt : List ℕ → ℕ → Piece → Type 0
+IsPieceAt text at piece = IsNext (is_line_blank (take at text)) (drop at text) piece
+
+-- the text from one place to another is cut into the pieces
+abbrev pub IsCut : List ℕ → ℕ → List Piece → ℕ → Type 0
+IsCut text at [] to = at ≡ to
+IsCut text at (piece ∷ pieces) to = IsPieceAt text at piece × IsCut text (at + piece.size) pieces to

@@ -1,0 +1,65 @@
+-- Why a token list is no list of items, or has a literal out of range: this project's own rules, as the kernel's
+-- Documentation/networking/filter has no faults.
+use Rattle.std.specs.Prelude.{◌≡◌, ◌≤◌, ◌<◌, ℕ, zero, suc, ◌+◌, List, [], ◌∷◌, length, take, Option, Some, None}
+use Rattle.cbpf_syntax.specs.Lexemes.{Symbol, Lexeme}
+use Rattle.cbpf_syntax.specs.Lexemes.Symbol.{number, mark}
+use Rattle.cbpf_syntax.specs.Items.{Item, Items, BeginsItems}
+
+-- why a token list is refused, with the index of the token that shows it: A4, A3 and A5
+pub data ParseFault : Type 0 where
+  Misplaced : ℕ → ParseFault
+  LargeNegative : ℕ → ParseFault
+  Unfinished : ParseFault
+
+abbrev pub symbol_at : List Lexeme → ℕ → Option Symbol
+symbol_at [] i = None
+symbol_at (t ∷ ts) zero = Some t.symbol
+symbol_at (t ∷ ts) (suc i) = symbol_at ts i
+
+-- A4: the tokens before the one at the place begin items, and with it they don't
+pub record IsMisplaced (ts : List Lexeme) (i : ℕ) : Type 0 where
+  pub within : i < length ts
+  pub before : BeginsItems (take i ts)
+  pub with_it : BeginsItems (take (i + 1) ts) → ⊥
+
+-- a `-` and a number above 2147483648
+abbrev pub IsLarge : Symbol → Symbol → Type 0
+IsLarge sign digits = (sign ≡ mark 45) × (value : ℕ) × (digits ≡ number value) × (2147483648 < value)
+
+-- A3: a number above 2147483648 after a `-`
+pub record IsLargeNegative (ts : List Lexeme) (i : ℕ) : Type 0 where
+  pub before : ℕ
+  pub after : i ≡ before + 1
+  pub sign : Symbol
+  pub digits : Symbol
+  pub sign_at : symbol_at ts before ≡ Some sign
+  pub digits_at : symbol_at ts i ≡ Some digits
+  pub large : IsLarge sign digits
+
+-- A5: the tokens begin items and are none
+pub record IsUnfinished (ts : List Lexeme) : Type 0 where
+  pub begins : BeginsItems ts
+  pub none : (items : List Item) → Items ts items → ⊥
+
+-- the tokens begin items up to the place, and with the next token,
+-- or where there is none as a whole, they don't go on
+pub record IsStuckAt (ts : List Lexeme) (i : ℕ) : Type 0 where
+  pub within : i ≤ length ts
+  pub before : BeginsItems (take i ts)
+  pub next : i < length ts → BeginsItems (take (i + 1) ts) → ⊥
+  pub end : i ≡ length ts → (items : List Item) → Items ts items → ⊥
+
+-- the tokens are refused for this at the place, which is their number where it is their end
+abbrev pub IsRefusedAt : List Lexeme → ParseFault → ℕ → Type 0
+IsRefusedAt ts (Misplaced i) place = (place ≡ i) × IsMisplaced ts i
+IsRefusedAt ts (LargeNegative i) place = (place ≡ i) × IsLargeNegative ts i
+IsRefusedAt ts Unfinished place = (place ≡ length ts) × IsUnfinished ts
+
+-- the first refusal
+pub record IsFirstRefusal (ts : List Lexeme) (fault : ParseFault) : Type 0 where
+  pub place : ℕ
+  pub refused : IsRefusedAt ts fault place
+  pub first : (other : ParseFault) (q : ℕ) → IsRefusedAt ts other q → place ≤ q
+
+abbrev pub IsAccepted : List Lexeme → Type 0
+IsAccepted ts = (fault : ParseFault) (place : ℕ) → IsRefusedAt ts fault place → ⊥

@@ -1,0 +1,185 @@
+-- The table of instructions in the kernel's Documentation/networking/filter (BPF engine and instruction set): for
+-- each mnemonic its addressing modes, each with its operation and its forms, all options written out. This project's
+-- own are `ldi` and `ldxi` with a bare number, extensions for `ldh` and `ldb`, signs, `#` before an extension's name,
+-- and the spellings of 4 and 15.
+use Rattle.std.specs.Prelude.{ℕ, List, [], ◌∷◌, ◌++◌, map, codes, flat_map}
+use Rattle.cbpf_code.specs.declared.opcode.Op.{Op}
+use Rattle.cbpf_code.specs.declared.opcode.Op.TheVariants.{LdImm, LdAbs, LdInd, LdMem, LdLen, LdxImm, LdxMem, LdxLen}
+use Rattle.cbpf_code.specs.declared.opcode.Op.TheVariants.{LdxMsh, St, Stx, Alu, Neg, Ja, Jump, RetK, RetA, Tax, Txa}
+use Rattle.cbpf_code.specs.declared.opcode.Size.{Size}
+use Rattle.cbpf_code.specs.declared.opcode.AluOp.{AluOp}
+use Rattle.cbpf_code.specs.declared.opcode.Cond.{Cond}
+use Rattle.cbpf_code.specs.declared.opcode.Size.TheVariants as size
+use Rattle.cbpf_code.specs.declared.opcode.AluOp.TheVariants as alu_op
+use Rattle.cbpf_code.specs.declared.opcode.Src.TheVariants as src
+use Rattle.cbpf_code.specs.declared.opcode.Cond.TheVariants as cond
+use Rattle.cbpf_syntax.specs.declared.table.Fields.{Fields}
+use Rattle.cbpf_syntax.specs.declared.table.Fields.TheVariants.{Constant, Goto, Branch, Swapped}
+use Rattle.cbpf_syntax.specs.Classes.{Class}
+use Rattle.cbpf_syntax.specs.Classes.Class.{the_word, the_mark, literal, negated, exactly, extension, name}
+
+-- one form of an instruction
+pub record Row : Type 0 where
+  pub mnemonic : List ℕ
+  pub operand : List Class
+  pub op : Op
+  pub fields : Fields
+
+abbrev pub classes : Row → List Class
+classes row = the_word row.mnemonic ∷ row.operand
+
+-- an addressing mode of a mnemonic, with the forms of its operand
+pub record Entry : Type 0 where
+  pub forms : List (List Class)
+  pub op : Op
+  pub fields : Fields
+
+pub record Mnemonic : Type 0 where
+  pub word : List ℕ
+  pub entries : List Entry
+
+-- the words that are no mnemonics
+abbrev pub x_word : List ℕ
+x_word = codes "x"
+
+abbrev pub a_word : List ℕ
+a_word = codes "a"
+
+abbrev pub length_word : List ℕ
+length_word = codes "len"
+
+abbrev pub memory_word : List ℕ
+memory_word = codes "M"
+
+abbrev pub operand_words : List (List ℕ)
+operand_words = length_word ∷ x_word ∷ a_word ∷ memory_word ∷ []
+
+-- an operand's forms, each a list of classes: the options of one part, and one part after the other
+infixl 60 ◌·◌
+abbrev pub ◌·◌ : List (List Class) → List (List Class) → List (List Class)
+fs · gs = flat_map (λ f. map (λ g. f ++ g) gs) fs
+
+abbrev pub one : Class → List (List Class)
+one c = (c ∷ []) ∷ []
+
+abbrev pub byte : ℕ → List (List Class)
+byte b = one (the_mark b)
+
+-- a number with an optional `+` or `-`
+abbrev pub n : List (List Class)
+n = (literal ∷ []) ∷ (the_mark 43 ∷ literal ∷ []) ∷ (the_mark 45 ∷ negated ∷ []) ∷ []
+
+-- `x` and `a`, each with an optional `%`
+abbrev pub x : List (List Class)
+x = (the_word x_word ∷ []) ∷ (the_mark 37 ∷ the_word x_word ∷ []) ∷ []
+
+abbrev pub a : List (List Class)
+a = (the_word a_word ∷ []) ∷ (the_mark 37 ∷ the_word a_word ∷ []) ∷ []
+
+-- an extension's name and `len`, each with an optional `#`
+abbrev pub ext : List (List Class)
+ext = (extension ∷ []) ∷ (the_mark 35 ∷ extension ∷ []) ∷ []
+
+abbrev pub len : List (List Class)
+len = (the_word length_word ∷ []) ∷ (the_mark 35 ∷ the_word length_word ∷ []) ∷ []
+
+abbrev pub label : List (List Class)
+label = one name
+
+-- `[n]`, `[x + n]`, `M[n]`, `#n`, `4*([n]&0xf)`
+abbrev pub absolute : List (List Class)
+absolute = byte 91 · n · byte 93
+
+abbrev pub indexed : List (List Class)
+indexed = byte 91 · x · byte 43 · n · byte 93
+
+abbrev pub memory : List (List Class)
+memory = one (the_word memory_word) · byte 91 · n · byte 93
+
+abbrev pub immediate : List (List Class)
+immediate = byte 35 · n
+
+abbrev pub header : List (List Class)
+header = one (exactly 4) · byte 42 · byte 40 · byte 91 · n · byte 93 · byte 38 · one (exactly 15) · byte 41
+
+abbrev pub comma : List (List Class)
+comma = byte 44
+
+abbrev pub none : List (List Class)
+none = [] ∷ []
+
+abbrev pub entry : List (List Class) → Op → Fields → Entry
+entry forms op fields = record { forms = forms; op = op; fields = fields }
+
+abbrev pub load : Size → List Entry
+load s = entry absolute (LdAbs s) Constant ∷ entry indexed (LdInd s) Constant ∷ entry ext (LdAbs s) Constant ∷ []
+
+abbrev pub one_target : Cond → Fields → List Entry
+one_target c fields = entry (immediate · comma · label) (Jump c src.K) fields
+    ∷ entry (x · comma · label) (Jump c src.X) fields ∷ []
+
+abbrev pub two_targets : Cond → List Entry
+two_targets c = entry (immediate · comma · label · comma · label) (Jump c src.K) Branch
+    ∷ entry (x · comma · label · comma · label) (Jump c src.X) Branch ∷ []
+
+abbrev pub jump : Cond → List Entry
+jump c = two_targets c ++ one_target c Branch
+
+abbrev pub alu : AluOp → List Entry
+alu op = entry immediate (Alu op src.K) Constant ∷ entry x (Alu op src.X) Constant ∷ []
+
+abbrev pub only : List (List Class) → Op → Fields → List Entry
+only forms op fields = entry forms op fields ∷ []
+
+abbrev pub mnemonic : List ℕ → List Entry → Mnemonic
+mnemonic word entries = record { word = word; entries = entries }
+
+unfoldable pub mnemonics : List Mnemonic
+mnemonics =
+    mnemonic (codes "ld")
+    (load size.Word ++ (entry memory LdMem Constant ∷ entry immediate LdImm Constant ∷ entry len LdLen Constant ∷ []))
+    ∷ mnemonic (codes "ldh") (load size.Half)
+    ∷ mnemonic (codes "ldb") (load size.Byte)
+    ∷ mnemonic (codes "ldi") (entry immediate LdImm Constant ∷ entry n LdImm Constant ∷ [])
+    ∷ mnemonic (codes "ldx")
+    (entry memory LdxMem Constant ∷ entry immediate LdxImm Constant ∷ entry header LdxMsh Constant
+    ∷ entry len LdxLen Constant ∷ [])
+    ∷ mnemonic (codes "ldxi") (entry immediate LdxImm Constant ∷ entry n LdxImm Constant ∷ [])
+    ∷ mnemonic (codes "ldxb") (only header LdxMsh Constant)
+    ∷ mnemonic (codes "st") (only memory St Constant)
+    ∷ mnemonic (codes "stx") (only memory Stx Constant)
+    ∷ mnemonic (codes "jmp") (only label Ja Goto)
+    ∷ mnemonic (codes "ja") (only label Ja Goto)
+    ∷ mnemonic (codes "jeq") (jump cond.Eq)
+    ∷ mnemonic (codes "jgt") (jump cond.Gt)
+    ∷ mnemonic (codes "jge") (jump cond.Ge)
+    ∷ mnemonic (codes "jset") (jump cond.Bits)
+    ∷ mnemonic (codes "jneq") (one_target cond.Eq Swapped)
+    ∷ mnemonic (codes "jne") (one_target cond.Eq Swapped)
+    ∷ mnemonic (codes "jlt") (one_target cond.Ge Swapped)
+    ∷ mnemonic (codes "jle") (one_target cond.Gt Swapped)
+    ∷ mnemonic (codes "add") (alu alu_op.Add)
+    ∷ mnemonic (codes "sub") (alu alu_op.Sub)
+    ∷ mnemonic (codes "mul") (alu alu_op.Mul)
+    ∷ mnemonic (codes "div") (alu alu_op.Div)
+    ∷ mnemonic (codes "mod") (alu alu_op.Mod)
+    ∷ mnemonic (codes "and") (alu alu_op.And)
+    ∷ mnemonic (codes "or") (alu alu_op.Or)
+    ∷ mnemonic (codes "xor") (alu alu_op.Xor)
+    ∷ mnemonic (codes "lsh") (alu alu_op.Lsh)
+    ∷ mnemonic (codes "rsh") (alu alu_op.Rsh)
+    ∷ mnemonic (codes "neg") (only none Neg Constant)
+    ∷ mnemonic (codes "tax") (only none Tax Constant)
+    ∷ mnemonic (codes "txa") (only none Txa Constant)
+    ∷ mnemonic (codes "ret") (entry immediate RetK Constant ∷ entry a RetA Constant ∷ [])
+    ∷ []
+
+abbrev pub entry_rows : List ℕ → Entry → List Row
+entry_rows word e = map (λ form. record { mnemonic = word; operand = form; op = e.op; fields = e.fields }) e.forms
+
+abbrev pub rows_of : Mnemonic → List Row
+rows_of m = flat_map (entry_rows m.word) m.entries
+
+-- all forms of all instructions
+abbrev pub table : List Row
+table = flat_map rows_of mnemonics

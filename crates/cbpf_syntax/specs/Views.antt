@@ -1,0 +1,70 @@
+-- What the reader's own types stand for: the lexemes, classes and rows of the table in the kernel's
+-- Documentation/networking/filter (BPF engine and instruction set).
+use Rattle.std.specs.Prelude.{List, [], ◌∷◌, map}
+use Rattle.cbpf_syntax.specs.declared.class.Class.{Class}
+use Rattle.cbpf_syntax.specs.declared.class.Class.TheVariants.{Word, Mark, Literal, Negated, Exactly, Extension}
+use Rattle.cbpf_syntax.specs.declared.class.Class.TheVariants.{Name}
+use Rattle.cbpf_syntax.specs.declared.mode.Mode.{Mode}
+use Rattle.cbpf_syntax.specs.declared.mode.Mode.TheVariants as modes
+use Rattle.cbpf_syntax.specs.declared.table.Entry.{Entry}
+use Rattle.cbpf_syntax.specs.declared.table.Mnemonic.{Mnemonic}
+use Rattle.cbpf_syntax.specs.declared.lexeme.Symbol.{Symbol}
+use Rattle.cbpf_syntax.specs.declared.lexeme.Symbol.TheVariants as symbols
+use Rattle.cbpf_syntax.specs.declared.lexeme.Lexeme.{Lexeme}
+use Rattle.cbpf_syntax.specs.declared.item.Row.{Row}
+use Rattle.cbpf_syntax.specs.Lexemes as lexemes
+use Rattle.cbpf_syntax.specs.Classes as classes
+use Rattle.cbpf_syntax.specs.Classes.Class.{the_word, the_mark, literal, negated, exactly, extension, name}
+use Rattle.cbpf_syntax.specs.Table as tables
+use Rattle.cbpf_syntax.specs.Table.{◌·◌, x, a, n, ext, len, label, absolute, indexed, memory, immediate, header}
+use Rattle.cbpf_syntax.specs.Table.{comma, none, entry, mnemonic}
+
+abbrev pub class_of : Class → classes.Class
+class_of (Word w) = the_word w.now
+class_of (Mark b) = the_mark b
+class_of Literal = literal
+class_of Negated = negated
+class_of (Exactly n) = exactly n
+class_of Extension = extension
+class_of Name = name
+
+abbrev pub mode_forms : Mode → List (List classes.Class)
+mode_forms modes.X = x
+mode_forms modes.Absolute = absolute
+mode_forms modes.Indexed = indexed
+mode_forms modes.Memory = memory
+mode_forms modes.Immediate = immediate
+mode_forms modes.Number = n
+mode_forms modes.Header = header
+mode_forms modes.Label = label
+mode_forms modes.ImmediateTwo = immediate · comma · label · comma · label
+mode_forms modes.XTwo = x · comma · label · comma · label
+mode_forms modes.ImmediateOne = immediate · comma · label
+mode_forms modes.XOne = x · comma · label
+mode_forms modes.A = a
+mode_forms modes.Extension = ext
+mode_forms modes.Length = len
+mode_forms modes.Bare = none
+
+abbrev pub entry_of : Entry → tables.Entry
+entry_of e = entry (mode_forms e.mode) e.op e.fields
+
+abbrev pub mnemonic_of : Mnemonic → tables.Mnemonic
+mnemonic_of m = mnemonic m.word.now (map entry_of m.entries.now)
+
+abbrev pub symbol_of : Symbol → lexemes.Symbol
+symbol_of (symbols.Word w) = lexemes.Symbol.word w.now
+symbol_of (symbols.Number n) = lexemes.Symbol.number n
+symbol_of (symbols.Mark b) = lexemes.Symbol.mark b
+
+abbrev pub lexeme_of : Lexeme → lexemes.Lexeme
+lexeme_of t = record { symbol = symbol_of t.symbol; at = t.at }
+
+abbrev pub row_of : Row → tables.Row
+row_of r = record { mnemonic = r.mnemonic.now; operand = map class_of r.operand.now; op = r.op; fields = r.fields }
+
+-- the words of labels, each of which stands before its colon
+abbrev pub label_words : List lexemes.Lexeme → List lexemes.Lexeme
+label_words [] = []
+label_words (t ∷ []) = []
+label_words (t ∷ u ∷ ts) = t ∷ label_words ts

@@ -1,0 +1,34 @@
+//! The syntax of the assembler: cuts a source text into tokens, and finds which of them are instructions.
+//!
+//! Words, numbers, marks and the forms of instructions are those of the kernel's filter language (Documentation/networking/filter,
+//! sections on `bpf_asm` and on the table of instructions and addressing modes), with all options written out as data; comments,
+//! the spellings of numbers and the refusals are this project's own. A form is a list of token classes; the reader takes, item by
+//! item, the form of which most tokens fit.
+#![tactic(auto)]
+
+mod bytes;
+mod choice;
+mod class;
+mod cut_law;
+mod item;
+mod law;
+mod lexeme;
+mod lexer;
+mod mode;
+mod number;
+mod piece;
+mod range;
+mod reader;
+mod reserved;
+mod table;
+mod token;
+
+pub use class::Class;
+pub use cut_law::{one_cut, one_outcome};
+pub use item::Row;
+pub use law::{one_reading, one_refusal};
+pub use lexeme::{Lexeme, Symbol};
+pub use lexer::{Lexer, line_of, tokens};
+pub use reader::{Reader, Step, SyntaxFault};
+pub use table::Fields;
+pub use token::{BadPiece, Kind, LexFault, Token};

@@ -1,0 +1,64 @@
+-- Words that are no name, and arguments that are known texts.
+use Rattle.std.proofs.Common.{◌≡◌, ℕ, List, [], ◌∷◌, length, Option, Some, None, Err, true, false, Bool, ap, refl}
+use Rattle.std.proofs.Common.{sym, subst, arith}
+use Rattle.std.specs.Prelude.{bytes_eq, nat_lt}
+use Rattle.std.specs.List.{list_all}
+use Rattle.std.specs.Str.{IsUtf8, is_utf8, IsAscii}
+use Rattle.std.proofs.lemmas.Bool.{and_parts}
+use Rattle.std.proofs.lemmas.Bool.Decides.{nat_tests}
+use Rattle.std.proofs.lemmas.Slice.Eq.{bytes_eq-Decides, text_from_reads, HasBytesAt}
+use Rattle.std.proofs.lemmas.Str.{is_utf8-from_IsUtf8, IsUtf8-from_is_utf8, IsUtf8-from_ascii}
+use Rattle.std.proofs.lemmas.Str.Ascii.{IsAscii-nil, IsAscii-cons}
+use Rattle.cbpf_tool.specs.Words.{words, after_words, trimmed}
+use Rattle.cbpf_tool.specs.Commands.{Reading, readings, reading_in, by_reading}
+use Rattle.cbpf_tool.specs.Commands.{name_in, load_capture, load_by}
+use Rattle.cbpf_tool.specs.declared.command.CommandFault.TheVariants.{UnknownCommand}
+
+differs : (w p : List ℕ) (t : Bool) → bytes_eq w p ≡ t → (w ≡ p → ⊥) → bytes_eq w p ≡ false
+differs w p true e n = absurd (n ((bytes_eq-Decides w p).0 e))
+differs w p false e n = e
+
+abbrev is_ascii : List ℕ → Bool
+is_ascii = list_all (λ b. nat_lt b 128)
+
+ascii : (s : List ℕ) → is_ascii s ≡ true → IsAscii s
+ascii [] e = IsAscii-nil
+ascii (b ∷ s) e =
+    let both : (nat_lt b 128 ≡ true) × (is_ascii s ≡ true) = and_parts _ _ e in
+    IsAscii-cons b s (grind (arith, nat_tests)) (ascii s both.1)
+
+none-named : (rows : List (List ℕ × Reading)) (w : List ℕ) → (IsUtf8 w → ⊥)
+    → list_all (λ row. is_ascii row.0) rows ≡ true → reading_in rows w ≡ None
+none-named [] w n h = refl
+none-named (row ∷ rows) w n h =
+    let both : (is_ascii row.0 ≡ true) × (list_all (λ row. is_ascii row.0) rows ≡ true) = and_parts _ _ h in
+    let other : w ≡ row.0 → ⊥ = λ e. n (subst IsUtf8 (sym e) (IsUtf8-from_ascii row.0 (ascii row.0 both.0))) in
+    rw (differs w row.0 (bytes_eq w row.0) refl other) (none-named rows w n both.1)
+
+-- the names of the table are UTF-8, so other bytes are none of them
+pub unknown : (w : List ℕ) (ws : List (List ℕ)) (text : List ℕ) → (IsUtf8 w → ⊥)
+    → Err UnknownCommand ≡ by_reading (reading_in readings w) ws text
+unknown w ws text n = sym (ap (λ (r : Option Reading). by_reading r ws text) (none-named readings w n refl))
+
+pub name-good : (s : List ℕ) → (length s ≡ 0 → ⊥) → IsUtf8 s → name_in s ≡ Some (load_capture s)
+name-good [] n h = absurd (n refl)
+name-good (b ∷ bs) n h = rw (is_utf8-from_IsUtf8 (b ∷ bs) h) refl
+
+utf8-not : (s : List ℕ) (t : Bool) → is_utf8 s ≡ t → (IsUtf8 s → ⊥) → is_utf8 s ≡ false
+utf8-not s true e n = absurd (n (IsUtf8-from_is_utf8 s e))
+utf8-not s false e n = e
+
+pub name-bad : (s : List ℕ) → (IsUtf8 s → ⊥) → name_in s ≡ None
+name-bad [] n = refl
+name-bad (b ∷ bs) n = rw (utf8-not (b ∷ bs) (is_utf8 (b ∷ bs)) refl n) refl
+
+after_words-none : (s : List ℕ) → after_words 0 s ≡ s
+unfolding after_words
+after_words-none s = refl
+
+pub loads : (text kind rest p : List ℕ) → words text ≡ kind ∷ words rest → after_words 1 text ≡ after_words 0 rest
+    → length kind ≡ length p → HasBytesAt kind 0 p
+    → load_by (words text) (trimmed (after_words 1 text)) ≡ load_by (p ∷ []) (trimmed rest)
+loads text kind rest p w b l h =
+    let k : kind ≡ p = text_from_reads kind p l h in
+    rw (w, b, after_words-none rest, k) refl

@@ -1,0 +1,16 @@
+pub mod WordLemmas
+pub mod CommandLemmas
+pub mod NumberLemmas
+pub mod NameLemmas
+pub mod LineLemmas
+pub mod FileLemmas
+pub mod ReplyLemmas
+pub mod ReplyText
+pub mod ScriptLemmas
+pub mod AssemblyLemmas
+pub mod SourceLemmas
+pub mod SessionReplyLemmas
+pub mod OutputLaws
+pub mod HostLemmas
+pub mod EachText
+pub mod ListedLemmas

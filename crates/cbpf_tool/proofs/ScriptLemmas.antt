@@ -1,0 +1,343 @@
+-- Lines of a script, and the output of those that were run.
+use Rattle.std.proofs.Common.{◌≡◌, ℕ, le_refl, le_trans, true, false, cond, eqb, ◌||◌, List, [], ◌∷◌, ◌++◌}
+use Rattle.std.proofs.Common.{length, take_all, Option, Some, None, Result, Ok, Err, IsTrue, ◌⊎◌, inl, inr, refl, sym}
+use Rattle.std.proofs.Common.{◌∙◌, ap, subst, append_assoc, append-nil, arith}
+use Rattle.std.specs.Prelude.{IfErr, MatchResult}
+use Rattle.std.specs.Io.KnownBytes.{Keeps}
+use Rattle.cbpf_code.specs.Writing.{Appended, AppendedPart}
+use Rattle.cbpf_code.specs.declared.writing.WriteFault.{WriteFault}
+use Rattle.cbpf_code.proofs.WrittenLemmas.{appended-nil, appended-then, appended-kept, part-then, part-take}
+use Rattle.cbpf_tool.specs.Commands.{Spelled, quit, command_of}
+use Rattle.cbpf_tool.specs.declared.command.CommandFault.{CommandFault}
+use Rattle.cbpf_tool.specs.FileMap.{FileMap, Source}
+use Rattle.cbpf_code.specs.Text.{put_front}
+use Rattle.cbpf_tool.specs.Lines.{lines, whole_lines, has_newline}
+use Rattle.cbpf_dbg.specs.View.{View, empty_view}
+use Rattle.cbpf_tool.specs.Reading.{unread, Took, TakesLine}
+use Rattle.cbpf_tool.specs.Replies.{LineReplies, KeepsCount}
+use Rattle.cbpf_tool.specs.Output.{Output, at_end, at_quit, at_line, HasQuit}
+use Rattle.cbpf_tool.specs.Progress.{LineRan, unlines, EachPlain, LinesRan, still, onward, Progress}
+use Rattle.cbpf_tool.specs.Debugged.{IsOutput, Faulted, Finished}
+use Rattle.cbpf_tool.specs.declared.fault.ToolFault.{ToolFault}
+use Rattle.cbpf_tool.specs.declared.fault.ToolFault.TheVariants.{Source as RefusedSource, Read, Write, Memory}
+use Rattle.cbpf_tool.specs.declared.debugger.AfterLine.{AfterLine}
+use Rattle.cbpf_tool.specs.declared.debugger.AfterLine.TheVariants.{NextLine, Quit}
+use Rattle.cbpf_tool.proofs.ReplyText.{reply-named}
+
+lines-plain : (l bs : List ℕ) → has_newline l ≡ false → lines (l ++ 10 ∷ bs) ≡ l ∷ lines bs
+lines-plain [] bs h = refl
+lines-plain (b ∷ l) bs h =
+    elim (eqb b 10) as (λ t. (t || has_newline l) ≡ false
+    → cond t ([] ∷ lines (l ++ 10 ∷ bs)) (put_front b (lines (l ++ 10 ∷ bs))) ≡ (b ∷ l) ∷ lines bs) [
+      | true ↦ λ e. absurd (cc)
+      | false ↦ λ e. ap (put_front b) (lines-plain l bs e)
+    ] h
+
+lines-last : (b : ℕ) (l : List ℕ) → has_newline (b ∷ l) ≡ false → lines (b ∷ l) ≡ (b ∷ l) ∷ []
+lines-last b [] h =
+    elim (eqb b 10) as (λ t. (t || false) ≡ false
+    → cond t ([] ∷ []) ((b ∷ []) ∷ []) ≡ (b ∷ []) ∷ []) [ true ↦ λ e. absurd (cc) | false ↦ λ e. refl ] h
+lines-last b (x ∷ l) h =
+    elim (eqb b 10) as (λ t. (t || has_newline (x ∷ l)) ≡ false
+    → cond t ([] ∷ lines (x ∷ l)) (put_front b (lines (x ∷ l))) ≡ (b ∷ x ∷ l) ∷ []) [
+      | true ↦ λ e. absurd (cc)
+      | false ↦ λ e. ap (put_front b) (lines-last x l e)
+    ] h
+
+lines-unlines : (ls : List (List ℕ)) (rest : List ℕ) → EachPlain ls → lines (unlines ls ++ rest) ≡ ls ++ lines rest
+lines-unlines [] rest h = refl
+lines-unlines (l ∷ ls) rest h =
+    ap lines (append_assoc l (10 ∷ unlines ls) rest) ∙ lines-plain l (unlines ls ++ rest) h.0
+    ∙ ap (λ (t : List (List ℕ)). l ∷ t) (lines-unlines ls rest h.1)
+
+unlines-push : (ls : List (List ℕ)) (l : List ℕ) → unlines (ls ++ l ∷ []) ≡ unlines ls ++ (l ++ 10 ∷ [])
+unlines-push [] l = refl
+unlines-push (x ∷ xs) l =
+    ap (λ (t : List ℕ). x ++ (10 ∷ t)) (unlines-push xs l) ∙ sym (append_assoc x (10 ∷ unlines xs) (l ++ 10 ∷ []))
+
+plain-push : (ls : List (List ℕ)) (l : List ℕ) → EachPlain ls → has_newline l ≡ false → EachPlain (ls ++ l ∷ [])
+plain-push [] l h p = (p, tt)
+plain-push (x ∷ xs) l h p = (h.0, plain-push xs l h.1 p)
+
+whole-plain : (p : List ℕ) → has_newline p ≡ false → whole_lines p ≡ []
+whole-plain [] h = refl
+whole-plain (b ∷ bs) h = ap (λ t. cond t (b ∷ whole_lines bs) []) h
+
+has-newline-in : (l bs : List ℕ) → has_newline (l ++ 10 ∷ bs) ≡ true
+has-newline-in [] bs = refl
+has-newline-in (b ∷ l) bs = elim (eqb b 10) as (λ t. (t || has_newline (l ++ 10 ∷ bs)) ≡ true) [
+  | true ↦ refl
+  | false ↦ has-newline-in l bs
+]
+
+whole-line : (l bs : List ℕ) → whole_lines (l ++ 10 ∷ bs) ≡ l ++ 10 ∷ whole_lines bs
+whole-line [] bs = refl
+whole-line (b ∷ l) bs = ap (λ t. cond t (b ∷ whole_lines (l ++ 10 ∷ bs)) []) (has-newline-in (b ∷ l) bs)
+    ∙ ap (λ (t : List ℕ). b ∷ t) (whole-line l bs)
+
+whole-unlines : (ls : List (List ℕ)) (p : List ℕ) → has_newline p ≡ false → whole_lines (unlines ls ++ p) ≡ unlines ls
+whole-unlines [] p h = whole-plain p h
+whole-unlines (l ∷ ls) p h = ap whole_lines (append_assoc l (10 ∷ unlines ls) p) ∙ whole-line l (unlines ls ++ p)
+    ∙ ap (λ (t : List ℕ). l ++ (10 ∷ t)) (whole-unlines ls p h)
+
+lines-some : (bs : List ℕ) → (bs ≡ [] → ⊥) → (l : List ℕ) × (more : List (List ℕ)) × (lines bs ≡ l ∷ more)
+lines-some [] n = absurd (n refl)
+lines-some (b ∷ bs) n = elim (eqb b 10)
+    as (λ t. (l : List ℕ) × (more : List (List ℕ)) × (cond t ([] ∷ lines bs) (put_front b (lines bs)) ≡ l ∷ more)) [
+      | true ↦ ([], lines bs, refl)
+      | false ↦ front b (lines bs)
+    ] where
+      front : (b : ℕ) (ls : List (List ℕ)) → (l : List ℕ) × (more : List (List ℕ)) × (put_front b ls ≡ l ∷ more)
+      front b [] = (b ∷ [], [], refl)
+      front b (l ∷ ls) = (b ∷ l, ls, refl)
+
+-- ---- lines that were run
+
+quit-in : (ls : List (List ℕ)) (l : List ℕ) (more : List (List ℕ)) → command_of l ≡ Ok (Some quit)
+    → HasQuit (ls ++ l ∷ more)
+quit-in [] l more e = inl e
+quit-in (x ∷ xs) l more e = inr (quit-in xs l more e)
+
+quit-last : (ls : List (List ℕ)) (l : List ℕ) → HasQuit (ls ++ l ∷ []) → HasQuit ls ⊎ (command_of l ≡ Ok (Some quit))
+quit-last [] l (inl h) = inr h
+quit-last [] l (inr h) = absurd h
+quit-last (x ∷ xs) l (inl h) = inl (inl h)
+quit-last (x ∷ xs) l (inr h) = elim (quit-last xs l h) [ inl k ↦ inl (inr k) | inr k ↦ inr k ]
+
+ran-no-quit : (files : FileMap) (f g : ℕ) (m n : View) (ls : List (List ℕ)) (t : List ℕ) → LinesRan files m f ls t n g
+    → HasQuit ls → ⊥
+ran-no-quit files f g m n ls t still h = h
+ran-no-quit files f g m n ls t (onward {n = k} {g = g'} {ls = ls'} {t = t'} l v r a le) h = elim (quit-last ls' l h) [
+  | inl q ↦ ran-no-quit files f g' m k ls' t' r q
+  | inr e ↦ subst (λ spelled. LineReplies files k n g' g spelled (λ s. s ≡ v)) e a
+]
+
+-- what runs on after some lines
+ran-output : (files : FileMap) (f g h : ℕ) (m n : View) (ls : List (List ℕ)) (t : List ℕ)
+    → LinesRan files m f ls t n g → (rest : List (List ℕ)) (u : List ℕ) → Output files n g rest u h
+    → Output files m f (ls ++ rest) (t ++ u) h
+ran-output files f g h m n ls t still rest u o = o
+ran-output files f g h m n ls t (onward {n = k} {g = g'} {ls = ls'} {t = t'} l v r a le) rest u o =
+    rw (append_assoc ls' (l ∷ []) rest, append_assoc t' v u)
+    (ran-output files f g' h m k ls' t' r (l ∷ rest) (v ++ u) (at_line l v a le o))
+
+pub part-whole : (u v : Option (List ℕ)) (text : List ℕ) → Appended u v text → AppendedPart u v text
+part-whole u v text h = part-take u v (length text) text (rw (take_all (length text) text (omega arith)) h)
+
+unread-nil : (pending : List ℕ) (left : Option (List ℕ)) (r : List ℕ) → pending ≡ [] → unread pending left ≡ Some r
+    → left ≡ Some r
+unfolding unread
+unread-nil pending None r n e = absurd (cc)
+unread-nil pending (Some xs) r n e = rw n at e
+
+module _ {script pending : List ℕ} {left old new : Option (List ℕ)} {m : View} {f g : Source}
+    (p : Progress script pending left old new f g m) (new' : Option (List ℕ)) (k : Keeps new new') where
+  -- the text of the lines that were run
+  so_far : IsOutput f g p.done p.text
+  so_far = subst (λ t. IsOutput f g p.done t) (append-nil p.text)
+      (subst (λ ls. IsOutput f g ls (p.text ++ [])) (append-nil p.done)
+      (ran-output f.files f.failures g.failures g.failures empty_view m p.done p.text p.ran [] [] at_end))
+
+  script_lines : lines script ≡ p.done ++ lines p.rest
+  script_lines = ap lines p.split ∙ lines-unlines p.done p.rest p.plain
+
+  no_quit : ¬ HasQuit p.done
+  no_quit = ran-no-quit f.files f.failures g.failures empty_view m p.done p.text p.ran
+
+  wrote : Appended old new' p.text
+  wrote = appended-kept old new new' p.text p.wrote k
+
+  read-faulted : (pending' line : List ℕ) (left' : Option (List ℕ)) → has_newline line ≡ false → pending' ≡ []
+      → Took p.rest pending' left' line → Faulted script left' old new' f g Read
+  read-faulted pending' line left' h n t =
+      let whole : lines (whole_lines (unlines p.done ++ line)) ≡ p.done = ap lines (whole-unlines p.done line h
+      ∙ sym (append-nil (unlines p.done))) ∙ lines-unlines p.done [] p.plain ∙ append-nil p.done in (
+        unlines p.done ++ line,
+        t.rest,
+        p.text,
+        p.split ∙ ap (λ (r : List ℕ). unlines p.done ++ r) t.split ∙ sym (append_assoc (unlines p.done) line t.rest),
+        unread-nil pending' left' t.rest n t.known,
+        subst (λ ls. IsOutput f g ls p.text) (sym whole) so_far,
+        subst (λ ls. ¬ HasQuit ls) (sym whole) no_quit,
+        wrote,
+      )
+
+  memory-faulted : (left' : Option (List ℕ)) → (p.rest ≡ [] → ⊥) → Faulted script left' old new' f g Memory
+  memory-faulted left' n =
+      let some = lines-some p.rest n in (
+        p.done,
+        some.0,
+        some.1,
+        p.text,
+        script_lines ∙ ap (λ (r : List (List ℕ)). p.done ++ r) some.2,
+        so_far,
+        no_quit,
+        wrote,
+      )
+
+  pub line-faulted : (pending' line : List ℕ) (left' : Option (List ℕ)) (e : ToolFault)
+      → TakesLine p.rest pending' left' line (Err e) → Faulted script left' old new' f g e
+  line-faulted pending' line left' Read h = read-faulted pending' line left' h.0 h.1 h.2
+  line-faulted pending' line left' Write h =
+      (p.done, lines p.rest, p.text, script_lines, so_far, part-whole old new' p.text wrote)
+  line-faulted pending' line left' Memory h = memory-faulted left' h
+  line-faulted pending' line left' (RefusedSource e) h = absurd h
+
+  -- a flush before a line failed
+  pub unflushed : (left' : Option (List ℕ)) (e : ToolFault) → e ≡ Write → Faulted script left' old new' f g e
+  unflushed left' e w =
+      subst (λ (x : ToolFault). Faulted script left' old new' f g x) (sym w)
+      (p.done, lines p.rest, p.text, script_lines, so_far, part-whole old new' p.text wrote)
+
+  -- the input ended after a newline
+  pub end-done : (left' : Option (List ℕ)) → p.rest ≡ [] → left' ≡ Some [] → Finished script left' old new' f g
+  end-done left' e z = (
+    p.text,
+    subst (λ ls. IsOutput f g ls p.text)
+        (sym (script_lines ∙ ap (λ (r : List ℕ). p.done ++ lines r) e ∙ append-nil p.done)) so_far,
+    inr z,
+    wrote,
+  )
+
+  module _ (new'' : Option (List ℕ)) (n : View) (g' : Source) {line : List ℕ} {more : List (List ℕ)}
+      (next : lines p.rest ≡ line ∷ more) (is_known : IsTrue f.is_known) where
+    here : lines script ≡ p.done ++ (line ∷ more)
+    here = script_lines ∙ ap (λ (r : List (List ℕ)). p.done ++ r) next
+
+    -- the files are still known, and are the same
+    still_known : IsTrue g.is_known
+    still_known = rw p.kept.is_known is_known
+
+    same_files : (spelled : Result (Option Spelled) CommandFault) (W : List ℕ → Type 0)
+        → LineReplies g.files m n g.failures g'.failures spelled W
+        → LineReplies f.files m n g.failures g'.failures spelled W
+    same_files spelled W h = subst (λ fs. LineReplies fs m n g.failures g'.failures spelled W) p.kept.files h
+
+    pub quit-done : (left' : Option (List ℕ)) → LineRan g g' m n (command_of line) new' new'' (Ok Quit)
+        → Finished script left' old new'' f g'
+    quit-done left' c =
+        let q = c.1 still_known in
+        let o : Output f.files empty_view f.failures (p.done ++ (line ∷ more)) (p.text ++ []) g.failures =
+        ran-output f.files f.failures g.failures g.failures empty_view m p.done p.text p.ran (line ∷ more) []
+        (at_quit line more q.0) in
+        let whole : Output f.files empty_view f.failures (lines script) (p.text ++ []) g.failures =
+        subst (λ ls. Output f.files empty_view f.failures ls (p.text ++ []) g.failures) (sym here) o in (
+          p.text ++ [],
+          subst (λ h. Output f.files empty_view f.failures (lines script) (p.text ++ []) h) q.1 whole,
+          inl (subst (λ ls. HasQuit ls) (sym here) (quit-in p.done line more q.0)),
+          appended-then old new' new'' p.text [] wrote q.2,
+        )
+
+    one_line : (u : List ℕ) → LineReplies g.files m n g.failures g'.failures (command_of line) (λ s. s ≡ u)
+        → KeepsCount (command_of line) g.failures g'.failures → IsOutput f g' (p.done ++ (line ∷ [])) (p.text ++ u)
+    one_line u r le =
+        let o : Output f.files empty_view f.failures (p.done ++ (line ∷ [])) (p.text ++ (u ++ [])) g'.failures =
+        ran-output f.files f.failures g.failures g'.failures empty_view m p.done p.text p.ran (line ∷ []) (u ++ [])
+        (at_line line u (same_files (command_of line) (λ s. s ≡ u) r) le at_end) in
+        subst (λ t. IsOutput f g' (p.done ++ (line ∷ [])) (p.text ++ t)) (append-nil u) o
+
+    pub write-faulted : (left' : Option (List ℕ)) (e : WriteFault)
+        → LineRan g g' m n (command_of line) new' new'' (Err e) → Faulted script left' old new'' f g' Write
+    write-faulted left' e c =
+        let r = reply-named g.files m n g.failures g'.failures (command_of line) (λ t. AppendedPart new' new'' t)
+        (c.1 still_known) in (
+          p.done ++ (line ∷ []),
+          more,
+          p.text ++ r.0,
+          here ∙ sym (append_assoc p.done (line ∷ []) more),
+          one_line r.0 r.1 c.0.1,
+          part-then old new' new'' p.text r.0 wrote r.2,
+        )
+
+    -- a last line without a newline
+    last-done : (left' : Option (List ℕ)) → left' ≡ Some [] → more ≡ []
+        → LineRan g g' m n (command_of line) new' new'' (Ok NextLine) → Finished script left' old new'' f g'
+    last-done left' z e c =
+        let r = reply-named g.files m n g.failures g'.failures (command_of line) (λ t. Appended new' new'' t)
+        (c.1 still_known) in
+        let all : p.done ++ (line ∷ []) ≡ lines script =
+        sym (here ∙ ap (λ (ls : List (List ℕ)). p.done ++ (line ∷ ls)) e) in (
+          p.text ++ r.0,
+          subst (λ ls. IsOutput f g' ls (p.text ++ r.0)) all (one_line r.0 r.1 c.0.1),
+          inr z,
+          appended-then old new' new'' p.text r.0 wrote r.2,
+        )
+
+    -- after it the input is at its end, whatever comes after the line
+    pub either-done : (left' : Option (List ℕ)) → left' ≡ Some [] → more ≡ [] → (b : AfterLine)
+        → LineRan g g' m n (command_of line) new' new'' (Ok b) → Finished script left' old new'' f g'
+    either-done left' z e NextLine c = last-done left' z e c
+    either-done left' z e Quit c = quit-done left' c
+
+    pub line-done : {pending' : List ℕ} {left' : Option (List ℕ)} → has_newline line ≡ false
+        → Took p.rest pending' left' (line ++ 10 ∷ []) → LineRan g g' m n (command_of line) new' new'' (Ok NextLine)
+        → Progress script pending' left' old new'' f g' n
+    line-done plain t c =
+        let r = reply-named g.files m n g.failures g'.failures (command_of line) (λ s. Appended new' new'' s)
+        (c.1 still_known) in
+        record {
+          done = p.done ++ line ∷ [];
+          text = p.text ++ r.0;
+          rest = t.rest;
+          split = p.split ∙ ap (λ (b : List ℕ). unlines p.done ++ b) t.split
+              ∙ sym (append_assoc (unlines p.done) (line ++ 10 ∷ []) t.rest)
+              ∙ ap (λ (l : List ℕ). l ++ t.rest) (sym (unlines-push p.done line));
+          plain = plain-push p.done line p.plain plain;
+          known = t.known;
+          kept = record {
+            files = c.0.0.files ∙ p.kept.files;
+            is_known = c.0.0.is_known ∙ p.kept.is_known;
+            rises = le_trans p.kept.rises c.0.0.rises;
+          };
+          ran = onward line r.0 p.ran (same_files (command_of line) (λ s. s ≡ r.0) r.1) c.0.1;
+          wrote = appended-then old new' new'' p.text r.0 wrote r.2;
+        }
+
+pub progress-start : (script pending : List ℕ) (left old : Option (List ℕ)) (f : Source) → pending ≡ []
+    → left ≡ Some script → Progress script pending left old old f f empty_view
+unfolding unread
+progress-start script pending left old f n e = record {
+  done = [];
+  text = [];
+  rest = script;
+  split = refl;
+  plain = tt;
+  known = rw (n, e) refl;
+  kept = record { files = refl; is_known = refl; rises = le_refl f.failures };
+  ran = still;
+  wrote = appended-nil old;
+}
+
+-- `line` is the slice of the line `held` that was read
+pub next-whole : (rest pending held line : List ℕ) (left : Option (List ℕ)) → line ≡ held → has_newline held ≡ false
+    → (t : Took rest pending left (held ++ 10 ∷ [])) → lines rest ≡ line ∷ lines t.rest
+next-whole rest pending held line left e h t =
+    rw e (ap lines (t.split ∙ append_assoc held (10 ∷ []) t.rest) ∙ lines-plain held t.rest h)
+
+pub next-last : (rest held line : List ℕ) → line ≡ held → has_newline held ≡ false → (length held ≡ 0 → ⊥)
+    → rest ≡ held → lines rest ≡ line ∷ []
+next-last rest [] line l h s e = absurd (s refl)
+next-last rest (b ∷ bs) line l h s e = ap lines e ∙ lines-last b bs h ∙ sym (ap (λ (x : List ℕ). x ∷ []) l)
+
+-- after the last flush
+flushed : (script : List ℕ) (left old new new' : Option (List ℕ)) (f g : Source)
+    → Finished script left old new f g → Keeps new new' → Finished script left old new' f g
+flushed script left old new new' f g h k = (h.0, h.1, h.2, appended-kept old new new' h.0 h.3 k)
+
+not-flushed : (script : List ℕ) (left old new new' : Option (List ℕ)) (f g : Source)
+    → Finished script left old new f g → Keeps new new' → Faulted script left old new' f g Write
+not-flushed script left old new new' f g h k = (
+  lines script,
+  [],
+  h.0,
+  sym (append-nil (lines script)),
+  h.1,
+  part-whole old new' h.0 (appended-kept old new new' h.0 h.3 k),
+)
+
+pub ended : (script : List ℕ) (left old new new' : Option (List ℕ)) (f g : Source) (r : Result (Unit {0}) ToolFault)
+    → Finished script left old new f g → Keeps new new' → IfErr r (λ e. e ≡ Write)
+    → MatchResult r (λ _. Finished script left old new' f g) (λ e. Faulted script left old new' f g e)
+ended script left old new new' f g (Ok x) h k w = flushed script left old new new' f g h k
+ended script left old new new' f g (Err e) h k w =
+    subst (λ (y : ToolFault). Faulted script left old new' f g y) (sym w) (not-flushed script left old new new' f g h k)

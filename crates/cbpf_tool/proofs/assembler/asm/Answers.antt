@@ -1,0 +1,7 @@
+-- Written down, so that a wrong body is refused at once, and not after all that the prover tries by itself.
+use Rattle.std.proofs.Common.{rules}
+use Rattle.cbpf_tool.proofs.AssemblyLemmas.{asm_answers}
+use Rattle.cbpf_tool.proofs.assembler.asm.Goals as goal
+
+pub returns-in-Ok-clause-written : goal.returns-in-Ok-clause-written
+returns-in-Ok-clause-written g c = search (asm_answers, rules)

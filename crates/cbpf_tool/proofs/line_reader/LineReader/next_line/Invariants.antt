@@ -1,0 +1,20 @@
+use Rattle.std.proofs.Common.{◌≡◌, ℕ, ◌+◌, ◌*◌, ◌-◌, ◌≤◌, List, Some, false}
+use Rattle.std.specs.Io.KnownBytes.{Keeps}
+use Rattle.cbpf_tool.specs.Lines.{has_newline}
+use Rattle.cbpf_tool.specs.Reading.{pending_in, unread, Took}
+use Rattle.cbpf_tool.proofs.line_reader.LineReader.next_line.Given as goal
+
+abbrev pub invariant-parts : goal.invariant-parts
+invariant-parts g l = record {
+  kept : Keeps (g.W.Write.contents l.fn.writer) (g.W.Write.contents l.writer);
+  plain : has_newline l.line.items ≡ false;
+  fewer : 4097 * l.self.reads + (l.self.end - l.self.start)
+      ≤ 4097 * l.fn.self.reads + (l.fn.self.end - l.fn.self.start);
+  so_far : (bytes : List ℕ)
+      → unread (pending_in l.fn.self.chunk l.fn.self.start l.fn.self.end) (g.R.Read.remaining l.fn.reader)
+      ≡ Some bytes →
+      Took bytes (pending_in l.self.chunk l.self.start l.self.end) (g.R.Read.remaining l.reader) l.line.items;
+}
+
+abbrev pub decreases-parts : goal.decreases-parts
+decreases-parts g l = 4097 * l.self.reads + (l.self.end - l.self.start)

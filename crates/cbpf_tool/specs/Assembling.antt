@@ -1,0 +1,51 @@
+-- What the assembler leaves in its writer: the instructions of a source in one of two forms
+-- (kernel documentation, networking/filter, on `bpf_asm`).
+use Rattle.std.specs.Prelude.{◌≢◌, ℕ, List, [], Option, Result, Ok, Err}
+use Rattle.cbpf_code.specs.Writing.{Appended, AppendedPart}
+use Rattle.cbpf_code.specs.WordForm.{words}
+use Rattle.cbpf_code.specs.CForm.{c_form}
+use Rattle.cbpf_code.specs.declared.form.Form.{Form}
+use Rattle.cbpf_code.specs.declared.form.Form.TheVariants.{Decimal, C}
+use Rattle.cbpf_code.specs.declared.insn.Insn.{Insn}
+use Rattle.cbpf_text.specs.Assembled.{Assembles}
+use Rattle.cbpf_text.specs.Refusals.{IsRefused}
+use Rattle.cbpf_text.specs.declared.fault.AsmFault.TheVariants as asm
+use Rattle.cbpf_tool.specs.declared.fault.ToolFault.{ToolFault}
+use Rattle.cbpf_tool.specs.declared.fault.ToolFault.TheVariants.{Source, Read, Write, Memory}
+
+-- the text of instructions in a form
+abbrev pub form_text : Form → List Insn → List ℕ
+form_text Decimal list = words list
+form_text C list = c_form list
+
+-- a fault before anything is written
+abbrev pub IsEarly : ToolFault → Type 0
+IsEarly (Source f) = Unit {0}
+IsEarly Read = Unit {0}
+IsEarly Memory = Unit {0}
+IsEarly Write = ⊥
+
+-- a fault of reading the source
+abbrev pub IsReadingFault : ToolFault → Type 0
+IsReadingFault (Source f) = ⊥
+IsReadingFault Read = Unit {0}
+IsReadingFault Memory = Unit {0}
+IsReadingFault Write = ⊥
+
+-- the source was assembled, and its instructions were written
+abbrev pub WroteWhole : List ℕ → Form → Option (List ℕ) → Option (List ℕ) → Type 0
+WroteWhole source form old new = (list : List Insn) × Assembles source list × Appended old new (form_text form list)
+
+-- after a refused source nothing was written, nor after a read that failed or out of memory.
+-- After a write that failed a beginning of the text was
+abbrev pub Failed : List ℕ → Form → Option (List ℕ) → Option (List ℕ) → ToolFault → Type 0
+Failed source form old new (Source f) = IsRefused source f × (f ≢ asm.Memory) × Appended old new []
+Failed source form old new Read = Appended old new []
+Failed source form old new Memory = Appended old new []
+Failed source form old new Write =
+    (list : List Insn) × Assembles source list × AppendedPart old new (form_text form list)
+
+-- an answer of the assembler over a source
+unfoldable pub Assembled : List ℕ → Form → Option (List ℕ) → Option (List ℕ) → Result (Unit {0}) ToolFault → Type 0
+Assembled source form old new (Ok x) = WroteWhole source form old new
+Assembled source form old new (Err e) = Failed source form old new e

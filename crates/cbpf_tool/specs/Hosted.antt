@@ -1,0 +1,41 @@
+-- What a machine on which a job runs holds, and what was done with it (this project's own). The files are those
+-- that can be read: what is created or written doesn't change them.
+use Rattle.std.specs.Prelude.{◌≡◌, ℕ, Bool, false, List, [], ◌∷◌, ◌++◌, Option, Some, Result, Ok, Err}
+use Rattle.std.specs.FinMap as map
+use Rattle.cbpf_tool.specs.FileMap.{FileMap}
+use Rattle.cbpf_tool.specs.declared.host.CreateFault.{CreateFault}
+use Rattle.cbpf_tool.specs.declared.host.CreateFault.TheVariants.{NotCreated, Memory}
+
+pub data Event : Type 0 where
+  opened : (name : List ℕ) → Event
+  not_opened : (name : List ℕ) → Event
+  created : (name : List ℕ) → Event
+  not_created : (name : List ℕ) → Event
+  wrote : (name text : List ℕ) → Event
+  printed : (text : List ℕ) → Event
+
+-- whether it is known what the machine holds, the files that can be read, the standard input, and the events so far
+pub record Hosted : Type 0 where
+  pub is_known : Bool
+  pub files : FileMap
+  pub input : List ℕ
+  pub events : List Event
+
+-- a machine of which it is not known what it holds
+abbrev pub unknown : Hosted
+unknown = record { is_known = false; files = map.empty; input = []; events = [] }
+
+abbrev pub and_then : Hosted → List Event → Hosted
+and_then h es = record h { events = h.events ++ es }
+
+-- a file was opened, and all its bytes can be read, or it could not be opened
+abbrev pub Opens : {V E : Type 0} → (V → Option (List ℕ)) → Hosted → Hosted → List ℕ → Result V E → Type 0
+Opens remaining old new name (Ok v) = (bytes : List ℕ) × (map.get old.files name ≡ Some bytes)
+    × (remaining v ≡ Some bytes) × (new ≡ and_then old (opened name ∷ []))
+Opens remaining old new name (Err e) = new ≡ and_then old (not_opened name ∷ [])
+
+-- a file was created, and is empty, or it could not be created
+abbrev pub Creates : {V : Type 0} → (V → Option (List ℕ)) → Hosted → Hosted → List ℕ → Result V CreateFault → Type 0
+Creates contents old new name (Ok v) = (contents v ≡ Some []) × (new ≡ and_then old (created name ∷ []))
+Creates contents old new name (Err NotCreated) = new ≡ and_then old (not_created name ∷ [])
+Creates contents old new name (Err Memory) = new ≡ and_then old (created name ∷ [])

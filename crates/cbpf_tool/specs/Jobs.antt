@@ -1,0 +1,69 @@
+-- What the two jobs do on a machine: what is opened, created and written, in which order, and which fault ends
+-- a job (this project's own).
+use Rattle.std.specs.Prelude.{◌≡◌, ◌⊎◌, ℕ, List, [], ◌∷◌, ◌++◌, Option, Some, None, Result, Ok, Err, string_bytes}
+use Rattle.std.specs.FinMap as map
+use Rattle.cbpf_code.specs.declared.form.Form.{Form}
+use Rattle.cbpf_tool.specs.Assembling.{Assembled}
+use Rattle.cbpf_tool.specs.Debugged.{Debugged}
+use Rattle.cbpf_tool.specs.FileMap.{Source, known_source}
+use Rattle.cbpf_tool.specs.declared.fault.ToolFault.{ToolFault}
+use Rattle.cbpf_tool.specs.declared.fault.ToolFault.TheVariants.{Memory}
+use Rattle.cbpf_tool.specs.Hosted.{Hosted, Event, and_then, opened, not_opened, created, not_created, wrote, printed}
+use Rattle.cbpf_tool.specs.declared.failure.Failure.{Failure}
+use Rattle.cbpf_tool.specs.declared.failure.Failure.TheVariants.{Tool, CannotOpen}
+
+-- the result of a tool as that of a job
+abbrev pub tooled : Result (Unit {0}) ToolFault → Result (Unit {0}) Failure
+tooled (Ok x) = Ok x
+tooled (Err e) = Err (Tool e)
+
+-- the name of the file that could not be opened
+abbrev pub unopened : Result (Unit {0}) Failure → Option (List ℕ)
+unopened (Ok x) = None
+unopened (Err (Tool e)) = None
+unopened (Err (CannotOpen n)) = Some (string_bytes n)
+
+-- after some events a tool ran, and its result is the job's: what it wrote is the last event, or there was no room
+-- for a buffer, and it did not begin
+abbrev pub Ends : Hosted → Hosted → List Event → (List ℕ → Event) → (List ℕ → Result (Unit {0}) ToolFault → Type 0)
+    → Result (Unit {0}) ToolFault → Type 0
+Ends old new before event Done t =
+    ((new ≡ and_then old before) × (t ≡ Err Memory))
+    ⊎ ((text : List ℕ) × (new ≡ and_then old (before ++ event text ∷ [])) × Done text t)
+
+abbrev pub RunsTool : Hosted → Hosted → List Event → (List ℕ → Event) → (List ℕ → Result (Unit {0}) ToolFault → Type 0)
+    → Result (Unit {0}) Failure → Type 0
+RunsTool old new before event Done r = (t : Result (Unit {0}) ToolFault) × (r ≡ tooled t) × Ends old new before event Done t
+
+-- the last event is that a file of this name could not be opened, which ends the job
+abbrev pub EndsUnopened : Hosted → Hosted → List Event → List ℕ → Event → Result (Unit {0}) Failure → Type 0
+EndsUnopened old new before name event r = (unopened r ≡ Some name) × (new ≡ and_then old (before ++ event ∷ []))
+
+-- a source was assembled in a form
+abbrev pub AssembledTo : List ℕ → Form → List ℕ → Result (Unit {0}) ToolFault → Type 0
+AssembledTo source form text t = Assembled source form (Some []) (Some text) t
+
+-- a script was run over the machine's files
+abbrev pub DebuggedTo : Hosted → List ℕ → List ℕ → Result (Unit {0}) ToolFault → Type 0
+DebuggedTo h script text t =
+    (left : Option (List ℕ)) × (g : Source) × Debugged script left (Some []) (Some text) (known_source h.files 0) g t
+
+-- `asm`: the source is the standard input, or the file, which is opened first
+abbrev pub AsmJob : Hosted → Hosted → Form → Option (List ℕ) → Result (Unit {0}) Failure → Type 0
+AsmJob old new form None r = RunsTool old new [] printed (AssembledTo old.input form) r
+AsmJob old new form (Some name) r = EndsUnopened old new [] name (not_opened name) r
+    ⊎ ((bytes : List ℕ) × (map.get old.files name ≡ Some bytes)
+    × RunsTool old new (opened name ∷ []) printed (AssembledTo bytes form) r)
+
+-- the replies go to the standard output, or to the file, which is created
+abbrev pub RepliesTo : Hosted → Hosted → List Event → List ℕ → Option (List ℕ) → Result (Unit {0}) Failure → Type 0
+RepliesTo old new before script None r = RunsTool old new before printed (DebuggedTo old script) r
+RepliesTo old new before script (Some name) r = EndsUnopened old new before name (not_created name) r
+    ⊎ RunsTool old new (before ++ created name ∷ []) (wrote name) (DebuggedTo old script) r
+
+-- `dbg`: the script is the standard input, or the file, which is opened before the other is created
+abbrev pub DbgJob : Hosted → Hosted → Option (List ℕ) → Option (List ℕ) → Result (Unit {0}) Failure → Type 0
+DbgJob old new None output r = RepliesTo old new [] old.input output r
+DbgJob old new (Some name) output r = EndsUnopened old new [] name (not_opened name) r
+    ⊎ ((bytes : List ℕ) × (map.get old.files name ≡ Some bytes)
+    × RepliesTo old new (opened name ∷ []) bytes output r)

@@ -1,0 +1,45 @@
+-- What a load from a source of files may answer, and what a failure of the file system is reported as.
+use Rattle.std.specs.Prelude.{◌≡◌, ◌≤◌, ◌<◌, ◌+◌, ◌-◌, ◌^◌, ◌⊎◌, min, ℕ, List, Some, None, Result, Ok, Err}
+use Rattle.std.specs.Prelude.{MatchResult, IsTrue}
+use Rattle.std.specs.FinMap as map
+use Rattle.std.specs.declared.io.ErrorKind.{ErrorKind}
+use Rattle.std.specs.declared.io.ErrorKind.TheVariants.{NotFound, OutOfMemory}
+use Rattle.cbpf_tool.specs.FileMap.{Source}
+use Rattle.cbpf_tool.specs.declared.files.LoadFault.{LoadFault}
+use Rattle.cbpf_tool.specs.declared.files.LoadFault.TheVariants.{Absent, Device, Memory}
+
+-- why a load failed: where the source says what it holds, an absent name is not in its map;
+-- a device fault raises the count, which stops at its greatest value
+abbrev pub Faults : Source → Source → List ℕ → LoadFault → Type 0
+Faults old new name Absent = IsTrue old.is_known → map.get old.files name ≡ None
+Faults old new name Device = (old.failures < new.failures) ⊎ (old.failures ≡ 2 ^ 64 - 1)
+Faults old new name Memory = Unit {0}
+
+-- the count of failures after a load, where each device fault is counted once
+abbrev pub counted : {V : Type 0} → Result V LoadFault → ℕ → ℕ
+counted (Ok v) failures = failures
+counted (Err Absent) failures = failures
+counted (Err Device) failures = min (failures + 1) (2 ^ 64 - 1)
+counted (Err Memory) failures = failures
+
+-- a load of the name with bytes `name`. A count at its greatest value stays there
+pub record Loads {V : Type 0} (items : V → List ℕ) (old new : Source) (name : List ℕ) (r : Result V LoadFault) :
+    Type 0 where
+  pub same_files : new.files ≡ old.files
+  pub same_known : new.is_known ≡ old.is_known
+  pub rises : old.failures ≤ new.failures
+  pub stops : old.failures ≡ 2 ^ 64 - 1 → new.failures ≡ 2 ^ 64 - 1
+  pub counts : new.failures ≡ counted r old.failures
+  pub gives :
+      MatchResult r (λ v. IsTrue old.is_known → map.get old.files name ≡ Some (items v)) (λ e. Faults old new name e)
+
+-- a failure to read a file that is open, or to find room for its bytes
+abbrev pub reading_fault : ErrorKind → LoadFault
+reading_fault OutOfMemory = Memory
+reading_fault _ = Device
+
+-- a failure to open a file: only that there is none of the name is reported as absent
+abbrev pub opening_fault : ErrorKind → LoadFault
+opening_fault NotFound = Absent
+opening_fault OutOfMemory = Memory
+opening_fault _ = Device

@@ -1,0 +1,93 @@
+// The job `dbg`.
+ghost use Rattle.std.specs.Prelude.{◌≡◌, ℕ, IsTrue, List, [], None, Some, string_bytes};
+ghost use Rattle.std.specs.Option.{option_map};
+ghost use Rattle.cbpf_tool.specs.Jobs.{DbgJob, DebuggedTo, RepliesTo};
+
+use crate::debugger::debug;
+use crate::failure::{Failure, tooled};
+use crate::fault::ToolFault;
+use crate::host::{CreateFault, Host};
+use std::alloc::Allocator;
+use std::io::{Read, Write};
+
+/// Runs a script over the machine's files.
+fn run_script<A: Allocator, H: Host, I: Read, O: Write>(
+    alloc: A,
+    host: &mut H,
+    reader: &mut I,
+    writer: &mut O,
+) -> Result<(), ToolFault>
+    ensures { IsTrue (H.view host.old).is_known → (script : List ℕ) → I.remaining reader.old ≡ Some script →
+        O.contents writer.old ≡ Some [] → (H.view host.new ≡ H.view host.old) × (text : List ℕ) ×
+        (O.contents writer.new ≡ Some text) × DebuggedTo (H.view host.old) script text result }
+{
+    let mut disk = host.disk();
+    debug(alloc, reader, writer, &mut disk)
+}
+
+/// Runs the script that a reader gives, with the replies to a file, or to the standard output.
+fn debug_from<A: Allocator, H: Host, I: Read>(
+    alloc: A,
+    host: &mut H,
+    reader: &mut I,
+    output: Option<String>,
+) -> Result<(), Failure>
+    ensures { IsTrue (H.view host.old).is_known → (script : List ℕ) → I.remaining reader.old ≡ Some script →
+        RepliesTo (H.view host.old) (H.view host.new) [] script (option_map (λ n. string_bytes n) output) result }
+{
+    match output {
+        None => {
+            let Ok(mut writer) = host.output() else {
+                return Err(Failure::Tool(ToolFault::Memory));
+            };
+            let done = run_script(alloc, host, reader, &mut writer);
+            host.print(writer);
+            tooled(done)
+        }
+        Some(name) => match host.create(name.as_str()) {
+            Ok(sink) => {
+                let mut sink = sink;
+                let done = run_script(alloc, host, reader, &mut sink);
+                host.close(name.as_str(), sink);
+                tooled(done)
+            }
+            Err(CreateFault::NotCreated) => Err(Failure::CannotOpen(name)),
+            Err(CreateFault::Memory) => Err(Failure::Tool(ToolFault::Memory)),
+        },
+    }
+}
+
+/// Runs the script of the standard input, whose reader has a buffer in it.
+fn debug_input<A: Allocator, H: Host>(
+    alloc: A,
+    host: &mut H,
+    output: Option<String>,
+) -> Result<(), Failure>
+    ensures { IsTrue (H.view host.old).is_known → DbgJob (H.view host.old) (H.view host.new) None
+        (option_map (λ n. string_bytes n) output) result }
+{
+    let mut reader = host.input();
+    debug_from(alloc, host, &mut reader, output)
+}
+
+/// `dbg`: runs a script of a file, or of the standard input.
+pub fn dbg_job<A: Allocator, H: Host>(
+    alloc: A,
+    host: &mut H,
+    input: Option<String>,
+    output: Option<String>,
+) -> Result<(), Failure>
+    ensures { IsTrue (H.view host.old).is_known → DbgJob (H.view host.old) (H.view host.new)
+        (option_map (λ n. string_bytes n) input) (option_map (λ n. string_bytes n) output) result }
+{
+    match input {
+        None => debug_input(alloc, host, output),
+        Some(name) => match host.open(name.as_str()) {
+            Ok(commands) => {
+                let mut reader = commands;
+                debug_from(alloc, host, &mut reader, output)
+            }
+            Err(_) => Err(Failure::CannotOpen(name)),
+        },
+    }
+}

@@ -1,0 +1,231 @@
+// Runs a script line by line.
+ghost use Rattle.std.specs.Prelude.{◌≡◌, ℕ, List, [], Some, IsTrue, Ok, IfErr};
+ghost use Rattle.std.specs.Io.KnownBytes.{Keeps};
+ghost use Rattle.cbpf_dbg.specs.View.{empty_view};
+ghost use Rattle.cbpf_tool.specs.Commands as language;
+ghost use Rattle.cbpf_tool.specs.Debugged.{Debugged};
+ghost use Rattle.cbpf_tool.specs.Progress.{LineRan};
+ghost use Rattle.cbpf_tool.specs.Reading.{pending_in};
+ghost use Rattle.cbpf_tool.specs.declared.fault.ToolFault.TheVariants as fault;
+
+use crate::fault::ToolFault;
+use crate::files::Files;
+use crate::flushing::flush;
+use crate::line_reader::{LineEnd, LineReader};
+use crate::loads::{load_capture, load_words};
+use crate::perform;
+use crate::session_replies::write_breakpoints;
+use cbpf_code::WriteFault;
+use crate::command::{Command, CommandFault, command_of};
+use cbpf_dbg::{MarkTrail, Session, When};
+use cbpf_reply::{write_unknown_command, write_wrong_arguments};
+use std::alloc::Allocator;
+use std::io::{Read, Write};
+
+/// What comes after a line.
+#[derive(Clone, Copy)]
+pub enum AfterLine {
+    NextLine,
+    Quit,
+}
+
+/// Runs a command, and writes its reply; `quit` has none, and ends the script.
+fn act<A: Allocator + Copy, W: Write, F: Files>(
+    alloc: A,
+    w: &mut W,
+    session: &mut Session<MarkTrail, A>,
+    files: &mut F,
+    command: Command<'_>,
+) -> Result<AfterLine, WriteFault>
+    ensures { LineRan (F.source files.old) (F.source files.new) session.old session.new
+        (Ok (Some (language.meaning command.entry)))
+        (W.contents w.old) (W.contents w.new) result }
+{
+    let reply = match command {
+        Command::LoadWords(text) => load_words(alloc, w, session, text),
+        Command::LoadCapture(name) => load_capture(alloc, w, session, files, name),
+        Command::Run(limit) => perform::run(w, session, limit),
+        Command::Disassemble => perform::disassemble(w, session),
+        Command::Dump => perform::dump(w, session),
+        Command::Breakpoint(n) => perform::set_breakpoint(w, session, n, When::Always),
+        Command::BreakpointWhenA(n, v) => perform::set_breakpoint(w, session, n, When::A(v)),
+        Command::BreakpointWhenX(n, v) => perform::set_breakpoint(w, session, n, When::X(v)),
+        Command::Breakpoints => write_breakpoints(w, session),
+        Command::ResetBreakpoints => perform::reset_breakpoints(w, session),
+        Command::Delete(n) => perform::delete(w, session, n),
+        Command::Step(n) => perform::step(w, session, n),
+        Command::Select(n) => perform::select(w, session, n),
+        Command::Mark => perform::mark(w, session),
+        Command::Resume { packet, step } => perform::resume(w, session, packet, step),
+        Command::Stops => perform::stops(w, session),
+        Command::Value(e, n) => perform::set_value(w, session, e, n),
+        Command::Quit => return Ok(AfterLine::Quit),
+    };
+    reply.map(|_| AfterLine::NextLine)
+}
+
+/// What a line says, as `command_of` answers it.
+type Spelled<'a> = Result<Option<Command<'a>>, CommandFault>;
+
+/// Whether a command can pass more than a packet, or wait for a file.
+fn may_take_long(spelled: &Spelled<'_>) -> bool {
+    matches!(
+        spelled,
+        Ok(Some(
+            Command::LoadCapture(_)
+                | Command::Run(_)
+                | Command::Step(_)
+                | Command::Resume { .. }
+                | Command::Stops
+        ))
+    )
+}
+
+/// Whether a line has no reply.
+fn has_no_reply(spelled: &Spelled<'_>) -> bool {
+    matches!(spelled, Ok(None) | Ok(Some(Command::Quit)))
+}
+
+/// Flushes the replies so far before a command that may take long. What comes next is the line's reply.
+fn flush_before<W: Write>(
+    w: &mut W,
+    unflushed: &mut bool,
+    spelled: &Spelled<'_>,
+) -> Result<(), ToolFault>
+    ensures kept { Keeps (W.contents w.old) (W.contents w.new) }
+    ensures fault { IfErr result (λ e. e ≡ fault.Write) }
+{
+    if may_take_long(spelled) {
+        flush(w, unflushed)?;
+    }
+    if !has_no_reply(spelled) {
+        *unflushed = true;
+    }
+    Ok(())
+}
+
+/// Runs a line that was read, and writes its reply.
+fn run_line<A: Allocator + Copy, W: Write, F: Files>(
+    alloc: A,
+    w: &mut W,
+    session: &mut Session<MarkTrail, A>,
+    files: &mut F,
+    spelled: Spelled<'_>,
+) -> Result<AfterLine, WriteFault>
+    ensures { LineRan (F.source files.old) (F.source files.new) session.old session.new
+        (language.result_meaning spelled.entry) (W.contents w.old) (W.contents w.new) result }
+{
+    match spelled {
+        Ok(None) => Ok(AfterLine::NextLine),
+        Ok(Some(command)) => act(alloc, w, session, files, command),
+        Err(CommandFault::UnknownCommand) => {
+            write_unknown_command(w)?;
+            Ok(AfterLine::NextLine)
+        }
+        Err(CommandFault::WrongArguments) => {
+            write_wrong_arguments(w)?;
+            Ok(AfterLine::NextLine)
+        }
+    }
+}
+
+/// Runs the lines of the input up to `quit`, in a session with nothing loaded. `line` is room for one line.
+// What it goes on with is lent, so that none of its exits has to drop it: that makes its proof short.
+fn run_lines<A: Allocator + Copy, R: Read, W: Write, F: Files>(
+    alloc: A,
+    reader: &mut R,
+    writer: &mut W,
+    files: &mut F,
+    session: &mut Session<MarkTrail, A>,
+    lines: &mut LineReader,
+    line: &mut Vec<u8, A>,
+    unflushed: &mut bool,
+) -> Result<(), ToolFault>
+    requires session { session.old ≡ empty_view }
+    requires lines { pending_in lines.old.chunk lines.old.start lines.old.end ≡ [] }
+    ensures { (script : List ℕ) → R.remaining reader.old ≡ Some script → IsTrue (F.source files.old).is_known →
+        Debugged script (R.remaining reader.new) (W.contents writer.old) (W.contents writer.new) (F.source files.old)
+        (F.source files.new) result }
+{
+    'script: loop {
+        match lines.next_line(reader, writer, unflushed, line) {
+            Err(fault) => return Err(fault),
+            Ok(LineEnd::Input) => break,
+            Ok(LineEnd::Newline) => {
+                let spelled = command_of(line.as_slice());
+                if let Err(fault) = flush_before(writer, unflushed, &spelled) {
+                    return Err(fault);
+                }
+                match run_line(alloc, writer, session, files, spelled) {
+                    Err(_) => return Err(ToolFault::Write),
+                    Ok(AfterLine::Quit) => return Ok(()),
+                    Ok(AfterLine::NextLine) => {}
+                }
+            }
+        }
+    }
+    if line.is_empty() {
+        return Ok(());
+    }
+    let spelled = command_of(line.as_slice());
+    if let Err(fault) = flush_before(writer, unflushed, &spelled) {
+        return Err(fault);
+    }
+    match run_line(alloc, writer, session, files, spelled) {
+        Err(_) => Err(ToolFault::Write),
+        Ok(_) => Ok(()),
+    }
+}
+
+/// The same, with a session and a reader of lines made here; what was written is flushed at the end.
+fn run<A: Allocator + Copy, R: Read, W: Write, F: Files>(
+    alloc: A,
+    reader: &mut R,
+    writer: &mut W,
+    files: &mut F,
+) -> Result<(), ToolFault>
+    ensures { (script : List ℕ) → R.remaining reader.old ≡ Some script → IsTrue (F.source files.old).is_known →
+        Debugged script (R.remaining reader.new) (W.contents writer.old) (W.contents writer.new) (F.source files.old)
+        (F.source files.new) result }
+{
+    let mut session = Session::new(alloc, MarkTrail::new());
+    let mut lines = LineReader::new();
+    let mut line = Vec::new(alloc);
+    let mut unflushed = false;
+    run_lines(
+        alloc,
+        reader,
+        writer,
+        files,
+        &mut session,
+        &mut lines,
+        &mut line,
+        &mut unflushed,
+    )?;
+    flush(writer, &mut unflushed)
+}
+
+/// Runs a script of commands: reads lines up to `quit` or the end of the input, and writes the reply of
+/// each before the next one acts. A refused command is answered by a line `error: ..`, and the script goes
+/// on. The replies are flushed before each `load pcap`, `run`, `step`, `resume` and `stops`, which may take
+/// long, before each read, and before `Ok`; where none was written since the last flush, nothing is flushed.
+/// So what the writer was given before the call goes out with the first replies.
+///
+/// # Errors
+///
+/// `Read` where a read failed, or the input hadn't ended after 18446744073709551615 reads: the replies to
+/// the whole lines before it were written. `Write` where a write or a flush failed: a beginning of the
+/// replies was written. `Memory` where a line could not be held: the replies to the lines before it were
+/// written.
+pub fn debug<A: Allocator, R: Read, W: Write, F: Files>(
+    alloc: A,
+    reader: &mut R,
+    writer: &mut W,
+    files: &mut F,
+) -> Result<(), ToolFault>
+    ensures { (script : List ℕ) → R.remaining reader.old ≡ Some script → IsTrue (F.source files.old).is_known →
+        Debugged script (R.remaining reader.new) (W.contents writer.old) (W.contents writer.new) (F.source files.old)
+        (F.source files.new) result }
+{
+    run(&alloc, reader, writer, files)
+}

@@ -1,0 +1,27 @@
+// Where the debugger's files come from.
+ghost use Rattle.cbpf_tool.specs.FileMap.{Source};
+ghost use Rattle.cbpf_tool.specs.Loads.{Loads};
+
+use std::alloc::Allocator;
+
+/// Why a file was not loaded.
+#[derive(Clone, Copy, PartialEq, Eq, Debug)]
+pub enum LoadFault {
+    /// F1: there is no file of that name.
+    Absent,
+    /// F2: the file could not be read.
+    Device,
+    /// Out of memory for its bytes.
+    Memory,
+}
+
+/// A source of files by name. A load leaves the files as they are. Where the source says what it
+/// holds, a load gives the bytes of the name, and answers `Absent` only where there is no such name.
+/// The count of failures rises by one at `Device`, up to its greatest value, and at nothing else.
+pub trait Files {
+    /// The files, the count of failures, and whether the source says what it holds.
+    ghost source: { Self → Source };
+
+    fn load<A: Allocator>(&mut self, alloc: A, name: &str) -> Result<Vec<u8, A>, LoadFault>
+        ensures { Loads (λ v. v.items) (source self.old) (source self.new) name.now result };
+}

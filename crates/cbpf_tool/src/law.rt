@@ -1,0 +1,13 @@
+//! Laws of the definitions, which hold whatever a program does.
+
+ghost use Rattle.cbpf_tool.specs.Laws.{OneOutput, HasOutput, OwnIsOutput, NoOther};
+
+/// A script has exactly one output where no growth is refused and no file fails, whatever it says and
+/// whatever the files hold; it is one of its outputs, by which no failure is counted. An output in
+/// which neither `error: out of memory` nor F2 stands is that one.
+pub fn one_output()
+    ensures output { OneOutput }
+    ensures some_output { HasOutput }
+    ensures is_output { OwnIsOutput }
+    ensures no_other { NoOther }
+{}

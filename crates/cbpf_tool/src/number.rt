@@ -1,0 +1,42 @@
+// Numbers in a line.
+ghost use Rattle.std.specs.Prelude.{◌≡◌, ◌-◌, ◌^◌};
+ghost use Rattle.cbpf_tool.specs.Numbers as spec;
+
+use cbpf_code::is_digit;
+
+/// The decimal number that a word spells, of those up to `most`. Zeros may stand in front, as many as
+/// there are.
+pub(crate) fn number(word: &[u8], most: u64) -> Option<u64>
+    ensures { result ≡ spec.number most word.now }
+{
+    if word.is_empty() {
+        return None;
+    }
+    let mut value = 0u64;
+    for b in word {
+        if !is_digit(*b) {
+            return None;
+        }
+        value = value.checked_mul(10)?.checked_add(u64::from(*b - b'0'))?;
+    }
+    if value <= most { Some(value) } else { None }
+}
+
+/// The same of 32 bits.
+pub(crate) fn number_32(word: &[u8]) -> Option<u32>
+    ensures { result ≡ spec.number (2 ^ 32 - 1) word.now }
+{
+    Some(number(word, u64::from(u32::MAX))? as u32)
+}
+
+/// The number that a word spells with or without a sign in front, of at most 9223372036854775807 and
+/// at least the same below 0. So its negation is a number too.
+pub(crate) fn signed_number(word: &[u8]) -> Option<i64>
+    ensures { result ≡ spec.signed_number (2 ^ 63 - 1) word.now }
+{
+    match word {
+        [b'+', digits @ ..] => Some(number(digits, i64::MAX as u64)? as i64),
+        [b'-', digits @ ..] => Some(-(number(digits, i64::MAX as u64)? as i64)),
+        digits => Some(number(digits, i64::MAX as u64)? as i64),
+    }
+}
