@@ -23,7 +23,7 @@ crates/*/must-fail/README.md. Each is read outside its blocks of code, and names
 A line of tests/shown.txt is a sentence and, each after ` | `, what shows it, with texts between backquotes:
   test C::M::F     the function F has #[test] in the module M of the crate C; a text stands in the file of M, of a
                    module below M, or of one of the crate that M names
-  case D/N         the folder below tests/cases has a file `stdout`; a text stands in one of its files
+  case D/N         the file D/N.case stands below tests/cases; a text stands in it, or beside it
   edit C/N         the edit N of the crate C is there; a text stands in it
   script N         the file tests/N is there, and the gate of the Makefile runs it; a text stands in it
 Blanks and line ends of a text and of a file may differ in number.
@@ -95,7 +95,8 @@ def words():
             if path.suffix in (".rt", ".antt"):
                 text = re.sub(r"^\s*(//|--).*$", "", text, flags=re.M)
             found |= set(re.findall(r"[A-Za-z_]\w*(?:-\w+)*", text)) | set(re.findall(r"\w+", text))
-    found |= {path.name for path in (TOP / "tests").rglob("*") if path.is_dir() or path.suffix == ".pcap"}
+    found |= {path.stem for path in (TOP / "tests").rglob("*") if path.is_dir() or path.suffix in (".pcap", ".case")}
+    found |= {path.name for path in (TOP / "tests").rglob("*.pcap")}
     return found
 
 
@@ -120,11 +121,11 @@ def is_there(name, document, here, in_table):
     if OUTSIDE.match(name) or name[0].isdigit():
         return True
     if "/" not in name.rstrip("/") and "*" not in name:
-        return any(path.name == name.rstrip("/") for path in all_paths()) or (TOP / "tests/cases" / name).is_dir()
+        return any(path.name == name.rstrip("/") for path in all_paths()) or any((TOP / "tests/cases" / f"{name}{end}").exists() for end in ("", ".case"))
     folders = [TOP, CRATES, document.parent, TOP / "examples", TOP / "tests/cases"]
     near = [CRATES / crate for crate in here]
     anywhere = [] if in_table and near else [CRATES / crate for crate in crates()]
-    return found(name, folders + near + anywhere)
+    return found(name, folders + near + anywhere) or found(f"{name}.case", [TOP / "tests/cases"])
 
 
 def is_known(name):
@@ -318,8 +319,9 @@ def shown_files(kind, name):
         found = [CRATES / crate / "must-fail" / f"{edit}.edit"]
     elif kind == "script" and f" tests/{name}" in text_of(TOP / "Makefile").partition("\ncheck:")[2]:
         found = [TOP / "tests" / name]
-    elif kind == "case" and (TOP / "tests/cases" / name / "stdout").is_file():
-        found = (TOP / "tests/cases" / name).rglob("*")
+    elif kind == "case" and (TOP / "tests/cases" / f"{name}.case").is_file():
+        case = TOP / "tests/cases" / name
+        found = [TOP / "tests/cases" / f"{name}.case", *case.rglob("*")]
     return [file for file in found if file.is_file()]
 
 

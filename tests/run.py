@@ -1,26 +1,29 @@
 #!/usr/bin/env python3
-"""Runs the end-to-end cases over a built program.
+r"""Runs the end-to-end cases over a built program.
 
 usage: run.py PROGRAM [NAME..]
 
-Each folder below tests/cases that has a file `stdout` is a case. The program runs in a new folder, with
-  stdin    what it reads (no file: nothing)
+Each file NAME.case below tests/cases is a case. It has texts, each below a line `==> NAME <==`; after one without a newline at its
+end comes the line `\ No newline at end of file`. What is no such text lies in a folder beside it, by the same name. The
+program runs in a new folder, with
+  stdin    what it reads (none: nothing)
   args     its arguments, one a line
   command  a shell command to run in its place, where the program is $PROGRAM and examples/ is $EXAMPLES
-  files/   files that lie where it runs
+  files/NAME  a file that lies where it runs
   captures one line for each capture of tests/captures that lies there too: its name (../../examples/NAME for one of
            examples/), a space, its name there
   setup    one shell command a line, run there first
 and must give
   stdout   exactly this
-  stderr   exactly this (no file: nothing)
-  status   this exit status (no file: 0)
+  stderr   exactly this (none: nothing)
+  status   this exit status (none: 0)
 The locale is C. A command that can't do a part of its case writes what it lacks into a file `not_run` there, one a line, and
 gives what the part is to give; each such line is printed.
 The last line is `N passed, M failed`, and how many have a part that wasn't run where there are such.
 """
 
 import os
+import re
 import shutil
 import subprocess
 import sys
@@ -35,37 +38,50 @@ EXAMPLES = CASES.parent.parent / "examples"
 SECONDS = 60
 
 
-def content(path, default=b""):
-    return path.read_bytes() if path.exists() else default
+MARK = re.compile(rb"(?m)^==> (.+) <==\n")
+CUT = b"\n\\ No newline at end of file\n"
+
+
+def parts(case):
+    """The texts of a case by their names."""
+    _, *cut = MARK.split(case.read_bytes())
+    found = {name.decode(): text.removesuffix(CUT) for name, text in zip(cut[::2], cut[1::2])}
+    folder = case.with_suffix("")
+    return found | {str(path.relative_to(folder)): path.read_bytes() for path in folder.rglob("*") if path.is_file()}
 
 
 def tried(case, program):
     """What differs, and what is lacking for a part of the case."""
     environment = {**os.environ, "LC_ALL": "C", "PROGRAM": program, "EXAMPLES": str(EXAMPLES)}
+    case = parts(case)
     with tempfile.TemporaryDirectory() as folder:
-        if (case / "files").is_dir():
-            shutil.copytree(case / "files", folder, dirs_exist_ok=True)
-        for line in content(case / "captures").decode().splitlines():
+        for name, text in case.items():
+            if name.startswith("files/"):
+                path = Path(folder) / name.removeprefix("files/")
+                path.parent.mkdir(parents=True, exist_ok=True)
+                path.write_bytes(text)
+        for line in case.get("captures", b"").decode().splitlines():
             capture, name = line.split(" ", 1)
             shutil.copy(CAPTURES / capture, Path(folder) / name)
-        for command in content(case / "setup").decode().splitlines():
+        for command in case.get("setup", b"").decode().splitlines():
             subprocess.run(command, shell=True, cwd=folder, env=environment, check=True)
-        words = [program, *content(case / "args").decode().splitlines()]
-        if (case / "command").exists():
-            words = ["sh", "-c", content(case / "command").decode()]
+        words = [program, *case.get("args", b"").decode().splitlines()]
+        if "command" in case:
+            words = ["sh", "-c", case["command"].decode()]
         done = subprocess.run(
             words,
-            input=content(case / "stdin"),
+            input=case.get("stdin", b""),
             capture_output=True,
             cwd=folder,
             env=environment,
             timeout=SECONDS,
         )
-        lacking = content(Path(folder) / "not_run").decode().splitlines()
+        not_run = Path(folder) / "not_run"
+        lacking = not_run.read_text().splitlines() if not_run.exists() else []
     wanted = {
-        "stdout": (content(case / "stdout"), done.stdout),
-        "stderr": (content(case / "stderr"), done.stderr),
-        "status": (int(content(case / "status", b"0")), done.returncode),
+        "stdout": (case["stdout"], done.stdout),
+        "stderr": (case.get("stderr", b""), done.stderr),
+        "status": (int(case.get("status", b"0")), done.returncode),
     }
     found = [
         f"{what}: wanted {want!r}, got {got!r}"
@@ -88,7 +104,7 @@ def main():
         sys.exit(__doc__)
     program = str(Path(sys.argv[1]).resolve())
     words = sys.argv[2:]
-    cases = {str(path.parent.relative_to(CASES)): path.parent for path in sorted(CASES.rglob("stdout"))}
+    cases = {str(path.with_suffix("").relative_to(CASES)): path for path in sorted(CASES.rglob("*.case"))}
     chosen = {name: case for name, case in cases.items() if not words or any(word in name for word in words)}
     passed = failed = in_part = 0
     # As many cases at once as there are processors.
