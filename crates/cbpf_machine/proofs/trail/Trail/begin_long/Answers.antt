@@ -1,4 +1,4 @@
-use Rattle.std.proofs.Common.{◌≡◌, ◌+◌, ◌-◌, ◌<◌, ◌∙◌, [], arith, refl, sym, subst}
+use Rattle.std.proofs.Common.{◌≡◌, ◌+◌, ◌-◌, ◌∙◌, [], arith, refl, sym, subst}
 use Rattle.std.proofs.lemmas.Option.{slice_get_within}
 use Rattle.cbpf_machine.specs.Machine.{machine_of}
 use Rattle.cbpf_machine.specs.Trace.{trace, outcome}
@@ -7,14 +7,14 @@ use Rattle.cbpf_machine.proofs.FollowLemmas.{start_taken, start_watched, start_w
 use Rattle.cbpf_machine.proofs.FollowLemmas.{start_end, follows_begun, ends_begun, few_entries}
 use Rattle.cbpf_machine.proofs.trail.Trail.begin_long.Goals as goal
 
-pub returns-then-has-clause-follows : goal.returns-then-has-clause-follows
-returns-then-has-clause-follows g c = start_watched (machine_of c.args.p.now c.args.values.now) c.args.bytes.now
+pub returns-then-pauses_at-clause-follows : goal.returns-then-pauses_at-clause-follows
+returns-then-pauses_at-clause-follows g c = start_watched (machine_of c.args.p.now c.args.values.now) c.args.bytes.now
     c.args.wire
     c.args.watched.now c.zero-first.result c.zero-first.ensures c.len-few.ensures.sound c.args.s.now
-    (sym c.has.ensures ∙ c.if-has.true)
+    (sym c.pauses_at.ensures ∙ c.if-pauses_at.true)
 
-pub returns-then-has-clause-stands : goal.returns-then-has-clause-stands
-returns-then-has-clause-stands g c = λ n e.
+pub returns-then-pauses_at-clause-stands : goal.returns-then-pauses_at-clause-stands
+returns-then-pauses_at-clause-stands g c = λ n e.
     let one : 1 ≡ n = cc in
     subst (λ xs. g.Self.Trail.stands_for c.push.new.self xs) (start_taken (machine_of c.args.p.now c.args.values.now)
     c.args.bytes.now c.args.wire
@@ -25,7 +25,7 @@ pub add-requires : goal.add-requires
 add-requires g c =
     let within = start_within (machine_of c.args.p.now c.args.values.now) c.args.bytes.now c.args.wire
     c.args.watched.now c.zero-first.result c.zero-first.ensures c.len-few.ensures.sound
-    (sym c.has.ensures ∙ c.if-has.false) _ c.pass_some_from_start-turns.ensures.some _ _ _
+    (sym c.pauses_at.ensures ∙ c.if-pauses_at.false) _ c.pass_some_from_start-turns.ensures.some _ _ _
     c.pass_some_from_start-turns.ensures.passes in
     omega (arith, c.requires.spare, within.0)
 
@@ -33,7 +33,7 @@ pub returns-in-Some-clause-follows : goal.returns-in-Some-clause-follows
 returns-in-Some-clause-follows g c =
     let end = start_end (machine_of c.args.p.now c.args.values.now) c.args.bytes.now c.args.wire
     c.args.watched.now c.zero-first.result c.zero-first.ensures c.len-few.ensures.sound
-    (sym c.has.ensures ∙ c.if-has.false) _ c.pass_some_from_start-turns.ensures.some _ _ _
+    (sym c.pauses_at.ensures ∙ c.if-pauses_at.false) _ c.pass_some_from_start-turns.ensures.some _ _ _
     c.pass_some_from_start-turns.ensures.passes _ c.in-Some.is in
     (end.0.0, end.0.1, refl)
 
@@ -41,7 +41,7 @@ pub returns-in-Some-clause-turns : goal.returns-in-Some-clause-turns
 returns-in-Some-clause-turns g c =
     let end = start_end (machine_of c.args.p.now c.args.values.now) c.args.bytes.now c.args.wire
     c.args.watched.now c.zero-first.result c.zero-first.ensures c.len-few.ensures.sound
-    (sym c.has.ensures ∙ c.if-has.false) _ c.pass_some_from_start-turns.ensures.some _ _ _
+    (sym c.pauses_at.ensures ∙ c.if-pauses_at.false) _ c.pass_some_from_start-turns.ensures.some _ _ _
     c.pass_some_from_start-turns.ensures.passes _ c.in-Some.is in
     omega (arith, end.1, c.add.ensures)
 
@@ -49,7 +49,7 @@ pub keep-requires : goal.keep-requires
 keep-requires g c =
     let on = start_came (machine_of c.args.p.now c.args.values.now) c.args.bytes.now c.args.wire
     c.args.watched.now c.zero-first.result c.zero-first.ensures c.len-few.ensures.sound
-    (sym c.has.ensures ∙ c.if-has.false) _ c.pass_some_from_start-turns.ensures.some _ _ _
+    (sym c.pauses_at.ensures ∙ c.if-pauses_at.false) _ c.pass_some_from_start-turns.ensures.some _ _ _
     c.pass_some_from_start-turns.ensures.passes c.in_default.is in
     let one : 1 ≡ g.Self.Trail.kept c.push-2.new.self = g.met.Self.Trail.as_long _ _ (c.push-2.ensures []
     c.requires.empty) in
@@ -70,19 +70,19 @@ keep-requires g c =
       );
     }
 
-pub has-requires-2 : goal.has-requires-2
-has-requires-2 g c =
+pub pauses_at-requires-2 : goal.pauses_at-requires-2
+pauses_at-requires-2 g c =
     let on = start_came (machine_of c.args.p.now c.args.values.now) c.args.bytes.now c.args.wire
     c.args.watched.now c.zero-first.result c.zero-first.ensures c.len-few.ensures.sound
-    (sym c.has.ensures ∙ c.if-has.false) _ c.pass_some_from_start-turns.ensures.some _ _ _
+    (sym c.pauses_at.ensures ∙ c.if-pauses_at.false) _ c.pass_some_from_start-turns.ensures.some _ _ _
     c.pass_some_from_start-turns.ensures.passes c.in_default.is in
-    omega (arith, c.index.ensures, on.1.inside, sound_few c.args.p.now c.len-few.ensures.sound)
+    omega (arith, on.1.inside, sound_few c.args.p.now c.len-few.ensures.sound)
 
 pub overflow_add-result : goal.overflow_add-result
 overflow_add-result g c =
     let within = start_within (machine_of c.args.p.now c.args.values.now) c.args.bytes.now c.args.wire
     c.args.watched.now c.zero-first.result c.zero-first.ensures c.len-few.ensures.sound
-    (sym c.has.ensures ∙ c.if-has.false) _ c.pass_some_from_start-turns.ensures.some _ _ _
+    (sym c.pauses_at.ensures ∙ c.if-pauses_at.false) _ c.pass_some_from_start-turns.ensures.some _ _ _
     c.pass_some_from_start-turns.ensures.passes in
     omega (arith, within.0, within.1)
 
@@ -90,23 +90,23 @@ pub overflow_add-result-in-Watched : goal.overflow_add-result-in-Watched
 overflow_add-result-in-Watched g c =
     let within = start_within (machine_of c.args.p.now c.args.values.now) c.args.bytes.now c.args.wire
     c.args.watched.now c.zero-first.result c.zero-first.ensures c.len-few.ensures.sound
-    (sym c.has.ensures ∙ c.if-has.false) _ c.pass_some_from_start-turns.ensures.some _ _ _
+    (sym c.pauses_at.ensures ∙ c.if-pauses_at.false) _ c.pass_some_from_start-turns.ensures.some _ _ _
     c.pass_some_from_start-turns.ensures.passes in
     omega (arith, within.0, within.1)
 
-pub returns-then-has-2-clause-follows : goal.returns-then-has-2-clause-follows
-returns-then-has-2-clause-follows g c = start_on (machine_of c.args.p.now c.args.values.now) c.args.bytes.now
+pub returns-then-pauses_at-2-clause-follows : goal.returns-then-pauses_at-2-clause-follows
+returns-then-pauses_at-2-clause-follows g c = start_on (machine_of c.args.p.now c.args.values.now) c.args.bytes.now
     c.args.wire
     c.args.watched.now c.zero-first.result c.zero-first.ensures c.len-few.ensures.sound
-    (sym c.has.ensures ∙ c.if-has.false) _ c.pass_some_from_start-turns.ensures.some _ _ _
+    (sym c.pauses_at.ensures ∙ c.if-pauses_at.false) _ c.pass_some_from_start-turns.ensures.some _ _ _
     c.pass_some_from_start-turns.ensures.passes c.in_default.is c.args.s.now
-    (rw (← c.index.ensures) (sym c.has-2.ensures ∙ c.if-has-2.true))
+    (sym c.pauses_at-2.ensures ∙ c.if-pauses_at-2.true)
 
-pub returns-then-has-2-clause-stands : goal.returns-then-has-2-clause-stands
-returns-then-has-2-clause-stands g c = λ n e.
+pub returns-then-pauses_at-2-clause-stands : goal.returns-then-pauses_at-2-clause-stands
+returns-then-pauses_at-2-clause-stands g c = λ n e.
     let on = start_came (machine_of c.args.p.now c.args.values.now) c.args.bytes.now c.args.wire
     c.args.watched.now c.zero-first.result c.zero-first.ensures c.len-few.ensures.sound
-    (sym c.has.ensures ∙ c.if-has.false) _ c.pass_some_from_start-turns.ensures.some _ _ _
+    (sym c.pauses_at.ensures ∙ c.if-pauses_at.false) _ c.pass_some_from_start-turns.ensures.some _ _ _
     c.pass_some_from_start-turns.ensures.passes c.in_default.is in
     let pushed = c.push-2.ensures [] c.requires.empty in
     let one : 1 ≡ g.Self.Trail.kept c.push-2.new.self = g.met.Self.Trail.as_long _ _ pushed in
@@ -126,7 +126,7 @@ pub follow-requires : goal.follow-requires
 follow-requires g c =
     let on = start_came (machine_of c.args.p.now c.args.values.now) c.args.bytes.now c.args.wire
     c.args.watched.now c.zero-first.result c.zero-first.ensures c.len-few.ensures.sound
-    (sym c.has.ensures ∙ c.if-has.false) _ c.pass_some_from_start-turns.ensures.some _ _ _
+    (sym c.pauses_at.ensures ∙ c.if-pauses_at.false) _ c.pass_some_from_start-turns.ensures.some _ _ _
     c.pass_some_from_start-turns.ensures.passes c.in_default.is in
     let pushed = c.push-2.ensures [] c.requires.empty in
     let one : 1 ≡ g.Self.Trail.kept c.push-2.new.self = g.met.Self.Trail.as_long _ _ pushed in
@@ -150,7 +150,7 @@ pub overflow_add-result-in-Watched-2 : goal.overflow_add-result-in-Watched-2
 overflow_add-result-in-Watched-2 g c =
     let on = start_came (machine_of c.args.p.now c.args.values.now) c.args.bytes.now c.args.wire
     c.args.watched.now c.zero-first.result c.zero-first.ensures c.len-few.ensures.sound
-    (sym c.has.ensures ∙ c.if-has.false) _ c.pass_some_from_start-turns.ensures.some _ _ _
+    (sym c.pauses_at.ensures ∙ c.if-pauses_at.false) _ c.pass_some_from_start-turns.ensures.some _ _ _
     c.pass_some_from_start-turns.ensures.passes c.in_default.is in
     let pushed = c.push-2.ensures [] c.requires.empty in
     let one : 1 ≡ g.Self.Trail.kept c.push-2.new.self = g.met.Self.Trail.as_long _ _ pushed in
@@ -176,7 +176,7 @@ pub returns-in-Watched-clause-follows : goal.returns-in-Watched-clause-follows
 returns-in-Watched-clause-follows g c =
     let on = start_came (machine_of c.args.p.now c.args.values.now) c.args.bytes.now c.args.wire
     c.args.watched.now c.zero-first.result c.zero-first.ensures c.len-few.ensures.sound
-    (sym c.has.ensures ∙ c.if-has.false) _ c.pass_some_from_start-turns.ensures.some _ _ _
+    (sym c.pauses_at.ensures ∙ c.if-pauses_at.false) _ c.pass_some_from_start-turns.ensures.some _ _ _
     c.pass_some_from_start-turns.ensures.passes c.in_default.is in
     let pushed = c.push-2.ensures [] c.requires.empty in
     let one : 1 ≡ g.Self.Trail.kept c.push-2.new.self = g.met.Self.Trail.as_long _ _ pushed in
@@ -199,13 +199,13 @@ returns-in-Watched-clause-follows g c =
       one,
       kept.1,
     )) (rw now at on.0) (rw now at on.2)
-    (rw (← c.index.ensures) (sym c.has-2.ensures ∙ c.if-has-2.false)) c.in-Watched.ensures.follows)
+    (sym c.pauses_at-2.ensures ∙ c.if-pauses_at-2.false) c.in-Watched.ensures.follows)
 
 pub returns-in-Watched-clause-stands : goal.returns-in-Watched-clause-stands
 returns-in-Watched-clause-stands g c = λ n e.
     let on = start_came (machine_of c.args.p.now c.args.values.now) c.args.bytes.now c.args.wire
     c.args.watched.now c.zero-first.result c.zero-first.ensures c.len-few.ensures.sound
-    (sym c.has.ensures ∙ c.if-has.false) _ c.pass_some_from_start-turns.ensures.some _ _ _
+    (sym c.pauses_at.ensures ∙ c.if-pauses_at.false) _ c.pass_some_from_start-turns.ensures.some _ _ _
     c.pass_some_from_start-turns.ensures.passes c.in_default.is in
     let pushed = c.push-2.ensures [] c.requires.empty in
     let one : 1 ≡ g.Self.Trail.kept c.push-2.new.self = g.met.Self.Trail.as_long _ _ pushed in
@@ -227,7 +227,7 @@ pub returns-in-Ended-clause-follows : goal.returns-in-Ended-clause-follows
 returns-in-Ended-clause-follows g c =
     let on = start_came (machine_of c.args.p.now c.args.values.now) c.args.bytes.now c.args.wire
     c.args.watched.now c.zero-first.result c.zero-first.ensures c.len-few.ensures.sound
-    (sym c.has.ensures ∙ c.if-has.false) _ c.pass_some_from_start-turns.ensures.some _ _ _
+    (sym c.pauses_at.ensures ∙ c.if-pauses_at.false) _ c.pass_some_from_start-turns.ensures.some _ _ _
     c.pass_some_from_start-turns.ensures.passes c.in_default.is in
     let pushed = c.push-2.ensures [] c.requires.empty in
     let one : 1 ≡ g.Self.Trail.kept c.push-2.new.self = g.met.Self.Trail.as_long _ _ pushed in
@@ -241,13 +241,13 @@ returns-in-Ended-clause-follows g c =
     let now : c.pass_some_from_start-turns.result.0 ≡ g.Self.Trail.kept c.keep.new.self - 1 =
     omega (arith, one, kept.1) in
     ends_begun _ _ _ _ _ _ _ _ (omega (arith, one, kept.1)) (rw now at on.0) (rw now at on.2)
-    (rw (← c.index.ensures) (sym c.has-2.ensures ∙ c.if-has-2.false)) c.in-Ended.ensures.follows
+    (sym c.pauses_at-2.ensures ∙ c.if-pauses_at-2.false) c.in-Ended.ensures.follows
 
 pub returns-in-Ended-clause-turns : goal.returns-in-Ended-clause-turns
 returns-in-Ended-clause-turns g c =
     let on = start_came (machine_of c.args.p.now c.args.values.now) c.args.bytes.now c.args.wire
     c.args.watched.now c.zero-first.result c.zero-first.ensures c.len-few.ensures.sound
-    (sym c.has.ensures ∙ c.if-has.false) _ c.pass_some_from_start-turns.ensures.some _ _ _
+    (sym c.pauses_at.ensures ∙ c.if-pauses_at.false) _ c.pass_some_from_start-turns.ensures.some _ _ _
     c.pass_some_from_start-turns.ensures.passes c.in_default.is in
     let pushed = c.push-2.ensures [] c.requires.empty in
     let one : 1 ≡ g.Self.Trail.kept c.push-2.new.self = g.met.Self.Trail.as_long _ _ pushed in

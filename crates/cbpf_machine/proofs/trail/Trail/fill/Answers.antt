@@ -1,6 +1,5 @@
-use Rattle.std.proofs.Common.{◌≡◌, ◌+◌, ◌-◌, ◌≤◌, [], ◌∷◌, arith, refl, sym, subst}
+use Rattle.std.proofs.Common.{◌≡◌, [], arith, refl, sym, subst}
 use Rattle.cbpf_machine.specs.Machine.{machine_of}
-use Rattle.cbpf_machine.specs.Trace.{trace}
 use Rattle.cbpf_machine.proofs.TraceLemmas.{goes_at}
 use Rattle.cbpf_machine.proofs.FollowLemmas.{unwatched_none, came, ended, came_within, start_goes, start_taken}
 use Rattle.cbpf_machine.proofs.trail.Trail.fill.Goals as goal

@@ -89,15 +89,15 @@ overflow_add-made g c =
     c.follow.invariant.unwatched (c.pass_some-turns.ensures.passes _ _ c.follow.invariant.here) in
     omega (arith, within.0, within.1, c.requires.from_one, c.follow.invariant.kept)
 
-pub has-requires : goal.has-requires
-has-requires g c =
+pub pauses_at-requires : goal.pauses_at-requires
+pauses_at-requires g c =
     let on = came _ _ _ _ _ _ _ _ _ _ c.follow.invariant.sound c.follow.invariant.from_one
     c.pass_some-turns.ensures.some
     c.follow.invariant.unwatched (c.pass_some-turns.ensures.passes _ _ c.follow.invariant.here) c.in_default.is in
-    omega (arith, c.index.ensures, on.1.inside, sound_few c.args.p.now c.follow.invariant.sound)
+    omega (arith, on.1.inside, sound_few c.args.p.now c.follow.invariant.sound)
 
-pub returns-then-has-clause-follows : goal.returns-then-has-clause-follows
-returns-then-has-clause-follows g c =
+pub returns-then-pauses_at-clause-follows : goal.returns-then-pauses_at-clause-follows
+returns-then-pauses_at-clause-follows g c =
     let on = came _ _ _ _ _ _ _ _ _ _ c.follow.invariant.sound c.follow.invariant.from_one
     c.pass_some-turns.ensures.some
     c.follow.invariant.unwatched (c.pass_some-turns.ensures.passes _ _ c.follow.invariant.here) c.in_default.is in
@@ -105,10 +105,10 @@ returns-then-has-clause-follows g c =
     let to : g.Self.Trail.kept c.follow.self + c.pass_some-turns.result.0 - 1
     ≡ g.Self.Trail.kept c.args.self.now + (c.follow.made + c.pass_some-turns.result.0) - 1 =
     omega (arith, c.follow.invariant.kept) in
-    (omega (arith, some), rw to at on.0, rw to at on.2, rw (← c.index.ensures) (sym c.has.ensures ∙ c.if-has.true))
+    (omega (arith, some), rw to at on.0, rw to at on.2, sym c.pauses_at.ensures ∙ c.if-pauses_at.true)
 
-pub returns-then-has-clause-stands : goal.returns-then-has-clause-stands
-returns-then-has-clause-stands g c =
+pub returns-then-pauses_at-clause-stands : goal.returns-then-pauses_at-clause-stands
+returns-then-pauses_at-clause-stands g c =
     let on = came _ _ _ _ _ _ _ _ _ _ c.follow.invariant.sound c.follow.invariant.from_one
     c.pass_some-turns.ensures.some
     c.follow.invariant.unwatched (c.pass_some-turns.ensures.passes _ _ c.follow.invariant.here) c.in_default.is in
@@ -125,7 +125,7 @@ follow-preserved g c =
     let kept = c.keep.ensures.stands _ on.2 c.follow.invariant.stands in
     let some = c.pass_some-turns.ensures.some in
     let quiet : is_watched c.args.watched.now c.pass_some-turns.new.s ≡ false =
-    rw (← c.index.ensures) (sym c.has.ensures ∙ c.if-has.false) in
+    sym c.pauses_at.ensures ∙ c.if-pauses_at.false in
     let all : g.Self.Trail.kept c.follow.self + c.pass_some-turns.result.0 - 1 + 1
     ≡ g.Self.Trail.kept c.keep.new.self = omega (arith, some, kept.1) in
     record {
