@@ -1,14 +1,41 @@
--- Breakpoints that change at one instruction.
+-- The hits at an instruction, and breakpoints that change at one.
 use Rattle.std.proofs.Common.{◌≡◌, ℕ, List, Bool, true, false, refl, ap, arith, inl, inr}
-use Rattle.std.specs.Prelude.{Option, Some, nat_eq, ◌⊎◌}
+use Rattle.std.proofs.Common.{◌∙◌}
+use Rattle.std.specs.Prelude.{Option, Some, nat_eq, ◌⊎◌, ◌||◌}
 use Rattle.std.specs.Option.{option_map_or}
 use Rattle.std.specs.Map.{lookup}
 use Rattle.std.proofs.lemmas.Bool.Decides.{nat_tests}
 use Rattle.cbpf_code.specs.declared.insn.Insn.{Insn}
 use Rattle.cbpf_machine.specs.Values.{Values}
-use Rattle.cbpf_machine.specs.Machine.{machine_of}
-use Rattle.cbpf_dbg.specs.Breakpoints.{Breakpoints, holds}
-use Rattle.cbpf_dbg.specs.Session.{IsSameBut, IsKnown, Watches}
+use Rattle.cbpf_machine.specs.declared.watched.Watch.{Watch}
+use Rattle.cbpf_machine.specs.Registers.{Registers}
+use Rattle.cbpf_machine.specs.Machine.{Machine, machine_of}
+use Rattle.cbpf_machine.specs.Step.{turn}
+use Rattle.cbpf_reply.specs.declared.breakpoints.When.{When}
+use Rattle.cbpf_dbg.specs.Breakpoints.{Breakpoints, carries, holds}
+use Rattle.cbpf_dbg.specs.Joined.{is_unknown}
+use Rattle.cbpf_dbg.specs.Session.{IsSameBut, IsKnown, Watches, hits}
+
+-- where an extension without a value is asked for each entry is a hit, and else those at a breakpoint
+or_true : (b : Bool) → (b || true) ≡ true
+or_true true = refl
+or_true false = refl
+
+or_false : (b : Bool) → (b || false) ≡ b
+or_false true = refl
+or_false false = refl
+
+pub hits_unknown : (machine : Machine) (breakpoints : Breakpoints) (bytes : List ℕ) (wire : ℕ) (s : Registers)
+    → is_unknown (turn machine bytes wire s) ≡ true → hits machine breakpoints bytes wire s ≡ true
+hits_unknown machine breakpoints bytes wire s unknown = rw unknown (or_true (carries breakpoints s))
+
+pub hits_carried : (machine : Machine) (breakpoints : Breakpoints) (bytes : List ℕ) (wire : ℕ) (s : Registers) (i : ℕ)
+    (found : Option When) → is_unknown (turn machine bytes wire s) ≡ false → s.pc ≡ i
+    → lookup (nat_eq i) breakpoints ≡ found
+    → hits machine breakpoints bytes wire s ≡ option_map_or (λ when. holds when s) found false
+hits_carried machine breakpoints bytes wire s i found known here is =
+    let at : lookup (nat_eq s.pc) breakpoints ≡ found = rw here is in
+    rw known (or_false (carries breakpoints s)) ∙ ap (λ o. option_map_or (λ when. holds when s) o false) at
 
 differs : (i p : ℕ) → (p ≡ i → ⊥) → nat_eq i p ≡ false
 differs i p h = grind (arith, nat_tests)
@@ -27,7 +54,7 @@ same_or_other p i = by_test (nat_eq p i) refl
     by_test false e = inr (λ q. grind (arith, nat_tests))
 
 -- what is known of a program stays known where its breakpoints change at one instruction
-pub known-at : (silent : Bool) (old new : List Bool) (program : Option (List Insn)) (list : List Insn)
+pub known-at : (silent : Bool) (old new : List Watch) (program : Option (List Insn)) (list : List Insn)
     (values : Values) (before after : Breakpoints) → program ≡ Some list → IsKnown silent old program values before
     → (Watches old (machine_of list values) before → Watches new (machine_of list values) after)
     → IsKnown silent new program values after

@@ -1,12 +1,13 @@
--- Moves to the next entry at an instruction that is watched.
+-- Moves to the next hit.
 use Rattle.std.proofs.Common.{◌≡◌, ℕ, ◌+◌, ◌-◌, ◌≤◌, List, length, drop, take, arith, sym, ap, subst, ◌∙◌, refl, inl}
 use Rattle.std.proofs.Common.{inr, length-append, length-drop, length-take}
-use Rattle.std.specs.Prelude.{Bool, Some, slice_get, min}
+use Rattle.std.specs.Prelude.{Some, slice_get, min}
 use Rattle.std.proofs.lemmas.Bool.{cases_lt}
 use Rattle.std.proofs.lemmas.Option.{slice_get_within}
 use Rattle.cbpf_machine.specs.Machine.{Machine}
 use Rattle.cbpf_machine.specs.Registers.{Registers, zero_state}
 use Rattle.cbpf_machine.specs.declared.outcome.Outcome.{Outcome}
+use Rattle.cbpf_machine.specs.declared.watched.Watch.{Watch}
 use Rattle.cbpf_machine.specs.declared.follow.Followed.{Followed}
 use Rattle.cbpf_machine.specs.declared.follow.Followed.TheVariants.{Watched, Ended}
 use Rattle.cbpf_machine.specs.Trace.{trace, outcome}
@@ -20,8 +21,8 @@ use Rattle.cbpf_dbg.specs.declared.cursor.Moved.TheVariants as moved
 use Rattle.cbpf_dbg.specs.Breakpoints.{Breakpoints}
 use Rattle.cbpf_dbg.specs.Joined.{ahead, entries_from, joined_from}
 use Rattle.cbpf_dbg.specs.Session.{Watches}
-use Rattle.cbpf_dbg.specs.Cursor.{Stands, NotBefore, PassesOn, followed, moved_by, owed, passed}
-use Rattle.cbpf_dbg.proofs.JoinedLemmas.{place_at, ahead-in, ahead-entry, ahead-leave, rest-same}
+use Rattle.cbpf_dbg.specs.Cursor.{Stands, NotBefore, PassesTo, entry_here, followed, moved_by, owed, passed}
+use Rattle.cbpf_dbg.proofs.JoinedLemmas.{place_at, ahead-in, ahead-entry, ahead-leave, rest-hit, rest-same}
 use Rattle.cbpf_dbg.proofs.TurnLemmas.{length_entries}
 use Rattle.cbpf_dbg.proofs.KeepLemmas.{entry_at_place}
 use Rattle.cbpf_dbg.proofs.QuietLemmas.{NoHits, entries-passed, stands-passed}
@@ -30,14 +31,13 @@ use Rattle.cbpf_dbg.proofs.QuietLemmas.{NoHits, entries-passed, stands-passed}
 abbrev pub moved_on : Cursor → ℕ → Registers → Cursor
 moved_on w n s = followed (record w { state = s }) (Watched n)
 
--- what a move to the next entry at an instruction that is watched, or out of the packet,
--- leaves of the cursor and the meter
+-- what a move to the next hit, or out of the packet, leaves of the cursor and the meter
 pub record Leaves (machine : Machine) (capture : List Record) (breakpoints : Breakpoints) (r : Record) (w : Cursor)
     (m : Moved) (v : Cursor) (before after : ℕ) : Type 0 where
   pub stands : Stands machine capture v
   pub origin : v.origin ≡ w.origin
   pub order : NotBefore v.place w.place
-  pub passes : PassesOn machine capture breakpoints r w m v
+  pub passes : PassesTo machine capture breakpoints r w m v
   pub spent : after + owed machine capture v.place ≡ before + owed machine capture w.place
 
 module _ (machine : Machine) (capture : List Record) (w : Cursor) (r : Record) (h : Stands machine capture w)
@@ -86,13 +86,13 @@ module _ (machine : Machine) (capture : List Record) (w : Cursor) (r : Record) (
   pub room : length xs + min w.place.step 1 ≤ owed machine capture w.place + w.place.step
   room = omega (arith, ahead_long w.place.step step_within)
 
-  module _ (breakpoints : Breakpoints) (watched : List Bool) (watches : Watches watched machine breakpoints) where
+  module _ (breakpoints : Breakpoints) (watched : List Watch) (watches : Watches watched machine breakpoints) where
     no_hits : (m : ℕ) → Unwatched watched xs w.place.step m
         → NoHits machine capture breakpoints w.place.packet r from_one at w.place.step m
     no_hits m unwatched = λ i s from to there.
-        watches s
-        (goes_from_entry machine r.bytes r.wire i zero_state s h.sound (sound_some machine.list h.sound) there).inside
-        (unwatched i s from to there) r.bytes r.wire
+        sym (watches r.bytes r.wire s
+        (goes_from_entry machine r.bytes r.wire i zero_state s h.sound (sound_some machine.list h.sound) there).inside)
+        ∙ unwatched i s from to there
 
     on_stands : (n : ℕ) (s : Registers)
         → Follows watched xs (outcome machine r.bytes r.wire) w.place.step w.state s (Watched n)
@@ -109,7 +109,7 @@ module _ (machine : Machine) (capture : List Record) (w : Cursor) (r : Record) (
 
     on_passes : (n : ℕ) (s : Registers)
         → Follows watched xs (outcome machine r.bytes r.wire) w.place.step w.state s (Watched n)
-        → PassesOn machine capture breakpoints r w moved.Entry (moved_on w n s)
+        → PassesTo machine capture breakpoints r w moved.Entry (moved_on w n s)
     on_passes n s f =
         let some = f.0 in
         let m : ℕ = w.place.step + n - 1 in
@@ -118,7 +118,12 @@ module _ (machine : Machine) (capture : List Record) (w : Cursor) (r : Record) (
         let same = entries-passed machine capture breakpoints w.place.packet r from_one at w.place.step (n - 1) m
         (omega arith) (omega (arith, within)) (no_hits m f.1) in
         let first = ahead-entry machine capture w.place.packet m r s from_one at f.2 in
-        (record w { place = place_at w.place.packet m }, refl, sym same.0, rw next at first, omega (arith, some))
+        let inside =
+        (goes_from_entry machine r.bytes r.wire m zero_state s h.sound (sound_some machine.list h.sound) f.2).inside in
+        let hit = rest-hit machine capture breakpoints (place_at w.place.packet m)
+        (place_at w.place.packet (w.place.step + n)) (entry_here machine r (moved_on w n s)) (rw next at first)
+        (sym (watches r.bytes r.wire s inside) ∙ f.3) in
+        (refl, omega (arith, some), same.0 ∙ hit)
 
     on_owed : (n : ℕ) (s : Registers)
         → Follows watched xs (outcome machine r.bytes r.wire) w.place.step w.state s (Watched n)
@@ -134,7 +139,7 @@ module _ (machine : Machine) (capture : List Record) (w : Cursor) (r : Record) (
         )
 
     end_passes : (o : Outcome) → Unwatched watched xs w.place.step (length xs)
-        → PassesOn machine capture breakpoints r w moved.Packet (passed w o)
+        → PassesTo machine capture breakpoints r w moved.Packet (passed w o)
     end_passes o unwatched =
         let n : ℕ = length xs - w.place.step in
         let same = entries-passed machine capture breakpoints w.place.packet r from_one at w.place.step n (length xs)

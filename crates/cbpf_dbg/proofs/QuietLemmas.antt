@@ -1,26 +1,23 @@
 -- Packets of which no entry is a hit.
-use Rattle.std.proofs.Common.{◌≡◌, ℕ, zero, suc, ◌+◌, ◌-◌, ◌<◌, ◌≤◌, List, [], length, arith, sym, ap, ◌∙◌, refl, inl}
+use Rattle.std.proofs.Common.{◌≡◌, ℕ, zero, suc, ◌+◌, ◌-◌, ◌<◌, ◌≤◌, List, [], length, arith, ap, ◌∙◌, refl, inl}
 use Rattle.std.proofs.Common.{inr}
-use Rattle.std.specs.Prelude.{Some, None, slice_get}
+use Rattle.std.specs.Prelude.{Some, false, slice_get}
 use Rattle.std.proofs.lemmas.Option.{slice_get_cases, slice_get_within}
 use Rattle.cbpf_machine.specs.Machine.{Machine}
 use Rattle.cbpf_code.specs.Sound.{IsSound}
 use Rattle.cbpf_machine.specs.Registers.{Registers, zero_state}
-use Rattle.cbpf_machine.specs.Step.{turn, asked}
 use Rattle.cbpf_machine.specs.Trace.{trace, outcome}
 use Rattle.cbpf_machine.proofs.TraceLemmas.{goes_from_entry}
 use Rattle.cbpf_machine.proofs.SoundLemmas.{sound_some}
 use Rattle.pcap_classic.specs.Records.{Record}
 use Rattle.cbpf_dbg.specs.declared.cursor.Cursor.{Cursor}
 use Rattle.cbpf_dbg.specs.Joined.{ahead, rest}
-use Rattle.cbpf_dbg.specs.Hits.{hit_for}
-use Rattle.cbpf_dbg.specs.Session.{IsQuiet}
+use Rattle.cbpf_dbg.specs.Session.{IsQuiet, hits}
 use Rattle.cbpf_dbg.specs.Cursor.{Stands, passed}
 use Rattle.cbpf_dbg.proofs.AskedLemmas.{quiet_hit}
 use Rattle.cbpf_dbg.proofs.CountLemmas.{counts-more}
 use Rattle.cbpf_dbg.proofs.JoinedLemmas.{place_at, entry, ahead-entry, ahead-leave, rest-pass, rest-same}
-use Rattle.cbpf_dbg.proofs.RunLemmas.{hit_none}
-use Rattle.cbpf_dbg.specs.Breakpoints.{Breakpoints, carries}
+use Rattle.cbpf_dbg.specs.Breakpoints.{Breakpoints}
 
 there : {X : Type 0} (xs : List X) (i : ℕ) → i < length xs → (x : X) × (slice_get xs i ≡ Some x)
 there xs i h = elim (slice_get_cases xs i).1 [ inl found ↦ (found.0, found.2) | inr past ↦ absurd (omega arith) ]
@@ -30,7 +27,7 @@ module _ (machine : Machine) (capture : List Record) (breakpoints : Breakpoints)
   -- none of the entries of a packet from one place of its trace up to another is a hit
   abbrev pub NoHits : ℕ → ℕ → Type 0
   NoHits k m = (i : ℕ) (s : Registers) → k ≤ i → i < m → slice_get (trace machine r.bytes r.wire) i ≡ Some s
-      → hit_for (carries breakpoints s) (asked (turn machine r.bytes r.wire s)) ≡ None
+      → hits machine breakpoints r.bytes r.wire s ≡ false
 
   -- n entries from a step on that are no hits are passed
   pub entries-passed : (k n m : ℕ) → k + n ≡ m → m ≤ length (trace machine r.bytes r.wire) → NoHits k m
@@ -42,10 +39,8 @@ module _ (machine : Machine) (capture : List Record) (breakpoints : Breakpoints)
   entries-passed k (suc n) m e within none =
       let s = there (trace machine r.bytes r.wire) k (omega arith) in
       let first = ahead-entry machine capture p k r s.0 from_one at s.1 in
-      let no = hit_none (carries breakpoints s.0) (turn machine r.bytes r.wire s.0)
-      (none k s.0 (omega arith) (omega arith) s.1) in
       let same = rest-pass machine capture breakpoints (place_at p k) (place_at p (k + 1))
-      (entry machine r p (k + 1) s.0) first no in
+      (entry machine r p (k + 1) s.0) first (none k s.0 (omega arith) (omega arith) s.1) in
       let more =
       entries-passed (k + 1) n m (omega arith) within (λ i t from to there_. none i t (omega arith) to there_) in
       (same ∙ more.0, omega (arith, ap length first, more.1))
@@ -60,8 +55,8 @@ module _ (machine : Machine) (capture : List Record) (p : ℕ) (r : Record) (sou
   packet-quiet k e =
       let m : ℕ = length (trace machine r.bytes r.wire) in
       let none : NoHits machine capture [] p r from_one at k m = λ i s from to there_.
-      sym (quiet_hit machine [] r.bytes r.wire s (goes_from_entry machine r.bytes r.wire i zero_state s sound
-      (sound_some machine.list sound) there_).inside quiet) in
+      quiet_hit machine [] r.bytes r.wire s (goes_from_entry machine r.bytes r.wire i zero_state s sound
+      (sound_some machine.list sound) there_).inside quiet in
       let all = entries-passed machine capture [] p r from_one at k m m (omega arith) (omega arith) none in
       let leave = ahead-leave machine capture p m r from_one at (omega arith) in (
         all.0 ∙ rest-same machine capture [] (place_at p m) (place_at (p + 1) 0) leave,

@@ -1,28 +1,23 @@
 -- What a run answers where it ends.
 use Rattle.std.proofs.Common.{◌≡◌, ℕ, zero, suc, ◌+◌, ◌-◌, ◌<◌, ◌≤◌, List, [], ◌∷◌, ◌++◌, length, Bool, true, false}
 use Rattle.std.proofs.Common.{arith, sym, ap, ◌∙◌, refl, inl, inr, cond}
-use Rattle.std.specs.Prelude.{Option, Some, None, slice_get, filter, ◌||◌, nat_lt, nat_le, ◌≢◌}
+use Rattle.std.specs.Prelude.{Option, Some, None, slice_get, filter, nat_lt, nat_le, ◌≢◌}
 use Rattle.std.proofs.lemmas.Bool.Decides.{nat_tests}
 use Rattle.cbpf_machine.specs.Machine.{Machine}
-use Rattle.cbpf_machine.specs.declared.outcome.Turn.{Turn}
-use Rattle.cbpf_machine.specs.declared.outcome.Turn.TheVariants.{Next, Returned, Outside, ZeroDivisor, Unknown}
-use Rattle.cbpf_machine.specs.Step.{turn, asked}
 use Rattle.pcap_classic.specs.Records.{Record}
 use Rattle.pcap_classic.specs.Savefile.{Savefile}
 use Rattle.cbpf_reply.specs.declared.reply.Place.{Place}
 use Rattle.cbpf_reply.specs.declared.reply.Stop.{Stop}
-use Rattle.cbpf_reply.specs.declared.reply.Why.{Why}
 use Rattle.cbpf_reply.specs.declared.reply.Why.TheVariants as why
 use Rattle.cbpf_reply.specs.declared.reply.RunReply.TheVariants.{Stopped, Limit, Finished}
 use Rattle.cbpf_reply.specs.Places.{is_after}
 use Rattle.cbpf_dbg.specs.declared.cursor.Cursor.{Cursor}
-use Rattle.cbpf_dbg.specs.Joined.{ahead, rest, counts, stop_at, why_of, is_unknown, stops}
-use Rattle.cbpf_dbg.specs.Hits.{hit_for}
+use Rattle.cbpf_dbg.specs.Joined.{ahead, rest, counts, stop_at, stops}
 use Rattle.cbpf_dbg.specs.View.{View, start}
 use Rattle.cbpf_dbg.specs.Commands.{run_to, run_out, within_limit, finished, limited}
 use Rattle.cbpf_dbg.specs.Cursor.{Stands, view_at, entry_here, Runs, StepsOn, Below, UpTo, NotBefore, is_limit}
-use Rattle.cbpf_dbg.proofs.JoinedLemmas.{rest-hit, rest-none}
-use Rattle.cbpf_dbg.specs.Breakpoints.{Breakpoints, carries}
+use Rattle.cbpf_dbg.proofs.JoinedLemmas.{rest-none}
+use Rattle.cbpf_dbg.specs.Breakpoints.{Breakpoints}
 
 -- ---- the limit
 
@@ -72,44 +67,6 @@ within_below : (limit : Option ℕ) (first packet count : ℕ) → Below limit f
 within_below None first packet count h here forward = refl
 within_below (Some n) first packet count h here forward =
     elim h.1 [ inl below ↦ grind (arith, nat_tests) | inr past ↦ absurd (omega arith) ]
-
--- ---- hits
-
-pub hit_some : (b : Bool) (t : Turn) (y : Why) → hit_for b (asked t) ≡ Some y
-    → (y ≡ why_of why.Break t) × ((b || is_unknown t) ≡ true)
-hit_some true (Next s) y h = (cc, refl)
-hit_some false (Next s) y h = absurd cc
-hit_some true (Returned v) y h = (cc, refl)
-hit_some false (Returned v) y h = absurd cc
-hit_some true Outside y h = (cc, refl)
-hit_some false Outside y h = absurd cc
-hit_some true ZeroDivisor y h = (cc, refl)
-hit_some false ZeroDivisor y h = absurd cc
-hit_some true (Unknown e) y h = (cc, refl)
-hit_some false (Unknown e) y h = (cc, refl)
-
-pub hit_none : (b : Bool) (t : Turn) → hit_for b (asked t) ≡ None → (b || is_unknown t) ≡ false
-hit_none true (Next s) h = absurd cc
-hit_none false (Next s) h = refl
-hit_none true (Returned v) h = absurd cc
-hit_none false (Returned v) h = refl
-hit_none true Outside h = absurd cc
-hit_none false Outside h = refl
-hit_none true ZeroDivisor h = absurd cc
-hit_none false ZeroDivisor h = refl
-hit_none true (Unknown e) h = absurd cc
-hit_none false (Unknown e) h = absurd cc
-
--- a hit is the first that is ahead
-pub stop_front : (machine : Machine) (capture : List Record) (breakpoints : Breakpoints) (w1 w2 : Cursor)
-    (r : Record) (y : Why)
-    → ahead machine capture w1.place ≡ entry_here machine r w2 ∷ ahead machine capture w2.place
-    → hit_for (carries breakpoints w2.state) (asked (turn machine r.bytes r.wire w2.state)) ≡ Some y
-    → rest machine capture breakpoints w1.place
-    ≡ (record { place = w2.place; state = w2.state; why = y }) ∷ rest machine capture breakpoints w2.place
-stop_front machine capture breakpoints w1 w2 r y h hit =
-    let yes = hit_some (carries breakpoints w2.state) (turn machine r.bytes r.wire w2.state) y hit in
-    rw yes.0 (rest-hit machine capture breakpoints w1.place w2.place (entry_here machine r w2) h yes.1)
 
 -- ---- the three ends
 
@@ -176,19 +133,14 @@ module _ (machine : Machine) (c : Savefile) (breakpoints : Breakpoints) (limit :
   abbrev pub view0 : View
   view0 = view_at machine c breakpoints w0
 
-  pub run_stopped : (w1 w2 : Cursor) (r : Record) (y : Why) → hits w1.place ≡ hits w0.place → w2.origin ≡ w0.origin
-      → ahead machine c.records w1.place ≡ entry_here machine r w2 ∷ ahead machine c.records w2.place
-      → hit_for (carries breakpoints w2.state) (asked (turn machine r.bytes r.wire w2.state)) ≡ Some y
+  pub run_stopped : (w2 : Cursor) (r : Record) (stop : Stop) → stop ≡ stop_at why.Break (entry_here machine r w2)
+      → hits w0.place ≡ stop_at why.Break (entry_here machine r w2) ∷ hits w2.place → w2.origin ≡ w0.origin
       → Below limit w0.place.packet w2.place.packet (length c.records) → w2.place.packet ≤ length c.records
-      → w0.place.packet ≤ w2.place.packet
-      → Runs machine c breakpoints w0 w2 limit (Stopped (record { place = w2.place; state = w2.state; why = y }))
-  run_stopped w1 w2 r y same origin h hit below here forward =
-      let yes = hit_some (carries breakpoints w2.state) (turn machine r.bytes r.wire w2.state) y hit in
-      let front : hits w0.place ≡ stop_at why.Break (entry_here machine r w2) ∷ hits w2.place =
-      sym same ∙ rest-hit machine c.records breakpoints w1.place w2.place (entry_here machine r w2) h yes.1 in
+      → w0.place.packet ≤ w2.place.packet → Runs machine c breakpoints w0 w2 limit (Stopped stop)
+  run_stopped w2 r stop is front origin below here forward =
       let inside = within_below limit w0.place.packet w2.place.packet (length c.records) below here forward in
       record {
-        reply_is = rw (front, inside, yes.0) refl;
+        reply_is = rw (front, inside, is) refl;
         place_is = rw (front, inside) refl;
         origin_is = rw (front, inside) origin;
       }
@@ -264,13 +216,13 @@ slice_get-past (x ∷ xs) ys k n e more =
     ∙ ap (λ m. slice_get ys m) j
 
 module _ (machine : Machine) (c : Savefile) (breakpoints : Breakpoints) (n : ℕ) (w0 : Cursor) where
-  pub step_stopped : (w2 : Cursor) (r : Record) (y : Why)
+  pub step_stopped : (w2 : Cursor) (r : Record) (stop : Stop)
       → slice_get (ahead machine c.records w0.place) (n - 1) ≡ Some (entry_here machine r w2)
-      → y ≡ why_of why.Step (turn machine r.bytes r.wire w2.state) → w2.origin ≡ w0.origin
-      → StepsOn machine c breakpoints w0 w2 n (Stopped (record { place = w2.place; state = w2.state; why = y }))
-  step_stopped w2 r y sought reason origin =
+      → stop ≡ stop_at why.Step (entry_here machine r w2) → w2.origin ≡ w0.origin
+      → StepsOn machine c breakpoints w0 w2 n (Stopped stop)
+  step_stopped w2 r stop sought is origin =
       record {
-        reply_is = rw (sought, reason) refl;
+        reply_is = rw (sought, is) refl;
         place_is = rw sought refl;
         origin_is = rw sought origin;
       }

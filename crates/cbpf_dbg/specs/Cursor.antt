@@ -9,7 +9,7 @@ use Rattle.cbpf_machine.specs.declared.outcome.Outcome.TheVariants as outcome_is
 use Rattle.cbpf_machine.specs.declared.follow.Followed.{Followed}
 use Rattle.cbpf_machine.specs.declared.follow.Followed.TheVariants as followed_to
 use Rattle.cbpf_machine.specs.Machine.{Machine}
-use Rattle.cbpf_machine.specs.Step.{turn, asked}
+use Rattle.cbpf_machine.specs.Step.{turn}
 use Rattle.cbpf_machine.specs.Trace.{trace}
 use Rattle.pcap_classic.specs.Records.{Record}
 use Rattle.pcap_classic.specs.Savefile.{Savefile}
@@ -20,14 +20,12 @@ use Rattle.cbpf_reply.specs.declared.reply.Counts.{Counts}
 use Rattle.cbpf_dbg.specs.declared.cursor.Cursor.{Cursor}
 use Rattle.cbpf_dbg.specs.declared.cursor.Moved.{Moved}
 use Rattle.cbpf_dbg.specs.declared.cursor.Moved.TheVariants as moved
-use Rattle.cbpf_dbg.specs.Breakpoints.{Breakpoints, carries}
+use Rattle.cbpf_dbg.specs.Breakpoints.{Breakpoints}
 use Rattle.cbpf_dbg.specs.Joined.{Entry, ahead, counts, rest, stop_at}
-use Rattle.cbpf_dbg.specs.Hits.{hit_for}
 use Rattle.cbpf_reply.specs.declared.reply.RunReply.{RunReply}
 use Rattle.cbpf_dbg.specs.View.{View}
 use Rattle.cbpf_dbg.specs.Commands.{run_to, step_to, turns_in, entry_in, back_place}
 use Rattle.cbpf_reply.specs.declared.reply.Stop.{Stop}
-use Rattle.cbpf_reply.specs.declared.reply.Why.{Why}
 use Rattle.cbpf_reply.specs.declared.reply.Why.TheVariants as why
 
 -- the state at a step of a packet
@@ -88,31 +86,15 @@ Moves machine capture old moved.Packet new =
     (new.place ≡ record { packet = old.place.packet + 1; step = 0 })
     × (ahead machine capture old.place ≡ ahead machine capture new.place)
 
--- why the entry of a cursor, in a packet, is a hit, where it is one
-abbrev pub hit_of : Machine → Breakpoints → Record → Cursor → Option Why
-hit_of machine breakpoints r w = hit_for (carries breakpoints w.state) (asked (turn machine r.bytes r.wire w.state))
-
--- a move to a later entry of a packet, or out of the packet, past no hit
-abbrev pub PassesOn : Machine → List Record → Breakpoints → Record → Cursor → Moved → Cursor → Type 0
-PassesOn machine capture breakpoints r old moved.Packet new =
-    (new.place ≡ record { packet = old.place.packet + 1; step = 0 })
-    × (rest machine capture breakpoints new.place ≡ rest machine capture breakpoints old.place)
-PassesOn machine capture breakpoints r old moved.Entry new =
-    (before : Cursor) × (new.place.packet ≡ old.place.packet)
-    × (rest machine capture breakpoints before.place ≡ rest machine capture breakpoints old.place)
-    × (ahead machine capture before.place ≡ entry_here machine r new ∷ ahead machine capture new.place)
-    × (old.place.step < new.place.step)
-
 -- a move to the next hit in a packet, or out of the packet past no hit
-abbrev pub PassesTo : Machine → List Record → Breakpoints → Record → Cursor → Option Why → Cursor → Type 0
-PassesTo machine capture breakpoints r old None new =
+abbrev pub PassesTo : Machine → List Record → Breakpoints → Record → Cursor → Moved → Cursor → Type 0
+PassesTo machine capture breakpoints r old moved.Packet new =
     (new.place ≡ record { packet = old.place.packet + 1; step = 0 })
     × (rest machine capture breakpoints new.place ≡ rest machine capture breakpoints old.place)
-PassesTo machine capture breakpoints r old (Some y) new =
-    (before : Cursor) × (new.place.packet ≡ old.place.packet)
-    × (rest machine capture breakpoints before.place ≡ rest machine capture breakpoints old.place)
-    × (ahead machine capture before.place ≡ entry_here machine r new ∷ ahead machine capture new.place)
-    × (hit_of machine breakpoints r new ≡ Some y)
+PassesTo machine capture breakpoints r old moved.Entry new =
+    (new.place.packet ≡ old.place.packet) × (0 < new.place.step)
+    × (rest machine capture breakpoints old.place
+    ≡ stop_at why.Break (entry_here machine r new) ∷ rest machine capture breakpoints new.place)
 
 -- a cursor is after the last packet
 abbrev pub Ended : Machine → List Record → Cursor → Type 0

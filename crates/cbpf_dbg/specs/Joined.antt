@@ -1,7 +1,7 @@
 -- The entries of all packets of a capture, in order, the ones among them at which a debugger stops,
 -- and the outcomes of packets (this project's own, over the trace of Linux Documentation/networking/filter's machine
 -- and the records of pcap-savefile(5)).
-use Rattle.std.specs.Prelude.{ℕ, ◌+◌, ◌-◌, nat_lt, nat_eq, ◌&&◌, ◌||◌, not, Bool, true, false, List, [], ◌∷◌, ◌++◌}
+use Rattle.std.specs.Prelude.{ℕ, ◌+◌, ◌-◌, ◌&&◌, ◌||◌, not, Bool, true, false, List, [], ◌∷◌, ◌++◌}
 use Rattle.std.specs.Prelude.{map, filter, take, drop, count_by}
 use Rattle.cbpf_machine.specs.Registers.{Registers}
 use Rattle.cbpf_machine.specs.declared.outcome.Turn.{Turn}

@@ -1,5 +1,4 @@
 pub mod Breakpoints
-pub mod Hits
 pub mod Joined
 pub mod Laws
 pub mod View

@@ -1,19 +1,21 @@
 -- What the parts of a session have to do with one another: it is a matter of this crate alone,
 -- and no public clause names it.
-use Rattle.std.specs.Prelude.{◌≡◌, ℕ, ◌-◌, ◌<◌, ◌≤◌, List, [], Bool, true, false, Option, Some, None, length, take}
-use Rattle.std.specs.Prelude.{slice_get, slice_index_or}
+use Rattle.std.specs.Prelude.{◌≡◌, ℕ, ◌-◌, ◌<◌, ◌≤◌, List, [], Bool, true, Option, Some, None, length, take}
+use Rattle.std.specs.Prelude.{slice_get, ◌||◌}
 use Rattle.cbpf_code.specs.declared.insn.Insn.{Insn}
 use Rattle.cbpf_machine.specs.Registers.{Registers}
 use Rattle.cbpf_machine.specs.Values.{Values}
 use Rattle.cbpf_machine.specs.Machine.{Machine, machine_of}
 use Rattle.cbpf_machine.specs.Step.{turn, asked}
+use Rattle.cbpf_machine.specs.Follow.{is_watched}
+use Rattle.cbpf_machine.specs.declared.watched.Watch.{Watch}
 use Rattle.cbpf_machine.specs.Trace.{trace}
 use Rattle.pcap_classic.specs.Records.{Record}
 use Rattle.pcap_classic.specs.Savefile.{Savefile}
 use Rattle.cbpf_reply.specs.declared.reply.Place.{Place}
 use Rattle.cbpf_dbg.specs.declared.cursor.Cursor.{Cursor}
 use Rattle.cbpf_dbg.specs.Breakpoints.{Breakpoints, carries}
-use Rattle.cbpf_dbg.specs.Hits.{hit_for}
+use Rattle.cbpf_dbg.specs.Joined.{is_unknown}
 use Rattle.cbpf_dbg.specs.View.{start}
 use Rattle.cbpf_dbg.specs.Cursor.{Stands}
 
@@ -47,17 +49,16 @@ IsSilent machine = (bytes : List ℕ) (wire : ℕ) (s : Registers) → s.pc < le
 abbrev pub IsQuiet : Machine → Breakpoints → Type 0
 IsQuiet machine breakpoints = (breakpoints ≡ []) × IsSilent machine
 
--- an entry at this instruction is no hit
-abbrev pub IsNoHit : Machine → Breakpoints → Registers → Type 0
-IsNoHit machine breakpoints s = (bytes : List ℕ) (wire : ℕ)
-    → hit_for (carries breakpoints s) (asked (turn machine bytes wire s)) ≡ None
+-- whether an entry with this state is a hit
+abbrev pub hits : Machine → Breakpoints → List ℕ → ℕ → Registers → Bool
+hits machine breakpoints bytes wire s = carries breakpoints s || is_unknown (turn machine bytes wire s)
 
--- of the first n instructions only those that are watched can be hit
-abbrev pub WatchesTo : List Bool → Machine → Breakpoints → ℕ → Type 0
-WatchesTo watched machine breakpoints n = (s : Registers) → s.pc < n → slice_index_or watched s.pc false ≡ false
-    → IsNoHit machine breakpoints s
+-- at the first n instructions the entries that are watched are the hits
+abbrev pub WatchesTo : List Watch → Machine → Breakpoints → ℕ → Type 0
+WatchesTo watched machine breakpoints n = (bytes : List ℕ) (wire : ℕ) (s : Registers) → s.pc < n
+    → is_watched watched s ≡ hits machine breakpoints bytes wire s
 
-abbrev pub Watches : List Bool → Machine → Breakpoints → Type 0
+abbrev pub Watches : List Watch → Machine → Breakpoints → Type 0
 Watches watched machine breakpoints = WatchesTo watched machine breakpoints (length machine.list)
 
 -- the breakpoints at other instructions than i are the same
@@ -65,7 +66,7 @@ abbrev pub IsSameBut : ℕ → Breakpoints → Breakpoints → Type 0
 IsSameBut i before after = (s : Registers) → (s.pc ≡ i → ⊥) → carries after s ≡ carries before s
 
 -- what is known of a program
-abbrev pub IsKnown : Bool → List Bool → Option (List Insn) → Values → Breakpoints → Type 0
+abbrev pub IsKnown : Bool → List Watch → Option (List Insn) → Values → Breakpoints → Type 0
 IsKnown silent watched (Some list) values breakpoints =
     (silent ≡ true → IsSilent (machine_of list values)) × Watches watched (machine_of list values) breakpoints
 IsKnown silent watched None values breakpoints = Unit {0}

@@ -1,21 +1,23 @@
 //! Breakpoints and their conditions.
 
 ghost use Rattle.std.specs.Prelude.{◌≡◌};
+ghost use Rattle.cbpf_machine.specs.Follow.{holds as watch_holds};
+ghost use Rattle.cbpf_machine.specs.Registers.{Registers};
 ghost use Rattle.cbpf_dbg.specs.Breakpoints as spec;
 
-use cbpf_machine::State;
+use cbpf_machine::Watch;
 use cbpf_reply::When;
 use indexmap::IndexMap;
 use std::hash::{BuildHasherDefault, FoldHasher};
 
-/// Whether a condition holds of a state.
-pub(crate) fn holds(when: When, s: &State) -> bool
-    ensures { result ≡ spec.holds when s.now }
+/// The watch of a breakpoint with a condition.
+pub(crate) fn watch_when(when: When) -> Watch
+    ensures { (s : Registers) → watch_holds result s ≡ spec.holds when s }
 {
     match when {
-        When::Always => true,
-        When::A(v) => s.a() == v,
-        When::X(v) => s.x() == v,
+        When::Always => Watch::Always,
+        When::A(v) => Watch::A(v),
+        When::X(v) => Watch::X(v),
     }
 }
 

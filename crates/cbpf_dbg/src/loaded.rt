@@ -13,6 +13,6 @@ pub(crate) struct Loaded<'a, A: Allocator> {
     pub(crate) values: &'a Values,
     pub(crate) capture: &'a Capture<A>,
     pub(crate) breakpoints: &'a Breakpoints<A>,
-    /// The instructions at which an entry can be a hit.
+    /// The entries that are hits.
     pub(crate) watched: &'a Watched,
 }

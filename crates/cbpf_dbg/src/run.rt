@@ -1,6 +1,6 @@
 //! Runs to the next hit.
 
-ghost use Rattle.std.specs.Prelude.{◌≡◌, ◌≢◌, ◌+◌, ◌-◌, ◌<◌, ◌≤◌, ◌^◌, [], Some, true, slice_get, IsSome};
+ghost use Rattle.std.specs.Prelude.{◌≡◌, ◌≢◌, ◌+◌, ◌-◌, ◌<◌, ◌≤◌, ◌^◌, [], Some, true, slice_get};
 ghost use Rattle.pcap_classic.specs.Lent.{record_of};
 ghost use Rattle.pcap_classic.specs.Records.{Record};
 ghost use Rattle.cbpf_dbg.specs.Commands.{PassesHits};
@@ -8,14 +8,14 @@ ghost use Rattle.cbpf_dbg.specs.Joined.{rest};
 ghost use Rattle.cbpf_dbg.specs.Loaded.{machine_in, records_in, breakpoints_in};
 ghost use Rattle.cbpf_dbg.specs.Session.{IsInside, IsQuiet, Keeps, Watches};
 ghost use Rattle.cbpf_dbg.specs.declared.cursor.Moved.TheVariants as moved;
-ghost use Rattle.cbpf_dbg.specs.Cursor.{IsHere, Stands, owed, Runs, run_turns, NotBefore, PassesOn, PassesTo};
+ghost use Rattle.cbpf_dbg.specs.Cursor.{IsHere, Stands, owed, Runs, run_turns, NotBefore, PassesTo};
 ghost use Rattle.cbpf_dbg.specs.Cursor.{is_limit as is_limit_at};
 
 use crate::cursor::{Cursor, Moved, advance, record_at};
-use crate::hit::hit_at;
+use crate::hit::stop_at;
 use crate::loaded::Loaded;
 use cbpf_machine::{Meter, Packet, Trail, run_packet};
-use cbpf_reply::{RunReply, Stop, Why};
+use cbpf_reply::{RunReply, Why};
 use pcap_classic::Captured;
 use std::alloc::Allocator;
 
@@ -29,36 +29,36 @@ fn is_limit(limit: Option<u64>, packets: u64) -> bool
     }
 }
 
-/// Goes on in a packet that has begun to the next entry at an instruction that is watched, or
-/// out of the packet; no hit is passed.
+/// Goes on in a packet that has begun to the next hit, or out of the packet.
 // It isn't inlined, so that the loop over packets has their start alone in it. It takes the packet's parts, so that the
 // loop keeps neither packet nor record in memory for it.
 #[inline(never)]
-fn leave_begun<T: Trail, A: Allocator>(
+fn go_on_to_hit<T: Trail, A: Allocator>(
     meter: &mut Meter,
     loaded: &Loaded<'_, A>,
     bytes: &[u8],
     wire: u32,
-    w: &mut Cursor,
+    cursor: &mut Cursor,
     trail: &mut T,
 ) -> Moved
-    requires stands { Stands (machine_in loaded.now) (records_in loaded.now) w.old }
-    requires here { (r : Record) × (slice_get (records_in loaded.now) (w.old.place.packet - 1)
+    requires stands { Stands (machine_in loaded.now) (records_in loaded.now) cursor.old }
+    requires here { (r : Record) × (slice_get (records_in loaded.now) (cursor.old.place.packet - 1)
         ≡ Some (record r { bytes = bytes.now; wire = wire })) }
     requires keeps { Keeps (λ xs. T.stands_for trail.old xs) (machine_in loaded.now)
-        (records_in loaded.now) w.old.place }
-    requires begun { 0 < w.old.place.step }
-    requires spare { meter.old + owed (machine_in loaded.now) (records_in loaded.now) w.old.place + 1 < 2 ^ 128 }
+        (records_in loaded.now) cursor.old.place }
+    requires begun { 0 < cursor.old.place.step }
+    requires spare { meter.old + owed (machine_in loaded.now) (records_in loaded.now) cursor.old.place + 1 < 2 ^ 128 }
     requires watched { Watches loaded.now.watched.now (machine_in loaded.now) (breakpoints_in loaded.now) }
-    ensures stands { Stands (machine_in loaded.now) (records_in loaded.now) w.new }
+    ensures stands { Stands (machine_in loaded.now) (records_in loaded.now) cursor.new }
     ensures keeps { result ≡ moved.Entry → Keeps (λ xs. T.stands_for trail.new xs) (machine_in loaded.now)
-        (records_in loaded.now) w.new.place }
-    ensures origin { w.new.origin ≡ w.old.origin }
-    ensures order { NotBefore w.new.place w.old.place }
-    ensures passes { (r : Record) → slice_get (records_in loaded.now) (w.old.place.packet - 1) ≡ Some r
-        → PassesOn (machine_in loaded.now) (records_in loaded.now) (breakpoints_in loaded.now) r w.old result w.new }
-    ensures spent { meter.new + owed (machine_in loaded.now) (records_in loaded.now) w.new.place
-        ≡ meter.old + owed (machine_in loaded.now) (records_in loaded.now) w.old.place }
+        (records_in loaded.now) cursor.new.place }
+    ensures origin { cursor.new.origin ≡ cursor.old.origin }
+    ensures order { NotBefore cursor.new.place cursor.old.place }
+    ensures passes { (r : Record) → slice_get (records_in loaded.now) (cursor.old.place.packet - 1) ≡ Some r
+        → PassesTo (machine_in loaded.now) (records_in loaded.now) (breakpoints_in loaded.now) r
+        cursor.old result cursor.new }
+    ensures spent { meter.new + owed (machine_in loaded.now) (records_in loaded.now) cursor.new.place
+        ≡ meter.old + owed (machine_in loaded.now) (records_in loaded.now) cursor.old.place }
 {
     let _few = loaded.capture.count();
     let followed = trail.follow(
@@ -67,43 +67,43 @@ fn leave_begun<T: Trail, A: Allocator>(
         Packet { bytes, wire },
         loaded.values,
         loaded.watched,
-        &mut w.state,
+        &mut cursor.state,
     );
-    w.follow(followed)
+    cursor.follow(followed)
 }
 
-/// The same from an entry of the packet, or from before its first one.
+/// The same from an entry of the packet, whose record is `here`, or from before its first one.
 #[inline(always)]
-fn leave_unwatched<T: Trail, A: Allocator>(
+fn go_to_hit<T: Trail, A: Allocator>(
     meter: &mut Meter,
     loaded: &Loaded<'_, A>,
     here: &Captured<'_>,
-    w: &mut Cursor,
+    cursor: &mut Cursor,
     trail: &mut T,
 ) -> Moved
-    requires stands { Stands (machine_in loaded.now) (records_in loaded.now) w.old }
-    requires here { slice_get (records_in loaded.now) (w.old.place.packet - 1) ≡ Some (record_of here.now) }
+    requires stands { Stands (machine_in loaded.now) (records_in loaded.now) cursor.old }
+    requires here { slice_get (records_in loaded.now) (cursor.old.place.packet - 1) ≡ Some (record_of here.now) }
     requires keeps { Keeps (λ xs. T.stands_for trail.old xs) (machine_in loaded.now)
-        (records_in loaded.now) w.old.place }
-    requires spare { meter.old + owed (machine_in loaded.now) (records_in loaded.now) w.old.place + 1 < 2 ^ 128 }
+        (records_in loaded.now) cursor.old.place }
+    requires spare { meter.old + owed (machine_in loaded.now) (records_in loaded.now) cursor.old.place + 1 < 2 ^ 128 }
     requires watched { Watches loaded.now.watched.now (machine_in loaded.now) (breakpoints_in loaded.now) }
-    ensures stands { Stands (machine_in loaded.now) (records_in loaded.now) w.new }
+    ensures stands { Stands (machine_in loaded.now) (records_in loaded.now) cursor.new }
     ensures keeps { result ≡ moved.Entry → Keeps (λ xs. T.stands_for trail.new xs) (machine_in loaded.now)
-        (records_in loaded.now) w.new.place }
-    ensures origin { w.new.origin ≡ w.old.origin }
-    ensures order { NotBefore w.new.place w.old.place }
-    ensures passes { PassesOn (machine_in loaded.now) (records_in loaded.now) (breakpoints_in loaded.now)
-        (record_of here.now) w.old result w.new }
-    ensures spent { meter.new + owed (machine_in loaded.now) (records_in loaded.now) w.new.place
-        ≡ meter.old + owed (machine_in loaded.now) (records_in loaded.now) w.old.place }
+        (records_in loaded.now) cursor.new.place }
+    ensures origin { cursor.new.origin ≡ cursor.old.origin }
+    ensures order { NotBefore cursor.new.place cursor.old.place }
+    ensures passes { PassesTo (machine_in loaded.now) (records_in loaded.now) (breakpoints_in loaded.now)
+        (record_of here.now) cursor.old result cursor.new }
+    ensures spent { meter.new + owed (machine_in loaded.now) (records_in loaded.now) cursor.new.place
+        ≡ meter.old + owed (machine_in loaded.now) (records_in loaded.now) cursor.old.place }
 {
     let _few = loaded.capture.count();
     let packet = Packet {
         bytes: here.bytes,
         wire: here.wire,
     };
-    if w.place.step > 0 {
-        return leave_begun(meter, loaded, here.bytes, here.wire, w, trail);
+    if cursor.place.step > 0 {
+        return go_on_to_hit(meter, loaded, here.bytes, here.wire, cursor, trail);
     }
     let followed = trail.begin(
         meter,
@@ -111,46 +111,9 @@ fn leave_unwatched<T: Trail, A: Allocator>(
         packet,
         loaded.values,
         loaded.watched,
-        &mut w.state,
+        &mut cursor.state,
     );
-    w.follow(followed)
-}
-
-/// Goes on in a packet, whose record is `here`, to the next hit, or out of the packet.
-#[inline(always)]
-fn pass_to_hit<T: Trail, A: Allocator>(
-    meter: &mut Meter,
-    loaded: &Loaded<'_, A>,
-    here: &Captured<'_>,
-    w: &mut Cursor,
-    trail: &mut T,
-) -> Option<Why>
-    requires stands { Stands (machine_in loaded.now) (records_in loaded.now) w.old }
-    requires here { slice_get (records_in loaded.now) (w.old.place.packet - 1) ≡ Some (record_of here.now) }
-    requires keeps { Keeps (λ xs. T.stands_for trail.old xs) (machine_in loaded.now)
-        (records_in loaded.now) w.old.place }
-    requires spare { meter.old + owed (machine_in loaded.now) (records_in loaded.now) w.old.place + 1 < 2 ^ 128 }
-    requires watched { Watches loaded.now.watched.now (machine_in loaded.now) (breakpoints_in loaded.now) }
-    ensures stands { Stands (machine_in loaded.now) (records_in loaded.now) w.new }
-    ensures keeps { IsSome result → Keeps (λ xs. T.stands_for trail.new xs) (machine_in loaded.now)
-        (records_in loaded.now) w.new.place }
-    ensures origin { w.new.origin ≡ w.old.origin }
-    ensures order { NotBefore w.new.place w.old.place }
-    ensures passes { PassesTo (machine_in loaded.now) (records_in loaded.now) (breakpoints_in loaded.now)
-        (record_of here.now) w.old result w.new }
-    ensures spent { meter.new + owed (machine_in loaded.now) (records_in loaded.now) w.new.place
-        ≡ meter.old + owed (machine_in loaded.now) (records_in loaded.now) w.old.place }
-{
-    'pass: loop {
-        match leave_unwatched(meter, loaded, here, w, trail) {
-            Moved::Packet => return None,
-            Moved::Entry => {
-                if let Some(why) = hit_at(loaded, &w.state) {
-                    return Some(why);
-                }
-            }
-        }
-    }
+    cursor.follow(followed)
 }
 
 /// Goes on to the next hit, to the limit of finished packets, or to the end.
@@ -158,49 +121,47 @@ fn pass_to_hit<T: Trail, A: Allocator>(
 fn run_to_hit<T: Trail, A: Allocator>(
     meter: &mut Meter,
     loaded: &Loaded<'_, A>,
-    w: &mut Cursor,
+    cursor: &mut Cursor,
     trail: &mut T,
     limit: Option<u64>,
 ) -> RunReply
-    requires stands { Stands (machine_in loaded.now) (records_in loaded.now) w.old }
+    requires stands { Stands (machine_in loaded.now) (records_in loaded.now) cursor.old }
     requires keeps { Keeps (λ xs. T.stands_for trail.old xs) (machine_in loaded.now)
-        (records_in loaded.now) w.old.place }
-    requires spare { meter.old + owed (machine_in loaded.now) (records_in loaded.now) w.old.place + 1 < 2 ^ 128 }
+        (records_in loaded.now) cursor.old.place }
+    requires spare { meter.old + owed (machine_in loaded.now) (records_in loaded.now) cursor.old.place + 1 < 2 ^ 128 }
     requires limit { limit ≢ Some 0 }
     requires watched { Watches loaded.now.watched.now (machine_in loaded.now) (breakpoints_in loaded.now) }
-    ensures stands { Stands (machine_in loaded.now) (records_in loaded.now) w.new }
+    ensures stands { Stands (machine_in loaded.now) (records_in loaded.now) cursor.new }
     ensures keeps { Keeps (λ xs. T.stands_for trail.new xs) (machine_in loaded.now)
-        (records_in loaded.now) w.new.place }
+        (records_in loaded.now) cursor.new.place }
     ensures runs { Runs (machine_in loaded.now) loaded.now.capture.now
-        (breakpoints_in loaded.now) w.old w.new limit result }
+        (breakpoints_in loaded.now) cursor.old cursor.new limit result }
     ensures ahead { PassesHits result
-        (rest (machine_in loaded.now) (records_in loaded.now) (breakpoints_in loaded.now) w.old.place)
-        (rest (machine_in loaded.now) (records_in loaded.now) (breakpoints_in loaded.now) w.new.place) }
+        (rest (machine_in loaded.now) (records_in loaded.now) (breakpoints_in loaded.now) cursor.old.place)
+        (rest (machine_in loaded.now) (records_in loaded.now) (breakpoints_in loaded.now) cursor.new.place) }
     ensures turns { meter.new ≡ meter.old + run_turns (machine_in loaded.now) loaded.now.capture.now
-        (breakpoints_in loaded.now) w.old limit }
+        (breakpoints_in loaded.now) cursor.old limit }
 {
-    let start = w.place.packet;
+    let start = cursor.place.packet;
     let mut next = record_at(loaded.capture, start);
     'go: loop {
         let Some(here) = next else {
-            let counts = w.counts;
+            let counts = cursor.counts;
             trail.clear();
-            *w = Cursor::start();
+            *cursor = Cursor::start();
             return RunReply::Finished(counts);
         };
         // The packet hasn't begun then, as the limit is 1 at least.
-        if is_limit(limit, w.place.packet - start) {
-            return RunReply::Limit(w.counts);
+        if is_limit(limit, cursor.place.packet - start) {
+            return RunReply::Limit(cursor.counts);
         }
-        if let Some(why) = pass_to_hit(meter, loaded, &here, w, trail) {
-            return RunReply::Stopped(Stop {
-                place: w.place,
-                state: w.state,
-                why,
-            });
+        match go_to_hit(meter, loaded, &here, cursor, trail) {
+            Moved::Entry => return RunReply::Stopped(stop_at(loaded, cursor, Why::Break)),
+            Moved::Packet => {
+                trail.clear();
+                next = loaded.capture.following(&here);
+            }
         }
-        trail.clear();
-        next = loaded.capture.following(&here);
     }
 }
 

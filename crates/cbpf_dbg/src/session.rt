@@ -29,7 +29,7 @@ pub struct Session<T: Trail, A: Allocator = Global> {
     pub(crate) values: Values,
     /// Whether no instruction of the program asks for an extension that has no value.
     pub(crate) silent: bool,
-    /// The instructions of the program at which an entry can be a hit.
+    /// The entries of the program that are hits.
     pub(crate) watched: Watched,
     pub(crate) capture: Option<Capture<A>>,
     pub(crate) breakpoints: Breakpoints<A>,

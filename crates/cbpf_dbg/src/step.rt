@@ -10,7 +10,7 @@ ghost use Rattle.cbpf_dbg.specs.Session.{IsInside, Keeps};
 ghost use Rattle.cbpf_dbg.specs.Cursor.{Stands, owed, StepsOn, step_turns, StepsBack, CannotStepBack};
 
 use crate::cursor::{Cursor, Moved, advance, record_at};
-use crate::hit::why_at;
+use crate::hit::stop_at;
 use crate::loaded::Loaded;
 use cbpf_machine::{Meter, Packet, Trail, run_packet};
 use cbpf_reply::{RunReply, Stop, Why};
@@ -95,12 +95,7 @@ pub(crate) fn step_on<T: Trail, A: Allocator>(
             Moved::Entry => {
                 trail.push(w.state);
                 if left == 1 {
-                    let why = why_at(loaded, &w.state, Why::Step);
-                    return RunReply::Stopped(Stop {
-                        place: w.place,
-                        state: w.state,
-                        why,
-                    });
+                    return RunReply::Stopped(stop_at(loaded, w, Why::Step));
                 }
                 left -= 1;
             }
@@ -149,10 +144,5 @@ pub(crate) fn step_back<T: Trail, A: Allocator>(
     let state = trail.back(meter, loaded.program, packet, loaded.values, to);
     w.state = state;
     w.place.step = to;
-    let why = why_at(loaded, &state, Why::Step);
-    Ok(Stop {
-        place: w.place,
-        state,
-        why,
-    })
+    Ok(stop_at(loaded, w, Why::Step))
 }

@@ -5,15 +5,15 @@ ghost use Rattle.std.specs.Iterator.{YieldsFirst, item_count};
 ghost use Rattle.cbpf_dbg.specs.Joined.{rest};
 ghost use Rattle.cbpf_dbg.specs.Loaded.{machine_in, records_in, breakpoints_in};
 ghost use Rattle.cbpf_dbg.specs.Session.{Watches};
-ghost use Rattle.cbpf_dbg.specs.Cursor.{Stands, owed, IsHere, PassesOn};
+ghost use Rattle.cbpf_dbg.specs.Cursor.{Stands, owed, IsHere, PassesTo};
 ghost use Rattle.pcap_classic.specs.Lent.{record_of};
 ghost use Rattle.cbpf_dbg.specs.declared.cursor.Cursor.{Cursor};
 
 use crate::cursor::{Cursor, Moved};
-use crate::hit::hit_at;
+use crate::hit::stop_at;
 use crate::loaded::Loaded;
 use cbpf_machine::{Meter, Packet, follow_on, follow_packet};
-use cbpf_reply::Stop;
+use cbpf_reply::{Stop, Why};
 use pcap_classic::Captured;
 use std::alloc::{Allocator, Global};
 use std::marker::Model;
@@ -48,24 +48,23 @@ impl<'a, A: Allocator> Model for Stops<'a, A> {
         × (s.meter + owed (machine_in s.loaded) (records_in s.loaded) s.cursor.place ≤ 2 ^ 127) };
 }
 
-/// Goes on in a packet, whose record is `here`, to the next entry at an instruction that is watched, or out of
-/// the packet; no hit is passed, and no entry is kept.
+/// Goes on in a packet, whose record is `here`, to its next hit, or out of the packet; no entry is kept.
 #[inline(always)]
-fn skip_unwatched<A: Allocator>(
+fn skip_to_hit<A: Allocator>(
     meter: &mut Meter,
     loaded: &Loaded<'_, A>,
     here: &Captured<'_>,
-    w: &mut Cursor,
+    cursor: &mut Cursor,
 ) -> Moved
-    requires stands { Stands (machine_in loaded.now) (records_in loaded.now) w.old }
-    requires here { slice_get (records_in loaded.now) (w.old.place.packet - 1) ≡ Some (record_of here.now) }
+    requires stands { Stands (machine_in loaded.now) (records_in loaded.now) cursor.old }
+    requires here { slice_get (records_in loaded.now) (cursor.old.place.packet - 1) ≡ Some (record_of here.now) }
     requires watched { Watches loaded.now.watched.now (machine_in loaded.now) (breakpoints_in loaded.now) }
     requires spare { meter.old + 8192 ≤ 2 ^ 128 }
-    ensures stands { Stands (machine_in loaded.now) (records_in loaded.now) w.new }
-    ensures passes { PassesOn (machine_in loaded.now) (records_in loaded.now) (breakpoints_in loaded.now)
-        (record_of here.now) w.old result w.new }
-    ensures spent { meter.new + owed (machine_in loaded.now) (records_in loaded.now) w.new.place
-        ≡ meter.old + owed (machine_in loaded.now) (records_in loaded.now) w.old.place }
+    ensures stands { Stands (machine_in loaded.now) (records_in loaded.now) cursor.new }
+    ensures passes { PassesTo (machine_in loaded.now) (records_in loaded.now) (breakpoints_in loaded.now)
+        (record_of here.now) cursor.old result cursor.new }
+    ensures spent { meter.new + owed (machine_in loaded.now) (records_in loaded.now) cursor.new.place
+        ≡ meter.old + owed (machine_in loaded.now) (records_in loaded.now) cursor.old.place }
 {
     let _few = loaded.capture.count();
     let packet = Packet {
@@ -73,12 +72,12 @@ fn skip_unwatched<A: Allocator>(
         wire: here.wire,
     };
     let (program, values, watched) = (loaded.program, loaded.values, loaded.watched);
-    if w.place.step == 0 {
-        let followed = follow_packet(meter, program, packet, values, watched, &mut w.state);
-        return w.follow(followed);
+    if cursor.place.step == 0 {
+        let followed = follow_packet(meter, program, packet, values, watched, &mut cursor.state);
+        return cursor.follow(followed);
     }
-    let followed = follow_on(meter, program, packet, values, watched, &mut w.state);
-    w.follow(followed)
+    let followed = follow_on(meter, program, packet, values, watched, &mut cursor.state);
+    cursor.follow(followed)
 }
 
 /// Goes on to the next hit, or to the end, and returns the record of the place's packet.
@@ -86,37 +85,28 @@ fn skip_unwatched<A: Allocator>(
 fn next_stop<'a, A: Allocator>(
     meter: &mut Meter,
     loaded: &Loaded<'a, A>,
-    w: &mut Cursor,
+    cursor: &mut Cursor,
     first: Option<Captured<'a>>,
 ) -> (Option<Stop>, Option<Captured<'a>>)
-    requires stands { Stands (machine_in loaded.now) (records_in loaded.now) w.old }
-    requires here { IsHere (records_in loaded.now) w.old.place.packet first }
+    requires stands { Stands (machine_in loaded.now) (records_in loaded.now) cursor.old }
+    requires here { IsHere (records_in loaded.now) cursor.old.place.packet first }
     requires watched { Watches loaded.now.watched.now (machine_in loaded.now) (breakpoints_in loaded.now) }
-    requires spare { meter.old + owed (machine_in loaded.now) (records_in loaded.now) w.old.place ≤ 2 ^ 127 }
-    ensures stands { Stands (machine_in loaded.now) (records_in loaded.now) w.new }
-    ensures here { IsHere (records_in loaded.now) w.new.place.packet result.1 }
-    ensures spent { meter.new + owed (machine_in loaded.now) (records_in loaded.now) w.new.place
-        ≡ meter.old + owed (machine_in loaded.now) (records_in loaded.now) w.old.place }
+    requires spare { meter.old + owed (machine_in loaded.now) (records_in loaded.now) cursor.old.place ≤ 2 ^ 127 }
+    ensures stands { Stands (machine_in loaded.now) (records_in loaded.now) cursor.new }
+    ensures here { IsHere (records_in loaded.now) cursor.new.place.packet result.1 }
+    ensures spent { meter.new + owed (machine_in loaded.now) (records_in loaded.now) cursor.new.place
+        ≡ meter.old + owed (machine_in loaded.now) (records_in loaded.now) cursor.old.place }
     ensures next { YieldsFirst
         (λ (v : Cursor). rest (machine_in loaded.now) (records_in loaded.now) (breakpoints_in loaded.now) v.place)
-        w.old result.0 w.new }
+        cursor.old result.0 cursor.new }
 {
     let mut next = first;
     'go: loop {
         let Some(here) = next else {
             return (None, None);
         };
-        match skip_unwatched(meter, loaded, &here, w) {
-            Moved::Entry => {
-                if let Some(why) = hit_at(loaded, &w.state) {
-                    let stop = Stop {
-                        place: w.place,
-                        state: w.state,
-                        why,
-                    };
-                    return (Some(stop), next);
-                }
-            }
+        match skip_to_hit(meter, loaded, &here, cursor) {
+            Moved::Entry => return (Some(stop_at(loaded, cursor, Why::Break)), next),
             Moved::Packet => next = loaded.capture.following(&here),
         }
     }

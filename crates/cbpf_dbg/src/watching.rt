@@ -1,16 +1,17 @@
-//! Which instructions a run watches, as an entry there can be a hit.
+//! The watches of a run: the entries that are hits.
 
-ghost use Rattle.std.specs.Prelude.{◌≡◌, ◌<◌, length, true, false};
+ghost use Rattle.std.specs.Prelude.{◌≡◌, ◌<◌, ℕ, List, length, true};
+ghost use Rattle.cbpf_machine.specs.Follow.{holds};
 ghost use Rattle.cbpf_machine.specs.Machine.{machine_of};
 ghost use Rattle.cbpf_machine.specs.Registers.{Registers};
 ghost use Rattle.cbpf_dbg.specs.Breakpoints.{Breakpoints as SomeBreakpoints};
 ghost use Rattle.cbpf_dbg.specs.Loaded.{machine_in, breakpoints_in};
-ghost use Rattle.cbpf_dbg.specs.Session.{IsQuiet, IsSilent, IsNoHit, IsSameBut, Watches};
+ghost use Rattle.cbpf_dbg.specs.Session.{IsQuiet, IsSilent, IsSameBut, Watches, hits};
 
-use crate::breakpoint::Breakpoints;
+use crate::breakpoint::{Breakpoints, watch_when};
 use crate::loaded::Loaded;
 use cbpf_code::Program;
-use cbpf_machine::{Values, Watched, asks};
+use cbpf_machine::{Values, Watch, Watched, asks};
 use std::alloc::Allocator;
 
 /// Whether no instruction asks for an extension that has no value.
@@ -33,24 +34,27 @@ pub(crate) fn is_quiet<A: Allocator>(loaded: &Loaded<'_, A>, silent: bool) -> bo
     silent && loaded.breakpoints.is_empty()
 }
 
-/// Whether an entry at this instruction can be a hit.
-fn is_watched<A: Allocator>(
+/// Which entries at this instruction are hits.
+fn watch_of<A: Allocator>(
     p: &Program<A>,
     values: &Values,
     breakpoints: &Breakpoints<A>,
     i: u32,
-) -> bool
+) -> Watch
     requires { i < length p.now }
-    ensures { (s : Registers) → s.pc ≡ i → result ≡ false
-        → IsNoHit (machine_of p.now values.now) breakpoints.now.entries s }
+    ensures { (bytes : List ℕ) (wire : ℕ) (s : Registers) → s.pc ≡ i
+        → holds result s ≡ hits (machine_of p.now values.now) breakpoints.now.entries bytes wire s }
 {
     if asks(p.at_index(i), values).is_some() {
-        return true;
+        return Watch::Always;
     }
-    breakpoints.contains_key(&i)
+    match breakpoints.get(&i) {
+        Some(when) => watch_when(*when),
+        None => Watch::Never,
+    }
 }
 
-/// Watches the instructions at which an entry can be a hit.
+/// Watches the entries that are hits.
 pub(crate) fn watch<A: Allocator>(
     watched: &mut Watched,
     p: &Program<A>,
@@ -60,7 +64,7 @@ pub(crate) fn watch<A: Allocator>(
     ensures { Watches watched.new (machine_of p.now values.now) breakpoints.now.entries }
 {
     'scan: for i in 0..p.len() {
-        watched.set(i as usize, is_watched(p, values, breakpoints, i));
+        watched.set(i as usize, watch_of(p, values, breakpoints, i));
     }
 }
 
@@ -78,5 +82,5 @@ pub(crate) fn watch_at<A: Allocator>(
         → Watches watched.new (machine_of p.now values.now) breakpoints.now.entries }
 {
     let _few = p.len();
-    watched.set(i as usize, is_watched(p, values, breakpoints, i));
+    watched.set(i as usize, watch_of(p, values, breakpoints, i));
 }

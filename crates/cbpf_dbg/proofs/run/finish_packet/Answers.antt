@@ -1,12 +1,9 @@
 use Rattle.std.proofs.Common.{[], length, arith, sym, ap, ◌∙◌}
-use Rattle.cbpf_machine.specs.Step.{turn}
 use Rattle.cbpf_dbg.specs.Cursor.{entry_here}
 use Rattle.cbpf_dbg.proofs.AskedLemmas.{quiet_hit}
 use Rattle.cbpf_dbg.proofs.JoinedLemmas.{rest-pass, rest-same}
 use Rattle.cbpf_dbg.proofs.CursorLemmas.{goes}
-use Rattle.cbpf_dbg.proofs.RunLemmas.{hit_none}
 use Rattle.cbpf_dbg.specs.Loaded.{machine_in, records_in}
-use Rattle.cbpf_dbg.specs.Breakpoints.{carries}
 use Rattle.cbpf_dbg.proofs.run.finish_packet.Goals as goal
 
 pub pass-preserved : goal.pass-preserved
@@ -14,10 +11,8 @@ pass-preserved g c =
     let m = c.in-Entry.ensures.moves in
     let inside = (goes (machine_in c.args.loaded.now) (records_in c.args.loaded.now) c.advance.new.w m.0
     c.in-Entry.ensures.stands (omega (arith, m.3)) m.1).inside in
-    let no = hit_none (carries [] c.advance.new.w.state)
-    (turn (machine_in c.args.loaded.now) m.0.bytes m.0.wire c.advance.new.w.state)
-    (sym
-    (quiet_hit (machine_in c.args.loaded.now) [] m.0.bytes m.0.wire c.advance.new.w.state inside c.requires.quiet)) in
+    let no =
+    quiet_hit (machine_in c.args.loaded.now) [] m.0.bytes m.0.wire c.advance.new.w.state inside c.requires.quiet in
     let same = rest-pass (machine_in c.args.loaded.now) (records_in c.args.loaded.now) [] c.pass.w.place
     c.advance.new.w.place (entry_here (machine_in c.args.loaded.now) m.0 c.advance.new.w) m.4 no in
     record {

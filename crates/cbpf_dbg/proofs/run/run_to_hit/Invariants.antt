@@ -9,20 +9,20 @@ use Rattle.cbpf_dbg.proofs.run.run_to_hit.Given as goal
 abbrev pub invariant-go : goal.invariant-go
 invariant-go g l =
     record {
-      here : IsHere (records_in l.loaded) l.w.place.packet l.next;
-      stands : Stands (machine_in l.loaded) (records_in l.loaded) l.w;
-      keeps : Keeps (λ xs. g.T.Trail.stands_for l.trail xs) (machine_in l.loaded) (records_in l.loaded) l.w.place;
-      began : l.start ≡ l.initial.w.place.packet;
-      same_origin : l.w.origin ≡ l.initial.w.origin;
-      same_rest : rest (machine_in l.loaded) (records_in l.loaded) (breakpoints_in l.loaded) l.w.place
-          ≡ rest (machine_in l.loaded) (records_in l.loaded) (breakpoints_in l.loaded) l.initial.w.place;
-      forward : l.initial.w.place.packet ≤ l.w.place.packet;
-      order : NotBefore l.w.place l.initial.w.place;
-      before : l.initial.w.place.packet < l.w.place.packet → l.w.place.step ≡ 0;
-      in_limit : UpTo l.fn.limit l.initial.w.place.packet l.w.place.packet;
-      spent : l.meter + owed (machine_in l.loaded) (records_in l.loaded) l.w.place
-          ≡ l.initial.meter + owed (machine_in l.loaded) (records_in l.loaded) l.initial.w.place;
+      here : IsHere (records_in l.loaded) l.cursor.place.packet l.next;
+      stands : Stands (machine_in l.loaded) (records_in l.loaded) l.cursor;
+      keeps : Keeps (λ xs. g.T.Trail.stands_for l.trail xs) (machine_in l.loaded) (records_in l.loaded) l.cursor.place;
+      began : l.start ≡ l.initial.cursor.place.packet;
+      same_origin : l.cursor.origin ≡ l.initial.cursor.origin;
+      same_rest : rest (machine_in l.loaded) (records_in l.loaded) (breakpoints_in l.loaded) l.cursor.place
+          ≡ rest (machine_in l.loaded) (records_in l.loaded) (breakpoints_in l.loaded) l.initial.cursor.place;
+      forward : l.initial.cursor.place.packet ≤ l.cursor.place.packet;
+      order : NotBefore l.cursor.place l.initial.cursor.place;
+      before : l.initial.cursor.place.packet < l.cursor.place.packet → l.cursor.place.step ≡ 0;
+      in_limit : UpTo l.fn.limit l.initial.cursor.place.packet l.cursor.place.packet;
+      spent : l.meter + owed (machine_in l.loaded) (records_in l.loaded) l.cursor.place
+          ≡ l.initial.meter + owed (machine_in l.loaded) (records_in l.loaded) l.initial.cursor.place;
     }
 
 abbrev pub decreases-go : goal.decreases-go
-decreases-go g l = length (records_in l.loaded) + 1 - l.w.place.packet
+decreases-go g l = length (records_in l.loaded) + 1 - l.cursor.place.packet

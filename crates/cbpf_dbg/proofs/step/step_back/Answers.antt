@@ -1,5 +1,6 @@
 use Rattle.std.proofs.Common.{rules, ◌-◌, arith, refl}
 use Rattle.cbpf_machine.specs.Registers.{zero_state}
+use Rattle.pcap_classic.specs.Lent.{record_of}
 use Rattle.cbpf_machine.specs.Step.{turn}
 use Rattle.cbpf_machine.proofs.SoundLemmas.{sound_some}
 use Rattle.cbpf_machine.proofs.TraceLemmas.{goes_from_entry}
@@ -8,8 +9,8 @@ use Rattle.cbpf_dbg.specs.Commands.{back_place}
 use Rattle.cbpf_dbg.specs.Loaded.{machine_in}
 use Rattle.cbpf_dbg.proofs.step.step_back.Goals as goal
 
-pub why_at-why-requires : goal.why_at-why-requires
-why_at-why-requires g c =
+pub stop_at-requires : goal.stop_at-requires
+stop_at-requires g c =
     (goes_from_entry (machine_in c.args.loaded.now) c.item-item.result.bytes.now c.item-item.result.wire
     (c.args.w.now.place.step - c.args.b - 1) zero_state c.back-state.result
     c.requires.stands.sound (sound_some c.args.loaded.now.program.now c.requires.stands.sound)
@@ -28,7 +29,7 @@ returns-clause-answer g c =
       entry = (
         e,
         rw (c.item-item.ensures.record, c.back-state.ensures.entry) refl,
-        rw (c.why_at-why.ensures c.item-item.result.bytes.now c.item-item.result.wire) refl,
+        c.stop_at.ensures (record_of c.item-item.result),
       );
       place_is = refl;
       origin_is = refl;

@@ -19,8 +19,8 @@ push-requires g c =
     (g.T.Trail.kept c.go.trail) c.in-Entry.ensures.stands m.1 m.3
     (g.met.T.Trail.as_long c.go.trail _ (c.go.invariant.keeps m.0 before))
 
-pub why_at-why-requires : goal.why_at-why-requires
-why_at-why-requires g c =
+pub stop_at-requires : goal.stop_at-requires
+stop_at-requires g c =
     let m = c.in-Entry.ensures.moves in
     (goes (machine_in c.args.loaded.now) (records_in c.args.loaded.now) c.advance.new.w m.0 c.in-Entry.ensures.stands
     (omega (arith, m.3)) m.1).inside
@@ -40,8 +40,7 @@ returns-then-left-eq1-clause-steps g c = λ breakpoints.
     rw m.4
     (slice_get-first (entry_here (machine_in c.args.loaded.now) m.0 c.advance.new.w) _ c.go.left (omega arith)) in
     step_stopped (machine_in c.args.loaded.now) c.args.loaded.now.capture.now breakpoints c.args.n c.args.w.now
-    c.advance.new.w m.0 c.why_at-why.result
-    (sym c.go.invariant.sought ∙ here) (c.why_at-why.ensures m.0.bytes m.0.wire)
+    c.advance.new.w m.0 c.stop_at.result (sym c.go.invariant.sought ∙ here) (c.stop_at.ensures m.0)
     (c.in-Entry.ensures.origin ∙ c.go.invariant.same_origin)
 
 pub returns-then-left-eq1-clause-turns : goal.returns-then-left-eq1-clause-turns

@@ -1,4 +1,4 @@
-use Rattle.std.proofs.Common.{◌≡◌, ◌+◌, ◌-◌, ◌*◌, length}
+use Rattle.std.proofs.Common.{◌≡◌, ◌+◌, ◌-◌, length}
 use Rattle.cbpf_dbg.specs.Joined.{rest}
 use Rattle.cbpf_dbg.specs.Cursor.{Stands, owed, IsHere}
 use Rattle.cbpf_dbg.specs.Loaded.{machine_in, records_in, breakpoints_in}
@@ -8,14 +8,13 @@ use Rattle.cbpf_dbg.proofs.stops.next_stop.Given as goal
 abbrev pub invariant-go : goal.invariant-go
 invariant-go g l =
     record {
-      here : IsHere (records_in l.loaded) l.w.place.packet l.next;
-      stands : Stands (machine_in l.loaded) (records_in l.loaded) l.w;
-      same_rest : rest (machine_in l.loaded) (records_in l.loaded) (breakpoints_in l.loaded) l.w.place
-          ≡ rest (machine_in l.loaded) (records_in l.loaded) (breakpoints_in l.loaded) l.initial.w.place;
-      spent : l.meter + owed (machine_in l.loaded) (records_in l.loaded) l.w.place
-          ≡ l.initial.meter + owed (machine_in l.loaded) (records_in l.loaded) l.initial.w.place;
+      here : IsHere (records_in l.loaded) l.cursor.place.packet l.next;
+      stands : Stands (machine_in l.loaded) (records_in l.loaded) l.cursor;
+      same_rest : rest (machine_in l.loaded) (records_in l.loaded) (breakpoints_in l.loaded) l.cursor.place
+          ≡ rest (machine_in l.loaded) (records_in l.loaded) (breakpoints_in l.loaded) l.initial.cursor.place;
+      spent : l.meter + owed (machine_in l.loaded) (records_in l.loaded) l.cursor.place
+          ≡ l.initial.meter + owed (machine_in l.loaded) (records_in l.loaded) l.initial.cursor.place;
     }
 
--- by packet, then step
 abbrev pub decreases-go : goal.decreases-go
-decreases-go g l = 4097 * (length (records_in l.loaded) + 1 - l.w.place.packet) + (4096 - l.w.place.step)
+decreases-go g l = length (records_in l.loaded) + 1 - l.cursor.place.packet

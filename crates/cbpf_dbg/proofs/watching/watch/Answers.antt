@@ -1,6 +1,8 @@
-use Rattle.std.proofs.Common.{◌≡◌, ◌≢◌, arith, sym, ◌∙◌, inl, inr, get_or, false}
+use Rattle.std.proofs.Common.{◌≡◌, ◌≢◌, arith, inl, inr, ap, ◌∙◌, get_or}
 use Rattle.std.proofs.lemmas.List.{get_or-set_other}
 use Rattle.std.proofs.lemmas.Bool.{cases_lt}
+use Rattle.cbpf_machine.specs.Follow.{holds}
+use Rattle.cbpf_machine.specs.declared.watched.Watch.TheVariants.{Never}
 use Rattle.cbpf_machine.proofs.SoundLemmas.{sound_few}
 use Rattle.cbpf_dbg.proofs.watching.watch.Goals as goal
 
@@ -16,16 +18,15 @@ set-requires g c = omega (
 pub scan-preserved : goal.scan-preserved
 scan-preserved g c =
     record {
-      watches = λ s before no.
+      watches = λ bytes wire s before.
           elim (cases_lt s.pc c.scan.i) [
             | inl seen ↦
                 let other : s.pc ≢ c.scan.i = λ e. omega (arith, e, seen) in
-                let was : get_or c.scan.watched s.pc false ≡ false =
-                sym (get_or-set_other c.scan.watched c.scan.i s.pc c.is_watched.result false other)
-                ∙ rw c.set.ensures.value at no in
-                c.scan.invariant.watches s seen was
+                rw (c.set.ensures.value, get_or-set_other c.scan.watched c.scan.i s.pc c.watch_of.result Never other)
+                (c.scan.invariant.watches bytes wire s seen)
             | inr last ↦
                 let here : s.pc ≡ c.scan.i = omega (arith, before, last) in
-                c.is_watched.ensures s here (sym c.set.ensures.here ∙ rw here at no)
+                let found : get_or c.set.new.self s.pc Never ≡ c.watch_of.result = rw here c.set.ensures.here in
+                ap (λ w. holds w s) found ∙ c.watch_of.ensures bytes wire s here
           ];
     }

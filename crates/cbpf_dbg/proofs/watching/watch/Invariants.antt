@@ -2,7 +2,7 @@ use Rattle.cbpf_machine.specs.Machine.{machine_of}
 use Rattle.cbpf_dbg.specs.Session.{WatchesTo}
 use Rattle.cbpf_dbg.proofs.watching.watch.Given as goal
 
--- of the instructions that were seen only those that are watched can be hit
+-- at the instructions that were seen the entries that are watched are the hits
 abbrev pub invariant-scan : goal.invariant-scan
 invariant-scan g l =
     record {

@@ -1,0 +1,17 @@
+use Rattle.std.proofs.Common.{◌≡◌, refl}
+use Rattle.cbpf_machine.specs.Step.{turn, asked}
+use Rattle.cbpf_dbg.specs.Loaded.{machine_in}
+use Rattle.cbpf_dbg.proofs.AskedLemmas.{why_asked, why_by}
+use Rattle.cbpf_dbg.proofs.hit.stop_at.Goals as goal
+use Rattle.cbpf_dbg.proofs.hit.stop_at.Goals.{in-Some, in-None}
+
+pub returns : goal.returns
+returns g c = λ r.
+    let asks : c.asks.result ≡ asked (turn (machine_in c.args.loaded.now) r.bytes r.wire c.args.cursor.now.state) =
+    c.asks.ensures c.args.loaded.now.program.now r.bytes r.wire c.args.cursor.now.state
+    (rw c.pc.ensures at c.at_index-insn.ensures.value) in
+    let why : c.match-asks.why ≡ why_by c.args.reason c.asks.result = elim c.match-asks.branch [
+      | in-Some w ↦ rw (w.why-is, w.in-Some.is) refl
+      | in-None w ↦ rw (w.why-is, w.in-None.is) refl
+    ] in
+    rw (why, asks, ← why_asked) refl

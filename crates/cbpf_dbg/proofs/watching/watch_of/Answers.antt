@@ -1,0 +1,31 @@
+use Rattle.std.proofs.Common.{◌≡◌, sym, ap, ◌∙◌, true, false}
+use Rattle.std.specs.Prelude.{is_some, Some, None}
+use Rattle.std.specs.Option.{option_copied}
+use Rattle.cbpf_machine.specs.Machine.{machine_of}
+use Rattle.cbpf_machine.specs.Step.{turn}
+use Rattle.cbpf_dbg.specs.Joined.{is_unknown}
+use Rattle.cbpf_dbg.proofs.AskedLemmas.{unknown_asked}
+use Rattle.cbpf_dbg.proofs.CarryLemmas.{hits_unknown, hits_carried}
+use Rattle.cbpf_dbg.proofs.watching.watch_of.Goals as goal
+
+pub returns-then-is_some : goal.returns-then-is_some
+returns-then-is_some g c = λ bytes wire s here.
+    let asks = c.asks.ensures c.args.p.now bytes wire s (rw here c.at_index.ensures.value) in
+    let unknown : is_unknown (turn (machine_of c.args.p.now c.args.values.now) bytes wire s) ≡ true =
+    unknown_asked _ ∙ ap is_some (sym asks) ∙ sym c.is_some.ensures ∙ c.if-is_some.true in
+    sym (hits_unknown _ _ _ _ _ unknown)
+
+pub returns-in-Some : goal.returns-in-Some
+returns-in-Some g c = λ bytes wire s here.
+    let asks = c.asks.ensures c.args.p.now bytes wire s (rw here c.at_index.ensures.value) in
+    let known : is_unknown (turn (machine_of c.args.p.now c.args.values.now) bytes wire s) ≡ false =
+    unknown_asked _ ∙ ap is_some (sym asks) ∙ sym c.is_some.ensures ∙ c.if-is_some.false in
+    c.watch_when.ensures s ∙ sym (hits_carried _ _ _ _ _ _ (Some c.in-Some.when.now) known here
+    (sym c.get.ensures.value ∙ ap option_copied c.in-Some.is))
+
+pub returns-in-None : goal.returns-in-None
+returns-in-None g c = λ bytes wire s here.
+    let asks = c.asks.ensures c.args.p.now bytes wire s (rw here c.at_index.ensures.value) in
+    let known : is_unknown (turn (machine_of c.args.p.now c.args.values.now) bytes wire s) ≡ false =
+    unknown_asked _ ∙ ap is_some (sym asks) ∙ sym c.is_some.ensures ∙ c.if-is_some.false in
+    sym (hits_carried _ _ _ _ _ _ None known here (sym c.get.ensures.value ∙ ap option_copied c.in-None.is))
