@@ -44,6 +44,17 @@ fn has_130(capture: &Capture) -> bool {
         && capture.following(&last) == None
 }
 
+/// Whether a walk from a kept start on has the records up to its end, or to the last.
+fn walks_130(capture: &Capture) -> bool {
+    if capture.count() != 130 {
+        return false;
+    }
+    capture.records(65, 67).first() == Some(capture.item(65))
+        && capture.records(65, 67).count() == 2
+        && capture.records(65, u64::MAX).count() == 66
+        && capture.records(131, u64::MAX).next() == None
+}
+
 /// The packets that passed and that failed, and the turns of a run to the end.
 fn run<T: Trail>(s: &mut Session<T>) -> Option<(u64, u64, u128)> {
     let mut meter = Meter::new();
@@ -67,6 +78,7 @@ fn a_capture_of_130_records(rt: HostRuntime) {
     assert!(rt; file.len() == 2104);
     let first = capture(&rt, rt.alloc(), &file);
     assert!(rt; has_130(&first));
+    assert!(rt; walks_130(&first));
     assert_run(&rt, rt.alloc(), MarkTrail::new(), first);
     let all = ListTrail::new(rt.alloc()).expect(&rt, "memory");
     assert_run(&rt, rt.alloc(), all, capture(&rt, rt.alloc(), &file));

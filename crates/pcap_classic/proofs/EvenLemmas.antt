@@ -1,4 +1,4 @@
--- Records of one length, one behind another.
+-- Records of one length, one after another.
 use Rattle.std.proofs.Common.{◌≡◌, ℕ, zero, suc, ◌+◌, ◌*◌, ◌≤◌, List, arith, sym, inl, inr}
 use Rattle.std.proofs.lemmas.Bool.{cases_lt}
 use Rattle.pcap_classic.specs.declared.endianness.Endianness.{Endianness}

@@ -2,3 +2,4 @@ mod ContentsLemmas
 mod EvenLemmas
 mod ReachLemmas
 pub mod SavefileLemmas
+mod WalkLemmas

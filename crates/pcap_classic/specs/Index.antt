@@ -1,5 +1,5 @@
 -- What the index of a capture says of its bytes: it is a matter of this crate alone, and no public clause names it.
-use Rattle.std.specs.Prelude.{◌≡◌, ℕ, ◌+◌, ◌*◌, ◌≤◌, ◌<◌, ◌^◌, List, length, drop, slice_index}
+use Rattle.std.specs.Prelude.{◌≡◌, ℕ, ◌+◌, ◌-◌, ◌*◌, ◌≤◌, ◌<◌, ◌^◌, List, length, drop, slice_index}
 use Rattle.pcap_classic.specs.Scan.{contents, contents_from}
 use Rattle.pcap_classic.specs.declared.endianness.Endianness.{Endianness}
 use Rattle.pcap_classic.specs.declared.ending.Ending.{Ending}
@@ -42,3 +42,11 @@ ending_by Nothing place = Whole
 ending_by PartOfHeader place = CutHeader place
 ending_by PartOfData place = CutData place
 ending_by (WholeRecord size) place = Whole
+
+-- a walk has the records from this number on up to an end, and a place where the first of them stands
+pub record IsWalk (order : Endianness) (file : List ℕ) (place number end : ℕ) : Type 0 where
+  pub long : 24 ≤ length file
+  pub ordered : number ≤ end
+  pub within : end ≤ length (contents order file).records + 1
+  pub from_one : number < end → 1 ≤ number
+  pub there : number < end → Reaches order file (number - 1) place

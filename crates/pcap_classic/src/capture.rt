@@ -1,6 +1,6 @@
 //! A capture.
 
-ghost use Rattle.std.specs.Prelude.{◌≡◌, ◌≤◌, ◌<◌, ◌+◌, ◌-◌, ◌/◌, ◌^◌, length, slice_get, Some, Ok, IfOk, IfErr};
+ghost use Rattle.std.specs.Prelude.{◌≡◌, ◌≤◌, ◌<◌, ◌+◌, ◌-◌, ◌/◌, ◌^◌, length, take, drop, slice_get, Some, Ok, IfOk, IfErr};
 ghost use Rattle.std.specs.Prelude.{IfSome};
 ghost use Rattle.std.specs.Option.{option_map};
 ghost use Rattle.pcap_classic.specs.Lent.{record_of};
@@ -10,8 +10,9 @@ use crate::captured::{Captured, record_at};
 use crate::ending::Ending;
 use crate::fault::CaptureFault;
 use crate::front::RECORD_HEADER;
-use crate::header::{FileHeader, header_of};
-use crate::index::{Index, STRIDE, index_of, place_of};
+use crate::header::{FILE_HEADER, FileHeader, header_of};
+use crate::index::{Index, index_of, start_of};
+use crate::records::Records;
 use std::alloc::{Allocator, Global};
 use std::marker::Model;
 
@@ -118,10 +119,32 @@ impl<A: Allocator> Capture<A> {
     {
         let order = self.header.magic.order;
         let file = self.file.as_slice();
-        let kept = (n - 1) / STRIDE;
-        let start = self.index.starts[kept as usize];
-        let place = place_of(order, file, kept * STRIDE, start, n - 1);
+        let place = start_of(order, file, self.index.starts.as_slice(), n);
         record_at(order, file, n, place)
+    }
+
+    /// The records from number `from` on, counted from 1, up to the one before number `end`, or to the last. It takes
+    /// time for up to 63 records before the first.
+    #[inline]
+    pub fn records(&self, from: u64, end: u64) -> Records<'_>
+        requires { 1 ≤ from }
+        ensures { result ≡ drop (from - 1) (take (end - 1) self.now.records) }
+    {
+        let order = self.header.magic.order;
+        let file = self.file.as_slice();
+        let end = end.min(self.index.count + 1);
+        let place = if from < end {
+            start_of(order, file, self.index.starts.as_slice(), from)
+        } else {
+            FILE_HEADER
+        };
+        Records {
+            order,
+            file,
+            place,
+            number: from.min(end),
+            end,
+        }
     }
 
     /// The record after `item`, which is one of this capture, or `None` after the last.

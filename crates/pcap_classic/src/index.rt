@@ -1,6 +1,6 @@
 //! The passes over the headers of all records, and the way from a kept start to a later one.
 
-ghost use Rattle.std.specs.Prelude.{◌≡◌, ◌≤◌, ◌<◌, ◌+◌, ◌*◌, ◌^◌, ◌↔◌, ℕ, List, length, drop, true, IfOk};
+ghost use Rattle.std.specs.Prelude.{◌≡◌, ◌≤◌, ◌<◌, ◌+◌, ◌-◌, ◌*◌, ◌^◌, ◌↔◌, ℕ, List, length, drop, true, IfOk};
 ghost use Rattle.pcap_classic.specs.Index.{IsIndex, AreEven, AreKept, AreStarts, Reaches, ending_by};
 ghost use Rattle.pcap_classic.specs.Scan as spec;
 ghost use Rattle.pcap_classic.specs.declared.front.Front.TheVariants.{WholeRecord};
@@ -254,4 +254,17 @@ pub(crate) fn place_of(order: Endianness, file: &[u8], from: u64, start: usize, 
         place += record_length(order, &file[place..]);
     }
     place
+}
+
+/// The place of record `number`, counted from 1, by the kept start before it.
+#[inline]
+pub(crate) fn start_of(order: Endianness, file: &[u8], starts: &[usize], number: u64) -> usize
+    requires from_one { 1 ≤ number }
+    requires within { number ≤ length (spec.contents order file.now).records }
+    requires kept { AreKept order file.now starts.now (length (spec.contents order file.now).records) }
+    ensures { Reaches order file.now (number - 1) result }
+{
+    let kept = (number - 1) / STRIDE;
+    let start = starts[kept as usize];
+    place_of(order, file, kept * STRIDE, start, number - 1)
 }

@@ -13,9 +13,11 @@ mod front;
 mod header;
 mod index;
 mod law;
+mod records;
 
 pub use capture::Capture;
 pub use captured::Captured;
 pub use ending::Ending;
 pub use fault::CaptureFault;
 pub use law::one_capture;
+pub use records::Records;

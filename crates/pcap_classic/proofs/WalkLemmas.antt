@@ -1,0 +1,62 @@
+-- A walk from record to record.
+use Rattle.std.proofs.Common.{◌≡◌, ℕ, zero, suc, ◌+◌, ◌-◌, ◌<◌, ◌≤◌, List, [], ◌∷◌, length, drop, take, arith, ap, refl, add-one}
+use Rattle.std.specs.Prelude.{Some, None, slice_get}
+use Rattle.pcap_classic.specs.declared.endianness.Endianness.{Endianness}
+use Rattle.pcap_classic.specs.Index.{IsWalk}
+use Rattle.pcap_classic.specs.Records.{Record}
+use Rattle.pcap_classic.specs.Scan.{contents}
+use Rattle.pcap_classic.proofs.ReachLemmas.{stands, after}
+
+pub nothing_left : {X : Type 0} (xs : List X) → slice_get xs 0 ≡ None → xs ≡ []
+nothing_left [] h = refl
+nothing_left (x ∷ xs) h = cc
+
+-- the first of those that are left stands before the end
+record IsFirst {X : Type 0} (xs : List X) (i e : ℕ) (x : X) : Type 0 where
+  pub before : i < e
+  pub is : slice_get xs i ≡ Some x
+  pub left : drop i (take e xs) ≡ x ∷ drop (i + 1) (take e xs)
+
+is_first : {X : Type 0} (xs : List X) (i e : ℕ) (x : X) → slice_get (drop i (take e xs)) 0 ≡ Some x → IsFirst xs i e x
+is_first [] zero zero x h = cc
+is_first [] zero (suc e) x h = cc
+is_first [] (suc i) zero x h = cc
+is_first [] (suc i) (suc e) x h = cc
+is_first (y ∷ xs) zero zero x h = cc
+is_first (y ∷ xs) (suc i) zero x h = cc
+is_first (y ∷ xs) zero (suc e) x h = record { before = omega arith; is = h; left = cc }
+is_first (y ∷ xs) (suc i) (suc e) x h =
+    let rest = is_first xs i e x h in
+    record { before = omega (arith, rest.before); is = rest.is; left = rw add-one (rw add-one at rest.left) }
+
+-- past its first record a walk is one again
+pub record Goes (order : Endianness) (file : List ℕ) (number end : ℕ) (r : Record) : Type 0 where
+  pub left : drop (number - 1) (take (end - 1) (contents order file).records)
+      ≡ r ∷ drop (number + 1 - 1) (take (end - 1) (contents order file).records)
+  pub walk : IsWalk order file (r.start + 16 + length r.bytes) (number + 1) end
+  pub inside : r.start + 16 + length r.bytes ≤ length file
+
+pub goes : (order : Endianness) (file : List ℕ) (place number end : ℕ) (r : Record)
+    → IsWalk order file place number end
+    → slice_get (drop (number - 1) (take (end - 1) (contents order file).records)) 0 ≡ Some r
+    → Goes order file number end r
+goes order file place number end r walk first =
+    let head = is_first (contents order file).records (number - 1) (end - 1) r first in
+    let before : number < end = omega (arith, head.before) in
+    let one = walk.from_one before in
+    let there = stands order file (number - 1) r walk.long head.is in
+    let is : r.number ≡ number = omega (arith, one, ap (λ (x : Record). x.number) there.1.is) in
+    let same : number - 1 ≡ r.number - 1 = omega (arith, is) in
+    let next = after order file r walk.long (rw same at head.is) in
+    let on : number - 1 + 1 ≡ number + 1 - 1 = omega (arith, one) in
+    record {
+      left = rw on at head.left;
+      walk = record {
+        long = walk.long;
+        ordered = omega (arith, before);
+        within = walk.within;
+        from_one = λ h. omega arith;
+        there = λ h. let past : number + 1 - 1 ≡ r.number = omega (arith, is) in rw past next.there;
+      };
+      inside = next.there.inside;
+    }
