@@ -3,6 +3,7 @@ pub mod CountLemmas
 pub mod CursorLemmas
 pub mod AskedLemmas
 pub mod CarryLemmas
+pub mod LeftLemmas
 pub mod RunLemmas
 pub mod QuietLemmas
 pub mod FollowLemmas
@@ -12,5 +13,4 @@ pub mod WholeLemmas
 pub mod ShownLemmas
 pub mod ShownStops
 pub mod RisingLemmas
-pub mod InsideLemmas
 pub mod ResumeLemmas

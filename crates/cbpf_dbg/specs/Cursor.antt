@@ -1,7 +1,7 @@
 -- A cursor over the entries of a capture: it is a matter of this crate alone, and no public clause names it.
 use Rattle.std.specs.Option.{option_map}
-use Rattle.std.specs.Prelude.{◌≡◌, ℕ, ◌+◌, ◌-◌, ◌≤◌, ◌<◌, List, [], ◌∷◌, length, slice_get, Option, Some, None}
-use Rattle.std.specs.Prelude.{IfSome, min, Bool, false, nat_eq, ◌⊎◌}
+use Rattle.std.specs.Prelude.{◌≡◌, ℕ, ◌+◌, ◌-◌, ◌≤◌, ◌<◌, List, [], ◌∷◌, length, slice_get, take, drop, Option, Some, None}
+use Rattle.std.specs.Prelude.{IfSome, min, ◌⊎◌}
 use Rattle.cbpf_code.specs.Sound.{IsSound}
 use Rattle.cbpf_machine.specs.Registers.{Registers, zero_state}
 use Rattle.cbpf_machine.specs.declared.outcome.Outcome.{Outcome}
@@ -133,20 +133,29 @@ pub record Runs (machine : Machine) (c : Savefile) (breakpoints : Breakpoints) (
   pub place_is : new.place ≡ (run_from machine c breakpoints old limit).1.place
   pub origin_is : new.origin ≡ (run_from machine c breakpoints old limit).1.origin
 
--- whether this many packets are the limit
-abbrev pub is_limit : Option ℕ → ℕ → Bool
-is_limit None packets = false
-is_limit (Some n) packets = nat_eq n packets
+-- the packet before which a run from a packet ends that comes to no hit
+abbrev pub end_of : Option ℕ → ℕ → ℕ → ℕ
+end_of None first count = count + 1
+end_of (Some n) first count = min (first + n) (count + 1)
 
--- at a packet the limit is not passed, and is reached only after the last packet
-abbrev pub Below : Option ℕ → ℕ → ℕ → ℕ → Type 0
-Below None first packet count = Unit {0}
-Below (Some n) first packet count = (packet ≤ first + n) × ((packet < first + n) ⊎ (count < packet))
+-- the records from a packet on are left, up to an end
+abbrev pub AreLeft : List Record → ℕ → ℕ → List Record → Type 0
+AreLeft capture packet end left = left ≡ drop (packet - 1) (take (end - 1) capture)
 
--- the limit of finished packets is not passed
-abbrev pub UpTo : Option ℕ → ℕ → ℕ → Type 0
-UpTo None first packet = Unit {0}
-UpTo (Some n) first packet = packet ≤ first + n
+-- a run from a place ends before this packet, which is a later one where the place's has begun
+pub record IsEnd (capture : List Record) (place : Place) (end : ℕ) : Type 0 where
+  pub within : end ≤ length capture + 1
+  pub most : place.packet ≤ end
+  pub later : 0 < place.step → place.packet < end
+
+-- a cursor comes to the first hit before an end, or to the end past none
+abbrev pub ComesTo : Machine → List Record → Breakpoints → ℕ → Cursor → Option Stop → Cursor → Type 0
+ComesTo machine capture breakpoints end old None new =
+    (new.place ≡ record { packet = end; step = 0 })
+    × (rest machine capture breakpoints new.place ≡ rest machine capture breakpoints old.place)
+ComesTo machine capture breakpoints end old (Some h) new =
+    (new.place ≡ h.place) × (h.place.packet < end)
+    × (rest machine capture breakpoints old.place ≡ h ∷ rest machine capture breakpoints new.place)
 
 -- one place is not before another
 abbrev pub NotBefore : Place → Place → Type 0

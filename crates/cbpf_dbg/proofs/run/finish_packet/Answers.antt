@@ -13,7 +13,7 @@ pass-preserved g c =
     c.in-Entry.ensures.stands (omega (arith, m.3)) m.1).inside in
     let no =
     quiet_hit (machine_in c.args.loaded.now) [] m.0.bytes m.0.wire c.advance.new.w.state inside c.requires.quiet in
-    let same = rest-pass (machine_in c.args.loaded.now) (records_in c.args.loaded.now) [] c.pass.w.place
+    let same = rest-pass (machine_in c.args.loaded.now) (records_in c.args.loaded.now) [] c.pass.cursor.place
     c.advance.new.w.place (entry_here (machine_in c.args.loaded.now) m.0 c.advance.new.w) m.4 no in
     record {
       stands = c.in-Entry.ensures.stands;
@@ -25,6 +25,6 @@ pass-preserved g c =
 
 pub returns-in-Packet-clause-rest : goal.returns-in-Packet-clause-rest
 returns-in-Packet-clause-rest g c =
-    sym (rest-same (machine_in c.args.loaded.now) (records_in c.args.loaded.now) [] c.pass.w.place
+    sym (rest-same (machine_in c.args.loaded.now) (records_in c.args.loaded.now) [] c.pass.cursor.place
     c.advance.new.w.place c.in-Packet.ensures.moves.1)
     ∙ c.pass.invariant.same_rest

@@ -9,7 +9,7 @@ use Rattle.cbpf_dbg.proofs.run.pass_whole.Goals as goal
 
 pub pass-requires : goal.pass-requires
 pass-requires g c =
-    let can = countable (machine_in c.args.loaded.now) (records_in c.args.loaded.now) c.args.w.now c.requires.stands _
+    let can = countable (machine_in c.args.loaded.now) (records_in c.args.loaded.now) c.args.cursor.now c.requires.stands _
     c.count-few.ensures.value c.count-few.ensures.bounded in
     record {
       packets = can.packets;
@@ -21,15 +21,15 @@ pass-requires g c =
 pub returns : goal.returns
 returns g c =
     let same : c.pass.new.self
-    ≡ passed c.args.w.now (outcome (machine_in c.args.loaded.now) c.args.here.now.bytes.now c.args.here.now.wire) =
-    c.pass.ensures ∙ ap (passed c.args.w.now) c.run_packet.ensures.value in
-    let one : 1 ≤ c.args.w.now.place.packet = let a = c.requires.stands.from_one in
+    ≡ passed c.args.cursor.now (outcome (machine_in c.args.loaded.now) c.args.here.now.bytes.now c.args.here.now.wire) =
+    c.pass.ensures ∙ ap (passed c.args.cursor.now) c.run_packet.ensures.value in
+    let one : 1 ≤ c.args.cursor.now.place.packet = let a = c.requires.stands.from_one in
     let b = c.requires.stands.ordered in
     omega arith in
-    let quiet = packet-quiet (machine_in c.args.loaded.now) (records_in c.args.loaded.now) c.args.w.now.place.packet _
-    c.requires.stands.sound c.requires.quiet one c.requires.here c.args.w.now.place.step c.requires.before in
+    let quiet = packet-quiet (machine_in c.args.loaded.now) (records_in c.args.loaded.now) c.args.cursor.now.place.packet _
+    c.requires.stands.sound c.requires.quiet one c.requires.here c.args.cursor.now.place.step c.requires.before in
     record {
-      stands = rw same (stands-passed (machine_in c.args.loaded.now) (records_in c.args.loaded.now) c.args.w.now _
+      stands = rw same (stands-passed (machine_in c.args.loaded.now) (records_in c.args.loaded.now) c.args.cursor.now _
           c.requires.stands c.requires.here);
       place = ap (λ (n : Cursor). n.place) same;
       origin = ap (λ (n : Cursor). n.origin) same;

@@ -1,10 +1,48 @@
-use Rattle.cbpf_dbg.proofs.InsideLemmas.{inside-run}
+use Rattle.std.proofs.Common.{arith}
+use Rattle.cbpf_dbg.proofs.RunLemmas.{run_stopped, run_limited, run_finished, none_ahead}
+use Rattle.cbpf_dbg.proofs.TurnLemmas.{run_turns-reply, spent_between, owed-turns}
 use Rattle.cbpf_dbg.proofs.run.run.Goals as goal
 
-pub returns-then-quiet-clause-inside : goal.returns-then-quiet-clause-inside
-returns-then-quiet-clause-inside g c =
-    inside-run _ _ _ _ _ _ _ c.requires.stands.sound c.run_without_stops-reply.ensures.runs
+pub returns-in-Some-clause-runs : goal.returns-in-Some-clause-runs
+returns-in-Some-clause-runs g c =
+    let came = c.in-Some.ensures in
+    run_stopped _ _ _ _ _ _ (rw c.count-count.ensures.value at c.end_of-end.ensures) _ _ came.origin came.order came.comes
 
-pub returns-else-quiet-clause-inside : goal.returns-else-quiet-clause-inside
-returns-else-quiet-clause-inside g c =
-    inside-run _ _ _ _ _ _ _ c.requires.stands.sound c.run_to_hit-reply.ensures.runs
+pub returns-in-Some-clause-turns : goal.returns-in-Some-clause-turns
+returns-in-Some-clause-turns g c =
+    let came = c.in-Some.ensures in
+    rw (run_turns-reply _ _ _ _ _ _ _ (returns-in-Some-clause-runs g c))
+    (spent_between _ _ _ _ _ _ c.requires.stands came.stands came.order came.spent)
+
+pub returns-then-end-count-clause-runs : goal.returns-then-end-count-clause-runs
+returns-then-end-count-clause-runs g c =
+    let came = c.in_default.ensures in
+    run_limited _ _ _ _ _ _ (rw c.count-count.ensures.value at c.end_of-end.ensures) _ came.stands came.origin
+    came.comes (rw c.count-count.ensures.value at c.if-end-count.true)
+
+pub returns-then-end-count-clause-turns : goal.returns-then-end-count-clause-turns
+returns-then-end-count-clause-turns g c =
+    let came = c.in_default.ensures in
+    rw (run_turns-reply _ _ _ _ _ _ _ (returns-then-end-count-clause-runs g c))
+    (spent_between _ _ _ _ _ _ c.requires.stands came.stands came.order came.spent)
+
+pub returns-clause-runs : goal.returns-clause-runs
+returns-clause-runs g c =
+    let came = c.in_default.ensures in
+    run_finished _ _ _ _ _ _ (rw c.count-count.ensures.value at c.end_of-end.ensures) _ _ came.stands came.origin
+    came.comes (rw c.count-count.ensures.value at c.if-end-count.false) c.start.ensures.place c.start.ensures.origin
+
+pub returns-clause-ahead : goal.returns-clause-ahead
+returns-clause-ahead g c =
+    (none_ahead _ c.args.loaded.now.capture.now _ c.args.limit c.args.cursor.now _
+    (rw c.count-count.ensures.value at c.end_of-end.ensures) c.run_to_hit-stop.new.cursor c.in_default.ensures.comes
+    (rw c.count-count.ensures.value at c.if-end-count.false)).1
+
+pub returns-clause-turns : goal.returns-clause-turns
+returns-clause-turns g c =
+    let came = c.in_default.ensures in
+    let none = (none_ahead _ c.args.loaded.now.capture.now _ c.args.limit c.args.cursor.now _
+    (rw c.count-count.ensures.value at c.end_of-end.ensures) c.run_to_hit-stop.new.cursor came.comes
+    (rw c.count-count.ensures.value at c.if-end-count.false)).0 in
+    let all = owed-turns _ _ c.args.cursor.now c.requires.stands in
+    rw (run_turns-reply _ _ _ _ _ _ _ (returns-clause-runs g c)) (omega (arith, all, none, came.spent))

@@ -12,8 +12,8 @@ returns-clause-shown g c =
       values = c.self.inside.values;
       capture = c.self.inside.capture;
       breakpoints = c.self.inside.breakpoints.entries;
-      origin = c.run-reply.new.w.origin;
-      place = c.run-reply.new.w.place;
+      origin = c.run-reply.new.cursor.origin;
+      place = c.run-reply.new.cursor.place;
     } in
     shows-run _ _ _ _ _ _ _ after (record { program = c.in-Some.is; values = refl; capture = c.in-Some-capture.is })
     c.len-sound.ensures.sound c.run-reply.ensures.runs
