@@ -1,6 +1,6 @@
 -- Moves of a cursor.
-use Rattle.std.proofs.Common.{◌≡◌, ℕ, ◌+◌, ◌-◌, ◌<◌, ◌≤◌, List, ◌∷◌, length, arith, sym, ap, ◌∙◌, subst, refl}
-use Rattle.std.specs.Prelude.{Option, Some, None, IfSome, slice_get}
+use Rattle.std.proofs.Common.{◌≡◌, ℕ, ◌+◌, ◌-◌, ◌<◌, ◌≤◌, List, ◌∷◌, length, arith, subst, refl}
+use Rattle.std.specs.Prelude.{Some, None, slice_get}
 use Rattle.std.proofs.lemmas.Option.{slice_get_cases, slice_get_within}
 use Rattle.std.proofs.Common.{inl, inr}
 use Rattle.std.proofs.lemmas.Bool.{cases_lt}
@@ -15,14 +15,11 @@ use Rattle.cbpf_machine.proofs.TraceLemmas.{goes_from_entry, goes_next, goes_at,
 use Rattle.cbpf_machine.proofs.TraceLemmas.{first_entry}
 use Rattle.cbpf_machine.proofs.SoundLemmas.{sound_some}
 use Rattle.pcap_classic.specs.Records.{Record}
-use Rattle.pcap_classic.specs.Lent.{record_of}
-use Rattle.pcap_classic.specs.declared.captured.Captured.{Captured}
-use Rattle.std.specs.Option.{option_map}
 use Rattle.cbpf_reply.specs.declared.reply.Counts.{Counts}
 use Rattle.cbpf_dbg.specs.declared.cursor.Cursor.{Cursor}
 use Rattle.cbpf_dbg.specs.declared.cursor.Moved.TheVariants as moved
 use Rattle.cbpf_dbg.specs.Joined.{ahead, counts}
-use Rattle.cbpf_dbg.specs.Cursor.{Stands, Moves, Ended, IsHere, entered, stepped, passed}
+use Rattle.cbpf_dbg.specs.Cursor.{Stands, Moves, Ended, entered, stepped, passed}
 use Rattle.cbpf_dbg.proofs.JoinedLemmas.{ahead-entry, ahead-leave, ahead-end, place_at, entry}
 use Rattle.cbpf_dbg.proofs.CountLemmas.{counts-more}
 
@@ -168,23 +165,3 @@ pub counts-at : (machine : Machine) (capture : List Record) (n : ℕ)
     → ◌≡◌ {A = Counts} (record { passes = 0; fails = 0; unknown = 0 }) (counts machine capture n n)
 unfolding counts
 counts-at machine capture n = let z : n - n ≡ 0 = omega arith in rw z refl
-
--- the record of the place's packet, moved on
-pub here_after : (capture : List Record) (p q : ℕ) (item : Captured) (next : Option Captured)
-    → item.number ≡ p → q ≡ p + 1
-    → option_map record_of next ≡ slice_get capture item.number → IfSome next (λ c. c.number ≡ item.number + 1)
-    → IsHere capture q next
-here_after capture p q item next at on record_is number_is =
-    let e : item.number + 1 ≡ q = omega arith in
-    let i : item.number ≡ q - 1 = omega arith in
-    record { record_is = rw i at record_is; number_is = rw e at number_is }
-
-pub here_none : (capture : List Record) (p : ℕ) (next : Option Captured) → IsHere capture p next → next ≡ None
-    → slice_get capture (p - 1) ≡ None
-here_none capture p next h none = sym h.record_is ∙ ap (λ n. option_map record_of n) none
-
-pub here_some : (capture : List Record) (p : ℕ) (next : Option Captured) (item : Captured) → IsHere capture p next
-    → next ≡ Some item → (item.number ≡ p) × (slice_get capture (p - 1) ≡ Some (record_of item))
-here_some capture p next item h some =
-    let n = h.number_is in
-    (rw some at n, sym h.record_is ∙ ap (λ o. option_map record_of o) some)

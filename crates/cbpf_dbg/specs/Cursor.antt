@@ -1,7 +1,6 @@
 -- A cursor over the entries of a capture: it is a matter of this crate alone, and no public clause names it.
-use Rattle.std.specs.Option.{option_map}
 use Rattle.std.specs.Prelude.{◌≡◌, ℕ, ◌+◌, ◌-◌, ◌≤◌, ◌<◌, List, [], ◌∷◌, length, slice_get, take, drop, Option, Some, None}
-use Rattle.std.specs.Prelude.{IfSome, min, ◌⊎◌}
+use Rattle.std.specs.Prelude.{min, ◌⊎◌}
 use Rattle.cbpf_code.specs.Sound.{IsSound}
 use Rattle.cbpf_machine.specs.Registers.{Registers, zero_state}
 use Rattle.cbpf_machine.specs.declared.outcome.Outcome.{Outcome}
@@ -13,8 +12,6 @@ use Rattle.cbpf_machine.specs.Step.{turn}
 use Rattle.cbpf_machine.specs.Trace.{trace}
 use Rattle.pcap_classic.specs.Records.{Record}
 use Rattle.pcap_classic.specs.Savefile.{Savefile}
-use Rattle.pcap_classic.specs.Lent.{record_of}
-use Rattle.pcap_classic.specs.declared.captured.Captured.{Captured}
 use Rattle.cbpf_reply.specs.declared.reply.Place.{Place}
 use Rattle.cbpf_reply.specs.declared.reply.Counts.{Counts}
 use Rattle.cbpf_dbg.specs.declared.cursor.Cursor.{Cursor}
@@ -101,11 +98,6 @@ abbrev pub Ended : Machine → List Record → Cursor → Type 0
 Ended machine capture w =
     (w.place.packet ≡ length capture + 1) × (ahead machine capture w.place ≡ []) × (w.place.step ≡ 0)
 
--- the record of a place's packet, where there is one
-pub record IsHere (capture : List Record) (packet : ℕ) (here : Option Captured) : Type 0 where
-  pub record_is : option_map record_of here ≡ slice_get capture (packet - 1)
-  pub number_is : IfSome here (λ c. c.number ≡ packet)
-
 -- how many turns are owed to the end: one for each entry ahead, and one for the entry of the place
 abbrev pub owed : Machine → List Record → Place → ℕ
 owed machine capture place = length (ahead machine capture place) + min place.step 1
@@ -141,6 +133,10 @@ end_of (Some n) first count = min (first + n) (count + 1)
 -- the records from a packet on are left, up to an end
 abbrev pub AreLeft : List Record → ℕ → ℕ → List Record → Type 0
 AreLeft capture packet end left = left ≡ drop (packet - 1) (take (end - 1) capture)
+
+-- all records from a packet on are left
+abbrev pub AllLeft : List Record → ℕ → List Record → Type 0
+AllLeft capture packet left = AreLeft capture packet (length capture + 1) left
 
 -- a run from a place ends before this packet, which is a later one where the place's has begun
 pub record IsEnd (capture : List Record) (place : Place) (end : ℕ) : Type 0 where

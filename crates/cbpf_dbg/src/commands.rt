@@ -5,7 +5,7 @@ ghost use Rattle.cbpf_dbg.specs.Commands as spec;
 ghost use Rattle.cbpf_dbg.specs.Shown.{CanShow, Shows};
 ghost use Rattle.std.specs.List.{All};
 
-use crate::cursor::{Cursor, record_at};
+use crate::cursor::Cursor;
 use crate::loaded::Loaded;
 use crate::resume::resume_at;
 use crate::run::run;
@@ -242,7 +242,7 @@ impl<T: Trail, A: Allocator> Session<T, A> {
                 watched: &self.watched,
             },
             cursor: self.cursor,
-            here: record_at(capture, self.cursor.place.packet),
+            left: capture.records(self.cursor.place.packet, capture.count() + 1),
             meter: Meter::new(),
         })
     }

@@ -9,13 +9,13 @@ ghost use Rattle.cbpf_dbg.specs.Loaded.{machine_in, records_in};
 ghost use Rattle.cbpf_dbg.specs.View.{start};
 ghost use Rattle.cbpf_dbg.specs.declared.cursor.Moved.TheVariants as moved;
 ghost use Rattle.cbpf_machine.specs.declared.follow.Followed.TheVariants as ways;
-ghost use Rattle.cbpf_dbg.specs.Cursor.{Stands, Moves, IsEntry, IsHere, entered, stepped, passed, followed as after};
+ghost use Rattle.cbpf_dbg.specs.Cursor.{Stands, Moves, IsEntry, entered, stepped, passed, followed as after};
 ghost use Rattle.cbpf_dbg.specs.Cursor.{moved_by};
 
 use crate::loaded::Loaded;
 use cbpf_machine::{Followed, Meter, Outcome, Packet, State, turn_in_place};
 use cbpf_reply::{Counts, Place};
-use pcap_classic::{Capture, Captured};
+use pcap_classic::Captured;
 use std::alloc::Allocator;
 
 /// A place with its state, and the outcomes of the packets from the origin up to the place's.
@@ -145,18 +145,6 @@ impl Cursor {
         ensures origin { result.origin ≡ 1 }
     {
         Cursor::before(1)
-    }
-}
-
-/// The record of a packet; `None` after the last.
-pub(crate) fn record_at<A: Allocator>(capture: &Capture<A>, packet: u64) -> Option<Captured<'_>>
-    requires { 1 ≤ packet }
-    ensures { IsHere capture.entry.now.records packet result }
-{
-    if packet <= capture.count() {
-        Some(capture.item(packet))
-    } else {
-        None
     }
 }
 

@@ -9,7 +9,7 @@ ghost use Rattle.cbpf_dbg.specs.Loaded.{machine_in, records_in};
 ghost use Rattle.cbpf_dbg.specs.Session.{IsInside, Keeps};
 ghost use Rattle.cbpf_dbg.specs.Cursor.{Stands, owed, StepsOn, step_turns, StepsBack, CannotStepBack};
 
-use crate::cursor::{Cursor, Moved, advance, record_at};
+use crate::cursor::{Cursor, Moved, advance};
 use crate::hit::stop_at;
 use crate::loaded::Loaded;
 use cbpf_machine::{Meter, Packet, Trail, run_packet};
@@ -74,21 +74,15 @@ pub(crate) fn step_on<T: Trail, A: Allocator>(
     ensures turns { (breakpoints : Breakpoints) → meter.new
         ≡ meter.old + step_turns (machine_in loaded.now) loaded.now.capture.now breakpoints w.old n }
 {
-    let _few = loaded.capture.count();
+    let count = loaded.capture.count();
     let longest = u64::from(loaded.program.len());
     let mut left = n;
-    let mut next = record_at(loaded.capture, w.place.packet);
-    'go: loop {
-        let Some(here) = next else {
-            let counts = w.counts;
-            trail.clear();
-            *w = Cursor::start();
-            return RunReply::Finished(counts);
-        };
+    let mut records = loaded.capture.records(w.place.packet, count + 1);
+    'go: while let Some(here) = records.first() {
         // The entry that is sought is in a later packet.
         if w.place.step == 0 && left > longest {
             left -= skip_packet(meter, loaded, &here, w);
-            next = loaded.capture.following(&here);
+            let _ = records.next();
             continue;
         }
         match advance(meter, loaded, &here, w) {
@@ -101,10 +95,14 @@ pub(crate) fn step_on<T: Trail, A: Allocator>(
             }
             Moved::Packet => {
                 trail.clear();
-                next = loaded.capture.following(&here);
+                let _ = records.next();
             }
         }
     }
+    let counts = w.counts;
+    trail.clear();
+    *w = Cursor::start();
+    RunReply::Finished(counts)
 }
 
 /// Goes back by that many entries in the same packet, or returns the most that fits.

@@ -5,7 +5,7 @@ ghost use Rattle.std.specs.Iterator.{YieldsFirst, item_count};
 ghost use Rattle.cbpf_dbg.specs.Joined.{rest};
 ghost use Rattle.cbpf_dbg.specs.Loaded.{machine_in, records_in, breakpoints_in};
 ghost use Rattle.cbpf_dbg.specs.Session.{Watches};
-ghost use Rattle.cbpf_dbg.specs.Cursor.{Stands, owed, IsHere, PassesTo};
+ghost use Rattle.cbpf_dbg.specs.Cursor.{Stands, owed, AllLeft, PassesTo};
 ghost use Rattle.pcap_classic.specs.Lent.{record_of};
 ghost use Rattle.cbpf_dbg.specs.declared.cursor.Cursor.{Cursor};
 
@@ -14,7 +14,7 @@ use crate::hit::stop_at;
 use crate::loaded::Loaded;
 use cbpf_machine::{Meter, Packet, follow_on, follow_packet};
 use cbpf_reply::{Stop, Why};
-use pcap_classic::Captured;
+use pcap_classic::{Captured, Records};
 use std::alloc::{Allocator, Global};
 use std::marker::Model;
 
@@ -25,8 +25,8 @@ use std::marker::Model;
 pub struct Stops<'a, A: Allocator = Global> {
     pub(crate) loaded: Loaded<'a, A>,
     pub(crate) cursor: Cursor,
-    /// The record of the place's packet.
-    pub(crate) here: Option<Captured<'a>>,
+    /// The records of the packets from the place's on.
+    pub(crate) left: Records<'a>,
     pub(crate) meter: Meter,
 }
 
@@ -36,14 +36,14 @@ impl<'a, A: Allocator> Model for Stops<'a, A> {
     ghost use Rattle.cbpf_dbg.specs.Joined.{rest};
     ghost use Rattle.cbpf_dbg.specs.Loaded.{machine_in, records_in, breakpoints_in};
     ghost use Rattle.cbpf_dbg.specs.Session.{Watches};
-    ghost use Rattle.cbpf_dbg.specs.Cursor.{Stands, owed, IsHere};
+    ghost use Rattle.cbpf_dbg.specs.Cursor.{Stands, owed, AllLeft};
 
     ghost Value = { List Stop };
 
     ghost view = { λ s. rest (machine_in s.loaded) (records_in s.loaded) (breakpoints_in s.loaded) s.cursor.place };
 
     ghost invariant = { λ s. Stands (machine_in s.loaded) (records_in s.loaded) s.cursor
-        × IsHere (records_in s.loaded) s.cursor.place.packet s.here
+        × AllLeft (records_in s.loaded) s.cursor.place.packet s.left
         × Watches s.loaded.watched.now (machine_in s.loaded) (breakpoints_in s.loaded)
         × (s.meter + owed (machine_in s.loaded) (records_in s.loaded) s.cursor.place ≤ 2 ^ 127) };
 }
@@ -80,36 +80,33 @@ fn skip_to_hit<A: Allocator>(
     cursor.follow(followed)
 }
 
-/// Goes on to the next hit, or to the end, and returns the record of the place's packet.
+/// Goes on to the next hit, or to the end.
 #[inline(always)]
-fn next_stop<'a, A: Allocator>(
+fn next_stop<A: Allocator>(
     meter: &mut Meter,
-    loaded: &Loaded<'a, A>,
+    loaded: &Loaded<'_, A>,
     cursor: &mut Cursor,
-    first: Option<Captured<'a>>,
-) -> (Option<Stop>, Option<Captured<'a>>)
+    left: &mut Records<'_>,
+) -> Option<Stop>
     requires stands { Stands (machine_in loaded.now) (records_in loaded.now) cursor.old }
-    requires here { IsHere (records_in loaded.now) cursor.old.place.packet first }
+    requires left { AllLeft (records_in loaded.now) cursor.old.place.packet left.old }
     requires watched { Watches loaded.now.watched.now (machine_in loaded.now) (breakpoints_in loaded.now) }
     requires spare { meter.old + owed (machine_in loaded.now) (records_in loaded.now) cursor.old.place ≤ 2 ^ 127 }
     ensures stands { Stands (machine_in loaded.now) (records_in loaded.now) cursor.new }
-    ensures here { IsHere (records_in loaded.now) cursor.new.place.packet result.1 }
+    ensures left { AllLeft (records_in loaded.now) cursor.new.place.packet left.new }
     ensures spent { meter.new + owed (machine_in loaded.now) (records_in loaded.now) cursor.new.place
         ≡ meter.old + owed (machine_in loaded.now) (records_in loaded.now) cursor.old.place }
     ensures next { YieldsFirst
         (λ (v : Cursor). rest (machine_in loaded.now) (records_in loaded.now) (breakpoints_in loaded.now) v.place)
-        cursor.old result.0 cursor.new }
+        cursor.old result cursor.new }
 {
-    let mut next = first;
-    'go: loop {
-        let Some(here) = next else {
-            return (None, None);
-        };
-        match skip_to_hit(meter, loaded, &here, cursor) {
-            Moved::Entry => return (Some(stop_at(loaded, cursor, Why::Break)), next),
-            Moved::Packet => next = loaded.capture.following(&here),
+    'go: while let Some(here) = left.first() {
+        if let Moved::Entry = skip_to_hit(meter, loaded, &here, cursor) {
+            return Some(stop_at(loaded, cursor, Why::Break));
         }
+        let _ = left.next();
     }
+    None
 }
 
 impl<'a, A: Allocator> Iterator for Stops<'a, A> {
@@ -122,9 +119,8 @@ impl<'a, A: Allocator> Iterator for Stops<'a, A> {
     // It moves a copy, as a run does.
     fn next(&mut self) -> Option<Stop> {
         let mut cursor = self.cursor;
-        let (stop, here) = next_stop(&mut self.meter, &self.loaded, &mut cursor, self.here);
+        let stop = next_stop(&mut self.meter, &self.loaded, &mut cursor, &mut self.left);
         self.cursor = cursor;
-        self.here = here;
         stop
     }
 }

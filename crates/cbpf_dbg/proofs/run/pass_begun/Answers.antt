@@ -5,17 +5,17 @@ use Rattle.cbpf_dbg.proofs.run.pass_begun.Goals as goal
 
 pub finish_packet-requires-clause-here : goal.finish_packet-requires-clause-here
 finish_packet-requires-clause-here g c =
-    (first_left _ _ _ _ _ _ _ c.requires.stands c.records-left.ensures c.in-Some.ensures.steps c.requires.ends).here
+    (first_left _ _ _ _ _ _ _ c.requires.stands c.records-left.ensures c.in-Some.ensures.steps).here
 
 pub returns-in-Some-clause-left : goal.returns-in-Some-clause-left
 returns-in-Some-clause-left g c =
     rw c.finish_packet.ensures.place
-    (first_left _ _ _ _ _ _ _ c.requires.stands c.records-left.ensures c.in-Some.ensures.steps c.requires.ends).others
+    (first_left _ _ _ _ _ _ _ c.requires.stands c.records-left.ensures c.in-Some.ensures.steps).others
 
 pub returns-in-Some-clause-ends : goal.returns-in-Some-clause-ends
 returns-in-Some-clause-ends g c =
-    rw c.finish_packet.ensures.place
-    (first_left _ _ _ _ _ _ _ c.requires.stands c.records-left.ensures c.in-Some.ensures.steps c.requires.ends).ends
+    let first = first_left _ _ _ _ _ _ _ c.requires.stands c.records-left.ensures c.in-Some.ensures.steps in
+    rw c.finish_packet.ensures.place (first.ends c.requires.ends.within)
 
 pub returns-in_default-clause-before : goal.returns-in_default-clause-before
 returns-in_default-clause-before g c =

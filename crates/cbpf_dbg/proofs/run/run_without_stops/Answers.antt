@@ -15,7 +15,7 @@ pass_begun-left-requires-clause-spare g c =
 pub pass_whole-requires-clause-here : goal.pass_whole-requires-clause-here
 pass_whole-requires-clause-here g c =
     let so = c.go.invariant in
-    (first_left _ _ _ _ _ _ _ so.stands so.left c.in-Some.ensures.steps so.ends).here
+    (first_left _ _ _ _ _ _ _ so.stands so.left c.in-Some.ensures.steps).here
 
 pub pass_whole-requires-clause-few : goal.pass_whole-requires-clause-few
 pass_whole-requires-clause-few g c =
@@ -27,10 +27,10 @@ pub go-preserved : goal.go-preserved
 go-preserved g c =
     let so = c.go.invariant in
     let passed = c.pass_whole.ensures in
-    let first = first_left _ _ _ _ _ _ _ so.stands so.left c.in-Some.ensures.steps so.ends in
+    let first = first_left _ _ _ _ _ _ _ so.stands so.left c.in-Some.ensures.steps in
     record {
       left = rw passed.place first.others;
-      ends = rw passed.place first.ends;
+      ends = rw passed.place (first.ends so.ends.within);
       stands = passed.stands;
       same_origin = passed.origin ∙ so.same_origin;
       same_rest = passed.rest ∙ so.same_rest;

@@ -1,9 +1,9 @@
 use Rattle.std.proofs.Common.{◌≡◌, ◌+◌, ◌-◌, ◌<◌, [], length, arith, sym, ap, ◌∙◌, Some, None, slice_get, refl}
-use Rattle.std.proofs.lemmas.Option.{slice_get_within}
 use Rattle.cbpf_reply.specs.declared.reply.Place.{Place}
 use Rattle.cbpf_dbg.specs.Joined.{ahead}
 use Rattle.cbpf_dbg.specs.Cursor.{owed, entry_here}
-use Rattle.cbpf_dbg.proofs.CursorLemmas.{goes, here_after, here_some, here_none, cursor_ended}
+use Rattle.cbpf_dbg.proofs.CursorLemmas.{goes}
+use Rattle.cbpf_dbg.proofs.LeftLemmas.{first_left, first_of, none_of, nothing_left, passed_first}
 use Rattle.cbpf_dbg.proofs.RunLemmas.{slice_get-later, slice_get-first, step_stopped, step_finished}
 use Rattle.cbpf_dbg.proofs.KeepLemmas.{keeps_push, keeps_few, keeps_clear}
 use Rattle.cbpf_dbg.proofs.TurnLemmas.{step_turns-reply, spent_between, owed-turns, not_before_step}
@@ -67,7 +67,7 @@ go-preserved-in-Entry g c =
     rw m.4
     (slice_get-later (entry_here (machine_in c.args.loaded.now) m.0 c.advance.new.w) _ c.go.left (omega arith)) in
     record {
-      here = rw m.2 c.go.invariant.here;
+      records = rw m.2 c.go.invariant.records;
       stands = c.in-Entry.ensures.stands;
       keeps = keeps_push (λ xs. g.T.Trail.stands_for c.go.trail xs) (λ xs. g.T.Trail.stands_for c.push.new.self xs)
           (machine_in c.args.loaded.now) (records_in c.args.loaded.now) c.go.w.place c.advance.new.w m.0
@@ -80,10 +80,9 @@ go-preserved-in-Entry g c =
       spent = omega (arith, ap length m.4, m.3, c.in-Entry.ensures.turns, c.go.invariant.spent);
     }
 
-pub returns-in_default-clause-steps : goal.returns-in_default-clause-steps
-returns-in_default-clause-steps g c = λ breakpoints.
-    let m = cursor_ended (machine_in c.args.loaded.now) (records_in c.args.loaded.now) c.go.w c.go.invariant.stands
-    (here_none (records_in c.args.loaded.now) c.go.w.place.packet c.go.next c.go.invariant.here c.in_default.is) in
+pub returns-clause-steps : goal.returns-clause-steps
+returns-clause-steps g c = λ breakpoints.
+    let m = nothing_left _ _ _ _ c.go.invariant.stands c.go.invariant.records (none_of _ c.in_default.ensures) in
     let none : slice_get (ahead (machine_in c.args.loaded.now) (records_in c.args.loaded.now) c.go.w.place)
     (c.go.left - 1) ≡ None = rw m.1 refl in
     (step_finished (machine_in c.args.loaded.now) c.args.loaded.now.capture.now breakpoints c.args.n c.args.w.now
@@ -91,81 +90,78 @@ returns-in_default-clause-steps g c = λ breakpoints.
     (sym c.go.invariant.sought ∙ none) c.go.invariant.stands c.go.invariant.same_origin m.0 c.start.ensures.place
     c.start.ensures.origin)
 
-pub returns-in_default-clause-turns : goal.returns-in_default-clause-turns
-returns-in_default-clause-turns g c = λ breakpoints.
-    let m = cursor_ended (machine_in c.args.loaded.now) (records_in c.args.loaded.now) c.go.w c.go.invariant.stands
-    (here_none (records_in c.args.loaded.now) c.go.w.place.packet c.go.next c.go.invariant.here c.in_default.is) in
-    let steps = returns-in_default-clause-steps g c breakpoints in
+pub returns-clause-turns : goal.returns-clause-turns
+returns-clause-turns g c = λ breakpoints.
+    let m = nothing_left _ _ _ _ c.go.invariant.stands c.go.invariant.records (none_of _ c.in_default.ensures) in
+    let steps = returns-clause-steps g c breakpoints in
     let all =
     owed-turns (machine_in c.args.loaded.now) (records_in c.args.loaded.now) c.args.w.now c.requires.stands in
     rw (step_turns-reply _ _ _ _ _ _ _ steps)
     (omega (arith, all, ap length m.1, m.2, c.go.invariant.spent))
 
+pub advance-requires-clause-here : goal.advance-requires-clause-here
+advance-requires-clause-here g c =
+    (first_left _ _ _ _ _ _ _ c.go.invariant.stands c.go.invariant.records (first_of _ _ c.in-Some.ensures)).here
+
 pub go-preserved : goal.go-preserved
 go-preserved g c =
-    let m = c.in-Packet.ensures.moves in
-    let at = here_some (records_in c.args.loaded.now) c.go.w.place.packet c.go.next c.in-Some.here c.go.invariant.here
-    c.in-Some.is in
-    let e : c.advance.new.w.place.packet ≡ c.go.w.place.packet + 1 = ap (λ (q : Place). q.packet) m.0 in
-    let z : c.advance.new.w.place.step ≡ 0 = ap (λ (q : Place). q.step) m.0 in
+    let so = c.go.invariant in
+    let moved = c.in-Packet.ensures in
+    let first = first_left _ _ _ _ _ _ _ so.stands so.records
+    (passed_first _ _ _ _ c.in-Some.ensures c.next-in-Packet.ensures.steps) in
+    let before : c.advance.new.w.place.step ≡ 0 = ap (λ (q : Place). q.step) moved.moves.0 in
     record {
-      here = here_after (records_in c.args.loaded.now) c.go.w.place.packet c.advance.new.w.place.packet c.in-Some.here
-          c.following-next-in-Packet.result at.0 e
-          c.following-next-in-Packet.ensures.record c.following-next-in-Packet.ensures.number;
-      stands = c.in-Packet.ensures.stands;
-      keeps = keeps_clear (λ xs. g.T.Trail.stands_for c.clear-in-Packet.new.self xs) (machine_in c.args.loaded.now)
-          (records_in c.args.loaded.now) c.advance.new.w.place z c.clear-in-Packet.ensures;
-      same_origin = c.in-Packet.ensures.origin ∙ c.go.invariant.same_origin;
-      some = c.go.invariant.some;
-      sought = rw (← m.1) c.go.invariant.sought;
-      order = not_before_packet c.args.w.now.place c.go.w.place c.advance.new.w.place c.go.invariant.order e;
-      spent = omega (arith, ap length m.1, z, c.in-Packet.ensures.turns, c.go.invariant.spent);
+      records = rw moved.moves.0 first.others;
+      stands = moved.stands;
+      keeps = keeps_clear (λ xs. g.T.Trail.stands_for c.clear.new.self xs) (machine_in c.args.loaded.now)
+          (records_in c.args.loaded.now) c.advance.new.w.place before c.clear.ensures;
+      same_origin = moved.origin ∙ so.same_origin;
+      some = so.some;
+      sought = rw (← moved.moves.1) so.sought;
+      order = not_before_packet c.args.w.now.place c.go.w.place c.advance.new.w.place so.order
+          (ap (λ (q : Place). q.packet) moved.moves.0);
+      spent = omega (arith, ap length moved.moves.1, before, moved.turns, so.spent);
     }
 
 pub skip_packet-left-requires-clause-early : goal.skip_packet-left-requires-clause-early
 skip_packet-left-requires-clause-early g c =
     let most = owed_bound (machine_in c.args.loaded.now) (records_in c.args.loaded.now) c.args.w.now.place
-    c.requires.stands.sound (omega (arith, c.count-few.ensures.bounded, c.count-few.ensures.value)) in
+    c.requires.stands.sound (omega (arith, c.count-count.ensures.bounded, c.count-count.ensures.value)) in
     let early = c.requires.early in
     omega (arith, most, early, c.go.invariant.spent)
 
+pub skip_packet-left-requires-clause-here : goal.skip_packet-left-requires-clause-here
+skip_packet-left-requires-clause-here g c =
+    (first_left _ _ _ _ _ _ _ c.go.invariant.stands c.go.invariant.records (first_of _ _ c.in-Some.ensures)).here
+
 pub go-smaller-then-left-longest : goal.go-smaller-then-left-longest
 go-smaller-then-left-longest g c =
-    let at = here_some (records_in c.args.loaded.now) c.go.w.place.packet c.go.next c.in-Some.here c.go.invariant.here
-    c.in-Some.is in
-    let within = slice_get_within (records_in c.args.loaded.now) (c.go.w.place.packet - 1) _ at.1 in
-    let e : c.skip_packet-left.new.w.place.packet ≡ c.go.w.place.packet + 1 =
-    ap (λ (q : Place). q.packet) c.skip_packet-left.ensures.place in
-    omega (arith, c.skip_packet-left.ensures.ahead, e, within)
+    let skipped = c.skip_packet-left.ensures in
+    let within = skipped.stands.within in
+    let on : c.skip_packet-left.new.w.place.packet ≡ c.go.w.place.packet + 1 =
+    ap (λ (q : Place). q.packet) skipped.place in
+    omega (arith, skipped.ahead, on, within)
 
 pub go-preserved-then-left-longest : goal.go-preserved-then-left-longest
 go-preserved-then-left-longest g c =
-    let at = here_some (records_in c.args.loaded.now) c.go.w.place.packet c.go.next c.in-Some.here c.go.invariant.here
-    c.in-Some.is in
-    let e : c.skip_packet-left.new.w.place.packet ≡ c.go.w.place.packet + 1 =
-    ap (λ (q : Place). q.packet) c.skip_packet-left.ensures.place in
-    let z : c.skip_packet-left.new.w.place.step ≡ 0 = ap (λ (q : Place). q.step) c.skip_packet-left.ensures.place in
+    let so = c.go.invariant in
+    let skipped = c.skip_packet-left.ensures in
+    let first = first_left _ _ _ _ _ _ _ so.stands so.records
+    (passed_first _ _ _ _ c.in-Some.ensures c.next.ensures.steps) in
+    let z : c.skip_packet-left.new.w.place.step ≡ 0 = ap (λ (q : Place). q.step) skipped.place in
     let before : c.go.w.place.step ≡ 0 = omega (arith, c.if-w-eq0.true) in
-    let empty : g.T.Trail.stands_for c.go.trail [] = rw before at (c.go.invariant.keeps _ at.1) in
+    let empty : g.T.Trail.stands_for c.go.trail [] = rw before at (so.keeps _ first.here) in
     let fits : c.skip_packet-left.result < c.go.left = omega
-    (arith, c.if-left-longest.true, c.skip_packet-left.ensures.few, c.from-longest.ensures, c.len.ensures.value) in
+    (arith, c.if-left-longest.true, skipped.few, c.from-longest.ensures, c.len.ensures.value) in
     record {
-      here = here_after (records_in c.args.loaded.now) c.go.w.place.packet c.skip_packet-left.new.w.place.packet
-          c.in-Some.here c.following-next.result at.0 e
-          c.following-next.ensures.record c.following-next.ensures.number;
-      stands = c.skip_packet-left.ensures.stands;
+      records = rw skipped.place first.others;
+      stands = skipped.stands;
       keeps = keeps_clear (λ xs. g.T.Trail.stands_for c.go.trail xs) (machine_in c.args.loaded.now)
           (records_in c.args.loaded.now) c.skip_packet-left.new.w.place z empty;
-      same_origin = c.skip_packet-left.ensures.origin ∙ c.go.invariant.same_origin;
+      same_origin = skipped.origin ∙ so.same_origin;
       some = omega (arith, fits);
-      sought = sym (c.skip_packet-left.ensures.later c.go.left fits) ∙ c.go.invariant.sought;
-      order = not_before_packet c.args.w.now.place c.go.w.place c.skip_packet-left.new.w.place c.go.invariant.order e;
-      spent = omega (
-        arith,
-        c.skip_packet-left.ensures.ahead,
-        c.skip_packet-left.ensures.turns,
-        z,
-        before,
-        c.go.invariant.spent,
-      );
+      sought = sym (skipped.later c.go.left fits) ∙ so.sought;
+      order = not_before_packet c.args.w.now.place c.go.w.place c.skip_packet-left.new.w.place so.order
+          (ap (λ (q : Place). q.packet) skipped.place);
+      spent = omega (arith, skipped.ahead, skipped.turns, z, before, so.spent);
     }

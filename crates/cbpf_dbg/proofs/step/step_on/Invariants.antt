@@ -1,6 +1,6 @@
 use Rattle.std.proofs.Common.{◌≡◌, ◌+◌, ◌-◌, ◌≤◌, length, slice_get}
 use Rattle.cbpf_dbg.specs.Joined.{ahead}
-use Rattle.cbpf_dbg.specs.Cursor.{Stands, owed, NotBefore, IsHere}
+use Rattle.cbpf_dbg.specs.Cursor.{Stands, owed, NotBefore, AllLeft}
 use Rattle.cbpf_dbg.specs.Session.{Keeps}
 use Rattle.cbpf_dbg.specs.Loaded.{machine_in, records_in}
 use Rattle.cbpf_dbg.proofs.step.step_on.Given as goal
@@ -9,7 +9,7 @@ use Rattle.cbpf_dbg.proofs.step.step_on.Given as goal
 abbrev pub invariant-go : goal.invariant-go
 invariant-go g l =
     record {
-      here : IsHere (records_in l.loaded) l.w.place.packet l.next;
+      records : AllLeft (records_in l.loaded) l.w.place.packet l.records;
       stands : Stands (machine_in l.loaded) (records_in l.loaded) l.w;
       keeps : Keeps (λ xs. g.T.Trail.stands_for l.trail xs) (machine_in l.loaded) (records_in l.loaded) l.w.place;
       same_origin : l.w.origin ≡ l.initial.w.origin;

@@ -1,6 +1,6 @@
 use Rattle.std.proofs.Common.{◌≡◌, ◌+◌, ◌-◌, length}
 use Rattle.cbpf_dbg.specs.Joined.{rest}
-use Rattle.cbpf_dbg.specs.Cursor.{Stands, owed, IsHere}
+use Rattle.cbpf_dbg.specs.Cursor.{Stands, owed, AllLeft}
 use Rattle.cbpf_dbg.specs.Loaded.{machine_in, records_in, breakpoints_in}
 use Rattle.cbpf_dbg.proofs.stops.next_stop.Given as goal
 
@@ -8,7 +8,7 @@ use Rattle.cbpf_dbg.proofs.stops.next_stop.Given as goal
 abbrev pub invariant-go : goal.invariant-go
 invariant-go g l =
     record {
-      here : IsHere (records_in l.loaded) l.cursor.place.packet l.next;
+      left : AllLeft (records_in l.loaded) l.cursor.place.packet l.left;
       stands : Stands (machine_in l.loaded) (records_in l.loaded) l.cursor;
       same_rest : rest (machine_in l.loaded) (records_in l.loaded) (breakpoints_in l.loaded) l.cursor.place
           ≡ rest (machine_in l.loaded) (records_in l.loaded) (breakpoints_in l.loaded) l.initial.cursor.place;
