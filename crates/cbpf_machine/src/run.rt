@@ -5,9 +5,9 @@ ghost use Rattle.cbpf_machine.specs.Trace as spec;
 use crate::meter::Meter;
 use crate::outcome::Outcome;
 use crate::packet::Packet;
-use crate::pass::pass;
 use crate::pause::Never;
 use crate::state::State;
+use crate::together::pass;
 use crate::values::Values;
 use cbpf_code::Program;
 use std::alloc::Allocator;
@@ -37,10 +37,10 @@ pub fn run_packet<A: Allocator>(
     let _sound = p.len();
     // It is this function's own, so it stays in those registers.
     let mut s = State::zero();
-    match pass::<Never, A, false>(&Never, p, packet, values, &mut s) {
-        (turns, Some(outcome)) => {
+    match pass::<Never, A, true>(&Never, p, packet, values, &mut s) {
+        (turns, Some(end)) => {
             meter.add(turns);
-            outcome
+            Outcome::from(end)
         }
         _ => unreachable!(),
     }

@@ -1,4 +1,4 @@
-use Rattle.std.proofs.Common.{[], arith, false}
+use Rattle.std.proofs.Common.{[], ◌∙◌, arith, false}
 use Rattle.cbpf_machine.specs.Registers.{zero_state}
 use Rattle.cbpf_machine.specs.Machine.{machine_of}
 use Rattle.cbpf_machine.specs.Trace.{trace}
@@ -15,7 +15,7 @@ pass-requires g c = start_inside (machine_of c.args.p.now c.args.values.now) c.a
 pub add-requires : goal.add-requires
 add-requires g c =
     let whole = whole_run (machine_of c.args.p.now c.args.values.now) c.args.packet.bytes.now c.args.packet.wire
-    (λ r. false) c.pass.new.s c.pass.result.0 c.pass.result.1 c.in_default-Some.outcome c.len-sound.ensures.sound
+    (λ r. false) c.pass.new.s c.pass.result.0 c.pass.result.1 c.in_default-Some.end c.len-sound.ensures.sound
     c.pass.ensures.some c.in_default-Some.is-1 (c.pass.ensures.reaches
     (trace (machine_of c.args.p.now c.args.values.now) c.args.packet.bytes.now c.args.packet.wire)
     0 (start_goes (machine_of c.args.p.now c.args.values.now) c.args.packet.bytes.now c.args.packet.wire []
@@ -31,8 +31,8 @@ add-requires g c =
     )
 
 pub returns-clause-value : goal.returns-clause-value
-returns-clause-value g c = (whole_run (machine_of c.args.p.now c.args.values.now) c.args.packet.bytes.now
-    c.args.packet.wire (λ r. false) c.pass.new.s c.pass.result.0 c.pass.result.1 c.in_default-Some.outcome
+returns-clause-value g c = c.from.ensures ∙ (whole_run (machine_of c.args.p.now c.args.values.now) c.args.packet.bytes.now
+    c.args.packet.wire (λ r. false) c.pass.new.s c.pass.result.0 c.pass.result.1 c.in_default-Some.end
     c.len-sound.ensures.sound c.pass.ensures.some c.in_default-Some.is-1 (c.pass.ensures.reaches
     (trace (machine_of c.args.p.now c.args.values.now) c.args.packet.bytes.now c.args.packet.wire)
     0 (start_goes (machine_of c.args.p.now c.args.values.now) c.args.packet.bytes.now c.args.packet.wire []
@@ -41,7 +41,7 @@ returns-clause-value g c = (whole_run (machine_of c.args.p.now c.args.values.now
 pub returns-clause-turns : goal.returns-clause-turns
 returns-clause-turns g c =
     let whole = whole_run (machine_of c.args.p.now c.args.values.now) c.args.packet.bytes.now c.args.packet.wire
-    (λ r. false) c.pass.new.s c.pass.result.0 c.pass.result.1 c.in_default-Some.outcome c.len-sound.ensures.sound
+    (λ r. false) c.pass.new.s c.pass.result.0 c.pass.result.1 c.in_default-Some.end c.len-sound.ensures.sound
     c.pass.ensures.some c.in_default-Some.is-1 (c.pass.ensures.reaches
     (trace (machine_of c.args.p.now c.args.values.now) c.args.packet.bytes.now c.args.packet.wire)
     0 (start_goes (machine_of c.args.p.now c.args.values.now) c.args.packet.bytes.now c.args.packet.wire []
@@ -52,7 +52,7 @@ returns-clause-turns g c =
 pub returns-clause-few : goal.returns-clause-few
 returns-clause-few g c =
     let whole = whole_run (machine_of c.args.p.now c.args.values.now) c.args.packet.bytes.now c.args.packet.wire
-    (λ r. false) c.pass.new.s c.pass.result.0 c.pass.result.1 c.in_default-Some.outcome c.len-sound.ensures.sound
+    (λ r. false) c.pass.new.s c.pass.result.0 c.pass.result.1 c.in_default-Some.end c.len-sound.ensures.sound
     c.pass.ensures.some c.in_default-Some.is-1 (c.pass.ensures.reaches
     (trace (machine_of c.args.p.now c.args.values.now) c.args.packet.bytes.now c.args.packet.wire)
     0 (start_goes (machine_of c.args.p.now c.args.values.now) c.args.packet.bytes.now c.args.packet.wire []

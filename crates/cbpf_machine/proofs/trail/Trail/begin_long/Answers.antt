@@ -34,7 +34,7 @@ returns-in-Some-clause-follows g c =
     let end = start_end (machine_of c.args.p.now c.args.values.now) c.args.bytes.now c.args.wire
     c.args.watched.now c.zero-first.result c.zero-first.ensures c.len-few.ensures.sound
     (sym c.pauses_at.ensures ∙ c.if-pauses_at.false) _ c.pass_some_from_start-turns.ensures.some _ _ _
-    c.pass_some_from_start-turns.ensures.passes _ c.in-Some.is in
+    c.pass_some_from_start-turns.ensures.passes _ _ c.in-Some.is c.from.ensures in
     (end.0.0, end.0.1, refl)
 
 pub returns-in-Some-clause-turns : goal.returns-in-Some-clause-turns
@@ -42,7 +42,7 @@ returns-in-Some-clause-turns g c =
     let end = start_end (machine_of c.args.p.now c.args.values.now) c.args.bytes.now c.args.wire
     c.args.watched.now c.zero-first.result c.zero-first.ensures c.len-few.ensures.sound
     (sym c.pauses_at.ensures ∙ c.if-pauses_at.false) _ c.pass_some_from_start-turns.ensures.some _ _ _
-    c.pass_some_from_start-turns.ensures.passes _ c.in-Some.is in
+    c.pass_some_from_start-turns.ensures.passes _ _ c.in-Some.is c.from.ensures in
     omega (arith, end.1, c.add.ensures)
 
 pub keep-requires : goal.keep-requires

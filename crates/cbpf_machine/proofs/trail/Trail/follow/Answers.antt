@@ -46,7 +46,7 @@ returns-in-Some-clause-follows g c =
     let end = ended _ _ _ _ _ _ _ _ _ _ c.follow.invariant.sound c.follow.invariant.from_one
     c.pass_some-turns.ensures.some
     c.follow.invariant.unwatched (c.pass_some-turns.ensures.passes _ _ c.follow.invariant.here) _ c.in-Some.is in
-    (end.1, end.2, c.follow.invariant.state)
+    (end.1, c.from.ensures ∙ end.2, c.follow.invariant.state)
 
 pub returns-in-Some-clause-stands : goal.returns-in-Some-clause-stands
 returns-in-Some-clause-stands g c =
