@@ -101,9 +101,10 @@ impl Line {
         ensures text { self.new ≡ text.now ++ self.old }
         ensures grown { length self.new ≡ length self.old + length text.now }
     {
-        let end = self.at;
-        self.at = end - text.len();
-        self.bytes[self.at..end].copy_from_slice(text);
+        // The place is stored last: so it stays in a register from one text to the next.
+        let at = self.at - text.len();
+        self.bytes[at..self.at].copy_from_slice(text);
+        self.at = at;
     }
 
     /// Puts a number of 64 bits in decimal, which takes at most 20 places.

@@ -13,8 +13,10 @@ use std::io::Write;
 #[derive(Clone, Copy, PartialEq, Eq, Debug)]
 pub struct WriteFault;
 
-/// Writes a text whole, by as many calls of `write` as the writer needs.
-pub fn write_bytes<W: Write>(w: &mut W, text: &[u8]) -> Result<(), WriteFault>
+/// Writes what a first call of `write` left of a text.
+#[cold]
+#[inline(never)]
+fn write_rest<W: Write>(w: &mut W, text: &[u8]) -> Result<(), WriteFault>
     ensures { Wrote (W.contents w.old) (W.contents w.new) result text.now }
 {
     let mut at = 0;
@@ -26,6 +28,22 @@ pub fn write_bytes<W: Write>(w: &mut W, text: &[u8]) -> Result<(), WriteFault>
         }
     }
     Ok(())
+}
+
+/// Writes a text whole, by as many calls of `write` as the writer needs.
+pub fn write_bytes<W: Write>(w: &mut W, text: &[u8]) -> Result<(), WriteFault>
+    ensures { Wrote (W.contents w.old) (W.contents w.new) result text.now }
+{
+    if text.is_empty() {
+        return Ok(());
+    }
+    // Nearly each text goes out by one call, and so without the loop.
+    match w.write(text) {
+        Ok(0) => Err(WriteFault),
+        Ok(n) if n < text.len() => write_rest(w, &text[n..]),
+        Ok(_) => Ok(()),
+        Err(_) => Err(WriteFault),
+    }
 }
 
 /// Writes the parts one after another.

@@ -1,28 +1,26 @@
-use Rattle.std.proofs.Common.{◌+◌, take_all, arith}
-use Rattle.std.proofs.lemmas.Grind.{common_steps}
-use Rattle.cbpf_code.proofs.WrittenLemmas.{part-take, appended-kept, appended-nil, stepped}
+use Rattle.std.proofs.Common.{◌≡◌, [], length, take_all, rules, arith}
+use Rattle.std.proofs.lemmas.List.{nil_from_length}
+use Rattle.cbpf_code.proofs.WrittenLemmas.{part-take, appended-by, appended-kept, appended-nil, rest-wrote}
 use Rattle.cbpf_code.proofs.writing.write_bytes.Goals as goal
+
+pub returns-then-is_empty : goal.returns-then-is_empty
+returns-then-is_empty g c =
+    let none : length c.args.text.now ≡ 0 = search (rules, c.if-is_empty.true, c.is_empty.ensures) in
+    rw (nil_from_length c.args.text.now none) (appended-nil _)
 
 pub returns-in-Ok-eq0 : goal.returns-in-Ok-eq0
 returns-in-Ok-eq0 g c =
-    part-take _ _ (c.loop-at.at + c.in-Ok-eq0.field-0) _
-    (stepped _ _ _ _ c.loop-at.at c.in-Ok-eq0.field-0 (omega arith) c.loop-at.invariant.so_far
-    c.in-Ok-eq0.ensures.bytes)
+    part-take _ _ c.in-Ok-eq0.field-0 _ (appended-by _ _ _ [] _ (appended-nil _) c.in-Ok-eq0.ensures.bytes)
+
+pub returns-in-Ok : goal.returns-in-Ok
+returns-in-Ok g c =
+    rest-wrote _ _ _ c.args.text.now c.in-Ok.n _ (appended-by _ _ _ [] _ (appended-nil _) c.in-Ok.ensures.bytes)
+    c.write_rest.ensures
+
+pub returns-in-Ok-2 : goal.returns-in-Ok-2
+returns-in-Ok-2 g c =
+    rw (← take_all c.in-Ok-2.field-0 c.args.text.now (omega arith))
+    (appended-by _ _ _ [] _ (appended-nil _) c.in-Ok-2.ensures.bytes)
 
 pub returns-in-Err : goal.returns-in-Err
-returns-in-Err g c =
-    part-take _ _ c.loop-at.at _ (appended-kept _ _ _ _ c.loop-at.invariant.so_far c.in-Err.ensures.bytes)
-
-pub loop-at-preserved : goal.loop-at-preserved
-loop-at-preserved g c = record {
-  within = grind (arith, common_steps);
-  so_far = stepped _ _ _ _ c.loop-at.at c.in-Ok.n (grind (arith, common_steps)) c.loop-at.invariant.so_far
-      c.in-Ok.ensures.bytes;
-}
-
-pub loop-at-init : goal.loop-at-init
-loop-at-init g c = record { within = omega arith; so_far = appended-nil _ }
-
-pub returns : goal.returns
-returns g c =
-    rw (← take_all c.loop-at.at c.args.text.now c.loop-at-test.false) c.loop-at.invariant.so_far
+returns-in-Err g c = part-take _ _ 0 _ (appended-kept _ _ _ [] (appended-nil _) c.in-Err.ensures.bytes)

@@ -1,6 +1,6 @@
 use Rattle.std.proofs.Common.{length, ◌-◌, ◌≤◌, take}
 use Rattle.cbpf_code.specs.Writing.{Appended}
-use Rattle.cbpf_code.proofs.writing.write_bytes.Given as goal
+use Rattle.cbpf_code.proofs.writing.write_rest.Given as goal
 
 abbrev pub invariant-loop-at : goal.invariant-loop-at
 invariant-loop-at g l = record {
