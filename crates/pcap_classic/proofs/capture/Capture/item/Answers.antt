@@ -1,8 +1,0 @@
-use Rattle.std.proofs.Common.{rules}
-use Rattle.pcap_classic.proofs.capture.Capture.item.Goals as goal
-
-pub returns-clause-record : goal.returns-clause-record
-returns-clause-record g c = search rules
-
-pub returns-clause-number : goal.returns-clause-number
-returns-clause-number g c = search rules
