@@ -14,8 +14,8 @@ ghost use Rattle.cbpf_syntax.specs.Views.{lexeme_of};
 
 use crate::item::{Row, instruction, starts_with_label};
 use crate::lexeme::{Lexeme, read_token};
-use crate::range::large_negative;
 use crate::lexer::Lexer;
+use crate::range::large_negative;
 use crate::token::LexFault;
 use std::alloc::Allocator;
 use std::marker::Model;

@@ -7,9 +7,9 @@ ghost use Rattle.cbpf_tests.specs.Events.{event};
 use crate::done::Done;
 use crate::fault_injection::RefusingAllocator;
 use crate::loaded::{ARP, ARP_WORDS, TWO_PACKETS};
-use cbpf_tool::{asm_job, dbg_job};
 use cbpf_tool::{
-    CreateFault, Failure, Files, Form, Host, Job, LoadFault, ToolFault, run_on, status_of,
+    CreateFault, Failure, Files, Form, Host, Job, LoadFault, ToolFault, asm_job, dbg_job, run_on,
+    status_of,
 };
 use std::alloc::Allocator;
 use std::io::{self, ErrorKind};

@@ -19,8 +19,8 @@ mod placed_fault;
 mod source;
 
 pub use assembler::assemble;
-pub use cbpf_syntax::{Kind, Token};
 pub use cbpf_code::write_line;
+pub use cbpf_syntax::{Kind, Token};
 pub use fault::{AsmFault, AsmKind};
 pub use law::{listing_assembles, one_assembly};
 pub use listing::write_listing;

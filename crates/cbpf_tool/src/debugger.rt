@@ -8,6 +8,7 @@ ghost use Rattle.cbpf_tool.specs.Progress.{LineRan};
 ghost use Rattle.cbpf_tool.specs.Reading.{pending_in};
 ghost use Rattle.cbpf_tool.specs.declared.fault.ToolFault.TheVariants as fault;
 
+use crate::command::{Command, CommandFault, command_of};
 use crate::fault::ToolFault;
 use crate::files::Files;
 use crate::flushing::flush;
@@ -16,7 +17,6 @@ use crate::loads::{load_capture, load_words};
 use crate::perform;
 use crate::session_replies::write_breakpoints;
 use cbpf_code::WriteFault;
-use crate::command::{Command, CommandFault, command_of};
 use cbpf_dbg::{MarkTrail, Session, When};
 use cbpf_reply::{write_unknown_command, write_wrong_arguments};
 use std::alloc::Allocator;
