@@ -1,7 +1,8 @@
-use Rattle.std.proofs.Common.{[], ◌∙◌, arith, false}
+use Rattle.std.proofs.Common.{◌∙◌, arith, false}
 use Rattle.cbpf_machine.specs.Registers.{zero_state}
 use Rattle.cbpf_machine.specs.Machine.{machine_of}
 use Rattle.cbpf_machine.specs.Trace.{trace}
+use Rattle.cbpf_machine.specs.Follow.{nothing}
 use Rattle.cbpf_machine.proofs.TraceLemmas.{length-trace_from, trace-is_run}
 use Rattle.cbpf_machine.proofs.SoundLemmas.{sound_few}
 use Rattle.cbpf_machine.proofs.FollowLemmas.{start_inside, start_goes}
@@ -10,7 +11,7 @@ use Rattle.cbpf_machine.proofs.run.run_packet.Goals as goal
 
 pub pass-requires : goal.pass-requires
 pass-requires g c = start_inside (machine_of c.args.p.now c.args.values.now) c.args.packet.bytes.now
-    c.args.packet.wire [] c.zero-s.result c.zero-s.ensures c.len-sound.ensures.sound
+    c.args.packet.wire nothing c.zero-s.result c.zero-s.ensures c.len-sound.ensures.sound
 
 pub add-requires : goal.add-requires
 add-requires g c =
@@ -18,7 +19,7 @@ add-requires g c =
     (λ r. false) c.pass.new.s c.pass.result.0 c.pass.result.1 c.in_default-Some.end c.len-sound.ensures.sound
     c.pass.ensures.some c.in_default-Some.is-1 (c.pass.ensures.reaches
     (trace (machine_of c.args.p.now c.args.values.now) c.args.packet.bytes.now c.args.packet.wire)
-    0 (start_goes (machine_of c.args.p.now c.args.values.now) c.args.packet.bytes.now c.args.packet.wire []
+    0 (start_goes (machine_of c.args.p.now c.args.values.now) c.args.packet.bytes.now c.args.packet.wire nothing
     c.zero-s.result c.zero-s.ensures c.len-sound.ensures.sound)) in
     let long = whole.0 in
     omega (
@@ -35,7 +36,7 @@ returns-clause-value g c = c.from.ensures ∙ (whole_run (machine_of c.args.p.no
     c.args.packet.wire (λ r. false) c.pass.new.s c.pass.result.0 c.pass.result.1 c.in_default-Some.end
     c.len-sound.ensures.sound c.pass.ensures.some c.in_default-Some.is-1 (c.pass.ensures.reaches
     (trace (machine_of c.args.p.now c.args.values.now) c.args.packet.bytes.now c.args.packet.wire)
-    0 (start_goes (machine_of c.args.p.now c.args.values.now) c.args.packet.bytes.now c.args.packet.wire []
+    0 (start_goes (machine_of c.args.p.now c.args.values.now) c.args.packet.bytes.now c.args.packet.wire nothing
     c.zero-s.result c.zero-s.ensures c.len-sound.ensures.sound))).1
 
 pub returns-clause-turns : goal.returns-clause-turns
@@ -44,7 +45,7 @@ returns-clause-turns g c =
     (λ r. false) c.pass.new.s c.pass.result.0 c.pass.result.1 c.in_default-Some.end c.len-sound.ensures.sound
     c.pass.ensures.some c.in_default-Some.is-1 (c.pass.ensures.reaches
     (trace (machine_of c.args.p.now c.args.values.now) c.args.packet.bytes.now c.args.packet.wire)
-    0 (start_goes (machine_of c.args.p.now c.args.values.now) c.args.packet.bytes.now c.args.packet.wire []
+    0 (start_goes (machine_of c.args.p.now c.args.values.now) c.args.packet.bytes.now c.args.packet.wire nothing
     c.zero-s.result c.zero-s.ensures c.len-sound.ensures.sound)) in
     let long = whole.0 in
     omega (arith, long, c.add.ensures)
@@ -55,7 +56,7 @@ returns-clause-few g c =
     (λ r. false) c.pass.new.s c.pass.result.0 c.pass.result.1 c.in_default-Some.end c.len-sound.ensures.sound
     c.pass.ensures.some c.in_default-Some.is-1 (c.pass.ensures.reaches
     (trace (machine_of c.args.p.now c.args.values.now) c.args.packet.bytes.now c.args.packet.wire)
-    0 (start_goes (machine_of c.args.p.now c.args.values.now) c.args.packet.bytes.now c.args.packet.wire []
+    0 (start_goes (machine_of c.args.p.now c.args.values.now) c.args.packet.bytes.now c.args.packet.wire nothing
     c.zero-s.result c.zero-s.ensures c.len-sound.ensures.sound)) in
     let long = whole.0 in
     omega (

@@ -240,7 +240,7 @@ returns-in-Ended-clause-follows g c =
     (rw last at on.2) begun in
     let now : c.pass_some_from_start-turns.result.0 ≡ g.Self.Trail.kept c.keep.new.self - 1 =
     omega (arith, one, kept.1) in
-    ends_begun _ _ _ _ _ _ _ _ (omega (arith, one, kept.1)) (rw now at on.0) (rw now at on.2)
+    ends_begun c.args.watched.now _ _ _ _ _ _ _ (omega (arith, one, kept.1)) (rw now at on.0) (rw now at on.2)
     (sym c.pauses_at-2.ensures ∙ c.if-pauses_at-2.false) c.in-Ended.ensures.follows
 
 pub returns-in-Ended-clause-turns : goal.returns-in-Ended-clause-turns

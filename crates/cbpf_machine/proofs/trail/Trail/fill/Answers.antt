@@ -1,5 +1,6 @@
 use Rattle.std.proofs.Common.{◌≡◌, [], arith, refl, sym, subst}
 use Rattle.cbpf_machine.specs.Machine.{machine_of}
+use Rattle.cbpf_machine.specs.Follow.{nothing}
 use Rattle.cbpf_machine.proofs.TraceLemmas.{goes_at}
 use Rattle.cbpf_machine.proofs.FollowLemmas.{unwatched_none, came, ended, came_within, start_goes, start_taken}
 use Rattle.cbpf_machine.proofs.trail.Trail.fill.Goals as goal
@@ -14,17 +15,17 @@ fill-init g c =
       from_one = omega arith;
       within = c.requires.from_one;
       kept = sym one;
-      here = start_goes _ _ _ [] _ c.zero-state.ensures sound;
+      here = start_goes _ _ _ nothing _ c.zero-state.ensures sound;
       stands = subst (λ xs. g.Self.Trail.stands_for c.push.new.self xs)
-          (start_taken (machine_of c.args.p.now c.args.values.now) c.args.packet.bytes.now c.args.packet.wire []
+          (start_taken (machine_of c.args.p.now c.args.values.now) c.args.packet.bytes.now c.args.packet.wire nothing
           c.zero-state.result c.zero-state.ensures sound 1 refl) pushed;
       spent = omega arith;
     }
 
 pub returns-in-Some-clause-short : goal.returns-in-Some-clause-short
 returns-in-Some-clause-short g c =
-    let end = ended _ _ _ [] c.fill.entries c.fill.entries _ _ _ _ c.fill.invariant.sound
-    c.fill.invariant.from_one c.pass_at_most-turns.ensures.some (unwatched_none [] _ _ _ (omega arith))
+    let end = ended _ _ _ nothing c.fill.entries c.fill.entries _ _ _ _ c.fill.invariant.sound
+    c.fill.invariant.from_one c.pass_at_most-turns.ensures.some (unwatched_none nothing _ _ _ (omega arith))
     (c.pass_at_most-turns.ensures.passes _ _ c.fill.invariant.here) _ c.in-Some.is in
     let some = c.pass_at_most-turns.ensures.some in
     let few = c.pass_at_most-turns.ensures.few in
@@ -32,11 +33,11 @@ returns-in-Some-clause-short g c =
 
 pub keep-requires : goal.keep-requires
 keep-requires g c =
-    let on = came _ _ _ [] c.fill.entries c.fill.entries _ _ _ _ c.fill.invariant.sound
-    c.fill.invariant.from_one c.pass_at_most-turns.ensures.some (unwatched_none [] _ _ _ (omega arith))
+    let on = came _ _ _ nothing c.fill.entries c.fill.entries _ _ _ _ c.fill.invariant.sound
+    c.fill.invariant.from_one c.pass_at_most-turns.ensures.some (unwatched_none nothing _ _ _ (omega arith))
     (c.pass_at_most-turns.ensures.passes _ _ c.fill.invariant.here) c.in_default.is in
-    let within = came_within _ _ _ [] c.fill.entries c.fill.entries _ _ _ _ c.fill.invariant.sound
-    c.fill.invariant.from_one c.pass_at_most-turns.ensures.some (unwatched_none [] _ _ _ (omega arith))
+    let within = came_within _ _ _ nothing c.fill.entries c.fill.entries _ _ _ _ c.fill.invariant.sound
+    c.fill.invariant.from_one c.pass_at_most-turns.ensures.some (unwatched_none nothing _ _ _ (omega arith))
     (c.pass_at_most-turns.ensures.passes _ _ c.fill.invariant.here) in
     let few = c.pass_at_most-turns.ensures.few in
     record {
@@ -48,8 +49,8 @@ keep-requires g c =
 
 pub fill-preserved : goal.fill-preserved
 fill-preserved g c =
-    let on = came _ _ _ [] c.fill.entries c.fill.entries _ _ _ _ c.fill.invariant.sound
-    c.fill.invariant.from_one c.pass_at_most-turns.ensures.some (unwatched_none [] _ _ _ (omega arith))
+    let on = came _ _ _ nothing c.fill.entries c.fill.entries _ _ _ _ c.fill.invariant.sound
+    c.fill.invariant.from_one c.pass_at_most-turns.ensures.some (unwatched_none nothing _ _ _ (omega arith))
     (c.pass_at_most-turns.ensures.passes _ _ c.fill.invariant.here) c.in_default.is in
     let k = c.fill.invariant.kept in
     let kept = c.keep.ensures.stands _ (rw (← k) at on.2) (rw (← k) at c.fill.invariant.stands) in

@@ -17,21 +17,21 @@ follow-init g c =
       kept = omega arith;
       here = goes_from_entry _ _ _ _ zero_state _ sound (sound_some _ sound) c.requires.last;
       stands = c.requires.of_trace;
-      unwatched = unwatched_none _ _ _ _ (omega arith);
+      unwatched = unwatched_none c.args.watched.now _ _ _ (omega arith);
       state = refl;
       spent = omega arith;
     }
 
 pub add-requires : goal.add-requires
 add-requires g c =
-    let within = came_within _ _ _ _ _ _ _ _ _ _ c.follow.invariant.sound c.follow.invariant.from_one
+    let within = came_within _ _ _ c.args.watched.now _ _ _ _ _ _ c.follow.invariant.sound c.follow.invariant.from_one
     c.pass_some-turns.ensures.some
     c.follow.invariant.unwatched (c.pass_some-turns.ensures.passes _ _ c.follow.invariant.here) in
     omega (arith, within.0, c.requires.spare, c.follow.invariant.spent, c.follow.invariant.kept)
 
 pub keep_unstored-requires : goal.keep_unstored-requires
 keep_unstored-requires g c =
-    let within = came_within _ _ _ _ _ _ _ _ _ _ c.follow.invariant.sound c.follow.invariant.from_one
+    let within = came_within _ _ _ c.args.watched.now _ _ _ _ _ _ c.follow.invariant.sound c.follow.invariant.from_one
     c.pass_some-turns.ensures.some
     c.follow.invariant.unwatched (c.pass_some-turns.ensures.passes _ _ c.follow.invariant.here) in
     let some = c.pass_some-turns.ensures.some in
@@ -43,14 +43,14 @@ keep_unstored-requires g c =
 
 pub returns-in-Some-clause-follows : goal.returns-in-Some-clause-follows
 returns-in-Some-clause-follows g c =
-    let end = ended _ _ _ _ _ _ _ _ _ _ c.follow.invariant.sound c.follow.invariant.from_one
+    let end = ended _ _ _ c.args.watched.now _ _ _ _ _ _ c.follow.invariant.sound c.follow.invariant.from_one
     c.pass_some-turns.ensures.some
     c.follow.invariant.unwatched (c.pass_some-turns.ensures.passes _ _ c.follow.invariant.here) _ c.in-Some.is in
     (end.1, c.from.ensures ∙ end.2, c.follow.invariant.state)
 
 pub returns-in-Some-clause-stands : goal.returns-in-Some-clause-stands
 returns-in-Some-clause-stands g c =
-    let end = ended _ _ _ _ _ _ _ _ _ _ c.follow.invariant.sound c.follow.invariant.from_one
+    let end = ended _ _ _ c.args.watched.now _ _ _ _ _ _ c.follow.invariant.sound c.follow.invariant.from_one
     c.pass_some-turns.ensures.some
     c.follow.invariant.unwatched (c.pass_some-turns.ensures.passes _ _ c.follow.invariant.here) _ c.in-Some.is in
     let some = c.pass_some-turns.ensures.some in
@@ -61,7 +61,7 @@ returns-in-Some-clause-stands g c =
 
 pub returns-in-Some-clause-turns : goal.returns-in-Some-clause-turns
 returns-in-Some-clause-turns g c =
-    let end = ended _ _ _ _ _ _ _ _ _ _ c.follow.invariant.sound c.follow.invariant.from_one
+    let end = ended _ _ _ c.args.watched.now _ _ _ _ _ _ c.follow.invariant.sound c.follow.invariant.from_one
     c.pass_some-turns.ensures.some
     c.follow.invariant.unwatched (c.pass_some-turns.ensures.passes _ _ c.follow.invariant.here) _ c.in-Some.is in
     let some = c.pass_some-turns.ensures.some in
@@ -69,10 +69,10 @@ returns-in-Some-clause-turns g c =
 
 pub keep-requires : goal.keep-requires
 keep-requires g c =
-    let on = came _ _ _ _ _ _ _ _ _ _ c.follow.invariant.sound c.follow.invariant.from_one
+    let on = came _ _ _ c.args.watched.now _ _ _ _ _ _ c.follow.invariant.sound c.follow.invariant.from_one
     c.pass_some-turns.ensures.some
     c.follow.invariant.unwatched (c.pass_some-turns.ensures.passes _ _ c.follow.invariant.here) c.in_default.is in
-    let within = came_within _ _ _ _ _ _ _ _ _ _ c.follow.invariant.sound c.follow.invariant.from_one
+    let within = came_within _ _ _ c.args.watched.now _ _ _ _ _ _ c.follow.invariant.sound c.follow.invariant.from_one
     c.pass_some-turns.ensures.some
     c.follow.invariant.unwatched (c.pass_some-turns.ensures.passes _ _ c.follow.invariant.here) in
     record {
@@ -84,21 +84,21 @@ keep-requires g c =
 
 pub overflow_add-made : goal.overflow_add-made
 overflow_add-made g c =
-    let within = came_within _ _ _ _ _ _ _ _ _ _ c.follow.invariant.sound c.follow.invariant.from_one
+    let within = came_within _ _ _ c.args.watched.now _ _ _ _ _ _ c.follow.invariant.sound c.follow.invariant.from_one
     c.pass_some-turns.ensures.some
     c.follow.invariant.unwatched (c.pass_some-turns.ensures.passes _ _ c.follow.invariant.here) in
     omega (arith, within.0, within.1, c.requires.from_one, c.follow.invariant.kept)
 
 pub pauses_at-requires : goal.pauses_at-requires
 pauses_at-requires g c =
-    let on = came _ _ _ _ _ _ _ _ _ _ c.follow.invariant.sound c.follow.invariant.from_one
+    let on = came _ _ _ c.args.watched.now _ _ _ _ _ _ c.follow.invariant.sound c.follow.invariant.from_one
     c.pass_some-turns.ensures.some
     c.follow.invariant.unwatched (c.pass_some-turns.ensures.passes _ _ c.follow.invariant.here) c.in_default.is in
     omega (arith, on.1.inside, sound_few c.args.p.now c.follow.invariant.sound)
 
 pub returns-then-pauses_at-clause-follows : goal.returns-then-pauses_at-clause-follows
 returns-then-pauses_at-clause-follows g c =
-    let on = came _ _ _ _ _ _ _ _ _ _ c.follow.invariant.sound c.follow.invariant.from_one
+    let on = came _ _ _ c.args.watched.now _ _ _ _ _ _ c.follow.invariant.sound c.follow.invariant.from_one
     c.pass_some-turns.ensures.some
     c.follow.invariant.unwatched (c.pass_some-turns.ensures.passes _ _ c.follow.invariant.here) c.in_default.is in
     let some = c.pass_some-turns.ensures.some in
@@ -109,7 +109,7 @@ returns-then-pauses_at-clause-follows g c =
 
 pub returns-then-pauses_at-clause-stands : goal.returns-then-pauses_at-clause-stands
 returns-then-pauses_at-clause-stands g c =
-    let on = came _ _ _ _ _ _ _ _ _ _ c.follow.invariant.sound c.follow.invariant.from_one
+    let on = came _ _ _ c.args.watched.now _ _ _ _ _ _ c.follow.invariant.sound c.follow.invariant.from_one
     c.pass_some-turns.ensures.some
     c.follow.invariant.unwatched (c.pass_some-turns.ensures.passes _ _ c.follow.invariant.here) c.in_default.is in
     let to : g.Self.Trail.kept c.follow.self + c.pass_some-turns.result.0
@@ -119,7 +119,7 @@ returns-then-pauses_at-clause-stands g c =
 
 pub follow-preserved : goal.follow-preserved
 follow-preserved g c =
-    let on = came _ _ _ _ _ _ _ _ _ _ c.follow.invariant.sound c.follow.invariant.from_one
+    let on = came _ _ _ c.args.watched.now _ _ _ _ _ _ c.follow.invariant.sound c.follow.invariant.from_one
     c.pass_some-turns.ensures.some
     c.follow.invariant.unwatched (c.pass_some-turns.ensures.passes _ _ c.follow.invariant.here) c.in_default.is in
     let kept = c.keep.ensures.stands _ on.2 c.follow.invariant.stands in
@@ -134,7 +134,7 @@ follow-preserved g c =
       kept = omega (arith, kept.1, c.follow.invariant.kept);
       here = rw (← kept.1) at on.1;
       stands = rw (← kept.1) at kept.0;
-      unwatched = rw all at (unwatched_next _ _ _ _ c.pass_some-turns.new.s on.0 on.2 quiet);
+      unwatched = rw all at (unwatched_next c.args.watched.now _ _ _ c.pass_some-turns.new.s on.0 on.2 quiet);
       state = c.follow.invariant.state;
       spent = omega (arith, c.add.ensures, c.follow.invariant.spent);
     }
