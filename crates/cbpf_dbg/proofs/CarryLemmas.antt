@@ -1,20 +1,20 @@
 -- The hits at an instruction, and breakpoints that change at one.
 use Rattle.std.proofs.Common.{◌≡◌, ℕ, List, Bool, true, false, refl, ap, arith, inl, inr}
-use Rattle.std.proofs.Common.{◌∙◌}
-use Rattle.std.specs.Prelude.{Option, Some, nat_eq, ◌⊎◌, ◌||◌}
+use Rattle.std.proofs.Common.{◌∙◌, ◌<◌, ◌≤◌, sym}
+use Rattle.std.specs.Prelude.{Option, Some, None, is_some, nat_eq, ◌⊎◌, ◌||◌}
 use Rattle.std.specs.Option.{option_map_or}
 use Rattle.std.specs.Map.{lookup}
 use Rattle.std.proofs.lemmas.Bool.Decides.{nat_tests}
 use Rattle.cbpf_code.specs.declared.insn.Insn.{Insn}
 use Rattle.cbpf_machine.specs.Values.{Values}
-use Rattle.cbpf_machine.specs.declared.watched.Watch.{Watch}
+use Rattle.cbpf_machine.specs.Follow.{Watching}
 use Rattle.cbpf_machine.specs.Registers.{Registers}
 use Rattle.cbpf_machine.specs.Machine.{Machine, machine_of}
 use Rattle.cbpf_machine.specs.Step.{turn}
 use Rattle.cbpf_reply.specs.declared.breakpoints.When.{When}
 use Rattle.cbpf_dbg.specs.Breakpoints.{Breakpoints, carries, holds}
 use Rattle.cbpf_dbg.specs.Joined.{is_unknown}
-use Rattle.cbpf_dbg.specs.Session.{IsSameBut, IsKnown, Watches, hits}
+use Rattle.cbpf_dbg.specs.Session.{IsSameBut, IsKnown, KeepsRoom, Watches, hits}
 
 -- where an extension without a value is asked for each entry is a hit, and else those at a breakpoint
 or_true : (b : Bool) → (b || true) ≡ true
@@ -54,10 +54,44 @@ same_or_other p i = by_test (nat_eq p i) refl
     by_test false e = inr (λ q. grind (arith, nat_tests))
 
 -- what is known of a program stays known where its breakpoints change at one instruction
-pub known-at : (silent : Bool) (old new : List Watch) (program : Option (List Insn)) (list : List Insn)
+pub known-at : (silent : Bool) (old new : Watching) (program : Option (List Insn)) (list : List Insn)
     (values : Values) (before after : Breakpoints) → program ≡ Some list → IsKnown silent old program values before
     → (Watches old (machine_of list values) before → Watches new (machine_of list values) after)
-    → IsKnown silent new program values after
-known-at silent old new program list values before after e known step =
+    → KeepsRoom after new.room → IsKnown silent new program values after
+known-at silent old new program list values before after e known step room =
     let k : IsKnown silent old (Some list) values before = rw e at known in
-    rw e (k.0, step k.1)
+    rw e (k.0, step k.1, room)
+
+-- the room that is known to be there
+pub known-room : (silent : Bool) (watched : Watching) (program : Option (List Insn)) (list : List Insn)
+    (values : Values) (breakpoints : Breakpoints) → program ≡ Some list
+    → IsKnown silent watched program values breakpoints → KeepsRoom breakpoints watched.room
+known-room silent watched program list values breakpoints e known =
+    let k : IsKnown silent watched (Some list) values breakpoints = rw e at known in k.2
+
+pub room-there : (i : ℕ) (breakpoints : Breakpoints) (room : ℕ) (found : Option When)
+    → lookup (nat_eq i) breakpoints ≡ found → is_some found ≡ true → KeepsRoom breakpoints room → i < room
+room-there i breakpoints room None at is keeps = cc
+room-there i breakpoints room (Some when) at is keeps = keeps i when at
+
+pub room-more : (breakpoints : Breakpoints) (old new : ℕ) → old ≤ new → KeepsRoom breakpoints old
+    → KeepsRoom breakpoints new
+room-more breakpoints old new more keeps = λ i when at. let within = keeps i when at in omega arith
+
+-- more room
+pub known-more : (silent : Bool) (old new : Watching) (program : Option (List Insn)) (list : List Insn)
+    (values : Values) (breakpoints : Breakpoints) → program ≡ Some list → IsKnown silent old program values breakpoints
+    → new.watches ≡ old.watches → old.room ≤ new.room → IsKnown silent new program values breakpoints
+known-more silent old new program list values breakpoints e known same more =
+    let k : IsKnown silent old (Some list) values breakpoints = rw e at known in
+    rw e (k.0, λ bytes wire s inside. rw same (k.1 bytes wire s inside), room-more breakpoints old.room new.room more k.2)
+
+-- room for all where one breakpoint changes
+pub room-after : (i : ℕ) (before after : Breakpoints) (room : ℕ)
+    → ((q : ℕ) → nat_eq i q ≡ false → lookup (nat_eq q) after ≡ lookup (nat_eq q) before)
+    → ((when : When) → lookup (nat_eq i) after ≡ Some when → i < room) → KeepsRoom before room → KeepsRoom after room
+room-after i before after room others here keeps = λ q when at. elim (same_or_other q i) [
+  | inl same ↦ (let there : lookup (nat_eq i) after ≡ Some when = rw same at at in
+      let within = here when there in omega arith)
+  | inr other ↦ keeps q when (sym (others q (differs i q other)) ∙ at)
+]

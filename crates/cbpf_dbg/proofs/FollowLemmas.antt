@@ -7,11 +7,10 @@ use Rattle.std.proofs.lemmas.Option.{slice_get_within}
 use Rattle.cbpf_machine.specs.Machine.{Machine}
 use Rattle.cbpf_machine.specs.Registers.{Registers, zero_state}
 use Rattle.cbpf_machine.specs.declared.outcome.Outcome.{Outcome}
-use Rattle.cbpf_machine.specs.declared.watched.Watch.{Watch}
 use Rattle.cbpf_machine.specs.declared.follow.Followed.{Followed}
 use Rattle.cbpf_machine.specs.declared.follow.Followed.TheVariants.{Watched, Ended}
 use Rattle.cbpf_machine.specs.Trace.{trace, outcome}
-use Rattle.cbpf_machine.specs.Follow.{Follows, Unwatched, turns_to}
+use Rattle.cbpf_machine.specs.Follow.{Watching, Follows, Unwatched, turns_to}
 use Rattle.cbpf_machine.proofs.TraceLemmas.{goes_from_entry, length-trace_from}
 use Rattle.cbpf_machine.proofs.SoundLemmas.{sound_few, sound_some}
 use Rattle.pcap_classic.specs.Records.{Record}
@@ -86,7 +85,7 @@ module _ (machine : Machine) (capture : List Record) (w : Cursor) (r : Record) (
   pub room : length xs + min w.place.step 1 ≤ owed machine capture w.place + w.place.step
   room = omega (arith, ahead_long w.place.step step_within)
 
-  module _ (breakpoints : Breakpoints) (watched : List Watch) (watches : Watches watched machine breakpoints) where
+  module _ (breakpoints : Breakpoints) (watched : Watching) (watches : Watches watched machine breakpoints) where
     no_hits : (m : ℕ) → Unwatched watched xs w.place.step m
         → NoHits machine capture breakpoints w.place.packet r from_one at w.place.step m
     no_hits m unwatched = λ i s from to there.

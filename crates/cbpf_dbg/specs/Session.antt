@@ -1,14 +1,15 @@
 -- What the parts of a session have to do with one another: it is a matter of this crate alone,
 -- and no public clause names it.
 use Rattle.std.specs.Prelude.{◌≡◌, ℕ, ◌-◌, ◌<◌, ◌≤◌, List, [], Bool, true, Option, Some, None, length, take}
-use Rattle.std.specs.Prelude.{slice_get, ◌||◌}
+use Rattle.std.specs.Prelude.{slice_get, nat_eq, ◌||◌}
+use Rattle.std.specs.Map.{lookup}
+use Rattle.cbpf_reply.specs.declared.breakpoints.When.{When}
 use Rattle.cbpf_code.specs.declared.insn.Insn.{Insn}
 use Rattle.cbpf_machine.specs.Registers.{Registers}
 use Rattle.cbpf_machine.specs.Values.{Values}
 use Rattle.cbpf_machine.specs.Machine.{Machine, machine_of}
 use Rattle.cbpf_machine.specs.Step.{turn, asked}
-use Rattle.cbpf_machine.specs.Follow.{is_watched}
-use Rattle.cbpf_machine.specs.declared.watched.Watch.{Watch}
+use Rattle.cbpf_machine.specs.Follow.{Watching, is_watched}
 use Rattle.cbpf_machine.specs.Trace.{trace}
 use Rattle.pcap_classic.specs.Records.{Record}
 use Rattle.pcap_classic.specs.Savefile.{Savefile}
@@ -54,19 +55,24 @@ abbrev pub hits : Machine → Breakpoints → List ℕ → ℕ → Registers →
 hits machine breakpoints bytes wire s = carries breakpoints s || is_unknown (turn machine bytes wire s)
 
 -- at the first n instructions the entries that are watched are the hits
-abbrev pub WatchesTo : List Watch → Machine → Breakpoints → ℕ → Type 0
+abbrev pub WatchesTo : Watching → Machine → Breakpoints → ℕ → Type 0
 WatchesTo watched machine breakpoints n = (bytes : List ℕ) (wire : ℕ) (s : Registers) → s.pc < n
     → is_watched watched s ≡ hits machine breakpoints bytes wire s
 
-abbrev pub Watches : List Watch → Machine → Breakpoints → Type 0
+abbrev pub Watches : Watching → Machine → Breakpoints → Type 0
 Watches watched machine breakpoints = WatchesTo watched machine breakpoints (length machine.list)
+
+-- there is room for the condition of each breakpoint
+abbrev pub KeepsRoom : Breakpoints → ℕ → Type 0
+KeepsRoom breakpoints room = (i : ℕ) (when : When) → lookup (nat_eq i) breakpoints ≡ Some when → i < room
 
 -- the breakpoints at other instructions than i are the same
 abbrev pub IsSameBut : ℕ → Breakpoints → Breakpoints → Type 0
 IsSameBut i before after = (s : Registers) → (s.pc ≡ i → ⊥) → carries after s ≡ carries before s
 
 -- what is known of a program
-abbrev pub IsKnown : Bool → List Watch → Option (List Insn) → Values → Breakpoints → Type 0
+abbrev pub IsKnown : Bool → Watching → Option (List Insn) → Values → Breakpoints → Type 0
 IsKnown silent watched (Some list) values breakpoints =
     (silent ≡ true → IsSilent (machine_of list values)) × Watches watched (machine_of list values) breakpoints
+    × KeepsRoom breakpoints watched.room
 IsKnown silent watched None values breakpoints = Unit {0}

@@ -1,7 +1,7 @@
 //! Breakpoints and their conditions.
 
-ghost use Rattle.std.specs.Prelude.{◌≡◌};
-ghost use Rattle.cbpf_machine.specs.Follow.{holds as watch_holds};
+ghost use Rattle.std.specs.Prelude.{◌≡◌, ◌<◌, ℕ};
+ghost use Rattle.cbpf_machine.specs.Follow.{HasRoom, holds as watch_holds};
 ghost use Rattle.cbpf_machine.specs.Registers.{Registers};
 ghost use Rattle.cbpf_dbg.specs.Breakpoints as spec;
 
@@ -12,7 +12,8 @@ use std::hash::{BuildHasherDefault, FoldHasher};
 
 /// The watch of a breakpoint with a condition.
 pub(crate) fn watch_when(when: When) -> Watch
-    ensures { (s : Registers) → watch_holds result s ≡ spec.holds when s }
+    ensures holds { (s : Registers) → watch_holds result s ≡ spec.holds when s }
+    ensures room { (i room : ℕ) → i < room → HasRoom result i room }
 {
     match when {
         When::Always => Watch::Always,

@@ -14,5 +14,5 @@ pub(crate) struct Loaded<'a, A: Allocator> {
     pub(crate) capture: &'a Capture<A>,
     pub(crate) breakpoints: &'a Breakpoints<A>,
     /// The entries that are hits.
-    pub(crate) watched: &'a Watched,
+    pub(crate) watched: &'a Watched<A>,
 }

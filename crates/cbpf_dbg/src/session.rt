@@ -11,7 +11,7 @@ ghost use Rattle.cbpf_reply.specs.declared.reply.SessionFault.TheVariants as fau
 
 use crate::breakpoint::Breakpoints;
 use crate::cursor::Cursor;
-use crate::watching::{is_silent, watch, watch_at};
+use crate::watching::{is_silent, make_room, watch, watch_at};
 use cbpf_code::{Ext, Program};
 use cbpf_machine::{Trail, Values, Watched};
 use cbpf_reply::{Place, SessionFault, When};
@@ -30,7 +30,7 @@ pub struct Session<T: Trail, A: Allocator = Global> {
     /// Whether no instruction of the program asks for an extension that has no value.
     pub(crate) silent: bool,
     /// The entries of the program that are hits.
-    pub(crate) watched: Watched,
+    pub(crate) watched: Watched<A>,
     pub(crate) capture: Option<Capture<A>>,
     pub(crate) breakpoints: Breakpoints<A>,
     pub(crate) cursor: Cursor,
@@ -69,7 +69,7 @@ impl<T: Trail, A: Allocator + Copy> Session<T, A> {
             program: None,
             values: Values::new(),
             silent: false,
-            watched: Watched::none(),
+            watched: Watched::none(alloc),
             capture: None,
             breakpoints: IndexMap::new(alloc),
             cursor: Cursor::start(),
@@ -117,6 +117,9 @@ impl<T: Trail, A: Allocator + Copy> Session<T, A> {
         if n >= u64::from(program.len()) {
             return Err(SessionFault::NoInstruction);
         }
+        let Ok(()) = make_room(&mut self.watched, program, &self.breakpoints, n as u32) else {
+            return Err(SessionFault::Memory);
+        };
         match self.breakpoints.insert(n as u32, when) {
             Ok(_) => {
                 watch_at(

@@ -1,18 +1,19 @@
 //! The watches of a run: the entries that are hits.
 
-ghost use Rattle.std.specs.Prelude.{◌≡◌, ◌<◌, ℕ, List, length, true};
-ghost use Rattle.cbpf_machine.specs.Follow.{holds};
+ghost use Rattle.std.specs.Prelude.{◌≡◌, ◌<◌, ◌≤◌, ℕ, List, None, OnErr, OnOk, length, nat_eq, true};
+ghost use Rattle.std.specs.Map.{lookup};
+ghost use Rattle.cbpf_machine.specs.Follow.{HasRoom, holds};
 ghost use Rattle.cbpf_machine.specs.Machine.{machine_of};
 ghost use Rattle.cbpf_machine.specs.Registers.{Registers};
 ghost use Rattle.cbpf_dbg.specs.Breakpoints.{Breakpoints as SomeBreakpoints};
 ghost use Rattle.cbpf_dbg.specs.Loaded.{machine_in, breakpoints_in};
-ghost use Rattle.cbpf_dbg.specs.Session.{IsQuiet, IsSilent, IsSameBut, Watches, hits};
+ghost use Rattle.cbpf_dbg.specs.Session.{IsQuiet, IsSilent, IsSameBut, KeepsRoom, Watches, hits};
 
 use crate::breakpoint::{Breakpoints, watch_when};
 use crate::loaded::Loaded;
 use cbpf_code::Program;
 use cbpf_machine::{Values, Watch, Watched, asks};
-use std::alloc::Allocator;
+use std::alloc::{AllocError, Allocator};
 
 /// Whether no instruction asks for an extension that has no value.
 pub(crate) fn is_silent<A: Allocator>(p: &Program<A>, values: &Values) -> bool
@@ -42,8 +43,9 @@ fn watch_of<A: Allocator>(
     i: u32,
 ) -> Watch
     requires { i < length p.now }
-    ensures { (bytes : List ℕ) (wire : ℕ) (s : Registers) → s.pc ≡ i
+    ensures holds { (bytes : List ℕ) (wire : ℕ) (s : Registers) → s.pc ≡ i
         → holds result s ≡ hits (machine_of p.now values.now) breakpoints.now.entries bytes wire s }
+    ensures room { (room : ℕ) → KeepsRoom breakpoints.now.entries room → HasRoom result i room }
 {
     if asks(p.at_index(i), values).is_some() {
         return Watch::Always;
@@ -54,14 +56,36 @@ fn watch_of<A: Allocator>(
     }
 }
 
+/// Makes room for the condition of a breakpoint. One that is set already has it.
+pub(crate) fn make_room<A: Allocator>(
+    watched: &mut Watched<A>,
+    p: &Program<A>,
+    breakpoints: &Breakpoints<A>,
+    i: u32,
+) -> Result<(), AllocError>
+    requires inside { i < length p.now }
+    requires room { KeepsRoom breakpoints.now.entries watched.old.room }
+    ensures watches { watched.new.watches ≡ watched.old.watches }
+    ensures more { watched.old.room ≤ watched.new.room }
+    ensures here { OnOk result (i < watched.new.room) }
+    ensures refused { OnErr result (lookup (nat_eq i) breakpoints.now.entries ≡ None) }
+{
+    if breakpoints.contains_key(&i) {
+        return Ok(());
+    }
+    watched.make_room(p.len() as usize)
+}
+
 /// Watches the entries that are hits.
 pub(crate) fn watch<A: Allocator>(
-    watched: &mut Watched,
+    watched: &mut Watched<A>,
     p: &Program<A>,
     values: &Values,
     breakpoints: &Breakpoints<A>,
 )
-    ensures { Watches watched.new (machine_of p.now values.now) breakpoints.now.entries }
+    requires { KeepsRoom breakpoints.now.entries watched.old.room }
+    ensures watches { Watches watched.new (machine_of p.now values.now) breakpoints.now.entries }
+    ensures room { watched.new.room ≡ watched.old.room }
 {
     'scan: for i in 0..p.len() {
         watched.set(i as usize, watch_of(p, values, breakpoints, i));
@@ -70,16 +94,18 @@ pub(crate) fn watch<A: Allocator>(
 
 /// The same, where the breakpoints changed at one instruction.
 pub(crate) fn watch_at<A: Allocator>(
-    watched: &mut Watched,
+    watched: &mut Watched<A>,
     p: &Program<A>,
     values: &Values,
     breakpoints: &Breakpoints<A>,
     i: u32,
 )
-    requires { i < length p.now }
-    ensures { (before : SomeBreakpoints) → Watches watched.old (machine_of p.now values.now) before
+    requires inside { i < length p.now }
+    requires room { KeepsRoom breakpoints.now.entries watched.old.room }
+    ensures watches { (before : SomeBreakpoints) → Watches watched.old (machine_of p.now values.now) before
         → IsSameBut i before breakpoints.now.entries
         → Watches watched.new (machine_of p.now values.now) breakpoints.now.entries }
+    ensures room { watched.new.room ≡ watched.old.room }
 {
     let _few = p.len();
     watched.set(i as usize, watch_of(p, values, breakpoints, i));

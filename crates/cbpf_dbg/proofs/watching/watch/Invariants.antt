@@ -1,3 +1,4 @@
+use Rattle.std.proofs.Common.{◌≡◌}
 use Rattle.cbpf_machine.specs.Machine.{machine_of}
 use Rattle.cbpf_dbg.specs.Session.{WatchesTo}
 use Rattle.cbpf_dbg.proofs.watching.watch.Given as goal
@@ -7,4 +8,5 @@ abbrev pub invariant-scan : goal.invariant-scan
 invariant-scan g l =
     record {
       watches : WatchesTo l.watched (machine_of l.p l.values) l.breakpoints.entries l.i;
+      room : l.watched.room ≡ l.initial.watched.room;
     }

@@ -1,18 +1,27 @@
 use Rattle.cbpf_dbg.specs.Commands.{breakpoint_when}
 use Rattle.std.proofs.Common.{rules}
-use Rattle.cbpf_dbg.proofs.CarryLemmas.{same-but, known-at}
+use Rattle.cbpf_dbg.proofs.CarryLemmas.{same-but, known-at, known-room, known-more, room-after, room-more}
 use Rattle.cbpf_dbg.proofs.session.Session.breakpoint_when.Goals as goal
 
-pub invariant_of-self : goal.invariant_of-self
-invariant_of-self g c = (
+pub make_room-requires-clause-room : goal.make_room-requires-clause-room
+make_room-requires-clause-room g c = known-room _ _ _ _ _ _ c.in-Some.is c.self.invariant.1
+
+pub watch_at-requires-clause-room : goal.watch_at-requires-clause-room
+watch_at-requires-clause-room g c = room-after c.args.n _ _ _ (λ q h. c.in-Ok-insert.ensures.updates.2 q h)
+    (λ when at. c.in-Ok.ensures.here)
+    (room-more _ _ _ c.make_room.ensures.more (known-room _ _ _ _ _ _ c.in-Some.is c.self.invariant.1))
+
+pub invariant_of-self-in-Ok-insert : goal.invariant_of-self-in-Ok-insert
+invariant_of-self-in-Ok-insert g c = (
   c.self.invariant.0,
-  known-at _ _ _ _ _ _ _ _ c.in-Some.is c.self.invariant.1
-      (λ w. c.watch_at.ensures _ w (same-but c.args.n _ _ (λ q h. c.in-Ok.ensures.updates.2 q h))),
+  known-at _ _ _ _ _ _ _ _ c.in-Some.is
+      (known-more _ _ _ _ _ _ _ c.in-Some.is c.self.invariant.1 c.make_room.ensures.watches c.make_room.ensures.more)
+      (λ w. c.watch_at.ensures.watches _ w (same-but c.args.n _ _ (λ q h. c.in-Ok-insert.ensures.updates.2 q h)))
+      (rw c.watch_at.ensures.room (room-after c.args.n _ _ _ (λ q h. c.in-Ok-insert.ensures.updates.2 q h)
+      (λ when at. c.in-Ok.ensures.here)
+      (room-more _ _ _ c.make_room.ensures.more (known-room _ _ _ _ _ _ c.in-Some.is c.self.invariant.1)))),
 )
 
-pub watch_at-requires : goal.watch_at-requires
-watch_at-requires g c = search rules
-
-pub returns-in-Ok-clause-after : goal.returns-in-Ok-clause-after
+pub returns-in-Ok-insert-clause-after : goal.returns-in-Ok-insert-clause-after
 unfolding breakpoint_when
-returns-in-Ok-clause-after g c = search rules
+returns-in-Ok-insert-clause-after g c = search rules
