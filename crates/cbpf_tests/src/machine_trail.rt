@@ -5,7 +5,7 @@ ghost use Rattle.cbpf_machine.specs.Trace.{trace};
 use crate::assertions::{assert_at, assert_at_both};
 use cbpf_code::{Insn, Program, check};
 use cbpf_machine::{
-    Followed, ListTrail, MarkTrail, Meter, Outcome, Packet, State, Trail, Values, Watched,
+    Followed, ListTrail, MarkTrail, Meter, Outcome, Packet, State, Trail, Values, Watch, Watched,
     follow_on, follow_packet,
 };
 use std::alloc::Global;
@@ -43,10 +43,10 @@ fn is_entry(s: &State, n: u32) -> bool {
 }
 
 /// The table where one instruction is watched.
-fn only(rt: &impl Abort, watched: u32) -> Watched {
+fn only(rt: &impl Abort, alloc: Global, watched: u32) -> Watched {
     assert!(rt; watched < 4096);
-    let mut table = Watched::none();
-    table.set(watched as usize, true);
+    let mut table = Watched::none(alloc);
+    table.set(watched as usize, Watch::Always);
     table
 }
 
@@ -78,6 +78,7 @@ fn fill<T: Trail>(
 /// then is, the state, and how many turns that took.
 fn filled_and_followed<T: Trail>(
     rt: &impl Abort,
+    alloc: Global,
     trail: &mut T,
     p: &Program,
     count: u32,
@@ -92,7 +93,7 @@ fn filled_and_followed<T: Trail>(
     let _sound = p.len();
     let mut s = fill(rt, trail, p, packet, &values, count);
     let mut meter = Meter::new();
-    let followed = trail.follow(&mut meter, p, packet, &values, &only(rt, watched), &mut s);
+    let followed = trail.follow(&mut meter, p, packet, &values, &only(rt, alloc, watched), &mut s);
     (followed, s, meter.spent())
 }
 
@@ -107,6 +108,7 @@ fn check_begun(rt: &impl Abort, s: &State, count: u32, watched: u32, turns: u128
 /// entry: the state, and how many turns the way back took.
 fn begun_and_back<T: Trail>(
     rt: &impl Abort,
+    alloc: Global,
     trail: &mut T,
     p: &Program,
     watched: u32,
@@ -117,7 +119,7 @@ fn begun_and_back<T: Trail>(
         bytes: b"",
         wire: 0,
     };
-    let table = only(rt, watched);
+    let table = only(rt, alloc, watched);
     let _sound = p.len();
     let mut meter = Meter::new();
     let mut s = State::zero();
@@ -182,17 +184,17 @@ fn onward(count: u32, watched: u32) -> (Followed, u32, u128) {
     }
 }
 
-fn check_back<T: Trail>(rt: &impl Abort, trail: &mut T, p: &Program, keeps_all: bool) {
+fn check_back<T: Trail>(rt: &impl Abort, alloc: Global, trail: &mut T, p: &Program, keeps_all: bool) {
     for (watched, to, turns) in BACK {
-        let (back, found) = begun_and_back(rt, trail, p, watched, to);
+        let (back, found) = begun_and_back(rt, alloc, trail, p, watched, to);
         let wanted = if keeps_all { 0 } else { turns };
         assert_at_both(rt, watched, to, is_entry(&back, to) && found == wanted);
     }
 }
 
-fn check_onward<T: Trail>(rt: &impl Abort, trail: &mut T, p: &Program) {
+fn check_onward<T: Trail>(rt: &impl Abort, alloc: Global, trail: &mut T, p: &Program) {
     for (count, watched) in ONWARD {
-        let (followed, s, turns) = filled_and_followed(rt, trail, p, count, watched);
+        let (followed, s, turns) = filled_and_followed(rt, alloc, trail, p, count, watched);
         let (wanted, entry, most) = onward(count, watched);
         let is_wanted = followed == wanted && is_entry(&s, entry) && turns == most;
         assert_at_both(rt, count, watched, is_wanted);
@@ -200,42 +202,42 @@ fn check_onward<T: Trail>(rt: &impl Abort, trail: &mut T, p: &Program) {
 }
 
 /// Asserts the ways back and onward, of a trail that keeps all states, or each 64th.
-fn check_trail<T: Trail>(rt: &impl Abort, trail: &mut T, p: &Program, keeps_all: bool) {
-    check_back(rt, trail, p, keeps_all);
-    check_onward(rt, trail, p);
+fn check_trail<T: Trail>(rt: &impl Abort, alloc: Global, trail: &mut T, p: &Program, keeps_all: bool) {
+    check_back(rt, alloc, trail, p, keeps_all);
+    check_onward(rt, alloc, trail, p);
 }
 
 #[test]
 fn trails_of_4096_entries(rt: HostRuntime) {
     let p = counting(&rt, rt.alloc());
     let mut all = ListTrail::new(rt.alloc()).expect(&rt, "memory");
-    check_trail(&rt, &mut all, &p, true);
-    check_trail(&rt, &mut MarkTrail::new(), &p, false);
+    check_trail(&rt, rt.alloc(), &mut all, &p, true);
+    check_trail(&rt, rt.alloc(), &mut MarkTrail::new(), &p, false);
 }
 
 /// Follows a packet from before it to the instruction that is watched: how, to which state, and in
 /// how many turns.
-fn followed_from_before(rt: &impl Abort, p: &Program, watched: u32) -> (Followed, State, u128) {
+fn followed_from_before(rt: &impl Abort, alloc: Global, p: &Program, watched: u32) -> (Followed, State, u128) {
     let mut s = State::zero();
     let mut meter = Meter::new();
-    let table = only(rt, watched);
+    let table = only(rt, alloc, watched);
     let followed = follow_packet(&mut meter, p, EMPTY, &Values::new(), &table, &mut s);
     (followed, s, meter.spent())
 }
 
 /// Follows a packet from a state of it to the instruction that is watched, likewise.
-fn followed_on(rt: &impl Abort, p: &Program, from: State, watched: u32) -> (Followed, State, u128) {
+fn followed_on(rt: &impl Abort, alloc: Global, p: &Program, from: State, watched: u32) -> (Followed, State, u128) {
     assert!(rt; from.pc() < p.len());
     let mut s = from;
     let mut meter = Meter::new();
-    let table = only(rt, watched);
+    let table = only(rt, alloc, watched);
     let followed = follow_on(&mut meter, p, EMPTY, &Values::new(), &table, &mut s);
     (followed, s, meter.spent())
 }
 
 /// Asserts the way from before a packet to the first instruction that is watched: the state there.
-fn check_from_before(rt: &impl Abort, p: &Program, first: u32) -> State {
-    let (followed, s, turns) = followed_from_before(rt, p, first);
+fn check_from_before(rt: &impl Abort, alloc: Global, p: &Program, first: u32) -> State {
+    let (followed, s, turns) = followed_from_before(rt, alloc, p, first);
     let entry = first.saturating_add(1);
     let is_wanted = followed == Followed::Watched(entry)
         && is_entry(&s, entry)
@@ -245,19 +247,19 @@ fn check_from_before(rt: &impl Abort, p: &Program, first: u32) -> State {
 }
 
 /// Asserts the way from the first instruction that is watched to the second one, or to the end.
-fn check_on(rt: &impl Abort, p: &Program, first: u32, second: u32) {
-    let from = check_from_before(rt, p, first);
-    let (followed, s, turns) = followed_on(rt, p, from, second);
+fn check_on(rt: &impl Abort, alloc: Global, p: &Program, first: u32, second: u32) {
+    let from = check_from_before(rt, alloc, p, first);
+    let (followed, s, turns) = followed_on(rt, alloc, p, from, second);
     let (wanted, entry, most) = onward(first.saturating_add(1), second);
     let is_wanted = followed == wanted && is_entry(&s, entry) && turns == most;
     assert_at_both(rt, first, second, is_wanted);
 }
 
 /// Where nothing is watched, the state stays.
-fn keeps_the_state(p: &Program, from: State) -> bool {
+fn keeps_the_state(alloc: Global, p: &Program, from: State) -> bool {
     let mut s = from;
     let mut meter = Meter::new();
-    let table = Watched::none();
+    let table = Watched::none(alloc);
     let followed = follow_packet(&mut meter, p, EMPTY, &Values::new(), &table, &mut s);
     followed == Followed::Ended(Outcome::Pass(2048)) && is_entry(&s, 2) && meter.spent() == 4096
 }
@@ -283,7 +285,7 @@ const FIRST_AND_SECOND: [(u32, u32); 13] = [
 fn a_packet_is_followed_with_no_trail(rt: HostRuntime) {
     let p = counting(&rt, rt.alloc());
     for (first, second) in FIRST_AND_SECOND {
-        check_on(&rt, &p, first, second);
+        check_on(&rt, rt.alloc(), &p, first, second);
     }
-    assert!(rt; keeps_the_state(&p, check_from_before(&rt, &p, 1)));
+    assert!(rt; keeps_the_state(rt.alloc(), &p, check_from_before(&rt, rt.alloc(), &p, 1)));
 }

@@ -16,6 +16,9 @@ returns-clause-watches g c = λ before watches same bytes wire s inside.
           let found : get_or c.set.new.self.watches s.pc Never ≡ c.watch_of.result = rw here c.set.ensures.here in
           ap (λ w. holds w s) found ∙ c.watch_of.ensures.holds bytes wire s here
       | inr other ↦
-          rw (c.set.ensures.value, get_or-set_other c.args.watched.now.watches c.args.i s.pc c.watch_of.result Never other,
-          same s other) (watches bytes wire s inside)
+          rw (
+            c.set.ensures.value,
+            get_or-set_other c.args.watched.now.watches c.args.i s.pc c.watch_of.result Never other,
+            same s other,
+          ) (watches bytes wire s inside)
     ]
