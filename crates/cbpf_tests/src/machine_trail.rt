@@ -93,7 +93,14 @@ fn filled_and_followed<T: Trail>(
     let _sound = p.len();
     let mut s = fill(rt, trail, p, packet, &values, count);
     let mut meter = Meter::new();
-    let followed = trail.follow(&mut meter, p, packet, &values, &only(rt, alloc, watched), &mut s);
+    let followed = trail.follow(
+        &mut meter,
+        p,
+        packet,
+        &values,
+        &only(rt, alloc, watched),
+        &mut s,
+    );
     (followed, s, meter.spent())
 }
 
@@ -184,7 +191,13 @@ fn onward(count: u32, watched: u32) -> (Followed, u32, u128) {
     }
 }
 
-fn check_back<T: Trail>(rt: &impl Abort, alloc: Global, trail: &mut T, p: &Program, keeps_all: bool) {
+fn check_back<T: Trail>(
+    rt: &impl Abort,
+    alloc: Global,
+    trail: &mut T,
+    p: &Program,
+    keeps_all: bool,
+) {
     for (watched, to, turns) in BACK {
         let (back, found) = begun_and_back(rt, alloc, trail, p, watched, to);
         let wanted = if keeps_all { 0 } else { turns };
@@ -202,7 +215,13 @@ fn check_onward<T: Trail>(rt: &impl Abort, alloc: Global, trail: &mut T, p: &Pro
 }
 
 /// Asserts the ways back and onward, of a trail that keeps all states, or each 64th.
-fn check_trail<T: Trail>(rt: &impl Abort, alloc: Global, trail: &mut T, p: &Program, keeps_all: bool) {
+fn check_trail<T: Trail>(
+    rt: &impl Abort,
+    alloc: Global,
+    trail: &mut T,
+    p: &Program,
+    keeps_all: bool,
+) {
     check_back(rt, alloc, trail, p, keeps_all);
     check_onward(rt, alloc, trail, p);
 }
@@ -217,7 +236,12 @@ fn trails_of_4096_entries(rt: HostRuntime) {
 
 /// Follows a packet from before it to the instruction that is watched: how, to which state, and in
 /// how many turns.
-fn followed_from_before(rt: &impl Abort, alloc: Global, p: &Program, watched: u32) -> (Followed, State, u128) {
+fn followed_from_before(
+    rt: &impl Abort,
+    alloc: Global,
+    p: &Program,
+    watched: u32,
+) -> (Followed, State, u128) {
     let mut s = State::zero();
     let mut meter = Meter::new();
     let table = only(rt, alloc, watched);
@@ -226,7 +250,13 @@ fn followed_from_before(rt: &impl Abort, alloc: Global, p: &Program, watched: u3
 }
 
 /// Follows a packet from a state of it to the instruction that is watched, likewise.
-fn followed_on(rt: &impl Abort, alloc: Global, p: &Program, from: State, watched: u32) -> (Followed, State, u128) {
+fn followed_on(
+    rt: &impl Abort,
+    alloc: Global,
+    p: &Program,
+    from: State,
+    watched: u32,
+) -> (Followed, State, u128) {
     assert!(rt; from.pc() < p.len());
     let mut s = from;
     let mut meter = Meter::new();
