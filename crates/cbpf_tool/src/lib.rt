@@ -1,5 +1,4 @@
-//! The jobs of `cbpf`: the debugger over a script of commands, and the assembler over a source; and what a command line and a
-//! line of a script say.
+//! The jobs of `cbpf`: the debugger over a script of commands, the assembler over a source, and the job of a command line.
 #![tactic(auto)]
 
 mod arguments;
