@@ -23,7 +23,7 @@ from pathlib import Path
 CRATES = Path(__file__).resolve().parent.parent / "crates"
 MACHINE = "cbpf_machine"
 # What changes a state, calculates or loads for a turn: whoever names one of these, or names who does, makes turns.
-ROOTS = "set_a set_x set_slot skip alu negated compares number_at op_of op_of_byte".split()
+ROOTS = "set_core set_a set_x with_slot skip alu negated compares number_at op_of op_of_byte".split()
 # The words of loops, which make turns again.
 LOOPS = {"for", "while", "loop"}
 TOKEN = re.compile(
@@ -94,7 +94,9 @@ def items_of(words):
         elif word in ("fn", "struct", "enum", "trait", "impl", "const", "static", "type", "macro_rules") and (
             not open_items or open_items[-1][1] is not None
         ):
-            head = next(i for i in range(at, len(words)) if words[i][0] in ("{", ";", "="))
+            head = at
+            while words[head][0] not in ("{", ";", "="):
+                head = end_of(words, head) if words[head][0] in ("(", "[") else head + 1
             name = " ".join(w for w, _ in words[at : at + 2] if w != "fn") if word != "impl" else "impl"
             open_items.append([name, None])
             if words[head][0] != "{":

@@ -14,7 +14,7 @@ ghost use Rattle.cbpf_dbg.specs.Cursor.{Stands, owed, Runs, run_turns, NotBefore
 use crate::cursor::{Cursor, Moved, advance};
 use crate::hit::stop_at;
 use crate::loaded::Loaded;
-use cbpf_machine::{Meter, Packet, Trail, run_packet};
+use cbpf_machine::{Meter, Packet, Trail, run_in_loop};
 use cbpf_reply::{RunReply, Stop, Why};
 use pcap_classic::{Captured, Records};
 use std::alloc::Allocator;
@@ -172,7 +172,8 @@ fn pass_whole<A: Allocator>(
         bytes: here.bytes,
         wire: here.wire,
     };
-    cursor.pass(run_packet(meter, loaded.program, packet, loaded.values));
+    let outcome = run_in_loop::<A, true>(meter, loaded.program, packet, loaded.values);
+    cursor.pass(outcome);
 }
 
 /// Goes on to the end of the place's packet, where it has begun: the records that are left up to packet `end`.
@@ -208,8 +209,9 @@ fn pass_begun<'a, A: Allocator>(
 }
 
 /// Goes on to before packet `end`, where no entry can be a hit.
-// It ends before a packet, of which nothing has passed: so the trail keeps nothing meanwhile.
-#[inline(always)]
+// It ends before a packet, of which nothing has passed: so the trail keeps nothing meanwhile. It isn't inlined, so that
+// the processor's registers are for its loop alone.
+#[inline(never)]
 fn run_without_stops<A: Allocator>(
     meter: &mut Meter,
     loaded: &Loaded<'_, A>,

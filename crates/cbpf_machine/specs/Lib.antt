@@ -1,4 +1,5 @@
 pub mod Registers
+pub mod Core
 pub mod Number
 pub mod Values
 pub mod Machine

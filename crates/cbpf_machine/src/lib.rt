@@ -8,6 +8,7 @@
 #![tactic(auto)]
 
 mod arithmetic;
+mod core_state;
 mod entries;
 mod execute;
 mod extension;
@@ -36,7 +37,7 @@ pub use mark_trail::MarkTrail;
 pub use meter::Meter;
 pub use outcome::{Outcome, Turn};
 pub use packet::Packet;
-pub use run::run_packet;
+pub use run::{run_in_loop, run_packet};
 pub use state::State;
 pub use trail::Trail;
 pub use values::Values;

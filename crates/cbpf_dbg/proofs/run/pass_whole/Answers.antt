@@ -22,7 +22,7 @@ pub returns : goal.returns
 returns g c =
     let same : c.pass.new.self
     ≡ passed c.args.cursor.now (outcome (machine_in c.args.loaded.now) c.args.here.now.bytes.now c.args.here.now.wire) =
-    c.pass.ensures ∙ ap (passed c.args.cursor.now) c.run_packet.ensures.value in
+    c.pass.ensures ∙ ap (passed c.args.cursor.now) c.run_in_loop-outcome.ensures.value in
     let one : 1 ≤ c.args.cursor.now.place.packet = let a = c.requires.stands.from_one in
     let b = c.requires.stands.ordered in
     omega arith in
@@ -34,5 +34,5 @@ returns g c =
       place = ap (λ (n : Cursor). n.place) same;
       origin = ap (λ (n : Cursor). n.origin) same;
       rest = rw same (sym quiet.0);
-      spent = rw same (omega (arith, quiet.1, c.run_packet.ensures.turns, c.requires.before));
+      spent = rw same (omega (arith, quiet.1, c.run_in_loop-outcome.ensures.turns, c.requires.before));
     }
