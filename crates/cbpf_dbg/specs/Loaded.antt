@@ -1,5 +1,4 @@
--- What the commands of a session work on, as the definitions see it: it is a matter of this crate alone,
--- and no public clause names it.
+-- What the view of `Stops`, and the commands of a session, go over.
 use Rattle.std.specs.Prelude.{List}
 use Rattle.cbpf_machine.specs.Machine.{Machine, machine_of}
 use Rattle.pcap_classic.specs.Records.{Record}
