@@ -1,6 +1,6 @@
 //! The records of a capture, one after another.
 
-ghost use Rattle.std.specs.Prelude.{◌≡◌, slice_get};
+ghost use Rattle.std.specs.Prelude.{◌≡◌, ◌∷◌, slice_get, Some};
 ghost use Rattle.std.specs.Option.{option_map};
 ghost use Rattle.std.specs.Iterator.{YieldsFirstBy, item_count};
 ghost use Rattle.pcap_classic.specs.Lent.{record_of};
@@ -49,6 +49,16 @@ impl<'a> Records<'a> {
         }
         Some(record_at(self.order, self.file, self.number, self.place))
     }
+
+    /// Goes on past its first record, which is this one.
+    #[inline(always)]
+    pub fn pass(&mut self, first: &Captured<'_>)
+        requires { slice_get self.old 0 ≡ Some (record_of first.now) }
+        ensures { self.old ≡ record_of first.now ∷ self.new }
+    {
+        self.number += 1;
+        self.place = first.start + RECORD_HEADER + first.bytes.len();
+    }
 }
 
 impl<'a> Iterator for Records<'a> {
@@ -61,8 +71,7 @@ impl<'a> Iterator for Records<'a> {
     #[inline(always)]
     fn next(&mut self) -> Option<Captured<'a>> {
         let record = self.first()?;
-        self.number += 1;
-        self.place = record.start + RECORD_HEADER + record.bytes.len();
+        self.pass(&record);
         Some(record)
     }
 }
