@@ -5,5 +5,4 @@ pub mod TraceLemmas
 pub mod AskedLemmas
 pub mod FollowLemmas
 pub mod TogetherLemmas
-pub mod PassLemmas
 pub mod WatchLemmas

@@ -10,4 +10,3 @@ pub mod Trail
 pub mod Follow
 pub mod InPlace
 pub mod Together
-pub mod Packed

@@ -2,12 +2,12 @@ ghost use Rattle.std.specs.Prelude.{◌≡◌, ◌≤◌, ◌+◌, ◌^◌, leng
 ghost use Rattle.cbpf_machine.specs.Machine.{machine_of};
 ghost use Rattle.cbpf_machine.specs.Trace as spec;
 
-use crate::core_state::Core;
+use crate::follow::{Followed, follow_packet};
 use crate::meter::Meter;
 use crate::outcome::Outcome;
 use crate::packet::Packet;
 use crate::pause::Never;
-use crate::together::pass;
+use crate::state::State;
 use crate::values::Values;
 use cbpf_code::Program;
 use std::alloc::Allocator;
@@ -16,7 +16,7 @@ use std::alloc::Allocator;
 /// as the program has instructions.
 ///
 /// The meter is at least 8192 turns below 2 to the 128 before.
-#[inline(never)]
+#[inline(always)]
 pub fn run_packet<A: Allocator>(
     meter: &mut Meter,
     p: &Program<A>,
@@ -34,37 +34,9 @@ pub fn run_packet<A: Allocator>(
         (spec.trace (machine_of p.now values.now) packet.entry.bytes.now packet.entry.wire) }
 {
     let _few = p.len();
-    run_in_loop::<A, false>(meter, p, packet, values)
-}
-
-/// The same for a loop over packets, which has it inlined with the parameter `true`.
-// What is called from one place alone is inlined, and by the parameter this has a copy of its own. So the outcome isn't
-// told by memory, and the state stays in the processor's registers.
-#[inline(always)]
-pub fn run_in_loop<A: Allocator, const LOOPS: bool>(
-    meter: &mut Meter,
-    p: &Program<A>,
-    packet: Packet<'_>,
-    values: &Values,
-) -> Outcome
-    requires { meter.old + 8192 ≤ 2 ^ 128 }
-    ensures value { result ≡ spec.outcome (machine_of p.now values.now) packet.entry.bytes.now packet.entry.wire }
-    ensures turns { meter.new
-        ≡ meter.old + length (spec.trace (machine_of p.now values.now) packet.entry.bytes.now packet.entry.wire) }
-    ensures few { meter.new ≤ meter.old + length p.now }
-
-    // The definition's trace is the whole run: it ends by itself, and its program counters rise.
-    ensures whole { spec.IsRun (machine_of p.now values.now) packet.entry.bytes.now packet.entry.wire
-        (spec.trace (machine_of p.now values.now) packet.entry.bytes.now packet.entry.wire) }
-{
-    let _sound = p.len();
-    let mut s = Core::new(0, 0, 0);
-    let mut slots = [0; 16];
-    match pass::<Never, A, LOOPS>(&Never, p, packet, values, &mut s, &mut slots) {
-        (turns, Some(end)) => {
-            meter.add(turns);
-            Outcome::from(end)
-        }
+    let mut s = State::zero();
+    match follow_packet(meter, p, packet, values, &Never, &mut s) {
+        Followed::Ended(outcome) => outcome,
         _ => unreachable!(),
     }
 }

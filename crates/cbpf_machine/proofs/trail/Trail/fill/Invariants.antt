@@ -1,5 +1,6 @@
 use Rattle.std.proofs.Common.{◌≡◌, ◌≤◌, ◌+◌, ◌-◌, take}
 use Rattle.cbpf_code.specs.Sound.{IsSound}
+use Rattle.cbpf_machine.specs.Core.{registers}
 use Rattle.cbpf_machine.specs.Machine.{machine_of}
 use Rattle.cbpf_machine.specs.Trace.{trace}
 use Rattle.cbpf_machine.specs.Follow.{Goes}
@@ -14,7 +15,7 @@ invariant-fill g l =
       within : l.entries ≤ l.to;
       kept : g.Self.Trail.kept l.self ≡ l.entries;
       here : Goes (machine_of l.p l.values) l.packet.bytes.now l.packet.wire
-          (trace (machine_of l.p l.values) l.packet.bytes.now l.packet.wire) (l.entries - 1) l.state;
+          (trace (machine_of l.p l.values) l.packet.bytes.now l.packet.wire) (l.entries - 1) (registers l.here l.slots);
       stands : g.Self.Trail.stands_for l.self
           (take l.entries (trace (machine_of l.p l.values) l.packet.bytes.now l.packet.wire));
       spent : l.meter + 1 ≡ l.fn.meter + l.entries;
