@@ -9,7 +9,6 @@
 
 mod arithmetic;
 mod core_state;
-mod entries;
 mod execute;
 mod extension;
 mod follow;
