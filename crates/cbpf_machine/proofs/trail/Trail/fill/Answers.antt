@@ -23,7 +23,7 @@ fill-init g c =
       from_one = omega arith;
       within = c.requires.from_one;
       kept = sym (g.met.Self.Trail.as_long _ _ pushed);
-      here = rw c.new-here.ensures (start_goes (machine_of c.args.p.now c.args.values.now) c.args.packet.bytes.now c.args.packet.wire (λ (r : Registers). false) sound);
+      here = rw c.zero-here.ensures (start_goes (machine_of c.args.p.now c.args.values.now) c.args.packet.bytes.now c.args.packet.wire (λ (r : Registers). false) sound);
       stands = rw (take-slice_get (trace (machine_of c.args.p.now c.args.values.now) c.args.packet.bytes.now c.args.packet.wire) 0 zero_state (first_entry (machine_of c.args.p.now c.args.values.now) c.args.packet.bytes.now c.args.packet.wire sound)) pushed;
       spent = omega arith;
     }
