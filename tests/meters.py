@@ -11,7 +11,7 @@ its own word in any form of a call. It lists
     import by its own name; the field meter; the word stops, of the call that has a meter of its own
   in each of these crates: the imports that give another name, or all names
   in cbpf_machine: the word Meter as above; the derives of Meter, its functions, the words Self and turns in its file;
-    each literal of a state; what it exports; for each function that makes turns, by itself or by a call, how often it
+    each literal of a state, and each change of its registers; what it exports; for each function that makes turns, by itself or by a call, how often it
     names each such function and how many loops it has, and whether other crates can call it
 """
 
@@ -23,7 +23,7 @@ from pathlib import Path
 CRATES = Path(__file__).resolve().parent.parent / "crates"
 MACHINE = "cbpf_machine"
 # What changes a state, calculates or loads for a turn: whoever names one of these, or names who does, makes turns.
-ROOTS = "set_core set_a set_x with_slot skip alu negated compares number_at op_of".split()
+ROOTS = "of with_slot skip alu negated compares number_at op_of".split()
 # The words of loops, which make turns again.
 LOOPS = {"for", "while", "loop"}
 TOKEN = re.compile(
@@ -167,6 +167,12 @@ def is_field(words, at):
     return words[at - 1][0] == "."
 
 
+def is_changed(words, at):
+    """Whether a field gets another value."""
+    after = "".join(w for w, _, _ in words[at + 1 : at + 3])
+    return is_field(words, at) and after[:1] in tuple("=+-*/%&|^") and "=" in after and after != "=="
+
+
 def is_literal(words, at):
     """Whether a name is followed by the braces of a value, and not by those of an item."""
     before = [w for w, _, _ in words[max(at - 2, 0) : at]]
@@ -215,8 +221,12 @@ def list_machine(files):
     for word in ("derive", "fn", "Self", "turns"):
         list_words([meter], word)
     print("literals of a state:")
-    list_words(files, "State", is_literal)
-    list_words([file for file in files if file.path.name == "state.rt"], "Self")
+    for word in ("State", "Core"):
+        list_words(files, word, is_literal)
+    list_words([file for file in files if file.path.name in ("state.rt", "core_state.rt")], "Self")
+    print("changes of a state's registers:")
+    for word in ("pc", "a", "x"):
+        list_words(files, word, is_changed)
     print("what the machine exports:")
     list_imports(files, lambda imported: imported[0] == "pub")
     functions = functions_of(files)
