@@ -35,6 +35,8 @@ import sys
 from functools import cache
 from pathlib import Path
 
+from run import parts
+
 TOP = Path(__file__).resolve().parent.parent
 CRATES = TOP / "crates"
 SUFFIXES = "rt antt edit md py sh txt asm dbg pcap pcapng words bash 1 c".split()
@@ -320,14 +322,15 @@ def shown_files(kind, name):
     elif kind == "script" and f" tests/{name}" in text_of(TOP / "Makefile").partition("\ncheck:")[2]:
         found = [TOP / "tests" / name]
     elif kind == "case" and (TOP / "tests/cases" / f"{name}.case").is_file():
-        case = TOP / "tests/cases" / name
-        found = [TOP / "tests/cases" / f"{name}.case", *case.rglob("*")]
+        found = [TOP / "tests/cases" / f"{name}.case"]
     return [file for file in found if file.is_file()]
 
 
 @cache
 def joined_by_blanks(path):
-    return " ".join(text_of(path).split())
+    case = path.suffix == ".case"
+    text = b"\n==>\n".join(parts(path).values()).decode(errors="replace") if case else text_of(path)
+    return " ".join(text.split())
 
 
 def check_shown(path):

@@ -13,6 +13,7 @@ program runs in a new folder, with
   captures one line for each capture of tests/captures that lies there too: its name (../../examples/NAME for one of
            examples/), a space, its name there
   setup    one shell command a line, run there first
+  texts/NAME  lines for which a line `<<NAME>>` stands in any text of the case; tests/texts has those of all cases
 and must give
   stdout   exactly this
   stderr   exactly this (none: nothing)
@@ -40,12 +41,20 @@ SECONDS = 60
 
 MARK = re.compile(rb"(?m)^==> (.+) <==\n")
 CUT = b"\n\\ No newline at end of file\n"
+STANDS_FOR = re.compile(rb"(?m)^<<(.+)>>\n")
+
+
+def texts(path):
+    """The texts below the marks of a file, by their names."""
+    _, *cut = MARK.split(path.read_bytes())
+    return {name.decode(): text.removesuffix(CUT) for name, text in zip(cut[::2], cut[1::2])}
 
 
 def parts(case):
     """The texts of a case by their names."""
-    _, *cut = MARK.split(case.read_bytes())
-    found = {name.decode(): text.removesuffix(CUT) for name, text in zip(cut[::2], cut[1::2])}
+    found = texts(CASES.parent / "texts") | texts(case)
+    for name in found:
+        found[name] = STANDS_FOR.sub(lambda line: found["texts/" + line[1].decode()], found[name])
     folder = case.with_suffix("")
     return found | {str(path.relative_to(folder)): path.read_bytes() for path in folder.rglob("*") if path.is_file()}
 
