@@ -1,6 +1,10 @@
 //! Sources with their instructions, and refused sources with their lines.
 
 use crate::assertions::assert_at;
+use AsmKind::{
+    LabelNotSet, LabelSetTwice, LargeNumber, Misplaced, NoInstruction, NoToken, NotAfter,
+    OpenComment, TooFar, TooMany, Unfinished,
+};
 use cbpf_code::Insn;
 use cbpf_text::{AsmFault, AsmKind, assemble};
 use std::alloc::Global;
@@ -61,45 +65,33 @@ static SOURCES: [(&[u8], Result<&[Fields], (AsmKind, u64)>); 36] = [
             (6, 0, 0, 0),
         ]),
     ),
-    (b"", Err((AsmKind::NoInstruction, 1))),
-    (b"\n\n ; none\n", Err((AsmKind::NoInstruction, 1))),
-    (b"top:", Err((AsmKind::Unfinished, 1))),
-    (b"a: ret #0", Err((AsmKind::Misplaced, 1))),
-    (b"ld #4294967296", Err((AsmKind::LargeNumber, 1))),
-    (b"ld #-2147483649", Err((AsmKind::LargeNumber, 1))),
-    (b"top: ld #1\njmp top\nret a", Err((AsmKind::NotAfter, 2))),
-    (b"jeq #1, no\nret #0", Err((AsmKind::LabelNotSet, 1))),
-    (b"ret ret\nret $", Err((AsmKind::NoToken, 2))),
-    (b"ret #0 /* x", Err((AsmKind::OpenComment, 1))),
-    (b"ld #08", Err((AsmKind::NoToken, 1))),
-    (b"b: ret #0\nb: ret #0\n", Err((AsmKind::LabelSetTwice, 2))),
-    (b"ldx type", Err((AsmKind::Misplaced, 1))),
-    (b"ret #0x", Err((AsmKind::NoToken, 1))),
-    (b"l: jmp l", Err((AsmKind::NotAfter, 1))),
-    (b"jmp no\nb: tax\nb: tax", Err((AsmKind::LabelSetTwice, 3))),
-    (b"l: jeq #1,\nl,\nno", Err((AsmKind::NotAfter, 2))),
-    (
-        b"tax\nret #-2147483649\nret ret",
-        Err((AsmKind::LargeNumber, 2)),
-    ),
-    (b"tax\njeq #1, l\n\n", Err((AsmKind::LabelNotSet, 2))),
-    (b"tax\njeq #1,\n\n", Err((AsmKind::Unfinished, 2))),
+    (b"", Err((NoInstruction, 1))),
+    (b"\n\n ; none\n", Err((NoInstruction, 1))),
+    (b"top:", Err((Unfinished, 1))),
+    (b"a: ret #0", Err((Misplaced, 1))),
+    (b"ld #4294967296", Err((LargeNumber, 1))),
+    (b"ld #-2147483649", Err((LargeNumber, 1))),
+    (b"top: ld #1\njmp top\nret a", Err((NotAfter, 2))),
+    (b"jeq #1, no\nret #0", Err((LabelNotSet, 1))),
+    (b"ret ret\nret $", Err((NoToken, 2))),
+    (b"ret #0 /* x", Err((OpenComment, 1))),
+    (b"ld #08", Err((NoToken, 1))),
+    (b"b: ret #0\nb: ret #0\n", Err((LabelSetTwice, 2))),
+    (b"ldx type", Err((Misplaced, 1))),
+    (b"ret #0x", Err((NoToken, 1))),
+    (b"l: jmp l", Err((NotAfter, 1))),
+    (b"jmp no\nb: tax\nb: tax", Err((LabelSetTwice, 3))),
+    (b"l: jeq #1,\nl,\nno", Err((NotAfter, 2))),
+    (b"tax\nret #-2147483649\nret ret", Err((LargeNumber, 2))),
+    (b"tax\njeq #1, l\n\n", Err((LabelNotSet, 2))),
+    (b"tax\njeq #1,\n\n", Err((Unfinished, 2))),
     // A label that is set twice on one item, and one that is nowhere used.
-    (b"in: in: ret #0", Err((AsmKind::LabelSetTwice, 1))),
-    (
-        b"in:\nb: ld #1\n\nin:\nret #0",
-        Err((AsmKind::LabelSetTwice, 4)),
-    ),
+    (b"in: in: ret #0", Err((LabelSetTwice, 1))),
+    (b"in:\nb: ld #1\n\nin:\nret #0", Err((LabelSetTwice, 4))),
     // Labels come before targets, whatever their order in the text.
-    (
-        b"jmp no\nin: ret #0\nin: ret #0",
-        Err((AsmKind::LabelSetTwice, 3)),
-    ),
+    (b"jmp no\nin: ret #0\nin: ret #0", Err((LabelSetTwice, 3))),
     // A target on a later line than its jump.
-    (
-        b"jeq #1, yes,\n no\nyes: ret #0",
-        Err((AsmKind::LabelNotSet, 2)),
-    ),
+    (b"jeq #1, yes,\n no\nyes: ret #0", Err((LabelNotSet, 2))),
 ];
 
 fn insn_of((code, jt, jf, k): Fields) -> Insn {
@@ -155,19 +147,9 @@ static LONG: [Long; 12] = [
         b"far: ret #0",
         Ok((0, (21, 255, 0, 0))),
     ),
-    (
-        b"jeq #0, far\n",
-        256,
-        b"far: ret #0",
-        Err((AsmKind::TooFar, 1)),
-    ),
+    (b"jeq #0, far\n", 256, b"far: ret #0", Err((TooFar, 1))),
     (b"ja far\n", 4094, b"far: ret #0", Ok((0, (5, 0, 0, 4094)))),
-    (
-        b"ja far\n",
-        4095,
-        b"far: ret #0",
-        Err((AsmKind::TooMany, 4097)),
-    ),
+    (b"ja far\n", 4095, b"far: ret #0", Err((TooMany, 4097))),
     // Either target can be too far, also one on a later line, and the one where `jne` does not hold.
     (
         b"ld #1\njeq #1, near,\n far\nnear: ld #2\n",
@@ -179,36 +161,31 @@ static LONG: [Long; 12] = [
         b"ld #1\njeq #1, near,\n far\nnear: ld #2\n",
         255,
         b"far: ret #0",
-        Err((AsmKind::TooFar, 3)),
+        Err((TooFar, 3)),
     ),
     (
         b"jeq #1, far,\n near\nnear: ld #2\n",
         255,
         b"far: ret #0",
-        Err((AsmKind::TooFar, 1)),
+        Err((TooFar, 1)),
     ),
     (
         b"ld #1\njne #1,\n far\nld #2\n",
         255,
         b"far: ret #0",
-        Err((AsmKind::TooFar, 3)),
+        Err((TooFar, 3)),
     ),
     (b"", 4096, b"", Ok((4095, (7, 0, 0, 0)))),
-    (b"", 4097, b"", Err((AsmKind::TooMany, 4097))),
+    (b"", 4097, b"", Err((TooMany, 4097))),
     // The line is that of the mnemonic; its label stands three lines above.
     (
         b"",
         4096,
         b"last:\n; a\n\ntax\nret #0\n",
-        Err((AsmKind::TooMany, 4100)),
+        Err((TooMany, 4100)),
     ),
     // It comes before labels that are set twice and targets that are not set.
-    (
-        b"in: jmp no\nin: tax\n",
-        4095,
-        b"",
-        Err((AsmKind::TooMany, 4097)),
-    ),
+    (b"in: jmp no\nin: tax\n", 4095, b"", Err((TooMany, 4097))),
 ];
 
 fn with_many(rt: &impl Abort, alloc: Global, first: &[u8], between: u32, last: &[u8]) -> Vec<u8> {
@@ -255,7 +232,7 @@ fn assert_text(rt: &impl Abort, alloc: Global, fault: AsmFault, wanted: &str) {
 #[test]
 fn texts_of_faults_that_no_source_has(rt: HostRuntime) {
     assert_text(&rt, rt.alloc(), AsmFault::Memory, "out of memory");
-    let misplaced = AsmFault::At(AsmKind::Misplaced, 18446744073709551615);
+    let misplaced = AsmFault::At(Misplaced, 18446744073709551615);
     let wanted = "line 18446744073709551615: A4 token can't stand here";
     assert_text(&rt, rt.alloc(), misplaced, wanted);
 }

@@ -1,57 +1,34 @@
 use crate::lists::{Fields, list_of};
+use CheckFault::{
+    JumpOutside, NoInstruction, NoReturn, NoSlot, UnknownCode, UnknownExtension, UnwrittenSlot,
+    WideShift, ZeroDivisor,
+};
 use cbpf_code::{CheckFault, Insn, check};
 use std::process::Abort;
 
 /// Lists, and the fault of each that is refused.
 static LISTS: [(&[Fields], Option<CheckFault>); 26] = [
-    (&[], Some(CheckFault::NoInstruction)),
-    (&[(0, 0, 0, 0)], Some(CheckFault::NoReturn)),
-    (&[(5, 0, 0, 0)], Some(CheckFault::JumpOutside(0))),
-    (&[(60000, 0, 0, 0)], Some(CheckFault::UnknownCode(0))),
-    (&[(2, 0, 0, 16), (6, 0, 0, 0)], Some(CheckFault::NoSlot(0))),
-    (
-        &[(52, 0, 0, 0), (22, 0, 0, 0)],
-        Some(CheckFault::ZeroDivisor(0)),
-    ),
-    (
-        &[(148, 0, 0, 0), (22, 0, 0, 0)],
-        Some(CheckFault::ZeroDivisor(0)),
-    ),
-    (
-        &[(100, 0, 0, 32), (22, 0, 0, 0)],
-        Some(CheckFault::WideShift(0)),
-    ),
-    (
-        &[(116, 0, 0, 32), (22, 0, 0, 0)],
-        Some(CheckFault::WideShift(0)),
-    ),
-    (
-        &[(21, 0, 1, 0), (6, 0, 0, 0)],
-        Some(CheckFault::JumpOutside(0)),
-    ),
-    (
-        &[(21, 1, 0, 0), (6, 0, 0, 0)],
-        Some(CheckFault::JumpOutside(0)),
-    ),
-    (
-        &[(5, 0, 0, 4294967295), (6, 0, 0, 0)],
-        Some(CheckFault::JumpOutside(0)),
-    ),
+    (&[], Some(NoInstruction)),
+    (&[(0, 0, 0, 0)], Some(NoReturn)),
+    (&[(5, 0, 0, 0)], Some(JumpOutside(0))),
+    (&[(60000, 0, 0, 0)], Some(UnknownCode(0))),
+    (&[(2, 0, 0, 16), (6, 0, 0, 0)], Some(NoSlot(0))),
+    (&[(52, 0, 0, 0), (22, 0, 0, 0)], Some(ZeroDivisor(0))),
+    (&[(148, 0, 0, 0), (22, 0, 0, 0)], Some(ZeroDivisor(0))),
+    (&[(100, 0, 0, 32), (22, 0, 0, 0)], Some(WideShift(0))),
+    (&[(116, 0, 0, 32), (22, 0, 0, 0)], Some(WideShift(0))),
+    (&[(21, 0, 1, 0), (6, 0, 0, 0)], Some(JumpOutside(0))),
+    (&[(21, 1, 0, 0), (6, 0, 0, 0)], Some(JumpOutside(0))),
+    (&[(5, 0, 0, 4294967295), (6, 0, 0, 0)], Some(JumpOutside(0))),
     (
         &[(32, 0, 0, 4294963240), (22, 0, 0, 0)],
-        Some(CheckFault::UnknownExtension(0)),
+        Some(UnknownExtension(0)),
     ),
     // the end comes before unwritten slots
-    (&[(96, 0, 0, 0), (7, 0, 0, 0)], Some(CheckFault::NoReturn)),
+    (&[(96, 0, 0, 0), (7, 0, 0, 0)], Some(NoReturn)),
     // the least index comes first, whatever the kind
-    (
-        &[(60000, 0, 0, 0), (2, 0, 0, 16)],
-        Some(CheckFault::UnknownCode(0)),
-    ),
-    (
-        &[(2, 0, 0, 16), (60000, 0, 0, 0)],
-        Some(CheckFault::NoSlot(0)),
-    ),
+    (&[(60000, 0, 0, 0), (2, 0, 0, 16)], Some(UnknownCode(0))),
+    (&[(2, 0, 0, 16), (60000, 0, 0, 0)], Some(NoSlot(0))),
     // one of two paths stores
     (
         &[
@@ -61,11 +38,11 @@ static LISTS: [(&[Fields], Option<CheckFault>); 26] = [
             (96, 0, 0, 0),
             (22, 0, 0, 0),
         ],
-        Some(CheckFault::UnwrittenSlot(3)),
+        Some(UnwrittenSlot(3)),
     ),
     (
         &[(97, 0, 0, 15), (96, 0, 0, 0), (22, 0, 0, 0)],
-        Some(CheckFault::UnwrittenSlot(0)),
+        Some(UnwrittenSlot(0)),
     ),
     // a divisor and a shift distance in the index register aren't known
     (&[(60, 0, 0, 0), (22, 0, 0, 0)], None),

@@ -1,6 +1,7 @@
 //! What the tokens of texts are, by hand.
 
 use crate::assertions::assert_at;
+use BadPiece::{LargeNumber, NoToken, OpenComment};
 use cbpf_syntax::{BadPiece, Kind, LexFault, Token, tokens};
 use std::alloc::Global;
 use std::process::Abort;
@@ -74,44 +75,36 @@ static NUMBERS: [(&[u8], u32); 14] = [
 
 /// Texts with a piece that is no token, and its line.
 static FAULTS: [(&[u8], BadPiece, u64); 30] = [
-    (b"ret ret\nret $", BadPiece::NoToken, 2),
-    (b"ret #0 /* x", BadPiece::OpenComment, 1),
-    (b"ret #0\n\n/*/ x", BadPiece::OpenComment, 3),
-    (b"/*", BadPiece::OpenComment, 1),
-    (b"/* *", BadPiece::OpenComment, 1),
-    (b"a\n/* b\nc", BadPiece::OpenComment, 2),
-    (b"ld #08", BadPiece::NoToken, 1),
-    (b"ret #0x", BadPiece::NoToken, 1),
-    (b"0b", BadPiece::NoToken, 1),
-    (b"0b2", BadPiece::NoToken, 1),
-    (b"0X10", BadPiece::NoToken, 1),
-    (b"0B1", BadPiece::NoToken, 1),
-    (b"1_0", BadPiece::NoToken, 1),
-    (b"12ab", BadPiece::NoToken, 1),
-    (b"0xg", BadPiece::NoToken, 1),
-    (b"99999999999999999999a", BadPiece::NoToken, 1),
-    (b"ld #4294967296", BadPiece::LargeNumber, 1),
-    (b"0x100000000", BadPiece::LargeNumber, 1),
-    (
-        b"0b100000000000000000000000000000000",
-        BadPiece::LargeNumber,
-        1,
-    ),
-    (b"040000000000", BadPiece::LargeNumber, 1),
-    (
-        b"99999999999999999999999999999999",
-        BadPiece::LargeNumber,
-        1,
-    ),
-    (b"ld #-4294967296", BadPiece::LargeNumber, 1),
-    (b"a / b", BadPiece::NoToken, 1),
-    (b"*/", BadPiece::NoToken, 1),
-    (b"/", BadPiece::NoToken, 1),
-    (b"a\n\x0bb", BadPiece::NoToken, 2),
-    (b"a\n\n\x0cb", BadPiece::NoToken, 3),
-    (b"\x00", BadPiece::NoToken, 1),
-    (b"/* \n\n */ \xff", BadPiece::NoToken, 3),
-    (b"a\r\r$\n", BadPiece::NoToken, 1),
+    (b"ret ret\nret $", NoToken, 2),
+    (b"ret #0 /* x", OpenComment, 1),
+    (b"ret #0\n\n/*/ x", OpenComment, 3),
+    (b"/*", OpenComment, 1),
+    (b"/* *", OpenComment, 1),
+    (b"a\n/* b\nc", OpenComment, 2),
+    (b"ld #08", NoToken, 1),
+    (b"ret #0x", NoToken, 1),
+    (b"0b", NoToken, 1),
+    (b"0b2", NoToken, 1),
+    (b"0X10", NoToken, 1),
+    (b"0B1", NoToken, 1),
+    (b"1_0", NoToken, 1),
+    (b"12ab", NoToken, 1),
+    (b"0xg", NoToken, 1),
+    (b"99999999999999999999a", NoToken, 1),
+    (b"ld #4294967296", LargeNumber, 1),
+    (b"0x100000000", LargeNumber, 1),
+    (b"0b100000000000000000000000000000000", LargeNumber, 1),
+    (b"040000000000", LargeNumber, 1),
+    (b"99999999999999999999999999999999", LargeNumber, 1),
+    (b"ld #-4294967296", LargeNumber, 1),
+    (b"a / b", NoToken, 1),
+    (b"*/", NoToken, 1),
+    (b"/", NoToken, 1),
+    (b"a\n\x0bb", NoToken, 2),
+    (b"a\n\n\x0cb", NoToken, 3),
+    (b"\x00", NoToken, 1),
+    (b"/* \n\n */ \xff", NoToken, 3),
+    (b"a\r\r$\n", NoToken, 1),
 ];
 
 fn are_kinds(found: &[Token], wanted: &[Kind]) -> bool {

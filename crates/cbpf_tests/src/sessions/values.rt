@@ -1,7 +1,9 @@
 //! Calls that give values to extensions.
 
 use super::Shown;
-use super::rows::{Answer, Row, Turns};
+use super::rows::Answer::{Asks, Breaks, Finishes, Refuses, Steps};
+use super::rows::Row;
+use super::rows::Turns::Exactly;
 use cbpf_code::Ext;
 use cbpf_dbg::{SessionFault, When};
 
@@ -22,25 +24,21 @@ const VALUES: &[Shown] = &[
             LOAD_MARK,
             Row::Capture,
             Row::ValueOf(Ext::Mark, Some(7)),
-            Row::Run(None, Answer::Finishes(2, 0, 0), Turns::Exactly(4)),
+            Row::Run(None, Finishes(2, 0, 0), Exactly(4)),
             Row::Select(2, Ok(())),
             Row::SetValue(Ext::Mark, 0, Ok(())),
             Row::Mark(2, 0),
-            Row::Run(None, Answer::Finishes(0, 1, 0), Turns::Exactly(2)),
-            Row::Run(None, Answer::Finishes(0, 2, 0), Turns::Exactly(4)),
+            Row::Run(None, Finishes(0, 1, 0), Exactly(2)),
+            Row::Run(None, Finishes(0, 2, 0), Exactly(4)),
             // All bits are loaded, whatever the size of the load.
             LOAD_MARK_BYTE,
             Row::SetValue(Ext::Mark, 4294967295, Ok(())),
             Row::Break(1, When::Always, Ok(())),
-            Row::Run(None, Answer::Breaks(1, 2, 1, 4294967295), Turns::Exactly(1)),
+            Row::Run(None, Breaks(1, 2, 1, 4294967295), Exactly(1)),
             Row::SetValue(Ext::Mark, 4294967295, Ok(())),
             Row::Mark(1, 0),
-            Row::Step(
-                -1,
-                Answer::Refuses(SessionFault::TooFarBack(0)),
-                Turns::Exactly(0),
-            ),
-            Row::Step(2, Answer::Steps(1, 2, 1, 4294967295), Turns::Exactly(1)),
+            Row::Step(-1, Refuses(SessionFault::TooFarBack(0)), Exactly(0)),
+            Row::Step(2, Steps(1, 2, 1, 4294967295), Exactly(1)),
         ],
     ),
     (
@@ -48,7 +46,7 @@ const VALUES: &[Shown] = &[
         &[
             LOAD_RANDOM,
             Row::Capture,
-            Row::Run(None, Answer::Asks(1, Ext::Rand), Turns::Exactly(0)),
+            Row::Run(None, Asks(1, Ext::Rand), Exactly(0)),
             Row::SetValue(Ext::Nla, 1, Err(SessionFault::NoValue)),
             Row::SetValue(Ext::NlaN, 1, Err(SessionFault::NoValue)),
             Row::SetValue(Ext::PayOff, 1, Err(SessionFault::NoValue)),
@@ -58,8 +56,8 @@ const VALUES: &[Shown] = &[
             Row::ValueOf(Ext::PayOff, None),
             Row::ValueOf(Ext::Rand, None),
             Row::Mark(1, 1),
-            Row::Run(None, Answer::Asks(2, Ext::Rand), Turns::Exactly(1)),
-            Row::Run(None, Answer::Finishes(0, 0, 2), Turns::Exactly(1)),
+            Row::Run(None, Asks(2, Ext::Rand), Exactly(1)),
+            Row::Run(None, Finishes(0, 0, 2), Exactly(1)),
         ],
     ),
 ];
