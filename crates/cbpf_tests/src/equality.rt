@@ -1,9 +1,9 @@
 //! Values are equal where all their fields are: those that differ in one field alone differ.
 
 use crate::assertions::assert_at_both;
-use crate::programs::{Code, program_of};
-use cbpf_code::{Ext, Program};
-use cbpf_machine::{Meter, Packet, State, Turn, Values, turn};
+use crate::programs::{next_state, program_of};
+use cbpf_code::Ext;
+use cbpf_machine::{Meter, State};
 use cbpf_reply::{Counts, Place, RunReply, Stop, Why};
 use pcap_classic::Captured;
 use std::alloc::Global;
@@ -29,75 +29,35 @@ fn compare<T: PartialEq>(rt: &impl Abort, ones: &[T], others: &[T]) {
     }
 }
 
-/// Programs, and numbers of turns: the states after these differ from that of the first row in pc, A or X.
-static ROWS: [(&[Code], u32); 9] = [
-    (&[(0, 0, 0, 0), (2, 0, 0, 0), (0, 0, 0, 0), (6, 0, 0, 0)], 3),
-    (
-        &[
-            (0, 0, 0, 0),
-            (2, 0, 0, 0),
-            (0, 0, 0, 0),
-            (0, 0, 0, 0),
-            (6, 0, 0, 0),
-        ],
-        4,
-    ),
-    (&[(0, 0, 0, 0), (2, 0, 0, 0), (0, 0, 0, 0), (6, 0, 0, 0)], 2),
-    (&[(0, 0, 0, 0), (2, 0, 0, 0), (0, 0, 0, 1), (6, 0, 0, 0)], 3),
-    (
-        &[(0, 0, 0, 0), (2, 0, 0, 0), (0, 0, 0, 65536), (6, 0, 0, 0)],
-        3,
-    ),
-    (
-        &[
-            (0, 0, 0, 0),
-            (2, 0, 0, 0),
-            (0, 0, 0, 2147483648),
-            (6, 0, 0, 0),
-        ],
-        3,
-    ),
-    (&[(0, 0, 0, 0), (2, 0, 0, 0), (1, 0, 0, 1), (6, 0, 0, 0)], 3),
-    (
-        &[(0, 0, 0, 0), (2, 0, 0, 0), (1, 0, 0, 65536), (6, 0, 0, 0)],
-        3,
-    ),
-    (
-        &[
-            (0, 0, 0, 0),
-            (2, 0, 0, 0),
-            (1, 0, 0, 2147483648),
-            (6, 0, 0, 0),
-        ],
-        3,
-    ),
+/// The third instruction's code and number, and a number of turns: the states after these differ from that of the
+/// first row in pc, A or X.
+static ROWS: [(u16, u32, u32); 9] = [
+    (0, 0, 3),
+    (0, 0, 4),
+    (0, 0, 2),
+    (0, 1, 3),
+    (0, 65536, 3),
+    (0, 2147483648, 3),
+    (1, 1, 3),
+    (1, 65536, 3),
+    (1, 2147483648, 3),
 ];
 
-/// A program whose state after three turns differs from that of the first row in one slot.
-fn store(value: u32, slot: u32) -> [Code; 4] {
-    [
+/// The state after so many turns of a program that stores a number into a slot, and makes one more instruction.
+fn state_of(
+    rt: &impl Abort,
+    alloc: Global,
+    (value, slot): (u32, u32),
+    (code, k, turns): (u16, u32, u32),
+) -> State {
+    let list = [
         (0, 0, 0, value),
         (2, 0, 0, slot),
+        (code, 0, 0, k),
         (0, 0, 0, 0),
         (6, 0, 0, 0),
-    ]
-}
-
-fn next_state(rt: &impl Abort, p: &Program, meter: &mut Meter, s: &State) -> State {
-    let packet = Packet {
-        bytes: b"",
-        wire: 0,
-    };
-    assert!(rt; s.pc() < p.len() && meter.spent() < 5);
-    match turn(meter, p, packet, &Values::new(), s) {
-        Turn::Next(next) => next,
-        _ => panic!(rt; "the packet ends"),
-    }
-}
-
-/// The state after so many turns.
-fn state_of(rt: &impl Abort, alloc: Global, list: &[Code], turns: u32) -> State {
-    let p = program_of(rt, alloc, list);
+    ];
+    let p = program_of(rt, alloc, &list);
     let mut meter = Meter::new();
     let mut s = State::zero();
     for _ in 0..turns {
@@ -109,10 +69,9 @@ fn state_of(rt: &impl Abort, alloc: Global, list: &[Code], turns: u32) -> State 
 /// States that differ from the first one in pc, A or X.
 fn registers(rt: &impl Abort, alloc: Global) -> Vec<State> {
     let mut states = Vec::new(alloc);
-    for (list, turns) in ROWS.iter() {
-        states
-            .push(state_of(rt, alloc, list, *turns))
-            .expect(rt, "memory");
+    for row in ROWS {
+        let state = state_of(rt, alloc, (0, 0), row);
+        states.push(state).expect(rt, "memory");
     }
     states
 }
@@ -122,7 +81,7 @@ fn states(rt: &impl Abort, alloc: Global) -> Vec<State> {
     let mut states = registers(rt, alloc);
     for n in 0..32u32 {
         let value = if n < 16 { 1 } else { 65536 };
-        let state = state_of(rt, alloc, &store(value, n % 16), 3);
+        let state = state_of(rt, alloc, (value, n % 16), ROWS[0]);
         states.push(state).expect(rt, "memory");
     }
     states
@@ -156,39 +115,28 @@ static REASONS: [Why; 4] = [
     Why::Unknown(Ext::Cpu),
 ];
 
+fn add(rt: &impl Abort, stops: &mut Vec<Stop>, place: Place, state: State, why: Why) {
+    stops.push(Stop { place, state, why }).expect(rt, "memory");
+}
+
 /// A stop for each state.
 fn add_states(rt: &impl Abort, stops: &mut Vec<Stop>, states: &[State]) {
     for state in states {
-        let stop = Stop {
-            place: PLACES[0],
-            state: *state,
-            why: Why::Break,
-        };
-        stops.push(stop).expect(rt, "memory");
+        add(rt, stops, PLACES[0], *state, Why::Break);
     }
 }
 
 /// A stop for each place but the first.
 fn add_places(rt: &impl Abort, stops: &mut Vec<Stop>, state: State) {
     for place in &PLACES[1..] {
-        let stop = Stop {
-            place: *place,
-            state,
-            why: Why::Break,
-        };
-        stops.push(stop).expect(rt, "memory");
+        add(rt, stops, *place, state, Why::Break);
     }
 }
 
 /// A stop for each reason but the first.
 fn add_reasons(rt: &impl Abort, stops: &mut Vec<Stop>, state: State) {
     for why in &REASONS[1..] {
-        let stop = Stop {
-            place: PLACES[0],
-            state,
-            why: *why,
-        };
-        stops.push(stop).expect(rt, "memory");
+        add(rt, stops, PLACES[0], state, *why);
     }
 }
 
@@ -210,46 +158,32 @@ fn stops_differ_where_a_field_does(rt: HostRuntime) {
     compare(&rt, &stops(&rt, rt.alloc()), &stops(&rt, rt.alloc()));
 }
 
-static COUNTS: [Counts; 7] = [
-    Counts {
-        passes: 1,
-        fails: 1,
-        unknown: 1,
-    },
-    Counts {
-        passes: 2,
-        fails: 1,
-        unknown: 1,
-    },
-    Counts {
-        passes: 1,
-        fails: 2,
-        unknown: 1,
-    },
-    Counts {
-        passes: 1,
-        fails: 1,
-        unknown: 2,
-    },
-    Counts {
-        passes: 4294967297,
-        fails: 1,
-        unknown: 1,
-    },
-    Counts {
-        passes: 1,
-        fails: 4294967297,
-        unknown: 1,
-    },
-    Counts {
-        passes: 1,
-        fails: 1,
-        unknown: 4294967297,
-    },
+/// Numbers of packets that passed, that failed, and that asked for an extension.
+static COUNTS: [(u64, u64, u64); 7] = [
+    (1, 1, 1),
+    (2, 1, 1),
+    (1, 2, 1),
+    (1, 1, 2),
+    (4294967297, 1, 1),
+    (1, 4294967297, 1),
+    (1, 1, 4294967297),
 ];
 
-fn add_counts(rt: &impl Abort, replies: &mut Vec<RunReply>) {
-    for counts in &COUNTS {
+fn counts(rt: &impl Abort, alloc: Global) -> Vec<Counts> {
+    let mut all = Vec::new(alloc);
+    for (passes, fails, unknown) in COUNTS {
+        let counts = Counts {
+            passes,
+            fails,
+            unknown,
+        };
+        all.push(counts).expect(rt, "memory");
+    }
+    all
+}
+
+fn add_counts(rt: &impl Abort, replies: &mut Vec<RunReply>, all: &[Counts]) {
+    for counts in all {
         replies.push(RunReply::Limit(*counts)).expect(rt, "memory");
         replies
             .push(RunReply::Finished(*counts))
@@ -260,7 +194,7 @@ fn add_counts(rt: &impl Abort, replies: &mut Vec<RunReply>) {
 /// Each of these counts in both replies that have some, and each stop.
 fn replies(rt: &impl Abort, alloc: Global) -> Vec<RunReply> {
     let mut replies = Vec::new(alloc);
-    add_counts(rt, &mut replies);
+    add_counts(rt, &mut replies, &counts(rt, alloc));
     for stop in &stops(rt, alloc) {
         replies.push(RunReply::Stopped(*stop)).expect(rt, "memory");
     }
@@ -269,7 +203,7 @@ fn replies(rt: &impl Abort, alloc: Global) -> Vec<RunReply> {
 
 #[test]
 fn replies_differ_where_a_field_does(rt: HostRuntime) {
-    compare(&rt, &COUNTS, &COUNTS);
+    compare(&rt, &counts(&rt, rt.alloc()), &counts(&rt, rt.alloc()));
     compare(&rt, &replies(&rt, rt.alloc()), &replies(&rt, rt.alloc()));
 }
 

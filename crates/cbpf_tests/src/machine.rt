@@ -1,7 +1,8 @@
 use crate::assertions::assert_at;
-use crate::programs::{Code, program_of};
-use cbpf_code::{Ext, Insn, Program};
-use cbpf_machine::{Meter, Outcome, Packet, State, Turn, Values, asks, run_packet, turn};
+use crate::programs::{Code, next_state, program_of};
+use cbpf_code::{Ext, Insn};
+use cbpf_machine::Outcome::{Fail, Pass, Unknown};
+use cbpf_machine::{Meter, Outcome, Packet, State, Values, asks, run_packet};
 use std::alloc::Global;
 use std::process::Abort;
 
@@ -70,46 +71,36 @@ const INDEXED_BY_AN_EXTENSION: &[Code] = &[(1, 0, 0, 4041), (80, 0, 0, 429496325
 
 /// Programs, a packet's bytes and original length, and how the packet ends.
 const WORKED: &[(&[Code], &[u8], u32, Outcome)] = &[
-    (NEGATE, b"", 0, Outcome::Pass(4294967295)),
-    (SQUARE, b"\x08\x06", 60, Outcome::Fail),
-    (SHIFT_BY_32, b"\x08\x06", 60, Outcome::Fail),
-    (SHIFT_BY_31, b"", 0, Outcome::Pass(2147483648)),
-    (HEADER_LENGTH, b"\x4f", 1, Outcome::Pass(60)),
-    (HEADER_LENGTH, b"", 0, Outcome::Fail),
-    (
-        &[(40, 0, 0, 0), (22, 0, 0, 0)],
-        b"\x08\x06",
-        2,
-        Outcome::Pass(2054),
-    ),
-    (
-        &[(40, 0, 0, 1), (22, 0, 0, 0)],
-        b"\x08\x06",
-        2,
-        Outcome::Fail,
-    ),
+    (NEGATE, b"", 0, Pass(4294967295)),
+    (SQUARE, b"\x08\x06", 60, Fail),
+    (SHIFT_BY_32, b"\x08\x06", 60, Fail),
+    (SHIFT_BY_31, b"", 0, Pass(2147483648)),
+    (HEADER_LENGTH, b"\x4f", 1, Pass(60)),
+    (HEADER_LENGTH, b"", 0, Fail),
+    (&[(40, 0, 0, 0), (22, 0, 0, 0)], b"\x08\x06", 2, Pass(2054)),
+    (&[(40, 0, 0, 1), (22, 0, 0, 0)], b"\x08\x06", 2, Fail),
     (
         &[(40, 0, 0, 4294963199), (22, 0, 0, 0)],
         b"\x08\x06",
         2,
-        Outcome::Fail,
+        Fail,
     ),
     // Nothing was captured of a packet of 60 bytes.
-    (BYTE_AFTER_7, b"", 60, Outcome::Fail),
-    (&[(128, 0, 0, 0), (22, 0, 0, 0)], b"", 60, Outcome::Pass(60)),
-    (ADD_SUB_MUL, b"", 0, Outcome::Pass(0xfffffffd)),
-    (AND_OR_LSH, b"", 0, Outcome::Pass(0x800000ff)),
-    (INDEXED, &[10, 20, 30, 40, 50], 2, Outcome::Pass(10)),
-    (INDEXED, &[10, 20, 30, 40, 50], 3, Outcome::Pass(20)),
-    (INDEXED, &[10, 20, 30, 40, 50], 4, Outcome::Pass(30)),
+    (BYTE_AFTER_7, b"", 60, Fail),
+    (&[(128, 0, 0, 0), (22, 0, 0, 0)], b"", 60, Pass(60)),
+    (ADD_SUB_MUL, b"", 0, Pass(0xfffffffd)),
+    (AND_OR_LSH, b"", 0, Pass(0x800000ff)),
+    (INDEXED, &[10, 20, 30, 40, 50], 2, Pass(10)),
+    (INDEXED, &[10, 20, 30, 40, 50], 3, Pass(20)),
+    (INDEXED, &[10, 20, 30, 40, 50], 4, Pass(30)),
     // An indexed load at an extension's number goes into the packet, and asks for nothing.
-    (INDEXED_BY_AN_EXTENSION, &[10, 20, 30], 3, Outcome::Pass(20)),
-    (INDEXED_BY_AN_EXTENSION, &[10], 1, Outcome::Fail),
+    (INDEXED_BY_AN_EXTENSION, &[10, 20, 30], 3, Pass(20)),
+    (INDEXED_BY_AN_EXTENSION, &[10], 1, Fail),
     (
         &[(64, 0, 0, 4294963256), (22, 0, 0, 0)],
         b"\x08\x06",
         2,
-        Outcome::Fail,
+        Fail,
     ),
 ];
 
@@ -140,19 +131,6 @@ const TURNS: [(u32, u32, u32, u32); 5] = [
     (4, 9, 9, 9),
     (6, 9, 9, 9),
 ];
-
-/// The state after a turn that does not end the packet, which has no bytes.
-fn next_state(rt: &impl Abort, p: &Program, meter: &mut Meter, s: &State) -> State {
-    let packet = Packet {
-        bytes: b"",
-        wire: 0,
-    };
-    assert!(rt; s.pc() < p.len() && meter.spent() < 5);
-    match turn(meter, p, packet, &Values::new(), s) {
-        Turn::Next(next) => next,
-        _ => panic!(rt; "the packet ends"),
-    }
-}
 
 fn is_at(s: &State, (pc, a, x, slot): (u32, u32, u32, u32)) -> bool {
     (s.pc(), s.a(), s.x(), s.slot(5)) == (pc, a, x, slot) && s.slot(4) == 0
@@ -192,9 +170,9 @@ const EXTENSIONS: [(Ext, u32, Option<u32>); 15] = [
 /// What loads from an extension's place ask for, and how they end.
 fn asked_and_outcome(values: &Values, e: Ext) -> (Option<Ext>, Outcome) {
     match values.value_of(e) {
-        None => (Some(e), Outcome::Unknown(e)),
-        Some(0) => (None, Outcome::Fail),
-        Some(n) => (None, Outcome::Pass(n)),
+        None => (Some(e), Unknown(e)),
+        Some(0) => (None, Fail),
+        Some(n) => (None, Pass(n)),
     }
 }
 

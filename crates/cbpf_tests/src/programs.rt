@@ -1,6 +1,7 @@
 //! Programs by the numbers of their instructions.
 
 use cbpf_code::{Insn, Program, check};
+use cbpf_machine::{Meter, Packet, State, Turn, Values, turn};
 use std::alloc::Global;
 use std::process::Abort;
 
@@ -19,4 +20,17 @@ pub fn program_of(rt: &impl Abort, alloc: Global, list: &[Code]) -> Program {
         all.push(insn).expect(rt, "memory");
     }
     check(all).ok().expect(rt, "a program")
+}
+
+/// The state after a turn that does not end the packet, which has no bytes.
+pub fn next_state(rt: &impl Abort, p: &Program, meter: &mut Meter, s: &State) -> State {
+    let packet = Packet {
+        bytes: b"",
+        wire: 0,
+    };
+    assert!(rt; s.pc() < p.len() && meter.spent() < 5);
+    match turn(meter, p, packet, &Values::new(), s) {
+        Turn::Next(next) => next,
+        _ => panic!(rt; "the packet ends"),
+    }
 }

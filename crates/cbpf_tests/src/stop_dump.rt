@@ -1,7 +1,8 @@
 //! Dumps of stops, byte for byte.
 
 use crate::assertions::assert_at;
-use cbpf_code::{Ext, Program, check, read_words};
+use crate::loaded::program_of;
+use cbpf_code::{Ext, Program};
 use cbpf_machine::{Meter, Packet, State, Turn, Values, turn};
 use cbpf_reply::{Place, Stop, Why, write_stop};
 use std::alloc::Global;
@@ -19,11 +20,6 @@ fn state_after(rt: &impl Abort, p: &Program, packet: Packet<'_>, turns: u32) -> 
         }
     }
     state
-}
-
-fn program(rt: &impl Abort, alloc: Global, words: &[u8]) -> Program {
-    let list = read_words(alloc, words).expect(rt, "word text");
-    check(list).ok().expect(rt, "a program")
 }
 
 fn written(
@@ -51,7 +47,7 @@ fn dump(
     why: Why,
 ) -> Vec<u8> {
     let (number, packet) = packet;
-    let p = program(rt, alloc, words);
+    let p = program_of(alloc, words).expect(rt, "a program");
     let place = Place {
         packet: number,
         step: turns.saturating_add(1),
