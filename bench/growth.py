@@ -86,6 +86,11 @@ def decades(values):
     return range(least, max(most, least + 1) + 1)
 
 
+def path(steps, color, width=1):
+    """A line; a step of no length is a dot."""
+    return f'<path d="{steps}" fill="none" stroke="{color}" stroke-width="{width}"/>'
+
+
 def panel(x, y, title, series, names):
     """The lines of one panel: both axes go by powers of ten."""
     every = [point for points in series.values() for point in points]
@@ -97,21 +102,19 @@ def panel(x, y, title, series, names):
         return x + right * WIDTH, y + (1 - high) * HEIGHT
 
     yield f'<text x="{x}" y="{y - 12}" font-weight="bold">{title}</text>'
-    for power in up:
-        _, line = place(10 ** across[0], 10.0**power)
-        yield f'<path d="M{x} {line:.1f}h{WIDTH}" stroke="#ddd"/>'
-        yield f'<text x="{x - 6}" y="{line + 4:.1f}" text-anchor="end">{label(10.0**power)}</text>'
-    for power in across:
-        column, _ = place(10.0**power, 10 ** up[0])
-        yield f'<path d="M{column:.1f} {y}v{HEIGHT}" stroke="#ddd"/>'
-        yield f'<text x="{column:.1f}" y="{y + HEIGHT + 16}" text-anchor="middle">{label(10.0**power)}</text>'
+    rows = [(place(10 ** across[0], 10.0**power)[1], label(10.0**power)) for power in up]
+    yield path("".join(f"M{x} {row:.1f}h{WIDTH}" for row, _ in rows), "#ddd")
+    for row, text in rows:
+        yield f'<text x="{x - 6}" y="{row + 4:.1f}" text-anchor="end">{text}</text>'
+    columns = [(place(10.0**power, 10 ** up[0])[0], label(10.0**power)) for power in across]
+    yield path("".join(f"M{column:.1f} {y}v{HEIGHT}" for column, _ in columns), "#ddd")
+    for column, text in columns:
+        yield f'<text x="{column:.1f}" y="{y + HEIGHT + 16}" text-anchor="middle">{text}</text>'
     yield f'<text x="{x + WIDTH / 2}" y="{y + HEIGHT + 34}" text-anchor="middle">{names}</text>'
     for name, points in series.items():
         places = [place(*point) for point in points]
-        line = " ".join(f"{column:.1f},{row:.1f}" for column, row in places)
-        yield f'<polyline points="{line}" fill="none" stroke="{COLORS[name]}" stroke-width="2"/>'
-        for column, row in places:
-            yield f'<circle cx="{column:.1f}" cy="{row:.1f}" r="3" fill="{COLORS[name]}"/>'
+        yield path("M" + "L".join(f"{column:.1f} {row:.1f}" for column, row in places), COLORS[name], 2)
+        yield path("".join(f"M{column:.1f} {row:.1f}h0" for column, row in places), COLORS[name], 6)
         column, row = places[0]
         yield f'<text x="{column + 4:.1f}" y="{row - 18:.1f}" fill="{COLORS[name]}">{name}</text>'
 
@@ -126,7 +129,8 @@ def picture(works):
             series = {name: [(point[0], point[part]) for point in each] for name, each in points.items()}
             lines += panel(x, TOP + row * (HEIGHT + GAP), f"{what}: {title}", series, axis)
     width, height = LEFT + 2 * WIDTH + GAP + 30, TOP + 2 * HEIGHT + GAP + 50
-    head = f'<svg xmlns="http://www.w3.org/2000/svg" viewBox="0 0 {width} {height}" font-family="sans-serif" font-size="12">'
+    head = f'<svg xmlns="http://www.w3.org/2000/svg" viewBox="0 0 {width} {height}"\n'
+    head += ' font-family="sans-serif" font-size="12" stroke-linecap="round">'
     return "\n".join([head, f'<rect width="{width}" height="{height}" fill="white"/>', *lines, "</svg>"]) + "\n"
 
 
