@@ -3,17 +3,16 @@
 
 usage: verdicts.py PROGRAM
 
-Each line of tests/verdicts/programs is a program in the form of `tcpdump -ddd`, with commas for newlines, of one of 79
-expressions, with tcpdump's optimizer or without. The line of the same number in tests/verdicts/verdicts has the packets
-of examples/mixed.pcap that it passes, by tcpdump; or how the program is refused. The whole output is compared. The last
-line is `N programs, M failed`.
+Each line of tests/verdicts.txt has, before a |, the packets of examples/mixed.pcap that a program passes, by tcpdump, or
+how it is refused; and then the program in the form of `tcpdump -ddd`, with commas for newlines, of one of 79 expressions,
+with tcpdump's optimizer or without. The whole output is compared. The last line is `N programs, M failed`.
 """
 
 import subprocess
 import sys
 from pathlib import Path
 
-DATA = Path(__file__).resolve().parent / "verdicts"
+DATA = Path(__file__).resolve().parent / "verdicts.txt"
 CAPTURE = DATA.parent.parent / "examples" / "mixed.pcap"
 PACKETS = 35
 
@@ -42,10 +41,10 @@ def main():
     if len(sys.argv) != 2:
         sys.exit(__doc__)
     program = str(Path(sys.argv[1]).resolve())
-    programs = (DATA / "programs").read_text().splitlines()
-    verdicts = (DATA / "verdicts").read_text().splitlines()
+    programs = DATA.read_text().splitlines()
     failed = 0
-    for line, (words, verdict) in enumerate(zip(programs, verdicts, strict=True), 1):
+    for line, row in enumerate(programs, 1):
+        verdict, words = row.split("|")
         got = replies_to(program, words)
         if got != wanted_of(words, verdict):
             failed += 1
