@@ -11,12 +11,11 @@ crates/*/must-fail/README.md. Each is read outside its blocks of code, and names
   cbpf_..          also without backquotes: a crate, or a name of the code
   a clause         in the column `clause` of docs/PROMISES.md: an `ensures` of the functions of its row, or a member of
                    a trait that the crate implements
-  a definition     in the first column of docs/DEFINITIONS.md, or at the head of an item there: it stands in the file
-                   that its row names
+  a definition     at the head of an item of docs/DEFINITIONS.md: it stands in a file that the item names
   an edit          in the first column of a table of must-fail/README.md: its file is there, and each of its `old:` texts
                    stands once where it says. Each edit has one row, whose function and clause are there, and whose
                    goals have no answer below proofs/, unless it is named as `the answer of` one
-  a definition     of a file specs/: it is reached from the clauses of public functions, traits and models, or its row of
+  a definition     of a file specs/: it is reached from the clauses of public functions, traits and models, or its item of
                    docs/DEFINITIONS.md says that only private functions cite it, or docs/ARCHITECTURE.md has its file in
                    the column `only for the crate`; and something cites it
   a call           in a block ```calls of docs/ARCHITECTURE.md: the function stands in the line's file
@@ -251,46 +250,25 @@ def defined(path):
     return {*typed, *re.findall(r"^\s*pub (?:data|record) (\S+)", text_of(path), re.M)}
 
 
-def definition_files(text, before, crate_names):
-    """The files that a cell or a head names: paths by its crates, or those of the row above."""
-    listed = re.findall(r"[\w/]*specs/\w+\.antt", text)
-    if not listed:
-        return before
-    files = []
-    for name in listed:
-        folders = [TOP] + [CRATES / crate for crate in crate_names]
-        files += [folder / name for folder in folders if (folder / name).exists()][:1]
-    return files
+def explained(path):
+    """The items of docs/DEFINITIONS.md, ``- `a`, `b` (file): ..``: line, names, files and the whole text."""
+    own = []
+    for number, line in lines_of(path):
+        if line.startswith("#"):
+            own = crates_in(line)
+        elif own and (match := re.match(r"- (.+?) \(([^)]*)\)", line)):
+            folders = [TOP, *(CRATES / crate for crate in own)]
+            listed = re.findall(r"[\w/]*specs/\w+\.antt", match[2])
+            files = [folder / name for name in listed for folder in folders if (folder / name).exists()]
+            yield number, re.findall(r"\w+", match[1]), files, line
 
 
 def check_definitions(path):
-    files, seen = [], None
-    for number, heading, head, cells in tables(path):
-        own = crates_in(" ".join(head)) or crates_in(heading)
-        if heading != seen:
-            files, seen = [], heading
-        if not head[-1].startswith("file"):
-            continue
-        files = definition_files(cells[-1], files, own)
-        check(bool(files), path, number, f"no file for {cells[0]}")
-        for name in CODE_SPAN.findall(cells[0]):
-            holds = any(name.split()[0] in defined(file) for file in files)
-            check(holds, path, number, f"no definition {name} in {cells[-1]}")
-    check_items(path)
-
-
-def check_items(path):
-    """Definitions in lists: `- **a, b** (file): ..` and ``- `a`, `b` (file): ..``."""
-    own, files = [], []
-    for number, line in lines_of(path):
-        if line.startswith("#"):
-            own, files = crates_in(line), []
-        match = re.match(r"- (.+?) \(([^)]*)\)", line)
-        if not match or not own:
-            continue
-        files = definition_files(match[2], files, own)
-        for name in re.findall(r"\w+", match[1]):
-            check(any(name in defined(file) for file in files), path, number, f"no definition {name} in {match[2]}")
+    for number, named, files, line in explained(path):
+        check(bool(files), path, number, f"no file for {', '.join(named)}")
+        for name in named:
+            holds = any(name in defined(file) for file in files)
+            check(holds, path, number, f"no definition {name} in {', '.join(file.name for file in files)}")
 
 
 def test_files(name):
@@ -518,7 +496,7 @@ def public_clauses(path):
 
 
 def marked_private(text, names):
-    """Of the names of a row, those which it says that only private functions cite."""
+    """Of the names of an item, those which it says that only private functions cite."""
     if FOR_PRIVATE.search(text):
         return set(names)
     found = set()
@@ -529,24 +507,9 @@ def marked_private(text, names):
 
 def described(path):
     """The definitions that docs/DEFINITIONS.md explains: line, name, file, and whether only for private functions."""
-    rows, seen = [], None
-    for number, heading, head, cells in tables(path):
-        if heading != seen:
-            files, seen = [], heading
-        if head[-1].startswith("file"):
-            files = definition_files(cells[-1], files, crates_in(" ".join(head)) or crates_in(heading))
-            names = [name.split()[0] for name in CODE_SPAN.findall(cells[0])]
-            rows.append((number, names, files, " ".join(cells)))
-    own, files = [], []
-    for number, line in lines_of(path):
-        if line.startswith("#"):
-            own, files = crates_in(line), []
-        elif own and (match := re.match(r"- (.+?) \(([^)]*)\)", line)):
-            files = definition_files(match[2], files, own)
-            rows.append((number, re.findall(r"\w+", match[1]), files, line))
-    for number, names, files, text in rows:
-        private = marked_private(text, names)
-        for name in [*names, *(private - set(names))]:
+    for number, named, files, text in explained(path):
+        private = marked_private(text, named)
+        for name in [*named, *(private - set(named))]:
             for file in files:
                 if name in spec_items(file)[1]:
                     item = spec_items(file)[1][name]
