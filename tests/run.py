@@ -31,6 +31,7 @@ import sys
 import tempfile
 from concurrent.futures import ThreadPoolExecutor
 from functools import partial
+from itertools import zip_longest
 from pathlib import Path
 
 CASES = Path(__file__).resolve().parent / "cases"
@@ -57,6 +58,12 @@ def parts(case):
         found[name] = STANDS_FOR.sub(lambda line: found["texts/" + line[1].decode()], found[name])
     folder = case.with_suffix("")
     return found | {str(path.relative_to(folder)): path.read_bytes() for path in folder.rglob("*") if path.is_file()}
+
+
+def first_difference(wanted, got):
+    """The first line that differs; None stands for one that isn't there."""
+    pairs = enumerate(zip_longest(wanted.split(b"\n"), got.split(b"\n")), 1)
+    return next(f"line {n}: wanted {want!r}, got {line!r}" for n, (want, line) in pairs if want != line)
 
 
 def tried(case, program):
@@ -90,13 +97,9 @@ def tried(case, program):
     wanted = {
         "stdout": (case["stdout"], done.stdout),
         "stderr": (case.get("stderr", b""), done.stderr),
-        "status": (int(case.get("status", b"0")), done.returncode),
+        "status": (case.get("status", b"0").strip(), b"%d" % done.returncode),
     }
-    found = [
-        f"{what}: wanted {want!r}, got {got!r}"
-        for what, (want, got) in wanted.items()
-        if want != got
-    ]
+    found = [f"{what}, {first_difference(want, got)}" for what, (want, got) in wanted.items() if want != got]
     return found, lacking
 
 
