@@ -28,18 +28,9 @@ fn each_read_fails(rt: &impl Abort, alloc: Global, kind: ErrorKind) {
         let mut writer = FaultyWriter::<256>::new(Fault::Fails, 0);
         let result = run(alloc, &mut reader, &mut writer);
         assert_at(rt, result == Err(ToolFault::Read), "the fault", call);
-        assert_at(
-            rt,
-            reader.calls() == call as u64,
-            "the reads up to a fault",
-            call,
-        );
-        assert_at(
-            rt,
-            writer.written() == replies_before(call),
-            "the replies before a fault",
-            call,
-        );
+        let (reads, replies) = (reader.calls(), replies_before(call));
+        assert_at(rt, reads == call as u64, "the reads up to a fault", call);
+        assert_at(rt, writer.written() == replies, "the replies before", call);
     }
 }
 
@@ -60,12 +51,8 @@ fn none_fails(rt: &impl Abort, alloc: Global) {
         let mut writer = FaultyWriter::<256>::new(Fault::Fails, 0);
         let result = run(alloc, &mut reader, &mut writer);
         assert_at(rt, result == Ok(()), "the answer", piece);
-        assert_at(
-            rt,
-            writer.written() == ARP_SCRIPT_REPLIES,
-            "the replies",
-            piece,
-        );
+        let is_whole = writer.written() == ARP_SCRIPT_REPLIES;
+        assert_at(rt, is_whole, "the replies", piece);
     }
 }
 

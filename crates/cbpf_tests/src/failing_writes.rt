@@ -204,12 +204,8 @@ fn write(alloc: Global, call: Call, w: &mut FaultyWriter<2048>) -> Result<(), To
 /// No write goes wrong.
 fn none_goes_wrong(rt: &impl Abort, alloc: Global, call: Call, text: &[u8]) {
     let mut writer = FaultyWriter::new(Fault::Fails, 0);
-    assert_at(
-        rt,
-        write(alloc, call, &mut writer) == Ok(()),
-        "the answer",
-        call,
-    );
+    let answer = write(alloc, call, &mut writer);
+    assert_at(rt, answer == Ok(()), "the answer", call);
     assert_at(rt, writer.written() == text, "the text", call);
     assert_at(rt, writer.calls() == text.len() as u64, "the writes", call);
 }

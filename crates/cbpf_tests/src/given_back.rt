@@ -116,12 +116,8 @@ fn answers_and_refusals(rt: HostRuntime) {
     let counting = CountingAllocator::new(rt.alloc());
     for (row, (call, refused)) in CALLS.iter().enumerate() {
         let asked = counting.asked();
-        assert_at(
-            &rt,
-            is_refused(&rt, &counting, *call) == *refused,
-            "the answer",
-            row,
-        );
+        let answer = is_refused(&rt, &counting, *call);
+        assert_at(&rt, answer == *refused, "the answer", row);
         assert_at(&rt, counting.asked() > asked || *refused, "asked for", row);
         assert_at(&rt, counting.held() == 0, "held", row);
     }
@@ -266,12 +262,8 @@ fn room_for_the_index_of_a_capture(rt: HostRuntime) {
         let counting = CountingAllocator::new(rt.alloc());
         let bytes = repeated(rt.alloc(), HEADER, RECORD, *records, b"").expect(&rt, "the bytes");
         let found = index_of(&rt, &counting, &counting, &bytes);
-        assert_at(
-            &rt,
-            found == (*room, *room),
-            "the bytes of the index",
-            *records,
-        );
+        let is_wanted = found == (*room, *room);
+        assert_at(&rt, is_wanted, "the bytes of the index", *records);
         assert_at(&rt, counting.held() == 0, "held", *records);
     }
 }

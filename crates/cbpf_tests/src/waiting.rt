@@ -171,12 +171,8 @@ fn check(
     let made = if failing == 0 { wanted.len() } else { failing };
     let done = writer.progress.get();
     assert_at(rt, outcome == answer, "the answer", place);
-    assert_at(
-        rt,
-        wanted.get(..made) == Some(writer.flushes.as_slice()),
-        "the flushes",
-        place,
-    );
+    let are_made = wanted.get(..made) == Some(writer.flushes.as_slice());
+    assert_at(rt, are_made, "the flushes", place);
     assert_at(rt, done.late == 0, "late replies", place);
     assert_at(rt, done.flushed == done.written, "the flushed text", place);
 }
