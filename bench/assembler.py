@@ -130,8 +130,6 @@ GROWING = [
 ]
 
 
-
-
 def main():
     with tempfile.TemporaryDirectory() as name:
         path = pathlib.Path(name) / "source"

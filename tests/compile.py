@@ -26,30 +26,18 @@ ROWS = [
     (
         "fn make_state(s: State) -> State",
         "s",
-        [
-            ("State { pc: 1, a: 0, x: 0, slots: [0; 16] }", PRIVATE),
-            ("State { a: 1, ..s }", PRIVATE),
-        ],
+        [("State { pc: 1, a: 0, x: 0, slots: [0; 16] }", PRIVATE), ("State { a: 1, ..s }", PRIVATE)],
     ),
     (
         "fn write_state(s: &mut State)",
         "*s = State::zero();",
-        [
-            ("s.pc = 1;", PRIVATE),
-            ("s.a = 1;", PRIVATE),
-            ("s.x = 1;", PRIVATE),
-            ("s.slots[0] = 1;", PRIVATE),
-        ],
+        [("s.pc = 1;", PRIVATE), ("s.a = 1;", PRIVATE), ("s.x = 1;", PRIVATE), ("s.slots[0] = 1;", PRIVATE)],
     ),
     ("fn make_meter() -> Meter", "Meter::new()", [("Meter { turns: 1 }", PRIVATE)]),
     (
         "fn write_meter(m: &mut Meter)",
         "*m = Meter::new();",
-        [
-            ("m.turns = 1;", PRIVATE),
-            ("m.tick();", "private-item"),
-            ("m.add(1);", "private-item"),
-        ],
+        [("m.turns = 1;", PRIVATE), ("m.tick();", "private-item"), ("m.add(1);", "private-item")],
     ),
     (
         "fn copy_meter(m: &Meter) -> Meter",
@@ -109,9 +97,8 @@ def main():
     with tempfile.TemporaryDirectory() as folder:
         needed = dependencies(BELOW)
         for name in needed:
-            shutil.copytree(
-                TOP / "crates" / name, Path(folder) / "crates" / name, ignore=shutil.ignore_patterns("out")
-            )
+            without = shutil.ignore_patterns("out")
+            shutil.copytree(TOP / "crates" / name, Path(folder) / "crates" / name, ignore=without)
         shutil.copy(TOP / "HANDLES", folder)
         lines = [f"{name}:{below}" for name, below in needed.items()] + [f"outside: {BELOW}"]
         (Path(folder) / "crates.txt").write_text("\n".join(lines) + "\n")
