@@ -1,93 +1,55 @@
 use crate::assertions::assert_at;
-use crate::programs::{Code, next_state, program_of};
-use cbpf_code::{Ext, Insn};
+use crate::loaded::program_of as of_words;
+use crate::programs::{next_state, program_of};
+use cbpf_code::{Ext, Insn, Program};
 use cbpf_machine::Outcome::{Fail, Pass, Unknown};
 use cbpf_machine::{Meter, Outcome, Packet, State, Values, asks, run_packet};
 use std::alloc::Global;
 use std::process::Abort;
 
 /// How a packet ends.
-fn outcome(
-    rt: &impl Abort,
-    alloc: Global,
-    list: &[Code],
-    packet: Packet<'_>,
-    values: &Values,
-) -> Outcome {
-    let p = program_of(rt, alloc, list);
-    run_packet(&mut Meter::new(), &p, packet, values)
+fn outcome(p: &Program, packet: Packet<'_>, values: &Values) -> Outcome {
+    run_packet(&mut Meter::new(), p, packet, values)
 }
 
-const NEGATE: &[Code] = &[(0, 0, 0, 1), (132, 0, 0, 0), (22, 0, 0, 0)];
+const NEGATE: &[u8] = b"3,0 0 0 1,132 0 0 0,22 0 0 0";
 
-const SQUARE: &[Code] = &[(0, 0, 0, 65536), (36, 0, 0, 65536), (22, 0, 0, 0)];
+const SQUARE: &[u8] = b"3,0 0 0 65536,36 0 0 65536,22 0 0 0";
 
-const SHIFT_BY_31: &[Code] = &[(0, 0, 0, 1), (1, 0, 0, 31), (108, 0, 0, 0), (22, 0, 0, 0)];
+const SHIFT_BY_31: &[u8] = b"4,0 0 0 1,1 0 0 31,108 0 0 0,22 0 0 0";
 
-const SHIFT_BY_32: &[Code] = &[(0, 0, 0, 1), (1, 0, 0, 32), (108, 0, 0, 0), (22, 0, 0, 0)];
+const SHIFT_BY_32: &[u8] = b"4,0 0 0 1,1 0 0 32,108 0 0 0,22 0 0 0";
 
-const HEADER_LENGTH: &[Code] = &[(177, 0, 0, 0), (135, 0, 0, 0), (22, 0, 0, 0)];
+const HEADER_LENGTH: &[u8] = b"3,177 0 0 0,135 0 0 0,22 0 0 0";
 
-const BYTE_AFTER_7: &[Code] = &[(0, 0, 0, 7), (48, 0, 0, 0), (22, 0, 0, 0)];
+const BYTE_AFTER_7: &[u8] = b"3,0 0 0 7,48 0 0 0,22 0 0 0";
 
 // Three programs like those of lib/test_bpf.c of the Linux kernel; the values were worked out by hand.
-const ADD_SUB_MUL: &[Code] = &[
-    (0, 0, 0, 1),
-    (4, 0, 0, 2),
-    (1, 0, 0, 3),
-    (28, 0, 0, 0),
-    (4, 0, 0, 4294967295),
-    (36, 0, 0, 3),
-    (22, 0, 0, 0),
-];
+const ADD_SUB_MUL: &[u8] = b"7,0 0 0 1,4 0 0 2,1 0 0 3,28 0 0 0,4 0 0 4294967295,36 0 0 3,22 0 0 0";
 
-const AND_OR_LSH: &[Code] = &[
-    (0, 0, 0, 255),
-    (84, 0, 0, 240),
-    (100, 0, 0, 27),
-    (7, 0, 0, 0),
-    (0, 0, 0, 15),
-    (68, 0, 0, 240),
-    (12, 0, 0, 0),
-    (22, 0, 0, 0),
-];
+const AND_OR_LSH: &[u8] =
+    b"8,0 0 0 255,84 0 0 240,100 0 0 27,7 0 0 0,0 0 0 15,68 0 0 240,12 0 0 0,22 0 0 0";
 
-const INDEXED: &[Code] = &[
-    (0, 0, 0, 1),
-    (7, 0, 0, 0),
-    (0, 0, 0, 2),
-    (12, 0, 0, 0),
-    (132, 0, 0, 0),
-    (7, 0, 0, 0),
-    (128, 0, 0, 0),
-    (12, 0, 0, 0),
-    (7, 0, 0, 0),
-    (80, 0, 0, 1),
-    (22, 0, 0, 0),
-];
+const INDEXED: &[u8] =
+    b"11,0 0 0 1,7 0 0 0,0 0 0 2,12 0 0 0,132 0 0 0,7 0 0 0,128 0 0 0,12 0 0 0,7 0 0 0,80 0 0 1,22 0 0 0";
 
 /// Byte 1 of the packet: the index register and an extension's number, modulo 2 to the 32.
-const INDEXED_BY_AN_EXTENSION: &[Code] = &[(1, 0, 0, 4041), (80, 0, 0, 4294963256), (22, 0, 0, 0)];
+const INDEXED_BY_AN_EXTENSION: &[u8] = b"3,1 0 0 4041,80 0 0 4294963256,22 0 0 0";
 
-/// Programs, a packet's bytes and original length, and how the packet ends.
-const WORKED: &[(&[Code], &[u8], u32, Outcome)] = &[
+/// Programs as word text, a packet's bytes and original length, and how the packet ends.
+const WORKED: &[(&[u8], &[u8], u32, Outcome)] = &[
     (NEGATE, b"", 0, Pass(4294967295)),
     (SQUARE, b"\x08\x06", 60, Fail),
     (SHIFT_BY_32, b"\x08\x06", 60, Fail),
     (SHIFT_BY_31, b"", 0, Pass(2147483648)),
     (HEADER_LENGTH, b"\x4f", 1, Pass(60)),
     (HEADER_LENGTH, b"", 0, Fail),
-    (&[(40, 0, 0, 0), (22, 0, 0, 0)], b"\x08\x06", 2, Pass(2054)),
-    (&[(40, 0, 0, 1), (22, 0, 0, 0)], b"\x08\x06", 2, Fail),
-    (
-        &[(40, 0, 0, 4294963199), (22, 0, 0, 0)],
-        b"\x08\x06",
-        2,
-        Fail,
-    ),
+    (b"2,40 0 0 0,22 0 0 0", b"\x08\x06", 2, Pass(2054)),
+    (b"2,40 0 0 1,22 0 0 0", b"\x08\x06", 2, Fail),
+    (b"2,40 0 0 4294963199,22 0 0 0", b"\x08\x06", 2, Fail),
     // Nothing was captured of a packet of 60 bytes.
     (BYTE_AFTER_7, b"", 60, Fail),
-    (&[(128, 0, 0, 0), (22, 0, 0, 0)], b"", 60, Pass(60)),
+    (b"2,128 0 0 0,22 0 0 0", b"", 60, Pass(60)),
     (ADD_SUB_MUL, b"", 0, Pass(0xfffffffd)),
     (AND_OR_LSH, b"", 0, Pass(0x800000ff)),
     (INDEXED, &[10, 20, 30, 40, 50], 2, Pass(10)),
@@ -96,32 +58,21 @@ const WORKED: &[(&[Code], &[u8], u32, Outcome)] = &[
     // An indexed load at an extension's number goes into the packet, and asks for nothing.
     (INDEXED_BY_AN_EXTENSION, &[10, 20, 30], 3, Pass(20)),
     (INDEXED_BY_AN_EXTENSION, &[10], 1, Fail),
-    (
-        &[(64, 0, 0, 4294963256), (22, 0, 0, 0)],
-        b"\x08\x06",
-        2,
-        Fail,
-    ),
+    (b"2,64 0 0 4294963256,22 0 0 0", b"\x08\x06", 2, Fail),
 ];
 
 #[test]
 fn worked_programs(rt: HostRuntime) {
-    for (i, (list, bytes, wire, wanted)) in WORKED.iter().enumerate() {
+    for (i, (words, bytes, wire, wanted)) in WORKED.iter().enumerate() {
+        let p = of_words(rt.alloc(), words).expect(&rt, "a program");
         let packet = Packet { bytes, wire: *wire };
-        let found = outcome(&rt, rt.alloc(), list, packet, &Values::new());
+        let found = outcome(&p, packet, &Values::new());
         assert_at(&rt, i, found == *wanted);
     }
 }
 
-const REGISTERS_AND_A_SLOT: &[Code] = &[
-    (1, 0, 0, 9),
-    (3, 0, 0, 5),
-    (97, 0, 0, 5),
-    (135, 0, 0, 0),
-    (53, 0, 1, 10),
-    (6, 0, 0, 0),
-    (22, 0, 0, 0),
-];
+const REGISTERS_AND_A_SLOT: &[u8] =
+    b"7,1 0 0 9,3 0 0 5,97 0 0 5,135 0 0 0,53 0 1 10,6 0 0 0,22 0 0 0";
 
 /// Where its turns lead, and A, X and slot 5 there.
 const TURNS: [(u32, u32, u32, u32); 5] = [
@@ -138,7 +89,7 @@ fn is_at(s: &State, (pc, a, x, slot): (u32, u32, u32, u32)) -> bool {
 
 #[test]
 fn turns_one_by_one(rt: HostRuntime) {
-    let p = program_of(&rt, rt.alloc(), REGISTERS_AND_A_SLOT);
+    let p = of_words(rt.alloc(), REGISTERS_AND_A_SLOT).expect(&rt, "a program");
     let mut meter = Meter::new();
     let mut s = State::zero();
     for row in TURNS {
@@ -183,7 +134,7 @@ fn loaded(rt: &impl Abort, alloc: Global, values: &Values, code: u16, place: u32
         bytes: &[7; 60],
         wire: 60,
     };
-    outcome(rt, alloc, &list, packet, values)
+    outcome(&program_of(rt, alloc, &list), packet, values)
 }
 
 /// What a load from a place asks for.

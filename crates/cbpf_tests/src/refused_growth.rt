@@ -15,6 +15,13 @@ quit\n";
 
 const COUNTS: &[u8] = b"bpf: 1 instructions\npcap: 2 packets\nbpf passes:2 fails:0\n";
 
+// Where room is refused for the program of `LOADS`, for the capture, and for a breakpoint.
+const NO_PROGRAM: &[u8] = b"error: out of memory\npcap: 2 packets\nerror: S1 no program\n";
+
+const NO_CAPTURE: &[u8] = b"bpf: 1 instructions\nerror: out of memory\nerror: S2 no capture\n";
+
+const NO_BREAKPOINT: &[u8] = b"bpf: 1 instructions\nerror: out of memory\nbreakpoints:\n";
+
 /// A script, its replies where no growth is refused, the least number of growths, and what it writes where
 /// this growth is refused and the script goes on.
 type Row = (&'static [u8], &'static [u8], u64, &'static [Refused]);
@@ -27,39 +34,20 @@ const SCRIPTS: [Row; 5] = [
         LOADS,
         COUNTS,
         4,
-        &[
-            (
-                2,
-                b"error: out of memory\npcap: 2 packets\nerror: S1 no program\n",
-            ),
-            (
-                3,
-                b"bpf: 1 instructions\nerror: out of memory\nerror: S2 no capture\n",
-            ),
-            (
-                4,
-                b"bpf: 1 instructions\nerror: out of memory\nerror: S2 no capture\n",
-            ),
-        ],
+        &[(2, NO_PROGRAM), (3, NO_CAPTURE), (4, NO_CAPTURE)],
     ),
     (LONG_LINE, COUNTS, 5, &[]),
     (
         b"load bpf 1,6 0 0 1\nbreakpoint 0\nbreakpoint\nquit\n",
         b"bpf: 1 instructions\nbreakpoint at: l0:\tret #0x1\nbreakpoints: 0\n",
         3,
-        &[(
-            3,
-            b"bpf: 1 instructions\nerror: out of memory\nbreakpoints:\n",
-        )],
+        &[(3, NO_BREAKPOINT)],
     ),
     (
         b"load bpf 1,6 0 0 1\nbreakpoint 0 a 5\nbreakpoint\nquit\n",
         b"bpf: 1 instructions\nbreakpoint at: l0:\tret #0x1 when a = 5\nbreakpoints: 0(a=5)\n",
         3,
-        &[(
-            3,
-            b"bpf: 1 instructions\nerror: out of memory\nbreakpoints:\n",
-        )],
+        &[(3, NO_BREAKPOINT)],
     ),
     (
         b"load bpf 1,6 0 0 1\nbreakpoint 0\nbreakpoint 0 x 7\nbreakpoint\nquit\n",
@@ -153,14 +141,8 @@ fn each_growth_of_a_script(rt: HostRuntime) {
 /// no growth is refused.
 static ENDS: [(Result<(), ToolFault>, &[u8]); 4] = [
     (Err(ToolFault::Memory), b""),
-    (
-        Ok(()),
-        b"error: out of memory\npcap: 2 packets\nerror: S1 no program\n",
-    ),
-    (
-        Ok(()),
-        b"bpf: 1 instructions\nerror: out of memory\nerror: S2 no capture\n",
-    ),
+    (Ok(()), NO_PROGRAM),
+    (Ok(()), NO_CAPTURE),
     (Ok(()), COUNTS),
 ];
 
