@@ -5,65 +5,51 @@ use AsmKind::{
     LabelNotSet, LabelSetTwice, LargeNumber, Misplaced, NoInstruction, NoToken, NotAfter,
     OpenComment, TooFar, TooMany, Unfinished,
 };
-use cbpf_code::Insn;
+use cbpf_code::{Insn, read_words};
 use cbpf_text::{AsmFault, AsmKind, assemble};
 use std::alloc::Global;
 use std::process::Abort;
 
-type Fields = (u16, u8, u8, u32);
-
-/// Sources with their instructions, or with their refusal and its line.
-static SOURCES: [(&[u8], Result<&[Fields], (AsmKind, u64)>); 36] = [
+/// Sources with the words of their instructions, or with their refusal and its line.
+static SOURCES: [(&[u8], Result<&[u8], (AsmKind, u64)>); 36] = [
     (
         b"ldh [12]\njne #0x806, drop\nret #-1\ndrop: ret #0\n",
-        Ok(&[
-            (40, 0, 0, 12),
-            (21, 0, 1, 2054),
-            (6, 0, 0, 4294967295),
-            (6, 0, 0, 0),
-        ]),
+        Ok(b"4,40 0 0 12,21 0 1 2054,6 0 0 4294967295,6 0 0 0"),
     ),
     (
         b"ld #5\njlt #10, lo\nret #0\nlo: ret #1\n",
-        Ok(&[(0, 0, 0, 5), (53, 0, 1, 10), (6, 0, 0, 0), (6, 0, 0, 1)]),
+        Ok(b"4,0 0 0 5,53 0 1 10,6 0 0 0,6 0 0 1"),
     ),
     (
         b"ld rand\nmod #4\nret a\n",
-        Ok(&[(32, 0, 0, 4294963256), (148, 0, 0, 4), (22, 0, 0, 0)]),
+        Ok(b"3,32 0 0 4294963256,148 0 0 4,22 0 0 0"),
     ),
     (
         b"ldb #type\nldx len\nret %a\n",
-        Ok(&[(48, 0, 0, 4294963204), (129, 0, 0, 0), (22, 0, 0, 0)]),
+        Ok(b"3,48 0 0 4294963204,129 0 0 0,22 0 0 0"),
     ),
     (
         b"/* both\n   ways */ ldx 4*([14] & 0xf)   ; header\nldh [x + 16]\n  # port\njgt %x, up, down\nup: down: ret #0b11\n",
-        Ok(&[(177, 0, 0, 14), (72, 0, 0, 16), (45, 0, 0, 0), (6, 0, 0, 3)]),
+        Ok(b"4,177 0 0 14,72 0 0 16,45 0 0 0,6 0 0 3"),
     ),
-    (b"ld [x + -1]", Ok(&[(64, 0, 0, 4294967295)])),
-    (b"ldx 0x4*([0]&017)", Ok(&[(177, 0, 0, 0)])),
-    (b"ldi 7", Ok(&[(0, 0, 0, 7)])),
+    (b"ld [x + -1]", Ok(b"1,64 0 0 4294967295")),
+    (b"ldx 0x4*([0]&017)", Ok(b"1,177 0 0 0")),
+    (b"ldi 7", Ok(b"1,0 0 0 7")),
     (
         b"jle x, l\ntax\nl: ret a",
-        Ok(&[(45, 0, 1, 0), (7, 0, 0, 0), (22, 0, 0, 0)]),
+        Ok(b"3,45 0 1 0,7 0 0 0,22 0 0 0"),
     ),
     (
         b"ret #-0\nret #-2147483648",
-        Ok(&[(6, 0, 0, 0), (6, 0, 0, 2147483648)]),
+        Ok(b"2,6 0 0 0,6 0 0 2147483648"),
     ),
     (
         b"unused: jeq #1, l, l\njmp l\nl: div #0",
-        Ok(&[(21, 1, 1, 1), (5, 0, 0, 0), (52, 0, 0, 0)]),
+        Ok(b"3,21 1 1 1,5 0 0 0,52 0 0 0"),
     ),
     (
         b"l0:\tldh [12]\nl1:\tjeq #0x800, l2, l5\nl2:\tldb [23]\nl3:\tjeq #0x1, l4, l5\nl4:\tret #0xffff\nl5:\tret #0\n",
-        Ok(&[
-            (40, 0, 0, 12),
-            (21, 0, 3, 2048),
-            (48, 0, 0, 23),
-            (21, 0, 1, 1),
-            (6, 0, 0, 65535),
-            (6, 0, 0, 0),
-        ]),
+        Ok(b"6,40 0 0 12,21 0 3 2048,48 0 0 23,21 0 1 1,6 0 0 65535,6 0 0 0"),
     ),
     (b"", Err((NoInstruction, 1))),
     (b"\n\n ; none\n", Err((NoInstruction, 1))),
@@ -94,33 +80,26 @@ static SOURCES: [(&[u8], Result<&[Fields], (AsmKind, u64)>); 36] = [
     (b"jeq #1, yes,\n no\nyes: ret #0", Err((LabelNotSet, 2))),
 ];
 
+type Fields = (u16, u8, u8, u32);
+
 fn insn_of((code, jt, jf, k): Fields) -> Insn {
     Insn { code, jt, jf, k }
-}
-
-fn is_list(list: &[Insn], wanted: &[Fields]) -> bool {
-    for (insn, fields) in list.iter().zip(wanted) {
-        if *insn != insn_of(*fields) {
-            return false;
-        }
-    }
-    list.len() == wanted.len()
 }
 
 fn is_refused(alloc: Global, source: &[u8], (kind, line): (AsmKind, u64)) -> bool {
     assemble(alloc, source).err() == Some(AsmFault::At(kind, line))
 }
 
-fn is_assembled_to(alloc: Global, source: &[u8], wanted: &[Fields]) -> bool {
-    match assemble(alloc, source) {
-        Ok(list) => is_list(&list, wanted),
-        Err(_) => false,
+fn is_assembled_to(alloc: Global, source: &[u8], words: &[u8]) -> bool {
+    match (assemble(alloc, source), read_words(alloc, words)) {
+        (Ok(list), Ok(wanted)) => list.as_slice() == wanted.as_slice(),
+        _ => false,
     }
 }
 
-fn is_answered(alloc: Global, source: &[u8], wanted: &Result<&[Fields], (AsmKind, u64)>) -> bool {
+fn is_answered(alloc: Global, source: &[u8], wanted: &Result<&[u8], (AsmKind, u64)>) -> bool {
     match wanted {
-        Ok(fields) => is_assembled_to(alloc, source, fields),
+        Ok(words) => is_assembled_to(alloc, source, words),
         Err(at) => is_refused(alloc, source, *at),
     }
 }
