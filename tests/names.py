@@ -15,9 +15,9 @@ crates/*/must-fail/README.md. Each is read outside its blocks of code, and names
   an edit          in the first column of a table of must-fail/README.md: its file is there, and each of its `old:` texts
                    stands once where it says. Each edit has one row, whose function and clause are there, and whose
                    goals have no answer below proofs/, unless it is named as `the answer of` one
-  a definition     of a file specs/: it is reached from the clauses of public functions, traits and models, or its item of
-                   docs/DEFINITIONS.md says that only private functions cite it, or docs/ARCHITECTURE.md has its file in
-                   the column `only for the crate`; and something cites it
+  a definition     of a file specs/: it is reached from the clauses of public functions, traits and models, or its item
+                   of docs/DEFINITIONS.md says that only private functions cite it, or docs/ARCHITECTURE.md has its file
+                   in the column `only for the crate`; and something cites it
   a call           in a block ```calls of docs/ARCHITECTURE.md: the function stands in the line's file
 A line of tests/shown.txt is a sentence and, each after ` | `, what shows it, with texts between backquotes:
   test C::M::F     the function F has #[test] in the module M of the crate C; a text stands in the file of M, of a

@@ -3,9 +3,10 @@
 
 usage: verdicts.py PROGRAM
 
-Each line of tests/verdicts.txt has, before a |, the packets of examples/mixed.pcap that a program passes, by tcpdump, or
-how it is refused; and then the program in the form of `tcpdump -ddd`, with commas for newlines, of one of 79 expressions,
-with tcpdump's optimizer or without. The whole output is compared. The last line is `N programs, M failed`.
+Each line of tests/verdicts.txt has, before a |, the packets of examples/mixed.pcap that a program passes, by tcpdump,
+or how it is refused; and then the program in the form of `tcpdump -ddd`, with commas for newlines, of one of 79
+expressions, with tcpdump's optimizer or without. The whole output is compared. The last line is
+`N programs, M failed`.
 """
 
 import subprocess
