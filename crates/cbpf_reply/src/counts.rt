@@ -38,7 +38,7 @@ pub fn write_place<W: Write>(w: &mut W, place: Place) -> Result<(), WriteFault>
 /// # Errors
 ///
 /// The writer failed, or took nothing of a text that isn't empty: a beginning of the line was written.
-pub fn write_at<W: Write>(w: &mut W, place: Place) -> Result<(), WriteFault>
+pub fn write_went_to<W: Write>(w: &mut W, place: Place) -> Result<(), WriteFault>
     ensures { Wrote (W.contents w.old) (W.contents w.new) result (spec.at_text place) }
 {
     write_place_after(w, b"at ", place)

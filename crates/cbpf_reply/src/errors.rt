@@ -189,7 +189,7 @@ pub fn write_capture_fault<W: Write>(w: &mut W, fault: CaptureFault) -> Result<(
 ///
 /// The writer failed, or took nothing of a text that isn't empty: a beginning of the line was written.
 #[tactic(auto, unfolding(crate::specs::Errors::fault_text))]
-pub fn write_fault<W: Write>(w: &mut W, fault: SessionFault) -> Result<(), WriteFault>
+pub fn write_session_fault<W: Write>(w: &mut W, fault: SessionFault) -> Result<(), WriteFault>
     ensures { Wrote (W.contents w.old) (W.contents w.new) result (spec.fault_text fault) }
 {
     match fault {

@@ -22,11 +22,11 @@ mod values;
 
 pub use breakpoints::{When, write_breakpoint, write_list_end, write_list_head, write_listed};
 pub use c_dump::write_c_dump;
-pub use counts::{write_at, write_finished, write_limit, write_place};
+pub use counts::{write_finished, write_limit, write_place, write_went_to};
 pub use dump::write_stop;
 pub use errors::{
-    write_absent, write_capture_fault, write_check_fault, write_fault, write_no_program,
-    write_out_of_memory, write_unknown_command, write_unreadable, write_word_fault,
+    write_absent, write_capture_fault, write_check_fault, write_no_program, write_out_of_memory,
+    write_session_fault, write_unknown_command, write_unreadable, write_word_fault,
     write_wrong_arguments,
 };
 pub use law::place_order;

@@ -1,7 +1,9 @@
 //! Texts with counts and places, for numbers of each length.
 
 use cbpf_code::WriteFault;
-use cbpf_reply::{Counts, Place, write_at, write_finished, write_limit, write_place, write_total};
+use cbpf_reply::{
+    Counts, Place, write_finished, write_limit, write_place, write_total, write_went_to,
+};
 use std::alloc::Global;
 use std::process::Abort;
 
@@ -61,7 +63,7 @@ fn assert_places(rt: &impl Abort, alloc: Global, packet: u64, step: u32) {
         "{packet} {step}"
     );
     let mut text = Vec::new(alloc);
-    let wrote = write_at(&mut text, place);
+    let wrote = write_went_to(&mut text, place);
     let wanted = format!(in alloc; "at {packet} {step}\n").expect(rt, "memory");
     assert!(rt;
         is_written(&text, wrote, wanted.as_str()),

@@ -1,7 +1,7 @@
 -- Words that are no name, and arguments that are known texts.
 use Rattle.std.proofs.Common.{◌≡◌, ℕ, List, [], ◌∷◌, length, Option, Some, None, Err, true, false, Bool, ap, refl}
 use Rattle.std.proofs.Common.{sym, subst, arith}
-use Rattle.std.specs.Prelude.{bytes_eq, nat_lt}
+use Rattle.std.specs.Prelude.{bytes_eq, codes, nat_lt}
 use Rattle.std.specs.List.{list_all}
 use Rattle.std.specs.Str.{IsUtf8, is_utf8, IsAscii}
 use Rattle.std.proofs.lemmas.Bool.{and_parts}
@@ -10,8 +10,8 @@ use Rattle.std.proofs.lemmas.Slice.Eq.{bytes_eq-Decides, text_from_reads, HasByt
 use Rattle.std.proofs.lemmas.Str.{is_utf8-from_IsUtf8, IsUtf8-from_is_utf8, IsUtf8-from_ascii}
 use Rattle.std.proofs.lemmas.Str.Ascii.{IsAscii-nil, IsAscii-cons}
 use Rattle.cbpf_tool.specs.Words.{words, after_words, trimmed}
-use Rattle.cbpf_tool.specs.Commands.{Reading, readings, reading_in, by_reading}
-use Rattle.cbpf_tool.specs.Commands.{name_in, load_capture, load_by}
+use Rattle.cbpf_tool.specs.Commands.{Reading, readings, reading_in, by_name, name_in, load_by}
+use Rattle.cbpf_tool.specs.declared.command.Command.TheVariants.{LoadCapture}
 use Rattle.cbpf_tool.specs.declared.command.CommandFault.TheVariants.{UnknownCommand}
 
 differs : (w p : List ℕ) (t : Bool) → bytes_eq w p ≡ t → (w ≡ p → ⊥) → bytes_eq w p ≡ false
@@ -27,20 +27,23 @@ ascii (b ∷ s) e =
     let both : (nat_lt b 128 ≡ true) × (is_ascii s ≡ true) = and_parts _ _ e in
     IsAscii-cons b s (grind (arith, nat_tests)) (ascii s both.1)
 
+no-name : (w p : List ℕ) → (IsUtf8 w → ⊥) → is_ascii p ≡ true → bytes_eq w p ≡ false
+no-name w p n h = differs w p (bytes_eq w p) refl (λ e. n (subst IsUtf8 (sym e) (IsUtf8-from_ascii p (ascii p h))))
+
 none-named : (rows : List (List ℕ × Reading)) (w : List ℕ) → (IsUtf8 w → ⊥)
     → list_all (λ row. is_ascii row.0) rows ≡ true → reading_in rows w ≡ None
 none-named [] w n h = refl
 none-named (row ∷ rows) w n h =
     let both : (is_ascii row.0 ≡ true) × (list_all (λ row. is_ascii row.0) rows ≡ true) = and_parts _ _ h in
-    let other : w ≡ row.0 → ⊥ = λ e. n (subst IsUtf8 (sym e) (IsUtf8-from_ascii row.0 (ascii row.0 both.0))) in
-    rw (differs w row.0 (bytes_eq w row.0) refl other) (none-named rows w n both.1)
+    rw (no-name w row.0 n both.0) (none-named rows w n both.1)
 
--- the names of the table are UTF-8, so other bytes are none of them
+-- the names of the commands are UTF-8, so other bytes are none of them
 pub unknown : (w : List ℕ) (ws : List (List ℕ)) (text : List ℕ) → (IsUtf8 w → ⊥)
-    → Err UnknownCommand ≡ by_reading (reading_in readings w) ws text
-unknown w ws text n = sym (ap (λ (r : Option Reading). by_reading r ws text) (none-named readings w n refl))
+    → Err UnknownCommand ≡ by_name w ws text
+unknown w ws text n =
+    rw (no-name w (codes "load") n refl, no-name w (codes "quit") n refl, none-named readings w n refl) refl
 
-pub name-good : (s : List ℕ) → (length s ≡ 0 → ⊥) → IsUtf8 s → name_in s ≡ Some (load_capture s)
+pub name-good : (s : List ℕ) → (length s ≡ 0 → ⊥) → IsUtf8 s → name_in s ≡ Some (LoadCapture s)
 name-good [] n h = absurd (n refl)
 name-good (b ∷ bs) n h = rw (is_utf8-from_IsUtf8 (b ∷ bs) h) refl
 

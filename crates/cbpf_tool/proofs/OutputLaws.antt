@@ -6,11 +6,10 @@ use Rattle.cbpf_code.proofs.WordAnswerLemmas.{spells-once, spells-not_refused, r
 use Rattle.cbpf_code.proofs.FirstFaultLemmas.{first_fault-unique}
 use Rattle.cbpf_code.proofs.AnswerLaws.{each_text_is_read, each_list_is_checked}
 use Rattle.cbpf_code.specs.declared.insn.Insn.{Insn}
-use Rattle.cbpf_tool.specs.Commands.{Spelled, load_words, load_capture, run, disassemble, dump, breakpoint}
-use Rattle.cbpf_tool.specs.Commands.{breakpoint_when_a, breakpoint_when_x, breakpoints, reset_breakpoints, delete}
-use Rattle.cbpf_tool.specs.Commands.{step, select, mark, resume, stops, value, quit, command_of}
+use Rattle.cbpf_tool.specs.Commands.{command_of}
+use Rattle.cbpf_tool.specs.declared.command.Command.{Command}
+use Rattle.cbpf_tool.specs.declared.command.Command.TheVariants.{LoadWords, LoadCapture, Session, Quit}
 use Rattle.cbpf_tool.specs.declared.command.CommandFault.{CommandFault}
-use Rattle.cbpf_tool.specs.declared.command.CommandFault.TheVariants.{UnknownCommand, WrongArguments}
 use Rattle.cbpf_dbg.specs.View.{View}
 use Rattle.pcap_classic.specs.Savefile.{Savefile, IsSavefile, IsRefusal}
 use Rattle.pcap_classic.specs.declared.fault.CaptureFault.{CaptureFault}
@@ -19,12 +18,12 @@ use Rattle.pcap_classic.proofs.SavefileLemmas as captures
 use Rattle.cbpf_tool.specs.FileMap.{FileMap}
 use Rattle.cbpf_tool.specs.Output.{at_end, at_quit, at_line}
 use Rattle.cbpf_tool.specs.Replies.{Writes, LoadsWords, unreadable, unsound, accepted, ReadsCapture, no_capture}
-use Rattle.cbpf_tool.specs.Replies.{a_capture, LoadsCapture, KeepsCount, CommandReplies, LineReplies}
+use Rattle.cbpf_tool.specs.Replies.{a_capture, LoadsCapture, OwnReply, own, unheld, unread}
 use Rattle.cbpf_reply.specs.Errors.{memory_text, device_text, word_fault_text, check_fault_text, capture_fault_text}
 use Rattle.cbpf_reply.specs.Errors.{absent_text}
 use Rattle.cbpf_reply.specs.Loads.{program_text, capture_text}
 use Rattle.cbpf_dbg.specs.Commands.{with_program_loaded, with_capture_loaded}
-use Rattle.cbpf_tool.specs.Laws.{OwnReply, OwnLineReply, OwnOutput, own_end, own_quit, own_line, Stands, OneOutput}
+use Rattle.cbpf_tool.specs.Laws.{OwnOutput, own_end, own_quit, own_line, Stands, OneOutput}
 use Rattle.cbpf_tool.specs.Laws.{NoOther, HasOutput, OwnIsOutput}
 
 -- two replies with the text that each has
@@ -83,38 +82,19 @@ capture-once : (m n n' : View) (bytes : Option (List ℕ)) (t t' : List ℕ) →
 capture-once m n n' None t t' a b = writes-once _ t t' n n' a b
 capture-once m n n' (Some bytes) t t' a b = reads-once m n n' bytes t t' a b
 
-own-once : (files : FileMap) (m n n' : View) (c : Spelled) (t t' : List ℕ) → OwnReply files m n c t
-    → OwnReply files m n' c t' → Same n n' t t'
-own-once files m n n' (load_words text) t t' a b = words-once m n n' text t t' a b
-own-once files m n n' (load_capture name) t t' a b = capture-once m n n' (map.get files name) t t' a b
-own-once files m n n' (breakpoint k) t t' a b = writes-once _ t t' n n' a b
-own-once files m n n' (breakpoint_when_a k v) t t' a b = writes-once _ t t' n n' a b
-own-once files m n n' (breakpoint_when_x k v) t t' a b = writes-once _ t t' n n' a b
-own-once files m n n' (run limit) t t' a b = writes-once _ t t' n n' a b
-own-once files m n n' disassemble t t' a b = writes-once _ t t' n n' a b
-own-once files m n n' dump t t' a b = writes-once _ t t' n n' a b
-own-once files m n n' breakpoints t t' a b = writes-once _ t t' n n' a b
-own-once files m n n' reset_breakpoints t t' a b = writes-once _ t t' n n' a b
-own-once files m n n' (delete k) t t' a b = writes-once _ t t' n n' a b
-own-once files m n n' (step k) t t' a b = writes-once _ t t' n n' a b
-own-once files m n n' (select k) t t' a b = writes-once _ t t' n n' a b
-own-once files m n n' mark t t' a b = writes-once _ t t' n n' a b
-own-once files m n n' (resume p s) t t' a b = writes-once _ t t' n n' a b
-own-once files m n n' stops t t' a b = writes-once _ t t' n n' a b
-own-once files m n n' (value e k) t t' a b = writes-once _ t t' n n' a b
-own-once files m n n' quit t t' a b = absurd a
-
-line-once : (files : FileMap) (m n n' : View) (spelled : Result (Option Spelled) CommandFault) (t t' : List ℕ)
-    → OwnLineReply files m n spelled t → OwnLineReply files m n' spelled t' → Same n n' t t'
-line-once files m n n' (Ok None) t t' a b = writes-once _ t t' n n' a b
-line-once files m n n' (Ok (Some c)) t t' a b = own-once files m n n' c t t' a b
-line-once files m n n' (Err UnknownCommand) t t' a b = writes-once _ t t' n n' a b
-line-once files m n n' (Err WrongArguments) t t' a b = writes-once _ t t' n n' a b
+own-once : (files : FileMap) (m n n' : View) (said : Result (Option Command) CommandFault) (t t' : List ℕ)
+    → OwnReply files m n said (λ s. s ≡ t) → OwnReply files m n' said (λ s. s ≡ t') → Same n n' t t'
+own-once files m n n' (Ok (Some (LoadWords text))) t t' a b = words-once m n n' text t t' a b
+own-once files m n n' (Ok (Some (LoadCapture name))) t t' a b = capture-once m n n' (map.get files name) t t' a b
+own-once files m n n' (Ok (Some (Session c))) t t' a b = writes-once _ t t' n n' a b
+own-once files m n n' (Ok (Some Quit)) t t' a b = absurd a
+own-once files m n n' (Ok None) t t' a b = writes-once _ t t' n n' a b
+own-once files m n n' (Err e) t t' a b = writes-once _ t t' n n' a b
 
 -- `quit` has no reply
-quit-none : (files : FileMap) (m n : View) (spelled : Result (Option Spelled) CommandFault) (t : List ℕ)
-    → spelled ≡ Ok (Some quit) → OwnLineReply files m n spelled t → ⊥
-quit-none files m n spelled t e h = subst (λ s. OwnLineReply files m n s t) e h
+quit-none : (files : FileMap) (m n : View) (said : Result (Option Command) CommandFault) (t : List ℕ)
+    → said ≡ Ok (Some Quit) → OwnReply files m n said (λ s. s ≡ t) → ⊥
+quit-none files m n said t e h = subst (λ x. OwnReply files m n x (λ s. s ≡ t)) e h
 
 pub one_output : OneOutput
 one_output files m [] t u own_end own_end = refl
@@ -125,7 +105,7 @@ one_output files m (l ∷ ls) t u (own_line {n = n} _ text r o) (own_quit _ _ q)
     absurd (quit-none files m n (command_of l) text q r)
 one_output files m (l ∷ ls) t u (own_line {n = n} {rest = rest} _ text r o)
     (own_line {n = n'} {rest = rest'} _ text' r' o') =
-    let same = line-once files m n n' (command_of l) text text' r r' in
+    let same = own-once files m n n' (command_of l) text text' r r' in
     let tail : rest' ≡ rest =
     one_output files n ls rest rest' o (subst (λ v. OwnOutput files v ls rest') same.0 o') in
     ap (λ (x : List ℕ). x ++ rest') same.1 ∙ ap (λ (x : List ℕ). text ++ x) tail
@@ -175,96 +155,36 @@ some-capture : (m : View) (bytes : Option (List ℕ)) → SomeReply (λ n t. Loa
 some-capture m None = some-writes (absent_text, m)
 some-capture m (Some bytes) = some-reads m bytes
 
-own-some : (files : FileMap) (m : View) (c : Spelled) → (c ≡ quit) ⊎ SomeReply (λ n t. OwnReply files m n c t)
-own-some files m (load_words text) = inr (some-words m text)
-own-some files m (load_capture name) = inr (some-capture m (map.get files name))
-own-some files m quit = inl refl
-own-some files m _ = inr (some-writes _)
-
-line-some : (files : FileMap) (m : View) (spelled : Result (Option Spelled) CommandFault)
-    → (spelled ≡ Ok (Some quit)) ⊎ SomeReply (λ n t. OwnLineReply files m n spelled t)
-line-some files m (Ok (Some c)) = elim (own-some files m c) [
-  | inl e ↦ inl (ap (λ (x : Spelled). Ok (Some x)) e)
-  | inr reply ↦ inr reply
-]
-line-some files m (Ok None) = inr (some-writes _)
-line-some files m (Err UnknownCommand) = inr (some-writes _)
-line-some files m (Err WrongArguments) = inr (some-writes _)
+own-some : (files : FileMap) (m : View) (said : Result (Option Command) CommandFault)
+    → (said ≡ Ok (Some Quit)) ⊎ SomeReply (λ n t. OwnReply files m n said (λ s. s ≡ t))
+own-some files m (Ok (Some (LoadWords text))) = inr (some-words m text)
+own-some files m (Ok (Some (LoadCapture name))) = inr (some-capture m (map.get files name))
+own-some files m (Ok (Some (Session c))) = inr (some-writes _)
+own-some files m (Ok (Some Quit)) = inl refl
+own-some files m (Ok None) = inr (some-writes _)
+own-some files m (Err e) = inr (some-writes _)
 
 pub has_output : HasOutput
 has_output files m [] = ([], own_end)
 has_output files m (l ∷ ls) =
-    elim (line-some files m (command_of l)) [
+    elim (own-some files m (command_of l)) [
       | inl is_quit ↦ ([], own_quit l ls is_quit)
       | inr reply ↦
           let rest = has_output files reply.0 ls in
           (reply.1 ++ rest.0, own_line l reply.1 reply.2 rest.1)
     ]
 
-command-of_own : (files : FileMap) (m n : View) (f : ℕ) (c : Spelled) (t : List ℕ) → OwnReply files m n c t
-    → CommandReplies files m n f f c (λ s. s ≡ t)
-command-of_own files m n f (load_words text) t h = inl h
-command-of_own files m n f (load_capture name) t h = inl (refl, h)
-command-of_own files m n f (breakpoint k) t h = inl h
-command-of_own files m n f (breakpoint_when_a k v) t h = inl h
-command-of_own files m n f (breakpoint_when_x k v) t h = inl h
-command-of_own files m n f _ t h = h
-
-line-of_own : (files : FileMap) (m n : View) (f : ℕ) (spelled : Result (Option Spelled) CommandFault) (t : List ℕ)
-    → OwnLineReply files m n spelled t → LineReplies files m n f f spelled (λ s. s ≡ t)
-line-of_own files m n f (Ok None) t h = h
-line-of_own files m n f (Ok (Some c)) t h = command-of_own files m n f c t h
-line-of_own files m n f (Err UnknownCommand) t h = h
-line-of_own files m n f (Err WrongArguments) t h = h
-
-count-kept : (spelled : Result (Option Spelled) CommandFault) (f : ℕ) → KeepsCount spelled f f
-count-kept (Ok (Some (load_capture name))) f = omega arith
-count-kept _ f = refl
-
 pub own_is_output : OwnIsOutput
 own_is_output files m f ls t own_end = at_end
 own_is_output files m f ls t (own_quit l more q) = at_quit l more q
 own_is_output files m f ls t (own_line {n = n} {rest = rest} {ls = more} l text r o) =
-    at_line l text (line-of_own files m n f (command_of l) text r) (count-kept (command_of l) f)
-    (own_is_output files n f more rest o)
+    at_line l text (own refl r) (own_is_output files n f more rest o)
 
 -- ---- an output in which neither of the two other replies stands
 
-own-or : (files : FileMap) (m n : View) (f g : ℕ) (c : Spelled) (t : List ℕ)
-    → CommandReplies files m n f g c (λ s. s ≡ t) → OwnReply files m n c t ⊎ ((memory_text ≡ t) ⊎ (device_text ≡ t))
+written : (reply t : List ℕ) (m n : View) → Writes (reply, m) n (λ s. s ≡ t) → reply ≡ t
 unfolding Writes
-own-or files m n f g (load_words text) t (inl h) = inl h
-own-or files m n f g (load_words text) t (inr h) = inr (inl h.1)
-own-or files m n f g (load_capture name) t (inl h) = inl h.1
-own-or files m n f g (load_capture name) t (inr (inl h)) = inr (inl h.1.1)
-own-or files m n f g (load_capture name) t (inr (inr h)) = inr (inr h.1.1)
-own-or files m n f g (breakpoint k) t (inl h) = inl h
-own-or files m n f g (breakpoint k) t (inr h) = inr (inl h.1.1)
-own-or files m n f g (breakpoint_when_a k v) t (inl h) = inl h
-own-or files m n f g (breakpoint_when_a k v) t (inr h) = inr (inl h.1.1)
-own-or files m n f g (breakpoint_when_x k v) t (inl h) = inl h
-own-or files m n f g (breakpoint_when_x k v) t (inr h) = inr (inl h.1.1)
-own-or files m n f g (run limit) t h = inl h
-own-or files m n f g disassemble t h = inl h
-own-or files m n f g dump t h = inl h
-own-or files m n f g breakpoints t h = inl h
-own-or files m n f g reset_breakpoints t h = inl h
-own-or files m n f g (delete k) t h = inl h
-own-or files m n f g (step k) t h = inl h
-own-or files m n f g (select k) t h = inl h
-own-or files m n f g mark t h = inl h
-own-or files m n f g (resume p s) t h = inl h
-own-or files m n f g stops t h = inl h
-own-or files m n f g (value e k) t h = inl h
-own-or files m n f g quit t h = absurd h
-
-line-or : (files : FileMap) (m n : View) (f g : ℕ) (spelled : Result (Option Spelled) CommandFault) (t : List ℕ)
-    → LineReplies files m n f g spelled (λ s. s ≡ t)
-    → OwnLineReply files m n spelled t ⊎ ((memory_text ≡ t) ⊎ (device_text ≡ t))
-line-or files m n f g (Ok None) t h = inl h
-line-or files m n f g (Ok (Some c)) t h = own-or files m n f g c t h
-line-or files m n f g (Err UnknownCommand) t h = inl h
-line-or files m n f g (Err WrongArguments) t h = inl h
+written reply t m n h = h.1
 
 first-stands : (reply t rest : List ℕ) → reply ≡ t → Stands reply (t ++ rest)
 first-stands reply t rest e = ([], rest, ap (λ (x : List ℕ). x ++ rest) (sym e))
@@ -276,12 +196,10 @@ later-stands reply t rest h =
 pub no_other : NoOther
 no_other files m f g ls t at_end memory device = own_end
 no_other files m f g ls t (at_quit l more q) memory device = own_quit l more q
-no_other files m f g ls t (at_line {n = n} {g = mid} {rest = rest} {ls = more} l text r le o) memory device =
-    elim (line-or files m n f mid (command_of l) text r) [
-      | inl own ↦ own_line l text own (no_other files n mid g more rest o
-          (λ h. memory (later-stands memory_text text rest h)) (λ h. device (later-stands device_text text rest h)))
-      | inr other ↦ elim other [
-        | inl e ↦ absurd (memory (first-stands memory_text text rest e))
-        | inr e ↦ absurd (device (first-stands device_text text rest e))
-      ]
-    ]
+no_other files m f g ls t (at_line {n = n} {g = mid} {rest = rest} {ls = more} l text (own k r) o) memory device =
+    own_line l text r (no_other files n mid g more rest o
+    (λ h. memory (later-stands memory_text text rest h)) (λ h. device (later-stands device_text text rest h)))
+no_other files m f g ls t (at_line {n = n} {rest = rest} l text (unheld k u w) o) memory device =
+    absurd (memory (first-stands memory_text text rest (written memory_text text m n w)))
+no_other files m f g ls t (at_line {n = n} {rest = rest} l text (unread k u w) o) memory device =
+    absurd (device (first-stands device_text text rest (written device_text text m n w)))

@@ -1,5 +1,5 @@
 -- Lines of a script, and the output of those that were run.
-use Rattle.std.proofs.Common.{◌≡◌, ℕ, le_refl, le_trans, true, false, cond, eqb, ◌||◌, List, [], ◌∷◌, ◌++◌}
+use Rattle.std.proofs.Common.{◌≡◌, ℕ, true, false, cond, eqb, ◌||◌, List, [], ◌∷◌, ◌++◌}
 use Rattle.std.proofs.Common.{length, take_all, Option, Some, None, Result, Ok, Err, IsTrue, ◌⊎◌, inl, inr, refl, sym}
 use Rattle.std.proofs.Common.{◌∙◌, ap, subst, append_assoc, append-nil, arith}
 use Rattle.std.specs.Prelude.{IfErr, MatchResult}
@@ -7,14 +7,16 @@ use Rattle.std.specs.Io.KnownBytes.{Keeps}
 use Rattle.cbpf_code.specs.Writing.{Appended, AppendedPart}
 use Rattle.cbpf_code.specs.declared.writing.WriteFault.{WriteFault}
 use Rattle.cbpf_code.proofs.WrittenLemmas.{appended-nil, appended-then, appended-kept, part-then, part-take}
-use Rattle.cbpf_tool.specs.Commands.{Spelled, quit, command_of}
+use Rattle.cbpf_tool.specs.Commands.{command_of}
+use Rattle.cbpf_tool.specs.declared.command.Command.{Command}
+use Rattle.cbpf_tool.specs.declared.command.Command.TheVariants as command
 use Rattle.cbpf_tool.specs.declared.command.CommandFault.{CommandFault}
 use Rattle.cbpf_tool.specs.FileMap.{FileMap, Source}
 use Rattle.cbpf_code.specs.Text.{put_front}
 use Rattle.cbpf_tool.specs.Lines.{lines, whole_lines, has_newline}
 use Rattle.cbpf_dbg.specs.View.{View, empty_view}
 use Rattle.cbpf_tool.specs.Reading.{unread, Took, TakesLine}
-use Rattle.cbpf_tool.specs.Replies.{LineReplies, KeepsCount}
+use Rattle.cbpf_tool.specs.Replies.{LineReplies}
 use Rattle.cbpf_tool.specs.Output.{Output, at_end, at_quit, at_line, HasQuit}
 use Rattle.cbpf_tool.specs.Progress.{LineRan, unlines, EachPlain, LinesRan, still, onward, Progress}
 use Rattle.cbpf_tool.specs.Debugged.{IsOutput, Faulted, Finished}
@@ -22,7 +24,7 @@ use Rattle.cbpf_tool.specs.declared.fault.ToolFault.{ToolFault}
 use Rattle.cbpf_tool.specs.declared.fault.ToolFault.TheVariants.{Source as RefusedSource, Read, Write, Memory}
 use Rattle.cbpf_tool.specs.declared.debugger.AfterLine.{AfterLine}
 use Rattle.cbpf_tool.specs.declared.debugger.AfterLine.TheVariants.{NextLine, Quit}
-use Rattle.cbpf_tool.proofs.ReplyText.{reply-named}
+use Rattle.cbpf_tool.proofs.ReplyText.{reply-named, quit-silent}
 
 lines-plain : (l bs : List ℕ) → has_newline l ≡ false → lines (l ++ 10 ∷ bs) ≡ l ∷ lines bs
 lines-plain [] bs h = refl
@@ -93,12 +95,12 @@ lines-some (b ∷ bs) n = elim (eqb b 10)
 
 -- ---- lines that were run
 
-quit-in : (ls : List (List ℕ)) (l : List ℕ) (more : List (List ℕ)) → command_of l ≡ Ok (Some quit)
+quit-in : (ls : List (List ℕ)) (l : List ℕ) (more : List (List ℕ)) → command_of l ≡ Ok (Some command.Quit)
     → HasQuit (ls ++ l ∷ more)
 quit-in [] l more e = inl e
 quit-in (x ∷ xs) l more e = inr (quit-in xs l more e)
 
-quit-last : (ls : List (List ℕ)) (l : List ℕ) → HasQuit (ls ++ l ∷ []) → HasQuit ls ⊎ (command_of l ≡ Ok (Some quit))
+quit-last : (ls : List (List ℕ)) (l : List ℕ) → HasQuit (ls ++ l ∷ []) → HasQuit ls ⊎ (command_of l ≡ Ok (Some command.Quit))
 quit-last [] l (inl h) = inr h
 quit-last [] l (inr h) = absurd h
 quit-last (x ∷ xs) l (inl h) = inl (inl h)
@@ -107,9 +109,9 @@ quit-last (x ∷ xs) l (inr h) = elim (quit-last xs l h) [ inl k ↦ inl (inr k)
 ran-no-quit : (files : FileMap) (f g : ℕ) (m n : View) (ls : List (List ℕ)) (t : List ℕ) → LinesRan files m f ls t n g
     → HasQuit ls → ⊥
 ran-no-quit files f g m n ls t still h = h
-ran-no-quit files f g m n ls t (onward {n = k} {g = g'} {ls = ls'} {t = t'} l v r a le) h = elim (quit-last ls' l h) [
+ran-no-quit files f g m n ls t (onward {n = k} {g = g'} {ls = ls'} {t = t'} l v r a) h = elim (quit-last ls' l h) [
   | inl q ↦ ran-no-quit files f g' m k ls' t' r q
-  | inr e ↦ subst (λ spelled. LineReplies files k n g' g spelled (λ s. s ≡ v)) e a
+  | inr e ↦ quit-silent files k n g' g _ (subst (λ said. LineReplies files k n g' g said (λ s. s ≡ v)) e a)
 ]
 
 -- what runs on after some lines
@@ -117,9 +119,9 @@ ran-output : (files : FileMap) (f g h : ℕ) (m n : View) (ls : List (List ℕ))
     → LinesRan files m f ls t n g → (rest : List (List ℕ)) (u : List ℕ) → Output files n g rest u h
     → Output files m f (ls ++ rest) (t ++ u) h
 ran-output files f g h m n ls t still rest u o = o
-ran-output files f g h m n ls t (onward {n = k} {g = g'} {ls = ls'} {t = t'} l v r a le) rest u o =
+ran-output files f g h m n ls t (onward {n = k} {g = g'} {ls = ls'} {t = t'} l v r a) rest u o =
     rw (append_assoc ls' (l ∷ []) rest, append_assoc t' v u)
-    (ran-output files f g' h m k ls' t' r (l ∷ rest) (v ++ u) (at_line l v a le o))
+    (ran-output files f g' h m k ls' t' r (l ∷ rest) (v ++ u) (at_line l v a o))
 
 pub part-whole : (u v : Option (List ℕ)) (text : List ℕ) → Appended u v text → AppendedPart u v text
 part-whole u v text h = part-take u v (length text) text (rw (take_all (length text) text (omega arith)) h)
@@ -208,10 +210,10 @@ module _ {script pending : List ℕ} {left old new : Option (List ℕ)} {m : Vie
     still_known : IsTrue g.is_known
     still_known = rw p.kept.is_known is_known
 
-    same_files : (spelled : Result (Option Spelled) CommandFault) (W : List ℕ → Type 0)
-        → LineReplies g.files m n g.failures g'.failures spelled W
-        → LineReplies f.files m n g.failures g'.failures spelled W
-    same_files spelled W h = subst (λ fs. LineReplies fs m n g.failures g'.failures spelled W) p.kept.files h
+    same_files : (said : Result (Option Command) CommandFault) (W : List ℕ → Type 0)
+        → LineReplies g.files m n g.failures g'.failures said W
+        → LineReplies f.files m n g.failures g'.failures said W
+    same_files said W h = subst (λ fs. LineReplies fs m n g.failures g'.failures said W) p.kept.files h
 
     pub quit-done : (left' : Option (List ℕ)) → LineRan g g' m n (command_of line) new' new'' (Ok Quit)
         → Finished script left' old new'' f g'
@@ -229,11 +231,11 @@ module _ {script pending : List ℕ} {left old new : Option (List ℕ)} {m : Vie
         )
 
     one_line : (u : List ℕ) → LineReplies g.files m n g.failures g'.failures (command_of line) (λ s. s ≡ u)
-        → KeepsCount (command_of line) g.failures g'.failures → IsOutput f g' (p.done ++ (line ∷ [])) (p.text ++ u)
-    one_line u r le =
+        → IsOutput f g' (p.done ++ (line ∷ [])) (p.text ++ u)
+    one_line u r =
         let o : Output f.files empty_view f.failures (p.done ++ (line ∷ [])) (p.text ++ (u ++ [])) g'.failures =
         ran-output f.files f.failures g.failures g'.failures empty_view m p.done p.text p.ran (line ∷ []) (u ++ [])
-        (at_line line u (same_files (command_of line) (λ s. s ≡ u) r) le at_end) in
+        (at_line line u (same_files (command_of line) (λ s. s ≡ u) r) at_end) in
         subst (λ t. IsOutput f g' (p.done ++ (line ∷ [])) (p.text ++ t)) (append-nil u) o
 
     pub write-faulted : (left' : Option (List ℕ)) (e : WriteFault)
@@ -245,7 +247,7 @@ module _ {script pending : List ℕ} {left old new : Option (List ℕ)} {m : Vie
           more,
           p.text ++ r.0,
           here ∙ sym (append_assoc p.done (line ∷ []) more),
-          one_line r.0 r.1 c.0.1,
+          one_line r.0 r.1,
           part-then old new' new'' p.text r.0 wrote r.2,
         )
 
@@ -258,7 +260,7 @@ module _ {script pending : List ℕ} {left old new : Option (List ℕ)} {m : Vie
         let all : p.done ++ (line ∷ []) ≡ lines script =
         sym (here ∙ ap (λ (ls : List (List ℕ)). p.done ++ (line ∷ ls)) e) in (
           p.text ++ r.0,
-          subst (λ ls. IsOutput f g' ls (p.text ++ r.0)) all (one_line r.0 r.1 c.0.1),
+          subst (λ ls. IsOutput f g' ls (p.text ++ r.0)) all (one_line r.0 r.1),
           inr z,
           appended-then old new' new'' p.text r.0 wrote r.2,
         )
@@ -285,11 +287,10 @@ module _ {script pending : List ℕ} {left old new : Option (List ℕ)} {m : Vie
           plain = plain-push p.done line p.plain plain;
           known = t.known;
           kept = record {
-            files = c.0.0.files ∙ p.kept.files;
-            is_known = c.0.0.is_known ∙ p.kept.is_known;
-            rises = le_trans p.kept.rises c.0.0.rises;
+            files = c.0.files ∙ p.kept.files;
+            is_known = c.0.is_known ∙ p.kept.is_known;
           };
-          ran = onward line r.0 p.ran (same_files (command_of line) (λ s. s ≡ r.0) r.1) c.0.1;
+          ran = onward line r.0 p.ran (same_files (command_of line) (λ s. s ≡ r.0) r.1);
           wrote = appended-then old new' new'' p.text r.0 wrote r.2;
         }
 
@@ -303,7 +304,7 @@ progress-start script pending left old f n e = record {
   split = refl;
   plain = tt;
   known = rw (n, e) refl;
-  kept = record { files = refl; is_known = refl; rises = le_refl f.failures };
+  kept = record { files = refl; is_known = refl };
   ran = still;
   wrote = appended-nil old;
 }

@@ -12,8 +12,12 @@ use Rattle.cbpf_reply.specs.declared.breakpoints.When.{When}
 use Rattle.cbpf_reply.specs.declared.reply.SessionFault.{SessionFault}
 use Rattle.cbpf_reply.specs.declared.reply.SessionFault.TheVariants.{Memory, NoInstruction}
 use Rattle.cbpf_reply.specs.Errors.{fault_text, memory_text}
-use Rattle.cbpf_tool.specs.Replies.{Writes, Sets}
-use Rattle.cbpf_tool.specs.SessionReplies.{reply_and_view, reply_text, IsInstruction}
+use Rattle.cbpf_tool.specs.Progress.{Answered}
+use Rattle.cbpf_tool.specs.Replies.{Writes, Replies, own, unheld}
+use Rattle.cbpf_tool.specs.SessionReplies.{reply_to, reply_and_view, reply_text, IsInstruction}
+use Rattle.cbpf_tool.specs.declared.command.Command.TheVariants.{Session}
+use Rattle.cbpf_tool.specs.declared.command.SessionCommand.{SessionCommand}
+use Rattle.cbpf_tool.specs.declared.command.SessionCommand.TheVariants.{Breakpoint}
 
 -- a call that answered
 pub reply-ok : {R X E : Type 0} (text : R → View → List ℕ) (m n : View) (a : Answer R) (x : R)
@@ -54,6 +58,18 @@ pub writes-view : {X E : Type 0} (text : List ℕ) (m n : View) (old new : Optio
     → Wrote old new r text → Writes (text, m) n (λ s. Wrote old new r s)
 unfolding Writes
 writes-view text m n old new r e w = (e, w)
+
+-- a command's own reply
+pub own-reply : (m n : View) (c : SessionCommand) (Written : List ℕ → Type 0) → Writes (reply_to c m) n Written
+    → Replies m n c Written
+unfolding Replies
+own-reply m n c Written w = inl w
+
+pub session-answered : (m n : View) (c : SessionCommand) (Written : List ℕ → Type 0) → Replies m n c Written
+    → Answered m n (Session c) Written
+unfolding Replies
+session-answered m n c Written (inl w) = λ files f. own refl w
+session-answered m n c Written (inr w) = λ files f. unheld refl w.0 w.1
 
 -- ---- a breakpoint that is set
 
@@ -99,16 +115,14 @@ pub set-refused : {X E : Type 0} (m n : View) (k : ℕ) (when : When) (f : Sessi
     (r : Result X E)
     → (Err f ≡ reply_of (breakpoint_when m k when)) ⊎ ((Err f ≡ no_memory) × IsOk (breakpoint_when m k when))
     → (Err f ≡ no_memory → lookup (nat_eq k) m.breakpoints ≡ None) → n ≡ m → Wrote old new r (fault_text f)
-    → Sets m n k when (λ s. Wrote old new r s)
-unfolding fault_text
-set-refused m n k when f old new r (inl e) absent v w = inl (reply-err _ m n (breakpoint_when m k when) f old new r e
+    → Replies m n (Breakpoint k when) (λ s. Wrote old new r s)
+unfolding fault_text Replies
+set-refused m n k when f old new r (inl e) absent v w =
+    own-reply m n (Breakpoint k when) _ (reply-err _ m n (breakpoint_when m k when) f old new r e
     (v ∙ sym (refused-view m (breakpoint_when m k when) f e)) w)
 set-refused m n k when f old new r (inr e) absent v w =
     let at : Err f ≡ no_memory = e.0 in
     let is : f ≡ Memory = cc in
-    inr (
-      (e.1, absent at),
-      writes-view memory_text m n old new r v (subst (λ (g : SessionFault). Wrote old new r (fault_text g)) is w),
-    )
+    inr ((e.1, absent at), writes-view memory_text m n old new r v (subst (λ (g : SessionFault). Wrote old new r (fault_text g)) is w))
 
-pub ruleset replies = (reply-ok, reply-err, text-ok, text-err, writes-view)
+pub ruleset replies = (reply-ok, reply-err, text-ok, text-err, writes-view, own-reply)

@@ -1,21 +1,22 @@
 -- The output of a script: the replies to its lines up to `quit`.
 use Rattle.std.specs.Prelude.{◌≡◌, ◌⊎◌, ℕ, List, [], ◌∷◌, ◌++◌, Some, Ok}
-use Rattle.cbpf_tool.specs.Commands.{command_of, quit}
+use Rattle.cbpf_tool.specs.Commands.{command_of}
+use Rattle.cbpf_tool.specs.declared.command.Command.TheVariants.{Quit}
 use Rattle.cbpf_tool.specs.FileMap.{FileMap}
 use Rattle.cbpf_dbg.specs.View.{View}
-use Rattle.cbpf_tool.specs.Replies.{LineReplies, KeepsCount}
+use Rattle.cbpf_tool.specs.Replies.{LineReplies}
 
 -- the text of the replies to some lines, from what is loaded before them, while the count of failures
 -- goes from one number to another
 pub data Output (files : FileMap) : View → ℕ → List (List ℕ) → List ℕ → ℕ → Type 0 where
   at_end : {m : View} {f : ℕ} → Output files m f [] [] f
-  at_quit : {m : View} {f : ℕ} (l : List ℕ) (ls : List (List ℕ)) → command_of l ≡ Ok (Some quit)
+  at_quit : {m : View} {f : ℕ} (l : List ℕ) (ls : List (List ℕ)) → command_of l ≡ Ok (Some Quit)
       → Output files m f (l ∷ ls) [] f
   at_line : {m n : View} {f g h : ℕ} {rest : List ℕ} {ls : List (List ℕ)} (l text : List ℕ)
-      → LineReplies files m n f g (command_of l) (λ t. t ≡ text) → KeepsCount (command_of l) f g
+      → LineReplies files m n f g (command_of l) (λ t. t ≡ text)
       → Output files n g ls rest h → Output files m f (l ∷ ls) (text ++ rest) h
 
 -- one of the lines is `quit`
 abbrev pub HasQuit : List (List ℕ) → Type 0
 HasQuit [] = ⊥
-HasQuit (l ∷ ls) = (command_of l ≡ Ok (Some quit)) ⊎ HasQuit ls
+HasQuit (l ∷ ls) = (command_of l ≡ Ok (Some Quit)) ⊎ HasQuit ls

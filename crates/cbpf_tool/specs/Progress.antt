@@ -1,40 +1,54 @@
 -- How far a script was run. No public clause names it.
-use Rattle.std.specs.Prelude.{◌≡◌, ◌≤◌, ℕ, false, IsTrue, List, [], ◌∷◌, ◌++◌, Option, Some, Result, Ok, Err}
+use Rattle.std.specs.Prelude.{◌≡◌, ℕ, false, IsTrue, List, [], ◌∷◌, ◌++◌, Option, Some, Result, Ok, Err}
 use Rattle.cbpf_code.specs.Writing.{Appended, AppendedPart}
 use Rattle.cbpf_code.specs.declared.writing.WriteFault.{WriteFault}
-use Rattle.cbpf_tool.specs.Commands.{Spelled, command_of, quit}
+use Rattle.cbpf_tool.specs.Commands.{command_of}
+use Rattle.cbpf_tool.specs.declared.command.Command.{Command}
+use Rattle.cbpf_tool.specs.declared.command.Command.TheVariants as command
 use Rattle.cbpf_tool.specs.declared.command.CommandFault.{CommandFault}
 use Rattle.cbpf_tool.specs.FileMap.{FileMap, Source}
 use Rattle.cbpf_tool.specs.Lines.{has_newline}
 use Rattle.cbpf_dbg.specs.View.{View, empty_view}
 use Rattle.cbpf_tool.specs.Reading.{unread}
-use Rattle.cbpf_tool.specs.Replies.{CommandReplies, LineReplies, KeepsCount}
+use Rattle.cbpf_tool.specs.Replies.{LineReplies}
+use Rattle.cbpf_tool.specs.declared.files.LoadFault.{LoadFault}
+use Rattle.cbpf_tool.specs.declared.files.LoadFault.TheVariants.{Absent, Device, Memory}
+use Rattle.cbpf_reply.specs.Errors.{absent_text, device_text, memory_text}
 use Rattle.cbpf_tool.specs.declared.debugger.AfterLine.{AfterLine}
 use Rattle.cbpf_tool.specs.declared.debugger.AfterLine.TheVariants.{NextLine, Quit}
 
--- the files were left as they are, and no failure was forgotten
+-- the files were left as they are
 pub record Kept (f g : Source) : Type 0 where
   pub files : g.files ≡ f.files
   pub is_known : g.is_known ≡ f.is_known
-  pub rises : f.failures ≤ g.failures
 
--- a command other than `quit` was run, where it is known what the files hold
-abbrev pub CommandRan : Source → Source → View → View → Spelled → (List ℕ → Type 0) → Type 0
-CommandRan f g m n c Written = (Kept f g × KeepsCount (Ok (Some c)) f.failures g.failures)
-    × (IsTrue f.is_known → CommandReplies f.files m n f.failures g.failures c Written)
+-- a line other than `quit` was run, where it is known what the files hold
+abbrev pub Replied : Source → Source → View → View → Result (Option Command) CommandFault → (List ℕ → Type 0) → Type 0
+Replied f g m n said Written =
+    Kept f g × (IsTrue f.is_known → LineReplies f.files m n f.failures g.failures said Written)
+
+-- the same of a command that opens no file
+abbrev pub Answered : View → View → Command → (List ℕ → Type 0) → Type 0
+Answered m n c Written = (files : FileMap) (f : ℕ) → LineReplies files m n f f (Ok (Some c)) Written
+
+-- the reply to `load pcap` of a file that is not loaded
+abbrev pub load_fault_text : LoadFault → List ℕ
+load_fault_text Absent = absent_text
+load_fault_text Device = device_text
+load_fault_text Memory = memory_text
 
 -- what a line wrote that was run, by what comes after it
-abbrev pub LineResult : FileMap → View → View → ℕ → ℕ → Result (Option Spelled) CommandFault → Option (List ℕ)
+abbrev pub LineResult : FileMap → View → View → ℕ → ℕ → Result (Option Command) CommandFault → Option (List ℕ)
     → Option (List ℕ) → Result AfterLine WriteFault → Type 0
-LineResult files m n f g spelled old new (Ok NextLine) = LineReplies files m n f g spelled (λ t. Appended old new t)
-LineResult files m n f g spelled old new (Ok Quit) = (spelled ≡ Ok (Some quit)) × (f ≡ g) × Appended old new []
-LineResult files m n f g spelled old new (Err e) = LineReplies files m n f g spelled (λ t. AppendedPart old new t)
+LineResult files m n f g said old new (Ok NextLine) = LineReplies files m n f g said (λ t. Appended old new t)
+LineResult files m n f g said old new (Ok Quit) = (said ≡ Ok (Some command.Quit)) × (f ≡ g) × Appended old new []
+LineResult files m n f g said old new (Err e) = LineReplies files m n f g said (λ t. AppendedPart old new t)
 
 -- a line was run, where it is known what the files hold
-abbrev pub LineRan : Source → Source → View → View → Result (Option Spelled) CommandFault → Option (List ℕ)
+abbrev pub LineRan : Source → Source → View → View → Result (Option Command) CommandFault → Option (List ℕ)
     → Option (List ℕ) → Result AfterLine WriteFault → Type 0
-LineRan f g m n spelled old new r = (Kept f g × KeepsCount spelled f.failures g.failures)
-    × (IsTrue f.is_known → LineResult f.files m n f.failures g.failures spelled old new r)
+LineRan f g m n said old new r =
+    Kept f g × (IsTrue f.is_known → LineResult f.files m n f.failures g.failures said old new r)
 
 -- lines with their newlines
 abbrev pub unlines : List (List ℕ) → List ℕ
@@ -49,7 +63,7 @@ EachPlain (l ∷ ls) = (has_newline l ≡ false) × EachPlain ls
 pub data LinesRan (files : FileMap) : View → ℕ → List (List ℕ) → List ℕ → View → ℕ → Type 0 where
   still : {m : View} {f : ℕ} → LinesRan files m f [] [] m f
   onward : {m n p : View} {f g h : ℕ} {ls : List (List ℕ)} {t : List ℕ} (l u : List ℕ) → LinesRan files m f ls t n g
-      → LineReplies files n p g h (command_of l) (λ s. s ≡ u) → KeepsCount (command_of l) g h
+      → LineReplies files n p g h (command_of l) (λ s. s ≡ u)
       → LinesRan files m f (ls ++ l ∷ []) (t ++ u) p h
 
 pub record Progress (script pending : List ℕ) (left old new : Option (List ℕ)) (f g : Source) (m : View) :

@@ -10,9 +10,10 @@ use Rattle.cbpf_code.specs.declared.insn.Insn.{Insn}
 use Rattle.cbpf_code.specs.declared.words.WordFault.{WordFault}
 use Rattle.cbpf_code.specs.declared.words.WordFault.TheVariants.{Memory}
 use Rattle.cbpf_code.specs.declared.checker.CheckFault.{CheckFault}
-use Rattle.cbpf_tool.specs.Commands.{Spelled, load_words, load_capture, run, disassemble, dump, breakpoint}
-use Rattle.cbpf_tool.specs.Commands.{breakpoint_when_a, breakpoint_when_x, breakpoints, reset_breakpoints, delete}
-use Rattle.cbpf_tool.specs.Commands.{step, select, mark, resume, stops, value, quit}
+use Rattle.cbpf_tool.specs.declared.command.Command.{Command}
+use Rattle.cbpf_tool.specs.declared.command.Command.TheVariants.{LoadWords, LoadCapture, Session, Quit}
+use Rattle.cbpf_tool.specs.declared.command.SessionCommand.{SessionCommand}
+use Rattle.cbpf_tool.specs.declared.command.SessionCommand.TheVariants.{Breakpoint}
 use Rattle.cbpf_tool.specs.declared.command.CommandFault.{CommandFault}
 use Rattle.cbpf_tool.specs.declared.command.CommandFault.TheVariants.{UnknownCommand, WrongArguments}
 use Rattle.pcap_classic.specs.Savefile.{Savefile, IsSavefile, IsRefusal}
@@ -20,13 +21,8 @@ use Rattle.pcap_classic.specs.declared.fault.CaptureFault.{CaptureFault}
 use Rattle.pcap_classic.specs.declared.fault.CaptureFault.TheVariants as capture_fault
 use Rattle.cbpf_tool.specs.FileMap.{FileMap}
 use Rattle.cbpf_dbg.specs.View.{View}
-use Rattle.cbpf_reply.specs.declared.breakpoints.When.{When}
-use Rattle.cbpf_reply.specs.declared.breakpoints.When.TheVariants.{Always, A, X}
-use Rattle.cbpf_dbg.specs.Commands.{with_program_loaded, with_capture_loaded, without_breakpoints, breakpoint_when}
-use Rattle.cbpf_reply.specs.Breakpoints.{breakpoints_text}
-use Rattle.cbpf_tool.specs.SessionReplies.{run_reply, step_reply, select_reply, resume_reply, breakpoint_reply}
-use Rattle.cbpf_tool.specs.SessionReplies.{delete_reply, mark_reply, stops_reply, value_reply, listing_text}
-use Rattle.cbpf_reply.specs.CDump.{c_dump_text}
+use Rattle.cbpf_dbg.specs.Commands.{with_program_loaded, with_capture_loaded, breakpoint_when}
+use Rattle.cbpf_tool.specs.SessionReplies.{reply_to}
 use Rattle.cbpf_reply.specs.Errors.{unknown_command_text, wrong_arguments_text, absent_text, device_text, memory_text}
 use Rattle.cbpf_reply.specs.Errors.{word_fault_text, check_fault_text, capture_fault_text}
 use Rattle.cbpf_reply.specs.Loads.{program_text, capture_text}
@@ -55,54 +51,49 @@ abbrev pub LoadsCapture : View → View → Option (List ℕ) → (List ℕ → 
 LoadsCapture m n None Written = Writes (absent_text, m) n Written
 LoadsCapture m n (Some bytes) Written = ReadsCapture m n bytes Written
 
+abbrev pub command_fault_text : CommandFault → List ℕ
+command_fault_text UnknownCommand = unknown_command_text
+command_fault_text WrongArguments = wrong_arguments_text
+
+-- a line's own reply, by what the line says; `quit` has none
+abbrev pub OwnReply : FileMap → View → View → Result (Option Command) CommandFault → (List ℕ → Type 0) → Type 0
+OwnReply files m n (Ok None) Written = Writes ([], m) n Written
+OwnReply files m n (Ok (Some (LoadWords text))) Written = LoadsWords m n text Written
+OwnReply files m n (Ok (Some (LoadCapture name))) Written = LoadsCapture m n (map.get files name) Written
+OwnReply files m n (Ok (Some (Session c))) Written = Writes (reply_to c m) n Written
+OwnReply files m n (Ok (Some Quit)) Written = ⊥
+OwnReply files m n (Err e) Written = Writes (command_fault_text e, m) n Written
+
+-- a command of the session that can run out of memory: a breakpoint that is not refused, and whose number is not
+-- set yet
+abbrev pub CanRunOut : View → SessionCommand → Type 0
+CanRunOut m (Breakpoint k when) = IsOk (breakpoint_when m k when) × (lookup (nat_eq k) m.breakpoints ≡ None)
+CanRunOut m _ = ⊥
+
+-- the reply to a command of the session: its own, or `error: out of memory`
+unfoldable pub Replies : View → View → SessionCommand → (List ℕ → Type 0) → Type 0
+Replies m n c Written = Writes (reply_to c m) n Written ⊎ (CanRunOut m c × Writes (memory_text, m) n Written)
+
+-- a line to which the reply can be `error: out of memory`
+abbrev pub IsUnheld : View → Result (Option Command) CommandFault → Type 0
+IsUnheld m (Ok (Some (LoadWords text))) = Unit {0}
+IsUnheld m (Ok (Some (LoadCapture name))) = Unit {0}
+IsUnheld m (Ok (Some (Session c))) = CanRunOut m c
+IsUnheld m _ = ⊥
+
+-- a line to which the reply can be F2
+abbrev pub IsUnread : Result (Option Command) CommandFault → Type 0
+IsUnread (Ok (Some (LoadCapture name))) = Unit {0}
+IsUnread _ = ⊥
+
 -- one failure was counted, or the count stays at its greatest value
 abbrev pub Failed : ℕ → ℕ → Type 0
 Failed f g = (f ≤ g) × (g ≡ min (f + 1) (2 ^ 64 - 1))
 
--- the count of failures never falls, and stays where a line does not load a capture
-abbrev pub KeepsCount : Result (Option Spelled) CommandFault → ℕ → ℕ → Type 0
-KeepsCount (Ok (Some (load_capture name))) f g = f ≤ g
-KeepsCount _ f g = g ≡ f
-
--- a breakpoint that is set can run out of memory: it is not refused, and its number is not set yet
-abbrev pub CanRunOut : View → ℕ → When → Type 0
-CanRunOut m k when = IsOk (breakpoint_when m k when) × (lookup (nat_eq k) m.breakpoints ≡ None)
-
--- a breakpoint that is set: its reply, or `error: out of memory`
-abbrev pub Sets : View → View → ℕ → When → (List ℕ → Type 0) → Type 0
-Sets m n k when Written =
-    Writes (breakpoint_reply m k when) n Written ⊎ (CanRunOut m k when × Writes (memory_text, m) n Written)
-
--- a command's reply, while the count of failures goes from f to g. `error: out of memory` may come in place
--- of the reply of a load and of a new breakpoint that is not refused, and F2 in place of that of a capture's load:
--- one failure is counted at F2, and none at the other replies of a load. `quit` has none
-abbrev pub CommandReplies : FileMap → View → View → ℕ → ℕ → Spelled → (List ℕ → Type 0) → Type 0
-CommandReplies files m n f g (load_words text) Written =
-    LoadsWords m n text Written ⊎ Writes (memory_text, m) n Written
-CommandReplies files m n f g (load_capture name) Written =
-    ((g ≡ f) × LoadsCapture m n (map.get files name) Written)
-    ⊎ (((g ≡ f) × Writes (memory_text, m) n Written) ⊎ (Failed f g × Writes (device_text, m) n Written))
-CommandReplies files m n f g (run limit) Written = Writes (run_reply m limit) n Written
-CommandReplies files m n f g disassemble Written = Writes (listing_text m.program, m) n Written
-CommandReplies files m n f g dump Written = Writes (c_dump_text m.program, m) n Written
-CommandReplies files m n f g (breakpoint k) Written = Sets m n k Always Written
-CommandReplies files m n f g (breakpoint_when_a k v) Written = Sets m n k (A v) Written
-CommandReplies files m n f g (breakpoint_when_x k v) Written = Sets m n k (X v) Written
-CommandReplies files m n f g breakpoints Written = Writes (breakpoints_text m.breakpoints, m) n Written
-CommandReplies files m n f g reset_breakpoints Written = Writes (breakpoints_text [], without_breakpoints m) n Written
-CommandReplies files m n f g (delete k) Written = Writes (delete_reply m k) n Written
-CommandReplies files m n f g (step k) Written = Writes (step_reply m k) n Written
-CommandReplies files m n f g (select k) Written = Writes (select_reply m k) n Written
-CommandReplies files m n f g mark Written = Writes (mark_reply m, m) n Written
-CommandReplies files m n f g (resume packet s) Written = Writes (resume_reply m packet s) n Written
-CommandReplies files m n f g stops Written = Writes (stops_reply m, m) n Written
-CommandReplies files m n f g (value e k) Written = Writes (value_reply m e k) n Written
-CommandReplies files m n f g quit Written = ⊥
-
--- a line's reply, by what the line says
-abbrev pub LineReplies : FileMap → View → View → ℕ → ℕ → Result (Option Spelled) CommandFault
-    → (List ℕ → Type 0) → Type 0
-LineReplies files m n f g (Ok None) Written = Writes ([], m) n Written
-LineReplies files m n f g (Ok (Some c)) Written = CommandReplies files m n f g c Written
-LineReplies files m n f g (Err UnknownCommand) Written = Writes (unknown_command_text, m) n Written
-LineReplies files m n f g (Err WrongArguments) Written = Writes (wrong_arguments_text, m) n Written
+-- a line's reply, while the count of failures goes from f to g: its own, or in its place `error: out of memory`
+-- or F2. One failure is counted at F2, and none at the others
+pub data LineReplies (files : FileMap) (m n : View) (f g : ℕ) (said : Result (Option Command) CommandFault)
+    (Written : List ℕ → Type 0) : Type 0 where
+  own : g ≡ f → OwnReply files m n said Written → LineReplies files m n f g said Written
+  unheld : g ≡ f → IsUnheld m said → Writes (memory_text, m) n Written → LineReplies files m n f g said Written
+  unread : Failed f g → IsUnread said → Writes (device_text, m) n Written → LineReplies files m n f g said Written

@@ -1,22 +1,25 @@
 -- The replies to the commands of a session, and the view of the session after them
 -- (kernel documentation, networking/filter, on `bpf_dbg`; saved places, limits,
 -- steps back and the list of stops are this project's own).
-use Rattle.std.specs.Prelude.{ℕ, ℤ, ◌<◌, length, List, Option, Some, None, Result, Ok, Err}
+use Rattle.std.specs.Prelude.{ℕ, ◌<◌, [], length, List, Option, Some, None, Result, Ok, Err}
 use Rattle.cbpf_code.specs.declared.insn.Insn.{Insn}
-use Rattle.cbpf_code.specs.declared.extension.Ext.{Ext}
 use Rattle.cbpf_code.specs.Listing.{listing}
-use Rattle.cbpf_dbg.specs.Commands.{Answer, run, step, select, mark, resume, stops, breakpoint_when, delete}
-use Rattle.cbpf_dbg.specs.Commands.{set_value}
+use Rattle.cbpf_dbg.specs.Commands as session
+use Rattle.cbpf_dbg.specs.Commands.{Answer, without_breakpoints}
 use Rattle.cbpf_dbg.specs.View.{View}
-use Rattle.cbpf_reply.specs.declared.breakpoints.When.{When}
 use Rattle.cbpf_reply.specs.declared.reply.Place.{Place}
 use Rattle.cbpf_reply.specs.declared.reply.SessionFault.{SessionFault}
 use Rattle.cbpf_reply.specs.Breakpoints.{breakpoints_text, set_in}
+use Rattle.cbpf_reply.specs.CDump.{c_dump_text}
 use Rattle.cbpf_reply.specs.Counts.{at_text, place_text}
 use Rattle.cbpf_reply.specs.Errors.{fault_text, no_program_text}
 use Rattle.cbpf_reply.specs.Stops.{stops_text}
 use Rattle.cbpf_reply.specs.Values.{value_text}
 use Rattle.cbpf_tool.specs.RunText.{run_text}
+use Rattle.cbpf_tool.specs.declared.command.SessionCommand.{SessionCommand}
+use Rattle.cbpf_tool.specs.declared.command.SessionCommand.TheVariants.{Run, Disassemble, Dump, Breakpoint}
+use Rattle.cbpf_tool.specs.declared.command.SessionCommand.TheVariants.{Breakpoints, ResetBreakpoints, Delete, Step}
+use Rattle.cbpf_tool.specs.declared.command.SessionCommand.TheVariants.{Select, Mark, Resume, Stops, Value}
 
 -- the text of an answer and the view after it; a refusal leaves the view
 unfoldable pub reply_and_view : {R : Type 0} → (R → View → List ℕ) → View → Answer R → List ℕ × View
@@ -28,39 +31,6 @@ unfoldable pub reply_text : {R : Type 0} → (R → List ℕ) → Result R Sessi
 reply_text text (Ok r) = text r
 reply_text text (Err e) = fault_text e
 
-abbrev pub before_packet : ℕ → Place
-before_packet n = record { packet = n; step = 0 }
-
-abbrev pub place_of : ℕ → ℕ → Place
-place_of packet s = record { packet = packet; step = s }
-
-abbrev pub run_reply : View → Option ℕ → List ℕ × View
-run_reply m limit = reply_and_view run_text m (run m limit)
-
-abbrev pub step_reply : View → ℤ → List ℕ × View
-step_reply m n = reply_and_view run_text m (step m n)
-
-abbrev pub select_reply : View → ℕ → List ℕ × View
-select_reply m n = reply_and_view (λ u v. at_text (before_packet n)) m (select m n)
-
-abbrev pub resume_reply : View → ℕ → ℕ → List ℕ × View
-resume_reply m packet s = reply_and_view (λ u v. at_text (place_of packet s)) m (resume m (place_of packet s))
-
-abbrev pub breakpoint_reply : View → ℕ → When → List ℕ × View
-breakpoint_reply m n when = reply_and_view (λ u v. set_in v.program n when) m (breakpoint_when m n when)
-
-abbrev pub delete_reply : View → ℕ → List ℕ × View
-delete_reply m n = reply_and_view (λ was v. breakpoints_text v.breakpoints) m (delete m n)
-
-abbrev pub value_reply : View → Ext → ℕ → List ℕ × View
-value_reply m e n = reply_and_view (λ u v. value_text e n) m (set_value m e n)
-
-abbrev pub mark_reply : View → List ℕ
-mark_reply m = reply_text place_text (mark m)
-
-abbrev pub stops_reply : View → List ℕ
-stops_reply m = reply_text stops_text (stops m)
-
 -- an instruction of a program that is loaded
 abbrev pub IsInstruction : Option (List Insn) → ℕ → Type 0
 IsInstruction None n = ⊥
@@ -70,3 +40,22 @@ IsInstruction (Some list) n = n < length list
 unfoldable pub listing_text : Option (List Insn) → List ℕ
 listing_text None = no_program_text
 listing_text (Some list) = listing list
+
+abbrev pub before_packet : ℕ → Place
+before_packet n = record { packet = n; step = 0 }
+
+-- the reply to a command in a view, and the view after it
+abbrev pub reply_to : SessionCommand → View → List ℕ × View
+reply_to (Run limit) m = reply_and_view run_text m (session.run m limit)
+reply_to Disassemble m = (listing_text m.program, m)
+reply_to Dump m = (c_dump_text m.program, m)
+reply_to (Breakpoint n when) m = reply_and_view (λ u v. set_in v.program n when) m (session.breakpoint_when m n when)
+reply_to Breakpoints m = (breakpoints_text m.breakpoints, m)
+reply_to ResetBreakpoints m = (breakpoints_text [], without_breakpoints m)
+reply_to (Delete n) m = reply_and_view (λ was v. breakpoints_text v.breakpoints) m (session.delete m n)
+reply_to (Step n) m = reply_and_view run_text m (session.step m n)
+reply_to (Select n) m = reply_and_view (λ u v. at_text (before_packet n)) m (session.select m n)
+reply_to Mark m = (reply_text place_text (session.mark m), m)
+reply_to (Resume place) m = reply_and_view (λ u v. at_text place) m (session.resume m place)
+reply_to Stops m = (reply_text stops_text (session.stops m), m)
+reply_to (Value e n) m = reply_and_view (λ u v. value_text e n) m (session.set_value m e n)

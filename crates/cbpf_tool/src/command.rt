@@ -1,36 +1,42 @@
 // Commands, and how lines spell them.
 ghost use Rattle.std.specs.Prelude.{◌≡◌, ℕ, List};
-ghost use Rattle.std.specs.Option.{option_map};
 ghost use Rattle.cbpf_code.specs.Extension.{ext_table};
 ghost use Rattle.cbpf_tool.specs.Commands as spec;
 ghost use Rattle.cbpf_tool.specs.Words.{words, after_words, trimmed};
 ghost use Rattle.cbpf_tool.specs.Arguments.{Holds};
 
 use crate::arguments::{Arguments, arguments_in};
+use crate::lent::{Name, Text};
 use crate::number::{number, number_32, signed_number};
 use crate::scan::{next_word, trimmed};
 use cbpf_code::{Ext, ext_named};
+use cbpf_dbg::{Place, When};
 use std::str::from_utf8;
 
 /// A command of the debugger.
-#[derive(Clone, Copy, Debug)]
+#[derive(Drop)]
 pub enum Command<'a> {
     /// `load bpf <word text>`: the word text is the rest of the line, without the blanks around it.
-    LoadWords(&'a [u8]),
+    LoadWords(Text<'a>),
     /// `load pcap <name>`: the name is the rest of the line, without the blanks around it.
-    LoadCapture(&'a str),
+    LoadCapture(Name<'a>),
+    /// A command that the session answers.
+    Session(SessionCommand),
+    /// `quit`
+    Quit,
+}
+
+/// A command whose reply the session's view gives.
+#[derive(Clone, Copy)]
+pub enum SessionCommand {
     /// `run [n]`: up to a hit, or until n packets are finished. An n of 0 is no wrong argument.
     Run(Option<u64>),
     /// `disassemble`
     Disassemble,
     /// `dump`
     Dump,
-    /// `breakpoint n`: at instruction n, from 0.
-    Breakpoint(u64),
-    /// `breakpoint n a v`: a breakpoint at instruction n where the accumulator is v.
-    BreakpointWhenA(u64, u32),
-    /// `breakpoint n x v`: a breakpoint at instruction n where the index register is v.
-    BreakpointWhenX(u64, u32),
+    /// `breakpoint n [a|x v]`: at instruction n, from 0, and where the register is v.
+    Breakpoint(u64, When),
     /// `breakpoint`: the list of breakpoints.
     Breakpoints,
     /// `breakpoint reset`
@@ -45,18 +51,27 @@ pub enum Command<'a> {
     /// `mark`: the place, as `resume` takes it.
     Mark,
     /// `resume p s`: to a place that `mark` printed.
-    Resume {
-        /// The packet's number, from 1.
-        packet: u64,
-        /// How many of its instructions were reached; 0 is before the first.
-        step: u32,
-    },
+    Resume(Place),
     /// `stops`: the hits ahead.
     Stops,
     /// `value e n`: the value n for an extension.
     Value(Ext, u32),
-    /// `quit`
-    Quit,
+}
+
+impl Command<'_> {
+    /// Whether it can pass more than a packet, or wait for a file.
+    pub fn may_take_long(&self) -> bool {
+        matches!(
+            self,
+            Command::LoadCapture(_)
+                | Command::Session(
+                    SessionCommand::Run(_)
+                        | SessionCommand::Step(_)
+                        | SessionCommand::Resume(_)
+                        | SessionCommand::Stops
+                )
+        )
+    }
 }
 
 /// Why a line is no command.
@@ -69,12 +84,20 @@ pub enum CommandFault {
 }
 
 /// A command that has no arguments, if there are none.
-fn alone<'a>(arguments: Arguments<'a>, command: Command<'a>) -> Option<Command<'a>>
-    ensures { (ws : List (List ℕ)) → Holds ws arguments.entry
-        → option_map spec.meaning result ≡ spec.alone (spec.meaning command.entry) ws }
+fn alone(arguments: Arguments<'_>, command: SessionCommand) -> Option<SessionCommand>
+    ensures { (ws : List (List ℕ)) → Holds ws arguments.entry → result ≡ spec.alone command ws }
 {
     match arguments {
         Arguments::Zero => Some(command),
+        _ => None,
+    }
+}
+
+fn quit_by(arguments: Arguments<'_>) -> Option<Command<'_>>
+    ensures { (ws : List (List ℕ)) → Holds ws arguments.entry → result ≡ spec.quit_by ws }
+{
+    match arguments {
+        Arguments::Zero => Some(Command::Quit),
         _ => None,
     }
 }
@@ -89,81 +112,86 @@ fn sole_number(arguments: Arguments<'_>) -> Option<u64>
     }
 }
 
-fn run_by(arguments: Arguments<'_>) -> Option<Command<'_>>
-    ensures { (ws : List (List ℕ)) → Holds ws arguments.entry → option_map spec.meaning result ≡ spec.run_by ws }
+fn run_by(arguments: Arguments<'_>) -> Option<SessionCommand>
+    ensures { (ws : List (List ℕ)) → Holds ws arguments.entry → result ≡ spec.run_by ws }
 {
     match arguments {
-        Arguments::Zero => Some(Command::Run(None)),
-        Arguments::One(word) => Some(Command::Run(Some(number(word, u64::MAX)?))),
+        Arguments::Zero => Some(SessionCommand::Run(None)),
+        Arguments::One(word) => Some(SessionCommand::Run(Some(number(word, u64::MAX)?))),
         _ => None,
     }
 }
 
-fn breakpoint_by(arguments: Arguments<'_>) -> Option<Command<'_>>
-    ensures { (ws : List (List ℕ)) → Holds ws arguments.entry
-        → option_map spec.meaning result ≡ spec.breakpoint_by ws }
+fn breakpoint_by(arguments: Arguments<'_>) -> Option<SessionCommand>
+    ensures { (ws : List (List ℕ)) → Holds ws arguments.entry → result ≡ spec.breakpoint_by ws }
 {
     match arguments {
-        Arguments::Zero => Some(Command::Breakpoints),
-        Arguments::One(b"reset") => Some(Command::ResetBreakpoints),
-        Arguments::One(word) => Some(Command::Breakpoint(number(word, u64::MAX)?)),
-        Arguments::Three(n, register, v) => {
-            breakpoint_when(register, number(n, u64::MAX)?, number_32(v)?)
+        Arguments::Zero => Some(SessionCommand::Breakpoints),
+        Arguments::One(b"reset") => Some(SessionCommand::ResetBreakpoints),
+        Arguments::One(word) => {
+            Some(SessionCommand::Breakpoint(number(word, u64::MAX)?, When::Always))
         }
+        Arguments::Three(n, register, v) => Some(SessionCommand::Breakpoint(
+            number(n, u64::MAX)?,
+            condition(register, number_32(v)?)?,
+        )),
         _ => None,
     }
 }
 
-/// A breakpoint at instruction `n` where the register of this name is `v`.
-fn breakpoint_when(register: &[u8], n: u64, v: u32) -> Option<Command<'_>>
-    ensures { option_map spec.meaning result ≡ spec.breakpoint_when register.now n v }
+/// That the register of this name is `v`.
+fn condition(register: &[u8], v: u32) -> Option<When>
+    ensures { result ≡ spec.condition register.now v }
 {
     match register {
-        b"a" => Some(Command::BreakpointWhenA(n, v)),
-        b"x" => Some(Command::BreakpointWhenX(n, v)),
+        b"a" => Some(When::A(v)),
+        b"x" => Some(When::X(v)),
         _ => None,
     }
 }
 
-fn delete_by(arguments: Arguments<'_>) -> Option<Command<'_>>
-    ensures { (ws : List (List ℕ)) → Holds ws arguments.entry → option_map spec.meaning result ≡ spec.delete_by ws }
+fn delete_by(arguments: Arguments<'_>) -> Option<SessionCommand>
+    ensures { (ws : List (List ℕ)) → Holds ws arguments.entry → result ≡ spec.delete_by ws }
 {
-    Some(Command::Delete(sole_number(arguments)?))
+    Some(SessionCommand::Delete(sole_number(arguments)?))
 }
 
-fn step_by(arguments: Arguments<'_>) -> Option<Command<'_>>
-    ensures { (ws : List (List ℕ)) → Holds ws arguments.entry → option_map spec.meaning result ≡ spec.step_by ws }
+fn step_by(arguments: Arguments<'_>) -> Option<SessionCommand>
+    ensures { (ws : List (List ℕ)) → Holds ws arguments.entry → result ≡ spec.step_by ws }
 {
     match arguments {
-        Arguments::Zero => Some(Command::Step(1)),
-        Arguments::One(word) => Some(Command::Step(signed_number(word)?)),
+        Arguments::Zero => Some(SessionCommand::Step(1)),
+        Arguments::One(word) => Some(SessionCommand::Step(signed_number(word)?)),
         _ => None,
     }
 }
 
-fn select_by(arguments: Arguments<'_>) -> Option<Command<'_>>
-    ensures { (ws : List (List ℕ)) → Holds ws arguments.entry → option_map spec.meaning result ≡ spec.select_by ws }
+fn select_by(arguments: Arguments<'_>) -> Option<SessionCommand>
+    ensures { (ws : List (List ℕ)) → Holds ws arguments.entry → result ≡ spec.select_by ws }
 {
-    Some(Command::Select(sole_number(arguments)?))
+    Some(SessionCommand::Select(sole_number(arguments)?))
 }
 
-fn resume_by(arguments: Arguments<'_>) -> Option<Command<'_>>
-    ensures { (ws : List (List ℕ)) → Holds ws arguments.entry → option_map spec.meaning result ≡ spec.resume_by ws }
+fn resume_by(arguments: Arguments<'_>) -> Option<SessionCommand>
+    ensures { (ws : List (List ℕ)) → Holds ws arguments.entry → result ≡ spec.resume_by ws }
 {
     match arguments {
-        Arguments::Two(packet, step) => Some(Command::Resume {
+        Arguments::Two(packet, step) => Some(SessionCommand::Resume(Place {
             packet: number(packet, u64::MAX)?,
             step: number_32(step)?,
-        }),
+        })),
         _ => None,
     }
 }
 
-fn value_by(arguments: Arguments<'_>) -> Option<Command<'_>>
-    ensures { (ws : List (List ℕ)) → Holds ws arguments.entry → option_map spec.meaning result ≡ spec.value_by ws }
+fn value_by(arguments: Arguments<'_>) -> Option<SessionCommand>
+    ensures { (ws : List (List ℕ)) → Holds ws arguments.entry → result ≡ spec.value_by ws }
 {
     match arguments {
-        Arguments::Two(name, n) => Some(Command::Value(extension_named(name)?, number_32(n)?)),
+        Arguments::Two(name, n) => Some(SessionCommand::Value(
+            extension_named(name)?,
+            number_32(n)?,
+        )),
         _ => None,
     }
 }
@@ -176,28 +204,28 @@ fn extension_named(name: &[u8]) -> Option<Ext>
 }
 
 fn words_in(text: &[u8]) -> Option<Command<'_>>
-    ensures { option_map spec.meaning result ≡ spec.words_in text.now }
+    ensures { result ≡ spec.words_in text.now }
 {
     if text.is_empty() {
         return None;
     }
-    Some(Command::LoadWords(text))
+    Some(Command::LoadWords(Text::of(text)))
 }
 
 fn name_in(text: &[u8]) -> Option<Command<'_>>
-    ensures { option_map spec.meaning result ≡ spec.name_in text.now }
+    ensures { result ≡ spec.name_in text.now }
 {
     if text.is_empty() {
         return None;
     }
     match from_utf8(text) {
-        Ok(name) => Some(Command::LoadCapture(name)),
+        Ok(name) => Some(Command::LoadCapture(Name::of(name))),
         Err(_) => None,
     }
 }
 
 fn load_by(text: &[u8]) -> Option<Command<'_>>
-    ensures { option_map spec.meaning result ≡ spec.load_by (words text.now) (trimmed (after_words 1 text.now)) }
+    ensures { result ≡ spec.load_by (words text.now) (trimmed (after_words 1 text.now)) }
 {
     let (kind, rest) = next_word(text)?;
     match kind {
@@ -209,7 +237,7 @@ fn load_by(text: &[u8]) -> Option<Command<'_>>
 
 /// What the arguments spell, or that they are wrong.
 fn or_wrong(command: Option<Command<'_>>) -> Result<Option<Command<'_>>, CommandFault>
-    ensures { spec.result_meaning result ≡ spec.or_wrong (option_map spec.meaning command.entry) }
+    ensures { result ≡ spec.or_wrong command.entry }
 {
     match command {
         Some(command) => Ok(Some(command)),
@@ -217,10 +245,21 @@ fn or_wrong(command: Option<Command<'_>>) -> Result<Option<Command<'_>>, Command
     }
 }
 
+/// The same of a command of the session.
+fn session_or_wrong<'a>(
+    command: Option<SessionCommand>,
+) -> Result<Option<Command<'a>>, CommandFault>
+    ensures { result ≡ spec.session_or_wrong command }
+{
+    match command {
+        Some(command) => Ok(Some(Command::Session(command))),
+        None => Err(CommandFault::WrongArguments),
+    }
+}
+
 /// The command of this name with what stands after it. Each command's name is ASCII, so a word that isn't UTF-8 is none.
 fn command_by<'a>(name: &[u8], text: &'a [u8]) -> Result<Option<Command<'a>>, CommandFault>
-    ensures { spec.result_meaning result ≡ spec.by_reading (spec.reading_in spec.readings name.now) (words text.now)
-        (trimmed (after_words 1 text.now)) }
+    ensures { result ≡ spec.by_name name.now (words text.now) (trimmed (after_words 1 text.now)) }
 {
     match from_utf8(name) {
         Ok(name) => command_named(name, text),
@@ -230,34 +269,33 @@ fn command_by<'a>(name: &[u8], text: &'a [u8]) -> Result<Option<Command<'a>>, Co
 
 /// The command of a name that is UTF-8. It is compared as `str`: bytes are compared one by one, in many more steps of the proof.
 fn command_named<'a>(name: &str, text: &'a [u8]) -> Result<Option<Command<'a>>, CommandFault>
-    ensures { spec.result_meaning result ≡ spec.by_reading (spec.reading_in spec.readings name.now) (words text.now)
-        (trimmed (after_words 1 text.now)) }
+    ensures { result ≡ spec.by_name name.now (words text.now) (trimmed (after_words 1 text.now)) }
 {
     let arguments = arguments_in(text);
     let command = match name {
-        "load" => load_by(text),
+        "load" => return or_wrong(load_by(text)),
+        "quit" => return or_wrong(quit_by(arguments)),
         "run" => run_by(arguments),
-        "disassemble" => alone(arguments, Command::Disassemble),
-        "dump" => alone(arguments, Command::Dump),
+        "disassemble" => alone(arguments, SessionCommand::Disassemble),
+        "dump" => alone(arguments, SessionCommand::Dump),
         "breakpoint" => breakpoint_by(arguments),
         "delete" => delete_by(arguments),
         "step" => step_by(arguments),
         "select" => select_by(arguments),
-        "mark" => alone(arguments, Command::Mark),
+        "mark" => alone(arguments, SessionCommand::Mark),
         "resume" => resume_by(arguments),
-        "stops" => alone(arguments, Command::Stops),
+        "stops" => alone(arguments, SessionCommand::Stops),
         "value" => value_by(arguments),
-        "quit" => alone(arguments, Command::Quit),
         _ => return Err(CommandFault::UnknownCommand),
     };
-    or_wrong(command)
+    session_or_wrong(command)
 }
 
 /// The command that a line spells; `None` for a line without words. Words are separated by blanks,
 /// which are spaces, tabs, carriage returns and newlines.
 #[tactic(auto, unfolding(crate::specs::Commands::command_of))]
 pub fn command_of(line: &[u8]) -> Result<Option<Command<'_>>, CommandFault>
-    ensures { spec.result_meaning result ≡ spec.command_of line.now }
+    ensures { result ≡ spec.command_of line.now }
 {
     let Some((name, rest)) = next_word(line) else {
         return Ok(None);

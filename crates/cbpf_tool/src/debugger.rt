@@ -1,8 +1,9 @@
 // Runs a script line by line.
 ghost use Rattle.std.specs.Prelude.{◌≡◌, ℕ, List, [], Some, IsTrue, Ok, IfErr};
 ghost use Rattle.std.specs.Io.KnownBytes.{Keeps};
+ghost use Rattle.cbpf_code.specs.Writing.{Wrote};
 ghost use Rattle.cbpf_dbg.specs.View.{empty_view};
-ghost use Rattle.cbpf_tool.specs.Commands as language;
+ghost use Rattle.cbpf_tool.specs.Replies.{command_fault_text};
 ghost use Rattle.cbpf_tool.specs.Debugged.{Debugged};
 ghost use Rattle.cbpf_tool.specs.Progress.{LineRan};
 ghost use Rattle.cbpf_tool.specs.Reading.{pending_in};
@@ -14,10 +15,9 @@ use crate::files::Files;
 use crate::flushing::flush;
 use crate::line_reader::{LineEnd, LineReader};
 use crate::loads::{load_capture, load_words};
-use crate::perform;
-use crate::session_replies::write_breakpoints;
+use crate::reply_to::reply_to;
 use cbpf_code::WriteFault;
-use cbpf_dbg::{MarkTrail, Session, When};
+use cbpf_dbg::{MarkTrail, Session};
 use cbpf_reply::{write_unknown_command, write_wrong_arguments};
 use std::alloc::Allocator;
 use std::io::{Read, Write};
@@ -37,71 +37,56 @@ fn act<A: Allocator + Copy, W: Write, F: Files>(
     files: &mut F,
     command: Command<'_>,
 ) -> Result<AfterLine, WriteFault>
-    ensures { LineRan (F.source files.old) (F.source files.new) session.old session.new
-        (Ok (Some (language.meaning command.entry)))
+    ensures { LineRan (F.source files.old) (F.source files.new) session.old session.new (Ok (Some command.entry))
         (W.contents w.old) (W.contents w.new) result }
 {
     let reply = match command {
-        Command::LoadWords(text) => load_words(alloc, w, session, text),
-        Command::LoadCapture(name) => load_capture(alloc, w, session, files, name),
-        Command::Run(limit) => perform::run(w, session, limit),
-        Command::Disassemble => perform::disassemble(w, session),
-        Command::Dump => perform::dump(w, session),
-        Command::Breakpoint(n) => perform::set_breakpoint(w, session, n, When::Always),
-        Command::BreakpointWhenA(n, v) => perform::set_breakpoint(w, session, n, When::A(v)),
-        Command::BreakpointWhenX(n, v) => perform::set_breakpoint(w, session, n, When::X(v)),
-        Command::Breakpoints => write_breakpoints(w, session),
-        Command::ResetBreakpoints => perform::reset_breakpoints(w, session),
-        Command::Delete(n) => perform::delete(w, session, n),
-        Command::Step(n) => perform::step(w, session, n),
-        Command::Select(n) => perform::select(w, session, n),
-        Command::Mark => perform::mark(w, session),
-        Command::Resume { packet, step } => perform::resume(w, session, packet, step),
-        Command::Stops => perform::stops(w, session),
-        Command::Value(e, n) => perform::set_value(w, session, e, n),
+        Command::LoadWords(text) => load_words(alloc, w, session, text.as_slice()),
+        Command::LoadCapture(name) => load_capture(alloc, w, session, files, name.as_str()),
+        Command::Session(command) => reply_to(w, session, command),
         Command::Quit => return Ok(AfterLine::Quit),
     };
     reply.map(|_| AfterLine::NextLine)
 }
 
 /// What a line says, as `command_of` answers it.
-type Spelled<'a> = Result<Option<Command<'a>>, CommandFault>;
+type Said<'a> = Result<Option<Command<'a>>, CommandFault>;
 
 /// Whether a command can pass more than a packet, or wait for a file.
-fn may_take_long(spelled: &Spelled<'_>) -> bool {
-    matches!(
-        spelled,
-        Ok(Some(
-            Command::LoadCapture(_)
-                | Command::Run(_)
-                | Command::Step(_)
-                | Command::Resume { .. }
-                | Command::Stops
-        ))
-    )
+fn may_take_long(said: &Said<'_>) -> bool {
+    match said {
+        Ok(Some(command)) => command.may_take_long(),
+        _ => false,
+    }
 }
 
 /// Whether a line has no reply.
-fn has_no_reply(spelled: &Spelled<'_>) -> bool {
-    matches!(spelled, Ok(None) | Ok(Some(Command::Quit)))
+fn has_no_reply(said: &Said<'_>) -> bool {
+    matches!(said, Ok(None) | Ok(Some(Command::Quit)))
 }
 
 /// Flushes the replies so far before a command that may take long. What comes next is the line's reply.
-fn flush_before<W: Write>(
-    w: &mut W,
-    unflushed: &mut bool,
-    spelled: &Spelled<'_>,
-) -> Result<(), ToolFault>
+fn flush_before<W: Write>(w: &mut W, unflushed: &mut bool, said: &Said<'_>) -> Result<(), ToolFault>
     ensures kept { Keeps (W.contents w.old) (W.contents w.new) }
     ensures fault { IfErr result (λ e. e ≡ fault.Write) }
 {
-    if may_take_long(spelled) {
+    if may_take_long(said) {
         flush(w, unflushed)?;
     }
-    if !has_no_reply(spelled) {
+    if !has_no_reply(said) {
         *unflushed = true;
     }
     Ok(())
+}
+
+/// Writes why a line is no command.
+fn write_command_fault<W: Write>(w: &mut W, fault: CommandFault) -> Result<(), WriteFault>
+    ensures { Wrote (W.contents w.old) (W.contents w.new) result (command_fault_text fault) }
+{
+    match fault {
+        CommandFault::UnknownCommand => write_unknown_command(w),
+        CommandFault::WrongArguments => write_wrong_arguments(w),
+    }
 }
 
 /// Runs a line that was read, and writes its reply.
@@ -110,22 +95,15 @@ fn run_line<A: Allocator + Copy, W: Write, F: Files>(
     w: &mut W,
     session: &mut Session<MarkTrail, A>,
     files: &mut F,
-    spelled: Spelled<'_>,
+    said: Said<'_>,
 ) -> Result<AfterLine, WriteFault>
     ensures { LineRan (F.source files.old) (F.source files.new) session.old session.new
-        (language.result_meaning spelled.entry) (W.contents w.old) (W.contents w.new) result }
+        said.entry (W.contents w.old) (W.contents w.new) result }
 {
-    match spelled {
+    match said {
         Ok(None) => Ok(AfterLine::NextLine),
         Ok(Some(command)) => act(alloc, w, session, files, command),
-        Err(CommandFault::UnknownCommand) => {
-            write_unknown_command(w)?;
-            Ok(AfterLine::NextLine)
-        }
-        Err(CommandFault::WrongArguments) => {
-            write_wrong_arguments(w)?;
-            Ok(AfterLine::NextLine)
-        }
+        Err(fault) => write_command_fault(w, fault).map(|_| AfterLine::NextLine),
     }
 }
 
@@ -152,11 +130,11 @@ fn run_lines<A: Allocator + Copy, R: Read, W: Write, F: Files>(
             Err(fault) => return Err(fault),
             Ok(LineEnd::Input) => break,
             Ok(LineEnd::Newline) => {
-                let spelled = command_of(line.as_slice());
-                if let Err(fault) = flush_before(writer, unflushed, &spelled) {
+                let said = command_of(line.as_slice());
+                if let Err(fault) = flush_before(writer, unflushed, &said) {
                     return Err(fault);
                 }
-                match run_line(alloc, writer, session, files, spelled) {
+                match run_line(alloc, writer, session, files, said) {
                     Err(_) => return Err(ToolFault::Write),
                     Ok(AfterLine::Quit) => return Ok(()),
                     Ok(AfterLine::NextLine) => {}
@@ -167,11 +145,11 @@ fn run_lines<A: Allocator + Copy, R: Read, W: Write, F: Files>(
     if line.is_empty() {
         return Ok(());
     }
-    let spelled = command_of(line.as_slice());
-    if let Err(fault) = flush_before(writer, unflushed, &spelled) {
+    let said = command_of(line.as_slice());
+    if let Err(fault) = flush_before(writer, unflushed, &said) {
         return Err(fault);
     }
-    match run_line(alloc, writer, session, files, spelled) {
+    match run_line(alloc, writer, session, files, said) {
         Err(_) => Err(ToolFault::Write),
         Ok(_) => Ok(()),
     }

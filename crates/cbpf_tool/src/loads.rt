@@ -1,10 +1,8 @@
 // Loads of programs and captures into a session.
-ghost use Rattle.std.specs.Prelude.{◌⊎◌};
+ghost use Rattle.std.specs.Prelude.{Some, Ok};
 ghost use Rattle.cbpf_code.specs.Writing.{Wrote};
-ghost use Rattle.cbpf_tool.specs.Commands.{load_capture};
-ghost use Rattle.cbpf_tool.specs.Progress.{CommandRan};
-ghost use Rattle.cbpf_tool.specs.Replies.{LoadsWords, Writes};
-ghost use Rattle.cbpf_reply.specs.Errors as texts;
+ghost use Rattle.cbpf_tool.specs.Progress.{Answered, Replied, load_fault_text};
+ghost use Rattle.cbpf_tool.specs.declared.command.Command.TheVariants.{LoadWords, LoadCapture};
 
 use crate::files::{Files, LoadFault};
 use cbpf_code::{WriteFault, check, read_words};
@@ -24,8 +22,7 @@ pub(crate) fn load_words<A: Allocator, W: Write>(
     session: &mut Session<MarkTrail, A>,
     text: &[u8],
 ) -> Result<(), WriteFault>
-    ensures { LoadsWords session.old session.new text.now (λ t. Wrote (W.contents w.old) (W.contents w.new) result t)
-        ⊎ Writes (texts.memory_text, session.old) session.new
+    ensures { Answered session.old session.new (LoadWords text.now)
         (λ t. Wrote (W.contents w.old) (W.contents w.new) result t) }
 {
     let list = match read_words(alloc, text) {
@@ -42,6 +39,17 @@ pub(crate) fn load_words<A: Allocator, W: Write>(
     }
 }
 
+/// Why a file was not loaded.
+fn write_load_fault<W: Write>(w: &mut W, fault: LoadFault) -> Result<(), WriteFault>
+    ensures { Wrote (W.contents w.old) (W.contents w.new) result (load_fault_text fault) }
+{
+    match fault {
+        LoadFault::Absent => write_absent(w),
+        LoadFault::Device => write_unreadable(w),
+        LoadFault::Memory => write_out_of_memory(w),
+    }
+}
+
 /// `load pcap`
 pub(crate) fn load_capture<A: Allocator + Copy, W: Write, F: Files>(
     alloc: A,
@@ -50,14 +58,12 @@ pub(crate) fn load_capture<A: Allocator + Copy, W: Write, F: Files>(
     files: &mut F,
     name: &str,
 ) -> Result<(), WriteFault>
-    ensures { CommandRan (F.source files.old) (F.source files.new) session.old session.new (load_capture name.now)
-        (λ t. Wrote (W.contents w.old) (W.contents w.new) result t) }
+    ensures { Replied (F.source files.old) (F.source files.new) session.old session.new
+        (Ok (Some (LoadCapture name.now))) (λ t. Wrote (W.contents w.old) (W.contents w.new) result t) }
 {
     let bytes = match files.load(alloc, name) {
         Ok(bytes) => bytes,
-        Err(LoadFault::Absent) => return write_absent(w),
-        Err(LoadFault::Device) => return write_unreadable(w),
-        Err(LoadFault::Memory) => return write_out_of_memory(w),
+        Err(fault) => return write_load_fault(w, fault),
     };
     match Capture::from_bytes(alloc, bytes) {
         Ok(capture) => {

@@ -1,5 +1,5 @@
 use Rattle.cbpf_reply.specs.Errors.{fault_text}
-use Rattle.cbpf_reply.proofs.errors.write_fault.Goals as goal
+use Rattle.cbpf_reply.proofs.errors.write_session_fault.Goals as goal
 
 pub returns-in-NoCapture : goal.returns-in-NoCapture
 unfolding fault_text

@@ -1,8 +1,5 @@
-use Rattle.std.proofs.Common.{inl}
-use Rattle.cbpf_dbg.specs.Commands.{breakpoint_when}
-use Rattle.cbpf_reply.specs.Breakpoints.{set_in}
-use Rattle.cbpf_tool.proofs.SessionReplyLemmas.{reply-ok, set-at, set-ok, set-refused}
-use Rattle.cbpf_tool.proofs.perform.set_breakpoint.Goals as goal
+use Rattle.cbpf_tool.proofs.SessionReplyLemmas.{reply-ok, own-reply, set-at, set-ok, set-refused}
+use Rattle.cbpf_tool.proofs.reply_to.set_breakpoint.Goals as goal
 
 pub write_set-requires : goal.write_set-requires
 write_set-requires g c =
@@ -11,12 +8,11 @@ write_set-requires g c =
 
 pub returns-in-Ok : goal.returns-in-Ok
 returns-in-Ok g c =
-    inl (reply-ok (λ u v. set_in v.program c.args.n c.args.when) c.args.session.now c.breakpoint_when.new.self
-    (breakpoint_when c.args.session.now c.args.n c.args.when) c.in-Ok.field-0 _ _ _
+    own-reply _ _ _ _ (reply-ok _ _ _ _ _ _ _ _
     (set-ok c.args.session.now c.args.n c.args.when c.in-Ok.field-0 c.in-Ok.ensures.reply) c.in-Ok.ensures.after
     c.write_set.ensures)
 
 pub returns-in-Err : goal.returns-in-Err
 returns-in-Err g c =
     set-refused c.args.session.now c.breakpoint_when.new.self c.args.n c.args.when c.in-Err.fault _ _ _
-    c.in-Err.ensures.reply c.in-Err.ensures.memory c.in-Err.ensures.refused c.write_fault.ensures
+    c.in-Err.ensures.reply c.in-Err.ensures.memory c.in-Err.ensures.refused c.write_session_fault.ensures

@@ -1,0 +1,253 @@
+// A command of the session is done, and its reply written.
+ghost use Rattle.cbpf_code.specs.Writing.{Wrote};
+ghost use Rattle.cbpf_reply.specs.Breakpoints.{set_in};
+ghost use Rattle.cbpf_tool.specs.Replies.{Replies, Writes};
+ghost use Rattle.cbpf_tool.specs.SessionReplies as spec;
+ghost use Rattle.cbpf_tool.specs.declared.command.SessionCommand.TheVariants as command;
+
+use crate::command::SessionCommand;
+use crate::session_replies::{write_breakpoints, write_run, write_stops};
+use cbpf_code::{Ext, WriteFault};
+use cbpf_dbg::{MarkTrail, Meter, Place, Session, When};
+use cbpf_reply::{
+    write_breakpoint, write_c_dump, write_no_program, write_place, write_session_fault,
+    write_value, write_went_to,
+};
+use cbpf_text::write_listing;
+use std::alloc::Allocator;
+use std::io::Write;
+
+/// Does a command of the session, and writes its reply.
+#[tactic(auto, using(crate::proofs::SessionReplyLemmas::replies))]
+pub(crate) fn reply_to<A: Allocator + Copy, W: Write>(
+    w: &mut W,
+    session: &mut Session<MarkTrail, A>,
+    command: SessionCommand,
+) -> Result<(), WriteFault>
+    ensures { Replies session.old session.new command (λ t. Wrote (W.contents w.old) (W.contents w.new) result t) }
+{
+    match command {
+        SessionCommand::Run(limit) => run(w, session, limit),
+        SessionCommand::Disassemble => disassemble(w, session),
+        SessionCommand::Dump => dump(w, session),
+        SessionCommand::Breakpoint(n, when) => set_breakpoint(w, session, n, when),
+        SessionCommand::Breakpoints => write_breakpoints(w, session),
+        SessionCommand::ResetBreakpoints => reset_breakpoints(w, session),
+        SessionCommand::Delete(n) => delete(w, session, n),
+        SessionCommand::Step(n) => step(w, session, n),
+        SessionCommand::Select(n) => select(w, session, n),
+        SessionCommand::Mark => mark(w, session),
+        SessionCommand::Resume(place) => resume(w, session, place),
+        SessionCommand::Stops => stops(w, session),
+        SessionCommand::Value(e, n) => set_value(w, session, e, n),
+    }
+}
+
+/// `run`
+#[tactic(auto, using(crate::proofs::SessionReplyLemmas::replies))]
+fn run<A: Allocator, W: Write>(
+    w: &mut W,
+    session: &mut Session<MarkTrail, A>,
+    limit: Option<u64>,
+) -> Result<(), WriteFault>
+    ensures { Writes (spec.reply_to (command.Run limit) session.old) session.new
+        (λ t. Wrote (W.contents w.old) (W.contents w.new) result t) }
+{
+    let mut meter = Meter::new();
+    match session.run(&mut meter, limit) {
+        Ok(reply) => write_run(w, session, reply),
+        Err(fault) => write_session_fault(w, fault),
+    }
+}
+
+/// `step`
+#[tactic(auto, using(crate::proofs::SessionReplyLemmas::replies))]
+fn step<A: Allocator, W: Write>(
+    w: &mut W,
+    session: &mut Session<MarkTrail, A>,
+    n: i64,
+) -> Result<(), WriteFault>
+    ensures { Writes (spec.reply_to (command.Step n) session.old) session.new
+        (λ t. Wrote (W.contents w.old) (W.contents w.new) result t) }
+{
+    let mut meter = Meter::new();
+    match session.step(&mut meter, n) {
+        Ok(reply) => write_run(w, session, reply),
+        Err(fault) => write_session_fault(w, fault),
+    }
+}
+
+/// `select`
+#[tactic(auto, using(crate::proofs::SessionReplyLemmas::replies))]
+fn select<A: Allocator, W: Write>(
+    w: &mut W,
+    session: &mut Session<MarkTrail, A>,
+    n: u64,
+) -> Result<(), WriteFault>
+    ensures { Writes (spec.reply_to (command.Select n) session.old) session.new
+        (λ t. Wrote (W.contents w.old) (W.contents w.new) result t) }
+{
+    match session.select(n) {
+        Ok(()) => write_went_to(w, Place { packet: n, step: 0 }),
+        Err(fault) => write_session_fault(w, fault),
+    }
+}
+
+/// `resume`
+#[tactic(auto, using(crate::proofs::SessionReplyLemmas::replies))]
+fn resume<A: Allocator, W: Write>(
+    w: &mut W,
+    session: &mut Session<MarkTrail, A>,
+    place: Place,
+) -> Result<(), WriteFault>
+    ensures { Writes (spec.reply_to (command.Resume place) session.old) session.new
+        (λ t. Wrote (W.contents w.old) (W.contents w.new) result t) }
+{
+    let mut meter = Meter::new();
+    match session.resume(&mut meter, place) {
+        Ok(()) => write_went_to(w, place),
+        Err(fault) => write_session_fault(w, fault),
+    }
+}
+
+/// Where the breakpoint at instruction `n` was set, and when it stops.
+fn write_set<A: Allocator, W: Write>(
+    w: &mut W,
+    session: &Session<MarkTrail, A>,
+    n: u64,
+    when: When,
+) -> Result<(), WriteFault>
+    requires { spec.IsInstruction session.now.program n }
+    ensures { Wrote (W.contents w.old) (W.contents w.new) result (set_in session.now.program n when) }
+{
+    match session.program() {
+        Some(program) => {
+            let _few = program.len();
+            write_breakpoint(w, program, n as u32, when)
+        }
+        None => unreachable!(),
+    }
+}
+
+/// `breakpoint n`, also with a condition
+#[tactic(auto, using(crate::proofs::SessionReplyLemmas::replies))]
+fn set_breakpoint<A: Allocator + Copy, W: Write>(
+    w: &mut W,
+    session: &mut Session<MarkTrail, A>,
+    n: u64,
+    when: When,
+) -> Result<(), WriteFault>
+    ensures { Replies session.old session.new (command.Breakpoint n when)
+        (λ t. Wrote (W.contents w.old) (W.contents w.new) result t) }
+{
+    match session.breakpoint_when(n, when) {
+        Ok(()) => write_set(w, session, n, when),
+        Err(fault) => write_session_fault(w, fault),
+    }
+}
+
+/// `breakpoint reset`
+#[tactic(auto, using(crate::proofs::SessionReplyLemmas::replies))]
+fn reset_breakpoints<A: Allocator, W: Write>(
+    w: &mut W,
+    session: &mut Session<MarkTrail, A>,
+) -> Result<(), WriteFault>
+    ensures { Writes (spec.reply_to command.ResetBreakpoints session.old) session.new
+        (λ t. Wrote (W.contents w.old) (W.contents w.new) result t) }
+{
+    session.reset_breakpoints();
+    write_breakpoints(w, session)
+}
+
+/// `delete`
+#[tactic(auto, using(crate::proofs::SessionReplyLemmas::replies))]
+fn delete<A: Allocator, W: Write>(
+    w: &mut W,
+    session: &mut Session<MarkTrail, A>,
+    n: u64,
+) -> Result<(), WriteFault>
+    ensures { Writes (spec.reply_to (command.Delete n) session.old) session.new
+        (λ t. Wrote (W.contents w.old) (W.contents w.new) result t) }
+{
+    match session.delete(n) {
+        Ok(_) => write_breakpoints(w, session),
+        Err(fault) => write_session_fault(w, fault),
+    }
+}
+
+/// `value`
+#[tactic(auto, using(crate::proofs::SessionReplyLemmas::replies))]
+fn set_value<A: Allocator, W: Write>(
+    w: &mut W,
+    session: &mut Session<MarkTrail, A>,
+    e: Ext,
+    n: u32,
+) -> Result<(), WriteFault>
+    ensures { Writes (spec.reply_to (command.Value e n) session.old) session.new
+        (λ t. Wrote (W.contents w.old) (W.contents w.new) result t) }
+{
+    match session.set_value(e, n) {
+        Ok(()) => write_value(w, e, n),
+        Err(fault) => write_session_fault(w, fault),
+    }
+}
+
+/// `mark`
+#[tactic(auto, using(crate::proofs::SessionReplyLemmas::replies))]
+fn mark<A: Allocator, W: Write>(
+    w: &mut W,
+    session: &Session<MarkTrail, A>,
+) -> Result<(), WriteFault>
+    ensures { Writes (spec.reply_to command.Mark session.now) session.now
+        (λ t. Wrote (W.contents w.old) (W.contents w.new) result t) }
+{
+    match session.mark() {
+        Ok(place) => write_place(w, place),
+        Err(fault) => write_session_fault(w, fault),
+    }
+}
+
+/// `stops`
+#[tactic(auto, using(crate::proofs::SessionReplyLemmas::replies))]
+fn stops<A: Allocator, W: Write>(
+    w: &mut W,
+    session: &Session<MarkTrail, A>,
+) -> Result<(), WriteFault>
+    ensures { Writes (spec.reply_to command.Stops session.now) session.now
+        (λ t. Wrote (W.contents w.old) (W.contents w.new) result t) }
+{
+    match session.stops() {
+        Ok(stops) => write_stops(w, stops),
+        Err(fault) => write_session_fault(w, fault),
+    }
+}
+
+/// `disassemble`
+#[tactic(auto, using(crate::proofs::SessionReplyLemmas::replies), unfolding(crate::specs::SessionReplies::listing_text))]
+fn disassemble<A: Allocator, W: Write>(
+    w: &mut W,
+    session: &Session<MarkTrail, A>,
+) -> Result<(), WriteFault>
+    ensures { Writes (spec.reply_to command.Disassemble session.now) session.now
+        (λ t. Wrote (W.contents w.old) (W.contents w.new) result t) }
+{
+    match session.program() {
+        Some(program) => write_listing(w, program),
+        None => write_no_program(w),
+    }
+}
+
+/// `dump`
+#[tactic(auto, using(crate::proofs::SessionReplyLemmas::replies), unfolding(cbpf_reply::specs::CDump::c_dump_text))]
+fn dump<A: Allocator, W: Write>(
+    w: &mut W,
+    session: &Session<MarkTrail, A>,
+) -> Result<(), WriteFault>
+    ensures { Writes (spec.reply_to command.Dump session.now) session.now
+        (λ t. Wrote (W.contents w.old) (W.contents w.new) result t) }
+{
+    match session.program() {
+        Some(program) => write_c_dump(w, program.as_slice()),
+        None => write_no_program(w),
+    }
+}
