@@ -101,8 +101,3 @@ replied f g m n said old new (Ok x) (Ok NextLine) e h = h
 replied f g m n said old new (Ok x) (Ok Quit) e h = absurd (cc)
 replied f g m n said old new (Ok x) (Err b) e h = absurd e
 replied f g m n said old new (Err x) a e h = rw e h
-
-pub line-said : (f g : Source) (m n : View) (said said' : Result (Option Command) CommandFault)
-    (old new : Option (List ℕ)) (r : Result AfterLine WriteFault)
-    → said ≡ said' → LineRan f g m n said old new r → LineRan f g m n said' old new r
-line-said f g m n said said' old new r e h = subst (λ s. LineRan f g m n s old new r) e h

@@ -1,12 +1,9 @@
-use Rattle.std.proofs.Common.{◌≡◌, ◌∙◌, [], length, Ok, Err, refl, arith, sym, subst}
+use Rattle.std.proofs.Common.{◌≡◌, ◌∙◌, [], length, Ok, refl, arith, sym, subst}
 use Rattle.std.proofs.KnownBytes.{Keeps-trans}
 use Rattle.std.proofs.lemmas.Grind.{common_steps}
 use Rattle.cbpf_dbg.specs.View.{View}
 use Rattle.cbpf_tool.specs.Reading.{pending_in}
-use Rattle.cbpf_tool.specs.Progress.{Progress}
-use Rattle.cbpf_tool.specs.declared.debugger.AfterLine.TheVariants.{NextLine, Quit}
-use Rattle.cbpf_tool.specs.Commands.{command_of}
-use Rattle.cbpf_tool.proofs.ReplyLemmas.{line-said}
+use Rattle.cbpf_tool.specs.Progress.{Progress, LineRan}
 use Rattle.cbpf_tool.proofs.ScriptLemmas.{progress-start, line-faulted, write-faulted, quit-done, line-done, end-done}
 use Rattle.cbpf_tool.proofs.ScriptLemmas.{either-done, next-whole, next-last, unflushed}
 use Rattle.cbpf_tool.proofs.debugger.run_lines.Goals as goal
@@ -42,10 +39,7 @@ returns-in-Err-run_line g c = λ script e is_known.
           (Keeps-trans _ _ _ c.next_line.ensures.flushed c.flush_before.ensures.kept)
           (g.W.Write.contents c.run_line.new.w) c.run_line.new.session (g.F.Files.source c.run_line.new.files) next
           is_known (g.R.Read.remaining c.next_line.new.reader) c.in-Err-run_line.field-0
-          (line-said (g.F.Files.source c.script.files) (g.F.Files.source c.run_line.new.files) c.script.session
-          c.run_line.new.session _ (command_of c.as_slice.result.now) (g.W.Write.contents c.flush_before.new.w)
-          (g.W.Write.contents c.run_line.new.w) (Err c.in-Err-run_line.field-0) c.command_of-said.ensures
-          (c.in-Err-run_line.ensures {u = tt}));
+          (rw (← c.command_of-said.ensures) (c.in-Err-run_line.ensures {u = tt}));
     }
 
 pub returns-in-Ok-Quit : goal.returns-in-Ok-Quit
@@ -59,10 +53,7 @@ returns-in-Ok-Quit g c = λ script e is_known.
           (Keeps-trans _ _ _ c.next_line.ensures.flushed c.flush_before.ensures.kept)
           (g.W.Write.contents c.run_line.new.w) c.run_line.new.session (g.F.Files.source c.run_line.new.files) next
           is_known (g.R.Read.remaining c.next_line.new.reader)
-          (line-said (g.F.Files.source c.script.files) (g.F.Files.source c.run_line.new.files) c.script.session
-          c.run_line.new.session _ (command_of c.as_slice.result.now) (g.W.Write.contents c.flush_before.new.w)
-          (g.W.Write.contents c.run_line.new.w) (Ok Quit) c.command_of-said.ensures
-          (rw c.in-Ok-Quit.field-0-is at (c.in-Ok-Quit.ensures {u = tt})));
+          (rw (← c.command_of-said.ensures) (rw c.in-Ok-Quit.field-0-is at (c.in-Ok-Quit.ensures {u = tt})));
     }
 
 pub script-preserved : goal.script-preserved
@@ -75,10 +66,7 @@ script-preserved g c = λ script e is_known.
     line-done p (g.W.Write.contents c.flush_before.new.w)
     (Keeps-trans _ _ _ c.next_line.ensures.flushed c.flush_before.ensures.kept)
     (g.W.Write.contents c.run_line.new.w) c.run_line.new.session (g.F.Files.source c.run_line.new.files) next is_known
-    q.0 q.1 (line-said (g.F.Files.source c.script.files) (g.F.Files.source c.run_line.new.files) c.script.session
-    c.run_line.new.session _ (command_of c.as_slice.result.now) (g.W.Write.contents c.flush_before.new.w)
-    (g.W.Write.contents c.run_line.new.w) (Ok NextLine) c.command_of-said.ensures
-    (rw c.in-Ok-NextLine.field-0-is at (c.in-Ok-NextLine.ensures {u = tt})))
+    q.0 q.1 (rw (← c.command_of-said.ensures) (rw c.in-Ok-NextLine.field-0-is at (c.in-Ok-NextLine.ensures {u = tt})))
 
 pub returns-in-Err-flush_before : goal.returns-in-Err-flush_before
 returns-in-Err-flush_before g c = λ script e is_known.
@@ -124,10 +112,7 @@ returns-in-Err-run_line-2 g c = λ script e is_known.
           (Keeps-trans _ _ _ c.next_line.ensures.flushed c.flush_before-2.ensures.kept)
           (g.W.Write.contents c.run_line-2.new.w) c.run_line-2.new.session (g.F.Files.source c.run_line-2.new.files)
           next is_known (g.R.Read.remaining c.next_line.new.reader) c.in-Err-run_line-2.field-0
-          (line-said (g.F.Files.source c.script.files) (g.F.Files.source c.run_line-2.new.files) c.script.session
-          c.run_line-2.new.session _ (command_of c.as_slice-2.result.now) (g.W.Write.contents c.flush_before-2.new.w)
-          (g.W.Write.contents c.run_line-2.new.w) (Err c.in-Err-run_line-2.field-0) c.command_of-said-2.ensures
-          (c.in-Err-run_line-2.ensures {u = tt}));
+          (rw (← c.command_of-said-2.ensures) (c.in-Err-run_line-2.ensures {u = tt}));
     }
 
 pub returns-in-Ok : goal.returns-in-Ok
@@ -142,8 +127,8 @@ returns-in-Ok g c = λ script e is_known.
           (Keeps-trans _ _ _ c.next_line.ensures.flushed c.flush_before-2.ensures.kept)
           (g.W.Write.contents c.run_line-2.new.w) c.run_line-2.new.session (g.F.Files.source c.run_line-2.new.files)
           next is_known (g.R.Read.remaining c.next_line.new.reader) t.2 refl c.in-Ok.field-0
-          (line-said (g.F.Files.source c.script.files) (g.F.Files.source c.run_line-2.new.files) c.script.session
-          c.run_line-2.new.session _ (command_of c.as_slice-2.result.now) (g.W.Write.contents c.flush_before-2.new.w)
-          (g.W.Write.contents c.run_line-2.new.w) (Ok c.in-Ok.field-0) c.command_of-said-2.ensures
+          (subst (λ s. LineRan (g.F.Files.source c.script.files) (g.F.Files.source c.run_line-2.new.files)
+          c.script.session c.run_line-2.new.session s (g.W.Write.contents c.flush_before-2.new.w)
+          (g.W.Write.contents c.run_line-2.new.w) (Ok c.in-Ok.field-0)) c.command_of-said-2.ensures
           (c.in-Ok.ensures {u = tt}));
     }
