@@ -1,5 +1,5 @@
 -- Words that are no name, and arguments that are known texts.
-use Rattle.std.proofs.Common.{◌≡◌, ℕ, List, [], ◌∷◌, length, Option, Some, None, Err, true, false, Bool, ap, refl}
+use Rattle.std.proofs.Common.{◌≡◌, ℕ, List, [], ◌∷◌, length, Some, None, Err, true, false, Bool, refl}
 use Rattle.std.proofs.Common.{sym, subst, arith}
 use Rattle.std.specs.Prelude.{bytes_eq, codes, nat_lt}
 use Rattle.std.specs.List.{list_all}

@@ -1,7 +1,7 @@
 -- From what a call answered to the reply of its line.
-use Rattle.std.proofs.Common.{◌≡◌, refl, sym, subst, ℕ, List, Option, Some, None, Result, Ok}
+use Rattle.std.proofs.Common.{◌≡◌, refl, sym, subst, ℕ, List, Option, Some, Result, Ok}
 use Rattle.std.proofs.Common.{Err, length}
-use Rattle.cbpf_code.specs.Writing.{AppendedPart, Wrote}
+use Rattle.cbpf_code.specs.Writing.{Wrote}
 use Rattle.cbpf_code.specs.WordText.{Spells, Refused}
 use Rattle.cbpf_code.specs.Sound.{IsSound}
 use Rattle.cbpf_code.specs.Faults.{FirstFault}
@@ -11,7 +11,7 @@ use Rattle.cbpf_code.specs.declared.words.WordFault.TheVariants as word
 use Rattle.cbpf_code.specs.declared.checker.CheckFault.{CheckFault}
 use Rattle.cbpf_dbg.specs.View.{View}
 use Rattle.cbpf_dbg.specs.Commands.{with_program_loaded, with_capture_loaded}
-use Rattle.cbpf_tool.specs.FileMap.{FileMap, Source}
+use Rattle.cbpf_tool.specs.FileMap.{Source}
 use Rattle.cbpf_tool.specs.Loads.{Loads}
 use Rattle.cbpf_tool.specs.Progress.{Kept, Replied, Answered, LineRan, load_fault_text}
 use Rattle.cbpf_tool.specs.declared.debugger.AfterLine.{AfterLine}
@@ -20,18 +20,17 @@ use Rattle.cbpf_code.specs.declared.writing.WriteFault.{WriteFault}
 use Rattle.cbpf_tool.specs.declared.command.CommandFault.{CommandFault}
 use Rattle.std.specs.Result.{IsOkAnd, MatchResult}
 use Rattle.cbpf_tool.specs.declared.debugger.AfterLine.TheVariants.{NextLine, Quit}
-use Rattle.cbpf_reply.specs.Errors.{word_fault_text, check_fault_text, capture_fault_text, absent_text, device_text}
+use Rattle.cbpf_reply.specs.Errors.{word_fault_text, check_fault_text, capture_fault_text}
 use Rattle.cbpf_reply.specs.Errors.{memory_text}
 use Rattle.cbpf_reply.specs.Loads.{program_text, capture_text}
-use Rattle.cbpf_tool.specs.Replies.{Writes, LoadsWords, unreadable, unsound, accepted, no_capture, a_capture, Failed}
-use Rattle.cbpf_tool.specs.Replies.{LineReplies, own, unheld, unread}
+use Rattle.cbpf_tool.specs.Replies.{Writes, unreadable, unsound, accepted, no_capture, a_capture}
+use Rattle.cbpf_tool.specs.Replies.{own, unheld, unread}
 use Rattle.cbpf_tool.specs.declared.files.LoadFault.{LoadFault}
 use Rattle.cbpf_tool.specs.declared.command.Command.{Command}
 use Rattle.cbpf_tool.specs.declared.command.Command.TheVariants.{LoadWords, LoadCapture}
 use Rattle.pcap_classic.specs.Savefile.{Savefile, IsSavefile, IsRefusal}
 use Rattle.pcap_classic.specs.declared.fault.CaptureFault.{CaptureFault}
 use Rattle.pcap_classic.specs.declared.fault.CaptureFault.TheVariants as capture_fault
-use Rattle.std.specs.FinMap as map
 
 -- a text whose reply changes nothing
 pub writes-same : (text : List ℕ) (m : View) (Written : List ℕ → Type 0) → Written text → Writes (text, m) m Written

@@ -16,6 +16,7 @@ use crate::flushing::flush;
 use crate::line_reader::{LineEnd, LineReader};
 use crate::loads::{load_capture, load_words};
 use crate::reply_to::reply_to;
+use crate::session_replies::ScriptSession;
 use cbpf_code::WriteFault;
 use cbpf_dbg::{MarkTrail, Session};
 use cbpf_reply::{write_unknown_command, write_wrong_arguments};
@@ -33,7 +34,7 @@ pub enum AfterLine {
 fn act<A: Allocator + Copy, W: Write, F: Files>(
     alloc: A,
     w: &mut W,
-    session: &mut Session<MarkTrail, A>,
+    session: &mut ScriptSession<A>,
     files: &mut F,
     command: Command<'_>,
 ) -> Result<AfterLine, WriteFault>
@@ -93,7 +94,7 @@ fn write_command_fault<W: Write>(w: &mut W, fault: CommandFault) -> Result<(), W
 fn run_line<A: Allocator + Copy, W: Write, F: Files>(
     alloc: A,
     w: &mut W,
-    session: &mut Session<MarkTrail, A>,
+    session: &mut ScriptSession<A>,
     files: &mut F,
     said: Said<'_>,
 ) -> Result<AfterLine, WriteFault>
@@ -114,7 +115,7 @@ fn run_lines<A: Allocator + Copy, R: Read, W: Write, F: Files>(
     reader: &mut R,
     writer: &mut W,
     files: &mut F,
-    session: &mut Session<MarkTrail, A>,
+    session: &mut ScriptSession<A>,
     lines: &mut LineReader,
     line: &mut Vec<u8, A>,
     unflushed: &mut bool,

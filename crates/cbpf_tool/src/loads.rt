@@ -5,8 +5,8 @@ ghost use Rattle.cbpf_tool.specs.Progress.{Answered, Replied, load_fault_text};
 ghost use Rattle.cbpf_tool.specs.declared.command.Command.TheVariants.{LoadWords, LoadCapture};
 
 use crate::files::{Files, LoadFault};
+use crate::session_replies::ScriptSession;
 use cbpf_code::{WriteFault, check, read_words};
-use cbpf_dbg::{MarkTrail, Session};
 use cbpf_reply::{
     write_absent, write_capture, write_capture_fault, write_check_fault, write_out_of_memory,
     write_program, write_unreadable, write_word_fault,
@@ -19,7 +19,7 @@ use std::io::Write;
 pub(crate) fn load_words<A: Allocator, W: Write>(
     alloc: A,
     w: &mut W,
-    session: &mut Session<MarkTrail, A>,
+    session: &mut ScriptSession<A>,
     text: &[u8],
 ) -> Result<(), WriteFault>
     ensures { Answered session.old session.new (LoadWords text.now)
@@ -54,7 +54,7 @@ fn write_load_fault<W: Write>(w: &mut W, fault: LoadFault) -> Result<(), WriteFa
 pub(crate) fn load_capture<A: Allocator + Copy, W: Write, F: Files>(
     alloc: A,
     w: &mut W,
-    session: &mut Session<MarkTrail, A>,
+    session: &mut ScriptSession<A>,
     files: &mut F,
     name: &str,
 ) -> Result<(), WriteFault>

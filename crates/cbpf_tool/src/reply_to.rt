@@ -6,9 +6,9 @@ ghost use Rattle.cbpf_tool.specs.SessionReplies as spec;
 ghost use Rattle.cbpf_tool.specs.declared.command.SessionCommand.TheVariants as command;
 
 use crate::command::SessionCommand;
-use crate::session_replies::{write_breakpoints, write_run, write_stops};
+use crate::session_replies::{ScriptSession, write_breakpoints, write_run, write_stops};
 use cbpf_code::{Ext, WriteFault};
-use cbpf_dbg::{MarkTrail, Meter, Place, Session, When};
+use cbpf_dbg::{Meter, Place, When};
 use cbpf_reply::{
     write_breakpoint, write_c_dump, write_no_program, write_place, write_session_fault,
     write_value, write_went_to,
@@ -21,7 +21,7 @@ use std::io::Write;
 #[tactic(auto, using(crate::proofs::SessionReplyLemmas::replies))]
 pub(crate) fn reply_to<A: Allocator + Copy, W: Write>(
     w: &mut W,
-    session: &mut Session<MarkTrail, A>,
+    session: &mut ScriptSession<A>,
     command: SessionCommand,
 ) -> Result<(), WriteFault>
     ensures { Replies session.old session.new command (λ t. Wrote (W.contents w.old) (W.contents w.new) result t) }
@@ -47,7 +47,7 @@ pub(crate) fn reply_to<A: Allocator + Copy, W: Write>(
 #[tactic(auto, using(crate::proofs::SessionReplyLemmas::replies))]
 fn run<A: Allocator, W: Write>(
     w: &mut W,
-    session: &mut Session<MarkTrail, A>,
+    session: &mut ScriptSession<A>,
     limit: Option<u64>,
 ) -> Result<(), WriteFault>
     ensures { Writes (spec.reply_to (command.Run limit) session.old) session.new
@@ -64,7 +64,7 @@ fn run<A: Allocator, W: Write>(
 #[tactic(auto, using(crate::proofs::SessionReplyLemmas::replies))]
 fn step<A: Allocator, W: Write>(
     w: &mut W,
-    session: &mut Session<MarkTrail, A>,
+    session: &mut ScriptSession<A>,
     n: i64,
 ) -> Result<(), WriteFault>
     ensures { Writes (spec.reply_to (command.Step n) session.old) session.new
@@ -81,7 +81,7 @@ fn step<A: Allocator, W: Write>(
 #[tactic(auto, using(crate::proofs::SessionReplyLemmas::replies))]
 fn select<A: Allocator, W: Write>(
     w: &mut W,
-    session: &mut Session<MarkTrail, A>,
+    session: &mut ScriptSession<A>,
     n: u64,
 ) -> Result<(), WriteFault>
     ensures { Writes (spec.reply_to (command.Select n) session.old) session.new
@@ -97,7 +97,7 @@ fn select<A: Allocator, W: Write>(
 #[tactic(auto, using(crate::proofs::SessionReplyLemmas::replies))]
 fn resume<A: Allocator, W: Write>(
     w: &mut W,
-    session: &mut Session<MarkTrail, A>,
+    session: &mut ScriptSession<A>,
     place: Place,
 ) -> Result<(), WriteFault>
     ensures { Writes (spec.reply_to (command.Resume place) session.old) session.new
@@ -113,7 +113,7 @@ fn resume<A: Allocator, W: Write>(
 /// Where the breakpoint at instruction `n` was set, and when it stops.
 fn write_set<A: Allocator, W: Write>(
     w: &mut W,
-    session: &Session<MarkTrail, A>,
+    session: &ScriptSession<A>,
     n: u64,
     when: When,
 ) -> Result<(), WriteFault>
@@ -133,7 +133,7 @@ fn write_set<A: Allocator, W: Write>(
 #[tactic(auto, using(crate::proofs::SessionReplyLemmas::replies))]
 fn set_breakpoint<A: Allocator + Copy, W: Write>(
     w: &mut W,
-    session: &mut Session<MarkTrail, A>,
+    session: &mut ScriptSession<A>,
     n: u64,
     when: When,
 ) -> Result<(), WriteFault>
@@ -150,7 +150,7 @@ fn set_breakpoint<A: Allocator + Copy, W: Write>(
 #[tactic(auto, using(crate::proofs::SessionReplyLemmas::replies))]
 fn reset_breakpoints<A: Allocator, W: Write>(
     w: &mut W,
-    session: &mut Session<MarkTrail, A>,
+    session: &mut ScriptSession<A>,
 ) -> Result<(), WriteFault>
     ensures { Writes (spec.reply_to command.ResetBreakpoints session.old) session.new
         (λ t. Wrote (W.contents w.old) (W.contents w.new) result t) }
@@ -163,7 +163,7 @@ fn reset_breakpoints<A: Allocator, W: Write>(
 #[tactic(auto, using(crate::proofs::SessionReplyLemmas::replies))]
 fn delete<A: Allocator, W: Write>(
     w: &mut W,
-    session: &mut Session<MarkTrail, A>,
+    session: &mut ScriptSession<A>,
     n: u64,
 ) -> Result<(), WriteFault>
     ensures { Writes (spec.reply_to (command.Delete n) session.old) session.new
@@ -179,7 +179,7 @@ fn delete<A: Allocator, W: Write>(
 #[tactic(auto, using(crate::proofs::SessionReplyLemmas::replies))]
 fn set_value<A: Allocator, W: Write>(
     w: &mut W,
-    session: &mut Session<MarkTrail, A>,
+    session: &mut ScriptSession<A>,
     e: Ext,
     n: u32,
 ) -> Result<(), WriteFault>
@@ -194,10 +194,7 @@ fn set_value<A: Allocator, W: Write>(
 
 /// `mark`
 #[tactic(auto, using(crate::proofs::SessionReplyLemmas::replies))]
-fn mark<A: Allocator, W: Write>(
-    w: &mut W,
-    session: &Session<MarkTrail, A>,
-) -> Result<(), WriteFault>
+fn mark<A: Allocator, W: Write>(w: &mut W, session: &ScriptSession<A>) -> Result<(), WriteFault>
     ensures { Writes (spec.reply_to command.Mark session.now) session.now
         (λ t. Wrote (W.contents w.old) (W.contents w.new) result t) }
 {
@@ -209,10 +206,7 @@ fn mark<A: Allocator, W: Write>(
 
 /// `stops`
 #[tactic(auto, using(crate::proofs::SessionReplyLemmas::replies))]
-fn stops<A: Allocator, W: Write>(
-    w: &mut W,
-    session: &Session<MarkTrail, A>,
-) -> Result<(), WriteFault>
+fn stops<A: Allocator, W: Write>(w: &mut W, session: &ScriptSession<A>) -> Result<(), WriteFault>
     ensures { Writes (spec.reply_to command.Stops session.now) session.now
         (λ t. Wrote (W.contents w.old) (W.contents w.new) result t) }
 {
@@ -226,7 +220,7 @@ fn stops<A: Allocator, W: Write>(
 #[tactic(auto, using(crate::proofs::SessionReplyLemmas::replies), unfolding(crate::specs::SessionReplies::listing_text))]
 fn disassemble<A: Allocator, W: Write>(
     w: &mut W,
-    session: &Session<MarkTrail, A>,
+    session: &ScriptSession<A>,
 ) -> Result<(), WriteFault>
     ensures { Writes (spec.reply_to command.Disassemble session.now) session.now
         (λ t. Wrote (W.contents w.old) (W.contents w.new) result t) }
@@ -239,10 +233,7 @@ fn disassemble<A: Allocator, W: Write>(
 
 /// `dump`
 #[tactic(auto, using(crate::proofs::SessionReplyLemmas::replies), unfolding(cbpf_reply::specs::CDump::c_dump_text))]
-fn dump<A: Allocator, W: Write>(
-    w: &mut W,
-    session: &Session<MarkTrail, A>,
-) -> Result<(), WriteFault>
+fn dump<A: Allocator, W: Write>(w: &mut W, session: &ScriptSession<A>) -> Result<(), WriteFault>
     ensures { Writes (spec.reply_to command.Dump session.now) session.now
         (λ t. Wrote (W.contents w.old) (W.contents w.new) result t) }
 {

@@ -9,13 +9,16 @@ ghost use Rattle.cbpf_reply.specs.Breakpoints.{listed_text, list_text, breakpoin
 ghost use Rattle.cbpf_reply.specs.Stops.{stop_line, stops_text};
 
 use cbpf_code::WriteFault;
-use cbpf_dbg::{RunReply, Session, Stops, Trail};
+use cbpf_dbg::{MarkTrail, RunReply, Session, Stops};
 use cbpf_reply::{
     write_finished, write_limit, write_list_end, write_list_head, write_listed, write_stop_line,
     write_total,
 };
 use std::alloc::Allocator;
 use std::io::Write;
+
+/// The session of a script.
+pub(crate) type ScriptSession<A> = Session<MarkTrail, A>;
 
 /// Writes the answer of a run or a step of this session: the dump of its stop, or the counts.
 ///
@@ -25,9 +28,9 @@ use std::io::Write;
 ///
 /// The writer failed, or took nothing of a text that isn't empty: a beginning of the reply was written.
 #[tactic(auto, unfolding(crate::specs::RunText::run_text))]
-pub(crate) fn write_run<W: Write, T: Trail, A: Allocator>(
+pub(crate) fn write_run<W: Write, A: Allocator>(
     w: &mut W,
-    session: &Session<T, A>,
+    session: &ScriptSession<A>,
     reply: RunReply,
 ) -> Result<(), WriteFault>
     requires { Shows session.now reply }
@@ -41,9 +44,9 @@ pub(crate) fn write_run<W: Write, T: Trail, A: Allocator>(
 }
 
 /// The breakpoints of a session.
-fn write_all_listed<W: Write, T: Trail, A: Allocator>(
+fn write_all_listed<W: Write, A: Allocator>(
     w: &mut W,
-    session: &Session<T, A>,
+    session: &ScriptSession<A>,
 ) -> Result<(), WriteFault>
     ensures { Wrote (W.contents w.old) (W.contents w.new) result (flat_map listed_text session.now.breakpoints) }
 {
@@ -57,9 +60,9 @@ fn write_all_listed<W: Write, T: Trail, A: Allocator>(
 }
 
 #[tactic(auto, using(cbpf_code::proofs::WrittenLemmas::pairs))]
-fn write_list<W: Write, T: Trail, A: Allocator>(
+fn write_list<W: Write, A: Allocator>(
     w: &mut W,
-    session: &Session<T, A>,
+    session: &ScriptSession<A>,
 ) -> Result<(), WriteFault>
     ensures { Wrote (W.contents w.old) (W.contents w.new) result (list_text session.now.breakpoints) }
 {
@@ -73,9 +76,9 @@ fn write_list<W: Write, T: Trail, A: Allocator>(
 ///
 /// The writer failed, or took nothing of a text that isn't empty: a beginning of the line was written.
 #[tactic(auto, using(cbpf_code::proofs::WrittenLemmas::pairs), unfolding(cbpf_reply::specs::Breakpoints::breakpoints_text))]
-pub(crate) fn write_breakpoints<W: Write, T: Trail, A: Allocator>(
+pub(crate) fn write_breakpoints<W: Write, A: Allocator>(
     w: &mut W,
-    session: &Session<T, A>,
+    session: &ScriptSession<A>,
 ) -> Result<(), WriteFault>
     ensures { Wrote (W.contents w.old) (W.contents w.new) result (breakpoints_text session.now.breakpoints) }
 {
