@@ -1,4 +1,6 @@
 // A command of the session is done, and its reply written.
+#![tactic(auto, using(crate::proofs::SessionReplyLemmas::replies))]
+
 ghost use Rattle.cbpf_code.specs.Writing.{Wrote};
 ghost use Rattle.cbpf_reply.specs.Breakpoints.{set_in};
 ghost use Rattle.cbpf_tool.specs.Replies.{Replies, Writes};
@@ -18,7 +20,6 @@ use std::alloc::Allocator;
 use std::io::Write;
 
 /// Does a command of the session, and writes its reply.
-#[tactic(auto, using(crate::proofs::SessionReplyLemmas::replies))]
 pub(crate) fn reply_to<A: Allocator + Copy, W: Write>(
     w: &mut W,
     session: &mut ScriptSession<A>,
@@ -44,7 +45,6 @@ pub(crate) fn reply_to<A: Allocator + Copy, W: Write>(
 }
 
 /// `run`
-#[tactic(auto, using(crate::proofs::SessionReplyLemmas::replies))]
 fn run<A: Allocator, W: Write>(
     w: &mut W,
     session: &mut ScriptSession<A>,
@@ -61,7 +61,6 @@ fn run<A: Allocator, W: Write>(
 }
 
 /// `step`
-#[tactic(auto, using(crate::proofs::SessionReplyLemmas::replies))]
 fn step<A: Allocator, W: Write>(
     w: &mut W,
     session: &mut ScriptSession<A>,
@@ -78,7 +77,6 @@ fn step<A: Allocator, W: Write>(
 }
 
 /// `select`
-#[tactic(auto, using(crate::proofs::SessionReplyLemmas::replies))]
 fn select<A: Allocator, W: Write>(
     w: &mut W,
     session: &mut ScriptSession<A>,
@@ -94,7 +92,6 @@ fn select<A: Allocator, W: Write>(
 }
 
 /// `resume`
-#[tactic(auto, using(crate::proofs::SessionReplyLemmas::replies))]
 fn resume<A: Allocator, W: Write>(
     w: &mut W,
     session: &mut ScriptSession<A>,
@@ -130,7 +127,6 @@ fn write_set<A: Allocator, W: Write>(
 }
 
 /// `breakpoint n`, also with a condition
-#[tactic(auto, using(crate::proofs::SessionReplyLemmas::replies))]
 fn set_breakpoint<A: Allocator + Copy, W: Write>(
     w: &mut W,
     session: &mut ScriptSession<A>,
@@ -147,7 +143,6 @@ fn set_breakpoint<A: Allocator + Copy, W: Write>(
 }
 
 /// `breakpoint reset`
-#[tactic(auto, using(crate::proofs::SessionReplyLemmas::replies))]
 fn reset_breakpoints<A: Allocator, W: Write>(
     w: &mut W,
     session: &mut ScriptSession<A>,
@@ -160,7 +155,6 @@ fn reset_breakpoints<A: Allocator, W: Write>(
 }
 
 /// `delete`
-#[tactic(auto, using(crate::proofs::SessionReplyLemmas::replies))]
 fn delete<A: Allocator, W: Write>(
     w: &mut W,
     session: &mut ScriptSession<A>,
@@ -176,7 +170,6 @@ fn delete<A: Allocator, W: Write>(
 }
 
 /// `value`
-#[tactic(auto, using(crate::proofs::SessionReplyLemmas::replies))]
 fn set_value<A: Allocator, W: Write>(
     w: &mut W,
     session: &mut ScriptSession<A>,
@@ -193,7 +186,6 @@ fn set_value<A: Allocator, W: Write>(
 }
 
 /// `mark`
-#[tactic(auto, using(crate::proofs::SessionReplyLemmas::replies))]
 fn mark<A: Allocator, W: Write>(w: &mut W, session: &ScriptSession<A>) -> Result<(), WriteFault>
     ensures { Writes (spec.reply_to command.Mark session.now) session.now
         (λ t. Wrote (W.contents w.old) (W.contents w.new) result t) }
@@ -205,7 +197,6 @@ fn mark<A: Allocator, W: Write>(w: &mut W, session: &ScriptSession<A>) -> Result
 }
 
 /// `stops`
-#[tactic(auto, using(crate::proofs::SessionReplyLemmas::replies))]
 fn stops<A: Allocator, W: Write>(w: &mut W, session: &ScriptSession<A>) -> Result<(), WriteFault>
     ensures { Writes (spec.reply_to command.Stops session.now) session.now
         (λ t. Wrote (W.contents w.old) (W.contents w.new) result t) }
