@@ -12,7 +12,7 @@ use Rattle.cbpf_machine.specs.Trace.{outcome}
 use Rattle.pcap_classic.specs.Records.{Record}
 use Rattle.cbpf_machine.proofs.ListLemmas.{take-slice_get}
 use Rattle.cbpf_dbg.specs.Joined.{outcomes, counts, is_pass, is_fail, is_open}
-use Rattle.cbpf_dbg.specs.Cursor.{Stands, with_outcome}
+use Rattle.cbpf_dbg.specs.Cursor.{Stands, Countable, with_outcome}
 use Rattle.cbpf_dbg.specs.declared.cursor.Cursor.{Cursor}
 
 slice_get-drop : {X : Type 0} (xs : List X) (n i : ℕ) → slice_get (drop n xs) i ≡ slice_get xs (n + i)
@@ -118,15 +118,8 @@ counts-at_most machine capture from to =
       unknown = omega (arith, l, count_by-le-length is_open all);
     }
 
--- one more outcome can be counted
-pub record Countable (w : Cursor) : Type 0 where
-  pub packets : w.place.packet + 1 < 2 ^ 64
-  pub passes : w.counts.passes + 1 < 2 ^ 64
-  pub fails : w.counts.fails + 1 < 2 ^ 64
-  pub unknown : w.counts.unknown + 1 < 2 ^ 64
-
 pub countable : (machine : Machine) (capture : List Record) (w : Cursor) → Stands machine capture w → (packets : ℕ)
-    → packets ≡ length capture → packets < 2 ^ 60 → Countable w
+    → packets ≡ length capture → packets < 2 ^ 60 → Countable w.place.packet w.counts
 countable machine capture w h packets all few =
     let most = counts-at_most machine capture w.origin w.place.packet in
     let within = h.within in

@@ -3,7 +3,6 @@ use Rattle.std.proofs.Common.{◌≡◌, ℕ, ◌+◌, ◌-◌, ◌<◌, ◌≤�
 use Rattle.std.specs.Prelude.{Some, None, slice_get}
 use Rattle.std.proofs.lemmas.Option.{slice_get_cases, slice_get_within}
 use Rattle.std.proofs.Common.{inl, inr}
-use Rattle.std.proofs.lemmas.Bool.{cases_lt}
 use Rattle.cbpf_machine.specs.Machine.{Machine}
 use Rattle.cbpf_code.specs.Sound.{IsSound}
 use Rattle.cbpf_machine.specs.Registers.{Registers, zero_state}
@@ -19,15 +18,9 @@ use Rattle.cbpf_reply.specs.declared.reply.Counts.{Counts}
 use Rattle.cbpf_dbg.specs.declared.cursor.Cursor.{Cursor}
 use Rattle.cbpf_dbg.specs.declared.cursor.Moved.TheVariants as moved
 use Rattle.cbpf_dbg.specs.Joined.{ahead, counts}
-use Rattle.cbpf_dbg.specs.Cursor.{Stands, Moves, Ended, entered, stepped, passed}
-use Rattle.cbpf_dbg.proofs.JoinedLemmas.{ahead-entry, ahead-leave, ahead-end, place_at, entry}
+use Rattle.cbpf_dbg.specs.Cursor.{Stands, Moves, entered, stepped, passed}
+use Rattle.cbpf_dbg.proofs.JoinedLemmas.{ahead-entry, ahead-leave, place_at, entry}
 use Rattle.cbpf_dbg.proofs.CountLemmas.{counts-more}
-
-slice_get-none : {X : Type 0} (xs : List X) (i : ℕ) → slice_get xs i ≡ None → length xs ≤ i
-slice_get-none xs i none = elim (slice_get_cases xs i).1 [
-  | inl found ↦ (let here = found.2 in absurd cc)
-  | inr past ↦ past.0
-]
 
 -- a packet of the capture has a record
 pub record_there : (capture : List Record) (p : ℕ) → 1 ≤ p → p ≤ length capture
@@ -147,19 +140,6 @@ moves-left machine capture w r h inside at none =
       ahead-leave machine capture w.place.packet w.place.step r one at
           (let e = last_step machine capture w r h inside at none in omega (arith, e)),
     )
-
-pub cursor_ended : (machine : Machine) (capture : List Record) (w : Cursor) → Stands machine capture w
-    → slice_get capture (w.place.packet - 1) ≡ None → Ended machine capture w
-cursor_ended machine capture w h none =
-    let past = slice_get-none capture (w.place.packet - 1) none in
-    let one : 1 ≤ w.place.packet = let a = h.from_one in let b = h.ordered in omega arith in
-    let end : w.place.packet ≡ length capture + 1 = let b = h.within in omega (arith, past) in
-    let step : w.place.step ≡ 0 =
-    elim (cases_lt 0 w.place.step) [
-      | inl inside ↦ (let at = h.at inside in let at1 = at.1 in absurd cc)
-      | inr none_ ↦ omega arith
-    ] in
-    (end, ahead-end machine capture w.place.packet w.place.step (omega arith), step)
 
 pub counts-at : (machine : Machine) (capture : List Record) (n : ℕ)
     → ◌≡◌ {A = Counts} (record { passes = 0; fails = 0; unknown = 0 }) (counts machine capture n n)

@@ -1,6 +1,6 @@
 -- Moves to the next hit.
-use Rattle.std.proofs.Common.{◌≡◌, ℕ, ◌+◌, ◌-◌, ◌≤◌, List, length, drop, take, arith, sym, ap, subst, ◌∙◌, refl, inl}
-use Rattle.std.proofs.Common.{inr, length-append, length-drop, length-take}
+use Rattle.std.proofs.Common.{◌≡◌, ℕ, ◌+◌, ◌-◌, ◌≤◌, List, ◌∷◌, length, drop, take, arith, sym, ap, subst, ◌∙◌, refl, inl}
+use Rattle.std.proofs.Common.{inr, length-append, length-drop, length-take, Bool, true, false}
 use Rattle.std.specs.Prelude.{Some, slice_get, min}
 use Rattle.std.proofs.lemmas.Bool.{cases_lt}
 use Rattle.std.proofs.lemmas.Option.{slice_get_within}
@@ -10,18 +10,19 @@ use Rattle.cbpf_machine.specs.declared.outcome.Outcome.{Outcome}
 use Rattle.cbpf_machine.specs.declared.follow.Followed.{Followed}
 use Rattle.cbpf_machine.specs.declared.follow.Followed.TheVariants.{Watched, Ended}
 use Rattle.cbpf_machine.specs.Trace.{trace, outcome}
-use Rattle.cbpf_machine.specs.Follow.{Watching, Follows, Unwatched, turns_to}
+use Rattle.cbpf_machine.specs.Follow.{Follows, Unpaused, turns_to}
 use Rattle.cbpf_machine.proofs.TraceLemmas.{goes_from_entry, length-trace_from}
 use Rattle.cbpf_machine.proofs.SoundLemmas.{sound_few, sound_some}
 use Rattle.pcap_classic.specs.Records.{Record}
 use Rattle.cbpf_dbg.specs.declared.cursor.Cursor.{Cursor}
-use Rattle.cbpf_dbg.specs.declared.cursor.Moved.{Moved}
 use Rattle.cbpf_dbg.specs.declared.cursor.Moved.TheVariants as moved
 use Rattle.cbpf_dbg.specs.Breakpoints.{Breakpoints}
-use Rattle.cbpf_dbg.specs.Joined.{ahead, entries_from, joined_from}
-use Rattle.cbpf_dbg.specs.Session.{Watches}
-use Rattle.cbpf_dbg.specs.Cursor.{Stands, NotBefore, PassesTo, entry_here, followed, moved_by, owed, passed}
-use Rattle.cbpf_dbg.proofs.JoinedLemmas.{place_at, ahead-in, ahead-entry, ahead-leave, rest-hit, rest-same}
+use Rattle.cbpf_dbg.specs.Joined.{ahead, rest, entries_from, joined_from}
+use Rattle.cbpf_dbg.specs.Session.{hits}
+use Rattle.cbpf_dbg.specs.Cursor.{Stands, followed, moved_by, owed, passed}
+use Rattle.cbpf_dbg.specs.Going.{Covers, GoesOn}
+use Rattle.cbpf_dbg.proofs.JoinedLemmas.{place_at, ahead-in, ahead-leave, rest-same}
+use Rattle.cbpf_dbg.proofs.LeftLemmas.{left_here, left_past}
 use Rattle.cbpf_dbg.proofs.TurnLemmas.{length_entries}
 use Rattle.cbpf_dbg.proofs.KeepLemmas.{entry_at_place}
 use Rattle.cbpf_dbg.proofs.QuietLemmas.{NoHits, entries-passed, stands-passed}
@@ -30,14 +31,11 @@ use Rattle.cbpf_dbg.proofs.QuietLemmas.{NoHits, entries-passed, stands-passed}
 abbrev pub moved_on : Cursor → ℕ → Registers → Cursor
 moved_on w n s = followed (record w { state = s }) (Watched n)
 
--- what a move to the next hit, or out of the packet, leaves of the cursor and the meter
-pub record Leaves (machine : Machine) (capture : List Record) (breakpoints : Breakpoints) (r : Record) (w : Cursor)
-    (m : Moved) (v : Cursor) (before after : ℕ) : Type 0 where
-  pub stands : Stands machine capture v
-  pub origin : v.origin ≡ w.origin
-  pub order : NotBefore v.place w.place
-  pub passes : PassesTo machine capture breakpoints r w m v
-  pub spent : after + owed machine capture v.place ≡ before + owed machine capture w.place
+-- where no run pauses there is no hit
+not_covered : (pauses : Registers → Bool) (hit : Bool) (s : Registers) → (hit ≡ true → pauses s ≡ true)
+    → pauses s ≡ false → hit ≡ false
+not_covered pauses false s covers none = refl
+not_covered pauses true s covers none = let some = covers refl in absurd cc
 
 module _ (machine : Machine) (capture : List Record) (w : Cursor) (r : Record) (h : Stands machine capture w)
     (at : slice_get capture (w.place.packet - 1) ≡ Some r) where
@@ -85,16 +83,16 @@ module _ (machine : Machine) (capture : List Record) (w : Cursor) (r : Record) (
   pub room : length xs + min w.place.step 1 ≤ owed machine capture w.place + w.place.step
   room = omega (arith, ahead_long w.place.step step_within)
 
-  module _ (breakpoints : Breakpoints) (watched : Watching) (watches : Watches watched machine breakpoints) where
-    no_hits : (m : ℕ) → Unwatched watched xs w.place.step m
+  module _ (breakpoints : Breakpoints) (pauses : Registers → Bool) (covers : Covers pauses machine breakpoints) where
+    no_hits : (m : ℕ) → Unpaused pauses xs w.place.step m
         → NoHits machine capture breakpoints w.place.packet r from_one at w.place.step m
-    no_hits m unwatched = λ i s from to there.
-        sym (watches r.bytes r.wire s
+    no_hits m unpaused = λ i s from to there.
+        not_covered pauses (hits machine breakpoints r.bytes r.wire s) s (covers r.bytes r.wire s
         (goes_from_entry machine r.bytes r.wire i zero_state s h.sound (sound_some machine.list h.sound) there).inside)
-        ∙ unwatched i s from to there
+        (unpaused i s from to there)
 
     on_stands : (n : ℕ) (s : Registers)
-        → Follows watched xs (outcome machine r.bytes r.wire) w.place.step w.state s (Watched n)
+        → Follows pauses xs (outcome machine r.bytes r.wire) w.place.step w.state s (Watched n)
         → Stands machine capture (moved_on w n s)
     on_stands n s f =
         record {
@@ -106,26 +104,19 @@ module _ (machine : Machine) (capture : List Record) (w : Cursor) (r : Record) (
           counted = h.counted;
         }
 
-    on_passes : (n : ℕ) (s : Registers)
-        → Follows watched xs (outcome machine r.bytes r.wire) w.place.step w.state s (Watched n)
-        → PassesTo machine capture breakpoints r w moved.Entry (moved_on w n s)
-    on_passes n s f =
+    on_hits : (n : ℕ) (s : Registers)
+        → Follows pauses xs (outcome machine r.bytes r.wire) w.place.step w.state s (Watched n)
+        → rest machine capture breakpoints w.place
+        ≡ rest machine capture breakpoints (place_at w.place.packet (w.place.step + n - 1))
+    on_hits n s f =
         let some = f.0 in
         let m : ℕ = w.place.step + n - 1 in
-        let next : m + 1 ≡ w.place.step + n = omega arith in
         let within = slice_get_within xs m s f.2 in
-        let same = entries-passed machine capture breakpoints w.place.packet r from_one at w.place.step (n - 1) m
-        (omega arith) (omega (arith, within)) (no_hits m f.1) in
-        let first = ahead-entry machine capture w.place.packet m r s from_one at f.2 in
-        let inside =
-        (goes_from_entry machine r.bytes r.wire m zero_state s h.sound (sound_some machine.list h.sound) f.2).inside in
-        let hit = rest-hit machine capture breakpoints (place_at w.place.packet m)
-        (place_at w.place.packet (w.place.step + n)) (entry_here machine r (moved_on w n s)) (rw next at first)
-        (sym (watches r.bytes r.wire s inside) ∙ f.3) in
-        (refl, omega (arith, some), same.0 ∙ hit)
+        (entries-passed machine capture breakpoints w.place.packet r from_one at w.place.step (n - 1) m
+        (omega arith) (omega (arith, within)) (no_hits m f.1)).0
 
     on_owed : (n : ℕ) (s : Registers)
-        → Follows watched xs (outcome machine r.bytes r.wire) w.place.step w.state s (Watched n)
+        → Follows pauses xs (outcome machine r.bytes r.wire) w.place.step w.state s (Watched n)
         → owed machine capture w.place + 1 ≡ n + owed machine capture (moved_on w n s).place + min w.place.step 1
     on_owed n s f =
         let some = f.0 in
@@ -137,60 +128,97 @@ module _ (machine : Machine) (capture : List Record) (w : Cursor) (r : Record) (
           some,
         )
 
-    end_passes : (o : Outcome) → Unwatched watched xs w.place.step (length xs)
-        → PassesTo machine capture breakpoints r w moved.Packet (passed w o)
-    end_passes o unwatched =
+    end_hits : Unpaused pauses xs w.place.step (length xs)
+        → rest machine capture breakpoints w.place ≡ rest machine capture breakpoints (place_at (w.place.packet + 1) 0)
+    end_hits unpaused =
         let n : ℕ = length xs - w.place.step in
         let same = entries-passed machine capture breakpoints w.place.packet r from_one at w.place.step n (length xs)
-        (omega (arith, step_within)) (omega arith) (no_hits (length xs) unwatched) in
-        let leave = ahead-leave machine capture w.place.packet (length xs) r from_one at (omega arith) in (
-          refl,
-          sym (same.0 ∙ rest-same machine capture breakpoints (place_at w.place.packet (length xs))
-              (place_at (w.place.packet + 1) 0) leave),
-        )
-
-    end_owed : (o : Outcome) → owed machine capture w.place + w.place.step
-        ≡ length xs + min w.place.step 1 + owed machine capture (passed w o).place
-    end_owed o =
+        (omega (arith, step_within)) (omega arith) (no_hits (length xs) unpaused) in
         let leave = ahead-leave machine capture w.place.packet (length xs) r from_one at (omega arith) in
-        omega (arith, ahead_long w.place.step step_within, ap length leave)
+        same.0 ∙ rest-same machine capture breakpoints (place_at w.place.packet (length xs))
+        (place_at (w.place.packet + 1) 0) leave
 
     -- the steps can be counted
-    pub steps_fit : (f : Followed) (s : Registers)
-        → Follows watched xs (outcome machine r.bytes r.wire) w.place.step w.state s f → (n : ℕ) → f ≡ Watched n
+    pub steps_fit : (k : ℕ) (f : Followed) (s : Registers) → k ≡ w.place.step
+        → Follows pauses xs (outcome machine r.bytes r.wire) k w.state s f → (n : ℕ) → f ≡ Watched n
         → w.place.step + n ≤ 4096
-    steps_fit f s follows n e =
-        let on : Follows watched xs (outcome machine r.bytes r.wire) w.place.step w.state s (Watched n) =
-        rw e at follows in
+    steps_fit k f s step follows n e =
+        let on : Follows pauses xs (outcome machine r.bytes r.wire) w.place.step w.state s (Watched n) =
+        rw (step, e) at follows in
         let within = slice_get_within xs (w.place.step + n - 1) s on.2 in
         omega (arith, within, steps_few)
 
-    pub leaves : (f : Followed) (s : Registers) (v : Cursor) (before after : ℕ)
-        → v ≡ followed (record w { state = s }) f
-        → Follows watched xs (outcome machine r.bytes r.wire) w.place.step w.state s f
-        → after + 1 ≡ before + turns_to xs w.place.step f + min w.place.step 1
-        → Leaves machine capture breakpoints r w (moved_by f) v before after
-    leaves (Watched n) s v before after e f turns =
-        let there : Leaves machine capture breakpoints r w moved.Entry (moved_on w n s) before after =
+    on_entry : (n : ℕ) (s : Registers) (before after : ℕ)
+        → Follows pauses xs (outcome machine r.bytes r.wire) w.place.step w.state s (Watched n)
+        → after + 1 ≡ before + n + min w.place.step 1
+        → (left : List Record) (others : List Record) → left ≡ r ∷ others
+        → GoesOn machine capture breakpoints pauses w (moved_on w n s) left left before after true
+    on_entry n s before after f turns left others is =
+        let some = f.0 in
         record {
-          stands = on_stands n s f;
-          origin = refl;
-          order = inr (refl, omega arith);
-          passes = on_passes n s f;
-          spent = omega (arith, on_owed n s f, turns);
-        } in
-        subst (λ u. Leaves machine capture breakpoints r w moved.Entry u before after) (sym e) there
-    leaves (Ended o) s v before after e f turns =
-        let same : followed (record w { state = s }) (Ended o) ≡ followed w (Ended o) =
-        ap (λ (k : Registers). followed (record w { state = k }) (Ended o)) f.2 in
-        let outcome_is : passed w (outcome machine r.bytes r.wire) ≡ passed w o =
-        ap (λ (k : Outcome). passed w k) (sym f.1) in
-        let there : Leaves machine capture breakpoints r w moved.Packet (passed w o) before after =
+          passes = record {
+            stands = on_stands n s f;
+            origin = refl;
+            order = inr (refl, omega arith);
+            hits = on_hits n s f;
+            spent = omega (arith, on_owed n s f, turns);
+          };
+          left = λ end there. left_here capture w.place (moved_on w n s).place end left r others is refl there;
+          entry = λ _. (omega (arith, some), f.3);
+          out = λ (z : true ≡ false). absurd cc;
+        }
+
+    on_packet : (o : Outcome) (s : Registers) (before after : ℕ)
+        → Follows pauses xs (outcome machine r.bytes r.wire) w.place.step w.state s (Ended o)
+        → after + 1 ≡ before + (length xs + 1 - w.place.step) + min w.place.step 1
+        → (left : List Record) (others : List Record) → left ≡ r ∷ others
+        → GoesOn machine capture breakpoints pauses w (passed (record w { state = s }) o) left others before after false
+    on_packet o s before after f turns left others is =
+        let leave = ahead-leave machine capture w.place.packet (length xs) r from_one at (omega arith) in
+        let same : passed w (outcome machine r.bytes r.wire) ≡ passed (record w { state = s }) o =
+        rw (f.1, f.2) refl in
         record {
-          stands = subst (λ u. Stands machine capture u) outcome_is (stands-passed machine capture w r h at);
-          origin = refl;
-          order = inl (omega arith);
-          passes = end_passes o f.0;
-          spent = omega (arith, end_owed o, turns, step_within);
-        } in
-        subst (λ u. Leaves machine capture breakpoints r w moved.Packet u before after) (sym (e ∙ same)) there
+          passes = record {
+            stands = subst (λ u. Stands machine capture u) same (stands-passed machine capture w r h at);
+            origin = refl;
+            order = inl (omega arith);
+            hits = end_hits f.0;
+            spent = omega (arith, ahead_long w.place.step step_within, ap length leave, turns, step_within);
+          };
+          left = λ end there. left_past machine capture w end left r others h is there;
+          entry = λ (z : false ≡ true). absurd cc;
+          out = λ _. refl;
+        }
+
+    -- where the packet was followed from its k-th entry on
+    pub goes_to_entry : (k : ℕ) (f : Followed) (s : Registers) (v : Cursor) (before after : ℕ)
+        (left : List Record) (others : List Record) → k ≡ w.place.step → moved.Entry ≡ moved_by f
+        → v ≡ followed (record w { state = s }) f → Follows pauses xs (outcome machine r.bytes r.wire) k w.state s f
+        → after + 1 ≡ before + turns_to xs k f + min k 1 → left ≡ r ∷ others
+        → GoesOn machine capture breakpoints pauses w v left left before after true
+    goes_to_entry k (Ended o) s v before after left others step moves e f turns is = absurd cc
+    goes_to_entry k (Watched n) s v before after left others step moves e f turns is =
+        rw e (on_entry n s before after (rw step at f) (rw step at turns) left others is)
+
+    pub goes_out : (k : ℕ) (f : Followed) (s : Registers) (v : Cursor) (before after : ℕ)
+        (left : List Record) (others : List Record) → k ≡ w.place.step → moved.Packet ≡ moved_by f
+        → v ≡ followed (record w { state = s }) f → Follows pauses xs (outcome machine r.bytes r.wire) k w.state s f
+        → after + 1 ≡ before + turns_to xs k f + min k 1 → left ≡ r ∷ others
+        → GoesOn machine capture breakpoints pauses w v left others before after false
+    goes_out k (Watched n) s v before after left others step moves e f turns is = absurd cc
+    goes_out k (Ended o) s v before after left others step moves e f turns is =
+        rw e (on_packet o s before after (rw step at f) (rw step at turns) left others is)
+
+    -- where it pauses first
+    pub first_pause : (f : Followed) (s : Registers) (v : Cursor) → w.place.step ≡ 0 → moved.Entry ≡ moved_by f
+        → v ≡ followed (record w { state = s }) f → Follows pauses xs (outcome machine r.bytes r.wire) 0 w.state s f
+        → (q : Record) → slice_get capture (v.place.packet - 1) ≡ Some q
+        → Unpaused pauses (trace machine q.bytes q.wire) 0 (v.place.step - 1)
+    first_pause (Ended o) s v step moves e f q there = absurd cc
+    first_pause (Watched n) s v step moves e f q there =
+        let here : slice_get capture (w.place.packet - 1) ≡ Some q =
+        subst (λ (u : Cursor). slice_get capture (u.place.packet - 1) ≡ Some q) e there in
+        let same : r ≡ q = cc in
+        subst (λ (u : Cursor). Unpaused pauses (trace machine q.bytes q.wire) 0 (u.place.step - 1)) (sym e)
+        (subst (λ j. Unpaused pauses (trace machine q.bytes q.wire) 0 (j + n - 1)) (sym step)
+        (subst (λ (x : Record). Unpaused pauses (trace machine x.bytes x.wire) 0 (0 + n - 1)) same f.1))

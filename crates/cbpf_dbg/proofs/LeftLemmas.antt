@@ -1,25 +1,18 @@
 -- The records that a walk has left.
 use Rattle.std.proofs.Common.{◌≡◌, ℕ, zero, suc, ◌+◌, ◌-◌, ◌<◌, ◌≤◌, List, [], ◌∷◌, length, drop, take, arith, refl, inl, inr}
+use Rattle.std.proofs.Common.{sym, ap, ◌∙◌}
 use Rattle.std.specs.Prelude.{Option, Some, None, slice_get}
 use Rattle.std.specs.Iterator.{YieldsFirstBy}
 use Rattle.pcap_classic.specs.Lent.{record_of}
 use Rattle.pcap_classic.specs.declared.captured.Captured.{Captured}
 use Rattle.std.proofs.lemmas.Bool.{cases_lt}
-use Rattle.std.proofs.lemmas.Option.{slice_get_past}
+use Rattle.std.proofs.lemmas.Option.{slice_get_within}
 use Rattle.pcap_classic.specs.Records.{Record}
 use Rattle.cbpf_reply.specs.declared.reply.Place.{Place}
 use Rattle.cbpf_machine.specs.Machine.{Machine}
 use Rattle.cbpf_dbg.specs.declared.cursor.Cursor.{Cursor}
-use Rattle.cbpf_dbg.specs.Cursor.{AreLeft, IsEnd, Ended, Stands}
-use Rattle.cbpf_dbg.proofs.CursorLemmas.{cursor_ended}
-
--- the first of the records that are left is that of the packet
-pub record IsFirst (capture : List Record) (packet end : ℕ) (r : Record) (rest : List Record) : Type 0 where
-  pub here : slice_get capture (packet - 1) ≡ Some r
-  pub within : packet ≤ length capture
-  pub before : packet < end
-  pub others : AreLeft capture (packet + 1) end rest
-  pub ends : end ≤ length capture + 1 → IsEnd capture (record { packet = packet + 1; step = 0 }) end
+use Rattle.cbpf_dbg.specs.Cursor.{AreLeft, AllLeft, IsEnd, Ended, Stands, end_of}
+use Rattle.cbpf_dbg.proofs.JoinedLemmas.{ahead-end}
 
 cut : {X : Type 0} (xs : List X) (i e : ℕ) (x : X) (rest : List X) → drop i (take e xs) ≡ x ∷ rest
     → (slice_get xs i ≡ Some x) × (i < e) × (i < length xs) × (rest ≡ drop (suc i) (take e xs))
@@ -33,20 +26,40 @@ cut (y ∷ xs) zero (suc e) x rest h = (cc, omega arith, omega arith, cc)
 cut (y ∷ xs) (suc i) (suc e) x rest h =
     let more = cut xs i e x rest h in (more.0, omega (arith, more.1), omega (arith, more.2), more.3)
 
-pub first_left : (machine : Machine) (capture : List Record) (w : Cursor) (end : ℕ) (left : List Record) (r : Record)
-    (rest : List Record) → Stands machine capture w → AreLeft capture w.place.packet end left → left ≡ r ∷ rest
-    → IsFirst capture w.place.packet end r rest
-first_left machine capture w end left r rest stands is e =
-    let parts = cut capture (w.place.packet - 1) (end - 1) r rest (rw is at e) in
+-- the first of the records that are left is that of the packet
+pub first_left : (capture : List Record) (place : Place) (end : ℕ) (left : List Record) (r : Record)
+    (others : List Record) → left ≡ r ∷ others → AreLeft capture place end left
+    → slice_get capture (place.packet - 1) ≡ Some r
+first_left capture place end left r others e h =
+    (cut capture (place.packet - 1) (end - 1) r others (sym h.is ∙ e)).0
+
+-- and they stay in the packet
+pub left_here : (capture : List Record) (old new : Place) (end : ℕ) (left : List Record) (r : Record)
+    (others : List Record) → left ≡ r ∷ others → new.packet ≡ old.packet → AreLeft capture old end left
+    → AreLeft capture new end left
+left_here capture old new end left r others e same h =
+    let parts = cut capture (old.packet - 1) (end - 1) r others (sym h.is ∙ e) in
+    record {
+      is = rw same h.is;
+      ends = record {
+        within = h.ends.within;
+        most = omega (arith, same, h.ends.most);
+        later = λ _. omega (arith, same, parts.1);
+      };
+    }
+
+-- the others are left after it
+pub left_past : (machine : Machine) (capture : List Record) (w : Cursor) (end : ℕ) (left : List Record) (r : Record)
+    (others : List Record) → Stands machine capture w → left ≡ r ∷ others → AreLeft capture w.place end left
+    → AreLeft capture (record { packet = w.place.packet + 1; step = 0 }) end others
+left_past machine capture w end left r others stands e h =
+    let parts = cut capture (w.place.packet - 1) (end - 1) r others (sym h.is ∙ e) in
     let one : 1 ≤ w.place.packet = omega (arith, stands.from_one, stands.ordered) in
     let on : suc (w.place.packet - 1) ≡ w.place.packet + 1 - 1 = omega (arith, one) in
     record {
-      here = parts.0;
-      within = omega (arith, parts.2, one);
-      before = omega (arith, parts.1, one);
-      others = rw on at parts.3;
-      ends = λ within. record {
-        within = within;
+      is = rw on at parts.3;
+      ends = record {
+        within = h.ends.within;
         most = omega (arith, parts.1, one);
         later = λ begun. absurd (omega (arith, begun));
       };
@@ -67,19 +80,37 @@ at_place capture place end ends e = elim (cases_lt 0 place.step) [
 
 -- where none is left, the place is before the end
 pub none_left : (machine : Machine) (capture : List Record) (w : Cursor) (end : ℕ) (left : List Record)
-    → Stands machine capture w → AreLeft capture w.place.packet end left → left ≡ [] → IsEnd capture w.place end
+    → Stands machine capture w → left ≡ [] → AreLeft capture w.place end left
     → w.place ≡ record { packet = end; step = 0 }
-none_left machine capture w end left stands is e ends =
-    let past = none_cut capture (w.place.packet - 1) (end - 1) (rw is at e) (omega (arith, ends.within)) in
-    at_place capture w.place end ends (omega (arith, past, stands.from_one, stands.ordered, ends.most))
+none_left machine capture w end left stands e h =
+    let past = none_cut capture (w.place.packet - 1) (end - 1) (sym h.is ∙ e) (omega (arith, h.ends.within)) in
+    at_place capture w.place end h.ends (omega (arith, past, stands.from_one, stands.ordered, h.ends.most))
 
 -- where none is left up to the end of the capture, nothing is ahead
 pub nothing_left : (machine : Machine) (capture : List Record) (w : Cursor) (left : List Record)
-    → Stands machine capture w → AreLeft capture w.place.packet (length capture + 1) left → left ≡ []
-    → Ended machine capture w
-nothing_left machine capture w left stands is e =
-    let past = none_cut capture (w.place.packet - 1) (length capture + 1 - 1) (rw is at e) (omega arith) in
-    cursor_ended machine capture w stands (slice_get_past capture (w.place.packet - 1) (omega (arith, past)))
+    → Stands machine capture w → AllLeft capture w.place left → left ≡ [] → Ended machine capture w
+nothing_left machine capture w left stands h e =
+    let at = none_left machine capture w (length capture + 1) left stands e h in (
+      ap (λ (q : Place). q.packet) at,
+      rw at (ahead-end machine capture (length capture + 1) 0 (omega arith)),
+      ap (λ (q : Place). q.step) at,
+    )
+
+-- all records from a place's packet on
+pub all_left : (machine : Machine) (capture : List Record) (w : Cursor) (left : List Record)
+    → Stands machine capture w → left ≡ drop (w.place.packet - 1) (take (length capture + 1 - 1) capture)
+    → AllLeft capture w.place left
+all_left machine capture w left stands e =
+    record {
+      is = e;
+      ends = record {
+        within = omega arith;
+        most = stands.within;
+        later = λ begun. let at = stands.at begun in
+            let within = slice_get_within capture (w.place.packet - 1) at.0 at.1 in
+            omega (arith, within);
+      };
+    }
 
 -- the first of the records that are left, read without passing it
 pub first_of : (left : List Record) (r : Record) → Some r ≡ slice_get left 0 → left ≡ r ∷ drop 1 left
@@ -96,3 +127,19 @@ pub passed_first : (left new : List Record) (o : Option Captured) (r : Record) �
 passed_first [] new o r e steps = absurd cc
 passed_first (x ∷ left) new None r e steps = absurd cc
 passed_first (x ∷ left) new (Some y) r e steps = cc
+
+-- where a run ends is not before its place
+pub is_end : (capture : List Record) (place : Place) (limit : Option ℕ) (end : ℕ)
+    → end ≡ end_of limit place.packet (length capture) → (limit ≡ Some 0 → ⊥) → place.packet ≤ length capture + 1
+    → (0 < place.step → place.packet ≤ length capture) → IsEnd capture place end
+is_end capture place None end is some within begun = rw is (record {
+  within = omega arith;
+  most = within;
+  later = λ b. omega (arith, begun b);
+})
+is_end capture place (Some zero) end is some within begun = absurd (some refl)
+is_end capture place (Some (suc n)) end is some within begun = rw is (record {
+  within = omega arith;
+  most = omega (arith, within);
+  later = λ b. omega (arith, begun b);
+})

@@ -8,6 +8,8 @@ pub mod RunLemmas
 pub mod QuietLemmas
 pub mod FollowLemmas
 pub mod TurnLemmas
+pub mod StepLemmas
+pub mod GoingLemmas
 pub mod KeepLemmas
 pub mod WholeLemmas
 pub mod ShownLemmas

@@ -1,22 +1,18 @@
 -- Packets of which no entry is a hit.
-use Rattle.std.proofs.Common.{◌≡◌, ℕ, zero, suc, ◌+◌, ◌-◌, ◌<◌, ◌≤◌, List, [], length, arith, ap, ◌∙◌, refl, inl}
+use Rattle.std.proofs.Common.{◌≡◌, ℕ, zero, suc, ◌+◌, ◌-◌, ◌<◌, ◌≤◌, List, length, arith, ap, ◌∙◌, refl, inl}
 use Rattle.std.proofs.Common.{inr}
 use Rattle.std.specs.Prelude.{Some, false, slice_get}
 use Rattle.std.proofs.lemmas.Option.{slice_get_cases, slice_get_within}
 use Rattle.cbpf_machine.specs.Machine.{Machine}
-use Rattle.cbpf_code.specs.Sound.{IsSound}
-use Rattle.cbpf_machine.specs.Registers.{Registers, zero_state}
+use Rattle.cbpf_machine.specs.Registers.{Registers}
 use Rattle.cbpf_machine.specs.Trace.{trace, outcome}
-use Rattle.cbpf_machine.proofs.TraceLemmas.{goes_from_entry}
-use Rattle.cbpf_machine.proofs.SoundLemmas.{sound_some}
 use Rattle.pcap_classic.specs.Records.{Record}
 use Rattle.cbpf_dbg.specs.declared.cursor.Cursor.{Cursor}
 use Rattle.cbpf_dbg.specs.Joined.{ahead, rest}
-use Rattle.cbpf_dbg.specs.Session.{IsQuiet, hits}
+use Rattle.cbpf_dbg.specs.Session.{hits}
 use Rattle.cbpf_dbg.specs.Cursor.{Stands, passed}
-use Rattle.cbpf_dbg.proofs.AskedLemmas.{quiet_hit}
 use Rattle.cbpf_dbg.proofs.CountLemmas.{counts-more}
-use Rattle.cbpf_dbg.proofs.JoinedLemmas.{place_at, entry, ahead-entry, ahead-leave, rest-pass, rest-same}
+use Rattle.cbpf_dbg.proofs.JoinedLemmas.{place_at, entry, ahead-entry, rest-pass}
 use Rattle.cbpf_dbg.specs.Breakpoints.{Breakpoints}
 
 there : {X : Type 0} (xs : List X) (i : ℕ) → i < length xs → (x : X) × (slice_get xs i ≡ Some x)
@@ -44,24 +40,6 @@ module _ (machine : Machine) (capture : List Record) (breakpoints : Breakpoints)
       let more =
       entries-passed (k + 1) n m (omega arith) within (λ i t from to there_. none i t (omega arith) to there_) in
       (same ∙ more.0, omega (arith, ap length first, more.1))
-
-module _ (machine : Machine) (capture : List Record) (p : ℕ) (r : Record) (sound : IsSound machine.list)
-    (quiet : IsQuiet machine []) (from_one : 1 ≤ p) (at : slice_get capture (p - 1) ≡ Some r) where
-  -- none of a packet is
-  pub packet-quiet : (k : ℕ) → k ≡ 0
-      → (rest machine capture [] (place_at p k) ≡ rest machine capture [] (place_at (p + 1) 0))
-      × (length (ahead machine capture (place_at p k))
-      ≡ length (trace machine r.bytes r.wire) + length (ahead machine capture (place_at (p + 1) 0)))
-  packet-quiet k e =
-      let m : ℕ = length (trace machine r.bytes r.wire) in
-      let none : NoHits machine capture [] p r from_one at k m = λ i s from to there_.
-      quiet_hit machine [] r.bytes r.wire s (goes_from_entry machine r.bytes r.wire i zero_state s sound
-      (sound_some machine.list sound) there_).inside quiet in
-      let all = entries-passed machine capture [] p r from_one at k m m (omega arith) (omega arith) none in
-      let leave = ahead-leave machine capture p m r from_one at (omega arith) in (
-        all.0 ∙ rest-same machine capture [] (place_at p m) (place_at (p + 1) 0) leave,
-        omega (arith, all.1, ap length leave),
-      )
 
 pub stands-passed : (machine : Machine) (capture : List Record) (w : Cursor) (r : Record) → Stands machine capture w
     → slice_get capture (w.place.packet - 1) ≡ Some r

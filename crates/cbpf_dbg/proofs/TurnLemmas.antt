@@ -192,12 +192,6 @@ not_before_after old mid new h k = elim h [
   ]
 ]
 
-pub not_before_packet : (old mid new : Place) → NotBefore mid old → new.packet ≡ mid.packet + 1 → NotBefore new old
-not_before_packet old mid new h p = elim h [
-  | inl less ↦ inl (omega arith)
-  | inr same ↦ inl (let a = same.0 in omega arith)
-]
-
 -- the turns of a cursor to a later place, by what it owed and owes
 pub spent_between : (machine : Machine) (capture : List Record) (old new : Cursor) (before after : ℕ)
     → Stands machine capture old → Stands machine capture new → NotBefore new.place old.place

@@ -1,6 +1,6 @@
 -- A cursor over the entries of a capture: it is a matter of this crate alone, and no public clause names it.
 use Rattle.std.specs.Prelude.{◌≡◌, ℕ, ◌+◌, ◌-◌, ◌≤◌, ◌<◌, List, [], ◌∷◌, length, slice_get, take, drop, Option, Some, None}
-use Rattle.std.specs.Prelude.{min, ◌⊎◌}
+use Rattle.std.specs.Prelude.{min, ◌⊎◌, ◌^◌}
 use Rattle.cbpf_code.specs.Sound.{IsSound}
 use Rattle.cbpf_machine.specs.Registers.{Registers, zero_state}
 use Rattle.cbpf_machine.specs.declared.outcome.Outcome.{Outcome}
@@ -48,6 +48,13 @@ entered w = record w { place = record { packet = w.place.packet; step = 1 }; sta
 abbrev pub stepped : Cursor → Registers → Cursor
 stepped w t = record w { place = record { packet = w.place.packet; step = w.place.step + 1 }; state = t }
 
+-- one more outcome can be counted
+pub record Countable (packet : ℕ) (n : Counts) : Type 0 where
+  pub packets : packet + 1 < 2 ^ 64
+  pub passes : n.passes + 1 < 2 ^ 64
+  pub fails : n.fails + 1 < 2 ^ 64
+  pub unknown : n.unknown + 1 < 2 ^ 64
+
 -- the counts with one more outcome
 abbrev pub with_outcome : Counts → Outcome → Counts
 with_outcome n (outcome_is.Pass v) = record n { passes = n.passes + 1 }
@@ -82,16 +89,6 @@ Moves machine capture old moved.Entry new =
 Moves machine capture old moved.Packet new =
     (new.place ≡ record { packet = old.place.packet + 1; step = 0 })
     × (ahead machine capture old.place ≡ ahead machine capture new.place)
-
--- a move to the next hit in a packet, or out of the packet past no hit
-abbrev pub PassesTo : Machine → List Record → Breakpoints → Record → Cursor → Moved → Cursor → Type 0
-PassesTo machine capture breakpoints r old moved.Packet new =
-    (new.place ≡ record { packet = old.place.packet + 1; step = 0 })
-    × (rest machine capture breakpoints new.place ≡ rest machine capture breakpoints old.place)
-PassesTo machine capture breakpoints r old moved.Entry new =
-    (new.place.packet ≡ old.place.packet) × (0 < new.place.step)
-    × (rest machine capture breakpoints old.place
-    ≡ stop_at why.Break (entry_here machine r new) ∷ rest machine capture breakpoints new.place)
 
 -- a cursor is after the last packet
 abbrev pub Ended : Machine → List Record → Cursor → Type 0
@@ -130,19 +127,20 @@ abbrev pub end_of : Option ℕ → ℕ → ℕ → ℕ
 end_of None first count = count + 1
 end_of (Some n) first count = min (first + n) (count + 1)
 
--- the records from a packet on are left, up to an end
-abbrev pub AreLeft : List Record → ℕ → ℕ → List Record → Type 0
-AreLeft capture packet end left = left ≡ drop (packet - 1) (take (end - 1) capture)
-
--- all records from a packet on are left
-abbrev pub AllLeft : List Record → ℕ → List Record → Type 0
-AllLeft capture packet left = AreLeft capture packet (length capture + 1) left
-
 -- a run from a place ends before this packet, which is a later one where the place's has begun
 pub record IsEnd (capture : List Record) (place : Place) (end : ℕ) : Type 0 where
   pub within : end ≤ length capture + 1
   pub most : place.packet ≤ end
   pub later : 0 < place.step → place.packet < end
+
+-- the records from a place's packet on are left, up to an end
+pub record AreLeft (capture : List Record) (place : Place) (end : ℕ) (left : List Record) : Type 0 where
+  pub is : left ≡ drop (place.packet - 1) (take (end - 1) capture)
+  pub ends : IsEnd capture place end
+
+-- all records from a place's packet on are left
+abbrev pub AllLeft : List Record → Place → List Record → Type 0
+AllLeft capture place left = AreLeft capture place (length capture + 1) left
 
 -- a cursor comes to the first hit before an end, or to the end past none
 abbrev pub ComesTo : Machine → List Record → Breakpoints → ℕ → Cursor → Option Stop → Cursor → Type 0
@@ -157,10 +155,35 @@ ComesTo machine capture breakpoints end old (Some h) new =
 abbrev pub NotBefore : Place → Place → Type 0
 NotBefore new old = (old.packet < new.packet) ⊎ ((old.packet ≡ new.packet) × (old.step ≤ new.step))
 
+-- the place before an entry: the hits after it are those from the entry on. Before a packet it is the place itself
+abbrev pub before : Place → Place
+before place = record { packet = place.packet; step = place.step - 1 }
+
+-- a cursor went on past no hit up to a place, by the turns that it owes no longer
+pub record Passes (machine : Machine) (capture : List Record) (breakpoints : Breakpoints) (old new : Cursor)
+    (to : Place) (spent_old spent_new : ℕ) : Type 0 where
+  pub stands : Stands machine capture new
+  pub origin : new.origin ≡ old.origin
+  pub order : NotBefore new.place old.place
+  pub hits : rest machine capture breakpoints old.place ≡ rest machine capture breakpoints to
+  pub spent : spent_new + owed machine capture new.place ≡ spent_old + owed machine capture old.place
+
 -- the turns of a run from a place
 abbrev pub run_turns : Machine → Savefile → Breakpoints → Cursor → Option ℕ → ℕ
 run_turns machine c breakpoints w limit =
     turns_in (view_at machine c breakpoints w) machine c.records (run_from machine c breakpoints w limit)
+
+-- a cursor nears the entry that is n entries ahead, so that fewer are left, by the turns that it owes no longer
+pub record Nears (machine : Machine) (capture : List Record) (old new : Cursor) (n left spent_old spent_new : ℕ) :
+    Type 0 where
+  pub stands : Stands machine capture new
+  pub origin : new.origin ≡ old.origin
+  pub order : NotBefore new.place old.place
+  pub some : 1 ≤ left
+  pub sought : slice_get (ahead machine capture old.place) (n - 1)
+      ≡ slice_get (ahead machine capture new.place) (left - 1)
+  pub fewer : length (ahead machine capture new.place) ≤ length (ahead machine capture old.place)
+  pub spent : spent_new + owed machine capture new.place ≡ spent_old + owed machine capture old.place
 
 -- a step back answers the entry at that step, and the cursor stands there
 pub record StepsBack (machine : Machine) (capture : List Record) (old new : Cursor) (b : ℕ) (stop : Stop) :

@@ -6,4 +6,5 @@ pub mod Commands
 pub mod Cursor
 pub mod Loaded
 pub mod Session
+pub mod Going
 pub mod Shown

@@ -10,7 +10,7 @@ ghost use Rattle.cbpf_dbg.specs.View.{start};
 ghost use Rattle.cbpf_dbg.specs.declared.cursor.Moved.TheVariants as moved;
 ghost use Rattle.cbpf_machine.specs.declared.follow.Followed.TheVariants as ways;
 ghost use Rattle.cbpf_dbg.specs.Cursor.{Stands, Moves, IsEntry, entered, stepped, passed, followed as after};
-ghost use Rattle.cbpf_dbg.specs.Cursor.{moved_by};
+ghost use Rattle.cbpf_dbg.specs.Cursor.{Countable, moved_by};
 
 use crate::loaded::Loaded;
 use cbpf_machine::{Followed, Meter, Outcome, Packet, State, turn_in_place};
@@ -57,10 +57,7 @@ impl Cursor {
 
     #[inline(always)]
     pub(crate) fn pass(&mut self, outcome: Outcome)
-        requires packets { self.old.place.packet + 1 < 2 ^ 64 }
-        requires passes { self.old.counts.passes + 1 < 2 ^ 64 }
-        requires fails { self.old.counts.fails + 1 < 2 ^ 64 }
-        requires unknown { self.old.counts.unknown + 1 < 2 ^ 64 }
+        requires { Countable self.old.place.packet self.old.counts }
         ensures { self.new ≡ passed self.old outcome }
     {
         match outcome {
@@ -76,10 +73,7 @@ impl Cursor {
     /// next packet.
     #[inline(always)]
     pub(crate) fn follow(&mut self, followed: Followed) -> Moved
-        requires packets { self.old.place.packet + 1 < 2 ^ 64 }
-        requires passes { self.old.counts.passes + 1 < 2 ^ 64 }
-        requires fails { self.old.counts.fails + 1 < 2 ^ 64 }
-        requires unknown { self.old.counts.unknown + 1 < 2 ^ 64 }
+        requires counts { Countable self.old.place.packet self.old.counts }
         requires steps { (n : ℕ) → followed ≡ ways.Watched n → self.old.place.step + n < 2 ^ 32 }
         ensures cursor { self.new ≡ after self.old followed }
         ensures moved { result ≡ moved_by followed }

@@ -1,22 +1,23 @@
 //! Runs to the next hit.
 
-ghost use Rattle.std.specs.Prelude.{◌≡◌, ◌≢◌, ◌+◌, ◌-◌, ◌<◌, ◌≤◌, ◌^◌, [], Some, None, true, slice_get};
-ghost use Rattle.pcap_classic.specs.Lent.{record_of};
+ghost use Rattle.std.specs.Prelude.{◌≡◌, ◌≢◌, ◌+◌, ◌-◌, ◌<◌, ◌≤◌, ◌^◌, [], Some, true, false, slice_get};
 ghost use Rattle.pcap_classic.specs.Records.{Record};
+ghost use Rattle.cbpf_machine.specs.Follow.{Unpaused, is_watched};
+ghost use Rattle.cbpf_machine.specs.Trace.{trace};
 ghost use Rattle.cbpf_dbg.specs.Commands.{PassesHits};
 ghost use Rattle.cbpf_dbg.specs.Joined.{rest};
 ghost use Rattle.cbpf_dbg.specs.Loaded.{machine_in, records_in, breakpoints_in};
 ghost use Rattle.cbpf_dbg.specs.Session.{IsInside, IsQuiet, Keeps, Watches};
-ghost use Rattle.cbpf_dbg.specs.declared.cursor.Moved.TheVariants as moved;
 ghost use Rattle.cbpf_dbg.specs.Cursor as spec;
-ghost use Rattle.cbpf_dbg.specs.Cursor.{Stands, owed, Runs, run_turns, NotBefore, PassesTo, AreLeft, ComesTo, IsEnd};
+ghost use Rattle.cbpf_dbg.specs.Cursor.{Stands, owed, Passes, before, Runs, run_turns, ComesTo, IsEnd};
+ghost use Rattle.cbpf_dbg.specs.Going.{CanGoOn, GoesOn};
 
-use crate::cursor::{Cursor, Moved, advance};
+use crate::cursor::{Cursor, Moved};
 use crate::hit::stop_at;
 use crate::loaded::Loaded;
-use cbpf_machine::{Meter, Packet, Trail, run_in_loop};
+use cbpf_machine::{Before, Meter, Never, Packet, Pause, Trail, follow_packet};
 use cbpf_reply::{RunReply, Stop, Why};
-use pcap_classic::{Captured, Records};
+use pcap_classic::Records;
 use std::alloc::Allocator;
 
 /// The packet before which a run from packet `first` ends that comes to no hit.
@@ -31,83 +32,111 @@ fn end_of(limit: Option<u64>, first: u64, count: u64) -> u64
     }
 }
 
-/// Goes on in a packet that has begun to the next hit, or out of the packet.
-// It isn't inlined, so that the loop over packets has their start alone in it. It takes the packet's parts, so that the
-// loop keeps neither packet nor record in memory for it.
+/// Goes on over whole packets to the next entry where it pauses, or past the records that are left: whether it pauses.
+// It isn't inlined, so that the processor's registers are for its loop alone.
 #[inline(never)]
-fn go_on_to_hit<T: Trail, A: Allocator>(
+pub(crate) fn run_records<P: Pause, A: Allocator>(
     meter: &mut Meter,
     loaded: &Loaded<'_, A>,
-    bytes: &[u8],
-    wire: u32,
+    pause: &P,
+    left: &mut Records<'_>,
     cursor: &mut Cursor,
-    trail: &mut T,
-) -> Moved
-    requires stands { Stands (machine_in loaded.now) (records_in loaded.now) cursor.old }
-    requires here { (r : Record) × (slice_get (records_in loaded.now) (cursor.old.place.packet - 1)
-        ≡ Some (record r { bytes = bytes.now; wire = wire })) }
-    requires keeps { Keeps (λ xs. T.stands_for trail.old xs) (machine_in loaded.now)
-        (records_in loaded.now) cursor.old.place }
-    requires begun { 0 < cursor.old.place.step }
-    requires spare { meter.old + owed (machine_in loaded.now) (records_in loaded.now) cursor.old.place + 1 < 2 ^ 128 }
-    requires watched { Watches loaded.now.watched.now (machine_in loaded.now) (breakpoints_in loaded.now) }
-    ensures stands { Stands (machine_in loaded.now) (records_in loaded.now) cursor.new }
-    ensures keeps { result ≡ moved.Entry → Keeps (λ xs. T.stands_for trail.new xs) (machine_in loaded.now)
-        (records_in loaded.now) cursor.new.place }
-    ensures origin { cursor.new.origin ≡ cursor.old.origin }
-    ensures order { NotBefore cursor.new.place cursor.old.place }
-    ensures passes { (r : Record) → slice_get (records_in loaded.now) (cursor.old.place.packet - 1) ≡ Some r
-        → PassesTo (machine_in loaded.now) (records_in loaded.now) (breakpoints_in loaded.now) r
-        cursor.old result cursor.new }
-    ensures spent { meter.new + owed (machine_in loaded.now) (records_in loaded.now) cursor.new.place
-        ≡ meter.old + owed (machine_in loaded.now) (records_in loaded.now) cursor.old.place }
+) -> bool
+    requires can { CanGoOn (machine_in loaded.now) (records_in loaded.now) (breakpoints_in loaded.now)
+        (λ s. P.pauses pause.now s) cursor.old left.old meter.old }
+    requires before { cursor.old.place.step ≡ 0 }
+    ensures goes { GoesOn (machine_in loaded.now) (records_in loaded.now) (breakpoints_in loaded.now)
+        (λ s. P.pauses pause.now s) cursor.old cursor.new left.old left.new meter.old meter.new result }
+    ensures none { result ≡ false → left.new ≡ [] }
+
+    // Of the packet's entries it is the first where it pauses.
+    ensures first { result ≡ true → (r : Record)
+        → slice_get (records_in loaded.now) (cursor.new.place.packet - 1) ≡ Some r
+        → Unpaused (λ s. P.pauses pause.now s) (trace (machine_in loaded.now) r.bytes r.wire) 0
+        (cursor.new.place.step - 1) }
 {
     let _few = loaded.capture.count();
-    let followed = trail.follow(
-        meter,
-        loaded.program,
-        Packet { bytes, wire },
-        loaded.values,
-        loaded.watched,
-        &mut cursor.state,
-    );
-    cursor.follow(followed)
+    'go: while let Some(here) = left.first() {
+        let packet = Packet {
+            bytes: here.bytes,
+            wire: here.wire,
+        };
+        let followed = follow_packet(
+            meter,
+            loaded.program,
+            packet,
+            loaded.values,
+            pause,
+            &mut cursor.state,
+        );
+        if let Moved::Entry = cursor.follow(followed) {
+            return true;
+        }
+        let _ = left.next();
+    }
+    false
 }
 
-/// The same from an entry of the packet, whose record is `here`, or from before its first one.
-#[inline(always)]
-fn go_to_hit<T: Trail, A: Allocator>(
+/// The same with a pause that covers the hits, so soon that the trail can start there.
+fn run_whole<T: Trail, A: Allocator>(
     meter: &mut Meter,
     loaded: &Loaded<'_, A>,
-    here: &Captured<'_>,
+    quiet: bool,
+    left: &mut Records<'_>,
+    cursor: &mut Cursor,
+) -> bool
+    requires can { CanGoOn (machine_in loaded.now) (records_in loaded.now) (breakpoints_in loaded.now)
+        (is_watched loaded.now.watched.now) cursor.old left.old meter.old }
+    requires before { cursor.old.place.step ≡ 0 }
+    requires quiet { quiet ≡ true → IsQuiet (machine_in loaded.now) (breakpoints_in loaded.now) }
+    ensures goes { GoesOn (machine_in loaded.now) (records_in loaded.now) (breakpoints_in loaded.now)
+        (λ s. true) cursor.old cursor.new left.old left.new meter.old meter.new result }
+    ensures none { result ≡ false → left.new ≡ [] }
+    ensures near { result ≡ true → cursor.new.place.step ≤ T.gap 0 + 1 }
+{
+    let first_gap = T::first_gap();
+    if quiet {
+        return run_records(meter, loaded, &Never, left, cursor);
+    }
+    if loaded.program.len() <= first_gap {
+        return run_records(meter, loaded, loaded.watched, left, cursor);
+    }
+    let pause = Before {
+        pause: loaded.watched,
+        fence: first_gap as usize,
+    };
+    run_records(meter, loaded, &pause, left, cursor)
+}
+
+/// Goes on in the place's packet, where it has begun, to its next hit, or out of it: whether there is a hit.
+fn finish_packet<T: Trail, A: Allocator>(
+    meter: &mut Meter,
+    loaded: &Loaded<'_, A>,
+    left: &mut Records<'_>,
     cursor: &mut Cursor,
     trail: &mut T,
-) -> Moved
-    requires stands { Stands (machine_in loaded.now) (records_in loaded.now) cursor.old }
-    requires here { slice_get (records_in loaded.now) (cursor.old.place.packet - 1) ≡ Some (record_of here.now) }
+) -> bool
+    requires can { CanGoOn (machine_in loaded.now) (records_in loaded.now) (breakpoints_in loaded.now)
+        (is_watched loaded.now.watched.now) cursor.old left.old meter.old }
     requires keeps { Keeps (λ xs. T.stands_for trail.old xs) (machine_in loaded.now)
         (records_in loaded.now) cursor.old.place }
-    requires spare { meter.old + owed (machine_in loaded.now) (records_in loaded.now) cursor.old.place + 1 < 2 ^ 128 }
-    requires watched { Watches loaded.now.watched.now (machine_in loaded.now) (breakpoints_in loaded.now) }
-    ensures stands { Stands (machine_in loaded.now) (records_in loaded.now) cursor.new }
-    ensures keeps { result ≡ moved.Entry → Keeps (λ xs. T.stands_for trail.new xs) (machine_in loaded.now)
+    ensures goes { GoesOn (machine_in loaded.now) (records_in loaded.now) (breakpoints_in loaded.now)
+        (is_watched loaded.now.watched.now) cursor.old cursor.new left.old left.new meter.old meter.new result }
+    ensures keeps { result ≡ true → Keeps (λ xs. T.stands_for trail.new xs) (machine_in loaded.now)
         (records_in loaded.now) cursor.new.place }
-    ensures origin { cursor.new.origin ≡ cursor.old.origin }
-    ensures order { NotBefore cursor.new.place cursor.old.place }
-    ensures passes { PassesTo (machine_in loaded.now) (records_in loaded.now) (breakpoints_in loaded.now)
-        (record_of here.now) cursor.old result cursor.new }
-    ensures spent { meter.new + owed (machine_in loaded.now) (records_in loaded.now) cursor.new.place
-        ≡ meter.old + owed (machine_in loaded.now) (records_in loaded.now) cursor.old.place }
 {
+    if cursor.place.step == 0 {
+        return false;
+    }
     let _few = loaded.capture.count();
+    let Some(here) = left.first() else {
+        unreachable!()
+    };
     let packet = Packet {
         bytes: here.bytes,
         wire: here.wire,
     };
-    if cursor.place.step > 0 {
-        return go_on_to_hit(meter, loaded, here.bytes, here.wire, cursor, trail);
-    }
-    let followed = trail.begin(
+    let followed = trail.follow(
         meter,
         loaded.program,
         packet,
@@ -115,133 +144,14 @@ fn go_to_hit<T: Trail, A: Allocator>(
         loaded.watched,
         &mut cursor.state,
     );
-    cursor.follow(followed)
-}
-
-/// Goes on to the end of a packet, whose record is `here`, past entries of which none is a hit.
-#[inline(never)]
-fn finish_packet<A: Allocator>(
-    meter: &mut Meter,
-    loaded: &Loaded<'_, A>,
-    here: &Captured<'_>,
-    cursor: &mut Cursor,
-)
-    requires stands { Stands (machine_in loaded.now) (records_in loaded.now) cursor.old }
-    requires here { slice_get (records_in loaded.now) (cursor.old.place.packet - 1) ≡ Some (record_of here.now) }
-    requires quiet { IsQuiet (machine_in loaded.now) [] }
-    requires spare { meter.old + owed (machine_in loaded.now) (records_in loaded.now) cursor.old.place + 1 < 2 ^ 128 }
-    ensures stands { Stands (machine_in loaded.now) (records_in loaded.now) cursor.new }
-    ensures place { cursor.new.place ≡ record { packet = cursor.old.place.packet + 1; step = 0 } }
-    ensures origin { cursor.new.origin ≡ cursor.old.origin }
-    ensures rest { rest (machine_in loaded.now) (records_in loaded.now) [] cursor.new.place
-        ≡ rest (machine_in loaded.now) (records_in loaded.now) [] cursor.old.place }
-    ensures spent { meter.new + owed (machine_in loaded.now) (records_in loaded.now) cursor.new.place
-        ≡ meter.old + owed (machine_in loaded.now) (records_in loaded.now) cursor.old.place }
-{
-    'pass: loop {
-        match advance(meter, loaded, here, cursor) {
-            Moved::Entry => {}
-            Moved::Packet => return,
-        }
+    if let Moved::Entry = cursor.follow(followed) {
+        return true;
     }
-}
-
-/// The same from before the packet's first entry.
-#[inline(always)]
-fn pass_whole<A: Allocator>(
-    meter: &mut Meter,
-    loaded: &Loaded<'_, A>,
-    here: &Captured<'_>,
-    cursor: &mut Cursor,
-)
-    requires stands { Stands (machine_in loaded.now) (records_in loaded.now) cursor.old }
-    requires here { slice_get (records_in loaded.now) (cursor.old.place.packet - 1) ≡ Some (record_of here.now) }
-    requires quiet { IsQuiet (machine_in loaded.now) [] }
-    requires before { cursor.old.place.step ≡ 0 }
-    requires few { meter.old + 8192 ≤ 2 ^ 128 }
-    ensures stands { Stands (machine_in loaded.now) (records_in loaded.now) cursor.new }
-    ensures place { cursor.new.place ≡ record { packet = cursor.old.place.packet + 1; step = 0 } }
-    ensures origin { cursor.new.origin ≡ cursor.old.origin }
-    ensures rest { rest (machine_in loaded.now) (records_in loaded.now) [] cursor.new.place
-        ≡ rest (machine_in loaded.now) (records_in loaded.now) [] cursor.old.place }
-    ensures spent { meter.new + owed (machine_in loaded.now) (records_in loaded.now) cursor.new.place
-        ≡ meter.old + owed (machine_in loaded.now) (records_in loaded.now) cursor.old.place }
-{
-    let _few = loaded.capture.count();
-    let packet = Packet {
-        bytes: here.bytes,
-        wire: here.wire,
-    };
-    let outcome = run_in_loop::<A, true>(meter, loaded.program, packet, loaded.values);
-    cursor.pass(outcome);
-}
-
-/// Goes on to the end of the place's packet, where it has begun: the records that are left up to packet `end`.
-#[inline(always)]
-fn pass_begun<'a, A: Allocator>(
-    meter: &mut Meter,
-    loaded: &Loaded<'a, A>,
-    end: u64,
-    cursor: &mut Cursor,
-) -> Records<'a>
-    requires stands { Stands (machine_in loaded.now) (records_in loaded.now) cursor.old }
-    requires quiet { IsQuiet (machine_in loaded.now) [] }
-    requires spare { meter.old + owed (machine_in loaded.now) (records_in loaded.now) cursor.old.place + 1 < 2 ^ 128 }
-    requires ends { IsEnd (records_in loaded.now) cursor.old.place end }
-    ensures stands { Stands (machine_in loaded.now) (records_in loaded.now) cursor.new }
-    ensures left { AreLeft (records_in loaded.now) cursor.new.place.packet end result }
-    ensures ends { IsEnd (records_in loaded.now) cursor.new.place end }
-    ensures before { cursor.new.place.step ≡ 0 }
-    ensures origin { cursor.new.origin ≡ cursor.old.origin }
-    ensures rest { rest (machine_in loaded.now) (records_in loaded.now) [] cursor.new.place
-        ≡ rest (machine_in loaded.now) (records_in loaded.now) [] cursor.old.place }
-    ensures order { NotBefore cursor.new.place cursor.old.place }
-    ensures spent { meter.new + owed (machine_in loaded.now) (records_in loaded.now) cursor.new.place
-        ≡ meter.old + owed (machine_in loaded.now) (records_in loaded.now) cursor.old.place }
-{
-    let mut left = loaded.capture.records(cursor.place.packet, end);
-    if cursor.place.step > 0 {
-        if let Some(here) = left.next() {
-            finish_packet(meter, loaded, &here, cursor);
-        }
-    }
-    left
-}
-
-/// Goes on to before packet `end`, where no entry can be a hit.
-// It ends before a packet, of which nothing has passed: so the trail keeps nothing meanwhile. It isn't inlined, so that
-// the processor's registers are for its loop alone.
-#[inline(never)]
-fn run_without_stops<A: Allocator>(
-    meter: &mut Meter,
-    loaded: &Loaded<'_, A>,
-    end: u64,
-    cursor: &mut Cursor,
-)
-    requires stands { Stands (machine_in loaded.now) (records_in loaded.now) cursor.old }
-    requires quiet { IsQuiet (machine_in loaded.now) [] }
-    requires spare { meter.old ≤ 2 ^ 127 }
-    requires ends { IsEnd (records_in loaded.now) cursor.old.place end }
-    ensures stands { Stands (machine_in loaded.now) (records_in loaded.now) cursor.new }
-    ensures origin { cursor.new.origin ≡ cursor.old.origin }
-    ensures order { NotBefore cursor.new.place cursor.old.place }
-    ensures comes { ComesTo (machine_in loaded.now) (records_in loaded.now) [] end cursor.old None cursor.new }
-    ensures spent { meter.new + owed (machine_in loaded.now) (records_in loaded.now) cursor.new.place
-        ≡ meter.old + owed (machine_in loaded.now) (records_in loaded.now) cursor.old.place }
-{
-    let _few = loaded.capture.count();
-    let mut left = pass_begun(meter, loaded, end, cursor);
-    // No call that isn't inlined borrows it, so that the place and the counts stay in the
-    // machine's registers.
-    let mut moved = *cursor;
-    'go: while let Some(here) = left.next() {
-        pass_whole(meter, loaded, &here, &mut moved);
-    }
-    *cursor = moved;
+    let _ = left.next();
+    false
 }
 
 /// Goes on to the next hit, or to before packet `end`.
-#[inline(always)]
 fn run_to_hit<T: Trail, A: Allocator>(
     meter: &mut Meter,
     loaded: &Loaded<'_, A>,
@@ -253,34 +163,32 @@ fn run_to_hit<T: Trail, A: Allocator>(
     requires stands { Stands (machine_in loaded.now) (records_in loaded.now) cursor.old }
     requires keeps { Keeps (λ xs. T.stands_for trail.old xs) (machine_in loaded.now)
         (records_in loaded.now) cursor.old.place }
-    requires spare { meter.old + owed (machine_in loaded.now) (records_in loaded.now) cursor.old.place + 1 < 2 ^ 128 }
+    requires spare { meter.old + owed (machine_in loaded.now) (records_in loaded.now) cursor.old.place + 8192
+        ≤ 2 ^ 128 }
     requires ends { IsEnd (records_in loaded.now) cursor.old.place end }
     requires quiet { quiet ≡ true → IsQuiet (machine_in loaded.now) (breakpoints_in loaded.now) }
-    requires early { meter.old ≤ 2 ^ 127 }
     requires watched { Watches loaded.now.watched.now (machine_in loaded.now) (breakpoints_in loaded.now) }
-    ensures stands { Stands (machine_in loaded.now) (records_in loaded.now) cursor.new }
-    ensures keeps { Keeps (λ xs. T.stands_for trail.new xs) (machine_in loaded.now)
-        (records_in loaded.now) cursor.new.place }
-    ensures origin { cursor.new.origin ≡ cursor.old.origin }
-    ensures order { NotBefore cursor.new.place cursor.old.place }
+    ensures passes { Passes (machine_in loaded.now) (records_in loaded.now) (breakpoints_in loaded.now)
+        cursor.old cursor.new (before cursor.new.place) meter.old meter.new }
     ensures comes { ComesTo (machine_in loaded.now) (records_in loaded.now) (breakpoints_in loaded.now) end
         cursor.old result cursor.new }
-    ensures spent { meter.new + owed (machine_in loaded.now) (records_in loaded.now) cursor.new.place
-        ≡ meter.old + owed (machine_in loaded.now) (records_in loaded.now) cursor.old.place }
+    ensures keeps { Keeps (λ xs. T.stands_for trail.new xs) (machine_in loaded.now)
+        (records_in loaded.now) cursor.new.place }
 {
-    if quiet {
-        run_without_stops(meter, loaded, end, cursor);
-        trail.clear();
-        return None;
-    }
     let mut left = loaded.capture.records(cursor.place.packet, end);
-    'go: while let Some(here) = left.next() {
-        if let Moved::Entry = go_to_hit(meter, loaded, &here, cursor, trail) {
+    'go: loop {
+        if finish_packet(meter, loaded, &mut left, cursor, trail) {
             return Some(stop_at(loaded, cursor, Why::Break));
         }
         trail.clear();
+        if !run_whole::<T, A>(meter, loaded, quiet, &mut left, cursor) {
+            return None;
+        }
+        trail.start(cursor.place.step, cursor.state);
+        if loaded.watched.pauses_at(&cursor.state) {
+            return Some(stop_at(loaded, cursor, Why::Break));
+        }
     }
-    None
 }
 
 /// Goes on to the next hit, to the limit of finished packets, or to the end.
@@ -298,7 +206,6 @@ pub(crate) fn run<T: Trail, A: Allocator>(
         (records_in loaded.now) cursor.old.place }
     requires quiet { quiet ≡ true → IsQuiet (machine_in loaded.now) (breakpoints_in loaded.now) }
     requires watched { Watches loaded.now.watched.now (machine_in loaded.now) (breakpoints_in loaded.now) }
-    requires spare { meter.old + owed (machine_in loaded.now) (records_in loaded.now) cursor.old.place + 1 < 2 ^ 128 }
     requires early { meter.old ≤ 2 ^ 127 }
     requires limit { limit ≢ Some 0 }
     ensures stands { Stands (machine_in loaded.now) (records_in loaded.now) cursor.new }

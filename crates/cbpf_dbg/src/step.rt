@@ -1,54 +1,57 @@
 //! Steps both ways.
 
-ghost use Rattle.std.specs.Prelude.{◌≡◌, ◌+◌, ◌-◌, ◌<◌, ◌≤◌, ◌^◌, ℕ, MatchResult, OnErr, OnOk, Some, length};
-ghost use Rattle.std.specs.Prelude.{slice_get};
-ghost use Rattle.pcap_classic.specs.Lent.{record_of};
+ghost use Rattle.std.specs.Prelude.{◌≡◌, ◌+◌, ◌≤◌, ◌^◌, MatchResult, OnErr, OnOk};
 ghost use Rattle.cbpf_dbg.specs.Breakpoints.{Breakpoints};
-ghost use Rattle.cbpf_dbg.specs.Joined.{ahead};
 ghost use Rattle.cbpf_dbg.specs.Loaded.{machine_in, records_in};
 ghost use Rattle.cbpf_dbg.specs.Session.{IsInside, Keeps};
-ghost use Rattle.cbpf_dbg.specs.Cursor.{Stands, owed, StepsOn, step_turns, StepsBack, CannotStepBack};
+ghost use Rattle.cbpf_dbg.specs.Cursor.{Stands, AllLeft, Nears, owed};
+ghost use Rattle.cbpf_dbg.specs.Cursor.{StepsOn, step_turns, StepsBack, CannotStepBack};
 
 use crate::cursor::{Cursor, Moved, advance};
 use crate::hit::stop_at;
 use crate::loaded::Loaded;
 use cbpf_machine::{Meter, Packet, Trail, run_packet};
 use cbpf_reply::{RunReply, Stop, Why};
-use pcap_classic::Captured;
+use pcap_classic::Records;
 use std::alloc::Allocator;
 
-/// Passes over a packet, whose record is `here`, from before its first entry; how many entries it has.
-#[inline(always)]
-fn skip_packet<A: Allocator>(
+/// Passes over whole packets while the entry that is sought, which is the `n`-th ahead, is in a later one: how far it is
+/// ahead then.
+// It isn't inlined, so that the processor's registers are for its loop alone.
+#[inline(never)]
+fn skip_packets<A: Allocator>(
     meter: &mut Meter,
     loaded: &Loaded<'_, A>,
-    here: &Captured<'_>,
+    records: &mut Records<'_>,
     w: &mut Cursor,
+    n: u64,
 ) -> u64
     requires stands { Stands (machine_in loaded.now) (records_in loaded.now) w.old }
-    requires here { slice_get (records_in loaded.now) (w.old.place.packet - 1) ≡ Some (record_of here.now) }
+    requires records { AllLeft (records_in loaded.now) w.old.place records.old }
     requires before { w.old.place.step ≡ 0 }
-    requires early { meter.old + 8192 ≤ 2 ^ 128 }
-    ensures stands { Stands (machine_in loaded.now) (records_in loaded.now) w.new }
-    ensures place { w.new.place ≡ record { packet = w.old.place.packet + 1; step = 0 } }
-    ensures origin { w.new.origin ≡ w.old.origin }
-    ensures few { result ≤ length loaded.now.program.now }
-    ensures later { (n : ℕ) → result < n
-        → slice_get (ahead (machine_in loaded.now) (records_in loaded.now) w.old.place)
-        (n - 1) ≡ slice_get (ahead (machine_in loaded.now) (records_in loaded.now) w.new.place) (n - result - 1) }
-    ensures ahead { length (ahead (machine_in loaded.now) (records_in loaded.now) w.old.place)
-        ≡ result + length (ahead (machine_in loaded.now) (records_in loaded.now) w.new.place) }
-    ensures turns { meter.new ≡ meter.old + result }
+    requires some { 1 ≤ n }
+    requires spare { meter.old + owed (machine_in loaded.now) (records_in loaded.now) w.old.place + 8192 ≤ 2 ^ 128 }
+    ensures nears { Nears (machine_in loaded.now) (records_in loaded.now) w.old w.new n result meter.old meter.new }
+    ensures records { AllLeft (records_in loaded.now) w.new.place records.new }
+    ensures before { w.new.place.step ≡ 0 }
 {
     let _few = loaded.capture.count();
-    let _sound = loaded.program.len();
-    let packet = Packet {
-        bytes: here.bytes,
-        wire: here.wire,
-    };
-    let before = meter.spent();
-    w.pass(run_packet(meter, loaded.program, packet, loaded.values));
-    (meter.spent() - before) as u64
+    let longest = u64::from(loaded.program.len());
+    let mut left = n;
+    'skip: while left > longest {
+        let Some(here) = records.first() else {
+            return left;
+        };
+        let packet = Packet {
+            bytes: here.bytes,
+            wire: here.wire,
+        };
+        let before = meter.spent();
+        w.pass(run_packet(meter, loaded.program, packet, loaded.values));
+        left -= (meter.spent() - before) as u64;
+        let _ = records.next();
+    }
+    left
 }
 
 /// Goes on by that many entries, or to the end.
@@ -62,7 +65,6 @@ pub(crate) fn step_on<T: Trail, A: Allocator>(
     requires stands { Stands (machine_in loaded.now) (records_in loaded.now) w.old }
     requires keeps { Keeps (λ xs. T.stands_for trail.old xs) (machine_in loaded.now)
         (records_in loaded.now) w.old.place }
-    requires spare { meter.old + owed (machine_in loaded.now) (records_in loaded.now) w.old.place + 1 < 2 ^ 128 }
     requires early { meter.old ≤ 2 ^ 127 }
     requires some { 1 ≤ n }
     ensures stands { Stands (machine_in loaded.now) (records_in loaded.now) w.new }
@@ -75,16 +77,13 @@ pub(crate) fn step_on<T: Trail, A: Allocator>(
         ≡ meter.old + step_turns (machine_in loaded.now) loaded.now.capture.now breakpoints w.old n }
 {
     let count = loaded.capture.count();
-    let longest = u64::from(loaded.program.len());
     let mut left = n;
     let mut records = loaded.capture.records(w.place.packet, count + 1);
+    if w.place.step == 0 {
+        left = skip_packets(meter, loaded, &mut records, w, left);
+        trail.clear();
+    }
     'go: while let Some(here) = records.first() {
-        // The entry that is sought is in a later packet.
-        if w.place.step == 0 && left > longest {
-            left -= skip_packet(meter, loaded, &here, w);
-            let _ = records.next();
-            continue;
-        }
         match advance(meter, loaded, &here, w) {
             Moved::Entry => {
                 trail.push(w.state);
@@ -94,8 +93,9 @@ pub(crate) fn step_on<T: Trail, A: Allocator>(
                 left -= 1;
             }
             Moved::Packet => {
-                trail.clear();
                 let _ = records.next();
+                left = skip_packets(meter, loaded, &mut records, w, left);
+                trail.clear();
             }
         }
     }

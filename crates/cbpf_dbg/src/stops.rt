@@ -1,20 +1,22 @@
 //! The list of stops.
 
-ghost use Rattle.std.specs.Prelude.{◌≡◌, ◌+◌, ◌-◌, ◌≤◌, ◌^◌, Some, slice_get};
+ghost use Rattle.std.specs.Prelude.{◌≡◌, ◌+◌, ◌≤◌, ◌^◌};
 ghost use Rattle.std.specs.Iterator.{YieldsFirst, item_count};
 ghost use Rattle.cbpf_dbg.specs.Joined.{rest};
 ghost use Rattle.cbpf_dbg.specs.Loaded.{machine_in, records_in, breakpoints_in};
 ghost use Rattle.cbpf_dbg.specs.Session.{Watches};
-ghost use Rattle.cbpf_dbg.specs.Cursor.{Stands, owed, AllLeft, PassesTo};
-ghost use Rattle.pcap_classic.specs.Lent.{record_of};
+ghost use Rattle.cbpf_dbg.specs.Cursor.{Stands, owed, AllLeft};
+ghost use Rattle.cbpf_dbg.specs.Going.{CanGoOn, GoesOn};
+ghost use Rattle.cbpf_machine.specs.Follow.{is_watched};
 ghost use Rattle.cbpf_dbg.specs.declared.cursor.Cursor.{Cursor};
 
 use crate::cursor::{Cursor, Moved};
 use crate::hit::stop_at;
 use crate::loaded::Loaded;
-use cbpf_machine::{Meter, Packet, follow_on, follow_packet};
+use crate::run::run_records;
+use cbpf_machine::{Meter, Packet, follow_on};
 use cbpf_reply::{Stop, Why};
-use pcap_classic::{Captured, Records};
+use pcap_classic::Records;
 use std::alloc::{Allocator, Global};
 use std::marker::Model;
 
@@ -43,41 +45,47 @@ impl<'a, A: Allocator> Model for Stops<'a, A> {
     ghost view = { λ s. rest (machine_in s.loaded) (records_in s.loaded) (breakpoints_in s.loaded) s.cursor.place };
 
     ghost invariant = { λ s. Stands (machine_in s.loaded) (records_in s.loaded) s.cursor
-        × AllLeft (records_in s.loaded) s.cursor.place.packet s.left
+        × AllLeft (records_in s.loaded) s.cursor.place s.left
         × Watches s.loaded.watched.now (machine_in s.loaded) (breakpoints_in s.loaded)
         × (s.meter + owed (machine_in s.loaded) (records_in s.loaded) s.cursor.place ≤ 2 ^ 127) };
 }
 
-/// Goes on in a packet, whose record is `here`, to its next hit, or out of the packet; no entry is kept.
-#[inline(always)]
-fn skip_to_hit<A: Allocator>(
+/// Goes on in the place's packet, where it has begun, to its next hit, or out of it: whether there is a hit.
+fn finish_packet<A: Allocator>(
     meter: &mut Meter,
     loaded: &Loaded<'_, A>,
-    here: &Captured<'_>,
+    left: &mut Records<'_>,
     cursor: &mut Cursor,
-) -> Moved
-    requires stands { Stands (machine_in loaded.now) (records_in loaded.now) cursor.old }
-    requires here { slice_get (records_in loaded.now) (cursor.old.place.packet - 1) ≡ Some (record_of here.now) }
-    requires watched { Watches loaded.now.watched.now (machine_in loaded.now) (breakpoints_in loaded.now) }
-    requires spare { meter.old + 8192 ≤ 2 ^ 128 }
-    ensures stands { Stands (machine_in loaded.now) (records_in loaded.now) cursor.new }
-    ensures passes { PassesTo (machine_in loaded.now) (records_in loaded.now) (breakpoints_in loaded.now)
-        (record_of here.now) cursor.old result cursor.new }
-    ensures spent { meter.new + owed (machine_in loaded.now) (records_in loaded.now) cursor.new.place
-        ≡ meter.old + owed (machine_in loaded.now) (records_in loaded.now) cursor.old.place }
+) -> bool
+    requires { CanGoOn (machine_in loaded.now) (records_in loaded.now) (breakpoints_in loaded.now)
+        (is_watched loaded.now.watched.now) cursor.old left.old meter.old }
+    ensures { GoesOn (machine_in loaded.now) (records_in loaded.now) (breakpoints_in loaded.now)
+        (is_watched loaded.now.watched.now) cursor.old cursor.new left.old left.new meter.old meter.new result }
 {
+    if cursor.place.step == 0 {
+        return false;
+    }
     let _few = loaded.capture.count();
+    let Some(here) = left.first() else {
+        unreachable!()
+    };
     let packet = Packet {
         bytes: here.bytes,
         wire: here.wire,
     };
-    let (program, values, watched) = (loaded.program, loaded.values, loaded.watched);
-    if cursor.place.step == 0 {
-        let followed = follow_packet(meter, program, packet, values, watched, &mut cursor.state);
-        return cursor.follow(followed);
+    let followed = follow_on(
+        meter,
+        loaded.program,
+        packet,
+        loaded.values,
+        loaded.watched,
+        &mut cursor.state,
+    );
+    if let Moved::Entry = cursor.follow(followed) {
+        return true;
     }
-    let followed = follow_on(meter, program, packet, values, watched, &mut cursor.state);
-    cursor.follow(followed)
+    let _ = left.next();
+    false
 }
 
 /// Goes on to the next hit, or to the end.
@@ -85,28 +93,27 @@ fn skip_to_hit<A: Allocator>(
 fn next_stop<A: Allocator>(
     meter: &mut Meter,
     loaded: &Loaded<'_, A>,
-    cursor: &mut Cursor,
     left: &mut Records<'_>,
+    cursor: &mut Cursor,
 ) -> Option<Stop>
     requires stands { Stands (machine_in loaded.now) (records_in loaded.now) cursor.old }
-    requires left { AllLeft (records_in loaded.now) cursor.old.place.packet left.old }
+    requires left { AllLeft (records_in loaded.now) cursor.old.place left.old }
     requires watched { Watches loaded.now.watched.now (machine_in loaded.now) (breakpoints_in loaded.now) }
     requires spare { meter.old + owed (machine_in loaded.now) (records_in loaded.now) cursor.old.place ≤ 2 ^ 127 }
     ensures stands { Stands (machine_in loaded.now) (records_in loaded.now) cursor.new }
-    ensures left { AllLeft (records_in loaded.now) cursor.new.place.packet left.new }
+    ensures left { AllLeft (records_in loaded.now) cursor.new.place left.new }
     ensures spent { meter.new + owed (machine_in loaded.now) (records_in loaded.now) cursor.new.place
         ≡ meter.old + owed (machine_in loaded.now) (records_in loaded.now) cursor.old.place }
     ensures next { YieldsFirst
         (λ (v : Cursor). rest (machine_in loaded.now) (records_in loaded.now) (breakpoints_in loaded.now) v.place)
         cursor.old result cursor.new }
 {
-    'go: while let Some(here) = left.first() {
-        if let Moved::Entry = skip_to_hit(meter, loaded, &here, cursor) {
-            return Some(stop_at(loaded, cursor, Why::Break));
+    if !finish_packet(meter, loaded, left, cursor) {
+        if !run_records(meter, loaded, loaded.watched, left, cursor) {
+            return None;
         }
-        let _ = left.next();
     }
-    None
+    Some(stop_at(loaded, cursor, Why::Break))
 }
 
 impl<'a, A: Allocator> Iterator for Stops<'a, A> {
@@ -119,7 +126,7 @@ impl<'a, A: Allocator> Iterator for Stops<'a, A> {
     // It moves a copy, as a run does.
     fn next(&mut self) -> Option<Stop> {
         let mut cursor = self.cursor;
-        let stop = next_stop(&mut self.meter, &self.loaded, &mut cursor, &mut self.left);
+        let stop = next_stop(&mut self.meter, &self.loaded, &mut self.left, &mut cursor);
         self.cursor = cursor;
         stop
     }

@@ -33,14 +33,8 @@ go_on-requires g c =
 
 pub pass-requires : goal.pass-requires
 pass-requires g c =
-    let can = countable (machine_in c.args.loaded.now) (records_in c.args.loaded.now) c.args.w.now c.requires.stands _
-    c.count-few.ensures.value c.count-few.ensures.bounded in
-    record {
-      packets = can.packets;
-      passes = can.passes;
-      fails = can.fails;
-      unknown = can.unknown;
-    }
+    countable (machine_in c.args.loaded.now) (records_in c.args.loaded.now) c.args.w.now c.requires.stands _
+    c.count-few.ensures.value c.count-few.ensures.bounded
 
 pub returns-in-None : goal.returns-in-None
 returns-in-None g c =

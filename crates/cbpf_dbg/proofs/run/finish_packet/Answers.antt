@@ -1,30 +1,73 @@
-use Rattle.std.proofs.Common.{[], length, arith, sym, ap, ◌∙◌}
-use Rattle.cbpf_dbg.specs.Cursor.{entry_here}
-use Rattle.cbpf_dbg.proofs.AskedLemmas.{quiet_hit}
-use Rattle.cbpf_dbg.proofs.JoinedLemmas.{rest-pass, rest-same}
-use Rattle.cbpf_dbg.proofs.CursorLemmas.{goes}
-use Rattle.cbpf_dbg.specs.Loaded.{machine_in, records_in}
+use Rattle.std.proofs.Common.{arith, refl}
+use Rattle.pcap_classic.specs.Lent.{record_of}
+use Rattle.cbpf_machine.specs.Follow.{is_watched}
+use Rattle.cbpf_dbg.specs.Loaded.{machine_in, records_in, breakpoints_in}
+use Rattle.cbpf_dbg.specs.declared.cursor.Moved.TheVariants as moved
+use Rattle.cbpf_dbg.proofs.CountLemmas.{countable}
+use Rattle.cbpf_dbg.proofs.FollowLemmas.{kept_steps, steps_few, steps_fit, goes_to_entry, goes_out}
+use Rattle.cbpf_dbg.proofs.KeepLemmas.{keeps_followed}
+use Rattle.cbpf_dbg.proofs.LeftLemmas.{first_left, first_of, passed_first}
 use Rattle.cbpf_dbg.proofs.run.finish_packet.Goals as goal
 
-pub pass-preserved : goal.pass-preserved
-pass-preserved g c =
-    let m = c.in-Entry.ensures.moves in
-    let inside = (goes (machine_in c.args.loaded.now) (records_in c.args.loaded.now) c.advance.new.w m.0
-    c.in-Entry.ensures.stands (omega (arith, m.3)) m.1).inside in
-    let no =
-    quiet_hit (machine_in c.args.loaded.now) [] m.0.bytes m.0.wire c.advance.new.w.state inside c.requires.quiet in
-    let same = rest-pass (machine_in c.args.loaded.now) (records_in c.args.loaded.now) [] c.pass.cursor.place
-    c.advance.new.w.place (entry_here (machine_in c.args.loaded.now) m.0 c.advance.new.w) m.4 no in
-    record {
-      stands = c.in-Entry.ensures.stands;
-      same_packet = m.2 ∙ c.pass.invariant.same_packet;
-      same_origin = c.in-Entry.ensures.origin ∙ c.pass.invariant.same_origin;
-      same_rest = sym same ∙ c.pass.invariant.same_rest;
-      spent = omega (arith, ap length m.4, m.3, c.in-Entry.ensures.turns, c.pass.invariant.spent);
-    }
+pub follow-followed-requires-clause-spare : goal.follow-followed-requires-clause-spare
+follow-followed-requires-clause-spare g c =
+    let here = first_left _ _ _ _ _ _ (first_of _ _ c.in-Some.ensures) c.requires.can.left.1 in
+    let few = steps_few (machine_in c.args.loaded.now) (records_in c.args.loaded.now) c.args.cursor.now (record_of c.in-Some.here)
+    c.requires.can.stands here in
+    omega (arith, few, c.requires.can.spare)
 
-pub returns-in-Packet-clause-rest : goal.returns-in-Packet-clause-rest
-returns-in-Packet-clause-rest g c =
-    sym (rest-same (machine_in c.args.loaded.now) (records_in c.args.loaded.now) [] c.pass.cursor.place
-    c.advance.new.w.place c.in-Packet.ensures.moves.1)
-    ∙ c.pass.invariant.same_rest
+pub follow-requires-clause-counts : goal.follow-requires-clause-counts
+follow-requires-clause-counts g c =
+    countable (machine_in c.args.loaded.now) (records_in c.args.loaded.now) c.args.cursor.now c.requires.can.stands _
+    c.count-few.ensures.value c.count-few.ensures.bounded
+
+pub follow-requires-clause-steps : goal.follow-requires-clause-steps
+follow-requires-clause-steps g c = λ n e.
+    let here = first_left _ _ _ _ _ _ (first_of _ _ c.in-Some.ensures) c.requires.can.left.1 in
+    let k = kept_steps (machine_in c.args.loaded.now) (records_in c.args.loaded.now) c.args.cursor.now (record_of c.in-Some.here)
+    c.requires.can.stands here (g.T.Trail.kept c.args.trail.now)
+    (g.met.T.Trail.as_long c.args.trail.now _ (c.requires.keeps _ here)) in
+    let fit = steps_fit (machine_in c.args.loaded.now) (records_in c.args.loaded.now) c.args.cursor.now (record_of c.in-Some.here)
+    c.requires.can.stands here (breakpoints_in c.args.loaded.now) (is_watched c.args.loaded.now.watched.now)
+    c.requires.can.covers (g.T.Trail.kept c.args.trail.now) c.follow-followed.result c.follow-followed.new.s k
+    c.follow-followed.ensures.follows n e in
+    omega (arith, fit)
+
+pub returns-in-Entry-clause-goes : goal.returns-in-Entry-clause-goes
+returns-in-Entry-clause-goes g c =
+    let is = first_of _ _ c.in-Some.ensures in
+    let here = first_left _ _ _ _ _ _ is c.requires.can.left.1 in
+    let k = kept_steps (machine_in c.args.loaded.now) (records_in c.args.loaded.now) c.args.cursor.now (record_of c.in-Some.here)
+    c.requires.can.stands here (g.T.Trail.kept c.args.trail.now)
+    (g.met.T.Trail.as_long c.args.trail.now _ (c.requires.keeps _ here)) in
+    goes_to_entry (machine_in c.args.loaded.now) (records_in c.args.loaded.now) c.args.cursor.now (record_of c.in-Some.here)
+    c.requires.can.stands here (breakpoints_in c.args.loaded.now) (is_watched c.args.loaded.now.watched.now)
+    c.requires.can.covers (g.T.Trail.kept c.args.trail.now) c.follow-followed.result c.follow-followed.new.s
+    c.follow.new.self c.args.meter.now c.follow-followed.new.meter c.args.left.now _ k c.in-Entry.ensures.moved
+    c.in-Entry.ensures.cursor c.follow-followed.ensures.follows
+    (omega (arith, c.follow-followed.ensures.turns, k, c.if-cursor-eq0.false)) is
+
+pub returns-in-Entry-clause-keeps : goal.returns-in-Entry-clause-keeps
+returns-in-Entry-clause-keeps g c = λ _.
+    let here = first_left _ _ _ _ _ _ (first_of _ _ c.in-Some.ensures) c.requires.can.left.1 in
+    let k = kept_steps (machine_in c.args.loaded.now) (records_in c.args.loaded.now) c.args.cursor.now (record_of c.in-Some.here)
+    c.requires.can.stands here (g.T.Trail.kept c.args.trail.now)
+    (g.met.T.Trail.as_long c.args.trail.now _ (c.requires.keeps _ here)) in
+    keeps_followed (λ xs. g.T.Trail.stands_for c.follow-followed.new.self xs) (machine_in c.args.loaded.now) (records_in c.args.loaded.now)
+    c.args.cursor.now (record_of c.in-Some.here) here c.follow-followed.result c.follow-followed.new.s moved.Entry
+    c.follow.new.self c.in-Entry.ensures.cursor c.in-Entry.ensures.moved
+    (λ n e. rw k at (c.follow-followed.ensures.stands n e)) refl
+
+pub returns-clause-goes : goal.returns-clause-goes
+returns-clause-goes g c =
+    let is = passed_first _ _ _ _ c.in-Some.ensures c.next.ensures.steps in
+    let here = first_left _ _ _ _ _ _ is c.requires.can.left.1 in
+    let k = kept_steps (machine_in c.args.loaded.now) (records_in c.args.loaded.now) c.args.cursor.now (record_of c.in-Some.here)
+    c.requires.can.stands here (g.T.Trail.kept c.args.trail.now)
+    (g.met.T.Trail.as_long c.args.trail.now _ (c.requires.keeps _ here)) in
+    goes_out (machine_in c.args.loaded.now) (records_in c.args.loaded.now) c.args.cursor.now (record_of c.in-Some.here)
+    c.requires.can.stands here (breakpoints_in c.args.loaded.now) (is_watched c.args.loaded.now.watched.now)
+    c.requires.can.covers (g.T.Trail.kept c.args.trail.now) c.follow-followed.result c.follow-followed.new.s
+    c.follow.new.self c.args.meter.now c.follow-followed.new.meter c.args.left.now _ k
+    c.in_default-follow.ensures.moved c.in_default-follow.ensures.cursor c.follow-followed.ensures.follows
+    (omega (arith, c.follow-followed.ensures.turns, k, c.if-cursor-eq0.false)) is

@@ -1,35 +1,53 @@
-use Rattle.std.proofs.Common.{arith}
+use Rattle.std.proofs.Common.{arith, ◌-◌}
+use Rattle.std.proofs.lemmas.Option.{slice_get_within}
+use Rattle.cbpf_dbg.specs.Loaded.{machine_in, records_in}
+use Rattle.cbpf_dbg.proofs.LeftLemmas.{is_end}
 use Rattle.cbpf_dbg.proofs.RunLemmas.{run_stopped, run_limited, run_finished, none_ahead}
-use Rattle.cbpf_dbg.proofs.TurnLemmas.{run_turns-reply, spent_between, owed-turns}
+use Rattle.cbpf_dbg.proofs.TurnLemmas.{run_turns-reply, spent_between, owed-turns, owed_bound}
 use Rattle.cbpf_dbg.proofs.run.run.Goals as goal
+
+pub run_to_hit-stop-requires-clause-spare : goal.run_to_hit-stop-requires-clause-spare
+run_to_hit-stop-requires-clause-spare g c =
+    let most = owed_bound (machine_in c.args.loaded.now) (records_in c.args.loaded.now) c.args.cursor.now.place
+    c.requires.stands.sound (omega (arith, c.count-count.ensures.bounded, c.count-count.ensures.value)) in
+    let early = c.requires.early in
+    omega (arith, most, early)
+
+pub run_to_hit-stop-requires-clause-ends : goal.run_to_hit-stop-requires-clause-ends
+run_to_hit-stop-requires-clause-ends g c =
+    is_end _ _ c.args.limit _ (rw c.count-count.ensures.value at c.end_of-end.ensures) c.requires.limit
+    c.requires.stands.within (λ begun.
+    let at = c.requires.stands.at begun in
+    let within = slice_get_within (records_in c.args.loaded.now) (c.args.cursor.now.place.packet - 1) at.0 at.1 in
+    omega (arith, within))
 
 pub returns-in-Some-clause-runs : goal.returns-in-Some-clause-runs
 returns-in-Some-clause-runs g c =
     let came = c.in-Some.ensures in
-    run_stopped _ _ _ _ _ _ (rw c.count-count.ensures.value at c.end_of-end.ensures) _ _ came.origin came.order came.comes
+    run_stopped _ _ _ _ _ _ (rw c.count-count.ensures.value at c.end_of-end.ensures) _ _ came.passes.origin came.passes.order came.comes
 
 pub returns-in-Some-clause-turns : goal.returns-in-Some-clause-turns
 returns-in-Some-clause-turns g c =
     let came = c.in-Some.ensures in
     rw (run_turns-reply _ _ _ _ _ _ _ (returns-in-Some-clause-runs g c))
-    (spent_between _ _ _ _ _ _ c.requires.stands came.stands came.order came.spent)
+    (spent_between _ _ _ _ _ _ c.requires.stands came.passes.stands came.passes.order came.passes.spent)
 
 pub returns-then-end-count-clause-runs : goal.returns-then-end-count-clause-runs
 returns-then-end-count-clause-runs g c =
     let came = c.in_default.ensures in
-    run_limited _ _ _ _ _ _ (rw c.count-count.ensures.value at c.end_of-end.ensures) _ came.stands came.origin
+    run_limited _ _ _ _ _ _ (rw c.count-count.ensures.value at c.end_of-end.ensures) _ came.passes.stands came.passes.origin
     came.comes (rw c.count-count.ensures.value at c.if-end-count.true)
 
 pub returns-then-end-count-clause-turns : goal.returns-then-end-count-clause-turns
 returns-then-end-count-clause-turns g c =
     let came = c.in_default.ensures in
     rw (run_turns-reply _ _ _ _ _ _ _ (returns-then-end-count-clause-runs g c))
-    (spent_between _ _ _ _ _ _ c.requires.stands came.stands came.order came.spent)
+    (spent_between _ _ _ _ _ _ c.requires.stands came.passes.stands came.passes.order came.passes.spent)
 
 pub returns-clause-runs : goal.returns-clause-runs
 returns-clause-runs g c =
     let came = c.in_default.ensures in
-    run_finished _ _ _ _ _ _ (rw c.count-count.ensures.value at c.end_of-end.ensures) _ _ came.stands came.origin
+    run_finished _ _ _ _ _ _ (rw c.count-count.ensures.value at c.end_of-end.ensures) _ _ came.passes.stands came.passes.origin
     came.comes (rw c.count-count.ensures.value at c.if-end-count.false) c.start.ensures.place c.start.ensures.origin
 
 pub returns-clause-ahead : goal.returns-clause-ahead
@@ -45,4 +63,4 @@ returns-clause-turns g c =
     (rw c.count-count.ensures.value at c.end_of-end.ensures) c.run_to_hit-stop.new.cursor came.comes
     (rw c.count-count.ensures.value at c.if-end-count.false)).0 in
     let all = owed-turns _ _ c.args.cursor.now c.requires.stands in
-    rw (run_turns-reply _ _ _ _ _ _ _ (returns-clause-runs g c)) (omega (arith, all, none, came.spent))
+    rw (run_turns-reply _ _ _ _ _ _ _ (returns-clause-runs g c)) (omega (arith, all, none, came.passes.spent))

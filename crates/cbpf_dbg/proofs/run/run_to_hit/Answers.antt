@@ -1,54 +1,111 @@
-use Rattle.std.proofs.Common.{arith, sym, ap, ◌∙◌, refl}
-use Rattle.cbpf_reply.specs.declared.reply.Place.{Place}
+use Rattle.std.proofs.Common.{arith, sym, ◌∙◌, refl, true}
+use Rattle.cbpf_machine.specs.Follow.{is_watched}
+use Rattle.cbpf_machine.specs.Trace.{trace}
+use Rattle.cbpf_machine.proofs.SoundLemmas.{sound_few}
+use Rattle.cbpf_machine.proofs.TraceLemmas.{first_entry}
+use Rattle.cbpf_dbg.specs.Going.{GoesOn}
+use Rattle.cbpf_dbg.specs.Loaded.{machine_in, records_in, breakpoints_in}
 use Rattle.cbpf_dbg.proofs.CursorLemmas.{goes}
-use Rattle.cbpf_dbg.proofs.LeftLemmas.{first_left, none_left}
-use Rattle.cbpf_dbg.proofs.KeepLemmas.{keeps_clear}
-use Rattle.cbpf_dbg.proofs.TurnLemmas.{not_before_after}
-use Rattle.cbpf_dbg.specs.Loaded.{machine_in, records_in}
-use Rattle.pcap_classic.specs.Lent.{record_of}
+use Rattle.cbpf_dbg.proofs.FollowLemmas.{step_within, steps_few}
+use Rattle.cbpf_dbg.proofs.GoingLemmas.{at_hit, goes_more, goes_passed, passes_entry, passes_more}
+use Rattle.cbpf_dbg.proofs.KeepLemmas.{entry_at_place}
+use Rattle.cbpf_dbg.proofs.LeftLemmas.{none_left}
 use Rattle.cbpf_dbg.proofs.run.run_to_hit.Goals as goal
-
-pub go_to_hit-requires-clause-here : goal.go_to_hit-requires-clause-here
-go_to_hit-requires-clause-here g c =
-    let so = c.go.invariant in
-    (first_left _ _ _ _ _ _ _ so.stands so.left c.in-Some.ensures.steps).here
 
 pub stop_at-requires : goal.stop_at-requires
 stop_at-requires g c =
-    let so = c.go.invariant in
-    let first = first_left _ _ _ _ _ _ _ so.stands so.left c.in-Some.ensures.steps in
-    let h = c.in-Entry.ensures.passes in
-    (goes (machine_in c.args.loaded.now) (records_in c.args.loaded.now) c.go_to_hit.new.cursor
-    (record_of c.in-Some.here) c.in-Entry.ensures.stands h.1 (rw h.0 first.here)).inside
+    (at_hit _ _ _ c.args.loaded.now.watched.now _ _ _ _ _ _ c.requires.watched
+    c.if-finish_packet.ensures.goes).1
 
-pub returns-in-Entry-clause-comes : goal.returns-in-Entry-clause-comes
-returns-in-Entry-clause-comes g c =
+pub returns-then-finish_packet-clause-comes : goal.returns-then-finish_packet-clause-comes
+returns-then-finish_packet-clause-comes g c =
     let so = c.go.invariant in
-    let first = first_left _ _ _ _ _ _ _ so.stands so.left c.in-Some.ensures.steps in
-    let h = c.in-Entry.ensures.passes in
-    rw (c.stop_at.ensures (record_of c.in-Some.here))
-    (refl, omega (arith, h.0, first.before), sym so.same_rest ∙ h.2)
+    let went = c.if-finish_packet.ensures.goes in
+    let hit = at_hit _ _ _ c.args.loaded.now.watched.now _ _ _ _ _ _ c.requires.watched went in
+    rw (c.stop_at.ensures hit.0)
+    (refl, (went.left _ so.left).ends.later (went.entry refl).0, so.passes.hits ∙ hit.2)
+
+pub returns-then-not-run_whole-clause-comes : goal.returns-then-not-run_whole-clause-comes
+returns-then-not-run_whole-clause-comes g c =
+    let so = c.go.invariant in
+    let all = goes_more _ _ _ _ _ _ _ _ _ _ _ _ _ _ _ c.if-finish_packet.ensures.goes
+    c.if-not-run_whole.ensures.goes in
+    let passes = goes_passed _ _ _ _ _ _ _ _ _ _ all in (
+      none_left _ _ _ _ _ passes.stands (c.if-not-run_whole.ensures.none refl) (all.left _ so.left),
+      sym (so.passes.hits ∙ passes.hits),
+    )
+
+pub start-requires-clause-few : goal.start-requires-clause-few
+start-requires-clause-few g c =
+    let ran = c.if-not-run_whole.ensures.goes in
+    let begun = (ran.entry refl).0 in
+    let at = ran.passes.stands.at begun in
+    omega (
+      arith,
+      step_within (machine_in c.args.loaded.now) (records_in c.args.loaded.now) _ at.0 ran.passes.stands at.1,
+      steps_few (machine_in c.args.loaded.now) (records_in c.args.loaded.now) _ at.0 ran.passes.stands at.1,
+    )
+
+pub stop_at-requires-then-pauses_at : goal.stop_at-requires-then-pauses_at
+stop_at-requires-then-pauses_at g c =
+    let ran = c.if-not-run_whole.ensures.goes in
+    let begun = (ran.entry refl).0 in
+    let at = ran.passes.stands.at begun in
+    (goes (machine_in c.args.loaded.now) (records_in c.args.loaded.now) _ at.0 ran.passes.stands begun at.1).inside
+
+pub pauses_at-requires : goal.pauses_at-requires
+pauses_at-requires g c =
+    let ran = c.if-not-run_whole.ensures.goes in
+    let begun = (ran.entry refl).0 in
+    let at = ran.passes.stands.at begun in
+    let inside =
+    (goes (machine_in c.args.loaded.now) (records_in c.args.loaded.now) _ at.0 ran.passes.stands begun at.1).inside in
+    omega (arith, inside, sound_few c.args.loaded.now.program.now ran.passes.stands.sound)
+
+pub returns-then-pauses_at-clause-comes : goal.returns-then-pauses_at-clause-comes
+returns-then-pauses_at-clause-comes g c =
+    let so = c.go.invariant in
+    let ran = c.if-not-run_whole.ensures.goes in
+    let begun = (ran.entry refl).0 in
+    let at = ran.passes.stands.at begun in
+    let watched : GoesOn (machine_in c.args.loaded.now) (records_in c.args.loaded.now) (breakpoints_in c.args.loaded.now)
+    (is_watched c.args.loaded.now.watched.now) c.finish_packet.new.cursor c.run_whole.new.cursor
+    c.finish_packet.new.left c.run_whole.new.left c.finish_packet.new.meter c.run_whole.new.meter true =
+    record {
+      passes = ran.passes;
+      left = ran.left;
+      entry = λ e. ((ran.entry e).0, sym c.pauses_at.ensures ∙ c.if-pauses_at.true);
+      out = ran.out;
+    } in
+    let all = goes_more _ _ _ _ _ _ _ _ _ _ _ _ _ _ _ c.if-finish_packet.ensures.goes watched in
+    let hit = at_hit _ _ _ c.args.loaded.now.watched.now _ _ _ _ _ _ c.requires.watched all in
+    rw (c.stop_at-then-pauses_at.ensures hit.0)
+    (refl, (all.left _ so.left).ends.later begun, so.passes.hits ∙ hit.2)
+
+pub returns-then-pauses_at-clause-keeps : goal.returns-then-pauses_at-clause-keeps
+returns-then-pauses_at-clause-keeps g c = λ r there.
+    let ran = c.if-not-run_whole.ensures.goes in
+    let begun = (ran.entry refl).0 in
+    let at = ran.passes.stands.at begun in
+    c.start.ensures.stands (trace (machine_in c.args.loaded.now) r.bytes r.wire)
+    (first_entry (machine_in c.args.loaded.now) r.bytes r.wire ran.passes.stands.sound)
+    (entry_at_place (machine_in c.args.loaded.now) (records_in c.args.loaded.now) _ r ran.passes.stands begun there)
 
 pub go-preserved : goal.go-preserved
 go-preserved g c =
     let so = c.go.invariant in
-    let passed = c.in_default-go_to_hit.ensures in
-    let first = first_left _ _ _ _ _ _ _ so.stands so.left c.in-Some.ensures.steps in
+    let ran = c.if-not-run_whole.ensures.goes in
+    let begun = (ran.entry refl).0 in
+    let at = ran.passes.stands.at begun in
+    let all = goes_more _ _ _ _ _ _ _ _ _ _ _ _ _ _ _ c.if-finish_packet.ensures.goes ran in
+    let inside =
+    (goes (machine_in c.args.loaded.now) (records_in c.args.loaded.now) _ at.0 ran.passes.stands begun at.1).inside in
+    let none = sym (c.requires.watched at.0.bytes at.0.wire _ inside) ∙ (sym c.pauses_at.ensures
+    ∙ c.if-pauses_at.false) in
     record {
-      left = rw passed.passes.0 first.others;
-      ends = rw passed.passes.0 (first.ends so.ends.within);
-      stands = passed.stands;
-      keeps = keeps_clear (λ xs. g.T.Trail.stands_for c.clear-in-Some.new.self xs) (machine_in c.args.loaded.now)
-          (records_in c.args.loaded.now) c.go_to_hit.new.cursor.place (ap (λ (q : Place). q.step) passed.passes.0)
-          c.clear-in-Some.ensures;
-      same_origin = passed.origin ∙ so.same_origin;
-      same_rest = passed.passes.1 ∙ so.same_rest;
-      order = not_before_after c.args.cursor.now.place c.go.cursor.place c.go_to_hit.new.cursor.place so.order
-          passed.order;
-      spent = passed.spent ∙ so.spent;
+      passes = passes_more _ _ _ _ _ _ _ _ _ _ so.passes (passes_entry _ _ _ _ _ at.0 _ _ begun at.1 none all.passes);
+      left = all.left _ so.left;
+      keeps = λ r there. c.start.ensures.stands (trace (machine_in c.args.loaded.now) r.bytes r.wire)
+          (first_entry (machine_in c.args.loaded.now) r.bytes r.wire ran.passes.stands.sound)
+          (entry_at_place (machine_in c.args.loaded.now) (records_in c.args.loaded.now) _ r ran.passes.stands begun there);
     }
-
-pub returns-clause-comes : goal.returns-clause-comes
-returns-clause-comes g c =
-    let so = c.go.invariant in
-    (none_left _ _ _ _ _ so.stands so.left c.in_default.ensures.steps.0 so.ends, so.same_rest)

@@ -1,0 +1,153 @@
+-- Runs that go on, one after another.
+use Rattle.std.proofs.Common.{◌≡◌, ℕ, zero, suc, ◌+◌, ◌-◌, ◌<◌, ◌≤◌, List, ◌∷◌, length, arith, sym, ap, ◌∙◌, refl, inr}
+use Rattle.std.proofs.Common.{Bool, true, false, subst}
+use Rattle.std.specs.Prelude.{Some, slice_get, nat_le, ◌||◌}
+use Rattle.std.proofs.lemmas.Bool.Decides.{nat_tests}
+use Rattle.std.proofs.lemmas.Option.{slice_get_cases, slice_get_within}
+use Rattle.std.proofs.Common.{inl}
+use Rattle.cbpf_machine.specs.Follow.{Unpaused, Watching, is_watched}
+use Rattle.cbpf_machine.specs.Machine.{Machine}
+use Rattle.cbpf_machine.specs.Registers.{Registers}
+use Rattle.cbpf_machine.specs.Trace.{IsRun, trace}
+use Rattle.cbpf_machine.proofs.TraceLemmas.{trace-is_run}
+use Rattle.pcap_classic.specs.Records.{Record}
+use Rattle.cbpf_reply.specs.declared.reply.Place.{Place}
+use Rattle.cbpf_reply.specs.declared.reply.Why.TheVariants as why
+use Rattle.cbpf_dbg.specs.declared.cursor.Cursor.{Cursor}
+use Rattle.cbpf_dbg.specs.Breakpoints.{Breakpoints}
+use Rattle.cbpf_dbg.specs.Joined.{ahead, rest, stop_at}
+use Rattle.cbpf_dbg.specs.Session.{Watches, hits}
+use Rattle.cbpf_dbg.specs.Cursor.{Stands, Passes, before, entry_here}
+use Rattle.cbpf_dbg.specs.Going.{GoesOn}
+use Rattle.cbpf_dbg.proofs.CursorLemmas.{goes}
+use Rattle.cbpf_dbg.proofs.JoinedLemmas.{ahead-entry, rest-hit, rest-pass}
+use Rattle.cbpf_dbg.proofs.KeepLemmas.{entry_at_place}
+use Rattle.cbpf_dbg.proofs.TurnLemmas.{not_before_after}
+
+before_none : (place : Place) → place.step ≡ 0 → before place ≡ place
+before_none place step = let e : place.step - 1 ≡ place.step = omega (arith, step) in
+    ap (λ k. record { packet = place.packet; step = k }) e
+
+module _ (machine : Machine) (capture : List Record) (breakpoints : Breakpoints) where
+  pub passes_more : (old mid new : Cursor) (to : Place) (m n k : ℕ)
+      → Passes machine capture breakpoints old mid mid.place m n → Passes machine capture breakpoints mid new to n k
+      → Passes machine capture breakpoints old new to m k
+  passes_more old mid new to m n k h then_ =
+      record {
+        stands = then_.stands;
+        origin = then_.origin ∙ h.origin;
+        order = not_before_after old.place mid.place new.place h.order then_.order;
+        hits = h.hits ∙ then_.hits;
+        spent = then_.spent ∙ h.spent;
+      }
+
+  pub goes_passed : (pauses : Registers → Bool) (old new : Cursor) (from left : List Record) (m n : ℕ)
+      → GoesOn machine capture breakpoints pauses old new from left m n false
+      → Passes machine capture breakpoints old new new.place m n
+  goes_passed pauses old new from left m n h =
+      subst (λ to. Passes machine capture breakpoints old new to m n) (before_none new.place (h.out refl)) h.passes
+
+  pub goes_more : (p q : Registers → Bool) (old mid new : Cursor) (from between left : List Record) (m n k : ℕ)
+      (paused : Bool) → GoesOn machine capture breakpoints p old mid from between m n false
+      → GoesOn machine capture breakpoints q mid new between left n k paused
+      → GoesOn machine capture breakpoints q old new from left m k paused
+  goes_more p q old mid new from between left m n k paused h then_ =
+      record {
+        passes = passes_more old mid new (before new.place) m n k (goes_passed p old mid from between m n h) then_.passes;
+        left = λ end there. then_.left end (h.left end there);
+        entry = then_.entry;
+        out = then_.out;
+      }
+
+  -- the entry of a place is the first one from it on
+  module _ (w : Cursor) (r : Record) (h : Stands machine capture w) (begun : 0 < w.place.step)
+      (at : slice_get capture (w.place.packet - 1) ≡ Some r) where
+    entry_first : ahead machine capture (before w.place) ≡ entry_here machine r w ∷ ahead machine capture w.place
+    entry_first =
+        let one : 1 ≤ w.place.packet = omega (arith, h.from_one, h.ordered) in
+        let i : w.place.step - 1 + 1 ≡ w.place.step = omega (arith, begun) in
+        rw i at (ahead-entry machine capture w.place.packet (w.place.step - 1) r w.state one at
+        (entry_at_place machine capture w r h begun at))
+
+    pub hits_hit : hits machine breakpoints r.bytes r.wire w.state ≡ true
+        → rest machine capture breakpoints (before w.place)
+        ≡ stop_at why.Break (entry_here machine r w) ∷ rest machine capture breakpoints w.place
+    hits_hit hit =
+        rest-hit machine capture breakpoints (before w.place) w.place (entry_here machine r w) entry_first hit
+
+    pub hits_none : hits machine breakpoints r.bytes r.wire w.state ≡ false
+        → rest machine capture breakpoints (before w.place) ≡ rest machine capture breakpoints w.place
+    hits_none none =
+        rest-pass machine capture breakpoints (before w.place) w.place (entry_here machine r w) entry_first none
+
+  -- past an entry that is no hit
+  pub passes_entry : (old w : Cursor) (r : Record) (m n : ℕ) → 0 < w.place.step
+      → slice_get capture (w.place.packet - 1) ≡ Some r → hits machine breakpoints r.bytes r.wire w.state ≡ false
+      → Passes machine capture breakpoints old w (before w.place) m n
+      → Passes machine capture breakpoints old w w.place m n
+  passes_entry old w r m n begun at none h =
+      record {
+        stands = h.stands;
+        origin = h.origin;
+        order = h.order;
+        hits = h.hits ∙ hits_none w r h.stands begun at none;
+        spent = h.spent;
+      }
+
+  -- where a run pauses at the hits alone, it paused at the first one
+  pub at_hit : (watched : Watching) (old new : Cursor) (from left : List Record) (m n : ℕ)
+      → Watches watched machine breakpoints
+      → GoesOn machine capture breakpoints (is_watched watched) old new from left m n true
+      → (r : Record) × (new.state.pc < length machine.list)
+      × (rest machine capture breakpoints old.place
+      ≡ stop_at why.Break (entry_here machine r new) ∷ rest machine capture breakpoints new.place)
+  at_hit watched old new from left m n watches h =
+      let here = h.entry refl in
+      let at = h.passes.stands.at here.0 in
+      let inside = (goes machine capture new at.0 h.passes.stands here.0 at.1).inside in (
+        at.0,
+        inside,
+        h.passes.hits ∙ hits_hit new at.0 h.passes.stands here.0 at.1
+            (sym (watches at.0.bytes at.0.wire new.state inside) ∙ here.1),
+      )
+
+-- a run of which no instruction before its last has a number of at least n has few entries
+least : (machine : Machine) (bytes : List ℕ) (wire : ℕ) (xs : List Registers) (i : ℕ) (s : Registers)
+    → IsRun machine bytes wire xs → slice_get xs i ≡ Some s → i ≤ s.pc
+least machine bytes wire xs zero s run at = omega arith
+least machine bytes wire xs (suc i) s run at =
+    let within = slice_get_within xs (suc i) s at in
+    elim (slice_get_cases xs i).1 [
+      | inl found ↦
+          let e : suc i ≡ i + 1 = omega arith in
+          let next : slice_get xs (i + 1) ≡ Some s = rw e at at in
+          omega (arith, run.rises i found.0 s found.2 next, least machine bytes wire xs i found.0 run found.2)
+      | inr past ↦ absurd (omega (arith, past.0, within))
+    ]
+
+not_past : (n pc : ℕ) (b : Bool) → (nat_le n pc || b) ≡ false → pc < n
+not_past n pc b h = grind (arith, nat_tests)
+
+pub few_before : (machine : Machine) (capture : List Record) (pauses : Registers → Bool) (fence : ℕ) (w : Cursor)
+    (r : Record) → Stands machine capture w → 0 < w.place.step → slice_get capture (w.place.packet - 1) ≡ Some r
+    → Unpaused (λ s. nat_le fence s.pc || pauses s) (trace machine r.bytes r.wire) 0 (w.place.step - 1)
+    → w.place.step ≤ fence + 1
+few_before machine capture pauses fence w r h begun at unpaused =
+    let xs : List Registers = trace machine r.bytes r.wire in
+    let within = slice_get_within xs (w.place.step - 1) w.state (entry_at_place machine capture w r h begun at) in
+    few w.place.step within refl
+  where
+    few : (k : ℕ) → w.place.step - 1 < length (trace machine r.bytes r.wire) → w.place.step ≡ k
+        → w.place.step ≤ fence + 1
+    few zero within e = omega (arith, e)
+    few (suc zero) within e = omega (arith, e)
+    few (suc (suc i)) within e =
+        elim (slice_get_cases (trace machine r.bytes r.wire) i).1 [
+          | inl found ↦
+              let run = trace-is_run machine r.bytes r.wire h.sound in
+              let low = least machine r.bytes r.wire (trace machine r.bytes r.wire) i found.0 run found.2 in
+              let high = not_past fence found.0.pc (pauses found.0)
+              (unpaused i found.0 (omega arith) (omega (arith, e)) found.2) in
+              omega (arith, e, low, high)
+          | inr past ↦ absurd (omega (arith, past.0, within, e))
+        ]

@@ -1,0 +1,40 @@
+use Rattle.std.proofs.Common.{◌≡◌, ◌-◌, arith, ap, ◌∙◌, length, refl}
+use Rattle.pcap_classic.specs.Lent.{record_of}
+use Rattle.cbpf_machine.specs.Trace.{trace}
+use Rattle.cbpf_dbg.specs.Cursor.{passed}
+use Rattle.cbpf_dbg.proofs.CountLemmas.{countable}
+use Rattle.cbpf_dbg.proofs.LeftLemmas.{first_left, left_past, passed_first}
+use Rattle.cbpf_dbg.proofs.StepLemmas.{nears_more, nears_past}
+use Rattle.cbpf_dbg.specs.Loaded.{machine_in, records_in}
+use Rattle.cbpf_dbg.proofs.step.skip_packets.Goals as goal
+
+pub pass-requires : goal.pass-requires
+pass-requires g c =
+    countable (machine_in c.args.loaded.now) (records_in c.args.loaded.now) c.skip.w c.skip.invariant.nears.stands _
+    c.count-few.ensures.value c.count-few.ensures.bounded
+
+pub skip-preserved : goal.skip-preserved
+skip-preserved g c =
+    let so = c.skip.invariant in
+    let stands = so.nears.stands in
+    let is = passed_first _ _ _ _ c.in-Some.ensures c.next.ensures.steps in
+    let on = c.pass.ensures ∙ ap (passed c.skip.w) c.run_packet.ensures.value in
+    let made : (c.spent.result - c.spent-before.result)
+    ≡ length (trace (machine_in c.args.loaded.now) c.in-Some.here.bytes.now c.in-Some.here.wire) =
+    omega (arith, c.run_packet.ensures.turns, c.spent-before.ensures, c.spent.ensures) in
+    let past = nears_past (machine_in c.args.loaded.now) (records_in c.args.loaded.now) c.skip.w c.pass.new.self
+    (record_of c.in-Some.here) c.skip.left (c.spent.result - c.spent-before.result) c.skip.meter
+    c.run_packet.new.meter stands (first_left _ _ _ _ _ _ is so.records) so.before on made (omega (
+      arith,
+      c.run_packet.ensures.few,
+      c.spent-before.ensures,
+      c.spent.ensures,
+      c.len.ensures.value,
+      c.from-longest.ensures,
+      c.skip-test.true,
+    )) (omega (arith, made, c.run_packet.ensures.turns)) in
+    record {
+      nears = nears_more _ _ _ _ _ _ _ _ _ _ _ so.nears past;
+      records = rw c.pass.ensures (left_past _ _ _ _ _ _ _ stands is so.records);
+      before = rw c.pass.ensures refl;
+    }

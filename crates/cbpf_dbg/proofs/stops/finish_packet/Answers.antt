@@ -1,0 +1,62 @@
+use Rattle.std.proofs.Common.{◌<◌, arith, refl}
+use Rattle.pcap_classic.specs.Lent.{record_of}
+use Rattle.cbpf_machine.specs.Follow.{is_watched}
+use Rattle.cbpf_dbg.specs.Loaded.{machine_in, records_in, breakpoints_in}
+use Rattle.cbpf_dbg.proofs.CountLemmas.{countable}
+use Rattle.cbpf_dbg.proofs.CursorLemmas.{goes}
+use Rattle.cbpf_dbg.proofs.FollowLemmas.{steps_fit, goes_to_entry, goes_out}
+use Rattle.cbpf_dbg.proofs.KeepLemmas.{entry_at_place}
+use Rattle.cbpf_dbg.proofs.LeftLemmas.{first_left, first_of, passed_first}
+use Rattle.cbpf_dbg.proofs.stops.finish_packet.Goals as goal
+
+pub follow_on-followed-requires-clause-inside : goal.follow_on-followed-requires-clause-inside
+follow_on-followed-requires-clause-inside g c =
+    let here = first_left _ _ _ _ _ _ (first_of _ _ c.in-Some.ensures) c.requires.left.1 in
+    (goes (machine_in c.args.loaded.now) (records_in c.args.loaded.now) c.args.cursor.now (record_of c.in-Some.here)
+    c.requires.stands (omega (arith, c.if-cursor-eq0.false)) here).inside
+
+pub follow-requires-clause-counts : goal.follow-requires-clause-counts
+follow-requires-clause-counts g c =
+    countable (machine_in c.args.loaded.now) (records_in c.args.loaded.now) c.args.cursor.now c.requires.stands _
+    c.count-few.ensures.value c.count-few.ensures.bounded
+
+pub follow-requires-clause-steps : goal.follow-requires-clause-steps
+follow-requires-clause-steps g c = λ n e.
+    let here = first_left _ _ _ _ _ _ (first_of _ _ c.in-Some.ensures) c.requires.left.1 in
+    let begun : 0 < c.args.cursor.now.place.step = omega (arith, c.if-cursor-eq0.false) in
+    let entry = entry_at_place (machine_in c.args.loaded.now) (records_in c.args.loaded.now) c.args.cursor.now (record_of c.in-Some.here)
+    c.requires.stands begun here in
+    let fit = steps_fit (machine_in c.args.loaded.now) (records_in c.args.loaded.now) c.args.cursor.now (record_of c.in-Some.here)
+    c.requires.stands here (breakpoints_in c.args.loaded.now) (is_watched c.args.loaded.now.watched.now)
+    c.requires.covers _ c.follow_on-followed.result c.follow_on-followed.new.s refl
+    (c.follow_on-followed.ensures.follows _ begun entry) n e in
+    omega (arith, fit)
+
+pub returns-in-Entry : goal.returns-in-Entry
+returns-in-Entry g c =
+    let is = first_of _ _ c.in-Some.ensures in
+    let here = first_left _ _ _ _ _ _ is c.requires.left.1 in
+    let begun : 0 < c.args.cursor.now.place.step = omega (arith, c.if-cursor-eq0.false) in
+    let entry = entry_at_place (machine_in c.args.loaded.now) (records_in c.args.loaded.now) c.args.cursor.now (record_of c.in-Some.here)
+    c.requires.stands begun here in
+    goes_to_entry (machine_in c.args.loaded.now) (records_in c.args.loaded.now) c.args.cursor.now (record_of c.in-Some.here)
+    c.requires.stands here (breakpoints_in c.args.loaded.now) (is_watched c.args.loaded.now.watched.now)
+    c.requires.covers _ c.follow_on-followed.result c.follow_on-followed.new.s
+    c.follow.new.self c.args.meter.now c.follow_on-followed.new.meter c.args.left.now _ refl c.in-Entry.ensures.moved
+    c.in-Entry.ensures.cursor (c.follow_on-followed.ensures.follows _ begun entry)
+    (omega (arith, c.follow_on-followed.ensures.turns _ begun entry, begun)) is
+
+pub returns : goal.returns
+returns g c =
+    let is = passed_first _ _ _ _ c.in-Some.ensures c.next.ensures.steps in
+    let here = first_left _ _ _ _ _ _ is c.requires.left.1 in
+    let begun : 0 < c.args.cursor.now.place.step = omega (arith, c.if-cursor-eq0.false) in
+    let entry = entry_at_place (machine_in c.args.loaded.now) (records_in c.args.loaded.now) c.args.cursor.now (record_of c.in-Some.here)
+    c.requires.stands begun here in
+    goes_out (machine_in c.args.loaded.now) (records_in c.args.loaded.now) c.args.cursor.now (record_of c.in-Some.here)
+    c.requires.stands here (breakpoints_in c.args.loaded.now) (is_watched c.args.loaded.now.watched.now)
+    c.requires.covers _ c.follow_on-followed.result c.follow_on-followed.new.s
+    c.follow.new.self c.args.meter.now c.follow_on-followed.new.meter c.args.left.now _ refl
+    c.in_default-follow.ensures.moved c.in_default-follow.ensures.cursor
+    (c.follow_on-followed.ensures.follows _ begun entry)
+    (omega (arith, c.follow_on-followed.ensures.turns _ begun entry, begun)) is
