@@ -2,7 +2,6 @@
 use Rattle.std.proofs.Common.{◌≡◌, ℕ, zero, suc, ◌+◌, ◌-◌, ◌<◌, ◌≤◌, List, [], ◌∷◌, length, drop, take, arith, refl, inl, inr}
 use Rattle.std.proofs.Common.{sym, ap, ◌∙◌}
 use Rattle.std.specs.Prelude.{Option, Some, None, slice_get}
-use Rattle.std.specs.Iterator.{YieldsFirstBy}
 use Rattle.pcap_classic.specs.Lent.{record_of}
 use Rattle.pcap_classic.specs.declared.captured.Captured.{Captured}
 use Rattle.std.proofs.lemmas.Bool.{cases_lt}
@@ -120,13 +119,6 @@ first_of (x ∷ left) r e = cc
 pub none_of : (left : List Record) → None ≡ slice_get left 0 → left ≡ []
 none_of [] e = refl
 none_of (x ∷ left) e = cc
-
--- and passed after it was read
-pub passed_first : (left new : List Record) (o : Option Captured) (r : Record) → Some r ≡ slice_get left 0
-    → YieldsFirstBy record_of (λ rest. rest) left o new → left ≡ r ∷ new
-passed_first [] new o r e steps = absurd cc
-passed_first (x ∷ left) new None r e steps = absurd cc
-passed_first (x ∷ left) new (Some y) r e steps = cc
 
 -- where a run ends is not before its place
 pub is_end : (capture : List Record) (place : Place) (limit : Option ℕ) (end : ℕ)

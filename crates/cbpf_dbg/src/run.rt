@@ -72,7 +72,7 @@ pub(crate) fn run_records<P: Pause, A: Allocator>(
         if let Moved::Entry = cursor.follow(followed) {
             return true;
         }
-        let _ = left.next();
+        left.pass(&here);
     }
     false
 }
@@ -147,7 +147,7 @@ fn finish_packet<T: Trail, A: Allocator>(
     if let Moved::Entry = cursor.follow(followed) {
         return true;
     }
-    let _ = left.next();
+    left.pass(&here);
     false
 }
 

@@ -49,7 +49,7 @@ fn skip_packets<A: Allocator>(
         let before = meter.spent();
         w.pass(run_packet(meter, loaded.program, packet, loaded.values));
         left -= (meter.spent() - before) as u64;
-        let _ = records.next();
+        records.pass(&here);
     }
     left
 }
@@ -93,7 +93,7 @@ pub(crate) fn step_on<T: Trail, A: Allocator>(
                 left -= 1;
             }
             Moved::Packet => {
-                let _ = records.next();
+                records.pass(&here);
                 left = skip_packets(meter, loaded, &mut records, w, left);
                 trail.clear();
             }

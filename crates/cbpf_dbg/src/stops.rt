@@ -84,7 +84,7 @@ fn finish_packet<A: Allocator>(
     if let Moved::Entry = cursor.follow(followed) {
         return true;
     }
-    let _ = left.next();
+    left.pass(&here);
     false
 }
 

@@ -6,7 +6,7 @@ use Rattle.cbpf_dbg.specs.declared.cursor.Moved.TheVariants as moved
 use Rattle.cbpf_dbg.proofs.CountLemmas.{countable}
 use Rattle.cbpf_dbg.proofs.FollowLemmas.{kept_steps, steps_few, steps_fit, goes_to_entry, goes_out}
 use Rattle.cbpf_dbg.proofs.KeepLemmas.{keeps_followed}
-use Rattle.cbpf_dbg.proofs.LeftLemmas.{first_left, first_of, passed_first}
+use Rattle.cbpf_dbg.proofs.LeftLemmas.{first_left, first_of}
 use Rattle.cbpf_dbg.proofs.run.finish_packet.Goals as goal
 
 pub follow-followed-requires-clause-spare : goal.follow-followed-requires-clause-spare
@@ -60,7 +60,7 @@ returns-in-Entry-clause-keeps g c = λ _.
 
 pub returns-clause-goes : goal.returns-clause-goes
 returns-clause-goes g c =
-    let is = passed_first _ _ _ _ c.in-Some.ensures c.next.ensures.steps in
+    let is = c.pass.ensures in
     let here = first_left _ _ _ _ _ _ is c.requires.can.left.1 in
     let k = kept_steps (machine_in c.args.loaded.now) (records_in c.args.loaded.now) c.args.cursor.now (record_of c.in-Some.here)
     c.requires.can.stands here (g.T.Trail.kept c.args.trail.now)

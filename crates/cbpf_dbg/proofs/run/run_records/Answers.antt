@@ -4,7 +4,7 @@ use Rattle.cbpf_dbg.specs.Loaded.{machine_in, records_in, breakpoints_in}
 use Rattle.cbpf_dbg.proofs.CountLemmas.{countable}
 use Rattle.cbpf_dbg.proofs.FollowLemmas.{steps_fit, goes_to_entry, goes_out, first_pause}
 use Rattle.cbpf_dbg.proofs.GoingLemmas.{goes_more}
-use Rattle.cbpf_dbg.proofs.LeftLemmas.{first_left, first_of, none_of, passed_first}
+use Rattle.cbpf_dbg.proofs.LeftLemmas.{first_left, first_of, none_of}
 use Rattle.cbpf_dbg.proofs.run.run_records.Goals as goal
 
 pub follow_packet-followed-requires : goal.follow_packet-followed-requires
@@ -52,7 +52,7 @@ returns-in-Entry-clause-first g c = λ _.
 pub go-preserved : goal.go-preserved
 go-preserved g c =
     let so = c.go.invariant in
-    let is = passed_first _ _ _ _ c.in-Some.ensures c.next.ensures.steps in
+    let is = c.pass.ensures in
     let here = first_left _ _ _ _ _ _ is (so.left _ c.requires.can.left.1) in
     let step = so.out refl in
     goes_more _ _ _ _ _ _ _ _ _ _ _ _ _ _ _ so

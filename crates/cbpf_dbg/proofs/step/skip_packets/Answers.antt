@@ -3,7 +3,7 @@ use Rattle.pcap_classic.specs.Lent.{record_of}
 use Rattle.cbpf_machine.specs.Trace.{trace}
 use Rattle.cbpf_dbg.specs.Cursor.{passed}
 use Rattle.cbpf_dbg.proofs.CountLemmas.{countable}
-use Rattle.cbpf_dbg.proofs.LeftLemmas.{first_left, left_past, passed_first}
+use Rattle.cbpf_dbg.proofs.LeftLemmas.{first_left, left_past}
 use Rattle.cbpf_dbg.proofs.StepLemmas.{nears_more, nears_past}
 use Rattle.cbpf_dbg.specs.Loaded.{machine_in, records_in}
 use Rattle.cbpf_dbg.proofs.step.skip_packets.Goals as goal
@@ -17,7 +17,7 @@ pub skip-preserved : goal.skip-preserved
 skip-preserved g c =
     let so = c.skip.invariant in
     let stands = so.nears.stands in
-    let is = passed_first _ _ _ _ c.in-Some.ensures c.next.ensures.steps in
+    let is = c.pass-in-skip.ensures in
     let on = c.pass.ensures ∙ ap (passed c.skip.w) c.run_packet.ensures.value in
     let made : (c.spent.result - c.spent-before.result)
     ≡ length (trace (machine_in c.args.loaded.now) c.in-Some.here.bytes.now c.in-Some.here.wire) =

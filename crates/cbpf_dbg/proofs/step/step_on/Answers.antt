@@ -2,7 +2,7 @@ use Rattle.std.proofs.Common.{◌≡◌, ◌+◌, ◌-◌, length, arith, ap, �
 use Rattle.cbpf_dbg.specs.Joined.{ahead}
 use Rattle.cbpf_dbg.specs.Cursor.{owed, entry_here}
 use Rattle.cbpf_dbg.proofs.CursorLemmas.{goes}
-use Rattle.cbpf_dbg.proofs.LeftLemmas.{first_left, first_of, left_here, left_past, none_of, nothing_left, passed_first, all_left}
+use Rattle.cbpf_dbg.proofs.LeftLemmas.{first_left, first_of, left_here, left_past, none_of, nothing_left, all_left}
 use Rattle.cbpf_dbg.proofs.RunLemmas.{slice_get-first, step_stopped, step_finished}
 use Rattle.cbpf_dbg.proofs.KeepLemmas.{keeps_push, keeps_few, keeps_clear}
 use Rattle.cbpf_dbg.proofs.StepLemmas.{nears_none, nears_more, nears_entry, nears_out}
@@ -112,7 +112,7 @@ pub skip_packets-left-requires-in-Packet-clause-records : goal.skip_packets-left
 skip_packets-left-requires-in-Packet-clause-records g c =
     let so = c.go.invariant in
     rw c.in-Packet.ensures.moves.0 (left_past _ _ c.go.w _ _ _ _ so.nears.stands
-    (passed_first _ _ _ _ c.in-Some.ensures c.next.ensures.steps) so.records)
+    (c.pass.ensures) so.records)
 
 pub skip_packets-left-requires-in-Packet-clause-spare : goal.skip_packets-left-requires-in-Packet-clause-spare
 skip_packets-left-requires-in-Packet-clause-spare g c =

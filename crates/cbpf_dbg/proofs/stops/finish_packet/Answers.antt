@@ -6,7 +6,7 @@ use Rattle.cbpf_dbg.proofs.CountLemmas.{countable}
 use Rattle.cbpf_dbg.proofs.CursorLemmas.{goes}
 use Rattle.cbpf_dbg.proofs.FollowLemmas.{steps_fit, goes_to_entry, goes_out}
 use Rattle.cbpf_dbg.proofs.KeepLemmas.{entry_at_place}
-use Rattle.cbpf_dbg.proofs.LeftLemmas.{first_left, first_of, passed_first}
+use Rattle.cbpf_dbg.proofs.LeftLemmas.{first_left, first_of}
 use Rattle.cbpf_dbg.proofs.stops.finish_packet.Goals as goal
 
 pub follow_on-followed-requires-clause-inside : goal.follow_on-followed-requires-clause-inside
@@ -48,7 +48,7 @@ returns-in-Entry g c =
 
 pub returns : goal.returns
 returns g c =
-    let is = passed_first _ _ _ _ c.in-Some.ensures c.next.ensures.steps in
+    let is = c.pass.ensures in
     let here = first_left _ _ _ _ _ _ is c.requires.left.1 in
     let begun : 0 < c.args.cursor.now.place.step = omega (arith, c.if-cursor-eq0.false) in
     let entry = entry_at_place (machine_in c.args.loaded.now) (records_in c.args.loaded.now) c.args.cursor.now (record_of c.in-Some.here)
