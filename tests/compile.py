@@ -31,18 +31,7 @@ ROWS = [
     (
         "fn write_state(s: &mut State)",
         "*s = State::zero();",
-        [
-            ("s.pc = 1;", PRIVATE),
-            ("s.a = 1;", PRIVATE),
-            ("s.x = 1;", PRIVATE),
-            ("s.slots[0] = 1;", PRIVATE),
-            ("*s = State::of(s.core(), s.slots());", "private-item"),
-        ],
-    ),
-    (
-        "fn make_core(c: Core) -> Core",
-        "c",
-        [("Core { pc: 1, a: 0, x: 0 }", PRIVATE), ("Core { a: 1, ..c }", PRIVATE)],
+        [("s.pc = 1;", PRIVATE), ("s.a = 1;", PRIVATE), ("s.x = 1;", PRIVATE), ("s.slots[0] = 1;", PRIVATE)],
     ),
     ("fn make_meter() -> Meter", "Meter::new()", [("Meter { turns: 1 }", PRIVATE)]),
     (
@@ -60,7 +49,7 @@ ROWS = [
 HEAD = """#![tactic(auto)]
 #![allow(dead_code)]
 
-use cbpf_machine::{Core, Meter, State, Values};
+use cbpf_machine::{Meter, State, Values};
 
 fn main(_rt: HostRuntime) {}
 """

@@ -1,12 +1,13 @@
-ghost use Rattle.std.specs.Prelude.{◌≡◌, ◌≤◌, ◌-◌, Some, slice_get, take};
+ghost use Rattle.std.specs.Prelude.{◌≡◌, ◌≤◌, ◌-◌, [], Some, length, slice_get, take};
 ghost use Rattle.cbpf_machine.specs.Machine.{machine_of};
 ghost use Rattle.cbpf_machine.specs.Trace.{trace};
+ghost use Rattle.cbpf_machine.specs.Values.{no_values};
 
 use crate::assertions::{assert_at, assert_at_both};
 use cbpf_code::{Insn, Program, check};
 use cbpf_machine::{
-    Followed, ListTrail, MarkTrail, Meter, Outcome, Packet, State, Trail, Values, Watch, Watched,
-    follow_on, follow_packet,
+    Before, Followed, ListTrail, MarkTrail, Meter, Outcome, Packet, State, Trail, Values, Watch,
+    Watched, follow_on, follow_packet,
 };
 use std::alloc::Global;
 use std::process::Abort;
@@ -111,6 +112,65 @@ fn check_begun(rt: &impl Abort, s: &State, count: u32, watched: u32, turns: u128
     assert_at(rt, watched as usize, is_wanted);
 }
 
+/// Follows a packet to the instruction that is watched, or to the first entry but one that the trail stores, and starts
+/// the trail there: how many entries it keeps.
+fn begun<T: Trail>(
+    rt: &impl Abort,
+    trail: &mut T,
+    p: &Program,
+    table: &Watched,
+    meter: &mut Meter,
+    s: &mut State,
+) -> u32
+    requires { meter.old ≡ 0 }
+    ensures from_one { 1 ≤ result }
+    ensures last { slice_get (trace (machine_of p.now no_values) [] 0) (result - 1) ≡ Some s.new }
+    ensures stands { T.stands_for trail.new (take result (trace (machine_of p.now no_values) [] 0)) }
+    ensures turns { meter.new ≤ 4096 }
+{
+    let _sound = p.len();
+    let pause = Before {
+        pause: table,
+        fence: T::first_gap() as usize,
+    };
+    let followed = follow_packet(meter, p, EMPTY, &Values::new(), &pause, s);
+    let Followed::Watched(count) = followed else {
+        panic!(rt; "the packet ends before")
+    };
+    assert!(rt; count <= 4096 && count - 1 <= T::first_gap());
+    trail.clear();
+    trail.start(count, *s);
+    count
+}
+
+/// Goes on in a packet of which the trail keeps `count` entries to the instruction that is watched, unless it is there:
+/// how many entries it then keeps.
+fn gone_on<T: Trail>(
+    rt: &impl Abort,
+    trail: &mut T,
+    p: &Program,
+    table: &Watched,
+    meter: &mut Meter,
+    count: u32,
+    s: &mut State,
+) -> u32
+    requires from_one { 1 ≤ count }
+    requires last { slice_get (trace (machine_of p.now no_values) [] 0) (count - 1) ≡ Some s.old }
+    requires stands { T.stands_for trail.old (take count (trace (machine_of p.now no_values) [] 0)) }
+    requires turns { meter.old ≤ 4096 }
+    ensures stands { T.stands_for trail.new (take result (trace (machine_of p.now no_values) [] 0)) }
+    ensures within { result ≤ length (trace (machine_of p.now no_values) [] 0) }
+{
+    let _sound = p.len();
+    if table.pauses_at(s) {
+        return count;
+    }
+    match trail.follow(meter, p, EMPTY, &Values::new(), table, s) {
+        Followed::Watched(more) => count + more,
+        Followed::Ended(_) => panic!(rt; "the packet ends before"),
+    }
+}
+
 /// Begins a packet, follows it to the instruction that is watched, and goes from there back to an
 /// entry: the state, and how many turns the way back took.
 fn begun_and_back<T: Trail>(
@@ -121,26 +181,16 @@ fn begun_and_back<T: Trail>(
     watched: u32,
     to: u32,
 ) -> (State, u128) {
-    let values = Values::new();
-    let packet = Packet {
-        bytes: b"",
-        wire: 0,
-    };
     let table = only(rt, alloc, watched);
-    let _sound = p.len();
     let mut meter = Meter::new();
     let mut s = State::zero();
-    trail.clear();
-    match trail.begin(&mut meter, p, packet, &values, &table, &mut s) {
-        Followed::Watched(count) => {
-            check_begun(rt, &s, count, watched, meter.spent());
-            assert!(rt; 1 <= to && to <= count);
-            let mut meter = Meter::new();
-            let back = trail.back(&mut meter, p, packet, &values, to);
-            (back, meter.spent())
-        }
-        Followed::Ended(_) => panic!(rt; "the packet ends before"),
-    }
+    let count = begun(rt, trail, p, &table, &mut meter, &mut s);
+    let count = gone_on(rt, trail, p, &table, &mut meter, count, &mut s);
+    check_begun(rt, &s, count, watched, meter.spent());
+    assert!(rt; 1 <= to && to <= count);
+    let mut meter = Meter::new();
+    let back = trail.back(&mut meter, p, EMPTY, &Values::new(), to);
+    (back, meter.spent())
 }
 
 /// The instruction that is watched, the entry to which the way goes back from there, and by how many turns

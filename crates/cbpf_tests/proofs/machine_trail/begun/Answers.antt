@@ -1,0 +1,13 @@
+use Rattle.std.proofs.Common.{◌≡◌, ◌+◌, ◌-◌, [], arith}
+use Rattle.cbpf_machine.specs.Machine.{machine_of}
+use Rattle.cbpf_machine.specs.Trace.{trace}
+use Rattle.cbpf_machine.specs.Values.{no_values}
+use Rattle.cbpf_machine.proofs.TraceLemmas.{first_entry}
+use Rattle.cbpf_tests.proofs.machine_trail.begun.Goals as goal
+
+pub returns-clause-stands : goal.returns-clause-stands
+returns-clause-stands g c =
+    let at : 0 + c.in-Watched.count - 1 ≡ c.in-Watched.count - 1 = omega arith in
+    c.start.ensures.stands (trace (machine_of c.args.p.now no_values) [] 0)
+    (first_entry (machine_of c.args.p.now no_values) [] 0 c.len-sound.ensures.sound)
+    (rw at at (rw c.new.ensures.value at c.in-Watched.ensures.follows.2))

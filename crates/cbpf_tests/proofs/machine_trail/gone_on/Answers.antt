@@ -1,0 +1,81 @@
+use Rattle.std.proofs.Common.{◌≡◌, ◌+◌, ◌-◌, [], arith, refl, length-take}
+use Rattle.std.proofs.lemmas.Option.{slice_get_within}
+use Rattle.cbpf_machine.specs.Registers.{zero_state}
+use Rattle.cbpf_machine.specs.Machine.{machine_of}
+use Rattle.cbpf_machine.specs.Trace.{trace}
+use Rattle.cbpf_machine.specs.Values.{no_values}
+use Rattle.cbpf_machine.proofs.TraceLemmas.{goes_from_entry, length-trace_from}
+use Rattle.cbpf_machine.proofs.SoundLemmas.{sound_few, sound_some}
+use Rattle.cbpf_tests.proofs.machine_trail.gone_on.Goals as goal
+
+pub pauses_at-requires : goal.pauses_at-requires
+pauses_at-requires g c =
+    let sound = c.len-sound.ensures.sound in
+    let here = goes_from_entry (machine_of c.args.p.now no_values) [] 0 _ zero_state _ sound (sound_some _ sound)
+    c.requires.last in
+    omega (arith, here.inside, sound_few c.args.p.now sound)
+
+pub returns-then-pauses_at-clause-within : goal.returns-then-pauses_at-clause-within
+returns-then-pauses_at-clause-within g c =
+    omega (
+      arith,
+      c.requires.from_one,
+      slice_get_within (trace (machine_of c.args.p.now no_values) [] 0) (c.args.count - 1) c.args.s.now
+          c.requires.last,
+    )
+
+pub follow-requires-clause-last : goal.follow-requires-clause-last
+follow-requires-clause-last g c =
+    let long = g.met.T.Trail.as_long _ _ c.requires.stands in
+    let within = slice_get_within (trace (machine_of c.args.p.now no_values) [] 0) (c.args.count - 1) c.args.s.now
+    c.requires.last in
+    let kept : c.args.count ≡ g.T.Trail.kept c.args.trail.now =
+    omega (arith, c.requires.from_one, long, within, length-take c.args.count (trace (machine_of c.args.p.now no_values) [] 0)) in
+    rw c.new.ensures.value (rw kept at c.requires.last)
+
+pub follow-requires-clause-spare : goal.follow-requires-clause-spare
+follow-requires-clause-spare g c =
+    omega (
+      arith,
+      c.requires.turns,
+      sound_few c.args.p.now c.len-sound.ensures.sound,
+      length-trace_from (machine_of c.args.p.now c.new.result) [] 0 zero_state,
+    )
+
+pub overflow_add-result : goal.overflow_add-result
+overflow_add-result g c =
+    let long = g.met.T.Trail.as_long _ _ c.requires.stands in
+    let within = slice_get_within (trace (machine_of c.args.p.now no_values) [] 0) (c.args.count - 1) c.args.s.now
+    c.requires.last in
+    let kept : g.T.Trail.kept c.args.trail.now ≡ c.args.count =
+    omega (arith, c.requires.from_one, long, within, length-take c.args.count (trace (machine_of c.args.p.now no_values) [] 0)) in
+    let there = slice_get_within (trace (machine_of c.args.p.now c.new.result) [] 0)
+    (g.T.Trail.kept c.args.trail.now + c.in-Watched.more - 1) c.follow.new.s c.in-Watched.ensures.follows.2 in
+    omega (
+      arith,
+      kept,
+      there,
+      sound_few c.args.p.now c.len-sound.ensures.sound,
+      length-trace_from (machine_of c.args.p.now c.new.result) [] 0 zero_state,
+    )
+
+pub returns-clause-stands : goal.returns-clause-stands
+returns-clause-stands g c =
+    let long = g.met.T.Trail.as_long _ _ c.requires.stands in
+    let within = slice_get_within (trace (machine_of c.args.p.now no_values) [] 0) (c.args.count - 1) c.args.s.now
+    c.requires.last in
+    let kept : g.T.Trail.kept c.args.trail.now ≡ c.args.count =
+    omega (arith, c.requires.from_one, long, within, length-take c.args.count (trace (machine_of c.args.p.now no_values) [] 0)) in
+    rw kept at (rw c.new.ensures.value at (c.in-Watched.ensures.stands c.in-Watched.more refl))
+
+pub returns-clause-within : goal.returns-clause-within
+returns-clause-within g c =
+    let long = g.met.T.Trail.as_long _ _ c.requires.stands in
+    let within = slice_get_within (trace (machine_of c.args.p.now no_values) [] 0) (c.args.count - 1) c.args.s.now
+    c.requires.last in
+    let kept : g.T.Trail.kept c.args.trail.now ≡ c.args.count =
+    omega (arith, c.requires.from_one, long, within, length-take c.args.count (trace (machine_of c.args.p.now no_values) [] 0)) in
+    let there = slice_get_within (trace (machine_of c.args.p.now no_values) [] 0)
+    (g.T.Trail.kept c.args.trail.now + c.in-Watched.more - 1) c.follow.new.s
+    (rw c.new.ensures.value at c.in-Watched.ensures.follows.2) in
+    omega (arith, kept, there, c.in-Watched.ensures.follows.0)
