@@ -27,7 +27,7 @@ pub use insn::Insn;
 pub use law::each_has_answer;
 pub use line::Line;
 pub use listing::{put_line, write_line, write_lines};
-pub use opcode::{AluOp, Cond, Op, Size, Src, code_of, op_of};
+pub use opcode::{AluOp, Cond, Op, Size, Src, code_of, op_of, op_of_byte};
 pub use program::Program;
 pub use scan::{is_blank, is_digit, laws_of_marks};
 pub use word_form::write_words;
