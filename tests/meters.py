@@ -11,8 +11,9 @@ its own word in any form of a call. It lists
     import by its own name; the field meter; the word stops, of the call that has a meter of its own
   in each of these crates: the imports that give another name, or all names
   in cbpf_machine: the word Meter as above; the derives of Meter, its functions, the words Self and turns in its file;
-    each literal of a state, and each change of its registers; what it exports; for each function that makes turns, by itself or by a call, how often it
-    names each such function and how many loops it has, and whether other crates can call it
+    each literal of a state, and each change of its registers; what it exports; for each function that makes turns, by
+    itself or by a call, how often it names each such function and how many loops it has, and whether other crates can
+    call it
 """
 
 import re

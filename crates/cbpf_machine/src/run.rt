@@ -2,15 +2,31 @@ ghost use Rattle.std.specs.Prelude.{◌≡◌, ◌≤◌, ◌+◌, ◌^◌, leng
 ghost use Rattle.cbpf_machine.specs.Machine.{machine_of};
 ghost use Rattle.cbpf_machine.specs.Trace as spec;
 
+use crate::core_state::Core;
 use crate::follow::{Followed, follow_packet};
 use crate::meter::Meter;
 use crate::outcome::Outcome;
 use crate::packet::Packet;
-use crate::pause::Never;
+use crate::pause::Pause;
 use crate::state::State;
 use crate::values::Values;
 use cbpf_code::Program;
 use std::alloc::Allocator;
+
+/// A run to the packet's end, as by `Never`.
+// A pause of its own, since a loop of turns with two callers isn't inlined.
+struct Whole;
+
+impl Pause for Whole {
+    ghost use Rattle.std.specs.Prelude.{false};
+
+    ghost pauses = { λ w s. false };
+
+    #[inline(always)]
+    fn is_at(&self, s: &Core) -> bool {
+        false
+    }
+}
 
 /// Runs a program on a packet, from the zero state to the packet's end, by at most as many turns
 /// as the program has instructions.
@@ -35,7 +51,7 @@ pub fn run_packet<A: Allocator>(
 {
     let _few = p.len();
     let mut s = State::zero();
-    match follow_packet(meter, p, packet, values, &Never, &mut s) {
+    match follow_packet(meter, p, packet, values, &Whole, &mut s) {
         Followed::Ended(outcome) => outcome,
         _ => unreachable!(),
     }
