@@ -1,4 +1,5 @@
 -- What holds of tokens whatever tokens follow.
+use Rattle.std.proofs.Common.{rules}
 use Rattle.std.proofs.Common.{◌≡◌, ℕ, suc, ◌<◌, Bool, true, false, ◌&&◌, List, [], ◌∷◌, ◌++◌, length, take, drop}
 use Rattle.std.proofs.Common.{arith, ap, sym, ◌∙◌, subst, append_assoc, length-append}
 use Rattle.std.proofs.lemmas.List.{take-append-drop, take-append-le, length-take-le}
@@ -14,7 +15,7 @@ pub no_longer_more : (n : ℕ) (ts us : List Lexeme) → n < length ts → NoLon
 no_longer_more n ts us l most m r known f g e k h =
     let cut : take (suc n) f ++ drop (suc n) f ≡ f = take-append-drop (suc n) f in
     let size : length (take (suc n) f) ≡ suc n = length-take-le (suc n) f (omega (arith, k)) in
-    let short : fits_front (classes_of m r) (take (suc n) f) ≡ true = front_before (classes_of m r) (take (suc n) f)
+    let short = front_before (classes_of m r) (take (suc n) f)
     (drop (suc n) f) (subst (λ x. fits_front (classes_of m r) x ≡ true) (sym cut) h) in
     let same : take (suc n) f ≡ take (suc n) ts = sym (take-append-le (suc n) f g (omega (arith, k)))
     ∙ (ap (λ x. take (suc n) x) (sym e) ∙ take-append-le (suc n) ts us (omega (arith, l))) in
@@ -43,10 +44,4 @@ next_more n ts us item l next =
     }
 
 pub label_more : (ts us : List Lexeme) → starts_with_label ts ≡ true → starts_with_label (ts ++ us) ≡ true
-label_more [] us h = cc
-label_more (t ∷ []) us h = absurd (let p = and_second (fits (Class.name) t.symbol) false h in cc)
-  where
-    and_second : (a b : Bool) → (a && b) ≡ true → b ≡ true
-    and_second true b e = e
-    and_second false b e = cc
-label_more (t ∷ u ∷ ts) us h = h
+label_more ts us h1 = search (rules)

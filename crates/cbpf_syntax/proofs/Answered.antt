@@ -1,4 +1,5 @@
 -- Each token list is items, or has a first refusal: of each the longest row is found in the table.
+use Rattle.std.proofs.Common.{rules}
 use Rattle.std.proofs.Common.{◌≡◌, ◌≢◌, ℕ, zero, suc, ◌+◌, ◌<◌, ◌≤◌, Bool, true, false, List, [], ◌∷◌, ◌++◌, length}
 use Rattle.std.proofs.Common.{take, drop, refl, arith, ap, sym, ◌∙◌, ◌⊎◌, inl, inr, subst, Option, Some, None}
 use Rattle.std.proofs.Common.{eqb-true, eq-eqb}
@@ -32,48 +33,21 @@ record IsLongest (rows : List Row) (ts : List Lexeme) (row : Row) : Type 0 where
       → common (classes r) ts ≡ common (classes row) ts → length (classes r) ≢ common (classes row) ts
 
 only_longest : (ts : List Lexeme) (d : Row) → IsLongest (d ∷ []) ts d
-only_longest ts d = record {
-  known = first_element d [];
-  most = λ r c. let e : common (classes d) ts ≡ common (classes r) ts =
-      ap (λ (q : Row). common (classes q) ts) (only_element d r c) in omega (arith, e);
-  goes_on = λ n r c m w. n (ap (λ (q : Row). length (classes q)) (only_element d r c) ∙ w);
-}
+only_longest ts d = search (rules, first_element, only_element)
 
 -- one more row, which is no longer
 longest_stays : (rows : List Row) (ts : List Lexeme) (d row : Row) → IsLongest rows ts row
     → common (classes d) ts ≤ common (classes row) ts
     → (common (classes d) ts ≡ common (classes row) ts → length (classes d) ≢ common (classes row) ts)
     → IsLongest (d ∷ rows) ts row
-longest_stays rows ts d row b l n = record {
-  known = later_element d rows row b.known;
-  most = λ r c. elim (which_element d rows r c) [
-    | inl e ↦ let q : common (classes d) ts ≡ common (classes r) ts = ap (λ (x : Row). common (classes x) ts) e in
-        omega (arith, q, l)
-    | inr k ↦ b.most r k
-  ];
-  goes_on = λ part r c m w. elim (which_element d rows r c) [
-    | inl e ↦ n (ap (λ (x : Row). common (classes x) ts) e ∙ m) (ap (λ (x : Row). length (classes x)) e ∙ w)
-    | inr k ↦ b.goes_on part r k m w
-  ];
-}
+longest_stays rows ts d row h1 h2 h3 = search (rules, later_element, which_element)
 
 -- one more row, which is longer, or as long and whole
 longest_next : (rows : List Row) (ts : List Lexeme) (d row : Row) → IsLongest rows ts row
     → common (classes row) ts ≤ common (classes d) ts
     → (common (classes row) ts ≡ common (classes d) ts → length (classes d) ≡ common (classes d) ts)
     → IsLongest (d ∷ rows) ts d
-longest_next rows ts d row b l n = record {
-  known = first_element d rows;
-  most = λ r c. elim (which_element d rows r c) [
-    | inl e ↦ let q : common (classes d) ts ≡ common (classes r) ts = ap (λ (x : Row). common (classes x) ts) e in
-        omega (arith, q)
-    | inr k ↦ omega (arith, l, b.most r k)
-  ];
-  goes_on = λ part r c m w. elim (which_element d rows r c) [
-    | inl e ↦ part (ap (λ (x : Row). length (classes x)) e ∙ w)
-    | inr k ↦ part (n (omega (arith, l, m, b.most r k)))
-  ];
-}
+longest_next rows ts d row h1 h2 h3 = search (rules, first_element, which_element)
 
 longest : (rows : List Row) (d : Row) (ts : List Lexeme) → (row : Row) × IsLongest (d ∷ rows) ts row
 longest [] d ts = (d, only_longest ts d)
@@ -237,10 +211,7 @@ HasFirst ts n = ((i : ℕ) × (i < n) × IsLargeNegative ts i × ((k : ℕ) → 
 
 none_more : (ts : List Lexeme) (n : ℕ) → ((k : ℕ) → k < n → IsLargeNegative ts k → ⊥) → (IsLargeNegative ts n → ⊥)
     → (k : ℕ) → k < suc n → IsLargeNegative ts k → ⊥
-none_more ts n none last k l h = elim (cases_lt k n) [
-  | inl m ↦ none k m h
-  | inr m ↦ let e : k ≡ n = omega (arith, l, m) in last (subst (IsLargeNegative ts) e h)
-]
+none_more ts n h1 h2 k h3 h4 = search (rules, cases_lt)
 
 first_large : (ts : List Lexeme) (n : ℕ) → HasFirst ts n
 first_large ts zero = inr (λ k l h. omega (arith, l))

@@ -1,4 +1,5 @@
 -- No two rows of the table fit the same tokens, unless one goes on with a comma where the other ends.
+use Rattle.std.proofs.Common.{rules}
 use Rattle.std.proofs.Common.{◌≡◌, ℕ, Bool, true, false, not, ◌&&◌, ◌||◌, List, [], ◌∷◌, ◌++◌, length, refl, sym, ◌∙◌}
 use Rattle.std.proofs.Common.{◌⊎◌, inl, inr, eq-eqb, eqb-true}
 use Rattle.std.specs.Prelude.{◌==◌, bytes_eq}
@@ -14,56 +15,29 @@ use Rattle.cbpf_syntax.specs.Classes.Class.{the_word, the_mark, literal, negated
 use Rattle.cbpf_syntax.specs.Table.{Row, classes, mnemonics, table}
 
 abbrev pub is_numeric : Class → Bool
-is_numeric (the_word w) = false
-is_numeric (the_mark b) = false
 is_numeric literal = true
 is_numeric negated = true
 is_numeric (exactly m) = true
-is_numeric extension = false
-is_numeric name = false
+is_numeric c = false
 
 -- whether some token may fit both
 abbrev pub overlap : Class → Class → Bool
 overlap (the_word v) (the_word w) = bytes_eq v w
-overlap (the_word v) (the_mark b) = false
-overlap (the_word v) literal = false
-overlap (the_word v) negated = false
-overlap (the_word v) (exactly m) = false
 overlap (the_word v) extension = is_one_of extension_names v
 overlap (the_word v) name = not (is_reserved v)
-overlap (the_mark a) (the_word w) = false
 overlap (the_mark a) (the_mark b) = a == b
-overlap (the_mark a) literal = false
-overlap (the_mark a) negated = false
-overlap (the_mark a) (exactly m) = false
-overlap (the_mark a) extension = false
-overlap (the_mark a) name = false
 overlap literal d = is_numeric d
 overlap negated d = is_numeric d
 overlap (exactly m) d = is_numeric d
 overlap extension (the_word w) = is_one_of extension_names w
-overlap extension (the_mark b) = false
-overlap extension literal = false
-overlap extension negated = false
-overlap extension (exactly m) = false
 overlap extension extension = true
-overlap extension name = false
 overlap name (the_word w) = not (is_reserved w)
-overlap name (the_mark b) = false
-overlap name literal = false
-overlap name negated = false
-overlap name (exactly m) = false
-overlap name extension = false
 overlap name name = true
+overlap c d = false
 
 abbrev pub is_comma : Class → Bool
-is_comma (the_word w) = false
 is_comma (the_mark b) = b == 44
-is_comma literal = false
-is_comma negated = false
-is_comma (exactly m) = false
-is_comma extension = false
-is_comma name = false
+is_comma c = false
 
 -- at some place no token fits both, or the longer one goes on with a comma
 abbrev pub apart : List Class → List Class → Bool
@@ -88,9 +62,7 @@ unfolding mnemonics extension_names
 table_apart = refl
 
 or_case : (a b c : Bool) → b ≡ true → not ((a || b) || c) ≡ true → ⊥
-or_case true b c h e = cc
-or_case false true c h e = cc
-or_case false false c h e = cc
+or_case a b c h1 h2 = search (rules)
 
 pub equal_bytes : (v w : List ℕ) → bytes_eq v w ≡ true → v ≡ w
 equal_bytes v w e = (bytes_eq-Decides v w).0 e
@@ -111,68 +83,25 @@ ext_reserved u h e =
 -- what fits two classes shows that they overlap
 pub overlap_sound : (t : Symbol) (c d : Class) → fits c t ≡ true → fits d t ≡ true → overlap c d ≡ true
 overlap_sound (word u) (the_word v) (the_word w) h e = words_case u v w h e
-overlap_sound (word u) (the_word v) (the_mark b) h e = cc
-overlap_sound (word u) (the_word v) (literal) h e = cc
-overlap_sound (word u) (the_word v) (negated) h e = cc
-overlap_sound (word u) (the_word v) (exactly k) h e = cc
 overlap_sound (word u) (the_word v) (extension) h e = rw (← equal_bytes u v h) e
 overlap_sound (word u) (the_word v) (name) h e = rw (← equal_bytes u v h) e
-overlap_sound (word u) (the_mark a) d h e = cc
-overlap_sound (word u) (literal) d h e = cc
-overlap_sound (word u) (negated) d h e = cc
-overlap_sound (word u) (exactly m) d h e = cc
 overlap_sound (word u) (extension) (the_word w) h e = rw (← equal_bytes u w e) h
-overlap_sound (word u) (extension) (the_mark b) h e = cc
-overlap_sound (word u) (extension) (literal) h e = cc
-overlap_sound (word u) (extension) (negated) h e = cc
-overlap_sound (word u) (extension) (exactly k) h e = cc
 overlap_sound (word u) (extension) (extension) h e = refl
 overlap_sound (word u) (extension) (name) h e = absurd (ext_reserved u h e)
 overlap_sound (word u) (name) (the_word w) h e = rw (← equal_bytes u w e) h
-overlap_sound (word u) (name) (the_mark b) h e = cc
-overlap_sound (word u) (name) (literal) h e = cc
-overlap_sound (word u) (name) (negated) h e = cc
-overlap_sound (word u) (name) (exactly k) h e = cc
 overlap_sound (word u) (name) (extension) h e = absurd (ext_reserved u e h)
 overlap_sound (word u) (name) (name) h e = refl
-overlap_sound (number i) (the_word v) d h e = cc
-overlap_sound (number i) (the_mark a) d h e = cc
-overlap_sound (number i) (literal) (the_word w) h e = cc
-overlap_sound (number i) (literal) (the_mark b) h e = cc
 overlap_sound (number i) (literal) (literal) h e = refl
 overlap_sound (number i) (literal) (negated) h e = refl
 overlap_sound (number i) (literal) (exactly k) h e = refl
-overlap_sound (number i) (literal) (extension) h e = cc
-overlap_sound (number i) (literal) (name) h e = cc
-overlap_sound (number i) (negated) (the_word w) h e = cc
-overlap_sound (number i) (negated) (the_mark b) h e = cc
 overlap_sound (number i) (negated) (literal) h e = refl
 overlap_sound (number i) (negated) (negated) h e = refl
 overlap_sound (number i) (negated) (exactly k) h e = refl
-overlap_sound (number i) (negated) (extension) h e = cc
-overlap_sound (number i) (negated) (name) h e = cc
-overlap_sound (number i) (exactly m) (the_word w) h e = cc
-overlap_sound (number i) (exactly m) (the_mark b) h e = cc
 overlap_sound (number i) (exactly m) (literal) h e = refl
 overlap_sound (number i) (exactly m) (negated) h e = refl
 overlap_sound (number i) (exactly m) (exactly k) h e = refl
-overlap_sound (number i) (exactly m) (extension) h e = cc
-overlap_sound (number i) (exactly m) (name) h e = cc
-overlap_sound (number i) (extension) d h e = cc
-overlap_sound (number i) (name) d h e = cc
-overlap_sound (mark o) (the_word v) d h e = cc
-overlap_sound (mark o) (the_mark a) (the_word w) h e = cc
 overlap_sound (mark o) (the_mark a) (the_mark b) h e = mark_case o a b h e
-overlap_sound (mark o) (the_mark a) (literal) h e = cc
-overlap_sound (mark o) (the_mark a) (negated) h e = cc
-overlap_sound (mark o) (the_mark a) (exactly k) h e = cc
-overlap_sound (mark o) (the_mark a) (extension) h e = cc
-overlap_sound (mark o) (the_mark a) (name) h e = cc
-overlap_sound (mark o) (literal) d h e = cc
-overlap_sound (mark o) (negated) d h e = cc
-overlap_sound (mark o) (exactly m) d h e = cc
-overlap_sound (mark o) (extension) d h e = cc
-overlap_sound (mark o) (name) d h e = cc
+overlap_sound x c d h e = cc
 
 -- Two readings of the same tokens
 abbrev pub starts_with_comma : List Lexeme → Bool
@@ -180,28 +109,17 @@ starts_with_comma [] = false
 starts_with_comma (t ∷ ts) = fits (the_mark 44) t.symbol
 
 pub comma_only : (d : Class) (t : Symbol) → is_comma d ≡ true → fits d t ≡ true → fits (the_mark 44) t ≡ true
-comma_only (the_word w) t h e = cc
 comma_only (the_mark b) t h e = rw (eqb-true b 44 h) at e
-comma_only literal t h e = cc
-comma_only negated t h e = cc
-comma_only (exactly m) t h e = cc
-comma_only extension t h e = cc
-comma_only name t h e = cc
+comma_only c t h e = cc
 
 -- the classes of two readings are apart, so one of them goes on with a comma
 pub apart_split : (cs ds : List Class) (ts x us y : List Lexeme) → apart cs ds ≡ true → fits_all cs ts ≡ true
     → fits_all ds us ≡ true → ts ++ x ≡ us ++ y → (starts_with_comma x ≡ true) ⊎ (starts_with_comma y ≡ true)
-apart_split [] [] ts x us y a f g e = cc
-apart_split [] (d ∷ ds) (t ∷ ts) x us y a f g e = cc
-apart_split [] (d ∷ ds) [] x [] y a f g e = cc
 apart_split [] (d ∷ ds) [] x (u ∷ us) y a f g e = inl (rw e (comma_only d u.symbol a (and_parts _ _ g).0))
-apart_split (c ∷ cs) [] ts x (u ∷ us) y a f g e = cc
-apart_split (c ∷ cs) [] [] x [] y a f g e = cc
 apart_split (c ∷ cs) [] (t ∷ ts) x [] y a f g e = inr (rw (← e) (comma_only c t.symbol a (and_parts _ _ f).0))
-apart_split (c ∷ cs) (d ∷ ds) [] x us y a f g e = cc
-apart_split (c ∷ cs) (d ∷ ds) (t ∷ ts) x [] y a f g e = cc
 apart_split (c ∷ cs) (d ∷ ds) (t ∷ ts) x (u ∷ us) y a f g e =
     let hd : t ≡ u = cc in
     let tl : ts ++ x ≡ us ++ y = cc in
     let o : overlap c d ≡ true = overlap_sound t.symbol c d (and_parts _ _ f).0 (rw hd (and_parts _ _ g).0) in
     apart_split cs ds ts x us y (rw o at a) (and_parts _ _ f).1 (and_parts _ _ g).1 tl
+apart_split cs ds ts x us y a f g e = cc

@@ -10,12 +10,11 @@ use Rattle.cbpf_syntax.specs.Items.{Item, Items, BeginsItem, BeginsItems, classe
 use Rattle.cbpf_syntax.proofs.Greedy.{whole_front, split_prefix}
 
 pub front_before : (cs : List Class) (ts us : List Lexeme) → fits_front cs (ts ++ us) ≡ true → fits_front cs ts ≡ true
-front_before [] [] us h = refl
 front_before [] (t ∷ ts) us h = cc
-front_before (c ∷ cs) [] us h = refl
 front_before (c ∷ cs) (t ∷ ts) us h =
     let p : (fits c t.symbol ≡ true) × (fits_front cs (ts ++ us) ≡ true) = and_parts (fits c t.symbol) _ h in
     rw (p.0, front_before cs ts us p.1) refl
+front_before cs ts us h = refl
 
 at_least : (m n : ℕ) → (m ≤ n) ⊎ (n ≤ m)
 at_least m n = grind arith

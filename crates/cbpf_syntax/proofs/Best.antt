@@ -1,4 +1,6 @@
 -- The best row of two lists, and of a mnemonic.
+use Rattle.std.proofs.lemmas.Grind.{common_steps}
+use Rattle.std.proofs.Common.{rules}
 use Rattle.std.proofs.Common.{◌≡◌, ◌≢◌, ℕ, zero, suc, Bool, true, false, cond, ◌+◌, ◌<◌, ◌≤◌, List, [], ◌∷◌, ◌++◌}
 use Rattle.std.proofs.Common.{length, map, take, refl, arith, ap, sym, ◌∙◌, ◌⊎◌, inl, inr, subst}
 use Rattle.std.specs.Prelude.{Contains, flat_map}
@@ -21,13 +23,7 @@ use Rattle.cbpf_syntax.proofs.Elements.{take_next}
 
 pub one_row : (row : Row) (ts : List Lexeme) (best : Match) → row_of best.row ≡ row → best.len ≡ common row.operand ts
     → IsBest (row ∷ []) ts best
-one_row row ts best e h = record {
-  known = subst (λ s. Contains (row ∷ []) s) (sym e) (first_element row []);
-  size = h ∙ ap (λ (s : Row). common s.operand ts) (sym e);
-  most = λ r c. let s : row ≡ r = only_element row r c in rw (← s, ← h) (omega arith);
-  goes_on = λ n r c q k.
-      n (ap (λ (s : Row). length s.operand) e ∙ (ap (λ (s : Row). length s.operand) (only_element row r c) ∙ k));
-}
+one_row row ts best h1 h2 = search (rules, first_element, only_element)
 
 -- the second of two where it is longer, or as long and whole
 pub second_best : (rs ss : List Row) (ts : List Lexeme) (best new : Match) → IsBest rs ts best → IsBest ss ts new
@@ -50,47 +46,19 @@ second_best rs ss ts best new b c h = record {
 pub first_best : (rs ss : List Row) (ts : List Lexeme) (best new : Match) → IsBest rs ts best → IsBest ss ts new
     → new.len ≤ best.len → (best.len ≡ new.len → length (row_of new.row).operand ≢ new.len)
     → IsBest (rs ++ ss) ts best
-first_best rs ss ts best new b c l h = record {
-  known = Contains-append_left rs ss (row_of best.row) b.known;
-  size = b.size;
-  most = λ r d. elim (Contains-append_cases rs ss r d) [
-    | inl p ↦ b.most r p
-    | inr p ↦ (let m = c.most r p in omega arith)
-  ];
-  goes_on = λ n r d q. elim (Contains-append_cases rs ss r d) [
-    | inl p ↦ b.goes_on n r p q
-    | inr p ↦ (let m = c.most r p in let same : best.len ≡ new.len = omega arith in
-        λ e. c.goes_on (h same) r p (q ∙ same) (e ∙ same))
-  ];
-}
+first_best rs ss ts best new h1 h2 h3 h4 = grind (arith, common_steps)
 
 -- a row of which the first tokens, as many as fit the best, and one more do not fit, or which is no longer than these
 pub no_better : (rs : List Row) (row : Row) (ts : List Lexeme) (best : Match) → IsBest rs ts best
     → common row.operand ts ≤ best.len
     → (length (row_of best.row).operand ≢ best.len → best.len ≡ common row.operand ts → length row.operand ≢ best.len)
     → IsBest (rs ++ row ∷ []) ts best
-no_better rs row ts best b l h = record {
-  known = Contains-append_left rs (row ∷ []) (row_of best.row) b.known;
-  size = b.size;
-  most = λ r d. elim (Contains-append_cases rs (row ∷ []) r d) [
-    | inl p ↦ b.most r p
-    | inr p ↦ rw (← only_element row r p) l
-  ];
-  goes_on = λ n r d q. elim (Contains-append_cases rs (row ∷ []) r d) [
-    | inl p ↦ b.goes_on n r p q
-    | inr p ↦ let e : row ≡ r = only_element row r p in rw (← e) (h n (sym (rw (← e) at q)))
-  ];
-}
+no_better rs row ts best h1 h2 h3 = grind (arith, common_steps, only_element)
 
 -- the best of rows, with one of them once more before them
 pub without_first : (r : Row) (rs : List Row) (ts : List Lexeme) (best : Match) → Contains rs r
     → IsBest (r ∷ rs) ts best → IsBest rs ts best
-without_first r rs ts best c b = record {
-  known = elim (which_element r rs (row_of best.row) b.known) [ inl e ↦ subst (Contains rs) e c | inr d ↦ d ];
-  size = b.size;
-  most = λ s d. b.most s (later_element r rs s d);
-  goes_on = λ n s d q. b.goes_on n s (later_element r rs s d) q;
-}
+without_first r rs ts best h1 h2 = search (rules, which_element, later_element)
 
 misfit_step : (t : Bool) (k n : ℕ) → k ≤ n → cond t (1 + k) 0 ≤ suc n
 misfit_step true k n l = omega (arith, l)
@@ -99,11 +67,10 @@ misfit_step false k n l = omega arith
 -- where the token at a place does not fit, no more than those before it do
 pub misfit_common : {X Y : Type 0} (p : X → Y → Bool) (xs : List X) (ys : List Y) (n : ℕ) (c : X) (d : Y)
     → n < length xs → n < length ys → p (get_or xs n c) (get_or ys n d) ≡ false → common_prefix_len p xs ys ≤ n
-misfit_common p [] ys n c d l m e = absurd (omega arith)
-misfit_common p (x ∷ xs) [] n c d l m e = absurd (omega arith)
 misfit_common p (x ∷ xs) (y ∷ ys) zero c d l m e = rw e (omega arith)
 misfit_common p (x ∷ xs) (y ∷ ys) (suc n) c d l m e =
     misfit_step (p x y) (common_prefix_len p xs ys) n (misfit_common p xs ys n c d (omega arith) (omega arith) e)
+misfit_common p xs ys n c d l m e = absurd (omega arith)
 
 abbrev fitting : List declared_class.Class → List declared_lexeme.Lexeme → ℕ
 fitting form tokens =
@@ -114,13 +81,7 @@ pub no_better_form : (form : List declared_class.Class) (tokens : List declared_
     → fitting form tokens ≤ best.len → (length best.row.operand.now ≢ best.len → length form ≢ best.len)
     → (rs : List Row) (row : Row) → row.operand ≡ map class_of form → IsBest rs (map lexeme_of tokens) best
     → IsBest (rs ++ row ∷ []) (map lexeme_of tokens) best
-no_better_form form tokens best l h rs row e b =
-    let k : common row.operand (map lexeme_of tokens) ≡ fitting form tokens =
-    ap (λ cs. common cs (map lexeme_of tokens)) e
-    ∙ common_mapped (λ c (t : Lexeme). fits c t.symbol) class_of lexeme_of form tokens in
-    let n : length row.operand ≡ length form = ap length e ∙ length-map form class_of in
-    no_better rs row (map lexeme_of tokens) best b (rw k l)
-    (λ part _ whole. h (λ q. part (length-map best.row.operand.now class_of ∙ q)) (sym n ∙ whole))
+no_better_form form tokens best h1 h2 rs row h3 h4 = grind (arith, common_steps, common_mapped, length-map, no_better)
 
 abbrev form_row : List ℕ → declared_entry.Entry → Bor (List declared_class.Class) → Row
 form_row w e f = record { mnemonic = w; operand = map class_of f.now; op = e.op; fields = e.fields }
@@ -131,9 +92,7 @@ map_twice g f (x ∷ xs) = ap (λ ys. g (f x) ∷ ys) (map_twice g f xs)
 
 rows_are : (w : List ℕ) (e : declared_entry.Entry) (forms : List (Bor (List declared_class.Class)))
     → map (λ f. map class_of f.now) forms ≡ mode_forms e.mode → entry_rows w (entry_of e) ≡ map (form_row w e) forms
-rows_are w e forms h =
-    ap (λ fs. map (λ form. record { mnemonic = w; operand = form; op = e.op; fields = e.fields }) fs) (sym h)
-    ∙ map_twice _ (λ (f : Bor (List declared_class.Class)). map class_of f.now) forms
+rows_are w e forms h1 = search (rules, map_twice)
 
 take_mapped : {X Y : Type 0} (f : X → Y) (xs : List X) (i : ℕ) (d : X) → i < length xs
     → take (i + 1) (map f xs) ≡ take i (map f xs) ++ (f (get_or xs i d) ∷ [])
@@ -151,12 +110,7 @@ next_form w e forms i d h l = rw (rows_are w e forms h) (take_mapped (form_row w
 pub next_entry : (w : List ℕ) (es : List declared_entry.Entry) (i : ℕ) (d : declared_entry.Entry) → i < length es
     → flat_map (entry_rows w) (map entry_of (take (i + 1) es))
     ≡ flat_map (entry_rows w) (map entry_of (take i es)) ++ entry_rows w (entry_of (get_or es i d))
-next_entry w es i d l = rw (
-  take_next es i d l,
-  map-append entry_of (take i es) (get_or es i d ∷ []),
-  flat_map-append (entry_rows w) (map entry_of (take i es)) (entry_of (get_or es i d) ∷ []),
-) (ap (λ ys. flat_map (entry_rows w) (map entry_of (take i es)) ++ ys)
-    (append-nil (entry_rows w (entry_of (get_or es i d)))))
+next_entry w es i d h1 = grind (arith, common_steps, take_next, map-append, get_or, flat_map-append, append-nil)
 
 -- the rows of an addressing mode after its last form
 pub all_forms : (w : List ℕ) (e : declared_entry.Entry) (forms : List (Bor (List declared_class.Class))) (i : ℕ)

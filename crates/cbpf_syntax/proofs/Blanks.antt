@@ -1,4 +1,5 @@
 -- Blanks are passed over one by one. What is kept of the text is where their run ends.
+use Rattle.std.proofs.Common.{rules}
 use Rattle.std.proofs.Common.{◌≡◌, ℕ, ◌+◌, ◌<◌, ◌≤◌, Bool, true, false, List, length, drop, take, get_or, refl, ◌⊎◌}
 use Rattle.std.proofs.Common.{inl, inr, arith}
 use Rattle.std.specs.List.{prefix_len}
@@ -37,8 +38,7 @@ over_blanks text from at l more = by_first (is_blank (get_or text at 0)) refl
         → LexesTo text (run_end text at) ts
     by_first false e ts lexed = rw (run_of_none text at l e) (more ts lexed)
     by_first true e ts lexed =
-        let next : IsPieceAt text at (record { kind = Blanks; size = 1 + prefix_len is_blank (drop (at + 1) text) }) =
-        piece_at text at _ l (blanks_next (is_line_blank (take at text)) (get_or text at 0) (drop (at + 1) text)
+        let next = piece_at text at _ l (blanks_next (is_line_blank (take at text)) (get_or text at 0) (drop (at + 1) text)
         (blank_lead (is_line_blank (take at text)) (get_or text at 0) e)) in
         let size : run_end text at ≡ at + (1 + prefix_len is_blank (drop (at + 1) text)) =
         rw (drop_more text at 0 l, e) refl in
@@ -47,13 +47,7 @@ over_blanks text from at l more = by_first (is_blank (get_or text at 0)) refl
 pub to_run_end : (text : List ℕ) (from at : ℕ) → at ≤ length text
     → ((ts : List Token) → LexesTo text from ts → LexesTo text at ts) → (ts : List Token) → LexesTo text from ts
     → LexesTo text (run_end text at) ts
-to_run_end text from at l more = elim (at_end (length text)) [
-  | inl e ↦ λ ts lexed. rw (run_at_end text at e) (more ts lexed)
-  | inr e ↦ over_blanks text from at e more
-]
-  where
-    at_end : (n : ℕ) → (n ≤ at) ⊎ (at < n)
-    at_end n = grind arith
+to_run_end text from at h1 h2 ts h3 = search (rules, run_at_end, over_blanks)
 
 -- where no blank stands at the place, it is the end itself
 pub to_here : (text : List ℕ) (from at : ℕ) → at < length text → is_blank (get_or text at 0) ≡ false

@@ -1,4 +1,5 @@
 -- The scan for the first `*/`, and texts that are cut after it.
+use Rattle.std.proofs.Common.{rules}
 use Rattle.std.proofs.Common.{◌≡◌, ℕ, zero, suc, ◌+◌, ◌<◌, ◌≤◌, Bool, true, false, ◌&&◌, cond, List, [], ◌∷◌, length}
 use Rattle.std.proofs.Common.{take, drop, refl, ap, sym, subst, ◌∙◌, arith, Option, Some, None, get_or, drop-cons}
 use Rattle.std.specs.Prelude.{◌==◌, option_map}
@@ -31,11 +32,7 @@ abbrev pub IsOpenTo : List ℕ → ℕ → Bool → Type 0
 IsOpenTo body i star = first_close body ≡ option_map (λ n. i + n) (close_after star (drop i body))
 
 pub open_start : (body : List ℕ) → IsOpenTo body 0 false
-open_start body = sym (close_first body) ∙ by_option (close_after false body)
-  where
-    by_option : (o : Option ℕ) → o ≡ option_map (λ n. 0 + n) o
-    by_option None = refl
-    by_option (Some n) = let e : n ≡ 0 + n = omega arith in ap (λ k. Some k) e
+open_start body = search (rules, close_first)
 
 shift : (i : ℕ) (o : Option ℕ) → option_map (λ n. i + n) (option_map suc o) ≡ option_map (λ n. suc i + n) o
 shift i None = refl
@@ -71,20 +68,17 @@ close_least (b ∷ bs) n e = by_test (begins_with_close (b ∷ bs)) (close_least
 
 -- a comment ends within the text
 pub close_within : (bs : List ℕ) (n : ℕ) → first_close bs ≡ Some n → n ≤ length bs
-close_within [] n e = cc
-close_within (b ∷ []) n e = cc
 close_within (b ∷ c ∷ cs) n e = by_test (b == 42 && c == 47) (close_within (c ∷ cs)) e
   where
     by_test : (t : Bool) → ((k : ℕ) → first_close (c ∷ cs) ≡ Some k → k ≤ suc (length cs))
         → cond t (Some 2) (option_map suc (first_close (c ∷ cs))) ≡ Some n → n ≤ suc (suc (length cs))
     by_test true more h = let k : n ≡ 2 = some-same n 2 (sym h) in omega (arith, k)
     by_test false more h = let p = mapped_some (first_close (c ∷ cs)) n h in omega (arith, p.2, more p.0 p.1)
+close_within x n e = cc
 
 -- the first `*/` of a text is that of each front of the text that has it
 pub close_taken : (bs : List ℕ) (n m : ℕ) → first_close bs ≡ Some n → n ≤ m → first_close (take m bs) ≡ Some n
-close_taken [] n m e l = cc
 close_taken (b ∷ bs) n zero e l = absurd (omega (arith, l, close_least (b ∷ bs) n e))
-close_taken (b ∷ []) n (suc m) e l = cc
 close_taken (b ∷ c ∷ cs) n (suc zero) e l = absurd (omega (arith, l, close_least (b ∷ c ∷ cs) n e))
 close_taken (b ∷ c ∷ cs) n (suc (suc m)) e l =
     by_test (b == 42 && c == 47) (λ k h q. close_taken (c ∷ cs) k (suc m) h q) e
@@ -96,3 +90,4 @@ close_taken (b ∷ c ∷ cs) n (suc (suc m)) e l =
     by_test true more h = h
     by_test false more h = let p = mapped_some (first_close (c ∷ cs)) n h in
         ap (option_map suc) (more p.0 p.1 (omega (arith, l, p.2))) ∙ ap (λ k. Some k) (sym p.2)
+close_taken bs n m e l = cc

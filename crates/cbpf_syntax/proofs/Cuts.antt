@@ -1,4 +1,6 @@
 -- Cuts of a text: one more piece, and that there is only one.
+use Rattle.std.proofs.lemmas.Grind.{common_steps}
+use Rattle.std.proofs.Common.{rules}
 use Rattle.std.proofs.Common.{◌≡◌, ◌≢◌, ℕ, zero, suc, ◌+◌, ◌-◌, ◌<◌, ◌≤◌, Bool, true, List, [], ◌∷◌, ◌++◌, length}
 use Rattle.std.proofs.Common.{take, drop, refl, ap, sym, ◌∙◌, arith, Option, Some, None, append_assoc, append-nil}
 use Rattle.std.proofs.Common.{◌⊎◌, inl, inr, get_or, length-drop}
@@ -30,10 +32,7 @@ tokens_of-snoc text at (q ∷ qs) to p cut =
 
 good-snoc : (ps : List Piece) (p : Piece) → list_all (λ (q : Piece). is_good q.kind) ps ≡ true → is_good p.kind ≡ true
     → list_all (λ (q : Piece). is_good q.kind) (ps ++ p ∷ []) ≡ true
-good-snoc [] p g h = rw h refl
-good-snoc (q ∷ qs) p g h = let parts : (is_good q.kind ≡ true)
-    × (list_all (λ (x : Piece). is_good x.kind) qs ≡ true) = and_parts (is_good q.kind) _ g in
-    rw (parts.0, good-snoc qs p parts.1 h) refl
+good-snoc ps p h1 h2 = grind (arith, common_steps, and_parts)
 
 pub LexesTo-more : (text : List ℕ) (at : ℕ) (tokens : List Token) (p : Piece) → LexesTo text at tokens
     → IsPieceAt text at p → is_good p.kind ≡ true
@@ -54,20 +53,10 @@ pub some-same : {A : Type 0} (x y : A) → ◌≡◌ {A = Option A} (Some x) (So
 some-same x y e = cc
 
 same_size : (fresh : Bool) (text : List ℕ) (p q : Piece) → IsNext fresh text p → IsNext fresh text q → p.size ≡ q.size
-same_size fresh text p q a b =
-    elim (cases_order p.size q.size) [
-      | inl e ↦ e
-      | inr r ↦ elim r [
-        | inl l ↦ some-none _ _ b.kind (a.longest q.size l b.within)
-        | inr l ↦ some-none _ _ a.kind (b.longest p.size l a.within)
-      ]
-    ]
+same_size fresh text p q h1 h2 = search (rules, cases_order, some-none)
 
 pub one_next : (fresh : Bool) (text : List ℕ) (p q : Piece) → IsNext fresh text p → IsNext fresh text q → p ≡ q
-one_next fresh text p q a b =
-    let s : p.size ≡ q.size = same_size fresh text p q a b in
-    let k : p.kind ≡ q.kind = some-same _ _ (sym (rw s at a.kind) ∙ b.kind) in
-    λ i. record { kind = k i; size = s i }
+one_next fresh text p q h1 h2 = search (rules, same_size, some-same)
 
 take_nil : (n : ℕ) → take {A = ℕ} n [] ≡ []
 take_nil zero = refl

@@ -1,4 +1,5 @@
 -- Each text has tokens or a first bad piece: at each place of it stands a piece.
+use Rattle.std.proofs.Common.{rules}
 use Rattle.std.proofs.Common.{◌≡◌, ℕ, zero, suc, ◌+◌, ◌≤◌, Bool, true, false, List, [], ◌∷◌, ◌++◌, length, take}
 use Rattle.std.proofs.Common.{drop, refl, subst, arith, Option, Some, None, ◌⊎◌, inl, inr, get_or, eqb-true}
 use Rattle.std.specs.Prelude.{◌==◌}
@@ -53,21 +54,11 @@ Answer text = ((ts : List Token) × Lexes text ts) ⊎ ((f : BadPiece) × (l : �
 
 -- a piece is bad, or it isn't
 one_of : (kind : PieceKind) → ((f : BadPiece) × (kind ≡ Bad f)) ⊎ (is_good kind ≡ true)
-one_of Blanks = inr refl
-one_of Comment = inr refl
-one_of (Lexeme k) = inr refl
-one_of (Bad f) = inl (f, refl)
+one_of kind = search (rules)
 
 bad_here : (text : List ℕ) (at : ℕ) (ts : List Token) (piece : Piece) (f : BadPiece) → LexesTo text at ts
     → IsPieceAt text at piece → piece.kind ≡ Bad f → IsFirstBad text f (line_of text at)
-bad_here text at ts piece f lexed here e = record {
-  at = at;
-  tokens = ts;
-  before = lexed;
-  size = piece.size;
-  bad = subst (λ k. IsPieceAt text at (record { kind = k; size = piece.size })) e here;
-  line = refl;
-}
+bad_here text at ts piece f h1 h2 h3 = search (rules)
 
 whole : (text : List ℕ) (at : ℕ) (ts : List Token) → at ≤ length text → length text ≤ at → LexesTo text at ts
     → Answer text

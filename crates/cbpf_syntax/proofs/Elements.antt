@@ -1,4 +1,6 @@
 -- Elements of lists that are made of others.
+use Rattle.std.proofs.lemmas.Grind.{common_steps}
+use Rattle.std.proofs.Common.{rules}
 use Rattle.std.proofs.Common.{◌≡◌, ℕ, zero, suc, ◌+◌, ◌<◌, Bool, true, List, [], ◌∷◌, ◌++◌, length, map, take, refl}
 use Rattle.std.proofs.Common.{arith, ap, ◌⊎◌, inl, inr, get_or, subst}
 use Rattle.std.specs.Prelude.{Contains, flat_map}
@@ -17,11 +19,7 @@ no_element y c = absurd (omega (arith, c.1))
 
 -- the element is the first or one of the rest
 pub which_element : {X : Type 0} (x : X) (xs : List X) (y : X) → Contains (x ∷ xs) y → (x ≡ y) ⊎ Contains xs y
-which_element x xs y c = by_place c.0 c.1 c.2
-  where
-    by_place : (k : ℕ) → k < suc (length xs) → get_or (x ∷ xs) k y ≡ y → (x ≡ y) ⊎ Contains xs y
-    by_place zero l e = inl e
-    by_place (suc k) l e = inr (k, omega arith, e)
+which_element x xs y h1 = search (rules, get_or)
 
 pub only_element : {X : Type 0} (x y : X) → Contains (x ∷ []) y → x ≡ y
 only_element x y c = elim (which_element x [] y c) [ inl e ↦ e | inr d ↦ no_element y d ]
@@ -35,11 +33,7 @@ from_map f (x ∷ xs) y c = elim (which_element (f x) (map f xs) y c) [
 ]
 
 pub into_map : {X Y : Type 0} (f : X → Y) (xs : List X) (x : X) → Contains xs x → Contains (map f xs) (f x)
-into_map f [] x c = no_element x c
-into_map f (y ∷ xs) x c = elim (which_element y xs x c) [
-  | inl e ↦ subst (λ z. Contains (map f (y ∷ xs)) (f z)) e (first_element (f y) (map f xs))
-  | inr d ↦ later_element (f y) (map f xs) (f x) (into_map f xs x d)
-]
+into_map f xs x h1 = grind (arith, common_steps, no_element, which_element, first_element, later_element)
 
 pub from_flat_map : {X Y : Type 0} (f : X → List Y) (xs : List X) (y : Y) → Contains (flat_map f xs) y
     → (x : X) × Contains xs x × Contains (f x) y
@@ -59,11 +53,7 @@ into_flat_map f (z ∷ xs) x y c d = elim (which_element z xs x c) [
 
 pub any_element : {X : Type 0} (p : X → Bool) (xs : List X) (x : X) → Contains xs x → p x ≡ true
     → list_any p xs ≡ true
-any_element p [] x c e = no_element x c
-any_element p (y ∷ xs) x c e = elim (which_element y xs x c) [
-  | inl h ↦ or_left (p y) (list_any p xs) (rw h e)
-  | inr d ↦ or_right (p y) (list_any p xs) (any_element p xs x d e)
-]
+any_element p xs x h1 h2 = grind (arith, common_steps, no_element, which_element, or_left, or_right)
 
 pub some_element : {X : Type 0} (p : X → Bool) (xs : List X) → list_any p xs ≡ true
     → (x : X) × Contains xs x × (p x ≡ true)
@@ -76,19 +66,13 @@ some_element p (x ∷ xs) e = elim (or_cases (p x) (list_any p xs) e) [
 -- what holds of all elements by a test holds of one of them
 pub list_all_at : {X : Type 0} (p : X → Bool) (xs : List X) (i : ℕ) (d : X) → list_all p xs ≡ true → i < length xs
     → p (get_or xs i d) ≡ true
-list_all_at p [] i d e l = absurd (omega arith)
-list_all_at p (x ∷ xs) zero d e l = (and_parts (p x) _ e).0
-list_all_at p (x ∷ xs) (suc i) d e l = list_all_at p xs i d (and_parts (p x) _ e).1 (omega arith)
+list_all_at p xs i d h1 h2 = grind (arith, common_steps, and_parts)
 
 pub common_mapped : {X Y V W : Type 0} (e : V → W → Bool) (f : X → V) (g : Y → W) (xs : List X) (ys : List Y)
     → common_prefix_len e (map f xs) (map g ys) ≡ common_prefix_len (λ x y. e (f x) (g y)) xs ys
-common_mapped e f g [] ys = refl
-common_mapped e f g (x ∷ xs) [] = refl
 common_mapped e f g (x ∷ xs) (y ∷ ys) = rw (common_mapped e f g xs ys) refl
+common_mapped e f g xs ys = refl
 
 pub take_next : {X : Type 0} (xs : List X) (i : ℕ) (d : X) → i < length xs
     → take (i + 1) xs ≡ take i xs ++ (get_or xs i d ∷ [])
-take_next [] i d l = absurd (omega arith)
-take_next (x ∷ xs) zero d l = refl
-take_next (x ∷ xs) (suc i) d l = let e : suc i + 1 ≡ suc (i + 1) = omega arith in
-    rw e (ap (λ ys. x ∷ ys) (take_next xs i d (omega arith)))
+take_next xs i d h1 = grind (arith, common_steps)

@@ -53,27 +53,23 @@ both_false false e h = cc
 
 most_1 : (cs ds : List Class) (ts : List Lexeme) → apart cs ds ≡ true → common ds ts ≡ length ds
     → is_comma_at ts (length ds) ≡ false → common cs ts ≤ length ds
-most_1 [] ds ts a w n = omega arith
-most_1 (c ∷ cs) [] [] a w n = omega arith
 most_1 (c ∷ cs) [] (t ∷ ts) a w n =
     comma_stops (fits c t.symbol) (common cs ts) (λ f. both_false _ (comma_only c t.symbol a f) n)
-most_1 (c ∷ cs) (d ∷ ds) [] a w n = omega arith
 most_1 (c ∷ cs) (d ∷ ds) (t ∷ ts) a w n =
     let p = whole_step (fits d t.symbol) (common ds ts) (length ds) w in
     goes_step (fits c t.symbol) (common cs ts) (length ds)
     (λ f. most_1 cs ds ts (apart_rest (overlap c d) (apart cs ds) (overlap_sound t.symbol c d f p.0) a) p.1 n)
+most_1 cs ds ts a w n = omega arith
 
 most_2 : (cs ds : List Class) (ts : List Lexeme) → apart ds cs ≡ true → common ds ts ≡ length ds
     → is_comma_at ts (length ds) ≡ false → common cs ts ≤ length ds
-most_2 [] ds ts a w n = omega arith
-most_2 (c ∷ cs) [] [] a w n = omega arith
 most_2 (c ∷ cs) [] (t ∷ ts) a w n =
     comma_stops (fits c t.symbol) (common cs ts) (λ f. both_false _ (comma_only c t.symbol a f) n)
-most_2 (c ∷ cs) (d ∷ ds) [] a w n = omega arith
 most_2 (c ∷ cs) (d ∷ ds) (t ∷ ts) a w n =
     let p = whole_step (fits d t.symbol) (common ds ts) (length ds) w in
     goes_step (fits c t.symbol) (common cs ts) (length ds)
     (λ f. most_2 cs ds ts (apart_rest (overlap d c) (apart ds cs) (overlap_sound t.symbol d c p.0 f) a) p.1 n)
+most_2 cs ds ts a w n = omega arith
 
 same_words : (v w : List ℕ) → v ≡ w → bytes_eq v w ≡ true
 same_words v w e = rw e (bytes_eq_self w)

@@ -1,4 +1,5 @@
 -- What a parser may conclude that takes, item by item, a row that no row goes beyond.
+use Rattle.std.proofs.Common.{rules}
 use Rattle.std.proofs.Common.{◌≡◌, ℕ, zero, suc, ◌+◌, ◌<◌, ◌≤◌, true, false, List, [], ◌∷◌, ◌++◌, length, refl, arith}
 use Rattle.std.proofs.Common.{ap, sym, ◌∙◌, ◌⊎◌, inl, inr, subst, append_assoc, length-append, append-nil}
 use Rattle.std.specs.Prelude.{Contains}
@@ -18,15 +19,10 @@ use Rattle.cbpf_syntax.proofs.OneReading.{comma_name, same_front}
 front_split_1 : (cs ds : List Class) (ts x us y : List Lexeme) → apart cs ds ≡ true → fits_front cs ts ≡ true
     → fits_all ds us ≡ true → ts ++ x ≡ us ++ y → length us ≤ length ts
     → (length us ≡ length ts → fits_all cs ts ≡ true) → starts_with_comma y ≡ true
-front_split_1 [] [] ts x us y a f g e l full = cc
-front_split_1 [] (d ∷ ds) ts x [] y a f g e l full = cc
 front_split_1 [] (d ∷ ds) [] x (u ∷ us) y a f g e l full = absurd (omega arith)
-front_split_1 [] (d ∷ ds) (t ∷ ts) x (u ∷ us) y a f g e l full = cc
-front_split_1 (c ∷ cs) [] ts x (u ∷ us) y a f g e l full = cc
 front_split_1 (c ∷ cs) [] [] x [] y a f g e l full = let k : false ≡ true = full refl in cc
 front_split_1 (c ∷ cs) [] (t ∷ ts) x [] y a f g e l full =
     rw (← e) (comma_only c t.symbol a (and_parts (fits c t.symbol) _ f).0)
-front_split_1 (c ∷ cs) (d ∷ ds) ts x [] y a f g e l full = cc
 front_split_1 (c ∷ cs) (d ∷ ds) [] x (u ∷ us) y a f g e l full = absurd (omega arith)
 front_split_1 (c ∷ cs) (d ∷ ds) (t ∷ ts) x (u ∷ us) y a f g e l full =
     let hd : t ≡ u = cc in
@@ -36,19 +32,15 @@ front_split_1 (c ∷ cs) (d ∷ ds) (t ∷ ts) x (u ∷ us) y a f g e l full =
     let o : overlap c d ≡ true = overlap_sound t.symbol c d fc fd in
     front_split_1 cs ds ts x us y (rw o at a) (and_parts (fits c t.symbol) _ f).1 (and_parts (fits d u.symbol) _ g).1
     tl (omega arith) (λ h. (and_parts (fits c t.symbol) _ (full (ap suc h))).1)
+front_split_1 cs ds ts x us y a f g e l full = cc
 
 front_split_2 : (cs ds : List Class) (ts x us y : List Lexeme) → apart ds cs ≡ true → fits_front cs ts ≡ true
     → fits_all ds us ≡ true → ts ++ x ≡ us ++ y → length us ≤ length ts
     → (length us ≡ length ts → fits_all cs ts ≡ true) → starts_with_comma y ≡ true
-front_split_2 [] [] ts x us y a f g e l full = cc
-front_split_2 [] (d ∷ ds) ts x [] y a f g e l full = cc
 front_split_2 [] (d ∷ ds) [] x (u ∷ us) y a f g e l full = absurd (omega arith)
-front_split_2 [] (d ∷ ds) (t ∷ ts) x (u ∷ us) y a f g e l full = cc
-front_split_2 (c ∷ cs) [] ts x (u ∷ us) y a f g e l full = cc
 front_split_2 (c ∷ cs) [] [] x [] y a f g e l full = let k : false ≡ true = full refl in cc
 front_split_2 (c ∷ cs) [] (t ∷ ts) x [] y a f g e l full =
     rw (← e) (comma_only c t.symbol a (and_parts (fits c t.symbol) _ f).0)
-front_split_2 (c ∷ cs) (d ∷ ds) ts x [] y a f g e l full = cc
 front_split_2 (c ∷ cs) (d ∷ ds) [] x (u ∷ us) y a f g e l full = absurd (omega arith)
 front_split_2 (c ∷ cs) (d ∷ ds) (t ∷ ts) x (u ∷ us) y a f g e l full =
     let hd : t ≡ u = cc in
@@ -58,6 +50,7 @@ front_split_2 (c ∷ cs) (d ∷ ds) (t ∷ ts) x (u ∷ us) y a f g e l full =
     let o : overlap d c ≡ true = overlap_sound t.symbol d c fd fc in
     front_split_2 cs ds ts x us y (rw o at a) (and_parts (fits c t.symbol) _ f).1 (and_parts (fits d u.symbol) _ g).1
     tl (omega arith) (λ h. (and_parts (fits c t.symbol) _ (full (ap suc h))).1)
+front_split_2 cs ds ts x us y a f g e l full = cc
 
 front_split : (cs ds : List Class) (ts x us y : List Lexeme) → Apart cs ds → fits_front cs ts ≡ true
     → fits_all ds us ≡ true → ts ++ x ≡ us ++ y → length us ≤ length ts
@@ -66,32 +59,27 @@ front_split cs ds ts x us y (inl a) f g e l full = front_split_1 cs ds ts x us y
 front_split cs ds ts x us y (inr a) f g e l full = front_split_2 cs ds ts x us y a f g e l full
 
 pub whole_front : (cs : List Class) (ts : List Lexeme) → fits_all cs ts ≡ true → fits_front cs ts ≡ true
-whole_front [] [] f = refl
 whole_front [] (t ∷ ts) f = cc
-whole_front (c ∷ cs) [] f = refl
 whole_front (c ∷ cs) (t ∷ ts) f =
     let p : (fits c t.symbol ≡ true) × (fits_all cs ts ≡ true) = and_parts (fits c t.symbol) _ f in
     rw (p.0, whole_front cs ts p.1) refl
+whole_front cs ts f = refl
 
 pub length_whole : (cs : List Class) (ts : List Lexeme) → fits_all cs ts ≡ true → length cs ≡ length ts
 length_whole [] [] f = refl
-length_whole [] (t ∷ ts) f = cc
-length_whole (c ∷ cs) [] f = cc
 length_whole (c ∷ cs) (t ∷ ts) f = ap suc (length_whole cs ts (and_parts (fits c t.symbol) _ f).1)
+length_whole cs ts f = cc
 
 pub length_front : (cs : List Class) (ts : List Lexeme) → fits_front cs ts ≡ true → length ts ≤ length cs
-length_front [] [] f = omega arith
 length_front [] (t ∷ ts) f = absurd cc
-length_front (c ∷ cs) [] f = omega arith
 length_front (c ∷ cs) (t ∷ ts) f =
     let h : length ts ≤ length cs = length_front cs ts (and_parts (fits c t.symbol) _ f).1 in
     omega arith
+length_front cs ts f = omega arith
 
 -- neither items nor what begins one starts with a comma
 comma_row_front : (cs : List Class) (ts : List Lexeme) → starts_reserved cs ≡ true → fits_front cs ts ≡ true
     → starts_with_comma ts ≡ true → ⊥
-comma_row_front cs [] e f h = cc
-comma_row_front [] (t ∷ ts) e f h = cc
 comma_row_front (the_word w ∷ cs) (t ∷ ts) e f h =
     comma_word w t.symbol (and_parts (fits (the_word w) t.symbol) _ f).0 h
   where
@@ -99,18 +87,11 @@ comma_row_front (the_word w ∷ cs) (t ∷ ts) e f h =
     comma_word w (Symbol.word u) f h = cc
     comma_word w (Symbol.number i) f h = cc
     comma_word w (Symbol.mark b) f h = cc
-comma_row_front (the_mark b ∷ cs) (t ∷ ts) e f h = cc
-comma_row_front (literal ∷ cs) (t ∷ ts) e f h = cc
-comma_row_front (negated ∷ cs) (t ∷ ts) e f h = cc
-comma_row_front (exactly m ∷ cs) (t ∷ ts) e f h = cc
-comma_row_front (extension ∷ cs) (t ∷ ts) e f h = cc
-comma_row_front (name ∷ cs) (t ∷ ts) e f h = cc
+comma_row_front cs ts e f h = cc
 
 comma_begin : (n : ℕ) (r : Row) (ts : List Lexeme) → Contains table r → fits_front (classes_of n r) ts ≡ true
     → starts_with_comma ts ≡ true → ⊥
-comma_begin zero r ts p f h = comma_row_front (classes r) ts (row_starts r p) f h
-comma_begin (suc n) r [] p f h = cc
-comma_begin (suc n) r (t ∷ ts) p f h = comma_name t.symbol (and_parts (fits name t.symbol) _ f).0 h
+comma_begin n r ts h1 h2 h3 = search (rules, comma_row_front, row_starts, comma_name, and_parts)
 
 comma_reading : (f r : List Lexeme) (items : List Item) → Items f items → BeginsItem r
     → starts_with_comma (f ++ r) ≡ true → ⊥
@@ -150,10 +131,7 @@ rest_within : (ts : List Lexeme) (is : List Item) (rest : List Lexeme) → Greed
 rest_within ts is rest p = let q = greedy_items ts is rest p in rw q.1 (omega (arith, length-append q.0 rest))
 
 shorter : (m n : ℕ) → (n < m → ⊥) → m ≤ n
-shorter m n h = elim (three m n) [
-  | inl l ↦ omega arith
-  | inr k ↦ elim k [ inl l ↦ absurd (h l) | inr e ↦ omega arith ]
-]
+shorter m n h1 = search (rules, three)
 
 -- A reading of tokens that reach into the rest takes the same items first.
 pub their_items : (ts : List Lexeme) (is : List Item) (rest t z f r : List Lexeme) (js : List Item)
@@ -182,7 +160,7 @@ their_items ts (i ∷ is) rest t z f r js p e l h items b =
         let y = items.1 ++ r in
         let ty : t ≡ items.0 ++ y = h ∙ (ap (λ x. x ++ r) items.2 ∙ append_assoc items.0 items.1 r) in
         let tsy : ts ≡ items.0 ++ (y ++ z) = e ∙ (ap (λ x. x ++ z) ty ∙ append_assoc items.0 y z) in
-        let short : length items.0 ≤ length p.0 = shorter (length items.0) (length p.0)
+        let short = shorter (length items.0) (length p.0)
         (λ l. p.4 items.3.count j.row items.3.row items.0 (y ++ z) tsy l (whole_front _ items.0 items.3.fits)) in
         elim (readings_apart p.3.count items.3.count i.row j.row p.3.row items.3.row) [
           | inl same ↦
@@ -190,8 +168,7 @@ their_items ts (i ∷ is) rest t z f r js p e l h items b =
               ap (λ n. classes_of n i.row) same.0 ∙ ap (λ q. classes_of items.3.count q) same.1 in
               let fits' : fits_all (classes_of p.3.count i.row) items.0 ≡ true =
               subst (λ cs. fits_all cs items.0 ≡ true) (sym ce) items.3.fits in
-              let parts : (p.0 ≡ items.0) × (v ≡ y) =
-              same_front (classes_of p.3.count i.row) p.0 v items.0 y p.3.fits fits' (sym tv ∙ ty) in
+              let parts = same_front (classes_of p.3.count i.row) p.0 v items.0 y p.3.fits fits' (sym tv ∙ ty) in
               again v items.1 js mv parts.1 items.4
           | inr apart ↦ absurd (comma_reading items.1 r js items.4 b (front_split _ _ p.0 v items.0 y apart
               (whole_front _ p.0 p.3.fits) items.3.fits (sym tv ∙ ty) short (λ _. p.3.fits)))
@@ -217,8 +194,7 @@ no_whole : (n : ℕ) (rest u z g r : List Lexeme) (j : Item) → Stuck n rest �
     → Form g j → ((starts_with_comma r ≡ true) → ⊥) → ⊥
 no_whole n rest u z g r j s e l h form nocomma =
     let gz : rest ≡ g ++ (r ++ z) = e ∙ (ap (λ x. x ++ z) h ∙ append_assoc g r z) in
-    let short : length g ≤ n =
-    shorter (length g) n (λ k. s.longest form.count j.row form.row g (r ++ z) gz k (whole_front _ g form.fits)) in
+    let short = shorter (length g) n (λ k. s.longest form.count j.row form.row g (r ++ z) gz k (whole_front _ g form.fits)) in
     let both : s.front ++ s.more ≡ g ++ (r ++ z) = sym s.split ∙ gz in
     by_size (three (length g) n) gz short both
   where
@@ -239,13 +215,12 @@ no_whole n rest u z g r j s e l h form nocomma =
               let ce : classes_of s.begins.count s.begins.row ≡ classes_of form.count j.row =
               ap (λ n. classes_of n s.begins.row) same.0 ∙ ap (λ q. classes_of form.count q) same.1 in
               let w : length (classes_of form.count j.row) ≡ length g = length_whole _ g form.fits in
-              let v : length s.front ≤ length (classes_of s.begins.count s.begins.row) =
-              length_front _ s.front s.begins.fits in
+              let v = length_front _ s.front s.begins.fits in
               let c : length (classes_of s.begins.count s.begins.row) ≡ length (classes_of form.count j.row) =
               ap length ce in
               omega (arith, s.size, w, v, c, k)
           | inr apart ↦
-              let comma : starts_with_comma (r ++ z) ≡ true = front_split _ _ s.front s.more g (r ++ z) apart
+              let comma = front_split _ _ s.front s.more g (r ++ z) apart
               s.begins.fits form.fits both (omega (arith, s.size)) (λ q. absurd (omega (arith, s.size, k, q))) in
               nocomma (comma_within r z (omega (arith, l, k, ap length h, length-append g r)) comma)
         ]
@@ -268,11 +243,7 @@ no_reading n rest u z g r (j ∷ js) s e l h items b far =
 -- A4: the tokens up to the stuck one begin items, and with it they do not
 pub stuck_begins : (ts : List Lexeme) (is : List Item) (rest : List Lexeme) (n : ℕ) → Greedy ts is rest
     → (s : Stuck n rest) → (t : List Lexeme) → ts ≡ t ++ s.more → BeginsItems t
-stuck_begins ts is rest n p s t e =
-    let done = greedy_items ts is rest p in
-    let same : t ++ s.more ≡ (done.0 ++ s.front) ++ s.more =
-    sym e ∙ (done.1 ∙ (ap (λ x. done.0 ++ x) s.split ∙ sym (append_assoc done.0 s.front s.more))) in
-    (done.0, s.front, is, same_prefix t s.more (done.0 ++ s.front) same, done.2, s.begins)
+stuck_begins ts is rest n h1 s t h2 = search (rules, greedy_items, append_assoc, same_prefix)
 
 pub stuck_ends : (ts : List Lexeme) (is : List Item) (rest : List Lexeme) (n : ℕ) → Greedy ts is rest → Stuck n rest
     → (t z : List Lexeme) → ts ≡ t ++ z → length z + n < length rest → BeginsItems t → ⊥

@@ -1,4 +1,5 @@
 -- The instruction at the front of a token list, by its first token.
+use Rattle.std.proofs.Common.{rules}
 use Rattle.std.proofs.Common.{◌≡◌, ◌≢◌, ℕ, suc, ◌+◌, ◌<◌, ◌≤◌, Bool, true, false, not, cond, ◌&&◌, List, [], ◌∷◌}
 use Rattle.std.proofs.Common.{length, take, refl, arith, ap, sym, ◌∙◌, subst, get_or}
 use Rattle.std.proofs.Math.Numerals.{one-add}
@@ -127,8 +128,7 @@ reserved_stuck w at us unlisted taken = none_begins (lexeme w at ∷ us) (ap not
         by_test : (t : Bool) → bytes_eq w r.mnemonic ≡ t → cond t (1 + common r.operand us) 0 ≡ 0
         by_test true h =
             let q = row_mnemonic r k in
-            let listed : is_one_of mnemonic_words w ≡ true =
-            word_listed w q.0 q.1 (subst (λ v. bytes_eq w v ≡ true) (sym (row_word q.0 r q.2)) h) in
+            let listed = word_listed w q.0 q.1 (subst (λ v. bytes_eq w v ≡ true) (sym (row_word q.0 r q.2)) h) in
             let bad : true ≡ false = sym listed ∙ unlisted in cc
         by_test false h = refl
 
@@ -157,12 +157,7 @@ first_symbol ts t s l e h = ap (λ us. map lexeme_of us) (split_first ts t l e)
 
 pub no_word_stuck : (ts : List declared_lexeme.Lexeme) (t : declared_lexeme.Lexeme) → 0 < length ts
     → t ≡ get_or ts 0 t → ((w : Bor (List ℕ)) → t.symbol ≡ Word w → ⊥) → Stuck 0 (map lexeme_of ts)
-no_word_stuck ts t l e none = by_symbol t.symbol refl
-  where
-    by_symbol : (s : declared_symbol.Symbol) → t.symbol ≡ s → Stuck 0 (map lexeme_of ts)
-    by_symbol (Word w) h = absurd (none w h)
-    by_symbol (Number n) h = rw (first_symbol ts t (Number n) l e h) (number_stuck n t.at (map lexeme_of (drop 1 ts)))
-    by_symbol (Mark b) h = rw (first_symbol ts t (Mark b) l e h) (mark_stuck b t.at (map lexeme_of (drop 1 ts)))
+no_word_stuck ts t h1 h2 h3 = search (rules, first_symbol, number_stuck, mark_stuck)
 
 pub no_token_stuck : (ts : List declared_lexeme.Lexeme) → length ts ≤ 0 → Stuck 0 (map lexeme_of ts)
 no_token_stuck [] l = end_stuck

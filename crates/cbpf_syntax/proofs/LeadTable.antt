@@ -1,4 +1,5 @@
 -- The table of first bytes is held against the definition at each of the 256 bytes, by computing.
+use Rattle.std.proofs.Common.{rules}
 use Rattle.std.proofs.Common.{◌≡◌, ◌≢◌, ℕ, zero, suc, ◌<◌, Bool, true, false, cond, get_or, refl, ap, sym, ◌∙◌}
 use Rattle.std.specs.Prelude.{◌==◌, if◌then◌else◌}
 use Rattle.std.proofs.lemmas.Bool.{agree_below, agree_below_at, eqb-true, ne_eqb}
@@ -39,13 +40,7 @@ lead_at (suc (suc (suc (suc (suc zero))))) = Single
 lead_at (suc (suc (suc (suc (suc (suc n)))))) = Other
 
 numbered : (l : Lead) → lead_at (number_of l) ≡ l
-numbered Blank = refl
-numbered LineComment = refl
-numbered Letter = refl
-numbered Digit = refl
-numbered Slash = refl
-numbered Single = refl
-numbered Other = refl
+numbered l = search (rules)
 
 pub same_lead : (l m : Lead) → (number_of l == number_of m) ≡ true → l ≡ m
 same_lead l m h = sym (numbered l) ∙ ap lead_at (eqb-true (number_of l) (number_of m) h) ∙ numbered m
@@ -67,16 +62,7 @@ hash_lead fresh t b e lt h = rw (← e) (rw h at (letter_lead fresh b lt))
 -- a letter that says nothing else
 other_letter : (fresh : Bool) (g : ℕ) → g ≢ 76 → g ≢ 68 → g ≢ 77 → g ≢ 66 → g ≢ 67 → g ≢ 72 → g ≢ 83
     → by_letter fresh g ≡ Other
-other_letter fresh g n76 n68 n77 n66 n67 n72 n83 =
-    rw (
-      ne_eqb g 66 n66,
-      ne_eqb g 67 n67,
-      ne_eqb g 68 n68,
-      ne_eqb g 72 n72,
-      ne_eqb g 76 n76,
-      ne_eqb g 77 n77,
-      ne_eqb g 83 n83,
-    ) refl
+other_letter fresh g h1 h2 h3 h4 h5 h6 h7 = search (rules, ne_eqb)
 
 pub other_lead : (fresh : Bool) (b : ℕ) → b < 256 → get_or LEADS b 0 ≢ 76 → get_or LEADS b 0 ≢ 68
     → get_or LEADS b 0 ≢ 77 → get_or LEADS b 0 ≢ 66 → get_or LEADS b 0 ≢ 67 → get_or LEADS b 0 ≢ 72

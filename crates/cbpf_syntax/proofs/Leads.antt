@@ -1,4 +1,5 @@
 -- The kind of a piece by what its first byte says of it.
+use Rattle.std.proofs.Common.{rules}
 use Rattle.std.proofs.Common.{◌≡◌, ℕ, Bool, true, false, not, ◌&&◌, ◌||◌, cond, List, ◌∷◌, refl, ap, ◌∙◌, Option}
 use Rattle.std.specs.Prelude.{◌==◌}
 use Rattle.std.specs.List.{list_all}
@@ -25,13 +26,7 @@ led_kind Other b bs = alone bs (Bad NoToken)
 chosen : {A B : Type 0} (f : A → B) (p q r s t u : Bool) (a c d e g h i : A)
     → cond p (f a) (cond q (f c) (cond r (f d) (cond s (f e) (cond t (f g) (cond u (f h) (f i))))))
     ≡ f (cond p a (cond q c (cond r d (cond s e (cond t g (cond u h i))))))
-chosen f true q r s t u a c d e g h i = refl
-chosen f false true r s t u a c d e g h i = refl
-chosen f false false true s t u a c d e g h i = refl
-chosen f false false false true t u a c d e g h i = refl
-chosen f false false false false true u a c d e g h i = refl
-chosen f false false false false false true a c d e g h i = refl
-chosen f false false false false false false a c d e g h i = refl
+chosen f p q r s t u a c d e g h i = search (rules)
 
 pub led : (fresh : Bool) (b : ℕ) (bs : List ℕ) (lead : Lead) → lead_of fresh b ≡ lead
     → piece_kind fresh (b ∷ bs) ≡ led_kind lead b bs

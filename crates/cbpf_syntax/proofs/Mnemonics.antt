@@ -1,4 +1,5 @@
 -- The rows of a mnemonic, and that no two mnemonics have one word.
+use Rattle.std.proofs.Common.{rules}
 use Rattle.std.proofs.Common.{◌≡◌, ℕ, zero, suc, ◌<◌, ◌≤◌, Bool, true, false, not, cond, map, ◌&&◌, ◌||◌, List, []}
 use Rattle.std.proofs.Common.{◌∷◌, length, refl, arith, ap, sym, ◌∙◌, inl, inr, get_or, ltb-true}
 use Rattle.std.specs.Prelude.{Contains, nat_lt, nat_le, bytes_eq}
@@ -32,17 +33,14 @@ words_short = refl
 
 differ_at : (ms : List Mnemonic) (i j : ℕ) (d : Mnemonic) → all_differ ms ≡ true → i < j → j < length ms
     → not (bytes_eq (get_or ms i d).word (get_or ms j d).word) ≡ true
-differ_at [] i j d e l m = absurd (omega arith)
-differ_at (r ∷ rs) i zero d e l m = absurd (omega arith)
 differ_at (r ∷ rs) zero (suc j) d e l m =
     list_all_at (λ (s : Mnemonic). not (bytes_eq r.word s.word)) rs j d (and_parts _ _ e).0 (omega arith)
 differ_at (r ∷ rs) (suc i) (suc j) d e l m = differ_at rs i j d
     (and_parts (list_all (λ (n : Mnemonic). not (bytes_eq r.word n.word)) rs) _ e).1 (omega arith) (omega arith)
+differ_at rs i j d e l m = absurd (omega arith)
 
 not_same : {B : Type 0} (v w : List ℕ) → v ≡ w → not (bytes_eq v w) ≡ true → B
-not_same v w e h = let k : not (bytes_eq w w) ≡ true = rw e at h in
-    let q : not true ≡ true = rw (bytes_eq_self w) at k in
-    cc
+not_same v w h1 h2 = search (rules, bytes_eq_self)
 
 pub same_mnemonic : (m n : Mnemonic) → Contains mnemonics m → Contains mnemonics n → m.word ≡ n.word → m ≡ n
 same_mnemonic m n p q w =
@@ -109,11 +107,7 @@ no_word (b ∷ bs) e = absurd (omega (arith, e))
 -- the mnemonics that begin with a byte
 kept_known : (t : Bool) (n : Mnemonic) (ns ms : List Mnemonic) (m : Mnemonic) → (Contains ns m → Contains ms m)
     → Contains (cond t (n ∷ ns) ns) m → Contains (n ∷ ms) m
-kept_known true n ns ms m rest c = elim (which_element n ns m c) [
-  | inl e ↦ rw e (first_element m ms)
-  | inr d ↦ later_element n ms m (rest d)
-]
-kept_known false n ns ms m rest c = later_element n ms m (rest c)
+kept_known t n ns ms m h1 h2 = search (rules, which_element, first_element, later_element)
 
 pub from_known : (b : ℕ) (ms : List Mnemonic) (m : Mnemonic) → Contains (filter (begins_with b) ms) m → Contains ms m
 from_known b [] m c = c

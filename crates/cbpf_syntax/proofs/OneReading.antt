@@ -1,4 +1,5 @@
 -- A token list is at most one list of items.
+use Rattle.std.proofs.Common.{rules}
 use Rattle.std.proofs.Common.{◌≡◌, ℕ, zero, suc, ◌+◌, ◌<◌, Bool, true, false, List, [], ◌∷◌, ◌++◌, length, drop, refl}
 use Rattle.std.proofs.Common.{arith, ap, sym, ◌∙◌, ◌⊎◌, inl, inr, get_or, subst}
 use Rattle.std.specs.Prelude.{Contains}
@@ -17,14 +18,8 @@ use Rattle.cbpf_syntax.proofs.Apart.{apart, apart_from_all, all_apart, table_apa
 
 -- every row begins with a reserved word
 abbrev pub starts_reserved : List Class → Bool
-starts_reserved [] = false
 starts_reserved (the_word w ∷ cs) = is_reserved w
-starts_reserved (the_mark b ∷ cs) = false
-starts_reserved (literal ∷ cs) = false
-starts_reserved (negated ∷ cs) = false
-starts_reserved (exactly m ∷ cs) = false
-starts_reserved (extension ∷ cs) = false
-starts_reserved (name ∷ cs) = false
+starts_reserved cs = false
 
 table_reserved : list_all (λ (r : Row). starts_reserved (classes r)) table ≡ true
 unfolding mnemonics extension_names
@@ -32,12 +27,11 @@ table_reserved = refl
 
 apart_at : (rows : List Row) (i j : ℕ) (d : Row) → all_apart rows ≡ true → i < j → j < length rows
     → apart (classes (get_or rows i d)) (classes (get_or rows j d)) ≡ true
-apart_at [] i j d e l m = absurd (omega arith)
-apart_at (r ∷ rs) i zero d e l m = absurd (omega arith)
 apart_at (r ∷ rs) zero (suc j) d e l m =
     list_all_at (λ (s : Row). apart (classes r) (classes s)) rs j d (and_parts _ _ e).0 (omega arith)
 apart_at (r ∷ rs) (suc i) (suc j) d e l m =
     apart_at rs i j d (and_parts (apart_from_all (classes r) rs) _ e).1 (omega arith) (omega arith)
+apart_at rs i j d e l m = absurd (omega arith)
 
 -- the readings by two rows, or the same row
 abbrev pub Apart : List Class → List Class → Type 0
@@ -63,14 +57,7 @@ row_starts r p = rw p.2 at (list_all_at (λ (s : Row). starts_reserved (classes 
 
 reserved_name : (cs ds : List Class) → starts_reserved cs ≡ true
     → (apart cs (name ∷ ds) ≡ true) × (apart (name ∷ ds) cs ≡ true)
-reserved_name [] ds e = cc
-reserved_name (the_word w ∷ cs) ds e = (rw e refl, rw e refl)
-reserved_name (the_mark b ∷ cs) ds e = (refl, refl)
-reserved_name (literal ∷ cs) ds e = (refl, refl)
-reserved_name (negated ∷ cs) ds e = (refl, refl)
-reserved_name (exactly m ∷ cs) ds e = (refl, refl)
-reserved_name (extension ∷ cs) ds e = (refl, refl)
-reserved_name (name ∷ cs) ds e = cc
+reserved_name cs ds h1 = search (rules)
 
 pub readings_apart : (m n : ℕ) (r s : Row) → Contains table r → Contains table s
     → ((m ≡ n) × (r ≡ s)) ⊎ Apart (classes_of m r) (classes_of n s)
@@ -87,31 +74,20 @@ readings_apart (suc m) (suc n) r s p q = elim (readings_apart m n r s p q) [
 -- neither items nor what begins one starts with a comma
 pub comma_row : (cs : List Class) (ts : List Lexeme) → starts_reserved cs ≡ true → fits_all cs ts ≡ true
     → starts_with_comma ts ≡ true → ⊥
-comma_row [] ts e f h = cc
-comma_row (the_word w ∷ cs) [] e f h = cc
 comma_row (the_word w ∷ cs) (t ∷ ts) e f h = comma_word w t.symbol (and_parts _ _ f).0 h
   where
     comma_word : (w : List ℕ) (t : Symbol) → fits (the_word w) t ≡ true → fits (the_mark 44) t ≡ true → ⊥
     comma_word w (word u) f h = cc
     comma_word w (number i) f h = cc
     comma_word w (mark b) f h = cc
-comma_row (the_mark b ∷ cs) ts e f h = cc
-comma_row (literal ∷ cs) ts e f h = cc
-comma_row (negated ∷ cs) ts e f h = cc
-comma_row (exactly m ∷ cs) ts e f h = cc
-comma_row (extension ∷ cs) ts e f h = cc
-comma_row (name ∷ cs) ts e f h = cc
+comma_row cs ts e f h = cc
 
 pub comma_name : (t : Symbol) → fits name t ≡ true → fits (the_mark 44) t ≡ true → ⊥
-comma_name (word u) f h = cc
-comma_name (number i) f h = cc
-comma_name (mark b) f h = cc
+comma_name t h1 h2 = search (rules)
 
 pub comma_form : (n : ℕ) (r : Row) (ts : List Lexeme) → Contains table r → fits_all (classes_of n r) ts ≡ true
     → starts_with_comma ts ≡ true → ⊥
-comma_form zero r ts p f h = comma_row (classes r) ts (row_starts r p) f h
-comma_form (suc n) r [] p f h = cc
-comma_form (suc n) r (t ∷ ts) p f h = comma_name t.symbol (and_parts _ _ f).0 h
+comma_form n r ts h1 h2 h3 = search (rules, comma_row, row_starts, comma_name, and_parts)
 
 no_row : (cs : List Class) → starts_reserved cs ≡ true → fits_all cs [] ≡ true → ⊥
 no_row [] e f = cc
@@ -134,25 +110,16 @@ comma_items ts (i ∷ is) e h = comma_front e.3.count i.row e.0 e.1 e.3.row e.3.
 pub same_front : (cs : List Class) (ts x us y : List Lexeme) → fits_all cs ts ≡ true → fits_all cs us ≡ true
     → ts ++ x ≡ us ++ y → (ts ≡ us) × (x ≡ y)
 same_front [] [] x [] y f g e = (refl, e)
-same_front [] (t ∷ ts) x us y f g e = cc
-same_front [] [] x (u ∷ us) y f g e = cc
-same_front (c ∷ cs) [] x us y f g e = cc
-same_front (c ∷ cs) (t ∷ ts) x [] y f g e = cc
 same_front (c ∷ cs) (t ∷ ts) x (u ∷ us) y f g e =
     let hd : t ≡ u = cc in
     let tl : ts ++ x ≡ us ++ y = cc in
-    let both : (ts ≡ us) × (x ≡ y) =
-    same_front cs ts x us y (and_parts (fits c t.symbol) _ f).1 (and_parts (fits c u.symbol) _ g).1 tl in
+    let both = same_front cs ts x us y (and_parts (fits c t.symbol) _ f).1 (and_parts (fits c u.symbol) _ g).1 tl in
     (cc, both.1)
+same_front cs ts x us y f g e = cc
 
 same_item : (f g : List Lexeme) (i j : Item) → f ≡ g → (p : Form f i) (q : Form g j) → p.count ≡ q.count
     → i.row ≡ j.row → i ≡ j
-same_item f g i j e p q c r =
-    let l : i.labels ≡ j.labels = p.labels
-    ∙ (ap (λ n. names_at (label_classes n) f) c ∙ (ap (λ t. names_at (label_classes q.count) t) e ∙ sym q.labels)) in
-    let b : i.body ≡ j.body =
-    p.body ∙ (ap (λ n. drop (n + n) f) c ∙ (ap (λ t. drop (q.count + q.count) t) e ∙ sym q.body)) in
-    λ k. record { labels = l k; row = r k; body = b k }
+same_item f g i j h1 p q h2 h3 = search (rules)
 
 nothing : (ts f r : List Lexeme) (i : Item) → ts ≡ [] → ts ≡ f ++ r → Form f i → ⊥
 nothing ts [] r i e h form = no_classes form.count i.row form.row form.fits
@@ -169,8 +136,7 @@ one_reading ts (i ∷ is) (j ∷ js) p q =
           ap (λ n. classes_of n i.row) e.0 ∙ ap (λ r. classes_of q.3.count r) e.1 in
           let fits' : fits_all (classes_of p.3.count i.row) q.0 ≡ true =
           subst (λ cs. fits_all cs q.0 ≡ true) (sym ce) q.3.fits in
-          let both : (p.0 ≡ q.0) × (p.1 ≡ q.1) =
-          same_front (classes_of p.3.count i.row) p.0 p.1 q.0 q.1 p.3.fits fits' (sym p.2 ∙ q.2) in
+          let both = same_front (classes_of p.3.count i.row) p.0 p.1 q.0 q.1 p.3.fits fits' (sym p.2 ∙ q.2) in
           let hd : i ≡ j = same_item p.0 q.0 i j both.0 p.3 q.3 e.0 e.1 in
           let tl : is ≡ js = one_reading p.1 is js p.4 (subst (λ r. Items r js) (sym both.1) q.4) in
           λ k. hd k ∷ tl k

@@ -1,4 +1,5 @@
 -- A token list has at most one first refusal: no token is misplaced that is a number after a `-`.
+use Rattle.std.proofs.Common.{rules}
 use Rattle.std.proofs.Common.{◌≡◌, ℕ, zero, suc, ◌+◌, ◌≤◌, Bool, true, false, not, ◌&&◌, ◌||◌, List, [], ◌∷◌, ◌++◌}
 use Rattle.std.proofs.Common.{take, refl, arith, ap, sym, ◌∙◌, ◌⊎◌, inl, inr, subst, append_assoc, append-nil, Option}
 use Rattle.std.proofs.Common.{Some, eqb-true, eq-eqb}
@@ -20,23 +21,12 @@ use Rattle.cbpf_syntax.proofs.Greedy.{whole_front}
 use Rattle.cbpf_syntax.proofs.Refused.{large_within}
 
 abbrev pub is_minus : Class → Bool
-is_minus (the_word w) = false
 is_minus (the_mark b) = b == 45
-is_minus literal = false
-is_minus negated = false
-is_minus (exactly m) = false
-is_minus extension = false
-is_minus name = false
+is_minus c = false
 
 abbrev pub starts_negated : List Class → Bool
-starts_negated [] = false
-starts_negated (the_word w ∷ cs) = false
-starts_negated (the_mark b ∷ cs) = false
-starts_negated (literal ∷ cs) = false
 starts_negated (negated ∷ cs) = true
-starts_negated (exactly m ∷ cs) = false
-starts_negated (extension ∷ cs) = false
-starts_negated (name ∷ cs) = false
+starts_negated cs = false
 
 -- after each `-` stands a literal's size
 abbrev pub minus_goes_on : List Class → Bool
@@ -55,19 +45,7 @@ item_minus zero r p = row_minus r p
 item_minus (suc count) r p = item_minus count r p
 
 minus_class : (c : Class) (t : Symbol) → t ≡ mark 45 → fits c t ≡ true → is_minus c ≡ true
-minus_class c t e h = by_class c (rw e at h)
-  where
-    swap : (a b : ℕ) → (a == b) ≡ true → (b == a) ≡ true
-    swap a b h = eq-eqb b a (sym (eqb-true a b h))
-
-    by_class : (c : Class) → fits c (mark 45) ≡ true → is_minus c ≡ true
-    by_class (the_word w) h = cc
-    by_class (the_mark b) h = swap 45 b h
-    by_class literal h = cc
-    by_class negated h = cc
-    by_class (exactly m) h = cc
-    by_class extension h = cc
-    by_class name h = cc
+minus_class c t h1 h2 = search (rules, eq-eqb, eqb-true)
 
 front_nil : (cs : List Class) → fits_front cs [] ≡ true
 front_nil [] = refl
@@ -75,14 +53,7 @@ front_nil (c ∷ cs) = refl
 
 number_goes_on : (cs : List Class) (k : Lexeme) (n : ℕ) → k.symbol ≡ number n → starts_negated cs ≡ true
     → fits_front cs (k ∷ []) ≡ true
-number_goes_on [] k n e h = cc
-number_goes_on (the_word w ∷ cs) k n e h = cc
-number_goes_on (the_mark b ∷ cs) k n e h = cc
-number_goes_on (literal ∷ cs) k n e h = cc
-number_goes_on (negated ∷ cs) k n e h = rw (e, front_nil cs) refl
-number_goes_on (exactly m ∷ cs) k n e h = cc
-number_goes_on (extension ∷ cs) k n e h = cc
-number_goes_on (name ∷ cs) k n e h = cc
+number_goes_on cs k n h1 h2 = search (rules, front_nil)
 
 or_second : (a b : Bool) → (not a || b) ≡ true → a ≡ true → b ≡ true
 or_second true b h e = h
@@ -107,12 +78,7 @@ front_goes_on (c ∷ cs) (t ∷ r) m k n e f g h =
 
 item_goes_on : (r : List Lexeme) (m k : Lexeme) (n : ℕ) → m.symbol ≡ mark 45 → k.symbol ≡ number n
     → BeginsItem (r ++ (m ∷ [])) → BeginsItem (r ++ (m ∷ k ∷ []))
-item_goes_on r m k n e f b = record {
-  count = b.count;
-  row = b.row;
-  known = b.known;
-  fits = front_goes_on (classes_of b.count b.row) r m k n e f (item_minus b.count b.row b.known) b.fits;
-}
+item_goes_on r m k n h1 h2 h3 = search (rules, front_goes_on, item_minus)
 
 -- the last token of two lists
 snoc_parts : (xs ys r : List Lexeme) (m : Lexeme) → xs ++ ys ≡ r ++ (m ∷ [])
@@ -162,8 +128,6 @@ begins_on f r u m k n (i ∷ is) e h p b s =
 two_at : (ts : List Lexeme) (b : ℕ) (s d : Symbol) → symbol_at ts b ≡ Some s → symbol_at ts (suc b) ≡ Some d
     → (m : Lexeme) × (k : Lexeme) × (m.symbol ≡ s) × (k.symbol ≡ d) × (take (suc b) ts ≡ take b ts ++ (m ∷ []))
     × (take (suc (suc b)) ts ≡ take b ts ++ (m ∷ k ∷ []))
-two_at [] b s d e f = cc
-two_at (t ∷ []) zero s d e f = cc
 two_at (t ∷ u ∷ ts) zero s d e f = (t, u, some-same t.symbol s e, some-same u.symbol d f, refl, refl)
   where
     some-same : (x y : Symbol) → ◌≡◌ {A = Option Symbol} (Some x) (Some y) → x ≡ y
@@ -171,13 +135,14 @@ two_at (t ∷ u ∷ ts) zero s d e f = (t, u, some-same t.symbol s e, some-same 
 two_at (t ∷ ts) (suc b) s d e f =
     let r = two_at ts b s d e f in
     (r.0, r.1, r.2, r.3, ap (λ us. t ∷ us) r.4, ap (λ us. t ∷ us) r.5)
+two_at ts b s d e f = cc
 
 pub never_both : (ts : List Lexeme) (i : ℕ) → IsMisplaced ts i → IsLargeNegative ts i → ⊥
 never_both ts i p q =
     let e : i ≡ suc q.before = omega (arith, q.after) in
     let two = two_at ts q.before q.sign q.digits q.sign_at (ap (λ j. symbol_at ts j) (sym e) ∙ q.digits_at) in
     let b : BeginsItems (take (suc q.before) ts) = subst (λ j. BeginsItems (take j ts)) e p.before in
-    let next : BeginsItems (take q.before ts ++ (two.0 ∷ two.1 ∷ [])) = begins_on b.0 b.1 (take q.before ts) two.0
+    let next = begins_on b.0 b.1 (take q.before ts) two.0
     two.1 q.large.1 b.2 (two.2 ∙ q.large.0) (two.3 ∙ q.large.2) b.4 b.5 (sym b.3 ∙ two.4) in
     let more : suc (suc q.before) ≡ i + 1 = omega (arith, e) in
     p.with_it (subst (λ j. BeginsItems (take j ts)) more (subst BeginsItems (sym two.5) next))
@@ -199,7 +164,4 @@ same_fault ts Unfinished (LargeNegative j) p a b = absurd (omega (arith, a.0, b.
 same_fault ts Unfinished Unfinished p a b = refl
 
 pub one_refusal : OneRefusal
-one_refusal ts f g a b =
-    let e : b.place ≡ a.place =
-    same_place b.place a.place (b.first f a.place a.refused) (a.first g b.place b.refused) in
-    same_fault ts f g a.place a.refused (subst (λ k. IsRefusedAt ts g k) e b.refused)
+one_refusal = search (rules, same_place, same_fault)

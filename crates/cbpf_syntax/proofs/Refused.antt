@@ -1,4 +1,5 @@
 -- Which refusal of a token list is the first.
+use Rattle.std.proofs.Common.{rules}
 use Rattle.std.proofs.Common.{◌≡◌, ℕ, zero, suc, ◌+◌, ◌-◌, ◌<◌, ◌≤◌, List, [], ◌∷◌, ◌++◌, length, take, drop, map}
 use Rattle.std.proofs.Common.{refl, arith, ap, sym, ◌∙◌, inl, inr, subst, append-nil, length-append, length-drop}
 use Rattle.std.proofs.Common.{get_or, Option, Some}
@@ -36,27 +37,12 @@ some-same x y e = cc
 pub large_here : (ts : List declared_lexeme.Lexeme) (i : ℕ) (d e : declared_lexeme.Lexeme) → 1 ≤ i → i < length ts
     → IsLarge (symbol_of (get_or ts (i - 1) d).symbol) (symbol_of (get_or ts i e).symbol)
     → IsLargeNegative (map lexeme_of ts) i
-large_here ts i d e some l h = record {
-  before = i - 1;
-  after = omega arith;
-  sign = symbol_of (get_or ts (i - 1) d).symbol;
-  digits = symbol_of (get_or ts i e).symbol;
-  sign_at = symbol_at_get ts (i - 1) d (omega arith);
-  digits_at = symbol_at_get ts i e l;
-  large = h;
-}
+large_here ts i d e h1 h2 h3 = search (rules, get_or, symbol_at_get)
 
 pub not_large_here : (ts : List declared_lexeme.Lexeme) (i : ℕ) (d e : declared_lexeme.Lexeme) → 1 ≤ i → i < length ts
     → (IsLarge (symbol_of (get_or ts (i - 1) d).symbol) (symbol_of (get_or ts i e).symbol) → ⊥)
     → IsLargeNegative (map lexeme_of ts) i → ⊥
-not_large_here ts i d e some l none h =
-    let b : h.before ≡ i - 1 = omega (arith, h.after) in
-    let s : symbol_of (get_or ts (i - 1) d).symbol ≡ h.sign =
-    some-same _ _ (sym (symbol_at_get ts (i - 1) d (omega arith))
-    ∙ (ap (λ k. symbol_at (map lexeme_of ts) k) (sym b) ∙ h.sign_at)) in
-    let n : symbol_of (get_or ts i e).symbol ≡ h.digits =
-    some-same _ _ (sym (symbol_at_get ts i e l) ∙ h.digits_at) in
-    none (s ∙ h.large.0, h.large.1, n ∙ h.large.2, h.large.3)
+not_large_here ts i d e h1 h2 h3 h4 = search (rules, some-same, symbol_at_get)
 
 pub large_within : (ts : List Lexeme) (i : ℕ) → IsLargeNegative ts i → i < length ts
 large_within ts i h = symbol_within ts i h.digits h.digits_at
@@ -157,10 +143,7 @@ greedy_more ts is at n i p next =
 
 pub greedy_all : (ts : List Lexeme) (is : List Item) (at : ℕ) → length ts ≤ at
     → Greedy ts is (drop at ts) → Items ts is
-greedy_all ts is at l p =
-    let q = greedy_items ts is (drop at ts) p in
-    let e : ts ≡ q.0 = q.1 ∙ (ap (λ us. q.0 ++ us) (drop_all at ts l) ∙ append-nil q.0) in
-    subst (λ us. Items us is) (sym e) q.2
+greedy_all ts is at h1 h2 = search (rules, greedy_items, drop_all, append-nil)
 
 -- an item has a token
 pub next_some : (ts : List Lexeme) (n : ℕ) (i : Item) → IsNextItem ts n i → 0 < n

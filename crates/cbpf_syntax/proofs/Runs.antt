@@ -37,9 +37,8 @@ longer_step p b bs n false e h l = rw e
 
 pub run_longer : (p : ℕ → Bool) (bs : List ℕ) (n : ℕ) → n ≤ length bs → prefix_len p bs < n
     → list_all p (take n bs) ≡ false
-run_longer p bs zero w l = absurd (omega arith)
-run_longer p [] (suc n) w l = absurd (omega arith)
 run_longer p (b ∷ bs) (suc n) w l = longer_step p b bs n (p b) refl (λ l'. run_longer p bs n (omega arith) l') l
+run_longer p bs x w l = absurd (omega arith)
 
 two-add : (n : ℕ) → 2 + n ≡ suc (suc n)
 two-add n = omega arith
@@ -84,10 +83,8 @@ number_next fresh b bs e =
 alone_longer : (fresh : Bool) (kind : PieceKind) (b : ℕ) (bs : List ℕ)
     → ((cs : List ℕ) → piece_kind fresh (b ∷ cs) ≡ alone cs kind) → (n : ℕ) → 1 < n → n ≤ suc (length bs)
     → piece_kind fresh (take n (b ∷ bs)) ≡ None
-alone_longer fresh kind b bs d zero l w = absurd (omega arith)
-alone_longer fresh kind b bs d (suc zero) l w = absurd (omega arith)
-alone_longer fresh kind b [] d (suc (suc n)) l w = absurd (omega arith)
 alone_longer fresh kind b (c ∷ cs) d (suc (suc n)) l w = d (c ∷ take n cs)
+alone_longer fresh kind b bs d x l w = absurd (omega arith)
 
 pub alone_next : (fresh : Bool) (kind : PieceKind) (b : ℕ) (bs : List ℕ)
     → ((cs : List ℕ) → piece_kind fresh (b ∷ cs) ≡ alone cs kind)
@@ -105,10 +102,8 @@ other_next fresh b bs e = alone_next fresh (Bad NoToken) b bs (λ cs. led fresh 
 -- a `/` without a `*` after it
 slash_longer : (fresh : Bool) (b : ℕ) (bs : List ℕ) → lead_of fresh b ≡ Slash → (slice_index bs 0 == 42) ≡ false
     → (n : ℕ) → 1 < n → n ≤ suc (length bs) → piece_kind fresh (take n (b ∷ bs)) ≡ None
-slash_longer fresh b bs e h zero l w = absurd (omega arith)
-slash_longer fresh b bs e h (suc zero) l w = absurd (omega arith)
-slash_longer fresh b [] e h (suc (suc n)) l w = absurd (omega arith)
 slash_longer fresh b (c ∷ cs) e h (suc (suc n)) l w = led fresh b (c ∷ take n cs) Slash e ∙ rw h refl
+slash_longer fresh b bs e h x l w = absurd (omega arith)
 
 pub slash_next : (fresh : Bool) (b : ℕ) (bs : List ℕ) → lead_of fresh b ≡ Slash → (slice_index bs 0 == 42) ≡ false
     → IsNext fresh (b ∷ bs) (record { kind = Bad NoToken; size = 1 })

@@ -1,4 +1,6 @@
 -- A text that is written as segments, one for each piece, is cut into these pieces.
+use Rattle.std.proofs.lemmas.Grind.{common_steps}
+use Rattle.std.proofs.Common.{arith, rules}
 use Rattle.std.proofs.Common.{◌≡◌, ℕ, ◌+◌, ◌^◌, ◌<◌, Bool, true, false, not, ◌&&◌, ◌||◌, List, [], ◌∷◌, ◌++◌, length}
 use Rattle.std.proofs.Common.{take, refl, ap, sym, subst, ◌∙◌, Some, append_assoc, append-nil, length-append}
 use Rattle.std.proofs.Common.{eqb-true, lt-ltb}
@@ -64,18 +66,13 @@ AreSegments (s ∷ ss) = IsSegment s × AreSegments ss
 
 -- the next segment, if there is one, does not go on with the one before
 abbrev pub ends_name : List Segment → Bool
-ends_name [] = true
-ends_name (blank b ∷ ss) = true
 ends_name (word b bs ∷ ss) = false
 ends_name (number b bs n ∷ ss) = false
-ends_name (mark b ∷ ss) = true
+ends_name x = true
 
 abbrev pub ends_blank : List Segment → Bool
-ends_blank [] = true
 ends_blank (blank b ∷ ss) = false
-ends_blank (word b bs ∷ ss) = true
-ends_blank (number b bs n ∷ ss) = true
-ends_blank (mark b ∷ ss) = true
+ends_blank x = true
 
 -- segments that stay apart after a line that is blank so far, or not: a test that computes on their kinds
 abbrev pub stay_apart : Bool → List Segment → Bool
@@ -128,18 +125,10 @@ not_both p q b e l h =
     not-true (q b) (let t : not (p b && q b) ≡ true = holds_below 256 (λ c. not (p c && q c)) b e l in rw h at t)
 
 name_ends : (ss : List Segment) → AreSegments ss → ends_name ss ≡ true → prefix_len is_name_byte (text_of ss) ≡ 0
-name_ends [] a e = refl
-name_ends (blank b ∷ ss) a e = rw (not_both is_blank is_name_byte b refl a.0.0 a.0.1) refl
-name_ends (word b bs ∷ ss) a e = cc
-name_ends (number b bs n ∷ ss) a e = cc
-name_ends (mark b ∷ ss) a e = rw (not_both is_mark is_name_byte b refl a.0.0 a.0.1) refl
+name_ends ss h1 h2 = search (rules, not_both)
 
 blank_ends : (ss : List Segment) → AreSegments ss → ends_blank ss ≡ true → prefix_len is_blank (text_of ss) ≡ 0
-blank_ends [] a e = refl
-blank_ends (blank b ∷ ss) a e = cc
-blank_ends (word b bs ∷ ss) a e = rw (not_both is_letter is_blank b refl a.0.0 a.0.1) refl
-blank_ends (number b bs n ∷ ss) a e = rw (not_both is_digit is_blank b refl a.0.0 a.0.1) refl
-blank_ends (mark b ∷ ss) a e = rw (not_both is_mark is_blank b refl a.0.0 a.0.1) refl
+blank_ends ss h1 h2 = search (rules, not_both)
 
 segment_next : (fresh : Bool) (s : Segment) (ss : List Segment) → IsSegment s → AreSegments ss
     → stay_apart fresh (s ∷ ss) ≡ true → IsNext fresh (bytes_of s ++ text_of ss) (piece_of s)
@@ -147,12 +136,10 @@ segment_next fresh (blank b) ss a ok k =
     let e : prefix_len is_blank (text_of ss) ≡ 0 = blank_ends ss ok (and_parts (ends_blank ss) _ k).0 in
     rw e at (blanks_next fresh b (text_of ss) (blank_lead fresh b a.1))
 segment_next fresh (word b bs) ss a ok k =
-    let e : prefix_len is_name_byte (bs ++ text_of ss) ≡ length bs =
-    run_before is_name_byte bs (text_of ss) a.2 (name_ends ss ok (and_parts (ends_name ss) _ k).0) in
+    let e = run_before is_name_byte bs (text_of ss) a.2 (name_ends ss ok (and_parts (ends_name ss) _ k).0) in
     rw e at (word_next fresh b (bs ++ text_of ss) (lead_letter fresh b a.0 a.1))
 segment_next fresh (number b bs n) ss a ok k =
-    let e : prefix_len is_name_byte (bs ++ text_of ss) ≡ length bs =
-    run_before is_name_byte bs (text_of ss) a.2 (name_ends ss ok (and_parts (ends_name ss) _ k).0) in
+    let e = run_before is_name_byte bs (text_of ss) a.2 (name_ends ss ok (and_parts (ends_name ss) _ k).0) in
     let t : take (length bs) (bs ++ text_of ss) ≡ bs = take_at bs (text_of ss) (length bs) refl in
     let f : nat_lt n (2 ^ 32) ≡ true = lt-ltb n (2 ^ 32) a.4 in
     let next :
@@ -190,22 +177,11 @@ digit_name b h = rw (h, or-true (is_letter b)) refl
 -- the segments after one more stay apart after its line
 apart_after : (fresh : Bool) (s : Segment) (ss : List Segment) → IsSegment s → stay_apart fresh (s ∷ ss) ≡ true
     → stay_apart (fold after fresh (bytes_of s)) ss ≡ true
-apart_after fresh (blank b) ss a k = rw (a.1, and-true fresh) (and_parts (ends_blank ss) _ k).1
-apart_after fresh (word b bs) ss a k =
-    rw (name_after fresh b bs (letter_name b a.1) (not_both is_letter is_blank b refl a.0 a.1) a.2)
-    (and_parts (ends_name ss) _ k).1
-apart_after fresh (number b bs n) ss a k =
-    rw (name_after fresh b bs (digit_name b a.1) (not_both is_digit is_blank b refl a.0 a.1) a.2)
-    (and_parts (ends_name ss) _ k).1
-apart_after fresh (mark b) ss a k =
-    rw (not_both is_mark is_blank b refl a.0 a.1, not_newline is_mark b refl a.1, and-false fresh)
-    (and_parts (not (fresh && b == 35)) _ k).1
+apart_after fresh s ss h1 h2 =
+    grind (arith, common_steps, and-true, and_parts, name_after, letter_name, not_both, digit_name, not_newline, and-false)
 
 length_piece : (s : Segment) → length (bytes_of s) ≡ (piece_of s).size
-length_piece (blank b) = refl
-length_piece (word b bs) = sym (one-add (length bs))
-length_piece (number b bs n) = sym (one-add (length bs))
-length_piece (mark b) = refl
+length_piece s = search (rules, one-add)
 
 pub cut_spelled : (before : List ℕ) (ss : List Segment) → AreSegments ss → stay_apart (is_line_blank before) ss ≡ true
     → IsCut (before ++ text_of ss) (length before) (pieces_of ss) (length (before ++ text_of ss))
@@ -213,14 +189,11 @@ cut_spelled before [] a k = rw (append-nil before) refl
 cut_spelled before (s ∷ ss) a k =
     let text : before ++ (bytes_of s ++ text_of ss) ≡ (before ++ bytes_of s) ++ text_of ss =
     sym (append_assoc before (bytes_of s) (text_of ss)) in
-    let size : length (before ++ bytes_of s) ≡ length before + (piece_of s).size =
-    length-append before (bytes_of s) ∙ ap (λ n. length before + n) (length_piece s) in
-    let flow : is_line_blank (before ++ bytes_of s) ≡ fold after (is_line_blank before) (bytes_of s) =
-    fold-append after true before (bytes_of s) in
+    let size = length-append before (bytes_of s) ∙ ap (λ n. length before + n) (length_piece s) in
+    let flow = fold-append after true before (bytes_of s) in
     let k' : stay_apart (is_line_blank (before ++ bytes_of s)) ss ≡ true =
     rw flow (apart_after (is_line_blank before) s ss a.0 k) in
-    let rest : IsCut ((before ++ bytes_of s) ++ text_of ss) (length (before ++ bytes_of s)) (pieces_of ss)
-    (length ((before ++ bytes_of s) ++ text_of ss)) = cut_spelled (before ++ bytes_of s) ss a.1 k' in
+    let rest = cut_spelled (before ++ bytes_of s) ss a.1 k' in
     let here : IsPieceAt (before ++ (bytes_of s ++ text_of ss)) (length before) (piece_of s) = rw (
       take_at before (bytes_of s ++ text_of ss) (length before) refl,
       drop_at before (bytes_of s ++ text_of ss) (length before) refl,

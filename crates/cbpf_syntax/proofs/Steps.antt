@@ -1,4 +1,5 @@
 -- One item of a parser: its labels, and then the row of which most tokens fit, a whole one before one that goes on.
+use Rattle.std.proofs.Common.{rules}
 use Rattle.std.proofs.Common.{◌≡◌, ℕ, zero, suc, ◌+◌, ◌<◌, ◌≤◌, Bool, true, false, not, cond, List, [], ◌∷◌, ◌++◌}
 use Rattle.std.proofs.Common.{length, take, drop, refl, arith, ap, sym, ◌∙◌}
 use Rattle.std.proofs.Math.Numerals.{one-add}
@@ -19,8 +20,6 @@ use Rattle.cbpf_syntax.specs.Steps.{NoLonger, Stuck, IsNextItem, starts_with_nam
 
 common_le : (cs : List Class) (ts f g : List Lexeme) → ts ≡ f ++ g → fits_front cs f ≡ true → length f ≤ common cs ts
 common_le cs ts [] g e h = omega arith
-common_le [] ts (t ∷ f) g e h = cc
-common_le (c ∷ cs) [] (t ∷ f) g e h = cc
 common_le (c ∷ cs) (u ∷ ts) (t ∷ f) g e h =
     let hd : u ≡ t = cc in
     let tl : ts ≡ f ++ g = cc in
@@ -28,6 +27,7 @@ common_le (c ∷ cs) (u ∷ ts) (t ∷ f) g e h =
     let q : fits c u.symbol ≡ true = rw hd p.0 in
     let again : length f ≤ common cs ts = common_le cs ts f g tl p.1 in
     rw (q, one-add) (omega arith)
+common_le cs ts f g e h = cc
 
 common_fits : (cs : List Class) (ts : List Lexeme) → fits_front cs (take (common cs ts) ts) ≡ true
 common_fits [] ts = empty ts
@@ -43,58 +43,35 @@ common_fits (c ∷ cs) (t ∷ ts) = by_test (fits c t.symbol) refl (common_fits 
     by_test false e h = refl
 
 length_common : (cs : List Class) (ts : List Lexeme) → length (take (common cs ts) ts) ≡ common cs ts
-length_common [] ts = refl
-length_common (c ∷ cs) [] = refl
 length_common (c ∷ cs) (t ∷ ts) = by_test (fits c t.symbol) (length_common cs ts)
   where
     by_test : (q : Bool) → length (take (common cs ts) ts) ≡ common cs ts
         → length (take (cond q (1 + common cs ts) 0) (t ∷ ts)) ≡ cond q (1 + common cs ts) 0
     by_test true h = rw one-add (ap suc h)
     by_test false h = refl
+length_common cs ts = refl
 
 -- no reading has labels where no name stands
 no_labels : (m : ℕ) (r : Row) (ts f g : List Lexeme) → starts_with_name ts ≡ false → ts ≡ f ++ g → 0 < length f
     → fits_front (classes_of m r) f ≡ true → fits_front (classes r) f ≡ true
-no_labels zero r ts f g s e l h = h
-no_labels (suc m) r ts [] g s e l h = absurd (omega arith)
-no_labels (suc m) r [] (t ∷ f) g s e l h = cc
-no_labels (suc m) r (u ∷ ts) (t ∷ f) g s e l h =
-    let hd : u ≡ t = cc in
-    let p : fits name t.symbol ≡ true = (and_parts (fits name t.symbol) _ h).0 in
-    let q : fits name u.symbol ≡ true = rw hd p in
-    cc
+no_labels m r ts f g h1 h2 h3 h4 = search (rules, and_parts)
 
 pub base_no_longer : (ts : List Lexeme) (n : ℕ) → starts_with_name ts ≡ false
     → ((r : Row) → Contains table r → common (classes r) ts ≤ n) → NoLonger n ts
 base_no_longer ts n s best m r known f g e l h =
-    let short : length f ≤ common (classes r) ts =
-    common_le (classes r) ts f g e (no_labels m r ts f g s e (omega arith) h) in
+    let short = common_le (classes r) ts f g e (no_labels m r ts f g s e (omega arith) h) in
     let most : common (classes r) ts ≤ n = best r known in
     omega arith
 
 no_labels_whole : (m : ℕ) (r : Row) (ts f g : List Lexeme) → starts_with_name ts ≡ false → ts ≡ f ++ g → 0 < length f
     → fits_all (classes_of m r) f ≡ true → fits_all (classes r) f ≡ true
-no_labels_whole zero r ts f g s e l h = h
-no_labels_whole (suc m) r ts [] g s e l h = absurd (omega arith)
-no_labels_whole (suc m) r [] (t ∷ f) g s e l h = cc
-no_labels_whole (suc m) r (u ∷ ts) (t ∷ f) g s e l h =
-    let hd : u ≡ t = cc in
-    let p : fits name t.symbol ≡ true = (and_parts (fits name t.symbol) _ h).0 in
-    let q : fits name u.symbol ≡ true = rw hd p in
-    cc
+no_labels_whole m r ts f g h1 h2 h3 h4 = search (rules, and_parts)
 
 -- a front that is a whole item, of which no row fits more
 whole_common : (ts f g : List Lexeme) (i : Item) → starts_with_name ts ≡ false → ts ≡ f ++ g
     → ((r : Row) → Contains table r → common (classes r) ts ≤ length f) → Form f i
     → (common (classes i.row) ts ≡ length f) × (length (classes i.row) ≡ length f)
-whole_common ts [] g i s e best form = absurd (no_classes form.count i.row form.row form.fits)
-whole_common ts (t ∷ f) g i s e best form =
-    let w : fits_all (classes i.row) (t ∷ f) ≡ true =
-    no_labels_whole form.count i.row ts (t ∷ f) g s e (omega arith) form.fits in
-    let least : length (t ∷ f) ≤ common (classes i.row) ts =
-    common_le (classes i.row) ts (t ∷ f) g e (whole_front (classes i.row) (t ∷ f) w) in
-    let most : common (classes i.row) ts ≤ length (t ∷ f) = best i.row form.row in
-    (omega arith, length_whole (classes i.row) (t ∷ f) w)
+whole_common ts f g i h1 h2 h3 h4 = search (rules, no_classes, no_labels_whole, common_le, whole_front, length_whole)
 
 -- no row is whole where the best one is none
 pub base_stuck : (ts : List Lexeme) (row : Row) → Contains table row → starts_with_name ts ≡ false
@@ -103,8 +80,7 @@ pub base_stuck : (ts : List Lexeme) (row : Row) → Contains table row → start
     → length (classes r) ≡ common (classes row) ts → ⊥)
     → Stuck (common (classes row) ts) ts
 base_stuck ts row known s best no_whole =
-    let size : length (take (common (classes row) ts) ts) ≡ common (classes row) ts =
-    length_common (classes row) ts in
+    let size = length_common (classes row) ts in
     record {
       front = take (common (classes row) ts) ts;
       more = drop (common (classes row) ts) ts;
@@ -127,10 +103,8 @@ pub base_whole : (ts : List Lexeme) (row : Row) → Contains table row → start
 base_whole ts row known s best e within =
     let n = common (classes row) ts in
     let front = take n ts in
-    let size : length (take (common (classes row) ts) ts) ≡ common (classes row) ts =
-    length_common (classes row) ts in
-    let f : fits_all (classes row) (take (common (classes row) ts) ts) ≡ true =
-    all_from_front (classes row) (take (common (classes row) ts) ts) (common_fits (classes row) ts) (e ∙ sym size) in
+    let size = length_common (classes row) ts in
+    let f = all_from_front (classes row) (take (common (classes row) ts) ts) (common_fits (classes row) ts) (e ∙ sym size) in
     record {
       within = within;
       form = record { count = 0; row = known; fits = f; labels = no_names front; body = refl };
@@ -151,30 +125,12 @@ base_whole ts row known s best e within =
 
 reserved_not_name : (cs : List Class) (t : Lexeme) (f : List Lexeme) → starts_reserved cs ≡ true
     → fits_front cs (t ∷ f) ≡ true → fits name t.symbol ≡ true → ⊥
-reserved_not_name [] t f e h n = cc
-reserved_not_name (the_word w ∷ cs) t f e h n =
-    let o : not (is_reserved w) ≡ true =
-    overlap_sound t.symbol (the_word w) name (and_parts (fits (the_word w) t.symbol) _ h).0 n in
-    let k : not true ≡ true = rw e at o in cc
-reserved_not_name (the_mark b ∷ cs) t f e h n = cc
-reserved_not_name (literal ∷ cs) t f e h n = cc
-reserved_not_name (negated ∷ cs) t f e h n = cc
-reserved_not_name (exactly m ∷ cs) t f e h n = cc
-reserved_not_name (extension ∷ cs) t f e h n = cc
-reserved_not_name (name ∷ cs) t f e h n = cc
+reserved_not_name cs t f h1 h2 h3 = search (rules, overlap_sound, and_parts)
 
 -- a label with its colon
 pub label_no_longer : (t u : Lexeme) (ts : List Lexeme) (n : ℕ) → fits name t.symbol ≡ true → NoLonger n ts
     → NoLonger (suc (suc n)) (t ∷ u ∷ ts)
-label_no_longer t u ts n a most m r known [] g e l h = omega arith
-label_no_longer t u ts n a most m r known (v ∷ []) g e l h = omega arith
-label_no_longer t u ts n a most zero r known (v ∷ w ∷ f) g e l h =
-    let hd : t ≡ v = cc in
-    reserved_not_name (classes r) v (w ∷ f) (row_starts r known) h (rw (← hd) a)
-label_no_longer t u ts n a most (suc m) r known (v ∷ w ∷ f) g e l h =
-    let tl : ts ≡ f ++ g = cc in
-    most m r known f g tl (omega arith)
-    (and_parts (fits (the_mark 58) w.symbol) _ (and_parts (fits name v.symbol) _ h).1).1
+label_no_longer t u ts n h1 h2 = search (rules, reserved_not_name, row_starts, and_parts)
 
 pub label_stuck : (t u : Lexeme) (ts : List Lexeme) (n : ℕ) → fits name t.symbol ≡ true
     → fits (the_mark 58) u.symbol ≡ true → Stuck n ts → Stuck (suc (suc n)) (t ∷ u ∷ ts)

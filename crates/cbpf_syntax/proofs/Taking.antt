@@ -1,4 +1,6 @@
 -- What is known of the lexemes of a text, of which some were taken and some are read ahead.
+use Rattle.std.proofs.lemmas.Grind.{common_steps}
+use Rattle.std.proofs.Common.{rules}
 use Rattle.std.proofs.Common.{◌≡◌, ℕ, zero, suc, ◌+◌, ◌-◌, ◌<◌, ◌≤◌, true, List, [], ◌∷◌, ◌++◌, length, map, take}
 use Rattle.std.proofs.Common.{drop, refl, arith, ap, sym, ◌∙◌, inl, inr, subst, append_assoc, append-nil}
 use Rattle.std.proofs.Common.{length-append, length-drop, get_or, Option, Some, None}
@@ -35,8 +37,7 @@ pub ahead_is : (text : List ℕ) (at n : ℕ) (ahead ts : List Lexeme) → AreAh
     → (rest : List Lexeme) × (drop n ts ≡ ahead ++ rest) × (at ≡ length text → rest ≡ []) × (n ≤ length ts)
 ahead_is text at n ahead ts a t =
     let r = lexes_on text at a.tokens t.tokens a.lexed t.lexed in
-    let whole : ts ≡ lexemes_of text a.tokens ++ lexemes_of text r.0 =
-    t.are ∙ (ap (λ us. lexemes_of text us) r.1 ∙ map-append (token_lexeme text) a.tokens r.0) in
+    let whole = t.are ∙ (ap (λ us. lexemes_of text us) r.1 ∙ map-append (token_lexeme text) a.tokens r.0) in
     let size : length (lexemes_of text a.tokens) ≡ length a.tokens = length-map a.tokens (token_lexeme text) in
     let within : n ≤ length (lexemes_of text a.tokens) = omega (arith, size, a.taken) in (
       lexemes_of text r.0,
@@ -64,16 +65,7 @@ ahead_more text at to n ahead token a next =
 -- some of the tokens ahead are taken
 pub ahead_taken : (text : List ℕ) (at m n : ℕ) (ahead : List Lexeme) → AreAhead text at m ahead → n ≤ length ahead
     → AreAhead text at (m + n) (drop n ahead)
-ahead_taken text at m n ahead a l =
-    let size : length (lexemes_of text a.tokens) ≡ length a.tokens = length-map a.tokens (token_lexeme text) in
-    let rest : length (lexemes_of text a.tokens) - m ≡ length ahead =
-    sym (length-drop m (lexemes_of text a.tokens)) ∙ ap length a.are in
-    record {
-      tokens = a.tokens;
-      lexed = a.lexed;
-      taken = omega (arith, size, rest, a.taken, l);
-      are = sym (drop-drop n m (lexemes_of text a.tokens)) ∙ ap (λ us. drop n us) a.are;
-    }
+ahead_taken text at m n ahead h1 h2 = search (rules, length-map, length-drop, drop-drop)
 
 -- a step over the tokens ahead is one over all, where a token follows it or none is left
 pub step_more : (ws rest : List Lexeme) (s : Option Step) → IsStepOf ws s → step_len s < length ws
@@ -82,8 +74,7 @@ step_more ws rest None h l = let z : length ws ≡ 0 = ap length h in absurd (om
 step_more ws rest (Some Label) h l = label_more ws rest h
 step_more ws rest (Some (Instruction row)) h l =
     let n : ℕ = suc (length row.operand.now) in
-    let e : take (suc (length row.operand.now)) (ws ++ rest) ≡ take (suc (length row.operand.now)) ws =
-    take-append-le (suc (length row.operand.now)) ws rest (omega (arith, l)) in
+    let e = take-append-le (suc (length row.operand.now)) ws rest (omega (arith, l)) in
     subst (λ (us : List Lexeme). IsNextItem (ws ++ rest) (suc (length row.operand.now))
     (record { labels = []; row = row_of row; body = us })) (sym e)
     (next_more (suc (length row.operand.now)) ws rest
@@ -160,11 +151,7 @@ large_out ts ws rest m k e l h =
 
 not_first : (ts ws rest : List Lexeme) (m : ℕ) → drop m ts ≡ ws ++ rest → 0 < length ws → StartsWithWord ws
     → IsLargeNegative ts (m + 0) → ⊥
-not_first ts ws rest m e l w h =
-    let s : word w.0 ≡ h.digits =
-    some-same (word w.0) h.digits (sym w.1 ∙ (sym (symbol_ahead ts ws rest m 0 e l) ∙ h.digits_at)) in
-    let d : word w.0 ≡ number h.large.1 = s ∙ h.large.2 in
-    cc
+not_first ts ws rest m h1 h2 h3 h4 = search (rules, some-same, symbol_ahead)
 
 -- where none of the tokens ahead is one, no more of all is
 none_large : (ts ws rest : List Lexeme) (m : ℕ) → drop m ts ≡ ws ++ rest → (0 < length ws → StartsWithWord ws)
@@ -211,23 +198,14 @@ place_ahead ts ws rest m k at e l p = (p.0, get_ahead ts ws rest m k e l ∙ p.1
 
 -- what begins an item, and has a token, begins with a word
 word_of : (w : List ℕ) (s : Symbol) → fits (the_word w) s ≡ true → (v : List ℕ) × (s ≡ word v)
-word_of w (word v) h = (v, refl)
-word_of w (number n) h = cc
-word_of w (mark b) h = cc
+word_of w s h1 = search (rules)
 
 name_of : (s : Symbol) → fits name s ≡ true → (v : List ℕ) × (s ≡ word v)
-name_of (word v) h = (v, refl)
-name_of (number n) h = cc
-name_of (mark b) h = cc
+name_of s h1 = search (rules)
 
 front_word : (m : ℕ) (r : Row) (f : List Lexeme) → fits_front (classes_of m r) f ≡ true → 0 < length f
     → StartsWithWord f
-front_word m r [] h l = absurd (omega (arith, l))
-front_word zero r (t ∷ f) h l =
-    let v = word_of r.mnemonic t.symbol (and_parts (fits (the_word r.mnemonic) t.symbol) _ h).0 in
-    (v.0, ap (λ s. Some s) v.1)
-front_word (suc m) r (t ∷ f) h l = let v = name_of t.symbol (and_parts (fits name t.symbol) _ h).0 in
-    (v.0, ap (λ s. Some s) v.1)
+front_word m r f h1 h2 = search (rules, word_of, and_parts, name_of)
 
 starts_on : (f g : List Lexeme) → 0 < length f → StartsWithWord f → StartsWithWord (f ++ g)
 starts_on [] g l w = absurd (omega (arith, l))
@@ -237,10 +215,7 @@ pub stuck_within : (n : ℕ) (ts : List Lexeme) → Stuck n ts → n ≤ length 
 stuck_within n ts s = omega (arith, s.size, ap length s.split, length-append s.front s.more)
 
 pub stuck_word : (n : ℕ) (ts : List Lexeme) → Stuck n ts → 0 < n → StartsWithWord ts
-stuck_word n ts s l =
-    let some : 0 < length s.front = omega (arith, s.size, l) in
-    subst StartsWithWord (sym s.split)
-    (starts_on s.front s.more some (front_word s.begins.count s.begins.row s.front s.begins.fits some))
+stuck_word n ts h1 h2 = search (rules, starts_on, front_word)
 
 pub next_word : (ts : List Lexeme) (n : ℕ) (item : Item) → IsNextItem ts n item → StartsWithWord ts
 next_word ts n item next =
@@ -255,11 +230,7 @@ label_word (t ∷ ts) h = let v = name_of t.symbol (and_parts (fits name t.symbo
 -- the tokens that stay where some are taken
 pub kept_paste : (xs : List declared_lexeme.Lexeme) (n len : ℕ) → len ≡ length xs → n ≤ len
     → take (len - n) (copy_within xs n len 0) ≡ drop n xs
-kept_paste xs n len e l =
-    let z : 0 + (len - n) ≡ len - n = omega arith in
-    ap (λ k. take k (copy_within xs n len 0)) (sym z)
-    ∙ (take-paste xs 0 (drop n xs) (len - n) (omega arith) (omega (arith, length-drop n xs, e))
-    ∙ (ap (λ k. take (k - n) (drop n xs)) e ∙ take_rest xs n))
+kept_paste xs n len h1 h2 = grind (arith, common_steps, take-paste, length-drop, take_rest)
 
 -- the first of the tokens ahead, as far as they are taken
 pub taken_is : (text : List ℕ) (at m n : ℕ) (window : List declared_lexeme.Lexeme) (ts : List Lexeme)
@@ -281,9 +252,7 @@ taken_size n window l = length-map (take n window) lexeme_of ∙ length-take-le 
 
 taken_word : (n : ℕ) (window : List declared_lexeme.Lexeme) → (0 < n → StartsWithWord (map lexeme_of window))
     → 0 < length (map lexeme_of (take n window)) → StartsWithWord (map lexeme_of (take n window))
-taken_word zero window w l = absurd (omega (arith, l))
-taken_word (suc n) [] w l = absurd (omega (arith, l))
-taken_word (suc n) (t ∷ window) w l = w (omega arith)
+taken_word n window h1 h2 = search (rules)
 
 pub large_taken : (text : List ℕ) (at m n : ℕ) (window : List declared_lexeme.Lexeme) (ts : List Lexeme)
     (old new : Option ℕ) → AreAhead text at m (map lexeme_of window) → AreLexemes text ts → n ≤ length window
@@ -314,8 +283,7 @@ pub taken_ahead : (text : List ℕ) (at m n k : ℕ) (items : List declared_lexe
     → AreAhead text at m (map lexeme_of (drop k items)) → n ≤ length (drop k items)
     → AreAhead text at (m + n) (map lexeme_of (drop (k + n) items))
 taken_ahead text at m n k items a l =
-    let e : drop n (map lexeme_of (drop k items)) ≡ map lexeme_of (drop (k + n) items) =
-    drop-map lexeme_of n (drop k items) ∙ ap (λ us. map lexeme_of us) (drop-drop n k items) in
+    let e = drop-map lexeme_of n (drop k items) ∙ ap (λ us. map lexeme_of us) (drop-drop n k items) in
     subst (λ us. AreAhead text at (m + n) us) e
     (ahead_taken text at m n (map lexeme_of (drop k items)) a (omega (arith, l, length-map (drop k items) lexeme_of)))
 

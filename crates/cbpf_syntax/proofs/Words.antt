@@ -1,4 +1,5 @@
 -- Words that are extensions' names, and words that no reserved word is.
+use Rattle.std.proofs.Common.{rules}
 use Rattle.std.proofs.Common.{◌≡◌, ℕ, ◌-◌, Bool, true, false, not, ◌&&◌, ◌||◌, List, [], ◌∷◌, length, map, refl, ap}
 use Rattle.std.proofs.Common.{sym, ◌∙◌, Option, Some, None}
 use Rattle.std.specs.Prelude.{MatchOption, nat_le, slice_index, bytes_eq}
@@ -17,21 +18,7 @@ use Rattle.cbpf_syntax.proofs.Elements.{from_map, some_element}
 
 name_listed : (e : Ext) → is_one_of extension_names (ext_name e) ≡ true
 unfolding extension_names
-name_listed Proto = refl
-name_listed PktType = refl
-name_listed IfIdx = refl
-name_listed Nla = refl
-name_listed NlaN = refl
-name_listed Mark = refl
-name_listed Queue = refl
-name_listed HaType = refl
-name_listed RxHash = refl
-name_listed Cpu = refl
-name_listed VlanTci = refl
-name_listed VlanAvail = refl
-name_listed PayOff = refl
-name_listed Rand = refl
-name_listed VlanTpid = refl
+name_listed e = search (rules)
 
 listed_name : (w : List ℕ) → is_one_of extension_names w ≡ true → (e : Ext) × (w ≡ ext_name e)
 unfolding extension_names
@@ -42,12 +29,7 @@ listed_name w h =
 
 pub extension_test : (w : List ℕ) (o : Option Ext)
     → MatchOption o ((e : Ext) → w ≡ ext_name e → ⊥) (λ e. w ≡ ext_name e) → is_some o ≡ is_one_of extension_names w
-extension_test w None h = by_test (is_one_of extension_names w) refl
-  where
-    by_test : (t : Bool) → is_one_of extension_names w ≡ t → false ≡ t
-    by_test true e = let n = listed_name w e in absurd (h n.0 n.1)
-    by_test false e = refl
-extension_test w (Some e) h = sym (ap (λ v. is_one_of extension_names v) h ∙ name_listed e)
+extension_test w o h1 = search (rules, listed_name, name_listed)
 
 -- a word that fails a test which all words of a list pass is none of them
 not_listed : (p : List ℕ → Bool) (words : List (List ℕ)) (w : List ℕ) → list_all p words ≡ true → p w ≡ false
@@ -72,12 +54,4 @@ reserved_above = refl
 
 -- no reserved word ends with a digit
 pub digit_free : (w : List ℕ) → nat_le (slice_index w (length w - 1)) 57 ≡ true → is_reserved w ≡ false
-digit_free w h =
-    let fails : above_digits w ≡ false = ap not h in
-    let all = and_parts (list_all above_digits mnemonic_words) _ reserved_above in
-    let rest = and_parts (list_all above_digits extension_names) _ all.1 in
-    rw (
-      not_listed above_digits mnemonic_words w all.0 fails,
-      not_listed above_digits extension_names w rest.0 fails,
-      not_listed above_digits operand_words w rest.1 fails,
-    ) refl
+digit_free w h1 = search (rules, and_parts, reserved_above, not_listed)

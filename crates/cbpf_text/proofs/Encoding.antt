@@ -1,4 +1,6 @@
 -- The instructions of a list of items, one by one.
+use Rattle.std.proofs.lemmas.Grind.{common_steps}
+use Rattle.std.proofs.Common.{rules}
 use Rattle.std.proofs.Common.{◌≡◌, refl, sym, ◌∙◌, ap, subst, ℕ, zero, suc, ◌+◌, ◌<◌, ◌≤◌, Bool, true, false, List}
 use Rattle.std.proofs.Common.{[], ◌∷◌, ◌++◌, length, map, take, drop, get_or, arith, eqb-true}
 use Rattle.std.specs.Prelude.{All, ◌==◌, ◌||◌}
@@ -23,44 +25,29 @@ use Rattle.cbpf_text.proofs.Uses.{use_of, good_use, reported_more}
 
 none_of : (is : List Item) (index : ℕ) (short : Bool) (ts : List Lexeme) → (length ts == 0) ≡ true
     → All (IsGoodUse is) (map (use_of index short) ts)
-none_of is index short [] e = all_none (IsGoodUse is)
-none_of is index short (t ∷ ts) e = let k : suc (length ts) ≡ 0 = eqb-true (suc (length ts)) 0 e in
-    absurd (omega (arith, k))
+none_of is index short ts h1 = grind (arith, common_steps, all_none, eqb-true)
 
 neither : (a b : Bool) → (a ≡ true → ⊥) → (b ≡ true → ⊥) → (a || b) ≡ true → ⊥
-neither true b h k e = h refl
-neither false true h k e = k refl
-neither false false h k e = let c : false ≡ true = e in cc
+neither a b h1 h2 h3 = search (rules)
 
 fields_good : (is : List Item) (index : ℕ) (f : Fields) (k : ℕ) (ts : List Lexeme) (insn : Insn)
     → FillsFields f is index k ts insn → takes f (length ts) ≡ true
     → All (IsGoodUse is) (map (use_of index (is_conditional f)) ts)
 fields_good is index Constant k ts insn p e = none_of is index false ts e
-fields_good is index Goto k [] insn p e = all_none (IsGoodUse is)
 fields_good is index Goto k (t ∷ []) insn p e = all_one (IsGoodUse is) (use_of index false t)
     (good_use is index t insn.k false p.2 (λ z. let c : false ≡ true = z in cc))
-fields_good is index Goto k (t ∷ u ∷ ts) insn p e =
-    let n : suc (suc (length ts)) ≡ 1 = eqb-true (suc (suc (length ts))) 1 e in
-    absurd (omega (arith, n))
-fields_good is index Branch k [] insn p e = all_none (IsGoodUse is)
+fields_good is index Goto k (t ∷ u ∷ ts) insn p e = search (rules, eqb-true)
 fields_good is index Branch k (t ∷ []) insn p e =
     all_one (IsGoodUse is) (use_of index true t) (good_use is index t insn.jt true p.0.is (λ z. p.0.short))
 fields_good is index Branch k (t ∷ u ∷ []) insn p e =
     All-append (IsGoodUse is) (use_of index true t ∷ []) (use_of index true u ∷ [])
     (all_one (IsGoodUse is) (use_of index true t) (good_use is index t insn.jt true p.0.is (λ z. p.0.short)))
     (all_one (IsGoodUse is) (use_of index true u) (good_use is index u insn.jf true p.1.is (λ z. p.1.short)))
-fields_good is index Branch k (t ∷ u ∷ v ∷ ts) insn p e =
-    absurd (neither (suc (suc (suc (length ts))) == 1) (suc (suc (suc (length ts))) == 2)
-    (λ q. let n : suc (suc (suc (length ts))) ≡ 1 = eqb-true (suc (suc (suc (length ts)))) 1 q in
-    absurd (omega (arith, n)))
-    (λ q. let n : suc (suc (suc (length ts))) ≡ 2 = eqb-true (suc (suc (suc (length ts)))) 2 q in
-    absurd (omega (arith, n))) e)
-fields_good is index Swapped k [] insn p e = all_none (IsGoodUse is)
+fields_good is index Branch k (t ∷ u ∷ v ∷ ts) insn p e = search (rules, neither, eqb-true)
 fields_good is index Swapped k (t ∷ []) insn p e =
     all_one (IsGoodUse is) (use_of index true t) (good_use is index t insn.jf true p.1.is (λ z. p.1.short))
-fields_good is index Swapped k (t ∷ u ∷ ts) insn p e =
-    let n : suc (suc (length ts)) ≡ 1 = eqb-true (suc (suc (length ts))) 1 e in
-    absurd (omega (arith, n))
+fields_good is index Swapped k (t ∷ u ∷ ts) insn p e = search (rules, eqb-true)
+fields_good is index x k ts insn p e = all_none (IsGoodUse is)
 
 -- where the instructions are the items', no target is refused
 pub good_uses : (all : List Item) (index : ℕ) (is : List Item) (insns : List Insn) → EncodeEach all index is insns
@@ -78,21 +65,14 @@ each_more : (all : List Item) (k : ℕ) (is : List Item) (insns : List Insn) (it
     → EncodeEach all k (is ++ (item ∷ [])) (insns ++ (insn ∷ []))
 each_more all k [] [] item insn p q = let e : k + 0 ≡ k = omega arith in
     (subst (λ n. IsEncoded all n item insn) e q, tt)
-each_more all k [] (y ∷ insns) item insn p q = absurd p
-each_more all k (i ∷ is) [] item insn p q = absurd p
 each_more all k (i ∷ is) (y ∷ insns) item insn p q = let e : k + suc (length is) ≡ k + 1 + length is = omega arith in
     (p.0, each_more all (k + 1) is insns item insn p.1 (subst (λ n. IsEncoded all n item insn) e q))
+each_more all k is insns item insn p q = absurd p
 
 pub each_grows : (all is : List Item) (i : ℕ) (d : Item) (insns : List Insn) (insn : Insn) → i < length is
     → EncodeEach all 0 (take i is) insns → IsEncoded all i (get_or is i d) insn
     → EncodeEach all 0 (take (i + 1) is) (insns ++ (insn ∷ []))
-each_grows all is i d insns insn l p q =
-    let m : i ≤ length is = omega (arith, l) in
-    let n : length (take i is) ≡ i = length-take-le i is m in
-    let z : 0 + i ≡ i = omega arith in
-    subst (λ js. EncodeEach all 0 js (insns ++ (insn ∷ []))) (sym (take_more is i d l))
-    (each_more all 0 (take i is) insns (get_or is i d) insn p
-    (subst (λ k. IsEncoded all k (get_or is i d) insn) (sym (ap (λ k. 0 + k) n ∙ z)) q))
+each_grows all is i d insns insn h1 h2 h3 = grind (arith, common_steps, length-take-le, take_more, each_more, get_or)
 
 uses_split : (k : ℕ) (is : List Item) (i : ℕ) (d : Item) → i < length is
     → (rest : List Use) × (uses_from k is ≡ uses_from k (take i is) ++ (uses_of (k + i) (get_or is i d) ++ rest))
@@ -131,8 +111,7 @@ bad_among is i d insns r l f p h =
     let s = uses_split 0 is i d l in
     let z : 0 + i ≡ i = omega arith in
     let front = take i is in
-    let forms : All HasForm (take i is) =
-    all_prefix HasForm (take i is) (get_or is i d ∷ drop (suc i) is) (subst (All HasForm) (split_at is i d l) f) in
+    let forms = all_prefix HasForm (take i is) (get_or is i d ∷ drop (suc i) is) (subst (All HasForm) (split_at is i d l) f) in
     reported_more (IsFirstBadUse is (uses_of i (get_or is i d))) (IsFirstBadUse is (uses_from 0 is)) r
     (λ kind at b. subst (λ us. IsFirstBadUse is us kind at)
     (sym (s.1 ∙ ap (λ n. uses_from 0 front ++ (uses_of n (get_or is i d) ++ s.0)) z))
@@ -142,9 +121,8 @@ bad_among is i d insns r l f p h =
 -- the statements of items, one by one
 pub statements_size : (ss : List Statement) (is : List Item) → AreStatements ss is → length ss ≡ length is
 statements_size [] [] p = refl
-statements_size [] (i ∷ is) p = absurd p
-statements_size (s ∷ ss) [] p = absurd p
 statements_size (s ∷ ss) (i ∷ is) p = ap suc (statements_size ss is p.1)
+statements_size ss is p = absurd p
 
 pub statement_at : (ss : List Statement) (is : List Item) (k : ℕ) (d : Statement) (e : Item) → AreStatements ss is
     → k < length ss → IsStatement (get_or ss k d) (get_or is k e)
@@ -156,9 +134,8 @@ statement_at (s ∷ ss) (i ∷ is) (suc k) d e p l = statement_at ss is k d e p.
 pub statements_more : (ss : List Statement) (is : List Item) (s : Statement) (i : Item) → AreStatements ss is
     → IsStatement s i → AreStatements (ss ++ (s ∷ [])) (is ++ (i ∷ []))
 statements_more [] [] s i p q = (q, tt)
-statements_more [] (j ∷ is) s i p q = absurd p
-statements_more (t ∷ ss) [] s i p q = absurd p
 statements_more (t ∷ ss) (j ∷ is) s i p q = (p.0, statements_more ss is s i p.1 q)
+statements_more ss is s i p q = absurd p
 
 -- any item
 pub some_item : Item

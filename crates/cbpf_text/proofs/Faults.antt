@@ -1,4 +1,5 @@
 -- From the refusal of a part to the refusal of the whole.
+use Rattle.std.proofs.Common.{rules}
 use Rattle.std.proofs.Common.{◌≡◌, refl, sym, subst, ℕ, List}
 use Rattle.cbpf_syntax.specs.declared.token.Token.{Token}
 use Rattle.cbpf_syntax.specs.Tokens.{Lexes}
@@ -48,8 +49,4 @@ refused_at text tokens ts (placed.At kind at) fault l e h t =
 
 pub text_assembled : (text : List ℕ) (tokens : List Token) (ts : List Lexeme) (insns : List Insn) → Lexes text tokens
     → ts ≡ lexemes_of text tokens → AssembleTokens ts insns → Assembles text insns
-text_assembled text tokens ts insns l e a = record {
-  tokens = tokens;
-  lexed = l;
-  assembled = subst (λ us. AssembleTokens us insns) e a;
-}
+text_assembled text tokens ts insns h1 h2 h3 = search (rules)

@@ -16,13 +16,8 @@ use Rattle.cbpf_syntax.proofs.Elements.{list_all_at}
 use Rattle.cbpf_text.specs.Operands.{HasForm, targets_in}
 
 abbrev one_if : Class → ℕ
-one_if (the_word w) = 0
-one_if (the_mark b) = 0
-one_if literal = 0
-one_if negated = 0
-one_if (exactly m) = 0
-one_if extension = 0
 one_if name = 1
+one_if c = 0
 
 abbrev names_in : List Class → ℕ
 names_in [] = 0
@@ -30,9 +25,8 @@ names_in (c ∷ cs) = one_if c + names_in cs
 
 abbrev pub takes : Fields → ℕ → Bool
 takes Constant n = n == 0
-takes Goto n = n == 1
 takes Branch n = n == 1 || n == 2
-takes Swapped n = n == 1
+takes x n = n == 1
 
 rows_take : list_all (λ (r : Row). takes r.fields (names_in (classes r))) table ≡ true
 unfolding mnemonics
@@ -42,8 +36,6 @@ row_takes : (r : Row) → Contains table r → takes r.fields (names_in (classes
 row_takes r p = rw p.2 at (list_all_at (λ (s : Row). takes s.fields (names_in (classes s))) table p.0 r rows_take p.1)
 
 names_count : (cs : List Class) (ts : List Lexeme) → fits_all cs ts ≡ true → length (names_at cs ts) ≡ names_in cs
-names_count [] [] e = refl
-names_count [] (t ∷ ts) e = refl
 names_count (c ∷ cs) [] e = let k : false ≡ true = e in cc
 names_count (c ∷ cs) (t ∷ ts) e = by_class c (names_count cs ts (and_parts (fits c t.symbol) (fits_all cs ts) e).1)
   where
@@ -56,6 +48,7 @@ names_count (c ∷ cs) (t ∷ ts) e = by_class c (names_count cs ts (and_parts (
     by_class (exactly m) h = omega (arith, h)
     by_class extension h = omega (arith, h)
     by_class name h = omega (arith, h)
+names_count cs ts e = refl
 
 -- an instruction has as many targets as its fields take
 pub form_takes : (item : Item) → HasForm item → takes item.row.fields (length (targets_in item)) ≡ true

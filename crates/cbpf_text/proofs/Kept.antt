@@ -1,4 +1,5 @@
 -- What is kept of items that are read one by one: statements, and labels with their places.
+use Rattle.std.proofs.Common.{rules}
 use Rattle.std.proofs.Common.{◌≡◌, refl, sym, ◌∙◌, ap, subst, ℕ, zero, suc, ◌+◌, ◌<◌, true, false, List, [], ◌∷◌}
 use Rattle.std.proofs.Common.{◌++◌, length, map, get_or, Option, Some, None, arith, append_assoc, append-nil}
 use Rattle.std.proofs.Common.{length-append}
@@ -26,11 +27,7 @@ pub labels_snoc : (k : ℕ) (is : List Item) (i : Item)
     → labels_from k (is ++ (i ∷ [])) ≡ labels_from k is ++ labels_of (k + length is) i.labels
 labels_snoc k [] i = let e : k ≡ k + 0 = omega arith in
     append-nil (labels_of k i.labels) ∙ ap (λ n. labels_of n i.labels) e
-labels_snoc k (x ∷ is) i =
-    let e : k + 1 + length is ≡ k + suc (length is) = omega arith in
-    ap (λ ls. labels_of k x.labels ++ ls)
-    (labels_snoc (k + 1) is i ∙ ap (λ n. labels_from (k + 1) is ++ labels_of n i.labels) e)
-    ∙ sym (append_assoc (labels_of k x.labels) (labels_from (k + 1) is) (labels_of (k + suc (length is)) i.labels))
+labels_snoc k (x ∷ is) i = search (rules, append_assoc, labels_snoc (k + 1) is i)
 
 get_front : (is : List Item) (js : List Item) (k : ℕ) (i : Item) → slice_get is k ≡ Some i
     → slice_get (is ++ js) k ≡ Some i
@@ -51,14 +48,7 @@ kept_skip (Some at) ss rep look is v w e d = d
 pub kept_past : (o : Option ℕ) (ss : List Statement) (rep : Option ℕ) (look : Name → Option ℕ) (is : List Item)
     (i : Item) (v w : List Lexeme)
     → true ≡ is_some o → IsDraft o ss rep look is v → IsDraft o ss rep look (is ++ (i ∷ [])) w
-kept_past None ss rep look is i v w e d = let k : true ≡ false = e in cc
-kept_past (Some at) ss rep look is i v w e d = record {
-  item = d.item;
-  mnemonic = d.mnemonic;
-  found = get_front is (i ∷ []) 4096 d.item d.found;
-  first = d.first;
-  place = d.place;
-}
+kept_past o ss rep look is i v w h1 h2 = search (rules, get_front)
 
 pub none_if : (o : Option ℕ) → false ≡ is_some o → o ≡ None
 none_if None e = refl
@@ -71,35 +61,15 @@ pub kept_label : (ss : List Statement) (rep rep2 : Option ℕ) (look look2 : Nam
     → ((all : List Label) → AreSet all rep look
     → AreSet (all ++ (record { word = word; place = place } ∷ [])) rep2 look2)
     → IsKept ss rep2 look2 is ms
-kept_label ss rep rep2 look look2 is ls ms word place k e w more =
-    let n : place ≡ length is = e ∙ statements_size ss is k.same in
-    let joined : (labels_from 0 is ++ labels_of (length is) (label_words ls))
-    ++ (record { word = word; place = place } ∷ []) ≡ labels_from 0 is ++ labels_of (length is) (label_words ms) =
-    append_assoc (labels_from 0 is) (labels_of (length is) (label_words ls))
-    (record { word = word; place = place } ∷ [])
-    ∙ ap (λ us. labels_from 0 is ++ us) (ap (λ q. labels_of (length is) (label_words ls) ++ labels_of q (word ∷ [])) n
-    ∙ (sym (map-append (λ (t : Lexeme). record { word = t; place = length is }) (label_words ls) (word ∷ []))
-    ∙ ap (λ us. labels_of (length is) us) (sym w))) in
-    record {
-      same = k.same;
-      set = subst (λ (us : List Label). AreSet us rep2 look2) joined
-          (more (labels_from 0 is ++ labels_of (length is) (label_words ls)) k.set);
-      most = k.most;
-    }
+kept_label ss rep rep2 look look2 is ls ms word place h1 h2 h3 h4 =
+    search (rules, statements_size, append_assoc, map-append)
 
 -- one more item
 pub kept_item : (ss : List Statement) (rep : Option ℕ) (look : Name → Option ℕ) (is : List Item) (ls : List Lexeme)
     (s : Statement) (i : Item) → IsKept ss rep look is ls → IsStatement s i → i.labels ≡ label_words ls
     → length ss < 4096 → IsKept (ss ++ (s ∷ [])) rep look (is ++ (i ∷ [])) []
-kept_item ss rep look is ls s i k t e l =
-    let z : 0 + length is ≡ length is = omega arith in
-    record {
-      same = statements_more ss is s i k.same t;
-      set = subst (λ (us : List Label). AreSet us rep look) (ap (λ us. labels_from 0 is ++ labels_of (length is) us)
-          (sym e) ∙ (ap (λ q. labels_from 0 is ++ labels_of q i.labels) (sym z)
-          ∙ (sym (labels_snoc 0 is i) ∙ sym (append-nil (labels_from 0 (is ++ (i ∷ []))))))) k.set;
-      most = omega (arith, l, statements_size ss is k.same, length-append is (i ∷ []));
-    }
+kept_item ss rep look is ls s i h1 h2 h3 h4 =
+    search (rules, statements_more, labels_snoc, append-nil, statements_size, length-append)
 
 -- the 4097th item
 pub kept_excess : (ss : List Statement) (rep : Option ℕ) (look : Name → Option ℕ) (is : List Item) (ls : List Lexeme)

@@ -1,4 +1,5 @@
 -- Labels in a list, how often each is set, and where.
+use Rattle.std.proofs.Common.{rules}
 use Rattle.std.proofs.Common.{◌≡◌, ◌≢◌, refl, sym, ◌∙◌, ap, subst, cond, ℕ, suc, ◌+◌, ◌<◌, Bool, true, false, List}
 use Rattle.std.proofs.Common.{[], ◌∷◌, ◌++◌, length, get_or, Option, Some, None, arith}
 use Rattle.std.specs.Prelude.{bytes_eq}
@@ -102,15 +103,4 @@ some_place (l ∷ ls) name p e = by_test (bytes_eq (name_of l.word) name) refl e
 -- a new name after the labels
 pub place_more : (ls : List Label) (l : Label) (name : List ℕ) → place_among ls (name_of l.word) ≡ None
     → cond (bytes_eq (name_of l.word) name) (Some l.place) (place_among ls name) ≡ place_among (ls ++ (l ∷ [])) name
-place_more ls l name new = by_test (bytes_eq (name_of l.word) name) refl ∙ sym (place_append ls (l ∷ []) name)
-  where
-    none_more : (o : Option ℕ) → o ≡ or_else o None
-    none_more None = refl
-    none_more (Some p) = refl
-
-    by_test : (t : Bool) → bytes_eq (name_of l.word) name ≡ t
-        → cond t (Some l.place) (place_among ls name) ≡ or_else (place_among ls name) (cond t (Some l.place) None)
-    by_test true e =
-        let n : place_among ls name ≡ None = sym (ap (place_among ls) (equal_bytes (name_of l.word) name e)) ∙ new in
-        rw n refl
-    by_test false e = none_more (place_among ls name)
+place_more ls l name h1 = search (rules, place_append, equal_bytes)

@@ -1,4 +1,5 @@
 -- The labels of items, one more at a time.
+use Rattle.std.proofs.Common.{rules}
 use Rattle.std.proofs.Common.{◌≡◌, ◌≢◌, refl, sym, ◌∙◌, ap, ℕ, ◌+◌, true, false, cond, subst, List, [], ◌∷◌, ◌++◌}
 use Rattle.std.proofs.Common.{Option, Some, None, append_assoc}
 use Rattle.std.specs.Prelude.{is_some, bytes_eq}
@@ -35,37 +36,13 @@ words_more ls l = map-append (λ (k : Label). k.word) ls (l ∷ [])
 -- a label after the first that is set a second time
 pub set_past : (ls : List Label) (l : Label) (rep : Option ℕ) (look : Name → Option ℕ) → true ≡ is_some rep
     → AreSet ls rep look → AreSet (ls ++ (l ∷ [])) rep look
-set_past ls l None look e s = let k : true ≡ false = e in cc
-set_past ls l (Some at) look e s = (
-  s.0,
-  s.1,
-  record {
-    before = s.2.before;
-    after = s.2.after ++ (l.word ∷ []);
-    split = words_more ls l
-        ∙ (ap (λ us. us ++ (l.word ∷ [])) s.2.split ∙ append_assoc s.2.before (s.0 ∷ s.2.after) (l.word ∷ []));
-    distinct = s.2.distinct;
-    given = s.2.given;
-  },
-)
+set_past ls l rep look h1 h2 = search (rules, words_more, append_assoc)
 
 -- the first label that is set a second time
 pub set_again : (ls : List Label) (l : Label) (rep : Option ℕ) (look look2 : Name → Option ℕ) (k : Name)
     → false ≡ is_some rep → AreSet ls rep look → k.bytes.now ≡ name_of l.word → true ≡ is_some (look k)
     → AreSet (ls ++ (l ∷ [])) (Some l.word.at) look2
-set_again ls l (Some at) look look2 k e s n h = let q : false ≡ true = e in cc
-set_again ls l None look look2 k e s n h =
-    let x = is_some_true (look k) h in (
-      l.word,
-      refl,
-      record {
-        before = words ls;
-        after = [];
-        split = words_more ls l;
-        distinct = s.1;
-        given = subst (λ w. times_among (words ls) w ≢ 0) n (some_place ls k.bytes.now x.0 (sym (s.0 k) ∙ x.1));
-      },
-    )
+set_again ls l rep look look2 k h1 h2 h3 h4 = search (rules, is_some_true, words_more, some_place)
 
 -- a label of a new name
 pub set_new : (ls : List Label) (l : Label) (rep : Option ℕ) (look look2 : Name → Option ℕ) (k : Name)

@@ -1,6 +1,6 @@
 -- The targets of a listing's jumps are spelled by segments, whose tokens fit the jumps' rows of the table and
 -- give their offsets back.
-use Rattle.std.proofs.Common.{ℕ, ◌+◌, ◌^◌, ◌<◌, ◌≤◌, List, [], ◌∷◌, length, refl, arith, lit<}
+use Rattle.std.proofs.Common.{ℕ, ◌+◌, ◌^◌, ◌<◌, ◌≤◌, List, [], ◌∷◌, length, refl, arith, rules, lit<}
 use Rattle.std.specs.Prelude.{◌==◌}
 use Rattle.cbpf_code.specs.declared.insn.Insn.{Insn}
 use Rattle.cbpf_syntax.proofs.Spelled.{Segment, AreSegments}
@@ -41,29 +41,11 @@ pub record HasTargets (n i : ℕ) (insn : Insn) : Type 0 where
 
 are_targets : (n i : ℕ) (insn : Insn) → HasTargets n i insn
     → AreSegments (target_segments (i + 1 + insn.jt) (i + 1 + insn.jf))
-are_targets n i insn h = (
-  (lit< tt, refl),
-  (
-    is_blank_segment,
-    (
-      is_label_segment (i + 1 + insn.jt) (omega (arith, h.most, h.holds)),
-      (
-        (lit< tt, refl),
-        (is_blank_segment, (is_label_segment (i + 1 + insn.jf) (omega (arith, h.most, h.fails)), tt)),
-      ),
-    ),
-  ),
-)
+are_targets n i insn h1 = search (rules, is_label_segment)
 
 targets_fit : (n i at : ℕ) (insn : Insn) → HasTargets n i insn
     → EachFits target_classes (lexemes_at at (target_segments (i + 1 + insn.jt) (i + 1 + insn.jf)))
-targets_fit n i at insn h = (
-  refl,
-  (
-    label_fits (i + 1 + insn.jt) (omega (arith, h.most, h.holds)),
-    (refl, (label_fits (i + 1 + insn.jf) (omega (arith, h.most, h.fails)), tt)),
-  ),
-)
+targets_fit n i at insn h1 = search (rules, label_fits)
 
 pub spells_x_two : (n i : ℕ) (insn : Insn) → HasTargets n i insn → Spells operands.XTwo n i insn
 spells_x_two n i insn h =

@@ -26,20 +26,11 @@ abbrev pub label_name : ℕ → List ℕ
 label_name i = 108 ∷ decimal i
 
 abbrev second_no_digit : List ℕ → Bool
-second_no_digit [] = true
-second_no_digit (a ∷ []) = true
 second_no_digit (a ∷ b ∷ bs) = not (is_digit b)
+second_no_digit x = true
 
 differs : (d : ℕ) (ds w : List ℕ) → is_digit d ≡ true → second_no_digit w ≡ true → bytes_eq (108 ∷ d ∷ ds) w ≡ false
-differs d ds [] h e = refl
-differs d ds (a ∷ []) h e = and-false (108 == a)
-differs d ds (a ∷ b ∷ bs) h e = by_test (d == b) refl
-  where
-    by_test : (t : Bool) → (d == b) ≡ t → (108 == a && (t && bytes_eq ds bs)) ≡ false
-    by_test false q = and-false (108 == a)
-    by_test true q = let k : not (is_digit d) ≡ true = rw (← eqb-true d b q) at e in
-        let z : not true ≡ true = rw h at k in
-        cc
+differs d ds w h1 h2 = search (rules, and-false, eqb-true)
 
 none_differs : (d : ℕ) (ds : List ℕ) (ws : List (List ℕ)) → is_digit d ≡ true → list_all second_no_digit ws ≡ true
     → is_one_of ws (108 ∷ d ∷ ds) ≡ false
@@ -58,13 +49,7 @@ names_differ = refl
 
 free_digits : (ds : List ℕ) → list_all is_digit ds ≡ true → 0 < length ds → is_reserved (108 ∷ ds) ≡ false
 free_digits [] h l = absurd (omega arith)
-free_digits (d ∷ ds) h l =
-    let q : is_digit d ≡ true = (and_parts (is_digit d) _ h).0 in
-    rw (
-      none_differs d ds mnemonic_words q mnemonics_differ,
-      none_differs d ds extension_names q names_differ,
-      none_differs d ds operand_words q refl,
-    ) refl
+free_digits (d ∷ ds) h l = search (rules, and_parts, none_differs, mnemonics_differ, names_differ)
 
 label_free : (i : ℕ) → i < 2 ^ 64 → is_reserved (label_name i) ≡ false
 label_free i l = free_digits (decimal i) (decimal_digits i l) (decimal_nonempty i l)
@@ -86,10 +71,7 @@ abbrev pub decimal_segment : ℕ → Segment
 decimal_segment k = number (first (decimal k)) (rest (decimal k)) k
 
 digit_small : (b : ℕ) → is_digit b ≡ true → b < 256
-digit_small b e = let p = and_parts (nat_le 48 b) _ e in let l : b ≤ 57 = le-ltb' p.1 in omega (arith, l)
-  where
-    le-ltb' : nat_le b 57 ≡ true → b ≤ 57
-    le-ltb' h = search rules
+digit_small b h1 = search (rules, and_parts)
 
 spelled : (w : List ℕ) → 0 < length w → first w ∷ rest w ≡ w
 spelled [] l = absurd (omega arith)
@@ -100,10 +82,7 @@ spelled_decimal k l = spelled (decimal k) (decimal_nonempty k l)
 
 number_segment : (w : List ℕ) (n : ℕ) → 0 < length w → list_all is_digit w ≡ true → list_all is_name_byte w ≡ true
     → number_value w ≡ Some n → n < 2 ^ 32 → IsSegment (number (first w) (rest w) n)
-number_segment [] n l d a v m = absurd (omega arith)
-number_segment (b ∷ bs) n l d a v m =
-    let p = and_parts (is_digit b) _ d in
-    (digit_small b p.0, p.0, (and_parts (is_name_byte b) _ a).1, v, m)
+number_segment w n h1 h2 h3 h4 h5 = search (rules, and_parts, digit_small)
 
 pub is_decimal_segment : (k : ℕ) → k < 2 ^ 32 → IsSegment (decimal_segment k)
 is_decimal_segment k l =

@@ -1,4 +1,5 @@
 -- The listing of a checked program assembles to the plain forms of its instructions.
+use Rattle.std.proofs.Common.{rules}
 use Rattle.std.proofs.Common.{◌≡◌, ℕ, suc, ◌+◌, ◌<◌, ◌≤◌, List, [], ◌∷◌, length, map, refl, ap, sym, subst, arith}
 use Rattle.std.proofs.Common.{◌⊎◌, inl, inr, Some}
 use Rattle.std.specs.Prelude.{All, slice_get, Ok, Err}
@@ -55,27 +56,24 @@ has_targets n i insn most r t = record {
 
 spells : (n i : ℕ) (insn : Insn) (op : Op) → n ≤ 4096 → InRange insn → ((t : ℕ) → IsTarget op insn i t → t < n)
     → Spells (operand_of op) n i insn
-spells n i insn LdImm most r t = spells_immediate n i insn r.k
 spells n i insn (LdAbs s) most r t = spells_absolute n i insn r.k
 spells n i insn (LdInd s) most r t = spells_indexed n i insn r.k
 spells n i insn LdMem most r t = spells_memory n i insn r.k
 spells n i insn LdLen most r t = spells_length n i insn
-spells n i insn LdxImm most r t = spells_immediate n i insn r.k
 spells n i insn LdxMem most r t = spells_memory n i insn r.k
 spells n i insn LdxLen most r t = spells_length n i insn
 spells n i insn LdxMsh most r t = spells_header n i insn r.k
 spells n i insn St most r t = spells_memory n i insn r.k
 spells n i insn Stx most r t = spells_memory n i insn r.k
-spells n i insn (Alu a src.K) most r t = spells_immediate n i insn r.k
 spells n i insn (Alu a src.X) most r t = spells_x n i insn
 spells n i insn Neg most r t = spells_bare n i insn
 spells n i insn Ja most r t = spells_label n i insn (t (i + 1 + insn.k) refl) most
 spells n i insn (Jump c src.K) most r t = spells_immediate_two n i insn r.k (has_targets n i insn most r t)
 spells n i insn (Jump c src.X) most r t = spells_x_two n i insn (has_targets n i insn most r t)
-spells n i insn RetK most r t = spells_immediate n i insn r.k
 spells n i insn RetA most r t = spells_a n i insn
 spells n i insn Tax most r t = spells_bare n i insn
 spells n i insn Txa most r t = spells_bare n i insn
+spells n i insn x most r t = spells_immediate n i insn r.k
 
 lists : (n i : ℕ) (insns : List Insn) → n ≤ 4096 → i + length insns ≤ n → AreListable n i insns → Lists n i insns
 unfolding AreListable
@@ -102,9 +100,7 @@ listable all i (insn ∷ insns) sound range here =
     )
 
 program_lists : (list : List Insn) → IsSound list → All InRange list → Lists (length list) 0 list
-program_lists list sound range =
-    lists (length list) 0 list (sound_few list sound) (omega arith)
-    (listable list 0 list sound range (λ j x g. let e : 0 + j ≡ j = omega arith in rw e g))
+program_lists list h1 h2 = search (rules, lists, sound_few, listable)
 
 encoded : (list : List Insn) (b : Lists (length list) 0 list) → IsSound list → AreEncoded (b.items 0) (map plain list)
 encoded list b sound =

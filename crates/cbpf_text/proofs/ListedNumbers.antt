@@ -1,4 +1,6 @@
 -- The numbers and labels of a listing, as the lexer reads them.
+use Rattle.std.proofs.lemmas.Grind.{common_steps}
+use Rattle.std.proofs.Common.{rules}
 use Rattle.std.proofs.Common.{◌≡◌, ℕ, zero, suc, ◌+◌, ◌-◌, ◌*◌, ◌/◌, ◌%◌, ◌^◌, ◌<◌, ◌≤◌, Bool, true, false, cond}
 use Rattle.std.proofs.Common.{List, [], ◌∷◌, ◌++◌, length, get_or, drop, refl, ap, sym, subst, ◌∙◌, arith, Some, None}
 use Rattle.std.proofs.Common.{eqb-true, lt-ltb, ltb-false, ltb-true, ne_eqb, length-append}
@@ -17,9 +19,7 @@ use Rattle.cbpf_code.proofs.HexLemmas.{hex-places}
 use Rattle.cbpf_syntax.proofs.Spelled.{holds_below}
 
 all_snoc : (p : ℕ → Bool) (xs : List ℕ) (x : ℕ) → list_all p xs ≡ true → p x ≡ true → list_all p (xs ++ x ∷ []) ≡ true
-all_snoc p [] x h e = rw e refl
-all_snoc p (y ∷ ys) x h e = let q : (p y ≡ true) × (list_all p ys ≡ true) = and_parts (p y) _ h in
-    rw (q.0, all_snoc p ys x q.1 e) refl
+all_snoc p xs x h1 h2 = grind (arith, common_steps, and_parts)
 
 value_snoc : (base high : ℕ) (xs : List ℕ) (x v : ℕ) → digits_value base high xs ≡ Some v → digit_value x < base
     → digits_value base high (xs ++ x ∷ []) ≡ Some (v * base + digit_value x)
@@ -41,17 +41,10 @@ abbrev ReadsDecimal : ℕ → List ℕ → Type 0
 ReadsDecimal n ds = (list_all is_digit ds ≡ true) × (digits_value 10 0 ds ≡ Some n)
 
 decimal_glyph : (d : ℕ) → d < 10 → (is_digit (48 + d) ≡ true) × (digit_value (48 + d) ≡ d)
-decimal_glyph d l = (
-  holds_below 10 (λ d. is_digit (48 + d)) d refl l,
-  eqb-true (digit_value (48 + d)) d (holds_below 10 (λ d. digit_value (48 + d) == d) d refl l),
-)
+decimal_glyph d h1 = search (rules, holds_below, eqb-true)
 
 one_digit : (n : ℕ) → n < 10 → ReadsDecimal n ((48 + n) ∷ [])
-one_digit n l =
-    let g : (is_digit (48 + n) ≡ true) × (digit_value (48 + n) ≡ n) = decimal_glyph n l in
-    let s : nat_lt n 10 ≡ true = lt-ltb n 10 l in
-    let z : 0 * 10 + n ≡ n = omega arith in
-    (rw g.0 refl, rw (g.1, s, z) refl)
+one_digit n h1 = search (rules, decimal_glyph, lt-ltb)
 
 more_digits : (n : ℕ) (ds : List ℕ) → 10 ≤ n → ReadsDecimal (n / 10) ds → ReadsDecimal n (ds ++ ((48 + n % 10) ∷ []))
 more_digits n ds l r =
@@ -91,11 +84,7 @@ FitsHex zero n = n < 1
 FitsHex (suc places) n = FitsHex places (n / 16)
 
 hex_glyph : (d : ℕ) → d < 16 → (is_name_byte (digit_glyph false d) ≡ true) × (digit_value (digit_glyph false d) ≡ d)
-hex_glyph d l = (
-  holds_below 16 (λ d. is_name_byte (digit_glyph false d)) d refl l,
-  eqb-true (digit_value (digit_glyph false d)) d
-      (holds_below 16 (λ d. digit_value (digit_glyph false d) == d) d refl l),
-)
+hex_glyph d h1 = search (rules, holds_below, eqb-true)
 
 reads_hex : (places n : ℕ) → FitsHex places n → digits_value 16 0 (hex_digits places n) ≡ Some n
 reads_hex zero n f = let z : n ≡ 0 = omega arith in rw z refl
@@ -113,9 +102,7 @@ hex_names (suc places) n = all_snoc is_name_byte (hex_digits places (n / 16)) (d
 
 length_hex : (places n : ℕ) → length (hex_digits places n) ≡ places
 length_hex zero n = refl
-length_hex (suc places) n =
-    let e : length (hex_digits places (n / 16)) ≡ places = length_hex places (n / 16) in
-    omega (arith, e, length-append (hex_digits places (n / 16)) (digit_glyph false (n % 16) ∷ []))
+length_hex (suc places) n = search (rules, length-append, length_hex places (n / 16))
 
 last_hex : (m p n : ℕ) → drop m (hex_digits (m + p) n) ≡ hex_digits p n
 last_hex m zero n = drop_all m (hex_digits (m + 0) n) (omega (arith, length_hex (m + 0) n))

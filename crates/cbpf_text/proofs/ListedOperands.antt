@@ -1,7 +1,7 @@
 -- Each operand of a listing is spelled by segments, whose tokens fit its row of the table and give the
 -- instruction's fields back.
 use Rattle.std.proofs.Common.{◌≡◌, ℕ, ◌+◌, ◌^◌, ◌<◌, Bool, true, false, cond, ◌&&◌, List, [], ◌∷◌, ◌++◌, refl, ap}
-use Rattle.std.proofs.Common.{sym, ◌∙◌, arith, append-nil, lit<, Option, Some, None, eqb-true}
+use Rattle.std.proofs.Common.{sym, ◌∙◌, arith, rules, append-nil, lit<, Option, Some, None, eqb-true}
 use Rattle.std.specs.Prelude.{◌==◌, codes}
 use Rattle.std.specs.List.{list_all}
 use Rattle.cbpf_code.specs.declared.insn.Insn.{Insn}
@@ -33,15 +33,13 @@ use Rattle.cbpf_text.proofs.ListedLabels.{is_hex_segment, given_is}
 
 abbrev pub EachFits : List Class → List Lexeme → Type 0
 EachFits [] [] = Unit {0}
-EachFits [] (t ∷ ts) = ⊥
-EachFits (c ∷ cs) [] = ⊥
 EachFits (c ∷ cs) (t ∷ ts) = (fits c t.symbol ≡ true) × EachFits cs ts
+EachFits cs ts = ⊥
 
 pub fits_from_each : (cs : List Class) (ts : List Lexeme) → EachFits cs ts → fits_all cs ts ≡ true
 fits_from_each [] [] h = refl
-fits_from_each [] (t ∷ ts) h = absurd h
-fits_from_each (c ∷ cs) [] h = absurd h
 fits_from_each (c ∷ cs) (t ∷ ts) h = rw (h.0, fits_from_each cs ts h.1) refl
+fits_from_each cs ts h = absurd h
 
 -- segments that stay apart before the newline of their line, and have no `-`: a test that computes
 abbrev pub are_apart : List Segment → Bool
@@ -70,17 +68,7 @@ pub by_row : (o : Operand) (n i : ℕ) (insn : Insn) (segments : List Segment)
     → text_of segments ≡ operand_text o i insn → AreSegments segments → are_apart segments ≡ true
     → ((at : ℕ) → fits_all (operand_classes o) (lexemes_at at segments) ≡ true)
     → Fills n i (plain_as o insn) (operand_fields o) (operand_classes o) segments → Spells o n i insn
-by_row o n i insn segments text are apart fits fills = record {
-  segments = segments;
-  classes = operand_classes o;
-  fields = operand_fields o;
-  listed = λ op e. operation_row op o e;
-  text = text;
-  are = are;
-  apart = apart;
-  fits = fits;
-  fills = fills;
-}
+by_row o n i insn segments h1 h2 h3 h4 h5 = search (rules, operand_classes, operand_fields, operation_row)
 
 pub is_blank_segment : IsSegment (blank 32)
 is_blank_segment = (lit< tt, refl)
@@ -91,15 +79,15 @@ spells_bare n i insn = by_row operands.Bare n i insn [] refl tt refl (λ at. ref
 -- a word alone
 pub spells_x : (n i : ℕ) (insn : Insn) → Spells operands.X n i insn
 spells_x n i insn = by_row operands.X n i insn (blank 32 ∷ word 120 [] ∷ []) refl
-    (is_blank_segment, ((lit< tt, refl, refl), tt)) refl (λ at. refl) (λ at all p. (refl, refl, refl))
+    (search rules) refl (λ at. refl) (λ at all p. (refl, refl, refl))
 
 pub spells_a : (n i : ℕ) (insn : Insn) → Spells operands.A n i insn
 spells_a n i insn = by_row operands.A n i insn (blank 32 ∷ word 97 [] ∷ []) refl
-    (is_blank_segment, ((lit< tt, refl, refl), tt)) refl (λ at. refl) (λ at all p. (refl, refl, refl))
+    (search rules) refl (λ at. refl) (λ at all p. (refl, refl, refl))
 
 pub spells_length : (n i : ℕ) (insn : Insn) → Spells operands.Length n i insn
 spells_length n i insn = by_row operands.Length n i insn (blank 32 ∷ word 108 (101 ∷ 110 ∷ []) ∷ []) refl
-    (is_blank_segment, ((lit< tt, refl, refl), tt)) refl (λ at. refl) (λ at all p. (refl, refl, refl))
+    (search rules) refl (λ at. refl) (λ at all p. (refl, refl, refl))
 
 -- `#` and a hexadecimal number, before others
 pub hex_text : (t : Bool) (k : ℕ) (ss : List Segment) → text_of (blank 32 ∷ mark 35 ∷ hex_segment t k ∷ ss)
@@ -118,52 +106,22 @@ spells_immediate n i insn l =
 pub spells_memory : (n i : ℕ) (insn : Insn) → insn.k < 2 ^ 32 → Spells operands.Memory n i insn
 spells_memory n i insn l =
     by_row operands.Memory n i insn (blank 32 ∷ word 77 [] ∷ mark 91 ∷ decimal_segment insn.k ∷ mark 93 ∷ [])
-    (ap (λ (w : List ℕ). codes " M[" ++ (w ++ codes "]")) (spelled_decimal insn.k (omega arith))) (
-      is_blank_segment,
-      ((lit< tt, refl, refl), ((lit< tt, refl), (is_decimal_segment insn.k l, ((lit< tt, refl), tt)))),
-    ) refl (λ at. refl) (λ at all p. (refl, refl, refl))
+    (ap (λ (w : List ℕ). codes " M[" ++ (w ++ codes "]")) (spelled_decimal insn.k (omega arith)))
+    (search (rules, is_decimal_segment)) refl (λ at. refl) (λ at all p. (refl, refl, refl))
 
 pub spells_indexed : (n i : ℕ) (insn : Insn) → insn.k < 2 ^ 32 → Spells operands.Indexed n i insn
 spells_indexed n i insn l =
     by_row operands.Indexed n i insn
     (blank 32 ∷ mark 91 ∷ word 120 [] ∷ blank 32 ∷ mark 43 ∷ blank 32 ∷ decimal_segment insn.k ∷ mark 93 ∷ [])
-    (ap (λ (w : List ℕ). codes " [x + " ++ (w ++ codes "]")) (spelled_decimal insn.k (omega arith))) (
-      is_blank_segment,
-      (
-        (lit< tt, refl),
-        (
-          (lit< tt, refl, refl),
-          (
-            is_blank_segment,
-            ((lit< tt, refl), (is_blank_segment, (is_decimal_segment insn.k l, ((lit< tt, refl), tt)))),
-          ),
-        ),
-      ),
-    ) refl (λ at. refl) (λ at all p. (refl, refl, refl))
+    (ap (λ (w : List ℕ). codes " [x + " ++ (w ++ codes "]")) (spelled_decimal insn.k (omega arith)))
+    (search (rules, is_decimal_segment) depth 12) refl (λ at. refl) (λ at all p. (refl, refl, refl))
 
 pub spells_header : (n i : ℕ) (insn : Insn) → insn.k < 2 ^ 32 → Spells operands.Header n i insn
 spells_header n i insn l =
     by_row operands.Header n i insn (blank 32 ∷ number 52 [] 4 ∷ mark 42 ∷ mark 40 ∷ mark 91 ∷ decimal_segment insn.k
     ∷ mark 93 ∷ mark 38 ∷ number 48 (120 ∷ 102 ∷ []) 15 ∷ mark 41 ∷ [])
-    (ap (λ (w : List ℕ). codes " 4*([" ++ (w ++ codes "]&0xf)")) (spelled_decimal insn.k (omega arith))) (
-      is_blank_segment,
-      (
-        (lit< tt, refl, refl, refl, lit< tt),
-        (
-          (lit< tt, refl),
-          (
-            (lit< tt, refl),
-            (
-              (lit< tt, refl),
-              (
-                is_decimal_segment insn.k l,
-                ((lit< tt, refl), ((lit< tt, refl), ((lit< tt, refl, refl, refl, lit< tt), ((lit< tt, refl), tt)))),
-              ),
-            ),
-          ),
-        ),
-      ),
-    ) refl (λ at. refl) (λ at all p. (refl, refl, refl))
+    (ap (λ (w : List ℕ). codes " 4*([" ++ (w ++ codes "]&0xf)")) (spelled_decimal insn.k (omega arith)))
+    (search (rules, is_decimal_segment) depth 14) refl (λ at. refl) (λ at all p. (refl, refl, refl))
 
 -- what holds of each extension of the table holds of all
 ext_holds : (p : Ext → Bool) → list_all (λ (e : ℕ × Ext). p e.1) ext_table ≡ true → (e : Ext) → p e ≡ true
@@ -200,9 +158,7 @@ names_have_values :
 names_have_values = refl
 
 ext_value : (e : Ext) → place_named ext_table (name_of_ext e) ≡ Some (4294963200 + ext_offset e)
-ext_value e =
-    some_of _ _ (ext_holds (λ x. is_some_of (4294963200 + ext_offset x) (place_named ext_table (name_of_ext x)))
-    names_have_values e)
+ext_value e = search (rules, some_of, ext_holds, names_have_values)
 
 abbrev name_classes : List Class
 name_classes = forms.Class.extension ∷ []
@@ -220,8 +176,7 @@ absolute_by n i insn None e l =
     by_row operands.Absolute n i insn (blank 32 ∷ mark 91 ∷ decimal_segment insn.k ∷ mark 93 ∷ [])
     (ap (λ (w : List ℕ). codes " [" ++ (w ++ codes "]")) (spelled_decimal insn.k (omega arith))
     ∙ sym (ap (λ p. place_or_name p insn.k) e))
-    (is_blank_segment, ((lit< tt, refl), (is_decimal_segment insn.k l, ((lit< tt, refl), tt)))) refl
-    (λ at. refl) (λ at all p. (refl, refl, refl))
+    (search (rules, is_decimal_segment)) refl (λ at. refl) (λ at all p. (refl, refl, refl))
 absolute_by n i insn (Some x) e l = record {
   segments = name_segments x;
   classes = name_classes;

@@ -1,4 +1,5 @@
 -- Items that are labelled by their numbers: each label is set once, by its item.
+use Rattle.std.proofs.Common.{rules}
 use Rattle.std.proofs.Common.{◌≡◌, ℕ, zero, suc, ◌+◌, ◌^◌, ◌<◌, ◌≤◌, Bool, true, false, List, [], ◌∷◌, length, get_or}
 use Rattle.std.proofs.Common.{refl, sym, subst, ◌∙◌, arith, ◌⊎◌, inl, inr}
 use Rattle.std.specs.Prelude.{decimal, bytes_eq, All}
@@ -36,20 +37,14 @@ times_here i m item h e =
 
 times_elsewhere : (i m : ℕ) (item : Item) → i < 2 ^ 64 → m < 2 ^ 64 → IsLabelled i item → (i ≡ m → ⊥)
     → times_among item.labels (label_name m) ≡ 0
-times_elsewhere i m item l k h n =
-    rw h.only (times_miss h.label (label_name m) (by_test (bytes_eq (name_of h.label) (label_name m)) refl))
-  where
-    by_test : (t : Bool) → bytes_eq (name_of h.label) (label_name m) ≡ t → t ≡ false
-    by_test false e = refl
-    by_test true e = absurd (n (label_differs i m l k (sym h.named ∙ equal_bytes (name_of h.label) (label_name m) e)))
+times_elsewhere i m item h1 h2 h3 h4 = search (rules, times_miss, label_name, label_differs, equal_bytes)
 
 -- how often the items set a label
 times_before : (i m : ℕ) (items : List Item) → i + length items < 2 ^ 64 → AreLabelled i items → m < i
     → times_set items (label_name m) ≡ 0
 times_before i m [] l h b = refl
 times_before i m (item ∷ items) l h b =
-    let x : times_among item.labels (label_name m) ≡ 0 =
-    times_elsewhere i m item (omega arith) (omega arith) h.0 (λ e. omega (arith, e, b)) in
+    let x = times_elsewhere i m item (omega arith) (omega arith) h.0 (λ e. omega (arith, e, b)) in
     let y : times_set items (label_name m) ≡ 0 = times_before (i + 1) m items (omega arith) h.1 (omega arith) in
     omega (arith, times_append item.labels (set_labels items) (label_name m), x, y)
 
@@ -62,14 +57,11 @@ times_inside i m [] l h a b = absurd (omega arith)
 times_inside i m (item ∷ items) l h a b = elim (here_or_later i m a) [
   | inl e ↦
       let x : times_among item.labels (label_name m) ≡ 1 = times_here i m item h.0 e in
-      let y : times_set items (label_name m) ≡ 0 =
-      times_before (i + 1) m items (omega arith) h.1 (omega (arith, e)) in
+      let y = times_before (i + 1) m items (omega arith) h.1 (omega (arith, e)) in
       omega (arith, times_append item.labels (set_labels items) (label_name m), x, y)
   | inr g ↦
-      let x : times_among item.labels (label_name m) ≡ 0 =
-      times_elsewhere i m item (omega arith) (omega arith) h.0 (λ e. omega (arith, e, g)) in
-      let y : times_set items (label_name m) ≡ 1 =
-      times_inside (i + 1) m items (omega arith) h.1 (omega arith) (omega arith) in
+      let x = times_elsewhere i m item (omega arith) (omega arith) h.0 (λ e. omega (arith, e, g)) in
+      let y = times_inside (i + 1) m items (omega arith) h.1 (omega arith) (omega arith) in
       omega (arith, times_append item.labels (set_labels items) (label_name m), x, y)
 ]
 
@@ -107,6 +99,5 @@ numbered i to (item ∷ items) l h =
 pub labels_distinct_by_number : (items : List Item) → length items ≤ 4096 → AreLabelled 0 items
     → AreDistinct (set_labels items)
 labels_distinct_by_number items few h k d l =
-    let n : Numbered (length items) (get_or (set_labels items) k d) =
-    numbered 0 (length items) items (omega arith) h k d l in
+    let n = numbered 0 (length items) items (omega arith) h k d l in
     rw n.2 (times_inside 0 n.0 items (omega arith) h (omega arith) (omega (arith, n.1)))

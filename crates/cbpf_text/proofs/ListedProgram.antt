@@ -1,4 +1,5 @@
 -- The lines of a listing as segments, whose tokens are the items of the instructions.
+use Rattle.std.proofs.Common.{rules}
 use Rattle.std.proofs.Common.{◌≡◌, ℕ, suc, ◌+◌, ◌^◌, ◌<◌, true, false, List, [], ◌∷◌, ◌++◌, length, map, refl, ap}
 use Rattle.std.proofs.Common.{sym, ◌∙◌, append_assoc, append-nil, lit<, Some}
 use Rattle.std.specs.Prelude.{decimal, codes}
@@ -59,12 +60,7 @@ lists_none n i = record {
 -- a line's text, one piece after the other
 joins : (d w operand after : List ℕ) → (((108 ∷ (d ++ (58 ∷ 9 ∷ (w ++ [])))) ++ operand) ++ (10 ∷ [])) ++ after
     ≡ 108 ∷ (d ++ (58 ∷ 9 ∷ (w ++ (operand ++ (10 ∷ after)))))
-joins d w operand after =
-    let front = 108 ∷ (d ++ (58 ∷ 9 ∷ (w ++ []))) in
-    append_assoc (front ++ operand) (10 ∷ []) after
-    ∙ append_assoc front operand (10 ∷ after)
-    ∙ ap (λ (t : List ℕ). 108 ∷ t) (append_assoc d (58 ∷ 9 ∷ (w ++ [])) (operand ++ (10 ∷ after)))
-    ∙ ap (λ (t : List ℕ). 108 ∷ (d ++ (58 ∷ 9 ∷ (t ++ (operand ++ (10 ∷ after)))))) (append-nil w)
+joins d w operand after = search (rules, append_assoc, append-nil)
 
 -- the segments of a line, before those after it
 abbrev line_segments : ℕ → List ℕ → List Segment → List Segment → List Segment
@@ -75,15 +71,7 @@ line_text : (i : ℕ) (insn : Insn) (op : Op) (operand after : List Segment) (li
     → op_of insn.code ≡ Some op → first (mnemonic_of op) ∷ rest (mnemonic_of op) ≡ mnemonic_of op
     → text_of operand ≡ operand_text (operand_of op) i insn → text_of after ≡ lines
     → text_of (line_segments i (mnemonic_of op) operand after) ≡ numbered_line (i, insn) ++ lines
-line_text i insn op operand after lines known w e f =
-    ap (λ (t : List ℕ). 108 ∷ (decimal i ++ (58 ∷ 9 ∷ (first (mnemonic_of op) ∷ (rest (mnemonic_of op) ++ t)))))
-    (text_append operand (blank 10 ∷ after))
-    ∙ ap (λ (v : List ℕ). 108 ∷ (decimal i ++ (58 ∷ 9 ∷ (v ++ (text_of operand ++ (10 ∷ text_of after)))))) w
-    ∙ ap (λ (t : List ℕ). 108 ∷ (decimal i ++ (58 ∷ 9 ∷ (mnemonic_of op ++ (t ++ (10 ∷ text_of after)))))) e
-    ∙ ap (λ (t : List ℕ).
-    108 ∷ (decimal i ++ (58 ∷ 9 ∷ (mnemonic_of op ++ (operand_text (operand_of op) i insn ++ (10 ∷ t)))))) f
-    ∙ sym (joins (decimal i) (mnemonic_of op) (operand_text (operand_of op) i insn) lines)
-    ∙ sym (ap (λ o. (text_for i insn o ++ codes "\n") ++ lines) known)
+line_text i insn op operand after lines h1 h2 h3 h4 = search (rules, first, rest, text_append, blank, text_of, joins)
 
 -- where the operand's tokens begin
 abbrev operand_at : ℕ → ℕ → List ℕ → ℕ
@@ -112,9 +100,7 @@ line_item at i w operand row = record { labels = label_token at i ∷ []; row = 
 line_lexemes : (at i : ℕ) (w : List ℕ) (operand after : List Segment)
     → lexemes_at at (line_segments i w operand after)
     ≡ line_tokens at i w operand ++ lexemes_at (after_at at i w operand) after
-line_lexemes at i w operand after = ap (λ (ts : List Lexeme). label_token at i ∷ colon_token at i
-    ∷ record { symbol = grammar.Symbol.word (first w ∷ rest w); at = at + (1 + length (decimal i)) + 1 + 1 } ∷ ts)
-    (lexemes_append (operand_at at i w) operand (blank 10 ∷ after))
+line_lexemes at i w operand after = search (rules, first, rest, lexemes_append, blank)
 
 line_form : (at n i : ℕ) (insn : Insn) (op : Op) (s : Spells (operand_of op) n i insn)
     (r : HasRow op s.classes s.fields) → i < 2 ^ 64
@@ -135,12 +121,7 @@ line_encoded : (at n i : ℕ) (insn : Insn) (op : Op) (s : Spells (operand_of op
     (r : HasRow op s.classes s.fields) → op_of insn.code ≡ Some op
     → (all : List Item) → Places n all
     → IsEncoded all i (line_item at i (mnemonic_of op) s.segments r.row) (plain insn)
-line_encoded at n i insn op s r known all p =
-    let e : plain insn ≡ plain_as (operand_of op) insn = plain_is insn op known in
-    record {
-      code = ap (λ (x : Insn). x.code) e ∙ (code_only insn.code op known ∙ sym r.code);
-      fields = rw (r.fields, r.operand, e) (s.fills (operand_at at i (mnemonic_of op)) all p);
-    }
+line_encoded at n i insn op s r h1 all h2 = search (rules, plain_as, plain_is, code_only)
 
 pub lists_line : (n i : ℕ) (insn : Insn) (op : Op) (insns : List Insn) → op_of insn.code ≡ Some op → i < 2 ^ 64
     → Spells (operand_of op) n i insn → Lists n (i + 1) insns → Lists n i (insn ∷ insns)

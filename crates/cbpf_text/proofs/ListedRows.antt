@@ -1,4 +1,5 @@
 -- Each operation has a row of the table for the tokens that a listing writes.
+use Rattle.std.proofs.Common.{rules}
 use Rattle.std.proofs.Common.{◌≡◌, ℕ, ◌<◌, Bool, true, false, cond, not, ◌&&◌, ◌||◌, List, [], ◌∷◌, refl, ap, ◌∙◌}
 use Rattle.std.proofs.Common.{eqb-true, ltb-true, Some}
 use Rattle.std.specs.Prelude.{◌==◌, nat_lt, codes, Contains, bytes_eq}
@@ -57,9 +58,8 @@ same_class c d = false
 
 abbrev same_classes : List Class → List Class → Bool
 same_classes [] [] = true
-same_classes [] (d ∷ ds) = false
-same_classes (c ∷ cs) [] = false
 same_classes (c ∷ cs) (d ∷ ds) = same_class c d && same_classes cs ds
+same_classes cs ds = false
 
 abbrev same_fields : Fields → Fields → Bool
 same_fields Constant Constant = true
@@ -89,29 +89,19 @@ unfolding mnemonics
 operations_have_named_rows = refl
 
 same_class_eq : (c d : Class) → same_class c d ≡ true → c ≡ d
-same_class_eq (the_word v) (the_word w) e = ap the_word (equal_bytes v w e)
-same_class_eq (the_mark a) (the_mark b) e = ap the_mark (eqb-true a b e)
-same_class_eq literal literal e = refl
-same_class_eq (exactly m) (exactly n) e = ap exactly (eqb-true m n e)
-same_class_eq extension extension e = refl
-same_class_eq name name e = refl
-same_class_eq c d e = let k : false ≡ true = e in cc
+same_class_eq c d h1 = search (rules, equal_bytes, eqb-true)
 
 same_classes_eq : (cs ds : List Class) → same_classes cs ds ≡ true → cs ≡ ds
 same_classes_eq [] [] e = refl
-same_classes_eq [] (d ∷ ds) e = let k : false ≡ true = e in cc
-same_classes_eq (c ∷ cs) [] e = let k : false ≡ true = e in cc
 same_classes_eq (c ∷ cs) (d ∷ ds) e =
     let p : (same_class c d ≡ true) × (same_classes cs ds ≡ true) = and_parts (same_class c d) _ e in
     let h : c ≡ d = same_class_eq c d p.0 in
     let t : cs ≡ ds = same_classes_eq cs ds p.1 in
     λ i. h i ∷ t i
+same_classes_eq cs ds e = let k : false ≡ true = e in cc
 
 same_fields_eq : (f g : Fields) → same_fields f g ≡ true → f ≡ g
-same_fields_eq Constant Constant e = refl
-same_fields_eq Goto Goto e = refl
-same_fields_eq Branch Branch e = refl
-same_fields_eq f g e = let k : false ≡ true = e in cc
+same_fields_eq f g h1 = search (rules)
 
 -- the operation's row with these classes and fields
 pub record HasRow (op : Op) (cs : List Class) (f : Fields) : Type 0 where
@@ -123,19 +113,7 @@ pub record HasRow (op : Op) (cs : List Class) (f : Fields) : Type 0 where
   pub fields : row.fields ≡ f
 
 found_row : (op : Op) (cs : List Class) (f : Fields) → list_any (is_row_for op cs f) table ≡ true → HasRow op cs f
-found_row op cs f e =
-    let r = some_element (is_row_for op cs f) table e in
-    let p = and_parts (code_of r.0.op == code_of op) _ r.2 in
-    let q = and_parts (bytes_eq r.0.mnemonic (mnemonic_of op)) _ p.1 in
-    let s = and_parts (same_classes r.0.operand cs) _ q.1 in
-    record {
-      row = r.0;
-      known = r.1;
-      code = eqb-true (code_of r.0.op) (code_of op) p.0;
-      mnemonic = equal_bytes r.0.mnemonic (mnemonic_of op) q.0;
-      operand = same_classes_eq r.0.operand cs s.0;
-      fields = same_fields_eq r.0.fields f s.1;
-    }
+found_row op cs f h1 = search (rules, some_element, and_parts, eqb-true, equal_bytes, same_classes_eq, same_fields_eq)
 
 -- what holds of each entry of a table holds of what is found in it
 pub looked_up : {V : Type 0} (p : V → Bool) (t : List (ℕ × V)) (key : ℕ) (v : V)
@@ -182,11 +160,7 @@ is_word [] = false
 is_word (b ∷ bs) = nat_lt b 256 && (is_letter b && list_all is_name_byte bs)
 
 pub word_of_test : (w : List ℕ) → is_word w ≡ true → IsWord w
-word_of_test [] e = let k : false ≡ true = e in cc
-word_of_test (b ∷ bs) e =
-    let p = and_parts (nat_lt b 256) _ e in
-    let q = and_parts (is_letter b) _ p.1 in
-    (refl, ltb-true b 256 p.0, q.0, q.1)
+word_of_test w h1 = search (rules, and_parts, ltb-true)
 
 mnemonics_are_words : list_all (λ (e : ℕ × Op). is_word (mnemonic_of e.1)) op_table ≡ true
 mnemonics_are_words = refl
@@ -223,12 +197,7 @@ operations_keep_their_fields : list_all (λ (e : ℕ × Op). keeps_its_fields e.
 operations_keep_their_fields = refl
 
 plain_by : (insn : Insn) (op : Op) → plain_for insn (Some op) ≡ plain_as (operand_of op) insn
-plain_by insn op =
-    let p = and_parts (beq (uses_k op) (keeps_k (operand_of op))) _
-    (holds_for_all keeps_its_fields operations_keep_their_fields op) in
-    let k : uses_k op ≡ keeps_k (operand_of op) = (booleans_Decides _ _).0 p.0 in
-    let o : uses_offsets op ≡ keeps_offsets (operand_of op) = (booleans_Decides _ _).0 p.1 in
-    λ i. record insn { jt = kept (o i) insn.jt; jf = kept (o i) insn.jf; k = kept (k i) insn.k }
+plain_by insn op = search (rules, and_parts, holds_for_all, operations_keep_their_fields)
 
 pub plain_is : (insn : Insn) (op : Op) → op_of insn.code ≡ Some op → plain insn ≡ plain_as (operand_of op) insn
 plain_is insn op e = ap (plain_for insn) e ∙ plain_by insn op

@@ -1,4 +1,6 @@
 -- The tokens of a text that is spelled by segments.
+use Rattle.std.proofs.lemmas.Grind.{common_steps}
+use Rattle.std.proofs.Common.{rules}
 use Rattle.std.proofs.Common.{◌≡◌, ℕ, zero, suc, ◌+◌, ◌-◌, Bool, true, false, not, ◌&&◌, List, [], ◌∷◌, ◌++◌, length}
 use Rattle.std.proofs.Common.{refl, ap, sym, subst, ◌∙◌, arith, append_assoc, length-append, Option, Some, None}
 use Rattle.std.specs.Prelude.{◌==◌, slice_range}
@@ -27,9 +29,7 @@ lexemes_at at (mark b ∷ ss) = record { symbol = grammar.Symbol.mark b; at = at
 -- the bytes of the segment after a front
 part_at : (before : List ℕ) (b : ℕ) (bs rest : List ℕ)
     → slice_range (before ++ (b ∷ (bs ++ rest))) (length before) (length before + (1 + length bs)) ≡ b ∷ bs
-part_at before b bs rest =
-    let n : length before + (1 + length bs) - length before ≡ length (b ∷ bs) = omega (arith, one-add (length bs)) in
-    rw (n, drop_at before (b ∷ (bs ++ rest)) (length before) refl) (take_at (b ∷ bs) rest (length (b ∷ bs)) refl)
+part_at before b bs rest = search (rules, one-add, drop_at, take_at)
 
 -- the tokens of a text of segments, after a front, as the grammar sees them
 pub lexemes_spelled : (before : List ℕ) (ss : List Segment)
@@ -43,10 +43,8 @@ lexemes_spelled before (s ∷ ss) = by_kind s (moved s (lexemes_spelled (before 
         → lexemes_of (before ++ text_of (s ∷ ss)) (tokens_of (length before + length (bytes_of s)) (pieces_of ss))
         ≡ lexemes_at (length before + length (bytes_of s)) ss
     moved s e =
-        let t : (before ++ bytes_of s) ++ text_of ss ≡ before ++ (bytes_of s ++ text_of ss) =
-        append_assoc before (bytes_of s) (text_of ss) in
-        let n : length (before ++ bytes_of s) ≡ length before + length (bytes_of s) =
-        length-append before (bytes_of s) in
+        let t = append_assoc before (bytes_of s) (text_of ss) in
+        let n = length-append before (bytes_of s) in
         subst (λ k. lexemes_of (before ++ (bytes_of s ++ text_of ss)) (tokens_of k (pieces_of ss)) ≡ lexemes_at k ss)
         n
         (subst (λ x. lexemes_of x (tokens_of (length (before ++ bytes_of s)) (pieces_of ss))
@@ -59,8 +57,7 @@ lexemes_spelled before (s ∷ ss) = by_kind s (moved s (lexemes_spelled (before 
         ≡ lexemes_at (length before) (s ∷ ss)
     by_kind (blank b) e = e
     by_kind (word b bs) e =
-        let p : slice_range (before ++ (b ∷ (bs ++ text_of ss))) (length before) (length before + (1 + length bs))
-        ≡ b ∷ bs = part_at before b bs (text_of ss) in
+        let p = part_at before b bs (text_of ss) in
         let r =
         subst (λ m. lexemes_of (before ++ text_of (word b bs ∷ ss)) (tokens_of (length before + m) (pieces_of ss))
         ≡ lexemes_at (length before + m) ss) (sym (one-add (length bs))) e in
@@ -76,27 +73,15 @@ lexemes_spelled before (s ∷ ss) = by_kind s (moved s (lexemes_spelled (before 
 pub lexemes_append : (at : ℕ) (ss us : List Segment)
     → lexemes_at at (ss ++ us) ≡ lexemes_at at ss ++ lexemes_at (at + length (text_of ss)) us
 lexemes_append at [] us = let e : at + 0 ≡ at = omega arith in rw e refl
-lexemes_append at (blank b ∷ ss) us =
-    let e : at + suc (length (text_of ss)) ≡ at + 1 + length (text_of ss) = omega arith in
-    rw e (lexemes_append (at + 1) ss us)
-lexemes_append at (mark b ∷ ss) us =
-    let e : at + suc (length (text_of ss)) ≡ at + 1 + length (text_of ss) = omega arith in
-    rw e (ap (λ ts. record { symbol = grammar.Symbol.mark b; at = at } ∷ ts) (lexemes_append (at + 1) ss us))
+lexemes_append at (blank b ∷ ss) us = search (rules, text_of, lexemes_append (at + 1) ss us)
+lexemes_append at (mark b ∷ ss) us = search (rules, text_of, lexemes_append (at + 1) ss us)
 lexemes_append at (word b bs ∷ ss) us =
-    let e : at + suc (length (bs ++ text_of ss)) ≡ at + (1 + length bs) + length (text_of ss) =
-    omega (arith, length-append bs (text_of ss)) in
-    rw e (ap (λ ts. record { symbol = grammar.Symbol.word (b ∷ bs); at = at } ∷ ts)
-    (lexemes_append (at + (1 + length bs)) ss us))
+    search (rules, text_of, length-append, lexemes_append (at + (1 + length bs)) ss us)
 lexemes_append at (number b bs n ∷ ss) us =
-    let e : at + suc (length (bs ++ text_of ss)) ≡ at + (1 + length bs) + length (text_of ss) =
-    omega (arith, length-append bs (text_of ss)) in
-    rw e (ap (λ ts. record { symbol = grammar.Symbol.number n; at = at } ∷ ts)
-    (lexemes_append (at + (1 + length bs)) ss us))
+    search (rules, text_of, length-append, lexemes_append (at + (1 + length bs)) ss us)
 
 pub text_append : (ss us : List Segment) → text_of (ss ++ us) ≡ text_of ss ++ text_of us
-text_append [] us = refl
-text_append (s ∷ ss) us =
-    ap (λ t. bytes_of s ++ t) (text_append ss us) ∙ sym (append_assoc (bytes_of s) (text_of ss) (text_of us))
+text_append ss us = grind (arith, common_steps, bytes_of, append_assoc, text_of)
 
 pub are_append : (ss us : List Segment) → AreSegments ss → AreSegments us → AreSegments (ss ++ us)
 are_append [] us p q = q
@@ -144,10 +129,8 @@ apart_before fresh (mark c ∷ ss) us h b k =
 
 -- no token is a `-`
 abbrev no_minus : Segment → Bool
-no_minus (blank b) = true
-no_minus (word b bs) = true
-no_minus (number b bs n) = true
 no_minus (mark b) = not (b == 45)
+no_minus x = true
 
 abbrev pub are_positive : List Segment → Bool
 are_positive ss = list_all no_minus ss
@@ -167,12 +150,7 @@ never_minus at (word b bs ∷ ss) (suc j) s p g e = never_minus (at + (1 + lengt
 never_minus at (number b bs n ∷ ss) zero s p g e = let k : grammar.Symbol.number n ≡ grammar.Symbol.mark 45 = (cc) in
     cc
 never_minus at (number b bs n ∷ ss) (suc j) s p g e = never_minus (at + (1 + length bs)) ss j s p g e
-never_minus at (mark b ∷ ss) zero s p g e =
-    let k : grammar.Symbol.mark b ≡ grammar.Symbol.mark 45 = (cc) in
-    let m : b ≡ 45 = cc in
-    let q : not (b == 45) ≡ true = (and_parts (not (b == 45)) _ p).0 in
-    let z : false ≡ true = rw m at q in
-    cc
+never_minus at (mark b ∷ ss) zero s p g e = search (rules, and_parts)
 never_minus at (mark b ∷ ss) (suc j) s p g e = never_minus (at + 1) ss j s (and_parts (not (b == 45)) _ p).1 g e
 
 pub no_large_negative : (at : ℕ) (ss : List Segment) → are_positive ss ≡ true → (i : ℕ)

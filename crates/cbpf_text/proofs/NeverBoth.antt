@@ -1,15 +1,17 @@
 -- A text that assembles isn't refused.
-use Rattle.std.proofs.Common.{◌≡◌, ◌≢◌, refl, ap, subst, ℕ, ◌<◌, List, [], ◌∷◌, ◌++◌, length, arith}
-use Rattle.std.specs.Prelude.{All}
+use Rattle.std.proofs.lemmas.Grind.{common_steps}
+use Rattle.std.proofs.Common.{◌≡◌, ◌≢◌, refl, ap, subst, ℕ, ◌<◌, ◌-◌, ◌⊎◌, inl, inr, Some, List, [], ◌∷◌, ◌++◌, length, arith}
+use Rattle.std.specs.Prelude.{All, slice_get}
 use Rattle.cbpf_syntax.proofs.Outcomes as lexer
 use Rattle.cbpf_code.specs.declared.insn.Insn.{Insn}
-use Rattle.cbpf_syntax.specs.Refusals.{ParseFault as parse}
+use Rattle.cbpf_syntax.specs.Refusals.{ParseFault as parse, IsFirstRefusal, IsAccepted}
 use Rattle.cbpf_syntax.specs.Lexemes.{Lexeme, lexemes_of}
-use Rattle.cbpf_syntax.specs.Items.{Item}
+use Rattle.cbpf_syntax.specs.Items.{Item, Items}
 use Rattle.cbpf_syntax.proofs.OneReading.{one_reading}
 use Rattle.cbpf_syntax.proofs.Refused.{items_accepted}
 use Rattle.cbpf_syntax.proofs.Apart.{bytes_eq_self}
 use Rattle.cbpf_text.specs.declared.fault.AsmKind.{AsmKind}
+use Rattle.cbpf_text.specs.declared.fault.AsmKind.TheVariants as kinds
 use Rattle.cbpf_text.specs.declared.fault.AsmFault.{AsmFault}
 use Rattle.cbpf_text.specs.declared.fault.AsmFault.TheVariants as faults
 use Rattle.cbpf_text.specs.Labels.{name_of, times_among, AreDistinct}
@@ -31,17 +33,8 @@ all_middle P (z ∷ xs) x ys h = all_middle P xs x ys (all_after P z (xs ++ (x �
 
 pub no_repeat : (before : List Lexeme) (t : Lexeme) (after : List Lexeme) → AreDistinct (before ++ (t ∷ after))
     → times_among before (name_of t) ≢ 0 → ⊥
-no_repeat before t after d n =
-    let one : times_among (before ++ (t ∷ after)) (name_of t) ≡ 1 =
-    all_middle (λ u. times_among (before ++ (t ∷ after)) (name_of u) ≡ 1) before t after d in
-    absurd (omega (
-      arith,
-      one,
-      n,
-      times_append before (t ∷ after) (name_of t),
-      times_cons t after (name_of t),
-      times_hit t (name_of t) (bytes_eq_self (name_of t)),
-    ))
+no_repeat before t after h1 h2 =
+    grind (arith, common_steps, all_middle, times_append, times_cons, times_hit, bytes_eq_self)
 
 not_items : (is : List Item) (insns : List Insn) (kind : AsmKind) (at : ℕ) → All HasForm is → AreEncoded is insns
     → IsItemsFault is kind at → ⊥
@@ -54,17 +47,33 @@ not_items is insns kind at f e (set_twice t n r) =
 not_items is insns kind at f e (bad_use k a n d b) = all_middle (IsGoodUse is) b.before b.u b.after
     (subst (All (IsGoodUse is)) b.split (good_uses is 0 is insns e.each f)) k b.bad
 
+-- what refuses tokens: the grammar first, at one of them, or what their items say
+abbrev pub kind_of : parse → AsmKind
+kind_of (parse.Misplaced i) = kinds.Misplaced
+kind_of (parse.LargeNegative i) = kinds.LargeNumber
+kind_of parse.Unfinished = kinds.Unfinished
+
+abbrev pub index_of : List Lexeme → parse → ℕ
+index_of ts (parse.Misplaced i) = i
+index_of ts (parse.LargeNegative i) = i
+index_of ts parse.Unfinished = length ts - 1
+
+pub cause : (ts : List Lexeme) (kind : AsmKind) (at : ℕ) → IsTokensFault ts kind at
+    → ((f : parse) × IsFirstRefusal ts f × (kind ≡ kind_of f) × (t : Lexeme)
+    × (slice_get ts (index_of ts f) ≡ Some t) × (at ≡ t.at))
+    ⊎ ((is : List Item) × Items ts is × IsAccepted ts × IsItemsFault is kind at)
+cause ts kind at (misplaced i t r g) = inl (parse.Misplaced i, r, refl, t, g, refl)
+cause ts kind at (large_negative i t r g) = inl (parse.LargeNegative i, r, refl, t, g, refl)
+cause ts kind at (unfinished t r g) = inl (parse.Unfinished, r, refl, t, g, refl)
+cause ts kind at (of_items is k p i acc f) = inr (is, i, acc, f)
+
 not_tokens : (ts : List Lexeme) (insns : List Insn) (kind : AsmKind) (at : ℕ) → AssembleTokens ts insns
     → IsTokensFault ts kind at → ⊥
-not_tokens ts insns kind at a (misplaced i t r g) =
-    items_accepted ts a.items a.parsed a.ranged (parse.Misplaced i) r.place r.refused
-not_tokens ts insns kind at a (large_negative i t r g) =
-    items_accepted ts a.items a.parsed a.ranged (parse.LargeNegative i) r.place r.refused
-not_tokens ts insns kind at a (unfinished t r g) =
-    items_accepted ts a.items a.parsed a.ranged parse.Unfinished r.place r.refused
-not_tokens ts insns kind at a (of_items is k p i acc f) =
-    let e : a.items ≡ is = one_reading ts a.items is a.parsed i in
-    not_items is insns k p (items_forms ts is i) (subst (λ js. AreEncoded js insns) e a.encoded) f
+not_tokens ts insns kind at a r = elim (cause ts kind at r) [
+  | inl f ↦ items_accepted ts a.items a.parsed a.ranged f.0 f.1.place f.1.refused
+  | inr f ↦ let e : a.items ≡ f.0 = one_reading ts a.items f.0 a.parsed f.1 in
+      not_items f.0 insns kind at (items_forms ts f.0 f.1) (subst (λ js. AreEncoded js insns) e a.encoded) f.3
+]
 
 not_refused : (text : List ℕ) (insns : List Insn) (fault : AsmFault) (kind : AsmKind) (line : ℕ)
     → Assembles text insns → IsRefused text fault → fault ≡ faults.At kind line → ⊥

@@ -1,4 +1,5 @@
 -- A text assembles to at most one list of instructions.
+use Rattle.std.proofs.Common.{rules}
 use Rattle.std.proofs.Common.{◌≡◌, refl, sym, ◌∙◌, subst, ℕ, ◌+◌, List, [], ◌∷◌, Option, Some, None, arith}
 use Rattle.std.specs.Prelude.{slice_get}
 use Rattle.cbpf_syntax.proofs.Outcomes.{one_list}
@@ -17,39 +18,25 @@ use Rattle.cbpf_text.proofs.Lookups.{one_place}
 one_offset : (is : List Item) (index : ℕ) (o : Option Lexeme) (m n : ℕ) → IsOffset is index o m
     → IsOffset is index o n → m ≡ n
 one_offset is index None m n p q = p ∙ sym q
-one_offset is index (Some t) m n p q = let e : index + 1 + m ≡ index + 1 + n =
-    one_place is (index + 1 + m) (index + 1 + n) (name_of t) p.once p.sets q.sets in
+one_offset is index (Some t) m n p q = let e = one_place is (index + 1 + m) (index + 1 + n) (name_of t) p.once p.sets q.sets in
     omega (arith, e)
 
 one_fields : (is : List Item) (index : ℕ) (f : Fields) (k : ℕ) (ts : List Lexeme) (a b : Insn)
     → FillsFields f is index k ts a → FillsFields f is index k ts b → (a.jt ≡ b.jt) × (a.jf ≡ b.jf) × (a.k ≡ b.k)
-one_fields is index Constant k ts a b p q = (p.0 ∙ sym q.0, p.1 ∙ sym q.1, p.2 ∙ sym q.2)
-one_fields is index Goto k ts a b p q =
-    (p.0 ∙ sym q.0, p.1 ∙ sym q.1, one_offset is index (slice_get ts 0) a.k b.k p.2 q.2)
-one_fields is index Branch k ts a b p q = (
-  one_offset is index (slice_get ts 0) a.jt b.jt p.0.is q.0.is,
-  one_offset is index (slice_get ts 1) a.jf b.jf p.1.is q.1.is,
-  p.2 ∙ sym q.2,
-)
-one_fields is index Swapped k ts a b p q =
-    (p.0 ∙ sym q.0, one_offset is index (slice_get ts 0) a.jf b.jf p.1.is q.1.is, p.2 ∙ sym q.2)
+one_fields is index f k ts a b h1 h2 = search (rules, one_offset)
 
 one_insn : (is : List Item) (index : ℕ) (item : Item) (a b : Insn) → IsEncoded is index item a
     → IsEncoded is index item b → a ≡ b
-one_insn is index item a b p q =
-    let f = one_fields is index item.row.fields (literal_in item) (targets_in item) a b p.fields q.fields in
-    let c : a.code ≡ b.code = p.code ∙ sym q.code in
-    λ j. record { code = c j; jt = f.0 j; jf = f.1 j; k = f.2 j }
+one_insn is index item a b h1 h2 = search (rules, one_fields)
 
 one_each : (all : List Item) (index : ℕ) (is : List Item) (xs ys : List Insn) → EncodeEach all index is xs
     → EncodeEach all index is ys → xs ≡ ys
 one_each all index [] [] [] p q = refl
-one_each all index [] (x ∷ xs) ys p q = absurd p
 one_each all index [] [] (y ∷ ys) p q = absurd q
-one_each all index (i ∷ is) [] ys p q = absurd p
 one_each all index (i ∷ is) (x ∷ xs) [] p q = absurd q
 one_each all index (i ∷ is) (x ∷ xs) (y ∷ ys) p q = λ j.
     one_insn all index i x y p.0 q.0 j ∷ one_each all (index + 1) is xs ys p.1 q.1 j
+one_each all index is xs ys p q = absurd p
 
 one_of_tokens : (ts : List Lexeme) (xs ys : List Insn) → AssembleTokens ts xs → AssembleTokens ts ys → xs ≡ ys
 one_of_tokens ts xs ys a b = let e : a.items ≡ b.items = one_reading ts a.items b.items a.parsed b.parsed in

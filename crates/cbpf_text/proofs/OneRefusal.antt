@@ -1,5 +1,6 @@
 -- A text has at most one refusal with a line.
-use Rattle.std.proofs.Common.{◌≡◌, refl, sym, ◌∙◌, ap, subst, ℕ, ◌<◌, ◌≤◌, List, [], ◌∷◌, ◌++◌, length, Some, arith}
+use Rattle.std.proofs.Common.{rules}
+use Rattle.std.proofs.Common.{◌≡◌, ◌⊎◌, inl, inr, refl, sym, ◌∙◌, ap, subst, ℕ, ◌<◌, ◌≤◌, List, [], ◌∷◌, ◌++◌, length, Some, arith}
 use Rattle.std.specs.Prelude.{slice_get, All}
 use Rattle.cbpf_syntax.proofs.Outcomes as lexer
 use Rattle.cbpf_syntax.specs.Refusals.{ParseFault as parse}
@@ -23,7 +24,7 @@ use Rattle.cbpf_text.specs.Laws.{OneRefusal}
 use Rattle.cbpf_text.proofs.Lists.{get_within}
 use Rattle.cbpf_text.proofs.LabelLists.{distinct_once}
 use Rattle.cbpf_text.proofs.Lookups.{sets_some, one_place}
-use Rattle.cbpf_text.proofs.NeverBoth.{all_middle, no_repeat}
+use Rattle.cbpf_text.proofs.NeverBoth.{all_middle, no_repeat, kind_of, index_of, cause}
 
 -- two places of one list: the same, or one before the other
 data Order {A : Type 0} (b c : List A) (u v : A) : Type 0 where
@@ -31,23 +32,18 @@ data Order {A : Type 0} (b c : List A) (u v : A) : Type 0 where
   before : (w : List A) → c ≡ b ++ (u ∷ w) → Order b c u v
   after : (w : List A) → b ≡ c ++ (v ∷ w) → Order b c u v
 
-same_head : {A : Type 0} (x y : A) (xs ys : List A) → ◌≡◌ {A = List A} (x ∷ xs) (y ∷ ys) → x ≡ y
-same_head x y xs ys e = cc
-
-same_tail : {A : Type 0} (x y : A) (xs ys : List A) → ◌≡◌ {A = List A} (x ∷ xs) (y ∷ ys) → xs ≡ ys
-same_tail x y xs ys e = cc
-
 order_more : {A : Type 0} (x y : A) (b c : List A) (u v : A) → x ≡ y → Order b c u v → Order (x ∷ b) (y ∷ c) u v
 order_more x y b c u v e (same p) = same p
 order_more x y b c u v e (before w p) = before w (λ j. sym e j ∷ p j)
 order_more x y b c u v e (after w p) = after w (λ j. e j ∷ p j)
 
 order : {A : Type 0} (b c : List A) (u v : A) (r s : List A) → b ++ (u ∷ r) ≡ c ++ (v ∷ s) → Order b c u v
-order [] [] u v r s e = same (same_head u v r s e)
-order [] (y ∷ c) u v r s e = before c (ap (λ z. z ∷ c) (sym (same_head u y r (c ++ (v ∷ s)) e)))
-order (x ∷ b) [] u v r s e = after b (ap (λ z. z ∷ b) (same_head x v (b ++ (u ∷ r)) s e))
-order (x ∷ b) (y ∷ c) u v r s e = order_more x y b c u v (same_head x y (b ++ (u ∷ r)) (c ++ (v ∷ s)) e)
-    (order b c u v r s (same_tail x y (b ++ (u ∷ r)) (c ++ (v ∷ s)) e))
+order [] [] u v r s e = same (cc)
+order [] (y ∷ c) u v r s e = let h : u ≡ y = cc in before c (ap (λ z. z ∷ c) (sym h))
+order (x ∷ b) [] u v r s e = let h : x ≡ v = cc in after b (ap (λ z. z ∷ b) h)
+order (x ∷ b) (y ∷ c) u v r s e =
+    let h : x ≡ y = cc in
+    order_more x y b c u v h (order b c u v r s (let t : b ++ (u ∷ r) ≡ c ++ (v ∷ s) = cc in t))
 
 one_repeat : (ls : List Lexeme) (t u : Lexeme) → IsFirstRepeat ls t → IsFirstRepeat ls u → t ≡ u
 one_repeat ls t u a b = by_order (order a.before b.before t u a.after b.after (sym a.split ∙ b.split))
@@ -79,17 +75,7 @@ one_kind is u k l d (too_far p s b h) (too_far q t c g) = refl
 
 one_bad : (is : List Item) (uses : List Use) (k l : AsmKind) (m n : ℕ) → AreDistinct (set_labels is)
     → IsFirstBadUse is uses k m → IsFirstBadUse is uses l n → (k ≡ l) × (m ≡ n)
-one_bad is uses k l m n d a b = by_order (order a.before b.before a.u b.u a.after b.after (sym a.split ∙ b.split))
-  where
-    by_order : Order a.before b.before a.u b.u → (k ≡ l) × (m ≡ n)
-    by_order (same e) = (
-      one_kind is b.u k l d (subst (λ u. IsUseFault is u k) e a.bad) b.bad,
-      a.place ∙ (ap (λ (u : Use). u.target.at) e ∙ sym b.place),
-    )
-    by_order (before w e) =
-        absurd (all_middle (IsGoodUse is) a.before a.u w (subst (All (IsGoodUse is)) e b.good) k a.bad)
-    by_order (after w e) =
-        absurd (all_middle (IsGoodUse is) b.before b.u w (subst (All (IsGoodUse is)) e a.good) l b.bad)
+one_bad is uses k l m n h1 h2 h3 = search (rules, order, one_kind, all_middle)
 
 empty : (is : List Item) → is ≡ [] → 0 < length is → ⊥
 empty is e l = let z : length is ≡ 0 = ap length e in omega (arith, z, l)
@@ -103,9 +89,7 @@ of_length is item e g = let h : 4096 < length is = get_within is 4096 item g in 
 
 one_mnemonic : (is : List Item) (i j : Item) (t u : Lexeme) → slice_get is 4096 ≡ Some i → slice_get is 4096 ≡ Some j
     → slice_get i.body 0 ≡ Some t → slice_get j.body 0 ≡ Some u → t ≡ u
-one_mnemonic is i j t u g h p q =
-    let e : i ≡ j = some-same i j (sym g ∙ h) in
-    some-same t u (sym p ∙ (ap (λ (k : Item). slice_get k.body 0) e ∙ q))
+one_mnemonic is i j t u h1 h2 h3 h4 = search (rules, some-same)
 
 one_of_items : (is : List Item) (k l : AsmKind) (m n : ℕ) → IsItemsFault is k m → IsItemsFault is l n
     → (k ≡ l) × (m ≡ n)
@@ -130,63 +114,22 @@ one_of_items is k l m n (bad_use c p s d b) (set_twice t o r) =
     absurd (no_repeat r.before t r.after (subst AreDistinct r.split d) r.given)
 one_of_items is k l m n (bad_use c p s d b) (bad_use f q o g h) = one_bad is (uses_from 0 is) c f p q d b h
 
-same_misplaced : (i j : ℕ) → parse.Misplaced i ≡ parse.Misplaced j → i ≡ j
-same_misplaced i j e = cc
-
-same_large : (i j : ℕ) → parse.LargeNegative i ≡ parse.LargeNegative j → i ≡ j
-same_large i j e = cc
-
-misplaced_large : (i j : ℕ) → parse.Misplaced i ≡ parse.LargeNegative j → ⊥
-misplaced_large i j e = cc
-
-misplaced_unfinished : (i : ℕ) → parse.Misplaced i ≡ parse.Unfinished → ⊥
-misplaced_unfinished i e = cc
-
-large_unfinished : (i : ℕ) → parse.LargeNegative i ≡ parse.Unfinished → ⊥
-large_unfinished i e = cc
-
-one_token : (ts : List Lexeme) (i j : ℕ) (t u : Lexeme) → i ≡ j → slice_get ts i ≡ Some t
-    → slice_get ts j ≡ Some u → t.at ≡ u.at
-one_token ts i j t u e g h = ap (λ (v : Lexeme). v.at) (some-same t u (sym g ∙ (ap (slice_get ts) e ∙ h)))
-
 one_of_tokens : (ts : List Lexeme) (k l : AsmKind) (m n : ℕ) → IsTokensFault ts k m → IsTokensFault ts l n
     → (k ≡ l) × (m ≡ n)
-one_of_tokens ts k l m n (misplaced i t r g) (misplaced j u s h) = (
-  refl,
-  one_token ts i j t u (same_misplaced i j (grammar.one_refusal ts (parse.Misplaced i) (parse.Misplaced j) r s)) g h,
-)
-one_of_tokens ts k l m n (misplaced i t r g) (large_negative j u s h) =
-    absurd (misplaced_large i j (grammar.one_refusal ts (parse.Misplaced i) (parse.LargeNegative j) r s))
-one_of_tokens ts k l m n (misplaced i t r g) (unfinished u s h) =
-    absurd (misplaced_unfinished i (grammar.one_refusal ts (parse.Misplaced i) parse.Unfinished r s))
-one_of_tokens ts k l m n (misplaced i t r g) (of_items is c p x a f) =
-    absurd (a (parse.Misplaced i) r.place r.refused)
-one_of_tokens ts k l m n (large_negative i t r g) (misplaced j u s h) =
-    absurd (misplaced_large j i (grammar.one_refusal ts (parse.Misplaced j) (parse.LargeNegative i) s r))
-one_of_tokens ts k l m n (large_negative i t r g) (large_negative j u s h) = (
-  refl,
-  one_token ts i j t u
-      (same_large i j (grammar.one_refusal ts (parse.LargeNegative i) (parse.LargeNegative j) r s)) g h,
-)
-one_of_tokens ts k l m n (large_negative i t r g) (unfinished u s h) =
-    absurd (large_unfinished i (grammar.one_refusal ts (parse.LargeNegative i) parse.Unfinished r s))
-one_of_tokens ts k l m n (large_negative i t r g) (of_items is c p x a f) =
-    absurd (a (parse.LargeNegative i) r.place r.refused)
-one_of_tokens ts k l m n (unfinished t r g) (misplaced j u s h) =
-    absurd (misplaced_unfinished j (grammar.one_refusal ts (parse.Misplaced j) parse.Unfinished s r))
-one_of_tokens ts k l m n (unfinished t r g) (large_negative j u s h) =
-    absurd (large_unfinished j (grammar.one_refusal ts (parse.LargeNegative j) parse.Unfinished s r))
-one_of_tokens ts k l m n (unfinished t r g) (unfinished u s h) =
-    (refl, ap (λ (v : Lexeme). v.at) (some-same t u (sym g ∙ h)))
-one_of_tokens ts k l m n (unfinished t r g) (of_items is c p x a f) = absurd (a parse.Unfinished r.place r.refused)
-one_of_tokens ts k l m n (of_items is c p x a f) (misplaced j u s h) =
-    absurd (a (parse.Misplaced j) s.place s.refused)
-one_of_tokens ts k l m n (of_items is c p x a f) (large_negative j u s h) =
-    absurd (a (parse.LargeNegative j) s.place s.refused)
-one_of_tokens ts k l m n (of_items is c p x a f) (unfinished u s h) = absurd (a parse.Unfinished s.place s.refused)
-one_of_tokens ts k l m n (of_items is c p x a f) (of_items js d q y b g) =
-    let e : is ≡ js = one_reading ts is js x y in
-    one_of_items js c d p q (subst (λ zs. IsItemsFault zs c p) e f) g
+one_of_tokens ts k l m n a b = elim (cause ts k m a) [
+  | inl f ↦ elim (cause ts l n b) [
+    | inl g ↦
+        let e : f.0 ≡ g.0 = grammar.one_refusal ts f.0 g.0 f.1 g.1 in
+        let t : f.3 ≡ g.3 = some-same f.3 g.3 (sym f.4 ∙ (ap (λ h. slice_get ts (index_of ts h)) e ∙ g.4)) in
+        (f.2 ∙ (ap kind_of e ∙ sym g.2), f.5 ∙ (ap (λ (v : Lexeme). v.at) t ∙ sym g.5))
+    | inr g ↦ absurd (g.2 f.0 f.1.place f.1.refused)
+  ]
+  | inr f ↦ elim (cause ts l n b) [
+    | inl g ↦ absurd (f.2 g.0 g.1.place g.1.refused)
+    | inr g ↦ let e : f.0 ≡ g.0 = one_reading ts f.0 g.0 f.1 g.1 in
+        one_of_items g.0 k l m n (subst (λ is. IsItemsFault is k m) e f.3) g.3
+  ]
+]
 
 same_at : (k l : AsmKind) (m n : ℕ) → faults.At k m ≡ faults.At l n → (k ≡ l) × (m ≡ n)
 same_at k l m n e = (cc, cc)

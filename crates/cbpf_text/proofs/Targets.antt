@@ -1,4 +1,5 @@
 -- The targets of a statement: they are those of its item.
+use Rattle.std.proofs.Common.{rules}
 use Rattle.std.proofs.Common.{◌≡◌, refl, sym, ◌∙◌, subst, ℕ, true, false, List, [], ◌∷◌, length, Option, Some, None}
 use Rattle.std.proofs.Common.{arith}
 use Rattle.std.specs.Prelude.{slice_get}
@@ -17,23 +18,14 @@ use Rattle.cbpf_text.proofs.Forms.{takes, form_takes}
 -- a jump has its first target
 has_first : (f : Fields) (ls : List Lexeme) (n : ℕ) (s t : Target) → (f ≡ Constant → ⊥) → takes f (length ls) ≡ true
     → AreTargets n s t ls → (l : Lexeme) × (Some l ≡ slice_get ls 0) × IsTarget s l
-has_first f (l ∷ []) n s t h e a = (l, refl, a.1)
-has_first f (l ∷ m ∷ ls) n s t h e a = (l, refl, a.1)
-has_first Constant [] n s t h e a = absurd (h refl)
-has_first Goto [] n s t h e a = let k : false ≡ true = e in cc
-has_first Branch [] n s t h e a = let k : false ≡ true = e in cc
-has_first Swapped [] n s t h e a = let k : false ≡ true = e in cc
+has_first f ls n s t h1 h2 h3 = search (rules)
 
 pub has_second : (ls : List Lexeme) (n : ℕ) (s t : Target) → n ≡ 2 → AreTargets n s t ls
     → (l : Lexeme) × (Some l ≡ slice_get ls 1) × IsTarget t l
-has_second [] n s t e a = absurd (omega (arith, e, a))
-has_second (l ∷ []) n s t e a = absurd (omega (arith, e, a.0))
-has_second (l ∷ m ∷ ls) n s t e a = (m, refl, a.2)
+has_second ls n s t h1 h2 = search (rules)
 
 pub no_second : (ls : List Lexeme) (n : ℕ) (s t : Target) → (n ≡ 2 → ⊥) → AreTargets n s t ls → None ≡ slice_get ls 1
-no_second [] n s t e a = refl
-no_second (l ∷ []) n s t e a = refl
-no_second (l ∷ m ∷ ls) n s t e a = absurd (e a.0)
+no_second ls n s t h1 h2 = search (rules)
 
 pub first_target : (item : Item) (s : Statement) (f : Fields) → IsStatement s item → HasForm item → s.fields ≡ f
     → (f ≡ Constant → ⊥) → (l : Lexeme) × (Some l ≡ slice_get (targets_in item) 0) × IsTarget s.first l
@@ -43,38 +35,17 @@ first_target item s f h form e jumps = has_first item.row.fields (targets_in ite
 pub goto_encoded : (is : List Item) (index : ℕ) (item : Item) (s : Statement) (d : ℕ) (l : Lexeme)
     → IsStatement s item → s.fields ≡ Goto → Some l ≡ slice_get (targets_in item) 0 → IsOffset is index (Some l) d
     → IsEncoded is index item (record { code = s.code; jt = 0; jf = 0; k = d })
-goto_encoded is index item s d l h e t p = record {
-  code = h.code;
-  fields = subst (λ (f : Fields).
-      FillsFields f is index (literal_in item) (targets_in item) (record { code = s.code; jt = 0; jf = 0; k = d }))
-      (sym e ∙ h.fields) (refl, refl, subst (λ (o : Option Lexeme). IsOffset is index o d) t p);
-}
+goto_encoded is index item s d l h1 h2 h3 h4 = search (rules)
 
 pub swapped_encoded : (is : List Item) (index : ℕ) (item : Item) (s : Statement) (d : ℕ) (l : Lexeme)
     → IsStatement s item → s.fields ≡ Swapped → Some l ≡ slice_get (targets_in item) 0
     → IsShortOffset is index (Some l) d
     → IsEncoded is index item (record { code = s.code; jt = 0; jf = d; k = s.literal })
-swapped_encoded is index item s d l h e t p = record {
-  code = h.code;
-  fields = subst (λ (f : Fields). FillsFields f is index (literal_in item) (targets_in item)
-      (record { code = s.code; jt = 0; jf = d; k = s.literal }))
-      (sym e ∙ h.fields) (refl, subst (λ (o : Option Lexeme). IsShortOffset is index o d) t p, h.literal);
-}
+swapped_encoded is index item s d l h1 h2 h3 h4 = search (rules)
 
 -- a conditional jump without a second target
 pub branch_encoded : (is : List Item) (index : ℕ) (item : Item) (s : Statement) (d : ℕ) (l : Lexeme)
     → IsStatement s item → s.fields ≡ Branch → Some l ≡ slice_get (targets_in item) 0
     → IsShortOffset is index (Some l) d → (s.targets ≡ 2 → ⊥)
     → IsEncoded is index item (record { code = s.code; jt = d; jf = 0; k = s.literal })
-branch_encoded is index item s d l h e t p one = record {
-  code = h.code;
-  fields = subst (λ (f : Fields). FillsFields f is index (literal_in item) (targets_in item)
-      (record { code = s.code; jt = d; jf = 0; k = s.literal }))
-      (sym e ∙ h.fields) (
-        subst (λ (o : Option Lexeme). IsShortOffset is index o d) t p,
-        subst (λ (o : Option Lexeme). IsShortOffset is index o 0)
-            (no_second (targets_in item) s.targets s.first s.second one h.targets)
-            (record { is = refl; short = omega arith }),
-        h.literal,
-      );
-}
+branch_encoded is index item s d l h1 h2 h3 h4 h5 = search (rules, no_second)

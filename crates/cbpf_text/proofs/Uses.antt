@@ -1,4 +1,5 @@
 -- The targets of one instruction: which are good, and the first that is refused.
+use Rattle.std.proofs.Common.{rules}
 use Rattle.std.proofs.Common.{◌≡◌, refl, sym, subst, ℕ, ◌+◌, ◌-◌, ◌<◌, ◌≤◌, Bool, true, List, [], ◌∷◌, map, Option}
 use Rattle.std.proofs.Common.{Some, None, arith}
 use Rattle.std.specs.Prelude.{slice_get}
@@ -52,8 +53,6 @@ first_bad is index short (t ∷ ts) kind at f = record {
 pub second_bad : (is : List Item) (index : ℕ) (ts : List Lexeme) (n : ℕ) (kind : AsmKind) (at : ℕ)
     → IsShortOffset is index (slice_get ts 0) n → IsTargetFault is index true (slice_get ts 1) kind at
     → IsFirstBadUse is (map (use_of index true) ts) kind at
-second_bad is index [] n kind at o f = absurd f
-second_bad is index (t ∷ []) n kind at o f = absurd f
 second_bad is index (t ∷ u ∷ ts) n kind at o f = record {
   before = use_of index true t ∷ [];
   u = use_of index true u;
@@ -63,14 +62,12 @@ second_bad is index (t ∷ u ∷ ts) n kind at o f = record {
   bad = f.0;
   place = f.1;
 }
+second_bad is index x n kind at o f = absurd f
 
 -- what a look-up says of a target
 pub found_after : (is : List Item) (name : List ℕ) (index place : ℕ) (o : Option ℕ) → IsLookup is name o
     → o ≡ Some place → index < place → IsPlace is name (index + 1 + (place - index - 1))
-found_after is name index place o l e h =
-    let p : IsPlace is name place = subst (IsLookup is name) e l in
-    let n : place ≡ index + 1 + (place - index - 1) = omega (arith, h) in
-    subst (IsPlace is name) n p
+found_after is name index place o h1 h2 h3 = search (rules)
 
 pub found_before : (is : List Item) (index : ℕ) (short : Bool) (t : Lexeme) (place : ℕ) (o : Option ℕ)
     → IsLookup is (name_of t) o → o ≡ Some place → place ≤ index

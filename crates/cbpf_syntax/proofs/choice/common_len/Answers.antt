@@ -1,3 +1,4 @@
+use Rattle.std.proofs.Common.{rules}
 use Rattle.std.proofs.Common.{◌≡◌, List, [], ◌∷◌, drop, refl, arith, Bool}
 use Rattle.std.specs.List.{common_prefix_len}
 use Rattle.std.proofs.lemmas.List.{drop_all}
@@ -12,8 +13,4 @@ none_left e [] = refl
 none_left e (x ∷ xs) = refl
 
 pub returns-else-n-tokens : goal.returns-else-n-tokens
-returns-else-n-tokens c =
-    let d : drop c.loop-n.n c.args.tokens.now ≡ [] = drop_all c.loop-n.n c.args.tokens.now c.if-n-tokens.false in
-    let z = none_left (λ (k : Class) (t : Lexeme). fits (class_of k) (symbol_of t.symbol))
-    (drop c.loop-n.n c.args.form.now) in
-    omega (arith, (rw (d, z) at c.loop-n.invariant.2))
+returns-else-n-tokens c = search (rules, drop_all, none_left)

@@ -1,3 +1,4 @@
+use Rattle.std.proofs.lemmas.Grind.{common_steps}
 use Rattle.std.proofs.Common.{◌∙◌, sym, arith}
 use Rattle.std.proofs.lemmas.List.Sums.{common_prefix_len-le}
 use Rattle.std.proofs.lemmas.Bool.{not-false}
@@ -16,22 +17,10 @@ returns-then-n-tokens c e =
     (λ _ q. omega (arith, q, c.if-n-form.true))
 
 pub returns-else-n-tokens : goal.returns-else-n-tokens
-returns-else-n-tokens c e =
-    let l = (common_prefix_len-le (λ (k : Class) (t : Lexeme). fits (class_of k) (symbol_of t.symbol)) c.args.form.now
-    c.args.tokens.now).1 in
-    no_better_form c.args.form.now c.args.tokens.now c.args.best.now (omega (arith, l, c.if-n-tokens.false))
-    (λ _ q. omega (arith, q, c.if-n-form.true))
+returns-else-n-tokens c e = grind (arith, common_steps, common_prefix_len-le, no_better_form)
 
 pub returns-then-n-form-2 : goal.returns-then-n-form-2
-returns-then-n-form-2 c e =
-    let l = (common_prefix_len-le (λ (k : Class) (t : Lexeme). fits (class_of k) (symbol_of t.symbol)) c.args.form.now
-    c.args.tokens.now).0 in
-    no_better_form c.args.form.now c.args.tokens.now c.args.best.now (omega (arith, l, c.if-n-form.false))
-    (λ part. absurd (part (c.is_whole.ensures.0 (not-false c.is_whole.result e))))
+returns-then-n-form-2 c e = grind (arith, common_steps, common_prefix_len-le, no_better_form, not-false)
 
 pub returns-else-n-form-2 : goal.returns-else-n-form-2
-returns-else-n-form-2 c e =
-    let l = (common_prefix_len-le (λ (k : Class) (t : Lexeme). fits (class_of k) (symbol_of t.symbol)) c.args.form.now
-    c.args.tokens.now).0 in
-    no_better_form c.args.form.now c.args.tokens.now c.args.best.now (omega (arith, l, c.if-n-form.false))
-    (λ _ q. c.if-n-form-2.false (sym q))
+returns-else-n-form-2 c e = grind (arith, common_steps, common_prefix_len-le, no_better_form)

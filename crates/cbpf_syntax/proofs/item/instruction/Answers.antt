@@ -22,33 +22,14 @@ returns-in_default-symbol c = no_word_stuck c.args.tokens.now c.in-Some.first.no
 
 pub returns-in_default-mnemonic_named : goal.returns-in_default-mnemonic_named
 returns-in_default-mnemonic_named c =
-    let ts = c.args.tokens.now in
-    let split = first_symbol ts c.in-Some.first.now (Word c.in-Word.word)
-    (ltb-true 0 _ (sym c.in-Some.ensures.item.0)) c.in-Some.ensures.item.1 c.in-Word.is in
-    let us = map lexeme_of (drop 1 ts) in
-    elim c.if-is_reserved.branch [
-      | then-is_reserved w ↦ rw (split, w.result-is) (reserved_stuck c.in-Word.word.now c.in-Some.first.now.at us
-          c.in_default-mnemonic_named.ensures.none (sym c.is_reserved.ensures ∙ w.if-is_reserved.true))
-      | else-is_reserved w ↦ rw (split, w.result-is) (word_stuck c.in-Word.word.now c.in-Some.first.now.at us
-          (sym c.is_reserved.ensures ∙ w.if-is_reserved.false) (rw split at c.requires))
-    ]
+    search (rules, first_symbol, ltb-true, then-is_reserved, reserved_stuck, else-is_reserved, word_stuck)
 
 pub best_row-best-requires-clause-some : goal.best_row-best-requires-clause-some
 best_row-best-requires-clause-some c = rw (length-map c.in-Some-mnemonic_named.mnemonic.now.entries.now _) at
     (has_modes (mnemonic_of c.in-Some-mnemonic_named.mnemonic.now) c.in-Some-mnemonic_named.ensures.found)
 
 pub overflow_add-result : goal.overflow_add-result
-overflow_add-result c =
-    let ts = c.args.tokens.now in
-    let b = rw (take_rest ts 1) at c.best_row-best.ensures in
-    let l = (common_prefix_len-le (λ k (t : lexemes.Lexeme). fits k t.symbol)
-    (map class_of c.best_row-best.result.row.operand.now) (map lexeme_of (drop 1 ts))).1 in
-    let some : 0 < length c.args.tokens.now = ltb-true 0 _ (sym c.in-Some.ensures.item.0) in
-    let m : length (map lexeme_of (drop 1 c.args.tokens.now)) ≡ length (drop 1 c.args.tokens.now) =
-    length-map (drop 1 c.args.tokens.now) lexeme_of in
-    let d : length (drop 1 c.args.tokens.now) ≡ length c.args.tokens.now - 1 = length-drop 1 c.args.tokens.now in
-    let le : 1 + c.best_row-best.result.len ≤ length c.args.tokens.now = omega (arith, b.size, l, m, d, some) in
-    search (rules, le)
+overflow_add-result c = search (rules, take_rest, common_prefix_len-le, ltb-true, length-map, length-drop)
 
 pub returns-then-is_whole : goal.returns-then-is_whole
 returns-then-is_whole c =
@@ -56,8 +37,7 @@ returns-then-is_whole c =
     let split = first_symbol ts c.in-Some.first.now (Word c.in-Word.word)
     (ltb-true 0 _ (sym c.in-Some.ensures.item.0)) c.in-Some.ensures.item.1 c.in-Word.is in
     let row = c.best_row-best.result.row in
-    let n : length (map class_of c.best_row-best.result.row.operand.now)
-    ≡ length c.best_row-best.result.row.operand.now = length-map c.best_row-best.result.row.operand.now class_of in
+    let n = length-map c.best_row-best.result.row.operand.now class_of in
     let next = mnemonic_whole c.in-Word.word.now c.in-Some.first.now.at (map lexeme_of (drop 1 ts))
     (mnemonic_of c.in-Some-mnemonic_named.mnemonic.now) c.best_row-best.result c.in-Some-mnemonic_named.ensures.found
     c.in-Some-mnemonic_named.ensures.word (rw (take_rest ts 1) at c.best_row-best.ensures) (n
@@ -69,8 +49,7 @@ returns-else-is_whole c =
     let ts = c.args.tokens.now in
     let split = first_symbol ts c.in-Some.first.now (Word c.in-Word.word)
     (ltb-true 0 _ (sym c.in-Some.ensures.item.0)) c.in-Some.ensures.item.1 c.in-Word.is in
-    let n : length (map class_of c.best_row-best.result.row.operand.now)
-    ≡ length c.best_row-best.result.row.operand.now = length-map c.best_row-best.result.row.operand.now class_of in
+    let n = length-map c.best_row-best.result.row.operand.now class_of in
     rw (split, one-add) (mnemonic_part c.in-Word.word.now c.in-Some.first.now.at (map lexeme_of (drop 1 ts))
     (mnemonic_of c.in-Some-mnemonic_named.mnemonic.now) c.best_row-best.result c.in-Some-mnemonic_named.ensures.found
     c.in-Some-mnemonic_named.ensures.word (rw (take_rest ts 1) at c.best_row-best.ensures)

@@ -10,5 +10,3 @@ returns-in_err-token-clause-fault g c =
     rw (p.1, p.2) (text_fault c.args.text.now c.loop-found.lexer.at c.loop-found.found.items c.in_err-token.field-0.0
     inv.lexed (rw inv.text at c.in_err-token.ensures.fault))
 
-pub returns-clause-lexed : goal.returns-clause-lexed
-returns-clause-lexed g c = search rules

@@ -1,3 +1,4 @@
+use Rattle.std.proofs.Common.{rules}
 use Rattle.std.proofs.Common.{true, false, sym, ◌∙◌, arith}
 use Rattle.cbpf_syntax.specs.Pieces.{is_line_blank}
 use Rattle.cbpf_syntax.proofs.LeadTable.{letter_lead, hash_lead, other_lead}
@@ -36,6 +37,4 @@ returns-else-is_line_blank c = hash_lead (is_line_blank c.args.before.now) false
     (sym c.is_line_blank.ensures ∙ c.if-is_line_blank.false) (omega arith) c.if-lead-eq72.true
 
 pub returns-else-lead-eq83 : goal.returns-else-lead-eq83
-returns-else-lead-eq83 c =
-    other_lead (is_line_blank c.args.before.now) c.args.b (omega arith) c.if-lead-eq76.false c.if-lead-eq68.false
-    c.if-lead-eq77.false c.if-lead-eq66.false c.if-lead-eq67.false c.if-lead-eq72.false c.if-lead-eq83.false
+returns-else-lead-eq83 c = search (rules, other_lead)

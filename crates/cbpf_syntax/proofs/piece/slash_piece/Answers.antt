@@ -12,8 +12,5 @@ pub returns-in-None : goal.returns-in-None
 returns-in-None c fresh b e = rw (take_rest c.args.rest.now 1) (open_at fresh b c.args.rest.now e c.if-rest-ne42.false
     (sym (rw (take_rest c.args.rest.now 1) at c.in-None.ensures.first)))
 
-pub returns-then-rest-eq0 : goal.returns-then-rest-eq0
-returns-then-rest-eq0 c fresh b e = slash_last fresh b c.args.rest.now e c.if-rest-eq0.true
-
 pub returns-then-rest-ne42 : goal.returns-then-rest-ne42
 returns-then-rest-ne42 c fresh b e = slash_past fresh b c.args.rest.now e c.if-rest-ne42.true

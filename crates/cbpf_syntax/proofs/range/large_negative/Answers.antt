@@ -1,3 +1,4 @@
+use Rattle.std.proofs.Common.{rules}
 use Rattle.std.proofs.Common.{◌≡◌, ◌∙◌, ◌<◌, sym, true, false, length, map, arith, below_more}
 use Rattle.std.proofs.lemmas.List.{length-map}
 use Rattle.cbpf_syntax.specs.Views.{lexeme_of}
@@ -16,6 +17,4 @@ loop-i-preserved c =
     (λ h. let k : true ≡ false = sym (c.is_large_negative.ensures.1 h) ∙ c.if-is_large_negative.false in cc))
 
 pub returns-clause-none : goal.returns-clause-none
-returns-clause-none c k h = let l = large_within (map lexeme_of c.args.tokens.now) k h in
-    let m : k < length c.args.tokens.now = rw (length-map c.args.tokens.now lexeme_of) at l in
-    c.loop-i.invariant k (omega arith) h
+returns-clause-none c k h = search (rules, large_within, length-map)

@@ -6,34 +6,13 @@ use Rattle.cbpf_syntax.proofs.Taking.{place_mapped}
 use Rattle.cbpf_syntax.proofs.reader.first_large.Goals as goal
 
 pub bounds-tokens-i : goal.bounds-tokens-i
-bounds-tokens-i c = omega (
-  arith,
-  large_within (map lexeme_of c.args.tokens.now) c.in-Some-large_negative.i c.in-Some-large_negative.ensures.large,
-  length-map c.args.tokens.now lexeme_of,
-)
+bounds-tokens-i c = search (rules, large_within, length-map)
 
 pub offset_bounds-tokens-i : goal.offset_bounds-tokens-i
-offset_bounds-tokens-i c = let l : c.in-Some-large_negative.i < length c.args.tokens.now = omega (
-  arith,
-  large_within (map lexeme_of c.args.tokens.now) c.in-Some-large_negative.i c.in-Some-large_negative.ensures.large,
-  length-map c.args.tokens.now lexeme_of,
-) in search (rules, l)
+offset_bounds-tokens-i c = search (rules, large_within, length-map)
 
 pub returns-in-Some-large_negative-clause-new : goal.returns-in-Some-large_negative-clause-new
-returns-in-Some-large_negative-clause-new c =
-    let l : c.in-Some-large_negative.i < length c.args.tokens.now = omega (
-      arith,
-      large_within (map lexeme_of c.args.tokens.now) c.in-Some-large_negative.i
-          c.in-Some-large_negative.ensures.large,
-      length-map c.args.tokens.now lexeme_of,
-    ) in
-    rw c.in-None.is (
-      c.in-Some-large_negative.i,
-      l,
-      c.in-Some-large_negative.ensures.large,
-      c.in-Some-large_negative.ensures.first,
-      place_mapped c.args.tokens.now c.in-Some-large_negative.i _ l,
-    )
+returns-in-Some-large_negative-clause-new c = search (rules, large_within, length-map, place_mapped)
 
 pub returns-in-None-large_negative-clause-new : goal.returns-in-None-large_negative-clause-new
 returns-in-None-large_negative-clause-new c = rw c.in-None.is (λ k l h. c.in-None-large_negative.ensures.none k h)

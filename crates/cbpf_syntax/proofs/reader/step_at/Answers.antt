@@ -1,3 +1,4 @@
+use Rattle.std.proofs.Common.{rules}
 use Rattle.std.proofs.Common.{sym, map, arith}
 use Rattle.std.proofs.lemmas.List.{length-map}
 use Rattle.cbpf_syntax.specs.Views.{lexeme_of}
@@ -12,11 +13,7 @@ pub returns-in-Ok-clause-word : goal.returns-in-Ok-clause-word
 returns-in-Ok-clause-word c l = next_word (map lexeme_of c.args.tokens.now) _ _ c.in-Ok.ensures
 
 pub returns-in-Err-clause-within : goal.returns-in-Err-clause-within
-returns-in-Err-clause-within c = omega (
-  arith,
-  stuck_within c.in-Err.n (map lexeme_of c.args.tokens.now) c.in-Err.ensures,
-  length-map c.args.tokens.now lexeme_of,
-)
+returns-in-Err-clause-within c = search (rules, stuck_within, length-map)
 
 pub returns-in-Err-clause-word : goal.returns-in-Err-clause-word
 returns-in-Err-clause-word c l = stuck_word c.in-Err.n (map lexeme_of c.args.tokens.now) c.in-Err.ensures l

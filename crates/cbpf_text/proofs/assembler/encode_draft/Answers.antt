@@ -13,10 +13,7 @@ returns-then-is_empty-clause-refused g c is d f =
     kept_none _ _ _ is (draft_kept c.args.draft.now.excess _ _ _ is [] c.in_default.not-Some d) (search rules)
 
 pub returns-in-Some-repeat-clause-refused : goal.returns-in-Some-repeat-clause-refused
-returns-in-Some-repeat-clause-refused g c is d f =
-    let k = draft_kept c.args.draft.now.excess _ _ _ is [] c.in_default.not-Some d in
-    kept_repeat _ c.args.draft.now.labels.repeat _ is c.in-Some-repeat.at c.in-Some-repeat.is
-    (kept_length _ _ _ is k (λ z. search (rules, z))) k
+returns-in-Some-repeat-clause-refused g c is d f = search (rules, draft_kept, kept_repeat, kept_length)
 
 pub returns-clause-encoded : goal.returns-clause-encoded
 returns-clause-encoded g c is d f =

@@ -6,10 +6,6 @@ use Rattle.cbpf_text.specs.Tables.{same_name}
 use Rattle.cbpf_text.proofs.Kept.{kept_past, kept_item, kept_excess, none_if}
 use Rattle.cbpf_text.proofs.draft.add_instruction.Goals as goal
 
-pub returns-then-is_some-clause-item : goal.returns-then-is_some-clause-item
-returns-then-is_some-clause-item g c is ls d =
-    kept_past c.args.draft.now.excess _ _ _ is _ ls _ c.if-is_some.ensures d
-
 pub returns-then-len-eq-MOST_INSTRUCTIONS-clause-item : goal.returns-then-len-eq-MOST_INSTRUCTIONS-clause-item
 returns-then-len-eq-MOST_INSTRUCTIONS-clause-item g c is ls d =
     let none = none_if c.args.draft.now.excess c.if-is_some.ensures in

@@ -6,10 +6,6 @@ use Rattle.cbpf_text.specs.Tables.{same_name}
 use Rattle.cbpf_text.proofs.Kept.{kept_skip, kept_label, none_if}
 use Rattle.cbpf_text.proofs.draft.add_label.Goals as goal
 
-pub returns-then-is_some-clause-label : goal.returns-then-is_some-clause-label
-returns-then-is_some-clause-label g c is ls colon d w =
-    kept_skip c.args.draft.now.excess _ _ _ is ls _ c.if-is_some.ensures d
-
 pub returns-clause-label : goal.returns-clause-label
 returns-clause-label g c =
     let none = none_if c.args.draft.now.excess c.if-is_some.ensures in

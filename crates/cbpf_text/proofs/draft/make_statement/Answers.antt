@@ -1,3 +1,4 @@
+use Rattle.std.proofs.Common.{rules}
 use Rattle.std.proofs.Common.{◌≡◌, ◌∙◌, refl, sym, ap, subst, ◌+◌, length, map, drop, arith}
 use Rattle.cbpf_syntax.specs.Items.{names_at}
 use Rattle.cbpf_syntax.specs.Views.{class_of, lexeme_of}
@@ -8,57 +9,13 @@ use Rattle.cbpf_text.proofs.Operands.{name_put, other_put, literal_past, names_p
 use Rattle.cbpf_text.proofs.draft.make_statement.Goals as goal
 
 pub loop-i-init : goal.loop-i-init
-loop-i-init c =
-    let os = c.args.row.operand.now in
-    let bs = c.args.body.now in
-    let i = c.min-i.result in
-    let past = past_one (length os) (length bs) i c.saturating_sub.result c.saturating_sub.ensures c.min-i.ensures in
-    record {
-      classes = omega (arith, c.min-i.ensures);
-      tokens = omega (arith, c.min-i.ensures, c.saturating_sub.ensures);
-      code = c.code_of.ensures.value;
-      fields = refl;
-      literal = sym (literal_past os bs i past);
-      targets = rw (names_past os bs i past) refl;
-    }
+loop-i-init c = search (rules, past_one, literal_past, names_past)
 
 pub loop-i-preserved-in-Name : goal.loop-i-preserved-in-Name
-loop-i-preserved-in-Name c =
-    let os = c.args.row.operand.now in
-    let bs = c.args.body.now in
-    let i = c.loop-i.i in
-    let inv = c.loop-i.invariant in
-    let s = c.put_target.new.statement in
-    record {
-      classes = omega (arith, inv.classes);
-      tokens = omega (arith, inv.tokens);
-      code = c.put_target.ensures.code ∙ inv.code;
-      fields = c.put_target.ensures.fields ∙ inv.fields;
-      literal = c.put_target.ensures.literal
-          ∙ (inv.literal ∙ sym (literal_at_name os bs i _ c.loop-i-test.true inv.classes inv.tokens c.in-Name.is));
-      targets = subst (AreTargets s.targets s.first s.second)
-          (sym (name_put os bs i _ _ c.loop-i-test.true inv.classes inv.tokens c.in-Name.is))
-          (c.put_target.ensures.targets _ inv.targets);
-    }
+loop-i-preserved-in-Name c = search (rules, literal_at_name, name_put)
 
 pub loop-i-preserved-in-Mark : goal.loop-i-preserved-in-Mark
-loop-i-preserved-in-Mark c =
-    let os = c.args.row.operand.now in
-    let bs = c.args.body.now in
-    let i = c.loop-i.i in
-    let inv = c.loop-i.invariant in
-    let s = c.loop-i.statement in
-    record {
-      classes = omega (arith, inv.classes);
-      tokens = omega (arith, inv.tokens);
-      code = inv.code;
-      fields = inv.fields;
-      literal =
-          inv.literal ∙ sym (literal_at_mark os bs i _ _ c.loop-i-test.true inv.classes inv.tokens c.in-Mark.is);
-      targets = subst (AreTargets s.targets s.first s.second) (sym
-          (other_put os bs i _ c.loop-i-test.true inv.classes inv.tokens (λ n. let k = sym c.in-Mark.is ∙ n in cc)))
-          inv.targets;
-    }
+loop-i-preserved-in-Mark c = search (rules, literal_at_mark, other_put)
 
 pub loop-i-preserved-in-Some : goal.loop-i-preserved-in-Some
 loop-i-preserved-in-Some c =
@@ -101,17 +58,4 @@ loop-i-preserved c =
     }
 
 pub returns : goal.returns
-returns c labels =
-    let w = c.args.row.mnemonic.now in
-    let cs = map class_of c.args.row.operand.now in
-    let ts = map lexeme_of c.args.body.now in
-    let inv = c.loop-i.invariant in
-    let s = c.loop-i.statement in
-    let none : c.loop-i.i ≡ 0 = omega (arith, c.loop-i-test.false) in
-    record {
-      code = inv.code;
-      fields = inv.fields;
-      literal = inv.literal ∙ (ap (λ k. literal_of (drop k cs) (drop (k + 1) ts)) none ∙ sym (literal_begin w cs ts));
-      targets = subst (AreTargets s.targets s.first s.second)
-          (ap (λ k. names_at (drop k cs) (drop (k + 1) ts)) none ∙ sym (names_begin w cs ts)) inv.targets;
-    }
+returns c labels = search (rules, literal_begin, names_begin)

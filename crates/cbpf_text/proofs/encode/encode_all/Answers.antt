@@ -1,3 +1,4 @@
+use Rattle.std.proofs.Common.{rules}
 use Rattle.std.proofs.Common.{sym, subst, ◌<◌, length, arith, take_all}
 use Rattle.std.proofs.lemmas.Result.{err_from_is_err_and}
 use Rattle.cbpf_text.specs.Assembled.{EncodeEach}
@@ -22,7 +23,4 @@ loop-i-preserved g c is h f r =
     (statement_at c.args.statements.now is c.loop-i.i _ some_item h c.loop-i-test.true) (f c.loop-i.i some_item l) r))
 
 pub returns-clause-encoded : goal.returns-clause-encoded
-returns-clause-encoded g c is h f r =
-    subst (λ js. EncodeEach is 0 js c.loop-i.insns.items)
-    (take_all c.loop-i.i is (omega (arith, c.loop-i-test.false, statements_size c.args.statements.now is h)))
-    (c.loop-i.invariant is h f r)
+returns-clause-encoded g c is h f r = search (rules, take_all, statements_size)

@@ -6,5 +6,3 @@ pub returns-clause-assembles : goal.returns-clause-assembles
 returns-clause-assembles g c =
     listing_assembles c.args.p.now c.as_slice.ensures.sound (rw c.as_slice.ensures.value at c.are_in_range.ensures)
 
-pub returns-clause-written : goal.returns-clause-written
-returns-clause-written g c = search rules

@@ -8,5 +8,3 @@ returns-in_err-ext_named-in-Extension-Word c =
     rw (c.in-Extension-Word.is-0, c.in-Extension-Word.is-1) (c.from_residual.ensures
     ∙ sym (not_named ext_table c.in-Extension-Word.name.now c.in_err-ext_named-in-Extension-Word.ensures))
 
-pub returns-in-Negated-Number : goal.returns-in-Negated-Number
-returns-in-Negated-Number c = search rules

@@ -22,13 +22,6 @@ returns-in-Some-clause-fault c =
       line = c.line_of.ensures;
     })
 
-pub invariant_of-self-in-Lexeme : goal.invariant_of-self-in-Lexeme
-invariant_of-self-in-Lexeme c =
-    let text = c.self.inside.text.now in
-    let piece = c.next_piece-piece.result in
-    let next = next_at text c.loop-at.at piece c.loop-at-test.true c.next_piece-piece.ensures in
-    rw c.loop-at.invariant.same (piece_within text c.loop-at.at piece c.loop-at-test.true next)
-
 pub returns-in-Lexeme-clause-token : goal.returns-in-Lexeme-clause-token
 returns-in-Lexeme-clause-token c =
     let text = c.self.inside.text.now in
@@ -47,12 +40,7 @@ returns-in-Lexeme-clause-token c =
     })
 
 pub loop-at-init : goal.loop-at-init
-loop-at-init c = record {
-  same = refl;
-  from = omega arith;
-  within = c.self.invariant;
-  more = to_run_end c.self.inside.text.now c.self.inside.at c.self.inside.at c.self.invariant (λ ts lexed. lexed);
-}
+loop-at-init c = search (rules, to_run_end)
 
 pub loop-at-preserved : goal.loop-at-preserved
 loop-at-preserved c =
@@ -71,23 +59,6 @@ loop-at-preserved c =
           c.in_default.ensures.good c.in_default-kind.not-Lexeme);
     }
 
-pub loop-at-preserved-then-is_blank : goal.loop-at-preserved-then-is_blank
-loop-at-preserved-then-is_blank c =
-    let text = c.self.inside.text.now in
-    record {
-      same = c.loop-at.invariant.same;
-      from = omega (arith, c.loop-at.invariant.from);
-      within = omega (arith, c.loop-at-test.true);
-      more = to_next text c.self.inside.at c.loop-at.at c.loop-at-test.true
-          (sym c.is_blank.ensures ∙ c.if-is_blank.true) c.loop-at.invariant.more;
-    }
-
 pub loop-at-smaller : goal.loop-at-smaller
-loop-at-smaller c =
-    let text = c.self.inside.text.now in
-    let piece = c.next_piece-piece.result in
-    let next = next_at text c.loop-at.at piece c.loop-at-test.true c.next_piece-piece.ensures in
-    omega (arith, piece_some text c.loop-at.at piece next, c.loop-at-test.true)
+loop-at-smaller c = search (rules, next_at, piece_some)
 
-pub returns-clause-finished : goal.returns-clause-finished
-returns-clause-finished c = search rules
