@@ -24,6 +24,7 @@ use Rattle.cbpf_syntax.proofs.Steps.{base_stuck, base_whole, name_stuck, label_s
 use Rattle.cbpf_syntax.proofs.Instructions.{some_known, end_stuck}
 use Rattle.cbpf_syntax.proofs.Refused.{greedy_more, greedy_all, next_some, stuck_at, large_within, large_first}
 use Rattle.cbpf_syntax.proofs.Refused.{misplaced_first, unfinished_first, items_accepted, items_large}
+use Rattle.cbpf_syntax.proofs.Cuts.{some-same}
 
 -- Of the rows most tokens fit this one. Where it is not whole, none that as many fit is.
 record IsLongest (rows : List Row) (ts : List Lexeme) (row : Row) : Type 0 where
@@ -172,9 +173,6 @@ large_pair (mark b) (mark c) = inr (λ h. let k : mark c ≡ number h.1 = h.2 in
 large_pair (mark b) (word w) = inr (λ h. let k : word w ≡ number h.1 = h.2 in cc)
 large_pair (word w) d = inr (λ h. let k : word w ≡ mark 45 = h.0 in cc)
 large_pair (number n) d = inr (λ h. let k : number n ≡ mark 45 = h.0 in cc)
-
-some-same : (x y : Symbol) → ◌≡◌ {A = Option Symbol} (Some x) (Some y) → x ≡ y
-some-same x y e = cc
 
 large_at : (ts : List Lexeme) (i : ℕ) → Either (IsLargeNegative ts i)
 large_at ts zero = inr (λ h. omega (arith, h.after))

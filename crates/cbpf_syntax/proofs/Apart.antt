@@ -103,6 +103,29 @@ overlap_sound (number i) (exactly m) (exactly k) h e = refl
 overlap_sound (mark o) (the_mark a) (the_mark b) h e = mark_case o a b h e
 overlap_sound x c d h e = cc
 
+-- two classes overlap in either order, and so two rows are apart
+same_truth : (a b : Bool) → (a ≡ true → b ≡ true) → (b ≡ true → a ≡ true) → a ≡ b
+same_truth true b f g = sym (f refl)
+same_truth false true f g = g refl
+same_truth false false f g = refl
+
+overlap_swap : (c d : Class) → overlap c d ≡ overlap d c
+overlap_swap (the_word v) (the_word w) =
+    same_truth _ _ (λ e. words_case v w v e (bytes_eq_self v)) (λ e. words_case w v w e (bytes_eq_self w))
+overlap_swap (the_mark a) (the_mark b) =
+    same_truth _ _ (λ e. eq-eqb b a (sym (eqb-true a b e))) (λ e. eq-eqb a b (sym (eqb-true b a e)))
+overlap_swap literal (the_word w) = refl
+overlap_swap negated (the_word w) = refl
+overlap_swap (exactly m) (the_word w) = refl
+overlap_swap extension (the_word w) = refl
+overlap_swap name (the_word w) = refl
+overlap_swap c d = refl
+
+pub apart_swap : (cs ds : List Class) → apart cs ds ≡ apart ds cs
+apart_swap [] (d ∷ ds) = refl
+apart_swap (c ∷ cs) (d ∷ ds) = rw (overlap_swap c d, apart_swap cs ds) refl
+apart_swap cs ds = refl
+
 -- Two readings of the same tokens
 abbrev pub starts_with_comma : List Lexeme → Bool
 starts_with_comma [] = false

@@ -51,25 +51,15 @@ both_false : {B : Type 0} (t : Bool) → t ≡ true → t ≡ false → B
 both_false true e h = cc
 both_false false e h = cc
 
-most_1 : (cs ds : List Class) (ts : List Lexeme) → apart cs ds ≡ true → common ds ts ≡ length ds
+most : (cs ds : List Class) (ts : List Lexeme) → apart cs ds ≡ true → common ds ts ≡ length ds
     → is_comma_at ts (length ds) ≡ false → common cs ts ≤ length ds
-most_1 (c ∷ cs) [] (t ∷ ts) a w n =
+most (c ∷ cs) [] (t ∷ ts) a w n =
     comma_stops (fits c t.symbol) (common cs ts) (λ f. both_false _ (comma_only c t.symbol a f) n)
-most_1 (c ∷ cs) (d ∷ ds) (t ∷ ts) a w n =
+most (c ∷ cs) (d ∷ ds) (t ∷ ts) a w n =
     let p = whole_step (fits d t.symbol) (common ds ts) (length ds) w in
     goes_step (fits c t.symbol) (common cs ts) (length ds)
-    (λ f. most_1 cs ds ts (apart_rest (overlap c d) (apart cs ds) (overlap_sound t.symbol c d f p.0) a) p.1 n)
-most_1 cs ds ts a w n = omega arith
-
-most_2 : (cs ds : List Class) (ts : List Lexeme) → apart ds cs ≡ true → common ds ts ≡ length ds
-    → is_comma_at ts (length ds) ≡ false → common cs ts ≤ length ds
-most_2 (c ∷ cs) [] (t ∷ ts) a w n =
-    comma_stops (fits c t.symbol) (common cs ts) (λ f. both_false _ (comma_only c t.symbol a f) n)
-most_2 (c ∷ cs) (d ∷ ds) (t ∷ ts) a w n =
-    let p = whole_step (fits d t.symbol) (common ds ts) (length ds) w in
-    goes_step (fits c t.symbol) (common cs ts) (length ds)
-    (λ f. most_2 cs ds ts (apart_rest (overlap d c) (apart ds cs) (overlap_sound t.symbol d c p.0 f) a) p.1 n)
-most_2 cs ds ts a w n = omega arith
+    (λ f. most cs ds ts (apart_rest (overlap c d) (apart cs ds) (overlap_sound t.symbol c d f p.0) a) p.1 n)
+most cs ds ts a w n = omega arith
 
 same_words : (v w : List ℕ) → v ≡ w → bytes_eq v w ≡ true
 same_words v w e = rw e (bytes_eq_self w)
@@ -83,12 +73,8 @@ whole_most m r s ts p k q w n =
     elim (rows_apart s r (row_known m s p q) (row_known m r p k)) [
       | inl e ↦ let c : common s.operand ts ≡ length r.operand = ap (λ (x : Row). common x.operand ts) e ∙ w in
           omega (arith, c)
-      | inr a ↦ elim a [
-        | inl h ↦ most_1 s.operand r.operand ts (apart_rest (bytes_eq s.mnemonic r.mnemonic)
-            (apart s.operand r.operand) (same_words s.mnemonic r.mnemonic words) h) w n
-        | inr h ↦ most_2 s.operand r.operand ts (apart_rest (bytes_eq r.mnemonic s.mnemonic)
-            (apart r.operand s.operand) (same_words r.mnemonic s.mnemonic (sym words)) h) w n
-      ]
+      | inr a ↦ most s.operand r.operand ts (apart_rest (bytes_eq s.mnemonic r.mnemonic)
+          (apart s.operand r.operand) (same_words s.mnemonic r.mnemonic words) a) w n
     ]
 
 take_known : {X : Type 0} (k : ℕ) (xs : List X) (x : X) → Contains (take k xs) x → Contains xs x

@@ -12,51 +12,27 @@ use Rattle.cbpf_syntax.specs.Table.{Row, classes, table}
 use Rattle.cbpf_syntax.specs.Items.{Item, Form, Items, BeginsItem, BeginsItems, classes_of}
 use Rattle.cbpf_syntax.specs.Steps.{NoLonger, Stuck}
 use Rattle.cbpf_syntax.proofs.Apart.{overlap, apart, overlap_sound, starts_with_comma, comma_only}
-use Rattle.cbpf_syntax.proofs.OneReading.{three, Apart, readings_apart, row_starts, starts_reserved, comma_front}
+use Rattle.cbpf_syntax.proofs.OneReading.{three, readings_apart, row_starts, starts_reserved, comma_front}
 use Rattle.cbpf_syntax.proofs.OneReading.{comma_name, same_front}
 
 -- Ours is as long as theirs at least, and as long only where it is whole: then theirs goes on with a comma.
-front_split_1 : (cs ds : List Class) (ts x us y : List Lexeme) → apart cs ds ≡ true → fits_front cs ts ≡ true
+front_split : (cs ds : List Class) (ts x us y : List Lexeme) → apart cs ds ≡ true → fits_front cs ts ≡ true
     → fits_all ds us ≡ true → ts ++ x ≡ us ++ y → length us ≤ length ts
     → (length us ≡ length ts → fits_all cs ts ≡ true) → starts_with_comma y ≡ true
-front_split_1 [] (d ∷ ds) [] x (u ∷ us) y a f g e l full = absurd (omega arith)
-front_split_1 (c ∷ cs) [] [] x [] y a f g e l full = let k : false ≡ true = full refl in cc
-front_split_1 (c ∷ cs) [] (t ∷ ts) x [] y a f g e l full =
+front_split [] (d ∷ ds) [] x (u ∷ us) y a f g e l full = absurd (omega arith)
+front_split (c ∷ cs) [] [] x [] y a f g e l full = let k : false ≡ true = full refl in cc
+front_split (c ∷ cs) [] (t ∷ ts) x [] y a f g e l full =
     rw (← e) (comma_only c t.symbol a (and_parts (fits c t.symbol) _ f).0)
-front_split_1 (c ∷ cs) (d ∷ ds) [] x (u ∷ us) y a f g e l full = absurd (omega arith)
-front_split_1 (c ∷ cs) (d ∷ ds) (t ∷ ts) x (u ∷ us) y a f g e l full =
+front_split (c ∷ cs) (d ∷ ds) [] x (u ∷ us) y a f g e l full = absurd (omega arith)
+front_split (c ∷ cs) (d ∷ ds) (t ∷ ts) x (u ∷ us) y a f g e l full =
     let hd : t ≡ u = cc in
     let tl : ts ++ x ≡ us ++ y = cc in
     let fc : fits c t.symbol ≡ true = (and_parts (fits c t.symbol) _ f).0 in
     let fd : fits d t.symbol ≡ true = rw hd (and_parts (fits d u.symbol) _ g).0 in
     let o : overlap c d ≡ true = overlap_sound t.symbol c d fc fd in
-    front_split_1 cs ds ts x us y (rw o at a) (and_parts (fits c t.symbol) _ f).1 (and_parts (fits d u.symbol) _ g).1
+    front_split cs ds ts x us y (rw o at a) (and_parts (fits c t.symbol) _ f).1 (and_parts (fits d u.symbol) _ g).1
     tl (omega arith) (λ h. (and_parts (fits c t.symbol) _ (full (ap suc h))).1)
-front_split_1 cs ds ts x us y a f g e l full = cc
-
-front_split_2 : (cs ds : List Class) (ts x us y : List Lexeme) → apart ds cs ≡ true → fits_front cs ts ≡ true
-    → fits_all ds us ≡ true → ts ++ x ≡ us ++ y → length us ≤ length ts
-    → (length us ≡ length ts → fits_all cs ts ≡ true) → starts_with_comma y ≡ true
-front_split_2 [] (d ∷ ds) [] x (u ∷ us) y a f g e l full = absurd (omega arith)
-front_split_2 (c ∷ cs) [] [] x [] y a f g e l full = let k : false ≡ true = full refl in cc
-front_split_2 (c ∷ cs) [] (t ∷ ts) x [] y a f g e l full =
-    rw (← e) (comma_only c t.symbol a (and_parts (fits c t.symbol) _ f).0)
-front_split_2 (c ∷ cs) (d ∷ ds) [] x (u ∷ us) y a f g e l full = absurd (omega arith)
-front_split_2 (c ∷ cs) (d ∷ ds) (t ∷ ts) x (u ∷ us) y a f g e l full =
-    let hd : t ≡ u = cc in
-    let tl : ts ++ x ≡ us ++ y = cc in
-    let fc : fits c t.symbol ≡ true = (and_parts (fits c t.symbol) _ f).0 in
-    let fd : fits d t.symbol ≡ true = rw hd (and_parts (fits d u.symbol) _ g).0 in
-    let o : overlap d c ≡ true = overlap_sound t.symbol d c fd fc in
-    front_split_2 cs ds ts x us y (rw o at a) (and_parts (fits c t.symbol) _ f).1 (and_parts (fits d u.symbol) _ g).1
-    tl (omega arith) (λ h. (and_parts (fits c t.symbol) _ (full (ap suc h))).1)
-front_split_2 cs ds ts x us y a f g e l full = cc
-
-front_split : (cs ds : List Class) (ts x us y : List Lexeme) → Apart cs ds → fits_front cs ts ≡ true
-    → fits_all ds us ≡ true → ts ++ x ≡ us ++ y → length us ≤ length ts
-    → (length us ≡ length ts → fits_all cs ts ≡ true) → starts_with_comma y ≡ true
-front_split cs ds ts x us y (inl a) f g e l full = front_split_1 cs ds ts x us y a f g e l full
-front_split cs ds ts x us y (inr a) f g e l full = front_split_2 cs ds ts x us y a f g e l full
+front_split cs ds ts x us y a f g e l full = cc
 
 pub whole_front : (cs : List Class) (ts : List Lexeme) → fits_all cs ts ≡ true → fits_front cs ts ≡ true
 whole_front [] (t ∷ ts) f = cc

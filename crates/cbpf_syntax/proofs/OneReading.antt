@@ -14,7 +14,7 @@ use Rattle.cbpf_syntax.specs.Classes.Class.{the_word, the_mark, literal, negated
 use Rattle.cbpf_syntax.specs.Lexemes.Symbol.{word, number, mark}
 use Rattle.cbpf_syntax.specs.Table.{Row, classes, mnemonics, table}
 use Rattle.cbpf_syntax.specs.Items.{Item, Form, Items, label_classes, classes_of, names_at}
-use Rattle.cbpf_syntax.proofs.Apart.{apart, apart_from_all, all_apart, table_apart, apart_split, starts_with_comma}
+use Rattle.cbpf_syntax.proofs.Apart.{apart, apart_from_all, all_apart, table_apart, apart_split, apart_swap, starts_with_comma}
 
 -- every row begins with a reserved word
 abbrev pub starts_reserved : List Class → Bool
@@ -33,43 +33,35 @@ apart_at (r ∷ rs) (suc i) (suc j) d e l m =
     apart_at rs i j d (and_parts (apart_from_all (classes r) rs) _ e).1 (omega arith) (omega arith)
 apart_at rs i j d e l m = absurd (omega arith)
 
--- the readings by two rows, or the same row
-abbrev pub Apart : List Class → List Class → Type 0
-Apart cs ds = (apart cs ds ≡ true) ⊎ (apart ds cs ≡ true)
-
 pub three : (m n : ℕ) → (m < n) ⊎ ((n < m) ⊎ (m ≡ n))
 three m n = grind arith
 
-pub rows_apart : (r s : Row) → Contains table r → Contains table s → (r ≡ s) ⊎ Apart (classes r) (classes s)
-rows_apart r s p q =
-    elim (three p.0 q.0) [
-      | inl l ↦
-          inr (inl (rw (p.2, get_or_default table q.0 r s q.1, q.2) at (apart_at table p.0 q.0 r table_apart l q.1)))
-      | inr h ↦ elim h [
-        | inl l ↦ inr
-            (inr (rw (q.2, get_or_default table p.0 s r p.1, p.2) at (apart_at table q.0 p.0 s table_apart l p.1)))
-        | inr e ↦ inl (sym p.2 ∙ ap (λ k. get_or table k r) e ∙ get_or_default table q.0 r s q.1 ∙ q.2)
-      ]
-    ]
+-- two rows are apart, or the same row
+pub rows_apart : (r s : Row) → Contains table r → Contains table s → (r ≡ s) ⊎ (apart (classes r) (classes s) ≡ true)
+rows_apart r s p q = elim (three p.0 q.0) [
+  | inl l ↦ inr (rw (p.2, get_or_default table q.0 r s q.1, q.2) at (apart_at table p.0 q.0 r table_apart l q.1))
+  | inr h ↦ elim h [
+    | inl l ↦ inr (apart_swap (classes r) (classes s)
+        ∙ rw (q.2, get_or_default table p.0 s r p.1, p.2) at (apart_at table q.0 p.0 s table_apart l p.1))
+    | inr e ↦ inl (sym p.2 ∙ ap (λ k. get_or table k r) e ∙ get_or_default table q.0 r s q.1 ∙ q.2)
+  ]
+]
 
 pub row_starts : (r : Row) → Contains table r → starts_reserved (classes r) ≡ true
 row_starts r p = rw p.2 at (list_all_at (λ (s : Row). starts_reserved (classes s)) table p.0 r table_reserved p.1)
 
-reserved_name : (cs ds : List Class) → starts_reserved cs ≡ true
-    → (apart cs (name ∷ ds) ≡ true) × (apart (name ∷ ds) cs ≡ true)
-reserved_name cs ds h1 = search (rules)
+reserved_name : (cs ds : List Class) → starts_reserved cs ≡ true → apart cs (name ∷ ds) ≡ true
+reserved_name (the_word w ∷ cs) ds e = rw e refl
+reserved_name cs ds e = cc
 
 pub readings_apart : (m n : ℕ) (r s : Row) → Contains table r → Contains table s
-    → ((m ≡ n) × (r ≡ s)) ⊎ Apart (classes_of m r) (classes_of n s)
+    → ((m ≡ n) × (r ≡ s)) ⊎ (apart (classes_of m r) (classes_of n s) ≡ true)
 readings_apart zero zero r s p q = elim (rows_apart r s p q) [ inl e ↦ inl (refl, e) | inr a ↦ inr a ]
-readings_apart zero (suc n) r s p q =
-    inr (inl (reserved_name (classes r) (the_mark 58 ∷ classes_of n s) (row_starts r p)).0)
-readings_apart (suc m) zero r s p q =
-    inr (inl (reserved_name (classes s) (the_mark 58 ∷ classes_of m r) (row_starts s q)).1)
-readings_apart (suc m) (suc n) r s p q = elim (readings_apart m n r s p q) [
-  | inl e ↦ inl (ap suc e.0, e.1)
-  | inr a ↦ elim a [ inl h ↦ inr (inl h) | inr h ↦ inr (inr h) ]
-]
+readings_apart zero (suc n) r s p q = inr (reserved_name (classes r) (the_mark 58 ∷ classes_of n s) (row_starts r p))
+readings_apart (suc m) zero r s p q = inr (apart_swap (classes_of (suc m) r) (classes s)
+    ∙ reserved_name (classes s) (the_mark 58 ∷ classes_of m r) (row_starts s q))
+readings_apart (suc m) (suc n) r s p q =
+    elim (readings_apart m n r s p q) [ inl e ↦ inl (ap suc e.0, e.1) | inr a ↦ inr a ]
 
 -- neither items nor what begins one starts with a comma
 pub comma_row : (cs : List Class) (ts : List Lexeme) → starts_reserved cs ≡ true → fits_all cs ts ≡ true
@@ -140,14 +132,8 @@ one_reading ts (i ∷ is) (j ∷ js) p q =
           let hd : i ≡ j = same_item p.0 q.0 i j both.0 p.3 q.3 e.0 e.1 in
           let tl : is ≡ js = one_reading p.1 is js p.4 (subst (λ r. Items r js) (sym both.1) q.4) in
           λ k. hd k ∷ tl k
-      | inr a ↦ absurd (elim a [
-        | inl h ↦ elim (apart_split _ _ p.0 p.1 q.0 q.1 h p.3.fits q.3.fits (sym p.2 ∙ q.2)) [
-          | inl k ↦ comma_items p.1 is p.4 k
-          | inr k ↦ comma_items q.1 js q.4 k
-        ]
-        | inr h ↦ elim (apart_split _ _ q.0 q.1 p.0 p.1 h q.3.fits p.3.fits (sym q.2 ∙ p.2)) [
-          | inl k ↦ comma_items q.1 js q.4 k
-          | inr k ↦ comma_items p.1 is p.4 k
-        ]
+      | inr a ↦ absurd (elim (apart_split _ _ p.0 p.1 q.0 q.1 a p.3.fits q.3.fits (sym p.2 ∙ q.2)) [
+        | inl k ↦ comma_items p.1 is p.4 k
+        | inr k ↦ comma_items q.1 js q.4 k
       ])
     ]

@@ -19,6 +19,7 @@ use Rattle.cbpf_syntax.specs.Refusals.{ParseFault, symbol_at, IsLargeNegative, I
 use Rattle.cbpf_syntax.specs.Laws.{OneRefusal}
 use Rattle.cbpf_syntax.proofs.Greedy.{whole_front}
 use Rattle.cbpf_syntax.proofs.Refused.{large_within}
+use Rattle.cbpf_syntax.proofs.Cuts.{some-same}
 
 abbrev pub is_minus : Class → Bool
 is_minus (the_mark b) = b == 45
@@ -129,9 +130,6 @@ two_at : (ts : List Lexeme) (b : ℕ) (s d : Symbol) → symbol_at ts b ≡ Some
     → (m : Lexeme) × (k : Lexeme) × (m.symbol ≡ s) × (k.symbol ≡ d) × (take (suc b) ts ≡ take b ts ++ (m ∷ []))
     × (take (suc (suc b)) ts ≡ take b ts ++ (m ∷ k ∷ []))
 two_at (t ∷ u ∷ ts) zero s d e f = (t, u, some-same t.symbol s e, some-same u.symbol d f, refl, refl)
-  where
-    some-same : (x y : Symbol) → ◌≡◌ {A = Option Symbol} (Some x) (Some y) → x ≡ y
-    some-same x y e = cc
 two_at (t ∷ ts) (suc b) s d e f =
     let r = two_at ts b s d e f in
     (r.0, r.1, r.2, r.3, ap (λ us. t ∷ us) r.4, ap (λ us. t ∷ us) r.5)

@@ -18,6 +18,7 @@ use Rattle.cbpf_syntax.proofs.Greedy.{Greedy, greedy_items, stuck_begins, stuck_
 use Rattle.cbpf_syntax.proofs.Begins.{begins_take}
 use Rattle.cbpf_syntax.proofs.Instructions.{some_known}
 use Rattle.cbpf_syntax.proofs.OneReading.{no_classes}
+use Rattle.cbpf_syntax.proofs.Cuts.{some-same}
 
 pub symbol_at_get : (ts : List declared_lexeme.Lexeme) (i : ℕ) (d : declared_lexeme.Lexeme) → i < length ts
     → symbol_at (map lexeme_of ts) i ≡ Some (symbol_of (get_or ts i d).symbol)
@@ -29,9 +30,6 @@ symbol_within : (ts : List Lexeme) (i : ℕ) (s : Symbol) → symbol_at ts i ≡
 symbol_within [] i s e = cc
 symbol_within (t ∷ ts) zero s e = omega arith
 symbol_within (t ∷ ts) (suc i) s e = let l = symbol_within ts i s e in omega (arith, l)
-
-some-same : (x y : Symbol) → ◌≡◌ {A = Option Symbol} (Some x) (Some y) → x ≡ y
-some-same x y e = cc
 
 -- what stands at an index and the one before
 pub large_here : (ts : List declared_lexeme.Lexeme) (i : ℕ) (d e : declared_lexeme.Lexeme) → 1 ≤ i → i < length ts

@@ -31,6 +31,7 @@ use Rattle.cbpf_syntax.specs.Refusals.{symbol_at, IsLargeNegative, IsStuckAt}
 use Rattle.cbpf_syntax.specs.Reading.{AreAhead, IsStepOf, step_len, StartsWithWord, IsPlaceOf, IsFirstLarge}
 use Rattle.cbpf_syntax.specs.Reading.{IsRefusedFor}
 use Rattle.cbpf_syntax.proofs.Ahead.{next_more, stuck_more, label_more}
+use Rattle.cbpf_syntax.proofs.Cuts.{some-same}
 
 -- the lexemes ahead are the next of the whole text's
 pub ahead_is : (text : List ℕ) (at n : ℕ) (ahead ts : List Lexeme) → AreAhead text at n ahead → AreLexemes text ts
@@ -117,9 +118,6 @@ get_drop (t ∷ ts) (suc m) k = let e : suc m + k ≡ suc (m + k) = omega arith 
 pub get_ahead : (ts ws rest : List Lexeme) (m k : ℕ) → drop m ts ≡ ws ++ rest → k < length ws
     → slice_get ts (m + k) ≡ slice_get ws k
 get_ahead ts ws rest m k e l = sym (get_drop ts m k) ∙ (ap (λ us. slice_get us k) e ∙ get_front ws rest k l)
-
-some-same : (x y : Symbol) → ◌≡◌ {A = Option Symbol} (Some x) (Some y) → x ≡ y
-some-same x y e = cc
 
 -- a literal that is too large, of the tokens ahead and of all
 large_in : (ts ws rest : List Lexeme) (m k : ℕ) → drop m ts ≡ ws ++ rest → k < length ws → IsLargeNegative ws k

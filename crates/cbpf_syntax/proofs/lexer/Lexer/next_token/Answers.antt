@@ -1,24 +1,35 @@
-use Rattle.std.proofs.Common.{rules, arith, refl, ◌≡◌, ◌∙◌, sym, subst, get_or, false}
+use Rattle.std.proofs.Common.{rules, arith, refl, List, ◌≡◌, ◌∙◌, sym, subst, get_or, false}
 use Rattle.cbpf_syntax.specs.Bytes.{is_blank}
 use Rattle.cbpf_syntax.specs.Pieces.{IsPieceAt}
 use Rattle.cbpf_syntax.proofs.Blanks.{to_run_end, to_here, to_next}
 use Rattle.cbpf_syntax.proofs.Cuts.{next_at, piece_within, piece_some, token_more, piece_more}
+use Rattle.cbpf_syntax.specs.declared.token.Token.{Token}
+use Rattle.cbpf_syntax.specs.Tokens.{LexesTo}
+use Rattle.cbpf_syntax.proofs.lexer.Lexer.next_token.Goals.{After-next_piece-piece}
 use Rattle.cbpf_syntax.proofs.lexer.Lexer.next_token.Goals as goal
+
+-- the piece that comes next, and the tokens before it
+here : (c : After-next_piece-piece) → IsPieceAt c.self.inside.text.now c.loop-at.at c.next_piece-piece.result
+    × ((ts : List Token) → LexesTo c.self.inside.text.now c.self.inside.at ts
+    → LexesTo c.self.inside.text.now c.loop-at.at ts)
+here c =
+    let text = c.self.inside.text.now in
+    let other : is_blank (get_or text c.loop-at.at 0) ≡ false = sym c.is_blank.ensures ∙ c.if-is_blank.false in
+    (next_at text c.loop-at.at c.next_piece-piece.result c.loop-at-test.true c.next_piece-piece.ensures,
+    to_here text c.self.inside.at c.loop-at.at c.loop-at-test.true other c.loop-at.invariant.more)
 
 pub returns-in-Some-clause-fault : goal.returns-in-Some-clause-fault
 returns-in-Some-clause-fault c =
     let text = c.self.inside.text.now in
     let at = c.loop-at.at in
     let piece = c.next_piece-piece.result in
-    let next = next_at text at piece c.loop-at-test.true c.next_piece-piece.ensures in
-    let other : is_blank (get_or text at 0) ≡ false = sym c.is_blank.ensures ∙ c.if-is_blank.false in
-    let more = to_here text c.self.inside.at at c.loop-at-test.true other c.loop-at.invariant.more in
+    let h = here (goal.at.returns-in-Some-clause-fault c).After-next_piece-piece in
     rw (← c.self.view_is) (λ ts lexed. record {
       at = at;
       tokens = ts;
-      before = more ts lexed;
+      before = h.1 ts lexed;
       size = piece.size;
-      bad = subst (λ k. IsPieceAt text at (record { kind = k; size = piece.size })) c.in-Some.ensures.bad next;
+      bad = subst (λ k. IsPieceAt text at (record { kind = k; size = piece.size })) c.in-Some.ensures.bad h.0;
       line = c.line_of.ensures;
     })
 
@@ -27,13 +38,11 @@ returns-in-Lexeme-clause-token c =
     let text = c.self.inside.text.now in
     let at = c.loop-at.at in
     let piece = c.next_piece-piece.result in
-    let next = next_at text at piece c.loop-at-test.true c.next_piece-piece.ensures in
-    let other : is_blank (get_or text at 0) ≡ false = sym c.is_blank.ensures ∙ c.if-is_blank.false in
-    let more = to_here text c.self.inside.at at c.loop-at-test.true other c.loop-at.invariant.more in
-    let some = piece_some text at piece next in
-    let within = piece_within text at piece c.loop-at-test.true next in
+    let h = here (goal.at.returns-in-Lexeme-clause-token c).After-next_piece-piece in
+    let some = piece_some text at piece h.0 in
+    let within = piece_within text at piece c.loop-at-test.true h.0 in
     rw (← c.self.view_is) (record {
-      more = token_more text c.self.inside.at at piece c.in-Lexeme.kind more next c.in-Lexeme.is;
+      more = token_more text c.self.inside.at at piece c.in-Lexeme.kind h.1 h.0 c.in-Lexeme.is;
       span = (omega arith, within);
       farther = omega (arith, some, c.loop-at.invariant.from);
       within = within;
@@ -47,15 +56,13 @@ loop-at-preserved c =
     let text = c.self.inside.text.now in
     let at = c.loop-at.at in
     let piece = c.next_piece-piece.result in
-    let next = next_at text at piece c.loop-at-test.true c.next_piece-piece.ensures in
-    let other : is_blank (get_or text at 0) ≡ false = sym c.is_blank.ensures ∙ c.if-is_blank.false in
-    let more = to_here text c.self.inside.at at c.loop-at-test.true other c.loop-at.invariant.more in
-    let within = piece_within text at piece c.loop-at-test.true next in
+    let h = here (goal.at.loop-at-preserved c).After-next_piece-piece in
+    let within = piece_within text at piece c.loop-at-test.true h.0 in
     record {
       same = c.loop-at.invariant.same;
       from = omega (arith, c.loop-at.invariant.from);
       within = within;
-      more = to_run_end text c.self.inside.at _ within (piece_more text c.self.inside.at at piece more next
+      more = to_run_end text c.self.inside.at _ within (piece_more text c.self.inside.at at piece h.1 h.0
           c.in_default.ensures.good c.in_default-kind.not-Lexeme);
     }
 
