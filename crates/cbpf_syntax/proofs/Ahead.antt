@@ -1,14 +1,15 @@
 -- What holds of tokens whatever tokens follow.
-use Rattle.std.proofs.Common.{rules}
-use Rattle.std.proofs.Common.{◌≡◌, ℕ, suc, ◌<◌, Bool, true, false, ◌&&◌, List, [], ◌∷◌, ◌++◌, length, take, drop}
-use Rattle.std.proofs.Common.{arith, ap, sym, ◌∙◌, subst, append_assoc, length-append}
+use Rattle.std.proofs.Common.{rules, ◌≡◌, ℕ, suc, ◌<◌, Bool, true, false, ◌&&◌, List, [], ◌∷◌, ◌++◌, length, take}
+use Rattle.std.proofs.Common.{drop, arith, ap, sym, ◌∙◌, subst, append_assoc, length-append, ◌+◌}
 use Rattle.std.proofs.lemmas.List.{take-append-drop, take-append-le, length-take-le}
 use Rattle.cbpf_syntax.specs.Lexemes.{Lexeme}
 use Rattle.cbpf_syntax.specs.Classes.{Class}
 use Rattle.cbpf_syntax.specs.Fits.{fits, fits_front}
 use Rattle.cbpf_syntax.specs.Items.{Item, Form, classes_of}
-use Rattle.cbpf_syntax.specs.Steps.{NoLonger, Stuck, IsNextItem, starts_with_label}
-use Rattle.cbpf_syntax.proofs.Begins.{front_before}
+use Rattle.cbpf_syntax.specs.Steps.{NoLonger, Stuck, IsNextItem, starts_with_label, AreLabels}
+use Rattle.cbpf_syntax.proofs.Greedy.{front_before}
+use Rattle.cbpf_syntax.specs.Views.{label_words}
+use Rattle.cbpf_syntax.proofs.Steps.{label_stuck, label_no_longer, label_whole}
 
 -- a front of more than n tokens begins with n + 1 tokens that are all of the first part
 pub no_longer_more : (n : ℕ) (ts us : List Lexeme) → n < length ts → NoLonger n ts → NoLonger n (ts ++ us)
@@ -45,3 +46,32 @@ next_more n ts us item l next =
 
 pub label_more : (ts us : List Lexeme) → starts_with_label ts ≡ true → starts_with_label (ts ++ us) ≡ true
 label_more ts us h1 = search (rules)
+
+-- The labels before an instruction.
+
+pub labels_stuck : (ls ts : List Lexeme) (n : ℕ) → AreLabels ls → Stuck n ts → Stuck (length ls + n) (ls ++ ts)
+labels_stuck [] ts n a s = let e : 0 + n ≡ n = omega arith in rw e s
+labels_stuck (t ∷ []) ts n a s = absurd a
+labels_stuck (t ∷ u ∷ ls) ts n a s =
+    let e : suc (suc (length ls)) + n ≡ suc (suc (length ls + n)) = omega arith in
+    rw e (label_stuck t u (ls ++ ts) (length ls + n) a.0 a.1 (labels_stuck ls ts n a.2 s))
+
+pub labels_item : (ls ts : List Lexeme) (n : ℕ) (item : Item) → AreLabels ls → IsNextItem ts n item
+    → IsNextItem (ls ++ ts) (length ls + n)
+    (record { labels = label_words ls ++ item.labels; row = item.row; body = item.body })
+labels_item [] ts n item a s = let e : 0 + n ≡ n = omega arith in rw e s
+labels_item (t ∷ []) ts n item a s = absurd a
+labels_item (t ∷ u ∷ ls) ts n item a s =
+    let e : suc (suc (length ls)) + n ≡ suc (suc (length ls + n)) = omega arith in
+    let more = labels_item ls ts n item a.2 s in
+    rw e (record {
+      within = omega (arith, more.within);
+      form = label_whole t u (take (length ls + n) (ls ++ ts))
+          (record { labels = label_words ls ++ item.labels; row = item.row; body = item.body }) a.0 a.1 more.form;
+      longest = label_no_longer t u (ls ++ ts) (length ls + n) a.0 more.longest;
+    })
+
+pub labels_append : (ls ms : List Lexeme) → AreLabels ls → AreLabels ms → AreLabels (ls ++ ms)
+labels_append [] ms a b = b
+labels_append (t ∷ []) ms a b = absurd a
+labels_append (t ∷ u ∷ ls) ms a b = (a.0, a.1, labels_append ls ms a.2 b)

@@ -18,10 +18,10 @@ use Rattle.cbpf_syntax.specs.Refusals.{symbol_at, IsLarge, IsLargeNegative, IsSt
 use Rattle.cbpf_syntax.specs.Refusals.ParseFault.{Misplaced, LargeNegative, Unfinished}
 use Rattle.cbpf_syntax.specs.Laws.{EachParsed}
 use Rattle.cbpf_syntax.proofs.Elements.{first_element, later_element, which_element, only_element}
-use Rattle.cbpf_syntax.proofs.OneReading.{three}
+use Rattle.cbpf_syntax.proofs.Apart.{three}
 use Rattle.cbpf_syntax.proofs.Greedy.{Greedy}
 use Rattle.cbpf_syntax.proofs.Steps.{base_stuck, base_whole, name_stuck, label_stuck, label_whole, label_no_longer}
-use Rattle.cbpf_syntax.proofs.Instructions.{some_known, end_stuck}
+use Rattle.cbpf_syntax.proofs.Steps.{some_known, end_stuck}
 use Rattle.cbpf_syntax.proofs.Refused.{greedy_more, greedy_all, next_some, stuck_at, large_within, large_first}
 use Rattle.cbpf_syntax.proofs.Refused.{misplaced_first, unfinished_first, items_accepted, items_large}
 use Rattle.cbpf_syntax.proofs.Cuts.{some-same}
@@ -38,16 +38,14 @@ only_longest ts d = search (rules, first_element, only_element)
 
 -- one more row, which is no longer
 longest_stays : (rows : List Row) (ts : List Lexeme) (d row : Row) → IsLongest rows ts row
-    → common (classes d) ts ≤ common (classes row) ts
-    → (common (classes d) ts ≡ common (classes row) ts → length (classes d) ≢ common (classes row) ts)
-    → IsLongest (d ∷ rows) ts row
+    → common (classes d) ts ≤ common (classes row) ts → (common (classes d) ts ≡ common (classes row) ts
+    → length (classes d) ≢ common (classes row) ts) → IsLongest (d ∷ rows) ts row
 longest_stays rows ts d row h1 h2 h3 = search (rules, later_element, which_element)
 
 -- one more row, which is longer, or as long and whole
 longest_next : (rows : List Row) (ts : List Lexeme) (d row : Row) → IsLongest rows ts row
-    → common (classes row) ts ≤ common (classes d) ts
-    → (common (classes row) ts ≡ common (classes d) ts → length (classes d) ≡ common (classes d) ts)
-    → IsLongest (d ∷ rows) ts d
+    → common (classes row) ts ≤ common (classes d) ts → (common (classes row) ts ≡ common (classes d) ts
+    → length (classes d) ≡ common (classes d) ts) → IsLongest (d ∷ rows) ts d
 longest_next rows ts d row h1 h2 h3 = search (rules, first_element, which_element)
 
 longest : (rows : List Row) (d : Row) (ts : List Lexeme) → (row : Row) × IsLongest (d ∷ rows) ts row

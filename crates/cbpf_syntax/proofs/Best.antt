@@ -50,9 +50,8 @@ first_best rs ss ts best new h1 h2 h3 h4 = grind (arith, common_steps)
 
 -- a row of which the first tokens, as many as fit the best, and one more do not fit, or which is no longer than these
 pub no_better : (rs : List Row) (row : Row) (ts : List Lexeme) (best : Match) → IsBest rs ts best
-    → common row.operand ts ≤ best.len
-    → (length (row_of best.row).operand ≢ best.len → best.len ≡ common row.operand ts → length row.operand ≢ best.len)
-    → IsBest (rs ++ row ∷ []) ts best
+    → common row.operand ts ≤ best.len → (length (row_of best.row).operand ≢ best.len → best.len
+    ≡ common row.operand ts → length row.operand ≢ best.len) → IsBest (rs ++ row ∷ []) ts best
 no_better rs row ts best h1 h2 h3 = grind (arith, common_steps, only_element)
 
 -- the best of rows, with one of them once more before them

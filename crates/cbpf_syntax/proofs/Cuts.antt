@@ -84,9 +84,8 @@ pub piece_at : (text : List ℕ) (at : ℕ) (p : Piece) → at < length text
 piece_at text at p l next = rw (drop_more text at 0) next
 
 -- the same, of the bytes from the next place to the end
-pub next_at : (text : List ℕ) (at : ℕ) (p : Piece) → at < length text
-    → IsNext (is_line_blank (take at text)) (get_or text at 0 ∷ take (length text - (at + 1)) (drop (at + 1) text)) p
-    → IsPieceAt text at p
+pub next_at : (text : List ℕ) (at : ℕ) (p : Piece) → at < length text → IsNext (is_line_blank (take at text))
+    (get_or text at 0 ∷ take (length text - (at + 1)) (drop (at + 1) text)) p → IsPieceAt text at p
 next_at text at p l next = piece_at text at p l (rw (take_rest text (at + 1)) at next)
 
 pub piece_within : (text : List ℕ) (at : ℕ) (p : Piece) → at < length text → IsPieceAt text at p
@@ -107,10 +106,9 @@ pub token_more : (text : List ℕ) (from at : ℕ) (p : Piece) (kind : Kind)
 token_more text from at p kind more next e ts lexed =
     rw e at (LexesTo-more text at ts p (more ts lexed) next (rw e refl))
 
-pub piece_more : (text : List ℕ) (from at : ℕ) (p : Piece)
-    → ((ts : List Token) → LexesTo text from ts → LexesTo text at ts) → IsPieceAt text at p → is_good p.kind ≡ true
-    → ((kind : Kind) → p.kind ≢ Lexeme kind)
-    → (ts : List Token) → LexesTo text from ts → LexesTo text (at + p.size) ts
+pub piece_more : (text : List ℕ) (from at : ℕ) (p : Piece) → ((ts : List Token) → LexesTo text from ts
+    → LexesTo text at ts) → IsPieceAt text at p → is_good p.kind ≡ true → ((kind : Kind)
+    → p.kind ≢ Lexeme kind) → (ts : List Token) → LexesTo text from ts → LexesTo text (at + p.size) ts
 piece_more text from at p more next good other ts lexed =
     let none : token_of p.kind at (at + p.size) ≡ [] = no_token p.kind at (at + p.size) other in
     rw (none, append-nil) at (LexesTo-more text at ts p (more ts lexed) next good)

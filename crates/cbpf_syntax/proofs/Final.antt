@@ -14,8 +14,7 @@ use Rattle.cbpf_syntax.specs.Table.{Row, Mnemonic, mnemonics, rows_of, entry_row
 use Rattle.cbpf_syntax.specs.Fits.{fits}
 use Rattle.cbpf_syntax.specs.Views.{row_of, entry_of, symbol_of, lexeme_of}
 use Rattle.cbpf_syntax.specs.Choice.{common, IsBest, is_comma_at}
-use Rattle.cbpf_syntax.proofs.Apart.{apart, overlap, overlap_sound, comma_only, bytes_eq_self}
-use Rattle.cbpf_syntax.proofs.OneReading.{rows_apart}
+use Rattle.cbpf_syntax.proofs.Apart.{apart, overlap, overlap_sound, comma_only, bytes_eq_self, rows_apart}
 use Rattle.cbpf_syntax.proofs.Mnemonics.{row_known, row_word}
 use Rattle.cbpf_syntax.proofs.Elements.{which_element, from_map, into_map, from_flat_map, into_flat_map}
 

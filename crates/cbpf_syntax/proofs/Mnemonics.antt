@@ -1,19 +1,24 @@
 -- The rows of a mnemonic, and that no two mnemonics have one word.
-use Rattle.std.proofs.Common.{rules}
-use Rattle.std.proofs.Common.{◌≡◌, ℕ, zero, suc, ◌<◌, ◌≤◌, Bool, true, false, not, cond, map, ◌&&◌, ◌||◌, List, []}
-use Rattle.std.proofs.Common.{◌∷◌, length, refl, arith, ap, sym, ◌∙◌, inl, inr, get_or, ltb-true}
-use Rattle.std.specs.Prelude.{Contains, nat_lt, nat_le, bytes_eq}
+use Rattle.std.proofs.Common.{rules, ◌≡◌, ℕ, zero, suc, ◌<◌, ◌≤◌, Bool, true, false, not, cond, map, ◌&&◌, ◌||◌, List}
+use Rattle.std.proofs.Common.{[], ◌∷◌, length, refl, arith, ap, sym, ◌∙◌, inl, inr, get_or, ltb-true, ◌-◌, Option}
+use Rattle.std.proofs.Common.{Some, None}
+use Rattle.std.specs.Prelude.{Contains, nat_lt, nat_le, bytes_eq, MatchOption, slice_index}
 use Rattle.std.proofs.lemmas.Bool.Decides.{nat_tests}
 use Rattle.std.specs.List.{list_all, filter}
 use Rattle.std.proofs.lemmas.List.{get_or_default}
 use Rattle.std.proofs.lemmas.Bool.{and_parts}
-use Rattle.cbpf_syntax.specs.Fits.{is_one_of, mnemonic_words, is_reserved}
-use Rattle.cbpf_syntax.specs.Table.{Row, Mnemonic, mnemonics, table, rows_of, entry_rows}
+use Rattle.cbpf_syntax.specs.Fits.{is_one_of, mnemonic_words, is_reserved, extension_names}
+use Rattle.cbpf_syntax.specs.Table.{Row, Mnemonic, mnemonics, table, rows_of, entry_rows, operand_words}
 use Rattle.cbpf_syntax.specs.Initials.{begins_with, is_first}
-use Rattle.cbpf_syntax.proofs.Apart.{bytes_eq_self, equal_bytes}
-use Rattle.cbpf_syntax.proofs.OneReading.{three}
+use Rattle.cbpf_syntax.proofs.Apart.{bytes_eq_self, equal_bytes, three}
 use Rattle.cbpf_syntax.proofs.Elements.{first_element, later_element, which_element, from_map, into_map}
 use Rattle.cbpf_syntax.proofs.Elements.{from_flat_map, into_flat_map, any_element, some_element, list_all_at}
+use Rattle.std.specs.Option.{is_some}
+use Rattle.cbpf_code.specs.declared.extension.Ext.{Ext}
+use Rattle.cbpf_code.specs.declared.extension.Ext.TheVariants.{Proto, PktType, IfIdx, Nla, NlaN, Mark, Queue, HaType}
+use Rattle.cbpf_code.specs.declared.extension.Ext.TheVariants.{RxHash, Cpu, VlanTci, VlanAvail, PayOff, Rand}
+use Rattle.cbpf_code.specs.declared.extension.Ext.TheVariants.{VlanTpid}
+use Rattle.cbpf_code.specs.Extension.{ext_table, ext_name}
 
 abbrev all_differ : List Mnemonic → Bool
 all_differ [] = true
@@ -123,16 +128,56 @@ kept_listed : (t : Bool) (w : List ℕ) (n : Mnemonic) (ns : List Mnemonic) (res
 kept_listed true w n ns rest other e = rw e refl
 kept_listed false w n ns rest other e = rw (other refl) e
 
-from_listed : (b : ℕ) (bs : List ℕ) (ms : List Mnemonic)
-    → is_one_of (map (λ (m : Mnemonic). m.word) (filter (begins_with b) ms)) (b ∷ bs)
-    ≡ is_one_of (map (λ (m : Mnemonic). m.word) ms) (b ∷ bs)
+from_listed : (b : ℕ) (bs : List ℕ) (ms : List Mnemonic) → is_one_of (map (λ (m : Mnemonic). m.word)
+    (filter (begins_with b) ms)) (b ∷ bs) ≡ is_one_of (map (λ (m : Mnemonic). m.word) ms) (b ∷ bs)
 from_listed b bs [] = refl
 from_listed b bs (n ∷ ms) = kept_listed (begins_with b n) (b ∷ bs) n (filter (begins_with b) ms) _
     (differ_first b bs n.word) (from_listed b bs ms)
 
 -- a word that none of those that begin with its first byte is
-pub none_from : (w : List ℕ) (d : ℕ) → 0 < length w
-    → is_one_of (map (λ (m : Mnemonic). m.word) (filter (begins_with (get_or w 0 d)) mnemonics)) w ≡ false
-    → is_one_of mnemonic_words w ≡ false
+pub none_from : (w : List ℕ) (d : ℕ) → 0 < length w → is_one_of (map (λ (m : Mnemonic). m.word)
+    (filter (begins_with (get_or w 0 d)) mnemonics)) w ≡ false → is_one_of mnemonic_words w ≡ false
 none_from [] d l e = absurd (omega arith)
 none_from (b ∷ bs) d l e = sym (from_listed b bs mnemonics) ∙ e
+
+-- Words that are extensions' names, and words that no reserved word is.
+
+name_listed : (e : Ext) → is_one_of extension_names (ext_name e) ≡ true
+unfolding extension_names
+name_listed e = search (rules)
+
+listed_name : (w : List ℕ) → is_one_of extension_names w ≡ true → (e : Ext) × (w ≡ ext_name e)
+unfolding extension_names
+listed_name w h =
+    let s = some_element (λ v. bytes_eq w v) (map (λ e. ext_name e.1) ext_table) h in
+    let m = from_map (λ e. ext_name e.1) ext_table s.0 s.1 in
+    (m.0.1, equal_bytes w s.0 s.2 ∙ sym m.2)
+
+pub extension_test : (w : List ℕ) (o : Option Ext)
+    → MatchOption o ((e : Ext) → w ≡ ext_name e → ⊥) (λ e. w ≡ ext_name e) → is_some o ≡ is_one_of extension_names w
+extension_test w o h1 = search (rules, listed_name, name_listed)
+
+-- a word that fails a test which all words of a list pass is none of them
+not_listed : (p : List ℕ → Bool) (words : List (List ℕ)) (w : List ℕ) → list_all p words ≡ true → p w ≡ false
+    → is_one_of words w ≡ false
+not_listed p [] w all fails = refl
+not_listed p (v ∷ vs) w all fails = by_test (bytes_eq w v) refl (not_listed p vs w (and_parts (p v) _ all).1 fails)
+  where
+    by_test : (t : Bool) → bytes_eq w v ≡ t → is_one_of vs w ≡ false → (t || is_one_of vs w) ≡ false
+    by_test true e h =
+        let k : true ≡ false = sym (and_parts (p v) _ all).0 ∙ (ap p (sym (equal_bytes w v e)) ∙ fails) in
+        cc
+    by_test false e h = h
+
+-- the last byte is greater than 57, which is `9`
+abbrev above_digits : List ℕ → Bool
+above_digits w = not (nat_le (slice_index w (length w - 1)) 57)
+
+reserved_above : list_all above_digits mnemonic_words
+    && (list_all above_digits extension_names && list_all above_digits operand_words) ≡ true
+unfolding mnemonics extension_names
+reserved_above = refl
+
+-- no reserved word ends with a digit
+pub digit_free : (w : List ℕ) → nat_le (slice_index w (length w - 1)) 57 ≡ true → is_reserved w ≡ false
+digit_free w h1 = search (rules, and_parts, reserved_above, not_listed)

@@ -14,10 +14,9 @@ use Rattle.cbpf_syntax.specs.Views.{symbol_of, lexeme_of}
 use Rattle.cbpf_syntax.specs.Steps.{NoLonger, Stuck, IsNextItem}
 use Rattle.cbpf_syntax.specs.Refusals.{ParseFault, symbol_at, IsLarge, IsLargeNegative, IsMisplaced, IsStuckAt}
 use Rattle.cbpf_syntax.specs.Refusals.{IsRefusedAt, IsFirstRefusal, IsAccepted}
-use Rattle.cbpf_syntax.proofs.Greedy.{Greedy, greedy_items, stuck_begins, stuck_ends, stuck_open}
-use Rattle.cbpf_syntax.proofs.Begins.{begins_take}
-use Rattle.cbpf_syntax.proofs.Instructions.{some_known}
-use Rattle.cbpf_syntax.proofs.OneReading.{no_classes}
+use Rattle.cbpf_syntax.proofs.Greedy.{Greedy, greedy_items, stuck_begins, stuck_ends, stuck_open, begins_take}
+use Rattle.cbpf_syntax.proofs.Steps.{some_known}
+use Rattle.cbpf_syntax.proofs.Apart.{no_classes}
 use Rattle.cbpf_syntax.proofs.Cuts.{some-same}
 
 pub symbol_at_get : (ts : List declared_lexeme.Lexeme) (i : ℕ) (d : declared_lexeme.Lexeme) → i < length ts

@@ -23,8 +23,7 @@ use Rattle.cbpf_syntax.specs.Pieces.{IsNext, IsPieceAt, IsCut, is_line_blank, ru
 use Rattle.cbpf_syntax.specs.Leads.{lead_of}
 use Rattle.cbpf_syntax.specs.Tokens.{Lexes, tokens_of, is_good}
 use Rattle.cbpf_syntax.proofs.Runs.{blanks_next, word_next, number_next, mark_next}
-use Rattle.cbpf_syntax.proofs.Leads.{blank_lead}
-use Rattle.cbpf_syntax.proofs.LeadTable.{number_of, same_lead}
+use Rattle.cbpf_syntax.proofs.LeadTable.{blank_lead, number_of, same_lead}
 
 -- a blank; a word by its first byte and the rest; a number in the same way, with its value; a mark
 pub data Segment : Type 0 where

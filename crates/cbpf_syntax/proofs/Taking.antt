@@ -77,8 +77,7 @@ step_more ws rest (Some (Instruction row)) h l =
     let n : ℕ = suc (length row.operand.now) in
     let e = take-append-le (suc (length row.operand.now)) ws rest (omega (arith, l)) in
     subst (λ (us : List Lexeme). IsNextItem (ws ++ rest) (suc (length row.operand.now))
-    (record { labels = []; row = row_of row; body = us })) (sym e)
-    (next_more (suc (length row.operand.now)) ws rest
+    (record { labels = []; row = row_of row; body = us })) (sym e) (next_more (suc (length row.operand.now)) ws rest
     (record { labels = []; row = row_of row; body = take (suc (length row.operand.now)) ws }) (omega (arith, l)) h)
 step_more ws rest (Some (stuck_step n)) h l = stuck_more n ws rest l h
 
@@ -254,8 +253,7 @@ taken_word n window h1 h2 = search (rules)
 
 pub large_taken : (text : List ℕ) (at m n : ℕ) (window : List declared_lexeme.Lexeme) (ts : List Lexeme)
     (old new : Option ℕ) → AreAhead text at m (map lexeme_of window) → AreLexemes text ts → n ≤ length window
-    → (0 < n → StartsWithWord (map lexeme_of window))
-    → IsFirstLarge ts m old → IfSome old (λ at. new ≡ Some at)
+    → (0 < n → StartsWithWord (map lexeme_of window)) → IsFirstLarge ts m old → IfSome old (λ at. new ≡ Some at)
     → IfNone old (IsFirstLarge (map lexeme_of (take n window)) (length (take n window)) new)
     → IsFirstLarge ts (m + n) new
 large_taken text at m n window ts old new a t l w h known found =

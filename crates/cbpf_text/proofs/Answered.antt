@@ -35,10 +35,8 @@ use Rattle.cbpf_text.specs.Refusals.IsRefused.{piece, token}
 use Rattle.cbpf_text.specs.Tables.{labels_from, place_among, IsLookup}
 use Rattle.cbpf_text.specs.Laws.{EachAnswered}
 use Rattle.cbpf_text.proofs.Lists.{all_none, all_one, all_front, all_after}
-use Rattle.cbpf_text.proofs.LabelLists.{distinct_more}
-use Rattle.cbpf_text.proofs.Lookups.{lookup_found}
-use Rattle.cbpf_text.proofs.Uses.{use_of, good_use}
-use Rattle.cbpf_text.proofs.Forms.{items_forms}
+use Rattle.cbpf_text.proofs.LabelLists.{distinct_more, lookup_found}
+use Rattle.cbpf_text.proofs.Forms.{use_of, good_use, items_forms}
 use Rattle.cbpf_text.proofs.Faults.{tokens_assembled}
 
 get_some : {A : Type 0} (xs : List A) (i : ℕ) → i < length xs → (x : A) × (slice_get xs i ≡ Some x)

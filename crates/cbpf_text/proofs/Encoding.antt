@@ -16,12 +16,11 @@ use Rattle.cbpf_text.specs.Assembled.{IsEncoded, EncodeEach, FillsFields}
 use Rattle.cbpf_text.specs.Operands.{HasForm, targets_in, literal_in}
 use Rattle.cbpf_text.specs.Refusals.{Use, IsGoodUse, IsFirstBadUse, Reported, uses_of, uses_from, is_conditional}
 use Rattle.cbpf_text.specs.declared.placed_fault.PlacedFault.{PlacedFault}
-use Rattle.cbpf_syntax.proofs.Instructions.{some_known}
+use Rattle.cbpf_syntax.proofs.Steps.{some_known}
 use Rattle.cbpf_text.specs.declared.draft.Statement.{Statement}
 use Rattle.cbpf_text.specs.Drafts.{IsStatement, AreStatements}
 use Rattle.cbpf_text.proofs.Lists.{all_none, all_one, all_front, all_after, all_prefix, split_at}
-use Rattle.cbpf_text.proofs.Forms.{takes, form_takes}
-use Rattle.cbpf_text.proofs.Uses.{use_of, good_use, reported_more}
+use Rattle.cbpf_text.proofs.Forms.{takes, form_takes, use_of, good_use, reported_more}
 
 none_of : (is : List Item) (index : ℕ) (short : Bool) (ts : List Lexeme) → (length ts == 0) ≡ true
     → All (IsGoodUse is) (map (use_of index short) ts)
@@ -57,8 +56,7 @@ good_uses all index (i ∷ is) [] p f = absurd p
 good_uses all index (i ∷ is) (insn ∷ insns) p f =
     All-append (IsGoodUse all) (uses_of index i) (uses_from (index + 1) is)
     (fields_good all index i.row.fields (literal_in i) (targets_in i) insn p.0.fields
-    (form_takes i (all_front HasForm i is f)))
-    (good_uses all (index + 1) is insns p.1 (all_after HasForm i is f))
+    (form_takes i (all_front HasForm i is f))) (good_uses all (index + 1) is insns p.1 (all_after HasForm i is f))
 
 each_more : (all : List Item) (k : ℕ) (is : List Item) (insns : List Insn) (item : Item) (insn : Insn)
     → EncodeEach all k is insns → IsEncoded all (k + length is) item insn
@@ -84,8 +82,7 @@ uses_split k (x ∷ is) (suc i) d l =
     let e : k + 1 + i ≡ k + suc i = omega arith in (
       s.0,
       ap (λ us. uses_of k x ++ us)
-          (s.1 ∙ ap (λ n. uses_from (k + 1) (take i is) ++ (uses_of n (get_or is i d) ++ s.0)) e)
-          ∙ sym
+          (s.1 ∙ ap (λ n. uses_from (k + 1) (take i is) ++ (uses_of n (get_or is i d) ++ s.0)) e) ∙ sym
           (append_assoc (uses_of k x) (uses_from (k + 1) (take i is)) (uses_of (k + suc i) (get_or is i d) ++ s.0)),
     )
 

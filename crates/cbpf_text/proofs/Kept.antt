@@ -19,8 +19,7 @@ use Rattle.cbpf_text.specs.Refusals.{IsItemsFault, IsFirstRepeat}
 use Rattle.cbpf_text.specs.Refusals.IsItemsFault.{no_item, too_many, set_twice}
 use Rattle.cbpf_text.specs.Assembled.{HasProgramLength}
 use Rattle.cbpf_text.proofs.Encoding.{statements_size, statements_more}
-use Rattle.cbpf_text.proofs.LabelSteps.{words_from}
-use Rattle.cbpf_text.proofs.Lookups.{lookup_found}
+use Rattle.cbpf_text.proofs.LabelLists.{words_from, lookup_found}
 
 -- the labels of one more item
 pub labels_snoc : (k : ℕ) (is : List Item) (i : Item)
@@ -56,11 +55,9 @@ none_if (Some x) e = let k : false ≡ true = e in cc
 
 -- one more label
 pub kept_label : (ss : List Statement) (rep rep2 : Option ℕ) (look look2 : Name → Option ℕ) (is : List Item)
-    (ls ms : List Lexeme) (word : Lexeme) (place : ℕ)
-    → IsKept ss rep look is ls → place ≡ length ss → label_words ms ≡ label_words ls ++ (word ∷ [])
-    → ((all : List Label) → AreSet all rep look
-    → AreSet (all ++ (record { word = word; place = place } ∷ [])) rep2 look2)
-    → IsKept ss rep2 look2 is ms
+    (ls ms : List Lexeme) (word : Lexeme) (place : ℕ) → IsKept ss rep look is ls → place ≡ length ss
+    → label_words ms ≡ label_words ls ++ (word ∷ []) → ((all : List Label) → AreSet all rep look
+    → AreSet (all ++ (record { word = word; place = place } ∷ [])) rep2 look2) → IsKept ss rep2 look2 is ms
 kept_label ss rep rep2 look look2 is ls ms word place h1 h2 h3 h4 =
     search (rules, statements_size, append_assoc, map-append)
 

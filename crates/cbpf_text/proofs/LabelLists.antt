@@ -1,16 +1,19 @@
 -- Labels in a list, how often each is set, and where.
-use Rattle.std.proofs.Common.{rules}
-use Rattle.std.proofs.Common.{◌≡◌, ◌≢◌, refl, sym, ◌∙◌, ap, subst, cond, ℕ, suc, ◌+◌, ◌<◌, Bool, true, false, List}
-use Rattle.std.proofs.Common.{[], ◌∷◌, ◌++◌, length, get_or, Option, Some, None, arith}
-use Rattle.std.specs.Prelude.{bytes_eq}
+use Rattle.std.proofs.Common.{rules, ◌≡◌, ◌≢◌, refl, sym, ◌∙◌, ap, subst, cond, ℕ, suc, ◌+◌, ◌<◌, Bool, true, false}
+use Rattle.std.proofs.Common.{List, [], ◌∷◌, ◌++◌, length, get_or, Option, Some, None, arith, append_assoc, zero}
+use Rattle.std.specs.Prelude.{bytes_eq, is_some}
 use Rattle.std.proofs.lemmas.List.Elements.{All-append}
 use Rattle.std.proofs.lemmas.List.Sums.{sum_by-append}
 use Rattle.cbpf_syntax.specs.Lexemes.{Lexeme}
 use Rattle.cbpf_syntax.proofs.Apart.{equal_bytes, bytes_eq_self}
-use Rattle.cbpf_text.specs.Labels.{name_of, times_among, AreDistinct}
-use Rattle.cbpf_text.specs.Drafts.{words}
-use Rattle.cbpf_text.specs.Tables.{Label, place_among}
+use Rattle.cbpf_text.specs.Labels.{name_of, times_among, AreDistinct, set_labels, times_set, SetsAt}
+use Rattle.cbpf_text.specs.Drafts.{words, AreSet}
+use Rattle.cbpf_text.specs.Tables.{Label, place_among, labels_of, labels_from, IsLookup}
 use Rattle.cbpf_text.proofs.Lists.{all_one}
+use Rattle.std.proofs.lemmas.List.{map-append}
+use Rattle.cbpf_syntax.specs.Items.{Item}
+use Rattle.cbpf_text.specs.declared.name.Name.{Name}
+use Rattle.cbpf_syntax.proofs.Cuts.{some-same}
 
 pub times_append : (xs ys : List Lexeme) (name : List ℕ)
     → times_among (xs ++ ys) name ≡ times_among xs name + times_among ys name
@@ -29,8 +32,7 @@ times_hit t name e = rw e refl
 -- one more label of a new name
 pub distinct_more : (ts : List Lexeme) (t : Lexeme) → AreDistinct ts → times_among ts (name_of t) ≡ 0
     → AreDistinct (ts ++ (t ∷ []))
-distinct_more ts t h z =
-    All-append (λ u. times_among (ts ++ (t ∷ [])) (name_of u) ≡ 1) ts (t ∷ [])
+distinct_more ts t h z = All-append (λ u. times_among (ts ++ (t ∷ [])) (name_of u) ≡ 1) ts (t ∷ [])
     (λ k d l. old (get_or ts k d) (h k d l) (bytes_eq (name_of t) (name_of (get_or ts k d))) refl)
     (all_one (λ u. times_among (ts ++ (t ∷ [])) (name_of u) ≡ 1) t new)
   where
@@ -104,3 +106,132 @@ some_place (l ∷ ls) name p e = by_test (bytes_eq (name_of l.word) name) refl e
 pub place_more : (ls : List Label) (l : Label) (name : List ℕ) → place_among ls (name_of l.word) ≡ None
     → cond (bytes_eq (name_of l.word) name) (Some l.place) (place_among ls name) ≡ place_among (ls ++ (l ∷ [])) name
 place_more ls l name h1 = search (rules, place_append, equal_bytes)
+
+-- The labels of items, one more at a time.
+
+words_of : (place : ℕ) (ts : List Lexeme) → words (labels_of place ts) ≡ ts
+words_of place [] = refl
+words_of place (t ∷ ts) = ap (λ us. t ∷ us) (words_of place ts)
+
+-- the labels of items are those that the items set
+pub words_from : (k : ℕ) (is : List Item) → words (labels_from k is) ≡ set_labels is
+words_from k [] = refl
+words_from k (i ∷ is) = map-append (λ (l : Label). l.word) (labels_of k i.labels) (labels_from (k + 1) is)
+    ∙ (λ j. words_of k i.labels j ++ words_from (k + 1) is j)
+
+is_some_false : (o : Option ℕ) → false ≡ is_some o → o ≡ None
+is_some_false None e = refl
+is_some_false (Some x) e = let k : false ≡ true = e in cc
+
+is_some_true : (o : Option ℕ) → true ≡ is_some o → (x : ℕ) × (o ≡ Some x)
+is_some_true None e = let k : true ≡ false = e in cc
+is_some_true (Some x) e = (x, refl)
+
+words_more : (ls : List Label) (l : Label) → words (ls ++ (l ∷ [])) ≡ words ls ++ (l.word ∷ [])
+words_more ls l = map-append (λ (k : Label). k.word) ls (l ∷ [])
+
+-- a label after the first that is set a second time
+pub set_past : (ls : List Label) (l : Label) (rep : Option ℕ) (look : Name → Option ℕ) → true ≡ is_some rep
+    → AreSet ls rep look → AreSet (ls ++ (l ∷ [])) rep look
+set_past ls l rep look h1 h2 = search (rules, words_more, append_assoc)
+
+-- the first label that is set a second time
+pub set_again : (ls : List Label) (l : Label) (rep : Option ℕ) (look look2 : Name → Option ℕ) (k : Name)
+    → false ≡ is_some rep → AreSet ls rep look → k.bytes.now ≡ name_of l.word → true ≡ is_some (look k)
+    → AreSet (ls ++ (l ∷ [])) (Some l.word.at) look2
+set_again ls l rep look look2 k h1 h2 h3 h4 = search (rules, is_some_true, words_more, some_place)
+
+-- a label of a new name
+pub set_new : (ls : List Label) (l : Label) (rep : Option ℕ) (look look2 : Name → Option ℕ) (k : Name)
+    → false ≡ is_some rep → AreSet ls rep look → k.bytes.now ≡ name_of l.word → false ≡ is_some (look k)
+    → ((j : Name) → look2 j ≡ cond (bytes_eq k.bytes.now j.bytes.now) (Some l.place) (look j))
+    → AreSet (ls ++ (l ∷ [])) rep look2
+set_new ls l (Some at) look look2 k e s n h up = let q : false ≡ true = e in cc
+set_new ls l None look look2 k e s n h up =
+    let new : place_among ls (name_of l.word) ≡ None =
+    ap (place_among ls) (sym n) ∙ (sym (s.0 k) ∙ is_some_false (look k) h) in (
+      λ j. up j ∙ (ap (λ o. cond (bytes_eq k.bytes.now j.bytes.now) (Some l.place) o) (s.0 j)
+          ∙ (ap (λ w. cond (bytes_eq w j.bytes.now) (Some l.place) (place_among ls j.bytes.now)) n
+          ∙ place_more ls l j.bytes.now new)),
+      subst AreDistinct (sym (words_more ls l))
+          (distinct_more (words ls) l.word s.1 (no_place ls (name_of l.word) new)),
+    )
+
+-- What a look-up of a name in the label table says of the items.
+
+-- the items that set a name do so more than no times
+pub sets_some : (is : List Item) (p : ℕ) (name : List ℕ) → SetsAt is p name → 0 < times_set is name
+sets_some [] p name s = let e : ◌≡◌ {A = Option Item} None (Some s.0) = s.1 in cc
+sets_some (i ∷ is) zero name s =
+    let n : times_among i.labels name ≢ 0 =
+    subst (λ (j : Item). times_among j.labels name ≢ 0) (sym (some-same i s.0 s.1)) s.2 in
+    omega (arith, times_append i.labels (set_labels is) name, n)
+sets_some (i ∷ is) (suc p) name s = let h : 0 < times_set is name = sets_some is p name s in
+    omega (arith, times_append i.labels (set_labels is) name, h)
+
+-- a name that is set once has one place
+pub one_place : (is : List Item) (p q : ℕ) (name : List ℕ) → times_set is name ≡ 1 → SetsAt is p name
+    → SetsAt is q name → p ≡ q
+one_place [] p q name e s t = let z : ◌≡◌ {A = Option Item} None (Some s.0) = s.1 in cc
+one_place (i ∷ is) zero zero name e s t = refl
+one_place (i ∷ is) zero (suc q) name e s t =
+    let a : times_among i.labels name ≢ 0 =
+    subst (λ (j : Item). times_among j.labels name ≢ 0) (sym (some-same i s.0 s.1)) s.2 in
+    let b : 0 < times_set is name = sets_some is q name t in
+    absurd (omega (arith, times_append i.labels (set_labels is) name, e, a, b))
+one_place (i ∷ is) (suc p) zero name e s t =
+    let a : times_among i.labels name ≢ 0 =
+    subst (λ (j : Item). times_among j.labels name ≢ 0) (sym (some-same i t.0 t.1)) t.2 in
+    let b : 0 < times_set is name = sets_some is p name s in
+    absurd (omega (arith, times_append i.labels (set_labels is) name, e, a, b))
+one_place (i ∷ is) (suc p) (suc q) name e s t =
+    let b : 0 < times_set is name = sets_some is p name s in
+    ap suc (one_place is p q name (omega (arith, times_append i.labels (set_labels is) name, e, b)) s t)
+
+Here : ℕ → List Lexeme → List ℕ → ℕ → Type 0
+Here index ts name p = (p ≡ index) × (times_among ts name ≢ 0)
+
+here : (index : ℕ) (ts : List Lexeme) (name : List ℕ) (p : ℕ) → place_among (labels_of index ts) name ≡ Some p
+    → Here index ts name p
+unfolding Here
+here index [] name p e = let k : ◌≡◌ {A = Option ℕ} None (Some p) = e in cc
+here index (t ∷ ts) name p e = by_test (bytes_eq (name_of t) name) refl e (λ q. here index ts name p q)
+  where
+    by_test : (b : Bool) → bytes_eq (name_of t) name ≡ b
+        → cond b (Some index) (place_among (labels_of index ts) name) ≡ Some p
+        → (place_among (labels_of index ts) name ≡ Some p → Here index ts name p) → Here index (t ∷ ts) name p
+    by_test true q r again =
+        (sym (some-same index p r), λ z. omega (arith, times_cons t ts name, times_hit t name q, z))
+    by_test false q r again = let h = again r in (h.0, λ z. h.1 (omega (arith, times_cons t ts name, z)))
+
+Somewhere : ℕ → List Item → List ℕ → ℕ → Type 0
+Somewhere index is name p = (q : ℕ) × (p ≡ index + q) × SetsAt is q name
+
+somewhere : (index : ℕ) (is : List Item) (name : List ℕ) (p : ℕ) → place_among (labels_from index is) name ≡ Some p
+    → Somewhere index is name p
+unfolding Somewhere Here
+somewhere index [] name p e = let k : ◌≡◌ {A = Option ℕ} None (Some p) = e in cc
+somewhere index (i ∷ is) name p e = by_place (place_among (labels_of index i.labels) name) refl
+    (sym (place_append (labels_of index i.labels) (labels_from (index + 1) is) name) ∙ e)
+    (λ q. somewhere (index + 1) is name p q)
+  where
+    by_place : (o : Option ℕ) → place_among (labels_of index i.labels) name ≡ o
+        → or_else o (place_among (labels_from (index + 1) is) name) ≡ Some p
+        → (place_among (labels_from (index + 1) is) name ≡ Some p → Somewhere (index + 1) is name p)
+        → Somewhere index (i ∷ is) name p
+    by_place None q r again = let h = again r in (suc h.0, omega (arith, h.1), h.2)
+    by_place (Some x) q r again = let h = here index i.labels name x q in
+        (0, omega (arith, h.0, some-same x p r), (i, refl, h.1))
+
+-- where no label is set twice, a look-up answers how often a name is set, and where
+pub lookup_found : (is : List Item) (name : List ℕ) (o : Option ℕ) → AreDistinct (set_labels is)
+    → place_among (labels_from 0 is) name ≡ o → IsLookup is name o
+unfolding Somewhere
+lookup_found is name None h e =
+    ap (λ ts. times_among ts name) (sym (words_from 0 is)) ∙ no_place (labels_from 0 is) name e
+lookup_found is name (Some p) h e =
+    let s = somewhere 0 is name p e in
+    let q : s.0 ≡ p = omega (arith, s.1) in
+    let at : SetsAt is p name = subst (λ n. SetsAt is n name) q s.2 in
+    let some : 0 < times_set is name = sets_some is p name at in
+    record { once = distinct_once (set_labels is) name h (λ z. omega (arith, some, z)); sets = at }

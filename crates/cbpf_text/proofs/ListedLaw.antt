@@ -23,15 +23,13 @@ use Rattle.cbpf_text.specs.declared.fault.AsmFault.TheVariants.{Memory, At}
 use Rattle.cbpf_text.specs.Assembled.{Assembles, AssembleTokens, AreEncoded}
 use Rattle.cbpf_text.specs.Laws.{ListingAssembles, ListingAnswers}
 use Rattle.cbpf_text.proofs.Lists.{get_within}
-use Rattle.cbpf_text.proofs.OneAssembly.{one_assembly}
-use Rattle.cbpf_text.proofs.NeverBoth.{never_both}
+use Rattle.cbpf_text.proofs.OneAssembly.{one_assembly, never_both}
 use Rattle.cbpf_text.proofs.ListedTokens.{lexemes_at, lexemes_spelled, no_large_negative}
-use Rattle.cbpf_text.proofs.ListedLabels.{Places}
+use Rattle.cbpf_text.proofs.ListedNumbers.{Places}
 use Rattle.cbpf_text.proofs.ListedOperands.{Spells, spells_bare, spells_x, spells_a, spells_length, spells_immediate}
-use Rattle.cbpf_text.proofs.ListedOperands.{spells_absolute, spells_indexed, spells_memory, spells_header}
-use Rattle.cbpf_text.proofs.ListedJumps.{HasTargets, spells_label, spells_immediate_two, spells_x_two}
-use Rattle.cbpf_text.proofs.ListedPlaces.{labels_place, labels_distinct_by_number}
-use Rattle.cbpf_text.proofs.ListedProgram.{Lists, lists_none, lists_line}
+use Rattle.cbpf_text.proofs.ListedOperands.{spells_absolute, spells_indexed, spells_memory, spells_header, HasTargets}
+use Rattle.cbpf_text.proofs.ListedOperands.{spells_label, spells_immediate_two, spells_x_two}
+use Rattle.cbpf_text.proofs.ListedPlaces.{labels_place, labels_distinct_by_number, Lists, lists_none, lists_line}
 
 -- the instruction at i of n has a known operation, and its targets are inside
 record IsListable (n i : ℕ) (insn : Insn) : Type 0 where

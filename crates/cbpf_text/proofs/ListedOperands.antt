@@ -1,7 +1,7 @@
 -- Each operand of a listing is spelled by segments, whose tokens fit its row of the table and give the
 -- instruction's fields back.
 use Rattle.std.proofs.Common.{◌≡◌, ℕ, ◌+◌, ◌^◌, ◌<◌, Bool, true, false, cond, ◌&&◌, List, [], ◌∷◌, ◌++◌, refl, ap}
-use Rattle.std.proofs.Common.{sym, ◌∙◌, arith, rules, append-nil, lit<, Option, Some, None, eqb-true}
+use Rattle.std.proofs.Common.{sym, ◌∙◌, arith, rules, append-nil, lit<, Option, Some, None, eqb-true, ◌≤◌, length}
 use Rattle.std.specs.Prelude.{◌==◌, codes}
 use Rattle.std.specs.List.{list_all}
 use Rattle.cbpf_code.specs.declared.insn.Insn.{Insn}
@@ -15,12 +15,10 @@ use Rattle.cbpf_syntax.proofs.Spelled.Segment.{blank, word, number, mark}
 use Rattle.cbpf_syntax.specs.declared.table.Fields.{Fields}
 use Rattle.cbpf_syntax.specs.declared.table.Fields.TheVariants.{Constant}
 use Rattle.cbpf_syntax.specs.Classes.{Class}
-use Rattle.cbpf_syntax.specs.Classes as forms
 use Rattle.cbpf_syntax.specs.Lexemes.{Lexeme}
 use Rattle.cbpf_syntax.specs.Fits.{fits, fits_all, is_one_of, extension_names}
 use Rattle.cbpf_syntax.specs.Items.{Item, names_at}
 use Rattle.cbpf_code.specs.declared.syntax.Operand.{Operand}
-use Rattle.cbpf_code.specs.declared.syntax.Operand.TheVariants as operands
 use Rattle.cbpf_code.specs.Syntax.{operand_of}
 use Rattle.cbpf_code.specs.Listing.{immediate, operand_text, place_or_name}
 use Rattle.cbpf_text.specs.Assembled.{FillsFields}
@@ -28,8 +26,11 @@ use Rattle.cbpf_text.specs.Operands.{literal_of, place_named}
 use Rattle.cbpf_text.proofs.ListedRows.{HasRow, operation_row, named_row, looked_up, operand_classes, operand_fields}
 use Rattle.cbpf_text.proofs.ListedRows.{first, rest, IsWord, is_word, word_of_test, plain_as}
 use Rattle.cbpf_text.proofs.ListedTokens.{lexemes_at, newline, are_positive}
-use Rattle.cbpf_text.proofs.ListedLabels.{Places, decimal_segment, spelled_decimal, is_decimal_segment, hex_segment}
-use Rattle.cbpf_text.proofs.ListedLabels.{is_hex_segment, given_is}
+use Rattle.cbpf_text.proofs.ListedNumbers.{Places, decimal_segment, spelled_decimal, is_decimal_segment, hex_segment}
+use Rattle.cbpf_text.proofs.ListedNumbers.{is_hex_segment, given_is, label_fits, label_segment, is_label_segment}
+use Rattle.cbpf_text.proofs.ListedNumbers.{hex_rest}
+use Rattle.cbpf_syntax.specs.Classes as forms
+use Rattle.cbpf_code.specs.declared.syntax.Operand.TheVariants as operands
 
 abbrev pub EachFits : List Class → List Lexeme → Type 0
 EachFits [] [] = Unit {0}
@@ -110,8 +111,7 @@ spells_memory n i insn l =
     (search (rules, is_decimal_segment)) refl (λ at. refl) (λ at all p. (refl, refl, refl))
 
 pub spells_indexed : (n i : ℕ) (insn : Insn) → insn.k < 2 ^ 32 → Spells operands.Indexed n i insn
-spells_indexed n i insn l =
-    by_row operands.Indexed n i insn
+spells_indexed n i insn l = by_row operands.Indexed n i insn
     (blank 32 ∷ mark 91 ∷ word 120 [] ∷ blank 32 ∷ mark 43 ∷ blank 32 ∷ decimal_segment insn.k ∷ mark 93 ∷ [])
     (ap (λ (w : List ℕ). codes " [x + " ++ (w ++ codes "]")) (spelled_decimal insn.k (omega arith)))
     (search (rules, is_decimal_segment) depth 12) refl (λ at. refl) (λ at all p. (refl, refl, refl))
@@ -152,9 +152,8 @@ some_of : (n : ℕ) (o : Option ℕ) → is_some_of n o ≡ true → o ≡ Some 
 some_of n None e = cc
 some_of n (Some m) e = ap (λ k. Some k) (eqb-true m n e)
 
-names_have_values :
-    list_all (λ (e : ℕ × Ext). is_some_of (4294963200 + ext_offset e.1) (place_named ext_table (name_of_ext e.1)))
-    ext_table ≡ true
+names_have_values : list_all (λ (e : ℕ × Ext). is_some_of (4294963200 + ext_offset e.1)
+    (place_named ext_table (name_of_ext e.1))) ext_table ≡ true
 names_have_values = refl
 
 ext_value : (e : Ext) → place_named ext_table (name_of_ext e) ≡ Some (4294963200 + ext_offset e)
@@ -191,3 +190,63 @@ absolute_by n i insn (Some x) e l = record {
 
 pub spells_absolute : (n i : ℕ) (insn : Insn) → insn.k < 2 ^ 32 → Spells operands.Absolute n i insn
 spells_absolute n i insn l = absolute_by n i insn (ext_at insn.k) refl l
+
+-- The targets of a listing's jumps are spelled by segments, whose tokens fit the jumps' rows of the table and
+-- give their offsets back.
+
+abbrev goto_segments : ℕ → List Segment
+goto_segments t = blank 32 ∷ label_segment t ∷ []
+
+pub spells_label : (n i : ℕ) (insn : Insn) → i + 1 + insn.k < n → n ≤ 4096 → Spells operands.Label n i insn
+spells_label n i insn inside most = by_row operands.Label n i insn (goto_segments (i + 1 + insn.k)) refl
+    (is_blank_segment, (is_label_segment (i + 1 + insn.k) (omega arith), tt)) refl
+    (λ at. fits_from_each (operand_classes operands.Label) (lexemes_at at (goto_segments (i + 1 + insn.k)))
+    (label_fits (i + 1 + insn.k) (omega arith), tt)) (λ at all p. (refl, refl, p (i + 1 + insn.k) inside))
+
+abbrev target_segments : ℕ → ℕ → List Segment
+target_segments t f = mark 44 ∷ blank 32 ∷ label_segment t ∷ mark 44 ∷ blank 32 ∷ label_segment f ∷ []
+
+abbrev target_classes : List Class
+target_classes = forms.Class.the_mark 44 ∷ forms.Class.name ∷ forms.Class.the_mark 44 ∷ forms.Class.name ∷ []
+
+-- the targets of the conditional jump at i of n
+pub record HasTargets (n i : ℕ) (insn : Insn) : Type 0 where
+  pub most : n ≤ 4096
+  pub jt : insn.jt < 2 ^ 8
+  pub jf : insn.jf < 2 ^ 8
+  pub holds : i + 1 + insn.jt < n
+  pub fails : i + 1 + insn.jf < n
+
+are_targets : (n i : ℕ) (insn : Insn) → HasTargets n i insn
+    → AreSegments (target_segments (i + 1 + insn.jt) (i + 1 + insn.jf))
+are_targets n i insn h1 = search (rules, is_label_segment)
+
+targets_fit : (n i at : ℕ) (insn : Insn) → HasTargets n i insn
+    → EachFits target_classes (lexemes_at at (target_segments (i + 1 + insn.jt) (i + 1 + insn.jf)))
+targets_fit n i at insn h1 = search (rules, label_fits)
+
+pub spells_x_two : (n i : ℕ) (insn : Insn) → HasTargets n i insn → Spells operands.XTwo n i insn
+spells_x_two n i insn h =
+    let ss = blank 32 ∷ word 120 [] ∷ target_segments (i + 1 + insn.jt) (i + 1 + insn.jf) in
+    by_row operands.XTwo n i insn ss refl (is_blank_segment, ((lit< tt, refl, refl), are_targets n i insn h)) refl
+    (λ at. fits_from_each (operand_classes operands.XTwo) (lexemes_at at ss)
+    (refl, targets_fit n i (at + 1 + (1 + length {A = ℕ} [])) insn h)) (λ at all p. (
+      record { is = p (i + 1 + insn.jt) h.holds; short = omega (arith, h.jt) },
+      record { is = p (i + 1 + insn.jf) h.fails; short = omega (arith, h.jf) },
+      refl,
+    ))
+
+pub spells_immediate_two : (n i : ℕ) (insn : Insn) → insn.k < 2 ^ 32 → HasTargets n i insn
+    → Spells operands.ImmediateTwo n i insn
+spells_immediate_two n i insn l h =
+    let t = insn.k == 0 in
+    let targets = target_segments (i + 1 + insn.jt) (i + 1 + insn.jf) in
+    let ss = blank 32 ∷ mark 35 ∷ hex_segment t insn.k ∷ targets in
+    by_row operands.ImmediateTwo n i insn ss (hex_text t insn.k targets)
+    (is_blank_segment, ((lit< tt, refl), (is_hex_segment insn.k t refl l, are_targets n i insn h))) refl
+    (λ at. fits_from_each (operand_classes operands.ImmediateTwo) (lexemes_at at ss)
+    (refl, (refl, targets_fit n i (at + 1 + 1 + (1 + length (hex_rest t insn.k))) insn h))) (λ at all p. (
+      record { is = p (i + 1 + insn.jt) h.holds; short = omega (arith, h.jt) },
+      record { is = p (i + 1 + insn.jf) h.fails; short = omega (arith, h.jf) },
+      given_is insn.k t refl,
+    ))

@@ -46,8 +46,7 @@ lexemes_spelled before (s ∷ ss) = by_kind s (moved s (lexemes_spelled (before 
         let t = append_assoc before (bytes_of s) (text_of ss) in
         let n = length-append before (bytes_of s) in
         subst (λ k. lexemes_of (before ++ (bytes_of s ++ text_of ss)) (tokens_of k (pieces_of ss)) ≡ lexemes_at k ss)
-        n
-        (subst (λ x. lexemes_of x (tokens_of (length (before ++ bytes_of s)) (pieces_of ss))
+        n (subst (λ x. lexemes_of x (tokens_of (length (before ++ bytes_of s)) (pieces_of ss))
         ≡ lexemes_at (length (before ++ bytes_of s)) ss) t e)
 
     by_kind : (s : Segment)

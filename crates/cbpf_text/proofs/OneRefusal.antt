@@ -6,7 +6,7 @@ use Rattle.cbpf_syntax.proofs.Outcomes as lexer
 use Rattle.cbpf_syntax.specs.Refusals.{ParseFault as parse}
 use Rattle.cbpf_syntax.specs.Lexemes.{Lexeme, lexemes_of}
 use Rattle.cbpf_syntax.specs.Items.{Item}
-use Rattle.cbpf_syntax.proofs.OneReading.{one_reading}
+use Rattle.cbpf_syntax.proofs.Apart.{one_reading}
 use Rattle.cbpf_syntax.proofs.OneRefusal as grammar
 use Rattle.cbpf_text.specs.declared.fault.AsmKind.{AsmKind}
 use Rattle.cbpf_text.specs.declared.fault.AsmFault.{AsmFault}
@@ -22,9 +22,8 @@ use Rattle.cbpf_text.specs.Refusals.IsTokensFault.{misplaced, large_negative, un
 use Rattle.cbpf_text.specs.Refusals.IsRefused.{memory, piece, token}
 use Rattle.cbpf_text.specs.Laws.{OneRefusal}
 use Rattle.cbpf_text.proofs.Lists.{get_within}
-use Rattle.cbpf_text.proofs.LabelLists.{distinct_once}
-use Rattle.cbpf_text.proofs.Lookups.{sets_some, one_place}
-use Rattle.cbpf_text.proofs.NeverBoth.{all_middle, no_repeat, kind_of, index_of, cause}
+use Rattle.cbpf_text.proofs.LabelLists.{distinct_once, sets_some, one_place}
+use Rattle.cbpf_text.proofs.OneAssembly.{all_middle, no_repeat, kind_of, index_of, cause}
 
 -- two places of one list: the same, or one before the other
 data Order {A : Type 0} (b c : List A) (u v : A) : Type 0 where

@@ -51,8 +51,7 @@ names os bs i j = names_at (drop i (map class_of os)) (drop j (map lexeme_of bs)
 
 pub literal_step : (os : List declared_class.Class) (bs : List declared_lexeme.Lexeme) (i j : ℕ)
     (c : declared_class.Class) (t : declared_lexeme.Lexeme) → i < length os → j < length bs
-    → literals os bs i j
-    ≡ first_of (value_at (class_of (get_or os i c)) (symbol_of (get_or bs j t).symbol))
+    → literals os bs i j ≡ first_of (value_at (class_of (get_or os i c)) (symbol_of (get_or bs j t).symbol))
     (literals os bs (i + 1) (j + 1))
 literal_step os bs i j c t l m = λ k. literal_of (cut_at class_of os i c l k) (cut_at lexeme_of bs j t m k)
 
@@ -71,17 +70,14 @@ names_begin w (c ∷ cs) [] = refl
 names_begin w cs (t ∷ ts) = refl
 
 names_step : (os : List declared_class.Class) (bs : List declared_lexeme.Lexeme) (i j : ℕ) (c : declared_class.Class)
-    (t : declared_lexeme.Lexeme) → i < length os → j < length bs
-    → names os bs i j ≡ when_name (class_of (get_or os i c))
-    (lexeme_of (get_or bs j t)) ++ names os bs (i + 1) (j + 1)
+    (t : declared_lexeme.Lexeme) → i < length os → j < length bs → names os bs i j
+    ≡ when_name (class_of (get_or os i c)) (lexeme_of (get_or bs j t)) ++ names os bs (i + 1) (j + 1)
 names_step os bs i j c t l m = λ k. names_at (cut_at class_of os i c l k) (cut_at lexeme_of bs j t m k)
 
 -- a class that is a name's: the token is the next label
 pub name_step : (os : List declared_class.Class) (bs : List declared_lexeme.Lexeme) (i j : ℕ)
-    (c : declared_class.Class) (t : declared_lexeme.Lexeme)
-    → i < length os → j < length bs → get_or os i c ≡ variants.Name
-    → names os bs i j
-    ≡ lexeme_of (get_or bs j t) ∷ names os bs (i + 1) (j + 1)
+    (c : declared_class.Class) (t : declared_lexeme.Lexeme) → i < length os → j < length bs
+    → get_or os i c ≡ variants.Name → names os bs i j ≡ lexeme_of (get_or bs j t) ∷ names os bs (i + 1) (j + 1)
 name_step os bs i j c t l m e = names_step os bs i j c t l m ∙ ap (λ k. when_name (class_of k)
     (lexeme_of (get_or bs j t)) ++ names os bs (i + 1) (j + 1)) e
 
@@ -90,12 +86,9 @@ no_name variants.Name t h = absurd (h refl)
 no_name x t h = refl
 
 pub other_step : (os : List declared_class.Class) (bs : List declared_lexeme.Lexeme) (i j : ℕ)
-    (c : declared_class.Class) (t : declared_lexeme.Lexeme)
-    → i < length os → j < length bs → (get_or os i c ≡ variants.Name → ⊥)
-    → names os bs i j
-    ≡ names os bs (i + 1) (j + 1)
-other_step os bs i j c t l m h = names_step os bs i j c t l m
-    ∙ ap (λ ns. ns ++ names os bs (i + 1) (j + 1))
+    (c : declared_class.Class) (t : declared_lexeme.Lexeme) → i < length os → j < length bs
+    → (get_or os i c ≡ variants.Name → ⊥) → names os bs i j ≡ names os bs (i + 1) (j + 1)
+other_step os bs i j c t l m h = names_step os bs i j c t l m ∙ ap (λ ns. ns ++ names os bs (i + 1) (j + 1))
     (no_name (get_or os i c) (lexeme_of (get_or bs j t)) h)
 
 no_more_names : (cs : List Class) → names_at cs [] ≡ []
@@ -126,8 +119,7 @@ some_lexeme = record { symbol = symbols.Mark 0; at = 0 }
 pub literal_put : (os : List declared_class.Class) (bs : List declared_lexeme.Lexeme) (i : ℕ)
     (c : declared_class.Class) (t : declared_lexeme.Lexeme) → 0 < i → i ≤ length os → i ≤ length bs - 1
     → (r : Option ℕ) → r ≡ value_at (class_of (get_or os (i - 1) c)) (symbol_of (get_or bs i t).symbol)
-    → literals os bs (i - 1) (i - 1 + 1)
-    ≡ first_of r (literals os bs i (i + 1))
+    → literals os bs (i - 1) (i - 1 + 1) ≡ first_of r (literals os bs i (i + 1))
 literal_put os bs i c t p l m r v = search (rules, literal_step)
 
 name_value : (c : declared_class.Class) (s : Symbol) → c ≡ variants.Name → None ≡ value_at (class_of c) s
@@ -135,8 +127,7 @@ name_value c s e = sym (ap (λ d. value_at (class_of d) s) e)
 
 pub literal_at_name : (os : List declared_class.Class) (bs : List declared_lexeme.Lexeme) (i : ℕ)
     (c : declared_class.Class) → 0 < i → i ≤ length os → i ≤ length bs - 1 → get_or os (i - 1) c ≡ variants.Name
-    → literals os bs (i - 1) (i - 1 + 1)
-    ≡ literals os bs i (i + 1)
+    → literals os bs (i - 1) (i - 1 + 1) ≡ literals os bs i (i + 1)
 literal_at_name os bs i c p l m n = literal_put os bs i c some_lexeme p l m None
     (name_value (get_or os (i - 1) c) (symbol_of (get_or bs i some_lexeme).symbol) n)
 
@@ -145,21 +136,18 @@ mark_value c b s e = sym (ap (λ d. value_at (class_of d) s) e)
 
 pub literal_at_mark : (os : List declared_class.Class) (bs : List declared_lexeme.Lexeme) (i b : ℕ)
     (c : declared_class.Class) → 0 < i → i ≤ length os → i ≤ length bs - 1 → get_or os (i - 1) c ≡ variants.Mark b
-    → literals os bs (i - 1) (i - 1 + 1)
-    ≡ literals os bs i (i + 1)
+    → literals os bs (i - 1) (i - 1 + 1) ≡ literals os bs i (i + 1)
 literal_at_mark os bs i b c p l m n = literal_put os bs i c some_lexeme p l m None
     (mark_value (get_or os (i - 1) c) b (symbol_of (get_or bs i some_lexeme).symbol) n)
 
 pub name_put : (os : List declared_class.Class) (bs : List declared_lexeme.Lexeme) (i : ℕ) (c : declared_class.Class)
     (t : declared_lexeme.Lexeme) → 0 < i → i ≤ length os → i ≤ length bs - 1 → get_or os (i - 1) c ≡ variants.Name
-    → names os bs (i - 1) (i - 1 + 1)
-    ≡ lexeme_of (get_or bs i t) ∷ names os bs i (i + 1)
+    → names os bs (i - 1) (i - 1 + 1) ≡ lexeme_of (get_or bs i t) ∷ names os bs i (i + 1)
 name_put os bs i c t p l m n = search (rules, name_step, get_or)
 
 pub other_put : (os : List declared_class.Class) (bs : List declared_lexeme.Lexeme) (i : ℕ) (c : declared_class.Class)
-    → 0 < i → i ≤ length os → i ≤ length bs - 1 → (get_or os (i - 1) c ≡ variants.Name → ⊥)
-    → names os bs (i - 1) (i - 1 + 1)
-    ≡ names os bs i (i + 1)
+    → 0 < i → i ≤ length os → i ≤ length bs - 1 → (get_or os (i - 1) c ≡ variants.Name → ⊥) → names os bs (i - 1)
+    (i - 1 + 1) ≡ names os bs i (i + 1)
 other_put os bs i c p l m n =
     let e : i - 1 + 1 ≡ i = omega (arith, p) in
     ap (λ k. names os bs (i - 1) k) e
@@ -168,14 +156,12 @@ other_put os bs i c p l m n =
 
 -- past the operand or the tokens nothing is left
 pub literal_past : (os : List declared_class.Class) (bs : List declared_lexeme.Lexeme) (i : ℕ)
-    → (length os ≤ i) ⊎ (length bs ≤ i + 1)
-    → literals os bs i (i + 1) ≡ 0
+    → (length os ≤ i) ⊎ (length bs ≤ i + 1) → literals os bs i (i + 1) ≡ 0
 literal_past os bs i (inl l) = ap (λ cs. literal_of cs (drop (i + 1) (map lexeme_of bs))) (none_left class_of os i l)
 literal_past os bs i (inr l) = literal_end_tokens (drop i (map class_of os)) bs (i + 1) l
 
 pub names_past : (os : List declared_class.Class) (bs : List declared_lexeme.Lexeme) (i : ℕ)
-    → (length os ≤ i) ⊎ (length bs ≤ i + 1)
-    → names os bs i (i + 1) ≡ []
+    → (length os ≤ i) ⊎ (length bs ≤ i + 1) → names os bs i (i + 1) ≡ []
 names_past os bs i (inl l) = names_end_classes os (drop (i + 1) (map lexeme_of bs)) i l
 names_past os bs i (inr l) = names_end_tokens (drop i (map class_of os)) bs (i + 1) l
 

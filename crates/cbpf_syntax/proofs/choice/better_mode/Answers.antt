@@ -17,7 +17,6 @@ loop-form-preserved c rs b =
     (c.better_form-best.ensures (rs ++ front) (c.loop-form.invariant rs b))
 
 pub returns : goal.returns
-returns c rs b =
-    subst (λ xs. IsBest (rs ++ xs) (map lexeme_of c.args.tokens.now) c.loop-form.best)
+returns c rs b = subst (λ xs. IsBest (rs ++ xs) (map lexeme_of c.args.tokens.now) c.loop-form.best)
     (all_forms c.args.mnemonic.now.word.now c.args.entry.now c.forms-form-items.result.now c.loop-form.form-index
     c.forms-form-items.ensures.forms c.loop-form-test.false) (c.loop-form.invariant rs b)

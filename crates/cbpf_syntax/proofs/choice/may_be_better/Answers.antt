@@ -10,8 +10,7 @@ use Rattle.cbpf_syntax.proofs.Best.{misfit_common, no_better_form}
 use Rattle.cbpf_syntax.proofs.choice.may_be_better.Goals as goal
 
 pub returns-then-n-tokens : goal.returns-then-n-tokens
-returns-then-n-tokens c e =
-    no_better_form c.args.form.now c.args.tokens.now c.args.best.now
+returns-then-n-tokens c e = no_better_form c.args.form.now c.args.tokens.now c.args.best.now
     (misfit_common (λ (k : Class) (t : Lexeme). fits (class_of k) (symbol_of t.symbol)) c.args.form.now
     c.args.tokens.now c.args.best.now.len _ _ c.if-n-form.true c.if-n-tokens.true (sym c.fits.ensures ∙ e))
     (λ _ q. omega (arith, q, c.if-n-form.true))

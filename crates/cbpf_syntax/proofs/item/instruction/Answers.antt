@@ -8,8 +8,8 @@ use Rattle.cbpf_syntax.specs.Lexemes as lexemes
 use Rattle.cbpf_syntax.specs.Fits.{fits}
 use Rattle.cbpf_syntax.specs.Views.{lexeme_of, class_of, mnemonic_of}
 use Rattle.cbpf_syntax.proofs.Mnemonics.{has_modes}
-use Rattle.cbpf_syntax.proofs.Instructions.{first_symbol, no_token_stuck, no_word_stuck, reserved_stuck, word_stuck}
-use Rattle.cbpf_syntax.proofs.Instructions.{mnemonic_whole, mnemonic_part}
+use Rattle.cbpf_syntax.proofs.Steps.{first_symbol, no_token_stuck, no_word_stuck, reserved_stuck, word_stuck}
+use Rattle.cbpf_syntax.proofs.Steps.{mnemonic_whole, mnemonic_part}
 use Rattle.cbpf_syntax.proofs.item.instruction.Goals.{then-is_reserved, else-is_reserved}
 use Rattle.cbpf_syntax.proofs.item.instruction.Goals as goal
 

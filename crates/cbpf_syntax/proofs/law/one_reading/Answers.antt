@@ -1,4 +1,4 @@
-use Rattle.cbpf_syntax.proofs.OneReading as readings
+use Rattle.cbpf_syntax.proofs.Apart as readings
 use Rattle.cbpf_syntax.proofs.law.one_reading.Goals as goal
 
 pub returns : goal.returns

@@ -1,4 +1,4 @@
-use Rattle.cbpf_syntax.proofs.Words.{digit_free}
+use Rattle.cbpf_syntax.proofs.Mnemonics.{digit_free}
 use Rattle.cbpf_syntax.proofs.reserved.ends_with_digit.Goals as goal
 
 pub returns : goal.returns

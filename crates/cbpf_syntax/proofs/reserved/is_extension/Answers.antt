@@ -1,5 +1,5 @@
 use Rattle.std.proofs.Common.{◌∙◌}
-use Rattle.cbpf_syntax.proofs.Words.{extension_test}
+use Rattle.cbpf_syntax.proofs.Mnemonics.{extension_test}
 use Rattle.cbpf_syntax.proofs.reserved.is_extension.Goals as goal
 
 pub returns : goal.returns

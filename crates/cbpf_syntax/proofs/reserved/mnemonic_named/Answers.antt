@@ -35,8 +35,7 @@ returns-then-eq-clause-found c = known_at _ c.mnemonics_from-mnemonic-items.resu
 pub returns-clause-none : goal.returns-clause-none
 returns-clause-none c =
     let items = c.mnemonics_from-mnemonic-items.result.now in
-    none_from c.args.word.now 0 (some_bytes c.args.word.now (sym c.is_empty.ensures ∙ c.if-is_empty.false))
-    (rw (
+    none_from c.args.word.now 0 (some_bytes c.args.word.now (sym c.is_empty.ensures ∙ c.if-is_empty.false)) (rw (
       take_all c.loop-mnemonic.mnemonic-index items c.loop-mnemonic-test.false,
       c.mnemonics_from-mnemonic-items.ensures,
     ) at c.loop-mnemonic.invariant)

@@ -1,6 +1,5 @@
-use Rattle.cbpf_text.proofs.Faults.{items_reported, tokens_assembled, text_assembled}
+use Rattle.cbpf_text.proofs.Faults.{items_reported, tokens_assembled, text_assembled, whole_refused}
 use Rattle.cbpf_text.proofs.Forms.{items_forms}
-use Rattle.cbpf_text.proofs.Reading.{whole_refused}
 use Rattle.cbpf_text.proofs.assembler.assemble.Goals as goal
 
 pub returns-in-Ok-clause-assembled : goal.returns-in-Ok-clause-assembled

@@ -1,6 +1,6 @@
 use Rattle.std.proofs.Common.{subst}
 use Rattle.cbpf_syntax.specs.Reading.{IsRefusedFor}
-use Rattle.cbpf_text.proofs.Reading.{misplaced_reported, large_reported, unfinished_reported}
+use Rattle.cbpf_text.proofs.Faults.{misplaced_reported, large_reported, unfinished_reported}
 use Rattle.cbpf_text.proofs.draft.placed.Goals as goal
 
 pub returns-in-Misplaced : goal.returns-in-Misplaced

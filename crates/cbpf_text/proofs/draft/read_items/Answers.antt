@@ -15,14 +15,13 @@ use Rattle.cbpf_syntax.specs.Lexemes.{Lexeme, AreLexemes}
 use Rattle.cbpf_syntax.specs.Reading.{Ahead, IsStepOf, IsFirstLarge, step_len}
 use Rattle.cbpf_syntax.specs.declared.reader.Step.TheVariants.{Label, Instruction, Stuck as stuck_step}
 use Rattle.cbpf_syntax.specs.Steps.{Stuck}
-use Rattle.cbpf_syntax.proofs.Instructions.{end_stuck}
+use Rattle.cbpf_syntax.proofs.Steps.{end_stuck}
 use Rattle.cbpf_text.specs.declared.fault.AsmKind.TheVariants as kinds
 use Rattle.cbpf_text.specs.declared.placed_fault.PlacedFault.TheVariants as placed
 use Rattle.cbpf_text.specs.Refusals.IsRefused.{memory}
-use Rattle.cbpf_text.proofs.Faults.{lex_refused}
-use Rattle.cbpf_text.proofs.Reading.{IsState, state_init, state_step, state_inside, state_stuck, state_items}
-use Rattle.cbpf_text.proofs.Reading.{state_lexemes, label_state, item_state, whole_refused, items_refused}
-use Rattle.cbpf_text.proofs.Reading.{all_accepted, large_reported}
+use Rattle.cbpf_text.proofs.Faults.{lex_refused, IsState, state_init, state_step, state_inside, state_stuck}
+use Rattle.cbpf_text.proofs.Faults.{state_items, state_lexemes, label_state, item_state, whole_refused, items_refused}
+use Rattle.cbpf_text.proofs.Faults.{all_accepted, large_reported}
 use Rattle.cbpf_text.proofs.draft.read_items.Given.{Over}
 use Rattle.cbpf_text.proofs.draft.read_items.Goals.{In-Ok, After-large}
 use Rattle.cbpf_text.proofs.draft.read_items.Goals as goal
@@ -70,8 +69,7 @@ loop-next-preserved-in-Some-Label g c =
       text = c.take.ensures.text ∙ s.1;
       size = c.add_label.ensures.size;
       state = label_state _ s.0 s.1 (λ ts t. subst (λ q. IsStepOf (drop (s.0.from + length s.0.ls) ts) q) st (s.2 ts t))
-          (subst (λ q. step_len q ≤ length c.step.new.self.tokens) st c.in-Ok.ensures.within)
-          c.take.ensures.reading
+          (subst (λ q. step_len q ≤ length c.step.new.self.tokens) st c.in-Ok.ensures.within) c.take.ensures.reading
           (rw c.ahead.ensures at c.in_ok-add_label-in-Some-Label.ensures.label);
     }
 

@@ -2,7 +2,7 @@ use Rattle.std.proofs.Common.{◌≡◌, ◌≤◌, length}
 use Rattle.indexmap.specs.IndexMap.{get}
 use Rattle.cbpf_syntax.specs.Reading.{left}
 use Rattle.cbpf_text.specs.Tables.{same_name}
-use Rattle.cbpf_text.proofs.Reading.{IsState}
+use Rattle.cbpf_text.proofs.Faults.{IsState}
 use Rattle.cbpf_text.proofs.draft.read_items.Given as goal
 
 abbrev pub invariant-loop-next : goal.invariant-loop-next

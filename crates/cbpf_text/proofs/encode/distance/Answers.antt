@@ -2,7 +2,7 @@ use Rattle.std.proofs.Common.{sym, subst}
 use Rattle.indexmap.specs.IndexMap.{get}
 use Rattle.cbpf_text.specs.Labels.{name_of}
 use Rattle.cbpf_text.specs.Tables.{IsLookup, same_name}
-use Rattle.cbpf_text.proofs.Uses.{found_after, found_before, found_nowhere}
+use Rattle.cbpf_text.proofs.Forms.{found_after, found_before, found_nowhere}
 use Rattle.cbpf_text.proofs.encode.distance.Goals as goal
 
 pub returns-in-None-clause-refused : goal.returns-in-None-clause-refused

@@ -3,8 +3,8 @@ use Rattle.std.proofs.lemmas.Result.{err_from_is_err_and}
 use Rattle.cbpf_syntax.specs.declared.table.Fields.TheVariants.{Constant, Goto, Branch, Swapped}
 use Rattle.cbpf_text.specs.Operands.{targets_in}
 use Rattle.cbpf_text.specs.Refusals.{Reported, IsFirstBadUse, uses_of}
-use Rattle.cbpf_text.proofs.Targets.{first_target, has_second, goto_encoded, branch_encoded, swapped_encoded}
-use Rattle.cbpf_text.proofs.Uses.{first_reported, second_reported}
+use Rattle.cbpf_text.proofs.Forms.{first_target, has_second, goto_encoded, branch_encoded, swapped_encoded}
+use Rattle.cbpf_text.proofs.Forms.{first_reported, second_reported}
 use Rattle.cbpf_text.proofs.encode.encode.Goals as goal
 
 pub returns-in_err-distance-in-Goto-clause-refused : goal.returns-in_err-distance-in-Goto-clause-refused

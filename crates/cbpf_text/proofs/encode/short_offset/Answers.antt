@@ -1,7 +1,7 @@
 use Rattle.std.proofs.Common.{sym, subst, Some, true, arith}
 use Rattle.std.proofs.lemmas.Result.{err_from_is_err_and}
 use Rattle.cbpf_text.specs.Refusals.{Reported, IsTargetFault}
-use Rattle.cbpf_text.proofs.Uses.{found_far}
+use Rattle.cbpf_text.proofs.Forms.{found_far}
 use Rattle.cbpf_text.proofs.encode.short_offset.Goals as goal
 
 pub returns-in_err-distance-clause-refused : goal.returns-in_err-distance-clause-refused

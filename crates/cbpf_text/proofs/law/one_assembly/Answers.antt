@@ -1,5 +1,4 @@
 use Rattle.cbpf_text.proofs.OneAssembly as assembly
-use Rattle.cbpf_text.proofs.NeverBoth as refusal
 use Rattle.cbpf_text.proofs.OneRefusal as only
 use Rattle.cbpf_text.proofs.Answered as answered
 use Rattle.cbpf_text.proofs.law.one_assembly.Goals as goal
@@ -8,7 +7,7 @@ pub returns-clause-list : goal.returns-clause-list
 returns-clause-list c = assembly.one_assembly
 
 pub returns-clause-never_both : goal.returns-clause-never_both
-returns-clause-never_both c = refusal.never_both
+returns-clause-never_both c = assembly.never_both
 
 pub returns-clause-refusal : goal.returns-clause-refusal
 returns-clause-refusal c = only.one_refusal

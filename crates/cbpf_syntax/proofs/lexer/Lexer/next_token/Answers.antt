@@ -1,7 +1,7 @@
 use Rattle.std.proofs.Common.{rules, arith, refl, List, ◌≡◌, ◌∙◌, sym, subst, get_or, false}
 use Rattle.cbpf_syntax.specs.Bytes.{is_blank}
 use Rattle.cbpf_syntax.specs.Pieces.{IsPieceAt}
-use Rattle.cbpf_syntax.proofs.Blanks.{to_run_end, to_here, to_next}
+use Rattle.cbpf_syntax.proofs.Runs.{to_run_end, to_here, to_next}
 use Rattle.cbpf_syntax.proofs.Cuts.{next_at, piece_within, piece_some, token_more, piece_more}
 use Rattle.cbpf_syntax.specs.declared.token.Token.{Token}
 use Rattle.cbpf_syntax.specs.Tokens.{LexesTo}

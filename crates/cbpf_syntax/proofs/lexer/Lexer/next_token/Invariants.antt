@@ -1,7 +1,7 @@
 use Rattle.std.proofs.Common.{◌≡◌, ◌≤◌, ◌-◌, List, length}
 use Rattle.cbpf_syntax.specs.declared.token.Token.{Token}
 use Rattle.cbpf_syntax.specs.Tokens.{LexesTo}
-use Rattle.cbpf_syntax.proofs.Blanks.{run_end}
+use Rattle.cbpf_syntax.proofs.Runs.{run_end}
 use Rattle.cbpf_syntax.proofs.lexer.Lexer.next_token.Given as goal
 
 abbrev pub invariant-loop-at : goal.invariant-loop-at

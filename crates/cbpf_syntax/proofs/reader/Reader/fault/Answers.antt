@@ -13,14 +13,12 @@ none_of None h = refl
 none_of (Some x) h = absurd (h x refl)
 
 -- what stands ahead, and the first large literal once the tokens before the fault are taken
-ahead : (g : Over) (c : After-first_large g)
-    → (c.args.n ≤ length (drop c.self.inside.at c.self.inside.ahead.items))
+ahead : (g : Over) (c : After-first_large g) → (c.args.n ≤ length (drop c.self.inside.at c.self.inside.ahead.items))
     × (c.ahead-ahead.result.now ≡ drop c.self.inside.at c.self.inside.ahead.items)
     × ((m : ℕ) (ts : List Lexeme)
-    → AreAhead c.self.inside.text.now c.self.inside.lexer.at m
-    (map lexeme_of (drop c.self.inside.at c.self.inside.ahead.items))
-    → AreLexemes c.self.inside.text.now ts → IsFirstLarge ts m c.self.inside.large
-    → IsFirstLarge ts (m + c.args.n) c.first_large.result)
+    → AreAhead c.self.inside.text.now c.self.inside.lexer.at m (map lexeme_of (drop c.self.inside.at
+    c.self.inside.ahead.items)) → AreLexemes c.self.inside.text.now ts → IsFirstLarge ts m c.self.inside.large →
+    IsFirstLarge ts (m + c.args.n) c.first_large.result)
 ahead g c =
     let s = c.self.inside in
     let within : c.args.n ≤ length (drop c.self.inside.at c.self.inside.ahead.items) =
