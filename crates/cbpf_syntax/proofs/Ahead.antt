@@ -1,10 +1,9 @@
 -- What holds of tokens whatever tokens follow.
-use Rattle.std.proofs.Common.{rules, ◌≡◌, ℕ, suc, ◌<◌, Bool, true, false, ◌&&◌, List, [], ◌∷◌, ◌++◌, length, take}
+use Rattle.std.proofs.Common.{rules, ◌≡◌, ℕ, suc, ◌<◌, true, List, [], ◌∷◌, ◌++◌, length, take}
 use Rattle.std.proofs.Common.{drop, arith, ap, sym, ◌∙◌, subst, append_assoc, length-append, ◌+◌}
 use Rattle.std.proofs.lemmas.List.{take-append-drop, take-append-le, length-take-le}
 use Rattle.cbpf_syntax.specs.Lexemes.{Lexeme}
-use Rattle.cbpf_syntax.specs.Classes.{Class}
-use Rattle.cbpf_syntax.specs.Fits.{fits, fits_front}
+use Rattle.cbpf_syntax.specs.Fits.{fits_front}
 use Rattle.cbpf_syntax.specs.Items.{Item, Form, classes_of}
 use Rattle.cbpf_syntax.specs.Steps.{NoLonger, Stuck, IsNextItem, starts_with_label, AreLabels}
 use Rattle.cbpf_syntax.proofs.Greedy.{front_before}

@@ -1,7 +1,6 @@
 -- No two rows of the table fit the same tokens, unless one goes on with a comma where the other ends.
 use Rattle.std.proofs.Common.{rules, ◌≡◌, ℕ, Bool, true, false, not, ◌&&◌, ◌||◌, List, [], ◌∷◌, ◌++◌, length, refl}
-use Rattle.std.proofs.Common.{sym, ◌∙◌, ◌⊎◌, inl, inr, eq-eqb, eqb-true, zero, suc, ◌+◌, ◌<◌, drop, arith, ap, get_or}
-use Rattle.std.proofs.Common.{subst}
+use Rattle.std.proofs.Common.{sym, ◌∙◌, ◌⊎◌, inl, inr, eq-eqb, eqb-true, zero, suc, ◌<◌, arith, ap, get_or, subst}
 use Rattle.std.specs.Prelude.{◌==◌, bytes_eq, Contains}
 use Rattle.std.specs.List.{list_all}
 use Rattle.std.proofs.lemmas.Bool.{and_parts}
@@ -14,7 +13,7 @@ use Rattle.cbpf_syntax.specs.Lexemes.Symbol.{word, number, mark}
 use Rattle.cbpf_syntax.specs.Classes.Class.{the_word, the_mark, literal, negated, exactly, extension, name}
 use Rattle.std.proofs.lemmas.List.{get_or_default}
 use Rattle.cbpf_syntax.proofs.Elements.{list_all_at}
-use Rattle.cbpf_syntax.specs.Items.{Item, Form, Items, label_classes, classes_of, names_at}
+use Rattle.cbpf_syntax.specs.Items.{Item, Form, Items, classes_of}
 
 abbrev pub is_numeric : Class → Bool
 is_numeric literal = true

@@ -1,15 +1,12 @@
 -- The best row of two lists, and of a mnemonic.
-use Rattle.std.proofs.lemmas.Grind.{common_steps}
-use Rattle.std.proofs.Common.{rules}
-use Rattle.std.proofs.Common.{◌≡◌, ◌≢◌, ℕ, zero, suc, Bool, true, false, cond, ◌+◌, ◌<◌, ◌≤◌, List, [], ◌∷◌, ◌++◌}
-use Rattle.std.proofs.Common.{length, map, take, refl, arith, ap, sym, ◌∙◌, ◌⊎◌, inl, inr, subst}
+use Rattle.std.proofs.lemmas.Grind.{common_steps, flat_map-append}
+use Rattle.std.proofs.Common.{rules, ◌≡◌, ◌≢◌, ℕ, zero, suc, Bool, true, false, cond, ◌+◌, ◌<◌, ◌≤◌, List, [], ◌∷◌}
+use Rattle.std.proofs.Common.{◌++◌, length, map, take, refl, arith, ap, ◌∙◌, ◌⊎◌, inl, inr, get_or, Bor, append-nil}
 use Rattle.std.specs.Prelude.{Contains, flat_map}
-use Rattle.std.proofs.Common.{get_or, Bor, append-nil}
 use Rattle.std.proofs.lemmas.List.{get_or-map, length-map, map-append, take_all}
-use Rattle.std.proofs.lemmas.Grind.{flat_map-append}
 use Rattle.cbpf_syntax.specs.declared.table.Entry as declared_entry
 use Rattle.cbpf_syntax.specs.declared.class.Class as declared_class
-use Rattle.std.proofs.lemmas.List.Elements.{Contains-append_left, Contains-append_right, Contains-append_cases}
+use Rattle.std.proofs.lemmas.List.Elements.{Contains-append_right, Contains-append_cases}
 use Rattle.cbpf_syntax.specs.declared.choice.Match.{Match}
 use Rattle.cbpf_syntax.specs.Lexemes.{Lexeme}
 use Rattle.cbpf_syntax.specs.Table.{Row, entry_rows}

@@ -1,5 +1,5 @@
 -- What a parser may conclude that takes, item by item, a row that no row goes beyond.
-use Rattle.std.proofs.Common.{rules, ◌≡◌, ℕ, zero, suc, ◌+◌, ◌<◌, ◌≤◌, true, false, List, [], ◌∷◌, ◌++◌, length, refl}
+use Rattle.std.proofs.Common.{rules, ◌≡◌, ℕ, suc, ◌+◌, ◌<◌, ◌≤◌, true, false, List, [], ◌∷◌, ◌++◌, length, refl}
 use Rattle.std.proofs.Common.{arith, ap, sym, ◌∙◌, ◌⊎◌, inl, inr, subst, append_assoc, length-append, append-nil}
 use Rattle.std.proofs.Common.{take, drop}
 use Rattle.std.specs.Prelude.{Contains}
@@ -7,8 +7,8 @@ use Rattle.std.proofs.lemmas.Bool.{and_parts}
 use Rattle.cbpf_syntax.specs.Classes.{Class}
 use Rattle.cbpf_syntax.specs.Lexemes.{Symbol, Lexeme}
 use Rattle.cbpf_syntax.specs.Fits.{fits, fits_all, fits_front}
-use Rattle.cbpf_syntax.specs.Classes.Class.{the_word, the_mark, literal, negated, exactly, extension, name}
-use Rattle.cbpf_syntax.specs.Table.{Row, classes, table}
+use Rattle.cbpf_syntax.specs.Classes.Class.{the_word, the_mark}
+use Rattle.cbpf_syntax.specs.Table.{Row, table}
 use Rattle.cbpf_syntax.specs.Items.{Item, Form, Items, BeginsItem, BeginsItems, classes_of}
 use Rattle.cbpf_syntax.specs.Steps.{NoLonger, Stuck}
 use Rattle.cbpf_syntax.proofs.Apart.{overlap, apart, overlap_sound, starts_with_comma, comma_only, three}

@@ -1,7 +1,6 @@
 -- The rows of a mnemonic, and that no two mnemonics have one word.
 use Rattle.std.proofs.Common.{rules, ◌≡◌, ℕ, zero, suc, ◌<◌, ◌≤◌, Bool, true, false, not, cond, map, ◌&&◌, ◌||◌, List}
 use Rattle.std.proofs.Common.{[], ◌∷◌, length, refl, arith, ap, sym, ◌∙◌, inl, inr, get_or, ltb-true, ◌-◌, Option}
-use Rattle.std.proofs.Common.{Some, None}
 use Rattle.std.specs.Prelude.{Contains, nat_lt, nat_le, bytes_eq, MatchOption, slice_index}
 use Rattle.std.proofs.lemmas.Bool.Decides.{nat_tests}
 use Rattle.std.specs.List.{list_all, filter}
@@ -15,9 +14,6 @@ use Rattle.cbpf_syntax.proofs.Elements.{first_element, later_element, which_elem
 use Rattle.cbpf_syntax.proofs.Elements.{from_flat_map, into_flat_map, any_element, some_element, list_all_at}
 use Rattle.std.specs.Option.{is_some}
 use Rattle.cbpf_code.specs.declared.extension.Ext.{Ext}
-use Rattle.cbpf_code.specs.declared.extension.Ext.TheVariants.{Proto, PktType, IfIdx, Nla, NlaN, Mark, Queue, HaType}
-use Rattle.cbpf_code.specs.declared.extension.Ext.TheVariants.{RxHash, Cpu, VlanTci, VlanAvail, PayOff, Rand}
-use Rattle.cbpf_code.specs.declared.extension.Ext.TheVariants.{VlanTpid}
 use Rattle.cbpf_code.specs.Extension.{ext_table, ext_name}
 
 abbrev all_differ : List Mnemonic → Bool

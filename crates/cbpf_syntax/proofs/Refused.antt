@@ -1,8 +1,7 @@
 -- Which refusal of a token list is the first.
-use Rattle.std.proofs.Common.{rules}
-use Rattle.std.proofs.Common.{◌≡◌, ℕ, zero, suc, ◌+◌, ◌-◌, ◌<◌, ◌≤◌, List, [], ◌∷◌, ◌++◌, length, take, drop, map}
-use Rattle.std.proofs.Common.{refl, arith, ap, sym, ◌∙◌, inl, inr, subst, append-nil, length-append, length-drop}
-use Rattle.std.proofs.Common.{get_or, Option, Some}
+use Rattle.std.proofs.Common.{rules, ◌≡◌, ℕ, zero, suc, ◌+◌, ◌-◌, ◌<◌, ◌≤◌, List, [], ◌∷◌, ◌++◌, length, take, drop}
+use Rattle.std.proofs.Common.{map, refl, arith, ap, sym, ◌∙◌, inl, inr, subst, append-nil, length-append, length-drop}
+use Rattle.std.proofs.Common.{get_or, Some}
 use Rattle.std.proofs.lemmas.List.{take-append-drop, take_all, drop_all, drop_at, drop-drop, take-take}
 use Rattle.std.proofs.lemmas.List.{length-take-le}
 use Rattle.std.proofs.lemmas.Bool.{cases_lt}

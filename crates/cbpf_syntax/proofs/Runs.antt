@@ -1,7 +1,7 @@
 -- The piece at the front of a text, by its first byte.
 use Rattle.std.proofs.Common.{◌≡◌, ℕ, zero, suc, ◌+◌, ◌<◌, ◌≤◌, Bool, true, false, not, cond, List, [], ◌∷◌, length}
 use Rattle.std.proofs.Common.{take, drop, refl, ap, ◌∙◌, arith, Some, None, ne_eqb, eq-eqb, length-take-le, rules}
-use Rattle.std.proofs.Common.{get_or, ◌⊎◌, inl, inr}
+use Rattle.std.proofs.Common.{get_or}
 use Rattle.std.proofs.Math.Numerals.{one-add}
 use Rattle.std.specs.Prelude.{◌==◌, slice_index, ◌≢◌}
 use Rattle.std.specs.List.{list_all, prefix_len}
@@ -11,7 +11,7 @@ use Rattle.cbpf_syntax.specs.declared.token.Kind.TheVariants.{Word, Mark}
 use Rattle.cbpf_syntax.specs.Bytes.{is_blank, is_name_byte}
 use Rattle.cbpf_syntax.specs.Numbers.{number_value}
 use Rattle.cbpf_syntax.specs.Pieces.{IsNext, piece_kind, only_if, run_kind, alone, first_close, comment_kind}
-use Rattle.cbpf_syntax.specs.Pieces.{IsPieceAt, is_line_blank}
+use Rattle.cbpf_syntax.specs.Pieces.{is_line_blank}
 use Rattle.cbpf_syntax.specs.Leads.{lead_of}
 use Rattle.cbpf_syntax.proofs.LeadTable.{led, blank_lead}
 use Rattle.cbpf_syntax.proofs.Comments.{close_taken}

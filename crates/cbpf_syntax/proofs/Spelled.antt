@@ -1,9 +1,8 @@
 -- A text that is written as segments, one for each piece, is cut into these pieces.
 use Rattle.std.proofs.lemmas.Grind.{common_steps}
-use Rattle.std.proofs.Common.{arith, rules}
-use Rattle.std.proofs.Common.{◌≡◌, ℕ, ◌+◌, ◌^◌, ◌<◌, Bool, true, false, not, ◌&&◌, ◌||◌, List, [], ◌∷◌, ◌++◌, length}
-use Rattle.std.proofs.Common.{take, refl, ap, sym, subst, ◌∙◌, Some, append_assoc, append-nil, length-append}
-use Rattle.std.proofs.Common.{eqb-true, lt-ltb}
+use Rattle.std.proofs.Common.{arith, rules, ◌≡◌, ℕ, ◌+◌, ◌^◌, ◌<◌, Bool, true, false, not, ◌&&◌, ◌||◌, List, [], ◌∷◌}
+use Rattle.std.proofs.Common.{◌++◌, length, take, refl, ap, sym, subst, ◌∙◌, Some, append_assoc, append-nil}
+use Rattle.std.proofs.Common.{length-append, eqb-true, lt-ltb}
 use Rattle.std.specs.Prelude.{◌==◌, nat_lt}
 use Rattle.std.specs.List.{list_all, fold, prefix_len, flat_map}
 use Rattle.std.proofs.Math.Bool.{and-false, and-true, or-true}

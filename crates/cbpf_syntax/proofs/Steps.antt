@@ -8,7 +8,7 @@ use Rattle.std.proofs.lemmas.Bool.{and_parts}
 use Rattle.cbpf_syntax.specs.Classes.{Class}
 use Rattle.cbpf_syntax.specs.Lexemes.{Lexeme}
 use Rattle.cbpf_syntax.specs.Fits.{fits, fits_all, fits_front, is_reserved, is_one_of, mnemonic_words}
-use Rattle.cbpf_syntax.specs.Classes.Class.{the_word, the_mark, literal, negated, exactly, extension, name}
+use Rattle.cbpf_syntax.specs.Classes.Class.{the_mark, name}
 use Rattle.cbpf_syntax.specs.Table.{Row, classes, table, Mnemonic, mnemonics, rows_of}
 use Rattle.cbpf_syntax.specs.Items.{Item, Form, label_classes, classes_of, names_at}
 use Rattle.cbpf_syntax.proofs.Apart.{overlap_sound, row_starts, starts_reserved, no_classes, equal_bytes}
@@ -21,7 +21,7 @@ use Rattle.std.proofs.lemmas.List.Sums.{common_prefix_len-le}
 use Rattle.cbpf_code.specs.declared.opcode.Op.TheVariants.{Tax}
 use Rattle.cbpf_syntax.specs.declared.choice.Match.{Match}
 use Rattle.cbpf_syntax.specs.declared.table.Fields.TheVariants.{Constant}
-use Rattle.cbpf_syntax.specs.declared.lexeme.Symbol.TheVariants.{Word, Number, Mark}
+use Rattle.cbpf_syntax.specs.declared.lexeme.Symbol.TheVariants.{Word}
 use Rattle.cbpf_syntax.specs.Lexemes.Symbol.{word, number, mark}
 use Rattle.cbpf_syntax.specs.Views.{row_of, symbol_of, lexeme_of}
 use Rattle.cbpf_syntax.proofs.Mnemonics.{same_mnemonic, row_mnemonic, row_word, row_known, word_reserved, word_listed}

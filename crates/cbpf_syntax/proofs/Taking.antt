@@ -1,8 +1,7 @@
 -- What is known of the lexemes of a text, of which some were taken and some are read ahead.
 use Rattle.std.proofs.lemmas.Grind.{common_steps}
-use Rattle.std.proofs.Common.{rules}
-use Rattle.std.proofs.Common.{◌≡◌, ℕ, zero, suc, ◌+◌, ◌-◌, ◌<◌, ◌≤◌, true, List, [], ◌∷◌, ◌++◌, length, map, take}
-use Rattle.std.proofs.Common.{drop, refl, arith, ap, sym, ◌∙◌, inl, inr, subst, append_assoc, append-nil}
+use Rattle.std.proofs.Common.{rules, ◌≡◌, ℕ, zero, suc, ◌+◌, ◌-◌, ◌<◌, ◌≤◌, true, List, [], ◌∷◌, ◌++◌, length, map}
+use Rattle.std.proofs.Common.{take, drop, refl, arith, ap, sym, ◌∙◌, inl, inr, subst, append_assoc, append-nil}
 use Rattle.std.proofs.Common.{length-append, length-drop, get_or, Option, Some, None}
 use Rattle.std.proofs.lemmas.List.{take-append-drop, take-append-le, drop-append-le, drop-drop, drop-map, map-append}
 use Rattle.std.proofs.lemmas.List.{length-map, length-take-le, take_rest}
@@ -17,7 +16,7 @@ use Rattle.cbpf_syntax.specs.declared.lexeme.Lexeme as declared_lexeme
 use Rattle.cbpf_syntax.specs.declared.reader.Step.{Step}
 use Rattle.cbpf_syntax.specs.declared.reader.Step.TheVariants.{Label, Instruction, Stuck as stuck_step}
 use Rattle.cbpf_syntax.specs.Lexemes.{Symbol, Lexeme, lexemes_of, token_lexeme, AreLexemes}
-use Rattle.cbpf_syntax.specs.Lexemes.Symbol.{word, number, mark}
+use Rattle.cbpf_syntax.specs.Lexemes.Symbol.{word}
 use Rattle.cbpf_syntax.specs.Classes.Class.{the_word, name}
 use Rattle.cbpf_syntax.specs.Table.{Row}
 use Rattle.cbpf_syntax.specs.Fits.{fits, fits_front}

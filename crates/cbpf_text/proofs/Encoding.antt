@@ -1,8 +1,7 @@
 -- The instructions of a list of items, one by one.
 use Rattle.std.proofs.lemmas.Grind.{common_steps}
-use Rattle.std.proofs.Common.{rules}
-use Rattle.std.proofs.Common.{◌≡◌, refl, sym, ◌∙◌, ap, subst, ℕ, zero, suc, ◌+◌, ◌<◌, ◌≤◌, Bool, true, false, List}
-use Rattle.std.proofs.Common.{[], ◌∷◌, ◌++◌, length, map, take, drop, get_or, arith, eqb-true}
+use Rattle.std.proofs.Common.{rules, ◌≡◌, refl, sym, ◌∙◌, ap, subst, ℕ, zero, suc, ◌+◌, ◌<◌, Bool, true, false}
+use Rattle.std.proofs.Common.{List, [], ◌∷◌, ◌++◌, length, map, take, drop, get_or, arith, eqb-true}
 use Rattle.std.specs.Prelude.{All, ◌==◌, ◌||◌}
 use Rattle.std.proofs.lemmas.List.{append_assoc, take_more, length-take-le}
 use Rattle.std.proofs.lemmas.List.Elements.{All-append}

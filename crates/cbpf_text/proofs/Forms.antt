@@ -13,10 +13,10 @@ use Rattle.cbpf_syntax.specs.Fits.{fits, fits_all}
 use Rattle.cbpf_syntax.specs.Table.{Row, classes, table, mnemonics}
 use Rattle.cbpf_syntax.specs.Items.{Item, Items, Form, names_at, label_classes}
 use Rattle.cbpf_syntax.proofs.Elements.{list_all_at}
-use Rattle.cbpf_text.specs.Operands.{HasForm, targets_in, literal_in}
+use Rattle.cbpf_text.specs.Operands.{HasForm, targets_in}
 use Rattle.cbpf_text.specs.declared.fault.AsmKind.{AsmKind}
 use Rattle.cbpf_text.specs.Labels.{name_of, IsPlace}
-use Rattle.cbpf_text.specs.Assembled.{IsShortOffset, IsOffset, IsEncoded, FillsFields}
+use Rattle.cbpf_text.specs.Assembled.{IsShortOffset, IsOffset, IsEncoded}
 use Rattle.cbpf_text.specs.Refusals.{Use, IsGoodUse, IsFirstBadUse, IsTargetFault, Reported, uses_of, is_conditional}
 use Rattle.cbpf_text.specs.declared.placed_fault.PlacedFault.{PlacedFault}
 use Rattle.cbpf_text.specs.Refusals.IsUseFault.{not_set, not_after, too_far}

@@ -1,13 +1,12 @@
 -- The listing of a checked program assembles to the plain forms of its instructions.
-use Rattle.std.proofs.Common.{rules}
-use Rattle.std.proofs.Common.{◌≡◌, ℕ, suc, ◌+◌, ◌<◌, ◌≤◌, List, [], ◌∷◌, length, map, refl, ap, sym, subst, arith}
-use Rattle.std.proofs.Common.{◌⊎◌, inl, inr, Some}
+use Rattle.std.proofs.Common.{rules, ◌≡◌, ℕ, suc, ◌+◌, ◌<◌, ◌≤◌, List, [], ◌∷◌, length, map, refl, ap, sym, subst}
+use Rattle.std.proofs.Common.{arith, ◌⊎◌, inl, inr, Some}
 use Rattle.std.specs.Prelude.{All, slice_get, Ok, Err}
 use Rattle.std.proofs.lemmas.Option.{get_or_from_slice_get}
 use Rattle.cbpf_code.specs.declared.insn.Insn.{Insn}
 use Rattle.cbpf_code.specs.declared.opcode.Op.{Op}
-use Rattle.cbpf_code.specs.declared.opcode.Op.TheVariants.{LdImm, LdAbs, LdInd, LdMem, LdLen, LdxImm, LdxMem, LdxLen}
-use Rattle.cbpf_code.specs.declared.opcode.Op.TheVariants.{LdxMsh, St, Stx, Alu, Neg, Ja, Jump, RetK, RetA, Tax, Txa}
+use Rattle.cbpf_code.specs.declared.opcode.Op.TheVariants.{LdAbs, LdInd, LdMem, LdLen, LdxMem, LdxLen}
+use Rattle.cbpf_code.specs.declared.opcode.Op.TheVariants.{LdxMsh, St, Stx, Alu, Neg, Ja, Jump, RetA, Tax, Txa}
 use Rattle.cbpf_code.specs.declared.opcode.Src.TheVariants as src
 use Rattle.cbpf_code.specs.Opcode.{op_of}
 use Rattle.cbpf_code.specs.Plain.{plain}

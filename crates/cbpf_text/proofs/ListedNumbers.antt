@@ -2,8 +2,8 @@
 use Rattle.std.proofs.lemmas.Grind.{common_steps}
 use Rattle.std.proofs.Common.{rules, ◌≡◌, ℕ, zero, suc, ◌+◌, ◌-◌, ◌*◌, ◌/◌, ◌%◌, ◌^◌, ◌<◌, ◌≤◌, Bool, true, false}
 use Rattle.std.proofs.Common.{cond, List, [], ◌∷◌, ◌++◌, length, get_or, drop, refl, ap, sym, subst, ◌∙◌, arith, Some}
-use Rattle.std.proofs.Common.{None, eqb-true, lt-ltb, ltb-false, ltb-true, ne_eqb, length-append, not, ◌&&◌, lit<}
-use Rattle.std.specs.Prelude.{◌==◌, nat_lt, max, decimal, nat_le, bytes_eq}
+use Rattle.std.proofs.Common.{None, eqb-true, lt-ltb, ltb-false, ltb-true, ne_eqb, length-append, not, lit<}
+use Rattle.std.specs.Prelude.{◌==◌, nat_lt, max, decimal, bytes_eq}
 use Rattle.std.specs.List.{list_all}
 use Rattle.std.specs.Fmt.{digit_glyph}
 use Rattle.std.proofs.lemmas.Fmt.{decimal_by_steps, first_decimal, decimal_digit, decimal_nonempty}
@@ -20,7 +20,7 @@ use Rattle.cbpf_syntax.proofs.Spelled.Segment.{word, number}
 use Rattle.cbpf_syntax.specs.Classes.{Class}
 use Rattle.cbpf_syntax.specs.Lexemes.{Lexeme}
 use Rattle.cbpf_syntax.specs.Fits.{fits, is_one_of, is_reserved, extension_names, mnemonic_words}
-use Rattle.cbpf_syntax.specs.Table.{operand_words, mnemonics}
+use Rattle.cbpf_syntax.specs.Table.{mnemonics}
 use Rattle.cbpf_syntax.specs.Items.{Item}
 use Rattle.cbpf_text.specs.Labels.{IsPlace}
 use Rattle.cbpf_text.proofs.ListedRows.{first, rest}

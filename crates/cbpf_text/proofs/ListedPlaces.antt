@@ -1,8 +1,8 @@
 -- Items that are labelled by their numbers: each label is set once, by its item.
-use Rattle.std.proofs.Common.{rules, ◌≡◌, ℕ, zero, suc, ◌+◌, ◌^◌, ◌<◌, ◌≤◌, Bool, true, false, List, [], ◌∷◌, length}
-use Rattle.std.proofs.Common.{get_or, refl, sym, subst, ◌∙◌, arith, ◌⊎◌, inl, inr, ◌++◌, map, ap, append_assoc}
+use Rattle.std.proofs.Common.{rules, ◌≡◌, ℕ, zero, suc, ◌+◌, ◌^◌, ◌<◌, ◌≤◌, true, false, List, [], ◌∷◌, length}
+use Rattle.std.proofs.Common.{refl, sym, subst, arith, ◌⊎◌, inl, inr, ◌++◌, map, ap, append_assoc}
 use Rattle.std.proofs.Common.{append-nil, lit<, Some}
-use Rattle.std.specs.Prelude.{decimal, bytes_eq, All, codes}
+use Rattle.std.specs.Prelude.{decimal, All}
 use Rattle.std.proofs.lemmas.Fmt.{decimal_injective}
 use Rattle.std.proofs.lemmas.List.Elements.{All-append}
 use Rattle.cbpf_syntax.specs.Lexemes.{Lexeme}
@@ -24,7 +24,7 @@ use Rattle.cbpf_syntax.proofs.Spelled.Segment.{blank, word, mark}
 use Rattle.cbpf_syntax.specs.Fits.{fits_all}
 use Rattle.cbpf_syntax.specs.Table.{Row, classes}
 use Rattle.cbpf_code.specs.Syntax.{mnemonic_of, operand_of}
-use Rattle.cbpf_code.specs.Listing.{numbered_line, text_for, operand_text}
+use Rattle.cbpf_code.specs.Listing.{numbered_line, operand_text}
 use Rattle.cbpf_text.specs.Assembled.{EncodeEach, IsEncoded}
 use Rattle.cbpf_text.proofs.ListedRows.{HasRow, first, rest, mnemonic_word, plain_as, plain_is}
 use Rattle.cbpf_text.proofs.ListedTokens.{and_both, lexemes_at, lexemes_append, text_append, are_append, ends_before}

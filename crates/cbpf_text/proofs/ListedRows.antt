@@ -1,12 +1,10 @@
 -- Each operation has a row of the table for the tokens that a listing writes.
-use Rattle.std.proofs.Common.{rules}
-use Rattle.std.proofs.Common.{◌≡◌, ℕ, ◌<◌, Bool, true, false, cond, not, ◌&&◌, ◌||◌, List, [], ◌∷◌, refl, ap, ◌∙◌}
-use Rattle.std.proofs.Common.{eqb-true, ltb-true, Some}
+use Rattle.std.proofs.Common.{rules, ◌≡◌, ℕ, ◌<◌, Bool, true, false, cond, not, ◌&&◌, ◌||◌, List, [], ◌∷◌, refl, ap}
+use Rattle.std.proofs.Common.{◌∙◌, eqb-true, ltb-true, Some}
 use Rattle.std.specs.Prelude.{◌==◌, nat_lt, codes, Contains, bytes_eq}
 use Rattle.std.specs.List.{list_all, list_any}
 use Rattle.std.proofs.lemmas.Bool.{and_parts}
 use Rattle.std.specs.Bool.{beq}
-use Rattle.std.specs.Cmp.{booleans_Decides}
 use Rattle.cbpf_code.specs.declared.insn.Insn.{Insn}
 use Rattle.cbpf_code.specs.declared.opcode.Op.{Op}
 use Rattle.cbpf_code.specs.Opcode.{op_table, look_up, op_of, code_of}

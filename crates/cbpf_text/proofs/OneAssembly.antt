@@ -5,14 +5,13 @@ use Rattle.std.specs.Prelude.{slice_get, All}
 use Rattle.cbpf_syntax.proofs.Outcomes.{one_list}
 use Rattle.cbpf_code.specs.declared.insn.Insn.{Insn}
 use Rattle.cbpf_syntax.specs.declared.table.Fields.{Fields}
-use Rattle.cbpf_syntax.specs.declared.table.Fields.TheVariants.{Constant, Goto, Branch, Swapped}
 use Rattle.cbpf_syntax.specs.Lexemes.{Lexeme, lexemes_of}
 use Rattle.cbpf_syntax.specs.Items.{Item, Items}
 use Rattle.cbpf_syntax.proofs.Apart.{one_reading, bytes_eq_self}
 use Rattle.cbpf_text.specs.Labels.{name_of, times_among, AreDistinct}
 use Rattle.cbpf_text.specs.Assembled.{AssembleTokens, EncodeEach, IsEncoded, FillsFields, IsOffset, Assembles}
 use Rattle.cbpf_text.specs.Assembled.{AreEncoded}
-use Rattle.cbpf_text.specs.Operands.{literal_in, targets_in, HasForm}
+use Rattle.cbpf_text.specs.Operands.{HasForm}
 use Rattle.cbpf_text.specs.Laws.{OneAssembly, NeverBoth}
 use Rattle.cbpf_text.proofs.LabelLists.{one_place, times_append, times_cons, times_hit}
 use Rattle.std.proofs.lemmas.Grind.{common_steps}

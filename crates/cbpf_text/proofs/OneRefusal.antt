@@ -1,9 +1,8 @@
 -- A text has at most one refusal with a line.
 use Rattle.std.proofs.Common.{rules}
-use Rattle.std.proofs.Common.{◌≡◌, ◌⊎◌, inl, inr, refl, sym, ◌∙◌, ap, subst, ℕ, ◌<◌, ◌≤◌, List, [], ◌∷◌, ◌++◌, length, Some, arith}
-use Rattle.std.specs.Prelude.{slice_get, All}
+use Rattle.std.proofs.Common.{◌≡◌, inl, inr, refl, sym, ◌∙◌, ap, subst, ℕ, ◌<◌, ◌≤◌, List, [], ◌∷◌, ◌++◌, length, Some, arith}
+use Rattle.std.specs.Prelude.{slice_get}
 use Rattle.cbpf_syntax.proofs.Outcomes as lexer
-use Rattle.cbpf_syntax.specs.Refusals.{ParseFault as parse}
 use Rattle.cbpf_syntax.specs.Lexemes.{Lexeme, lexemes_of}
 use Rattle.cbpf_syntax.specs.Items.{Item}
 use Rattle.cbpf_syntax.proofs.Apart.{one_reading}
@@ -14,11 +13,10 @@ use Rattle.cbpf_text.specs.declared.fault.AsmFault.TheVariants as faults
 use Rattle.cbpf_syntax.specs.Tokens.{line_of}
 use Rattle.cbpf_syntax.proofs.Cuts.{some-same}
 use Rattle.cbpf_text.specs.Labels.{name_of, set_labels, times_set, AreDistinct, SetsAt}
-use Rattle.cbpf_text.specs.Refusals.{Use, IsUseFault, IsGoodUse, IsFirstRepeat, IsFirstBadUse, IsItemsFault}
+use Rattle.cbpf_text.specs.Refusals.{Use, IsUseFault, IsFirstRepeat, IsFirstBadUse, IsItemsFault}
 use Rattle.cbpf_text.specs.Refusals.{IsTokensFault, IsRefused, uses_from, piece_kind}
 use Rattle.cbpf_text.specs.Refusals.IsUseFault.{not_set, not_after, too_far}
 use Rattle.cbpf_text.specs.Refusals.IsItemsFault.{no_item, too_many, set_twice, bad_use}
-use Rattle.cbpf_text.specs.Refusals.IsTokensFault.{misplaced, large_negative, unfinished, of_items}
 use Rattle.cbpf_text.specs.Refusals.IsRefused.{memory, piece, token}
 use Rattle.cbpf_text.specs.Laws.{OneRefusal}
 use Rattle.cbpf_text.proofs.Lists.{get_within}

@@ -1,11 +1,6 @@
-use Rattle.std.proofs.Common.{rules}
-use Rattle.std.proofs.Common.{◌≡◌, List, [], ◌∷◌, drop, refl, arith, Bool}
+use Rattle.std.proofs.Common.{rules, ◌≡◌, List, [], ◌∷◌, refl, Bool}
 use Rattle.std.specs.List.{common_prefix_len}
 use Rattle.std.proofs.lemmas.List.{drop_all}
-use Rattle.cbpf_syntax.specs.Fits.{fits}
-use Rattle.cbpf_syntax.specs.Views.{class_of, symbol_of}
-use Rattle.cbpf_syntax.specs.declared.class.Class.{Class}
-use Rattle.cbpf_syntax.specs.declared.lexeme.Lexeme.{Lexeme}
 use Rattle.cbpf_syntax.proofs.choice.common_len.Goals as goal
 
 none_left : {X Y : Type 0} (e : X → Y → Bool) (xs : List X) → common_prefix_len e xs [] ≡ 0

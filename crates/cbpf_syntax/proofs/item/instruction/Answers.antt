@@ -1,11 +1,8 @@
-use Rattle.std.proofs.Common.{length-drop, rules, refl, ltb-true, ◌≡◌, ◌≤◌, ◌<◌, ◌-◌, ◌∙◌, sym, false, true, map}
-use Rattle.std.proofs.Common.{drop, length, ◌+◌, arith}
+use Rattle.std.proofs.Common.{length-drop, rules, refl, ltb-true, ◌≡◌, ◌∙◌, sym, false, true, map, drop}
 use Rattle.std.proofs.lemmas.List.{take_rest, length-map}
 use Rattle.std.proofs.lemmas.List.Sums.{common_prefix_len-le}
 use Rattle.std.proofs.Math.Numerals.{one-add}
 use Rattle.cbpf_syntax.specs.declared.lexeme.Symbol.TheVariants.{Word}
-use Rattle.cbpf_syntax.specs.Lexemes as lexemes
-use Rattle.cbpf_syntax.specs.Fits.{fits}
 use Rattle.cbpf_syntax.specs.Views.{lexeme_of, class_of, mnemonic_of}
 use Rattle.cbpf_syntax.proofs.Mnemonics.{has_modes}
 use Rattle.cbpf_syntax.proofs.Steps.{first_symbol, no_token_stuck, no_word_stuck, reserved_stuck, word_stuck}

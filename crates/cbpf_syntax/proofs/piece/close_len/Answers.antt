@@ -1,7 +1,5 @@
-use Rattle.cbpf_syntax.proofs.Comments.{open_start, open_more, close_here, never_closed}
-use Rattle.std.proofs.Common.{sym, ◌∙◌}
+use Rattle.cbpf_syntax.proofs.Comments.{open_start}
 use Rattle.cbpf_syntax.proofs.piece.close_len.Goals as goal
 
 pub loop-i-init : goal.loop-i-init
 loop-i-init c = open_start c.args.body.now
-

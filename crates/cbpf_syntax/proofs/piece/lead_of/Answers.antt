@@ -1,5 +1,4 @@
-use Rattle.std.proofs.Common.{rules}
-use Rattle.std.proofs.Common.{true, false, sym, ◌∙◌, arith}
+use Rattle.std.proofs.Common.{rules, true, false, sym, ◌∙◌, arith}
 use Rattle.cbpf_syntax.specs.Pieces.{is_line_blank}
 use Rattle.cbpf_syntax.proofs.LeadTable.{letter_lead, hash_lead, other_lead}
 use Rattle.cbpf_syntax.proofs.piece.lead_of.Goals as goal

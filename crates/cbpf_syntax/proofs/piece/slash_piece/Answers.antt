@@ -1,6 +1,6 @@
 use Rattle.std.proofs.Common.{sym}
 use Rattle.std.proofs.lemmas.List.{take_rest}
-use Rattle.cbpf_syntax.proofs.Runs.{comment_at, open_at, slash_past, slash_last}
+use Rattle.cbpf_syntax.proofs.Runs.{comment_at, open_at, slash_past}
 use Rattle.cbpf_syntax.proofs.piece.slash_piece.Goals as goal
 
 pub returns-in-Some : goal.returns-in-Some

@@ -1,5 +1,4 @@
-use Rattle.std.proofs.Common.{rules}
-use Rattle.std.proofs.Common.{◌≡◌, ◌∙◌, ◌<◌, sym, true, false, length, map, arith, below_more}
+use Rattle.std.proofs.Common.{rules, ◌≡◌, ◌∙◌, sym, true, false, map, below_more}
 use Rattle.std.proofs.lemmas.List.{length-map}
 use Rattle.cbpf_syntax.specs.Views.{lexeme_of}
 use Rattle.cbpf_syntax.specs.Refusals.{IsLargeNegative}

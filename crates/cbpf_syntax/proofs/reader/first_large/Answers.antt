@@ -1,6 +1,5 @@
-use Rattle.std.proofs.Common.{rules, ◌<◌, length, map, arith}
+use Rattle.std.proofs.Common.{rules}
 use Rattle.std.proofs.lemmas.List.{length-map}
-use Rattle.cbpf_syntax.specs.Views.{lexeme_of}
 use Rattle.cbpf_syntax.proofs.Refused.{large_within}
 use Rattle.cbpf_syntax.proofs.Taking.{place_mapped}
 use Rattle.cbpf_syntax.proofs.reader.first_large.Goals as goal

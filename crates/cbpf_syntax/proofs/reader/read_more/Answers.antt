@@ -1,10 +1,7 @@
-use Rattle.std.proofs.Common.{rules}
-use Rattle.std.proofs.Common.{◌∙◌, ◌∷◌, [], length, map, arith, length-append}
+use Rattle.std.proofs.Common.{rules, length-append}
 use Rattle.std.proofs.lemmas.List.{map-append, take-append-le}
 use Rattle.std.proofs.lemmas.Result.{err_from_is_err_and}
 use Rattle.cbpf_syntax.proofs.Cuts.{text_fault}
-use Rattle.cbpf_syntax.specs.TokenReading.{IsNextToken}
-use Rattle.cbpf_syntax.specs.Views.{lexeme_of}
 use Rattle.cbpf_syntax.proofs.Taking.{ahead_more}
 use Rattle.cbpf_syntax.proofs.reader.read_more.Goals as goal
 

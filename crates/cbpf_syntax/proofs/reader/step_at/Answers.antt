@@ -1,5 +1,4 @@
-use Rattle.std.proofs.Common.{rules}
-use Rattle.std.proofs.Common.{sym, map, arith}
+use Rattle.std.proofs.Common.{rules, sym, map}
 use Rattle.std.proofs.lemmas.List.{length-map}
 use Rattle.cbpf_syntax.specs.Views.{lexeme_of}
 use Rattle.cbpf_syntax.proofs.Taking.{label_word, next_word, stuck_within, stuck_word}

@@ -3,7 +3,7 @@ use Rattle.cbpf_syntax.specs.Views.{label_words}
 use Rattle.indexmap.specs.IndexMap.{get}
 use Rattle.cbpf_text.specs.Drafts.{IsDraft}
 use Rattle.cbpf_text.specs.Tables.{same_name}
-use Rattle.cbpf_text.proofs.Kept.{kept_past, kept_item, kept_excess, none_if}
+use Rattle.cbpf_text.proofs.Kept.{kept_item, kept_excess, none_if}
 use Rattle.cbpf_text.proofs.draft.add_instruction.Goals as goal
 
 pub returns-then-len-eq-MOST_INSTRUCTIONS-clause-item : goal.returns-then-len-eq-MOST_INSTRUCTIONS-clause-item

@@ -3,7 +3,7 @@ use Rattle.std.proofs.lemmas.Result.{on_ok_weaker}
 use Rattle.indexmap.specs.IndexMap.{get}
 use Rattle.cbpf_syntax.specs.Views.{lexeme_of}
 use Rattle.cbpf_text.specs.Tables.{same_name}
-use Rattle.cbpf_text.proofs.Kept.{kept_skip, kept_label, none_if}
+use Rattle.cbpf_text.proofs.Kept.{kept_label, none_if}
 use Rattle.cbpf_text.proofs.draft.add_label.Goals as goal
 
 pub returns-clause-label : goal.returns-clause-label

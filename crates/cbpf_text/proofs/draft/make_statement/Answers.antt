@@ -1,6 +1,4 @@
-use Rattle.std.proofs.Common.{rules}
-use Rattle.std.proofs.Common.{◌≡◌, ◌∙◌, refl, sym, ap, subst, ◌+◌, length, map, drop, arith}
-use Rattle.cbpf_syntax.specs.Items.{names_at}
+use Rattle.std.proofs.Common.{rules, ◌∙◌, sym, ap, subst, ◌+◌, map, drop, arith}
 use Rattle.cbpf_syntax.specs.Views.{class_of, lexeme_of}
 use Rattle.cbpf_text.specs.Drafts.{AreTargets}
 use Rattle.cbpf_text.specs.Operands.{literal_of, first_of}

@@ -1,6 +1,5 @@
-use Rattle.std.proofs.Common.{rules}
-use Rattle.std.proofs.Common.{◌≡◌, ℕ, List, Option, Bool, ◌≤◌, ◌<◌, ◌+◌, ◌∙◌, Some, [], false, refl, sym, ap, subst, length, drop}
-use Rattle.std.proofs.Common.{arith}
+use Rattle.std.proofs.Common.{rules, ◌≡◌, ℕ, List, Option, Bool, ◌≤◌, ◌<◌, ◌+◌, ◌∙◌, Some, [], refl, sym, ap}
+use Rattle.std.proofs.Common.{subst, length, drop, arith}
 use Rattle.std.specs.Prelude.{IfSome, IfNone}
 use Rattle.std.proofs.lemmas.Result.{err_from_is_err_and}
 use Rattle.cbpf_syntax.specs.Tokens.{IsLexFault}
@@ -13,7 +12,6 @@ use Rattle.cbpf_text.specs.Drafts.{IsDraft}
 use Rattle.cbpf_syntax.specs.Items.{Item, Items}
 use Rattle.cbpf_syntax.specs.Lexemes.{Lexeme, AreLexemes}
 use Rattle.cbpf_syntax.specs.Reading.{Ahead, IsStepOf, IsFirstLarge, step_len}
-use Rattle.cbpf_syntax.specs.declared.reader.Step.TheVariants.{Label, Instruction, Stuck as stuck_step}
 use Rattle.cbpf_syntax.specs.Steps.{Stuck}
 use Rattle.cbpf_syntax.proofs.Steps.{end_stuck}
 use Rattle.cbpf_text.specs.declared.fault.AsmKind.TheVariants as kinds
@@ -121,10 +119,17 @@ ended g c s =
     let all = state_lexemes s.0 s.1 (c.in-Ok.ensures.end (ap step_len c.in-None-2.is ∙ sym size)) in
     let n = s.0.from + length s.0.ls in
     let none : drop n all.0 ≡ [] = subst (λ q. IsStepOf (drop n all.0) q) c.in-None-2.is (s.2 all.0 all.1) in
-    let end = state_items all.0 s.0 c.if-waits.false all.1 none in
-    (all.0, s.0.is, n, all.1, end.0, end.1, end.2, 
-        subst (λ o. IsFirstLarge all.0 n o) (sym c.large.ensures)
-            (s.0.reading.large all.0 (subst (λ u. AreLexemes u all.0) (sym s.1) all.1)))
+    let end = state_items all.0 s.0 c.if-waits.false all.1 none in (
+      all.0,
+      s.0.is,
+      n,
+      all.1,
+      end.0,
+      end.1,
+      end.2,
+      subst (λ o. IsFirstLarge all.0 n o) (sym c.large.ensures)
+          (s.0.reading.large all.0 (subst (λ u. AreLexemes u all.0) (sym s.1) all.1)),
+    )
 
 pub returns-in-Some-clause-refused : goal.returns-in-Some-clause-refused
 returns-in-Some-clause-refused g c =

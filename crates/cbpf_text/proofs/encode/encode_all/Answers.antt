@@ -1,7 +1,5 @@
-use Rattle.std.proofs.Common.{rules}
-use Rattle.std.proofs.Common.{sym, subst, ◌<◌, length, arith, take_all}
+use Rattle.std.proofs.Common.{rules, sym, subst, ◌<◌, length, arith, take_all}
 use Rattle.std.proofs.lemmas.Result.{err_from_is_err_and}
-use Rattle.cbpf_text.specs.Assembled.{EncodeEach}
 use Rattle.cbpf_text.specs.Refusals.{Reported, IsFirstBadUse, uses_from}
 use Rattle.cbpf_text.proofs.Encoding.{bad_among, each_grows, statements_size, statement_at, some_item}
 use Rattle.cbpf_text.proofs.encode.encode_all.Goals as goal

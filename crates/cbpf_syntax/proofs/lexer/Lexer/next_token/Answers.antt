@@ -1,7 +1,7 @@
-use Rattle.std.proofs.Common.{rules, arith, refl, List, ◌≡◌, ◌∙◌, sym, subst, get_or, false}
+use Rattle.std.proofs.Common.{rules, arith, List, ◌≡◌, ◌∙◌, sym, subst, get_or, false}
 use Rattle.cbpf_syntax.specs.Bytes.{is_blank}
 use Rattle.cbpf_syntax.specs.Pieces.{IsPieceAt}
-use Rattle.cbpf_syntax.proofs.Runs.{to_run_end, to_here, to_next}
+use Rattle.cbpf_syntax.proofs.Runs.{to_run_end, to_here}
 use Rattle.cbpf_syntax.proofs.Cuts.{next_at, piece_within, piece_some, token_more, piece_more}
 use Rattle.cbpf_syntax.specs.declared.token.Token.{Token}
 use Rattle.cbpf_syntax.specs.Tokens.{LexesTo}
@@ -14,9 +14,10 @@ here : (c : After-next_piece-piece) → IsPieceAt c.self.inside.text.now c.loop-
     → LexesTo c.self.inside.text.now c.loop-at.at ts)
 here c =
     let text = c.self.inside.text.now in
-    let other : is_blank (get_or text c.loop-at.at 0) ≡ false = sym c.is_blank.ensures ∙ c.if-is_blank.false in
-    (next_at text c.loop-at.at c.next_piece-piece.result c.loop-at-test.true c.next_piece-piece.ensures,
-    to_here text c.self.inside.at c.loop-at.at c.loop-at-test.true other c.loop-at.invariant.more)
+    let other : is_blank (get_or text c.loop-at.at 0) ≡ false = sym c.is_blank.ensures ∙ c.if-is_blank.false in (
+      next_at text c.loop-at.at c.next_piece-piece.result c.loop-at-test.true c.next_piece-piece.ensures,
+      to_here text c.self.inside.at c.loop-at.at c.loop-at-test.true other c.loop-at.invariant.more,
+    )
 
 pub returns-in-Some-clause-fault : goal.returns-in-Some-clause-fault
 returns-in-Some-clause-fault c =
@@ -68,4 +69,3 @@ loop-at-preserved c =
 
 pub loop-at-smaller : goal.loop-at-smaller
 loop-at-smaller c = search (rules, next_at, piece_some)
-

@@ -1,7 +1,6 @@
 use Rattle.std.proofs.Common.{◌≡◌, ◌≤◌, ◌<◌, ◌+◌, ℕ, Option, Some, None, refl, subst, length, map, drop, List, arith}
 use Rattle.cbpf_syntax.specs.Reading.{AreAhead, IsFirstLarge}
-use Rattle.cbpf_syntax.proofs.Taking.{large_taken, refused_large, refused_misplaced, refused_unfinished}
-use Rattle.cbpf_syntax.proofs.Taking.{refused_last}
+use Rattle.cbpf_syntax.proofs.Taking.{large_taken, refused_large, refused_misplaced, refused_unfinished, refused_last}
 use Rattle.cbpf_syntax.specs.Lexemes.{Lexeme, AreLexemes}
 use Rattle.cbpf_syntax.specs.Views.{lexeme_of}
 use Rattle.cbpf_syntax.proofs.reader.Reader.fault.Given.{Over}
@@ -24,10 +23,13 @@ ahead g c =
     let within : c.args.n ≤ length (drop c.self.inside.at c.self.inside.ahead.items) =
     rw (← c.self.view_is) at c.requires.within in
     let window : c.ahead-ahead.result.now ≡ drop c.self.inside.at c.self.inside.ahead.items =
-    rw (← c.self.view_is) at c.ahead-ahead.ensures in
-    (within, window, λ m ts r t large. large_taken s.text.now s.lexer.at m c.args.n (drop s.at s.ahead.items) ts s.large
-        c.first_large.result r t within (rw (← c.self.view_is) at c.requires.word) large
-        c.first_large.ensures.known (rw window at c.first_large.ensures.new))
+    rw (← c.self.view_is) at c.ahead-ahead.ensures in (
+      within,
+      window,
+      λ m ts r t large. large_taken s.text.now s.lexer.at m c.args.n (drop s.at s.ahead.items) ts s.large
+          c.first_large.result r t within (rw (← c.self.view_is) at c.requires.word) large
+          c.first_large.ensures.known (rw window at c.first_large.ensures.new),
+    )
 
 pub returns-in-Some : goal.returns-in-Some
 returns-in-Some g c =
