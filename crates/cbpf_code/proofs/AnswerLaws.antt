@@ -32,6 +32,7 @@ use Rattle.cbpf_code.proofs.PathLemmas.{insn_at-same, reached-unwritten_at}
 use Rattle.cbpf_code.proofs.SoundLemmas.{known_or, returns_or}
 use Rattle.cbpf_code.proofs.FaultLemmas.{first_fault-insn, first_fault-at_end, first_fault-slot, passes_before-next}
 use Rattle.cbpf_code.proofs.FaultLemmas.{well_formed-at_end, sound_of}
+use Rattle.cbpf_code.proofs.WordStepLemmas.{OfToken, breaks-refused, first-of_token, end-of_token}
 
 -- ---- what is decided
 
@@ -287,46 +288,6 @@ each_list_is_checked list = elim (cases_eq (length list) 0) [
 
 -- ---- each text
 
--- no fault, or one of a token
-abbrev OfToken : Option WordFault → Type 0
-OfToken (Some Memory) = ⊥
-OfToken (Some (CountDiffers said found)) = ⊥
-OfToken _ = Unit {0}
-
-of_token-if : (b : Bool) (o p : Option WordFault) → OfToken o → OfToken p → OfToken (if b then o else p)
-of_token-if true o p h k = h
-of_token-if false o p h k = k
-
-of_token-or : (o p : Option WordFault) → OfToken o → OfToken p → OfToken (or_else o p)
-of_token-or None p h k = k
-of_token-or (Some e) p h k = h
-
-comma-of_token : (m : Token) → OfToken (comma_fault m)
-comma-of_token (run p ds) = tt
-comma-of_token (single p b) = of_token-if (b == 44) None (Some (UnexpectedByte p)) tt tt
-
-number-of_token : (range : ℕ) (m : Token) → OfToken (number_fault range m)
-number-of_token range (run p ds) = of_token-if (nat_lt (number ds) range) None (Some (OutOfRange p)) tt tt
-number-of_token range (single p b) = of_token-if (b == 44) (Some (NumberExpected p)) (Some (UnexpectedByte p)) tt tt
-
-first-of_token : (j : ℕ) (ms : List Token) → OfToken (first_fault j ms)
-first-of_token j [] = tt
-first-of_token j (m ∷ ms) = of_token-or (token_fault j m) (first_fault (suc j) ms)
-    (of_token-if (j % 5 == 1) (comma_fault m) (number_fault (range_of j) m) (comma-of_token m)
-    (number-of_token (range_of j) m)) (first-of_token (suc j) ms)
-
-end-of_token : (b : Bool) (p : ℕ) → OfToken (Some (if b then CommaExpected p else NumberExpected p))
-end-of_token true p = tt
-end-of_token false p = tt
-
-breaks-refused : (text : List ℕ) (e : WordFault) → OfToken (Some e) → Breaks text e → (e ≢ Memory) × Refused text e
-breaks-refused text Memory h broken = absurd h
-breaks-refused text (CountDiffers said found) h broken = absurd h
-breaks-refused text (NumberExpected p) h broken = (λ z. cc, broken)
-breaks-refused text (OutOfRange p) h broken = (λ z. cc, broken)
-breaks-refused text (UnexpectedByte p) h broken = (λ z. cc, broken)
-breaks-refused text (CommaExpected p) h broken = (λ z. cc, broken)
-
 abbrev Read : List ℕ → Type 0
 Read text = ((list : List Insn) × Spells text list) ⊎ ((e : WordFault) × (e ≢ Memory) × Refused text e)
 
@@ -346,8 +307,7 @@ fault-read text None is =
     elim (both (at_most 2 (length (tokens text)))
     (either (cases_eq (length (tokens text) % 5) 1) (cases_eq (length (tokens text) % 5) 2))) [
       | inl shape ↦ loose-read text _ (record { none_bad = is; begun = shape.0; ended = shape.1; reads = refl })
-      | inr other ↦ broken-read text (end_fault text)
-          (end-of_token (length (tokens text) == 1) (length text))
+      | inr other ↦ broken-read text (end_fault text) (end-of_token text)
           (record { why = inr (is, λ list loose. other (loose.begun, loose.ended), refl) })
     ]
 

@@ -1,7 +1,7 @@
 -- Faults of a list, from the passes that look for them.
 use Rattle.std.proofs.Common.{◌≡◌, ℕ, ◌+◌, ◌-◌, ◌<◌, List, length, get_or, arith, refl, sym, ◌∙◌, subst, inl, inr}
 use Rattle.std.specs.Prelude.{◌⊎◌, Some, None, slice_get}
-use Rattle.std.proofs.lemmas.Bool.{cases_eq}
+use Rattle.std.proofs.lemmas.Bool.{cases_eq, cases_lt}
 use Rattle.std.proofs.lemmas.Option.{slice_get_within, slice_get-get_or}
 use Rattle.cbpf_code.specs.declared.insn.Insn.{Insn}
 use Rattle.cbpf_code.specs.declared.opcode.Op.{Op}
@@ -43,73 +43,39 @@ passes_before-excludes list m TooMany passed before st = let few = passed.few in
 passes_before-excludes list m (UnknownCode i) passed before st =
     known_of list m i st.0 passed (inside i m before) st.1 st.2
 passes_before-excludes list m (NoSlot i) passed before st =
-    let a = allowed_of list m i st.0 st.1 passed (inside i m before) st.2 st.3 in
-    a.slot st.4
+    (allowed_of list m i _ _ passed (inside i m before) st.2 st.3).slot st.4
 passes_before-excludes list m (ZeroDivisor i) passed before st =
-    let a = allowed_of list m i st.0 st.1 passed (inside i m before) st.2 st.3 in
-    a.divisor st.4
+    (allowed_of list m i _ _ passed (inside i m before) st.2 st.3).divisor st.4
 passes_before-excludes list m (WideShift i) passed before st =
-    let a = allowed_of list m i st.0 st.1 passed (inside i m before) st.2 st.3 in
-    a.shift st.4
+    (allowed_of list m i _ _ passed (inside i m before) st.2 st.3).shift st.4
 passes_before-excludes list m (JumpOutside i) passed before st =
-    let a = allowed_of list m i st.0 st.1 passed (inside i m before) st.2 st.3 in
-    a.targets st.4
+    (allowed_of list m i _ _ passed (inside i m before) st.2 st.3).targets st.4
 passes_before-excludes list m (UnknownExtension i) passed before st =
-    let a = allowed_of list m i st.0 st.1 passed (inside i m before) st.2 st.3 in
-    a.extension st.4
-passes_before-excludes list m NoReturn passed before st = elim before [
-  | inl h ↦ omega arith
-  | inr h ↦ omega (arith, h.0)
-]
-passes_before-excludes list m (UnwrittenSlot i) passed before st = elim before [
-  | inl h ↦ omega arith
-  | inr h ↦ omega (arith, h.0)
+    (allowed_of list m i _ _ passed (inside i m before) st.2 st.3).extension st.4
+passes_before-excludes list m _ passed before st = elim before [ inl h ↦ omega arith | inr h ↦ omega (arith, h.0) ]
+
+index_inside : (list : List Insn) (f : CheckFault) → rank f ≡ 2 → HasFault list f → index_of f < length list
+index_inside list NoInstruction r st = absurd (omega arith)
+index_inside list TooMany r st = absurd (omega arith)
+index_inside list NoReturn r st = absurd (omega arith)
+index_inside list (UnknownCode i) r st = slice_get_within list i st.0 st.1
+index_inside list _ r st = slice_get_within list _ st.0 st.2
+
+-- where all passed, none but those of the last instruction and of slots
+passes_all-excludes : (list : List Insn) (f : CheckFault) → PassesBefore list (length list) → rank f < 3
+    → HasFault list f → ⊥
+passes_all-excludes list f passed g st = elim (cases_lt (rank f) 2) [
+  | inl h ↦ passes_before-excludes list _ f passed (inl h) st
+  | inr h ↦ passes_before-excludes list _ f passed (inr (omega arith, index_inside list f (omega arith) st)) st
 ]
 
 -- where all instructions passed and the last one is a return, only a slot can be refused
-pub well_formed-excludes : (list : List Insn) (f : CheckFault) → IsWellFormed list → rank f < 4 → HasFault list f → ⊥
-well_formed-excludes list NoInstruction formed g st =
-    passes_before-excludes list _ NoInstruction formed.passed (inl (omega arith)) st
-well_formed-excludes list TooMany formed g st =
-    passes_before-excludes list _ TooMany formed.passed (inl (omega arith)) st
-well_formed-excludes list (UnknownCode i) formed g st =
-    passes_before-excludes list _ (UnknownCode i) formed.passed (inr (refl, slice_get_within list i st.0 st.1)) st
-well_formed-excludes list (NoSlot i) formed g st =
-    passes_before-excludes list _ (NoSlot i) formed.passed (inr (refl, slice_get_within list i st.0 st.2)) st
-well_formed-excludes list (ZeroDivisor i) formed g st =
-    passes_before-excludes list _ (ZeroDivisor i) formed.passed (inr (refl, slice_get_within list i st.0 st.2)) st
-well_formed-excludes list (WideShift i) formed g st =
-    passes_before-excludes list _ (WideShift i) formed.passed (inr (refl, slice_get_within list i st.0 st.2)) st
-well_formed-excludes list (JumpOutside i) formed g st =
-    passes_before-excludes list _ (JumpOutside i) formed.passed (inr (refl, slice_get_within list i st.0 st.2)) st
-well_formed-excludes list (UnknownExtension i) formed g st = passes_before-excludes list _ (UnknownExtension i)
-    formed.passed (inr (refl, slice_get_within list i st.0 st.2)) st
+well_formed-excludes : (list : List Insn) (f : CheckFault) → IsWellFormed list → rank f < 4 → HasFault list f → ⊥
 well_formed-excludes list NoReturn formed g st =
     let some = formed.passed.some in
-    let last : (length list - 1) + 1 ≡ length list = omega arith in
-    st.2 (formed.ends st.0 (length list - 1) last st.1)
+    st.2 (formed.ends st.0 (length list - 1) (omega arith) st.1)
 well_formed-excludes list (UnwrittenSlot i) formed g st = absurd (omega arith)
-
--- where all passed, none but those of the last instruction and of slots
-pub passes_all-excludes : (list : List Insn) (f : CheckFault) → PassesBefore list (length list) → rank f < 3
-    → HasFault list f → ⊥
-passes_all-excludes list NoInstruction passed g st =
-    passes_before-excludes list _ NoInstruction passed (inl (omega arith)) st
-passes_all-excludes list TooMany passed g st = passes_before-excludes list _ TooMany passed (inl (omega arith)) st
-passes_all-excludes list (UnknownCode i) passed g st =
-    passes_before-excludes list _ (UnknownCode i) passed (inr (refl, slice_get_within list i st.0 st.1)) st
-passes_all-excludes list (NoSlot i) passed g st =
-    passes_before-excludes list _ (NoSlot i) passed (inr (refl, slice_get_within list i st.0 st.2)) st
-passes_all-excludes list (ZeroDivisor i) passed g st =
-    passes_before-excludes list _ (ZeroDivisor i) passed (inr (refl, slice_get_within list i st.0 st.2)) st
-passes_all-excludes list (WideShift i) passed g st =
-    passes_before-excludes list _ (WideShift i) passed (inr (refl, slice_get_within list i st.0 st.2)) st
-passes_all-excludes list (JumpOutside i) passed g st =
-    passes_before-excludes list _ (JumpOutside i) passed (inr (refl, slice_get_within list i st.0 st.2)) st
-passes_all-excludes list (UnknownExtension i) passed g st =
-    passes_before-excludes list _ (UnknownExtension i) passed (inr (refl, slice_get_within list i st.0 st.2)) st
-passes_all-excludes list NoReturn passed g st = absurd (omega arith)
-passes_all-excludes list (UnwrittenSlot i) passed g st = absurd (omega arith)
+well_formed-excludes list f formed g st = passes_all-excludes list f formed.passed (omega arith) st
 
 -- ---- the first one
 
@@ -123,28 +89,10 @@ first_fault-insn list m e passed st g at = record {
   ];
 }
 
-pub first_fault-end : (list : List Insn) → PassesBefore list (length list) → HasFault list NoReturn
-    → FirstFault list NoReturn
-first_fault-end list passed st = record {
-  present = st;
-  none_earlier = λ f earlier there. elim earlier [
-    | inl h ↦ passes_all-excludes list f passed h there
-    | inr h ↦ absurd (omega (arith, h.1))
-  ];
-}
-
 unwritten_only : (list : List Insn) (i : ℕ) (f : CheckFault) → ((j : ℕ) → j < i → HasFault list (UnwrittenSlot j) → ⊥)
     → rank f ≡ 4 → index_of f < i → HasFault list f → ⊥
-unwritten_only list i NoInstruction none g p st = absurd (omega arith)
-unwritten_only list i TooMany none g p st = absurd (omega arith)
-unwritten_only list i (UnknownCode j) none g p st = absurd (omega arith)
-unwritten_only list i (NoSlot j) none g p st = absurd (omega arith)
-unwritten_only list i (ZeroDivisor j) none g p st = absurd (omega arith)
-unwritten_only list i (WideShift j) none g p st = absurd (omega arith)
-unwritten_only list i (JumpOutside j) none g p st = absurd (omega arith)
-unwritten_only list i (UnknownExtension j) none g p st = absurd (omega arith)
-unwritten_only list i NoReturn none g p st = absurd (omega arith)
 unwritten_only list i (UnwrittenSlot j) none g p st = none j p st
+unwritten_only list i _ none g p st = absurd (omega arith)
 
 pub first_fault-slot : (list : List Insn) (i : ℕ) → IsWellFormed list → HasFault list (UnwrittenSlot i)
     → ((j : ℕ) → j < i → HasFault list (UnwrittenSlot j) → ⊥) → FirstFault list (UnwrittenSlot i)
@@ -158,17 +106,8 @@ first_fault-slot list i formed st none = record {
 
 none_present : (list : List Insn) → IsWellFormed list → ((j : ℕ) → HasFault list (UnwrittenSlot j) → ⊥)
     → (f : CheckFault) → HasFault list f → ⊥
-none_present list formed none NoInstruction st = well_formed-excludes list NoInstruction formed (omega arith) st
-none_present list formed none TooMany st = well_formed-excludes list TooMany formed (omega arith) st
-none_present list formed none (UnknownCode i) st = well_formed-excludes list (UnknownCode i) formed (omega arith) st
-none_present list formed none (NoSlot i) st = well_formed-excludes list (NoSlot i) formed (omega arith) st
-none_present list formed none (ZeroDivisor i) st = well_formed-excludes list (ZeroDivisor i) formed (omega arith) st
-none_present list formed none (WideShift i) st = well_formed-excludes list (WideShift i) formed (omega arith) st
-none_present list formed none (JumpOutside i) st = well_formed-excludes list (JumpOutside i) formed (omega arith) st
-none_present list formed none (UnknownExtension i) st =
-    well_formed-excludes list (UnknownExtension i) formed (omega arith) st
-none_present list formed none NoReturn st = well_formed-excludes list NoReturn formed (omega arith) st
 none_present list formed none (UnwrittenSlot i) st = none i st
+none_present list formed none f st = well_formed-excludes list f formed (omega arith) st
 
 pub sound_of : (list : List Insn) → IsWellFormed list → ((j : ℕ) → HasFault list (UnwrittenSlot j) → ⊥) → IsSound list
 sound_of list formed none = record { none = none_present list formed none }
@@ -185,18 +124,6 @@ passes_before-next list m passed here = record {
   ];
 }
 
-pub well_formed_of : (list : List Insn) (last : Insn) → PassesBefore list (length list)
-    → slice_get list (length list - 1) ≡ Some last → IsReturn last → IsWellFormed list
-well_formed_of list last passed here returns = record {
-  passed = passed;
-  ends = λ insn i at_end there.
-      let e : i ≡ length list - 1 = omega arith in
-      let at_last : slice_get list (length list - 1) ≡ Some insn =
-      subst (λ k. slice_get list k ≡ Some insn) e there in
-      let same : last ≡ insn = cc in
-      subst IsReturn same returns;
-}
-
 -- what the code reads where an index is outside
 abbrev pub zero_insn : Insn
 zero_insn = record { code = 0; jt = 0; jf = 0; k = 0 }
@@ -209,10 +136,23 @@ pub well_formed-at_end : (list : List Insn) (i : ℕ) → PassesBefore list i �
     → IsReturn (get_or list (length list - 1) zero_insn) → IsWellFormed list
 well_formed-at_end list i passed all returns =
     let whole = subst (PassesBefore list) all passed in
-    well_formed_of list _ whole (slice_get-last list whole.some) returns
+    let last = slice_get-last list whole.some in
+    record {
+      passed = whole;
+      ends = λ insn j at_end there.
+          let e : length list - 1 ≡ j = omega arith in
+          let same : get_or list (length list - 1) zero_insn ≡ insn = cc in
+          subst IsReturn same returns;
+    }
 
 pub first_fault-at_end : (list : List Insn) (i : ℕ) → PassesBefore list i → i ≡ length list
     → (IsReturn (get_or list (length list - 1) zero_insn) → ⊥) → FirstFault list NoReturn
 first_fault-at_end list i passed all never =
     let whole = subst (PassesBefore list) all passed in
-    first_fault-end list whole (_, slice_get-last list whole.some, never)
+    record {
+      present = (_, slice_get-last list whole.some, never);
+      none_earlier = λ f earlier there. elim earlier [
+        | inl h ↦ passes_all-excludes list f whole h there
+        | inr h ↦ absurd (omega (arith, h.1))
+      ];
+    }

@@ -16,170 +16,94 @@ use Rattle.cbpf_code.specs.ControlFlow.{IsTarget}
 use Rattle.cbpf_code.specs.Faults.{HasFault, FirstFault, rank, index_of, uses_slot, divides_by_k, shifts_by_k}
 use Rattle.cbpf_code.specs.Faults.{loads_absolute}
 
--- the number of a refusal, and the refusal of a number at an index
-abbrev number : CheckFault → ℕ
-number NoInstruction = 1
-number TooMany = 2
-number (UnknownCode i) = 3
-number (NoSlot i) = 4
-number (ZeroDivisor i) = 5
-number (WideShift i) = 6
-number (JumpOutside i) = 7
-number (UnknownExtension i) = 8
-number NoReturn = 9
-number (UnwrittenSlot i) = 10
+-- the one fault of C4 to C8 that an operation can be refused by, where there is one
+abbrev fault_for : Op → ℕ → CheckFault
+fault_for LdMem i = NoSlot i
+fault_for LdxMem i = NoSlot i
+fault_for St i = NoSlot i
+fault_for Stx i = NoSlot i
+fault_for (Alu Div K) i = ZeroDivisor i
+fault_for (Alu Mod K) i = ZeroDivisor i
+fault_for (Alu Lsh K) i = WideShift i
+fault_for (Alu Rsh K) i = WideShift i
+fault_for Ja i = JumpOutside i
+fault_for (Jump cond src) i = JumpOutside i
+fault_for (LdAbs size) i = UnknownExtension i
+fault_for _ i = NoInstruction
 
-abbrev fault_of : ℕ → ℕ → CheckFault
-fault_of n i =
-    if n == 1 then NoInstruction else
-    if n == 2 then TooMany else
-    if n == 3 then UnknownCode i else
-    if n == 4 then NoSlot i else
-    if n == 5 then ZeroDivisor i else
-    if n == 6 then WideShift i else
-    if n == 7 then JumpOutside i else
-    if n == 8 then UnknownExtension i else
-    if n == 9 then NoReturn else
-    UnwrittenSlot i
+-- C3 to C8: the one fault that a code can be refused by
+abbrev fault_by_code : Option Op → ℕ → CheckFault
+fault_by_code None i = UnknownCode i
+fault_by_code (Some op) i = fault_for op i
 
-fault_of-number : (e : CheckFault) → fault_of (number e) (index_of e) ≡ e
-fault_of-number NoInstruction = refl
-fault_of-number TooMany = refl
-fault_of-number (UnknownCode i) = refl
-fault_of-number (NoSlot i) = refl
-fault_of-number (ZeroDivisor i) = refl
-fault_of-number (WideShift i) = refl
-fault_of-number (JumpOutside i) = refl
-fault_of-number (UnknownExtension i) = refl
-fault_of-number NoReturn = refl
-fault_of-number (UnwrittenSlot i) = refl
+for_slot : (op : Op) (i : ℕ) → IsTrue (uses_slot op) → fault_for op i ≡ NoSlot i
+for_slot LdMem i h = cc
+for_slot _ i h = cc
 
-same_number : (e f : CheckFault) → number e ≡ number f → index_of e ≡ index_of f → e ≡ f
-same_number e f n i =
-    sym (fault_of-number e) ∙ ap (λ m. fault_of m (index_of e)) n ∙ ap (fault_of (number f)) i ∙ fault_of-number f
+for_divisor : (op : Op) (i : ℕ) → IsTrue (divides_by_k op) → fault_for op i ≡ ZeroDivisor i
+for_divisor (Alu Div K) i h = cc
+for_divisor (Alu Mod K) i h = cc
+for_divisor _ i h = cc
 
--- the one number of C4 to C8 that an operation can be refused by, or 0
-abbrev number_for : Op → ℕ
-number_for LdMem = 4
-number_for LdxMem = 4
-number_for St = 4
-number_for Stx = 4
-number_for (Alu Div K) = 5
-number_for (Alu Mod K) = 5
-number_for (Alu Lsh K) = 6
-number_for (Alu Rsh K) = 6
-number_for Ja = 7
-number_for (Jump cond src) = 7
-number_for (LdAbs size) = 8
-number_for _ = 0
+for_shift : (op : Op) (i : ℕ) → IsTrue (shifts_by_k op) → fault_for op i ≡ WideShift i
+for_shift (Alu Lsh K) i h = cc
+for_shift (Alu Rsh K) i h = cc
+for_shift _ i h = cc
 
--- C3 to C8: the one number that a code can be refused by
-abbrev number_by_code : Option Op → ℕ
-number_by_code None = 3
-number_by_code (Some op) = number_for op
-
-for_slot : (op : Op) → IsTrue (uses_slot op) → number_for op ≡ 4
-for_slot LdMem h = refl
-for_slot LdxMem h = refl
-for_slot St h = refl
-for_slot Stx h = refl
-for_slot _ h = absurd (cc)
-
-for_divisor : (op : Op) → IsTrue (divides_by_k op) → number_for op ≡ 5
-for_divisor (Alu Div K) h = refl
-for_divisor (Alu Mod K) h = refl
-for_divisor _ h = absurd (cc)
-
-for_shift : (op : Op) → IsTrue (shifts_by_k op) → number_for op ≡ 6
-for_shift (Alu Lsh K) h = refl
-for_shift (Alu Rsh K) h = refl
-for_shift _ h = absurd (cc)
-
-for_target : (op : Op) (insn : Insn) (i t : ℕ) → IsTarget op insn i t → number_for op ≡ 7
+for_target : (op : Op) (insn : Insn) (i t : ℕ) → IsTarget op insn i t → fault_for op i ≡ JumpOutside i
 for_target Ja insn i t h = refl
 for_target (Jump cond src) insn i t h = refl
 for_target _ insn i t h = absurd h
 
-for_extension : (op : Op) → IsTrue (loads_absolute op) → number_for op ≡ 8
-for_extension (LdAbs size) h = refl
-for_extension _ h = absurd (cc)
+for_extension : (op : Op) (i : ℕ) → IsTrue (loads_absolute op) → fault_for op i ≡ UnknownExtension i
+for_extension (LdAbs size) i h = refl
+for_extension _ i h = cc
 
--- the instruction at i has a code that can be refused by number n
-abbrev NumberAt : List Insn → ℕ → ℕ → Type 0
-NumberAt list i n = (insn : Insn) × (slice_get list i ≡ Some insn) × (number_by_code (op_of insn.code) ≡ n)
+-- the instruction at a fault's index has a code that can be refused by this fault alone
+abbrev RefusedAt : List Insn → ℕ → CheckFault → Type 0
+RefusedAt list i e = (insn : Insn) × (slice_get list i ≡ Some insn) × (fault_by_code (op_of insn.code) i ≡ e)
 
-number_at-known : (list : List Insn) (i n : ℕ) (insn : Insn) (op : Op) → slice_get list i ≡ Some insn
-    → op_of insn.code ≡ Some op → number_for op ≡ n → NumberAt list i n
-number_at-known list i n insn op here known is = (insn, here, ap number_by_code known ∙ is)
+refused_at : (list : List Insn) (e : CheckFault) → rank e ≡ 2 → HasFault list e → RefusedAt list (index_of e) e
+refused_at list (UnknownCode i) r has = (has.0, has.1, rw has.2 refl)
+refused_at list (NoSlot i) r has = (has.0, has.2, rw has.3 (for_slot has.1 i has.4.0))
+refused_at list (ZeroDivisor i) r has = (has.0, has.2, rw has.3 (for_divisor has.1 i has.4.0))
+refused_at list (WideShift i) r has = (has.0, has.2, rw has.3 (for_shift has.1 i has.4.0))
+refused_at list (JumpOutside i) r has = (has.0, has.2, rw has.3 (for_target has.1 has.0 i has.4.0 has.4.1))
+refused_at list (UnknownExtension i) r has = (has.0, has.2, rw has.3 (for_extension has.1 i has.4.0))
+refused_at list _ r has = absurd (omega arith)
 
-number_at : (list : List Insn) (e : CheckFault) → rank e ≡ 2 → HasFault list e → NumberAt list (index_of e) (number e)
-number_at list (UnknownCode i) r has = (has.0, has.1, ap number_by_code has.2)
-number_at list (NoSlot i) r has = number_at-known list i 4 has.0 has.1 has.2 has.3 (for_slot has.1 has.4.0)
-number_at list (ZeroDivisor i) r has = number_at-known list i 5 has.0 has.1 has.2 has.3 (for_divisor has.1 has.4.0)
-number_at list (WideShift i) r has = number_at-known list i 6 has.0 has.1 has.2 has.3 (for_shift has.1 has.4.0)
-number_at list (JumpOutside i) r has =
-    number_at-known list i 7 has.0 has.1 has.2 has.3 (for_target has.1 has.0 i has.4.0 has.4.1)
-number_at list (UnknownExtension i) r has =
-    number_at-known list i 8 has.0 has.1 has.2 has.3 (for_extension has.1 has.4.0)
-number_at list NoInstruction r has = absurd (omega arith)
-number_at list TooMany r has = absurd (omega arith)
-number_at list NoReturn r has = absurd (omega arith)
-number_at list (UnwrittenSlot i) r has = absurd (omega arith)
-
-number_at-same : (list : List Insn) (i n m : ℕ) → NumberAt list i n → NumberAt list i m → n ≡ m
-number_at-same list i n m a b =
+refused_at-same : (list : List Insn) (i : ℕ) (e f : CheckFault) → RefusedAt list i e → RefusedAt list i f → e ≡ f
+refused_at-same list i e f a b =
     let same : a.0 ≡ b.0 = cc in
-    sym a.2 ∙ ap (λ (insn : Insn). number_by_code (op_of insn.code)) same ∙ b.2
+    sym a.2 ∙ ap (λ (insn : Insn). fault_by_code (op_of insn.code) i) same ∙ b.2
 
--- outside C3 to C8 the rank decides the number
-abbrev number_of_rank : ℕ → ℕ
-number_of_rank r = if r == 0 then 1 else if r == 1 then 2 else if r == 3 then 9 else 10
+-- outside C3 to C8 rank and index decide the fault
+abbrev fault_of_rank : ℕ → ℕ → CheckFault
+fault_of_rank r i = if r == 0 then NoInstruction else if r == 1 then TooMany else if r == 3 then NoReturn else UnwrittenSlot i
 
-number-by_rank : (e : CheckFault) → (rank e ≡ 2 → ⊥) → number e ≡ number_of_rank (rank e)
-number-by_rank NoInstruction never = refl
-number-by_rank TooMany never = refl
-number-by_rank NoReturn never = refl
-number-by_rank (UnwrittenSlot i) never = refl
-number-by_rank (UnknownCode i) never = absurd (never refl)
-number-by_rank (NoSlot i) never = absurd (never refl)
-number-by_rank (ZeroDivisor i) never = absurd (never refl)
-number-by_rank (WideShift i) never = absurd (never refl)
-number-by_rank (JumpOutside i) never = absurd (never refl)
-number-by_rank (UnknownExtension i) never = absurd (never refl)
+by_rank : (e : CheckFault) → (rank e ≡ 2 → ⊥) → fault_of_rank (rank e) (index_of e) ≡ e
+by_rank NoInstruction never = refl
+by_rank TooMany never = refl
+by_rank NoReturn never = refl
+by_rank (UnwrittenSlot i) never = refl
+by_rank _ never = absurd (never refl)
 
 -- two faults of one rank and index that a list has are the same
 same_place : (list : List Insn) (e f : CheckFault) → rank e ≡ rank f → index_of e ≡ index_of f → HasFault list e
     → HasFault list f → e ≡ f
-same_place list e f ranks indexes has_e has_f =
-    elim (cases_eq (rank e) 2) [
-      | inl two ↦
-          let at_e = subst (λ i. NumberAt list i (number e)) indexes (number_at list e two has_e) in
-          same_number e f
-          (number_at-same list (index_of f) (number e) (number f) at_e (number_at list f (sym ranks ∙ two) has_f))
-          indexes
-      | inr never ↦
-          let never_f : rank f ≡ 2 → ⊥ = λ two. never (ranks ∙ two) in
-          same_number e f (number-by_rank e never ∙ ap number_of_rank ranks ∙ sym (number-by_rank f never_f)) indexes
-    ]
-
-order : (a b : ℕ) → (a < b) ⊎ ((b < a) ⊎ (a ≡ b))
-order a b = elim (cases_lt a b) [
-  | inl h ↦ inl h
-  | inr h ↦ elim (cases_eq a b) [ inl e ↦ inr (inr e) | inr n ↦ inr (inl (omega arith)) ]
+same_place list e f ranks indexes has_e has_f = elim (cases_eq (rank e) 2) [
+  | inl two ↦ refused_at-same list (index_of f) e f
+      (subst (λ i. RefusedAt list i e) indexes (refused_at list e two has_e))
+      (refused_at list f (sym ranks ∙ two) has_f)
+  | inr never ↦ sym (by_rank e never) ∙ ap (λ r. fault_of_rank r (index_of e)) ranks
+      ∙ ap (fault_of_rank (rank f)) indexes ∙ by_rank f (λ two. never (ranks ∙ two))
 ]
 
 pub first_fault-unique : (list : List Insn) (e f : CheckFault) → FirstFault list e → FirstFault list f → f ≡ e
 first_fault-unique list e f one two =
-    elim (order (rank f) (rank e)) [
-      | inl less ↦ absurd (one.none_earlier f (inl less) two.present)
-      | inr rest ↦ elim rest [
-        | inl more ↦ absurd (two.none_earlier e (inl more) one.present)
-        | inr ranks ↦ elim (order (index_of f) (index_of e)) [
-          | inl less ↦ absurd (one.none_earlier f (inr (ranks, less)) two.present)
-          | inr rest ↦ elim rest [
-            | inl more ↦ absurd (two.none_earlier e (inr (sym ranks, more)) one.present)
-            | inr indexes ↦ same_place list f e ranks indexes two.present one.present
-          ]
-        ]
-      ]
-    ]
+    let not_lower = λ (less : rank f < rank e). one.none_earlier f (inl less) two.present in
+    let not_higher = λ (less : rank e < rank f). two.none_earlier e (inl less) one.present in
+    let ranks : rank f ≡ rank e = omega arith in
+    let not_before = λ (less : index_of f < index_of e). one.none_earlier f (inr (ranks, less)) two.present in
+    let not_after = λ (less : index_of e < index_of f). two.none_earlier e (inr (sym ranks, less)) one.present in
+    same_place list f e ranks (omega arith) two.present one.present

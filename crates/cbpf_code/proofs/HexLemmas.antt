@@ -1,10 +1,10 @@
 -- Hexadecimal digits by places are those of `hex`.
-use Rattle.std.proofs.Common.{◌≡◌, ℕ, zero, suc, ◌+◌, ◌-◌, ◌/◌, ◌%◌, ◌^◌, ◌<◌, ◌≤◌, Bool, true, false, cond, List, []}
+use Rattle.std.proofs.Common.{◌≡◌, ℕ, zero, suc, ◌+◌, ◌-◌, ◌/◌, ◌%◌, ◌^◌, ◌<◌, ◌≤◌, Bool, true, false, List, []}
 use Rattle.std.proofs.Common.{◌∷◌, ◌++◌, length, drop, refl, sym, ap, ◌∙◌, arith, append_assoc, append-nil}
 use Rattle.std.proofs.Common.{get_or, length-append, ne_eqb, ltb-true, ltb-false}
 use Rattle.std.proofs.lemmas.List.{drop-append-le}
 use Rattle.std.proofs.lemmas.Bool.{agree_below_at, eqb-true}
-use Rattle.std.specs.Prelude.{nat_lt, max, codes, ◌==◌}
+use Rattle.std.specs.Prelude.{nat_lt, max, codes, ◌==◌, if◌then◌else◌}
 use Rattle.std.specs.List.{repeat}
 use Rattle.std.specs.Fmt.{digit_glyph, digits, digits_onto}
 use Rattle.cbpf_code.specs.Text.{hex}
@@ -71,10 +71,8 @@ drop-zeros (suc j) (suc m) ys l = let e : suc m - suc j ≡ m - j = omega arith 
 hex-given : (least n p : ℕ) → p ≤ 8 → HasPlaces p n → hex least n ≡ zeros (least - p) ++ hex_digits p n
 hex-given least n p l h = rw (digits-places p n (omega arith) h, length-hex_digits p n) refl
 
-abbrev HexOf : ℕ → ℕ → ℕ → Type 0
-HexOf least n p = hex least n ≡ drop (8 - max least p) (hex_digits 8 n)
-
-hex-of : (least n p : ℕ) → p ≤ 8 → least ≤ 8 → HasPlaces p n → HexOf least n p
+hex-of : (least n p : ℕ) → p ≤ 8 → least ≤ 8 → HasPlaces p n
+    → hex least n ≡ drop (8 - max least p) (hex_digits 8 n)
 hex-of least n p l m h =
     let all : 8 - p + p ≡ 8 = omega arith in
     let left : 8 - p - (8 - max least p) ≡ least - p = omega arith in
@@ -84,28 +82,40 @@ hex-of least n p l m h =
     ∙ drop-zeros (8 - max least p) (8 - p) (hex_digits p n) (omega arith)
     ∙ ap (λ q. zeros q ++ hex_digits p n) left)
 
-hex-step : (least n bound p q : ℕ) → (n < bound → HexOf least n p) → (bound ≤ n → HexOf least n q) → (t : Bool)
-    → nat_lt n bound ≡ t → HexOf least n (cond t p q)
-hex-step least n bound p q low high true e = low (ltb-true n bound e)
-hex-step least n bound p q low high false e = high (ltb-false n bound e)
+one_or_more : (p : ℕ) → 1 ≤ 16 ^ p
+one_or_more zero = omega arith
+one_or_more (suc p) = omega (arith, one_or_more p)
+
+places_of : (p n : ℕ) → 16 ^ p ≤ n → n < 16 ^ suc p → HasPlaces (suc p) n
+places_of zero n low high = omega arith
+places_of (suc p) n low high =
+    let one = one_or_more p in
+    (omega arith, places_of p (n / 16) (omega arith) (omega arith))
+
+abbrev FewPlaces : ℕ → ℕ → Type 0
+FewPlaces n p = (p ≤ 8) × HasPlaces p n
+
+places-step : (n bound p q : ℕ) → (n < bound → FewPlaces n p) → (bound ≤ n → FewPlaces n q)
+    → FewPlaces n (if nat_lt n bound then p else q)
+places-step n bound p q low high = by (nat_lt n bound) refl
+  where
+    by : (t : Bool) → nat_lt n bound ≡ t → FewPlaces n (if t then p else q)
+    by true e = low (ltb-true n bound e)
+    by false e = high (ltb-false n bound e)
+
+few_places : (n : ℕ) → n < 2 ^ 32 → FewPlaces n (hex_places n)
+few_places n l =
+    places-step n 16 1 _ (λ h. (omega arith, h))
+    (λ a. places-step n 256 2 _ (λ h. (omega arith, places_of 1 n a h))
+    (λ a. places-step n 4096 3 _ (λ h. (omega arith, places_of 2 n a h))
+    (λ a. places-step n 65536 4 _ (λ h. (omega arith, places_of 3 n a h))
+    (λ a. places-step n 1048576 5 _ (λ h. (omega arith, places_of 4 n a h))
+    (λ a. places-step n 16777216 6 _ (λ h. (omega arith, places_of 5 n a h))
+    (λ a. places-step n 268435456 7 8 (λ h. (omega arith, places_of 6 n a h))
+    (λ a. (omega arith, places_of 7 n a l))))))))
 
 pub hex-places : (least n : ℕ) → least ≤ 8 → n < 2 ^ 32 → hex least n ≡ hex_by_places least n
-hex-places least n m l =
-    hex-step least n 16 1 _ (λ h. hex-of least n 1 (omega arith) m h)
-    (λ a. hex-step least n 256 2 _ (λ h. hex-of least n 2 (omega arith) m (a, omega arith))
-    (λ a. hex-step least n 4096 3 _ (λ h. hex-of least n 3 (omega arith) m (omega arith, (omega arith, omega arith)))
-    (λ a. hex-step least n 65536 4 _
-    (λ h. hex-of least n 4 (omega arith) m (omega arith, (omega arith, (omega arith, omega arith))))
-    (λ a. hex-step least n 1048576 5 _
-    (λ h. hex-of least n 5 (omega arith) m (omega arith, (omega arith, (omega arith, (omega arith, omega arith)))))
-    (λ a. hex-step least n 16777216 6 _ (λ h. hex-of least n 6 (omega arith) m
-    (omega arith, (omega arith, (omega arith, (omega arith, (omega arith, omega arith))))))
-    (λ a. hex-step least n 268435456 7 8 (λ h. hex-of least n 7 (omega arith) m
-    (omega arith, (omega arith, (omega arith, (omega arith, (omega arith, (omega arith, omega arith)))))))
-    (λ a. hex-of least n 8 (omega arith) m (
-      omega arith,
-      (omega arith, (omega arith, (omega arith, (omega arith, (omega arith, (omega arith, omega arith)))))),
-    )) _ refl) _ refl) _ refl) _ refl) _ refl) _ refl) _ refl
+hex-places least n m l = let few = few_places n l in hex-of least n (hex_places n) few.0 m few.1
 
 -- the two digits of a byte
 pub hex-two : (b : ℕ) → b < 256 → hex 2 b ≡ hex_digits 2 b

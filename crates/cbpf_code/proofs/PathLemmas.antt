@@ -1,5 +1,5 @@
 -- Paths through a list of instructions, and the masks that stand for them.
-use Rattle.std.proofs.Common.{◌≡◌, ℕ, ◌+◌, ◌<◌, List, length, get_or, replicate, arith, refl, sym, ◌∙◌, subst, inl}
+use Rattle.std.proofs.Common.{◌≡◌, ℕ, ◌+◌, ◌<◌, ◌≤◌, List, length, get_or, replicate, arith, refl, sym, ◌∙◌, subst, inl}
 use Rattle.std.proofs.Common.{inr}
 use Rattle.std.specs.Prelude.{◌⊎◌, Option, Some, IsTrue, slice_get, slice_set, slice_index}
 use Rattle.std.proofs.lemmas.Bool.{cases_eq, cases_lt}
@@ -81,10 +81,9 @@ tracks_paths-start list = record {
       elim (cases_eq t 0) [
         | inl e ↦ inl e
         | inr n ↦
-            let none = get_or-zeros 4096 t in
-            let gone = get_or-set_other {A = ℕ} (replicate 4096 0) 0 t 65535 0 n ∙ none in
-            let bit : InMask 0 s = subst (λ m. InMask m s) gone here in
+            let gone = get_or-set_other {A = ℕ} (replicate 4096 0) 0 t 65535 0 n ∙ get_or-zeros 4096 t in
             let off = bit_at-zero s in
+            let bit : InMask 0 s = subst (λ m. InMask m s) gone here in
             absurd (omega arith)
       ];
   each_reached = λ t s small reached.
@@ -163,24 +162,14 @@ written-all list masks tracks j stands = tracks.written j (slice_get_within list
 
 allowed_follows-inside : (op : Op) (insn : Insn) (i n t : ℕ) → IsAllowed op insn i n → i < n
     → (i + 1 ≡ n → (op ≡ RetK) ⊎ (op ≡ RetA)) → Follows op insn i t → t < n
-allowed_follows-inside Ja insn i n t allowed below last h = elim (cases_lt t n) [
-  | inl l ↦ l
-  | inr past ↦ absurd (allowed.targets (t, h, past))
-]
-allowed_follows-inside (Jump k src) insn i n t allowed below last h = elim (cases_lt t n) [
-  | inl l ↦ l
-  | inr past ↦ absurd (allowed.targets (t, h, past))
-]
+allowed_follows-inside Ja insn i n t allowed below last h =
+    let never = λ (past : n ≤ t). allowed.targets (t, h, past) in omega arith
+allowed_follows-inside (Jump k src) insn i n t allowed below last h =
+    let never = λ (past : n ≤ t). allowed.targets (t, h, past) in omega arith
 allowed_follows-inside RetK insn i n t allowed below last h = absurd h
 allowed_follows-inside RetA insn i n t allowed below last h = absurd h
 allowed_follows-inside _ insn i n t allowed below last h =
-    elim (cases_eq (i + 1) n) [
-      | inl e ↦ elim (last e) [ inl a ↦ absurd (cc) | inr b ↦ absurd (cc) ]
-      | inr ne ↦ omega arith
-    ]
-
-some-same : (o : Option Op) (a b : Op) → o ≡ Some a → o ≡ Some b → a ≡ b
-some-same o a b h k = cc
+    let never = λ (e : i + 1 ≡ n). elim (last e) as (λ _. ⊥) [ inl a ↦ cc | inr b ↦ cc ] in omega arith
 
 pub follows-inside : (list : List Insn) (i : ℕ) (insn : Insn) (op : Op) → IsWellFormed list
     → slice_get list i ≡ Some insn → op_of insn.code ≡ Some op → (t : ℕ) → Follows op insn i t → t < length list
@@ -188,18 +177,13 @@ follows-inside list i insn op formed here known t follows =
     let below = slice_get_within list i insn here in
     allowed_follows-inside op insn i (length list) t
     (allowed_at-same list i insn op (formed.passed.allowed i below) here known) below
-    (λ last. elim (formed.ends insn i last here) [
-      | inl a ↦ inl (some-same _ op RetK known a)
-      | inr b ↦ inr (some-same _ op RetA known b)
-    ]) follows
+    (λ last. elim (formed.ends insn i last here) [ inl a ↦ inl (cc) | inr b ↦ inr (cc) ]) follows
 
 -- a slot that is loaded or stored is named
 pub loads_use-slot : (op : Op) → IsTrue (loads_slot op) → IsTrue (uses_slot op)
-loads_use-slot LdMem h = refl
-loads_use-slot LdxMem h = refl
-loads_use-slot _ h = absurd (cc)
+loads_use-slot LdMem h = cc
+loads_use-slot _ h = cc
 
 pub stores_use-slot : (op : Op) → IsTrue (stores_slot op) → IsTrue (uses_slot op)
-stores_use-slot St h = refl
-stores_use-slot Stx h = refl
-stores_use-slot _ h = absurd (cc)
+stores_use-slot St h = cc
+stores_use-slot _ h = cc

@@ -16,11 +16,6 @@ use Rattle.cbpf_code.specs.SlotMasks.{InMask, InMaskOf, LeavesUnwritten, AddsToM
 
 -- ---- one mask
 
-max-one : (x y : ℕ) → max x y ≡ 1 → (x ≡ 1) ⊎ (y ≡ 1)
-max-one zero y h = inr (omega arith)
-max-one (suc zero) y h = inl refl
-max-one (suc (suc x)) y h = absurd (omega arith)
-
 in_mask-or-left : (a b s : ℕ) → InMask a s → InMask (bit_or a b) s
 in_mask-or-left a b s h = let l = bit_at-lt b s in bit_at_or a b s ∙ omega arith
 
@@ -28,7 +23,9 @@ in_mask-or-right : (a b s : ℕ) → InMask b s → InMask (bit_or a b) s
 in_mask-or-right a b s h = let l = bit_at-lt a s in bit_at_or a b s ∙ omega arith
 
 in_or-mask : (a b s : ℕ) → InMask (bit_or a b) s → InMask a s ⊎ InMask b s
-in_or-mask a b s h = max-one (bit_at a s) (bit_at b s) (sym (bit_at_or a b s) ∙ h)
+in_or-mask a b s h =
+    let either = sym (bit_at_or a b s) ∙ h in
+    elim (cases_eq (bit_at a s) 1) [ inl e ↦ inl e | inr n ↦ inr (omega arith) ]
 
 pub leaves_unwritten-cleared : (mask : ℕ) (op : Op) (insn : Insn) → insn.k < 16 → IsTrue (stores_slot op)
     → LeavesUnwritten mask op insn (bit_and mask (bit_not w16 (1 * 2 ^ insn.k % 2 ^ 16)))

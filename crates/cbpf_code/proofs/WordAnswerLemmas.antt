@@ -5,8 +5,7 @@ use Rattle.std.specs.Prelude.{MatchResult, Result, Ok, Err}
 use Rattle.cbpf_code.specs.WordText.{Loose, Spells, Breaks, Refused, count_of}
 use Rattle.cbpf_code.specs.declared.insn.Insn.{Insn}
 use Rattle.cbpf_code.specs.declared.words.WordFault.{WordFault}
-use Rattle.cbpf_code.specs.declared.words.WordFault.TheVariants.{Memory, NumberExpected, OutOfRange, UnexpectedByte}
-use Rattle.cbpf_code.specs.declared.words.WordFault.TheVariants.{CountDiffers, CommaExpected}
+use Rattle.cbpf_code.specs.declared.words.WordFault.TheVariants.{Memory, CountDiffers}
 
 loose-once : (text : List ℕ) (list other : List Insn) → Loose text list → Loose text other → other ≡ list
 loose-once text list other a b = b.reads ∙ sym a.reads
@@ -24,10 +23,6 @@ breaks-loose text list e loose broken = elim broken.why [
 refused-cases : (text : List ℕ) (e : WordFault) → e ≢ Memory → Refused text e → Breaks text e ⊎ ((list : List Insn)
     × Loose text list × (e ≡ CountDiffers (count_of text) (length list)) × (count_of text ≢ length list))
 refused-cases text Memory other r = absurd (other refl)
-refused-cases text (NumberExpected p) other r = inl r
-refused-cases text (OutOfRange p) other r = inl r
-refused-cases text (UnexpectedByte p) other r = inl r
-refused-cases text (CommaExpected p) other r = inl r
 refused-cases text (CountDiffers said found) other r =
     inr (
       r.0,
@@ -35,6 +30,7 @@ refused-cases text (CountDiffers said found) other r =
       ap (λ n. CountDiffers n found) r.2 ∙ ap (λ n. CountDiffers (count_of text) n) r.3,
       λ same. r.4 (r.2 ∙ same ∙ sym r.3),
     )
+refused-cases text _ other r = inl r
 
 pub spells-not_refused : (text : List ℕ) (list : List Insn) (e : WordFault) → Spells text list → e ≢ Memory
     → Refused text e → ⊥
@@ -69,11 +65,7 @@ refused-once text e f one two r s = elim (refused-cases text e one r) [
 
 memory-or : (e : WordFault) → (e ≡ Memory) ⊎ (e ≢ Memory)
 memory-or Memory = inl refl
-memory-or (NumberExpected p) = inr (λ h. absurd (cc))
-memory-or (OutOfRange p) = inr (λ h. absurd (cc))
-memory-or (UnexpectedByte p) = inr (λ h. absurd (cc))
-memory-or (CountDiffers said found) = inr (λ h. absurd (cc))
-memory-or (CommaExpected p) = inr (λ h. absurd (cc))
+memory-or _ = inr (λ h. cc)
 
 -- the same of an answer
 pub answer-spelled : {V : Type 0} (items : V → List Insn) (text : List ℕ) (r : Result V WordFault)

@@ -1,5 +1,5 @@
 -- Word text as it is written is read back.
-use Rattle.std.proofs.Common.{◌≡◌, ◌≢◌, ℕ, suc, ◌+◌, ◌-◌, ◌*◌, ◌^◌, ◌<◌, ◌≤◌, nat_lt, true, false, List, [], ◌∷◌}
+use Rattle.std.proofs.Common.{◌≡◌, ◌≢◌, ℕ, suc, ◌+◌, ◌-◌, ◌*◌, ◌%◌, ◌==◌, ◌^◌, ◌<◌, ◌≤◌, nat_lt, true, false, List, [], ◌∷◌}
 use Rattle.std.proofs.Common.{◌++◌, length, codes, decimal, append_assoc, None, inr, refl, ap, ◌∙◌, arith, tests}
 use Rattle.std.specs.List.{All, AllByRecursion, flat_map, fold}
 use Rattle.std.specs.Char.{digit_value}
@@ -9,9 +9,9 @@ use Rattle.std.proofs.lemmas.List.Elements.{All-head, All-tail}
 use Rattle.std.proofs.lemmas.Str.{digit_value_digit}
 use Rattle.std.proofs.lemmas.Str.Parse.{digit_from_value}
 use Rattle.cbpf_code.specs.WordTokens.{run, is_digit, begins_with_digit, number, tokens_from}
-use Rattle.cbpf_code.specs.WordText.{number_fault, token_fault, first_fault, or_else, numbers, Spells}
+use Rattle.cbpf_code.specs.WordText.{number_fault, first_fault, numbers, range_of, Spells}
 use Rattle.cbpf_code.specs.WordForm.{InRange, word_line, words}
-use Rattle.cbpf_code.specs.WordSteps.{fields_of, IsReadWhole}
+use Rattle.cbpf_code.specs.WordSteps.{fields_of}
 use Rattle.cbpf_code.proofs.WordTokenLemmas.{law-empty, law-blank, law-single, law-run}
 use Rattle.cbpf_code.proofs.WordStepLemmas.{first_fault-shift, whole-by}
 use Rattle.cbpf_code.specs.declared.insn.Insn.{Insn}
@@ -95,19 +95,16 @@ good-number at n range h l =
     let t : nat_lt n range ≡ true = grind (arith, tests) in
     rw (v, t) refl
 
-reads-number : (text : List ℕ) (n j m : ℕ) (ns : List ℕ) → begins_with_digit text ≡ false → n < 2 ^ 64
-    → ((at : ℕ) → token_fault j (run at (decimal n)) ≡ None) → Reads text (suc j) m ns
-    → Reads (decimal n ++ text) j (m + 1) (n ∷ ns)
-reads-number text n j m ns stop h good r =
+reads-number : (text : List ℕ) (n j m : ℕ) (ns : List ℕ) → begins_with_digit text ≡ false → (j % 5 == 1) ≡ false
+    → n < 2 ^ 64 → n < range_of j → Reads text (suc j) m ns → Reads (decimal n ++ text) j (m + 1) (n ∷ ns)
+reads-number text n j m ns stop due h l r =
     let e = λ (at : ℕ). tokens-decimal at n text h stop in
+    let good = λ (at : ℕ). good-number at n (range_of j) h l in
     record {
-      good = λ at. ap (first_fault j) (e at)
-          ∙ ap (λ o. or_else o (first_fault (suc j) (tokens_from (at + length (decimal n)) text))) (good at)
-          ∙ r.good (at + length (decimal n));
+      good = λ at. ap (first_fault j) (e at) ∙ rw (due, good at) (r.good (at + length (decimal n)));
       count = λ at. omega (arith, ap length (e at), r.count (at + length (decimal n)));
       spelled = λ at. ap numbers (e at)
-          ∙ ap (λ v. v ∷ numbers (tokens_from (at + length (decimal n)) text)) (number-decimal n h)
-          ∙ ap (λ (l : List ℕ). n ∷ l) (r.spelled (at + length (decimal n)));
+          ∙ rw (number-decimal n h) (ap (λ (l : List ℕ). n ∷ l) (r.spelled (at + length (decimal n))));
     }
 
 -- ---- instructions
@@ -119,15 +116,11 @@ line-split i text = simp append_assoc
 reads-line : (i : Insn) (text : List ℕ) (m : ℕ) (ns : List ℕ) → InRange i → Reads text 2 m ns
     → Reads (word_line i ++ text) 2 (m + 5) (i.code ∷ i.jt ∷ i.jf ∷ i.k ∷ ns)
 reads-line i text m ns h r =
-    let comma : Reads (44 ∷ text) 6 (m + 1) ns = reads-next_comma _ _ _ (reads-comma text m ns r) in
-    let k : Reads (decimal i.k ++ (44 ∷ text)) 5 (m + 1 + 1) (i.k ∷ ns) = reads-number _ i.k 5 _ _ refl
-    (omega (arith, h.k)) (λ at. good-number at i.k (2 ^ 32) (omega (arith, h.k)) h.k) comma in
-    let jf = reads-number _ i.jf 4 _ _ refl (omega (arith, h.jf))
-    (λ at. good-number at i.jf (2 ^ 8) (omega (arith, h.jf)) h.jf) (reads-space _ _ _ _ k) in
-    let jt = reads-number _ i.jt 3 _ _ refl (omega (arith, h.jt))
-    (λ at. good-number at i.jt (2 ^ 8) (omega (arith, h.jt)) h.jt) (reads-space _ _ _ _ jf) in
-    let code = reads-number _ i.code 2 _ _ refl (omega (arith, h.code))
-    (λ at. good-number at i.code (2 ^ 16) (omega (arith, h.code)) h.code) (reads-space _ _ _ _ jt) in
+    let k = reads-number _ i.k 5 _ _ refl refl (omega (arith, h.k)) h.k
+    (reads-next_comma _ _ _ (reads-comma text m ns r)) in
+    let jf = reads-number _ i.jf 4 _ _ refl refl (omega (arith, h.jf)) h.jf (reads-space _ _ _ _ k) in
+    let jt = reads-number _ i.jt 3 _ _ refl refl (omega (arith, h.jt)) h.jt (reads-space _ _ _ _ jf) in
+    let code = reads-number _ i.code 2 _ _ refl refl (omega (arith, h.code)) h.code (reads-space _ _ _ _ jt) in
     let sum : m + 1 + 1 + 1 + 1 + 1 ≡ m + 5 = omega arith in
     rw (line-split i text, ← sum) code
 
@@ -149,15 +142,13 @@ reads-words : (list : List Insn) → length list < 2 ^ 32 → All InRange list
     → Reads (words list) 0 (5 * length list + 1 + 1) (length list ∷ fields_of list)
 reads-words list l h =
     rw (words-split list)
-    (reads-number _ (length list) 0 _ _ refl (omega (arith, l))
-    (λ at. good-number at (length list) (2 ^ 32) (omega (arith, l)) l) (reads-comma _ _ _ (reads-lines list h)))
+    (reads-number _ (length list) 0 _ _ refl refl (omega (arith, l)) l (reads-comma _ _ _ (reads-lines list h)))
 
 -- the law that a list is read back from its text
 pub words-spell : (list : List Insn) → All InRange list → length list ≤ 4294967295 → Spells (words list) list
 words-spell list h l =
-    let r : Reads (words list) 0 (5 * length list + 1 + 1) (length list ∷ fields_of list) =
-    reads-words list (omega (arith, l)) h in
+    let r = reads-words list (omega (arith, l)) h in
     let n = r.count 0 in
-    let w : IsReadWhole (words list) (length list) list =
-    whole-by (words list) (length list) list (r.good 0) (omega (arith, n)) (inr (omega (arith, n))) (r.spelled 0) in
+    let w = whole-by (words list) (length list) list (r.good 0) (omega (arith, n)) (inr (omega (arith, n)))
+    (r.spelled 0) in
     record { loose = w.loose; counted = w.counted }

@@ -1,5 +1,5 @@
 -- Steps of the reader, one after another.
-use Rattle.std.proofs.Common.{◌≡◌, ℕ, suc, ◌+◌, ◌%◌, ◌<◌, ◌≤◌, ◌⊎◌, inl, inr, List, [], ◌∷◌, ◌++◌, length}
+use Rattle.std.proofs.Common.{◌≡◌, ◌≢◌, Bool, if◌then◌else◌, ℕ, suc, ◌+◌, ◌%◌, ◌<◌, ◌≤◌, ◌⊎◌, inl, inr, List, [], ◌∷◌, ◌++◌, length}
 use Rattle.std.proofs.Common.{length-append, drop, append_assoc, append-nil, refl, sym, ◌∙◌, ap, subst, tests, true}
 use Rattle.std.proofs.Common.{false, cond, eqb, nat_lt, ◌==◌, ◌^◌, slice_index, arith, Option, Some, None}
 use Rattle.cbpf_code.specs.WordTokens.{Token, run, single, tokens, tokens_after, number}
@@ -11,9 +11,9 @@ use Rattle.cbpf_code.specs.declared.words.WordFault.TheVariants.{Memory, NumberE
 use Rattle.cbpf_code.specs.declared.words.WordFault.TheVariants.{CountDiffers, CommaExpected}
 use Rattle.cbpf_code.specs.declared.words.WordFault.{WordFault}
 
-pub passes-then : (text : List ℕ) (j at n mid m end : ℕ) (ns ms : List ℕ) → Passes text j at n ns mid
+pub passes-then : {text : List ℕ} {j at n mid m end : ℕ} {ns ms : List ℕ} → Passes text j at n ns mid
     → Passes text (n + j) mid m ms end → Passes text j at (m + n) (ns ++ ms) end
-passes-then text j at n mid m end ns ms x y =
+passes-then {text} {j} {at} {n} {mid} {m} {end} {ns} {ms} x y =
     let sum : m + (n + j) ≡ m + n + j = omega arith in
     record {
       within = y.within;
@@ -123,72 +123,59 @@ read-last text c list i at end r x e =
     ∙ ap (λ (t : List ℕ). c ∷ t) (fields_of-push list i [] ∙ append-nil (fields_of (list ++ i ∷ []))))
 
 -- ---- refusals
-abbrev IsPlaced : WordFault → Type 0
-IsPlaced Memory = ⊥
-IsPlaced (CountDiffers said found) = ⊥
-IsPlaced (NumberExpected p) = Unit {0}
-IsPlaced (OutOfRange p) = Unit {0}
-IsPlaced (UnexpectedByte p) = Unit {0}
-IsPlaced (CommaExpected p) = Unit {0}
+-- no fault, or one of a token or of the end
+abbrev pub OfToken : Option WordFault → Type 0
+OfToken (Some Memory) = ⊥
+OfToken (Some (CountDiffers said found)) = ⊥
+OfToken _ = Unit {0}
 
-abbrev EachPlaced : Option WordFault → Type 0
-EachPlaced None = Unit {0}
-EachPlaced (Some e) = IsPlaced e
+pub breaks-refused : (text : List ℕ) (e : WordFault) → OfToken (Some e) → Breaks text e
+    → (e ≢ Memory) × Refused text e
+breaks-refused text Memory h broken = absurd h
+breaks-refused text (CountDiffers said found) h broken = absurd h
+breaks-refused text _ h broken = (λ z. cc, broken)
 
-refused-by : (text : List ℕ) (e : WordFault) → IsPlaced e → Breaks text e → Refused text e
-refused-by text Memory p b = tt
-refused-by text (CountDiffers said found) p b = absurd p
-refused-by text (NumberExpected q) p b = b
-refused-by text (OutOfRange q) p b = b
-refused-by text (UnexpectedByte q) p b = b
-refused-by text (CommaExpected q) p b = b
+of_token-if : (b : Bool) (o p : Option WordFault) → OfToken o → OfToken p → OfToken (if b then o else p)
+of_token-if true o p h k = h
+of_token-if false o p h k = k
 
-comma-placed : (m : Token) → EachPlaced (comma_fault m)
-comma-placed (run p ds) = tt
-comma-placed (single p b) = elim (eqb b 44) as (λ t. EachPlaced (cond t None (Some (UnexpectedByte p)))) [
-  | true ↦ tt
-  | false ↦ tt
-]
+comma-of_token : (m : Token) → OfToken (comma_fault m)
+comma-of_token (run p ds) = tt
+comma-of_token (single p b) = of_token-if (b == 44) None (Some (UnexpectedByte p)) tt tt
 
-number-placed : (r : ℕ) (m : Token) → EachPlaced (number_fault r m)
-number-placed r (run p ds) = elim (nat_lt (number ds) r) as (λ t. EachPlaced (cond t None (Some (OutOfRange p)))) [
-  | true ↦ tt
-  | false ↦ tt
-]
-number-placed r (single p b) = elim (eqb b 44)
-    as (λ t. EachPlaced (cond t (Some (NumberExpected p)) (Some (UnexpectedByte p)))) [ true ↦ tt | false ↦ tt ]
+number-of_token : (range : ℕ) (m : Token) → OfToken (number_fault range m)
+number-of_token range (run p ds) = of_token-if (nat_lt (number ds) range) None (Some (OutOfRange p)) tt tt
+number-of_token range (single p b) = of_token-if (b == 44) (Some (NumberExpected p)) (Some (UnexpectedByte p)) tt tt
 
-token-placed : (j : ℕ) (m : Token) → EachPlaced (token_fault j m)
-token-placed j m = elim (eqb (j % 5) 1) as (λ t. EachPlaced (cond t (comma_fault m) (number_fault (range_of j) m))) [
-  | true ↦ comma-placed m
-  | false ↦ number-placed (range_of j) m
-]
+of_token-or : (o p : Option WordFault) → OfToken o → OfToken p → OfToken (or_else o p)
+of_token-or None p h k = k
+of_token-or (Some e) p h k = h
 
-or-placed : (o o' : Option WordFault) → EachPlaced o → EachPlaced o' → EachPlaced (or_else o o')
-or-placed None o' h h' = h'
-or-placed (Some e) o' h h' = h
+pub first-of_token : (j : ℕ) (ms : List Token) → OfToken (first_fault j ms)
+first-of_token j [] = tt
+first-of_token j (m ∷ ms) = of_token-or (token_fault j m) (first_fault (suc j) ms)
+    (of_token-if (j % 5 == 1) (comma_fault m) (number_fault (range_of j) m) (comma-of_token m)
+    (number-of_token (range_of j) m)) (first-of_token (suc j) ms)
 
-first-placed : (j : ℕ) (ms : List Token) → EachPlaced (first_fault j ms)
-first-placed j [] = tt
-first-placed j (m ∷ ms) =
-    or-placed (token_fault j m) (first_fault (suc j) ms) (token-placed j m) (first-placed (suc j) ms)
+pub end-of_token : (text : List ℕ) → OfToken (Some (end_fault text))
+end-of_token text = by (length (tokens text) == 1)
+  where
+    by : (b : Bool) → OfToken (Some (if b then CommaExpected (length text) else NumberExpected (length text)))
+    by true = tt
+    by false = tt
 
 -- the first bad token
 refused-token : (text : List ℕ) (e : WordFault) → first_fault 0 (tokens text) ≡ Some e → Refused text e
 refused-token text e h =
-    refused-by text e (subst EachPlaced h (first-placed 0 (tokens text))) (record { why = inl h })
+    (breaks-refused text e (subst OfToken h (first-of_token 0 (tokens text))) (record { why = inl h })).1
 
 -- the end, where no list ends
-refused-end : (text : List ℕ) (e e' : WordFault) → first_fault 0 (tokens text) ≡ None
-    → ((length (tokens text) < 2) ⊎ ((length (tokens text) % 5 ≡ 1 → ⊥) × (length (tokens text) % 5 ≡ 2 → ⊥)))
-    → IsPlaced e' → e ≡ e' → e' ≡ end_fault text → Refused text e
-refused-end text e e' h short p same which =
-    refused-by text e (subst IsPlaced (sym same) p) (record { why = inr (h, no_reading, same ∙ which) }) where
-      no_reading : (list : List Insn) → Loose text list → ⊥
-      no_reading list l = elim short [
-        | inl s ↦ omega (arith, s, l.begun)
-        | inr n ↦ elim l.ended [ inl a ↦ n.0 a | inr b ↦ n.1 b ]
-      ]
+refused-end : (text : List ℕ) (e : WordFault) → first_fault 0 (tokens text) ≡ None
+    → (2 ≤ length (tokens text) → (length (tokens text) % 5 ≡ 1) ⊎ (length (tokens text) % 5 ≡ 2) → ⊥)
+    → e ≡ end_fault text → Refused text e
+refused-end text e h never which =
+    (breaks-refused text e (subst (λ f. OfToken (Some f)) (sym which) (end-of_token text))
+    (record { why = inr (h, λ list l. never l.begun l.ended, which) })).1
 
 nonempty : (ms : List Token) → (ms ≡ [] → ⊥) → 0 < length ms
 nonempty [] h = absurd (h refl)
@@ -203,16 +190,16 @@ end-comma text h = let z : (length (tokens text) == 1) ≡ true = grind (arith, 
 pub stops-first : (text : List ℕ) (e : WordFault) → Stops text 0 0 1 e (NumberExpected (length text)) → Refused text e
 stops-first text e s = elim s.why [
   | inl h ↦ refused-token text e h
-  | inr h ↦ refused-end text e (NumberExpected (length text)) h.0 (inl (omega (arith, h.1))) tt h.2
-      (end-number text (λ one. omega (arith, h.1, one)))
+  | inr h ↦ refused-end text e h.0 (λ begun ended. omega (arith, h.1))
+      (h.2 ∙ end-number text (λ one. omega (arith, h.1, one)))
 ]
 
 pub stops-count : (text : List ℕ) (c a : ℕ) (e : WordFault) → Passes text 0 0 1 (c ∷ []) a
     → Stops text 1 a 1 e (CommaExpected (length text)) → Refused text e
 stops-count text c a e x s = elim s.why [
   | inl h ↦ refused-token text e (x.good ∙ h)
-  | inr h ↦ refused-end text e (CommaExpected (length text)) (x.good ∙ h.0) (inl (omega (arith, h.1, x.count))) tt h.2
-      (end-comma text (omega (arith, h.1, x.count)))
+  | inr h ↦ refused-end text e (x.good ∙ h.0) (λ begun ended. omega (arith, h.1, x.count))
+      (h.2 ∙ end-comma text (omega (arith, h.1, x.count)))
 ]
 
 pub stops-fields : (text : List ℕ) (c : ℕ) (list : List Insn) (at : ℕ) (e : WordFault) → IsRead text c list at
@@ -221,9 +208,8 @@ stops-fields text c list at e r some s =
     let more : 0 < length (tokens_after text at) = nonempty _ some in
     elim s.why [
       | inl h ↦ refused-token text e (r.good ∙ h)
-      | inr h ↦ refused-end text e (NumberExpected (length text)) (r.good ∙ h.0)
-          (inr (λ a. omega (arith, h.1, r.tokens_so_far, a), λ b. omega (arith, h.1, r.tokens_so_far, b))) tt h.2
-          (end-number text (λ one. omega (arith, h.1, r.tokens_so_far, one)))
+      | inr h ↦ refused-end text e (r.good ∙ h.0) (λ begun ended. omega (arith, h.1, r.tokens_so_far, ended))
+          (h.2 ∙ end-number text (λ one. omega (arith, h.1, r.tokens_so_far, one)))
     ]
 
 pub stops-comma : (text : List ℕ) (c : ℕ) (list : List Insn) (ns : List ℕ) (at mid : ℕ) (e : WordFault)

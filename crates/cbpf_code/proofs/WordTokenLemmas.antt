@@ -9,32 +9,46 @@ use Rattle.std.proofs.lemmas.Grind.{common_steps}
 use Rattle.cbpf_code.specs.WordTokens.{Token, run, single, is_digit, is_blank, begins_with_digit, join_digit}
 use Rattle.cbpf_code.specs.WordTokens.{tokens_from, tokens_after}
 
-tokens-blank : (at b : ℕ) (bs : List ℕ) → is_digit b ≡ false → is_blank b ≡ true
-    → tokens_from at (b ∷ bs) ≡ tokens_from (suc at) bs
-unfolding tokens_from
-tokens-blank at b bs d e = rw (d, e) refl
+blank_no_digit : (b : ℕ) → is_blank b ≡ true → is_digit b ≡ false
+blank_no_digit b e = grind (arith, tests)
 
-tokens-single : (at b : ℕ) (bs : List ℕ) → is_digit b ≡ false → is_blank b ≡ false
-    → tokens_from at (b ∷ bs) ≡ single at b ∷ tokens_from (suc at) bs
+-- the four ways in which a text begins
+
+pub law-empty : (at : ℕ) → tokens_from at [] ≡ []
 unfolding tokens_from
-tokens-single at b bs d e = rw (d, e) refl
+law-empty at = refl
+
+pub law-blank : (at b : ℕ) (rest : List ℕ) → is_blank b ≡ true → tokens_from at (b ∷ rest) ≡ tokens_from (at + 1) rest
+unfolding tokens_from
+law-blank at b rest e = rw (add-one, blank_no_digit b e, e) refl
+
+pub law-single : (at b : ℕ) (rest : List ℕ) → is_blank b ≡ false → is_digit b ≡ false
+    → tokens_from at (b ∷ rest) ≡ single at b ∷ tokens_from (at + 1) rest
+unfolding tokens_from
+law-single at b rest n d = rw (add-one, d, n) refl
 
 tokens-last_digit : (at b : ℕ) (bs : List ℕ) → is_digit b ≡ true → begins_with_digit bs ≡ false
-    → tokens_from at (b ∷ bs) ≡ run at (b ∷ []) ∷ tokens_from (suc at) bs
+    → tokens_from at (b ∷ bs) ≡ run at (b ∷ []) ∷ tokens_from (at + 1) bs
 unfolding tokens_from
-tokens-last_digit at b bs d e = rw (d, e) refl
+tokens-last_digit at b bs d e = rw (add-one, d, e) refl
 
 tokens-digit : (at b : ℕ) (bs : List ℕ) → is_digit b ≡ true → begins_with_digit bs ≡ true
     → tokens_from at (b ∷ bs) ≡ join_digit at b (tokens_from (suc at) bs)
 unfolding tokens_from
 tokens-digit at b bs d e = rw (d, e) refl
 
-tokens-none : (at : ℕ) → tokens_from at [] ≡ []
-unfolding tokens_from
-tokens-none at = refl
-
-blank_no_digit : (b : ℕ) → is_blank b ≡ true → is_digit b ≡ false
-blank_no_digit b e = grind (arith, tests)
+pub law-run : (at : ℕ) (digits rest : List ℕ) → digits ≢ [] → AllByRecursion (λ b. is_digit b ≡ true) digits
+    → begins_with_digit rest ≡ false
+    → tokens_from at (digits ++ rest) ≡ run at digits ∷ tokens_from (at + length digits) rest
+law-run at [] rest some all stop = absurd (some refl)
+law-run at (b ∷ []) rest some all stop = tokens-last_digit at b rest all.0 stop
+law-run at (b ∷ d ∷ ds) rest some all stop =
+    let more : tokens_from (suc at) (d ∷ ds ++ rest)
+    ≡ run (suc at) (d ∷ ds) ∷ tokens_from (suc at + length (d ∷ ds)) rest =
+    law-run (suc at) (d ∷ ds) rest (λ h. cc) all.1 stop in
+    let seam : suc at + length (d ∷ ds) ≡ at + length (b ∷ d ∷ ds) = omega arith in
+    tokens-digit at b (d ∷ ds ++ rest) all.0 all.1.0 ∙ ap (λ (ms : List Token). join_digit at b ms) more
+    ∙ ap (λ (m : ℕ). run at (b ∷ d ∷ ds) ∷ tokens_from m rest) seam
 
 at_digit : (bs : List ℕ) → 0 < length bs → is_digit (get_or bs 0 0) ≡ true → begins_with_digit bs ≡ true
 at_digit [] l d = absurd (omega (arith, l))
@@ -49,7 +63,7 @@ tokens-run : (n at : ℕ) (bs : List ℕ) → n < length bs → ((k : ℕ) → k
     → tokens_from at bs ≡ run at (take (suc n) bs) ∷ tokens_from (at + suc n) (drop (suc n) bs)
 tokens-run n at [] l d s = absurd (omega (arith, l))
 tokens-run zero at (b ∷ bs) l d s =
-    rw add-one (tokens-last_digit at b bs (d 0 (omega arith)) (at_no_digit bs (λ h. s (omega (arith, h)))))
+    tokens-last_digit at b bs (d 0 (omega arith)) (at_no_digit bs (λ h. s (omega (arith, h))))
 tokens-run (suc n) at (b ∷ bs) l d s =
     let more : tokens_from (suc at) bs
     ≡ run (suc at) (take (suc n) bs) ∷ tokens_from (suc at + suc n) (drop (suc n) bs) =
@@ -64,17 +78,17 @@ drop-drop_at text i n = grind (arith, common_steps)
 
 pub step-blank : (text : List ℕ) (i : ℕ) → i < length text → is_blank (get_or text i 0) ≡ true
     → tokens_after text i ≡ tokens_after text (i + 1)
-step-blank text i l e = (rw (drop-cons text i 0)
-    (rw add-one (tokens-blank i (get_or text i 0) (drop (suc i) text) (blank_no_digit (get_or text i 0) e) e)))
+step-blank text i l e =
+    rw (drop-cons text i 0, add-one) (rw add-one at (law-blank i (get_or text i 0) (drop (suc i) text) e))
 
 pub step-single : (text : List ℕ) (i : ℕ) → i < length text → is_digit (get_or text i 0) ≡ false
     → is_blank (get_or text i 0) ≡ false
     → tokens_after text i ≡ single i (get_or text i 0) ∷ tokens_after text (i + 1)
 step-single text i l d e =
-    (rw (drop-cons text i 0) (rw add-one (tokens-single i (get_or text i 0) (drop (suc i) text) d e)))
+    rw (drop-cons text i 0, add-one) (rw add-one at (law-single i (get_or text i 0) (drop (suc i) text) e d))
 
 pub step-end : (text : List ℕ) (i : ℕ) → length text ≤ i → tokens_after text i ≡ []
-step-end text i l = rw (drop_all i text l) (tokens-none i)
+step-end text i l = rw (drop_all i text l) (law-empty i)
 
 -- `sub` is the text from i on, and begins with n digits and no more
 pub step-run : (text : List ℕ) (i n : ℕ) (sub : List ℕ) → sub ≡ drop i text → 0 < n → n ≤ length sub
@@ -127,20 +141,16 @@ join-some at b (run p ds ∷ ms) h e = cc
 -- a byte that is no blank begins a token
 tokens-some : (at b : ℕ) (bs : List ℕ) → is_blank b ≡ false → tokens_from at (b ∷ bs) ≡ [] → ⊥
 tokens-some at b [] n e = elim (bool-cases (is_digit b)) [
-  | inl d ↦
-      (let f : run at (b ∷ []) ∷ tokens_from (suc at) [] ≡ [] = sym (tokens-last_digit at b [] d refl) ∙ e in cc)
-  | inr d ↦ (let f : single at b ∷ tokens_from (suc at) [] ≡ [] = sym (tokens-single at b [] d n) ∙ e in cc)
+  | inl d ↦ let f = tokens-last_digit at b [] d refl in cc
+  | inr d ↦ let f = law-single at b [] n d in cc
 ]
 tokens-some at b (x ∷ xs) n e = elim (bool-cases (is_digit b)) [
   | inl d ↦ elim (bool-cases (is_digit x)) [
     | inl y ↦ join-some at b (tokens_from (suc at) (x ∷ xs)) (tokens-some (suc at) x xs (digit_no_blank x y))
         (sym (tokens-digit at b (x ∷ xs) d y) ∙ e)
-    | inr y ↦ (let f : run at (b ∷ []) ∷ tokens_from (suc at) (x ∷ xs) ≡ [] = sym
-        (tokens-last_digit at b (x ∷ xs) d y) ∙ e in
-        cc)
+    | inr y ↦ let f = tokens-last_digit at b (x ∷ xs) d y in cc
   ]
-  | inr d ↦
-      (let f : single at b ∷ tokens_from (suc at) (x ∷ xs) ≡ [] = sym (tokens-single at b (x ∷ xs) d n) ∙ e in cc)
+  | inr d ↦ let f = law-single at b (x ∷ xs) n d in cc
 ]
 
 pub some-token : (text : List ℕ) (i : ℕ) → i < length text → is_blank (get_or text i 0) ≡ false
@@ -163,27 +173,4 @@ end-or-not text at place w same stops = (
   ]),
 )
 
--- the four ways in which a text begins
-
-pub law-empty : (at : ℕ) → tokens_from at [] ≡ []
-law-empty = tokens-none
-
-pub law-blank : (at b : ℕ) (rest : List ℕ) → is_blank b ≡ true → tokens_from at (b ∷ rest) ≡ tokens_from (at + 1) rest
-law-blank at b rest e = rw add-one (tokens-blank at b rest (blank_no_digit b e) e)
-
-pub law-single : (at b : ℕ) (rest : List ℕ) → is_blank b ≡ false → is_digit b ≡ false
-    → tokens_from at (b ∷ rest) ≡ single at b ∷ tokens_from (at + 1) rest
-law-single at b rest n d = rw add-one (tokens-single at b rest d n)
-
-pub law-run : (at : ℕ) (digits rest : List ℕ) → digits ≢ [] → AllByRecursion (λ b. is_digit b ≡ true) digits
-    → begins_with_digit rest ≡ false
-    → tokens_from at (digits ++ rest) ≡ run at digits ∷ tokens_from (at + length digits) rest
-law-run at [] rest some all stop = absurd (some refl)
-law-run at (b ∷ []) rest some all stop = rw add-one (tokens-last_digit at b rest all.0 stop)
-law-run at (b ∷ d ∷ ds) rest some all stop =
-    let more : tokens_from (suc at) (d ∷ ds ++ rest)
-    ≡ run (suc at) (d ∷ ds) ∷ tokens_from (suc at + length (d ∷ ds)) rest =
-    law-run (suc at) (d ∷ ds) rest (λ h. cc) all.1 stop in
-    let seam : suc at + length (d ∷ ds) ≡ at + length (b ∷ d ∷ ds) = omega arith in
-    tokens-digit at b (d ∷ ds ++ rest) all.0 all.1.0 ∙ ap (λ (ms : List Token). join_digit at b ms) more
-    ∙ ap (λ (m : ℕ). run at (b ∷ d ∷ ds) ∷ tokens_from m rest) seam
+pub ruleset marks = (law-empty, law-blank, law-single, law-run)

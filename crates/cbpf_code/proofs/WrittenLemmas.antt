@@ -4,6 +4,7 @@ use Rattle.std.proofs.Common.{length, length-drop, take_all, append_assoc, appen
 use Rattle.std.proofs.Common.{Option, None, Some, Result, Ok, Err}
 use Rattle.std.specs.Io.KnownBytes.{Appends, Keeps}
 use Rattle.std.proofs.lemmas.List.{take-append-drop, take_more}
+use Rattle.std.proofs.lemmas.Grind.{flat_map-append}
 use Rattle.std.specs.List.{flat_map}
 use Rattle.std.specs.Result.{IsErr}
 use Rattle.std.proofs.Math.Seq.{take-add}
@@ -15,23 +16,17 @@ appends-then (Some xs) None w a b x y = absurd x
 appends-then (Some xs) (Some ys) None a b x y = y
 appends-then (Some xs) (Some ys) (Some zs) a b x y = y ∙ ap (λ (t : List ℕ). t ++ b) x ∙ append_assoc xs a b
 
-appends-kept : (u v w : Option (List ℕ)) (a : List ℕ) → Appends u v a → Keeps v w → Appends u w a
-appends-kept None v w a x y = tt
-appends-kept (Some xs) None w a x y = absurd x
-appends-kept (Some xs) (Some ys) None a x y = absurd y
-appends-kept (Some xs) (Some ys) (Some zs) a x y = y ∙ x
-
-appends-nil : (u : Option (List ℕ)) → Appends u u []
-appends-nil None = tt
-appends-nil (Some xs) = sym (append-nil xs)
-
 pub appended-nil : (u : Option (List ℕ)) → Appended u u []
 unfolding Appended
-appended-nil u = appends-nil u
+appended-nil None = tt
+appended-nil (Some xs) = sym (append-nil xs)
 
 pub appended-kept : (u v w : Option (List ℕ)) (a : List ℕ) → Appended u v a → Keeps v w → Appended u w a
 unfolding Appended
-appended-kept u v w a x y = appends-kept u v w a x y
+appended-kept None v w a x y = tt
+appended-kept (Some xs) None w a x y = absurd x
+appended-kept (Some xs) (Some ys) None a x y = absurd y
+appended-kept (Some xs) (Some ys) (Some zs) a x y = y ∙ x
 
 pub appended-by : (u v w : Option (List ℕ)) (a b : List ℕ) → Appended u v a → Appends v w b → Appended u w (a ++ b)
 unfolding Appended
@@ -77,19 +72,14 @@ err-exit u w a (Ok y) e h = absurd (cc)
 err-exit u w a (Err y) e h = h
 
 -- ---- a loop that writes the text of each element
-flat-append : {X : Type 0} (f : X → List ℕ) (xs ys : List X) → flat_map f (xs ++ ys) ≡ flat_map f xs ++ flat_map f ys
-flat-append f [] ys = refl
-flat-append f (x ∷ xs) ys =
-    ap (λ (t : List ℕ). f x ++ t) (flat-append f xs ys) ∙ sym (append_assoc (f x) (flat_map f xs) (flat_map f ys))
-
 flat-more : {X : Type 0} (f : X → List ℕ) (xs : List X) (i : ℕ) (d : X) → i < length xs
     → flat_map f (take (i + 1) xs) ≡ flat_map f (take i xs) ++ f (get_or xs i d)
-flat-more f xs i d l = ap (λ ys. flat_map f ys) (take_more xs i d l) ∙ flat-append f (take i xs) (get_or xs i d ∷ [])
+flat-more f xs i d l = ap (λ ys. flat_map f ys) (take_more xs i d l) ∙ flat_map-append f (take i xs) (get_or xs i d ∷ [])
     ∙ ap (λ (t : List ℕ). flat_map f (take i xs) ++ t) (append-nil (f (get_or xs i d)))
 
 flat-split : {X : Type 0} (f : X → List ℕ) (xs : List X) (n : ℕ)
     → flat_map f (take n xs) ++ flat_map f (drop n xs) ≡ flat_map f xs
-flat-split f xs n = sym (flat-append f (take n xs) (drop n xs)) ∙ ap (λ ys. flat_map f ys) (take-append-drop n xs)
+flat-split f xs n = sym (flat_map-append f (take n xs) (drop n xs)) ∙ ap (λ ys. flat_map f ys) (take-append-drop n xs)
 
 pub loop-next : {X : Type 0} (f : X → List ℕ) (xs : List X) (i : ℕ) (d : X) (u v w : Option (List ℕ)) → i < length xs
     → Appended u v (flat_map f (take i xs)) → Appended v w (f (get_or xs i d))
@@ -137,7 +127,7 @@ chunk-more : {X : Type 0} (f : X → List ℕ) (xs : List X) (i e : ℕ) → i �
 chunk-more f xs i e l =
     let whole : e ≡ i + (e - i) = omega (arith, l) in
     ap (λ (k : ℕ). flat_map f (take k xs)) whole ∙ ap (λ ys. flat_map f ys) (take-add i (e - i) xs)
-    ∙ flat-append f (take i xs) (take (e - i) (drop i xs))
+    ∙ flat_map-append f (take i xs) (take (e - i) (drop i xs))
 
 pub chunk-next : {X : Type 0} (f : X → List ℕ) (xs : List X) (i e : ℕ) (u v w : Option (List ℕ)) → i ≤ e
     → Appended u v (flat_map f (take i xs)) → Appended v w (flat_map f (take (e - i) (drop i xs)))

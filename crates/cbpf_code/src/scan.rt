@@ -102,6 +102,7 @@ pub(crate) fn next_token(text: &[u8], at: usize) -> Option<Found>
 /// How a text falls into tokens, read from its front: a blank is passed, a byte that is neither blank
 /// nor digit stands alone, and digits are one run up to a byte that is none. It does nothing; its
 /// clauses are laws of the tokens that [`read_words`](crate::read_words) is defined by.
+#[tactic(auto, using(crate::proofs::WordTokenLemmas::marks))]
 pub fn laws_of_marks()
     ensures empty { (at : ℕ) → tokens_from at [] ≡ [] }
     ensures blank { (at b : ℕ) (rest : List ℕ) → is_blank b ≡ true →

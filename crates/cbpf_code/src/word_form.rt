@@ -38,6 +38,7 @@ fn put_number(text: &mut [u8], end: usize, number: u64, after: u8) -> usize
 /// Writes an instruction's line before the place `end`, and returns where it begins.
 // The line is made from its end, where its size isn't known yet.
 #[inline(always)]
+#[tactic(auto, using(crate::proofs::DigitLemmas::few_digits))]
 fn put_word_line(text: &mut [u8], end: usize, insn: Insn) -> usize
     requires room { 25 ≤ end }
     requires within { end ≤ length text.old }

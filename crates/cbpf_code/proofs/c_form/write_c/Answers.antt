@@ -11,6 +11,3 @@ loop-insn-preserved g c = loop-next c_line c.args.list.now c.loop-insn.insn-inde
 pub returns-in_err-write_c_line : goal.returns-in_err-write_c_line
 returns-in_err-write_c_line g c = err-exit _ _ _ _ c.from_residual.ensures.0 (loop-stop c_line c.args.list.now
     c.loop-insn.insn-index _ _ _ _ (omega arith) c.loop-insn.invariant c.in_err-write_c_line.ensures)
-
-pub returns : goal.returns
-returns g c = grind (arith, common_steps)

@@ -7,6 +7,3 @@ pub returns-in-Some-clause-only : goal.returns-in-Some-clause-only
 returns-in-Some-clause-only g c = λ f first.
     first_fault-unique c.args.list.items c.in-Some.fault f
     (subst (λ xs. FirstFault xs c.in-Some.fault) c.deref.ensures.value c.in-Some.ensures) first
-
-pub returns-in-Some-clause-back : goal.returns-in-Some-clause-back
-returns-in-Some-clause-back g c = search rules

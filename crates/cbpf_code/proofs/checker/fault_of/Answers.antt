@@ -1,50 +1,22 @@
-use Rattle.std.proofs.Common.{◌+◌, sym, subst, refl, arith, inl, inr}
+use Rattle.std.proofs.Common.{◌+◌, refl, arith, inl, inr}
 use Rattle.cbpf_code.specs.ControlFlow.{IsTarget}
 use Rattle.cbpf_code.proofs.checker.fault_of.Goals as goal
 use Rattle.cbpf_code.proofs.checker.fault_of.Goals.{else-from-ahead-via-then-from-ahead+else-from-ahead-2}
 use Rattle.cbpf_code.proofs.checker.fault_of.Goals.{else-from-ahead-via-else-from-ahead}
 
 pub returns-else-insn-ahead : goal.returns-else-insn-ahead
-returns-else-insn-ahead c = (
-  (
-    refl,
-    (
-      c.args.i + 1 + c.args.insn.k,
-      subst (λ o. IsTarget o c.args.insn c.args.i (c.args.i + 1 + c.args.insn.k)) (sym c.in-Ja.is) refl,
-      omega arith,
-    ),
-  ),
-  refl,
-  refl,
-)
+returns-else-insn-ahead c =
+    let target : IsTarget c.args.op c.args.insn c.args.i (c.args.i + 1 + c.args.insn.k) = rw c.in-Ja.is refl in
+    ((refl, (_, target, omega arith)), refl, refl)
 
 pub returns-else-from-ahead : goal.returns-else-from-ahead
-returns-else-from-ahead c =
-    elim c.else-from-ahead.branch [
-      | else-from-ahead-via-then-from-ahead+else-from-ahead-2 w ↦ (
-        (
-          refl,
-          (
-            c.args.i + 1 + c.args.insn.jf,
-            subst (λ o. IsTarget o c.args.insn c.args.i (c.args.i + 1 + c.args.insn.jf))
-                (sym c.in-Jump.is) (inr refl),
-            omega arith,
-          ),
-        ),
-        refl,
-        refl,
-      )
-      | else-from-ahead-via-else-from-ahead w ↦ (
-        (
-          refl,
-          (
-            c.args.i + 1 + c.args.insn.jt,
-            subst (λ o. IsTarget o c.args.insn c.args.i (c.args.i + 1 + c.args.insn.jt))
-                (sym c.in-Jump.is) (inl refl),
-            omega arith,
-          ),
-        ),
-        refl,
-        refl,
-      )
-    ]
+returns-else-from-ahead c = elim c.else-from-ahead.branch [
+  | else-from-ahead-via-then-from-ahead+else-from-ahead-2 w ↦
+      let target : IsTarget c.args.op c.args.insn c.args.i (c.args.i + 1 + c.args.insn.jf) =
+      rw c.in-Jump.is (inr refl) in
+      ((refl, (_, target, omega arith)), refl, refl)
+  | else-from-ahead-via-else-from-ahead w ↦
+      let target : IsTarget c.args.op c.args.insn c.args.i (c.args.i + 1 + c.args.insn.jt) =
+      rw c.in-Jump.is (inl refl) in
+      ((refl, (_, target, omega arith)), refl, refl)
+]

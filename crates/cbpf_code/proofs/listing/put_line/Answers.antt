@@ -7,6 +7,3 @@ pub unreachable-requires : goal.unreachable-requires
 unreachable-requires g c =
     let known = sound_known c.args.p.now c.args.i _ c.at_index-insn.ensures.sound c.at_index-insn.ensures.value in
     absurd cc
-
-pub returns : goal.returns
-returns g c = search rules

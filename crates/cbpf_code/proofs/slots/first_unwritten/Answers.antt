@@ -27,51 +27,46 @@ loop-i-init c = tracks_paths-start c.args.list.now
 
 pub unreachable-requires : goal.unreachable-requires
 unreachable-requires c =
-    known_of c.args.list.now _ c.loop-i.i _ c.requires.passed c.loop-i-test.true
-    (here c.args.list.now c.loop-i.i c.loop-i-test.true) (sym c.op_of.ensures ∙ c.in-None.is)
+    known_of _ _ _ _ c.requires.passed c.loop-i-test.true (here _ _ c.loop-i-test.true)
+    (sym c.op_of.ensures ∙ c.in-None.is)
 
 pub loads_any-requires : goal.loads_any-requires
 loads_any-requires c = λ loads.
-    slot_below c.args.list.now c.loop-i.i c.in-Some.op c.requires c.loop-i-test.true
-    (sym c.op_of.ensures ∙ c.in-Some.is) (loads_use-slot c.in-Some.op loads)
+    slot_below _ _ _ c.requires c.loop-i-test.true (sym c.op_of.ensures ∙ c.in-Some.is)
+    (loads_use-slot c.in-Some.op loads)
 
 pub still_unwritten-left-requires : goal.still_unwritten-left-requires
 still_unwritten-left-requires c = λ stores.
-    slot_below c.args.list.now c.loop-i.i c.in-Some.op c.requires c.loop-i-test.true
-    (sym c.op_of.ensures ∙ c.in-Some.is) (stores_use-slot c.in-Some.op stores)
+    slot_below _ _ _ c.requires c.loop-i-test.true (sym c.op_of.ensures ∙ c.in-Some.is)
+    (stores_use-slot c.in-Some.op stores)
 
 pub propagate-requires-clause-inside : goal.propagate-requires-clause-inside
 propagate-requires-clause-inside c = λ t follows.
     let long = c.loop-i.invariant.long in
     let few = c.requires.passed.few in
-    let below = follows-inside c.args.list.now c.loop-i.i _ c.in-Some.op c.requires
-    (here c.args.list.now c.loop-i.i c.loop-i-test.true) (sym c.op_of.ensures ∙ c.in-Some.is) t follows in
+    let below = follows-inside _ _ _ _ c.requires (here _ _ c.loop-i-test.true)
+    (sym c.op_of.ensures ∙ c.in-Some.is) t follows in
     omega arith
 
 pub returns-then-loads_any : goal.returns-then-loads_any
 returns-then-loads_any c =
     let known = sym c.op_of.ensures ∙ c.in-Some.is in
     let loaded = c.if-loads_any.ensures.0 refl in
-    let small = slot_below c.args.list.now c.loop-i.i c.in-Some.op c.requires c.loop-i-test.true known
-    (loads_use-slot c.in-Some.op loaded.0) in (
-      unwritten_at c.args.list.now c.loop-i.i _ c.in-Some.op c.loop-i.unwritten
-          (here c.args.list.now c.loop-i.i c.loop-i-test.true) known small c.loop-i.invariant loaded.0 loaded.1,
+    let small = slot_below _ _ _ c.requires c.loop-i-test.true known (loads_use-slot c.in-Some.op loaded.0) in (
+      unwritten_at _ _ _ _ _ (here _ _ c.loop-i-test.true) known small c.loop-i.invariant loaded.0 loaded.1,
       c.loop-i.invariant.written,
     )
 
 pub loop-i-preserved : goal.loop-i-preserved
 loop-i-preserved c =
     let known = sym c.op_of.ensures ∙ c.in-Some.is in
-    let at = here c.args.list.now c.loop-i.i c.loop-i-test.true in
-    tracks_paths-next c.args.list.now c.loop-i.i _ c.in-Some.op c.loop-i.unwritten _ c.still_unwritten-left.result at
-    known c.loop-i.invariant c.still_unwritten-left.ensures c.propagate.ensures
-    (written_at c.args.list.now c.loop-i.i _ c.in-Some.op c.loop-i.unwritten at known
-    (λ loads. slot_below c.args.list.now c.loop-i.i c.in-Some.op c.requires c.loop-i-test.true known
-    (loads_use-slot c.in-Some.op loads))
+    let at = here _ _ c.loop-i-test.true in
+    tracks_paths-next _ _ _ _ _ _ _ at known c.loop-i.invariant c.still_unwritten-left.ensures c.propagate.ensures
+    (written_at _ _ _ _ _ at known
+    (λ loads. slot_below _ _ _ c.requires c.loop-i-test.true known (loads_use-slot c.in-Some.op loads))
     c.loop-i.invariant (λ loaded. let never = c.if-loads_any.ensures.1 loaded in absurd (cc)))
 
 pub returns : goal.returns
 returns c =
-    let e : c.loop-i.i ≡ length c.args.list.now = omega arith in
-    written-all c.args.list.now c.loop-i.unwritten
-    (subst (λ m. TracksPaths c.args.list.now m c.loop-i.unwritten) e c.loop-i.invariant)
+    let e : length c.args.list.now ≡ c.loop-i.i = omega arith in
+    written-all c.args.list.now c.loop-i.unwritten (rw e c.loop-i.invariant)

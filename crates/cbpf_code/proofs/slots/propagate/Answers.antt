@@ -1,22 +1,18 @@
-use Rattle.std.proofs.Common.{◌+◌, ◌<◌, length, sym, subst, refl, inl, inr, arith}
-use Rattle.cbpf_code.specs.ControlFlow.{Follows}
+use Rattle.std.proofs.Common.{◌+◌, refl, inl, inr, arith}
 use Rattle.cbpf_code.proofs.SlotMaskLemmas.{follows-next}
 use Rattle.cbpf_code.proofs.slots.propagate.Goals as goal
 
 pub add_to_mask-requires : goal.add_to_mask-requires
-add_to_mask-requires c = c.requires.inside _
-    (subst (λ o. Follows o c.args.insn c.args.i (c.args.i + 1 + c.args.insn.k)) (sym c.in-Ja.is) refl)
+add_to_mask-requires c = c.requires.inside _ (rw c.in-Ja.is refl)
 
 pub add_to_mask-requires-in-Jump : goal.add_to_mask-requires-in-Jump
 add_to_mask-requires-in-Jump c =
-    let there : c.args.i + 1 + c.args.insn.jt < length c.args.masks.now = c.requires.inside _
-    (subst (λ o. Follows o c.args.insn c.args.i (c.args.i + 1 + c.args.insn.jt)) (sym c.in-Jump.is) (inl refl)) in
+    let there = c.requires.inside (c.args.i + 1 + c.args.insn.jt) (rw c.in-Jump.is (inl refl)) in
     omega (arith, c.from.ensures)
 
 pub add_to_mask-requires-in-Jump-2 : goal.add_to_mask-requires-in-Jump-2
 add_to_mask-requires-in-Jump-2 c =
-    let there : c.args.i + 1 + c.args.insn.jf < length c.args.masks.now = c.requires.inside _
-    (subst (λ o. Follows o c.args.insn c.args.i (c.args.i + 1 + c.args.insn.jf)) (sym c.in-Jump.is) (inr refl)) in
+    let there = c.requires.inside (c.args.i + 1 + c.args.insn.jf) (rw c.in-Jump.is (inr refl)) in
     omega (arith, c.from-in-Jump.ensures, c.add_to_mask-in-Jump.ensures.long)
 
 pub add_to_mask-requires-in_default : goal.add_to_mask-requires-in_default

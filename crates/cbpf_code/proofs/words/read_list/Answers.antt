@@ -22,6 +22,3 @@ returns-in_err-at-2 g c =
     let h : Refused c.args.text.now c.in_err-at-2.field-0.0 =
     stops-comma _ _ _ _ _ _ _ c.loop-list.invariant c.in_ok-insn.ensures some c.in_err-at-2.ensures in
     grind (arith, h)
-
-pub loop-list-init : goal.loop-list-init
-loop-list-init g c = search rules

@@ -22,7 +22,3 @@ loop-at-preserved g c = record {
 
 pub loop-at-init : goal.loop-at-init
 loop-at-init g c = record { within = omega arith; so_far = appended-nil _ }
-
-pub returns : goal.returns
-returns g c =
-    rw (← take_all c.loop-at.at c.args.text.now c.loop-at-test.false) c.loop-at.invariant.so_far
