@@ -1,7 +1,7 @@
 -- Each text and each list has an answer. No axiom is used: what a definition says is decided by computing it.
-use Rattle.std.proofs.Common.{◌≡◌, ◌≢◌, ℕ, zero, suc, ◌+◌, ◌%◌, ◌<◌, ◌≤◌, Bool, true, false, List, [], ◌∷◌, length}
+use Rattle.std.proofs.Common.{◌≡◌, ◌≢◌, ℕ, zero, suc, ◌+◌, ◌%◌, ◌<◌, ◌≤◌, Bool, true, false, List, length}
 use Rattle.std.proofs.Common.{arith, refl, sym, subst, inl, inr}
-use Rattle.std.specs.Prelude.{◌⊎◌, ◌==◌, if◌then◌else◌, Option, Some, None, IsTrue, slice_get, nat_lt}
+use Rattle.std.specs.Prelude.{◌⊎◌, Option, Some, None, IsTrue, slice_get}
 use Rattle.std.proofs.lemmas.Bool.{cases_eq, cases_lt}
 use Rattle.std.proofs.lemmas.Option.{slice_get_cases, slice_get_within}
 use Rattle.cbpf_code.specs.declared.insn.Insn.{Insn}
@@ -12,20 +12,20 @@ use Rattle.cbpf_code.specs.declared.checker.CheckFault.TheVariants.{NoInstructio
 use Rattle.cbpf_code.specs.declared.checker.CheckFault.TheVariants.{ZeroDivisor, WideShift, JumpOutside}
 use Rattle.cbpf_code.specs.declared.checker.CheckFault.TheVariants.{UnknownExtension, NoReturn, UnwrittenSlot}
 use Rattle.cbpf_code.specs.declared.words.WordFault.{WordFault}
-use Rattle.cbpf_code.specs.declared.words.WordFault.TheVariants.{Memory, NumberExpected, OutOfRange, UnexpectedByte}
-use Rattle.cbpf_code.specs.declared.words.WordFault.TheVariants.{CountDiffers, CommaExpected}
+use Rattle.cbpf_code.specs.declared.words.WordFault.TheVariants.{Memory}
+use Rattle.cbpf_code.specs.declared.words.WordFault.TheVariants.{CountDiffers}
 use Rattle.cbpf_code.specs.Opcode.{op_of}
 use Rattle.cbpf_code.specs.Extension.{ext_at}
 use Rattle.cbpf_code.specs.ControlFlow.{InsnAt, FollowsCode, IsSuccessor, StoresSlot, MayBeUnwritten, loads_slot}
 use Rattle.cbpf_code.specs.ControlFlow.{stores_slot}
 use Rattle.cbpf_code.specs.ControlFlow.MayBeUnwritten.{at_start, onward}
-use Rattle.cbpf_code.specs.Faults.{HasFault, FirstFault, rank, index_of, NamesNoSlot, DividesByZero}
-use Rattle.cbpf_code.specs.Faults.{ShiftsTooFar, JumpsOutside, LoadsNoExtension, uses_slot, divides_by_k, shifts_by_k}
+use Rattle.cbpf_code.specs.Faults.{HasFault, FirstFault, rank, index_of}
+use Rattle.cbpf_code.specs.Faults.{JumpsOutside, LoadsNoExtension, uses_slot, divides_by_k, shifts_by_k}
 use Rattle.cbpf_code.specs.Faults.{loads_absolute}
 use Rattle.cbpf_code.specs.Sound.{IsSound}
-use Rattle.cbpf_code.specs.CheckSteps.{PassesBefore, IsWellFormed, AllowedAt}
-use Rattle.cbpf_code.specs.WordTokens.{Token, run, single, tokens, number}
-use Rattle.cbpf_code.specs.WordText.{range_of, comma_fault, number_fault, token_fault, or_else, first_fault}
+use Rattle.cbpf_code.specs.CheckSteps.{PassesBefore, IsWellFormed, IsAllowed, AllowedAt}
+use Rattle.cbpf_code.specs.WordTokens.{tokens}
+use Rattle.cbpf_code.specs.WordText.{first_fault}
 use Rattle.cbpf_code.specs.WordText.{count_of, Loose, Spells, end_fault, Breaks, Refused}
 use Rattle.cbpf_code.specs.Laws.{EachTextIsRead, EachListIsChecked}
 use Rattle.cbpf_code.proofs.PathLemmas.{insn_at-same, reached-unwritten_at}
@@ -82,23 +82,13 @@ insn_at list i Has decided =
       | inl found ↦ elim (known_or (op_of found.0.code)) [
         | inl none ↦ inr (λ a.
             let same : a.0 ≡ found.0 = cc in
-            let known : op_of found.0.code ≡ Some a.1 = subst (λ (x : Insn). op_of x.code ≡ Some a.1) same a.3 in
-            absurd (cc))
+            cc)
         | inr known ↦ elim (decided known.0 found.0) [
           | inl has ↦ inl (found.0, known.0, found.2, known.1, has)
           | inr never ↦ inr (λ a. never (insn_at-same list i Has found.0 known.0 a found.2 known.1))
         ]
       ]
     ]
-
-names_no_slot : (op : Op) (insn : Insn) → Decided (NamesNoSlot op insn)
-names_no_slot op insn = both (is_true (uses_slot op)) (at_most 16 insn.k)
-
-divides_by_zero : (op : Op) (insn : Insn) → Decided (DividesByZero op insn)
-divides_by_zero op insn = both (is_true (divides_by_k op)) (cases_eq insn.k 0)
-
-shifts_too_far : (op : Op) (insn : Insn) → Decided (ShiftsTooFar op insn)
-shifts_too_far op insn = both (is_true (shifts_by_k op)) (at_most 32 insn.k)
 
 jumps_outside : (op : Op) (insn : Insn) (i n : ℕ) → Decided (JumpsOutside op insn i n)
 jumps_outside Ja insn i n = elim (at_most n (i + 1 + insn.k)) [
@@ -135,29 +125,25 @@ FaultAt list i = (e : CheckFault) × HasFault list e × (rank e ≡ 2) × (index
 known-fault : (list : List Insn) (i : ℕ) (insn : Insn) (op : Op) → slice_get list i ≡ Some insn
     → op_of insn.code ≡ Some op → AllowedAt list i ⊎ FaultAt list i
 known-fault list i insn op here known =
-    elim (names_no_slot op insn) [
+    elim (both (is_true (uses_slot op)) (at_most 16 insn.k)) [
       | inl h ↦ inr (NoSlot i, (insn, op, here, known, h), refl, refl)
-      | inr slot ↦ elim (divides_by_zero op insn) [
+      | inr slot ↦ elim (both (is_true (divides_by_k op)) (cases_eq insn.k 0)) [
         | inl h ↦ inr (ZeroDivisor i, (insn, op, here, known, h), refl, refl)
-        | inr divisor ↦ elim (shifts_too_far op insn) [
+        | inr divisor ↦ elim (both (is_true (shifts_by_k op)) (at_most 32 insn.k)) [
           | inl h ↦ inr (WideShift i, (insn, op, here, known, h), refl, refl)
           | inr shift ↦ elim (jumps_outside op insn i (length list)) [
             | inl h ↦ inr (JumpOutside i, (insn, op, here, known, h), refl, refl)
             | inr targets ↦ elim (loads_no_extension op insn) [
               | inl h ↦ inr (UnknownExtension i, (insn, op, here, known, h), refl, refl)
-              | inr extension ↦ inl (
-                insn,
-                op,
-                here,
-                known,
-                record {
-                  slot = slot;
-                  divisor = divisor;
-                  shift = shift;
-                  targets = targets;
-                  extension = extension;
-                },
-              )
+              | inr extension ↦
+                  let fine : IsAllowed op insn i (length list) = record {
+                    slot = slot;
+                    divisor = divisor;
+                    shift = shift;
+                    targets = targets;
+                    extension = extension;
+                  } in
+                  inl (insn, op, here, known, fine)
             ]
           ]
         ]

@@ -1,5 +1,5 @@
 -- Faults of a list, from the passes that look for them.
-use Rattle.std.proofs.Common.{◌≡◌, ℕ, ◌+◌, ◌-◌, ◌<◌, List, length, get_or, arith, refl, sym, ◌∙◌, subst, inl, inr}
+use Rattle.std.proofs.Common.{◌≡◌, ℕ, ◌+◌, ◌-◌, ◌<◌, List, length, get_or, arith, sym, ◌∙◌, subst, inl, inr}
 use Rattle.std.specs.Prelude.{◌⊎◌, Some, None, slice_get}
 use Rattle.std.proofs.lemmas.Bool.{cases_eq, cases_lt}
 use Rattle.std.proofs.lemmas.Option.{slice_get_within, slice_get-get_or}
@@ -13,20 +13,19 @@ use Rattle.cbpf_code.specs.Opcode.{op_of}
 use Rattle.cbpf_code.specs.Faults.{IsReturn, HasFault, FirstFault, rank, index_of}
 use Rattle.cbpf_code.specs.Sound.{IsSound}
 use Rattle.cbpf_code.specs.CheckSteps.{PassesBefore, IsWellFormed, IsAllowed, AllowedAt}
-use Rattle.cbpf_code.proofs.PathLemmas.{allowed_at-same}
+use Rattle.cbpf_code.proofs.PathLemmas.{insn_at-same}
 
 pub allowed_of : (list : List Insn) (m i : ℕ) (insn : Insn) (op : Op) → PassesBefore list m → i < m
     → slice_get list i ≡ Some insn → op_of insn.code ≡ Some op → IsAllowed op insn i (length list)
 allowed_of list m i insn op passed below here known =
-    allowed_at-same list i insn op (passed.allowed i below) here known
+    insn_at-same list i (λ o x. IsAllowed o x i (length list)) insn op (passed.allowed i below) here known
 
 pub known_of : (list : List Insn) (m i : ℕ) (insn : Insn) → PassesBefore list m → i < m → slice_get list i ≡ Some insn
     → op_of insn.code ≡ None → ⊥
 known_of list m i insn passed below here unknown =
     let a = passed.allowed i below in
     let same : a.0 ≡ insn = cc in
-    let known : op_of insn.code ≡ Some a.1 = subst (λ (x : Insn). op_of x.code ≡ Some a.1) same a.3 in
-    absurd (cc)
+    cc
 
 -- where an earlier refusal could stand
 abbrev pub Before : ℕ → CheckFault → Type 0

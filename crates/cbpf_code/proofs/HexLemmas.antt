@@ -1,6 +1,6 @@
 -- Hexadecimal digits by places are those of `hex`.
 use Rattle.std.proofs.Common.{◌≡◌, ℕ, zero, suc, ◌+◌, ◌-◌, ◌/◌, ◌%◌, ◌^◌, ◌<◌, ◌≤◌, Bool, true, false, List, []}
-use Rattle.std.proofs.Common.{◌∷◌, ◌++◌, length, drop, refl, sym, ap, ◌∙◌, arith, append_assoc, append-nil}
+use Rattle.std.proofs.Common.{◌∷◌, ◌++◌, length, drop, refl, sym, ap, ◌∙◌, arith, append_assoc, append-nil, tests}
 use Rattle.std.proofs.Common.{get_or, length-append, ne_eqb, ltb-true, ltb-false}
 use Rattle.std.proofs.lemmas.List.{drop-append-le}
 use Rattle.std.proofs.lemmas.Bool.{agree_below_at, eqb-true}
@@ -92,30 +92,23 @@ places_of (suc p) n low high =
     let one = one_or_more p in
     (omega arith, places_of p (n / 16) (omega arith) (omega arith))
 
-abbrev FewPlaces : ℕ → ℕ → Type 0
-FewPlaces n p = (p ≤ 8) × HasPlaces p n
-
-places-step : (n bound p q : ℕ) → (n < bound → FewPlaces n p) → (bound ≤ n → FewPlaces n q)
-    → FewPlaces n (if nat_lt n bound then p else q)
+places-step : (n bound p q : ℕ) → (n < bound → HasPlaces p n) → (bound ≤ n → HasPlaces q n)
+    → HasPlaces (if nat_lt n bound then p else q) n
 places-step n bound p q low high = by (nat_lt n bound) refl
   where
-    by : (t : Bool) → nat_lt n bound ≡ t → FewPlaces n (if t then p else q)
+    by : (t : Bool) → nat_lt n bound ≡ t → HasPlaces (if t then p else q) n
     by true e = low (ltb-true n bound e)
     by false e = high (ltb-false n bound e)
 
-few_places : (n : ℕ) → n < 2 ^ 32 → FewPlaces n (hex_places n)
-few_places n l =
-    places-step n 16 1 _ (λ h. (omega arith, h))
-    (λ a. places-step n 256 2 _ (λ h. (omega arith, places_of 1 n a h))
-    (λ a. places-step n 4096 3 _ (λ h. (omega arith, places_of 2 n a h))
-    (λ a. places-step n 65536 4 _ (λ h. (omega arith, places_of 3 n a h))
-    (λ a. places-step n 1048576 5 _ (λ h. (omega arith, places_of 4 n a h))
-    (λ a. places-step n 16777216 6 _ (λ h. (omega arith, places_of 5 n a h))
-    (λ a. places-step n 268435456 7 8 (λ h. (omega arith, places_of 6 n a h))
-    (λ a. (omega arith, places_of 7 n a l))))))))
+has-places : (n : ℕ) → n < 2 ^ 32 → HasPlaces (hex_places n) n
+has-places n l =
+    places-step n 16 1 _ (λ h. h) (λ a. places-step n 256 2 _ (places_of 1 n a)
+    (λ a. places-step n 4096 3 _ (places_of 2 n a) (λ a. places-step n 65536 4 _ (places_of 3 n a)
+    (λ a. places-step n 1048576 5 _ (places_of 4 n a) (λ a. places-step n 16777216 6 _ (places_of 5 n a)
+    (λ a. places-step n 268435456 7 8 (places_of 6 n a) (λ a. places_of 7 n a l)))))))
 
 pub hex-places : (least n : ℕ) → least ≤ 8 → n < 2 ^ 32 → hex least n ≡ hex_by_places least n
-hex-places least n m l = let few = few_places n l in hex-of least n (hex_places n) few.0 m few.1
+hex-places least n m l = hex-of least n (hex_places n) (grind (arith, tests)) m (has-places n l)
 
 -- the two digits of a byte
 pub hex-two : (b : ℕ) → b < 256 → hex 2 b ≡ hex_digits 2 b

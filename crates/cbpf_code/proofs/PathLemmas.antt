@@ -1,7 +1,7 @@
 -- Paths through a list of instructions, and the masks that stand for them.
 use Rattle.std.proofs.Common.{◌≡◌, ℕ, ◌+◌, ◌<◌, ◌≤◌, List, length, get_or, replicate, arith, refl, sym, ◌∙◌, subst, inl}
 use Rattle.std.proofs.Common.{inr}
-use Rattle.std.specs.Prelude.{◌⊎◌, Option, Some, IsTrue, slice_get, slice_set, slice_index}
+use Rattle.std.specs.Prelude.{◌⊎◌, Some, IsTrue, slice_get, slice_set, slice_index}
 use Rattle.std.proofs.lemmas.Bool.{cases_eq, cases_lt}
 use Rattle.std.proofs.lemmas.Nat.Bits.{bit_at-zero, bit_at_ones}
 use Rattle.std.proofs.lemmas.List.{get_or-set_other, get_or-replicate}
@@ -10,14 +10,14 @@ use Rattle.std.proofs.lemmas.Option.{slice_get_within}
 use Rattle.std.proofs.Math.ListN.{length-set, length-replicate, get_or-eq_default}
 use Rattle.cbpf_code.specs.declared.insn.Insn.{Insn}
 use Rattle.cbpf_code.specs.declared.opcode.Op.{Op}
-use Rattle.cbpf_code.specs.declared.opcode.Op.TheVariants.{LdMem, LdxMem, St, Stx, Ja, Jump, RetK, RetA}
+use Rattle.cbpf_code.specs.declared.opcode.Op.TheVariants.{LdMem, St, Ja, Jump, RetK, RetA}
 use Rattle.cbpf_code.specs.declared.checker.CheckFault.TheVariants.{UnwrittenSlot}
 use Rattle.cbpf_code.specs.Opcode.{op_of}
 use Rattle.cbpf_code.specs.ControlFlow.{InsnAt, Follows, FollowsCode, IsSuccessor, StoresSlot, MayBeUnwritten}
 use Rattle.cbpf_code.specs.ControlFlow.{loads_slot, stores_slot}
 use Rattle.cbpf_code.specs.ControlFlow.MayBeUnwritten.{at_start, onward}
 use Rattle.cbpf_code.specs.Faults.{uses_slot, HasFault}
-use Rattle.cbpf_code.specs.CheckSteps.{IsWellFormed, IsAllowed, AllowedAt}
+use Rattle.cbpf_code.specs.CheckSteps.{IsWellFormed, IsAllowed}
 use Rattle.cbpf_code.specs.SlotMasks.{InMask, InMaskOf, LeavesUnwritten, AddsToMasks}
 
 -- ---- an instruction of a list
@@ -26,14 +26,8 @@ pub insn_at-same : (list : List Insn) (i : ℕ) (Has : Op → Insn → Type 0) (
     → slice_get list i ≡ Some insn → op_of insn.code ≡ Some op → Has op insn
 insn_at-same list i Has insn op a here known =
     let same_insn : a.0 ≡ insn = cc in
-    let known_here : op_of insn.code ≡ Some a.1 = subst (λ (x : Insn). op_of x.code ≡ Some a.1) same_insn a.3 in
     let same_op : a.1 ≡ op = cc in
-    subst (λ o. Has o insn) same_op (subst (λ x. Has a.1 x) same_insn a.4)
-
-pub allowed_at-same : (list : List Insn) (i : ℕ) (insn : Insn) (op : Op) → AllowedAt list i
-    → slice_get list i ≡ Some insn → op_of insn.code ≡ Some op → IsAllowed op insn i (length list)
-allowed_at-same list i insn op a here known =
-    insn_at-same list i (λ o x. IsAllowed o x i (length list)) insn op a here known
+    rw (← same_op, ← same_insn) a.4
 
 successor-same : (list : List Insn) (i t : ℕ) (insn : Insn) (op : Op) → IsSuccessor list i t
     → slice_get list i ≡ Some insn → op_of insn.code ≡ Some op → Follows op insn i t
@@ -54,7 +48,7 @@ ReachedUnwritten list s m t =
     (t ≡ 0) ⊎ ((h : ℕ) × (h < m) × MayBeUnwritten list s h × (StoresSlot list h s → ⊥) × IsSuccessor list h t)
 
 pub unwritten_at-reached : (list : List Insn) (s i : ℕ) → ReachedUnwritten list s i i → MayBeUnwritten list s i
-unwritten_at-reached list s i (inl first) = subst (MayBeUnwritten list s) (sym first) at_start
+unwritten_at-reached list s i (inl first) = rw first at_start
 unwritten_at-reached list s i (inr r) = onward r.1 r.2 r.3 r.4
 
 pub reached-unwritten_at : (list : List Insn) (s i : ℕ) → MayBeUnwritten list s i → ReachedUnwritten list s i i
@@ -83,13 +77,12 @@ tracks_paths-start list = record {
         | inr n ↦
             let gone = get_or-set_other {A = ℕ} (replicate 4096 0) 0 t 65535 0 n ∙ get_or-zeros 4096 t in
             let off = bit_at-zero s in
-            let bit : InMask 0 s = subst (λ m. InMask m s) gone here in
+            let bit : InMask 0 s = rw gone at here in
             absurd (omega arith)
       ];
   each_reached = λ t s small reached.
       elim reached [
-        | inl e ↦ subst (λ m. InMask m s) (sym (get_or-set_at {X = ℕ} (replicate 4096 0) 0 t 65535 0 e (omega arith)))
-            (bit_at_ones 16 s small)
+        | inl e ↦ rw (get_or-set_at {X = ℕ} (replicate 4096 0) 0 t 65535 0 e (omega arith)) (bit_at_ones 16 s small)
         | inr r ↦ absurd (omega arith)
       ];
   written = λ j below stands. absurd (omega arith);
@@ -124,18 +117,16 @@ tracks_paths-next list i insn op masks next_masks left here known tracks leaves 
         | inl first ↦ adds.kept t s (tracks.each_reached t s small (inl first))
         | inr r ↦ elim (cases_eq r.0 i) [
           | inl e ↦
-              let unwritten : MayBeUnwritten list s i = subst (MayBeUnwritten list s) e r.2 in
-              let next : IsSuccessor list i t = subst (λ h. IsSuccessor list h t) e r.4 in
-              let keeps : StoresSlot list i s → ⊥ = subst (λ h. StoresSlot list h s → ⊥) e r.3 in
-              adds.added t s (successor-same list i t insn op next here known)
-              (leaves.kept s small (tracks.each_reached i s small (reached-unwritten_at list s i unwritten))
+              let keeps = rw e at r.3 in
+              adds.added t s (successor-same list i t insn op (rw e at r.4) here known)
+              (leaves.kept s small (tracks.each_reached i s small (reached-unwritten_at list s i (rw e at r.2)))
               (λ is at_s. keeps (insn, op, here, known, (is, at_s))))
           | inr n ↦ adds.kept t s (tracks.each_reached t s small (inr (r.0, omega arith, r.2, r.3, r.4)))
         ]
       ];
   written = λ j below stands.
       elim (cases_eq j i) [
-        | inl e ↦ fine (subst (λ k. HasFault list (UnwrittenSlot k)) e stands)
+        | inl e ↦ fine (rw e at stands)
         | inr n ↦ tracks.written j (omega arith) stands
       ];
 }
@@ -176,7 +167,8 @@ pub follows-inside : (list : List Insn) (i : ℕ) (insn : Insn) (op : Op) → Is
 follows-inside list i insn op formed here known t follows =
     let below = slice_get_within list i insn here in
     allowed_follows-inside op insn i (length list) t
-    (allowed_at-same list i insn op (formed.passed.allowed i below) here known) below
+    (insn_at-same list i (λ o x. IsAllowed o x i (length list)) insn op (formed.passed.allowed i below) here known)
+    below
     (λ last. elim (formed.ends insn i last here) [ inl a ↦ inl (cc) | inr b ↦ inr (cc) ]) follows
 
 -- a slot that is loaded or stored is named

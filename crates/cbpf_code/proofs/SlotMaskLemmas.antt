@@ -1,6 +1,6 @@
 -- Masks of slots: one mask, and the masks of all instructions.
-use Rattle.std.proofs.Common.{◌≡◌, ℕ, zero, suc, ◌+◌, ◌*◌, ◌%◌, ◌^◌, ◌<◌, List, length, get_or, arith, refl, sym, ◌∙◌}
-use Rattle.std.proofs.Common.{subst, inl, inr, max}
+use Rattle.std.proofs.Common.{◌≡◌, ℕ, ◌+◌, ◌*◌, ◌%◌, ◌^◌, ◌<◌, List, length, get_or, arith, refl, sym, ◌∙◌}
+use Rattle.std.proofs.Common.{subst, inl, inr}
 use Rattle.std.specs.Prelude.{◌⊎◌, IsTrue, slice_set, slice_index, bit_and, bit_or}
 use Rattle.std.specs.Int.{bit_at, bit_not, w16}
 use Rattle.std.proofs.lemmas.Bool.{cases_eq}
@@ -12,7 +12,7 @@ use Rattle.cbpf_code.specs.declared.insn.Insn.{Insn}
 use Rattle.cbpf_code.specs.declared.opcode.Op.{Op}
 use Rattle.cbpf_code.specs.declared.opcode.Op.TheVariants.{Ja, Jump, RetK, RetA}
 use Rattle.cbpf_code.specs.ControlFlow.{Follows, stores_slot}
-use Rattle.cbpf_code.specs.SlotMasks.{InMask, InMaskOf, LeavesUnwritten, AddsToMasks}
+use Rattle.cbpf_code.specs.SlotMasks.{InMask, LeavesUnwritten, AddsToMasks}
 
 -- ---- one mask
 
@@ -53,23 +53,20 @@ adds_to_masks-one masks at left inside =
     let v : ℕ = bit_or (get_or masks at 0) left in
     record {
       long = length-set masks at v;
-      kept = λ t s here.
-          elim (cases_eq t at) [
-            | inl e ↦ subst (λ m. InMask m s) (sym (get_or-set_at masks at t v 0 e inside))
-                (in_mask-or-left (get_or masks at 0) left s (subst (λ u. InMaskOf masks u s) e here))
-            | inr n ↦ subst (λ m. InMask m s) (sym (get_or-set_other masks at t v 0 n)) here
-          ];
-      added = λ t s e here. subst (λ m. InMask m s) (sym (get_or-set_at masks at t v 0 e inside))
+      kept = λ t s here. elim (cases_eq t at) [
+        | inl e ↦ rw (get_or-set_at masks at t v 0 e inside)
+            (in_mask-or-left (get_or masks at 0) left s (rw e at here))
+        | inr n ↦ rw (get_or-set_other masks at t v 0 n) here
+      ];
+      added = λ t s e here. rw (get_or-set_at masks at t v 0 e inside)
           (in_mask-or-right (get_or masks at 0) left s here);
-      only = λ t s here.
-          elim (cases_eq t at) [
-            | inl e ↦ elim (in_or-mask (get_or masks at 0) left s
-                (subst (λ m. InMask m s) (get_or-set_at masks at t v 0 e inside) here)) [
-                  | inl a ↦ inl (subst (λ u. InMaskOf masks u s) (sym e) a)
-                  | inr b ↦ inr (e, b)
-                ]
-            | inr n ↦ inl (subst (λ m. InMask m s) (get_or-set_other masks at t v 0 n) here)
-          ];
+      only = λ t s here. elim (cases_eq t at) [
+        | inl e ↦ elim (in_or-mask (get_or masks at 0) left s (rw (get_or-set_at masks at t v 0 e inside) at here)) [
+          | inl a ↦ inl (rw e a)
+          | inr b ↦ inr (e, b)
+        ]
+        | inr n ↦ inl (rw (get_or-set_other masks at t v 0 n) at here)
+      ];
     }
 
 pub follows-next : (op : Op) (insn : Insn) (i : ℕ) → (op ≡ Ja → ⊥)

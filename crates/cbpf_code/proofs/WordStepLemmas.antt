@@ -1,10 +1,10 @@
 -- Steps of the reader, one after another.
 use Rattle.std.proofs.Common.{◌≡◌, ◌≢◌, Bool, if◌then◌else◌, ℕ, suc, ◌+◌, ◌%◌, ◌<◌, ◌≤◌, ◌⊎◌, inl, inr, List, [], ◌∷◌, ◌++◌, length}
 use Rattle.std.proofs.Common.{length-append, drop, append_assoc, append-nil, refl, sym, ◌∙◌, ap, subst, tests, true}
-use Rattle.std.proofs.Common.{false, cond, eqb, nat_lt, ◌==◌, ◌^◌, slice_index, arith, Option, Some, None}
+use Rattle.std.proofs.Common.{false, nat_lt, ◌==◌, ◌^◌, slice_index, arith, Option, Some, None}
 use Rattle.cbpf_code.specs.WordTokens.{Token, run, single, tokens, tokens_after, number}
 use Rattle.cbpf_code.specs.WordText.{range_of, comma_fault, number_fault, token_fault, first_fault, or_else, numbers}
-use Rattle.cbpf_code.specs.WordText.{in_fours, Loose, Breaks, Refused, end_fault}
+use Rattle.cbpf_code.specs.WordText.{in_fours, Breaks, Refused, end_fault}
 use Rattle.cbpf_code.specs.WordSteps.{Passes, Stops, IsRead, IsReadWhole, fields_of}
 use Rattle.cbpf_code.specs.declared.insn.Insn.{Insn}
 use Rattle.cbpf_code.specs.declared.words.WordFault.TheVariants.{Memory, NumberExpected, OutOfRange, UnexpectedByte}

@@ -4,7 +4,7 @@ use Rattle.std.proofs.Common.{inl, inr, List, [], ◌∷◌, ◌++◌, length, t
 use Rattle.std.proofs.Common.{ap, arith, tests, drop-cons, add-one, zero, suc, take_all, length-drop}
 use Rattle.std.specs.List.{AllByRecursion}
 use Rattle.std.proofs.lemmas.Bool.{eq-eqb, eqb-true}
-use Rattle.std.proofs.lemmas.List.{drop_all}
+use Rattle.std.proofs.lemmas.List.{drop_all, take-append-drop, length-take-le}
 use Rattle.std.proofs.lemmas.Grind.{common_steps}
 use Rattle.cbpf_code.specs.WordTokens.{Token, run, single, is_digit, is_blank, begins_with_digit, join_digit}
 use Rattle.cbpf_code.specs.WordTokens.{tokens_from, tokens_after}
@@ -50,28 +50,16 @@ law-run at (b ∷ d ∷ ds) rest some all stop =
     tokens-digit at b (d ∷ ds ++ rest) all.0 all.1.0 ∙ ap (λ (ms : List Token). join_digit at b ms) more
     ∙ ap (λ (m : ℕ). run at (b ∷ d ∷ ds) ∷ tokens_from m rest) seam
 
-at_digit : (bs : List ℕ) → 0 < length bs → is_digit (get_or bs 0 0) ≡ true → begins_with_digit bs ≡ true
-at_digit [] l d = absurd (omega (arith, l))
-at_digit (b ∷ bs) l d = d
+all_digits : (n : ℕ) (bs : List ℕ) → ((k : ℕ) → k < n → is_digit (get_or bs k 0) ≡ true) → n ≤ length bs
+    → AllByRecursion (λ b. is_digit b ≡ true) (take n bs)
+all_digits zero bs d l = tt
+all_digits (suc n) [] d l = tt
+all_digits (suc n) (b ∷ bs) d l =
+    (d 0 (omega arith), all_digits n bs (λ k h. d (suc k) (omega (arith, h))) (omega (arith, l)))
 
 at_no_digit : (bs : List ℕ) → (0 < length bs → is_digit (get_or bs 0 0) ≡ false) → begins_with_digit bs ≡ false
 at_no_digit [] d = refl
 at_no_digit (b ∷ bs) d = d (omega arith)
-
-tokens-run : (n at : ℕ) (bs : List ℕ) → n < length bs → ((k : ℕ) → k < suc n → is_digit (get_or bs k 0) ≡ true)
-    → (suc n < length bs → is_digit (get_or bs (suc n) 0) ≡ false)
-    → tokens_from at bs ≡ run at (take (suc n) bs) ∷ tokens_from (at + suc n) (drop (suc n) bs)
-tokens-run n at [] l d s = absurd (omega (arith, l))
-tokens-run zero at (b ∷ bs) l d s =
-    tokens-last_digit at b bs (d 0 (omega arith)) (at_no_digit bs (λ h. s (omega (arith, h))))
-tokens-run (suc n) at (b ∷ bs) l d s =
-    let more : tokens_from (suc at) bs
-    ≡ run (suc at) (take (suc n) bs) ∷ tokens_from (suc at + suc n) (drop (suc n) bs) =
-    tokens-run n (suc at) bs (omega (arith, l)) (λ k h. d (suc k) (omega (arith, h))) (λ h. s (omega (arith, h))) in
-    let seam : suc at + suc n ≡ at + suc (suc n) = omega arith in
-    tokens-digit at b bs (d 0 (omega arith)) (at_digit bs (omega (arith, l)) (d 1 (omega arith)))
-    ∙ ap (λ (ms : List Token). join_digit at b ms) more
-    ∙ ap (λ (m : ℕ). run at (b ∷ take (suc n) bs) ∷ tokens_from m (drop (suc n) bs)) seam
 
 drop-drop_at : (text : List ℕ) (i n : ℕ) → drop n (drop i text) ≡ drop (i + n) text
 drop-drop_at text i n = grind (arith, common_steps)
@@ -94,11 +82,14 @@ step-end text i l = rw (drop_all i text l) (law-empty i)
 pub step-run : (text : List ℕ) (i n : ℕ) (sub : List ℕ) → sub ≡ drop i text → 0 < n → n ≤ length sub
     → ((k : ℕ) → k < n → is_digit (get_or sub k 0) ≡ true) → (n < length sub → is_digit (get_or sub n 0) ≡ false)
     → tokens_after text i ≡ run i (take n sub) ∷ tokens_after text (i + n)
-step-run text i zero sub e p l d s = absurd (omega (arith, p))
-step-run text i (suc n) sub e p l d s =
-    rw (← e) (tokens-run n i sub (omega (arith, l)) d s)
-    ∙ ap (λ (bs : List ℕ). run i (take (suc n) sub) ∷ tokens_from (i + suc n) bs)
-    (ap (λ (t : List ℕ). drop (suc n) t) e ∙ drop-drop_at text i (suc n))
+step-run text i n sub e p l d s =
+    let long : length (take n sub) ≡ n = length-take-le n sub l in
+    let next : get_or (drop n sub) 0 0 ≡ get_or sub n 0 = grind (arith, common_steps) in
+    let rest : drop n sub ≡ drop (i + n) text = ap (drop n) e ∙ drop-drop_at text i n in
+    ap (tokens_from i) (sym e ∙ sym (take-append-drop n sub))
+    ∙ law-run i (take n sub) (drop n sub) (λ z. let none = ap length z in omega (arith, none, long, p))
+    (all_digits n sub d l) (at_no_digit (drop n sub) (λ h. ap is_digit next ∙ s (omega (arith, length-drop n sub))))
+    ∙ rw (long, rest) refl
 
 pub ruleset token_steps = (step-blank, step-end)
 

@@ -1,6 +1,6 @@
 -- Writes one after another.
 use Rattle.std.proofs.Common.{◌≡◌, ℕ, ◌+◌, ◌-◌, ◌≤◌, List, [], ◌++◌, take, drop, get_or, ◌<◌, ◌∷◌}
-use Rattle.std.proofs.Common.{length, length-drop, take_all, append_assoc, append-nil, sym, ◌∙◌, ap, refl, arith}
+use Rattle.std.proofs.Common.{length, length-drop, take_all, append_assoc, append-nil, sym, ◌∙◌, ap, arith}
 use Rattle.std.proofs.Common.{Option, None, Some, Result, Ok, Err}
 use Rattle.std.specs.Io.KnownBytes.{Appends, Keeps}
 use Rattle.std.proofs.lemmas.List.{take-append-drop, take_more}
@@ -54,17 +54,12 @@ part-take u v n text x = (take n text, drop n text, take-append-drop n text, x)
 take-len-drop : (text : List ℕ) (at : ℕ) → take (length text - at) (drop at text) ≡ drop at text
 take-len-drop text at = take_all _ _ (omega (arith, length-drop at text))
 
-next_taken : (text : List ℕ) (at n : ℕ) → at + n ≤ length text
-    → take (at + n) text ≡ take at text ++ take n (take (length text - at) (drop at text))
-next_taken text at n h =
-    let all : take (length text - at) (drop at text) ≡ drop at text = take-len-drop text at in
-    take-add at n text ∙ ap (λ (t : List ℕ). take at text ++ take n t) (sym all)
-
 -- `write(&text[at..])` took n bytes
 pub stepped : (u v w : Option (List ℕ)) (text : List ℕ) (at n : ℕ) → at + n ≤ length text
     → Appended u v (take at text) → Appends v w (take n (take (length text - at) (drop at text)))
     → Appended u w (take (at + n) text)
-stepped u v w text at n h x y = rw (next_taken text at n h) (appended-by u v w _ _ x y)
+stepped u v w text at n h x y =
+    rw (take-add at n text) (appended-by u v w _ _ x (rw (take-len-drop text at) at y))
 
 pub err-exit : {X E : Type 0} (u w : Option (List ℕ)) (a : List ℕ) (r : Result X E) → IsErr r → AppendedPart u w a
     → Wrote u w r a

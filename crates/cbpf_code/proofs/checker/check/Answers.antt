@@ -1,4 +1,4 @@
-use Rattle.std.proofs.Common.{rules, subst}
+use Rattle.std.proofs.Common.{subst}
 use Rattle.cbpf_code.specs.Faults.{FirstFault}
 use Rattle.cbpf_code.proofs.FirstFaultLemmas.{first_fault-unique}
 use Rattle.cbpf_code.proofs.checker.check.Goals as goal

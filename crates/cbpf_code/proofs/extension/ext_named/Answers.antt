@@ -1,4 +1,4 @@
-use Rattle.std.proofs.Common.{◌≡◌, ◌<◌, ◌-◌, ◌/◌, ℕ, List, [], ◌∷◌, get_or, arith, rules, refl, sym, ap, ◌∙◌}
+use Rattle.std.proofs.Common.{◌≡◌, ◌<◌, ◌-◌, ◌/◌, ℕ, List, [], ◌∷◌, get_or, arith, refl, sym, ap, ◌∙◌}
 use Rattle.cbpf_code.specs.Extension.{ext_name, ext_offset}
 use Rattle.cbpf_code.specs.declared.extension.Ext.{Ext}
 use Rattle.cbpf_code.specs.declared.extension.Ext.TheVariants.{Proto, PktType, IfIdx, Nla, NlaN, Mark, Queue, HaType}

@@ -1,4 +1,3 @@
-use Rattle.std.proofs.Common.{rules}
 use Rattle.cbpf_code.proofs.SoundLemmas.{sound_known}
 use Rattle.cbpf_code.proofs.listing.put_line.Goals as goal
 

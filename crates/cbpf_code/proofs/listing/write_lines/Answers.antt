@@ -1,14 +1,11 @@
-use Rattle.std.proofs.Common.{◌≡◌, ◌<◌, length, arith}
+use Rattle.std.proofs.Common.{◌<◌, length, arith}
 use Rattle.std.specs.List.{enumerate_from}
 use Rattle.std.proofs.lemmas.List.FromFn.{length-enumerate_from}
-use Rattle.cbpf_code.specs.declared.insn.Insn.{Insn}
 use Rattle.cbpf_code.proofs.WrittenLemmas.{appended-nil, loop-next, loop-stop, loop-done, err-exit}
 use Rattle.cbpf_code.specs.Listing.{numbered_line}
+use Rattle.cbpf_code.proofs.FaultLemmas.{zero_insn}
 use Rattle.cbpf_code.proofs.ListingLemmas.{line_at}
 use Rattle.cbpf_code.proofs.listing.write_lines.Goals as goal
-
-some_insn : Insn
-some_insn = record { code = 0; jt = 0; jf = 0; k = 0 }
 
 pub loop-i-init : goal.loop-i-init
 loop-i-init g c = appended-nil _
@@ -17,22 +14,21 @@ pub loop-i-preserved : goal.loop-i-preserved
 loop-i-preserved g c =
     let list = c.args.p.now in
     let below : c.loop-i.i < length list = omega (arith, c.loop-i-test.true, c.len-i-end.ensures.value) in
-    let size : length (enumerate_from 0 list) ≡ length list = length-enumerate_from 0 list in
-    loop-next numbered_line (enumerate_from 0 list) c.loop-i.i (0, some_insn) _ _ _ (omega arith) c.loop-i.invariant
-    (rw (line_at list c.loop-i.i some_insn below) at c.in_ok-write_whole_line.ensures)
+    loop-next numbered_line (enumerate_from 0 list) c.loop-i.i (0, zero_insn) _ _ _
+    (omega (arith, length-enumerate_from 0 list)) c.loop-i.invariant
+    (rw (line_at list c.loop-i.i zero_insn below) at c.in_ok-write_whole_line.ensures)
 
 pub returns-in_err-write_whole_line : goal.returns-in_err-write_whole_line
 returns-in_err-write_whole_line g c =
     let list = c.args.p.now in
     let below : c.loop-i.i < length list = omega (arith, c.loop-i-test.true, c.len-i-end.ensures.value) in
-    let size : length (enumerate_from 0 list) ≡ length list = length-enumerate_from 0 list in
     err-exit _ _ _ _ c.from_residual.ensures.0
-    (loop-stop numbered_line (enumerate_from 0 list) c.loop-i.i (0, some_insn) _ _ _ (omega arith) c.loop-i.invariant
-    (rw (line_at list c.loop-i.i some_insn below) at c.in_err-write_whole_line.ensures))
+    (loop-stop numbered_line (enumerate_from 0 list) c.loop-i.i (0, zero_insn) _ _ _
+    (omega (arith, length-enumerate_from 0 list)) c.loop-i.invariant
+    (rw (line_at list c.loop-i.i zero_insn below) at c.in_err-write_whole_line.ensures))
 
 pub returns : goal.returns
 returns g c =
-    let list = c.args.p.now in
-    let size : length (enumerate_from 0 list) ≡ length list = length-enumerate_from 0 list in
-    loop-done numbered_line (enumerate_from 0 list) c.loop-i.i _ _
+    let size = length-enumerate_from 0 c.args.p.now in
+    loop-done numbered_line (enumerate_from 0 c.args.p.now) c.loop-i.i _ _
     (omega (arith, c.loop-i-test.false, c.len-i-end.ensures.value)) c.loop-i.invariant

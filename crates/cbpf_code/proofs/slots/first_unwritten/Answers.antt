@@ -1,4 +1,4 @@
-use Rattle.std.proofs.Common.{◌≡◌, ℕ, ◌<◌, List, length, get_or, arith, sym, ◌∙◌, subst, refl, inl, inr}
+use Rattle.std.proofs.Common.{◌≡◌, ℕ, ◌<◌, List, length, get_or, arith, sym, ◌∙◌, refl, inl, inr}
 use Rattle.std.specs.Prelude.{Some, IsTrue, slice_get}
 use Rattle.std.proofs.lemmas.Bool.{cases_lt}
 use Rattle.std.proofs.lemmas.Option.{slice_get-get_or}
@@ -8,7 +8,7 @@ use Rattle.cbpf_code.specs.Opcode.{op_of}
 use Rattle.cbpf_code.specs.Faults.{uses_slot}
 use Rattle.cbpf_code.specs.CheckSteps.{IsWellFormed}
 use Rattle.cbpf_code.proofs.PathLemmas.{tracks_paths-start, tracks_paths-next, unwritten_at, written_at, written-all}
-use Rattle.cbpf_code.proofs.PathLemmas.{follows-inside, loads_use-slot, stores_use-slot, TracksPaths}
+use Rattle.cbpf_code.proofs.PathLemmas.{follows-inside, loads_use-slot, stores_use-slot}
 use Rattle.cbpf_code.proofs.FaultLemmas.{known_of, allowed_of, zero_insn}
 use Rattle.cbpf_code.proofs.slots.first_unwritten.Goals as goal
 

@@ -1,4 +1,3 @@
-use Rattle.std.proofs.lemmas.Grind.{common_steps}
 use Rattle.std.proofs.Common.{arith}
 use Rattle.cbpf_code.proofs.WrittenLemmas.{loop-next, loop-stop, err-exit}
 use Rattle.cbpf_code.proofs.writing.write_parts.Goals as goal

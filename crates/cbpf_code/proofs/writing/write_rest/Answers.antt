@@ -1,4 +1,4 @@
-use Rattle.std.proofs.Common.{◌+◌, take_all, arith}
+use Rattle.std.proofs.Common.{◌+◌, arith}
 use Rattle.std.proofs.lemmas.Grind.{common_steps}
 use Rattle.cbpf_code.proofs.WrittenLemmas.{part-take, appended-kept, appended-nil, stepped}
 use Rattle.cbpf_code.proofs.writing.write_rest.Goals as goal
