@@ -12,21 +12,18 @@ use Rattle.cbpf_code.specs.declared.checker.CheckFault.TheVariants.{NoInstructio
 use Rattle.cbpf_code.specs.declared.checker.CheckFault.TheVariants.{ZeroDivisor, WideShift, JumpOutside}
 use Rattle.cbpf_code.specs.declared.checker.CheckFault.TheVariants.{UnknownExtension, NoReturn, UnwrittenSlot}
 use Rattle.cbpf_code.specs.declared.words.WordFault.{WordFault}
-use Rattle.cbpf_code.specs.declared.words.WordFault.TheVariants.{Memory}
-use Rattle.cbpf_code.specs.declared.words.WordFault.TheVariants.{CountDiffers}
+use Rattle.cbpf_code.specs.declared.words.WordFault.TheVariants.{Memory, CountDiffers}
 use Rattle.cbpf_code.specs.Opcode.{op_of}
 use Rattle.cbpf_code.specs.Extension.{ext_at}
 use Rattle.cbpf_code.specs.ControlFlow.{InsnAt, FollowsCode, IsSuccessor, StoresSlot, MayBeUnwritten, loads_slot}
 use Rattle.cbpf_code.specs.ControlFlow.{stores_slot}
 use Rattle.cbpf_code.specs.ControlFlow.MayBeUnwritten.{at_start, onward}
-use Rattle.cbpf_code.specs.Faults.{HasFault, FirstFault, rank, index_of}
-use Rattle.cbpf_code.specs.Faults.{JumpsOutside, LoadsNoExtension, uses_slot, divides_by_k, shifts_by_k}
-use Rattle.cbpf_code.specs.Faults.{loads_absolute}
+use Rattle.cbpf_code.specs.Faults.{HasFault, FirstFault, IsEarlier, rank, index_of, JumpsOutside, LoadsNoExtension, uses_slot}
+use Rattle.cbpf_code.specs.Faults.{divides_by_k, shifts_by_k, loads_absolute}
 use Rattle.cbpf_code.specs.Sound.{IsSound}
 use Rattle.cbpf_code.specs.CheckSteps.{PassesBefore, IsWellFormed, IsAllowed, AllowedAt}
 use Rattle.cbpf_code.specs.WordTokens.{tokens}
-use Rattle.cbpf_code.specs.WordText.{first_fault}
-use Rattle.cbpf_code.specs.WordText.{count_of, Loose, Spells, end_fault, Breaks, Refused}
+use Rattle.cbpf_code.specs.WordText.{first_fault, count_of, Loose, Spells, end_fault, Breaks, Refused}
 use Rattle.cbpf_code.specs.Laws.{EachTextIsRead, EachListIsChecked}
 use Rattle.cbpf_code.proofs.PathLemmas.{insn_at-same, reached-unwritten_at}
 use Rattle.cbpf_code.proofs.SoundLemmas.{known_or, returns_or}
@@ -95,16 +92,11 @@ jumps_outside Ja insn i n = elim (at_most n (i + 1 + insn.k)) [
   | inl far ↦ inl (_, refl, far)
   | inr near ↦ inr (λ h. near (subst (λ t. n ≤ t) h.1 h.2))
 ]
-jumps_outside (Jump cond src) insn i n = elim (at_most n (i + 1 + insn.jt)) [
-  | inl far ↦ inl (_, inl refl, far)
-  | inr near ↦ elim (at_most n (i + 1 + insn.jf)) [
-    | inl far ↦ inl (_, inr refl, far)
-    | inr near_f ↦ inr (λ h. elim h.1 [
-      | inl e ↦ near (subst (λ t. n ≤ t) e h.2)
-      | inr e ↦ near_f (subst (λ t. n ≤ t) e h.2)
-    ])
-  ]
-]
+jumps_outside (Jump cond src) insn i n =
+    elim (either (at_most n (i + 1 + insn.jt)) (at_most n (i + 1 + insn.jf))) [
+      | inl h ↦ inl (elim h [ inl far ↦ (_, inl refl, far) | inr far ↦ (_, inr refl, far) ])
+      | inr never ↦ inr (λ h. never (elim h.1 [ inl e ↦ inl (rw e at h.2) | inr e ↦ inr (rw e at h.2) ]))
+    ]
 jumps_outside _ insn i n = inr (λ h. h.1)
 
 is_none : {X : Type 0} (o : Option X) → Decided (o ≡ None)
@@ -244,24 +236,12 @@ only_empty list _ r has = absurd (omega arith)
 
 pub each_list_is_checked : EachListIsChecked
 each_list_is_checked list = elim (cases_eq (length list) 0) [
-  | inl none ↦ inr (
-    NoInstruction,
-    record {
-      present = none;
-      none_earlier = λ f earlier has. omega arith;
-    },
-  )
+  | inl none ↦ inr (NoInstruction, record { present = none; none_earlier = λ f earlier has. omega arith })
   | inr some ↦ elim (cases_lt 4096 (length list)) [
-    | inl many ↦ inr (
-      TooMany,
-      record {
-        present = many;
-        none_earlier = λ f earlier has. elim earlier [
-          | inl h ↦ some (only_empty list f h has)
-          | inr h ↦ omega arith
-        ];
-      },
-    )
+    | inl many ↦
+        let never = λ (f : CheckFault) (earlier : IsEarlier f TooMany) (has : HasFault list f).
+        some (only_empty list f (omega arith) has) in
+        inr (TooMany, record { present = many; none_earlier = never })
     | inr few ↦ elim (passes list (length list) (omega arith) few (omega arith)) [
       | inr first ↦ inr first
       | inl passed ↦ elim (returns_or _) [

@@ -73,9 +73,7 @@ refused_at list (UnknownExtension i) r has = (has.0, has.2, rw has.3 (for_extens
 refused_at list _ r has = absurd (omega arith)
 
 refused_at-same : (list : List Insn) (i : ℕ) (e f : CheckFault) → RefusedAt list i e → RefusedAt list i f → e ≡ f
-refused_at-same list i e f a b =
-    let same : a.0 ≡ b.0 = cc in
-    sym a.2 ∙ ap (λ (insn : Insn). fault_by_code (op_of insn.code) i) same ∙ b.2
+refused_at-same list i e f a b = let same : a.0 ≡ b.0 = cc in cc
 
 -- outside C3 to C8 rank and index decide the fault
 abbrev fault_of_rank : ℕ → ℕ → CheckFault

@@ -1,5 +1,5 @@
 -- Paths through a list of instructions, and the masks that stand for them.
-use Rattle.std.proofs.Common.{◌≡◌, ℕ, ◌+◌, ◌<◌, ◌≤◌, List, length, get_or, replicate, arith, refl, sym, ◌∙◌, subst, inl}
+use Rattle.std.proofs.Common.{◌≡◌, ℕ, ◌+◌, ◌<◌, ◌≤◌, List, length, get_or, replicate, arith, refl, ◌∙◌, subst, inl}
 use Rattle.std.proofs.Common.{inr}
 use Rattle.std.specs.Prelude.{◌⊎◌, Some, IsTrue, slice_get, slice_set, slice_index}
 use Rattle.std.proofs.lemmas.Bool.{cases_eq, cases_lt}
@@ -37,8 +37,7 @@ successor-same list i t insn op next here known =
 
 successor_of : (list : List Insn) (i t : ℕ) (insn : Insn) (op : Op) → slice_get list i ≡ Some insn
     → op_of insn.code ≡ Some op → Follows op insn i t → IsSuccessor list i t
-successor_of list i t insn op here known follows =
-    (insn, here, subst (λ o. FollowsCode o insn i t) (sym known) follows)
+successor_of list i t insn op here known follows = (insn, here, rw known follows)
 
 -- ---- paths
 

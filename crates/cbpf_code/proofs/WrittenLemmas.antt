@@ -1,5 +1,5 @@
 -- Writes one after another.
-use Rattle.std.proofs.Common.{◌≡◌, ℕ, ◌+◌, ◌-◌, ◌≤◌, List, [], ◌++◌, take, drop, get_or, ◌<◌, ◌∷◌}
+use Rattle.std.proofs.Common.{◌≡◌, ℕ, ◌+◌, ◌-◌, ◌≤◌, List, [], ◌++◌, take, drop, get_or, ◌<◌}
 use Rattle.std.proofs.Common.{length, length-drop, take_all, append_assoc, append-nil, sym, ◌∙◌, ap, arith}
 use Rattle.std.proofs.Common.{Option, None, Some, Result, Ok, Err}
 use Rattle.std.specs.Io.KnownBytes.{Appends, Keeps}
@@ -69,12 +69,11 @@ err-exit u w a (Err y) e h = h
 -- ---- a loop that writes the text of each element
 flat-more : {X : Type 0} (f : X → List ℕ) (xs : List X) (i : ℕ) (d : X) → i < length xs
     → flat_map f (take (i + 1) xs) ≡ flat_map f (take i xs) ++ f (get_or xs i d)
-flat-more f xs i d l = ap (λ ys. flat_map f ys) (take_more xs i d l) ∙ flat_map-append f (take i xs) (get_or xs i d ∷ [])
-    ∙ ap (λ (t : List ℕ). flat_map f (take i xs) ++ t) (append-nil (f (get_or xs i d)))
+flat-more f xs i d l = rw (take_more xs i d l, flat_map-append, append-nil (f (get_or xs i d)))
 
-flat-split : {X : Type 0} (f : X → List ℕ) (xs : List X) (n : ℕ)
-    → flat_map f (take n xs) ++ flat_map f (drop n xs) ≡ flat_map f xs
-flat-split f xs n = sym (flat_map-append f (take n xs) (drop n xs)) ∙ ap (λ ys. flat_map f ys) (take-append-drop n xs)
+part-front : {X : Type 0} (f : X → List ℕ) (xs : List X) (n : ℕ) (u w : Option (List ℕ))
+    → AppendedPart u w (flat_map f (take n xs)) → AppendedPart u w (flat_map f xs)
+part-front f xs n u w part = rw (← take-append-drop n xs, flat_map-append) (part-more u w _ _ part)
 
 pub loop-next : {X : Type 0} (f : X → List ℕ) (xs : List X) (i : ℕ) (d : X) (u v w : Option (List ℕ)) → i < length xs
     → Appended u v (flat_map f (take i xs)) → Appended v w (f (get_or xs i d))
@@ -83,10 +82,7 @@ loop-next f xs i d u v w l x y = rw (flat-more f xs i d l) (appended-then u v w 
 
 pub loop-stop : {X : Type 0} (f : X → List ℕ) (xs : List X) (i : ℕ) (d : X) (u v w : Option (List ℕ)) → i < length xs
     → Appended u v (flat_map f (take i xs)) → AppendedPart v w (f (get_or xs i d)) → AppendedPart u w (flat_map f xs)
-loop-stop f xs i d u v w l x y =
-    let part : AppendedPart u w (flat_map f (take (i + 1) xs)) =
-    rw (flat-more f xs i d l) (part-then u v w _ _ x y) in
-    rw (← flat-split f xs (i + 1)) (part-more u w _ (flat_map f (drop (i + 1) xs)) part)
+loop-stop f xs i d u v w l x y = part-front f xs (i + 1) u w (rw (flat-more f xs i d l) (part-then u v w _ _ x y))
 
 pub loop-done : {X : Type 0} (f : X → List ℕ) (xs : List X) (n : ℕ) (u v : Option (List ℕ)) → length xs ≤ n
     → Appended u v (flat_map f (take n xs)) → Appended u v (flat_map f xs)
@@ -132,6 +128,4 @@ chunk-next f xs i e u v w l x y = rw (chunk-more f xs i e l) (appended-then u v 
 pub chunk-stop : {X : Type 0} (f : X → List ℕ) (xs : List X) (i e : ℕ) (u v w : Option (List ℕ)) → i ≤ e
     → Appended u v (flat_map f (take i xs)) → AppendedPart v w (flat_map f (take (e - i) (drop i xs)))
     → AppendedPart u w (flat_map f xs)
-chunk-stop f xs i e u v w l x y =
-    let part : AppendedPart u w (flat_map f (take e xs)) = rw (chunk-more f xs i e l) (part-then u v w _ _ x y) in
-    rw (← flat-split f xs e) (part-more u w _ (flat_map f (drop e xs)) part)
+chunk-stop f xs i e u v w l x y = part-front f xs e u w (rw (chunk-more f xs i e l) (part-then u v w _ _ x y))
