@@ -24,7 +24,7 @@ from pathlib import Path
 CRATES = Path(__file__).resolve().parent.parent / "crates"
 MACHINE = "cbpf_machine"
 # What changes a state, calculates or loads for a turn: whoever names one of these, or names who does, makes turns.
-ROOTS = "of with_slot skip alu negated compares number_at op_of op_of_byte".split()
+ROOTS = "of set_core with_slot skip alu negated compares number_at op_of op_of_byte".split()
 # The words of loops, which make turns again.
 LOOPS = {"for", "while", "loop"}
 TOKEN = re.compile(
