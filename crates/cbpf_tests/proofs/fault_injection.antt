@@ -1,3 +1,1 @@
-mod Counts
-mod Passing
-mod Refusal
+mod Ledger

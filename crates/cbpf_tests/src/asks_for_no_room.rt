@@ -1,6 +1,6 @@
 // Calls that ask an allocator for nothing, though what they are given holds one. The writers are given none: a
 // slice, and a `Program` that doesn't lend its own.
-use crate::fault_injection::{Fault, FaultyWriter, RefusingAllocator};
+use crate::fault_injection::{Fault, FaultyAllocator, FaultyWriter};
 use crate::loaded::{ICMP_WORDS, STRAIGHT, program_of, session_of, two_packets};
 use cbpf_code::{CheckFault, Ext, Insn, check, read_words};
 use cbpf_dbg::{MarkTrail, Meter, Place, RunReply, Session, SessionFault, Stop, When};
@@ -29,7 +29,7 @@ fn call_with_nothing_loaded<A: Allocator + Copy>(rt: &impl Abort, alloc: A) {
 
 #[test]
 fn a_session_with_nothing_loaded(rt: HostRuntime) {
-    let refusing = RefusingAllocator::refusing(rt.alloc(), 1000);
+    let refusing = FaultyAllocator::new(rt.alloc(), 1000);
     call_with_nothing_loaded(&rt, &refusing);
     assert!(rt; refusing.left() == 1000);
 }
@@ -124,7 +124,7 @@ fn call_each<A: Allocator + Copy>(
 fn calls_of<A: Allocator + Copy>(
     rt: &impl Abort,
     alloc: A,
-    refusing: &RefusingAllocator<Global>,
+    refusing: &FaultyAllocator<Global>,
     other: Global,
 ) {
     let mut session = begin(rt, alloc);
@@ -135,7 +135,7 @@ fn calls_of<A: Allocator + Copy>(
 
 #[test]
 fn calls_of_a_session(rt: HostRuntime) {
-    let refusing = RefusingAllocator::refusing(rt.alloc(), 1000);
+    let refusing = FaultyAllocator::new(rt.alloc(), 1000);
     calls_of(&rt, &refusing, &refusing, rt.alloc());
 }
 
@@ -143,7 +143,7 @@ fn calls_of_a_session(rt: HostRuntime) {
 fn load_program<A: Allocator + Copy>(
     rt: &impl Abort,
     alloc: A,
-    refusing: &RefusingAllocator<Global>,
+    refusing: &FaultyAllocator<Global>,
     session: &mut Session<MarkTrail, A>,
 ) {
     let program = program_of(alloc, STRAIGHT).expect(rt, "the program");
@@ -156,7 +156,7 @@ fn load_program<A: Allocator + Copy>(
 fn load_capture<A: Allocator + Copy>(
     rt: &impl Abort,
     alloc: A,
-    refusing: &RefusingAllocator<Global>,
+    refusing: &FaultyAllocator<Global>,
     session: &mut Session<MarkTrail, A>,
 ) {
     let capture = two_packets(alloc).expect(rt, "the capture");
@@ -165,7 +165,7 @@ fn load_capture<A: Allocator + Copy>(
     assert!(rt; refusing.left() == left);
 }
 
-fn load_both<A: Allocator + Copy>(rt: &impl Abort, alloc: A, refusing: &RefusingAllocator<Global>) {
+fn load_both<A: Allocator + Copy>(rt: &impl Abort, alloc: A, refusing: &FaultyAllocator<Global>) {
     let mut session = session_of(alloc, ICMP_WORDS).expect(rt, "the session");
     load_program(rt, alloc, refusing, &mut session);
     load_capture(rt, alloc, refusing, &mut session);
@@ -173,7 +173,7 @@ fn load_both<A: Allocator + Copy>(rt: &impl Abort, alloc: A, refusing: &Refusing
 
 #[test]
 fn loads_of_a_session(rt: HostRuntime) {
-    let refusing = RefusingAllocator::refusing(rt.alloc(), 1000);
+    let refusing = FaultyAllocator::new(rt.alloc(), 1000);
     load_both(&rt, &refusing, &refusing);
 }
 
@@ -202,7 +202,7 @@ fn fault_of<A: Allocator>(list: Vec<Insn, A>) -> Option<CheckFault> {
 
 /// A check, around which no room is asked for.
 fn check_words(rt: &impl Abort, alloc: Global, words: &[u8], wanted: Option<CheckFault>) {
-    let refusing = RefusingAllocator::refusing(alloc, 1000);
+    let refusing = FaultyAllocator::new(alloc, 1000);
     let list = read_words(&refusing, words).expect(rt, "the list");
     let left = refusing.left();
     assert!(rt; fault_of(list) == wanted);

@@ -1,5 +1,5 @@
 // The assembler over readers, flushes and allocators that fail at one call.
-use crate::fault_injection::{ERROR_KINDS, Fault, FaultyReader, FaultyWriter, RefusingAllocator};
+use crate::fault_injection::{ERROR_KINDS, Fault, FaultyAllocator, FaultyReader, FaultyWriter};
 use crate::loaded::{ARP, ARP_C, ARP_WORDS};
 use crate::places::assert_at;
 use cbpf_text::{AsmFault, AsmKind};
@@ -98,7 +98,7 @@ fn is_refused(
     row: usize,
     nth: u64,
 ) -> bool {
-    let alloc = RefusingAllocator::refusing(alloc, nth);
+    let alloc = FaultyAllocator::new(alloc, nth);
     let mut reader = source;
     let mut writer = FaultyWriter::<256>::new(Fault::Fails, 0);
     let result = asm(&alloc, &mut reader, &mut writer, form);

@@ -1,15 +1,13 @@
-//! Faults on purpose: an allocator that refuses one allocation, a reader with one failing read, and a
-//! writer with one failing or empty write. Beside these, an allocator that counts bytes.
+//! Faults on purpose: an allocator that refuses one allocation and counts bytes, a reader with one failing
+//! read, and a writer with one failing or empty write.
 
 mod allocator;
 mod calls;
-mod counting;
 mod reader;
 mod tests;
 mod writer;
 
-pub(crate) use allocator::RefusingAllocator;
-pub(crate) use counting::CountingAllocator;
+pub(crate) use allocator::FaultyAllocator;
 pub(crate) use reader::FaultyReader;
 pub(crate) use writer::{Fault, FaultyWriter};
 

@@ -1,6 +1,6 @@
 // What was asked for of an allocator is given back: by loads that take the place of others, by refused loads,
 // by breakpoints that are set and taken out, and by what is dropped.
-use crate::fault_injection::CountingAllocator;
+use crate::fault_injection::FaultyAllocator;
 use crate::loaded::{
     ARP, HEADER, ICMP_WORDS, RECORD, STRAIGHT, program_of, repeated, two_packets, two_packets_as_k,
 };
@@ -47,7 +47,7 @@ fn load<T: Trail, A: Allocator + Copy>(rt: &impl Abort, alloc: A, session: &mut 
 fn load_again_and_again<T: Trail, A: Allocator + Copy>(
     rt: &impl Abort,
     alloc: A,
-    counting: &CountingAllocator<Global>,
+    counting: &FaultyAllocator<Global>,
     trail: T,
 ) {
     let mut session = Session::new(alloc, trail);
@@ -62,7 +62,7 @@ fn load_again_and_again<T: Trail, A: Allocator + Copy>(
 
 #[test]
 fn loads_and_breakpoints_of_a_session(rt: HostRuntime) {
-    let counting = CountingAllocator::new(rt.alloc());
+    let counting = FaultyAllocator::new(rt.alloc(), 0);
     load_again_and_again(&rt, &counting, &counting, MarkTrail::new());
     assert!(rt; counting.held() == 0);
     let trail = ListTrail::new(&counting).expect(&rt, "the trail");
@@ -113,7 +113,7 @@ static CALLS: [(Call, bool); 13] = [
 
 #[test]
 fn answers_and_refusals(rt: HostRuntime) {
-    let counting = CountingAllocator::new(rt.alloc());
+    let counting = FaultyAllocator::new(rt.alloc(), 0);
     for (row, (call, refused)) in CALLS.iter().enumerate() {
         let asked = counting.asked();
         let answer = is_refused(&rt, &counting, *call);
@@ -125,7 +125,7 @@ fn answers_and_refusals(rt: HostRuntime) {
 
 #[test]
 fn loads_of_files(rt: HostRuntime) {
-    let counting = CountingAllocator::new(rt.alloc());
+    let counting = FaultyAllocator::new(rt.alloc(), 0);
     assert!(rt;
         DiskFiles::new(&rt)
             .load(&counting, "/proc/self/status")
@@ -158,7 +158,7 @@ static LINES: [&[u8]; 12] = [
 /// A reader that gives one line a call, for ten rounds, and compares what is held before each round.
 #[derive(Drop)]
 struct NotingReader<'a> {
-    counting: &'a CountingAllocator<Global>,
+    counting: &'a FaultyAllocator<Global>,
     reads: usize,
     /// What was held after the first round.
     held: u64,
@@ -190,7 +190,7 @@ impl<'a> Read for NotingReader<'a> {
 
 #[test]
 fn commands_of_a_script(rt: HostRuntime) {
-    let counting = CountingAllocator::new(rt.alloc());
+    let counting = FaultyAllocator::new(rt.alloc(), 0);
     let mut reader = NotingReader {
         counting: &counting,
         reads: 0,
@@ -209,7 +209,7 @@ fn commands_of_a_script(rt: HostRuntime) {
 
 #[test]
 fn sources(rt: HostRuntime) {
-    let counting = CountingAllocator::new(rt.alloc());
+    let counting = FaultyAllocator::new(rt.alloc(), 0);
     for (source, is_taken) in [
         (ARP, true),
         (b"in: ld #1\njmp no\nret #0".as_slice(), false),
@@ -241,7 +241,7 @@ static INDEXES: [(u32, u64); 10] = [
 fn index_of<A: Allocator + Copy>(
     rt: &impl Abort,
     alloc: A,
-    counting: &CountingAllocator<Global>,
+    counting: &FaultyAllocator<Global>,
     bytes: &[u8],
 ) -> (u64, u64) {
     let bytes = Vec::from_slice(alloc, bytes).expect(rt, "the bytes");
@@ -259,7 +259,7 @@ fn index_of<A: Allocator + Copy>(
 #[test]
 fn room_for_the_index_of_a_capture(rt: HostRuntime) {
     for (records, room) in INDEXES.iter() {
-        let counting = CountingAllocator::new(rt.alloc());
+        let counting = FaultyAllocator::new(rt.alloc(), 0);
         let bytes = repeated(rt.alloc(), HEADER, RECORD, *records, b"").expect(&rt, "the bytes");
         let found = index_of(&rt, &counting, &counting, &bytes);
         let is_wanted = found == (*room, *room);
@@ -270,7 +270,7 @@ fn room_for_the_index_of_a_capture(rt: HostRuntime) {
 
 #[test]
 fn room_for_a_list_of_states(rt: HostRuntime) {
-    let counting = CountingAllocator::new(rt.alloc());
+    let counting = FaultyAllocator::new(rt.alloc(), 0);
     let trail = ListTrail::new(&counting).expect(&rt, "the trail");
     // 4096 states of 80 bytes.
     assert!(rt; counting.asked() == 327680 && counting.held() == 327680);

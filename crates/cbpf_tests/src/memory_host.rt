@@ -5,7 +5,7 @@ ghost use Rattle.cbpf_tool.specs.FileMap.{files_of, known_source};
 ghost use Rattle.cbpf_tests.specs.Events.{event};
 
 use crate::done::Done;
-use crate::fault_injection::RefusingAllocator;
+use crate::fault_injection::FaultyAllocator;
 use crate::loaded::{ARP, ARP_WORDS, TWO_PACKETS};
 use cbpf_tool::{
     CreateFault, Failure, Files, Form, Host, Job, LoadFault, ToolFault, asm_job, dbg_job, run_on,
@@ -240,9 +240,9 @@ fn assert_fault<A: Allocator + Copy, B: Allocator + Copy>(
 #[test]
 fn a_fault_of_memory_or_of_writing_is_no_success(rt: HostRuntime) {
     let alloc = rt.alloc();
-    let job = RefusingAllocator::refusing(alloc, 1);
+    let job = FaultyAllocator::new(alloc, 1);
     assert_fault(&rt, &job, alloc, None, ToolFault::Memory);
-    let output = RefusingAllocator::refusing(alloc, 1);
+    let output = FaultyAllocator::new(alloc, 1);
     assert_fault(&rt, alloc, &output, None, ToolFault::Write);
     let refusal = Some(CreateFault::Memory);
     assert_fault(&rt, alloc, alloc, refusal, ToolFault::Memory);

@@ -1,5 +1,5 @@
 // Calls of which each growth is refused, one after another, and which run out of memory only then.
-use crate::fault_injection::RefusingAllocator;
+use crate::fault_injection::FaultyAllocator;
 use crate::loaded::{
     HEADER, ICMP_WORDS, RECORD, STRAIGHT, TWO_PACKETS, repeated, session_of, two_packets_as_k,
 };
@@ -303,7 +303,7 @@ fn is_refused(
     row: usize,
     nth: u64,
 ) -> bool {
-    let refusing = RefusingAllocator::refusing(host.alloc(), nth);
+    let refusing = FaultyAllocator::new(host.alloc(), nth);
     let found = finds_no_memory(rt, host, &refusing, call);
     assert!(rt;
         found == (refusing.left() == 0),

@@ -1,5 +1,5 @@
 // Scripts of which each growth is refused, one after another.
-use crate::fault_injection::{Fault, FaultyWriter, RefusingAllocator};
+use crate::fault_injection::{Fault, FaultyAllocator, FaultyWriter};
 use crate::loaded::two_packets_as_k;
 use crate::places::assert_at;
 use cbpf_tool::{ToolFault, debug};
@@ -80,7 +80,7 @@ fn text_after(refused: &[Refused], nth: u64) -> Option<&'static [u8]> {
 fn is_refused(rt: &impl Abort, alloc: Global, script: &Row, row: usize, nth: u64) -> bool {
     let (script, replies, _, refused) = *script;
     let mut files = two_packets_as_k(alloc).expect(rt, "the files");
-    let alloc = RefusingAllocator::refusing(alloc, nth);
+    let alloc = FaultyAllocator::new(alloc, nth);
     let mut reader = script;
     let mut writer = FaultyWriter::<256>::new(Fault::Fails, 0);
     let result = debug(&alloc, &mut reader, &mut writer, &mut files);
@@ -159,7 +159,7 @@ fn end_of(answer: Result<(), ToolFault>, written: &[u8]) -> usize {
 /// Which of `ENDS` comes of `LOADS` over a slice as writer, and whether the growth `nth` was refused.
 fn end_over_a_slice(rt: &impl Abort, alloc: Global, nth: u64) -> (usize, bool) {
     let mut files = two_packets_as_k(alloc).expect(rt, "the files");
-    let alloc = RefusingAllocator::refusing(alloc, nth);
+    let alloc = FaultyAllocator::new(alloc, nth);
     let mut reader = LOADS;
     let mut room = [0u8; 128];
     let mut writer: &mut [u8] = &mut room;

@@ -1,4 +1,4 @@
-use crate::fault_injection::{Fault, FaultyReader, FaultyWriter, RefusingAllocator};
+use crate::fault_injection::{Fault, FaultyAllocator, FaultyReader, FaultyWriter};
 use std::alloc::Global;
 use std::io::{ErrorKind, Read, Write};
 use std::process::Abort;
@@ -51,7 +51,7 @@ fn a_writer_goes_wrong_once_and_goes_on(rt: HostRuntime) {
 }
 
 /// Pushes the numbers below 100, and answers the one that was refused, or 100 for none.
-fn refused_of_100(rt: &impl Abort, alloc: &RefusingAllocator<Global>, nth: u64) -> u32 {
+fn refused_of_100(rt: &impl Abort, alloc: &FaultyAllocator<Global>, nth: u64) -> u32 {
     let mut list = Vec::new(alloc);
     let mut refused = 100;
     for number in 0..100 {
@@ -64,7 +64,7 @@ fn refused_of_100(rt: &impl Abort, alloc: &RefusingAllocator<Global>, nth: u64) 
 }
 
 fn refuse_one(rt: &impl Abort, alloc: Global, nth: u64, held: u32, left: u64) {
-    let alloc = RefusingAllocator::refusing(alloc, nth);
+    let alloc = FaultyAllocator::new(alloc, nth);
     assert!(rt; alloc.left() == nth);
     assert!(rt; refused_of_100(rt, &alloc, nth) == held, "{nth}");
     assert!(rt; alloc.left() == left, "{nth}");

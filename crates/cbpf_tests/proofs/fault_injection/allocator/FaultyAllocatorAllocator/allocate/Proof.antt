@@ -34,12 +34,12 @@ use denote.Triple.Call.{calls_at}
 use denote.Triple.Clauses.{Ended}
 use denote.Triple.Table.{framed}
 use denote.Triple.Walked.{Stays, stay_dropped, walk_of, ends_at, Goes-dropped}
-use Rattle.cbpf_tests.proofs.fault_injection.Passing.{generics, self_slot, inner_at, count_at}
-use Rattle.cbpf_tests.proofs.fault_injection.Refusal.{Count, Asks, at_asks, asks-handed, asks-said}
+use Rattle.cbpf_tests.proofs.fault_injection.Ledger.{generics, self_slot, inner_at, ledger_at, Ledger}
+use Rattle.cbpf_tests.proofs.fault_injection.Ledger.{Asks, at_asks, asks-handed, asks-said}
 use Rattle.cbpf_tests.proofs.fault_injection.allocator.is_refused.Met as is_refused
-use Rattle.cbpf_tests.specs.contracts.fault_injection.allocator.RefusingAllocatorAllocator.allocate as f
-use Rattle.cbpf_tests.proofs.fault_injection.allocator.RefusingAllocatorAllocator.allocate.Statement.{statement}
-use Rattle.cbpf_tests.proofs.fault_injection.allocator.RefusingAllocatorAllocator.allocate.Code as code
+use Rattle.cbpf_tests.specs.contracts.fault_injection.allocator.FaultyAllocatorAllocator.allocate as f
+use Rattle.cbpf_tests.proofs.fault_injection.allocator.FaultyAllocatorAllocator.allocate.Statement.{statement}
+use Rattle.cbpf_tests.proofs.fault_injection.allocator.FaultyAllocatorAllocator.allocate.Code as code
 
 module _ (inner : Al) where
   abbrev body : Fn
@@ -71,7 +71,7 @@ allocate_spec 𝓤 𝓛 𝓜 𝓡 wired B laws ghosts methods drops met _ =
     let κ = κs.0 in let q = qs.0 in let long = κs.1.0 in let q_long = qs.1.0 in
     let r = a.0 in let n = a.1.0 in let m = a.1.1.0 in
     let fn = are.1.0.1 in let fm = are.1.1.0.1 in
-    let place = inner_at inner r.ref_ptr in let count = count_at inner r.ref_ptr in let heap = r.now.inner in
+    let place = inner_at inner r.ref_ptr in let ledger = ledger_at inner r.ref_ptr in let heap = r.now.inner in
     let y : W.Ghost =
     ((κs, qs, bounds, (r, (n, (m, tt))), (shr_vals r, (vint w64 n ∷ [], (vint w64 m ∷ [], tt)))), τ) in
     let Fits : Type 0 = (capped (size τ) ≡ n) × (capped (align τ) ≡ m) in
@@ -89,19 +89,19 @@ allocate_spec 𝓤 𝓛 𝓜 𝓡 wired B laws ghosts methods drops met _ =
     move ! (1 ∷ []) $ split ! $ heard ! _ (λ outlived. heard ! _ (λ fits.
     split ! $ split ! $ move ! (2 ∷ []) $ fsplit ! $ fsplit ! $ move ! (1 ∷ []) $ unhide ! $ fsplit ! $ fsplit ! $
     use1 𝓛 (‵ (seen inner κ place heap)) (id⊢ 𝓤 _) $ move ! (1 ∷ []) $ fsplit ! $
-    use1 𝓛 (‵ (hidden_shr Count κ (record { value = tt }) count.0 count.1)) (id⊢ 𝓤 _) $ keep ! (0 ∷ 6 ∷ 2 ∷ 7 ∷ []) $
-    -- [the count; the token of κ; the inner allocator; the other token; the locals]
+    use1 𝓛 (‵ (hidden_shr Ledger κ (record { value = tt }) ledger.0 ledger.1)) (id⊢ 𝓤 _) $ keep ! (0 ∷ 6 ∷ 2 ∷ 7 ∷ []) $
+    -- [the ledger; the token of κ; the inner allocator; the other token; the locals]
     enter ! _ _ _ _ _ $
     alloc_all ! (λ l. pass_all ! refl ((tt, tt), ((tt, record { fits = fn }), ((tt, record { fits = fm }), tt))) $
     sets ! (addr ! (through ! refl (fld ! refl (stop !)))) refl (tt, tt) $
     let G = Asks 𝓛 𝓜.mem 𝓡.returns in
-    let z : G.Ghost = at_asks 𝓛 𝓜.mem 𝓡.returns κ q count in
-    use2 𝓛 (raw (G.pre z)) (asks-handed 𝓛 𝓜.mem 𝓡.returns κ q count) $
+    let z : G.Ghost = at_asks 𝓛 𝓜.mem 𝓡.returns κ q ledger n in
+    use2 𝓛 (raw (G.pre z)) (asks-handed 𝓛 𝓜.mem 𝓡.returns κ q ledger n fn) $
     calls_at ! (framed 𝓤 𝓛.H 𝓜 𝓣) G
     (is_refused.met 𝓤 𝓛 𝓜 𝓡 (code.calls-cbpf_tests::fault_injection::allocator::is_refused 𝓡.env wired)) z
-    (and_then ! (get ! refl) (no_more !)) (λ v.
+    (and_then ! (get ! refl) (and_then ! (get ! refl) (no_more !))) (λ v.
     use1 𝓛 (later (some (λ (t : Bool). given (v ≡ vbool t) (‵ (flft κ q)))))
-    (asks-said 𝓛 𝓜.mem 𝓡.returns κ q count v) $
+    (asks-said 𝓛 𝓜.mem 𝓡.returns κ q ledger n v) $
     await ! tt $ pick ! (λ refused. learn ! (λ is_refused. lands_as ! is_refused refl (tt, tt) $
     -- [the token of κ; the inner allocator; the other token; the locals]
     first ! $ branches ! (get ! refl)

@@ -1,4 +1,4 @@
--- The block goes back to the inner allocator. Assumes `Logic`.
+-- It counts the bytes, and gives the block back to the inner allocator. Assumes `Logic`.
 use Rattle.std.proofs.Common.{◌≡◌, List, [], ◌∷◌, refl, w64}
 use Rattle.std.proofs.raw_atomic.Walks.{proved}
 use Rattle.std.proofs.alloc.Calls.{Al, seen, token, Gives, at_gives, Gives-goes, Gives-Gives}
@@ -13,11 +13,12 @@ use types.Logic.{sem}
 use contract.BorrowLft.{◌⊑◌, ⊑_trans}
 use contract.Monad.{fact}
 use contract.Running.{tables}
-use types.Kit.{‵, raw, ◌⊛◌, later, given, prop, ◌$◌, ◌∵◌, !, qed, move, keep, use1, split, split3, join, learn}
+use types.Kit.{‵, raw, ◌⊛◌, later, given, prop, ◌$◌, ◌∵◌, !, qed, move, keep, use1, use2, split, split3, join, learn}
 use types.Kit.{fsplit, group, feq_i, regoal, suffices, await, done}
 use types.Run.{stop, fld, addr, no_more, and_then, of_opd, unit_lit, returns, enter}
 use types.ByLocal.{alloc_all, pass_all, free_all, look_at, get, through, sets, lands_as}
 use denote.Builtin.{usize, RawPtr}
+use denote.Memory.{hidden_shr}
 use denote.Exit.{yes}
 use denote.Opens.{unhide}
 use denote.Plain.{uint_vals, uint_Tells}
@@ -30,10 +31,12 @@ use denote.Triple.Call.{calls_at}
 use denote.Triple.Clauses.{Ended}
 use denote.Triple.Table.{framed}
 use denote.Triple.Walked.{Stays, stay_dropped, walk_of, ends_at, Goes-dropped}
-use Rattle.cbpf_tests.proofs.fault_injection.Passing.{generics, self_slot, inner_at}
-use Rattle.cbpf_tests.specs.contracts.fault_injection.allocator.RefusingAllocatorAllocator.deallocate as f
-use Rattle.cbpf_tests.proofs.fault_injection.allocator.RefusingAllocatorAllocator.deallocate.Statement.{statement}
-use Rattle.cbpf_tests.proofs.fault_injection.allocator.RefusingAllocatorAllocator.deallocate.Code as code
+use Rattle.cbpf_tests.proofs.fault_injection.Ledger.{generics, self_slot, inner_at, ledger_at, Ledger}
+use Rattle.cbpf_tests.proofs.fault_injection.Ledger.{Returns, at_returns, returns-handed, returns-said}
+use Rattle.cbpf_tests.proofs.fault_injection.allocator.give_back.Met as give_back
+use Rattle.cbpf_tests.specs.contracts.fault_injection.allocator.FaultyAllocatorAllocator.deallocate as f
+use Rattle.cbpf_tests.proofs.fault_injection.allocator.FaultyAllocatorAllocator.deallocate.Statement.{statement}
+use Rattle.cbpf_tests.proofs.fault_injection.allocator.FaultyAllocatorAllocator.deallocate.Code as code
 
 module _ (inner : Al) where
   abbrev body : Fn
@@ -69,7 +72,7 @@ deallocate_spec 𝓤 𝓛 𝓜 𝓡 wired B laws ghosts methods drops met _ =
     let κ = κs.0 in let q = qs.0 in let long = κs.1.0 in
     let r = a.0 in let n = a.1.1.0 in let m = a.1.1.1.0 in
     let fn = are.1.1.0.1 in let fm = are.1.1.1.0.1 in
-    let place = inner_at inner r.ref_ptr in let heap = r.now.inner in
+    let place = inner_at inner r.ref_ptr in let ledger = ledger_at inner r.ref_ptr in let heap = r.now.inner in
     let y : Ptr → W.Ghost = λ x. (
       (
         κs,
@@ -91,11 +94,24 @@ deallocate_spec 𝓤 𝓛 𝓜 𝓡 wired B laws ghosts methods drops met _ =
     regoal ! (λ x. prop (WpFn 𝓤 𝓛.H 𝓣.C 𝓣.Λ (body inner) (vs x) (W.post (y x)))) e refl $
     move ! (1 ∷ []) $ split ! $ split ! $ move ! (2 ∷ []) $ fsplit ! $ fsplit ! $ move ! (1 ∷ []) $ unhide ! $
     fsplit ! $ fsplit ! $
-    use1 𝓛 (‵ (seen inner κ place heap)) (id⊢ 𝓤 _) $ keep ! (7 ∷ 0 ∷ 5 ∷ 6 ∷ []) $ fsplit ! $
-    -- [the room; the right to free it; the inner allocator; the two tokens; the locals]
+    use1 𝓛 (‵ (seen inner κ place heap)) (id⊢ 𝓤 _) $ move ! (1 ∷ []) $ fsplit ! $
+    use1 𝓛 (‵ (hidden_shr Ledger κ (record { value = tt }) ledger.0 ledger.1)) (id⊢ 𝓤 _) $
+    keep ! (0 ∷ 6 ∷ 8 ∷ 2 ∷ 7 ∷ []) $
+    -- [the ledger; the token of κ; the block; the inner allocator; the other token; the locals]
     enter ! _ _ _ _ _ $ alloc_all !
     (λ l. pass_all ! refl ((tt, tt), ((tt, tt), ((tt, record { fits = fn }), ((tt, record { fits = fm }), tt)))) $
-    sets ! (addr ! (through ! refl (fld ! refl (stop !)))) refl (tt, tt) $ group ! 4 $
+    sets ! (addr ! (through ! refl (fld ! refl (stop !)))) refl (tt, tt) $
+    let G' = Returns 𝓛 𝓜.mem 𝓡.returns in
+    let z' : G'.Ghost = at_returns 𝓛 𝓜.mem 𝓡.returns κ q ledger n in
+    use2 𝓛 (raw (G'.pre z')) (returns-handed 𝓛 𝓜.mem 𝓡.returns κ q ledger n fn) $
+    calls_at ! (framed 𝓤 𝓛.H 𝓜 𝓣) G'
+    (give_back.met 𝓤 𝓛 𝓜 𝓡 (code.calls-cbpf_tests::fault_injection::allocator::give_back 𝓡.env wired)) z'
+    (and_then ! (get ! refl) (and_then ! (get ! refl) (no_more !))) (λ u.
+    use1 𝓛 (later (given (u ≡ vunit) (‵ (flft κ q)))) (returns-said 𝓛 𝓜.mem 𝓡.returns κ q ledger n u) $
+    await ! tt $ learn ! (λ was_unit. lands_as ! was_unit refl (tt, tt) $
+    sets ! (addr ! (through ! refl (fld ! refl (stop !)))) refl (tt, tt) $ move ! (1 ∷ []) $ fsplit ! $
+    move ! (0 ∷ 1 ∷ 3 ∷ 2 ∷ []) $ group ! 4 $
+    -- [the room, the right to free it, the inner allocator and its token; the other token; the locals]
     let G = Gives inner 𝓛 𝓜.mem 𝓡.returns in
     let z : G.Ghost = at_gives inner 𝓛 𝓜.mem 𝓡.returns κ q place heap b o n m τ in
     use1 𝓛 (raw (G.pre z)) (Gives-goes inner 𝓛 𝓜.mem 𝓡.returns κ q place heap
@@ -112,4 +128,4 @@ deallocate_spec 𝓤 𝓛 𝓜 𝓡 wired B laws ghosts methods drops met _ =
     (ends_at 𝓛 T hs c (y (block_ptr b o)) vunit tt (tt, (tt, (tt, (tt, tt)))) (tt, (tt, (tt, (tt, tt))))) $
     join ! $ nothing ! $ feq_i ! (List Val) (vunit ∷ []) _ refl $
     nothing ! $ nothing ! $ join ! $ nothing ! $ join ! $ nothing ! $ join ! $ nothing ! $ join ! $
-    move ! (3 ∷ 0 ∷ 1 ∷ []) $ group ! 3 $ done !)))))))
+    move ! (3 ∷ 0 ∷ 1 ∷ []) $ group ! 3 $ done !)))))))))
