@@ -42,38 +42,15 @@ count_more f xs x =
     let z : 0 + cond (f x) 1 0 ≡ cond (f x) 1 0 = omega arith in
     rw z at e
 
-with_one : (xs : List Outcome) (o : Outcome)
+added : (passes fails unknown : ℕ) (o : Outcome)
     → ◌≡◌ {A = Counts} (record {
-      passes = count_by is_pass (xs ++ o ∷ []);
-      fails = count_by is_fail (xs ++ o ∷ []);
-      unknown = count_by is_open (xs ++ o ∷ []);
-    })
-    (with_outcome
-    (record { passes = count_by is_pass xs; fails = count_by is_fail xs; unknown = count_by is_open xs }) o)
-with_one xs (outcome_is.Pass v) =
-    let a : count_by is_pass (xs ++ outcome_is.Pass v ∷ []) ≡ count_by is_pass xs + 1 =
-    count_more is_pass xs (outcome_is.Pass v) in
-    let b : count_by is_fail (xs ++ outcome_is.Pass v ∷ []) ≡ count_by is_fail xs =
-    count_more is_fail xs (outcome_is.Pass v) ∙ add-zero _ in
-    let c : count_by is_open (xs ++ outcome_is.Pass v ∷ []) ≡ count_by is_open xs =
-    count_more is_open xs (outcome_is.Pass v) ∙ add-zero _ in
-    rw (a, b, c) refl
-with_one xs outcome_is.Fail =
-    let a : count_by is_pass (xs ++ outcome_is.Fail ∷ []) ≡ count_by is_pass xs =
-    count_more is_pass xs outcome_is.Fail ∙ add-zero _ in
-    let b : count_by is_fail (xs ++ outcome_is.Fail ∷ []) ≡ count_by is_fail xs + 1 =
-    count_more is_fail xs outcome_is.Fail in
-    let c : count_by is_open (xs ++ outcome_is.Fail ∷ []) ≡ count_by is_open xs =
-    count_more is_open xs outcome_is.Fail ∙ add-zero _ in
-    rw (a, b, c) refl
-with_one xs (outcome_is.Unknown e) =
-    let a : count_by is_pass (xs ++ outcome_is.Unknown e ∷ []) ≡ count_by is_pass xs =
-    count_more is_pass xs (outcome_is.Unknown e) ∙ add-zero _ in
-    let b : count_by is_fail (xs ++ outcome_is.Unknown e ∷ []) ≡ count_by is_fail xs =
-    count_more is_fail xs (outcome_is.Unknown e) ∙ add-zero _ in
-    let c : count_by is_open (xs ++ outcome_is.Unknown e ∷ []) ≡ count_by is_open xs + 1 =
-    count_more is_open xs (outcome_is.Unknown e) in
-    rw (a, b, c) refl
+      passes = passes + cond (is_pass o) 1 0;
+      fails = fails + cond (is_fail o) 1 0;
+      unknown = unknown + cond (is_open o) 1 0;
+    }) (with_outcome (record { passes = passes; fails = fails; unknown = unknown }) o)
+added passes fails unknown (outcome_is.Pass v) = rw (add-zero fails, add-zero unknown) refl
+added passes fails unknown outcome_is.Fail = rw (add-zero passes, add-zero unknown) refl
+added passes fails unknown (outcome_is.Unknown e) = rw (add-zero passes, add-zero fails) refl
 
 -- one more packet is one more outcome
 pub counts-more : (machine : Machine) (capture : List Record) (from p : ℕ) (r : Record) → 1 ≤ from → from ≤ p
@@ -82,8 +59,14 @@ pub counts-more : (machine : Machine) (capture : List Record) (from p : ℕ) (r 
     ≡ with_outcome (counts machine capture from p) (outcome machine r.bytes r.wire)
 unfolding counts
 counts-more machine capture from p r from_one ordered at =
-    rw (outcomes-more machine capture from p r from_one ordered at)
-    (with_one (outcomes machine capture from p) (outcome machine r.bytes r.wire))
+    let sofar = outcomes machine capture from p in
+    let o = outcome machine r.bytes r.wire in
+    rw (
+      outcomes-more machine capture from p r from_one ordered at,
+      count_more is_pass sofar o,
+      count_more is_fail sofar o,
+      count_more is_open sofar o,
+    ) (added (count_by is_pass sofar) (count_by is_fail sofar) (count_by is_open sofar) o)
 
 length-take_le : {X : Type 0} (n : ℕ) (xs : List X) → length (take n xs) ≤ length xs
 length-take_le zero xs = omega arith

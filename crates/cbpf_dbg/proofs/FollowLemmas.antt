@@ -1,9 +1,9 @@
 -- Moves to the next hit.
-use Rattle.std.proofs.Common.{◌≡◌, ℕ, ◌+◌, ◌-◌, ◌≤◌, List, ◌∷◌, length, drop, take, arith, sym, ap, subst, ◌∙◌, refl, inl}
+use Rattle.std.proofs.Common.{◌≡◌, ℕ, zero, suc, ◌+◌, ◌-◌, ◌<◌, ◌≤◌, List, ◌∷◌, length, drop, take, arith, sym, ap, subst, ◌∙◌, refl, inl}
 use Rattle.std.proofs.Common.{inr, length-append, length-drop, length-take, Bool, true, false}
 use Rattle.std.specs.Prelude.{Some, slice_get, min}
 use Rattle.std.proofs.lemmas.Bool.{cases_lt}
-use Rattle.std.proofs.lemmas.Option.{slice_get_within}
+use Rattle.std.proofs.lemmas.Option.{slice_get_cases, slice_get_within}
 use Rattle.cbpf_machine.specs.Machine.{Machine}
 use Rattle.cbpf_machine.specs.Registers.{Registers, zero_state}
 use Rattle.cbpf_machine.specs.declared.outcome.Outcome.{Outcome}
@@ -21,11 +21,10 @@ use Rattle.cbpf_dbg.specs.Joined.{ahead, rest, entries_from, joined_from}
 use Rattle.cbpf_dbg.specs.Session.{hits}
 use Rattle.cbpf_dbg.specs.Cursor.{Stands, followed, moved_by, owed, passed}
 use Rattle.cbpf_dbg.specs.Going.{Covers, GoesOn}
-use Rattle.cbpf_dbg.proofs.JoinedLemmas.{place_at, ahead-in, ahead-leave, rest-same}
+use Rattle.cbpf_dbg.proofs.JoinedLemmas.{place_at, entry, ahead-in, ahead-entry, ahead-leave, rest-same, rest-pass}
 use Rattle.cbpf_dbg.proofs.LeftLemmas.{left_here, left_past}
 use Rattle.cbpf_dbg.proofs.TurnLemmas.{length_entries}
-use Rattle.cbpf_dbg.proofs.KeepLemmas.{entry_at_place}
-use Rattle.cbpf_dbg.proofs.QuietLemmas.{NoHits, entries-passed, stands-passed}
+use Rattle.cbpf_dbg.proofs.CursorLemmas.{packet_from_one, stands_at, stands-passed, entry_at_place}
 
 -- a cursor so many entries on, in the same packet
 abbrev pub moved_on : Cursor → ℕ → Registers → Cursor
@@ -37,18 +36,21 @@ not_covered : (pauses : Registers → Bool) (hit : Bool) (s : Registers) → (hi
 not_covered pauses false s covers none = refl
 not_covered pauses true s covers none = let some = covers refl in absurd cc
 
+there : {X : Type 0} (xs : List X) (i : ℕ) → i < length xs → (x : X) × (slice_get xs i ≡ Some x)
+there xs i h = elim (slice_get_cases xs i).1 [ inl found ↦ (found.0, found.2) | inr past ↦ absurd (omega arith) ]
+
 module _ (machine : Machine) (capture : List Record) (w : Cursor) (r : Record) (h : Stands machine capture w)
     (at : slice_get capture (w.place.packet - 1) ≡ Some r) where
+  from_one : 1 ≤ w.place.packet
+  from_one = packet_from_one machine capture w r h at
+
   abbrev pub xs : List Registers
   xs = trace machine r.bytes r.wire
-
-  from_one : 1 ≤ w.place.packet
-  from_one = let a = h.from_one in let b = h.ordered in omega arith
 
   pub step_within : w.place.step ≤ length xs
   step_within = elim (cases_lt 0 w.place.step) [
     | inl begun ↦
-        let within = slice_get_within xs (w.place.step - 1) w.state (entry_at_place machine capture w r h begun at) in
+        let within = slice_get_within xs (w.place.step - 1) w.state (entry_at_place machine capture w r h at begun) in
         omega (arith, within)
     | inr before ↦ omega (arith, before)
   ]
@@ -83,26 +85,33 @@ module _ (machine : Machine) (capture : List Record) (w : Cursor) (r : Record) (
   pub room : length xs + min w.place.step 1 ≤ owed machine capture w.place + w.place.step
   room = omega (arith, ahead_long w.place.step step_within)
 
+  module _ (breakpoints : Breakpoints) where
+    -- none of the packet's entries from one place of its trace up to another is a hit
+    abbrev pub NoHits : ℕ → ℕ → Type 0
+    NoHits k m = (i : ℕ) (s : Registers) → k ≤ i → i < m → slice_get xs i ≡ Some s
+        → hits machine breakpoints r.bytes r.wire s ≡ false
+
+    -- n entries from a step on that are no hits are passed
+    entries-passed : (k n m : ℕ) → k + n ≡ m → m ≤ length xs → NoHits k m
+        → rest machine capture breakpoints (place_at w.place.packet k)
+        ≡ rest machine capture breakpoints (place_at w.place.packet m)
+    entries-passed k zero m e within none =
+        let same : k ≡ m = omega (arith, e) in
+        rw same refl
+    entries-passed k (suc n) m e within none =
+        let s = there xs k (omega (arith, e, within)) in
+        let first = ahead-entry machine capture w.place.packet k r s.0 from_one at s.1 in
+        rest-pass machine capture breakpoints (place_at w.place.packet k) (place_at w.place.packet (k + 1))
+        (entry machine r w.place.packet (k + 1) s.0) first (none k s.0 (omega arith) (omega (arith, e)) s.1)
+        ∙ entries-passed (k + 1) n m (omega (arith, e)) within (λ i t from to is. none i t (omega (arith, from)) to is)
+
   module _ (breakpoints : Breakpoints) (pauses : Registers → Bool) (covers : Covers pauses machine breakpoints) where
     no_hits : (m : ℕ) → Unpaused pauses xs w.place.step m
-        → NoHits machine capture breakpoints w.place.packet r from_one at w.place.step m
+        → NoHits breakpoints w.place.step m
     no_hits m unpaused = λ i s from to there.
         not_covered pauses (hits machine breakpoints r.bytes r.wire s) s (covers r.bytes r.wire s
         (goes_from_entry machine r.bytes r.wire i zero_state s h.sound (sound_some machine.list h.sound) there).inside)
         (unpaused i s from to there)
-
-    on_stands : (n : ℕ) (s : Registers)
-        → Follows pauses xs (outcome machine r.bytes r.wire) w.place.step w.state s (Watched n)
-        → Stands machine capture (moved_on w n s)
-    on_stands n s f =
-        record {
-          sound = h.sound;
-          from_one = h.from_one;
-          ordered = h.ordered;
-          within = h.within;
-          at = λ _. (r, at, f.2);
-          counted = h.counted;
-        }
 
     on_hits : (n : ℕ) (s : Registers)
         → Follows pauses xs (outcome machine r.bytes r.wire) w.place.step w.state s (Watched n)
@@ -112,8 +121,7 @@ module _ (machine : Machine) (capture : List Record) (w : Cursor) (r : Record) (
         let some = f.0 in
         let m : ℕ = w.place.step + n - 1 in
         let within = slice_get_within xs m s f.2 in
-        (entries-passed machine capture breakpoints w.place.packet r from_one at w.place.step (n - 1) m
-        (omega arith) (omega (arith, within)) (no_hits m f.1)).0
+        entries-passed breakpoints w.place.step (n - 1) m (omega (arith, some)) (omega (arith, within)) (no_hits m f.1)
 
     on_owed : (n : ℕ) (s : Registers)
         → Follows pauses xs (outcome machine r.bytes r.wire) w.place.step w.state s (Watched n)
@@ -131,11 +139,10 @@ module _ (machine : Machine) (capture : List Record) (w : Cursor) (r : Record) (
     end_hits : Unpaused pauses xs w.place.step (length xs)
         → rest machine capture breakpoints w.place ≡ rest machine capture breakpoints (place_at (w.place.packet + 1) 0)
     end_hits unpaused =
-        let n : ℕ = length xs - w.place.step in
-        let same = entries-passed machine capture breakpoints w.place.packet r from_one at w.place.step n (length xs)
-        (omega (arith, step_within)) (omega arith) (no_hits (length xs) unpaused) in
         let leave = ahead-leave machine capture w.place.packet (length xs) r from_one at (omega arith) in
-        same.0 ∙ rest-same machine capture breakpoints (place_at w.place.packet (length xs))
+        entries-passed breakpoints w.place.step (length xs - w.place.step) (length xs) (omega (arith, step_within))
+        (omega arith) (no_hits (length xs) unpaused)
+        ∙ rest-same machine capture breakpoints (place_at w.place.packet (length xs))
         (place_at (w.place.packet + 1) 0) leave
 
     -- the steps can be counted
@@ -157,7 +164,7 @@ module _ (machine : Machine) (capture : List Record) (w : Cursor) (r : Record) (
         let some = f.0 in
         record {
           passes = record {
-            stands = on_stands n s f;
+            stands = stands_at machine capture w r h at (w.place.step + n) s f.2;
             origin = refl;
             order = inr (refl, omega arith);
             hits = on_hits n s f;

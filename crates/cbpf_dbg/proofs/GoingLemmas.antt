@@ -19,9 +19,8 @@ use Rattle.cbpf_dbg.specs.Joined.{ahead, rest, stop_at}
 use Rattle.cbpf_dbg.specs.Session.{Watches, hits}
 use Rattle.cbpf_dbg.specs.Cursor.{Stands, Passes, before, entry_here}
 use Rattle.cbpf_dbg.specs.Going.{GoesOn}
-use Rattle.cbpf_dbg.proofs.CursorLemmas.{goes}
+use Rattle.cbpf_dbg.proofs.CursorLemmas.{goes, entry_at_place}
 use Rattle.cbpf_dbg.proofs.JoinedLemmas.{ahead-entry, rest-hit, rest-pass}
-use Rattle.cbpf_dbg.proofs.KeepLemmas.{entry_at_place}
 use Rattle.cbpf_dbg.proofs.TurnLemmas.{not_before_after}
 
 before_none : (place : Place) → place.step ≡ 0 → before place ≡ place
@@ -67,7 +66,7 @@ module _ (machine : Machine) (capture : List Record) (breakpoints : Breakpoints)
         let one : 1 ≤ w.place.packet = omega (arith, h.from_one, h.ordered) in
         let i : w.place.step - 1 + 1 ≡ w.place.step = omega (arith, begun) in
         rw i at (ahead-entry machine capture w.place.packet (w.place.step - 1) r w.state one at
-        (entry_at_place machine capture w r h begun at))
+            (entry_at_place machine capture w r h at begun))
 
     pub hits_hit : hits machine breakpoints r.bytes r.wire w.state ≡ true
         → rest machine capture breakpoints (before w.place)
@@ -104,7 +103,7 @@ module _ (machine : Machine) (capture : List Record) (breakpoints : Breakpoints)
   at_hit watched old new from left m n watches h =
       let here = h.entry refl in
       let at = h.passes.stands.at here.0 in
-      let inside = (goes machine capture new at.0 h.passes.stands here.0 at.1).inside in (
+      let inside = (goes machine capture new at.0 h.passes.stands at.1 here.0).inside in (
         at.0,
         inside,
         h.passes.hits ∙ hits_hit new at.0 h.passes.stands here.0 at.1
@@ -134,7 +133,7 @@ pub few_before : (machine : Machine) (capture : List Record) (pauses : Registers
     → w.place.step ≤ fence + 1
 few_before machine capture pauses fence w r h begun at unpaused =
     let xs : List Registers = trace machine r.bytes r.wire in
-    let within = slice_get_within xs (w.place.step - 1) w.state (entry_at_place machine capture w r h begun at) in
+    let within = slice_get_within xs (w.place.step - 1) w.state (entry_at_place machine capture w r h at begun) in
     few w.place.step within refl
   where
     few : (k : ℕ) → w.place.step - 1 < length (trace machine r.bytes r.wire) → w.place.step ≡ k

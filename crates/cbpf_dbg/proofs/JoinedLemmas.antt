@@ -45,49 +45,30 @@ after_step p s k h = grind (arith, nat_tests)
 not_after_step : (p s k : ℕ) → k ≤ s → is_after (place_at p s) (place_at p k) ≡ false
 not_after_step p s k h = grind (arith, nat_tests)
 
--- the place's test at the head of a list
-later-yes : (p s : ℕ) (e : Entry) (es : List Entry) → is_after (place_at p s) e.place ≡ true
-    → later p s (e ∷ es) ≡ e ∷ later p s es
-later-yes p s e es h = rw h
-
-later-no : (p s : ℕ) (e : Entry) (es : List Entry) → is_after (place_at p s) e.place ≡ false
-    → later p s (e ∷ es) ≡ later p s es
-later-no p s e es h = rw h
-
 -- entries of an earlier packet are not after the place
 later-packet_before : (machine : Machine) (r : Record) (p s q k : ℕ) (xs : List Registers) → q < p
     → later p s (entries_from machine r q k xs) ≡ []
 later-packet_before machine r p s q k [] h = refl
 later-packet_before machine r p s q k (x ∷ xs) h =
-    later-no p s (entry machine r q k x) (entries_from machine r q (k + 1) xs) (not_after_packet p s q k h)
-    ∙ later-packet_before machine r p s q (k + 1) xs h
+    rw (not_after_packet p s q k h) (later-packet_before machine r p s q (k + 1) xs h)
 
--- entries of a later packet are all after it
-later-packet_after : (machine : Machine) (r : Record) (p s q k : ℕ) (xs : List Registers) → p < q
+-- entries from a step on that are all after the place
+later-all : (machine : Machine) (r : Record) (p s q k : ℕ) (xs : List Registers)
+    → ((j : ℕ) → k ≤ j → is_after (place_at p s) (place_at q j) ≡ true)
     → later p s (entries_from machine r q k xs) ≡ entries_from machine r q k xs
-later-packet_after machine r p s q k [] h = refl
-later-packet_after machine r p s q k (x ∷ xs) h =
-    later-yes p s (entry machine r q k x) (entries_from machine r q (k + 1) xs) (after_packet p s q k h)
-    ∙ ap (λ rest. entry machine r q k x ∷ rest) (later-packet_after machine r p s q (k + 1) xs h)
-
--- so are the packet's own entries after the step
-later-step_after : (machine : Machine) (r : Record) (p s k : ℕ) (xs : List Registers) → s < k
-    → later p s (entries_from machine r p k xs) ≡ entries_from machine r p k xs
-later-step_after machine r p s k [] h = refl
-later-step_after machine r p s k (x ∷ xs) h =
-    later-yes p s (entry machine r p k x) (entries_from machine r p (k + 1) xs) (after_step p s k h)
-    ∙ ap (λ rest. entry machine r p k x ∷ rest) (later-step_after machine r p s (k + 1) xs (omega arith))
+later-all machine r p s q k [] after = refl
+later-all machine r p s q k (x ∷ xs) after =
+    rw (after k (omega arith), later-all machine r p s q (k + 1) xs (λ j more. after j (omega (arith, more)))) refl
 
 -- of the packet's own entries, those that n more steps pass are not
 later-step : (machine : Machine) (r : Record) (p s k n : ℕ) (xs : List Registers) → k + n ≡ s + 1
     → later p s (entries_from machine r p k xs) ≡ entries_from machine r p (s + 1) (drop n xs)
 later-step machine r p s k zero xs h =
     let e : k ≡ s + 1 = omega arith in
-    rw e (later-step_after machine r p s (s + 1) xs (omega arith))
+    rw e (later-all machine r p s p (s + 1) xs (λ j more. after_step p s j (omega (arith, more))))
 later-step machine r p s k (suc n) [] h = refl
 later-step machine r p s k (suc n) (x ∷ xs) h =
-    later-no p s (entry machine r p k x) (entries_from machine r p (k + 1) xs) (not_after_step p s k (omega arith))
-    ∙ later-step machine r p s (k + 1) n xs (omega arith)
+    rw (not_after_step p s k (omega arith)) (later-step machine r p s (k + 1) n xs (omega arith))
 
 -- all packets from a later one on
 later-joined_after : (machine : Machine) (p s q : ℕ) (capture : List Record) → p < q
@@ -97,7 +78,7 @@ later-joined_after machine p s q (r ∷ rest) h =
     filter-append (λ (e : Entry). is_after (place_at p s) e.place) (packet_entries machine r q)
     (joined_from machine (q + 1) rest)
     ∙ rw (
-      later-packet_after machine r p s q 1 (trace machine r.bytes r.wire) h,
+      later-all machine r p s q 1 (trace machine r.bytes r.wire) (λ j _. after_packet p s q j h),
       later-joined_after machine p s (q + 1) rest (omega arith),
     ) refl
 
@@ -241,24 +222,23 @@ rest-ahead machine capture breakpoints place =
 
 -- ---- what a run passes over and stops at
 
-pub rest-hit : (machine : Machine) (capture : List Record) (breakpoints : Breakpoints) (old new : Place) (e : Entry)
-    → ahead machine capture old ≡ e ∷ ahead machine capture new → is_hit breakpoints e ≡ true
-    → rest machine capture breakpoints old ≡ stop_at why.Break e ∷ rest machine capture breakpoints new
-rest-hit machine capture breakpoints old new e h hit =
-    rw (rest-ahead machine capture breakpoints old, rest-ahead machine capture breakpoints new, h, hit) refl
+module _ (machine : Machine) (capture : List Record) (breakpoints : Breakpoints) (old : Place) where
+  pub rest-none : ahead machine capture old ≡ [] → rest machine capture breakpoints old ≡ []
+  rest-none h = rw (rest-ahead machine capture breakpoints old, h) refl
 
-pub rest-pass : (machine : Machine) (capture : List Record) (breakpoints : Breakpoints) (old new : Place) (e : Entry)
-    → ahead machine capture old ≡ e ∷ ahead machine capture new → is_hit breakpoints e ≡ false
-    → rest machine capture breakpoints old ≡ rest machine capture breakpoints new
-rest-pass machine capture breakpoints old new e h hit =
-    rw (rest-ahead machine capture breakpoints old, rest-ahead machine capture breakpoints new, h, hit) refl
+  module _ (new : Place) where
+    pub rest-same : ahead machine capture old ≡ ahead machine capture new
+        → rest machine capture breakpoints old ≡ rest machine capture breakpoints new
+    rest-same h =
+        rw (rest-ahead machine capture breakpoints old, rest-ahead machine capture breakpoints new, h) refl
 
-pub rest-same : (machine : Machine) (capture : List Record) (breakpoints : Breakpoints) (old new : Place)
-    → ahead machine capture old ≡ ahead machine capture new
-    → rest machine capture breakpoints old ≡ rest machine capture breakpoints new
-rest-same machine capture breakpoints old new h =
-    rw (rest-ahead machine capture breakpoints old, rest-ahead machine capture breakpoints new, h) refl
+    module _ (e : Entry) (h : ahead machine capture old ≡ e ∷ ahead machine capture new) where
+      pub rest-hit : is_hit breakpoints e ≡ true
+          → rest machine capture breakpoints old ≡ stop_at why.Break e ∷ rest machine capture breakpoints new
+      rest-hit hit =
+          rw (rest-ahead machine capture breakpoints old, rest-ahead machine capture breakpoints new, h, hit) refl
 
-pub rest-none : (machine : Machine) (capture : List Record) (breakpoints : Breakpoints) (old : Place)
-    → ahead machine capture old ≡ [] → rest machine capture breakpoints old ≡ []
-rest-none machine capture breakpoints old h = rw (rest-ahead machine capture breakpoints old, h) refl
+      pub rest-pass : is_hit breakpoints e ≡ false
+          → rest machine capture breakpoints old ≡ rest machine capture breakpoints new
+      rest-pass hit =
+          rw (rest-ahead machine capture breakpoints old, rest-ahead machine capture breakpoints new, h, hit) refl

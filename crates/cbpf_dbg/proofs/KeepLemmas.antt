@@ -18,15 +18,7 @@ use Rattle.cbpf_dbg.specs.declared.cursor.Moved.TheVariants as moved
 use Rattle.cbpf_dbg.specs.Cursor.{Stands, followed, moved_by}
 use Rattle.cbpf_machine.proofs.ListLemmas.{take-slice_get}
 use Rattle.cbpf_machine.proofs.SoundLemmas.{sound_few}
-
--- the entry at a cursor's place, in a packet that is known
-pub entry_at_place : (machine : Machine) (capture : List Record) (w : Cursor) (r : Record) → Stands machine capture w
-    → 0 < w.place.step → slice_get capture (w.place.packet - 1) ≡ Some r
-    → slice_get (trace machine r.bytes r.wire) (w.place.step - 1) ≡ Some w.state
-entry_at_place machine capture w r h inside at =
-    let e = h.at inside in
-    let same : e.0 ≡ r = cc in
-    subst (λ (q : Record). slice_get (trace machine q.bytes q.wire) (w.place.step - 1) ≡ Some w.state) same e.2
+use Rattle.cbpf_dbg.proofs.CursorLemmas.{entry_at_place}
 
 pub keeps_push : (stands after : List Registers → Type 0) (machine : Machine) (capture : List Record) (old : Place)
     (w : Cursor) (r : Record) → Stands machine capture w
@@ -36,7 +28,7 @@ pub keeps_push : (stands after : List Registers → Type 0) (machine : Machine) 
 keeps_push stands after machine capture old w r h at packet step pushed keeps = λ q there.
     let same : r ≡ q = cc in
     let before : slice_get capture (old.packet - 1) ≡ Some q = rw packet at there in
-    let here = entry_at_place machine capture w q h (omega (arith, step)) there in
+    let here = entry_at_place machine capture w q h there (omega (arith, step)) in
     let i : w.place.step - 1 ≡ old.step = omega (arith, step) in
     let entry : slice_get (trace machine q.bytes q.wire) old.step ≡ Some w.state = rw i at here in
     rw step (rw (take-slice_get (trace machine q.bytes q.wire) old.step w.state entry) (pushed _ (keeps q before)))
@@ -47,7 +39,7 @@ pub keeps_few : (machine : Machine) (capture : List Record) (old : Place) (w : C
     → slice_get capture (w.place.packet - 1) ≡ Some r → w.place.step ≡ old.step + 1
     → length (take old.step (trace machine r.bytes r.wire)) ≡ kept → kept < 4096
 keeps_few machine capture old w r kept h at step e =
-    let here = entry_at_place machine capture w r h (omega (arith, step)) at in
+    let here = entry_at_place machine capture w r h at (omega (arith, step)) in
     let i : w.place.step - 1 ≡ old.step = omega (arith, step) in
     let entry : slice_get (trace machine r.bytes r.wire) old.step ≡ Some w.state = rw i at here in
     let within = slice_get_within (trace machine r.bytes r.wire) old.step w.state entry in

@@ -5,7 +5,6 @@ pub mod AskedLemmas
 pub mod CarryLemmas
 pub mod LeftLemmas
 pub mod RunLemmas
-pub mod QuietLemmas
 pub mod FollowLemmas
 pub mod TurnLemmas
 pub mod StepLemmas

@@ -11,7 +11,7 @@ use Rattle.cbpf_dbg.specs.declared.cursor.Moved.TheVariants as moved
 use Rattle.cbpf_dbg.specs.Joined.{ahead, packet_entries}
 use Rattle.cbpf_dbg.specs.Cursor.{Stands, Moves, Nears, entry_here, passed}
 use Rattle.cbpf_dbg.proofs.JoinedLemmas.{place_at, ahead-whole}
-use Rattle.cbpf_dbg.proofs.QuietLemmas.{stands-passed}
+use Rattle.cbpf_dbg.proofs.CursorLemmas.{stands-passed}
 use Rattle.cbpf_dbg.proofs.RunLemmas.{slice_get-past, slice_get-later}
 use Rattle.cbpf_dbg.proofs.TurnLemmas.{length_entries, not_before_after}
 

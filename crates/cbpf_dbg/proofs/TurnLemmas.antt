@@ -27,6 +27,7 @@ use Rattle.cbpf_dbg.specs.View.{View}
 use Rattle.cbpf_dbg.specs.Commands.{turns_in}
 use Rattle.cbpf_dbg.specs.Cursor.{Stands, owed, view_at, NotBefore, Runs, run_turns, run_from, StepsOn, step_turns}
 use Rattle.cbpf_dbg.specs.Cursor.{step_from}
+use Rattle.cbpf_dbg.proofs.CursorLemmas.{packet_from_one}
 use Rattle.cbpf_dbg.proofs.JoinedLemmas.{place_at, ahead-entry, rest-ahead}
 use Rattle.cbpf_dbg.specs.Breakpoints.{Breakpoints}
 
@@ -90,51 +91,37 @@ count_same f g [] h same = refl
 count_same f g (x ∷ xs) h same =
     count_cons f x xs ∙ rw (same x h.0, count_same f g xs h.1 same) (sym (count_cons g x xs))
 
--- at or after a step is after the step before
-at_or_after : (p s q k : ℕ) → 1 ≤ s
+-- at or after a place is after the one before
+at_or_after : (p s q k : ℕ) → 1 ≤ k
     → not (is_after (place_at q k) (place_at p s)) ≡ is_after (place_at p (s - 1)) (place_at q k)
 at_or_after p s q k h = grind (arith, nat_tests)
 
-at_or_after_none : (p q k : ℕ) → 1 ≤ k
-    → not (is_after (place_at q k) (place_at p 0)) ≡ is_after (place_at p 0) (place_at q k)
-at_or_after_none p q k h = grind (arith, nat_tests)
-
-to_end_step : (machine : Machine) (capture : List Record) (p s : ℕ) → 1 ≤ s
+to_end : (machine : Machine) (capture : List Record) (p s : ℕ)
     → turns_to_end machine capture (place_at p s) ≡ length (ahead machine capture (place_at p (s - 1)))
 unfolding joined
-to_end_step machine capture p s h =
+to_end machine capture p s =
     count_same (λ e. not (is_after e.place (place_at p s))) (λ e. is_after (place_at p (s - 1)) e.place)
     (joined_from machine 1 capture) (from_one-joined machine 1 capture)
-    (λ e k. at_or_after p s e.place.packet e.place.step h)
+    (λ e k. at_or_after p s e.place.packet e.place.step k)
     ∙ count_filter (λ e. is_after (place_at p (s - 1)) e.place) (joined_from machine 1 capture)
-
-to_end_none : (machine : Machine) (capture : List Record) (p : ℕ)
-    → turns_to_end machine capture (place_at p 0) ≡ length (ahead machine capture (place_at p 0))
-unfolding joined
-to_end_none machine capture p =
-    count_same (λ e. not (is_after e.place (place_at p 0))) (λ e. is_after (place_at p 0) e.place)
-    (joined_from machine 1 capture) (from_one-joined machine 1 capture)
-    (λ e k. at_or_after_none p e.place.packet e.place.step k)
-    ∙ count_filter (λ e. is_after (place_at p 0) e.place) (joined_from machine 1 capture)
 
 -- what a cursor owes is what it takes to the end
 owed_at : (machine : Machine) (capture : List Record) (w : Cursor) (k : ℕ) → Stands machine capture w
     → k ≡ w.place.step
     → turns_to_end machine capture (place_at w.place.packet k) ≡ owed machine capture (place_at w.place.packet k)
-owed_at machine capture w zero h e = to_end_none machine capture w.place.packet ∙ omega arith
+owed_at machine capture w zero h e = to_end machine capture w.place.packet 0 ∙ omega arith
 owed_at machine capture w (suc k) h e =
-    let at = h.at (omega arith) in
-    let one : 1 ≤ w.place.packet = let a = h.from_one in let b = h.ordered in omega arith in
-    let i : w.place.step - 1 ≡ k = omega arith in
-    let here : slice_get (trace machine at.0.bytes at.0.wire) k ≡ Some w.state = rw i at at.2 in
-    let first = ahead-entry machine capture w.place.packet k at.0 w.state one at.1 here in
-    let total = to_end_step machine capture w.place.packet (suc k) (omega arith) in
-    let j : suc k - 1 ≡ k = omega arith in
-    let sofar : turns_to_end machine capture (place_at w.place.packet (suc k))
-    ≡ length (ahead machine capture (place_at w.place.packet k)) = rw j at total in
+    let at = h.at (omega (arith, e)) in
+    let i : w.place.step - 1 ≡ k = omega (arith, e) in
     let n : k + 1 ≡ suc k = omega arith in
+    let first = ahead-entry machine capture w.place.packet k at.0 w.state
+    (packet_from_one machine capture w at.0 h at.1) at.1 (rw i at at.2) in
     let then_ = subst (λ x. length (ahead machine capture (place_at w.place.packet k))
     ≡ suc (length (ahead machine capture (place_at w.place.packet x)))) n (ap length first) in
+    let j : suc k - 1 ≡ k = omega arith in
+    let sofar : turns_to_end machine capture (place_at w.place.packet (suc k))
+    ≡ length (ahead machine capture (place_at w.place.packet k)) =
+    rw j at (to_end machine capture w.place.packet (suc k)) in
     omega (arith, sofar, then_)
 
 pub owed-turns : (machine : Machine) (capture : List Record) (w : Cursor) → Stands machine capture w

@@ -35,27 +35,50 @@ pub record Holds (machine : Machine) (c : Savefile) (v : View) : Type 0 where
   pub values : v.values ≡ machine.values
   pub capture : v.capture ≡ Some c
 
-pub stops-held : (machine : Machine) (c : Savefile) (v : View) → Holds machine c v
-    → stops v ≡ Ok (rest machine c.records v.breakpoints v.place)
-unfolding stops
-stops-held machine c v h = rw (h.program, h.values, h.capture) refl
+module _ (machine : Machine) (c : Savefile) (v : View) (h : Holds machine c v) where
+  pub stops-held : stops v ≡ Ok (rest machine c.records v.breakpoints v.place)
+  unfolding stops
+  stops-held = rw (h.program, h.values, h.capture) refl
 
--- a run without a limit that has a hit ahead
-pub run-first : (machine : Machine) (c : Savefile) (v : View) (stop : Stop) (left : List Stop) → Holds machine c v
-    → rest machine c.records v.breakpoints v.place ≡ stop ∷ left → run v None ≡ Ok (stopped v stop)
-unfolding run
-run-first machine c v stop left h e = rw (h.program, h.values, h.capture, e) refl
+  -- a run without a limit that has a hit ahead
+  run-first : (stop : Stop) (left : List Stop) → rest machine c.records v.breakpoints v.place ≡ stop ∷ left
+      → run v None ≡ Ok (stopped v stop)
+  unfolding run
+  run-first stop left e = rw (h.program, h.values, h.capture, e) refl
 
--- and one that has none
-pub run-last : (machine : Machine) (c : Savefile) (v : View) → Holds machine c v
-    → rest machine c.records v.breakpoints v.place ≡ [] → run v None ≡ Ok (finished v machine c.records)
-unfolding run
-run-last machine c v h e = rw (h.program, h.values, h.capture, e) refl
+  turns-first : (stop : Stop) (left : List Stop) → rest machine c.records v.breakpoints v.place ≡ stop ∷ left
+      → turns_forward v (run v None) ≡ turns_between machine c.records v.place stop.place
+  turns-first stop left e = rw (run-first stop left e, h.program, h.values, h.capture) refl
 
-pub turns-first : (machine : Machine) (c : Savefile) (v : View) (stop : Stop) (left : List Stop) → Holds machine c v
-    → rest machine c.records v.breakpoints v.place ≡ stop ∷ left
-    → turns_forward v (run v None) ≡ turns_between machine c.records v.place stop.place
-turns-first machine c v stop left h e = rw (run-first machine c v stop left h e, h.program, h.values, h.capture) refl
+  -- and one that has none
+  run-last : rest machine c.records v.breakpoints v.place ≡ [] → run v None ≡ Ok (finished v machine c.records)
+  unfolding run
+  run-last e = rw (h.program, h.values, h.capture, e) refl
+
+  turns-last : rest machine c.records v.breakpoints v.place ≡ []
+      → turns_forward v (run v None) ≡ turns_to_end machine c.records v.place
+  turns-last e = rw (run-last e, h.program, h.values, h.capture) refl
+
+  turns_left-held : turns_left v ≡ turns_to_end machine c.records v.place
+  turns_left-held = rw (h.program, h.values, h.capture) refl
+
+  -- a stop
+  first-hit : (new : View) (stop : Stop) → Continues v new (Stopped stop)
+      → (left : List Stop) × (rest machine c.records v.breakpoints v.place ≡ stop ∷ left) × (stops new ≡ Ok left)
+  first-hit new stop k =
+      let here = stops-held in
+      let ahead_is = k.2 in
+      let same : rest machine c.records v.breakpoints v.place ≡ k.0 = cc in
+      (k.1, same ∙ k.4, k.3)
+
+  -- the end
+  no-hit : (new : View) (counted : Counts) → Continues v new (Finished counted)
+      → rest machine c.records v.breakpoints v.place ≡ []
+  no-hit new counted k =
+      let here = stops-held in
+      let ahead_is = k.2 in
+      let same : rest machine c.records v.breakpoints v.place ≡ k.0 = cc in
+      same ∙ k.4
 
 pub turns_to_end-bound : (machine : Machine) (capture : List Record) (place : Place) → IsSound machine.list
     → length capture < 2 ^ 60 → turns_to_end machine capture place ≤ 2 ^ 76
@@ -118,133 +141,91 @@ pub record Going (machine : Machine) (c : Savefile) (old new : View) (old_found 
   pub spent : after + turns_to_end machine c.records new.place ≡ before + turns_to_end machine c.records old.place
   pub spare : before ≤ 2 ^ 126
 
-pub going-spare : (machine : Machine) (c : Savefile) (old new : View) (f g : List Stop) (m n : ℕ)
-    → Going machine c old new f g m n → n ≤ 2 ^ 127
-going-spare machine c old new f g m n h =
-    let all = turns_to_end-bound machine c.records old.place h.sound h.few in
-    let spent = h.spent in
-    let spare = h.spare in
-    omega (arith, all, spent, spare)
-
-pub going-found : (machine : Machine) (c : Savefile) (old new : View) (f g : List Stop) (m n : ℕ)
-    → Going machine c old new f g m n → Found old new f g
-going-found machine c old new f g m n h = (
-  h.passed,
-  _,
-  stops-held machine c old h.old_holds ∙ ap Ok h.hits,
-  stops-held machine c new h.new_holds,
-  h.found,
-  h.place,
-)
-
 last_place-append : (place : Place) (hits : List Stop) (stop : Stop)
     → last_place place (hits ++ stop ∷ []) ≡ stop.place
 last_place-append place [] stop = refl
 last_place-append place (h ∷ hits) stop = last_place-append h.place hits stop
 
--- a stop
-first-hit : (machine : Machine) (c : Savefile) (v new : View) (stop : Stop) → Holds machine c v
-    → Continues v new (Stopped stop)
-    → (left : List Stop) × (rest machine c.records v.breakpoints v.place ≡ stop ∷ left) × (stops new ≡ Ok left)
-first-hit machine c v new stop h k =
-    let here = stops-held machine c v h in
-    let ahead_is = k.2 in
-    let same : rest machine c.records v.breakpoints v.place ≡ k.0 = cc in
-    (k.1, same ∙ k.4, k.3)
+module _ (machine : Machine) (c : Savefile) (old v : View) (f g : List Stop) (m n : ℕ)
+    (h : Going machine c old v f g m n) where
+  pub going-spare : n ≤ 2 ^ 127
+  going-spare = omega (arith, turns_to_end-bound machine c.records old.place h.sound h.few, h.spent, h.spare)
 
-pub going-stop : (machine : Machine) (c : Savefile) (old v new : View) (f g g2 : List Stop) (m n k : ℕ) (stop : Stop)
-    → Going machine c old v f g m n → Continues v new (Stopped stop)
-    → new ≡ view_after v (run v None) → k ≡ n + turns_forward v (run v None) → g2 ≡ g ++ stop ∷ []
-    → Going machine c old new f g2 m k
-going-stop machine c old v new f g g2 m n k stop h ahead_is after turns pushed =
-    let first = first-hit machine c v new stop h.new_holds ahead_is in
-    let ran = run-first machine c v stop first.0 h.new_holds first.1 in
-    let there : new ≡ record v { place = stop.place } = after ∙ ap (view_after v) ran in
-    let holds : Holds machine c new =
-    rw there (record { program = h.new_holds.program; values = h.new_holds.values; capture = h.new_holds.capture }) in
-    let left : rest machine c.records new.breakpoints new.place ≡ first.0 =
-    (let s = stops-held machine c new holds in let t = first.2 in cc) in
-    let spent = turns ∙ ap (λ t. n + t) (turns-first machine c v stop first.0 h.new_holds first.1) in
-    let split = turns-rest machine c v stop first.0 first.1 in
-    let sofar = h.spent in
-    let place : new.place ≡ stop.place = rw there refl in
-    record {
-      sound = h.sound;
-      few = h.few;
-      old_holds = h.old_holds;
-      new_holds = holds;
-      passed = h.passed ++ stop ∷ [];
-      place = rw (last_place-append old.place h.passed stop)
-          (there ∙ ap (λ (x : View). record x { place = stop.place }) h.place);
-      origin = rw there h.origin;
-      breakpoints = rw there h.breakpoints;
-      found = pushed ∙ ap (λ xs. xs ++ stop ∷ []) h.found ∙ append_assoc f h.passed (stop ∷ []);
-      hits = rw left ((rw first.1 at h.hits) ∙ sym (append_assoc h.passed (stop ∷ []) first.0));
-      spent = rw place (omega (arith, spent, split, sofar));
-      spare = h.spare;
-    }
+  pub going-found : Found old v f g
+  going-found = (
+    h.passed,
+    _,
+    stops-held machine c old h.old_holds ∙ ap Ok h.hits,
+    stops-held machine c v h.new_holds,
+    h.found,
+    h.place,
+  )
 
--- the end
-pub going-end : (machine : Machine) (c : Savefile) (old v new : View) (f g : List Stop) (m n : ℕ) (counted : Counts)
-    → Going machine c old v f g m n → Continues v new (Finished counted)
-    → Ok (Finished counted) ≡ reply_of (run v None) → new ≡ view_after v (run v None)
-    → (Ok counted ≡ reply_of (run_to_end old)) × (new ≡ view_after old (run_to_end old))
-    × (g ≡ f ++ rest machine c.records old.breakpoints old.place)
-unfolding run_to_end
-going-end machine c old v new f g m n counted h ahead_is reply after =
-    let here = stops-held machine c v h.new_holds in
-    let none : rest machine c.records v.breakpoints v.place ≡ [] =
-    (let k2 = ahead_is.2 in let same : rest machine c.records v.breakpoints v.place ≡ ahead_is.0 = cc in
-    same ∙ ahead_is.4) in
-    let ran = run-last machine c v h.new_holds none in
-    let there : new ≡ record v { place = start; origin = 1 } = after ∙ ap (view_after v) ran in
-    let answered : Ok (Finished counted) ≡ Ok (Finished (counts machine c.records v.origin (length c.records + 1))) =
-    reply ∙ ap reply_of ran in
-    let n : counted ≡ counts machine c.records old.origin (length c.records + 1) =
-    (let o = h.origin in let e : counted ≡ counts machine c.records v.origin (length c.records + 1) = cc in
-    rw o at e) in (
-      rw (h.old_holds.program, h.old_holds.values, h.old_holds.capture, n) refl,
-      rw (
-        h.old_holds.program,
-        h.old_holds.values,
-        h.old_holds.capture,
-        there,
-        h.new_holds.program,
-        h.new_holds.values,
-        h.new_holds.capture,
-        h.breakpoints,
-      ) refl,
-      h.found ∙ ap (λ xs. f ++ xs) (sym ((rw none at h.hits) ∙ append-nil h.passed)),
+  -- the turns so far
+  pub going-turns : n + turns_left v ≡ m + turns_left old
+  going-turns = rw (turns_left-held machine c v h.new_holds, turns_left-held machine c old h.old_holds) h.spent
+
+  pub going-stop : (new : View) (stop : Stop) (g2 : List Stop) (k : ℕ) → Continues v new (Stopped stop)
+      → new ≡ view_after v (run v None) → k ≡ n + turns_forward v (run v None) → g2 ≡ g ++ stop ∷ []
+      → Going machine c old new f g2 m k
+  going-stop new stop g2 k ahead_is after turns pushed =
+      let first = first-hit machine c v h.new_holds new stop ahead_is in
+      let there : new ≡ record v { place = stop.place } =
+      after ∙ ap (view_after v) (run-first machine c v h.new_holds stop first.0 first.1) in
+      let holds : Holds machine c new = rw there
+      (record { program = h.new_holds.program; values = h.new_holds.values; capture = h.new_holds.capture }) in
+      let left : rest machine c.records new.breakpoints new.place ≡ first.0 =
+      (let s = stops-held machine c new holds in let t = first.2 in cc) in
+      let spent = turns ∙ ap (λ t. n + t) (turns-first machine c v h.new_holds stop first.0 first.1) in
+      let place : new.place ≡ stop.place = rw there refl in
+      record {
+        sound = h.sound;
+        few = h.few;
+        old_holds = h.old_holds;
+        new_holds = holds;
+        passed = h.passed ++ stop ∷ [];
+        place = rw (last_place-append old.place h.passed stop)
+            (there ∙ ap (λ (x : View). record x { place = stop.place }) h.place);
+        origin = rw there h.origin;
+        breakpoints = rw there h.breakpoints;
+        found = pushed ∙ ap (λ xs. xs ++ stop ∷ []) h.found ∙ append_assoc f h.passed (stop ∷ []);
+        hits = rw left ((rw first.1 at h.hits) ∙ sym (append_assoc h.passed (stop ∷ []) first.0));
+        spent = rw place (omega (arith, spent, turns-rest machine c v stop first.0 first.1, h.spent));
+        spare = h.spare;
+      }
+
+  module _ (new : View) (counted : Counts) (ahead_is : Continues v new (Finished counted)) where
+    none : rest machine c.records v.breakpoints v.place ≡ []
+    none = no-hit machine c v h.new_holds new counted ahead_is
+
+    pub going-end : Ok (Finished counted) ≡ reply_of (run v None) → new ≡ view_after v (run v None)
+        → (Ok counted ≡ reply_of (run_to_end old)) × (new ≡ view_after old (run_to_end old))
+        × (g ≡ f ++ rest machine c.records old.breakpoints old.place)
+    unfolding run_to_end
+    going-end reply after =
+        let ran = run-last machine c v h.new_holds none in
+        let there : new ≡ record v { place = start; origin = 1 } = after ∙ ap (view_after v) ran in
+        let answered : Ok (Finished counted) ≡ Ok (Finished (counts machine c.records v.origin (length c.records + 1))) =
+        reply ∙ ap reply_of ran in
+        let all : counted ≡ counts machine c.records old.origin (length c.records + 1) =
+        (let o = h.origin in let e : counted ≡ counts machine c.records v.origin (length c.records + 1) = cc in
+        rw o at e) in
+        let o = h.old_holds in
+        let i = h.new_holds in (
+          rw (o.program, o.values, o.capture, all) refl,
+          rw (o.program, o.values, o.capture, there, i.program, i.values, i.capture, h.breakpoints) refl,
+          h.found ∙ ap (λ xs. f ++ xs) (sym ((rw none at h.hits) ∙ append-nil h.passed)),
+        )
+
+    -- and all turns
+    pub end-turns : (k : ℕ) → k ≡ n + turns_forward v (run v None) → k ≡ m + turns_left old
+    end-turns k turns = omega (
+      arith,
+      turns,
+      turns-last machine c v h.new_holds none,
+      turns_left-held machine c old h.old_holds,
+      h.spent,
     )
-
-pub turns-last : (machine : Machine) (c : Savefile) (v : View) → Holds machine c v
-    → rest machine c.records v.breakpoints v.place ≡ []
-    → turns_forward v (run v None) ≡ turns_to_end machine c.records v.place
-turns-last machine c v h e = rw (run-last machine c v h e, h.program, h.values, h.capture) refl
-
-turns_left-held : (machine : Machine) (c : Savefile) (v : View) → Holds machine c v
-    → turns_left v ≡ turns_to_end machine c.records v.place
-turns_left-held machine c v h = rw (h.program, h.values, h.capture) refl
-
--- the turns so far
-pub going-turns : (machine : Machine) (c : Savefile) (old new : View) (f g : List Stop) (m n : ℕ)
-    → Going machine c old new f g m n → n + turns_left new ≡ m + turns_left old
-going-turns machine c old new f g m n h =
-    rw (turns_left-held machine c new h.new_holds, turns_left-held machine c old h.old_holds) h.spent
-
--- and all turns
-pub end-turns : (machine : Machine) (c : Savefile) (old v new : View) (f g : List Stop) (m n k : ℕ) (counted : Counts)
-    → Going machine c old v f g m n → Continues v new (Finished counted)
-    → k ≡ n + turns_forward v (run v None) → k ≡ m + turns_left old
-end-turns machine c old v new f g m n k counted h ahead_is turns =
-    let here = stops-held machine c v h.new_holds in
-    let none : rest machine c.records v.breakpoints v.place ≡ [] =
-    (let k2 = ahead_is.2 in let same : rest machine c.records v.breakpoints v.place ≡ ahead_is.0 = cc in
-    same ∙ ahead_is.4) in
-    let last = turns-last machine c v h.new_holds none in
-    let all = turns_left-held machine c old h.old_holds in
-    let spent = h.spent in
-    omega (arith, turns, last, all, spent)
 
 -- how many hits are ahead
 abbrev pub how_many : Result (List Stop) SessionFault → ℕ

@@ -1,35 +1,27 @@
-use Rattle.std.proofs.Common.{◌≡◌, ◌-◌, arith, sym, subst, ap, ◌∙◌}
+use Rattle.std.proofs.Common.{◌≡◌, arith, sym, subst, ap, ◌∙◌}
 use Rattle.cbpf_dbg.specs.declared.cursor.Cursor.{Cursor}
-use Rattle.std.proofs.lemmas.Option.{slice_get_within}
 use Rattle.cbpf_machine.specs.Step.{turn}
 use Rattle.cbpf_machine.specs.declared.outcome.Turn.TheVariants.{Next}
-use Rattle.cbpf_machine.specs.Trace.{trace, outcome_of}
-use Rattle.cbpf_machine.proofs.TraceLemmas.{length-trace_from}
-use Rattle.cbpf_machine.specs.Registers.{Registers, zero_state}
-use Rattle.cbpf_machine.proofs.SoundLemmas.{sound_few}
+use Rattle.cbpf_machine.specs.Trace.{outcome_of}
+use Rattle.cbpf_machine.specs.Registers.{Registers}
 use Rattle.cbpf_dbg.specs.declared.cursor.Moved.TheVariants as moved
 use Rattle.cbpf_dbg.specs.Cursor.{Moves, stepped, passed}
 use Rattle.cbpf_dbg.proofs.CountLemmas.{countable}
 use Rattle.cbpf_dbg.proofs.CursorLemmas.{stands-stepped, moves-stepped, stands-left, moves-left, goes}
+use Rattle.cbpf_dbg.proofs.FollowLemmas.{step_within, steps_few}
 use Rattle.cbpf_dbg.specs.Loaded.{machine_in, records_in}
 use Rattle.cbpf_dbg.proofs.cursor.leave_entry.Goals as goal
 
 pub turn_in_place-requires-clause-inside : goal.turn_in_place-requires-clause-inside
 turn_in_place-requires-clause-inside g c =
     (goes (machine_in c.args.loaded.now) (records_in c.args.loaded.now) c.args.w.now _ c.requires.stands
-    c.requires.begun c.requires.here).inside
+    c.requires.here c.requires.begun).inside
 
 pub go_on-requires : goal.go_on-requires
 go_on-requires g c =
-    let at = c.requires.stands.at c.requires.begun in
-    let within = slice_get_within (trace (machine_in c.args.loaded.now) at.0.bytes at.0.wire)
-    (c.args.w.now.place.step - 1) _ at.2 in
-    omega (
-      arith,
-      within,
-      length-trace_from (machine_in c.args.loaded.now) at.0.bytes at.0.wire zero_state,
-      sound_few c.args.loaded.now.program.now c.requires.stands.sound,
-    )
+    let here = step_within _ _ c.args.w.now _ c.requires.stands c.requires.here in
+    let few = steps_few _ _ c.args.w.now _ c.requires.stands c.requires.here in
+    omega (arith, here, few)
 
 pub pass-requires : goal.pass-requires
 pass-requires g c =
@@ -42,13 +34,10 @@ returns-in-None g c =
     let on : turn (machine_in c.args.loaded.now) c.args.here.now.bytes.now c.args.here.now.wire c.args.w.now.state
     ≡ Next c.turn_in_place.new.s = c.in-None.ensures.value in
     record {
-      stands = rw same (stands-stepped _ _ c.args.w.now _ c.turn_in_place.new.s c.requires.stands c.requires.begun
-          c.requires.here on);
+      stands = rw same (stands-stepped _ _ c.args.w.now _ c.requires.stands c.requires.here c.requires.begun _ on);
       moves =
           subst (λ n. Moves (machine_in c.args.loaded.now) (records_in c.args.loaded.now) c.args.w.now moved.Entry n)
-          (sym same)
-          (moves-stepped _ _ c.args.w.now _ c.turn_in_place.new.s c.requires.stands c.requires.begun
-          c.requires.here on);
+          (sym same) (moves-stepped _ _ c.args.w.now _ c.requires.stands c.requires.here c.requires.begun _ on);
       origin = ap (λ (n : Cursor). n.origin) same;
       turns = c.turn_in_place.ensures.spent;
     }
@@ -67,10 +56,10 @@ returns-in-Some g c =
     (turn (machine_in c.args.loaded.now) c.args.here.now.bytes.now c.args.here.now.wire c.args.w.now.state)) =
     c.pass.ensures ∙ ap (λ w. passed w c.in-Some.outcome) stays ∙ ap (passed c.args.w.now) v.1 in
     record {
-      stands = rw same (stands-left _ _ c.args.w.now _ c.requires.stands c.requires.begun c.requires.here v.0);
+      stands = rw same (stands-left _ _ c.args.w.now _ c.requires.stands c.requires.here c.requires.begun v.0);
       moves =
           subst (λ n. Moves (machine_in c.args.loaded.now) (records_in c.args.loaded.now) c.args.w.now moved.Packet n)
-          (sym same) (moves-left _ _ c.args.w.now _ c.requires.stands c.requires.begun c.requires.here v.0);
+          (sym same) (moves-left _ _ c.args.w.now _ c.requires.stands c.requires.here c.requires.begun v.0);
       origin = ap (λ (n : Cursor). n.origin) same;
       turns = c.turn_in_place.ensures.spent;
     }

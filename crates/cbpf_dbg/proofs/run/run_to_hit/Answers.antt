@@ -5,10 +5,9 @@ use Rattle.cbpf_machine.proofs.SoundLemmas.{sound_few}
 use Rattle.cbpf_machine.proofs.TraceLemmas.{first_entry}
 use Rattle.cbpf_dbg.specs.Going.{GoesOn}
 use Rattle.cbpf_dbg.specs.Loaded.{machine_in, records_in, breakpoints_in}
-use Rattle.cbpf_dbg.proofs.CursorLemmas.{goes}
+use Rattle.cbpf_dbg.proofs.CursorLemmas.{goes, entry_at_place}
 use Rattle.cbpf_dbg.proofs.FollowLemmas.{step_within, steps_few}
 use Rattle.cbpf_dbg.proofs.GoingLemmas.{at_hit, goes_more, goes_passed, passes_entry, passes_more}
-use Rattle.cbpf_dbg.proofs.KeepLemmas.{entry_at_place}
 use Rattle.cbpf_dbg.proofs.LeftLemmas.{none_left}
 use Rattle.cbpf_dbg.proofs.run.run_to_hit.Goals as goal
 
@@ -51,7 +50,7 @@ stop_at-requires-then-pauses_at g c =
     let ran = c.if-not-run_whole.ensures.goes in
     let begun = (ran.entry refl).0 in
     let at = ran.passes.stands.at begun in
-    (goes (machine_in c.args.loaded.now) (records_in c.args.loaded.now) _ at.0 ran.passes.stands begun at.1).inside
+    (goes (machine_in c.args.loaded.now) (records_in c.args.loaded.now) _ at.0 ran.passes.stands at.1 begun).inside
 
 pub pauses_at-requires : goal.pauses_at-requires
 pauses_at-requires g c =
@@ -59,7 +58,7 @@ pauses_at-requires g c =
     let begun = (ran.entry refl).0 in
     let at = ran.passes.stands.at begun in
     let inside =
-    (goes (machine_in c.args.loaded.now) (records_in c.args.loaded.now) _ at.0 ran.passes.stands begun at.1).inside in
+    (goes (machine_in c.args.loaded.now) (records_in c.args.loaded.now) _ at.0 ran.passes.stands at.1 begun).inside in
     omega (arith, inside, sound_few c.args.loaded.now.program.now ran.passes.stands.sound)
 
 pub returns-then-pauses_at-clause-comes : goal.returns-then-pauses_at-clause-comes
@@ -89,7 +88,7 @@ returns-then-pauses_at-clause-keeps g c = λ r there.
     let at = ran.passes.stands.at begun in
     c.start.ensures.stands (trace (machine_in c.args.loaded.now) r.bytes r.wire)
     (first_entry (machine_in c.args.loaded.now) r.bytes r.wire ran.passes.stands.sound)
-    (entry_at_place (machine_in c.args.loaded.now) (records_in c.args.loaded.now) _ r ran.passes.stands begun there)
+    (entry_at_place (machine_in c.args.loaded.now) (records_in c.args.loaded.now) _ r ran.passes.stands there begun)
 
 pub go-preserved : goal.go-preserved
 go-preserved g c =
@@ -99,7 +98,7 @@ go-preserved g c =
     let at = ran.passes.stands.at begun in
     let all = goes_more _ _ _ _ _ _ _ _ _ _ _ _ _ _ _ c.if-finish_packet.ensures.goes ran in
     let inside =
-    (goes (machine_in c.args.loaded.now) (records_in c.args.loaded.now) _ at.0 ran.passes.stands begun at.1).inside in
+    (goes (machine_in c.args.loaded.now) (records_in c.args.loaded.now) _ at.0 ran.passes.stands at.1 begun).inside in
     let none = sym (c.requires.watched at.0.bytes at.0.wire _ inside) ∙ (sym c.pauses_at.ensures
     ∙ c.if-pauses_at.false) in
     record {
@@ -107,5 +106,5 @@ go-preserved g c =
       left = all.left _ so.left;
       keeps = λ r there. c.start.ensures.stands (trace (machine_in c.args.loaded.now) r.bytes r.wire)
           (first_entry (machine_in c.args.loaded.now) r.bytes r.wire ran.passes.stands.sound)
-          (entry_at_place (machine_in c.args.loaded.now) (records_in c.args.loaded.now) _ r ran.passes.stands begun there);
+          (entry_at_place (machine_in c.args.loaded.now) (records_in c.args.loaded.now) _ r ran.passes.stands there begun);
     }

@@ -58,7 +58,7 @@ pub stop_at-requires : goal.stop_at-requires
 stop_at-requires g c =
     let m = c.in-Entry.ensures.moves in
     (goes (machine_in c.args.loaded.now) (records_in c.args.loaded.now) c.advance.new.w m.0 c.in-Entry.ensures.stands
-    (omega (arith, m.3)) m.1).inside
+    m.1 (omega (arith, m.3))).inside
 
 pub returns-then-left-eq1-clause-keeps : goal.returns-then-left-eq1-clause-keeps
 returns-then-left-eq1-clause-keeps g c =

@@ -3,9 +3,8 @@ use Rattle.pcap_classic.specs.Lent.{record_of}
 use Rattle.cbpf_machine.specs.Follow.{is_watched}
 use Rattle.cbpf_dbg.specs.Loaded.{machine_in, records_in, breakpoints_in}
 use Rattle.cbpf_dbg.proofs.CountLemmas.{countable}
-use Rattle.cbpf_dbg.proofs.CursorLemmas.{goes}
+use Rattle.cbpf_dbg.proofs.CursorLemmas.{goes, entry_at_place}
 use Rattle.cbpf_dbg.proofs.FollowLemmas.{steps_fit, goes_to_entry, goes_out}
-use Rattle.cbpf_dbg.proofs.KeepLemmas.{entry_at_place}
 use Rattle.cbpf_dbg.proofs.LeftLemmas.{first_left, first_of}
 use Rattle.cbpf_dbg.proofs.stops.finish_packet.Goals as goal
 
@@ -13,7 +12,7 @@ pub follow_on-followed-requires-clause-inside : goal.follow_on-followed-requires
 follow_on-followed-requires-clause-inside g c =
     let here = first_left _ _ _ _ _ _ (first_of _ _ c.in-Some.ensures) c.requires.left.1 in
     (goes (machine_in c.args.loaded.now) (records_in c.args.loaded.now) c.args.cursor.now (record_of c.in-Some.here)
-    c.requires.stands (omega (arith, c.if-cursor-eq0.false)) here).inside
+    c.requires.stands here (omega (arith, c.if-cursor-eq0.false))).inside
 
 pub follow-requires-clause-counts : goal.follow-requires-clause-counts
 follow-requires-clause-counts g c =
@@ -25,7 +24,7 @@ follow-requires-clause-steps g c = λ n e.
     let here = first_left _ _ _ _ _ _ (first_of _ _ c.in-Some.ensures) c.requires.left.1 in
     let begun : 0 < c.args.cursor.now.place.step = omega (arith, c.if-cursor-eq0.false) in
     let entry = entry_at_place (machine_in c.args.loaded.now) (records_in c.args.loaded.now) c.args.cursor.now (record_of c.in-Some.here)
-    c.requires.stands begun here in
+    c.requires.stands here begun in
     let fit = steps_fit (machine_in c.args.loaded.now) (records_in c.args.loaded.now) c.args.cursor.now (record_of c.in-Some.here)
     c.requires.stands here (breakpoints_in c.args.loaded.now) (is_watched c.args.loaded.now.watched.now)
     c.requires.covers _ c.follow_on-followed.result c.follow_on-followed.new.s refl
@@ -38,7 +37,7 @@ returns-in-Entry g c =
     let here = first_left _ _ _ _ _ _ is c.requires.left.1 in
     let begun : 0 < c.args.cursor.now.place.step = omega (arith, c.if-cursor-eq0.false) in
     let entry = entry_at_place (machine_in c.args.loaded.now) (records_in c.args.loaded.now) c.args.cursor.now (record_of c.in-Some.here)
-    c.requires.stands begun here in
+    c.requires.stands here begun in
     goes_to_entry (machine_in c.args.loaded.now) (records_in c.args.loaded.now) c.args.cursor.now (record_of c.in-Some.here)
     c.requires.stands here (breakpoints_in c.args.loaded.now) (is_watched c.args.loaded.now.watched.now)
     c.requires.covers _ c.follow_on-followed.result c.follow_on-followed.new.s
@@ -52,7 +51,7 @@ returns g c =
     let here = first_left _ _ _ _ _ _ is c.requires.left.1 in
     let begun : 0 < c.args.cursor.now.place.step = omega (arith, c.if-cursor-eq0.false) in
     let entry = entry_at_place (machine_in c.args.loaded.now) (records_in c.args.loaded.now) c.args.cursor.now (record_of c.in-Some.here)
-    c.requires.stands begun here in
+    c.requires.stands here begun in
     goes_out (machine_in c.args.loaded.now) (records_in c.args.loaded.now) c.args.cursor.now (record_of c.in-Some.here)
     c.requires.stands here (breakpoints_in c.args.loaded.now) (is_watched c.args.loaded.now.watched.now)
     c.requires.covers _ c.follow_on-followed.result c.follow_on-followed.new.s

@@ -62,7 +62,7 @@ runs-preserved g c =
       going = (
         w.0,
         w.1,
-        going-stop _ _ _ _ _ _ _ _ _ _ _ _ w.2 (rw e at c.in-Ok.ensures.ahead) c.run.ensures.after
+        going-stop _ _ _ _ _ _ _ _ w.2 _ _ _ _ (rw e at c.in-Ok.ensures.ahead) c.run.ensures.after
             c.run.ensures.turns pushed,
       );
     }
@@ -71,29 +71,29 @@ pub returns-in-Finished-clause-reply : goal.returns-in-Finished-clause-reply
 returns-in-Finished-clause-reply g c =
     let w = c.runs.invariant.going in
     let e : c.in-Ok.reply ≡ Finished c.in-Finished.counts = c.in-Finished.is in
-    inl ((going-end _ _ _ _ _ _ _ _ _ _ w.2 (rw e at c.in-Ok.ensures.ahead) (rw e at c.in-Ok.ensures.reply)
+    inl ((going-end _ _ _ _ _ _ _ _ w.2 _ _ (rw e at c.in-Ok.ensures.ahead) (rw e at c.in-Ok.ensures.reply)
     c.run.ensures.after).0)
 
 pub returns-in-Finished-clause-after : goal.returns-in-Finished-clause-after
 returns-in-Finished-clause-after g c =
     let w = c.runs.invariant.going in
     let e : c.in-Ok.reply ≡ Finished c.in-Finished.counts = c.in-Finished.is in
-    (going-end _ _ _ _ _ _ _ _ _ _ w.2 (rw e at c.in-Ok.ensures.ahead) (rw e at c.in-Ok.ensures.reply)
+    (going-end _ _ _ _ _ _ _ _ w.2 _ _ (rw e at c.in-Ok.ensures.ahead) (rw e at c.in-Ok.ensures.reply)
     c.run.ensures.after).1
 
 pub returns-in-Finished-clause-stops : goal.returns-in-Finished-clause-stops
 returns-in-Finished-clause-stops g c =
     let w = c.runs.invariant.going in
     let e : c.in-Ok.reply ≡ Finished c.in-Finished.counts = c.in-Finished.is in
-    let e = going-end _ _ _ _ _ _ _ _ _ _ w.2 (rw e at c.in-Ok.ensures.ahead) (rw e at c.in-Ok.ensures.reply)
+    let end = going-end _ _ _ _ _ _ _ _ w.2 _ _ (rw e at c.in-Ok.ensures.ahead) (rw e at c.in-Ok.ensures.reply)
     c.run.ensures.after in
-    (_, stops-held _ _ _ ((w.2).old_holds), c.reserve.ensures.items ∙ e.2)
+    (_, stops-held _ _ _ ((w.2).old_holds), c.reserve.ensures.items ∙ end.2)
 
 pub returns-in-Finished-clause-turns : goal.returns-in-Finished-clause-turns
 returns-in-Finished-clause-turns g c =
     let w = c.runs.invariant.going in
     let e : c.in-Ok.reply ≡ Finished c.in-Finished.counts = c.in-Finished.is in
-    end-turns _ _ _ _ _ _ _ _ _ _ c.in-Finished.counts w.2 (rw e at c.in-Ok.ensures.ahead) c.run.ensures.turns
+    end-turns _ _ _ _ _ _ _ _ w.2 _ c.in-Finished.counts (rw e at c.in-Ok.ensures.ahead) _ c.run.ensures.turns
 
 pub returns-in-Finished-clause-from_start : goal.returns-in-Finished-clause-from_start
 returns-in-Finished-clause-from_start g c = from_start c.args.self.now
