@@ -170,7 +170,7 @@ module _ (machine : Machine) (capture : List Record) (w : Cursor) (r : Record) (
             hits = on_hits n s f;
             spent = omega (arith, on_owed n s f, turns);
           };
-          left = λ end there. left_here capture w.place (moved_on w n s).place end left r others is refl there;
+          left = λ end there. left_here capture w.place end left r others is there (moved_on w n s).place refl;
           entry = λ _. (omega (arith, some), f.3);
           out = λ (z : true ≡ false). absurd cc;
         }
@@ -192,7 +192,7 @@ module _ (machine : Machine) (capture : List Record) (w : Cursor) (r : Record) (
             hits = end_hits f.0;
             spent = omega (arith, ahead_long w.place.step step_within, ap length leave, turns, step_within);
           };
-          left = λ end there. left_past machine capture w end left r others h is there;
+          left = λ end there. left_past capture w.place end left r others is there from_one;
           entry = λ (z : false ≡ true). absurd cc;
           out = λ _. refl;
         }

@@ -2,8 +2,6 @@
 use Rattle.std.proofs.Common.{◌≡◌, ℕ, zero, suc, ◌+◌, ◌-◌, ◌<◌, ◌≤◌, List, [], ◌∷◌, length, drop, take, arith, refl, inl, inr}
 use Rattle.std.proofs.Common.{sym, ap, ◌∙◌}
 use Rattle.std.specs.Prelude.{Option, Some, None, slice_get}
-use Rattle.pcap_classic.specs.Lent.{record_of}
-use Rattle.pcap_classic.specs.declared.captured.Captured.{Captured}
 use Rattle.std.proofs.lemmas.Bool.{cases_lt}
 use Rattle.std.proofs.lemmas.Option.{slice_get_within}
 use Rattle.pcap_classic.specs.Records.{Record}
@@ -25,44 +23,41 @@ cut (y ∷ xs) zero (suc e) x rest h = (cc, omega arith, omega arith, cc)
 cut (y ∷ xs) (suc i) (suc e) x rest h =
     let more = cut xs i e x rest h in (more.0, omega (arith, more.1), omega (arith, more.2), more.3)
 
--- the first of the records that are left is that of the packet
-pub first_left : (capture : List Record) (place : Place) (end : ℕ) (left : List Record) (r : Record)
-    (others : List Record) → left ≡ r ∷ others → AreLeft capture place end left
-    → slice_get capture (place.packet - 1) ≡ Some r
-first_left capture place end left r others e h =
-    (cut capture (place.packet - 1) (end - 1) r others (sym h.is ∙ e)).0
+-- where a record is the first of those that are left
+module _ (capture : List Record) (place : Place) (end : ℕ) (left : List Record) (r : Record) (others : List Record)
+    (e : left ≡ r ∷ others) (h : AreLeft capture place end left) where
+  parts : (slice_get capture (place.packet - 1) ≡ Some r) × (place.packet - 1 < end - 1)
+      × (place.packet - 1 < length capture) × (others ≡ drop (suc (place.packet - 1)) (take (end - 1) capture))
+  parts = cut capture (place.packet - 1) (end - 1) r others (sym h.is ∙ e)
 
--- and they stay in the packet
-pub left_here : (capture : List Record) (old new : Place) (end : ℕ) (left : List Record) (r : Record)
-    (others : List Record) → left ≡ r ∷ others → new.packet ≡ old.packet → AreLeft capture old end left
-    → AreLeft capture new end left
-left_here capture old new end left r others e same h =
-    let parts = cut capture (old.packet - 1) (end - 1) r others (sym h.is ∙ e) in
-    record {
-      is = rw same h.is;
-      ends = record {
-        within = h.ends.within;
-        most = omega (arith, same, h.ends.most);
-        later = λ _. omega (arith, same, parts.1);
-      };
-    }
+  -- it is that of the packet
+  pub first_left : slice_get capture (place.packet - 1) ≡ Some r
+  first_left = parts.0
 
--- the others are left after it
-pub left_past : (machine : Machine) (capture : List Record) (w : Cursor) (end : ℕ) (left : List Record) (r : Record)
-    (others : List Record) → Stands machine capture w → left ≡ r ∷ others → AreLeft capture w.place end left
-    → AreLeft capture (record { packet = w.place.packet + 1; step = 0 }) end others
-left_past machine capture w end left r others stands e h =
-    let parts = cut capture (w.place.packet - 1) (end - 1) r others (sym h.is ∙ e) in
-    let one : 1 ≤ w.place.packet = omega (arith, stands.from_one, stands.ordered) in
-    let on : suc (w.place.packet - 1) ≡ w.place.packet + 1 - 1 = omega (arith, one) in
-    record {
-      is = rw on at parts.3;
-      ends = record {
-        within = h.ends.within;
-        most = omega (arith, parts.1, one);
-        later = λ begun. absurd (omega (arith, begun));
-      };
-    }
+  -- they stay in the packet
+  pub left_here : (new : Place) → new.packet ≡ place.packet → AreLeft capture new end left
+  left_here new same =
+      record {
+        is = rw same h.is;
+        ends = record {
+          within = h.ends.within;
+          most = omega (arith, same, h.ends.most);
+          later = λ _. omega (arith, same, parts.1);
+        };
+      }
+
+  -- the others are left after it
+  pub left_past : 1 ≤ place.packet → AreLeft capture (record { packet = place.packet + 1; step = 0 }) end others
+  left_past one =
+      let on : suc (place.packet - 1) ≡ place.packet + 1 - 1 = omega (arith, one) in
+      record {
+        is = rw on at parts.3;
+        ends = record {
+          within = h.ends.within;
+          most = omega (arith, parts.1, one);
+          later = λ begun. absurd (omega (arith, begun));
+        };
+      }
 
 none_cut : {X : Type 0} (xs : List X) (i e : ℕ) → drop i (take e xs) ≡ [] → e ≤ length xs → e ≤ i
 none_cut xs i zero h fits = omega arith

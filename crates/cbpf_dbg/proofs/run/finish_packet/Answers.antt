@@ -12,7 +12,7 @@ use Rattle.cbpf_dbg.proofs.run.finish_packet.Goals as goal
 pub follow-followed-requires-clause-spare : goal.follow-followed-requires-clause-spare
 follow-followed-requires-clause-spare g c =
     let here = first_left _ _ _ _ _ _ (first_of _ _ c.in-Some.ensures) c.requires.can.left.1 in
-    let few = steps_few (machine_in c.args.loaded.now) (records_in c.args.loaded.now) c.args.cursor.now (record_of c.in-Some.here)
+    let few = steps_few _ _ _ (record_of c.in-Some.here)
     c.requires.can.stands here in
     omega (arith, few, c.requires.can.spare)
 
@@ -24,12 +24,11 @@ follow-requires-clause-counts g c =
 pub follow-requires-clause-steps : goal.follow-requires-clause-steps
 follow-requires-clause-steps g c = λ n e.
     let here = first_left _ _ _ _ _ _ (first_of _ _ c.in-Some.ensures) c.requires.can.left.1 in
-    let k = kept_steps (machine_in c.args.loaded.now) (records_in c.args.loaded.now) c.args.cursor.now (record_of c.in-Some.here)
+    let k = kept_steps _ _ _ (record_of c.in-Some.here)
     c.requires.can.stands here (g.T.Trail.kept c.args.trail.now)
     (g.met.T.Trail.as_long c.args.trail.now _ (c.requires.keeps _ here)) in
-    let fit = steps_fit (machine_in c.args.loaded.now) (records_in c.args.loaded.now) c.args.cursor.now (record_of c.in-Some.here)
-    c.requires.can.stands here (breakpoints_in c.args.loaded.now) (is_watched c.args.loaded.now.watched.now)
-    c.requires.can.covers (g.T.Trail.kept c.args.trail.now) c.follow-followed.result c.follow-followed.new.s k
+    let fit = steps_fit _ _ _ (record_of c.in-Some.here)
+    c.requires.can.stands here _ _ c.requires.can.covers (g.T.Trail.kept c.args.trail.now) c.follow-followed.result c.follow-followed.new.s k
     c.follow-followed.ensures.follows n e in
     omega (arith, fit)
 
@@ -37,12 +36,11 @@ pub returns-in-Entry-clause-goes : goal.returns-in-Entry-clause-goes
 returns-in-Entry-clause-goes g c =
     let is = first_of _ _ c.in-Some.ensures in
     let here = first_left _ _ _ _ _ _ is c.requires.can.left.1 in
-    let k = kept_steps (machine_in c.args.loaded.now) (records_in c.args.loaded.now) c.args.cursor.now (record_of c.in-Some.here)
+    let k = kept_steps _ _ _ (record_of c.in-Some.here)
     c.requires.can.stands here (g.T.Trail.kept c.args.trail.now)
     (g.met.T.Trail.as_long c.args.trail.now _ (c.requires.keeps _ here)) in
-    goes_to_entry (machine_in c.args.loaded.now) (records_in c.args.loaded.now) c.args.cursor.now (record_of c.in-Some.here)
-    c.requires.can.stands here (breakpoints_in c.args.loaded.now) (is_watched c.args.loaded.now.watched.now)
-    c.requires.can.covers (g.T.Trail.kept c.args.trail.now) c.follow-followed.result c.follow-followed.new.s
+    goes_to_entry _ _ _ (record_of c.in-Some.here)
+    c.requires.can.stands here _ _ c.requires.can.covers (g.T.Trail.kept c.args.trail.now) c.follow-followed.result c.follow-followed.new.s
     c.follow.new.self c.args.meter.now c.follow-followed.new.meter c.args.left.now _ k c.in-Entry.ensures.moved
     c.in-Entry.ensures.cursor c.follow-followed.ensures.follows
     (omega (arith, c.follow-followed.ensures.turns, k, c.if-cursor-eq0.false)) is
@@ -50,7 +48,7 @@ returns-in-Entry-clause-goes g c =
 pub returns-in-Entry-clause-keeps : goal.returns-in-Entry-clause-keeps
 returns-in-Entry-clause-keeps g c = λ _.
     let here = first_left _ _ _ _ _ _ (first_of _ _ c.in-Some.ensures) c.requires.can.left.1 in
-    let k = kept_steps (machine_in c.args.loaded.now) (records_in c.args.loaded.now) c.args.cursor.now (record_of c.in-Some.here)
+    let k = kept_steps _ _ _ (record_of c.in-Some.here)
     c.requires.can.stands here (g.T.Trail.kept c.args.trail.now)
     (g.met.T.Trail.as_long c.args.trail.now _ (c.requires.keeps _ here)) in
     keeps_followed (λ xs. g.T.Trail.stands_for c.follow-followed.new.self xs) (machine_in c.args.loaded.now) (records_in c.args.loaded.now)
@@ -62,12 +60,11 @@ pub returns-clause-goes : goal.returns-clause-goes
 returns-clause-goes g c =
     let is = c.pass.ensures in
     let here = first_left _ _ _ _ _ _ is c.requires.can.left.1 in
-    let k = kept_steps (machine_in c.args.loaded.now) (records_in c.args.loaded.now) c.args.cursor.now (record_of c.in-Some.here)
+    let k = kept_steps _ _ _ (record_of c.in-Some.here)
     c.requires.can.stands here (g.T.Trail.kept c.args.trail.now)
     (g.met.T.Trail.as_long c.args.trail.now _ (c.requires.keeps _ here)) in
-    goes_out (machine_in c.args.loaded.now) (records_in c.args.loaded.now) c.args.cursor.now (record_of c.in-Some.here)
-    c.requires.can.stands here (breakpoints_in c.args.loaded.now) (is_watched c.args.loaded.now.watched.now)
-    c.requires.can.covers (g.T.Trail.kept c.args.trail.now) c.follow-followed.result c.follow-followed.new.s
+    goes_out _ _ _ (record_of c.in-Some.here)
+    c.requires.can.stands here _ _ c.requires.can.covers (g.T.Trail.kept c.args.trail.now) c.follow-followed.result c.follow-followed.new.s
     c.follow.new.self c.args.meter.now c.follow-followed.new.meter c.args.left.now _ k
     c.in_default-follow.ensures.moved c.in_default-follow.ensures.cursor c.follow-followed.ensures.follows
     (omega (arith, c.follow-followed.ensures.turns, k, c.if-cursor-eq0.false)) is

@@ -20,9 +20,8 @@ follow-requires-clause-steps g c = λ n e.
     let so = c.go.invariant in
     let here = first_left _ _ _ _ _ _ (first_of _ _ c.in-Some.ensures) (so.left _ c.requires.can.left.1) in
     let step = so.out refl in
-    let fit = steps_fit (machine_in c.args.loaded.now) (records_in c.args.loaded.now) c.go.cursor (record_of c.in-Some.here)
-    so.passes.stands here (breakpoints_in c.args.loaded.now) (λ s. g.P.Pause.pauses c.args.pause.now s)
-    c.requires.can.covers 0 c.follow_packet-followed.result c.follow_packet-followed.new.s (omega (arith, step))
+    let fit = steps_fit _ _ _ (record_of c.in-Some.here)
+    so.passes.stands here _ _ c.requires.can.covers 0 c.follow_packet-followed.result c.follow_packet-followed.new.s (omega (arith, step))
     c.follow_packet-followed.ensures.follows n e in
     omega (arith, fit)
 
@@ -33,9 +32,8 @@ returns-in-Entry-clause-goes g c =
     let here = first_left _ _ _ _ _ _ is (so.left _ c.requires.can.left.1) in
     let step = so.out refl in
     goes_more _ _ _ _ _ _ _ _ _ _ _ _ _ _ _ so
-    (goes_to_entry (machine_in c.args.loaded.now) (records_in c.args.loaded.now) c.go.cursor (record_of c.in-Some.here)
-    so.passes.stands here (breakpoints_in c.args.loaded.now) (λ s. g.P.Pause.pauses c.args.pause.now s)
-    c.requires.can.covers 0 c.follow_packet-followed.result c.follow_packet-followed.new.s c.follow.new.self c.go.meter
+    (goes_to_entry _ _ _ (record_of c.in-Some.here)
+    so.passes.stands here _ _ c.requires.can.covers 0 c.follow_packet-followed.result c.follow_packet-followed.new.s c.follow.new.self c.go.meter
     c.follow_packet-followed.new.meter c.go.left _ (omega (arith, step)) c.in-Entry.ensures.moved
     c.in-Entry.ensures.cursor c.follow_packet-followed.ensures.follows
     (omega (arith, c.follow_packet-followed.ensures.turns)) is)
@@ -44,9 +42,8 @@ pub returns-in-Entry-clause-first : goal.returns-in-Entry-clause-first
 returns-in-Entry-clause-first g c = λ _.
     let so = c.go.invariant in
     let here = first_left _ _ _ _ _ _ (first_of _ _ c.in-Some.ensures) (so.left _ c.requires.can.left.1) in
-    first_pause (machine_in c.args.loaded.now) (records_in c.args.loaded.now) c.go.cursor (record_of c.in-Some.here)
-    so.passes.stands here (breakpoints_in c.args.loaded.now) (λ s. g.P.Pause.pauses c.args.pause.now s)
-    c.requires.can.covers c.follow_packet-followed.result c.follow_packet-followed.new.s c.follow.new.self
+    first_pause _ _ _ (record_of c.in-Some.here)
+    so.passes.stands here _ _ c.requires.can.covers c.follow_packet-followed.result c.follow_packet-followed.new.s c.follow.new.self
     (so.out refl) c.in-Entry.ensures.moved c.in-Entry.ensures.cursor c.follow_packet-followed.ensures.follows
 
 pub go-preserved : goal.go-preserved
@@ -56,9 +53,8 @@ go-preserved g c =
     let here = first_left _ _ _ _ _ _ is (so.left _ c.requires.can.left.1) in
     let step = so.out refl in
     goes_more _ _ _ _ _ _ _ _ _ _ _ _ _ _ _ so
-    (goes_out (machine_in c.args.loaded.now) (records_in c.args.loaded.now) c.go.cursor (record_of c.in-Some.here)
-    so.passes.stands here (breakpoints_in c.args.loaded.now) (λ s. g.P.Pause.pauses c.args.pause.now s)
-    c.requires.can.covers 0 c.follow_packet-followed.result c.follow_packet-followed.new.s c.follow.new.self c.go.meter
+    (goes_out _ _ _ (record_of c.in-Some.here)
+    so.passes.stands here _ _ c.requires.can.covers 0 c.follow_packet-followed.result c.follow_packet-followed.new.s c.follow.new.self c.go.meter
     c.follow_packet-followed.new.meter c.go.left _ (omega (arith, step)) c.in_default-follow.ensures.moved
     c.in_default-follow.ensures.cursor c.follow_packet-followed.ensures.follows
     (omega (arith, c.follow_packet-followed.ensures.turns)) is)

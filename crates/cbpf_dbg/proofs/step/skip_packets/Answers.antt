@@ -35,6 +35,7 @@ skip-preserved g c =
     )) (omega (arith, made, c.run_packet.ensures.turns)) in
     record {
       nears = nears_more _ _ _ _ _ _ _ _ _ _ _ so.nears past;
-      records = rw c.pass.ensures (left_past _ _ _ _ _ _ _ stands is so.records);
+      records = rw c.pass.ensures (left_past _ _ _ _ _ _ is so.records
+          (omega (arith, stands.from_one, stands.ordered)));
       before = rw c.pass.ensures refl;
     }

@@ -102,7 +102,7 @@ go-preserved-in-Entry g c =
     c.in-Entry.ensures.turns in
     record {
       nears = nears_more _ _ _ _ _ _ _ _ _ _ _ so.nears on;
-      records = left_here _ _ _ _ _ _ _ (first_of _ _ c.in-Some.ensures) m.2 so.records;
+      records = left_here _ _ _ _ _ _ (first_of _ _ c.in-Some.ensures) so.records _ m.2;
       keeps = keeps_push (λ xs. g.T.Trail.stands_for c.go.trail xs) (λ xs. g.T.Trail.stands_for c.push.new.self xs)
           (machine_in c.args.loaded.now) (records_in c.args.loaded.now) c.go.w.place c.advance.new.w m.0
           c.in-Entry.ensures.stands m.1 m.2 m.3 c.push.ensures so.keeps;
@@ -111,8 +111,8 @@ go-preserved-in-Entry g c =
 pub skip_packets-left-requires-in-Packet-clause-records : goal.skip_packets-left-requires-in-Packet-clause-records
 skip_packets-left-requires-in-Packet-clause-records g c =
     let so = c.go.invariant in
-    rw c.in-Packet.ensures.moves.0 (left_past _ _ c.go.w _ _ _ _ so.nears.stands
-    (c.pass.ensures) so.records)
+    rw c.in-Packet.ensures.moves.0 (left_past _ _ _ _ _ _ c.pass.ensures so.records
+    (omega (arith, so.nears.stands.from_one, so.nears.stands.ordered)))
 
 pub skip_packets-left-requires-in-Packet-clause-spare : goal.skip_packets-left-requires-in-Packet-clause-spare
 skip_packets-left-requires-in-Packet-clause-spare g c =

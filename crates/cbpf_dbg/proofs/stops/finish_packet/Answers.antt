@@ -11,7 +11,7 @@ use Rattle.cbpf_dbg.proofs.stops.finish_packet.Goals as goal
 pub follow_on-followed-requires-clause-inside : goal.follow_on-followed-requires-clause-inside
 follow_on-followed-requires-clause-inside g c =
     let here = first_left _ _ _ _ _ _ (first_of _ _ c.in-Some.ensures) c.requires.left.1 in
-    (goes (machine_in c.args.loaded.now) (records_in c.args.loaded.now) c.args.cursor.now (record_of c.in-Some.here)
+    (goes _ _ _ (record_of c.in-Some.here)
     c.requires.stands here (omega (arith, c.if-cursor-eq0.false))).inside
 
 pub follow-requires-clause-counts : goal.follow-requires-clause-counts
@@ -23,11 +23,10 @@ pub follow-requires-clause-steps : goal.follow-requires-clause-steps
 follow-requires-clause-steps g c = λ n e.
     let here = first_left _ _ _ _ _ _ (first_of _ _ c.in-Some.ensures) c.requires.left.1 in
     let begun : 0 < c.args.cursor.now.place.step = omega (arith, c.if-cursor-eq0.false) in
-    let entry = entry_at_place (machine_in c.args.loaded.now) (records_in c.args.loaded.now) c.args.cursor.now (record_of c.in-Some.here)
+    let entry = entry_at_place _ _ _ (record_of c.in-Some.here)
     c.requires.stands here begun in
-    let fit = steps_fit (machine_in c.args.loaded.now) (records_in c.args.loaded.now) c.args.cursor.now (record_of c.in-Some.here)
-    c.requires.stands here (breakpoints_in c.args.loaded.now) (is_watched c.args.loaded.now.watched.now)
-    c.requires.covers _ c.follow_on-followed.result c.follow_on-followed.new.s refl
+    let fit = steps_fit _ _ _ (record_of c.in-Some.here)
+    c.requires.stands here _ _ c.requires.covers _ c.follow_on-followed.result c.follow_on-followed.new.s refl
     (c.follow_on-followed.ensures.follows _ begun entry) n e in
     omega (arith, fit)
 
@@ -36,11 +35,10 @@ returns-in-Entry g c =
     let is = first_of _ _ c.in-Some.ensures in
     let here = first_left _ _ _ _ _ _ is c.requires.left.1 in
     let begun : 0 < c.args.cursor.now.place.step = omega (arith, c.if-cursor-eq0.false) in
-    let entry = entry_at_place (machine_in c.args.loaded.now) (records_in c.args.loaded.now) c.args.cursor.now (record_of c.in-Some.here)
+    let entry = entry_at_place _ _ _ (record_of c.in-Some.here)
     c.requires.stands here begun in
-    goes_to_entry (machine_in c.args.loaded.now) (records_in c.args.loaded.now) c.args.cursor.now (record_of c.in-Some.here)
-    c.requires.stands here (breakpoints_in c.args.loaded.now) (is_watched c.args.loaded.now.watched.now)
-    c.requires.covers _ c.follow_on-followed.result c.follow_on-followed.new.s
+    goes_to_entry _ _ _ (record_of c.in-Some.here)
+    c.requires.stands here _ _ c.requires.covers _ c.follow_on-followed.result c.follow_on-followed.new.s
     c.follow.new.self c.args.meter.now c.follow_on-followed.new.meter c.args.left.now _ refl c.in-Entry.ensures.moved
     c.in-Entry.ensures.cursor (c.follow_on-followed.ensures.follows _ begun entry)
     (omega (arith, c.follow_on-followed.ensures.turns _ begun entry, begun)) is
@@ -50,11 +48,10 @@ returns g c =
     let is = c.pass.ensures in
     let here = first_left _ _ _ _ _ _ is c.requires.left.1 in
     let begun : 0 < c.args.cursor.now.place.step = omega (arith, c.if-cursor-eq0.false) in
-    let entry = entry_at_place (machine_in c.args.loaded.now) (records_in c.args.loaded.now) c.args.cursor.now (record_of c.in-Some.here)
+    let entry = entry_at_place _ _ _ (record_of c.in-Some.here)
     c.requires.stands here begun in
-    goes_out (machine_in c.args.loaded.now) (records_in c.args.loaded.now) c.args.cursor.now (record_of c.in-Some.here)
-    c.requires.stands here (breakpoints_in c.args.loaded.now) (is_watched c.args.loaded.now.watched.now)
-    c.requires.covers _ c.follow_on-followed.result c.follow_on-followed.new.s
+    goes_out _ _ _ (record_of c.in-Some.here)
+    c.requires.stands here _ _ c.requires.covers _ c.follow_on-followed.result c.follow_on-followed.new.s
     c.follow.new.self c.args.meter.now c.follow_on-followed.new.meter c.args.left.now _ refl
     c.in_default-follow.ensures.moved c.in_default-follow.ensures.cursor
     (c.follow_on-followed.ensures.follows _ begun entry)

@@ -15,8 +15,8 @@ returns-clause-shown g c =
       origin = c.run-reply.new.cursor.origin;
       place = c.run-reply.new.cursor.place;
     } in
-    shows-run _ _ _ _ _ _ _ after (record { program = c.in-Some.is; values = refl; capture = c.in-Some-capture.is })
-    c.len-sound.ensures.sound c.run-reply.ensures.runs
+    shows-run _ _ after (record { program = c.in-Some.is; values = refl; capture = c.in-Some-capture.is }) _
+    c.len-sound.ensures.sound _ _ _ _ c.run-reply.ensures.runs
 
 pub returns-clause-reply : goal.returns-clause-reply
 unfolding run stops

@@ -16,7 +16,7 @@ returns-clause-shown g c =
       values = rw (← c.self.view_is) refl;
       capture = rw (← c.self.view_is) c.in-Some-capture.is;
     } in
-    shows-rest _ _ _ _ _ holds c.len-sound.ensures.sound
+    shows-rest _ _ _ holds _ c.len-sound.ensures.sound _
 
 pub returns-clause-few : goal.returns-clause-few
 returns-clause-few g c =
