@@ -72,7 +72,7 @@ module _ (machine : Machine) (capture : List Record) (w : Cursor) (r : Record) (
     omega (arith, step),
     ap (λ k. ahead machine capture (place_at w.place.packet k)) step
         ∙ ahead-entry machine capture w.place.packet 0 r zero_state packet_from_one at
-            (first_entry machine r.bytes r.wire h.sound),
+        (first_entry machine r.bytes r.wire h.sound),
   )
 
   module _ (inside : 0 < w.place.step) where

@@ -66,7 +66,7 @@ module _ (machine : Machine) (capture : List Record) (breakpoints : Breakpoints)
         let one : 1 ≤ w.place.packet = omega (arith, h.from_one, h.ordered) in
         let i : w.place.step - 1 + 1 ≡ w.place.step = omega (arith, begun) in
         rw i at (ahead-entry machine capture w.place.packet (w.place.step - 1) r w.state one at
-            (entry_at_place machine capture w r h at begun))
+        (entry_at_place machine capture w r h at begun))
 
     pub hits_hit : hits machine breakpoints r.bytes r.wire w.state ≡ true
         → rest machine capture breakpoints (before w.place)
