@@ -1,6 +1,5 @@
 -- The hits at an instruction, and breakpoints that change at one.
-use Rattle.std.proofs.Common.{◌≡◌, ℕ, List, Bool, true, false, refl, ap, arith, inl, inr}
-use Rattle.std.proofs.Common.{◌∙◌, ◌<◌, ◌≤◌, sym}
+use Rattle.std.proofs.Common.{◌≡◌, ℕ, List, Bool, true, false, refl, ap, arith, inl, inr, ◌∙◌, ◌<◌, ◌≤◌, sym}
 use Rattle.std.specs.Prelude.{Option, Some, None, is_some, nat_eq, ◌⊎◌, ◌||◌}
 use Rattle.std.specs.Option.{option_map_or}
 use Rattle.std.specs.Map.{lookup}

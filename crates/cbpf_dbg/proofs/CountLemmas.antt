@@ -42,20 +42,18 @@ count_more f xs x =
     let z : 0 + cond (f x) 1 0 ≡ cond (f x) 1 0 = omega arith in
     rw z at e
 
-added : (passes fails unknown : ℕ) (o : Outcome)
-    → ◌≡◌ {A = Counts} (record {
-      passes = passes + cond (is_pass o) 1 0;
-      fails = fails + cond (is_fail o) 1 0;
-      unknown = unknown + cond (is_open o) 1 0;
-    }) (with_outcome (record { passes = passes; fails = fails; unknown = unknown }) o)
+added : (passes fails unknown : ℕ) (o : Outcome) → ◌≡◌ {A = Counts} (record {
+  passes = passes + cond (is_pass o) 1 0;
+  fails = fails + cond (is_fail o) 1 0;
+  unknown = unknown + cond (is_open o) 1 0;
+}) (with_outcome (record { passes = passes; fails = fails; unknown = unknown }) o)
 added passes fails unknown (outcome_is.Pass v) = rw (add-zero fails, add-zero unknown) refl
 added passes fails unknown outcome_is.Fail = rw (add-zero passes, add-zero unknown) refl
 added passes fails unknown (outcome_is.Unknown e) = rw (add-zero passes, add-zero fails) refl
 
 -- one more packet is one more outcome
 pub counts-more : (machine : Machine) (capture : List Record) (from p : ℕ) (r : Record) → 1 ≤ from → from ≤ p
-    → slice_get capture (p - 1) ≡ Some r
-    → counts machine capture from (p + 1)
+    → slice_get capture (p - 1) ≡ Some r → counts machine capture from (p + 1)
     ≡ with_outcome (counts machine capture from p) (outcome machine r.bytes r.wire)
 unfolding counts
 counts-more machine capture from p r from_one ordered at =

@@ -106,8 +106,7 @@ module _ (machine : Machine) (capture : List Record) (w : Cursor) (r : Record) (
         ∙ entries-passed (k + 1) n m (omega (arith, e)) within (λ i t from to is. none i t (omega (arith, from)) to is)
 
   module _ (breakpoints : Breakpoints) (pauses : Registers → Bool) (covers : Covers pauses machine breakpoints) where
-    no_hits : (m : ℕ) → Unpaused pauses xs w.place.step m
-        → NoHits breakpoints w.place.step m
+    no_hits : (m : ℕ) → Unpaused pauses xs w.place.step m → NoHits breakpoints w.place.step m
     no_hits m unpaused = λ i s from to there.
         not_covered pauses (hits machine breakpoints r.bytes r.wire s) s (covers r.bytes r.wire s
         (goes_from_entry machine r.bytes r.wire i zero_state s h.sound (sound_some machine.list h.sound) there).inside)
@@ -157,8 +156,7 @@ module _ (machine : Machine) (capture : List Record) (w : Cursor) (r : Record) (
 
     on_entry : (n : ℕ) (s : Registers) (before after : ℕ)
         → Follows pauses xs (outcome machine r.bytes r.wire) w.place.step w.state s (Watched n)
-        → after + 1 ≡ before + n + min w.place.step 1
-        → (left : List Record) (others : List Record) → left ≡ r ∷ others
+        → after + 1 ≡ before + n + min w.place.step 1 → (left : List Record) (others : List Record) → left ≡ r ∷ others
         → GoesOn machine capture breakpoints pauses w (moved_on w n s) left left before after true
     on_entry n s before after f turns left others is =
         let some = f.0 in
@@ -182,8 +180,7 @@ module _ (machine : Machine) (capture : List Record) (w : Cursor) (r : Record) (
         → GoesOn machine capture breakpoints pauses w (passed (record w { state = s }) o) left others before after false
     on_packet o s before after f turns left others is =
         let leave = ahead-leave machine capture w.place.packet (length xs) r from_one at (omega arith) in
-        let same : passed w (outcome machine r.bytes r.wire) ≡ passed (record w { state = s }) o =
-        rw (f.1, f.2) refl in
+        let same : passed w (outcome machine r.bytes r.wire) ≡ passed (record w { state = s }) o = rw (f.1, f.2) refl in
         record {
           passes = record {
             stands = subst (λ u. Stands machine capture u) same (stands-passed machine capture w r h at);

@@ -1,10 +1,9 @@
 -- Runs that go on, one after another.
 use Rattle.std.proofs.Common.{◌≡◌, ℕ, zero, suc, ◌+◌, ◌-◌, ◌<◌, ◌≤◌, List, ◌∷◌, length, arith, sym, ap, ◌∙◌, refl, inr}
-use Rattle.std.proofs.Common.{Bool, true, false, subst}
+use Rattle.std.proofs.Common.{Bool, true, false, subst, inl}
 use Rattle.std.specs.Prelude.{Some, slice_get, nat_le, ◌||◌}
 use Rattle.std.proofs.lemmas.Bool.Decides.{nat_tests}
 use Rattle.std.proofs.lemmas.Option.{slice_get_cases, slice_get_within}
-use Rattle.std.proofs.Common.{inl}
 use Rattle.cbpf_machine.specs.Follow.{Unpaused, Watching, is_watched}
 use Rattle.cbpf_machine.specs.Machine.{Machine}
 use Rattle.cbpf_machine.specs.Registers.{Registers}
@@ -97,8 +96,7 @@ module _ (machine : Machine) (capture : List Record) (breakpoints : Breakpoints)
   pub at_hit : (watched : Watching) (old new : Cursor) (from left : List Record) (m n : ℕ)
       → Watches watched machine breakpoints
       → GoesOn machine capture breakpoints (is_watched watched) old new from left m n true
-      → (r : Record) × (new.state.pc < length machine.list)
-      × (rest machine capture breakpoints old.place
+      → (r : Record) × (new.state.pc < length machine.list) × (rest machine capture breakpoints old.place
       ≡ stop_at why.Break (entry_here machine r new) ∷ rest machine capture breakpoints new.place)
   at_hit watched old new from left m n watches h =
       let here = h.entry refl in

@@ -76,32 +76,28 @@ later-joined_after : (machine : Machine) (p s q : ℕ) (capture : List Record) �
 later-joined_after machine p s q [] h = refl
 later-joined_after machine p s q (r ∷ rest) h =
     filter-append (λ (e : Entry). is_after (place_at p s) e.place) (packet_entries machine r q)
-    (joined_from machine (q + 1) rest)
-    ∙ rw (
+    (joined_from machine (q + 1) rest) ∙ rw (
       later-all machine r p s q 1 (trace machine r.bytes r.wire) (λ j _. after_packet p s q j h),
       later-joined_after machine p s (q + 1) rest (omega arith),
     ) refl
 
 -- all packets, where the place is in the n-th of them
 later-joined : (machine : Machine) (p s q n : ℕ) (capture : List Record) (r : Record) → q + n ≡ p
-    → slice_get capture n ≡ Some r
-    → later p s (joined_from machine q capture) ≡ entries_from machine r p (s + 1)
+    → slice_get capture n ≡ Some r → later p s (joined_from machine q capture) ≡ entries_from machine r p (s + 1)
     (drop s (trace machine r.bytes r.wire)) ++ joined_from machine (p + 1) (drop (n + 1) capture)
 later-joined machine p s q n [] r h g = absurd cc
 later-joined machine p s q zero (x ∷ rest) r h g =
     let same : x ≡ r = cc in
     let at : q ≡ p = omega arith in
     filter-append (λ (e : Entry). is_after (place_at p s) e.place) (packet_entries machine x q)
-    (joined_from machine (q + 1) rest)
-    ∙ rw (at, same) (rw (
+    (joined_from machine (q + 1) rest) ∙ rw (at, same) (rw (
       later-step machine r p s 1 s (trace machine r.bytes r.wire) (omega arith),
       later-joined_after machine p s (p + 1) rest (omega arith),
     ) refl)
 later-joined machine p s q (suc n) (x ∷ rest) r h g =
     let ih = later-joined machine p s (q + 1) n rest r (omega arith) g in
     filter-append (λ (e : Entry). is_after (place_at p s) e.place) (packet_entries machine x q)
-    (joined_from machine (q + 1) rest)
-    ∙ (let e : suc n + 1 ≡ suc (n + 1) = omega arith in
+    (joined_from machine (q + 1) rest) ∙ (let e : suc n + 1 ≡ suc (n + 1) = omega arith in
     rw (later-packet_before machine x p s q 1 (trace machine x.bytes x.wire) (omega arith), e) ih)
 
 -- a place after all packets
@@ -110,8 +106,7 @@ later-joined_none : (machine : Machine) (p s q : ℕ) (capture : List Record) �
 later-joined_none machine p s q [] h = refl
 later-joined_none machine p s q (x ∷ rest) h =
     filter-append (λ (e : Entry). is_after (place_at p s) e.place) (packet_entries machine x q)
-    (joined_from machine (q + 1) rest)
-    ∙ rw (
+    (joined_from machine (q + 1) rest) ∙ rw (
       later-packet_before machine x p s q 1 (trace machine x.bytes x.wire) (omega arith),
       later-joined_none machine p s (q + 1) rest (omega arith),
     ) refl
@@ -132,8 +127,7 @@ pub ahead-end : (machine : Machine) (capture : List Record) (p s : ℕ) → leng
 unfolding joined
 ahead-end machine capture p s h = later-joined_none machine p s 1 capture (omega arith)
 
-drop-slice_get : {X : Type 0} (xs : List X) (i : ℕ) (x : X) → slice_get xs i ≡ Some x
-    → drop i xs ≡ x ∷ drop (i + 1) xs
+drop-slice_get : {X : Type 0} (xs : List X) (i : ℕ) (x : X) → slice_get xs i ≡ Some x → drop i xs ≡ x ∷ drop (i + 1) xs
 drop-slice_get [] i x h = cc
 drop-slice_get (y ∷ ys) zero x h = let same : y ≡ x = cc in rw same refl
 drop-slice_get (y ∷ ys) (suc i) x h =
@@ -149,12 +143,10 @@ drop-past (x ∷ xs) (suc i) h = drop-past xs i (omega arith)
 
 -- the packet's next entry is the first ahead
 pub ahead-entry : (machine : Machine) (capture : List Record) (p s : ℕ) (r : Record) (t : Registers) → 1 ≤ p
-    → slice_get capture (p - 1) ≡ Some r
-    → slice_get (trace machine r.bytes r.wire) s ≡ Some t
+    → slice_get capture (p - 1) ≡ Some r → slice_get (trace machine r.bytes r.wire) s ≡ Some t
     → ahead machine capture (place_at p s) ≡ entry machine r p (s + 1) t ∷ ahead machine capture (place_at p (s + 1))
 ahead-entry machine capture p s r t from_one at entry_is =
-    ahead-in machine capture p s r from_one at
-    ∙ rw (drop-slice_get (trace machine r.bytes r.wire) s t entry_is)
+    ahead-in machine capture p s r from_one at ∙ rw (drop-slice_get (trace machine r.bytes r.wire) s t entry_is)
     (ap (λ rest. entry machine r p (s + 1) t ∷ rest) (sym (ahead-in machine capture p (s + 1) r from_one at)))
 
 joined-next : (machine : Machine) (capture : List Record) (p : ℕ) → 1 ≤ p
@@ -166,14 +158,12 @@ joined-next machine capture p from_one =
           let at : slice_get capture (p + 1 - 1) ≡ Some found.0 = rw e found.2 in
           rw (drop-slice_get capture p found.0 found.2)
           (sym (ahead-in machine capture (p + 1) 0 found.0 (omega arith) at))
-      | inr past ↦
-          rw (drop-past capture p past.0) (sym (ahead-end machine capture (p + 1) 0 (omega arith)))
+      | inr past ↦ rw (drop-past capture p past.0) (sym (ahead-end machine capture (p + 1) 0 (omega arith)))
     ]
 
 -- after a packet's last entry comes the next packet
 pub ahead-leave : (machine : Machine) (capture : List Record) (p s : ℕ) (r : Record) → 1 ≤ p
-    → slice_get capture (p - 1) ≡ Some r
-    → length (trace machine r.bytes r.wire) ≤ s
+    → slice_get capture (p - 1) ≡ Some r → length (trace machine r.bytes r.wire) ≤ s
     → ahead machine capture (place_at p s) ≡ ahead machine capture (place_at (p + 1) 0)
 ahead-leave machine capture p s r from_one at long =
     ahead-in machine capture p s r from_one at
@@ -216,8 +206,7 @@ pub rest-ahead : (machine : Machine) (capture : List Record) (breakpoints : Brea
     → rest machine capture breakpoints place
     ≡ map (stop_at why.Break) (filter (is_hit breakpoints) (ahead machine capture place))
 rest-ahead machine capture breakpoints place =
-    later-stops place (filter (is_hit breakpoints) (joined machine capture))
-    ∙ ap (map (stop_at why.Break))
+    later-stops place (filter (is_hit breakpoints) (joined machine capture)) ∙ ap (map (stop_at why.Break))
     (filter-swap (λ (e : Entry). is_after place e.place) (is_hit breakpoints) (joined machine capture))
 
 -- ---- what a run passes over and stops at
@@ -229,8 +218,7 @@ module _ (machine : Machine) (capture : List Record) (breakpoints : Breakpoints)
   module _ (new : Place) where
     pub rest-same : ahead machine capture old ≡ ahead machine capture new
         → rest machine capture breakpoints old ≡ rest machine capture breakpoints new
-    rest-same h =
-        rw (rest-ahead machine capture breakpoints old, rest-ahead machine capture breakpoints new, h) refl
+    rest-same h = rw (rest-ahead machine capture breakpoints old, rest-ahead machine capture breakpoints new, h) refl
 
     module _ (e : Entry) (h : ahead machine capture old ≡ e ∷ ahead machine capture new) where
       pub rest-hit : is_hit breakpoints e ≡ true

@@ -35,8 +35,7 @@ keeps_push stands after machine capture old w r h at packet step pushed keeps = 
 
 -- fewer than 4096 are kept before the last entry
 pub keeps_few : (machine : Machine) (capture : List Record) (old : Place) (w : Cursor) (r : Record) (kept : ℕ)
-    → Stands machine capture w
-    → slice_get capture (w.place.packet - 1) ≡ Some r → w.place.step ≡ old.step + 1
+    → Stands machine capture w → slice_get capture (w.place.packet - 1) ≡ Some r → w.place.step ≡ old.step + 1
     → length (take old.step (trace machine r.bytes r.wire)) ≡ kept → kept < 4096
 keeps_few machine capture old w r kept h at step e =
     let here = entry_at_place machine capture w r h at (omega (arith, step)) in

@@ -33,8 +33,7 @@ use Rattle.cbpf_dbg.proofs.WholeLemmas.{Holds}
 use Rattle.cbpf_dbg.specs.Breakpoints.{Breakpoints}
 
 -- an element has what all have
-All-slice_get : {X : Type 0} (P : X → Type 0) (xs : List X) (i : ℕ) (x : X) → All P xs
-    → slice_get xs i ≡ Some x → P x
+All-slice_get : {X : Type 0} (P : X → Type 0) (xs : List X) (i : ℕ) (x : X) → All P xs → slice_get xs i ≡ Some x → P x
 All-slice_get P xs i x all e =
     subst P (get_or_from_slice_get xs i x x e) (All-get_or P xs i x (slice_get_within xs i x e) all)
 
@@ -167,16 +166,14 @@ module _ (machine : Machine) (c : Savefile) (v : View) (h : Holds machine c v) w
     pub shows-run : (old new : Cursor) (limit : Option ℕ) (reply : RunReply)
         → Runs machine c breakpoints old new limit reply → Shows v reply
     shows-run old new limit reply runs =
-        shows-reply reply
-        (rw runs.reply_is (within-run_to (view_at machine c breakpoints old) machine c.records limit
+        shows-reply reply (rw runs.reply_is (within-run_to (view_at machine c breakpoints old) machine c.records limit
         (rest machine c.records breakpoints old.place) (within-rest machine c.records breakpoints old.place sound)))
 
     -- what a step on answers
     pub shows-step_on : (old new : Cursor) (n : ℕ) (reply : RunReply)
         → StepsOn machine c breakpoints old new n reply → Shows v reply
     shows-step_on old new n reply steps =
-        shows-reply reply
-        (rw steps.reply_is (within-step_to (view_at machine c breakpoints old) machine c.records
+        shows-reply reply (rw steps.reply_is (within-step_to (view_at machine c breakpoints old) machine c.records
         (slice_get (ahead machine c.records old.place) (n - 1))
         (λ e is. All-slice_get (EntryWithin machine c.records why.Step) (ahead machine c.records old.place) (n - 1) e
         (within-ahead machine c.records why.Step sound old.place) is)))

@@ -1,16 +1,14 @@
 -- How many turns lead from one place to another.
 use Rattle.std.proofs.Common.{◌≡◌, ℕ, zero, suc, ◌+◌, ◌-◌, ◌<◌, ◌≤◌, List, [], ◌∷◌, ◌++◌, length, Bool, true, false}
-use Rattle.std.proofs.Common.{arith, sym, ap, ◌∙◌, subst, refl, inl, inr, cond}
+use Rattle.std.proofs.Common.{arith, sym, ap, ◌∙◌, subst, refl, inl, inr, cond, ◌*◌, ◌^◌, length-append}
 use Rattle.std.specs.Prelude.{Option, Some, slice_get, filter, count_by, not, ◌&&◌}
 use Rattle.std.proofs.lemmas.Bool.Decides.{nat_tests}
 use Rattle.std.proofs.lemmas.List.Sums.{sum_by-append, count_by-le-length}
-use Rattle.std.proofs.Common.{◌*◌, ◌^◌, length-append}
 use Rattle.cbpf_code.specs.Sound.{IsSound}
-use Rattle.cbpf_machine.specs.Registers.{zero_state}
+use Rattle.cbpf_machine.specs.Registers.{zero_state, Registers}
 use Rattle.cbpf_machine.proofs.SoundLemmas.{sound_few}
 use Rattle.cbpf_machine.proofs.TraceLemmas.{length-trace_from}
 use Rattle.cbpf_machine.specs.Machine.{Machine}
-use Rattle.cbpf_machine.specs.Registers.{Registers}
 use Rattle.cbpf_machine.specs.Trace.{trace}
 use Rattle.pcap_classic.specs.Records.{Record}
 use Rattle.pcap_classic.specs.Savefile.{Savefile}
@@ -44,8 +42,7 @@ count_filter_at false x xs n h = omega arith
 
 count_filter : {X : Type 0} (f : X → Bool) (xs : List X) → count_by f xs ≡ length (filter f xs)
 count_filter f [] = refl
-count_filter f (x ∷ xs) =
-    count_cons f x xs ∙ count_filter_at (f x) x (filter f xs) (count_by f xs) (count_filter f xs)
+count_filter f (x ∷ xs) = count_cons f x xs ∙ count_filter_at (f x) x (filter f xs) (count_by f xs) (count_filter f xs)
 
 split_at : (b c : Bool) → (c ≡ false → b ≡ true) → cond b 1 0 ≡ cond (b && c) 1 0 + cond (not c) 1 0
 split_at true true h = refl
@@ -82,8 +79,7 @@ from_one-joined : (machine : Machine) (p : ℕ) (capture : List Record) → From
 from_one-joined machine p [] = tt
 from_one-joined machine p (r ∷ rest) =
     from_one-append (packet_entries machine r p) (joined_from machine (p + 1) rest)
-    (from_one-entries machine r p 1 (trace machine r.bytes r.wire) (omega arith))
-    (from_one-joined machine (p + 1) rest)
+    (from_one-entries machine r p 1 (trace machine r.bytes r.wire) (omega arith)) (from_one-joined machine (p + 1) rest)
 
 count_same : (f g : Entry → Bool) (xs : List Entry) → FromOne xs → ((e : Entry) → 1 ≤ e.place.step → f e ≡ g e)
     → count_by f xs ≡ count_by g xs
@@ -106,8 +102,7 @@ to_end machine capture p s =
     ∙ count_filter (λ e. is_after (place_at p (s - 1)) e.place) (joined_from machine 1 capture)
 
 -- what a cursor owes is what it takes to the end
-owed_at : (machine : Machine) (capture : List Record) (w : Cursor) (k : ℕ) → Stands machine capture w
-    → k ≡ w.place.step
+owed_at : (machine : Machine) (capture : List Record) (w : Cursor) (k : ℕ) → Stands machine capture w → k ≡ w.place.step
     → turns_to_end machine capture (place_at w.place.packet k) ≡ owed machine capture (place_at w.place.packet k)
 owed_at machine capture w zero h e = to_end machine capture w.place.packet 0 ∙ omega arith
 owed_at machine capture w (suc k) h e =
@@ -159,8 +154,7 @@ pub run_turns-reply : (machine : Machine) (c : Savefile) (breakpoints : Breakpoi
     → run_turns machine c breakpoints old limit ≡ reply_turns machine c.records old.place reply new.place
 run_turns-reply machine c breakpoints old new limit reply h =
     let a : RunReply × View = run_from machine c breakpoints old limit in
-    turns_in_at (view_at machine c breakpoints old) machine c.records a.0 a.1
-    ∙ rw (h.reply_is, h.place_is) refl
+    turns_in_at (view_at machine c breakpoints old) machine c.records a.0 a.1 ∙ rw (h.reply_is, h.place_is) refl
 
 pub not_before_step : (old mid new : Place) → NotBefore mid old → new.packet ≡ mid.packet → mid.step < new.step
     → NotBefore new old
@@ -174,8 +168,7 @@ not_before_after old mid new h k = elim h [
   | inl less ↦ elim k [ inl more ↦ inl (omega arith) | inr here ↦ inl (let a = here.0 in omega arith) ]
   | inr same ↦ elim k [
     | inl more ↦ inl (let a = same.0 in omega arith)
-    | inr here ↦
-        inr (let a = same.0 in let b = here.0 in omega arith, let a = same.1 in let b = here.1 in omega arith)
+    | inr here ↦ inr (let a = same.0 in let b = here.0 in omega arith, let a = same.1 in let b = here.1 in omega arith)
   ]
 ]
 
@@ -245,5 +238,4 @@ pub step_turns-reply : (machine : Machine) (c : Savefile) (breakpoints : Breakpo
     → step_turns machine c breakpoints old n ≡ reply_turns machine c.records old.place reply new.place
 step_turns-reply machine c breakpoints old new n reply h =
     let a : RunReply × View = step_from machine c breakpoints old n in
-    turns_in_at (view_at machine c breakpoints old) machine c.records a.0 a.1
-    ∙ rw (h.reply_is, h.place_is) refl
+    turns_in_at (view_at machine c breakpoints old) machine c.records a.0 a.1 ∙ rw (h.reply_is, h.place_is) refl

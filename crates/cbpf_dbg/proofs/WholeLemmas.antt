@@ -1,6 +1,5 @@
 -- Runs without a limit, one after another.
-use Rattle.std.proofs.Common.{◌≡◌, ℕ, ◌+◌, ◌^◌, ◌<◌, ◌≤◌, List, [], ◌∷◌, ◌++◌, length, arith, sym, ap, ◌∙◌, refl}
-use Rattle.std.proofs.Common.{true}
+use Rattle.std.proofs.Common.{◌≡◌, ℕ, ◌+◌, ◌^◌, ◌<◌, ◌≤◌, List, [], ◌∷◌, ◌++◌, length, arith, sym, ap, ◌∙◌, refl, true}
 use Rattle.std.specs.Prelude.{Option, Some, None, Result, Ok, Err, not, filter, map}
 use Rattle.std.proofs.lemmas.Bool.Decides.{nat_tests}
 use Rattle.std.proofs.lemmas.List.Sums.{count_by-le-length}
@@ -95,8 +94,7 @@ after_is a b h = grind (arith, nat_tests)
 
 -- the turns to a hit and from it to the end
 pub turns-rest : (machine : Machine) (c : Savefile) (v : View) (stop : Stop) (left : List Stop)
-    → rest machine c.records v.breakpoints v.place ≡ stop ∷ left
-    → turns_to_end machine c.records v.place
+    → rest machine c.records v.breakpoints v.place ≡ stop ∷ left → turns_to_end machine c.records v.place
     ≡ turns_between machine c.records v.place stop.place + turns_to_end machine c.records stop.place
 turns-rest machine c v stop left e =
     turns-split machine c.records v.place stop.place
@@ -141,8 +139,7 @@ pub record Going (machine : Machine) (c : Savefile) (old new : View) (old_found 
   pub spent : after + turns_to_end machine c.records new.place ≡ before + turns_to_end machine c.records old.place
   pub spare : before ≤ 2 ^ 126
 
-last_place-append : (place : Place) (hits : List Stop) (stop : Stop)
-    → last_place place (hits ++ stop ∷ []) ≡ stop.place
+last_place-append : (place : Place) (hits : List Stop) (stop : Stop) → last_place place (hits ++ stop ∷ []) ≡ stop.place
 last_place-append place [] stop = refl
 last_place-append place (h ∷ hits) stop = last_place-append h.place hits stop
 

@@ -11,5 +11,4 @@ returns-clause-stands g c = rw c.enter.ensures (stands-entered _ _ c.args.w.now 
 pub returns-clause-moves : goal.returns-clause-moves
 returns-clause-moves g c =
     subst (λ n. Moves (machine_in c.args.loaded.now) (records_in c.args.loaded.now) c.args.w.now moved.Entry n)
-    (sym c.enter.ensures)
-    (moves-entered _ _ c.args.w.now _ c.requires.stands c.requires.here c.requires.before)
+    (sym c.enter.ensures) (moves-entered _ _ c.args.w.now _ c.requires.stands c.requires.here c.requires.before)

@@ -10,8 +10,7 @@ use Rattle.cbpf_dbg.proofs.resume.resume_at.Goals as goal
 pub returns-clause-found : goal.returns-clause-found
 returns-clause-found g c =
     let r : Record = record_of c.item-item.result in
-    let at : slice_get (records_in c.args.loaded.now) (c.args.place.packet - 1) ≡ Some r =
-    c.item-item.ensures.record in
+    let at : slice_get (records_in c.args.loaded.now) (c.args.place.packet - 1) ≡ Some r = c.item-item.ensures.record in
     let entry = c.in_ok-state.ensures.entry in
     let within =
     slice_get_within (trace (machine_in c.args.loaded.now) r.bytes r.wire) (c.args.place.step - 1) _ entry in
@@ -28,6 +27,3 @@ returns-clause-found g c =
       c.at_entry.ensures.origin,
       rw at (omega (arith, within)),
     )
-
-pub returns-in_err-state-clause-short : goal.returns-in_err-state-clause-short
-returns-in_err-state-clause-short g c = search rules

@@ -31,8 +31,7 @@ returns-in-Entry-clause-goes g c =
     let is = first_of _ _ c.in-Some.ensures in
     let here = first_left _ _ _ _ _ _ is (so.left _ c.requires.can.left.1) in
     let step = so.out refl in
-    goes_more _ _ _ _ _ _ _ _ _ _ _ _ _ _ _ so
-    (goes_to_entry _ _ _ (record_of c.in-Some.here)
+    goes_more _ _ _ _ _ _ _ _ _ _ _ _ _ _ _ so (goes_to_entry _ _ _ (record_of c.in-Some.here)
     so.passes.stands here _ _ c.requires.can.covers 0 c.follow_packet-followed.result c.follow_packet-followed.new.s c.follow.new.self c.go.meter
     c.follow_packet-followed.new.meter c.go.left _ (omega (arith, step)) c.in-Entry.ensures.moved
     c.in-Entry.ensures.cursor c.follow_packet-followed.ensures.follows
@@ -52,8 +51,7 @@ go-preserved g c =
     let is = c.pass.ensures in
     let here = first_left _ _ _ _ _ _ is (so.left _ c.requires.can.left.1) in
     let step = so.out refl in
-    goes_more _ _ _ _ _ _ _ _ _ _ _ _ _ _ _ so
-    (goes_out _ _ _ (record_of c.in-Some.here)
+    goes_more _ _ _ _ _ _ _ _ _ _ _ _ _ _ _ so (goes_out _ _ _ (record_of c.in-Some.here)
     so.passes.stands here _ _ c.requires.can.covers 0 c.follow_packet-followed.result c.follow_packet-followed.new.s c.follow.new.self c.go.meter
     c.follow_packet-followed.new.meter c.go.left _ (omega (arith, step)) c.in_default-follow.ensures.moved
     c.in_default-follow.ensures.cursor c.follow_packet-followed.ensures.follows

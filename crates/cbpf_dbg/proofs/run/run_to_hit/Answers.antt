@@ -21,8 +21,7 @@ returns-then-finish_packet-clause-comes g c =
     let so = c.go.invariant in
     let went = c.if-finish_packet.ensures.goes in
     let hit = at_hit _ _ _ c.args.loaded.now.watched.now _ _ _ _ _ _ c.requires.watched went in
-    rw (c.stop_at.ensures hit.0)
-    (refl, (went.left _ so.left).ends.later (went.entry refl).0, so.passes.hits ∙ hit.2)
+    rw (c.stop_at.ensures hit.0) (refl, (went.left _ so.left).ends.later (went.entry refl).0, so.passes.hits ∙ hit.2)
 
 pub returns-then-not-run_whole-clause-comes : goal.returns-then-not-run_whole-clause-comes
 returns-then-not-run_whole-clause-comes g c =
@@ -78,8 +77,7 @@ returns-then-pauses_at-clause-comes g c =
     } in
     let all = goes_more _ _ _ _ _ _ _ _ _ _ _ _ _ _ _ c.if-finish_packet.ensures.goes watched in
     let hit = at_hit _ _ _ c.args.loaded.now.watched.now _ _ _ _ _ _ c.requires.watched all in
-    rw (c.stop_at-then-pauses_at.ensures hit.0)
-    (refl, (all.left _ so.left).ends.later begun, so.passes.hits ∙ hit.2)
+    rw (c.stop_at-then-pauses_at.ensures hit.0) (refl, (all.left _ so.left).ends.later begun, so.passes.hits ∙ hit.2)
 
 pub returns-then-pauses_at-clause-keeps : goal.returns-then-pauses_at-clause-keeps
 returns-then-pauses_at-clause-keeps g c = λ r there.

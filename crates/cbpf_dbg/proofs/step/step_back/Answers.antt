@@ -34,12 +34,3 @@ returns-clause-answer g c =
       place_is = refl;
       origin_is = refl;
     }
-
-pub returns-clause-turns : goal.returns-clause-turns
-returns-clause-turns g c = search rules
-
-pub returns-clause-stands : goal.returns-clause-stands
-returns-clause-stands g c = search rules
-
-pub returns-then-b-from-clause-answer : goal.returns-then-b-from-clause-answer
-returns-then-b-from-clause-answer g c = search rules

@@ -35,8 +35,7 @@ go-init g c = elim c.if-w-eq0.branch [
 ]
 
 pub advance-requires-clause-here : goal.advance-requires-clause-here
-advance-requires-clause-here g c =
-    first_left _ _ _ _ _ _ (first_of _ _ c.in-Some.ensures) c.go.invariant.records
+advance-requires-clause-here g c = first_left _ _ _ _ _ _ (first_of _ _ c.in-Some.ensures) c.go.invariant.records
 
 -- no more turns are made than were owed
 pub advance-requires-clause-spare : goal.advance-requires-clause-spare

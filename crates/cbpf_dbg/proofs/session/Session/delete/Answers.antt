@@ -2,9 +2,6 @@ use Rattle.std.proofs.Common.{rules}
 use Rattle.cbpf_dbg.proofs.CarryLemmas.{same-but, known-at, known-room, room-after}
 use Rattle.cbpf_dbg.proofs.session.Session.delete.Goals as goal
 
-pub watch_at-requires-clause-inside : goal.watch_at-requires-clause-inside
-watch_at-requires-clause-inside g c = search rules
-
 pub watch_at-requires-clause-room : goal.watch_at-requires-clause-room
 watch_at-requires-clause-room g c = room-after c.args.n _ _ _ (λ q h. c.shift_remove.ensures.updates.2 q h)
     (λ when at. let gone = c.shift_remove.ensures.updates.1 in absurd cc)

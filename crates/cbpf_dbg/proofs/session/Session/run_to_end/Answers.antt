@@ -97,6 +97,3 @@ returns-in-Finished-clause-turns g c =
 
 pub returns-in-Finished-clause-from_start : goal.returns-in-Finished-clause-from_start
 returns-in-Finished-clause-from_start g c = from_start c.args.self.now
-
-pub returns-in_default-clause-refused : goal.returns-in_default-clause-refused
-returns-in_default-clause-refused g c = search rules
