@@ -103,9 +103,8 @@ pub countable : (machine : Machine) (capture : List Record) (w : Cursor) → Sta
     → packets ≡ length capture → packets < 2 ^ 60 → Countable w.place.packet w.counts
 countable machine capture w h packets all few =
     let most = counts-at_most machine capture w.origin w.place.packet in
-    let within = h.within in
     record {
-      packets = omega (arith, within, all, few);
+      packets = omega (arith, h.within, all, few);
       passes = omega (arith, most.passes, ap (λ (n : Counts). n.passes) h.counted, all, few);
       fails = omega (arith, most.fails, ap (λ (n : Counts). n.fails) h.counted, all, few);
       unknown = omega (arith, most.unknown, ap (λ (n : Counts). n.unknown) h.counted, all, few);

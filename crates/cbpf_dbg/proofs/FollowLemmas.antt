@@ -50,8 +50,7 @@ module _ (machine : Machine) (capture : List Record) (w : Cursor) (r : Record) (
   pub step_within : w.place.step ≤ length xs
   step_within = elim (cases_lt 0 w.place.step) [
     | inl begun ↦
-        let within = slice_get_within xs (w.place.step - 1) w.state (entry_at_place machine capture w r h at begun) in
-        omega (arith, within)
+        omega (arith, slice_get_within xs (w.place.step - 1) w.state (entry_at_place machine capture w r h at begun))
     | inr before ↦ omega (arith, before)
   ]
 
@@ -67,12 +66,10 @@ module _ (machine : Machine) (capture : List Record) (w : Cursor) (r : Record) (
       ≡ length xs + length (ahead machine capture (place_at w.place.packet (length xs)))
   ahead_long k within =
       let later = joined_from machine (w.place.packet + 1) (drop w.place.packet capture) in
-      let here = ahead-in machine capture w.place.packet k r from_one at in
-      let end = ahead-in machine capture w.place.packet (length xs) r from_one at in
       omega (
         arith,
-        ap length here,
-        ap length end,
+        ap length (ahead-in machine capture w.place.packet k r from_one at),
+        ap length (ahead-in machine capture w.place.packet (length xs) r from_one at),
         length-append (entries_from machine r w.place.packet (k + 1) (drop k xs)) later,
         length-append (entries_from machine r w.place.packet (length xs + 1) (drop (length xs) xs)) later,
         length_entries machine r w.place.packet (k + 1) (drop k xs),
@@ -117,21 +114,19 @@ module _ (machine : Machine) (capture : List Record) (w : Cursor) (r : Record) (
         → rest machine capture breakpoints w.place
         ≡ rest machine capture breakpoints (place_at w.place.packet (w.place.step + n - 1))
     on_hits n s f =
-        let some = f.0 in
         let m : ℕ = w.place.step + n - 1 in
         let within = slice_get_within xs m s f.2 in
-        entries-passed breakpoints w.place.step (n - 1) m (omega (arith, some)) (omega (arith, within)) (no_hits m f.1)
+        entries-passed breakpoints w.place.step (n - 1) m (omega (arith, f.0)) (omega (arith, within)) (no_hits m f.1)
 
     on_owed : (n : ℕ) (s : Registers)
         → Follows pauses xs (outcome machine r.bytes r.wire) w.place.step w.state s (Watched n)
         → owed machine capture w.place + 1 ≡ n + owed machine capture (moved_on w n s).place + min w.place.step 1
     on_owed n s f =
         let some = f.0 in
-        let within = slice_get_within xs (w.place.step + n - 1) s f.2 in
         omega (
           arith,
           ahead_long w.place.step step_within,
-          ahead_long (w.place.step + n) (omega (arith, within, some)),
+          ahead_long (w.place.step + n) (omega (arith, slice_get_within xs (w.place.step + n - 1) s f.2, some)),
           some,
         )
 
@@ -151,48 +146,7 @@ module _ (machine : Machine) (capture : List Record) (w : Cursor) (r : Record) (
     steps_fit k f s step follows n e =
         let on : Follows pauses xs (outcome machine r.bytes r.wire) w.place.step w.state s (Watched n) =
         rw (step, e) at follows in
-        let within = slice_get_within xs (w.place.step + n - 1) s on.2 in
-        omega (arith, within, steps_few)
-
-    on_entry : (n : ℕ) (s : Registers) (before after : ℕ)
-        → Follows pauses xs (outcome machine r.bytes r.wire) w.place.step w.state s (Watched n)
-        → after + 1 ≡ before + n + min w.place.step 1 → (left : List Record) (others : List Record) → left ≡ r ∷ others
-        → GoesOn machine capture breakpoints pauses w (moved_on w n s) left left before after true
-    on_entry n s before after f turns left others is =
-        let some = f.0 in
-        record {
-          passes = record {
-            stands = stands_at machine capture w r h at (w.place.step + n) s f.2;
-            origin = refl;
-            order = inr (refl, omega arith);
-            hits = on_hits n s f;
-            spent = omega (arith, on_owed n s f, turns);
-          };
-          left = λ end there. left_here capture w.place end left r others is there (moved_on w n s).place refl;
-          entry = λ _. (omega (arith, some), f.3);
-          out = λ (z : true ≡ false). absurd cc;
-        }
-
-    on_packet : (o : Outcome) (s : Registers) (before after : ℕ)
-        → Follows pauses xs (outcome machine r.bytes r.wire) w.place.step w.state s (Ended o)
-        → after + 1 ≡ before + (length xs + 1 - w.place.step) + min w.place.step 1
-        → (left : List Record) (others : List Record) → left ≡ r ∷ others
-        → GoesOn machine capture breakpoints pauses w (passed (record w { state = s }) o) left others before after false
-    on_packet o s before after f turns left others is =
-        let leave = ahead-leave machine capture w.place.packet (length xs) r from_one at (omega arith) in
-        let same : passed w (outcome machine r.bytes r.wire) ≡ passed (record w { state = s }) o = rw (f.1, f.2) refl in
-        record {
-          passes = record {
-            stands = subst (λ u. Stands machine capture u) same (stands-passed machine capture w r h at);
-            origin = refl;
-            order = inl (omega arith);
-            hits = end_hits f.0;
-            spent = omega (arith, ahead_long w.place.step step_within, ap length leave, turns, step_within);
-          };
-          left = λ end there. left_past capture w.place end left r others is there from_one;
-          entry = λ (z : false ≡ true). absurd cc;
-          out = λ _. refl;
-        }
+        omega (arith, slice_get_within xs (w.place.step + n - 1) s on.2, steps_few)
 
     -- where the packet was followed from its k-th entry on
     pub goes_to_entry : (k : ℕ) (f : Followed) (s : Registers) (v : Cursor) (before after : ℕ)
@@ -202,7 +156,19 @@ module _ (machine : Machine) (capture : List Record) (w : Cursor) (r : Record) (
         → GoesOn machine capture breakpoints pauses w v left left before after true
     goes_to_entry k (Ended o) s v before after left others step moves e f turns is = absurd cc
     goes_to_entry k (Watched n) s v before after left others step moves e f turns is =
-        rw e (on_entry n s before after (rw step at f) (rw step at turns) left others is)
+        let on : Follows pauses xs (outcome machine r.bytes r.wire) w.place.step w.state s (Watched n) = rw step at f in
+        rw e (record {
+          passes = record {
+            stands = stands_at machine capture w r h at (w.place.step + n) s on.2;
+            origin = refl;
+            order = inr (refl, omega arith);
+            hits = on_hits n s on;
+            spent = omega (arith, on_owed n s on, turns, step);
+          };
+          left = λ end there. left_here capture w.place end left r others is there (moved_on w n s).place refl;
+          entry = λ _. (omega (arith, on.0), on.3);
+          out = λ (z : true ≡ false). absurd cc;
+        })
 
     pub goes_out : (k : ℕ) (f : Followed) (s : Registers) (v : Cursor) (before after : ℕ)
         (left : List Record) (others : List Record) → k ≡ w.place.step → moved.Packet ≡ moved_by f
@@ -211,7 +177,22 @@ module _ (machine : Machine) (capture : List Record) (w : Cursor) (r : Record) (
         → GoesOn machine capture breakpoints pauses w v left others before after false
     goes_out k (Watched n) s v before after left others step moves e f turns is = absurd cc
     goes_out k (Ended o) s v before after left others step moves e f turns is =
-        rw e (on_packet o s before after (rw step at f) (rw step at turns) left others is)
+        let on : Follows pauses xs (outcome machine r.bytes r.wire) w.place.step w.state s (Ended o) = rw step at f in
+        let leave = ahead-leave machine capture w.place.packet (length xs) r from_one at (omega arith) in
+        let same : passed w (outcome machine r.bytes r.wire) ≡ passed (record w { state = s }) o =
+        rw (on.1, on.2) refl in
+        rw e (record {
+          passes = record {
+            stands = subst (λ u. Stands machine capture u) same (stands-passed machine capture w r h at);
+            origin = refl;
+            order = inl (omega arith);
+            hits = end_hits on.0;
+            spent = omega (arith, ahead_long w.place.step step_within, ap length leave, turns, step, step_within);
+          };
+          left = λ end there. left_past capture w.place end left r others is there from_one;
+          entry = λ (z : false ≡ true). absurd cc;
+          out = λ _. refl;
+        })
 
     -- where it pauses first
     pub first_pause : (f : Followed) (s : Registers) (v : Cursor) → w.place.step ≡ 0 → moved.Entry ≡ moved_by f

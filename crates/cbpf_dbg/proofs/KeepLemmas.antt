@@ -43,8 +43,7 @@ keeps_few machine capture old w r kept h at step e =
     let entry : slice_get (trace machine r.bytes r.wire) old.step ≡ Some w.state = rw i at here in
     let within = slice_get_within (trace machine r.bytes r.wire) old.step w.state entry in
     let few = length-trace_from machine r.bytes r.wire zero_state in
-    let least = sound_few machine.list h.sound in
-    omega (arith, within, few, least, e, length-take old.step (trace machine r.bytes r.wire))
+    omega (arith, within, few, sound_few machine.list h.sound, e, length-take old.step (trace machine r.bytes r.wire))
 
 pub keeps_clear : (after : List Registers → Type 0) (machine : Machine) (capture : List Record) (new : Place)
     → new.step ≡ 0 → after [] → Keeps after machine capture new

@@ -101,8 +101,7 @@ all_left machine capture w left stands e =
         within = omega arith;
         most = stands.within;
         later = λ begun. let at = stands.at begun in
-            let within = slice_get_within capture (w.place.packet - 1) at.0 at.1 in
-            omega (arith, within);
+            omega (arith, slice_get_within capture (w.place.packet - 1) at.0 at.1);
       };
     }
 

@@ -17,10 +17,10 @@ use Rattle.cbpf_dbg.specs.Laws.{Rises, EntriesRise, HitsRise, RestRises}
 use Rattle.cbpf_dbg.proofs.JoinedLemmas.{entry}
 
 -- an entry of the packet at this step or a later one
-abbrev From : ℕ → ℕ → Entry → Type 0
+abbrev pub From : ℕ → ℕ → Entry → Type 0
 From p k e = (e.place.packet ≡ p) × (k ≤ e.place.step)
 
-entries-from : (machine : Machine) (r : Record) (p k : ℕ) (xs : List Registers)
+pub entries-from : (machine : Machine) (r : Record) (p k : ℕ) (xs : List Registers)
     → All (From p k) (entries_from machine r p k xs)
 entries-from machine r p k [] = λ i d h. absurd (omega arith)
 entries-from machine r p k (x ∷ xs) =

@@ -66,19 +66,15 @@ filter-head : {X : Type 0} (f : X → Bool) (xs : List X) (x : X) (ys : List X) 
 filter-head f [] x ys h = absurd cc
 filter-head f (y ∷ xs) x ys h = filter-head_at f y xs x ys (f y) refl (λ x' ys' g. filter-head f xs x' ys' g) h
 
-not_before : (a b : Place) → is_after a b ≡ true → a.packet ≤ b.packet
-not_before a b h = grind (arith, nat_tests)
-
-rest-later : (machine : Machine) (capture : List Record) (breakpoints : Breakpoints) (place : Place) (h : Stop)
-    (more : List Stop) → rest machine capture breakpoints place ≡ h ∷ more → place.packet ≤ h.place.packet
-rest-later machine capture breakpoints place h more e =
-    not_before place h.place
-    (filter-head (λ (k : Stop). is_after place k.place) (stops machine capture breakpoints) h more e)
-
 pub rest-head : (machine : Machine) (capture : List Record) (breakpoints : Breakpoints) (place : Place) (h : Stop)
     (more : List Stop) → rest machine capture breakpoints place ≡ h ∷ more → is_after place h.place ≡ true
 rest-head machine capture breakpoints place h more e =
     filter-head (λ (k : Stop). is_after place k.place) (stops machine capture breakpoints) h more e
+
+rest-later : (machine : Machine) (capture : List Record) (breakpoints : Breakpoints) (place : Place) (h : Stop)
+    (more : List Stop) → rest machine capture breakpoints place ≡ h ∷ more → place.packet ≤ h.place.packet
+rest-later machine capture breakpoints place h more e =
+    let after = rest-head machine capture breakpoints place h more e in grind (arith, nat_tests)
 
 module _ (machine : Machine) (c : Savefile) (breakpoints : Breakpoints) (limit : Option ℕ) (w0 : Cursor) (end : ℕ)
     (is : end ≡ end_of limit w0.place.packet (length c.records)) where
@@ -91,9 +87,8 @@ module _ (machine : Machine) (c : Savefile) (breakpoints : Breakpoints) (limit :
   pub run_stopped : (w2 : Cursor) (h : Stop) → w2.origin ≡ w0.origin → NotBefore w2.place w0.place
       → ComesTo machine c.records breakpoints end w0 (Some h) w2 → Runs machine c breakpoints w0 w2 limit (Stopped h)
   run_stopped w2 h origin order comes =
-      let forward = not_before_forward w2.place w0.place order in
       let inside = within_end limit w0.place.packet h.place.packet (length c.records) (rw is at comes.1)
-      (rw comes.0 at forward) in
+      (rw comes.0 at (not_before_forward w2.place w0.place order)) in
       record {
         reply_is = rw (comes.2, inside) refl;
         place_is = rw (comes.2, inside) comes.0;
@@ -109,11 +104,7 @@ module _ (machine : Machine) (c : Savefile) (breakpoints : Breakpoints) (limit :
       rw (← comes.1) (run_to_limit view0 machine c.records limit end (hits w1.place) is here
       (λ h more e. rw packet at (rest-later machine c.records breakpoints w1.place h more e))) in
       let counted : w1.counts ≡ counts machine c.records w0.origin end = rw (← origin, ← packet) stands.counted in
-      record {
-        reply_is = rw out (ap Limit counted);
-        place_is = rw out comes.0;
-        origin_is = rw out origin;
-      }
+      record { reply_is = rw out (ap Limit counted); place_is = rw out comes.0; origin_is = rw out origin }
 
   -- after the last packet nothing is owed, and no hit is ahead
   pub none_ahead : (w1 : Cursor) → ComesTo machine c.records breakpoints end w0 None w1 → length c.records < end
@@ -168,11 +159,7 @@ module _ (machine : Machine) (c : Savefile) (breakpoints : Breakpoints) (n : ℕ
       → stop ≡ stop_at why.Step (entry_here machine r w2) → w2.origin ≡ w0.origin
       → StepsOn machine c breakpoints w0 w2 n (Stopped stop)
   step_stopped w2 r stop sought is origin =
-      record {
-        reply_is = rw (sought, is) refl;
-        place_is = rw sought refl;
-        origin_is = rw sought origin;
-      }
+      record { reply_is = rw (sought, is) refl; place_is = rw sought refl; origin_is = rw sought origin }
 
   pub step_finished : (w1 w2 : Cursor) → slice_get (ahead machine c.records w0.place) (n - 1) ≡ None
       → Stands machine c.records w1 → w1.origin ≡ w0.origin
@@ -181,8 +168,4 @@ module _ (machine : Machine) (c : Savefile) (breakpoints : Breakpoints) (n : ℕ
   step_finished w1 w2 sought stands origin end place2 origin2 =
       let counted : w1.counts ≡ counts machine c.records w0.origin (length c.records + 1) =
       rw (← origin, ← end) stands.counted in
-      record {
-        reply_is = rw sought (ap Finished counted);
-        place_is = rw sought place2;
-        origin_is = rw sought origin2;
-      }
+      record { reply_is = rw sought (ap Finished counted); place_is = rw sought place2; origin_is = rw sought origin2 }

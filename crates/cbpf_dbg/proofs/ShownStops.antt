@@ -131,9 +131,8 @@ within-entry_in : (machine : Machine) (capture : List Record) (place : Place) (o
     → entry_in machine o place ≡ Some e → EntryWithin machine capture why.Step e
 within-entry_in machine capture place None e sound from_one at is = absurd cc
 within-entry_in machine capture place (Some r) e sound from_one at is =
-    let inside = slice_get_within capture (place.packet - 1) r at in
     within-entry_at machine capture place r (slice_get (trace machine r.bytes r.wire) (place.step - 1)) e
-    from_one (omega (arith, inside, from_one))
+    from_one (omega (arith, slice_get_within capture (place.packet - 1) r at, from_one))
     (λ s here. (trace-is_run machine r.bytes r.wire sound).inside (place.step - 1) s here) is
 
 module _ (machine : Machine) (c : Savefile) (v : View) (h : Holds machine c v) where

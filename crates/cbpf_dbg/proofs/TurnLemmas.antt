@@ -25,6 +25,9 @@ use Rattle.cbpf_dbg.specs.View.{View}
 use Rattle.cbpf_dbg.specs.Commands.{turns_in}
 use Rattle.cbpf_dbg.specs.Cursor.{Stands, owed, view_at, NotBefore, Runs, run_turns, run_from, StepsOn, step_turns}
 use Rattle.cbpf_dbg.specs.Cursor.{step_from}
+use Rattle.std.specs.List.{All}
+use Rattle.std.proofs.lemmas.List.Elements.{All-append, All-head, All-tail, All-weaker}
+use Rattle.cbpf_dbg.proofs.RisingLemmas.{From, entries-from}
 use Rattle.cbpf_dbg.proofs.CursorLemmas.{packet_from_one}
 use Rattle.cbpf_dbg.proofs.JoinedLemmas.{place_at, ahead-entry, rest-ahead}
 use Rattle.cbpf_dbg.specs.Breakpoints.{Breakpoints}
@@ -55,37 +58,27 @@ count_split : {X : Type 0} (f g : X → Bool) (xs : List X) → ((x : X) → g x
 count_split f g [] h = refl
 count_split f g (x ∷ xs) h =
     let a = count_cons f x xs in
-    let b = count_cons (λ y. f y && g y) x xs in
-    let c = count_cons (λ y. not (g y)) x xs in
     let d = split_at (f x) (g x) (h x) in
-    let ih = count_split f g xs h in
-    omega (arith, a, b, c, d, ih)
+    omega (arith, a, count_cons (λ y. f y && g y) x xs, count_cons (λ y. not (g y)) x xs, d, count_split f g xs h)
 
 -- every entry has a step from 1 on
-abbrev pub FromOne : List Entry → Type 0
-FromOne [] = Unit {0}
-FromOne (e ∷ es) = (1 ≤ e.place.step) × FromOne es
+abbrev FromOne : Entry → Type 0
+FromOne e = 1 ≤ e.place.step
 
-from_one-append : (xs ys : List Entry) → FromOne xs → FromOne ys → FromOne (xs ++ ys)
-from_one-append [] ys h k = k
-from_one-append (x ∷ xs) ys h k = (h.0, from_one-append xs ys h.1 k)
-
-from_one-entries : (machine : Machine) (r : Record) (p k : ℕ) (xs : List Registers) → 1 ≤ k
-    → FromOne (entries_from machine r p k xs)
-from_one-entries machine r p k [] h = tt
-from_one-entries machine r p k (x ∷ xs) h = (h, from_one-entries machine r p (k + 1) xs (omega arith))
-
-from_one-joined : (machine : Machine) (p : ℕ) (capture : List Record) → FromOne (joined_from machine p capture)
-from_one-joined machine p [] = tt
+from_one-joined : (machine : Machine) (p : ℕ) (capture : List Record) → All FromOne (joined_from machine p capture)
+from_one-joined machine p [] = λ i d h. absurd (omega arith)
 from_one-joined machine p (r ∷ rest) =
-    from_one-append (packet_entries machine r p) (joined_from machine (p + 1) rest)
-    (from_one-entries machine r p 1 (trace machine r.bytes r.wire) (omega arith)) (from_one-joined machine (p + 1) rest)
+    All-append FromOne (packet_entries machine r p) (joined_from machine (p + 1) rest)
+    (All-weaker (From p 1) FromOne (λ e h. h.1) (packet_entries machine r p)
+    (entries-from machine r p 1 (trace machine r.bytes r.wire))) (from_one-joined machine (p + 1) rest)
 
-count_same : (f g : Entry → Bool) (xs : List Entry) → FromOne xs → ((e : Entry) → 1 ≤ e.place.step → f e ≡ g e)
+count_same : (f g : Entry → Bool) (xs : List Entry) → All FromOne xs → ((e : Entry) → 1 ≤ e.place.step → f e ≡ g e)
     → count_by f xs ≡ count_by g xs
 count_same f g [] h same = refl
-count_same f g (x ∷ xs) h same =
-    count_cons f x xs ∙ rw (same x h.0, count_same f g xs h.1 same) (sym (count_cons g x xs))
+count_same f g (x ∷ xs) h same = count_cons f x xs ∙ rw (
+  same x (All-head FromOne x xs h),
+  count_same f g xs (All-tail FromOne x xs h) same,
+) (sym (count_cons g x xs))
 
 -- at or after a place is after the one before
 at_or_after : (p s q k : ℕ) → 1 ≤ k
@@ -178,10 +171,8 @@ pub spent_between : (machine : Machine) (capture : List Record) (old new : Curso
     → after + owed machine capture new.place ≡ before + owed machine capture old.place
     → after ≡ before + turns_between machine capture old.place new.place
 spent_between machine capture old new before after h k order e =
-    let a = owed-turns machine capture old h in
-    let b = owed-turns machine capture new k in
     let c = turns-split machine capture old.place new.place order in
-    omega (arith, a, b, c, e)
+    omega (arith, owed-turns machine capture old h, owed-turns machine capture new k, c, e)
 
 length_filter : {X : Type 0} (f : X → Bool) (xs : List X) → length (filter f xs) ≤ length xs
 length_filter f [] = omega arith

@@ -14,18 +14,17 @@ use Rattle.cbpf_dbg.proofs.cursor.leave_entry.Goals as goal
 
 pub turn_in_place-requires-clause-inside : goal.turn_in_place-requires-clause-inside
 turn_in_place-requires-clause-inside g c =
-    (goes (machine_in c.args.loaded.now) (records_in c.args.loaded.now) c.args.w.now _ c.requires.stands
+    (goes _ _ c.args.w.now _ c.requires.stands
     c.requires.here c.requires.begun).inside
 
 pub go_on-requires : goal.go_on-requires
 go_on-requires g c =
-    let here = step_within _ _ c.args.w.now _ c.requires.stands c.requires.here in
     let few = steps_few _ _ c.args.w.now _ c.requires.stands c.requires.here in
-    omega (arith, here, few)
+    omega (arith, step_within _ _ c.args.w.now _ c.requires.stands c.requires.here, few)
 
 pub pass-requires : goal.pass-requires
 pass-requires g c =
-    countable (machine_in c.args.loaded.now) (records_in c.args.loaded.now) c.args.w.now c.requires.stands _
+    countable _ _ c.args.w.now c.requires.stands _
     c.count-few.ensures.value c.count-few.ensures.bounded
 
 pub returns-in-None : goal.returns-in-None

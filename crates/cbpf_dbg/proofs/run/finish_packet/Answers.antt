@@ -11,14 +11,13 @@ use Rattle.cbpf_dbg.proofs.run.finish_packet.Goals as goal
 
 pub follow-followed-requires-clause-spare : goal.follow-followed-requires-clause-spare
 follow-followed-requires-clause-spare g c =
-    let here = first_left _ _ _ _ _ _ (first_of _ _ c.in-Some.ensures) c.requires.can.left.1 in
     let few = steps_few _ _ _ (record_of c.in-Some.here)
-    c.requires.can.stands here in
+    c.requires.can.stands (first_left _ _ _ _ _ _ (first_of _ _ c.in-Some.ensures) c.requires.can.left.1) in
     omega (arith, few, c.requires.can.spare)
 
 pub follow-requires-clause-counts : goal.follow-requires-clause-counts
 follow-requires-clause-counts g c =
-    countable (machine_in c.args.loaded.now) (records_in c.args.loaded.now) c.args.cursor.now c.requires.can.stands _
+    countable _ _ c.args.cursor.now c.requires.can.stands _
     c.count-few.ensures.value c.count-few.ensures.bounded
 
 pub follow-requires-clause-steps : goal.follow-requires-clause-steps

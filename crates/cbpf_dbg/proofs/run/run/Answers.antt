@@ -8,18 +8,15 @@ use Rattle.cbpf_dbg.proofs.run.run.Goals as goal
 
 pub run_to_hit-stop-requires-clause-spare : goal.run_to_hit-stop-requires-clause-spare
 run_to_hit-stop-requires-clause-spare g c =
-    let most = owed_bound (machine_in c.args.loaded.now) (records_in c.args.loaded.now) c.args.cursor.now.place
-    c.requires.stands.sound (omega (arith, c.count-count.ensures.bounded, c.count-count.ensures.value)) in
-    let early = c.requires.early in
-    omega (arith, most, early)
+    let most = owed_bound (machine_in c.args.loaded.now) (records_in c.args.loaded.now) c.args.cursor.now.place c.requires.stands.sound (omega (arith, c.count-count.ensures.bounded, c.count-count.ensures.value)) in
+    omega (arith, most, c.requires.early)
 
 pub run_to_hit-stop-requires-clause-ends : goal.run_to_hit-stop-requires-clause-ends
 run_to_hit-stop-requires-clause-ends g c =
     is_end _ _ c.args.limit _ (rw c.count-count.ensures.value at c.end_of-end.ensures) c.requires.limit
     c.requires.stands.within (λ begun.
     let at = c.requires.stands.at begun in
-    let within = slice_get_within (records_in c.args.loaded.now) (c.args.cursor.now.place.packet - 1) at.0 at.1 in
-    omega (arith, within))
+    omega (arith, slice_get_within (records_in c.args.loaded.now) (c.args.cursor.now.place.packet - 1) at.0 at.1))
 
 pub returns-in-Some-clause-runs : goal.returns-in-Some-clause-runs
 returns-in-Some-clause-runs g c =

@@ -12,7 +12,7 @@ follow_packet-followed-requires g c = omega (arith, c.requires.can.spare, c.go.i
 
 pub follow-requires-clause-counts : goal.follow-requires-clause-counts
 follow-requires-clause-counts g c =
-    countable (machine_in c.args.loaded.now) (records_in c.args.loaded.now) c.go.cursor c.go.invariant.passes.stands _
+    countable _ _ c.go.cursor c.go.invariant.passes.stands _
     c.count-few.ensures.value c.count-few.ensures.bounded
 
 pub follow-requires-clause-steps : goal.follow-requires-clause-steps
@@ -30,10 +30,9 @@ returns-in-Entry-clause-goes g c =
     let so = c.go.invariant in
     let is = first_of _ _ c.in-Some.ensures in
     let here = first_left _ _ _ _ _ _ is (so.left _ c.requires.can.left.1) in
-    let step = so.out refl in
     goes_more _ _ _ _ _ _ _ _ _ _ _ _ _ _ _ so (goes_to_entry _ _ _ (record_of c.in-Some.here)
     so.passes.stands here _ _ c.requires.can.covers 0 c.follow_packet-followed.result c.follow_packet-followed.new.s c.follow.new.self c.go.meter
-    c.follow_packet-followed.new.meter c.go.left _ (omega (arith, step)) c.in-Entry.ensures.moved
+    c.follow_packet-followed.new.meter c.go.left _ (omega (arith, so.out refl)) c.in-Entry.ensures.moved
     c.in-Entry.ensures.cursor c.follow_packet-followed.ensures.follows
     (omega (arith, c.follow_packet-followed.ensures.turns)) is)
 
@@ -50,10 +49,9 @@ go-preserved g c =
     let so = c.go.invariant in
     let is = c.pass.ensures in
     let here = first_left _ _ _ _ _ _ is (so.left _ c.requires.can.left.1) in
-    let step = so.out refl in
     goes_more _ _ _ _ _ _ _ _ _ _ _ _ _ _ _ so (goes_out _ _ _ (record_of c.in-Some.here)
     so.passes.stands here _ _ c.requires.can.covers 0 c.follow_packet-followed.result c.follow_packet-followed.new.s c.follow.new.self c.go.meter
-    c.follow_packet-followed.new.meter c.go.left _ (omega (arith, step)) c.in_default-follow.ensures.moved
+    c.follow_packet-followed.new.meter c.go.left _ (omega (arith, so.out refl)) c.in_default-follow.ensures.moved
     c.in_default-follow.ensures.cursor c.follow_packet-followed.ensures.follows
     (omega (arith, c.follow_packet-followed.ensures.turns)) is)
 

@@ -36,28 +36,22 @@ returns-then-not-run_whole-clause-comes g c =
 pub start-requires-clause-few : goal.start-requires-clause-few
 start-requires-clause-few g c =
     let ran = c.if-not-run_whole.ensures.goes in
-    let begun = (ran.entry refl).0 in
-    let at = ran.passes.stands.at begun in
-    omega (
-      arith,
-      step_within (machine_in c.args.loaded.now) (records_in c.args.loaded.now) _ at.0 ran.passes.stands at.1,
-      steps_few (machine_in c.args.loaded.now) (records_in c.args.loaded.now) _ at.0 ran.passes.stands at.1,
-    )
+    let at = ran.passes.stands.at ((ran.entry refl).0) in
+    omega (arith, step_within _ _ _ at.0 ran.passes.stands at.1, steps_few _ _ _ at.0 ran.passes.stands at.1)
 
 pub stop_at-requires-then-pauses_at : goal.stop_at-requires-then-pauses_at
 stop_at-requires-then-pauses_at g c =
     let ran = c.if-not-run_whole.ensures.goes in
     let begun = (ran.entry refl).0 in
     let at = ran.passes.stands.at begun in
-    (goes (machine_in c.args.loaded.now) (records_in c.args.loaded.now) _ at.0 ran.passes.stands at.1 begun).inside
+    (goes _ _ _ at.0 ran.passes.stands at.1 begun).inside
 
 pub pauses_at-requires : goal.pauses_at-requires
 pauses_at-requires g c =
     let ran = c.if-not-run_whole.ensures.goes in
     let begun = (ran.entry refl).0 in
     let at = ran.passes.stands.at begun in
-    let inside =
-    (goes (machine_in c.args.loaded.now) (records_in c.args.loaded.now) _ at.0 ran.passes.stands at.1 begun).inside in
+    let inside = (goes _ _ _ at.0 ran.passes.stands at.1 begun).inside in
     omega (arith, inside, sound_few c.args.loaded.now.program.now ran.passes.stands.sound)
 
 pub returns-then-pauses_at-clause-comes : goal.returns-then-pauses_at-clause-comes
@@ -86,7 +80,7 @@ returns-then-pauses_at-clause-keeps g c = λ r there.
     let at = ran.passes.stands.at begun in
     c.start.ensures.stands (trace (machine_in c.args.loaded.now) r.bytes r.wire)
     (first_entry (machine_in c.args.loaded.now) r.bytes r.wire ran.passes.stands.sound)
-    (entry_at_place (machine_in c.args.loaded.now) (records_in c.args.loaded.now) _ r ran.passes.stands there begun)
+    (entry_at_place _ _ _ r ran.passes.stands there begun)
 
 pub go-preserved : goal.go-preserved
 go-preserved g c =
@@ -95,8 +89,7 @@ go-preserved g c =
     let begun = (ran.entry refl).0 in
     let at = ran.passes.stands.at begun in
     let all = goes_more _ _ _ _ _ _ _ _ _ _ _ _ _ _ _ c.if-finish_packet.ensures.goes ran in
-    let inside =
-    (goes (machine_in c.args.loaded.now) (records_in c.args.loaded.now) _ at.0 ran.passes.stands at.1 begun).inside in
+    let inside = (goes _ _ _ at.0 ran.passes.stands at.1 begun).inside in
     let none = sym (c.requires.watched at.0.bytes at.0.wire _ inside) ∙ (sym c.pauses_at.ensures
     ∙ c.if-pauses_at.false) in
     record {
@@ -104,5 +97,5 @@ go-preserved g c =
       left = all.left _ so.left;
       keeps = λ r there. c.start.ensures.stands (trace (machine_in c.args.loaded.now) r.bytes r.wire)
           (first_entry (machine_in c.args.loaded.now) r.bytes r.wire ran.passes.stands.sound)
-          (entry_at_place (machine_in c.args.loaded.now) (records_in c.args.loaded.now) _ r ran.passes.stands there begun);
+          (entry_at_place _ _ _ r ran.passes.stands there begun);
     }

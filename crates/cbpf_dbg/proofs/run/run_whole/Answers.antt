@@ -10,9 +10,8 @@ use Rattle.cbpf_dbg.proofs.run.run_whole.Goals as goal
 pub returns-then-len-first_gap-clause-near : goal.returns-then-len-first_gap-clause-near
 returns-then-len-first_gap-clause-near g c = λ paused.
     let ran = c.run_records-then-len-first_gap.ensures.goes in
-    let begun = (ran.entry paused).0 in
-    let at = ran.passes.stands.at begun in
-    let within = step_within (machine_in c.args.loaded.now) (records_in c.args.loaded.now) _ at.0 ran.passes.stands at.1 in
+    let at = ran.passes.stands.at ((ran.entry paused).0) in
+    let within = step_within _ _ _ at.0 ran.passes.stands at.1 in
     let few = length-trace_from (machine_in c.args.loaded.now) at.0.bytes at.0.wire zero_state in
     omega (arith, within, few, c.if-len-first_gap.true, c.len.ensures.value, c.first_gap-first_gap.ensures.value)
 
@@ -21,7 +20,7 @@ returns-clause-near g c = λ paused.
     let ran = c.run_records-2.ensures in
     let begun = (ran.goes.entry paused).0 in
     let at = ran.goes.passes.stands.at begun in
-    let few = few_before (machine_in c.args.loaded.now) (records_in c.args.loaded.now)
+    let few = few_before _ _
     (is_watched c.args.loaded.now.watched.now) c.first_gap-first_gap.result _ at.0 ran.goes.passes.stands begun at.1
     (ran.first paused at.0 at.1) in
     omega (arith, few, c.first_gap-first_gap.ensures.value)

@@ -10,7 +10,7 @@ use Rattle.cbpf_dbg.proofs.step.skip_packets.Goals as goal
 
 pub pass-requires : goal.pass-requires
 pass-requires g c =
-    countable (machine_in c.args.loaded.now) (records_in c.args.loaded.now) c.skip.w c.skip.invariant.nears.stands _
+    countable _ _ c.skip.w c.skip.invariant.nears.stands _
     c.count-few.ensures.value c.count-few.ensures.bounded
 
 pub skip-preserved : goal.skip-preserved
@@ -22,7 +22,7 @@ skip-preserved g c =
     let made : (c.spent.result - c.spent-before.result)
     ≡ length (trace (machine_in c.args.loaded.now) c.in-Some.here.bytes.now c.in-Some.here.wire) =
     omega (arith, c.run_packet.ensures.turns, c.spent-before.ensures, c.spent.ensures) in
-    let past = nears_past (machine_in c.args.loaded.now) (records_in c.args.loaded.now) c.skip.w c.pass.new.self
+    let past = nears_past _ _ c.skip.w c.pass.new.self
     (record_of c.in-Some.here) c.skip.left (c.spent.result - c.spent-before.result) c.skip.meter
     c.run_packet.new.meter stands (first_left _ _ _ _ _ _ is so.records) so.before on made (omega (
       arith,

@@ -13,10 +13,8 @@ use Rattle.cbpf_dbg.proofs.step.step_on.Goals.{then-w-eq0, else-w-eq0}
 
 pub skip_packets-left-requires-clause-spare : goal.skip_packets-left-requires-clause-spare
 skip_packets-left-requires-clause-spare g c =
-    let most = owed_bound (machine_in c.args.loaded.now) (records_in c.args.loaded.now) c.args.w.now.place
-    c.requires.stands.sound (omega (arith, c.count-count.ensures.bounded, c.count-count.ensures.value)) in
-    let early = c.requires.early in
-    omega (arith, most, early)
+    let most = owed_bound (machine_in c.args.loaded.now) (records_in c.args.loaded.now) c.args.w.now.place c.requires.stands.sound (omega (arith, c.count-count.ensures.bounded, c.count-count.ensures.value)) in
+    omega (arith, most, c.requires.early)
 
 pub go-init : goal.go-init
 go-init g c = elim c.if-w-eq0.branch [
@@ -27,7 +25,7 @@ go-init g c = elim c.if-w-eq0.branch [
         (records_in c.args.loaded.now) _ w.skip_packets-left.ensures.before w.clear.ensures;
   })
   | else-w-eq0 w ↦ rw (w.meter-is, w.w-is, w.trail-is, w.left-is, w.records-is) (record {
-    nears = nears_none (machine_in c.args.loaded.now) (records_in c.args.loaded.now) _ _ _ c.requires.stands
+    nears = nears_none _ _ _ _ _ c.requires.stands
         c.requires.some;
     records = all_left _ _ _ _ c.requires.stands (rw c.count-count.ensures.value at c.records-records.ensures);
     keeps = c.requires.keeps;
@@ -40,23 +38,20 @@ advance-requires-clause-here g c = first_left _ _ _ _ _ _ (first_of _ _ c.in-Som
 -- no more turns are made than were owed
 pub advance-requires-clause-spare : goal.advance-requires-clause-spare
 advance-requires-clause-spare g c =
-    let most = owed_bound (machine_in c.args.loaded.now) (records_in c.args.loaded.now) c.args.w.now.place
-    c.requires.stands.sound (omega (arith, c.count-count.ensures.bounded, c.count-count.ensures.value)) in
-    let early = c.requires.early in
-    omega (arith, most, early, c.go.invariant.nears.spent)
+    let most = owed_bound (machine_in c.args.loaded.now) (records_in c.args.loaded.now) c.args.w.now.place c.requires.stands.sound (omega (arith, c.count-count.ensures.bounded, c.count-count.ensures.value)) in
+    omega (arith, most, c.requires.early, c.go.invariant.nears.spent)
 
 pub push-requires : goal.push-requires
 push-requires g c =
     let m = c.in-Entry.ensures.moves in
     let before : slice_get (records_in c.args.loaded.now) (c.go.w.place.packet - 1) ≡ Some m.0 = rw m.2 at m.1 in
-    keeps_few (machine_in c.args.loaded.now) (records_in c.args.loaded.now) c.go.w.place c.advance.new.w m.0
-    (g.T.Trail.kept c.go.trail) c.in-Entry.ensures.stands m.1 m.3
+    keeps_few _ _ c.go.w.place c.advance.new.w m.0 (g.T.Trail.kept c.go.trail) c.in-Entry.ensures.stands m.1 m.3
     (g.met.T.Trail.as_long c.go.trail _ (c.go.invariant.keeps m.0 before))
 
 pub stop_at-requires : goal.stop_at-requires
 stop_at-requires g c =
     let m = c.in-Entry.ensures.moves in
-    (goes (machine_in c.args.loaded.now) (records_in c.args.loaded.now) c.advance.new.w m.0 c.in-Entry.ensures.stands
+    (goes _ _ c.advance.new.w m.0 c.in-Entry.ensures.stands
     m.1 (omega (arith, m.3))).inside
 
 pub returns-then-left-eq1-clause-keeps : goal.returns-then-left-eq1-clause-keeps
@@ -88,15 +83,14 @@ returns-then-left-eq1-clause-turns g c = λ breakpoints.
     + owed (machine_in c.args.loaded.now) (records_in c.args.loaded.now) c.advance.new.w.place
     ≡ c.args.meter.now + owed (machine_in c.args.loaded.now) (records_in c.args.loaded.now) c.args.w.now.place =
     omega (arith, ap length m.4, m.3, c.in-Entry.ensures.turns, so.spent) in
-    rw (step_turns-reply _ _ _ _ _ _ _ steps)
-    (spent_between (machine_in c.args.loaded.now) (records_in c.args.loaded.now) c.args.w.now c.advance.new.w
+    rw (step_turns-reply _ _ _ _ _ _ _ steps) (spent_between _ _ c.args.w.now c.advance.new.w
     c.args.meter.now c.advance.new.meter c.requires.stands c.in-Entry.ensures.stands order spent)
 
 pub go-preserved-in-Entry : goal.go-preserved-in-Entry
 go-preserved-in-Entry g c =
     let m = c.in-Entry.ensures.moves in
     let so = c.go.invariant in
-    let on = nears_entry (machine_in c.args.loaded.now) (records_in c.args.loaded.now) c.go.w c.advance.new.w c.go.left c.go.meter
+    let on = nears_entry _ _ c.go.w c.advance.new.w c.go.left c.go.meter
     c.advance.new.meter c.in-Entry.ensures.stands m c.in-Entry.ensures.origin (omega (arith, so.nears.some))
     c.in-Entry.ensures.turns in
     record {
@@ -117,19 +111,17 @@ pub skip_packets-left-requires-in-Packet-clause-spare : goal.skip_packets-left-r
 skip_packets-left-requires-in-Packet-clause-spare g c =
     let so = c.go.invariant.nears in
     let moved = c.in-Packet.ensures in
-    let on = nears_out (machine_in c.args.loaded.now) (records_in c.args.loaded.now) c.go.w c.advance.new.w c.go.left c.go.meter
+    let on = nears_out _ _ c.go.w c.advance.new.w c.go.left c.go.meter
     c.advance.new.meter moved.stands moved.moves moved.origin so.some moved.turns in
-    let most = owed_bound (machine_in c.args.loaded.now) (records_in c.args.loaded.now) c.args.w.now.place
-    c.requires.stands.sound (omega (arith, c.count-count.ensures.bounded, c.count-count.ensures.value)) in
-    let early = c.requires.early in
-    omega (arith, most, early, so.spent, on.spent)
+    let most = owed_bound (machine_in c.args.loaded.now) (records_in c.args.loaded.now) c.args.w.now.place c.requires.stands.sound (omega (arith, c.count-count.ensures.bounded, c.count-count.ensures.value)) in
+    omega (arith, most, c.requires.early, so.spent, on.spent)
 
 pub go-preserved : goal.go-preserved
 go-preserved g c =
     let so = c.go.invariant.nears in
     let moved = c.in-Packet.ensures in
     let skipped = c.skip_packets-left-in-Packet.ensures in
-    let on = nears_out (machine_in c.args.loaded.now) (records_in c.args.loaded.now) c.go.w c.advance.new.w c.go.left c.go.meter
+    let on = nears_out _ _ c.go.w c.advance.new.w c.go.left c.go.meter
     c.advance.new.meter moved.stands moved.moves moved.origin so.some moved.turns in
     record {
       nears = nears_more _ _ _ _ _ _ _ _ _ _ _ (nears_more _ _ _ _ _ _ _ _ _ _ _ so on) skipped.nears;
@@ -152,5 +144,5 @@ returns-clause-turns g c = λ breakpoints.
     let so = c.go.invariant.nears in
     let m = nothing_left _ _ _ _ so.stands c.go.invariant.records (none_of _ c.in_default.ensures) in
     let steps = returns-clause-steps g c breakpoints in
-    let all = owed-turns (machine_in c.args.loaded.now) (records_in c.args.loaded.now) c.args.w.now c.requires.stands in
+    let all = owed-turns _ _ c.args.w.now c.requires.stands in
     rw (step_turns-reply _ _ _ _ _ _ _ steps) (omega (arith, all, ap length m.1, m.2, so.spent))

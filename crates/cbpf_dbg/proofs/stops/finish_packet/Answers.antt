@@ -16,7 +16,7 @@ follow_on-followed-requires-clause-inside g c =
 
 pub follow-requires-clause-counts : goal.follow-requires-clause-counts
 follow-requires-clause-counts g c =
-    countable (machine_in c.args.loaded.now) (records_in c.args.loaded.now) c.args.cursor.now c.requires.stands _
+    countable _ _ c.args.cursor.now c.requires.stands _
     c.count-few.ensures.value c.count-few.ensures.bounded
 
 pub follow-requires-clause-steps : goal.follow-requires-clause-steps

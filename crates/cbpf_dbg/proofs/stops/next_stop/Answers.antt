@@ -12,7 +12,7 @@ returns-then-not-run_records-clause-next g c =
     let ran = c.if-not-run_records.ensures.goes in
     let ended = nothing_left _ _ _ _ ran.passes.stands (ran.left _ (left.left _ c.requires.left))
     (c.if-not-run_records.ensures.none refl) in
-    let none = rest-none (machine_in c.args.loaded.now) (records_in c.args.loaded.now) (breakpoints_in c.args.loaded.now)
+    let none = rest-none _ _ (breakpoints_in c.args.loaded.now)
     c.run_records.new.cursor.place ended.1 in
     ((goes_passed _ _ _ _ _ _ _ _ _ _ left).hits ∙ (goes_passed _ _ _ _ _ _ _ _ _ _ ran).hits ∙ none, none)
 
