@@ -52,22 +52,6 @@ same_or_other p i = by_test (nat_eq p i) refl
     by_test true e = inl (grind (arith, nat_tests))
     by_test false e = inr (λ q. grind (arith, nat_tests))
 
--- what is known of a program stays known where its breakpoints change at one instruction
-pub known-at : (silent : Bool) (old new : Watching) (program : Option (List Insn)) (list : List Insn)
-    (values : Values) (before after : Breakpoints) → program ≡ Some list → IsKnown silent old program values before
-    → (Watches old (machine_of list values) before → Watches new (machine_of list values) after)
-    → KeepsRoom after new.room → IsKnown silent new program values after
-known-at silent old new program list values before after e known step room =
-    let k : IsKnown silent old (Some list) values before = rw e at known in
-    rw e (k.0, step k.1, room)
-
--- the room that is known to be there
-pub known-room : (silent : Bool) (watched : Watching) (program : Option (List Insn)) (list : List Insn)
-    (values : Values) (breakpoints : Breakpoints) → program ≡ Some list
-    → IsKnown silent watched program values breakpoints → KeepsRoom breakpoints watched.room
-known-room silent watched program list values breakpoints e known =
-    let k : IsKnown silent watched (Some list) values breakpoints = rw e at known in k.2
-
 pub room-there : (i : ℕ) (breakpoints : Breakpoints) (room : ℕ) (found : Option When)
     → lookup (nat_eq i) breakpoints ≡ found → is_some found ≡ true → KeepsRoom breakpoints room → i < room
 room-there i breakpoints room None at is keeps = cc
@@ -77,13 +61,30 @@ pub room-more : (breakpoints : Breakpoints) (old new : ℕ) → old ≤ new → 
     → KeepsRoom breakpoints new
 room-more breakpoints old new more keeps = λ i when at. let within = keeps i when at in omega arith
 
--- more room
-pub known-more : (silent : Bool) (old new : Watching) (program : Option (List Insn)) (list : List Insn)
-    (values : Values) (breakpoints : Breakpoints) → program ≡ Some list → IsKnown silent old program values breakpoints
-    → new.watches ≡ old.watches → old.room ≤ new.room → IsKnown silent new program values breakpoints
-known-more silent old new program list values breakpoints e known same more =
-    let k : IsKnown silent old (Some list) values breakpoints = rw e at known in
-    rw e (k.0, λ bytes wire s inside. rw same (k.1 bytes wire s inside), room-more breakpoints old.room new.room more k.2)
+-- what is known of a program
+module _ (silent : Bool) (old : Watching) (program : Option (List Insn)) (list : List Insn) (values : Values)
+    (before : Breakpoints) (e : program ≡ Some list) (known : IsKnown silent old program values before) where
+  held : IsKnown silent old (Some list) values before
+  held = rw e at known
+
+  -- it stays known where breakpoints change at one instruction
+  pub known-at : (new : Watching) (after : Breakpoints)
+      → (Watches old (machine_of list values) before → Watches new (machine_of list values) after)
+      → KeepsRoom after new.room → IsKnown silent new program values after
+  known-at new after step room = rw e (held.0, step held.1, room)
+
+  -- the room that is known to be there
+  pub known-room : KeepsRoom before old.room
+  known-room = held.2
+
+  -- more room
+  pub known-more : (new : Watching) → new.watches ≡ old.watches → old.room ≤ new.room
+      → IsKnown silent new program values before
+  known-more new same more = rw e (
+    held.0,
+    λ bytes wire s inside. rw same (held.1 bytes wire s inside),
+    room-more before old.room new.room more held.2,
+  )
 
 -- room for all where one breakpoint changes
 pub room-after : (i : ℕ) (before after : Breakpoints) (room : ℕ)

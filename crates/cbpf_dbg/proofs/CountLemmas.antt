@@ -1,6 +1,6 @@
 -- The outcomes of a run of packets.
 use Rattle.std.proofs.Common.{◌≡◌, ℕ, zero, suc, ◌+◌, ◌-◌, ◌<◌, ◌≤◌, ◌^◌, List, [], ◌∷◌, ◌++◌, length, drop, take}
-use Rattle.std.proofs.Common.{Bool, arith, ap, ◌∙◌, refl, cond, add-zero, length-drop}
+use Rattle.std.proofs.Common.{Bool, arith, ap, refl, cond, add-zero, length-drop}
 use Rattle.std.proofs.lemmas.List.Sums.{sum_by-append, count_by-le-length}
 use Rattle.std.proofs.Math.ListN.{length-map}
 use Rattle.cbpf_reply.specs.declared.reply.Counts.{Counts}

@@ -6,7 +6,6 @@ use Rattle.std.proofs.lemmas.Bool.{cases_lt}
 use Rattle.std.proofs.lemmas.Option.{slice_get_cases, slice_get_within}
 use Rattle.cbpf_machine.specs.Machine.{Machine}
 use Rattle.cbpf_machine.specs.Registers.{Registers, zero_state}
-use Rattle.cbpf_machine.specs.declared.outcome.Outcome.{Outcome}
 use Rattle.cbpf_machine.specs.declared.follow.Followed.{Followed}
 use Rattle.cbpf_machine.specs.declared.follow.Followed.TheVariants.{Watched, Ended}
 use Rattle.cbpf_machine.specs.Trace.{trace, outcome}

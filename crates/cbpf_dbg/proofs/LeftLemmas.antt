@@ -91,9 +91,8 @@ nothing_left machine capture w left stands h e =
     )
 
 -- all records from a place's packet on
-pub all_left : (machine : Machine) (capture : List Record) (w : Cursor) (left : List Record)
-    → Stands machine capture w → left ≡ drop (w.place.packet - 1) (take (length capture + 1 - 1) capture)
-    → AllLeft capture w.place left
+pub all_left : (machine : Machine) (capture : List Record) (w : Cursor) (left : List Record) → Stands machine capture w
+    → left ≡ drop (w.place.packet - 1) (take (length capture + 1 - 1) capture) → AllLeft capture w.place left
 all_left machine capture w left stands e =
     record {
       is = e;

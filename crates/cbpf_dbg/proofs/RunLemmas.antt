@@ -162,9 +162,8 @@ module _ (machine : Machine) (c : Savefile) (breakpoints : Breakpoints) (n : ℕ
       record { reply_is = rw (sought, is) refl; place_is = rw sought refl; origin_is = rw sought origin }
 
   pub step_finished : (w1 w2 : Cursor) → slice_get (ahead machine c.records w0.place) (n - 1) ≡ None
-      → Stands machine c.records w1 → w1.origin ≡ w0.origin
-      → w1.place.packet ≡ length c.records + 1 → w2.place ≡ start → w2.origin ≡ 1
-      → StepsOn machine c breakpoints w0 w2 n (Finished w1.counts)
+      → Stands machine c.records w1 → w1.origin ≡ w0.origin → w1.place.packet ≡ length c.records + 1 → w2.place ≡ start
+      → w2.origin ≡ 1 → StepsOn machine c breakpoints w0 w2 n (Finished w1.counts)
   step_finished w1 w2 sought stands origin end place2 origin2 =
       let counted : w1.counts ≡ counts machine c.records w0.origin (length c.records + 1) =
       rw (← origin, ← end) stands.counted in

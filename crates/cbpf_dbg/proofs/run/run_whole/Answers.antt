@@ -2,7 +2,7 @@ use Rattle.std.proofs.Common.{arith}
 use Rattle.cbpf_machine.specs.Follow.{is_watched}
 use Rattle.cbpf_machine.specs.Registers.{zero_state}
 use Rattle.cbpf_machine.proofs.TraceLemmas.{length-trace_from}
-use Rattle.cbpf_dbg.specs.Loaded.{machine_in, records_in}
+use Rattle.cbpf_dbg.specs.Loaded.{machine_in}
 use Rattle.cbpf_dbg.proofs.FollowLemmas.{step_within}
 use Rattle.cbpf_dbg.proofs.GoingLemmas.{few_before}
 use Rattle.cbpf_dbg.proofs.run.run_whole.Goals as goal

@@ -5,7 +5,7 @@ use Rattle.cbpf_dbg.specs.Cursor.{passed}
 use Rattle.cbpf_dbg.proofs.CountLemmas.{countable}
 use Rattle.cbpf_dbg.proofs.LeftLemmas.{first_left, left_past}
 use Rattle.cbpf_dbg.proofs.StepLemmas.{nears_more, nears_past}
-use Rattle.cbpf_dbg.specs.Loaded.{machine_in, records_in}
+use Rattle.cbpf_dbg.specs.Loaded.{machine_in}
 use Rattle.cbpf_dbg.proofs.step.skip_packets.Goals as goal
 
 pub pass-requires : goal.pass-requires

@@ -1,7 +1,5 @@
 use Rattle.std.proofs.Common.{◌<◌, arith, refl}
 use Rattle.pcap_classic.specs.Lent.{record_of}
-use Rattle.cbpf_machine.specs.Follow.{is_watched}
-use Rattle.cbpf_dbg.specs.Loaded.{machine_in, records_in, breakpoints_in}
 use Rattle.cbpf_dbg.proofs.CountLemmas.{countable}
 use Rattle.cbpf_dbg.proofs.CursorLemmas.{goes, entry_at_place}
 use Rattle.cbpf_dbg.proofs.FollowLemmas.{steps_fit, goes_to_entry, goes_out}

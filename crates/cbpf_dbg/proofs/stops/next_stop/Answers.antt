@@ -1,5 +1,5 @@
 use Rattle.std.proofs.Common.{◌∙◌, refl}
-use Rattle.cbpf_dbg.specs.Loaded.{machine_in, records_in, breakpoints_in}
+use Rattle.cbpf_dbg.specs.Loaded.{breakpoints_in}
 use Rattle.cbpf_dbg.proofs.GoingLemmas.{at_hit, goes_passed}
 use Rattle.cbpf_dbg.proofs.JoinedLemmas.{rest-none}
 use Rattle.cbpf_dbg.proofs.LeftLemmas.{nothing_left}

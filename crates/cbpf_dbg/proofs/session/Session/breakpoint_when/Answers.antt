@@ -14,8 +14,8 @@ watch_at-requires-clause-room g c = room-after c.args.n _ _ _ (λ q h. c.in-Ok-i
 pub invariant_of-self-in-Ok-insert : goal.invariant_of-self-in-Ok-insert
 invariant_of-self-in-Ok-insert g c = (
   c.self.invariant.0,
-  known-at _ _ _ _ _ _ _ _ c.in-Some.is
-      (known-more _ _ _ _ _ _ _ c.in-Some.is c.self.invariant.1 c.make_room.ensures.watches c.make_room.ensures.more)
+  known-at _ _ _ _ _ _ c.in-Some.is (known-more _ _ _ _ _ _ c.in-Some.is c.self.invariant.1 _
+      c.make_room.ensures.watches c.make_room.ensures.more) _ _
       (λ w. c.watch_at.ensures.watches _ w (same-but c.args.n _ _ (λ q h. c.in-Ok-insert.ensures.updates.2 q h)))
       (rw c.watch_at.ensures.room (room-after c.args.n _ _ _ (λ q h. c.in-Ok-insert.ensures.updates.2 q h)
       (λ when at. c.in-Ok.ensures.here)

@@ -1,4 +1,3 @@
-use Rattle.std.proofs.Common.{rules}
 use Rattle.cbpf_dbg.proofs.CarryLemmas.{same-but, known-at, known-room, room-after}
 use Rattle.cbpf_dbg.proofs.session.Session.delete.Goals as goal
 
@@ -10,7 +9,7 @@ watch_at-requires-clause-room g c = room-after c.args.n _ _ _ (λ q h. c.shift_r
 pub invariant_of-self : goal.invariant_of-self
 invariant_of-self g c = (
   c.self.invariant.0,
-  known-at _ _ _ _ _ _ _ _ c.in-Some.is c.self.invariant.1
+  known-at _ _ _ _ _ _ c.in-Some.is c.self.invariant.1 _ _
       (λ w. c.watch_at.ensures.watches _ w (same-but c.args.n _ _ (λ q h. c.shift_remove.ensures.updates.2 q h)))
       (rw c.watch_at.ensures.room (room-after c.args.n _ _ _ (λ q h. c.shift_remove.ensures.updates.2 q h)
       (λ when at. let gone = c.shift_remove.ensures.updates.1 in absurd cc)

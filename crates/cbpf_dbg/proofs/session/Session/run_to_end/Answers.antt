@@ -1,5 +1,5 @@
 use Rattle.cbpf_machine.specs.Machine.{machine_of}
-use Rattle.std.proofs.Common.{rules, ◌≡◌, [], ◌∷◌, ◌++◌, arith, sym, append-nil, refl, ap, ◌∙◌, inl}
+use Rattle.std.proofs.Common.{◌≡◌, [], ◌∷◌, ◌++◌, arith, sym, append-nil, refl, ap, ◌∙◌, inl}
 use Rattle.cbpf_reply.specs.declared.reply.RunReply.TheVariants.{Stopped, Finished}
 use Rattle.cbpf_dbg.proofs.WholeLemmas.{Holds, stops-held, from_start, going-spare, going-found, going-stop}
 use Rattle.cbpf_dbg.proofs.WholeLemmas.{going-end, fewer, going-turns, end-turns}
