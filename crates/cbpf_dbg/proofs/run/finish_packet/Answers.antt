@@ -56,8 +56,7 @@ returns-in-Entry-clause-keeps g c = λ _.
 
 pub returns-clause-goes : goal.returns-clause-goes
 returns-clause-goes g c =
-    let is = c.pass.ensures in
-    let here = first_left _ _ _ _ _ _ is c.requires.can.left.1 in
+    let here = first_left _ _ _ _ _ _ c.pass.ensures c.requires.can.left.1 in
     let k = kept_steps _ _ _ (record_of c.in-Some.here)
     c.requires.can.stands here (g.T.Trail.kept c.args.trail.now)
     (g.met.T.Trail.as_long c.args.trail.now _ (c.requires.keeps _ here)) in
@@ -65,4 +64,4 @@ returns-clause-goes g c =
     c.requires.can.stands here _ _ c.requires.can.covers (g.T.Trail.kept c.args.trail.now) c.follow-followed.result c.follow-followed.new.s
     c.follow.new.self c.args.meter.now c.follow-followed.new.meter c.args.left.now _ k
     c.in_default-follow.ensures.moved c.in_default-follow.ensures.cursor c.follow-followed.ensures.follows
-    (omega (arith, c.follow-followed.ensures.turns, k, c.if-cursor-eq0.false)) is
+    (omega (arith, c.follow-followed.ensures.turns, k, c.if-cursor-eq0.false)) c.pass.ensures

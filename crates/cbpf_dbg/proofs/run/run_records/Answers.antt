@@ -46,13 +46,12 @@ returns-in-Entry-clause-first g c = λ _.
 pub go-preserved : goal.go-preserved
 go-preserved g c =
     let so = c.go.invariant in
-    let is = c.pass.ensures in
-    let here = first_left _ _ _ _ _ _ is (so.left _ c.requires.can.left.1) in
+    let here = first_left _ _ _ _ _ _ c.pass.ensures (so.left _ c.requires.can.left.1) in
     goes_more _ _ _ _ _ _ _ _ _ _ _ _ _ _ _ so (goes_out _ _ _ (record_of c.in-Some.here)
     so.passes.stands here _ _ c.requires.can.covers 0 c.follow_packet-followed.result c.follow_packet-followed.new.s c.follow.new.self c.go.meter
     c.follow_packet-followed.new.meter c.go.left _ (omega (arith, so.out refl)) c.in_default-follow.ensures.moved
     c.in_default-follow.ensures.cursor c.follow_packet-followed.ensures.follows
-    (omega (arith, c.follow_packet-followed.ensures.turns)) is)
+    (omega (arith, c.follow_packet-followed.ensures.turns)) c.pass.ensures)
 
 pub returns-clause-none : goal.returns-clause-none
 returns-clause-none g c = λ _. none_of _ c.in_default.ensures

@@ -25,12 +25,11 @@ returns-then-finish_packet-clause-comes g c =
 
 pub returns-then-not-run_whole-clause-comes : goal.returns-then-not-run_whole-clause-comes
 returns-then-not-run_whole-clause-comes g c =
-    let so = c.go.invariant in
     let all = goes_more _ _ _ _ _ _ _ _ _ _ _ _ _ _ _ c.if-finish_packet.ensures.goes
     c.if-not-run_whole.ensures.goes in
     let passes = goes_passed _ _ _ _ _ _ _ _ _ _ all in (
-      none_left _ _ _ _ _ passes.stands (c.if-not-run_whole.ensures.none refl) (all.left _ so.left),
-      sym (so.passes.hits ∙ passes.hits),
+      none_left _ _ _ _ _ passes.stands (c.if-not-run_whole.ensures.none refl) (all.left _ c.go.invariant.left),
+      sym (c.go.invariant.passes.hits ∙ passes.hits),
     )
 
 pub start-requires-clause-few : goal.start-requires-clause-few

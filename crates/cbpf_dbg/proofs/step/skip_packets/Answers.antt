@@ -16,7 +16,6 @@ pass-requires g c =
 pub skip-preserved : goal.skip-preserved
 skip-preserved g c =
     let so = c.skip.invariant in
-    let stands = so.nears.stands in
     let is = c.pass-in-skip.ensures in
     let on = c.pass.ensures ∙ ap (passed c.skip.w) c.run_packet.ensures.value in
     let made : (c.spent.result - c.spent-before.result)
@@ -24,7 +23,7 @@ skip-preserved g c =
     omega (arith, c.run_packet.ensures.turns, c.spent-before.ensures, c.spent.ensures) in
     let past = nears_past _ _ c.skip.w c.pass.new.self
     (record_of c.in-Some.here) c.skip.left (c.spent.result - c.spent-before.result) c.skip.meter
-    c.run_packet.new.meter stands (first_left _ _ _ _ _ _ is so.records) so.before on made (omega (
+    c.run_packet.new.meter so.nears.stands (first_left _ _ _ _ _ _ is so.records) so.before on made (omega (
       arith,
       c.run_packet.ensures.few,
       c.spent-before.ensures,
@@ -36,6 +35,6 @@ skip-preserved g c =
     record {
       nears = nears_more _ _ _ _ _ _ _ _ _ _ _ so.nears past;
       records = rw c.pass.ensures (left_past _ _ _ _ _ _ is so.records
-          (omega (arith, stands.from_one, stands.ordered)));
+          (omega (arith, so.nears.stands.from_one, so.nears.stands.ordered)));
       before = rw c.pass.ensures refl;
     }

@@ -50,9 +50,8 @@ push-requires g c =
 
 pub stop_at-requires : goal.stop_at-requires
 stop_at-requires g c =
-    let m = c.in-Entry.ensures.moves in
-    (goes _ _ c.advance.new.w m.0 c.in-Entry.ensures.stands
-    m.1 (omega (arith, m.3))).inside
+    (goes _ _ c.advance.new.w c.in-Entry.ensures.moves.0 c.in-Entry.ensures.stands
+    c.in-Entry.ensures.moves.1 (omega (arith, c.in-Entry.ensures.moves.3))).inside
 
 pub returns-then-left-eq1-clause-keeps : goal.returns-then-left-eq1-clause-keeps
 returns-then-left-eq1-clause-keeps g c =
@@ -75,56 +74,51 @@ returns-then-left-eq1-clause-steps g c = λ breakpoints.
 pub returns-then-left-eq1-clause-turns : goal.returns-then-left-eq1-clause-turns
 returns-then-left-eq1-clause-turns g c = λ breakpoints.
     let m = c.in-Entry.ensures.moves in
-    let so = c.go.invariant.nears in
     let steps = returns-then-left-eq1-clause-steps g c breakpoints in
-    let order = not_before_step c.args.w.now.place c.go.w.place c.advance.new.w.place so.order m.2
+    let order = not_before_step c.args.w.now.place c.go.w.place c.advance.new.w.place c.go.invariant.nears.order m.2
     (omega (arith, m.3)) in
     let spent : c.advance.new.meter
     + owed (machine_in c.args.loaded.now) (records_in c.args.loaded.now) c.advance.new.w.place
     ≡ c.args.meter.now + owed (machine_in c.args.loaded.now) (records_in c.args.loaded.now) c.args.w.now.place =
-    omega (arith, ap length m.4, m.3, c.in-Entry.ensures.turns, so.spent) in
+    omega (arith, ap length m.4, m.3, c.in-Entry.ensures.turns, c.go.invariant.nears.spent) in
     rw (step_turns-reply _ _ _ _ _ _ _ steps) (spent_between _ _ c.args.w.now c.advance.new.w
     c.args.meter.now c.advance.new.meter c.requires.stands c.in-Entry.ensures.stands order spent)
 
 pub go-preserved-in-Entry : goal.go-preserved-in-Entry
 go-preserved-in-Entry g c =
     let m = c.in-Entry.ensures.moves in
-    let so = c.go.invariant in
     let on = nears_entry _ _ c.go.w c.advance.new.w c.go.left c.go.meter
-    c.advance.new.meter c.in-Entry.ensures.stands m c.in-Entry.ensures.origin (omega (arith, so.nears.some))
+    c.advance.new.meter c.in-Entry.ensures.stands m c.in-Entry.ensures.origin (omega (arith, c.go.invariant.nears.some))
     c.in-Entry.ensures.turns in
     record {
-      nears = nears_more _ _ _ _ _ _ _ _ _ _ _ so.nears on;
-      records = left_here _ _ _ _ _ _ (first_of _ _ c.in-Some.ensures) so.records _ m.2;
+      nears = nears_more _ _ _ _ _ _ _ _ _ _ _ c.go.invariant.nears on;
+      records = left_here _ _ _ _ _ _ (first_of _ _ c.in-Some.ensures) c.go.invariant.records _ m.2;
       keeps = keeps_push (λ xs. g.T.Trail.stands_for c.go.trail xs) (λ xs. g.T.Trail.stands_for c.push.new.self xs)
           (machine_in c.args.loaded.now) (records_in c.args.loaded.now) c.go.w.place c.advance.new.w m.0
-          c.in-Entry.ensures.stands m.1 m.2 m.3 c.push.ensures so.keeps;
+          c.in-Entry.ensures.stands m.1 m.2 m.3 c.push.ensures c.go.invariant.keeps;
     }
 
 pub skip_packets-left-requires-in-Packet-clause-records : goal.skip_packets-left-requires-in-Packet-clause-records
 skip_packets-left-requires-in-Packet-clause-records g c =
-    let so = c.go.invariant in
-    rw c.in-Packet.ensures.moves.0 (left_past _ _ _ _ _ _ c.pass.ensures so.records
-    (omega (arith, so.nears.stands.from_one, so.nears.stands.ordered)))
+    rw c.in-Packet.ensures.moves.0 (left_past _ _ _ _ _ _ c.pass.ensures c.go.invariant.records
+    (omega (arith, c.go.invariant.nears.stands.from_one, c.go.invariant.nears.stands.ordered)))
 
 pub skip_packets-left-requires-in-Packet-clause-spare : goal.skip_packets-left-requires-in-Packet-clause-spare
 skip_packets-left-requires-in-Packet-clause-spare g c =
-    let so = c.go.invariant.nears in
     let moved = c.in-Packet.ensures in
     let on = nears_out _ _ c.go.w c.advance.new.w c.go.left c.go.meter
-    c.advance.new.meter moved.stands moved.moves moved.origin so.some moved.turns in
+    c.advance.new.meter moved.stands moved.moves moved.origin c.go.invariant.nears.some moved.turns in
     let most = owed_bound (machine_in c.args.loaded.now) (records_in c.args.loaded.now) c.args.w.now.place c.requires.stands.sound (omega (arith, c.count-count.ensures.bounded, c.count-count.ensures.value)) in
-    omega (arith, most, c.requires.early, so.spent, on.spent)
+    omega (arith, most, c.requires.early, c.go.invariant.nears.spent, on.spent)
 
 pub go-preserved : goal.go-preserved
 go-preserved g c =
-    let so = c.go.invariant.nears in
     let moved = c.in-Packet.ensures in
     let skipped = c.skip_packets-left-in-Packet.ensures in
     let on = nears_out _ _ c.go.w c.advance.new.w c.go.left c.go.meter
-    c.advance.new.meter moved.stands moved.moves moved.origin so.some moved.turns in
+    c.advance.new.meter moved.stands moved.moves moved.origin c.go.invariant.nears.some moved.turns in
     record {
-      nears = nears_more _ _ _ _ _ _ _ _ _ _ _ (nears_more _ _ _ _ _ _ _ _ _ _ _ so on) skipped.nears;
+      nears = nears_more _ _ _ _ _ _ _ _ _ _ _ (nears_more _ _ _ _ _ _ _ _ _ _ _ c.go.invariant.nears on) skipped.nears;
       records = skipped.records;
       keeps = keeps_clear (λ xs. g.T.Trail.stands_for c.clear-in-Packet.new.self xs) (machine_in c.args.loaded.now)
           (records_in c.args.loaded.now) _ skipped.before c.clear-in-Packet.ensures;
@@ -141,8 +135,7 @@ returns-clause-steps g c = λ breakpoints.
 
 pub returns-clause-turns : goal.returns-clause-turns
 returns-clause-turns g c = λ breakpoints.
-    let so = c.go.invariant.nears in
-    let m = nothing_left _ _ _ _ so.stands c.go.invariant.records (none_of _ c.in_default.ensures) in
+    let m = nothing_left _ _ _ _ c.go.invariant.nears.stands c.go.invariant.records (none_of _ c.in_default.ensures) in
     let steps = returns-clause-steps g c breakpoints in
     let all = owed-turns _ _ c.args.w.now c.requires.stands in
-    rw (step_turns-reply _ _ _ _ _ _ _ steps) (omega (arith, all, ap length m.1, m.2, so.spent))
+    rw (step_turns-reply _ _ _ _ _ _ _ steps) (omega (arith, all, ap length m.1, m.2, c.go.invariant.nears.spent))

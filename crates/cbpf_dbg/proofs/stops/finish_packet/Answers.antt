@@ -43,8 +43,7 @@ returns-in-Entry g c =
 
 pub returns : goal.returns
 returns g c =
-    let is = c.pass.ensures in
-    let here = first_left _ _ _ _ _ _ is c.requires.left.1 in
+    let here = first_left _ _ _ _ _ _ c.pass.ensures c.requires.left.1 in
     let begun : 0 < c.args.cursor.now.place.step = omega (arith, c.if-cursor-eq0.false) in
     let entry = entry_at_place _ _ _ (record_of c.in-Some.here)
     c.requires.stands here begun in
@@ -53,4 +52,4 @@ returns g c =
     c.follow.new.self c.args.meter.now c.follow_on-followed.new.meter c.args.left.now _ refl
     c.in_default-follow.ensures.moved c.in_default-follow.ensures.cursor
     (c.follow_on-followed.ensures.follows _ begun entry)
-    (omega (arith, c.follow_on-followed.ensures.turns _ begun entry, begun)) is
+    (omega (arith, c.follow_on-followed.ensures.turns _ begun entry, begun)) c.pass.ensures

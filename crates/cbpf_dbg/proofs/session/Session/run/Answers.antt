@@ -1,21 +1,11 @@
 use Rattle.cbpf_dbg.specs.Commands.{run, stops}
 use Rattle.std.proofs.Common.{refl, rules}
-use Rattle.cbpf_dbg.specs.View.{View}
 use Rattle.cbpf_dbg.proofs.ShownStops.{shows-run}
 use Rattle.cbpf_dbg.proofs.session.Session.run.Goals as goal
 
 pub returns-clause-shown : goal.returns-clause-shown
 returns-clause-shown g c =
-    let after : View =
-    record {
-      program = c.self.inside.program;
-      values = c.self.inside.values;
-      capture = c.self.inside.capture;
-      breakpoints = c.self.inside.breakpoints.entries;
-      origin = c.run-reply.new.cursor.origin;
-      place = c.run-reply.new.cursor.place;
-    } in
-    shows-run _ _ after (record { program = c.in-Some.is; values = refl; capture = c.in-Some-capture.is }) _
+    shows-run _ _ _ (record { program = c.in-Some.is; values = refl; capture = c.in-Some-capture.is }) _
     c.len-sound.ensures.sound _ _ _ _ c.run-reply.ensures.runs
 
 pub returns-clause-reply : goal.returns-clause-reply

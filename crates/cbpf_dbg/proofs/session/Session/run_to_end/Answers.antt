@@ -1,6 +1,5 @@
 use Rattle.cbpf_machine.specs.Machine.{machine_of}
 use Rattle.std.proofs.Common.{◌≡◌, [], ◌∷◌, ◌++◌, arith, sym, append-nil, refl, ap, ◌∙◌, inl}
-use Rattle.cbpf_reply.specs.declared.reply.RunReply.TheVariants.{Stopped, Finished}
 use Rattle.cbpf_dbg.proofs.WholeLemmas.{Holds, stops-held, from_start, going-spare, going-found, going-stop}
 use Rattle.cbpf_dbg.proofs.WholeLemmas.{going-end, fewer, going-turns, end-turns}
 use Rattle.cbpf_dbg.proofs.session.Session.run_to_end.Goals as goal
@@ -48,21 +47,17 @@ pub run-requires : goal.run-requires
 run-requires g c = let w = c.runs.invariant.going in going-spare _ _ _ _ _ _ _ _ w.2
 
 pub runs-smaller : goal.runs-smaller
-runs-smaller g c =
-    let e : c.in-Ok.reply ≡ Stopped c.in-Stopped.stop = c.in-Stopped.is in
-    fewer _ _ _ (rw e at c.in-Ok.ensures.ahead)
+runs-smaller g c = fewer _ _ _ (rw c.in-Stopped.is at c.in-Ok.ensures.ahead)
 
 pub runs-preserved : goal.runs-preserved
 runs-preserved g c =
-    let w = c.runs.invariant.going in
     let pushed : c.push.new.self.items ≡ c.runs.found.items ++ c.in-Stopped.stop ∷ [] =
     c.in-Ok-push.ensures.items ∙ ap (λ xs. xs ++ c.in-Stopped.stop ∷ []) c.reserve.ensures.items in
-    let e : c.in-Ok.reply ≡ Stopped c.in-Stopped.stop = c.in-Stopped.is in
     record {
       going = (
-        w.0,
-        w.1,
-        going-stop _ _ _ _ _ _ _ _ w.2 _ _ _ _ (rw e at c.in-Ok.ensures.ahead) c.run.ensures.after
+        c.runs.invariant.going.0,
+        c.runs.invariant.going.1,
+        going-stop _ _ _ _ _ _ _ _ c.runs.invariant.going.2 _ _ _ _ (rw c.in-Stopped.is at c.in-Ok.ensures.ahead) c.run.ensures.after
             c.run.ensures.turns pushed,
       );
     }
@@ -70,30 +65,26 @@ runs-preserved g c =
 pub returns-in-Finished-clause-reply : goal.returns-in-Finished-clause-reply
 returns-in-Finished-clause-reply g c =
     let w = c.runs.invariant.going in
-    let e : c.in-Ok.reply ≡ Finished c.in-Finished.counts = c.in-Finished.is in
-    inl ((going-end _ _ _ _ _ _ _ _ w.2 _ _ (rw e at c.in-Ok.ensures.ahead) (rw e at c.in-Ok.ensures.reply)
+    inl ((going-end _ _ _ _ _ _ _ _ w.2 _ _ (rw c.in-Finished.is at c.in-Ok.ensures.ahead) (rw c.in-Finished.is at c.in-Ok.ensures.reply)
     c.run.ensures.after).0)
 
 pub returns-in-Finished-clause-after : goal.returns-in-Finished-clause-after
 returns-in-Finished-clause-after g c =
     let w = c.runs.invariant.going in
-    let e : c.in-Ok.reply ≡ Finished c.in-Finished.counts = c.in-Finished.is in
-    (going-end _ _ _ _ _ _ _ _ w.2 _ _ (rw e at c.in-Ok.ensures.ahead) (rw e at c.in-Ok.ensures.reply)
+    (going-end _ _ _ _ _ _ _ _ w.2 _ _ (rw c.in-Finished.is at c.in-Ok.ensures.ahead) (rw c.in-Finished.is at c.in-Ok.ensures.reply)
     c.run.ensures.after).1
 
 pub returns-in-Finished-clause-stops : goal.returns-in-Finished-clause-stops
 returns-in-Finished-clause-stops g c =
     let w = c.runs.invariant.going in
-    let e : c.in-Ok.reply ≡ Finished c.in-Finished.counts = c.in-Finished.is in
-    let end = going-end _ _ _ _ _ _ _ _ w.2 _ _ (rw e at c.in-Ok.ensures.ahead) (rw e at c.in-Ok.ensures.reply)
+    let end = going-end _ _ _ _ _ _ _ _ w.2 _ _ (rw c.in-Finished.is at c.in-Ok.ensures.ahead) (rw c.in-Finished.is at c.in-Ok.ensures.reply)
     c.run.ensures.after in
     (_, stops-held _ _ _ ((w.2).old_holds), c.reserve.ensures.items ∙ end.2)
 
 pub returns-in-Finished-clause-turns : goal.returns-in-Finished-clause-turns
 returns-in-Finished-clause-turns g c =
     let w = c.runs.invariant.going in
-    let e : c.in-Ok.reply ≡ Finished c.in-Finished.counts = c.in-Finished.is in
-    end-turns _ _ _ _ _ _ _ _ w.2 _ c.in-Finished.counts (rw e at c.in-Ok.ensures.ahead) _ c.run.ensures.turns
+    end-turns _ _ _ _ _ _ _ _ w.2 _ c.in-Finished.counts (rw c.in-Finished.is at c.in-Ok.ensures.ahead) _ c.run.ensures.turns
 
 pub returns-in-Finished-clause-from_start : goal.returns-in-Finished-clause-from_start
 returns-in-Finished-clause-from_start g c = from_start c.args.self.now
