@@ -1,6 +1,6 @@
 -- Each text and each list has an answer. No axiom is used: what a definition says is decided by computing it.
-use Rattle.std.proofs.Common.{◌≡◌, ◌≢◌, ℕ, zero, suc, ◌+◌, ◌%◌, ◌<◌, ◌≤◌, Bool, true, false, List, length}
-use Rattle.std.proofs.Common.{arith, refl, sym, subst, inl, inr}
+use Rattle.std.proofs.Common.{◌≡◌, ◌≢◌, ℕ, zero, suc, ◌+◌, ◌<◌, ◌≤◌, Bool, true, false, List, [], ◌∷◌, length}
+use Rattle.std.proofs.Common.{arith, tests, refl, sym, ap, ◌∙◌, subst, inl, inr}
 use Rattle.std.specs.Prelude.{◌⊎◌, Option, Some, None, IsTrue, slice_get}
 use Rattle.std.proofs.lemmas.Bool.{cases_eq, cases_lt}
 use Rattle.std.proofs.lemmas.Option.{slice_get_cases, slice_get_within}
@@ -12,7 +12,7 @@ use Rattle.cbpf_code.specs.declared.checker.CheckFault.TheVariants.{NoInstructio
 use Rattle.cbpf_code.specs.declared.checker.CheckFault.TheVariants.{ZeroDivisor, WideShift, JumpOutside}
 use Rattle.cbpf_code.specs.declared.checker.CheckFault.TheVariants.{UnknownExtension, NoReturn, UnwrittenSlot}
 use Rattle.cbpf_code.specs.declared.words.WordFault.{WordFault}
-use Rattle.cbpf_code.specs.declared.words.WordFault.TheVariants.{Memory, CountDiffers}
+use Rattle.cbpf_code.specs.declared.words.WordFault.TheVariants.{Memory}
 use Rattle.cbpf_code.specs.Opcode.{op_of}
 use Rattle.cbpf_code.specs.Extension.{ext_at}
 use Rattle.cbpf_code.specs.ControlFlow.{InsnAt, FollowsCode, IsSuccessor, StoresSlot, MayBeUnwritten, loads_slot}
@@ -22,14 +22,14 @@ use Rattle.cbpf_code.specs.Faults.{HasFault, FirstFault, IsEarlier, rank, index_
 use Rattle.cbpf_code.specs.Faults.{divides_by_k, shifts_by_k, loads_absolute}
 use Rattle.cbpf_code.specs.Sound.{IsSound}
 use Rattle.cbpf_code.specs.CheckSteps.{PassesBefore, IsWellFormed, IsAllowed, AllowedAt}
-use Rattle.cbpf_code.specs.WordTokens.{tokens}
-use Rattle.cbpf_code.specs.WordText.{first_fault, count_of, Loose, Spells, end_fault, Breaks, Refused}
+use Rattle.cbpf_code.specs.WordTokens.{Token, run, single, tokens}
+use Rattle.cbpf_code.specs.WordText.{Due, count, next_due, range_of, token_fault, or_else, first_fault, fault_of}
+use Rattle.cbpf_code.specs.WordText.{count_of, list_of, Spells, Refused}
 use Rattle.cbpf_code.specs.Laws.{EachTextIsRead, EachListIsChecked}
 use Rattle.cbpf_code.proofs.PathLemmas.{insn_at-same, reached-unwritten_at}
 use Rattle.cbpf_code.proofs.SoundLemmas.{known_or, returns_or}
 use Rattle.cbpf_code.proofs.FaultLemmas.{first_fault-insn, first_fault-at_end, first_fault-slot, passes_before-next}
 use Rattle.cbpf_code.proofs.FaultLemmas.{well_formed-at_end, sound_of}
-use Rattle.cbpf_code.proofs.WordStepLemmas.{OfToken, breaks-refused, first-of_token, end-of_token}
 
 -- ---- what is decided
 
@@ -254,28 +254,34 @@ each_list_is_checked list = elim (cases_eq (length list) 0) [
 
 -- ---- each text
 
-abbrev Read : List ℕ → Type 0
-Read text = ((list : List Insn) × Spells text list) ⊎ ((e : WordFault) × (e ≢ Memory) × Refused text e)
+-- no token and no end is out of memory
+token_fault-other : (range : Option ℕ) (m : Token) → token_fault range m ≢ Some Memory
+token_fault-other None (run p ds) h = cc
+token_fault-other (Some range) (run p ds) h = grind (arith, tests)
+token_fault-other None (single p b) h = grind (arith, tests)
+token_fault-other (Some range) (single p b) h = grind (arith, tests)
 
-broken-read : (text : List ℕ) (e : WordFault) → OfToken (Some e) → Breaks text e → Read text
-broken-read text e h broken = let r = breaks-refused text e h broken in inr (e, r.0, r.1)
+or_else-other : (o p : Option WordFault) → o ≢ Some Memory → p ≢ Some Memory → or_else o p ≢ Some Memory
+or_else-other None p first then = then
+or_else-other (Some e) p first then = first
 
-loose-read : (text : List ℕ) (list : List Insn) → Loose text list → Read text
-loose-read text list loose = elim (cases_eq (count_of text) (length list)) [
-  | inl same ↦ inl (list, record { loose = loose; counted = same })
-  | inr differ ↦ inr (CountDiffers (count_of text) (length list), λ z. cc, (list, loose, refl, refl, differ))
-]
-
-fault-read : (text : List ℕ) (o : Option WordFault) → first_fault 0 (tokens text) ≡ o → Read text
-fault-read text (Some e) is =
-    broken-read text e (subst OfToken is (first-of_token 0 (tokens text))) (record { why = inl is })
-fault-read text None is =
-    elim (both (at_most 2 (length (tokens text)))
-    (either (cases_eq (length (tokens text) % 5) 1) (cases_eq (length (tokens text) % 5) 2))) [
-      | inl shape ↦ loose-read text _ (record { none_bad = is; begun = shape.0; ended = shape.1; reads = refl })
-      | inr other ↦ broken-read text (end_fault text) (end-of_token text)
-          (record { why = inr (is, λ list loose. other (loose.begun, loose.ended), refl) })
-    ]
+first_fault-other : (due : Due) (n : ℕ) (ms : List Token) → first_fault due n ms ≢ Some Memory
+first_fault-other count n [] h = cc
+first_fault-other _ n [] h = cc
+first_fault-other due n (m ∷ ms) h =
+    or_else-other _ _ (token_fault-other (range_of due) m) (first_fault-other (next_due due) n ms) h
 
 pub each_text_is_read : EachTextIsRead
-each_text_is_read text = fault-read text (first_fault 0 (tokens text)) refl
+each_text_is_read text = by (fault_of text) refl
+  where
+    by : (o : Option WordFault) → fault_of text ≡ o
+        → ((list : List Insn) × Spells text list) ⊎ ((e : WordFault) × (e ≢ Memory) × Refused text e)
+    by (Some e) is = inr (
+      e,
+      (λ memory. first_fault-other count (length text) (tokens text) (is ∙ ap Some memory)),
+      inr (inl is),
+    )
+    by None is = elim (cases_eq (count_of text) (length (list_of text))) [
+      | inl same ↦ inl (_, record { good = is; reads = refl; counted = same })
+      | inr differs ↦ inr (_, (λ h. cc), inr (inr (record { good = is; differs = differs; fault = refl })))
+    ]

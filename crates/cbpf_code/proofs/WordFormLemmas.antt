@@ -1,6 +1,6 @@
 -- Word text as it is written is read back.
-use Rattle.std.proofs.Common.{◌≡◌, ◌≢◌, ℕ, suc, ◌+◌, ◌-◌, ◌*◌, ◌%◌, ◌==◌, ◌^◌, ◌<◌, ◌≤◌, nat_lt, true, false, List, [], ◌∷◌}
-use Rattle.std.proofs.Common.{◌++◌, length, codes, decimal, append_assoc, None, inr, refl, ap, ◌∙◌, arith, tests}
+use Rattle.std.proofs.Common.{◌≡◌, ◌≢◌, ℕ, ◌+◌, ◌-◌, ◌*◌, ◌^◌, ◌<◌, ◌≤◌, nat_lt, true, false, List, [], ◌∷◌, ◌++◌}
+use Rattle.std.proofs.Common.{length, codes, decimal, append_assoc, None, Some, refl, ap, ◌∙◌, arith, tests}
 use Rattle.std.specs.List.{All, AllByRecursion, flat_map, fold}
 use Rattle.std.specs.Char.{digit_value}
 use Rattle.std.specs.Str.Parse.{AllDigits, digits_value_after}
@@ -9,11 +9,12 @@ use Rattle.std.proofs.lemmas.List.Elements.{All-head, All-tail}
 use Rattle.std.proofs.lemmas.Str.{digit_value_digit}
 use Rattle.std.proofs.lemmas.Str.Parse.{digit_from_value}
 use Rattle.cbpf_code.specs.WordTokens.{run, is_digit, begins_with_digit, number, tokens_from}
-use Rattle.cbpf_code.specs.WordText.{number_fault, first_fault, numbers, range_of, Spells}
+use Rattle.cbpf_code.specs.WordText.{Due, count, count_comma, code, jt, jf, k, comma, next_due, range_of}
+use Rattle.cbpf_code.specs.WordText.{first_fault, numbers, Spells}
 use Rattle.cbpf_code.specs.WordForm.{InRange, word_line, words}
 use Rattle.cbpf_code.specs.WordSteps.{fields_of}
 use Rattle.cbpf_code.proofs.WordTokenLemmas.{law-empty, law-blank, law-single, law-run}
-use Rattle.cbpf_code.proofs.WordStepLemmas.{first_fault-shift, whole-by}
+use Rattle.cbpf_code.proofs.WordStepLemmas.{whole-spells}
 use Rattle.cbpf_code.specs.declared.insn.Insn.{Insn}
 
 -- ---- a number in decimal
@@ -48,63 +49,45 @@ tokens-decimal at n rest h stop =
 
 -- ---- texts, wherever they stand
 
--- m tokens, of which the first is due as token j: none is bad, and their numbers are ns
-record Reads (text : List ℕ) (j m : ℕ) (ns : List ℕ) : Type 0 where
-  good : (at : ℕ) → first_fault j (tokens_from at text) ≡ None
-  count : (at : ℕ) → length (tokens_from at text) ≡ m
+-- nothing is wrong with the text where something is due, and its numbers are ns
+record Reads (text : List ℕ) (due : Due) (ns : List ℕ) : Type 0 where
+  good : (at n : ℕ) → first_fault due n (tokens_from at text) ≡ None
   spelled : (at : ℕ) → numbers (tokens_from at text) ≡ ns
 
-reads-newline : Reads (codes "\n") 2 0 []
+reads-newline : Reads (codes "\n") code []
 reads-newline =
     let e = λ (at : ℕ). law-blank at 10 [] refl ∙ law-empty (at + 1) in
-    record {
-      good = λ at. ap (first_fault 2) (e at);
-      count = λ at. ap length (e at);
-      spelled = λ at. ap numbers (e at);
-    }
+    record { good = λ at n. ap (first_fault code n) (e at); spelled = λ at. ap numbers (e at) }
 
-reads-space : (text : List ℕ) (j m : ℕ) (ns : List ℕ) → Reads text j m ns → Reads (32 ∷ text) j m ns
-reads-space text j m ns r =
+reads-space : (text : List ℕ) (due : Due) (ns : List ℕ) → Reads text due ns → Reads (32 ∷ text) due ns
+reads-space text due ns r =
     let e = λ (at : ℕ). law-blank at 32 text refl in
     record {
-      good = λ at. ap (first_fault j) (e at) ∙ r.good (at + 1);
-      count = λ at. ap length (e at) ∙ r.count (at + 1);
+      good = λ at n. ap (first_fault due n) (e at) ∙ r.good (at + 1) n;
       spelled = λ at. ap numbers (e at) ∙ r.spelled (at + 1);
     }
 
--- the comma after the count, and that after each instruction
-reads-comma : (text : List ℕ) (m : ℕ) (ns : List ℕ) → Reads text 2 m ns → Reads (44 ∷ text) 1 (m + 1) ns
-reads-comma text m ns r =
+reads-comma : (text : List ℕ) (due : Due) (ns : List ℕ) → range_of due ≡ None → Reads text (next_due due) ns
+    → Reads (44 ∷ text) due ns
+reads-comma text due ns none r =
     let e = λ (at : ℕ). law-single at 44 text refl refl in
     record {
-      good = λ at. ap (first_fault 1) (e at) ∙ r.good (at + 1);
-      count = λ at. omega (arith, ap length (e at), r.count (at + 1));
+      good = λ at n. ap (first_fault due n) (e at) ∙ rw none (r.good (at + 1) n);
       spelled = λ at. ap numbers (e at) ∙ r.spelled (at + 1);
     }
 
-reads-next_comma : (text : List ℕ) (m : ℕ) (ns : List ℕ) → Reads text 1 m ns → Reads text 6 m ns
-reads-next_comma text m ns r = record {
-  good = λ at. first_fault-shift 0 (tokens_from at text) ∙ r.good at;
-  count = r.count;
-  spelled = r.spelled;
-}
-
-good-number : (at n range : ℕ) → n < 2 ^ 64 → n < range → number_fault range (run at (decimal n)) ≡ None
-good-number at n range h l =
-    let v : number (decimal n) ≡ n = number-decimal n h in
-    let t : nat_lt n range ≡ true = grind (arith, tests) in
-    rw (v, t) refl
-
-reads-number : (text : List ℕ) (n j m : ℕ) (ns : List ℕ) → begins_with_digit text ≡ false → (j % 5 == 1) ≡ false
-    → n < 2 ^ 64 → n < range_of j → Reads text (suc j) m ns → Reads (decimal n ++ text) j (m + 1) (n ∷ ns)
-reads-number text n j m ns stop due h l r =
-    let e = λ (at : ℕ). tokens-decimal at n text h stop in
-    let good = λ (at : ℕ). good-number at n (range_of j) h l in
+reads-number : (text : List ℕ) (number range : ℕ) (due : Due) (ns : List ℕ) → begins_with_digit text ≡ false
+    → range_of due ≡ Some range → range ≤ 2 ^ 32 → number < range → Reads text (next_due due) ns
+    → Reads (decimal number ++ text) due (number ∷ ns)
+reads-number text number range due ns stop is small l r =
+    let h : number < 2 ^ 64 = omega arith in
+    let e = λ (at : ℕ). tokens-decimal at number text h stop in
+    let v = number-decimal number h in
+    let t : nat_lt number range ≡ true = grind (arith, tests) in
     record {
-      good = λ at. ap (first_fault j) (e at) ∙ rw (due, good at) (r.good (at + length (decimal n)));
-      count = λ at. omega (arith, ap length (e at), r.count (at + length (decimal n)));
+      good = λ at n. ap (first_fault due n) (e at) ∙ rw (is, v, t) (r.good (at + length (decimal number)) n);
       spelled = λ at. ap numbers (e at)
-          ∙ rw (number-decimal n h) (ap (λ (l : List ℕ). n ∷ l) (r.spelled (at + length (decimal n))));
+          ∙ rw v (ap (λ (l : List ℕ). number ∷ l) (r.spelled (at + length (decimal number))));
     }
 
 -- ---- instructions
@@ -113,42 +96,34 @@ line-split : (i : Insn) (text : List ℕ) → word_line i ++ text
     ≡ decimal i.code ++ (32 ∷ decimal i.jt ++ (32 ∷ decimal i.jf ++ (32 ∷ decimal i.k ++ (44 ∷ text))))
 line-split i text = simp append_assoc
 
-reads-line : (i : Insn) (text : List ℕ) (m : ℕ) (ns : List ℕ) → InRange i → Reads text 2 m ns
-    → Reads (word_line i ++ text) 2 (m + 5) (i.code ∷ i.jt ∷ i.jf ∷ i.k ∷ ns)
-reads-line i text m ns h r =
-    let k = reads-number _ i.k 5 _ _ refl refl (omega (arith, h.k)) h.k
-    (reads-next_comma _ _ _ (reads-comma text m ns r)) in
-    let jf = reads-number _ i.jf 4 _ _ refl refl (omega (arith, h.jf)) h.jf (reads-space _ _ _ _ k) in
-    let jt = reads-number _ i.jt 3 _ _ refl refl (omega (arith, h.jt)) h.jt (reads-space _ _ _ _ jf) in
-    let code = reads-number _ i.code 2 _ _ refl refl (omega (arith, h.code)) h.code (reads-space _ _ _ _ jt) in
-    let sum : m + 1 + 1 + 1 + 1 + 1 ≡ m + 5 = omega arith in
-    rw (line-split i text, ← sum) code
+reads-line : (i : Insn) (text : List ℕ) (ns : List ℕ) → InRange i → Reads text code ns
+    → Reads (word_line i ++ text) code (i.code ∷ i.jt ∷ i.jf ∷ i.k ∷ ns)
+reads-line i text ns h r =
+    let last = reads-number _ i.k _ k _ refl refl (omega arith) h.k (reads-comma _ comma _ refl r) in
+    let third = reads-number _ i.jf _ jf _ refl refl (omega arith) h.jf (reads-space _ _ _ last) in
+    let second = reads-number _ i.jt _ jt _ refl refl (omega arith) h.jt (reads-space _ _ _ third) in
+    rw (line-split i text)
+    (reads-number _ i.code _ code _ refl refl (omega arith) h.code (reads-space _ _ _ second))
 
 reads-lines : (list : List Insn) → All InRange list
-    → Reads (flat_map word_line list ++ codes "\n") 2 (5 * length list) (fields_of list)
+    → Reads (flat_map word_line list ++ codes "\n") code (fields_of list)
 reads-lines [] h = reads-newline
 reads-lines (i ∷ is) h =
-    let more : Reads (flat_map word_line is ++ codes "\n") 2 (5 * length is) (fields_of is) =
-    reads-lines is (All-tail InRange i is h) in
-    let sum : 5 * length is + 5 ≡ 5 * length (i ∷ is) = omega arith in
-    rw (append_assoc (word_line i) (flat_map word_line is) (codes "\n"), ← sum)
-    (reads-line i _ _ _ (All-head InRange i is h) more)
+    rw (append_assoc (word_line i) (flat_map word_line is) (codes "\n"))
+    (reads-line i _ _ (All-head InRange i is h) (reads-lines is (All-tail InRange i is h)))
 
 words-split : (list : List Insn)
     → words list ≡ decimal (length list) ++ (44 ∷ (flat_map word_line list ++ codes "\n"))
 words-split list = simp append_assoc
 
 reads-words : (list : List Insn) → length list < 2 ^ 32 → All InRange list
-    → Reads (words list) 0 (5 * length list + 1 + 1) (length list ∷ fields_of list)
+    → Reads (words list) count (length list ∷ fields_of list)
 reads-words list l h =
     rw (words-split list)
-    (reads-number _ (length list) 0 _ _ refl refl (omega (arith, l)) l (reads-comma _ _ _ (reads-lines list h)))
+    (reads-number _ (length list) _ count _ refl refl (omega arith) l (reads-comma _ count_comma _ refl (reads-lines list h)))
 
 -- the law that a list is read back from its text
 pub words-spell : (list : List Insn) → All InRange list → length list ≤ 4294967295 → Spells (words list) list
 words-spell list h l =
     let r = reads-words list (omega (arith, l)) h in
-    let n = r.count 0 in
-    let w = whole-by (words list) (length list) list (r.good 0) (omega (arith, n)) (inr (omega (arith, n)))
-    (r.spelled 0) in
-    record { loose = w.loose; counted = w.counted }
+    whole-spells (words list) (length list) list (record { good = r.good 0 (length (words list)); spelled = r.spelled 0 }) refl

@@ -1,7 +1,8 @@
 -- The tokens of a text: its longest runs of digits, and its single bytes that are neither digit nor blank.
 -- Word text, as `tcpdump -ddd` prints it, is made of them.
-use Rattle.std.specs.Prelude.{ℕ, suc, ◌+◌, ◌-◌, ◌*◌, Bool, false, ◌&&◌, ◌||◌, ◌==◌, nat_lt, if◌then◌else◌, List, []}
-use Rattle.std.specs.Prelude.{◌∷◌, drop, fold}
+use Rattle.std.specs.Prelude.{ℕ, suc, ◌+◌, ◌-◌, ◌*◌, Bool, true, false, ◌&&◌, ◌||◌, ◌==◌, nat_lt, if◌then◌else◌, List}
+use Rattle.std.specs.Prelude.{[], ◌∷◌, drop, fold}
+use Rattle.std.specs.List.{take_while}
 
 -- a run of digits or a single byte, with the place of its first byte
 pub data Token : Type 0 where
@@ -19,19 +20,16 @@ abbrev pub begins_with_digit : List ℕ → Bool
 begins_with_digit [] = false
 begins_with_digit (b ∷ bs) = is_digit b
 
--- a digit in front of the first token, which is a run
-abbrev pub join_digit : ℕ → ℕ → List Token → List Token
-join_digit at b [] = []
-join_digit at b (single p x ∷ ms) = single p x ∷ ms
-join_digit at b (run p ds ∷ ms) = run at (b ∷ ds) ∷ ms
+-- the tokens that begin in a text whose first byte has the place `at`: within a run of digits a digit begins none
+unfoldable pub tokens_in : (in_run : Bool) → ℕ → List ℕ → List Token
+tokens_in in_run at [] = []
+tokens_in in_run at (b ∷ bs) =
+    if is_digit b then (if in_run then tokens_in true (suc at) bs
+    else (run at (b ∷ take_while is_digit bs) ∷ tokens_in true (suc at) bs))
+    else (if is_blank b then tokens_in false (suc at) bs else (single at b ∷ tokens_in false (suc at) bs))
 
--- the tokens of a text whose first byte has the place `at`: a digit joins the run after it, if there is one
-unfoldable pub tokens_from : ℕ → List ℕ → List Token
-tokens_from at [] = []
-tokens_from at (b ∷ bs) =
-    if is_digit b then (if begins_with_digit bs then join_digit at b (tokens_from (suc at) bs)
-    else (run at (b ∷ []) ∷ tokens_from (suc at) bs))
-    else (if is_blank b then tokens_from (suc at) bs else (single at b ∷ tokens_from (suc at) bs))
+abbrev pub tokens_from : ℕ → List ℕ → List Token
+tokens_from at text = tokens_in false at text
 
 abbrev pub tokens : List ℕ → List Token
 tokens text = tokens_from 0 text

@@ -1,7 +1,7 @@
 // Finds the tokens of a text one after another.
 ghost use Rattle.std.specs.Prelude.{◌≡◌, ◌≢◌, ◌+◌, ◌<◌, ◌≤◌, ◌^◌, ℕ, min, take, length, slice_index, true, false};
 ghost use Rattle.std.specs.Prelude.{List, [], ◌∷◌, ◌++◌, MatchOption};
-ghost use Rattle.std.specs.List.{AllByRecursion};
+ghost use Rattle.std.specs.List.{AllByRecursion, prefix_len};
 ghost use Rattle.cbpf_code.specs.WordTokens.{single, run, is_digit, is_blank, begins_with_digit, number, tokens_from};
 ghost use Rattle.cbpf_code.specs.WordTokens.{tokens_after};
 ghost use Rattle.cbpf_code.specs.NextToken.{IsNextToken};
@@ -27,9 +27,7 @@ pub fn is_blank(b: u8) -> bool
 
 /// The length of the longest beginning of digits, and the number that they spell, at most `CAP`.
 fn leading_digits(text: &[u8]) -> (usize, u64)
-    ensures within { result.0 ≤ length text.now }
-    ensures digits { (k : ℕ) → k < result.0 → is_digit (slice_index text.now k) ≡ true }
-    ensures stops { result.0 < length text.now → is_digit (slice_index text.now result.0) ≡ false }
+    ensures length { result.0 ≡ prefix_len is_digit text.now }
     ensures value { result.1 ≡ min (number (take result.0 text.now)) (2 ^ 32) }
 {
     let mut value = 0;

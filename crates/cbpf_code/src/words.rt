@@ -1,8 +1,8 @@
 // Reads word text, as `tcpdump -ddd` and `bpf_asm` print it.
-ghost use Rattle.std.specs.Prelude.{◌≡◌, ◌+◌, ◌<◌, ◌≤◌, ◌^◌, ◌%◌, ◌↔◌, ℕ, length, [], ◌∷◌, IsTrue, IfOk, MatchResult};
-ghost use Rattle.std.specs.Prelude.{List, ◌≢◌, ◌⊎◌};
+ghost use Rattle.std.specs.Prelude.{◌≡◌, ◌<◌, ◌≤◌, ◌^◌, ◌↔◌, ℕ, length, [], ◌∷◌, IsTrue, IfOk, MatchResult, None};
+ghost use Rattle.std.specs.Prelude.{List, ◌≢◌, ◌⊎◌, Some};
 ghost use Rattle.cbpf_code.specs.WordTokens.{tokens_after};
-ghost use Rattle.cbpf_code.specs.WordText.{range_of, Spells, Refused};
+ghost use Rattle.cbpf_code.specs.WordText.{Due, code, comma, next_due, range_of, Spells, Refused};
 ghost use Rattle.cbpf_code.specs.WordSteps.{Passes, Stops, IsReadWhole};
 ghost use Rattle.cbpf_code.specs.declared.insn.Insn.{Insn};
 ghost use Rattle.cbpf_code.specs.declared.words.WordFault.{WordFault};
@@ -43,9 +43,9 @@ fn number_at(text: &[u8], at: usize, range: u64) -> Result<(u64, usize), WordFau
     requires place { at ≤ length text.now }
     requires range { range ≤ 2 ^ 32 }
     ensures below { IfOk result (λ r. (r.0 < range) × (r.1 ≤ length text.now)) }
-    ensures step { (j : ℕ) → range_of j ≡ range → (j % 5 ≡ 1 → ⊥) →
-        MatchResult result (λ r. Passes text.now j at 1 (r.0 ∷ []) r.1)
-        (λ e. Stops text.now j at 1 e (NumberExpected (length text.now))) }
+    ensures step { (due : Due) → range_of due ≡ Some range →
+        MatchResult result (λ r. Passes text.now due at (r.0 ∷ []) (next_due due) r.1)
+        (λ e. Stops text.now due at e (NumberExpected (length text.now))) }
 {
     match next_token(text, at) {
         None => Err(WordFault::NumberExpected(text.len())),
@@ -61,8 +61,9 @@ fn number_at(text: &[u8], at: usize, range: u64) -> Result<(u64, usize), WordFau
 /// Where a comma ends.
 fn comma_at(text: &[u8], at: usize) -> Result<usize, WordFault>
     requires { at ≤ length text.now }
-    ensures { MatchResult result (λ end. Passes text.now 1 at 1 [] end)
-        (λ e. Stops text.now 1 at 1 e (CommaExpected (length text.now))) }
+    ensures { (due : Due) → range_of due ≡ None →
+        MatchResult result (λ end. Passes text.now due at [] (next_due due) end)
+        (λ e. Stops text.now due at e (CommaExpected (length text.now))) }
 {
     match next_token(text, at) {
         None => Err(WordFault::CommaExpected(text.len())),
@@ -78,8 +79,8 @@ fn comma_at(text: &[u8], at: usize) -> Result<usize, WordFault>
 fn insn_at(text: &[u8], at: usize) -> Result<(Insn, usize), WordFault>
     requires { at ≤ length text.now }
     ensures { MatchResult result
-        (λ r. Passes text.now 2 at 4 (r.0.code ∷ r.0.jt ∷ r.0.jf ∷ r.0.k ∷ []) r.1)
-        (λ e. Stops text.now 2 at 4 e (NumberExpected (length text.now))) }
+        (λ r. Passes text.now code at (r.0.code ∷ r.0.jt ∷ r.0.jf ∷ r.0.k ∷ []) comma r.1)
+        (λ e. Stops text.now code at e (NumberExpected (length text.now))) }
 {
     let (code, at) = number_at(text, at, 65536)?;
     let (jt, at) = number_at(text, at, 256)?;
@@ -95,6 +96,7 @@ fn insn_at(text: &[u8], at: usize) -> Result<(Insn, usize), WordFault>
 }
 
 /// The list, if the count is its length.
+#[tactic(auto, using(crate::proofs::WordStepLemmas::reading))]
 fn counted<A: Allocator>(
     text: &[u8],
     count: u32,
