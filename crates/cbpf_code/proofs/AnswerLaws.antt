@@ -26,10 +26,10 @@ use Rattle.cbpf_code.specs.WordTokens.{Token, run, single, tokens}
 use Rattle.cbpf_code.specs.WordText.{Due, count, next_due, range_of, token_fault, or_else, first_fault, fault_of}
 use Rattle.cbpf_code.specs.WordText.{count_of, list_of, Spells, Refused}
 use Rattle.cbpf_code.specs.Laws.{EachTextIsRead, EachListIsChecked}
-use Rattle.cbpf_code.proofs.PathLemmas.{insn_at-same, reached-unwritten_at}
-use Rattle.cbpf_code.proofs.SoundLemmas.{known_or, returns_or}
-use Rattle.cbpf_code.proofs.FaultLemmas.{first_fault-insn, first_fault-at_end, first_fault-slot, passes_before-next}
-use Rattle.cbpf_code.proofs.FaultLemmas.{well_formed-at_end, sound_of}
+use Rattle.cbpf_code.proofs.PathLemmas.{reached-unwritten_at}
+use Rattle.cbpf_code.proofs.SoundLemmas.{known_or}
+use Rattle.cbpf_code.proofs.FaultLemmas.{insn_at-same, first_fault-insn, first_fault-at_end, first_fault-slot}
+use Rattle.cbpf_code.proofs.FaultLemmas.{passes_before-start, passes_before-next, well_formed-at_end, sound_of}
 
 -- ---- what is decided
 
@@ -71,6 +71,11 @@ least P (suc n) decided =
 
 -- ---- an instruction of a list
 
+returns_or : (o : Option Op) → (((o ≡ Some RetK) ⊎ (o ≡ Some RetA)) → ⊥) ⊎ ((o ≡ Some RetK) ⊎ (o ≡ Some RetA))
+returns_or (Some RetK) = inr (inl refl)
+returns_or (Some RetA) = inr (inr refl)
+returns_or _ = inl (λ h. elim h [ inl e ↦ cc | inr e ↦ cc ])
+
 insn_at : (list : List Insn) (i : ℕ) (Has : Op → Insn → Type 0) → ((op : Op) (insn : Insn) → Decided (Has op insn))
     → Decided (InsnAt list i Has)
 insn_at list i Has decided =
@@ -90,13 +95,15 @@ insn_at list i Has decided =
 jumps_outside : (op : Op) (insn : Insn) (i n : ℕ) → Decided (JumpsOutside op insn i n)
 jumps_outside Ja insn i n = elim (at_most n (i + 1 + insn.k)) [
   | inl far ↦ inl (_, refl, far)
-  | inr near ↦ inr (λ h. near (subst (λ t. n ≤ t) h.1 h.2))
+  | inr near ↦ inr (λ h. omega (arith, h.1, h.2))
 ]
-jumps_outside (Jump cond src) insn i n =
-    elim (either (at_most n (i + 1 + insn.jt)) (at_most n (i + 1 + insn.jf))) [
-      | inl h ↦ inl (elim h [ inl far ↦ (_, inl refl, far) | inr far ↦ (_, inr refl, far) ])
-      | inr never ↦ inr (λ h. never (elim h.1 [ inl e ↦ inl (rw e at h.2) | inr e ↦ inr (rw e at h.2) ]))
-    ]
+jumps_outside (Jump cond src) insn i n = elim (at_most n (i + 1 + insn.jt)) [
+  | inl far ↦ inl (_, inl refl, far)
+  | inr near ↦ elim (at_most n (i + 1 + insn.jf)) [
+    | inl far ↦ inl (_, inr refl, far)
+    | inr short ↦ inr (λ h. elim h.1 [ inl e ↦ omega (arith, e, h.2) | inr e ↦ omega (arith, e, h.2) ])
+  ]
+]
 jumps_outside _ insn i n = inr (λ h. h.1)
 
 is_none : {X : Type 0} (o : Option X) → Decided (o ≡ None)
@@ -114,33 +121,31 @@ loads_no_extension op insn =
 abbrev FaultAt : List Insn → ℕ → Type 0
 FaultAt list i = (e : CheckFault) × HasFault list e × (rank e ≡ 2) × (index_of e ≡ i)
 
+or_else-allowed : {P Fault Allowed : Type 0} → Decided P → (P → Fault) → ((P → ⊥) → Allowed ⊎ Fault) → Allowed ⊎ Fault
+or_else-allowed (inl has) fault rest = inr (fault has)
+or_else-allowed (inr never) fault rest = rest never
+
 known-fault : (list : List Insn) (i : ℕ) (insn : Insn) (op : Op) → slice_get list i ≡ Some insn
     → op_of insn.code ≡ Some op → AllowedAt list i ⊎ FaultAt list i
 known-fault list i insn op here known =
-    elim (both (is_true (uses_slot op)) (at_most 16 insn.k)) [
-      | inl h ↦ inr (NoSlot i, (insn, op, here, known, h), refl, refl)
-      | inr slot ↦ elim (both (is_true (divides_by_k op)) (cases_eq insn.k 0)) [
-        | inl h ↦ inr (ZeroDivisor i, (insn, op, here, known, h), refl, refl)
-        | inr divisor ↦ elim (both (is_true (shifts_by_k op)) (at_most 32 insn.k)) [
-          | inl h ↦ inr (WideShift i, (insn, op, here, known, h), refl, refl)
-          | inr shift ↦ elim (jumps_outside op insn i (length list)) [
-            | inl h ↦ inr (JumpOutside i, (insn, op, here, known, h), refl, refl)
-            | inr targets ↦ elim (loads_no_extension op insn) [
-              | inl h ↦ inr (UnknownExtension i, (insn, op, here, known, h), refl, refl)
-              | inr extension ↦
-                  let fine : IsAllowed op insn i (length list) = record {
-                    slot = slot;
-                    divisor = divisor;
-                    shift = shift;
-                    targets = targets;
-                    extension = extension;
-                  } in
-                  inl (insn, op, here, known, fine)
-            ]
-          ]
-        ]
-      ]
-    ]
+    or_else-allowed (both (is_true (uses_slot op)) (at_most 16 insn.k))
+    (λ h. (NoSlot i, (insn, op, here, known, h), refl, refl)) (λ slot.
+    or_else-allowed (both (is_true (divides_by_k op)) (cases_eq insn.k 0))
+    (λ h. (ZeroDivisor i, (insn, op, here, known, h), refl, refl)) (λ divisor.
+    or_else-allowed (both (is_true (shifts_by_k op)) (at_most 32 insn.k))
+    (λ h. (WideShift i, (insn, op, here, known, h), refl, refl)) (λ shift.
+    or_else-allowed (jumps_outside op insn i (length list))
+    (λ h. (JumpOutside i, (insn, op, here, known, h), refl, refl)) (λ targets.
+    or_else-allowed (loads_no_extension op insn)
+    (λ h. (UnknownExtension i, (insn, op, here, known, h), refl, refl)) (λ extension.
+    let fine : IsAllowed op insn i (length list) = record {
+      slot = slot;
+      divisor = divisor;
+      shift = shift;
+      targets = targets;
+      extension = extension;
+    } in
+    inl (insn, op, here, known, fine))))))
 
 fault_at : (list : List Insn) (i : ℕ) → i < length list → AllowedAt list i ⊎ FaultAt list i
 fault_at list i below = elim (slice_get_cases list i).1 [
@@ -212,8 +217,7 @@ Checked list = IsSound list ⊎ ((e : CheckFault) × FirstFault list e)
 
 passes : (list : List Insn) (m : ℕ) → 0 < length list → length list ≤ 4096 → m ≤ length list
     → PassesBefore list m ⊎ ((e : CheckFault) × FirstFault list e)
-passes list zero some few within =
-    inl (record { some = some; few = few; allowed = λ j below. absurd (omega arith) })
+passes list zero some few within = inl (passes_before-start list some few)
 passes list (suc m) some few within =
     elim (passes list m some few (omega arith)) [
       | inr first ↦ inr first

@@ -1,5 +1,5 @@
 -- Paths through a list of instructions, and the masks that stand for them.
-use Rattle.std.proofs.Common.{◌≡◌, ℕ, ◌+◌, ◌<◌, ◌≤◌, List, length, get_or, replicate, arith, refl, ◌∙◌, subst, inl}
+use Rattle.std.proofs.Common.{◌≡◌, ℕ, ◌+◌, ◌<◌, List, length, get_or, replicate, arith, refl, ◌∙◌, subst, inl}
 use Rattle.std.proofs.Common.{inr}
 use Rattle.std.specs.Prelude.{◌⊎◌, Some, IsTrue, slice_get, slice_set, slice_index}
 use Rattle.std.proofs.lemmas.Bool.{cases_eq, cases_lt}
@@ -10,24 +10,15 @@ use Rattle.std.proofs.lemmas.Option.{slice_get_within}
 use Rattle.std.proofs.Math.ListN.{length-set, length-replicate, get_or-eq_default}
 use Rattle.cbpf_code.specs.declared.insn.Insn.{Insn}
 use Rattle.cbpf_code.specs.declared.opcode.Op.{Op}
-use Rattle.cbpf_code.specs.declared.opcode.Op.TheVariants.{LdMem, St, Ja, Jump, RetK, RetA}
+use Rattle.cbpf_code.specs.declared.opcode.Op.TheVariants.{LdMem, St}
 use Rattle.cbpf_code.specs.declared.checker.CheckFault.TheVariants.{UnwrittenSlot}
 use Rattle.cbpf_code.specs.Opcode.{op_of}
-use Rattle.cbpf_code.specs.ControlFlow.{InsnAt, Follows, FollowsCode, IsSuccessor, StoresSlot, MayBeUnwritten}
+use Rattle.cbpf_code.specs.ControlFlow.{Follows, FollowsCode, IsSuccessor, StoresSlot, MayBeUnwritten}
 use Rattle.cbpf_code.specs.ControlFlow.{loads_slot, stores_slot}
 use Rattle.cbpf_code.specs.ControlFlow.MayBeUnwritten.{at_start, onward}
 use Rattle.cbpf_code.specs.Faults.{uses_slot, HasFault}
-use Rattle.cbpf_code.specs.CheckSteps.{IsWellFormed, IsAllowed}
 use Rattle.cbpf_code.specs.SlotMasks.{InMask, InMaskOf, LeavesUnwritten, AddsToMasks}
-
--- ---- an instruction of a list
-
-pub insn_at-same : (list : List Insn) (i : ℕ) (Has : Op → Insn → Type 0) (insn : Insn) (op : Op) → InsnAt list i Has
-    → slice_get list i ≡ Some insn → op_of insn.code ≡ Some op → Has op insn
-insn_at-same list i Has insn op a here known =
-    let same_insn : a.0 ≡ insn = cc in
-    let same_op : a.1 ≡ op = cc in
-    rw (← same_op, ← same_insn) a.4
+use Rattle.cbpf_code.proofs.FaultLemmas.{insn_at-same}
 
 successor-same : (list : List Insn) (i t : ℕ) (insn : Insn) (op : Op) → IsSuccessor list i t
     → slice_get list i ≡ Some insn → op_of insn.code ≡ Some op → Follows op insn i t
@@ -147,28 +138,6 @@ written_at list i insn op masks here known small tracks fine stands =
 pub written-all : (list : List Insn) (masks : List ℕ) → TracksPaths list (length list) masks → (j : ℕ)
     → HasFault list (UnwrittenSlot j) → ⊥
 written-all list masks tracks j stands = tracks.written j (slice_get_within list j stands.0 stands.2) stands
-
--- ---- what follows is inside
-
-allowed_follows-inside : (op : Op) (insn : Insn) (i n t : ℕ) → IsAllowed op insn i n → i < n
-    → (i + 1 ≡ n → (op ≡ RetK) ⊎ (op ≡ RetA)) → Follows op insn i t → t < n
-allowed_follows-inside Ja insn i n t allowed below last h =
-    let never = λ (past : n ≤ t). allowed.targets (t, h, past) in omega arith
-allowed_follows-inside (Jump k src) insn i n t allowed below last h =
-    let never = λ (past : n ≤ t). allowed.targets (t, h, past) in omega arith
-allowed_follows-inside RetK insn i n t allowed below last h = absurd h
-allowed_follows-inside RetA insn i n t allowed below last h = absurd h
-allowed_follows-inside _ insn i n t allowed below last h =
-    let never = λ (e : i + 1 ≡ n). elim (last e) as (λ _. ⊥) [ inl a ↦ cc | inr b ↦ cc ] in omega arith
-
-pub follows-inside : (list : List Insn) (i : ℕ) (insn : Insn) (op : Op) → IsWellFormed list
-    → slice_get list i ≡ Some insn → op_of insn.code ≡ Some op → (t : ℕ) → Follows op insn i t → t < length list
-follows-inside list i insn op formed here known t follows =
-    let below = slice_get_within list i insn here in
-    allowed_follows-inside op insn i (length list) t
-    (insn_at-same list i (λ o x. IsAllowed o x i (length list)) insn op (formed.passed.allowed i below) here known)
-    below
-    (λ last. elim (formed.ends insn i last here) [ inl a ↦ inl (cc) | inr b ↦ inr (cc) ]) follows
 
 -- a slot that is loaded or stored is named
 pub loads_use-slot : (op : Op) → IsTrue (loads_slot op) → IsTrue (uses_slot op)

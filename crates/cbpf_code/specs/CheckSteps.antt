@@ -1,13 +1,14 @@
 -- What the passes of the checker promise one another; the rules themselves are those of Faults (bpf(4),
 -- "FILTER MACHINE").
-use Rattle.std.specs.Prelude.{◌≡◌, ℕ, ◌+◌, ◌<◌, ◌≤◌, List, Some, length, slice_get}
+use Rattle.std.specs.Prelude.{◌≡◌, ℕ, ◌<◌, ◌≤◌, List, length}
 use Rattle.cbpf_code.specs.declared.insn.Insn.{Insn}
 use Rattle.cbpf_code.specs.declared.opcode.Op.{Op}
 use Rattle.cbpf_code.specs.declared.checker.CheckFault.{CheckFault}
 use Rattle.cbpf_code.specs.declared.checker.CheckFault.TheVariants.{NoSlot, ZeroDivisor, WideShift, JumpOutside}
-use Rattle.cbpf_code.specs.declared.checker.CheckFault.TheVariants.{UnknownExtension}
+use Rattle.cbpf_code.specs.declared.checker.CheckFault.TheVariants.{UnknownExtension, UnknownCode}
 use Rattle.cbpf_code.specs.ControlFlow.{InsnAt}
-use Rattle.cbpf_code.specs.Faults.{NamesNoSlot, DividesByZero, ShiftsTooFar, JumpsOutside, LoadsNoExtension, IsReturn}
+use Rattle.cbpf_code.specs.Faults.{NamesNoSlot, DividesByZero, ShiftsTooFar, JumpsOutside, LoadsNoExtension}
+use Rattle.cbpf_code.specs.Faults.{HasFault, IsEarlier, rank}
 
 -- an instruction of a known code, at i of n, has this fault of C4 to C8
 abbrev pub InsnHasFault : Op → Insn → ℕ → ℕ → CheckFault → Type 0
@@ -32,11 +33,9 @@ AllowedAt list i = InsnAt list i (λ op insn. IsAllowed op insn i (length list))
 
 -- C1 to C8 are absent before instruction m
 pub record PassesBefore (list : List Insn) (m : ℕ) : Type 0 where
-  pub some : 0 < length list
-  pub few : length list ≤ 4096
-  pub allowed : (j : ℕ) → j < m → AllowedAt list j
+  pub none : (e : CheckFault) → IsEarlier e (UnknownCode m) → HasFault list e → ⊥
 
 -- C1 to C9 are absent, so that each path ends at a return
 pub record IsWellFormed (list : List Insn) : Type 0 where
-  pub passed : PassesBefore list (length list)
-  pub ends : (insn : Insn) → (i : ℕ) → i + 1 ≡ length list → slice_get list i ≡ Some insn → IsReturn insn
+  pub few : length list ≤ 4096
+  pub none : (e : CheckFault) → rank e < 4 → HasFault list e → ⊥

@@ -1,50 +1,39 @@
-use Rattle.std.proofs.Common.{◌≡◌, ℕ, ◌<◌, List, length, get_or, arith, sym, ◌∙◌, refl, inl, inr}
-use Rattle.std.specs.Prelude.{Some, IsTrue, slice_get}
-use Rattle.std.proofs.lemmas.Bool.{cases_lt}
+use Rattle.std.proofs.Common.{◌≡◌, ℕ, ◌<◌, List, length, get_or, arith, sym, ◌∙◌, refl}
+use Rattle.std.specs.Prelude.{Some, slice_get}
 use Rattle.std.proofs.lemmas.Option.{slice_get-get_or}
 use Rattle.cbpf_code.specs.declared.insn.Insn.{Insn}
-use Rattle.cbpf_code.specs.declared.opcode.Op.{Op}
-use Rattle.cbpf_code.specs.Opcode.{op_of}
-use Rattle.cbpf_code.specs.Faults.{uses_slot}
-use Rattle.cbpf_code.specs.CheckSteps.{IsWellFormed}
 use Rattle.cbpf_code.proofs.PathLemmas.{tracks_paths-start, tracks_paths-next, unwritten_at, written_at, written-all}
-use Rattle.cbpf_code.proofs.PathLemmas.{follows-inside, loads_use-slot, stores_use-slot}
-use Rattle.cbpf_code.proofs.FaultLemmas.{known_of, allowed_of, zero_insn}
+use Rattle.cbpf_code.proofs.PathLemmas.{loads_use-slot, stores_use-slot}
+use Rattle.cbpf_code.proofs.FaultLemmas.{zero_insn}
+use Rattle.cbpf_code.proofs.SoundLemmas.{formed_known, formed_allowed, formed_next}
 use Rattle.cbpf_code.proofs.slots.first_unwritten.Goals as goal
 
 here : (list : List Insn) (i : ℕ) → i < length list → slice_get list i ≡ Some (get_or list i zero_insn)
 here list i below = slice_get-get_or list i zero_insn below
-
-slot_below : (list : List Insn) (i : ℕ) (op : Op) → IsWellFormed list → i < length list
-    → op_of (get_or list i zero_insn).code ≡ Some op → IsTrue (uses_slot op) → (get_or list i zero_insn).k < 16
-slot_below list i op formed below known uses = elim (cases_lt (get_or list i zero_insn).k 16) [
-  | inl fits ↦ fits
-  | inr past ↦ absurd ((allowed_of list _ i _ op formed.passed below (here list i below) known).slot (uses, past))
-]
 
 pub loop-i-init : goal.loop-i-init
 loop-i-init c = tracks_paths-start c.args.list.now
 
 pub unreachable-requires : goal.unreachable-requires
 unreachable-requires c =
-    known_of _ _ _ _ c.requires.passed c.loop-i-test.true (here _ _ c.loop-i-test.true)
-    (sym c.op_of.ensures ∙ c.in-None.is)
+    let known = formed_known _ _ _ c.requires (here c.args.list.now c.loop-i.i c.loop-i-test.true) in
+    cc
 
 pub loads_any-requires : goal.loads_any-requires
 loads_any-requires c = λ loads.
-    slot_below _ _ _ c.requires c.loop-i-test.true (sym c.op_of.ensures ∙ c.in-Some.is)
+    (formed_allowed _ _ _ _ c.requires (here _ _ c.loop-i-test.true) (sym c.op_of.ensures ∙ c.in-Some.is)).slot
     (loads_use-slot c.in-Some.op loads)
 
 pub still_unwritten-left-requires : goal.still_unwritten-left-requires
 still_unwritten-left-requires c = λ stores.
-    slot_below _ _ _ c.requires c.loop-i-test.true (sym c.op_of.ensures ∙ c.in-Some.is)
+    (formed_allowed _ _ _ _ c.requires (here _ _ c.loop-i-test.true) (sym c.op_of.ensures ∙ c.in-Some.is)).slot
     (stores_use-slot c.in-Some.op stores)
 
 pub propagate-requires-clause-inside : goal.propagate-requires-clause-inside
 propagate-requires-clause-inside c = λ t follows.
     let long = c.loop-i.invariant.long in
-    let few = c.requires.passed.few in
-    let below = follows-inside _ _ _ _ c.requires (here _ _ c.loop-i-test.true)
+    let few = c.requires.few in
+    let below = formed_next _ _ _ _ c.requires (here _ _ c.loop-i-test.true)
     (sym c.op_of.ensures ∙ c.in-Some.is) t follows in
     omega arith
 
@@ -52,8 +41,9 @@ pub returns-then-loads_any : goal.returns-then-loads_any
 returns-then-loads_any c =
     let known = sym c.op_of.ensures ∙ c.in-Some.is in
     let loaded = c.if-loads_any.ensures.0 refl in
-    let small = slot_below _ _ _ c.requires c.loop-i-test.true known (loads_use-slot c.in-Some.op loaded.0) in (
-      unwritten_at _ _ _ _ _ (here _ _ c.loop-i-test.true) known small c.loop-i.invariant loaded.0 loaded.1,
+    let at = here _ _ c.loop-i-test.true in
+    let small = (formed_allowed _ _ _ _ c.requires at known).slot (loads_use-slot c.in-Some.op loaded.0) in (
+      unwritten_at _ _ _ _ _ at known small c.loop-i.invariant loaded.0 loaded.1,
       c.loop-i.invariant.written,
     )
 
@@ -63,7 +53,7 @@ loop-i-preserved c =
     let at = here _ _ c.loop-i-test.true in
     tracks_paths-next _ _ _ _ _ _ _ at known c.loop-i.invariant c.still_unwritten-left.ensures c.propagate.ensures
     (written_at _ _ _ _ _ at known
-    (λ loads. slot_below _ _ _ c.requires c.loop-i-test.true known (loads_use-slot c.in-Some.op loads))
+    (λ loads. (formed_allowed _ _ _ _ c.requires at known).slot (loads_use-slot c.in-Some.op loads))
     c.loop-i.invariant (λ loaded. let never = c.if-loads_any.ensures.1 loaded in absurd (cc)))
 
 pub returns : goal.returns
