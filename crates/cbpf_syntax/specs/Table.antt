@@ -13,6 +13,7 @@ use Rattle.cbpf_code.specs.declared.opcode.Size.TheVariants as size
 use Rattle.cbpf_code.specs.declared.opcode.AluOp.TheVariants as alu_op
 use Rattle.cbpf_code.specs.declared.opcode.Src.TheVariants as src
 use Rattle.cbpf_code.specs.declared.opcode.Cond.TheVariants as cond
+use Rattle.cbpf_code.specs.Syntax.{mnemonic_of, load_mnemonic, jump_mnemonic, alu_mnemonic}
 use Rattle.cbpf_syntax.specs.declared.table.Fields.{Fields}
 use Rattle.cbpf_syntax.specs.declared.table.Fields.TheVariants.{Constant, Goto, Branch, Swapped}
 use Rattle.cbpf_syntax.specs.Classes.{Class}
@@ -122,56 +123,41 @@ abbrev pub two_targets : Cond → List Entry
 two_targets c = entry (immediate · comma · label · comma · label) (Jump c src.K) Branch
     ∷ entry (x · comma · label · comma · label) (Jump c src.X) Branch ∷ []
 
-abbrev pub jump : Cond → List Entry
-jump c = two_targets c ++ one_target c Branch
-
-abbrev pub alu : AluOp → List Entry
-alu op = entry immediate (Alu op src.K) Constant ∷ entry x (Alu op src.X) Constant ∷ []
-
-abbrev pub only : List (List Class) → Op → Fields → List Entry
-only forms op fields = entry forms op fields ∷ []
-
 abbrev pub mnemonic : List ℕ → List Entry → Mnemonic
 mnemonic word entries = record { word = word; entries = entries }
 
+-- under the word that a listing writes: one addressing mode, a conditional jump, an operation of arithmetic
+abbrev pub only : List (List Class) → Op → Fields → Mnemonic
+only forms op fields = mnemonic (mnemonic_of op) (entry forms op fields ∷ [])
+
+abbrev pub jump : Cond → Mnemonic
+jump c = mnemonic (jump_mnemonic c) (two_targets c ++ one_target c Branch)
+
+abbrev pub alu : AluOp → Mnemonic
+alu op = mnemonic (alu_mnemonic op) (entry immediate (Alu op src.K) Constant ∷ entry x (Alu op src.X) Constant ∷ [])
+
 unfoldable pub mnemonics : List Mnemonic
 mnemonics =
-    mnemonic (codes "ld")
+    mnemonic (mnemonic_of LdImm)
     (load size.Word ++ (entry memory LdMem Constant ∷ entry immediate LdImm Constant ∷ entry len LdLen Constant ∷ []))
-    ∷ mnemonic (codes "ldh") (load size.Half)
-    ∷ mnemonic (codes "ldb") (load size.Byte)
+    ∷ mnemonic (load_mnemonic size.Half) (load size.Half)
+    ∷ mnemonic (load_mnemonic size.Byte) (load size.Byte)
     ∷ mnemonic (codes "ldi") (entry immediate LdImm Constant ∷ entry n LdImm Constant ∷ [])
-    ∷ mnemonic (codes "ldx")
+    ∷ mnemonic (mnemonic_of LdxImm)
     (entry memory LdxMem Constant ∷ entry immediate LdxImm Constant ∷ entry header LdxMsh Constant
     ∷ entry len LdxLen Constant ∷ [])
     ∷ mnemonic (codes "ldxi") (entry immediate LdxImm Constant ∷ entry n LdxImm Constant ∷ [])
-    ∷ mnemonic (codes "ldxb") (only header LdxMsh Constant)
-    ∷ mnemonic (codes "st") (only memory St Constant)
-    ∷ mnemonic (codes "stx") (only memory Stx Constant)
-    ∷ mnemonic (codes "jmp") (only label Ja Goto)
-    ∷ mnemonic (codes "ja") (only label Ja Goto)
-    ∷ mnemonic (codes "jeq") (jump cond.Eq)
-    ∷ mnemonic (codes "jgt") (jump cond.Gt)
-    ∷ mnemonic (codes "jge") (jump cond.Ge)
-    ∷ mnemonic (codes "jset") (jump cond.Bits)
+    ∷ only header LdxMsh Constant ∷ only memory St Constant ∷ only memory Stx Constant ∷ only label Ja Goto
+    ∷ mnemonic (codes "ja") (entry label Ja Goto ∷ [])
+    ∷ jump cond.Eq ∷ jump cond.Gt ∷ jump cond.Ge ∷ jump cond.Bits
     ∷ mnemonic (codes "jneq") (one_target cond.Eq Swapped)
     ∷ mnemonic (codes "jne") (one_target cond.Eq Swapped)
     ∷ mnemonic (codes "jlt") (one_target cond.Ge Swapped)
     ∷ mnemonic (codes "jle") (one_target cond.Gt Swapped)
-    ∷ mnemonic (codes "add") (alu alu_op.Add)
-    ∷ mnemonic (codes "sub") (alu alu_op.Sub)
-    ∷ mnemonic (codes "mul") (alu alu_op.Mul)
-    ∷ mnemonic (codes "div") (alu alu_op.Div)
-    ∷ mnemonic (codes "mod") (alu alu_op.Mod)
-    ∷ mnemonic (codes "and") (alu alu_op.And)
-    ∷ mnemonic (codes "or") (alu alu_op.Or)
-    ∷ mnemonic (codes "xor") (alu alu_op.Xor)
-    ∷ mnemonic (codes "lsh") (alu alu_op.Lsh)
-    ∷ mnemonic (codes "rsh") (alu alu_op.Rsh)
-    ∷ mnemonic (codes "neg") (only none Neg Constant)
-    ∷ mnemonic (codes "tax") (only none Tax Constant)
-    ∷ mnemonic (codes "txa") (only none Txa Constant)
-    ∷ mnemonic (codes "ret") (entry immediate RetK Constant ∷ entry a RetA Constant ∷ [])
+    ∷ alu alu_op.Add ∷ alu alu_op.Sub ∷ alu alu_op.Mul ∷ alu alu_op.Div ∷ alu alu_op.Mod ∷ alu alu_op.And
+    ∷ alu alu_op.Or ∷ alu alu_op.Xor ∷ alu alu_op.Lsh ∷ alu alu_op.Rsh
+    ∷ only none Neg Constant ∷ only none Tax Constant ∷ only none Txa Constant
+    ∷ mnemonic (mnemonic_of RetK) (entry immediate RetK Constant ∷ entry a RetA Constant ∷ [])
     ∷ []
 
 abbrev pub entry_rows : List ℕ → Entry → List Row
