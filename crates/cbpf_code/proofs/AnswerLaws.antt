@@ -21,14 +21,14 @@ use Rattle.cbpf_code.specs.ControlFlow.MayBeUnwritten.{at_start, onward}
 use Rattle.cbpf_code.specs.Faults.{HasFault, FirstFault, IsEarlier, rank, index_of, JumpsOutside, LoadsNoExtension, uses_slot}
 use Rattle.cbpf_code.specs.Faults.{divides_by_k, shifts_by_k, loads_absolute}
 use Rattle.cbpf_code.specs.Sound.{IsSound}
-use Rattle.cbpf_code.specs.CheckSteps.{PassesBefore, IsWellFormed, IsAllowed, AllowedAt}
+use Rattle.cbpf_code.specs.CheckSteps.{PassesBefore, IsWellFormed, AllowedAt}
 use Rattle.cbpf_code.specs.WordTokens.{Token, run, single, tokens}
 use Rattle.cbpf_code.specs.WordText.{Due, count, next_due, range_of, token_fault, or_else, first_fault, fault_of}
 use Rattle.cbpf_code.specs.WordText.{count_of, list_of, Spells, Refused}
 use Rattle.cbpf_code.specs.Laws.{EachTextIsRead, EachListIsChecked}
 use Rattle.cbpf_code.proofs.PathLemmas.{reached-unwritten_at}
 use Rattle.cbpf_code.proofs.SoundLemmas.{known_or}
-use Rattle.cbpf_code.proofs.FaultLemmas.{insn_at-same, first_fault-insn, first_fault-at_end, first_fault-slot}
+use Rattle.cbpf_code.proofs.FaultLemmas.{first_fault-insn, first_fault-at_end, first_fault-slot}
 use Rattle.cbpf_code.proofs.FaultLemmas.{passes_before-start, passes_before-next, well_formed-at_end, sound_of}
 
 -- ---- what is decided
@@ -53,6 +53,10 @@ either (inl p) d = inl (inl p)
 either (inr n) (inl q) = inl (inr q)
 either (inr n) (inr m) = inr (λ h. elim h [ inl p ↦ n p | inr q ↦ m q ])
 
+not : {P : Type 0} → Decided P → Decided (P → ⊥)
+not (inl p) = inr (λ never. never p)
+not (inr n) = inl n
+
 -- the least number below n with a property, or that there is none
 least : (P : ℕ → Type 0) (n : ℕ) → ((j : ℕ) → j < n → Decided (P j))
     → ((j : ℕ) × (j < n) × P j × ((h : ℕ) → h < j → P h → ⊥)) ⊎ ((j : ℕ) → j < n → P j → ⊥)
@@ -71,25 +75,20 @@ least P (suc n) decided =
 
 -- ---- an instruction of a list
 
-returns_or : (o : Option Op) → (((o ≡ Some RetK) ⊎ (o ≡ Some RetA)) → ⊥) ⊎ ((o ≡ Some RetK) ⊎ (o ≡ Some RetA))
-returns_or (Some RetK) = inr (inl refl)
-returns_or (Some RetA) = inr (inr refl)
-returns_or _ = inl (λ h. elim h [ inl e ↦ cc | inr e ↦ cc ])
+-- what an option has, if it has it
+found : {X : Type 0} (o : Option X) (P : X → Type 0) → ((x : X) → Decided (P x)) → Decided ((x : X) × (o ≡ Some x) × P x)
+found None P decided = inr (λ a. let some = a.1 in absurd (cc))
+found (Some x) P decided = elim (decided x) [
+  | inl has ↦ inl (x, refl, has)
+  | inr never ↦ inr (λ a. let same : a.0 ≡ x = cc in never (subst P same a.2))
+]
 
 insn_at : (list : List Insn) (i : ℕ) (Has : Op → Insn → Type 0) → ((op : Op) (insn : Insn) → Decided (Has op insn))
     → Decided (InsnAt list i Has)
 insn_at list i Has decided =
-    elim (slice_get_cases list i).1 [
-      | inr past ↦ inr (λ a. let none = past.1 in let some = a.2 in absurd (cc))
-      | inl found ↦ elim (known_or (op_of found.0.code)) [
-        | inl none ↦ inr (λ a.
-            let same : a.0 ≡ found.0 = cc in
-            cc)
-        | inr known ↦ elim (decided known.0 found.0) [
-          | inl has ↦ inl (found.0, known.0, found.2, known.1, has)
-          | inr never ↦ inr (λ a. never (insn_at-same list i Has found.0 known.0 a found.2 known.1))
-        ]
-      ]
+    elim (found (slice_get list i) _ (λ insn. found (op_of insn.code) _ (λ op. decided op insn))) [
+      | inl h ↦ inl (h.0, h.2.0, h.1, h.2.1, h.2.2)
+      | inr never ↦ inr (λ h. never (h.0, h.2, (h.1, h.3, h.4)))
     ]
 
 jumps_outside : (op : Op) (insn : Insn) (i n : ℕ) → Decided (JumpsOutside op insn i n)
@@ -121,31 +120,26 @@ loads_no_extension op insn =
 abbrev FaultAt : List Insn → ℕ → Type 0
 FaultAt list i = (e : CheckFault) × HasFault list e × (rank e ≡ 2) × (index_of e ≡ i)
 
-or_else-allowed : {P Fault Allowed : Type 0} → Decided P → (P → Fault) → ((P → ⊥) → Allowed ⊎ Fault) → Allowed ⊎ Fault
-or_else-allowed (inl has) fault rest = inr (fault has)
-or_else-allowed (inr never) fault rest = rest never
-
 known-fault : (list : List Insn) (i : ℕ) (insn : Insn) (op : Op) → slice_get list i ≡ Some insn
     → op_of insn.code ≡ Some op → AllowedAt list i ⊎ FaultAt list i
 known-fault list i insn op here known =
-    or_else-allowed (both (is_true (uses_slot op)) (at_most 16 insn.k))
-    (λ h. (NoSlot i, (insn, op, here, known, h), refl, refl)) (λ slot.
-    or_else-allowed (both (is_true (divides_by_k op)) (cases_eq insn.k 0))
-    (λ h. (ZeroDivisor i, (insn, op, here, known, h), refl, refl)) (λ divisor.
-    or_else-allowed (both (is_true (shifts_by_k op)) (at_most 32 insn.k))
-    (λ h. (WideShift i, (insn, op, here, known, h), refl, refl)) (λ shift.
-    or_else-allowed (jumps_outside op insn i (length list))
-    (λ h. (JumpOutside i, (insn, op, here, known, h), refl, refl)) (λ targets.
-    or_else-allowed (loads_no_extension op insn)
-    (λ h. (UnknownExtension i, (insn, op, here, known, h), refl, refl)) (λ extension.
-    let fine : IsAllowed op insn i (length list) = record {
-      slot = slot;
-      divisor = divisor;
-      shift = shift;
-      targets = targets;
-      extension = extension;
-    } in
-    inl (insn, op, here, known, fine))))))
+    elim (both (is_true (uses_slot op)) (at_most 16 insn.k)) [
+      | inl h ↦ inr (NoSlot i, (insn, op, here, known, h), refl, refl)
+      | inr a ↦ elim (both (is_true (divides_by_k op)) (cases_eq insn.k 0)) [
+        | inl h ↦ inr (ZeroDivisor i, (insn, op, here, known, h), refl, refl)
+        | inr b ↦ elim (both (is_true (shifts_by_k op)) (at_most 32 insn.k)) [
+          | inl h ↦ inr (WideShift i, (insn, op, here, known, h), refl, refl)
+          | inr c ↦ elim (jumps_outside op insn i (length list)) [
+            | inl h ↦ inr (JumpOutside i, (insn, op, here, known, h), refl, refl)
+            | inr d ↦ elim (loads_no_extension op insn) [
+              | inl h ↦ inr (UnknownExtension i, (insn, op, here, known, h), refl, refl)
+              | inr e ↦
+                  inl (insn, op, here, known, record { slot = a; divisor = b; shift = c; targets = d; extension = e })
+            ]
+          ]
+        ]
+      ]
+    ]
 
 fault_at : (list : List Insn) (i : ℕ) → i < length list → AllowedAt list i ⊎ FaultAt list i
 fault_at list i below = elim (slice_get_cases list i).1 [
@@ -159,9 +153,7 @@ fault_at list i below = elim (slice_get_cases list i).1 [
 -- ---- paths
 
 stores : (list : List Insn) (i s : ℕ) → Decided (StoresSlot list i s)
-stores list i s =
-    insn_at list i (λ op insn. IsTrue (stores_slot op) × (insn.k ≡ s))
-    (λ op insn. both (is_true (stores_slot op)) (cases_eq insn.k s))
+stores list i s = insn_at list i _ (λ op insn. both (is_true (stores_slot op)) (cases_eq insn.k s))
 
 follows : (o : Option Op) (insn : Insn) (i t : ℕ) → Decided (FollowsCode o insn i t)
 follows None insn i t = cases_eq t (i + 1)
@@ -172,16 +164,7 @@ follows (Some (Jump cond src)) insn i t = either (cases_eq t (i + 1 + insn.jt)) 
 follows (Some _) insn i t = cases_eq t (i + 1)
 
 successor : (list : List Insn) (i t : ℕ) → Decided (IsSuccessor list i t)
-successor list i t =
-    elim (slice_get_cases list i).1 [
-      | inr past ↦ inr (λ a. let none = past.1 in let some = a.1 in absurd (cc))
-      | inl found ↦ elim (follows (op_of found.0.code) found.0 i t) [
-        | inl next ↦ inl (found.0, found.2, next)
-        | inr never ↦ inr (λ a.
-            let same : a.0 ≡ found.0 = cc in
-            never (subst (λ (x : Insn). FollowsCode (op_of x.code) x i t) same a.2))
-      ]
-    ]
+successor list i t = found (slice_get list i) _ (λ insn. follows (op_of insn.code) insn i t)
 
 -- instruction h passes slot s on to t unwritten
 abbrev PassesOn : List Insn → ℕ → ℕ → ℕ → Type 0
@@ -191,7 +174,7 @@ unwritten_below : (list : List Insn) (s m i : ℕ) → i < m → Decided (MayBeU
 unwritten_below list s zero i below = absurd (omega arith)
 unwritten_below list s (suc m) i below =
     elim (least (PassesOn list s i) i (λ h before.
-    both (unwritten_below list s m h (omega arith)) (both (keeps h) (successor list h i)))) [
+    both (unwritten_below list s m h (omega arith)) (both (not (stores list h s)) (successor list h i)))) [
       | inl found ↦ inl (onward found.1 found.2.0 found.2.1.0 found.2.1.1)
       | inr none ↦ elim (cases_eq i 0) [
         | inl first ↦ inl (subst (MayBeUnwritten list s) (sym first) at_start)
@@ -201,16 +184,17 @@ unwritten_below list s (suc m) i below =
         ])
       ]
     ]
-  where
-    keeps : (h : ℕ) → Decided (StoresSlot list h s → ⊥)
-    keeps h = elim (stores list h s) [ inl st ↦ inr (λ never. never st) | inr never ↦ inl never ]
 
 unwritten : (list : List Insn) (i : ℕ) → Decided (HasFault list (UnwrittenSlot i))
 unwritten list i =
-    insn_at list i (λ op insn. IsTrue (loads_slot op) × MayBeUnwritten list insn.k i)
-    (λ op insn. both (is_true (loads_slot op)) (unwritten_below list insn.k (suc i) i (omega arith)))
+    insn_at list i _ (λ op insn. both (is_true (loads_slot op)) (unwritten_below list insn.k (suc i) i (omega arith)))
 
 -- ---- each list
+
+returns : (o : Option Op) → Decided ((o ≡ Some RetK) ⊎ (o ≡ Some RetA))
+returns (Some RetK) = inl (inl refl)
+returns (Some RetA) = inl (inr refl)
+returns _ = inr (λ h. elim h [ inl e ↦ cc | inr e ↦ cc ])
 
 abbrev Checked : List Insn → Type 0
 Checked list = IsSound list ⊎ ((e : CheckFault) × FirstFault list e)
@@ -248,9 +232,9 @@ each_list_is_checked list = elim (cases_eq (length list) 0) [
         inr (TooMany, record { present = many; none_earlier = never })
     | inr few ↦ elim (passes list (length list) (omega arith) few (omega arith)) [
       | inr first ↦ inr first
-      | inl passed ↦ elim (returns_or _) [
-        | inl never ↦ inr (NoReturn, first_fault-at_end list _ passed refl never)
-        | inr returns ↦ formed-checked list (well_formed-at_end list _ passed refl returns)
+      | inl passed ↦ elim (returns _) [
+        | inl returns ↦ formed-checked list (well_formed-at_end list _ passed refl returns)
+        | inr never ↦ inr (NoReturn, first_fault-at_end list _ passed refl never)
       ]
     ]
   ]

@@ -4,7 +4,7 @@ use Rattle.std.specs.Prelude.{Option, Some, None, IsTrue, slice_get, ◌==◌, i
 use Rattle.std.proofs.lemmas.Bool.{cases_eq}
 use Rattle.cbpf_code.specs.declared.insn.Insn.{Insn}
 use Rattle.cbpf_code.specs.declared.opcode.Op.{Op}
-use Rattle.cbpf_code.specs.declared.opcode.Op.TheVariants.{LdAbs, LdMem, LdxMem, St, Stx, Alu, Ja, Jump}
+use Rattle.cbpf_code.specs.declared.opcode.Op.TheVariants.{LdAbs, LdMem, Alu, Ja, Jump}
 use Rattle.cbpf_code.specs.declared.opcode.AluOp.TheVariants.{Div, Mod, Lsh, Rsh}
 use Rattle.cbpf_code.specs.declared.opcode.Src.TheVariants.{K}
 use Rattle.cbpf_code.specs.declared.checker.CheckFault.{CheckFault}
@@ -18,18 +18,9 @@ use Rattle.cbpf_code.specs.Faults.{loads_absolute}
 
 -- the one fault of C4 to C8 that an operation can be refused by, where there is one
 abbrev fault_for : Op → ℕ → CheckFault
-fault_for LdMem i = NoSlot i
-fault_for LdxMem i = NoSlot i
-fault_for St i = NoSlot i
-fault_for Stx i = NoSlot i
-fault_for (Alu Div K) i = ZeroDivisor i
-fault_for (Alu Mod K) i = ZeroDivisor i
-fault_for (Alu Lsh K) i = WideShift i
-fault_for (Alu Rsh K) i = WideShift i
-fault_for Ja i = JumpOutside i
-fault_for (Jump cond src) i = JumpOutside i
-fault_for (LdAbs size) i = UnknownExtension i
-fault_for _ i = NoInstruction
+fault_for op i =
+    if uses_slot op then NoSlot i else if divides_by_k op then ZeroDivisor i else if shifts_by_k op then WideShift i
+    else if loads_absolute op then UnknownExtension i else JumpOutside i
 
 -- C3 to C8: the one fault that a code can be refused by
 abbrev fault_by_code : Option Op → ℕ → CheckFault
