@@ -5,43 +5,21 @@ use Rattle.std.specs.Prelude.{ℕ, List, codes}
 use Rattle.cbpf_code.specs.declared.opcode.Op.{Op}
 use Rattle.cbpf_code.specs.declared.opcode.Op.TheVariants.{LdImm, LdAbs, LdInd, LdMem, LdLen, LdxImm, LdxMem, LdxLen}
 use Rattle.cbpf_code.specs.declared.opcode.Op.TheVariants.{LdxMsh, St, Stx, Alu, Neg, Ja, Jump, RetK, RetA, Tax, Txa}
-use Rattle.cbpf_code.specs.declared.opcode.Size.{Size}
 use Rattle.cbpf_code.specs.declared.opcode.Size.TheVariants.{Word, Half, Byte}
-use Rattle.cbpf_code.specs.declared.opcode.AluOp.{AluOp}
 use Rattle.cbpf_code.specs.declared.opcode.AluOp.TheVariants.{Add, Sub, Mul, Div, Or, And, Lsh, Rsh, Mod, Xor}
-use Rattle.cbpf_code.specs.declared.opcode.Src.TheVariants as src
-use Rattle.cbpf_code.specs.declared.opcode.Cond.{Cond}
+use Rattle.cbpf_code.specs.declared.opcode.Src.TheVariants.{K, X}
 use Rattle.cbpf_code.specs.declared.opcode.Cond.TheVariants.{Eq, Gt, Ge, Bits}
 use Rattle.cbpf_code.specs.declared.syntax.Operand.{Operand}
 use Rattle.cbpf_code.specs.declared.syntax.Operand.TheVariants as operands
 
-abbrev pub load_mnemonic : Size → List ℕ
-load_mnemonic Word = codes "ld"
-load_mnemonic Half = codes "ldh"
-load_mnemonic Byte = codes "ldb"
-
-abbrev pub alu_mnemonic : AluOp → List ℕ
-alu_mnemonic Add = codes "add"
-alu_mnemonic Sub = codes "sub"
-alu_mnemonic Mul = codes "mul"
-alu_mnemonic Div = codes "div"
-alu_mnemonic Or = codes "or"
-alu_mnemonic And = codes "and"
-alu_mnemonic Lsh = codes "lsh"
-alu_mnemonic Rsh = codes "rsh"
-alu_mnemonic Mod = codes "mod"
-alu_mnemonic Xor = codes "xor"
-
-abbrev pub jump_mnemonic : Cond → List ℕ
-jump_mnemonic Eq = codes "jeq"
-jump_mnemonic Gt = codes "jgt"
-jump_mnemonic Ge = codes "jge"
-jump_mnemonic Bits = codes "jset"
-
 abbrev pub mnemonic_of : Op → List ℕ
 mnemonic_of LdImm = codes "ld"
-mnemonic_of (LdAbs size) = load_mnemonic size
-mnemonic_of (LdInd size) = load_mnemonic size
+mnemonic_of (LdAbs Word) = codes "ld"
+mnemonic_of (LdAbs Half) = codes "ldh"
+mnemonic_of (LdAbs Byte) = codes "ldb"
+mnemonic_of (LdInd Word) = codes "ld"
+mnemonic_of (LdInd Half) = codes "ldh"
+mnemonic_of (LdInd Byte) = codes "ldb"
 mnemonic_of LdMem = codes "ld"
 mnemonic_of LdLen = codes "ld"
 mnemonic_of LdxImm = codes "ldx"
@@ -50,10 +28,22 @@ mnemonic_of LdxLen = codes "ldx"
 mnemonic_of LdxMsh = codes "ldxb"
 mnemonic_of St = codes "st"
 mnemonic_of Stx = codes "stx"
-mnemonic_of (Alu op s) = alu_mnemonic op
+mnemonic_of (Alu Add src) = codes "add"
+mnemonic_of (Alu Sub src) = codes "sub"
+mnemonic_of (Alu Mul src) = codes "mul"
+mnemonic_of (Alu Div src) = codes "div"
+mnemonic_of (Alu Or src) = codes "or"
+mnemonic_of (Alu And src) = codes "and"
+mnemonic_of (Alu Lsh src) = codes "lsh"
+mnemonic_of (Alu Rsh src) = codes "rsh"
+mnemonic_of (Alu Mod src) = codes "mod"
+mnemonic_of (Alu Xor src) = codes "xor"
 mnemonic_of Neg = codes "neg"
 mnemonic_of Ja = codes "jmp"
-mnemonic_of (Jump cond s) = jump_mnemonic cond
+mnemonic_of (Jump Eq src) = codes "jeq"
+mnemonic_of (Jump Gt src) = codes "jgt"
+mnemonic_of (Jump Ge src) = codes "jge"
+mnemonic_of (Jump Bits src) = codes "jset"
 mnemonic_of RetK = codes "ret"
 mnemonic_of RetA = codes "ret"
 mnemonic_of Tax = codes "tax"
@@ -71,12 +61,12 @@ operand_of LdxLen = operands.Length
 operand_of LdxMsh = operands.Header
 operand_of St = operands.Memory
 operand_of Stx = operands.Memory
-operand_of (Alu op src.K) = operands.Immediate
-operand_of (Alu op src.X) = operands.X
+operand_of (Alu op K) = operands.Immediate
+operand_of (Alu op X) = operands.X
 operand_of Neg = operands.Bare
 operand_of Ja = operands.Label
-operand_of (Jump cond src.K) = operands.ImmediateTwo
-operand_of (Jump cond src.X) = operands.XTwo
+operand_of (Jump cond K) = operands.ImmediateTwo
+operand_of (Jump cond X) = operands.XTwo
 operand_of RetK = operands.Immediate
 operand_of RetA = operands.A
 operand_of Tax = operands.Bare

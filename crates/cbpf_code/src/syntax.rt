@@ -35,47 +35,6 @@ pub enum Operand {
     XTwo,
 }
 
-fn load_mnemonic(size: Size) -> &'static [u8]
-    ensures same { result.now ≡ spec.load_mnemonic size }
-    ensures short { length result.now ≤ 3 }
-{
-    match size {
-        Size::Word => b"ld",
-        Size::Half => b"ldh",
-        Size::Byte => b"ldb",
-    }
-}
-
-fn alu_mnemonic(op: AluOp) -> &'static [u8]
-    ensures same { result.now ≡ spec.alu_mnemonic op }
-    ensures short { length result.now ≤ 3 }
-{
-    match op {
-        AluOp::Add => b"add",
-        AluOp::Sub => b"sub",
-        AluOp::Mul => b"mul",
-        AluOp::Div => b"div",
-        AluOp::Or => b"or",
-        AluOp::And => b"and",
-        AluOp::Lsh => b"lsh",
-        AluOp::Rsh => b"rsh",
-        AluOp::Mod => b"mod",
-        AluOp::Xor => b"xor",
-    }
-}
-
-fn jump_mnemonic(cond: Cond) -> &'static [u8]
-    ensures same { result.now ≡ spec.jump_mnemonic cond }
-    ensures short { length result.now ≤ 4 }
-{
-    match cond {
-        Cond::Eq => b"jeq",
-        Cond::Gt => b"jgt",
-        Cond::Ge => b"jge",
-        Cond::Bits => b"jset",
-    }
-}
-
 /// The mnemonic of an operation.
 #[inline]
 pub(crate) fn mnemonic_of(op: Op) -> &'static [u8]
@@ -83,17 +42,29 @@ pub(crate) fn mnemonic_of(op: Op) -> &'static [u8]
     ensures short { length result.now ≤ 4 }
 {
     match op {
-        Op::LdImm | Op::LdMem | Op::LdLen => b"ld",
-        Op::LdAbs(size) => load_mnemonic(size),
-        Op::LdInd(size) => load_mnemonic(size),
+        Op::LdAbs(Size::Half) | Op::LdInd(Size::Half) => b"ldh",
+        Op::LdAbs(Size::Byte) | Op::LdInd(Size::Byte) => b"ldb",
+        Op::LdImm | Op::LdAbs(_) | Op::LdInd(_) | Op::LdMem | Op::LdLen => b"ld",
         Op::LdxImm | Op::LdxMem | Op::LdxLen => b"ldx",
         Op::LdxMsh => b"ldxb",
         Op::St => b"st",
         Op::Stx => b"stx",
-        Op::Alu(op, _) => alu_mnemonic(op),
+        Op::Alu(AluOp::Add, _) => b"add",
+        Op::Alu(AluOp::Sub, _) => b"sub",
+        Op::Alu(AluOp::Mul, _) => b"mul",
+        Op::Alu(AluOp::Div, _) => b"div",
+        Op::Alu(AluOp::Or, _) => b"or",
+        Op::Alu(AluOp::And, _) => b"and",
+        Op::Alu(AluOp::Lsh, _) => b"lsh",
+        Op::Alu(AluOp::Rsh, _) => b"rsh",
+        Op::Alu(AluOp::Mod, _) => b"mod",
+        Op::Alu(AluOp::Xor, _) => b"xor",
         Op::Neg => b"neg",
         Op::Ja => b"jmp",
-        Op::Jump(cond, _) => jump_mnemonic(cond),
+        Op::Jump(Cond::Eq, _) => b"jeq",
+        Op::Jump(Cond::Gt, _) => b"jgt",
+        Op::Jump(Cond::Ge, _) => b"jge",
+        Op::Jump(Cond::Bits, _) => b"jset",
         Op::RetK | Op::RetA => b"ret",
         Op::Tax => b"tax",
         Op::Txa => b"txa",

@@ -13,7 +13,7 @@ use Rattle.cbpf_code.specs.declared.opcode.Size.TheVariants as size
 use Rattle.cbpf_code.specs.declared.opcode.AluOp.TheVariants as alu_op
 use Rattle.cbpf_code.specs.declared.opcode.Src.TheVariants as src
 use Rattle.cbpf_code.specs.declared.opcode.Cond.TheVariants as cond
-use Rattle.cbpf_code.specs.Syntax.{mnemonic_of, load_mnemonic, jump_mnemonic, alu_mnemonic}
+use Rattle.cbpf_code.specs.Syntax.{mnemonic_of}
 use Rattle.cbpf_syntax.specs.declared.table.Fields.{Fields}
 use Rattle.cbpf_syntax.specs.declared.table.Fields.TheVariants.{Constant, Goto, Branch, Swapped}
 use Rattle.cbpf_syntax.specs.Classes.{Class}
@@ -131,17 +131,18 @@ abbrev pub only : List (List Class) → Op → Fields → Mnemonic
 only forms op fields = mnemonic (mnemonic_of op) (entry forms op fields ∷ [])
 
 abbrev pub jump : Cond → Mnemonic
-jump c = mnemonic (jump_mnemonic c) (two_targets c ++ one_target c Branch)
+jump c = mnemonic (mnemonic_of (Jump c src.K)) (two_targets c ++ one_target c Branch)
 
 abbrev pub alu : AluOp → Mnemonic
-alu op = mnemonic (alu_mnemonic op) (entry immediate (Alu op src.K) Constant ∷ entry x (Alu op src.X) Constant ∷ [])
+alu op = mnemonic (mnemonic_of (Alu op src.K))
+    (entry immediate (Alu op src.K) Constant ∷ entry x (Alu op src.X) Constant ∷ [])
 
 unfoldable pub mnemonics : List Mnemonic
 mnemonics =
     mnemonic (mnemonic_of LdImm)
     (load size.Word ++ (entry memory LdMem Constant ∷ entry immediate LdImm Constant ∷ entry len LdLen Constant ∷ []))
-    ∷ mnemonic (load_mnemonic size.Half) (load size.Half)
-    ∷ mnemonic (load_mnemonic size.Byte) (load size.Byte)
+    ∷ mnemonic (mnemonic_of (LdAbs size.Half)) (load size.Half)
+    ∷ mnemonic (mnemonic_of (LdAbs size.Byte)) (load size.Byte)
     ∷ mnemonic (codes "ldi") (entry immediate LdImm Constant ∷ entry n LdImm Constant ∷ [])
     ∷ mnemonic (mnemonic_of LdxImm)
     (entry memory LdxMem Constant ∷ entry immediate LdxImm Constant ∷ entry header LdxMsh Constant
