@@ -71,7 +71,7 @@ flat-more : {X : Type 0} (f : X → List ℕ) (xs : List X) (i : ℕ) (d : X) �
     → flat_map f (take (i + 1) xs) ≡ flat_map f (take i xs) ++ f (get_or xs i d)
 flat-more f xs i d l = rw (take_more xs i d l, flat_map-append, append-nil (f (get_or xs i d)))
 
-part-front : {X : Type 0} (f : X → List ℕ) (xs : List X) (n : ℕ) (u w : Option (List ℕ))
+pub part-front : {X : Type 0} (f : X → List ℕ) (xs : List X) (n : ℕ) (u w : Option (List ℕ))
     → AppendedPart u w (flat_map f (take n xs)) → AppendedPart u w (flat_map f xs)
 part-front f xs n u w part = rw (← take-append-drop n xs, flat_map-append) (part-more u w _ _ part)
 
@@ -111,21 +111,4 @@ first-failed u v a b r e h = err-exit u v (a ++ b) r e (part-more u v a b h)
 
 pub ruleset pairs = (first-failed, wrote-then)
 
--- ---- a loop that writes the texts of some elements at once
-
-chunk-more : {X : Type 0} (f : X → List ℕ) (xs : List X) (i e : ℕ) → i ≤ e
-    → flat_map f (take e xs) ≡ flat_map f (take i xs) ++ flat_map f (take (e - i) (drop i xs))
-chunk-more f xs i e l =
-    let whole : e ≡ i + (e - i) = omega (arith, l) in
-    ap (λ (k : ℕ). flat_map f (take k xs)) whole ∙ ap (λ ys. flat_map f ys) (take-add i (e - i) xs)
-    ∙ flat_map-append f (take i xs) (take (e - i) (drop i xs))
-
-pub chunk-next : {X : Type 0} (f : X → List ℕ) (xs : List X) (i e : ℕ) (u v w : Option (List ℕ)) → i ≤ e
-    → Appended u v (flat_map f (take i xs)) → Appended v w (flat_map f (take (e - i) (drop i xs)))
-    → Appended u w (flat_map f (take e xs))
-chunk-next f xs i e u v w l x y = rw (chunk-more f xs i e l) (appended-then u v w _ _ x y)
-
-pub chunk-stop : {X : Type 0} (f : X → List ℕ) (xs : List X) (i e : ℕ) (u v w : Option (List ℕ)) → i ≤ e
-    → Appended u v (flat_map f (take i xs)) → AppendedPart v w (flat_map f (take (e - i) (drop i xs)))
-    → AppendedPart u w (flat_map f xs)
-chunk-stop f xs i e u v w l x y = part-front f xs e u w (rw (chunk-more f xs i e l) (part-then u v w _ _ x y))
+pub ruleset three = (first-failed, wrote-then, part-more, part-then, appended-then)

@@ -1,5 +1,5 @@
 // A program as word text.
-ghost use Rattle.std.specs.Prelude.{◌≡◌, ◌≤◌, ◌<◌, ◌+◌, ◌++◌, ◌∷◌, drop, length, codes, decimal, All};
+ghost use Rattle.std.specs.Prelude.{◌≡◌, ◌≤◌, ◌<◌, ◌+◌, ◌++◌, ◌∷◌, drop, length, codes, decimal};
 ghost use Rattle.std.specs.List.{flat_map};
 ghost use Rattle.cbpf_code.specs.Writing.{Wrote};
 ghost use Rattle.cbpf_code.specs.WordText.{Spells};
@@ -89,7 +89,7 @@ fn fields_are_in_range(_insn: Insn)
 /// Looks at each instruction once, since only what is read is known to be in its range. It changes
 /// nothing, so a compiler can drop it.
 fn all_are_in_range(list: &[Insn])
-    ensures { All InRange list.now }
+    ensures { length list.now ≤ 4294967295 → Spells (words list.now) list.now }
 {
     for insn in list {
         fields_are_in_range(*insn);
@@ -100,6 +100,7 @@ fn all_are_in_range(list: &[Insn])
 /// its code, jt, jf and k in decimal with a single space between two of them and a comma after, and
 /// a newline. [`read_words`](crate::read_words) reads a list of at most 4294967295 instructions back
 /// from its text.
+#[tactic(auto, using(crate::proofs::WrittenLemmas::three))]
 pub fn write_words<W: Write>(w: &mut W, list: &[Insn]) -> Result<(), WriteFault>
     ensures written { Wrote (W.contents w.old) (W.contents w.new) result (words list.now) }
     ensures read_back { length list.now ≤ 4294967295 → Spells (words list.now) list.now }
