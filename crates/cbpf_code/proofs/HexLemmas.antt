@@ -2,7 +2,7 @@
 use Rattle.std.proofs.Common.{◌≡◌, ℕ, zero, suc, ◌+◌, ◌-◌, ◌/◌, ◌%◌, ◌^◌, ◌<◌, ◌≤◌, Bool, true, false, List, []}
 use Rattle.std.proofs.Common.{◌∷◌, ◌++◌, length, drop, refl, sym, ap, ◌∙◌, arith, append_assoc, append-nil, tests}
 use Rattle.std.proofs.Common.{get_or, length-append, ne_eqb, ltb-true, ltb-false}
-use Rattle.std.proofs.lemmas.List.{drop-append-le}
+use Rattle.std.proofs.lemmas.List.{drop-append-le, drop_all}
 use Rattle.std.proofs.lemmas.Bool.{agree_below_at, eqb-true}
 use Rattle.std.specs.Prelude.{nat_lt, max, codes, ◌==◌, if◌then◌else◌}
 use Rattle.std.specs.List.{repeat}
@@ -62,25 +62,19 @@ zeros-front m (suc (suc p)) n h =
     rw e (ap (λ (t : List ℕ). t ++ digit_glyph false (n % 16) ∷ []) (zeros-front m (suc p) (n / 16) h.1)
     ∙ append_assoc (zeros m) (hex_digits (suc p) (n / 16)) (digit_glyph false (n % 16) ∷ []))
 
-drop-zeros : (j m : ℕ) (ys : List ℕ) → j ≤ m → drop j (zeros m ++ ys) ≡ zeros (m - j) ++ ys
-drop-zeros zero m ys l = let e : m - 0 ≡ m = omega arith in rw e refl
-drop-zeros (suc j) zero ys l = absurd (omega arith)
-drop-zeros (suc j) (suc m) ys l = let e : suc m - suc j ≡ m - j = omega arith in
-    rw e (drop-zeros j m ys (omega arith))
+-- at least so many digits are the last ones
+hex-max : (least n p : ℕ) → p ≤ 8 → HasPlaces p n → hex least n ≡ hex_digits (max least p) n
+hex-max least n p l h =
+    let sum : least - p + p ≡ max least p = omega arith in
+    rw (digits-places p n (omega arith) h, length-hex_digits p n)
+    (sym (zeros-front (least - p) p n h) ∙ ap (λ q. hex_digits q n) sum)
 
-hex-given : (least n p : ℕ) → p ≤ 8 → HasPlaces p n → hex least n ≡ zeros (least - p) ++ hex_digits p n
-hex-given least n p l h = rw (digits-places p n (omega arith) h, length-hex_digits p n) refl
-
-hex-of : (least n p : ℕ) → p ≤ 8 → least ≤ 8 → HasPlaces p n
-    → hex least n ≡ drop (8 - max least p) (hex_digits 8 n)
-hex-of least n p l m h =
-    let all : 8 - p + p ≡ 8 = omega arith in
-    let left : 8 - p - (8 - max least p) ≡ least - p = omega arith in
-    hex-given least n p l h
-    ∙ sym (ap (λ q. drop (8 - max least p) (hex_digits q n)) (sym all)
-    ∙ ap (λ (t : List ℕ). drop (8 - max least p) t) (zeros-front (8 - p) p n h)
-    ∙ drop-zeros (8 - max least p) (8 - p) (hex_digits p n) (omega arith)
-    ∙ ap (λ q. zeros q ++ hex_digits p n) left)
+last_digits : (m p n : ℕ) → drop m (hex_digits (m + p) n) ≡ hex_digits p n
+last_digits m zero n = drop_all m (hex_digits (m + 0) n) (omega (arith, length-hex_digits (m + 0) n))
+last_digits m (suc p) n =
+    let e : m + suc p ≡ suc (m + p) = omega arith in
+    rw e (drop-append-le m (hex_digits (m + p) (n / 16)) _ (omega (arith, length-hex_digits (m + p) (n / 16)))
+    ∙ ap (λ (t : List ℕ). t ++ digit_glyph false (n % 16) ∷ []) (last_digits m p (n / 16)))
 
 one_or_more : (p : ℕ) → 1 ≤ 16 ^ p
 one_or_more zero = omega arith
@@ -107,27 +101,33 @@ has-places n l =
     (λ a. places-step n 1048576 5 _ (places_of 4 n a) (λ a. places-step n 16777216 6 _ (places_of 5 n a)
     (λ a. places-step n 268435456 7 8 (places_of 6 n a) (λ a. places_of 7 n a l)))))))
 
+last_of_eight : (q n : ℕ) → q ≤ 8 → drop (8 - q) (hex_digits 8 n) ≡ hex_digits q n
+last_of_eight q n l =
+    let all : 8 - q + q ≡ 8 = omega arith in
+    ap (λ (p : ℕ). drop (8 - q) (hex_digits p n)) (sym all) ∙ last_digits (8 - q) q n
+
+few_places : (n : ℕ) → hex_places n ≤ 8
+few_places n = grind (arith, tests)
+
 pub hex-places : (least n : ℕ) → least ≤ 8 → n < 2 ^ 32 → hex least n ≡ hex_by_places least n
-hex-places least n m l = hex-of least n (hex_places n) (grind (arith, tests)) m (has-places n l)
+hex-places least n m l =
+    let few = few_places n in
+    hex-max least n (hex_places n) few (has-places n l) ∙ sym (last_of_eight (max least (hex_places n)) n (omega arith))
 
 -- the two digits of a byte
 pub hex-two : (b : ℕ) → b < 256 → hex 2 b ≡ hex_digits 2 b
-hex-two b l = by (nat_lt b 16) refl
-  where
-    by : (t : Bool) → nat_lt b 16 ≡ t → hex 2 b ≡ hex_digits 2 b
-    by true e = hex-given 2 b 1 (omega arith) (ltb-true b 16 e) ∙ sym (zeros-front 1 1 b (ltb-true b 16 e))
-    by false e = hex-given 2 b 2 (omega arith) (ltb-false b 16 e, omega arith)
+hex-two b l =
+    let two : max 2 (hex_places b) ≡ 2 = grind (arith, tests) in
+    hex-max 2 b (hex_places b) (few_places b) (has-places b (omega arith)) ∙ ap (λ q. hex_digits q b) two
 
 -- the last of eight digits, before a text
 pub hex-last : (least n r : ℕ) (ds text : List ℕ) → ds ≡ hex_digits 8 n → r ≡ max (hex_places n) least → least ≤ 8
     → n < 2 ^ 32 → drop (8 - r) (ds ++ text) ≡ hex least n ++ text
 hex-last least n r ds text e p m l =
     let long : length ds ≡ 8 = ap (λ (t : List ℕ). length t) e ∙ length-hex_digits 8 n in
-    let same : 8 - r ≡ 8 - max least (hex_places n) = omega (arith, p) in
+    let same : r ≡ max least (hex_places n) = omega (arith, p) in
     drop-append-le (8 - r) ds text (omega (arith, long))
-    ∙ ap (λ (t : List ℕ). t ++ text)
-    (ap (λ q. drop q ds) same ∙ ap (λ (t : List ℕ). drop (8 - max least (hex_places n)) t) e
-    ∙ sym (hex-places least n m l))
+    ∙ ap (λ (t : List ℕ). t ++ text) (rw (same, e) (sym (hex-places least n m l)))
 
 -- the byte of a digit stands in a table
 pub glyph_at : (d : ℕ) → d < 16 → get_or (codes "0123456789abcdef") d 0 ≡ digit_glyph false d

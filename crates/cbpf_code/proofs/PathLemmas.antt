@@ -6,7 +6,6 @@ use Rattle.std.proofs.lemmas.Bool.{cases_eq, cases_lt}
 use Rattle.std.proofs.lemmas.Nat.Bits.{bit_at-zero, bit_at_ones}
 use Rattle.std.proofs.lemmas.List.{get_or-set_other, get_or-replicate}
 use Rattle.std.proofs.lemmas.Grind.{get_or-set_at}
-use Rattle.std.proofs.lemmas.Option.{slice_get_within}
 use Rattle.std.proofs.Math.ListN.{length-set, length-replicate, get_or-eq_default}
 use Rattle.cbpf_code.specs.declared.insn.Insn.{Insn}
 use Rattle.cbpf_code.specs.declared.opcode.Op.{Op}
@@ -25,10 +24,6 @@ successor-same : (list : List Insn) (i t : ℕ) (insn : Insn) (op : Op) → IsSu
 successor-same list i t insn op next here known =
     let same : next.0 ≡ insn = cc in
     subst (λ o. FollowsCode o insn i t) known (subst (λ (x : Insn). FollowsCode (op_of x.code) x i t) same next.2)
-
-successor_of : (list : List Insn) (i t : ℕ) (insn : Insn) (op : Op) → slice_get list i ≡ Some insn
-    → op_of insn.code ≡ Some op → Follows op insn i t → IsSuccessor list i t
-successor_of list i t insn op here known follows = (insn, here, rw known follows)
 
 -- ---- paths
 
@@ -85,9 +80,9 @@ reached-further list s m t (inr r) = inr (r.0, omega arith, r.2, r.3, r.4)
 pub tracks_paths-next : (list : List Insn) (i : ℕ) (insn : Insn) (op : Op) (masks next_masks : List ℕ) (left : ℕ)
     → slice_get list i ≡ Some insn → op_of insn.code ≡ Some op → TracksPaths list i masks
     → LeavesUnwritten (slice_index masks i) op insn left
-    → AddsToMasks masks next_masks left (λ t. Follows op insn i t) → (HasFault list (UnwrittenSlot i) → ⊥)
-    → TracksPaths list (i + 1) next_masks
-tracks_paths-next list i insn op masks next_masks left here known tracks leaves adds fine = record {
+    → AddsToMasks masks next_masks left (λ t. Follows op insn i t) → (IsTrue (loads_slot op) → insn.k < 16)
+    → (IsTrue (loads_slot op) × InMaskOf masks i insn.k → ⊥) → TracksPaths list (i + 1) next_masks
+tracks_paths-next list i insn op masks next_masks left here known tracks leaves adds small_k fine = record {
   long = adds.long ∙ tracks.long;
   only_reached = λ t s small set.
       elim (adds.only t s set) [
@@ -99,7 +94,7 @@ tracks_paths-next list i insn op masks next_masks left here known tracks leaves 
           (λ stores.
               let same = insn_at-same list i (λ o x. IsTrue (stores_slot o) × (x.k ≡ s)) insn op stores here known in
               leaves.stored s small new.1 same.0 same.1),
-          successor_of list i t insn op here known new.0,
+          (insn, here, rw known new.0),
         )
       ];
   each_reached = λ t s small reached.
@@ -116,28 +111,13 @@ tracks_paths-next list i insn op masks next_masks left here known tracks leaves 
       ];
   written = λ j below stands.
       elim (cases_eq j i) [
-        | inl e ↦ fine (rw e at stands)
+        | inl e ↦
+            let same = insn_at-same list i (λ o x. IsTrue (loads_slot o) × MayBeUnwritten list x.k i) insn op
+            (rw e at stands) here known in
+            fine (same.0, tracks.each_reached i insn.k (small_k same.0) (reached-unwritten_at list insn.k i same.1))
         | inr n ↦ tracks.written j (omega arith) stands
       ];
 }
-
-pub unwritten_at : (list : List Insn) (i : ℕ) (insn : Insn) (op : Op) (masks : List ℕ) → slice_get list i ≡ Some insn
-    → op_of insn.code ≡ Some op → insn.k < 16 → TracksPaths list i masks → IsTrue (loads_slot op)
-    → InMaskOf masks i insn.k → HasFault list (UnwrittenSlot i)
-unwritten_at list i insn op masks here known small tracks loads set =
-    (insn, op, here, known, (loads, unwritten_at-reached list insn.k i (tracks.only_reached i insn.k small set)))
-
-pub written_at : (list : List Insn) (i : ℕ) (insn : Insn) (op : Op) (masks : List ℕ) → slice_get list i ≡ Some insn
-    → op_of insn.code ≡ Some op → (IsTrue (loads_slot op) → insn.k < 16) → TracksPaths list i masks
-    → ((IsTrue (loads_slot op) × InMaskOf masks i insn.k) → ⊥) → HasFault list (UnwrittenSlot i) → ⊥
-written_at list i insn op masks here known small tracks fine stands =
-    let same =
-    insn_at-same list i (λ o x. IsTrue (loads_slot o) × MayBeUnwritten list x.k i) insn op stands here known in
-    fine (same.0, tracks.each_reached i insn.k (small same.0) (reached-unwritten_at list insn.k i same.1))
-
-pub written-all : (list : List Insn) (masks : List ℕ) → TracksPaths list (length list) masks → (j : ℕ)
-    → HasFault list (UnwrittenSlot j) → ⊥
-written-all list masks tracks j stands = tracks.written j (slice_get_within list j stands.0 stands.2) stands
 
 -- a slot that is loaded or stored is named
 pub loads_use-slot : (op : Op) → IsTrue (loads_slot op) → IsTrue (uses_slot op)

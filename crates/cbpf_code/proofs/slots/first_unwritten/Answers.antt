@@ -1,8 +1,8 @@
 use Rattle.std.proofs.Common.{◌≡◌, ℕ, ◌<◌, List, length, get_or, arith, sym, ◌∙◌, refl}
 use Rattle.std.specs.Prelude.{Some, slice_get}
-use Rattle.std.proofs.lemmas.Option.{slice_get-get_or}
+use Rattle.std.proofs.lemmas.Option.{slice_get-get_or, slice_get_within}
 use Rattle.cbpf_code.specs.declared.insn.Insn.{Insn}
-use Rattle.cbpf_code.proofs.PathLemmas.{tracks_paths-start, tracks_paths-next, unwritten_at, written_at, written-all}
+use Rattle.cbpf_code.proofs.PathLemmas.{tracks_paths-start, tracks_paths-next, unwritten_at-reached}
 use Rattle.cbpf_code.proofs.PathLemmas.{loads_use-slot, stores_use-slot}
 use Rattle.cbpf_code.proofs.FaultLemmas.{zero_insn}
 use Rattle.cbpf_code.proofs.SoundLemmas.{formed_known, formed_allowed, formed_next}
@@ -43,7 +43,7 @@ returns-then-loads_any c =
     let loaded = c.if-loads_any.ensures.0 refl in
     let at = here _ _ c.loop-i-test.true in
     let small = (formed_allowed _ _ _ _ c.requires at known).slot (loads_use-slot c.in-Some.op loaded.0) in (
-      unwritten_at _ _ _ _ _ at known small c.loop-i.invariant loaded.0 loaded.1,
+      (_, _, at, known, (loaded.0, unwritten_at-reached _ _ _ (c.loop-i.invariant.only_reached _ _ small loaded.1))),
       c.loop-i.invariant.written,
     )
 
@@ -52,11 +52,10 @@ loop-i-preserved c =
     let known = sym c.op_of.ensures ∙ c.in-Some.is in
     let at = here _ _ c.loop-i-test.true in
     tracks_paths-next _ _ _ _ _ _ _ at known c.loop-i.invariant c.still_unwritten-left.ensures c.propagate.ensures
-    (written_at _ _ _ _ _ at known
     (λ loads. (formed_allowed _ _ _ _ c.requires at known).slot (loads_use-slot c.in-Some.op loads))
-    c.loop-i.invariant (λ loaded. let never = c.if-loads_any.ensures.1 loaded in absurd (cc)))
+    (λ loaded. let never = c.if-loads_any.ensures.1 loaded in absurd (cc))
 
 pub returns : goal.returns
-returns c =
-    let e : length c.args.list.now ≡ c.loop-i.i = omega arith in
-    written-all c.args.list.now c.loop-i.unwritten (rw e c.loop-i.invariant)
+returns c = λ j stands.
+    let below = slice_get_within c.args.list.now j stands.0 stands.2 in
+    c.loop-i.invariant.written j (omega arith) stands
