@@ -1,121 +1,92 @@
--- Each token list is items, or has a first refusal: of each the longest row is found in the table.
-use Rattle.std.proofs.Common.{rules, ◌≡◌, ◌≢◌, ℕ, zero, suc, ◌+◌, ◌<◌, ◌≤◌, Bool, true, false, List, [], ◌∷◌, ◌++◌}
-use Rattle.std.proofs.Common.{length, take, drop, refl, arith, ap, sym, ◌∙◌, ◌⊎◌, inl, inr, subst, Option, Some, None}
+-- Each token list is items, or has a first refusal: of each the longest front that begins a row is found.
+use Rattle.std.proofs.Common.{rules, ◌≡◌, ℕ, zero, suc, ◌+◌, ◌<◌, ◌≤◌, Bool, true, false, List, [], ◌∷◌, ◌++◌, length}
+use Rattle.std.proofs.Common.{take, drop, refl, arith, ap, sym, ◌∙◌, ◌⊎◌, inl, inr, subst, Option, Some, None}
 use Rattle.std.proofs.Common.{eqb-true, eq-eqb}
-use Rattle.std.specs.Prelude.{◌==◌, Contains}
-use Rattle.std.proofs.lemmas.Bool.{cases_lt}
-use Rattle.std.proofs.lemmas.List.Sums.{common_prefix_len-le}
+use Rattle.std.specs.Prelude.{◌==◌}
+use Rattle.std.specs.List.{list_any}
+use Rattle.std.proofs.lemmas.Bool.{cases_lt, cases_Bool, both_ways}
 use Rattle.cbpf_syntax.specs.Classes.Class.{the_mark, name}
 use Rattle.cbpf_syntax.specs.Lexemes.{Symbol, Lexeme}
 use Rattle.cbpf_syntax.specs.Lexemes.Symbol.{word, number, mark}
-use Rattle.cbpf_syntax.specs.Table.{Row, classes, table}
-use Rattle.cbpf_syntax.specs.Fits.{fits}
-use Rattle.cbpf_syntax.specs.Items.{Item, Items}
-use Rattle.cbpf_syntax.specs.Choice.{common}
-use Rattle.cbpf_syntax.specs.Steps.{Stuck, IsNextItem, starts_with_name, starts_with_colon}
+use Rattle.cbpf_syntax.specs.Table.{classes, table}
+use Rattle.cbpf_syntax.specs.Fits.{fits, fits_all, fits_front}
+use Rattle.cbpf_syntax.specs.Items.{Item, Items, Form}
+use Rattle.cbpf_syntax.specs.Steps.{Goes, Stuck, IsNextItem, starts_with_colon}
 use Rattle.cbpf_syntax.specs.Refusals.{symbol_at, IsLarge, IsLargeNegative, IsStuckAt}
 use Rattle.cbpf_syntax.specs.Refusals.ParseFault.{Misplaced, LargeNegative, Unfinished}
 use Rattle.cbpf_syntax.specs.Laws.{EachParsed}
-use Rattle.cbpf_syntax.proofs.Elements.{first_element, later_element, which_element, only_element}
-use Rattle.cbpf_syntax.proofs.Apart.{three}
+use Rattle.cbpf_syntax.proofs.Elements.{any_element, some_element}
+use Rattle.cbpf_syntax.proofs.Apart.{no_classes}
 use Rattle.cbpf_syntax.proofs.Greedy.{Greedy}
-use Rattle.cbpf_syntax.proofs.Steps.{base_stuck, base_whole, name_stuck, label_stuck, label_whole, label_no_longer}
-use Rattle.cbpf_syntax.proofs.Steps.{some_known, end_stuck}
+use Rattle.cbpf_syntax.proofs.Steps.{some_known, bare_front, bare_whole, form_of, name_stuck, label_stuck, label_item, end_stuck}
 use Rattle.cbpf_syntax.proofs.Refused.{greedy_more, greedy_all, next_some, stuck_at, large_within, large_first}
 use Rattle.cbpf_syntax.proofs.Refused.{misplaced_first, unfinished_first, items_accepted, items_large}
 use Rattle.cbpf_syntax.proofs.Cuts.{some-same}
-
--- Of the rows most tokens fit this one. Where it is not whole, none that as many fit is.
-record IsLongest (rows : List Row) (ts : List Lexeme) (row : Row) : Type 0 where
-  known : Contains rows row
-  most : (r : Row) → Contains rows r → common (classes r) ts ≤ common (classes row) ts
-  goes_on : length (classes row) ≢ common (classes row) ts → (r : Row) → Contains rows r
-      → common (classes r) ts ≡ common (classes row) ts → length (classes r) ≢ common (classes row) ts
-
-only_longest : (ts : List Lexeme) (d : Row) → IsLongest (d ∷ []) ts d
-only_longest ts d = search (rules, first_element, only_element)
-
--- one more row, which is no longer
-longest_stays : (rows : List Row) (ts : List Lexeme) (d row : Row) → IsLongest rows ts row
-    → common (classes d) ts ≤ common (classes row) ts → (common (classes d) ts ≡ common (classes row) ts
-    → length (classes d) ≢ common (classes row) ts) → IsLongest (d ∷ rows) ts row
-longest_stays rows ts d row h1 h2 h3 = search (rules, later_element, which_element)
-
--- one more row, which is longer, or as long and whole
-longest_next : (rows : List Row) (ts : List Lexeme) (d row : Row) → IsLongest rows ts row
-    → common (classes row) ts ≤ common (classes d) ts → (common (classes row) ts ≡ common (classes d) ts
-    → length (classes d) ≡ common (classes d) ts) → IsLongest (d ∷ rows) ts d
-longest_next rows ts d row h1 h2 h3 = search (rules, first_element, which_element)
-
-longest : (rows : List Row) (d : Row) (ts : List Lexeme) → (row : Row) × IsLongest (d ∷ rows) ts row
-longest [] d ts = (d, only_longest ts d)
-longest (r ∷ rows) d ts = by_size (longest rows r ts)
-  where
-    by_size : (row : Row) × IsLongest (r ∷ rows) ts row → (row : Row) × IsLongest (d ∷ r ∷ rows) ts row
-    by_size b = elim (three (common (classes d) ts) (common (classes b.0) ts)) [
-      | inl l ↦ (b.0, longest_stays (r ∷ rows) ts d b.0 b.1 (omega (arith, l)) (λ e. absurd (omega (arith, e, l))))
-      | inr h ↦ elim h [
-        | inl l ↦ (d, longest_next (r ∷ rows) ts d b.0 b.1 (omega (arith, l)) (λ e. absurd (omega (arith, e, l))))
-        | inr e ↦ elim (three (length (classes d)) (common (classes d) ts)) [
-          | inl s ↦ (b.0, longest_stays (r ∷ rows) ts d b.0 b.1 (omega (arith, e)) (λ q w. omega (arith, e, s, w)))
-          | inr k ↦ elim k [
-            | inl s ↦ (b.0, longest_stays (r ∷ rows) ts d b.0 b.1 (omega (arith, e)) (λ q w. omega (arith, e, s, w)))
-            | inr w ↦ (d, longest_next (r ∷ rows) ts d b.0 b.1 (omega (arith, e)) (λ q. w))
-          ]
-        ]
-      ]
-    ]
 
 -- what stands at the front of tokens
 abbrev Step : List Lexeme → Type 0
 Step ts = ((n : ℕ) × (i : Item) × IsNextItem ts n i) ⊎ ((n : ℕ) × Stuck n ts)
 
-base_step : (ts : List Lexeme) → starts_with_name ts ≡ false → Step ts
-base_step ts s = by_row (longest table some_known.0 ts)
+abbrev some_front : List Lexeme → Bool
+some_front ts = list_any (λ r. fits_front (classes r) ts) table
+
+abbrev some_whole : List Lexeme → Bool
+some_whole ts = list_any (λ r. fits_all (classes r) ts) table
+
+-- the longest front that begins a row, of those after n tokens, of which there are so many at most
+longest : (ts : List Lexeme) (left n : ℕ) → length ts ≤ n + left → n ≤ length ts → some_front (take n ts) ≡ true
+    → (m : ℕ) × (m ≤ length ts) × (some_front (take m ts) ≡ true)
+    × (m < length ts → some_front (take (suc m) ts) ≡ false)
+longest ts zero n l w h = (n, w, h, λ k. absurd (omega (arith, l)))
+longest ts (suc left) n l w h = elim (cases_lt n (length ts)) [
+  | inr end ↦ (n, w, h, λ k. absurd (omega arith))
+  | inl more ↦ elim (cases_Bool (some_front (take (suc n) ts))) [
+    | inl on ↦ longest ts left (suc n) (omega arith) (omega arith) on
+    | inr off ↦ (n, w, h, λ _. off)
+  ]
+]
+
+base_step : (t : Lexeme) (ts : List Lexeme) → fits name t.symbol ≡ false → Step (t ∷ ts)
+base_step t ts s = by_whole (cases_Bool (some_whole (take front.0 (t ∷ ts))))
   where
-    by_row : (row : Row) × IsLongest (some_known.0 ∷ table) ts row → Step ts
-    by_row b =
-        let known : Contains table b.0 = elim (which_element some_known.0 table b.0 b.1.known) [
-          | inl e ↦ subst (Contains table) e some_known.1
-          | inr k ↦ k
-        ] in
-        let best : (r : Row) → Contains table r → common (classes r) ts ≤ common (classes b.0) ts =
-        λ r k. b.1.most r (later_element some_known.0 table r k) in
-        let stuck : length (classes b.0) ≢ common (classes b.0) ts → Step ts = λ part. inr (
-          common (classes b.0) ts,
-          base_stuck ts b.0 known s best (λ r k. b.1.goes_on part r (later_element some_known.0 table r k)),
-        ) in
-        elim (three (length (classes b.0)) (common (classes b.0) ts)) [
-          | inl l ↦ stuck (λ e. absurd (omega (arith, l, e)))
-          | inr h ↦ elim h [
-            | inl l ↦ stuck (λ e. absurd (omega (arith, l, e)))
-            | inr e ↦ inl (
-              common (classes b.0) ts,
-              _,
-              base_whole ts b.0 known s best e (common_prefix_len-le (λ c (t : Lexeme). fits c t.symbol) (classes b.0) ts).1,
-            )
-          ]
-        ]
+    front : (m : ℕ) × (m ≤ length (t ∷ ts)) × (some_front (take m (t ∷ ts)) ≡ true)
+        × (m < length (t ∷ ts) → some_front (take (suc m) (t ∷ ts)) ≡ false)
+    front = longest (t ∷ ts) (length (t ∷ ts)) 0 (omega arith) (omega arith)
+        (any_element (λ r. fits_front (classes r) []) table some_known.0 some_known.1 refl)
+
+    goes : Goes front.0 (t ∷ ts)
+    goes =
+        let r = some_element (λ r. fits_front (classes r) (take front.0 (t ∷ ts))) table front.2 in
+        record {
+          within = front.1;
+          begins = record { count = 0; row = r.0; known = r.1; fits = r.2 };
+          no_farther = λ l b. let fit = bare_front b.count b.row t (take front.0 ts) s b.fits in both_ways _ (front.3 l)
+              (any_element (λ r. fits_front (classes r) (t ∷ take front.0 ts)) table b.row b.known fit);
+        }
+
+    by_whole : (some_whole (take front.0 (t ∷ ts)) ≡ true) ⊎ (some_whole (take front.0 (t ∷ ts)) ≡ false)
+        → Step (t ∷ ts)
+    by_whole (inl found) =
+        let r = some_element (λ r. fits_all (classes r) (take front.0 (t ∷ ts))) table found in
+        inl (front.0, _, record { goes = goes; form = form_of 0 r.0 (take front.0 (t ∷ ts)) r.1 r.2 })
+    by_whole (inr other) = inr (front.0, record { goes = goes; none = λ i form. none front.0 i form other })
+      where
+        none : (n : ℕ) (i : Item) → Form (take n (t ∷ ts)) i → some_whole (take n (t ∷ ts)) ≡ false → ⊥
+        none zero i form other = no_classes form.count i.row form.row form.fits
+        none (suc n) i form other = let fit = bare_whole form.count i.row t (take n ts) s form.fits in
+            both_ways _ other (any_element (λ r. fits_all (classes r) (t ∷ take n ts)) table i.row form.row fit)
 
 bare_step : (t : Lexeme) (ts : List Lexeme) → starts_with_colon ts ≡ false → Step (t ∷ ts)
 bare_step t ts c = by_name (fits name t.symbol) refl
   where
     by_name : (b : Bool) → fits name t.symbol ≡ b → Step (t ∷ ts)
-    by_name true e = inr (1, name_stuck t ts some_known.0 some_known.1 e c)
-    by_name false e = base_step (t ∷ ts) e
+    by_name true e = inr (1, name_stuck t ts e c)
+    by_name false e = base_step t ts e
 
 -- a label and its colon before a step
 label_step : (t u : Lexeme) (ts : List Lexeme) → fits name t.symbol ≡ true → fits (the_mark 58) u.symbol ≡ true
     → Step ts → Step (t ∷ u ∷ ts)
-label_step t u ts a b (inl p) = inl (
-  suc (suc p.0),
-  record { labels = t ∷ p.1.labels; row = p.1.row; body = p.1.body },
-  record {
-    within = omega (arith, p.2.within);
-    form = label_whole t u (take p.0 ts) p.1 a b p.2.form;
-    longest = label_no_longer t u ts p.0 a p.2.longest;
-  },
-)
+label_step t u ts a b (inl p) = inl (suc (suc p.0), _, label_item t u ts p.0 p.1 a b p.2)
 label_step t u ts a b (inr p) = inr (suc (suc p.0), label_stuck t u ts p.0 a b p.1)
 
 two_step : (t u : Lexeme) (ts : List Lexeme) → Step ts → Step (t ∷ u ∷ ts)
@@ -123,7 +94,7 @@ two_step t u ts rest = by_colon (fits (the_mark 58) u.symbol) refl
   where
     by_name : (b : Bool) → fits name t.symbol ≡ b → fits (the_mark 58) u.symbol ≡ true → Step (t ∷ u ∷ ts)
     by_name true e c = label_step t u ts e c rest
-    by_name false e c = base_step (t ∷ u ∷ ts) e
+    by_name false e c = base_step t (u ∷ ts) e
 
     by_colon : (b : Bool) → fits (the_mark 58) u.symbol ≡ b → Step (t ∷ u ∷ ts)
     by_colon true c = by_name (fits name t.symbol) refl c

@@ -1,19 +1,21 @@
 -- No two rows of the table fit the same tokens, unless one goes on with a comma where the other ends.
 use Rattle.std.proofs.Common.{rules, ◌≡◌, ℕ, Bool, true, false, not, ◌&&◌, ◌||◌, List, [], ◌∷◌, ◌++◌, length, refl}
-use Rattle.std.proofs.Common.{sym, ◌∙◌, ◌⊎◌, inl, inr, eq-eqb, eqb-true, zero, suc, ◌<◌, arith, ap, get_or, subst}
+use Rattle.std.proofs.Common.{sym, ◌∙◌, ◌⊎◌, inl, inr, eq-eqb, eqb-true, zero, suc, ◌<◌, arith, ap, get_or, subst, append-nil}
+use Rattle.std.proofs.Common.{append_assoc}
 use Rattle.std.specs.Prelude.{◌==◌, bytes_eq, Contains}
 use Rattle.std.specs.List.{list_all}
 use Rattle.std.proofs.lemmas.Bool.{and_parts}
 use Rattle.std.proofs.lemmas.Slice.Eq.{bytes_eq-Decides}
 use Rattle.cbpf_syntax.specs.Classes.{Class}
 use Rattle.cbpf_syntax.specs.Lexemes.{Symbol, Lexeme}
-use Rattle.cbpf_syntax.specs.Fits.{fits, fits_all, is_one_of, is_reserved, extension_names, mnemonic_words}
+use Rattle.cbpf_syntax.specs.Fits.{fits, fits_all, fits_front, is_one_of, is_reserved, extension_names, mnemonic_words}
 use Rattle.cbpf_syntax.specs.Table.{operand_words, Row, classes, mnemonics, table}
 use Rattle.cbpf_syntax.specs.Lexemes.Symbol.{word, number, mark}
 use Rattle.cbpf_syntax.specs.Classes.Class.{the_word, the_mark, literal, negated, exactly, extension, name}
 use Rattle.std.proofs.lemmas.List.{get_or_default}
 use Rattle.cbpf_syntax.proofs.Elements.{list_all_at}
-use Rattle.cbpf_syntax.specs.Items.{Item, Form, Items, classes_of}
+use Rattle.cbpf_syntax.proofs.Fronts.{whole_front}
+use Rattle.cbpf_syntax.specs.Items.{Item, Form, Items, BeginsItem, classes_of}
 
 abbrev pub is_numeric : Class → Bool
 is_numeric literal = true
@@ -197,24 +199,6 @@ readings_apart (suc m) zero r s p q = inr (apart_swap (classes_of (suc m) r) (cl
 readings_apart (suc m) (suc n) r s p q =
     elim (readings_apart m n r s p q) [ inl e ↦ inl (ap suc e.0, e.1) | inr a ↦ inr a ]
 
--- neither items nor what begins one starts with a comma
-pub comma_row : (cs : List Class) (ts : List Lexeme) → starts_reserved cs ≡ true → fits_all cs ts ≡ true
-    → starts_with_comma ts ≡ true → ⊥
-comma_row (the_word w ∷ cs) (t ∷ ts) e f h = comma_word w t.symbol (and_parts _ _ f).0 h
-  where
-    comma_word : (w : List ℕ) (t : Symbol) → fits (the_word w) t ≡ true → fits (the_mark 44) t ≡ true → ⊥
-    comma_word w (word u) f h = cc
-    comma_word w (number i) f h = cc
-    comma_word w (mark b) f h = cc
-comma_row cs ts e f h = cc
-
-pub comma_name : (t : Symbol) → fits name t ≡ true → fits (the_mark 44) t ≡ true → ⊥
-comma_name t h1 h2 = search (rules)
-
-pub comma_form : (n : ℕ) (r : Row) (ts : List Lexeme) → Contains table r → fits_all (classes_of n r) ts ≡ true
-    → starts_with_comma ts ≡ true → ⊥
-comma_form n r ts h1 h2 h3 = search (rules, comma_row, row_starts, comma_name, and_parts)
-
 no_row : (cs : List Class) → starts_reserved cs ≡ true → fits_all cs [] ≡ true → ⊥
 no_row [] e f = cc
 no_row (c ∷ cs) e f = cc
@@ -223,14 +207,33 @@ pub no_classes : (n : ℕ) (r : Row) → Contains table r → fits_all (classes_
 no_classes zero r p f = no_row (classes r) (row_starts r p) f
 no_classes (suc n) r p f = cc
 
-pub comma_front : (n : ℕ) (r : Row) (ts us : List Lexeme) → Contains table r → fits_all (classes_of n r) ts ≡ true
-    → starts_with_comma (ts ++ us) ≡ true → ⊥
-comma_front n r [] us p f h = no_classes n r p f
-comma_front n r (t ∷ ts) us p f h = comma_form n r (t ∷ ts) p f h
+-- neither items nor what begins one starts with a comma
+comma_row : (cs : List Class) (ts : List Lexeme) → starts_reserved cs ≡ true → fits_front cs ts ≡ true
+    → starts_with_comma ts ≡ true → ⊥
+comma_row (the_word w ∷ cs) (t ∷ ts) e f h = comma_word w t.symbol (and_parts _ _ f).0 h
+  where
+    comma_word : (w : List ℕ) (t : Symbol) → fits (the_word w) t ≡ true → fits (the_mark 44) t ≡ true → ⊥
+    comma_word w t f h = search (rules)
+comma_row cs ts e f h = cc
 
-pub comma_items : (ts : List Lexeme) (is : List Item) → Items ts is → starts_with_comma ts ≡ true → ⊥
-comma_items ts [] e h = let k : starts_with_comma [] ≡ true = rw e at h in cc
-comma_items ts (i ∷ is) e h = comma_front e.3.count i.row e.0 e.1 e.3.row e.3.fits (rw e.2 at h)
+comma_name : (t : Symbol) → fits name t ≡ true → fits (the_mark 44) t ≡ true → ⊥
+comma_name t h1 h2 = search (rules)
+
+comma_form : (n : ℕ) (r : Row) (ts : List Lexeme) → Contains table r → fits_front (classes_of n r) ts ≡ true
+    → starts_with_comma ts ≡ true → ⊥
+comma_form n r ts h1 h2 h3 = search (rules, comma_row, row_starts, comma_name, and_parts)
+
+comma_front : (ts us : List Lexeme) (i : Item) → Form ts i → starts_with_comma (ts ++ us) ≡ true → ⊥
+comma_front [] us i form h = no_classes form.count i.row form.row form.fits
+comma_front (t ∷ ts) us i form h = comma_form form.count i.row (t ∷ ts) form.row (whole_front _ (t ∷ ts) form.fits) h
+
+pub comma_reading : (ts f r : List Lexeme) (items : List Item) → ts ≡ f ++ r → Items f items → BeginsItem r
+    → starts_with_comma ts ≡ true → ⊥
+comma_reading ts f r [] e p b h = comma_form b.count b.row r b.known b.fits (rw (e, p) at h)
+comma_reading ts f r (i ∷ is) e p b h = comma_front p.0 (p.1 ++ r) i p.3 (rw (e, p.2, append_assoc p.0 p.1 r) at h)
+
+pub begins_none : (r : Row) → Contains table r → BeginsItem []
+begins_none r p = record { count = 0; row = r; known = p; fits = refl }
 
 -- the same classes take the same tokens
 pub same_front : (cs : List Class) (ts x us y : List Lexeme) → fits_all cs ts ≡ true → fits_all cs us ≡ true
@@ -266,8 +269,10 @@ one_reading ts (i ∷ is) (j ∷ js) p q =
           let hd : i ≡ j = same_item p.0 q.0 i j both.0 p.3 q.3 e.0 e.1 in
           let tl : is ≡ js = one_reading p.1 is js p.4 (subst (λ r. Items r js) (sym both.1) q.4) in
           λ k. hd k ∷ tl k
-      | inr a ↦ absurd (elim (apart_split _ _ p.0 p.1 q.0 q.1 a p.3.fits q.3.fits (sym p.2 ∙ q.2)) [
-        | inl k ↦ comma_items p.1 is p.4 k
-        | inr k ↦ comma_items q.1 js q.4 k
-      ])
+      | inr a ↦
+          let none = begins_none i.row p.3.row in
+          absurd (elim (apart_split _ _ p.0 p.1 q.0 q.1 a p.3.fits q.3.fits (sym p.2 ∙ q.2)) [
+            | inl k ↦ comma_reading p.1 p.1 [] is (sym (append-nil p.1)) p.4 none k
+            | inr k ↦ comma_reading q.1 q.1 [] js (sym (append-nil q.1)) q.4 none k
+          ])
     ]

@@ -5,6 +5,7 @@ pub mod Cuts
 pub mod Spelled
 pub mod Outcomes
 pub mod EachLexed
+pub mod Fronts
 pub mod Apart
 pub mod Greedy
 pub mod Steps

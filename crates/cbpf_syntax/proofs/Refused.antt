@@ -1,21 +1,20 @@
 -- Which refusal of a token list is the first.
 use Rattle.std.proofs.Common.{rules, ◌≡◌, ℕ, zero, suc, ◌+◌, ◌-◌, ◌<◌, ◌≤◌, List, [], ◌∷◌, ◌++◌, length, take, drop}
-use Rattle.std.proofs.Common.{map, refl, arith, ap, sym, ◌∙◌, inl, inr, subst, append-nil, length-append, length-drop}
+use Rattle.std.proofs.Common.{map, refl, arith, sym, inl, inr, subst, append-nil, length-drop}
 use Rattle.std.proofs.Common.{get_or, Some}
-use Rattle.std.proofs.lemmas.List.{take-append-drop, take_all, drop_all, drop_at, drop-drop, take-take}
-use Rattle.std.proofs.lemmas.List.{length-take-le}
+use Rattle.std.proofs.lemmas.List.{take-append-drop, take_all, drop_all, drop-drop, take-take}
 use Rattle.std.proofs.lemmas.Bool.{cases_lt}
 use Rattle.cbpf_syntax.specs.declared.lexeme.Lexeme as declared_lexeme
 use Rattle.cbpf_syntax.specs.Refusals.ParseFault.{Misplaced, LargeNegative, Unfinished}
 use Rattle.cbpf_syntax.specs.Lexemes.{Symbol, Lexeme}
-use Rattle.cbpf_syntax.specs.Items.{Item, Form, Items, BeginsItems}
+use Rattle.cbpf_syntax.specs.Items.{Item, Items, BeginsItems}
 use Rattle.cbpf_syntax.specs.Views.{symbol_of, lexeme_of}
-use Rattle.cbpf_syntax.specs.Steps.{NoLonger, Stuck, IsNextItem}
-use Rattle.cbpf_syntax.specs.Refusals.{ParseFault, symbol_at, IsLarge, IsLargeNegative, IsMisplaced, IsStuckAt}
+use Rattle.cbpf_syntax.specs.Steps.{Stuck, IsNextItem}
+use Rattle.cbpf_syntax.specs.Refusals.{ParseFault, symbol_at, IsLarge, IsLargeNegative, IsStuckAt}
 use Rattle.cbpf_syntax.specs.Refusals.{IsRefusedAt, IsFirstRefusal, IsAccepted}
-use Rattle.cbpf_syntax.proofs.Greedy.{Greedy, greedy_items, stuck_begins, stuck_ends, stuck_open, begins_take}
+use Rattle.cbpf_syntax.proofs.Greedy.{Greedy, begins_take, stuck_first, stuck_after}
+use Rattle.cbpf_syntax.proofs.Apart.{begins_none, no_classes}
 use Rattle.cbpf_syntax.proofs.Steps.{some_known}
-use Rattle.cbpf_syntax.proofs.Apart.{no_classes}
 use Rattle.cbpf_syntax.proofs.Cuts.{some-same}
 
 pub symbol_at_get : (ts : List declared_lexeme.Lexeme) (i : ℕ) (d : declared_lexeme.Lexeme) → i < length ts
@@ -43,123 +42,106 @@ not_large_here ts i d e h1 h2 h3 h4 = search (rules, some-same, symbol_at_get)
 pub large_within : (ts : List Lexeme) (i : ℕ) → IsLargeNegative ts i → i < length ts
 large_within ts i h = symbol_within ts i h.digits h.digits_at
 
--- no token is misplaced before the place to which the tokens begin items
-misplaced_from : (ts : List Lexeme) (s k : ℕ) → BeginsItems (take s ts) → IsMisplaced ts k → s ≤ k
-misplaced_from ts s k b m = elim (cases_lt k s) [
-  | inl l ↦ absurd
-      (m.with_it (subst BeginsItems (take-take (k + 1) s ts (omega arith)) (begins_take (take s ts) (k + 1) b)))
-  | inr l ↦ l
+-- Where the tokens begin items up to a place, and no literal before one is too large, nothing is refused before that.
+not_before : (ts : List Lexeme) (s i : ℕ) → BeginsItems (take s ts) → i ≤ s → s ≤ length ts
+    → ((k : ℕ) → k < i → IsLargeNegative ts k → ⊥) → (other : ParseFault) (q : ℕ) → IsRefusedAt ts other q → i ≤ q
+not_before ts s i b l w none (Misplaced k) q r = elim (cases_lt k s) [
+  | inl m ↦ absurd
+      (r.1.with_it (subst BeginsItems (take-take (k + 1) s ts (omega arith)) (begins_take (take s ts) (k + 1) b)))
+  | inr m ↦ omega (arith, r.0)
 ]
-
-from_not_before : (P : ℕ → Type 0) (s k : ℕ) → ((j : ℕ) → j < s → P j → ⊥) → P k → s ≤ k
-from_not_before P s k none p = elim (cases_lt k s) [ inl l ↦ absurd (none k l p) | inr l ↦ l ]
+not_before ts s i b l w none (LargeNegative k) q r =
+    elim (cases_lt k i) [ inl m ↦ absurd (none k m r.1) | inr m ↦ omega (arith, r.0) ]
+not_before ts s i b l w none Unfinished q r = omega (arith, r.0)
 
 pub large_first : (ts : List Lexeme) (s i : ℕ) → IsStuckAt ts s → i < s → IsLargeNegative ts i
     → ((k : ℕ) → k < i → IsLargeNegative ts k → ⊥) → IsFirstRefusal ts (LargeNegative i)
-large_first ts s i stuck l large none = record { place = i; refused = (refl, large); first = first }
-  where
-    first : (other : ParseFault) (q : ℕ) → IsRefusedAt ts other q → i ≤ q
-    first (Misplaced k) q r = let m = misplaced_from ts s k stuck.before r.1 in omega (arith, r.0, m)
-    first (LargeNegative k) q r = let m = from_not_before (IsLargeNegative ts) i k none r.1 in omega (arith, r.0, m)
-    first Unfinished q r = omega (arith, r.0, stuck.within)
+large_first ts s i stuck l large none = record {
+  place = i;
+  refused = (refl, large);
+  first = not_before ts s i stuck.before (omega arith) stuck.within none;
+}
 
 pub misplaced_first : (ts : List Lexeme) (s : ℕ) → IsStuckAt ts s → s < length ts
     → ((k : ℕ) → k < s → IsLargeNegative ts k → ⊥) → IsFirstRefusal ts (Misplaced s)
 misplaced_first ts s stuck l none = record {
   place = s;
   refused = (refl, record { within = l; before = stuck.before; with_it = stuck.next l });
-  first = first;
+  first = not_before ts s s stuck.before (omega arith) stuck.within none;
 }
-  where
-    first : (other : ParseFault) (q : ℕ) → IsRefusedAt ts other q → s ≤ q
-    first (Misplaced k) q r = let m = misplaced_from ts s k stuck.before r.1 in omega (arith, r.0, m)
-    first (LargeNegative k) q r = let m = from_not_before (IsLargeNegative ts) s k none r.1 in omega (arith, r.0, m)
-    first Unfinished q r = omega (arith, r.0, stuck.within)
 
 pub unfinished_first : (ts : List Lexeme) (s : ℕ) → IsStuckAt ts s → length ts ≤ s
     → ((k : ℕ) → k < s → IsLargeNegative ts k → ⊥) → IsFirstRefusal ts Unfinished
 unfinished_first ts s stuck l none =
     let e : s ≡ length ts = omega (arith, stuck.within) in
     record {
-      place = length ts;
-      refused = (refl, record { begins = subst BeginsItems (take_all s ts l) stuck.before; none = stuck.end e });
-      first = first;
+      place = s;
+      refused = (e, record { begins = subst BeginsItems (take_all s ts l) stuck.before; none = stuck.end e });
+      first = not_before ts s s stuck.before (omega arith) stuck.within none;
     }
-  where
-    first : (other : ParseFault) (q : ℕ) → IsRefusedAt ts other q → length ts ≤ q
-    first (Misplaced k) q r = let m = misplaced_from ts s k stuck.before r.1 in omega (arith, r.0, m)
-    first (LargeNegative k) q r = let m = from_not_before (IsLargeNegative ts) s k none r.1 in omega (arith, r.0, m)
-    first Unfinished q r = omega (arith, r.0)
 
 -- Where the tokens are items.
 items_begin : (ts : List Lexeme) (items : List Item) → Items ts items → BeginsItems ts
-items_begin ts items p = (
-  ts,
-  [],
-  items,
-  sym (append-nil ts),
-  p,
-  record { count = 0; row = some_known.0; known = some_known.1; fits = refl },
-)
-
-none_misplaced : (ts : List Lexeme) (items : List Item) (k : ℕ) → Items ts items → IsMisplaced ts k → ⊥
-none_misplaced ts items k p m = m.with_it (begins_take ts (k + 1) (items_begin ts items p))
+items_begin ts items p =
+    (ts, [], items, sym (append-nil ts), p, begins_none some_known.0 some_known.1)
 
 pub items_accepted : (ts : List Lexeme) (items : List Item) → Items ts items → ((k : ℕ) → IsLargeNegative ts k → ⊥)
     → IsAccepted ts
-items_accepted ts items p none (Misplaced k) q r = none_misplaced ts items k p r.1
+items_accepted ts items p none (Misplaced k) q r = r.1.with_it (begins_take ts (k + 1) (items_begin ts items p))
 items_accepted ts items p none (LargeNegative k) q r = none k r.1
 items_accepted ts items p none Unfinished q r = r.1.none items p
 
 pub items_large : (ts : List Lexeme) (items : List Item) (i : ℕ) → Items ts items → IsLargeNegative ts i
     → ((k : ℕ) → k < i → IsLargeNegative ts k → ⊥) → IsFirstRefusal ts (LargeNegative i)
-items_large ts items i p large none = record { place = i; refused = (refl, large); first = first }
-  where
-    first : (other : ParseFault) (q : ℕ) → IsRefusedAt ts other q → i ≤ q
-    first (Misplaced k) q r = absurd (none_misplaced ts items k p r.1)
-    first (LargeNegative k) q r = let m = from_not_before (IsLargeNegative ts) i k none r.1 in omega (arith, r.0, m)
-    first Unfinished q r = absurd (r.1.none items p)
+items_large ts items i p large none =
+    let l = large_within ts i large in
+    let begin = begins_take ts (length ts) (items_begin ts items p) in
+    record {
+      place = i;
+      refused = (refl, large);
+      first = not_before ts (length ts) i begin (omega arith) (omega arith) none;
+    }
 
 -- Where items were read one by one.
-greedy_snoc : (ts : List Lexeme) (is : List Item) (f r : List Lexeme) (i : Item) → Greedy ts is (f ++ r) → Form f i
-    → NoLonger (length f) (f ++ r) → Greedy ts (is ++ (i ∷ [])) r
-greedy_snoc ts [] f r i p form longest = (f, r, p, form, subst (λ us. NoLonger (length f) us) (sym p) longest, refl)
-greedy_snoc ts (j ∷ is) f r i p form longest = (p.0, p.1, p.2, p.3, p.4, greedy_snoc p.1 is f r i p.5 form longest)
+greedy_snoc : (ts : List Lexeme) (is : List Item) (rest : List Lexeme) (n : ℕ) (i : Item) → Greedy ts is rest
+    → IsNextItem rest n i → Greedy ts (is ++ (i ∷ [])) (drop n rest)
+greedy_snoc ts [] rest n i p next = rw p (n, next, refl)
+greedy_snoc ts (j ∷ is) rest n i p next = (p.0, p.1, greedy_snoc (drop p.0 ts) is rest n i p.2 next)
 
 pub greedy_more : (ts : List Lexeme) (is : List Item) (at n : ℕ) (i : Item) → Greedy ts is (drop at ts)
     → IsNextItem (drop at ts) n i → Greedy ts (is ++ (i ∷ [])) (drop (at + n) ts)
-greedy_more ts is at n i p next =
-    let rest = drop at ts in
-    let parts : take n (drop at ts) ++ drop n (drop at ts) ≡ drop at ts = take-append-drop n (drop at ts) in
-    let size : length (take n (drop at ts)) ≡ n = length-take-le n (drop at ts) next.within in
-    subst (λ us. Greedy ts (is ++ (i ∷ [])) us) (drop-drop n at ts)
-    (greedy_snoc ts is (take n (drop at ts)) (drop n (drop at ts)) i (subst (λ us. Greedy ts is us) (sym parts) p)
-    next.form (subst (λ m. NoLonger m (take n (drop at ts) ++ drop n (drop at ts))) (sym size)
-    (subst (λ us. NoLonger n us) (sym parts) next.longest)))
+greedy_more ts is at n i p next = rw drop-drop at (greedy_snoc ts is (drop at ts) n i p next)
 
 pub greedy_all : (ts : List Lexeme) (is : List Item) (at : ℕ) → length ts ≤ at
     → Greedy ts is (drop at ts) → Items ts is
-greedy_all ts is at h1 h2 = search (rules, greedy_items, drop_all, append-nil)
+greedy_all ts is at l p = all ts is (rw (drop_all at ts l) at p)
+  where
+    all : (us : List Lexeme) (is : List Item) → Greedy us is [] → Items us is
+    all us [] p = p
+    all us (i ∷ is) p =
+        (take p.0 us, drop p.0 us, sym (take-append-drop p.0 us), p.1.form, all (drop p.0 us) is p.2)
 
 -- an item has a token
 pub next_some : (ts : List Lexeme) (n : ℕ) (i : Item) → IsNextItem ts n i → 0 < n
 next_some ts zero i next = absurd (no_classes next.form.count i.row next.form.row next.form.fits)
 next_some ts (suc n) i next = omega arith
 
+stuck_from : (ts : List Lexeme) (is : List Item) (rest : List Lexeme) (s : ℕ) → Greedy ts is rest → 0 < length rest
+    → IsStuckAt rest s → (m : ℕ) × (length ts ≡ m + length rest) × IsStuckAt ts (m + s)
+stuck_from ts [] rest s p some stuck =
+    let none : s ≡ 0 + s = omega arith in rw p (0, omega arith, subst (λ m. IsStuckAt rest m) none stuck)
+stuck_from ts (i ∷ is) rest s p some stuck =
+    let r = stuck_from (drop p.0 ts) is rest s p.2 some stuck in
+    let size : length (drop p.0 ts) ≡ length ts - p.0 = length-drop p.0 ts in
+    let add : p.0 + (r.0 + s) ≡ p.0 + r.0 + s = omega arith in
+    let l : p.0 < length ts = omega (arith, r.1) in
+    (p.0 + r.0, omega (arith, r.1), subst (λ m. IsStuckAt ts m) add (stuck_after p.0 (r.0 + s) ts i p.1 l r.2))
+
 pub stuck_at : (ts : List Lexeme) (is : List Item) (at n : ℕ) → at < length ts → Greedy ts is (drop at ts)
     → Stuck n (drop at ts) → IsStuckAt ts (at + n)
 stuck_at ts is at n l p s =
-    let rest : length (drop at ts) ≡ length ts - at = length-drop at ts in
-    let parts : length (drop at ts) ≡ length s.front + length s.more =
-    ap length s.split ∙ length-append s.front s.more in
-    let more : s.more ≡ drop (at + n) ts =
-    sym (ap (λ us. drop n us) s.split ∙ drop_at s.front s.more n s.size) ∙ drop-drop n at ts in
-    record {
-      within = omega (arith, rest, parts, s.size);
-      before = stuck_begins ts is (drop at ts) n p s (take (at + n) ts)
-          (sym (take-append-drop (at + n) ts) ∙ ap (λ us. take (at + n) ts ++ us) (sym more));
-      next = λ k b. stuck_ends ts is (drop at ts) n p s (take (at + n + 1) ts) (drop (at + n + 1) ts)
-          (sym (take-append-drop (at + n + 1) ts)) (omega (arith, rest, length-drop (at + n + 1) ts, k)) b;
-      end = λ k items b. let m : n ≡ length (drop at ts) = omega (arith, rest, k) in
-          stuck_open ts is (drop at ts) p (subst (λ j. Stuck j (drop at ts)) m s) (omega (arith, rest)) items b;
-    }
+    let size : length (drop at ts) ≡ length ts - at = length-drop at ts in
+    let some : 0 < length (drop at ts) = omega arith in
+    let r = stuck_from ts is (drop at ts) n p some (stuck_first n (drop at ts) some s) in
+    let same : r.0 ≡ at = omega (arith, r.1) in
+    subst (λ m. IsStuckAt ts (m + n)) same r.2

@@ -21,10 +21,9 @@ use Rattle.cbpf_syntax.specs.Classes.Class.{the_word, name}
 use Rattle.cbpf_syntax.specs.Table.{Row}
 use Rattle.cbpf_syntax.specs.Fits.{fits, fits_front}
 use Rattle.cbpf_syntax.specs.Items.{Item, classes_of}
-use Rattle.cbpf_syntax.proofs.Greedy.{whole_front}
 use Rattle.cbpf_syntax.proofs.Refused.{next_some, large_first, misplaced_first, unfinished_first}
 use Rattle.cbpf_syntax.specs.Views.{lexeme_of, row_of}
-use Rattle.cbpf_syntax.specs.Steps.{IsNextItem, Stuck, starts_with_label}
+use Rattle.cbpf_syntax.specs.Steps.{Goes, IsNextItem, Stuck, starts_with_label}
 use Rattle.cbpf_syntax.specs.declared.reader.SyntaxFault.TheVariants as refusal
 use Rattle.cbpf_syntax.specs.Refusals.{symbol_at, IsLargeNegative, IsStuckAt}
 use Rattle.cbpf_syntax.specs.Reading.{AreAhead, IsStepOf, step_len, StartsWithWord, IsPlaceOf, IsFirstLarge}
@@ -203,21 +202,19 @@ front_word : (m : ℕ) (r : Row) (f : List Lexeme) → fits_front (classes_of m 
     → StartsWithWord f
 front_word m r f h1 h2 = search (rules, word_of, and_parts, name_of)
 
-starts_on : (f g : List Lexeme) → 0 < length f → StartsWithWord f → StartsWithWord (f ++ g)
-starts_on [] g l w = absurd (omega (arith, l))
-starts_on (t ∷ f) g l w = w
+goes_word : (n : ℕ) (ts : List Lexeme) → Goes n ts → 0 < n → StartsWithWord ts
+goes_word n [] g l = absurd (omega (arith, g.within))
+goes_word (suc n) (t ∷ ts) g l = front_word g.begins.count g.begins.row (t ∷ take n ts) g.begins.fits (omega arith)
+goes_word zero ts g l = absurd (omega arith)
 
 pub stuck_within : (n : ℕ) (ts : List Lexeme) → Stuck n ts → n ≤ length ts
-stuck_within n ts s = omega (arith, s.size, ap length s.split, length-append s.front s.more)
+stuck_within n ts s = s.goes.within
 
 pub stuck_word : (n : ℕ) (ts : List Lexeme) → Stuck n ts → 0 < n → StartsWithWord ts
-stuck_word n ts h1 h2 = search (rules, starts_on, front_word)
+stuck_word n ts s l = goes_word n ts s.goes l
 
 pub next_word : (ts : List Lexeme) (n : ℕ) (item : Item) → IsNextItem ts n item → StartsWithWord ts
-next_word ts n item next =
-    let some : 0 < length (take n ts) = omega (arith, next_some ts n item next, length-take-le n ts next.within) in
-    subst StartsWithWord (take-append-drop n ts) (starts_on (take n ts) (drop n ts) some (front_word next.form.count
-    item.row (take n ts) (whole_front (classes_of next.form.count item.row) (take n ts) next.form.fits) some))
+next_word ts n item next = goes_word n ts next.goes (next_some ts n item next)
 
 pub label_word : (ts : List Lexeme) → starts_with_label ts ≡ true → StartsWithWord ts
 label_word [] h = cc
