@@ -1,21 +1,24 @@
 -- The piece at the front of a text, by its first byte.
 use Rattle.std.proofs.Common.{◌≡◌, ℕ, zero, suc, ◌+◌, ◌<◌, ◌≤◌, Bool, true, false, not, cond, List, [], ◌∷◌, length}
 use Rattle.std.proofs.Common.{take, drop, refl, ap, ◌∙◌, arith, Some, None, ne_eqb, eq-eqb, length-take-le, rules}
-use Rattle.std.proofs.Common.{get_or}
+use Rattle.std.proofs.Common.{get_or, Option, eqb-true}
 use Rattle.std.proofs.Math.Numerals.{one-add}
-use Rattle.std.specs.Prelude.{◌==◌, slice_index, ◌≢◌}
+use Rattle.std.specs.Prelude.{◌==◌, ◌≢◌}
 use Rattle.std.specs.List.{list_all, prefix_len}
 use Rattle.cbpf_syntax.specs.declared.piece.PieceKind.{PieceKind}
 use Rattle.cbpf_syntax.specs.declared.piece.PieceKind.TheVariants.{Blanks, Comment, Lexeme, Bad}
 use Rattle.cbpf_syntax.specs.declared.token.Kind.TheVariants.{Word, Mark}
 use Rattle.cbpf_syntax.specs.Bytes.{is_blank, is_name_byte}
 use Rattle.cbpf_syntax.specs.Numbers.{number_value}
-use Rattle.cbpf_syntax.specs.Pieces.{IsNext, piece_kind, only_if, run_kind, alone, first_close, comment_kind}
+use Rattle.cbpf_syntax.specs.Pieces.{IsNext, piece_kind, led_kind, slash_kind, only_if, run_kind, alone, first_close}
+use Rattle.cbpf_syntax.specs.Pieces.{comment_kind}
+use Rattle.cbpf_syntax.specs.NextPiece.{comment_piece, slash_piece, led_piece}
 use Rattle.cbpf_syntax.specs.Pieces.{is_line_blank}
 use Rattle.cbpf_syntax.specs.Leads.{lead_of}
-use Rattle.cbpf_syntax.proofs.LeadTable.{led, blank_lead}
-use Rattle.cbpf_syntax.proofs.Comments.{close_taken}
+use Rattle.cbpf_syntax.proofs.LeadTable.{blank_lead}
+use Rattle.cbpf_syntax.proofs.Comments.{close_taken, close_within}
 use Rattle.cbpf_syntax.specs.declared.token.BadPiece.TheVariants.{NoToken, OpenComment}
+use Rattle.cbpf_syntax.specs.declared.piece.Lead.{Lead}
 use Rattle.cbpf_syntax.specs.declared.piece.Lead.TheVariants.{Blank, LineComment, Letter, Digit, Slash, Single, Other}
 use Rattle.std.proofs.lemmas.List.Sums.{prefix_len-le-length}
 use Rattle.std.proofs.lemmas.List.{take_all, drop_all, drop_more}
@@ -64,108 +67,91 @@ module _ (fresh : Bool) (p : ℕ → Bool) (kind : List ℕ → PieceKind) (b : 
     longest = longest_run;
   })
 
-pub blanks_next : (fresh : Bool) (b : ℕ) (bs : List ℕ) → lead_of fresh b ≡ Blank
-    → IsNext fresh (b ∷ bs) (record { kind = Blanks; size = 1 + prefix_len is_blank bs })
-blanks_next fresh b bs e = run_next fresh is_blank (λ _. Blanks) b bs (λ cs. led fresh b cs _ e)
-
-pub line_next : (fresh : Bool) (b : ℕ) (bs : List ℕ) → lead_of fresh b ≡ LineComment
-    → IsNext fresh (b ∷ bs) (record { kind = Comment; size = 1 + prefix_len (λ c. not (c == 10)) bs })
-line_next fresh b bs e = run_next fresh (λ c. not (c == 10)) (λ _. Comment) b bs (λ cs. led fresh b cs _ e)
-
-pub word_next : (fresh : Bool) (b : ℕ) (bs : List ℕ) → lead_of fresh b ≡ Letter
-    → IsNext fresh (b ∷ bs) (record { kind = Lexeme Word; size = 1 + prefix_len is_name_byte bs })
-word_next fresh b bs e = run_next fresh is_name_byte (λ _. Lexeme Word) b bs (λ cs. led fresh b cs _ e)
-
-pub number_next : (fresh : Bool) (b : ℕ) (bs : List ℕ) → lead_of fresh b ≡ Digit → IsNext fresh (b ∷ bs) (record {
-  kind = run_kind (number_value (b ∷ take (prefix_len is_name_byte bs) bs));
-  size = 1 + prefix_len is_name_byte bs;
-})
-number_next fresh b bs e =
-    run_next fresh is_name_byte (λ cs. run_kind (number_value (b ∷ cs))) b bs (λ cs. led fresh b cs _ e)
-
 -- a byte that is a piece by itself alone
-alone_longer : (fresh : Bool) (kind : PieceKind) (b : ℕ) (bs : List ℕ)
-    → ((cs : List ℕ) → piece_kind fresh (b ∷ cs) ≡ alone cs kind) → (n : ℕ) → 1 < n → n ≤ suc (length bs)
-    → piece_kind fresh (take n (b ∷ bs)) ≡ None
-alone_longer fresh kind b (c ∷ cs) d (suc (suc n)) l w = d (c ∷ take n cs)
-alone_longer fresh kind b bs d x l w = absurd (omega arith)
-
-pub alone_next : (fresh : Bool) (kind : PieceKind) (b : ℕ) (bs : List ℕ)
+alone_next : (fresh : Bool) (kind : PieceKind) (b : ℕ) (bs : List ℕ)
     → ((cs : List ℕ) → piece_kind fresh (b ∷ cs) ≡ alone cs kind)
     → IsNext fresh (b ∷ bs) (record { kind = kind; size = 1 })
-alone_next fresh kind b bs d = record { within = omega arith; kind = d []; longest = alone_longer fresh kind b bs d }
-
-pub mark_next : (fresh : Bool) (b : ℕ) (bs : List ℕ) → lead_of fresh b ≡ Single
-    → IsNext fresh (b ∷ bs) (record { kind = Lexeme (Mark b); size = 1 })
-mark_next fresh b bs e = alone_next fresh (Lexeme (Mark b)) b bs (λ cs. led fresh b cs _ e)
-
-pub other_next : (fresh : Bool) (b : ℕ) (bs : List ℕ) → lead_of fresh b ≡ Other
-    → IsNext fresh (b ∷ bs) (record { kind = Bad NoToken; size = 1 })
-other_next fresh b bs e = alone_next fresh (Bad NoToken) b bs (λ cs. led fresh b cs _ e)
-
--- a `/` without a `*` after it
-slash_longer : (fresh : Bool) (b : ℕ) (bs : List ℕ) → lead_of fresh b ≡ Slash → (slice_index bs 0 == 42) ≡ false
-    → (n : ℕ) → 1 < n → n ≤ suc (length bs) → piece_kind fresh (take n (b ∷ bs)) ≡ None
-slash_longer fresh b (c ∷ cs) e h (suc (suc n)) l w = led fresh b (c ∷ take n cs) Slash e ∙ rw h refl
-slash_longer fresh b bs e h x l w = absurd (omega arith)
-
-pub slash_next : (fresh : Bool) (b : ℕ) (bs : List ℕ) → lead_of fresh b ≡ Slash → (slice_index bs 0 == 42) ≡ false
-    → IsNext fresh (b ∷ bs) (record { kind = Bad NoToken; size = 1 })
-slash_next fresh b bs e h = record {
-  within = omega arith;
-  kind = led fresh b [] Slash e;
-  longest = slash_longer fresh b bs e h;
-}
-
--- a comment that ends at the first `*/` after `/*`
-pub comment_next : (fresh : Bool) (b : ℕ) (bs : List ℕ) (n : ℕ) → lead_of fresh b ≡ Slash → n ≤ length bs
-    → first_close bs ≡ Some n → IsNext fresh (b ∷ 42 ∷ bs) (record { kind = Comment; size = 2 + n })
-comment_next fresh b bs n e w h = rw (two-add n) (record { within = omega arith; kind = shut; longest = longer })
+alone_next fresh kind b bs d = record { within = omega arith; kind = d []; longest = longer bs }
   where
-    cut : (m : ℕ) → n ≤ m → m ≤ length bs → piece_kind fresh (b ∷ 42 ∷ take m bs) ≡ only_if (n == m) Comment
-    cut m l w' = led fresh b (42 ∷ take m bs) Slash e
-        ∙ (λ i. comment_kind (close_taken bs n m h l i) (length-take-le m bs w' i))
+    longer : (bs : List ℕ) (n : ℕ) → 1 < n → n ≤ suc (length bs) → piece_kind fresh (take n (b ∷ bs)) ≡ None
+    longer (c ∷ cs) (suc (suc n)) l w = d (c ∷ take n cs)
+    longer bs n l w = absurd (omega arith)
 
-    shut : piece_kind fresh (b ∷ 42 ∷ take n bs) ≡ Some Comment
-    shut = let l : n ≤ n = omega arith in cut n l w ∙ ap (λ t. only_if t Comment) (eq-eqb n n refl)
+-- A `/`: what comes after it decides.
+module _ (fresh : Bool) (b : ℕ) (e : lead_of fresh b ≡ Slash) where
+  slashed : (cs : List ℕ) → piece_kind fresh (b ∷ cs) ≡ slash_kind cs
+  slashed cs = ap (λ l. led_kind l b cs) e
 
-    longer : (m : ℕ) → suc (suc n) < m → m ≤ suc (suc (length bs)) → piece_kind fresh (take m (b ∷ 42 ∷ bs)) ≡ None
-    longer zero l w' = absurd (omega arith)
-    longer (suc zero) l w' = absurd (omega arith)
-    longer (suc (suc m)) l w' = let d : n ≢ m = λ q. absurd (omega (arith, l, q)) in
-        cut m (omega arith) (omega arith) ∙ ap (λ t. only_if t Comment) (ne_eqb n m d)
+  -- a comment that ends at the first `*/` after `/*`
+  comment_next : (bs : List ℕ) (n : ℕ) → first_close bs ≡ Some n
+      → IsNext fresh (b ∷ 42 ∷ bs) (record { kind = Comment; size = 2 + n })
+  comment_next bs n h =
+      let w = close_within bs n h in
+      rw (two-add n) (record {
+        within = omega arith;
+        kind = cut n (omega arith) w ∙ ap (λ t. only_if t Comment) (eq-eqb n n refl);
+        longest = longer;
+      })
+    where
+      cut : (m : ℕ) → n ≤ m → m ≤ length bs → piece_kind fresh (b ∷ 42 ∷ take m bs) ≡ only_if (n == m) Comment
+      cut m l w = slashed (42 ∷ take m bs)
+          ∙ (λ i. comment_kind (close_taken bs n m h l i) (length-take-le m bs w i))
 
--- an open comment, which is all of the text
-pub open_next : (fresh : Bool) (b : ℕ) (bs : List ℕ) → lead_of fresh b ≡ Slash → first_close bs ≡ None
-    → IsNext fresh (b ∷ 42 ∷ bs) (record { kind = Bad OpenComment; size = 2 + length bs })
-open_next fresh b bs e h = rw (two-add (length bs)) (record {
-  within = omega arith;
-  kind = rw (take_all (length bs) bs (omega arith))
-      (led fresh b (42 ∷ bs) Slash e ∙ ap (λ o. comment_kind o (length bs)) h);
-  longest = λ n l w. absurd (omega arith);
-})
+      longer : (m : ℕ) → suc (suc n) < m → m ≤ suc (suc (length bs)) → piece_kind fresh (take m (b ∷ 42 ∷ bs)) ≡ None
+      longer (suc (suc m)) l w = let d : n ≢ m = λ q. absurd (omega (arith, l, q)) in
+          cut m (omega arith) (omega arith) ∙ ap (λ t. only_if t Comment) (ne_eqb n m d)
+      longer m l w = absurd (omega arith)
 
--- the same two by the bytes after the `/`
-pub comment_at : (fresh : Bool) (b : ℕ) (bs : List ℕ) (n : ℕ) → lead_of fresh b ≡ Slash → slice_index bs 0 ≡ 42
-    → n ≤ length (drop 1 bs) → first_close (drop 1 bs) ≡ Some n
-    → IsNext fresh (b ∷ bs) (record { kind = Comment; size = 2 + n })
-comment_at fresh b [] n e h w k = absurd (omega arith)
-comment_at fresh b (d ∷ ds) n e h w k = rw h (comment_next fresh b ds n e w k)
+  -- an open comment, which is all of the text
+  open_next : (bs : List ℕ) → first_close bs ≡ None
+      → IsNext fresh (b ∷ 42 ∷ bs) (record { kind = Bad OpenComment; size = 2 + length bs })
+  open_next bs h = rw (two-add (length bs)) (record {
+    within = omega arith;
+    kind = rw (take_all (length bs) bs (omega arith))
+        (slashed (42 ∷ bs) ∙ ap (λ o. comment_kind o (length bs)) h);
+    longest = λ n l w. absurd (omega arith);
+  })
 
-pub open_at : (fresh : Bool) (b : ℕ) (bs : List ℕ) → lead_of fresh b ≡ Slash → slice_index bs 0 ≡ 42
-    → first_close (drop 1 bs) ≡ None
-    → IsNext fresh (b ∷ bs) (record { kind = Bad OpenComment; size = 2 + length (drop 1 bs) })
-open_at fresh b [] e h k = absurd (omega arith)
-open_at fresh b (d ∷ ds) e h k = rw h (open_next fresh b ds e k)
+  by_close : (bs : List ℕ) (o : Option ℕ) → first_close bs ≡ o
+      → IsNext fresh (b ∷ 42 ∷ bs) (comment_piece o (length bs))
+  by_close bs None h = open_next bs h
+  by_close bs (Some n) h = comment_next bs n h
 
-pub slash_last : (fresh : Bool) (b : ℕ) (bs : List ℕ) → lead_of fresh b ≡ Slash → length bs ≡ 0
-    → IsNext fresh (b ∷ bs) (record { kind = Bad NoToken; size = 1 })
-slash_last fresh b [] e h = slash_next fresh b [] e refl
-slash_last fresh b (d ∷ ds) e h = absurd (omega arith)
+  -- one without a `*` after it
+  lone_slash : (bs : List ℕ) → ((n : ℕ) → 0 < n → n ≤ length bs → slash_kind (take n bs) ≡ None)
+      → IsNext fresh (b ∷ bs) (record { kind = Bad NoToken; size = 1 })
+  lone_slash bs other = record { within = omega arith; kind = slashed []; longest = longer }
+    where
+      longer : (n : ℕ) → 1 < n → n ≤ suc (length bs) → piece_kind fresh (take n (b ∷ bs)) ≡ None
+      longer zero l w = absurd (omega arith)
+      longer (suc n) l w = slashed (take n bs) ∙ other n (omega arith) (omega arith)
 
-pub slash_past : (fresh : Bool) (b : ℕ) (bs : List ℕ) → lead_of fresh b ≡ Slash → (slice_index bs 0 ≢ 42)
-    → IsNext fresh (b ∷ bs) (record { kind = Bad NoToken; size = 1 })
-slash_past fresh b bs e h = slash_next fresh b bs e (ne_eqb (slice_index bs 0) 42 h)
+  slash_next : (bs : List ℕ) → IsNext fresh (b ∷ bs) (slash_piece bs)
+  slash_next [] = lone_slash [] (λ n l w. absurd (omega (arith, l, w)))
+  slash_next (c ∷ cs) = by_star (c == 42) refl
+    where
+      by_star : (t : Bool) → (c == 42) ≡ t → IsNext fresh (b ∷ c ∷ cs)
+          (cond t (comment_piece (first_close cs) (length cs)) (record { kind = Bad NoToken; size = 1 }))
+      by_star true h = rw (eqb-true c 42 h) (by_close cs (first_close cs) refl)
+      by_star false h = lone_slash (c ∷ cs) none
+        where
+          none : (n : ℕ) → 0 < n → n ≤ suc (length cs) → slash_kind (take n (c ∷ cs)) ≡ None
+          none zero l w = absurd (omega arith)
+          none (suc n) l w = rw h refl
+
+-- what the first byte says finds the next piece
+pub led_next : (fresh : Bool) (b : ℕ) (bs : List ℕ) (lead : Lead) → lead_of fresh b ≡ lead
+    → IsNext fresh (b ∷ bs) (led_piece lead b bs)
+led_next fresh b bs Blank e = run_next fresh is_blank (λ _. Blanks) b bs (λ cs. ap (λ l. led_kind l b cs) e)
+led_next fresh b bs LineComment e =
+    run_next fresh (λ c. not (c == 10)) (λ _. Comment) b bs (λ cs. ap (λ l. led_kind l b cs) e)
+led_next fresh b bs Letter e =
+    run_next fresh is_name_byte (λ _. Lexeme Word) b bs (λ cs. ap (λ l. led_kind l b cs) e)
+led_next fresh b bs Digit e = run_next fresh is_name_byte (λ cs. run_kind (number_value (b ∷ cs))) b bs
+    (λ cs. ap (λ l. led_kind l b cs) e)
+led_next fresh b bs Slash e = slash_next fresh b e bs
+led_next fresh b bs Single e = alone_next fresh (Lexeme (Mark b)) b bs (λ cs. ap (λ l. led_kind l b cs) e)
+led_next fresh b bs Other e = alone_next fresh (Bad NoToken) b bs (λ cs. ap (λ l. led_kind l b cs) e)
 
 -- Blanks are passed over one by one. What is kept of the text is where their run ends.
 
@@ -194,8 +180,9 @@ over_blanks text from at l more = by_first (is_blank (get_or text at 0)) refl
         → LexesTo text (run_end text at) ts
     by_first false e ts lexed = rw (run_of_none text at l e) (more ts lexed)
     by_first true e ts lexed =
-        let next = piece_at text at _ l (blanks_next (is_line_blank (take at text)) (get_or text at 0) (drop (at + 1) text)
-        (blank_lead (is_line_blank (take at text)) (get_or text at 0) e)) in
+        let fresh = is_line_blank (take at text) in
+        let b = get_or text at 0 in
+        let next = piece_at text at _ l (led_next fresh b (drop (at + 1) text) Blank (blank_lead fresh b e)) in
         let size : run_end text at ≡ at + (1 + prefix_len is_blank (drop (at + 1) text)) =
         rw (drop_more text at 0 l, e) refl in
         rw size (piece_more text from at _ more next refl (λ k q. cc) ts lexed)

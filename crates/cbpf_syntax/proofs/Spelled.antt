@@ -14,14 +14,14 @@ use Rattle.std.proofs.Math.Numerals.{one-add}
 use Rattle.cbpf_syntax.specs.declared.token.Kind.TheVariants.{Word, Number, Mark}
 use Rattle.cbpf_syntax.specs.declared.piece.PieceKind.TheVariants.{Blanks, Lexeme}
 use Rattle.cbpf_syntax.specs.declared.piece.Lead.{Lead}
-use Rattle.cbpf_syntax.specs.declared.piece.Lead.TheVariants.{Letter, Digit, Single}
+use Rattle.cbpf_syntax.specs.declared.piece.Lead.TheVariants.{Blank, Letter, Digit, Single}
 use Rattle.cbpf_syntax.specs.declared.piece.Piece.{Piece}
 use Rattle.cbpf_syntax.specs.Bytes.{is_blank, is_letter, is_digit, is_name_byte, is_mark}
 use Rattle.cbpf_syntax.specs.Numbers.{number_value}
 use Rattle.cbpf_syntax.specs.Pieces.{IsNext, IsPieceAt, IsCut, is_line_blank, run_kind}
 use Rattle.cbpf_syntax.specs.Leads.{lead_of}
 use Rattle.cbpf_syntax.specs.Tokens.{Lexes, tokens_of, is_good}
-use Rattle.cbpf_syntax.proofs.Runs.{blanks_next, word_next, number_next, mark_next}
+use Rattle.cbpf_syntax.proofs.Runs.{led_next}
 use Rattle.cbpf_syntax.proofs.LeadTable.{blank_lead, number_of, same_lead}
 
 -- a blank; a word by its first byte and the rest; a number in the same way, with its value; a mark
@@ -132,20 +132,20 @@ segment_next : (fresh : Bool) (s : Segment) (ss : List Segment) → IsSegment s 
     → stay_apart fresh (s ∷ ss) ≡ true → IsNext fresh (bytes_of s ++ text_of ss) (piece_of s)
 segment_next fresh (blank b) ss a ok k =
     let e : prefix_len is_blank (text_of ss) ≡ 0 = blank_ends ss ok (and_parts (ends_blank ss) _ k).0 in
-    rw e at (blanks_next fresh b (text_of ss) (blank_lead fresh b a.1))
+    rw e at (led_next fresh b (text_of ss) Blank (blank_lead fresh b a.1))
 segment_next fresh (word b bs) ss a ok k =
     let e = run_before is_name_byte bs (text_of ss) a.2 (name_ends ss ok (and_parts (ends_name ss) _ k).0) in
-    rw e at (word_next fresh b (bs ++ text_of ss) (lead_letter fresh b a.0 a.1))
+    rw e at (led_next fresh b (bs ++ text_of ss) Letter (lead_letter fresh b a.0 a.1))
 segment_next fresh (number b bs n) ss a ok k =
     let e = run_before is_name_byte bs (text_of ss) a.2 (name_ends ss ok (and_parts (ends_name ss) _ k).0) in
     let t : take (length bs) (bs ++ text_of ss) ≡ bs = take_at bs (text_of ss) (length bs) refl in
     let f : nat_lt n (2 ^ 32) ≡ true = lt-ltb n (2 ^ 32) a.4 in
     let next :
     IsNext fresh (b ∷ (bs ++ text_of ss)) (record { kind = run_kind (number_value (b ∷ bs)); size = 1 + length bs }) =
-    rw (e, t) at (number_next fresh b (bs ++ text_of ss) (lead_digit fresh b a.0 a.1)) in
+    rw (e, t) at (led_next fresh b (bs ++ text_of ss) Digit (lead_digit fresh b a.0 a.1)) in
     let v : run_kind (number_value (b ∷ bs)) ≡ Lexeme (Number n) = ap run_kind a.3 ∙ rw f refl in
     subst (λ q. IsNext fresh (b ∷ (bs ++ text_of ss)) (record { kind = q; size = 1 + length bs })) v next
-segment_next fresh (mark b) ss a ok k = mark_next fresh b (text_of ss)
+segment_next fresh (mark b) ss a ok k = led_next fresh b (text_of ss) Single
     (lead_mark fresh b a.0 a.1 (not-true (fresh && b == 35) (and_parts (not (fresh && b == 35)) _ k).0))
 
 -- whether the line is blank after a segment

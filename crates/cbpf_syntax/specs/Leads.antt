@@ -1,5 +1,4 @@
--- What the first byte of a piece says of it, as the lexer asks: it is a matter of this crate alone, and no public
--- clause names it.
+-- What the first byte of a piece says of it, which is this project's own.
 use Rattle.std.specs.Prelude.{ℕ, Bool, ◌&&◌, ◌||◌, ◌==◌, if◌then◌else◌}
 use Rattle.cbpf_syntax.specs.declared.piece.Lead.{Lead}
 use Rattle.cbpf_syntax.specs.declared.piece.Lead.TheVariants.{Blank, LineComment, Letter, Digit, Slash, Single, Other}

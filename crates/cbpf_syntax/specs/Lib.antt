@@ -1,7 +1,8 @@
 pub mod Bytes
 pub mod Numbers
-pub mod Pieces
 pub mod Leads
+pub mod Pieces
+pub mod NextPiece
 pub mod Tokens
 pub mod CutLaws
 pub mod TokenReading

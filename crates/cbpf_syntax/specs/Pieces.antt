@@ -9,7 +9,10 @@ use Rattle.cbpf_syntax.specs.declared.token.BadPiece.TheVariants.{NoToken, OpenC
 use Rattle.cbpf_syntax.specs.declared.piece.PieceKind.{PieceKind}
 use Rattle.cbpf_syntax.specs.declared.piece.PieceKind.TheVariants.{Blanks, Comment, Lexeme, Bad}
 use Rattle.cbpf_syntax.specs.declared.piece.Piece.{Piece}
-use Rattle.cbpf_syntax.specs.Bytes.{is_blank, is_digit, is_letter, is_name_byte, is_mark}
+use Rattle.cbpf_syntax.specs.declared.piece.Lead.{Lead}
+use Rattle.cbpf_syntax.specs.declared.piece.Lead.TheVariants.{Blank, LineComment, Letter, Digit, Slash, Single, Other}
+use Rattle.cbpf_syntax.specs.Bytes.{is_blank, is_name_byte}
+use Rattle.cbpf_syntax.specs.Leads.{lead_of}
 use Rattle.cbpf_syntax.specs.Numbers.{number_value}
 
 -- whether the last line of a text, which may not be whole, has only blanks
@@ -51,17 +54,20 @@ abbrev pub slash_kind : List ℕ → Option PieceKind
 slash_kind [] = Some (Bad NoToken)
 slash_kind (b ∷ bs) = if b == 42 then comment_kind (first_close bs) (length bs) else None
 
+-- the kind by what the first byte says
+abbrev pub led_kind : Lead → ℕ → List ℕ → Option PieceKind
+led_kind Blank b bs = only_if (list_all is_blank bs) Blanks
+led_kind LineComment b bs = only_if (list_all (λ c. not (c == 10)) bs) Comment
+led_kind Letter b bs = only_if (list_all is_name_byte bs) (Lexeme Word)
+led_kind Digit b bs = only_if (list_all is_name_byte bs) (run_kind (number_value (b ∷ bs)))
+led_kind Slash b bs = slash_kind bs
+led_kind Single b bs = alone bs (Lexeme (Mark b))
+led_kind Other b bs = alone bs (Bad NoToken)
+
 -- Which kind of piece the bytes are, if they are one. `fresh` says that the line before them has only blanks.
 abbrev pub piece_kind : Bool → List ℕ → Option PieceKind
 piece_kind fresh [] = None
-piece_kind fresh (b ∷ bs) =
-    if is_blank b then only_if (list_all is_blank bs) Blanks
-    else (if b == 59 || (fresh && b == 35) then only_if (list_all (λ c. not (c == 10)) bs) Comment
-    else (if is_letter b then only_if (list_all is_name_byte bs) (Lexeme Word)
-    else (if is_digit b then only_if (list_all is_name_byte bs) (run_kind (number_value (b ∷ bs)))
-    else (if b == 47 then slash_kind bs
-    else (if is_mark b then alone bs (Lexeme (Mark b))
-    else alone bs (Bad NoToken))))))
+piece_kind fresh (b ∷ bs) = led_kind (lead_of fresh b) b bs
 
 -- the piece stands at the front of the text, and no longer one does
 pub record IsNext (fresh : Bool) (text : List ℕ) (piece : Piece) : Type 0 where

@@ -46,6 +46,7 @@ fn common_len(form: &[Class], tokens: &[Lexeme<'_>]) -> usize
 
 /// The row, by how many tokens fit its operand.
 #[inline(always)]
+#[tactic(auto, using(crate::proofs::Elements::common_mapped, crate::proofs::Best::one_row))]
 fn match_row(row: Row, tokens: &[Lexeme<'_>]) -> Match
     ensures { IsBest (row_of row ∷ []) (map lexeme_of tokens.now) result }
 {
@@ -149,6 +150,7 @@ fn first_form(mnemonic: &Mnemonic, entry: &Entry, tokens: &[Lexeme<'_>]) -> Matc
 
 /// Whether the token at a place is a comma.
 #[inline(always)]
+#[tactic(auto, using(crate::proofs::Final::comma_at, crate::proofs::Final::none_after))]
 fn is_comma_at(tokens: &[Lexeme<'_>], at: usize) -> bool
     ensures { result ≡ is_comma_at (map lexeme_of tokens.now) at }
 {

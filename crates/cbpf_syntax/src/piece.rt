@@ -1,12 +1,12 @@
 //! The piece at the front of a text: blanks, a comment, a token, or a bad piece.
 
-ghost use Rattle.std.specs.Prelude.{Bool, ℕ, true, IfSome, IfNone, ◌∷◌, ◌&&◌, ◌==◌, ◌≡◌, ◌≤◌, length};
+ghost use Rattle.std.specs.Prelude.{true, IfSome, IfNone, ◌∷◌, ◌&&◌, ◌==◌, ◌≡◌, ◌≤◌, length};
 ghost use Rattle.cbpf_syntax.specs.Numbers.{number_value};
 ghost use Rattle.cbpf_syntax.specs.Pieces.{IsNext, is_line_blank, run_kind, first_close};
 ghost use Rattle.cbpf_syntax.specs.Leads.{lead_of};
+ghost use Rattle.cbpf_syntax.specs.NextPiece.{slash_piece};
 ghost use Rattle.cbpf_syntax.specs.Tokens.{is_good};
 ghost use Rattle.cbpf_syntax.specs.declared.piece.PieceKind.TheVariants.{Bad};
-ghost use Rattle.cbpf_syntax.specs.declared.piece.Lead.TheVariants.{Slash};
 
 use crate::bytes::{blanks_len, is_line_blank, line_len, name_len};
 use crate::number::{LIMIT, number_value};
@@ -55,6 +55,7 @@ static LEADS: [u8; 256] = *b"\
 /// What a byte after these says of the piece that it begins.
 // Only a `#` has to be looked at with the line before it.
 #[inline(always)]
+#[tactic(auto, using(crate::proofs::LeadTable::letter_lead, crate::proofs::LeadTable::other_lead))]
 fn lead_of(before: &[u8], b: u8) -> Lead
     ensures { result ≡ lead_of (is_line_blank before.now) b }
 {
@@ -90,6 +91,7 @@ fn is_close(star: bool, b: u8) -> bool
 }
 
 /// How many bytes there are up to the first `*/` and with it.
+#[tactic(auto, using(crate::proofs::Comments::open_start))]
 fn close_len(body: &[u8]) -> Option<usize>
     ensures within { IfSome result (λ n. n ≤ length body.now) }
     ensures first { result ≡ first_close body.now }
@@ -123,15 +125,9 @@ fn run_kind(first: u8, rest: &[u8]) -> PieceKind
 
 /// The piece that begins with a `/`.
 fn slash_piece(rest: &[u8]) -> Piece
-    ensures { (fresh : Bool) (b : ℕ) → lead_of fresh b ≡ Slash → IsNext fresh (b ∷ rest.now) result }
+    ensures { result ≡ slash_piece rest.now }
 {
-    if rest.len() == 0 {
-        return Piece {
-            kind: PieceKind::Bad(BadPiece::NoToken),
-            size: 1,
-        };
-    }
-    if rest[0] != b'*' {
+    if rest.len() == 0 || rest[0] != b'*' {
         return Piece {
             kind: PieceKind::Bad(BadPiece::NoToken),
             size: 1,

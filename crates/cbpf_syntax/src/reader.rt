@@ -58,6 +58,7 @@ fn step_len(step: Option<Step>) -> usize
 }
 
 /// The step at the front, or `None` where there is no token.
+#[tactic(auto, using(crate::proofs::Taking::step_words))]
 fn step_at(tokens: &[Lexeme<'_>]) -> Option<Step>
     ensures step { IsStepOf (map lexeme_of tokens.now) result }
     ensures within { step_len result ≤ length tokens.now }

@@ -17,6 +17,7 @@ const LONGEST: usize = 4;
 
 /// The mnemonic of this word.
 #[inline(always)]
+#[tactic(auto, using(crate::proofs::Mnemonics::long_word, crate::proofs::Mnemonics::no_word))]
 pub(crate) fn mnemonic_named(word: &[u8]) -> Option<&'static Mnemonic>
     ensures found { IfSome result (λ m. Contains mnemonics (mnemonic_of m.now)) }
     ensures word { IfSome result (λ m. bytes_eq word.now m.now.word.now ≡ true) }
@@ -42,6 +43,7 @@ fn is_mnemonic(word: &[u8]) -> bool
     mnemonic_named(word).is_some()
 }
 
+#[tactic(auto, using(crate::proofs::Mnemonics::extension_test))]
 fn is_extension(word: &[u8]) -> bool
     ensures { result ≡ is_one_of extension_names word.now }
 {
@@ -55,6 +57,7 @@ fn is_operand_word(word: &[u8]) -> bool
 }
 
 /// Whether a word ends with a digit, as no reserved word does.
+#[tactic(auto, using(crate::proofs::Mnemonics::digit_free))]
 fn ends_with_digit(word: &[u8]) -> bool
     ensures { result ≡ true → is_reserved word.now ≡ false }
 {

@@ -1,4 +1,4 @@
-use Rattle.std.proofs.Common.{◌≡◌, ◌∙◌, sym, subst, ℕ, ◌<◌, false, List, [], ◌∷◌, length, map, get_or, eqb-true}
+use Rattle.std.proofs.Common.{◌≡◌, ◌∙◌, sym, subst, ℕ, ◌<◌, false, List, [], ◌∷◌, length, map, get_or}
 use Rattle.std.proofs.Common.{arith}
 use Rattle.std.specs.Prelude.{Contains, ◌==◌}
 use Rattle.std.specs.List.{filter}
@@ -8,7 +8,7 @@ use Rattle.cbpf_syntax.specs.Table.{mnemonics}
 use Rattle.cbpf_syntax.specs.Initials.{begins_with}
 use Rattle.cbpf_syntax.specs.Views.{mnemonic_of}
 use Rattle.cbpf_syntax.proofs.Elements.{into_map}
-use Rattle.cbpf_syntax.proofs.Mnemonics.{long_word, no_word, from_known, none_from}
+use Rattle.cbpf_syntax.proofs.Mnemonics.{from_known, none_from}
 use Rattle.cbpf_syntax.proofs.reserved.mnemonic_named.Goals as goal
 
 known_at : (b : ℕ) (items : List Mnemonic) (i : ℕ) (d : Mnemonic) → i < length items
@@ -20,13 +20,6 @@ known_at b items i d l e = from_known b mnemonics (mnemonic_of (get_or items i d
 some_bytes : (w : List ℕ) → (length w == 0) ≡ false → 0 < length w
 some_bytes [] e = cc
 some_bytes (b ∷ bs) e = omega arith
-
-pub returns-then-is_empty-clause-none : goal.returns-then-is_empty-clause-none
-returns-then-is_empty-clause-none c =
-    no_word c.args.word.now (eqb-true (length c.args.word.now) 0 (sym c.is_empty.ensures ∙ c.if-is_empty.true))
-
-pub returns-then-word-gt-LONGEST-clause-none : goal.returns-then-word-gt-LONGEST-clause-none
-returns-then-word-gt-LONGEST-clause-none c = long_word c.args.word.now c.if-word-gt-LONGEST.true
 
 pub returns-then-eq-clause-found : goal.returns-then-eq-clause-found
 returns-then-eq-clause-found c = known_at _ c.mnemonics_from-mnemonic-items.result.now c.loop-mnemonic.mnemonic-index

@@ -68,4 +68,7 @@ loop-at-preserved c =
     }
 
 pub loop-at-smaller : goal.loop-at-smaller
-loop-at-smaller c = search (rules, next_at, piece_some)
+loop-at-smaller c =
+    let h = here (goal.at.loop-at-smaller c).After-next_piece-piece in
+    let some = piece_some c.self.inside.text.now c.loop-at.at c.next_piece-piece.result h.0 in
+    omega (arith, some, c.loop-at-test.true)
