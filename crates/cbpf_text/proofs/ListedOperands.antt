@@ -101,7 +101,7 @@ spells_immediate n i insn l =
     let t = insn.k == 0 in
     by_row operands.Immediate n i insn (blank 32 ∷ mark 35 ∷ hex_segment t insn.k ∷ [])
     (hex_text t insn.k [] ∙ append-nil (immediate insn.k))
-    (is_blank_segment, ((lit< tt, refl), (is_hex_segment insn.k t refl l, tt))) refl (λ at. refl)
+    (is_blank_segment, ((lit< tt, refl), (is_hex_segment insn.k t l, tt))) refl (λ at. refl)
     (λ at all p. (refl, refl, given_is insn.k t refl))
 
 pub spells_memory : (n i : ℕ) (insn : Insn) → insn.k < 2 ^ 32 → Spells operands.Memory n i insn
@@ -243,7 +243,7 @@ spells_immediate_two n i insn l h =
     let targets = target_segments (i + 1 + insn.jt) (i + 1 + insn.jf) in
     let ss = blank 32 ∷ mark 35 ∷ hex_segment t insn.k ∷ targets in
     by_row operands.ImmediateTwo n i insn ss (hex_text t insn.k targets)
-    (is_blank_segment, ((lit< tt, refl), (is_hex_segment insn.k t refl l, are_targets n i insn h))) refl
+    (is_blank_segment, ((lit< tt, refl), (is_hex_segment insn.k t l, are_targets n i insn h))) refl
     (λ at. fits_from_each (operand_classes operands.ImmediateTwo) (lexemes_at at ss)
     (refl, (refl, targets_fit n i (at + 1 + 1 + (1 + length (hex_rest t insn.k))) insn h))) (λ at all p. (
       record { is = p (i + 1 + insn.jt) h.holds; short = omega (arith, h.jt) },
