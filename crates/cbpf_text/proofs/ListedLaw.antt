@@ -1,14 +1,12 @@
 -- The listing of a checked program assembles to the plain forms of its instructions.
-use Rattle.std.proofs.Common.{rules, ◌≡◌, ℕ, suc, ◌+◌, ◌<◌, ◌≤◌, List, [], ◌∷◌, length, map, refl, ap, sym, subst}
-use Rattle.std.proofs.Common.{arith, ◌⊎◌, inl, inr, Some}
+use Rattle.std.proofs.Common.{◌≡◌, ℕ, suc, ◌+◌, ◌<◌, ◌≤◌, List, [], ◌∷◌, length, map, refl, ap, sym, subst}
+use Rattle.std.proofs.Common.{arith, inl, inr, Some}
 use Rattle.std.specs.Prelude.{All, slice_get, Ok, Err}
 use Rattle.std.proofs.lemmas.Option.{get_or_from_slice_get}
 use Rattle.cbpf_code.specs.declared.insn.Insn.{Insn}
 use Rattle.cbpf_code.specs.declared.opcode.Op.{Op}
-use Rattle.cbpf_code.specs.declared.opcode.Op.TheVariants.{LdAbs, LdInd, LdMem, LdLen, LdxMem, LdxLen}
-use Rattle.cbpf_code.specs.declared.opcode.Op.TheVariants.{LdxMsh, St, Stx, Alu, Neg, Ja, Jump, RetA, Tax, Txa}
+use Rattle.cbpf_code.specs.declared.opcode.Op.TheVariants.{Alu, Ja, Jump}
 use Rattle.cbpf_code.specs.declared.opcode.Src.TheVariants as src
-use Rattle.cbpf_code.specs.Opcode.{op_of}
 use Rattle.cbpf_code.specs.Plain.{plain}
 use Rattle.cbpf_code.specs.ControlFlow.{IsTarget}
 use Rattle.cbpf_code.specs.Sound.{IsSound}
@@ -25,79 +23,32 @@ use Rattle.cbpf_text.proofs.Lists.{get_within}
 use Rattle.cbpf_text.proofs.OneAssembly.{one_assembly, never_both}
 use Rattle.cbpf_text.proofs.ListedTokens.{lexemes_at, lexemes_spelled, no_large_negative}
 use Rattle.cbpf_text.proofs.ListedNumbers.{Places}
-use Rattle.cbpf_text.proofs.ListedOperands.{Spells, spells_bare, spells_x, spells_a, spells_length, spells_immediate}
-use Rattle.cbpf_text.proofs.ListedOperands.{spells_absolute, spells_indexed, spells_memory, spells_header, HasTargets}
-use Rattle.cbpf_text.proofs.ListedOperands.{spells_label, spells_immediate_two, spells_x_two}
+use Rattle.cbpf_text.proofs.ListedOperands.{TargetsInside}
 use Rattle.cbpf_text.proofs.ListedPlaces.{labels_place, labels_distinct_by_number, Lists, lists_none, lists_line}
 
--- the instruction at i of n has a known operation, and its targets are inside
-record IsListable (n i : ℕ) (insn : Insn) : Type 0 where
-  op : Op
-  known : op_of insn.code ≡ Some op
-  range : InRange insn
-  targets : (t : ℕ) → IsTarget op insn i t → t < n
+targets_inside : (n i : ℕ) (insn : Insn) (op : Op) → ((t : ℕ) → IsTarget op insn i t → t < n)
+    → TargetsInside n i insn (operand_of op)
+targets_inside n i insn (Alu a src.X) t = tt
+targets_inside n i insn Ja t = t (i + 1 + insn.k) refl
+targets_inside n i insn (Jump c src.K) t = (t (i + 1 + insn.jt) (inl refl), t (i + 1 + insn.jf) (inr refl))
+targets_inside n i insn (Jump c src.X) t = (t (i + 1 + insn.jt) (inl refl), t (i + 1 + insn.jf) (inr refl))
+targets_inside n i insn x t = tt
 
-AreListable : ℕ → ℕ → List Insn → Type 0
-AreListable n i [] = Unit {0}
-AreListable n i (insn ∷ insns) = IsListable n i insn × AreListable n (i + 1) insns
-
-has_targets : (n i : ℕ) (insn : Insn) → n ≤ 4096 → InRange insn
-    → ((t : ℕ) → ((t ≡ i + 1 + insn.jt) ⊎ (t ≡ i + 1 + insn.jf)) → t < n) → HasTargets n i insn
-has_targets n i insn most r t = record {
-  most = most;
-  jt = r.jt;
-  jf = r.jf;
-  holds = t (i + 1 + insn.jt) (inl refl);
-  fails = t (i + 1 + insn.jf) (inr refl);
-}
-
-spells : (n i : ℕ) (insn : Insn) (op : Op) → n ≤ 4096 → InRange insn → ((t : ℕ) → IsTarget op insn i t → t < n)
-    → Spells (operand_of op) n i insn
-spells n i insn (LdAbs s) most r t = spells_absolute n i insn r.k
-spells n i insn (LdInd s) most r t = spells_indexed n i insn r.k
-spells n i insn LdMem most r t = spells_memory n i insn r.k
-spells n i insn LdLen most r t = spells_length n i insn
-spells n i insn LdxMem most r t = spells_memory n i insn r.k
-spells n i insn LdxLen most r t = spells_length n i insn
-spells n i insn LdxMsh most r t = spells_header n i insn r.k
-spells n i insn St most r t = spells_memory n i insn r.k
-spells n i insn Stx most r t = spells_memory n i insn r.k
-spells n i insn (Alu a src.X) most r t = spells_x n i insn
-spells n i insn Neg most r t = spells_bare n i insn
-spells n i insn Ja most r t = spells_label n i insn (t (i + 1 + insn.k) refl) most
-spells n i insn (Jump c src.K) most r t = spells_immediate_two n i insn r.k (has_targets n i insn most r t)
-spells n i insn (Jump c src.X) most r t = spells_x_two n i insn (has_targets n i insn most r t)
-spells n i insn RetA most r t = spells_a n i insn
-spells n i insn Tax most r t = spells_bare n i insn
-spells n i insn Txa most r t = spells_bare n i insn
-spells n i insn x most r t = spells_immediate n i insn r.k
-
-lists : (n i : ℕ) (insns : List Insn) → n ≤ 4096 → i + length insns ≤ n → AreListable n i insns → Lists n i insns
-unfolding AreListable
-lists n i [] most l h = lists_none n i
-lists n i (insn ∷ insns) most l h =
-    lists_line n i insn h.0.op insns h.0.known (omega arith) (spells n i insn h.0.op most h.0.range h.0.targets)
-    (lists n (i + 1) insns most (omega arith) h.1)
-
-listable : (all : List Insn) (i : ℕ) (insns : List Insn) → IsSound all → All InRange all
-    → ((j : ℕ) (x : Insn) → slice_get insns j ≡ Some x → slice_get all (i + j) ≡ Some x)
-    → AreListable (length all) i insns
-unfolding AreListable
-listable all i [] sound range here = tt
-listable all i (insn ∷ insns) sound range here =
+-- the lines of a list from an index on
+lists : (all : List Insn) (i : ℕ) (insns : List Insn) → IsSound all → All InRange all
+    → ((j : ℕ) (x : Insn) → slice_get insns j ≡ Some x → slice_get all (i + j) ≡ Some x) → Lists (length all) i insns
+lists all i [] sound range here = lists_none (length all) i
+lists all i (insn ∷ insns) sound range here =
     let z : i + 0 ≡ i = omega arith in
     let at : slice_get all i ≡ Some insn = rw z at (here 0 insn refl) in
     let known = sound_known all i insn sound at in
     let allowed = sound_allowed all i insn known.0 sound at known.1 in
     let inside : i < length all = get_within all i insn at in
-    let ranged : InRange insn = rw (get_or_from_slice_get all i insn insn at) at (range i insn inside) in (
-      record { op = known.0; known = known.1; range = ranged; targets = allowed.targets },
-      listable all (i + 1) insns sound range
-          (λ j x g. let e : i + 1 + j ≡ i + suc j = omega arith in rw e (here (suc j) x g)),
-    )
-
-program_lists : (list : List Insn) → IsSound list → All InRange list → Lists (length list) 0 list
-program_lists list h1 h2 = search (rules, lists, sound_few, listable)
+    lists_line (length all) i insn known.0 insns known.1 (sound_few all sound) inside
+    (rw (get_or_from_slice_get all i insn insn at) at (range i insn inside))
+    (targets_inside (length all) i insn known.0 allowed.targets)
+    (lists all (i + 1) insns sound range
+    (λ j x g. let e : i + 1 + j ≡ i + suc j = omega arith in rw e (here (suc j) x g)))
 
 encoded : (list : List Insn) (b : Lists (length list) 0 list) → IsSound list → AreEncoded (b.items 0) (map plain list)
 encoded list b sound =
@@ -121,7 +72,7 @@ tokens_assemble list b sound = record {
 
 pub listing_assembles : ListingAssembles
 listing_assembles list sound range =
-    let b : Lists (length list) 0 list = program_lists list sound range in
+    let b : Lists (length list) 0 list = lists list 0 list sound range (λ j x g. let z : 0 + j ≡ j = omega arith in rw z g) in
     let of_segments : Assembles (text_of b.segments) (map plain list) = record {
       tokens = tokens_of 0 (pieces_of b.segments);
       lexed = lexes_spelled b.segments b.are b.apart;

@@ -1,19 +1,19 @@
 -- Items that are labelled by their numbers: each label is set once, by its item.
-use Rattle.std.proofs.Common.{rules, ◌≡◌, ℕ, zero, suc, ◌+◌, ◌^◌, ◌<◌, ◌≤◌, true, false, List, [], ◌∷◌, length}
+use Rattle.std.proofs.Common.{◌∙◌, Bool, rules, ◌≡◌, ℕ, zero, suc, ◌+◌, ◌^◌, ◌<◌, ◌≤◌, true, false, List, [], ◌∷◌, length}
 use Rattle.std.proofs.Common.{refl, sym, subst, arith, ◌⊎◌, inl, inr, ◌++◌, map, ap, append_assoc}
 use Rattle.std.proofs.Common.{append-nil, lit<, Some}
-use Rattle.std.specs.Prelude.{decimal, All}
+use Rattle.std.specs.Prelude.{decimal, All, is_some}
 use Rattle.std.proofs.lemmas.Fmt.{decimal_injective}
 use Rattle.std.proofs.lemmas.List.Elements.{All-append}
 use Rattle.cbpf_syntax.specs.Lexemes.{Lexeme}
-use Rattle.cbpf_syntax.specs.Items.{Item, Form, Items}
+use Rattle.cbpf_syntax.specs.Items.{Item, Form, Items, names_at}
 use Rattle.cbpf_syntax.proofs.Apart.{equal_bytes, bytes_eq_self}
 use Rattle.cbpf_text.specs.Labels.{name_of, set_labels, times_among, times_set, AreDistinct, SetsAt}
 use Rattle.cbpf_text.proofs.Lists.{all_one, all_none}
 use Rattle.cbpf_text.proofs.LabelLists.{times_append, times_miss, times_hit}
 use Rattle.cbpf_text.proofs.ListedNumbers.{label_name, Places, label_fits, label_segment, is_label_segment}
 use Rattle.std.specs.List.{flat_map, enumerate_from}
-use Rattle.std.proofs.lemmas.Bool.{and_parts}
+use Rattle.std.proofs.lemmas.Bool.{and_parts, and_from}
 use Rattle.cbpf_code.specs.declared.insn.Insn.{Insn}
 use Rattle.cbpf_code.specs.declared.opcode.Op.{Op}
 use Rattle.cbpf_code.specs.Opcode.{op_of}
@@ -22,14 +22,19 @@ use Rattle.cbpf_code.proofs.TableLemmas.{code_only}
 use Rattle.cbpf_syntax.proofs.Spelled.{Segment, text_of, AreSegments, ends_blank, stay_apart}
 use Rattle.cbpf_syntax.proofs.Spelled.Segment.{blank, word, mark}
 use Rattle.cbpf_syntax.specs.Fits.{fits_all}
-use Rattle.cbpf_syntax.specs.Table.{Row, classes}
+use Rattle.cbpf_syntax.specs.Table.{Row}
 use Rattle.cbpf_code.specs.Syntax.{mnemonic_of, operand_of}
 use Rattle.cbpf_code.specs.Listing.{numbered_line, operand_text}
-use Rattle.cbpf_text.specs.Assembled.{EncodeEach, IsEncoded}
-use Rattle.cbpf_text.proofs.ListedRows.{HasRow, first, rest, mnemonic_word, plain_as, plain_is}
-use Rattle.cbpf_text.proofs.ListedTokens.{and_both, lexemes_at, lexemes_append, text_append, are_append, ends_before}
+use Rattle.cbpf_text.specs.Assembled.{EncodeEach, IsEncoded, FillsFields}
+use Rattle.cbpf_text.specs.Operands.{literal_of}
+use Rattle.cbpf_code.specs.WordForm.{InRange}
+use Rattle.cbpf_code.specs.Extension.{ext_at}
+use Rattle.cbpf_text.proofs.ListedRows.{HasRow, first, rest, mnemonic_word, plain_as, plain_is, operation_row}
+use Rattle.cbpf_text.proofs.ListedRows.{operand_classes, operand_fields}
+use Rattle.cbpf_text.proofs.ListedTokens.{lexemes_at, lexemes_append, text_append, are_append, ends_before}
 use Rattle.cbpf_text.proofs.ListedTokens.{apart_before, are_positive, positive_append}
-use Rattle.cbpf_text.proofs.ListedOperands.{Spells}
+use Rattle.cbpf_text.proofs.ListedOperands.{operand_segments, TargetsInside, operand_apart, operand_spelled, operand_are}
+use Rattle.cbpf_text.proofs.ListedOperands.{operand_fits, operand_fills}
 use Rattle.cbpf_syntax.specs.Lexemes as grammar
 
 -- the item has one label, its number's
@@ -197,65 +202,80 @@ line_lexemes : (at i : ℕ) (w : List ℕ) (operand after : List Segment)
     ≡ line_tokens at i w operand ++ lexemes_at (after_at at i w operand) after
 line_lexemes at i w operand after = search (rules, first, rest, lexemes_append, blank)
 
-line_form : (at n i : ℕ) (insn : Insn) (op : Op) (s : Spells (operand_of op) n i insn)
-    (r : HasRow op s.classes s.fields) → i < 2 ^ 64
-    → Form (line_tokens at i (mnemonic_of op) s.segments) (line_item at i (mnemonic_of op) s.segments r.row)
-line_form at n i insn op s r l = record {
+line_form : (at i : ℕ) (op : Op) (named : Bool) (operand : List Segment) → i < 2 ^ 64
+    → fits_all (operand_classes named (operand_of op)) (lexemes_at (operand_at at i (mnemonic_of op)) operand) ≡ true
+    → Form (line_tokens at i (mnemonic_of op) operand)
+    (line_item at i (mnemonic_of op) operand (operation_row named op).row)
+line_form at i op named operand l fits = record {
   count = 1;
   row = r.known;
-  fits = and_both _ _ (label_fits i l) body;
+  fits = and_from _ _ (label_fits i l) (rw (r.mnemonic, r.operand, (mnemonic_word op).0)
+      (and_from _ _ (bytes_eq_self (mnemonic_of op)) fits));
   labels = refl;
   body = refl;
 }
   where
-    body : fits_all (classes r.row) (body_tokens at i (mnemonic_of op) s.segments) ≡ true
-    body = rw (r.mnemonic, r.operand, (mnemonic_word op).0)
-        (and_both _ _ (bytes_eq_self (mnemonic_of op)) (s.fits (operand_at at i (mnemonic_of op))))
+    r : HasRow op (operand_classes named (operand_of op)) (operand_fields (operand_of op))
+    r = operation_row named op
 
-line_encoded : (at n i : ℕ) (insn : Insn) (op : Op) (s : Spells (operand_of op) n i insn)
-    (r : HasRow op s.classes s.fields) → op_of insn.code ≡ Some op → (all : List Item) → Places n all
-    → IsEncoded all i (line_item at i (mnemonic_of op) s.segments r.row) (plain insn)
-line_encoded at n i insn op s r h1 all h2 = search (rules, plain_as, plain_is, code_only)
+line_encoded : (at i : ℕ) (insn : Insn) (op : Op) (named : Bool) (operand : List Segment) (all : List Item)
+    → op_of insn.code ≡ Some op → FillsFields (operand_fields (operand_of op)) all i
+    (literal_of (operand_classes named (operand_of op)) (lexemes_at (operand_at at i (mnemonic_of op)) operand))
+    (names_at (operand_classes named (operand_of op)) (lexemes_at (operand_at at i (mnemonic_of op)) operand))
+    (plain_as (operand_of op) insn)
+    → IsEncoded all i (line_item at i (mnemonic_of op) operand (operation_row named op).row) (plain insn)
+line_encoded at i insn op named operand all known fills =
+    let r = operation_row named op in
+    rw (plain_is insn op known)
+    (record { code = code_only insn.code op known ∙ sym r.code; fields = rw (r.fields, r.operand) fills })
 
-pub lists_line : (n i : ℕ) (insn : Insn) (op : Op) (insns : List Insn) → op_of insn.code ≡ Some op → i < 2 ^ 64
-    → Spells (operand_of op) n i insn → Lists n (i + 1) insns → Lists n i (insn ∷ insns)
-lists_line n i insn op insns known l s b =
+pub lists_line : (n i : ℕ) (insn : Insn) (op : Op) (insns : List Insn) → op_of insn.code ≡ Some op → n ≤ 4096 → i < n
+    → InRange insn → TargetsInside n i insn (operand_of op) → Lists n (i + 1) insns → Lists n i (insn ∷ insns)
+lists_line n i insn op insns known most l range inside b =
     let w = mnemonic_of op in
-    let r : HasRow op s.classes s.fields = s.listed op refl in
-    let ends = and_parts _ _ s.apart in
-    let inside = and_parts _ _ ends.1 in
+    let o = operand_of op in
+    let e = ext_at insn.k in
+    let operand = operand_segments o e i insn in
+    let row = (operation_row (is_some e) op).row in
+    let small : i < 2 ^ 64 = omega arith in
+    let ends = and_parts _ _ (operand_apart o e i insn) in
+    let positive = and_parts _ _ ends.1 in
     record {
-      segments = line_segments i w s.segments b.segments;
-      text = line_text i insn op s.segments b.segments (flat_map numbered_line (enumerate_from (i + 1) insns)) known
-          (mnemonic_word op).0 s.text b.text;
+      segments = line_segments i w operand b.segments;
+      text = line_text i insn op operand b.segments (flat_map numbered_line (enumerate_from (i + 1) insns)) known
+          (mnemonic_word op).0 (operand_spelled o e i insn refl range.k) b.text;
       are = (
-        is_label_segment i l,
+        is_label_segment i small,
         (
           (lit< tt, refl),
           (
             (lit< tt, refl),
             (
-              ((mnemonic_word op).1, (mnemonic_word op).2, (mnemonic_word op).3),
-              are_append s.segments (blank 10 ∷ b.segments) s.are ((lit< tt, refl), b.are),
+              (mnemonic_word op).1,
+              are_append operand (blank 10 ∷ b.segments) (operand_are o e n i insn range most inside)
+                  ((lit< tt, refl), b.are),
             ),
           ),
         ),
       );
       begins = refl;
-      apart = and_both _ _ (ends_before s.segments b.segments ends.0)
-          (apart_before false s.segments b.segments inside.0 b.begins b.apart);
-      positive = positive_append s.segments (blank 10 ∷ b.segments) inside.1 b.positive;
-      items = λ at. line_item at i w s.segments r.row ∷ b.items (after_at at i w s.segments);
-      size = λ at. ap suc (b.size (after_at at i w s.segments));
+      apart = and_from _ _ (ends_before operand b.segments ends.0)
+          (apart_before false operand b.segments positive.0 b.begins b.apart);
+      positive = positive_append operand (blank 10 ∷ b.segments) positive.1 b.positive;
+      items = λ at. line_item at i w operand row ∷ b.items (after_at at i w operand);
+      size = λ at. ap suc (b.size (after_at at i w operand));
       parsed = λ at. (
-        line_tokens at i w s.segments,
-        lexemes_at (after_at at i w s.segments) b.segments,
-        line_lexemes at i w s.segments b.segments,
-        line_form at n i insn op s r l,
-        b.parsed (after_at at i w s.segments),
+        line_tokens at i w operand,
+        lexemes_at (after_at at i w operand) b.segments,
+        line_lexemes at i w operand b.segments,
+        line_form at i op (is_some e) operand small (operand_fits o e n i (operand_at at i w) insn most inside),
+        b.parsed (after_at at i w operand),
       );
       labelled = λ at.
-          (record { label = label_token at i; only = refl; named = refl }, b.labelled (after_at at i w s.segments));
-      encoded = λ at all p.
-          (line_encoded at n i insn op s r known all p, b.encoded (after_at at i w s.segments) all p);
+          (record { label = label_token at i; only = refl; named = refl }, b.labelled (after_at at i w operand));
+      encoded = λ at all p. (
+        line_encoded at i insn op (is_some e) operand all known
+            (operand_fills o e n i (operand_at at i w) insn all refl range inside p),
+        b.encoded (after_at at i w operand) all p,
+      );
     }

@@ -1,5 +1,5 @@
 -- Each operation has a row of the table for the tokens that a listing writes.
-use Rattle.std.proofs.Common.{rules, ◌≡◌, ℕ, ◌<◌, Bool, true, false, cond, not, ◌&&◌, ◌||◌, List, [], ◌∷◌, refl, ap}
+use Rattle.std.proofs.Common.{rules, ◌≡◌, ℕ, Bool, true, false, cond, ◌&&◌, List, [], ◌∷◌, refl, ap}
 use Rattle.std.proofs.Common.{◌∙◌, eqb-true, ltb-true, Some}
 use Rattle.std.specs.Prelude.{◌==◌, nat_lt, codes, Contains, bytes_eq}
 use Rattle.std.specs.List.{list_all, list_any}
@@ -11,7 +11,8 @@ use Rattle.cbpf_code.specs.Opcode.{op_table, look_up, op_of, code_of}
 use Rattle.cbpf_code.specs.Plain.{kept, plain, plain_for, uses_k, uses_offsets}
 use Rattle.cbpf_code.proofs.TableLemmas.{code_known}
 use Rattle.cbpf_syntax.specs.Bytes.{is_letter, is_name_byte}
-use Rattle.cbpf_syntax.proofs.Spelled.{implied}
+use Rattle.cbpf_syntax.proofs.Spelled.{IsSegment}
+use Rattle.cbpf_syntax.proofs.Spelled.Segment.{word}
 use Rattle.cbpf_syntax.specs.declared.table.Fields.{Fields}
 use Rattle.cbpf_syntax.specs.declared.table.Fields.TheVariants.{Constant, Goto, Branch}
 use Rattle.cbpf_syntax.specs.Classes.{Class}
@@ -23,21 +24,23 @@ use Rattle.cbpf_code.specs.declared.syntax.Operand.{Operand}
 use Rattle.cbpf_code.specs.declared.syntax.Operand.TheVariants as operands
 use Rattle.cbpf_code.specs.Syntax.{mnemonic_of, operand_of}
 
--- the classes of the tokens that a listing writes after a mnemonic, and where they go
-abbrev pub operand_classes : Operand → List Class
-operand_classes operands.Bare = []
-operand_classes operands.X = the_word (codes "x") ∷ []
-operand_classes operands.A = the_word (codes "a") ∷ []
-operand_classes operands.Length = the_word (codes "len") ∷ []
-operand_classes operands.Immediate = the_mark 35 ∷ literal ∷ []
-operand_classes operands.Absolute = the_mark 91 ∷ literal ∷ the_mark 93 ∷ []
-operand_classes operands.Indexed = the_mark 91 ∷ the_word (codes "x") ∷ the_mark 43 ∷ literal ∷ the_mark 93 ∷ []
-operand_classes operands.Memory = the_word (codes "M") ∷ the_mark 91 ∷ literal ∷ the_mark 93 ∷ []
-operand_classes operands.Header = exactly 4 ∷ the_mark 42 ∷ the_mark 40 ∷ the_mark 91 ∷ literal ∷ the_mark 93
+-- the classes of the tokens that a listing writes after a mnemonic, and where they go; where k is an extension's place,
+-- it writes the name
+abbrev pub operand_classes : Bool → Operand → List Class
+operand_classes named operands.Bare = []
+operand_classes named operands.X = the_word (codes "x") ∷ []
+operand_classes named operands.A = the_word (codes "a") ∷ []
+operand_classes named operands.Length = the_word (codes "len") ∷ []
+operand_classes named operands.Immediate = the_mark 35 ∷ literal ∷ []
+operand_classes true operands.Absolute = extension ∷ []
+operand_classes false operands.Absolute = the_mark 91 ∷ literal ∷ the_mark 93 ∷ []
+operand_classes named operands.Indexed = the_mark 91 ∷ the_word (codes "x") ∷ the_mark 43 ∷ literal ∷ the_mark 93 ∷ []
+operand_classes named operands.Memory = the_word (codes "M") ∷ the_mark 91 ∷ literal ∷ the_mark 93 ∷ []
+operand_classes named operands.Header = exactly 4 ∷ the_mark 42 ∷ the_mark 40 ∷ the_mark 91 ∷ literal ∷ the_mark 93
     ∷ the_mark 38 ∷ exactly 15 ∷ the_mark 41 ∷ []
-operand_classes operands.Label = name ∷ []
-operand_classes operands.ImmediateTwo = the_mark 35 ∷ literal ∷ the_mark 44 ∷ name ∷ the_mark 44 ∷ name ∷ []
-operand_classes operands.XTwo = the_word (codes "x") ∷ the_mark 44 ∷ name ∷ the_mark 44 ∷ name ∷ []
+operand_classes named operands.Label = name ∷ []
+operand_classes named operands.ImmediateTwo = the_mark 35 ∷ literal ∷ the_mark 44 ∷ name ∷ the_mark 44 ∷ name ∷ []
+operand_classes named operands.XTwo = the_word (codes "x") ∷ the_mark 44 ∷ name ∷ the_mark 44 ∷ name ∷ []
 
 abbrev pub operand_fields : Operand → Fields
 operand_fields operands.Label = Goto
@@ -69,22 +72,14 @@ abbrev is_row_for : Op → List Class → Fields → Row → Bool
 is_row_for op cs f row = code_of row.op == code_of op
     && (bytes_eq row.mnemonic (mnemonic_of op) && (same_classes row.operand cs && same_fields row.fields f))
 
-abbrev has_row : Op → Bool
-has_row op = list_any (is_row_for op (operand_classes (operand_of op)) (operand_fields (operand_of op))) table
+abbrev has_row : Bool → Op → Bool
+has_row named op = list_any (is_row_for op (operand_classes named (operand_of op)) (operand_fields (operand_of op))) table
 
 -- every operation has its row
-operations_have_rows : list_all (λ (e : ℕ × Op). has_row e.1) op_table ≡ true
+operations_have_rows : (named : Bool) → list_all (λ (e : ℕ × Op). has_row named e.1) op_table ≡ true
 unfolding mnemonics
-operations_have_rows = refl
-
--- and where k may be an extension's place, the one with its name
-abbrev has_named_row : Op → Bool
-has_named_row op = not (same_classes (operand_classes (operand_of op)) (operand_classes operands.Absolute))
-    || list_any (is_row_for op (extension ∷ []) Constant) table
-
-operations_have_named_rows : list_all (λ (e : ℕ × Op). has_named_row e.1) op_table ≡ true
-unfolding mnemonics
-operations_have_named_rows = refl
+operations_have_rows true = refl
+operations_have_rows false = refl
 
 same_class_eq : (c d : Class) → same_class c d ≡ true → c ≡ d
 same_class_eq c d h1 = search (rules, equal_bytes, eqb-true)
@@ -129,16 +124,10 @@ holds_for_all : (p : Op → Bool) → list_all (λ (e : ℕ × Op). p e.1) op_ta
 unfolding op_of
 holds_for_all p a op = looked_up p op_table (code_of op) op a (code_known op)
 
-pub operation_row : (op : Op) (o : Operand) → operand_of op ≡ o → HasRow op (operand_classes o) (operand_fields o)
-operation_row op o e = rw (← e) (found_row op (operand_classes (operand_of op)) (operand_fields (operand_of op))
-    (holds_for_all has_row operations_have_rows op))
-
-pub named_row : (op : Op) → operand_of op ≡ operands.Absolute → HasRow op (extension ∷ []) Constant
-named_row op e =
-    let absolute : same_classes (operand_classes (operand_of op)) (operand_classes operands.Absolute) ≡ true =
-    rw e refl in
-    found_row op (extension ∷ []) Constant
-    (implied _ _ (holds_for_all has_named_row operations_have_named_rows op) absolute)
+pub operation_row : (named : Bool) (op : Op)
+    → HasRow op (operand_classes named (operand_of op)) (operand_fields (operand_of op))
+operation_row named op = found_row op (operand_classes named (operand_of op)) (operand_fields (operand_of op))
+    (holds_for_all (has_row named) (operations_have_rows named) op)
 
 -- a mnemonic is a word
 abbrev pub first : List ℕ → ℕ
@@ -150,8 +139,7 @@ rest [] = []
 rest (b ∷ bs) = bs
 
 abbrev pub IsWord : List ℕ → Type 0
-IsWord w =
-    (first w ∷ rest w ≡ w) × (first w < 256) × (is_letter (first w) ≡ true) × (list_all is_name_byte (rest w) ≡ true)
+IsWord w = (first w ∷ rest w ≡ w) × IsSegment (word (first w) (rest w))
 
 abbrev pub is_word : List ℕ → Bool
 is_word [] = false

@@ -7,7 +7,7 @@ use Rattle.std.specs.Prelude.{◌==◌, slice_range}
 use Rattle.std.specs.List.{list_all}
 use Rattle.std.proofs.lemmas.List.{take_at, drop_at}
 use Rattle.std.proofs.Math.Numerals.{one-add}
-use Rattle.std.proofs.lemmas.Bool.{and_parts}
+use Rattle.std.proofs.lemmas.Bool.{and_parts, and_from}
 use Rattle.cbpf_syntax.specs.Tokens.{tokens_of}
 use Rattle.cbpf_syntax.proofs.Spelled.{Segment, bytes_of, text_of, pieces_of, piece_of, AreSegments, ends_name}
 use Rattle.cbpf_syntax.proofs.Spelled.{ends_blank, stay_apart}
@@ -90,9 +90,6 @@ are_append (s ∷ ss) us p q = (p.0, are_append ss us p.1 q)
 abbrev pub newline : List Segment
 newline = blank 10 ∷ []
 
-pub and_both : (a b : Bool) → a ≡ true → b ≡ true → (a && b) ≡ true
-and_both a b p q = rw (p, q) refl
-
 name_before : (ss us : List Segment) → ends_name (ss ++ (blank 10 ∷ us)) ≡ ends_name (ss ++ newline)
 name_before [] us = refl
 name_before (blank b ∷ ss) us = refl
@@ -115,16 +112,16 @@ pub apart_before : (fresh : Bool) (ss us : List Segment) → stay_apart fresh (s
 apart_before fresh [] us h b k = rw (b, k) refl
 apart_before fresh (blank c ∷ ss) us h b k =
     let p = and_parts (ends_blank (ss ++ newline)) _ h in
-    and_both _ _ (blank_before ss us ∙ p.0) (apart_before _ ss us p.1 b k)
+    and_from _ _ (blank_before ss us ∙ p.0) (apart_before _ ss us p.1 b k)
 apart_before fresh (word c cs ∷ ss) us h b k =
     let p = and_parts (ends_name (ss ++ newline)) _ h in
-    and_both _ _ (name_before ss us ∙ p.0) (apart_before false ss us p.1 b k)
+    and_from _ _ (name_before ss us ∙ p.0) (apart_before false ss us p.1 b k)
 apart_before fresh (number c cs n ∷ ss) us h b k =
     let p = and_parts (ends_name (ss ++ newline)) _ h in
-    and_both _ _ (name_before ss us ∙ p.0) (apart_before false ss us p.1 b k)
+    and_from _ _ (name_before ss us ∙ p.0) (apart_before false ss us p.1 b k)
 apart_before fresh (mark c ∷ ss) us h b k =
     let p = and_parts (not (fresh && c == 35)) _ h in
-    and_both _ _ p.0 (apart_before false ss us p.1 b k)
+    and_from _ _ p.0 (apart_before false ss us p.1 b k)
 
 -- no token is a `-`
 abbrev no_minus : Segment → Bool
@@ -137,7 +134,7 @@ are_positive ss = list_all no_minus ss
 pub positive_append : (ss us : List Segment) → are_positive ss ≡ true → are_positive us ≡ true
     → are_positive (ss ++ us) ≡ true
 positive_append [] us p q = q
-positive_append (s ∷ ss) us p q = let r = and_parts (no_minus s) _ p in and_both _ _ r.0 (positive_append ss us r.1 q)
+positive_append (s ∷ ss) us p q = let r = and_parts (no_minus s) _ p in and_from _ _ r.0 (positive_append ss us r.1 q)
 
 never_minus : (at : ℕ) (ss : List Segment) (j : ℕ) (s : grammar.Symbol) → are_positive ss ≡ true
     → symbol_at (lexemes_at at ss) j ≡ Some s → s ≡ grammar.Symbol.mark 45 → ⊥
