@@ -17,7 +17,7 @@ use Rattle.cbpf_syntax.specs.Classes.Class.{the_word}
 use Rattle.cbpf_syntax.specs.Lexemes.{Lexeme, lexemes_of}
 use Rattle.cbpf_syntax.specs.Fits.{fits_all}
 use Rattle.cbpf_syntax.specs.Items.{Item}
-use Rattle.cbpf_syntax.specs.Refusals.{ParseFault as parse, IsFirstRefusal, IsUnfinished}
+use Rattle.cbpf_syntax.specs.Refusals.{ParseFault, IsFirstRefusal}
 use Rattle.cbpf_syntax.proofs.Refused.{large_within}
 use Rattle.cbpf_syntax.proofs.Answered.{each_parsed}
 use Rattle.cbpf_text.specs.declared.fault.AsmKind.{AsmKind}
@@ -28,9 +28,10 @@ use Rattle.cbpf_text.specs.Assembled.{IsOffset, FillsFields, IsEncoded, EncodeEa
 use Rattle.cbpf_text.specs.Assembled.{AssembleTokens}
 use Rattle.cbpf_text.specs.Refusals.{IsFirstRepeat, Use, is_conditional, uses_of, uses_from, IsUseFault, IsGoodUse}
 use Rattle.cbpf_text.specs.Refusals.{IsFirstBadUse, IsItemsFault, IsTokensFault, piece_kind}
+use Rattle.cbpf_text.specs.Refusals.{grammar_kind, shown_at}
 use Rattle.cbpf_text.specs.Refusals.IsUseFault.{not_set, not_after, too_far}
 use Rattle.cbpf_text.specs.Refusals.IsItemsFault.{no_item, too_many, set_twice, bad_use}
-use Rattle.cbpf_text.specs.Refusals.IsTokensFault.{misplaced, large_negative, unfinished, of_items}
+use Rattle.cbpf_text.specs.Refusals.IsTokensFault.{of_grammar, of_items}
 use Rattle.cbpf_text.specs.Refusals.IsRefused.{piece, token}
 use Rattle.cbpf_text.specs.Tables.{labels_from, place_among, IsLookup}
 use Rattle.cbpf_text.specs.Laws.{EachAnswered}
@@ -46,20 +47,22 @@ get_some (x ∷ xs) (suc i) l = get_some xs i (omega (arith, l))
 
 -- labels after some that are distinct: all are, or one of them is the first that is set a second time
 labels_once : (before after : List Lexeme) → AreDistinct before
-    → AreDistinct (before ++ after) ⊎ ((t : Lexeme) × IsFirstRepeat (before ++ after) t)
+    → AreDistinct (before ++ after) ⊎ ((at : ℕ) × IsFirstRepeat (before ++ after) at)
 labels_once before [] d = inl (subst AreDistinct (sym (append-nil before)) d)
 labels_once before (t ∷ after) d = elim (cases_lt 0 (times_among before (name_of t))) [
   | inl l ↦ inr (
-    t,
+    t.at,
     record {
       before = before;
+      label = t;
       after = after;
       split = refl;
       distinct = d;
       given = λ z. omega (arith, l, z);
+      place = refl;
     },
   )
-  | inr l ↦ subst (λ ts. AreDistinct ts ⊎ ((u : Lexeme) × IsFirstRepeat ts u)) (append_assoc before (t ∷ []) after)
+  | inr l ↦ subst (λ ts. AreDistinct ts ⊎ ((at : ℕ) × IsFirstRepeat ts at)) (append_assoc before (t ∷ []) after)
       (labels_once (before ++ (t ∷ [])) after (distinct_more before t d (omega (arith, l))))
 ]
 
@@ -209,11 +212,16 @@ many_items is f l =
     let item = get_some is 4096 l in
     let form : HasForm item.0 = form_at is 4096 item.0 f item.1 in
     let mnemonic = get_some item.0.body 0 (body_some (the_word item.0.row.mnemonic) item.0.row.operand item.0.body form.fits) in
-    inr (kinds.TooMany, mnemonic.0.at, too_many item.0 mnemonic.0 item.1 mnemonic.1)
+    inr (
+      kinds.TooMany,
+      mnemonic.0.at,
+      too_many mnemonic.0.at
+          (record { item = item.0; found = item.1; place = (mnemonic.0, mnemonic.1, refl) }),
+    )
 
 counted_items : (is : List Item) → HasProgramLength is → ItemsAnswer is
 counted_items is n = elim (labels_once [] (set_labels is) (all_none (λ t. times_among [] (name_of t) ≡ 1))) [
-  | inr r ↦ inr (kinds.LabelSetTwice, r.0.at, set_twice r.0 n r.1)
+  | inr r ↦ inr (kinds.LabelSetTwice, r.0, set_twice r.0 n r.1)
   | inl d ↦ elim (each_placed is (uses_from 0 is) d) [
     | inl b ↦ inr (b.0, b.1, bad_use b.0 b.1 n d b.2)
     | inr p ↦ let e = all_encoded is 0 is p in inl (e.0, record { limits = n; distinct = d; each = e.1 })
@@ -228,18 +236,16 @@ each_items (i ∷ is) f = elim (cases_lt 4096 (length (i ∷ is))) [
 ]
 
 -- tokens that are refused by the grammar
-unfinished_some : (ts : List Lexeme) → IsUnfinished ts → length ts - 1 < length ts
-unfinished_some [] u = absurd (u.none [] refl)
-unfinished_some (t ∷ ts) u = omega arith
+shown_within : (ts : List Lexeme) (f : ParseFault) → IsFirstRefusal ts f → shown_at ts f < length ts
+shown_within ts (ParseFault.Misplaced i) r = r.refused.1.within
+shown_within ts (ParseFault.LargeNegative i) r = large_within ts i r.refused.1
+shown_within [] ParseFault.Unfinished r = absurd (r.refused.1.none [] refl)
+shown_within (t ∷ ts) ParseFault.Unfinished r = omega arith
 
-refused_tokens : (ts : List Lexeme) (f : parse) → IsFirstRefusal ts f
+refused_tokens : (ts : List Lexeme) (f : ParseFault) → IsFirstRefusal ts f
     → (kind : AsmKind) × (at : ℕ) × IsTokensFault ts kind at
-refused_tokens ts (parse.Misplaced i) r = let t = get_some ts i r.refused.1.within in
-    (kinds.Misplaced, t.0.at, misplaced i t.0 r t.1)
-refused_tokens ts (parse.LargeNegative i) r = let t = get_some ts i (large_within ts i r.refused.1) in
-    (kinds.LargeNumber, t.0.at, large_negative i t.0 r t.1)
-refused_tokens ts parse.Unfinished r = let t = get_some ts (length ts - 1) (unfinished_some ts r.refused.1) in
-    (kinds.Unfinished, t.0.at, unfinished t.0 r t.1)
+refused_tokens ts f r = let t = get_some ts (shown_at ts f) (shown_within ts f r) in
+    (grammar_kind f, t.0.at, of_grammar f t.0.at r (t.0, t.1, refl))
 
 each_tokens : (ts : List Lexeme)
     → ((insns : List Insn) × AssembleTokens ts insns) ⊎ ((kind : AsmKind) × (at : ℕ) × IsTokensFault ts kind at)

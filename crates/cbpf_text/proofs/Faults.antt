@@ -4,7 +4,7 @@ use Rattle.std.proofs.Common.{false, [], ◌∷◌, ◌++◌, length, map, take,
 use Rattle.std.proofs.Common.{append_assoc, append-nil, length-append, length-drop}
 use Rattle.cbpf_syntax.specs.declared.token.Token.{Token}
 use Rattle.cbpf_syntax.specs.Tokens.{Lexes, LexesTo}
-use Rattle.cbpf_syntax.specs.Refusals.{ParseFault as parse, IsAccepted, IsStuckAt}
+use Rattle.cbpf_syntax.specs.Refusals.{ParseFault, IsAccepted, IsStuckAt}
 use Rattle.cbpf_syntax.specs.Lexemes.{Lexeme, lexemes_of, AreLexemes}
 use Rattle.cbpf_syntax.specs.Items.{Item, Items}
 use Rattle.cbpf_code.specs.declared.insn.Insn.{Insn}
@@ -15,13 +15,13 @@ use Rattle.cbpf_text.specs.Assembled.{HasProgramLength, AreEncoded, AssembleToke
 use Rattle.cbpf_text.specs.Refusals.{Reported, IsItemsFault, IsFirstBadUse, uses_from, IsTokensFault, IsRefused}
 use Rattle.cbpf_text.specs.Refusals.{IsLexRefused, IsReportedAt}
 use Rattle.cbpf_text.specs.Refusals.IsItemsFault.{bad_use}
-use Rattle.cbpf_text.specs.Refusals.IsTokensFault.{of_items, misplaced, large_negative, unfinished}
+use Rattle.cbpf_text.specs.Refusals.IsTokensFault.{of_items, of_grammar}
 use Rattle.cbpf_text.specs.Refusals.IsRefused.{memory as whole_memory, piece as whole_piece, token as whole_token}
 use Rattle.cbpf_text.specs.Refusals.IsLexRefused.{memory, piece}
 use Rattle.cbpf_text.proofs.Forms.{reported_more}
 use Rattle.std.proofs.lemmas.List.{length-map, length-take-le, drop-drop, drop_at}
 use Rattle.cbpf_syntax.specs.Views.{lexeme_of, row_of, label_words}
-use Rattle.cbpf_syntax.specs.Reading.{Ahead, IsReading, IsRefusedFor, IsFirstLarge}
+use Rattle.cbpf_syntax.specs.Reading.{Ahead, IsReading, IsFirstLarge}
 use Rattle.std.specs.Prelude.{Ok}
 use Rattle.std.proofs.Math.Seq.{take-append_seam}
 use Rattle.std.proofs.lemmas.Bool.{and_parts}
@@ -37,7 +37,6 @@ use Rattle.cbpf_text.specs.declared.draft.Statement.{Statement}
 use Rattle.cbpf_text.specs.Drafts.{AreSet, IsKept, IsDraft}
 use Rattle.cbpf_text.specs.declared.placed_fault.PlacedFault.TheVariants as placed
 use Rattle.cbpf_syntax.specs.declared.lexeme.Lexeme as declared_lexeme
-use Rattle.cbpf_syntax.specs.declared.reader.SyntaxFault.TheVariants as refused
 use Rattle.cbpf_syntax.specs.declared.item.Row as declared_row
 use Rattle.cbpf_text.specs.declared.fault.AsmKind.TheVariants as kinds
 
@@ -54,7 +53,7 @@ items_reported ts is r p a h =
 pub tokens_assembled : (ts : List Lexeme) (is : List Item) (insns : List Insn) → Items ts is → IsAccepted ts
     → AreEncoded is insns → AssembleTokens ts insns
 tokens_assembled ts is insns p a e =
-    record { items = is; parsed = p; ranged = λ i h. a (parse.LargeNegative i) i (refl, h); encoded = e }
+    record { items = is; parsed = p; ranged = λ i h. a (ParseFault.LargeNegative i) i (refl, h); encoded = e }
 
 pub lex_refused : (text : List ℕ) (fault : AsmFault) → IsLexRefused text fault → IsRefused text fault
 lex_refused text fault memory = whole_memory
@@ -73,30 +72,15 @@ text_assembled text tokens ts insns h1 h2 h3 = search (rules)
 
 -- The refusals of a text whose items are read one by one, and what is kept of them.
 
-pub misplaced_reported : (ts : List Lexeme) (at : ℕ) → IsRefusedFor ts (refused.Misplaced at)
-    → IsTokensFault ts kinds.Misplaced at
-misplaced_reported ts at h =
-    subst (λ a. IsTokensFault ts kinds.Misplaced a) (sym h.2.2) (misplaced h.0 h.2.0 h.1 h.2.1)
-
-pub large_reported : (ts : List Lexeme) (at : ℕ) → IsRefusedFor ts (refused.LargeNegative at)
-    → IsTokensFault ts kinds.LargeNumber at
-large_reported ts at h =
-    subst (λ a. IsTokensFault ts kinds.LargeNumber a) (sym h.2.2) (large_negative h.0 h.2.0 h.1 h.2.1)
-
-pub unfinished_reported : (ts : List Lexeme) (at : ℕ) → IsRefusedFor ts (refused.Unfinished at)
-    → IsTokensFault ts kinds.Unfinished at
-unfinished_reported ts at h =
-    subst (λ a. IsTokensFault ts kinds.Unfinished a) (sym h.1.2) (unfinished h.1.0 h.0 h.1.1)
-
 -- the refusal of the text's tokens is the text's
 pub whole_refused : (text : List ℕ) (ts : List Lexeme) (r : PlacedFault) (fault : AsmFault) → AreLexemes text ts
     → Reported (IsTokensFault ts) r → IsReportedAt text r fault → IsRefused text fault
 whole_refused text ts r fault t h line = refused_at text t.tokens ts r fault t.lexed t.are h line
 
 -- items with a literal that is too large
-pub items_refused : (ts : List Lexeme) (is : List Item) (n at : ℕ) → Items ts is → IsFirstLarge ts n (Some at)
-    → IsRefusedFor ts (refused.LargeNegative at)
-items_refused ts is n at p h = (h.0, items_large ts is h.0 p h.2 h.3, h.4)
+pub items_large_refused : (ts : List Lexeme) (is : List Item) (n at : ℕ) → Items ts is → IsFirstLarge ts n (Some at)
+    → IsTokensFault ts kinds.LargeNumber at
+items_large_refused ts is n at p h = of_grammar (ParseFault.LargeNegative h.0) at (items_large ts is h.0 p h.2 h.3) h.4
 
 pub all_accepted : (ts : List Lexeme) (is : List Item) (n : ℕ) → Items ts is → length ts ≤ n → IsFirstLarge ts n None
     → IsAccepted ts

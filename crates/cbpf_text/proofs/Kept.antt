@@ -13,8 +13,8 @@ use Rattle.cbpf_text.specs.declared.fault.AsmKind.TheVariants as kinds
 use Rattle.cbpf_text.specs.Labels.{set_labels, AreDistinct}
 use Rattle.cbpf_text.specs.Tables.{Label, labels_of, labels_from, Resolves}
 use Rattle.cbpf_text.specs.declared.draft.Statement.{Statement}
-use Rattle.cbpf_text.specs.Drafts.{IsStatement, AreSet, IsKept, IsExcess, IsDraft}
-use Rattle.cbpf_text.specs.Refusals.{IsItemsFault, IsFirstRepeat}
+use Rattle.cbpf_text.specs.Drafts.{IsStatement, AreSet, IsKept, IsDraft}
+use Rattle.cbpf_text.specs.Refusals.{IsItemsFault, IsFirstRepeat, IsExcess}
 use Rattle.cbpf_text.specs.Refusals.IsItemsFault.{no_item, too_many, set_twice}
 use Rattle.cbpf_text.specs.Assembled.{HasProgramLength}
 use Rattle.cbpf_text.proofs.Encoding.{statements_size, statements_more}
@@ -77,18 +77,14 @@ kept_excess ss rep look is ls i (t ∷ body) d k e b l =
     let n : length is ≡ 4096 = sym (statements_size ss is k.same) ∙ e in
     record {
       item = i;
-      mnemonic = lexeme_of t;
       found = ap (λ q. slice_get (is ++ (i ∷ [])) q) (sym n) ∙ get_last is i;
-      first = ap (λ us. slice_get us 0) b;
-      place = refl;
+      place = (lexeme_of t, ap (λ us. slice_get us 0) b, refl);
     }
 
 -- what a draft says of its items
 pub draft_many : (o : Option ℕ) (at : ℕ) (ss : List Statement) (rep : Option ℕ) (look : Name → Option ℕ)
     (is : List Item) (w : List Lexeme) → o ≡ Some at → IsDraft o ss rep look is w → IsItemsFault is kinds.TooMany at
-draft_many o at ss rep look is w e d =
-    let x : IsExcess is at = subst (λ p. IsDraft p ss rep look is w) e d in
-    subst (λ a. IsItemsFault is kinds.TooMany a) (sym x.place) (too_many x.item x.mnemonic x.found x.first)
+draft_many o at ss rep look is w e d = too_many at (subst (λ p. IsDraft p ss rep look is w) e d)
 
 pub draft_kept : (o : Option ℕ) (ss : List Statement) (rep : Option ℕ) (look : Name → Option ℕ) (is : List Item)
     (w : List Lexeme) → ((x : ℕ) → o ≡ Some x → ⊥) → IsDraft o ss rep look is w → IsKept ss rep look is w
@@ -114,10 +110,8 @@ kept_labels ss rep look is k = subst (λ (us : List Label). AreSet us rep look) 
 pub kept_repeat : (ss : List Statement) (rep : Option ℕ) (look : Name → Option ℕ) (is : List Item) (at : ℕ)
     → rep ≡ Some at → HasProgramLength is → IsKept ss rep look is [] → IsItemsFault is kinds.LabelSetTwice at
 kept_repeat ss rep look is at e limits k =
-    let s : AreSet (labels_from 0 is) (Some at) look =
-    subst (λ o. AreSet (labels_from 0 is) o look) e (kept_labels ss rep look is k) in
-    subst (λ a. IsItemsFault is kinds.LabelSetTwice a) (sym s.1)
-    (set_twice s.0 limits (subst (λ ts. IsFirstRepeat ts s.0) (words_from 0 is) s.2))
+    let s : IsFirstRepeat _ at = subst (λ o. AreSet (labels_from 0 is) o look) e (kept_labels ss rep look is k) in
+    set_twice at limits (subst (λ ts. IsFirstRepeat ts at) (words_from 0 is) s)
 
 kept_once : (ss : List Statement) (rep : Option ℕ) (look : Name → Option ℕ) (is : List Item)
     → ((x : ℕ) → rep ≡ Some x → ⊥) → IsKept ss rep look is [] → AreSet (labels_from 0 is) None look

@@ -1,12 +1,12 @@
 -- A text assembles to at most one list of instructions.
 use Rattle.std.proofs.Common.{rules, ◌≡◌, refl, sym, ◌∙◌, subst, ℕ, ◌+◌, List, [], ◌∷◌, Option, Some, None, arith}
-use Rattle.std.proofs.Common.{◌≢◌, ap, ◌<◌, ◌-◌, ◌⊎◌, inl, inr, ◌++◌, length}
-use Rattle.std.specs.Prelude.{slice_get, All}
+use Rattle.std.proofs.Common.{◌≢◌, ap, ◌<◌, ◌++◌, length}
+use Rattle.std.specs.Prelude.{All}
 use Rattle.cbpf_syntax.proofs.Outcomes.{one_list}
 use Rattle.cbpf_code.specs.declared.insn.Insn.{Insn}
 use Rattle.cbpf_syntax.specs.declared.table.Fields.{Fields}
 use Rattle.cbpf_syntax.specs.Lexemes.{Lexeme, lexemes_of}
-use Rattle.cbpf_syntax.specs.Items.{Item, Items}
+use Rattle.cbpf_syntax.specs.Items.{Item}
 use Rattle.cbpf_syntax.proofs.Apart.{one_reading, bytes_eq_self}
 use Rattle.cbpf_text.specs.Labels.{name_of, times_among, AreDistinct}
 use Rattle.cbpf_text.specs.Assembled.{AssembleTokens, EncodeEach, IsEncoded, FillsFields, IsOffset, Assembles}
@@ -15,19 +15,17 @@ use Rattle.cbpf_text.specs.Operands.{HasForm}
 use Rattle.cbpf_text.specs.Laws.{OneAssembly, NeverBoth}
 use Rattle.cbpf_text.proofs.LabelLists.{one_place, times_append, times_cons, times_hit}
 use Rattle.std.proofs.lemmas.Grind.{common_steps}
-use Rattle.cbpf_syntax.specs.Refusals.{ParseFault as parse, IsFirstRefusal, IsAccepted}
 use Rattle.cbpf_syntax.proofs.Refused.{items_accepted}
 use Rattle.cbpf_text.specs.declared.fault.AsmKind.{AsmKind}
 use Rattle.cbpf_text.specs.declared.fault.AsmFault.{AsmFault}
 use Rattle.cbpf_text.specs.Refusals.{IsGoodUse, IsItemsFault, IsTokensFault, IsRefused}
 use Rattle.cbpf_text.specs.Refusals.IsItemsFault.{no_item, too_many, set_twice, bad_use}
-use Rattle.cbpf_text.specs.Refusals.IsTokensFault.{misplaced, large_negative, unfinished, of_items}
+use Rattle.cbpf_text.specs.Refusals.IsTokensFault.{of_grammar, of_items}
 use Rattle.cbpf_text.specs.Refusals.IsRefused.{memory, piece, token}
 use Rattle.cbpf_text.proofs.Lists.{get_within, all_front, all_after}
 use Rattle.cbpf_text.proofs.Forms.{items_forms}
 use Rattle.cbpf_text.proofs.Encoding.{good_uses}
 use Rattle.cbpf_syntax.proofs.Outcomes as lexer
-use Rattle.cbpf_text.specs.declared.fault.AsmKind.TheVariants as kinds
 use Rattle.cbpf_text.specs.declared.fault.AsmFault.TheVariants as faults
 
 one_offset : (is : List Item) (index : ℕ) (o : Option Lexeme) (m n : ℕ) → IsOffset is index o m
@@ -77,39 +75,19 @@ not_items : (is : List Item) (insns : List Insn) (kind : AsmKind) (at : ℕ) →
     → IsItemsFault is kind at → ⊥
 not_items is insns kind at f e (no_item p) = let z : length is ≡ 0 = ap length p in
     absurd (omega (arith, z, e.limits.some))
-not_items is insns kind at f e (too_many item t g h) = let l : 4096 < length is = get_within is 4096 item g in
+not_items is insns kind at f e (too_many p x) = let l : 4096 < length is = get_within is 4096 x.item x.found in
     absurd (omega (arith, l, e.limits.most))
-not_items is insns kind at f e (set_twice t n r) =
-    no_repeat r.before t r.after (subst AreDistinct r.split e.distinct) r.given
+not_items is insns kind at f e (set_twice p n r) =
+    no_repeat r.before r.label r.after (subst AreDistinct r.split e.distinct) r.given
 not_items is insns kind at f e (bad_use k a n d b) = all_middle (IsGoodUse is) b.before b.u b.after
     (subst (All (IsGoodUse is)) b.split (good_uses is 0 is insns e.each f)) k b.bad
 
--- what refuses tokens: the grammar first, at one of them, or what their items say
-abbrev pub kind_of : parse → AsmKind
-kind_of (parse.Misplaced i) = kinds.Misplaced
-kind_of (parse.LargeNegative i) = kinds.LargeNumber
-kind_of parse.Unfinished = kinds.Unfinished
-
-abbrev pub index_of : List Lexeme → parse → ℕ
-index_of ts (parse.Misplaced i) = i
-index_of ts (parse.LargeNegative i) = i
-index_of ts parse.Unfinished = length ts - 1
-
-pub cause : (ts : List Lexeme) (kind : AsmKind) (at : ℕ) → IsTokensFault ts kind at
-    → ((f : parse) × IsFirstRefusal ts f × (kind ≡ kind_of f) × (t : Lexeme) × (slice_get ts (index_of ts f) ≡ Some t)
-    × (at ≡ t.at)) ⊎ ((is : List Item) × Items ts is × IsAccepted ts × IsItemsFault is kind at)
-cause ts kind at (misplaced i t r g) = inl (parse.Misplaced i, r, refl, t, g, refl)
-cause ts kind at (large_negative i t r g) = inl (parse.LargeNegative i, r, refl, t, g, refl)
-cause ts kind at (unfinished t r g) = inl (parse.Unfinished, r, refl, t, g, refl)
-cause ts kind at (of_items is k p i acc f) = inr (is, i, acc, f)
-
 not_tokens : (ts : List Lexeme) (insns : List Insn) (kind : AsmKind) (at : ℕ) → AssembleTokens ts insns
     → IsTokensFault ts kind at → ⊥
-not_tokens ts insns kind at a r = elim (cause ts kind at r) [
-  | inl f ↦ items_accepted ts a.items a.parsed a.ranged f.0 f.1.place f.1.refused
-  | inr f ↦ let e : a.items ≡ f.0 = one_reading ts a.items f.0 a.parsed f.1 in
-      not_items f.0 insns kind at (items_forms ts f.0 f.1) (subst (λ js. AreEncoded js insns) e a.encoded) f.3
-]
+not_tokens ts insns kind at a (of_grammar f n r p) = items_accepted ts a.items a.parsed a.ranged f r.place r.refused
+not_tokens ts insns kind at a (of_items is k n p acc f) =
+    let e : a.items ≡ is = one_reading ts a.items is a.parsed p in
+    not_items is insns kind at (items_forms ts is p) (subst (λ js. AreEncoded js insns) e a.encoded) f
 
 not_refused : (text : List ℕ) (insns : List Insn) (fault : AsmFault) (kind : AsmKind) (line : ℕ)
     → Assembles text insns → IsRefused text fault → fault ≡ faults.At kind line → ⊥

@@ -1,7 +1,6 @@
 -- A text has at most one refusal with a line.
 use Rattle.std.proofs.Common.{rules}
-use Rattle.std.proofs.Common.{◌≡◌, inl, inr, refl, sym, ◌∙◌, ap, subst, ℕ, ◌<◌, ◌≤◌, List, [], ◌∷◌, ◌++◌, length, Some, arith}
-use Rattle.std.specs.Prelude.{slice_get}
+use Rattle.std.proofs.Common.{◌≡◌, refl, sym, ◌∙◌, ap, subst, ℕ, ◌<◌, List, [], ◌∷◌, ◌++◌, length, arith}
 use Rattle.cbpf_syntax.proofs.Outcomes as lexer
 use Rattle.cbpf_syntax.specs.Lexemes.{Lexeme, lexemes_of}
 use Rattle.cbpf_syntax.specs.Items.{Item}
@@ -14,14 +13,17 @@ use Rattle.cbpf_syntax.specs.Tokens.{line_of}
 use Rattle.cbpf_syntax.proofs.Cuts.{some-same}
 use Rattle.cbpf_text.specs.Labels.{name_of, set_labels, times_set, AreDistinct, SetsAt}
 use Rattle.cbpf_text.specs.Refusals.{Use, IsUseFault, IsFirstRepeat, IsFirstBadUse, IsItemsFault}
-use Rattle.cbpf_text.specs.Refusals.{IsTokensFault, IsRefused, uses_from, piece_kind}
+use Rattle.cbpf_text.specs.Refusals.{IsTokensFault, IsRefused, IsExcess, uses_from, piece_kind, grammar_kind, shown_at}
+use Rattle.cbpf_text.specs.Refusals.IsTokensFault.{of_grammar, of_items}
+use Rattle.cbpf_syntax.specs.Reading.{IsPlaceOf}
 use Rattle.cbpf_text.specs.Refusals.IsUseFault.{not_set, not_after, too_far}
 use Rattle.cbpf_text.specs.Refusals.IsItemsFault.{no_item, too_many, set_twice, bad_use}
 use Rattle.cbpf_text.specs.Refusals.IsRefused.{memory, piece, token}
 use Rattle.cbpf_text.specs.Laws.{OneRefusal}
+use Rattle.cbpf_text.specs.Assembled.{HasProgramLength}
 use Rattle.cbpf_text.proofs.Lists.{get_within}
 use Rattle.cbpf_text.proofs.LabelLists.{distinct_once, sets_some, one_place}
-use Rattle.cbpf_text.proofs.OneAssembly.{all_middle, no_repeat, kind_of, index_of, cause}
+use Rattle.cbpf_text.proofs.OneAssembly.{all_middle, no_repeat}
 
 -- two places of one list: the same, or one before the other
 data Order {A : Type 0} (b c : List A) (u v : A) : Type 0 where
@@ -42,13 +44,13 @@ order (x ∷ b) (y ∷ c) u v r s e =
     let h : x ≡ y = cc in
     order_more x y b c u v h (order b c u v r s (let t : b ++ (u ∷ r) ≡ c ++ (v ∷ s) = cc in t))
 
-one_repeat : (ls : List Lexeme) (t u : Lexeme) → IsFirstRepeat ls t → IsFirstRepeat ls u → t ≡ u
-one_repeat ls t u a b = by_order (order a.before b.before t u a.after b.after (sym a.split ∙ b.split))
+one_repeat : (ls : List Lexeme) (m n : ℕ) → IsFirstRepeat ls m → IsFirstRepeat ls n → m ≡ n
+one_repeat ls m n a b = by_order (order a.before b.before a.label b.label a.after b.after (sym a.split ∙ b.split))
   where
-    by_order : Order a.before b.before t u → t ≡ u
-    by_order (same e) = e
-    by_order (before w e) = absurd (no_repeat a.before t w (subst AreDistinct e b.distinct) a.given)
-    by_order (after w e) = absurd (no_repeat b.before u w (subst AreDistinct e a.distinct) b.given)
+    by_order : Order a.before b.before a.label b.label → m ≡ n
+    by_order (same e) = a.place ∙ (ap (λ (t : Lexeme). t.at) e ∙ sym b.place)
+    by_order (before w e) = absurd (no_repeat a.before a.label w (subst AreDistinct e b.distinct) a.given)
+    by_order (after w e) = absurd (no_repeat b.before b.label w (subst AreDistinct e a.distinct) b.given)
 
 same_set : (is : List Item) (p q : ℕ) (name : List ℕ) → AreDistinct (set_labels is) → SetsAt is p name
     → SetsAt is q name → p ≡ q
@@ -74,59 +76,55 @@ one_bad : (is : List Item) (uses : List Use) (k l : AsmKind) (m n : ℕ) → Are
     → IsFirstBadUse is uses k m → IsFirstBadUse is uses l n → (k ≡ l) × (m ≡ n)
 one_bad is uses k l m n h1 h2 h3 = search (rules, order, one_kind, all_middle)
 
-empty : (is : List Item) → is ≡ [] → 0 < length is → ⊥
-empty is e l = let z : length is ≡ 0 = ap length e in omega (arith, z, l)
+empty : (is : List Item) → is ≡ [] → HasProgramLength is → ⊥
+empty is e s = let z : length is ≡ 0 = ap length e in omega (arith, z, s.some)
 
-long : (is : List Item) (item : Item) → slice_get is 4096 ≡ Some item → length is ≤ 4096 → ⊥
-long is item g l = let h : 4096 < length is = get_within is 4096 item g in omega (arith, h, l)
+long : (is : List Item) (m : ℕ) → IsExcess is m → HasProgramLength is → ⊥
+long is m x s = let h : 4096 < length is = get_within is 4096 x.item x.found in omega (arith, h, s.most)
 
-of_length : (is : List Item) (item : Item) → is ≡ [] → slice_get is 4096 ≡ Some item → ⊥
-of_length is item e g = let h : 4096 < length is = get_within is 4096 item g in let z : length is ≡ 0 = ap length e in
+of_length : (is : List Item) (m : ℕ) → is ≡ [] → IsExcess is m → ⊥
+of_length is m e x =
+    let h : 4096 < length is = get_within is 4096 x.item x.found in
+    let z : length is ≡ 0 = ap length e in
     omega (arith, h, z)
 
-one_mnemonic : (is : List Item) (i j : Item) (t u : Lexeme) → slice_get is 4096 ≡ Some i → slice_get is 4096 ≡ Some j
-    → slice_get i.body 0 ≡ Some t → slice_get j.body 0 ≡ Some u → t ≡ u
-one_mnemonic is i j t u h1 h2 h3 h4 = search (rules, some-same)
+twice : (ls : List Lexeme) (m : ℕ) → IsFirstRepeat ls m → AreDistinct ls → ⊥
+twice ls m r d = no_repeat r.before r.label r.after (subst AreDistinct r.split d) r.given
+
+one_place_of : (ts : List Lexeme) (i m n : ℕ) → IsPlaceOf ts i m → IsPlaceOf ts i n → m ≡ n
+one_place_of ts i m n h1 h2 = search (rules, some-same)
+
+one_excess : (is : List Item) (m n : ℕ) → IsExcess is m → IsExcess is n → m ≡ n
+one_excess is m n h1 h2 = search (rules, some-same, one_place_of)
 
 one_of_items : (is : List Item) (k l : AsmKind) (m n : ℕ) → IsItemsFault is k m → IsItemsFault is l n
     → (k ≡ l) × (m ≡ n)
 one_of_items is k l m n (no_item e) (no_item f) = (refl, refl)
-one_of_items is k l m n (no_item e) (too_many i t g h) = absurd (of_length is i e g)
-one_of_items is k l m n (no_item e) (set_twice t s r) = absurd (empty is e s.some)
-one_of_items is k l m n (no_item e) (bad_use c p s d b) = absurd (empty is e s.some)
-one_of_items is k l m n (too_many i t g h) (no_item e) = absurd (of_length is i e g)
-one_of_items is k l m n (too_many i t g h) (too_many j u p q) =
-    (refl, ap (λ (v : Lexeme). v.at) (one_mnemonic is i j t u g p h q))
-one_of_items is k l m n (too_many i t g h) (set_twice u s r) = absurd (long is i g s.most)
-one_of_items is k l m n (too_many i t g h) (bad_use c p s d b) = absurd (long is i g s.most)
-one_of_items is k l m n (set_twice t s r) (no_item e) = absurd (empty is e s.some)
-one_of_items is k l m n (set_twice t s r) (too_many i u g h) = absurd (long is i g s.most)
-one_of_items is k l m n (set_twice t s r) (set_twice u o q) =
-    (refl, ap (λ (v : Lexeme). v.at) (one_repeat (set_labels is) t u r q))
-one_of_items is k l m n (set_twice t s r) (bad_use c p o d b) =
-    absurd (no_repeat r.before t r.after (subst AreDistinct r.split d) r.given)
-one_of_items is k l m n (bad_use c p s d b) (no_item e) = absurd (empty is e s.some)
-one_of_items is k l m n (bad_use c p s d b) (too_many i t g h) = absurd (long is i g s.most)
-one_of_items is k l m n (bad_use c p s d b) (set_twice t o r) =
-    absurd (no_repeat r.before t r.after (subst AreDistinct r.split d) r.given)
-one_of_items is k l m n (bad_use c p s d b) (bad_use f q o g h) = one_bad is (uses_from 0 is) c f p q d b h
+one_of_items is k l m n (no_item e) (too_many q y) = absurd (of_length is n e y)
+one_of_items is k l m n (no_item e) (set_twice q s r) = absurd (empty is e s)
+one_of_items is k l m n (no_item e) (bad_use c q s d b) = absurd (empty is e s)
+one_of_items is k l m n (too_many p x) (no_item e) = absurd (of_length is m e x)
+one_of_items is k l m n (too_many p x) (too_many q y) = (refl, one_excess is m n x y)
+one_of_items is k l m n (too_many p x) (set_twice q s r) = absurd (long is m x s)
+one_of_items is k l m n (too_many p x) (bad_use c q s d b) = absurd (long is m x s)
+one_of_items is k l m n (set_twice p s r) (no_item e) = absurd (empty is e s)
+one_of_items is k l m n (set_twice p s r) (too_many q x) = absurd (long is n x s)
+one_of_items is k l m n (set_twice p s r) (set_twice q o t) = (refl, one_repeat (set_labels is) m n r t)
+one_of_items is k l m n (set_twice p s r) (bad_use c q o d b) = absurd (twice (set_labels is) m r d)
+one_of_items is k l m n (bad_use c p s d b) (no_item e) = absurd (empty is e s)
+one_of_items is k l m n (bad_use c p s d b) (too_many q x) = absurd (long is n x s)
+one_of_items is k l m n (bad_use c p s d b) (set_twice q o r) = absurd (twice (set_labels is) n r d)
+one_of_items is k l m n (bad_use c p s d b) (bad_use f q o g h) = one_bad is (uses_from 0 is) k l m n d b h
 
 one_of_tokens : (ts : List Lexeme) (k l : AsmKind) (m n : ℕ) → IsTokensFault ts k m → IsTokensFault ts l n
     → (k ≡ l) × (m ≡ n)
-one_of_tokens ts k l m n a b = elim (cause ts k m a) [
-  | inl f ↦ elim (cause ts l n b) [
-    | inl g ↦
-        let e : f.0 ≡ g.0 = grammar.one_refusal ts f.0 g.0 f.1 g.1 in
-        let t : f.3 ≡ g.3 = some-same f.3 g.3 (sym f.4 ∙ (ap (λ h. slice_get ts (index_of ts h)) e ∙ g.4)) in
-        (f.2 ∙ (ap kind_of e ∙ sym g.2), f.5 ∙ (ap (λ (v : Lexeme). v.at) t ∙ sym g.5))
-    | inr g ↦ absurd (g.2 f.0 f.1.place f.1.refused)
-  ]
-  | inr f ↦ elim (cause ts l n b) [
-    | inl g ↦ absurd (f.2 g.0 g.1.place g.1.refused)
-    | inr g ↦ let e : f.0 ≡ g.0 = one_reading ts f.0 g.0 f.1 g.1 in
-        one_of_items g.0 k l m n (subst (λ is. IsItemsFault is k m) e f.3) g.3
-  ]
-]
+one_of_tokens ts k l m n (of_grammar f i r p) (of_grammar g j s q) =
+    let e : f ≡ g = grammar.one_refusal ts f g r s in
+    (ap grammar_kind e, one_place_of ts (shown_at ts g) m n (subst (λ h. IsPlaceOf ts (shown_at ts h) m) e p) q)
+one_of_tokens ts k l m n (of_grammar f i r p) (of_items is c j o a x) = absurd (a f r.place r.refused)
+one_of_tokens ts k l m n (of_items is c j o a x) (of_grammar f i r p) = absurd (a f r.place r.refused)
+one_of_tokens ts k l m n (of_items is c i o a x) (of_items js d j p b y) =
+    one_of_items js k l m n (subst (λ us. IsItemsFault us k m) (one_reading ts is js o p) x) y
 
 same_at : (k l : AsmKind) (m n : ℕ) → faults.At k m ≡ faults.At l n → (k ≡ l) × (m ≡ n)
 same_at k l m n e = (cc, cc)

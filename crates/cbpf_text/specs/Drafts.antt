@@ -1,6 +1,6 @@
 -- What the assembler keeps of the items that it has read: their opcodes, literals, targets and labels, as the
 -- addressing modes of the kernel's Documentation/networking/filter have them.
-use Rattle.std.specs.Prelude.{◌≡◌, ◌≤◌, ℕ, List, [], ◌∷◌, ◌++◌, length, map, slice_get, Option, Some, None}
+use Rattle.std.specs.Prelude.{◌≡◌, ◌≤◌, ℕ, List, [], ◌∷◌, ◌++◌, length, map, Option, Some, None}
 use Rattle.cbpf_code.specs.Opcode.{code_of}
 use Rattle.cbpf_syntax.specs.Lexemes.{Lexeme}
 use Rattle.cbpf_syntax.specs.Items.{Item}
@@ -10,7 +10,7 @@ use Rattle.cbpf_text.specs.declared.draft.Target.{Target}
 use Rattle.cbpf_text.specs.declared.name.Name.{Name}
 use Rattle.cbpf_text.specs.Labels.{AreDistinct, name_of}
 use Rattle.cbpf_text.specs.Operands.{literal_in, targets_in}
-use Rattle.cbpf_text.specs.Refusals.{IsFirstRepeat}
+use Rattle.cbpf_text.specs.Refusals.{IsFirstRepeat, IsExcess}
 use Rattle.cbpf_text.specs.Tables.{Label, labels_of, labels_from, place_among}
 
 -- the target is the label, by its name and its place
@@ -44,7 +44,7 @@ words ls = map (λ (l : Label). l.word) ls
 -- second time
 abbrev pub AreSet : List Label → Option ℕ → (Name → Option ℕ) → Type 0
 AreSet ls None lookup = ((k : Name) → lookup k ≡ place_among ls k.bytes.now) × AreDistinct (words ls)
-AreSet ls (Some at) lookup = (label : Lexeme) × (at ≡ label.at) × IsFirstRepeat (words ls) label
+AreSet ls (Some at) lookup = IsFirstRepeat (words ls) at
 
 -- the statements and labels are those of the items, and of labels after them that wait for theirs
 pub record IsKept (statements : List Statement) (repeat : Option ℕ) (lookup : Name → Option ℕ)
@@ -52,14 +52,6 @@ pub record IsKept (statements : List Statement) (repeat : Option ℕ) (lookup : 
   pub same : AreStatements statements items
   pub set : AreSet (labels_from 0 items ++ labels_of (length items) (label_words waiting)) repeat lookup
   pub most : length items ≤ 4096
-
--- the place is that of the 4097th item's mnemonic
-pub record IsExcess (items : List Item) (at : ℕ) : Type 0 where
-  pub item : Item
-  pub mnemonic : Lexeme
-  pub found : slice_get items 4096 ≡ Some item
-  pub first : slice_get item.body 0 ≡ Some mnemonic
-  pub place : at ≡ mnemonic.at
 
 -- what is kept of items, where there are at most 4096; and of more the place of the 4097th
 abbrev pub IsDraft : Option ℕ → List Statement → Option ℕ → (Name → Option ℕ) → List Item → List Lexeme → Type 0

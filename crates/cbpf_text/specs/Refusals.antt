@@ -8,10 +8,10 @@ use Rattle.cbpf_syntax.specs.declared.token.BadPiece.TheVariants as pieces
 use Rattle.cbpf_syntax.specs.Tokens.{Lexes, IsFirstBad, line_of}
 use Rattle.cbpf_syntax.specs.declared.table.Fields.{Fields}
 use Rattle.cbpf_syntax.specs.declared.table.Fields.TheVariants.{Constant, Goto, Branch, Swapped}
-use Rattle.cbpf_syntax.specs.Refusals.{ParseFault as parse}
 use Rattle.cbpf_syntax.specs.Lexemes.{Lexeme, lexemes_of}
 use Rattle.cbpf_syntax.specs.Items.{Item, Items}
-use Rattle.cbpf_syntax.specs.Refusals.{IsFirstRefusal, IsAccepted}
+use Rattle.cbpf_syntax.specs.Refusals.{ParseFault, IsFirstRefusal, IsAccepted}
+use Rattle.cbpf_syntax.specs.Reading.{IsPlaceOf}
 use Rattle.cbpf_text.specs.declared.fault.AsmKind.{AsmKind}
 use Rattle.cbpf_text.specs.declared.fault.AsmKind.TheVariants as kinds
 use Rattle.cbpf_text.specs.declared.fault.AsmFault.{AsmFault}
@@ -27,13 +27,15 @@ piece_kind pieces.NoToken = kinds.NoToken
 piece_kind pieces.OpenComment = kinds.OpenComment
 piece_kind pieces.LargeNumber = kinds.LargeNumber
 
--- the label is the first whose name one before it has given already
-pub record IsFirstRepeat (labels : List Lexeme) (label : Lexeme) : Type 0 where
+-- the first label whose name one before it has given already, and its place
+pub record IsFirstRepeat (labels : List Lexeme) (at : ℕ) : Type 0 where
   pub before : List Lexeme
+  pub label : Lexeme
   pub after : List Lexeme
   pub split : labels ≡ before ++ (label ∷ after)
   pub distinct : AreDistinct before
   pub given : times_among before (name_of label) ≢ 0
+  pub place : at ≡ label.at
 
 -- a label in an operand, with its item's index, and whether the jump is conditional
 pub record Use : Type 0 where
@@ -77,24 +79,36 @@ pub record IsFirstBadUse (items : List Item) (uses : List Use) (kind : AsmKind) 
   pub bad : IsUseFault items u kind
   pub place : at ≡ u.target.at
 
+-- the place is that of the 4097th item's mnemonic
+pub record IsExcess (items : List Item) (at : ℕ) : Type 0 where
+  pub item : Item
+  pub found : slice_get items 4096 ≡ Some item
+  pub place : IsPlaceOf item.body 0 at
+
 -- why items are refused, and the place in the text that shows it
 pub data IsItemsFault (items : List Item) : AsmKind → ℕ → Type 0 where
   no_item : items ≡ [] → IsItemsFault items kinds.NoInstruction 0
-  too_many : (item : Item) (mnemonic : Lexeme) → slice_get items 4096 ≡ Some item
-      → slice_get item.body 0 ≡ Some mnemonic → IsItemsFault items kinds.TooMany mnemonic.at
-  set_twice : (label : Lexeme) → HasProgramLength items → IsFirstRepeat (set_labels items) label
-      → IsItemsFault items kinds.LabelSetTwice label.at
+  too_many : (at : ℕ) → IsExcess items at → IsItemsFault items kinds.TooMany at
+  set_twice : (at : ℕ) → HasProgramLength items → IsFirstRepeat (set_labels items) at
+      → IsItemsFault items kinds.LabelSetTwice at
   bad_use : (kind : AsmKind) (at : ℕ) → HasProgramLength items → AreDistinct (set_labels items)
       → IsFirstBadUse items (uses_from 0 items) kind at → IsItemsFault items kind at
 
+-- a refusal of the grammar: its kind, and the index of the token that shows it
+abbrev pub grammar_kind : ParseFault → AsmKind
+grammar_kind (ParseFault.Misplaced i) = kinds.Misplaced
+grammar_kind (ParseFault.LargeNegative i) = kinds.LargeNumber
+grammar_kind ParseFault.Unfinished = kinds.Unfinished
+
+abbrev pub shown_at : List Lexeme → ParseFault → ℕ
+shown_at ts (ParseFault.Misplaced i) = i
+shown_at ts (ParseFault.LargeNegative i) = i
+shown_at ts ParseFault.Unfinished = length ts - 1
+
 -- why tokens are refused, and the place: the first refusal of the grammar, and where there is none that of the items
 pub data IsTokensFault (ts : List Lexeme) : AsmKind → ℕ → Type 0 where
-  misplaced : (i : ℕ) (t : Lexeme) → IsFirstRefusal ts (parse.Misplaced i) → slice_get ts i ≡ Some t
-      → IsTokensFault ts kinds.Misplaced t.at
-  large_negative : (i : ℕ) (t : Lexeme) → IsFirstRefusal ts (parse.LargeNegative i) → slice_get ts i ≡ Some t
-      → IsTokensFault ts kinds.LargeNumber t.at
-  unfinished : (t : Lexeme) → IsFirstRefusal ts parse.Unfinished → slice_get ts (length ts - 1) ≡ Some t
-      → IsTokensFault ts kinds.Unfinished t.at
+  of_grammar : (fault : ParseFault) (at : ℕ) → IsFirstRefusal ts fault → IsPlaceOf ts (shown_at ts fault) at
+      → IsTokensFault ts (grammar_kind fault) at
   of_items : (items : List Item) (kind : AsmKind) (at : ℕ) → Items ts items → IsAccepted ts
       → IsItemsFault items kind at → IsTokensFault ts kind at
 

@@ -18,8 +18,8 @@ use Rattle.cbpf_text.specs.declared.fault.AsmKind.TheVariants as kinds
 use Rattle.cbpf_text.specs.declared.placed_fault.PlacedFault.TheVariants as placed
 use Rattle.cbpf_text.specs.Refusals.IsRefused.{memory}
 use Rattle.cbpf_text.proofs.Faults.{lex_refused, IsState, state_init, state_step, state_inside, state_stuck}
-use Rattle.cbpf_text.proofs.Faults.{state_items, state_lexemes, label_state, item_state, whole_refused, items_refused}
-use Rattle.cbpf_text.proofs.Faults.{all_accepted, large_reported}
+use Rattle.cbpf_text.proofs.Faults.{state_items, state_lexemes, label_state, item_state, whole_refused}
+use Rattle.cbpf_text.proofs.Faults.{all_accepted, items_large_refused}
 use Rattle.cbpf_text.proofs.draft.read_items.Given.{Over}
 use Rattle.cbpf_text.proofs.draft.read_items.Goals.{In-Ok, After-large}
 use Rattle.cbpf_text.proofs.draft.read_items.Goals as goal
@@ -137,7 +137,7 @@ returns-in-Some-clause-refused g c =
     let e = ended g at.After-large (stepped g at.In-Ok) in
     let large : IsFirstLarge e.0 e.2 (Some c.in-Some.at) = subst (λ o. IsFirstLarge e.0 e.2 o) c.in-Some.is e.7 in
     whole_refused c.args.text.now e.0 (placed.At kinds.LargeNumber c.in-Some.at) c.fault_of.result e.3
-    (large_reported e.0 c.in-Some.at (items_refused e.0 e.1 e.2 c.in-Some.at e.4 large)) c.fault_of.ensures
+    (items_large_refused e.0 e.1 e.2 c.in-Some.at e.4 large) c.fault_of.ensures
 
 pub returns-in-None-large-clause-items : goal.returns-in-None-large-clause-items
 returns-in-None-large-clause-items g c =
