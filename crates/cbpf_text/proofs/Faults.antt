@@ -19,7 +19,7 @@ use Rattle.cbpf_text.specs.Refusals.IsTokensFault.{of_items, of_grammar}
 use Rattle.cbpf_text.specs.Refusals.IsRefused.{memory as whole_memory, piece as whole_piece, token as whole_token}
 use Rattle.cbpf_text.specs.Refusals.IsLexRefused.{memory, piece}
 use Rattle.cbpf_text.proofs.Forms.{reported_more}
-use Rattle.std.proofs.lemmas.List.{length-map, length-take-le, drop-drop, drop_at}
+use Rattle.std.proofs.lemmas.List.{length-map, length-take-le, drop-drop}
 use Rattle.cbpf_syntax.specs.Views.{lexeme_of, row_of, label_words}
 use Rattle.cbpf_syntax.specs.Reading.{Ahead, IsReading, IsFirstLarge}
 use Rattle.std.specs.Prelude.{Ok}
@@ -87,188 +87,190 @@ pub all_accepted : (ts : List Lexeme) (is : List Item) (n : ℕ) → Items ts is
 all_accepted ts is n p l h = items_accepted ts is p (λ k q. h k (omega (arith, l, large_within ts k q)) q)
 
 -- What the reader of items stands at: so many tokens were taken,
--- which are items and then labels that wait for theirs.
-pub record Front (ts : List Lexeme) (is : List Item) (ls : List Lexeme) (from n : ℕ) : Type 0 where
+-- which are the items and then labels of these words, which wait for theirs.
+pub record Front (ts : List Lexeme) (is : List Item) (ws : List Lexeme) (n : ℕ) : Type 0 where
+  pub from : ℕ
+  pub ls : List Lexeme
+  pub labels : AreLabels ls
+  pub words : label_words ls ≡ ws
+  pub size : from + length ls ≡ n
   pub greedy : Greedy ts is (drop from ts)
   pub rest : drop from ts ≡ ls ++ drop n ts
-  pub labels : AreLabels ls
 
+words_on : (ls : List Lexeme) (x y : Lexeme) → AreLabels ls
+    → label_words (ls ++ (x ∷ y ∷ [])) ≡ label_words ls ++ (x ∷ [])
+words_on [] x y a = refl
+words_on (t ∷ []) x y a = absurd a
+words_on (t ∷ u ∷ ls) x y a = ap (λ us. t ∷ us) (words_on ls x y a.2)
+
+words_size : (ls : List Lexeme) → length (label_words ls) ≤ length ls
+words_size [] = omega arith
+words_size (t ∷ []) = omega arith
+words_size (t ∷ u ∷ ls) = omega (arith, words_size ls)
+
+no_words : (ls : List Lexeme) → AreLabels ls → label_words ls ≡ [] → length ls ≡ 0
+no_words ls h1 h2 = search (rules)
+
+front_label : (ts : List Lexeme) (is : List Item) (ws : List Lexeme) (n : ℕ) (x y : Lexeme) (more : List Lexeme)
+    → Front ts is ws n → drop n ts ≡ (x ∷ y ∷ []) ++ more → starts_with_label (drop n ts) ≡ true
+    → Front ts is (ws ++ (x ∷ [])) (n + 2)
+front_label ts is ws n x y more f e starts =
+    let both : starts_with_label (x ∷ y ∷ more) ≡ true = subst (λ us. starts_with_label us ≡ true) e starts in
+    let label = and_parts (fits name x.symbol) (fits (the_mark 58) y.symbol) both in
+    let after : more ≡ drop (n + 2) ts = sym (ap (λ us. drop 2 us) e) ∙ drop-drop 2 n ts in
+    record {
+      from = f.from;
+      ls = f.ls ++ (x ∷ y ∷ []);
+      labels = labels_append f.ls (x ∷ y ∷ []) f.labels (label.0, label.1, tt);
+      words = words_on f.ls x y f.labels ∙ ap (λ us. us ++ (x ∷ [])) f.words;
+      size = omega (arith, f.size, length-append f.ls (x ∷ y ∷ []));
+      greedy = f.greedy;
+      rest = f.rest ∙ ap (λ us. f.ls ++ us) (e ∙ ap (λ us. x ∷ y ∷ us) after)
+          ∙ sym (append_assoc f.ls (x ∷ y ∷ []) (drop (n + 2) ts));
+    }
+
+front_item : (ts : List Lexeme) (is : List Item) (ws : List Lexeme) (n m : ℕ) (item : Item) → Front ts is ws n
+    → item.labels ≡ ws → IsNextItem (drop n ts) m (record item { labels = [] }) → Front ts (is ++ (item ∷ [])) [] (n + m)
+front_item ts is ws n m item f e next =
+    let none : n + m + 0 ≡ n + m = omega arith in
+    let labels : label_words f.ls ++ [] ≡ item.labels = append-nil (label_words f.ls) ∙ (f.words ∙ sym e) in
+    let whole : IsNextItem (f.ls ++ drop n ts) (length f.ls + m) item =
+    subst (λ (us : List Lexeme). IsNextItem (f.ls ++ drop n ts) (length f.ls + m) (record item { labels = us })) labels
+    (labels_item f.ls (drop n ts) m (record item { labels = [] }) f.labels next) in
+    let end : f.from + (length f.ls + m) ≡ n + m = omega (arith, f.size) in
+    record {
+      from = n + m;
+      ls = [];
+      labels = tt;
+      words = refl;
+      size = none;
+      greedy = subst (λ k. Greedy ts (is ++ (item ∷ [])) (drop k ts)) end (greedy_more ts is f.from (length f.ls + m)
+          item f.greedy (subst (λ us. IsNextItem us (length f.ls + m) item) (sym f.rest) whole));
+      rest = refl;
+    }
+
+-- the same over a text, with what is kept of its items, and whether labels wait
 pub record IsState (text : List ℕ) (a : Ahead) (o : Option ℕ) (ss : List Statement) (rep : Option ℕ)
     (look : Name → Option ℕ) (waits : Bool) : Type 0 where
-  pub from : ℕ
+  pub n : ℕ
   pub is : List Item
-  pub ls : List Lexeme
-  pub reading : IsReading (from + length ls) a
-  pub half : ℕ
-  pub even : length ls ≡ half + half
-  pub none : waits ≡ false → ls ≡ []
-  pub some : waits ≡ true → 0 < length ls
-  pub draft : IsDraft o ss rep look is ls
-  pub front : (ts : List Lexeme) → AreLexemes text ts → Front ts is ls from (from + length ls)
-
--- two more tokens, of which the first is one more label
-pub words_on : (ls : List Lexeme) (m : ℕ) (x y : Lexeme) → length ls ≡ m + m
-    → label_words (ls ++ (x ∷ y ∷ [])) ≡ label_words ls ++ (x ∷ [])
-words_on [] m x y e = refl
-words_on (t ∷ u ∷ ls) (suc m) x y e = ap (λ us. t ∷ us) (words_on ls m x y (omega (arith, e)))
-words_on x m x' y e = absurd (omega (arith, e))
+  pub words : List Lexeme
+  pub reading : IsReading n a
+  pub none : waits ≡ false → words ≡ []
+  pub some : waits ≡ true → (0 < length words) × (0 < n)
+  pub draft : IsDraft o ss rep look is words
+  pub front : (ts : List Lexeme) → AreLexemes text ts → Front ts is words n
 
 two_of : (window : List declared_lexeme.Lexeme) (d e : declared_lexeme.Lexeme) → 2 ≤ length window
     → map lexeme_of (take 2 window) ≡ lexeme_of (get_or window 0 d) ∷ lexeme_of (get_or window 1 e) ∷ []
 two_of window d e h1 = search (rules)
 
-two_labels : (t u : Lexeme) (ts : List Lexeme) → starts_with_label (t ∷ u ∷ ts) ≡ true → AreLabels (t ∷ u ∷ [])
-two_labels t u ts h = let p = and_parts (fits name t.symbol) (fits (the_mark 58) u.symbol) h in (p.0, p.1, tt)
-
-drop_front : (xs ys : List Lexeme) (ts : List Lexeme) (n m : ℕ) → drop n ts ≡ xs ++ ys → length xs ≡ m
-    → drop (n + m) ts ≡ ys
-drop_front xs ys ts n m e l = sym (drop-drop m n ts) ∙ (ap (λ us. drop m us) e ∙ drop_at xs ys m l)
-
--- The state of a reader before a step, over a text: what is kept of its items, and whether labels wait.
+-- The state of a reader before a step.
 module _ {text : List ℕ} {a : Ahead} {o : Option ℕ} {ss : List Statement} {rep : Option ℕ} {look : Name → Option ℕ}
     {waits : Bool} where
   pub label_state : {b : Ahead} {p : Option ℕ} {tt : List Statement} {rep2 : Option ℕ} {look2 : Name → Option ℕ}
       (d : declared_lexeme.Lexeme) (s : IsState text a o ss rep look waits) → a.text ≡ text
-      → ((ts : List Lexeme) → AreLexemes text ts → starts_with_label (drop (s.from + length s.ls) ts) ≡ true)
-      → 2 ≤ length a.tokens
-      → ((m : ℕ) → IsReading m a → IsReading (m + 2) b)
-      → ((is : List Item) (ls : List Lexeme) (colon : Lexeme) → IsDraft o ss rep look is ls
-      → label_words (ls ++ (lexeme_of (get_or a.tokens 0 d) ∷ colon ∷ []))
-      ≡ label_words ls ++ (lexeme_of (get_or a.tokens 0 d) ∷ [])
-      → IsDraft p tt rep2 look2 is (ls ++ (lexeme_of (get_or a.tokens 0 d) ∷ colon ∷ [])))
+      → ((ts : List Lexeme) → AreLexemes text ts → starts_with_label (drop s.n ts) ≡ true)
+      → 2 ≤ length a.tokens → ((m : ℕ) → IsReading m a → IsReading (m + 2) b)
+      → ((is : List Item) (words : List Lexeme) → IsDraft o ss rep look is words
+      → IsDraft p tt rep2 look2 is (words ++ (lexeme_of (get_or a.tokens 0 d) ∷ [])))
       → IsState text b p tt rep2 look2 true
-  label_state {b} d s same is_label two taken kept =
+  label_state d s same is_label two taken kept =
       let x = lexeme_of (get_or a.tokens 0 d) in
-      let y = lexeme_of (get_or a.tokens 1 d) in
-      let n = s.from + length s.ls in
-      let size : length (s.ls ++ (x ∷ y ∷ [])) ≡ length s.ls + 2 = length-append s.ls (x ∷ y ∷ []) in
-      let count : n + 2 ≡ s.from + length (s.ls ++ (x ∷ y ∷ [])) = omega (arith, size) in
       record {
-        from = s.from;
+        n = s.n + 2;
         is = s.is;
-        ls = s.ls ++ (x ∷ y ∷ []);
-        reading = subst (λ k. IsReading k b) count (taken n s.reading);
-        half = suc s.half;
-        even = omega (arith, size, s.even);
+        words = s.words ++ (x ∷ []);
+        reading = taken s.n s.reading;
         none = λ e. let k : true ≡ false = e in cc;
-        some = λ e. omega (arith, size);
-        draft = kept s.is s.ls y s.draft (words_on s.ls s.half x y s.even);
+        some = λ e. (omega (arith, length-append s.words (x ∷ [])), omega arith);
+        draft = kept s.is s.words s.draft;
         front = λ ts t.
-            let f = s.front ts t in
-            let part = taken_is a.text a.to n 2 a.tokens ts s.reading.read (rw (← same) at t) two in
-            let begins : drop n ts ≡ (x ∷ y ∷ []) ++ part.0 =
-            part.1 ∙ ap (λ us. us ++ part.0) (two_of a.tokens d d two) in
-            let after : drop (n + 2) ts ≡ part.0 = drop_front (x ∷ y ∷ []) part.0 ts n 2 begins refl in
-            record {
-              greedy = f.greedy;
-              rest = f.rest ∙ (ap (λ us. s.ls ++ us) begins ∙ (sym (append_assoc s.ls (x ∷ y ∷ []) part.0)
-                  ∙ ap (λ us. (s.ls ++ (x ∷ y ∷ [])) ++ us) (sym after ∙ ap (λ k. drop k ts) count)));
-              labels = labels_append s.ls (x ∷ y ∷ []) f.labels
-                  (two_labels x y part.0 (subst (λ us. starts_with_label us ≡ true) begins (is_label ts t)));
-            };
+            let part = taken_is a.text a.to s.n 2 a.tokens ts s.reading.read (rw (← same) at t) two in
+            front_label ts s.is s.words s.n x (lexeme_of (get_or a.tokens 1 d)) part.0 (s.front ts t)
+            (part.1 ∙ ap (λ us. us ++ part.0) (two_of a.tokens d d two)) (is_label ts t);
       }
 
   pub item_state : {b : Ahead} {p : Option ℕ} {tt : List Statement} {rep2 : Option ℕ} {look2 : Name → Option ℕ}
       (row : declared_row.Row) (m : ℕ) (s : IsState text a o ss rep look waits) → a.text ≡ text
       → m ≡ 1 + length row.operand.now
-      → ((ts : List Lexeme) → AreLexemes text ts → IsInstruction (drop (s.from + length s.ls) ts) (Ok row))
-      → m ≤ length a.tokens
-      → ((k : ℕ) → IsReading k a → IsReading (k + m) b)
-      → ((is : List Item) (ls : List Lexeme) → IsDraft o ss rep look is ls → IsDraft p tt rep2 look2
-      (is ++ (record { labels = label_words ls; row = row_of row; body = map lexeme_of (take m a.tokens) } ∷ [])) [])
+      → ((ts : List Lexeme) → AreLexemes text ts → IsInstruction (drop s.n ts) (Ok row))
+      → m ≤ length a.tokens → ((k : ℕ) → IsReading k a → IsReading (k + m) b)
+      → ((is : List Item) (words : List Lexeme) → IsDraft o ss rep look is words → IsDraft p tt rep2 look2
+      (is ++ (record { labels = words; row = row_of row; body = map lexeme_of (take m a.tokens) } ∷ [])) [])
       → IsState text b p tt rep2 look2 false
-  item_state {b} row m s same size next within taken kept =
+  item_state row m s same size next within taken kept =
       let body = map lexeme_of (take m a.tokens) in
-      let item : Item = record { labels = label_words s.ls; row = row_of row; body = body } in
-      let bare : Item = record { labels = []; row = row_of row; body = body } in
-      let n = s.from + length s.ls in
-      let more : n + m ≡ n + m + 0 = omega arith in
+      let item : Item = record { labels = s.words; row = row_of row; body = body } in
       record {
-        from = n + m;
+        n = s.n + m;
         is = s.is ++ (item ∷ []);
-        ls = [];
-        reading = subst (λ k. IsReading k b) more (taken n s.reading);
-        half = 0;
-        even = refl;
+        words = [];
+        reading = taken s.n s.reading;
         none = λ e. refl;
         some = λ e. let k : false ≡ true = e in cc;
-        draft = kept s.is s.ls s.draft;
+        draft = kept s.is s.words s.draft;
         front = λ ts t.
-            let f = s.front ts t in
-            let part = taken_is a.text a.to n m a.tokens ts s.reading.read (rw (← same) at t) within in
+            let part = taken_is a.text a.to s.n m a.tokens ts s.reading.read (rw (← same) at t) within in
             let count : suc (length row.operand.now) ≡ m = omega (arith, size) in
             let long : length body ≡ m =
             length-map (take m a.tokens) lexeme_of ∙ length-take-le m a.tokens within in
-            let front : take m (drop n ts) ≡ body = ap (λ us. take m us) part.1
+            let first : take m (drop s.n ts) ≡ body = ap (λ us. take m us) part.1
             ∙ (ap (λ k. take k (body ++ part.0)) (sym long) ∙ take-append_seam body part.0) in
-            let one : IsNextItem (drop n ts) m bare =
-            subst (λ (us : List Lexeme). IsNextItem (drop n ts) m (record bare { body = us })) front
-            (subst (λ k. IsNextItem (drop n ts) k (record bare { body = take k (drop n ts) })) count (next ts t)) in
-            let all : IsNextItem (drop s.from ts) (length s.ls + m) item =
-            subst (λ (us : List Lexeme). IsNextItem us (length s.ls + m) item) (sym f.rest)
-            (subst (λ (ws : List Lexeme). IsNextItem (s.ls ++ drop n ts) (length s.ls + m) (record bare { labels = ws }))
-            (append-nil (label_words s.ls)) (labels_item s.ls (drop n ts) m bare f.labels one)) in
-            let end : s.from + (length s.ls + m) ≡ n + m = omega arith in
-            record {
-              greedy = subst (λ k. Greedy ts (s.is ++ (item ∷ [])) (drop k ts)) end
-                  (greedy_more ts s.is s.from (length s.ls + m) item f.greedy all);
-              rest = ap (λ k. drop k ts) more;
-              labels = tt;
-            };
+            front_item ts s.is s.words s.n m item (s.front ts t) refl
+            (subst (λ (us : List Lexeme). IsNextItem (drop s.n ts) m (record item { labels = []; body = us })) first
+            (subst (λ k. IsNextItem (drop s.n ts) k (record item { labels = []; body = take k (drop s.n ts) })) count
+            (next ts t)));
       }
 
   -- where the tokens do not go on
-  pub state_stuck : (k : ℕ) (ts : List Lexeme) (s : IsState text a o ss rep look waits) → AreLexemes text ts
-      → s.from < length ts → Stuck k (drop (s.from + length s.ls) ts) → IsStuckAt ts (s.from + length s.ls + k)
-  state_stuck k ts s t l stuck =
+  pub state_stuck : (k : ℕ) (ts : List Lexeme) (s : IsState text a o ss rep look waits) → a.text ≡ text
+      → AreLexemes text ts → 0 < length s.words + length a.tokens → Stuck k (drop s.n ts) → IsStuckAt ts (s.n + k)
+  state_stuck k ts s same t some stuck =
       let f = s.front ts t in
-      let e : s.from + (length s.ls + k) ≡ s.from + length s.ls + k = omega arith in
+      let all = ahead_is a.text a.to s.n (map lexeme_of a.tokens) ts s.reading.read (rw (← same) at t) in
+      let sizes = length-append (map lexeme_of a.tokens) all.0 in
+      let labels : length s.words ≤ length f.ls = rw (← f.words) (words_size f.ls) in
+      let inside : f.from < length ts = omega (
+        arith,
+        some,
+        labels,
+        f.size,
+        all.3,
+        length-map a.tokens lexeme_of,
+        length-drop s.n ts,
+        ap length all.1,
+        sizes,
+      ) in
+      let e : f.from + (length f.ls + k) ≡ s.n + k = omega (arith, f.size) in
       subst (λ j. IsStuckAt ts j) e
-      (stuck_at ts s.is s.from (length s.ls + k) l f.greedy (subst (λ us. Stuck (length s.ls + k) us) (sym f.rest)
-      (labels_stuck s.ls (drop (s.from + length s.ls) ts) k f.labels stuck)))
+      (stuck_at ts s.is f.from (length f.ls + k) inside f.greedy (subst (λ us. Stuck (length f.ls + k) us) (sym f.rest)
+      (labels_stuck f.ls (drop s.n ts) k f.labels stuck)))
 
   pub state_step : {b : Ahead} → IsState text a o ss rep look waits → ((n : ℕ) → IsReading n a → IsReading n b)
       → IsState text b o ss rep look waits
   state_step s on = record {
-    from = s.from;
+    n = s.n;
     is = s.is;
-    ls = s.ls;
-    reading = on (s.from + length s.ls) s.reading;
-    half = s.half;
-    even = s.even;
+    words = s.words;
+    reading = on s.n s.reading;
     none = s.none;
     some = s.some;
     draft = s.draft;
     front = s.front;
   }
 
-  -- there are tokens after the items
-  pub state_inside : (ts : List Lexeme) (s : IsState text a o ss rep look waits) → a.text ≡ text
-      → AreLexemes text ts → 0 < length s.ls + length a.tokens → s.from < length ts
-  state_inside ts s same t l =
-      let n = s.from + length s.ls in
-      let all = ahead_is a.text a.to n (map lexeme_of a.tokens) ts s.reading.read (rw (← same) at t) in
-      omega (
-        arith,
-        l,
-        all.3,
-        length-map a.tokens lexeme_of,
-        length-drop n ts,
-        ap length all.1,
-        length-append (map lexeme_of a.tokens) all.0,
-      )
-
   -- the end of a text whose tokens are items
   pub state_items : (ts : List Lexeme) (s : IsState text a o ss rep look waits) → waits ≡ false
-      → AreLexemes text ts → drop (s.from + length s.ls) ts ≡ []
-      → Items ts s.is × (length ts ≤ s.from + length s.ls) × IsDraft o ss rep look s.is []
+      → AreLexemes text ts → drop s.n ts ≡ []
+      → Items ts s.is × (length ts ≤ s.n) × IsDraft o ss rep look s.is []
   state_items ts s quiet t e =
-      let no = s.none quiet in
-      let past : length ts ≤ s.from + length s.ls = omega (arith, length-drop (s.from + length s.ls) ts, ap length e) in
-      let size : length s.ls ≡ 0 = ap length no in (
-        greedy_all ts s.is s.from (omega (arith, past, size)) (s.front ts t).greedy,
+      let f = s.front ts t in
+      let past : length ts ≤ s.n = omega (arith, length-drop s.n ts, ap length e) in
+      let none : length f.ls ≡ 0 = no_words f.ls f.labels (f.words ∙ s.none quiet) in (
+        greedy_all ts s.is f.from (omega (arith, past, f.size, none)) f.greedy,
         past,
-        subst (λ us. IsDraft o ss rep look s.is us) no s.draft,
+        subst (λ us. IsDraft o ss rep look s.is us) (s.none quiet) s.draft,
       )
 
   -- all lexemes of a text that was read to its end
@@ -289,14 +291,13 @@ module _ {text : List ℕ} {a : Ahead} {o : Option ℕ} {ss : List Statement} {r
 pub state_init : (text : List ℕ) (a : Ahead) (ss : List Statement) (rep : Option ℕ) (look : Name → Option ℕ)
     → IsReading 0 a → ss ≡ [] → AreSet [] rep look → IsState text a None ss rep look false
 state_init text a ss rep look r e h = record {
-  from = 0;
+  n = 0;
   is = [];
-  ls = [];
+  words = [];
   reading = r;
-  half = 0;
-  even = refl;
   none = λ z. refl;
   some = λ z. let k : false ≡ true = z in cc;
   draft = subst (λ us. IsKept us rep look [] []) (sym e) (record { same = tt; set = h; most = omega arith });
-  front = λ ts t. record { greedy = refl; rest = refl; labels = tt };
+  front = λ ts t.
+      record { from = 0; ls = []; labels = tt; words = refl; size = refl; greedy = refl; rest = refl };
 }

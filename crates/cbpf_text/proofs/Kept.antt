@@ -7,7 +7,7 @@ use Rattle.std.proofs.lemmas.List.{map-append}
 use Rattle.cbpf_syntax.specs.declared.lexeme.Lexeme as declared_lexeme
 use Rattle.cbpf_syntax.specs.Lexemes.{Lexeme}
 use Rattle.cbpf_syntax.specs.Items.{Item}
-use Rattle.cbpf_syntax.specs.Views.{lexeme_of, label_words}
+use Rattle.cbpf_syntax.specs.Views.{lexeme_of}
 use Rattle.cbpf_text.specs.declared.name.Name.{Name}
 use Rattle.cbpf_text.specs.declared.fault.AsmKind.TheVariants as kinds
 use Rattle.cbpf_text.specs.Labels.{set_labels, AreDistinct}
@@ -54,17 +54,16 @@ none_if (Some x) e = let k : false ≡ true = e in cc
 
 -- one more label
 pub kept_label : (ss : List Statement) (rep rep2 : Option ℕ) (look look2 : Name → Option ℕ) (is : List Item)
-    (ls ms : List Lexeme) (word : Lexeme) (place : ℕ) → IsKept ss rep look is ls → place ≡ length ss
-    → label_words ms ≡ label_words ls ++ (word ∷ []) → ((all : List Label) → AreSet all rep look
-    → AreSet (all ++ (record { word = word; place = place } ∷ [])) rep2 look2) → IsKept ss rep2 look2 is ms
-kept_label ss rep rep2 look look2 is ls ms word place h1 h2 h3 h4 =
-    search (rules, statements_size, append_assoc, map-append)
+    (ws : List Lexeme) (word : Lexeme) (place : ℕ) → IsKept ss rep look is ws → place ≡ length ss
+    → ((all : List Label) → AreSet all rep look → AreSet (all ++ (record { word = word; place = place } ∷ [])) rep2 look2)
+    → IsKept ss rep2 look2 is (ws ++ (word ∷ []))
+kept_label ss rep rep2 look look2 is ws word place h1 h2 h3 = search (rules, statements_size, append_assoc, map-append)
 
 -- one more item
-pub kept_item : (ss : List Statement) (rep : Option ℕ) (look : Name → Option ℕ) (is : List Item) (ls : List Lexeme)
-    (s : Statement) (i : Item) → IsKept ss rep look is ls → IsStatement s i → i.labels ≡ label_words ls
+pub kept_item : (ss : List Statement) (rep : Option ℕ) (look : Name → Option ℕ) (is : List Item) (ws : List Lexeme)
+    (s : Statement) (i : Item) → IsKept ss rep look is ws → IsStatement s i → i.labels ≡ ws
     → length ss < 4096 → IsKept (ss ++ (s ∷ [])) rep look (is ++ (i ∷ [])) []
-kept_item ss rep look is ls s i h1 h2 h3 h4 =
+kept_item ss rep look is ws s i h1 h2 h3 h4 =
     search (rules, statements_more, labels_snoc, append-nil, statements_size, length-append)
 
 -- the 4097th item

@@ -4,7 +4,6 @@ use Rattle.std.specs.Prelude.{◌≡◌, ◌≤◌, ℕ, List, [], ◌∷◌, �
 use Rattle.cbpf_code.specs.Opcode.{code_of}
 use Rattle.cbpf_syntax.specs.Lexemes.{Lexeme}
 use Rattle.cbpf_syntax.specs.Items.{Item}
-use Rattle.cbpf_syntax.specs.Views.{label_words}
 use Rattle.cbpf_text.specs.declared.draft.Statement.{Statement}
 use Rattle.cbpf_text.specs.declared.draft.Target.{Target}
 use Rattle.cbpf_text.specs.declared.name.Name.{Name}
@@ -46,11 +45,11 @@ abbrev pub AreSet : List Label → Option ℕ → (Name → Option ℕ) → Type
 AreSet ls None lookup = ((k : Name) → lookup k ≡ place_among ls k.bytes.now) × AreDistinct (words ls)
 AreSet ls (Some at) lookup = IsFirstRepeat (words ls) at
 
--- the statements and labels are those of the items, and of labels after them that wait for theirs
+-- the statements and labels are those of the items, and of the words of labels after them that wait for theirs
 pub record IsKept (statements : List Statement) (repeat : Option ℕ) (lookup : Name → Option ℕ)
     (items : List Item) (waiting : List Lexeme) : Type 0 where
   pub same : AreStatements statements items
-  pub set : AreSet (labels_from 0 items ++ labels_of (length items) (label_words waiting)) repeat lookup
+  pub set : AreSet (labels_from 0 items ++ labels_of (length items) waiting) repeat lookup
   pub most : length items ≤ 4096
 
 -- what is kept of items, where there are at most 4096; and of more the place of the 4097th

@@ -10,7 +10,7 @@ ghost use Rattle.cbpf_syntax.specs.Items as items;
 ghost use Rattle.cbpf_syntax.specs.Items.{Items};
 ghost use Rattle.cbpf_syntax.specs.Refusals.{IsAccepted, IsStuckAt};
 ghost use Rattle.cbpf_syntax.specs.Reading.{IsReading, IsRefusedFor, StartsWithWord};
-ghost use Rattle.cbpf_syntax.specs.Views.{lexeme_of, row_of, label_words};
+ghost use Rattle.cbpf_syntax.specs.Views.{lexeme_of, row_of};
 ghost use Rattle.cbpf_text.specs.Drafts.{IsStatement, IsDraft, AreTargets, AreSet};
 ghost use Rattle.cbpf_text.specs.Refusals.{Reported, IsTokensFault, IsRefused};
 ghost use Rattle.cbpf_text.specs.Tables.{same_name};
@@ -120,12 +120,11 @@ fn add_label<'a, A: Allocator>(
 ) -> Result<(), AllocFailed<(Name<'a>, u32)>>
     requires { length draft.old.statements.items ≤ 4096 }
     ensures size { length draft.new.statements.items ≤ 4096 }
-    ensures label { OnOk result ((is : List items.Item) (ls : List lexemes.Lexeme) (colon : lexemes.Lexeme) →
+    ensures label { OnOk result ((is : List items.Item) (words : List lexemes.Lexeme) →
         IsDraft draft.old.excess draft.old.statements.items draft.old.labels.repeat
-        (λ k. get same_name draft.old.labels.table k) is ls →
-        label_words (ls ++ lexeme_of word.entry ∷ colon ∷ []) ≡ label_words ls ++ lexeme_of word.entry ∷ [] →
+        (λ k. get same_name draft.old.labels.table k) is words →
         IsDraft draft.new.excess draft.new.statements.items draft.new.labels.repeat
-        (λ k. get same_name draft.new.labels.table k) is (ls ++ lexeme_of word.entry ∷ colon ∷ [])) }
+        (λ k. get same_name draft.new.labels.table k) is (words ++ lexeme_of word.entry ∷ [])) }
 {
     if draft.excess.is_some() {
         return Ok(());
@@ -142,12 +141,12 @@ fn add_instruction<'a, A: Allocator>(
     requires size { length draft.old.statements.items ≤ 4096 }
     requires some { 0 < length body.now }
     ensures size { length draft.new.statements.items ≤ 4096 }
-    ensures item { OnOk result ((is : List items.Item) (ls : List lexemes.Lexeme) →
+    ensures item { OnOk result ((is : List items.Item) (words : List lexemes.Lexeme) →
         IsDraft draft.old.excess draft.old.statements.items draft.old.labels.repeat
-        (λ k. get same_name draft.old.labels.table k) is ls →
+        (λ k. get same_name draft.old.labels.table k) is words →
         IsDraft draft.new.excess draft.new.statements.items draft.new.labels.repeat
         (λ k. get same_name draft.new.labels.table k)
-        (is ++ record { labels = label_words ls; row = row_of row; body = map lexeme_of body.now } ∷ []) []) }
+        (is ++ record { labels = words; row = row_of row; body = map lexeme_of body.now } ∷ []) []) }
 {
     if draft.excess.is_some() {
         return Ok(());

@@ -10,6 +10,6 @@ pub returns-clause-label : goal.returns-clause-label
 returns-clause-label g c =
     let none = none_if c.args.draft.now.excess c.if-is_some.ensures in
     let place : c.len.result ≡ length c.args.draft.now.statements.items = search rules in
-    rw none (on_ok_weaker c.add.result (λ more is ls colon d w. kept_label c.args.draft.now.statements.items
-    c.args.draft.now.labels.repeat _ (λ k. get same_name c.args.draft.now.labels.table k) _ is ls _
-    (lexeme_of c.args.word) c.len.result d place w more) c.add.ensures)
+    rw none (on_ok_weaker c.add.result (λ more is ws d. kept_label c.args.draft.now.statements.items
+    c.args.draft.now.labels.repeat _ (λ k. get same_name c.args.draft.now.labels.table k) _ is ws
+    (lexeme_of c.args.word) c.len.result d place more) c.add.ensures)

@@ -17,7 +17,7 @@ use Rattle.cbpf_syntax.proofs.Steps.{end_stuck}
 use Rattle.cbpf_text.specs.declared.fault.AsmKind.TheVariants as kinds
 use Rattle.cbpf_text.specs.declared.placed_fault.PlacedFault.TheVariants as placed
 use Rattle.cbpf_text.specs.Refusals.IsRefused.{memory}
-use Rattle.cbpf_text.proofs.Faults.{lex_refused, IsState, state_init, state_step, state_inside, state_stuck}
+use Rattle.cbpf_text.proofs.Faults.{lex_refused, IsState, state_init, state_step, state_stuck}
 use Rattle.cbpf_text.proofs.Faults.{state_items, state_lexemes, label_state, item_state, whole_refused}
 use Rattle.cbpf_text.proofs.Faults.{all_accepted, items_large_refused}
 use Rattle.cbpf_text.proofs.draft.read_items.Given.{Over}
@@ -48,7 +48,7 @@ returns-in_err-add_instruction-in-Some-Instruction-clause-refused g c =
 -- the state after a step, and what the step says of the tokens
 abbrev Stepped : List ℕ → Ahead → Option ℕ → List Statement → Option ℕ → (Name → Option ℕ) → Bool → Option Step → Type 0
 Stepped text a o ss rep look waits next = (s : IsState text a o ss rep look waits) × (a.text ≡ text)
-    × ((ts : List Lexeme) → AreLexemes text ts → IsStepOf (drop (s.from + length s.ls) ts) next)
+    × ((ts : List Lexeme) → AreLexemes text ts → IsStepOf (drop s.n ts) next)
 
 stepped : (g : Over) (c : In-Ok g) → Stepped c.args.text.now c.step.new.self c.loop-next.draft.excess
     c.loop-next.draft.statements.items c.loop-next.draft.labels.repeat
@@ -57,7 +57,7 @@ stepped g c =
     let inv = c.loop-next.invariant in
     let same : c.step.new.self.text ≡ c.args.text.now = c.in-Ok.ensures.text ∙ inv.text in
     let s = state_step inv.state c.in-Ok.ensures.reading in
-    (s, same, λ ts t. c.in-Ok.ensures.step (s.from + length s.ls) ts s.reading (rw (← same) at t))
+    (s, same, λ ts t. c.in-Ok.ensures.step s.n ts s.reading (rw (← same) at t))
 
 pub loop-next-preserved-in-Some-Label : goal.loop-next-preserved-in-Some-Label
 loop-next-preserved-in-Some-Label g c =
@@ -66,7 +66,7 @@ loop-next-preserved-in-Some-Label g c =
     record {
       text = c.take.ensures.text ∙ s.1;
       size = c.add_label.ensures.size;
-      state = label_state _ s.0 s.1 (λ ts t. subst (λ q. IsStepOf (drop (s.0.from + length s.0.ls) ts) q) st (s.2 ts t))
+      state = label_state _ s.0 s.1 (λ ts t. subst (λ q. IsStepOf (drop s.0.n ts) q) st (s.2 ts t))
           (subst (λ q. step_len q ≤ length c.step.new.self.tokens) st c.in-Ok.ensures.within) c.take.ensures.reading
           (rw c.ahead.ensures at c.in_ok-add_label-in-Some-Label.ensures.label);
     }
@@ -79,7 +79,7 @@ loop-next-preserved g c =
       text = c.take-in-Some-Instruction.ensures.text ∙ s.1;
       size = c.add_instruction.ensures.size;
       state = item_state c.in-Some-Instruction.row (1 + length c.in-Some-Instruction.row.operand.now) s.0 s.1 refl
-          (λ ts t. subst (λ q. IsStepOf (drop (s.0.from + length s.0.ls) ts) q) st (s.2 ts t))
+          (λ ts t. subst (λ q. IsStepOf (drop s.0.n ts) q) st (s.2 ts t))
           (subst (λ q. step_len q ≤ length c.step.new.self.tokens) st c.in-Ok.ensures.within)
           c.take-in-Some-Instruction.ensures.reading
           (rw c.ahead-in-Some-Instruction.ensures at c.in_ok-add_instruction-in-Some-Instruction.ensures.item);
@@ -88,22 +88,19 @@ loop-next-preserved g c =
 pub returns-in-Some-Stuck-clause-refused : goal.returns-in-Some-Stuck-clause-refused
 returns-in-Some-Stuck-clause-refused g c =
     let s = stepped g (goal.at.returns-in-Some-Stuck-clause-refused g c).In-Ok in
-    let n = s.0.from + length s.0.ls in
     let st = c.in-Some-Stuck.is ∙ ap (λ q. Some q) (rw c.in-Some-Stuck.is at c.in-Some-Stuck.field-0-is) in
     let some : 0 < length c.step.new.self.tokens =
     subst (λ q. IfSome q (λ _. 0 < length c.step.new.self.tokens)) st c.in-Ok.ensures.some in
-    c.fault_here.ensures n s.0.reading (omega (arith, some)) (λ ts t. state_stuck c.in-Some-Stuck.n ts s.0 t
-    (state_inside ts s.0 s.1 t (omega (arith, some))) (subst (λ q. IsStepOf (drop n ts) q) st (s.2 ts t)))
+    c.fault_here.ensures s.0.n s.0.reading (omega (arith, some)) (λ ts t. state_stuck c.in-Some-Stuck.n ts s.0 s.1 t
+    (omega (arith, some)) (subst (λ q. IsStepOf (drop s.0.n ts) q) st (s.2 ts t)))
 
 pub returns-in-None-clause-refused : goal.returns-in-None-clause-refused
 returns-in-None-clause-refused g c =
     let s = stepped g (goal.at.returns-in-None-clause-refused g c).In-Ok in
-    let n = s.0.from + length s.0.ls in
-    let some : 0 < length s.0.ls = s.0.some c.if-waits.true in
-    c.fault_here-in-None.ensures n s.0.reading (omega (arith, some)) (λ ts t.
-    let none : drop n ts ≡ [] = subst (λ q. IsStepOf (drop n ts) q) c.in-None.is (s.2 ts t) in
-    state_stuck 0 ts s.0 t (state_inside ts s.0 s.1 t (omega (arith, some)))
-    (subst (λ us. Stuck 0 us) (sym none) end_stuck))
+    let some = s.0.some c.if-waits.true in
+    c.fault_here-in-None.ensures s.0.n s.0.reading (omega (arith, some.1)) (λ ts t.
+    let none : drop s.0.n ts ≡ [] = subst (λ q. IsStepOf (drop s.0.n ts) q) c.in-None.is (s.2 ts t) in
+    state_stuck 0 ts s.0 s.1 t (omega (arith, some.0)) (subst (λ us. Stuck 0 us) (sym none) end_stuck))
 
 -- the items of a text that was read to its end
 ended : (g : Over) (c : After-large g) → Stepped c.args.text.now c.step.new.self c.loop-next.draft.excess
@@ -117,7 +114,7 @@ ended g c s =
     let size : length c.step.new.self.tokens ≡ 0 =
     subst (λ q. IfNone q (length c.step.new.self.tokens ≡ 0)) c.in-None-2.is c.in-Ok.ensures.none in
     let all = state_lexemes s.0 s.1 (c.in-Ok.ensures.end (ap step_len c.in-None-2.is ∙ sym size)) in
-    let n = s.0.from + length s.0.ls in
+    let n = s.0.n in
     let none : drop n all.0 ≡ [] = subst (λ q. IsStepOf (drop n all.0) q) c.in-None-2.is (s.2 all.0 all.1) in
     let end = state_items all.0 s.0 c.if-waits.false all.1 none in (
       all.0,
