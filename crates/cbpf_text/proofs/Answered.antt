@@ -32,7 +32,7 @@ use Rattle.cbpf_text.specs.Refusals.{grammar_kind, shown_at}
 use Rattle.cbpf_text.specs.Refusals.IsUseFault.{not_set, not_after, too_far}
 use Rattle.cbpf_text.specs.Refusals.IsItemsFault.{no_item, too_many, set_twice, bad_use}
 use Rattle.cbpf_text.specs.Refusals.IsTokensFault.{of_grammar, of_items}
-use Rattle.cbpf_text.specs.Refusals.IsRefused.{piece, token}
+use Rattle.cbpf_text.specs.Refusals.IsTextFault.{of_piece, of_tokens}
 use Rattle.cbpf_text.specs.Tables.{labels_from, place_among, IsLookup}
 use Rattle.cbpf_text.specs.Laws.{EachAnswered}
 use Rattle.cbpf_text.proofs.Lists.{all_none, all_one, all_front, all_after}
@@ -259,9 +259,9 @@ each_tokens ts = elim (each_parsed ts) [
 
 pub each_answered : EachAnswered
 each_answered text = elim (each_lexed text) [
-  | inr b ↦ inr (piece_kind b.0, b.1, piece b.0 b.1 b.2)
+  | inr b ↦ inr (piece_kind b.0, b.1, of_piece b.0 b.1 b.2)
   | inl l ↦ elim (each_tokens (lexemes_of text l.0)) [
     | inl a ↦ inl (a.0, record { tokens = l.0; lexed = l.1; assembled = a.1 })
-    | inr f ↦ inr (f.0, line_of text f.1, token l.0 f.0 f.1 l.1 f.2)
+    | inr f ↦ inr (f.0, line_of text f.1, of_tokens l.0 f.0 f.1 l.1 f.2)
   ]
 ]

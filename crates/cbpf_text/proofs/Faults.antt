@@ -16,8 +16,8 @@ use Rattle.cbpf_text.specs.Refusals.{Reported, IsItemsFault, IsFirstBadUse, uses
 use Rattle.cbpf_text.specs.Refusals.{IsLexRefused, IsReportedAt}
 use Rattle.cbpf_text.specs.Refusals.IsItemsFault.{bad_use}
 use Rattle.cbpf_text.specs.Refusals.IsTokensFault.{of_items, of_grammar}
-use Rattle.cbpf_text.specs.Refusals.IsRefused.{memory as whole_memory, piece as whole_piece, token as whole_token}
-use Rattle.cbpf_text.specs.Refusals.IsLexRefused.{memory, piece}
+use Rattle.cbpf_text.specs.Refusals.IsTextFault.{of_piece, of_tokens}
+use Rattle.cbpf_text.specs.declared.fault.AsmFault.TheVariants as faults
 use Rattle.cbpf_text.proofs.Forms.{reported_more}
 use Rattle.std.proofs.lemmas.List.{length-map, length-take-le, drop-drop}
 use Rattle.cbpf_syntax.specs.Views.{lexeme_of, row_of, label_words}
@@ -56,15 +56,8 @@ tokens_assembled ts is insns p a e =
     record { items = is; parsed = p; ranged = λ i h. a (ParseFault.LargeNegative i) i (refl, h); encoded = e }
 
 pub lex_refused : (text : List ℕ) (fault : AsmFault) → IsLexRefused text fault → IsRefused text fault
-lex_refused text fault memory = whole_memory
-lex_refused text fault (piece bad line p) = whole_piece bad line p
-
-pub refused_at : (text : List ℕ) (tokens : List Token) (ts : List Lexeme) (r : PlacedFault) (fault : AsmFault)
-    → Lexes text tokens → ts ≡ lexemes_of text tokens → Reported (IsTokensFault ts) r → IsReportedAt text r fault
-    → IsRefused text fault
-refused_at text tokens ts placed.Memory fault l e h t = subst (IsRefused text) (sym t) whole_memory
-refused_at text tokens ts (placed.At kind at) fault l e h t =
-    subst (IsRefused text) (sym t) (whole_token tokens kind at l (subst (λ us. IsTokensFault us kind at) e h))
+lex_refused text faults.Memory h = tt
+lex_refused text (faults.At kind line) h = rw h.1 (of_piece h.0 line h.2)
 
 pub text_assembled : (text : List ℕ) (tokens : List Token) (ts : List Lexeme) (insns : List Insn) → Lexes text tokens
     → ts ≡ lexemes_of text tokens → AssembleTokens ts insns → Assembles text insns
@@ -75,7 +68,9 @@ text_assembled text tokens ts insns h1 h2 h3 = search (rules)
 -- the refusal of the text's tokens is the text's
 pub whole_refused : (text : List ℕ) (ts : List Lexeme) (r : PlacedFault) (fault : AsmFault) → AreLexemes text ts
     → Reported (IsTokensFault ts) r → IsReportedAt text r fault → IsRefused text fault
-whole_refused text ts r fault t h line = refused_at text t.tokens ts r fault t.lexed t.are h line
+whole_refused text ts placed.Memory fault t h e = rw e tt
+whole_refused text ts (placed.At kind at) fault t h e =
+    rw e (of_tokens t.tokens kind at t.lexed (subst (λ us. IsTokensFault us kind at) t.are h))
 
 -- items with a literal that is too large
 pub items_large_refused : (ts : List Lexeme) (is : List Item) (n at : ℕ) → Items ts is → IsFirstLarge ts n (Some at)

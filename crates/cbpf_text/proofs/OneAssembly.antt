@@ -9,7 +9,7 @@ use Rattle.cbpf_syntax.specs.Lexemes.{Lexeme, lexemes_of}
 use Rattle.cbpf_syntax.specs.Items.{Item}
 use Rattle.cbpf_syntax.proofs.Apart.{one_reading, bytes_eq_self}
 use Rattle.cbpf_text.specs.Labels.{name_of, times_among, AreDistinct}
-use Rattle.cbpf_text.specs.Assembled.{AssembleTokens, EncodeEach, IsEncoded, FillsFields, IsOffset, Assembles}
+use Rattle.cbpf_text.specs.Assembled.{AssembleTokens, EncodeEach, IsEncoded, FillsFields, IsOffset}
 use Rattle.cbpf_text.specs.Assembled.{AreEncoded}
 use Rattle.cbpf_text.specs.Operands.{HasForm}
 use Rattle.cbpf_text.specs.Laws.{OneAssembly, NeverBoth}
@@ -17,16 +17,14 @@ use Rattle.cbpf_text.proofs.LabelLists.{one_place, times_append, times_cons, tim
 use Rattle.std.proofs.lemmas.Grind.{common_steps}
 use Rattle.cbpf_syntax.proofs.Refused.{items_accepted}
 use Rattle.cbpf_text.specs.declared.fault.AsmKind.{AsmKind}
-use Rattle.cbpf_text.specs.declared.fault.AsmFault.{AsmFault}
-use Rattle.cbpf_text.specs.Refusals.{IsGoodUse, IsItemsFault, IsTokensFault, IsRefused}
+use Rattle.cbpf_text.specs.Refusals.{IsGoodUse, IsItemsFault, IsTokensFault}
 use Rattle.cbpf_text.specs.Refusals.IsItemsFault.{no_item, too_many, set_twice, bad_use}
 use Rattle.cbpf_text.specs.Refusals.IsTokensFault.{of_grammar, of_items}
-use Rattle.cbpf_text.specs.Refusals.IsRefused.{memory, piece, token}
+use Rattle.cbpf_text.specs.Refusals.IsTextFault.{of_piece, of_tokens}
 use Rattle.cbpf_text.proofs.Lists.{get_within, all_front, all_after}
 use Rattle.cbpf_text.proofs.Forms.{items_forms}
 use Rattle.cbpf_text.proofs.Encoding.{good_uses}
 use Rattle.cbpf_syntax.proofs.Outcomes as lexer
-use Rattle.cbpf_text.specs.declared.fault.AsmFault.TheVariants as faults
 
 one_offset : (is : List Item) (index : ℕ) (o : Option Lexeme) (m n : ℕ) → IsOffset is index o m
     → IsOffset is index o n → m ≡ n
@@ -89,14 +87,9 @@ not_tokens ts insns kind at a (of_items is k n p acc f) =
     let e : a.items ≡ is = one_reading ts a.items is a.parsed p in
     not_items is insns kind at (items_forms ts is p) (subst (λ js. AreEncoded js insns) e a.encoded) f
 
-not_refused : (text : List ℕ) (insns : List Insn) (fault : AsmFault) (kind : AsmKind) (line : ℕ)
-    → Assembles text insns → IsRefused text fault → fault ≡ faults.At kind line → ⊥
-not_refused text insns fault kind line a memory e = let k : faults.Memory ≡ faults.At kind line = e in cc
-not_refused text insns fault kind line a (piece bad l p) e = lexer.never_both text a.tokens bad l a.lexed p
-not_refused text insns fault kind line a (token us k at l f) e =
+pub never_both : NeverBoth
+never_both text insns kind line a (of_piece bad l p) = lexer.never_both text a.tokens bad l a.lexed p
+never_both text insns kind line a (of_tokens us k at l f) =
     let s : a.tokens ≡ us = lexer.one_list text a.tokens us a.lexed l in
     not_tokens (lexemes_of text us) insns k at
     (subst (λ vs. AssembleTokens (lexemes_of text vs) insns) s a.assembled) f
-
-pub never_both : NeverBoth
-never_both text insns kind line a r = not_refused text insns (faults.At kind line) kind line a r refl

@@ -7,18 +7,16 @@ use Rattle.cbpf_syntax.specs.Items.{Item}
 use Rattle.cbpf_syntax.proofs.Apart.{one_reading}
 use Rattle.cbpf_syntax.proofs.OneRefusal as grammar
 use Rattle.cbpf_text.specs.declared.fault.AsmKind.{AsmKind}
-use Rattle.cbpf_text.specs.declared.fault.AsmFault.{AsmFault}
-use Rattle.cbpf_text.specs.declared.fault.AsmFault.TheVariants as faults
 use Rattle.cbpf_syntax.specs.Tokens.{line_of}
 use Rattle.cbpf_syntax.proofs.Cuts.{some-same}
 use Rattle.cbpf_text.specs.Labels.{name_of, set_labels, times_set, AreDistinct, SetsAt}
 use Rattle.cbpf_text.specs.Refusals.{Use, IsUseFault, IsFirstRepeat, IsFirstBadUse, IsItemsFault}
-use Rattle.cbpf_text.specs.Refusals.{IsTokensFault, IsRefused, IsExcess, uses_from, piece_kind, grammar_kind, shown_at}
+use Rattle.cbpf_text.specs.Refusals.{IsTokensFault, IsExcess, uses_from, piece_kind, grammar_kind, shown_at}
 use Rattle.cbpf_text.specs.Refusals.IsTokensFault.{of_grammar, of_items}
 use Rattle.cbpf_syntax.specs.Reading.{IsPlaceOf}
 use Rattle.cbpf_text.specs.Refusals.IsUseFault.{not_set, not_after, too_far}
 use Rattle.cbpf_text.specs.Refusals.IsItemsFault.{no_item, too_many, set_twice, bad_use}
-use Rattle.cbpf_text.specs.Refusals.IsRefused.{memory, piece, token}
+use Rattle.cbpf_text.specs.Refusals.IsTextFault.{of_piece, of_tokens}
 use Rattle.cbpf_text.specs.Laws.{OneRefusal}
 use Rattle.cbpf_text.specs.Assembled.{HasProgramLength}
 use Rattle.cbpf_text.proofs.Lists.{get_within}
@@ -126,30 +124,12 @@ one_of_tokens ts k l m n (of_items is c j o a x) (of_grammar f i r p) = absurd (
 one_of_tokens ts k l m n (of_items is c i o a x) (of_items js d j p b y) =
     one_of_items js k l m n (subst (λ us. IsItemsFault us k m) (one_reading ts is js o p) x) y
 
-same_at : (k l : AsmKind) (m n : ℕ) → faults.At k m ≡ faults.At l n → (k ≡ l) × (m ≡ n)
-same_at k l m n e = (cc, cc)
-
-at_same : (k l : AsmKind) (m n : ℕ) → (k ≡ l) × (m ≡ n) → faults.At k m ≡ faults.At l n
-at_same k l m n e = λ j. faults.At (e.0 j) (e.1 j)
-
-no_memory : {B : Type 0} (k : AsmKind) (m : ℕ) → faults.Memory ≡ faults.At k m → B
-no_memory k m e = cc
-
-one_fault : (text : List ℕ) (f g : AsmFault) (k l : AsmKind) (m n : ℕ) → f ≡ faults.At k m → g ≡ faults.At l n
-    → IsRefused text f → IsRefused text g → f ≡ g
-one_fault text f g k l m n p q memory b = no_memory k m p
-one_fault text f g k l m n p q (piece c i x) memory = no_memory l n q
-one_fault text f g k l m n p q (piece c i x) (piece d j y) =
-    let e = lexer.one_fault text c d i j x y in
-    at_same (piece_kind c) (piece_kind d) i j (ap piece_kind e.0, e.1)
-one_fault text f g k l m n p q (piece c i x) (token us d j y z) = absurd (lexer.never_both text us c i y x)
-one_fault text f g k l m n p q (token us d j y z) memory = no_memory l n q
-one_fault text f g k l m n p q (token us d j y z) (piece c i x) = absurd (lexer.never_both text us c i y x)
-one_fault text f g k l m n p q (token us d j y z) (token vs c i w x) =
-    let s : us ≡ vs = lexer.one_list text us vs y w in
-    let e = one_of_tokens (lexemes_of text vs) d c j i (subst (λ ws. IsTokensFault (lexemes_of text ws) d j) s z) x in
-    at_same d c (line_of text j) (line_of text i) (e.0, ap (line_of text) e.1)
-
 pub one_refusal : OneRefusal
-one_refusal text kind other line place a b = same_at kind other line place
-    (one_fault text (faults.At kind line) (faults.At other place) kind other line place refl refl a b)
+one_refusal text k l m n (of_piece c i x) (of_piece d j y) =
+    let e = lexer.one_fault text c d m n x y in (ap piece_kind e.0, e.1)
+one_refusal text k l m n (of_piece c i x) (of_tokens us d j y z) = absurd (lexer.never_both text us c i y x)
+one_refusal text k l m n (of_tokens us d j y z) (of_piece c i x) = absurd (lexer.never_both text us c i y x)
+one_refusal text k l m n (of_tokens us c i x w) (of_tokens vs d j y z) =
+    let s : us ≡ vs = lexer.one_list text us vs x y in
+    let e = one_of_tokens (lexemes_of text vs) k l i j (subst (λ ws. IsTokensFault (lexemes_of text ws) k i) s w) z in
+    (e.0, ap (line_of text) e.1)

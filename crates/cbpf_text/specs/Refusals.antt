@@ -112,17 +112,21 @@ pub data IsTokensFault (ts : List Lexeme) : AsmKind → ℕ → Type 0 where
   of_items : (items : List Item) (kind : AsmKind) (at : ℕ) → Items ts items → IsAccepted ts
       → IsItemsFault items kind at → IsTokensFault ts kind at
 
--- the fault of the text: its first bad piece, and where there is none that of its tokens; out of memory says nothing
-pub data IsRefused (text : List ℕ) : AsmFault → Type 0 where
-  memory : IsRefused text faults.Memory
-  piece : (bad : BadPiece) (line : ℕ) → IsFirstBad text bad line → IsRefused text (faults.At (piece_kind bad) line)
-  token : (tokens : List Token) (kind : AsmKind) (at : ℕ) → Lexes text tokens
-      → IsTokensFault (lexemes_of text tokens) kind at → IsRefused text (faults.At kind (line_of text at))
+-- why a text is refused, and the line: its first bad piece, and where there is none the fault of its tokens
+pub data IsTextFault (text : List ℕ) : AsmKind → ℕ → Type 0 where
+  of_piece : (bad : BadPiece) (line : ℕ) → IsFirstBad text bad line → IsTextFault text (piece_kind bad) line
+  of_tokens : (tokens : List Token) (kind : AsmKind) (at : ℕ) → Lexes text tokens
+      → IsTokensFault (lexemes_of text tokens) kind at → IsTextFault text kind (line_of text at)
+
+-- the fault is that of the text; out of memory says nothing
+abbrev pub IsRefused : List ℕ → AsmFault → Type 0
+IsRefused text faults.Memory = Unit {0}
+IsRefused text (faults.At kind line) = IsTextFault text kind line
 
 -- what `tokens` reports of a text that has none
-pub data IsLexRefused (text : List ℕ) : AsmFault → Type 0 where
-  memory : IsLexRefused text faults.Memory
-  piece : (bad : BadPiece) (line : ℕ) → IsFirstBad text bad line → IsLexRefused text (faults.At (piece_kind bad) line)
+abbrev pub IsLexRefused : List ℕ → AsmFault → Type 0
+IsLexRefused text faults.Memory = Unit {0}
+IsLexRefused text (faults.At kind line) = (bad : BadPiece) × (kind ≡ piece_kind bad) × IsFirstBad text bad line
 
 -- the refusal has this cause; out of memory says nothing
 abbrev pub Reported : (AsmKind → ℕ → Type 0) → PlacedFault → Type 0

@@ -1,7 +1,6 @@
 use Rattle.std.proofs.Common.{rules, ◌≡◌, ℕ, List, Option, Bool, ◌≤◌, ◌<◌, ◌+◌, ◌∙◌, Some, [], refl, sym, ap}
 use Rattle.std.proofs.Common.{subst, length, drop, arith}
 use Rattle.std.specs.Prelude.{IfSome, IfNone}
-use Rattle.std.proofs.lemmas.Result.{err_from_is_err_and}
 use Rattle.cbpf_syntax.specs.Tokens.{IsLexFault}
 use Rattle.indexmap.specs.IndexMap.{get}
 use Rattle.cbpf_syntax.specs.declared.reader.Step.{Step}
@@ -16,7 +15,6 @@ use Rattle.cbpf_syntax.specs.Steps.{Stuck}
 use Rattle.cbpf_syntax.proofs.Steps.{end_stuck}
 use Rattle.cbpf_text.specs.declared.fault.AsmKind.TheVariants as kinds
 use Rattle.cbpf_text.specs.declared.placed_fault.PlacedFault.TheVariants as placed
-use Rattle.cbpf_text.specs.Refusals.IsRefused.{memory}
 use Rattle.cbpf_text.proofs.Faults.{lex_refused, IsState, state_init, state_step, state_stuck}
 use Rattle.cbpf_text.proofs.Faults.{state_items, state_lexemes, label_state, item_state, whole_refused}
 use Rattle.cbpf_text.proofs.Faults.{all_accepted, items_large_refused}
@@ -32,18 +30,6 @@ returns-in-Err-clause-refused g c =
     let inv = c.loop-next.invariant in
     lex_refused c.args.text.now c.asm_fault.result (c.asm_fault.ensures c.args.text.now
     (subst (λ u. IsLexFault u c.in-Err.fault) inv.text (c.in-Err.ensures.fault _ inv.state.reading)))
-
-pub returns-in_err-add_label-in-Some-Label-clause-refused : goal.returns-in_err-add_label-in-Some-Label-clause-refused
-returns-in_err-add_label-in-Some-Label-clause-refused g c =
-    let p = err_from_is_err_and c.from_residual.result c.from_residual.ensures.1 in
-    rw (p.1, p.2) memory
-
-pub returns-in_err-add_instruction-in-Some-Instruction-clause-refused :
-    goal.returns-in_err-add_instruction-in-Some-Instruction-clause-refused
-returns-in_err-add_instruction-in-Some-Instruction-clause-refused g c =
-    let p = err_from_is_err_and c.from_residual-in_err-add_instruction-in-Some-Instruction.result
-    c.from_residual-in_err-add_instruction-in-Some-Instruction.ensures.1 in
-    rw (p.1, p.2) memory
 
 -- the state after a step, and what the step says of the tokens
 abbrev Stepped : List ℕ → Ahead → Option ℕ → List Statement → Option ℕ → (Name → Option ℕ) → Bool → Option Step → Type 0
