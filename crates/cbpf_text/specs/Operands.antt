@@ -2,6 +2,7 @@
 -- Documentation/networking/filter: numbers, extensions' names and labels.
 use Rattle.std.specs.Prelude.{◌≡◌, ℕ, true, Contains, ◌-◌, ◌%◌, ◌^◌, List, [], ◌∷◌, Option, Some, None, bytes_eq}
 use Rattle.std.specs.Prelude.{if◌then◌else◌}
+use Rattle.std.specs.Option.{unwrap_or}
 use Rattle.cbpf_code.specs.declared.extension.Ext.{Ext}
 use Rattle.cbpf_code.specs.Extension.{ext_table, ext_name}
 use Rattle.cbpf_syntax.specs.Classes.{Class}
@@ -33,15 +34,11 @@ value_at extension (number n) = None
 value_at extension (mark b) = None
 value_at name s = None
 
-abbrev pub first_of : Option ℕ → ℕ → ℕ
-first_of None n = n
-first_of (Some v) n = v
-
 -- the literal of tokens at their classes, of which a form has at most one: its value, or 0
 abbrev pub literal_of : List Class → List Lexeme → ℕ
 literal_of [] ts = 0
 literal_of (c ∷ cs) [] = 0
-literal_of (c ∷ cs) (t ∷ ts) = first_of (value_at c t.symbol) (literal_of cs ts)
+literal_of (c ∷ cs) (t ∷ ts) = unwrap_or (value_at c t.symbol) (literal_of cs ts)
 
 abbrev pub literal_in : Item → ℕ
 literal_in item = literal_of (classes item.row) item.body

@@ -103,11 +103,7 @@ fn make_statement<'a>(row: Row, body: &[Lexeme<'a>]) -> Statement<'a>
             // Most tokens are marks.
             Class::Mark(_) => {}
             Class::Name => put_target(&mut statement, token),
-            class => {
-                if let Some(value) = value_at(class, token.symbol) {
-                    statement.literal = value;
-                }
-            }
+            class => statement.literal = value_at(class, token.symbol).unwrap_or(statement.literal),
         }
     }
     statement
