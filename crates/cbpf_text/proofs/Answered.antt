@@ -1,12 +1,12 @@
 -- Each text assembles or is refused at a line: its labels and targets are looked up one by one.
+use Rattle.std.proofs.lemmas.List.Elements.{All-nil, All-cons}
+use Rattle.std.proofs.lemmas.Option.{slice_get_within, get_or_from_slice_get}
 use Rattle.std.proofs.Common.{◌≡◌, refl, sym, ◌∙◌, ap, subst, ℕ, zero, suc, ◌+◌, ◌-◌, ◌<◌, ◌≤◌, Bool, true, false}
 use Rattle.std.proofs.Common.{List, [], ◌∷◌, ◌++◌, length, map, Option, Some, None, ◌⊎◌, inl, inr, arith, append_assoc}
 use Rattle.std.proofs.Common.{append-nil}
 use Rattle.std.specs.Prelude.{slice_get, All}
 use Rattle.std.proofs.lemmas.Bool.{cases_lt}
-use Rattle.std.proofs.lemmas.List.Elements.{All-append}
 use Rattle.cbpf_syntax.specs.Tokens.{line_of}
-use Rattle.cbpf_syntax.proofs.Cuts.{some-same}
 use Rattle.cbpf_syntax.proofs.EachLexed.{each_lexed}
 use Rattle.cbpf_code.specs.declared.insn.Insn.{Insn}
 use Rattle.cbpf_code.specs.Opcode.{code_of}
@@ -35,7 +35,6 @@ use Rattle.cbpf_text.specs.Refusals.IsTokensFault.{of_grammar, of_items}
 use Rattle.cbpf_text.specs.Refusals.IsTextFault.{of_piece, of_tokens}
 use Rattle.cbpf_text.specs.Tables.{labels_from, place_among, IsLookup}
 use Rattle.cbpf_text.specs.Laws.{EachAnswered}
-use Rattle.cbpf_text.proofs.Lists.{all_none, all_one, all_front, all_after}
 use Rattle.cbpf_text.proofs.LabelLists.{distinct_more, lookup_found}
 use Rattle.cbpf_text.proofs.Forms.{use_of, good_use, items_forms}
 use Rattle.cbpf_text.proofs.Faults.{tokens_assembled}
@@ -121,7 +120,7 @@ bad_first is u us kind f = (
     u = u;
     after = us;
     split = refl;
-    good = all_none (IsGoodUse is);
+    good = All-nil (IsGoodUse is);
     bad = f;
     place = refl;
   },
@@ -136,7 +135,7 @@ bad_later is u us g b = (
     u = b.2.u;
     after = b.2.after;
     split = ap (λ vs. u ∷ vs) b.2.split;
-    good = All-append (IsGoodUse is) (u ∷ []) b.2.before (all_one (IsGoodUse is) u g) b.2.good;
+    good = All-cons (IsGoodUse is) u b.2.before g b.2.good;
     bad = b.2.bad;
     place = b.2.place;
   },
@@ -196,9 +195,8 @@ all_encoded all index (i ∷ is) p =
 
 -- each item has a mnemonic
 form_at : (is : List Item) (k : ℕ) (item : Item) → All HasForm is → slice_get is k ≡ Some item → HasForm item
-form_at [] k item f e = let z : ◌≡◌ {A = Option Item} None (Some item) = e in cc
-form_at (i ∷ is) zero item f e = subst HasForm (some-same i item e) (all_front HasForm i is f)
-form_at (i ∷ is) (suc k) item f e = form_at is k item (all_after HasForm i is f) e
+form_at is k item f e =
+    subst HasForm (get_or_from_slice_get is k item item e) (f k item (slice_get_within is k item e))
 
 body_some : (c : Class) (cs : List Class) (ts : List Lexeme) → fits_all (c ∷ cs) ts ≡ true → 0 < length ts
 body_some c cs [] e = let z : false ≡ true = e in cc
@@ -220,7 +218,7 @@ many_items is f l =
     )
 
 counted_items : (is : List Item) → HasProgramLength is → ItemsAnswer is
-counted_items is n = elim (labels_once [] (set_labels is) (all_none (λ t. times_among [] (name_of t) ≡ 1))) [
+counted_items is n = elim (labels_once [] (set_labels is) (All-nil (λ t. times_among [] (name_of t) ≡ 1))) [
   | inr r ↦ inr (kinds.LabelSetTwice, r.0, set_twice r.0 n r.1)
   | inl d ↦ elim (each_placed is (uses_from 0 is) d) [
     | inl b ↦ inr (b.0, b.1, bad_use b.0 b.1 n d b.2)

@@ -1,10 +1,10 @@
 -- The instructions of a list of items, one by one.
+use Rattle.std.proofs.lemmas.List.Elements.{All-nil, All-cons, All-head, All-tail, All-append, All-take}
 use Rattle.std.proofs.lemmas.Grind.{common_steps}
 use Rattle.std.proofs.Common.{rules, ◌≡◌, refl, sym, ◌∙◌, ap, subst, ℕ, zero, suc, ◌+◌, ◌<◌, Bool, true, false}
-use Rattle.std.proofs.Common.{List, [], ◌∷◌, ◌++◌, length, map, take, drop, get_or, arith, eqb-true}
+use Rattle.std.proofs.Common.{List, [], ◌∷◌, ◌++◌, length, map, take, get_or, arith, eqb-true}
 use Rattle.std.specs.Prelude.{All, ◌==◌, ◌||◌}
 use Rattle.std.proofs.lemmas.List.{append_assoc, take_more, length-take-le}
-use Rattle.std.proofs.lemmas.List.Elements.{All-append}
 use Rattle.cbpf_code.specs.declared.insn.Insn.{Insn}
 use Rattle.cbpf_syntax.specs.declared.table.Fields.{Fields}
 use Rattle.cbpf_syntax.specs.declared.table.Fields.TheVariants.{Constant, Goto, Branch, Swapped}
@@ -18,12 +18,11 @@ use Rattle.cbpf_text.specs.declared.placed_fault.PlacedFault.{PlacedFault}
 use Rattle.cbpf_syntax.proofs.Steps.{some_known}
 use Rattle.cbpf_text.specs.declared.draft.Statement.{Statement}
 use Rattle.cbpf_text.specs.Drafts.{IsStatement, AreStatements}
-use Rattle.cbpf_text.proofs.Lists.{all_none, all_one, all_front, all_after, all_prefix, split_at}
 use Rattle.cbpf_text.proofs.Forms.{takes, form_takes, use_of, good_use, reported_more}
 
 none_of : (is : List Item) (index : ℕ) (short : Bool) (ts : List Lexeme) → (length ts == 0) ≡ true
     → All (IsGoodUse is) (map (use_of index short) ts)
-none_of is index short ts h1 = grind (arith, common_steps, all_none, eqb-true)
+none_of is index short ts h1 = grind (arith, common_steps, All-nil, eqb-true)
 
 neither : (a b : Bool) → (a ≡ true → ⊥) → (b ≡ true → ⊥) → (a || b) ≡ true → ⊥
 neither a b h1 h2 h3 = search (rules)
@@ -32,30 +31,29 @@ fields_good : (is : List Item) (index : ℕ) (f : Fields) (k : ℕ) (ts : List L
     → FillsFields f is index k ts insn → takes f (length ts) ≡ true
     → All (IsGoodUse is) (map (use_of index (is_conditional f)) ts)
 fields_good is index Constant k ts insn p e = none_of is index false ts e
-fields_good is index Goto k (t ∷ []) insn p e = all_one (IsGoodUse is) (use_of index false t)
-    (good_use is index t insn.k false p.2 (λ z. let c : false ≡ true = z in cc))
+fields_good is index Goto k (t ∷ []) insn p e = All-cons (IsGoodUse is) (use_of index false t) []
+    (good_use is index t insn.k false p.2 (λ z. let c : false ≡ true = z in cc)) (All-nil (IsGoodUse is))
 fields_good is index Goto k (t ∷ u ∷ ts) insn p e = search (rules, eqb-true)
-fields_good is index Branch k (t ∷ []) insn p e =
-    all_one (IsGoodUse is) (use_of index true t) (good_use is index t insn.jt true p.0.is (λ z. p.0.short))
-fields_good is index Branch k (t ∷ u ∷ []) insn p e =
-    All-append (IsGoodUse is) (use_of index true t ∷ []) (use_of index true u ∷ [])
-    (all_one (IsGoodUse is) (use_of index true t) (good_use is index t insn.jt true p.0.is (λ z. p.0.short)))
-    (all_one (IsGoodUse is) (use_of index true u) (good_use is index u insn.jf true p.1.is (λ z. p.1.short)))
+fields_good is index Branch k (t ∷ []) insn p e = All-cons (IsGoodUse is) (use_of index true t) []
+    (good_use is index t insn.jt true p.0.is (λ z. p.0.short)) (All-nil (IsGoodUse is))
+fields_good is index Branch k (t ∷ u ∷ []) insn p e = All-cons (IsGoodUse is) (use_of index true t) (use_of index true u ∷ [])
+    (good_use is index t insn.jt true p.0.is (λ z. p.0.short)) (All-cons (IsGoodUse is) (use_of index true u) []
+    (good_use is index u insn.jf true p.1.is (λ z. p.1.short)) (All-nil (IsGoodUse is)))
 fields_good is index Branch k (t ∷ u ∷ v ∷ ts) insn p e = search (rules, neither, eqb-true)
-fields_good is index Swapped k (t ∷ []) insn p e =
-    all_one (IsGoodUse is) (use_of index true t) (good_use is index t insn.jf true p.1.is (λ z. p.1.short))
+fields_good is index Swapped k (t ∷ []) insn p e = All-cons (IsGoodUse is) (use_of index true t) []
+    (good_use is index t insn.jf true p.1.is (λ z. p.1.short)) (All-nil (IsGoodUse is))
 fields_good is index Swapped k (t ∷ u ∷ ts) insn p e = search (rules, eqb-true)
-fields_good is index x k ts insn p e = all_none (IsGoodUse is)
+fields_good is index x k ts insn p e = All-nil (IsGoodUse is)
 
 -- where the instructions are the items', no target is refused
 pub good_uses : (all : List Item) (index : ℕ) (is : List Item) (insns : List Insn) → EncodeEach all index is insns
     → All HasForm is → All (IsGoodUse all) (uses_from index is)
-good_uses all index [] insns p f = all_none (IsGoodUse all)
+good_uses all index [] insns p f = All-nil (IsGoodUse all)
 good_uses all index (i ∷ is) [] p f = absurd p
 good_uses all index (i ∷ is) (insn ∷ insns) p f =
     All-append (IsGoodUse all) (uses_of index i) (uses_from (index + 1) is)
     (fields_good all index i.row.fields (literal_in i) (targets_in i) insn p.0.fields
-    (form_takes i (all_front HasForm i is f))) (good_uses all (index + 1) is insns p.1 (all_after HasForm i is f))
+    (form_takes i (All-head HasForm i is f))) (good_uses all (index + 1) is insns p.1 (All-tail HasForm i is f))
 
 each_more : (all : List Item) (k : ℕ) (is : List Item) (insns : List Insn) (item : Item) (insn : Insn)
     → EncodeEach all k is insns → IsEncoded all (k + length is) item insn
@@ -107,11 +105,10 @@ bad_among is i d insns r l f p h =
     let s = uses_split 0 is i d l in
     let z : 0 + i ≡ i = omega arith in
     let front = take i is in
-    let forms = all_prefix HasForm (take i is) (get_or is i d ∷ drop (suc i) is) (subst (All HasForm) (split_at is i d l) f) in
     reported_more (IsFirstBadUse is (uses_of i (get_or is i d))) (IsFirstBadUse is (uses_from 0 is)) r
     (λ kind at b. subst (λ us. IsFirstBadUse is us kind at)
     (sym (s.1 ∙ ap (λ n. uses_from 0 front ++ (uses_of n (get_or is i d) ++ s.0)) z))
-    (bad_after is (uses_from 0 front) (uses_of i (get_or is i d)) s.0 kind at (good_uses is 0 front insns p forms) b))
+    (bad_after is (uses_from 0 front) (uses_of i (get_or is i d)) s.0 kind at (good_uses is 0 front insns p (All-take HasForm i is f)) b))
     h
 
 -- the statements of items, one by one

@@ -1,4 +1,5 @@
 -- Items by their forms: how many targets each has, and its mnemonic.
+use Rattle.std.proofs.lemmas.List.Elements.{All-nil, All-cons}
 use Rattle.std.proofs.Common.{◌≡◌, refl, ◌∙◌, ap, ℕ, zero, suc, ◌+◌, Bool, true, false, List, [], ◌∷◌, ◌++◌, length}
 use Rattle.std.proofs.Common.{drop, arith, rules, sym, subst, ◌-◌, ◌<◌, ◌≤◌, map, Option, Some, None}
 use Rattle.std.specs.Prelude.{All, Contains, ◌==◌, ◌||◌, slice_get}
@@ -21,7 +22,6 @@ use Rattle.cbpf_text.specs.Refusals.{Use, IsGoodUse, IsFirstBadUse, IsTargetFaul
 use Rattle.cbpf_text.specs.declared.placed_fault.PlacedFault.{PlacedFault}
 use Rattle.cbpf_text.specs.Refusals.IsUseFault.{not_set, not_after, too_far}
 use Rattle.cbpf_text.specs.Tables.{IsLookup}
-use Rattle.cbpf_text.proofs.Lists.{all_none, all_one}
 use Rattle.cbpf_text.proofs.LabelLists.{one_place}
 use Rattle.cbpf_text.specs.declared.draft.Target.{Target}
 use Rattle.cbpf_text.specs.Drafts.{IsTarget, AreTargets, IsStatement}
@@ -111,7 +111,7 @@ first_bad is index short (t ∷ ts) kind at f = record {
   u = use_of index short t;
   after = map (use_of index short) ts;
   split = refl;
-  good = all_none (IsGoodUse is);
+  good = All-nil (IsGoodUse is);
   bad = f.0;
   place = f.1;
 }
@@ -125,7 +125,7 @@ second_bad is index (t ∷ u ∷ ts) n kind at o f = record {
   u = use_of index true u;
   after = map (use_of index true) ts;
   split = refl;
-  good = all_one (IsGoodUse is) (use_of index true t) (good_use is index t n true o.is (λ e. o.short));
+  good = All-cons (IsGoodUse is) (use_of index true t) [] (good_use is index t n true o.is (λ e. o.short)) (All-nil (IsGoodUse is));
   bad = f.0;
   place = f.1;
 }

@@ -1,15 +1,14 @@
 -- Labels in a list, how often each is set, and where.
+use Rattle.std.proofs.lemmas.List.Elements.{All-push}
 use Rattle.std.proofs.Common.{rules, ◌≡◌, ◌≢◌, refl, sym, ◌∙◌, ap, subst, cond, ℕ, suc, ◌+◌, ◌<◌, Bool, true, false}
 use Rattle.std.proofs.Common.{List, [], ◌∷◌, ◌++◌, length, get_or, Option, Some, None, arith, append_assoc, zero}
 use Rattle.std.specs.Prelude.{bytes_eq, is_some}
-use Rattle.std.proofs.lemmas.List.Elements.{All-append}
 use Rattle.std.proofs.lemmas.List.Sums.{sum_by-append}
 use Rattle.cbpf_syntax.specs.Lexemes.{Lexeme}
 use Rattle.cbpf_syntax.proofs.Apart.{equal_bytes, bytes_eq_self}
 use Rattle.cbpf_text.specs.Labels.{name_of, times_among, AreDistinct, set_labels, times_set, SetsAt}
 use Rattle.cbpf_text.specs.Drafts.{words, AreSet}
 use Rattle.cbpf_text.specs.Tables.{Label, place_among, labels_of, labels_from, IsLookup}
-use Rattle.cbpf_text.proofs.Lists.{all_one}
 use Rattle.std.proofs.lemmas.List.{map-append}
 use Rattle.cbpf_syntax.specs.Items.{Item}
 use Rattle.cbpf_text.specs.declared.name.Name.{Name}
@@ -32,9 +31,8 @@ times_hit t name e = rw e refl
 -- one more label of a new name
 pub distinct_more : (ts : List Lexeme) (t : Lexeme) → AreDistinct ts → times_among ts (name_of t) ≡ 0
     → AreDistinct (ts ++ (t ∷ []))
-distinct_more ts t h z = All-append (λ u. times_among (ts ++ (t ∷ [])) (name_of u) ≡ 1) ts (t ∷ [])
-    (λ k d l. old (get_or ts k d) (h k d l) (bytes_eq (name_of t) (name_of (get_or ts k d))) refl)
-    (all_one (λ u. times_among (ts ++ (t ∷ [])) (name_of u) ≡ 1) t new)
+distinct_more ts t h z = All-push (λ u. times_among (ts ++ (t ∷ [])) (name_of u) ≡ 1) ts t
+    (λ k d l. old (get_or ts k d) (h k d l) (bytes_eq (name_of t) (name_of (get_or ts k d))) refl) new
   where
     new : times_among (ts ++ (t ∷ [])) (name_of t) ≡ 1
     new = omega (arith, times_append ts (t ∷ []) (name_of t), z, times_hit t (name_of t) (bytes_eq_self (name_of t)))

@@ -1,4 +1,3 @@
-pub mod Lists
 pub mod Operands
 pub mod LabelLists
 pub mod Forms

@@ -1,8 +1,8 @@
 -- The listing of a checked program assembles to the plain forms of its instructions.
+use Rattle.std.proofs.lemmas.Option.{slice_get_within, get_or_from_slice_get}
 use Rattle.std.proofs.Common.{◌≡◌, ℕ, suc, ◌+◌, ◌<◌, ◌≤◌, List, [], ◌∷◌, length, map, refl, ap, sym, subst}
 use Rattle.std.proofs.Common.{arith, inl, inr, Some}
 use Rattle.std.specs.Prelude.{All, slice_get, Ok, Err}
-use Rattle.std.proofs.lemmas.Option.{get_or_from_slice_get}
 use Rattle.cbpf_code.specs.declared.insn.Insn.{Insn}
 use Rattle.cbpf_code.specs.declared.opcode.Op.{Op}
 use Rattle.cbpf_code.specs.declared.opcode.Op.TheVariants.{Alu, Ja, Jump}
@@ -19,7 +19,6 @@ use Rattle.cbpf_code.specs.Listing.{listing}
 use Rattle.cbpf_text.specs.declared.fault.AsmFault.TheVariants.{Memory, At}
 use Rattle.cbpf_text.specs.Assembled.{Assembles, AssembleTokens, AreEncoded}
 use Rattle.cbpf_text.specs.Laws.{ListingAssembles, ListingAnswers}
-use Rattle.cbpf_text.proofs.Lists.{get_within}
 use Rattle.cbpf_text.proofs.OneAssembly.{one_assembly, never_both}
 use Rattle.cbpf_text.proofs.ListedTokens.{lexemes_at, lexemes_spelled, no_large_negative}
 use Rattle.cbpf_text.proofs.ListedNumbers.{Places}
@@ -43,7 +42,7 @@ lists all i (insn ∷ insns) sound range here =
     let at : slice_get all i ≡ Some insn = rw z at (here 0 insn refl) in
     let known = sound_known all i insn sound at in
     let allowed = sound_allowed all i insn known.0 sound at known.1 in
-    let inside : i < length all = get_within all i insn at in
+    let inside : i < length all = slice_get_within all i insn at in
     lists_line (length all) i insn known.0 insns known.1 (sound_few all sound) inside
     (rw (get_or_from_slice_get all i insn insn at) at (range i insn inside))
     (targets_inside (length all) i insn known.0 allowed.targets)

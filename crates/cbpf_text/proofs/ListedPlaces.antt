@@ -1,15 +1,14 @@
 -- Items that are labelled by their numbers: each label is set once, by its item.
+use Rattle.std.proofs.lemmas.List.Elements.{All-nil, All-cons, All-append}
 use Rattle.std.proofs.Common.{◌∙◌, Bool, rules, ◌≡◌, ℕ, zero, suc, ◌+◌, ◌^◌, ◌<◌, ◌≤◌, true, false, List, [], ◌∷◌, length}
 use Rattle.std.proofs.Common.{refl, sym, subst, arith, ◌⊎◌, inl, inr, ◌++◌, map, ap, append_assoc}
 use Rattle.std.proofs.Common.{append-nil, lit<, Some}
 use Rattle.std.specs.Prelude.{decimal, All, is_some}
 use Rattle.std.proofs.lemmas.Fmt.{decimal_injective}
-use Rattle.std.proofs.lemmas.List.Elements.{All-append}
 use Rattle.cbpf_syntax.specs.Lexemes.{Lexeme}
 use Rattle.cbpf_syntax.specs.Items.{Item, Form, Items, names_at}
 use Rattle.cbpf_syntax.proofs.Apart.{equal_bytes, bytes_eq_self}
 use Rattle.cbpf_text.specs.Labels.{name_of, set_labels, times_among, times_set, AreDistinct, SetsAt}
-use Rattle.cbpf_text.proofs.Lists.{all_one, all_none}
 use Rattle.cbpf_text.proofs.LabelLists.{times_append, times_miss, times_hit}
 use Rattle.cbpf_text.proofs.ListedNumbers.{label_name, Places, label_fits, label_segment, is_label_segment}
 use Rattle.std.specs.List.{flat_map, enumerate_from}
@@ -114,9 +113,9 @@ Numbered to t = (m : ℕ) × (m < to) × (name_of t ≡ label_name m)
 
 numbered : (i to : ℕ) (items : List Item) → i + length items ≤ to → AreLabelled i items
     → All (Numbered to) (set_labels items)
-numbered i to [] l h = all_none (Numbered to)
+numbered i to [] l h = All-nil (Numbered to)
 numbered i to (item ∷ items) l h =
-    let one : All (Numbered to) (h.0.label ∷ []) = all_one (Numbered to) h.0.label (i, omega arith, h.0.named) in
+    let one = All-cons (Numbered to) h.0.label [] (i, omega arith, h.0.named) (All-nil (Numbered to)) in
     let front : All (Numbered to) item.labels = subst (All (Numbered to)) (sym h.0.only) one in
     All-append (Numbered to) item.labels (set_labels items) front (numbered (i + 1) to items (omega arith) h.1)
 

@@ -1,4 +1,6 @@
 -- A text assembles to at most one list of instructions.
+use Rattle.std.proofs.lemmas.List.Elements.{All-contains, Contains-append_right}
+use Rattle.std.proofs.lemmas.Option.{slice_get_within}
 use Rattle.std.proofs.Common.{rules, ◌≡◌, refl, sym, ◌∙◌, subst, ℕ, ◌+◌, List, [], ◌∷◌, Option, Some, None, arith}
 use Rattle.std.proofs.Common.{◌≢◌, ap, ◌<◌, ◌++◌, length}
 use Rattle.std.specs.Prelude.{All}
@@ -21,7 +23,6 @@ use Rattle.cbpf_text.specs.Refusals.{IsGoodUse, IsItemsFault, IsTokensFault}
 use Rattle.cbpf_text.specs.Refusals.IsItemsFault.{no_item, too_many, set_twice, bad_use}
 use Rattle.cbpf_text.specs.Refusals.IsTokensFault.{of_grammar, of_items}
 use Rattle.cbpf_text.specs.Refusals.IsTextFault.{of_piece, of_tokens}
-use Rattle.cbpf_text.proofs.Lists.{get_within, all_front, all_after}
 use Rattle.cbpf_text.proofs.Forms.{items_forms}
 use Rattle.cbpf_text.proofs.Encoding.{good_uses}
 use Rattle.cbpf_syntax.proofs.Outcomes as lexer
@@ -61,8 +62,8 @@ one_assembly text xs ys a b = let e : a.tokens ≡ b.tokens = one_list text a.to
 -- A text that assembles isn't refused.
 
 pub all_middle : {A : Type 0} (P : A → Type 0) (xs : List A) (x : A) (ys : List A) → All P (xs ++ (x ∷ ys)) → P x
-all_middle P [] x ys h = all_front P x ys h
-all_middle P (z ∷ xs) x ys h = all_middle P xs x ys (all_after P z (xs ++ (x ∷ ys)) h)
+all_middle P xs x ys h =
+    All-contains P (xs ++ (x ∷ ys)) x h (Contains-append_right xs (x ∷ ys) x (0, omega arith, refl))
 
 pub no_repeat : (before : List Lexeme) (t : Lexeme) (after : List Lexeme) → AreDistinct (before ++ (t ∷ after))
     → times_among before (name_of t) ≢ 0 → ⊥
@@ -73,7 +74,7 @@ not_items : (is : List Item) (insns : List Insn) (kind : AsmKind) (at : ℕ) →
     → IsItemsFault is kind at → ⊥
 not_items is insns kind at f e (no_item p) = let z : length is ≡ 0 = ap length p in
     absurd (omega (arith, z, e.limits.some))
-not_items is insns kind at f e (too_many p x) = let l : 4096 < length is = get_within is 4096 x.item x.found in
+not_items is insns kind at f e (too_many p x) = let l : 4096 < length is = slice_get_within is 4096 x.item x.found in
     absurd (omega (arith, l, e.limits.most))
 not_items is insns kind at f e (set_twice p n r) =
     no_repeat r.before r.label r.after (subst AreDistinct r.split e.distinct) r.given

@@ -1,4 +1,5 @@
 -- A text has at most one refusal with a line.
+use Rattle.std.proofs.lemmas.Option.{slice_get_within}
 use Rattle.std.proofs.Common.{rules}
 use Rattle.std.proofs.Common.{◌≡◌, refl, sym, ◌∙◌, ap, subst, ℕ, ◌<◌, List, [], ◌∷◌, ◌++◌, length, arith}
 use Rattle.cbpf_syntax.proofs.Outcomes as lexer
@@ -19,7 +20,6 @@ use Rattle.cbpf_text.specs.Refusals.IsItemsFault.{no_item, too_many, set_twice, 
 use Rattle.cbpf_text.specs.Refusals.IsTextFault.{of_piece, of_tokens}
 use Rattle.cbpf_text.specs.Laws.{OneRefusal}
 use Rattle.cbpf_text.specs.Assembled.{HasProgramLength}
-use Rattle.cbpf_text.proofs.Lists.{get_within}
 use Rattle.cbpf_text.proofs.LabelLists.{distinct_once, sets_some, one_place}
 use Rattle.cbpf_text.proofs.OneAssembly.{all_middle, no_repeat}
 
@@ -78,11 +78,11 @@ empty : (is : List Item) → is ≡ [] → HasProgramLength is → ⊥
 empty is e s = let z : length is ≡ 0 = ap length e in omega (arith, z, s.some)
 
 long : (is : List Item) (m : ℕ) → IsExcess is m → HasProgramLength is → ⊥
-long is m x s = let h : 4096 < length is = get_within is 4096 x.item x.found in omega (arith, h, s.most)
+long is m x s = let h : 4096 < length is = slice_get_within is 4096 x.item x.found in omega (arith, h, s.most)
 
 of_length : (is : List Item) (m : ℕ) → is ≡ [] → IsExcess is m → ⊥
 of_length is m e x =
-    let h : 4096 < length is = get_within is 4096 x.item x.found in
+    let h : 4096 < length is = slice_get_within is 4096 x.item x.found in
     let z : length is ≡ 0 = ap length e in
     omega (arith, h, z)
 
