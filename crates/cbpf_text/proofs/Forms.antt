@@ -1,7 +1,7 @@
 -- Items by their forms: how many targets each has, and its mnemonic.
 use Rattle.std.proofs.lemmas.List.Elements.{All-nil, All-cons}
 use Rattle.std.proofs.Common.{◌≡◌, refl, ◌∙◌, ap, ℕ, zero, suc, ◌+◌, Bool, true, false, List, [], ◌∷◌, ◌++◌, length}
-use Rattle.std.proofs.Common.{drop, arith, rules, sym, subst, ◌-◌, ◌<◌, ◌≤◌, map, Option, Some, None}
+use Rattle.std.proofs.Common.{drop, arith, rules, sym, subst, ◌≤◌, map, Option, Some, None}
 use Rattle.std.specs.Prelude.{All, Contains, ◌==◌, ◌||◌, slice_get}
 use Rattle.std.specs.List.{list_all}
 use Rattle.std.proofs.lemmas.Bool.{and_parts}
@@ -21,12 +21,10 @@ use Rattle.cbpf_text.specs.Assembled.{IsShortOffset, IsOffset, IsEncoded}
 use Rattle.cbpf_text.specs.Refusals.{Use, IsGoodUse, IsFirstBadUse, IsTargetFault, Reported, uses_of, is_conditional}
 use Rattle.cbpf_text.specs.declared.placed_fault.PlacedFault.{PlacedFault}
 use Rattle.cbpf_text.specs.Refusals.IsUseFault.{not_set, not_after, too_far}
-use Rattle.cbpf_text.specs.Tables.{IsLookup}
 use Rattle.cbpf_text.proofs.LabelLists.{one_place}
 use Rattle.cbpf_text.specs.declared.draft.Target.{Target}
 use Rattle.cbpf_text.specs.Drafts.{IsTarget, AreTargets, IsStatement}
 use Rattle.cbpf_text.specs.declared.draft.Statement.{Statement}
-use Rattle.cbpf_text.specs.declared.fault.AsmKind.TheVariants as kinds
 use Rattle.cbpf_text.specs.declared.placed_fault.PlacedFault.TheVariants as placed
 
 abbrev one_if : Class → ℕ
@@ -131,49 +129,10 @@ second_bad is index (t ∷ u ∷ ts) n kind at o f = record {
 }
 second_bad is index x n kind at o f = absurd f
 
--- what a look-up says of a target
-pub found_after : (is : List Item) (word : List ℕ) (index place : ℕ) (o : Option ℕ) → IsLookup is word o
-    → o ≡ Some place → index < place → IsPlace is word (index + 1 + (place - index - 1))
-found_after is word index place o h1 h2 h3 = search (rules)
-
-pub found_before : (is : List Item) (index : ℕ) (short : Bool) (t : Lexeme) (place : ℕ) (o : Option ℕ)
-    → IsLookup is (name_of t) o → o ≡ Some place → place ≤ index
-    → IsTargetFault is index short (Some t) kinds.NotAfter t.at
-found_before is index short t place o l e h =
-    let p : IsPlace is (name_of t) place = subst (IsLookup is (name_of t)) e l in
-    (not_after place p.sets h, refl)
-
-pub found_nowhere : (is : List Item) (index : ℕ) (short : Bool) (t : Lexeme) (o : Option ℕ)
-    → IsLookup is (name_of t) o → o ≡ None → IsTargetFault is index short (Some t) kinds.LabelNotSet t.at
-found_nowhere is index short t o l e = (not_set (subst (IsLookup is (name_of t)) e l), refl)
-
-pub found_far : (is : List Item) (index : ℕ) (t : Lexeme) (n : ℕ) → IsPlace is (name_of t) (index + 1 + n) → 255 < n
-    → IsTargetFault is index true (Some t) kinds.TooFar t.at
-found_far is index t n p h = (too_far (index + 1 + n) p.sets refl (omega (arith, h)), refl)
-
 pub reported_more : (P Q : AsmKind → ℕ → Type 0) (r : PlacedFault)
     → ((kind : AsmKind) (at : ℕ) → P kind at → Q kind at) → Reported P r → Reported Q r
 reported_more P Q placed.Memory f p = p
 reported_more P Q (placed.At kind at) f p = f kind at p
-
-pub first_reported : (is : List Item) (index : ℕ) (item : Item) (f : Fields) (o : Option Lexeme) (r : PlacedFault)
-    → item.row.fields ≡ f → o ≡ slice_get (targets_in item) 0
-    → Reported (IsTargetFault is index (is_conditional f) o) r → Reported (IsFirstBadUse is (uses_of index item)) r
-first_reported is index item f o r e t h =
-    reported_more (IsTargetFault is index (is_conditional f) o) (IsFirstBadUse is (uses_of index item)) r
-    (λ kind at p. first_bad is index (is_conditional item.row.fields) (targets_in item) kind at
-    (subst (λ (q : Option Lexeme). IsTargetFault is index (is_conditional item.row.fields) q kind at) t
-    (subst (λ (g : Fields). IsTargetFault is index (is_conditional g) o kind at) (sym e) p))) h
-
-pub second_reported : (is : List Item) (index : ℕ) (item : Item) (o q : Option Lexeme) (n : ℕ) (r : PlacedFault)
-    → item.row.fields ≡ Branch → o ≡ slice_get (targets_in item) 0 → q ≡ slice_get (targets_in item) 1
-    → IsShortOffset is index o n → Reported (IsTargetFault is index true q) r
-    → Reported (IsFirstBadUse is (uses_of index item)) r
-second_reported is index item o q n r e t u s h =
-    reported_more (IsTargetFault is index true q) (IsFirstBadUse is (uses_of index item)) r (λ kind at p.
-    subst (λ (g : Fields). IsFirstBadUse is (map (use_of index (is_conditional g)) (targets_in item)) kind at) (sym e)
-    (second_bad is index (targets_in item) n kind at (subst (λ (v : Option Lexeme). IsShortOffset is index v n) t s)
-    (subst (λ (v : Option Lexeme). IsTargetFault is index true v kind at) u p))) h
 
 -- The targets of a statement: they are those of its item.
 
@@ -189,25 +148,56 @@ has_second ls n s t h1 h2 = search (rules)
 pub no_second : (ls : List Lexeme) (n : ℕ) (s t : Target) → (n ≡ 2 → ⊥) → AreTargets n s t ls → None ≡ slice_get ls 1
 no_second ls n s t h1 h2 = search (rules)
 
-pub first_target : (item : Item) (s : Statement) (f : Fields) → IsStatement s item → HasForm item → s.fields ≡ f
+first_target : (item : Item) (s : Statement) (f : Fields) → IsStatement s item → HasForm item → s.fields ≡ f
     → (f ≡ Constant → ⊥) → (l : Lexeme) × (Some l ≡ slice_get (targets_in item) 0) × IsTarget s.first l
 first_target item s f h form e jumps = has_first item.row.fields (targets_in item) s.targets s.first s.second
     (λ z. jumps (sym e ∙ (h.fields ∙ z))) (form_takes item form) h.targets
 
-pub goto_encoded : (is : List Item) (index : ℕ) (item : Item) (s : Statement) (d : ℕ) (l : Lexeme)
-    → IsStatement s item → s.fields ≡ Goto → Some l ≡ slice_get (targets_in item) 0 → IsOffset is index (Some l) d
-    → IsEncoded is index item (record { code = s.code; jt = 0; jf = 0; k = d })
-goto_encoded is index item s d l h1 h2 h3 h4 = search (rules)
+-- what is found or refused of a statement's targets is found or refused of the item's
+module _ (is : List Item) (index : ℕ) (item : Item) (s : Statement) (h : IsStatement s item) (form : HasForm item) where
+  pub first_refused : (f : Fields) (r : PlacedFault) → s.fields ≡ f → (f ≡ Constant → ⊥)
+      → ((l : Lexeme) → IsTarget s.first l → Reported (IsTargetFault is index (is_conditional f) (Some l)) r)
+      → Reported (IsFirstBadUse is (uses_of index item)) r
+  first_refused f r e jumps refused =
+      let t = first_target item s f h form e jumps in
+      reported_more (IsTargetFault is index (is_conditional f) (Some t.0)) (IsFirstBadUse is (uses_of index item)) r
+      (λ kind at p. first_bad is index (is_conditional item.row.fields) (targets_in item) kind at
+      (subst (λ (o : Option Lexeme). IsTargetFault is index (is_conditional item.row.fields) o kind at) t.1
+      (subst (λ (g : Fields). IsTargetFault is index (is_conditional g) (Some t.0) kind at) (sym e ∙ h.fields) p)))
+      (refused t.0 t.2)
 
-pub swapped_encoded : (is : List Item) (index : ℕ) (item : Item) (s : Statement) (d : ℕ) (l : Lexeme)
-    → IsStatement s item → s.fields ≡ Swapped → Some l ≡ slice_get (targets_in item) 0
-    → IsShortOffset is index (Some l) d
-    → IsEncoded is index item (record { code = s.code; jt = 0; jf = d; k = s.literal })
-swapped_encoded is index item s d l h1 h2 h3 h4 = search (rules)
+  pub second_refused : (n : ℕ) (r : PlacedFault) → s.fields ≡ Branch → s.targets ≡ 2
+      → ((l : Lexeme) → IsTarget s.first l → IsShortOffset is index (Some l) n)
+      → ((l : Lexeme) → IsTarget s.second l → Reported (IsTargetFault is index true (Some l)) r)
+      → Reported (IsFirstBadUse is (uses_of index item)) r
+  second_refused n r e two found refused =
+      let t = first_target item s Branch h form e (λ z. let k : Branch ≡ Constant = z in cc) in
+      let u = has_second (targets_in item) s.targets s.first s.second two h.targets in
+      let o : IsShortOffset is index (slice_get (targets_in item) 0) n = rw (← t.1) (found t.0 t.2) in
+      reported_more (IsTargetFault is index true (Some u.0)) (IsFirstBadUse is (uses_of index item)) r
+      (λ kind at p. rw (sym h.fields ∙ e) (second_bad is index (targets_in item) n kind at o (rw (← u.1) p)))
+      (refused u.0 u.2)
 
--- a conditional jump without a second target
-pub branch_encoded : (is : List Item) (index : ℕ) (item : Item) (s : Statement) (d : ℕ) (l : Lexeme)
-    → IsStatement s item → s.fields ≡ Branch → Some l ≡ slice_get (targets_in item) 0
-    → IsShortOffset is index (Some l) d → (s.targets ≡ 2 → ⊥)
-    → IsEncoded is index item (record { code = s.code; jt = d; jf = 0; k = s.literal })
-branch_encoded is index item s d l h1 h2 h3 h4 h5 = search (rules, no_second)
+  pub goto_encoded : (d : ℕ) → s.fields ≡ Goto → ((l : Lexeme) → IsTarget s.first l → IsOffset is index (Some l) d)
+      → IsEncoded is index item (record { code = s.code; jt = 0; jf = 0; k = d })
+  goto_encoded d e found =
+      let t = first_target item s Goto h form e (λ z. let k : Goto ≡ Constant = z in cc) in
+      let o = found t.0 t.2 in
+      search (rules)
+
+  pub swapped_encoded : (d : ℕ) → s.fields ≡ Swapped
+      → ((l : Lexeme) → IsTarget s.first l → IsShortOffset is index (Some l) d)
+      → IsEncoded is index item (record { code = s.code; jt = 0; jf = d; k = s.literal })
+  swapped_encoded d e found =
+      let t = first_target item s Swapped h form e (λ z. let k : Swapped ≡ Constant = z in cc) in
+      let o = found t.0 t.2 in
+      search (rules)
+
+  -- a conditional jump without a second target
+  pub branch_encoded : (d : ℕ) → s.fields ≡ Branch → (s.targets ≡ 2 → ⊥)
+      → ((l : Lexeme) → IsTarget s.first l → IsShortOffset is index (Some l) d)
+      → IsEncoded is index item (record { code = s.code; jt = d; jf = 0; k = s.literal })
+  branch_encoded d e one found =
+      let t = first_target item s Branch h form e (λ z. let k : Branch ≡ Constant = z in cc) in
+      let o = found t.0 t.2 in
+      search (rules, no_second)

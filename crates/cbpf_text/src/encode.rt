@@ -27,10 +27,10 @@ fn distance<A: Allocator>(
     index: u32,
     target: &Target<'_>,
 ) -> Result<u32, PlacedFault>
-    ensures found { (is : List items.Item) (label : lexemes.Lexeme) → IsTarget target.now label →
-        Resolves is (λ k. get same_name labels.now k) → IfOk result (IsOffset is index (Some label)) }
-    ensures refused { (is : List items.Item) (short : Bool) (label : lexemes.Lexeme) → IsTarget target.now label →
-        Resolves is (λ k. get same_name labels.now k) →
+    ensures found { (is : List items.Item) → Resolves is (λ k. get same_name labels.now k) →
+        (label : lexemes.Lexeme) → IsTarget target.now label → IfOk result (IsOffset is index (Some label)) }
+    ensures refused { (is : List items.Item) (short : Bool) → Resolves is (λ k. get same_name labels.now k) →
+        (label : lexemes.Lexeme) → IsTarget target.now label →
         IfErr result (Reported (IsTargetFault is index short (Some label))) }
 {
     match labels.get(&target.name) {
@@ -51,11 +51,11 @@ fn short_offset<A: Allocator>(
     index: u32,
     target: &Target<'_>,
 ) -> Result<u8, PlacedFault>
-    ensures found { (is : List items.Item) (label : lexemes.Lexeme) → IsTarget target.now label →
-        Resolves is (λ k. get same_name labels.now k) → IfOk result (IsShortOffset is index (Some label)) }
-    ensures refused { (is : List items.Item) (label : lexemes.Lexeme) → IsTarget target.now label →
-        Resolves is (λ k. get same_name labels.now k)
-        → IfErr result (Reported (IsTargetFault is index true (Some label))) }
+    ensures found { (is : List items.Item) → Resolves is (λ k. get same_name labels.now k) →
+        (label : lexemes.Lexeme) → IsTarget target.now label → IfOk result (IsShortOffset is index (Some label)) }
+    ensures refused { (is : List items.Item) → Resolves is (λ k. get same_name labels.now k) →
+        (label : lexemes.Lexeme) → IsTarget target.now label →
+        IfErr result (Reported (IsTargetFault is index true (Some label))) }
 {
     let distance = distance(labels, index, target)?;
     if distance > FARTHEST {
