@@ -1,7 +1,7 @@
 -- Items that are labelled by their numbers: each label is set once, by its item.
 use Rattle.std.proofs.lemmas.List.Elements.{All-nil, All-cons, All-append}
 use Rattle.std.proofs.Common.{◌∙◌, Bool, rules, ◌≡◌, ℕ, zero, suc, ◌+◌, ◌^◌, ◌<◌, ◌≤◌, true, false, List, [], ◌∷◌, length}
-use Rattle.std.proofs.Common.{refl, sym, subst, arith, ◌⊎◌, inl, inr, ◌++◌, map, ap, append_assoc}
+use Rattle.std.proofs.Common.{refl, sym, subst, arith, inl, inr, ◌++◌, map, ap, append_assoc}
 use Rattle.std.proofs.Common.{append-nil, lit<, Some}
 use Rattle.std.specs.Prelude.{decimal, All, is_some}
 use Rattle.std.proofs.lemmas.Fmt.{decimal_injective}
@@ -12,7 +12,7 @@ use Rattle.cbpf_text.specs.Labels.{name_of, set_labels, times_among, times_set, 
 use Rattle.cbpf_text.proofs.LabelLists.{times_append, times_miss, times_hit}
 use Rattle.cbpf_text.proofs.ListedNumbers.{label_name, Places, label_fits, label_segment, is_label_segment}
 use Rattle.std.specs.List.{flat_map, enumerate_from}
-use Rattle.std.proofs.lemmas.Bool.{and_parts, and_from}
+use Rattle.std.proofs.lemmas.Bool.{and_parts, and_from, cases_lt}
 use Rattle.cbpf_code.specs.declared.insn.Insn.{Insn}
 use Rattle.cbpf_code.specs.declared.opcode.Op.{Op}
 use Rattle.cbpf_code.specs.Opcode.{op_of}
@@ -63,30 +63,24 @@ times_elsewhere : (i m : ℕ) (item : Item) → i < 2 ^ 64 → m < 2 ^ 64 → Is
 times_elsewhere i m item h1 h2 h3 h4 = search (rules, times_miss, label_name, label_differs, equal_bytes)
 
 -- how often the items set a label
-times_before : (i m : ℕ) (items : List Item) → i + length items < 2 ^ 64 → AreLabelled i items → m < i
-    → times_set items (label_name m) ≡ 0
-times_before i m [] l h b = refl
-times_before i m (item ∷ items) l h b =
-    let x = times_elsewhere i m item (omega arith) (omega arith) h.0 (λ e. omega (arith, e, b)) in
-    let y : times_set items (label_name m) ≡ 0 = times_before (i + 1) m items (omega arith) h.1 (omega arith) in
-    omega (arith, times_append item.labels (set_labels items) (label_name m), x, y)
-
-here_or_later : (i m : ℕ) → i ≤ m → (i ≡ m) ⊎ (i < m)
-here_or_later i m h = grind arith
-
-times_inside : (i m : ℕ) (items : List Item) → i + length items < 2 ^ 64 → AreLabelled i items → i ≤ m
-    → m < i + length items → times_set items (label_name m) ≡ 1
-times_inside i m [] l h a b = absurd (omega arith)
-times_inside i m (item ∷ items) l h a b = elim (here_or_later i m a) [
-  | inl e ↦
-      let x : times_among item.labels (label_name m) ≡ 1 = times_here i m item h.0 e in
-      let y = times_before (i + 1) m items (omega arith) h.1 (omega (arith, e)) in
-      omega (arith, times_append item.labels (set_labels items) (label_name m), x, y)
-  | inr g ↦
-      let x = times_elsewhere i m item (omega arith) (omega arith) h.0 (λ e. omega (arith, e, g)) in
-      let y = times_inside (i + 1) m items (omega arith) h.1 (omega arith) (omega arith) in
-      omega (arith, times_append item.labels (set_labels items) (label_name m), x, y)
-]
+times_set_here : (i m : ℕ) (items : List Item) → i + length items < 2 ^ 64 → AreLabelled i items
+    → (m < i → times_set items (label_name m) ≡ 0)
+    × (i ≤ m → m < i + length items → times_set items (label_name m) ≡ 1)
+times_set_here i m [] l h = (λ b. refl, λ a b. absurd (omega arith))
+times_set_here i m (item ∷ items) l h =
+    let more = times_set_here (i + 1) m items (omega arith) h.1 in
+    let sum = times_append item.labels (set_labels items) (label_name m) in (
+      λ b. omega (arith, sum, times_elsewhere i m item (omega arith) (omega arith) h.0 (λ e. omega (arith, e, b)), more.0),
+      λ a b. elim (cases_lt i m) [
+        | inl g ↦ omega (
+          arith,
+          sum,
+          times_elsewhere i m item (omega arith) (omega arith) h.0 (λ e. omega (arith, e, g)),
+          more.1 (omega arith) (omega arith),
+        )
+        | inr g ↦ omega (arith, sum, times_here i m item h.0 (omega arith), more.0 (omega arith))
+      ],
+    )
 
 -- which item sets a label
 sets_at : (i m : ℕ) (items : List Item) → AreLabelled i items → m < length items → SetsAt items m (label_name (i + m))
@@ -103,7 +97,7 @@ pub labels_place : (items : List Item) → length items ≤ 4096 → AreLabelled
 labels_place items few h m l =
     let z : 0 + m ≡ m = omega arith in
     record {
-      once = times_inside 0 m items (omega arith) h (omega arith) (omega arith);
+      once = (times_set_here 0 m items (omega arith) h).1 (omega arith) (omega arith);
       sets = rw z at (sets_at 0 m items h l);
     }
 
@@ -123,7 +117,7 @@ pub labels_distinct_by_number : (items : List Item) → length items ≤ 4096 �
     → AreDistinct (set_labels items)
 labels_distinct_by_number items few h k d l =
     let n = numbered 0 (length items) items (omega arith) h k d l in
-    rw n.2 (times_inside 0 n.0 items (omega arith) h (omega arith) (omega (arith, n.1)))
+    rw n.2 ((times_set_here 0 n.0 items (omega arith) h).1 (omega arith) (omega (arith, n.1)))
 
 -- The lines of a listing as segments, whose tokens are the items of the instructions.
 

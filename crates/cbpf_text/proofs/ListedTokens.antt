@@ -93,16 +93,12 @@ newline = blank 10 ∷ []
 name_before : (ss us : List Segment) → ends_name (ss ++ (blank 10 ∷ us)) ≡ ends_name (ss ++ newline)
 name_before [] us = refl
 name_before (blank b ∷ ss) us = refl
-name_before (word b bs ∷ ss) us = refl
-name_before (number b bs n ∷ ss) us = refl
-name_before (mark b ∷ ss) us = refl
+name_before ss us = refl
 
 blank_before : (ss us : List Segment) → ends_blank (ss ++ (blank 10 ∷ us)) ≡ ends_blank (ss ++ newline)
 blank_before [] us = refl
 blank_before (blank b ∷ ss) us = refl
-blank_before (word b bs ∷ ss) us = refl
-blank_before (number b bs n ∷ ss) us = refl
-blank_before (mark b ∷ ss) us = refl
+blank_before ss us = refl
 
 pub ends_before : (ss us : List Segment) → ends_name (ss ++ newline) ≡ true → ends_name (ss ++ (blank 10 ∷ us)) ≡ true
 ends_before ss us e = name_before ss us ∙ e
