@@ -117,7 +117,7 @@ words_from k [] = refl
 words_from k (i ∷ is) = map-append (λ (l : Label). l.word) (labels_of k i.labels) (labels_from (k + 1) is)
     ∙ (λ j. words_of k i.labels j ++ words_from (k + 1) is j)
 
-is_some_false : (o : Option ℕ) → false ≡ is_some o → o ≡ None
+pub is_some_false : (o : Option ℕ) → false ≡ is_some o → o ≡ None
 is_some_false None e = refl
 is_some_false (Some x) e = let k : false ≡ true = e in cc
 
