@@ -1,4 +1,4 @@
-mod ContentsLemmas
+mod HoldsLemmas
 mod EvenLemmas
 mod ReachLemmas
 pub mod SavefileLemmas

@@ -1,11 +1,11 @@
 -- A walk from record to record.
-use Rattle.std.proofs.Common.{◌≡◌, ℕ, zero, suc, ◌+◌, ◌-◌, ◌<◌, ◌≤◌, List, [], ◌∷◌, length, drop, take, arith, ap, refl, add-one}
+use Rattle.std.proofs.Common.{◌≡◌, ℕ, zero, suc, ◌+◌, ◌-◌, ◌<◌, ◌≤◌, List, [], ◌∷◌, length, drop, take, arith, refl, add-one}
 use Rattle.std.specs.Prelude.{Some, None, slice_get}
 use Rattle.pcap_classic.specs.declared.endianness.Endianness.{Endianness}
-use Rattle.pcap_classic.specs.Index.{IsWalk}
+use Rattle.pcap_classic.specs.Index.{IsWalk, Reaches}
 use Rattle.pcap_classic.specs.Records.{Record}
 use Rattle.pcap_classic.specs.Scan.{contents}
-use Rattle.pcap_classic.proofs.ReachLemmas.{stands, after}
+use Rattle.pcap_classic.proofs.ReachLemmas.{after}
 
 pub nothing_left : {X : Type 0} (xs : List X) → slice_get xs 0 ≡ None → xs ≡ []
 nothing_left [] h = refl
@@ -44,11 +44,9 @@ goes order file place number end r walk first =
     let head = is_first (contents order file).records (number - 1) (end - 1) r first in
     let before : number < end = omega (arith, head.before) in
     let one = walk.from_one before in
-    let there = stands order file (number - 1) r walk.long head.is in
-    let is : r.number ≡ number = omega (arith, one, ap (λ (x : Record). x.number) there.1.is) in
-    let same : number - 1 ≡ r.number - 1 = omega (arith, is) in
-    let next = after order file r walk.long (rw same at head.is) in
+    let there = after order file (number - 1) r walk.long head.is in
     let on : number - 1 + 1 ≡ number + 1 - 1 = omega (arith, one) in
+    let next : Reaches order file (number + 1 - 1) (r.start + 16 + length r.bytes) = rw on at there.there in
     record {
       left = rw on at head.left;
       walk = record {
@@ -56,7 +54,7 @@ goes order file place number end r walk first =
         ordered = omega (arith, before);
         within = walk.within;
         from_one = λ h. omega arith;
-        there = λ h. let past : number + 1 - 1 ≡ r.number = omega (arith, is) in rw past next.there;
+        there = λ h. next;
       };
-      inside = next.there.inside;
+      inside = next.inside;
     }

@@ -1,6 +1,7 @@
 -- What the index of a capture says of its bytes: it is a matter of this crate alone, and no public clause names it.
 use Rattle.std.specs.Prelude.{◌≡◌, ℕ, ◌+◌, ◌-◌, ◌*◌, ◌≤◌, ◌<◌, ◌^◌, List, length, drop, slice_index}
-use Rattle.pcap_classic.specs.Scan.{contents, contents_from}
+use Rattle.pcap_classic.specs.Records.{Holds}
+use Rattle.pcap_classic.specs.Scan.{contents}
 use Rattle.pcap_classic.specs.declared.endianness.Endianness.{Endianness}
 use Rattle.pcap_classic.specs.declared.ending.Ending.{Ending}
 use Rattle.pcap_classic.specs.declared.ending.Ending.TheVariants.{Whole, CutHeader, CutData}
@@ -10,9 +11,9 @@ use Rattle.pcap_classic.specs.declared.front.Front.TheVariants.{Nothing, PartOfH
 -- the record after the first i ones stands at this place of the file, or would if there were one more
 pub record Reaches (order : Endianness) (file : List ℕ) (i place : ℕ) : Type 0 where
   pub inside : place ≤ length file
-  pub records : drop i (contents order file).records ≡ (contents_from order (i + 1) place (drop place file)).records
-  pub ending : (contents order file).ending ≡ (contents_from order (i + 1) place (drop place file)).ending
   pub passed : i ≤ length (contents order file).records
+  pub rest : Holds order (i + 1) place (drop place file) (drop i (contents order file).records)
+      (contents order file).ending
 
 -- the starts are the places of the records 1, 65, 129 and so on of the first `count` ones
 pub record AreKept (order : Endianness) (file : List ℕ) (starts : List ℕ) (count : ℕ) : Type 0 where

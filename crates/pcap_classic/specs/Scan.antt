@@ -30,35 +30,25 @@ pub record Contents : Type 0 where
   pub records : List Record
   pub ending : Ending
 
-abbrev pub no_record : Ending → Contents
-no_record how = record { records = []; ending = how }
-
-abbrev pub record_before : Record → Contents → Contents
-record_before r rest = record { records = r ∷ rest.records; ending = rest.ending }
-
 -- the contents of bytes that stand at a place of the file, by what they begin with, where the last
 -- argument gives the contents after a whole record of this length
 abbrev pub by_front : Front → ℕ → Record → (ℕ → Contents) → Contents
-by_front Nothing place r rest = no_record Whole
-by_front PartOfHeader place r rest = no_record (CutHeader place)
-by_front PartOfData place r rest = no_record (CutData place)
-by_front (WholeRecord size) place r rest = record_before r (rest size)
+by_front Nothing place r rest = record { records = []; ending = Whole }
+by_front PartOfHeader place r rest = record { records = []; ending = CutHeader place }
+by_front PartOfData place r rest = record { records = []; ending = CutData place }
+by_front (WholeRecord size) place r rest = record { records = r ∷ (rest size).records; ending = (rest size).ending }
 
 -- the contents of bytes that stand at a place of the file, the next record having number n. A record
 -- takes at least one byte, so `most` is large enough where there are at most that many bytes
 unfoldable pub contents_within : ℕ → Endianness → ℕ → ℕ → List ℕ → Contents
-contents_within zero order n place bytes = no_record Whole
+contents_within zero order n place bytes = record { records = []; ending = Whole }
 contents_within (suc most) order n place bytes =
     by_front (front_of order bytes) place (record_at order n place bytes)
     (λ size. contents_within most order (n + 1) (place + size) (drop size bytes))
 
--- the contents of bytes that stand at a place of the file, the next record having number n
-abbrev pub contents_from : Endianness → ℕ → ℕ → List ℕ → Contents
-contents_from order n place bytes = contents_within (length bytes) order n place bytes
-
 -- the contents of a file, after its header of 24 bytes
 abbrev pub contents : Endianness → List ℕ → Contents
-contents order file = contents_from order 1 24 (drop 24 file)
+contents order file = contents_within (length file) order 1 24 (drop 24 file)
 
 -- the byte order in which the first four bytes are one of the magic numbers, and whether it is that of nanoseconds
 abbrev pub magic_of : List ℕ → Option Magic
@@ -87,11 +77,3 @@ abbrev pub savefile_with : FileHeader → List ℕ → Savefile
 savefile_with header file =
     let after = contents header.magic.order file in
     record { nanos = header.magic.nanos; link = header.link; records = after.records; ending = after.ending }
-
-abbrev pub savefile_by_header : Result FileHeader CaptureFault → List ℕ → Result Savefile CaptureFault
-savefile_by_header (Ok header) file = Ok (savefile_with header file)
-savefile_by_header (Err fault) file = Err fault
-
--- the capture that a file holds, or the first reason why it holds none
-abbrev pub savefile_of : List ℕ → Result Savefile CaptureFault
-savefile_of file = savefile_by_header (header_of file) file

@@ -5,30 +5,31 @@ use Rattle.pcap_classic.proofs.capture.Capture.following.Goals as goal
 pub overflow_add-place : goal.overflow_add-place
 overflow_add-place g c =
     let own = rw (← c.self.view_is) at c.requires in
-    let next = after _ _ _ c.self.invariant.1.long own in
+    let next = after _ _ _ _ c.self.invariant.1.long own in
     omega (arith, next.there.inside)
 
 pub overflow_add-place-2 : goal.overflow_add-place-2
 overflow_add-place-2 g c =
     let own = rw (← c.self.view_is) at c.requires in
-    let next = after _ _ _ c.self.invariant.1.long own in
+    let next = after _ _ _ _ c.self.invariant.1.long own in
     omega (arith, next.there.inside)
 
 pub overflow_add-item : goal.overflow_add-item
 overflow_add-item g c =
     let own = rw (← c.self.view_is) at c.requires in
-    let next = after _ _ _ c.self.invariant.1.long own in
-    omega (arith, next.within, c.self.invariant.1.counted, c.self.invariant.1.few)
+    let next = after _ _ _ _ c.self.invariant.1.long own in
+    omega (arith, next.number, next.there.passed, c.self.invariant.1.counted, c.self.invariant.1.few)
 
 pub record_at-requires-clause-within : goal.record_at-requires-clause-within
 record_at-requires-clause-within g c =
     let own = rw (← c.self.view_is) at c.requires in
-    let next = after _ _ _ c.self.invariant.1.long own in
-    rw c.as_slice.ensures.value (omega (arith, next.within, c.self.invariant.1.counted, c.if-item-self.false))
+    let next = after _ _ _ _ c.self.invariant.1.long own in
+    rw c.as_slice.ensures.value
+    (omega (arith, next.number, next.there.passed, c.self.invariant.1.counted, c.if-item-self.false))
 
 pub record_at-requires-clause-there : goal.record_at-requires-clause-there
 record_at-requires-clause-there g c =
-    let number : c.args.item.now.number + 1 - 1 ≡ c.args.item.now.number = omega arith in
     let own = rw (← c.self.view_is) at c.requires in
-    let next = after _ _ _ c.self.invariant.1.long own in
-    rw (c.as_slice.ensures.value, number) next.there
+    let next = after _ _ _ _ c.self.invariant.1.long own in
+    let number : c.args.item.now.number - 1 + 1 ≡ c.args.item.now.number + 1 - 1 = omega (arith, next.number) in
+    rw c.as_slice.ensures.value (rw number at next.there)

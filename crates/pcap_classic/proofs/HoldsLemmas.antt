@@ -1,0 +1,79 @@
+-- What some bytes hold, by what they begin with.
+use Rattle.std.proofs.Common.{◌≡◌, ℕ, zero, suc, ◌+◌, ◌≤◌, ◌<◌, List, [], ◌∷◌, length, drop, arith, refl, inl, inr}
+use Rattle.std.proofs.Common.{length-drop}
+use Rattle.std.proofs.lemmas.Bool.{cases_lt}
+use Rattle.std.proofs.lemmas.Bool.Decides.{nat_tests}
+use Rattle.pcap_classic.specs.declared.endianness.Endianness.{Endianness}
+use Rattle.pcap_classic.specs.declared.ending.Ending.{Ending}
+use Rattle.pcap_classic.specs.declared.front.Front.{Front}
+use Rattle.pcap_classic.specs.declared.front.Front.TheVariants.{PartOfHeader, PartOfData, WholeRecord}
+use Rattle.pcap_classic.specs.Index.{ending_by}
+use Rattle.pcap_classic.specs.Records.{Record, Holds, no_bytes, part_of_header, part_of_data, whole_record, record_at}
+use Rattle.pcap_classic.specs.Records.{record_length}
+use Rattle.pcap_classic.specs.Scan.{front_of, contents_within}
+
+front-header : (order : Endianness) (bytes : List ℕ) → 0 < length bytes → length bytes < 16
+    → front_of order bytes ≡ PartOfHeader
+front-header order bytes some short = grind (arith, nat_tests)
+
+front-data : (order : Endianness) (bytes : List ℕ) → 16 ≤ length bytes → length bytes < record_length order bytes
+    → front_of order bytes ≡ PartOfData
+front-data order bytes long cut = grind (arith, nat_tests)
+
+front-whole : (order : Endianness) (bytes : List ℕ) → record_length order bytes ≤ length bytes
+    → front_of order bytes ≡ WholeRecord (record_length order bytes)
+front-whole order bytes whole = grind (arith, nat_tests)
+
+-- what the function gives, the relation says
+pub contents-hold : (most : ℕ) (order : Endianness) (n place : ℕ) (bytes : List ℕ) → length bytes ≤ most
+    → Holds order n place bytes (contents_within most order n place bytes).records
+    (contents_within most order n place bytes).ending
+unfolding contents_within
+contents-hold zero order n place [] h = no_bytes
+contents-hold zero order n place (b ∷ bytes) h = absurd (omega arith)
+contents-hold (suc most) order n place [] h = no_bytes
+contents-hold (suc most) order n place (b ∷ rest) h =
+    let bytes : List ℕ = b ∷ rest in
+    elim (cases_lt (length bytes) 16) [
+      | inl short ↦ rw (front-header order bytes (omega arith) short) (part_of_header bytes (omega arith) short)
+      | inr long ↦ elim (cases_lt (length bytes) (record_length order bytes)) [
+        | inl cut ↦ rw (front-data order bytes long cut) (part_of_data bytes long cut)
+        | inr whole ↦
+            (let left = length-drop (record_length order bytes) bytes in
+            rw (front-whole order bytes whole)
+            (whole_record bytes whole (contents-hold most order _ _ _ (omega arith))))
+      ]
+    ]
+
+-- what the relation says where this is in front
+abbrev pub AtFront : Endianness → ℕ → ℕ → List ℕ → List Record → Ending → Front → Type 0
+AtFront order n place bytes rs how (WholeRecord size) = (size ≡ record_length order bytes) × (size ≤ length bytes)
+    × (rest : List Record) × (rs ≡ record_at order n place bytes ∷ rest)
+    × Holds order (n + 1) (place + size) (drop size bytes) rest how
+AtFront order n place bytes rs how front = (rs ≡ []) × (how ≡ ending_by front place)
+
+pub at_front : (order : Endianness) (n place : ℕ) (bytes : List ℕ) (rs : List Record) (how : Ending)
+    → Holds order n place bytes rs how → AtFront order n place bytes rs how (front_of order bytes)
+at_front order n place _ _ _ no_bytes = (refl, refl)
+at_front order n place _ _ _ (part_of_header bytes a b) = rw (front-header order bytes a b) (refl, refl)
+at_front order n place _ _ _ (part_of_data bytes a b) = rw (front-data order bytes a b) (refl, refl)
+at_front order n place _ _ _ (whole_record bytes a h) = rw (front-whole order bytes a) (refl, a, _, refl, h)
+
+-- before the last record a whole one is in front
+pub more-whole : (order : Endianness) (n place : ℕ) (bytes : List ℕ) (rs : List Record) (how : Ending)
+    → Holds order n place bytes rs how → 0 < length rs → front_of order bytes ≡ WholeRecord (record_length order bytes)
+more-whole order n place _ _ _ (whole_record bytes a h) some = front-whole order bytes a
+more-whole order n place _ _ _ _ some = absurd (omega arith)
+
+-- some bytes hold one list of records alone
+pub holds-once : (order : Endianness) (n place : ℕ) (bytes : List ℕ) (rs rs' : List Record) (how how' : Ending)
+    → Holds order n place bytes rs how → Holds order n place bytes rs' how' → (rs' ≡ rs) × (how' ≡ how)
+holds-once order n place _ _ rs' _ how' no_bytes k = at_front order n place [] rs' how' k
+holds-once order n place _ _ rs' _ how' (part_of_header bytes a b) k =
+    rw (front-header order bytes a b) at (at_front order n place bytes rs' how' k)
+holds-once order n place _ _ rs' _ how' (part_of_data bytes a b) k =
+    rw (front-data order bytes a b) at (at_front order n place bytes rs' how' k)
+holds-once order n place _ _ rs' how how' (whole_record bytes a h) k =
+    let there = rw (front-whole order bytes a) at (at_front order n place bytes rs' how' k) in
+    let rest = holds-once order _ _ _ _ there.2 how how' h there.4 in
+    (cc, rest.1)
