@@ -1,5 +1,4 @@
 mod HoldsLemmas
-mod EvenLemmas
 mod ReachLemmas
 pub mod SavefileLemmas
 mod WalkLemmas

@@ -25,9 +25,9 @@ pub record AreKept (order : Endianness) (file : List ℕ) (starts : List ℕ) (c
 pub record AreStarts (order : Endianness) (file : List ℕ) (starts : List ℕ) : Type 0 where
   pub each : (j : ℕ) → j < length starts → Reaches order file (64 * j) (slice_index starts j)
 
--- the records after the first `before` ones, at this place, up to the first `count` ones, have all this length
-pub record AreEven (order : Endianness) (file : List ℕ) (before place size count : ℕ) : Type 0 where
-  pub each : (i : ℕ) → before + i ≤ count → Reaches order file (before + i) (place + i * size)
+-- the first `count` records have all this length
+pub record AreEven (order : Endianness) (file : List ℕ) (size count : ℕ) : Type 0 where
+  pub each : (i : ℕ) → i ≤ count → Reaches order file i (24 + i * size)
 
 -- the number of records, the places of the records 1, 65, 129 and so on, and how the file ends
 pub record IsIndex (order : Endianness) (file : List ℕ) (count : ℕ) (starts : List ℕ) (how : Ending) : Type 0 where

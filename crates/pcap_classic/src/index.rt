@@ -91,7 +91,7 @@ fn pass_repeats(
     ensures few { 16 * result.count + 24 ≤ result.place }
     ensures kept { AreStarts order file.now starts.new.items }
     ensures on { from.place ≤ result.place }
-    ensures even { AreEven order file.now from.count from.place length result.count }
+    ensures even { from.count ≡ 0 → from.place ≡ 24 → AreEven order file.now length result.count }
     ensures all { spec.front_of order (drop result.place file.now) ≡ WholeRecord length → ⊥ }
 {
     let Passed {
@@ -159,7 +159,7 @@ fn start_after(
     requires ahead { from.count ≤ count }
     requires within { count ≤ length (spec.contents order file.now).records }
     requires kept { AreStarts order file.now starts.now }
-    requires even { AreEven order file.now 0 24 run.length run.count }
+    requires even { AreEven order file.now run.length run.count }
     ensures { Reaches order file.now count result }
 {
     if count <= run.count {
@@ -187,7 +187,7 @@ fn starts_of<A: Allocator>(
     requires count { count ≡ length (spec.contents order file.now).records }
     requires few { count < 2 ^ 60 }
     requires kept { AreStarts order file.now starts.now }
-    requires even { AreEven order file.now 0 24 run.length run.count }
+    requires even { AreEven order file.now run.length run.count }
     ensures { IfOk result (λ all. AreKept order file.now all.items count) }
 {
     let room = (count + (STRIDE - 1)) / STRIDE;

@@ -1,6 +1,5 @@
-use Rattle.std.proofs.Common.{◌-◌, ◌+◌, ◌*◌, ◌≤◌, length}
-use Rattle.pcap_classic.specs.Index.{Reaches, AreStarts}
-use Rattle.pcap_classic.proofs.EvenLemmas.{EvenTo}
+use Rattle.std.proofs.Common.{◌≡◌, ◌-◌, ◌+◌, ◌*◌, ◌≤◌, length}
+use Rattle.pcap_classic.specs.Index.{Reaches, AreStarts, AreEven}
 use Rattle.pcap_classic.proofs.index.pass_repeats.Given as goal
 
 abbrev pub invariant-repeats : goal.invariant-repeats
@@ -10,7 +9,8 @@ invariant-repeats l =
       kept : AreStarts l.order l.file l.starts.items;
       few : 16 * l.count + 24 ≤ l.place;
       on : l.initial.place ≤ l.place;
-      even : EvenTo l.order l.file l.initial.count l.initial.place l.length l.count l.place;
+      even : l.initial.count ≡ 0 → l.initial.place ≡ 24
+          → (l.place ≡ 24 + l.count * l.length) × AreEven l.order l.file l.length l.count;
     }
 
 abbrev pub decreases-repeats : goal.decreases-repeats
