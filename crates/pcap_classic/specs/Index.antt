@@ -7,6 +7,7 @@ use Rattle.pcap_classic.specs.declared.ending.Ending.{Ending}
 use Rattle.pcap_classic.specs.declared.ending.Ending.TheVariants.{Whole, CutHeader, CutData}
 use Rattle.pcap_classic.specs.declared.front.Front.{Front}
 use Rattle.pcap_classic.specs.declared.front.Front.TheVariants.{Nothing, PartOfHeader, PartOfData, WholeRecord}
+use Rattle.pcap_classic.specs.declared.index.TheConstants.{STRIDE}
 
 -- the record after the first i ones stands at this place of the file, or would if there were one more
 pub record Reaches (order : Endianness) (file : List ℕ) (i place : ℕ) : Type 0 where
@@ -17,13 +18,13 @@ pub record Reaches (order : Endianness) (file : List ℕ) (i place : ℕ) : Type
 
 -- the starts are the places of the records 1, 65, 129 and so on of the first `count` ones
 pub record AreKept (order : Endianness) (file : List ℕ) (starts : List ℕ) (count : ℕ) : Type 0 where
-  pub enough : count ≤ 64 * length starts
-  pub no_more : 64 * length starts < count + 64
-  pub each : (j : ℕ) → j < length starts → Reaches order file (64 * j) (slice_index starts j)
+  pub enough : count ≤ STRIDE * length starts
+  pub no_more : STRIDE * length starts < count + STRIDE
+  pub each : (j : ℕ) → j < length starts → Reaches order file (STRIDE * j) (slice_index starts j)
 
 -- the starts are the places of the records 1, 65, 129 and so on, as far as they go
 pub record AreStarts (order : Endianness) (file : List ℕ) (starts : List ℕ) : Type 0 where
-  pub each : (j : ℕ) → j < length starts → Reaches order file (64 * j) (slice_index starts j)
+  pub each : (j : ℕ) → j < length starts → Reaches order file (STRIDE * j) (slice_index starts j)
 
 -- the first `count` records have all this length
 pub record AreEven (order : Endianness) (file : List ℕ) (size count : ℕ) : Type 0 where
