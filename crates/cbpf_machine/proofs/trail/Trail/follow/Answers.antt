@@ -1,12 +1,12 @@
 use Rattle.std.proofs.Common.{◌≡◌, ◌≤◌, ◌+◌, ◌∙◌, ◌-◌, length, arith, refl, sym, false}
+use Rattle.std.specs.Prelude.{None}
 use Rattle.cbpf_machine.specs.Core.{registers}
 use Rattle.cbpf_machine.specs.Machine.{machine_of}
 use Rattle.cbpf_machine.specs.Trace.{trace}
-use Rattle.cbpf_machine.specs.Follow.{Goes, Unpaused, is_watched}
-use Rattle.std.specs.Prelude.{Some, None, slice_get}
+use Rattle.cbpf_machine.specs.Follow.{is_watched}
 use Rattle.cbpf_machine.specs.Together.{Reaches}
 use Rattle.cbpf_machine.proofs.SoundLemmas.{sound_few}
-use Rattle.cbpf_machine.proofs.FollowLemmas.{entry_goes, few_entries, unpaused_next, came, ended, follows_on}
+use Rattle.cbpf_machine.proofs.FollowLemmas.{Comes, comes, entry_goes, few_entries, unpaused_next, ended}
 use Rattle.cbpf_machine.proofs.FollowLemmas.{reaches_fenced, reaches_within}
 use Rattle.cbpf_machine.proofs.trail.Trail.follow.Given.{Over}
 use Rattle.cbpf_machine.proofs.trail.Trail.follow.Goals.{After-pass-turns}
@@ -17,26 +17,30 @@ follow-init g c = record {
   sound = c.len-few.ensures.sound;
   from_one = c.requires.from_one;
   kept = omega arith;
-  here = rw (c.slots-slots.ensures, c.core-here.ensures) (entry_goes (machine_of c.args.p.now c.args.values.now) c.args.packet.bytes.now c.args.packet.wire (is_watched c.args.watched.now) c.len-few.ensures.sound _ _ c.requires.last);
+  here = rw (c.slots-slots.ensures, c.core-here.ensures)
+      (entry_goes _ _ _ c.len-few.ensures.sound _ _ c.requires.last);
   stands = c.requires.of_trace;
   unpaused = λ i s low high at. absurd (omega arith);
   state = refl;
   spent = omega arith;
 }
 
-reached : (g : Over) (c : After-pass-turns g) → Reaches (machine_of c.args.p.now c.args.values.now) c.args.packet.bytes.now c.args.packet.wire (is_watched c.args.watched.now) (trace (machine_of c.args.p.now c.args.values.now) c.args.packet.bytes.now c.args.packet.wire)
+reached : (g : Over) (c : After-pass-turns g)
+    → Reaches (machine_of c.args.p.now c.args.values.now) c.args.packet.bytes.now c.args.packet.wire
+    (is_watched c.args.watched.now)
+    (trace (machine_of c.args.p.now c.args.values.now) c.args.packet.bytes.now c.args.packet.wire)
     (g.Self.Trail.kept c.follow.self - 1) (registers c.pass-turns.new.s c.pass-turns.new.slots) c.pass-turns.result.0
     c.pass-turns.result.1 × (c.pass-turns.result.0 ≤ c.gap.result)
-reached g c = reaches_fenced (machine_of c.args.p.now c.args.values.now) c.args.packet.bytes.now c.args.packet.wire (is_watched c.args.watched.now) (g.Self.Trail.kept c.follow.self - 1)
-    (registers c.follow.here c.follow.slots) _ _ c.gap.result _ _ c.follow.invariant.sound c.pass-turns.ensures.some
-    c.gap.ensures.some (omega arith) c.follow.invariant.here (c.pass-turns.ensures.reaches (trace (machine_of c.args.p.now c.args.values.now) c.args.packet.bytes.now c.args.packet.wire) _ c.follow.invariant.here)
+reached g c = reaches_fenced c.gap.result (c.pass-turns.ensures.reaches _ _ c.follow.invariant.here)
+    c.follow.invariant.here c.follow.invariant.sound c.pass-turns.ensures.some c.gap.ensures.some (omega arith)
 
 within : (g : Over) (c : After-pass-turns g)
-    → (g.Self.Trail.kept c.follow.self + c.pass-turns.result.0 ≤ length (trace (machine_of c.args.p.now c.args.values.now) c.args.packet.bytes.now c.args.packet.wire) + 1) × (length (trace (machine_of c.args.p.now c.args.values.now) c.args.packet.bytes.now c.args.packet.wire) ≤ 4096)
+    → (g.Self.Trail.kept c.follow.self + c.pass-turns.result.0 ≤ length (trace (machine_of c.args.p.now c.args.values.now)
+    c.args.packet.bytes.now c.args.packet.wire) + 1)
+    × (length (trace (machine_of c.args.p.now c.args.values.now) c.args.packet.bytes.now c.args.packet.wire) ≤ 4096)
 within g c =
-    let h = reaches_within (machine_of c.args.p.now c.args.values.now) c.args.packet.bytes.now c.args.packet.wire (is_watched c.args.watched.now) (trace (machine_of c.args.p.now c.args.values.now) c.args.packet.bytes.now c.args.packet.wire) _ _ _ _ c.follow.invariant.sound c.pass-turns.ensures.some
-    (reached g c).0 in
-    (omega (arith, c.follow.invariant.from_one), few_entries (machine_of c.args.p.now c.args.values.now) c.args.packet.bytes.now c.args.packet.wire _ c.follow.invariant.sound)
+    let h = reaches_within _ (reached g c).0 c.follow.invariant.sound c.pass-turns.ensures.some in
+    (omega (arith, c.follow.invariant.from_one), few_entries _ _ _ _ c.follow.invariant.sound)
 
 pub add-requires : goal.add-requires
 add-requires g c =
@@ -45,15 +49,17 @@ add-requires g c =
 
 pub returns-in-Some-clause-follows : goal.returns-in-Some-clause-follows
 returns-in-Some-clause-follows g c =
-    rw c.follow.invariant.state (ended (machine_of c.args.p.now c.args.values.now) c.args.packet.bytes.now c.args.packet.wire (is_watched c.args.watched.now) c.follow.invariant.sound _ _ _ _ c.follow.invariant.from_one
-    c.pass-turns.ensures.some c.follow.invariant.unpaused _ _ _ c.from.ensures
-    (rw c.in-Some.is at (reached g (goal.at.returns-in-Some-clause-follows g c).After-pass-turns).0)).0
+    rw c.follow.invariant.state (ended _ _
+    (rw c.in-Some.is at (reached g (goal.at.returns-in-Some-clause-follows g c).After-pass-turns).0)
+    c.follow.invariant.unpaused c.follow.invariant.sound c.follow.invariant.from_one c.pass-turns.ensures.some
+    c.from.ensures).0
 
 pub returns-in-Some-clause-turns : goal.returns-in-Some-clause-turns
 returns-in-Some-clause-turns g c =
-    let end = (ended (machine_of c.args.p.now c.args.values.now) c.args.packet.bytes.now c.args.packet.wire (is_watched c.args.watched.now) c.follow.invariant.sound (g.Self.Trail.kept c.args.self.now) (g.Self.Trail.kept c.follow.self) _ _ c.follow.invariant.from_one
-    c.pass-turns.ensures.some c.follow.invariant.unpaused _ c.args.s.now _ c.from.ensures
-    (rw c.in-Some.is at (reached g (goal.at.returns-in-Some-clause-turns g c).After-pass-turns).0)).1 in
+    let end = (ended (g.Self.Trail.kept c.follow.self) c.args.s.now
+    (rw c.in-Some.is at (reached g (goal.at.returns-in-Some-clause-turns g c).After-pass-turns).0)
+    c.follow.invariant.unpaused c.follow.invariant.sound c.follow.invariant.from_one c.pass-turns.ensures.some
+    c.from.ensures).1 in
     omega (arith, c.follow.invariant.spent, c.follow.invariant.kept)
 
 pub keep-requires-clause-near : goal.keep-requires-clause-near
@@ -63,20 +69,18 @@ keep-requires-clause-near g c =
 
 -- and to another entry
 on : (g : Over) (c : After-pass-turns g) → c.pass-turns.result.1 ≡ None
-    → Unpaused (is_watched c.args.watched.now) (trace (machine_of c.args.p.now c.args.values.now) c.args.packet.bytes.now c.args.packet.wire) (g.Self.Trail.kept c.args.self.now)
-    (g.Self.Trail.kept c.follow.self + c.pass-turns.result.0 - 1)
-    × Goes (machine_of c.args.p.now c.args.values.now) c.args.packet.bytes.now c.args.packet.wire (trace (machine_of c.args.p.now c.args.values.now) c.args.packet.bytes.now c.args.packet.wire) (g.Self.Trail.kept c.follow.self + c.pass-turns.result.0 - 1) (registers c.pass-turns.new.s c.pass-turns.new.slots)
-    × (slice_get (trace (machine_of c.args.p.now c.args.values.now) c.args.packet.bytes.now c.args.packet.wire) (g.Self.Trail.kept c.follow.self + c.pass-turns.result.0 - 1) ≡ Some (registers c.pass-turns.new.s c.pass-turns.new.slots))
-    × (g.Self.Trail.kept c.follow.self + c.pass-turns.result.0 ≤ length (trace (machine_of c.args.p.now c.args.values.now) c.args.packet.bytes.now c.args.packet.wire))
-on g c is = came (machine_of c.args.p.now c.args.values.now) c.args.packet.bytes.now c.args.packet.wire (is_watched c.args.watched.now) c.follow.invariant.sound _ _ _ _ c.follow.invariant.from_one
-    c.pass-turns.ensures.some c.follow.invariant.unpaused (rw is at (reached g c).0)
+    → Comes (machine_of c.args.p.now c.args.values.now) c.args.packet.bytes.now c.args.packet.wire
+    (is_watched c.args.watched.now) (g.Self.Trail.kept c.args.self.now)
+    (g.Self.Trail.kept c.follow.self + c.pass-turns.result.0) (registers c.pass-turns.new.s c.pass-turns.new.slots)
+on g c is = comes (g.Self.Trail.kept c.follow.self) (rw is at (reached g c).0) c.follow.invariant.unpaused
+    c.follow.invariant.sound c.follow.invariant.from_one c.pass-turns.ensures.some
 
 pub keep-requires-clause-few : goal.keep-requires-clause-few
 keep-requires-clause-few g c =
     let at = (goal.at.keep-requires-clause-few g c).After-pass-turns in
     let to = on g at c.in_default.is in
     let few = within g at in
-    omega (arith, to.3, few.1)
+    omega (arith, to.within, few.1)
 
 pub overflow_add-made : goal.overflow_add-made
 overflow_add-made g c =
@@ -90,12 +94,16 @@ pauses_at-requires g c =
 
 pub returns-then-pauses_at-clause-follows : goal.returns-then-pauses_at-clause-follows
 returns-then-pauses_at-clause-follows g c =
-    rw c.of-state.ensures (follows_on (machine_of c.args.p.now c.args.values.now) c.args.packet.bytes.now c.args.packet.wire (is_watched c.args.watched.now) c.follow.invariant.sound
-    (g.Self.Trail.kept c.args.self.now) (g.Self.Trail.kept c.follow.self) _ _ c.follow.invariant.from_one
-    c.pass-turns.ensures.some c.follow.invariant.unpaused c.args.s.now _ (omega (arith, c.follow.invariant.kept))
-    (omega (arith, c.follow.invariant.kept))
-    (rw c.in_default.is at (reached g (goal.at.returns-then-pauses_at-clause-follows g c).After-pass-turns).0)
-    (rw c.of-state.ensures at (sym c.pauses_at.ensures ∙ c.if-pauses_at.true)))
+    let on = on g (goal.at.returns-then-pauses_at-clause-follows g c).After-pass-turns c.in_default.is in
+    let some = c.pass-turns.ensures.some in
+    let to : g.Self.Trail.kept c.args.self.now + (c.follow.made + c.pass-turns.result.0) - 1
+    ≡ g.Self.Trail.kept c.follow.self + c.pass-turns.result.0 - 1 = omega (arith, c.follow.invariant.kept) in
+    rw c.of-state.ensures (
+      omega (arith, some),
+      rw to on.unpaused,
+      rw to on.at,
+      rw c.of-state.ensures at (sym c.pauses_at.ensures ∙ c.if-pauses_at.true),
+    )
 
 pub returns-then-pauses_at-clause-stands : goal.returns-then-pauses_at-clause-stands
 returns-then-pauses_at-clause-stands g c = λ n e.
@@ -103,18 +111,18 @@ returns-then-pauses_at-clause-stands g c = λ n e.
     let to = on g (goal.at.returns-then-pauses_at-clause-stands g c).After-pass-turns c.in_default.is in
     let all : g.Self.Trail.kept c.follow.self + c.pass-turns.result.0 ≡ g.Self.Trail.kept c.args.self.now + n =
     omega (arith, c.follow.invariant.kept) in
-    rw all at (c.keep.ensures.stands (trace (machine_of c.args.p.now c.args.values.now) c.args.packet.bytes.now c.args.packet.wire) (rw c.of-state.ensures to.2) c.follow.invariant.stands).0
+    rw all at (c.keep.ensures.stands _ (rw c.of-state.ensures to.at) c.follow.invariant.stands).0
 
 pub follow-smaller : goal.follow-smaller
 follow-smaller g c =
     let to = on g (goal.at.follow-smaller g c).After-pass-turns c.in_default.is in
     let some = c.pass-turns.ensures.some in
-    omega (arith, some, to.3, c.follow.invariant.kept)
+    omega (arith, some, to.within, c.follow.invariant.kept)
 
 pub follow-preserved : goal.follow-preserved
 follow-preserved g c =
     let to = on g (goal.at.follow-preserved g c).After-pass-turns c.in_default.is in
-    let kept = c.keep.ensures.stands (trace (machine_of c.args.p.now c.args.values.now) c.args.packet.bytes.now c.args.packet.wire) (rw c.of-state.ensures to.2) c.follow.invariant.stands in
+    let kept = c.keep.ensures.stands _ (rw c.of-state.ensures to.at) c.follow.invariant.stands in
     let some = c.pass-turns.ensures.some in
     let quiet : is_watched c.args.watched.now (registers c.pass-turns.new.s c.pass-turns.new.slots) ≡ false =
     rw c.of-state.ensures at (sym c.pauses_at.ensures ∙ c.if-pauses_at.false) in
@@ -124,9 +132,9 @@ follow-preserved g c =
       sound = c.follow.invariant.sound;
       from_one = omega (arith, some, kept.1);
       kept = omega (arith, kept.1, c.follow.invariant.kept);
-      here = rw (← kept.1) at to.1;
+      here = rw (← kept.1) at to.goes;
       stands = rw (← kept.1) at kept.0;
-      unpaused = rw all at (unpaused_next (is_watched c.args.watched.now) _ _ _ _ to.0 to.2 quiet);
+      unpaused = rw all at (unpaused_next (is_watched c.args.watched.now) _ _ _ _ to.unpaused to.at quiet);
       state = c.follow.invariant.state;
       spent = omega (arith, c.add.ensures, c.follow.invariant.spent);
     }
