@@ -42,10 +42,6 @@ fn put_condition(line: &mut Line, when: When)
 
 /// Writes where a breakpoint was set: the line of its instruction, and its condition. `n` is less than
 /// the program's length.
-///
-/// # Errors
-///
-/// The writer failed, or took nothing of a text that isn't empty: a beginning of the line was written.
 #[tactic(auto, unfolding(crate::specs::Breakpoints::set_head))]
 pub fn write_breakpoint<W: Write, A: Allocator>(
     w: &mut W,
@@ -86,10 +82,6 @@ fn put_listed_value(line: &mut Line, when: When)
 }
 
 /// Writes a breakpoint as the list of them has it, without the line's end.
-///
-/// # Errors
-///
-/// The writer failed, or took nothing of a text that isn't empty: a beginning of the text was written.
 pub fn write_listed<W: Write>(w: &mut W, n: u32, when: When) -> Result<(), WriteFault>
     ensures { Wrote (W.contents w.old) (W.contents w.new) result (spec.listed_text (n, when)) }
 {
@@ -101,10 +93,6 @@ pub fn write_listed<W: Write>(w: &mut W, n: u32, when: When) -> Result<(), Write
 }
 
 /// Writes the beginning of the list of breakpoints.
-///
-/// # Errors
-///
-/// The writer failed, or took nothing of a text that isn't empty: a beginning of the text was written.
 #[tactic(auto, unfolding(crate::specs::Breakpoints::list_head))]
 pub fn write_list_head<W: Write>(w: &mut W) -> Result<(), WriteFault>
     ensures { Wrote (W.contents w.old) (W.contents w.new) result spec.list_head }
@@ -113,10 +101,6 @@ pub fn write_list_head<W: Write>(w: &mut W) -> Result<(), WriteFault>
 }
 
 /// Writes the end of the list of breakpoints.
-///
-/// # Errors
-///
-/// The writer failed, or took nothing of a text that isn't empty.
 pub fn write_list_end<W: Write>(w: &mut W) -> Result<(), WriteFault>
     ensures { Wrote (W.contents w.old) (W.contents w.new) result spec.list_end }
 {

@@ -15,10 +15,6 @@ fn write_c_head<W: Write>(w: &mut W) -> Result<(), WriteFault>
 }
 
 /// Writes a program in C form, under its head line.
-///
-/// # Errors
-///
-/// The writer failed, or took nothing of a text that isn't empty: a beginning of the text was written.
 #[tactic(auto, using(cbpf_code::proofs::WrittenLemmas::pairs), unfolding(crate::specs::CDump::c_dump_text))]
 pub fn write_c_dump<W: Write>(w: &mut W, program: &[Insn]) -> Result<(), WriteFault>
     ensures { Wrote (W.contents w.old) (W.contents w.new) result (spec.c_dump_text (Some program.now)) }

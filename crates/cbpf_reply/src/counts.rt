@@ -23,10 +23,6 @@ fn write_place_after<W: Write>(w: &mut W, before: &[u8], place: Place) -> Result
 }
 
 /// Writes a place.
-///
-/// # Errors
-///
-/// The writer failed, or took nothing of a text that isn't empty: a beginning of the line was written.
 pub fn write_place<W: Write>(w: &mut W, place: Place) -> Result<(), WriteFault>
     ensures { Wrote (W.contents w.old) (W.contents w.new) result (spec.place_text place) }
 {
@@ -34,10 +30,6 @@ pub fn write_place<W: Write>(w: &mut W, place: Place) -> Result<(), WriteFault>
 }
 
 /// Writes the place that a command went to.
-///
-/// # Errors
-///
-/// The writer failed, or took nothing of a text that isn't empty: a beginning of the line was written.
 pub fn write_went_to<W: Write>(w: &mut W, place: Place) -> Result<(), WriteFault>
     ensures { Wrote (W.contents w.old) (W.contents w.new) result (spec.at_text place) }
 {
@@ -72,10 +64,6 @@ fn put_counts(line: &mut Line, counts: Counts)
 }
 
 /// Writes the counts at the end of a capture.
-///
-/// # Errors
-///
-/// The writer failed, or took nothing of a text that isn't empty: a beginning of the line was written.
 pub fn write_finished<W: Write>(w: &mut W, counts: Counts) -> Result<(), WriteFault>
     ensures { Wrote (W.contents w.old) (W.contents w.new) result (spec.finished_text counts) }
 {
@@ -86,10 +74,6 @@ pub fn write_finished<W: Write>(w: &mut W, counts: Counts) -> Result<(), WriteFa
 }
 
 /// Writes the counts at a limit, and the packet that comes next.
-///
-/// # Errors
-///
-/// The writer failed, or took nothing of a text that isn't empty: a beginning of the line was written.
 pub fn write_limit<W: Write>(w: &mut W, counts: Counts, packet: u64) -> Result<(), WriteFault>
     ensures { Wrote (W.contents w.old) (W.contents w.new) result (spec.limit_text counts packet) }
 {

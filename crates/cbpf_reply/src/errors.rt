@@ -10,10 +10,6 @@ use pcap_classic::CaptureFault;
 use std::io::Write;
 
 /// Writes Q1: no command has this name.
-///
-/// # Errors
-///
-/// The writer failed, or took nothing of a text that isn't empty: a beginning of the line was written.
 pub fn write_unknown_command<W: Write>(w: &mut W) -> Result<(), WriteFault>
     ensures { Wrote (W.contents w.old) (W.contents w.new) result spec.unknown_command_text }
 {
@@ -21,10 +17,6 @@ pub fn write_unknown_command<W: Write>(w: &mut W) -> Result<(), WriteFault>
 }
 
 /// Writes Q2: an argument is missing, too many, or none that the command takes.
-///
-/// # Errors
-///
-/// The writer failed, or took nothing of a text that isn't empty: a beginning of the line was written.
 pub fn write_wrong_arguments<W: Write>(w: &mut W) -> Result<(), WriteFault>
     ensures { Wrote (W.contents w.old) (W.contents w.new) result spec.wrong_arguments_text }
 {
@@ -32,10 +24,6 @@ pub fn write_wrong_arguments<W: Write>(w: &mut W) -> Result<(), WriteFault>
 }
 
 /// Writes F1: there is no such file.
-///
-/// # Errors
-///
-/// The writer failed, or took nothing of a text that isn't empty: a beginning of the line was written.
 pub fn write_absent<W: Write>(w: &mut W) -> Result<(), WriteFault>
     ensures { Wrote (W.contents w.old) (W.contents w.new) result spec.absent_text }
 {
@@ -43,10 +31,6 @@ pub fn write_absent<W: Write>(w: &mut W) -> Result<(), WriteFault>
 }
 
 /// Writes F2: the file could not be read.
-///
-/// # Errors
-///
-/// The writer failed, or took nothing of a text that isn't empty: a beginning of the line was written.
 pub fn write_unreadable<W: Write>(w: &mut W) -> Result<(), WriteFault>
     ensures { Wrote (W.contents w.old) (W.contents w.new) result spec.device_text }
 {
@@ -54,10 +38,6 @@ pub fn write_unreadable<W: Write>(w: &mut W) -> Result<(), WriteFault>
 }
 
 /// Writes that it is out of memory.
-///
-/// # Errors
-///
-/// The writer failed, or took nothing of a text that isn't empty: a beginning of the line was written.
 pub fn write_out_of_memory<W: Write>(w: &mut W) -> Result<(), WriteFault>
     ensures { Wrote (W.contents w.old) (W.contents w.new) result spec.memory_text }
 {
@@ -65,10 +45,6 @@ pub fn write_out_of_memory<W: Write>(w: &mut W) -> Result<(), WriteFault>
 }
 
 /// Writes S1: no program is loaded.
-///
-/// # Errors
-///
-/// The writer failed, or took nothing of a text that isn't empty: a beginning of the line was written.
 pub fn write_no_program<W: Write>(w: &mut W) -> Result<(), WriteFault>
     ensures { Wrote (W.contents w.old) (W.contents w.new) result spec.no_program_text }
 {
@@ -76,10 +52,7 @@ pub fn write_no_program<W: Write>(w: &mut W) -> Result<(), WriteFault>
 }
 
 /// Writes the line of a word text's refusal, with its number N1 to N5, or that it is out of memory.
-///
-/// # Errors
-///
-/// The writer failed, or took nothing of a text that isn't empty: a beginning of the line was written.
+#[tactic(auto, unfolding(crate::specs::Errors::word_fault_text))]
 pub fn write_word_fault<W: Write>(w: &mut W, fault: WordFault) -> Result<(), WriteFault>
     ensures { Wrote (W.contents w.old) (W.contents w.new) result (spec.word_fault_text fault) }
 {
@@ -129,10 +102,7 @@ pub fn write_word_fault<W: Write>(w: &mut W, fault: WordFault) -> Result<(), Wri
 }
 
 /// Writes the line of the checker's refusal, with its number C1 to C10.
-///
-/// # Errors
-///
-/// The writer failed, or took nothing of a text that isn't empty: a beginning of the line was written.
+#[tactic(auto, unfolding(crate::specs::Errors::check_fault_text))]
 pub fn write_check_fault<W: Write>(w: &mut W, fault: CheckFault) -> Result<(), WriteFault>
     ensures { Wrote (W.contents w.old) (W.contents w.new) result (spec.check_fault_text fault) }
 {
@@ -168,10 +138,7 @@ pub fn write_check_fault<W: Write>(w: &mut W, fault: CheckFault) -> Result<(), W
 }
 
 /// Writes the line of a capture's refusal, with its number P1 to P3, or that it is out of memory.
-///
-/// # Errors
-///
-/// The writer failed, or took nothing of a text that isn't empty: a beginning of the line was written.
+#[tactic(auto, unfolding(crate::specs::Errors::capture_fault_text))]
 pub fn write_capture_fault<W: Write>(w: &mut W, fault: CaptureFault) -> Result<(), WriteFault>
     ensures { Wrote (W.contents w.old) (W.contents w.new) result (spec.capture_fault_text fault) }
 {
@@ -184,10 +151,6 @@ pub fn write_capture_fault<W: Write>(w: &mut W, fault: CaptureFault) -> Result<(
 }
 
 /// Writes the line of a refusal, with its number S1 to S9, or that it is out of memory.
-///
-/// # Errors
-///
-/// The writer failed, or took nothing of a text that isn't empty: a beginning of the line was written.
 #[tactic(auto, unfolding(crate::specs::Errors::fault_text))]
 pub fn write_session_fault<W: Write>(w: &mut W, fault: SessionFault) -> Result<(), WriteFault>
     ensures { Wrote (W.contents w.old) (W.contents w.new) result (spec.fault_text fault) }

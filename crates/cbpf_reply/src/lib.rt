@@ -3,6 +3,9 @@
 //!
 //! The dump of a stop has the parts that the kernel's Documentation/networking/filter shows for
 //! `bpf_dbg`; its layout, and the other texts but the counts, are this project's own.
+//!
+//! Each `write_..` answers `WriteFault` where the writer failed, or took nothing of a text that isn't empty: a
+//! beginning of the text was written.
 #![tactic(auto)]
 
 mod breakpoints;

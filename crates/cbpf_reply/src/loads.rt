@@ -10,10 +10,6 @@ use std::alloc::Allocator;
 use std::io::Write;
 
 /// Writes the reply to a program that was loaded: how many instructions it has.
-///
-/// # Errors
-///
-/// The writer failed, or took nothing of a text that isn't empty: a beginning of the line was written.
 #[tactic(auto, unfolding(crate::specs::Loads::program_text))]
 pub fn write_program<W: Write>(w: &mut W, count: u32) -> Result<(), WriteFault>
     ensures { Wrote (W.contents w.old) (W.contents w.new) result (spec.program_text count) }
@@ -45,10 +41,6 @@ fn write_packets<W: Write>(w: &mut W, count: u64) -> Result<(), WriteFault>
 }
 
 /// Writes the reply to a capture that was loaded: how many packets it has, and where it is cut.
-///
-/// # Errors
-///
-/// The writer failed, or took nothing of a text that isn't empty: a beginning of the line was written.
 #[tactic(auto, using(cbpf_code::proofs::WrittenLemmas::pairs), unfolding(crate::specs::Loads::capture_text))]
 pub fn write_capture<W: Write, A: Allocator>(
     w: &mut W,

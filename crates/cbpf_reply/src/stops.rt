@@ -10,10 +10,6 @@ use itoa::Buffer;
 use std::io::Write;
 
 /// Writes a stop's line in the list of stops.
-///
-/// # Errors
-///
-/// The writer failed, or took nothing of a text that isn't empty: a beginning of the line was written.
 #[tactic(auto, unfolding(crate::specs::Stops::stop_line))]
 pub fn write_stop_line<W: Write>(w: &mut W, stop: &Stop) -> Result<(), WriteFault>
     ensures { Wrote (W.contents w.old) (W.contents w.new) result (spec.stop_line stop.now) }
@@ -34,10 +30,6 @@ pub fn write_stop_line<W: Write>(w: &mut W, stop: &Stop) -> Result<(), WriteFaul
 }
 
 /// Writes how many stops there are.
-///
-/// # Errors
-///
-/// The writer failed, or took nothing of a text that isn't empty: a beginning of the line was written.
 pub fn write_total<W: Write>(w: &mut W, n: u128) -> Result<(), WriteFault>
     ensures { Wrote (W.contents w.old) (W.contents w.new) result (spec.total_text n) }
 {

@@ -8,10 +8,6 @@ use cbpf_code::{Ext, Line, WriteFault, ext_name};
 use std::io::Write;
 
 /// Writes the reply to `value`.
-///
-/// # Errors
-///
-/// The writer failed, or took nothing of a text that isn't empty: a beginning of the line was written.
 #[tactic(auto, using(cbpf_code::proofs::NameLemmas::names))]
 pub fn write_value<W: Write>(w: &mut W, e: Ext, n: u32) -> Result<(), WriteFault>
     ensures { Wrote (W.contents w.old) (W.contents w.new) result (spec.value_text e n) }
