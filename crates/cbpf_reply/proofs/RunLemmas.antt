@@ -1,68 +1,63 @@
 -- Runs of equal slots.
-use Rattle.std.proofs.Common.{◌≡◌, ℕ, suc, ◌+◌, ◌-◌, ◌<◌, ◌≤◌, true, false, cond, ◌==◌, List, [], ◌∷◌, ◌++◌, length}
-use Rattle.std.proofs.Common.{drop, get_or, refl, sym, ap, ◌∙◌, arith, tests, drop-cons, add-one, length-drop}
+use Rattle.std.proofs.Common.{◌≡◌, ℕ, ◌+◌, ◌-◌, ◌<◌, ◌≤◌, true, false, cond, ◌==◌, List, [], ◌∷◌, ◌++◌, length}
+use Rattle.std.proofs.Common.{drop, get_or, refl, ◌∙◌, arith, tests, drop-cons, add-one, length-drop}
 use Rattle.std.proofs.lemmas.List.{nil_from_length}
-use Rattle.cbpf_code.specs.Text.{joined, spaces}
 use Rattle.std.proofs.lemmas.Grind.{flat_map-append}
+use Rattle.cbpf_code.specs.Text.{joined, spaces}
 use Rattle.cbpf_reply.specs.Columns.{labelled}
 use Rattle.cbpf_reply.specs.Scratch.{Run, before, runs_from}
 
-same-eq : (v : ℕ) → (v == v) ≡ true
-same-eq v = grind (arith, tests)
+-- the same runs, of which the first begins at slot i
+abbrev pub begun_at : ℕ → List Run → List Run
+begun_at i [] = []
+begun_at i (r ∷ rs) = record r { first = i } ∷ rs
 
-other-eq : (v x : ℕ) → (x ≡ v → ⊥) → (v == x) ≡ false
-other-eq v x n = grind (arith, tests)
-
--- slots i to j and slot k of one value, then the runs after
-before-same : (i j k v : ℕ) (rs : List Run) → before i j v (before k k v rs) ≡ before i k v rs
-before-same i j k v [] = rw (same-eq v) refl
-before-same i j k v (r ∷ rs) = elim (v == r.value) as (λ t. before i j v (cond t
-    (record { first = k; last = r.last; value = v } ∷ rs) (record { first = k; last = k; value = v } ∷ r ∷ rs))
-    ≡ cond t (record { first = i; last = r.last; value = v } ∷ rs)
-    (record { first = i; last = k; value = v } ∷ r ∷ rs)) [ true ↦ rw (same-eq v) refl | false ↦ rw (same-eq v) refl ]
-
-before-other : (i j k v x : ℕ) (rs : List Run) → (x ≡ v → ⊥)
-    → before i j v (before k k x rs) ≡ record { first = i; last = j; value = v } ∷ before k k x rs
-before-other i j k v x [] n = rw (other-eq v x n) refl
-before-other i j k v x (r ∷ rs) n = elim (x == r.value) as (λ t. before i j v (cond t
-    (record { first = k; last = r.last; value = x } ∷ rs) (record { first = k; last = k; value = x } ∷ r ∷ rs))
-    ≡ record { first = i; last = j; value = v } ∷ cond t (record { first = k; last = r.last; value = x } ∷ rs)
-    (record { first = k; last = k; value = x } ∷ r ∷ rs)) [
-      | true ↦ rw (other-eq v x n) refl
-      | false ↦ rw (other-eq v x n) refl
+before-some : (i v : ℕ) (rs : List Run)
+    → (last : ℕ) × (more : List Run) × (before i v rs ≡ record { first = i; last = last; value = v } ∷ more)
+before-some i v [] = (i, [], refl)
+before-some i v (r ∷ rs) = elim (v == r.value) as (λ t. (last : ℕ) × (more : List Run)
+    × (cond t (record { first = i; last = r.last; value = v } ∷ rs)
+    (record { first = i; last = i; value = v } ∷ r ∷ rs) ≡ record { first = i; last = last; value = v } ∷ more)) [
+      | true ↦ (r.last, rs, refl)
+      | false ↦ (i, r ∷ rs, refl)
     ]
 
-runs-at : (s : List ℕ) (i : ℕ) → i < length s
-    → runs_from i (drop i s) ≡ before i i (get_or s i 0) (runs_from (suc i) (drop (suc i) s))
+run-begin : (s : List ℕ) (i : ℕ) → i < length s
+    → runs_from i (drop i s) ≡ before i (get_or s i 0) (runs_from (i + 1) (drop (i + 1) s))
 unfolding runs_from
-runs-at s i l = rw (drop-cons s i 0 l) refl
+run-begin s i l = rw (drop-cons s i 0 l, add-one) refl
 
-runs-nil : (i : ℕ) → runs_from i [] ≡ []
+run-some : (s : List ℕ) (i : ℕ) → i < length s → (last : ℕ) × (more : List Run)
+    × (runs_from i (drop i s) ≡ record { first = i; last = last; value = get_or s i 0 } ∷ more)
+run-some s i l =
+    let some = before-some i (get_or s i 0) (runs_from (i + 1) (drop (i + 1) s)) in
+    (some.0, some.1, run-begin s i l ∙ some.2)
+
+pub run-first : (s : List ℕ) (i : ℕ) → i < length s → runs_from i (drop i s) ≡ begun_at i (runs_from i (drop i s))
+run-first s i l = rw (run-some s i l).2 refl
+
+pub run-more : (s : List ℕ) (i j : ℕ) → j + 1 < length s → get_or s (j + 1) 0 ≡ get_or s j 0
+    → begun_at i (runs_from j (drop j s)) ≡ begun_at i (runs_from (j + 1) (drop (j + 1) s))
+run-more s i j l e =
+    let same : (get_or s j 0 == get_or s j 0) ≡ true = grind (arith, tests) in
+    rw (run-begin s j (omega arith), (run-some s (j + 1) l).2, e, same) refl
+
+pub run-stop : (s : List ℕ) (i j : ℕ) → j + 1 < length s → (get_or s (j + 1) 0 ≡ get_or s j 0 → ⊥)
+    → begun_at i (runs_from j (drop j s))
+    ≡ record { first = i; last = j; value = get_or s j 0 } ∷ runs_from (j + 1) (drop (j + 1) s)
+run-stop s i j l n =
+    let other : (get_or s j 0 == get_or s (j + 1) 0) ≡ false = grind (arith, tests) in
+    rw (run-begin s j (omega arith), (run-some s (j + 1) l).2, other) refl
+
+pub run-last : (s : List ℕ) (i j : ℕ) → j < length s → length s ≤ j + 1
+    → begun_at i (runs_from j (drop j s))
+    ≡ record { first = i; last = j; value = get_or s j 0 } ∷ runs_from (j + 1) (drop (j + 1) s)
 unfolding runs_from
-runs-nil i = refl
+run-last s i j b l =
+    let none : drop (j + 1) s ≡ [] = nil_from_length (drop (j + 1) s) (omega (arith, length-drop (j + 1) s)) in
+    rw (run-begin s j b, none) refl
 
-pub run-begin : (s : List ℕ) (i : ℕ) → i < length s
-    → runs_from i (drop i s) ≡ before i i (get_or s i 0) (runs_from (i + 1) (drop (i + 1) s))
-run-begin s i l = rw add-one (runs-at s i l)
-
-pub run-more : (s : List ℕ) (i j v : ℕ) → j + 1 < length s → get_or s (j + 1) 0 ≡ v
-    → before i j v (runs_from (j + 1) (drop (j + 1) s))
-    ≡ before i (j + 1) v (runs_from (j + 1 + 1) (drop (j + 1 + 1) s))
-run-more s i j v l e = ap (before i j v) (run-begin s (j + 1) l) ∙ rw e (before-same i j (j + 1) v _)
-
-pub run-stop : (s : List ℕ) (i j v : ℕ) → j + 1 < length s → (get_or s (j + 1) 0 ≡ v → ⊥)
-    → before i j v (runs_from (j + 1) (drop (j + 1) s))
-    ≡ record { first = i; last = j; value = v } ∷ runs_from (j + 1) (drop (j + 1) s)
-run-stop s i j v l n = ap (before i j v) (run-begin s (j + 1) l) ∙ before-other i j (j + 1) v (get_or s (j + 1) 0) _ n
-    ∙ ap (λ (rs : List Run). record { first = i; last = j; value = v } ∷ rs) (sym (run-begin s (j + 1) l))
-
-pub run-last : (s : List ℕ) (i j v : ℕ) → length s ≤ j + 1 → before i j v (runs_from (j + 1) (drop (j + 1) s))
-    ≡ record { first = i; last = j; value = v } ∷ runs_from (j + 1) (drop (j + 1) s)
-run-last s i j v l =
-    let e : drop (j + 1) s ≡ [] = nil_from_length (drop (j + 1) s) (omega (arith, length-drop (j + 1) s)) in
-    rw (e, runs-nil (j + 1)) refl
-
-pub ruleset runs = (run-begin, run-more, run-stop, run-last)
+pub ruleset runs = (run-first, run-more, run-stop, run-last)
 
 -- the texts of a line with a label
 pub labelled-parts : (label pieces : List (List ℕ))

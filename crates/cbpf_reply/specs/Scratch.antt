@@ -10,17 +10,17 @@ pub record Run : Type 0 where
   pub last : ℕ
   pub value : ℕ
 
--- slots i to j, all of value v, in front of the runs after them: a run of the same value grows by them
-abbrev pub before : ℕ → ℕ → ℕ → List Run → List Run
-before i j v [] = record { first = i; last = j; value = v } ∷ []
-before i j v (r ∷ rs) =
+-- slot i of value v in front of the runs after it: the first of these begins at it, where it has the same value
+abbrev pub before : ℕ → ℕ → List Run → List Run
+before i v [] = record { first = i; last = i; value = v } ∷ []
+before i v (r ∷ rs) =
     if v == r.value then (record { first = i; last = r.last; value = v } ∷ rs)
-    else (record { first = i; last = j; value = v } ∷ r ∷ rs)
+    else (record { first = i; last = i; value = v } ∷ r ∷ rs)
 
 -- the longest runs of neighbouring slots of equal value, where the first slot has number i
 unfoldable pub runs_from : ℕ → List ℕ → List Run
 runs_from i [] = []
-runs_from i (v ∷ vs) = before i i v (runs_from (suc i) vs)
+runs_from i (v ∷ vs) = before i v (runs_from (suc i) vs)
 
 -- one slot, or the first and the last
 abbrev pub label : Run → List (List ℕ)

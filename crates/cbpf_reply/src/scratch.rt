@@ -65,6 +65,7 @@ fn write_scratch_line<W: Write>(
 }
 
 /// Writes a line for each longest run of neighbouring slots of equal value.
+#[tactic(auto, using(crate::proofs::ScratchLemmas::lines))]
 pub(crate) fn write_scratch<W: Write>(w: &mut W, slots: &[u32]) -> Result<(), WriteFault>
     ensures { Wrote (W.contents w.old) (W.contents w.new) result (spec.scratch_lines slots.now) }
 {

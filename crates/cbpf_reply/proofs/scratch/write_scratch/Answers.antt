@@ -1,22 +1,16 @@
 use Rattle.std.proofs.Common.{arith}
 use Rattle.cbpf_code.proofs.WrittenLemmas.{err-exit}
-use Rattle.cbpf_reply.proofs.ScratchLemmas.{scratch-begin, scratch-next, scratch-stop, scratch-done}
+use Rattle.cbpf_reply.proofs.ScratchLemmas.{scratch-next, scratch-stop}
 use Rattle.cbpf_reply.proofs.scratch.write_scratch.Goals as goal
-
-pub loop-first-init : goal.loop-first-init
-loop-first-init g c = record { within = omega arith; so_far = scratch-begin _ _ }
 
 pub returns-in_err-write_scratch_line : goal.returns-in_err-write_scratch_line
 returns-in_err-write_scratch_line g c =
-    err-exit _ _ _ _ c.from_residual.ensures.0 (scratch-stop c.args.slots.now c.loop-first.first _ _ _ _ _
-    c.loop-first.invariant.so_far c.run_end-last.ensures.run c.in_err-write_scratch_line.ensures)
+    err-exit _ _ _ _ c.from_residual.ensures.0 (scratch-stop _ _ _ _ _ _ _ c.loop-first.invariant.so_far
+    c.run_end-last.ensures.run c.in_err-write_scratch_line.ensures)
 
 pub loop-first-preserved : goal.loop-first-preserved
 loop-first-preserved g c = record {
   within = omega arith;
-  so_far = scratch-next c.args.slots.now c.loop-first.first _ _ _ _ _ c.loop-first.invariant.so_far
-      c.run_end-last.ensures.run c.in_ok-write_scratch_line.ensures;
+  so_far = scratch-next _ _ _ _ _ _ _ c.loop-first.invariant.so_far c.run_end-last.ensures.run
+      c.in_ok-write_scratch_line.ensures;
 }
-
-pub returns : goal.returns
-returns g c = scratch-done c.args.slots.now c.loop-first.first _ _ (omega arith) c.loop-first.invariant.so_far
