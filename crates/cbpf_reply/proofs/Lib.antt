@@ -2,4 +2,4 @@ pub mod SpaceLemmas
 pub mod RunLemmas
 pub mod ScratchLemmas
 pub mod RowLemmas
-pub mod ChainLemmas
+pub mod DumpLemmas

@@ -1,14 +1,14 @@
 -- What is shown of a stop: the place, the instruction, the registers and the scratch memory before it, the packet,
 -- and why it stopped (the kernel's Documentation/networking/filter shows such a dump;
 -- this layout is this project's own).
-use Rattle.std.specs.Prelude.{ℕ, List, [], ◌∷◌, ◌++◌, Option, Some, None, slice_get, slice_index, map, decimal, codes}
+use Rattle.std.specs.Prelude.{ℕ, List, [], ◌∷◌, ◌++◌, length, Option, Some, None, slice_get, slice_index, map, decimal, codes}
 use Rattle.cbpf_code.specs.declared.insn.Insn.{Insn}
 use Rattle.cbpf_code.specs.Extension.{ext_name}
 use Rattle.cbpf_code.specs.Text.{joined}
 use Rattle.cbpf_code.specs.Listing.{line_text}
 use Rattle.cbpf_reply.specs.Columns.{labelled, value_line}
 use Rattle.cbpf_reply.specs.Scratch.{scratch_lines}
-use Rattle.cbpf_reply.specs.Packet.{packet_dump}
+use Rattle.cbpf_reply.specs.Packet.{packet_head, packet_rows}
 use Rattle.cbpf_reply.specs.declared.reply.Why.{Why}
 use Rattle.cbpf_reply.specs.declared.reply.Why.TheVariants as why_is
 use Rattle.cbpf_reply.specs.declared.reply.Stop.{Stop}
@@ -49,17 +49,13 @@ current_line list pc = labelled (codes "curr:" ∷ []) (line_text list pc ∷ co
 abbrev pub instruction_lines : List Insn → ℕ → List ℕ
 instruction_lines list pc = pc_line pc ++ (code_line (slice_get list pc) ++ current_line list pc)
 
-abbrev pub a_line : ℕ → List ℕ
-a_line a = value_line (codes "A:" ∷ []) a
+-- the place, and the instruction there
+unfoldable pub instruction_dump : List Insn → ℕ → ℕ → ℕ → List ℕ
+instruction_dump list packet step pc =
+    heading packet step ++ (codes "-- register dump --\n" ++ instruction_lines list pc)
 
-abbrev pub x_line : ℕ → List ℕ
-x_line x = value_line (codes "X:" ∷ []) x
-
-abbrev pub register_lines : Shown → List ℕ
-register_lines s = a_line s.a ++ (x_line s.x ++ scratch_lines s.slots)
-
-abbrev pub register_dump : List Insn → Shown → List ℕ
-register_dump list s = codes "-- register dump --\n" ++ (instruction_lines list s.pc ++ register_lines s)
+unfoldable pub register_lines : ℕ → ℕ → List ℕ
+register_lines a x = value_line (codes "A:" ∷ []) a ++ value_line (codes "X:" ∷ []) x
 
 abbrev pub why_text : Why → List ℕ
 why_text why_is.Break = codes "breakpoint"
@@ -69,14 +65,14 @@ why_text (why_is.Unknown e) = codes "extension " ++ ext_name e
 abbrev pub why_line : Why → List ℕ
 why_line why = joined (codes "(" ∷ why_text why ∷ codes ")\n" ∷ [])
 
-abbrev pub packet_and_why : Shown → List ℕ
-packet_and_why s = packet_dump s.bytes s.wire ++ why_line s.why
-
 abbrev pub dump_text : List Insn → Shown → List ℕ
-dump_text list s = heading s.packet s.step ++ (register_dump list s ++ packet_and_why s)
+dump_text list s =
+    instruction_dump list s.packet s.step s.pc
+    ++ ((register_lines s.a s.x ++ scratch_lines s.slots)
+    ++ (packet_head (length s.bytes) s.wire ++ (packet_rows s.bytes ++ why_line s.why)))
 
 -- scratch memory, from slot 0 to slot 15
-abbrev pub slots_of : Registers → List ℕ
+unfoldable pub slots_of : Registers → List ℕ
 slots_of s =
     map (λ i. slice_index s.slots i) (0 ∷ 1 ∷ 2 ∷ 3 ∷ 4 ∷ 5 ∷ 6 ∷ 7 ∷ 8 ∷ 9 ∷ 10 ∷ 11 ∷ 12 ∷ 13 ∷ 14 ∷ 15 ∷ [])
 

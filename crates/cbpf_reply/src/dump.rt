@@ -80,6 +80,7 @@ fn put_instruction<A: Allocator>(line: &mut Line, p: &Program<A>, pc: u32)
 }
 
 /// The place, the head of the registers, and the instruction.
+#[tactic(auto, using(crate::proofs::DumpLemmas::dumps), unfolding(crate::specs::Dump::instruction_dump))]
 fn write_place_and_instruction<W: Write, A: Allocator>(
     w: &mut W,
     p: &Program<A>,
@@ -88,8 +89,7 @@ fn write_place_and_instruction<W: Write, A: Allocator>(
 ) -> Result<(), WriteFault>
     requires { pc < length p.now }
     ensures { Wrote (W.contents w.old) (W.contents w.new) result
-        (spec.heading place.packet place.step
-        ++ (codes "-- register dump --\n" ++ spec.instruction_lines p.now pc)) }
+        (spec.instruction_dump p.now place.packet place.step pc) }
 {
     let mut line = Line::new();
     put_instruction(&mut line, p, pc);
@@ -98,8 +98,9 @@ fn write_place_and_instruction<W: Write, A: Allocator>(
 }
 
 /// The lines of A and X.
+#[tactic(auto, unfolding(crate::specs::Dump::register_lines))]
 fn write_registers<W: Write>(w: &mut W, a: u32, x: u32) -> Result<(), WriteFault>
-    ensures { Wrote (W.contents w.old) (W.contents w.new) result (spec.a_line a ++ spec.x_line x) }
+    ensures { Wrote (W.contents w.old) (W.contents w.new) result (spec.register_lines a x) }
 {
     let mut line = Line::new();
     put_value(&mut line, x);
@@ -110,6 +111,7 @@ fn write_registers<W: Write>(w: &mut W, a: u32, x: u32) -> Result<(), WriteFault
 }
 
 /// The words of scratch memory.
+#[tactic(auto, unfolding(crate::specs::Dump::slots_of))]
 fn slots_of(s: &State) -> [u32; 16]
     ensures { result ≡ spec.slots_of s.now }
 {
@@ -133,9 +135,10 @@ fn slots_of(s: &State) -> [u32; 16]
     ]
 }
 
+#[tactic(auto, using(crate::proofs::DumpLemmas::dumps))]
 fn write_register_lines<W: Write>(w: &mut W, state: &State) -> Result<(), WriteFault>
     ensures { Wrote (W.contents w.old) (W.contents w.new) result
-        (spec.a_line state.now.a ++ (spec.x_line state.now.x ++ scratch_lines (spec.slots_of state.now))) }
+        (spec.register_lines state.now.a state.now.x ++ scratch_lines (spec.slots_of state.now)) }
 {
     write_registers(w, state.a(), state.x())?;
     write_scratch(w, &slots_of(state))
@@ -164,11 +167,7 @@ pub(crate) fn put_why(line: &mut Line, why: Why)
 /// captured bytes and the original length of the stop's packet, and why it stopped.
 ///
 /// The stop's pc must be less than the program's length.
-///
-/// # Errors
-///
-/// The writer fails, or takes nothing of a text that isn't empty; the bytes that it took are a
-/// beginning of the dump.
+#[tactic(auto, using(crate::proofs::DumpLemmas::dumps))]
 pub fn write_stop<W: Write, A: Allocator>(
     w: &mut W,
     p: &Program<A>,

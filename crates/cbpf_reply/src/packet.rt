@@ -1,10 +1,13 @@
 // The packet's bytes.
+#![tactic(auto, using(crate::proofs::RowLemmas::rows))]
+
 ghost use Rattle.std.specs.Prelude.{◌≡◌, ◌≤◌, ◌+◌, ◌-◌, ◌++◌, length, decimal};
 ghost use Rattle.std.specs.Int.{div_ceil};
 ghost use Rattle.std.specs.List.{flat_map};
 ghost use Rattle.cbpf_code.specs.Writing.{Wrote};
 ghost use Rattle.cbpf_code.specs.Text.{spaces};
 ghost use Rattle.cbpf_reply.specs.Dump.{why_line};
+ghost use Rattle.cbpf_reply.specs.declared.packet.TheConstants.{ROW};
 ghost use Rattle.cbpf_reply.specs.Packet as spec;
 
 use crate::columns::spaces_to_five;
@@ -19,7 +22,7 @@ const ROW: usize = 16;
 /// Puts the bytes of a row in hexadecimal, each after a space.
 #[inline(always)]
 fn put_cells(line: &mut Line, row: &[u8])
-    requires few { length row.now ≤ 16 }
+    requires few { length row.now ≤ ROW }
     requires room { length line.old + 48 ≤ 256 }
     ensures text { line.new ≡ flat_map spec.byte_text row.now ++ line.old }
     ensures grown { length line.new ≤ length line.old + 48 }
@@ -45,10 +48,10 @@ fn put_offset(line: &mut Line, at: usize)
     line.put(spaces_to_five(digits));
 }
 
-/// Puts a row of at most 16 bytes, the first of which has offset `at`.
+/// Puts a row of at most `ROW` bytes, the first of which has offset `at`.
 #[inline(always)]
 fn put_row(line: &mut Line, at: usize, row: &[u8])
-    requires few { length row.now ≤ 16 }
+    requires few { length row.now ≤ ROW }
     requires room { length line.old + 75 ≤ 256 }
     ensures text { line.new ≡ spec.row_line at row.now ++ line.old }
     ensures grown { length line.new ≤ length line.old + 75 }
@@ -64,9 +67,9 @@ fn put_row(line: &mut Line, at: usize, row: &[u8])
 fn put_rows(line: &mut Line, bytes: &[u8], from: usize, to: usize)
     requires order { from ≤ to }
     requires few { to ≤ from + 3 }
-    requires within { to ≤ div_ceil (length bytes.now) 16 }
+    requires within { to ≤ div_ceil (length bytes.now) ROW }
     requires room { length line.old + 225 ≤ 256 }
-    ensures text { line.new ≡ spec.texts_between (spec.row bytes.now) from to ++ line.old }
+    ensures text { line.new ≡ spec.texts_from (spec.row bytes.now) from (to - from) ++ line.old }
 {
     let mut r = to;
     while r > from {
@@ -81,9 +84,9 @@ fn put_rows(line: &mut Line, bytes: &[u8], from: usize, to: usize)
 fn write_rows<W: Write>(w: &mut W, bytes: &[u8], from: usize, to: usize) -> Result<(), WriteFault>
     requires order { from ≤ to }
     requires few { to ≤ from + 3 }
-    requires within { to ≤ div_ceil (length bytes.now) 16 }
+    requires within { to ≤ div_ceil (length bytes.now) ROW }
     ensures { Wrote (W.contents w.old) (W.contents w.new) result
-        (spec.texts_between (spec.row bytes.now) from to) }
+        (spec.texts_from (spec.row bytes.now) from (to - from)) }
 {
     let mut line = Line::new();
     put_rows(&mut line, bytes, from, to);
@@ -100,9 +103,9 @@ fn write_last_rows<W: Write>(
 ) -> Result<(), WriteFault>
     requires order { from ≤ to }
     requires few { to ≤ from + 3 }
-    requires within { to ≤ div_ceil (length bytes.now) 16 }
+    requires within { to ≤ div_ceil (length bytes.now) ROW }
     ensures { Wrote (W.contents w.old) (W.contents w.new) result
-        (spec.texts_between (spec.row bytes.now) from to ++ why_line why) }
+        (spec.texts_from (spec.row bytes.now) from (to - from) ++ why_line why) }
 {
     let mut line = Line::new();
     put_why(&mut line, why);
@@ -110,7 +113,7 @@ fn write_last_rows<W: Write>(
     line.write(w)
 }
 
-/// Writes a row for each 16 bytes, and why it stopped.
+/// Writes a row for each `ROW` bytes, and why it stopped.
 fn write_rows_and_why<W: Write>(w: &mut W, bytes: &[u8], why: Why) -> Result<(), WriteFault>
     ensures { Wrote (W.contents w.old) (W.contents w.new) result
         (spec.packet_rows bytes.now ++ why_line why) }
@@ -124,6 +127,7 @@ fn write_rows_and_why<W: Write>(w: &mut W, bytes: &[u8], why: Why) -> Result<(),
     write_last_rows(w, bytes, from, count, why)
 }
 
+#[tactic(auto, unfolding(crate::specs::Packet::packet_head))]
 fn write_lengths<W: Write>(w: &mut W, captured: usize, wire: u32) -> Result<(), WriteFault>
     ensures { Wrote (W.contents w.old) (W.contents w.new) result (spec.packet_head captured wire) }
 {
@@ -144,7 +148,7 @@ pub(crate) fn write_packet<W: Write>(
     why: Why,
 ) -> Result<(), WriteFault>
     ensures { Wrote (W.contents w.old) (W.contents w.new) result
-        (spec.packet_dump bytes.now wire ++ why_line why) }
+        (spec.packet_head (length bytes.now) wire ++ (spec.packet_rows bytes.now ++ why_line why)) }
 {
     write_lengths(w, bytes.len(), wire)?;
     write_rows_and_why(w, bytes, why)

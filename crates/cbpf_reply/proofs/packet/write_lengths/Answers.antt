@@ -1,6 +1,8 @@
+use Rattle.cbpf_reply.specs.Packet.{packet_head}
 use Rattle.cbpf_reply.proofs.packet.write_lengths.Goals as goal
 
 pub returns : goal.returns
+unfolding packet_head
 returns g c = rw (
   c.put-3.ensures.text,
   c.put_u64.ensures.text,
