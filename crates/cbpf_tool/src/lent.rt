@@ -5,7 +5,7 @@ use std::marker::Model;
 
 /// Bytes of a line.
 #[derive(Drop)]
-pub struct Text<'a> {
+pub(crate) struct Text<'a> {
     bytes: &'a [u8],
 }
 
@@ -18,13 +18,13 @@ impl<'a> Model for Text<'a> {
 }
 
 impl<'a> Text<'a> {
-    pub fn of(bytes: &'a [u8]) -> Text<'a>
+    pub(crate) fn of(bytes: &'a [u8]) -> Text<'a>
         ensures { result ≡ bytes.now }
     {
         Text { bytes }
     }
 
-    pub fn as_slice(&self) -> &'a [u8]
+    pub(crate) fn as_slice(&self) -> &'a [u8]
         ensures { result.now ≡ self.now }
     {
         self.bytes
@@ -33,7 +33,7 @@ impl<'a> Text<'a> {
 
 /// A name in a line.
 #[derive(Drop)]
-pub struct Name<'a> {
+pub(crate) struct Name<'a> {
     name: &'a str,
 }
 
@@ -46,13 +46,13 @@ impl<'a> Model for Name<'a> {
 }
 
 impl<'a> Name<'a> {
-    pub fn of(name: &'a str) -> Name<'a>
+    pub(crate) fn of(name: &'a str) -> Name<'a>
         ensures { result ≡ name.now }
     {
         Name { name }
     }
 
-    pub fn as_str(&self) -> &'a str
+    pub(crate) fn as_str(&self) -> &'a str
         ensures { result.now ≡ self.now }
     {
         self.name
