@@ -23,10 +23,6 @@ pub(crate) type ScriptSession<A> = Session<MarkTrail, A>;
 /// Writes the answer of a run or a step of this session: the dump of its stop, or the counts.
 ///
 /// A stop is one of this session's, of the program and the capture that are loaded.
-///
-/// # Errors
-///
-/// The writer failed, or took nothing of a text that isn't empty: a beginning of the reply was written.
 #[tactic(auto, unfolding(crate::specs::RunText::run_text))]
 pub(crate) fn write_run<W: Write, A: Allocator>(
     w: &mut W,
@@ -71,10 +67,6 @@ fn write_list<W: Write, A: Allocator>(
 }
 
 /// Writes the breakpoints of a session, in order of setting.
-///
-/// # Errors
-///
-/// The writer failed, or took nothing of a text that isn't empty: a beginning of the line was written.
 #[tactic(auto, using(cbpf_code::proofs::WrittenLemmas::pairs), unfolding(cbpf_reply::specs::Breakpoints::breakpoints_text))]
 pub(crate) fn write_breakpoints<W: Write, A: Allocator>(
     w: &mut W,
@@ -101,10 +93,6 @@ fn write_lines<W: Write, A: Allocator>(w: &mut W, stops: Stops<'_, A>) -> Result
 }
 
 /// Writes a line for each stop, and how many there are.
-///
-/// # Errors
-///
-/// The writer failed, or took nothing of a text that isn't empty: a beginning of the lines was written.
 #[tactic(auto, using(cbpf_code::proofs::WrittenLemmas::pairs), unfolding(cbpf_reply::specs::Stops::stops_text))]
 pub(crate) fn write_stops<W: Write, A: Allocator>(
     w: &mut W,
