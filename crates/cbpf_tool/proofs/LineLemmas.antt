@@ -2,7 +2,7 @@
 use Rattle.std.proofs.Common.{◌≡◌, ℕ, ◌+◌, ◌<◌, ◌≤◌, Bool, true, false, eqb, ◌||◌, List, [], ◌∷◌, ◌++◌, length, take}
 use Rattle.std.proofs.Common.{take_all, length-take, length-drop, get_or, ◌-◌, drop, Option, Some, None, Result, Ok}
 use Rattle.std.proofs.Common.{Err, MatchResult, append_assoc, append-nil, refl, sym, ◌∙◌, ap, subst, arith, tests}
-use Rattle.std.proofs.lemmas.List.{take_more}
+use Rattle.std.proofs.lemmas.List.Folds.{list_any-append, list_any_more}
 use Rattle.std.specs.Io.KnownBytes.{Keeps, Consumes, IsAtEnd}
 use Rattle.cbpf_tool.specs.Lines.{has_newline}
 use Rattle.cbpf_tool.specs.Reading.{IsStreamFault, unread, Took, Fills, TakesPart, TakesLine}
@@ -10,18 +10,13 @@ use Rattle.cbpf_tool.specs.declared.fault.ToolFault.{ToolFault}
 use Rattle.cbpf_tool.specs.declared.fault.ToolFault.TheVariants.{Source, Read, Write, Memory}
 
 pub plain-append : (l m : List ℕ) → has_newline l ≡ false → has_newline m ≡ false → has_newline (l ++ m) ≡ false
-plain-append [] m h k = k
-plain-append (x ∷ xs) m h k =
-    elim (eqb x 10) as (λ t. (t || has_newline xs) ≡ false
-    → (t || has_newline (xs ++ m)) ≡ false) [ true ↦ λ e. e | false ↦ λ e. plain-append xs m e k ] h
-
-plain-one : (b : ℕ) → (b ≡ 10 → ⊥) → has_newline (b ∷ []) ≡ false
-plain-one b p = grind (arith, tests)
+plain-append l m h k = list_any-append (λ b. eqb b 10) l m ∙ rw (h, k) refl
 
 pub plain-next : (s : List ℕ) (i : ℕ) → i < length s → has_newline (take i s) ≡ false → (get_or s i 0 ≡ 10 → ⊥)
     → has_newline (take (i + 1) s) ≡ false
 plain-next s i l h p =
-    ap has_newline (take_more s i 0 l) ∙ plain-append (take i s) (get_or s i 0 ∷ []) h (plain-one (get_or s i 0) p)
+    let other : eqb (get_or s i 0) 10 ≡ false = grind (arith, tests) in
+    list_any_more (λ b. eqb b 10) s i 0 l ∙ rw (h, other) refl
 
 pub plain-all : (s : List ℕ) (i : ℕ) → length s ≤ i → has_newline (take i s) ≡ false → has_newline s ≡ false
 plain-all s i l h = rw (← take_all i s l) h

@@ -1,5 +1,6 @@
 -- The lines of a script: each ends at a newline, and the last needs none.
-use Rattle.std.specs.Prelude.{ℕ, Bool, false, ◌||◌, ◌==◌, if◌then◌else◌, List, [], ◌∷◌}
+use Rattle.std.specs.Prelude.{ℕ, Bool, ◌==◌, if◌then◌else◌, List, [], ◌∷◌}
+use Rattle.std.specs.List.{list_any}
 use Rattle.cbpf_code.specs.Text.{put_front}
 
 -- the lines, without their newlines
@@ -8,8 +9,7 @@ lines [] = []
 lines (b ∷ bs) = if b == 10 then ([] ∷ lines bs) else put_front b (lines bs)
 
 abbrev pub has_newline : List ℕ → Bool
-has_newline [] = false
-has_newline (b ∷ bs) = b == 10 || has_newline bs
+has_newline bs = list_any (λ b. b == 10) bs
 
 -- the bytes up to the last newline
 abbrev pub whole_lines : List ℕ → List ℕ

@@ -1,17 +1,14 @@
 -- The numbers that the words of a line spell (this project's own: the kernel's documentation shows decimal ones).
-use Rattle.std.specs.Prelude.{ℕ, zero, suc, ℤ, pos, negsuc, Bool, true, ◌&&◌, ◌==◌, nat_le, if◌then◌else◌, List, []}
-use Rattle.std.specs.Prelude.{◌∷◌, Option, Some, None, option_map}
+use Rattle.std.specs.Prelude.{ℕ, zero, suc, ℤ, pos, negsuc, ◌&&◌, ◌==◌, nat_le, if◌then◌else◌, List, [], ◌∷◌}
+use Rattle.std.specs.Prelude.{Option, Some, None, option_map}
+use Rattle.std.specs.List.{list_all}
 use Rattle.cbpf_code.specs.WordTokens.{is_digit, number as digits_value}
-
-abbrev pub all_digits : List ℕ → Bool
-all_digits [] = true
-all_digits (b ∷ bs) = is_digit b && all_digits bs
 
 -- a number up to `most`: one decimal digit or more and nothing else, with any number of zeros in front
 abbrev pub number : ℕ → List ℕ → Option ℕ
 number most [] = None
 number most (b ∷ bs) =
-    if all_digits (b ∷ bs) && nat_le (digits_value (b ∷ bs)) most then Some (digits_value (b ∷ bs)) else None
+    if list_all is_digit (b ∷ bs) && nat_le (digits_value (b ∷ bs)) most then Some (digits_value (b ∷ bs)) else None
 
 abbrev pub negated : ℕ → ℤ
 negated zero = pos 0

@@ -1,5 +1,5 @@
 -- The words of a command line, and what stands after them.
-use Rattle.std.specs.Prelude.{ℕ, zero, suc, Bool, true, false, ◌&&◌, not, if◌then◌else◌, List, [], ◌∷◌}
+use Rattle.std.specs.Prelude.{ℕ, zero, suc, Bool, false, not, if◌then◌else◌, List, [], ◌∷◌, reverse}
 use Rattle.cbpf_code.specs.Text.{put_front}
 use Rattle.cbpf_code.specs.WordTokens.{is_blank}
 
@@ -21,9 +21,10 @@ after_words (suc n) [] = []
 after_words (suc n) (b ∷ bs) = if is_blank b then after_words (suc n) bs
     else (if begins_word bs then after_words (suc n) bs else after_words n bs)
 
-abbrev pub all_blank : List ℕ → Bool
-all_blank [] = true
-all_blank (b ∷ bs) = is_blank b && all_blank bs
+-- where the first blank is, or the text's end
+abbrev pub word_end : List ℕ → ℕ
+word_end [] = 0
+word_end (b ∷ bs) = if is_blank b then 0 else suc (word_end bs)
 
 -- without the blanks at its front
 unfoldable pub trim_start : List ℕ → List ℕ
@@ -32,8 +33,7 @@ trim_start (b ∷ bs) = if is_blank b then trim_start bs else (b ∷ bs)
 
 -- without the blanks at its end
 unfoldable pub trim_end : List ℕ → List ℕ
-trim_end [] = []
-trim_end (b ∷ bs) = if all_blank (b ∷ bs) then [] else (b ∷ trim_end bs)
+trim_end bs = reverse (trim_start (reverse bs))
 
 -- without the blanks around it
 abbrev pub trimmed : List ℕ → List ℕ

@@ -6,6 +6,7 @@ use cbpf_code::is_digit;
 
 /// The decimal number that a word spells, of those up to `most`. Zeros may stand in front, as many as
 /// there are.
+#[tactic(auto, using(crate::proofs::NumberLemmas::numbers))]
 pub(crate) fn number(word: &[u8], most: u64) -> Option<u64>
     ensures { result ≡ spec.number most word.now }
 {

@@ -35,14 +35,11 @@ pub(crate) fn trimmed(text: &[u8]) -> &[u8]
     trim_end(trim_start(text))
 }
 
-/// How long a word is that begins the text.
+/// Where the first blank is, or the text's end.
 #[tactic(auto, using(crate::proofs::WordLemmas::runs))]
 fn word_len(text: &[u8]) -> usize
+    ensures end { result ≡ spec.word_end text.now }
     ensures within { result ≤ length text.now }
-    ensures word { spec.begins_word text.now ≡ true
-        → spec.words text.now ≡ take result text.now ∷ spec.words (drop result text.now) }
-    ensures rest { spec.begins_word text.now ≡ true → (n : ℕ)
-        → spec.after_words (suc n) text.now ≡ spec.after_words n (drop result text.now) }
 {
     let mut len = 0;
     while len < text.len() && !is_blank(text[len]) {

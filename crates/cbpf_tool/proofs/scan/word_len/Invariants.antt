@@ -1,11 +1,11 @@
-use Rattle.std.proofs.Common.{◌≡◌, ◌-◌, ◌≤◌, length, take, true}
-use Rattle.cbpf_tool.proofs.WordLemmas.{no_blank}
+use Rattle.std.proofs.Common.{◌≡◌, ◌+◌, ◌-◌, ◌≤◌, length, drop}
+use Rattle.cbpf_tool.specs.Words.{word_end}
 use Rattle.cbpf_tool.proofs.scan.word_len.Given as goal
 
 abbrev pub invariant-loop-len : goal.invariant-loop-len
 invariant-loop-len l = record {
   within : l.len ≤ length l.text;
-  plain : no_blank (take l.len l.text) ≡ true;
+  end : word_end l.text ≡ l.len + word_end (drop l.len l.text);
 }
 
 abbrev pub decreases-loop-len : goal.decreases-loop-len
