@@ -71,9 +71,9 @@ finished-some script left new f g h = appended-some [] new _ h.3
 
 faulted-some : (script : List ℕ) (left new : Option (List ℕ)) (f g : Source) (e : ToolFault)
     → Faulted script left (Some []) new f g e → (text : List ℕ) × (new ≡ Some text)
-faulted-some script left new f g Read h = appended-some [] new _ h.7
-faulted-some script left new f g Write h = part-some [] new _ h.5
-faulted-some script left new f g Memory h = appended-some [] new _ h.7
+faulted-some script left new f g Read h = appended-some [] new _ h.6
+faulted-some script left new f g Write h = part-some [] new _ h.1
+faulted-some script left new f g Memory h = appended-some [] new _ h.3
 faulted-some script left new f g (RefusedSource e) h = absurd h
 
 outcome-some : (script : List ℕ) (left new : Option (List ℕ)) (f g : Source) (t : Result (Unit {0}) ToolFault)

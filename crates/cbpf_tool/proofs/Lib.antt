@@ -5,7 +5,6 @@ pub mod NameLemmas
 pub mod LineLemmas
 pub mod FileLemmas
 pub mod ReplyLemmas
-pub mod ReplyText
 pub mod ScriptLemmas
 pub mod AssemblyLemmas
 pub mod SourceLemmas

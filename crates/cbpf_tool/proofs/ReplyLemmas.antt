@@ -23,7 +23,7 @@ use Rattle.cbpf_tool.specs.declared.debugger.AfterLine.TheVariants.{NextLine, Qu
 use Rattle.cbpf_reply.specs.Errors.{word_fault_text, check_fault_text, capture_fault_text}
 use Rattle.cbpf_reply.specs.Errors.{memory_text}
 use Rattle.cbpf_reply.specs.Loads.{program_text, capture_text}
-use Rattle.cbpf_tool.specs.Replies.{Writes, unreadable, unsound, accepted, no_capture, a_capture}
+use Rattle.cbpf_tool.specs.Replies.{unreadable, unsound, accepted, no_capture, a_capture}
 use Rattle.cbpf_tool.specs.Replies.{own, unheld, unread}
 use Rattle.cbpf_tool.specs.declared.files.LoadFault.{LoadFault}
 use Rattle.cbpf_tool.specs.declared.command.Command.{Command}
@@ -32,32 +32,25 @@ use Rattle.pcap_classic.specs.Savefile.{Savefile, IsSavefile, IsRefusal}
 use Rattle.pcap_classic.specs.declared.fault.CaptureFault.{CaptureFault}
 use Rattle.pcap_classic.specs.declared.fault.CaptureFault.TheVariants as capture_fault
 
--- a text whose reply changes nothing
-pub writes-same : (text : List ℕ) (m : View) (Written : List ℕ → Type 0) → Written text → Writes (text, m) m Written
-unfolding Writes
-writes-same text m Written w = (refl, w)
-
 -- ---- `load bpf`
 
 -- a word text that is no list, or out of memory
 pub words-refused : (m : View) (text : List ℕ) (fault : WordFault) (Written : List ℕ → Type 0) → Refused text fault
     → Written (word_fault_text fault) → Answered m m (LoadWords text) Written
 unfolding word_fault_text
-words-refused m text word.Memory Written r w = λ files f. unheld refl tt (writes-same memory_text m Written w)
-words-refused m text e Written r w = λ files f. own refl (unreadable e r (λ z. cc) (writes-same _ m Written w))
+words-refused m text word.Memory Written r w = λ files f. (_, unheld refl tt refl, w)
+words-refused m text e Written r w = λ files f. (_, own refl (unreadable e r (λ z. cc) refl), w)
 
 pub words-unsound : (m : View) (text : List ℕ) (list : List Insn) (fault : CheckFault) (Written : List ℕ → Type 0)
     → Spells text list → FirstFault list fault → Written (check_fault_text fault)
     → Answered m m (LoadWords text) Written
-words-unsound m text list fault Written s e w = λ files f. own refl (unsound list fault s e (writes-same _ m Written w))
+words-unsound m text list fault Written s e w = λ files f. (_, own refl (unsound list fault s e refl), w)
 
 pub words-accepted : (m n : View) (text : List ℕ) (list program : List Insn) (count : ℕ) (Written : List ℕ → Type 0)
     → Spells text list → program ≡ list → IsSound program → count ≡ length program → n ≡ with_program_loaded m program
     → Written (program_text count) → Answered m n (LoadWords text) Written
-unfolding Writes
 words-accepted m n text list program count Written s e sound c v w = λ files f.
-    own refl (accepted program (subst (λ (l : List Insn). Spells text l) (sym e) s) sound
-    (v, subst (λ k. Written (program_text k)) c w))
+    (_, own refl (accepted program (rw e s) sound (rw (c, v) refl)), w)
 
 -- ---- `load pcap`
 
@@ -70,24 +63,24 @@ module _ {V : Type 0} (items : V → List ℕ) (f g : Source) (m n : View) (name
 
   pub load-failed : (e : LoadFault) → Loads items f g name (Err e) → n ≡ m → Written (load_fault_text e)
       → Replied f g m n (Ok (Some (LoadCapture name))) Written
-  unfolding Writes
-  load-failed Absent l v w = (kept-from (Err Absent) l, λ t. own l.counts (rw (l.gives t) (v, w)))
-  load-failed Device l v w = (kept-from (Err Device) l, λ t. unread (l.rises, l.counts) tt (v, w))
-  load-failed Memory l v w = (kept-from (Err Memory) l, λ t. unheld l.counts tt (v, w))
+  load-failed Absent l v w = (kept-from (Err Absent) l, λ t. (_, own l.counts (rw (l.gives t, v) refl), w))
+  load-failed Device l v w = (kept-from (Err Device) l, λ t. (_, unread (l.rises, l.counts) tt (rw v refl), w))
+  load-failed Memory l v w = (kept-from (Err Memory) l, λ t. (_, unheld l.counts tt (rw v refl), w))
 
   module _ (v : V) (l : Loads items f g name (Ok v)) where
     pub load-refused : (fault : CaptureFault) → IsRefusal fault (items v) → n ≡ m → Written (capture_fault_text fault)
         → Replied f g m n (Ok (Some (LoadCapture name))) Written
-    unfolding Writes capture_fault_text
-    load-refused capture_fault.Memory r e w = (kept-from (Ok v) l, λ t. unheld l.counts tt (e, w))
-    load-refused fault r e w =
-        (kept-from (Ok v) l, λ t. own l.counts (rw (l.gives t) (no_capture fault r (λ z. cc) (e, w))))
+    unfolding capture_fault_text
+    load-refused capture_fault.Memory r e w = (kept-from (Ok v) l, λ t. (_, unheld l.counts tt (rw e refl), w))
+    load-refused fault r e w = (
+      kept-from (Ok v) l,
+      λ t. (_, own l.counts (rw (l.gives t) (no_capture fault r (λ z. cc) (rw e refl))), w),
+    )
 
     pub load-accepted : (capture : Savefile) → IsSavefile (items v) capture → n ≡ with_capture_loaded m capture
         → Written (capture_text capture) → Replied f g m n (Ok (Some (LoadCapture name))) Written
-    unfolding Writes
     load-accepted capture h e w =
-        (kept-from (Ok v) l, λ t. own l.counts (rw (l.gives t) (a_capture capture h (e, w))))
+        (kept-from (Ok v) l, λ t. (_, own l.counts (rw (l.gives t) (a_capture capture h (rw e refl))), w))
 
 -- ---- a line
 

@@ -15,16 +15,15 @@ use Rattle.cbpf_tool.specs.FileMap.{FileMap, Source}
 use Rattle.cbpf_code.specs.Text.{put_front}
 use Rattle.cbpf_tool.specs.Lines.{lines, whole_lines, has_newline}
 use Rattle.cbpf_dbg.specs.View.{View, empty_view}
-use Rattle.cbpf_tool.specs.Reading.{unread, Took, TakesLine}
-use Rattle.cbpf_tool.specs.Replies.{LineReplies}
+use Rattle.cbpf_tool.specs.Reading.{unread as unread_bytes, Took, TakesLine}
+use Rattle.cbpf_tool.specs.Replies.{Reply, LineReplies, own, unheld, unread}
 use Rattle.cbpf_tool.specs.Output.{Output, at_end, at_quit, at_line, HasQuit}
 use Rattle.cbpf_tool.specs.Progress.{LineRan, unlines, EachPlain, LinesRan, still, onward, Progress}
-use Rattle.cbpf_tool.specs.Debugged.{IsOutput, Faulted, Finished}
+use Rattle.cbpf_tool.specs.Debugged.{Printed, Faulted, Finished}
 use Rattle.cbpf_tool.specs.declared.fault.ToolFault.{ToolFault}
 use Rattle.cbpf_tool.specs.declared.fault.ToolFault.TheVariants.{Source as RefusedSource, Read, Write, Memory}
 use Rattle.cbpf_tool.specs.declared.debugger.AfterLine.{AfterLine}
 use Rattle.cbpf_tool.specs.declared.debugger.AfterLine.TheVariants.{NextLine, Quit}
-use Rattle.cbpf_tool.proofs.ReplyText.{reply-named, quit-silent}
 
 lines-plain : (l bs : List ℕ) → has_newline l ≡ false → lines (l ++ 10 ∷ bs) ≡ l ∷ lines bs
 lines-plain [] bs h = refl
@@ -82,16 +81,15 @@ whole-unlines [] p h = whole-plain p h
 whole-unlines (l ∷ ls) p h = ap whole_lines (append_assoc l (10 ∷ unlines ls) p) ∙ whole-line l (unlines ls ++ p)
     ∙ ap (λ (t : List ℕ). l ++ (10 ∷ t)) (whole-unlines ls p h)
 
-lines-some : (bs : List ℕ) → (bs ≡ [] → ⊥) → (l : List ℕ) × (more : List (List ℕ)) × (lines bs ≡ l ∷ more)
-lines-some [] n = absurd (n refl)
-lines-some (b ∷ bs) n = elim (eqb b 10)
-    as (λ t. (l : List ℕ) × (more : List (List ℕ)) × (cond t ([] ∷ lines bs) (put_front b (lines bs)) ≡ l ∷ more)) [
-      | true ↦ ([], lines bs, refl)
-      | false ↦ front b (lines bs)
-    ] where
-      front : (b : ℕ) (ls : List (List ℕ)) → (l : List ℕ) × (more : List (List ℕ)) × (put_front b ls ≡ l ∷ more)
-      front b [] = (b ∷ [], [], refl)
-      front b (l ∷ ls) = (b ∷ l, ls, refl)
+lines-some : (bs : List ℕ) → (bs ≡ [] → ⊥) → lines bs ≡ [] → ⊥
+lines-some [] n = λ e. n refl
+lines-some (b ∷ bs) n = elim (eqb b 10) as (λ t. cond t ([] ∷ lines bs) (put_front b (lines bs)) ≡ [] → ⊥) [
+  | true ↦ λ e. cc
+  | false ↦ front b (lines bs)
+] where
+    front : (b : ℕ) (ls : List (List ℕ)) → put_front b ls ≡ [] → ⊥
+    front b [] e = cc
+    front b (l ∷ ls) e = cc
 
 -- ---- lines that were run
 
@@ -106,12 +104,18 @@ quit-last [] l (inr h) = absurd h
 quit-last (x ∷ xs) l (inl h) = inl (inl h)
 quit-last (x ∷ xs) l (inr h) = elim (quit-last xs l h) [ inl k ↦ inl (inr k) | inr k ↦ inr k ]
 
+quit-silent : (files : FileMap) (m : View) (f g : ℕ) (reply : Reply) → LineReplies files m f g (Ok (Some command.Quit)) reply
+    → ⊥
+quit-silent files m f g reply (own k h) = h
+quit-silent files m f g reply (unheld k u h) = u
+quit-silent files m f g reply (unread k u h) = u
+
 ran-no-quit : (files : FileMap) (f g : ℕ) (m n : View) (ls : List (List ℕ)) (t : List ℕ) → LinesRan files m f ls t n g
     → HasQuit ls → ⊥
 ran-no-quit files f g m n ls t still h = h
 ran-no-quit files f g m n ls t (onward {n = k} {g = g'} {ls = ls'} {t = t'} l v r a) h = elim (quit-last ls' l h) [
   | inl q ↦ ran-no-quit files f g' m k ls' t' r q
-  | inr e ↦ quit-silent files k n g' g _ (subst (λ said. LineReplies files k n g' g said (λ s. s ≡ v)) e a)
+  | inr e ↦ quit-silent files k g' g (v, n) (subst (λ said. LineReplies files k g' g said (v, n)) e a)
 ]
 
 -- what runs on after some lines
@@ -121,27 +125,32 @@ ran-output : (files : FileMap) (f g h : ℕ) (m n : View) (ls : List (List ℕ))
 ran-output files f g h m n ls t still rest u o = o
 ran-output files f g h m n ls t (onward {n = k} {g = g'} {ls = ls'} {t = t'} l v r a) rest u o =
     rw (append_assoc ls' (l ∷ []) rest, append_assoc t' v u)
-    (ran-output files f g' h m k ls' t' r (l ∷ rest) (v ++ u) (at_line l v a o))
+    (ran-output files f g' h m k ls' t' r (l ∷ rest) (v ++ u) (at_line l (v, n) a o))
 
 pub part-whole : (u v : Option (List ℕ)) (text : List ℕ) → Appended u v text → AppendedPart u v text
 part-whole u v text h = part-take u v (length text) text (rw (take_all (length text) text (omega arith)) h)
 
-unread-nil : (pending : List ℕ) (left : Option (List ℕ)) (r : List ℕ) → pending ≡ [] → unread pending left ≡ Some r
+unread-nil : (pending : List ℕ) (left : Option (List ℕ)) (r : List ℕ) → pending ≡ [] → unread_bytes pending left ≡ Some r
     → left ≡ Some r
-unfolding unread
+unfolding unread_bytes
 unread-nil pending None r n e = absurd (cc)
 unread-nil pending (Some xs) r n e = rw n at e
 
 module _ {script pending : List ℕ} {left old new : Option (List ℕ)} {m : View} {f g : Source}
     (p : Progress script pending left old new f g m) (new' : Option (List ℕ)) (k : Keeps new new') where
-  -- the text of the lines that were run
-  so_far : IsOutput f g p.done p.text
-  so_far = subst (λ t. IsOutput f g p.done t) (append-nil p.text)
-      (subst (λ ls. IsOutput f g ls (p.text ++ [])) (append-nil p.done)
-      (ran-output f.files f.failures g.failures g.failures empty_view m p.done p.text p.ran [] [] at_end))
+  so_far : Output f.files empty_view f.failures p.done p.text g.failures
+  so_far = rw (← append-nil p.done, ← append-nil p.text)
+      (ran-output f.files f.failures g.failures g.failures empty_view m p.done p.text p.ran [] [] at_end)
 
-  script_lines : lines script ≡ p.done ++ lines p.rest
-  script_lines = ap lines p.split ∙ lines-unlines p.done p.rest p.plain
+  -- the lines that were run, and their output
+  abbrev printed : Printed script f g
+  printed = record {
+    ls = p.done;
+    more = lines p.rest;
+    text = p.text;
+    split = ap lines p.split ∙ lines-unlines p.done p.rest p.plain;
+    output = so_far;
+  }
 
   no_quit : ¬ HasQuit p.done
   no_quit = ran-no-quit f.files f.failures g.failures empty_view m p.done p.text p.ran
@@ -151,132 +160,90 @@ module _ {script pending : List ℕ} {left old new : Option (List ℕ)} {m : Vie
 
   read-faulted : (pending' line : List ℕ) (left' : Option (List ℕ)) → has_newline line ≡ false → pending' ≡ []
       → Took p.rest pending' left' line → Faulted script left' old new' f g Read
-  read-faulted pending' line left' h n t =
-      let whole : lines (whole_lines (unlines p.done ++ line)) ≡ p.done = ap lines (whole-unlines p.done line h
-      ∙ sym (append-nil (unlines p.done))) ∙ lines-unlines p.done [] p.plain ∙ append-nil p.done in (
-        unlines p.done ++ line,
-        t.rest,
-        p.text,
-        p.split ∙ ap (λ (r : List ℕ). unlines p.done ++ r) t.split ∙ sym (append_assoc (unlines p.done) line t.rest),
-        unread-nil pending' left' t.rest n t.known,
-        subst (λ ls. IsOutput f g ls p.text) (sym whole) so_far,
-        subst (λ ls. ¬ HasQuit ls) (sym whole) no_quit,
-        wrote,
-      )
-
-  memory-faulted : (left' : Option (List ℕ)) → (p.rest ≡ [] → ⊥) → Faulted script left' old new' f g Memory
-  memory-faulted left' n =
-      let some = lines-some p.rest n in (
-        p.done,
-        some.0,
-        some.1,
-        p.text,
-        script_lines ∙ ap (λ (r : List (List ℕ)). p.done ++ r) some.2,
-        so_far,
-        no_quit,
-        wrote,
-      )
+  read-faulted pending' line left' h n t = (
+    printed,
+    unlines p.done ++ line,
+    t.rest,
+    p.split ∙ ap (λ (r : List ℕ). unlines p.done ++ r) t.split ∙ sym (append_assoc (unlines p.done) line t.rest),
+    unread-nil pending' left' t.rest n t.known,
+    sym (ap lines (whole-unlines p.done line h ∙ sym (append-nil (unlines p.done)))
+        ∙ lines-unlines p.done [] p.plain ∙ append-nil p.done),
+    no_quit,
+    wrote,
+  )
 
   pub line-faulted : (pending' line : List ℕ) (left' : Option (List ℕ)) (e : ToolFault)
       → TakesLine p.rest pending' left' line (Err e) → Faulted script left' old new' f g e
   line-faulted pending' line left' Read h = read-faulted pending' line left' h.0 h.1 h.2
-  line-faulted pending' line left' Write h =
-      (p.done, lines p.rest, p.text, script_lines, so_far, part-whole old new' p.text wrote)
-  line-faulted pending' line left' Memory h = memory-faulted left' h
+  line-faulted pending' line left' Write h = (printed, part-whole old new' p.text wrote)
+  line-faulted pending' line left' Memory h = (printed, lines-some p.rest h, no_quit, wrote)
   line-faulted pending' line left' (RefusedSource e) h = absurd h
 
   -- a flush before a line failed
   pub unflushed : (left' : Option (List ℕ)) (e : ToolFault) → e ≡ Write → Faulted script left' old new' f g e
-  unflushed left' e w =
-      subst (λ (x : ToolFault). Faulted script left' old new' f g x) (sym w)
-      (p.done, lines p.rest, p.text, script_lines, so_far, part-whole old new' p.text wrote)
+  unflushed left' e w = rw w (printed, part-whole old new' p.text wrote)
 
   -- the input ended after a newline
   pub end-done : (left' : Option (List ℕ)) → p.rest ≡ [] → left' ≡ Some [] → Finished script left' old new' f g
-  end-done left' e z = (
-    p.text,
-    subst (λ ls. IsOutput f g ls p.text)
-        (sym (script_lines ∙ ap (λ (r : List ℕ). p.done ++ lines r) e ∙ append-nil p.done)) so_far,
-    inr z,
-    wrote,
-  )
+  end-done left' e z = (printed, ap lines e, inr z, wrote)
 
   module _ (new'' : Option (List ℕ)) (n : View) (g' : Source) {line : List ℕ} {more : List (List ℕ)}
       (next : lines p.rest ≡ line ∷ more) (is_known : IsTrue f.is_known) where
     here : lines script ≡ p.done ++ (line ∷ more)
-    here = script_lines ∙ ap (λ (r : List (List ℕ)). p.done ++ r) next
+    here = printed.split ∙ ap (λ (r : List (List ℕ)). p.done ++ r) next
 
-    -- the files are still known, and are the same
+    -- the files are still known
     still_known : IsTrue g.is_known
     still_known = rw p.kept.is_known is_known
 
-    same_files : (said : Result (Option Command) CommandFault) (W : List ℕ → Type 0)
-        → LineReplies g.files m n g.failures g'.failures said W
-        → LineReplies f.files m n g.failures g'.failures said W
-    same_files said W h = subst (λ fs. LineReplies fs m n g.failures g'.failures said W) p.kept.files h
+    -- one more line, of which the files are the same
+    replied : (u : List ℕ) → LineReplies g.files m g.failures g'.failures (command_of line) (u, n)
+        → LineReplies f.files m g.failures g'.failures (command_of line) (u, n)
+    replied u r = subst (λ fs. LineReplies fs m g.failures g'.failures (command_of line) (u, n)) p.kept.files r
+
+    abbrev one_line : (u : List ℕ) → LineReplies g.files m g.failures g'.failures (command_of line) (u, n) → Printed script f g'
+    one_line u r = record {
+      ls = p.done ++ (line ∷ []);
+      more = more;
+      text = p.text ++ (u ++ []);
+      split = here ∙ sym (append_assoc p.done (line ∷ []) more);
+      output = ran-output f.files f.failures g.failures g'.failures empty_view m p.done p.text p.ran (line ∷ [])
+          (u ++ []) (at_line line (u, n) (replied u r) at_end);
+    }
+
+    pub write-faulted : (left' : Option (List ℕ)) (e : WriteFault)
+        → LineRan g g' m n (command_of line) new' new'' (Err e) → Faulted script left' old new'' f g' Write
+    write-faulted left' e c =
+        let r = c.1 still_known in
+        (one_line r.0 r.1, rw (append-nil r.0) (part-then old new' new'' p.text r.0 wrote r.2))
 
     pub quit-done : (left' : Option (List ℕ)) → LineRan g g' m n (command_of line) new' new'' (Ok Quit)
         → Finished script left' old new'' f g'
     quit-done left' c =
         let q = c.1 still_known in
-        let o : Output f.files empty_view f.failures (p.done ++ (line ∷ more)) (p.text ++ []) g.failures =
-        ran-output f.files f.failures g.failures g.failures empty_view m p.done p.text p.ran (line ∷ more) []
-        (at_quit line more q.0) in
-        let whole : Output f.files empty_view f.failures (lines script) (p.text ++ []) g.failures =
-        subst (λ ls. Output f.files empty_view f.failures ls (p.text ++ []) g.failures) (sym here) o in (
-          p.text ++ [],
-          subst (λ h. Output f.files empty_view f.failures (lines script) (p.text ++ []) h) q.1 whole,
-          inl (subst (λ ls. HasQuit ls) (sym here) (quit-in p.done line more q.0)),
-          appended-then old new' new'' p.text [] wrote q.2,
-        )
-
-    one_line : (u : List ℕ) → LineReplies g.files m n g.failures g'.failures (command_of line) (λ s. s ≡ u)
-        → IsOutput f g' (p.done ++ (line ∷ [])) (p.text ++ u)
-    one_line u r =
-        let o : Output f.files empty_view f.failures (p.done ++ (line ∷ [])) (p.text ++ (u ++ [])) g'.failures =
-        ran-output f.files f.failures g.failures g'.failures empty_view m p.done p.text p.ran (line ∷ []) (u ++ [])
-        (at_line line u (same_files (command_of line) (λ s. s ≡ u) r) at_end) in
-        subst (λ t. IsOutput f g' (p.done ++ (line ∷ [])) (p.text ++ t)) (append-nil u) o
-
-    pub write-faulted : (left' : Option (List ℕ)) (e : WriteFault)
-        → LineRan g g' m n (command_of line) new' new'' (Err e) → Faulted script left' old new'' f g' Write
-    write-faulted left' e c =
-        let r = reply-named g.files m n g.failures g'.failures (command_of line) (λ t. AppendedPart new' new'' t)
-        (c.1 still_known) in (
-          p.done ++ (line ∷ []),
-          more,
-          p.text ++ r.0,
-          here ∙ sym (append_assoc p.done (line ∷ []) more),
-          one_line r.0 r.1,
-          part-then old new' new'' p.text r.0 wrote r.2,
-        )
-
-    -- a last line without a newline
-    last-done : (left' : Option (List ℕ)) → left' ≡ Some [] → more ≡ []
-        → LineRan g g' m n (command_of line) new' new'' (Ok NextLine) → Finished script left' old new'' f g'
-    last-done left' z e c =
-        let r = reply-named g.files m n g.failures g'.failures (command_of line) (λ t. Appended new' new'' t)
-        (c.1 still_known) in
-        let all : p.done ++ (line ∷ []) ≡ lines script =
-        sym (here ∙ ap (λ (ls : List (List ℕ)). p.done ++ (line ∷ ls)) e) in (
-          p.text ++ r.0,
-          subst (λ ls. IsOutput f g' ls (p.text ++ r.0)) all (one_line r.0 r.1),
-          inr z,
-          appended-then old new' new'' p.text r.0 wrote r.2,
-        )
+        let all : Printed script f g' = record {
+          ls = p.done ++ (line ∷ more);
+          more = [];
+          text = p.text ++ [];
+          split = here ∙ sym (append-nil (p.done ++ (line ∷ more)));
+          output = rw (← q.1) (ran-output f.files f.failures g.failures g.failures empty_view m p.done p.text p.ran
+              (line ∷ more) [] (at_quit line more q.0));
+        } in
+        (all, refl, inl (quit-in p.done line more q.0), appended-then old new' new'' p.text [] wrote q.2)
 
     -- after it the input is at its end, whatever comes after the line
     pub either-done : (left' : Option (List ℕ)) → left' ≡ Some [] → more ≡ [] → (b : AfterLine)
         → LineRan g g' m n (command_of line) new' new'' (Ok b) → Finished script left' old new'' f g'
-    either-done left' z e NextLine c = last-done left' z e c
+    either-done left' z e NextLine c =
+        let r = c.1 still_known in
+        (one_line r.0 r.1, e, inr z, rw (append-nil r.0) (appended-then old new' new'' p.text r.0 wrote r.2))
     either-done left' z e Quit c = quit-done left' c
 
     pub line-done : {pending' : List ℕ} {left' : Option (List ℕ)} → has_newline line ≡ false
         → Took p.rest pending' left' (line ++ 10 ∷ []) → LineRan g g' m n (command_of line) new' new'' (Ok NextLine)
         → Progress script pending' left' old new'' f g' n
     line-done plain t c =
-        let r = reply-named g.files m n g.failures g'.failures (command_of line) (λ s. Appended new' new'' s)
-        (c.1 still_known) in
+        let r = c.1 still_known in
         record {
           done = p.done ++ line ∷ [];
           text = p.text ++ r.0;
@@ -290,13 +257,13 @@ module _ {script pending : List ℕ} {left old new : Option (List ℕ)} {m : Vie
             files = c.0.files ∙ p.kept.files;
             is_known = c.0.is_known ∙ p.kept.is_known;
           };
-          ran = onward line r.0 p.ran (same_files (command_of line) (λ s. s ≡ r.0) r.1);
+          ran = onward line r.0 p.ran (replied r.0 r.1);
           wrote = appended-then old new' new'' p.text r.0 wrote r.2;
         }
 
 pub progress-start : (script pending : List ℕ) (left old : Option (List ℕ)) (f : Source) → pending ≡ []
     → left ≡ Some script → Progress script pending left old old f f empty_view
-unfolding unread
+unfolding unread_bytes
 progress-start script pending left old f n e = record {
   done = [];
   text = [];
@@ -321,24 +288,9 @@ next-last rest [] line l h s e = absurd (s refl)
 next-last rest (b ∷ bs) line l h s e = ap lines e ∙ lines-last b bs h ∙ sym (ap (λ (x : List ℕ). x ∷ []) l)
 
 -- after the last flush
-flushed : (script : List ℕ) (left old new new' : Option (List ℕ)) (f g : Source)
-    → Finished script left old new f g → Keeps new new' → Finished script left old new' f g
-flushed script left old new new' f g h k = (h.0, h.1, h.2, appended-kept old new new' h.0 h.3 k)
-
-not-flushed : (script : List ℕ) (left old new new' : Option (List ℕ)) (f g : Source)
-    → Finished script left old new f g → Keeps new new' → Faulted script left old new' f g Write
-not-flushed script left old new new' f g h k = (
-  lines script,
-  [],
-  h.0,
-  sym (append-nil (lines script)),
-  h.1,
-  part-whole old new' h.0 (appended-kept old new new' h.0 h.3 k),
-)
-
 pub ended : (script : List ℕ) (left old new new' : Option (List ℕ)) (f g : Source) (r : Result (Unit {0}) ToolFault)
     → Finished script left old new f g → Keeps new new' → IfErr r (λ e. e ≡ Write)
     → MatchResult r (λ _. Finished script left old new' f g) (λ e. Faulted script left old new' f g e)
-ended script left old new new' f g (Ok x) h k w = flushed script left old new new' f g h k
+ended script left old new new' f g (Ok x) h k w = (h.0, h.1, h.2, appended-kept old new new' h.0.text h.3 k)
 ended script left old new new' f g (Err e) h k w =
-    subst (λ (y : ToolFault). Faulted script left old new' f g y) (sym w) (not-flushed script left old new new' f g h k)
+    rw w (h.0, part-whole old new' h.0.text (appended-kept old new new' h.0.text h.3 k))

@@ -5,7 +5,7 @@ use Rattle.cbpf_tool.specs.declared.command.Command.TheVariants.{Quit}
 use Rattle.cbpf_dbg.specs.View.{View}
 use Rattle.cbpf_tool.specs.FileMap.{FileMap}
 use Rattle.cbpf_tool.specs.Output.{Output}
-use Rattle.cbpf_tool.specs.Replies.{OwnReply}
+use Rattle.cbpf_tool.specs.Replies.{Reply, OwnReply}
 use Rattle.cbpf_reply.specs.Errors.{memory_text, device_text}
 
 -- the output of some lines, each with its own reply
@@ -13,9 +13,9 @@ pub data OwnOutput (files : FileMap) : View → List (List ℕ) → List ℕ →
   own_end : {m : View} → OwnOutput files m [] []
   own_quit : {m : View} (l : List ℕ) (ls : List (List ℕ)) → command_of l ≡ Ok (Some Quit)
       → OwnOutput files m (l ∷ ls) []
-  own_line : {m n : View} {rest : List ℕ} {ls : List (List ℕ)} (l text : List ℕ)
-      → OwnReply files m n (command_of l) (λ t. t ≡ text) → OwnOutput files n ls rest
-      → OwnOutput files m (l ∷ ls) (text ++ rest)
+  own_line : {m : View} {rest : List ℕ} {ls : List (List ℕ)} (l : List ℕ) (reply : Reply)
+      → OwnReply files m (command_of l) reply → OwnOutput files reply.1 ls rest
+      → OwnOutput files m (l ∷ ls) (reply.0 ++ rest)
 
 -- a reply stands in a text
 abbrev pub Stands : List ℕ → List ℕ → Type 0

@@ -4,7 +4,7 @@ use Rattle.cbpf_tool.specs.Commands.{command_of}
 use Rattle.cbpf_tool.specs.declared.command.Command.TheVariants.{Quit}
 use Rattle.cbpf_tool.specs.FileMap.{FileMap}
 use Rattle.cbpf_dbg.specs.View.{View}
-use Rattle.cbpf_tool.specs.Replies.{LineReplies}
+use Rattle.cbpf_tool.specs.Replies.{Reply, LineReplies}
 
 -- the text of the replies to some lines, from what is loaded before them, while the count of failures
 -- goes from one number to another
@@ -12,9 +12,9 @@ pub data Output (files : FileMap) : View → ℕ → List (List ℕ) → List �
   at_end : {m : View} {f : ℕ} → Output files m f [] [] f
   at_quit : {m : View} {f : ℕ} (l : List ℕ) (ls : List (List ℕ)) → command_of l ≡ Ok (Some Quit)
       → Output files m f (l ∷ ls) [] f
-  at_line : {m n : View} {f g h : ℕ} {rest : List ℕ} {ls : List (List ℕ)} (l text : List ℕ)
-      → LineReplies files m n f g (command_of l) (λ t. t ≡ text)
-      → Output files n g ls rest h → Output files m f (l ∷ ls) (text ++ rest) h
+  at_line : {m : View} {f g h : ℕ} {rest : List ℕ} {ls : List (List ℕ)} (l : List ℕ) (reply : Reply)
+      → LineReplies files m f g (command_of l) reply → Output files reply.1 g ls rest h
+      → Output files m f (l ∷ ls) (reply.0 ++ rest) h
 
 -- one of the lines is `quit`
 abbrev pub HasQuit : List (List ℕ) → Type 0

@@ -1,5 +1,5 @@
 -- How far a script was run. No public clause names it.
-use Rattle.std.specs.Prelude.{◌≡◌, ℕ, false, IsTrue, List, [], ◌∷◌, ◌++◌, Option, Some, Result, Ok, Err}
+use Rattle.std.specs.Prelude.{◌≡◌, ◌⊎◌, ℕ, false, IsTrue, List, [], ◌∷◌, ◌++◌, Option, Some, Result, Ok, Err}
 use Rattle.cbpf_code.specs.Writing.{Appended, AppendedPart}
 use Rattle.cbpf_code.specs.declared.writing.WriteFault.{WriteFault}
 use Rattle.cbpf_tool.specs.Commands.{command_of}
@@ -10,7 +10,9 @@ use Rattle.cbpf_tool.specs.FileMap.{FileMap, Source}
 use Rattle.cbpf_tool.specs.Lines.{has_newline}
 use Rattle.cbpf_dbg.specs.View.{View, empty_view}
 use Rattle.cbpf_tool.specs.Reading.{unread}
-use Rattle.cbpf_tool.specs.Replies.{LineReplies}
+use Rattle.cbpf_tool.specs.Replies.{Reply, LineReplies, CanRunOut}
+use Rattle.cbpf_tool.specs.SessionReplies.{reply_to}
+use Rattle.cbpf_tool.specs.declared.command.SessionCommand.{SessionCommand}
 use Rattle.cbpf_tool.specs.declared.files.LoadFault.{LoadFault}
 use Rattle.cbpf_tool.specs.declared.files.LoadFault.TheVariants.{Absent, Device, Memory}
 use Rattle.cbpf_reply.specs.Errors.{absent_text, device_text, memory_text}
@@ -22,14 +24,26 @@ pub record Kept (f g : Source) : Type 0 where
   pub files : g.files ≡ f.files
   pub is_known : g.is_known ≡ f.is_known
 
+-- a line has this reply, whose text is written as `Written` says, and the view after it is n
+abbrev pub Answers : FileMap → View → View → ℕ → ℕ → Result (Option Command) CommandFault → (List ℕ → Type 0) → Type 0
+Answers files m n f g said Written = (text : List ℕ) × LineReplies files m f g said (text, n) × Written text
+
 -- a line other than `quit` was run, where it is known what the files hold
 abbrev pub Replied : Source → Source → View → View → Result (Option Command) CommandFault → (List ℕ → Type 0) → Type 0
 Replied f g m n said Written =
-    Kept f g × (IsTrue f.is_known → LineReplies f.files m n f.failures g.failures said Written)
+    Kept f g × (IsTrue f.is_known → Answers f.files m n f.failures g.failures said Written)
 
 -- the same of a command that opens no file
 abbrev pub Answered : View → View → Command → (List ℕ → Type 0) → Type 0
-Answered m n c Written = (files : FileMap) (f : ℕ) → LineReplies files m n f f (Ok (Some c)) Written
+Answered m n c Written = (files : FileMap) (f : ℕ) → Answers files m n f f (Ok (Some c)) Written
+
+-- a reply's text is written, as `Written` says, and the view after it is n
+unfoldable pub Writes : Reply → View → (List ℕ → Type 0) → Type 0
+Writes reply n Written = (n ≡ reply.1) × Written reply.0
+
+-- the reply to a command of the session: its own, or `error: out of memory`
+unfoldable pub Replies : View → View → SessionCommand → (List ℕ → Type 0) → Type 0
+Replies m n c Written = Writes (reply_to c m) n Written ⊎ (CanRunOut m c × Writes (memory_text, m) n Written)
 
 -- the reply to `load pcap` of a file that is not loaded
 abbrev pub load_fault_text : LoadFault → List ℕ
@@ -40,9 +54,9 @@ load_fault_text Memory = memory_text
 -- what a line wrote that was run, by what comes after it
 abbrev pub LineResult : FileMap → View → View → ℕ → ℕ → Result (Option Command) CommandFault → Option (List ℕ)
     → Option (List ℕ) → Result AfterLine WriteFault → Type 0
-LineResult files m n f g said old new (Ok NextLine) = LineReplies files m n f g said (λ t. Appended old new t)
+LineResult files m n f g said old new (Ok NextLine) = Answers files m n f g said (λ t. Appended old new t)
 LineResult files m n f g said old new (Ok Quit) = (said ≡ Ok (Some command.Quit)) × (f ≡ g) × Appended old new []
-LineResult files m n f g said old new (Err e) = LineReplies files m n f g said (λ t. AppendedPart old new t)
+LineResult files m n f g said old new (Err e) = Answers files m n f g said (λ t. AppendedPart old new t)
 
 -- a line was run, where it is known what the files hold
 abbrev pub LineRan : Source → Source → View → View → Result (Option Command) CommandFault → Option (List ℕ)
@@ -63,7 +77,7 @@ EachPlain (l ∷ ls) = (has_newline l ≡ false) × EachPlain ls
 pub data LinesRan (files : FileMap) : View → ℕ → List (List ℕ) → List ℕ → View → ℕ → Type 0 where
   still : {m : View} {f : ℕ} → LinesRan files m f [] [] m f
   onward : {m n p : View} {f g h : ℕ} {ls : List (List ℕ)} {t : List ℕ} (l u : List ℕ) → LinesRan files m f ls t n g
-      → LineReplies files n p g h (command_of l) (λ s. s ≡ u)
+      → LineReplies files n g h (command_of l) (u, p)
       → LinesRan files m f (ls ++ l ∷ []) (t ++ u) p h
 
 pub record Progress (script pending : List ℕ) (left old new : Option (List ℕ)) (f g : Source) (m : View) :

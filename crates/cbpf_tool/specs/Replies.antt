@@ -1,5 +1,5 @@
 -- What a line of a script replies, and the view of the session after it.
-use Rattle.std.specs.Prelude.{◌≡◌, ◌≤◌, ◌+◌, ◌-◌, ◌^◌, ◌⊎◌, min, ℕ, List, [], length, Option, Some, None}
+use Rattle.std.specs.Prelude.{◌≡◌, ◌≤◌, ◌+◌, ◌-◌, ◌^◌, min, ℕ, List, [], length, Option, Some, None}
 use Rattle.std.specs.Prelude.{Result, Ok, Err, IsOk, nat_eq}
 use Rattle.std.specs.FinMap as map
 use Rattle.std.specs.Map.{lookup}
@@ -27,52 +27,48 @@ use Rattle.cbpf_reply.specs.Errors.{unknown_command_text, wrong_arguments_text, 
 use Rattle.cbpf_reply.specs.Errors.{word_fault_text, check_fault_text, capture_fault_text}
 use Rattle.cbpf_reply.specs.Loads.{program_text, capture_text}
 
--- the reply's text is written, as `Written` says, and the view after it is n
-unfoldable pub Writes : List ℕ × View → View → (List ℕ → Type 0) → Type 0
-Writes reply n Written = (n ≡ reply.1) × Written reply.0
+-- a reply: its text, and the view after it
+abbrev pub Reply : Type 0
+Reply = List ℕ × View
 
 -- `load bpf`: the word text's refusal, else the checker's, else the program is held
-pub data LoadsWords (m n : View) (text : List ℕ) (Written : List ℕ → Type 0) : Type 0 where
-  unreadable : (fault : WordFault) → Refused text fault → (fault ≡ Memory → ⊥)
-      → Writes (word_fault_text fault, m) n Written → LoadsWords m n text Written
+pub data LoadsWords (m : View) (text : List ℕ) (reply : Reply) : Type 0 where
+  unreadable : (fault : WordFault) → Refused text fault → (fault ≡ Memory → ⊥) → reply ≡ (word_fault_text fault, m)
+      → LoadsWords m text reply
   unsound : (list : List Insn) (fault : CheckFault) → Spells text list → FirstFault list fault
-      → Writes (check_fault_text fault, m) n Written → LoadsWords m n text Written
+      → reply ≡ (check_fault_text fault, m) → LoadsWords m text reply
   accepted : (list : List Insn) → Spells text list → IsSound list
-      → Writes (program_text (length list), with_program_loaded m list) n Written → LoadsWords m n text Written
+      → reply ≡ (program_text (length list), with_program_loaded m list) → LoadsWords m text reply
 
 -- `load pcap` of a file with these bytes: why they are no capture, else the capture is held
-pub data ReadsCapture (m n : View) (bytes : List ℕ) (Written : List ℕ → Type 0) : Type 0 where
+pub data ReadsCapture (m : View) (bytes : List ℕ) (reply : Reply) : Type 0 where
   no_capture : (fault : CaptureFault) → IsRefusal fault bytes → (fault ≡ capture_fault.Memory → ⊥)
-      → Writes (capture_fault_text fault, m) n Written → ReadsCapture m n bytes Written
+      → reply ≡ (capture_fault_text fault, m) → ReadsCapture m bytes reply
   a_capture : (capture : Savefile) → IsSavefile bytes capture
-      → Writes (capture_text capture, with_capture_loaded m capture) n Written → ReadsCapture m n bytes Written
+      → reply ≡ (capture_text capture, with_capture_loaded m capture) → ReadsCapture m bytes reply
 
-abbrev pub LoadsCapture : View → View → Option (List ℕ) → (List ℕ → Type 0) → Type 0
-LoadsCapture m n None Written = Writes (absent_text, m) n Written
-LoadsCapture m n (Some bytes) Written = ReadsCapture m n bytes Written
+abbrev pub LoadsCapture : View → Option (List ℕ) → Reply → Type 0
+LoadsCapture m None reply = reply ≡ (absent_text, m)
+LoadsCapture m (Some bytes) reply = ReadsCapture m bytes reply
 
 abbrev pub command_fault_text : CommandFault → List ℕ
 command_fault_text UnknownCommand = unknown_command_text
 command_fault_text WrongArguments = wrong_arguments_text
 
 -- a line's own reply, by what the line says; `quit` has none
-abbrev pub OwnReply : FileMap → View → View → Result (Option Command) CommandFault → (List ℕ → Type 0) → Type 0
-OwnReply files m n (Ok None) Written = Writes ([], m) n Written
-OwnReply files m n (Ok (Some (LoadWords text))) Written = LoadsWords m n text Written
-OwnReply files m n (Ok (Some (LoadCapture name))) Written = LoadsCapture m n (map.get files name) Written
-OwnReply files m n (Ok (Some (Session c))) Written = Writes (reply_to c m) n Written
-OwnReply files m n (Ok (Some Quit)) Written = ⊥
-OwnReply files m n (Err e) Written = Writes (command_fault_text e, m) n Written
+abbrev pub OwnReply : FileMap → View → Result (Option Command) CommandFault → Reply → Type 0
+OwnReply files m (Ok None) reply = reply ≡ ([], m)
+OwnReply files m (Ok (Some (LoadWords text))) reply = LoadsWords m text reply
+OwnReply files m (Ok (Some (LoadCapture name))) reply = LoadsCapture m (map.get files name) reply
+OwnReply files m (Ok (Some (Session c))) reply = reply ≡ reply_to c m
+OwnReply files m (Ok (Some Quit)) reply = ⊥
+OwnReply files m (Err e) reply = reply ≡ (command_fault_text e, m)
 
 -- a command of the session that can run out of memory: a breakpoint that is not refused, and whose number is not
 -- set yet
 abbrev pub CanRunOut : View → SessionCommand → Type 0
 CanRunOut m (Breakpoint k when) = IsOk (breakpoint_when m k when) × (lookup (nat_eq k) m.breakpoints ≡ None)
 CanRunOut m _ = ⊥
-
--- the reply to a command of the session: its own, or `error: out of memory`
-unfoldable pub Replies : View → View → SessionCommand → (List ℕ → Type 0) → Type 0
-Replies m n c Written = Writes (reply_to c m) n Written ⊎ (CanRunOut m c × Writes (memory_text, m) n Written)
 
 -- a line to which the reply can be `error: out of memory`
 abbrev pub IsUnheld : View → Result (Option Command) CommandFault → Type 0
@@ -92,8 +88,8 @@ Failed f g = (f ≤ g) × (g ≡ min (f + 1) (2 ^ 64 - 1))
 
 -- a line's reply, while the count of failures goes from f to g: its own, or in its place `error: out of memory`
 -- or F2. One failure is counted at F2, and none at the others
-pub data LineReplies (files : FileMap) (m n : View) (f g : ℕ) (said : Result (Option Command) CommandFault)
-    (Written : List ℕ → Type 0) : Type 0 where
-  own : g ≡ f → OwnReply files m n said Written → LineReplies files m n f g said Written
-  unheld : g ≡ f → IsUnheld m said → Writes (memory_text, m) n Written → LineReplies files m n f g said Written
-  unread : Failed f g → IsUnread said → Writes (device_text, m) n Written → LineReplies files m n f g said Written
+pub data LineReplies (files : FileMap) (m : View) (f g : ℕ) (said : Result (Option Command) CommandFault)
+    (reply : Reply) : Type 0 where
+  own : g ≡ f → OwnReply files m said reply → LineReplies files m f g said reply
+  unheld : g ≡ f → IsUnheld m said → reply ≡ (memory_text, m) → LineReplies files m f g said reply
+  unread : Failed f g → IsUnread said → reply ≡ (device_text, m) → LineReplies files m f g said reply

@@ -3,7 +3,7 @@
 
 ghost use Rattle.cbpf_code.specs.Writing.{Wrote};
 ghost use Rattle.cbpf_reply.specs.Breakpoints.{set_in};
-ghost use Rattle.cbpf_tool.specs.Replies.{Replies, Writes};
+ghost use Rattle.cbpf_tool.specs.Progress.{Replies, Writes};
 ghost use Rattle.cbpf_tool.specs.SessionReplies as spec;
 ghost use Rattle.cbpf_tool.specs.declared.command.SessionCommand.TheVariants as command;
 
