@@ -87,9 +87,9 @@ lines-some (b ∷ bs) n = elim (eqb b 10) as (λ t. cond t ([] ∷ lines bs) (pu
   | true ↦ λ e. cc
   | false ↦ front b (lines bs)
 ] where
-    front : (b : ℕ) (ls : List (List ℕ)) → put_front b ls ≡ [] → ⊥
-    front b [] e = cc
-    front b (l ∷ ls) e = cc
+  front : (b : ℕ) (ls : List (List ℕ)) → put_front b ls ≡ [] → ⊥
+  front b [] e = cc
+  front b (l ∷ ls) e = cc
 
 -- ---- lines that were run
 

@@ -1,6 +1,6 @@
 -- What the two jobs do on a machine: what is opened, created and written, in which order, and which fault ends
 -- a job (this project's own).
-use Rattle.std.specs.Prelude.{◌≡◌, ◌⊎◌, ℕ, List, [], ◌∷◌, ◌++◌, Option, Some, None, Result, Ok, Err, string_bytes}
+use Rattle.std.specs.Prelude.{◌≡◌, ◌⊎◌, ℕ, List, [], ◌∷◌, Option, Some, None, Result, Ok, Err, string_bytes}
 use Rattle.std.specs.FinMap as map
 use Rattle.cbpf_code.specs.declared.form.Form.{Form}
 use Rattle.cbpf_tool.specs.Assembling.{Assembled}
@@ -23,21 +23,20 @@ unopened (Ok x) = None
 unopened (Err (Tool e)) = None
 unopened (Err (CannotOpen n)) = Some (string_bytes n)
 
--- after some events a tool ran, and its result is the job's: what it wrote is the last event, or there was no room
--- for a buffer, and it did not begin
-abbrev pub Ends : Hosted → Hosted → List Event → (List ℕ → Event) → (List ℕ → Result (Unit {0}) ToolFault → Type 0)
+-- a tool ran, and its result is the job's: what it wrote is the one event, or there was no room for a buffer, and it
+-- did not begin
+abbrev pub Ends : Hosted → Hosted → (List ℕ → Event) → (List ℕ → Result (Unit {0}) ToolFault → Type 0)
     → Result (Unit {0}) ToolFault → Type 0
-Ends old new before event Done t =
-    ((new ≡ and_then old before) × (t ≡ Err Memory))
-    ⊎ ((text : List ℕ) × (new ≡ and_then old (before ++ event text ∷ [])) × Done text t)
+Ends old new event Done t =
+    ((new ≡ old) × (t ≡ Err Memory)) ⊎ ((text : List ℕ) × (new ≡ and_then old (event text ∷ [])) × Done text t)
 
-abbrev pub RunsTool : Hosted → Hosted → List Event → (List ℕ → Event) → (List ℕ → Result (Unit {0}) ToolFault → Type 0)
+abbrev pub RunsTool : Hosted → Hosted → (List ℕ → Event) → (List ℕ → Result (Unit {0}) ToolFault → Type 0)
     → Result (Unit {0}) Failure → Type 0
-RunsTool old new before event Done r = (t : Result (Unit {0}) ToolFault) × (r ≡ tooled t) × Ends old new before event Done t
+RunsTool old new event Done r = (t : Result (Unit {0}) ToolFault) × (r ≡ tooled t) × Ends old new event Done t
 
--- the last event is that a file of this name could not be opened, which ends the job
-abbrev pub EndsUnopened : Hosted → Hosted → List Event → List ℕ → Event → Result (Unit {0}) Failure → Type 0
-EndsUnopened old new before name event r = (unopened r ≡ Some name) × (new ≡ and_then old (before ++ event ∷ []))
+-- the one event is that a file of this name could not be opened, which ends the job
+abbrev pub EndsUnopened : Hosted → Hosted → List ℕ → Event → Result (Unit {0}) Failure → Type 0
+EndsUnopened old new name event r = (unopened r ≡ Some name) × (new ≡ and_then old (event ∷ []))
 
 -- a source was assembled in a form
 abbrev pub AssembledTo : List ℕ → Form → List ℕ → Result (Unit {0}) ToolFault → Type 0
@@ -50,20 +49,20 @@ DebuggedTo h script text t =
 
 -- `asm`: the source is the standard input, or the file, which is opened first
 abbrev pub AsmJob : Hosted → Hosted → Form → Option (List ℕ) → Result (Unit {0}) Failure → Type 0
-AsmJob old new form None r = RunsTool old new [] printed (AssembledTo old.input form) r
-AsmJob old new form (Some name) r = EndsUnopened old new [] name (not_opened name) r
+AsmJob old new form None r = RunsTool old new printed (AssembledTo old.input form) r
+AsmJob old new form (Some name) r = EndsUnopened old new name (not_opened name) r
     ⊎ ((bytes : List ℕ) × (map.get old.files name ≡ Some bytes)
-    × RunsTool old new (opened name ∷ []) printed (AssembledTo bytes form) r)
+    × RunsTool (and_then old (opened name ∷ [])) new printed (AssembledTo bytes form) r)
 
 -- the replies go to the standard output, or to the file, which is created
-abbrev pub RepliesTo : Hosted → Hosted → List Event → List ℕ → Option (List ℕ) → Result (Unit {0}) Failure → Type 0
-RepliesTo old new before script None r = RunsTool old new before printed (DebuggedTo old script) r
-RepliesTo old new before script (Some name) r = EndsUnopened old new before name (not_created name) r
-    ⊎ RunsTool old new (before ++ created name ∷ []) (wrote name) (DebuggedTo old script) r
+abbrev pub RepliesTo : Hosted → Hosted → List ℕ → Option (List ℕ) → Result (Unit {0}) Failure → Type 0
+RepliesTo old new script None r = RunsTool old new printed (DebuggedTo old script) r
+RepliesTo old new script (Some name) r = EndsUnopened old new name (not_created name) r
+    ⊎ RunsTool (and_then old (created name ∷ [])) new (wrote name) (DebuggedTo old script) r
 
 -- `dbg`: the script is the standard input, or the file, which is opened before the other is created
 abbrev pub DbgJob : Hosted → Hosted → Option (List ℕ) → Option (List ℕ) → Result (Unit {0}) Failure → Type 0
-DbgJob old new None output r = RepliesTo old new [] old.input output r
-DbgJob old new (Some name) output r = EndsUnopened old new [] name (not_opened name) r
+DbgJob old new None output r = RepliesTo old new old.input output r
+DbgJob old new (Some name) output r = EndsUnopened old new name (not_opened name) r
     ⊎ ((bytes : List ℕ) × (map.get old.files name ≡ Some bytes)
-    × RepliesTo old new (opened name ∷ []) bytes output r)
+    × RepliesTo (and_then old (opened name ∷ [])) new bytes output r)

@@ -20,7 +20,7 @@ fn assemble_from<A: Allocator, H: Host, I: Read>(
     form: Form,
 ) -> Result<(), ToolFault>
     ensures { IsTrue (H.view host.old).is_known → (source : List ℕ) → I.remaining reader.old ≡ Some source →
-        Ends (H.view host.old) (H.view host.new) [] printed (AssembledTo source form) result }
+        Ends (H.view host.old) (H.view host.new) printed (AssembledTo source form) result }
 {
     let Ok(mut writer) = host.output() else {
         return Err(ToolFault::Memory);

@@ -33,7 +33,7 @@ fn debug_from<A: Allocator, H: Host, I: Read>(
     output: Option<String>,
 ) -> Result<(), Failure>
     ensures { IsTrue (H.view host.old).is_known → (script : List ℕ) → I.remaining reader.old ≡ Some script →
-        RepliesTo (H.view host.old) (H.view host.new) [] script (option_map (λ n. string_bytes n) output) result }
+        RepliesTo (H.view host.old) (H.view host.new) script (option_map (λ n. string_bytes n) output) result }
 {
     match output {
         None => {

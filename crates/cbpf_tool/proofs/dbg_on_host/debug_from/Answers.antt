@@ -1,12 +1,12 @@
 use Rattle.std.proofs.Common.{◌≡◌, ◌∙◌, IsTrue, Err, inl, inr, refl, subst, sym, string_bytes, List, ℕ, [], ◌∷◌}
 use Rattle.cbpf_tool.specs.declared.fault.ToolFault.TheVariants.{Memory}
 use Rattle.cbpf_tool.specs.Hosted.{Hosted, and_then, created, printed}
-use Rattle.cbpf_tool.proofs.HostLemmas.{debugged-left, created-left, same-view}
+use Rattle.cbpf_tool.proofs.HostLemmas.{debugged-left, created-left}
 use Rattle.cbpf_tool.proofs.dbg_on_host.debug_from.Goals as goal
 
 pub returns-in_default : goal.returns-in_default
 returns-in_default g c = λ known script e.
-    rw c.in-None.is (Err Memory, refl, inl ((c.output.ensures known).0 ∙ same-view _, refl))
+    rw c.in-None.is (Err Memory, refl, inl ((c.output.ensures known).0, refl))
 
 pub returns-in-None : goal.returns-in-None
 returns-in-None g c = λ known script e.
