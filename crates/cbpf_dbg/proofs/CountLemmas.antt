@@ -99,13 +99,13 @@ counts-at_most machine capture from to =
       unknown = omega (arith, l, count_by-le-length is_open all);
     }
 
-pub countable : (machine : Machine) (capture : List Record) (w : Cursor) → Stands machine capture w → (packets : ℕ)
-    → packets ≡ length capture → packets < 2 ^ 60 → Countable w.place.packet w.counts
-countable machine capture w h packets all few =
+pub countable : (machine : Machine) (capture : List Record) (w : Cursor) → Stands machine capture w
+    → length capture < 2 ^ 60 → Countable w.place.packet w.counts
+countable machine capture w h few =
     let most = counts-at_most machine capture w.origin w.place.packet in
     record {
-      packets = omega (arith, h.within, all, few);
-      passes = omega (arith, most.passes, ap (λ (n : Counts). n.passes) h.counted, all, few);
-      fails = omega (arith, most.fails, ap (λ (n : Counts). n.fails) h.counted, all, few);
-      unknown = omega (arith, most.unknown, ap (λ (n : Counts). n.unknown) h.counted, all, few);
+      packets = omega (arith, h.within, few);
+      passes = omega (arith, most.passes, ap (λ (n : Counts). n.passes) h.counted, few);
+      fails = omega (arith, most.fails, ap (λ (n : Counts). n.fails) h.counted, few);
+      unknown = omega (arith, most.unknown, ap (λ (n : Counts). n.unknown) h.counted, few);
     }

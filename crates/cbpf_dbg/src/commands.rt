@@ -12,7 +12,6 @@ use crate::run::run;
 use crate::session::Session;
 use crate::step::{step_back, step_on};
 use crate::stops::Stops;
-use crate::watching::is_quiet;
 use cbpf_machine::{Meter, Trail};
 use cbpf_reply::{Place, RunReply, SessionFault};
 use std::alloc::Allocator;
@@ -76,16 +75,9 @@ impl<T: Trail, A: Allocator> Session<T, A> {
             capture,
             breakpoints: &self.breakpoints,
             watched: &self.watched,
+            quiet: self.silent && self.breakpoints.is_empty(),
         };
-        let quiet = is_quiet(&loaded, self.silent);
-        let reply = run(
-            meter,
-            &loaded,
-            quiet,
-            &mut self.cursor,
-            &mut self.trail,
-            limit,
-        );
+        let reply = run(meter, &loaded, &mut self.cursor, &mut self.trail, limit);
         Ok(reply)
     }
 
@@ -114,6 +106,7 @@ impl<T: Trail, A: Allocator> Session<T, A> {
             return Err(SessionFault::NoCapture);
         };
         let count = capture.count();
+        let _sound = program.len();
         if count == 0 {
             return Err(SessionFault::NoPackets);
         }
@@ -126,6 +119,7 @@ impl<T: Trail, A: Allocator> Session<T, A> {
             capture,
             breakpoints: &self.breakpoints,
             watched: &self.watched,
+            quiet: self.silent && self.breakpoints.is_empty(),
         };
         resume_at(meter, &loaded, &mut self.cursor, &mut self.trail, place).map_err(
             SessionFault::NoStep,
@@ -174,6 +168,7 @@ impl<T: Trail, A: Allocator> Session<T, A> {
             capture,
             breakpoints: &self.breakpoints,
             watched: &self.watched,
+            quiet: self.silent && self.breakpoints.is_empty(),
         };
         let entries = n.unsigned_abs();
         if n > 0 {
@@ -240,6 +235,7 @@ impl<T: Trail, A: Allocator> Session<T, A> {
                 capture,
                 breakpoints: &self.breakpoints,
                 watched: &self.watched,
+                quiet: self.silent && self.breakpoints.is_empty(),
             },
             cursor: self.cursor,
             left: capture.records(self.cursor.place.packet, capture.count() + 1),

@@ -159,7 +159,6 @@ fn leave_entry<A: Allocator>(
     ensures origin { w.new.origin ≡ w.old.origin }
     ensures turns { meter.new ≡ meter.old + 1 }
 {
-    let _few = loaded.capture.count();
     let packet = Packet {
         bytes: here.bytes,
         wire: here.wire,

@@ -1,5 +1,10 @@
 //! What a session's commands work on.
 
+ghost use Rattle.std.specs.Prelude.{◌≡◌, ◌<◌, ◌^◌, length, true};
+ghost use Rattle.cbpf_code.specs.Sound.{IsSound};
+ghost use Rattle.cbpf_machine.specs.Machine.{machine_of};
+ghost use Rattle.cbpf_dbg.specs.Session.{IsQuiet, Watches};
+
 use crate::breakpoint::Breakpoints;
 use cbpf_code::Program;
 use cbpf_machine::{Values, Watched};
@@ -15,4 +20,10 @@ pub(crate) struct Loaded<'a, A: Allocator> {
     pub(crate) breakpoints: &'a Breakpoints<A>,
     /// The entries that are hits.
     pub(crate) watched: &'a Watched<A>,
+    /// Whether it is known that no entry can be a hit.
+    pub(crate) quiet: bool,
+    ghost sound: { IsSound program.now },
+    ghost few: { length capture.now.records < 2 ^ 60 },
+    ghost watches: { Watches watched.now (machine_of program.now values.now) breakpoints.now.entries },
+    ghost none: { quiet ≡ true → IsQuiet (machine_of program.now values.now) breakpoints.now.entries },
 }

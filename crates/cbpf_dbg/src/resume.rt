@@ -33,7 +33,6 @@ pub(crate) fn resume_at<T: Trail, A: Allocator>(
     ensures counts { meter.old ≤ meter.new }
     ensures few { meter.new ≤ meter.old + 2 * place.step }
 {
-    let _sound = loaded.program.len();
     if place.step == 0 {
         trail.clear();
         *w = Cursor::before(place.packet);

@@ -7,7 +7,7 @@ ghost use Rattle.cbpf_machine.specs.Trace.{trace};
 ghost use Rattle.cbpf_dbg.specs.Commands.{PassesHits};
 ghost use Rattle.cbpf_dbg.specs.Joined.{rest};
 ghost use Rattle.cbpf_dbg.specs.Loaded.{machine_in, records_in, breakpoints_in};
-ghost use Rattle.cbpf_dbg.specs.Session.{IsInside, IsQuiet, Keeps, Watches};
+ghost use Rattle.cbpf_dbg.specs.Session.{IsInside, Keeps};
 ghost use Rattle.cbpf_dbg.specs.Cursor as spec;
 ghost use Rattle.cbpf_dbg.specs.Cursor.{Stands, owed, Passes, before, Runs, run_turns, ComesTo, IsEnd};
 ghost use Rattle.cbpf_dbg.specs.Going.{CanGoOn, GoesOn};
@@ -55,7 +55,6 @@ pub(crate) fn run_records<P: Pause, A: Allocator>(
         → Unpaused (λ s. P.pauses pause.now s) (trace (machine_in loaded.now) r.bytes r.wire) 0
         (cursor.new.place.step - 1) }
 {
-    let _few = loaded.capture.count();
     'go: while let Some(here) = left.first() {
         let packet = Packet {
             bytes: here.bytes,
@@ -81,21 +80,19 @@ pub(crate) fn run_records<P: Pause, A: Allocator>(
 fn run_whole<T: Trail, A: Allocator>(
     meter: &mut Meter,
     loaded: &Loaded<'_, A>,
-    quiet: bool,
     left: &mut Records<'_>,
     cursor: &mut Cursor,
 ) -> bool
     requires can { CanGoOn (machine_in loaded.now) (records_in loaded.now) (breakpoints_in loaded.now)
         (is_watched loaded.now.watched.now) cursor.old left.old meter.old }
     requires before { cursor.old.place.step ≡ 0 }
-    requires quiet { quiet ≡ true → IsQuiet (machine_in loaded.now) (breakpoints_in loaded.now) }
     ensures goes { GoesOn (machine_in loaded.now) (records_in loaded.now) (breakpoints_in loaded.now)
         (λ s. true) cursor.old cursor.new left.old left.new meter.old meter.new result }
     ensures none { result ≡ false → left.new ≡ [] }
     ensures near { result ≡ true → cursor.new.place.step ≤ T.gap 0 + 1 }
 {
     let first_gap = T::first_gap();
-    if quiet {
+    if loaded.quiet {
         return run_records(meter, loaded, &Never, left, cursor);
     }
     if loaded.program.len() <= first_gap {
@@ -128,7 +125,6 @@ fn finish_packet<T: Trail, A: Allocator>(
     if cursor.place.step == 0 {
         return false;
     }
-    let _few = loaded.capture.count();
     let Some(here) = left.first() else {
         unreachable!()
     };
@@ -155,7 +151,6 @@ fn finish_packet<T: Trail, A: Allocator>(
 fn run_to_hit<T: Trail, A: Allocator>(
     meter: &mut Meter,
     loaded: &Loaded<'_, A>,
-    quiet: bool,
     end: u64,
     cursor: &mut Cursor,
     trail: &mut T,
@@ -166,8 +161,6 @@ fn run_to_hit<T: Trail, A: Allocator>(
     requires spare { meter.old + owed (machine_in loaded.now) (records_in loaded.now) cursor.old.place + 8192
         ≤ 2 ^ 128 }
     requires ends { IsEnd (records_in loaded.now) cursor.old.place end }
-    requires quiet { quiet ≡ true → IsQuiet (machine_in loaded.now) (breakpoints_in loaded.now) }
-    requires watched { Watches loaded.now.watched.now (machine_in loaded.now) (breakpoints_in loaded.now) }
     ensures passes { Passes (machine_in loaded.now) (records_in loaded.now) (breakpoints_in loaded.now)
         cursor.old cursor.new (before cursor.new.place) meter.old meter.new }
     ensures comes { ComesTo (machine_in loaded.now) (records_in loaded.now) (breakpoints_in loaded.now) end
@@ -181,7 +174,7 @@ fn run_to_hit<T: Trail, A: Allocator>(
             return Some(stop_at(loaded, cursor, Why::Break));
         }
         trail.clear();
-        if !run_whole::<T, A>(meter, loaded, quiet, &mut left, cursor) {
+        if !run_whole::<T, A>(meter, loaded, &mut left, cursor) {
             return None;
         }
         trail.start(cursor.place.step, cursor.state);
@@ -196,7 +189,6 @@ fn run_to_hit<T: Trail, A: Allocator>(
 pub(crate) fn run<T: Trail, A: Allocator>(
     meter: &mut Meter,
     loaded: &Loaded<'_, A>,
-    quiet: bool,
     cursor: &mut Cursor,
     trail: &mut T,
     limit: Option<u64>,
@@ -204,8 +196,6 @@ pub(crate) fn run<T: Trail, A: Allocator>(
     requires stands { Stands (machine_in loaded.now) (records_in loaded.now) cursor.old }
     requires keeps { Keeps (λ xs. T.stands_for trail.old xs) (machine_in loaded.now)
         (records_in loaded.now) cursor.old.place }
-    requires quiet { quiet ≡ true → IsQuiet (machine_in loaded.now) (breakpoints_in loaded.now) }
-    requires watched { Watches loaded.now.watched.now (machine_in loaded.now) (breakpoints_in loaded.now) }
     requires early { meter.old ≤ 2 ^ 127 }
     requires limit { limit ≢ Some 0 }
     ensures stands { Stands (machine_in loaded.now) (records_in loaded.now) cursor.new }
@@ -223,7 +213,7 @@ pub(crate) fn run<T: Trail, A: Allocator>(
     let count = loaded.capture.count();
     let end = end_of(limit, cursor.place.packet, count);
     let mut moved = *cursor;
-    let stop = run_to_hit(meter, loaded, quiet, end, &mut moved, trail);
+    let stop = run_to_hit(meter, loaded, end, &mut moved, trail);
     *cursor = moved;
     if let Some(stop) = stop {
         return RunReply::Stopped(stop);

@@ -35,7 +35,6 @@ fn skip_packets<A: Allocator>(
     ensures records { AllLeft (records_in loaded.now) w.new.place records.new }
     ensures before { w.new.place.step ≡ 0 }
 {
-    let _few = loaded.capture.count();
     let longest = u64::from(loaded.program.len());
     let mut left = n;
     'skip: while left > longest {

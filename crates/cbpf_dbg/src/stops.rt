@@ -4,7 +4,6 @@ ghost use Rattle.std.specs.Prelude.{◌≡◌, ◌+◌, ◌≤◌, ◌^◌};
 ghost use Rattle.std.specs.Iterator.{YieldsFirst, item_count};
 ghost use Rattle.cbpf_dbg.specs.Joined.{rest};
 ghost use Rattle.cbpf_dbg.specs.Loaded.{machine_in, records_in, breakpoints_in};
-ghost use Rattle.cbpf_dbg.specs.Session.{Watches};
 ghost use Rattle.cbpf_dbg.specs.Cursor.{Stands, owed, AllLeft};
 ghost use Rattle.cbpf_dbg.specs.Going.{CanGoOn, GoesOn};
 ghost use Rattle.cbpf_machine.specs.Follow.{is_watched};
@@ -37,7 +36,6 @@ impl<'a, A: Allocator> Model for Stops<'a, A> {
     ghost use Rattle.cbpf_reply.specs.declared.reply.Stop.{Stop};
     ghost use Rattle.cbpf_dbg.specs.Joined.{rest};
     ghost use Rattle.cbpf_dbg.specs.Loaded.{machine_in, records_in, breakpoints_in};
-    ghost use Rattle.cbpf_dbg.specs.Session.{Watches};
     ghost use Rattle.cbpf_dbg.specs.Cursor.{Stands, owed, AllLeft};
 
     ghost Value = { List Stop };
@@ -46,7 +44,6 @@ impl<'a, A: Allocator> Model for Stops<'a, A> {
 
     ghost invariant = { λ s. Stands (machine_in s.loaded) (records_in s.loaded) s.cursor
         × AllLeft (records_in s.loaded) s.cursor.place s.left
-        × Watches s.loaded.watched.now (machine_in s.loaded) (breakpoints_in s.loaded)
         × (s.meter + owed (machine_in s.loaded) (records_in s.loaded) s.cursor.place ≤ 2 ^ 127) };
 }
 
@@ -65,7 +62,6 @@ fn finish_packet<A: Allocator>(
     if cursor.place.step == 0 {
         return false;
     }
-    let _few = loaded.capture.count();
     let Some(here) = left.first() else {
         unreachable!()
     };
@@ -98,7 +94,6 @@ fn next_stop<A: Allocator>(
 ) -> Option<Stop>
     requires stands { Stands (machine_in loaded.now) (records_in loaded.now) cursor.old }
     requires left { AllLeft (records_in loaded.now) cursor.old.place left.old }
-    requires watched { Watches loaded.now.watched.now (machine_in loaded.now) (breakpoints_in loaded.now) }
     requires spare { meter.old + owed (machine_in loaded.now) (records_in loaded.now) cursor.old.place ≤ 2 ^ 127 }
     ensures stands { Stands (machine_in loaded.now) (records_in loaded.now) cursor.new }
     ensures left { AllLeft (records_in loaded.now) cursor.new.place left.new }

@@ -6,11 +6,9 @@ ghost use Rattle.cbpf_machine.specs.Follow.{HasRoom, holds};
 ghost use Rattle.cbpf_machine.specs.Machine.{machine_of};
 ghost use Rattle.cbpf_machine.specs.Registers.{Registers};
 ghost use Rattle.cbpf_dbg.specs.Breakpoints.{Breakpoints as SomeBreakpoints};
-ghost use Rattle.cbpf_dbg.specs.Loaded.{machine_in, breakpoints_in};
-ghost use Rattle.cbpf_dbg.specs.Session.{IsQuiet, IsSilent, IsSameBut, KeepsRoom, Watches, hits};
+ghost use Rattle.cbpf_dbg.specs.Session.{IsSilent, IsSameBut, KeepsRoom, Watches, hits};
 
 use crate::breakpoint::{Breakpoints, watch_when};
-use crate::loaded::Loaded;
 use cbpf_code::Program;
 use cbpf_machine::{Values, Watch, Watched, asks};
 use std::alloc::{AllocError, Allocator};
@@ -25,14 +23,6 @@ pub(crate) fn is_silent<A: Allocator>(p: &Program<A>, values: &Values) -> bool
         }
     }
     true
-}
-
-/// Whether no entry can be a hit, as there is no breakpoint and the program is known to be silent.
-pub(crate) fn is_quiet<A: Allocator>(loaded: &Loaded<'_, A>, silent: bool) -> bool
-    requires { silent ≡ true → IsSilent (machine_in loaded.now) }
-    ensures { result ≡ true → IsQuiet (machine_in loaded.now) (breakpoints_in loaded.now) }
-{
-    silent && loaded.breakpoints.is_empty()
 }
 
 /// Which entries at this instruction are hits.

@@ -24,8 +24,7 @@ go_on-requires g c =
 
 pub pass-requires : goal.pass-requires
 pass-requires g c =
-    countable _ _ c.args.w.now c.requires.stands _
-    c.count-few.ensures.value c.count-few.ensures.bounded
+    countable _ _ c.args.w.now c.requires.stands c.args.loaded.now.few
 
 pub returns-in-None : goal.returns-in-None
 returns-in-None g c =

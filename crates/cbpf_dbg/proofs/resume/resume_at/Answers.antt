@@ -21,7 +21,7 @@ returns-clause-found g c =
     (take c.args.place.step (trace (machine_in c.args.loaded.now) k.bytes k.wire)))
     same c.in_ok-state.ensures.stands in (
       c.at_entry.ensures.stands (machine_in c.args.loaded.now) (records_in c.args.loaded.now)
-          c.len-sound.ensures.sound (omega arith) (r, at, entry),
+          c.args.loaded.now.sound (omega arith) (r, at, entry),
       rw c.at_entry.ensures.place keeps,
       c.at_entry.ensures.place,
       c.at_entry.ensures.origin,

@@ -16,8 +16,7 @@ follow-followed-requires-clause-spare g c =
 
 pub follow-requires-clause-counts : goal.follow-requires-clause-counts
 follow-requires-clause-counts g c =
-    countable _ _ c.args.cursor.now c.requires.can.stands _
-    c.count-few.ensures.value c.count-few.ensures.bounded
+    countable _ _ c.args.cursor.now c.requires.can.stands c.args.loaded.now.few
 
 pub follow-requires-clause-steps : goal.follow-requires-clause-steps
 follow-requires-clause-steps g c = λ n e.

@@ -8,7 +8,7 @@ use Rattle.cbpf_dbg.proofs.run.run.Goals as goal
 
 pub run_to_hit-stop-requires-clause-spare : goal.run_to_hit-stop-requires-clause-spare
 run_to_hit-stop-requires-clause-spare g c =
-    let most = owed_bound (machine_in c.args.loaded.now) (records_in c.args.loaded.now) c.args.cursor.now.place c.requires.stands.sound (omega (arith, c.count-count.ensures.bounded, c.count-count.ensures.value)) in
+    let most = owed_bound (machine_in c.args.loaded.now) (records_in c.args.loaded.now) c.args.cursor.now.place c.requires.stands.sound c.args.loaded.now.few in
     omega (arith, most, c.requires.early)
 
 pub run_to_hit-stop-requires-clause-ends : goal.run_to_hit-stop-requires-clause-ends

@@ -11,8 +11,7 @@ follow_packet-followed-requires g c = omega (arith, c.requires.can.spare, c.go.i
 
 pub follow-requires-clause-counts : goal.follow-requires-clause-counts
 follow-requires-clause-counts g c =
-    countable _ _ c.go.cursor c.go.invariant.passes.stands _
-    c.count-few.ensures.value c.count-few.ensures.bounded
+    countable _ _ c.go.cursor c.go.invariant.passes.stands c.args.loaded.now.few
 
 pub follow-requires-clause-steps : goal.follow-requires-clause-steps
 follow-requires-clause-steps g c = λ n e.

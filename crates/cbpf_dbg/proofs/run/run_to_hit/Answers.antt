@@ -13,14 +13,14 @@ use Rattle.cbpf_dbg.proofs.run.run_to_hit.Goals as goal
 
 pub stop_at-requires : goal.stop_at-requires
 stop_at-requires g c =
-    (at_hit _ _ _ c.args.loaded.now.watched.now _ _ _ _ _ _ c.requires.watched
+    (at_hit _ _ _ c.args.loaded.now.watched.now _ _ _ _ _ _ c.args.loaded.now.watches
     c.if-finish_packet.ensures.goes).1
 
 pub returns-then-finish_packet-clause-comes : goal.returns-then-finish_packet-clause-comes
 returns-then-finish_packet-clause-comes g c =
     let so = c.go.invariant in
     let went = c.if-finish_packet.ensures.goes in
-    let hit = at_hit _ _ _ c.args.loaded.now.watched.now _ _ _ _ _ _ c.requires.watched went in
+    let hit = at_hit _ _ _ c.args.loaded.now.watched.now _ _ _ _ _ _ c.args.loaded.now.watches went in
     rw (c.stop_at.ensures hit.0) (refl, (went.left _ so.left).ends.later (went.entry refl).0, so.passes.hits ∙ hit.2)
 
 pub returns-then-not-run_whole-clause-comes : goal.returns-then-not-run_whole-clause-comes
@@ -69,7 +69,7 @@ returns-then-pauses_at-clause-comes g c =
       out = ran.out;
     } in
     let all = goes_more _ _ _ _ _ _ _ _ _ _ _ _ _ _ _ c.if-finish_packet.ensures.goes watched in
-    let hit = at_hit _ _ _ c.args.loaded.now.watched.now _ _ _ _ _ _ c.requires.watched all in
+    let hit = at_hit _ _ _ c.args.loaded.now.watched.now _ _ _ _ _ _ c.args.loaded.now.watches all in
     rw (c.stop_at-then-pauses_at.ensures hit.0) (refl, (all.left _ so.left).ends.later begun, so.passes.hits ∙ hit.2)
 
 pub returns-then-pauses_at-clause-keeps : goal.returns-then-pauses_at-clause-keeps
@@ -89,7 +89,7 @@ go-preserved g c =
     let at = ran.passes.stands.at begun in
     let all = goes_more _ _ _ _ _ _ _ _ _ _ _ _ _ _ _ c.if-finish_packet.ensures.goes ran in
     let inside = (goes _ _ _ at.0 ran.passes.stands at.1 begun).inside in
-    let none = sym (c.requires.watched at.0.bytes at.0.wire _ inside) ∙ (sym c.pauses_at.ensures
+    let none = sym (c.args.loaded.now.watches at.0.bytes at.0.wire _ inside) ∙ (sym c.pauses_at.ensures
     ∙ c.if-pauses_at.false) in
     record {
       passes = passes_more _ _ _ _ _ _ _ _ _ _ so.passes (passes_entry _ _ _ _ _ at.0 _ _ begun at.1 none all.passes);

@@ -10,8 +10,7 @@ use Rattle.cbpf_dbg.proofs.step.skip_packets.Goals as goal
 
 pub pass-requires : goal.pass-requires
 pass-requires g c =
-    countable _ _ c.skip.w c.skip.invariant.nears.stands _
-    c.count-few.ensures.value c.count-few.ensures.bounded
+    countable _ _ c.skip.w c.skip.invariant.nears.stands c.args.loaded.now.few
 
 pub skip-preserved : goal.skip-preserved
 skip-preserved g c =

@@ -13,7 +13,7 @@ use Rattle.cbpf_dbg.proofs.step.step_on.Goals.{then-w-eq0, else-w-eq0}
 
 pub skip_packets-left-requires-clause-spare : goal.skip_packets-left-requires-clause-spare
 skip_packets-left-requires-clause-spare g c =
-    let most = owed_bound (machine_in c.args.loaded.now) (records_in c.args.loaded.now) c.args.w.now.place c.requires.stands.sound (omega (arith, c.count-count.ensures.bounded, c.count-count.ensures.value)) in
+    let most = owed_bound (machine_in c.args.loaded.now) (records_in c.args.loaded.now) c.args.w.now.place c.requires.stands.sound c.args.loaded.now.few in
     omega (arith, most, c.requires.early)
 
 pub go-init : goal.go-init
@@ -38,7 +38,7 @@ advance-requires-clause-here g c = first_left _ _ _ _ _ _ (first_of _ _ c.in-Som
 -- no more turns are made than were owed
 pub advance-requires-clause-spare : goal.advance-requires-clause-spare
 advance-requires-clause-spare g c =
-    let most = owed_bound (machine_in c.args.loaded.now) (records_in c.args.loaded.now) c.args.w.now.place c.requires.stands.sound (omega (arith, c.count-count.ensures.bounded, c.count-count.ensures.value)) in
+    let most = owed_bound (machine_in c.args.loaded.now) (records_in c.args.loaded.now) c.args.w.now.place c.requires.stands.sound c.args.loaded.now.few in
     omega (arith, most, c.requires.early, c.go.invariant.nears.spent)
 
 pub push-requires : goal.push-requires
@@ -108,7 +108,7 @@ skip_packets-left-requires-in-Packet-clause-spare g c =
     let moved = c.in-Packet.ensures in
     let on = nears_out _ _ c.go.w c.advance.new.w c.go.left c.go.meter
     c.advance.new.meter moved.stands moved.moves moved.origin c.go.invariant.nears.some moved.turns in
-    let most = owed_bound (machine_in c.args.loaded.now) (records_in c.args.loaded.now) c.args.w.now.place c.requires.stands.sound (omega (arith, c.count-count.ensures.bounded, c.count-count.ensures.value)) in
+    let most = owed_bound (machine_in c.args.loaded.now) (records_in c.args.loaded.now) c.args.w.now.place c.requires.stands.sound c.args.loaded.now.few in
     omega (arith, most, c.requires.early, c.go.invariant.nears.spent, on.spent)
 
 pub go-preserved : goal.go-preserved

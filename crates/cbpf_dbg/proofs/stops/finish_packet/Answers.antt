@@ -14,8 +14,7 @@ follow_on-followed-requires-clause-inside g c =
 
 pub follow-requires-clause-counts : goal.follow-requires-clause-counts
 follow-requires-clause-counts g c =
-    countable _ _ c.args.cursor.now c.requires.stands _
-    c.count-few.ensures.value c.count-few.ensures.bounded
+    countable _ _ c.args.cursor.now c.requires.stands c.args.loaded.now.few
 
 pub follow-requires-clause-steps : goal.follow-requires-clause-steps
 follow-requires-clause-steps g c = λ n e.

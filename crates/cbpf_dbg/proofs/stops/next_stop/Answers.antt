@@ -19,18 +19,18 @@ returns-then-not-run_records-clause-next g c =
 pub stop_at-requires : goal.stop_at-requires
 stop_at-requires g c = elim c.if-not-finish_packet.branch [
   | then-not-finish_packet+else-not-run_records w ↦
-      rw w.cursor-is (at_hit _ _ _ c.args.loaded.now.watched.now _ _ _ _ _ _ c.requires.watched w.if-not-run_records.ensures.goes).1
+      rw w.cursor-is (at_hit _ _ _ c.args.loaded.now.watched.now _ _ _ _ _ _ c.args.loaded.now.watches w.if-not-run_records.ensures.goes).1
   | else-not-finish_packet w ↦
-      rw w.cursor-is (at_hit _ _ _ c.args.loaded.now.watched.now _ _ _ _ _ _ c.requires.watched w.if-not-finish_packet.ensures).1
+      rw w.cursor-is (at_hit _ _ _ c.args.loaded.now.watched.now _ _ _ _ _ _ c.args.loaded.now.watches w.if-not-finish_packet.ensures).1
 ]
 
 pub returns-clause-next : goal.returns-clause-next
 returns-clause-next g c = elim c.if-not-finish_packet.branch [
   | then-not-finish_packet+else-not-run_records w ↦
-      let hit = at_hit _ _ _ c.args.loaded.now.watched.now _ _ _ _ _ _ c.requires.watched w.if-not-run_records.ensures.goes in
+      let hit = at_hit _ _ _ c.args.loaded.now.watched.now _ _ _ _ _ _ c.args.loaded.now.watches w.if-not-run_records.ensures.goes in
       rw (c.stop_at.ensures hit.0, w.cursor-is)
       ((goes_passed _ _ _ _ _ _ _ _ _ _ w.if-not-finish_packet.ensures).hits ∙ hit.2)
   | else-not-finish_packet w ↦
-      let hit = at_hit _ _ _ c.args.loaded.now.watched.now _ _ _ _ _ _ c.requires.watched w.if-not-finish_packet.ensures in
+      let hit = at_hit _ _ _ c.args.loaded.now.watched.now _ _ _ _ _ _ c.args.loaded.now.watches w.if-not-finish_packet.ensures in
       rw (c.stop_at.ensures hit.0, w.cursor-is) hit.2
 ]

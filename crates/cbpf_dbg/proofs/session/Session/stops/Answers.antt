@@ -2,7 +2,7 @@ use Rattle.cbpf_dbg.specs.Commands.{stops}
 use Rattle.cbpf_machine.specs.Machine.{machine_of}
 use Rattle.cbpf_dbg.proofs.WholeLemmas.{Holds}
 use Rattle.std.proofs.Common.{arith, refl, rules, Some}
-use Rattle.cbpf_dbg.specs.Session.{Fits, IsKnown}
+use Rattle.cbpf_dbg.specs.Session.{Fits}
 use Rattle.cbpf_dbg.proofs.LeftLemmas.{all_left}
 use Rattle.cbpf_dbg.proofs.TurnLemmas.{few_hits, owed_bound}
 use Rattle.cbpf_dbg.proofs.ShownStops.{shows-rest}
@@ -26,19 +26,16 @@ pub returns-clause-hits : goal.returns-clause-hits
 unfolding stops
 returns-clause-hits g c = search rules
 
-pub invariant_of-result : goal.invariant_of-result
-invariant_of-result g c =
+pub invariant_of-result-2 : goal.invariant_of-result-2
+invariant_of-result-2 g c =
     let machine = machine_of c.in-Some.program c.self.inside.values in
     let records = c.in-Some-capture.capture.records in
     let fits : Fits (λ xs. g.T.Trail.stands_for c.self.inside.trail xs) (Some c.in-Some.program) c.self.inside.values
     (Some c.in-Some-capture.capture) c.self.inside.cursor =
     rw (c.in-Some.is, c.in-Some-capture.is) at c.self.invariant.0 in
-    let known : IsKnown c.self.inside.silent c.self.inside.watched (Some c.in-Some.program) c.self.inside.values
-    c.self.inside.breakpoints.entries = rw c.in-Some.is at c.self.invariant.1 in
     let few = owed_bound machine records c.self.inside.cursor.place c.len-sound.ensures.sound
     (omega (arith, c.count-few.ensures.value, c.count-few.ensures.bounded)) in (
       fits.0,
       all_left _ _ _ _ fits.0 (rw c.count.ensures.value at c.records.ensures),
-      known.1,
       omega (arith, few, c.new.ensures),
     )
