@@ -11,9 +11,10 @@ program runs in a new folder, with
   command  a shell command to run in its place, where the program is $PROGRAM and examples/ is $EXAMPLES
   files/NAME  a file that lies where it runs
   captures one line for each capture of tests/captures that lies there too: its name (../../examples/NAME for one of
-           examples/), a space, its name there
+           examples/), a space, its name there; where a case has no such lines, the two packets of examples/ are `k`
   setup    one shell command a line, run there first
-  texts/NAME  lines for which a line `<<NAME>>` stands in any text of the case; tests/texts has those of all cases
+  texts/NAME  lines for which a line `<<NAME>>` stands in any text of the case, and `<<NAME | ONE | OTHER>>` with ONE in
+           place of `$1` and OTHER of `$2`; tests/texts has those of all cases
 and must give
   stdout   exactly this
   stderr   exactly this (none: nothing)
@@ -43,6 +44,7 @@ SECONDS = 60
 MARK = re.compile(rb"(?m)^==> (.+) <==\n")
 CUT = b"\n\\ No newline at end of file\n"
 STANDS_FOR = re.compile(rb"(?m)^<<(.+)>>\n")
+K = b"../../examples/two-packets.pcap k\n"
 
 
 def texts(path):
@@ -51,11 +53,23 @@ def texts(path):
     return {name.decode(): text.removesuffix(CUT) for name, text in zip(cut[::2], cut[1::2])}
 
 
+def expanded(text, found):
+    """A text with those that its lines stand for."""
+
+    def meant(line):
+        name, *words = line[1].split(b" | ")
+        inner = found["texts/" + name.decode()]
+        for number, word in enumerate(words, 1):
+            inner = inner.replace(b"$%d" % number, word)
+        return expanded(inner, found)
+
+    return STANDS_FOR.sub(meant, text)
+
+
 def parts(case):
     """The texts of a case by their names."""
-    found = texts(CASES.parent / "texts") | texts(case)
-    for name in found:
-        found[name] = STANDS_FOR.sub(lambda line: found["texts/" + line[1].decode()], found[name])
+    found = {"captures": K} | texts(CASES.parent / "texts") | texts(case)
+    found = {name: expanded(text, found) for name, text in found.items() if not name.startswith("texts/")}
     folder = case.with_suffix("")
     return found | {str(path.relative_to(folder)): path.read_bytes() for path in folder.rglob("*") if path.is_file()}
 
