@@ -1,6 +1,6 @@
 //! Sources with their instructions, and refused sources with their lines.
 
-use crate::assertions::assert_at;
+use crate::assertions::{Test, assert_at};
 use AsmKind::{
     LabelNotSet, LabelSetTwice, LargeNumber, Misplaced, NoInstruction, NoToken, NotAfter,
     OpenComment, TooFar, TooMany, Unfinished,
@@ -8,7 +8,6 @@ use AsmKind::{
 use cbpf_code::{Insn, read_words};
 use cbpf_text::{AsmFault, AsmKind, assemble};
 use std::alloc::Global;
-use std::process::Abort;
 
 /// Sources with the words of their instructions, or with their refusal and its line.
 static SOURCES: [(&[u8], Result<&[u8], (AsmKind, u64)>); 36] = [
@@ -167,8 +166,8 @@ static LONG: [Long; 12] = [
     (b"in: jmp no\nin: tax\n", 4095, b"", Err((TooMany, 4097))),
 ];
 
-fn with_many(rt: &impl Abort, alloc: Global, first: &[u8], between: u32, last: &[u8]) -> Vec<u8> {
-    let mut source = first.to_vec(alloc).expect(rt, "memory");
+fn with_many(rt: &impl Test, first: &[u8], between: u32, last: &[u8]) -> Vec<u8> {
+    let mut source = first.to_vec(rt.alloc()).expect(rt, "memory");
     for _ in 0..between {
         source.extend_from_slice(b"tax\n").expect(rt, "memory");
     }
@@ -197,21 +196,21 @@ fn is_long_answered(
 #[test]
 fn far_jumps_and_many_instructions(rt: HostRuntime) {
     for (row, (first, between, last, wanted)) in LONG.iter().enumerate() {
-        let source = with_many(&rt, rt.alloc(), first, *between, last);
+        let source = with_many(&rt, first, *between, last);
         assert_at(&rt, row, is_long_answered(rt.alloc(), &source, wanted));
     }
 }
 
-fn assert_text(rt: &impl Abort, alloc: Global, fault: AsmFault, wanted: &str) {
-    let text = format!(in alloc; "{fault}").expect(rt, "memory");
+fn assert_text(rt: &impl Test, fault: AsmFault, wanted: &str) {
+    let text = format!(in rt.alloc(); "{fault}").expect(rt, "memory");
     assert!(rt; text.as_str() == wanted);
 }
 
 // The texts of the other faults are printed by end-to-end cases.
 #[test]
 fn texts_of_faults_that_no_source_has(rt: HostRuntime) {
-    assert_text(&rt, rt.alloc(), AsmFault::Memory, "out of memory");
+    assert_text(&rt, AsmFault::Memory, "out of memory");
     let misplaced = AsmFault::At(Misplaced, 18446744073709551615);
     let wanted = "line 18446744073709551615: A4 token can't stand here";
-    assert_text(&rt, rt.alloc(), misplaced, wanted);
+    assert_text(&rt, misplaced, wanted);
 }

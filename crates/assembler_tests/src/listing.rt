@@ -1,7 +1,7 @@
 //! Worked listings, and one line of each operation.
 
+use crate::assertions::Test;
 use cbpf_code::{Program, WriteFault, check, read_words, write_line, write_lines};
-use std::alloc::Global;
 use std::process::Abort;
 
 /// Programs as word text, and their listings.
@@ -64,13 +64,13 @@ static LISTINGS: [(&[u8], &[u8]); 9] = [
     (b"2,5 0 0 0,6 0 0 255", b"l0:\tjmp l1\nl1:\tret #0xff\n"),
 ];
 
-fn program_of(rt: &impl Abort, alloc: Global, words: &[u8]) -> Program {
-    let list = read_words(alloc, words).expect(rt, "a list");
+fn program_of(rt: &impl Test, words: &[u8]) -> Program {
+    let list = read_words(rt.alloc(), words).expect(rt, "a list");
     check(list).ok().expect(rt, "a program")
 }
 
-fn assert_listing(rt: &impl Abort, alloc: Global, program: &Program, wanted: &[u8], row: usize) {
-    let mut text = Vec::new(alloc);
+fn assert_listing(rt: &impl Test, program: &Program, wanted: &[u8], row: usize) {
+    let mut text = Vec::new(rt.alloc());
     assert!(rt; write_lines(&mut text, program).is_ok());
     assert!(rt; text.as_slice() == wanted, "row {row}");
 }
@@ -88,8 +88,8 @@ fn assert_two_lines(rt: &impl Abort, program: &Program) {
 #[test]
 fn worked_listings(rt: HostRuntime) {
     for (row, (words, wanted)) in LISTINGS.iter().enumerate() {
-        let program = program_of(&rt, rt.alloc(), words);
-        assert_listing(&rt, rt.alloc(), &program, wanted, row);
+        let program = program_of(&rt, words);
+        assert_listing(&rt, &program, wanted, row);
         if program.len() == 2 {
             assert_two_lines(&rt, &program);
         }

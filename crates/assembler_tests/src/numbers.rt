@@ -1,9 +1,8 @@
 // Numbers of each length, and many parts: beside digits that are worked out here.
 ghost use Rattle.std.specs.Prelude.{◌≤◌};
 
+use crate::assertions::Test;
 use cbpf_code::{write_decimal, write_hex, write_parts};
-use std::alloc::Global;
-use std::process::Abort;
 
 /// The last 39 decimal digits of a number, by division.
 fn decimal_digits(n: u128) -> [u8; 39] {
@@ -23,29 +22,28 @@ fn is_number(text: &[u8], digits: &[u8], least: usize) -> bool {
     text.len() == needed && digits.ends_with(text)
 }
 
-fn assert_decimal(rt: &impl Abort, alloc: Global, n: u128) {
-    let mut text = Vec::new(alloc);
+fn assert_decimal(rt: &impl Test, n: u128) {
+    let mut text = Vec::new(rt.alloc());
     assert!(rt; write_decimal(&mut text, n).is_ok(), "{n}");
     assert!(rt; is_number(&text, &decimal_digits(n), 1), "{n}");
 }
 
 /// A number and those on both sides of it.
-fn assert_decimals(rt: &impl Abort, alloc: Global, n: u128) {
-    assert_decimal(rt, alloc, n.wrapping_sub(1));
-    assert_decimal(rt, alloc, n);
-    assert_decimal(rt, alloc, n.wrapping_add(1));
+fn assert_decimals(rt: &impl Test, n: u128) {
+    assert_decimal(rt, n.wrapping_sub(1));
+    assert_decimal(rt, n);
+    assert_decimal(rt, n.wrapping_add(1));
 }
 
 #[test]
 fn powers_of_ten_and_of_two(rt: HostRuntime) {
-    let alloc = rt.alloc();
     let mut power: u128 = 1;
     for _ in 0..39 {
-        assert_decimals(&rt, alloc, power);
+        assert_decimals(&rt, power);
         power = power.wrapping_mul(10);
     }
     for bit in 0..128u32 {
-        assert_decimals(&rt, alloc, 1 << bit);
+        assert_decimals(&rt, 1 << bit);
     }
 }
 
@@ -60,10 +58,10 @@ fn hex_digits(n: u32) -> [u8; 8] {
     digits
 }
 
-fn assert_hex(rt: &impl Abort, alloc: Global, n: u32, least: u32)
+fn assert_hex(rt: &impl Test, n: u32, least: u32)
     requires { (1 ≤ least) × (least ≤ 8) }
 {
-    let mut text = Vec::new(alloc);
+    let mut text = Vec::new(rt.alloc());
     assert!(rt; write_hex(&mut text, n, least).is_ok(), "{n} {least}");
     assert!(rt;
         is_number(&text, &hex_digits(n), least as usize),
@@ -71,23 +69,22 @@ fn assert_hex(rt: &impl Abort, alloc: Global, n: u32, least: u32)
     );
 }
 
-fn assert_hex_of_each_length(rt: &impl Abort, alloc: Global, n: u32) {
+fn assert_hex_of_each_length(rt: &impl Test, n: u32) {
     for least in 1..=8u32 {
-        assert_hex(rt, alloc, n, least);
+        assert_hex(rt, n, least);
     }
 }
 
 #[test]
 fn hexadecimals_of_each_length(rt: HostRuntime) {
-    let alloc = rt.alloc();
     for bit in 0..32u32 {
         let n = 1u32 << bit;
-        assert_hex_of_each_length(&rt, alloc, n - 1);
-        assert_hex_of_each_length(&rt, alloc, n);
-        assert_hex_of_each_length(&rt, alloc, !n);
+        assert_hex_of_each_length(&rt, n - 1);
+        assert_hex_of_each_length(&rt, n);
+        assert_hex_of_each_length(&rt, !n);
     }
-    assert_hex_of_each_length(&rt, alloc, 0x89ab_cdef);
-    assert_hex_of_each_length(&rt, alloc, 0x0123_4567);
+    assert_hex_of_each_length(&rt, 0x89ab_cdef);
+    assert_hex_of_each_length(&rt, 0x0123_4567);
 }
 
 /// From one part to 40, each another one.

@@ -1,7 +1,7 @@
 //! Word text against a plain reading of its rules, over every short text of five bytes.
 
+use crate::assertions::Test;
 use cbpf_code::{Insn, WordFault, read_words};
-use std::alloc::Global;
 use std::process::Abort;
 
 /// A longest run of digits with its number, or a byte that is neither digit nor blank, and its place.
@@ -21,8 +21,8 @@ fn push(rt: &impl Abort, marks: &mut Vec<Mark>, mark: Mark) {
     marks.push(mark).expect(rt, "memory");
 }
 
-fn marks_of(rt: &impl Abort, alloc: Global, text: &[u8]) -> Vec<Mark> {
-    let mut marks = Vec::new(alloc);
+fn marks_of(rt: &impl Test, text: &[u8]) -> Vec<Mark> {
+    let mut marks = Vec::new(rt.alloc());
     let mut number = None;
     for (place, byte) in text.iter().enumerate() {
         if byte.is_ascii_digit() {
@@ -121,10 +121,10 @@ fn are_at(marks: &[Mark], list: &[Insn]) -> bool {
 }
 
 /// Whether `read_words` gives what the plain reading gives.
-fn is_read(rt: &impl Abort, alloc: Global, text: &[u8]) -> bool {
-    let marks = marks_of(rt, alloc, text);
+fn is_read(rt: &impl Test, text: &[u8]) -> bool {
+    let marks = marks_of(rt, text);
     let fault = first_fault(&marks).or(fault_at_end(&marks, text.len()));
-    match read_words(alloc, text) {
+    match read_words(rt.alloc(), text) {
         Ok(list) => fault.is_none() && are_at(&marks, &list),
         Err(found) => fault == Some(found),
     }
@@ -146,10 +146,10 @@ fn text_with(number: u32) -> [u8; 5] {
     text
 }
 
-fn texts_of_length(rt: &impl Abort, alloc: Global, length: usize, count: u32) {
+fn texts_of_length(rt: &impl Test, length: usize, count: u32) {
     for number in 0..count {
         let text = text_with(number);
-        let holds = is_read(rt, alloc, &text[..length.min(5)]);
+        let holds = is_read(rt, &text[..length.min(5)]);
         assert!(rt; holds, "length {length}, text {number}");
     }
 }
@@ -157,6 +157,6 @@ fn texts_of_length(rt: &impl Abort, alloc: Global, length: usize, count: u32) {
 #[test]
 fn every_short_text(rt: HostRuntime) {
     for (length, count) in LENGTHS {
-        texts_of_length(&rt, rt.alloc(), length, count);
+        texts_of_length(&rt, length, count);
     }
 }

@@ -2,9 +2,8 @@
 
 ghost use Rattle.std.specs.Prelude.{◌<◌};
 
+use crate::assertions::Test;
 use cbpf_code::{CheckFault, Insn, check};
-use std::alloc::Global;
-use std::process::Abort;
 
 /// A number below `end`, from a linear congruential generator by Knuth's constants for 64 bits.
 fn below(state: &mut u64, end: u32) -> u32
@@ -86,8 +85,8 @@ fn random_insn(state: &mut u64) -> Insn {
 }
 
 // No jump goes over more than two instructions, and three returns stand at the end: none leads outside.
-fn random_list(rt: &impl Abort, alloc: Global, state: &mut u64) -> Vec<Insn> {
-    let mut list = Vec::new(alloc);
+fn random_list(rt: &impl Test, state: &mut u64) -> Vec<Insn> {
+    let mut list = Vec::new(rt.alloc());
     for _ in 0..below(state, 9) {
         list.push(random_insn(state)).expect(rt, "memory");
     }
@@ -100,7 +99,7 @@ fn slots_along_each_path(rt: HostRuntime) {
     let mut state: u64 = 1;
     let mut accepted = 0u32;
     for n in 0..2000u32 {
-        let list = random_list(&rt, rt.alloc(), &mut state);
+        let list = random_list(&rt, &mut state);
         let wanted = first_unwritten(&list);
         let found = refused_at(list);
         assert!(rt; found == wanted, "list {n}");

@@ -3,12 +3,7 @@ use cbpf_code::{
 };
 use std::process::Abort;
 
-static CODES: [u16; 49] = [
-    0, 32, 40, 48, 64, 72, 80, 96, 128, 1, 97, 129, 177, 2, 3, 132, 5, 6, 22, 7, 135, 4, 12, 20,
-    28, 36, 44, 52, 60, 68, 76, 84, 92, 100, 108, 116, 124, 148, 156, 164, 172, 21, 29, 37, 45, 53,
-    61, 69, 77,
-];
-
+/// Each operation by its code.
 static OPERATIONS: [(u16, Op); 49] = [
     (0x00, Op::LdImm),
     (0x20, Op::LdAbs(Size::Word)),
@@ -82,13 +77,13 @@ static EXTENSIONS: [(Ext, u32, &str); 15] = [
 /// Whether the code is an operation's, which has the same code again.
 fn is_known(rt: &impl Abort, code: u16) -> bool {
     let op = op_of(code);
-    assert!(rt; op.is_some() == CODES.contains(&code), "{code}");
     if let Some(op) = op {
         assert!(rt; code_of(op) == code);
     }
     op.is_some()
 }
 
+/// No codes are known but those of `OPERATIONS`, as many.
 fn each_code(rt: &impl Abort) {
     let mut known = 0u32;
     for code in 0..=65535u16 {

@@ -1,10 +1,9 @@
 //! What the tokens of texts are, by hand.
 
-use crate::assertions::assert_at;
+use crate::assertions::{Test, assert_at};
 use BadPiece::{LargeNumber, NoToken, OpenComment};
 use cbpf_syntax::{BadPiece, Kind, LexFault, Token, tokens};
 use std::alloc::Global;
-use std::process::Abort;
 
 const WORD: Kind = Kind::Word;
 
@@ -201,8 +200,8 @@ static LONG: [(&[u8], &[u8], u32, &[u8], usize); 7] = [
 ];
 
 /// `piece` many times after `first`.
-fn repeated(rt: &impl Abort, alloc: Global, first: &[u8], piece: &[u8], times: u32) -> Vec<u8> {
-    let mut text = first.to_vec(alloc).expect(rt, "memory");
+fn repeated(rt: &impl Test, first: &[u8], piece: &[u8], times: u32) -> Vec<u8> {
+    let mut text = first.to_vec(rt.alloc()).expect(rt, "memory");
     for _ in 0..times {
         text.extend_from_slice(piece).expect(rt, "memory");
     }
@@ -219,7 +218,7 @@ fn has_count(alloc: Global, text: &[u8], count: usize) -> bool {
 #[test]
 fn long_texts_take_no_long_time(rt: HostRuntime) {
     for (row, (first, piece, times, last, count)) in LONG.iter().enumerate() {
-        let mut text = repeated(&rt, rt.alloc(), first, piece, *times);
+        let mut text = repeated(&rt, first, piece, *times);
         text.extend_from_slice(last).expect(&rt, "memory");
         assert_at(&rt, row, has_count(rt.alloc(), &text, *count));
     }

@@ -1,8 +1,7 @@
+use crate::assertions::Test;
 use crate::lists::{Fields, list_of};
 use WordFault::{CommaExpected, CountDiffers, NumberExpected, OutOfRange, UnexpectedByte};
 use cbpf_code::{Insn, WordFault, read_words};
-use std::alloc::Global;
-use std::process::Abort;
 
 /// Word texts with their instructions, or their fault.
 static TEXTS: [(&[u8], Result<&[Fields], WordFault>); 31] = [
@@ -45,15 +44,15 @@ static TEXTS: [(&[u8], Result<&[Fields], WordFault>); 31] = [
     (b" 4 ", Err(CommaExpected(3))),
 ];
 
-fn assert_read(rt: &impl Abort, alloc: Global, text: &[u8], wanted: &[Insn], row: usize) {
-    match read_words(alloc, text) {
+fn assert_read(rt: &impl Test, text: &[u8], wanted: &[Insn], row: usize) {
+    match read_words(rt.alloc(), text) {
         Ok(list) => assert!(rt; list.as_slice() == wanted, "row {row}"),
         Err(_) => assert!(rt; false, "row {row}"),
     }
 }
 
-fn assert_refused(rt: &impl Abort, alloc: Global, text: &[u8], fault: WordFault, row: usize) {
-    let found = read_words(alloc, text).err();
+fn assert_refused(rt: &impl Test, text: &[u8], fault: WordFault, row: usize) {
+    let found = read_words(rt.alloc(), text).err();
     assert!(rt; found == Some(fault), "row {row}");
 }
 
@@ -62,10 +61,10 @@ fn worked_texts(rt: HostRuntime) {
     for (row, (text, wanted)) in TEXTS.iter().enumerate() {
         match wanted {
             Ok(fields) => {
-                let list = list_of(&rt, rt.alloc(), fields);
-                assert_read(&rt, rt.alloc(), text, &list, row);
+                let list = list_of(&rt, fields);
+                assert_read(&rt, text, &list, row);
             }
-            Err(fault) => assert_refused(&rt, rt.alloc(), text, *fault, row),
+            Err(fault) => assert_refused(&rt, text, *fault, row),
         }
     }
 }

@@ -56,7 +56,7 @@ static LISTS: [(&[Fields], &[u8], &[u8]); 3] = [
 #[test]
 fn forms_of_instructions(rt: HostRuntime) {
     for (row, (fields, words, c)) in LISTS.iter().enumerate() {
-        let list = list_of(&rt, rt.alloc(), fields);
+        let list = list_of(&rt, fields);
         let mut text = Vec::new(rt.alloc());
         assert!(rt; write_words(&mut text, &list).is_ok());
         assert!(rt; text.as_slice() == *words, "row {row}");
