@@ -1,9 +1,9 @@
 -- The best row of two lists, and of a mnemonic.
 use Rattle.std.proofs.lemmas.Grind.{common_steps, flat_map-append}
 use Rattle.std.proofs.Common.{rules, ◌≡◌, ◌≢◌, ℕ, zero, suc, Bool, true, false, cond, ◌+◌, ◌<◌, ◌≤◌, List, [], ◌∷◌}
-use Rattle.std.proofs.Common.{◌++◌, length, map, take, refl, arith, ap, ◌∙◌, ◌⊎◌, inl, inr, get_or, Bor, append-nil}
+use Rattle.std.proofs.Common.{◌++◌, length, map, take, refl, arith, ap, ◌⊎◌, inl, inr, get_or, Bor, append-nil}
 use Rattle.std.specs.Prelude.{Contains, flat_map}
-use Rattle.std.proofs.lemmas.List.{get_or-map, length-map, map-append, take_all}
+use Rattle.std.proofs.lemmas.List.{length-map, map-append, take_all, take-map, map_more, take_more}
 use Rattle.cbpf_syntax.specs.declared.table.Entry as declared_entry
 use Rattle.cbpf_syntax.specs.declared.class.Class as declared_class
 use Rattle.std.proofs.lemmas.List.Elements.{Contains-append_right, Contains-append_cases}
@@ -16,7 +16,6 @@ use Rattle.cbpf_syntax.specs.declared.lexeme.Lexeme as declared_lexeme
 use Rattle.std.specs.List.{common_prefix_len}
 use Rattle.cbpf_syntax.specs.Choice.{common, IsBest}
 use Rattle.cbpf_syntax.proofs.Elements.{only_element, first_element, later_element, which_element, common_mapped}
-use Rattle.cbpf_syntax.proofs.Elements.{take_next}
 
 pub one_row : (row : Row) (ts : List Lexeme) (best : Match) → row_of best.row ≡ row → best.len ≡ common row.operand ts
     → IsBest (row ∷ []) ts best
@@ -90,23 +89,18 @@ rows_are : (w : List ℕ) (e : declared_entry.Entry) (forms : List (Bor (List de
     → map (λ f. map class_of f.now) forms ≡ mode_forms e.mode → entry_rows w (entry_of e) ≡ map (form_row w e) forms
 rows_are w e forms h1 = search (rules, map_twice)
 
-take_mapped : {X Y : Type 0} (f : X → Y) (xs : List X) (i : ℕ) (d : X) → i < length xs
-    → take (i + 1) (map f xs) ≡ take i (map f xs) ++ (f (get_or xs i d) ∷ [])
-take_mapped f xs i d l = take_next (map f xs) i (f d) (rw (length-map xs f) l)
-    ∙ ap (λ y. take i (map f xs) ++ (y ∷ [])) (get_or-map f xs i d (f d) l)
-
 -- the rows of an addressing mode as far as one more form
 pub next_form : (w : List ℕ) (e : declared_entry.Entry) (forms : List (Bor (List declared_class.Class))) (i : ℕ)
     (d : Bor (List declared_class.Class)) → map (λ f. map class_of f.now) forms ≡ mode_forms e.mode → i < length forms
     → take (i + 1) (entry_rows w (entry_of e))
     ≡ take i (entry_rows w (entry_of e)) ++ (form_row w e (get_or forms i d) ∷ [])
-next_form w e forms i d h l = rw (rows_are w e forms h) (take_mapped (form_row w e) forms i d l)
+next_form w e forms i d h l = rw (rows_are w e forms h, take-map, take-map) (map_more (form_row w e) forms i d l)
 
 -- the rows of a mnemonic as far as one more addressing mode
 pub next_entry : (w : List ℕ) (es : List declared_entry.Entry) (i : ℕ) (d : declared_entry.Entry) → i < length es
     → flat_map (entry_rows w) (map entry_of (take (i + 1) es))
     ≡ flat_map (entry_rows w) (map entry_of (take i es)) ++ entry_rows w (entry_of (get_or es i d))
-next_entry w es i d h1 = grind (arith, common_steps, take_next, map-append, get_or, flat_map-append, append-nil)
+next_entry w es i d h1 = grind (arith, common_steps, take_more, map-append, get_or, flat_map-append, append-nil)
 
 -- the rows of an addressing mode after its last form
 pub all_forms : (w : List ℕ) (e : declared_entry.Entry) (forms : List (Bor (List declared_class.Class))) (i : ℕ)

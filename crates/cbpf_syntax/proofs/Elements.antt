@@ -1,6 +1,6 @@
 -- Elements of lists that are made of others.
 use Rattle.std.proofs.lemmas.Grind.{common_steps}
-use Rattle.std.proofs.Common.{rules, ◌≡◌, ℕ, ◌+◌, ◌<◌, Bool, true, List, [], ◌∷◌, ◌++◌, length, map, take, refl}
+use Rattle.std.proofs.Common.{rules, ◌≡◌, ℕ, ◌<◌, Bool, true, List, [], ◌∷◌, length, map, refl}
 use Rattle.std.proofs.Common.{arith, ◌⊎◌, inl, inr, get_or}
 use Rattle.std.specs.Prelude.{Contains, flat_map}
 use Rattle.std.specs.List.{list_all, list_any, common_prefix_len}
@@ -71,7 +71,3 @@ pub common_mapped : {X Y V W : Type 0} (e : V → W → Bool) (f : X → V) (g :
     → common_prefix_len e (map f xs) (map g ys) ≡ common_prefix_len (λ x y. e (f x) (g y)) xs ys
 common_mapped e f g (x ∷ xs) (y ∷ ys) = rw (common_mapped e f g xs ys) refl
 common_mapped e f g xs ys = refl
-
-pub take_next : {X : Type 0} (xs : List X) (i : ℕ) (d : X) → i < length xs
-    → take (i + 1) xs ≡ take i xs ++ (get_or xs i d ∷ [])
-take_next xs i d h1 = grind (arith, common_steps)

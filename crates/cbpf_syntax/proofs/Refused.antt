@@ -1,12 +1,14 @@
 -- Which refusal of a token list is the first.
 use Rattle.std.proofs.Common.{rules, ◌≡◌, ℕ, zero, suc, ◌+◌, ◌-◌, ◌<◌, ◌≤◌, List, [], ◌∷◌, ◌++◌, length, take, drop}
 use Rattle.std.proofs.Common.{map, refl, arith, sym, inl, inr, subst, append-nil, length-drop}
-use Rattle.std.proofs.Common.{get_or, Some}
+use Rattle.std.proofs.Common.{get_or, Some, None}
 use Rattle.std.proofs.lemmas.List.{take-append-drop, take_all, drop_all, drop-drop, take-take}
+use Rattle.std.specs.Prelude.{Option, option_map, slice_get}
+use Rattle.std.proofs.lemmas.Option.{slice_get-map, slice_get-get_or, slice_get_within}
 use Rattle.std.proofs.lemmas.Bool.{cases_lt}
 use Rattle.cbpf_syntax.specs.declared.lexeme.Lexeme as declared_lexeme
 use Rattle.cbpf_syntax.specs.Refusals.ParseFault.{Misplaced, LargeNegative, Unfinished}
-use Rattle.cbpf_syntax.specs.Lexemes.{Symbol, Lexeme}
+use Rattle.cbpf_syntax.specs.Lexemes.{Lexeme}
 use Rattle.cbpf_syntax.specs.Items.{Item, Items, BeginsItems}
 use Rattle.cbpf_syntax.specs.Views.{symbol_of, lexeme_of}
 use Rattle.cbpf_syntax.specs.Steps.{Stuck, IsNextItem}
@@ -19,14 +21,7 @@ use Rattle.cbpf_syntax.proofs.Cuts.{some-same}
 
 pub symbol_at_get : (ts : List declared_lexeme.Lexeme) (i : ℕ) (d : declared_lexeme.Lexeme) → i < length ts
     → symbol_at (map lexeme_of ts) i ≡ Some (symbol_of (get_or ts i d).symbol)
-symbol_at_get [] i d l = absurd (omega arith)
-symbol_at_get (t ∷ ts) zero d l = refl
-symbol_at_get (t ∷ ts) (suc i) d l = symbol_at_get ts i d (omega arith)
-
-symbol_within : (ts : List Lexeme) (i : ℕ) (s : Symbol) → symbol_at ts i ≡ Some s → i < length ts
-symbol_within [] i s e = cc
-symbol_within (t ∷ ts) zero s e = omega arith
-symbol_within (t ∷ ts) (suc i) s e = let l = symbol_within ts i s e in omega (arith, l)
+symbol_at_get ts i d l = rw (slice_get-map lexeme_of ts i, slice_get-get_or ts i d l) refl
 
 -- what stands at an index and the one before
 pub large_here : (ts : List declared_lexeme.Lexeme) (i : ℕ) (d e : declared_lexeme.Lexeme) → 1 ≤ i → i < length ts
@@ -40,7 +35,12 @@ pub not_large_here : (ts : List declared_lexeme.Lexeme) (i : ℕ) (d e : declare
 not_large_here ts i d e h1 h2 h3 h4 = search (rules, some-same, symbol_at_get)
 
 pub large_within : (ts : List Lexeme) (i : ℕ) → IsLargeNegative ts i → i < length ts
-large_within ts i h = symbol_within ts i h.digits h.digits_at
+large_within ts i h = by_token (slice_get ts i) refl h.digits_at
+  where
+    by_token : (o : Option Lexeme) → slice_get ts i ≡ o → option_map (λ (t : Lexeme). t.symbol) o ≡ Some h.digits
+        → i < length ts
+    by_token (Some t) e q = slice_get_within ts i t e
+    by_token None e q = absurd cc
 
 -- Where the tokens begin items up to a place, and no literal before one is too large, nothing is refused before that.
 not_before : (ts : List Lexeme) (s i : ℕ) → BeginsItems (take s ts) → i ≤ s → s ≤ length ts

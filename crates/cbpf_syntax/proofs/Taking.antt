@@ -3,14 +3,15 @@ use Rattle.std.proofs.lemmas.Grind.{common_steps}
 use Rattle.std.proofs.Common.{rules, ◌≡◌, ℕ, zero, suc, ◌+◌, ◌-◌, ◌<◌, ◌≤◌, true, List, [], ◌∷◌, ◌++◌, length, map}
 use Rattle.std.proofs.Common.{take, drop, refl, arith, ap, sym, ◌∙◌, inl, inr, subst, append_assoc, append-nil}
 use Rattle.std.proofs.Common.{length-append, length-drop, get_or, Option, Some, None}
-use Rattle.std.proofs.lemmas.List.{take-append-drop, take-append-le, drop-append-le, drop-drop, drop-map, map-append}
-use Rattle.std.proofs.lemmas.List.{length-map, length-take-le, take_rest}
-use Rattle.std.specs.Prelude.{slice_get, IfSome, IfNone}
+use Rattle.std.proofs.lemmas.List.{take-append-drop, take-append-le, drop-drop, drop-map, map-append}
+use Rattle.std.proofs.lemmas.List.{length-map, length-take-le, take_rest, drop_at, get_or-drop, get_or_append_left}
+use Rattle.std.specs.Prelude.{slice_get, IfSome, IfNone, option_map}
+use Rattle.std.proofs.lemmas.Option.{slice_get-map, slice_get-get_or}
 use Rattle.std.specs.List.{copy_within}
 use Rattle.std.proofs.lemmas.List.Edits.{take-paste}
 use Rattle.std.proofs.lemmas.Bool.{and_parts, cases_lt}
 use Rattle.cbpf_syntax.specs.declared.token.Token.{Token}
-use Rattle.cbpf_syntax.specs.TokenReading.{IsNextToken}
+use Rattle.cbpf_syntax.specs.TokenReading.{IsNextToken, HasNoMore}
 use Rattle.cbpf_syntax.proofs.Outcomes.{lexes_on}
 use Rattle.cbpf_syntax.specs.declared.lexeme.Lexeme as declared_lexeme
 use Rattle.cbpf_syntax.specs.declared.reader.Step.{Step}
@@ -36,35 +37,50 @@ pub ahead_is : (text : List ℕ) (at n : ℕ) (ahead ts : List Lexeme) → AreAh
     → (rest : List Lexeme) × (drop n ts ≡ ahead ++ rest) × (at ≡ length text → rest ≡ []) × (n ≤ length ts)
 ahead_is text at n ahead ts a t =
     let r = lexes_on text at a.tokens t.tokens a.lexed t.lexed in
-    let whole = t.are ∙ (ap (λ us. lexemes_of text us) r.1 ∙ map-append (token_lexeme text) a.tokens r.0) in
-    let size : length (lexemes_of text a.tokens) ≡ length a.tokens = length-map a.tokens (token_lexeme text) in
-    let within : n ≤ length (lexemes_of text a.tokens) = omega (arith, size, a.taken) in (
-      lexemes_of text r.0,
-      ap (λ us. drop n us) whole ∙ (drop-append-le n (lexemes_of text a.tokens) (lexemes_of text r.0) within
-          ∙ ap (λ us. us ++ lexemes_of text r.0) a.are),
+    let rest = lexemes_of text r.0 in
+    let whole : ts ≡ a.taken ++ (ahead ++ rest) =
+    t.are ∙ (ap (λ us. lexemes_of text us) r.1 ∙ rw (map-append, a.are) (append_assoc a.taken ahead rest)) in (
+      rest,
+      ap (λ us. drop n us) whole ∙ drop_at a.taken (ahead ++ rest) n a.count,
       (λ e. ap (λ us. lexemes_of text us) (r.2 e)),
-      omega (arith, within, ap length whole, length-append (lexemes_of text a.tokens) (lexemes_of text r.0)),
+      omega (arith, a.count, ap length whole, length-append a.taken (ahead ++ rest)),
     )
 
 -- one more token is read
 pub ahead_more : (text : List ℕ) (at to n : ℕ) (ahead : List Lexeme) (token : Token) → AreAhead text at n ahead
     → IsNextToken text at to token → AreAhead text to n (ahead ++ (token_lexeme text token ∷ []))
-ahead_more text at to n ahead token a next =
-    let size : length (lexemes_of text a.tokens) ≡ length a.tokens = length-map a.tokens (token_lexeme text) in
-    let within : n ≤ length (lexemes_of text a.tokens) = omega (arith, size, a.taken) in
-    record {
-      tokens = a.tokens ++ (token ∷ []);
-      lexed = next.more a.tokens a.lexed;
-      taken = omega (arith, a.taken, length-append a.tokens (token ∷ []));
-      are = ap (λ us. drop n us) (map-append (token_lexeme text) a.tokens (token ∷ []))
-          ∙ (drop-append-le n (lexemes_of text a.tokens) (token_lexeme text token ∷ []) within
-          ∙ ap (λ us. us ++ (token_lexeme text token ∷ [])) a.are);
-    }
+ahead_more text at to n ahead token a next = record {
+  tokens = a.tokens ++ (token ∷ []);
+  lexed = next.more a.tokens a.lexed;
+  taken = a.taken;
+  count = a.count;
+  are = rw (map-append, a.are) (append_assoc a.taken ahead (token_lexeme text token ∷ []));
+}
+
+pub ahead_none : (text : List ℕ) → AreAhead text 0 0 []
+ahead_none text = record { tokens = []; lexed = search rules; taken = []; count = refl; are = refl }
+
+-- no more token is there
+pub ahead_end : (text : List ℕ) (at n : ℕ) (ahead : List Lexeme) → HasNoMore text at → AreAhead text at n ahead
+    → AreAhead text (length text) n ahead
+ahead_end text at n ahead none a = record {
+  tokens = a.tokens;
+  lexed = none a.tokens a.lexed;
+  taken = a.taken;
+  count = a.count;
+  are = a.are;
+}
 
 -- some of the tokens ahead are taken
 pub ahead_taken : (text : List ℕ) (at m n : ℕ) (ahead : List Lexeme) → AreAhead text at m ahead → n ≤ length ahead
     → AreAhead text at (m + n) (drop n ahead)
-ahead_taken text at m n ahead h1 h2 = search (rules, length-map, length-drop, drop-drop)
+ahead_taken text at m n ahead a l = record {
+  tokens = a.tokens;
+  lexed = a.lexed;
+  taken = a.taken ++ take n ahead;
+  count = omega (arith, a.count, length-append a.taken (take n ahead), length-take-le n ahead l);
+  are = rw (append_assoc, take-append-drop) a.are;
+}
 
 -- a step over the tokens ahead is one over all, where a token follows it or none is left
 pub step_more : (ws rest : List Lexeme) (s : Option Step) → IsStepOf ws s → step_len s < length ws
@@ -83,66 +99,51 @@ pub step_all : (ws rest : List Lexeme) (s : Option Step) → IsStepOf ws s → r
 step_all ws rest s h e = subst (λ us. IsStepOf us s) (sym (ap (λ us. ws ++ us) e ∙ append-nil ws)) h
 
 -- what stands at an index of the tokens ahead
-symbol_front : (ws rest : List Lexeme) (k : ℕ) → k < length ws → symbol_at (ws ++ rest) k ≡ symbol_at ws k
-symbol_front [] rest k l = absurd (omega (arith, l))
-symbol_front (w ∷ ws) rest zero l = refl
-symbol_front (w ∷ ws) rest (suc k) l = symbol_front ws rest k (omega (arith, l))
-
-symbol_drop : (ts : List Lexeme) (m k : ℕ) → symbol_at (drop m ts) k ≡ symbol_at ts (m + k)
-symbol_drop ts zero k = let e : 0 + k ≡ k = omega arith in ap (λ i. symbol_at ts i) (sym e)
-symbol_drop [] (suc m) k = nothing k (suc m + k)
-  where
-    nothing : (i j : ℕ) → symbol_at [] i ≡ symbol_at [] j
-    nothing i j = refl
-symbol_drop (t ∷ ts) (suc m) k = let e : suc m + k ≡ suc (m + k) = omega arith in
-    symbol_drop ts m k ∙ ap (λ i. symbol_at (t ∷ ts) i) (sym e)
+pub get_ahead : (ts ws rest : List Lexeme) (m k : ℕ) → drop m ts ≡ ws ++ rest → k < length ws
+    → slice_get ts (m + k) ≡ slice_get ws k
+get_ahead ts [] rest m k e l = absurd (omega (arith, l))
+get_ahead ts (w ∷ ws) rest m k e l =
+    let same : get_or ts (m + k) w ≡ get_or (w ∷ ws) k w =
+    sym (get_or-drop m ts k w) ∙ (ap (λ us. get_or us k w) e ∙ get_or_append_left (w ∷ ws) rest w k l) in
+    let within : m + k < length ts = omega (arith, l, length-drop m ts, ap length e, length-append (w ∷ ws) rest) in
+    slice_get-get_or ts (m + k) w within ∙ (ap (λ t. Some t) same ∙ sym (slice_get-get_or (w ∷ ws) k w l))
 
 pub symbol_ahead : (ts ws rest : List Lexeme) (m k : ℕ) → drop m ts ≡ ws ++ rest → k < length ws
     → symbol_at ts (m + k) ≡ symbol_at ws k
-symbol_ahead ts ws rest m k e l = sym (symbol_drop ts m k) ∙ (ap (λ us. symbol_at us k) e ∙ symbol_front ws rest k l)
-
-get_front : (ws rest : List Lexeme) (k : ℕ) → k < length ws → slice_get (ws ++ rest) k ≡ slice_get ws k
-get_front [] rest k l = absurd (omega (arith, l))
-get_front (w ∷ ws) rest zero l = refl
-get_front (w ∷ ws) rest (suc k) l = get_front ws rest k (omega (arith, l))
-
-get_drop : (ts : List Lexeme) (m k : ℕ) → slice_get (drop m ts) k ≡ slice_get ts (m + k)
-get_drop ts zero k = let e : 0 + k ≡ k = omega arith in ap (λ i. slice_get ts i) (sym e)
-get_drop [] (suc m) k = refl
-get_drop (t ∷ ts) (suc m) k = let e : suc m + k ≡ suc (m + k) = omega arith in
-    get_drop ts m k ∙ ap (λ i. slice_get (t ∷ ts) i) (sym e)
-
-pub get_ahead : (ts ws rest : List Lexeme) (m k : ℕ) → drop m ts ≡ ws ++ rest → k < length ws
-    → slice_get ts (m + k) ≡ slice_get ws k
-get_ahead ts ws rest m k e l = sym (get_drop ts m k) ∙ (ap (λ us. slice_get us k) e ∙ get_front ws rest k l)
+symbol_ahead ts ws rest m k e l = ap (option_map (λ (t : Lexeme). t.symbol)) (get_ahead ts ws rest m k e l)
 
 -- a literal that is too large, of the tokens ahead and of all
+large_as : (ts us : List Lexeme) (i j : ℕ) → symbol_at ts i ≡ symbol_at us j → symbol_at ts (i + 1) ≡ symbol_at us (j + 1)
+    → IsLargeNegative ts (i + 1) → IsLargeNegative us (j + 1)
+large_as ts us i j e f h =
+    let b : i ≡ h.before = omega (arith, h.after) in
+    record {
+      before = j;
+      after = refl;
+      sign = h.sign;
+      digits = h.digits;
+      sign_at = sym e ∙ (ap (λ k. symbol_at ts k) b ∙ h.sign_at);
+      digits_at = sym f ∙ h.digits_at;
+      large = h.large;
+    }
+
 large_in : (ts ws rest : List Lexeme) (m k : ℕ) → drop m ts ≡ ws ++ rest → k < length ws → IsLargeNegative ws k
     → IsLargeNegative ts (m + k)
-large_in ts ws rest m k e l h = record {
-  before = m + h.before;
-  after = omega (arith, h.after);
-  sign = h.sign;
-  digits = h.digits;
-  sign_at = symbol_ahead ts ws rest m h.before e (omega (arith, h.after, l)) ∙ h.sign_at;
-  digits_at = symbol_ahead ts ws rest m k e l ∙ h.digits_at;
-  large = h.large;
-}
+large_in ts ws rest m k e l h =
+    let i : k ≡ h.before + 1 = h.after in
+    let add : m + h.before + 1 ≡ m + k = omega (arith, i) in
+    let here = symbol_ahead ts ws rest m k e l in
+    subst (λ j. IsLargeNegative ts j) add (large_as ws ts h.before (m + h.before)
+    (sym (symbol_ahead ts ws rest m h.before e (omega (arith, l, i)))) (rw (add, ← i) (sym here)) (rw i at h))
 
 large_out : (ts ws rest : List Lexeme) (m k : ℕ) → drop m ts ≡ ws ++ rest → suc k < length ws
     → IsLargeNegative ts (m + suc k) → IsLargeNegative ws (suc k)
 large_out ts ws rest m k e l h =
-    let b : h.before ≡ m + k = omega (arith, h.after) in
-    record {
-      before = k;
-      after = omega arith;
-      sign = h.sign;
-      digits = h.digits;
-      sign_at =
-          sym (symbol_ahead ts ws rest m k e (omega (arith, l))) ∙ (ap (λ i. symbol_at ts i) (sym b) ∙ h.sign_at);
-      digits_at = sym (symbol_ahead ts ws rest m (suc k) e l) ∙ h.digits_at;
-      large = h.large;
-    }
+    let add : m + suc k ≡ m + k + 1 = omega arith in
+    let one : k + 1 ≡ suc k = omega arith in
+    let here = symbol_ahead ts ws rest m (suc k) e l in
+    subst (λ j. IsLargeNegative ws j) one (large_as ts ws (m + k) k
+    (symbol_ahead ts ws rest m k e (omega arith)) (rw (← add, one) here) (rw add at h))
 
 not_first : (ts ws rest : List Lexeme) (m : ℕ) → drop m ts ≡ ws ++ rest → 0 < length ws → StartsWithWord ws
     → IsLargeNegative ts (m + 0) → ⊥
@@ -177,11 +178,9 @@ large_on ts ws rest m None (Some at) e w h known found = (
   (found.4.0, get_ahead ts ws rest m found.0 e found.1 ∙ found.4.1, found.4.2),
 )
 
-pub get_mapped : (ts : List declared_lexeme.Lexeme) (i : ℕ) (d : declared_lexeme.Lexeme) → i < length ts
+get_mapped : (ts : List declared_lexeme.Lexeme) (i : ℕ) (d : declared_lexeme.Lexeme) → i < length ts
     → slice_get (map lexeme_of ts) i ≡ Some (lexeme_of (get_or ts i d))
-get_mapped [] i d l = absurd (omega (arith, l))
-get_mapped (t ∷ ts) zero d l = refl
-get_mapped (t ∷ ts) (suc i) d l = get_mapped ts i d (omega (arith, l))
+get_mapped ts i d l = slice_get-map lexeme_of ts i ∙ ap (option_map lexeme_of) (slice_get-get_or ts i d l)
 
 pub place_mapped : (ts : List declared_lexeme.Lexeme) (i : ℕ) (d : declared_lexeme.Lexeme) → i < length ts
     → IsPlaceOf (map lexeme_of ts) i (get_or ts i d).at

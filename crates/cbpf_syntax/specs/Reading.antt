@@ -1,6 +1,6 @@
 -- A source text whose items are taken one by one, with a few tokens read ahead: what stands next, by the forms of the
 -- kernel's Documentation/networking/filter (BPF engine and instruction set).
-use Rattle.std.specs.Prelude.{◌≡◌, ◌≤◌, ◌<◌, ◌+◌, ◌-◌, ℕ, Bool, true, List, [], length, map, drop, slice_get, Option}
+use Rattle.std.specs.Prelude.{◌≡◌, ◌<◌, ◌+◌, ◌-◌, ℕ, Bool, true, List, [], ◌++◌, length, map, slice_get, Option}
 use Rattle.std.specs.Prelude.{Some, None, Ok}
 use Rattle.cbpf_syntax.specs.declared.token.Token.{Token}
 use Rattle.cbpf_syntax.specs.Tokens.{LexesTo}
@@ -16,12 +16,13 @@ use Rattle.cbpf_syntax.specs.Steps.{IsInstruction, Stuck, starts_with_label}
 use Rattle.cbpf_syntax.specs.Refusals.{IsLargeNegative, IsFirstRefusal, symbol_at}
 use Rattle.cbpf_syntax.specs.Views.{lexeme_of}
 
--- the lexemes that stand ahead are those of the text from the n-th on, up to a place
+-- the text's lexemes up to a place are n that were taken, and those that stand ahead
 pub record AreAhead (text : List ℕ) (at n : ℕ) (ahead : List Lexeme) : Type 0 where
   pub tokens : List Token
   pub lexed : LexesTo text at tokens
-  pub taken : n ≤ length tokens
-  pub are : drop n (lexemes_of text tokens) ≡ ahead
+  pub taken : List Lexeme
+  pub count : length taken ≡ n
+  pub are : lexemes_of text tokens ≡ taken ++ ahead
 
 -- the text's lexemes up to one place go on to another, with those ahead
 abbrev pub ReadsOn : List ℕ → ℕ → ℕ → List Lexeme → List Lexeme → Type 0

@@ -1,6 +1,6 @@
 -- Why a token list is no list of items, or has a literal out of range: this project's own rules, as the kernel's
 -- Documentation/networking/filter has no faults.
-use Rattle.std.specs.Prelude.{◌≡◌, ◌≤◌, ◌<◌, ℕ, zero, suc, ◌+◌, List, [], ◌∷◌, length, take, Option, Some, None}
+use Rattle.std.specs.Prelude.{◌≡◌, ◌≤◌, ◌<◌, ℕ, ◌+◌, List, length, take, Option, Some, option_map, slice_get}
 use Rattle.cbpf_syntax.specs.Lexemes.{Symbol, Lexeme}
 use Rattle.cbpf_syntax.specs.Lexemes.Symbol.{number, mark}
 use Rattle.cbpf_syntax.specs.Items.{Item, Items, BeginsItems}
@@ -12,9 +12,7 @@ pub data ParseFault : Type 0 where
   Unfinished : ParseFault
 
 abbrev pub symbol_at : List Lexeme → ℕ → Option Symbol
-symbol_at [] i = None
-symbol_at (t ∷ ts) zero = Some t.symbol
-symbol_at (t ∷ ts) (suc i) = symbol_at ts i
+symbol_at ts i = option_map (λ (t : Lexeme). t.symbol) (slice_get ts i)
 
 -- A4: the tokens before the one at the place begin items, and with it they don't
 pub record IsMisplaced (ts : List Lexeme) (i : ℕ) : Type 0 where

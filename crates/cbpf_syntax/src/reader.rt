@@ -179,6 +179,7 @@ impl<'a, A: Allocator> Model for Reader<'a, A> {
 
 impl<'a, A: Allocator> Reader<'a, A> {
     /// A text of which no token was taken.
+    #[tactic(auto, using(crate::proofs::Taking::ahead_none))]
     pub fn new(alloc: A, text: &'a [u8]) -> Self
         ensures text { result.text ≡ text.now }
         ensures reading { IsReading 0 result }
