@@ -1,13 +1,11 @@
 -- Each token list is items, or has a first refusal: of each the longest front that begins a row is found.
 use Rattle.std.proofs.Common.{rules, ◌≡◌, ℕ, zero, suc, ◌+◌, ◌<◌, ◌≤◌, Bool, true, false, List, [], ◌∷◌, ◌++◌, length}
 use Rattle.std.proofs.Common.{take, drop, refl, arith, ap, sym, ◌∙◌, ◌⊎◌, inl, inr, subst, Option, Some, None}
-use Rattle.std.proofs.Common.{eqb-true, eq-eqb}
-use Rattle.std.specs.Prelude.{◌==◌}
 use Rattle.std.specs.List.{list_any}
-use Rattle.std.proofs.lemmas.Bool.{cases_lt, cases_Bool, both_ways}
+use Rattle.std.proofs.lemmas.Bool.{cases_lt, cases_eq, cases_Bool, both_ways}
 use Rattle.cbpf_syntax.specs.Classes.Class.{the_mark, name}
 use Rattle.cbpf_syntax.specs.Lexemes.{Symbol, Lexeme}
-use Rattle.cbpf_syntax.specs.Lexemes.Symbol.{word, number, mark}
+use Rattle.cbpf_syntax.specs.Lexemes.Symbol.{number, mark}
 use Rattle.cbpf_syntax.specs.Table.{classes, table}
 use Rattle.cbpf_syntax.specs.Fits.{fits, fits_all, fits_front}
 use Rattle.cbpf_syntax.specs.Items.{Item, Items, Form}
@@ -122,25 +120,21 @@ reach ts (suc left) at is l p = elim (cases_lt at (length ts)) [
 abbrev Either : Type 0 → Type 0
 Either P = P ⊎ (P → ⊥)
 
-sign_pair : (b n : ℕ) (t : Bool) → (b == 45) ≡ t → Either (IsLarge (mark b) (number n))
-sign_pair b n true e = elim (cases_lt 2147483648 n) [
-  | inl l ↦ inl (ap mark (eqb-true b 45 e), n, refl, l)
-  | inr l ↦ inr (λ h. let k : n ≡ h.1 = same_number n h.1 h.2 in omega (arith, k, l, h.3))
+large_pair : (s d : Symbol) → Either (IsLarge s d)
+large_pair (mark b) (number n) = elim (cases_eq b 45) [
+  | inl e ↦ elim (cases_lt 2147483648 n) [
+    | inl l ↦ inl (ap mark e, n, refl, l)
+    | inr l ↦ inr (λ h. let k = same_number n h.1 h.2 in omega (arith, k, l, h.3))
+  ]
+  | inr other ↦ inr (λ h. other (same_mark b 45 h.0))
 ]
   where
     same_number : (m n : ℕ) → number m ≡ number n → m ≡ n
     same_number m n e = cc
-sign_pair b n false e = inr (λ h. let k : true ≡ false = sym (eq-eqb b 45 (same_mark b 45 h.0)) ∙ e in cc)
-  where
+
     same_mark : (m n : ℕ) → mark m ≡ mark n → m ≡ n
     same_mark m n e = cc
-
-large_pair : (s d : Symbol) → Either (IsLarge s d)
-large_pair (mark b) (number n) = sign_pair b n (b == 45) refl
-large_pair (mark b) (mark c) = inr (λ h. let k : mark c ≡ number h.1 = h.2 in cc)
-large_pair (mark b) (word w) = inr (λ h. let k : word w ≡ number h.1 = h.2 in cc)
-large_pair (word w) d = inr (λ h. let k : word w ≡ mark 45 = h.0 in cc)
-large_pair (number n) d = inr (λ h. let k : number n ≡ mark 45 = h.0 in cc)
+large_pair s d = inr (λ h. let e = h.0 in let f = h.2 in cc)
 
 large_at : (ts : List Lexeme) (i : ℕ) → Either (IsLargeNegative ts i)
 large_at ts zero = inr (λ h. omega (arith, h.after))

@@ -1,6 +1,6 @@
 -- No two rows of the table fit the same tokens, unless one goes on with a comma where the other ends.
-use Rattle.std.proofs.Common.{rules, ◌≡◌, ℕ, Bool, true, false, not, ◌&&◌, ◌||◌, List, [], ◌∷◌, ◌++◌, length, refl}
-use Rattle.std.proofs.Common.{sym, ◌∙◌, ◌⊎◌, inl, inr, eq-eqb, eqb-true, zero, suc, ◌<◌, arith, ap, get_or, subst, append-nil}
+use Rattle.std.proofs.Common.{rules, ◌≡◌, ℕ, Bool, true, false, not, ◌||◌, List, [], ◌∷◌, ◌++◌, length, refl}
+use Rattle.std.proofs.Common.{sym, ◌∙◌, ◌⊎◌, inl, inr, eq-eqb, eqb-true, zero, suc, ap, subst, append-nil}
 use Rattle.std.proofs.Common.{append_assoc}
 use Rattle.std.specs.Prelude.{◌==◌, bytes_eq, Contains}
 use Rattle.std.specs.List.{list_all}
@@ -12,8 +12,7 @@ use Rattle.cbpf_syntax.specs.Fits.{fits, fits_all, fits_front, is_one_of, is_res
 use Rattle.cbpf_syntax.specs.Table.{operand_words, Row, classes, mnemonics, table}
 use Rattle.cbpf_syntax.specs.Lexemes.Symbol.{word, number, mark}
 use Rattle.cbpf_syntax.specs.Classes.Class.{the_word, the_mark, literal, negated, exactly, extension, name}
-use Rattle.std.proofs.lemmas.List.{get_or_default}
-use Rattle.cbpf_syntax.proofs.Elements.{list_all_at}
+use Rattle.cbpf_syntax.proofs.Elements.{list_all_at, all_pairs, same_or_pair}
 use Rattle.cbpf_syntax.proofs.Fronts.{whole_front}
 use Rattle.cbpf_syntax.specs.Items.{Item, Form, Items, BeginsItem, classes_of}
 
@@ -49,18 +48,11 @@ apart [] (d ∷ ds) = is_comma d
 apart (c ∷ cs) [] = is_comma c
 apart (c ∷ cs) (d ∷ ds) = not (overlap c d) || apart cs ds
 
-abbrev pub apart_from_all : List Class → List Row → Bool
-apart_from_all cs rows = list_all (λ (r : Row). apart cs (classes r)) rows
-
-abbrev pub all_apart : List Row → Bool
-all_apart [] = true
-all_apart (r ∷ rs) = apart_from_all (classes r) rs && all_apart rs
-
 pub table_length : length table ≡ 193
 unfolding mnemonics extension_names
 table_length = refl
 
-pub table_apart : all_apart table ≡ true
+table_apart : all_pairs (λ (r s : Row). apart (classes r) (classes s)) table ≡ true
 unfolding mnemonics extension_names
 table_apart = refl
 
@@ -161,27 +153,13 @@ table_reserved : list_all (λ (r : Row). starts_reserved (classes r)) table ≡ 
 unfolding mnemonics extension_names
 table_reserved = refl
 
-apart_at : (rows : List Row) (i j : ℕ) (d : Row) → all_apart rows ≡ true → i < j → j < length rows
-    → apart (classes (get_or rows i d)) (classes (get_or rows j d)) ≡ true
-apart_at (r ∷ rs) zero (suc j) d e l m =
-    list_all_at (λ (s : Row). apart (classes r) (classes s)) rs j d (and_parts _ _ e).0 (omega arith)
-apart_at (r ∷ rs) (suc i) (suc j) d e l m =
-    apart_at rs i j d (and_parts (apart_from_all (classes r) rs) _ e).1 (omega arith) (omega arith)
-apart_at rs i j d e l m = absurd (omega arith)
-
-pub three : (m n : ℕ) → (m < n) ⊎ ((n < m) ⊎ (m ≡ n))
-three m n = grind arith
-
 -- two rows are apart, or the same row
 pub rows_apart : (r s : Row) → Contains table r → Contains table s → (r ≡ s) ⊎ (apart (classes r) (classes s) ≡ true)
-rows_apart r s p q = elim (three p.0 q.0) [
-  | inl l ↦ inr (rw (p.2, get_or_default table q.0 r s q.1, q.2) at (apart_at table p.0 q.0 r table_apart l q.1))
-  | inr h ↦ elim h [
-    | inl l ↦ inr (apart_swap (classes r) (classes s)
-        ∙ rw (q.2, get_or_default table p.0 s r p.1, p.2) at (apart_at table q.0 p.0 s table_apart l p.1))
-    | inr e ↦ inl (sym p.2 ∙ ap (λ k. get_or table k r) e ∙ get_or_default table q.0 r s q.1 ∙ q.2)
-  ]
-]
+rows_apart r s p q =
+    elim (same_or_pair (λ (r s : Row). apart (classes r) (classes s)) table r s table_apart p q) [
+      | inl e ↦ inl e
+      | inr h ↦ inr (elim h [ inl a ↦ a | inr a ↦ apart_swap (classes r) (classes s) ∙ a ])
+    ]
 
 pub row_starts : (r : Row) → Contains table r → starts_reserved (classes r) ≡ true
 row_starts r p = rw p.2 at (list_all_at (λ (s : Row). starts_reserved (classes s)) table p.0 r table_reserved p.1)

@@ -2,9 +2,11 @@
 use Rattle.std.proofs.lemmas.Grind.{common_steps}
 use Rattle.std.proofs.Common.{rules, ◌≡◌, ℕ, ◌<◌, Bool, true, List, [], ◌∷◌, length, map, refl}
 use Rattle.std.proofs.Common.{arith, ◌⊎◌, inl, inr, get_or}
+use Rattle.std.proofs.Common.{zero, suc, ◌&&◌, ap, sym, ◌∙◌}
+use Rattle.std.proofs.lemmas.List.{get_or_default}
 use Rattle.std.specs.Prelude.{Contains, flat_map}
 use Rattle.std.specs.List.{list_all, list_any, common_prefix_len}
-use Rattle.std.proofs.lemmas.Bool.{and_parts, or_left, or_right, or_cases}
+use Rattle.std.proofs.lemmas.Bool.{and_parts, cases_order, or_left, or_right, or_cases}
 use Rattle.std.proofs.lemmas.List.Elements.{Contains-append_left, Contains-append_right, Contains-append_cases}
 
 pub first_element : {X : Type 0} (x : X) (xs : List X) → Contains (x ∷ xs) x
@@ -71,3 +73,25 @@ pub common_mapped : {X Y V W : Type 0} (e : V → W → Bool) (f : X → V) (g :
     → common_prefix_len e (map f xs) (map g ys) ≡ common_prefix_len (λ x y. e (f x) (g y)) xs ys
 common_mapped e f g (x ∷ xs) (y ∷ ys) = rw (common_mapped e f g xs ys) refl
 common_mapped e f g xs ys = refl
+
+-- each two elements pass a test, the earlier one first
+abbrev pub all_pairs : {X : Type 0} → (X → X → Bool) → List X → Bool
+all_pairs p [] = true
+all_pairs p (x ∷ xs) = list_all (p x) xs && all_pairs p xs
+
+pair_at : {X : Type 0} (p : X → X → Bool) (xs : List X) (i j : ℕ) (d : X) → all_pairs p xs ≡ true → i < j
+    → j < length xs → p (get_or xs i d) (get_or xs j d) ≡ true
+pair_at p (x ∷ xs) zero (suc j) d e l m = list_all_at (p x) xs j d (and_parts _ _ e).0 (omega arith)
+pair_at p (x ∷ xs) (suc i) (suc j) d e l m =
+    pair_at p xs i j d (and_parts (list_all (p x) xs) _ e).1 (omega arith) (omega arith)
+pair_at p xs i j d e l m = absurd (omega arith)
+
+pub same_or_pair : {X : Type 0} (p : X → X → Bool) (xs : List X) (x y : X) → all_pairs p xs ≡ true → Contains xs x
+    → Contains xs y → (x ≡ y) ⊎ ((p x y ≡ true) ⊎ (p y x ≡ true))
+same_or_pair p xs x y all a b = elim (cases_order a.0 b.0) [
+  | inl e ↦ inl (sym a.2 ∙ ap (λ k. get_or xs k x) e ∙ get_or_default xs b.0 x y b.1 ∙ b.2)
+  | inr h ↦ inr (elim h [
+    | inl l ↦ inl (rw (a.2, get_or_default xs b.0 x y b.1, b.2) at (pair_at p xs a.0 b.0 x all l b.1))
+    | inr l ↦ inr (rw (b.2, get_or_default xs a.0 y x a.1, a.2) at (pair_at p xs b.0 a.0 y all l a.1))
+  ])
+]

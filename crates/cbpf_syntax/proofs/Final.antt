@@ -2,6 +2,7 @@
 use Rattle.std.proofs.Common.{◌≡◌, ℕ, zero, suc, ◌+◌, ◌<◌, ◌≤◌, Bool, true, false, not, ◌||◌, cond, List, [], ◌∷◌}
 use Rattle.std.proofs.Common.{length, map, take, drop, refl, arith, ap, sym, ◌∙◌, inl, inr, subst, get_or, flat_map}
 use Rattle.std.specs.Prelude.{Contains, bytes_eq}
+use Rattle.std.proofs.lemmas.Bool.{both_ways}
 use Rattle.std.proofs.lemmas.List.{take-append-drop}
 use Rattle.std.proofs.lemmas.List.Elements.{Contains-append_left}
 use Rattle.cbpf_syntax.specs.declared.choice.Match.{Match}
@@ -46,14 +47,10 @@ apart_rest : (a b : Bool) → a ≡ true → (not a || b) ≡ true → b ≡ tru
 apart_rest true b e h = h
 apart_rest false b e h = cc
 
-both_false : {B : Type 0} (t : Bool) → t ≡ true → t ≡ false → B
-both_false true e h = cc
-both_false false e h = cc
-
 most : (cs ds : List Class) (ts : List Lexeme) → apart cs ds ≡ true → common ds ts ≡ length ds
     → is_comma_at ts (length ds) ≡ false → common cs ts ≤ length ds
 most (c ∷ cs) [] (t ∷ ts) a w n =
-    comma_stops (fits c t.symbol) (common cs ts) (λ f. both_false _ (comma_only c t.symbol a f) n)
+    comma_stops (fits c t.symbol) (common cs ts) (λ f. both_ways _ n (comma_only c t.symbol a f))
 most (c ∷ cs) (d ∷ ds) (t ∷ ts) a w n =
     let p = whole_step (fits d t.symbol) (common ds ts) (length ds) w in
     goes_step (fits c t.symbol) (common cs ts) (length ds)

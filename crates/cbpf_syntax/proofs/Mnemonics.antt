@@ -1,26 +1,25 @@
 -- The rows of a mnemonic, and that no two mnemonics have one word.
-use Rattle.std.proofs.Common.{rules, ◌≡◌, ℕ, zero, suc, ◌<◌, ◌≤◌, Bool, true, false, not, cond, map, ◌&&◌, ◌||◌, List}
+use Rattle.std.proofs.Common.{rules, ◌≡◌, ℕ, ◌<◌, ◌≤◌, Bool, true, false, not, cond, map, ◌&&◌, ◌||◌, List}
 use Rattle.std.proofs.Common.{[], ◌∷◌, length, refl, arith, ap, sym, ◌∙◌, inl, inr, get_or, ltb-true, ◌-◌, Option}
+use Rattle.std.proofs.Common.{Some, None, Bor}
+use Rattle.std.specs.Prelude.{IfSome, IfNone}
+use Rattle.cbpf_syntax.specs.declared.table.Mnemonic as declared_mnemonic
+use Rattle.cbpf_syntax.specs.Views.{mnemonic_of}
 use Rattle.std.specs.Prelude.{Contains, nat_lt, nat_le, bytes_eq, MatchOption, slice_index}
 use Rattle.std.proofs.lemmas.Bool.Decides.{nat_tests}
 use Rattle.std.specs.List.{list_all, filter}
-use Rattle.std.proofs.lemmas.List.{get_or_default}
 use Rattle.std.proofs.lemmas.Bool.{and_parts}
 use Rattle.cbpf_syntax.specs.Fits.{is_one_of, mnemonic_words, is_reserved, extension_names}
 use Rattle.cbpf_syntax.specs.Table.{Row, Mnemonic, mnemonics, table, rows_of, entry_rows, operand_words}
 use Rattle.cbpf_syntax.specs.Initials.{begins_with, is_first}
-use Rattle.cbpf_syntax.proofs.Apart.{bytes_eq_self, equal_bytes, three}
-use Rattle.cbpf_syntax.proofs.Elements.{first_element, later_element, which_element, from_map, into_map}
+use Rattle.cbpf_syntax.proofs.Apart.{bytes_eq_self, equal_bytes}
+use Rattle.cbpf_syntax.proofs.Elements.{all_pairs, same_or_pair, first_element, later_element, which_element, from_map, into_map}
 use Rattle.cbpf_syntax.proofs.Elements.{from_flat_map, into_flat_map, any_element, some_element, list_all_at}
 use Rattle.std.specs.Option.{is_some}
 use Rattle.cbpf_code.specs.declared.extension.Ext.{Ext}
 use Rattle.cbpf_code.specs.Extension.{ext_table, ext_name}
 
-abbrev all_differ : List Mnemonic → Bool
-all_differ [] = true
-all_differ (m ∷ ms) = list_all (λ (n : Mnemonic). not (bytes_eq m.word n.word)) ms && all_differ ms
-
-words_differ : all_differ mnemonics ≡ true
+words_differ : all_pairs (λ (m n : Mnemonic). not (bytes_eq m.word n.word)) mnemonics ≡ true
 unfolding mnemonics
 words_differ = refl
 
@@ -32,27 +31,14 @@ words_short : list_all (λ (m : Mnemonic). nat_le (length m.word) 4) mnemonics �
 unfolding mnemonics
 words_short = refl
 
-differ_at : (ms : List Mnemonic) (i j : ℕ) (d : Mnemonic) → all_differ ms ≡ true → i < j → j < length ms
-    → not (bytes_eq (get_or ms i d).word (get_or ms j d).word) ≡ true
-differ_at (r ∷ rs) zero (suc j) d e l m =
-    list_all_at (λ (s : Mnemonic). not (bytes_eq r.word s.word)) rs j d (and_parts _ _ e).0 (omega arith)
-differ_at (r ∷ rs) (suc i) (suc j) d e l m = differ_at rs i j d
-    (and_parts (list_all (λ (n : Mnemonic). not (bytes_eq r.word n.word)) rs) _ e).1 (omega arith) (omega arith)
-differ_at rs i j d e l m = absurd (omega arith)
-
 not_same : {B : Type 0} (v w : List ℕ) → v ≡ w → not (bytes_eq v w) ≡ true → B
 not_same v w h1 h2 = search (rules, bytes_eq_self)
 
 pub same_mnemonic : (m n : Mnemonic) → Contains mnemonics m → Contains mnemonics n → m.word ≡ n.word → m ≡ n
 same_mnemonic m n p q w =
-    elim (three p.0 q.0) [
-      | inl l ↦ not_same m.word n.word w
-          (rw (p.2, get_or_default mnemonics q.0 m n q.1, q.2) at (differ_at mnemonics p.0 q.0 m words_differ l q.1))
-      | inr h ↦ elim h [
-        | inl l ↦ not_same n.word m.word (sym w) (rw (q.2, get_or_default mnemonics p.0 n m p.1, p.2) at
-            (differ_at mnemonics q.0 p.0 n words_differ l p.1))
-        | inr e ↦ sym p.2 ∙ ap (λ k. get_or mnemonics k m) e ∙ get_or_default mnemonics q.0 m n q.1 ∙ q.2
-      ]
+    elim (same_or_pair (λ (m n : Mnemonic). not (bytes_eq m.word n.word)) mnemonics m n words_differ p q) [
+      | inl e ↦ e
+      | inr h ↦ elim h [ inl d ↦ not_same m.word n.word w d | inr d ↦ not_same n.word m.word (sym w) d ]
     ]
 
 pub has_modes : (m : Mnemonic) → Contains mnemonics m → 0 < length m.entries
@@ -83,6 +69,12 @@ word_reserved w m p e = rw (equal_bytes w m.word e, word_known m p) refl
 pub word_listed : (w : List ℕ) (m : Mnemonic) → Contains mnemonics m → bytes_eq w m.word ≡ true
     → is_one_of mnemonic_words w ≡ true
 word_listed w m p e = rw (equal_bytes w m.word e) (word_known m p)
+
+pub mnemonic_test : (w : List ℕ) (o : Option (Bor declared_mnemonic.Mnemonic))
+    → IfSome o (λ m. Contains mnemonics (mnemonic_of m.now)) → IfSome o (λ m. bytes_eq w m.now.word.now ≡ true)
+    → IfNone o (is_one_of mnemonic_words w ≡ false) → is_some o ≡ is_one_of mnemonic_words w
+mnemonic_test w None f g h = sym h
+mnemonic_test w (Some m) f g h = sym (word_listed w (mnemonic_of m.now) f g)
 
 -- no mnemonic is longer than 4 bytes
 pub long_word : (w : List ℕ) → 4 < length w → is_one_of mnemonic_words w ≡ false

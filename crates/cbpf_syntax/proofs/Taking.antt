@@ -113,8 +113,8 @@ pub symbol_ahead : (ts ws rest : List Lexeme) (m k : ℕ) → drop m ts ≡ ws +
 symbol_ahead ts ws rest m k e l = ap (option_map (λ (t : Lexeme). t.symbol)) (get_ahead ts ws rest m k e l)
 
 -- a literal that is too large, of the tokens ahead and of all
-large_as : (ts us : List Lexeme) (i j : ℕ) → symbol_at ts i ≡ symbol_at us j → symbol_at ts (i + 1) ≡ symbol_at us (j + 1)
-    → IsLargeNegative ts (i + 1) → IsLargeNegative us (j + 1)
+large_as : (ts us : List Lexeme) (i j : ℕ) → symbol_at ts i ≡ symbol_at us j
+    → symbol_at ts (i + 1) ≡ symbol_at us (j + 1) → IsLargeNegative ts (i + 1) → IsLargeNegative us (j + 1)
 large_as ts us i j e f h =
     let b : i ≡ h.before = omega (arith, h.after) in
     record {

@@ -37,6 +37,7 @@ pub(crate) fn mnemonic_named(word: &[u8]) -> Option<&'static Mnemonic>
     None
 }
 
+#[tactic(auto, using(crate::proofs::Mnemonics::mnemonic_test))]
 fn is_mnemonic(word: &[u8]) -> bool
     ensures { result ≡ is_one_of mnemonic_words word.now }
 {
