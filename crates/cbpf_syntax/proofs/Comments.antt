@@ -1,9 +1,8 @@
 -- The scan for the first `*/`, and texts that are cut after it.
 use Rattle.std.proofs.Common.{rules}
-use Rattle.std.proofs.Common.{◌≡◌, ℕ, zero, suc, ◌+◌, ◌<◌, ◌≤◌, Bool, true, false, ◌&&◌, cond, List, [], ◌∷◌, length}
-use Rattle.std.proofs.Common.{take, drop, refl, ap, sym, subst, ◌∙◌, arith, Option, Some, None, get_or, drop-cons}
+use Rattle.std.proofs.Common.{◌≡◌, ℕ, zero, suc, ◌+◌, ◌≤◌, Bool, true, false, ◌&&◌, cond, List, [], ◌∷◌, length}
+use Rattle.std.proofs.Common.{take, drop, refl, ap, sym, ◌∙◌, arith, Option, Some, None}
 use Rattle.std.specs.Prelude.{◌==◌, option_map}
-use Rattle.std.proofs.lemmas.List.{drop_all}
 use Rattle.cbpf_syntax.specs.Pieces.{begins_with_close, first_close}
 use Rattle.cbpf_syntax.proofs.Cuts.{some-same}
 
@@ -33,25 +32,6 @@ IsOpenTo body i star = first_close body ≡ option_map (λ n. i + n) (close_afte
 
 pub open_start : (body : List ℕ) → IsOpenTo body 0 false
 open_start body = search (rules, close_first)
-
-shift : (i : ℕ) (o : Option ℕ) → option_map (λ n. i + n) (option_map suc o) ≡ option_map (λ n. suc i + n) o
-shift i None = refl
-shift i (Some n) = let e : i + suc n ≡ suc i + n = omega arith in ap (λ k. Some k) e
-
-pub open_more : (body : List ℕ) (i : ℕ) (star : Bool) → i < length body → (star && get_or body i 0 == 47) ≡ false
-    → IsOpenTo body i star → IsOpenTo body (i + 1) (get_or body i 0 == 42)
-open_more body i star l kept inv =
-    let e : suc i ≡ i + 1 = omega arith in
-    subst (λ j. IsOpenTo body j (get_or body i 0 == 42)) e
-    (inv ∙ rw (drop-cons body i 0, kept) (shift i (close_after (get_or body i 0 == 42) (drop (suc i) body))))
-
-pub close_here : (body : List ℕ) (i : ℕ) (star : Bool) → i < length body → (star && get_or body i 0 == 47) ≡ true
-    → IsOpenTo body i star → first_close body ≡ Some (i + 1)
-close_here body i star l shut inv = inv ∙ rw (drop-cons body i 0, shut) refl
-
-pub never_closed : (body : List ℕ) (i : ℕ) (star : Bool) → length body ≤ i → IsOpenTo body i star
-    → first_close body ≡ None
-never_closed body i star l inv = inv ∙ rw (drop_all i body l) refl
 
 mapped_some : (o : Option ℕ) (n : ℕ) → option_map suc o ≡ Some n → (k : ℕ) × (o ≡ Some k) × (n ≡ suc k)
 mapped_some None n e = cc

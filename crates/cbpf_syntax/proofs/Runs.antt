@@ -166,10 +166,6 @@ pub run_of_none : (text : List ℕ) (at : ℕ) → at < length text → is_blank
     → run_end text at ≡ at
 run_of_none text at l e = rw (drop_more text at 0 l, e) (omega arith)
 
-pub run_on : (text : List ℕ) (at : ℕ) → at < length text → is_blank (get_or text at 0) ≡ true
-    → run_end text at ≡ run_end text (at + 1)
-run_on text at l e = rw (drop_more text at 0 l, e) (omega arith)
-
 -- the tokens up to a place are those up to the end of the blanks there
 pub over_blanks : (text : List ℕ) (from at : ℕ) → at < length text
     → ((ts : List Token) → LexesTo text from ts → LexesTo text at ts) → (ts : List Token) → LexesTo text from ts
@@ -197,8 +193,3 @@ pub to_here : (text : List ℕ) (from at : ℕ) → at < length text → is_blan
     → ((ts : List Token) → LexesTo text from ts → LexesTo text (run_end text at) ts) → (ts : List Token)
     → LexesTo text from ts → LexesTo text at ts
 to_here text from at l e more ts lexed = rw (run_of_none text at l e) at (more ts lexed)
-
-pub to_next : (text : List ℕ) (from at : ℕ) → at < length text → is_blank (get_or text at 0) ≡ true
-    → ((ts : List Token) → LexesTo text from ts → LexesTo text (run_end text at) ts) → (ts : List Token)
-    → LexesTo text from ts → LexesTo text (run_end text (at + 1)) ts
-to_next text from at l e more ts lexed = rw (← run_on text at l e) (more ts lexed)

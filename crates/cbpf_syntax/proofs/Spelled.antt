@@ -89,19 +89,19 @@ implied true c e h = e
 implied false c e h = cc
 
 -- what the first byte of a piece says, where each byte that passes the test says the same
+abbrev says : Bool → (ℕ → Bool) → Lead → ℕ → Bool
+says fresh p lead c = not (p c) || number_of (lead_of fresh c) == number_of lead
+
 lead_by : (fresh : Bool) (p : ℕ → Bool) (lead : Lead) (b : ℕ)
-    → agree_below (λ c. not (p c) || number_of (lead_of fresh c) == number_of lead) (λ k. true) 256 ≡ true → b < 256
-    → p b ≡ true → lead_of fresh b ≡ lead
+    → agree_below (says fresh p lead) (λ k. true) 256 ≡ true → b < 256 → p b ≡ true → lead_of fresh b ≡ lead
 lead_by fresh p lead b e l h = same_lead (lead_of fresh b) lead
-    (implied (p b) _ (holds_below 256 (λ c. not (p c) || number_of (lead_of fresh c) == number_of lead) b e l) h)
+    (implied (p b) _ (holds_below 256 (says fresh p lead) b e l) h)
 
-lead_letter : (fresh : Bool) (b : ℕ) → b < 256 → is_letter b ≡ true → lead_of fresh b ≡ Letter
-lead_letter true b l h = lead_by true is_letter Letter b refl l h
-lead_letter false b l h = lead_by false is_letter Letter b refl l h
-
-lead_digit : (fresh : Bool) (b : ℕ) → b < 256 → is_digit b ≡ true → lead_of fresh b ≡ Digit
-lead_digit true b l h = lead_by true is_digit Digit b refl l h
-lead_digit false b l h = lead_by false is_digit Digit b refl l h
+-- where that holds on any line
+lead_any : (fresh : Bool) (p : ℕ → Bool) (lead : Lead) (b : ℕ) → agree_below (says true p lead) (λ k. true) 256 ≡ true
+    → agree_below (says false p lead) (λ k. true) 256 ≡ true → b < 256 → p b ≡ true → lead_of fresh b ≡ lead
+lead_any true p lead b e f l h = lead_by true p lead b e l h
+lead_any false p lead b e f l h = lead_by false p lead b f l h
 
 lead_mark : (fresh : Bool) (b : ℕ) → b < 256 → is_mark b ≡ true → (fresh && b == 35) ≡ false
     → lead_of fresh b ≡ Single
@@ -135,14 +135,14 @@ segment_next fresh (blank b) ss a ok k =
     rw e at (led_next fresh b (text_of ss) Blank (blank_lead fresh b a.1))
 segment_next fresh (word b bs) ss a ok k =
     let e = run_before is_name_byte bs (text_of ss) a.2 (name_ends ss ok (and_parts (ends_name ss) _ k).0) in
-    rw e at (led_next fresh b (bs ++ text_of ss) Letter (lead_letter fresh b a.0 a.1))
+    rw e at (led_next fresh b (bs ++ text_of ss) Letter (lead_any fresh is_letter Letter b refl refl a.0 a.1))
 segment_next fresh (number b bs n) ss a ok k =
     let e = run_before is_name_byte bs (text_of ss) a.2 (name_ends ss ok (and_parts (ends_name ss) _ k).0) in
     let t : take (length bs) (bs ++ text_of ss) ≡ bs = take_at bs (text_of ss) (length bs) refl in
     let f : nat_lt n (2 ^ 32) ≡ true = lt-ltb n (2 ^ 32) a.4 in
     let next :
     IsNext fresh (b ∷ (bs ++ text_of ss)) (record { kind = run_kind (number_value (b ∷ bs)); size = 1 + length bs }) =
-    rw (e, t) at (led_next fresh b (bs ++ text_of ss) Digit (lead_digit fresh b a.0 a.1)) in
+    rw (e, t) at (led_next fresh b (bs ++ text_of ss) Digit (lead_any fresh is_digit Digit b refl refl a.0 a.1)) in
     let v : run_kind (number_value (b ∷ bs)) ≡ Lexeme (Number n) = ap run_kind a.3 ∙ rw f refl in
     subst (λ q. IsNext fresh (b ∷ (bs ++ text_of ss)) (record { kind = q; size = 1 + length bs })) v next
 segment_next fresh (mark b) ss a ok k = led_next fresh b (text_of ss) Single

@@ -3,6 +3,7 @@
 ghost use Rattle.cbpf_syntax.specs.CutLaws.{OneCut, OneList, OneFault, NeverBoth, EachLexed};
 
 /// A text is cut into pieces in one way.
+#[tactic(auto, using(crate::proofs::Outcomes::one_cut))]
 pub fn one_cut()
     ensures { OneCut }
 {}

@@ -3,6 +3,7 @@
 ghost use Rattle.cbpf_syntax.specs.Laws.{OneReading, OneRefusal, EachParsed};
 
 /// A token list is at most one list of items.
+#[tactic(auto, using(crate::proofs::Apart::one_reading))]
 pub fn one_reading()
     ensures { OneReading }
 {}
