@@ -10,7 +10,7 @@ use Rattle.cbpf_syntax.specs.Table.{classes, table}
 use Rattle.cbpf_syntax.specs.Fits.{fits, fits_all, fits_front}
 use Rattle.cbpf_syntax.specs.Items.{Item, Items, Form}
 use Rattle.cbpf_syntax.specs.Steps.{Goes, Stuck, IsNextItem, starts_with_colon}
-use Rattle.cbpf_syntax.specs.Refusals.{symbol_at, IsLarge, IsLargeNegative, IsStuckAt}
+use Rattle.cbpf_syntax.specs.Refusals.{symbol_at, most_negative, IsLarge, IsLargeNegative, IsStuckAt}
 use Rattle.cbpf_syntax.specs.Refusals.ParseFault.{Misplaced, LargeNegative, Unfinished}
 use Rattle.cbpf_syntax.specs.Laws.{EachParsed}
 use Rattle.cbpf_syntax.proofs.Elements.{any_element, some_element}
@@ -22,8 +22,8 @@ use Rattle.cbpf_syntax.proofs.Refused.{misplaced_first, unfinished_first, items_
 use Rattle.cbpf_syntax.proofs.Cuts.{some-same}
 
 -- what stands at the front of tokens
-abbrev Step : List Lexeme → Type 0
-Step ts = ((n : ℕ) × (i : Item) × IsNextItem ts n i) ⊎ ((n : ℕ) × Stuck n ts)
+abbrev Front : List Lexeme → Type 0
+Front ts = ((n : ℕ) × (i : Item) × IsNextItem ts n i) ⊎ ((n : ℕ) × Stuck n ts)
 
 abbrev some_front : List Lexeme → Bool
 some_front ts = list_any (λ r. fits_front (classes r) ts) table
@@ -44,7 +44,7 @@ longest ts (suc left) n l w h = elim (cases_lt n (length ts)) [
   ]
 ]
 
-base_step : (t : Lexeme) (ts : List Lexeme) → fits name t.symbol ≡ false → Step (t ∷ ts)
+base_step : (t : Lexeme) (ts : List Lexeme) → fits name t.symbol ≡ false → Front (t ∷ ts)
 base_step t ts s = by_whole (cases_Bool (some_whole (take front.0 (t ∷ ts))))
   where
     front : (m : ℕ) × (m ≤ length (t ∷ ts)) × (some_front (take m (t ∷ ts)) ≡ true)
@@ -63,7 +63,7 @@ base_step t ts s = by_whole (cases_Bool (some_whole (take front.0 (t ∷ ts))))
         }
 
     by_whole : (some_whole (take front.0 (t ∷ ts)) ≡ true) ⊎ (some_whole (take front.0 (t ∷ ts)) ≡ false)
-        → Step (t ∷ ts)
+        → Front (t ∷ ts)
     by_whole (inl found) =
         let r = some_element (λ r. fits_all (classes r) (take front.0 (t ∷ ts))) table found in
         inl (front.0, _, record { goes = goes; form = form_of 0 r.0 (take front.0 (t ∷ ts)) r.1 r.2 })
@@ -74,31 +74,31 @@ base_step t ts s = by_whole (cases_Bool (some_whole (take front.0 (t ∷ ts))))
         none (suc n) i form other = let fit = bare_whole form.count i.row t (take n ts) s form.fits in
             both_ways _ other (any_element (λ r. fits_all (classes r) (t ∷ take n ts)) table i.row form.row fit)
 
-bare_step : (t : Lexeme) (ts : List Lexeme) → starts_with_colon ts ≡ false → Step (t ∷ ts)
+bare_step : (t : Lexeme) (ts : List Lexeme) → starts_with_colon ts ≡ false → Front (t ∷ ts)
 bare_step t ts c = by_name (fits name t.symbol) refl
   where
-    by_name : (b : Bool) → fits name t.symbol ≡ b → Step (t ∷ ts)
+    by_name : (b : Bool) → fits name t.symbol ≡ b → Front (t ∷ ts)
     by_name true e = inr (1, name_stuck t ts e c)
     by_name false e = base_step t ts e
 
 -- a label and its colon before a step
 label_step : (t u : Lexeme) (ts : List Lexeme) → fits name t.symbol ≡ true → fits (the_mark 58) u.symbol ≡ true
-    → Step ts → Step (t ∷ u ∷ ts)
+    → Front ts → Front (t ∷ u ∷ ts)
 label_step t u ts a b (inl p) = inl (suc (suc p.0), _, label_item t u ts p.0 p.1 a b p.2)
 label_step t u ts a b (inr p) = inr (suc (suc p.0), label_stuck t u ts p.0 a b p.1)
 
-two_step : (t u : Lexeme) (ts : List Lexeme) → Step ts → Step (t ∷ u ∷ ts)
+two_step : (t u : Lexeme) (ts : List Lexeme) → Front ts → Front (t ∷ u ∷ ts)
 two_step t u ts rest = by_colon (fits (the_mark 58) u.symbol) refl
   where
-    by_name : (b : Bool) → fits name t.symbol ≡ b → fits (the_mark 58) u.symbol ≡ true → Step (t ∷ u ∷ ts)
+    by_name : (b : Bool) → fits name t.symbol ≡ b → fits (the_mark 58) u.symbol ≡ true → Front (t ∷ u ∷ ts)
     by_name true e c = label_step t u ts e c rest
     by_name false e c = base_step t (u ∷ ts) e
 
-    by_colon : (b : Bool) → fits (the_mark 58) u.symbol ≡ b → Step (t ∷ u ∷ ts)
+    by_colon : (b : Bool) → fits (the_mark 58) u.symbol ≡ b → Front (t ∷ u ∷ ts)
     by_colon true c = by_name (fits name t.symbol) refl c
     by_colon false c = bare_step t (u ∷ ts) c
 
-step : (ts : List Lexeme) → Step ts
+step : (ts : List Lexeme) → Front ts
 step [] = inr (0, end_stuck)
 step (t ∷ []) = bare_step t [] refl
 step (t ∷ u ∷ ts) = two_step t u ts (step ts)
@@ -122,7 +122,7 @@ Either P = P ⊎ (P → ⊥)
 
 large_pair : (s d : Symbol) → Either (IsLarge s d)
 large_pair (mark b) (number n) = elim (cases_eq b 45) [
-  | inl e ↦ elim (cases_lt 2147483648 n) [
+  | inl e ↦ elim (cases_lt most_negative n) [
     | inl l ↦ inl (ap mark e, n, refl, l)
     | inr l ↦ inr (λ h. let k = same_number n h.1 h.2 in omega (arith, k, l, h.3))
   ]

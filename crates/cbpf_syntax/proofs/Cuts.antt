@@ -15,7 +15,7 @@ use Rattle.cbpf_syntax.specs.declared.token.LexFault.{LexFault}
 use Rattle.cbpf_syntax.specs.declared.token.LexFault.TheVariants.{Memory, At}
 use Rattle.cbpf_syntax.specs.Tokens.{LexesTo, IsLexFault, tokens_of, token_of, is_good}
 use Rattle.cbpf_syntax.specs.TokenReading.{IsNextFault}
-use Rattle.cbpf_syntax.specs.declared.piece.PieceKind.TheVariants.{Blanks, Comment, Lexeme, Bad}
+use Rattle.cbpf_syntax.specs.declared.piece.PieceKind.TheVariants.{Blanks, Comment, TokenOf, Bad}
 
 IsCut-snoc : (text : List ℕ) (at : ℕ) (ps : List Piece) (to : ℕ) (p : Piece) → IsCut text at ps to
     → IsPieceAt text to p → IsCut text at (ps ++ p ∷ []) (to + p.size)
@@ -99,7 +99,7 @@ piece_some text at p next = elim (zero_or p.size) [ inl e ↦ some-none _ _ (rw 
 
 -- the tokens after one more piece that is a token, or none
 pub token_more : (text : List ℕ) (from at : ℕ) (p : Piece) (kind : Kind)
-    → ((ts : List Token) → LexesTo text from ts → LexesTo text at ts) → IsPieceAt text at p → p.kind ≡ Lexeme kind
+    → ((ts : List Token) → LexesTo text from ts → LexesTo text at ts) → IsPieceAt text at p → p.kind ≡ TokenOf kind
     → (ts : List Token) → LexesTo text from ts
     → LexesTo text (at + p.size) (ts ++ record { kind = kind; start = at; end = at + p.size } ∷ [])
 token_more text from at p kind more next e ts lexed =
@@ -107,15 +107,15 @@ token_more text from at p kind more next e ts lexed =
 
 pub piece_more : (text : List ℕ) (from at : ℕ) (p : Piece) → ((ts : List Token) → LexesTo text from ts
     → LexesTo text at ts) → IsPieceAt text at p → is_good p.kind ≡ true → ((kind : Kind)
-    → p.kind ≢ Lexeme kind) → (ts : List Token) → LexesTo text from ts → LexesTo text (at + p.size) ts
+    → p.kind ≢ TokenOf kind) → (ts : List Token) → LexesTo text from ts → LexesTo text (at + p.size) ts
 piece_more text from at p more next good other ts lexed =
     let none : token_of p.kind at (at + p.size) ≡ [] = no_token p.kind at (at + p.size) other in
     rw (none, append-nil) at (LexesTo-more text at ts p (more ts lexed) next good)
   where
-    no_token : (kind : PieceKind) (at to : ℕ) → ((k : Kind) → kind ≢ Lexeme k) → token_of kind at to ≡ []
+    no_token : (kind : PieceKind) (at to : ℕ) → ((k : Kind) → kind ≢ TokenOf k) → token_of kind at to ≡ []
     no_token Blanks at to other = refl
     no_token Comment at to other = refl
-    no_token (Lexeme k) at to other = absurd (other k refl)
+    no_token (TokenOf k) at to other = absurd (other k refl)
     no_token (Bad f) at to other = refl
 
 -- the fault after the tokens that were taken is the text's

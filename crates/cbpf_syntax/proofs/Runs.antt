@@ -6,7 +6,7 @@ use Rattle.std.proofs.Math.Numerals.{one-add}
 use Rattle.std.specs.Prelude.{◌==◌, ◌≢◌}
 use Rattle.std.specs.List.{list_all, prefix_len}
 use Rattle.cbpf_syntax.specs.declared.piece.PieceKind.{PieceKind}
-use Rattle.cbpf_syntax.specs.declared.piece.PieceKind.TheVariants.{Blanks, Comment, Lexeme, Bad}
+use Rattle.cbpf_syntax.specs.declared.piece.PieceKind.TheVariants.{Blanks, Comment, TokenOf, Bad}
 use Rattle.cbpf_syntax.specs.declared.token.Kind.TheVariants.{Word, Mark}
 use Rattle.cbpf_syntax.specs.Bytes.{is_blank, is_name_byte}
 use Rattle.cbpf_syntax.specs.Numbers.{number_value}
@@ -146,11 +146,11 @@ led_next fresh b bs Blank e = run_next fresh is_blank (λ _. Blanks) b bs (λ cs
 led_next fresh b bs LineComment e =
     run_next fresh (λ c. not (c == 10)) (λ _. Comment) b bs (λ cs. ap (λ l. led_kind l b cs) e)
 led_next fresh b bs Letter e =
-    run_next fresh is_name_byte (λ _. Lexeme Word) b bs (λ cs. ap (λ l. led_kind l b cs) e)
+    run_next fresh is_name_byte (λ _. TokenOf Word) b bs (λ cs. ap (λ l. led_kind l b cs) e)
 led_next fresh b bs Digit e = run_next fresh is_name_byte (λ cs. run_kind (number_value (b ∷ cs))) b bs
     (λ cs. ap (λ l. led_kind l b cs) e)
 led_next fresh b bs Slash e = slash_next fresh b e bs
-led_next fresh b bs Single e = alone_next fresh (Lexeme (Mark b)) b bs (λ cs. ap (λ l. led_kind l b cs) e)
+led_next fresh b bs Single e = alone_next fresh (TokenOf (Mark b)) b bs (λ cs. ap (λ l. led_kind l b cs) e)
 led_next fresh b bs Other e = alone_next fresh (Bad NoToken) b bs (λ cs. ap (λ l. led_kind l b cs) e)
 
 -- Blanks are passed over one by one. What is kept of the text is where their run ends.

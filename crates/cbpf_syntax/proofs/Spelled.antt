@@ -12,7 +12,7 @@ use Rattle.std.proofs.lemmas.List.{take_at, drop_at}
 use Rattle.std.proofs.lemmas.List.Sums.{fold-append}
 use Rattle.std.proofs.Math.Numerals.{one-add}
 use Rattle.cbpf_syntax.specs.declared.token.Kind.TheVariants.{Word, Number, Mark}
-use Rattle.cbpf_syntax.specs.declared.piece.PieceKind.TheVariants.{Blanks, Lexeme}
+use Rattle.cbpf_syntax.specs.declared.piece.PieceKind.TheVariants.{Blanks, TokenOf}
 use Rattle.cbpf_syntax.specs.declared.piece.Lead.{Lead}
 use Rattle.cbpf_syntax.specs.declared.piece.Lead.TheVariants.{Blank, Letter, Digit, Single}
 use Rattle.cbpf_syntax.specs.declared.piece.Piece.{Piece}
@@ -42,9 +42,9 @@ text_of segments = flat_map bytes_of segments
 
 abbrev pub piece_of : Segment → Piece
 piece_of (blank b) = record { kind = Blanks; size = 1 }
-piece_of (word b bs) = record { kind = Lexeme Word; size = 1 + length bs }
-piece_of (number b bs n) = record { kind = Lexeme (Number n); size = 1 + length bs }
-piece_of (mark b) = record { kind = Lexeme (Mark b); size = 1 }
+piece_of (word b bs) = record { kind = TokenOf Word; size = 1 + length bs }
+piece_of (number b bs n) = record { kind = TokenOf (Number n); size = 1 + length bs }
+piece_of (mark b) = record { kind = TokenOf (Mark b); size = 1 }
 
 abbrev pub pieces_of : List Segment → List Piece
 pieces_of [] = []
@@ -143,7 +143,7 @@ segment_next fresh (number b bs n) ss a ok k =
     let next :
     IsNext fresh (b ∷ (bs ++ text_of ss)) (record { kind = run_kind (number_value (b ∷ bs)); size = 1 + length bs }) =
     rw (e, t) at (led_next fresh b (bs ++ text_of ss) Digit (lead_any fresh is_digit Digit b refl refl a.0 a.1)) in
-    let v : run_kind (number_value (b ∷ bs)) ≡ Lexeme (Number n) = ap run_kind a.3 ∙ rw f refl in
+    let v : run_kind (number_value (b ∷ bs)) ≡ TokenOf (Number n) = ap run_kind a.3 ∙ rw f refl in
     subst (λ q. IsNext fresh (b ∷ (bs ++ text_of ss)) (record { kind = q; size = 1 + length bs })) v next
 segment_next fresh (mark b) ss a ok k = led_next fresh b (text_of ss) Single
     (lead_mark fresh b a.0 a.1 (not-true (fresh && b == 35) (and_parts (not (fresh && b == 35)) _ k).0))

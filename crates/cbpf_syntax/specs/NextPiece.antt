@@ -4,7 +4,7 @@ use Rattle.std.specs.Prelude.{ℕ, ◌+◌, not, List, [], ◌∷◌, length, ta
 use Rattle.std.specs.List.{prefix_len}
 use Rattle.cbpf_syntax.specs.declared.token.Kind.TheVariants.{Word, Mark}
 use Rattle.cbpf_syntax.specs.declared.token.BadPiece.TheVariants.{NoToken, OpenComment}
-use Rattle.cbpf_syntax.specs.declared.piece.PieceKind.TheVariants.{Blanks, Comment, Lexeme, Bad}
+use Rattle.cbpf_syntax.specs.declared.piece.PieceKind.TheVariants.{Blanks, Comment, TokenOf, Bad}
 use Rattle.cbpf_syntax.specs.declared.piece.Piece.{Piece}
 use Rattle.cbpf_syntax.specs.declared.piece.Lead.{Lead}
 use Rattle.cbpf_syntax.specs.declared.piece.Lead.TheVariants.{Blank, LineComment, Letter, Digit, Slash, Single, Other}
@@ -26,11 +26,11 @@ slash_piece (b ∷ bs) =
 abbrev pub led_piece : Lead → ℕ → List ℕ → Piece
 led_piece Blank b bs = record { kind = Blanks; size = 1 + prefix_len is_blank bs }
 led_piece LineComment b bs = record { kind = Comment; size = 1 + prefix_len (λ c. not (c == 10)) bs }
-led_piece Letter b bs = record { kind = Lexeme Word; size = 1 + prefix_len is_name_byte bs }
+led_piece Letter b bs = record { kind = TokenOf Word; size = 1 + prefix_len is_name_byte bs }
 led_piece Digit b bs = record {
   kind = run_kind (number_value (b ∷ take (prefix_len is_name_byte bs) bs));
   size = 1 + prefix_len is_name_byte bs;
 }
 led_piece Slash b bs = slash_piece bs
-led_piece Single b bs = record { kind = Lexeme (Mark b); size = 1 }
+led_piece Single b bs = record { kind = TokenOf (Mark b); size = 1 }
 led_piece Other b bs = record { kind = Bad NoToken; size = 1 }

@@ -36,7 +36,11 @@ abbrev pub number_value : List ℕ → Option ℕ
 number_value [] = None
 number_value (b ∷ bs) = if b == 48 then zero_led_value bs else digits_value 10 0 (b ∷ bs)
 
--- the number, or 2 ^ 32 where it is greater
+-- the least number that no literal has
+abbrev pub number_limit : ℕ
+number_limit = 2 ^ 32
+
+-- the number, or the limit where it is greater
 abbrev pub IsCapped : Option ℕ → Option ℕ → Type 0
 IsCapped None value = value ≡ None
-IsCapped (Some n) value = (m : ℕ) × (value ≡ Some m) × (n ≡ min m (2 ^ 32))
+IsCapped (Some n) value = (m : ℕ) × (value ≡ Some m) × (n ≡ min m number_limit)

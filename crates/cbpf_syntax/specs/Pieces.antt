@@ -1,19 +1,19 @@
 -- How a source text is cut into pieces: blanks, comments, tokens and bad pieces, each the longest at its place. The
 -- kernel's Documentation/networking/filter shows words, numbers, marks and comments by example; these rules are this
 -- project's own.
-use Rattle.std.specs.Prelude.{◌≡◌, ℕ, suc, ◌+◌, ◌^◌, ◌<◌, ◌≤◌, Bool, true, false, not, ◌&&◌, ◌||◌, List, [], ◌∷◌}
+use Rattle.std.specs.Prelude.{◌≡◌, ℕ, suc, ◌+◌, ◌<◌, ◌≤◌, Bool, true, false, not, ◌&&◌, ◌||◌, List, [], ◌∷◌}
 use Rattle.std.specs.Prelude.{length, take, drop, nat_lt, ◌==◌, if◌then◌else◌, fold, Option, Some, None, option_map}
 use Rattle.std.specs.List.{list_all}
 use Rattle.cbpf_syntax.specs.declared.token.Kind.TheVariants.{Word, Number, Mark}
 use Rattle.cbpf_syntax.specs.declared.token.BadPiece.TheVariants.{NoToken, OpenComment, LargeNumber}
 use Rattle.cbpf_syntax.specs.declared.piece.PieceKind.{PieceKind}
-use Rattle.cbpf_syntax.specs.declared.piece.PieceKind.TheVariants.{Blanks, Comment, Lexeme, Bad}
+use Rattle.cbpf_syntax.specs.declared.piece.PieceKind.TheVariants.{Blanks, Comment, TokenOf, Bad}
 use Rattle.cbpf_syntax.specs.declared.piece.Piece.{Piece}
 use Rattle.cbpf_syntax.specs.declared.piece.Lead.{Lead}
 use Rattle.cbpf_syntax.specs.declared.piece.Lead.TheVariants.{Blank, LineComment, Letter, Digit, Slash, Single, Other}
 use Rattle.cbpf_syntax.specs.Bytes.{is_blank, is_name_byte}
 use Rattle.cbpf_syntax.specs.Leads.{lead_of}
-use Rattle.cbpf_syntax.specs.Numbers.{number_value}
+use Rattle.cbpf_syntax.specs.Numbers.{number_value, number_limit}
 
 -- whether the last line of a text, which may not be whole, has only blanks
 abbrev pub is_line_blank : List ℕ → Bool
@@ -27,10 +27,10 @@ abbrev pub only_if : Bool → PieceKind → Option PieceKind
 only_if true kind = Some kind
 only_if false kind = None
 
--- a run that begins with a digit: a number, where it spells one that fits 32 bits
+-- a run that begins with a digit: a number, where it spells one below the limit
 abbrev pub run_kind : Option ℕ → PieceKind
 run_kind None = Bad NoToken
-run_kind (Some n) = if nat_lt n (2 ^ 32) then Lexeme (Number n) else Bad LargeNumber
+run_kind (Some n) = if nat_lt n number_limit then TokenOf (Number n) else Bad LargeNumber
 
 -- the bytes begin with `*/`
 abbrev pub begins_with_close : List ℕ → Bool
@@ -58,10 +58,10 @@ slash_kind (b ∷ bs) = if b == 42 then comment_kind (first_close bs) (length bs
 abbrev pub led_kind : Lead → ℕ → List ℕ → Option PieceKind
 led_kind Blank b bs = only_if (list_all is_blank bs) Blanks
 led_kind LineComment b bs = only_if (list_all (λ c. not (c == 10)) bs) Comment
-led_kind Letter b bs = only_if (list_all is_name_byte bs) (Lexeme Word)
+led_kind Letter b bs = only_if (list_all is_name_byte bs) (TokenOf Word)
 led_kind Digit b bs = only_if (list_all is_name_byte bs) (run_kind (number_value (b ∷ bs)))
 led_kind Slash b bs = slash_kind bs
-led_kind Single b bs = alone bs (Lexeme (Mark b))
+led_kind Single b bs = alone bs (TokenOf (Mark b))
 led_kind Other b bs = alone bs (Bad NoToken)
 
 -- Which kind of piece the bytes are, if they are one. `fresh` says that the line before them has only blanks.

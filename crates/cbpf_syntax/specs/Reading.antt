@@ -63,7 +63,7 @@ step_len (Some (stuck_step n)) = n
 abbrev pub IsPlaceOf : List Lexeme → ℕ → ℕ → Type 0
 IsPlaceOf ts i at = (t : Lexeme) × (slice_get ts i ≡ Some t) × (at ≡ t.at)
 
--- the place of the first of so many tokens that is a number above 2147483648 after a `-`
+-- the place of the first of so many tokens that is a number too large after a `-`
 abbrev pub IsFirstLarge : List Lexeme → ℕ → Option ℕ → Type 0
 IsFirstLarge ts n None = (k : ℕ) → k < n → IsLargeNegative ts k → ⊥
 IsFirstLarge ts n (Some at) = (i : ℕ) × (i < n) × IsLargeNegative ts i × ((k : ℕ) → k < i → IsLargeNegative ts k → ⊥)

@@ -20,11 +20,15 @@ pub record IsMisplaced (ts : List Lexeme) (i : ℕ) : Type 0 where
   pub before : BeginsItems (take i ts)
   pub with_it : BeginsItems (take (i + 1) ts) → ⊥
 
--- a `-` and a number above 2147483648
-abbrev pub IsLarge : Symbol → Symbol → Type 0
-IsLarge sign digits = (sign ≡ mark 45) × (value : ℕ) × (digits ≡ number value) × (2147483648 < value)
+-- the greatest number after a `-`
+abbrev pub most_negative : ℕ
+most_negative = 2147483648
 
--- A3: a number above 2147483648 after a `-`
+-- a `-` and a number above that
+abbrev pub IsLarge : Symbol → Symbol → Type 0
+IsLarge sign digits = (sign ≡ mark 45) × (value : ℕ) × (digits ≡ number value) × (most_negative < value)
+
+-- A3: a number too large after a `-`
 pub record IsLargeNegative (ts : List Lexeme) (i : ℕ) : Type 0 where
   pub before : ℕ
   pub after : i ≡ before + 1

@@ -5,7 +5,7 @@ use Rattle.std.specs.List.{list_all}
 use Rattle.cbpf_syntax.specs.declared.token.Token.{Token}
 use Rattle.cbpf_syntax.specs.declared.token.BadPiece.{BadPiece}
 use Rattle.cbpf_syntax.specs.declared.piece.PieceKind.{PieceKind}
-use Rattle.cbpf_syntax.specs.declared.piece.PieceKind.TheVariants.{Blanks, Comment, Lexeme, Bad}
+use Rattle.cbpf_syntax.specs.declared.piece.PieceKind.TheVariants.{Blanks, Comment, TokenOf, Bad}
 use Rattle.cbpf_syntax.specs.declared.piece.Piece.{Piece}
 use Rattle.cbpf_syntax.specs.declared.token.LexFault.{LexFault}
 use Rattle.cbpf_syntax.specs.declared.token.LexFault.TheVariants.{Memory, At}
@@ -14,14 +14,14 @@ use Rattle.cbpf_syntax.specs.Pieces.{IsCut, IsPieceAt}
 abbrev pub is_good : PieceKind → Bool
 is_good Blanks = true
 is_good Comment = true
-is_good (Lexeme kind) = true
+is_good (TokenOf kind) = true
 is_good (Bad fault) = false
 
 -- the token of a piece with its span, if it is one
 abbrev pub token_of : PieceKind → ℕ → ℕ → List Token
 token_of Blanks at to = []
 token_of Comment at to = []
-token_of (Lexeme kind) at to = record { kind = kind; start = at; end = to } ∷ []
+token_of (TokenOf kind) at to = record { kind = kind; start = at; end = to } ∷ []
 token_of (Bad fault) at to = []
 
 -- the tokens of pieces that begin at a place

@@ -83,7 +83,7 @@ impl<'a> Lexer<'a> {
             if let Some(fault) = fault_of(piece.kind) {
                 return Err(LexFault::At(fault, line_of(text, at)));
             }
-            if let PieceKind::Lexeme(kind) = piece.kind {
+            if let PieceKind::TokenOf(kind) = piece.kind {
                 self.at = end;
                 return Ok(Some(Token {
                     kind,

@@ -17,7 +17,8 @@ use crate::token::{BadPiece, Kind};
 pub enum PieceKind {
     Blanks,
     Comment,
-    Lexeme(Kind),
+    /// A token.
+    TokenOf(Kind),
     Bad(BadPiece),
 }
 
@@ -115,7 +116,7 @@ fn run_kind(first: u8, rest: &[u8]) -> PieceKind
         None => PieceKind::Bad(BadPiece::NoToken),
         Some(n) => {
             if n < LIMIT {
-                PieceKind::Lexeme(Kind::Number(n as u32))
+                PieceKind::TokenOf(Kind::Number(n as u32))
             } else {
                 PieceKind::Bad(BadPiece::LargeNumber)
             }
@@ -161,7 +162,7 @@ pub(crate) fn next_piece(before: &[u8], first: u8, rest: &[u8]) -> Piece
             size: 1 + line_len(rest),
         },
         Lead::Letter => Piece {
-            kind: PieceKind::Lexeme(Kind::Word),
+            kind: PieceKind::TokenOf(Kind::Word),
             size: 1 + name_len(rest),
         },
         Lead::Digit => {
@@ -173,7 +174,7 @@ pub(crate) fn next_piece(before: &[u8], first: u8, rest: &[u8]) -> Piece
         }
         Lead::Slash => slash_piece(rest),
         Lead::Single => Piece {
-            kind: PieceKind::Lexeme(Kind::Mark(first)),
+            kind: PieceKind::TokenOf(Kind::Mark(first)),
             size: 1,
         },
         Lead::Other => Piece {

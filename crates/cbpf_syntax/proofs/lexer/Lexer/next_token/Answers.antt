@@ -34,16 +34,16 @@ returns-in-Some-clause-fault c =
       line = c.line_of.ensures;
     })
 
-pub returns-in-Lexeme-clause-token : goal.returns-in-Lexeme-clause-token
-returns-in-Lexeme-clause-token c =
+pub returns-in-TokenOf-clause-token : goal.returns-in-TokenOf-clause-token
+returns-in-TokenOf-clause-token c =
     let text = c.self.inside.text.now in
     let at = c.loop-at.at in
     let piece = c.next_piece-piece.result in
-    let h = here (goal.at.returns-in-Lexeme-clause-token c).After-next_piece-piece in
+    let h = here (goal.at.returns-in-TokenOf-clause-token c).After-next_piece-piece in
     let some = piece_some text at piece h.0 in
     let within = piece_within text at piece c.loop-at-test.true h.0 in
     rw (← c.self.view_is) (record {
-      more = token_more text c.self.inside.at at piece c.in-Lexeme.kind h.1 h.0 c.in-Lexeme.is;
+      more = token_more text c.self.inside.at at piece c.in-TokenOf.kind h.1 h.0 c.in-TokenOf.is;
       span = (omega arith, within);
       farther = omega (arith, some, c.loop-at.invariant.from);
       within = within;
@@ -64,7 +64,7 @@ loop-at-preserved c =
       from = omega (arith, c.loop-at.invariant.from);
       within = within;
       more = to_run_end text c.self.inside.at _ within (piece_more text c.self.inside.at at piece h.1 h.0
-          c.in_default.ensures.good c.in_default-kind.not-Lexeme);
+          c.in_default.ensures.good c.in_default-kind.not-TokenOf);
     }
 
 pub loop-at-smaller : goal.loop-at-smaller
