@@ -6,6 +6,7 @@ use Rattle.std.proofs.Common.{length-append, length-drop, get_or, Option, Some, 
 use Rattle.std.proofs.lemmas.List.{take-append-drop, take-append-le, drop-drop, drop-map, map-append}
 use Rattle.std.proofs.lemmas.List.{length-map, length-take-le, take_rest, drop_at, get_or-drop, get_or_append_left}
 use Rattle.std.specs.Prelude.{slice_get, IfSome, IfNone, option_map}
+use Rattle.std.proofs.lemmas.List.{get_or-take}
 use Rattle.std.proofs.lemmas.Option.{slice_get-map, slice_get-get_or}
 use Rattle.std.specs.List.{copy_within}
 use Rattle.std.proofs.lemmas.List.Edits.{take-paste}
@@ -108,11 +109,7 @@ get_ahead ts (w ∷ ws) rest m k e l =
     let within : m + k < length ts = omega (arith, l, length-drop m ts, ap length e, length-append (w ∷ ws) rest) in
     slice_get-get_or ts (m + k) w within ∙ (ap (λ t. Some t) same ∙ sym (slice_get-get_or (w ∷ ws) k w l))
 
-pub symbol_ahead : (ts ws rest : List Lexeme) (m k : ℕ) → drop m ts ≡ ws ++ rest → k < length ws
-    → symbol_at ts (m + k) ≡ symbol_at ws k
-symbol_ahead ts ws rest m k e l = ap (option_map (λ (t : Lexeme). t.symbol)) (get_ahead ts ws rest m k e l)
-
--- a literal that is too large, of the tokens ahead and of all
+-- the same literal at other places
 large_as : (ts us : List Lexeme) (i j : ℕ) → symbol_at ts i ≡ symbol_at us j
     → symbol_at ts (i + 1) ≡ symbol_at us (j + 1) → IsLargeNegative ts (i + 1) → IsLargeNegative us (j + 1)
 large_as ts us i j e f h =
@@ -127,56 +124,60 @@ large_as ts us i j e f h =
       large = h.large;
     }
 
-large_in : (ts ws rest : List Lexeme) (m k : ℕ) → drop m ts ≡ ws ++ rest → k < length ws → IsLargeNegative ws k
-    → IsLargeNegative ts (m + k)
-large_in ts ws rest m k e l h =
-    let i : k ≡ h.before + 1 = h.after in
-    let add : m + h.before + 1 ≡ m + k = omega (arith, i) in
-    let here = symbol_ahead ts ws rest m k e l in
-    subst (λ j. IsLargeNegative ts j) add (large_as ws ts h.before (m + h.before)
-    (sym (symbol_ahead ts ws rest m h.before e (omega (arith, l, i)))) (rw (add, ← i) (sym here)) (rw i at h))
+-- Where some tokens stand ahead after m of all.
+module _ (ts ws rest : List Lexeme) (m : ℕ) (e : drop m ts ≡ ws ++ rest) where
+  symbol_ahead : (k : ℕ) → k < length ws → symbol_at ts (m + k) ≡ symbol_at ws k
+  symbol_ahead k l = ap (option_map (λ (t : Lexeme). t.symbol)) (get_ahead ts ws rest m k e l)
 
-large_out : (ts ws rest : List Lexeme) (m k : ℕ) → drop m ts ≡ ws ++ rest → suc k < length ws
-    → IsLargeNegative ts (m + suc k) → IsLargeNegative ws (suc k)
-large_out ts ws rest m k e l h =
-    let add : m + suc k ≡ m + k + 1 = omega arith in
-    let one : k + 1 ≡ suc k = omega arith in
-    let here = symbol_ahead ts ws rest m (suc k) e l in
-    subst (λ j. IsLargeNegative ws j) one (large_as ts ws (m + k) k
-    (symbol_ahead ts ws rest m k e (omega arith)) (rw (← add, one) here) (rw add at h))
+  pub place_ahead : (k at : ℕ) → k < length ws → IsPlaceOf ws k at → IsPlaceOf ts (m + k) at
+  place_ahead k at l p = (p.0, get_ahead ts ws rest m k e l ∙ p.1, p.2)
 
-not_first : (ts ws rest : List Lexeme) (m : ℕ) → drop m ts ≡ ws ++ rest → 0 < length ws → StartsWithWord ws
-    → IsLargeNegative ts (m + 0) → ⊥
-not_first ts ws rest m h1 h2 h3 h4 = search (rules, some-same, symbol_ahead)
+  large_in : (k : ℕ) → k < length ws → IsLargeNegative ws k → IsLargeNegative ts (m + k)
+  large_in k l h =
+      let i : k ≡ h.before + 1 = h.after in
+      let add : m + h.before + 1 ≡ m + k = omega (arith, i) in
+      let here = symbol_ahead k l in
+      subst (λ j. IsLargeNegative ts j) add (large_as ws ts h.before (m + h.before)
+      (sym (symbol_ahead h.before (omega (arith, l, i)))) (rw (add, ← i) (sym here)) (rw i at h))
 
--- where none of the tokens ahead is one, no more of all is
-none_large : (ts ws rest : List Lexeme) (m : ℕ) → drop m ts ≡ ws ++ rest → (0 < length ws → StartsWithWord ws)
-    → ((k : ℕ) → k < m → IsLargeNegative ts k → ⊥) → (n : ℕ) → n ≤ length ws
-    → ((k : ℕ) → k < n → IsLargeNegative ws k → ⊥) → (k : ℕ) → k < m + n → IsLargeNegative ts k → ⊥
-none_large ts ws rest m e w before n l none k lk h =
-    elim (cases_lt k m) [
-      | inl b ↦ before k b h
-      | inr b ↦ let d : k ≡ m + (k - m) = omega (arith, b) in
-          by_index (k - m) (omega (arith, lk, b)) (subst (λ i. IsLargeNegative ts i) d h)
-    ]
-  where
-    by_index : (j : ℕ) → j < n → IsLargeNegative ts (m + j) → ⊥
-    by_index zero lj g = let some : 0 < length ws = omega (arith, l, lj) in not_first ts ws rest m e some (w some) g
-    by_index (suc j) lj g = none (suc j) lj (large_out ts ws rest m j e (omega (arith, l, lj)) g)
+  large_out : (k : ℕ) → suc k < length ws → IsLargeNegative ts (m + suc k) → IsLargeNegative ws (suc k)
+  large_out k l h =
+      let add : m + suc k ≡ m + k + 1 = omega arith in
+      let one : k + 1 ≡ suc k = omega arith in
+      let here = symbol_ahead (suc k) l in
+      subst (λ j. IsLargeNegative ws j) one
+      (large_as ts ws (m + k) k (symbol_ahead k (omega arith)) (rw (← add, one) here) (rw add at h))
 
-pub large_on : (ts ws rest : List Lexeme) (m : ℕ) (old new : Option ℕ) → drop m ts ≡ ws ++ rest
-    → (0 < length ws → StartsWithWord ws) → IsFirstLarge ts m old → IfSome old (λ at. new ≡ Some at)
-    → IfNone old (IsFirstLarge ws (length ws) new) → IsFirstLarge ts (m + length ws) new
-large_on ts ws rest m (Some at) new e w h known found =
-    subst (λ o. IsFirstLarge ts (m + length ws) o) (sym known) (h.0, omega (arith, h.1), h.2, h.3, h.4)
-large_on ts ws rest m None None e w h known found = none_large ts ws rest m e w h (length ws) (omega arith) found
-large_on ts ws rest m None (Some at) e w h known found = (
-  m + found.0,
-  omega (arith, found.1),
-  large_in ts ws rest m found.0 e found.1 found.2,
-  none_large ts ws rest m e w h found.0 (omega (arith, found.1)) found.3,
-  (found.4.0, get_ahead ts ws rest m found.0 e found.1 ∙ found.4.1, found.4.2),
-)
+  not_first : 0 < length ws → StartsWithWord ws → IsLargeNegative ts (m + 0) → ⊥
+  not_first h1 h2 h3 = search (rules, some-same, symbol_ahead)
+
+  -- where none of the tokens ahead is one, no more of all is
+  none_large : (0 < length ws → StartsWithWord ws) → ((k : ℕ) → k < m → IsLargeNegative ts k → ⊥) → (n : ℕ)
+      → n ≤ length ws → ((k : ℕ) → k < n → IsLargeNegative ws k → ⊥) → (k : ℕ) → k < m + n
+      → IsLargeNegative ts k → ⊥
+  none_large w before n l none k lk h = elim (cases_lt k m) [
+    | inl b ↦ before k b h
+    | inr b ↦ let d : k ≡ m + (k - m) = omega (arith, b) in
+        by_index (k - m) (omega (arith, lk, b)) (subst (λ i. IsLargeNegative ts i) d h)
+  ]
+    where
+      by_index : (j : ℕ) → j < n → IsLargeNegative ts (m + j) → ⊥
+      by_index zero lj g = let some : 0 < length ws = omega (arith, l, lj) in not_first some (w some) g
+      by_index (suc j) lj g = none (suc j) lj (large_out j (omega (arith, l, lj)) g)
+
+  large_on : (old new : Option ℕ) → (0 < length ws → StartsWithWord ws) → IsFirstLarge ts m old
+      → IfSome old (λ at. new ≡ Some at) → IfNone old (IsFirstLarge ws (length ws) new)
+      → IsFirstLarge ts (m + length ws) new
+  large_on (Some at) new w h known found =
+      subst (λ o. IsFirstLarge ts (m + length ws) o) (sym known) (h.0, omega (arith, h.1), h.2, h.3, h.4)
+  large_on None None w h known found = none_large w h (length ws) (omega arith) found
+  large_on None (Some at) w h known found = (
+    m + found.0,
+    omega (arith, found.1),
+    large_in found.0 found.1 found.2,
+    none_large w h found.0 (omega (arith, found.1)) found.3,
+    place_ahead found.0 at found.1 found.4,
+  )
 
 get_mapped : (ts : List declared_lexeme.Lexeme) (i : ℕ) (d : declared_lexeme.Lexeme) → i < length ts
     → slice_get (map lexeme_of ts) i ≡ Some (lexeme_of (get_or ts i d))
@@ -185,10 +186,6 @@ get_mapped ts i d l = slice_get-map lexeme_of ts i ∙ ap (option_map lexeme_of)
 pub place_mapped : (ts : List declared_lexeme.Lexeme) (i : ℕ) (d : declared_lexeme.Lexeme) → i < length ts
     → IsPlaceOf (map lexeme_of ts) i (get_or ts i d).at
 place_mapped ts i d l = (lexeme_of (get_or ts i d), get_mapped ts i d l, refl)
-
-pub place_ahead : (ts ws rest : List Lexeme) (m k at : ℕ) → drop m ts ≡ ws ++ rest → k < length ws → IsPlaceOf ws k at
-    → IsPlaceOf ts (m + k) at
-place_ahead ts ws rest m k at e l p = (p.0, get_ahead ts ws rest m k e l ∙ p.1, p.2)
 
 -- what begins an item, and has a token, begins with a word
 word_of : (w : List ℕ) (s : Symbol) → fits (the_word w) s ≡ true → (v : List ℕ) × (s ≡ word v)
@@ -248,30 +245,6 @@ taken_word : (n : ℕ) (window : List declared_lexeme.Lexeme) → (0 < n → Sta
     → 0 < length (map lexeme_of (take n window)) → StartsWithWord (map lexeme_of (take n window))
 taken_word n window h1 h2 = search (rules)
 
-pub large_taken : (text : List ℕ) (at m n : ℕ) (window : List declared_lexeme.Lexeme) (ts : List Lexeme)
-    (old new : Option ℕ) → AreAhead text at m (map lexeme_of window) → AreLexemes text ts → n ≤ length window
-    → (0 < n → StartsWithWord (map lexeme_of window)) → IsFirstLarge ts m old → IfSome old (λ at. new ≡ Some at)
-    → IfNone old (IsFirstLarge (map lexeme_of (take n window)) (length (take n window)) new)
-    → IsFirstLarge ts (m + n) new
-large_taken text at m n window ts old new a t l w h known found =
-    let part = taken_is text at m n window ts a t l in
-    let same : length (take n window) ≡ length (map lexeme_of (take n window)) =
-    sym (length-map (take n window) lexeme_of) in
-    subst (λ k. IsFirstLarge ts (m + k) new) (taken_size n window l)
-    (large_on ts (map lexeme_of (take n window)) part.0 m old new part.1 (taken_word n window w) h known
-    (subst (λ k. IfNone old (IsFirstLarge (map lexeme_of (take n window)) k new)) same found))
-
-pub last_taken : (text : List ℕ) (at m n : ℕ) (window : List declared_lexeme.Lexeme) (ts : List Lexeme)
-    (d : declared_lexeme.Lexeme) → AreAhead text at m (map lexeme_of window) → AreLexemes text ts → n ≤ length window
-    → 0 < n → IsPlaceOf ts (m + n - 1) (get_or (take n window) (n - 1) d).at
-last_taken text at m n window ts d a t l some =
-    let part = taken_is text at m n window ts a t l in
-    let e : m + (n - 1) ≡ m + n - 1 = omega (arith, some) in
-    subst (λ k. IsPlaceOf ts k (get_or (take n window) (n - 1) d).at) e
-    (place_ahead ts (map lexeme_of (take n window)) part.0 m (n - 1) _ part.1
-    (omega (arith, taken_size n window l, some))
-    (place_mapped (take n window) (n - 1) d (omega (arith, length-take-le n window l, some))))
-
 pub taken_ahead : (text : List ℕ) (at m n k : ℕ) (items : List declared_lexeme.Lexeme)
     → AreAhead text at m (map lexeme_of (drop k items)) → n ≤ length (drop k items)
     → AreAhead text at (m + n) (map lexeme_of (drop (k + n) items))
@@ -285,54 +258,64 @@ pub refused_large : (ts : List Lexeme) (s at : ℕ) → IsStuckAt ts s → IsFir
     → IsRefusedFor ts (refusal.LargeNegative at)
 refused_large ts s at stuck h = (h.0, large_first ts s h.0 stuck h.1 h.2 h.3, h.4)
 
-pub refused_misplaced : (text : List ℕ) (to m n : ℕ) (window : List declared_lexeme.Lexeme) (ts : List Lexeme)
-    (d : declared_lexeme.Lexeme) → AreAhead text to m (map lexeme_of window) → AreLexemes text ts → n < length window
-    → IsStuckAt ts (m + n) → IsFirstLarge ts (m + n) None → IsRefusedFor ts (refusal.Misplaced (get_or window n d).at)
-refused_misplaced text to m n window ts d a t l stuck none =
-    let all = ahead_is text to m (map lexeme_of window) ts a t in
-    let size : length (map lexeme_of window) ≡ length window = length-map window lexeme_of in
-    let within : m + n < length ts =
-    omega (arith, l, size, all.3, length-drop m ts, ap length all.1, length-append (map lexeme_of window) all.0) in (
-      m + n,
-      misplaced_first ts (m + n) stuck within none,
-      place_ahead ts (map lexeme_of window) all.0 m n _ all.1 (omega (arith, l, size)) (place_mapped window n d l),
-    )
+-- The tokens of a text of which m were taken, with those ahead in the reader's own type.
+module _ (text : List ℕ) (at m : ℕ) (window : List declared_lexeme.Lexeme) (ts : List Lexeme)
+    (a : AreAhead text at m (map lexeme_of window)) (t : AreLexemes text ts) where
+  pub large_taken : (n : ℕ) (old new : Option ℕ) → n ≤ length window
+      → (0 < n → StartsWithWord (map lexeme_of window)) → IsFirstLarge ts m old → IfSome old (λ at. new ≡ Some at)
+      → IfNone old (IsFirstLarge (map lexeme_of (take n window)) (length (take n window)) new)
+      → IsFirstLarge ts (m + n) new
+  large_taken n old new l w h known found =
+      let part = taken_is text at m n window ts a t l in
+      let same : length (take n window) ≡ length (map lexeme_of (take n window)) =
+      sym (length-map (take n window) lexeme_of) in
+      subst (λ k. IsFirstLarge ts (m + k) new) (taken_size n window l)
+      (large_on ts (map lexeme_of (take n window)) part.0 m part.1 old new (taken_word n window w) h known
+      (subst (λ k. IfNone old (IsFirstLarge (map lexeme_of (take n window)) k new)) same found))
 
-whole_size : (text : List ℕ) (to m : ℕ) (window : List declared_lexeme.Lexeme) (ts : List Lexeme)
-    → AreAhead text to m (map lexeme_of window) → AreLexemes text ts → to ≡ length text
-    → length ts ≡ m + length window
-whole_size text to m window ts a t e =
-    let all = ahead_is text to m (map lexeme_of window) ts a t in
-    let none : length all.0 ≡ 0 = ap length (all.2 e) in
-    omega (
-      arith,
-      none,
-      all.3,
-      length-map window lexeme_of,
-      length-drop m ts,
-      ap length all.1,
-      length-append (map lexeme_of window) all.0,
-    )
+  place_taken : (k : ℕ) (d : declared_lexeme.Lexeme) → k < length window → IsPlaceOf ts (m + k) (get_or window k d).at
+  place_taken k d l =
+      let all = ahead_is text at m (map lexeme_of window) ts a t in
+      place_ahead ts (map lexeme_of window) all.0 m all.1 k _ (omega (arith, l, length-map window lexeme_of))
+      (place_mapped window k d l)
 
-pub refused_unfinished : (text : List ℕ) (to m n : ℕ) (window : List declared_lexeme.Lexeme) (ts : List Lexeme)
-    (d : declared_lexeme.Lexeme) → AreAhead text to m (map lexeme_of window) → AreLexemes text ts → n ≡ length window
-    → 0 < n → to ≡ length text → IsStuckAt ts (m + n) → IsFirstLarge ts (m + n) None
-    → IsRefusedFor ts (refusal.Unfinished (get_or window (n - 1) d).at)
-refused_unfinished text to m n window ts d a t l some e stuck none =
-    let all = ahead_is text to m (map lexeme_of window) ts a t in
-    let size = whole_size text to m window ts a t e in
-    let i : m + (n - 1) ≡ length ts - 1 = omega (arith, size, l, some) in (
-      unfinished_first ts (m + n) stuck (omega (arith, size, l)) none,
-      subst (λ k. IsPlaceOf ts k (get_or window (n - 1) d).at) i (place_ahead ts (map lexeme_of window) all.0 m
-          (n - 1) _ all.1 (omega (arith, l, some, length-map window lexeme_of))
-          (place_mapped window (n - 1) d (omega (arith, l, some)))),
-    )
+  pub last_taken : (n : ℕ) (d : declared_lexeme.Lexeme) → n ≤ length window → 0 < n
+      → IsPlaceOf ts (m + n - 1) (get_or (take n window) (n - 1) d).at
+  last_taken n d l some =
+      let i : m + (n - 1) ≡ m + n - 1 = omega (arith, some) in
+      let before : n - 1 < n = omega (arith, some) in
+      rw (get_or-take n window (n - 1) d before) (subst (λ k. IsPlaceOf ts k (get_or window (n - 1) d).at) i
+      (place_taken (n - 1) d (omega (arith, l, some))))
 
-pub refused_last : (text : List ℕ) (to m n at : ℕ) (window : List declared_lexeme.Lexeme) (ts : List Lexeme)
-    → AreAhead text to m (map lexeme_of window) → AreLexemes text ts → n ≡ 0 → n ≡ length window → to ≡ length text
-    → IsPlaceOf ts (m - 1) at → IsStuckAt ts (m + n) → IsFirstLarge ts (m + n) None
-    → IsRefusedFor ts (refusal.Unfinished at)
-refused_last text to m n at window ts a t z l e last stuck none =
-    let size = whole_size text to m window ts a t e in
-    let i : m - 1 ≡ length ts - 1 = omega (arith, size, l, z) in
-    (unfinished_first ts (m + n) stuck (omega (arith, size, l)) none, subst (λ k. IsPlaceOf ts k at) i last)
+  pub refused_misplaced : (n : ℕ) (d : declared_lexeme.Lexeme) → n < length window → IsStuckAt ts (m + n)
+      → IsFirstLarge ts (m + n) None → IsRefusedFor ts (refusal.Misplaced (get_or window n d).at)
+  refused_misplaced n d l stuck none =
+      let all = ahead_is text at m (map lexeme_of window) ts a t in
+      let size : length (map lexeme_of window) ≡ length window = length-map window lexeme_of in
+      let within : m + n < length ts =
+      omega (arith, l, size, all.3, length-drop m ts, ap length all.1, length-append (map lexeme_of window) all.0) in
+      (m + n, misplaced_first ts (m + n) stuck within none, place_taken n d l)
+
+  whole_size : at ≡ length text → length ts ≡ m + length window
+  whole_size e =
+      let all = ahead_is text at m (map lexeme_of window) ts a t in
+      let none : length all.0 ≡ 0 = ap length (all.2 e) in
+      let size = length-map window lexeme_of in
+      omega (arith, none, all.3, size, length-drop m ts, ap length all.1, length-append (map lexeme_of window) all.0)
+
+  pub refused_unfinished : (n : ℕ) (d : declared_lexeme.Lexeme) → n ≡ length window → 0 < n → at ≡ length text
+      → IsStuckAt ts (m + n) → IsFirstLarge ts (m + n) None
+      → IsRefusedFor ts (refusal.Unfinished (get_or window (n - 1) d).at)
+  refused_unfinished n d l some e stuck none =
+      let size = whole_size e in
+      let i : m + (n - 1) ≡ length ts - 1 = omega (arith, size, l, some) in (
+        unfinished_first ts (m + n) stuck (omega (arith, size, l)) none,
+        subst (λ k. IsPlaceOf ts k (get_or window (n - 1) d).at) i (place_taken (n - 1) d (omega (arith, l, some))),
+      )
+
+  pub refused_last : (n last : ℕ) → n ≡ 0 → n ≡ length window → at ≡ length text → IsPlaceOf ts (m - 1) last
+      → IsStuckAt ts (m + n) → IsFirstLarge ts (m + n) None → IsRefusedFor ts (refusal.Unfinished last)
+  refused_last n last z l e place stuck none =
+      let size = whole_size e in
+      let i : m - 1 ≡ length ts - 1 = omega (arith, size, l, z) in
+      (unfinished_first ts (m + n) stuck (omega (arith, size, l)) none, subst (λ k. IsPlaceOf ts k last) i place)

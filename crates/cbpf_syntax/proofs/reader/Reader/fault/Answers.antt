@@ -26,8 +26,8 @@ ahead g c =
     rw (← c.self.view_is) at c.ahead-ahead.ensures in (
       within,
       window,
-      λ m ts r t large. large_taken s.text.now s.lexer.at m c.args.n (drop s.at s.ahead.items) ts s.large
-          c.first_large.result r t within (rw (← c.self.view_is) at c.requires.word) large
+      λ m ts r t large. large_taken s.text.now s.lexer.at m (drop s.at s.ahead.items) ts r t c.args.n s.large
+          c.first_large.result within (rw (← c.self.view_is) at c.requires.word) large
           c.first_large.ensures.known (rw window at c.first_large.ensures.new),
     )
 
@@ -44,7 +44,7 @@ returns-then-n-ahead g c =
     let k = ahead g (goal.at.returns-then-n-ahead g c).After-first_large in
     let more : c.args.n < length (drop c.self.inside.at c.self.inside.ahead.items) = rw k.1 at c.if-n-ahead.true in
     rw (← c.self.view_is, k.1) (λ m ts r t some stuck.
-    refused_misplaced s.text.now s.lexer.at m n (drop s.at s.ahead.items) ts _ r.read t more stuck
+    refused_misplaced s.text.now s.lexer.at m (drop s.at s.ahead.items) ts r.read t n _ more stuck
     (subst (λ o. IsFirstLarge ts (m + n) o) (none_of c.first_large.result c.in_default.not-Some)
     (k.2 m ts r.read t (r.large ts t))))
 
@@ -57,8 +57,8 @@ returns-then-n-gt0 g c =
     let f = rw k.1 at c.if-n-ahead.false in
     omega (arith, f, k.0) in
     let ended = rw (← c.self.view_is) at c.requires.end in
-    rw (← c.self.view_is, k.1) (λ m ts r t some stuck. refused_unfinished s.text.now s.lexer.at m n
-    (drop s.at s.ahead.items) ts _ r.read t all c.if-n-gt0.true (r.end (ended all)) stuck
+    rw (← c.self.view_is, k.1) (λ m ts r t some stuck. refused_unfinished s.text.now s.lexer.at m
+    (drop s.at s.ahead.items) ts r.read t n _ all c.if-n-gt0.true (r.end (ended all)) stuck
     (subst (λ o. IsFirstLarge ts (m + n) o) (none_of c.first_large.result c.in_default.not-Some)
     (k.2 m ts r.read t (r.large ts t))))
 
@@ -73,7 +73,7 @@ returns-else-n-gt0 g c =
     let zero_n : c.args.n ≡ 0 = let f = c.if-n-gt0.false in omega (arith, f) in
     let ended = rw (← c.self.view_is) at c.requires.end in
     rw (← c.self.view_is)
-    (λ m ts r t some stuck. refused_last s.text.now s.lexer.at m n s.last (drop s.at s.ahead.items) ts r.read t zero_n
+    (λ m ts r t some stuck. refused_last s.text.now s.lexer.at m (drop s.at s.ahead.items) ts r.read t n s.last zero_n
     all (r.end (ended all)) (r.last ts t (omega (arith, some, zero_n, all))) stuck
     (subst (λ o. IsFirstLarge ts (m + n) o) (none_of c.first_large.result c.in_default.not-Some)
     (k.2 m ts r.read t (r.large ts t))))

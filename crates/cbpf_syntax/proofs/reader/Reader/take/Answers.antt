@@ -16,8 +16,8 @@ returns-clause-reading g c =
       read = taken_ahead s.text.now s.lexer.at m n s.at s.ahead.items r.read within;
       end = r.end;
       last = λ ts t l.
-          rw e (last_taken s.text.now s.lexer.at m n (drop s.at s.ahead.items) ts _ r.read t within c.requires.some);
-      large = λ ts t. large_taken s.text.now s.lexer.at m n (drop s.at s.ahead.items) ts s.large
-          c.first_large-self-inside.result r.read t within (λ _. rw (← c.self.view_is) at c.requires.word)
+          rw e (last_taken s.text.now s.lexer.at m (drop s.at s.ahead.items) ts r.read t n _ within c.requires.some);
+      large = λ ts t. large_taken s.text.now s.lexer.at m (drop s.at s.ahead.items) ts r.read t n s.large
+          c.first_large-self-inside.result within (λ _. rw (← c.self.view_is) at c.requires.word)
           (r.large ts t) c.first_large-self-inside.ensures.known (rw e at c.first_large-self-inside.ensures.new);
     })
