@@ -1,4 +1,5 @@
 -- Each text assembles or is refused at a line: its labels and targets are looked up one by one.
+use Rattle.cbpf_text.specs.declared.encode.TheConstants.{FARTHEST}
 use Rattle.std.proofs.lemmas.List.Elements.{All-nil, All-cons}
 use Rattle.std.proofs.lemmas.Option.{slice_get_within, get_or_from_slice_get}
 use Rattle.std.proofs.Common.{◌≡◌, refl, sym, ◌∙◌, ap, subst, ℕ, zero, suc, ◌+◌, ◌-◌, ◌<◌, ◌≤◌, Bool, true, false}
@@ -68,7 +69,7 @@ labels_once before (t ∷ after) d = elim (cases_lt 0 (times_among before (name_
 -- a use with a place that it may go to
 abbrev HasPlace : List Item → Use → Type 0
 HasPlace is u = (place : ℕ) × IsPlace is (name_of u.target) place × (u.index < place)
-    × (u.short ≡ true → place ≤ u.index + 256)
+    × (u.short ≡ true → place ≤ u.index + 1 + FARTHEST)
 
 each_use : (is : List Item) (u : Use) → AreDistinct (set_labels is)
     → ((kind : AsmKind) × IsUseFault is u kind) ⊎ HasPlace is u
@@ -77,7 +78,7 @@ each_use is u d =
   where
     by_short : (b : Bool) → u.short ≡ b → (p : ℕ) → IsPlace is (name_of u.target) p → u.index < p
         → ((kind : AsmKind) × IsUseFault is u kind) ⊎ HasPlace is u
-    by_short true e p at l = elim (cases_lt (u.index + 256) p) [
+    by_short true e p at l = elim (cases_lt (u.index + 1 + FARTHEST) p) [
       | inl far ↦ inl (kinds.TooFar, too_far p at.sets e far)
       | inr near ↦ inr (p, at, l, λ _. near)
     ]
@@ -93,7 +94,7 @@ each_use is u d =
 
 -- the offset of a target
 abbrev HasOffset : List Item → ℕ → Bool → Option Lexeme → Type 0
-HasOffset is index short o = (n : ℕ) × IsOffset is index o n × (short ≡ true → n ≤ 255)
+HasOffset is index short o = (n : ℕ) × IsOffset is index o n × (short ≡ true → n ≤ FARTHEST)
 
 place_offset : (is : List Item) (index : ℕ) (short : Bool) (t : Lexeme) → HasPlace is (use_of index short t)
     → HasOffset is index short (Some t)

@@ -1,4 +1,5 @@
 -- Items by their forms: how many targets each has, and its mnemonic.
+use Rattle.cbpf_text.specs.declared.encode.TheConstants.{FARTHEST}
 use Rattle.std.proofs.lemmas.List.Elements.{All-nil, All-cons}
 use Rattle.std.proofs.Common.{◌≡◌, refl, ◌∙◌, ap, ℕ, zero, suc, ◌+◌, Bool, true, false, List, [], ◌∷◌, ◌++◌, length}
 use Rattle.std.proofs.Common.{drop, arith, rules, sym, subst, ◌≤◌, map, Option, Some, None}
@@ -90,14 +91,14 @@ use_of index short t = record { index = index; target = t; short = short }
 
 -- a target that has an offset isn't refused
 pub good_use : (is : List Item) (index : ℕ) (t : Lexeme) (n : ℕ) (short : Bool)
-    → IsPlace is (name_of t) (index + 1 + n) → (short ≡ true → n ≤ 255) → IsGoodUse is (use_of index short t)
+    → IsPlace is (name_of t) (index + 1 + n) → (short ≡ true → n ≤ FARTHEST) → IsGoodUse is (use_of index short t)
 good_use is index t n short p le kind (not_set e) = absurd (omega (arith, p.once, e))
 good_use is index t n short p le kind (not_after place s l) =
     let e : place ≡ index + 1 + n = one_place is place (index + 1 + n) (name_of t) p.once s p.sets in
     absurd (omega (arith, e, l))
 good_use is index t n short p le kind (too_far place s b l) =
     let e : place ≡ index + 1 + n = one_place is place (index + 1 + n) (name_of t) p.once s p.sets in
-    let m : n ≤ 255 = le b in
+    let m : n ≤ FARTHEST = le b in
     absurd (omega (arith, e, l, m))
 
 -- the first target is refused

@@ -10,6 +10,7 @@ use Rattle.cbpf_syntax.specs.declared.table.Fields.TheVariants.{Constant, Goto, 
 use Rattle.cbpf_syntax.specs.Lexemes.{Lexeme, lexemes_of}
 use Rattle.cbpf_syntax.specs.Items.{Item, Items}
 use Rattle.cbpf_syntax.specs.Refusals.{IsLargeNegative}
+use Rattle.cbpf_text.specs.declared.encode.TheConstants.{FARTHEST}
 use Rattle.cbpf_text.specs.Labels.{name_of, set_labels, AreDistinct, IsPlace}
 use Rattle.cbpf_text.specs.Operands.{literal_in, targets_in}
 
@@ -21,7 +22,7 @@ IsOffset items index (Some target) offset = IsPlace items (name_of target) (inde
 -- the same, of a conditional jump
 pub record IsShortOffset (items : List Item) (index : ℕ) (target : Option Lexeme) (offset : ℕ) : Type 0 where
   pub is : IsOffset items index target offset
-  pub short : offset ≤ 255
+  pub short : offset ≤ FARTHEST
 
 -- where the literal and the offsets of the targets stand
 abbrev pub FillsFields : Fields → List Item → ℕ → ℕ → List Lexeme → Insn → Type 0

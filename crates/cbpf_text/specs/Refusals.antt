@@ -12,6 +12,7 @@ use Rattle.cbpf_syntax.specs.Lexemes.{Lexeme, lexemes_of}
 use Rattle.cbpf_syntax.specs.Items.{Item, Items}
 use Rattle.cbpf_syntax.specs.Refusals.{ParseFault, IsFirstRefusal, IsAccepted}
 use Rattle.cbpf_syntax.specs.Reading.{IsPlaceOf}
+use Rattle.cbpf_text.specs.declared.encode.TheConstants.{FARTHEST}
 use Rattle.cbpf_text.specs.declared.fault.AsmKind.{AsmKind}
 use Rattle.cbpf_text.specs.declared.fault.AsmKind.TheVariants as kinds
 use Rattle.cbpf_text.specs.declared.fault.AsmFault.{AsmFault}
@@ -63,7 +64,7 @@ pub data IsUseFault (items : List Item) (u : Use) : AsmKind → Type 0 where
   not_set : times_set items (name_of u.target) ≡ 0 → IsUseFault items u kinds.LabelNotSet
   not_after : (place : ℕ) → SetsAt items place (name_of u.target) → place ≤ u.index
       → IsUseFault items u kinds.NotAfter
-  too_far : (place : ℕ) → SetsAt items place (name_of u.target) → u.short ≡ true → u.index + 256 < place
+  too_far : (place : ℕ) → SetsAt items place (name_of u.target) → u.short ≡ true → u.index + 1 + FARTHEST < place
       → IsUseFault items u kinds.TooFar
 
 abbrev pub IsGoodUse : List Item → Use → Type 0
