@@ -2,8 +2,8 @@
 use Rattle.cbpf_text.specs.declared.encode.TheConstants.{FARTHEST}
 use Rattle.std.proofs.lemmas.List.Elements.{All-nil, All-cons}
 use Rattle.std.proofs.lemmas.Option.{slice_get_within, get_or_from_slice_get}
-use Rattle.std.proofs.Common.{◌≡◌, refl, sym, ◌∙◌, ap, subst, ℕ, zero, suc, ◌+◌, ◌-◌, ◌<◌, ◌≤◌, Bool, true, false}
-use Rattle.std.proofs.Common.{List, [], ◌∷◌, ◌++◌, length, map, Option, Some, None, ◌⊎◌, inl, inr, arith, append_assoc}
+use Rattle.std.proofs.Common.{◌≡◌, refl, sym, ◌∙◌, subst, ℕ, zero, suc, ◌+◌, ◌-◌, ◌<◌, ◌≤◌, Bool, true, false, List}
+use Rattle.std.proofs.Common.{[], ◌∷◌, ◌++◌, length, map, Option, Some, None, ◌⊎◌, inl, inr, arith, append_assoc}
 use Rattle.std.proofs.Common.{append-nil}
 use Rattle.std.specs.Prelude.{slice_get, All}
 use Rattle.std.proofs.lemmas.Bool.{cases_lt}
@@ -28,8 +28,7 @@ use Rattle.cbpf_text.specs.Operands.{HasForm, literal_in, targets_in}
 use Rattle.cbpf_text.specs.Assembled.{IsOffset, FillsFields, IsEncoded, EncodeEach, HasProgramLength, AreEncoded}
 use Rattle.cbpf_text.specs.Assembled.{AssembleTokens}
 use Rattle.cbpf_text.specs.Refusals.{IsFirstRepeat, Use, is_conditional, uses_of, uses_from, IsUseFault, IsGoodUse}
-use Rattle.cbpf_text.specs.Refusals.{IsFirstBadUse, IsItemsFault, IsTokensFault, piece_kind}
-use Rattle.cbpf_text.specs.Refusals.{grammar_kind, shown_at}
+use Rattle.cbpf_text.specs.Refusals.{IsFirstBadUse, IsItemsFault, IsTokensFault, piece_kind, grammar_kind, shown_at}
 use Rattle.cbpf_text.specs.Refusals.IsUseFault.{not_set, not_after, too_far}
 use Rattle.cbpf_text.specs.Refusals.IsItemsFault.{no_item, too_many, set_twice, bad_use}
 use Rattle.cbpf_text.specs.Refusals.IsTokensFault.{of_grammar, of_items}
@@ -37,7 +36,7 @@ use Rattle.cbpf_text.specs.Refusals.IsTextFault.{of_piece, of_tokens}
 use Rattle.cbpf_text.specs.Tables.{labels_from, place_among, IsLookup}
 use Rattle.cbpf_text.specs.Laws.{EachAnswered}
 use Rattle.cbpf_text.proofs.LabelLists.{distinct_more, lookup_found}
-use Rattle.cbpf_text.proofs.Forms.{use_of, good_use, items_forms}
+use Rattle.cbpf_text.proofs.Forms.{use_of, good_use, items_forms, bad_here, bad_after}
 use Rattle.cbpf_text.proofs.Faults.{tokens_assembled}
 
 get_some : {A : Type 0} (xs : List A) (i : ℕ) → i < length xs → (x : A) × (slice_get xs i ≡ Some x)
@@ -112,42 +111,17 @@ AllPlaced is (u ∷ us) = HasPlace is u × AllPlaced is us
 abbrev HasBad : List Item → List Use → Type 0
 HasBad is uses = (kind : AsmKind) × (at : ℕ) × IsFirstBadUse is uses kind at
 
-bad_first : (is : List Item) (u : Use) (us : List Use) (kind : AsmKind) → IsUseFault is u kind → HasBad is (u ∷ us)
-bad_first is u us kind f = (
-  kind,
-  u.target.at,
-  record {
-    before = [];
-    u = u;
-    after = us;
-    split = refl;
-    good = All-nil (IsGoodUse is);
-    bad = f;
-    place = refl;
-  },
-)
-
-bad_later : (is : List Item) (u : Use) (us : List Use) → IsGoodUse is u → HasBad is us → HasBad is (u ∷ us)
-bad_later is u us g b = (
-  b.0,
-  b.1,
-  record {
-    before = u ∷ b.2.before;
-    u = b.2.u;
-    after = b.2.after;
-    split = ap (λ vs. u ∷ vs) b.2.split;
-    good = All-cons (IsGoodUse is) u b.2.before g b.2.good;
-    bad = b.2.bad;
-    place = b.2.place;
-  },
-)
-
 each_placed : (is : List Item) (us : List Use) → AreDistinct (set_labels is) → HasBad is us ⊎ AllPlaced is us
 each_placed is [] d = inr tt
 each_placed is (u ∷ us) d = elim (each_use is u d) [
-  | inl f ↦ inl (bad_first is u us f.0 f.1)
+  | inl f ↦ inl (f.0, u.target.at, bad_here is u us f.0 u.target.at f.1 refl)
   | inr p ↦ elim (each_placed is us d) [
-    | inl b ↦ inl (bad_later is u us (place_good is u p) b)
+    | inl b ↦ inl (
+      b.0,
+      b.1,
+      bad_after is (u ∷ []) us b.0 b.1
+          (All-cons (IsGoodUse is) u [] (place_good is u p) (All-nil (IsGoodUse is))) b.2,
+    )
     | inr q ↦ inr (p, q)
   ]
 ]

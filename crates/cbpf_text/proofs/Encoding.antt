@@ -10,7 +10,6 @@ use Rattle.cbpf_syntax.specs.declared.table.Fields.{Fields}
 use Rattle.cbpf_syntax.specs.declared.table.Fields.TheVariants.{Constant, Goto, Branch, Swapped}
 use Rattle.cbpf_syntax.specs.Lexemes.{Lexeme}
 use Rattle.cbpf_syntax.specs.Items.{Item}
-use Rattle.cbpf_text.specs.declared.fault.AsmKind.{AsmKind}
 use Rattle.cbpf_text.specs.Assembled.{IsEncoded, EncodeEach, FillsFields}
 use Rattle.cbpf_text.specs.Operands.{HasForm, targets_in, literal_in}
 use Rattle.cbpf_text.specs.Refusals.{Use, IsGoodUse, IsFirstBadUse, Reported, uses_of, uses_from, is_conditional}
@@ -18,7 +17,7 @@ use Rattle.cbpf_text.specs.declared.placed_fault.PlacedFault.{PlacedFault}
 use Rattle.cbpf_syntax.proofs.Steps.{some_known}
 use Rattle.cbpf_text.specs.declared.draft.Statement.{Statement}
 use Rattle.cbpf_text.specs.Drafts.{IsStatement, AreStatements}
-use Rattle.cbpf_text.proofs.Forms.{takes, form_takes, use_of, good_use, reported_more}
+use Rattle.cbpf_text.proofs.Forms.{takes, form_takes, use_of, good_use, reported_more, bad_after, bad_before}
 
 none_of : (is : List Item) (index : ℕ) (short : Bool) (ts : List Lexeme) → (length ts == 0) ≡ true
     → All (IsGoodUse is) (map (use_of index short) ts)
@@ -83,20 +82,6 @@ uses_split k (x ∷ is) (suc i) d l =
           (append_assoc (uses_of k x) (uses_from (k + 1) (take i is)) (uses_of (k + suc i) (get_or is i d) ++ s.0)),
     )
 
-bad_after : (all : List Item) (front uses rest : List Use) (kind : AsmKind) (at : ℕ) → All (IsGoodUse all) front
-    → IsFirstBadUse all uses kind at → IsFirstBadUse all (front ++ (uses ++ rest)) kind at
-bad_after all front uses rest kind at g b = record {
-  before = front ++ b.before;
-  u = b.u;
-  after = b.after ++ rest;
-  split =
-      ap (λ us. front ++ (us ++ rest)) b.split ∙ (ap (λ us. front ++ us) (append_assoc b.before (b.u ∷ b.after) rest)
-      ∙ sym (append_assoc front b.before (b.u ∷ (b.after ++ rest))));
-  good = All-append (IsGoodUse all) front b.before g b.good;
-  bad = b.bad;
-  place = b.place;
-}
-
 -- the first target that is refused, after items that have their instructions
 pub bad_among : (is : List Item) (i : ℕ) (d : Item) (insns : List Insn) (r : PlacedFault) → i < length is
     → All HasForm is → EncodeEach is 0 (take i is) insns → Reported (IsFirstBadUse is (uses_of i (get_or is i d))) r
@@ -108,7 +93,8 @@ bad_among is i d insns r l f p h =
     reported_more (IsFirstBadUse is (uses_of i (get_or is i d))) (IsFirstBadUse is (uses_from 0 is)) r
     (λ kind at b. subst (λ us. IsFirstBadUse is us kind at)
     (sym (s.1 ∙ ap (λ n. uses_from 0 front ++ (uses_of n (get_or is i d) ++ s.0)) z))
-    (bad_after is (uses_from 0 front) (uses_of i (get_or is i d)) s.0 kind at (good_uses is 0 front insns p (All-take HasForm i is f)) b))
+    (bad_after is (uses_from 0 front) (uses_of i (get_or is i d) ++ s.0) kind at
+    (good_uses is 0 front insns p (All-take HasForm i is f)) (bad_before is (uses_of i (get_or is i d)) s.0 kind at b)))
     h
 
 -- the statements of items, one by one

@@ -1,6 +1,7 @@
 -- Items by their forms: how many targets each has, and its mnemonic.
+use Rattle.std.proofs.Common.{◌++◌, append_assoc, ap}
 use Rattle.cbpf_text.specs.declared.encode.TheConstants.{FARTHEST}
-use Rattle.std.proofs.lemmas.List.Elements.{All-nil, All-cons}
+use Rattle.std.proofs.lemmas.List.Elements.{All-append, All-nil, All-cons}
 use Rattle.std.proofs.Common.{◌≡◌, refl, ◌∙◌, ap, ℕ, zero, suc, ◌+◌, Bool, true, false, List, [], ◌∷◌, ◌++◌, length}
 use Rattle.std.proofs.Common.{drop, arith, rules, sym, subst, ◌≤◌, map, Option, Some, None}
 use Rattle.std.specs.Prelude.{All, Contains, ◌==◌, ◌||◌, slice_get}
@@ -19,7 +20,7 @@ use Rattle.cbpf_text.specs.Operands.{HasForm, targets_in}
 use Rattle.cbpf_text.specs.declared.fault.AsmKind.{AsmKind}
 use Rattle.cbpf_text.specs.Labels.{name_of, IsPlace}
 use Rattle.cbpf_text.specs.Assembled.{IsShortOffset, IsOffset, IsEncoded}
-use Rattle.cbpf_text.specs.Refusals.{Use, IsGoodUse, IsFirstBadUse, IsTargetFault, Reported, uses_of, is_conditional}
+use Rattle.cbpf_text.specs.Refusals.{Use, IsUseFault, IsGoodUse, IsFirstBadUse, IsTargetFault, Reported, uses_of, is_conditional}
 use Rattle.cbpf_text.specs.declared.placed_fault.PlacedFault.{PlacedFault}
 use Rattle.cbpf_text.specs.Refusals.IsUseFault.{not_set, not_after, too_far}
 use Rattle.cbpf_text.proofs.LabelLists.{one_place}
@@ -101,33 +102,58 @@ good_use is index t n short p le kind (too_far place s b l) =
     let m : n ≤ FARTHEST = le b in
     absurd (omega (arith, e, l, m))
 
+-- the first use that is refused, at the front, after good ones, and before others
+pub bad_here : (is : List Item) (u : Use) (uses : List Use) (kind : AsmKind) (at : ℕ) → IsUseFault is u kind
+    → at ≡ u.target.at → IsFirstBadUse is (u ∷ uses) kind at
+bad_here is u uses kind at bad place = record {
+  before = [];
+  u = u;
+  after = uses;
+  split = refl;
+  good = All-nil (IsGoodUse is);
+  bad = bad;
+  place = place;
+}
+
+pub bad_after : (is : List Item) (front uses : List Use) (kind : AsmKind) (at : ℕ) → All (IsGoodUse is) front
+    → IsFirstBadUse is uses kind at → IsFirstBadUse is (front ++ uses) kind at
+bad_after is front uses kind at g b = record {
+  before = front ++ b.before;
+  u = b.u;
+  after = b.after;
+  split = ap (λ us. front ++ us) b.split ∙ sym (append_assoc front b.before (b.u ∷ b.after));
+  good = All-append (IsGoodUse is) front b.before g b.good;
+  bad = b.bad;
+  place = b.place;
+}
+
+pub bad_before : (is : List Item) (uses rest : List Use) (kind : AsmKind) (at : ℕ)
+    → IsFirstBadUse is uses kind at → IsFirstBadUse is (uses ++ rest) kind at
+bad_before is uses rest kind at b = record {
+  before = b.before;
+  u = b.u;
+  after = b.after ++ rest;
+  split = ap (λ us. us ++ rest) b.split ∙ append_assoc b.before (b.u ∷ b.after) rest;
+  good = b.good;
+  bad = b.bad;
+  place = b.place;
+}
+
 -- the first target is refused
 pub first_bad : (is : List Item) (index : ℕ) (short : Bool) (ts : List Lexeme) (kind : AsmKind) (at : ℕ)
     → IsTargetFault is index short (slice_get ts 0) kind at → IsFirstBadUse is (map (use_of index short) ts) kind at
 first_bad is index short [] kind at f = absurd f
-first_bad is index short (t ∷ ts) kind at f = record {
-  before = [];
-  u = use_of index short t;
-  after = map (use_of index short) ts;
-  split = refl;
-  good = All-nil (IsGoodUse is);
-  bad = f.0;
-  place = f.1;
-}
+first_bad is index short (t ∷ ts) kind at f =
+    bad_here is (use_of index short t) (map (use_of index short) ts) kind at f.0 f.1
 
 -- the second target of a conditional jump is refused, and the first is good
 pub second_bad : (is : List Item) (index : ℕ) (ts : List Lexeme) (n : ℕ) (kind : AsmKind) (at : ℕ)
     → IsShortOffset is index (slice_get ts 0) n → IsTargetFault is index true (slice_get ts 1) kind at
     → IsFirstBadUse is (map (use_of index true) ts) kind at
-second_bad is index (t ∷ u ∷ ts) n kind at o f = record {
-  before = use_of index true t ∷ [];
-  u = use_of index true u;
-  after = map (use_of index true) ts;
-  split = refl;
-  good = All-cons (IsGoodUse is) (use_of index true t) [] (good_use is index t n true o.is (λ e. o.short)) (All-nil (IsGoodUse is));
-  bad = f.0;
-  place = f.1;
-}
+second_bad is index (t ∷ u ∷ ts) n kind at o f =
+    bad_after is (use_of index true t ∷ []) (map (use_of index true) (u ∷ ts)) kind at
+    (All-cons (IsGoodUse is) (use_of index true t) [] (good_use is index t n true o.is (λ e. o.short))
+    (All-nil (IsGoodUse is))) (bad_here is (use_of index true u) (map (use_of index true) ts) kind at f.0 f.1)
 second_bad is index x n kind at o f = absurd f
 
 pub reported_more : (P Q : AsmKind → ℕ → Type 0) (r : PlacedFault)

@@ -1,7 +1,6 @@
 -- The numbers and labels of a listing, as the lexer reads them.
 use Rattle.std.proofs.Common.{◌≡◌, ℕ, ◌+◌, ◌-◌, ◌*◌, ◌^◌, ◌<◌, ◌≤◌, ◌∙◌, Bool, true, false, not, ◌&&◌, ◌||◌, zero, suc}
-use Rattle.std.proofs.Common.{List, [], ◌∷◌, length, get_or, refl, ap, arith, Some, eqb-true, lt-ltb, ne_eqb}
-use Rattle.std.proofs.Common.{lit<}
+use Rattle.std.proofs.Common.{List, [], ◌∷◌, length, get_or, refl, ap, arith, Some, eqb-true, lt-ltb, ne_eqb, lit<}
 use Rattle.std.specs.Prelude.{◌==◌, nat_lt, decimal}
 use Rattle.std.specs.List.{list_all}
 use Rattle.std.specs.Fmt.{digits}

@@ -1,7 +1,7 @@
 -- Each operand of a listing is spelled by segments, whose tokens fit its row of the table and give the
 -- instruction's fields back.
-use Rattle.std.proofs.Common.{◌≡◌, ℕ, ◌+◌, ◌^◌, ◌<◌, Bool, true, false, cond, ◌&&◌, List, [], ◌∷◌, ◌++◌, refl, ap}
-use Rattle.std.proofs.Common.{sym, ◌∙◌, arith, rules, append-nil, lit<, Option, Some, None, ◌≤◌}
+use Rattle.std.proofs.Common.{◌≡◌, ℕ, ◌+◌, ◌^◌, ◌<◌, Bool, true, false, cond, ◌&&◌, List, [], ◌∷◌, ◌++◌, refl, ap, sym}
+use Rattle.std.proofs.Common.{◌∙◌, arith, rules, append-nil, lit<, Option, Some, None, ◌≤◌}
 use Rattle.std.specs.Prelude.{◌==◌, codes, is_some, decimal}
 use Rattle.std.proofs.lemmas.Bool.{and_from}
 use Rattle.cbpf_code.specs.declared.insn.Insn.{Insn}
@@ -20,8 +20,7 @@ use Rattle.cbpf_code.specs.declared.syntax.Operand.TheVariants as operands
 use Rattle.cbpf_code.specs.Listing.{immediate, operand_text, place_or_name}
 use Rattle.cbpf_text.specs.Assembled.{FillsFields}
 use Rattle.cbpf_text.specs.Operands.{literal_of, place_named}
-use Rattle.cbpf_text.proofs.ListedRows.{operand_classes, operand_fields}
-use Rattle.cbpf_text.proofs.ListedRows.{first, rest, IsWord, word_of_test, plain_as}
+use Rattle.cbpf_text.proofs.ListedRows.{operand_classes, operand_fields, first, rest, IsWord, word_of_test, plain_as}
 use Rattle.cbpf_text.proofs.ListedTokens.{lexemes_at, newline, are_positive}
 use Rattle.cbpf_text.proofs.ListedNumbers.{Places, decimal_segment, spelled_decimal, is_decimal_segment, hex_segment}
 use Rattle.cbpf_text.proofs.ListedNumbers.{is_hex_segment, given_is, label_fits, label_segment, is_label_segment}
@@ -109,11 +108,11 @@ is_blank_segment = (lit< tt, refl)
 
 pub operand_are : (o : Operand) (e : Option Ext) (n i : ℕ) (insn : Insn) → InRange insn → n ≤ 4096
     → TargetsInside n i insn o → AreSegments (operand_segments o e i insn)
-operand_are operands.Immediate e n i insn r most t =
-    (is_blank_segment, ((lit< tt, refl), (is_hex_segment insn.k (insn.k == 0) r.k, tt)))
 operand_are operands.Absolute (Some x) n i insn r most t = (is_blank_segment, ((ext_word x).1, tt))
+operand_are operands.Immediate e n i insn r most t = search (rules, is_hex_segment)
 operand_are operands.ImmediateTwo e n i insn r most t =
-    (is_blank_segment, ((lit< tt, refl), (is_hex_segment insn.k (insn.k == 0) r.k, search (rules, is_label_segment) depth 14)))
+    let hex = is_hex_segment insn.k (insn.k == 0) r.k in
+    (is_blank_segment, ((lit< tt, refl), (hex, search (rules, is_label_segment) depth 14)))
 operand_are operands.Label e n i insn r most t = search (rules, is_label_segment)
 operand_are operands.XTwo e n i insn r most t = search (rules, is_label_segment) depth 14
 operand_are o e n i insn r most t = search (rules, is_decimal_segment) depth 14

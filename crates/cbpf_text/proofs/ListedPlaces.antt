@@ -1,8 +1,7 @@
 -- Items that are labelled by their numbers: each label is set once, by its item.
 use Rattle.std.proofs.lemmas.List.Elements.{All-nil, All-cons, All-append}
-use Rattle.std.proofs.Common.{◌∙◌, Bool, rules, ◌≡◌, ℕ, zero, suc, ◌+◌, ◌^◌, ◌<◌, ◌≤◌, true, false, List, [], ◌∷◌, length}
-use Rattle.std.proofs.Common.{refl, sym, subst, arith, inl, inr, ◌++◌, map, ap, append_assoc}
-use Rattle.std.proofs.Common.{append-nil, lit<, Some}
+use Rattle.std.proofs.Common.{◌∙◌, Bool, rules, ◌≡◌, ℕ, zero, suc, ◌+◌, ◌^◌, ◌<◌, ◌≤◌, true, false, List, [], ◌∷◌}
+use Rattle.std.proofs.Common.{length, refl, sym, subst, arith, inl, inr, ◌++◌, map, ap, append_assoc, append-nil, Some}
 use Rattle.std.specs.Prelude.{decimal, All, is_some}
 use Rattle.std.proofs.lemmas.Fmt.{decimal_injective}
 use Rattle.cbpf_syntax.specs.Lexemes.{Lexeme}
@@ -28,12 +27,12 @@ use Rattle.cbpf_text.specs.Assembled.{EncodeEach, IsEncoded, FillsFields}
 use Rattle.cbpf_text.specs.Operands.{literal_of}
 use Rattle.cbpf_code.specs.WordForm.{InRange}
 use Rattle.cbpf_code.specs.Extension.{ext_at}
-use Rattle.cbpf_text.proofs.ListedRows.{HasRow, first, rest, mnemonic_word, plain_as, plain_is, operation_row}
+use Rattle.cbpf_text.proofs.ListedRows.{IsWord, HasRow, first, rest, mnemonic_word, plain_as, plain_is, operation_row}
 use Rattle.cbpf_text.proofs.ListedRows.{operand_classes, operand_fields}
 use Rattle.cbpf_text.proofs.ListedTokens.{lexemes_at, lexemes_append, text_append, are_append, ends_before}
 use Rattle.cbpf_text.proofs.ListedTokens.{apart_before, are_positive, positive_append}
-use Rattle.cbpf_text.proofs.ListedOperands.{operand_segments, TargetsInside, operand_apart, operand_spelled, operand_are}
-use Rattle.cbpf_text.proofs.ListedOperands.{operand_fits, operand_fills}
+use Rattle.cbpf_text.proofs.ListedOperands.{operand_segments, TargetsInside, operand_apart, operand_spelled}
+use Rattle.cbpf_text.proofs.ListedOperands.{operand_are, operand_fits, operand_fills}
 use Rattle.cbpf_syntax.specs.Lexemes as grammar
 
 -- the item has one label, its number's
@@ -166,6 +165,10 @@ line_text : (i : ℕ) (insn : Insn) (op : Op) (operand after : List Segment) (li
     → text_of (line_segments i (mnemonic_of op) operand after) ≡ numbered_line (i, insn) ++ lines
 line_text i insn op operand after lines h1 h2 h3 h4 = search (rules, first, rest, text_append, blank, text_of, joins)
 
+line_are : (i : ℕ) (w : List ℕ) (operand after : List Segment) → i < 2 ^ 64 → IsWord w → AreSegments operand
+    → AreSegments after → AreSegments (line_segments i w operand after)
+line_are i w operand after h1 h2 h3 h4 = search (rules, is_label_segment, are_append)
+
 -- where the operand's tokens begin
 abbrev operand_at : ℕ → ℕ → List ℕ → ℕ
 operand_at at i w = at + (1 + length (decimal i)) + 1 + 1 + (1 + length (rest w))
@@ -237,20 +240,7 @@ lists_line n i insn op insns known most l range inside b =
       segments = line_segments i w operand b.segments;
       text = line_text i insn op operand b.segments (flat_map numbered_line (enumerate_from (i + 1) insns)) known
           (mnemonic_word op).0 (operand_spelled o e i insn refl range.k) b.text;
-      are = (
-        is_label_segment i small,
-        (
-          (lit< tt, refl),
-          (
-            (lit< tt, refl),
-            (
-              (mnemonic_word op).1,
-              are_append operand (blank 10 ∷ b.segments) (operand_are o e n i insn range most inside)
-                  ((lit< tt, refl), b.are),
-            ),
-          ),
-        ),
-      );
+      are = line_are i w operand b.segments small (mnemonic_word op) (operand_are o e n i insn range most inside) b.are;
       begins = refl;
       apart = and_from _ _ (ends_before operand b.segments ends.0)
           (apart_before false operand b.segments positive.0 b.begins b.apart);

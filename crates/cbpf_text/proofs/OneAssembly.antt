@@ -1,8 +1,8 @@
 -- A text assembles to at most one list of instructions.
 use Rattle.std.proofs.lemmas.List.Elements.{All-contains, Contains-append_right}
 use Rattle.std.proofs.lemmas.Option.{slice_get_within}
-use Rattle.std.proofs.Common.{rules, ◌≡◌, refl, sym, ◌∙◌, subst, ℕ, ◌+◌, List, [], ◌∷◌, Option, Some, None, arith}
-use Rattle.std.proofs.Common.{◌≢◌, ap, ◌<◌, ◌++◌, length}
+use Rattle.std.proofs.Common.{rules, ◌≡◌, refl, sym, ◌∙◌, subst, ℕ, ◌+◌, List, [], ◌∷◌, Option, Some, None, arith, ◌≢◌}
+use Rattle.std.proofs.Common.{ap, ◌<◌, ◌++◌, length}
 use Rattle.std.specs.Prelude.{All}
 use Rattle.cbpf_syntax.proofs.Outcomes.{one_list}
 use Rattle.cbpf_code.specs.declared.insn.Insn.{Insn}
@@ -11,8 +11,7 @@ use Rattle.cbpf_syntax.specs.Lexemes.{Lexeme, lexemes_of}
 use Rattle.cbpf_syntax.specs.Items.{Item}
 use Rattle.cbpf_syntax.proofs.Apart.{one_reading, bytes_eq_self}
 use Rattle.cbpf_text.specs.Labels.{name_of, times_among, AreDistinct}
-use Rattle.cbpf_text.specs.Assembled.{AssembleTokens, EncodeEach, IsEncoded, FillsFields, IsOffset}
-use Rattle.cbpf_text.specs.Assembled.{AreEncoded}
+use Rattle.cbpf_text.specs.Assembled.{AssembleTokens, EncodeEach, IsEncoded, FillsFields, IsOffset, AreEncoded}
 use Rattle.cbpf_text.specs.Operands.{HasForm}
 use Rattle.cbpf_text.specs.Laws.{OneAssembly, NeverBoth}
 use Rattle.cbpf_text.proofs.LabelLists.{one_place, times_append, times_cons, times_hit}

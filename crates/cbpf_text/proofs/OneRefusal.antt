@@ -1,7 +1,6 @@
 -- A text has at most one refusal with a line.
 use Rattle.std.proofs.lemmas.Option.{slice_get_within}
-use Rattle.std.proofs.Common.{rules}
-use Rattle.std.proofs.Common.{◌≡◌, refl, sym, ◌∙◌, ap, subst, ℕ, ◌<◌, List, [], ◌∷◌, ◌++◌, length, arith}
+use Rattle.std.proofs.Common.{rules, ◌≡◌, refl, sym, ◌∙◌, ap, subst, ℕ, ◌<◌, List, [], ◌∷◌, ◌++◌, length, arith}
 use Rattle.cbpf_syntax.proofs.Outcomes as lexer
 use Rattle.cbpf_syntax.specs.Lexemes.{Lexeme, lexemes_of}
 use Rattle.cbpf_syntax.specs.Items.{Item}
@@ -11,8 +10,8 @@ use Rattle.cbpf_text.specs.declared.fault.AsmKind.{AsmKind}
 use Rattle.cbpf_syntax.specs.Tokens.{line_of}
 use Rattle.cbpf_syntax.proofs.Cuts.{some-same}
 use Rattle.cbpf_text.specs.Labels.{name_of, set_labels, times_set, AreDistinct, SetsAt}
-use Rattle.cbpf_text.specs.Refusals.{Use, IsUseFault, IsFirstRepeat, IsFirstBadUse, IsItemsFault}
-use Rattle.cbpf_text.specs.Refusals.{IsTokensFault, IsExcess, uses_from, piece_kind, grammar_kind, shown_at}
+use Rattle.cbpf_text.specs.Refusals.{Use, IsUseFault, IsFirstRepeat, IsFirstBadUse, IsItemsFault, IsTokensFault}
+use Rattle.cbpf_text.specs.Refusals.{IsExcess, uses_from, piece_kind, grammar_kind, shown_at}
 use Rattle.cbpf_text.specs.Refusals.IsTokensFault.{of_grammar, of_items}
 use Rattle.cbpf_syntax.specs.Reading.{IsPlaceOf}
 use Rattle.cbpf_text.specs.Refusals.IsUseFault.{not_set, not_after, too_far}
