@@ -2,23 +2,19 @@
 use Rattle.std.proofs.Common.{rules, ◌≡◌, refl, sym, subst, ℕ, List, ◌∙◌, ap, suc, ◌+◌, ◌<◌, ◌≤◌, Bool, true}
 use Rattle.std.proofs.Common.{false, [], ◌∷◌, ◌++◌, length, map, take, drop, get_or, Option, Some, None, arith}
 use Rattle.std.proofs.Common.{append_assoc, append-nil, length-append, length-drop}
-use Rattle.cbpf_syntax.specs.declared.token.Token.{Token}
-use Rattle.cbpf_syntax.specs.Tokens.{Lexes, LexesTo}
+use Rattle.cbpf_syntax.specs.Tokens.{LexesTo}
 use Rattle.cbpf_syntax.specs.Refusals.{ParseFault, IsAccepted, IsStuckAt}
 use Rattle.cbpf_syntax.specs.Lexemes.{Lexeme, lexemes_of, AreLexemes}
 use Rattle.cbpf_syntax.specs.Items.{Item, Items}
 use Rattle.cbpf_code.specs.declared.insn.Insn.{Insn}
 use Rattle.cbpf_text.specs.declared.fault.AsmFault.{AsmFault}
 use Rattle.cbpf_text.specs.declared.placed_fault.PlacedFault.{PlacedFault}
-use Rattle.cbpf_text.specs.Labels.{set_labels, AreDistinct}
-use Rattle.cbpf_text.specs.Assembled.{HasProgramLength, AreEncoded, AssembleTokens, Assembles}
-use Rattle.cbpf_text.specs.Refusals.{Reported, IsItemsFault, IsFirstBadUse, uses_from, IsTokensFault, IsRefused}
+use Rattle.cbpf_text.specs.Assembled.{AreEncoded, AssembleTokens}
+use Rattle.cbpf_text.specs.Refusals.{Reported, IsTokensFault, IsRefused}
 use Rattle.cbpf_text.specs.Refusals.{IsLexRefused, IsReportedAt}
-use Rattle.cbpf_text.specs.Refusals.IsItemsFault.{bad_use}
-use Rattle.cbpf_text.specs.Refusals.IsTokensFault.{of_items, of_grammar}
+use Rattle.cbpf_text.specs.Refusals.IsTokensFault.{of_grammar}
 use Rattle.cbpf_text.specs.Refusals.IsTextFault.{of_piece, of_tokens}
 use Rattle.cbpf_text.specs.declared.fault.AsmFault.TheVariants as faults
-use Rattle.cbpf_text.proofs.Forms.{reported_more}
 use Rattle.std.proofs.lemmas.List.{length-map, length-take-le, drop-drop}
 use Rattle.cbpf_syntax.specs.Views.{lexeme_of, row_of, label_words}
 use Rattle.cbpf_syntax.specs.Reading.{Ahead, IsReading, IsFirstLarge}
@@ -40,16 +36,6 @@ use Rattle.cbpf_syntax.specs.declared.lexeme.Lexeme as declared_lexeme
 use Rattle.cbpf_syntax.specs.declared.item.Row as declared_row
 use Rattle.cbpf_text.specs.declared.fault.AsmKind.TheVariants as kinds
 
-pub uses_reported : (is : List Item) (r : PlacedFault) → HasProgramLength is → AreDistinct (set_labels is)
-    → Reported (IsFirstBadUse is (uses_from 0 is)) r → Reported (IsItemsFault is) r
-uses_reported is r n d h =
-    reported_more (IsFirstBadUse is (uses_from 0 is)) (IsItemsFault is) r (λ kind at p. bad_use kind at n d p) h
-
-pub items_reported : (ts : List Lexeme) (is : List Item) (r : PlacedFault) → Items ts is → IsAccepted ts
-    → Reported (IsItemsFault is) r → Reported (IsTokensFault ts) r
-items_reported ts is r p a h =
-    reported_more (IsItemsFault is) (IsTokensFault ts) r (λ kind at q. of_items is kind at p a q) h
-
 pub tokens_assembled : (ts : List Lexeme) (is : List Item) (insns : List Insn) → Items ts is → IsAccepted ts
     → AreEncoded is insns → AssembleTokens ts insns
 tokens_assembled ts is insns p a e =
@@ -58,10 +44,6 @@ tokens_assembled ts is insns p a e =
 pub lex_refused : (text : List ℕ) (fault : AsmFault) → IsLexRefused text fault → IsRefused text fault
 lex_refused text faults.Memory h = tt
 lex_refused text (faults.At kind line) h = rw h.1 (of_piece h.0 line h.2)
-
-pub text_assembled : (text : List ℕ) (tokens : List Token) (ts : List Lexeme) (insns : List Insn) → Lexes text tokens
-    → ts ≡ lexemes_of text tokens → AssembleTokens ts insns → Assembles text insns
-text_assembled text tokens ts insns h1 h2 h3 = search (rules)
 
 -- The refusals of a text whose items are read one by one, and what is kept of them.
 
@@ -144,13 +126,11 @@ front_item ts is ws n m item f e next =
       rest = refl;
     }
 
--- the same over a text, with what is kept of its items, and whether labels wait
-pub record IsState (text : List ℕ) (a : Ahead) (o : Option ℕ) (ss : List Statement) (rep : Option ℕ)
+-- the same over a text of which n tokens were taken, with what is kept of its items, and whether labels wait
+pub record IsState (text : List ℕ) (n : ℕ) (o : Option ℕ) (ss : List Statement) (rep : Option ℕ)
     (look : Name → Option ℕ) (waits : Bool) : Type 0 where
-  pub n : ℕ
   pub is : List Item
   pub words : List Lexeme
-  pub reading : IsReading n a
   pub none : waits ≡ false → words ≡ []
   pub some : waits ≡ true → (0 < length words) × (0 < n)
   pub draft : IsDraft o ss rep look is words
@@ -160,70 +140,64 @@ two_of : (window : List declared_lexeme.Lexeme) (d e : declared_lexeme.Lexeme) �
     → map lexeme_of (take 2 window) ≡ lexeme_of (get_or window 0 d) ∷ lexeme_of (get_or window 1 e) ∷ []
 two_of window d e h1 = search (rules)
 
--- The state of a reader before a step.
-module _ {text : List ℕ} {a : Ahead} {o : Option ℕ} {ss : List Statement} {rep : Option ℕ} {look : Name → Option ℕ}
-    {waits : Bool} where
-  pub label_state : {b : Ahead} {p : Option ℕ} {tt : List Statement} {rep2 : Option ℕ} {look2 : Name → Option ℕ}
-      (d : declared_lexeme.Lexeme) (s : IsState text a o ss rep look waits) → a.text ≡ text
-      → ((ts : List Lexeme) → AreLexemes text ts → starts_with_label (drop s.n ts) ≡ true)
-      → 2 ≤ length a.tokens → ((m : ℕ) → IsReading m a → IsReading (m + 2) b)
+-- The state before a step of a reader.
+module _ {text : List ℕ} {n : ℕ} {o : Option ℕ} {ss : List Statement} {rep : Option ℕ} {look : Name → Option ℕ}
+    {waits : Bool} (a : Ahead) (r : IsReading n a) (same : a.text ≡ text)
+    (s : IsState text n o ss rep look waits) where
+  pub label_state : {p : Option ℕ} {tt : List Statement} {rep2 : Option ℕ} {look2 : Name → Option ℕ}
+      (d : declared_lexeme.Lexeme)
+      → ((ts : List Lexeme) → AreLexemes text ts → starts_with_label (drop n ts) ≡ true) → 2 ≤ length a.tokens
       → ((is : List Item) (words : List Lexeme) → IsDraft o ss rep look is words
       → IsDraft p tt rep2 look2 is (words ++ (lexeme_of (get_or a.tokens 0 d) ∷ [])))
-      → IsState text b p tt rep2 look2 true
-  label_state d s same is_label two taken kept =
+      → IsState text (n + 2) p tt rep2 look2 true
+  label_state d is_label two kept =
       let x = lexeme_of (get_or a.tokens 0 d) in
       record {
-        n = s.n + 2;
         is = s.is;
         words = s.words ++ (x ∷ []);
-        reading = taken s.n s.reading;
         none = λ e. let k : true ≡ false = e in cc;
         some = λ e. (omega (arith, length-append s.words (x ∷ [])), omega arith);
         draft = kept s.is s.words s.draft;
         front = λ ts t.
-            let part = taken_is a.text a.to s.n 2 a.tokens ts s.reading.read (rw (← same) at t) two in
-            front_label ts s.is s.words s.n x (lexeme_of (get_or a.tokens 1 d)) part.0 (s.front ts t)
+            let part = taken_is a.text a.to n 2 a.tokens ts r.read (rw (← same) at t) two in
+            front_label ts s.is s.words n x (lexeme_of (get_or a.tokens 1 d)) part.0 (s.front ts t)
             (part.1 ∙ ap (λ us. us ++ part.0) (two_of a.tokens d d two)) (is_label ts t);
       }
 
-  pub item_state : {b : Ahead} {p : Option ℕ} {tt : List Statement} {rep2 : Option ℕ} {look2 : Name → Option ℕ}
-      (row : declared_row.Row) (m : ℕ) (s : IsState text a o ss rep look waits) → a.text ≡ text
-      → m ≡ 1 + length row.operand.now
-      → ((ts : List Lexeme) → AreLexemes text ts → IsInstruction (drop s.n ts) (Ok row))
-      → m ≤ length a.tokens → ((k : ℕ) → IsReading k a → IsReading (k + m) b)
+  pub item_state : {p : Option ℕ} {tt : List Statement} {rep2 : Option ℕ} {look2 : Name → Option ℕ}
+      (row : declared_row.Row) (m : ℕ) → m ≡ 1 + length row.operand.now
+      → ((ts : List Lexeme) → AreLexemes text ts → IsInstruction (drop n ts) (Ok row)) → m ≤ length a.tokens
       → ((is : List Item) (words : List Lexeme) → IsDraft o ss rep look is words → IsDraft p tt rep2 look2
       (is ++ (record { labels = words; row = row_of row; body = map lexeme_of (take m a.tokens) } ∷ [])) [])
-      → IsState text b p tt rep2 look2 false
-  item_state row m s same size next within taken kept =
+      → IsState text (n + m) p tt rep2 look2 false
+  item_state row m size next within kept =
       let body = map lexeme_of (take m a.tokens) in
       let item : Item = record { labels = s.words; row = row_of row; body = body } in
       record {
-        n = s.n + m;
         is = s.is ++ (item ∷ []);
         words = [];
-        reading = taken s.n s.reading;
         none = λ e. refl;
         some = λ e. let k : false ≡ true = e in cc;
         draft = kept s.is s.words s.draft;
         front = λ ts t.
-            let part = taken_is a.text a.to s.n m a.tokens ts s.reading.read (rw (← same) at t) within in
+            let part = taken_is a.text a.to n m a.tokens ts r.read (rw (← same) at t) within in
             let count : suc (length row.operand.now) ≡ m = omega (arith, size) in
             let long : length body ≡ m =
             length-map (take m a.tokens) lexeme_of ∙ length-take-le m a.tokens within in
-            let first : take m (drop s.n ts) ≡ body = ap (λ us. take m us) part.1
+            let first : take m (drop n ts) ≡ body = ap (λ us. take m us) part.1
             ∙ (ap (λ k. take k (body ++ part.0)) (sym long) ∙ take-append_seam body part.0) in
-            front_item ts s.is s.words s.n m item (s.front ts t) refl
-            (subst (λ (us : List Lexeme). IsNextItem (drop s.n ts) m (record item { labels = []; body = us })) first
-            (subst (λ k. IsNextItem (drop s.n ts) k (record item { labels = []; body = take k (drop s.n ts) })) count
+            front_item ts s.is s.words n m item (s.front ts t) refl
+            (subst (λ (us : List Lexeme). IsNextItem (drop n ts) m (record item { labels = []; body = us })) first
+            (subst (λ k. IsNextItem (drop n ts) k (record item { labels = []; body = take k (drop n ts) })) count
             (next ts t)));
       }
 
   -- where the tokens do not go on
-  pub state_stuck : (k : ℕ) (ts : List Lexeme) (s : IsState text a o ss rep look waits) → a.text ≡ text
-      → AreLexemes text ts → 0 < length s.words + length a.tokens → Stuck k (drop s.n ts) → IsStuckAt ts (s.n + k)
-  state_stuck k ts s same t some stuck =
+  pub state_stuck : (k : ℕ) (ts : List Lexeme) → AreLexemes text ts → 0 < length s.words + length a.tokens
+      → Stuck k (drop n ts) → IsStuckAt ts (n + k)
+  state_stuck k ts t some stuck =
       let f = s.front ts t in
-      let all = ahead_is a.text a.to s.n (map lexeme_of a.tokens) ts s.reading.read (rw (← same) at t) in
+      let all = ahead_is a.text a.to n (map lexeme_of a.tokens) ts r.read (rw (← same) at t) in
       let sizes = length-append (map lexeme_of a.tokens) all.0 in
       let labels : length s.words ≤ length f.ls = rw (← f.words) (words_size f.ls) in
       let inside : f.from < length ts = omega (
@@ -233,35 +207,21 @@ module _ {text : List ℕ} {a : Ahead} {o : Option ℕ} {ss : List Statement} {r
         f.size,
         all.3,
         length-map a.tokens lexeme_of,
-        length-drop s.n ts,
+        length-drop n ts,
         ap length all.1,
         sizes,
       ) in
-      let e : f.from + (length f.ls + k) ≡ s.n + k = omega (arith, f.size) in
+      let e : f.from + (length f.ls + k) ≡ n + k = omega (arith, f.size) in
       subst (λ j. IsStuckAt ts j) e
       (stuck_at ts s.is f.from (length f.ls + k) inside f.greedy (subst (λ us. Stuck (length f.ls + k) us) (sym f.rest)
-      (labels_stuck f.ls (drop s.n ts) k f.labels stuck)))
-
-  pub state_step : {b : Ahead} → IsState text a o ss rep look waits → ((n : ℕ) → IsReading n a → IsReading n b)
-      → IsState text b o ss rep look waits
-  state_step s on = record {
-    n = s.n;
-    is = s.is;
-    words = s.words;
-    reading = on s.n s.reading;
-    none = s.none;
-    some = s.some;
-    draft = s.draft;
-    front = s.front;
-  }
+      (labels_stuck f.ls (drop n ts) k f.labels stuck)))
 
   -- the end of a text whose tokens are items
-  pub state_items : (ts : List Lexeme) (s : IsState text a o ss rep look waits) → waits ≡ false
-      → AreLexemes text ts → drop s.n ts ≡ []
-      → Items ts s.is × (length ts ≤ s.n) × IsDraft o ss rep look s.is []
-  state_items ts s quiet t e =
+  pub state_items : (ts : List Lexeme) → waits ≡ false → AreLexemes text ts → drop n ts ≡ []
+      → Items ts s.is × (length ts ≤ n) × IsDraft o ss rep look s.is []
+  state_items ts quiet t e =
       let f = s.front ts t in
-      let past : length ts ≤ s.n = omega (arith, length-drop s.n ts, ap length e) in
+      let past : length ts ≤ n = omega (arith, length-drop n ts, ap length e) in
       let none : length f.ls ≡ 0 = no_words f.ls f.labels (f.words ∙ s.none quiet) in (
         greedy_all ts s.is f.from (omega (arith, past, f.size, none)) f.greedy,
         past,
@@ -269,10 +229,8 @@ module _ {text : List ℕ} {a : Ahead} {o : Option ℕ} {ss : List Statement} {r
       )
 
   -- all lexemes of a text that was read to its end
-  pub state_lexemes : IsState text a o ss rep look waits → a.text ≡ text → a.ended ≡ true
-      → (ts : List Lexeme) × AreLexemes text ts
-  state_lexemes s same e =
-      let r = s.reading in
+  pub state_lexemes : a.ended ≡ true → (ts : List Lexeme) × AreLexemes text ts
+  state_lexemes e =
       let end : a.to ≡ length text = r.end e ∙ ap length same in (
         lexemes_of text r.read.tokens,
         record {
@@ -283,13 +241,11 @@ module _ {text : List ℕ} {a : Ahead} {o : Option ℕ} {ss : List Statement} {r
         },
       )
 
-pub state_init : (text : List ℕ) (a : Ahead) (ss : List Statement) (rep : Option ℕ) (look : Name → Option ℕ)
-    → IsReading 0 a → ss ≡ [] → AreSet [] rep look → IsState text a None ss rep look false
-state_init text a ss rep look r e h = record {
-  n = 0;
+pub state_init : (text : List ℕ) (ss : List Statement) (rep : Option ℕ) (look : Name → Option ℕ)
+    → ss ≡ [] → AreSet [] rep look → IsState text 0 None ss rep look false
+state_init text ss rep look e h = record {
   is = [];
   words = [];
-  reading = r;
   none = λ z. refl;
   some = λ z. let k : false ≡ true = z in cc;
   draft = subst (λ us. IsKept us rep look [] []) (sym e) (record { same = tt; set = h; most = omega arith });

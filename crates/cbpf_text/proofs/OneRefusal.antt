@@ -28,18 +28,17 @@ data Order {A : Type 0} (b c : List A) (u v : A) : Type 0 where
   before : (w : List A) → c ≡ b ++ (u ∷ w) → Order b c u v
   after : (w : List A) → b ≡ c ++ (v ∷ w) → Order b c u v
 
-order_more : {A : Type 0} (x y : A) (b c : List A) (u v : A) → x ≡ y → Order b c u v → Order (x ∷ b) (y ∷ c) u v
-order_more x y b c u v e (same p) = same p
-order_more x y b c u v e (before w p) = before w (λ j. sym e j ∷ p j)
-order_more x y b c u v e (after w p) = after w (λ j. e j ∷ p j)
-
 order : {A : Type 0} (b c : List A) (u v : A) (r s : List A) → b ++ (u ∷ r) ≡ c ++ (v ∷ s) → Order b c u v
 order [] [] u v r s e = same (cc)
 order [] (y ∷ c) u v r s e = let h : u ≡ y = cc in before c (ap (λ z. z ∷ c) (sym h))
 order (x ∷ b) [] u v r s e = let h : x ≡ v = cc in after b (ap (λ z. z ∷ b) h)
 order (x ∷ b) (y ∷ c) u v r s e =
     let h : x ≡ y = cc in
-    order_more x y b c u v h (order b c u v r s (let t : b ++ (u ∷ r) ≡ c ++ (v ∷ s) = cc in t))
+    elim (order b c u v r s (let t : b ++ (u ∷ r) ≡ c ++ (v ∷ s) = cc in t)) [
+      | same p ↦ same p
+      | before w p ↦ before w (λ j. sym h j ∷ p j)
+      | after w p ↦ after w (λ j. h j ∷ p j)
+    ]
 
 one_repeat : (ls : List Lexeme) (m n : ℕ) → IsFirstRepeat ls m → IsFirstRepeat ls n → m ≡ n
 one_repeat ls m n a b = by_order (order a.before b.before a.label b.label a.after b.after (sym a.split ∙ b.split))

@@ -1,7 +1,8 @@
 use Rattle.std.proofs.Common.{rules}
 use Rattle.std.proofs.lemmas.Result.{IfOk-weaker, IfErr-weaker}
-use Rattle.cbpf_text.specs.Refusals.IsItemsFault.{too_many}
-use Rattle.cbpf_text.proofs.Faults.{uses_reported}
+use Rattle.cbpf_text.specs.Refusals.{IsItemsFault, IsFirstBadUse, uses_from}
+use Rattle.cbpf_text.specs.Refusals.IsItemsFault.{too_many, bad_use}
+use Rattle.cbpf_text.proofs.Forms.{reported_more}
 use Rattle.cbpf_text.proofs.Kept.{none_if, kept_none, kept_length, kept_repeat, kept_once}
 use Rattle.cbpf_text.proofs.assembler.encode_draft.Goals as goal
 
@@ -30,5 +31,5 @@ returns-clause-refused g c is d f =
     let k = rw (none_if c.args.draft.now.excess c.in_default.not-Some) at d in
     let limits = kept_length k (λ z. search (rules, z)) in
     let once = kept_once k (none_if c.args.draft.now.labels.repeat c.in_default-repeat.not-Some) in
-    IfErr-weaker c.encode_all.result _ _ (λ r h. uses_reported is r limits once.0 h)
+    IfErr-weaker c.encode_all.result _ _ (λ r h. reported_more (IsFirstBadUse is (uses_from 0 is)) (IsItemsFault is) r (λ kind at b. bad_use kind at limits once.0 b) h)
     (c.encode_all.ensures.refused is (rw c.deref.ensures.value k.same) f once.1)

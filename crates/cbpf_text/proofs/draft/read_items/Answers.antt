@@ -10,12 +10,12 @@ use Rattle.cbpf_text.specs.Tables.{same_name}
 use Rattle.cbpf_text.specs.Drafts.{IsDraft}
 use Rattle.cbpf_syntax.specs.Items.{Item, Items}
 use Rattle.cbpf_syntax.specs.Lexemes.{Lexeme, AreLexemes}
-use Rattle.cbpf_syntax.specs.Reading.{Ahead, IsStepOf, IsFirstLarge, step_len}
+use Rattle.cbpf_syntax.specs.Reading.{Ahead, IsReading, IsStepOf, IsFirstLarge, step_len}
 use Rattle.cbpf_syntax.specs.Steps.{Stuck}
 use Rattle.cbpf_syntax.proofs.Steps.{end_stuck}
 use Rattle.cbpf_text.specs.declared.fault.AsmKind.TheVariants as kinds
 use Rattle.cbpf_text.specs.declared.placed_fault.PlacedFault.TheVariants as placed
-use Rattle.cbpf_text.proofs.Faults.{lex_refused, IsState, state_init, state_step, state_stuck}
+use Rattle.cbpf_text.proofs.Faults.{lex_refused, IsState, state_init, state_stuck}
 use Rattle.cbpf_text.proofs.Faults.{state_items, state_lexemes, label_state, item_state, whole_refused}
 use Rattle.cbpf_text.proofs.Faults.{all_accepted, items_large_refused}
 use Rattle.cbpf_text.proofs.draft.read_items.Given.{Over}
@@ -23,18 +23,19 @@ use Rattle.cbpf_text.proofs.draft.read_items.Goals.{In-Ok, After-large}
 use Rattle.cbpf_text.proofs.draft.read_items.Goals as goal
 
 pub loop-next-init : goal.loop-next-init
-loop-next-init g c = search (rules, state_init)
+loop-next-init g c =
+    record { text = search rules; size = search rules; state = (0, c.requires.reading, search (rules, state_init)) }
 
 pub returns-in-Err-clause-refused : goal.returns-in-Err-clause-refused
 returns-in-Err-clause-refused g c =
     let inv = c.loop-next.invariant in
     lex_refused c.args.text.now c.asm_fault.result (c.asm_fault.ensures c.args.text.now
-    (subst (λ u. IsLexFault u c.in-Err.fault) inv.text (c.in-Err.ensures.fault _ inv.state.reading)))
+    (subst (λ u. IsLexFault u c.in-Err.fault) inv.text (c.in-Err.ensures.fault inv.state.0 inv.state.1)))
 
 -- the state after a step, and what the step says of the tokens
 abbrev Stepped : List ℕ → Ahead → Option ℕ → List Statement → Option ℕ → (Name → Option ℕ) → Bool → Option Step → Type 0
-Stepped text a o ss rep look waits next = (s : IsState text a o ss rep look waits) × (a.text ≡ text)
-    × ((ts : List Lexeme) → AreLexemes text ts → IsStepOf (drop s.n ts) next)
+Stepped text a o ss rep look waits next = (n : ℕ) × IsReading n a × (a.text ≡ text)
+    × IsState text n o ss rep look waits × ((ts : List Lexeme) → AreLexemes text ts → IsStepOf (drop n ts) next)
 
 stepped : (g : Over) (c : In-Ok g) → Stepped c.args.text.now c.step.new.self c.loop-next.draft.excess
     c.loop-next.draft.statements.items c.loop-next.draft.labels.repeat
@@ -42,33 +43,42 @@ stepped : (g : Over) (c : In-Ok g) → Stepped c.args.text.now c.step.new.self c
 stepped g c =
     let inv = c.loop-next.invariant in
     let same : c.step.new.self.text ≡ c.args.text.now = c.in-Ok.ensures.text ∙ inv.text in
-    let s = state_step inv.state c.in-Ok.ensures.reading in
-    (s, same, λ ts t. c.in-Ok.ensures.step s.n ts s.reading (rw (← same) at t))
+    let r = c.in-Ok.ensures.reading inv.state.0 inv.state.1 in
+    (inv.state.0, r, same, inv.state.2, λ ts t. c.in-Ok.ensures.step inv.state.0 ts r (rw (← same) at t))
 
 pub loop-next-preserved-in-Some-Label : goal.loop-next-preserved-in-Some-Label
 loop-next-preserved-in-Some-Label g c =
     let s = stepped g (goal.at.loop-next-preserved-in-Some-Label g c).In-Ok in
     let st = c.in-Some-Label.is ∙ ap (λ q. Some q) (rw c.in-Some-Label.is at c.in-Some-Label.field-0-is) in
     record {
-      text = c.take.ensures.text ∙ s.1;
+      text = c.take.ensures.text ∙ s.2;
       size = c.add_label.ensures.size;
-      state = label_state _ s.0 s.1 (λ ts t. subst (λ q. IsStepOf (drop s.0.n ts) q) st (s.2 ts t))
-          (subst (λ q. step_len q ≤ length c.step.new.self.tokens) st c.in-Ok.ensures.within) c.take.ensures.reading
-          (rw c.ahead.ensures at c.in_ok-add_label-in-Some-Label.ensures.label);
+      state = (
+        s.0 + 2,
+        c.take.ensures.reading s.0 s.1,
+        label_state c.step.new.self s.1 s.2 s.3 _
+            (λ ts t. subst (λ q. IsStepOf (drop s.0 ts) q) st (s.4 ts t))
+            (subst (λ q. step_len q ≤ length c.step.new.self.tokens) st c.in-Ok.ensures.within)
+            (rw c.ahead.ensures at c.in_ok-add_label-in-Some-Label.ensures.label),
+      );
     }
 
 pub loop-next-preserved : goal.loop-next-preserved
 loop-next-preserved g c =
     let s = stepped g (goal.at.loop-next-preserved g c).In-Ok in
     let st = c.in-Some-Instruction.is ∙ ap (λ q. Some q) (rw c.in-Some-Instruction.is at c.in-Some-Instruction.field-0-is) in
+    let m = 1 + length c.in-Some-Instruction.row.operand.now in
     record {
-      text = c.take-in-Some-Instruction.ensures.text ∙ s.1;
+      text = c.take-in-Some-Instruction.ensures.text ∙ s.2;
       size = c.add_instruction.ensures.size;
-      state = item_state c.in-Some-Instruction.row (1 + length c.in-Some-Instruction.row.operand.now) s.0 s.1 refl
-          (λ ts t. subst (λ q. IsStepOf (drop s.0.n ts) q) st (s.2 ts t))
-          (subst (λ q. step_len q ≤ length c.step.new.self.tokens) st c.in-Ok.ensures.within)
-          c.take-in-Some-Instruction.ensures.reading
-          (rw c.ahead-in-Some-Instruction.ensures at c.in_ok-add_instruction-in-Some-Instruction.ensures.item);
+      state = (
+        s.0 + m,
+        c.take-in-Some-Instruction.ensures.reading s.0 s.1,
+        item_state c.step.new.self s.1 s.2 s.3 c.in-Some-Instruction.row m refl
+            (λ ts t. subst (λ q. IsStepOf (drop s.0 ts) q) st (s.4 ts t))
+            (subst (λ q. step_len q ≤ length c.step.new.self.tokens) st c.in-Ok.ensures.within)
+            (rw c.ahead-in-Some-Instruction.ensures at c.in_ok-add_instruction-in-Some-Instruction.ensures.item),
+      );
     }
 
 pub returns-in-Some-Stuck-clause-refused : goal.returns-in-Some-Stuck-clause-refused
@@ -77,16 +87,17 @@ returns-in-Some-Stuck-clause-refused g c =
     let st = c.in-Some-Stuck.is ∙ ap (λ q. Some q) (rw c.in-Some-Stuck.is at c.in-Some-Stuck.field-0-is) in
     let some : 0 < length c.step.new.self.tokens =
     subst (λ q. IfSome q (λ _. 0 < length c.step.new.self.tokens)) st c.in-Ok.ensures.some in
-    c.fault_here.ensures s.0.n s.0.reading (omega (arith, some)) (λ ts t. state_stuck c.in-Some-Stuck.n ts s.0 s.1 t
-    (omega (arith, some)) (subst (λ q. IsStepOf (drop s.0.n ts) q) st (s.2 ts t)))
+    c.fault_here.ensures s.0 s.1 (omega (arith, some)) (λ ts t. state_stuck c.step.new.self s.1 s.2 s.3
+    c.in-Some-Stuck.n ts t (omega (arith, some)) (subst (λ q. IsStepOf (drop s.0 ts) q) st (s.4 ts t)))
 
 pub returns-in-None-clause-refused : goal.returns-in-None-clause-refused
 returns-in-None-clause-refused g c =
     let s = stepped g (goal.at.returns-in-None-clause-refused g c).In-Ok in
-    let some = s.0.some c.if-waits.true in
-    c.fault_here-in-None.ensures s.0.n s.0.reading (omega (arith, some.1)) (λ ts t.
-    let none : drop s.0.n ts ≡ [] = subst (λ q. IsStepOf (drop s.0.n ts) q) c.in-None.is (s.2 ts t) in
-    state_stuck 0 ts s.0 s.1 t (omega (arith, some.0)) (subst (λ us. Stuck 0 us) (sym none) end_stuck))
+    let some = s.3.some c.if-waits.true in
+    c.fault_here-in-None.ensures s.0 s.1 (omega (arith, some.1)) (λ ts t.
+    let none : drop s.0 ts ≡ [] = subst (λ q. IsStepOf (drop s.0 ts) q) c.in-None.is (s.4 ts t) in
+    state_stuck c.step.new.self s.1 s.2 s.3 0 ts t (omega (arith, some.0))
+    (subst (λ us. Stuck 0 us) (sym none) end_stuck))
 
 -- the items of a text that was read to its end
 ended : (g : Over) (c : After-large g) → Stepped c.args.text.now c.step.new.self c.loop-next.draft.excess
@@ -99,19 +110,18 @@ ended : (g : Over) (c : After-large g) → Stepped c.args.text.now c.step.new.se
 ended g c s =
     let size : length c.step.new.self.tokens ≡ 0 =
     subst (λ q. IfNone q (length c.step.new.self.tokens ≡ 0)) c.in-None-2.is c.in-Ok.ensures.none in
-    let all = state_lexemes s.0 s.1 (c.in-Ok.ensures.end (ap step_len c.in-None-2.is ∙ sym size)) in
-    let n = s.0.n in
-    let none : drop n all.0 ≡ [] = subst (λ q. IsStepOf (drop n all.0) q) c.in-None-2.is (s.2 all.0 all.1) in
-    let end = state_items all.0 s.0 c.if-waits.false all.1 none in (
+    let all = state_lexemes c.step.new.self s.1 s.2 s.3 (c.in-Ok.ensures.end (ap step_len c.in-None-2.is ∙ sym size)) in
+    let none : drop s.0 all.0 ≡ [] = subst (λ q. IsStepOf (drop s.0 all.0) q) c.in-None-2.is (s.4 all.0 all.1) in
+    let end = state_items c.step.new.self s.1 s.2 s.3 all.0 c.if-waits.false all.1 none in (
       all.0,
-      s.0.is,
-      n,
+      s.3.is,
+      s.0,
       all.1,
       end.0,
       end.1,
       end.2,
-      subst (λ o. IsFirstLarge all.0 n o) (sym c.large.ensures)
-          (s.0.reading.large all.0 (subst (λ u. AreLexemes u all.0) (sym s.1) all.1)),
+      subst (λ o. IsFirstLarge all.0 s.0 o) (sym c.large.ensures)
+          (s.1.large all.0 (subst (λ u. AreLexemes u all.0) (sym s.2) all.1)),
     )
 
 pub returns-in-Some-clause-refused : goal.returns-in-Some-clause-refused

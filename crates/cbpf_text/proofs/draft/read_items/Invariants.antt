@@ -1,6 +1,6 @@
-use Rattle.std.proofs.Common.{◌≡◌, ◌≤◌, length}
+use Rattle.std.proofs.Common.{◌≡◌, ◌≤◌, ℕ, length}
 use Rattle.indexmap.specs.IndexMap.{get}
-use Rattle.cbpf_syntax.specs.Reading.{left}
+use Rattle.cbpf_syntax.specs.Reading.{IsReading, left}
 use Rattle.cbpf_text.specs.Tables.{same_name}
 use Rattle.cbpf_text.proofs.Faults.{IsState}
 use Rattle.cbpf_text.proofs.draft.read_items.Given as goal
@@ -9,7 +9,7 @@ abbrev pub invariant-loop-next : goal.invariant-loop-next
 invariant-loop-next g l = record {
   text : l.reader.text ≡ l.text;
   size : length l.draft.statements.items ≤ 4096;
-  state : IsState l.text l.reader l.draft.excess l.draft.statements.items l.draft.labels.repeat
+  state : (n : ℕ) × IsReading n l.reader × IsState l.text n l.draft.excess l.draft.statements.items l.draft.labels.repeat
       (λ k. get same_name l.draft.labels.table k) l.waits;
 }
 
