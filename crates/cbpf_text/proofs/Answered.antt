@@ -65,44 +65,34 @@ labels_once before (t ∷ after) d = elim (cases_lt 0 (times_among before (name_
       (labels_once (before ++ (t ∷ [])) after (distinct_more before t d (omega (arith, l))))
 ]
 
--- a use with a place that it may go to
+-- a use with an offset that it may have
+abbrev HasOffset : List Item → ℕ → Bool → Option Lexeme → Type 0
+HasOffset is index short o = (n : ℕ) × IsOffset is index o n × (short ≡ true → n ≤ FARTHEST)
+
 abbrev HasPlace : List Item → Use → Type 0
-HasPlace is u = (place : ℕ) × IsPlace is (name_of u.target) place × (u.index < place)
-    × (u.short ≡ true → place ≤ u.index + 1 + FARTHEST)
+HasPlace is u = HasOffset is u.index u.short (Some u.target)
 
 each_use : (is : List Item) (u : Use) → AreDistinct (set_labels is)
     → ((kind : AsmKind) × IsUseFault is u kind) ⊎ HasPlace is u
 each_use is u d =
     by_lookup (place_among (labels_from 0 is) (name_of u.target)) (lookup_found is (name_of u.target) _ d refl)
   where
-    by_short : (b : Bool) → u.short ≡ b → (p : ℕ) → IsPlace is (name_of u.target) p → u.index < p
+    by_short : (b : Bool) → u.short ≡ b → (n : ℕ) → IsPlace is (name_of u.target) (u.index + 1 + n)
         → ((kind : AsmKind) × IsUseFault is u kind) ⊎ HasPlace is u
-    by_short true e p at l = elim (cases_lt (u.index + 1 + FARTHEST) p) [
-      | inl far ↦ inl (kinds.TooFar, too_far p at.sets e far)
-      | inr near ↦ inr (p, at, l, λ _. near)
+    by_short true e n at = elim (cases_lt FARTHEST n) [
+      | inl far ↦ inl (kinds.TooFar, too_far (u.index + 1 + n) at.sets e (omega (arith, far)))
+      | inr near ↦ inr (n, at, λ _. near)
     ]
-    by_short false e p at l = inr (p, at, l, λ z. let k : false ≡ true = sym e ∙ z in cc)
+    by_short false e n at = inr (n, at, λ z. let k : false ≡ true = sym e ∙ z in cc)
 
     by_lookup : (o : Option ℕ) → IsLookup is (name_of u.target) o
         → ((kind : AsmKind) × IsUseFault is u kind) ⊎ HasPlace is u
     by_lookup None e = inl (kinds.LabelNotSet, not_set e)
     by_lookup (Some p) at = elim (cases_lt u.index p) [
-      | inl l ↦ by_short u.short refl p at l
+      | inl l ↦ let e : p ≡ u.index + 1 + (p - u.index - 1) = omega (arith, l) in
+          by_short u.short refl (p - u.index - 1) (subst (IsPlace is (name_of u.target)) e at)
       | inr l ↦ inl (kinds.NotAfter, not_after p at.sets l)
     ]
-
--- the offset of a target
-abbrev HasOffset : List Item → ℕ → Bool → Option Lexeme → Type 0
-HasOffset is index short o = (n : ℕ) × IsOffset is index o n × (short ≡ true → n ≤ FARTHEST)
-
-place_offset : (is : List Item) (index : ℕ) (short : Bool) (t : Lexeme) → HasPlace is (use_of index short t)
-    → HasOffset is index short (Some t)
-place_offset is index short t p = let e : p.0 ≡ index + 1 + (p.0 - index - 1) = omega (arith, p.2) in
-    (p.0 - index - 1, subst (IsPlace is (name_of t)) e p.1, λ z. omega (arith, p.2, p.3 z))
-
-place_good : (is : List Item) (u : Use) → HasPlace is u → IsGoodUse is u
-place_good is u p = let o = place_offset is u.index u.short u.target p in
-    good_use is u.index u.target o.0 u.short o.1 o.2
 
 abbrev AllPlaced : List Item → List Use → Type 0
 AllPlaced is [] = Unit {0}
@@ -120,7 +110,8 @@ each_placed is (u ∷ us) d = elim (each_use is u d) [
       b.0,
       b.1,
       bad_after is (u ∷ []) us b.0 b.1
-          (All-cons (IsGoodUse is) u [] (place_good is u p) (All-nil (IsGoodUse is))) b.2,
+          (All-cons (IsGoodUse is) u [] (good_use is u.index u.target p.0 u.short p.1 p.2)
+          (All-nil (IsGoodUse is))) b.2,
     )
     | inr q ↦ inr (p, q)
   ]
@@ -134,7 +125,7 @@ placed_parts is (u ∷ us) vs p = let q = placed_parts is us vs p.1 in ((p.0, q.
 offset_at : (is : List Item) (index : ℕ) (short : Bool) (ts : List Lexeme) (i : ℕ)
     → AllPlaced is (map (use_of index short) ts) → HasOffset is index short (slice_get ts i)
 offset_at is index short [] i p = (0, refl, λ _. omega arith)
-offset_at is index short (t ∷ ts) zero p = place_offset is index short t p.0
+offset_at is index short (t ∷ ts) zero p = p.0
 offset_at is index short (t ∷ ts) (suc i) p = offset_at is index short ts i p.1
 
 filled : (is : List Item) (index : ℕ) (f : Fields) (code k : ℕ) (ts : List Lexeme)
@@ -184,7 +175,8 @@ many_items : (is : List Item) → All HasForm is → 4096 < length is → ItemsA
 many_items is f l =
     let item = get_some is 4096 l in
     let form : HasForm item.0 = form_at is 4096 item.0 f item.1 in
-    let mnemonic = get_some item.0.body 0 (body_some (the_word item.0.row.mnemonic) item.0.row.operand item.0.body form.fits) in
+    let some = body_some (the_word item.0.row.mnemonic) item.0.row.operand item.0.body form.fits in
+    let mnemonic = get_some item.0.body 0 some in
     inr (
       kinds.TooMany,
       mnemonic.0.at,

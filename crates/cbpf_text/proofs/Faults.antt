@@ -1,7 +1,7 @@
 -- From the refusal of a part to the refusal of the whole.
-use Rattle.std.proofs.Common.{rules, ◌≡◌, refl, sym, subst, ℕ, List, ◌∙◌, ap, suc, ◌+◌, ◌<◌, ◌≤◌, Bool, true}
-use Rattle.std.proofs.Common.{false, [], ◌∷◌, ◌++◌, length, map, take, drop, get_or, Option, Some, None, arith}
-use Rattle.std.proofs.Common.{append_assoc, append-nil, length-append, length-drop}
+use Rattle.std.proofs.Common.{rules, ◌≡◌, refl, sym, subst, ℕ, List, ◌∙◌, ap, suc, ◌+◌, ◌<◌, ◌≤◌, Bool, true, false, []}
+use Rattle.std.proofs.Common.{◌∷◌, ◌++◌, length, map, take, drop, get_or, Option, Some, None, arith, append_assoc}
+use Rattle.std.proofs.Common.{append-nil, length-append, length-drop}
 use Rattle.cbpf_syntax.specs.Tokens.{LexesTo}
 use Rattle.cbpf_syntax.specs.Refusals.{ParseFault, IsAccepted, IsStuckAt}
 use Rattle.cbpf_syntax.specs.Lexemes.{Lexeme, lexemes_of, AreLexemes}
@@ -10,8 +10,7 @@ use Rattle.cbpf_code.specs.declared.insn.Insn.{Insn}
 use Rattle.cbpf_text.specs.declared.fault.AsmFault.{AsmFault}
 use Rattle.cbpf_text.specs.declared.placed_fault.PlacedFault.{PlacedFault}
 use Rattle.cbpf_text.specs.Assembled.{AreEncoded, AssembleTokens}
-use Rattle.cbpf_text.specs.Refusals.{Reported, IsTokensFault, IsRefused}
-use Rattle.cbpf_text.specs.Refusals.{IsLexRefused, IsReportedAt}
+use Rattle.cbpf_text.specs.Refusals.{Reported, IsTokensFault, IsRefused, IsLexRefused, IsReportedAt}
 use Rattle.cbpf_text.specs.Refusals.IsTokensFault.{of_grammar}
 use Rattle.cbpf_text.specs.Refusals.IsTextFault.{of_piece, of_tokens}
 use Rattle.cbpf_text.specs.declared.fault.AsmFault.TheVariants as faults
@@ -107,7 +106,8 @@ front_label ts is ws n x y more f e starts =
     }
 
 front_item : (ts : List Lexeme) (is : List Item) (ws : List Lexeme) (n m : ℕ) (item : Item) → Front ts is ws n
-    → item.labels ≡ ws → IsNextItem (drop n ts) m (record item { labels = [] }) → Front ts (is ++ (item ∷ [])) [] (n + m)
+    → item.labels ≡ ws → IsNextItem (drop n ts) m (record item { labels = [] })
+    → Front ts (is ++ (item ∷ [])) [] (n + m)
 front_item ts is ws n m item f e next =
     let none : n + m + 0 ≡ n + m = omega arith in
     let labels : label_words f.ls ++ [] ≡ item.labels = append-nil (label_words f.ls) ∙ (f.words ∙ sym e) in

@@ -1,9 +1,8 @@
 -- Items by their forms: how many targets each has, and its mnemonic.
-use Rattle.std.proofs.Common.{◌++◌, append_assoc, ap}
+use Rattle.std.proofs.Common.{◌++◌, append_assoc, ap, ◌≡◌, refl, ◌∙◌, ℕ, zero, suc, ◌+◌, Bool, true, false, List, []}
+use Rattle.std.proofs.Common.{◌∷◌, length, drop, arith, rules, sym, subst, ◌≤◌, map, Option, Some, None}
 use Rattle.cbpf_text.specs.declared.encode.TheConstants.{FARTHEST}
 use Rattle.std.proofs.lemmas.List.Elements.{All-append, All-nil, All-cons}
-use Rattle.std.proofs.Common.{◌≡◌, refl, ◌∙◌, ap, ℕ, zero, suc, ◌+◌, Bool, true, false, List, [], ◌∷◌, ◌++◌, length}
-use Rattle.std.proofs.Common.{drop, arith, rules, sym, subst, ◌≤◌, map, Option, Some, None}
 use Rattle.std.specs.Prelude.{All, Contains, ◌==◌, ◌||◌, slice_get}
 use Rattle.std.specs.List.{list_all}
 use Rattle.std.proofs.lemmas.Bool.{and_parts}
@@ -20,7 +19,8 @@ use Rattle.cbpf_text.specs.Operands.{HasForm, targets_in}
 use Rattle.cbpf_text.specs.declared.fault.AsmKind.{AsmKind}
 use Rattle.cbpf_text.specs.Labels.{name_of, IsPlace}
 use Rattle.cbpf_text.specs.Assembled.{IsShortOffset, IsOffset, IsEncoded}
-use Rattle.cbpf_text.specs.Refusals.{Use, IsUseFault, IsGoodUse, IsFirstBadUse, IsTargetFault, Reported, uses_of, is_conditional}
+use Rattle.cbpf_text.specs.Refusals.{Use, IsUseFault, IsGoodUse, IsFirstBadUse, IsTargetFault, Reported, uses_of}
+use Rattle.cbpf_text.specs.Refusals.{is_conditional}
 use Rattle.cbpf_text.specs.declared.placed_fault.PlacedFault.{PlacedFault}
 use Rattle.cbpf_text.specs.Refusals.IsUseFault.{not_set, not_after, too_far}
 use Rattle.cbpf_text.proofs.LabelLists.{one_place}

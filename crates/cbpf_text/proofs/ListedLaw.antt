@@ -71,7 +71,8 @@ tokens_assemble list b sound = record {
 
 pub listing_assembles : ListingAssembles
 listing_assembles list sound range =
-    let b : Lists (length list) 0 list = lists list 0 list sound range (λ j x g. let z : 0 + j ≡ j = omega arith in rw z g) in
+    let b : Lists (length list) 0 list =
+    lists list 0 list sound range (λ j x g. let z : 0 + j ≡ j = omega arith in rw z g) in
     let of_segments : Assembles (text_of b.segments) (map plain list) = record {
       tokens = tokens_of 0 (pieces_of b.segments);
       lexed = lexes_spelled b.segments b.are b.apart;

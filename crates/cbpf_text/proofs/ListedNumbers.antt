@@ -18,7 +18,7 @@ use Rattle.cbpf_syntax.specs.Fits.{fits, extension_names}
 use Rattle.cbpf_syntax.specs.Table.{mnemonics}
 use Rattle.cbpf_syntax.specs.Items.{Item}
 use Rattle.cbpf_text.specs.Labels.{IsPlace}
-use Rattle.cbpf_text.proofs.ListedRows.{first, rest}
+use Rattle.cbpf_text.proofs.ListedRows.{first_byte, later_bytes}
 use Rattle.cbpf_syntax.specs.Classes as forms
 use Rattle.cbpf_syntax.specs.Lexemes as grammar
 
@@ -111,17 +111,17 @@ abbrev pub Places : ℕ → List Item → Type 0
 Places n all = (m : ℕ) → m < n → IsPlace all (label_name m) m
 
 abbrev pub decimal_segment : ℕ → Segment
-decimal_segment k = number (first (decimal k)) (rest (decimal k)) k
+decimal_segment k = number (first_byte (decimal k)) (later_bytes (decimal k)) k
 
-spelled : (w : List ℕ) → 0 < length w → first w ∷ rest w ≡ w
+spelled : (w : List ℕ) → 0 < length w → first_byte w ∷ later_bytes w ≡ w
 spelled [] l = absurd (omega arith)
 spelled (b ∷ bs) l = refl
 
-pub spelled_decimal : (k : ℕ) → k < 2 ^ 64 → first (decimal k) ∷ rest (decimal k) ≡ decimal k
+pub spelled_decimal : (k : ℕ) → k < 2 ^ 64 → first_byte (decimal k) ∷ later_bytes (decimal k) ≡ decimal k
 spelled_decimal k l = spelled (decimal k) (are_decimal k l).some
 
 number_segment : (w : List ℕ) (n : ℕ) → AreDigits 10 n w → number_value w ≡ Some n → n < 2 ^ 32
-    → IsSegment (number (first w) (rest w) n)
+    → IsSegment (number (first_byte w) (later_bytes w) n)
 number_segment [] n a v l = absurd (omega (arith, a.some))
 number_segment (b ∷ bs) n a v l =
     let small : b < 123 = digit_small b (omega (arith, a.all.0)) in

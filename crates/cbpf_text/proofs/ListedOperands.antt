@@ -20,7 +20,8 @@ use Rattle.cbpf_code.specs.declared.syntax.Operand.TheVariants as operands
 use Rattle.cbpf_code.specs.Listing.{immediate, operand_text, place_or_name}
 use Rattle.cbpf_text.specs.Assembled.{FillsFields}
 use Rattle.cbpf_text.specs.Operands.{literal_of, place_named}
-use Rattle.cbpf_text.proofs.ListedRows.{operand_classes, operand_fields, first, rest, IsWord, word_of_test, plain_as}
+use Rattle.cbpf_text.proofs.ListedRows.{operand_classes, operand_fields, first_byte, later_bytes, IsWord, word_of_test}
+use Rattle.cbpf_text.proofs.ListedRows.{plain_as}
 use Rattle.cbpf_text.proofs.ListedTokens.{lexemes_at, newline, are_positive}
 use Rattle.cbpf_text.proofs.ListedNumbers.{Places, decimal_segment, spelled_decimal, is_decimal_segment, hex_segment}
 use Rattle.cbpf_text.proofs.ListedNumbers.{is_hex_segment, given_is, label_fits, label_segment, is_label_segment}
@@ -39,7 +40,8 @@ operand_segments operands.X e i insn = blank 32 ∷ word 120 [] ∷ []
 operand_segments operands.A e i insn = blank 32 ∷ word 97 [] ∷ []
 operand_segments operands.Length e i insn = blank 32 ∷ word 108 (101 ∷ 110 ∷ []) ∷ []
 operand_segments operands.Immediate e i insn = immediate_segments insn.k
-operand_segments operands.Absolute (Some e) i insn = blank 32 ∷ word (first (ext_name e)) (rest (ext_name e)) ∷ []
+operand_segments operands.Absolute (Some e) i insn =
+    blank 32 ∷ word (first_byte (ext_name e)) (later_bytes (ext_name e)) ∷ []
 operand_segments operands.Absolute None i insn = blank 32 ∷ mark 91 ∷ decimal_segment insn.k ∷ mark 93 ∷ []
 operand_segments operands.Indexed e i insn =
     blank 32 ∷ mark 91 ∷ word 120 [] ∷ blank 32 ∷ mark 43 ∷ blank 32 ∷ decimal_segment insn.k ∷ mark 93 ∷ []
@@ -62,12 +64,13 @@ ext_word : (e : Ext) → IsWord (ext_name e)
 ext_word Proto = word_of_test (ext_name Proto) refl
 ext_word e = word_of_test (ext_name e) refl
 
-ext_listed : (e : Ext) → is_one_of extension_names (first (ext_name e) ∷ rest (ext_name e)) ≡ true
+ext_listed : (e : Ext) → is_one_of extension_names (first_byte (ext_name e) ∷ later_bytes (ext_name e)) ≡ true
 unfolding extension_names
 ext_listed Proto = refl
 ext_listed e = refl
 
-ext_value : (e : Ext) → place_named ext_table (first (ext_name e) ∷ rest (ext_name e)) ≡ Some (4294963200 + ext_offset e)
+ext_value : (e : Ext)
+    → place_named ext_table (first_byte (ext_name e) ∷ later_bytes (ext_name e)) ≡ Some (4294963200 + ext_offset e)
 ext_value Proto = refl
 ext_value e = refl
 
@@ -75,7 +78,8 @@ ext_value e = refl
 abbrev pub are_apart : List Segment → Bool
 are_apart ss = ends_name (ss ++ newline) && (stay_apart false (ss ++ newline) && are_positive ss)
 
-pub operand_apart : (o : Operand) (e : Option Ext) (i : ℕ) (insn : Insn) → are_apart (operand_segments o e i insn) ≡ true
+pub operand_apart : (o : Operand) (e : Option Ext) (i : ℕ) (insn : Insn)
+    → are_apart (operand_segments o e i insn) ≡ true
 operand_apart operands.Absolute (Some x) i insn = refl
 operand_apart o e i insn = refl
 
@@ -87,7 +91,7 @@ immediate_text false k ss = refl
 
 -- the text of a decimal number, between others
 decimal_text : (before after : List ℕ) (k : ℕ) → k < 2 ^ 32
-    → before ++ ((first (decimal k) ∷ rest (decimal k)) ++ after) ≡ before ++ (decimal k ++ after)
+    → before ++ ((first_byte (decimal k) ∷ later_bytes (decimal k)) ++ after) ≡ before ++ (decimal k ++ after)
 decimal_text before after k l = ap (λ (w : List ℕ). before ++ (w ++ after)) (spelled_decimal k (omega arith))
 
 pub operand_spelled : (o : Operand) (e : Option Ext) (i : ℕ) (insn : Insn) → ext_at insn.k ≡ e → insn.k < 2 ^ 32

@@ -27,8 +27,8 @@ use Rattle.cbpf_text.specs.Assembled.{EncodeEach, IsEncoded, FillsFields}
 use Rattle.cbpf_text.specs.Operands.{literal_of}
 use Rattle.cbpf_code.specs.WordForm.{InRange}
 use Rattle.cbpf_code.specs.Extension.{ext_at}
-use Rattle.cbpf_text.proofs.ListedRows.{IsWord, HasRow, first, rest, mnemonic_word, plain_as, plain_is, operation_row}
-use Rattle.cbpf_text.proofs.ListedRows.{operand_classes, operand_fields}
+use Rattle.cbpf_text.proofs.ListedRows.{IsWord, HasRow, first_byte, later_bytes, mnemonic_word, plain_as, plain_is}
+use Rattle.cbpf_text.proofs.ListedRows.{operation_row, operand_classes, operand_fields}
 use Rattle.cbpf_text.proofs.ListedTokens.{lexemes_at, lexemes_append, text_append, are_append, ends_before}
 use Rattle.cbpf_text.proofs.ListedTokens.{apart_before, are_positive, positive_append}
 use Rattle.cbpf_text.proofs.ListedOperands.{operand_segments, TargetsInside, operand_apart, operand_spelled}
@@ -69,7 +69,8 @@ times_set_here i m [] l h = (λ b. refl, λ a b. absurd (omega arith))
 times_set_here i m (item ∷ items) l h =
     let more = times_set_here (i + 1) m items (omega arith) h.1 in
     let sum = times_append item.labels (set_labels items) (label_name m) in (
-      λ b. omega (arith, sum, times_elsewhere i m item (omega arith) (omega arith) h.0 (λ e. omega (arith, e, b)), more.0),
+      λ b.
+          omega (arith, sum, times_elsewhere i m item (omega arith) (omega arith) h.0 (λ e. omega (arith, e, b)), more.0),
       λ a b. elim (cases_lt i m) [
         | inl g ↦ omega (
           arith,
@@ -157,13 +158,14 @@ joins d w operand after = search (rules, append_assoc, append-nil)
 -- the segments of a line, before those after it
 abbrev line_segments : ℕ → List ℕ → List Segment → List Segment → List Segment
 line_segments i w operand after =
-    label_segment i ∷ mark 58 ∷ blank 9 ∷ word (first w) (rest w) ∷ (operand ++ (blank 10 ∷ after))
+    label_segment i ∷ mark 58 ∷ blank 9 ∷ word (first_byte w) (later_bytes w) ∷ (operand ++ (blank 10 ∷ after))
 
 line_text : (i : ℕ) (insn : Insn) (op : Op) (operand after : List Segment) (lines : List ℕ)
-    → op_of insn.code ≡ Some op → first (mnemonic_of op) ∷ rest (mnemonic_of op) ≡ mnemonic_of op
+    → op_of insn.code ≡ Some op → first_byte (mnemonic_of op) ∷ later_bytes (mnemonic_of op) ≡ mnemonic_of op
     → text_of operand ≡ operand_text (operand_of op) i insn → text_of after ≡ lines
     → text_of (line_segments i (mnemonic_of op) operand after) ≡ numbered_line (i, insn) ++ lines
-line_text i insn op operand after lines h1 h2 h3 h4 = search (rules, first, rest, text_append, blank, text_of, joins)
+line_text i insn op operand after lines h1 h2 h3 h4 =
+    search (rules, first_byte, later_bytes, text_append, blank, text_of, joins)
 
 line_are : (i : ℕ) (w : List ℕ) (operand after : List Segment) → i < 2 ^ 64 → IsWord w → AreSegments operand
     → AreSegments after → AreSegments (line_segments i w operand after)
@@ -171,7 +173,7 @@ line_are i w operand after h1 h2 h3 h4 = search (rules, is_label_segment, are_ap
 
 -- where the operand's tokens begin
 abbrev operand_at : ℕ → ℕ → List ℕ → ℕ
-operand_at at i w = at + (1 + length (decimal i)) + 1 + 1 + (1 + length (rest w))
+operand_at at i w = at + (1 + length (decimal i)) + 1 + 1 + (1 + length (later_bytes w))
 
 abbrev after_at : ℕ → ℕ → List ℕ → List Segment → ℕ
 after_at at i w operand = operand_at at i w + length (text_of operand) + 1
@@ -184,7 +186,7 @@ colon_token at i = record { symbol = grammar.Symbol.mark 58; at = at + (1 + leng
 
 abbrev body_tokens : ℕ → ℕ → List ℕ → List Segment → List Lexeme
 body_tokens at i w operand =
-    record { symbol = grammar.Symbol.word (first w ∷ rest w); at = at + (1 + length (decimal i)) + 1 + 1 }
+    record { symbol = grammar.Symbol.word (first_byte w ∷ later_bytes w); at = at + (1 + length (decimal i)) + 1 + 1 }
     ∷ lexemes_at (operand_at at i w) operand
 
 abbrev line_tokens : ℕ → ℕ → List ℕ → List Segment → List Lexeme
@@ -196,7 +198,7 @@ line_item at i w operand row = record { labels = label_token at i ∷ []; row = 
 line_lexemes : (at i : ℕ) (w : List ℕ) (operand after : List Segment)
     → lexemes_at at (line_segments i w operand after)
     ≡ line_tokens at i w operand ++ lexemes_at (after_at at i w operand) after
-line_lexemes at i w operand after = search (rules, first, rest, lexemes_append, blank)
+line_lexemes at i w operand after = search (rules, first_byte, later_bytes, lexemes_append, blank)
 
 line_form : (at i : ℕ) (op : Op) (named : Bool) (operand : List Segment) → i < 2 ^ 64
     → fits_all (operand_classes named (operand_of op)) (lexemes_at (operand_at at i (mnemonic_of op)) operand) ≡ true

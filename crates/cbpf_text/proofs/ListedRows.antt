@@ -73,7 +73,8 @@ is_row_for op cs f row = code_of row.op == code_of op
     && (bytes_eq row.mnemonic (mnemonic_of op) && (same_classes row.operand cs && same_fields row.fields f))
 
 abbrev has_row : Bool → Op → Bool
-has_row named op = list_any (is_row_for op (operand_classes named (operand_of op)) (operand_fields (operand_of op))) table
+has_row named op =
+    list_any (is_row_for op (operand_classes named (operand_of op)) (operand_fields (operand_of op))) table
 
 -- every operation has its row
 operations_have_rows : (named : Bool) → list_all (λ (e : ℕ × Op). has_row named e.1) op_table ≡ true
@@ -130,16 +131,16 @@ operation_row named op = found_row op (operand_classes named (operand_of op)) (o
     (holds_for_all (has_row named) (operations_have_rows named) op)
 
 -- a mnemonic is a word
-abbrev pub first : List ℕ → ℕ
-first [] = 0
-first (b ∷ bs) = b
+abbrev pub first_byte : List ℕ → ℕ
+first_byte [] = 0
+first_byte (b ∷ bs) = b
 
-abbrev pub rest : List ℕ → List ℕ
-rest [] = []
-rest (b ∷ bs) = bs
+abbrev pub later_bytes : List ℕ → List ℕ
+later_bytes [] = []
+later_bytes (b ∷ bs) = bs
 
 abbrev pub IsWord : List ℕ → Type 0
-IsWord w = (first w ∷ rest w ≡ w) × IsSegment (word (first w) (rest w))
+IsWord w = (first_byte w ∷ later_bytes w ≡ w) × IsSegment (word (first_byte w) (later_bytes w))
 
 abbrev pub is_word : List ℕ → Bool
 is_word [] = false

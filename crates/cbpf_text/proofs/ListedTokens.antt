@@ -1,4 +1,5 @@
 -- The tokens of a text that is spelled by segments.
+use Rattle.std.proofs.lemmas.List.Folds.{list_all-append}
 use Rattle.std.proofs.lemmas.Grind.{common_steps}
 use Rattle.std.proofs.Common.{rules, ◌≡◌, ℕ, zero, suc, ◌+◌, Bool, true, false, not, ◌&&◌, List, [], ◌∷◌, ◌++◌, length}
 use Rattle.std.proofs.Common.{refl, sym, subst, ◌∙◌, arith, append_assoc, length-append, Option, Some, None}
@@ -105,17 +106,13 @@ ends_before ss us e = name_before ss us ∙ e
 pub apart_before : (fresh : Bool) (ss us : List Segment) → stay_apart fresh (ss ++ newline) ≡ true
     → ends_blank us ≡ true → stay_apart true us ≡ true → stay_apart fresh (ss ++ (blank 10 ∷ us)) ≡ true
 apart_before fresh [] us h b k = rw (b, k) refl
-apart_before fresh (blank c ∷ ss) us h b k =
-    let p = and_parts (ends_blank (ss ++ newline)) _ h in
+apart_before fresh (blank c ∷ ss) us h b k = let p = and_parts (ends_blank (ss ++ newline)) _ h in
     and_from _ _ (blank_before ss us ∙ p.0) (apart_before _ ss us p.1 b k)
-apart_before fresh (word c cs ∷ ss) us h b k =
-    let p = and_parts (ends_name (ss ++ newline)) _ h in
+apart_before fresh (word c cs ∷ ss) us h b k = let p = and_parts (ends_name (ss ++ newline)) _ h in
     and_from _ _ (name_before ss us ∙ p.0) (apart_before false ss us p.1 b k)
-apart_before fresh (number c cs n ∷ ss) us h b k =
-    let p = and_parts (ends_name (ss ++ newline)) _ h in
+apart_before fresh (number c cs n ∷ ss) us h b k = let p = and_parts (ends_name (ss ++ newline)) _ h in
     and_from _ _ (name_before ss us ∙ p.0) (apart_before false ss us p.1 b k)
-apart_before fresh (mark c ∷ ss) us h b k =
-    let p = and_parts (not (fresh && c == 35)) _ h in
+apart_before fresh (mark c ∷ ss) us h b k = let p = and_parts (not (fresh && c == 35)) _ h in
     and_from _ _ p.0 (apart_before false ss us p.1 b k)
 
 -- no token is a `-`
@@ -128,18 +125,15 @@ are_positive ss = list_all no_minus ss
 
 pub positive_append : (ss us : List Segment) → are_positive ss ≡ true → are_positive us ≡ true
     → are_positive (ss ++ us) ≡ true
-positive_append [] us p q = q
-positive_append (s ∷ ss) us p q = let r = and_parts (no_minus s) _ p in and_from _ _ r.0 (positive_append ss us r.1 q)
+positive_append ss us p q = rw (list_all-append no_minus ss us, p, q) refl
 
 never_minus : (at : ℕ) (ss : List Segment) (j : ℕ) (s : grammar.Symbol) → are_positive ss ≡ true
     → symbol_at (lexemes_at at ss) j ≡ Some s → s ≡ grammar.Symbol.mark 45 → ⊥
 never_minus at [] j s p g e = let k : ◌≡◌ {A = Option grammar.Symbol} None (Some s) = g in cc
 never_minus at (blank b ∷ ss) j s p g e = never_minus (at + 1) ss j s p g e
-never_minus at (word b bs ∷ ss) zero s p g e = let k : grammar.Symbol.word (b ∷ bs) ≡ grammar.Symbol.mark 45 = (cc) in
-    cc
+never_minus at (word b bs ∷ ss) zero s p g e = let k : Some (grammar.Symbol.word (b ∷ bs)) ≡ Some s = g in cc
 never_minus at (word b bs ∷ ss) (suc j) s p g e = never_minus (at + (1 + length bs)) ss j s p g e
-never_minus at (number b bs n ∷ ss) zero s p g e = let k : grammar.Symbol.number n ≡ grammar.Symbol.mark 45 = (cc) in
-    cc
+never_minus at (number b bs n ∷ ss) zero s p g e = let k : Some (grammar.Symbol.number n) ≡ Some s = g in cc
 never_minus at (number b bs n ∷ ss) (suc j) s p g e = never_minus (at + (1 + length bs)) ss j s p g e
 never_minus at (mark b ∷ ss) zero s p g e = search (rules, and_parts)
 never_minus at (mark b ∷ ss) (suc j) s p g e = never_minus (at + 1) ss j s (and_parts (not (b == 45)) _ p).1 g e

@@ -29,18 +29,18 @@ literals os bs i j = literal_of (drop i (map class_of os)) (drop j (map lexeme_o
 abbrev pub names : List declared_class.Class → List declared_lexeme.Lexeme → ℕ → ℕ → List Lexeme
 names os bs i j = names_at (drop i (map class_of os)) (drop j (map lexeme_of bs))
 
-none_of : (cs : List Class) → (literal_of cs [] ≡ 0) × (names_at cs [] ≡ [])
-none_of [] = (refl, refl)
-none_of (c ∷ cs) = (refl, refl)
+no_tokens : (cs : List Class) → (literal_of cs [] ≡ 0) × (names_at cs [] ≡ [])
+no_tokens [] = (refl, refl)
+no_tokens (c ∷ cs) = (refl, refl)
 
 pub literal_begin : (w : List ℕ) (cs : List Class) (ts : List Lexeme)
     → literal_of (the_word w ∷ cs) ts ≡ literal_of cs (drop 1 ts)
-literal_begin w cs [] = sym (none_of cs).0
+literal_begin w cs [] = sym (no_tokens cs).0
 literal_begin w cs (t ∷ ts) = refl
 
 pub names_begin : (w : List ℕ) (cs : List Class) (ts : List Lexeme)
     → names_at (the_word w ∷ cs) ts ≡ names_at cs (drop 1 ts)
-names_begin w cs [] = sym (none_of cs).1
+names_begin w cs [] = sym (no_tokens cs).1
 names_begin w cs (t ∷ ts) = refl
 
 -- the element at an index, and what follows
@@ -97,7 +97,7 @@ past os bs i (inl l) =
     let e = drop_all i (map class_of os) (omega (arith, length-map os class_of)) in rw e (refl, refl)
 past os bs i (inr l) =
     let e = drop_all (i + 1) (map lexeme_of bs) (omega (arith, length-map bs lexeme_of)) in
-    rw e (none_of (drop i (map class_of os)))
+    rw e (no_tokens (drop i (map class_of os)))
 
 all_past : (os : List declared_class.Class) (bs : List declared_lexeme.Lexeme) (i j : ℕ) → j ≡ length bs - 1
     → i ≡ min (length os) j → (literals os bs i (i + 1) ≡ 0) × (names os bs i (i + 1) ≡ [])

@@ -10,7 +10,7 @@ use Rattle.cbpf_text.specs.declared.name.Name.{Name}
 use Rattle.cbpf_text.specs.Labels.{AreDistinct, name_of}
 use Rattle.cbpf_text.specs.Operands.{literal_in, targets_in}
 use Rattle.cbpf_text.specs.Refusals.{IsFirstRepeat, IsExcess}
-use Rattle.cbpf_text.specs.Tables.{Label, labels_of, labels_from, place_among}
+use Rattle.cbpf_text.specs.Tables.{PlacedLabel, labels_of, labels_from, place_among}
 
 -- the target is the label, by its name and its place
 abbrev pub IsTarget : Target → Lexeme → Type 0
@@ -36,14 +36,14 @@ AreStatements [] (i ∷ is) = ⊥
 AreStatements (s ∷ ss) [] = ⊥
 AreStatements (s ∷ ss) (i ∷ is) = IsStatement s i × AreStatements ss is
 
-abbrev pub words : List Label → List Lexeme
-words ls = map (λ (l : Label). l.word) ls
+abbrev pub set_words : List PlacedLabel → List Lexeme
+set_words ls = map (λ (l : PlacedLabel). l.word) ls
 
 -- the look-ups answer where the labels are set, each once; or the place is that of the first label that is set a
 -- second time
-abbrev pub AreSet : List Label → Option ℕ → (Name → Option ℕ) → Type 0
-AreSet ls None lookup = ((k : Name) → lookup k ≡ place_among ls k.bytes.now) × AreDistinct (words ls)
-AreSet ls (Some at) lookup = IsFirstRepeat (words ls) at
+abbrev pub AreSet : List PlacedLabel → Option ℕ → (Name → Option ℕ) → Type 0
+AreSet ls None lookup = ((k : Name) → lookup k ≡ place_among ls k.bytes.now) × AreDistinct (set_words ls)
+AreSet ls (Some at) lookup = IsFirstRepeat (set_words ls) at
 
 -- the statements and labels are those of the items, and of the words of labels after them that wait for theirs
 pub record IsKept (statements : List Statement) (repeat : Option ℕ) (lookup : Name → Option ℕ)

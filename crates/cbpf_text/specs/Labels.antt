@@ -6,14 +6,14 @@ use Rattle.cbpf_syntax.specs.Lexemes.Symbol.{word, number, mark}
 use Rattle.cbpf_syntax.specs.Items.{Item}
 
 -- the bytes of a word
-abbrev pub bytes_of : Symbol → List ℕ
-bytes_of (word w) = w
-bytes_of (number n) = []
-bytes_of (mark b) = []
+abbrev pub word_bytes : Symbol → List ℕ
+word_bytes (word w) = w
+word_bytes (number n) = []
+word_bytes (mark b) = []
 
 -- the name that a label's word gives
 abbrev pub name_of : Lexeme → List ℕ
-name_of t = bytes_of t.symbol
+name_of t = word_bytes t.symbol
 
 -- all labels that are set, in text order
 abbrev pub set_labels : List Item → List Lexeme

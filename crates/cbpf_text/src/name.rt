@@ -2,7 +2,7 @@
 
 ghost use Rattle.std.specs.Prelude.{◌≡◌};
 ghost use Rattle.cbpf_syntax.specs.Views.{symbol_of};
-ghost use Rattle.cbpf_text.specs.Labels.{bytes_of};
+ghost use Rattle.cbpf_text.specs.Labels.{word_bytes};
 
 use cbpf_syntax::Symbol;
 use std::hash::{Hash, Hasher};
@@ -29,7 +29,7 @@ impl<'a> Hash for Name<'a> {
 
 /// The bytes of a word, none of another token.
 pub(crate) fn name_of<'a>(symbol: Symbol<'a>) -> Name<'a>
-    ensures { result.bytes.now ≡ bytes_of (symbol_of symbol.entry) }
+    ensures { result.bytes.now ≡ word_bytes (symbol_of symbol.entry) }
 {
     match symbol {
         Symbol::Word(bytes) => Name { bytes },

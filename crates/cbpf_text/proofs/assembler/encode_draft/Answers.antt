@@ -31,5 +31,6 @@ returns-clause-refused g c is d f =
     let k = rw (none_if c.args.draft.now.excess c.in_default.not-Some) at d in
     let limits = kept_length k (λ z. search (rules, z)) in
     let once = kept_once k (none_if c.args.draft.now.labels.repeat c.in_default-repeat.not-Some) in
-    IfErr-weaker c.encode_all.result _ _ (λ r h. reported_more (IsFirstBadUse is (uses_from 0 is)) (IsItemsFault is) r (λ kind at b. bad_use kind at limits once.0 b) h)
+    IfErr-weaker c.encode_all.result _ _ (λ r h. reported_more (IsFirstBadUse is (uses_from 0 is)) (IsItemsFault is) r
+    (λ kind at b. bad_use kind at limits once.0 b) h)
     (c.encode_all.ensures.refused is (rw c.deref.ensures.value k.same) f once.1)

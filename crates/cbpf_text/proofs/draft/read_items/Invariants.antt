@@ -9,8 +9,8 @@ abbrev pub invariant-loop-next : goal.invariant-loop-next
 invariant-loop-next g l = record {
   text : l.reader.text ≡ l.text;
   size : length l.draft.statements.items ≤ 4096;
-  state : (n : ℕ) × IsReading n l.reader × IsState l.text n l.draft.excess l.draft.statements.items l.draft.labels.repeat
-      (λ k. get same_name l.draft.labels.table k) l.waits;
+  state : (n : ℕ) × IsReading n l.reader × IsState l.text n l.draft.excess l.draft.statements.items
+      l.draft.labels.repeat (λ k. get same_name l.draft.labels.table k) l.waits;
 }
 
 abbrev pub decreases-loop-next : goal.decreases-loop-next
