@@ -3,7 +3,7 @@ use Rattle.std.proofs.lemmas.List.Elements.{All-nil, All-cons, All-head, All-tai
 use Rattle.std.proofs.lemmas.Grind.{common_steps}
 use Rattle.std.proofs.Common.{rules, ◌≡◌, refl, sym, ◌∙◌, ap, subst, ℕ, zero, suc, ◌+◌, ◌<◌, Bool, true, false}
 use Rattle.std.proofs.Common.{List, [], ◌∷◌, ◌++◌, length, map, take, get_or, arith, eqb-true}
-use Rattle.std.specs.Prelude.{All, ◌==◌, ◌||◌}
+use Rattle.std.specs.Prelude.{All, ◌||◌}
 use Rattle.std.proofs.lemmas.List.{append_assoc, take_more, length-take-le}
 use Rattle.cbpf_code.specs.declared.insn.Insn.{Insn}
 use Rattle.cbpf_syntax.specs.declared.table.Fields.{Fields}
@@ -19,17 +19,13 @@ use Rattle.cbpf_text.specs.declared.draft.Statement.{Statement}
 use Rattle.cbpf_text.specs.Drafts.{IsStatement, AreStatements}
 use Rattle.cbpf_text.proofs.Forms.{takes, form_takes, use_of, good_use, reported_more, bad_after, bad_before}
 
-none_of : (is : List Item) (index : ℕ) (short : Bool) (ts : List Lexeme) → (length ts == 0) ≡ true
-    → All (IsGoodUse is) (map (use_of index short) ts)
-none_of is index short ts h1 = grind (arith, common_steps, All-nil, eqb-true)
-
 neither : (a b : Bool) → (a ≡ true → ⊥) → (b ≡ true → ⊥) → (a || b) ≡ true → ⊥
 neither a b h1 h2 h3 = search (rules)
 
 fields_good : (is : List Item) (index : ℕ) (f : Fields) (k : ℕ) (ts : List Lexeme) (insn : Insn)
     → FillsFields f is index k ts insn → takes f (length ts) ≡ true
     → All (IsGoodUse is) (map (use_of index (is_conditional f)) ts)
-fields_good is index Constant k ts insn p e = none_of is index false ts e
+fields_good is index Constant k (t ∷ ts) insn p e = search (rules, eqb-true)
 fields_good is index Goto k (t ∷ []) insn p e = All-cons (IsGoodUse is) (use_of index false t) []
     (good_use is index t insn.k false p.2 (λ z. let c : false ≡ true = z in cc)) (All-nil (IsGoodUse is))
 fields_good is index Goto k (t ∷ u ∷ ts) insn p e = search (rules, eqb-true)

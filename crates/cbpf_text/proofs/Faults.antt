@@ -79,13 +79,10 @@ words_on [] x y a = refl
 words_on (t ∷ []) x y a = absurd a
 words_on (t ∷ u ∷ ls) x y a = ap (λ us. t ∷ us) (words_on ls x y a.2)
 
-words_size : (ls : List Lexeme) → length (label_words ls) ≤ length ls
-words_size [] = omega arith
-words_size (t ∷ []) = omega arith
-words_size (t ∷ u ∷ ls) = omega (arith, words_size ls)
-
-no_words : (ls : List Lexeme) → AreLabels ls → label_words ls ≡ [] → length ls ≡ 0
-no_words ls h1 h2 = search (rules)
+words_size : (ls : List Lexeme) → AreLabels ls → length ls ≡ length (label_words ls) + length (label_words ls)
+words_size [] a = refl
+words_size (t ∷ []) a = absurd a
+words_size (t ∷ u ∷ ls) a = omega (arith, words_size ls a.2)
 
 front_label : (ts : List Lexeme) (is : List Item) (ws : List Lexeme) (n : ℕ) (x y : Lexeme) (more : List Lexeme)
     → Front ts is ws n → drop n ts ≡ (x ∷ y ∷ []) ++ more → starts_with_label (drop n ts) ≡ true
@@ -199,7 +196,7 @@ module _ {text : List ℕ} {n : ℕ} {o : Option ℕ} {ss : List Statement} {rep
       let f = s.front ts t in
       let all = ahead_is a.text a.to n (map lexeme_of a.tokens) ts r.read (rw (← same) at t) in
       let sizes = length-append (map lexeme_of a.tokens) all.0 in
-      let labels : length s.words ≤ length f.ls = rw (← f.words) (words_size f.ls) in
+      let labels = rw f.words at (words_size f.ls f.labels) in
       let inside : f.from < length ts = omega (
         arith,
         some,
@@ -222,7 +219,7 @@ module _ {text : List ℕ} {n : ℕ} {o : Option ℕ} {ss : List Statement} {rep
   state_items ts quiet t e =
       let f = s.front ts t in
       let past : length ts ≤ n = omega (arith, length-drop n ts, ap length e) in
-      let none : length f.ls ≡ 0 = no_words f.ls f.labels (f.words ∙ s.none quiet) in (
+      let none = rw (f.words, s.none quiet) at (words_size f.ls f.labels) in (
         greedy_all ts s.is f.from (omega (arith, past, f.size, none)) f.greedy,
         past,
         subst (λ us. IsDraft o ss rep look s.is us) (s.none quiet) s.draft,

@@ -9,7 +9,7 @@ use Rattle.std.proofs.lemmas.Bool.{and_parts}
 use Rattle.cbpf_syntax.specs.declared.table.Fields.{Fields}
 use Rattle.cbpf_syntax.specs.declared.table.Fields.TheVariants.{Constant, Goto, Branch, Swapped}
 use Rattle.cbpf_syntax.specs.Classes.{Class}
-use Rattle.cbpf_syntax.specs.Classes.Class.{the_word, the_mark, literal, negated, exactly, extension, name}
+use Rattle.cbpf_syntax.specs.Classes.Class.{the_mark, name}
 use Rattle.cbpf_syntax.specs.Lexemes.{Lexeme}
 use Rattle.cbpf_syntax.specs.Fits.{fits, fits_all}
 use Rattle.cbpf_syntax.specs.Table.{Row, classes, table, mnemonics}
@@ -55,13 +55,8 @@ names_count (c ∷ cs) (t ∷ ts) e = by_class c (names_count cs ts (and_parts (
   where
     by_class : (c : Class) → length (names_at cs ts) ≡ names_in cs
         → length (names_at (c ∷ cs) (t ∷ ts)) ≡ one_if c + names_in cs
-    by_class (the_word w) h = omega (arith, h)
-    by_class (the_mark b) h = omega (arith, h)
-    by_class literal h = omega (arith, h)
-    by_class negated h = omega (arith, h)
-    by_class (exactly m) h = omega (arith, h)
-    by_class extension h = omega (arith, h)
     by_class name h = omega (arith, h)
+    by_class c h = omega (arith, h)
 names_count cs ts e = refl
 
 -- an instruction has as many targets as its fields take

@@ -46,11 +46,8 @@ abbrev pub AreLabelled : ℕ → List Item → Type 0
 AreLabelled i [] = Unit {0}
 AreLabelled i (item ∷ items) = IsLabelled i item × AreLabelled (i + 1) items
 
-tail_same : (a b : ℕ) (xs ys : List ℕ) → a ∷ xs ≡ b ∷ ys → xs ≡ ys
-tail_same a b xs ys e = cc
-
 label_differs : (i j : ℕ) → i < 2 ^ 64 → j < 2 ^ 64 → label_name i ≡ label_name j → i ≡ j
-label_differs i j l m e = decimal_injective i j l m (tail_same 108 108 (decimal i) (decimal j) e)
+label_differs i j l m e = decimal_injective i j l m (cc)
 
 -- how often one item sets a label
 times_here : (i m : ℕ) (item : Item) → IsLabelled i item → i ≡ m → times_among item.labels (label_name m) ≡ 1

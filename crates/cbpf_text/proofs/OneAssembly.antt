@@ -43,11 +43,9 @@ one_insn is index item a b h1 h2 = search (rules, one_fields)
 one_each : (all : List Item) (index : ℕ) (is : List Item) (xs ys : List Insn) → EncodeEach all index is xs
     → EncodeEach all index is ys → xs ≡ ys
 one_each all index [] [] [] p q = refl
-one_each all index [] [] (y ∷ ys) p q = absurd q
-one_each all index (i ∷ is) (x ∷ xs) [] p q = absurd q
 one_each all index (i ∷ is) (x ∷ xs) (y ∷ ys) p q = λ j.
     one_insn all index i x y p.0 q.0 j ∷ one_each all (index + 1) is xs ys p.1 q.1 j
-one_each all index is xs ys p q = absurd p
+one_each all index is xs ys p q = search (rules)
 
 one_of_tokens : (ts : List Lexeme) (xs ys : List Insn) → AssembleTokens ts xs → AssembleTokens ts ys → xs ≡ ys
 one_of_tokens ts xs ys a b = let e : a.items ≡ b.items = one_reading ts a.items b.items a.parsed b.parsed in

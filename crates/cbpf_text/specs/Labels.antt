@@ -2,14 +2,13 @@
 -- a name for the instruction after it.
 use Rattle.std.specs.Prelude.{◌≡◌, ◌≢◌, ℕ, List, [], bytes_eq, count_by, flat_map, slice_get, Some, All}
 use Rattle.cbpf_syntax.specs.Lexemes.{Symbol, Lexeme}
-use Rattle.cbpf_syntax.specs.Lexemes.Symbol.{word, number, mark}
+use Rattle.cbpf_syntax.specs.Lexemes.Symbol.{word}
 use Rattle.cbpf_syntax.specs.Items.{Item}
 
 -- the bytes of a word
 abbrev pub word_bytes : Symbol → List ℕ
 word_bytes (word w) = w
-word_bytes (number n) = []
-word_bytes (mark b) = []
+word_bytes s = []
 
 -- the name that a label's word gives
 abbrev pub name_of : Lexeme → List ℕ

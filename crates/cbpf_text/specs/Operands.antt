@@ -6,9 +6,9 @@ use Rattle.std.specs.Option.{unwrap_or}
 use Rattle.cbpf_code.specs.declared.extension.Ext.{Ext}
 use Rattle.cbpf_code.specs.Extension.{ext_table, ext_name}
 use Rattle.cbpf_syntax.specs.Classes.{Class}
-use Rattle.cbpf_syntax.specs.Classes.Class.{the_word, the_mark, literal, negated, exactly, extension, name}
+use Rattle.cbpf_syntax.specs.Classes.Class.{literal, negated, extension}
 use Rattle.cbpf_syntax.specs.Lexemes.{Symbol, Lexeme}
-use Rattle.cbpf_syntax.specs.Lexemes.Symbol.{word, number, mark}
+use Rattle.cbpf_syntax.specs.Lexemes.Symbol.{word, number}
 use Rattle.cbpf_syntax.specs.Table.{classes, table}
 use Rattle.cbpf_syntax.specs.Fits.{fits_all}
 use Rattle.cbpf_syntax.specs.Items.{Item, names_at}
@@ -20,19 +20,10 @@ place_named (e ∷ es) w = if bytes_eq w (ext_name e.1) then Some e.0 else place
 
 -- the value of a token at a class, where it has one; a negative number is kept modulo 2 ^ 32
 abbrev pub value_at : Class → Symbol → Option ℕ
-value_at (the_word v) s = None
-value_at (the_mark b) s = None
-value_at literal (word w) = None
 value_at literal (number n) = Some n
-value_at literal (mark b) = None
-value_at negated (word w) = None
 value_at negated (number n) = Some ((2 ^ 32 - n) % 2 ^ 32)
-value_at negated (mark b) = None
-value_at (exactly m) s = None
 value_at extension (word w) = place_named ext_table w
-value_at extension (number n) = None
-value_at extension (mark b) = None
-value_at name s = None
+value_at c s = None
 
 -- the literal of tokens at their classes, of which a form has at most one: its value, or 0
 abbrev pub literal_of : List Class → List Lexeme → ℕ
