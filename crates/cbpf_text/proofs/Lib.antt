@@ -2,8 +2,7 @@ pub mod Operands
 pub mod LabelLists
 pub mod Forms
 pub mod Encoding
-pub mod OneAssembly
-pub mod OneRefusal
+pub mod OneAnswer
 pub mod Faults
 pub mod ListedNumbers
 pub mod ListedRows

@@ -19,7 +19,7 @@ use Rattle.cbpf_code.specs.Listing.{listing}
 use Rattle.cbpf_text.specs.declared.fault.AsmFault.TheVariants.{Memory, At}
 use Rattle.cbpf_text.specs.Assembled.{Assembles, AssembleTokens, AreEncoded}
 use Rattle.cbpf_text.specs.Laws.{ListingAssembles, ListingAnswers}
-use Rattle.cbpf_text.proofs.OneAssembly.{one_assembly, never_both}
+use Rattle.cbpf_text.proofs.OneAnswer.{one_assembly, never_both}
 use Rattle.cbpf_text.proofs.ListedTokens.{lexemes_at, lexemes_spelled, no_large_negative}
 use Rattle.cbpf_text.proofs.ListedNumbers.{Places}
 use Rattle.cbpf_text.proofs.ListedOperands.{TargetsInside}
