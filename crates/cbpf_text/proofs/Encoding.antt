@@ -31,7 +31,8 @@ fields_good is index Goto k (t ∷ []) insn p e = All-cons (IsGoodUse is) (use_o
 fields_good is index Goto k (t ∷ u ∷ ts) insn p e = search (rules, eqb-true)
 fields_good is index Branch k (t ∷ []) insn p e = All-cons (IsGoodUse is) (use_of index true t) []
     (good_use is index t insn.jt true p.0.is (λ z. p.0.short)) (All-nil (IsGoodUse is))
-fields_good is index Branch k (t ∷ u ∷ []) insn p e = All-cons (IsGoodUse is) (use_of index true t) (use_of index true u ∷ [])
+fields_good is index Branch k (t ∷ u ∷ []) insn p e =
+    All-cons (IsGoodUse is) (use_of index true t) (use_of index true u ∷ [])
     (good_use is index t insn.jt true p.0.is (λ z. p.0.short)) (All-cons (IsGoodUse is) (use_of index true u) []
     (good_use is index u insn.jf true p.1.is (λ z. p.1.short)) (All-nil (IsGoodUse is)))
 fields_good is index Branch k (t ∷ u ∷ v ∷ ts) insn p e = search (rules, neither, eqb-true)

@@ -8,7 +8,6 @@ pub mod ListedNumbers
 pub mod ListedRows
 pub mod ListedTokens
 pub mod ListedOperands
-pub mod ListedPlaces
 pub mod ListedLaw
 pub mod Kept
 pub mod Answered

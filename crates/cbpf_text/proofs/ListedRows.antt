@@ -97,17 +97,17 @@ same_classes_eq cs ds e = let k : false ≡ true = e in cc
 same_fields_eq : (f g : Fields) → same_fields f g ≡ true → f ≡ g
 same_fields_eq f g h1 = search (rules)
 
--- the operation's row with these classes and fields
-pub record HasRow (op : Op) (cs : List Class) (f : Fields) : Type 0 where
+-- the operation's row, where k is an extension's place, and where it isn't
+pub record HasRow (named : Bool) (op : Op) : Type 0 where
   pub row : Row
   pub known : Contains table row
   pub code : code_of row.op ≡ code_of op
   pub mnemonic : row.mnemonic ≡ mnemonic_of op
-  pub operand : row.operand ≡ cs
-  pub fields : row.fields ≡ f
+  pub operand : row.operand ≡ operand_classes named (operand_of op)
+  pub fields : row.fields ≡ operand_fields (operand_of op)
 
-found_row : (op : Op) (cs : List Class) (f : Fields) → list_any (is_row_for op cs f) table ≡ true → HasRow op cs f
-found_row op cs f h1 = search (rules, some_element, and_parts, eqb-true, equal_bytes, same_classes_eq, same_fields_eq)
+found_row : (named : Bool) (op : Op) → has_row named op ≡ true → HasRow named op
+found_row named op h1 = search (rules, some_element, and_parts, eqb-true, equal_bytes, same_classes_eq, same_fields_eq)
 
 -- what holds of each entry of a table holds of what is found in it
 pub looked_up : {V : Type 0} (p : V → Bool) (t : List (ℕ × V)) (key : ℕ) (v : V)
@@ -125,10 +125,8 @@ holds_for_all : (p : Op → Bool) → list_all (λ (e : ℕ × Op). p e.1) op_ta
 unfolding op_of
 holds_for_all p a op = looked_up p op_table (code_of op) op a (code_known op)
 
-pub operation_row : (named : Bool) (op : Op)
-    → HasRow op (operand_classes named (operand_of op)) (operand_fields (operand_of op))
-operation_row named op = found_row op (operand_classes named (operand_of op)) (operand_fields (operand_of op))
-    (holds_for_all (has_row named) (operations_have_rows named) op)
+pub operation_row : (named : Bool) (op : Op) → HasRow named op
+operation_row named op = found_row named op (holds_for_all (has_row named) (operations_have_rows named) op)
 
 -- a mnemonic is a word
 abbrev pub first_byte : List ℕ → ℕ

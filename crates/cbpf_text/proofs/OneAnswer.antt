@@ -36,8 +36,8 @@ use Rattle.cbpf_text.specs.Refusals.IsUseFault.{not_set, not_after, too_far}
 one_offset : (is : List Item) (index : ℕ) (o : Option Lexeme) (m n : ℕ) → IsOffset is index o m
     → IsOffset is index o n → m ≡ n
 one_offset is index None m n p q = p ∙ sym q
-one_offset is index (Some t) m n p q = let e = one_place is (index + 1 + m) (index + 1 + n) (name_of t) p.once p.sets q.sets in
-    omega (arith, e)
+one_offset is index (Some t) m n p q =
+    omega (arith, one_place is (index + 1 + m) (index + 1 + n) (name_of t) p.once p.sets q.sets)
 
 one_fields : (is : List Item) (index : ℕ) (f : Fields) (k : ℕ) (ts : List Lexeme) (a b : Insn)
     → FillsFields f is index k ts a → FillsFields f is index k ts b → (a.jt ≡ b.jt) × (a.jf ≡ b.jf) × (a.k ≡ b.k)
