@@ -113,6 +113,18 @@ returns-then-pauses_at-clause-stands g c = λ n e.
     omega (arith, c.follow.invariant.kept) in
     rw all at (c.keep.ensures.stands _ (rw c.of-state.ensures to.at) c.follow.invariant.stands).0
 
+pub returns-then-pauses_at-clause-of_trace : goal.returns-then-pauses_at-clause-of_trace
+returns-then-pauses_at-clause-of_trace g c =
+    let to = on g (goal.at.returns-then-pauses_at-clause-of_trace g c).After-pass-turns c.in_default.is in
+    let kept = c.keep.ensures.stands _ (rw c.of-state.ensures to.at) c.follow.invariant.stands in
+    rw (← kept.1) at kept.0
+
+pub returns-then-pauses_at-clause-more : goal.returns-then-pauses_at-clause-more
+returns-then-pauses_at-clause-more g c =
+    let to = on g (goal.at.returns-then-pauses_at-clause-more g c).After-pass-turns c.in_default.is in
+    let kept = c.keep.ensures.stands _ (rw c.of-state.ensures to.at) c.follow.invariant.stands in
+    omega (arith, kept.1, c.follow.invariant.kept)
+
 pub follow-smaller : goal.follow-smaller
 follow-smaller g c =
     let to = on g (goal.at.follow-smaller g c).After-pass-turns c.in_default.is in
