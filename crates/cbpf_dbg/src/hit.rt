@@ -8,7 +8,7 @@ ghost use Rattle.cbpf_dbg.specs.Loaded.{machine_in};
 
 use crate::cursor::Cursor;
 use crate::loaded::Loaded;
-use cbpf_machine::asks;
+use cbpf_machine::missing_extension;
 use cbpf_reply::{Stop, Why};
 use std::alloc::Allocator;
 
@@ -19,7 +19,7 @@ pub(crate) fn stop_at<A: Allocator>(loaded: &Loaded<'_, A>, cursor: &Cursor, rea
     ensures { (r : Record) → result ≡ spec.stop_at reason (entry_here (machine_in loaded.now) r cursor.now) }
 {
     let insn = loaded.program.at_index(cursor.state.pc());
-    let why = match asks(insn, loaded.values) {
+    let why = match missing_extension(insn, loaded.values) {
         Some(e) => Why::Unknown(e),
         None => reason,
     };

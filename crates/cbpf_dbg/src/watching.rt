@@ -10,7 +10,7 @@ ghost use Rattle.cbpf_dbg.specs.Session.{IsSilent, IsSameBut, KeepsRoom, Watches
 
 use crate::breakpoint::{Breakpoints, watch_when};
 use cbpf_code::Program;
-use cbpf_machine::{Values, Watch, Watched, asks};
+use cbpf_machine::{Values, Watch, Watched, missing_extension};
 use std::alloc::{AllocError, Allocator};
 
 /// Whether no instruction asks for an extension that has no value.
@@ -18,7 +18,7 @@ pub(crate) fn is_silent<A: Allocator>(p: &Program<A>, values: &Values) -> bool
     ensures { result ≡ true → IsSilent (machine_of p.now values.now) }
 {
     'scan: for i in 0..p.len() {
-        if asks(p.at_index(i), values).is_some() {
+        if missing_extension(p.at_index(i), values).is_some() {
             return false;
         }
     }
@@ -37,7 +37,7 @@ fn watch_of<A: Allocator>(
         → holds result s ≡ hits (machine_of p.now values.now) breakpoints.now.entries bytes wire s }
     ensures room { (room : ℕ) → KeepsRoom breakpoints.now.entries room → HasRoom result i room }
 {
-    if asks(p.at_index(i), values).is_some() {
+    if missing_extension(p.at_index(i), values).is_some() {
         return Watch::Always;
     }
     match breakpoints.get(&i) {

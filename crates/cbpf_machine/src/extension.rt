@@ -21,7 +21,7 @@ fn is_absolute_load(op: Op) -> bool
 /// The answer is read from the instruction, for any packet and state, and no turn is made.
 // Most numbers are no extension's, so the code is looked up only where one is.
 #[inline(always)]
-pub fn asks(insn: Insn, values: &Values) -> Option<Ext>
+pub fn missing_extension(insn: Insn, values: &Values) -> Option<Ext>
     ensures { (list : List Insn) (bytes : List ℕ) (wire : ℕ) (s : Registers)
         → slice_get list s.pc ≡ Some insn
         → result ≡ spec.asked (spec.turn (machine_of list values.now) bytes wire s) }

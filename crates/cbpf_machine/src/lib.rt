@@ -28,7 +28,7 @@ mod watched;
 
 pub use core_state::Core;
 pub use execute::{turn, turn_in_place};
-pub use extension::asks;
+pub use extension::missing_extension;
 pub use follow::{Followed, follow_on, follow_packet};
 pub use list_trail::ListTrail;
 pub use mark_trail::MarkTrail;

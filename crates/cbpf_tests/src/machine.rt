@@ -3,7 +3,7 @@ use crate::loaded::program_of as of_words;
 use crate::programs::{next_state, program_of};
 use cbpf_code::{Ext, Insn, Program};
 use cbpf_machine::Outcome::{Fail, Pass, Unknown};
-use cbpf_machine::{Meter, Outcome, Packet, State, Values, asks, run_packet};
+use cbpf_machine::{Meter, Outcome, Packet, State, Values, missing_extension, run_packet};
 use std::alloc::Global;
 use std::process::Abort;
 
@@ -145,7 +145,7 @@ fn asked(values: &Values, code: u16, k: u32) -> Option<Ext> {
         jf: 0,
         k,
     };
-    asks(load, values)
+    missing_extension(load, values)
 }
 
 /// Whether a load from an extension's place asks for what it is to ask for, and ends so.

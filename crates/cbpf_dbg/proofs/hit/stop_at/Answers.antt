@@ -7,10 +7,10 @@ use Rattle.cbpf_dbg.proofs.hit.stop_at.Goals.{in-Some, in-None}
 
 pub returns : goal.returns
 returns g c = λ r.
-    let asks : c.asks.result ≡ asked (turn (machine_in c.args.loaded.now) r.bytes r.wire c.args.cursor.now.state) =
-    c.asks.ensures c.args.loaded.now.program.now r.bytes r.wire c.args.cursor.now.state
+    let asks : c.missing_extension.result ≡ asked (turn (machine_in c.args.loaded.now) r.bytes r.wire c.args.cursor.now.state) =
+    c.missing_extension.ensures c.args.loaded.now.program.now r.bytes r.wire c.args.cursor.now.state
     (rw c.pc.ensures at c.at_index-insn.ensures.value) in
-    let why : c.match-asks.why ≡ why_by c.args.reason c.asks.result = elim c.match-asks.branch [
+    let why : c.match-missing_extension.why ≡ why_by c.args.reason c.missing_extension.result = elim c.match-missing_extension.branch [
       | in-Some w ↦ rw (w.why-is, w.in-Some.is) refl
       | in-None w ↦ rw (w.why-is, w.in-None.is) refl
     ] in
