@@ -3,6 +3,7 @@
 ghost use Rattle.std.specs.Prelude.{◌≡◌, ◌≤◌, ◌<◌, ◌+◌, length, ◌*◌, ◌^◌, ◌<ℤ◌, pos, IfErr, IfOk, OnErr, OnOk};
 ghost use Rattle.cbpf_dbg.specs.Commands as spec;
 ghost use Rattle.cbpf_dbg.specs.Shown.{CanShow, Shows};
+ghost use Rattle.cbpf_machine.specs.Trail.{most_turns_back};
 ghost use Rattle.std.specs.List.{All};
 
 use crate::cursor::Cursor;
@@ -143,7 +144,7 @@ impl<T: Trail, A: Allocator> Session<T, A> {
         ensures after { self.new ≡ spec.view_after self.old (spec.step self.old n) }
         ensures turns { pos 0 <ℤ n → meter.new ≡ meter.old + spec.turns_forward self.old (spec.step self.old n) }
         ensures counts { meter.old ≤ meter.new }
-        ensures back { n <ℤ pos 0 → meter.new ≤ meter.old + 63 }
+        ensures back { n <ℤ pos 0 → meter.new ≤ meter.old + most_turns_back }
         ensures back_turns { n <ℤ pos 0 → OnOk result (meter.new ≡ meter.old + T.turns_back self.new.place.step) }
         ensures refused { OnErr result (meter.new ≡ meter.old) }
         ensures shown { IfOk result (λ reply. Shows self.new reply) }

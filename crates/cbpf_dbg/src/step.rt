@@ -6,6 +6,7 @@ ghost use Rattle.cbpf_dbg.specs.Loaded.{machine_in, records_in};
 ghost use Rattle.cbpf_dbg.specs.Session.{IsInside, Keeps};
 ghost use Rattle.cbpf_dbg.specs.Cursor.{Stands, AllLeft, Nears, owed};
 ghost use Rattle.cbpf_dbg.specs.Cursor.{StepsOn, step_turns, StepsBack, CannotStepBack};
+ghost use Rattle.cbpf_machine.specs.Trail.{most_turns_back};
 
 use crate::cursor::{Cursor, Moved, advance};
 use crate::hit::stop_at;
@@ -126,7 +127,7 @@ pub(crate) fn step_back<T: Trail, A: Allocator>(
     ensures inside { IsInside (records_in loaded.now) w.old.place → IsInside (records_in loaded.now) w.new.place }
     ensures counts { meter.old ≤ meter.new }
     ensures turns { OnOk result (meter.new ≡ meter.old + T.turns_back w.new.place.step) }
-    ensures few { meter.new ≤ meter.old + 63 }
+    ensures few { meter.new ≤ meter.old + most_turns_back }
     ensures refused { OnErr result (meter.new ≡ meter.old) }
 {
     if b >= u64::from(w.place.step) {

@@ -1,7 +1,12 @@
 -- What a trail of checkpoints stands for: a list of states of which every 64th is kept (this project's own;
 -- no standard speaks of it).
-use Rattle.std.specs.Prelude.{◌≡◌, ℕ, ◌+◌, ◌*◌, ◌/◌, ◌<◌, List, length, slice_get}
+use Rattle.std.specs.Prelude.{◌≡◌, ℕ, ◌+◌, ◌-◌, ◌*◌, ◌/◌, ◌<◌, List, length, slice_get}
+use Rattle.cbpf_machine.specs.declared.mark_trail.TheConstants.{STRIDE}
 use Rattle.cbpf_machine.specs.Registers.{Registers}
+
+-- how many turns it takes at most to come from a kept state to one after it, before the next that is kept
+abbrev pub most_turns_back : ℕ
+most_turns_back = STRIDE - 1
 
 -- the kept states, and how many states they stand for
 pub record Checkpoints : Type 0 where
@@ -11,5 +16,5 @@ pub record Checkpoints : Type 0 where
 -- the states 1, 65, 129 and so on of the list are kept, and no others
 pub record AreCheckpoints (c : Checkpoints) (xs : List Registers) : Type 0 where
   pub long : length xs ≡ c.kept
-  pub count : length c.checkpoints ≡ (c.kept + 63) / 64
-  pub at : (j : ℕ) → j < length c.checkpoints → slice_get c.checkpoints j ≡ slice_get xs (64 * j)
+  pub count : length c.checkpoints ≡ (c.kept + (STRIDE - 1)) / STRIDE
+  pub at : (j : ℕ) → j < length c.checkpoints → slice_get c.checkpoints j ≡ slice_get xs (STRIDE * j)

@@ -9,6 +9,7 @@ use Rattle.cbpf_machine.specs.Step.{turn}
 use Rattle.cbpf_machine.specs.Trace.{trace, next_of}
 use Rattle.cbpf_machine.proofs.SoundLemmas.{sound_some}
 use Rattle.cbpf_machine.proofs.TraceLemmas.{goes_from_entry, goes_next, goes_at, goes_last, next_of-none}
+use Rattle.cbpf_machine.specs.declared.mark_trail.TheConstants.{STRIDE}
 use Rattle.cbpf_machine.proofs.mark_trail.MarkTrailTrail.back.Goals as goal
 
 taken_at : (xs : List Registers) (n i : ℕ) (r : Registers) → slice_get (take n xs) i ≡ Some r → i < n
@@ -20,18 +21,18 @@ taken_at xs n i r at under =
 
 -- a checkpoint is an entry
 kept_at : (kept : ℕ) (items xs : List Registers) (j : ℕ) (r : Registers)
-    → AreCheckpoints (record { checkpoints = take ((kept + 63) / 64) items; kept = kept }) (take kept xs)
-    → 64 * j < kept → r ≡ get_or items j r → slice_get xs (64 * j) ≡ Some r
+    → AreCheckpoints (record { checkpoints = take ((kept + (STRIDE - 1)) / STRIDE) items; kept = kept }) (take kept xs)
+    → STRIDE * j < kept → r ≡ get_or items j r → slice_get xs (STRIDE * j) ≡ Some r
 kept_at kept items xs j r are under is =
-    let within : j < length (take ((kept + 63) / 64) items) = omega (arith, are.count) in
-    taken_at xs kept (64 * j) r (sym (are.at j within) ∙ slice_get_read (take ((kept + 63) / 64) items) _ j r refl within
-    (is ∙ sym (get_or-take ((kept + 63) / 64) items j r (omega arith)))) under
+    let within : j < length (take ((kept + (STRIDE - 1)) / STRIDE) items) = omega (arith, are.count) in
+    taken_at xs kept (STRIDE * j) r (sym (are.at j within) ∙ slice_get_read (take ((kept + (STRIDE - 1)) / STRIDE) items) _ j r refl within
+    (is ∙ sym (get_or-take ((kept + (STRIDE - 1)) / STRIDE) items j r (omega arith)))) under
 
 pub again-init : goal.again-init
 again-init g c =
     let at = kept_at c.self.inside.kept c.self.inside.checkpoints.items
     (trace (machine_of c.args.p.now c.args.values.now) c.args.packet.bytes.now c.args.packet.wire)
-    ((c.args.to - 1) / 64) c.index-deref-checkpoint.result
+    ((c.args.to - 1) / STRIDE) c.index-deref-checkpoint.result
     (subst (λ k. AreCheckpoints k (take k.kept (trace (machine_of c.args.p.now c.args.values.now) c.args.packet.bytes.now
     c.args.packet.wire))) (sym c.self.view_is) c.requires.of_trace) (omega (arith, ap (λ (k : Checkpoints). k.kept) c.self.view_is))
     (rw c.deref.ensures.0 at c.index-deref-checkpoint.is) in

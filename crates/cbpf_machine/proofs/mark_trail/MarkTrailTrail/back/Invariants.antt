@@ -3,6 +3,7 @@ use Rattle.cbpf_code.specs.Sound.{IsSound}
 use Rattle.cbpf_machine.specs.Machine.{machine_of}
 use Rattle.cbpf_machine.specs.Trace.{trace}
 use Rattle.cbpf_machine.specs.Follow.{Goes}
+use Rattle.cbpf_machine.specs.declared.mark_trail.TheConstants.{STRIDE}
 use Rattle.cbpf_machine.proofs.mark_trail.MarkTrailTrail.back.Given as goal
 
 -- the state is the entry at this place
@@ -12,5 +13,5 @@ invariant-again g l =
       sound : IsSound l.p;
       here : Goes (machine_of l.p l.values) l.packet.bytes.now l.packet.wire
           (trace (machine_of l.p l.values) l.packet.bytes.now l.packet.wire) l.i l.s;
-      turns : l.meter + 64 * l.checkpoint ≡ l.initial.meter + l.i;
+      turns : l.meter + STRIDE * l.checkpoint ≡ l.initial.meter + l.i;
     }
