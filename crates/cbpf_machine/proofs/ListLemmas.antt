@@ -3,19 +3,11 @@ use Rattle.std.proofs.Common.{◌≡◌, ℕ, zero, suc, ◌+◌, List, [], ◌�
 use Rattle.std.specs.Prelude.{Some, slice_get}
 
 pub slice_get-drop_head : {X : Type 0} (xs : List X) (i : ℕ) (x : X) (rest : List X) → drop i xs ≡ x ∷ rest
-    → slice_get xs i ≡ Some x
+    → (slice_get xs i ≡ Some x) × (drop (i + 1) xs ≡ rest)
 slice_get-drop_head [] zero x rest h = cc
 slice_get-drop_head [] (suc i) x rest h = cc
-slice_get-drop_head (y ∷ xs) zero x rest h = cc
-slice_get-drop_head (y ∷ xs) (suc i) x rest h = slice_get-drop_head xs i x rest h
-
-pub drop-next : {X : Type 0} (xs : List X) (i : ℕ) (x : X) (rest : List X) → drop i xs ≡ x ∷ rest
-    → drop (i + 1) xs ≡ rest
-drop-next [] zero x rest h = cc
-drop-next [] (suc i) x rest h = cc
-drop-next (y ∷ xs) zero x rest h = cc
-drop-next (y ∷ xs) (suc i) x rest h =
-    let ih = drop-next xs i x rest h in rw add-one (rw add-one at ih)
+slice_get-drop_head (y ∷ xs) zero x rest h = (cc, cc)
+slice_get-drop_head (y ∷ xs) (suc i) x rest h = rw add-one (rw add-one at (slice_get-drop_head xs i x rest h))
 
 pub take-slice_get : {X : Type 0} (xs : List X) (i : ℕ) (x : X) → slice_get xs i ≡ Some x
     → take (i + 1) xs ≡ take i xs ++ x ∷ []
