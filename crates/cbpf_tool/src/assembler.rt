@@ -4,14 +4,12 @@ ghost use Rattle.std.specs.Io.KnownBytes.{IsAtEnd};
 ghost use Rattle.cbpf_code.specs.Writing.{Appended, Wrote};
 ghost use Rattle.cbpf_tool.specs.Assembling.{Assembled, IsEarly, IsReadingFault, form_text};
 
+use crate::READ_SIZE;
 use crate::fault::ToolFault;
 use cbpf_code::{Form, Insn, WriteFault, write_c, write_words};
 use cbpf_text::{AsmFault, assemble};
 use std::alloc::Allocator;
 use std::io::{Read, Write};
-
-/// How many bytes are read at once, at most.
-const CHUNK: usize = 4096;
 
 /// All bytes up to the reader's end, by at most 18446744073709551615 reads. A read that is interrupted has
 /// failed like any other, which `read_to_end` would make again.
@@ -22,7 +20,7 @@ fn read_source<A: Allocator, R: Read>(alloc: A, reader: &mut R) -> Result<Vec<u8
     ensures fault { IfErr result IsReadingFault }
 {
     let mut source = Vec::new(alloc);
-    let mut chunk = [0; CHUNK];
+    let mut chunk = [0; READ_SIZE];
     for _ in 0..u64::MAX {
         let Ok(count) = reader.read(&mut chunk) else {
             return Err(ToolFault::Read);

@@ -37,3 +37,6 @@ pub use host::{CreateFault, Host};
 pub use law::one_output;
 pub use memory_files::MemoryFiles;
 pub use run_job::{run_on, status_of};
+
+/// How many bytes are read at once, at most.
+pub(crate) const READ_SIZE: usize = 4096;

@@ -6,13 +6,11 @@ ghost use Rattle.cbpf_tool.specs.Lines.{has_newline};
 ghost use Rattle.cbpf_tool.specs.Reading.{IsStreamFault, pending_in, unread, Fills, TakesPart, TakesLine};
 ghost use Rattle.cbpf_tool.specs.declared.line_reader.LineEnd.TheVariants as end;
 
+use crate::READ_SIZE;
 use crate::fault::ToolFault;
 use crate::flushing::flush;
 use std::alloc::Allocator;
 use std::io::{Read, Write};
-
-/// How many bytes are read at once, at most.
-const CHUNK: usize = 4096;
 
 /// What a line ends at.
 #[derive(Clone, Copy)]
@@ -40,7 +38,7 @@ fn newline_in(bytes: &[u8]) -> Option<usize>
 /// The lines of an input. It makes at most 18446744073709551615 reads in all.
 #[derive(Drop)]
 pub struct LineReader {
-    chunk: [u8; CHUNK],
+    chunk: [u8; READ_SIZE],
     start: usize,
     end: usize,
     reads: u64,
@@ -55,7 +53,7 @@ impl LineReader {
         ensures reads { result.reads ≡ 2 ^ 64 - 1 }
     {
         LineReader {
-            chunk: [0; CHUNK],
+            chunk: [0; READ_SIZE],
             start: 0,
             end: 0,
             reads: u64::MAX,
