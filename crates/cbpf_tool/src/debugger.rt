@@ -156,34 +156,6 @@ fn run_lines<A: Allocator + Copy, R: Read, W: Write, F: Files>(
     }
 }
 
-/// The same, with a session and a reader of lines made here; what was written is flushed at the end.
-fn run<A: Allocator + Copy, R: Read, W: Write, F: Files>(
-    alloc: A,
-    reader: &mut R,
-    writer: &mut W,
-    files: &mut F,
-) -> Result<(), ToolFault>
-    ensures { (script : List ℕ) → R.remaining reader.old ≡ Some script → IsTrue (F.source files.old).is_known →
-        Debugged script (R.remaining reader.new) (W.contents writer.old) (W.contents writer.new) (F.source files.old)
-        (F.source files.new) result }
-{
-    let mut session = Session::new(alloc, MarkTrail::new());
-    let mut lines = LineReader::new();
-    let mut line = Vec::new(alloc);
-    let mut unflushed = false;
-    run_lines(
-        alloc,
-        reader,
-        writer,
-        files,
-        &mut session,
-        &mut lines,
-        &mut line,
-        &mut unflushed,
-    )?;
-    flush(writer, &mut unflushed)
-}
-
 /// Runs a script of commands: reads lines up to `quit` or the end of the input, and writes the reply of
 /// each before the next one acts. A refused command is answered by a line `error: ..`, and the script goes
 /// on. The replies are flushed before each `load pcap`, `run`, `step`, `resume` and `stops`, which may take
@@ -206,5 +178,20 @@ pub fn debug<A: Allocator, R: Read, W: Write, F: Files>(
         Debugged script (R.remaining reader.new) (W.contents writer.old) (W.contents writer.new) (F.source files.old)
         (F.source files.new) result }
 {
-    run(&alloc, reader, writer, files)
+    let alloc = &alloc;
+    let mut session = Session::new(alloc, MarkTrail::new());
+    let mut lines = LineReader::new();
+    let mut line = Vec::new(alloc);
+    let mut unflushed = false;
+    run_lines(
+        alloc,
+        reader,
+        writer,
+        files,
+        &mut session,
+        &mut lines,
+        &mut line,
+        &mut unflushed,
+    )?;
+    flush(writer, &mut unflushed)
 }
