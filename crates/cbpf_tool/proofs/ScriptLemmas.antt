@@ -13,12 +13,12 @@ use Rattle.cbpf_tool.specs.declared.command.Command.TheVariants as command
 use Rattle.cbpf_tool.specs.declared.command.CommandFault.{CommandFault}
 use Rattle.cbpf_tool.specs.FileMap.{FileMap, Source}
 use Rattle.cbpf_code.specs.Text.{put_front}
-use Rattle.cbpf_tool.specs.Lines.{lines, whole_lines, has_newline}
+use Rattle.cbpf_tool.specs.Lines.{lines, unlines, has_newline}
 use Rattle.cbpf_dbg.specs.View.{View, empty_view}
 use Rattle.cbpf_tool.specs.Reading.{unread as unread_bytes, Took, TakesLine}
 use Rattle.cbpf_tool.specs.Replies.{Reply, LineReplies, own, unheld, unread}
 use Rattle.cbpf_tool.specs.Output.{Output, at_end, at_quit, at_line, HasQuit}
-use Rattle.cbpf_tool.specs.Progress.{LineRan, unlines, EachPlain, LinesRan, still, onward, Progress}
+use Rattle.cbpf_tool.specs.Progress.{LineRan, EachPlain, LinesRan, still, onward, Progress}
 use Rattle.cbpf_tool.specs.Debugged.{Printed, Faulted, Finished}
 use Rattle.cbpf_tool.specs.declared.fault.ToolFault.{ToolFault}
 use Rattle.cbpf_tool.specs.declared.fault.ToolFault.TheVariants.{Source as RefusedSource, Read, Write, Memory}
@@ -59,27 +59,6 @@ unlines-push (x ∷ xs) l =
 plain-push : (ls : List (List ℕ)) (l : List ℕ) → EachPlain ls → has_newline l ≡ false → EachPlain (ls ++ l ∷ [])
 plain-push [] l h p = (p, tt)
 plain-push (x ∷ xs) l h p = (h.0, plain-push xs l h.1 p)
-
-whole-plain : (p : List ℕ) → has_newline p ≡ false → whole_lines p ≡ []
-whole-plain [] h = refl
-whole-plain (b ∷ bs) h = ap (λ t. cond t (b ∷ whole_lines bs) []) h
-
-has-newline-in : (l bs : List ℕ) → has_newline (l ++ 10 ∷ bs) ≡ true
-has-newline-in [] bs = refl
-has-newline-in (b ∷ l) bs = elim (eqb b 10) as (λ t. (t || has_newline (l ++ 10 ∷ bs)) ≡ true) [
-  | true ↦ refl
-  | false ↦ has-newline-in l bs
-]
-
-whole-line : (l bs : List ℕ) → whole_lines (l ++ 10 ∷ bs) ≡ l ++ 10 ∷ whole_lines bs
-whole-line [] bs = refl
-whole-line (b ∷ l) bs = ap (λ t. cond t (b ∷ whole_lines (l ++ 10 ∷ bs)) []) (has-newline-in (b ∷ l) bs)
-    ∙ ap (λ (t : List ℕ). b ∷ t) (whole-line l bs)
-
-whole-unlines : (ls : List (List ℕ)) (p : List ℕ) → has_newline p ≡ false → whole_lines (unlines ls ++ p) ≡ unlines ls
-whole-unlines [] p h = whole-plain p h
-whole-unlines (l ∷ ls) p h = ap whole_lines (append_assoc l (10 ∷ unlines ls) p) ∙ whole-line l (unlines ls ++ p)
-    ∙ ap (λ (t : List ℕ). l ++ (10 ∷ t)) (whole-unlines ls p h)
 
 lines-some : (bs : List ℕ) → (bs ≡ [] → ⊥) → lines bs ≡ [] → ⊥
 lines-some [] n = λ e. n refl
@@ -158,23 +137,18 @@ module _ {script pending : List ℕ} {left old new : Option (List ℕ)} {m : Vie
   wrote : Appended old new' p.text
   wrote = appended-kept old new new' p.text p.wrote k
 
-  read-faulted : (pending' line : List ℕ) (left' : Option (List ℕ)) → has_newline line ≡ false → pending' ≡ []
-      → Took p.rest pending' left' line → Faulted script left' old new' f g Read
-  read-faulted pending' line left' h n t = (
+  pub line-faulted : (pending' line : List ℕ) (left' : Option (List ℕ)) (e : ToolFault)
+      → TakesLine p.rest pending' left' line (Err e) → Faulted script left' old new' f g e
+  line-faulted pending' line left' Read h = (
     printed,
-    unlines p.done ++ line,
-    t.rest,
-    p.split ∙ ap (λ (r : List ℕ). unlines p.done ++ r) t.split ∙ sym (append_assoc (unlines p.done) line t.rest),
-    unread-nil pending' left' t.rest n t.known,
-    sym (ap lines (whole-unlines p.done line h ∙ sym (append-nil (unlines p.done)))
-        ∙ lines-unlines p.done [] p.plain ∙ append-nil p.done),
+    line,
+    h.2.rest,
+    p.split ∙ ap (λ (r : List ℕ). unlines p.done ++ r) h.2.split,
+    unread-nil pending' left' h.2.rest h.1 h.2.known,
+    h.0,
     no_quit,
     wrote,
   )
-
-  pub line-faulted : (pending' line : List ℕ) (left' : Option (List ℕ)) (e : ToolFault)
-      → TakesLine p.rest pending' left' line (Err e) → Faulted script left' old new' f g e
-  line-faulted pending' line left' Read h = read-faulted pending' line left' h.0 h.1 h.2
   line-faulted pending' line left' Write h = (printed, part-whole old new' p.text wrote)
   line-faulted pending' line left' Memory h = (printed, lines-some p.rest h, no_quit, wrote)
   line-faulted pending' line left' (RefusedSource e) h = absurd h

@@ -1,8 +1,8 @@
 -- What a run of the debugger leaves in its writer.
-use Rattle.std.specs.Prelude.{◌≡◌, ◌≢◌, ◌⊎◌, ℕ, List, [], ◌++◌, Option, Some, Result, MatchResult}
+use Rattle.std.specs.Prelude.{◌≡◌, ◌≢◌, ◌⊎◌, ℕ, false, List, [], ◌++◌, Option, Some, Result, MatchResult}
 use Rattle.cbpf_code.specs.Writing.{Appended, AppendedPart}
 use Rattle.cbpf_tool.specs.FileMap.{Source}
-use Rattle.cbpf_tool.specs.Lines.{lines, whole_lines}
+use Rattle.cbpf_tool.specs.Lines.{lines, unlines, has_newline}
 use Rattle.cbpf_dbg.specs.View.{empty_view}
 use Rattle.cbpf_tool.specs.Output.{Output, HasQuit}
 use Rattle.cbpf_tool.specs.declared.fault.ToolFault.{ToolFault}
@@ -17,13 +17,14 @@ pub record Printed (script : List ℕ) (old new : Source) : Type 0 where
   pub split : lines script ≡ ls ++ more
   pub output : Output old.files empty_view old.failures ls text new.failures
 
--- after a read that failed: the output of the whole lines of what was read, of which none is `quit`.
--- After a write that failed: a beginning of the output of the first lines. Out of memory: the
--- output of the lines before the one that could not be held, of which none is `quit`
+-- after a read that failed: the output of the lines whose newline was read, of which none is `quit`; after them a
+-- part of a line was read. After a write that failed: a beginning of the output of the first lines. Out of memory:
+-- the output of the lines before the one that could not be held, of which none is `quit`
 abbrev pub Faulted : List ℕ → Option (List ℕ) → Option (List ℕ) → Option (List ℕ) → Source → Source
     → ToolFault → Type 0
-Faulted script left old new f g Read = (p : Printed script f g) × (taken rest : List ℕ) × (script ≡ taken ++ rest)
-    × (left ≡ Some rest) × (p.ls ≡ lines (whole_lines taken)) × (¬ HasQuit p.ls) × Appended old new p.text
+Faulted script left old new f g Read =
+    (p : Printed script f g) × (part rest : List ℕ) × (script ≡ unlines p.ls ++ (part ++ rest)) × (left ≡ Some rest)
+    × (has_newline part ≡ false) × (¬ HasQuit p.ls) × Appended old new p.text
 Faulted script left old new f g Write = (p : Printed script f g) × AppendedPart old new p.text
 Faulted script left old new f g Memory =
     (p : Printed script f g) × (p.more ≢ []) × (¬ HasQuit p.ls) × Appended old new p.text

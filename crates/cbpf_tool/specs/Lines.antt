@@ -1,5 +1,5 @@
 -- The lines of a script: each ends at a newline, and the last needs none.
-use Rattle.std.specs.Prelude.{ℕ, Bool, ◌==◌, if◌then◌else◌, List, [], ◌∷◌}
+use Rattle.std.specs.Prelude.{ℕ, Bool, ◌==◌, if◌then◌else◌, List, [], ◌∷◌, ◌++◌}
 use Rattle.std.specs.List.{list_any}
 use Rattle.cbpf_code.specs.Text.{put_front}
 
@@ -11,7 +11,7 @@ lines (b ∷ bs) = if b == 10 then ([] ∷ lines bs) else put_front b (lines bs)
 abbrev pub has_newline : List ℕ → Bool
 has_newline bs = list_any (λ b. b == 10) bs
 
--- the bytes up to the last newline
-abbrev pub whole_lines : List ℕ → List ℕ
-whole_lines [] = []
-whole_lines (b ∷ bs) = if has_newline (b ∷ bs) then (b ∷ whole_lines bs) else []
+-- lines with their newlines
+abbrev pub unlines : List (List ℕ) → List ℕ
+unlines [] = []
+unlines (l ∷ ls) = l ++ (10 ∷ unlines ls)

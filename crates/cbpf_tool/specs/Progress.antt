@@ -7,7 +7,7 @@ use Rattle.cbpf_tool.specs.declared.command.Command.{Command}
 use Rattle.cbpf_tool.specs.declared.command.Command.TheVariants as command
 use Rattle.cbpf_tool.specs.declared.command.CommandFault.{CommandFault}
 use Rattle.cbpf_tool.specs.FileMap.{FileMap, Source}
-use Rattle.cbpf_tool.specs.Lines.{has_newline}
+use Rattle.cbpf_tool.specs.Lines.{has_newline, unlines}
 use Rattle.cbpf_dbg.specs.View.{View, empty_view}
 use Rattle.cbpf_tool.specs.Reading.{unread}
 use Rattle.cbpf_tool.specs.Replies.{Reply, LineReplies, CanRunOut}
@@ -63,11 +63,6 @@ abbrev pub LineRan : Source → Source → View → View → Result (Option Comm
     → Option (List ℕ) → Result AfterLine WriteFault → Type 0
 LineRan f g m n said old new r =
     Kept f g × (IsTrue f.is_known → LineResult f.files m n f.failures g.failures said old new r)
-
--- lines with their newlines
-abbrev pub unlines : List (List ℕ) → List ℕ
-unlines [] = []
-unlines (l ∷ ls) = l ++ (10 ∷ unlines ls)
 
 abbrev pub EachPlain : List (List ℕ) → Type 0
 EachPlain [] = Unit {0}
