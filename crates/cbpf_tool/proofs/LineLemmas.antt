@@ -76,28 +76,25 @@ took-more bytes p p' q line (Some xs) t e =
       known = refl;
     }
 
-pub took-part : (bytes p p' part line line' : List ℕ) (left : Option (List ℕ)) → Took bytes p left line
+pub took-part : {bytes p p' line line' : List ℕ} {left : Option (List ℕ)} (part : List ℕ) → Took bytes p left line
     → p ≡ part ++ 10 ∷ p' → line' ≡ line ++ part → Took bytes p' left (line' ++ 10 ∷ [])
-took-part bytes p p' part line line' left t e k =
-    let whole : p ≡ (part ++ 10 ∷ []) ++ p' = e ∙ sym (append_assoc part (10 ∷ []) p') in
-    let text : line ++ (part ++ 10 ∷ []) ≡ line' ++ 10 ∷ [] =
-    sym (append_assoc line part (10 ∷ [])) ∙ ap (λ (b : List ℕ). b ++ 10 ∷ []) (sym k) in
-    subst (λ (b : List ℕ). Took bytes p' left b) text (took-more bytes p p' (part ++ 10 ∷ []) line left t whole)
+took-part {p = p} {p' = p'} {line = line} {left = left} part t e k =
+    rw (k, append_assoc line part (10 ∷ [])) (took-more _ p p' (part ++ 10 ∷ []) line left t
+    (e ∙ sym (append_assoc part (10 ∷ []) p')))
 
-pub took-all : (bytes p p' line line' : List ℕ) (left : Option (List ℕ)) → Took bytes p left line → p' ≡ []
+pub took-all : {bytes p p' line line' : List ℕ} {left : Option (List ℕ)} → Took bytes p left line → p' ≡ []
     → line' ≡ line ++ p → Took bytes p' left line'
-took-all bytes p p' line line' left t n k =
-    let whole : p ≡ p ++ p' = sym (append-nil p) ∙ ap (λ (b : List ℕ). p ++ b) (sym n) in
-    subst (λ (b : List ℕ). Took bytes p' left b) (sym k) (took-more bytes p p' p line left t whole)
+took-all {p = p} {p' = p'} {line = line} {left = left} t n k =
+    rw k (took-more _ p p' p line left t (rw (n, append-nil p) refl))
 
 -- what is after the bytes that were taken is still there once more was read
-pub took-filled : (bytes p p' line : List ℕ) (left left' : Option (List ℕ)) → (t : Took bytes p left line)
+pub took-filled : {bytes p p' line : List ℕ} {left left' : Option (List ℕ)} → (t : Took bytes p left line)
     → unread p' left' ≡ Some t.rest → Took bytes p' left' line
-took-filled bytes p p' line left left' t e = record { rest = t.rest; split = t.split; known = e }
+took-filled t e = record { rest = t.rest; split = t.split; known = e }
 
-pub took-end : (bytes p line : List ℕ) (left : Option (List ℕ)) → (t : Took bytes p left line) → t.rest ≡ []
+pub took-end : {bytes p line : List ℕ} {left : Option (List ℕ)} → (t : Took bytes p left line) → t.rest ≡ []
     → bytes ≡ line
-took-end bytes p line left t e = t.split ∙ ap (λ (r : List ℕ). line ++ r) e ∙ append-nil line
+took-end {line = line} t e = t.split ∙ ap (λ (r : List ℕ). line ++ r) e ∙ append-nil line
 
 unread-some : (p r : List ℕ) (left : Option (List ℕ)) → 0 < length p → unread p left ≡ Some r → r ≡ [] → ⊥
 unfolding unread
@@ -106,36 +103,19 @@ unread-some [] r (Some xs) h e n = absurd (omega (arith, h))
 unread-some (b ∷ bs) r (Some xs) h e n = cc
 
 -- a line has a byte that could not be held
-pub took-some : (bytes p line : List ℕ) (left : Option (List ℕ)) → Took bytes p left line → 0 < length p
+pub took-some : {bytes p line : List ℕ} {left : Option (List ℕ)} → Took bytes p left line → 0 < length p
     → bytes ≡ [] → ⊥
-took-some bytes p [] left t h e = unread-some p t.rest left h t.known (sym t.split ∙ e)
-took-some bytes p (b ∷ bs) left t h e = let f : (b ∷ bs) ++ t.rest ≡ [] = sym t.split ∙ e in cc
+took-some {p = p} {line = []} {left = left} t h e = unread-some p t.rest left h t.known (sym t.split ∙ e)
+took-some {line = b ∷ bs} t h e = let f : (b ∷ bs) ++ t.rest ≡ [] = sym t.split ∙ e in cc
 
-pub kept-then : (u v w : Option (List ℕ)) → Keeps u v → Keeps v w → Keeps u w
-kept-then None v w h k = tt
-kept-then (Some xs) None w h k = absurd h
-kept-then (Some xs) (Some ys) None h k = absurd k
-kept-then (Some xs) (Some ys) (Some zs) h k = k ∙ h
-
--- ---- how taking a line ends
-
-pub line-unfilled : (bytes p p' line : List ℕ) (left left' : Option (List ℕ)) (e : ToolFault) → Took bytes p left line
-    → has_newline line ≡ false → IsStreamFault e
+pub line-unfilled : {bytes p p' line : List ℕ} {left : Option (List ℕ)} (left' : Option (List ℕ)) (e : ToolFault)
+    → Took bytes p left line → has_newline line ≡ false → IsStreamFault e
     → ((rest : List ℕ) → unread p left ≡ Some rest → Fills rest p' left' (Err e))
     → TakesLine bytes p' left' line (Err e)
-line-unfilled bytes p p' line left left' Read t h n f = let k = f t.rest t.known in
-    (h, k.1, took-filled bytes p p' line left left' t k.0)
-line-unfilled bytes p p' line left left' Write t h n f = tt
-line-unfilled bytes p p' line left left' Memory t h n f = absurd n
-line-unfilled bytes p p' line left left' (Source e) t h n f = absurd n
-
-pub line-unheld : (bytes p p' line line' : List ℕ) (left left' : Option (List ℕ)) (e : ToolFault)
-    → Took bytes p left line → 0 < length p → TakesPart p p' line line' (Err e)
-    → TakesLine bytes p' left' line' (Err e)
-line-unheld bytes p p' line line' left left' Read t l h = absurd (cc)
-line-unheld bytes p p' line line' left left' Write t l h = tt
-line-unheld bytes p p' line line' left left' Memory t l h = took-some bytes p line left t l
-line-unheld bytes p p' line line' left left' (Source e) t l h = absurd (cc)
+line-unfilled left' Read t h n f = let k = f t.rest t.known in (h, k.1, took-filled t k.0)
+line-unfilled left' Write t h n f = tt
+line-unfilled left' Memory t h n f = absurd n
+line-unfilled left' (Source e) t h n f = absurd n
 
 pub pending-some : (chunk : List ℕ) (start end : ℕ) → end ≤ length chunk → start < end
     → 0 < length (take (end - start) (drop start chunk))

@@ -258,6 +258,7 @@ fn session_or_wrong<'a>(
 }
 
 /// The command of this name with what stands after it. Each command's name is ASCII, so a word that isn't UTF-8 is none.
+#[tactic(auto, using(crate::proofs::CommandLemmas::unknown))]
 fn command_by<'a>(name: &[u8], text: &'a [u8]) -> Result<Option<Command<'a>>, CommandFault>
     ensures { result ≡ spec.by_name name.now (words text.now) (trimmed (after_words 1 text.now)) }
 {
