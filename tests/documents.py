@@ -162,25 +162,21 @@ def crates_differ(path):
 def main():
     if len(sys.argv) < 2:
         sys.exit(__doc__)
-    names = [Path(name).resolve() for name in sys.argv[2:]]
     others = {TOP / "CONTRIBUTING.md", *(TOP / "docs").glob("*.md")} - set(REQUIRED)
-    documents = names or [*REQUIRED, *sorted(others)]
     passed = failed = not_run = 0
-    for path in documents:
+    for path in [Path(name).resolve() for name in sys.argv[2:]] or [*REQUIRED, *sorted(others)]:
         faults = [f"no file {name}" for name in broken_links(path)] if path.suffix == ".md" else []
         if path.name == "ARCHITECTURE.md":
             faults += [f"{a} over {b}: not the same in crates.txt" for a, b in crates_differ(path)]
         with tempfile.TemporaryDirectory() as folder:
+            for name in ("examples", "completion", "tools"):
+                shutil.copytree(TOP / name, Path(folder) / name)
             program = Path(folder) / "bin"
             program.mkdir()
             # Another user may run it, too.
             os.chmod(folder, 0o755)
-            shutil.copy(sys.argv[1], program / "cbpf")
-            (program / "cbpf").chmod(0o755)
+            shutil.copy(sys.argv[1], program / "cbpf").chmod(0o755)
             shutil.copy(TOP / "tools/cbpf-transcript", program)
-            copy = shutil.copytree(TOP / "examples", Path(folder) / "examples")
-            for beside in ("completion", "tools"):
-                shutil.copytree(TOP / beside, Path(folder) / beside)
             found = examples(path)
             if path in REQUIRED and not found:
                 faults.append("no example")
@@ -195,7 +191,7 @@ def main():
                     print(f"not run {path.name}:{number}: no {missing or 'command before it'}")
                     continue
                 try:
-                    fault = difference(command, lines, copy, program)
+                    fault = difference(command, lines, Path(folder) / "examples", program)
                 except subprocess.TimeoutExpired:
                     fault = f"no end within {SECONDS} seconds"
                 if fault:

@@ -20,8 +20,9 @@ import re
 import sys
 from collections import Counter
 from pathlib import Path
+from typing import NamedTuple
 
-CRATES = Path(__file__).resolve().parent.parent / "crates"
+CRATES = Path(sys.argv[1] if len(sys.argv) > 1 else Path(__file__).parent.parent / "crates").resolve()
 MACHINE = "cbpf_machine"
 # What changes a state, calculates or loads for a turn: whoever names one of these, or names who does, makes turns.
 ROOTS = "of set_core with_slot skip alu negated compares number_at op_of op_of_byte".split()
@@ -33,49 +34,59 @@ TOKEN = re.compile(
 )
 IS_NAME = re.compile(r"[A-Za-z_]\w*\Z")
 CLOSES = {"{": "}", "[": "]", "(": ")"}
+ITEMS = "fn struct enum trait impl const static type macro_rules".split()
+
+
+class Word(NamedTuple):
+    """A word of a file, its line, and the function or the item that it stands in."""
+
+    text: str
+    line: int
+    inside: str = ""
 
 
 def words_of(path):
-    """The words of a file without comments and blanks, each with the number of its line."""
+    """The words of a file without comments and blanks."""
     found, line = [], 1
     for match in TOKEN.finditer(path.read_text()):
         text = match[0]
         if not (text.isspace() or text.startswith(("//", "/*"))):
-            found.append(('""' if text.lstrip("b").startswith('"') else text, line))
+            found.append(Word('""' if text.lstrip("b").startswith('"') else text, line))
         line += text.count("\n")
     return found
 
 
+def texts(words, first, last):
+    return [word.text for word in words[max(first, 0) : last]]
+
+
+def found_at(words, at, wanted):
+    """The place of the first of the wanted words from a place on."""
+    return next(i for i in range(at, len(words)) if words[i].text in wanted)
+
+
 def end_of(words, at):
     """The place after the bracket that closes the one at a place."""
-    opening, depth = words[at][0], 0
+    opening, depth = words[at].text, 0
     for i in range(at, len(words)):
-        depth += (words[i][0] == opening) - (words[i][0] == CLOSES[opening])
+        depth += (words[i].text == opening) - (words[i].text == CLOSES[opening])
         if depth == 0:
             return i + 1
-    sys.exit(f"line {words[at][1]}: {opening} stays open")
-
-
-def is_contract(words, at):
-    """Whether a clause `ensures {..}` or `requires name {..}` begins at a place."""
-    return words[at][0] in ("ensures", "requires") and "{" in (w for w, _ in words[at + 1 : at + 3])
+    sys.exit(f"line {words[at].line}: {opening} stays open")
 
 
 def code_of(path):
     """The words of a file that make code: no contracts, ghost items and attributes but derives."""
     words, kept, at = words_of(path), [], 0
     while at < len(words):
-        word = words[at][0]
-        if word == "#" and "derive" not in (w for w, _ in words[at : at + 3]):
-            at = end_of(words, at + 2 if words[at + 1][0] == "!" else at + 1)
-        elif is_contract(words, at):
-            while words[at][0] != "{":
-                at += 1
-            at = end_of(words, at)
+        word = words[at].text
+        if word == "#" and "derive" not in texts(words, at, at + 3):
+            at = end_of(words, at + 2 if words[at + 1].text == "!" else at + 1)
+        elif word in ("ensures", "requires") and "{" in texts(words, at + 1, at + 3):
+            at = end_of(words, found_at(words, at, "{"))
         elif word == "ghost":
-            while words[at][0] not in ("{", ";", ","):
-                at += 1
-            at = end_of(words, at) if words[at][0] == "{" else at + 1
+            at = found_at(words, at, "{;,")
+            at = end_of(words, at) if words[at].text == "{" else at + 1
         else:
             kept.append(words[at])
             at += 1
@@ -83,38 +94,31 @@ def code_of(path):
 
 
 def items_of(words):
-    """The imports of a file, and its other words, each with the function or the item that it stands in."""
+    """The imports of a file, and its other words."""
     imports, others, open_items, depth, at = [], [], [], 0, 0
     while at < len(words):
-        word = words[at][0]
+        word = words[at].text
         if word == "use":
-            end = next(i for i in range(at, len(words)) if words[i][0] == ";")
-            visible = ["pub"] if others and others[-1][0] == "pub" else []
-            imports.append(visible + [w for w, _ in words[at:end]])
+            end = found_at(words, at, ";")
+            visible = ["pub"] if others and others[-1].text == "pub" else []
+            imports.append(visible + texts(words, at, end))
             at = end
-        elif word in ("fn", "struct", "enum", "trait", "impl", "const", "static", "type", "macro_rules") and (
-            not open_items or open_items[-1][1] is not None
-        ):
+        elif word in ITEMS and (not open_items or open_items[-1][1] is not None):
             head = at
-            while words[head][0] not in ("{", ";", "="):
-                head = end_of(words, head) if words[head][0] in ("(", "[") else head + 1
-            name = " ".join(w for w, _ in words[at : at + 2] if w != "fn") if word != "impl" else "impl"
-            open_items.append([name, None])
-            if words[head][0] != "{":
-                open_items[-1][1] = depth
+            while words[head].text not in ("{", ";", "="):
+                head = end_of(words, head) if words[head].text in ("(", "[") else head + 1
+            name = " ".join(text for text in texts(words, at, at + 2) if text != "fn") if word != "impl" else "impl"
+            open_items.append([name, None if words[head].text == "{" else depth])
         if word == "{":
             depth += 1
             if open_items and open_items[-1][1] is None:
                 open_items[-1][1] = depth
         inside = next((name for name, _ in reversed(open_items) if name != "impl"), "the file")
-        others.append((word, inside, words[at][1]))
-        if word == "}":
+        others.append(words[at]._replace(text=word, inside=inside))
+        if word == "}" or (word == ";" and depth == 0):
             while open_items and open_items[-1][1] == depth:
                 open_items.pop()
-            depth -= 1
-        elif word == ";":
-            while open_items and open_items[-1][1] == depth and depth == 0:
-                open_items.pop()
+        depth -= word == "}"
         at += 1
     return imports, others
 
@@ -122,62 +126,49 @@ def items_of(words):
 class Source:
     def __init__(self, path):
         self.path = path
-        self.name = "/".join([path.relative_to(CRATES).parts[0], *path.relative_to(CRATES).parts[2:]])
-        self.imports, self.others = items_of(code_of(path))
+        crate, _, *inner = path.relative_to(CRATES).parts
+        self.name = "/".join([crate, *inner])
+        self.imports, self.words = items_of(code_of(path))
         self.lines = path.read_text().splitlines()
-
-    def say(self, inside, line):
-        print(f"  {self.name}, {inside}: {self.lines[line - 1].strip()}")
 
 
 def sources(crate):
     return [Source(path) for path in sorted((CRATES / crate / "src").rglob("*.rt"))]
 
 
-def is_lent(words, at):
-    """Whether the word at a place is the whole type of a parameter or a field that is lent: `: &mut Meter,`."""
-    return [w for w, _, _ in words[max(at - 3, 0) : at]] == [":", "&", "mut"] and words[at + 1][0] in ",)"
-
-
-def list_meters(files):
-    for file in files:
-        for at, (word, inside, line) in enumerate(file.others):
-            if word == "Meter" and not is_lent(file.others, at):
-                file.say(inside, line)
-
-
 def list_imports(files, holds):
     for file in files:
-        for imported in file.imports:
-            if holds(imported):
-                print(f"  {file.name}: {text_of(imported)}")
-
-
-def text_of(imported):
-    return re.sub(r" ?(::|[{}]) ?", r"\1", " ".join(imported).replace(": :", "::")).replace(" ,", ",")
+        for imported in filter(holds, file.imports):
+            text = re.sub(r" ?(::|[{}]) ?", r"\1", " ".join(imported).replace(": :", "::")).replace(" ,", ",")
+            print(f"  {file.name}: {text}")
 
 
 def list_words(files, wanted, holds=lambda words, at: True):
     for file in files:
-        for at, (word, inside, line) in enumerate(file.others):
-            if word == wanted and holds(file.others, at):
-                file.say(inside, line)
+        for at, word in enumerate(file.words):
+            if word.text == wanted and holds(file.words, at):
+                print(f"  {file.name}, {word.inside}: {file.lines[word.line - 1].strip()}")
+
+
+def is_not_lent(words, at):
+    """Whether the word at a place isn't the whole type of a parameter or a field that is lent: `: &mut Meter,`."""
+    return texts(words, at - 3, at) != [":", "&", "mut"] or words[at + 1].text not in ",)"
 
 
 def is_field(words, at):
-    return words[at - 1][0] == "."
+    return words[at - 1].text == "."
 
 
 def is_changed(words, at):
     """Whether a field gets another value."""
-    after = "".join(w for w, _, _ in words[at + 1 : at + 3])
+    after = "".join(texts(words, at + 1, at + 3))
     return is_field(words, at) and after[:1] in tuple("=+-*/%&|^") and "=" in after and after != "=="
 
 
 def is_literal(words, at):
     """Whether a name is followed by the braces of a value, and not by those of an item."""
-    before = [w for w, _, _ in words[max(at - 2, 0) : at]]
-    return words[at + 1][0] == "{" and not {"struct", "impl", "for"} & set(before) and before != ["-", ">"]
+    before = texts(words, at - 2, at)
+    return words[at + 1].text == "{" and not {"struct", "impl", "for"} & set(before) and before != ["-", ">"]
 
 
 def functions_of(files):
@@ -185,21 +176,20 @@ def functions_of(files):
     found = {}
     for file in files:
         before = ""
-        for word, inside, _ in file.others:
+        for word, _, inside in file.words:
             if IS_NAME.match(word) and before not in ("fn", "mod"):
-                found.setdefault(f"{file.name.split('/')[-1]} {inside}", Counter())[word] += 1
+                found.setdefault(f"{file.path.name} {inside}", Counter())[word] += 1
             before = word
     return found
 
 
 def makers_of(functions):
     """The names of the functions that make turns: those that name one of them."""
-    makers = set(ROOTS)
-    while True:
-        more = {name.split()[-1] for name, words in functions.items() if makers & set(words) and len(name.split()) == 2}
-        if more <= makers:
-            return makers
+    makers, more = set(), set(ROOTS)
+    while not more <= makers:
         makers |= more
+        more = {name.split()[-1] for name, words in functions.items() if makers & set(words) and len(name.split()) == 2}
+    return makers
 
 
 def list_named(functions, wanted, beside=()):
@@ -210,17 +200,10 @@ def list_named(functions, wanted, beside=()):
             print(f"  {name}: {', '.join(named)}")
 
 
-def seen_outside(file):
-    """The functions of a file that other crates can call, but for those of a trait."""
-    words = [word for word, _, _ in file.others]
-    return [words[at + 2] for at, word in enumerate(words) if word == "pub" and words[at + 1] == "fn"]
-
-
 def list_machine(files):
-    meter = next(file for file in files if file.path.name == "meter.rt")
     print("the derives, the functions and the changes of a meter:")
     for word in ("derive", "fn", "Self", "turns"):
-        list_words([meter], word)
+        list_words([file for file in files if file.path.name == "meter.rt"], word)
     print("literals of a state:")
     for word in ("State", "Core"):
         list_words(files, word, is_literal)
@@ -236,29 +219,27 @@ def list_machine(files):
     makers = makers_of(functions)
     print("of what makes turns, other crates can call:")
     for file in files:
-        for name in seen_outside(file):
-            if name in makers:
-                print(f"  {file.name}, {name}")
+        for at, word in enumerate(file.words):
+            # But for those of a trait.
+            if word.text in makers and texts(file.words, at - 2, at) == ["pub", "fn"]:
+                print(f"  {file.name}, {word.text}")
     print("what makes turns, what it names, and its loops:")
     list_named(functions, makers, LOOPS)
 
 
 def main():
-    global CRATES
-    if len(sys.argv) > 1:
-        CRATES = Path(sys.argv[1]).resolve()
     crates = sorted(path.name for path in CRATES.iterdir() if (path / "src").is_dir())
     outside = [file for crate in crates if crate != MACHINE and not crate.endswith("_tests") for file in sources(crate)]
     machine = sources(MACHINE)
     print("meters outside the machine:")
-    list_meters(outside)
+    list_words(outside, "Meter", is_not_lent)
     print("meters in a field:")
     list_words(outside, "meter", is_field)
     list_words(outside, "Stops", is_literal)
     print("the word stops, of the call that has a meter of its own:")
-    list_words(outside, "stops", lambda words, at: words[at - 1][0] not in ("fn", "mod"))
+    list_words(outside, "stops", lambda words, at: words[at - 1].text not in ("fn", "mod"))
     print("meters in the machine:")
-    list_meters(machine)
+    list_words(machine, "Meter", is_not_lent)
     print("imports that give another name, or all names:")
     list_imports(outside + machine, lambda imported: "as" in imported or "*" in imported)
     list_machine(machine)

@@ -80,33 +80,36 @@ def first_difference(wanted, got):
     return next(f"line {n}: wanted {want!r}, got {line!r}" for n, (want, line) in pairs if want != line)
 
 
-def tried(case, program):
+def lay_out(case, folder, environment):
+    """Makes the files of a case."""
+    for name, text in case.items():
+        if name.startswith("files/"):
+            path = folder / name.removeprefix("files/")
+            path.parent.mkdir(parents=True, exist_ok=True)
+            path.write_bytes(text)
+    for line in case["captures"].decode().splitlines():
+        capture, name = line.split(" ", 1)
+        shutil.copy(CAPTURES / capture, folder / name)
+    for command in case.get("setup", b"").decode().splitlines():
+        subprocess.run(command, shell=True, cwd=folder, env=environment, check=True)
+
+
+def tried(program, case):
     """What differs, and what is lacking for a part of the case."""
     environment = {**os.environ, "LC_ALL": "C", "PROGRAM": program, "EXAMPLES": str(EXAMPLES)}
     case = parts(case)
-    with tempfile.TemporaryDirectory() as folder:
-        for name, text in case.items():
-            if name.startswith("files/"):
-                path = Path(folder) / name.removeprefix("files/")
-                path.parent.mkdir(parents=True, exist_ok=True)
-                path.write_bytes(text)
-        for line in case.get("captures", b"").decode().splitlines():
-            capture, name = line.split(" ", 1)
-            shutil.copy(CAPTURES / capture, Path(folder) / name)
-        for command in case.get("setup", b"").decode().splitlines():
-            subprocess.run(command, shell=True, cwd=folder, env=environment, check=True)
-        words = [program, *case.get("args", b"").decode().splitlines()]
-        if "command" in case:
-            words = ["sh", "-c", case["command"].decode()]
-        done = subprocess.run(
-            words,
-            input=case.get("stdin", b""),
-            capture_output=True,
-            cwd=folder,
-            env=environment,
-            timeout=SECONDS,
-        )
-        not_run = Path(folder) / "not_run"
+    words = [program, *case.get("args", b"").decode().splitlines()]
+    if "command" in case:
+        words = ["sh", "-c", case["command"].decode()]
+    with tempfile.TemporaryDirectory() as name:
+        folder = Path(name)
+        lay_out(case, folder, environment)
+        given = {"input": case.get("stdin", b""), "capture_output": True}
+        try:
+            done = subprocess.run(words, **given, cwd=folder, env=environment, timeout=SECONDS)
+        except subprocess.TimeoutExpired:
+            return [f"no end within {SECONDS} seconds"], []
+        not_run = folder / "not_run"
         lacking = not_run.read_text().splitlines() if not_run.exists() else []
     wanted = {
         "stdout": (case["stdout"], done.stdout),
@@ -117,14 +120,6 @@ def tried(case, program):
     return found, lacking
 
 
-def outcome(program, case):
-    """What `tried` says, or that the case came to no end."""
-    try:
-        return tried(case, program)
-    except subprocess.TimeoutExpired:
-        return [f"no end within {SECONDS} seconds"], []
-
-
 def main():
     if len(sys.argv) < 2:
         sys.exit(__doc__)
@@ -132,21 +127,17 @@ def main():
     words = sys.argv[2:]
     cases = {str(path.with_suffix("").relative_to(CASES)): path for path in sorted(CASES.rglob("*.case"))}
     chosen = {name: case for name, case in cases.items() if not words or any(word in name for word in words)}
-    passed = failed = in_part = 0
     # As many cases at once as there are processors.
     with ThreadPoolExecutor(len(os.sched_getaffinity(0))) as pool:
-        outcomes = pool.map(partial(outcome, program), chosen.values())
-        for name, (found, lacking) in zip(chosen, outcomes):
-            in_part += bool(lacking)
-            for what in lacking:
-                print(f"not run {name}: no {what}")
-            if found:
-                failed += 1
-                print(f"failed {name}")
-                for line in found:
-                    print("   ", line[:2000])
-            else:
-                passed += 1
+        outcomes = list(pool.map(partial(tried, program), chosen.values()))
+    for name, (found, lacking) in zip(chosen, outcomes):
+        for what in lacking:
+            print(f"not run {name}: no {what}")
+        if found:
+            print("\n    ".join([f"failed {name}", *(line[:2000] for line in found)]))
+    failed = sum(bool(found) for found, _ in outcomes)
+    in_part = sum(bool(lacking) for _, lacking in outcomes)
+    passed = len(outcomes) - failed
     print(f"{passed} passed, {failed} failed" + (f", {in_part} with a part not run" if in_part else ""))
     sys.exit(1 if failed or not passed else 0)
 
