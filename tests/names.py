@@ -29,6 +29,7 @@ Blanks and line ends of a text and of a file may differ in number.
 The last line is `N names, M failed`.
 """
 
+import os
 import re
 import sys
 from functools import cache
@@ -65,16 +66,6 @@ def check(holds, path, line, what):
         faults.append(f"{path.relative_to(TOP)}:{line}: {what}")
 
 
-def files_below(folder):
-    for path in sorted(folder.iterdir()):
-        if path.is_dir():
-            if path.name not in ("out", ".git", "cases", "captures"):
-                yield path
-                yield from files_below(path)
-        else:
-            yield path
-
-
 @cache
 def text_of(path):
     return path.read_text(errors="replace")
@@ -82,7 +73,17 @@ def text_of(path):
 
 @cache
 def all_paths():
-    return list(files_below(TOP))
+    """All files and folders but those of builds, cases and captures."""
+    found = []
+    for folder, folders, files in os.walk(TOP):
+        folders[:] = [name for name in folders if name not in ("out", ".git", "cases", "captures")]
+        found += [Path(folder) / name for name in folders + files]
+    return sorted(found)
+
+
+@cache
+def joined_sources(crate):
+    return [text_of(path) for path in sorted((CRATES / crate / "src").rglob("*.rt"))]
 
 
 @cache
@@ -96,8 +97,9 @@ def words():
             if path.suffix in (".rt", ".antt"):
                 text = re.sub(r"^\s*(//|--).*$", "", text, flags=re.M)
             found |= set(re.findall(r"[A-Za-z_]\w*(?:-\w+)*", text)) | set(re.findall(r"\w+", text))
-    found |= {path.stem for path in (TOP / "tests").rglob("*") if path.is_dir() or path.suffix in (".pcap", ".case")}
-    found |= {path.name for path in (TOP / "tests").rglob("*.pcap")}
+    for path in (TOP / "tests").rglob("*"):
+        if path.is_dir() or path.suffix in (".pcap", ".case"):
+            found |= {path.stem, path.name}
     return found
 
 
@@ -113,20 +115,20 @@ def is_path(name):
     return "/" in name or (head != "" and suffix in SUFFIXES)
 
 
-def found(pattern, folders):
-    pattern = re.sub(r"\bNAME\b|<\w+>", "*", pattern).rstrip("/")
-    return any(next(folder.glob(pattern), None) for folder in folders if folder.is_dir())
-
-
 def is_there(name, document, here, in_table):
     if OUTSIDE.match(name) or name[0].isdigit():
         return True
+    cases = TOP / "tests/cases"
     if "/" not in name.rstrip("/") and "*" not in name:
-        return any(path.name == name.rstrip("/") for path in all_paths()) or any((TOP / "tests/cases" / f"{name}{end}").exists() for end in ("", ".case"))
-    folders = [TOP, CRATES, document.parent, TOP / "examples", TOP / "tests/cases"]
+        known = {path.name for path in all_paths()}
+        return name.rstrip("/") in known or any((cases / f"{name}{end}").exists() for end in ("", ".case"))
     near = [CRATES / crate for crate in here]
-    anywhere = [] if in_table and near else [CRATES / crate for crate in crates()]
-    return found(name, folders + near + anywhere) or found(f"{name}.case", [TOP / "tests/cases"])
+    folders = [TOP, CRATES, document.parent, TOP / "examples", cases, *near]
+    if not (in_table and near):
+        folders += [CRATES / crate for crate in crates()]
+    pattern = re.sub(r"\bNAME\b|<\w+>", "*", name).rstrip("/")
+    there = any(next(folder.glob(pattern), None) for folder in folders if folder.is_dir())
+    return there or any(cases.glob(f"{pattern}.case"))
 
 
 def is_known(name):
@@ -194,9 +196,9 @@ def check_spans(path):
 def functions(crate):
     """The functions of a crate, each with the names of its clauses (of all functions of this name)."""
     clauses = {}
-    for path in sorted((CRATES / crate / "src").rglob("*.rt")):
+    for text in joined_sources(crate):
         name = None
-        for line in text_of(path).splitlines():
+        for line in text.splitlines():
             if match := FUNCTION.search(line):
                 name = match[1]
                 clauses.setdefault(name, set())
@@ -208,8 +210,11 @@ def functions(crate):
 @cache
 def members(crate):
     """The ghost members and laws of a crate's traits and impl blocks, and the derives' own clauses."""
-    text = "".join(text_of(path) for path in sorted((CRATES / crate / "src").rglob("*.rt")))
-    return set(re.findall(r"\bghost (?:law )?(\w+)", text)) | {"ensures"}
+    return set(re.findall(r"\bghost (?:law )?(\w+)", "".join(joined_sources(crate)))) | {"ensures"}
+
+
+def all_clauses(crate):
+    return set().union(*functions(crate).values())
 
 
 def check_promises(path):
@@ -227,18 +232,15 @@ def check_promises(path):
                     check(is_known(part), path, number, f"no call {call}")
         text = cells[columns[0]]
         inner = re.findall(r"`(\w+)`:", text)
+        where = inner or called
+        clauses = [functions(crate)[f] for crate in own for f in where if f in functions(crate)]
+        known = set().union(*clauses, *map(members, own))
+        if not clauses:
+            # The row is of a type, and the cell names its functions or their clauses.
+            known |= set().union(*map(functions, own), *map(all_clauses, own))
         for name in CODE_SPAN.findall(text):
-            if not re.fullmatch(r"[a-z]\w*", name) or name in inner:
-                continue
-            where = inner or called
-            known = [functions(crate)[f] for crate in own for f in where if f in functions(crate)]
-            holds = any(name in clauses for clauses in known)
-            holds = holds or any(name in members(crate) for crate in own)
-            if not known:
-                # The row is of a type, and the cell names its functions or their clauses.
-                holds = holds or any(name in functions(crate) for crate in own)
-                holds = holds or any(name in clauses for crate in own for clauses in functions(crate).values())
-            check(holds, path, number, f"no clause {name} of {', '.join(where)} in {', '.join(own)}")
+            if re.fullmatch(r"[a-z]\w*", name) and name not in inner:
+                check(name in known, path, number, f"no clause {name} of {', '.join(where)} in {', '.join(own)}")
         for name in inner:
             check(any(name in functions(crate) for crate in own), path, number, f"no function {name}")
 
@@ -295,12 +297,11 @@ def shown_files(kind, name):
     if kind == "test":
         found = test_files(name)
     elif kind == "edit":
-        crate, _, edit = name.partition("/")
-        found = [CRATES / crate / "must-fail" / f"{edit}.edit"]
-    elif kind == "script" and f" tests/{name}" in text_of(TOP / "Makefile").partition("\ncheck:")[2]:
-        found = [TOP / "tests" / name]
-    elif kind == "case" and (TOP / "tests/cases" / f"{name}.case").is_file():
+        found = [CRATES / f"{name.replace('/', '/must-fail/')}.edit"]
+    elif kind == "case":
         found = [TOP / "tests/cases" / f"{name}.case"]
+    elif f" tests/{name}" in text_of(TOP / "Makefile").partition("\ncheck:")[2]:
+        found = [TOP / "tests" / name]
     return [file for file in found if file.is_file()]
 
 
@@ -365,19 +366,15 @@ def check_edits(path):
         for name in CODE_SPAN.findall(cells[0]):
             rows.setdefault(name, []).append(number)
             check((path.parent / f"{name}.edit").exists(), path, number, f"no edit {name}")
-        called = [name for name in CODE_SPAN.findall(cells[-1]) if name.split("::")[-1] in functions(crate)]
-        for name in CODE_SPAN.findall(cells[-1]):
-            if not re.fullmatch(r"[a-z][\w:]*", name):
-                continue
-            last = name.split("::")[-1]
-            clauses = [functions(crate)[f.split("::")[-1]] for f in called]
-            holds = last in functions(crate) or any(last in found for found in clauses) or last in members(crate)
-            if not holds and not clauses:
-                holds = any(last in found for found in functions(crate).values()) or last in words()
-            check(holds, path, number, f"no function or clause {name} in {crate}")
+        spans = [name for name in CODE_SPAN.findall(cells[-1]) if re.fullmatch(r"[a-z][\w:]*", name)]
+        called = [name.split("::")[-1] for name in spans if name.split("::")[-1] in functions(crate)]
+        known = {*functions(crate), *members(crate)}.union(*(functions(crate)[f] for f in called))
+        if not called:
+            known |= all_clauses(crate) | words()
+        for name in spans:
+            check(name.split("::")[-1] in known, path, number, f"no function or clause {name} in {crate}")
         for goal in GOAL.findall(cells[-1]):
-            answered = any(goal in answers(crate, f.split("::")[-1]) for f in called)
-            check(not answered, path, number, f"the goal {goal} has an answer")
+            check(not any(goal in answers(crate, f) for f in called), path, number, f"the goal {goal} has an answer")
     for edit in sorted(path.parent.glob("*.edit")):
         check(len(rows.get(edit.stem, [])) == 1, path, 1, f"{len(rows.get(edit.stem, []))} rows for {edit.name}")
         check_edit(edit, crate)
