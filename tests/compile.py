@@ -21,31 +21,17 @@ BELOW = "cbpf_machine"
 ERROR = re.compile(r"src/main\.rt:(\d+):\d+: error\[([\w-]+)\]")
 SECONDS = 600
 
-PRIVATE = "private-field"
-ROWS = [
-    (
-        "fn make_state(s: State) -> State",
-        "s",
-        [("State { pc: 1, a: 0, x: 0, slots: [0; 16] }", PRIVATE), ("State { a: 1, ..s }", PRIVATE)],
-    ),
-    (
-        "fn write_state(s: &mut State)",
-        "*s = State::zero();",
-        [("s.pc = 1;", PRIVATE), ("s.a = 1;", PRIVATE), ("s.x = 1;", PRIVATE), ("s.slots[0] = 1;", PRIVATE)],
-    ),
-    ("fn make_meter() -> Meter", "Meter::new()", [("Meter { turns: 1 }", PRIVATE)]),
-    (
-        "fn write_meter(m: &mut Meter)",
-        "*m = Meter::new();",
-        [("m.turns = 1;", PRIVATE), ("m.tick();", "private-item"), ("m.add(1);", "private-item")],
-    ),
-    (
-        "fn copy_meter(m: &Meter) -> Meter",
-        "Meter::new()",
-        [("*m", "move-out-of-place"), ("m.clone()", "unsupported-method")],
-    ),
-    ("fn write_values(v: &mut Values)", "*v = Values::new();", [("v.places[0] = None;", PRIVATE)]),
-]
+# The errors are of private fields, where no other is named.
+ROWS = {
+    ("fn make_state(s: State) -> State", "s"): ["State { pc: 1, a: 0, x: 0, slots: [0; 16] }", "State { a: 1, ..s }"],
+    ("fn write_state(s: &mut State)", "*s = State::zero();"): ["s.pc = 1;", "s.a = 1;", "s.x = 1;", "s.slots[0] = 1;"],
+    ("fn make_meter() -> Meter", "Meter::new()"): ["Meter { turns: 1 }"],
+    ("fn write_meter(m: &mut Meter)", "*m = Meter::new();"): ["m.turns = 1;", "m.tick();", "m.add(1);"],
+    ("fn copy_meter(m: &Meter) -> Meter", "Meter::new()"): ["*m", "m.clone()"],
+    ("fn write_values(v: &mut Values)", "*v = Values::new();"): ["v.places[0] = None;"],
+}
+OTHER_ERRORS = {"*m": "move-out-of-place", "m.clone()": "unsupported-method"}
+OTHER_ERRORS |= dict.fromkeys(["m.tick();", "m.add(1);"], "private-item")
 HEAD = """#![tactic(auto)]
 #![allow(dead_code)]
 
@@ -103,20 +89,19 @@ def main():
         lines = [f"{name}:{below}" for name, below in needed.items()] + [f"outside: {BELOW}"]
         (Path(folder) / "crates.txt").write_text("\n".join(lines) + "\n")
 
-        text, _ = source([(head, body) for head, body, _ in ROWS])
-        holds, said, _ = compiled(folder, text)
+        holds, said, _ = compiled(folder, source(ROWS)[0])
         if not holds:
             faults.append(f"what is allowed doesn't compile:\n{said}")
 
-        refused = [(head, line, error) for head, _, lines in ROWS for line, error in lines]
-        text, places = source([(head, line) for head, line, _ in refused])
+        refused = [(head, line) for (head, _), lines in ROWS.items() for line in lines]
+        text, places = source(refused)
         holds, said, found = compiled(folder, text)
-        wanted = {(place, error) for place, (_, _, error) in zip(places, refused)}
-        for place, (_, line, error) in zip(places, refused):
+        wanted = {(place, OTHER_ERRORS.get(line, "private-field")): line for place, (_, line) in zip(places, refused)}
+        for place, error in wanted:
             if holds or (place, error) not in found:
-                faults.append(f"no error[{error}]: {line}")
-        if found - wanted:
-            faults.append(f"other errors at lines {sorted(found - wanted)}:\n{said}")
+                faults.append(f"no error[{error}]: {wanted[place, error]}")
+        if others := sorted(found - set(wanted)):
+            faults.append(f"other errors at lines {others}:\n{said}")
     for fault in faults:
         print(fault)
     print(f"{len(refused)} lines refused, {len(faults)} failed")
