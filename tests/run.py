@@ -11,7 +11,7 @@ program runs in a new folder, with
   command  a shell command to run in its place, where the program is $PROGRAM and examples/ is $EXAMPLES
   files/NAME  a file that lies where it runs
   captures one line for each capture of tests/captures that lies there too: its name (../../examples/NAME for one of
-           examples/), a space, its name there; where a case has no such lines, the two packets of examples/ are `k`
+           examples/), a space, its name there; where a case has neither these nor files/k, the two packets of examples/ are `k`
   setup    one shell command a line, run there first
   texts/NAME  lines for which a line `<<NAME>>` stands in any text of the case, and `<<NAME | ONE | OTHER>>` with ONE in
            place of `$1` and OTHER of `$2`; tests/texts has those of all cases
@@ -68,10 +68,11 @@ def expanded(text, found):
 
 def parts(case):
     """The texts of a case by their names."""
-    found = {"captures": K} | texts(CASES.parent / "texts") | texts(case)
+    found = texts(CASES.parent / "texts") | texts(case)
     found = {name: expanded(text, found) for name, text in found.items() if not name.startswith("texts/")}
     folder = case.with_suffix("")
-    return found | {str(path.relative_to(folder)): path.read_bytes() for path in folder.rglob("*") if path.is_file()}
+    found |= {str(path.relative_to(folder)): path.read_bytes() for path in folder.rglob("*") if path.is_file()}
+    return {"captures": b"" if "files/k" in found else K} | found
 
 
 def first_difference(wanted, got):
