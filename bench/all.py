@@ -138,7 +138,7 @@ def absent():
     """The peers and tools that are missing."""
     names = [tool for tool in ["tcpdump", "bpf_asm", "bpf_dbg", "valgrind", "cc"] if not shutil.which(tool)]
     with tempfile.TemporaryDirectory() as folder:
-        if "cc" not in names and not session.bpf_filter(pathlib.Path(folder)):
+        if "cc" not in names and not session.compiled(pathlib.Path(folder), "bpf_filter", "-lpcap"):
             names.append("libpcap-dev")
     return names
 
@@ -158,7 +158,7 @@ def measure(said, quiet, missing, picture):
     put("ratios", [said, "", *table(["work", "beside", "ratio of the medians"], turns(lines))])
     if "cc" not in missing and (quiet or "valgrind" not in missing):
         put("growth", growth(quiet, picture))
-    if quiet:
+    if quiet and "cc" not in missing:
         for name, rows in sources():
             put(name, rows)
 

@@ -2,42 +2,28 @@
 of growing size.
 
 User and system time of whole processes. Each run is followed by one of a source with a single instruction, whose
-time is taken away; of the differences the median is printed. What the source is answered is looked at before it is timed
-(answers.py). The peak is the largest resident set of the process
-(`ru_maxrss`), which is never less than this script's own before it starts the program, some 12 MB; so sources are
-written in pieces. Needs crates/cbpf built by `make build`, or takes the program's path as its argument.
+time is taken away; of the differences the median is printed. What the source is answered is looked at before it is
+timed (answers.py). Needs cc, and crates/cbpf built by `make build`.
 """
-import os
-import pathlib
+import itertools
 import statistics
-import subprocess
-import sys
-import tempfile
 
 import answers
+import session
 
-top = pathlib.Path(__file__).resolve().parent.parent
-cbpf = sys.argv[1] if len(sys.argv) > 1 else str(top / "crates/cbpf/out/cbpf")
+cbpf = session.cbpf
 
 LABELS = 2000
 
 
-def run(source, status):
-    """The seconds of user and system time of one run, which ends with this status, and its peak memory in bytes."""
-    with open(os.devnull, "wb") as nowhere:
-        process = subprocess.Popen([cbpf, "asm", str(source)], stdout=nowhere, stderr=nowhere)
-        _, ended, used = os.wait4(process.pid, 0)
-        process.returncode = os.waitstatus_to_exitcode(ended)
-    if process.returncode != status:
-        answers.fault(cbpf, f"status {process.returncode}, where {status} is wanted")
-    return used.ru_utime + used.ru_stime, used.ru_maxrss * 1024
-
-
-def beyond_start(source, start, rounds, status):
+def beyond_start(process, source, start, rounds, status):
     """The median of the seconds that a source takes beyond the program's start, and the peak memory."""
-    pairs = [(run(source, status), run(start, 0)) for _ in range(rounds)]
-    spent = statistics.median(longer - least for (longer, _), (least, _) in pairs)
-    return spent, max(peak for (_, peak), _ in pairs)
+    longer, least = [], []
+    for _ in range(rounds):
+        longer.append(session.used(process, [cbpf, "asm", source], status=status))
+        least.append(session.used(process, [cbpf, "asm", start]))
+    spent = statistics.median(one.seconds() - other.seconds() for one, other in zip(longer, least))
+    return spent, max(one.peak for one in longer)
 
 
 def write(path, pieces):
@@ -57,8 +43,7 @@ def with_labels():
 
 
 def labels(names):
-    yield from (f"{name}:\n" for name in names)
-    yield "ret #0\n"
+    return itertools.chain((f"{name}:\n" for name in names), ["ret #0\n"])
 
 
 def plain(count):
@@ -72,15 +57,11 @@ def colliding(count):
     The program that prints them hashes names as the toolchain's `FoldHasher` does from its fixed seed, until enough
     have the same 14 lowest bits: a minute or two for a million.
     """
-    with tempfile.TemporaryDirectory() as name:
-        program = pathlib.Path(name) / "colliding_names"
-        subprocess.run(["cc", "-O2", "-o", program, top / "bench/colliding_names.c"], check=True)
-        with subprocess.Popen([program, str(count)], stdout=subprocess.PIPE, text=True) as names:
-            made = 0
-            for made, line in enumerate(names.stdout, 1):
-                answers.holds(program, len(line) == 9, "a name of eight letters", line)
-                yield line.rstrip()
-        answers.holds(program, made == count, f"{count} names", f"{made} names")
+    printed, _ = session.in_folder(lambda folder: answers.asked([session.compiled(folder, "colliding_names"), count]))
+    names = printed.splitlines()
+    are_so = len(names) == count and all(len(name) == 8 for name in names)
+    answers.holds("colliding_names", are_so, f"{count} names of eight letters", f"{len(names)} names")
+    yield from names
 
 
 def repeated(unit, size):
@@ -89,12 +70,6 @@ def repeated(unit, size):
         piece = unit * (min(size, 10**6) // len(unit))
         yield piece
         size -= len(piece)
-
-
-def around(begin, pieces, end):
-    yield begin
-    yield from pieces
-    yield end
 
 
 # How the answers begin: words, or a refusal.
@@ -118,40 +93,39 @@ def instructions(size, line):
 
 
 GROWING = [
-    ("one comment", lambda size: around("/*", repeated("*", size), "*/ ret #0\n"), lambda size: ONE),
-    ("blanks", lambda size: around("", repeated(" ", size), "ret #0\n"), lambda size: ONE),
-    ("lines of comment", lambda size: around("", repeated("; comment\n", size), "ret #0\n"), lambda size: ONE),
+    ("one comment", lambda size: itertools.chain(["/*"], repeated("*", size), ["*/ ret #0\n"]), lambda size: ONE),
+    ("blanks", lambda size: itertools.chain(repeated(" ", size), ["ret #0\n"]), lambda size: ONE),
+    ("lines of comment", lambda size: itertools.chain(repeated("; comment\n", size), ["ret #0\n"]), lambda size: ONE),
     ("one long line of misplaced numbers", lambda size: repeated("1 ", size), lambda size: MISPLACED),
     ("one long line of instructions", lambda size: repeated("ret #0 ", size), lambda size: instructions(size, 1)),
-    ("one long word", lambda size: around("", repeated("a", size), ": ret #0\n"), lambda size: ONE),
+    ("one long word", lambda size: itertools.chain(repeated("a", size), [": ret #0\n"]), lambda size: ONE),
     ("labels", lambda size: labels(f"l{i:06}" for i in range(size // 9)), lambda size: ONE),
     ("labels whose names collide", lambda size: labels(colliding(size // 10)), lambda size: ONE),
     ("instructions", lambda size: repeated("ret #0\n", size), lambda size: instructions(size, 4097)),
 ]
 
 
-def main():
-    with tempfile.TemporaryDirectory() as name:
-        path = pathlib.Path(name) / "source"
-        start = pathlib.Path(name) / "start"
-        write(start, ["ret #0\n"])
+def main(folder):
+    process = session.compiled(folder, "process")
+    path, start = folder / "source", folder / "start"
+    write(start, ["ret #0\n"])
 
-        def row(what, pieces, rounds, wanted):
-            write(path, pieces)
-            refused = int(wanted.startswith("cbpf:"))
-            answer = answers.asked([cbpf, "asm", path], status=refused)[refused]
-            answers.holds(cbpf, answer.startswith(wanted), repr(wanted), answer)
-            spent, peak = beyond_start(path, start, rounds, refused)
-            size = path.stat().st_size
-            print(f"{what}, {size / 1e6:.2f} MB: {spent * 1e3:.2f} ms, {peak / 1e6:.1f} MB", flush=True)
+    def row(what, pieces, rounds, wanted):
+        write(path, pieces)
+        refused = int(wanted.startswith("cbpf:"))
+        answer = answers.asked([cbpf, "asm", path], status=refused)[refused]
+        answers.holds(cbpf, answer.startswith(wanted), repr(wanted), answer)
+        spent, peak = beyond_start(process, path, start, rounds, refused)
+        size = path.stat().st_size
+        print(f"{what}, {size / 1e6:.2f} MB: {spent * 1e3:.2f} ms, {peak / 1e6:.1f} MB", flush=True)
 
-        row("4000 instructions with 2000 labels", [with_labels()], 51, "4000,40 0 0 0,21 0 2 0,")
-        for what, pieces, rounds, wanted in HOSTILE:
-            row(what, pieces, rounds, wanted)
-        for what, pieces, wanted in GROWING:
-            for size, rounds in [(10**4, 51), (10**5, 31), (10**6, 9), (10**7, 3)]:
-                row(what, pieces(size), rounds, wanted(size))
+    row("4000 instructions with 2000 labels", [with_labels()], 51, "4000,40 0 0 0,21 0 2 0,")
+    for what, pieces, rounds, wanted in HOSTILE:
+        row(what, pieces, rounds, wanted)
+    for what, pieces, wanted in GROWING:
+        for size, rounds in [(10**4, 51), (10**5, 31), (10**6, 9), (10**7, 3)]:
+            row(what, pieces(size), rounds, wanted(size))
 
 
 if __name__ == "__main__":
-    main()
+    session.in_folder(main)

@@ -7,10 +7,7 @@ it is timed (answers.py). Wants crates/cbpf built by `make build`.
 `debugger.py --callgrind` counts machine instructions in their place, by valgrind.
 """
 import os
-import pathlib
 import shutil
-import sys
-import tempfile
 
 import answers
 import session
@@ -35,65 +32,42 @@ def words(count, instructions):
     return f"{count}," + ",".join(instructions * (count // 4))
 
 
-class Bench:
-    def __init__(self, folder, counting):
-        self.folder, self.counting = folder, counting
+def spent(measure, head, command, times, rounds=5):
+    works = measure.of(cbpf, head, command, times)
+    return min(works() for _ in range(1 if measure.counting else rounds))
 
-    def spent(self, program, head, command, times):
-        """The seconds, or the machine instructions, of a command without the lines before it."""
 
-        def taken(count):
-            script = session.script(self.folder, head + f"{command}\n" * count + "quit\n")
-            return session.counted([program], script) if self.counting else session.timed([program], script, 1)
+def show_programs(measure):
+    """Loads and dumps of the longest program."""
+    load = f"load bpf {words(4096, INSTRUCTIONS)}"
+    script = session.script(measure.folder, f"{load}\n" * LOADS)
+    answers.debugged(cbpf, script, ("bpf: 4096 instructions", LOADS))
+    measure.show("load bpf", spent(measure, "", load, LOADS) / 4096, "an instruction")
+    script = session.script(measure.folder, f"{load}\n" + "dump\n" * DUMPS)
+    answers.debugged(cbpf, script, ("{ 0", 4096 * DUMPS))
+    measure.show("dump", spent(measure, f"{load}\n", "dump", DUMPS) / 4096, "a line")
 
-        return taken(2) - taken(1) if self.counting else (taken(times + 1) - taken(1)) / times
 
-    def show(self, what, spent, unit, beside=""):
-        cost = f"{spent:.1f} machine instructions" if self.counting else f"{spent * 1e9:.0f} ns"
-        print(f"{what}: {cost} {unit}{beside}", flush=True)
+def show_beside_bpf_dbg(measure):
+    """The same lines by both, of a program that bpf_dbg takes."""
+    head = f"load bpf {words(TAKEN_SIZE, TAKEN)}\n"
+    for command, beginning in [("dump", "{ 0"), ("disassemble", "l")]:
+        script = session.script(measure.folder, head + f"{command}\n" * DUMPS + "quit\n")
+        lines = TAKEN_SIZE * DUMPS
+        ours = answers.lines_of(cbpf, answers.asked([cbpf], script)[0], beginning, lines)
+        theirs = answers.lines_of("bpf_dbg", replies(answers.asked(["bpf_dbg"], script)[0]), beginning, lines)
+        if command == "dump":
+            answers.same("bpf_dbg", "\n".join(ours), "\n".join(theirs))
+        mine, other = (measure.of(program, head, command, DUMPS) for program in (cbpf, "bpf_dbg"))
+        measure.compare(f"{command} of {TAKEN_SIZE} instructions", mine, "a line", "bpf_dbg", other, TAKEN_SIZE)
 
-    def least(self, head, command, times, rounds=5):
-        rounds = 1 if self.counting else rounds
-        return min(self.spent(cbpf, head, command, times) for _ in range(rounds))
 
-    def programs(self):
-        """Loads and dumps of the longest program."""
-        load = f"load bpf {words(4096, INSTRUCTIONS)}"
-        script = session.script(self.folder, f"{load}\n" * LOADS)
-        answers.debugged(cbpf, script, ("bpf: 4096 instructions", LOADS))
-        self.show("load bpf", self.least("", load, LOADS) / 4096, "an instruction")
-        script = session.script(self.folder, f"{load}\n" + "dump\n" * DUMPS)
-        answers.debugged(cbpf, script, ("{ 0", 4096 * DUMPS))
-        self.show("dump", self.least(f"{load}\n", "dump", DUMPS) / 4096, "a line")
-
-    def beside_bpf_dbg(self):
-        """The same lines by both, of a program that bpf_dbg takes."""
-        head = f"load bpf {words(TAKEN_SIZE, TAKEN)}\n"
-        for command, beginning in [("dump", "{ 0"), ("disassemble", "l")]:
-            script = session.script(self.folder, head + f"{command}\n" * DUMPS + "quit\n")
-            lines = TAKEN_SIZE * DUMPS
-            ours = answers.lines_of(cbpf, answers.asked([cbpf], script)[0], beginning, lines)
-            said, _ = answers.asked(["bpf_dbg"], script)
-            theirs = answers.lines_of("bpf_dbg", replies(said), beginning, lines)
-            if command == "dump":
-                answers.same("bpf_dbg", "\n".join(ours), "\n".join(theirs))
-
-            def of(program):
-                return lambda: self.spent(program, head, command, DUMPS) / TAKEN_SIZE
-
-            mine, other, ratio, least = session.by_turns(of(cbpf), of("bpf_dbg"), 1 if self.counting else session.ROUNDS)
-            if self.counting:
-                beside = f", {ratio:.2f} times bpf_dbg ({other:.1f})"
-            else:
-                beside = f", {ratio:.2f} times bpf_dbg ({least:.2f} of the least)"
-            self.show(f"{command} of {TAKEN_SIZE} instructions", mine, "a line", beside)
-
-    def hostile(self):
-        for what, text, reply in HOSTILE:
-            load = f"load bpf {text}"
-            answer, _ = answers.asked([cbpf], session.script(self.folder, f"{load}\n"))
-            answers.same(cbpf, reply, answer)
-            self.show(f"word text of 10 MB of {what}", self.least("", load, 1, 3) / 10**7, "a byte")
+def show_hostile(measure):
+    for what, text, reply in HOSTILE:
+        load = f"load bpf {text}"
+        answer, _ = answers.asked([cbpf], session.script(measure.folder, f"{load}\n"))
+        answers.same(cbpf, reply, answer)
+        measure.show(f"word text of 10 MB of {what}", spent(measure, "", load, 1, 3) / 10**7, "a byte")
 
 
 def replies(said):
@@ -105,17 +79,15 @@ def replies(said):
     return "\n".join(lines)
 
 
-def main():
-    counting = "--callgrind" in sys.argv[1:]
-    with tempfile.TemporaryDirectory() as name:
-        # bpf_dbg keeps a history in the home folder.
-        os.environ["HOME"] = name
-        bench = Bench(pathlib.Path(name), counting)
-        bench.programs()
-        if shutil.which("bpf_dbg"):
-            bench.beside_bpf_dbg()
-        bench.hostile()
+def main(folder):
+    # bpf_dbg keeps a history in the home folder.
+    os.environ["HOME"] = str(folder)
+    measure = session.Measure(folder)
+    show_programs(measure)
+    if shutil.which("bpf_dbg"):
+        show_beside_bpf_dbg(measure)
+    show_hostile(measure)
 
 
 if __name__ == "__main__":
-    main()
+    session.in_folder(main)

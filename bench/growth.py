@@ -11,11 +11,10 @@ import pathlib
 import shutil
 import statistics
 import sys
-import tempfile
 
 import answers
 import assembler
-import processes
+import programs
 import session
 
 COUNTING = "--callgrind" in sys.argv[1:]
@@ -30,7 +29,7 @@ WIDTH, HEIGHT, LEFT, TOP, GAP = 300, 190, 60, 36, 90
 def spent(process, *commands):
     """The time and the peak memory of each command, by turns."""
     each = [[str(word) for word in command] for command in commands]
-    rounds = [[processes.used(process, words) for words in each] for _ in range(1 if COUNTING else ROUNDS)]
+    rounds = [[session.used(process, words) for words in each] for _ in range(1 if COUNTING else ROUNDS)]
     for place, words in enumerate(each):
         mine = [turn[place] for turn in rounds]
         if COUNTING:
@@ -46,9 +45,9 @@ def assembled(folder, process):
     points = []
     for step in STEPS:
         assembler.write(source, assembler.labels(f"l{i:07}" for i in range(LABELS * step)))
-        answer, _ = answers.asked([processes.cbpf, "asm", source])
-        answers.same(processes.cbpf, "1,6 0 0 0,\n", answer)
-        points += [(source.stat().st_size, *each) for each in spent(process, [processes.cbpf, "asm", source])]
+        answer, _ = answers.asked([session.cbpf, "asm", source])
+        answers.same(session.cbpf, "1,6 0 0 0,\n", answer)
+        points += [(source.stat().st_size, *each) for each in spent(process, [session.cbpf, "asm", source])]
     return {"cbpf": points}
 
 
@@ -61,9 +60,9 @@ def run(folder, process):
     for step in STEPS:
         packets = PACKETS * step
         file = session.capture(folder / "packets", packets)
-        script.write_text(f"load bpf {session.SIX}\nload pcap {file}\nrun\n")
-        passes = answers.counts(processes.cbpf, script, packets)
-        commands = [[processes.cbpf, "dbg", script]]
+        script.write_text(f"load bpf {programs.SIX}\nload pcap {file}\nrun\n")
+        passes = answers.counts(session.cbpf, script, packets)
+        commands = [[session.cbpf, "dbg", script]]
         if "tcpdump" in points:
             answers.read_by_tcpdump(file, "ip proto 17", passes, 16 + len(session.FRAME))
             commands.append(["tcpdump", "-q", "-r", file, "--count", "ip proto 17"])
@@ -134,16 +133,14 @@ def picture(works):
     return "\n".join([head, f'<rect width="{width}" height="{height}" fill="white"/>', *lines, "</svg>"]) + "\n"
 
 
-def main():
-    with tempfile.TemporaryDirectory() as name:
-        folder = pathlib.Path(name)
-        process = processes.compiled(folder, "process")
-        if not process:
-            sys.exit("no cc")
-        works = [
-            ("asm", "bytes of source, a label a line", assembled(folder, process)),
-            ("load and run", "packets of 64 bytes", run(folder, process)),
-        ]
+def main(folder):
+    process = session.compiled(folder, "process")
+    if not process:
+        sys.exit("no cc")
+    works = [
+        ("asm", "bytes of source, a label a line", assembled(folder, process)),
+        ("load and run", "packets of 64 bytes", run(folder, process)),
+    ]
     for what, _, points in works:
         for program, each in points.items():
             for size, cost, peak in each:
@@ -153,4 +150,4 @@ def main():
 
 
 if __name__ == "__main__":
-    main()
+    session.in_folder(main)

@@ -16,10 +16,9 @@ import re
 import shutil
 import statistics
 import sys
-import tempfile
 
 import answers
-import processes
+import programs
 import session
 
 cbpf = session.cbpf
@@ -34,7 +33,7 @@ ROUNDS_OF_GIGABYTE = 3
 STARTS = 30
 PAGE = os.sysconf("SC_PAGE_SIZE")
 UDP = 17
-UDP_FILTER = ("ip proto 17", session.SIX)
+UDP_FILTER = ("ip proto 17", programs.SIX)
 
 
 def frames(size):
@@ -65,7 +64,7 @@ class Work:
         return statistics.median(part(used) for used in self.turns)
 
     def seconds(self):
-        return self.median(processes.Used.seconds)
+        return self.median(session.Used.seconds)
 
 
 def take_turns(process, works, file, rounds):
@@ -78,7 +77,7 @@ def take_turns(process, works, file, rounds):
             if work.what in lost:
                 continue
             for _ in range(STARTS if work.large_pages else 1):
-                used = processes.used(process, work.command, env=LARGE_PAGES if work.large_pages else None)
+                used = session.used(process, work.command, env=LARGE_PAGES if work.large_pages else None)
                 if not work.large_pages or used.faults < small / 2:
                     work.turns.append(used)
                     break
@@ -92,7 +91,7 @@ def take_turns(process, works, file, rounds):
 def floors(folder, file, packets, size):
     """A load by cbpf, and the least that a C program takes for the same bytes."""
     script = session.script(folder, f"load pcap {file}\n")
-    reading = processes.compiled(folder, "reading")
+    reading = session.compiled(folder, "reading")
     reply = f"pcap: {packets} packets\n"
     yield Work("load pcap", [cbpf, "dbg", script], reply=reply)
     yield Work("load pcap, large pages", [cbpf, "dbg", script], True, reply)
@@ -139,7 +138,7 @@ def print_beside_tcpdump(folder, process, what, file, packets, size, filter_, ro
     done = take_turns(process, ours + peers, file, rounds)
     for work in [each for each in ours if each in done]:
         for peer in peers:
-            least = min(map(processes.Used.seconds, work.turns)) / min(map(processes.Used.seconds, peer.turns))
+            least = min(map(session.Used.seconds, work.turns)) / min(map(session.Used.seconds, peer.turns))
             print(
                 f"{work.what}, {what}, {expression}, which {passes:,} of {packets:,} pass:"
                 f" {work.seconds() / packets * 1e9:.0f} ns a packet, {work.seconds() / peer.seconds():.2f} times"
@@ -162,14 +161,14 @@ def print_gigabyte(folder, process):
 
 
 def print_times(folder):
-    process = processes.compiled(folder, "process")
+    process = session.compiled(folder, "process")
     if not process:
         sys.exit("no cc")
     for size, packets in CAPTURES:
         file = session.capture(folder / "capture", packets, frames(size))
         print_loads(folder, process, file, packets, size)
         if shutil.which("tcpdump"):
-            for filter_ in [UDP_FILTER] + [("port 22", session.PORT)] * (size == 64):
+            for filter_ in [UDP_FILTER] + [("port 22", programs.PORT)] * (size == 64):
                 print_beside_tcpdump(folder, process, f"packets of {size} bytes", file, packets, size, filter_, ROUNDS)
     if shutil.which("tcpdump"):
         print_gigabyte(folder, process)
@@ -188,14 +187,5 @@ def print_counts(folder):
         print(f"load pcap, packets of {size} bytes: {spent:.1f} machine instructions a packet", flush=True)
 
 
-def main():
-    with tempfile.TemporaryDirectory() as name:
-        folder = pathlib.Path(name)
-        if "--callgrind" in sys.argv[1:]:
-            print_counts(folder)
-        else:
-            print_times(folder)
-
-
 if __name__ == "__main__":
-    main()
+    session.in_folder(print_counts if "--callgrind" in sys.argv[1:] else print_times)

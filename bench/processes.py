@@ -7,60 +7,20 @@ without cc or valgrind so are the columns that need it. Each program's answer is
 
 Its lines: what: instructions, page faults, peak memory in MB, ratio of the times to those of cbpf's line above
 """
-import dataclasses
-import pathlib
-import re
 import shutil
 import statistics
-import subprocess
-import tempfile
 
 import answers
 import assembler
+import programs
 import session
 
-top = pathlib.Path(__file__).resolve().parent.parent
-cbpf = top / "crates/cbpf/out/cbpf"
+cbpf = session.cbpf
 
 PACKETS = 100_000
 ROUNDS = 31
 TEN = "ldh [12]\njne #0x800, drop\nldb [23]\njne #6, drop\nldh [20]\njset #0x1fff, drop\nldxb 4*([14]&0xf)\n"
 TEN += "ldh [x + 16]\nret #-1\ndrop: ret #0\n"
-
-
-def compiled(folder, name, text=None):
-    """The C program of this name, or with this text, where cc is there."""
-    if not shutil.which("cc"):
-        return None
-    source = top / "bench" / f"{name}.c"
-    if text:
-        source = folder / f"{name}.c"
-        source.write_text(text)
-    subprocess.run(["cc", "-O2", "-o", folder / name, source], check=True)
-    return folder / name
-
-
-@dataclasses.dataclass
-class Used:
-    """What a process took: seconds of its own and of the kernel's for it, bytes at most, page faults."""
-
-    user: float
-    system: float
-    peak: int
-    faults: int
-
-    def seconds(self):
-        return self.user + self.system
-
-
-def used(process, command, script="/dev/null", env=None):
-    words = [str(word) for word in command]
-    answer, _ = answers.asked([process, script, *words], env=env)
-    answers.holds(process, re.fullmatch(r"(\d+ ){4}\d+\n", answer), "five numbers", answer)
-    user, system, kilobytes, faults, status = map(int, answer.split())
-    if status:
-        answers.fault(words[0], f"status {status} of {' '.join(words)}")
-    return Used(user / 1e6, system / 1e6, kilobytes * 1024, faults)
 
 
 def instructions(command, script="/dev/null"):
@@ -83,7 +43,7 @@ def assembled(source, count):
 def loaded(folder):
     """The commands that read 100,000 packets and filter them."""
     packets, script = session.capture(folder / "packets", PACKETS), folder / "script"
-    script.write_text(f"load bpf {session.SIX}\nload pcap {packets}\nrun\n")
+    script.write_text(f"load bpf {programs.SIX}\nload pcap {packets}\nrun\n")
     passes = answers.counts(cbpf, script, PACKETS)
     yield "load and `run` of 100,000 packets of 64 bytes, `ip proto 17`", [cbpf, "dbg", script]
     if shutil.which("tcpdump"):
@@ -97,7 +57,7 @@ def works(folder):
     ten, large = folder / "ten", folder / "large"
     ten.write_text(TEN)
     large.write_text(assembler.with_labels())
-    empty = compiled(folder, "empty", "int main(void) { return 0; }\n")
+    empty = session.compiled(folder, "empty")
     start = [("`cbpf`, an empty script", [cbpf]), ("`cbpf dbg`, an empty script", [cbpf, "dbg"])]
     start += [("an empty C program", [empty])] if empty else []
     for _, command in start:
@@ -111,7 +71,7 @@ def works(folder):
 def print_work(process, commands):
     """A line for each command, with its times as a ratio to the first one's, by turns."""
     words = [[str(word) for word in command] for _, command in commands]
-    rounds = [[used(process, command) for command in words] for _ in range(ROUNDS)] if process else []
+    rounds = [[session.used(process, command) for command in words] for _ in range(ROUNDS)] if process else []
     for place, (what, _) in enumerate(commands):
         parts = []
         if count := instructions(words[place]):
@@ -126,13 +86,11 @@ def print_work(process, commands):
         print(f"{what}: " + ", ".join(parts), flush=True)
 
 
-def main():
-    with tempfile.TemporaryDirectory() as name:
-        folder = pathlib.Path(name)
-        process = compiled(folder, "process")
-        for commands in works(folder):
-            print_work(process, commands)
+def main(folder):
+    process = session.compiled(folder, "process")
+    for commands in works(folder):
+        print_work(process, commands)
 
 
 if __name__ == "__main__":
-    main()
+    session.in_folder(main)

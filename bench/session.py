@@ -22,6 +22,7 @@ import sys
 import tempfile
 
 import answers
+import programs
 
 top = pathlib.Path(__file__).resolve().parent.parent
 cbpf = top / "crates/cbpf/out/cbpf"
@@ -36,27 +37,6 @@ RESUMED_PACKETS = 100
 LISTED_PACKETS = 100_000
 # TCP over IPv4: a header of five words, no flags, ports of 0
 FRAME = bytes(12) + b"\x08\x00\x45" + bytes(8) + b"\x06" + bytes(40)
-# what `tcpdump -ddd` makes of `ip proto 17` and of `port 22`
-SIX = "6,40 0 0 12,21 0 3 2048,48 0 0 23,21 0 1 17,6 0 0 262144,6 0 0 0"
-PORT = (
-    "24,40 0 0 12,21 0 8 34525,48 0 0 20,21 2 0 132,21 1 0 6,21 0 17 17,40 0 0 54,21 14 0 22,"
-    "40 0 0 56,21 12 13 22,21 0 12 2048,48 0 0 23,21 2 0 132,21 1 0 6,21 0 8 17,40 0 0 20,"
-    "69 6 0 8191,177 0 0 14,72 0 0 14,21 2 0 22,72 0 0 16,21 0 1 22,6 0 0 65535,6 0 0 0"
-)
-# what `tcpdump -ddd` makes of `ip[0] & 0xf != 5`: 6 of its instructions run over a frame, all but the accepting return
-HEADER = "7,40 0 0 12,21 0 4 2048,48 0 0 14,84 0 0 15,21 1 0 5,6 0 0 65535,6 0 0 0"
-# what `tcpdump -O -ddd` makes of `tcp[tcpflags] & (tcp-syn|tcp-fin) != 0`: 35 run over a frame
-FLAGS = (
-    "44,40 0 0 12,21 0 41 2048,40 0 0 12,21 0 2 2048,48 0 0 23,21 8 0 6,40 0 0 12,21 0 35 34525,"
-    "48 0 0 20,21 4 0 6,48 0 0 20,21 0 31 44,48 0 0 54,21 0 29 6,40 0 0 20,69 27 0 8191,"
-    "0 0 0 13,2 0 0 0,177 0 0 14,96 0 0 0,12 0 0 0,7 0 0 0,80 0 0 14,2 0 0 1,0 0 0 2,2 0 0 2,"
-    "0 0 0 1,2 0 0 3,97 0 0 3,96 0 0 2,76 0 0 0,2 0 0 3,97 0 0 3,96 0 0 1,92 0 0 0,2 0 0 3,"
-    "0 0 0 0,2 0 0 4,97 0 0 4,96 0 0 3,28 0 0 0,21 1 0 0,6 0 0 65535,6 0 0 0"
-)
-# `jeq #7` after `ld mark`, and after `ld #7`
-MARK = "4,32 0 0 4294963220,21 0 1 7,6 0 0 65535,6 0 0 0"
-SEVEN = "4,0 0 0 7,21 0 1 7,6 0 0 65535,6 0 0 0"
-LONG = "4096," + "7 0 0 0," * 4095 + "6 0 0 1"
 
 
 @dataclasses.dataclass
@@ -99,22 +79,80 @@ def counted(command, script="/dev/null", status=0):
     return int(found[1])
 
 
-def by_turns(ours, theirs, rounds=ROUNDS):
-    """The times of both, called in turns: their medians, and the ratios of the medians and of the least."""
-    pairs = [(ours(), theirs()) for _ in range(rounds)]
-    ours, theirs = zip(*pairs)
-    ratio = statistics.median(ours) / statistics.median(theirs)
-    return statistics.median(ours), statistics.median(theirs), ratio, min(ours) / min(theirs)
+@dataclasses.dataclass(frozen=True)
+class Measure:
+    """Measures works in a folder: by their seconds, or by their machine instructions."""
+
+    folder: pathlib.Path
+    counting: bool = "--callgrind" in sys.argv[1:]
+
+    def cost(self, command, file="/dev/null", rounds=1):
+        return counted(command, file) if self.counting else timed(command, file, rounds)
+
+    @functools.cache
+    def count(self, program, text):
+        return counted([program], script(self.folder, text))
+
+    def alone(self, taken, times=TIMES):
+        """What a work takes of its own, by what is taken where it is done so many times."""
+        return taken(2) - taken(1) if self.counting else (taken(times + 1) - taken(1)) / times
+
+    def of(self, program, head, work, times=TIMES, rounds=1):
+        """What measures a work of a script without the lines before it."""
+
+        def taken(count):
+            text = head + f"{work}\n" * count + "quit\n"
+            return self.count(program, text) if self.counting else timed([program], script(self.folder, text), rounds)
+
+        return lambda: self.alone(taken, times)
+
+    def show(self, what, spent, unit, beside=""):
+        cost = f"{spent:.1f} machine instructions" if self.counting else f"{spent * 1e9:.0f} ns"
+        print(f"{what}: {cost} {unit}{beside}", flush=True)
+
+    def compare(self, what, ours, unit, than, theirs, units):
+        """Shows what measures a work beside what measures another one, by turns: the ratio is of the medians."""
+        ours, theirs = zip(*((ours(), theirs()) for _ in range(1 if self.counting else ROUNDS)))
+        mine, other = statistics.median(ours), statistics.median(theirs)
+        shown = f"{other / units:.1f}" if self.counting else f"{min(ours) / min(theirs):.2f} of the least"
+        self.show(what, mine / units, unit, f", {mine / other:.2f} times {than} ({shown})")
 
 
-def bpf_filter(folder):
-    """The program that runs bpf_filter over a capture, where it can be built."""
+def in_folder(work):
+    with tempfile.TemporaryDirectory() as name:
+        return work(pathlib.Path(name))
+
+
+def compiled(folder, name, *libraries):
+    """The C program of this name, where it can be built."""
     if not shutil.which("cc"):
         return None
-    made = subprocess.run(
-        ["cc", "-O2", top / "bench/bpf_filter.c", "-o", folder / "bpf_filter", "-lpcap"], capture_output=True
-    )
-    return folder / "bpf_filter" if made.returncode == 0 else None
+    words = ["cc", "-O2", "-o", folder / name, top / f"bench/{name}.c", *libraries]
+    return folder / name if subprocess.run(words, capture_output=True).returncode == 0 else None
+
+
+@dataclasses.dataclass
+class Used:
+    """What a process took: seconds of its own and of the kernel's for it, bytes at most, page faults."""
+
+    user: float
+    system: float
+    peak: int
+    faults: int
+
+    def seconds(self):
+        return self.user + self.system
+
+
+def used(process, command, script="/dev/null", env=None, status=0):
+    """What a command took, which ends with this status, by the program of process.c."""
+    words = [str(word) for word in command]
+    answer, _ = answers.asked([process, script, *words], env=env)
+    answers.holds(process, re.fullmatch(r"(\d+ ){4}\d+\n", answer), "five numbers", answer)
+    user, system, kilobytes, faults, ended = map(int, answer.split())
+    if ended != status:
+        answers.fault(words[0], f"status {ended} of {' '.join(words)}, where {status} is wanted")
+    return Used(user / 1e6, system / 1e6, kilobytes * 1024, faults)
 
 
 def capture(path, packets, frames=(FRAME,)):
@@ -136,81 +174,49 @@ def script(folder, text):
     return path
 
 
-def program(folder, name):
-    """The lines of a program that bench/programs.py wrote: their number, then one for each instruction."""
-    return (folder / f"{name}.txt").read_text().splitlines()
+# The programs that run beside bpf_filter, each with the number of its packets.
+ALONE = [
+    ("ip proto 17", programs.SIX, COMPARED_PACKETS),
+    ("port 22", programs.PORT, COMPARED_PACKETS),
+    ("35 instructions", programs.FLAGS, COMPARED_PACKETS),
+    ("arithmetic", programs.words(programs.ARITHMETIC), COMPARED_PACKETS),
+    ("straight", programs.words(programs.STRAIGHT), STRAIGHT_PACKETS),
+]
 
 
-def print_filter_alone(folder, libpcap, what, words, packets):
-    """Times `run` without its loading, by turns with bpf_filter."""
-    file = capture(folder / "some", packets)
-    (folder / "words").write_text(words.replace(",", "\n") + "\n")
-    head = f"load bpf {words}\nload pcap {file}\n"
-    passes = answers.counts(cbpf, script(folder, head + "run\n"), packets)
-    answers.filtered(libpcap, [libpcap, folder / "words", 1, file], passes, packets)
-
-    def runs(times):
-        return timed([cbpf], script(folder, head + "run\n" * times), 1)
-
-    def filters(times):
-        return timed([libpcap, folder / "words", times, file], "/dev/null", 1)
-
-    ours, theirs, ratio, least = by_turns(
-        lambda: (runs(TIMES + 1) - runs(1)) / TIMES, lambda: (filters(TIMES + 1) - filters(1)) / TIMES
-    )
-    print(
-        f"run alone, {what}: {ours / packets * 1e9:.0f} ns a packet, {ratio:.2f} times bpf_filter"
-        f" ({least:.2f} of the least)",
-        flush=True,
-    )
-
-
-def alone(folder):
-    """The programs that run beside bpf_filter, each with the number of its packets."""
-    yield "ip proto 17", SIX, COMPARED_PACKETS
-    yield "port 22", PORT, COMPARED_PACKETS
-    yield "35 instructions", FLAGS, COMPARED_PACKETS
-    for name, packets in [("arithmetic", COMPARED_PACKETS), ("straight", STRAIGHT_PACKETS)]:
-        yield name, ",".join(program(folder, name)), packets
-
-
-def print_runs(folder):
-    """Times runs beside bpf_filter."""
-    libpcap = bpf_filter(folder)
-    for what, words, packets in alone(folder) if libpcap else ():
-        print_filter_alone(folder, libpcap, what, words, packets)
-
-
-def print_counted_runs(folder):
-    """Counts the machine instructions of runs beside those of bpf_filter with its loop."""
-    libpcap = bpf_filter(folder)
-    for what, words, packets in alone(folder):
-        packets //= COMPARED_PACKETS // COUNTED_PACKETS
+def show_runs(measure):
+    """Runs without their loading, beside bpf_filter with its loop."""
+    folder = measure.folder
+    libpcap = compiled(folder, "bpf_filter", "-lpcap")
+    for what, words, packets in ALONE:
+        packets //= COMPARED_PACKETS // COUNTED_PACKETS if measure.counting else 1
         file = capture(folder / "some", packets)
         head = f"load bpf {words}\nload pcap {file}\n"
         passes = answers.counts(cbpf, script(folder, head + "run\n"), packets)
-        ours = instructions_alone(folder, head, "run") / packets
-        line = f"run alone, {what}: {ours:.1f} machine instructions a packet"
-        if libpcap:
-            (folder / "words").write_text(words.replace(",", "\n") + "\n")
-            answers.filtered(libpcap, [libpcap, folder / "words", 1, file], passes, packets)
-            twice, once = (counted([libpcap, folder / "words", times, file]) for times in (2, 1))
-            theirs = (twice - once) / packets
-            line += f", {ours / theirs:.2f} times bpf_filter ({theirs:.1f})"
-        print(line, flush=True)
+        ours = measure.of(cbpf, head, "run")
+        if not libpcap:
+            measure.show(f"run alone, {what}", ours() / packets, "a packet")
+            continue
+        (folder / "words").write_text(words.replace(",", "\n") + "\n")
+        filtering = [libpcap, folder / "words"]
+        answers.filtered(libpcap, [*filtering, 1, file], passes, packets)
+
+        def theirs():
+            return measure.alone(lambda times: measure.cost([*filtering, times, file]))
+
+        measure.compare(f"run alone, {what}", ours, "a packet", "bpf_filter", theirs, packets)
 
 
 def comparisons(folder, file):
     """Runs and lists of stops that can meet something beside the same that can't, over a capture of frames."""
-    instructions = program(folder, "arithmetic")[1:]
     # One return more, which no packet reaches: the return before it ends each of them.
-    arithmetic = ",".join([str(len(instructions) + 1)] + instructions + ["6 0 0 0"])
+    arithmetic = programs.words([*programs.ARITHMETIC, "6 0 0 0"])
     # With each program an instruction that no frame reaches. The first two are the returns that accept: a frame's
     # header has five words, and it has neither of the flags.
     for what, words, unreached in [
-        ("6 instructions", HEADER, 5),
-        ("35 instructions", FLAGS, 42),
-        ("62 arithmetic instructions", arithmetic, len(instructions)),
+        ("6 instructions", programs.HEADER, 5),
+        ("35 instructions", programs.FLAGS, 42),
+        ("62 arithmetic instructions", arithmetic, len(programs.ARITHMETIC)),
     ]:
         quiet = f"load bpf {words}\nload pcap {file}\n"
         with_breakpoint = quiet + f"breakpoint {unreached}\n"
@@ -224,17 +230,16 @@ def comparisons(folder, file):
         yield Comparison(f"a step past the capture's end, {what}", quiet, "a run", quiet, "step 1000000000", "run")
         name = f"run with a condition that never holds, {what}"
         yield Comparison(name, with_condition, f"a run with {never}", with_breakpoint, "run")
-    mark, seven = (f"load bpf {words}\nload pcap {file}\n" for words in (MARK, SEVEN))
+    mark, seven = (f"load bpf {words}\nload pcap {file}\n" for words in (programs.MARK, programs.SEVEN))
     yield Comparison("run, ld mark with a value", mark + "value mark 7\n", "the same with ld #7", seven, "run")
-    header = f"load bpf {HEADER}\nload pcap {file}\n"
+    header = f"load bpf {programs.HEADER}\nload pcap {file}\n"
     what = "run with a value that no instruction asks for, 6 instructions"
     yield Comparison(what, header + "value mark 7\n", "a run without", header, "run")
 
 
 def resumes(folder):
     """A `resume` at the last step of each packet, of a program whose 4096 instructions all run, beside a run."""
-    words = ",".join(program(folder, "straight"))
-    head = f"load bpf {words}\nload pcap {capture(folder / 'resumed', RESUMED_PACKETS)}\n"
+    head = f"load bpf {programs.words(programs.STRAIGHT)}\nload pcap {capture(folder / 'resumed', RESUMED_PACKETS)}\n"
     commands = "\n".join(f"resume {packet} 4096" for packet in range(1, RESUMED_PACKETS + 1))
     what = "resume at step 4096 of each packet, 4096 instructions"
     return Comparison(what, head, "a run", head, commands, "run", "at ")
@@ -259,95 +264,46 @@ def measurable(folder, packets):
         yield compared, count
 
 
-def seconds_alone(folder, head, command):
-    """The time of a command without the lines before it."""
-
-    def taken(times):
-        return timed([cbpf], script(folder, head + f"{command}\n" * times), 1)
-
-    return (taken(TIMES + 1) - taken(1)) / TIMES
-
-
-@functools.cache
-def instructions_alone(folder, head, command):
-    """The machine instructions of a command without the lines before it, and without what its first time costs more."""
-
-    def taken(times):
-        return counted([cbpf], script(folder, head + f"{command}\n" * times))
-
-    return taken(2) - taken(1)
-
-
-def print_compared(folder):
-    for compared, packets in measurable(folder, COMPARED_PACKETS):
-        ours, theirs, ratio, least = by_turns(
-            lambda: seconds_alone(folder, compared.head, compared.command),
-            lambda: seconds_alone(folder, compared.base, compared.beside or compared.command),
-        )
-        print(
-            f"{compared.what}: {ours / packets * 1e9:.0f} ns a packet, {ratio:.2f} times {compared.than}"
-            f" ({least:.2f} of the least)",
-            flush=True,
-        )
-
-
-def print_counts(folder):
-    for compared, packets in measurable(folder, COUNTED_PACKETS):
-        ours = instructions_alone(folder, compared.head, compared.command) / packets
-        theirs = instructions_alone(folder, compared.base, compared.beside or compared.command) / packets
-        print(
-            f"{compared.what}: {ours:.1f} machine instructions a packet, {ours / theirs:.2f} times {compared.than}"
-            f" ({theirs:.1f})",
-            flush=True,
-        )
+def show_compared(measure):
+    count = COUNTED_PACKETS if measure.counting else COMPARED_PACKETS
+    for compared, packets in measurable(measure.folder, count):
+        ours = measure.of(cbpf, compared.head, compared.command)
+        theirs = measure.of(cbpf, compared.base, compared.beside or compared.command)
+        measure.compare(compared.what, ours, "a packet", compared.than, theirs, packets)
 
 
 def singles(folder, packets):
     """Commands that stand beside no other: what, the lines before, the command, how often it is given, how the lines
     that answer it begin and how many each time has, its unit, and how many units."""
     large = capture(folder / "large", packets)
-    for what, words in [("ip proto 17", SIX), ("port 22", PORT)]:
+    for what, words in [("ip proto 17", programs.SIX), ("port 22", programs.PORT)]:
         head = f"load bpf {words}\nload pcap {large}\n"
         yield f"stops, {what}, none", head, "stops", 10, "stops: 0", 1, "packet", packets
-    stopped = f"load bpf {SIX}\nload pcap {large}\nbreakpoint 1\n"
+    stopped = f"load bpf {programs.SIX}\nload pcap {large}\nbreakpoint 1\n"
     yield "stops, one a packet", stopped, "stops", 1, f"stops: {packets}", 1, "line", packets
     yield "a stop with its dump", stopped, "run", 10000, "(breakpoint)", 1, "stop", 1
-    far = f"load bpf {LONG}\nload pcap {capture(folder / 'small', 2)}\nstep 4000\n"
+    far = f"load bpf {programs.LONG}\nload pcap {capture(folder / 'small', 2)}\nstep 4000\n"
     yield "step -1 and step 1 at step 4000, with their dumps", far, "step -1\nstep 1", 5000, "-- packet 1,", 2, "pair", 1
     yield "disassemble", far, "disassemble", 100, "l", 4096, "line", 4096
     yield "mark", far, "mark", 100000, "1 4000", 1, "command", 1
 
 
-def print_singles(folder, counting):
-    packets = COUNTED_PACKETS if counting else LISTED_PACKETS
-    for what, head, command, times, beginning, lines, unit, units in singles(folder, packets):
-        if counting:
-            times = 1
-        before = answers.debugged(cbpf, script(folder, head)).splitlines()
+def show_singles(measure):
+    packets = COUNTED_PACKETS if measure.counting else LISTED_PACKETS
+    for what, head, command, times, beginning, lines, unit, units in singles(measure.folder, packets):
+        times = 1 if measure.counting else times
+        before = answers.debugged(cbpf, script(measure.folder, head)).splitlines()
         wanted = sum(line.startswith(beginning) for line in before) + lines * times
-        answers.debugged(cbpf, script(folder, head + f"{command}\n" * times), (beginning, wanted))
-        if counting:
-            spent = instructions_alone(folder, head, command) / units
-            print(f"{what}: {spent:.1f} machine instructions a {unit}", flush=True)
-            continue
-        base = timed([cbpf], script(folder, head), 3)
-        spent = (timed([cbpf], script(folder, head + f"{command}\n" * times), 3) - base) / times / units
-        print(f"{what}: {spent * 1e9:.0f} ns a {unit}", flush=True)
+        answers.debugged(cbpf, script(measure.folder, head + f"{command}\n" * times), (beginning, wanted))
+        measure.show(what, measure.of(cbpf, head, command, times, 3)() / units, f"a {unit}")
 
 
-def main():
-    counting = "--callgrind" in sys.argv[1:]
-    with tempfile.TemporaryDirectory() as name:
-        folder = pathlib.Path(name)
-        subprocess.run([sys.executable, top / "bench/programs.py", folder], check=True)
-        if counting:
-            print_counted_runs(folder)
-            print_counts(folder)
-        else:
-            print_runs(folder)
-            print_compared(folder)
-        print_singles(folder, counting)
+def main(folder):
+    measure = Measure(folder)
+    show_runs(measure)
+    show_compared(measure)
+    show_singles(measure)
 
 
 if __name__ == "__main__":
-    main()
+    in_folder(main)
