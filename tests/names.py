@@ -48,7 +48,7 @@ STANDARD = set("grow shrink cmp partial_cmp madvise".split())
 # Documents of what users type, in which a name needn't be one of the sources.
 OF_USERS = {"REFERENCE.md", "KERNEL_TOOLS.md"}
 CODE_SPAN = re.compile(r"(?<!`)`([^`]+)`(?!`)")
-IDENTIFIER = re.compile(r"[A-Za-z_]\w*")
+NAME = re.compile(r"[A-Za-z_][\w]*(?:(?:::|\.)[A-Za-z_]\w*)*(?:\(.*\))?")
 SHOWN_BY = re.compile(r"(test|case|edit|script) ([\w:/.]+)((?: `[^`]+`)*)")
 FUNCTION = re.compile(r"\bfn (\w+)")
 # A goal of a row of must-fail/README.md, and one that has an answer.
@@ -136,10 +136,6 @@ def is_known(name):
     return all(part in words() or part in STANDARD for part in re.findall(r"[A-Za-z_]\w*", name))
 
 
-def looks_like_a_name(span):
-    return re.fullmatch(r"[A-Za-z_][\w]*(?:(?:::|\.)[A-Za-z_]\w*)*(?:\(.*\))?", span) is not None
-
-
 def lines_of(path):
     """The lines outside blocks of code, with their numbers."""
     block = False
@@ -150,18 +146,12 @@ def lines_of(path):
             yield number, line
 
 
-def cells_of(line):
-    if not line.startswith("|"):
-        return None
-    return [cell.strip() for cell in re.split(r"(?<!\\)\|", line.strip().strip("|"))]
-
-
 def tables(path):
     """The rows of a document's tables: line, the heading above, the head of the table, the cells."""
     heading, head = "", None
     for number, line in lines_of(path):
-        cells = cells_of(line)
-        if cells is None:
+        cells = [cell.strip() for cell in re.split(r"(?<!\\)\|", line.strip().strip("|"))]
+        if not line.startswith("|"):
             heading = line if line.startswith("#") else heading
             head = None
         elif head is None:
@@ -185,7 +175,7 @@ def check_spans(path):
         for span in CODE_SPAN.findall(line):
             if is_path(span):
                 check(is_there(span, path, near, line.startswith("|")), path, number, f"no file or folder {span}")
-            elif looks_like_a_name(span) and not re.fullmatch("[A-Z0-9]+", span) and path.name not in OF_USERS:
+            elif NAME.fullmatch(span) and not re.fullmatch("[A-Z0-9]+", span) and path.name not in OF_USERS:
                 name = re.sub(r"\(.*\)$", "", span)
                 check(is_known(name), path, number, f"no name {span}")
         for name in re.findall(r"(?<![\w/.])cbpf_\w+", CODE_SPAN.sub("", line)):
@@ -245,13 +235,6 @@ def check_promises(path):
             check(any(name in functions(crate) for crate in own), path, number, f"no function {name}")
 
 
-@cache
-def defined(path):
-    """The names that a file of definitions defines: those with a type, their members, and data."""
-    typed = re.findall(r"^\s*(?:abbrev |unfoldable )?(?:pub )?([^\s:(){}]+) :", text_of(path), re.M)
-    return {*typed, *re.findall(r"^\s*pub (?:data|record) (\S+)", text_of(path), re.M)}
-
-
 def explained(path):
     """The items of docs/DEFINITIONS.md, ``- `a`, `b` (file): ..``: line, names, files and the whole text."""
     own = []
@@ -269,7 +252,7 @@ def check_definitions(path):
     for number, named, files, line in explained(path):
         check(bool(files), path, number, f"no file for {', '.join(named)}")
         for name in named:
-            holds = any(name in defined(file) for file in files)
+            holds = any(name in spec_items(file)[1] for file in files)
             check(holds, path, number, f"no definition {name} in {', '.join(file.name for file in files)}")
 
 
@@ -567,23 +550,23 @@ def check_reached(path):
             check(known, file, 1, f"no public clause reaches {item}, and no document says so")
 
 
+# The checks of a document by its name, or by its folder's.
+OF_ONE = {
+    "PROMISES.md": [check_promises],
+    "DEFINITIONS.md": [check_definitions, check_reached],
+    "ARCHITECTURE.md": [check_own_files],
+    "must-fail": [check_edits],
+}
+
+
 def main():
     check_shown(TOP / "tests/shown.txt")
     documents = [TOP / "README.md", TOP / "CONTRIBUTING.md"]
     for pattern in ("docs/*.md", "bench/*.md", "tests/*.md", "crates/*/README*", "crates/*/must-fail/README.md"):
         documents += sorted(TOP.glob(pattern))
     for path in documents:
-        check_spans(path)
-        check_calls(path)
-        if path.name == "PROMISES.md":
-            check_promises(path)
-        if path.name == "DEFINITIONS.md":
-            check_definitions(path)
-            check_reached(path)
-        if path.name == "ARCHITECTURE.md":
-            check_own_files(path)
-        if path.parent.name == "must-fail":
-            check_edits(path)
+        for look_up in [check_spans, check_calls, *OF_ONE.get(path.name, []), *OF_ONE.get(path.parent.name, [])]:
+            look_up(path)
     for folder in sorted(CRATES.glob("*/must-fail")):
         check((folder / "README.md").exists(), folder, 1, "no README.md")
     for fault in faults:
