@@ -90,6 +90,12 @@ def path(steps, color, width=1):
     return f'<path d="{steps}" fill="none" stroke="{color}" stroke-width="{width}"/>'
 
 
+def labels(anchor, places):
+    """The labels of an axis, each with its place."""
+    inner = "".join(f'<tspan x="{x}" y="{y}">{text}</tspan>' for x, y, text in places)
+    return f'<text text-anchor="{anchor}">{inner}</text>'
+
+
 def panel(x, y, title, series, names):
     """The lines of one panel: both axes go by powers of ten."""
     every = [point for points in series.values() for point in points]
@@ -103,12 +109,10 @@ def panel(x, y, title, series, names):
     yield f'<text x="{x}" y="{y - 12}" font-weight="bold">{title}</text>'
     rows = [(place(10 ** across[0], 10.0**power)[1], label(10.0**power)) for power in up]
     yield path("".join(f"M{x} {row:.1f}h{WIDTH}" for row, _ in rows), "#ddd")
-    for row, text in rows:
-        yield f'<text x="{x - 6}" y="{row + 4:.1f}" text-anchor="end">{text}</text>'
+    yield labels("end", [(x - 6, f"{row + 4:.1f}", text) for row, text in rows])
     columns = [(place(10.0**power, 10 ** up[0])[0], label(10.0**power)) for power in across]
     yield path("".join(f"M{column:.1f} {y}v{HEIGHT}" for column, _ in columns), "#ddd")
-    for column, text in columns:
-        yield f'<text x="{column:.1f}" y="{y + HEIGHT + 16}" text-anchor="middle">{text}</text>'
+    yield labels("middle", [(f"{column:.1f}", y + HEIGHT + 16, text) for column, text in columns])
     yield f'<text x="{x + WIDTH / 2}" y="{y + HEIGHT + 34}" text-anchor="middle">{names}</text>'
     for name, points in series.items():
         places = [place(*point) for point in points]
