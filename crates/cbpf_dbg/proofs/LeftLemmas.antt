@@ -8,7 +8,8 @@ use Rattle.pcap_classic.specs.Records.{Record}
 use Rattle.cbpf_reply.specs.declared.reply.Place.{Place}
 use Rattle.cbpf_machine.specs.Machine.{Machine}
 use Rattle.cbpf_dbg.specs.declared.cursor.Cursor.{Cursor}
-use Rattle.cbpf_dbg.specs.Cursor.{AreLeft, AllLeft, IsEnd, Ended, Stands, end_of}
+use Rattle.cbpf_dbg.specs.Joined.{ahead}
+use Rattle.cbpf_dbg.specs.Cursor.{AreLeft, AllLeft, IsEnd, Stands, end_of}
 use Rattle.cbpf_dbg.proofs.JoinedLemmas.{ahead-end}
 
 cut : {X : Type 0} (xs : List X) (i e : ℕ) (x : X) (rest : List X) → drop i (take e xs) ≡ x ∷ rest
@@ -82,7 +83,8 @@ none_left machine capture w end left stands e h =
 
 -- where none is left up to the end of the capture, nothing is ahead
 pub nothing_left : (machine : Machine) (capture : List Record) (w : Cursor) (left : List Record)
-    → Stands machine capture w → AllLeft capture w.place left → left ≡ [] → Ended machine capture w
+    → Stands machine capture w → AllLeft capture w.place left → left ≡ []
+    → (w.place.packet ≡ length capture + 1) × (ahead machine capture w.place ≡ []) × (w.place.step ≡ 0)
 nothing_left machine capture w left stands h e =
     let at = none_left machine capture w (length capture + 1) left stands e h in (
       ap (λ (q : Place). q.packet) at,

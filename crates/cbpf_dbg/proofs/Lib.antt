@@ -1,7 +1,6 @@
 pub mod JoinedLemmas
 pub mod CountLemmas
 pub mod CursorLemmas
-pub mod AskedLemmas
 pub mod CarryLemmas
 pub mod LeftLemmas
 pub mod RunLemmas

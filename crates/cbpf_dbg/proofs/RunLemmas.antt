@@ -3,6 +3,7 @@ use Rattle.std.proofs.Common.{◌≡◌, ℕ, suc, ◌+◌, ◌-◌, ◌<◌, �
 use Rattle.std.proofs.Common.{arith, sym, ap, ◌∙◌, refl, inl, inr, cond}
 use Rattle.std.specs.Prelude.{Option, Some, None, slice_get, filter, nat_lt, nat_le}
 use Rattle.std.proofs.lemmas.Bool.Decides.{nat_tests}
+use Rattle.std.proofs.lemmas.List.Elements.{All-head, filter_passes}
 use Rattle.cbpf_machine.specs.Machine.{Machine}
 use Rattle.pcap_classic.specs.Records.{Record}
 use Rattle.pcap_classic.specs.Savefile.{Savefile}
@@ -15,7 +16,7 @@ use Rattle.cbpf_dbg.specs.declared.cursor.Cursor.{Cursor}
 use Rattle.cbpf_dbg.specs.Joined.{ahead, rest, counts, stop_at, stops}
 use Rattle.cbpf_dbg.specs.View.{View, start}
 use Rattle.cbpf_dbg.specs.Commands.{run_to, run_out, within_limit, finished, limited}
-use Rattle.cbpf_dbg.specs.Cursor.{Stands, view_at, entry_here, Runs, StepsOn, ComesTo, NotBefore, end_of, owed}
+use Rattle.cbpf_dbg.specs.Cursor.{Stands, view_at, entry_here, Gives, run_from, step_from, ComesTo, NotBefore, end_of, owed}
 use Rattle.cbpf_dbg.proofs.JoinedLemmas.{rest-none, ahead-end}
 use Rattle.cbpf_dbg.specs.Breakpoints.{Breakpoints}
 
@@ -56,20 +57,12 @@ run_to_limit m machine capture (Some n) end (h ∷ more) is here later =
     let yes : nat_le end (length capture) ≡ true = grind (arith, nat_tests) in
     rw no (rw e (rw yes refl))
 
-filter-head_at : {X : Type 0} (f : X → Bool) (y : X) (xs : List X) (x : X) (ys : List X) (b : Bool) → f y ≡ b
-    → ((x' : X) (ys' : List X) → filter f xs ≡ x' ∷ ys' → f x' ≡ true)
-    → cond b (y ∷ filter f xs) (filter f xs) ≡ x ∷ ys → f x ≡ true
-filter-head_at f y xs x ys true e ih h = let same : y ≡ x = cc in rw (← same) e
-filter-head_at f y xs x ys false e ih h = ih x ys h
-
-filter-head : {X : Type 0} (f : X → Bool) (xs : List X) (x : X) (ys : List X) → filter f xs ≡ x ∷ ys → f x ≡ true
-filter-head f [] x ys h = absurd cc
-filter-head f (y ∷ xs) x ys h = filter-head_at f y xs x ys (f y) refl (λ x' ys' g. filter-head f xs x' ys' g) h
-
 pub rest-head : (machine : Machine) (capture : List Record) (breakpoints : Breakpoints) (place : Place) (h : Stop)
     (more : List Stop) → rest machine capture breakpoints place ≡ h ∷ more → is_after place h.place ≡ true
 rest-head machine capture breakpoints place h more e =
-    filter-head (λ (k : Stop). is_after place k.place) (stops machine capture breakpoints) h more e
+    let at : Stop → Bool = λ k. is_after place k.place in
+    let passed = filter_passes at (stops machine capture breakpoints) in
+    All-head (λ (k : Stop). at k ≡ true) h more (rw e at passed)
 
 rest-later : (machine : Machine) (capture : List Record) (breakpoints : Breakpoints) (place : Place) (h : Stop)
     (more : List Stop) → rest machine capture breakpoints place ≡ h ∷ more → place.packet ≤ h.place.packet
@@ -85,7 +78,7 @@ module _ (machine : Machine) (c : Savefile) (breakpoints : Breakpoints) (limit :
   view0 = view_at machine c breakpoints w0
 
   pub run_stopped : (w2 : Cursor) (h : Stop) → w2.origin ≡ w0.origin → NotBefore w2.place w0.place
-      → ComesTo machine c.records breakpoints end w0 (Some h) w2 → Runs machine c breakpoints w0 w2 limit (Stopped h)
+      → ComesTo machine c.records breakpoints end w0 (Some h) w2 → Gives machine c breakpoints (run_from machine c.records limit) w0 w2 (Stopped h)
   run_stopped w2 h origin order comes =
       let inside = within_end limit w0.place.packet h.place.packet (length c.records) (rw is at comes.1)
       (rw comes.0 at (not_before_forward w2.place w0.place order)) in
@@ -97,7 +90,7 @@ module _ (machine : Machine) (c : Savefile) (breakpoints : Breakpoints) (limit :
 
   pub run_limited : (w1 : Cursor) → Stands machine c.records w1 → w1.origin ≡ w0.origin
       → ComesTo machine c.records breakpoints end w0 None w1 → end ≤ length c.records
-      → Runs machine c breakpoints w0 w1 limit (Limit w1.counts)
+      → Gives machine c breakpoints (run_from machine c.records limit) w0 w1 (Limit w1.counts)
   run_limited w1 stands origin comes here =
       let packet : w1.place.packet ≡ end = ap (λ (q : Place). q.packet) comes.0 in
       let out : run_to view0 machine c.records limit (hits w0.place) ≡ limited view0 machine c.records end =
@@ -117,7 +110,7 @@ module _ (machine : Machine) (c : Savefile) (breakpoints : Breakpoints) (limit :
 
   pub run_finished : (w1 w2 : Cursor) → Stands machine c.records w1 → w1.origin ≡ w0.origin
       → ComesTo machine c.records breakpoints end w0 None w1 → length c.records < end → w2.place ≡ start
-      → w2.origin ≡ 1 → Runs machine c breakpoints w0 w2 limit (Finished w1.counts)
+      → w2.origin ≡ 1 → Gives machine c breakpoints (run_from machine c.records limit) w0 w2 (Finished w1.counts)
   run_finished w1 w2 stands origin comes past place2 origin2 =
       let none = none_ahead w1 comes past in
       let out = run_out_end view0 machine c.records limit (rw is at past) in
@@ -157,13 +150,13 @@ module _ (machine : Machine) (c : Savefile) (breakpoints : Breakpoints) (n : ℕ
   pub step_stopped : (w2 : Cursor) (r : Record) (stop : Stop)
       → slice_get (ahead machine c.records w0.place) (n - 1) ≡ Some (entry_here machine r w2)
       → stop ≡ stop_at why.Step (entry_here machine r w2) → w2.origin ≡ w0.origin
-      → StepsOn machine c breakpoints w0 w2 n (Stopped stop)
+      → Gives machine c breakpoints (step_from machine c.records n) w0 w2 (Stopped stop)
   step_stopped w2 r stop sought is origin =
       record { reply_is = rw (sought, is) refl; place_is = rw sought refl; origin_is = rw sought origin }
 
   pub step_finished : (w1 w2 : Cursor) → slice_get (ahead machine c.records w0.place) (n - 1) ≡ None
       → Stands machine c.records w1 → w1.origin ≡ w0.origin → w1.place.packet ≡ length c.records + 1 → w2.place ≡ start
-      → w2.origin ≡ 1 → StepsOn machine c breakpoints w0 w2 n (Finished w1.counts)
+      → w2.origin ≡ 1 → Gives machine c breakpoints (step_from machine c.records n) w0 w2 (Finished w1.counts)
   step_finished w1 w2 sought stands origin end place2 origin2 =
       let counted : w1.counts ≡ counts machine c.records w0.origin (length c.records + 1) =
       rw (← origin, ← end) stands.counted in

@@ -3,7 +3,7 @@ use Rattle.std.proofs.Common.{◌≡◌, ℕ, zero, suc, ◌+◌, ◌-◌, ◌<�
 use Rattle.std.proofs.Common.{arith, sym, ap, ◌∙◌, subst, refl, inl, inr, cond, ◌*◌, ◌^◌, length-append}
 use Rattle.std.specs.Prelude.{Option, filter, count_by, not, ◌&&◌}
 use Rattle.std.proofs.lemmas.Bool.Decides.{nat_tests}
-use Rattle.std.proofs.lemmas.List.Sums.{sum_by-append, count_by-le-length}
+use Rattle.std.proofs.lemmas.List.Sums.{sum_by-cons, count_by-le-length, length-filter}
 use Rattle.cbpf_code.specs.Sound.{IsSound}
 use Rattle.cbpf_machine.specs.Registers.{zero_state, Registers}
 use Rattle.cbpf_machine.proofs.SoundLemmas.{sound_few}
@@ -23,8 +23,7 @@ use Rattle.cbpf_reply.specs.declared.reply.Why.TheVariants as why
 use Rattle.std.proofs.lemmas.List.{length-map}
 use Rattle.cbpf_dbg.specs.View.{View}
 use Rattle.cbpf_dbg.specs.Commands.{turns_in}
-use Rattle.cbpf_dbg.specs.Cursor.{Stands, owed, view_at, NotBefore, Runs, run_turns, run_from, StepsOn, step_turns}
-use Rattle.cbpf_dbg.specs.Cursor.{step_from}
+use Rattle.cbpf_dbg.specs.Cursor.{Stands, owed, view_at, NotBefore, Gives, turns_of}
 use Rattle.std.specs.List.{All}
 use Rattle.std.proofs.lemmas.List.Elements.{All-append, All-head, All-tail, All-weaker}
 use Rattle.cbpf_dbg.proofs.RisingLemmas.{From, entries-from}
@@ -33,19 +32,7 @@ use Rattle.cbpf_dbg.proofs.JoinedLemmas.{place_at, ahead-entry, rest-ahead}
 use Rattle.cbpf_dbg.specs.Breakpoints.{Breakpoints}
 
 count_cons : {X : Type 0} (f : X → Bool) (x : X) (xs : List X) → count_by f (x ∷ xs) ≡ cond (f x) 1 0 + count_by f xs
-count_cons f x xs =
-    let e = sum_by-append (λ y. cond (f y) 1 0) (x ∷ []) xs in
-    let z : 0 + cond (f x) 1 0 ≡ cond (f x) 1 0 = omega arith in
-    rw z at e
-
-count_filter_at : {X : Type 0} (b : Bool) (x : X) (xs : List X) (n : ℕ) → n ≡ length xs
-    → cond b 1 0 + n ≡ length (cond b (x ∷ xs) xs)
-count_filter_at true x xs n h = omega arith
-count_filter_at false x xs n h = omega arith
-
-count_filter : {X : Type 0} (f : X → Bool) (xs : List X) → count_by f xs ≡ length (filter f xs)
-count_filter f [] = refl
-count_filter f (x ∷ xs) = count_cons f x xs ∙ count_filter_at (f x) x (filter f xs) (count_by f xs) (count_filter f xs)
+count_cons f x xs = sum_by-cons (λ y. cond (f y) 1 0) x xs
 
 split_at : (b c : Bool) → (c ≡ false → b ≡ true) → cond b 1 0 ≡ cond (b && c) 1 0 + cond (not c) 1 0
 split_at true true h = refl
@@ -92,7 +79,7 @@ to_end machine capture p s =
     count_same (λ e. not (is_after e.place (place_at p s))) (λ e. is_after (place_at p (s - 1)) e.place)
     (joined_from machine 1 capture) (from_one-joined machine 1 capture)
     (λ e k. at_or_after p s e.place.packet e.place.step k)
-    ∙ count_filter (λ e. is_after (place_at p (s - 1)) e.place) (joined_from machine 1 capture)
+    ∙ sym (length-filter (λ e. is_after (place_at p (s - 1)) e.place) (joined_from machine 1 capture))
 
 -- what a cursor owes is what it takes to the end
 owed_at : (machine : Machine) (capture : List Record) (w : Cursor) (k : ℕ) → Stands machine capture w → k ≡ w.place.step
@@ -142,12 +129,12 @@ turns_in_at m machine capture (Stopped s) v = refl
 turns_in_at m machine capture (Limit n) v = refl
 turns_in_at m machine capture (Finished n) v = refl
 
-pub run_turns-reply : (machine : Machine) (c : Savefile) (breakpoints : Breakpoints) (old new : Cursor)
-    (limit : Option ℕ) (reply : RunReply) → Runs machine c breakpoints old new limit reply
-    → run_turns machine c breakpoints old limit ≡ reply_turns machine c.records old.place reply new.place
-run_turns-reply machine c breakpoints old new limit reply h =
-    let a : RunReply × View = run_from machine c breakpoints old limit in
-    turns_in_at (view_at machine c breakpoints old) machine c.records a.0 a.1 ∙ rw (h.reply_is, h.place_is) refl
+pub turns-reply : (machine : Machine) (c : Savefile) (breakpoints : Breakpoints) (answer : View → RunReply × View)
+    (old new : Cursor) (reply : RunReply) → Gives machine c breakpoints answer old new reply
+    → turns_of machine c breakpoints answer old ≡ reply_turns machine c.records old.place reply new.place
+turns-reply machine c breakpoints answer old new reply h =
+    let m : View = view_at machine c breakpoints old in
+    turns_in_at m machine c.records (answer m).0 (answer m).1 ∙ rw (h.reply_is, h.place_is) refl
 
 pub not_before_step : (old mid new : Place) → NotBefore mid old → new.packet ≡ mid.packet → mid.step < new.step
     → NotBefore new old
@@ -175,8 +162,7 @@ spent_between machine capture old new before after h k order e =
     omega (arith, owed-turns machine capture old h, owed-turns machine capture new k, c, e)
 
 length_filter : {X : Type 0} (f : X → Bool) (xs : List X) → length (filter f xs) ≤ length xs
-length_filter f [] = omega arith
-length_filter f (x ∷ xs) = omega (arith, count_filter f (x ∷ xs), count_by-le-length f (x ∷ xs))
+length_filter f xs = omega (arith, length-filter f xs, count_by-le-length f xs)
 
 pub length_entries : (machine : Machine) (r : Record) (p k : ℕ) (xs : List Registers)
     → length (entries_from machine r p k xs) ≡ length xs
@@ -223,10 +209,3 @@ few_hits machine capture breakpoints place h few =
       length_filter (λ (e : Entry). is_after place e.place) (joined_from machine 1 capture),
       length_joined machine 1 capture h,
     )
-
-pub step_turns-reply : (machine : Machine) (c : Savefile) (breakpoints : Breakpoints) (old new : Cursor) (n : ℕ)
-    (reply : RunReply) → StepsOn machine c breakpoints old new n reply
-    → step_turns machine c breakpoints old n ≡ reply_turns machine c.records old.place reply new.place
-step_turns-reply machine c breakpoints old new n reply h =
-    let a : RunReply × View = step_from machine c breakpoints old n in
-    turns_in_at (view_at machine c breakpoints old) machine c.records a.0 a.1 ∙ rw (h.reply_is, h.place_is) refl

@@ -7,6 +7,7 @@ use Rattle.std.specs.Prelude.{if◌then◌else◌, ℤ, pos, negsuc, ◌⊎◌, 
 use Rattle.cbpf_code.specs.declared.insn.Insn.{Insn}
 use Rattle.cbpf_code.specs.declared.extension.Ext.{Ext}
 use Rattle.std.specs.Option.{option_map}
+use Rattle.std.specs.Result.{result_unwrap_or}
 use Rattle.std.specs.Map.{lookup}
 use Rattle.cbpf_reply.specs.declared.reply.Counts.{Counts}
 use Rattle.cbpf_reply.specs.declared.breakpoints.When.{When}
@@ -25,9 +26,7 @@ use Rattle.cbpf_reply.specs.declared.reply.RunReply.TheVariants.{Stopped, Limit,
 use Rattle.cbpf_reply.specs.declared.reply.SessionFault.{SessionFault}
 use Rattle.cbpf_reply.specs.declared.reply.SessionFault.TheVariants.{NoProgram, NoCapture, NoPackets, NoInstruction}
 use Rattle.cbpf_reply.specs.declared.reply.SessionFault.TheVariants.{NoPacket, NoStep, TooFarBack, ZeroCount, NoValue}
-use Rattle.cbpf_reply.specs.declared.reply.SessionFault.TheVariants.{Memory}
-use Rattle.cbpf_dbg.specs.Joined.{stops as every_hit}
-use Rattle.cbpf_dbg.specs.Joined.{Entry, ahead, rest, stop_at, counts, turns_between, turns_to_end}
+use Rattle.cbpf_dbg.specs.Joined.{Entry, ahead, stops as every_hit, rest, stop_at, counts, turns_between, turns_to_end}
 use Rattle.indexmap.specs.IndexMap.{insert_entry, shift_remove_entry}
 use Rattle.cbpf_dbg.specs.View.{View, start}
 
@@ -95,9 +94,8 @@ run_to m machine capture limit (h ∷ hits) =
 
 -- a limit is not 0
 abbrev pub checked_limit : {R : Type 0} → Option ℕ → Result R SessionFault → Result R SessionFault
-checked_limit None answer = answer
 checked_limit (Some zero) answer = Err ZeroCount
-checked_limit (Some (suc n)) answer = answer
+checked_limit _ answer = answer
 
 unfoldable pub run : View → Option ℕ → Answer RunReply
 run m limit =
@@ -178,15 +176,12 @@ IsResumable m place = (n : View) → n.program ≡ m.program → n.values ≡ m.
 -- ---- turns
 
 abbrev pub turns_in : View → Machine → List Record → RunReply × View → ℕ
-turns_in m machine capture (Stopped stop, after) = turns_between machine capture m.place after.place
-turns_in m machine capture (Limit n, after) = turns_between machine capture m.place after.place
 turns_in m machine capture (Finished n, after) = turns_to_end machine capture m.place
+turns_in m machine capture (_, after) = turns_between machine capture m.place after.place
 
 abbrev pub turns_loaded : View → Option (List Insn) → Option Savefile → Answer RunReply → ℕ
 turns_loaded m (Some list) (Some c) (Ok a) = turns_in m (machine_of list m.values) c.records a
-turns_loaded m (Some list) (Some c) (Err e) = 0
-turns_loaded m (Some list) None answer = 0
-turns_loaded m None capture answer = 0
+turns_loaded m _ _ _ = 0
 
 -- the turns of `run`, and of `step` forward: the entries that the call leaves
 abbrev pub turns_forward : View → Answer RunReply → ℕ
@@ -233,13 +228,8 @@ Found old new old_found new_found =
     × (new_found ≡ old_found ++ hits) × (new ≡ record old { place = last_place old.place hits })
 
 -- how many turns lead to the end
-abbrev pub turns_left_in : View → Option (List Insn) → Option Savefile → ℕ
-turns_left_in m (Some list) (Some c) = turns_to_end (machine_of list m.values) c.records m.place
-turns_left_in m (Some list) None = 0
-turns_left_in m None capture = 0
-
 abbrev pub turns_left : View → ℕ
-turns_left m = turns_left_in m m.program m.capture
+turns_left m = result_unwrap_or (loaded m (λ machine capture. Ok (turns_to_end machine capture m.place))) 0
 
 -- ---- loads and breakpoints
 
@@ -289,12 +279,4 @@ without_breakpoints m = record m { breakpoints = [] }
 -- of the refusals, only the one that counts a packet's steps makes turns
 abbrev pub Spends : SessionFault → ℕ → ℕ → Type 0
 Spends (NoStep n) old new = old ≤ new
-Spends NoProgram old new = new ≡ old
-Spends NoCapture old new = new ≡ old
-Spends NoPackets old new = new ≡ old
-Spends NoInstruction old new = new ≡ old
-Spends NoPacket old new = new ≡ old
-Spends (TooFarBack n) old new = new ≡ old
-Spends ZeroCount old new = new ≡ old
-Spends NoValue old new = new ≡ old
-Spends Memory old new = new ≡ old
+Spends _ old new = new ≡ old

@@ -90,11 +90,6 @@ Moves machine capture old moved.Packet new =
     (new.place ≡ record { packet = old.place.packet + 1; step = 0 })
     × (ahead machine capture old.place ≡ ahead machine capture new.place)
 
--- a cursor is after the last packet
-abbrev pub Ended : Machine → List Record → Cursor → Type 0
-Ended machine capture w =
-    (w.place.packet ≡ length capture + 1) × (ahead machine capture w.place ≡ []) × (w.place.step ≡ 0)
-
 -- how many turns are owed to the end: one for each entry ahead, and one for the entry of the place
 abbrev pub owed : Machine → List Record → Place → ℕ
 owed machine capture place = length (ahead machine capture place) + min place.step 1
@@ -110,17 +105,21 @@ view_at machine c breakpoints w = record {
   place = w.place;
 }
 
--- what a run from a place answers, and where it ends
-abbrev pub run_from : Machine → Savefile → Breakpoints → Cursor → Option ℕ → RunReply × View
-run_from machine c breakpoints w limit =
-    run_to (view_at machine c breakpoints w) machine c.records limit (rest machine c.records breakpoints w.place)
+-- what a run from a view's place answers, and where it ends
+abbrev pub run_from : Machine → List Record → Option ℕ → View → RunReply × View
+run_from machine capture limit m = run_to m machine capture limit (rest machine capture m.breakpoints m.place)
 
--- a run's answer and end
-pub record Runs (machine : Machine) (c : Savefile) (breakpoints : Breakpoints) (old new : Cursor) (limit : Option ℕ)
-    (reply : RunReply) : Type 0 where
-  pub reply_is : reply ≡ (run_from machine c breakpoints old limit).0
-  pub place_is : new.place ≡ (run_from machine c breakpoints old limit).1.place
-  pub origin_is : new.origin ≡ (run_from machine c breakpoints old limit).1.origin
+-- a command's reply, and the cursor after it, by what it answers from a view
+pub record Gives (machine : Machine) (c : Savefile) (breakpoints : Breakpoints) (answer : View → RunReply × View)
+    (old new : Cursor) (reply : RunReply) : Type 0 where
+  pub reply_is : reply ≡ (answer (view_at machine c breakpoints old)).0
+  pub place_is : new.place ≡ (answer (view_at machine c breakpoints old)).1.place
+  pub origin_is : new.origin ≡ (answer (view_at machine c breakpoints old)).1.origin
+
+-- its turns
+abbrev pub turns_of : Machine → Savefile → Breakpoints → (View → RunReply × View) → Cursor → ℕ
+turns_of machine c breakpoints answer w =
+    let m = view_at machine c breakpoints w in turns_in m machine c.records (answer m)
 
 -- the packet before which a run from a packet ends that comes to no hit
 abbrev pub end_of : Option ℕ → ℕ → ℕ → ℕ
@@ -168,11 +167,6 @@ pub record Passes (machine : Machine) (capture : List Record) (breakpoints : Bre
   pub hits : rest machine capture breakpoints old.place ≡ rest machine capture breakpoints to
   pub spent : spent_new + owed machine capture new.place ≡ spent_old + owed machine capture old.place
 
--- the turns of a run from a place
-abbrev pub run_turns : Machine → Savefile → Breakpoints → Cursor → Option ℕ → ℕ
-run_turns machine c breakpoints w limit =
-    turns_in (view_at machine c breakpoints w) machine c.records (run_from machine c breakpoints w limit)
-
 -- a cursor nears the entry that is n entries ahead, so that fewer are left, by the turns that it owes no longer
 pub record Nears (machine : Machine) (capture : List Record) (old new : Cursor) (n left spent_old spent_new : ℕ) :
     Type 0 where
@@ -202,16 +196,5 @@ pub record CannotStepBack (old new : Cursor) (b most : ℕ) : Type 0 where
   pub same : new ≡ old
 
 -- what a step on by n entries answers, and where it ends
-abbrev pub step_from : Machine → Savefile → Breakpoints → Cursor → ℕ → RunReply × View
-step_from machine c breakpoints w n =
-    step_to (view_at machine c breakpoints w) machine c.records (slice_get (ahead machine c.records w.place) (n - 1))
-
-pub record StepsOn (machine : Machine) (c : Savefile) (breakpoints : Breakpoints) (old new : Cursor) (n : ℕ)
-    (reply : RunReply) : Type 0 where
-  pub reply_is : reply ≡ (step_from machine c breakpoints old n).0
-  pub place_is : new.place ≡ (step_from machine c breakpoints old n).1.place
-  pub origin_is : new.origin ≡ (step_from machine c breakpoints old n).1.origin
-
-abbrev pub step_turns : Machine → Savefile → Breakpoints → Cursor → ℕ → ℕ
-step_turns machine c breakpoints w n =
-    turns_in (view_at machine c breakpoints w) machine c.records (step_from machine c breakpoints w n)
+abbrev pub step_from : Machine → List Record → ℕ → View → RunReply × View
+step_from machine capture n m = step_to m machine capture (slice_get (ahead machine capture m.place) (n - 1))

@@ -2,14 +2,14 @@
 -- and the outcomes of packets (this project's own, over the trace of Linux Documentation/networking/filter's machine
 -- and the records of pcap-savefile(5)).
 use Rattle.std.specs.Prelude.{ℕ, ◌+◌, ◌-◌, ◌&&◌, ◌||◌, not, Bool, true, false, List, [], ◌∷◌, ◌++◌}
-use Rattle.std.specs.Prelude.{map, filter, take, drop, count_by}
+use Rattle.std.specs.Prelude.{map, filter, take, drop, count_by, is_some}
+use Rattle.std.specs.Option.{option_map_or}
 use Rattle.cbpf_machine.specs.Registers.{Registers}
 use Rattle.cbpf_machine.specs.declared.outcome.Turn.{Turn}
-use Rattle.cbpf_machine.specs.declared.outcome.Turn.TheVariants.{Next, Returned, Outside, ZeroDivisor, Unknown}
 use Rattle.cbpf_machine.specs.declared.outcome.Outcome.{Outcome}
 use Rattle.cbpf_machine.specs.declared.outcome.Outcome.TheVariants as outcome_is
 use Rattle.cbpf_machine.specs.Machine.{Machine}
-use Rattle.cbpf_machine.specs.Step.{turn}
+use Rattle.cbpf_machine.specs.Step.{turn, asked}
 use Rattle.cbpf_machine.specs.Trace.{trace, outcome}
 use Rattle.pcap_classic.specs.Records.{Record}
 use Rattle.cbpf_reply.specs.declared.reply.Place.{Place}
@@ -50,11 +50,7 @@ abbrev pub ahead : Machine → List Record → Place → List Entry
 ahead machine capture place = filter (λ e. is_after place e.place) (joined machine capture)
 
 abbrev pub is_unknown : Turn → Bool
-is_unknown (Next s) = false
-is_unknown (Returned v) = false
-is_unknown Outside = false
-is_unknown ZeroDivisor = false
-is_unknown (Unknown e) = true
+is_unknown t = is_some (asked t)
 
 -- an entry is a hit where its instruction carries a breakpoint whose condition holds, or its turn is unknown
 abbrev pub is_hit : Breakpoints → Entry → Bool
@@ -62,11 +58,7 @@ is_hit breakpoints e = carries breakpoints e.state || is_unknown e.turn
 
 -- why an entry stops: by an unknown extension, else for the reason given
 abbrev pub why_of : Why → Turn → Why
-why_of reason (Next s) = reason
-why_of reason (Returned v) = reason
-why_of reason Outside = reason
-why_of reason ZeroDivisor = reason
-why_of reason (Unknown e) = why.Unknown e
+why_of reason t = option_map_or why.Unknown (asked t) reason
 
 abbrev pub stop_at : Why → Entry → Stop
 stop_at reason e = record { place = e.place; state = e.state; why = why_of reason e.turn }
@@ -81,18 +73,15 @@ rest machine capture breakpoints place = filter (λ h. is_after place h.place) (
 
 abbrev pub is_pass : Outcome → Bool
 is_pass (outcome_is.Pass v) = true
-is_pass outcome_is.Fail = false
-is_pass (outcome_is.Unknown e) = false
+is_pass _ = false
 
 abbrev pub is_fail : Outcome → Bool
-is_fail (outcome_is.Pass v) = false
 is_fail outcome_is.Fail = true
-is_fail (outcome_is.Unknown e) = false
+is_fail _ = false
 
 abbrev pub is_open : Outcome → Bool
-is_open (outcome_is.Pass v) = false
-is_open outcome_is.Fail = false
 is_open (outcome_is.Unknown e) = true
+is_open _ = false
 
 -- the outcomes of the packets from a number up to, not including, another
 abbrev pub outcomes : Machine → List Record → ℕ → ℕ → List Outcome

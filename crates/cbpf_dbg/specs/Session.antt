@@ -38,8 +38,7 @@ abbrev pub Fits : (List Registers → Type 0) → Option (List Insn) → Values 
 Fits stands_for (Some list) values (Some c) w =
     Stands (machine_of list values) c.records w × Keeps stands_for (machine_of list values) c.records w.place
     × IsInside c.records w.place
-Fits stands_for (Some list) values None w = IsStart w
-Fits stands_for None values capture w = IsStart w
+Fits stands_for _ values _ w = IsStart w
 
 -- no turn of a machine asks for an extension that has no value
 abbrev pub IsSilent : Machine → Type 0

@@ -6,7 +6,7 @@ use Rattle.cbpf_reply.specs.Dump.{shown_in, dump_text}
 use Rattle.pcap_classic.specs.Records.{Record}
 use Rattle.pcap_classic.specs.Savefile.{Savefile}
 use Rattle.cbpf_reply.specs.declared.reply.RunReply.{RunReply}
-use Rattle.cbpf_reply.specs.declared.reply.RunReply.TheVariants.{Stopped, Limit, Finished}
+use Rattle.cbpf_reply.specs.declared.reply.RunReply.TheVariants.{Stopped}
 use Rattle.cbpf_reply.specs.declared.reply.Stop.{Stop}
 use Rattle.cbpf_dbg.specs.View.{View}
 
@@ -17,8 +17,7 @@ text_in list (Some r) stop = dump_text list (shown_in r.bytes r.wire stop)
 
 abbrev pub text_with : Option (List Insn) → Option Savefile → Stop → List ℕ
 text_with (Some list) (Some c) stop = text_in list (slice_get c.records (stop.place.packet - 1)) stop
-text_with (Some list) None stop = []
-text_with None capture stop = []
+text_with _ _ stop = []
 
 -- the dump of a stop, with the program and the capture of a session
 unfoldable pub stop_text : View → Stop → List ℕ
@@ -32,8 +31,7 @@ pub record IsWithin (list : List Insn) (capture : List Record) (stop : Stop) : T
 
 abbrev pub FitsWith : Option (List Insn) → Option Savefile → Stop → Type 0
 FitsWith (Some list) (Some c) stop = IsWithin list c.records stop
-FitsWith (Some list) None stop = ⊥
-FitsWith None capture stop = ⊥
+FitsWith _ _ stop = ⊥
 
 -- a session has a program and a capture, and the stop is within them
 unfoldable pub CanShow : View → Stop → Type 0
@@ -42,5 +40,4 @@ CanShow m stop = FitsWith m.program m.capture stop
 -- the stop that an answer has, if it has one, can be shown
 abbrev pub Shows : View → RunReply → Type 0
 Shows m (Stopped stop) = CanShow m stop
-Shows m (Limit n) = Unit {0}
-Shows m (Finished n) = Unit {0}
+Shows m _ = Unit {0}

@@ -9,7 +9,7 @@ ghost use Rattle.cbpf_dbg.specs.Joined.{rest};
 ghost use Rattle.cbpf_dbg.specs.Loaded.{machine_in, records_in, breakpoints_in};
 ghost use Rattle.cbpf_dbg.specs.Session.{IsInside, Keeps};
 ghost use Rattle.cbpf_dbg.specs.Cursor as spec;
-ghost use Rattle.cbpf_dbg.specs.Cursor.{Stands, owed, Passes, before, Runs, run_turns, ComesTo, IsEnd};
+ghost use Rattle.cbpf_dbg.specs.Cursor.{Stands, owed, Passes, before, Gives, run_from, turns_of, ComesTo, IsEnd};
 ghost use Rattle.cbpf_dbg.specs.Going.{CanGoOn, GoesOn};
 
 use crate::cursor::{Cursor, Moved};
@@ -201,14 +201,15 @@ pub(crate) fn run<T: Trail, A: Allocator>(
     ensures stands { Stands (machine_in loaded.now) (records_in loaded.now) cursor.new }
     ensures keeps { Keeps (λ xs. T.stands_for trail.new xs) (machine_in loaded.now)
         (records_in loaded.now) cursor.new.place }
-    ensures runs { Runs (machine_in loaded.now) loaded.now.capture.now
-        (breakpoints_in loaded.now) cursor.old cursor.new limit result }
+    ensures runs { Gives (machine_in loaded.now) loaded.now.capture.now (breakpoints_in loaded.now)
+        (run_from (machine_in loaded.now) (records_in loaded.now) limit) cursor.old cursor.new result }
     ensures inside { IsInside (records_in loaded.now) cursor.new.place }
     ensures ahead { PassesHits result
         (rest (machine_in loaded.now) (records_in loaded.now) (breakpoints_in loaded.now) cursor.old.place)
         (rest (machine_in loaded.now) (records_in loaded.now) (breakpoints_in loaded.now) cursor.new.place) }
-    ensures turns { meter.new ≡ meter.old + run_turns (machine_in loaded.now) loaded.now.capture.now
-        (breakpoints_in loaded.now) cursor.old limit }
+    ensures turns { meter.new ≡ meter.old
+        + turns_of (machine_in loaded.now) loaded.now.capture.now (breakpoints_in loaded.now)
+        (run_from (machine_in loaded.now) (records_in loaded.now) limit) cursor.old }
 {
     let count = loaded.capture.count();
     let end = end_of(limit, cursor.place.packet, count);

@@ -5,7 +5,7 @@ ghost use Rattle.cbpf_dbg.specs.Breakpoints.{Breakpoints};
 ghost use Rattle.cbpf_dbg.specs.Loaded.{machine_in, records_in};
 ghost use Rattle.cbpf_dbg.specs.Session.{IsInside, Keeps};
 ghost use Rattle.cbpf_dbg.specs.Cursor.{Stands, AllLeft, Nears, owed};
-ghost use Rattle.cbpf_dbg.specs.Cursor.{StepsOn, step_turns, StepsBack, CannotStepBack};
+ghost use Rattle.cbpf_dbg.specs.Cursor.{Gives, step_from, turns_of, StepsBack, CannotStepBack};
 ghost use Rattle.cbpf_machine.specs.Trail.{most_turns_back};
 
 use crate::cursor::{Cursor, Moved, advance};
@@ -70,11 +70,12 @@ pub(crate) fn step_on<T: Trail, A: Allocator>(
     ensures stands { Stands (machine_in loaded.now) (records_in loaded.now) w.new }
     ensures keeps { Keeps (λ xs. T.stands_for trail.new xs) (machine_in loaded.now)
         (records_in loaded.now) w.new.place }
-    ensures steps { (breakpoints : Breakpoints) → StepsOn
-        (machine_in loaded.now) loaded.now.capture.now breakpoints w.old w.new n result }
+    ensures steps { (breakpoints : Breakpoints) → Gives (machine_in loaded.now) loaded.now.capture.now breakpoints
+        (step_from (machine_in loaded.now) (records_in loaded.now) n) w.old w.new result }
     ensures inside { IsInside (records_in loaded.now) w.new.place }
     ensures turns { (breakpoints : Breakpoints) → meter.new
-        ≡ meter.old + step_turns (machine_in loaded.now) loaded.now.capture.now breakpoints w.old n }
+        ≡ meter.old + turns_of (machine_in loaded.now) loaded.now.capture.now breakpoints
+        (step_from (machine_in loaded.now) (records_in loaded.now) n) w.old }
 {
     let count = loaded.capture.count();
     let mut left = n;

@@ -3,7 +3,7 @@ use Rattle.std.proofs.lemmas.Option.{slice_get_within}
 use Rattle.cbpf_dbg.specs.Loaded.{machine_in, records_in}
 use Rattle.cbpf_dbg.proofs.LeftLemmas.{is_end}
 use Rattle.cbpf_dbg.proofs.RunLemmas.{run_stopped, run_limited, run_finished, none_ahead}
-use Rattle.cbpf_dbg.proofs.TurnLemmas.{run_turns-reply, spent_between, owed-turns, owed_bound}
+use Rattle.cbpf_dbg.proofs.TurnLemmas.{turns-reply, spent_between, owed-turns, owed_bound}
 use Rattle.cbpf_dbg.proofs.run.run.Goals as goal
 
 pub run_to_hit-stop-requires-clause-spare : goal.run_to_hit-stop-requires-clause-spare
@@ -26,7 +26,7 @@ returns-in-Some-clause-runs g c =
 pub returns-in-Some-clause-turns : goal.returns-in-Some-clause-turns
 returns-in-Some-clause-turns g c =
     let came = c.in-Some.ensures in
-    rw (run_turns-reply _ _ _ _ _ _ _ (returns-in-Some-clause-runs g c))
+    rw (turns-reply _ _ _ _ _ _ _ (returns-in-Some-clause-runs g c))
     (spent_between _ _ _ _ _ _ c.requires.stands came.passes.stands came.passes.order came.passes.spent)
 
 pub returns-then-end-count-clause-runs : goal.returns-then-end-count-clause-runs
@@ -38,7 +38,7 @@ returns-then-end-count-clause-runs g c =
 pub returns-then-end-count-clause-turns : goal.returns-then-end-count-clause-turns
 returns-then-end-count-clause-turns g c =
     let came = c.in_default.ensures in
-    rw (run_turns-reply _ _ _ _ _ _ _ (returns-then-end-count-clause-runs g c))
+    rw (turns-reply _ _ _ _ _ _ _ (returns-then-end-count-clause-runs g c))
     (spent_between _ _ _ _ _ _ c.requires.stands came.passes.stands came.passes.order came.passes.spent)
 
 pub returns-clause-runs : goal.returns-clause-runs
@@ -60,4 +60,4 @@ returns-clause-turns g c =
     (rw c.count-count.ensures.value at c.end_of-end.ensures) c.run_to_hit-stop.new.cursor came.comes
     (rw c.count-count.ensures.value at c.if-end-count.false)).0 in
     let all = owed-turns _ _ c.args.cursor.now c.requires.stands in
-    rw (run_turns-reply _ _ _ _ _ _ _ (returns-clause-runs g c)) (omega (arith, all, none, came.passes.spent))
+    rw (turns-reply _ _ _ _ _ _ _ (returns-clause-runs g c)) (omega (arith, all, none, came.passes.spent))

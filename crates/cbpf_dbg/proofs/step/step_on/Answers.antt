@@ -6,7 +6,7 @@ use Rattle.cbpf_dbg.proofs.LeftLemmas.{first_left, first_of, left_here, left_pas
 use Rattle.cbpf_dbg.proofs.RunLemmas.{slice_get-first, step_stopped, step_finished}
 use Rattle.cbpf_dbg.proofs.KeepLemmas.{keeps_push, keeps_few, keeps_clear}
 use Rattle.cbpf_dbg.proofs.StepLemmas.{nears_none, nears_more, nears_entry, nears_out}
-use Rattle.cbpf_dbg.proofs.TurnLemmas.{step_turns-reply, spent_between, owed-turns, not_before_step, owed_bound}
+use Rattle.cbpf_dbg.proofs.TurnLemmas.{turns-reply, spent_between, owed-turns, not_before_step, owed_bound}
 use Rattle.cbpf_dbg.specs.Loaded.{machine_in, records_in}
 use Rattle.cbpf_dbg.proofs.step.step_on.Goals as goal
 use Rattle.cbpf_dbg.proofs.step.step_on.Goals.{then-w-eq0, else-w-eq0}
@@ -81,7 +81,7 @@ returns-then-left-eq1-clause-turns g c = λ breakpoints.
     + owed (machine_in c.args.loaded.now) (records_in c.args.loaded.now) c.advance.new.w.place
     ≡ c.args.meter.now + owed (machine_in c.args.loaded.now) (records_in c.args.loaded.now) c.args.w.now.place =
     omega (arith, ap length m.4, m.3, c.in-Entry.ensures.turns, c.go.invariant.nears.spent) in
-    rw (step_turns-reply _ _ _ _ _ _ _ steps) (spent_between _ _ c.args.w.now c.advance.new.w
+    rw (turns-reply _ _ _ _ _ _ _ steps) (spent_between _ _ c.args.w.now c.advance.new.w
     c.args.meter.now c.advance.new.meter c.requires.stands c.in-Entry.ensures.stands order spent)
 
 pub go-preserved-in-Entry : goal.go-preserved-in-Entry
@@ -138,4 +138,4 @@ returns-clause-turns g c = λ breakpoints.
     let m = nothing_left _ _ _ _ c.go.invariant.nears.stands c.go.invariant.records (none_of _ c.in_default.ensures) in
     let steps = returns-clause-steps g c breakpoints in
     let all = owed-turns _ _ c.args.w.now c.requires.stands in
-    rw (step_turns-reply _ _ _ _ _ _ _ steps) (omega (arith, all, ap length m.1, m.2, c.go.invariant.nears.spent))
+    rw (turns-reply _ _ _ _ _ _ _ steps) (omega (arith, all, ap length m.1, m.2, c.go.invariant.nears.spent))
