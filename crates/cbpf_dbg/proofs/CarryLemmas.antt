@@ -1,17 +1,17 @@
 -- The hits at an instruction, and breakpoints that change at one.
 use Rattle.std.proofs.Common.{◌≡◌, ℕ, List, Bool, true, false, refl, ap, arith, inl, inr, ◌∙◌, ◌<◌, ◌≤◌, sym}
 use Rattle.std.specs.Prelude.{Option, Some, None, is_some, nat_eq, ◌⊎◌, ◌||◌}
-use Rattle.std.specs.Option.{option_map_or}
 use Rattle.std.specs.Map.{lookup}
 use Rattle.std.proofs.lemmas.Bool.Decides.{nat_tests}
 use Rattle.cbpf_code.specs.declared.insn.Insn.{Insn}
 use Rattle.cbpf_machine.specs.Values.{Values}
-use Rattle.cbpf_machine.specs.Follow.{Watching}
+use Rattle.cbpf_machine.specs.Follow.{Watching, HasRoom, is_met}
 use Rattle.cbpf_machine.specs.Registers.{Registers}
 use Rattle.cbpf_machine.specs.Machine.{Machine, machine_of}
 use Rattle.cbpf_machine.specs.Step.{turn}
-use Rattle.cbpf_reply.specs.declared.breakpoints.When.{When}
-use Rattle.cbpf_dbg.specs.Breakpoints.{Breakpoints, carries, holds}
+use Rattle.cbpf_machine.specs.declared.watched.When.{When}
+use Rattle.cbpf_machine.specs.declared.watched.When.TheVariants.{Always}
+use Rattle.cbpf_dbg.specs.Breakpoints.{Breakpoints, carries}
 use Rattle.cbpf_dbg.specs.Joined.{is_unknown}
 use Rattle.cbpf_dbg.specs.Session.{IsSameBut, IsKnown, KeepsRoom, Watches, hits}
 
@@ -31,10 +31,10 @@ hits_unknown machine breakpoints bytes wire s unknown = rw unknown (or_true (car
 pub hits_carried : (machine : Machine) (breakpoints : Breakpoints) (bytes : List ℕ) (wire : ℕ) (s : Registers) (i : ℕ)
     (found : Option When) → is_unknown (turn machine bytes wire s) ≡ false → s.pc ≡ i
     → lookup (nat_eq i) breakpoints ≡ found
-    → hits machine breakpoints bytes wire s ≡ option_map_or (λ when. holds when s) found false
+    → hits machine breakpoints bytes wire s ≡ is_met found s
 hits_carried machine breakpoints bytes wire s i found known here is =
     let at : lookup (nat_eq s.pc) breakpoints ≡ found = rw here is in
-    rw known (or_false (carries breakpoints s)) ∙ ap (λ o. option_map_or (λ when. holds when s) o false) at
+    rw known (or_false (carries breakpoints s)) ∙ ap (λ o. is_met o s) at
 
 differs : (i p : ℕ) → (p ≡ i → ⊥) → nat_eq i p ≡ false
 differs i p h = grind (arith, nat_tests)
@@ -43,7 +43,7 @@ differs i p h = grind (arith, nat_tests)
 pub same-but : (i : ℕ) (before after : Breakpoints)
     → ((q : ℕ) → nat_eq i q ≡ false → lookup (nat_eq q) after ≡ lookup (nat_eq q) before) → IsSameBut i before after
 same-but i before after others = λ s h.
-    ap (λ found. option_map_or (λ when. holds when s) found false) (others s.pc (differs i s.pc h))
+    ap (λ found. is_met found s) (others s.pc (differs i s.pc h))
 
 pub same_or_other : (p i : ℕ) → (p ≡ i) ⊎ (p ≡ i → ⊥)
 same_or_other p i = by_test (nat_eq p i) refl
@@ -51,6 +51,12 @@ same_or_other p i = by_test (nat_eq p i) refl
     by_test : (b : Bool) → nat_eq p i ≡ b → (p ≡ i) ⊎ (p ≡ i → ⊥)
     by_test true e = inl (grind (arith, nat_tests))
     by_test false e = inr (λ q. grind (arith, nat_tests))
+
+pub room-kept : (found : Option When) (i room : ℕ) → ((when : When) → found ≡ Some when → i < room)
+    → HasRoom found i room
+room-kept None i room keeps = tt
+room-kept (Some Always) i room keeps = tt
+room-kept (Some when) i room keeps = keeps when refl
 
 pub room-there : (i : ℕ) (breakpoints : Breakpoints) (room : ℕ) (found : Option When)
     → lookup (nat_eq i) breakpoints ≡ found → is_some found ≡ true → KeepsRoom breakpoints room → i < room

@@ -6,7 +6,6 @@
 //! stops are this project's own.
 #![tactic(auto)]
 
-mod breakpoint;
 mod commands;
 mod cursor;
 mod hit;

@@ -5,11 +5,16 @@ ghost use Rattle.cbpf_code.specs.Sound.{IsSound};
 ghost use Rattle.cbpf_machine.specs.Machine.{machine_of};
 ghost use Rattle.cbpf_dbg.specs.Session.{IsQuiet, Watches};
 
-use crate::breakpoint::Breakpoints;
 use cbpf_code::Program;
 use cbpf_machine::{Values, Watched};
+use cbpf_reply::When;
+use indexmap::IndexMap;
 use pcap_classic::Capture;
 use std::alloc::Allocator;
+use std::hash::{BuildHasherDefault, FoldHasher};
+
+/// Instruction numbers with their conditions, in order of setting.
+pub(crate) type Breakpoints<A> = IndexMap<u32, When, BuildHasherDefault<FoldHasher>, A>;
 
 /// A program and a capture, with the values for extensions and the breakpoints.
 #[derive(Drop)]

@@ -9,8 +9,8 @@ ghost use Rattle.cbpf_dbg.specs.Commands as spec;
 ghost use Rattle.cbpf_dbg.specs.View.{empty_view};
 ghost use Rattle.cbpf_reply.specs.declared.reply.SessionFault.TheVariants as fault;
 
-use crate::breakpoint::Breakpoints;
 use crate::cursor::Cursor;
+use crate::loaded::Breakpoints;
 use crate::watching::{is_silent, make_room, watch, watch_at};
 use cbpf_code::{Ext, Program};
 use cbpf_machine::{Trail, Values, Watched};

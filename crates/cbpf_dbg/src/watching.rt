@@ -2,15 +2,15 @@
 
 ghost use Rattle.std.specs.Prelude.{◌≡◌, ◌<◌, ◌≤◌, ℕ, List, None, OnErr, OnOk, length, nat_eq, true};
 ghost use Rattle.std.specs.Map.{lookup};
-ghost use Rattle.cbpf_machine.specs.Follow.{HasRoom, holds};
+ghost use Rattle.cbpf_machine.specs.Follow.{HasRoom, is_met};
 ghost use Rattle.cbpf_machine.specs.Machine.{machine_of};
 ghost use Rattle.cbpf_machine.specs.Registers.{Registers};
 ghost use Rattle.cbpf_dbg.specs.Breakpoints.{Breakpoints as SomeBreakpoints};
 ghost use Rattle.cbpf_dbg.specs.Session.{IsSilent, IsSameBut, KeepsRoom, Watches, hits};
 
-use crate::breakpoint::{Breakpoints, watch_when};
+use crate::loaded::Breakpoints;
 use cbpf_code::Program;
-use cbpf_machine::{Values, Watch, Watched, missing_extension};
+use cbpf_machine::{Values, Watched, When, missing_extension};
 use std::alloc::{AllocError, Allocator};
 
 /// Whether no instruction asks for an extension that has no value.
@@ -25,25 +25,22 @@ pub(crate) fn is_silent<A: Allocator>(p: &Program<A>, values: &Values) -> bool
     true
 }
 
-/// Which entries at this instruction are hits.
+/// Which entries at this instruction are hits, if any.
 fn watch_of<A: Allocator>(
     p: &Program<A>,
     values: &Values,
     breakpoints: &Breakpoints<A>,
     i: u32,
-) -> Watch
+) -> Option<When>
     requires { i < length p.now }
     ensures holds { (bytes : List ℕ) (wire : ℕ) (s : Registers) → s.pc ≡ i
-        → holds result s ≡ hits (machine_of p.now values.now) breakpoints.now.entries bytes wire s }
+        → is_met result s ≡ hits (machine_of p.now values.now) breakpoints.now.entries bytes wire s }
     ensures room { (room : ℕ) → KeepsRoom breakpoints.now.entries room → HasRoom result i room }
 {
     if missing_extension(p.at_index(i), values).is_some() {
-        return Watch::Always;
+        return Some(When::Always);
     }
-    match breakpoints.get(&i) {
-        Some(when) => watch_when(*when),
-        None => Watch::Never,
-    }
+    breakpoints.get(&i).copied()
 }
 
 /// Makes room for the condition of a breakpoint. One that is set already has it.

@@ -40,4 +40,4 @@ pub use run::run_packet;
 pub use state::State;
 pub use trail::Trail;
 pub use values::Values;
-pub use watched::{Watch, Watched};
+pub use watched::{Watched, When};

@@ -1,23 +1,13 @@
-//! When a breakpoint stops, and the texts of breakpoints.
+//! The texts of breakpoints.
 
 ghost use Rattle.std.specs.Prelude.{ℕ, ◌≡◌, ◌<◌, ◌≤◌, ◌+◌, ◌++◌, codes, decimal, length};
 ghost use Rattle.cbpf_code.specs.Writing.{Wrote};
 ghost use Rattle.cbpf_reply.specs.Breakpoints as spec;
 
 use cbpf_code::{Line, Program, WriteFault, put_line, write_bytes};
+use cbpf_machine::When;
 use std::alloc::Allocator;
 use std::io::Write;
-
-/// When a breakpoint stops, by the registers before its instruction.
-#[derive(Clone, Copy, Debug, PartialEq, Eq)]
-pub enum When {
-    /// Each time.
-    Always,
-    /// Where the accumulator has this value.
-    A(u32),
-    /// Where the index register has this value.
-    X(u32),
-}
 
 /// Puts the condition of a breakpoint that is set, and the line's end.
 #[inline(always)]

@@ -23,8 +23,9 @@ mod scratch;
 mod stops;
 mod values;
 
-pub use breakpoints::{When, write_breakpoint, write_list_end, write_list_head, write_listed};
+pub use breakpoints::{write_breakpoint, write_list_end, write_list_head, write_listed};
 pub use c_dump::write_c_dump;
+pub use cbpf_machine::When;
 pub use counts::{write_finished, write_limit, write_place, write_went_to};
 pub use dump::write_stop;
 pub use errors::{

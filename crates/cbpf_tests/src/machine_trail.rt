@@ -6,8 +6,8 @@ ghost use Rattle.cbpf_machine.specs.Values.{no_values};
 use crate::assertions::{assert_at, assert_at_both};
 use cbpf_code::{Insn, Program, check};
 use cbpf_machine::{
-    Before, Followed, ListTrail, MarkTrail, Meter, Outcome, Packet, State, Trail, Values, Watch,
-    Watched, follow_on, follow_packet,
+    Before, Followed, ListTrail, MarkTrail, Meter, Outcome, Packet, State, Trail, Values, Watched,
+    When, follow_on, follow_packet,
 };
 use std::alloc::Global;
 use std::process::Abort;
@@ -47,7 +47,7 @@ fn is_entry(s: &State, n: u32) -> bool {
 fn only(rt: &impl Abort, alloc: Global, watched: u32) -> Watched {
     assert!(rt; watched < 4096);
     let mut table = Watched::none(alloc);
-    table.set(watched as usize, Watch::Always);
+    table.set(watched as usize, Some(When::Always));
     table
 }
 
