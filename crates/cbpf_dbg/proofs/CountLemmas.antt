@@ -1,8 +1,9 @@
 -- The outcomes of a run of packets.
 use Rattle.std.proofs.Common.{◌≡◌, ℕ, zero, suc, ◌+◌, ◌-◌, ◌<◌, ◌≤◌, ◌^◌, List, [], ◌∷◌, ◌++◌, length, drop, take}
-use Rattle.std.proofs.Common.{Bool, arith, ap, refl, cond, add-zero, length-drop}
+use Rattle.std.proofs.Common.{Bool, arith, ap, refl, cond, add-zero, length-drop, length-take}
 use Rattle.std.proofs.lemmas.List.Sums.{sum_by-append, count_by-le-length}
 use Rattle.std.proofs.Math.ListN.{length-map}
+use Rattle.std.proofs.lemmas.List.{map-append}
 use Rattle.cbpf_reply.specs.declared.reply.Counts.{Counts}
 use Rattle.std.specs.Prelude.{Some, slice_get, map, count_by}
 use Rattle.cbpf_machine.specs.Machine.{Machine}
@@ -20,10 +21,6 @@ slice_get-drop xs zero i = let e : 0 + i ≡ i = omega arith in rw e refl
 slice_get-drop [] (suc n) i = refl
 slice_get-drop (x ∷ xs) (suc n) i = let e : suc n + i ≡ suc (n + i) = omega arith in rw e (slice_get-drop xs n i)
 
-map-append_one : {X Y : Type 0} (f : X → Y) (xs : List X) (x : X) → map f (xs ++ x ∷ []) ≡ map f xs ++ f x ∷ []
-map-append_one f [] x = refl
-map-append_one f (y ∷ ys) x = ap (λ rest. f y ∷ rest) (map-append_one f ys x)
-
 pub outcomes-more : (machine : Machine) (capture : List Record) (from p : ℕ) (r : Record) → 1 ≤ from → from ≤ p
     → slice_get capture (p - 1) ≡ Some r
     → outcomes machine capture from (p + 1) ≡ outcomes machine capture from p ++ outcome machine r.bytes r.wire ∷ []
@@ -33,7 +30,7 @@ outcomes-more machine capture from p r from_one ordered at =
     let here : slice_get (drop (from - 1) capture) (p - from) ≡ Some r =
     rw (slice_get-drop capture (from - 1) (p - from), i) at in
     rw e (rw (take-slice_get (drop (from - 1) capture) (p - from) r here)
-    (map-append_one (λ (q : Record). outcome machine q.bytes q.wire) (take (p - from) (drop (from - 1) capture)) r))
+    (map-append (λ (q : Record). outcome machine q.bytes q.wire) (take (p - from) (drop (from - 1) capture)) (r ∷ [])))
 
 count_more : {X : Type 0} (f : X → Bool) (xs : List X) (x : X)
     → count_by f (xs ++ x ∷ []) ≡ count_by f xs + cond (f x) 1 0
@@ -66,18 +63,13 @@ counts-more machine capture from p r from_one ordered at =
       count_more is_open sofar o,
     ) (added (count_by is_pass sofar) (count_by is_fail sofar) (count_by is_open sofar) o)
 
-length-take_le : {X : Type 0} (n : ℕ) (xs : List X) → length (take n xs) ≤ length xs
-length-take_le zero xs = omega arith
-length-take_le (suc n) [] = omega arith
-length-take_le (suc n) (x ∷ xs) = omega (arith, length-take_le n xs)
-
 length-outcomes : (machine : Machine) (capture : List Record) (from to : ℕ)
     → length (outcomes machine capture from to) ≤ length capture
 length-outcomes machine capture from to =
     omega (
       arith,
       length-map (take (to - from) (drop (from - 1) capture)) (λ (r : Record). outcome machine r.bytes r.wire),
-      length-take_le (to - from) (drop (from - 1) capture),
+      length-take (to - from) (drop (from - 1) capture),
       length-drop (from - 1) capture,
     )
 

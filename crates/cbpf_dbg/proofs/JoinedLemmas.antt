@@ -3,6 +3,7 @@ use Rattle.std.proofs.Common.{◌≡◌, ℕ, zero, suc, ◌+◌, ◌-◌, ◌<�
 use Rattle.std.proofs.Common.{false, arith, sym, ap, ◌∙◌, refl, inl, inr, cond}
 use Rattle.std.specs.Prelude.{Some, slice_get, filter, map}
 use Rattle.std.proofs.lemmas.Bool.Decides.{nat_tests}
+use Rattle.std.proofs.lemmas.List.{drop_all}
 use Rattle.std.proofs.lemmas.List.Elements.{filter-append}
 use Rattle.cbpf_machine.specs.Machine.{Machine}
 use Rattle.cbpf_machine.specs.Registers.{Registers}
@@ -135,12 +136,6 @@ drop-slice_get (y ∷ ys) (suc i) x h =
     let e : suc i + 1 ≡ suc (i + 1) = omega arith in
     rw e ih
 
-drop-past : {X : Type 0} (xs : List X) (i : ℕ) → length xs ≤ i → drop i xs ≡ []
-drop-past [] zero h = refl
-drop-past [] (suc i) h = refl
-drop-past (x ∷ xs) zero h = absurd (omega arith)
-drop-past (x ∷ xs) (suc i) h = drop-past xs i (omega arith)
-
 -- the packet's next entry is the first ahead
 pub ahead-entry : (machine : Machine) (capture : List Record) (p s : ℕ) (r : Record) (t : Registers) → 1 ≤ p
     → slice_get capture (p - 1) ≡ Some r → slice_get (trace machine r.bytes r.wire) s ≡ Some t
@@ -158,7 +153,7 @@ joined-next machine capture p from_one =
           let at : slice_get capture (p + 1 - 1) ≡ Some found.0 = rw e found.2 in
           rw (drop-slice_get capture p found.0 found.2)
           (sym (ahead-in machine capture (p + 1) 0 found.0 (omega arith) at))
-      | inr past ↦ rw (drop-past capture p past.0) (sym (ahead-end machine capture (p + 1) 0 (omega arith)))
+      | inr past ↦ rw (drop_all p capture past.0) (sym (ahead-end machine capture (p + 1) 0 (omega arith)))
     ]
 
 -- after a packet's last entry comes the next packet
@@ -167,7 +162,7 @@ pub ahead-leave : (machine : Machine) (capture : List Record) (p s : ℕ) (r : R
     → ahead machine capture (place_at p s) ≡ ahead machine capture (place_at (p + 1) 0)
 ahead-leave machine capture p s r from_one at long =
     ahead-in machine capture p s r from_one at
-    ∙ rw (drop-past (trace machine r.bytes r.wire) s long) (joined-next machine capture p from_one)
+    ∙ rw (drop_all s (trace machine r.bytes r.wire) long) (joined-next machine capture p from_one)
 
 -- before a packet's first entry, its entries and those of the later packets
 pub ahead-whole : (machine : Machine) (capture : List Record) (p : ℕ) (r : Record) → 1 ≤ p

@@ -41,18 +41,12 @@ joined-from machine q (r ∷ more) =
 abbrev Above : Entry → Entry → Type 0
 Above d e = is_after d.place e.place ≡ true
 
-after-step : (a b : Place) → b.packet ≡ a.packet → a.step + 1 ≤ b.step → is_after a b ≡ true
-after-step a b e h = grind (arith, nat_tests)
-
-after-packet : (a b : Place) → a.packet + 1 ≤ b.packet → is_after a b ≡ true
-after-packet a b h = grind (arith, nat_tests)
-
 entries-rise : (machine : Machine) (r : Record) (p k : ℕ) (xs : List Registers)
     → Rises (λ (e : Entry). e.place) (entries_from machine r p k xs)
 entries-rise machine r p k [] = tt
 entries-rise machine r p k (x ∷ xs) = (
   All-weaker (From p (k + 1)) (Above (entry machine r p k x))
-      (λ e h. after-step (entry machine r p k x).place e.place h.0 h.1) (entries_from machine r p (k + 1) xs)
+      (λ e h. let same = h.0 in let more = h.1 in grind (arith, nat_tests)) (entries_from machine r p (k + 1) xs)
       (entries-from machine r p (k + 1) xs),
   entries-rise machine r p (k + 1) xs,
 )
@@ -74,7 +68,7 @@ joined-rise machine q (r ∷ more) =
     (entries-rise machine r q 1 (trace machine r.bytes r.wire)) (joined-rise machine (q + 1) more)
     (All-weaker (From q 1) (λ (d : Entry). All (Above d) (joined_from machine (q + 1) more))
     (λ d h. All-weaker (λ (e : Entry). q + 1 ≤ e.place.packet) (Above d)
-    (λ e g. let same = h.0 in after-packet d.place e.place (omega arith)) (joined_from machine (q + 1) more)
+    (λ e g. let same = h.0 in grind (arith, nat_tests)) (joined_from machine (q + 1) more)
     (joined-from machine (q + 1) more)) (packet_entries machine r q)
     (entries-from machine r q 1 (trace machine r.bytes r.wire)))
 

@@ -78,7 +78,8 @@ module _ (machine : Machine) (c : Savefile) (breakpoints : Breakpoints) (limit :
   view0 = view_at machine c breakpoints w0
 
   pub run_stopped : (w2 : Cursor) (h : Stop) → w2.origin ≡ w0.origin → NotBefore w2.place w0.place
-      → ComesTo machine c.records breakpoints end w0 (Some h) w2 → Gives machine c breakpoints (run_from machine c.records limit) w0 w2 (Stopped h)
+      → ComesTo machine c.records breakpoints end w0 (Some h) w2
+      → Gives machine c breakpoints (run_from machine c.records limit) w0 w2 (Stopped h)
   run_stopped w2 h origin order comes =
       let inside = within_end limit w0.place.packet h.place.packet (length c.records) (rw is at comes.1)
       (rw comes.0 at (not_before_forward w2.place w0.place order)) in

@@ -131,8 +131,6 @@ pub record Going (machine : Machine) (c : Savefile) (old new : View) (old_found 
   pub new_holds : Holds machine c new
   pub passed : List Stop
   pub place : new ≡ record old { place = last_place old.place passed }
-  pub origin : new.origin ≡ old.origin
-  pub breakpoints : new.breakpoints ≡ old.breakpoints
   pub found : new_found ≡ old_found ++ passed
   pub hits : rest machine c.records old.breakpoints old.place
       ≡ passed ++ rest machine c.records new.breakpoints new.place
@@ -183,8 +181,6 @@ module _ (machine : Machine) (c : Savefile) (old v : View) (f g : List Stop) (m 
         passed = h.passed ++ stop ∷ [];
         place = rw (last_place-append old.place h.passed stop)
             (there ∙ ap (λ (x : View). record x { place = stop.place }) h.place);
-        origin = rw there h.origin;
-        breakpoints = rw there h.breakpoints;
         found = pushed ∙ ap (λ xs. xs ++ stop ∷ []) h.found ∙ append_assoc f h.passed (stop ∷ []);
         hits = rw left ((rw first.1 at h.hits) ∙ sym (append_assoc h.passed (stop ∷ []) first.0));
         spent = rw place (omega (arith, spent, turns-rest machine c v stop first.0 first.1, h.spent));
@@ -205,12 +201,13 @@ module _ (machine : Machine) (c : Savefile) (old v : View) (f g : List Stop) (m 
         let answered : Ok (Finished counted) ≡ Ok (Finished (counts machine c.records v.origin (length c.records + 1))) =
         reply ∙ ap reply_of ran in
         let all : counted ≡ counts machine c.records old.origin (length c.records + 1) =
-        (let o = h.origin in let e : counted ≡ counts machine c.records v.origin (length c.records + 1) = cc in
-        rw o at e) in
+        (let first : v.origin ≡ old.origin = ap (λ (x : View). x.origin) h.place in
+        let e : counted ≡ counts machine c.records v.origin (length c.records + 1) = cc in rw first at e) in
         let o = h.old_holds in
-        let i = h.new_holds in (
+        let i = h.new_holds in
+        let same : v.breakpoints ≡ old.breakpoints = ap (λ (x : View). x.breakpoints) h.place in (
           rw (o.program, o.values, o.capture, all) refl,
-          rw (o.program, o.values, o.capture, there, i.program, i.values, i.capture, h.breakpoints) refl,
+          rw (o.program, o.values, o.capture, there, i.program, i.values, i.capture, same) refl,
           h.found ∙ ap (λ xs. f ++ xs) (sym ((rw none at h.hits) ∙ append-nil h.passed)),
         )
 

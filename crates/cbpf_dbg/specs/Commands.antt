@@ -7,7 +7,7 @@ use Rattle.std.specs.Prelude.{if◌then◌else◌, ℤ, pos, negsuc, ◌⊎◌, 
 use Rattle.cbpf_code.specs.declared.insn.Insn.{Insn}
 use Rattle.cbpf_code.specs.declared.extension.Ext.{Ext}
 use Rattle.std.specs.Option.{option_map}
-use Rattle.std.specs.Result.{result_unwrap_or}
+use Rattle.std.specs.Result.{result_unwrap_or, result_map_both}
 use Rattle.std.specs.Map.{lookup}
 use Rattle.cbpf_reply.specs.declared.reply.Counts.{Counts}
 use Rattle.cbpf_machine.specs.declared.watched.When.{When}
@@ -24,8 +24,7 @@ use Rattle.cbpf_reply.specs.declared.reply.Why.TheVariants as why
 use Rattle.cbpf_reply.specs.declared.reply.RunReply.{RunReply}
 use Rattle.cbpf_reply.specs.declared.reply.RunReply.TheVariants.{Stopped, Limit, Finished}
 use Rattle.cbpf_reply.specs.declared.reply.SessionFault.{SessionFault}
-use Rattle.cbpf_reply.specs.declared.reply.SessionFault.TheVariants.{NoProgram, NoCapture, NoPackets, NoInstruction}
-use Rattle.cbpf_reply.specs.declared.reply.SessionFault.TheVariants.{NoPacket, NoStep, TooFarBack, ZeroCount, NoValue}
+use Rattle.cbpf_reply.specs.declared.reply.SessionFault.TheVariants as fault
 use Rattle.cbpf_dbg.specs.Joined.{Entry, ahead, stops as every_hit, rest, stop_at, counts, turns_between, turns_to_end}
 use Rattle.indexmap.specs.IndexMap.{insert_entry, shift_remove_entry}
 use Rattle.cbpf_dbg.specs.View.{View, start}
@@ -45,13 +44,13 @@ view_after m (Err e) = m
 -- a command that needs a program
 abbrev pub with_program : {R : Type 0} → Option (List Insn) → (List Insn → Result R SessionFault)
     → Result R SessionFault
-with_program None act = Err NoProgram
+with_program None act = Err fault.NoProgram
 with_program (Some list) act = act list
 
 -- one that needs a capture too
 abbrev pub with_capture : {R : Type 0} → Option Savefile → (List Record → Result R SessionFault)
     → Result R SessionFault
-with_capture None act = Err NoCapture
+with_capture None act = Err fault.NoCapture
 with_capture (Some c) act = act c.records
 
 abbrev pub loaded : {R : Type 0} → View → (Machine → List Record → Result R SessionFault) → Result R SessionFault
@@ -59,7 +58,7 @@ loaded m act = with_program m.program (λ list. with_capture m.capture (act (mac
 
 -- one that needs a packet too
 abbrev pub with_packets : {R : Type 0} → List Record → Result R SessionFault → Result R SessionFault
-with_packets [] answer = Err NoPackets
+with_packets [] answer = Err fault.NoPackets
 with_packets (r ∷ rest) answer = answer
 
 abbrev pub stopped : View → Stop → RunReply × View
@@ -94,7 +93,7 @@ run_to m machine capture limit (h ∷ hits) =
 
 -- a limit is not 0
 abbrev pub checked_limit : {R : Type 0} → Option ℕ → Result R SessionFault → Result R SessionFault
-checked_limit (Some zero) answer = Err ZeroCount
+checked_limit (Some zero) answer = Err fault.ZeroCount
 checked_limit _ answer = answer
 
 unfoldable pub run : View → Option ℕ → Answer RunReply
@@ -120,7 +119,7 @@ back_place place b = record { packet = place.packet; step = place.step - b }
 
 -- the stop at an entry of the packet, or so many steps back are possible
 abbrev pub back_at : View → Option Entry → Answer RunReply
-back_at m None = Err (TooFarBack (m.place.step - 1))
+back_at m None = Err (fault.TooFarBack (m.place.step - 1))
 back_at m (Some e) = Ok (stopped m (stop_at why.Step e))
 
 abbrev pub back_to : View → Machine → List Record → ℕ → Answer RunReply
@@ -129,7 +128,7 @@ back_to m machine capture b =
     then entry_in machine (slice_get capture (m.place.packet - 1)) (back_place m.place b) else None)
 
 abbrev pub step_by : View → Machine → List Record → ℤ → Answer RunReply
-step_by m machine capture (pos zero) = Err ZeroCount
+step_by m machine capture (pos zero) = Err fault.ZeroCount
 step_by m machine capture (pos (suc n)) = Ok (step_to m machine capture (slice_get (ahead machine capture m.place) n))
 step_by m machine capture (negsuc n) = back_to m machine capture (n + 1)
 
@@ -147,7 +146,7 @@ has_packet capture n = nat_lt 0 n && nat_le n (length capture)
 unfoldable pub select : View → ℕ → Answer (Unit {0})
 select m n =
     loaded m (λ machine capture. with_packets capture
-    (if has_packet capture n then Ok (moved m (record { packet = n; step = 0 })) else Err NoPacket))
+    (if has_packet capture n then Ok (moved m (record { packet = n; step = 0 })) else Err fault.NoPacket))
 
 unfoldable pub mark : View → Result Place SessionFault
 mark m = loaded m (λ machine capture. Ok m.place)
@@ -160,18 +159,18 @@ steps_of machine (Some r) = length (trace machine r.bytes r.wire)
 abbrev pub resume_in : View → Machine → List Record → Place → Answer (Unit {0})
 resume_in m machine capture place =
     let steps = steps_of machine (slice_get capture (place.packet - 1)) in
-    if nat_le place.step steps then Ok (moved m place) else Err (NoStep steps)
+    if nat_le place.step steps then Ok (moved m place) else Err (fault.NoStep steps)
 
 unfoldable pub resume : View → Place → Answer (Unit {0})
 resume m place =
     loaded m (λ machine capture. with_packets capture
-    (if has_packet capture place.packet then resume_in m machine capture place else Err NoPacket))
+    (if has_packet capture place.packet then resume_in m machine capture place else Err fault.NoPacket))
 
 -- a place that `resume` takes wherever this program, these values and this capture are loaded, but for a capture
 -- that has no packets
 abbrev pub IsResumable : View → Place → Type 0
 IsResumable m place = (n : View) → n.program ≡ m.program → n.values ≡ m.values → n.capture ≡ m.capture
-    → IsOk (resume n place) ⊎ (resume n place ≡ Err NoPackets)
+    → IsOk (resume n place) ⊎ (resume n place ≡ Err fault.NoPackets)
 
 -- ---- turns
 
@@ -179,13 +178,10 @@ abbrev pub turns_in : View → Machine → List Record → RunReply × View → 
 turns_in m machine capture (Finished n, after) = turns_to_end machine capture m.place
 turns_in m machine capture (_, after) = turns_between machine capture m.place after.place
 
-abbrev pub turns_loaded : View → Option (List Insn) → Option Savefile → Answer RunReply → ℕ
-turns_loaded m (Some list) (Some c) (Ok a) = turns_in m (machine_of list m.values) c.records a
-turns_loaded m _ _ _ = 0
-
 -- the turns of `run`, and of `step` forward: the entries that the call leaves
 abbrev pub turns_forward : View → Answer RunReply → ℕ
-turns_forward m answer = turns_loaded m m.program m.capture answer
+turns_forward m answer =
+    result_unwrap_or (loaded m (λ machine capture. result_map_both (turns_in m machine capture) (λ e. e) answer)) 0
 
 -- the hits ahead
 unfoldable pub stops : View → Result (List Stop) SessionFault
@@ -249,12 +245,12 @@ with_value_set m e n =
     }
 
 unfoldable pub set_value : View → Ext → ℕ → Answer (Unit {0})
-set_value m e n = if takes_value e then Ok (tt, with_value_set m e n) else Err NoValue
+set_value m e n = if takes_value e then Ok (tt, with_value_set m e n) else Err fault.NoValue
 
 -- a breakpoint names an instruction of the program
 abbrev pub at_instruction : {R : Type 0} → View → ℕ → Result R SessionFault → Result R SessionFault
 at_instruction m n answer =
-    with_program m.program (λ list. if nat_lt n (length list) then answer else Err NoInstruction)
+    with_program m.program (λ list. if nat_lt n (length list) then answer else Err fault.NoInstruction)
 
 -- a breakpoint goes last; one that is set keeps its place and takes the condition
 unfoldable pub breakpoint_when : View → ℕ → When → Answer (Unit {0})
@@ -278,5 +274,5 @@ without_breakpoints m = record m { breakpoints = [] }
 
 -- of the refusals, only the one that counts a packet's steps makes turns
 abbrev pub Spends : SessionFault → ℕ → ℕ → Type 0
-Spends (NoStep n) old new = old ≤ new
+Spends (fault.NoStep n) old new = old ≤ new
 Spends _ old new = new ≡ old
