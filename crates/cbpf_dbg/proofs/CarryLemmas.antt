@@ -68,15 +68,15 @@ pub room-more : (breakpoints : Breakpoints) (old new : ℕ) → old ≤ new → 
 room-more breakpoints old new more keeps = λ i when at. let within = keeps i when at in omega arith
 
 -- what is known of a program
-module _ (silent : Bool) (old : Watching) (program : Option (List Insn)) (list : List Insn) (values : Values)
-    (before : Breakpoints) (e : program ≡ Some list) (known : IsKnown silent old program values before) where
-  held : IsKnown silent old (Some list) values before
+module _ (needs_no_value : Bool) (old : Watching) (program : Option (List Insn)) (list : List Insn) (values : Values)
+    (before : Breakpoints) (e : program ≡ Some list) (known : IsKnown needs_no_value old program values before) where
+  held : IsKnown needs_no_value old (Some list) values before
   held = rw e at known
 
   -- it stays known where breakpoints change at one instruction
   pub known-at : (new : Watching) (after : Breakpoints)
       → (Watches old (machine_of list values) before → Watches new (machine_of list values) after)
-      → KeepsRoom after new.room → IsKnown silent new program values after
+      → KeepsRoom after new.room → IsKnown needs_no_value new program values after
   known-at new after step room = rw e (held.0, step held.1, room)
 
   -- the room that is known to be there
@@ -85,7 +85,7 @@ module _ (silent : Bool) (old : Watching) (program : Option (List Insn)) (list :
 
   -- more room
   pub known-more : (new : Watching) → new.watches ≡ old.watches → old.room ≤ new.room
-      → IsKnown silent new program values before
+      → IsKnown needs_no_value new program values before
   known-more new same more = rw e (
     held.0,
     λ bytes wire s inside. rw same (held.1 bytes wire s inside),

@@ -41,13 +41,13 @@ Fits stands_for (Some list) values (Some c) w =
 Fits stands_for _ values _ w = IsStart w
 
 -- no turn of a machine asks for an extension that has no value
-abbrev pub IsSilent : Machine → Type 0
-IsSilent machine = (bytes : List ℕ) (wire : ℕ) (s : Registers) → s.pc < length machine.list
+abbrev pub NeedsNoValue : Machine → Type 0
+NeedsNoValue machine = (bytes : List ℕ) (wire : ℕ) (s : Registers) → s.pc < length machine.list
     → asked (turn machine bytes wire s) ≡ None
 
 -- no entry can be a hit
-abbrev pub IsQuiet : Machine → Breakpoints → Type 0
-IsQuiet machine breakpoints = (breakpoints ≡ []) × IsSilent machine
+abbrev pub CannotStop : Machine → Breakpoints → Type 0
+CannotStop machine breakpoints = (breakpoints ≡ []) × NeedsNoValue machine
 
 -- whether an entry with this state is a hit
 abbrev pub hits : Machine → Breakpoints → List ℕ → ℕ → Registers → Bool
@@ -71,7 +71,7 @@ IsSameBut i before after = (s : Registers) → (s.pc ≡ i → ⊥) → carries 
 
 -- what is known of a program
 abbrev pub IsKnown : Bool → Watching → Option (List Insn) → Values → Breakpoints → Type 0
-IsKnown silent watched (Some list) values breakpoints =
-    (silent ≡ true → IsSilent (machine_of list values)) × Watches watched (machine_of list values) breakpoints
-    × KeepsRoom breakpoints watched.room
-IsKnown silent watched None values breakpoints = Unit {0}
+IsKnown needs_no_value watched (Some list) values breakpoints =
+    (needs_no_value ≡ true → NeedsNoValue (machine_of list values))
+    × Watches watched (machine_of list values) breakpoints × KeepsRoom breakpoints watched.room
+IsKnown needs_no_value watched None values breakpoints = Unit {0}

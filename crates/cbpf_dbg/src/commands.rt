@@ -76,7 +76,7 @@ impl<T: Trail, A: Allocator> Session<T, A> {
             capture,
             breakpoints: &self.breakpoints,
             watched: &self.watched,
-            quiet: self.silent && self.breakpoints.is_empty(),
+            cannot_stop: self.needs_no_value && self.breakpoints.is_empty(),
         };
         let reply = run(meter, &loaded, &mut self.cursor, &mut self.trail, limit);
         Ok(reply)
@@ -120,7 +120,7 @@ impl<T: Trail, A: Allocator> Session<T, A> {
             capture,
             breakpoints: &self.breakpoints,
             watched: &self.watched,
-            quiet: self.silent && self.breakpoints.is_empty(),
+            cannot_stop: self.needs_no_value && self.breakpoints.is_empty(),
         };
         resume_at(meter, &loaded, &mut self.cursor, &mut self.trail, place).map_err(
             SessionFault::NoStep,
@@ -169,7 +169,7 @@ impl<T: Trail, A: Allocator> Session<T, A> {
             capture,
             breakpoints: &self.breakpoints,
             watched: &self.watched,
-            quiet: self.silent && self.breakpoints.is_empty(),
+            cannot_stop: self.needs_no_value && self.breakpoints.is_empty(),
         };
         let entries = n.unsigned_abs();
         if n > 0 {
@@ -236,7 +236,7 @@ impl<T: Trail, A: Allocator> Session<T, A> {
                 capture,
                 breakpoints: &self.breakpoints,
                 watched: &self.watched,
-                quiet: self.silent && self.breakpoints.is_empty(),
+                cannot_stop: self.needs_no_value && self.breakpoints.is_empty(),
             },
             cursor: self.cursor,
             left: capture.records(self.cursor.place.packet, capture.count() + 1),

@@ -148,28 +148,34 @@ fn leave_entry<A: Allocator>(
     meter: &mut Meter,
     loaded: &Loaded<'_, A>,
     here: &Captured<'_>,
-    w: &mut Cursor,
+    cursor: &mut Cursor,
 ) -> Moved
-    requires stands { Stands (machine_in loaded.now) (records_in loaded.now) w.old }
-    requires here { slice_get (records_in loaded.now) (w.old.place.packet - 1) ≡ Some (record_of here.now) }
-    requires begun { 0 < w.old.place.step }
+    requires stands { Stands (machine_in loaded.now) (records_in loaded.now) cursor.old }
+    requires here { slice_get (records_in loaded.now) (cursor.old.place.packet - 1) ≡ Some (record_of here.now) }
+    requires begun { 0 < cursor.old.place.step }
     requires spare { meter.old + 1 < 2 ^ 128 }
-    ensures stands { Stands (machine_in loaded.now) (records_in loaded.now) w.new }
-    ensures moves { Moves (machine_in loaded.now) (records_in loaded.now) w.old result w.new }
-    ensures origin { w.new.origin ≡ w.old.origin }
+    ensures stands { Stands (machine_in loaded.now) (records_in loaded.now) cursor.new }
+    ensures moves { Moves (machine_in loaded.now) (records_in loaded.now) cursor.old result cursor.new }
+    ensures origin { cursor.new.origin ≡ cursor.old.origin }
     ensures turns { meter.new ≡ meter.old + 1 }
 {
     let packet = Packet {
         bytes: here.bytes,
         wire: here.wire,
     };
-    match turn_in_place(meter, loaded.program, packet, loaded.values, &mut w.state) {
+    match turn_in_place(
+        meter,
+        loaded.program,
+        packet,
+        loaded.values,
+        &mut cursor.state,
+    ) {
         None => {
-            w.go_on();
+            cursor.go_on();
             Moved::Entry
         }
         Some(outcome) => {
-            w.pass(outcome);
+            cursor.pass(outcome);
             Moved::Packet
         }
     }
@@ -181,21 +187,21 @@ pub(crate) fn advance<A: Allocator>(
     meter: &mut Meter,
     loaded: &Loaded<'_, A>,
     here: &Captured<'_>,
-    w: &mut Cursor,
+    cursor: &mut Cursor,
 ) -> Moved
-    requires stands { Stands (machine_in loaded.now) (records_in loaded.now) w.old }
-    requires here { slice_get (records_in loaded.now) (w.old.place.packet - 1) ≡ Some (record_of here.now) }
+    requires stands { Stands (machine_in loaded.now) (records_in loaded.now) cursor.old }
+    requires here { slice_get (records_in loaded.now) (cursor.old.place.packet - 1) ≡ Some (record_of here.now) }
     requires spare { meter.old + 1 < 2 ^ 128 }
-    ensures stands { Stands (machine_in loaded.now) (records_in loaded.now) w.new }
-    ensures moves { Moves (machine_in loaded.now) (records_in loaded.now) w.old result w.new }
-    ensures origin { w.new.origin ≡ w.old.origin }
-    ensures turns { meter.new ≡ meter.old + min w.old.place.step 1 }
+    ensures stands { Stands (machine_in loaded.now) (records_in loaded.now) cursor.new }
+    ensures moves { Moves (machine_in loaded.now) (records_in loaded.now) cursor.old result cursor.new }
+    ensures origin { cursor.new.origin ≡ cursor.old.origin }
+    ensures turns { meter.new ≡ meter.old + min cursor.old.place.step 1 }
 {
-    if w.place.step == 0 {
-        enter_packet(loaded, here, w);
+    if cursor.place.step == 0 {
+        enter_packet(loaded, here, cursor);
         return Moved::Entry;
     }
-    leave_entry(meter, loaded, here, w)
+    leave_entry(meter, loaded, here, cursor)
 }
 
 /// Goes to the first entry of a packet, whose record is `here`.
@@ -203,14 +209,14 @@ pub(crate) fn advance<A: Allocator>(
 pub(crate) fn enter_packet<A: Allocator>(
     loaded: &Loaded<'_, A>,
     here: &Captured<'_>,
-    w: &mut Cursor,
+    cursor: &mut Cursor,
 )
-    requires stands { Stands (machine_in loaded.now) (records_in loaded.now) w.old }
-    requires here { slice_get (records_in loaded.now) (w.old.place.packet - 1) ≡ Some (record_of here.now) }
-    requires before { w.old.place.step ≡ 0 }
-    ensures stands { Stands (machine_in loaded.now) (records_in loaded.now) w.new }
-    ensures moves { Moves (machine_in loaded.now) (records_in loaded.now) w.old moved.Entry w.new }
-    ensures origin { w.new.origin ≡ w.old.origin }
+    requires stands { Stands (machine_in loaded.now) (records_in loaded.now) cursor.old }
+    requires here { slice_get (records_in loaded.now) (cursor.old.place.packet - 1) ≡ Some (record_of here.now) }
+    requires before { cursor.old.place.step ≡ 0 }
+    ensures stands { Stands (machine_in loaded.now) (records_in loaded.now) cursor.new }
+    ensures moves { Moves (machine_in loaded.now) (records_in loaded.now) cursor.old moved.Entry cursor.new }
+    ensures origin { cursor.new.origin ≡ cursor.old.origin }
 {
-    w.enter();
+    cursor.enter();
 }

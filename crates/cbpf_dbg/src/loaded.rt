@@ -3,7 +3,7 @@
 ghost use Rattle.std.specs.Prelude.{◌≡◌, ◌<◌, ◌^◌, length, true};
 ghost use Rattle.cbpf_code.specs.Sound.{IsSound};
 ghost use Rattle.cbpf_machine.specs.Machine.{machine_of};
-ghost use Rattle.cbpf_dbg.specs.Session.{IsQuiet, Watches};
+ghost use Rattle.cbpf_dbg.specs.Session.{CannotStop, Watches};
 
 use cbpf_code::Program;
 use cbpf_machine::{Values, Watched};
@@ -26,9 +26,9 @@ pub(crate) struct Loaded<'a, A: Allocator> {
     /// The entries that are hits.
     pub(crate) watched: &'a Watched<A>,
     /// Whether it is known that no entry can be a hit.
-    pub(crate) quiet: bool,
+    pub(crate) cannot_stop: bool,
     ghost sound: { IsSound program.now },
     ghost few: { length capture.now.records < 2 ^ 60 },
     ghost watches: { Watches watched.now (machine_of program.now values.now) breakpoints.now.entries },
-    ghost none: { quiet ≡ true → IsQuiet (machine_of program.now values.now) breakpoints.now.entries },
+    ghost none: { cannot_stop ≡ true → CannotStop (machine_of program.now values.now) breakpoints.now.entries },
 }

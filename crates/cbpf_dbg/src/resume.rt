@@ -16,26 +16,26 @@ use std::alloc::Allocator;
 pub(crate) fn resume_at<T: Trail, A: Allocator>(
     meter: &mut Meter,
     loaded: &Loaded<'_, A>,
-    w: &mut Cursor,
+    cursor: &mut Cursor,
     trail: &mut T,
     place: Place,
 ) -> Result<(), u32>
     requires from_one { 1 ≤ place.packet }
     requires within { place.packet ≤ length (records_in loaded.now) }
     requires spare { meter.old ≤ 2 ^ 127 }
-    ensures found { OnOk result (Stands (machine_in loaded.now) (records_in loaded.now) w.new
-        × Keeps (λ xs. T.stands_for trail.new xs) (machine_in loaded.now) (records_in loaded.now) w.new.place
-        × (w.new.place ≡ place) × (w.new.origin ≡ place.packet)
+    ensures found { OnOk result (Stands (machine_in loaded.now) (records_in loaded.now) cursor.new
+        × Keeps (λ xs. T.stands_for trail.new xs) (machine_in loaded.now) (records_in loaded.now) cursor.new.place
+        × (cursor.new.place ≡ place) × (cursor.new.origin ≡ place.packet)
         × (place.step ≤ steps_of (machine_in loaded.now) (slice_get (records_in loaded.now) (place.packet - 1)))) }
     ensures short { IfErr result
         (λ n. (n ≡ steps_of (machine_in loaded.now) (slice_get (records_in loaded.now) (place.packet - 1)))
-        × (n < place.step) × (w.new ≡ w.old) × (trail.new ≡ trail.old)) }
+        × (n < place.step) × (cursor.new ≡ cursor.old) × (trail.new ≡ trail.old)) }
     ensures counts { meter.old ≤ meter.new }
     ensures few { meter.new ≤ meter.old + 2 * place.step }
 {
     if place.step == 0 {
         trail.clear();
-        *w = Cursor::before(place.packet);
+        *cursor = Cursor::before(place.packet);
         return Ok(());
     }
     let item = loaded.capture.item(place.packet);
@@ -44,6 +44,6 @@ pub(crate) fn resume_at<T: Trail, A: Allocator>(
         wire: item.wire,
     };
     let state = trail.go_to(meter, loaded.program, packet, loaded.values, place.step)?;
-    *w = Cursor::at_entry(place, state);
+    *cursor = Cursor::at_entry(place, state);
     Ok(())
 }

@@ -92,7 +92,7 @@ fn run_whole<T: Trail, A: Allocator>(
     ensures near { result ≡ true → cursor.new.place.step ≤ T.gap 0 + 1 }
 {
     let first_gap = T::first_gap();
-    if loaded.quiet {
+    if loaded.cannot_stop {
         return run_records(meter, loaded, &Never, left, cursor);
     }
     if loaded.program.len() <= first_gap {

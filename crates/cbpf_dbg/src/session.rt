@@ -11,7 +11,7 @@ ghost use Rattle.cbpf_reply.specs.declared.reply.SessionFault.TheVariants as fau
 
 use crate::cursor::Cursor;
 use crate::loaded::Breakpoints;
-use crate::watching::{is_silent, make_room, watch, watch_at};
+use crate::watching::{make_room, needs_no_value, watch, watch_at};
 use cbpf_code::{Ext, Program};
 use cbpf_machine::{Trail, Values, Watched};
 use cbpf_reply::{Place, SessionFault, When};
@@ -28,7 +28,7 @@ pub struct Session<T: Trail, A: Allocator = Global> {
     pub(crate) program: Option<Program<A>>,
     pub(crate) values: Values,
     /// Whether no instruction of the program asks for an extension that has no value.
-    pub(crate) silent: bool,
+    pub(crate) needs_no_value: bool,
     /// The entries of the program that are hits.
     pub(crate) watched: Watched<A>,
     pub(crate) capture: Option<Capture<A>>,
@@ -54,7 +54,7 @@ impl<T: Trail, A: Allocator> Model for Session<T, A> {
     } };
 
     ghost invariant = { λ s. Fits (λ xs. T.stands_for s.trail xs) s.program s.values s.capture s.cursor
-        × IsKnown s.silent s.watched s.program s.values s.breakpoints.entries };
+        × IsKnown s.needs_no_value s.watched s.program s.values s.breakpoints.entries };
 }
 
 impl<T: Trail, A: Allocator + Copy> Session<T, A> {
@@ -68,7 +68,7 @@ impl<T: Trail, A: Allocator + Copy> Session<T, A> {
         Session {
             program: None,
             values: Values::new(),
-            silent: false,
+            needs_no_value: false,
             watched: Watched::none(alloc),
             capture: None,
             breakpoints: IndexMap::new(alloc),
@@ -143,7 +143,7 @@ impl<T: Trail, A: Allocator> Session<T, A> {
     {
         let _sound = p.len();
         self.breakpoints.clear();
-        self.silent = is_silent(&p, &self.values);
+        self.needs_no_value = needs_no_value(&p, &self.values);
         watch(&mut self.watched, &p, &self.values, &self.breakpoints);
         self.program = Some(p);
         self.cursor = Cursor::start();
@@ -239,7 +239,7 @@ impl<T: Trail, A: Allocator> Session<T, A> {
         }
         if let Some(program) = &self.program {
             let _sound = program.len();
-            self.silent = is_silent(program, &self.values);
+            self.needs_no_value = needs_no_value(program, &self.values);
             watch(&mut self.watched, program, &self.values, &self.breakpoints);
         }
         self.cursor = Cursor::before(packet);

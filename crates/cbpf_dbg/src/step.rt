@@ -16,25 +16,27 @@ use cbpf_reply::{RunReply, Stop, Why};
 use pcap_classic::Records;
 use std::alloc::Allocator;
 
-/// Passes over whole packets while the entry that is sought, which is the `n`-th ahead, is in a later one: how far it is
-/// ahead then.
+/// Passes over whole packets while the entry that is sought, the `n`-th ahead, is in a later one: how far ahead it is
+/// then.
 // It isn't inlined, so that the processor's registers are for its loop alone.
 #[inline(never)]
 fn skip_packets<A: Allocator>(
     meter: &mut Meter,
     loaded: &Loaded<'_, A>,
     records: &mut Records<'_>,
-    w: &mut Cursor,
+    cursor: &mut Cursor,
     n: u64,
 ) -> u64
-    requires stands { Stands (machine_in loaded.now) (records_in loaded.now) w.old }
-    requires records { AllLeft (records_in loaded.now) w.old.place records.old }
-    requires before { w.old.place.step ≡ 0 }
+    requires stands { Stands (machine_in loaded.now) (records_in loaded.now) cursor.old }
+    requires records { AllLeft (records_in loaded.now) cursor.old.place records.old }
+    requires before { cursor.old.place.step ≡ 0 }
     requires some { 1 ≤ n }
-    requires spare { meter.old + owed (machine_in loaded.now) (records_in loaded.now) w.old.place + 8192 ≤ 2 ^ 128 }
-    ensures nears { Nears (machine_in loaded.now) (records_in loaded.now) w.old w.new n result meter.old meter.new }
-    ensures records { AllLeft (records_in loaded.now) w.new.place records.new }
-    ensures before { w.new.place.step ≡ 0 }
+    requires spare { meter.old + owed (machine_in loaded.now) (records_in loaded.now) cursor.old.place + 8192
+        ≤ 2 ^ 128 }
+    ensures nears { Nears (machine_in loaded.now) (records_in loaded.now) cursor.old cursor.new n result
+        meter.old meter.new }
+    ensures records { AllLeft (records_in loaded.now) cursor.new.place records.new }
+    ensures before { cursor.new.place.step ≡ 0 }
 {
     let longest = u64::from(loaded.program.len());
     let mut left = n;
@@ -47,7 +49,7 @@ fn skip_packets<A: Allocator>(
             wire: here.wire,
         };
         let before = meter.spent();
-        w.pass(run_packet(meter, loaded.program, packet, loaded.values));
+        cursor.pass(run_packet(meter, loaded.program, packet, loaded.values));
         left -= (meter.spent() - before) as u64;
         records.pass(&here);
     }
@@ -58,51 +60,51 @@ fn skip_packets<A: Allocator>(
 pub(crate) fn step_on<T: Trail, A: Allocator>(
     meter: &mut Meter,
     loaded: &Loaded<'_, A>,
-    w: &mut Cursor,
+    cursor: &mut Cursor,
     trail: &mut T,
     n: u64,
 ) -> RunReply
-    requires stands { Stands (machine_in loaded.now) (records_in loaded.now) w.old }
+    requires stands { Stands (machine_in loaded.now) (records_in loaded.now) cursor.old }
     requires keeps { Keeps (λ xs. T.stands_for trail.old xs) (machine_in loaded.now)
-        (records_in loaded.now) w.old.place }
+        (records_in loaded.now) cursor.old.place }
     requires early { meter.old ≤ 2 ^ 127 }
     requires some { 1 ≤ n }
-    ensures stands { Stands (machine_in loaded.now) (records_in loaded.now) w.new }
+    ensures stands { Stands (machine_in loaded.now) (records_in loaded.now) cursor.new }
     ensures keeps { Keeps (λ xs. T.stands_for trail.new xs) (machine_in loaded.now)
-        (records_in loaded.now) w.new.place }
+        (records_in loaded.now) cursor.new.place }
     ensures steps { (breakpoints : Breakpoints) → Gives (machine_in loaded.now) loaded.now.capture.now breakpoints
-        (step_from (machine_in loaded.now) (records_in loaded.now) n) w.old w.new result }
-    ensures inside { IsInside (records_in loaded.now) w.new.place }
+        (step_from (machine_in loaded.now) (records_in loaded.now) n) cursor.old cursor.new result }
+    ensures inside { IsInside (records_in loaded.now) cursor.new.place }
     ensures turns { (breakpoints : Breakpoints) → meter.new
         ≡ meter.old + turns_of (machine_in loaded.now) loaded.now.capture.now breakpoints
-        (step_from (machine_in loaded.now) (records_in loaded.now) n) w.old }
+        (step_from (machine_in loaded.now) (records_in loaded.now) n) cursor.old }
 {
     let count = loaded.capture.count();
     let mut left = n;
-    let mut records = loaded.capture.records(w.place.packet, count + 1);
-    if w.place.step == 0 {
-        left = skip_packets(meter, loaded, &mut records, w, left);
+    let mut records = loaded.capture.records(cursor.place.packet, count + 1);
+    if cursor.place.step == 0 {
+        left = skip_packets(meter, loaded, &mut records, cursor, left);
         trail.clear();
     }
     'go: while let Some(here) = records.first() {
-        match advance(meter, loaded, &here, w) {
+        match advance(meter, loaded, &here, cursor) {
             Moved::Entry => {
-                trail.push(w.state);
+                trail.push(cursor.state);
                 if left == 1 {
-                    return RunReply::Stopped(stop_at(loaded, w, Why::Step));
+                    return RunReply::Stopped(stop_at(loaded, cursor, Why::Step));
                 }
                 left -= 1;
             }
             Moved::Packet => {
                 records.pass(&here);
-                left = skip_packets(meter, loaded, &mut records, w, left);
+                left = skip_packets(meter, loaded, &mut records, cursor, left);
                 trail.clear();
             }
         }
     }
-    let counts = w.counts;
+    let counts = cursor.counts;
     trail.clear();
-    *w = Cursor::start();
+    *cursor = Cursor::start();
     RunReply::Finished(counts)
 }
 
@@ -110,38 +112,39 @@ pub(crate) fn step_on<T: Trail, A: Allocator>(
 pub(crate) fn step_back<T: Trail, A: Allocator>(
     meter: &mut Meter,
     loaded: &Loaded<'_, A>,
-    w: &mut Cursor,
+    cursor: &mut Cursor,
     trail: &mut T,
     b: u64,
 ) -> Result<Stop, u32>
-    requires stands { Stands (machine_in loaded.now) (records_in loaded.now) w.old }
+    requires stands { Stands (machine_in loaded.now) (records_in loaded.now) cursor.old }
     requires keeps { Keeps (λ xs. T.stands_for trail.old xs) (machine_in loaded.now)
-        (records_in loaded.now) w.old.place }
+        (records_in loaded.now) cursor.old.place }
     requires some { 1 ≤ b }
     requires spare { meter.old ≤ 2 ^ 127 }
-    ensures stands { Stands (machine_in loaded.now) (records_in loaded.now) w.new }
+    ensures stands { Stands (machine_in loaded.now) (records_in loaded.now) cursor.new }
     ensures keeps { Keeps (λ xs. T.stands_for trail.new xs) (machine_in loaded.now)
-        (records_in loaded.now) w.new.place }
+        (records_in loaded.now) cursor.new.place }
     ensures answer { MatchResult result
-        (λ stop. StepsBack (machine_in loaded.now) (records_in loaded.now) w.old w.new b stop)
-        (λ most. CannotStepBack w.old w.new b most) }
-    ensures inside { IsInside (records_in loaded.now) w.old.place → IsInside (records_in loaded.now) w.new.place }
+        (λ stop. StepsBack (machine_in loaded.now) (records_in loaded.now) cursor.old cursor.new b stop)
+        (λ most. CannotStepBack cursor.old cursor.new b most) }
+    ensures inside { IsInside (records_in loaded.now) cursor.old.place
+        → IsInside (records_in loaded.now) cursor.new.place }
     ensures counts { meter.old ≤ meter.new }
-    ensures turns { OnOk result (meter.new ≡ meter.old + T.turns_back w.new.place.step) }
+    ensures turns { OnOk result (meter.new ≡ meter.old + T.turns_back cursor.new.place.step) }
     ensures few { meter.new ≤ meter.old + most_turns_back }
     ensures refused { OnErr result (meter.new ≡ meter.old) }
 {
-    if b >= u64::from(w.place.step) {
-        return Err(w.place.step.saturating_sub(1));
+    if b >= u64::from(cursor.place.step) {
+        return Err(cursor.place.step.saturating_sub(1));
     }
-    let to = w.place.step - b as u32;
-    let item = loaded.capture.item(w.place.packet);
+    let to = cursor.place.step - b as u32;
+    let item = loaded.capture.item(cursor.place.packet);
     let packet = Packet {
         bytes: item.bytes,
         wire: item.wire,
     };
     let state = trail.back(meter, loaded.program, packet, loaded.values, to);
-    w.state = state;
-    w.place.step = to;
-    Ok(stop_at(loaded, w, Why::Step))
+    cursor.state = state;
+    cursor.place.step = to;
+    Ok(stop_at(loaded, cursor, Why::Step))
 }

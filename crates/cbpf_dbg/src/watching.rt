@@ -6,7 +6,7 @@ ghost use Rattle.cbpf_machine.specs.Follow.{HasRoom, is_met};
 ghost use Rattle.cbpf_machine.specs.Machine.{machine_of};
 ghost use Rattle.cbpf_machine.specs.Registers.{Registers};
 ghost use Rattle.cbpf_dbg.specs.Breakpoints.{Breakpoints as SomeBreakpoints};
-ghost use Rattle.cbpf_dbg.specs.Session.{IsSilent, IsSameBut, KeepsRoom, Watches, hits};
+ghost use Rattle.cbpf_dbg.specs.Session.{NeedsNoValue, IsSameBut, KeepsRoom, Watches, hits};
 
 use crate::loaded::Breakpoints;
 use cbpf_code::Program;
@@ -14,8 +14,8 @@ use cbpf_machine::{Values, Watched, When, missing_extension};
 use std::alloc::{AllocError, Allocator};
 
 /// Whether no instruction asks for an extension that has no value.
-pub(crate) fn is_silent<A: Allocator>(p: &Program<A>, values: &Values) -> bool
-    ensures { result ≡ true → IsSilent (machine_of p.now values.now) }
+pub(crate) fn needs_no_value<A: Allocator>(p: &Program<A>, values: &Values) -> bool
+    ensures { result ≡ true → NeedsNoValue (machine_of p.now values.now) }
 {
     'scan: for i in 0..p.len() {
         if missing_extension(p.at_index(i), values).is_some() {

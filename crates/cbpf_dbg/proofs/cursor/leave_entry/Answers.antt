@@ -14,28 +14,28 @@ use Rattle.cbpf_dbg.proofs.cursor.leave_entry.Goals as goal
 
 pub turn_in_place-requires-clause-inside : goal.turn_in_place-requires-clause-inside
 turn_in_place-requires-clause-inside g c =
-    (goes _ _ c.args.w.now _ c.requires.stands
+    (goes _ _ c.args.cursor.now _ c.requires.stands
     c.requires.here c.requires.begun).inside
 
 pub go_on-requires : goal.go_on-requires
 go_on-requires g c =
-    let few = steps_few _ _ c.args.w.now _ c.requires.stands c.requires.here in
-    omega (arith, step_within _ _ c.args.w.now _ c.requires.stands c.requires.here, few)
+    let few = steps_few _ _ c.args.cursor.now _ c.requires.stands c.requires.here in
+    omega (arith, step_within _ _ c.args.cursor.now _ c.requires.stands c.requires.here, few)
 
 pub pass-requires : goal.pass-requires
 pass-requires g c =
-    countable _ _ c.args.w.now c.requires.stands c.args.loaded.now.few
+    countable _ _ c.args.cursor.now c.requires.stands c.args.loaded.now.few
 
 pub returns-in-None : goal.returns-in-None
 returns-in-None g c =
-    let same : c.go_on.new.self ≡ stepped c.args.w.now c.turn_in_place.new.s = c.go_on.ensures in
-    let on : turn (machine_in c.args.loaded.now) c.args.here.now.bytes.now c.args.here.now.wire c.args.w.now.state
+    let same : c.go_on.new.self ≡ stepped c.args.cursor.now c.turn_in_place.new.s = c.go_on.ensures in
+    let on : turn (machine_in c.args.loaded.now) c.args.here.now.bytes.now c.args.here.now.wire c.args.cursor.now.state
     ≡ Next c.turn_in_place.new.s = c.in-None.ensures.value in
     record {
-      stands = rw same (stands-stepped _ _ c.args.w.now _ c.requires.stands c.requires.here c.requires.begun _ on);
+      stands = rw same (stands-stepped _ _ c.args.cursor.now _ c.requires.stands c.requires.here c.requires.begun _ on);
       moves =
-          subst (λ n. Moves (machine_in c.args.loaded.now) (records_in c.args.loaded.now) c.args.w.now moved.Entry n)
-          (sym same) (moves-stepped _ _ c.args.w.now _ c.requires.stands c.requires.here c.requires.begun _ on);
+          subst (λ n. Moves (machine_in c.args.loaded.now) (records_in c.args.loaded.now) c.args.cursor.now moved.Entry n)
+          (sym same) (moves-stepped _ _ c.args.cursor.now _ c.requires.stands c.requires.here c.requires.begun _ on);
       origin = ap (λ (n : Cursor). n.origin) same;
       turns = c.turn_in_place.ensures.spent;
     }
@@ -44,20 +44,20 @@ pub returns-in-Some : goal.returns-in-Some
 returns-in-Some g c =
     let v = c.in-Some.ensures.value in
     let here : Cursor = record {
-      origin = c.args.w.now.origin;
-      place = c.args.w.now.place;
+      origin = c.args.cursor.now.origin;
+      place = c.args.cursor.now.place;
       state = c.turn_in_place.new.s;
-      counts = c.args.w.now.counts;
+      counts = c.args.cursor.now.counts;
     } in
-    let stays : here ≡ c.args.w.now = ap (λ (s : Registers). record c.args.w.now { state = s }) v.2 in
-    let same : c.pass.new.self ≡ passed c.args.w.now (outcome_of
-    (turn (machine_in c.args.loaded.now) c.args.here.now.bytes.now c.args.here.now.wire c.args.w.now.state)) =
-    c.pass.ensures ∙ ap (λ w. passed w c.in-Some.outcome) stays ∙ ap (passed c.args.w.now) v.1 in
+    let stays : here ≡ c.args.cursor.now = ap (λ (s : Registers). record c.args.cursor.now { state = s }) v.2 in
+    let same : c.pass.new.self ≡ passed c.args.cursor.now (outcome_of
+    (turn (machine_in c.args.loaded.now) c.args.here.now.bytes.now c.args.here.now.wire c.args.cursor.now.state)) =
+    c.pass.ensures ∙ ap (λ w. passed w c.in-Some.outcome) stays ∙ ap (passed c.args.cursor.now) v.1 in
     record {
-      stands = rw same (stands-left _ _ c.args.w.now _ c.requires.stands c.requires.here c.requires.begun v.0);
+      stands = rw same (stands-left _ _ c.args.cursor.now _ c.requires.stands c.requires.here c.requires.begun v.0);
       moves =
-          subst (λ n. Moves (machine_in c.args.loaded.now) (records_in c.args.loaded.now) c.args.w.now moved.Packet n)
-          (sym same) (moves-left _ _ c.args.w.now _ c.requires.stands c.requires.here c.requires.begun v.0);
+          subst (λ n. Moves (machine_in c.args.loaded.now) (records_in c.args.loaded.now) c.args.cursor.now moved.Packet n)
+          (sym same) (moves-left _ _ c.args.cursor.now _ c.requires.stands c.requires.here c.requires.begun v.0);
       origin = ap (λ (n : Cursor). n.origin) same;
       turns = c.turn_in_place.ensures.spent;
     }

@@ -6,9 +6,9 @@ use Rattle.cbpf_dbg.proofs.step.skip_packets.Given as goal
 abbrev pub invariant-skip : goal.invariant-skip
 invariant-skip g l =
     record {
-      nears : Nears (machine_in l.loaded) (records_in l.loaded) l.fn.w l.w l.n l.left l.fn.meter l.meter;
-      records : AllLeft (records_in l.loaded) l.w.place l.records;
-      before : l.w.place.step ≡ 0;
+      nears : Nears (machine_in l.loaded) (records_in l.loaded) l.fn.cursor l.cursor l.n l.left l.fn.meter l.meter;
+      records : AllLeft (records_in l.loaded) l.cursor.place l.records;
+      before : l.cursor.place.step ≡ 0;
     }
 
 abbrev pub decreases-skip : goal.decreases-skip

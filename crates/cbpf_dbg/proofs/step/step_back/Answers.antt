@@ -12,14 +12,14 @@ use Rattle.cbpf_dbg.proofs.step.step_back.Goals as goal
 pub stop_at-requires : goal.stop_at-requires
 stop_at-requires g c =
     (goes_from_entry (machine_in c.args.loaded.now) c.item-item.result.bytes.now c.item-item.result.wire
-    (c.args.w.now.place.step - c.args.b - 1) zero_state c.back-state.result
+    (c.args.cursor.now.place.step - c.args.b - 1) zero_state c.back-state.result
     c.requires.stands.sound (sound_some c.args.loaded.now.program.now c.requires.stands.sound)
     c.back-state.ensures.entry).inside
 
 pub returns-clause-answer : goal.returns-clause-answer
 returns-clause-answer g c =
     let e : Entry = record {
-      place = back_place c.args.w.now.place c.args.b;
+      place = back_place c.args.cursor.now.place c.args.b;
       state = c.back-state.result;
       turn = turn (machine_in c.args.loaded.now) c.item-item.result.bytes.now c.item-item.result.wire
           c.back-state.result;

@@ -9,22 +9,22 @@ use Rattle.cbpf_dbg.proofs.StepLemmas.{nears_none, nears_more, nears_entry, near
 use Rattle.cbpf_dbg.proofs.TurnLemmas.{turns-reply, spent_between, owed-turns, not_before_step, owed_bound}
 use Rattle.cbpf_dbg.specs.Loaded.{machine_in, records_in}
 use Rattle.cbpf_dbg.proofs.step.step_on.Goals as goal
-use Rattle.cbpf_dbg.proofs.step.step_on.Goals.{then-w-eq0, else-w-eq0}
+use Rattle.cbpf_dbg.proofs.step.step_on.Goals.{then-cursor-eq0, else-cursor-eq0}
 
 pub skip_packets-left-requires-clause-spare : goal.skip_packets-left-requires-clause-spare
 skip_packets-left-requires-clause-spare g c =
-    let most = owed_bound (machine_in c.args.loaded.now) (records_in c.args.loaded.now) c.args.w.now.place c.requires.stands.sound c.args.loaded.now.few in
+    let most = owed_bound (machine_in c.args.loaded.now) (records_in c.args.loaded.now) c.args.cursor.now.place c.requires.stands.sound c.args.loaded.now.few in
     omega (arith, most, c.requires.early)
 
 pub go-init : goal.go-init
-go-init g c = elim c.if-w-eq0.branch [
-  | then-w-eq0 w ↦ rw (w.meter-is, w.w-is, w.trail-is, w.left-is, w.records-is) (record {
+go-init g c = elim c.if-cursor-eq0.branch [
+  | then-cursor-eq0 w ↦ rw (w.meter-is, w.cursor-is, w.trail-is, w.left-is, w.records-is) (record {
     nears = w.skip_packets-left.ensures.nears;
     records = w.skip_packets-left.ensures.records;
     keeps = keeps_clear (λ xs. g.T.Trail.stands_for w.clear.new.self xs) (machine_in c.args.loaded.now)
         (records_in c.args.loaded.now) _ w.skip_packets-left.ensures.before w.clear.ensures;
   })
-  | else-w-eq0 w ↦ rw (w.meter-is, w.w-is, w.trail-is, w.left-is, w.records-is) (record {
+  | else-cursor-eq0 w ↦ rw (w.meter-is, w.cursor-is, w.trail-is, w.left-is, w.records-is) (record {
     nears = nears_none _ _ _ _ _ c.requires.stands
         c.requires.some;
     records = all_left _ _ _ _ c.requires.stands (rw c.count-count.ensures.value at c.records-records.ensures);
@@ -38,63 +38,63 @@ advance-requires-clause-here g c = first_left _ _ _ _ _ _ (first_of _ _ c.in-Som
 -- no more turns are made than were owed
 pub advance-requires-clause-spare : goal.advance-requires-clause-spare
 advance-requires-clause-spare g c =
-    let most = owed_bound (machine_in c.args.loaded.now) (records_in c.args.loaded.now) c.args.w.now.place c.requires.stands.sound c.args.loaded.now.few in
+    let most = owed_bound (machine_in c.args.loaded.now) (records_in c.args.loaded.now) c.args.cursor.now.place c.requires.stands.sound c.args.loaded.now.few in
     omega (arith, most, c.requires.early, c.go.invariant.nears.spent)
 
 pub push-requires : goal.push-requires
 push-requires g c =
     let m = c.in-Entry.ensures.moves in
-    let before : slice_get (records_in c.args.loaded.now) (c.go.w.place.packet - 1) ≡ Some m.0 = rw m.2 at m.1 in
-    keeps_few _ _ c.go.w.place c.advance.new.w m.0 (g.T.Trail.kept c.go.trail) c.in-Entry.ensures.stands m.1 m.3
+    let before : slice_get (records_in c.args.loaded.now) (c.go.cursor.place.packet - 1) ≡ Some m.0 = rw m.2 at m.1 in
+    keeps_few _ _ c.go.cursor.place c.advance.new.cursor m.0 (g.T.Trail.kept c.go.trail) c.in-Entry.ensures.stands m.1 m.3
     (g.met.T.Trail.as_long c.go.trail _ (c.go.invariant.keeps m.0 before))
 
 pub stop_at-requires : goal.stop_at-requires
 stop_at-requires g c =
-    (goes _ _ c.advance.new.w c.in-Entry.ensures.moves.0 c.in-Entry.ensures.stands
+    (goes _ _ c.advance.new.cursor c.in-Entry.ensures.moves.0 c.in-Entry.ensures.stands
     c.in-Entry.ensures.moves.1 (omega (arith, c.in-Entry.ensures.moves.3))).inside
 
 pub returns-then-left-eq1-clause-keeps : goal.returns-then-left-eq1-clause-keeps
 returns-then-left-eq1-clause-keeps g c =
     let m = c.in-Entry.ensures.moves in
     keeps_push (λ xs. g.T.Trail.stands_for c.go.trail xs) (λ xs. g.T.Trail.stands_for c.push.new.self xs)
-    (machine_in c.args.loaded.now) (records_in c.args.loaded.now) c.go.w.place c.advance.new.w m.0
+    (machine_in c.args.loaded.now) (records_in c.args.loaded.now) c.go.cursor.place c.advance.new.cursor m.0
     c.in-Entry.ensures.stands m.1 m.2 m.3 c.push.ensures c.go.invariant.keeps
 
 pub returns-then-left-eq1-clause-steps : goal.returns-then-left-eq1-clause-steps
 returns-then-left-eq1-clause-steps g c = λ breakpoints.
     let m = c.in-Entry.ensures.moves in
-    let here : slice_get (ahead (machine_in c.args.loaded.now) (records_in c.args.loaded.now) c.go.w.place)
-    (c.go.left - 1) ≡ Some (entry_here (machine_in c.args.loaded.now) m.0 c.advance.new.w) =
+    let here : slice_get (ahead (machine_in c.args.loaded.now) (records_in c.args.loaded.now) c.go.cursor.place)
+    (c.go.left - 1) ≡ Some (entry_here (machine_in c.args.loaded.now) m.0 c.advance.new.cursor) =
     rw m.4
-    (slice_get-first (entry_here (machine_in c.args.loaded.now) m.0 c.advance.new.w) _ c.go.left (omega arith)) in
-    step_stopped (machine_in c.args.loaded.now) c.args.loaded.now.capture.now breakpoints c.args.n c.args.w.now
-    c.advance.new.w m.0 c.stop_at.result (c.go.invariant.nears.sought ∙ here) (c.stop_at.ensures m.0)
+    (slice_get-first (entry_here (machine_in c.args.loaded.now) m.0 c.advance.new.cursor) _ c.go.left (omega arith)) in
+    step_stopped (machine_in c.args.loaded.now) c.args.loaded.now.capture.now breakpoints c.args.n c.args.cursor.now
+    c.advance.new.cursor m.0 c.stop_at.result (c.go.invariant.nears.sought ∙ here) (c.stop_at.ensures m.0)
     (c.in-Entry.ensures.origin ∙ c.go.invariant.nears.origin)
 
 pub returns-then-left-eq1-clause-turns : goal.returns-then-left-eq1-clause-turns
 returns-then-left-eq1-clause-turns g c = λ breakpoints.
     let m = c.in-Entry.ensures.moves in
     let steps = returns-then-left-eq1-clause-steps g c breakpoints in
-    let order = not_before_step c.args.w.now.place c.go.w.place c.advance.new.w.place c.go.invariant.nears.order m.2
+    let order = not_before_step c.args.cursor.now.place c.go.cursor.place c.advance.new.cursor.place c.go.invariant.nears.order m.2
     (omega (arith, m.3)) in
     let spent : c.advance.new.meter
-    + owed (machine_in c.args.loaded.now) (records_in c.args.loaded.now) c.advance.new.w.place
-    ≡ c.args.meter.now + owed (machine_in c.args.loaded.now) (records_in c.args.loaded.now) c.args.w.now.place =
+    + owed (machine_in c.args.loaded.now) (records_in c.args.loaded.now) c.advance.new.cursor.place
+    ≡ c.args.meter.now + owed (machine_in c.args.loaded.now) (records_in c.args.loaded.now) c.args.cursor.now.place =
     omega (arith, ap length m.4, m.3, c.in-Entry.ensures.turns, c.go.invariant.nears.spent) in
-    rw (turns-reply _ _ _ _ _ _ _ steps) (spent_between _ _ c.args.w.now c.advance.new.w
+    rw (turns-reply _ _ _ _ _ _ _ steps) (spent_between _ _ c.args.cursor.now c.advance.new.cursor
     c.args.meter.now c.advance.new.meter c.requires.stands c.in-Entry.ensures.stands order spent)
 
 pub go-preserved-in-Entry : goal.go-preserved-in-Entry
 go-preserved-in-Entry g c =
     let m = c.in-Entry.ensures.moves in
-    let on = nears_entry _ _ c.go.w c.advance.new.w c.go.left c.go.meter
+    let on = nears_entry _ _ c.go.cursor c.advance.new.cursor c.go.left c.go.meter
     c.advance.new.meter c.in-Entry.ensures.stands m c.in-Entry.ensures.origin (omega (arith, c.go.invariant.nears.some))
     c.in-Entry.ensures.turns in
     record {
       nears = nears_more _ _ _ _ _ _ _ _ _ _ _ c.go.invariant.nears on;
       records = left_here _ _ _ _ _ _ (first_of _ _ c.in-Some.ensures) c.go.invariant.records _ m.2;
       keeps = keeps_push (λ xs. g.T.Trail.stands_for c.go.trail xs) (λ xs. g.T.Trail.stands_for c.push.new.self xs)
-          (machine_in c.args.loaded.now) (records_in c.args.loaded.now) c.go.w.place c.advance.new.w m.0
+          (machine_in c.args.loaded.now) (records_in c.args.loaded.now) c.go.cursor.place c.advance.new.cursor m.0
           c.in-Entry.ensures.stands m.1 m.2 m.3 c.push.ensures c.go.invariant.keeps;
     }
 
@@ -106,16 +106,16 @@ skip_packets-left-requires-in-Packet-clause-records g c =
 pub skip_packets-left-requires-in-Packet-clause-spare : goal.skip_packets-left-requires-in-Packet-clause-spare
 skip_packets-left-requires-in-Packet-clause-spare g c =
     let moved = c.in-Packet.ensures in
-    let on = nears_out _ _ c.go.w c.advance.new.w c.go.left c.go.meter
+    let on = nears_out _ _ c.go.cursor c.advance.new.cursor c.go.left c.go.meter
     c.advance.new.meter moved.stands moved.moves moved.origin c.go.invariant.nears.some moved.turns in
-    let most = owed_bound (machine_in c.args.loaded.now) (records_in c.args.loaded.now) c.args.w.now.place c.requires.stands.sound c.args.loaded.now.few in
+    let most = owed_bound (machine_in c.args.loaded.now) (records_in c.args.loaded.now) c.args.cursor.now.place c.requires.stands.sound c.args.loaded.now.few in
     omega (arith, most, c.requires.early, c.go.invariant.nears.spent, on.spent)
 
 pub go-preserved : goal.go-preserved
 go-preserved g c =
     let moved = c.in-Packet.ensures in
     let skipped = c.skip_packets-left-in-Packet.ensures in
-    let on = nears_out _ _ c.go.w c.advance.new.w c.go.left c.go.meter
+    let on = nears_out _ _ c.go.cursor c.advance.new.cursor c.go.left c.go.meter
     c.advance.new.meter moved.stands moved.moves moved.origin c.go.invariant.nears.some moved.turns in
     record {
       nears = nears_more _ _ _ _ _ _ _ _ _ _ _ (nears_more _ _ _ _ _ _ _ _ _ _ _ c.go.invariant.nears on) skipped.nears;
@@ -128,14 +128,14 @@ pub returns-clause-steps : goal.returns-clause-steps
 returns-clause-steps g c = λ breakpoints.
     let so = c.go.invariant.nears in
     let m = nothing_left _ _ _ _ so.stands c.go.invariant.records (none_of _ c.in_default.ensures) in
-    let none : slice_get (ahead (machine_in c.args.loaded.now) (records_in c.args.loaded.now) c.go.w.place)
+    let none : slice_get (ahead (machine_in c.args.loaded.now) (records_in c.args.loaded.now) c.go.cursor.place)
     (c.go.left - 1) ≡ None = rw m.1 refl in
-    (step_finished (machine_in c.args.loaded.now) c.args.loaded.now.capture.now breakpoints c.args.n c.args.w.now
-    c.go.w c.start.result (so.sought ∙ none) so.stands so.origin m.0 c.start.ensures.place c.start.ensures.origin)
+    (step_finished (machine_in c.args.loaded.now) c.args.loaded.now.capture.now breakpoints c.args.n c.args.cursor.now
+    c.go.cursor c.start.result (so.sought ∙ none) so.stands so.origin m.0 c.start.ensures.place c.start.ensures.origin)
 
 pub returns-clause-turns : goal.returns-clause-turns
 returns-clause-turns g c = λ breakpoints.
     let m = nothing_left _ _ _ _ c.go.invariant.nears.stands c.go.invariant.records (none_of _ c.in_default.ensures) in
     let steps = returns-clause-steps g c breakpoints in
-    let all = owed-turns _ _ c.args.w.now c.requires.stands in
+    let all = owed-turns _ _ c.args.cursor.now c.requires.stands in
     rw (turns-reply _ _ _ _ _ _ _ steps) (omega (arith, all, ap length m.1, m.2, c.go.invariant.nears.spent))

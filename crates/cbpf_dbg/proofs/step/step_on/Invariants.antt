@@ -9,10 +9,10 @@ use Rattle.cbpf_dbg.proofs.step.step_on.Given as goal
 abbrev pub invariant-go : goal.invariant-go
 invariant-go g l =
     record {
-      nears : Nears (machine_in l.loaded) (records_in l.loaded) l.fn.w l.w l.n l.left l.fn.meter l.meter;
-      records : AllLeft (records_in l.loaded) l.w.place l.records;
-      keeps : Keeps (λ xs. g.T.Trail.stands_for l.trail xs) (machine_in l.loaded) (records_in l.loaded) l.w.place;
+      nears : Nears (machine_in l.loaded) (records_in l.loaded) l.fn.cursor l.cursor l.n l.left l.fn.meter l.meter;
+      records : AllLeft (records_in l.loaded) l.cursor.place l.records;
+      keeps : Keeps (λ xs. g.T.Trail.stands_for l.trail xs) (machine_in l.loaded) (records_in l.loaded) l.cursor.place;
     }
 
 abbrev pub decreases-go : goal.decreases-go
-decreases-go g l = length (ahead (machine_in l.loaded) (records_in l.loaded) l.w.place) + length l.records
+decreases-go g l = length (ahead (machine_in l.loaded) (records_in l.loaded) l.cursor.place) + length l.records
