@@ -7,6 +7,7 @@ use Rattle.std.proofs.lemmas.Option.{slice_get_cases, slice_get_within}
 use Rattle.cbpf_code.specs.declared.insn.Insn.{Insn}
 use Rattle.cbpf_code.specs.declared.opcode.Op.{Op}
 use Rattle.cbpf_code.specs.declared.opcode.Op.TheVariants.{Ja, Jump, RetK, RetA}
+use Rattle.cbpf_code.specs.declared.checker.TheConstants.{MAX_INSTRUCTIONS, SLOTS}
 use Rattle.cbpf_code.specs.declared.checker.CheckFault.{CheckFault}
 use Rattle.cbpf_code.specs.declared.checker.CheckFault.TheVariants.{NoInstruction, TooMany, UnknownCode, NoSlot}
 use Rattle.cbpf_code.specs.declared.checker.CheckFault.TheVariants.{ZeroDivisor, WideShift, JumpOutside}
@@ -123,7 +124,7 @@ FaultAt list i = (e : CheckFault) × HasFault list e × (rank e ≡ 2) × (index
 known-fault : (list : List Insn) (i : ℕ) (insn : Insn) (op : Op) → slice_get list i ≡ Some insn
     → op_of insn.code ≡ Some op → AllowedAt list i ⊎ FaultAt list i
 known-fault list i insn op here known =
-    elim (both (is_true (uses_slot op)) (at_most 16 insn.k)) [
+    elim (both (is_true (uses_slot op)) (at_most SLOTS insn.k)) [
       | inl h ↦ inr (NoSlot i, (insn, op, here, known, h), refl, refl)
       | inr a ↦ elim (both (is_true (divides_by_k op)) (cases_eq insn.k 0)) [
         | inl h ↦ inr (ZeroDivisor i, (insn, op, here, known, h), refl, refl)
@@ -199,7 +200,7 @@ returns _ = inr (λ h. elim h [ inl e ↦ cc | inr e ↦ cc ])
 abbrev Checked : List Insn → Type 0
 Checked list = IsSound list ⊎ ((e : CheckFault) × FirstFault list e)
 
-passes : (list : List Insn) (m : ℕ) → 0 < length list → length list ≤ 4096 → m ≤ length list
+passes : (list : List Insn) (m : ℕ) → 0 < length list → length list ≤ MAX_INSTRUCTIONS → m ≤ length list
     → PassesBefore list m ⊎ ((e : CheckFault) × FirstFault list e)
 passes list zero some few within = inl (passes_before-start list some few)
 passes list (suc m) some few within =
@@ -225,7 +226,7 @@ only_empty list _ r has = absurd (omega arith)
 pub each_list_is_checked : EachListIsChecked
 each_list_is_checked list = elim (cases_eq (length list) 0) [
   | inl none ↦ inr (NoInstruction, record { present = none; none_earlier = λ f earlier has. omega arith })
-  | inr some ↦ elim (cases_lt 4096 (length list)) [
+  | inr some ↦ elim (cases_lt MAX_INSTRUCTIONS (length list)) [
     | inl many ↦
         let never = λ (f : CheckFault) (earlier : IsEarlier f TooMany) (has : HasFault list f).
         some (only_empty list f (omega arith) has) in

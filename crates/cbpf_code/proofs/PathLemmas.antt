@@ -11,6 +11,7 @@ use Rattle.cbpf_code.specs.declared.insn.Insn.{Insn}
 use Rattle.cbpf_code.specs.declared.opcode.Op.{Op}
 use Rattle.cbpf_code.specs.declared.opcode.Op.TheVariants.{LdMem, St}
 use Rattle.cbpf_code.specs.declared.checker.CheckFault.TheVariants.{UnwrittenSlot}
+use Rattle.cbpf_code.specs.declared.checker.TheConstants.{MAX_INSTRUCTIONS, SLOTS}
 use Rattle.cbpf_code.specs.Opcode.{op_of}
 use Rattle.cbpf_code.specs.ControlFlow.{Follows, FollowsCode, IsSuccessor, StoresSlot, MayBeUnwritten}
 use Rattle.cbpf_code.specs.ControlFlow.{loads_slot, stores_slot}
@@ -42,9 +43,9 @@ reached-unwritten_at list s _ (onward {h} below unwritten keeps next) = inr (h, 
 
 -- the masks say what the first m instructions lead to, and none of these loads a slot that may be unwritten
 pub record TracksPaths (list : List Insn) (m : ℕ) (masks : List ℕ) : Type 0 where
-  pub long : length masks ≡ 4096
-  pub only_reached : (t s : ℕ) → s < 16 → InMaskOf masks t s → ReachedUnwritten list s m t
-  pub each_reached : (t s : ℕ) → s < 16 → ReachedUnwritten list s m t → InMaskOf masks t s
+  pub long : length masks ≡ MAX_INSTRUCTIONS
+  pub only_reached : (t s : ℕ) → s < SLOTS → InMaskOf masks t s → ReachedUnwritten list s m t
+  pub each_reached : (t s : ℕ) → s < SLOTS → ReachedUnwritten list s m t → InMaskOf masks t s
   pub written : (j : ℕ) → j < m → HasFault list (UnwrittenSlot j) → ⊥
 
 get_or-zeros : (n t : ℕ) → ◌≡◌ {A = ℕ} (get_or (replicate n 0) t 0) 0
@@ -53,21 +54,21 @@ get_or-zeros n t = elim (cases_lt t n) [
   | inr h ↦ get_or-eq_default (replicate n 0) 0 (omega (arith, length-replicate {A = ℕ}))
 ]
 
-pub tracks_paths-start : (list : List Insn) → TracksPaths list 0 (slice_set (replicate 4096 0) 0 65535)
+pub tracks_paths-start : (list : List Insn) → TracksPaths list 0 (slice_set (replicate MAX_INSTRUCTIONS 0) 0 65535)
 tracks_paths-start list = record {
-  long = length-set {A = ℕ} (replicate 4096 0) 0 65535;
+  long = length-set {A = ℕ} (replicate MAX_INSTRUCTIONS 0) 0 65535;
   only_reached = λ t s small here.
       elim (cases_eq t 0) [
         | inl e ↦ inl e
         | inr n ↦
-            let gone = get_or-set_other {A = ℕ} (replicate 4096 0) 0 t 65535 0 n ∙ get_or-zeros 4096 t in
+            let gone = get_or-set_other {A = ℕ} (replicate MAX_INSTRUCTIONS 0) 0 t 65535 0 n ∙ get_or-zeros MAX_INSTRUCTIONS t in
             let off = bit_at-zero s in
             let bit : InMask 0 s = rw gone at here in
             absurd (omega arith)
       ];
   each_reached = λ t s small reached.
       elim reached [
-        | inl e ↦ rw (get_or-set_at {X = ℕ} (replicate 4096 0) 0 t 65535 0 e (omega arith)) (bit_at_ones 16 s small)
+        | inl e ↦ rw (get_or-set_at {X = ℕ} (replicate MAX_INSTRUCTIONS 0) 0 t 65535 0 e (omega arith)) (bit_at_ones 16 s small)
         | inr r ↦ absurd (omega arith)
       ];
   written = λ j below stands. absurd (omega arith);
@@ -80,7 +81,7 @@ reached-further list s m t (inr r) = inr (r.0, omega arith, r.2, r.3, r.4)
 pub tracks_paths-next : (list : List Insn) (i : ℕ) (insn : Insn) (op : Op) (masks next_masks : List ℕ) (left : ℕ)
     → slice_get list i ≡ Some insn → op_of insn.code ≡ Some op → TracksPaths list i masks
     → LeavesUnwritten (slice_index masks i) op insn left
-    → AddsToMasks masks next_masks left (λ t. Follows op insn i t) → (IsTrue (loads_slot op) → insn.k < 16)
+    → AddsToMasks masks next_masks left (λ t. Follows op insn i t) → (IsTrue (loads_slot op) → insn.k < SLOTS)
     → (IsTrue (loads_slot op) × InMaskOf masks i insn.k → ⊥) → TracksPaths list (i + 1) next_masks
 tracks_paths-next list i insn op masks next_masks left here known tracks leaves adds small_k fine = record {
   long = adds.long ∙ tracks.long;

@@ -11,6 +11,7 @@ use Rattle.std.proofs.Math.ListN.{length-set}
 use Rattle.cbpf_code.specs.declared.insn.Insn.{Insn}
 use Rattle.cbpf_code.specs.declared.opcode.Op.{Op}
 use Rattle.cbpf_code.specs.declared.opcode.Op.TheVariants.{Ja, Jump, RetK, RetA}
+use Rattle.cbpf_code.specs.declared.checker.TheConstants.{SLOTS}
 use Rattle.cbpf_code.specs.ControlFlow.{Follows, stores_slot}
 use Rattle.cbpf_code.specs.SlotMasks.{InMask, LeavesUnwritten, AddsToMasks}
 
@@ -27,7 +28,7 @@ in_or-mask a b s h =
     let either = sym (bit_at_or a b s) ∙ h in
     elim (cases_eq (bit_at a s) 1) [ inl e ↦ inl e | inr n ↦ inr (omega arith) ]
 
-pub leaves_unwritten-cleared : (mask : ℕ) (op : Op) (insn : Insn) → insn.k < 16 → IsTrue (stores_slot op)
+pub leaves_unwritten-cleared : (mask : ℕ) (op : Op) (insn : Insn) → insn.k < SLOTS → IsTrue (stores_slot op)
     → LeavesUnwritten mask op insn (bit_and mask (bit_not w16 (1 * 2 ^ insn.k % 2 ^ 16)))
 leaves_unwritten-cleared mask op insn within stores = record {
   kept = λ s small here away. bit_at_clear_other w16 mask insn.k within s small (λ e. away stores (sym e)) ∙ here;

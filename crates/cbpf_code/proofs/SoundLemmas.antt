@@ -8,6 +8,7 @@ use Rattle.cbpf_code.specs.declared.opcode.Op.TheVariants.{Ja, Jump, RetK, RetA}
 use Rattle.cbpf_code.specs.declared.checker.CheckFault.TheVariants.{NoInstruction, TooMany, UnknownCode, NoSlot}
 use Rattle.cbpf_code.specs.declared.checker.CheckFault.TheVariants.{ZeroDivisor, WideShift, JumpOutside}
 use Rattle.cbpf_code.specs.declared.checker.CheckFault.TheVariants.{UnknownExtension, NoReturn}
+use Rattle.cbpf_code.specs.declared.checker.TheConstants.{MAX_INSTRUCTIONS, SLOTS}
 use Rattle.cbpf_code.specs.Opcode.{op_of}
 use Rattle.cbpf_code.specs.Extension.{ext_at}
 use Rattle.cbpf_code.specs.ControlFlow.{Follows, IsTarget}
@@ -21,7 +22,7 @@ known_or (Some op) = inr (op, refl)
 
 -- what the absence of C4 to C8 says of an instruction at i of n
 pub record Allowed (op : Op) (insn : Insn) (i n : ℕ) : Type 0 where
-  pub slot : IsTrue (uses_slot op) → insn.k < 16
+  pub slot : IsTrue (uses_slot op) → insn.k < SLOTS
   pub divisor : IsTrue (divides_by_k op) → 0 < insn.k
   pub shift : IsTrue (shifts_by_k op) → insn.k < 32
   pub targets : (t : ℕ) → IsTarget op insn i t → t < n
@@ -81,8 +82,8 @@ formed_next list i insn op formed here known t follows =
 
 -- ---- a checked list
 
-pub sound_few : (list : List Insn) → IsSound list → length list ≤ 4096
-sound_few list sound = let never : 4096 < length list → ⊥ = sound.none TooMany in omega arith
+pub sound_few : (list : List Insn) → IsSound list → length list ≤ MAX_INSTRUCTIONS
+sound_few list sound = let never : MAX_INSTRUCTIONS < length list → ⊥ = sound.none TooMany in omega arith
 
 pub sound_some : (list : List Insn) → IsSound list → 0 < length list
 sound_some list sound = let never : length list ≡ 0 → ⊥ = sound.none NoInstruction in omega arith

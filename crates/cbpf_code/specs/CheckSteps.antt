@@ -6,6 +6,7 @@ use Rattle.cbpf_code.specs.declared.opcode.Op.{Op}
 use Rattle.cbpf_code.specs.declared.checker.CheckFault.{CheckFault}
 use Rattle.cbpf_code.specs.declared.checker.CheckFault.TheVariants.{NoSlot, ZeroDivisor, WideShift, JumpOutside}
 use Rattle.cbpf_code.specs.declared.checker.CheckFault.TheVariants.{UnknownExtension, UnknownCode}
+use Rattle.cbpf_code.specs.declared.checker.TheConstants.{MAX_INSTRUCTIONS}
 use Rattle.cbpf_code.specs.ControlFlow.{InsnAt}
 use Rattle.cbpf_code.specs.Faults.{NamesNoSlot, DividesByZero, ShiftsTooFar, JumpsOutside, LoadsNoExtension}
 use Rattle.cbpf_code.specs.Faults.{HasFault, IsEarlier, rank}
@@ -37,5 +38,5 @@ pub record PassesBefore (list : List Insn) (m : ℕ) : Type 0 where
 
 -- C1 to C9 are absent, so that each path ends at a return
 pub record IsWellFormed (list : List Insn) : Type 0 where
-  pub few : length list ≤ 4096
+  pub few : length list ≤ MAX_INSTRUCTIONS
   pub none : (e : CheckFault) → rank e < 4 → HasFault list e → ⊥

@@ -8,6 +8,7 @@ use Rattle.cbpf_code.specs.declared.opcode.Op.{Op}
 use Rattle.cbpf_code.specs.declared.opcode.Op.TheVariants.{LdAbs, LdMem, LdxMem, St, Stx, Alu, RetK, RetA}
 use Rattle.cbpf_code.specs.declared.opcode.AluOp.TheVariants.{Div, Mod, Lsh, Rsh}
 use Rattle.cbpf_code.specs.declared.opcode.Src.TheVariants.{K}
+use Rattle.cbpf_code.specs.declared.checker.TheConstants.{MAX_INSTRUCTIONS, SLOTS}
 use Rattle.cbpf_code.specs.declared.checker.CheckFault.{CheckFault}
 use Rattle.cbpf_code.specs.declared.checker.CheckFault.TheVariants.{NoInstruction, TooMany, UnknownCode, NoSlot}
 use Rattle.cbpf_code.specs.declared.checker.CheckFault.TheVariants.{ZeroDivisor, WideShift, JumpOutside}
@@ -43,7 +44,7 @@ IsReturn insn = (op_of insn.code ≡ Some RetK) ⊎ (op_of insn.code ≡ Some Re
 
 -- what is wrong with one instruction, at index i of n: C4 to C8, a definition each
 abbrev pub NamesNoSlot : Op → Insn → Type 0
-NamesNoSlot op insn = IsTrue (uses_slot op) × (16 ≤ insn.k)
+NamesNoSlot op insn = IsTrue (uses_slot op) × (SLOTS ≤ insn.k)
 
 abbrev pub DividesByZero : Op → Insn → Type 0
 DividesByZero op insn = IsTrue (divides_by_k op) × (insn.k ≡ 0)
@@ -60,7 +61,7 @@ LoadsNoExtension op insn = IsTrue (loads_absolute op) × (4294963200 ≤ insn.k)
 -- a list has a fault: C1 to C10, a line each
 abbrev pub HasFault : List Insn → CheckFault → Type 0
 HasFault list NoInstruction = length list ≡ 0
-HasFault list TooMany = 4096 < length list
+HasFault list TooMany = MAX_INSTRUCTIONS < length list
 HasFault list (UnknownCode i) = (insn : Insn) × (slice_get list i ≡ Some insn) × (op_of insn.code ≡ None)
 HasFault list (NoSlot i) = InsnAt list i (λ op insn. NamesNoSlot op insn)
 HasFault list (ZeroDivisor i) = InsnAt list i (λ op insn. DividesByZero op insn)

@@ -13,11 +13,11 @@ use crate::program::Program;
 use crate::slots::first_unwritten;
 use std::alloc::Allocator;
 
-/// How many instructions a program has at most.
-const MAX_INSTRUCTIONS: usize = 4096;
+/// How many instructions a program has at most: the kernel's `BPF_MAXINSNS`.
+pub const MAX_INSTRUCTIONS: usize = 4096;
 
-/// How many slots the scratch memory has.
-const SLOTS: u32 = 16;
+/// How many slots the scratch memory has: the kernel's `BPF_MEMWORDS`.
+pub const SLOTS: usize = 16;
 
 /// Why a list of instructions is no program; a number is the index of the instruction, from 0.
 #[derive(Clone, Copy, Debug, PartialEq, Eq)]
@@ -101,7 +101,7 @@ fn is_return(insn: Insn) -> bool
 fn fault_at(list: &[Insn], i: u32, count: u32) -> Option<CheckFault>
     requires within { i < count }
     requires all { count ≡ length list.now }
-    requires few { count ≤ 4096 }
+    requires few { count ≤ MAX_INSTRUCTIONS }
     ensures { MatchOption result (AllowedAt list.now i)
         (λ e. HasFault list.now e × (spec.rank e ≡ 2) × (spec.index_of e ≡ i)) }
 {
@@ -114,16 +114,16 @@ fn fault_at(list: &[Insn], i: u32, count: u32) -> Option<CheckFault>
 
 /// The one of C4 to C8 that an instruction of a known operation has, at `i` of `count`.
 fn fault_of(op: Op, insn: Insn, i: u32, count: u32) -> Option<CheckFault>
-    requires few { count ≤ 4096 }
+    requires few { count ≤ MAX_INSTRUCTIONS }
     requires within { i < count }
     ensures { MatchOption result (IsAllowed op insn i count)
         (λ e. InsnHasFault op insn i count e × (spec.rank e ≡ 2) × (spec.index_of e ≡ i)) }
 {
     let ahead = count - i - 1; // how many instructions a jump can reach
     match op {
-        Op::LdMem | Op::LdxMem | Op::St | Op::Stx => (insn.k >= SLOTS).then_some(CheckFault::NoSlot(
-            i,
-        )),
+        Op::LdMem | Op::LdxMem | Op::St | Op::Stx => (insn.k >= SLOTS as u32).then_some(
+            CheckFault::NoSlot(i),
+        ),
         Op::Alu(AluOp::Div | AluOp::Mod, Src::K) => (insn.k == 0).then_some(CheckFault::ZeroDivisor(
             i,
         )),

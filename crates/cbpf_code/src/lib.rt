@@ -20,7 +20,7 @@ mod words;
 mod writing;
 
 pub use c_form::write_c;
-pub use checker::{CheckFault, check};
+pub use checker::{CheckFault, MAX_INSTRUCTIONS, SLOTS, check};
 pub use extension::{Ext, FIRST_EXTENSION, ext_at, ext_name, ext_named, ext_offset};
 pub use form::Form;
 pub use insn::Insn;

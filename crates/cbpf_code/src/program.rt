@@ -5,7 +5,7 @@ use crate::insn::Insn;
 use std::alloc::{Allocator, Global};
 use std::marker::Model;
 
-/// A checked program: 1 to 4096 instructions in which `check` finds no fault.
+/// A checked program: 1 to `MAX_INSTRUCTIONS` instructions in which `check` finds no fault.
 ///
 /// Only `check` makes one. Contracts see it as its list of instructions.
 #[derive(Drop)]
@@ -33,7 +33,7 @@ impl<A: Allocator> Program<A> {
         Program { list }
     }
 
-    /// How many instructions the program has: 1 to 4096.
+    /// How many instructions the program has: 1 to `MAX_INSTRUCTIONS`.
     #[inline]
     #[tactic(auto, using(crate::proofs::SoundLemmas::sound_few))]
     pub fn len(&self) -> u32

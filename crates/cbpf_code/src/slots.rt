@@ -4,8 +4,10 @@ ghost use Rattle.cbpf_code.specs.ControlFlow as flow;
 ghost use Rattle.cbpf_code.specs.Faults.{HasFault};
 ghost use Rattle.cbpf_code.specs.CheckSteps.{IsWellFormed};
 ghost use Rattle.cbpf_code.specs.SlotMasks.{AddsToMasks, InMask, LeavesUnwritten};
+ghost use Rattle.cbpf_code.specs.declared.checker.TheConstants.{SLOTS};
 ghost use Rattle.cbpf_code.specs.declared.checker.CheckFault.TheVariants.{UnwrittenSlot};
 
+use crate::checker::MAX_INSTRUCTIONS;
 use crate::insn::Insn;
 use crate::opcode::{Op, op_of};
 
@@ -18,7 +20,7 @@ pub(crate) fn first_unwritten(list: &[Insn]) -> Option<u32>
     ensures { MatchOption result ((j : ℕ) → HasFault list.now (UnwrittenSlot j) → ⊥)
         (λ i. HasFault list.now (UnwrittenSlot i) × ((j : ℕ) → j < i → HasFault list.now (UnwrittenSlot j) → ⊥)) }
 {
-    let mut unwritten = [0u16; 4096];
+    let mut unwritten = [0u16; MAX_INSTRUCTIONS];
     unwritten[0] = u16::MAX;
     for i in 0..list.len() {
         let insn = list[i];
@@ -44,14 +46,14 @@ fn loads_slot(op: Op) -> bool
 
 /// Whether the instruction loads one of the slots of a mask.
 fn loads_any(op: Op, insn: Insn, mask: u16) -> bool
-    requires { IsTrue (flow.loads_slot op) → insn.k < 16 }
+    requires { IsTrue (flow.loads_slot op) → insn.k < SLOTS }
     ensures { IsTrue result ↔ IsTrue (flow.loads_slot op) × InMask mask insn.k }
 {
     loads_slot(op) && is_in_mask(mask, insn.k)
 }
 
 fn is_in_mask(mask: u16, slot: u32) -> bool
-    requires { slot < 16 }
+    requires { slot < SLOTS }
     ensures { IsTrue result ↔ InMask mask slot }
 {
     (mask >> slot) & 1 == 1
@@ -59,7 +61,7 @@ fn is_in_mask(mask: u16, slot: u32) -> bool
 
 /// The slots of a mask into which the instruction stores nothing.
 fn still_unwritten(mask: u16, op: Op, insn: Insn) -> u16
-    requires { IsTrue (flow.stores_slot op) → insn.k < 16 }
+    requires { IsTrue (flow.stores_slot op) → insn.k < SLOTS }
     ensures { LeavesUnwritten mask op insn result }
 {
     match op {
@@ -70,7 +72,7 @@ fn still_unwritten(mask: u16, op: Op, insn: Insn) -> u16
 
 /// Adds `left` to the masks of the instructions that may follow the one at `i`.
 fn propagate(masks: &mut [u16], i: usize, op: Op, insn: Insn, left: u16)
-    requires few { i < 4096 }
+    requires few { i < MAX_INSTRUCTIONS }
     requires inside { (t : ℕ) → flow.Follows op insn i t → t < length masks.old }
     ensures { AddsToMasks masks.old masks.new left (λ t. flow.Follows op insn i t) }
 {
