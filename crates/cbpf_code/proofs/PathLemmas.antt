@@ -61,14 +61,16 @@ tracks_paths-start list = record {
       elim (cases_eq t 0) [
         | inl e ↦ inl e
         | inr n ↦
-            let gone = get_or-set_other {A = ℕ} (replicate MAX_INSTRUCTIONS 0) 0 t 65535 0 n ∙ get_or-zeros MAX_INSTRUCTIONS t in
+            let gone = get_or-set_other {A = ℕ} (replicate MAX_INSTRUCTIONS 0) 0 t 65535 0 n
+            ∙ get_or-zeros MAX_INSTRUCTIONS t in
             let off = bit_at-zero s in
             let bit : InMask 0 s = rw gone at here in
             absurd (omega arith)
       ];
   each_reached = λ t s small reached.
       elim reached [
-        | inl e ↦ rw (get_or-set_at {X = ℕ} (replicate MAX_INSTRUCTIONS 0) 0 t 65535 0 e (omega arith)) (bit_at_ones 16 s small)
+        | inl e ↦ rw (get_or-set_at {X = ℕ} (replicate MAX_INSTRUCTIONS 0) 0 t 65535 0 e (omega arith))
+            (bit_at_ones 16 s small)
         | inr r ↦ absurd (omega arith)
       ];
   written = λ j below stands. absurd (omega arith);

@@ -5,7 +5,7 @@ use crate::packet::Packet;
 use crate::state::State;
 use crate::trail::Trail;
 use crate::values::Values;
-use cbpf_code::Program;
+use cbpf_code::{MAX_INSTRUCTIONS, Program};
 use std::alloc::{AllocError, Allocator, Global};
 use std::marker::Model;
 
@@ -17,21 +17,22 @@ pub struct ListTrail<A: Allocator = Global> {
 
 impl<A: Allocator> Model for ListTrail<A> {
     ghost use Rattle.std.specs.Prelude.{List, ◌≤◌, vec_capacity};
+    ghost use Rattle.cbpf_code.specs.declared.checker.TheConstants.{MAX_INSTRUCTIONS};
     ghost use Rattle.cbpf_machine.specs.Registers.{Registers};
 
     ghost Value = { List Registers };
 
     ghost view = { λ t. t.states.items };
 
-    ghost invariant = { λ t. 4096 ≤ vec_capacity t.states };
+    ghost invariant = { λ t. MAX_INSTRUCTIONS ≤ vec_capacity t.states };
 }
 
 impl<A: Allocator> ListTrail<A> {
-    /// An empty trail with room for 4096 states; no later call takes memory.
+    /// An empty trail with room for `MAX_INSTRUCTIONS` states; no later call takes memory.
     pub fn new(alloc: A) -> Result<Self, AllocError>
         ensures { IfOk result (λ t. t ≡ []) }
     {
-        let states = Vec::with_capacity(alloc, 4096)?;
+        let states = Vec::with_capacity(alloc, MAX_INSTRUCTIONS)?;
         Ok(ListTrail { states })
     }
 }

@@ -1,4 +1,5 @@
-ghost use Rattle.std.specs.Prelude.{◌≡◌, ◌≤◌, ◌+◌, ◌^◌, length};
+ghost use Rattle.std.specs.Prelude.{◌≡◌, ◌≤◌, ◌+◌, ◌*◌, ◌^◌, length};
+ghost use Rattle.cbpf_code.specs.declared.checker.TheConstants.{MAX_INSTRUCTIONS};
 ghost use Rattle.cbpf_machine.specs.Machine.{machine_of};
 ghost use Rattle.cbpf_machine.specs.Trace as spec;
 
@@ -31,7 +32,7 @@ impl Pause for Whole {
 /// Runs a program on a packet, from the zero state to the packet's end, by at most as many turns
 /// as the program has instructions.
 ///
-/// The meter is at least 8192 turns below 2 to the 128 before.
+/// The meter is at least twice `MAX_INSTRUCTIONS` turns below 2 to the 128 before.
 #[inline(always)]
 pub fn run_packet<A: Allocator>(
     meter: &mut Meter,
@@ -39,7 +40,7 @@ pub fn run_packet<A: Allocator>(
     packet: Packet<'_>,
     values: &Values,
 ) -> Outcome
-    requires { meter.old + 8192 ≤ 2 ^ 128 }
+    requires { meter.old + 2 * MAX_INSTRUCTIONS ≤ 2 ^ 128 }
     ensures value { result ≡ spec.outcome (machine_of p.now values.now) packet.entry.bytes.now packet.entry.wire }
     ensures turns { meter.new
         ≡ meter.old + length (spec.trace (machine_of p.now values.now) packet.entry.bytes.now packet.entry.wire) }

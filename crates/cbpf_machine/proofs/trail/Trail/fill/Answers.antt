@@ -1,5 +1,6 @@
 use Rattle.std.proofs.Common.{◌≡◌, ◌≤◌, ◌+◌, ◌-◌, [], arith, refl, sym, false}
 use Rattle.std.specs.Prelude.{None}
+use Rattle.cbpf_code.specs.declared.checker.TheConstants.{MAX_INSTRUCTIONS}
 use Rattle.cbpf_machine.specs.Core.{registers}
 use Rattle.cbpf_machine.specs.Registers.{Registers, zero_state}
 use Rattle.cbpf_machine.specs.Machine.{machine_of}
@@ -38,7 +39,7 @@ reached g c = reaches_fenced c.min.result (c.pass-turns.ensures.reaches _ _ c.fi
     (omega (arith, c.gap.ensures.some, c.min.ensures, c.fill-test.true)) (omega arith)
 
 few : (g : Over) (c : After-pass-turns g) → (c.pass-turns.result.0 ≤ c.args.to - c.fill.entries)
-    × (c.fill.entries + c.pass-turns.result.0 ≤ 4097)
+    × (c.fill.entries + c.pass-turns.result.0 ≤ MAX_INSTRUCTIONS + 1)
 few g c =
     let h = reached g c in
     let within = reaches_within _ h.0 c.fill.invariant.sound c.pass-turns.ensures.some in

@@ -1,5 +1,6 @@
 use Rattle.std.proofs.Common.{◌≡◌, ◌≤◌, ◌+◌, ◌∙◌, ◌-◌, length, arith, refl, sym, false}
 use Rattle.std.specs.Prelude.{None}
+use Rattle.cbpf_code.specs.declared.checker.TheConstants.{MAX_INSTRUCTIONS}
 use Rattle.cbpf_machine.specs.Core.{registers}
 use Rattle.cbpf_machine.specs.Machine.{machine_of}
 use Rattle.cbpf_machine.specs.Trace.{trace}
@@ -37,7 +38,8 @@ reached g c = reaches_fenced c.gap.result (c.pass-turns.ensures.reaches _ _ c.fo
 within : (g : Over) (c : After-pass-turns g)
     → (g.Self.Trail.kept c.follow.self + c.pass-turns.result.0 ≤ length (trace (machine_of c.args.p.now c.args.values.now)
     c.args.packet.bytes.now c.args.packet.wire) + 1)
-    × (length (trace (machine_of c.args.p.now c.args.values.now) c.args.packet.bytes.now c.args.packet.wire) ≤ 4096)
+    × (length (trace (machine_of c.args.p.now c.args.values.now) c.args.packet.bytes.now c.args.packet.wire)
+    ≤ MAX_INSTRUCTIONS)
 within g c =
     let h = reaches_within _ (reached g c).0 c.follow.invariant.sound c.pass-turns.ensures.some in
     (omega (arith, c.follow.invariant.from_one), few_entries _ _ _ _ c.follow.invariant.sound)
