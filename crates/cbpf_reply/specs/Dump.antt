@@ -2,6 +2,8 @@
 -- and why it stopped (the kernel's Documentation/networking/filter shows such a dump;
 -- this layout is this project's own).
 use Rattle.std.specs.Prelude.{ℕ, List, [], ◌∷◌, ◌++◌, length, Option, Some, None, slice_get, slice_index, map, decimal, codes}
+use Rattle.std.specs.List.{range_with_len}
+use Rattle.cbpf_code.specs.declared.checker.TheConstants.{SLOTS}
 use Rattle.cbpf_code.specs.declared.insn.Insn.{Insn}
 use Rattle.cbpf_code.specs.Extension.{ext_name}
 use Rattle.cbpf_code.specs.Text.{joined}
@@ -71,10 +73,9 @@ dump_text list s =
     ++ ((register_lines s.a s.x ++ scratch_lines s.slots)
     ++ (packet_head (length s.bytes) s.wire ++ (packet_rows s.bytes ++ why_line s.why)))
 
--- scratch memory, from slot 0 to slot 15
-unfoldable pub slots_of : Registers → List ℕ
-slots_of s =
-    map (λ i. slice_index s.slots i) (0 ∷ 1 ∷ 2 ∷ 3 ∷ 4 ∷ 5 ∷ 6 ∷ 7 ∷ 8 ∷ 9 ∷ 10 ∷ 11 ∷ 12 ∷ 13 ∷ 14 ∷ 15 ∷ [])
+-- scratch memory, from slot 0 on
+abbrev pub slots_of : Registers → List ℕ
+slots_of s = map (λ i. slice_index s.slots i) (range_with_len 0 SLOTS)
 
 -- a stop in a packet of these captured bytes and this original length
 abbrev pub shown_in : List ℕ → ℕ → Stop → Shown

@@ -8,7 +8,7 @@ use crate::columns::put_value;
 use crate::packet::write_packet;
 use crate::reply::{Place, Stop, Why};
 use crate::scratch::write_scratch;
-use cbpf_code::{Insn, Line, Program, WriteFault, ext_name, put_line};
+use cbpf_code::{Insn, Line, Program, SLOTS, WriteFault, ext_name, put_line};
 use cbpf_machine::State;
 use std::alloc::Allocator;
 use std::io::Write;
@@ -111,8 +111,7 @@ fn write_registers<W: Write>(w: &mut W, a: u32, x: u32) -> Result<(), WriteFault
 }
 
 /// The words of scratch memory.
-#[tactic(auto, unfolding(crate::specs::Dump::slots_of))]
-fn slots_of(s: &State) -> [u32; 16]
+fn slots_of(s: &State) -> [u32; SLOTS]
     ensures { result ≡ spec.slots_of s.now }
 {
     [
