@@ -4,6 +4,7 @@ use Rattle.std.proofs.Common.{inr, length-append, length-drop, length-take, Bool
 use Rattle.std.specs.Prelude.{Some, slice_get, min}
 use Rattle.std.proofs.lemmas.Bool.{cases_lt}
 use Rattle.std.proofs.lemmas.Option.{slice_get_cases, slice_get_within}
+use Rattle.cbpf_code.specs.declared.checker.TheConstants.{MAX_INSTRUCTIONS}
 use Rattle.cbpf_machine.specs.Machine.{Machine}
 use Rattle.cbpf_machine.specs.Registers.{Registers, zero_state}
 use Rattle.cbpf_machine.specs.declared.follow.Followed.{Followed}
@@ -53,7 +54,7 @@ module _ (machine : Machine) (capture : List Record) (w : Cursor) (r : Record) (
     | inr before ↦ omega (arith, before)
   ]
 
-  pub steps_few : length xs ≤ 4096
+  pub steps_few : length xs ≤ MAX_INSTRUCTIONS
   steps_few = omega (arith, length-trace_from machine r.bytes r.wire zero_state, sound_few machine.list h.sound)
 
   -- a trail that keeps the entries up to the step keeps as many
@@ -141,7 +142,7 @@ module _ (machine : Machine) (capture : List Record) (w : Cursor) (r : Record) (
     -- the steps can be counted
     pub steps_fit : (k : ℕ) (f : Followed) (s : Registers) → k ≡ w.place.step
         → Follows pauses xs (outcome machine r.bytes r.wire) k w.state s f → (n : ℕ) → f ≡ Watched n
-        → w.place.step + n ≤ 4096
+        → w.place.step + n ≤ MAX_INSTRUCTIONS
     steps_fit k f s step follows n e =
         let on : Follows pauses xs (outcome machine r.bytes r.wire) w.place.step w.state s (Watched n) =
         rw (step, e) at follows in

@@ -3,6 +3,7 @@ use Rattle.std.proofs.Common.{◌≡◌, ℕ, ◌+◌, ◌-◌, ◌<◌, List, [
 use Rattle.std.proofs.Common.{length-take}
 use Rattle.std.specs.Prelude.{Some, slice_get}
 use Rattle.std.proofs.lemmas.Option.{slice_get_within}
+use Rattle.cbpf_code.specs.declared.checker.TheConstants.{MAX_INSTRUCTIONS}
 use Rattle.cbpf_machine.specs.Machine.{Machine}
 use Rattle.cbpf_machine.specs.Registers.{Registers, zero_state}
 use Rattle.cbpf_machine.specs.Trace.{trace}
@@ -33,10 +34,10 @@ keeps_push stands after machine capture old w r h at packet step pushed keeps = 
     let entry : slice_get (trace machine q.bytes q.wire) old.step ≡ Some w.state = rw i at here in
     rw step (rw (take-slice_get (trace machine q.bytes q.wire) old.step w.state entry) (pushed _ (keeps q before)))
 
--- fewer than 4096 are kept before the last entry
+-- fewer than MAX_INSTRUCTIONS are kept before the last entry
 pub keeps_few : (machine : Machine) (capture : List Record) (old : Place) (w : Cursor) (r : Record) (kept : ℕ)
     → Stands machine capture w → slice_get capture (w.place.packet - 1) ≡ Some r → w.place.step ≡ old.step + 1
-    → length (take old.step (trace machine r.bytes r.wire)) ≡ kept → kept < 4096
+    → length (take old.step (trace machine r.bytes r.wire)) ≡ kept → kept < MAX_INSTRUCTIONS
 keeps_few machine capture old w r kept h at step e =
     let here = entry_at_place machine capture w r h at (omega (arith, step)) in
     let i : w.place.step - 1 ≡ old.step = omega (arith, step) in

@@ -8,6 +8,7 @@ use Rattle.cbpf_code.specs.Sound.{IsSound}
 use Rattle.cbpf_machine.specs.Registers.{zero_state, Registers}
 use Rattle.cbpf_machine.proofs.SoundLemmas.{sound_few}
 use Rattle.cbpf_machine.proofs.TraceLemmas.{length-trace_from}
+use Rattle.cbpf_code.specs.declared.checker.TheConstants.{MAX_INSTRUCTIONS}
 use Rattle.cbpf_machine.specs.Machine.{Machine}
 use Rattle.cbpf_machine.specs.Trace.{trace}
 use Rattle.pcap_classic.specs.Records.{Record}
@@ -170,7 +171,7 @@ length_entries machine r p k [] = refl
 length_entries machine r p k (x ∷ xs) = ap suc (length_entries machine r p (k + 1) xs)
 
 pub length_joined : (machine : Machine) (p : ℕ) (capture : List Record) → IsSound machine.list
-    → length (joined_from machine p capture) ≤ 4096 * length capture
+    → length (joined_from machine p capture) ≤ MAX_INSTRUCTIONS * length capture
 length_joined machine p [] h = omega arith
 length_joined machine p (r ∷ rest) h =
     omega (

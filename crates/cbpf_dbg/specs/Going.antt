@@ -1,5 +1,6 @@
 -- How a run goes on over the packets of a capture: it is a matter of this crate alone, and no public clause names it.
-use Rattle.std.specs.Prelude.{◌≡◌, ℕ, ◌+◌, ◌<◌, ◌≤◌, ◌^◌, List, length, Bool, true, false}
+use Rattle.std.specs.Prelude.{◌≡◌, ℕ, ◌+◌, ◌*◌, ◌<◌, ◌≤◌, ◌^◌, List, length, Bool, true, false}
+use Rattle.cbpf_code.specs.declared.checker.TheConstants.{MAX_INSTRUCTIONS}
 use Rattle.cbpf_machine.specs.Machine.{Machine}
 use Rattle.cbpf_machine.specs.Registers.{Registers}
 use Rattle.pcap_classic.specs.Records.{Record}
@@ -19,7 +20,7 @@ pub record CanGoOn (machine : Machine) (capture : List Record) (breakpoints : Br
   pub stands : Stands machine capture w
   pub left : (end : ℕ) × AreLeft capture w.place end records
   pub covers : Covers pauses machine breakpoints
-  pub spare : spent + owed machine capture w.place + 8192 ≤ 2 ^ 128
+  pub spare : spent + owed machine capture w.place + 2 * MAX_INSTRUCTIONS ≤ 2 ^ 128
 
 -- a run goes on to an entry where it pauses, of which the record is the first that is left then, or to before a packet
 pub record GoesOn (machine : Machine) (capture : List Record) (breakpoints : Breakpoints) (pauses : Registers → Bool)

@@ -1,6 +1,7 @@
 //! Runs to the next hit.
 
-ghost use Rattle.std.specs.Prelude.{◌≡◌, ◌≢◌, ◌+◌, ◌-◌, ◌<◌, ◌≤◌, ◌^◌, [], Some, true, false, slice_get};
+ghost use Rattle.std.specs.Prelude.{◌≡◌, ◌≢◌, ◌+◌, ◌-◌, ◌*◌, ◌<◌, ◌≤◌, ◌^◌, [], Some, true, false, slice_get};
+ghost use Rattle.cbpf_code.specs.declared.checker.TheConstants.{MAX_INSTRUCTIONS};
 ghost use Rattle.pcap_classic.specs.Records.{Record};
 ghost use Rattle.cbpf_machine.specs.Follow.{Unpaused, is_watched};
 ghost use Rattle.cbpf_machine.specs.Trace.{trace};
@@ -158,8 +159,8 @@ fn run_to_hit<T: Trail, A: Allocator>(
     requires stands { Stands (machine_in loaded.now) (records_in loaded.now) cursor.old }
     requires keeps { Keeps (λ xs. T.stands_for trail.old xs) (machine_in loaded.now)
         (records_in loaded.now) cursor.old.place }
-    requires spare { meter.old + owed (machine_in loaded.now) (records_in loaded.now) cursor.old.place + 8192
-        ≤ 2 ^ 128 }
+    requires spare { meter.old + owed (machine_in loaded.now) (records_in loaded.now) cursor.old.place
+        + 2 * MAX_INSTRUCTIONS ≤ 2 ^ 128 }
     requires ends { IsEnd (records_in loaded.now) cursor.old.place end }
     ensures passes { Passes (machine_in loaded.now) (records_in loaded.now) (breakpoints_in loaded.now)
         cursor.old cursor.new (before cursor.new.place) meter.old meter.new }

@@ -1,6 +1,7 @@
 //! Steps both ways.
 
-ghost use Rattle.std.specs.Prelude.{◌≡◌, ◌+◌, ◌≤◌, ◌^◌, MatchResult, OnErr, OnOk};
+ghost use Rattle.std.specs.Prelude.{◌≡◌, ◌+◌, ◌*◌, ◌≤◌, ◌^◌, MatchResult, OnErr, OnOk};
+ghost use Rattle.cbpf_code.specs.declared.checker.TheConstants.{MAX_INSTRUCTIONS};
 ghost use Rattle.cbpf_dbg.specs.Breakpoints.{Breakpoints};
 ghost use Rattle.cbpf_dbg.specs.Loaded.{machine_in, records_in};
 ghost use Rattle.cbpf_dbg.specs.Session.{IsInside, Keeps};
@@ -31,8 +32,8 @@ fn skip_packets<A: Allocator>(
     requires records { AllLeft (records_in loaded.now) cursor.old.place records.old }
     requires before { cursor.old.place.step ≡ 0 }
     requires some { 1 ≤ n }
-    requires spare { meter.old + owed (machine_in loaded.now) (records_in loaded.now) cursor.old.place + 8192
-        ≤ 2 ^ 128 }
+    requires spare { meter.old + owed (machine_in loaded.now) (records_in loaded.now) cursor.old.place
+        + 2 * MAX_INSTRUCTIONS ≤ 2 ^ 128 }
     ensures nears { Nears (machine_in loaded.now) (records_in loaded.now) cursor.old cursor.new n result
         meter.old meter.new }
     ensures records { AllLeft (records_in loaded.now) cursor.new.place records.new }
