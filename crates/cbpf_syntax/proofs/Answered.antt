@@ -1,6 +1,6 @@
 -- Each token list is items, or has a first refusal: of each the longest front that begins a row is found.
 use Rattle.std.proofs.Common.{rules, ◌≡◌, ℕ, zero, suc, ◌+◌, ◌<◌, ◌≤◌, Bool, true, false, List, [], ◌∷◌, ◌++◌, length}
-use Rattle.std.proofs.Common.{take, drop, refl, arith, ap, sym, ◌∙◌, ◌⊎◌, inl, inr, subst, Option, Some, None}
+use Rattle.std.proofs.Common.{take, drop, refl, arith, ap, ◌∙◌, ◌⊎◌, inl, inr, Option, Some, None}
 use Rattle.std.specs.List.{list_any}
 use Rattle.std.proofs.lemmas.Bool.{cases_lt, cases_eq, cases_Bool, both_ways}
 use Rattle.cbpf_syntax.specs.Classes.Class.{the_mark, name}
@@ -136,33 +136,29 @@ large_pair (mark b) (number n) = elim (cases_eq b 45) [
     same_mark m n e = cc
 large_pair s d = inr (λ h. let e = h.0 in let f = h.2 in cc)
 
+large_in : (o q : Option Symbol) → Either ((s : Symbol) × (d : Symbol) × (o ≡ Some s) × (q ≡ Some d) × IsLarge s d)
+large_in None q = inr (λ h. let e = h.2 in cc)
+large_in (Some s) None = inr (λ h. let e = h.3 in cc)
+large_in (Some s) (Some d) = elim (large_pair s d) [
+  | inl l ↦ inl (s, d, refl, refl, l)
+  | inr none ↦ inr (λ h. none (rw (some-same s h.0 h.2, some-same d h.1 h.3) h.4))
+]
+
 large_at : (ts : List Lexeme) (i : ℕ) → Either (IsLargeNegative ts i)
 large_at ts zero = inr (λ h. omega (arith, h.after))
-large_at ts (suc b) = by_symbols (symbol_at ts b) (symbol_at ts (suc b)) refl refl
-  where
-    sign_of : (h : IsLargeNegative ts (suc b)) → symbol_at ts b ≡ Some h.sign
-    sign_of h = let e : b ≡ h.before = omega (arith, h.after) in ap (symbol_at ts) e ∙ h.sign_at
-
-    by_symbols : (o q : Option Symbol) → symbol_at ts b ≡ o → symbol_at ts (suc b) ≡ q
-        → Either (IsLargeNegative ts (suc b))
-    by_symbols None q e f = inr (λ h. let k : ◌≡◌ {A = Option Symbol} None (Some h.sign) = sym e ∙ sign_of h in cc)
-    by_symbols (Some s) None e f =
-        inr (λ h. let k : ◌≡◌ {A = Option Symbol} None (Some h.digits) = sym f ∙ h.digits_at in cc)
-    by_symbols (Some s) (Some d) e f = elim (large_pair s d) [
-      | inl l ↦ inl (record {
-        before = b;
-        after = omega arith;
-        sign = s;
-        digits = d;
-        sign_at = e;
-        digits_at = f;
-        large = l;
-      })
-      | inr none ↦ inr (λ h.
-          let a : h.sign ≡ s = some-same h.sign s (sym (sign_of h) ∙ e) in
-          let c : h.digits ≡ d = some-same h.digits d (sym h.digits_at ∙ f) in
-          none (subst (λ x. IsLarge s x) c (subst (λ x. IsLarge x h.digits) a h.large)))
-    ]
+large_at ts (suc b) = elim (large_in (symbol_at ts b) (symbol_at ts (suc b))) [
+  | inl h ↦ inl (record {
+    before = b;
+    after = omega arith;
+    sign = h.0;
+    digits = h.1;
+    sign_at = h.2;
+    digits_at = h.3;
+    large = h.4;
+  })
+  | inr none ↦ inr (λ h. let e : b ≡ h.before = omega (arith, h.after) in
+      none (h.sign, h.digits, ap (symbol_at ts) e ∙ h.sign_at, h.digits_at, h.large))
+]
 
 -- the first of those before a place, or none is there
 abbrev HasFirst : List Lexeme → ℕ → Type 0

@@ -1,5 +1,5 @@
 -- No two rows of the table fit the same tokens, unless one goes on with a comma where the other ends.
-use Rattle.std.proofs.Common.{rules, ◌≡◌, ℕ, Bool, true, false, not, ◌||◌, List, [], ◌∷◌, ◌++◌, length, refl}
+use Rattle.std.proofs.Common.{rules, ◌≡◌, ℕ, Bool, true, false, not, ◌&&◌, ◌||◌, List, [], ◌∷◌, ◌++◌, length, refl}
 use Rattle.std.proofs.Common.{sym, ◌∙◌, ◌⊎◌, inl, inr, eq-eqb, eqb-true, zero, suc, ap, subst, append-nil}
 use Rattle.std.proofs.Common.{append_assoc}
 use Rattle.std.specs.Prelude.{◌==◌, bytes_eq, Contains}
@@ -52,7 +52,10 @@ pub table_length : length table ≡ 193
 unfolding mnemonics extension_names
 table_length = refl
 
-table_apart : all_pairs (λ (r s : Row). apart (classes r) (classes s)) table ≡ true
+abbrev both_apart : Row → Row → Bool
+both_apart r s = apart (classes r) (classes s) && apart (classes s) (classes r)
+
+table_apart : all_pairs both_apart table ≡ true
 unfolding mnemonics extension_names
 table_apart = refl
 
@@ -75,6 +78,9 @@ ext_reserved : (u : List ℕ) → is_one_of extension_names u ≡ true → not (
 ext_reserved u h e =
     or_case (is_one_of mnemonic_words u) (is_one_of extension_names u) (is_one_of operand_words u) h e
 
+numeric : (i : ℕ) (d : Class) → fits d (number i) ≡ true → is_numeric d ≡ true
+numeric i d h = search (rules)
+
 -- what fits two classes shows that they overlap
 pub overlap_sound : (t : Symbol) (c d : Class) → fits c t ≡ true → fits d t ≡ true → overlap c d ≡ true
 overlap_sound (word u) (the_word v) (the_word w) h e = words_case u v w h e
@@ -86,40 +92,11 @@ overlap_sound (word u) (extension) (name) h e = absurd (ext_reserved u h e)
 overlap_sound (word u) (name) (the_word w) h e = rw (← equal_bytes u w e) h
 overlap_sound (word u) (name) (extension) h e = absurd (ext_reserved u e h)
 overlap_sound (word u) (name) (name) h e = refl
-overlap_sound (number i) (literal) (literal) h e = refl
-overlap_sound (number i) (literal) (negated) h e = refl
-overlap_sound (number i) (literal) (exactly k) h e = refl
-overlap_sound (number i) (negated) (literal) h e = refl
-overlap_sound (number i) (negated) (negated) h e = refl
-overlap_sound (number i) (negated) (exactly k) h e = refl
-overlap_sound (number i) (exactly m) (literal) h e = refl
-overlap_sound (number i) (exactly m) (negated) h e = refl
-overlap_sound (number i) (exactly m) (exactly k) h e = refl
+overlap_sound (number i) (literal) d h e = numeric i d e
+overlap_sound (number i) (negated) d h e = numeric i d e
+overlap_sound (number i) (exactly m) d h e = numeric i d e
 overlap_sound (mark o) (the_mark a) (the_mark b) h e = mark_case o a b h e
 overlap_sound x c d h e = cc
-
--- two classes overlap in either order, and so two rows are apart
-same_truth : (a b : Bool) → (a ≡ true → b ≡ true) → (b ≡ true → a ≡ true) → a ≡ b
-same_truth true b f g = sym (f refl)
-same_truth false true f g = g refl
-same_truth false false f g = refl
-
-overlap_swap : (c d : Class) → overlap c d ≡ overlap d c
-overlap_swap (the_word v) (the_word w) =
-    same_truth _ _ (λ e. words_case v w v e (bytes_eq_self v)) (λ e. words_case w v w e (bytes_eq_self w))
-overlap_swap (the_mark a) (the_mark b) =
-    same_truth _ _ (λ e. eq-eqb b a (sym (eqb-true a b e))) (λ e. eq-eqb a b (sym (eqb-true b a e)))
-overlap_swap literal (the_word w) = refl
-overlap_swap negated (the_word w) = refl
-overlap_swap (exactly m) (the_word w) = refl
-overlap_swap extension (the_word w) = refl
-overlap_swap name (the_word w) = refl
-overlap_swap c d = refl
-
-pub apart_swap : (cs ds : List Class) → apart cs ds ≡ apart ds cs
-apart_swap [] (d ∷ ds) = refl
-apart_swap (c ∷ cs) (d ∷ ds) = rw (overlap_swap c d, apart_swap cs ds) refl
-apart_swap cs ds = refl
 
 -- Two readings of the same tokens
 abbrev pub starts_with_comma : List Lexeme → Bool
@@ -156,24 +133,28 @@ table_reserved = refl
 -- two rows are apart, or the same row
 pub rows_apart : (r s : Row) → Contains table r → Contains table s → (r ≡ s) ⊎ (apart (classes r) (classes s) ≡ true)
 rows_apart r s p q =
-    elim (same_or_pair (λ (r s : Row). apart (classes r) (classes s)) table r s table_apart p q) [
+    elim (same_or_pair both_apart table r s table_apart p q) [
       | inl e ↦ inl e
-      | inr h ↦ inr (elim h [ inl a ↦ a | inr a ↦ apart_swap (classes r) (classes s) ∙ a ])
+      | inr h ↦ inr (elim h [
+        | inl a ↦ (and_parts (apart (classes r) (classes s)) _ a).0
+        | inr a ↦ (and_parts (apart (classes s) (classes r)) _ a).1
+      ])
     ]
 
 pub row_starts : (r : Row) → Contains table r → starts_reserved (classes r) ≡ true
 row_starts r p = rw p.2 at (list_all_at (λ (s : Row). starts_reserved (classes s)) table p.0 r table_reserved p.1)
 
-reserved_name : (cs ds : List Class) → starts_reserved cs ≡ true → apart cs (name ∷ ds) ≡ true
-reserved_name (the_word w ∷ cs) ds e = rw e refl
-reserved_name cs ds e = cc
+reserved_name : (cs ds : List Class) → starts_reserved cs ≡ true
+    → (apart cs (name ∷ ds) ≡ true) × (apart (name ∷ ds) cs ≡ true)
+reserved_name (the_word w ∷ cs) ds e = (rw e refl, rw e refl)
+reserved_name cs ds e = absurd cc
 
 pub readings_apart : (m n : ℕ) (r s : Row) → Contains table r → Contains table s
     → ((m ≡ n) × (r ≡ s)) ⊎ (apart (classes_of m r) (classes_of n s) ≡ true)
 readings_apart zero zero r s p q = elim (rows_apart r s p q) [ inl e ↦ inl (refl, e) | inr a ↦ inr a ]
-readings_apart zero (suc n) r s p q = inr (reserved_name (classes r) (the_mark 58 ∷ classes_of n s) (row_starts r p))
-readings_apart (suc m) zero r s p q = inr (apart_swap (classes_of (suc m) r) (classes s)
-    ∙ reserved_name (classes s) (the_mark 58 ∷ classes_of m r) (row_starts s q))
+readings_apart zero (suc n) r s p q = inr ((reserved_name (classes r) (the_mark 58 ∷ classes_of n s) (row_starts r p)).0)
+readings_apart (suc m) zero r s p q =
+    inr ((reserved_name (classes s) (the_mark 58 ∷ classes_of m r) (row_starts s q)).1)
 readings_apart (suc m) (suc n) r s p q =
     elim (readings_apart m n r s p q) [ inl e ↦ inl (ap suc e.0, e.1) | inr a ↦ inr a ]
 

@@ -4,6 +4,8 @@ use Rattle.std.proofs.Common.{◌≡◌, ℕ, zero, suc, ◌+◌, ◌≤◌, Boo
 use Rattle.std.proofs.Common.{take, drop, refl, ap, sym, ◌∙◌, arith, Option, Some, None}
 use Rattle.std.specs.Prelude.{◌==◌, option_map}
 use Rattle.cbpf_syntax.specs.Pieces.{begins_with_close, first_close}
+use Rattle.std.proofs.Common.{inl, inr}
+use Rattle.std.proofs.lemmas.Bool.{cases_Bool}
 use Rattle.cbpf_syntax.proofs.Cuts.{some-same}
 
 -- the first `*/` of the bytes after one more, of which is known whether it is a `*`:
@@ -39,35 +41,28 @@ mapped_some (Some k) n e = (k, refl, some-same n (suc k) (sym e))
 
 close_least : (bs : List ℕ) (n : ℕ) → first_close bs ≡ Some n → 2 ≤ n
 close_least [] n e = cc
-close_least (b ∷ bs) n e = by_test (begins_with_close (b ∷ bs)) (close_least bs) e
-  where
-    by_test : (t : Bool) → ((k : ℕ) → first_close bs ≡ Some k → 2 ≤ k)
-        → cond t (Some 2) (option_map suc (first_close bs)) ≡ Some n → 2 ≤ n
-    by_test true more h = let k : n ≡ 2 = some-same n 2 (sym h) in omega (arith, k)
-    by_test false more h = let p = mapped_some (first_close bs) n h in omega (arith, p.2, more p.0 p.1)
+close_least (b ∷ bs) n e = elim (cases_Bool (begins_with_close (b ∷ bs))) [
+  | inl h ↦ let k = some-same 2 n (rw h at e) in omega (arith, k)
+  | inr h ↦ let p = mapped_some (first_close bs) n (rw h at e) in omega (arith, p.2, close_least bs p.0 p.1)
+]
 
 -- a comment ends within the text
 pub close_within : (bs : List ℕ) (n : ℕ) → first_close bs ≡ Some n → n ≤ length bs
-close_within (b ∷ c ∷ cs) n e = by_test (b == 42 && c == 47) (close_within (c ∷ cs)) e
-  where
-    by_test : (t : Bool) → ((k : ℕ) → first_close (c ∷ cs) ≡ Some k → k ≤ suc (length cs))
-        → cond t (Some 2) (option_map suc (first_close (c ∷ cs))) ≡ Some n → n ≤ suc (suc (length cs))
-    by_test true more h = let k : n ≡ 2 = some-same n 2 (sym h) in omega (arith, k)
-    by_test false more h = let p = mapped_some (first_close (c ∷ cs)) n h in omega (arith, p.2, more p.0 p.1)
+close_within (b ∷ c ∷ cs) n e = elim (cases_Bool (b == 42 && c == 47)) [
+  | inl h ↦ let k = some-same 2 n (rw h at e) in omega (arith, k)
+  | inr h ↦
+      let p = mapped_some (first_close (c ∷ cs)) n (rw h at e) in omega (arith, p.2, close_within (c ∷ cs) p.0 p.1)
+]
 close_within x n e = cc
 
 -- the first `*/` of a text is that of each front of the text that has it
 pub close_taken : (bs : List ℕ) (n m : ℕ) → first_close bs ≡ Some n → n ≤ m → first_close (take m bs) ≡ Some n
 close_taken (b ∷ bs) n zero e l = absurd (omega (arith, l, close_least (b ∷ bs) n e))
 close_taken (b ∷ c ∷ cs) n (suc zero) e l = absurd (omega (arith, l, close_least (b ∷ c ∷ cs) n e))
-close_taken (b ∷ c ∷ cs) n (suc (suc m)) e l =
-    by_test (b == 42 && c == 47) (λ k h q. close_taken (c ∷ cs) k (suc m) h q) e
-  where
-    by_test : (t : Bool)
-        → ((k : ℕ) → first_close (c ∷ cs) ≡ Some k → k ≤ suc m → first_close (c ∷ take m cs) ≡ Some k)
-        → cond t (Some 2) (option_map suc (first_close (c ∷ cs))) ≡ Some n
-        → cond t (Some 2) (option_map suc (first_close (c ∷ take m cs))) ≡ Some n
-    by_test true more h = h
-    by_test false more h = let p = mapped_some (first_close (c ∷ cs)) n h in
-        ap (option_map suc) (more p.0 p.1 (omega (arith, l, p.2))) ∙ ap (λ k. Some k) (sym p.2)
+close_taken (b ∷ c ∷ cs) n (suc (suc m)) e l = elim (cases_Bool (b == 42 && c == 47)) [
+  | inl h ↦ rw h (rw h at e)
+  | inr h ↦ let p = mapped_some (first_close (c ∷ cs)) n (rw h at e) in
+      let more = close_taken (c ∷ cs) p.0 (suc m) p.1 (omega (arith, l, p.2)) in
+      rw h (ap (option_map suc) more ∙ ap (λ k. Some k) (sym p.2))
+]
 close_taken bs n m e l = cc

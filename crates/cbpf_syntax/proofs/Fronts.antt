@@ -1,8 +1,8 @@
 -- Tokens that fit classes: all of them, or as far as the tokens go.
-use Rattle.std.proofs.Common.{◌≡◌, ℕ, suc, ◌+◌, ◌≤◌, Bool, true, false, cond, List, [], ◌∷◌, ◌++◌, length, take}
+use Rattle.std.proofs.Common.{◌≡◌, ℕ, suc, ◌≤◌, true, List, [], ◌∷◌, ◌++◌, length, take}
 use Rattle.std.proofs.Common.{refl, arith, ap, ◌⊎◌, inl, inr}
 use Rattle.std.proofs.Math.Numerals.{one-add}
-use Rattle.std.proofs.lemmas.Bool.{and_parts}
+use Rattle.std.proofs.lemmas.Bool.{and_parts, cases_Bool}
 use Rattle.cbpf_syntax.specs.Classes.{Class}
 use Rattle.cbpf_syntax.specs.Lexemes.{Lexeme}
 use Rattle.cbpf_syntax.specs.Fits.{fits, fits_all, fits_front}
@@ -62,12 +62,10 @@ front_cut (c ∷ cs) ds (t ∷ ts) h =
 pub common_fits : (cs : List Class) (ts : List Lexeme) → fits_front cs (take (common cs ts) ts) ≡ true
 common_fits [] ts = refl
 common_fits (c ∷ cs) [] = refl
-common_fits (c ∷ cs) (t ∷ ts) = by_test (fits c t.symbol) refl (common_fits cs ts)
-  where
-    by_test : (q : Bool) → fits c t.symbol ≡ q → fits_front cs (take (common cs ts) ts) ≡ true
-        → fits_front (c ∷ cs) (take (cond q (1 + common cs ts) 0) (t ∷ ts)) ≡ true
-    by_test true e h = rw (one-add, e, h) refl
-    by_test false e h = refl
+common_fits (c ∷ cs) (t ∷ ts) = elim (cases_Bool (fits c t.symbol)) [
+  | inl e ↦ rw (e, one-add) (rw (e, common_fits cs ts) refl)
+  | inr e ↦ rw e refl
+]
 
 pub common_most : (cs : List Class) (ts : List Lexeme) (n : ℕ) → n ≤ length ts → fits_front cs (take n ts) ≡ true
     → n ≤ common cs ts

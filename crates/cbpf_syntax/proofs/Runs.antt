@@ -20,8 +20,9 @@ use Rattle.cbpf_syntax.proofs.Comments.{close_taken, close_within}
 use Rattle.cbpf_syntax.specs.declared.token.BadPiece.TheVariants.{NoToken, OpenComment}
 use Rattle.cbpf_syntax.specs.declared.piece.Lead.{Lead}
 use Rattle.cbpf_syntax.specs.declared.piece.Lead.TheVariants.{Blank, LineComment, Letter, Digit, Slash, Single, Other}
-use Rattle.std.proofs.lemmas.List.Sums.{prefix_len-le-length}
-use Rattle.std.proofs.lemmas.List.{take_all, drop_all, drop_more}
+use Rattle.std.proofs.lemmas.List.Sums.{prefix_len-le-length, prefix_len_stops}
+use Rattle.std.proofs.lemmas.List.Folds.{list_all_at}
+use Rattle.std.proofs.lemmas.List.{take_all, drop_all, drop_more, get_or-take}
 use Rattle.cbpf_syntax.specs.declared.token.Token.{Token}
 use Rattle.cbpf_syntax.specs.Tokens.{LexesTo}
 use Rattle.cbpf_syntax.proofs.Cuts.{piece_at, piece_more}
@@ -36,16 +37,10 @@ pub run_whole : (p : ℕ → Bool) (bs : List ℕ) → list_all p (take (prefix_
 run_whole p [] = refl
 run_whole p (b ∷ bs) = whole_step p b bs (p b) refl (run_whole p bs)
 
-longer_step : (p : ℕ → Bool) (b : ℕ) (bs : List ℕ) (n : ℕ) (t : Bool) → p b ≡ t
-    → (prefix_len p bs < n → list_all p (take n bs) ≡ false) → cond t (1 + prefix_len p bs) 0 < suc n
-    → list_all p (take (suc n) (b ∷ bs)) ≡ false
-longer_step p b bs n true e h l = rw e (h (omega arith))
-longer_step p b bs n false e h l = rw e
-
 pub run_longer : (p : ℕ → Bool) (bs : List ℕ) (n : ℕ) → n ≤ length bs → prefix_len p bs < n
     → list_all p (take n bs) ≡ false
-run_longer p (b ∷ bs) (suc n) w l = longer_step p b bs n (p b) refl (λ l'. run_longer p bs n (omega arith) l') l
-run_longer p bs x w l = absurd (omega arith)
+run_longer p bs n w l = list_all_at p (take n bs) (prefix_len p bs) 0 (omega (arith, length-take-le n bs w))
+    (rw (get_or-take n bs (prefix_len p bs) 0 l) (prefix_len_stops p bs 0 (omega arith)))
 
 two-add : (n : ℕ) → 2 + n ≡ suc (suc n)
 two-add n = omega arith
