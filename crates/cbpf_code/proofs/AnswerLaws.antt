@@ -19,8 +19,8 @@ use Rattle.cbpf_code.specs.Extension.{ext_at}
 use Rattle.cbpf_code.specs.ControlFlow.{InsnAt, FollowsCode, IsSuccessor, StoresSlot, MayBeUnwritten, loads_slot}
 use Rattle.cbpf_code.specs.ControlFlow.{stores_slot}
 use Rattle.cbpf_code.specs.ControlFlow.MayBeUnwritten.{at_start, onward}
-use Rattle.cbpf_code.specs.Faults.{HasFault, FirstFault, IsEarlier, rank, index_of, JumpsOutside, LoadsNoExtension, uses_slot}
-use Rattle.cbpf_code.specs.Faults.{divides_by_k, shifts_by_k, loads_absolute}
+use Rattle.cbpf_code.specs.Faults.{HasFault, FirstFault, IsEarlier, rank, index_of, JumpsOutside, LoadsNoExtension}
+use Rattle.cbpf_code.specs.Faults.{uses_slot, divides_by_k, shifts_by_k, loads_absolute}
 use Rattle.cbpf_code.specs.Sound.{IsSound}
 use Rattle.cbpf_code.specs.CheckSteps.{PassesBefore, IsWellFormed, AllowedAt}
 use Rattle.cbpf_code.specs.WordTokens.{Token, run, single, tokens}
@@ -77,7 +77,8 @@ least P (suc n) decided =
 -- ---- an instruction of a list
 
 -- what an option has, if it has it
-found : {X : Type 0} (o : Option X) (P : X → Type 0) → ((x : X) → Decided (P x)) → Decided ((x : X) × (o ≡ Some x) × P x)
+found : {X : Type 0} (o : Option X) (P : X → Type 0) → ((x : X) → Decided (P x))
+    → Decided ((x : X) × (o ≡ Some x) × P x)
 found None P decided = inr (λ a. let some = a.1 in absurd (cc))
 found (Some x) P decided = elim (decided x) [
   | inl has ↦ inl (x, refl, has)

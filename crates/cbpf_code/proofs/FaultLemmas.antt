@@ -27,7 +27,8 @@ insn_at-same list i Has insn op a here known =
 allowed-excludes : (list : List Insn) (e : CheckFault) (insn : Insn) (op : Op) → slice_get list (index_of e) ≡ Some insn
     → op_of insn.code ≡ Some op → IsAllowed op insn (index_of e) (length list) → rank e ≡ 2 → HasFault list e → ⊥
 allowed-excludes list (UnknownCode i) insn op here known fine r has = let same : has.0 ≡ insn = cc in cc
-allowed-excludes list (NoSlot i) insn op here known fine r has = fine.slot (insn_at-same list i _ insn op has here known)
+allowed-excludes list (NoSlot i) insn op here known fine r has =
+    fine.slot (insn_at-same list i _ insn op has here known)
 allowed-excludes list (ZeroDivisor i) insn op here known fine r has =
     fine.divisor (insn_at-same list i _ insn op has here known)
 allowed-excludes list (WideShift i) insn op here known fine r has =
@@ -143,3 +144,6 @@ sound_of list formed none = record { none = by }
     by : (f : CheckFault) → HasFault list f → ⊥
     by (UnwrittenSlot i) has = none i has
     by f has = formed.none f (omega arith) has
+
+pub ruleset passes =
+    (passes_before-start, passes_before-next, well_formed-at_end, first_fault-insn, first_fault-at_end, sound_of)

@@ -1,7 +1,7 @@
 -- The first fault of a list is one: an instruction has at most one of the faults C3 to C8.
-use Rattle.std.proofs.Common.{◌≡◌, ℕ, ◌<◌, List, arith, refl, sym, ap, ◌∙◌, subst, inl, inr}
+use Rattle.std.proofs.Common.{◌≡◌, ℕ, ◌<◌, List, get_or, arith, refl, sym, ap, ◌∙◌, inl, inr}
 use Rattle.std.specs.Prelude.{Option, Some, None, IsTrue, slice_get, ◌==◌, if◌then◌else◌}
-use Rattle.std.proofs.lemmas.Bool.{cases_eq}
+use Rattle.std.proofs.lemmas.Option.{slice_get_within, slice_get-get_or}
 use Rattle.cbpf_code.specs.declared.insn.Insn.{Insn}
 use Rattle.cbpf_code.specs.declared.opcode.Op.{Op}
 use Rattle.cbpf_code.specs.declared.opcode.Op.TheVariants.{LdAbs, LdMem, Alu, Ja, Jump}
@@ -15,6 +15,7 @@ use Rattle.cbpf_code.specs.Opcode.{op_of}
 use Rattle.cbpf_code.specs.ControlFlow.{IsTarget}
 use Rattle.cbpf_code.specs.Faults.{HasFault, FirstFault, rank, index_of, uses_slot, divides_by_k, shifts_by_k}
 use Rattle.cbpf_code.specs.Faults.{loads_absolute}
+use Rattle.cbpf_code.proofs.FaultLemmas.{zero_insn}
 
 -- the one fault of C4 to C8 that an operation can be refused by, where there is one
 abbrev fault_for : Op → ℕ → CheckFault
@@ -50,43 +51,39 @@ for_extension : (op : Op) (i : ℕ) → IsTrue (loads_absolute op) → fault_for
 for_extension (LdAbs size) i h = refl
 for_extension _ i h = cc
 
--- the instruction at a fault's index has a code that can be refused by this fault alone
-abbrev RefusedAt : List Insn → ℕ → CheckFault → Type 0
-RefusedAt list i e = (insn : Insn) × (slice_get list i ≡ Some insn) × (fault_by_code (op_of insn.code) i ≡ e)
+-- rank, index and the code there decide the fault
+abbrev fault_by : ℕ → ℕ → Option Op → CheckFault
+fault_by r i o =
+    if r == 2 then fault_by_code o i else if r == 0 then NoInstruction else if r == 1 then TooMany
+    else if r == 3 then NoReturn else UnwrittenSlot i
 
-refused_at : (list : List Insn) (e : CheckFault) → rank e ≡ 2 → HasFault list e → RefusedAt list (index_of e) e
-refused_at list (UnknownCode i) r has = (has.0, has.1, rw has.2 refl)
-refused_at list (NoSlot i) r has = (has.0, has.2, rw has.3 (for_slot has.1 i has.4.0))
-refused_at list (ZeroDivisor i) r has = (has.0, has.2, rw has.3 (for_divisor has.1 i has.4.0))
-refused_at list (WideShift i) r has = (has.0, has.2, rw has.3 (for_shift has.1 i has.4.0))
-refused_at list (JumpOutside i) r has = (has.0, has.2, rw has.3 (for_target has.1 has.0 i has.4.0 has.4.1))
-refused_at list (UnknownExtension i) r has = (has.0, has.2, rw has.3 (for_extension has.1 i has.4.0))
-refused_at list _ r has = absurd (omega arith)
+abbrev code_at : List Insn → ℕ → Option Op
+code_at list i = op_of (get_or list i zero_insn).code
 
-refused_at-same : (list : List Insn) (i : ℕ) (e f : CheckFault) → RefusedAt list i e → RefusedAt list i f → e ≡ f
-refused_at-same list i e f a b = let same : a.0 ≡ b.0 = cc in cc
+known_at : (list : List Insn) (i : ℕ) (insn : Insn) (o : Option Op) → slice_get list i ≡ Some insn → op_of insn.code ≡ o
+    → code_at list i ≡ o
+known_at list i insn o here known =
+    let read = slice_get-get_or list i zero_insn (slice_get_within list i insn here) in
+    let same : get_or list i zero_insn ≡ insn = cc in
+    rw same known
 
--- outside C3 to C8 rank and index decide the fault
-abbrev fault_of_rank : ℕ → ℕ → CheckFault
-fault_of_rank r i = if r == 0 then NoInstruction else if r == 1 then TooMany else if r == 3 then NoReturn else UnwrittenSlot i
-
-by_rank : (e : CheckFault) → (rank e ≡ 2 → ⊥) → fault_of_rank (rank e) (index_of e) ≡ e
-by_rank NoInstruction never = refl
-by_rank TooMany never = refl
-by_rank NoReturn never = refl
-by_rank (UnwrittenSlot i) never = refl
-by_rank _ never = absurd (never refl)
+decided : (list : List Insn) (e : CheckFault) → HasFault list e
+    → fault_by (rank e) (index_of e) (code_at list (index_of e)) ≡ e
+decided list (UnknownCode i) has = rw (known_at list i has.0 _ has.1 has.2) refl
+decided list (NoSlot i) has = rw (known_at list i has.0 _ has.2 has.3) (for_slot has.1 i has.4.0)
+decided list (ZeroDivisor i) has = rw (known_at list i has.0 _ has.2 has.3) (for_divisor has.1 i has.4.0)
+decided list (WideShift i) has = rw (known_at list i has.0 _ has.2 has.3) (for_shift has.1 i has.4.0)
+decided list (JumpOutside i) has =
+    rw (known_at list i has.0 _ has.2 has.3) (for_target has.1 has.0 i has.4.0 has.4.1)
+decided list (UnknownExtension i) has = rw (known_at list i has.0 _ has.2 has.3) (for_extension has.1 i has.4.0)
+decided list _ has = refl
 
 -- two faults of one rank and index that a list has are the same
 same_place : (list : List Insn) (e f : CheckFault) → rank e ≡ rank f → index_of e ≡ index_of f → HasFault list e
     → HasFault list f → e ≡ f
-same_place list e f ranks indexes has_e has_f = elim (cases_eq (rank e) 2) [
-  | inl two ↦ refused_at-same list (index_of f) e f
-      (subst (λ i. RefusedAt list i e) indexes (refused_at list e two has_e))
-      (refused_at list f (sym ranks ∙ two) has_f)
-  | inr never ↦ sym (by_rank e never) ∙ ap (λ r. fault_of_rank r (index_of e)) ranks
-      ∙ ap (fault_of_rank (rank f)) indexes ∙ by_rank f (λ two. never (ranks ∙ two))
-]
+same_place list e f ranks indexes has_e has_f =
+    sym (decided list e has_e) ∙ ap (λ r. fault_by r (index_of e) (code_at list (index_of e))) ranks
+    ∙ ap (λ i. fault_by (rank f) i (code_at list i)) indexes ∙ decided list f has_f
 
 pub first_fault-unique : (list : List Insn) (e f : CheckFault) → FirstFault list e → FirstFault list f → f ≡ e
 first_fault-unique list e f one two =

@@ -76,16 +76,6 @@ last_digits m (suc p) n =
     rw e (drop-append-le m (hex_digits (m + p) (n / 16)) _ (omega (arith, length-hex_digits (m + p) (n / 16)))
     ∙ ap (λ (t : List ℕ). t ++ digit_glyph false (n % 16) ∷ []) (last_digits m p (n / 16)))
 
-one_or_more : (p : ℕ) → 1 ≤ 16 ^ p
-one_or_more zero = omega arith
-one_or_more (suc p) = omega (arith, one_or_more p)
-
-places_of : (p n : ℕ) → 16 ^ p ≤ n → n < 16 ^ suc p → HasPlaces (suc p) n
-places_of zero n low high = omega arith
-places_of (suc p) n low high =
-    let one = one_or_more p in
-    (omega arith, places_of p (n / 16) (omega arith) (omega arith))
-
 places-step : (n bound p q : ℕ) → (n < bound → HasPlaces p n) → (bound ≤ n → HasPlaces q n)
     → HasPlaces (if nat_lt n bound then p else q) n
 places-step n bound p q low high = by (nat_lt n bound) refl
@@ -96,10 +86,10 @@ places-step n bound p q low high = by (nat_lt n bound) refl
 
 has-places : (n : ℕ) → n < 2 ^ 32 → HasPlaces (hex_places n) n
 has-places n l =
-    places-step n 16 1 _ (λ h. h) (λ a. places-step n 256 2 _ (places_of 1 n a)
-    (λ a. places-step n 4096 3 _ (places_of 2 n a) (λ a. places-step n 65536 4 _ (places_of 3 n a)
-    (λ a. places-step n 1048576 5 _ (places_of 4 n a) (λ a. places-step n 16777216 6 _ (places_of 5 n a)
-    (λ a. places-step n 268435456 7 8 (places_of 6 n a) (λ a. places_of 7 n a l)))))))
+    places-step n 16 1 _ (λ h. h) (λ a. places-step n 256 2 _ (λ h. omega arith)
+    (λ a. places-step n 4096 3 _ (λ h. omega arith) (λ a. places-step n 65536 4 _ (λ h. omega arith)
+    (λ a. places-step n 1048576 5 _ (λ h. omega arith) (λ a. places-step n 16777216 6 _ (λ h. omega arith)
+    (λ a. places-step n 268435456 7 8 (λ h. omega arith) (λ a. omega arith)))))))
 
 last_of_eight : (q n : ℕ) → q ≤ 8 → drop (8 - q) (hex_digits 8 n) ≡ hex_digits q n
 last_of_eight q n l =
@@ -134,3 +124,5 @@ pub glyph_at : (d : ℕ) → d < 16 → get_or (codes "0123456789abcdef") d 0 �
 glyph_at d l =
     eqb-true _ _
     (agree_below_at (λ k. get_or (codes "0123456789abcdef") k 0 == digit_glyph false k) (λ k. true) 16 d refl l)
+
+pub ruleset hex_texts = (glyph_at, hex-two)

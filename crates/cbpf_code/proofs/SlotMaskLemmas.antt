@@ -1,6 +1,6 @@
 -- Masks of slots: one mask, and the masks of all instructions.
 use Rattle.std.proofs.Common.{◌≡◌, ℕ, ◌+◌, ◌*◌, ◌%◌, ◌^◌, ◌<◌, List, length, get_or, arith, refl, sym, ◌∙◌}
-use Rattle.std.proofs.Common.{subst, inl, inr}
+use Rattle.std.proofs.Common.{inl, inr}
 use Rattle.std.specs.Prelude.{◌⊎◌, IsTrue, slice_set, slice_index, bit_and, bit_or}
 use Rattle.std.specs.Int.{bit_at, bit_not, w16}
 use Rattle.std.proofs.lemmas.Bool.{cases_eq}
@@ -17,11 +17,11 @@ use Rattle.cbpf_code.specs.SlotMasks.{InMask, LeavesUnwritten, AddsToMasks}
 
 -- ---- one mask
 
-in_mask-or-left : (a b s : ℕ) → InMask a s → InMask (bit_or a b) s
-in_mask-or-left a b s h = let l = bit_at-lt b s in bit_at_or a b s ∙ omega arith
-
-in_mask-or-right : (a b s : ℕ) → InMask b s → InMask (bit_or a b) s
-in_mask-or-right a b s h = let l = bit_at-lt a s in bit_at_or a b s ∙ omega arith
+in_mask-or : (a b s : ℕ) → InMask a s ⊎ InMask b s → InMask (bit_or a b) s
+in_mask-or a b s h =
+    let l = bit_at-lt a s in
+    let r = bit_at-lt b s in
+    bit_at_or a b s ∙ elim h [ inl e ↦ omega arith | inr e ↦ omega arith ]
 
 in_or-mask : (a b s : ℕ) → InMask (bit_or a b) s → InMask a s ⊎ InMask b s
 in_or-mask a b s h =
@@ -34,17 +34,14 @@ leaves_unwritten-cleared mask op insn within stores = record {
   kept = λ s small here away. bit_at_clear_other w16 mask insn.k within s small (λ e. away stores (sym e)) ∙ here;
   only = λ s small here.
       elim (cases_eq s insn.k) [
-        | inl e ↦
-            let gone = bit_at_clear_same w16 mask insn.k within in
-            let at_k = subst (λ u. InMask (bit_and mask (bit_not w16 (1 * 2 ^ insn.k % 2 ^ 16))) u) e here in
-            absurd (omega arith)
+        | inl e ↦ absurd (gone s here e)
         | inr n ↦ sym (bit_at_clear_other w16 mask insn.k within s small n) ∙ here
       ];
-  stored = λ s small here is e.
-      let gone = bit_at_clear_same w16 mask insn.k within in
-      let at_k = subst (λ u. InMask (bit_and mask (bit_not w16 (1 * 2 ^ insn.k % 2 ^ 16))) u) (sym e) here in
-      omega arith;
+  stored = λ s small here is e. gone s here (sym e);
 }
+  where
+    gone : (s : ℕ) → InMask (bit_and mask (bit_not w16 (1 * 2 ^ insn.k % 2 ^ 16))) s → s ≡ insn.k → ⊥
+    gone s here e = let off = bit_at_clear_same w16 mask insn.k within in let on = rw e at here in omega arith
 
 -- ---- the masks of all instructions
 
@@ -56,11 +53,11 @@ adds_to_masks-one masks at left inside =
       long = length-set masks at v;
       kept = λ t s here. elim (cases_eq t at) [
         | inl e ↦ rw (get_or-set_at masks at t v 0 e inside)
-            (in_mask-or-left (get_or masks at 0) left s (rw e at here))
+            (in_mask-or (get_or masks at 0) left s (inl (rw e at here)))
         | inr n ↦ rw (get_or-set_other masks at t v 0 n) here
       ];
       added = λ t s e here. rw (get_or-set_at masks at t v 0 e inside)
-          (in_mask-or-right (get_or masks at 0) left s here);
+          (in_mask-or (get_or masks at 0) left s (inr here));
       only = λ t s here. elim (cases_eq t at) [
         | inl e ↦ elim (in_or-mask (get_or masks at 0) left s (rw (get_or-set_at masks at t v 0 e inside) at here)) [
           | inl a ↦ inl (rw e a)

@@ -1,8 +1,8 @@
 -- The answer of the reader is one: a text that spells a list is refused only when out of memory,
 -- and a text has one fault at most.
-use Rattle.std.proofs.Common.{◌≡◌, ◌≢◌, ℕ, ◌⊎◌, inl, inr, List, length, refl, sym, ap, ◌∙◌}
+use Rattle.std.proofs.Common.{◌≡◌, ◌≢◌, ℕ, ◌⊎◌, inl, inr, List, length, sym, ◌∙◌, ap, Some}
 use Rattle.std.specs.Prelude.{MatchResult, Result, Ok, Err}
-use Rattle.cbpf_code.specs.WordText.{Spells, Refused}
+use Rattle.cbpf_code.specs.WordText.{Spells, Miscounts, Refused, fault_of}
 use Rattle.cbpf_code.specs.declared.insn.Insn.{Insn}
 use Rattle.cbpf_code.specs.declared.words.WordFault.{WordFault}
 use Rattle.cbpf_code.specs.declared.words.WordFault.TheVariants.{Memory}
@@ -10,41 +10,43 @@ use Rattle.cbpf_code.specs.declared.words.WordFault.TheVariants.{Memory}
 pub spells-once : (text : List ℕ) (list other : List Insn) → Spells text list → Spells text other → other ≡ list
 spells-once text list other a b = b.reads ∙ sym a.reads
 
+-- refused, and not for want of memory
+abbrev Faulty : List ℕ → WordFault → Type 0
+Faulty text e = (fault_of text ≡ Some e) ⊎ Miscounts text e
+
+spells-faultless : (text : List ℕ) (list : List Insn) (e : WordFault) → Spells text list → Faulty text e → ⊥
+spells-faultless text list e spells (inl fault) = let none = spells.good in absurd (cc)
+spells-faultless text list e spells (inr m) = m.differs (spells.counted ∙ ap length spells.reads)
+
+faulty-once : (text : List ℕ) (e f : WordFault) → Faulty text e → Faulty text f → f ≡ e
+faulty-once text e f (inl a) (inl b) = cc
+faulty-once text e f (inr a) (inr b) = b.fault ∙ sym a.fault
+faulty-once text e f (inl a) (inr b) = let none = b.good in absurd (cc)
+faulty-once text e f (inr a) (inl b) = let none = a.good in absurd (cc)
+
 pub spells-not_refused : (text : List ℕ) (list : List Insn) (e : WordFault) → Spells text list → e ≢ Memory
     → Refused text e → ⊥
 spells-not_refused text list e spells other (inl memory) = other memory
-spells-not_refused text list e spells other (inr (inl fault)) = let none = spells.good in absurd (cc)
-spells-not_refused text list e spells other (inr (inr m)) =
-    m.differs (spells.counted ∙ ap (λ (l : List Insn). length l) spells.reads)
+spells-not_refused text list e spells other (inr faulty) = spells-faultless text list e spells faulty
 
 pub refused-once : (text : List ℕ) (e f : WordFault) → e ≢ Memory → f ≢ Memory → Refused text e
     → Refused text f → f ≡ e
 refused-once text e f one two (inl memory) s = absurd (one memory)
 refused-once text e f one two r (inl memory) = absurd (two memory)
-refused-once text e f one two (inr (inl a)) (inr (inl b)) = cc
-refused-once text e f one two (inr (inr a)) (inr (inr b)) = b.fault ∙ sym a.fault
-refused-once text e f one two (inr (inl a)) (inr (inr b)) = let none = b.good in absurd (cc)
-refused-once text e f one two (inr (inr a)) (inr (inl b)) = let none = a.good in absurd (cc)
-
-memory-or : (e : WordFault) → (e ≡ Memory) ⊎ (e ≢ Memory)
-memory-or Memory = inl refl
-memory-or _ = inr (λ h. cc)
+refused-once text e f one two (inr a) (inr b) = faulty-once text e f a b
 
 -- the same of an answer
 pub answer-spelled : {V : Type 0} (items : V → List Insn) (text : List ℕ) (r : Result V WordFault)
     → MatchResult r (λ v. Spells text (items v)) (λ e. Refused text e) → (list : List Insn) → Spells text list
     → MatchResult r (λ v. items v ≡ list) (λ e. e ≡ Memory)
 answer-spelled items text (Ok v) answer list spells = spells-once text list (items v) spells answer
-answer-spelled items text (Err e) answer list spells = elim (memory-or e) [
-  | inl is ↦ is
-  | inr other ↦ absurd (spells-not_refused text list e spells other answer)
-]
+answer-spelled items text (Err e) (inl memory) list spells = memory
+answer-spelled items text (Err e) (inr faulty) list spells = absurd (spells-faultless text list e spells faulty)
 
 pub answer-only : {V : Type 0} (items : V → List Insn) (text : List ℕ) (r : Result V WordFault)
     → MatchResult r (λ v. Spells text (items v)) (λ e. Refused text e) → (f : WordFault) → f ≢ Memory → Refused text f
     → MatchResult r (λ v. ⊥) (λ e. (e ≡ Memory) ⊎ (e ≡ f))
 answer-only items text (Ok v) answer f other refused = spells-not_refused text (items v) f answer other refused
-answer-only items text (Err e) answer f other refused = elim (memory-or e) [
-  | inl is ↦ inl is
-  | inr fault ↦ inr (refused-once text f e other fault refused answer)
-]
+answer-only items text (Err e) (inl memory) f other refused = inl memory
+answer-only items text (Err e) (inr faulty) f other (inl memory) = absurd (other memory)
+answer-only items text (Err e) (inr faulty) f other (inr wanted) = inr (faulty-once text f e wanted faulty)

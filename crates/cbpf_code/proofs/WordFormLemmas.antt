@@ -49,46 +49,32 @@ tokens-decimal at n rest h stop =
 
 -- ---- texts, wherever they stand
 
--- nothing is wrong with the text where something is due, and its numbers are ns
-record Reads (text : List ℕ) (due : Due) (ns : List ℕ) : Type 0 where
-  good : (at n : ℕ) → first_fault due n (tokens_from at text) ≡ None
-  spelled : (at : ℕ) → numbers (tokens_from at text) ≡ ns
+-- wherever the text stands, nothing is wrong with it where something is due, and its numbers are ns
+abbrev Reads : List ℕ → Due → List ℕ → Type 0
+Reads text due ns =
+    (at : ℕ) → ((n : ℕ) → first_fault due n (tokens_from at text) ≡ None) × (numbers (tokens_from at text) ≡ ns)
 
 reads-newline : Reads (codes "\n") code []
-reads-newline =
-    let e = λ (at : ℕ). law-blank at 10 [] refl ∙ law-empty (at + 1) in
-    record { good = λ at n. ap (first_fault code n) (e at); spelled = λ at. ap numbers (e at) }
+reads-newline at = rw (law-blank at 10 [] refl, law-empty (at + 1)) ((λ n. refl), refl)
 
 reads-space : (text : List ℕ) (due : Due) (ns : List ℕ) → Reads text due ns → Reads (32 ∷ text) due ns
-reads-space text due ns r =
-    let e = λ (at : ℕ). law-blank at 32 text refl in
-    record {
-      good = λ at n. ap (first_fault due n) (e at) ∙ r.good (at + 1) n;
-      spelled = λ at. ap numbers (e at) ∙ r.spelled (at + 1);
-    }
+reads-space text due ns r at = rw (law-blank at 32 text refl) (r (at + 1))
 
 reads-comma : (text : List ℕ) (due : Due) (ns : List ℕ) → range_of due ≡ None → Reads text (next_due due) ns
     → Reads (44 ∷ text) due ns
-reads-comma text due ns none r =
-    let e = λ (at : ℕ). law-single at 44 text refl refl in
-    record {
-      good = λ at n. ap (first_fault due n) (e at) ∙ rw none (r.good (at + 1) n);
-      spelled = λ at. ap numbers (e at) ∙ r.spelled (at + 1);
-    }
+reads-comma text due ns none r at =
+    rw (law-single at 44 text refl refl) ((λ n. rw none ((r (at + 1)).0 n)), (r (at + 1)).1)
 
 reads-number : (text : List ℕ) (number range : ℕ) (due : Due) (ns : List ℕ) → begins_with_digit text ≡ false
     → range_of due ≡ Some range → range ≤ 2 ^ 32 → number < range → Reads text (next_due due) ns
     → Reads (decimal number ++ text) due (number ∷ ns)
-reads-number text number range due ns stop is small l r =
+reads-number text number range due ns stop is small l r at =
     let h : number < 2 ^ 64 = omega arith in
-    let e = λ (at : ℕ). tokens-decimal at number text h stop in
     let v = number-decimal number h in
     let t : nat_lt number range ≡ true = grind (arith, tests) in
-    record {
-      good = λ at n. ap (first_fault due n) (e at) ∙ rw (is, v, t) (r.good (at + length (decimal number)) n);
-      spelled = λ at. ap numbers (e at)
-          ∙ rw v (ap (λ (l : List ℕ). number ∷ l) (r.spelled (at + length (decimal number))));
-    }
+    let rest = r (at + length (decimal number)) in
+    rw (tokens-decimal at number text h stop)
+    ((λ n. rw (is, v, t) (rest.0 n)), rw v (ap (λ (l : List ℕ). number ∷ l) rest.1))
 
 -- ---- instructions
 
@@ -120,10 +106,11 @@ reads-words : (list : List Insn) → length list < 2 ^ 32 → All InRange list
     → Reads (words list) count (length list ∷ fields_of list)
 reads-words list l h =
     rw (words-split list)
-    (reads-number _ (length list) _ count _ refl refl (omega arith) l (reads-comma _ count_comma _ refl (reads-lines list h)))
+    (reads-number _ (length list) _ count _ refl refl (omega arith) l
+    (reads-comma _ count_comma _ refl (reads-lines list h)))
 
 -- the law that a list is read back from its text
 pub words-spell : (list : List Insn) → All InRange list → length list ≤ 4294967295 → Spells (words list) list
 words-spell list h l =
-    let r = reads-words list (omega (arith, l)) h in
-    whole-spells (words list) (length list) list (record { good = r.good 0 (length (words list)); spelled = r.spelled 0 }) refl
+    let r = reads-words list (omega (arith, l)) h 0 in
+    whole-spells (words list) (length list) list (record { good = r.0 (length (words list)); spelled = r.1 }) refl

@@ -4,6 +4,7 @@ use Rattle.std.proofs.Common.{inl, inr, List, [], ◌∷◌, ◌++◌, length, d
 use Rattle.std.proofs.Common.{drop-cons, drop-drop, add-one, suc}
 use Rattle.std.specs.List.{AllByRecursion, take_while, prefix_len}
 use Rattle.std.proofs.lemmas.Bool.{cases_Bool, cases_lt, eq-eqb, eqb-true}
+use Rattle.std.proofs.Math.Seq.{take-append_seam, drop-append_seam}
 use Rattle.std.proofs.lemmas.List.{drop_all}
 use Rattle.cbpf_code.specs.WordTokens.{Token, run, single, is_digit, is_blank, begins_with_digit, tokens_in}
 use Rattle.cbpf_code.specs.WordTokens.{tokens_from, tokens_after}
@@ -26,18 +27,24 @@ pub law-single : (at b : ℕ) (rest : List ℕ) → is_blank b ≡ false → is_
 unfolding tokens_in
 law-single at b rest n d = rw (add-one, d, n) refl
 
--- digits in a run begin no token
-in_run : (at : ℕ) (digits rest : List ℕ) → AllByRecursion (λ b. is_digit b ≡ true) digits
-    → begins_with_digit rest ≡ false → (take_while is_digit (digits ++ rest) ≡ digits)
-    × (tokens_in true at (digits ++ rest) ≡ tokens_from (at + length digits) rest)
+-- what follows a run
+after_run : (at : ℕ) (bs : List ℕ)
+    → tokens_in true at bs ≡ tokens_from (at + prefix_len is_digit bs) (drop (prefix_len is_digit bs) bs)
 unfolding tokens_in
-in_run at [] [] all stop = (refl, refl)
-in_run at [] (b ∷ rest) all stop = let z : at + 0 ≡ at = omega arith in (rw stop refl, rw (stop, z) refl)
-in_run at (d ∷ ds) rest all stop =
-    let more = in_run (suc at) ds rest all.1 stop in
-    let seam : suc at + length ds ≡ at + length (d ∷ ds) = omega arith in
-    let one : 1 + prefix_len is_digit (ds ++ rest) ≡ suc (prefix_len is_digit (ds ++ rest)) = omega arith in
-    (rw (all.0, one) (ap (λ (t : List ℕ). d ∷ t) more.0), rw all.0 (more.1 ∙ ap (λ p. tokens_from p rest) seam))
+after_run at [] = refl
+after_run at (b ∷ bs) = elim (cases_Bool (is_digit b)) [
+  | inl e ↦
+      let one : 1 + prefix_len is_digit bs ≡ suc (prefix_len is_digit bs) = omega arith in
+      let seam : suc at + prefix_len is_digit bs ≡ at + suc (prefix_len is_digit bs) = omega arith in
+      rw (e, one) (after_run (suc at) bs ∙ ap (λ p. tokens_from p (drop (prefix_len is_digit bs) bs)) seam)
+  | inr e ↦ let z : at + 0 ≡ at = omega arith in rw (e, z, e) refl
+]
+
+run-length : (digits rest : List ℕ) → AllByRecursion (λ b. is_digit b ≡ true) digits → begins_with_digit rest ≡ false
+    → prefix_len is_digit (digits ++ rest) ≡ length digits
+run-length [] [] all stop = refl
+run-length [] (b ∷ rest) all stop = rw stop refl
+run-length (d ∷ ds) rest all stop = let more = run-length ds rest all.1 stop in rw all.0 (omega (arith, more))
 
 pub law-run : (at : ℕ) (digits rest : List ℕ) → digits ≢ [] → AllByRecursion (λ b. is_digit b ≡ true) digits
     → begins_with_digit rest ≡ false
@@ -45,9 +52,9 @@ pub law-run : (at : ℕ) (digits rest : List ℕ) → digits ≢ [] → AllByRec
 unfolding tokens_in
 law-run at [] rest some all stop = absurd (some refl)
 law-run at (d ∷ ds) rest some all stop =
-    let more = in_run (suc at) ds rest all.1 stop in
+    let long = run-length ds rest all.1 stop in
     let seam : suc at + length ds ≡ at + length (d ∷ ds) = omega arith in
-    rw (all.0, more.0, more.1, seam) refl
+    rw (all.0, after_run (suc at) (ds ++ rest), long, take-append_seam ds rest, drop-append_seam ds rest, seam) refl
 
 -- the same at a place of a text
 
@@ -65,21 +72,9 @@ step-single text i l d e =
 pub step-end : (text : List ℕ) (i : ℕ) → length text ≤ i → tokens_after text i ≡ []
 step-end text i l = rw (drop_all i text l) (law-empty i)
 
--- what follows a run
-after_run : (at : ℕ) (bs : List ℕ)
-    → tokens_in true at bs ≡ tokens_from (at + prefix_len is_digit bs) (drop (prefix_len is_digit bs) bs)
-unfolding tokens_in
-after_run at [] = refl
-after_run at (b ∷ bs) = elim (cases_Bool (is_digit b)) [
-  | inl e ↦
-      let one : 1 + prefix_len is_digit bs ≡ suc (prefix_len is_digit bs) = omega arith in
-      let seam : suc at + prefix_len is_digit bs ≡ at + suc (prefix_len is_digit bs) = omega arith in
-      rw (e, one) (after_run (suc at) bs ∙ ap (λ p. tokens_from p (drop (prefix_len is_digit bs) bs)) seam)
-  | inr e ↦ let z : at + 0 ≡ at = omega arith in rw (e, z, e) refl
-]
-
 pub step-run : (text : List ℕ) (i : ℕ) → i < length text → is_digit (get_or text i 0) ≡ true
-    → tokens_after text i ≡ run i (take_while is_digit (drop i text)) ∷ tokens_after text (i + prefix_len is_digit (drop i text))
+    → tokens_after text i
+    ≡ run i (take_while is_digit (drop i text)) ∷ tokens_after text (i + prefix_len is_digit (drop i text))
 unfolding tokens_in
 step-run text i l d =
     let bs = drop (suc i) text in
@@ -88,9 +83,10 @@ step-run text i l d =
     let seam : suc i + n ≡ i + suc n = omega arith in
     let rest : tokens_in true (suc i) bs ≡ tokens_after text (i + suc n) =
     after_run (suc i) bs ∙ ap (tokens_from (suc i + n)) (drop-drop n (suc i) text) ∙ ap (tokens_after text) seam in
-    rw (drop-cons text i 0 l, d, one) (ap (λ (ms : List Token). run i (get_or text i 0 ∷ take_while is_digit bs) ∷ ms) rest)
+    rw (drop-cons text i 0 l, d, one)
+    (ap (λ (ms : List Token). run i (get_or text i 0 ∷ take_while is_digit bs) ∷ ms) rest)
 
-pub ruleset token_steps = (step-blank, step-end)
+pub ruleset token_steps = (step-blank, step-single, step-end)
 
 -- a byte that is no blank begins a token
 tokens-some : (at b : ℕ) (bs : List ℕ) → is_blank b ≡ false → tokens_from at (b ∷ bs) ≡ [] → ⊥
@@ -119,3 +115,5 @@ end-or-not text at place w same stops = (
 )
 
 pub ruleset marks = (law-empty, law-blank, law-single, law-run)
+
+pub ruleset ends = (end-or-not)

@@ -112,3 +112,5 @@ first-failed u v a b r e h = err-exit u v (a ++ b) r e (part-more u v a b h)
 pub ruleset pairs = (first-failed, wrote-then)
 
 pub ruleset three = (first-failed, wrote-then, part-more, part-then, appended-then)
+
+pub ruleset steps = (appended-nil, part-take, stepped)

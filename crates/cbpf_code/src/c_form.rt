@@ -16,6 +16,7 @@ fn prefix_of(n: u32) -> &'static [u8]
 
 /// Puts a number in decimal, right in two places.
 #[inline(always)]
+#[tactic(auto, using(crate::proofs::DigitLemmas::one_or_more_digits))]
 fn put_padded(line: &mut Line, n: u8)
     requires room { length line.old + 11 ≤ 256 }
     ensures text { line.new ≡ padding n ++ decimal n ++ line.old }

@@ -66,6 +66,7 @@ pub fn check<A: Allocator>(list: Vec<Insn, A>) -> Result<Program<A>, (CheckFault
     }
 }
 
+#[tactic(auto, using(crate::proofs::FaultLemmas::passes))]
 fn first_fault(list: &[Insn]) -> Option<CheckFault>
     ensures { MatchOption result (IsSound list.now) (λ e. FirstFault list.now e) }
 {

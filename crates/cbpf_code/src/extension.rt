@@ -95,6 +95,7 @@ pub fn ext_at(k: u32) -> Option<Ext>
 }
 
 /// How far the extension's place is above 4294963200, the place of the first one; 0 to 60.
+#[tactic(auto, using(crate::proofs::TableLemmas::tables))]
 pub fn ext_offset(e: Ext) -> u32
     ensures value { result ≡ spec.ext_offset e }
     ensures known { spec.ext_at (4294963200 + result) ≡ Some e }

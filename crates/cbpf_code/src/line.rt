@@ -11,6 +11,7 @@ use std::io::Write;
 use std::marker::Model;
 
 /// The byte of a number's last hexadecimal digit.
+#[tactic(auto, using(crate::proofs::HexLemmas::hex_texts))]
 fn last_hex_digit(n: u32) -> u8
     ensures { result ≡ digit_glyph false (n % 16) }
 {
@@ -143,6 +144,7 @@ impl Line {
 
     /// Puts a byte as two hexadecimal digits, in lower case.
     #[inline(always)]
+    #[tactic(auto, using(crate::proofs::HexLemmas::hex_texts))]
     pub fn put_byte(&mut self, n: u8)
         requires { length self.old + 2 ≤ 256 }
         ensures text { self.new ≡ hex 2 n ++ self.old }

@@ -127,6 +127,7 @@ fn put_operation(line: &mut Line, i: u32, insn: Insn, op: Op)
 ///
 /// `i` must be less than the program's length, and the line must have room for 77 bytes.
 #[inline(always)]
+#[tactic(auto, using(crate::proofs::SoundLemmas::sound_known))]
 pub fn put_line<A: Allocator>(line: &mut Line, p: &Program<A>, i: u32)
     requires within { i < length p.now }
     requires room { length line.old + 77 ≤ 256 }

@@ -200,6 +200,7 @@ pub fn op_of_byte(code: u8) -> Option<Op>
 
 /// The code of an operation, the only one that `op_of` takes to it.
 #[inline]
+#[tactic(auto, using(crate::proofs::TableLemmas::tables))]
 pub fn code_of(op: Op) -> u16
     ensures value { result ≡ spec.code_of op }
     ensures known { spec.op_of result ≡ Some op }

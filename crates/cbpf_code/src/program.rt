@@ -45,6 +45,7 @@ impl<A: Allocator> Program<A> {
 
     /// The instruction at index `i`, from 0.
     #[inline(always)]
+    #[tactic(auto, using(std::proofs::lemmas::Option::slice_get_read))]
     pub fn at_index(&self, i: u32) -> Insn
         requires { i < length self.now }
         ensures value { slice_get self.now i ≡ Some result }

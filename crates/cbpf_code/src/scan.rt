@@ -26,6 +26,7 @@ pub fn is_blank(b: u8) -> bool
 }
 
 /// The length of the longest beginning of digits, and the number that they spell, at most `CAP`.
+#[tactic(auto, using(std::proofs::lemmas::List::Sums::prefix_len_is))]
 fn leading_digits(text: &[u8]) -> (usize, u64)
     ensures length { result.0 ≡ prefix_len is_digit text.now }
     ensures value { result.1 ≡ min (number (take result.0 text.now)) (2 ^ 32) }
@@ -73,6 +74,7 @@ pub(crate) fn skip_blanks(text: &[u8], at: usize) -> usize
 }
 
 /// The first token from `at` on.
+#[tactic(auto, using(crate::proofs::WordTokenLemmas::token_steps))]
 pub(crate) fn next_token(text: &[u8], at: usize) -> Option<Found>
     requires { at ≤ length text.now }
     ensures { MatchOption result (tokens_after text.now at ≡ []) (λ f. IsNextToken text.now at f) }

@@ -31,6 +31,7 @@ pub enum WordFault {
 }
 
 /// Whether no token is left.
+#[tactic(auto, using(crate::proofs::WordTokenLemmas::ends))]
 fn is_end(text: &[u8], at: usize) -> bool
     requires { at ≤ length text.now }
     ensures { IsTrue result ↔ tokens_after text.now at ≡ [] }

@@ -16,6 +16,7 @@ pub struct WriteFault;
 /// Writes what a first call of `write` left of a text.
 #[cold]
 #[inline(never)]
+#[tactic(auto, using(crate::proofs::WrittenLemmas::steps))]
 fn write_rest<W: Write>(w: &mut W, text: &[u8]) -> Result<(), WriteFault>
     ensures { Wrote (W.contents w.old) (W.contents w.new) result text.now }
 {

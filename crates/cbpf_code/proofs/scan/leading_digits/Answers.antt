@@ -7,7 +7,3 @@ pub returns-clause-length : goal.returns-clause-length
 returns-clause-length c =
     sym (prefix_len_is is_digit c.args.text.now (length c.args.text.now) 0 (omega arith)
     (λ k below. c.loop-i.invariant.digits k (omega arith)) (λ h. absurd (omega arith)))
-
-pub returns-then-not-is_digit-clause-length : goal.returns-then-not-is_digit-clause-length
-returns-then-not-is_digit-clause-length c =
-    sym (prefix_len_is is_digit c.args.text.now c.loop-i.i 0 (omega arith) c.loop-i.invariant.digits (λ h. cc))

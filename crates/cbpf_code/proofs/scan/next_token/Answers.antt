@@ -3,11 +3,8 @@ use Rattle.std.proofs.Common.{arith}
 use Rattle.std.specs.List.{prefix_len}
 use Rattle.std.proofs.lemmas.List.Sums.{prefix_len-le-length, prefix_len-drop_yes}
 use Rattle.cbpf_code.specs.WordTokens.{is_digit}
-use Rattle.cbpf_code.proofs.WordTokenLemmas.{step-single, step-end, step-run}
+use Rattle.cbpf_code.proofs.WordTokenLemmas.{step-run}
 use Rattle.cbpf_code.proofs.scan.next_token.Goals as goal
-
-pub returns-then-place-text : goal.returns-then-place-text
-returns-then-place-text c = sym c.skip_blanks-place.ensures.same ∙ step-end _ _ (omega arith)
 
 pub returns-then-is_digit : goal.returns-then-is_digit
 returns-then-is_digit c =
@@ -26,12 +23,3 @@ returns-then-is_digit c =
       first = sym c.skip_blanks-place.ensures.same ∙ rw (cut, long) (step-run text i below digit);
       value = rw cut (rw whole at c.leading_digits-len.ensures.value);
     }
-
-pub returns : goal.returns
-returns c = record {
-  within = omega arith;
-  after = omega arith;
-  first = sym c.skip_blanks-place.ensures.same
-      ∙ step-single _ _ (omega arith) (cc) (c.skip_blanks-place.ensures.stops (omega arith));
-  value = tt;
-}

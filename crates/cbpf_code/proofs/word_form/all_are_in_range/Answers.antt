@@ -10,4 +10,5 @@ loop-insn-preserved c = All-more InRange c.args.list.now c.loop-insn.insn-index 
 
 pub returns : goal.returns
 returns c =
-    words-spell c.args.list.now (rw (take_all c.loop-insn.insn-index c.args.list.now (omega arith)) at c.loop-insn.invariant)
+    let all = take_all c.loop-insn.insn-index c.args.list.now (omega arith) in
+    words-spell c.args.list.now (rw all at c.loop-insn.invariant)

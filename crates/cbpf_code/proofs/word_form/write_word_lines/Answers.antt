@@ -1,4 +1,5 @@
-use Rattle.std.proofs.Common.{◌≡◌, ℕ, List, ◌+◌, ◌-◌, ◌≤◌, ◌++◌, drop, take, length, take_all, length-drop, arith, sym, ap, ◌∙◌}
+use Rattle.std.proofs.Common.{◌≡◌, ℕ, List, ◌+◌, ◌-◌, ◌≤◌, ◌++◌, drop, take, length, take_all, length-drop, arith, sym}
+use Rattle.std.proofs.Common.{ap, ◌∙◌}
 use Rattle.std.specs.List.{flat_map}
 use Rattle.std.proofs.lemmas.Grind.{flat_map-append}
 use Rattle.std.proofs.Math.Seq.{take-add}
@@ -20,13 +21,16 @@ lines list i e at text l long same =
 
 pub returns-in_err-write_bytes : goal.returns-in_err-write_bytes
 returns-in_err-write_bytes g c =
-    err-exit _ _ _ _ c.from_residual.ensures.0 (part-front word_line c.args.list.now c.min-end.result _ _
-    (rw (lines c.args.list.now c.loop-i.i c.min-end.result _ _ (omega arith) c.put_word_lines-at.array_long c.put_word_lines-at.ensures.bytes)
+    let list = c.args.list.now in
+    let text = c.put_word_lines-at in
+    err-exit _ _ _ _ c.from_residual.ensures.0 (part-front word_line list c.min-end.result _ _
+    (rw (lines list c.loop-i.i c.min-end.result _ _ (omega arith) text.array_long text.ensures.bytes)
     (part-then _ _ _ _ _ c.loop-i.invariant.0 (c.in_err-write_bytes.ensures {u = tt}))))
 
 pub loop-i-preserved : goal.loop-i-preserved
-loop-i-preserved g c = (
-  rw (lines c.args.list.now c.loop-i.i c.min-end.result _ _ (omega arith) c.put_word_lines-at.array_long c.put_word_lines-at.ensures.bytes)
-      (appended-then _ _ _ _ _ c.loop-i.invariant.0 (c.in_ok-write_bytes.ensures {u = tt})),
-  omega arith,
-)
+loop-i-preserved g c =
+    let text = c.put_word_lines-at in (
+      rw (lines c.args.list.now c.loop-i.i c.min-end.result _ _ (omega arith) text.array_long text.ensures.bytes)
+          (appended-then _ _ _ _ _ c.loop-i.invariant.0 (c.in_ok-write_bytes.ensures {u = tt})),
+      omega arith,
+    )
