@@ -19,10 +19,11 @@ use Rattle.cbpf_code.specs.Extension.{ext_at}
 use Rattle.cbpf_code.specs.ControlFlow.{InsnAt, FollowsCode, IsSuccessor, StoresSlot, MayBeUnwritten, loads_slot}
 use Rattle.cbpf_code.specs.ControlFlow.{stores_slot}
 use Rattle.cbpf_code.specs.ControlFlow.MayBeUnwritten.{at_start, onward}
-use Rattle.cbpf_code.specs.Faults.{HasFault, FirstFault, IsEarlier, rank, index_of, JumpsOutside, LoadsNoExtension}
+use Rattle.cbpf_code.specs.Faults.{NamesNoSlot, DividesByZero, ShiftsTooFar, JumpsOutside, LoadsNoExtension}
+use Rattle.cbpf_code.specs.Faults.{HasFault, FirstFault, IsEarlier, rank, index_of}
 use Rattle.cbpf_code.specs.Faults.{uses_slot, divides_by_k, shifts_by_k, loads_absolute}
 use Rattle.cbpf_code.specs.Sound.{IsSound}
-use Rattle.cbpf_code.specs.CheckSteps.{PassesBefore, IsWellFormed, AllowedAt}
+use Rattle.cbpf_code.specs.CheckSteps.{PassesBefore, IsWellFormed, IsAllowed, AllowedAt}
 use Rattle.cbpf_code.specs.WordTokens.{Token, run, single, tokens}
 use Rattle.cbpf_code.specs.WordText.{Due, count, next_due, range_of, token_fault, or_else, first_fault, fault_of}
 use Rattle.cbpf_code.specs.WordText.{count_of, list_of, Spells, Refused}
@@ -122,6 +123,16 @@ loads_no_extension op insn =
 abbrev FaultAt : List Insn → ℕ → Type 0
 FaultAt list i = (e : CheckFault) × HasFault list e × (rank e ≡ 2) × (index_of e ≡ i)
 
+allowed : (op : Op) (insn : Insn) (i n : ℕ) → (NamesNoSlot op insn → ⊥) → (DividesByZero op insn → ⊥)
+    → (ShiftsTooFar op insn → ⊥) → (JumpsOutside op insn i n → ⊥) → (LoadsNoExtension op insn → ⊥)
+    → IsAllowed op insn i n
+allowed op insn i n a b c d e (NoSlot at) h = a h
+allowed op insn i n a b c d e (ZeroDivisor at) h = b h
+allowed op insn i n a b c d e (WideShift at) h = c h
+allowed op insn i n a b c d e (JumpOutside at) h = d h
+allowed op insn i n a b c d e (UnknownExtension at) h = e h
+allowed op insn i n a b c d e _ h = h
+
 known-fault : (list : List Insn) (i : ℕ) (insn : Insn) (op : Op) → slice_get list i ≡ Some insn
     → op_of insn.code ≡ Some op → AllowedAt list i ⊎ FaultAt list i
 known-fault list i insn op here known =
@@ -135,8 +146,7 @@ known-fault list i insn op here known =
             | inl h ↦ inr (JumpOutside i, (insn, op, here, known, h), refl, refl)
             | inr d ↦ elim (loads_no_extension op insn) [
               | inl h ↦ inr (UnknownExtension i, (insn, op, here, known, h), refl, refl)
-              | inr e ↦
-                  inl (insn, op, here, known, record { slot = a; divisor = b; shift = c; targets = d; extension = e })
+              | inr e ↦ inl (insn, op, here, known, allowed op insn i (length list) a b c d e)
             ]
           ]
         ]

@@ -6,9 +6,8 @@ use Rattle.std.proofs.lemmas.Option.{slice_get_within, slice_get-get_or}
 use Rattle.cbpf_code.specs.declared.insn.Insn.{Insn}
 use Rattle.cbpf_code.specs.declared.opcode.Op.{Op}
 use Rattle.cbpf_code.specs.declared.checker.CheckFault.{CheckFault}
-use Rattle.cbpf_code.specs.declared.checker.CheckFault.TheVariants.{NoInstruction, TooMany, UnknownCode, NoSlot}
-use Rattle.cbpf_code.specs.declared.checker.CheckFault.TheVariants.{ZeroDivisor, WideShift, JumpOutside}
-use Rattle.cbpf_code.specs.declared.checker.CheckFault.TheVariants.{UnknownExtension, NoReturn, UnwrittenSlot}
+use Rattle.cbpf_code.specs.declared.checker.CheckFault.TheVariants.{NoInstruction, TooMany, UnknownCode}
+use Rattle.cbpf_code.specs.declared.checker.CheckFault.TheVariants.{NoReturn, UnwrittenSlot}
 use Rattle.cbpf_code.specs.Opcode.{op_of}
 use Rattle.cbpf_code.specs.ControlFlow.{InsnAt}
 use Rattle.cbpf_code.specs.Faults.{IsReturn, HasFault, FirstFault, IsEarlier, rank, index_of}
@@ -26,18 +25,13 @@ insn_at-same list i Has insn op a here known =
 
 allowed-excludes : (list : List Insn) (e : CheckFault) (insn : Insn) (op : Op) → slice_get list (index_of e) ≡ Some insn
     → op_of insn.code ≡ Some op → IsAllowed op insn (index_of e) (length list) → rank e ≡ 2 → HasFault list e → ⊥
+allowed-excludes list NoInstruction insn op here known fine r has = absurd (omega arith)
+allowed-excludes list TooMany insn op here known fine r has = absurd (omega arith)
+allowed-excludes list NoReturn insn op here known fine r has = absurd (omega arith)
+allowed-excludes list (UnwrittenSlot i) insn op here known fine r has = absurd (omega arith)
 allowed-excludes list (UnknownCode i) insn op here known fine r has = let same : has.0 ≡ insn = cc in cc
-allowed-excludes list (NoSlot i) insn op here known fine r has =
-    fine.slot (insn_at-same list i _ insn op has here known)
-allowed-excludes list (ZeroDivisor i) insn op here known fine r has =
-    fine.divisor (insn_at-same list i _ insn op has here known)
-allowed-excludes list (WideShift i) insn op here known fine r has =
-    fine.shift (insn_at-same list i _ insn op has here known)
-allowed-excludes list (JumpOutside i) insn op here known fine r has =
-    fine.targets (insn_at-same list i _ insn op has here known)
-allowed-excludes list (UnknownExtension i) insn op here known fine r has =
-    fine.extension (insn_at-same list i _ insn op has here known)
-allowed-excludes list _ insn op here known fine r has = absurd (omega arith)
+allowed-excludes list e insn op here known fine r has =
+    fine e (insn_at-same list (index_of e) _ insn op has here known)
 
 pub passes_before-start : (list : List Insn) → 0 < length list → length list ≤ 4096 → PassesBefore list 0
 passes_before-start list some few = record { none = none }

@@ -1,32 +1,17 @@
 -- What the passes of the checker promise one another; the rules themselves are those of Faults (bpf(4),
 -- "FILTER MACHINE").
-use Rattle.std.specs.Prelude.{◌≡◌, ℕ, ◌<◌, ◌≤◌, List, length}
+use Rattle.std.specs.Prelude.{ℕ, ◌<◌, ◌≤◌, List, length}
 use Rattle.cbpf_code.specs.declared.insn.Insn.{Insn}
 use Rattle.cbpf_code.specs.declared.opcode.Op.{Op}
 use Rattle.cbpf_code.specs.declared.checker.CheckFault.{CheckFault}
-use Rattle.cbpf_code.specs.declared.checker.CheckFault.TheVariants.{NoSlot, ZeroDivisor, WideShift, JumpOutside}
-use Rattle.cbpf_code.specs.declared.checker.CheckFault.TheVariants.{UnknownExtension, UnknownCode}
+use Rattle.cbpf_code.specs.declared.checker.CheckFault.TheVariants.{UnknownCode}
 use Rattle.cbpf_code.specs.declared.checker.TheConstants.{MAX_INSTRUCTIONS}
 use Rattle.cbpf_code.specs.ControlFlow.{InsnAt}
-use Rattle.cbpf_code.specs.Faults.{NamesNoSlot, DividesByZero, ShiftsTooFar, JumpsOutside, LoadsNoExtension}
-use Rattle.cbpf_code.specs.Faults.{HasFault, IsEarlier, rank}
+use Rattle.cbpf_code.specs.Faults.{InsnHasFault, HasFault, IsEarlier, rank}
 
--- an instruction of a known code, at i of n, has this fault of C4 to C8
-abbrev pub InsnHasFault : Op → Insn → ℕ → ℕ → CheckFault → Type 0
-InsnHasFault op insn i n (NoSlot j) = (j ≡ i) × NamesNoSlot op insn
-InsnHasFault op insn i n (ZeroDivisor j) = (j ≡ i) × DividesByZero op insn
-InsnHasFault op insn i n (WideShift j) = (j ≡ i) × ShiftsTooFar op insn
-InsnHasFault op insn i n (JumpOutside j) = (j ≡ i) × JumpsOutside op insn i n
-InsnHasFault op insn i n (UnknownExtension j) = (j ≡ i) × LoadsNoExtension op insn
-InsnHasFault op insn i n _ = ⊥
-
--- it has none of them
-pub record IsAllowed (op : Op) (insn : Insn) (i n : ℕ) : Type 0 where
-  pub slot : NamesNoSlot op insn → ⊥
-  pub divisor : DividesByZero op insn → ⊥
-  pub shift : ShiftsTooFar op insn → ⊥
-  pub targets : JumpsOutside op insn i n → ⊥
-  pub extension : LoadsNoExtension op insn → ⊥
+-- an instruction of a known code, at i of n, has none of C4 to C8
+abbrev pub IsAllowed : Op → Insn → ℕ → ℕ → Type 0
+IsAllowed op insn i n = (e : CheckFault) → InsnHasFault op insn i n e → ⊥
 
 -- the instruction at i has none of the faults C3 to C8
 abbrev pub AllowedAt : List Insn → ℕ → Type 0

@@ -58,19 +58,6 @@ JumpsOutside op insn i n = (t : ℕ) × IsTarget op insn i t × (n ≤ t)
 abbrev pub LoadsNoExtension : Op → Insn → Type 0
 LoadsNoExtension op insn = IsTrue (loads_absolute op) × (4294963200 ≤ insn.k) × (ext_at insn.k ≡ None)
 
--- a list has a fault: C1 to C10, a line each
-abbrev pub HasFault : List Insn → CheckFault → Type 0
-HasFault list NoInstruction = length list ≡ 0
-HasFault list TooMany = MAX_INSTRUCTIONS < length list
-HasFault list (UnknownCode i) = (insn : Insn) × (slice_get list i ≡ Some insn) × (op_of insn.code ≡ None)
-HasFault list (NoSlot i) = InsnAt list i (λ op insn. NamesNoSlot op insn)
-HasFault list (ZeroDivisor i) = InsnAt list i (λ op insn. DividesByZero op insn)
-HasFault list (WideShift i) = InsnAt list i (λ op insn. ShiftsTooFar op insn)
-HasFault list (JumpOutside i) = InsnAt list i (λ op insn. JumpsOutside op insn i (length list))
-HasFault list (UnknownExtension i) = InsnAt list i (λ op insn. LoadsNoExtension op insn)
-HasFault list NoReturn = (insn : Insn) × (slice_get list (length list - 1) ≡ Some insn) × (IsReturn insn → ⊥)
-HasFault list (UnwrittenSlot i) = InsnAt list i (λ op insn. IsTrue (loads_slot op) × MayBeUnwritten list insn.k i)
-
 -- the order of reports: C1, C2, then C3 to C8 by instruction, then C9, then C10 by instruction
 abbrev pub rank : CheckFault → ℕ
 rank NoInstruction = 0
@@ -88,6 +75,24 @@ index_of (JumpOutside i) = i
 index_of (UnknownExtension i) = i
 index_of (UnwrittenSlot i) = i
 index_of _ = 0
+
+-- an instruction of a known code, at index i of n, has this one of C4 to C8
+abbrev pub InsnHasFault : Op → Insn → ℕ → ℕ → CheckFault → Type 0
+InsnHasFault op insn i n (NoSlot at) = NamesNoSlot op insn
+InsnHasFault op insn i n (ZeroDivisor at) = DividesByZero op insn
+InsnHasFault op insn i n (WideShift at) = ShiftsTooFar op insn
+InsnHasFault op insn i n (JumpOutside at) = JumpsOutside op insn i n
+InsnHasFault op insn i n (UnknownExtension at) = LoadsNoExtension op insn
+InsnHasFault op insn i n _ = ⊥
+
+-- a list has a fault: C1 to C3, C9 and C10, and those of an instruction
+abbrev pub HasFault : List Insn → CheckFault → Type 0
+HasFault list NoInstruction = length list ≡ 0
+HasFault list TooMany = MAX_INSTRUCTIONS < length list
+HasFault list (UnknownCode i) = (insn : Insn) × (slice_get list i ≡ Some insn) × (op_of insn.code ≡ None)
+HasFault list NoReturn = (insn : Insn) × (slice_get list (length list - 1) ≡ Some insn) × (IsReturn insn → ⊥)
+HasFault list (UnwrittenSlot i) = InsnAt list i (λ op insn. IsTrue (loads_slot op) × MayBeUnwritten list insn.k i)
+HasFault list e = InsnAt list (index_of e) (λ op insn. InsnHasFault op insn (index_of e) (length list) e)
 
 abbrev pub IsEarlier : CheckFault → CheckFault → Type 0
 IsEarlier e f = (rank e < rank f) ⊎ ((rank e ≡ rank f) × (index_of e < index_of f))

@@ -1,9 +1,9 @@
 ghost use Rattle.std.specs.Prelude.{◌≡◌, ◌<◌, ◌≤◌, ◌+◌, ◌-◌, ◌↔◌, ◌⊎◌, ℕ, Some, length, slice_get, slice_index};
 ghost use Rattle.std.specs.Prelude.{MatchOption, IsOk, IfOk, IfErr, IsTrue};
-ghost use Rattle.cbpf_code.specs.Faults.{FirstFault, HasFault, IsReturn};
+ghost use Rattle.cbpf_code.specs.Faults.{FirstFault, HasFault, InsnHasFault, IsReturn};
 ghost use Rattle.cbpf_code.specs.Faults as spec;
 ghost use Rattle.cbpf_code.specs.Sound.{IsSound};
-ghost use Rattle.cbpf_code.specs.CheckSteps.{AllowedAt, IsAllowed, InsnHasFault};
+ghost use Rattle.cbpf_code.specs.CheckSteps.{AllowedAt, IsAllowed};
 ghost use Rattle.cbpf_code.specs.declared.checker.CheckFault.{CheckFault};
 
 use crate::extension::{FIRST_EXTENSION, ext_at};

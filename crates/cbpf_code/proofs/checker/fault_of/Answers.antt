@@ -7,16 +7,16 @@ use Rattle.cbpf_code.proofs.checker.fault_of.Goals.{else-from-ahead-via-else-fro
 pub returns-else-insn-ahead : goal.returns-else-insn-ahead
 returns-else-insn-ahead c =
     let target : IsTarget c.args.op c.args.insn c.args.i (c.args.i + 1 + c.args.insn.k) = rw c.in-Ja.is refl in
-    ((refl, (_, target, omega arith)), refl, refl)
+    ((_, target, omega arith), refl, refl)
 
 pub returns-else-from-ahead : goal.returns-else-from-ahead
 returns-else-from-ahead c = elim c.else-from-ahead.branch [
   | else-from-ahead-via-then-from-ahead+else-from-ahead-2 w ↦
       let target : IsTarget c.args.op c.args.insn c.args.i (c.args.i + 1 + c.args.insn.jf) =
       rw c.in-Jump.is (inr refl) in
-      ((refl, (_, target, omega arith)), refl, refl)
+      ((_, target, omega arith), refl, refl)
   | else-from-ahead-via-else-from-ahead w ↦
       let target : IsTarget c.args.op c.args.insn c.args.i (c.args.i + 1 + c.args.insn.jt) =
       rw c.in-Jump.is (inl refl) in
-      ((refl, (_, target, omega arith)), refl, refl)
+      ((_, target, omega arith), refl, refl)
 ]
