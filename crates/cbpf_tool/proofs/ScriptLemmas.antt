@@ -251,15 +251,15 @@ progress-start script pending left old f n e = record {
 }
 
 -- `line` is the slice of the line `held` that was read
-pub next-whole : (rest pending held line : List ℕ) (left : Option (List ℕ)) → line ≡ held → has_newline held ≡ false
+pub next-whole : {rest pending held line : List ℕ} {left : Option (List ℕ)} → line ≡ held → has_newline held ≡ false
     → (t : Took rest pending left (held ++ 10 ∷ [])) → lines rest ≡ line ∷ lines t.rest
-next-whole rest pending held line left e h t =
+next-whole {held = held} e h t =
     rw e (ap lines (t.split ∙ append_assoc held (10 ∷ []) t.rest) ∙ lines-plain held t.rest h)
 
-pub next-last : (rest held line : List ℕ) → line ≡ held → has_newline held ≡ false → (length held ≡ 0 → ⊥)
+pub next-last : {rest held line : List ℕ} → line ≡ held → has_newline held ≡ false → (length held ≡ 0 → ⊥)
     → rest ≡ held → lines rest ≡ line ∷ []
-next-last rest [] line l h s e = absurd (s refl)
-next-last rest (b ∷ bs) line l h s e = ap lines e ∙ lines-last b bs h ∙ sym (ap (λ (x : List ℕ). x ∷ []) l)
+next-last {held = []} l h s e = absurd (s refl)
+next-last {held = b ∷ bs} l h s e = ap lines e ∙ lines-last b bs h ∙ sym (ap (λ (x : List ℕ). x ∷ []) l)
 
 -- after the last flush
 pub ended : (script : List ℕ) (left old new new' : Option (List ℕ)) (f g : Source) (r : Result (Unit {0}) ToolFault)
