@@ -118,41 +118,25 @@ type Long = (
     Result<(usize, Fields), (AsmKind, u64)>,
 );
 
+const FAR: &[u8] = b"far: ret #0";
+
+const NEAR_AND_FAR: &[u8] = b"ld #1\njeq #1, near,\n far\nnear: ld #2\n";
+
 static LONG: [Long; 12] = [
-    (
-        b"jeq #0, far\n",
-        255,
-        b"far: ret #0",
-        Ok((0, (21, 255, 0, 0))),
-    ),
-    (b"jeq #0, far\n", 256, b"far: ret #0", Err((TooFar, 1))),
-    (b"ja far\n", 4094, b"far: ret #0", Ok((0, (5, 0, 0, 4094)))),
-    (b"ja far\n", 4095, b"far: ret #0", Err((TooMany, 4097))),
+    (b"jeq #0, far\n", 255, FAR, Ok((0, (21, 255, 0, 0)))),
+    (b"jeq #0, far\n", 256, FAR, Err((TooFar, 1))),
+    (b"ja far\n", 4094, FAR, Ok((0, (5, 0, 0, 4094)))),
+    (b"ja far\n", 4095, FAR, Err((TooMany, 4097))),
     // Either target can be too far, also one on a later line, and the one where `jne` does not hold.
-    (
-        b"ld #1\njeq #1, near,\n far\nnear: ld #2\n",
-        254,
-        b"far: ret #0",
-        Ok((1, (21, 0, 255, 1))),
-    ),
-    (
-        b"ld #1\njeq #1, near,\n far\nnear: ld #2\n",
-        255,
-        b"far: ret #0",
-        Err((TooFar, 3)),
-    ),
+    (NEAR_AND_FAR, 254, FAR, Ok((1, (21, 0, 255, 1)))),
+    (NEAR_AND_FAR, 255, FAR, Err((TooFar, 3))),
     (
         b"jeq #1, far,\n near\nnear: ld #2\n",
         255,
-        b"far: ret #0",
+        FAR,
         Err((TooFar, 1)),
     ),
-    (
-        b"ld #1\njne #1,\n far\nld #2\n",
-        255,
-        b"far: ret #0",
-        Err((TooFar, 3)),
-    ),
+    (b"ld #1\njne #1,\n far\nld #2\n", 255, FAR, Err((TooFar, 3))),
     (b"", 4096, b"", Ok((4095, (7, 0, 0, 0)))),
     (b"", 4097, b"", Err((TooMany, 4097))),
     // The line is that of the mnemonic; its label stands three lines above.

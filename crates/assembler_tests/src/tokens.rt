@@ -122,17 +122,26 @@ fn has_kinds(alloc: Global, text: &[u8], wanted: &[Kind]) -> bool {
     }
 }
 
-/// Whether the whole text is this number.
-fn is_number(alloc: Global, text: &[u8], value: u32) -> bool {
-    let wanted = Token {
-        kind: Kind::Number(value),
-        start: 0,
-        end: text.len(),
-    };
+/// Whether tokens are of these kinds, between these starts and ends.
+fn are_placed(found: &[Token], wanted: &[(Kind, usize, usize)]) -> bool {
+    for (token, row) in found.iter().zip(wanted) {
+        if (token.kind, token.start, token.end) != *row {
+            return false;
+        }
+    }
+    found.len() == wanted.len()
+}
+
+fn has_placed(alloc: Global, text: &[u8], wanted: &[(Kind, usize, usize)]) -> bool {
     match tokens(alloc, text) {
-        Ok(found) => found.as_slice() == [wanted].as_slice(),
+        Ok(found) => are_placed(&found, wanted),
         Err(_) => false,
     }
+}
+
+/// Whether the whole text is this number.
+fn is_number(alloc: Global, text: &[u8], value: u32) -> bool {
+    has_placed(alloc, text, &[(Kind::Number(value), 0, text.len())])
 }
 
 fn is_bad(alloc: Global, text: &[u8], bad: BadPiece, line: u64) -> bool {
@@ -160,31 +169,10 @@ fn each_fault(rt: HostRuntime) {
     }
 }
 
-/// The tokens of `ld #0x5`.
-static PLACED: [Token; 3] = [
-    Token {
-        kind: WORD,
-        start: 0,
-        end: 2,
-    },
-    Token {
-        kind: HASH,
-        start: 3,
-        end: 4,
-    },
-    Token {
-        kind: Kind::Number(5),
-        start: 4,
-        end: 7,
-    },
-];
-
 #[test]
 fn each_place(rt: HostRuntime) {
-    match tokens(rt.alloc(), b"ld #0x5") {
-        Ok(found) => assert!(rt; found.as_slice() == PLACED.as_slice()),
-        Err(_) => assert!(rt; false),
-    }
+    let placed = [(WORD, 0, 2), (HASH, 3, 4), (Kind::Number(5), 4, 7)];
+    assert!(rt; has_placed(rt.alloc(), b"ld #0x5", &placed));
 }
 
 /// A piece many times, between a first and a last one, and the number of tokens. A lexer that goes back over

@@ -1,7 +1,7 @@
-use crate::assertions::Test;
+use crate::assertions::{Test, assert_at};
 use crate::lists::{Fields, list_of};
 use WordFault::{CommaExpected, CountDiffers, NumberExpected, OutOfRange, UnexpectedByte};
-use cbpf_code::{Insn, WordFault, read_words};
+use cbpf_code::{WordFault, read_words};
 
 /// Word texts with their instructions, or their fault.
 static TEXTS: [(&[u8], Result<&[Fields], WordFault>); 31] = [
@@ -44,27 +44,18 @@ static TEXTS: [(&[u8], Result<&[Fields], WordFault>); 31] = [
     (b" 4 ", Err(CommaExpected(3))),
 ];
 
-fn assert_read(rt: &impl Test, text: &[u8], wanted: &[Insn], row: usize) {
-    match read_words(rt.alloc(), text) {
-        Ok(list) => assert!(rt; list.as_slice() == wanted, "row {row}"),
-        Err(_) => assert!(rt; false, "row {row}"),
+/// Whether a text is read as these instructions, or refused so.
+fn is_answered(rt: &impl Test, text: &[u8], wanted: &Result<&[Fields], WordFault>) -> bool {
+    match (read_words(rt.alloc(), text), wanted) {
+        (Ok(list), Ok(fields)) => list.as_slice() == list_of(rt, fields).as_slice(),
+        (Err(found), Err(fault)) => found == *fault,
+        _ => false,
     }
-}
-
-fn assert_refused(rt: &impl Test, text: &[u8], fault: WordFault, row: usize) {
-    let found = read_words(rt.alloc(), text).err();
-    assert!(rt; found == Some(fault), "row {row}");
 }
 
 #[test]
 fn worked_texts(rt: HostRuntime) {
     for (row, (text, wanted)) in TEXTS.iter().enumerate() {
-        match wanted {
-            Ok(fields) => {
-                let list = list_of(&rt, fields);
-                assert_read(&rt, text, &list, row);
-            }
-            Err(fault) => assert_refused(&rt, text, *fault, row),
-        }
+        assert_at(&rt, row, is_answered(&rt, text, wanted));
     }
 }

@@ -60,10 +60,8 @@ fn forms_of_instructions(rt: HostRuntime) {
         let mut text = Vec::new(rt.alloc());
         assert!(rt; write_words(&mut text, &list).is_ok());
         assert!(rt; text.as_slice() == *words, "row {row}");
-        match read_words(rt.alloc(), &text) {
-            Ok(back) => assert!(rt; back.as_slice() == list.as_slice(), "row {row}"),
-            Err(_) => assert!(rt; false, "row {row}"),
-        }
+        let back = read_words(rt.alloc(), &text).expect(&rt, "a list");
+        assert!(rt; back.as_slice() == list.as_slice(), "row {row}");
         let mut text = Vec::new(rt.alloc());
         assert!(rt; write_c(&mut text, &list).is_ok());
         assert!(rt; text.as_slice() == *c, "row {row}");
