@@ -16,7 +16,8 @@ use Rattle.cbpf_syntax.specs.Laws.{EachParsed}
 use Rattle.cbpf_syntax.proofs.Elements.{any_element, some_element}
 use Rattle.cbpf_syntax.proofs.Apart.{no_classes}
 use Rattle.cbpf_syntax.proofs.Greedy.{Greedy}
-use Rattle.cbpf_syntax.proofs.Steps.{some_known, bare_front, bare_whole, form_of, name_stuck, label_stuck, label_item, end_stuck}
+use Rattle.cbpf_syntax.proofs.Steps.{some_known, bare_front, bare_whole, form_of, name_stuck, label_stuck, label_item}
+use Rattle.cbpf_syntax.proofs.Steps.{end_stuck}
 use Rattle.cbpf_syntax.proofs.Refused.{greedy_more, greedy_all, next_some, stuck_at, large_within, large_first}
 use Rattle.cbpf_syntax.proofs.Refused.{misplaced_first, unfinished_first, items_accepted, items_large}
 use Rattle.cbpf_syntax.proofs.Cuts.{some-same}
@@ -75,11 +76,10 @@ base_step t ts s = by_whole (cases_Bool (some_whole (take front.0 (t ∷ ts))))
             both_ways _ other (any_element (λ r. fits_all (classes r) (t ∷ take n ts)) table i.row form.row fit)
 
 bare_step : (t : Lexeme) (ts : List Lexeme) → starts_with_colon ts ≡ false → Front (t ∷ ts)
-bare_step t ts c = by_name (fits name t.symbol) refl
-  where
-    by_name : (b : Bool) → fits name t.symbol ≡ b → Front (t ∷ ts)
-    by_name true e = inr (1, name_stuck t ts e c)
-    by_name false e = base_step t ts e
+bare_step t ts c = elim (cases_Bool (fits name t.symbol)) [
+  | inl e ↦ inr (1, name_stuck t ts e c)
+  | inr e ↦ base_step t ts e
+]
 
 -- a label and its colon before a step
 label_step : (t u : Lexeme) (ts : List Lexeme) → fits name t.symbol ≡ true → fits (the_mark 58) u.symbol ≡ true
@@ -87,21 +87,16 @@ label_step : (t u : Lexeme) (ts : List Lexeme) → fits name t.symbol ≡ true �
 label_step t u ts a b (inl p) = inl (suc (suc p.0), _, label_item t u ts p.0 p.1 a b p.2)
 label_step t u ts a b (inr p) = inr (suc (suc p.0), label_stuck t u ts p.0 a b p.1)
 
-two_step : (t u : Lexeme) (ts : List Lexeme) → Front ts → Front (t ∷ u ∷ ts)
-two_step t u ts rest = by_colon (fits (the_mark 58) u.symbol) refl
-  where
-    by_name : (b : Bool) → fits name t.symbol ≡ b → fits (the_mark 58) u.symbol ≡ true → Front (t ∷ u ∷ ts)
-    by_name true e c = label_step t u ts e c rest
-    by_name false e c = base_step t (u ∷ ts) e
-
-    by_colon : (b : Bool) → fits (the_mark 58) u.symbol ≡ b → Front (t ∷ u ∷ ts)
-    by_colon true c = by_name (fits name t.symbol) refl c
-    by_colon false c = bare_step t (u ∷ ts) c
-
 step : (ts : List Lexeme) → Front ts
 step [] = inr (0, end_stuck)
 step (t ∷ []) = bare_step t [] refl
-step (t ∷ u ∷ ts) = two_step t u ts (step ts)
+step (t ∷ u ∷ ts) = elim (cases_Bool (fits (the_mark 58) u.symbol)) [
+  | inl c ↦ elim (cases_Bool (fits name t.symbol)) [
+    | inl e ↦ label_step t u ts e c (step ts)
+    | inr e ↦ base_step t (u ∷ ts) e
+  ]
+  | inr c ↦ bare_step t (u ∷ ts) c
+]
 
 -- the tokens are items, or don't go on at a place; of those after the ones that were read there are so many at most
 reach : (ts : List Lexeme) (left at : ℕ) (is : List Item) → length ts ≤ at + left → Greedy ts is (drop at ts)

@@ -152,7 +152,8 @@ reserved_name cs ds e = absurd cc
 pub readings_apart : (m n : ℕ) (r s : Row) → Contains table r → Contains table s
     → ((m ≡ n) × (r ≡ s)) ⊎ (apart (classes_of m r) (classes_of n s) ≡ true)
 readings_apart zero zero r s p q = elim (rows_apart r s p q) [ inl e ↦ inl (refl, e) | inr a ↦ inr a ]
-readings_apart zero (suc n) r s p q = inr ((reserved_name (classes r) (the_mark 58 ∷ classes_of n s) (row_starts r p)).0)
+readings_apart zero (suc n) r s p q =
+    inr ((reserved_name (classes r) (the_mark 58 ∷ classes_of n s) (row_starts r p)).0)
 readings_apart (suc m) zero r s p q =
     inr ((reserved_name (classes s) (the_mark 58 ∷ classes_of m r) (row_starts s q)).1)
 readings_apart (suc m) (suc n) r s p q =

@@ -1,8 +1,8 @@
 -- A whole row after which no comma stands has more tokens that fit than any other.
-use Rattle.std.proofs.Common.{◌≡◌, ℕ, zero, suc, ◌+◌, ◌<◌, ◌≤◌, Bool, true, false, not, ◌||◌, cond, List, [], ◌∷◌}
+use Rattle.std.proofs.Common.{◌≡◌, ℕ, zero, suc, ◌+◌, ◌<◌, ◌≤◌, Bool, true, false, not, ◌||◌, List, [], ◌∷◌}
 use Rattle.std.proofs.Common.{length, map, take, drop, refl, arith, ap, sym, ◌∙◌, inl, inr, subst, get_or, flat_map}
 use Rattle.std.specs.Prelude.{Contains, bytes_eq}
-use Rattle.std.proofs.lemmas.Bool.{both_ways}
+use Rattle.std.proofs.lemmas.Bool.{both_ways, cases_Bool}
 use Rattle.std.proofs.lemmas.List.{take-append-drop}
 use Rattle.std.proofs.lemmas.List.Elements.{Contains-append_left}
 use Rattle.cbpf_syntax.specs.declared.choice.Match.{Match}
@@ -31,30 +31,28 @@ none_after [] n l = refl
 none_after (t ∷ ts) zero l = absurd (omega arith)
 none_after (t ∷ ts) (suc n) l = none_after ts n (omega arith)
 
-comma_stops : (t : Bool) (k : ℕ) → (t ≡ true → ⊥) → cond t (1 + k) 0 ≤ 0
-comma_stops true k other = absurd (other refl)
-comma_stops false k other = omega arith
-
-goes_step : (t : Bool) (k n : ℕ) → (t ≡ true → k ≤ n) → cond t (1 + k) 0 ≤ suc n
-goes_step true k n l = let m = l refl in omega (arith, m)
-goes_step false k n l = omega arith
-
-whole_step : (t : Bool) (k n : ℕ) → cond t (1 + k) 0 ≡ suc n → (t ≡ true) × (k ≡ n)
-whole_step true k n e = (refl, omega (arith, e))
-whole_step false k n e = absurd (omega (arith, e))
-
 apart_rest : (a b : Bool) → a ≡ true → (not a || b) ≡ true → b ≡ true
 apart_rest true b e h = h
 apart_rest false b e h = cc
 
 most : (cs ds : List Class) (ts : List Lexeme) → apart cs ds ≡ true → common ds ts ≡ length ds
     → is_comma_at ts (length ds) ≡ false → common cs ts ≤ length ds
-most (c ∷ cs) [] (t ∷ ts) a w n =
-    comma_stops (fits c t.symbol) (common cs ts) (λ f. both_ways _ n (comma_only c t.symbol a f))
-most (c ∷ cs) (d ∷ ds) (t ∷ ts) a w n =
-    let p = whole_step (fits d t.symbol) (common ds ts) (length ds) w in
-    goes_step (fits c t.symbol) (common cs ts) (length ds)
-    (λ f. most cs ds ts (apart_rest (overlap c d) (apart cs ds) (overlap_sound t.symbol c d f p.0) a) p.1 n)
+most (c ∷ cs) [] (t ∷ ts) a w n = elim (cases_Bool (fits c t.symbol)) [
+  | inl f ↦ absurd (both_ways _ n (comma_only c t.symbol a f))
+  | inr f ↦ rw f (omega arith)
+]
+most (c ∷ cs) (d ∷ ds) (t ∷ ts) a w n = elim (cases_Bool (fits d t.symbol)) [
+  | inr g ↦ let none : 0 ≡ suc (length ds) = rw g at w in absurd (omega arith)
+  | inl g ↦
+      let all : 1 + common ds ts ≡ suc (length ds) = rw g at w in
+      elim (cases_Bool (fits c t.symbol)) [
+        | inl f ↦
+            let rest = apart_rest (overlap c d) (apart cs ds) (overlap_sound t.symbol c d f g) a in
+            let more = most cs ds ts rest (omega arith) n in
+            rw f (omega arith)
+        | inr f ↦ rw f (omega arith)
+      ]
+]
 most cs ds ts a w n = omega arith
 
 same_words : (v w : List ℕ) → v ≡ w → bytes_eq v w ≡ true

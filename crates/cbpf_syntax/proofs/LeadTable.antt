@@ -1,7 +1,7 @@
 -- The table of first bytes is held against the definition at each of the 256 bytes, by computing.
-use Rattle.std.proofs.Common.{rules, ◌≡◌, ◌≢◌, ℕ, zero, suc, ◌<◌, Bool, true, false, get_or, refl, ap, sym, ◌∙◌}
+use Rattle.std.proofs.Common.{rules, ◌≡◌, ◌≢◌, ℕ, ◌<◌, Bool, true, false, get_or, refl}
 use Rattle.std.specs.Prelude.{◌==◌, if◌then◌else◌}
-use Rattle.std.proofs.lemmas.Bool.{agree_below, agree_below_at, eqb-true, ne_eqb}
+use Rattle.std.proofs.lemmas.Bool.{agree_below, agree_below_at, ne_eqb}
 use Rattle.cbpf_syntax.specs.declared.piece.TheConstants.{LEADS}
 use Rattle.cbpf_syntax.specs.declared.piece.Lead.{Lead}
 use Rattle.cbpf_syntax.specs.declared.piece.Lead.TheVariants.{Blank, LineComment, Letter, Digit, Slash, Single, Other}
@@ -24,20 +24,15 @@ number_of Slash = 4
 number_of Single = 5
 number_of Other = 6
 
-abbrev lead_at : ℕ → Lead
-lead_at zero = Blank
-lead_at (suc zero) = LineComment
-lead_at (suc (suc zero)) = Letter
-lead_at (suc (suc (suc zero))) = Digit
-lead_at (suc (suc (suc (suc zero)))) = Slash
-lead_at (suc (suc (suc (suc (suc zero))))) = Single
-lead_at (suc (suc (suc (suc (suc (suc n)))))) = Other
-
-numbered : (l : Lead) → lead_at (number_of l) ≡ l
-numbered l = search (rules)
-
 pub same_lead : (l m : Lead) → (number_of l == number_of m) ≡ true → l ≡ m
-same_lead l m h = sym (numbered l) ∙ ap lead_at (eqb-true (number_of l) (number_of m) h) ∙ numbered m
+same_lead Blank Blank h = refl
+same_lead LineComment LineComment h = refl
+same_lead Letter Letter h = refl
+same_lead Digit Digit h = refl
+same_lead Slash Slash h = refl
+same_lead Single Single h = refl
+same_lead Other Other h = refl
+same_lead l m h = cc
 
 -- the two leads are the same at each byte
 agree : (f g : ℕ → Lead) (b : ℕ) → agree_below (λ k. number_of (f k) == number_of (g k)) (λ k. true) 256 ≡ true
@@ -50,15 +45,9 @@ letter_lead true b lt = agree (λ k. by_letter true (get_or LEADS k 0)) (lead_of
 letter_lead false b lt = agree (λ k. by_letter false (get_or LEADS k 0)) (lead_of false) b refl lt
 
 -- a letter that says nothing else
-other_letter : (fresh : Bool) (g : ℕ) → g ≢ 76 → g ≢ 68 → g ≢ 77 → g ≢ 66 → g ≢ 67 → g ≢ 72 → g ≢ 83
+pub other_letter : (fresh : Bool) (g : ℕ) → g ≢ 76 → g ≢ 68 → g ≢ 77 → g ≢ 66 → g ≢ 67 → g ≢ 72 → g ≢ 83
     → by_letter fresh g ≡ Other
 other_letter fresh g h1 h2 h3 h4 h5 h6 h7 = search (rules, ne_eqb)
-
-pub other_lead : (fresh : Bool) (b : ℕ) → b < 256 → get_or LEADS b 0 ≢ 76 → get_or LEADS b 0 ≢ 68
-    → get_or LEADS b 0 ≢ 77 → get_or LEADS b 0 ≢ 66 → get_or LEADS b 0 ≢ 67 → get_or LEADS b 0 ≢ 72
-    → get_or LEADS b 0 ≢ 83 → Other ≡ lead_of fresh b
-other_lead fresh b lt n76 n68 n77 n66 n67 n72 n83 =
-    sym (other_letter fresh (get_or LEADS b 0) n76 n68 n77 n66 n67 n72 n83) ∙ letter_lead fresh b lt
 
 pub blank_lead : (fresh : Bool) (b : ℕ) → is_blank b ≡ true → lead_of fresh b ≡ Blank
 blank_lead fresh b e = rw e refl

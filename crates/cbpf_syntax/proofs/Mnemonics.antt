@@ -1,19 +1,19 @@
 -- The rows of a mnemonic, and that no two mnemonics have one word.
-use Rattle.std.proofs.Common.{rules, ◌≡◌, ℕ, ◌<◌, ◌≤◌, Bool, true, false, not, cond, map, ◌&&◌, ◌||◌, List}
+use Rattle.std.proofs.Common.{rules, ◌≡◌, ℕ, ◌<◌, Bool, true, false, not, cond, map, ◌&&◌, ◌||◌, List}
 use Rattle.std.proofs.Common.{[], ◌∷◌, length, refl, arith, ap, sym, ◌∙◌, inl, inr, get_or, ltb-true, ◌-◌, Option}
 use Rattle.std.proofs.Common.{Some, None, Bor}
 use Rattle.std.specs.Prelude.{IfSome, IfNone}
 use Rattle.cbpf_syntax.specs.declared.table.Mnemonic as declared_mnemonic
 use Rattle.cbpf_syntax.specs.Views.{mnemonic_of}
 use Rattle.std.specs.Prelude.{Contains, nat_lt, nat_le, bytes_eq, MatchOption, slice_index}
-use Rattle.std.proofs.lemmas.Bool.Decides.{nat_tests}
 use Rattle.std.specs.List.{list_all, filter}
-use Rattle.std.proofs.lemmas.Bool.{and_parts}
+use Rattle.std.proofs.lemmas.Bool.{and_parts, both_ways, false_from_ne_true, leb-true, or_from}
 use Rattle.cbpf_syntax.specs.Fits.{is_one_of, mnemonic_words, is_reserved, extension_names}
 use Rattle.cbpf_syntax.specs.Table.{Row, Mnemonic, mnemonics, table, rows_of, entry_rows, operand_words}
 use Rattle.cbpf_syntax.specs.Initials.{begins_with, is_first}
 use Rattle.cbpf_syntax.proofs.Apart.{bytes_eq_self, equal_bytes}
-use Rattle.cbpf_syntax.proofs.Elements.{all_pairs, same_or_pair, first_element, later_element, which_element, from_map, into_map}
+use Rattle.cbpf_syntax.proofs.Elements.{all_pairs, same_or_pair, first_element, later_element, which_element, from_map}
+use Rattle.cbpf_syntax.proofs.Elements.{into_map}
 use Rattle.cbpf_syntax.proofs.Elements.{from_flat_map, into_flat_map, any_element, some_element, list_all_at}
 use Rattle.std.specs.Option.{is_some}
 use Rattle.cbpf_code.specs.declared.extension.Ext.{Ext}
@@ -78,18 +78,14 @@ mnemonic_test w (Some m) f g h = sym (word_listed w (mnemonic_of m.now) f g)
 
 -- no mnemonic is longer than 4 bytes
 pub long_word : (w : List ℕ) → 4 < length w → is_one_of mnemonic_words w ≡ false
-long_word w h = by_test (is_one_of mnemonic_words w) refl
-  where
-    by_test : (t : Bool) → is_one_of mnemonic_words w ≡ t → t ≡ false
-    by_test false e = refl
-    by_test true e =
-        let s = some_element (λ v. bytes_eq w v) mnemonic_words e in
-        let m = from_map (λ (n : Mnemonic). n.word) mnemonics s.0 s.1 in
-        let short : nat_le (length m.0.word) 4 ≡ true = rw m.1.2 at
-        (list_all_at (λ (n : Mnemonic). nat_le (length n.word) 4) mnemonics m.1.0 m.0 words_short m.1.1) in
-        let same : length w ≡ length m.0.word = ap length (equal_bytes w s.0 s.2 ∙ sym m.2) in
-        let most : length m.0.word ≤ 4 = grind (arith, nat_tests) in
-        absurd (omega (arith, most, same))
+long_word w h = false_from_ne_true (is_one_of mnemonic_words w) (λ e.
+    let s = some_element (λ v. bytes_eq w v) mnemonic_words e in
+    let m = from_map (λ (n : Mnemonic). n.word) mnemonics s.0 s.1 in
+    let short : nat_le (length m.0.word) 4 ≡ true = rw m.1.2 at
+    (list_all_at (λ (n : Mnemonic). nat_le (length n.word) 4) mnemonics m.1.0 m.0 words_short m.1.1) in
+    let same : length w ≡ length m.0.word = ap length (equal_bytes w s.0 s.2 ∙ sym m.2) in
+    let most = leb-true (length m.0.word) 4 short in
+    omega (arith, most, same))
 
 -- the empty word is no mnemonic
 pub no_word : (w : List ℕ) → length w ≡ 0 → is_one_of mnemonic_words w ≡ false
@@ -149,13 +145,10 @@ extension_test w o h1 = search (rules, listed_name, name_listed)
 not_listed : (p : List ℕ → Bool) (words : List (List ℕ)) (w : List ℕ) → list_all p words ≡ true → p w ≡ false
     → is_one_of words w ≡ false
 not_listed p [] w all fails = refl
-not_listed p (v ∷ vs) w all fails = by_test (bytes_eq w v) refl (not_listed p vs w (and_parts (p v) _ all).1 fails)
-  where
-    by_test : (t : Bool) → bytes_eq w v ≡ t → is_one_of vs w ≡ false → (t || is_one_of vs w) ≡ false
-    by_test true e h =
-        let k : true ≡ false = sym (and_parts (p v) _ all).0 ∙ (ap p (sym (equal_bytes w v e)) ∙ fails) in
-        cc
-    by_test false e h = h
+not_listed p (v ∷ vs) w all fails = or_from (bytes_eq w v) (is_one_of vs w)
+    (false_from_ne_true (bytes_eq w v) (λ e.
+    both_ways (p v) (ap p (sym (equal_bytes w v e)) ∙ fails) (and_parts (p v) _ all).0))
+    (not_listed p vs w (and_parts (p v) _ all).1 fails)
 
 -- the last byte is greater than 57, which is `9`
 abbrev above_digits : List ℕ → Bool

@@ -3,12 +3,12 @@ use Rattle.std.proofs.Common.{rules, ◌≡◌, ℕ, zero, suc, ◌+◌, ◌-◌
 use Rattle.std.proofs.Common.{map, refl, arith, sym, inl, inr, subst, append-nil, length-drop}
 use Rattle.std.proofs.Common.{get_or, Some, None}
 use Rattle.std.proofs.lemmas.List.{take-append-drop, take_all, drop_all, drop-drop, take-take}
-use Rattle.std.specs.Prelude.{Option, option_map, slice_get}
-use Rattle.std.proofs.lemmas.Option.{slice_get-map, slice_get-get_or, slice_get_within}
+use Rattle.std.specs.Prelude.{Option}
+use Rattle.std.proofs.lemmas.Option.{slice_get-map, slice_get-get_or, slice_get_past}
 use Rattle.std.proofs.lemmas.Bool.{cases_lt}
 use Rattle.cbpf_syntax.specs.declared.lexeme.Lexeme as declared_lexeme
 use Rattle.cbpf_syntax.specs.Refusals.ParseFault.{Misplaced, LargeNegative, Unfinished}
-use Rattle.cbpf_syntax.specs.Lexemes.{Lexeme}
+use Rattle.cbpf_syntax.specs.Lexemes.{Symbol, Lexeme}
 use Rattle.cbpf_syntax.specs.Items.{Item, Items, BeginsItems}
 use Rattle.cbpf_syntax.specs.Views.{symbol_of, lexeme_of}
 use Rattle.cbpf_syntax.specs.Steps.{Stuck, IsNextItem}
@@ -35,12 +35,12 @@ pub not_large_here : (ts : List declared_lexeme.Lexeme) (i : ℕ) (d e : declare
 not_large_here ts i d e h1 h2 h3 h4 = search (rules, some-same, symbol_at_get)
 
 pub large_within : (ts : List Lexeme) (i : ℕ) → IsLargeNegative ts i → i < length ts
-large_within ts i h = by_token (slice_get ts i) refl h.digits_at
-  where
-    by_token : (o : Option Lexeme) → slice_get ts i ≡ o → option_map (λ (t : Lexeme). t.symbol) o ≡ Some h.digits
-        → i < length ts
-    by_token (Some t) e q = slice_get_within ts i t e
-    by_token None e q = absurd cc
+large_within ts i h = elim (cases_lt i (length ts)) [
+  | inl l ↦ l
+  | inr past ↦
+      let none : ◌≡◌ {A = Option Symbol} None (Some h.digits) = rw (slice_get_past ts i past) at h.digits_at in
+      absurd cc
+]
 
 -- Where the tokens begin items up to a place, and no literal before one is too large, nothing is refused before that.
 not_before : (ts : List Lexeme) (s i : ℕ) → BeginsItems (take s ts) → i ≤ s → s ≤ length ts

@@ -22,20 +22,20 @@ use Rattle.cbpf_syntax.specs.declared.piece.Lead.{Lead}
 use Rattle.cbpf_syntax.specs.declared.piece.Lead.TheVariants.{Blank, LineComment, Letter, Digit, Slash, Single, Other}
 use Rattle.std.proofs.lemmas.List.Sums.{prefix_len-le-length, prefix_len_stops}
 use Rattle.std.proofs.lemmas.List.Folds.{list_all_at}
+use Rattle.std.proofs.Common.{inl, inr}
+use Rattle.std.proofs.lemmas.Bool.{cases_Bool}
 use Rattle.std.proofs.lemmas.List.{take_all, drop_all, drop_more, get_or-take}
 use Rattle.cbpf_syntax.specs.declared.token.Token.{Token}
 use Rattle.cbpf_syntax.specs.Tokens.{LexesTo}
 use Rattle.cbpf_syntax.proofs.Cuts.{piece_at, piece_more}
 
 -- the run that prefix_len finds passes, and no longer one does
-whole_step : (p : ℕ → Bool) (b : ℕ) (bs : List ℕ) (t : Bool) → p b ≡ t → list_all p (take (prefix_len p bs) bs) ≡ true
-    → list_all p (take (cond t (1 + prefix_len p bs) 0) (b ∷ bs)) ≡ true
-whole_step p b bs true e h = rw (one-add, e) h
-whole_step p b bs false e h = refl
-
 pub run_whole : (p : ℕ → Bool) (bs : List ℕ) → list_all p (take (prefix_len p bs) bs) ≡ true
 run_whole p [] = refl
-run_whole p (b ∷ bs) = whole_step p b bs (p b) refl (run_whole p bs)
+run_whole p (b ∷ bs) = elim (cases_Bool (p b)) [
+  | inl e ↦ rw (e, one-add) (rw (e, run_whole p bs) refl)
+  | inr e ↦ rw e refl
+]
 
 pub run_longer : (p : ℕ → Bool) (bs : List ℕ) (n : ℕ) → n ≤ length bs → prefix_len p bs < n
     → list_all p (take n bs) ≡ false
@@ -165,18 +165,16 @@ run_of_none text at l e = rw (drop_more text at 0 l, e) (omega arith)
 pub over_blanks : (text : List ℕ) (from at : ℕ) → at < length text
     → ((ts : List Token) → LexesTo text from ts → LexesTo text at ts) → (ts : List Token) → LexesTo text from ts
     → LexesTo text (run_end text at) ts
-over_blanks text from at l more = by_first (is_blank (get_or text at 0)) refl
-  where
-    by_first : (t : Bool) → is_blank (get_or text at 0) ≡ t → (ts : List Token) → LexesTo text from ts
-        → LexesTo text (run_end text at) ts
-    by_first false e ts lexed = rw (run_of_none text at l e) (more ts lexed)
-    by_first true e ts lexed =
-        let fresh = is_line_blank (take at text) in
-        let b = get_or text at 0 in
-        let next = piece_at text at _ l (led_next fresh b (drop (at + 1) text) Blank (blank_lead fresh b e)) in
-        let size : run_end text at ≡ at + (1 + prefix_len is_blank (drop (at + 1) text)) =
-        rw (drop_more text at 0 l, e) refl in
-        rw size (piece_more text from at _ more next refl (λ k q. cc) ts lexed)
+over_blanks text from at l more ts lexed = elim (cases_Bool (is_blank (get_or text at 0))) [
+  | inr e ↦ rw (run_of_none text at l e) (more ts lexed)
+  | inl e ↦
+      let fresh = is_line_blank (take at text) in
+      let b = get_or text at 0 in
+      let next = piece_at text at _ l (led_next fresh b (drop (at + 1) text) Blank (blank_lead fresh b e)) in
+      let size : run_end text at ≡ at + (1 + prefix_len is_blank (drop (at + 1) text)) =
+      rw (drop_more text at 0 l, e) refl in
+      rw size (piece_more text from at _ more next refl (λ k q. cc) ts lexed)
+]
 
 pub to_run_end : (text : List ℕ) (from at : ℕ) → at ≤ length text
     → ((ts : List Token) → LexesTo text from ts → LexesTo text at ts) → (ts : List Token) → LexesTo text from ts

@@ -56,7 +56,7 @@ static LEADS: [u8; 256] = *b"\
 /// What a byte after these says of the piece that it begins.
 // Only a `#` has to be looked at with the line before it.
 #[inline(always)]
-#[tactic(auto, using(crate::proofs::LeadTable::letter_lead, crate::proofs::LeadTable::other_lead))]
+#[tactic(auto, using(crate::proofs::LeadTable::letter_lead, crate::proofs::LeadTable::other_letter))]
 fn lead_of(before: &[u8], b: u8) -> Lead
     ensures { result ≡ lead_of (is_line_blank before.now) b }
 {

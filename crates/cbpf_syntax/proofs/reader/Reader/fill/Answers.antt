@@ -27,8 +27,8 @@ returns-in-Ok-clause-reading g c =
     let s = c.self.inside in
     let same = sym (kept g (goal.at.returns-in-Ok-clause-reading g c).After-truncate) in
     rw (← c.self.view_is) (λ n r. record {
-      read = c.in-Ok.ensures.read n
-          (subst (λ (us : List declared_lexeme.Lexeme). AreAhead s.text.now s.lexer.at n (map lexeme_of us)) same r.read);
+      read = c.in-Ok.ensures.read n (subst (λ (us : List declared_lexeme.Lexeme).
+          AreAhead s.text.now s.lexer.at n (map lexeme_of us)) same r.read);
       end = c.in-Ok.ensures.end;
       last = r.last;
       large = r.large;
