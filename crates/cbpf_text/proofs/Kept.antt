@@ -10,7 +10,7 @@ use Rattle.cbpf_syntax.specs.Views.{lexeme_of}
 use Rattle.cbpf_text.specs.declared.name.Name.{Name}
 use Rattle.cbpf_text.specs.declared.fault.AsmKind.TheVariants as kinds
 use Rattle.cbpf_text.specs.Labels.{set_labels, AreDistinct}
-use Rattle.cbpf_text.specs.Tables.{PlacedLabel, labels_of, labels_from, Resolves}
+use Rattle.cbpf_text.specs.Tables.{SetLabel, labels_of, labels_from, Resolves}
 use Rattle.cbpf_text.specs.declared.draft.Statement.{Statement}
 use Rattle.cbpf_text.specs.Drafts.{IsStatement, AreSet, IsKept}
 use Rattle.cbpf_text.specs.Refusals.{IsItemsFault, IsFirstRepeat, IsExcess}
@@ -37,7 +37,7 @@ none_if (Some x) h = absurd (h x refl)
 -- one more label
 pub kept_label : (ss : List Statement) (rep rep2 : Option ℕ) (look look2 : Name → Option ℕ) (is : List Item)
     (ws : List Lexeme) (word : Lexeme) (place : ℕ) → IsKept ss rep look is ws → place ≡ length ss
-    → ((all : List PlacedLabel) → AreSet all rep look
+    → ((all : List SetLabel) → AreSet all rep look
     → AreSet (all ++ (record { word = word; place = place } ∷ [])) rep2 look2)
     → IsKept ss rep2 look2 is (ws ++ (word ∷ []))
 kept_label ss rep rep2 look look2 is ws word place h1 h2 h3 = search (rules, statements_size, append_assoc, map-append)
@@ -73,7 +73,7 @@ module _ {ss : List Statement} {rep : Option ℕ} {look : Name → Option ℕ} {
   kept_length some = record { some = omega (arith, statements_size ss is k.same, some); most = k.most }
 
   kept_labels : AreSet (labels_from 0 is) rep look
-  kept_labels = subst (λ (us : List PlacedLabel). AreSet us rep look) (append-nil (labels_from 0 is)) k.set
+  kept_labels = subst (λ (us : List SetLabel). AreSet us rep look) (append-nil (labels_from 0 is)) k.set
 
   -- where a label is set a second time, and where none is
   pub kept_repeat : (at : ℕ) → rep ≡ Some at → HasProgramLength is → IsItemsFault is kinds.LabelSetTwice at

@@ -8,7 +8,7 @@ use Rattle.cbpf_syntax.specs.Lexemes.{Lexeme}
 use Rattle.cbpf_syntax.proofs.Apart.{equal_bytes, bytes_eq_self}
 use Rattle.cbpf_text.specs.Labels.{name_of, times_among, AreDistinct, set_labels, times_set, SetsAt}
 use Rattle.cbpf_text.specs.Drafts.{set_words, AreSet}
-use Rattle.cbpf_text.specs.Tables.{PlacedLabel, place_among, labels_of, labels_from, IsLookup}
+use Rattle.cbpf_text.specs.Tables.{SetLabel, place_among, labels_of, labels_from, IsLookup}
 use Rattle.std.proofs.lemmas.List.{map-append}
 use Rattle.cbpf_syntax.specs.Items.{Item}
 use Rattle.cbpf_text.specs.declared.name.Name.{Name}
@@ -67,7 +67,7 @@ abbrev pub or_else : Option ℕ → Option ℕ → Option ℕ
 or_else None o = o
 or_else (Some x) o = Some x
 
-pub place_append : (xs ys : List PlacedLabel) (name : List ℕ)
+pub place_append : (xs ys : List SetLabel) (name : List ℕ)
     → place_among (xs ++ ys) name ≡ or_else (place_among xs name) (place_among ys name)
 place_append [] ys name = refl
 place_append (x ∷ xs) ys name = by_test (bytes_eq (name_of x.word) name) (place_append xs ys name)
@@ -79,8 +79,7 @@ place_append (x ∷ xs) ys name = by_test (bytes_eq (name_of x.word) name) (plac
     by_test false e = e
 
 -- a name that no label gives, and one that a label gives
-pub no_place : (ls : List PlacedLabel) (name : List ℕ) → place_among ls name ≡ None
-    → times_among (set_words ls) name ≡ 0
+pub no_place : (ls : List SetLabel) (name : List ℕ) → place_among ls name ≡ None → times_among (set_words ls) name ≡ 0
 no_place [] name e = refl
 no_place (l ∷ ls) name e = by_test (bytes_eq (name_of l.word) name) refl e (λ p. no_place ls name p)
   where
@@ -89,7 +88,7 @@ no_place (l ∷ ls) name e = by_test (bytes_eq (name_of l.word) name) refl e (λ
     by_test true q p again = let k : ◌≡◌ {A = Option ℕ} (Some l.place) None = p in cc
     by_test false q p again = omega (arith, times_cons l.word (set_words ls) name, times_miss l.word name q, again p)
 
-pub some_place : (ls : List PlacedLabel) (name : List ℕ) (p : ℕ) → place_among ls name ≡ Some p
+pub some_place : (ls : List SetLabel) (name : List ℕ) (p : ℕ) → place_among ls name ≡ Some p
     → times_among (set_words ls) name ≢ 0
 some_place [] name p e = let k : ◌≡◌ {A = Option ℕ} None (Some p) = e in cc
 some_place (l ∷ ls) name p e = by_test (bytes_eq (name_of l.word) name) refl e (λ q. some_place ls name p q)
@@ -101,7 +100,7 @@ some_place (l ∷ ls) name p e = by_test (bytes_eq (name_of l.word) name) refl e
     by_test false q r again z = again r (omega (arith, times_cons l.word (set_words ls) name, z))
 
 -- a new name after the labels
-pub place_more : (ls : List PlacedLabel) (l : PlacedLabel) (name : List ℕ) → place_among ls (name_of l.word) ≡ None
+pub place_more : (ls : List SetLabel) (l : SetLabel) (name : List ℕ) → place_among ls (name_of l.word) ≡ None
     → cond (bytes_eq (name_of l.word) name) (Some l.place) (place_among ls name) ≡ place_among (ls ++ (l ∷ [])) name
 place_more ls l name h1 = search (rules, place_append, equal_bytes)
 
@@ -114,7 +113,7 @@ words_of place (t ∷ ts) = ap (λ us. t ∷ us) (words_of place ts)
 -- the labels of items are those that the items set
 pub words_from : (k : ℕ) (is : List Item) → set_words (labels_from k is) ≡ set_labels is
 words_from k [] = refl
-words_from k (i ∷ is) = map-append (λ (l : PlacedLabel). l.word) (labels_of k i.labels) (labels_from (k + 1) is)
+words_from k (i ∷ is) = map-append (λ (l : SetLabel). l.word) (labels_of k i.labels) (labels_from (k + 1) is)
     ∙ (λ j. words_of k i.labels j ++ words_from (k + 1) is j)
 
 pub is_some_false : (o : Option ℕ) → false ≡ is_some o → o ≡ None
@@ -125,22 +124,22 @@ is_some_true : (o : Option ℕ) → true ≡ is_some o → (x : ℕ) × (o ≡ S
 is_some_true None e = let k : true ≡ false = e in cc
 is_some_true (Some x) e = (x, refl)
 
-words_more : (ls : List PlacedLabel) (l : PlacedLabel) → set_words (ls ++ (l ∷ [])) ≡ set_words ls ++ (l.word ∷ [])
-words_more ls l = map-append (λ (k : PlacedLabel). k.word) ls (l ∷ [])
+words_more : (ls : List SetLabel) (l : SetLabel) → set_words (ls ++ (l ∷ [])) ≡ set_words ls ++ (l.word ∷ [])
+words_more ls l = map-append (λ (k : SetLabel). k.word) ls (l ∷ [])
 
 -- a label after the first that is set a second time
-pub set_past : (ls : List PlacedLabel) (l : PlacedLabel) (rep : Option ℕ) (look : Name → Option ℕ) → true ≡ is_some rep
+pub set_past : (ls : List SetLabel) (l : SetLabel) (rep : Option ℕ) (look : Name → Option ℕ) → true ≡ is_some rep
     → AreSet ls rep look → AreSet (ls ++ (l ∷ [])) rep look
 set_past ls l rep look h1 h2 = search (rules, words_more, append_assoc)
 
 -- the first label that is set a second time
-pub set_again : (ls : List PlacedLabel) (l : PlacedLabel) (rep : Option ℕ) (look look2 : Name → Option ℕ) (k : Name)
+pub set_again : (ls : List SetLabel) (l : SetLabel) (rep : Option ℕ) (look look2 : Name → Option ℕ) (k : Name)
     → false ≡ is_some rep → AreSet ls rep look → k.bytes.now ≡ name_of l.word → true ≡ is_some (look k)
     → AreSet (ls ++ (l ∷ [])) (Some l.word.at) look2
 set_again ls l rep look look2 k h1 h2 h3 h4 = search (rules, is_some_true, words_more, some_place)
 
 -- a label of a new name
-pub set_new : (ls : List PlacedLabel) (l : PlacedLabel) (rep : Option ℕ) (look look2 : Name → Option ℕ) (k : Name)
+pub set_new : (ls : List SetLabel) (l : SetLabel) (rep : Option ℕ) (look look2 : Name → Option ℕ) (k : Name)
     → false ≡ is_some rep → AreSet ls rep look → k.bytes.now ≡ name_of l.word → false ≡ is_some (look k)
     → ((j : Name) → look2 j ≡ cond (bytes_eq k.bytes.now j.bytes.now) (Some l.place) (look j))
     → AreSet (ls ++ (l ∷ [])) rep look2

@@ -1,6 +1,7 @@
 -- What the assembler keeps of the items that it has read: their opcodes, literals, targets and labels, as the
 -- addressing modes of the kernel's Documentation/networking/filter have them.
 use Rattle.std.specs.Prelude.{◌≡◌, ◌≤◌, ℕ, List, [], ◌∷◌, ◌++◌, length, map, Option, Some, None}
+use Rattle.std.specs.List.{AllZip}
 use Rattle.cbpf_code.specs.Opcode.{code_of}
 use Rattle.cbpf_syntax.specs.Lexemes.{Lexeme}
 use Rattle.cbpf_syntax.specs.Items.{Item}
@@ -10,7 +11,7 @@ use Rattle.cbpf_text.specs.declared.name.Name.{Name}
 use Rattle.cbpf_text.specs.Labels.{AreDistinct, name_of}
 use Rattle.cbpf_text.specs.Operands.{literal_in, targets_in}
 use Rattle.cbpf_text.specs.Refusals.{IsFirstRepeat, IsExcess}
-use Rattle.cbpf_text.specs.Tables.{PlacedLabel, labels_of, labels_from, place_among}
+use Rattle.cbpf_text.specs.Tables.{SetLabel, labels_of, labels_from, place_among}
 
 -- the target is the label, by its name and its place
 abbrev pub IsTarget : Target → Lexeme → Type 0
@@ -31,17 +32,14 @@ pub record IsStatement (s : Statement) (item : Item) : Type 0 where
 
 -- the statements are those of the items, one for each
 abbrev pub AreStatements : List Statement → List Item → Type 0
-AreStatements [] [] = Unit {0}
-AreStatements [] (i ∷ is) = ⊥
-AreStatements (s ∷ ss) [] = ⊥
-AreStatements (s ∷ ss) (i ∷ is) = IsStatement s i × AreStatements ss is
+AreStatements statements items = AllZip IsStatement statements items
 
-abbrev pub set_words : List PlacedLabel → List Lexeme
-set_words ls = map (λ (l : PlacedLabel). l.word) ls
+abbrev pub set_words : List SetLabel → List Lexeme
+set_words ls = map (λ (l : SetLabel). l.word) ls
 
 -- the look-ups answer where the labels are set, each once; or the place is that of the first label that is set a
 -- second time
-abbrev pub AreSet : List PlacedLabel → Option ℕ → (Name → Option ℕ) → Type 0
+abbrev pub AreSet : List SetLabel → Option ℕ → (Name → Option ℕ) → Type 0
 AreSet ls None lookup = ((k : Name) → lookup k ≡ place_among ls k.bytes.now) × AreDistinct (set_words ls)
 AreSet ls (Some at) lookup = IsFirstRepeat (set_words ls) at
 

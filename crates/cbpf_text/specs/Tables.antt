@@ -10,20 +10,20 @@ abbrev pub same_name : Name → Name → Bool
 same_name a b = bytes_eq a.bytes.now b.bytes.now
 
 -- a label, and the index of the item that sets it
-pub record PlacedLabel : Type 0 where
+pub record SetLabel : Type 0 where
   pub word : Lexeme
   pub place : ℕ
 
-abbrev pub labels_of : ℕ → List Lexeme → List PlacedLabel
+abbrev pub labels_of : ℕ → List Lexeme → List SetLabel
 labels_of place words = map (λ t. record { word = t; place = place }) words
 
 -- the labels of items of which the first has the index
-abbrev pub labels_from : ℕ → List Item → List PlacedLabel
+abbrev pub labels_from : ℕ → List Item → List SetLabel
 labels_from index [] = []
 labels_from index (item ∷ items) = labels_of index item.labels ++ labels_from (index + 1) items
 
 -- the place of the first label of this name
-abbrev pub place_among : List PlacedLabel → List ℕ → Option ℕ
+abbrev pub place_among : List SetLabel → List ℕ → Option ℕ
 place_among [] name = None
 place_among (l ∷ ls) name = if bytes_eq (name_of l.word) name then Some l.place else place_among ls name
 

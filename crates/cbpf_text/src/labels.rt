@@ -69,7 +69,7 @@ impl<'a, A: Allocator> Labels<'a, A> {
         label: Lexeme<'a>,
         index: u32,
     ) -> Result<(), AllocFailed<(Name<'a>, u32)>>
-        ensures { OnOk result ((ls : List tables.PlacedLabel) →
+        ensures { OnOk result ((ls : List tables.SetLabel) →
             AreSet ls self.old.repeat (λ k. get same_name self.old.table k) →
             AreSet (ls ++ record { word = lexeme_of label.entry; place = index } ∷ [])
             self.new.repeat (λ k. get same_name self.new.table k)) }
