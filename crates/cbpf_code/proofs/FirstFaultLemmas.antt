@@ -93,3 +93,5 @@ first_fault-unique list e f one two =
     let not_before = λ (less : index_of f < index_of e). one.none_earlier f (inr (ranks, less)) two.present in
     let not_after = λ (less : index_of e < index_of f). two.none_earlier e (inr (sym ranks, less)) one.present in
     same_place list f e ranks (omega arith) two.present one.present
+
+pub ruleset unique = (first_fault-unique)

@@ -1,7 +1,6 @@
 -- The answer of the reader is one: a text that spells a list is refused only when out of memory,
 -- and a text has one fault at most.
 use Rattle.std.proofs.Common.{◌≡◌, ◌≢◌, ℕ, ◌⊎◌, inl, inr, List, length, sym, ◌∙◌, ap, Some}
-use Rattle.std.specs.Prelude.{MatchResult, Result, Ok, Err}
 use Rattle.cbpf_code.specs.WordText.{Spells, Miscounts, Refused, fault_of}
 use Rattle.cbpf_code.specs.declared.insn.Insn.{Insn}
 use Rattle.cbpf_code.specs.declared.words.WordFault.{WordFault}
@@ -11,14 +10,14 @@ pub spells-once : (text : List ℕ) (list other : List Insn) → Spells text lis
 spells-once text list other a b = b.reads ∙ sym a.reads
 
 -- refused, and not for want of memory
-abbrev Faulty : List ℕ → WordFault → Type 0
+abbrev pub Faulty : List ℕ → WordFault → Type 0
 Faulty text e = (fault_of text ≡ Some e) ⊎ Miscounts text e
 
-spells-faultless : (text : List ℕ) (list : List Insn) (e : WordFault) → Spells text list → Faulty text e → ⊥
+pub spells-faultless : (text : List ℕ) (list : List Insn) (e : WordFault) → Spells text list → Faulty text e → ⊥
 spells-faultless text list e spells (inl fault) = let none = spells.good in absurd (cc)
 spells-faultless text list e spells (inr m) = m.differs (spells.counted ∙ ap length spells.reads)
 
-faulty-once : (text : List ℕ) (e f : WordFault) → Faulty text e → Faulty text f → f ≡ e
+pub faulty-once : (text : List ℕ) (e f : WordFault) → Faulty text e → Faulty text f → f ≡ e
 faulty-once text e f (inl a) (inl b) = cc
 faulty-once text e f (inr a) (inr b) = b.fault ∙ sym a.fault
 faulty-once text e f (inl a) (inr b) = let none = b.good in absurd (cc)
@@ -35,18 +34,4 @@ refused-once text e f one two (inl memory) s = absurd (one memory)
 refused-once text e f one two r (inl memory) = absurd (two memory)
 refused-once text e f one two (inr a) (inr b) = faulty-once text e f a b
 
--- the same of an answer
-pub answer-spelled : {V : Type 0} (items : V → List Insn) (text : List ℕ) (r : Result V WordFault)
-    → MatchResult r (λ v. Spells text (items v)) (λ e. Refused text e) → (list : List Insn) → Spells text list
-    → MatchResult r (λ v. items v ≡ list) (λ e. e ≡ Memory)
-answer-spelled items text (Ok v) answer list spells = spells-once text list (items v) spells answer
-answer-spelled items text (Err e) (inl memory) list spells = memory
-answer-spelled items text (Err e) (inr faulty) list spells = absurd (spells-faultless text list e spells faulty)
-
-pub answer-only : {V : Type 0} (items : V → List Insn) (text : List ℕ) (r : Result V WordFault)
-    → MatchResult r (λ v. Spells text (items v)) (λ e. Refused text e) → (f : WordFault) → f ≢ Memory → Refused text f
-    → MatchResult r (λ v. ⊥) (λ e. (e ≡ Memory) ⊎ (e ≡ f))
-answer-only items text (Ok v) answer f other refused = spells-not_refused text (items v) f answer other refused
-answer-only items text (Err e) (inl memory) f other refused = inl memory
-answer-only items text (Err e) (inr faulty) f other (inl memory) = absurd (other memory)
-answer-only items text (Err e) (inr faulty) f other (inr wanted) = inr (faulty-once text f e wanted faulty)
+pub ruleset answers = (spells-once, spells-faultless, faulty-once)

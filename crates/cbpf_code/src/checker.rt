@@ -52,6 +52,7 @@ pub enum CheckFault {
 ///
 /// The first fault of the list, and the list as it was. C1 and C2 come first, then by instruction
 /// from 0 the one of C3 to C8 that it has, then C9, then C10 with the least index.
+#[tactic(auto, using(crate::proofs::FirstFaultLemmas::unique))]
 pub fn check<A: Allocator>(list: Vec<Insn, A>) -> Result<Program<A>, (CheckFault, Vec<Insn, A>)>
     ensures accepts { IsOk result ↔ IsSound list.items }
     ensures same { IfOk result (λ p. p ≡ list.items) }

@@ -175,6 +175,7 @@ fn write_whole_line<W: Write, A: Allocator>(
 }
 
 /// Writes the lines of all instructions in order, each with a newline.
+#[tactic(auto, using(crate::proofs::WrittenLemmas::loops))]
 pub fn write_lines<W: Write, A: Allocator>(w: &mut W, p: &Program<A>) -> Result<(), WriteFault>
     ensures { Wrote (W.contents w.old) (W.contents w.new) result (spec.listing p.now) }
 {

@@ -140,6 +140,7 @@ fn read_list<A: Allocator>(alloc: A, text: &[u8]) -> Result<Vec<Insn, A>, WordFa
 /// The instructions that word text spells: the count, a comma, and for each instruction its four
 /// decimal numbers code, jt, jf and k and a comma, of which the last may be missing. Blanks may
 /// stand anywhere between, and numbers may have leading zeros.
+#[tactic(auto, using(crate::proofs::WordAnswerLemmas::answers))]
 pub fn read_words<A: Allocator>(alloc: A, text: &[u8]) -> Result<Vec<Insn, A>, WordFault>
     ensures answer { MatchResult result (λ v. Spells text.now v.items) (λ e. Refused text.now e) }
     ensures spelled { (list : List Insn) → Spells text.now list →

@@ -1,14 +1,11 @@
 use Rattle.std.proofs.Common.{◌<◌, length, arith}
 use Rattle.std.specs.List.{enumerate_from}
 use Rattle.std.proofs.lemmas.List.FromFn.{length-enumerate_from}
-use Rattle.cbpf_code.proofs.WrittenLemmas.{appended-nil, loop-next, loop-stop, loop-done, err-exit}
+use Rattle.cbpf_code.proofs.WrittenLemmas.{loop-next, loop-stop, loop-done, err-exit}
 use Rattle.cbpf_code.specs.Listing.{numbered_line}
 use Rattle.cbpf_code.proofs.FaultLemmas.{zero_insn}
 use Rattle.cbpf_code.proofs.ListingLemmas.{line_at}
 use Rattle.cbpf_code.proofs.listing.write_lines.Goals as goal
-
-pub loop-i-init : goal.loop-i-init
-loop-i-init g c = appended-nil _
 
 pub loop-i-preserved : goal.loop-i-preserved
 loop-i-preserved g c =
