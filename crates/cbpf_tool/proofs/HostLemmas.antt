@@ -1,15 +1,15 @@
 -- What the tools leave in a writer that was empty, and what a job did on its machine.
-use Rattle.std.proofs.Common.{◌≡◌, ℕ, List, [], ◌∷◌, ◌++◌, Option, Some, None, Result, Ok, Err, inl, inr, refl, sym}
-use Rattle.std.proofs.Common.{IsTrue, ◌∙◌, ap, subst, append_assoc, append-nil}
+use Rattle.std.proofs.Common.{◌≡◌, ℕ, List, [], ◌∷◌, Option, Some, None, Result, Ok, Err, inr, refl}
+use Rattle.std.proofs.Common.{IsTrue}
 use Rattle.cbpf_code.specs.Writing.{Appended, AppendedPart}
 use Rattle.cbpf_code.specs.declared.form.Form.{Form}
 use Rattle.cbpf_tool.specs.Assembling.{Assembled}
-use Rattle.cbpf_tool.specs.Debugged.{Debugged, Finished, Faulted}
+use Rattle.cbpf_tool.specs.Debugged.{Debugged}
 use Rattle.cbpf_tool.specs.FileMap.{Source, known_source}
 use Rattle.cbpf_tool.specs.declared.fault.ToolFault.{ToolFault}
 use Rattle.cbpf_tool.specs.declared.fault.ToolFault.TheVariants.{Source as RefusedSource, Read, Write, Memory}
 use Rattle.std.specs.FinMap as map
-use Rattle.cbpf_tool.specs.Hosted.{Hosted, Event, and_then, opened, created, not_created, wrote, printed}
+use Rattle.cbpf_tool.specs.Hosted.{Hosted, Event, and_then, opened, created, wrote, printed}
 use Rattle.cbpf_tool.specs.Jobs.{tooled, Ends, RunsTool, AssembledTo, DebuggedTo, RepliesTo}
 use Rattle.cbpf_tool.specs.declared.failure.Failure.{Failure}
 

@@ -1,11 +1,11 @@
 -- Lines and newlines.
-use Rattle.std.proofs.Common.{◌≡◌, ℕ, ◌+◌, ◌<◌, ◌≤◌, Bool, true, false, eqb, ◌||◌, List, [], ◌∷◌, ◌++◌, length, take}
+use Rattle.std.proofs.Common.{◌≡◌, ℕ, ◌+◌, ◌<◌, ◌≤◌, Bool, true, false, eqb, List, [], ◌∷◌, ◌++◌, length, take}
 use Rattle.std.proofs.Common.{take_all, length-take, length-drop, get_or, ◌-◌, drop, Option, Some, None, Result, Ok}
-use Rattle.std.proofs.Common.{Err, MatchResult, append_assoc, append-nil, refl, sym, ◌∙◌, ap, subst, arith, tests}
+use Rattle.std.proofs.Common.{Err, MatchResult, append_assoc, append-nil, refl, sym, ◌∙◌, ap, arith, tests}
 use Rattle.std.proofs.lemmas.List.Folds.{list_any-append, list_any_more}
 use Rattle.std.specs.Io.KnownBytes.{Keeps, Consumes, IsAtEnd}
 use Rattle.cbpf_tool.specs.Lines.{has_newline}
-use Rattle.cbpf_tool.specs.Reading.{IsStreamFault, unread, Took, Fills, TakesPart, TakesLine}
+use Rattle.cbpf_tool.specs.Reading.{IsStreamFault, unread, Took, Fills, TakesLine}
 use Rattle.cbpf_tool.specs.declared.fault.ToolFault.{ToolFault}
 use Rattle.cbpf_tool.specs.declared.fault.ToolFault.TheVariants.{Source, Read, Write, Memory}
 

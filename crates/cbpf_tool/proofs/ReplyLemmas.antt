@@ -1,5 +1,5 @@
 -- From what a call answered to the reply of its line.
-use Rattle.std.proofs.Common.{◌≡◌, refl, sym, subst, ℕ, List, Option, Some, Result, Ok}
+use Rattle.std.proofs.Common.{◌≡◌, refl, ℕ, List, Option, Some, Result, Ok}
 use Rattle.std.proofs.Common.{Err, length}
 use Rattle.cbpf_code.specs.Writing.{Wrote}
 use Rattle.cbpf_code.specs.WordText.{Spells, Refused}
@@ -21,7 +21,6 @@ use Rattle.cbpf_tool.specs.declared.command.CommandFault.{CommandFault}
 use Rattle.std.specs.Result.{IsOkAnd, MatchResult}
 use Rattle.cbpf_tool.specs.declared.debugger.AfterLine.TheVariants.{NextLine, Quit}
 use Rattle.cbpf_reply.specs.Errors.{word_fault_text, check_fault_text, capture_fault_text}
-use Rattle.cbpf_reply.specs.Errors.{memory_text}
 use Rattle.cbpf_reply.specs.Loads.{program_text, capture_text}
 use Rattle.cbpf_tool.specs.Replies.{unreadable, unsound, accepted, no_capture, a_capture}
 use Rattle.cbpf_tool.specs.Replies.{own, unheld, unread}

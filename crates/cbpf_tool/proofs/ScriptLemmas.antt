@@ -8,9 +8,7 @@ use Rattle.cbpf_code.specs.Writing.{Appended, AppendedPart}
 use Rattle.cbpf_code.specs.declared.writing.WriteFault.{WriteFault}
 use Rattle.cbpf_code.proofs.WrittenLemmas.{appended-nil, appended-then, appended-kept, part-then, part-take}
 use Rattle.cbpf_tool.specs.Commands.{command_of}
-use Rattle.cbpf_tool.specs.declared.command.Command.{Command}
 use Rattle.cbpf_tool.specs.declared.command.Command.TheVariants as command
-use Rattle.cbpf_tool.specs.declared.command.CommandFault.{CommandFault}
 use Rattle.cbpf_tool.specs.FileMap.{FileMap, Source}
 use Rattle.cbpf_code.specs.Text.{put_front}
 use Rattle.cbpf_tool.specs.Lines.{lines, unlines, has_newline}

@@ -8,23 +8,16 @@ loop-init g c = rw c.new-source.ensures.items (consumes-none (g.R.Read.remaining
 pub returns-then-count-eq0-clause-bytes : goal.returns-then-count-eq0-clause-bytes
 returns-then-count-eq0-clause-bytes g c = λ text e.
     let got = take c.in-Ok.count c.read.new.buf in
-    let old = g.R.Read.remaining c.args.reader.now in
-    let mid = g.R.Read.remaining c.loop.reader in
-    let new = g.R.Read.remaining c.read.new.self in
     let none : got ≡ [] = rw c.if-count-eq0.true refl in
-    let whole = consumes-all old new text (c.loop.source.items ++ got) (consumes-then old mid new c.loop.source.items
-    got c.loop.invariant c.in-Ok.ensures.bytes.0) (c.in-Ok.ensures.bytes.1 c.if-count-eq0.true (omega arith)) e in
+    let whole = consumes-all _ _ text (c.loop.source.items ++ got) (consumes-then _ _ _ c.loop.source.items got
+    c.loop.invariant c.in-Ok.ensures.bytes.0) (c.in-Ok.ensures.bytes.1 c.if-count-eq0.true (omega arith)) e in
     sym (append-nil c.loop.source.items) ∙ ap (λ (l : List ℕ). c.loop.source.items ++ l) (sym none) ∙ whole
 
 pub loop-preserved : goal.loop-preserved
 loop-preserved g c =
     let got = take c.in-Ok.count c.read.new.buf in
-    let old = g.R.Read.remaining c.args.reader.now in
-    let mid = g.R.Read.remaining c.loop.reader in
-    let new = g.R.Read.remaining c.read.new.self in
-    let joined = consumes-then old mid new c.loop.source.items got c.loop.invariant c.in-Ok.ensures.bytes.0 in
     let items : c.extend_from_slice.new.self.items ≡ c.loop.source.items ++ got = search rules in
-    rw items joined
+    rw items (consumes-then _ _ _ c.loop.source.items got c.loop.invariant c.in-Ok.ensures.bytes.0)
 
 pub returns-in_default-clause-fault : goal.returns-in_default-clause-fault
 returns-in_default-clause-fault g c = search rules
