@@ -4,8 +4,7 @@ use Rattle.std.specs.Prelude.{Option, Some, None}
 use Rattle.std.specs.Option.{option_map}
 use Rattle.std.proofs.lemmas.Option.{slice_get-get_or}
 use Rattle.cbpf_dbg.specs.Breakpoints.{Breakpoints}
-use Rattle.cbpf_machine.specs.declared.watched.When.{When}
-use Rattle.cbpf_machine.specs.declared.watched.When.TheVariants.{Always}
+use Rattle.cbpf_reply.specs.Breakpoints.{When, Always}
 
 pub listed_at : (found : Option (ℕ × When)) (n : ℕ) (when : When) → Some n ≡ option_map (λ b. b.0) found
     → Some when ≡ option_map (λ b. b.1) found → found ≡ Some (n, when)

@@ -8,7 +8,7 @@ use Rattle.cbpf_code.specs.Writing.{Wrote}
 use Rattle.cbpf_code.specs.declared.insn.Insn.{Insn}
 use Rattle.cbpf_dbg.specs.Commands.{Answer, reply_of, view_after, breakpoint_when, with_program}
 use Rattle.cbpf_dbg.specs.View.{View}
-use Rattle.cbpf_machine.specs.declared.watched.When.{When}
+use Rattle.cbpf_reply.specs.Breakpoints.{When}
 use Rattle.cbpf_reply.specs.declared.reply.SessionFault.{SessionFault}
 use Rattle.cbpf_reply.specs.declared.reply.SessionFault.TheVariants.{Memory, NoInstruction}
 use Rattle.cbpf_reply.specs.Errors.{fault_text, memory_text}

@@ -6,8 +6,7 @@ use Rattle.std.specs.Prelude.{Result, Ok, Err, codes, bytes_eq}
 use Rattle.std.specs.Str.{is_utf8}
 use Rattle.cbpf_code.specs.declared.extension.Ext.{Ext}
 use Rattle.cbpf_code.specs.Extension.{ext_name, ext_table}
-use Rattle.cbpf_machine.specs.declared.watched.When.{When}
-use Rattle.cbpf_machine.specs.declared.watched.When.TheVariants.{Always, A, X}
+use Rattle.cbpf_reply.specs.Breakpoints.{When, Always, A, X}
 use Rattle.cbpf_tool.specs.Words.{words, after_words, trimmed}
 use Rattle.cbpf_tool.specs.Numbers.{number, signed_number}
 use Rattle.cbpf_tool.specs.declared.command.CommandFault.{CommandFault}

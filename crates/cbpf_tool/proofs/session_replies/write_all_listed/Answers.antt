@@ -2,7 +2,7 @@ use Rattle.std.proofs.Common.{sym, ◌≡◌, ◌<◌, ◌∙◌, length, arith}
 use Rattle.std.specs.Prelude.{Some, slice_get}
 use Rattle.std.proofs.lemmas.Option.{get_or_from_slice_get, slice_get_within}
 use Rattle.cbpf_code.proofs.WrittenLemmas.{appended-nil, loop-next, loop-stop, loop-done, err-exit}
-use Rattle.cbpf_machine.specs.declared.watched.When.TheVariants.{Always}
+use Rattle.cbpf_reply.specs.Breakpoints.{Always}
 use Rattle.cbpf_reply.specs.Breakpoints as spec
 use Rattle.cbpf_tool.proofs.ListedLemmas.{listed_at, number_at, condition_at}
 use Rattle.cbpf_tool.proofs.session_replies.write_all_listed.Goals.{in_default-via-in-Some+in_default}
