@@ -49,20 +49,19 @@ add-requires g c =
     let h = within g (goal.at.add-requires g c).After-pass-turns in
     omega (arith, c.requires.spare, c.follow.invariant.spent, c.follow.invariant.kept)
 
-pub returns-in-Some-clause-follows : goal.returns-in-Some-clause-follows
-returns-in-Some-clause-follows g c =
-    rw c.follow.invariant.state (ended _ _
-    (rw c.in-Some.is at (reached g (goal.at.returns-in-Some-clause-follows g c).After-pass-turns).0)
+pub returns-in-Some : goal.returns-in-Some
+returns-in-Some g c =
+    let end = ended (g.Self.Trail.kept c.follow.self) c.args.s.now
+    (rw c.in-Some.is at (reached g (goal.at.returns-in-Some g c).After-pass-turns).0)
     c.follow.invariant.unpaused c.follow.invariant.sound c.follow.invariant.from_one c.pass-turns.ensures.some
-    c.from.ensures).0
-
-pub returns-in-Some-clause-turns : goal.returns-in-Some-clause-turns
-returns-in-Some-clause-turns g c =
-    let end = (ended (g.Self.Trail.kept c.follow.self) c.args.s.now
-    (rw c.in-Some.is at (reached g (goal.at.returns-in-Some-clause-turns g c).After-pass-turns).0)
-    c.follow.invariant.unpaused c.follow.invariant.sound c.follow.invariant.from_one c.pass-turns.ensures.some
-    c.from.ensures).1 in
-    omega (arith, c.follow.invariant.spent, c.follow.invariant.kept)
+    c.from.ensures in
+    record {
+      follows = rw c.follow.invariant.state end.0;
+      stands = λ n e. absurd cc;
+      of_trace = c.follow.invariant.stands;
+      more = omega (arith, c.follow.invariant.kept);
+      turns = omega (arith, end.1, c.follow.invariant.spent, c.follow.invariant.kept);
+    }
 
 pub keep-requires-clause-near : goal.keep-requires-clause-near
 keep-requires-clause-near g c =
@@ -94,38 +93,28 @@ pauses_at-requires g c =
     let inside = c.pass-turns.ensures.inside in
     rw c.of-state.ensures (omega (arith, inside, sound_few c.args.p.now c.follow.invariant.sound))
 
-pub returns-then-pauses_at-clause-follows : goal.returns-then-pauses_at-clause-follows
-returns-then-pauses_at-clause-follows g c =
-    let on = on g (goal.at.returns-then-pauses_at-clause-follows g c).After-pass-turns c.in_default.is in
+pub returns-then-pauses_at : goal.returns-then-pauses_at
+returns-then-pauses_at g c =
+    let on = on g (goal.at.returns-then-pauses_at g c).After-pass-turns c.in_default.is in
+    let kept = c.keep.ensures.stands _ (rw c.of-state.ensures on.at) c.follow.invariant.stands in
     let some = c.pass-turns.ensures.some in
-    let to : g.Self.Trail.kept c.args.self.now + (c.follow.made + c.pass-turns.result.0) - 1
-    ≡ g.Self.Trail.kept c.follow.self + c.pass-turns.result.0 - 1 = omega (arith, c.follow.invariant.kept) in
-    rw c.of-state.ensures (
-      omega (arith, some),
-      rw to on.unpaused,
-      rw to on.at,
-      rw c.of-state.ensures at (sym c.pauses_at.ensures ∙ c.if-pauses_at.true),
-    )
-
-pub returns-then-pauses_at-clause-stands : goal.returns-then-pauses_at-clause-stands
-returns-then-pauses_at-clause-stands g c = λ n e.
-    let same : c.follow.made + c.pass-turns.result.0 ≡ n = cc in
-    let to = on g (goal.at.returns-then-pauses_at-clause-stands g c).After-pass-turns c.in_default.is in
-    let all : g.Self.Trail.kept c.follow.self + c.pass-turns.result.0 ≡ g.Self.Trail.kept c.args.self.now + n =
+    let all : g.Self.Trail.kept c.follow.self + c.pass-turns.result.0
+    ≡ g.Self.Trail.kept c.args.self.now + (c.follow.made + c.pass-turns.result.0) =
     omega (arith, c.follow.invariant.kept) in
-    rw all at (c.keep.ensures.stands _ (rw c.of-state.ensures to.at) c.follow.invariant.stands).0
-
-pub returns-then-pauses_at-clause-of_trace : goal.returns-then-pauses_at-clause-of_trace
-returns-then-pauses_at-clause-of_trace g c =
-    let to = on g (goal.at.returns-then-pauses_at-clause-of_trace g c).After-pass-turns c.in_default.is in
-    let kept = c.keep.ensures.stands _ (rw c.of-state.ensures to.at) c.follow.invariant.stands in
-    rw (← kept.1) at kept.0
-
-pub returns-then-pauses_at-clause-more : goal.returns-then-pauses_at-clause-more
-returns-then-pauses_at-clause-more g c =
-    let to = on g (goal.at.returns-then-pauses_at-clause-more g c).After-pass-turns c.in_default.is in
-    let kept = c.keep.ensures.stands _ (rw c.of-state.ensures to.at) c.follow.invariant.stands in
-    omega (arith, kept.1, c.follow.invariant.kept)
+    record {
+      follows = rw c.of-state.ensures (
+        omega (arith, some),
+        rw (← all) on.unpaused,
+        rw (← all) on.at,
+        rw c.of-state.ensures at (sym c.pauses_at.ensures ∙ c.if-pauses_at.true),
+      );
+      stands = λ n e.
+          let same : c.follow.made + c.pass-turns.result.0 ≡ n = cc in
+          rw (← same) (rw all at kept.0);
+      of_trace = rw (← kept.1) at kept.0;
+      more = omega (arith, kept.1, c.follow.invariant.kept);
+      turns = omega (arith, c.add.ensures, c.follow.invariant.spent);
+    }
 
 pub follow-smaller : goal.follow-smaller
 follow-smaller g c =

@@ -13,9 +13,14 @@ invariant-follow g l =
       sound : IsSound l.p;
       from_one : 1 ≤ g.Self.Trail.kept l.self;
       kept : g.Self.Trail.kept l.self ≡ g.Self.Trail.kept l.fn.self + l.made;
-      here : Goes (machine_of l.p l.values) l.packet.bytes.now l.packet.wire (trace (machine_of l.p l.values) l.packet.bytes.now l.packet.wire) (g.Self.Trail.kept l.self - 1) (registers l.here l.slots);
-      stands : g.Self.Trail.stands_for l.self (take (g.Self.Trail.kept l.self) (trace (machine_of l.p l.values) l.packet.bytes.now l.packet.wire));
-      unpaused : Unpaused (is_watched l.watched) (trace (machine_of l.p l.values) l.packet.bytes.now l.packet.wire) (g.Self.Trail.kept l.fn.self) (g.Self.Trail.kept l.self);
+      here : Goes (machine_of l.p l.values) l.packet.bytes.now l.packet.wire
+          (trace (machine_of l.p l.values) l.packet.bytes.now l.packet.wire) (g.Self.Trail.kept l.self - 1)
+          (registers l.here l.slots);
+      stands : g.Self.Trail.stands_for l.self (take (g.Self.Trail.kept l.self)
+          (trace (machine_of l.p l.values) l.packet.bytes.now l.packet.wire));
+      unpaused : Unpaused (is_watched l.watched)
+          (trace (machine_of l.p l.values) l.packet.bytes.now l.packet.wire) (g.Self.Trail.kept l.fn.self)
+          (g.Self.Trail.kept l.self);
       state : l.s ≡ l.fn.s;
       spent : l.meter ≡ l.fn.meter + l.made;
     }
