@@ -1,10 +1,10 @@
 -- Cuts of a text: one more piece, and that there is only one.
 use Rattle.std.proofs.lemmas.Grind.{common_steps}
-use Rattle.std.proofs.Common.{rules, ◌≡◌, ◌≢◌, ℕ, zero, suc, ◌+◌, ◌-◌, ◌<◌, ◌≤◌, Bool, true, List, [], ◌∷◌, ◌++◌}
+use Rattle.std.proofs.Common.{rules, ◌≡◌, ◌≢◌, ℕ, ◌+◌, ◌-◌, ◌<◌, ◌≤◌, Bool, true, List, [], ◌∷◌, ◌++◌}
 use Rattle.std.proofs.Common.{length, take, drop, refl, ap, sym, ◌∙◌, arith, Option, Some, None, append_assoc}
-use Rattle.std.proofs.Common.{append-nil, ◌⊎◌, inl, inr, get_or, length-drop}
-use Rattle.std.proofs.lemmas.Bool.{and_parts, cases_order}
-use Rattle.std.proofs.lemmas.List.{drop_all, drop_more, take_rest}
+use Rattle.std.proofs.Common.{append-nil, inl, inr, get_or, length-drop}
+use Rattle.std.proofs.lemmas.Bool.{and_parts, cases_order, cases_lt}
+use Rattle.std.proofs.lemmas.List.{drop_all, drop_more, take_all, take_rest}
 use Rattle.std.specs.List.{list_all}
 use Rattle.cbpf_syntax.specs.declared.piece.PieceKind.{PieceKind}
 use Rattle.cbpf_syntax.specs.declared.piece.Piece.{Piece}
@@ -57,16 +57,9 @@ same_size fresh text p q h1 h2 = search (rules, cases_order, some-none)
 pub one_next : (fresh : Bool) (text : List ℕ) (p q : Piece) → IsNext fresh text p → IsNext fresh text q → p ≡ q
 one_next fresh text p q h1 h2 = search (rules, same_size, some-same)
 
-take_nil : (n : ℕ) → take {A = ℕ} n [] ≡ []
-take_nil zero = refl
-take_nil (suc n) = refl
-
-none_next : {B : Type 0} (fresh : Bool) (text : List ℕ) (q : Piece) → text ≡ [] → IsNext fresh text q → B
-none_next fresh text q e next = some-none _ _ (rw (e, take_nil q.size) at next.kind) refl
-
 pub past_end : {B : Type 0} (text : List ℕ) (at : ℕ) (q : Piece) → at ≡ length text → IsPieceAt text at q → B
 past_end text at q e next =
-    none_next (is_line_blank (take at text)) (drop at text) q (drop_all at text (omega arith)) next
+    some-none _ _ (rw (drop_all at text (omega arith), take_all {A = ℕ} q.size [] (omega arith)) at next.kind) refl
 
 pub one_cut : (text : List ℕ) (at : ℕ) (ps qs : List Piece) → IsCut text at ps (length text)
     → IsCut text at qs (length text) → ps ≡ qs
@@ -91,11 +84,11 @@ pub piece_within : (text : List ℕ) (at : ℕ) (p : Piece) → at < length text
     → at + p.size ≤ length text
 piece_within text at p l next = omega (arith, next.within, length-drop at text)
 
-zero_or : (n : ℕ) → (n ≡ 0) ⊎ (0 < n)
-zero_or n = grind arith
-
 pub piece_some : (text : List ℕ) (at : ℕ) (p : Piece) → IsPieceAt text at p → 0 < p.size
-piece_some text at p next = elim (zero_or p.size) [ inl e ↦ some-none _ _ (rw e at next.kind) refl | inr l ↦ l ]
+piece_some text at p next = elim (cases_lt 0 p.size) [
+  | inl l ↦ l
+  | inr z ↦ let none : p.size ≡ 0 = omega arith in some-none _ _ (rw none at next.kind) refl
+]
 
 -- the tokens after one more piece that is a token, or none
 pub token_more : (text : List ℕ) (from at : ℕ) (p : Piece) (kind : Kind)

@@ -7,14 +7,13 @@ use Rattle.cbpf_syntax.specs.declared.table.Mnemonic as declared_mnemonic
 use Rattle.cbpf_syntax.specs.Views.{mnemonic_of}
 use Rattle.std.specs.Prelude.{Contains, nat_lt, nat_le, bytes_eq, MatchOption, slice_index}
 use Rattle.std.specs.List.{list_all, filter}
-use Rattle.std.proofs.lemmas.Bool.{and_parts, both_ways, false_from_ne_true, leb-true, or_from}
+use Rattle.std.proofs.lemmas.Bool.{and_parts, both_ways, cases_Bool, false_from_ne_true, leb-true, or_from}
 use Rattle.cbpf_syntax.specs.Fits.{is_one_of, mnemonic_words, is_reserved, extension_names}
 use Rattle.cbpf_syntax.specs.Table.{Row, Mnemonic, mnemonics, table, rows_of, entry_rows, operand_words}
 use Rattle.cbpf_syntax.specs.Initials.{begins_with, is_first}
 use Rattle.cbpf_syntax.proofs.Apart.{bytes_eq_self, equal_bytes}
 use Rattle.cbpf_syntax.proofs.Elements.{all_pairs, same_or_pair, first_element, later_element, which_element, from_map}
-use Rattle.cbpf_syntax.proofs.Elements.{into_map}
-use Rattle.cbpf_syntax.proofs.Elements.{from_flat_map, into_flat_map, any_element, some_element, list_all_at}
+use Rattle.cbpf_syntax.proofs.Elements.{into_map, from_flat_map, into_flat_map, any_element, some_element, list_all_at}
 use Rattle.std.specs.Option.{is_some}
 use Rattle.cbpf_code.specs.declared.extension.Ext.{Ext}
 use Rattle.cbpf_code.specs.Extension.{ext_table, ext_name}
@@ -106,17 +105,13 @@ differ_first : (b : ℕ) (bs w : List ℕ) → is_first b w ≡ false → bytes_
 differ_first b bs [] e = refl
 differ_first b bs (c ∷ cs) e = rw e refl
 
-kept_listed : (t : Bool) (w : List ℕ) (n : Mnemonic) (ns : List Mnemonic) (rest : Bool)
-    → (t ≡ false → bytes_eq w n.word ≡ false) → is_one_of (map (λ (m : Mnemonic). m.word) ns) w ≡ rest
-    → is_one_of (map (λ (m : Mnemonic). m.word) (cond t (n ∷ ns) ns)) w ≡ (bytes_eq w n.word || rest)
-kept_listed true w n ns rest other e = rw e refl
-kept_listed false w n ns rest other e = rw (other refl) e
-
 from_listed : (b : ℕ) (bs : List ℕ) (ms : List Mnemonic) → is_one_of (map (λ (m : Mnemonic). m.word)
     (filter (begins_with b) ms)) (b ∷ bs) ≡ is_one_of (map (λ (m : Mnemonic). m.word) ms) (b ∷ bs)
 from_listed b bs [] = refl
-from_listed b bs (n ∷ ms) = kept_listed (begins_with b n) (b ∷ bs) n (filter (begins_with b) ms) _
-    (differ_first b bs n.word) (from_listed b bs ms)
+from_listed b bs (n ∷ ms) = elim (cases_Bool (begins_with b n)) [
+  | inl e ↦ rw e (ap (λ rest. bytes_eq (b ∷ bs) n.word || rest) (from_listed b bs ms))
+  | inr e ↦ rw (e, differ_first b bs n.word e) (from_listed b bs ms)
+]
 
 -- a word that none of those that begin with its first byte is
 pub none_from : (w : List ℕ) (d : ℕ) → 0 < length w → is_one_of (map (λ (m : Mnemonic). m.word)
