@@ -1,7 +1,7 @@
 -- How many turns lead from one place to another.
 use Rattle.std.proofs.Common.{◌≡◌, ℕ, zero, suc, ◌+◌, ◌-◌, ◌<◌, ◌≤◌, List, [], ◌∷◌, length, Bool, true, false}
 use Rattle.std.proofs.Common.{arith, sym, ap, ◌∙◌, subst, refl, inl, inr, cond, ◌*◌, ◌^◌, length-append}
-use Rattle.std.specs.Prelude.{Option, filter, count_by, not, ◌&&◌}
+use Rattle.std.specs.Prelude.{filter, count_by, not, ◌&&◌}
 use Rattle.std.proofs.lemmas.Bool.Decides.{nat_tests}
 use Rattle.std.proofs.lemmas.List.Sums.{sum_by-cons, count_by-le-length, length-filter}
 use Rattle.cbpf_code.specs.Sound.{IsSound}

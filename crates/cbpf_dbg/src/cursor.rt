@@ -55,9 +55,11 @@ impl Cursor {
         self.place.step += 1;
     }
 
+    /// Past a whole packet, which it is before.
     #[inline(always)]
-    pub(crate) fn pass(&mut self, outcome: Outcome)
-        requires { Countable self.old.place.packet self.old.counts }
+    pub(crate) fn pass_whole(&mut self, outcome: Outcome)
+        requires before { self.old.place.step ≡ 0 }
+        requires counts { Countable self.old.place.packet self.old.counts }
         ensures { self.new ≡ passed self.old outcome }
     {
         match outcome {
@@ -66,7 +68,15 @@ impl Cursor {
             Outcome::Unknown(_) => self.counts.unknown += 1,
         }
         self.place.packet += 1;
+    }
+
+    #[inline(always)]
+    pub(crate) fn pass(&mut self, outcome: Outcome)
+        requires { Countable self.old.place.packet self.old.counts }
+        ensures { self.new ≡ passed self.old outcome }
+    {
         self.place.step = 0;
+        self.pass_whole(outcome);
     }
 
     /// After its packet was followed, of which it has the state already: at the entry that was come to, or before the

@@ -16,7 +16,7 @@ ghost use Rattle.cbpf_dbg.specs.Going.{CanGoOn, GoesOn};
 use crate::cursor::{Cursor, Moved};
 use crate::hit::stop_at;
 use crate::loaded::Loaded;
-use cbpf_machine::{Before, Meter, Never, Packet, Pause, Trail, follow_packet};
+use cbpf_machine::{Before, Followed, Meter, Never, Packet, Pause, Trail, follow_packet};
 use cbpf_reply::{RunReply, Stop, Why};
 use pcap_classic::Records;
 use std::alloc::Allocator;
@@ -56,21 +56,20 @@ pub(crate) fn run_records<P: Pause, A: Allocator>(
         → Unpaused (λ s. P.pauses pause.now s) (trace (machine_in loaded.now) r.bytes r.wire) 0
         (cursor.new.place.step - 1) }
 {
+    // Bound here, as the compiler would load them again after each packet.
+    let program = loaded.program;
+    let values = loaded.values;
     'go: while let Some(here) = left.first() {
         let packet = Packet {
             bytes: here.bytes,
             wire: here.wire,
         };
-        let followed = follow_packet(
-            meter,
-            loaded.program,
-            packet,
-            loaded.values,
-            pause,
-            &mut cursor.state,
-        );
-        if let Moved::Entry = cursor.follow(followed) {
-            return true;
+        match follow_packet(meter, program, packet, values, pause, &mut cursor.state) {
+            Followed::Watched(entries) => {
+                cursor.place.step = entries;
+                return true;
+            }
+            Followed::Ended(outcome) => cursor.pass_whole(outcome),
         }
         left.pass(&here);
     }
