@@ -1,5 +1,6 @@
 // Calls that ask an allocator for nothing, though what they are given holds one. The writers are given none: a
 // slice, and a `Program` that doesn't lend its own.
+use crate::assertions::Test;
 use crate::fault_injection::{Fault, FaultyAllocator, FaultyWriter};
 use crate::loaded::{ICMP_WORDS, STRAIGHT, program_of, session_of, two_packets};
 use cbpf_code::{CheckFault, Ext, Insn, check, read_words};
@@ -82,12 +83,8 @@ fn list<A: Allocator + Copy>(rt: &impl Abort, session: &Session<MarkTrail, A>) {
 }
 
 /// A run over both stops, into another memory.
-fn run_on<A: Allocator + Copy>(
-    rt: &impl Abort,
-    alloc: Global,
-    session: &mut Session<MarkTrail, A>,
-) {
-    let mut found = Vec::new(alloc);
+fn run_on<A: Allocator + Copy>(rt: &impl Test, session: &mut Session<MarkTrail, A>) {
+    let mut found = Vec::new(rt.alloc());
     assert!(rt; session.run_to_end(&mut Meter::new(), &mut found).is_ok());
     assert!(rt; found.len() == 2);
 }
@@ -106,37 +103,28 @@ fn begin<A: Allocator + Copy>(rt: &impl Abort, alloc: A) -> Session<MarkTrail, A
     session
 }
 
-fn call_each<A: Allocator + Copy>(
-    rt: &impl Abort,
-    alloc: Global,
-    session: &mut Session<MarkTrail, A>,
-) {
+fn call_each<A: Allocator + Copy>(rt: &impl Test, session: &mut Session<MarkTrail, A>) {
     set(rt, session);
     dump(rt, session);
     go(rt, session);
     go_to(rt, session);
     list(rt, session);
-    run_on(rt, alloc, session);
+    run_on(rt, session);
     delete(rt, session);
 }
 
-/// Calls of a session of `alloc`, whose calls `refusing` counts, with `other` for the stops.
-fn calls_of<A: Allocator + Copy>(
-    rt: &impl Abort,
-    alloc: A,
-    refusing: &FaultyAllocator<Global>,
-    other: Global,
-) {
+/// Calls of a session of `alloc`, whose calls `refusing` counts.
+fn calls_of<A: Allocator + Copy>(rt: &impl Test, alloc: A, refusing: &FaultyAllocator<Global>) {
     let mut session = begin(rt, alloc);
     let left = refusing.left();
-    call_each(rt, other, &mut session);
+    call_each(rt, &mut session);
     assert!(rt; refusing.left() == left);
 }
 
 #[test]
 fn calls_of_a_session(rt: HostRuntime) {
     let refusing = FaultyAllocator::new(rt.alloc(), 1000);
-    calls_of(&rt, &refusing, &refusing, rt.alloc());
+    calls_of(&rt, &refusing, &refusing);
 }
 
 /// A program of `alloc`, whose calls `refusing` counts, goes into a session.
@@ -201,8 +189,8 @@ fn fault_of<A: Allocator>(list: Vec<Insn, A>) -> Option<CheckFault> {
 }
 
 /// A check, around which no room is asked for.
-fn check_words(rt: &impl Abort, alloc: Global, words: &[u8], wanted: Option<CheckFault>) {
-    let refusing = FaultyAllocator::new(alloc, 1000);
+fn check_words(rt: &impl Test, words: &[u8], wanted: Option<CheckFault>) {
+    let refusing = FaultyAllocator::new(rt.alloc(), 1000);
     let list = read_words(&refusing, words).expect(rt, "the list");
     let left = refusing.left();
     assert!(rt; fault_of(list) == wanted);
@@ -212,6 +200,6 @@ fn check_words(rt: &impl Abort, alloc: Global, words: &[u8], wanted: Option<Chec
 #[test]
 fn the_checker(rt: HostRuntime) {
     for (words, wanted) in CHECKED.iter() {
-        check_words(&rt, rt.alloc(), words, *wanted);
+        check_words(&rt, words, *wanted);
     }
 }

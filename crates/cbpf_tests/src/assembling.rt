@@ -1,79 +1,71 @@
 // The assembler over readers, flushes and allocators that fail at one call.
+use crate::assertions::Test;
 use crate::fault_injection::{ERROR_KINDS, Fault, FaultyAllocator, FaultyReader, FaultyWriter};
 use crate::loaded::{ARP, ARP_C, ARP_WORDS};
 use crate::places::assert_at;
 use cbpf_text::{AsmFault, AsmKind};
 use cbpf_tool::{Form, ToolFault, asm};
-use std::alloc::Global;
 use std::io::ErrorKind;
-use std::process::Abort;
 
 /// What the source assembles to, in both forms.
 const ARP_TEXTS: [(Form, &[u8]); 2] = [(Form::Decimal, ARP_WORDS), (Form::C, ARP_C)];
 
 /// One read after another fails.
-fn each_read_fails(rt: &impl Abort, alloc: Global, form: Form, kind: ErrorKind) {
+fn each_read_fails(rt: &impl Test, form: Form, kind: ErrorKind) {
     for call in 1..ARP.len() as u64 + 2 {
         let mut reader = FaultyReader::new(ARP, 1, call);
         reader.set_error(kind);
         let mut writer = FaultyWriter::<256>::new(Fault::Fails, 0);
-        let result = asm(alloc, &mut reader, &mut writer, form);
+        let result = asm(rt.alloc(), &mut reader, &mut writer, form);
         assert_at(rt, result == Err(ToolFault::Read), "the read fault", call);
         assert_at(rt, reader.calls() == call, "the reads up to a fault", call);
         assert_at(rt, writer.written().is_empty(), "no text", call);
     }
 }
 
-fn the_flush_fails(rt: &impl Abort, alloc: Global, form: Form, text: &[u8], kind: ErrorKind) {
+fn the_flush_fails(rt: &impl Test, form: Form, text: &[u8], kind: ErrorKind) {
     let mut reader = ARP;
     let mut writer = FaultyWriter::<256>::new(Fault::Fails, 0);
     writer.set_flush_fails(true);
     writer.set_error(kind);
-    let result = asm(alloc, &mut reader, &mut writer, form);
+    let result = asm(rt.alloc(), &mut reader, &mut writer, form);
     assert!(rt; result == Err(ToolFault::Write));
     assert!(rt; writer.written() == text);
     assert!(rt; writer.flushes() == 1);
 }
 
 /// Nothing fails over a reader that gives pieces of this length.
-fn assembles(
-    rt: &impl Abort,
-    alloc: Global,
-    form: Form,
-    text: &[u8],
-    piece: usize,
-    reader: &mut FaultyReader<'_>,
-) {
+fn assembles(rt: &impl Test, form: Form, text: &[u8], piece: usize, reader: &mut FaultyReader<'_>) {
     let mut writer = FaultyWriter::<256>::new(Fault::Fails, 0);
-    let result = asm(alloc, reader, &mut writer, form);
+    let result = asm(rt.alloc(), reader, &mut writer, form);
     assert_at(rt, result == Ok(()), "the answer", piece);
     assert_at(rt, writer.written() == text, "the text", piece);
     assert_at(rt, writer.flushes() == 1, "the flushes", piece);
 }
 
 /// Nothing fails, and a read gives so many bytes at most.
-fn none_fails(rt: &impl Abort, alloc: Global, form: Form, text: &[u8]) {
+fn none_fails(rt: &impl Test, form: Form, text: &[u8]) {
     for piece in 1..60usize {
         let mut reader = FaultyReader::new(ARP, piece, 0);
-        assembles(rt, alloc, form, text, piece, &mut reader);
+        assembles(rt, form, text, piece, &mut reader);
         // No read is made after the one that finds the end.
         let reads = ARP.len().div_ceil(piece) as u64 + 1;
         assert_at(rt, reader.calls() == reads, "the reads", piece);
     }
 }
 
-fn in_one_form(rt: &impl Abort, alloc: Global, form: Form, text: &[u8]) {
+fn in_one_form(rt: &impl Test, form: Form, text: &[u8]) {
     for kind in ERROR_KINDS {
-        each_read_fails(rt, alloc, form, kind);
-        the_flush_fails(rt, alloc, form, text, kind);
+        each_read_fails(rt, form, kind);
+        the_flush_fails(rt, form, text, kind);
     }
-    none_fails(rt, alloc, form, text);
+    none_fails(rt, form, text);
 }
 
 #[test]
 fn each_read_or_flush_that_fails(rt: HostRuntime) {
     for (form, text) in ARP_TEXTS {
-        in_one_form(&rt, rt.alloc(), form, text);
+        in_one_form(&rt, form, text);
     }
 }
 
@@ -90,15 +82,14 @@ const SOURCES: [Source; 5] = [
 
 /// Whether the growth `nth` is refused: then nothing is written, and else this answer is given.
 fn is_refused(
-    rt: &impl Abort,
-    alloc: Global,
+    rt: &impl Test,
     form: Form,
     source: &[u8],
     answer: (Result<(), ToolFault>, &[u8]),
     row: usize,
     nth: u64,
 ) -> bool {
-    let alloc = FaultyAllocator::new(alloc, nth);
+    let alloc = FaultyAllocator::new(rt.alloc(), nth);
     let mut reader = source;
     let mut writer = FaultyWriter::<256>::new(Fault::Fails, 0);
     let result = asm(&alloc, &mut reader, &mut writer, form);
@@ -115,14 +106,7 @@ fn is_refused(
 }
 
 /// Each growth over a source is refused, one after another.
-fn each_growth_is_refused(
-    rt: &impl Abort,
-    alloc: Global,
-    form: Form,
-    text: &[u8],
-    source: Source,
-    row: usize,
-) {
+fn each_growth_is_refused(rt: &impl Test, form: Form, text: &[u8], source: Source, row: usize) {
     let (source, refusal, least) = source;
     let answer = match refusal {
         None => (Ok(()), text),
@@ -133,7 +117,7 @@ fn each_growth_is_refused(
     };
     let mut growths = 0u64;
     for nth in 1..200u64 {
-        if !is_refused(rt, alloc, form, source, answer, row, nth) {
+        if !is_refused(rt, form, source, answer, row, nth) {
             break;
         }
         growths = nth;
@@ -142,15 +126,15 @@ fn each_growth_is_refused(
     assert_at(rt, are_enough, "the number of growths", (row, growths));
 }
 
-fn each_source(rt: &impl Abort, alloc: Global, form: Form, text: &[u8]) {
+fn each_source(rt: &impl Test, form: Form, text: &[u8]) {
     for (row, source) in SOURCES.iter().enumerate() {
-        each_growth_is_refused(rt, alloc, form, text, *source, row);
+        each_growth_is_refused(rt, form, text, *source, row);
     }
 }
 
 #[test]
 fn each_refused_growth_leaves_nothing_written(rt: HostRuntime) {
     for (form, text) in ARP_TEXTS {
-        each_source(&rt, rt.alloc(), form, text);
+        each_source(&rt, form, text);
     }
 }

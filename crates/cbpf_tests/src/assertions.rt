@@ -2,6 +2,11 @@
 
 use std::process::Abort;
 
+/// The runtime of a test, which can end it, and gives memory.
+pub trait Test: Abort + AllocGlobal {}
+
+impl<R: Abort + AllocGlobal> Test for R {}
+
 /// Of a row, a record or a place.
 pub fn assert_at(rt: &impl Abort, at: usize, holds: bool) {
     assert!(rt; holds, "at {at}");

@@ -1,7 +1,7 @@
 // Each beginning of a source, with its number of instructions or its refusal.
+use crate::assertions::Test;
 use cbpf_text::{AsmFault, AsmKind, assemble};
 use std::alloc::Global;
-use std::process::Abort;
 
 /// What a beginning is answered by.
 #[derive(Clone, Copy, PartialEq)]
@@ -74,24 +74,20 @@ fn answer_to(alloc: Global, source: &[u8]) -> Answer {
 }
 
 /// The beginnings from one length to another have this answer.
-fn have_answer(
-    rt: &impl Abort,
-    alloc: Global,
-    source: &[u8],
-    first: usize,
-    last: usize,
-    answer: Answer,
-) {
+fn have_answer(rt: &impl Test, source: &[u8], first: usize, last: usize, answer: Answer) {
     for len in first..=last {
         assert!(rt; len <= source.len());
-        assert!(rt; answer_to(alloc, &source[..len]) == answer, "length {len}");
+        assert!(rt;
+            answer_to(rt.alloc(), &source[..len]) == answer,
+            "length {len}"
+        );
     }
 }
 
-fn each_beginning(rt: &impl Abort, alloc: Global, source: &[u8], answers: &[(usize, Answer)]) {
+fn each_beginning(rt: &impl Test, source: &[u8], answers: &[(usize, Answer)]) {
     let mut next: usize = 0;
     for (last, answer) in answers {
-        have_answer(rt, alloc, source, next, *last, *answer);
+        have_answer(rt, source, next, *last, *answer);
         next = last.saturating_add(1);
     }
     assert!(rt; next == source.len().saturating_add(1));
@@ -99,6 +95,6 @@ fn each_beginning(rt: &impl Abort, alloc: Global, source: &[u8], answers: &[(usi
 
 #[test]
 fn each_beginning_of_two_sources(rt: HostRuntime) {
-    each_beginning(&rt, rt.alloc(), BRANCH, &BRANCH_ANSWERS);
-    each_beginning(&rt, rt.alloc(), COMMENTS, &COMMENTS_ANSWERS);
+    each_beginning(&rt, BRANCH, &BRANCH_ANSWERS);
+    each_beginning(&rt, COMMENTS, &COMMENTS_ANSWERS);
 }

@@ -1,18 +1,16 @@
 //! Captures whose records have no bytes, of which each 64th one's start is kept.
 
-use crate::assertions::assert_at;
+use crate::assertions::{Test, assert_at};
 use crate::captures::capture;
 use crate::programs::program_of;
 use crate::two_packets;
 use cbpf_dbg::{ListTrail, MarkTrail, Meter, RunReply, Session, Trail};
 use pcap_classic::Capture;
-use std::alloc::Global;
-use std::process::Abort;
 
 /// A file header, and so many record headers of captured length 0.
-fn empty_records(rt: &impl Abort, alloc: Global, count: u32) -> Vec<u8> {
+fn empty_records(rt: &impl Test, count: u32) -> Vec<u8> {
     let header = two_packets::little_endian().get(..24).unwrap_or(b"");
-    let mut file = Vec::from_slice(alloc, header).expect(rt, "memory");
+    let mut file = Vec::from_slice(rt.alloc(), header).expect(rt, "memory");
     for _ in 0..count {
         file.extend_from_slice(&[0; 16]).expect(rt, "memory");
     }
@@ -25,8 +23,8 @@ const MARKS: [(u32, usize); 4] = [(130, 3), (65, 2), (64, 1), (0, 0)];
 #[test]
 fn starts_that_are_kept(rt: HostRuntime) {
     for (count, marks) in MARKS {
-        let file = empty_records(&rt, rt.alloc(), count);
-        let capture = capture(&rt, rt.alloc(), &file);
+        let file = empty_records(&rt, count);
+        let capture = capture(&rt, &file);
         let is_kept = capture.count() == u64::from(count) && capture.marks() == marks;
         assert_at(&rt, count as usize, is_kept);
     }
@@ -65,21 +63,21 @@ fn run<T: Trail>(s: &mut Session<T>) -> Option<(u64, u64, u128)> {
 }
 
 /// Runs `ret #1` over each record.
-fn assert_run<T: Trail>(rt: &impl Abort, alloc: Global, trail: T, capture: Capture) {
-    let mut s = Session::new(alloc, trail);
-    s.load_program(program_of(rt, alloc, &[(6, 0, 0, 1)]));
+fn assert_run<T: Trail>(rt: &impl Test, trail: T, capture: Capture) {
+    let mut s = Session::new(rt.alloc(), trail);
+    s.load_program(program_of(rt, &[(6, 0, 0, 1)]));
     s.load_capture(capture);
     assert!(rt; run(&mut s) == Some((130, 0, 130)));
 }
 
 #[test]
 fn a_capture_of_130_records(rt: HostRuntime) {
-    let file = empty_records(&rt, rt.alloc(), 130);
+    let file = empty_records(&rt, 130);
     assert!(rt; file.len() == 2104);
-    let first = capture(&rt, rt.alloc(), &file);
+    let first = capture(&rt, &file);
     assert!(rt; has_130(&first));
     assert!(rt; walks_130(&first));
-    assert_run(&rt, rt.alloc(), MarkTrail::new(), first);
+    assert_run(&rt, MarkTrail::new(), first);
     let all = ListTrail::new(rt.alloc()).expect(&rt, "memory");
-    assert_run(&rt, rt.alloc(), all, capture(&rt, rt.alloc(), &file));
+    assert_run(&rt, all, capture(&rt, &file));
 }

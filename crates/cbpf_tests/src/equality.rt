@@ -1,12 +1,11 @@
 //! Values are equal where all their fields are: those that differ in one field alone differ.
 
-use crate::assertions::assert_at_both;
+use crate::assertions::{Test, assert_at_both};
 use crate::programs::{next_state, program_of};
 use cbpf_code::Ext;
 use cbpf_machine::{Meter, State};
 use cbpf_reply::{Counts, Place, RunReply, Stop, Why};
 use pcap_classic::Captured;
-use std::alloc::Global;
 use std::process::Abort;
 
 /// The value at a place equals that of the same place alone.
@@ -44,12 +43,7 @@ static ROWS: [(u16, u32, u32); 9] = [
 ];
 
 /// The state after so many turns of a program that stores a number into a slot, and makes one more instruction.
-fn state_of(
-    rt: &impl Abort,
-    alloc: Global,
-    (value, slot): (u32, u32),
-    (code, k, turns): (u16, u32, u32),
-) -> State {
+fn state_of(rt: &impl Test, (value, slot): (u32, u32), (code, k, turns): (u16, u32, u32)) -> State {
     let list = [
         (0, 0, 0, value),
         (2, 0, 0, slot),
@@ -57,7 +51,7 @@ fn state_of(
         (0, 0, 0, 0),
         (6, 0, 0, 0),
     ];
-    let p = program_of(rt, alloc, &list);
+    let p = program_of(rt, &list);
     let mut meter = Meter::new();
     let mut s = State::zero();
     for _ in 0..turns {
@@ -67,21 +61,21 @@ fn state_of(
 }
 
 /// States that differ from the first one in pc, A or X.
-fn registers(rt: &impl Abort, alloc: Global) -> Vec<State> {
-    let mut states = Vec::new(alloc);
+fn registers(rt: &impl Test) -> Vec<State> {
+    let mut states = Vec::new(rt.alloc());
     for row in ROWS {
-        let state = state_of(rt, alloc, (0, 0), row);
+        let state = state_of(rt, (0, 0), row);
         states.push(state).expect(rt, "memory");
     }
     states
 }
 
 /// The same, and states that differ from the first one in one slot, each by two values.
-fn states(rt: &impl Abort, alloc: Global) -> Vec<State> {
-    let mut states = registers(rt, alloc);
+fn states(rt: &impl Test) -> Vec<State> {
+    let mut states = registers(rt);
     for n in 0..32u32 {
         let value = if n < 16 { 1 } else { 65536 };
-        let state = state_of(rt, alloc, (value, n % 16), ROWS[0]);
+        let state = state_of(rt, (value, n % 16), ROWS[0]);
         states.push(state).expect(rt, "memory");
     }
     states
@@ -89,9 +83,9 @@ fn states(rt: &impl Abort, alloc: Global) -> Vec<State> {
 
 #[test]
 fn states_differ_where_a_register_or_a_slot_does(rt: HostRuntime) {
-    let ones = states(&rt, rt.alloc());
+    let ones = states(&rt);
     assert!(rt; ones.len() == 41);
-    compare(&rt, &ones, &states(&rt, rt.alloc()));
+    compare(&rt, &ones, &states(&rt));
 }
 
 static PLACES: [Place; 5] = [
@@ -141,10 +135,10 @@ fn add_reasons(rt: &impl Abort, stops: &mut Vec<Stop>, state: State) {
 }
 
 /// Stops that differ from the first one in the state, then in the place, then in the reason.
-fn stops(rt: &impl Abort, alloc: Global) -> Vec<Stop> {
-    let states = states(rt, alloc);
+fn stops(rt: &impl Test) -> Vec<Stop> {
+    let states = states(rt);
     let state = *states.first().expect(rt, "a state");
-    let mut stops = Vec::new(alloc);
+    let mut stops = Vec::new(rt.alloc());
     add_states(rt, &mut stops, &states);
     add_places(rt, &mut stops, state);
     add_reasons(rt, &mut stops, state);
@@ -155,7 +149,7 @@ fn stops(rt: &impl Abort, alloc: Global) -> Vec<Stop> {
 fn stops_differ_where_a_field_does(rt: HostRuntime) {
     compare(&rt, &PLACES, &PLACES);
     compare(&rt, &REASONS, &REASONS);
-    compare(&rt, &stops(&rt, rt.alloc()), &stops(&rt, rt.alloc()));
+    compare(&rt, &stops(&rt), &stops(&rt));
 }
 
 /// Numbers of packets that passed, that failed, and that asked for an extension.
@@ -169,8 +163,8 @@ static COUNTS: [(u64, u64, u64); 7] = [
     (1, 1, 4294967297),
 ];
 
-fn counts(rt: &impl Abort, alloc: Global) -> Vec<Counts> {
-    let mut all = Vec::new(alloc);
+fn counts(rt: &impl Test) -> Vec<Counts> {
+    let mut all = Vec::new(rt.alloc());
     for (passes, fails, unknown) in COUNTS {
         let counts = Counts {
             passes,
@@ -192,10 +186,10 @@ fn add_counts(rt: &impl Abort, replies: &mut Vec<RunReply>, all: &[Counts]) {
 }
 
 /// Each of these counts in both replies that have some, and each stop.
-fn replies(rt: &impl Abort, alloc: Global) -> Vec<RunReply> {
-    let mut replies = Vec::new(alloc);
-    add_counts(rt, &mut replies, &counts(rt, alloc));
-    for stop in &stops(rt, alloc) {
+fn replies(rt: &impl Test) -> Vec<RunReply> {
+    let mut replies = Vec::new(rt.alloc());
+    add_counts(rt, &mut replies, &counts(rt));
+    for stop in &stops(rt) {
         replies.push(RunReply::Stopped(*stop)).expect(rt, "memory");
     }
     replies
@@ -203,8 +197,8 @@ fn replies(rt: &impl Abort, alloc: Global) -> Vec<RunReply> {
 
 #[test]
 fn replies_differ_where_a_field_does(rt: HostRuntime) {
-    compare(&rt, &counts(&rt, rt.alloc()), &counts(&rt, rt.alloc()));
-    compare(&rt, &replies(&rt, rt.alloc()), &replies(&rt, rt.alloc()));
+    compare(&rt, &counts(&rt), &counts(&rt));
+    compare(&rt, &replies(&rt), &replies(&rt));
 }
 
 /// Records that differ from the first one in one field, the last three in their bytes.

@@ -1,11 +1,11 @@
 // A reader that gives a few bytes a call, and fails at one call.
+use crate::assertions::Test;
 use crate::fault_injection::{ERROR_KINDS, Fault, FaultyReader, FaultyWriter};
 use crate::loaded::{ARP_SCRIPT, ARP_SCRIPT_REPLIES};
 use crate::places::assert_at;
 use cbpf_tool::{MemoryFiles, ToolFault, debug};
 use std::alloc::Global;
 use std::io::ErrorKind;
-use std::process::Abort;
 
 /// What the first line of `ARP_SCRIPT` writes.
 const ARP_FIRST_REPLY: &[u8] = b"bpf: 4 instructions\n";
@@ -21,12 +21,12 @@ fn run(
 }
 
 /// One read after another fails.
-fn each_read_fails(rt: &impl Abort, alloc: Global, kind: ErrorKind) {
+fn each_read_fails(rt: &impl Test, kind: ErrorKind) {
     for call in 1..=ARP_SCRIPT.len() {
         let mut reader = FaultyReader::new(ARP_SCRIPT, 1, call as u64);
         reader.set_error(kind);
         let mut writer = FaultyWriter::<256>::new(Fault::Fails, 0);
-        let result = run(alloc, &mut reader, &mut writer);
+        let result = run(rt.alloc(), &mut reader, &mut writer);
         assert_at(rt, result == Err(ToolFault::Read), "the fault", call);
         let (reads, replies) = (reader.calls(), replies_before(call));
         assert_at(rt, reads == call as u64, "the reads up to a fault", call);
@@ -45,11 +45,11 @@ fn replies_before(call: usize) -> &'static [u8] {
 }
 
 /// No read fails, and each gives so many bytes at most.
-fn none_fails(rt: &impl Abort, alloc: Global) {
+fn none_fails(rt: &impl Test) {
     for piece in 1..80usize {
         let mut reader = FaultyReader::new(ARP_SCRIPT, piece, 0);
         let mut writer = FaultyWriter::<256>::new(Fault::Fails, 0);
-        let result = run(alloc, &mut reader, &mut writer);
+        let result = run(rt.alloc(), &mut reader, &mut writer);
         assert_at(rt, result == Ok(()), "the answer", piece);
         let is_whole = writer.written() == ARP_SCRIPT_REPLIES;
         assert_at(rt, is_whole, "the replies", piece);
@@ -59,7 +59,7 @@ fn none_fails(rt: &impl Abort, alloc: Global) {
 #[test]
 fn each_read_that_fails_leaves_the_replies_to_the_whole_lines_before_it(rt: HostRuntime) {
     for kind in ERROR_KINDS {
-        each_read_fails(&rt, rt.alloc(), kind);
+        each_read_fails(&rt, kind);
     }
-    none_fails(&rt, rt.alloc());
+    none_fails(&rt);
 }

@@ -1,17 +1,16 @@
 // The calls that write, over writers that take one byte a call, and fail or take nothing at one call.
+use crate::assertions::Test;
 use crate::fault_injection::{Fault, FaultyWriter};
 use crate::loaded::{
     ARP, ARP_C, ARP_SCRIPT, ARP_SCRIPT_REPLIES, ARP_WORDS, ICMP_WORDS, program_of, session_of,
     two_packets_as_k,
 };
 use crate::places::assert_at;
-use cbpf_code::{write_bytes, write_c, write_words};
+use cbpf_code::{WriteFault, write_bytes, write_c, write_words};
 use cbpf_dbg::{Meter, RunReply};
 use cbpf_text::write_listing;
 use cbpf_tool::{Form, ToolFault, asm, debug};
-use std::alloc::Global;
 use std::io::ErrorKind;
-use std::process::Abort;
 
 /// How a write goes wrong.
 const FAULTS: [(Fault, ErrorKind); 4] = [
@@ -137,18 +136,49 @@ l5:\tret #0\n",
 ];
 
 fn write_program(
-    alloc: Global,
+    rt: &impl Test,
     call: Call,
     words: &[u8],
     w: &mut FaultyWriter<2048>,
-) -> Result<(), ToolFault> {
-    let Ok(program) = program_of(alloc, words) else {
-        return Err(ToolFault::Memory);
-    };
-    let written = match call {
+) -> Result<(), WriteFault> {
+    let program = program_of(rt.alloc(), words).expect(rt, "the program");
+    match call {
         Call::C => write_c(w, program.as_slice()),
         Call::Listing => write_listing(w, &program),
         _ => write_words(w, program.as_slice()),
+    }
+}
+
+fn write_first_stop(rt: &impl Test, w: &mut FaultyWriter<2048>) -> Result<(), WriteFault> {
+    let mut session = session_of(rt.alloc(), ICMP_WORDS).expect(rt, "the session");
+    assert!(rt; session.breakpoint(1) == Ok(()));
+    match session.run(&mut Meter::new(), None) {
+        Ok(RunReply::Stopped(stop)) => session.write_stop(w, &stop),
+        _ => panic!(rt; "no stop"),
+    }
+}
+
+fn write_replies(
+    rt: &impl Test,
+    script: &[u8],
+    w: &mut FaultyWriter<2048>,
+) -> Result<(), ToolFault> {
+    let mut files = two_packets_as_k(rt);
+    let mut reader = script;
+    debug(rt.alloc(), &mut reader, w, &mut files)
+}
+
+fn write(rt: &impl Test, call: Call, w: &mut FaultyWriter<2048>) -> Result<(), ToolFault> {
+    let written = match call {
+        Call::Bytes => write_bytes(w, ARP),
+        Call::Words(words) => write_program(rt, call, words, w),
+        Call::C | Call::Listing => write_program(rt, call, ICMP_WORDS, w),
+        Call::Stop => write_first_stop(rt, w),
+        Call::Asm(form) => {
+            let mut source = ARP;
+            return asm(rt.alloc(), &mut source, w, form);
+        }
+        Call::Debug(script) => return write_replies(rt, script, w),
     };
     match written {
         Ok(()) => Ok(()),
@@ -156,94 +186,36 @@ fn write_program(
     }
 }
 
-fn write_first_stop(alloc: Global, w: &mut FaultyWriter<2048>) -> Result<(), ToolFault> {
-    let Ok(mut session) = session_of(alloc, ICMP_WORDS) else {
-        return Err(ToolFault::Memory);
-    };
-    if session.breakpoint(1).is_err() {
-        return Err(ToolFault::Memory);
-    }
-    match session.run(&mut Meter::new(), None) {
-        Ok(RunReply::Stopped(stop)) => match session.write_stop(w, &stop) {
-            Ok(()) => Ok(()),
-            Err(_) => Err(ToolFault::Write),
-        },
-        _ => Err(ToolFault::Memory),
-    }
-}
-
-fn write_replies(
-    alloc: Global,
-    script: &[u8],
-    w: &mut FaultyWriter<2048>,
-) -> Result<(), ToolFault> {
-    let Ok(mut files) = two_packets_as_k(alloc) else {
-        return Err(ToolFault::Memory);
-    };
-    let mut reader = script;
-    debug(alloc, &mut reader, w, &mut files)
-}
-
-fn write(alloc: Global, call: Call, w: &mut FaultyWriter<2048>) -> Result<(), ToolFault> {
-    match call {
-        Call::Bytes => match write_bytes(w, ARP) {
-            Ok(()) => Ok(()),
-            Err(_) => Err(ToolFault::Write),
-        },
-        Call::Words(words) => write_program(alloc, call, words, w),
-        Call::C | Call::Listing => write_program(alloc, call, ICMP_WORDS, w),
-        Call::Asm(form) => {
-            let mut source = ARP;
-            asm(alloc, &mut source, w, form)
-        }
-        Call::Stop => write_first_stop(alloc, w),
-        Call::Debug(script) => write_replies(alloc, script, w),
-    }
-}
-
 /// No write goes wrong.
-fn none_goes_wrong(rt: &impl Abort, alloc: Global, call: Call, text: &[u8]) {
+fn none_goes_wrong(rt: &impl Test, call: Call, text: &[u8]) {
     let mut writer = FaultyWriter::new(Fault::Fails, 0);
-    let answer = write(alloc, call, &mut writer);
+    let answer = write(rt, call, &mut writer);
     assert_at(rt, answer == Ok(()), "the answer", call);
     assert_at(rt, writer.written() == text, "the text", call);
     assert_at(rt, writer.calls() == text.len() as u64, "the writes", call);
 }
 
 /// A write goes wrong after these bytes.
-fn goes_wrong(
-    rt: &impl Abort,
-    alloc: Global,
-    call: Call,
-    text: &[u8],
-    writer: &mut FaultyWriter<2048>,
-) {
+fn goes_wrong(rt: &impl Test, call: Call, text: &[u8], writer: &mut FaultyWriter<2048>) {
     let i = text.len();
-    let result = write(alloc, call, writer);
+    let result = write(rt, call, writer);
     assert_at(rt, result == Err(ToolFault::Write), "the fault", (call, i));
     assert_at(rt, writer.written() == text, "the text", (call, i));
     assert_at(rt, writer.calls() == i as u64 + 1, "the writes", (call, i));
 }
 
 /// One write after another goes wrong.
-fn each_goes_wrong(
-    rt: &impl Abort,
-    alloc: Global,
-    call: Call,
-    text: &[u8],
-    fault: Fault,
-    kind: ErrorKind,
-) {
+fn each_goes_wrong(rt: &impl Test, call: Call, text: &[u8], fault: Fault, kind: ErrorKind) {
     for i in 0..text.len() {
         let mut writer = FaultyWriter::new(fault, i as u64 + 1);
         writer.set_error(kind);
-        goes_wrong(rt, alloc, call, &text[..i], &mut writer);
+        goes_wrong(rt, call, &text[..i], &mut writer);
     }
 }
 
-fn each_fault(rt: &impl Abort, alloc: Global, call: Call, text: &[u8]) {
+fn each_fault(rt: &impl Test, call: Call, text: &[u8]) {
     for (fault, kind) in FAULTS {
-        each_goes_wrong(rt, alloc, call, text, fault, kind);
+        each_goes_wrong(rt, call, text, fault, kind);
     }
 }
 
@@ -251,7 +223,7 @@ fn each_fault(rt: &impl Abort, alloc: Global, call: Call, text: &[u8]) {
 #[test]
 fn a_write_that_goes_wrong_is_the_last_one(rt: HostRuntime) {
     for (call, text) in CALLS.iter() {
-        none_goes_wrong(&rt, rt.alloc(), *call, text);
-        each_fault(&rt, rt.alloc(), *call, text);
+        none_goes_wrong(&rt, *call, text);
+        each_fault(&rt, *call, text);
     }
 }

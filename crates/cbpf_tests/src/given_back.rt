@@ -132,7 +132,7 @@ fn loads_of_files(rt: HostRuntime) {
             .is_ok()
     );
     assert!(rt; counting.asked() > 0 && counting.held() == 0);
-    let mut files = two_packets_as_k(rt.alloc()).expect(&rt, "the files");
+    let mut files = two_packets_as_k(&rt);
     assert!(rt; files.load(&counting, "k").is_ok());
     assert!(rt; files.load(&counting, "absent").is_err());
     assert!(rt; counting.held() == 0);
@@ -197,7 +197,7 @@ fn commands_of_a_script(rt: HostRuntime) {
         held: 0,
         differing: 0,
     };
-    let mut files = two_packets_as_k(rt.alloc()).expect(&rt, "the files");
+    let mut files = two_packets_as_k(&rt);
     let bad = Vec::from_slice(rt.alloc(), RECORD).expect(&rt, "the bytes");
     assert!(rt; files.put("bad", bad).is_ok());
     let mut replies = Vec::new(rt.alloc());
@@ -260,7 +260,7 @@ fn index_of<A: Allocator + Copy>(
 fn room_for_the_index_of_a_capture(rt: HostRuntime) {
     for (records, room) in INDEXES.iter() {
         let counting = FaultyAllocator::new(rt.alloc(), 0);
-        let bytes = repeated(rt.alloc(), HEADER, RECORD, *records, b"").expect(&rt, "the bytes");
+        let bytes = repeated(&rt, HEADER, RECORD, *records, b"");
         let found = index_of(&rt, &counting, &counting, &bytes);
         let is_wanted = found == (*room, *room);
         assert_at(&rt, is_wanted, "the bytes of the index", *records);

@@ -1,24 +1,23 @@
 // Calls at sizes near their greatest sensible ones, with memory at hand, which no script of the program makes.
+use crate::assertions::Test;
 use crate::loaded::{HEADER, RECORD, STRAIGHT, program_of, repeated};
 use crate::places::assert_at;
 use cbpf_dbg::{Counts, MarkTrail, Meter, Place, Session, Stop};
 use cbpf_text::tokens;
 use cbpf_tool::{Files, MemoryFiles};
 use pcap_classic::Capture;
-use std::alloc::{AllocError, Global};
 use std::process::Abort;
 
 /// A session of 21 instructions over 2500 packets.
-fn session_of_2500(alloc: Global) -> Result<Session<MarkTrail>, AllocError> {
-    let program = program_of(alloc, STRAIGHT)?;
-    let bytes = repeated(alloc, HEADER, RECORD, 2500, b"")?;
-    let Ok(capture) = Capture::from_bytes(alloc, bytes) else {
-        return Err(AllocError);
-    };
-    let mut session = Session::new(alloc, MarkTrail::new());
-    session.load_program(program);
+fn session_of_2500(rt: &impl Test) -> Session<MarkTrail> {
+    let bytes = repeated(rt, HEADER, RECORD, 2500, b"");
+    let capture = Capture::from_bytes(rt.alloc(), bytes)
+        .ok()
+        .expect(rt, "the capture");
+    let mut session = Session::new(rt.alloc(), MarkTrail::new());
+    session.load_program(program_of(rt.alloc(), STRAIGHT).expect(rt, "the program"));
     session.load_capture(capture);
-    Ok(session)
+    session
 }
 
 /// A run over all packets, which finishes.
@@ -49,7 +48,7 @@ fn are_both_of_each(rt: &impl Abort, stops: &[Stop]) {
 
 #[test]
 fn a_run_to_the_end_with_5000_stops(rt: HostRuntime) {
-    let mut session = session_of_2500(rt.alloc()).expect(&rt, "the session");
+    let mut session = session_of_2500(&rt);
     assert!(rt; session.breakpoint(0) == Ok(()));
     assert!(rt; session.breakpoint(20) == Ok(()));
     let mut stops = Vec::new(rt.alloc());
@@ -60,7 +59,7 @@ fn a_run_to_the_end_with_5000_stops(rt: HostRuntime) {
 
 #[test]
 fn two_million_tokens(rt: HostRuntime) {
-    let source = repeated(rt.alloc(), b"", b"tax\n", 2000000, b"").expect(&rt, "the source");
+    let source = repeated(&rt, b"", b"tax\n", 2000000, b"");
     let tokens = tokens(rt.alloc(), &source).expect(&rt, "the tokens");
     assert!(rt; tokens.len() == 2000000);
     assert!(rt; tokens[1999999].start == 7999996);
@@ -74,23 +73,23 @@ fn name_of(n: u8) -> [u8; 300] {
 }
 
 /// The bytes of a file: one of them is of a million bytes.
-fn bytes_of(alloc: Global, n: u8) -> Result<Vec<u8>, AllocError> {
+fn bytes_of(rt: &impl Test, n: u8) -> Vec<u8> {
     let count = if n == 50 { 1000000 } else { 1 };
-    repeated(alloc, b"", &[n], count, b"")
+    repeated(rt, b"", &[n], count, b"")
 }
 
-fn put(rt: &impl Abort, alloc: Global, files: &mut MemoryFiles, n: u8) {
-    let bytes = bytes_of(alloc, n).expect(rt, "the bytes");
+fn put(rt: &impl Test, files: &mut MemoryFiles, n: u8) {
+    let bytes = bytes_of(rt, n);
     let name = name_of(n);
     let name = std::str::from_utf8(&name).ok().expect(rt, "the name");
     assert_at(rt, files.put(name, bytes).is_ok(), "a file", n);
 }
 
-fn is_there(rt: &impl Abort, alloc: Global, files: &mut MemoryFiles, n: u8) {
-    let wanted = bytes_of(alloc, n).expect(rt, "the bytes");
+fn is_there(rt: &impl Test, files: &mut MemoryFiles, n: u8) {
+    let wanted = bytes_of(rt, n);
     let name = name_of(n);
     let name = std::str::from_utf8(&name).ok().expect(rt, "the name");
-    let bytes = files.load(alloc, name).ok().expect(rt, "the load");
+    let bytes = files.load(rt.alloc(), name).ok().expect(rt, "the load");
     assert_at(rt, bytes.as_slice() == wanted.as_slice(), "the bytes", n);
 }
 
@@ -98,9 +97,9 @@ fn is_there(rt: &impl Abort, alloc: Global, files: &mut MemoryFiles, n: u8) {
 fn a_hundred_files_with_long_names(rt: HostRuntime) {
     let mut files = MemoryFiles::new(rt.alloc());
     for n in 0..100u8 {
-        put(&rt, rt.alloc(), &mut files, n);
+        put(&rt, &mut files, n);
     }
     for n in 0..100u8 {
-        is_there(&rt, rt.alloc(), &mut files, n);
+        is_there(&rt, &mut files, n);
     }
 }

@@ -1,4 +1,5 @@
 // Sources, programs, captures and files that several tests load.
+use crate::assertions::Test;
 use cbpf_code::{Program, check, read_words};
 use cbpf_dbg::{MarkTrail, Session};
 use cbpf_tool::MemoryFiles;
@@ -55,28 +56,21 @@ pub const HEADER: &[u8] = b"\xd4\xc3\xb2\xa1\x02\x00\x04\x00\x00\x00\x00\x00\x00
 pub const RECORD: &[u8] = b"\x01\x00\x00\x00\x02\x00\x00\x00\x01\x00\x00\x00\x3c\x00\x00\x00\x07";
 
 /// One piece many times, between a first and a last.
-pub fn repeated(
-    alloc: Global,
-    first: &[u8],
-    piece: &[u8],
-    count: u32,
-    last: &[u8],
-) -> Result<Vec<u8>, AllocError> {
-    let mut text = Vec::from_slice(alloc, first)?;
+pub fn repeated(rt: &impl Test, first: &[u8], piece: &[u8], count: u32, last: &[u8]) -> Vec<u8> {
+    let mut text = Vec::from_slice(rt.alloc(), first).expect(rt, "memory");
     for _ in 0..count {
-        text.extend_from_slice(piece)?;
+        text.extend_from_slice(piece).expect(rt, "memory");
     }
-    text.extend_from_slice(last)?;
-    Ok(text)
+    text.extend_from_slice(last).expect(rt, "memory");
+    text
 }
 
 /// Files in memory of which `k` is the capture of two packets.
-pub fn two_packets_as_k(alloc: Global) -> Result<MemoryFiles, AllocError> {
-    let mut files = MemoryFiles::new(alloc);
-    match files.put("k", Vec::from_slice(alloc, TWO_PACKETS)?) {
-        Ok(()) => Ok(files),
-        Err(_) => Err(AllocError),
-    }
+pub fn two_packets_as_k(rt: &impl Test) -> MemoryFiles {
+    let mut files = MemoryFiles::new(rt.alloc());
+    let bytes = Vec::from_slice(rt.alloc(), TWO_PACKETS).expect(rt, "the bytes");
+    assert!(rt; files.put("k", bytes).is_ok());
+    files
 }
 
 /// The program of this word text.

@@ -1,10 +1,9 @@
-use crate::assertions::assert_at;
+use crate::assertions::{Test, assert_at};
 use crate::loaded::program_of as of_words;
 use crate::programs::{next_state, program_of};
 use cbpf_code::{Ext, Insn, Program};
 use cbpf_machine::Outcome::{Fail, Pass, Unknown};
 use cbpf_machine::{Meter, Outcome, Packet, State, Values, missing_extension, run_packet};
-use std::alloc::Global;
 use std::process::Abort;
 
 /// How a packet ends.
@@ -128,13 +127,13 @@ fn asked_and_outcome(values: &Values, e: Ext) -> (Option<Ext>, Outcome) {
 }
 
 /// How a packet of 60 bytes ends, of which a load from a place is returned.
-fn loaded(rt: &impl Abort, alloc: Global, values: &Values, code: u16, place: u32) -> Outcome {
+fn loaded(rt: &impl Test, values: &Values, code: u16, place: u32) -> Outcome {
     let list = [(code, 0, 0, place), (22, 0, 0, 0)];
     let packet = Packet {
         bytes: &[7; 60],
         wire: 60,
     };
-    outcome(&program_of(rt, alloc, &list), packet, values)
+    outcome(&program_of(rt, &list), packet, values)
 }
 
 /// What a load from a place asks for.
@@ -149,29 +148,22 @@ fn asked(values: &Values, code: u16, k: u32) -> Option<Ext> {
 }
 
 /// Whether a load from an extension's place asks for what it is to ask for, and ends so.
-fn load_is_so(
-    rt: &impl Abort,
-    alloc: Global,
-    values: &Values,
-    code: u16,
-    e: Ext,
-    place: u32,
-) -> bool {
+fn load_is_so(rt: &impl Test, values: &Values, code: u16, e: Ext, place: u32) -> bool {
     let (ext, wanted) = asked_and_outcome(values, e);
-    asked(values, code, place) == ext && loaded(rt, alloc, values, code, place) == wanted
+    asked(values, code, place) == ext && loaded(rt, values, code, place) == wanted
 }
 
 /// Whether loads from an extension's place do, whatever their size: all bits of a value are loaded.
-fn loads_so(rt: &impl Abort, alloc: Global, values: &Values, e: Ext, place: u32) -> bool {
-    load_is_so(rt, alloc, values, 32, e, place)
-        && load_is_so(rt, alloc, values, 40, e, place)
-        && load_is_so(rt, alloc, values, 48, e, place)
+fn loads_so(rt: &impl Test, values: &Values, e: Ext, place: u32) -> bool {
+    load_is_so(rt, values, 32, e, place)
+        && load_is_so(rt, values, 40, e, place)
+        && load_is_so(rt, values, 48, e, place)
 }
 
-fn assert_loads_without_values(rt: &impl Abort, alloc: Global) {
+fn assert_loads_without_values(rt: &impl Test) {
     let none = Values::new();
     for (e, place, _) in EXTENSIONS {
-        let is_wanted = none.value_of(e).is_none() && loads_so(rt, alloc, &none, e, place);
+        let is_wanted = none.value_of(e).is_none() && loads_so(rt, &none, e, place);
         assert_at(rt, place as usize, is_wanted);
     }
 }
@@ -188,18 +180,18 @@ fn all_values(rt: &impl Abort) -> Values {
     values
 }
 
-fn assert_loads_with_values(rt: &impl Abort, alloc: Global, values: &Values) {
+fn assert_loads_with_values(rt: &impl Test, values: &Values) {
     for (e, place, value) in EXTENSIONS {
-        let is_wanted = values.value_of(e) == value && loads_so(rt, alloc, values, e, place);
+        let is_wanted = values.value_of(e) == value && loads_so(rt, values, e, place);
         assert_at(rt, place as usize, is_wanted);
     }
 }
 
 /// 0 is a value too, and takes the place of another.
-fn loads_0(rt: &impl Abort, alloc: Global, values: &mut Values) -> bool {
+fn loads_0(rt: &impl Test, values: &mut Values) -> bool {
     values.set(Ext::Mark, 0)
         && values.value_of(Ext::Mark) == Some(0)
-        && loads_so(rt, alloc, values, Ext::Mark, 4294963220)
+        && loads_so(rt, values, Ext::Mark, 4294963220)
 }
 
 /// Nothing but `ld`, `ldh` and `ldb` from the place of an extension asks for one.
@@ -213,10 +205,10 @@ fn others_ask_for_none() -> bool {
 
 #[test]
 fn extensions_without_and_with_values(rt: HostRuntime) {
-    assert_loads_without_values(&rt, rt.alloc());
+    assert_loads_without_values(&rt);
     let mut values = all_values(&rt);
-    assert_loads_with_values(&rt, rt.alloc(), &values);
-    assert!(rt; loads_0(&rt, rt.alloc(), &mut values) && others_ask_for_none());
+    assert_loads_with_values(&rt, &values);
+    assert!(rt; loads_0(&rt, &mut values) && others_ask_for_none());
 }
 
 fn is_packet(packet: Packet<'_>, bytes: &[u8], wire: u32) -> bool {

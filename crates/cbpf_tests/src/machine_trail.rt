@@ -3,7 +3,7 @@ ghost use Rattle.cbpf_machine.specs.Machine.{machine_of};
 ghost use Rattle.cbpf_machine.specs.Trace.{trace};
 ghost use Rattle.cbpf_machine.specs.Values.{no_values};
 
-use crate::assertions::{assert_at, assert_at_both};
+use crate::assertions::{Test, assert_at, assert_at_both};
 use cbpf_code::{Insn, Program, check};
 use cbpf_machine::{
     Before, Followed, ListTrail, MarkTrail, Meter, Outcome, Packet, State, Trail, Values, Watched,
@@ -13,8 +13,8 @@ use std::alloc::Global;
 use std::process::Abort;
 
 /// 4096 instructions, which count in the accumulator, keep each second count in a slot, and return.
-fn counting(rt: &impl Abort, alloc: Global) -> Program {
-    let mut list = Vec::new(alloc);
+fn counting(rt: &impl Test) -> Program {
+    let mut list = Vec::new(rt.alloc());
     for i in 1..=4096 {
         let (code, k) = match i {
             4096 => (22, 0),
@@ -44,9 +44,9 @@ fn is_entry(s: &State, n: u32) -> bool {
 }
 
 /// The table where one instruction is watched.
-fn only(rt: &impl Abort, alloc: Global, watched: u32) -> Watched {
+fn only(rt: &impl Test, watched: u32) -> Watched {
     assert!(rt; watched < 4096);
-    let mut table = Watched::none(alloc);
+    let mut table = Watched::none(rt.alloc());
     table.set(watched as usize, Some(When::Always));
     table
 }
@@ -78,8 +78,7 @@ fn fill<T: Trail>(
 /// Fills a trail, and follows the packet from its last entry to the instruction that is watched: where it
 /// then is, the state, and how many turns that took.
 fn filled_and_followed<T: Trail>(
-    rt: &impl Abort,
-    alloc: Global,
+    rt: &impl Test,
     trail: &mut T,
     p: &Program,
     count: u32,
@@ -94,14 +93,7 @@ fn filled_and_followed<T: Trail>(
     let _sound = p.len();
     let mut s = fill(rt, trail, p, packet, &values, count);
     let mut meter = Meter::new();
-    let followed = trail.follow(
-        &mut meter,
-        p,
-        packet,
-        &values,
-        &only(rt, alloc, watched),
-        &mut s,
-    );
+    let followed = trail.follow(&mut meter, p, packet, &values, &only(rt, watched), &mut s);
     (followed, s, meter.spent())
 }
 
@@ -174,14 +166,13 @@ fn gone_on<T: Trail>(
 /// Begins a packet, follows it to the instruction that is watched, and goes from there back to an
 /// entry: the state, and how many turns the way back took.
 fn begun_and_back<T: Trail>(
-    rt: &impl Abort,
-    alloc: Global,
+    rt: &impl Test,
     trail: &mut T,
     p: &Program,
     watched: u32,
     to: u32,
 ) -> (State, u128) {
-    let table = only(rt, alloc, watched);
+    let table = only(rt, watched);
     let mut meter = Meter::new();
     let mut s = State::zero();
     let count = begun(rt, trail, p, &table, &mut meter, &mut s);
@@ -241,23 +232,17 @@ fn onward(count: u32, watched: u32) -> (Followed, u32, u128) {
     }
 }
 
-fn check_back<T: Trail>(
-    rt: &impl Abort,
-    alloc: Global,
-    trail: &mut T,
-    p: &Program,
-    keeps_all: bool,
-) {
+fn check_back<T: Trail>(rt: &impl Test, trail: &mut T, p: &Program, keeps_all: bool) {
     for (watched, to, turns) in BACK {
-        let (back, found) = begun_and_back(rt, alloc, trail, p, watched, to);
+        let (back, found) = begun_and_back(rt, trail, p, watched, to);
         let wanted = if keeps_all { 0 } else { turns };
         assert_at_both(rt, watched, to, is_entry(&back, to) && found == wanted);
     }
 }
 
-fn check_onward<T: Trail>(rt: &impl Abort, alloc: Global, trail: &mut T, p: &Program) {
+fn check_onward<T: Trail>(rt: &impl Test, trail: &mut T, p: &Program) {
     for (count, watched) in ONWARD {
-        let (followed, s, turns) = filled_and_followed(rt, alloc, trail, p, count, watched);
+        let (followed, s, turns) = filled_and_followed(rt, trail, p, count, watched);
         let (wanted, entry, most) = onward(count, watched);
         let is_wanted = followed == wanted && is_entry(&s, entry) && turns == most;
         assert_at_both(rt, count, watched, is_wanted);
@@ -265,59 +250,42 @@ fn check_onward<T: Trail>(rt: &impl Abort, alloc: Global, trail: &mut T, p: &Pro
 }
 
 /// Asserts the ways back and onward, of a trail that keeps all states, or each 64th.
-fn check_trail<T: Trail>(
-    rt: &impl Abort,
-    alloc: Global,
-    trail: &mut T,
-    p: &Program,
-    keeps_all: bool,
-) {
-    check_back(rt, alloc, trail, p, keeps_all);
-    check_onward(rt, alloc, trail, p);
+fn check_trail<T: Trail>(rt: &impl Test, trail: &mut T, p: &Program, keeps_all: bool) {
+    check_back(rt, trail, p, keeps_all);
+    check_onward(rt, trail, p);
 }
 
 #[test]
 fn trails_of_4096_entries(rt: HostRuntime) {
-    let p = counting(&rt, rt.alloc());
+    let p = counting(&rt);
     let mut all = ListTrail::new(rt.alloc()).expect(&rt, "memory");
-    check_trail(&rt, rt.alloc(), &mut all, &p, true);
-    check_trail(&rt, rt.alloc(), &mut MarkTrail::new(), &p, false);
+    check_trail(&rt, &mut all, &p, true);
+    check_trail(&rt, &mut MarkTrail::new(), &p, false);
 }
 
 /// Follows a packet from before it to the instruction that is watched: how, to which state, and in
 /// how many turns.
-fn followed_from_before(
-    rt: &impl Abort,
-    alloc: Global,
-    p: &Program,
-    watched: u32,
-) -> (Followed, State, u128) {
+fn followed_from_before(rt: &impl Test, p: &Program, watched: u32) -> (Followed, State, u128) {
     let mut s = State::zero();
     let mut meter = Meter::new();
-    let table = only(rt, alloc, watched);
+    let table = only(rt, watched);
     let followed = follow_packet(&mut meter, p, EMPTY, &Values::new(), &table, &mut s);
     (followed, s, meter.spent())
 }
 
 /// Follows a packet from a state of it to the instruction that is watched, likewise.
-fn followed_on(
-    rt: &impl Abort,
-    alloc: Global,
-    p: &Program,
-    from: State,
-    watched: u32,
-) -> (Followed, State, u128) {
+fn followed_on(rt: &impl Test, p: &Program, from: State, watched: u32) -> (Followed, State, u128) {
     assert!(rt; from.pc() < p.len());
     let mut s = from;
     let mut meter = Meter::new();
-    let table = only(rt, alloc, watched);
+    let table = only(rt, watched);
     let followed = follow_on(&mut meter, p, EMPTY, &Values::new(), &table, &mut s);
     (followed, s, meter.spent())
 }
 
 /// Asserts the way from before a packet to the first instruction that is watched: the state there.
-fn check_from_before(rt: &impl Abort, alloc: Global, p: &Program, first: u32) -> State {
-    let (followed, s, turns) = followed_from_before(rt, alloc, p, first);
+fn check_from_before(rt: &impl Test, p: &Program, first: u32) -> State {
+    let (followed, s, turns) = followed_from_before(rt, p, first);
     let entry = first.saturating_add(1);
     let is_wanted = followed == Followed::Watched(entry)
         && is_entry(&s, entry)
@@ -327,9 +295,9 @@ fn check_from_before(rt: &impl Abort, alloc: Global, p: &Program, first: u32) ->
 }
 
 /// Asserts the way from the first instruction that is watched to the second one, or to the end.
-fn check_on(rt: &impl Abort, alloc: Global, p: &Program, first: u32, second: u32) {
-    let from = check_from_before(rt, alloc, p, first);
-    let (followed, s, turns) = followed_on(rt, alloc, p, from, second);
+fn check_on(rt: &impl Test, p: &Program, first: u32, second: u32) {
+    let from = check_from_before(rt, p, first);
+    let (followed, s, turns) = followed_on(rt, p, from, second);
     let (wanted, entry, most) = onward(first.saturating_add(1), second);
     let is_wanted = followed == wanted && is_entry(&s, entry) && turns == most;
     assert_at_both(rt, first, second, is_wanted);
@@ -363,9 +331,9 @@ const FIRST_AND_SECOND: [(u32, u32); 13] = [
 
 #[test]
 fn a_packet_is_followed_with_no_trail(rt: HostRuntime) {
-    let p = counting(&rt, rt.alloc());
+    let p = counting(&rt);
     for (first, second) in FIRST_AND_SECOND {
-        check_on(&rt, rt.alloc(), &p, first, second);
+        check_on(&rt, &p, first, second);
     }
-    assert!(rt; keeps_the_state(rt.alloc(), &p, check_from_before(&rt, rt.alloc(), &p, 1)));
+    assert!(rt; keeps_the_state(rt.alloc(), &p, check_from_before(&rt, &p, 1)));
 }

@@ -4,6 +4,7 @@ ghost use Rattle.std.specs.FinMap as finmap;
 ghost use Rattle.cbpf_tool.specs.FileMap.{files_of, known_source};
 ghost use Rattle.cbpf_tests.specs.Events.{event};
 
+use crate::assertions::Test;
 use crate::done::Done;
 use crate::fault_injection::FaultyAllocator;
 use crate::loaded::{ARP, ARP_WORDS, TWO_PACKETS};
@@ -51,7 +52,7 @@ impl Files for ListedFiles {
     }
 }
 
-fn copied<R: Abort + AllocGlobal>(rt: &R, bytes: &[u8]) -> Vec<u8>
+fn copied<R: Test>(rt: &R, bytes: &[u8]) -> Vec<u8>
     ensures { result.items ≡ bytes.now }
 {
     Vec::from_slice(rt.alloc(), bytes).expect(rt, "a copy")
@@ -60,7 +61,7 @@ fn copied<R: Abort + AllocGlobal>(rt: &R, bytes: &[u8]) -> Vec<u8>
 /// Files, a standard input, and the log of what was done. Its outputs take memory of `alloc`, and `refusal` says why
 /// there is none. As the log has to grow, it ends the test where it can't.
 #[derive(Drop)]
-struct MemoryHost<'a, R: Abort + AllocGlobal, A: Allocator + Copy> {
+struct MemoryHost<'a, R: Test, A: Allocator + Copy> {
     rt: &'a R,
     alloc: A,
     files: &'static [File],
@@ -76,7 +77,7 @@ fn add<R: Abort>(rt: &R, log: &mut Vec<Done>, done: Done)
     assert!(rt; log.push(done).is_ok());
 }
 
-impl<'a, R: Abort + AllocGlobal, A: Allocator + Copy> Host for MemoryHost<'a, R, A> {
+impl<'a, R: Test, A: Allocator + Copy> Host for MemoryHost<'a, R, A> {
     ghost view = { λ h. record {
       is_known = true;
       files = files_of (map (λ f. (f.0.now, f.1.now)) h.files.now);
@@ -155,7 +156,7 @@ static FILES: [File; 3] = [
     ("k", TWO_PACKETS),
 ];
 
-fn machine<R: Abort + AllocGlobal, A: Allocator + Copy>(rt: &R, alloc: A) -> MemoryHost<'_, R, A> {
+fn machine<R: Test, A: Allocator + Copy>(rt: &R, alloc: A) -> MemoryHost<'_, R, A> {
     MemoryHost {
         rt,
         alloc,
@@ -166,7 +167,7 @@ fn machine<R: Abort + AllocGlobal, A: Allocator + Copy>(rt: &R, alloc: A) -> Mem
     }
 }
 
-fn named<R: Abort + AllocGlobal>(rt: &R, name: &str) -> Option<String> {
+fn named<R: Test>(rt: &R, name: &str) -> Option<String> {
     Some(String::from_str(rt.alloc(), name).expect(rt, "a name"))
 }
 
@@ -224,7 +225,7 @@ fn a_minus_is_the_name_of_a_file_and_no_name_the_standard_input(rt: HostRuntime)
 
 /// Assembles the standard input with this refusal of an output, which fails.
 fn assert_fault<A: Allocator + Copy, B: Allocator + Copy>(
-    rt: &(impl Abort + AllocGlobal),
+    rt: &impl Test,
     job: A,
     output: B,
     refusal: Option<CreateFault>,

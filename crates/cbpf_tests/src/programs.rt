@@ -1,15 +1,15 @@
 //! Programs by the numbers of their instructions.
 
+use crate::assertions::Test;
 use cbpf_code::{Insn, Program, check};
 use cbpf_machine::{Meter, Packet, State, Turn, Values, turn};
-use std::alloc::Global;
 use std::process::Abort;
 
 /// Code, jt, jf and k of an instruction.
 pub type Code = (u16, u8, u8, u32);
 
-pub fn program_of(rt: &impl Abort, alloc: Global, list: &[Code]) -> Program {
-    let mut all = Vec::new(alloc);
+pub fn program_of(rt: &impl Test, list: &[Code]) -> Program {
+    let mut all = Vec::new(rt.alloc());
     for (code, jt, jf, k) in list {
         let insn = Insn {
             code: *code,

@@ -1,4 +1,5 @@
 // Calls of which each growth is refused, one after another, and which run out of memory only then.
+use crate::assertions::Test;
 use crate::fault_injection::FaultyAllocator;
 use crate::loaded::{
     HEADER, ICMP_WORDS, RECORD, STRAIGHT, TWO_PACKETS, repeated, session_of, two_packets_as_k,
@@ -9,8 +10,14 @@ use cbpf_dbg::{ListTrail, MarkTrail, Meter, Session, SessionFault, Stop, When};
 use cbpf_text::{AsmFault, assemble, tokens};
 use cbpf_tool::{DiskFiles, Files, LoadFault, MemoryFiles};
 use pcap_classic::{Capture, CaptureFault};
-use std::alloc::{Allocator, Global};
+use std::alloc::Allocator;
 use std::process::Abort;
+use std::rt;
+
+/// With the file system.
+trait DiskTest: Test + rt::Files {}
+
+impl<R: Test + rt::Files> DiskTest for R {}
 
 /// What is called, over what.
 #[derive(Clone, Copy)]
@@ -33,12 +40,7 @@ enum Call<'a> {
 }
 
 /// Whether the call answers that it is out of memory. What is called again after a refusal works.
-fn finds_no_memory<A: Allocator + Copy>(
-    rt: &impl Abort,
-    host: &HostRuntime,
-    alloc: A,
-    call: Call<'_>,
-) -> bool {
+fn finds_no_memory<A: Allocator + Copy>(rt: &impl DiskTest, alloc: A, call: Call<'_>) -> bool {
     match call {
         Call::Words(text) => matches!(read_words(alloc, text), Err(WordFault::Memory)),
         Call::Tokens(source) => matches!(tokens(alloc, source), Err(AsmFault::Memory)),
@@ -46,10 +48,10 @@ fn finds_no_memory<A: Allocator + Copy>(
         Call::Capture(bytes) => finds_none_for_a_capture(alloc, bytes),
         Call::Trail => ListTrail::new(alloc).is_err(),
         Call::Put => finds_none_for_files(rt, alloc),
-        Call::Load(name) => finds_none_for_a_load(rt, host.alloc(), alloc, name),
-        Call::LoadFromDisk(name) => finds_none_for_a_disk_file(rt, host, alloc, name),
+        Call::Load(name) => finds_none_for_a_load(rt, alloc, name),
+        Call::LoadFromDisk(name) => finds_none_for_a_disk_file(rt, alloc, name),
         Call::Breakpoints(when) => finds_none_for_breakpoints(rt, alloc, when),
-        Call::RunToEnd(breakpoints) => finds_none_for_stops(rt, host.alloc(), alloc, breakpoints),
+        Call::RunToEnd(breakpoints) => finds_none_for_stops(rt, alloc, breakpoints),
     }
 }
 
@@ -82,25 +84,19 @@ fn finds_none_for_files<A: Allocator + Copy>(rt: &impl Abort, alloc: A) -> bool 
     found
 }
 
-fn finds_none_for_a_load<A: Allocator + Copy>(
-    rt: &impl Abort,
-    host: Global,
-    alloc: A,
-    name: &str,
-) -> bool {
-    let mut files = two_packets_as_k(host).expect(rt, "the files");
+fn finds_none_for_a_load<A: Allocator + Copy>(rt: &impl Test, alloc: A, name: &str) -> bool {
+    let mut files = two_packets_as_k(rt);
     let found = matches!(files.load(alloc, name), Err(LoadFault::Memory));
     assert!(rt; !found || files.load(alloc, name).is_ok());
     found
 }
 
 fn finds_none_for_a_disk_file<A: Allocator + Copy>(
-    rt: &impl Abort,
-    host: &HostRuntime,
+    rt: &impl DiskTest,
     alloc: A,
     name: &str,
 ) -> bool {
-    match DiskFiles::new(host).load(alloc, name) {
+    match DiskFiles::new(rt).load(alloc, name) {
         Ok(bytes) => {
             assert!(rt; name == "/dev/null" || bytes.len() > 64);
             false
@@ -164,8 +160,8 @@ fn finds_none_for_breakpoints<A: Allocator + Copy>(rt: &impl Abort, alloc: A, wh
 }
 
 /// A session with a breakpoint at each of the first instructions, of which there are so many.
-fn session_with(rt: &impl Abort, alloc: Global, breakpoints: u64) -> Session<MarkTrail> {
-    let mut session = session_of(alloc, STRAIGHT).expect(rt, "the session");
+fn session_with(rt: &impl Test, breakpoints: u64) -> Session<MarkTrail> {
+    let mut session = session_of(rt.alloc(), STRAIGHT).expect(rt, "the session");
     for n in 0..breakpoints {
         assert!(rt; session.breakpoint(n).is_ok());
     }
@@ -198,42 +194,39 @@ fn finds_none_in_a_run<A: Allocator>(
     found
 }
 
-fn finds_none_for_stops<A: Allocator + Copy>(
-    rt: &impl Abort,
-    host: Global,
-    alloc: A,
-    breakpoints: u64,
-) -> bool {
-    let mut session = session_with(rt, host, breakpoints);
+fn finds_none_for_stops<A: Allocator + Copy>(rt: &impl Test, alloc: A, breakpoints: u64) -> bool {
+    let mut session = session_with(rt, breakpoints);
     finds_none_in_a_run(rt, alloc, &mut session, breakpoints)
 }
 
 const BRANCH: &[u8] = b"/* both\n   ways */ ldx 4*([14] & 0xf)   ; header\nldh [x + 16]\n  # port\n\
 jgt %x, up, down\nother: ret #0\nup: down: ret #0b11\n";
 
+const SMALL: &[u8] = b"a: ld [12] ; c\n jeq #1, a, a /* d */";
+
+const GREATEST_LENGTH: &[u8] = b"\xd4\xc3\xb2\xa1\x02\x00\x04\x00\x00\x00\x00\x00\x00\x00\x00\x00\
+\xff\xff\xff\xff\x01\x00\x00\x00";
+
+const GREATEST_RECORD: &[u8] = b"\xd4\xc3\xb2\xa1\x02\x00\x04\x00\x00\x00\x00\x00\x00\x00\x00\x00\
+\xff\xff\xff\xff\x01\x00\x00\x00\
+\x00\x00\x00\x00\x00\x00\x00\x00\xff\xff\xff\xff\xff\xff\xff\xff";
+
+const OTHER_VERSION: &[u8] = b"\xd4\xc3\xb2\xa1\x02\x00\x05\x00\x00\x00\x00\x00\x00\x00\x00\x00\
+\xff\xff\xff\xff\x01\x00\x00\x00";
+
 /// A call, and the least and the greatest number of its growths.
 type Row<'a> = (Call<'a>, u64, u64);
 
-const WORD_ROWS: [Row<'static>; 5] = [
+static ROWS: [Row<'static>; 33] = [
     (Call::Words(ICMP_WORDS), 2, 99),
     // A count asks for no room.
     (Call::Words(b"4294967295,"), 0, 0),
     (Call::Words(b"4294967295"), 0, 0),
     (Call::Words(b"4294967295,x"), 0, 0),
     (Call::Words(b"4294967295,6 0 0"), 0, 0),
-];
-
-const SOURCE_ROWS: [Row<'static>; 2] = [
-    (
-        Call::Tokens(b"a: ld [12] ; c\n jeq #1, a, a /* d */"),
-        2,
-        99,
-    ),
+    (Call::Tokens(SMALL), 2, 99),
     (Call::Source(BRANCH), 4, 99),
-];
-
-/// A refused source for each other kind of fault.
-const REFUSED_ROWS: [Row<'static>; 10] = [
+    // A refused source for each other kind of fault.
     (Call::Source(b"ld #1\nret $"), 1, 99),
     (Call::Source(b"ld #1\nret #0 /* x"), 1, 99),
     (Call::Source(b"ld #1\nret #4294967296"), 1, 99),
@@ -244,46 +237,18 @@ const REFUSED_ROWS: [Row<'static>; 10] = [
     (Call::Source(b"in: ld #1\njmp no\nret #0"), 1, 99),
     (Call::Source(b"in: ld #1\njmp in\nret #0"), 1, 99),
     (Call::Source(b"; nothing"), 0, 99),
-];
-
-const CAPTURE_ROWS: [Row<'static>; 4] = [
     (Call::Capture(TWO_PACKETS), 2, 2),
     // The bytes alone: the greatest snapshot length asks for no room, nor does the greatest record,
     // nor a refused capture.
-    (
-        Call::Capture(
-            b"\xd4\xc3\xb2\xa1\x02\x00\x04\x00\x00\x00\x00\x00\x00\x00\x00\x00\xff\xff\xff\xff\x01\x00\x00\x00",
-        ),
-        1,
-        1,
-    ),
-    (
-        Call::Capture(
-            b"\xd4\xc3\xb2\xa1\x02\x00\x04\x00\x00\x00\x00\x00\x00\x00\x00\x00\xff\xff\xff\xff\x01\x00\x00\x00\
-\x00\x00\x00\x00\x00\x00\x00\x00\xff\xff\xff\xff\xff\xff\xff\xff",
-        ),
-        1,
-        1,
-    ),
-    (
-        Call::Capture(
-            b"\xd4\xc3\xb2\xa1\x02\x00\x05\x00\x00\x00\x00\x00\x00\x00\x00\x00\xff\xff\xff\xff\x01\x00\x00\x00",
-        ),
-        1,
-        1,
-    ),
-];
-
-const FILE_ROWS: [Row<'static>; 5] = [
+    (Call::Capture(GREATEST_LENGTH), 1, 1),
+    (Call::Capture(GREATEST_RECORD), 1, 1),
+    (Call::Capture(OTHER_VERSION), 1, 1),
     (Call::Put, 41, 99),
     (Call::Load("k"), 1, 1),
     (Call::Load("j"), 0, 0),
     (Call::LoadFromDisk("/dev/null"), 1, 1),
     // The file is longer than the system says.
     (Call::LoadFromDisk("/proc/self/status"), 2, 20),
-];
-
-const SESSION_ROWS: [Row<'static>; 7] = [
     (Call::Trail, 1, 1),
     (Call::Breakpoints(When::Always), 6, 99),
     (Call::Breakpoints(When::A(0)), 6, 99),
@@ -294,92 +259,78 @@ const SESSION_ROWS: [Row<'static>; 7] = [
     (Call::RunToEnd(21), 4, 99),
 ];
 
+/// A first piece, one that comes so many times, and a last; the call over all, and its row.
+type LargeRow = (
+    &'static [u8],
+    &'static [u8],
+    u32,
+    &'static [u8],
+    Row<'static>,
+);
+
+static LARGE_ROWS: [LargeRow; 5] = [
+    (b"5000,", b"7 0 0 0,", 5000, b"", (Call::Words(b""), 9, 99)),
+    (b"", b"add x\n", 3000, b"", (Call::Tokens(b""), 9, 99)),
+    (b"", b"tax\n", 4097, b"", (Call::Source(b""), 9, 99)),
+    (
+        b"jeq #0, far\n",
+        b"tax\n",
+        256,
+        b"far: ret #0\n",
+        (Call::Source(b""), 9, 99),
+    ),
+    (HEADER, RECORD, 3000, b"", (Call::Capture(b""), 2, 2)),
+];
+
 /// Whether the growth `nth` is refused. It runs out of memory only then.
-fn is_refused(
-    rt: &impl Abort,
-    host: &HostRuntime,
-    call: Call<'_>,
-    table: &str,
-    row: usize,
-    nth: u64,
-) -> bool {
-    let refusing = FaultyAllocator::new(host.alloc(), nth);
-    let found = finds_no_memory(rt, host, &refusing, call);
-    assert!(rt;
-        found == (refusing.left() == 0),
-        "{table} {row}, growth {nth}"
-    );
+fn is_refused(rt: &impl DiskTest, call: Call<'_>, row: usize, nth: u64) -> bool {
+    let refusing = FaultyAllocator::new(rt.alloc(), nth);
+    let found = finds_no_memory(rt, &refusing, call);
+    let is_wanted = found == (refusing.left() == 0);
+    assert_at(rt, is_wanted, "memory", (row, nth));
     found
 }
 
 /// Each growth of a row is refused, one after another.
-fn check_row(rt: &impl Abort, host: &HostRuntime, table: &str, row: usize, content: &Row<'_>) {
+fn check_row(rt: &impl DiskTest, row: usize, content: &Row<'_>) {
     let (call, least, most) = *content;
     let mut growths = 0u64;
     for nth in 1..102u64 {
-        if !is_refused(rt, host, call, table, row, nth) {
+        if !is_refused(rt, call, row, nth) {
             break;
         }
         growths = nth;
     }
-    assert!(rt;
-        least <= growths && growths <= most,
-        "{table} {row}: {growths}"
-    );
+    let are_wanted = least <= growths && growths <= most;
+    assert_at(rt, are_wanted, "the number of growths", (row, growths));
 }
 
-fn check_rows(rt: &impl Abort, host: &HostRuntime, table: &str, rows: &[Row<'_>]) {
-    for (row, content) in rows.iter().enumerate() {
-        check_row(rt, host, table, row, content);
+/// The same call over other bytes.
+fn over<'a>(call: Call<'_>, bytes: &'a [u8]) -> Call<'a> {
+    match call {
+        Call::Words(_) => Call::Words(bytes),
+        Call::Tokens(_) => Call::Tokens(bytes),
+        Call::Source(_) => Call::Source(bytes),
+        _ => Call::Capture(bytes),
     }
 }
 
-fn check_large_words(rt: &impl Abort, host: &HostRuntime) {
-    let words = repeated(host.alloc(), b"5000,", b"7 0 0 0,", 5000, b"").expect(rt, "the words");
-    check_row(rt, host, "large words", 0, &(Call::Words(&words), 9, 99));
-}
-
-fn check_large_sources(rt: &impl Abort, host: &HostRuntime) {
-    let alloc = host.alloc();
-    let source = repeated(alloc, b"", b"add x\n", 3000, b"").expect(rt, "the source");
-    check_row(
-        rt,
-        host,
-        "large sources",
-        0,
-        &(Call::Tokens(&source), 9, 99),
-    );
-    let many = repeated(alloc, b"", b"tax\n", 4097, b"").expect(rt, "the source");
-    check_row(rt, host, "large sources", 1, &(Call::Source(&many), 9, 99));
-    let far = repeated(alloc, b"jeq #0, far\n", b"tax\n", 256, b"far: ret #0\n");
-    let far = far.expect(rt, "the source");
-    check_row(rt, host, "large sources", 2, &(Call::Source(&far), 9, 99));
-}
-
-fn check_large_capture(rt: &impl Abort, host: &HostRuntime) {
-    let capture = repeated(host.alloc(), HEADER, RECORD, 3000, b"").expect(rt, "the capture");
-    check_row(
-        rt,
-        host,
-        "large captures",
-        0,
-        &(Call::Capture(&capture), 2, 2),
-    );
-}
-
-fn check_texts(rt: &impl Abort, host: &HostRuntime) {
-    check_rows(rt, host, "words", &WORD_ROWS);
-    check_rows(rt, host, "sources", &SOURCE_ROWS);
-    check_rows(rt, host, "refused sources", &REFUSED_ROWS);
+fn check_large_row(rt: &impl DiskTest, row: usize, content: &LargeRow) {
+    let (first, piece, count, last, (call, least, most)) = *content;
+    let bytes = repeated(rt, first, piece, count, last);
+    check_row(rt, row, &(over(call, &bytes), least, most));
 }
 
 #[test]
 fn each_growth_of_a_call(rt: HostRuntime) {
-    check_texts(&rt, &rt);
-    check_rows(&rt, &rt, "captures", &CAPTURE_ROWS);
-    check_rows(&rt, &rt, "files", &FILE_ROWS);
-    check_rows(&rt, &rt, "sessions", &SESSION_ROWS);
-    check_large_words(&rt, &rt);
-    check_large_sources(&rt, &rt);
-    check_large_capture(&rt, &rt);
+    for (row, content) in ROWS.iter().enumerate() {
+        check_row(&rt, row, content);
+    }
+}
+
+#[test]
+fn each_growth_over_large_inputs(rt: HostRuntime) {
+    for (row, content) in LARGE_ROWS.iter().enumerate() {
+        check_large_row(&rt, row, content);
+    }
 }

@@ -1,9 +1,9 @@
 // Scripts of which each growth is refused, one after another.
+use crate::assertions::Test;
 use crate::fault_injection::{Fault, FaultyAllocator, FaultyWriter};
 use crate::loaded::two_packets_as_k;
 use crate::places::assert_at;
 use cbpf_tool::{ToolFault, debug};
-use std::alloc::Global;
 use std::process::Abort;
 
 const LOADS: &[u8] = b"load bpf 1,6 0 0 1\nload pcap k\nrun\nquit\n";
@@ -77,10 +77,10 @@ fn text_after(refused: &[Refused], nth: u64) -> Option<&'static [u8]> {
 }
 
 /// Whether the growth `nth` is refused, and then out of memory is found.
-fn is_refused(rt: &impl Abort, alloc: Global, script: &Row, row: usize, nth: u64) -> bool {
+fn is_refused(rt: &impl Test, script: &Row, row: usize, nth: u64) -> bool {
     let (script, replies, _, refused) = *script;
-    let mut files = two_packets_as_k(alloc).expect(rt, "the files");
-    let alloc = FaultyAllocator::new(alloc, nth);
+    let mut files = two_packets_as_k(rt);
+    let alloc = FaultyAllocator::new(rt.alloc(), nth);
     let mut reader = script;
     let mut writer = FaultyWriter::<256>::new(Fault::Fails, 0);
     let result = debug(&alloc, &mut reader, &mut writer, &mut files);
@@ -117,10 +117,10 @@ fn after_refusal(
 }
 
 /// Each growth of a script is refused, one after another.
-fn each_is_refused(rt: &impl Abort, alloc: Global, script: &Row, row: usize) {
+fn each_is_refused(rt: &impl Test, script: &Row, row: usize) {
     let mut growths = 0u64;
     for nth in 1..100u64 {
-        if !is_refused(rt, alloc, script, row, nth) {
+        if !is_refused(rt, script, row, nth) {
             break;
         }
         growths = nth;
@@ -133,7 +133,7 @@ fn each_is_refused(rt: &impl Abort, alloc: Global, script: &Row, row: usize) {
 #[test]
 fn each_growth_of_a_script(rt: HostRuntime) {
     for (row, script) in SCRIPTS.iter().enumerate() {
-        each_is_refused(&rt, rt.alloc(), script, row);
+        each_is_refused(&rt, script, row);
     }
 }
 
@@ -157,9 +157,9 @@ fn end_of(answer: Result<(), ToolFault>, written: &[u8]) -> usize {
 }
 
 /// Which of `ENDS` comes of `LOADS` over a slice as writer, and whether the growth `nth` was refused.
-fn end_over_a_slice(rt: &impl Abort, alloc: Global, nth: u64) -> (usize, bool) {
-    let mut files = two_packets_as_k(alloc).expect(rt, "the files");
-    let alloc = FaultyAllocator::new(alloc, nth);
+fn end_over_a_slice(rt: &impl Test, nth: u64) -> (usize, bool) {
+    let mut files = two_packets_as_k(rt);
+    let alloc = FaultyAllocator::new(rt.alloc(), nth);
     let mut reader = LOADS;
     let mut room = [0u8; 128];
     let mut writer: &mut [u8] = &mut room;
@@ -172,7 +172,7 @@ fn end_over_a_slice(rt: &impl Abort, alloc: Global, nth: u64) -> (usize, bool) {
 fn each_growth_over_a_slice(rt: HostRuntime) {
     let mut met = [false; 4];
     for nth in 1..100u64 {
-        let (end, is_refused) = end_over_a_slice(&rt, rt.alloc(), nth);
+        let (end, is_refused) = end_over_a_slice(&rt, nth);
         assert_at(&rt, is_refused == (end < 3), "the end", nth);
         if let Some(is_met) = met.get_mut(end) {
             *is_met = true;

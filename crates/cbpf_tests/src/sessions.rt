@@ -7,12 +7,11 @@ mod listed_stops;
 mod rows;
 mod values;
 
+use crate::assertions::Test;
 use cbpf_dbg::{ListTrail, MarkTrail, Place, SessionFault, When};
 use rows::Answer::{Breaks, Finishes, Limit, Refuses, Steps};
 use rows::Turns::{Back, Exactly, There};
 use rows::{Row, check_rows};
-use std::alloc::Global;
-use std::process::Abort;
 use values::values;
 
 const LOAD_RULE: Row = Row::Program(
@@ -33,17 +32,23 @@ const LOAD_LONG: Row = Row::Program((40, 0, 0, 12), 4094, &[(4, 0, 0, 1)], (22, 
 /// 4095 times `tax`, and `ret #1`.
 const LOAD_STRAIGHT: Row = Row::Program((7, 0, 0, 0), 4094, &[(7, 0, 0, 0)], (6, 0, 0, 1));
 
-/// What a session shows, and its calls from nothing loaded on.
-pub(crate) type Shown = (&'static str, &'static [Row]);
+/// What a session shows, how it begins, and its further calls.
+pub(crate) type Shown = (&'static str, &'static [Row], &'static [Row]);
 
-const RUNS: &[Shown] = &[
+const LOADED: &[Row] = &[LOAD_RULE, Row::Capture];
+
+const WITH_TWO_BREAKPOINTS: &[Row] = &[
+    LOAD_RULE,
+    Row::Capture,
+    Row::Break(1, When::Always, Ok(())),
+    Row::Break(4, When::Always, Ok(())),
+];
+
+const SESSIONS: &[Shown] = &[
     (
         "each hit once and in order, also from the start again",
+        WITH_TWO_BREAKPOINTS,
         &[
-            LOAD_RULE,
-            Row::Capture,
-            Row::Break(1, When::Always, Ok(())),
-            Row::Break(4, When::Always, Ok(())),
             Row::Run(None, Breaks(1, 2, 1, 2054), Exactly(1)),
             Row::Run(None, Breaks(2, 2, 1, 2048), Exactly(3)),
             Row::Run(None, Breaks(2, 5, 4, 1), Exactly(3)),
@@ -58,11 +63,8 @@ const RUNS: &[Shown] = &[
     ),
     (
         "the list of stops, and a run to the end, which finds them",
+        WITH_TWO_BREAKPOINTS,
         &[
-            LOAD_RULE,
-            Row::Capture,
-            Row::Break(1, When::Always, Ok(())),
-            Row::Break(4, When::Always, Ok(())),
             Row::Stops(&[(1, 2, 1, 2054), (2, 2, 1, 2048), (2, 5, 4, 1)]),
             Row::Mark(1, 0),
             Row::RunToEnd(
@@ -77,11 +79,8 @@ const RUNS: &[Shown] = &[
     ),
     (
         "a breakpoint that is taken out between",
+        WITH_TWO_BREAKPOINTS,
         &[
-            LOAD_RULE,
-            Row::Capture,
-            Row::Break(1, When::Always, Ok(())),
-            Row::Break(4, When::Always, Ok(())),
             Row::Run(None, Breaks(1, 2, 1, 2054), Exactly(1)),
             Row::Delete(1, Ok(true)),
             Row::Run(None, Breaks(2, 5, 4, 1), Exactly(6)),
@@ -91,9 +90,8 @@ const RUNS: &[Shown] = &[
     ),
     (
         "breakpoints that there are not leave the others and the place",
+        LOADED,
         &[
-            LOAD_RULE,
-            Row::Capture,
             Row::Break(3, When::Always, Ok(())),
             Row::Break(2, When::X(7), Ok(())),
             Row::Run(Some(1), Limit(0, 1, 0), Exactly(3)),
@@ -107,6 +105,7 @@ const RUNS: &[Shown] = &[
     ),
     (
         "the same hits and turns over the file in the other byte order",
+        &[],
         &[
             LOAD_RULE,
             Row::SwappedCapture,
@@ -119,14 +118,11 @@ const RUNS: &[Shown] = &[
             Row::Mark(1, 0),
         ],
     ),
-];
-
-const CONDITIONS_AND_LIMITS: &[Shown] = &[
+    // Conditions and limits.
     (
         "a condition on A, and one on X, which is 0 at each instruction",
+        LOADED,
         &[
-            LOAD_RULE,
-            Row::Capture,
             Row::Break(1, When::A(2048), Ok(())),
             Row::Run(None, Breaks(2, 2, 1, 2048), Exactly(4)),
             Row::Run(None, Finishes(1, 1, 0), Exactly(4)),
@@ -136,9 +132,8 @@ const CONDITIONS_AND_LIMITS: &[Shown] = &[
     ),
     (
         "limits",
+        LOADED,
         &[
-            LOAD_RULE,
-            Row::Capture,
             Row::Run(Some(0), Refuses(SessionFault::ZeroCount), Exactly(0)),
             Row::Run(Some(1), Limit(0, 1, 0), Exactly(3)),
             Row::Mark(2, 0),
@@ -147,16 +142,11 @@ const CONDITIONS_AND_LIMITS: &[Shown] = &[
             Row::Run(Some(18446744073709551615), Finishes(1, 1, 0), Exactly(5)),
         ],
     ),
-];
-
-const PLACES: &[Shown] = &[
+    // Places.
     (
         "a saved place gives the rest, and counts from its packet",
+        WITH_TWO_BREAKPOINTS,
         &[
-            LOAD_RULE,
-            Row::Capture,
-            Row::Break(1, When::Always, Ok(())),
-            Row::Break(4, When::Always, Ok(())),
             Row::Resume(2, 2, Ok(()), There(1)),
             Row::Mark(2, 2),
             Row::Run(None, Breaks(2, 5, 4, 1), Exactly(3)),
@@ -170,9 +160,8 @@ const PLACES: &[Shown] = &[
     ),
     (
         "the last place of a packet and the place before the next one have the same rest",
+        LOADED,
         &[
-            LOAD_RULE,
-            Row::Capture,
             Row::Break(5, When::Always, Ok(())),
             Row::Break(0, When::Always, Ok(())),
             Row::Run(None, Breaks(1, 1, 0, 0), Exactly(0)),
@@ -186,9 +175,8 @@ const PLACES: &[Shown] = &[
     ),
     (
         "places that there are not leave the place",
+        LOADED,
         &[
-            LOAD_RULE,
-            Row::Capture,
             Row::Break(1, When::Always, Ok(())),
             Row::Run(None, Breaks(1, 2, 1, 2054), Exactly(1)),
             Row::Resume(3, 0, Err(SessionFault::NoPacket), Exactly(0)),
@@ -203,9 +191,8 @@ const PLACES: &[Shown] = &[
     ),
     (
         "loads go to the start; a program takes the breakpoints with it",
+        LOADED,
         &[
-            LOAD_RULE,
-            Row::Capture,
             Row::Break(1, When::Always, Ok(())),
             Row::Run(None, Breaks(1, 2, 1, 2054), Exactly(1)),
             Row::Capture,
@@ -218,16 +205,11 @@ const PLACES: &[Shown] = &[
             Row::Run(None, Finishes(1, 1, 0), Exactly(8)),
         ],
     ),
-];
-
-const STEPS: &[Shown] = &[
+    // Steps.
     (
         "steps both ways",
+        WITH_TWO_BREAKPOINTS,
         &[
-            LOAD_RULE,
-            Row::Capture,
-            Row::Break(1, When::Always, Ok(())),
-            Row::Break(4, When::Always, Ok(())),
             Row::Run(None, Breaks(1, 2, 1, 2054), Exactly(1)),
             Row::Run(None, Breaks(2, 2, 1, 2048), Exactly(3)),
             Row::Run(None, Breaks(2, 5, 4, 1), Exactly(3)),
@@ -238,9 +220,8 @@ const STEPS: &[Shown] = &[
     ),
     (
         "steps over packets",
+        LOADED,
         &[
-            LOAD_RULE,
-            Row::Capture,
             Row::Step(3, Steps(1, 3, 5, 2054), Exactly(2)),
             Row::Step(1, Steps(2, 1, 0, 0), Exactly(1)),
             Row::Select(1, Ok(())),
@@ -257,6 +238,7 @@ const STEPS: &[Shown] = &[
     ),
     (
         "a packet of 4096 instructions",
+        &[],
         &[
             LOAD_LONG,
             Row::Capture,
@@ -280,6 +262,7 @@ const STEPS: &[Shown] = &[
     ),
     (
         "4095 times `tax` and a return, back from its end and onto entry 64, and without the breakpoint",
+        &[],
         &[
             LOAD_STRAIGHT,
             Row::Capture,
@@ -297,10 +280,10 @@ const STEPS: &[Shown] = &[
 ];
 
 /// The calls of a session, over either trail.
-fn check_session(rt: &impl Abort, alloc: Global, shows: &str, rows: &[Row]) {
-    check_rows(rt, alloc, MarkTrail::new(), false, shows, rows);
-    let all = ListTrail::new(alloc).expect(rt, "memory");
-    check_rows(rt, alloc, all, true, shows, rows);
+fn check_session(rt: &impl Test, session: &Shown) {
+    check_rows(rt, MarkTrail::new(), false, session);
+    let all = ListTrail::new(rt.alloc()).expect(rt, "memory");
+    check_rows(rt, all, true, session);
 }
 
 const LATE_IN_1: Place = Place {
@@ -316,35 +299,20 @@ fn places_are_in_order() -> bool {
         && !(BEFORE_2 < LATE_IN_1)
 }
 
-fn check_sessions(rt: &impl Abort, alloc: Global, sessions: &[Shown]) {
-    for (shows, rows) in sessions {
-        check_session(rt, alloc, shows, rows);
+fn check_sessions(rt: &impl Test, sessions: &[Shown]) {
+    for session in sessions {
+        check_session(rt, session);
     }
 }
 
-// The tables by calls, so that proofs do not carry their rows.
-fn runs() -> &'static [Shown] {
-    RUNS
-}
-
-fn conditions_and_limits() -> &'static [Shown] {
-    CONDITIONS_AND_LIMITS
-}
-
-fn places() -> &'static [Shown] {
-    PLACES
-}
-
-fn steps() -> &'static [Shown] {
-    STEPS
+/// The table by a call, so that proofs do not carry its rows.
+fn sessions() -> &'static [Shown] {
+    SESSIONS
 }
 
 #[test]
 fn sessions_over_two_packets(rt: HostRuntime) {
-    check_sessions(&rt, rt.alloc(), runs());
-    check_sessions(&rt, rt.alloc(), conditions_and_limits());
-    check_sessions(&rt, rt.alloc(), places());
-    check_sessions(&rt, rt.alloc(), steps());
-    check_sessions(&rt, rt.alloc(), values());
+    check_sessions(&rt, sessions());
+    check_sessions(&rt, values());
     assert!(rt; places_are_in_order());
 }

@@ -1,4 +1,5 @@
 // Large inputs: thousands of records, instructions, tokens and breakpoints, with memory at hand.
+use crate::assertions::Test;
 use crate::fault_injection::FaultyReader;
 use crate::loaded::{HEADER, RECORD, program_of, repeated};
 use cbpf_code::read_words;
@@ -6,86 +7,79 @@ use cbpf_dbg::{MarkTrail, Session, SessionFault, When};
 use cbpf_text::{assemble, tokens, write_listing};
 use cbpf_tool::{Form, MemoryFiles, asm, debug};
 use pcap_classic::{Capture, Ending};
-use std::alloc::Global;
 use std::process::Abort;
 
-fn records(rt: &impl Abort, alloc: Global) {
-    let bytes = repeated(alloc, HEADER, RECORD, 3000, b"").expect(rt, "the bytes");
-    match Capture::from_bytes(alloc, bytes) {
-        Ok(capture) => {
-            assert!(rt; capture.count() == 3000);
-            assert!(rt; capture.ending() == Ending::Whole);
-            assert!(rt; capture.item(2999).start == 50990);
-        }
-        Err(_) => assert!(rt; false),
-    }
+fn records(rt: &impl Test) {
+    let bytes = repeated(rt, HEADER, RECORD, 3000, b"");
+    let capture = Capture::from_bytes(rt.alloc(), bytes)
+        .ok()
+        .expect(rt, "the capture");
+    assert!(rt; capture.count() == 3000);
+    assert!(rt; capture.ending() == Ending::Whole);
+    assert!(rt; capture.item(2999).start == 50990);
 }
 
-fn instructions(rt: &impl Abort, alloc: Global) {
-    let words = repeated(alloc, b"5000,", b"7 0 0 0,", 4999, b"6 1 2 3").expect(rt, "the words");
-    let list = read_words(alloc, &words).expect(rt, "the list");
+fn instructions(rt: &impl Test) {
+    let words = repeated(rt, b"5000,", b"7 0 0 0,", 4999, b"6 1 2 3");
+    let list = read_words(rt.alloc(), &words).expect(rt, "the list");
     assert!(rt; list.len() == 5000);
 }
 
-fn source_tokens(rt: &impl Abort, alloc: Global) {
-    let source = repeated(alloc, b"", b"add x\n", 4096, b"").expect(rt, "the source");
-    let tokens = tokens(alloc, &source).expect(rt, "the tokens");
+fn source_tokens(rt: &impl Test) {
+    let source = repeated(rt, b"", b"add x\n", 4096, b"");
+    let tokens = tokens(rt.alloc(), &source).expect(rt, "the tokens");
     assert!(rt; tokens.len() == 8192);
 }
 
 /// The listing of these words, which assembles to their program.
-fn listing_of(rt: &impl Abort, alloc: Global, words: &[u8]) -> Vec<u8> {
-    let program = program_of(alloc, words).expect(rt, "the program");
-    let mut listing = Vec::new(alloc);
+fn listing_of(rt: &impl Test, words: &[u8]) -> Vec<u8> {
+    let program = program_of(rt.alloc(), words).expect(rt, "the program");
+    let mut listing = Vec::new(rt.alloc());
     assert!(rt; write_listing(&mut listing, &program) == Ok(()));
-    let list = assemble(alloc, &listing).expect(rt, "the list");
+    let list = assemble(rt.alloc(), &listing).expect(rt, "the list");
     assert!(rt; list.as_slice() == program.as_slice());
     listing
 }
 
 /// The listing goes back to the words, where each read gives one byte.
-fn assembles_to(rt: &impl Abort, alloc: Global, listing: &[u8], words: &[u8]) {
+fn assembles_to(rt: &impl Test, listing: &[u8], words: &[u8]) {
     let mut reader = FaultyReader::new(listing, 1, 0);
-    let mut text = Vec::new(alloc);
-    assert!(rt; asm(alloc, &mut reader, &mut text, Form::Decimal) == Ok(()));
+    let mut text = Vec::new(rt.alloc());
+    assert!(rt; asm(rt.alloc(), &mut reader, &mut text, Form::Decimal) == Ok(()));
     assert!(rt; text.as_slice() == words);
 }
 
-fn script_of(rt: &impl Abort, alloc: Global, words: &[u8]) -> Vec<u8> {
-    let mut script = b"load bpf ".to_vec(alloc).expect(rt, "the command");
+fn script_of(rt: &impl Test, words: &[u8]) -> Vec<u8> {
+    let mut script = b"load bpf ".to_vec(rt.alloc()).expect(rt, "the command");
     script.extend_from_slice(words).expect(rt, "the script");
     script
 }
 
 /// The script loads 4096 instructions, where each read gives one byte.
-fn loads(rt: &impl Abort, alloc: Global, script: &[u8]) {
+fn loads(rt: &impl Test, script: &[u8]) {
     let mut reader = FaultyReader::new(script, 1, 0);
-    let mut replies = Vec::new(alloc);
-    let mut files = MemoryFiles::new(alloc);
-    assert!(rt; debug(alloc, &mut reader, &mut replies, &mut files) == Ok(()));
+    let mut replies = Vec::new(rt.alloc());
+    let mut files = MemoryFiles::new(rt.alloc());
+    assert!(rt; debug(rt.alloc(), &mut reader, &mut replies, &mut files) == Ok(()));
     assert!(rt; replies.as_slice() == b"bpf: 4096 instructions\n".as_slice());
 }
 
 #[test]
 fn thousands_of_records_instructions_and_tokens(rt: HostRuntime) {
-    let alloc = rt.alloc();
-    records(&rt, alloc);
-    instructions(&rt, alloc);
-    source_tokens(&rt, alloc);
-    let words = repeated(alloc, b"4096,", b"7 0 0 0,", 4095, b"6 0 0 1,\n").expect(
-        &rt,
-        "the words",
-    );
-    let listing = listing_of(&rt, alloc, &words);
-    assembles_to(&rt, alloc, &listing, &words);
-    loads(&rt, alloc, &script_of(&rt, alloc, &words));
+    records(&rt);
+    instructions(&rt);
+    source_tokens(&rt);
+    let words = repeated(&rt, b"4096,", b"7 0 0 0,", 4095, b"6 0 0 1,\n");
+    let listing = listing_of(&rt, &words);
+    assembles_to(&rt, &listing, &words);
+    loads(&rt, &script_of(&rt, &words));
 }
 
 /// A session over 4096 instructions.
-fn session_of_4096(rt: &impl Abort, alloc: Global) -> Session<MarkTrail> {
-    let words = repeated(alloc, b"4096,", b"7 0 0 0,", 4095, b"6 0 0 1").expect(rt, "the words");
-    let mut session = Session::new(alloc, MarkTrail::new());
-    session.load_program(program_of(alloc, &words).expect(rt, "the program"));
+fn session_of_4096(rt: &impl Test) -> Session<MarkTrail> {
+    let words = repeated(rt, b"4096,", b"7 0 0 0,", 4095, b"6 0 0 1");
+    let mut session = Session::new(rt.alloc(), MarkTrail::new());
+    session.load_program(program_of(rt.alloc(), &words).expect(rt, "the program"));
     session
 }
 
@@ -114,7 +108,7 @@ fn are_set(rt: &impl Abort, session: &Session<MarkTrail>) {
 
 #[test]
 fn a_breakpoint_at_each_of_4096_instructions(rt: HostRuntime) {
-    let mut session = session_of_4096(&rt, rt.alloc());
+    let mut session = session_of_4096(&rt);
     set_each(&rt, &mut session);
     assert!(rt; session.breakpoint_count() == 4096);
     are_set(&rt, &session);

@@ -1,11 +1,10 @@
 //! Dumps of stops, byte for byte.
 
-use crate::assertions::assert_at;
+use crate::assertions::{Test, assert_at};
 use crate::loaded::program_of;
 use cbpf_code::{Ext, Program};
 use cbpf_machine::{Meter, Packet, State, Turn, Values, turn};
 use cbpf_reply::{Place, Stop, Why, write_stop};
-use std::alloc::Global;
 use std::process::Abort;
 
 /// The state in a packet after some turns.
@@ -22,15 +21,9 @@ fn state_after(rt: &impl Abort, p: &Program, packet: Packet<'_>, turns: u32) -> 
     state
 }
 
-fn written(
-    rt: &impl Abort,
-    alloc: Global,
-    p: &Program,
-    stop: &Stop,
-    packet: Packet<'_>,
-) -> Vec<u8> {
+fn written(rt: &impl Test, p: &Program, stop: &Stop, packet: Packet<'_>) -> Vec<u8> {
     assert!(rt; stop.state.pc() < p.len());
-    let mut text = Vec::new(alloc);
+    let mut text = Vec::new(rt.alloc());
     write_stop(&mut text, p, stop, packet.bytes, packet.wire)
         .ok()
         .expect(rt, "a dump");
@@ -38,22 +31,15 @@ fn written(
 }
 
 /// The dump of the stop in a packet of this number after some turns.
-fn dump(
-    rt: &impl Abort,
-    alloc: Global,
-    words: &[u8],
-    packet: (u64, Packet<'_>),
-    turns: u32,
-    why: Why,
-) -> Vec<u8> {
+fn dump(rt: &impl Test, words: &[u8], packet: (u64, Packet<'_>), turns: u32, why: Why) -> Vec<u8> {
     let (number, packet) = packet;
-    let p = program_of(alloc, words).expect(rt, "a program");
+    let p = program_of(rt.alloc(), words).expect(rt, "a program");
     let place = Place {
         packet: number,
         step: turns.saturating_add(1),
     };
     let state = state_after(rt, &p, packet, turns);
-    written(rt, alloc, &p, &Stop { place, state, why }, packet)
+    written(rt, &p, &Stop { place, state, why }, packet)
 }
 
 /// 20 instructions that store many values, and load two registers.
@@ -69,7 +55,6 @@ fn slots_are_shown_as_longest_runs(rt: HostRuntime) {
     };
     let text = dump(
         &rt,
-        rt.alloc(),
         SLOTS,
         (18446744073709551615, packet),
         18,
@@ -99,7 +84,7 @@ len: 0 wire: 4294967295\n\
 fn a_seventeenth_byte_has_a_row_of_its_own(rt: HostRuntime) {
     let bytes = b"\x00\x01\x09\x0a\x0f\x10\x1f\x7f\x80\x99\x9a\xa0\xaf\xf0\xfe\xff\xc3";
     let packet = Packet { bytes, wire: 42 };
-    let text = dump(&rt, rt.alloc(), b"1,6 255 9 1", (1, packet), 0, Why::Break);
+    let text = dump(&rt, b"1,6 255 9 1", (1, packet), 0, Why::Break);
     let wanted = b"-- packet 1, step 1 --\n\
 -- register dump --\n\
 pc:       [0]\n\
@@ -115,14 +100,14 @@ len: 17 wire: 42\n    0: 00 01 09 0a 0f 10 1f 7f 80 99 9a a0 af f0 fe ff\n   16:
 }
 
 /// The dump of a packet that has so many bytes of 0, and then the bytes 2a and 00.
-fn dump_after_zeros(rt: &impl Abort, alloc: Global, zeros: usize) -> Vec<u8> {
-    let mut bytes = vec![in alloc; 0u8; zeros].expect(rt, "memory");
+fn dump_after_zeros(rt: &impl Test, zeros: usize) -> Vec<u8> {
+    let mut bytes = vec![in rt.alloc(); 0u8; zeros].expect(rt, "memory");
     bytes.extend_from_slice(b"\x2a\x00").expect(rt, "memory");
     let packet = Packet {
         bytes: &bytes,
         wire: 42,
     };
-    dump(rt, alloc, b"1,6 0 0 1", (1, packet), 0, Why::Break)
+    dump(rt, b"1,6 0 0 1", (1, packet), 0, Why::Break)
 }
 
 /// How many bytes of 0 there are, and how the dump ends.
@@ -136,7 +121,7 @@ const OFFSETS: [(usize, &[u8]); 4] = [
 #[test]
 fn offsets_are_right_in_five_places(rt: HostRuntime) {
     for (zeros, end) in OFFSETS {
-        let text = dump_after_zeros(&rt, rt.alloc(), zeros);
+        let text = dump_after_zeros(&rt, zeros);
         assert_at(&rt, zeros, text.ends_with(end));
     }
 }

@@ -1,11 +1,11 @@
 // A reader and a writer that share a count. Before each read that waits, and before each command that may take
 // long, the replies so far are written and flushed; nothing is flushed twice; and after a flush that fails
 // nothing is read and nothing is written.
+use crate::assertions::Test;
 use crate::fault_injection::ERROR_KINDS;
 use crate::loaded::two_packets_as_k;
 use crate::places::assert_at;
 use cbpf_tool::{ToolFault, debug};
-use std::alloc::{AllocError, Global};
 use std::cell::Cell;
 use std::io;
 use std::io::{ErrorKind, Read, Write};
@@ -130,28 +130,25 @@ const ANSWER_TO_A_CUT_LINE: u64 = 26;
 
 /// How many bytes are written at each flush that is wanted, where each line comes in a read of its own or all come
 /// in one.
-fn wanted_flushes(
-    alloc: Global,
-    exchanges: &[Exchange],
-    in_one_read: bool,
-) -> Result<Vec<u64>, AllocError> {
-    let mut flushes = Vec::new(alloc);
+fn wanted_flushes(rt: &impl Test, exchanges: &[Exchange], in_one_read: bool) -> Vec<u64> {
+    let mut flushes = Vec::new(rt.alloc());
     let mut written: u64 = 0;
     let mut flushed = 0;
     for (_, length, reply) in exchanges {
         if (*length == Long || !in_one_read) && written > flushed {
-            flushes.push(written)?;
+            flushes.push(written).expect(rt, "memory");
             flushed = written;
         }
         written = written.saturating_add(*reply);
     }
     if written > flushed {
-        flushes.push(written)?;
+        flushes.push(written).expect(rt, "memory");
     }
     if exchanges.len() == CUT {
-        flushes.push(written.saturating_add(ANSWER_TO_A_CUT_LINE))?;
+        let with_answer = written.saturating_add(ANSWER_TO_A_CUT_LINE);
+        flushes.push(with_answer).expect(rt, "memory");
     }
-    Ok(flushes)
+    flushes
 }
 
 /// A run that ended is compared with what is wanted, where no flush fails or one does.
@@ -179,8 +176,7 @@ fn check(
 
 /// A run over some lines, each in a read of its own, with a flush that fails or none (0).
 fn run_line_by_line(
-    rt: &impl Abort,
-    alloc: Global,
+    rt: &impl Test,
     exchanges: &[Exchange],
     wanted: &[u64],
     failing: usize,
@@ -195,26 +191,26 @@ fn run_line_by_line(
     };
     let mut writer = CountingWriter {
         progress: &progress,
-        flushes: Vec::new(alloc),
+        flushes: Vec::new(rt.alloc()),
         failing,
         error,
     };
-    let mut files = two_packets_as_k(alloc).expect(rt, "the files");
-    let outcome = debug(alloc, &mut reader, &mut writer, &mut files);
+    let mut files = two_packets_as_k(rt);
+    let outcome = debug(rt.alloc(), &mut reader, &mut writer, &mut files);
     check(rt, outcome, &writer, wanted, (exchanges.len(), failing));
 }
 
-fn each_error(rt: &impl Abort, alloc: Global, lines: &[Exchange], wanted: &[u64], failing: usize) {
+fn each_error(rt: &impl Test, lines: &[Exchange], wanted: &[u64], failing: usize) {
     for error in ERROR_KINDS {
-        run_line_by_line(rt, alloc, lines, wanted, failing, error);
+        run_line_by_line(rt, lines, wanted, failing, error);
     }
 }
 
 /// With no flush that fails (0), and with each flush that fails.
-fn each_flush(rt: &impl Abort, alloc: Global, exchanges: &[Exchange]) {
-    let wanted = wanted_flushes(alloc, exchanges, false).expect(rt, "the flushes");
+fn each_flush(rt: &impl Test, exchanges: &[Exchange]) {
+    let wanted = wanted_flushes(rt, exchanges, false);
     for failing in 0..=wanted.len() {
-        each_error(rt, alloc, exchanges, wanted.as_slice(), failing);
+        each_error(rt, exchanges, wanted.as_slice(), failing);
     }
 }
 
@@ -223,7 +219,7 @@ fn each_flush(rt: &impl Abort, alloc: Global, exchanges: &[Exchange]) {
 fn each_reply_is_flushed_before_the_next_read_or_nothing_more_is_read(rt: HostRuntime) {
     for count in 0..=EXCHANGES.len() {
         let exchanges = EXCHANGES.get(..count).unwrap_or(&EXCHANGES);
-        each_flush(&rt, rt.alloc(), exchanges);
+        each_flush(&rt, exchanges);
     }
 }
 
@@ -232,7 +228,7 @@ static SILENT: [Exchange; 3] = [(b"\n", Short, 0), (b" \n", Short, 0), (b"quit\n
 
 #[test]
 fn a_script_without_replies_flushes_nothing(rt: HostRuntime) {
-    each_flush(&rt, rt.alloc(), &SILENT);
+    each_flush(&rt, &SILENT);
 }
 
 /// Each command that may take long, after another one that has a reply, and after one that has not.
@@ -258,35 +254,34 @@ static SCRIPT: [Exchange; 17] = [
     (b"quit\n", Short, 0),
 ];
 
-fn lines_of(alloc: Global, exchanges: &[Exchange]) -> Result<Vec<u8>, AllocError> {
-    let mut lines = Vec::new(alloc);
+fn lines_of(rt: &impl Test, exchanges: &[Exchange]) -> Vec<u8> {
+    let mut lines = Vec::new(rt.alloc());
     for (line, _, _) in exchanges {
-        lines.extend_from_slice(line)?;
+        lines.extend_from_slice(line).expect(rt, "memory");
     }
-    Ok(lines)
+    lines
 }
 
 /// A run over the script in one read, with a flush that fails or none (0).
-fn run_at_once(rt: &impl Abort, alloc: Global, script: &[u8], wanted: &[u64], failing: usize) {
+fn run_at_once(rt: &impl Test, script: &[u8], wanted: &[u64], failing: usize) {
     let progress = Cell::new(NOTHING);
     let mut reader = script;
     let mut writer = CountingWriter {
         progress: &progress,
-        flushes: Vec::new(alloc),
+        flushes: Vec::new(rt.alloc()),
         failing,
         error: ErrorKind::Other,
     };
-    let mut files = two_packets_as_k(alloc).expect(rt, "the files");
-    let outcome = debug(alloc, &mut reader, &mut writer, &mut files);
+    let mut files = two_packets_as_k(rt);
+    let outcome = debug(rt.alloc(), &mut reader, &mut writer, &mut files);
     check(rt, outcome, &writer, wanted, (SCRIPT.len(), failing));
 }
 
 #[test]
 fn replies_are_flushed_before_a_command_that_may_take_long(rt: HostRuntime) {
-    let alloc = rt.alloc();
-    let script = lines_of(alloc, &SCRIPT).expect(&rt, "the script");
-    let wanted = wanted_flushes(alloc, &SCRIPT, true).expect(&rt, "the flushes");
+    let script = lines_of(&rt, &SCRIPT);
+    let wanted = wanted_flushes(&rt, &SCRIPT, true);
     for failing in 0..=wanted.len() {
-        run_at_once(&rt, alloc, script.as_slice(), wanted.as_slice(), failing);
+        run_at_once(&rt, script.as_slice(), wanted.as_slice(), failing);
     }
 }

@@ -1,3 +1,4 @@
+use crate::assertions::Test;
 use crate::fault_injection::{Fault, FaultyAllocator, FaultyReader, FaultyWriter};
 use std::alloc::Global;
 use std::io::{ErrorKind, Read, Write};
@@ -63,8 +64,8 @@ fn refused_of_100(rt: &impl Abort, alloc: &FaultyAllocator<Global>, nth: u64) ->
     refused
 }
 
-fn refuse_one(rt: &impl Abort, alloc: Global, nth: u64, held: u32, left: u64) {
-    let alloc = FaultyAllocator::new(alloc, nth);
+fn refuse_one(rt: &impl Test, nth: u64, held: u32, left: u64) {
+    let alloc = FaultyAllocator::new(rt.alloc(), nth);
     assert!(rt; alloc.left() == nth);
     assert!(rt; refused_of_100(rt, &alloc, nth) == held, "{nth}");
     assert!(rt; alloc.left() == left, "{nth}");
@@ -85,6 +86,6 @@ const REFUSALS: [(u64, u32, u64); 8] = [
 #[test]
 fn one_growth_is_refused_where_the_vector_is_full(rt: HostRuntime) {
     for (nth, held, left) in REFUSALS {
-        refuse_one(&rt, rt.alloc(), nth, held, left);
+        refuse_one(&rt, nth, held, left);
     }
 }

@@ -1,23 +1,23 @@
 //! The stops of a session's list beside those that its runs come to.
 
 use super::rows::{capture, program};
+use crate::assertions::Test;
 use cbpf_dbg::{MarkTrail, Meter, RunReply, Session};
-use std::alloc::Global;
 use std::process::Abort;
 
 /// A session that stops twice in each of the two packets.
-fn session_with_stops(rt: &impl Abort, alloc: Global) -> Session<MarkTrail> {
-    let mut s = Session::new(alloc, MarkTrail::new());
-    let p = program(rt, alloc, (40, 0, 0, 12), 3, &[(4, 0, 0, 1)], (22, 0, 0, 0));
+fn session_with_stops(rt: &impl Test) -> Session<MarkTrail> {
+    let mut s = Session::new(rt.alloc(), MarkTrail::new());
+    let p = program(rt, (40, 0, 0, 12), 3, &[(4, 0, 0, 1)], (22, 0, 0, 0));
     s.load_program(p);
-    s.load_capture(capture(rt, alloc));
+    s.load_capture(capture(rt));
     assert!(rt; s.breakpoint(1) == Ok(()) && s.breakpoint(4) == Ok(()));
     s
 }
 
 /// The dumps of the stops of the list.
-fn listed(rt: &impl Abort, alloc: Global, s: &Session<MarkTrail>) -> Vec<u8> {
-    let mut text = Vec::new(alloc);
+fn listed(rt: &impl Test, s: &Session<MarkTrail>) -> Vec<u8> {
+    let mut text = Vec::new(rt.alloc());
     for stop in s.stops().ok().expect(rt, "stops") {
         assert!(rt; s.write_stop(&mut text, &stop).is_ok());
     }
@@ -33,8 +33,8 @@ fn dump_next(rt: &impl Abort, s: &mut Session<MarkTrail>, text: &mut Vec<u8>) {
 }
 
 /// The dumps of the stops of four runs.
-fn met(rt: &impl Abort, alloc: Global, s: &mut Session<MarkTrail>) -> Vec<u8> {
-    let mut text = Vec::new(alloc);
+fn met(rt: &impl Test, s: &mut Session<MarkTrail>) -> Vec<u8> {
+    let mut text = Vec::new(rt.alloc());
     for _ in 0..4 {
         dump_next(rt, s, &mut text);
     }
@@ -49,8 +49,8 @@ fn is_whole(dumps: &[u8]) -> bool {
 /// Both the stops of the list and those of runs can be written as they are, with nothing to test.
 #[test]
 fn runs_show_the_stops_of_the_list(rt: HostRuntime) {
-    let mut s = session_with_stops(&rt, rt.alloc());
-    let listed = listed(&rt, rt.alloc(), &s);
-    let met = met(&rt, rt.alloc(), &mut s);
+    let mut s = session_with_stops(&rt);
+    let listed = listed(&rt, &s);
+    let met = met(&rt, &mut s);
     assert!(rt; listed.as_slice() == met.as_slice() && is_whole(&listed));
 }

@@ -1,35 +1,27 @@
 //! Calls of a session in rows: what it is asked, what it answers, and in how many turns.
 
-use crate::assertions::assert_shown;
+use super::Shown;
+use crate::assertions::{Test, assert_shown};
 use crate::programs::{Code, program_of};
 use crate::{captures, two_packets};
 use cbpf_code::{Ext, Program};
 use cbpf_dbg::{Meter, Place, RunReply, Session, SessionFault, Stop, Trail, When, Why};
 use pcap_classic::Capture;
-use std::alloc::Global;
-use std::process::Abort;
 
 /// The capture of the two packets.
-pub fn capture(rt: &impl Abort, alloc: Global) -> Capture {
-    captures::capture(rt, alloc, two_packets::little_endian())
+pub fn capture(rt: &impl Test) -> Capture {
+    captures::capture(rt, two_packets::little_endian())
 }
 
 /// The first instruction, so many times the others in their order, and the last.
-pub fn program(
-    rt: &impl Abort,
-    alloc: Global,
-    first: Code,
-    count: u32,
-    others: &[Code],
-    last: Code,
-) -> Program {
-    let mut all = Vec::new(alloc);
+pub fn program(rt: &impl Test, first: Code, count: u32, others: &[Code], last: Code) -> Program {
+    let mut all = Vec::new(rt.alloc());
     all.push(first).expect(rt, "memory");
     for _ in 0..count {
         all.extend_from_slice(others).expect(rt, "memory");
     }
     all.push(last).expect(rt, "memory");
-    program_of(rt, alloc, &all)
+    program_of(rt, &all)
 }
 
 /// A call of a session, and its answer.
@@ -158,7 +150,7 @@ fn matches_run<T: Trail>(
 }
 
 fn matches_run_to_end<T: Trail>(
-    alloc: Global,
+    rt: &impl Test,
     s: &mut Session<T>,
     stops: &[(u64, u32, u32, u32)],
     (passes, fails, unknown): (u64, u64, u64),
@@ -166,7 +158,7 @@ fn matches_run_to_end<T: Trail>(
     keeps_all: bool,
 ) -> bool {
     let mut meter = Meter::new();
-    let mut found = Vec::new(alloc);
+    let mut found = Vec::new(rt.alloc());
     let reply = match s.run_to_end(&mut meter, &mut found) {
         Ok(counts) => Ok(RunReply::Finished(counts)),
         Err(fault) => Err(fault),
@@ -199,13 +191,8 @@ fn matches_resume<T: Trail>(
     s.resume(&mut meter, place) == *answer && matches_turns(&meter, turns, keeps_all)
 }
 
-fn matches_list<T: Trail>(
-    rt: &impl Abort,
-    alloc: Global,
-    s: &Session<T>,
-    list: &[(u64, u32, u32, u32)],
-) -> bool {
-    let mut found = Vec::new(alloc);
+fn matches_list<T: Trail>(rt: &impl Test, s: &Session<T>, list: &[(u64, u32, u32, u32)]) -> bool {
+    let mut found = Vec::new(rt.alloc());
     for stop in s.stops().ok().expect(rt, "stops") {
         found.push(stop).expect(rt, "memory");
     }
@@ -241,11 +228,11 @@ fn matches_still<T: Trail>(s: &mut Session<T>, row: &Row) -> bool {
 }
 
 /// Makes the call of a row that makes turns, or that `matches_still` makes.
-fn matches_call<T: Trail>(alloc: Global, s: &mut Session<T>, row: &Row, keeps_all: bool) -> bool {
+fn matches_call<T: Trail>(rt: &impl Test, s: &mut Session<T>, row: &Row, keeps_all: bool) -> bool {
     match row {
         Row::Run(limit, answer, turns) => matches_run(s, *limit, answer, turns, keeps_all),
         Row::RunToEnd(stops, ends, turns) => {
-            matches_run_to_end(alloc, s, stops, *ends, turns, keeps_all)
+            matches_run_to_end(rt, s, stops, *ends, turns, keeps_all)
         }
         Row::Step(n, answer, turns) => matches_step(s, *n, answer, turns, keeps_all),
         Row::Resume(packet, step, answer, turns) => {
@@ -260,44 +247,44 @@ fn matches_call<T: Trail>(alloc: Global, s: &mut Session<T>, row: &Row, keeps_al
 }
 
 /// Makes the call of a row, and reports whether the session answers as the row has it.
-fn matches_row<T: Trail>(
-    rt: &impl Abort,
-    alloc: Global,
-    s: &mut Session<T>,
-    row: &Row,
-    keeps_all: bool,
-) -> bool {
+fn matches_row<T: Trail>(rt: &impl Test, s: &mut Session<T>, row: &Row, keeps_all: bool) -> bool {
     match row {
         Row::Program(first, count, others, last) => {
-            s.load_program(program(rt, alloc, *first, *count, others, *last));
+            s.load_program(program(rt, *first, *count, others, *last));
             true
         }
         Row::Capture => {
-            s.load_capture(capture(rt, alloc));
+            s.load_capture(capture(rt));
             true
         }
         Row::SwappedCapture => {
             let file = two_packets::big_endian();
-            s.load_capture(captures::capture(rt, alloc, file));
+            s.load_capture(captures::capture(rt, file));
             true
         }
-        Row::Stops(list) => matches_list(rt, alloc, s, list),
-        _ => matches_call(alloc, s, row, keeps_all),
+        Row::Stops(list) => matches_list(rt, s, list),
+        _ => matches_call(rt, s, row, keeps_all),
     }
 }
 
-/// Makes the calls of the rows one after the other in a session of its own, and asserts what each answers.
-pub fn check_rows<T: Trail>(
-    rt: &impl Abort,
-    alloc: Global,
-    trail: T,
+/// Makes the calls of the rows one after the other, and asserts what each answers.
+fn check_calls<T: Trail>(
+    rt: &impl Test,
+    s: &mut Session<T>,
     keeps_all: bool,
     shows: &str,
     rows: &[Row],
 ) {
-    let mut s = Session::new(alloc, trail);
     for (i, row) in rows.iter().enumerate() {
-        let holds = matches_row(rt, alloc, &mut s, row, keeps_all);
+        let holds = matches_row(rt, s, row, keeps_all);
         assert_shown(rt, shows, i, holds);
     }
+}
+
+/// The calls in a session of its own.
+pub fn check_rows<T: Trail>(rt: &impl Test, trail: T, keeps_all: bool, session: &Shown) {
+    let (shows, begin, rows) = *session;
+    let mut s = Session::new(rt.alloc(), trail);
+    check_calls(rt, &mut s, keeps_all, shows, begin);
+    check_calls(rt, &mut s, keeps_all, shows, rows);
 }

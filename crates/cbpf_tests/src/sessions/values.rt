@@ -19,6 +19,7 @@ const LOAD_RANDOM: Row = Row::Program((32, 0, 0, 4294963256), 0, &[], (22, 0, 0,
 const VALUES: &[Shown] = &[
     (
         "a value, which loads keep, and another one begin the packet again",
+        &[],
         &[
             Row::SetValue(Ext::Mark, 7, Ok(())),
             LOAD_MARK,
@@ -43,9 +44,8 @@ const VALUES: &[Shown] = &[
     ),
     (
         "values that there are not leave the place",
+        &[LOAD_RANDOM, Row::Capture],
         &[
-            LOAD_RANDOM,
-            Row::Capture,
             Row::Run(None, Asks(1, Ext::Rand), Exactly(0)),
             Row::SetValue(Ext::Nla, 1, Err(SessionFault::NoValue)),
             Row::SetValue(Ext::NlaN, 1, Err(SessionFault::NoValue)),
