@@ -7,6 +7,7 @@ use Rattle.std.proofs.Common.{[], ◌∷◌, ◌++◌, length, map, Option, Some
 use Rattle.std.proofs.Common.{append-nil}
 use Rattle.std.specs.Prelude.{slice_get, All}
 use Rattle.std.proofs.lemmas.Bool.{cases_lt}
+use Rattle.cbpf_code.specs.declared.checker.TheConstants.{MAX_INSTRUCTIONS}
 use Rattle.cbpf_syntax.specs.Tokens.{line_of}
 use Rattle.cbpf_syntax.proofs.EachLexed.{each_lexed}
 use Rattle.cbpf_code.specs.declared.insn.Insn.{Insn}
@@ -171,10 +172,10 @@ body_some c cs (t ∷ ts) e = omega arith
 abbrev ItemsAnswer : List Item → Type 0
 ItemsAnswer is = ((insns : List Insn) × AreEncoded is insns) ⊎ ((kind : AsmKind) × (at : ℕ) × IsItemsFault is kind at)
 
-many_items : (is : List Item) → All HasForm is → 4096 < length is → ItemsAnswer is
+many_items : (is : List Item) → All HasForm is → MAX_INSTRUCTIONS < length is → ItemsAnswer is
 many_items is f l =
-    let item = get_some is 4096 l in
-    let form : HasForm item.0 = form_at is 4096 item.0 f item.1 in
+    let item = get_some is MAX_INSTRUCTIONS l in
+    let form : HasForm item.0 = form_at is MAX_INSTRUCTIONS item.0 f item.1 in
     let some = body_some (the_word item.0.row.mnemonic) item.0.row.operand item.0.body form.fits in
     let mnemonic = get_some item.0.body 0 some in
     inr (
@@ -195,7 +196,7 @@ counted_items is n = elim (labels_once [] (set_labels is) (All-nil (λ t. times_
 
 each_items : (is : List Item) → All HasForm is → ItemsAnswer is
 each_items [] f = inr (kinds.NoInstruction, 0, no_item refl)
-each_items (i ∷ is) f = elim (cases_lt 4096 (length (i ∷ is))) [
+each_items (i ∷ is) f = elim (cases_lt MAX_INSTRUCTIONS (length (i ∷ is))) [
   | inl l ↦ many_items (i ∷ is) f l
   | inr l ↦ counted_items (i ∷ is) (record { some = omega arith; most = l })
 ]

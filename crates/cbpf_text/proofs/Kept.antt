@@ -3,6 +3,7 @@ use Rattle.std.proofs.Common.{rules, ◌≡◌, refl, sym, ◌∙◌, ap, subst,
 use Rattle.std.proofs.Common.{get_or, Option, Some, None, arith, append_assoc, append-nil, length-append}
 use Rattle.std.specs.Prelude.{slice_get}
 use Rattle.std.proofs.lemmas.List.{map-append, nil_from_length}
+use Rattle.cbpf_code.specs.declared.checker.TheConstants.{MAX_INSTRUCTIONS}
 use Rattle.cbpf_syntax.specs.declared.lexeme.Lexeme as declared_lexeme
 use Rattle.cbpf_syntax.specs.Lexemes.{Lexeme}
 use Rattle.cbpf_syntax.specs.Items.{Item}
@@ -45,18 +46,18 @@ kept_label ss rep rep2 look look2 is ws word place h1 h2 h3 = search (rules, sta
 -- one more item
 pub kept_item : (ss : List Statement) (rep : Option ℕ) (look : Name → Option ℕ) (is : List Item) (ws : List Lexeme)
     (s : Statement) (i : Item) → IsKept ss rep look is ws → IsStatement s i → i.labels ≡ ws
-    → length ss < 4096 → IsKept (ss ++ (s ∷ [])) rep look (is ++ (i ∷ [])) []
+    → length ss < MAX_INSTRUCTIONS → IsKept (ss ++ (s ∷ [])) rep look (is ++ (i ∷ [])) []
 kept_item ss rep look is ws s i h1 h2 h3 h4 =
     search (rules, statements_more, labels_snoc, append-nil, statements_size, length-append)
 
--- the 4097th item
+-- the item after MAX_INSTRUCTIONS others
 pub kept_excess : (ss : List Statement) (rep : Option ℕ) (look : Name → Option ℕ) (is : List Item) (ls : List Lexeme)
     (i : Item) (body : List declared_lexeme.Lexeme) (d : declared_lexeme.Lexeme)
-    → IsKept ss rep look is ls → length ss ≡ 4096 → i.body ≡ map lexeme_of body → 0 < length body
+    → IsKept ss rep look is ls → length ss ≡ MAX_INSTRUCTIONS → i.body ≡ map lexeme_of body → 0 < length body
     → IsExcess (is ++ (i ∷ [])) (get_or body 0 d).at
 kept_excess ss rep look is ls i [] d k e b l = absurd (omega (arith, l))
 kept_excess ss rep look is ls i (t ∷ body) d k e b l =
-    let n : length is ≡ 4096 = sym (statements_size ss is k.same) ∙ e in
+    let n : length is ≡ MAX_INSTRUCTIONS = sym (statements_size ss is k.same) ∙ e in
     record {
       item = i;
       found = ap (λ q. slice_get (is ++ (i ∷ [])) q) (sym n) ∙ get_last is i;

@@ -36,6 +36,7 @@ use Rattle.cbpf_text.proofs.ListedOperands.{operand_segments, TargetsInside, ope
 use Rattle.cbpf_text.proofs.ListedOperands.{operand_are, operand_fits, operand_fills}
 use Rattle.cbpf_syntax.specs.Lexemes as grammar
 use Rattle.std.proofs.lemmas.Option.{slice_get_within, get_or_from_slice_get}
+use Rattle.cbpf_code.specs.declared.checker.TheConstants.{MAX_INSTRUCTIONS}
 use Rattle.cbpf_code.specs.declared.opcode.Op.TheVariants.{Alu, Ja, Jump}
 use Rattle.cbpf_code.specs.declared.opcode.Src.TheVariants as src
 use Rattle.cbpf_code.specs.ControlFlow.{IsTarget}
@@ -103,7 +104,7 @@ sets_at i (suc m) (item ∷ items) h l =
     let e : i + suc m ≡ i + 1 + m = omega arith in
     rw e (sets_at (i + 1) m items h.1 (omega arith))
 
-labels_place : (items : List Item) → length items ≤ 4096 → AreLabelled 0 items → Places (length items) items
+labels_place : (items : List Item) → length items ≤ MAX_INSTRUCTIONS → AreLabelled 0 items → Places (length items) items
 labels_place items few h m l =
     let z : 0 + m ≡ m = omega arith in
     record {
@@ -123,7 +124,7 @@ numbered i to (item ∷ items) l h =
     let front : All (Numbered to) item.labels = subst (All (Numbered to)) (sym h.0.only) one in
     All-append (Numbered to) item.labels (set_labels items) front (numbered (i + 1) to items (omega arith) h.1)
 
-labels_distinct_by_number : (items : List Item) → length items ≤ 4096 → AreLabelled 0 items
+labels_distinct_by_number : (items : List Item) → length items ≤ MAX_INSTRUCTIONS → AreLabelled 0 items
     → AreDistinct (set_labels items)
 labels_distinct_by_number items few h k d l =
     let n = numbered 0 (length items) items (omega arith) h k d l in
@@ -237,7 +238,8 @@ line_encoded at i insn op named operand all known fills =
     rw (plain_is insn op known)
     (record { code = code_only insn.code op known ∙ sym r.code; fields = rw (r.fields, r.operand) fills })
 
-lists_line : (n i : ℕ) (insn : Insn) (op : Op) (insns : List Insn) → op_of insn.code ≡ Some op → n ≤ 4096 → i < n
+lists_line : (n i : ℕ) (insn : Insn) (op : Op) (insns : List Insn) → op_of insn.code ≡ Some op
+    → n ≤ MAX_INSTRUCTIONS → i < n
     → InRange insn → TargetsInside n i insn (operand_of op) → Lists n (i + 1) insns → Lists n i (insn ∷ insns)
 lists_line n i insn op insns known most l range inside b =
     let w = mnemonic_of op in
@@ -303,7 +305,7 @@ lists all i (insn ∷ insns) sound range here =
 
 encoded : (list : List Insn) (b : Lists (length list) 0 list) → IsSound list → AreEncoded (b.items 0) (map plain list)
 encoded list b sound =
-    let few : length (b.items 0) ≤ 4096 = omega (arith, b.size 0, sound_few list sound) in
+    let few : length (b.items 0) ≤ MAX_INSTRUCTIONS = omega (arith, b.size 0, sound_few list sound) in
     let places : Places (length list) (b.items 0) =
     subst (λ n. Places n (b.items 0)) (b.size 0) (labels_place (b.items 0) few (b.labelled 0)) in
     record {

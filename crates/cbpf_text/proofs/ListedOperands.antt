@@ -4,6 +4,7 @@ use Rattle.std.proofs.Common.{◌≡◌, ℕ, ◌+◌, ◌^◌, ◌<◌, Bool, t
 use Rattle.std.proofs.Common.{◌∙◌, arith, rules, append-nil, lit<, Option, Some, None, ◌≤◌}
 use Rattle.std.specs.Prelude.{◌==◌, codes, is_some, decimal}
 use Rattle.std.proofs.lemmas.Bool.{and_from}
+use Rattle.cbpf_code.specs.declared.checker.TheConstants.{MAX_INSTRUCTIONS}
 use Rattle.cbpf_code.specs.declared.insn.Insn.{Insn}
 use Rattle.cbpf_code.specs.declared.extension.Ext.{Ext}
 use Rattle.cbpf_code.specs.declared.extension.Ext.TheVariants.{Proto}
@@ -110,7 +111,7 @@ operand_spelled o e i insn p l = refl
 is_blank_segment : IsSegment (blank 32)
 is_blank_segment = (lit< tt, refl)
 
-pub operand_are : (o : Operand) (e : Option Ext) (n i : ℕ) (insn : Insn) → InRange insn → n ≤ 4096
+pub operand_are : (o : Operand) (e : Option Ext) (n i : ℕ) (insn : Insn) → InRange insn → n ≤ MAX_INSTRUCTIONS
     → TargetsInside n i insn o → AreSegments (operand_segments o e i insn)
 operand_are operands.Absolute (Some x) n i insn r most t = (is_blank_segment, ((ext_word x).1, tt))
 operand_are operands.Immediate e n i insn r most t = search (rules, is_hex_segment)
@@ -121,7 +122,8 @@ operand_are operands.Label e n i insn r most t = search (rules, is_label_segment
 operand_are operands.XTwo e n i insn r most t = search (rules, is_label_segment) depth 14
 operand_are o e n i insn r most t = search (rules, is_decimal_segment) depth 14
 
-pub operand_fits : (o : Operand) (e : Option Ext) (n i at : ℕ) (insn : Insn) → n ≤ 4096 → TargetsInside n i insn o
+pub operand_fits : (o : Operand) (e : Option Ext) (n i at : ℕ) (insn : Insn) → n ≤ MAX_INSTRUCTIONS
+    → TargetsInside n i insn o
     → fits_all (operand_classes (is_some e) o) (lexemes_at at (operand_segments o e i insn)) ≡ true
 operand_fits operands.Absolute (Some x) n i at insn most t = and_from _ _ (ext_listed x) refl
 operand_fits operands.Label e n i at insn most t = and_from _ _ (label_fits (i + 1 + insn.k) (omega arith)) refl

@@ -17,6 +17,7 @@ use Rattle.cbpf_text.specs.Operands.{HasForm}
 use Rattle.cbpf_text.specs.Laws.{OneAssembly, NeverBoth, OneRefusal}
 use Rattle.cbpf_text.proofs.LabelLists.{one_place, times_append, times_cons, times_hit, distinct_once, sets_some}
 use Rattle.std.proofs.lemmas.Grind.{common_steps}
+use Rattle.cbpf_code.specs.declared.checker.TheConstants.{MAX_INSTRUCTIONS}
 use Rattle.cbpf_syntax.proofs.Refused.{items_accepted}
 use Rattle.cbpf_text.specs.declared.fault.AsmKind.{AsmKind}
 use Rattle.cbpf_text.specs.Refusals.{IsGoodUse, IsItemsFault, IsTokensFault, Use, IsUseFault, IsFirstRepeat}
@@ -78,7 +79,8 @@ not_items : (is : List Item) (insns : List Insn) (kind : AsmKind) (at : ℕ) →
     → IsItemsFault is kind at → ⊥
 not_items is insns kind at f e (no_item p) = let z : length is ≡ 0 = ap length p in
     absurd (omega (arith, z, e.limits.some))
-not_items is insns kind at f e (too_many p x) = let l : 4096 < length is = slice_get_within is 4096 x.item x.found in
+not_items is insns kind at f e (too_many p x) =
+    let l : MAX_INSTRUCTIONS < length is = slice_get_within is MAX_INSTRUCTIONS x.item x.found in
     absurd (omega (arith, l, e.limits.most))
 not_items is insns kind at f e (set_twice p n r) =
     no_repeat r.before r.label r.after (subst AreDistinct r.split e.distinct) r.given
@@ -155,11 +157,13 @@ empty : (is : List Item) → is ≡ [] → HasProgramLength is → ⊥
 empty is e s = let z : length is ≡ 0 = ap length e in omega (arith, z, s.some)
 
 long : (is : List Item) (m : ℕ) → IsExcess is m → HasProgramLength is → ⊥
-long is m x s = let h : 4096 < length is = slice_get_within is 4096 x.item x.found in omega (arith, h, s.most)
+long is m x s =
+    let h : MAX_INSTRUCTIONS < length is = slice_get_within is MAX_INSTRUCTIONS x.item x.found in
+    omega (arith, h, s.most)
 
 of_length : (is : List Item) (m : ℕ) → is ≡ [] → IsExcess is m → ⊥
 of_length is m e x =
-    let h : 4096 < length is = slice_get_within is 4096 x.item x.found in
+    let h : MAX_INSTRUCTIONS < length is = slice_get_within is MAX_INSTRUCTIONS x.item x.found in
     let z : length is ≡ 0 = ap length e in
     omega (arith, h, z)
 

@@ -1,6 +1,7 @@
 -- Which instructions a source text stands for: opcodes, literals and jump offsets as in the kernel's
 -- Documentation/networking/filter, as a relation between whole lists.
 use Rattle.std.specs.Prelude.{◌≡◌, ℕ, ◌+◌, ◌<◌, ◌≤◌, List, [], ◌∷◌, length, slice_get, Option, Some, None}
+use Rattle.cbpf_code.specs.declared.checker.TheConstants.{MAX_INSTRUCTIONS}
 use Rattle.cbpf_syntax.specs.declared.token.Token.{Token}
 use Rattle.cbpf_syntax.specs.Tokens.{Lexes}
 use Rattle.cbpf_code.specs.declared.insn.Insn.{Insn}
@@ -39,10 +40,10 @@ pub record IsEncoded (items : List Item) (index : ℕ) (item : Item) (insn : Ins
   pub code : insn.code ≡ code_of item.row.op
   pub fields : FillsFields item.row.fields items index (literal_in item) (targets_in item) insn
 
--- there are 1 to 4096 items
+-- there are 1 to MAX_INSTRUCTIONS items
 pub record HasProgramLength (items : List Item) : Type 0 where
   pub some : 0 < length items
-  pub most : length items ≤ 4096
+  pub most : length items ≤ MAX_INSTRUCTIONS
 
 -- the instructions are those of the items, of which the first has the index, one for each; all items together set the
 -- labels
@@ -53,7 +54,7 @@ EncodeEach all index (item ∷ items) [] = ⊥
 EncodeEach all index (item ∷ items) (insn ∷ insns) = IsEncoded all index item insn
     × EncodeEach all (index + 1) items insns
 
--- there are 1 to 4096 items, each label is set once, and the instructions are the items'
+-- there are as many items as a program has, each label is set once, and the instructions are the items'
 pub record AreEncoded (items : List Item) (insns : List Insn) : Type 0 where
   pub limits : HasProgramLength items
   pub distinct : AreDistinct (set_labels items)

@@ -2,6 +2,7 @@
 -- addressing modes of the kernel's Documentation/networking/filter have them.
 use Rattle.std.specs.Prelude.{◌≡◌, ◌≤◌, ℕ, List, [], ◌∷◌, ◌++◌, length, map, Option, Some, None}
 use Rattle.std.specs.List.{AllZip}
+use Rattle.cbpf_code.specs.declared.checker.TheConstants.{MAX_INSTRUCTIONS}
 use Rattle.cbpf_code.specs.Opcode.{code_of}
 use Rattle.cbpf_syntax.specs.Lexemes.{Lexeme}
 use Rattle.cbpf_syntax.specs.Items.{Item}
@@ -48,9 +49,9 @@ pub record IsKept (statements : List Statement) (repeat : Option ℕ) (lookup : 
     (items : List Item) (waiting : List Lexeme) : Type 0 where
   pub same : AreStatements statements items
   pub set : AreSet (labels_from 0 items ++ labels_of (length items) waiting) repeat lookup
-  pub most : length items ≤ 4096
+  pub most : length items ≤ MAX_INSTRUCTIONS
 
--- what is kept of items, where there are at most 4096; and of more the place of the 4097th
+-- what is kept of items, where there are at most MAX_INSTRUCTIONS; and of more that place
 abbrev pub IsDraft : Option ℕ → List Statement → Option ℕ → (Name → Option ℕ) → List Item → List Lexeme → Type 0
 IsDraft None statements repeat lookup items waiting = IsKept statements repeat lookup items waiting
 IsDraft (Some at) statements repeat lookup items waiting = IsExcess items at

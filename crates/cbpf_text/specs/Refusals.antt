@@ -2,6 +2,7 @@
 -- Documentation/networking/filter has no faults.
 use Rattle.std.specs.Prelude.{◌≡◌, ◌≢◌, ℕ, ◌+◌, ◌-◌, ◌<◌, ◌≤◌, Bool, true, false, List, [], ◌∷◌, ◌++◌, length, map}
 use Rattle.std.specs.Prelude.{slice_get, Option, Some, None, All}
+use Rattle.cbpf_code.specs.declared.checker.TheConstants.{MAX_INSTRUCTIONS}
 use Rattle.cbpf_syntax.specs.declared.token.Token.{Token}
 use Rattle.cbpf_syntax.specs.declared.token.BadPiece.{BadPiece}
 use Rattle.cbpf_syntax.specs.declared.token.BadPiece.TheVariants as pieces
@@ -80,10 +81,10 @@ pub record IsFirstBadUse (items : List Item) (uses : List Use) (kind : AsmKind) 
   pub bad : IsUseFault items u kind
   pub place : at ≡ u.target.at
 
--- the place is that of the 4097th item's mnemonic
+-- the place is that of the mnemonic of the item after MAX_INSTRUCTIONS others
 pub record IsExcess (items : List Item) (at : ℕ) : Type 0 where
   pub item : Item
-  pub found : slice_get items 4096 ≡ Some item
+  pub found : slice_get items MAX_INSTRUCTIONS ≡ Some item
   pub place : IsPlaceOf item.body 0 at
 
 -- why items are refused, and the place in the text that shows it

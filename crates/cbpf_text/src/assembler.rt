@@ -1,6 +1,7 @@
 //! Source text to instructions.
 
 ghost use Rattle.std.specs.Prelude.{◌≡◌, ◌≤◌, List, [], length, IfOk, IfErr, All};
+ghost use Rattle.cbpf_code.specs.declared.checker.TheConstants.{MAX_INSTRUCTIONS};
 ghost use Rattle.indexmap.specs.IndexMap.{get};
 ghost use Rattle.cbpf_syntax.specs.Items as items;
 ghost use Rattle.cbpf_text.specs.Assembled.{Assembles, AreEncoded};
@@ -21,7 +22,7 @@ fn encode_draft<A: Allocator + Copy>(
     alloc: A,
     draft: &Draft<'_, A>,
 ) -> Result<Vec<Insn, A>, PlacedFault>
-    requires { length draft.now.statements.items ≤ 4096 }
+    requires { length draft.now.statements.items ≤ MAX_INSTRUCTIONS }
     ensures encoded { (is : List items.Item) →
         IsDraft draft.now.excess draft.now.statements.items draft.now.labels.repeat
         (λ k. get same_name draft.now.labels.table k) is [] →

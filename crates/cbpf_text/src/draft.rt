@@ -21,12 +21,9 @@ use crate::name::{Name, name_of};
 use crate::operand::value_at;
 use crate::placed_fault::{PlacedFault, fault_of};
 use crate::source::asm_fault;
-use cbpf_code::code_of;
+use cbpf_code::{MAX_INSTRUCTIONS, code_of};
 use cbpf_syntax::{Class, Fields, Lexeme, Reader, Row, Step};
 use std::alloc::{AllocFailed, Allocator};
-
-/// The most instructions that a program has.
-const MOST_INSTRUCTIONS: usize = 4096;
 
 /// A label in an operand.
 #[derive(Clone, Copy)]
@@ -53,7 +50,7 @@ pub struct Statement<'a> {
 pub struct Draft<'a, A: Allocator> {
     pub statements: Vec<Statement<'a>, A>,
     pub labels: Labels<'a, A>,
-    /// The place of the 4097th mnemonic. From there on nothing is kept.
+    /// The place of the mnemonic after `MAX_INSTRUCTIONS` others. From there on nothing is kept.
     pub excess: Option<usize>,
 }
 
@@ -114,8 +111,8 @@ fn add_label<'a, A: Allocator>(
     draft: &mut Draft<'a, A>,
     word: Lexeme<'a>,
 ) -> Result<(), AllocFailed<(Name<'a>, u32)>>
-    requires { length draft.old.statements.items ≤ 4096 }
-    ensures size { length draft.new.statements.items ≤ 4096 }
+    requires { length draft.old.statements.items ≤ MAX_INSTRUCTIONS }
+    ensures size { length draft.new.statements.items ≤ MAX_INSTRUCTIONS }
     ensures label { OnOk result ((is : List items.Item) (words : List lexemes.Lexeme) →
         IsDraft draft.old.excess draft.old.statements.items draft.old.labels.repeat
         (λ k. get same_name draft.old.labels.table k) is words →
@@ -134,9 +131,9 @@ fn add_instruction<'a, A: Allocator>(
     row: Row,
     body: &[Lexeme<'a>],
 ) -> Result<(), AllocFailed<Statement<'a>>>
-    requires size { length draft.old.statements.items ≤ 4096 }
+    requires size { length draft.old.statements.items ≤ MAX_INSTRUCTIONS }
     requires some { 0 < length body.now }
-    ensures size { length draft.new.statements.items ≤ 4096 }
+    ensures size { length draft.new.statements.items ≤ MAX_INSTRUCTIONS }
     ensures item { OnOk result ((is : List items.Item) (words : List lexemes.Lexeme) →
         IsDraft draft.old.excess draft.old.statements.items draft.old.labels.repeat
         (λ k. get same_name draft.old.labels.table k) is words →
@@ -147,7 +144,7 @@ fn add_instruction<'a, A: Allocator>(
     if draft.excess.is_some() {
         return Ok(());
     }
-    if draft.statements.len() == MOST_INSTRUCTIONS {
+    if draft.statements.len() == MAX_INSTRUCTIONS {
         draft.excess = Some(body[0].at);
         return Ok(());
     }
@@ -199,7 +196,7 @@ fn read_items<'a, A: Allocator + Copy>(
         Items ts is × IsAccepted ts ×
         IsDraft draft.new.excess draft.new.statements.items draft.new.labels.repeat
         (λ k. get same_name draft.new.labels.table k) is []) }
-    ensures size { OnOk result (length draft.new.statements.items ≤ 4096) }
+    ensures size { OnOk result (length draft.new.statements.items ≤ MAX_INSTRUCTIONS) }
     ensures refused { IfErr result (IsRefused text.now) }
 {
     let mut waits = false;
@@ -242,12 +239,12 @@ pub(crate) fn read<'a, A: Allocator + Copy>(
         Items ts is × IsAccepted ts ×
         IsDraft draft.excess draft.statements.items draft.labels.repeat
         (λ k. get same_name draft.labels.table k) is []) }
-    ensures size { IfOk result (λ draft. length draft.statements.items ≤ 4096) }
+    ensures size { IfOk result (λ draft. length draft.statements.items ≤ MAX_INSTRUCTIONS) }
     ensures refused { IfErr result (IsRefused text.now) }
 {
     let mut reader = Reader::new(alloc, text);
     let mut draft = Draft {
-        statements: Vec::with_capacity(alloc, MOST_INSTRUCTIONS.min(text.len() / 8))?,
+        statements: Vec::with_capacity(alloc, MAX_INSTRUCTIONS.min(text.len() / 8))?,
         labels: Labels::new(alloc, text),
         excess: None,
     };

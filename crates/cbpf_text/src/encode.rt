@@ -1,6 +1,7 @@
 //! The instructions of items.
 
 ghost use Rattle.std.specs.Prelude.{◌≤◌, Bool, true, List, length, Some, IfOk, IfErr, All};
+ghost use Rattle.cbpf_code.specs.declared.checker.TheConstants.{MAX_INSTRUCTIONS};
 ghost use Rattle.indexmap.specs.IndexMap.{get};
 ghost use Rattle.cbpf_syntax.specs.Items as items;
 ghost use Rattle.cbpf_syntax.specs.Lexemes as lexemes;
@@ -117,7 +118,7 @@ pub(crate) fn encode_all<A: Allocator + Copy>(
     labels: &LabelTable<'_, A>,
     statements: &[Statement<'_>],
 ) -> Result<Vec<Insn, A>, PlacedFault>
-    requires { length statements.now ≤ 4096 }
+    requires { length statements.now ≤ MAX_INSTRUCTIONS }
     ensures encoded { (is : List items.Item) → AreStatements statements.now is → All HasForm is →
         Resolves is (λ k. get same_name labels.now k) → IfOk result (λ v. EncodeEach is 0 is v.items) }
     ensures refused { (is : List items.Item) → AreStatements statements.now is → All HasForm is →

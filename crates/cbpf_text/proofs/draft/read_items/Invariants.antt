@@ -1,4 +1,5 @@
 use Rattle.std.proofs.Common.{◌≡◌, ◌≤◌, ℕ, length}
+use Rattle.cbpf_code.specs.declared.checker.TheConstants.{MAX_INSTRUCTIONS}
 use Rattle.indexmap.specs.IndexMap.{get}
 use Rattle.cbpf_syntax.specs.Reading.{IsReading, left}
 use Rattle.cbpf_text.specs.Tables.{same_name}
@@ -8,7 +9,7 @@ use Rattle.cbpf_text.proofs.draft.read_items.Given as goal
 abbrev pub invariant-loop-next : goal.invariant-loop-next
 invariant-loop-next g l = record {
   text : l.reader.text ≡ l.text;
-  size : length l.draft.statements.items ≤ 4096;
+  size : length l.draft.statements.items ≤ MAX_INSTRUCTIONS;
   state : (n : ℕ) × IsReading n l.reader × IsState l.text n l.draft.excess l.draft.statements.items
       l.draft.labels.repeat (λ k. get same_name l.draft.labels.table k) l.waits;
 }
