@@ -53,7 +53,7 @@ impl<T: Trail, A: Allocator> Session<T, A> {
         ensures after { self.new ≡ spec.view_after self.old (spec.run self.old limit) }
         ensures turns { meter.new ≡ meter.old + spec.turns_forward self.old (spec.run self.old limit) }
 
-        // A stop is the first hit that was ahead, and then the others are ahead.
+        // A stop is the first hit ahead; the rest stay ahead.
         ensures ahead { IfOk result (λ reply. spec.Continues self.old self.new reply) }
 
         // A stop is one that `write_stop` takes.

@@ -79,8 +79,7 @@ impl Cursor {
         self.pass_whole(outcome);
     }
 
-    /// After its packet was followed, of which it has the state already: at the entry that was come to, or before the
-    /// next packet.
+    /// Moves to where following the packet led, which left the state here: to an entry, or before the next packet.
     #[inline(always)]
     pub(crate) fn follow(&mut self, followed: Followed) -> Moved
         requires counts { Countable self.old.place.packet self.old.counts }

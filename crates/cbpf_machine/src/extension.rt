@@ -19,7 +19,7 @@ fn is_absolute_load(op: Op) -> bool
 /// `None` where there is no such extension.
 ///
 /// The answer is read from the instruction, for any packet and state, and no turn is made.
-// Most numbers are no extension's, so the code is looked up only where one is.
+// It checks `k` first: few instructions name an extension.
 #[inline(always)]
 pub fn missing_extension(insn: Insn, values: &Values) -> Option<Ext>
     ensures { (list : List Insn) (bytes : List ℕ) (wire : ℕ) (s : Registers)

@@ -51,7 +51,7 @@ pub fn write_no_program<W: Write>(w: &mut W) -> Result<(), WriteFault>
     write_bytes(w, b"error: S1 no program\n")
 }
 
-/// Writes the line of a word text's refusal, with its number N1 to N5, or that it is out of memory.
+/// Writes the line of a word text's refusal, with its number, or that it is out of memory.
 #[tactic(auto, unfolding(crate::specs::Errors::word_fault_text))]
 pub fn write_word_fault<W: Write>(w: &mut W, fault: WordFault) -> Result<(), WriteFault>
     ensures { Wrote (W.contents w.old) (W.contents w.new) result (spec.word_fault_text fault) }
@@ -101,7 +101,7 @@ pub fn write_word_fault<W: Write>(w: &mut W, fault: WordFault) -> Result<(), Wri
     }
 }
 
-/// Writes the line of the checker's refusal, with its number C1 to C10.
+/// Writes the line of the checker's refusal, with its number.
 #[tactic(auto, unfolding(crate::specs::Errors::check_fault_text))]
 pub fn write_check_fault<W: Write>(w: &mut W, fault: CheckFault) -> Result<(), WriteFault>
     ensures { Wrote (W.contents w.old) (W.contents w.new) result (spec.check_fault_text fault) }
@@ -137,7 +137,7 @@ pub fn write_check_fault<W: Write>(w: &mut W, fault: CheckFault) -> Result<(), W
     }
 }
 
-/// Writes the line of a capture's refusal, with its number P1 to P3, or that it is out of memory.
+/// Writes the line of a capture's refusal, with its number, or that it is out of memory.
 #[tactic(auto, unfolding(crate::specs::Errors::capture_fault_text))]
 pub fn write_capture_fault<W: Write>(w: &mut W, fault: CaptureFault) -> Result<(), WriteFault>
     ensures { Wrote (W.contents w.old) (W.contents w.new) result (spec.capture_fault_text fault) }
@@ -150,7 +150,7 @@ pub fn write_capture_fault<W: Write>(w: &mut W, fault: CaptureFault) -> Result<(
     }
 }
 
-/// Writes the line of a refusal, with its number S1 to S9, or that it is out of memory.
+/// Writes the line of a refusal, with its number, or that it is out of memory.
 #[tactic(auto, unfolding(crate::specs::Errors::fault_text))]
 pub fn write_session_fault<W: Write>(w: &mut W, fault: SessionFault) -> Result<(), WriteFault>
     ensures { Wrote (W.contents w.old) (W.contents w.new) result (spec.fault_text fault) }

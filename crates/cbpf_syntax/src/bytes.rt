@@ -18,7 +18,7 @@ pub(crate) fn is_digit(b: u8) -> bool
     b >= b'0' && b <= b'9'
 }
 
-// Each byte of a name stands at its own place, and a dot at every other place.
+// A byte maps to itself if it may stand in a name, else to a dot.
 static NAME_BYTES: [u8; 256] = *b"\
     ................................\
     ................0123456789......\

@@ -87,8 +87,8 @@ fn make_row(mnemonic: &Mnemonic, entry: &Entry, form: &'static [Class]) -> Row
     }
 }
 
-/// Whether the form may have more tokens that fit than the best row, or as many where these
-/// are all of it and not all of the row.
+/// False only if the form can't beat the best row: by more tokens that fit, or by as many where these are all of it
+/// and not all of the row.
 #[inline(always)]
 fn may_be_better(best: &Match, form: &[Class], tokens: &[Lexeme<'_>]) -> bool
     ensures { result ≡ false → (rs : List tables.Row) (row : tables.Row) → row.operand ≡ map class_of form.now →

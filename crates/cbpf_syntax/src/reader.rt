@@ -30,7 +30,7 @@ pub enum Step {
     Label,
     /// An instruction, without labels.
     Instruction(Row),
-    /// So many tokens begin a label or an instruction, and with the next one they don't.
+    /// So many tokens can begin a label or an instruction; the next one can't follow them.
     Stuck(usize),
 }
 

@@ -109,7 +109,7 @@ fn run_line<A: Allocator + Copy, W: Write, F: Files>(
 }
 
 /// Runs the lines of the input up to `quit`, in a session with nothing loaded. `line` is room for one line.
-// What it goes on with is lent, so that none of its exits has to drop it: that makes its proof short.
+// It takes references, so that no exit drops anything: that keeps its proof short.
 fn run_lines<A: Allocator + Copy, R: Read, W: Write, F: Files>(
     alloc: A,
     reader: &mut R,
