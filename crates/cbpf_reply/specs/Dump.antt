@@ -74,7 +74,7 @@ dump_text list s =
     ++ (packet_head (length s.bytes) s.wire ++ (packet_rows s.bytes ++ why_line s.why)))
 
 -- scratch memory, from slot 0 on
-abbrev pub slots_of : Registers → List ℕ
+unfoldable pub slots_of : Registers → List ℕ
 slots_of s = map (λ i. slice_index s.slots i) (range_with_len 0 SLOTS)
 
 -- a stop in a packet of these captured bytes and this original length

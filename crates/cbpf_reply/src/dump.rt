@@ -111,6 +111,7 @@ fn write_registers<W: Write>(w: &mut W, a: u32, x: u32) -> Result<(), WriteFault
 }
 
 /// The words of scratch memory.
+#[tactic(auto, unfolding(crate::specs::Dump::slots_of))]
 fn slots_of(s: &State) -> [u32; SLOTS]
     ensures { result ≡ spec.slots_of s.now }
 {
