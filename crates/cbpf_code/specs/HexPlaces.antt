@@ -1,7 +1,6 @@
 -- Hexadecimal digits by places, as they are written: a matter of this project's crates alone, and no public
 -- clause names it. That they are those of `hex` is proved.
-use Rattle.std.specs.Prelude.{ℕ, zero, suc, false, ◌-◌, ◌/◌, ◌%◌, ◌++◌, nat_lt, max, drop, if◌then◌else◌, List, []}
-use Rattle.std.specs.Prelude.{◌∷◌}
+use Rattle.std.specs.Prelude.{ℕ, zero, suc, false, ◌-◌, ◌/◌, ◌%◌, ◌++◌, nat_lt, max, drop, if◌then◌else◌, List, [], ◌∷◌}
 use Rattle.std.specs.Fmt.{digit_glyph}
 
 -- the last `places` hexadecimal digits of n, in lower case

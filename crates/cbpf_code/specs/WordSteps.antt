@@ -1,6 +1,5 @@
 -- What the reader's steps take from the tokens of a text.
-use Rattle.std.specs.Prelude.{◌≡◌, ℕ, ◌<◌, ◌≤◌, ◌⊎◌, List, [], ◌∷◌, ◌++◌, length, Option, Some}
-use Rattle.std.specs.Prelude.{None}
+use Rattle.std.specs.Prelude.{◌≡◌, ℕ, ◌<◌, ◌≤◌, ◌⊎◌, List, [], ◌∷◌, ◌++◌, length, Option, Some, None}
 use Rattle.cbpf_code.specs.WordTokens.{tokens, tokens_after}
 use Rattle.cbpf_code.specs.WordText.{Due, count, code, first_fault, fault_of, numbers}
 use Rattle.cbpf_code.specs.declared.insn.Insn.{Insn}

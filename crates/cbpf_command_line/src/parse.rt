@@ -1,8 +1,7 @@
 //! Reads a command line.
 
 ghost use Rattle.std.specs.Prelude.{◌≡◌, false, List, [], map, option_map, IfOk, IfErr};
-ghost use Rattle.clap.specs.Words.{app_of, new_app, new_rule, rule_of, first_of, subcommand_rows_of, rows_of};
-ghost use Rattle.clap.specs.Words.{found_of};
+ghost use Rattle.clap.specs.Words.{app_of, new_app, new_rule, rule_of, first_of, subcommand_rows_of, rows_of, found_of};
 ghost use Rattle.clap.specs.declared.builder.command.Command.TheViews.{out-Command as fields_of};
 ghost use Rattle.clap.specs.Kinds.{HasKind};
 ghost use Rattle.cbpf_command_line.specs.CommandLine as spec;

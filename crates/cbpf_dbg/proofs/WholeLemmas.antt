@@ -15,9 +15,8 @@ use Rattle.cbpf_reply.specs.declared.reply.SessionFault.{SessionFault}
 use Rattle.cbpf_reply.specs.declared.reply.Counts.{Counts}
 use Rattle.cbpf_reply.specs.declared.reply.Why.TheVariants as why
 use Rattle.cbpf_reply.specs.Places.{is_after}
-use Rattle.cbpf_dbg.specs.Joined.{stops as every_hit}
-use Rattle.cbpf_dbg.specs.Joined.{Entry, joined, joined_from, ahead, rest, is_hit, stop_at, turns_between}
-use Rattle.cbpf_dbg.specs.Joined.{turns_to_end, counts}
+use Rattle.cbpf_dbg.specs.Joined.{stops as every_hit, Entry, joined, joined_from, ahead, rest, is_hit, stop_at}
+use Rattle.cbpf_dbg.specs.Joined.{turns_between, turns_to_end, counts}
 use Rattle.cbpf_dbg.specs.Cursor.{NotBefore}
 use Rattle.cbpf_dbg.specs.View.{View, start}
 use Rattle.cbpf_dbg.specs.Commands.{reply_of, view_after, run, run_to_end, stops, all_stops, Found, last_place}

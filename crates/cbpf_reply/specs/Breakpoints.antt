@@ -1,10 +1,9 @@
 -- The replies that show breakpoints (this project's own).
 use Rattle.std.specs.Prelude.{ℕ, List, [], ◌∷◌, ◌++◌, codes, decimal, Option, Some, None}
 use Rattle.std.specs.List.{flat_map}
-use Rattle.cbpf_code.specs.Text.{joined}
+use Rattle.cbpf_code.specs.Text.{joined, with_number}
 use Rattle.cbpf_code.specs.declared.insn.Insn.{Insn}
 use Rattle.cbpf_code.specs.Listing.{line_text}
-use Rattle.cbpf_code.specs.Text.{with_number}
 pub use Rattle.cbpf_machine.specs.declared.watched.When.{When}
 pub use Rattle.cbpf_machine.specs.declared.watched.When.TheVariants.{Always, A, X}
 

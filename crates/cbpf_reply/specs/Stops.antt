@@ -1,9 +1,8 @@
 -- The list of stops (this project's own).
 use Rattle.std.specs.Prelude.{ℕ, List, [], ◌∷◌, ◌++◌, length, codes, decimal}
 use Rattle.std.specs.List.{flat_map}
-use Rattle.cbpf_code.specs.Text.{joined}
+use Rattle.cbpf_code.specs.Text.{joined, with_number}
 use Rattle.cbpf_reply.specs.Dump.{why_line}
-use Rattle.cbpf_code.specs.Text.{with_number}
 use Rattle.cbpf_reply.specs.declared.reply.Stop.{Stop}
 
 abbrev pub registers_text : Stop → List ℕ

@@ -1,6 +1,5 @@
 //! Values of extensions.
 
-ghost use Rattle.std.specs.Prelude.{◌≡◌};
 ghost use Rattle.cbpf_code.specs.Writing.{Wrote};
 ghost use Rattle.cbpf_reply.specs.Values as spec;
 

@@ -1,7 +1,6 @@
 -- No two rows of the table fit the same tokens, unless one goes on with a comma where the other ends.
-use Rattle.std.proofs.Common.{rules, ◌≡◌, ℕ, Bool, true, false, not, ◌&&◌, ◌||◌, List, [], ◌∷◌, ◌++◌, length, refl}
-use Rattle.std.proofs.Common.{sym, ◌∙◌, ◌⊎◌, inl, inr, eq-eqb, eqb-true, zero, suc, ap, subst, append-nil}
-use Rattle.std.proofs.Common.{append_assoc}
+use Rattle.std.proofs.Common.{rules, ◌≡◌, ℕ, Bool, true, false, not, ◌&&◌, ◌||◌, List, [], ◌∷◌, ◌++◌, length, refl, sym}
+use Rattle.std.proofs.Common.{◌∙◌, ◌⊎◌, inl, inr, eq-eqb, eqb-true, zero, suc, ap, subst, append-nil, append_assoc}
 use Rattle.std.specs.Prelude.{◌==◌, bytes_eq, Contains}
 use Rattle.std.specs.List.{list_all}
 use Rattle.std.proofs.lemmas.Bool.{and_parts}

@@ -1,8 +1,7 @@
 -- Elements of lists that are made of others.
 use Rattle.std.proofs.lemmas.Grind.{common_steps}
-use Rattle.std.proofs.Common.{rules, ◌≡◌, ℕ, ◌<◌, Bool, true, List, [], ◌∷◌, length, map, refl}
-use Rattle.std.proofs.Common.{arith, ◌⊎◌, inl, inr, get_or}
-use Rattle.std.proofs.Common.{zero, suc, ◌&&◌, ap, sym, ◌∙◌}
+use Rattle.std.proofs.Common.{rules, ◌≡◌, ℕ, ◌<◌, Bool, true, List, [], ◌∷◌, length, map, refl, arith, ◌⊎◌, inl, inr}
+use Rattle.std.proofs.Common.{get_or, zero, suc, ◌&&◌, ap, sym, ◌∙◌}
 use Rattle.std.proofs.lemmas.List.{get_or_default}
 use Rattle.std.specs.Prelude.{Contains, flat_map}
 use Rattle.std.specs.List.{list_all, list_any, common_prefix_len}

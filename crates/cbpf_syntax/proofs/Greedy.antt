@@ -4,8 +4,7 @@ use Rattle.std.proofs.Common.{arith, ap, sym, ◌∙◌, ◌⊎◌, inl, inr, su
 use Rattle.std.proofs.Common.{length-append, length-drop}
 use Rattle.std.specs.Prelude.{Contains}
 use Rattle.std.proofs.lemmas.Bool.{and_parts, cases_lt}
-use Rattle.std.proofs.lemmas.List.{take-append-drop, take-take, take_at, drop-take}
-use Rattle.std.proofs.lemmas.List.{length-take-le, append_cancel_left}
+use Rattle.std.proofs.lemmas.List.{take-append-drop, take-take, take_at, drop-take, length-take-le, append_cancel_left}
 use Rattle.cbpf_syntax.specs.Classes.{Class}
 use Rattle.cbpf_syntax.specs.Lexemes.{Lexeme}
 use Rattle.cbpf_syntax.specs.Fits.{fits, fits_all, fits_front}

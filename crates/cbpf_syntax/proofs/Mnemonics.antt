@@ -1,11 +1,9 @@
 -- The rows of a mnemonic, and that no two mnemonics have one word.
-use Rattle.std.proofs.Common.{rules, ◌≡◌, ℕ, ◌<◌, Bool, true, false, not, cond, map, ◌&&◌, ◌||◌, List}
-use Rattle.std.proofs.Common.{[], ◌∷◌, length, refl, arith, ap, sym, ◌∙◌, inl, inr, get_or, ltb-true, ◌-◌, Option}
-use Rattle.std.proofs.Common.{Some, None, Bor}
-use Rattle.std.specs.Prelude.{IfSome, IfNone}
+use Rattle.std.proofs.Common.{rules, ◌≡◌, ℕ, ◌<◌, Bool, true, false, not, cond, map, ◌&&◌, ◌||◌, List, [], ◌∷◌, length}
+use Rattle.std.proofs.Common.{refl, arith, ap, sym, ◌∙◌, inl, inr, get_or, ltb-true, ◌-◌, Option, Some, None, Bor}
+use Rattle.std.specs.Prelude.{IfSome, IfNone, Contains, nat_lt, nat_le, bytes_eq, MatchOption, slice_index}
 use Rattle.cbpf_syntax.specs.declared.table.Mnemonic as declared_mnemonic
 use Rattle.cbpf_syntax.specs.Views.{mnemonic_of}
-use Rattle.std.specs.Prelude.{Contains, nat_lt, nat_le, bytes_eq, MatchOption, slice_index}
 use Rattle.std.specs.List.{list_all, filter}
 use Rattle.std.proofs.lemmas.Bool.{and_parts, both_ways, cases_Bool, false_from_ne_true, leb-true, or_from}
 use Rattle.cbpf_syntax.specs.Fits.{is_one_of, mnemonic_words, is_reserved, extension_names}

@@ -1,7 +1,6 @@
 -- A token list has at most one first refusal: no token is misplaced that is a number after a `-`.
 use Rattle.std.proofs.Common.{rules, ◌≡◌, ℕ, zero, suc, ◌+◌, ◌≤◌, Bool, true, false, not, ◌&&◌, ◌||◌, List, [], ◌∷◌}
-use Rattle.std.proofs.Common.{◌++◌, take, refl, arith, ap, sym, ◌∙◌, subst}
-use Rattle.std.proofs.Common.{Some, eqb-true, eq-eqb}
+use Rattle.std.proofs.Common.{◌++◌, take, refl, arith, ap, sym, ◌∙◌, subst, Some, eqb-true, eq-eqb}
 use Rattle.std.specs.Prelude.{◌==◌, Contains}
 use Rattle.std.specs.List.{list_all}
 use Rattle.std.proofs.lemmas.Bool.{and_parts, both_ways, not-true}

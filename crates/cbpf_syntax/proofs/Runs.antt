@@ -1,7 +1,7 @@
 -- The piece at the front of a text, by its first byte.
 use Rattle.std.proofs.Common.{◌≡◌, ℕ, zero, suc, ◌+◌, ◌<◌, ◌≤◌, Bool, true, false, not, cond, List, [], ◌∷◌, length}
 use Rattle.std.proofs.Common.{take, drop, refl, ap, ◌∙◌, arith, Some, None, ne_eqb, eq-eqb, length-take-le, rules}
-use Rattle.std.proofs.Common.{get_or, Option, eqb-true}
+use Rattle.std.proofs.Common.{get_or, Option, eqb-true, inl, inr}
 use Rattle.std.proofs.Math.Numerals.{one-add}
 use Rattle.std.specs.Prelude.{◌==◌, ◌≢◌}
 use Rattle.std.specs.List.{list_all, prefix_len}
@@ -11,9 +11,8 @@ use Rattle.cbpf_syntax.specs.declared.token.Kind.TheVariants.{Word, Mark}
 use Rattle.cbpf_syntax.specs.Bytes.{is_blank, is_name_byte}
 use Rattle.cbpf_syntax.specs.Numbers.{number_value}
 use Rattle.cbpf_syntax.specs.Pieces.{IsNext, piece_kind, led_kind, slash_kind, only_if, run_kind, alone, first_close}
-use Rattle.cbpf_syntax.specs.Pieces.{comment_kind}
+use Rattle.cbpf_syntax.specs.Pieces.{comment_kind, is_line_blank}
 use Rattle.cbpf_syntax.specs.NextPiece.{comment_piece, slash_piece, led_piece}
-use Rattle.cbpf_syntax.specs.Pieces.{is_line_blank}
 use Rattle.cbpf_syntax.specs.Leads.{lead_of}
 use Rattle.cbpf_syntax.proofs.LeadTable.{blank_lead}
 use Rattle.cbpf_syntax.proofs.Comments.{close_taken, close_within}
@@ -22,7 +21,6 @@ use Rattle.cbpf_syntax.specs.declared.piece.Lead.{Lead}
 use Rattle.cbpf_syntax.specs.declared.piece.Lead.TheVariants.{Blank, LineComment, Letter, Digit, Slash, Single, Other}
 use Rattle.std.proofs.lemmas.List.Sums.{prefix_len-le-length, prefix_len_stops}
 use Rattle.std.proofs.lemmas.List.Folds.{list_all_at}
-use Rattle.std.proofs.Common.{inl, inr}
 use Rattle.std.proofs.lemmas.Bool.{cases_Bool}
 use Rattle.std.proofs.lemmas.List.{take_all, drop_all, drop_more, get_or-take}
 use Rattle.cbpf_syntax.specs.declared.token.Token.{Token}

@@ -3,10 +3,9 @@ use Rattle.std.proofs.lemmas.Grind.{common_steps}
 use Rattle.std.proofs.Common.{rules, ◌≡◌, ℕ, zero, suc, ◌+◌, ◌-◌, ◌<◌, ◌≤◌, true, List, [], ◌∷◌, ◌++◌, length, map}
 use Rattle.std.proofs.Common.{take, drop, refl, arith, ap, sym, ◌∙◌, inl, inr, subst, append_assoc, append-nil}
 use Rattle.std.proofs.Common.{length-append, length-drop, get_or, Option, Some, None}
-use Rattle.std.proofs.lemmas.List.{take-append-drop, take-append-le, drop-drop, drop-map, map-append}
-use Rattle.std.proofs.lemmas.List.{length-map, length-take-le, take_rest, drop_at, get_or-drop, get_or_append_left}
+use Rattle.std.proofs.lemmas.List.{take-append-drop, take-append-le, drop-drop, drop-map, map-append, length-map}
+use Rattle.std.proofs.lemmas.List.{length-take-le, take_rest, drop_at, get_or-drop, get_or_append_left, get_or-take}
 use Rattle.std.specs.Prelude.{slice_get, IfSome, IfNone, option_map}
-use Rattle.std.proofs.lemmas.List.{get_or-take}
 use Rattle.std.proofs.lemmas.Option.{slice_get-map, slice_get-get_or}
 use Rattle.std.specs.List.{copy_within}
 use Rattle.std.proofs.lemmas.List.Edits.{take-paste}

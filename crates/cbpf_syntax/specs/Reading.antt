@@ -9,11 +9,10 @@ use Rattle.cbpf_syntax.specs.declared.reader.Step.{Step}
 use Rattle.cbpf_syntax.specs.declared.reader.Step.TheVariants.{Label, Instruction, Stuck as stuck_step}
 use Rattle.cbpf_syntax.specs.declared.reader.SyntaxFault.{SyntaxFault}
 use Rattle.cbpf_syntax.specs.declared.reader.SyntaxFault.TheVariants as refused
-use Rattle.cbpf_syntax.specs.Refusals.{ParseFault as faults}
+use Rattle.cbpf_syntax.specs.Refusals.{ParseFault as faults, IsLargeNegative, IsFirstRefusal, symbol_at}
 use Rattle.cbpf_syntax.specs.Lexemes.{Lexeme, lexemes_of, AreLexemes}
 use Rattle.cbpf_syntax.specs.Lexemes.Symbol.{word}
 use Rattle.cbpf_syntax.specs.Steps.{IsInstruction, Stuck, starts_with_label}
-use Rattle.cbpf_syntax.specs.Refusals.{IsLargeNegative, IsFirstRefusal, symbol_at}
 use Rattle.cbpf_syntax.specs.Views.{lexeme_of}
 
 -- the text's lexemes up to a place are n that were taken, and those that stand ahead

@@ -2,8 +2,7 @@
 -- Documentation/networking/filter (BPF engine and instruction set).
 use Rattle.std.specs.Prelude.{List, [], ◌∷◌, map}
 use Rattle.cbpf_syntax.specs.declared.class.Class.{Class}
-use Rattle.cbpf_syntax.specs.declared.class.Class.TheVariants.{Word, Mark, Literal, Negated, Exactly, Extension}
-use Rattle.cbpf_syntax.specs.declared.class.Class.TheVariants.{Name}
+use Rattle.cbpf_syntax.specs.declared.class.Class.TheVariants.{Word, Mark, Literal, Negated, Exactly, Extension, Name}
 use Rattle.cbpf_syntax.specs.declared.mode.Mode.{Mode}
 use Rattle.cbpf_syntax.specs.declared.mode.Mode.TheVariants as modes
 use Rattle.cbpf_syntax.specs.declared.table.Entry.{Entry}

@@ -1,7 +1,6 @@
 //! Reserved words, and which tokens belong to which class.
 
 ghost use Rattle.std.specs.Prelude.{◌≡◌, true, false, IfSome, IfNone, Contains, bytes_eq};
-ghost use Rattle.std.specs.List.{list_any};
 ghost use Rattle.cbpf_syntax.specs.Table.{mnemonics, operand_words};
 ghost use Rattle.cbpf_syntax.specs.Fits.{fits, is_one_of, is_reserved, extension_names, mnemonic_words};
 ghost use Rattle.cbpf_syntax.specs.Views.{class_of, symbol_of, mnemonic_of};

@@ -3,7 +3,6 @@
 ghost use Rattle.std.specs.Prelude.{◌≡◌, ◌≤◌, ◌<◌, ◌+◌, ◌++◌, ◌∷◌, [], true, ℕ, List, length, map, None, IfOk, IfErr};
 ghost use Rattle.std.specs.Prelude.{OnOk};
 ghost use Rattle.indexmap.specs.IndexMap.{get};
-ghost use Rattle.cbpf_syntax.specs.Tokens.{IsLexFault};
 ghost use Rattle.cbpf_syntax.specs.Lexemes as lexemes;
 ghost use Rattle.cbpf_syntax.specs.Lexemes.{AreLexemes};
 ghost use Rattle.cbpf_syntax.specs.Items as items;

@@ -1,6 +1,5 @@
 -- What the tools leave in a writer that was empty, and what a job did on its machine.
-use Rattle.std.proofs.Common.{◌≡◌, ℕ, List, [], ◌∷◌, Option, Some, None, Result, Ok, Err, inr, refl}
-use Rattle.std.proofs.Common.{IsTrue}
+use Rattle.std.proofs.Common.{◌≡◌, ℕ, List, [], ◌∷◌, Option, Some, None, Result, Ok, Err, inr, refl, IsTrue}
 use Rattle.cbpf_code.specs.Writing.{Appended, AppendedPart}
 use Rattle.cbpf_code.specs.declared.form.Form.{Form}
 use Rattle.cbpf_tool.specs.Assembling.{Assembled}

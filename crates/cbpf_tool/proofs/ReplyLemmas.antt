@@ -1,6 +1,5 @@
 -- From what a call answered to the reply of its line.
-use Rattle.std.proofs.Common.{◌≡◌, refl, ℕ, List, Option, Some, Result, Ok}
-use Rattle.std.proofs.Common.{Err, length}
+use Rattle.std.proofs.Common.{◌≡◌, refl, ℕ, List, Option, Some, Result, Ok, Err, length}
 use Rattle.cbpf_code.specs.Writing.{Wrote}
 use Rattle.cbpf_code.specs.WordText.{Spells, Refused}
 use Rattle.cbpf_code.specs.Sound.{IsSound}
@@ -22,8 +21,7 @@ use Rattle.std.specs.Result.{IsOkAnd, MatchResult}
 use Rattle.cbpf_tool.specs.declared.debugger.AfterLine.TheVariants.{NextLine, Quit}
 use Rattle.cbpf_reply.specs.Errors.{word_fault_text, check_fault_text, capture_fault_text}
 use Rattle.cbpf_reply.specs.Loads.{program_text, capture_text}
-use Rattle.cbpf_tool.specs.Replies.{unreadable, unsound, accepted, no_capture, a_capture}
-use Rattle.cbpf_tool.specs.Replies.{own, unheld, unread}
+use Rattle.cbpf_tool.specs.Replies.{unreadable, unsound, accepted, no_capture, a_capture, own, unheld, unread}
 use Rattle.cbpf_tool.specs.declared.files.LoadFault.{LoadFault}
 use Rattle.cbpf_tool.specs.declared.command.Command.{Command}
 use Rattle.cbpf_tool.specs.declared.command.Command.TheVariants.{LoadWords, LoadCapture}

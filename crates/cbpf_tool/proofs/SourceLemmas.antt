@@ -1,6 +1,5 @@
 -- Reads one after another, up to the reader's end.
-use Rattle.std.proofs.Common.{◌≡◌, ℕ, List, [], ◌++◌, Option, Some, None, append_assoc, append-nil, ◌∙◌, ap, sym}
-use Rattle.std.proofs.Common.{refl}
+use Rattle.std.proofs.Common.{◌≡◌, ℕ, List, [], ◌++◌, Option, Some, None, append_assoc, append-nil, ◌∙◌, ap, sym, refl}
 use Rattle.std.specs.Io.KnownBytes.{Consumes, IsAtEnd}
 
 -- nothing is read

@@ -4,7 +4,6 @@ ghost use Rattle.std.specs.Prelude.{◌≡◌, ◌≤◌, length};
 ghost use Rattle.pcap_classic.specs.Records as records;
 ghost use Rattle.pcap_classic.specs.Scan as spec;
 
-use crate::captured::Captured;
 use crate::endianness::Endianness;
 
 /// The length of a record's header in bytes.
