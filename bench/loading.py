@@ -140,7 +140,7 @@ def print_beside_tcpdump(folder, process, what, file, packets, size, filter_, ro
         for peer in peers:
             least = min(map(session.Used.seconds, work.turns)) / min(map(session.Used.seconds, peer.turns))
             print(
-                f"{work.what}, {what}, {expression}, which {passes:,} of {packets:,} pass:"
+                f"{work.what}, {what}, {expression}, {passes:,} of {packets:,} pass:"
                 f" {work.seconds() / packets * 1e9:.0f} ns a packet, {work.seconds() / peer.seconds():.2f} times"
                 f" {peer.what} ({least:.2f} of the least)",
                 flush=True,

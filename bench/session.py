@@ -216,24 +216,24 @@ def comparisons(folder, file):
     for what, words, unreached in [
         ("6 instructions", programs.HEADER, 5),
         ("35 instructions", programs.FLAGS, 42),
-        ("62 arithmetic instructions", arithmetic, len(programs.ARITHMETIC)),
+        ("arithmetic", arithmetic, len(programs.ARITHMETIC)),
     ]:
         quiet = f"load bpf {words}\nload pcap {file}\n"
         with_breakpoint = quiet + f"breakpoint {unreached}\n"
         # Each frame reaches instruction 1, where A is 2048, and 0 in the last program.
         with_condition = quiet + "breakpoint 1 a 1\n"
-        never = "a breakpoint that is never reached"
+        never = "a breakpoint never reached"
         yield Comparison(f"run with {never}, {what}", with_breakpoint, "a run without", quiet, "run")
         yield Comparison(
             f"stops with {never}, {what}", with_breakpoint, "a run without", quiet, "stops", "run", "stops: 0"
         )
         yield Comparison(f"a step past the capture's end, {what}", quiet, "a run", quiet, "step 1000000000", "run")
-        name = f"run with a condition that never holds, {what}"
+        name = f"run with a condition never met, {what}"
         yield Comparison(name, with_condition, f"a run with {never}", with_breakpoint, "run")
     mark, seven = (f"load bpf {words}\nload pcap {file}\n" for words in (programs.MARK, programs.SEVEN))
     yield Comparison("run, ld mark with a value", mark + "value mark 7\n", "the same with ld #7", seven, "run")
     header = f"load bpf {programs.HEADER}\nload pcap {file}\n"
-    what = "run with a value that no instruction asks for, 6 instructions"
+    what = "run with a value not asked for, 6 instructions"
     yield Comparison(what, header + "value mark 7\n", "a run without", header, "run")
 
 
