@@ -5,6 +5,7 @@ use Rattle.std.proofs.lemmas.Bool.{cases_eq, cases_lt}
 use Rattle.std.proofs.lemmas.Option.{slice_get_within, slice_get-get_or}
 use Rattle.cbpf_code.specs.declared.insn.Insn.{Insn}
 use Rattle.cbpf_code.specs.declared.opcode.Op.{Op}
+use Rattle.cbpf_code.specs.declared.checker.TheConstants.{MAX_INSTRUCTIONS}
 use Rattle.cbpf_code.specs.declared.checker.CheckFault.{CheckFault}
 use Rattle.cbpf_code.specs.declared.checker.CheckFault.TheVariants.{NoInstruction, TooMany, UnknownCode}
 use Rattle.cbpf_code.specs.declared.checker.CheckFault.TheVariants.{NoReturn, UnwrittenSlot}
@@ -33,7 +34,7 @@ allowed-excludes list (UnknownCode i) insn op here known fine r has = let same :
 allowed-excludes list e insn op here known fine r has =
     fine e (insn_at-same list (index_of e) _ insn op has here known)
 
-pub passes_before-start : (list : List Insn) → 0 < length list → length list ≤ 4096 → PassesBefore list 0
+pub passes_before-start : (list : List Insn) → 0 < length list → length list ≤ MAX_INSTRUCTIONS → PassesBefore list 0
 passes_before-start list some few = record { none = none }
   where
     none : (e : CheckFault) → IsEarlier e (UnknownCode 0) → HasFault list e → ⊥
@@ -92,7 +93,7 @@ well_formed-excludes list i f passed all returns low has = passes_all-excludes l
 pub well_formed-at_end : (list : List Insn) (i : ℕ) → PassesBefore list i → i ≡ length list
     → IsReturn (get_or list (length list - 1) zero_insn) → IsWellFormed list
 well_formed-at_end list i passed all returns =
-    let many = λ (above : 4096 < length list). passed.none TooMany (inl (omega arith)) above in
+    let many = λ (above : MAX_INSTRUCTIONS < length list). passed.none TooMany (inl (omega arith)) above in
     record {
       few = omega arith;
       none = λ f low has. well_formed-excludes list i f passed all returns low has;

@@ -41,7 +41,7 @@ pub formed_allowed : (list : List Insn) (i : ℕ) (insn : Insn) (op : Op) → Is
     → slice_get list i ≡ Some insn → op_of insn.code ≡ Some op → Allowed op insn i (length list)
 formed_allowed list i insn op formed here known = record {
   slot = λ names.
-      let never = λ (h : 16 ≤ insn.k). formed.none (NoSlot i) (omega arith) (insn, op, here, known, (names, h)) in
+      let never = λ (h : SLOTS ≤ insn.k). formed.none (NoSlot i) (omega arith) (insn, op, here, known, (names, h)) in
       omega arith;
   divisor = λ divides.
       let never = λ (h : insn.k ≡ 0). formed.none (ZeroDivisor i) (omega arith) (insn, op, here, known, (divides, h)) in

@@ -2,6 +2,7 @@
 
 ghost use Rattle.std.specs.Prelude.{◌≡◌, ◌↔◌, true};
 ghost use Rattle.std.specs.declared.cmp.Ordering.TheVariants.{Less, Equal};
+ghost use Rattle.cbpf_reply.specs.declared.packet.TheConstants.{ROW};
 ghost use Rattle.cbpf_reply.specs.declared.reply.Place as declared_place;
 ghost use Rattle.cbpf_reply.specs.Places.{is_after};
 
@@ -11,4 +12,9 @@ use crate::reply::Place;
 pub fn place_order()
     ensures less { (a b : declared_place.Place) → (⟦<Place as Ord>⟧.cmp a b ≡ Less) ↔ (is_after a b ≡ true) }
     ensures same { (a b : declared_place.Place) → (⟦<Place as Ord>⟧.cmp a b ≡ Equal) ↔ (b ≡ a) }
+{}
+
+/// A row of a dump has 16 bytes.
+pub fn row_length()
+    ensures { ROW ≡ 16 }
 {}

@@ -33,7 +33,7 @@ pub use errors::{
     write_session_fault, write_unknown_command, write_unreadable, write_word_fault,
     write_wrong_arguments,
 };
-pub use law::place_order;
+pub use law::{place_order, row_length};
 pub use loads::{write_capture, write_program};
 pub use reply::{Counts, Place, RunReply, SessionFault, Stop, Why};
 pub use stops::{write_stop_line, write_total};

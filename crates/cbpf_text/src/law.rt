@@ -1,15 +1,18 @@
 //! Laws of the definitions, which hold whatever a program does.
 
+ghost use Rattle.std.specs.Prelude.{◌≡◌};
 ghost use Rattle.cbpf_text.specs.Laws.{OneAssembly, OneRefusal, NeverBoth, EachAnswered};
 ghost use Rattle.cbpf_text.specs.Laws.{ListingAssembles, ListingAnswers};
+ghost use Rattle.cbpf_text.specs.declared.encode.TheConstants.{FARTHEST};
 
 /// A text assembles to one list of instructions, or it is refused for one reason at one line,
-/// and never both. Out of memory is no such reason.
+/// and never both. Out of memory is no such reason. A conditional jump goes over 255 instructions at most.
 pub fn one_assembly()
     ensures list { OneAssembly }
     ensures refusal { OneRefusal }
     ensures never_both { NeverBoth }
     ensures answered { EachAnswered }
+    ensures farthest { FARTHEST ≡ 255 }
 {}
 
 /// The listing of a checked program assembles to its instructions, each with the fields that
