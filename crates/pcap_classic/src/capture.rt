@@ -5,7 +5,6 @@ ghost use Rattle.std.specs.Prelude.{IfSome};
 ghost use Rattle.std.specs.Option.{option_map};
 ghost use Rattle.pcap_classic.specs.Lent.{record_of};
 ghost use Rattle.pcap_classic.specs.Savefile.{IsSavefile, IsRefusal};
-ghost use Rattle.pcap_classic.specs.declared.index.TheConstants.{STRIDE};
 
 use crate::captured::{Captured, record_at};
 use crate::ending::Ending;
@@ -105,7 +104,7 @@ impl<A: Allocator> Capture<A> {
     /// How many starts of records are kept: those of the records 1, 65, 129 and so on.
     #[inline]
     pub fn marks(&self) -> usize
-        ensures { result ≡ (length self.now.records + (STRIDE - 1)) / STRIDE }
+        ensures { result ≡ (length self.now.records + 63) / 64 }
     {
         self.index.starts.len()
     }
