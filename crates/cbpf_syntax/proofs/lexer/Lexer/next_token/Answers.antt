@@ -66,9 +66,3 @@ loop-at-preserved c =
       more = to_run_end text c.self.inside.at _ within (piece_more text c.self.inside.at at piece h.1 h.0
           c.in_default.ensures.good c.in_default-kind.not-TokenOf);
     }
-
-pub loop-at-smaller : goal.loop-at-smaller
-loop-at-smaller c =
-    let h = here (goal.at.loop-at-smaller c).After-next_piece-piece in
-    let some = piece_some c.self.inside.text.now c.loop-at.at c.next_piece-piece.result h.0 in
-    omega (arith, some, c.loop-at-test.true)
