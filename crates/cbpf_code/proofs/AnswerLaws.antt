@@ -15,13 +15,12 @@ use Rattle.cbpf_code.specs.declared.checker.CheckFault.TheVariants.{UnknownExten
 use Rattle.cbpf_code.specs.declared.words.WordFault.{WordFault}
 use Rattle.cbpf_code.specs.declared.words.WordFault.TheVariants.{Memory}
 use Rattle.cbpf_code.specs.Opcode.{op_of}
-use Rattle.cbpf_code.specs.Extension.{ext_at}
 use Rattle.cbpf_code.specs.ControlFlow.{InsnAt, FollowsCode, IsSuccessor, StoresSlot, MayBeUnwritten, loads_slot}
 use Rattle.cbpf_code.specs.ControlFlow.{stores_slot}
 use Rattle.cbpf_code.specs.ControlFlow.MayBeUnwritten.{at_start, onward}
 use Rattle.cbpf_code.specs.Faults.{NamesNoSlot, DividesByZero, ShiftsTooFar, JumpsOutside, LoadsNoExtension}
 use Rattle.cbpf_code.specs.Faults.{HasFault, FirstFault, IsEarlier, rank, index_of}
-use Rattle.cbpf_code.specs.Faults.{uses_slot, divides_by_k, shifts_by_k, loads_absolute}
+use Rattle.cbpf_code.specs.Faults.{uses_slot, divides_by_k, shifts_by_k}
 use Rattle.cbpf_code.specs.Sound.{IsSound}
 use Rattle.cbpf_code.specs.CheckSteps.{PassesBefore, IsWellFormed, IsAllowed, AllowedAt}
 use Rattle.cbpf_code.specs.WordTokens.{Token, run, single, tokens}
@@ -113,11 +112,7 @@ is_none None = inl refl
 is_none (Some x) = inr (λ h. absurd (cc))
 
 loads_no_extension : (op : Op) (insn : Insn) → Decided (LoadsNoExtension op insn)
-loads_no_extension op insn =
-    elim (both (is_true (loads_absolute op)) (both (at_most 4294963200 insn.k) (is_none (ext_at insn.k)))) [
-      | inl h ↦ inl (h.0, h.1.0, h.1.1)
-      | inr never ↦ inr (λ h. never (h.0, (h.1, h.2)))
-    ]
+loads_no_extension op insn = grind (arith, both, is_true, at_most, is_none)
 
 -- the instruction at i is allowed, or has a fault of C3 to C8
 abbrev FaultAt : List Insn → ℕ → Type 0

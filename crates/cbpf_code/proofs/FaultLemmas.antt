@@ -11,16 +11,13 @@ use Rattle.cbpf_code.specs.declared.checker.CheckFault.TheVariants.{NoInstructio
 use Rattle.cbpf_code.specs.declared.checker.CheckFault.TheVariants.{NoReturn, UnwrittenSlot}
 use Rattle.cbpf_code.specs.Opcode.{op_of}
 use Rattle.cbpf_code.specs.ControlFlow.{InsnAt}
-use Rattle.cbpf_code.specs.Faults.{IsReturn, HasFault, FirstFault, IsEarlier, rank, index_of}
+use Rattle.cbpf_code.specs.Faults.{IsReturn, HasFault, FirstFault, rank, index_of}
 use Rattle.cbpf_code.specs.Sound.{IsSound}
 use Rattle.cbpf_code.specs.CheckSteps.{PassesBefore, IsWellFormed, IsAllowed, AllowedAt}
 
 pub insn_at-same : (list : List Insn) (i : ℕ) (Has : Op → Insn → Type 0) (insn : Insn) (op : Op) → InsnAt list i Has
     → slice_get list i ≡ Some insn → op_of insn.code ≡ Some op → Has op insn
-insn_at-same list i Has insn op a here known =
-    let same_insn : a.0 ≡ insn = cc in
-    let same_op : a.1 ≡ op = cc in
-    rw (← same_op, ← same_insn) a.4
+insn_at-same list i Has insn op a here known = grind arith
 
 -- ---- instruction by instruction
 
@@ -35,24 +32,11 @@ allowed-excludes list e insn op here known fine r has =
     fine e (insn_at-same list (index_of e) _ insn op has here known)
 
 pub passes_before-start : (list : List Insn) → 0 < length list → length list ≤ MAX_INSTRUCTIONS → PassesBefore list 0
-passes_before-start list some few = record { none = none }
-  where
-    none : (e : CheckFault) → IsEarlier e (UnknownCode 0) → HasFault list e → ⊥
-    none NoInstruction earlier has = omega arith
-    none TooMany earlier has = omega arith
-    none _ earlier has = elim earlier [ inl h ↦ omega arith | inr h ↦ omega (arith, h.0, h.1) ]
+passes_before-start list some few = grind arith
 
 pub passes_before-next : (list : List Insn) (m : ℕ) → PassesBefore list m → AllowedAt list m
     → PassesBefore list (m + 1)
-passes_before-next list m passed here = record {
-  none = λ e earlier has. elim earlier [
-    | inl h ↦ passed.none e (inl h) has
-    | inr h ↦ elim (cases_eq (index_of e) m) [
-      | inl at ↦ allowed-excludes list e here.0 here.1 (rw at here.2) here.3 (rw at here.4) h.0 has
-      | inr n ↦ passed.none e (inr (h.0, omega (arith, h.1))) has
-    ]
-  ];
-}
+passes_before-next list m passed here = grind (arith, cases_eq, allowed-excludes)
 
 -- ---- all instructions
 
@@ -66,11 +50,7 @@ index_inside list _ r st = slice_get_within list _ st.0 st.2
 -- only the last instruction and slots are left
 passes_all-excludes : (list : List Insn) (i : ℕ) (f : CheckFault) → PassesBefore list i → i ≡ length list → rank f < 3
     → HasFault list f → ⊥
-passes_all-excludes list i f passed all low has = elim (cases_lt (rank f) 2) [
-  | inl h ↦ passed.none f (inl h) has
-  | inr h ↦ let below = index_inside list f (omega arith) has in
-      passed.none f (inr (omega arith, omega arith)) has
-]
+passes_all-excludes list i f passed all low has = grind (arith, cases_lt, index_inside)
 
 -- what the code reads where an index is outside
 abbrev pub zero_insn : Insn
@@ -103,20 +83,11 @@ well_formed-at_end list i passed all returns =
 
 pub first_fault-insn : (list : List Insn) (m : ℕ) (e : CheckFault) → PassesBefore list m → HasFault list e
     → rank e ≡ 2 → index_of e ≡ m → FirstFault list e
-first_fault-insn list m e passed has r at = record {
-  present = has;
-  none_earlier = λ f earlier there. passed.none f (rw (r, at) at earlier) there;
-}
+first_fault-insn list m e passed has r at = grind arith
 
 pub first_fault-at_end : (list : List Insn) (i : ℕ) → PassesBefore list i → i ≡ length list
     → (IsReturn (get_or list (length list - 1) zero_insn) → ⊥) → FirstFault list NoReturn
-first_fault-at_end list i passed all never = record {
-  present = (_, slice_get-last list i passed, never);
-  none_earlier = λ f earlier there. elim earlier [
-    | inl h ↦ passes_all-excludes list i f passed all h there
-    | inr h ↦ absurd (omega (arith, h.1))
-  ];
-}
+first_fault-at_end list i passed all never = grind (arith, slice_get-last, passes_all-excludes)
 
 unwritten_only : (list : List Insn) (i : ℕ) (f : CheckFault) → ((j : ℕ) → j < i → HasFault list (UnwrittenSlot j) → ⊥)
     → rank f ≡ 4 → index_of f < i → HasFault list f → ⊥

@@ -1,5 +1,5 @@
 -- The first fault of a list is one: an instruction has at most one of the faults C3 to C8.
-use Rattle.std.proofs.Common.{◌≡◌, ℕ, ◌<◌, List, get_or, arith, refl, sym, ap, ◌∙◌, inl, inr}
+use Rattle.std.proofs.Common.{◌≡◌, ℕ, List, get_or, arith, refl}
 use Rattle.std.specs.Prelude.{Option, Some, None, IsTrue, slice_get, ◌==◌, if◌then◌else◌}
 use Rattle.std.proofs.lemmas.Option.{slice_get_within, slice_get-get_or}
 use Rattle.cbpf_code.specs.declared.insn.Insn.{Insn}
@@ -81,17 +81,9 @@ decided list _ has = refl
 -- two faults of one rank and index that a list has are the same
 same_place : (list : List Insn) (e f : CheckFault) → rank e ≡ rank f → index_of e ≡ index_of f → HasFault list e
     → HasFault list f → e ≡ f
-same_place list e f ranks indexes has_e has_f =
-    sym (decided list e has_e) ∙ ap (λ r. fault_by r (index_of e) (code_at list (index_of e))) ranks
-    ∙ ap (λ i. fault_by (rank f) i (code_at list i)) indexes ∙ decided list f has_f
+same_place list e f ranks indexes has_e has_f = grind (arith, decided)
 
 pub first_fault-unique : (list : List Insn) (e f : CheckFault) → FirstFault list e → FirstFault list f → f ≡ e
-first_fault-unique list e f one two =
-    let not_lower = λ (less : rank f < rank e). one.none_earlier f (inl less) two.present in
-    let not_higher = λ (less : rank e < rank f). two.none_earlier e (inl less) one.present in
-    let ranks : rank f ≡ rank e = omega arith in
-    let not_before = λ (less : index_of f < index_of e). one.none_earlier f (inr (ranks, less)) two.present in
-    let not_after = λ (less : index_of e < index_of f). two.none_earlier e (inr (sym ranks, less)) one.present in
-    same_place list f e ranks (omega arith) two.present one.present
+first_fault-unique list e f one two = grind (arith, same_place)
 
 pub ruleset unique = (first_fault-unique)

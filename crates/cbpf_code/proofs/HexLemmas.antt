@@ -1,5 +1,5 @@
 -- Hexadecimal digits by places are those of `hex`.
-use Rattle.std.proofs.Common.{◌≡◌, ℕ, zero, suc, ◌+◌, ◌-◌, ◌/◌, ◌%◌, ◌^◌, ◌<◌, ◌≤◌, Bool, true, false, List, []}
+use Rattle.std.proofs.Common.{◌≡◌, ℕ, zero, suc, ◌+◌, ◌-◌, ◌/◌, ◌%◌, ◌^◌, ◌<◌, ◌≤◌, true, false, List, []}
 use Rattle.std.proofs.Common.{◌∷◌, ◌++◌, length, drop, refl, sym, ap, ◌∙◌, arith, append_assoc, append-nil, tests}
 use Rattle.std.proofs.Common.{get_or, length-append, ne_eqb, ltb-true, ltb-false}
 use Rattle.std.proofs.lemmas.List.{drop-append-le, drop_all}
@@ -78,18 +78,10 @@ last_digits m (suc p) n =
 
 places-step : (n bound p q : ℕ) → (n < bound → HasPlaces p n) → (bound ≤ n → HasPlaces q n)
     → HasPlaces (if nat_lt n bound then p else q) n
-places-step n bound p q low high = by (nat_lt n bound) refl
-  where
-    by : (t : Bool) → nat_lt n bound ≡ t → HasPlaces (if t then p else q) n
-    by true e = low (ltb-true n bound e)
-    by false e = high (ltb-false n bound e)
+places-step n bound p q low high = grind (arith, ltb-true, ltb-false)
 
 has-places : (n : ℕ) → n < 2 ^ 32 → HasPlaces (hex_places n) n
-has-places n l =
-    places-step n 16 1 _ (λ h. h) (λ a. places-step n 256 2 _ (λ h. omega arith)
-    (λ a. places-step n 4096 3 _ (λ h. omega arith) (λ a. places-step n 65536 4 _ (λ h. omega arith)
-    (λ a. places-step n 1048576 5 _ (λ h. omega arith) (λ a. places-step n 16777216 6 _ (λ h. omega arith)
-    (λ a. places-step n 268435456 7 8 (λ h. omega arith) (λ a. omega arith)))))))
+has-places n l = grind (arith, places-step)
 
 last_of_eight : (q n : ℕ) → q ≤ 8 → drop (8 - q) (hex_digits 8 n) ≡ hex_digits q n
 last_of_eight q n l =
@@ -100,9 +92,7 @@ few_places : (n : ℕ) → hex_places n ≤ 8
 few_places n = grind (arith, tests)
 
 pub hex-places : (least n : ℕ) → least ≤ 8 → n < 2 ^ 32 → hex least n ≡ hex_by_places least n
-hex-places least n m l =
-    let few = few_places n in
-    hex-max least n (hex_places n) few (has-places n l) ∙ sym (last_of_eight (max least (hex_places n)) n (omega arith))
+hex-places least n m l = grind (arith, few_places, hex-max, has-places, last_of_eight)
 
 -- the two digits of a byte
 pub hex-two : (b : ℕ) → b < 256 → hex 2 b ≡ hex_digits 2 b
@@ -113,11 +103,7 @@ hex-two b l =
 -- the last of eight digits, before a text
 pub hex-last : (least n r : ℕ) (ds text : List ℕ) → ds ≡ hex_digits 8 n → r ≡ max (hex_places n) least → least ≤ 8
     → n < 2 ^ 32 → drop (8 - r) (ds ++ text) ≡ hex least n ++ text
-hex-last least n r ds text e p m l =
-    let long : length ds ≡ 8 = ap (λ (t : List ℕ). length t) e ∙ length-hex_digits 8 n in
-    let same : r ≡ max least (hex_places n) = omega (arith, p) in
-    drop-append-le (8 - r) ds text (omega (arith, long))
-    ∙ ap (λ (t : List ℕ). t ++ text) (rw (same, e) (sym (hex-places least n m l)))
+hex-last least n r ds text e p m l = grind (arith, length-hex_digits, drop-append-le, hex-places)
 
 -- the byte of a digit stands in a table
 pub glyph_at : (d : ℕ) → d < 16 → get_or (codes "0123456789abcdef") d 0 ≡ digit_glyph false d

@@ -1,5 +1,5 @@
 -- Paths through a list of instructions, and the masks that stand for them.
-use Rattle.std.proofs.Common.{◌≡◌, ℕ, ◌+◌, ◌<◌, List, length, get_or, replicate, arith, refl, ◌∙◌, subst, inl, inr}
+use Rattle.std.proofs.Common.{◌≡◌, ℕ, ◌+◌, ◌<◌, List, length, get_or, replicate, arith, refl, ◌∙◌, inl, inr}
 use Rattle.std.specs.Prelude.{◌⊎◌, Some, IsTrue, slice_get, slice_set, slice_index}
 use Rattle.std.proofs.lemmas.Bool.{cases_eq, cases_lt}
 use Rattle.std.proofs.lemmas.Nat.Bits.{bit_at-zero, bit_at_ones}
@@ -12,7 +12,7 @@ use Rattle.cbpf_code.specs.declared.opcode.Op.TheVariants.{LdMem, St}
 use Rattle.cbpf_code.specs.declared.checker.CheckFault.TheVariants.{UnwrittenSlot}
 use Rattle.cbpf_code.specs.declared.checker.TheConstants.{MAX_INSTRUCTIONS, SLOTS}
 use Rattle.cbpf_code.specs.Opcode.{op_of}
-use Rattle.cbpf_code.specs.ControlFlow.{Follows, FollowsCode, IsSuccessor, StoresSlot, MayBeUnwritten}
+use Rattle.cbpf_code.specs.ControlFlow.{Follows, IsSuccessor, StoresSlot, MayBeUnwritten}
 use Rattle.cbpf_code.specs.ControlFlow.{loads_slot, stores_slot}
 use Rattle.cbpf_code.specs.ControlFlow.MayBeUnwritten.{at_start, onward}
 use Rattle.cbpf_code.specs.Faults.{uses_slot, HasFault}
@@ -21,9 +21,7 @@ use Rattle.cbpf_code.proofs.FaultLemmas.{insn_at-same}
 
 successor-same : (list : List Insn) (i t : ℕ) (insn : Insn) (op : Op) → IsSuccessor list i t
     → slice_get list i ≡ Some insn → op_of insn.code ≡ Some op → Follows op insn i t
-successor-same list i t insn op next here known =
-    let same : next.0 ≡ insn = cc in
-    subst (λ o. FollowsCode o insn i t) known (subst (λ (x : Insn). FollowsCode (op_of x.code) x i t) same next.2)
+successor-same list i t insn op next here known = grind arith
 
 -- ---- paths
 
@@ -48,10 +46,7 @@ pub record TracksPaths (list : List Insn) (m : ℕ) (masks : List ℕ) : Type 0 
   pub written : (j : ℕ) → j < m → HasFault list (UnwrittenSlot j) → ⊥
 
 get_or-zeros : (n t : ℕ) → ◌≡◌ {A = ℕ} (get_or (replicate n 0) t 0) 0
-get_or-zeros n t = elim (cases_lt t n) [
-  | inl h ↦ get_or-replicate n t 0 0 h
-  | inr h ↦ get_or-eq_default (replicate n 0) 0 (omega (arith, length-replicate {A = ℕ}))
-]
+get_or-zeros n t = grind (arith, cases_lt, get_or-replicate, get_or-eq_default, length-replicate)
 
 pub tracks_paths-start : (list : List Insn) → TracksPaths list 0 (slice_set (replicate MAX_INSTRUCTIONS 0) 0 65535)
 tracks_paths-start list = record {

@@ -1,7 +1,7 @@
 -- Masks of slots: one mask, and the masks of all instructions.
-use Rattle.std.proofs.Common.{◌≡◌, ℕ, ◌+◌, ◌*◌, ◌%◌, ◌^◌, ◌<◌, List, length, get_or, arith, refl, sym, ◌∙◌, inl, inr}
+use Rattle.std.proofs.Common.{◌≡◌, ℕ, ◌+◌, ◌*◌, ◌%◌, ◌^◌, ◌<◌, List, length, arith, refl, sym, ◌∙◌, inl, inr}
 use Rattle.std.specs.Prelude.{◌⊎◌, IsTrue, slice_set, slice_index, bit_and, bit_or}
-use Rattle.std.specs.Int.{bit_at, bit_not, w16}
+use Rattle.std.specs.Int.{bit_not, w16}
 use Rattle.std.proofs.lemmas.Bool.{cases_eq}
 use Rattle.std.proofs.lemmas.Nat.Bits.{bit_at_or, bit_at-lt, bit_at_clear_same, bit_at_clear_other}
 use Rattle.std.proofs.lemmas.List.{get_or-set_other}
@@ -17,15 +17,10 @@ use Rattle.cbpf_code.specs.SlotMasks.{InMask, LeavesUnwritten, AddsToMasks}
 -- ---- one mask
 
 in_mask-or : (a b s : ℕ) → InMask a s ⊎ InMask b s → InMask (bit_or a b) s
-in_mask-or a b s h =
-    let l = bit_at-lt a s in
-    let r = bit_at-lt b s in
-    bit_at_or a b s ∙ elim h [ inl e ↦ omega arith | inr e ↦ omega arith ]
+in_mask-or a b s h = grind (arith, bit_at-lt, bit_at_or)
 
 in_or-mask : (a b s : ℕ) → InMask (bit_or a b) s → InMask a s ⊎ InMask b s
-in_or-mask a b s h =
-    let either = sym (bit_at_or a b s) ∙ h in
-    elim (cases_eq (bit_at a s) 1) [ inl e ↦ inl e | inr n ↦ inr (omega arith) ]
+in_or-mask a b s h = grind (arith, bit_at_or, cases_eq)
 
 pub leaves_unwritten-cleared : (mask : ℕ) (op : Op) (insn : Insn) → insn.k < SLOTS → IsTrue (stores_slot op)
     → LeavesUnwritten mask op insn (bit_and mask (bit_not w16 (1 * 2 ^ insn.k % 2 ^ 16)))
@@ -47,24 +42,7 @@ leaves_unwritten-cleared mask op insn within stores = record {
 pub adds_to_masks-one : (masks : List ℕ) (at left : ℕ) → at < length masks
     → AddsToMasks masks (slice_set masks at (bit_or (slice_index masks at) left)) left (λ t. t ≡ at)
 adds_to_masks-one masks at left inside =
-    let v : ℕ = bit_or (get_or masks at 0) left in
-    record {
-      long = length-set masks at v;
-      kept = λ t s here. elim (cases_eq t at) [
-        | inl e ↦ rw (get_or-set_at masks at t v 0 e inside)
-            (in_mask-or (get_or masks at 0) left s (inl (rw e at here)))
-        | inr n ↦ rw (get_or-set_other masks at t v 0 n) here
-      ];
-      added = λ t s e here. rw (get_or-set_at masks at t v 0 e inside)
-          (in_mask-or (get_or masks at 0) left s (inr here));
-      only = λ t s here. elim (cases_eq t at) [
-        | inl e ↦ elim (in_or-mask (get_or masks at 0) left s (rw (get_or-set_at masks at t v 0 e inside) at here)) [
-          | inl a ↦ inl (rw e a)
-          | inr b ↦ inr (e, b)
-        ]
-        | inr n ↦ inl (rw (get_or-set_other masks at t v 0 n) at here)
-      ];
-    }
+    grind (arith, length-set, cases_eq, get_or-set_at, in_mask-or, get_or-set_other, in_or-mask)
 
 pub follows-next : (op : Op) (insn : Insn) (i : ℕ) → (op ≡ Ja → ⊥)
     → ((cond_is : _) (src : _) → op ≡ Jump cond_is src → ⊥) → (op ≡ RetK → ⊥) → (op ≡ RetA → ⊥)

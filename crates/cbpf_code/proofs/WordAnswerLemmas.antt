@@ -9,7 +9,7 @@ use Rattle.cbpf_code.specs.declared.words.WordFault.TheVariants.{Memory}
 pub spells-once : (text : List ℕ) (list other : List Insn) → Spells text list → Spells text other → other ≡ list
 spells-once text list other a b = b.reads ∙ sym a.reads
 
--- refused, and not for want of memory
+-- refused for what the text is
 abbrev pub Faulty : List ℕ → WordFault → Type 0
 Faulty text e = (fault_of text ≡ Some e) ⊎ Miscounts text e
 

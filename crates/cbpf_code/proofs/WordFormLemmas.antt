@@ -1,5 +1,5 @@
 -- Word text as it is written is read back.
-use Rattle.std.proofs.Common.{◌≡◌, ◌≢◌, ℕ, ◌+◌, ◌-◌, ◌*◌, ◌^◌, ◌<◌, ◌≤◌, nat_lt, true, false, List, [], ◌∷◌, ◌++◌}
+use Rattle.std.proofs.Common.{◌≡◌, ◌≢◌, ℕ, ◌+◌, ◌-◌, ◌*◌, ◌^◌, ◌<◌, ◌≤◌, true, false, List, [], ◌∷◌, ◌++◌}
 use Rattle.std.proofs.Common.{length, codes, decimal, append_assoc, None, Some, refl, ap, ◌∙◌, arith, tests}
 use Rattle.std.specs.List.{All, AllByRecursion, flat_map, fold}
 use Rattle.std.specs.Char.{digit_value}
@@ -44,8 +44,7 @@ some_digits (c ∷ cs) l e = cc
 tokens-decimal : (at n : ℕ) (rest : List ℕ) → n < 2 ^ 64 → begins_with_digit rest ≡ false
     → tokens_from at (decimal n ++ rest) ≡ run at (decimal n) ∷ tokens_from (at + length (decimal n)) rest
 tokens-decimal at n rest h stop =
-    law-run at (decimal n) rest (some_digits (decimal n) (decimal_nonempty n h))
-    (all_digits (decimal n) (decimal_is_IsNumeral n h).0.1) stop
+    grind (arith, law-run, some_digits, decimal_nonempty, all_digits, decimal_is_IsNumeral)
 
 -- ---- texts, wherever they stand
 
@@ -68,13 +67,7 @@ reads-comma text due ns none r at =
 reads-number : (text : List ℕ) (number range : ℕ) (due : Due) (ns : List ℕ) → begins_with_digit text ≡ false
     → range_of due ≡ Some range → range ≤ 2 ^ 32 → number < range → Reads text (next_due due) ns
     → Reads (decimal number ++ text) due (number ∷ ns)
-reads-number text number range due ns stop is small l r at =
-    let h : number < 2 ^ 64 = omega arith in
-    let v = number-decimal number h in
-    let t : nat_lt number range ≡ true = grind (arith, tests) in
-    let rest = r (at + length (decimal number)) in
-    rw (tokens-decimal at number text h stop)
-    ((λ n. rw (is, v, t) (rest.0 n)), rw v (ap (λ (l : List ℕ). number ∷ l) rest.1))
+reads-number text number range due ns stop is small l r at = grind (arith, number-decimal, tokens-decimal)
 
 -- ---- instructions
 

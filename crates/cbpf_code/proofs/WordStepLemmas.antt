@@ -1,9 +1,9 @@
 -- Steps of the reader, one after another.
 use Rattle.std.proofs.Common.{◌≡◌, ◌≢◌, ℕ, inl, inr, List, [], ◌∷◌, ◌++◌, length, drop, append_assoc, append-nil}
-use Rattle.std.proofs.Common.{refl, sym, ◌∙◌, ap, subst, slice_index, arith, Some, None}
-use Rattle.cbpf_code.specs.WordTokens.{Token, tokens_after}
+use Rattle.std.proofs.Common.{refl, sym, ◌∙◌, ap, subst, arith, Some, None}
+use Rattle.cbpf_code.specs.WordTokens.{tokens_after}
 use Rattle.cbpf_code.specs.WordText.{Due, count, count_comma, code, comma, end_fault, first_fault, numbers}
-use Rattle.cbpf_code.specs.WordText.{in_fours, count_of, list_of, Spells, Refused}
+use Rattle.cbpf_code.specs.WordText.{in_fours, list_of, Spells, Refused}
 use Rattle.cbpf_code.specs.WordSteps.{fault_from, Passes, Stops, IsRead, IsReadWhole, fields_of}
 use Rattle.cbpf_code.specs.declared.insn.Insn.{Insn}
 use Rattle.cbpf_code.specs.declared.words.WordFault.TheVariants.{NumberExpected, CountDiffers, CommaExpected}
@@ -52,15 +52,7 @@ read-next text n list i at mid end r x y =
 read-end : (text : List ℕ) (n : ℕ) (list : List Insn) (due : Due) (end : ℕ)
     → Passes text count 0 (n ∷ fields_of list) due end → tokens_after text end ≡ []
     → end_fault due (length text) ≡ None → IsReadWhole text n list
-read-end text n list due end r e fine = record {
-  good = r.good ∙ ap (first_fault due (length text)) e ∙ fine;
-  spelled = r.spelled ∙ ap (λ (ms : List Token). n ∷ (fields_of list ++ numbers ms)) e
-      ∙ ap (λ (ns : List ℕ). n ∷ ns) (append-nil (fields_of list));
-}
-
-pub read-done : (text : List ℕ) (n : ℕ) (list : List Insn) (at : ℕ) → IsRead text n list at
-    → tokens_after text at ≡ [] → IsReadWhole text n list
-read-done text n list at r e = read-end text n list code at r e refl
+read-end text n list due end r e fine = grind (arith, append-nil)
 
 pub read-last : (text : List ℕ) (n : ℕ) (list : List Insn) (i : Insn) (at end : ℕ) → IsRead text n list at
     → Passes text code at (i.code ∷ i.jt ∷ i.jf ∷ i.k ∷ []) comma end → tokens_after text end ≡ []
@@ -73,21 +65,11 @@ whole-list text n list w = sym (ap (λ (ns : List ℕ). in_fours (drop 1 ns)) w.
 
 pub whole-spells : (text : List ℕ) (n : ℕ) (list : List Insn) → IsReadWhole text n list → n ≡ length list
     → Spells text list
-whole-spells text n list w same = record {
-  good = w.good;
-  reads = whole-list text n list w;
-  counted = ap (λ (ns : List ℕ). slice_index ns 0) w.spelled ∙ same;
-}
+whole-spells text n list w same = grind (arith, whole-list)
 
 pub whole-miscounts : (text : List ℕ) (n : ℕ) (list : List Insn) → IsReadWhole text n list → n ≢ length list
     → Refused text (CountDiffers n (length list))
-whole-miscounts text n list w differs =
-    let said : count_of text ≡ n = ap (λ (ns : List ℕ). slice_index ns 0) w.spelled in
-    rw (whole-list text n list w, ← said) (inr (inr (record {
-      good = w.good;
-      differs = λ e. differs (sym said ∙ e ∙ ap length (sym (whole-list text n list w)));
-      fault = refl;
-    })))
+whole-miscounts text n list w differs = grind (arith, whole-list)
 
 -- ---- refusals
 
@@ -103,11 +85,5 @@ stops-count text n a e x s = inr (inl (stops-then x s (λ none. refl)))
 pub stops-fields : (text : List ℕ) (n : ℕ) (list : List Insn) (at : ℕ) (e : WordFault) → IsRead text n list at
     → (tokens_after text at ≡ [] → ⊥) → Stops text code at e (NumberExpected (length text)) → Refused text e
 stops-fields text n list at e r some s = inr (inl (stops-then r s (λ none. absurd (some none))))
-
-pub stops-comma : (text : List ℕ) (n : ℕ) (list : List Insn) (ns : List ℕ) (at mid : ℕ) (e : WordFault)
-    → IsRead text n list at → Passes text code at ns comma mid → (tokens_after text mid ≡ [] → ⊥)
-    → Stops text comma mid e (CommaExpected (length text)) → Refused text e
-stops-comma text n list ns at mid e r x some s =
-    inr (inl (stops-then (passes-then r x) s (λ none. absurd (some none))))
 
 pub ruleset reading = (stops-first, stops-count, stops-fields, whole-spells, whole-miscounts)

@@ -105,14 +105,7 @@ some-token text i l b e =
 pub end-or-not : (text : List ℕ) (at place : ℕ) → place ≤ length text → tokens_after text place ≡ tokens_after text at
     → (place < length text → is_blank (get_or text place 0) ≡ false)
     → IsTrue (nat_eq place (length text)) ↔ (tokens_after text at ≡ [])
-end-or-not text at place w same stops = (
-  (λ h. let e : place ≡ length text = eqb-true place (length text) h in
-      sym same ∙ step-end text place (omega (arith, e))),
-  (λ e. elim (cases_lt place (length text)) [
-    | inl l ↦ absurd (some-token text place l (stops l) (same ∙ e))
-    | inr past ↦ eq-eqb place (length text) (omega arith)
-  ]),
-)
+end-or-not text at place w same stops = grind (arith, eqb-true, step-end, cases_lt, some-token, eq-eqb)
 
 pub ruleset marks = (law-empty, law-blank, law-single, law-run)
 

@@ -99,9 +99,7 @@ wrote-then u v w a b (Err z) x y = part-then u v w a b x y
 -- the first `write` took n bytes, and the rest was written after it
 pub rest-wrote : {A E : Type 0} (u v w : Option (List ℕ)) (text : List ℕ) (n : ℕ) (r : Result A E)
     → Appended u v (take n text) → Wrote v w r (take (length text - n) (drop n text)) → Wrote u w r text
-rest-wrote u v w text n r x y =
-    rw (← take-append-drop n text)
-    (wrote-then u v w (take n text) (drop n text) r x (rw (take-len-drop text n) at y))
+rest-wrote u v w text n r x y = grind (arith, take-append-drop, wrote-then, take-len-drop)
 
 -- ---- two calls, one after the other
 
