@@ -124,15 +124,7 @@ bad_after is front uses kind at g b = record {
 
 pub bad_before : (is : List Item) (uses rest : List Use) (kind : AsmKind) (at : ℕ)
     → IsFirstBadUse is uses kind at → IsFirstBadUse is (uses ++ rest) kind at
-bad_before is uses rest kind at b = record {
-  before = b.before;
-  u = b.u;
-  after = b.after ++ rest;
-  split = ap (λ us. us ++ rest) b.split ∙ append_assoc b.before (b.u ∷ b.after) rest;
-  good = b.good;
-  bad = b.bad;
-  place = b.place;
-}
+bad_before is uses rest kind at b = grind (arith, append_assoc)
 
 -- the first target is refused
 pub first_bad : (is : List Item) (index : ℕ) (short : Bool) (ts : List Lexeme) (kind : AsmKind) (at : ℕ)

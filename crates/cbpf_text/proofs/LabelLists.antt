@@ -156,10 +156,7 @@ set_new ls l None look look2 k e s n h up =
 
 -- the first item sets a name
 sets_here : (i : Item) (is : List Item) (name : List ℕ) → SetsAt (i ∷ is) 0 name → 0 < times_among i.labels name
-sets_here i is name s =
-    let e : i ≡ s.0 = some-same i s.0 s.1 in
-    let some : times_among i.labels name ≢ 0 = rw e s.2 in
-    omega (arith, some)
+sets_here i is name s = grind (arith, some-same)
 
 -- the items that set a name do so more than no times
 pub sets_some : (is : List Item) (p : ℕ) (name : List ℕ) → SetsAt is p name → 0 < times_set is name

@@ -1,5 +1,5 @@
 -- The numbers and labels of a listing, as the lexer reads them.
-use Rattle.std.proofs.Common.{◌≡◌, ℕ, ◌+◌, ◌-◌, ◌*◌, ◌^◌, ◌<◌, ◌≤◌, ◌∙◌, Bool, true, false, not, ◌&&◌, ◌||◌, zero, suc}
+use Rattle.std.proofs.Common.{◌≡◌, ℕ, ◌+◌, ◌*◌, ◌^◌, ◌<◌, ◌≤◌, ◌∙◌, Bool, true, false, not, ◌&&◌, ◌||◌, zero, suc}
 use Rattle.std.proofs.Common.{List, [], ◌∷◌, length, get_or, refl, ap, arith, Some, eqb-true, lt-ltb, ne_eqb, lit<}
 use Rattle.std.specs.Prelude.{◌==◌, nat_lt, decimal}
 use Rattle.std.specs.List.{list_all}
@@ -65,11 +65,7 @@ are_decimal : (n : ℕ) → n < 2 ^ 64 → AreDigits 10 n (decimal n)
 are_decimal n l = let wide : 2 ^ 64 < 10 ^ 64 = lit< tt in are_digits 10 n (omega arith) (omega arith) (omega arith)
 
 are_hex : (n : ℕ) → n < 2 ^ 32 → AreDigits 16 n (hex 1 n)
-are_hex n l =
-    let wide : 2 ^ 32 < 16 ^ 64 = lit< tt in
-    let a = are_digits 16 n (omega arith) (omega arith) (omega arith) in
-    let none : 1 - length (digits 16 false n) ≡ 0 = omega (arith, a.some) in
-    rw none a
+are_hex n l = grind (arith, lit<, are_digits)
 
 not_zero_led : (ds : List ℕ) (n : ℕ) → 48 < get_or ds 0 0 → digits_value 10 0 ds ≡ Some n → number_value ds ≡ Some n
 not_zero_led [] n l e = absurd (omega arith)

@@ -157,15 +157,10 @@ empty : (is : List Item) → is ≡ [] → HasProgramLength is → ⊥
 empty is e s = let z : length is ≡ 0 = ap length e in omega (arith, z, s.some)
 
 long : (is : List Item) (m : ℕ) → IsExcess is m → HasProgramLength is → ⊥
-long is m x s =
-    let h : MAX_INSTRUCTIONS < length is = slice_get_within is MAX_INSTRUCTIONS x.item x.found in
-    omega (arith, h, s.most)
+long is m x s = grind (arith, common_steps, slice_get_within)
 
 of_length : (is : List Item) (m : ℕ) → is ≡ [] → IsExcess is m → ⊥
-of_length is m e x =
-    let h : MAX_INSTRUCTIONS < length is = slice_get_within is MAX_INSTRUCTIONS x.item x.found in
-    let z : length is ≡ 0 = ap length e in
-    omega (arith, h, z)
+of_length is m e x = grind (arith, common_steps, slice_get_within)
 
 twice : (ls : List Lexeme) (m : ℕ) → IsFirstRepeat ls m → AreDistinct ls → ⊥
 twice ls m r d = no_repeat r.before r.label r.after (subst AreDistinct r.split d) r.given

@@ -54,9 +54,7 @@ both_at : (os : List declared_class.Class) (bs : List declared_lexeme.Lexeme) (i
     (t : declared_lexeme.Lexeme) → 0 < i → i ≤ length os → i ≤ length bs - 1
     → (drop (i - 1) (map class_of os) ≡ class_of (get_or os (i - 1) c) ∷ drop i (map class_of os))
     × (drop (i - 1 + 1) (map lexeme_of bs) ≡ lexeme_of (get_or bs i t) ∷ drop (i + 1) (map lexeme_of bs))
-both_at os bs i c t p l m =
-    let e : i - 1 + 1 ≡ i = omega arith in
-    (rw e at (cut_at class_of os (i - 1) c (omega arith)), rw e (cut_at lexeme_of bs i t (omega arith)))
+both_at os bs i c t p l m = grind (arith, cut_at)
 
 -- one more class, and its token: what they give comes before what those after them gave
 pub literal_put : (os : List declared_class.Class) (bs : List declared_lexeme.Lexeme) (i : ℕ)
