@@ -106,5 +106,4 @@ next_entry w es i d h1 = grind (arith, common_steps, take_more, map-append, get_
 pub all_forms : (w : List ℕ) (e : declared_entry.Entry) (forms : List (Bor (List declared_class.Class))) (i : ℕ)
     → map (λ f. map class_of f.now) forms ≡ mode_forms e.mode → length forms ≤ i
     → take i (entry_rows w (entry_of e)) ≡ entry_rows w (entry_of e)
-all_forms w e forms i h l =
-    take_all i (entry_rows w (entry_of e)) (rw (rows_are w e forms h, length-map forms (form_row w e)) l)
+all_forms w e forms i h l = grind (arith, common_steps, take_all, rows_are, length-map)

@@ -29,12 +29,7 @@ begins_front n ts b = record {
 }
 
 begins_whole : (ts : List Lexeme) (i : Item) → Form ts i → BeginsItem ts
-begins_whole ts i form = record {
-  count = form.count;
-  row = i.row;
-  known = form.row;
-  fits = whole_front (classes_of form.count i.row) ts form.fits;
-}
+begins_whole ts i form = grind (arith, whole_front)
 
 -- no longer front than the longest begins an item
 no_longer : (n m : ℕ) (ts : List Lexeme) → Goes n ts → n < m → m ≤ length ts → BeginsItem (take m ts) → ⊥
@@ -121,11 +116,7 @@ front_as n ts us e = sym (take-take n (suc n) ts (omega arith)) ∙ (ap (take n)
 
 pub goes_as : (n : ℕ) (ts us : List Lexeme) → take (suc n) ts ≡ take (suc n) us → n < length ts → n < length us
     → Goes n ts → Goes n us
-goes_as n ts us e l m g = record {
-  within = omega arith;
-  begins = subst BeginsItem (front_as n ts us e) g.begins;
-  no_farther = λ _ b. g.no_farther l (subst BeginsItem (sym e) b);
-}
+goes_as n ts us e l m g = grind (arith, front_as)
 
 -- the first item of a longer front
 first_of : (n m : ℕ) (ts : List Lexeme) → Goes n ts → n < m → m ≤ length ts → (b : BeginsItems (take m ts))

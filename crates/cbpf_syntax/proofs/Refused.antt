@@ -1,13 +1,12 @@
 -- Which refusal of a token list is the first.
 use Rattle.std.proofs.Common.{rules, ◌≡◌, ℕ, zero, suc, ◌+◌, ◌-◌, ◌<◌, ◌≤◌, List, [], ◌∷◌, ◌++◌, length, take, drop}
-use Rattle.std.proofs.Common.{map, refl, arith, sym, inl, inr, subst, append-nil, length-drop, get_or, Some, None}
+use Rattle.std.proofs.Common.{map, refl, arith, sym, inl, inr, subst, append-nil, length-drop, get_or, Some}
 use Rattle.std.proofs.lemmas.List.{take-append-drop, take_all, drop_all, drop-drop, take-take}
-use Rattle.std.specs.Prelude.{Option}
 use Rattle.std.proofs.lemmas.Option.{slice_get-map, slice_get-get_or, slice_get_past}
 use Rattle.std.proofs.lemmas.Bool.{cases_lt}
 use Rattle.cbpf_syntax.specs.declared.lexeme.Lexeme as declared_lexeme
 use Rattle.cbpf_syntax.specs.Refusals.ParseFault.{Misplaced, LargeNegative, Unfinished}
-use Rattle.cbpf_syntax.specs.Lexemes.{Symbol, Lexeme}
+use Rattle.cbpf_syntax.specs.Lexemes.{Lexeme}
 use Rattle.cbpf_syntax.specs.Items.{Item, Items, BeginsItems}
 use Rattle.cbpf_syntax.specs.Views.{symbol_of, lexeme_of}
 use Rattle.cbpf_syntax.specs.Steps.{Stuck, IsNextItem}
@@ -34,12 +33,7 @@ pub not_large_here : (ts : List declared_lexeme.Lexeme) (i : ℕ) (d e : declare
 not_large_here ts i d e h1 h2 h3 h4 = search (rules, some-same, symbol_at_get)
 
 pub large_within : (ts : List Lexeme) (i : ℕ) → IsLargeNegative ts i → i < length ts
-large_within ts i h = elim (cases_lt i (length ts)) [
-  | inl l ↦ l
-  | inr past ↦
-      let none : ◌≡◌ {A = Option Symbol} None (Some h.digits) = rw (slice_get_past ts i past) at h.digits_at in
-      absurd cc
-]
+large_within ts i h = grind (arith, cases_lt, slice_get_past)
 
 -- Where the tokens begin items up to a place, and no literal before one is too large, nothing is refused before that.
 not_before : (ts : List Lexeme) (s i : ℕ) → BeginsItems (take s ts) → i ≤ s → s ≤ length ts

@@ -60,16 +60,7 @@ form_of m r ts k f = record { count = m; row = k; fits = f; labels = refl; body 
 
 -- a label with its colon
 after_label : (t u : Lexeme) (ts : List Lexeme) → fits name t.symbol ≡ true → BeginsItem (t ∷ u ∷ ts) → BeginsItem ts
-after_label t u ts n b = by_count b.count b.fits
-  where
-    by_count : (m : ℕ) → fits_front (classes_of m b.row) (t ∷ u ∷ ts) ≡ true → BeginsItem ts
-    by_count zero h = absurd (named_row b.row t (u ∷ ts) b.known n h)
-    by_count (suc m) h = record {
-      count = m;
-      row = b.row;
-      known = b.known;
-      fits = (and_parts (fits (the_mark 58) u.symbol) _ (and_parts (fits name t.symbol) _ h).1).1;
-    }
+after_label t u ts n b = grind (arith, named_row, and_parts)
 
 pub label_goes : (t u : Lexeme) (ts : List Lexeme) (n : ℕ) → fits name t.symbol ≡ true
     → fits (the_mark 58) u.symbol ≡ true → Goes n ts → Goes (suc (suc n)) (t ∷ u ∷ ts)
@@ -219,25 +210,10 @@ module _ (w : List ℕ) (at : ℕ) (us : List Lexeme) (m : Mnemonic) (best : Mat
 -- no row begins with the first token
 pub none_begins : (t : Lexeme) (us : List Lexeme) → fits name t.symbol ≡ false
     → ((r : Row) → Contains table r → fits (the_word r.mnemonic) t.symbol ≡ true → ⊥) → Stuck 0 (t ∷ us)
-none_begins t us s none = record {
-  goes = record {
-    within = omega arith;
-    begins = begins_none some_known.0 some_known.1;
-    no_farther = λ l b. none b.row b.known
-        (and_parts (fits (the_word b.row.mnemonic) t.symbol) _ (bare_front b.count b.row t [] s b.fits)).0;
-  };
-  none = λ i form. no_classes form.count i.row form.row form.fits;
-}
+none_begins t us s none = grind (arith, begins_none, some_known, and_parts, bare_front, no_classes)
 
 pub end_stuck : Stuck 0 []
-end_stuck = record {
-  goes = record {
-    within = omega arith;
-    begins = begins_none some_known.0 some_known.1;
-    no_farther = λ l b. omega (arith, l);
-  };
-  none = λ i form. no_classes form.count i.row form.row form.fits;
-}
+end_stuck = grind (arith, begins_none, some_known, no_classes)
 
 pub reserved_stuck : (ts : List Lexeme) (w : List ℕ) (at : ℕ) (us : List Lexeme) → ts ≡ lexeme w at ∷ us
     → is_one_of mnemonic_words w ≡ false → is_reserved w ≡ true → Stuck 0 ts

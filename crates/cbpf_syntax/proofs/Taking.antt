@@ -63,13 +63,7 @@ ahead_none text = record { tokens = []; lexed = search rules; taken = []; count 
 -- no more token is there
 pub ahead_end : (text : List ℕ) (at n : ℕ) (ahead : List Lexeme) → HasNoMore text at → AreAhead text at n ahead
     → AreAhead text (length text) n ahead
-ahead_end text at n ahead none a = record {
-  tokens = a.tokens;
-  lexed = none a.tokens a.lexed;
-  taken = a.taken;
-  count = a.count;
-  are = a.are;
-}
+ahead_end text at n ahead none a = grind (arith, common_steps)
 
 -- some of the tokens ahead are taken
 pub ahead_taken : (text : List ℕ) (at m n : ℕ) (ahead : List Lexeme) → AreAhead text at m ahead → n ≤ length ahead
@@ -111,17 +105,7 @@ get_ahead ts (w ∷ ws) rest m k e l =
 -- the same literal at other places
 large_as : (ts us : List Lexeme) (i j : ℕ) → symbol_at ts i ≡ symbol_at us j
     → symbol_at ts (i + 1) ≡ symbol_at us (j + 1) → IsLargeNegative ts (i + 1) → IsLargeNegative us (j + 1)
-large_as ts us i j e f h =
-    let b : i ≡ h.before = omega (arith, h.after) in
-    record {
-      before = j;
-      after = refl;
-      sign = h.sign;
-      digits = h.digits;
-      sign_at = sym e ∙ (ap (λ k. symbol_at ts k) b ∙ h.sign_at);
-      digits_at = sym f ∙ h.digits_at;
-      large = h.large;
-    }
+large_as ts us i j e f h = grind (arith, common_steps)
 
 -- Where some tokens stand ahead after m of all.
 module _ (ts ws rest : List Lexeme) (m : ℕ) (e : drop m ts ≡ ws ++ rest) where
