@@ -129,9 +129,9 @@ impl<T: Trail, A: Allocator> Session<T, A> {
 
     /// Goes on by `n` entries, or back by `-n` entries of the same packet, whatever hits lie between.
     ///
-    /// The meter has spent at most 2 to the 127 before; on the way forward it rises by one for each
-    /// entry that is left, and on the way back by what the trail takes to go back to the entry, which
-    /// is at most 63. A refusal makes no turn.
+    /// The meter has spent at most 2 to the 127 before; on the way forward it rises by one for each entry that is left,
+    /// and on the way back by what the trail takes to go back to the entry, which is at most `most_turns_back`. A refusal
+    /// makes no turn.
     ///
     /// # Errors
     ///

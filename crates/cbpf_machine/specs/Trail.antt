@@ -1,4 +1,4 @@
--- What a trail of checkpoints stands for: a list of states of which every 64th is kept (this project's own;
+-- What a trail of checkpoints stands for: a list of states, of which one in STRIDE is kept (this project's own;
 -- no standard speaks of it).
 use Rattle.std.specs.Prelude.{◌≡◌, ℕ, ◌+◌, ◌-◌, ◌*◌, ◌/◌, ◌<◌, List, length, slice_get}
 use Rattle.cbpf_machine.specs.declared.mark_trail.TheConstants.{STRIDE}
@@ -13,7 +13,7 @@ pub record Checkpoints : Type 0 where
   pub checkpoints : List Registers
   pub kept : ℕ
 
--- the states 1, 65, 129 and so on of the list are kept, and no others
+-- the first state of the list is kept, and from there on each that is STRIDE after the one before
 pub record AreCheckpoints (c : Checkpoints) (xs : List Registers) : Type 0 where
   pub long : length xs ≡ c.kept
   pub count : length c.checkpoints ≡ (c.kept + (STRIDE - 1)) / STRIDE
