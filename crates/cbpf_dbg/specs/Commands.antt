@@ -15,7 +15,7 @@ use Rattle.cbpf_machine.specs.declared.watched.When.TheVariants.{Always}
 use Rattle.cbpf_machine.specs.Values.{with_value, takes_value}
 use Rattle.cbpf_machine.specs.Machine.{Machine, machine_of}
 use Rattle.cbpf_machine.specs.Step.{turn}
-use Rattle.cbpf_machine.specs.Trace.{trace}
+use Rattle.cbpf_machine.specs.Trace.{trace, entry_at}
 use Rattle.pcap_classic.specs.Records.{Record}
 use Rattle.pcap_classic.specs.Savefile.{Savefile}
 use Rattle.cbpf_reply.specs.declared.reply.Place.{Place}
@@ -112,7 +112,7 @@ abbrev pub entry_in : Machine → Option Record → Place → Option Entry
 entry_in machine None place = None
 entry_in machine (Some r) place =
     option_map (λ s. record { place = place; state = s; turn = turn machine r.bytes r.wire s })
-    (slice_get (trace machine r.bytes r.wire) (place.step - 1))
+    (entry_at (trace machine r.bytes r.wire) place.step)
 
 abbrev pub back_place : Place → ℕ → Place
 back_place place b = record { packet = place.packet; step = place.step - b }

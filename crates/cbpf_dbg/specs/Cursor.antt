@@ -9,7 +9,7 @@ use Rattle.cbpf_machine.specs.declared.follow.Followed.{Followed}
 use Rattle.cbpf_machine.specs.declared.follow.Followed.TheVariants as followed_to
 use Rattle.cbpf_machine.specs.Machine.{Machine}
 use Rattle.cbpf_machine.specs.Step.{turn}
-use Rattle.cbpf_machine.specs.Trace.{trace}
+use Rattle.cbpf_machine.specs.Trace.{trace, entry_at}
 use Rattle.pcap_classic.specs.Records.{Record}
 use Rattle.pcap_classic.specs.Savefile.{Savefile}
 use Rattle.cbpf_reply.specs.declared.reply.Place.{Place}
@@ -29,7 +29,7 @@ use Rattle.cbpf_reply.specs.declared.reply.Why.TheVariants as why
 abbrev pub IsEntry : Machine → List Record → Place → Registers → Type 0
 IsEntry machine capture place s =
     (r : Record) × (slice_get capture (place.packet - 1) ≡ Some r)
-    × (slice_get (trace machine r.bytes r.wire) (place.step - 1) ≡ Some s)
+    × (entry_at (trace machine r.bytes r.wire) place.step ≡ Some s)
 
 -- a cursor stands at its place, with the outcomes from its origin on
 pub record Stands (machine : Machine) (capture : List Record) (w : Cursor) : Type 0 where

@@ -3,7 +3,7 @@
 ghost use Rattle.std.specs.Prelude.{◌≡◌, ◌≢◌, ◌+◌, ◌-◌, ◌*◌, ◌<◌, ◌≤◌, ◌^◌, [], Some, true, false, slice_get};
 ghost use Rattle.cbpf_code.specs.declared.checker.TheConstants.{MAX_INSTRUCTIONS};
 ghost use Rattle.pcap_classic.specs.Records.{Record};
-ghost use Rattle.cbpf_machine.specs.Follow.{Unpaused, is_watched};
+ghost use Rattle.cbpf_machine.specs.Follow.{UnpausedBetween, is_watched};
 ghost use Rattle.cbpf_machine.specs.Trace.{trace};
 ghost use Rattle.cbpf_dbg.specs.Commands.{PassesHits};
 ghost use Rattle.cbpf_dbg.specs.Joined.{rest};
@@ -53,8 +53,8 @@ pub(crate) fn run_records<P: Pause, A: Allocator>(
     // Of the packet's entries it is the first where it pauses.
     ensures first { result ≡ true → (r : Record)
         → slice_get (records_in loaded.now) (cursor.new.place.packet - 1) ≡ Some r
-        → Unpaused (λ s. P.pauses pause.now s) (trace (machine_in loaded.now) r.bytes r.wire) 0
-        (cursor.new.place.step - 1) }
+        → UnpausedBetween (λ s. P.pauses pause.now s) (trace (machine_in loaded.now) r.bytes r.wire) 0
+        cursor.new.place.step }
 {
     // Bound here, as the compiler would load them again after each packet.
     let program = loaded.program;
