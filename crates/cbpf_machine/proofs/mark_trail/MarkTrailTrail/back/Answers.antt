@@ -1,4 +1,5 @@
-use Rattle.std.proofs.Common.{◌≡◌, ◌+◌, ◌*◌, ◌<◌, ◌-◌, ◌/◌, ◌∙◌, ℕ, List, arith, sym, ap, refl, subst, length, length-take, take, get_or}
+use Rattle.std.proofs.Common.{◌≡◌, ◌+◌, ◌*◌, ◌<◌, ◌-◌, ◌/◌, ◌∙◌, ℕ, List, arith, sym, ap, refl, subst, length}
+use Rattle.std.proofs.Common.{length-take, take, get_or}
 use Rattle.std.specs.Prelude.{Some, None, slice_get}
 use Rattle.std.proofs.lemmas.List.{get_or-take}
 use Rattle.std.proofs.lemmas.Option.{slice_get_read, slice_get_within, get_or_from_slice_get}
@@ -25,7 +26,8 @@ kept_at : (kept : ℕ) (items xs : List Registers) (j : ℕ) (r : Registers)
     → STRIDE * j < kept → r ≡ get_or items j r → slice_get xs (STRIDE * j) ≡ Some r
 kept_at kept items xs j r are under is =
     let within : j < length (take ((kept + (STRIDE - 1)) / STRIDE) items) = omega (arith, are.count) in
-    taken_at xs kept (STRIDE * j) r (sym (are.at j within) ∙ slice_get_read (take ((kept + (STRIDE - 1)) / STRIDE) items) _ j r refl within
+    taken_at xs kept (STRIDE * j) r (sym (are.at j within)
+    ∙ slice_get_read (take ((kept + (STRIDE - 1)) / STRIDE) items) _ j r refl within
     (is ∙ sym (get_or-take ((kept + (STRIDE - 1)) / STRIDE) items j r (omega arith)))) under
 
 pub again-init : goal.again-init
@@ -33,8 +35,9 @@ again-init g c =
     let at = kept_at c.self.inside.kept c.self.inside.checkpoints.items
     (trace (machine_of c.args.p.now c.args.values.now) c.args.packet.bytes.now c.args.packet.wire)
     ((c.args.to - 1) / STRIDE) c.index-deref-checkpoint.result
-    (subst (λ k. AreCheckpoints k (take k.kept (trace (machine_of c.args.p.now c.args.values.now) c.args.packet.bytes.now
-    c.args.packet.wire))) (sym c.self.view_is) c.requires.of_trace) (omega (arith, ap (λ (k : Checkpoints). k.kept) c.self.view_is))
+    (subst (λ k. AreCheckpoints k
+    (take k.kept (trace (machine_of c.args.p.now c.args.values.now) c.args.packet.bytes.now c.args.packet.wire)))
+    (sym c.self.view_is) c.requires.of_trace) (omega (arith, ap (λ (k : Checkpoints). k.kept) c.self.view_is))
     (rw c.deref.ensures.0 at c.index-deref-checkpoint.is) in
     record {
       sound = c.len-sound.ensures.sound;
@@ -60,7 +63,12 @@ unreachable-requires g c =
     rw (← c.turn.ensures.value) (next_of-none c.turn.result c.in_default.not-Next) in
     let end = goes_last _ _ _ _ _ _ c.again.invariant.sound c.again.invariant.here none in
     let long = c.requires.of_trace.long in
-    omega (arith, end, length-take c.args.self.now.kept (trace (machine_of c.args.p.now c.args.values.now) c.args.packet.bytes.now c.args.packet.wire))
+    omega (
+      arith,
+      end,
+      length-take c.args.self.now.kept
+          (trace (machine_of c.args.p.now c.args.values.now) c.args.packet.bytes.now c.args.packet.wire),
+    )
 
 pub returns-clause-entry : goal.returns-clause-entry
 returns-clause-entry g c =

@@ -36,8 +36,8 @@ reached g c = reaches_fenced c.gap.result (c.pass-turns.ensures.reaches _ _ c.fo
     c.follow.invariant.here c.follow.invariant.sound c.pass-turns.ensures.some c.gap.ensures.some (omega arith)
 
 within : (g : Over) (c : After-pass-turns g)
-    → (g.Self.Trail.kept c.follow.self + c.pass-turns.result.0 ≤ length (trace (machine_of c.args.p.now c.args.values.now)
-    c.args.packet.bytes.now c.args.packet.wire) + 1)
+    → (g.Self.Trail.kept c.follow.self + c.pass-turns.result.0
+    ≤ length (trace (machine_of c.args.p.now c.args.values.now) c.args.packet.bytes.now c.args.packet.wire) + 1)
     × (length (trace (machine_of c.args.p.now c.args.values.now) c.args.packet.bytes.now c.args.packet.wire)
     ≤ MAX_INSTRUCTIONS)
 within g c =
