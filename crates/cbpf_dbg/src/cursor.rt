@@ -55,9 +55,9 @@ impl Cursor {
         self.place.step += 1;
     }
 
-    /// Past a whole packet, which it is before.
+    /// Goes before the next packet, as this one, which it is before, ended with the outcome.
     #[inline(always)]
-    pub(crate) fn pass_whole(&mut self, outcome: Outcome)
+    pub(crate) fn finish_whole_packet(&mut self, outcome: Outcome)
         requires before { self.old.place.step ≡ 0 }
         requires counts { Countable self.old.place.packet self.old.counts }
         ensures { self.new ≡ passed self.old outcome }
@@ -70,18 +70,19 @@ impl Cursor {
         self.place.packet += 1;
     }
 
+    /// The same from anywhere in the packet.
     #[inline(always)]
-    pub(crate) fn pass(&mut self, outcome: Outcome)
+    pub(crate) fn finish_packet(&mut self, outcome: Outcome)
         requires { Countable self.old.place.packet self.old.counts }
         ensures { self.new ≡ passed self.old outcome }
     {
         self.place.step = 0;
-        self.pass_whole(outcome);
+        self.finish_whole_packet(outcome);
     }
 
     /// Moves to where following the packet led, which left the state here: to an entry, or before the next packet.
     #[inline(always)]
-    pub(crate) fn follow(&mut self, followed: Followed) -> Moved
+    pub(crate) fn apply(&mut self, followed: Followed) -> Moved
         requires counts { Countable self.old.place.packet self.old.counts }
         requires steps { (n : ℕ) → followed ≡ ways.Watched n → self.old.place.step + n < 2 ^ 32 }
         ensures cursor { self.new ≡ after self.old followed }
@@ -93,7 +94,7 @@ impl Cursor {
                 Moved::Entry
             }
             Followed::Ended(outcome) => {
-                self.pass(outcome);
+                self.finish_packet(outcome);
                 Moved::Packet
             }
         }
@@ -184,7 +185,7 @@ fn leave_entry<A: Allocator>(
             Moved::Entry
         }
         Some(outcome) => {
-            cursor.pass(outcome);
+            cursor.finish_packet(outcome);
             Moved::Packet
         }
     }

@@ -69,7 +69,7 @@ pub(crate) fn run_records<P: Pause, A: Allocator>(
                 cursor.place.step = entries;
                 return true;
             }
-            Followed::Ended(outcome) => cursor.pass_whole(outcome),
+            Followed::Ended(outcome) => cursor.finish_whole_packet(outcome),
         }
         left.pass(&here);
     }
@@ -106,7 +106,7 @@ fn run_whole<T: Trail, A: Allocator>(
 }
 
 /// Goes on in the place's packet, where it has begun, to its next hit, or out of it: whether there is a hit.
-fn finish_packet<T: Trail, A: Allocator>(
+fn go_on_in_packet<T: Trail, A: Allocator>(
     meter: &mut Meter,
     loaded: &Loaded<'_, A>,
     left: &mut Records<'_>,
@@ -140,7 +140,7 @@ fn finish_packet<T: Trail, A: Allocator>(
         loaded.watched,
         &mut cursor.state,
     );
-    if let Moved::Entry = cursor.follow(followed) {
+    if let Moved::Entry = cursor.apply(followed) {
         return true;
     }
     left.pass(&here);
@@ -170,7 +170,7 @@ fn run_to_hit<T: Trail, A: Allocator>(
 {
     let mut left = loaded.capture.records(cursor.place.packet, end);
     'go: loop {
-        if finish_packet(meter, loaded, &mut left, cursor, trail) {
+        if go_on_in_packet(meter, loaded, &mut left, cursor, trail) {
             return Some(stop_at(loaded, cursor, Why::Break));
         }
         trail.clear();

@@ -50,7 +50,7 @@ fn skip_packets<A: Allocator>(
             wire: here.wire,
         };
         let before = meter.spent();
-        cursor.pass(run_packet(meter, loaded.program, packet, loaded.values));
+        cursor.finish_packet(run_packet(meter, loaded.program, packet, loaded.values));
         left -= (meter.spent() - before) as u64;
         records.pass(&here);
     }

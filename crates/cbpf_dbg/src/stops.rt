@@ -48,7 +48,7 @@ impl<'a, A: Allocator> Model for Stops<'a, A> {
 }
 
 /// Goes on in the place's packet, where it has begun, to its next hit, or out of it: whether there is a hit.
-fn finish_packet<A: Allocator>(
+fn go_on_in_packet<A: Allocator>(
     meter: &mut Meter,
     loaded: &Loaded<'_, A>,
     left: &mut Records<'_>,
@@ -77,7 +77,7 @@ fn finish_packet<A: Allocator>(
         loaded.watched,
         &mut cursor.state,
     );
-    if let Moved::Entry = cursor.follow(followed) {
+    if let Moved::Entry = cursor.apply(followed) {
         return true;
     }
     left.pass(&here);
@@ -103,7 +103,7 @@ fn next_stop<A: Allocator>(
         (λ (v : Cursor). rest (machine_in loaded.now) (records_in loaded.now) (breakpoints_in loaded.now) v.place)
         cursor.old result cursor.new }
 {
-    if !finish_packet(meter, loaded, left, cursor) {
+    if !go_on_in_packet(meter, loaded, left, cursor) {
         if !run_records(meter, loaded, loaded.watched, left, cursor) {
             return None;
         }

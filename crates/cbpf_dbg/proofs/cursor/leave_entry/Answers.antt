@@ -22,8 +22,8 @@ go_on-requires g c =
     let few = steps_few _ _ c.args.cursor.now _ c.requires.stands c.requires.here in
     omega (arith, step_within _ _ c.args.cursor.now _ c.requires.stands c.requires.here, few)
 
-pub pass-requires : goal.pass-requires
-pass-requires g c =
+pub finish_packet-requires : goal.finish_packet-requires
+finish_packet-requires g c =
     countable _ _ c.args.cursor.now c.requires.stands c.args.loaded.now.few
 
 pub returns-in-None : goal.returns-in-None
@@ -50,9 +50,9 @@ returns-in-Some g c =
       counts = c.args.cursor.now.counts;
     } in
     let stays : here ≡ c.args.cursor.now = ap (λ (s : Registers). record c.args.cursor.now { state = s }) v.2 in
-    let same : c.pass.new.self ≡ passed c.args.cursor.now (outcome_of
+    let same : c.finish_packet.new.self ≡ passed c.args.cursor.now (outcome_of
     (turn (machine_in c.args.loaded.now) c.args.here.now.bytes.now c.args.here.now.wire c.args.cursor.now.state)) =
-    c.pass.ensures ∙ ap (λ w. passed w c.in-Some.outcome) stays ∙ ap (passed c.args.cursor.now) v.1 in
+    c.finish_packet.ensures ∙ ap (λ w. passed w c.in-Some.outcome) stays ∙ ap (passed c.args.cursor.now) v.1 in
     record {
       stands = rw same (stands-left _ _ c.args.cursor.now _ c.requires.stands c.requires.here c.requires.begun v.0);
       moves =

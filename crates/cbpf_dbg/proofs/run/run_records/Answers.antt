@@ -9,8 +9,8 @@ use Rattle.cbpf_dbg.proofs.run.run_records.Goals as goal
 pub follow_packet-requires : goal.follow_packet-requires
 follow_packet-requires g c = omega (arith, c.requires.can.spare, c.go.invariant.passes.spent)
 
-pub pass_whole-requires-clause-counts : goal.pass_whole-requires-clause-counts
-pass_whole-requires-clause-counts g c = countable _ _ c.go.cursor c.go.invariant.passes.stands c.args.loaded.now.few
+pub finish_whole_packet-requires-clause-counts : goal.finish_whole_packet-requires-clause-counts
+finish_whole_packet-requires-clause-counts g c = countable _ _ c.go.cursor c.go.invariant.passes.stands c.args.loaded.now.few
 
 pub returns-in-Watched-clause-goes : goal.returns-in-Watched-clause-goes
 returns-in-Watched-clause-goes g c =
@@ -44,9 +44,9 @@ go-preserved g c =
     let so = c.go.invariant in
     let here = first_left _ _ _ _ _ _ c.pass.ensures (so.left _ c.requires.can.left.1) in
     goes_more _ _ _ _ _ _ _ _ _ _ _ _ _ _ _ so (goes_out _ _ _ (record_of c.in-Some.here)
-    so.passes.stands here _ _ c.requires.can.covers 0 c.follow_packet.result c.follow_packet.new.s c.pass_whole.new.self c.go.meter
+    so.passes.stands here _ _ c.requires.can.covers 0 c.follow_packet.result c.follow_packet.new.s c.finish_whole_packet.new.self c.go.meter
     c.follow_packet.new.meter c.go.left _ (omega (arith, so.out refl)) (rw c.in-Ended.is refl)
-    (c.pass_whole.ensures ∙ rw c.in-Ended.is refl) c.follow_packet.ensures.follows
+    (c.finish_whole_packet.ensures ∙ rw c.in-Ended.is refl) c.follow_packet.ensures.follows
     (omega (arith, c.follow_packet.ensures.turns)) c.pass.ensures)
 
 pub returns-clause-none : goal.returns-clause-none

@@ -14,18 +14,18 @@ use Rattle.cbpf_dbg.proofs.run.run_to_hit.Goals as goal
 pub stop_at-requires : goal.stop_at-requires
 stop_at-requires g c =
     (at_hit _ _ _ c.args.loaded.now.watched.now _ _ _ _ _ _ c.args.loaded.now.watches
-    c.if-finish_packet.ensures.goes).1
+    c.if-go_on_in_packet.ensures.goes).1
 
-pub returns-then-finish_packet-clause-comes : goal.returns-then-finish_packet-clause-comes
-returns-then-finish_packet-clause-comes g c =
+pub returns-then-go_on_in_packet-clause-comes : goal.returns-then-go_on_in_packet-clause-comes
+returns-then-go_on_in_packet-clause-comes g c =
     let so = c.go.invariant in
-    let went = c.if-finish_packet.ensures.goes in
+    let went = c.if-go_on_in_packet.ensures.goes in
     let hit = at_hit _ _ _ c.args.loaded.now.watched.now _ _ _ _ _ _ c.args.loaded.now.watches went in
     rw (c.stop_at.ensures hit.0) (refl, (went.left _ so.left).ends.later (went.entry refl).0, so.passes.hits ∙ hit.2)
 
 pub returns-then-not-run_whole-clause-comes : goal.returns-then-not-run_whole-clause-comes
 returns-then-not-run_whole-clause-comes g c =
-    let all = goes_more _ _ _ _ _ _ _ _ _ _ _ _ _ _ _ c.if-finish_packet.ensures.goes
+    let all = goes_more _ _ _ _ _ _ _ _ _ _ _ _ _ _ _ c.if-go_on_in_packet.ensures.goes
     c.if-not-run_whole.ensures.goes in
     let passes = goes_passed _ _ _ _ _ _ _ _ _ _ all in (
       none_left _ _ _ _ _ passes.stands (c.if-not-run_whole.ensures.none refl) (all.left _ c.go.invariant.left),
@@ -60,15 +60,15 @@ returns-then-pauses_at-clause-comes g c =
     let begun = (ran.entry refl).0 in
     let at = ran.passes.stands.at begun in
     let watched : GoesOn (machine_in c.args.loaded.now) (records_in c.args.loaded.now) (breakpoints_in c.args.loaded.now)
-    (is_watched c.args.loaded.now.watched.now) c.finish_packet.new.cursor c.run_whole.new.cursor
-    c.finish_packet.new.left c.run_whole.new.left c.finish_packet.new.meter c.run_whole.new.meter true =
+    (is_watched c.args.loaded.now.watched.now) c.go_on_in_packet.new.cursor c.run_whole.new.cursor
+    c.go_on_in_packet.new.left c.run_whole.new.left c.go_on_in_packet.new.meter c.run_whole.new.meter true =
     record {
       passes = ran.passes;
       left = ran.left;
       entry = λ e. ((ran.entry e).0, sym c.pauses_at.ensures ∙ c.if-pauses_at.true);
       out = ran.out;
     } in
-    let all = goes_more _ _ _ _ _ _ _ _ _ _ _ _ _ _ _ c.if-finish_packet.ensures.goes watched in
+    let all = goes_more _ _ _ _ _ _ _ _ _ _ _ _ _ _ _ c.if-go_on_in_packet.ensures.goes watched in
     let hit = at_hit _ _ _ c.args.loaded.now.watched.now _ _ _ _ _ _ c.args.loaded.now.watches all in
     rw (c.stop_at-then-pauses_at.ensures hit.0) (refl, (all.left _ so.left).ends.later begun, so.passes.hits ∙ hit.2)
 
@@ -87,7 +87,7 @@ go-preserved g c =
     let ran = c.if-not-run_whole.ensures.goes in
     let begun = (ran.entry refl).0 in
     let at = ran.passes.stands.at begun in
-    let all = goes_more _ _ _ _ _ _ _ _ _ _ _ _ _ _ _ c.if-finish_packet.ensures.goes ran in
+    let all = goes_more _ _ _ _ _ _ _ _ _ _ _ _ _ _ _ c.if-go_on_in_packet.ensures.goes ran in
     let inside = (goes _ _ _ at.0 ran.passes.stands at.1 begun).inside in
     let none = sym (c.args.loaded.now.watches at.0.bytes at.0.wire _ inside) ∙ (sym c.pauses_at.ensures
     ∙ c.if-pauses_at.false) in

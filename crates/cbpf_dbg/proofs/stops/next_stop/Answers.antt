@@ -4,11 +4,11 @@ use Rattle.cbpf_dbg.proofs.GoingLemmas.{at_hit, goes_passed}
 use Rattle.cbpf_dbg.proofs.JoinedLemmas.{rest-none}
 use Rattle.cbpf_dbg.proofs.LeftLemmas.{nothing_left}
 use Rattle.cbpf_dbg.proofs.stops.next_stop.Goals as goal
-use Rattle.cbpf_dbg.proofs.stops.next_stop.Goals.{then-not-finish_packet+else-not-run_records, else-not-finish_packet}
+use Rattle.cbpf_dbg.proofs.stops.next_stop.Goals.{then-not-go_on_in_packet+else-not-run_records, else-not-go_on_in_packet}
 
 pub returns-then-not-run_records-clause-next : goal.returns-then-not-run_records-clause-next
 returns-then-not-run_records-clause-next g c =
-    let left = c.if-not-finish_packet.ensures in
+    let left = c.if-not-go_on_in_packet.ensures in
     let ran = c.if-not-run_records.ensures.goes in
     let ended = nothing_left _ _ _ _ ran.passes.stands (ran.left _ (left.left _ c.requires.left))
     (c.if-not-run_records.ensures.none refl) in
@@ -17,20 +17,20 @@ returns-then-not-run_records-clause-next g c =
     ((goes_passed _ _ _ _ _ _ _ _ _ _ left).hits ∙ (goes_passed _ _ _ _ _ _ _ _ _ _ ran).hits ∙ none, none)
 
 pub stop_at-requires : goal.stop_at-requires
-stop_at-requires g c = elim c.if-not-finish_packet.branch [
-  | then-not-finish_packet+else-not-run_records w ↦
+stop_at-requires g c = elim c.if-not-go_on_in_packet.branch [
+  | then-not-go_on_in_packet+else-not-run_records w ↦
       rw w.cursor-is (at_hit _ _ _ c.args.loaded.now.watched.now _ _ _ _ _ _ c.args.loaded.now.watches w.if-not-run_records.ensures.goes).1
-  | else-not-finish_packet w ↦
-      rw w.cursor-is (at_hit _ _ _ c.args.loaded.now.watched.now _ _ _ _ _ _ c.args.loaded.now.watches w.if-not-finish_packet.ensures).1
+  | else-not-go_on_in_packet w ↦
+      rw w.cursor-is (at_hit _ _ _ c.args.loaded.now.watched.now _ _ _ _ _ _ c.args.loaded.now.watches w.if-not-go_on_in_packet.ensures).1
 ]
 
 pub returns-clause-next : goal.returns-clause-next
-returns-clause-next g c = elim c.if-not-finish_packet.branch [
-  | then-not-finish_packet+else-not-run_records w ↦
+returns-clause-next g c = elim c.if-not-go_on_in_packet.branch [
+  | then-not-go_on_in_packet+else-not-run_records w ↦
       let hit = at_hit _ _ _ c.args.loaded.now.watched.now _ _ _ _ _ _ c.args.loaded.now.watches w.if-not-run_records.ensures.goes in
       rw (c.stop_at.ensures hit.0, w.cursor-is)
-      ((goes_passed _ _ _ _ _ _ _ _ _ _ w.if-not-finish_packet.ensures).hits ∙ hit.2)
-  | else-not-finish_packet w ↦
-      let hit = at_hit _ _ _ c.args.loaded.now.watched.now _ _ _ _ _ _ c.args.loaded.now.watches w.if-not-finish_packet.ensures in
+      ((goes_passed _ _ _ _ _ _ _ _ _ _ w.if-not-go_on_in_packet.ensures).hits ∙ hit.2)
+  | else-not-go_on_in_packet w ↦
+      let hit = at_hit _ _ _ c.args.loaded.now.watched.now _ _ _ _ _ _ c.args.loaded.now.watches w.if-not-go_on_in_packet.ensures in
       rw (c.stop_at.ensures hit.0, w.cursor-is) hit.2
 ]

@@ -4,7 +4,7 @@ use Rattle.cbpf_dbg.proofs.CountLemmas.{countable}
 use Rattle.cbpf_dbg.proofs.CursorLemmas.{goes, entry_at_place}
 use Rattle.cbpf_dbg.proofs.FollowLemmas.{steps_fit, goes_to_entry, goes_out}
 use Rattle.cbpf_dbg.proofs.LeftLemmas.{first_left, first_of}
-use Rattle.cbpf_dbg.proofs.stops.finish_packet.Goals as goal
+use Rattle.cbpf_dbg.proofs.stops.go_on_in_packet.Goals as goal
 
 pub follow_on-followed-requires-clause-inside : goal.follow_on-followed-requires-clause-inside
 follow_on-followed-requires-clause-inside g c =
@@ -12,12 +12,12 @@ follow_on-followed-requires-clause-inside g c =
     (goes _ _ _ (record_of c.in-Some.here)
     c.requires.stands here (omega (arith, c.if-cursor-eq0.false))).inside
 
-pub follow-requires-clause-counts : goal.follow-requires-clause-counts
-follow-requires-clause-counts g c =
+pub apply-requires-clause-counts : goal.apply-requires-clause-counts
+apply-requires-clause-counts g c =
     countable _ _ c.args.cursor.now c.requires.stands c.args.loaded.now.few
 
-pub follow-requires-clause-steps : goal.follow-requires-clause-steps
-follow-requires-clause-steps g c = λ n e.
+pub apply-requires-clause-steps : goal.apply-requires-clause-steps
+apply-requires-clause-steps g c = λ n e.
     let here = first_left _ _ _ _ _ _ (first_of _ _ c.in-Some.ensures) c.requires.left.1 in
     let begun : 0 < c.args.cursor.now.place.step = omega (arith, c.if-cursor-eq0.false) in
     let entry = entry_at_place _ _ _ (record_of c.in-Some.here)
@@ -36,7 +36,7 @@ returns-in-Entry g c =
     c.requires.stands here begun in
     goes_to_entry _ _ _ (record_of c.in-Some.here)
     c.requires.stands here _ _ c.requires.covers _ c.follow_on-followed.result c.follow_on-followed.new.s
-    c.follow.new.self c.args.meter.now c.follow_on-followed.new.meter c.args.left.now _ refl c.in-Entry.ensures.moved
+    c.apply.new.self c.args.meter.now c.follow_on-followed.new.meter c.args.left.now _ refl c.in-Entry.ensures.moved
     c.in-Entry.ensures.cursor (c.follow_on-followed.ensures.follows _ begun entry)
     (omega (arith, c.follow_on-followed.ensures.turns _ begun entry, begun)) is
 
@@ -48,7 +48,7 @@ returns g c =
     c.requires.stands here begun in
     goes_out _ _ _ (record_of c.in-Some.here)
     c.requires.stands here _ _ c.requires.covers _ c.follow_on-followed.result c.follow_on-followed.new.s
-    c.follow.new.self c.args.meter.now c.follow_on-followed.new.meter c.args.left.now _ refl
-    c.in_default-follow.ensures.moved c.in_default-follow.ensures.cursor
+    c.apply.new.self c.args.meter.now c.follow_on-followed.new.meter c.args.left.now _ refl
+    c.in_default-apply.ensures.moved c.in_default-apply.ensures.cursor
     (c.follow_on-followed.ensures.follows _ begun entry)
     (omega (arith, c.follow_on-followed.ensures.turns _ begun entry, begun)) c.pass.ensures

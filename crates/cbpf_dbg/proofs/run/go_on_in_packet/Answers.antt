@@ -6,7 +6,7 @@ use Rattle.cbpf_dbg.proofs.CountLemmas.{countable}
 use Rattle.cbpf_dbg.proofs.FollowLemmas.{kept_steps, steps_few, steps_fit, goes_to_entry, goes_out}
 use Rattle.cbpf_dbg.proofs.KeepLemmas.{keeps_followed}
 use Rattle.cbpf_dbg.proofs.LeftLemmas.{first_left, first_of}
-use Rattle.cbpf_dbg.proofs.run.finish_packet.Goals as goal
+use Rattle.cbpf_dbg.proofs.run.go_on_in_packet.Goals as goal
 
 pub follow-followed-requires-clause-spare : goal.follow-followed-requires-clause-spare
 follow-followed-requires-clause-spare g c =
@@ -14,12 +14,12 @@ follow-followed-requires-clause-spare g c =
     c.requires.can.stands (first_left _ _ _ _ _ _ (first_of _ _ c.in-Some.ensures) c.requires.can.left.1) in
     omega (arith, few, c.requires.can.spare)
 
-pub follow-requires-clause-counts : goal.follow-requires-clause-counts
-follow-requires-clause-counts g c =
+pub apply-requires-clause-counts : goal.apply-requires-clause-counts
+apply-requires-clause-counts g c =
     countable _ _ c.args.cursor.now c.requires.can.stands c.args.loaded.now.few
 
-pub follow-requires-clause-steps : goal.follow-requires-clause-steps
-follow-requires-clause-steps g c = λ n e.
+pub apply-requires-clause-steps : goal.apply-requires-clause-steps
+apply-requires-clause-steps g c = λ n e.
     let here = first_left _ _ _ _ _ _ (first_of _ _ c.in-Some.ensures) c.requires.can.left.1 in
     let k = kept_steps _ _ _ (record_of c.in-Some.here)
     c.requires.can.stands here (g.T.Trail.kept c.args.trail.now)
@@ -38,7 +38,7 @@ returns-in-Entry-clause-goes g c =
     (g.met.T.Trail.as_long c.args.trail.now _ (c.requires.keeps _ here)) in
     goes_to_entry _ _ _ (record_of c.in-Some.here)
     c.requires.can.stands here _ _ c.requires.can.covers (g.T.Trail.kept c.args.trail.now) c.follow-followed.result c.follow-followed.new.s
-    c.follow.new.self c.args.meter.now c.follow-followed.new.meter c.args.left.now _ k c.in-Entry.ensures.moved
+    c.apply.new.self c.args.meter.now c.follow-followed.new.meter c.args.left.now _ k c.in-Entry.ensures.moved
     c.in-Entry.ensures.cursor c.follow-followed.ensures.follows
     (omega (arith, c.follow-followed.ensures.turns, k, c.if-cursor-eq0.false)) is
 
@@ -50,7 +50,7 @@ returns-in-Entry-clause-keeps g c = λ _.
     (g.met.T.Trail.as_long c.args.trail.now _ (c.requires.keeps _ here)) in
     keeps_followed (λ xs. g.T.Trail.stands_for c.follow-followed.new.self xs) (machine_in c.args.loaded.now) (records_in c.args.loaded.now)
     c.args.cursor.now (record_of c.in-Some.here) here c.follow-followed.result c.follow-followed.new.s moved.Entry
-    c.follow.new.self c.in-Entry.ensures.cursor c.in-Entry.ensures.moved
+    c.apply.new.self c.in-Entry.ensures.cursor c.in-Entry.ensures.moved
     (λ n e. rw k at (c.follow-followed.ensures.stands n e)) refl
 
 pub returns-clause-goes : goal.returns-clause-goes
@@ -61,6 +61,6 @@ returns-clause-goes g c =
     (g.met.T.Trail.as_long c.args.trail.now _ (c.requires.keeps _ here)) in
     goes_out _ _ _ (record_of c.in-Some.here)
     c.requires.can.stands here _ _ c.requires.can.covers (g.T.Trail.kept c.args.trail.now) c.follow-followed.result c.follow-followed.new.s
-    c.follow.new.self c.args.meter.now c.follow-followed.new.meter c.args.left.now _ k
-    c.in_default-follow.ensures.moved c.in_default-follow.ensures.cursor c.follow-followed.ensures.follows
+    c.apply.new.self c.args.meter.now c.follow-followed.new.meter c.args.left.now _ k
+    c.in_default-apply.ensures.moved c.in_default-apply.ensures.cursor c.follow-followed.ensures.follows
     (omega (arith, c.follow-followed.ensures.turns, k, c.if-cursor-eq0.false)) c.pass.ensures
