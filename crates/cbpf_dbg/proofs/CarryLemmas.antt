@@ -4,6 +4,7 @@ use Rattle.std.specs.Prelude.{Option, Some, None, is_some, nat_eq, ◌⊎◌, �
 use Rattle.std.specs.Map.{lookup}
 use Rattle.std.proofs.lemmas.Bool.Decides.{nat_tests}
 use Rattle.cbpf_code.specs.declared.insn.Insn.{Insn}
+use Rattle.cbpf_code.specs.Sound.{IsSound}
 use Rattle.cbpf_machine.specs.Values.{Values}
 use Rattle.cbpf_machine.specs.Follow.{Watching, HasRoom, is_met}
 use Rattle.cbpf_machine.specs.Registers.{Registers}
@@ -77,11 +78,14 @@ module _ (needs_no_value : Bool) (old : Watching) (program : Option (List Insn))
   pub known-at : (new : Watching) (after : Breakpoints)
       → (Watches old (machine_of list values) before → Watches new (machine_of list values) after)
       → KeepsRoom after new.room → IsKnown needs_no_value new program values after
-  known-at new after step room = rw e (held.0, step held.1, room)
+  known-at new after step room = rw e (held.0, step held.1, room, held.3)
 
   -- the room that is known to be there
   pub known-room : KeepsRoom before old.room
   known-room = held.2
+
+  pub known-sound : IsSound list
+  known-sound = held.3
 
   -- more room
   pub known-more : (new : Watching) → new.watches ≡ old.watches → old.room ≤ new.room
@@ -90,6 +94,7 @@ module _ (needs_no_value : Bool) (old : Watching) (program : Option (List Insn))
     held.0,
     λ bytes wire s inside. rw same (held.1 bytes wire s inside),
     room-more before old.room new.room more held.2,
+    held.3,
   )
 
 -- room for all where one breakpoint changes

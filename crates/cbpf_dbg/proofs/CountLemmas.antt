@@ -5,7 +5,7 @@ use Rattle.std.proofs.lemmas.List.Sums.{sum_by-append, count_by-le-length}
 use Rattle.std.proofs.Math.ListN.{length-map}
 use Rattle.std.proofs.lemmas.List.{map-append}
 use Rattle.cbpf_reply.specs.declared.reply.Counts.{Counts}
-use Rattle.std.specs.Prelude.{Some, slice_get, map, count_by}
+use Rattle.std.specs.Prelude.{Some, slice_get, count_by}
 use Rattle.cbpf_machine.specs.Machine.{Machine}
 use Rattle.cbpf_machine.specs.declared.outcome.Outcome.{Outcome}
 use Rattle.cbpf_machine.specs.declared.outcome.Outcome.TheVariants as outcome_is

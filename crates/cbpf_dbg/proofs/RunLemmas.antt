@@ -1,7 +1,7 @@
 -- What a run answers where it ends.
 use Rattle.std.proofs.Common.{◌≡◌, ℕ, suc, ◌+◌, ◌-◌, ◌<◌, ◌≤◌, List, [], ◌∷◌, ◌++◌, length, Bool, true, false}
-use Rattle.std.proofs.Common.{arith, sym, ap, ◌∙◌, refl, inl, inr, cond}
-use Rattle.std.specs.Prelude.{Option, Some, None, slice_get, filter, nat_lt, nat_le}
+use Rattle.std.proofs.Common.{arith, sym, ap, ◌∙◌, refl, inl, inr}
+use Rattle.std.specs.Prelude.{Option, Some, None, slice_get, nat_lt, nat_le}
 use Rattle.std.proofs.lemmas.Bool.Decides.{nat_tests}
 use Rattle.std.proofs.lemmas.List.Elements.{All-head, filter_passes}
 use Rattle.cbpf_machine.specs.Machine.{Machine}

@@ -5,6 +5,7 @@ use Rattle.std.specs.Prelude.{slice_get, nat_eq, ◌||◌}
 use Rattle.std.specs.Map.{lookup}
 use Rattle.cbpf_machine.specs.declared.watched.When.{When}
 use Rattle.cbpf_code.specs.declared.insn.Insn.{Insn}
+use Rattle.cbpf_code.specs.Sound.{IsSound}
 use Rattle.cbpf_machine.specs.Registers.{Registers}
 use Rattle.cbpf_machine.specs.Values.{Values}
 use Rattle.cbpf_machine.specs.Machine.{Machine, machine_of}
@@ -73,5 +74,5 @@ IsSameBut i before after = (s : Registers) → (s.pc ≡ i → ⊥) → carries 
 abbrev pub IsKnown : Bool → Watching → Option (List Insn) → Values → Breakpoints → Type 0
 IsKnown needs_no_value watched (Some list) values breakpoints =
     (needs_no_value ≡ true → NeedsNoValue (machine_of list values))
-    × Watches watched (machine_of list values) breakpoints × KeepsRoom breakpoints watched.room
+    × Watches watched (machine_of list values) breakpoints × KeepsRoom breakpoints watched.room × IsSound list
 IsKnown needs_no_value watched None values breakpoints = Unit {0}

@@ -66,7 +66,6 @@ impl<T: Trail, A: Allocator> Session<T, A> {
             return Err(SessionFault::NoCapture);
         };
         let _few = capture.count();
-        let _sound = program.len();
         if let Some(0) = limit {
             return Err(SessionFault::ZeroCount);
         }
@@ -107,7 +106,6 @@ impl<T: Trail, A: Allocator> Session<T, A> {
             return Err(SessionFault::NoCapture);
         };
         let count = capture.count();
-        let _sound = program.len();
         if count == 0 {
             return Err(SessionFault::NoPackets);
         }
@@ -156,7 +154,6 @@ impl<T: Trail, A: Allocator> Session<T, A> {
             return Err(SessionFault::NoCapture);
         };
         let packets = capture.count();
-        let _sound = program.len();
         if packets == 0 {
             return Err(SessionFault::NoPackets);
         }
@@ -191,9 +188,9 @@ impl<T: Trail, A: Allocator> Session<T, A> {
         ensures reply { result ≡ spec.reply_of (spec.select self.old n) }
         ensures after { self.new ≡ spec.view_after self.old (spec.select self.old n) }
     {
-        let Some(program) = &self.program else {
+        if self.program.is_none() {
             return Err(SessionFault::NoProgram);
-        };
+        }
         let Some(capture) = &self.capture else {
             return Err(SessionFault::NoCapture);
         };
@@ -204,7 +201,6 @@ impl<T: Trail, A: Allocator> Session<T, A> {
         if n == 0 || n > count {
             return Err(SessionFault::NoPacket);
         }
-        let _sound = program.len();
         self.cursor = Cursor::before(n);
         self.trail.clear();
         Ok(())
@@ -228,7 +224,6 @@ impl<T: Trail, A: Allocator> Session<T, A> {
             return Err(SessionFault::NoCapture);
         };
         let _few = capture.count();
-        let _sound = program.len();
         Ok(Stops {
             loaded: Loaded {
                 program,

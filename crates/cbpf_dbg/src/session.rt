@@ -154,9 +154,6 @@ impl<T: Trail, A: Allocator> Session<T, A> {
     pub fn load_capture(&mut self, c: Capture<A>)
         ensures { self.new ≡ spec.with_capture_loaded self.old c }
     {
-        if let Some(p) = &self.program {
-            let _sound = p.len();
-        }
         self.capture = Some(c);
         self.cursor = Cursor::start();
         self.trail.clear();
@@ -238,7 +235,6 @@ impl<T: Trail, A: Allocator> Session<T, A> {
             return Err(SessionFault::NoValue);
         }
         if let Some(program) = &self.program {
-            let _sound = program.len();
             self.needs_no_value = needs_no_value(program, &self.values);
             watch(&mut self.watched, program, &self.values, &self.breakpoints);
         }

@@ -1,12 +1,13 @@
 use Rattle.cbpf_dbg.specs.Commands.{run, stops}
 use Rattle.std.proofs.Common.{refl, rules}
+use Rattle.cbpf_dbg.proofs.CarryLemmas.{known-sound}
 use Rattle.cbpf_dbg.proofs.ShownStops.{shows-run}
 use Rattle.cbpf_dbg.proofs.session.Session.run.Goals as goal
 
 pub returns-clause-shown : goal.returns-clause-shown
 returns-clause-shown g c =
     shows-run _ _ _ (record { program = c.in-Some.is; values = refl; capture = c.in-Some-capture.is }) _
-    c.len-sound.ensures.sound _ _ _ _ c.run-reply.ensures.runs
+    (known-sound _ _ _ _ _ _ c.in-Some.is c.self.invariant.1) _ _ _ _ c.run-reply.ensures.runs
 
 pub returns-clause-reply : goal.returns-clause-reply
 unfolding run stops

@@ -5,6 +5,7 @@ use Rattle.std.proofs.Common.{arith, refl, rules, Some}
 use Rattle.cbpf_dbg.specs.Session.{Fits}
 use Rattle.cbpf_dbg.proofs.LeftLemmas.{all_left}
 use Rattle.cbpf_dbg.proofs.TurnLemmas.{few_hits, owed_bound}
+use Rattle.cbpf_dbg.proofs.CarryLemmas.{known-sound}
 use Rattle.cbpf_dbg.proofs.ShownStops.{shows-rest}
 use Rattle.cbpf_dbg.proofs.session.Session.stops.Goals as goal
 
@@ -16,11 +17,11 @@ returns-clause-shown g c =
       values = rw (← c.self.view_is) refl;
       capture = rw (← c.self.view_is) c.in-Some-capture.is;
     } in
-    shows-rest _ _ _ holds _ c.len-sound.ensures.sound _
+    shows-rest _ _ _ holds _ (known-sound _ _ _ _ _ _ c.in-Some.is c.self.invariant.1) _
 
 pub returns-clause-few : goal.returns-clause-few
 returns-clause-few g c =
-    few_hits _ _ _ _ c.len-sound.ensures.sound (omega (arith, c.count-few.ensures.value, c.count-few.ensures.bounded))
+    few_hits _ _ _ _ (known-sound _ _ _ _ _ _ c.in-Some.is c.self.invariant.1) (omega (arith, c.count-few.ensures.value, c.count-few.ensures.bounded))
 
 pub returns-clause-hits : goal.returns-clause-hits
 unfolding stops
@@ -33,7 +34,7 @@ invariant_of-result-2 g c =
     let fits : Fits (λ xs. g.T.Trail.stands_for c.self.inside.trail xs) (Some c.in-Some.program) c.self.inside.values
     (Some c.in-Some-capture.capture) c.self.inside.cursor =
     rw (c.in-Some.is, c.in-Some-capture.is) at c.self.invariant.0 in
-    let few = owed_bound machine records c.self.inside.cursor.place c.len-sound.ensures.sound
+    let few = owed_bound machine records c.self.inside.cursor.place (known-sound _ _ _ _ _ _ c.in-Some.is c.self.invariant.1)
     (omega (arith, c.count-few.ensures.value, c.count-few.ensures.bounded)) in (
       fits.0,
       all_left _ _ _ _ fits.0 (rw c.count.ensures.value at c.records.ensures),
