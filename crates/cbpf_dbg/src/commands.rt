@@ -17,6 +17,28 @@ use cbpf_machine::{Meter, Trail};
 use cbpf_reply::{Place, RunReply, SessionFault};
 use std::alloc::Allocator;
 
+/// What a command of a session works on. Without a program or a capture it refuses the command.
+// A macro, as a call would borrow all of the session.
+macro_rules! loaded_in {
+    ($session:expr) => {{
+        let Some(program) = &$session.program else {
+            return Err(SessionFault::NoProgram);
+        };
+        let Some(capture) = &$session.capture else {
+            return Err(SessionFault::NoCapture);
+        };
+        let _few = capture.count();
+        Loaded {
+            program,
+            values: &$session.values,
+            capture,
+            breakpoints: &$session.breakpoints,
+            watched: &$session.watched,
+            cannot_stop: $session.needs_no_value && $session.breakpoints.is_empty(),
+        }
+    }};
+}
+
 impl<T: Trail, A: Allocator> Session<T, A> {
     /// The place, for a later [`Session::resume`] with the same program, capture and values.
     ///
@@ -59,24 +81,10 @@ impl<T: Trail, A: Allocator> Session<T, A> {
         // A stop is one that `write_stop` takes.
         ensures shown { IfOk result (λ reply. Shows self.new reply) }
     {
-        let Some(program) = &self.program else {
-            return Err(SessionFault::NoProgram);
-        };
-        let Some(capture) = &self.capture else {
-            return Err(SessionFault::NoCapture);
-        };
-        let _few = capture.count();
+        let loaded = loaded_in!(self);
         if let Some(0) = limit {
             return Err(SessionFault::ZeroCount);
         }
-        let loaded = Loaded {
-            program,
-            values: &self.values,
-            capture,
-            breakpoints: &self.breakpoints,
-            watched: &self.watched,
-            cannot_stop: self.needs_no_value && self.breakpoints.is_empty(),
-        };
         let reply = run(meter, &loaded, &mut self.cursor, &mut self.trail, limit);
         Ok(reply)
     }
@@ -99,27 +107,14 @@ impl<T: Trail, A: Allocator> Session<T, A> {
         ensures turns { meter.new ≤ meter.old + 2 * place.step }
         ensures refused { IfErr result (λ e. spec.Spends e meter.old meter.new) }
     {
-        let Some(program) = &self.program else {
-            return Err(SessionFault::NoProgram);
-        };
-        let Some(capture) = &self.capture else {
-            return Err(SessionFault::NoCapture);
-        };
-        let count = capture.count();
+        let loaded = loaded_in!(self);
+        let count = loaded.capture.count();
         if count == 0 {
             return Err(SessionFault::NoPackets);
         }
         if place.packet == 0 || place.packet > count {
             return Err(SessionFault::NoPacket);
         }
-        let loaded = Loaded {
-            program,
-            values: &self.values,
-            capture,
-            breakpoints: &self.breakpoints,
-            watched: &self.watched,
-            cannot_stop: self.needs_no_value && self.breakpoints.is_empty(),
-        };
         resume_at(meter, &loaded, &mut self.cursor, &mut self.trail, place).map_err(
             SessionFault::NoStep,
         )
@@ -147,27 +142,14 @@ impl<T: Trail, A: Allocator> Session<T, A> {
         ensures refused { OnErr result (meter.new ≡ meter.old) }
         ensures shown { IfOk result (λ reply. Shows self.new reply) }
     {
-        let Some(program) = &self.program else {
-            return Err(SessionFault::NoProgram);
-        };
-        let Some(capture) = &self.capture else {
-            return Err(SessionFault::NoCapture);
-        };
-        let packets = capture.count();
+        let loaded = loaded_in!(self);
+        let packets = loaded.capture.count();
         if packets == 0 {
             return Err(SessionFault::NoPackets);
         }
         if n == 0 {
             return Err(SessionFault::ZeroCount);
         }
-        let loaded = Loaded {
-            program,
-            values: &self.values,
-            capture,
-            breakpoints: &self.breakpoints,
-            watched: &self.watched,
-            cannot_stop: self.needs_no_value && self.breakpoints.is_empty(),
-        };
         let entries = n.unsigned_abs();
         if n > 0 {
             return Ok(step_on(meter, &loaded, &mut self.cursor, &mut self.trail, entries));
@@ -188,13 +170,8 @@ impl<T: Trail, A: Allocator> Session<T, A> {
         ensures reply { result ≡ spec.reply_of (spec.select self.old n) }
         ensures after { self.new ≡ spec.view_after self.old (spec.select self.old n) }
     {
-        if self.program.is_none() {
-            return Err(SessionFault::NoProgram);
-        }
-        let Some(capture) = &self.capture else {
-            return Err(SessionFault::NoCapture);
-        };
-        let count = capture.count();
+        let loaded = loaded_in!(self);
+        let count = loaded.capture.count();
         if count == 0 {
             return Err(SessionFault::NoPackets);
         }
@@ -217,24 +194,13 @@ impl<T: Trail, A: Allocator> Session<T, A> {
         ensures shown { IfOk result (λ hits. All (CanShow self.now) hits) }
         ensures few { IfOk result (λ hits. length hits < 2 ^ 128) }
     {
-        let Some(program) = &self.program else {
-            return Err(SessionFault::NoProgram);
-        };
-        let Some(capture) = &self.capture else {
-            return Err(SessionFault::NoCapture);
-        };
-        let _few = capture.count();
+        let loaded = loaded_in!(self);
+        let end = loaded.capture.count() + 1;
+        let left = loaded.capture.records(self.cursor.place.packet, end);
         Ok(Stops {
-            loaded: Loaded {
-                program,
-                values: &self.values,
-                capture,
-                breakpoints: &self.breakpoints,
-                watched: &self.watched,
-                cannot_stop: self.needs_no_value && self.breakpoints.is_empty(),
-            },
+            loaded,
             cursor: self.cursor,
-            left: capture.records(self.cursor.place.packet, capture.count() + 1),
+            left,
             meter: Meter::new(),
         })
     }

@@ -27,8 +27,8 @@ pub returns-clause-hits : goal.returns-clause-hits
 unfolding stops
 returns-clause-hits g c = search rules
 
-pub invariant_of-result-2 : goal.invariant_of-result-2
-invariant_of-result-2 g c =
+pub invariant_of-result : goal.invariant_of-result
+invariant_of-result g c =
     let machine = machine_of c.in-Some.program c.self.inside.values in
     let records = c.in-Some-capture.capture.records in
     let fits : Fits (λ xs. g.T.Trail.stands_for c.self.inside.trail xs) (Some c.in-Some.program) c.self.inside.values
@@ -37,6 +37,6 @@ invariant_of-result-2 g c =
     let few = owed_bound machine records c.self.inside.cursor.place (known-sound _ _ _ _ _ _ c.in-Some.is c.self.invariant.1)
     (omega (arith, c.count-few.ensures.value, c.count-few.ensures.bounded)) in (
       fits.0,
-      all_left _ _ _ _ fits.0 (rw c.count.ensures.value at c.records.ensures),
+      all_left _ _ _ _ fits.0 (rw c.count-end.ensures.value at c.records-left.ensures),
       omega (arith, few, c.new.ensures),
     )
