@@ -15,11 +15,13 @@ use Rattle.cbpf_machine.proofs.TraceLemmas.{goes_from_entry, length-trace_from}
 use Rattle.cbpf_machine.proofs.SoundLemmas.{sound_few, sound_some}
 use Rattle.pcap_classic.specs.Records.{Record}
 use Rattle.cbpf_dbg.specs.declared.cursor.Cursor.{Cursor}
+use Rattle.cbpf_dbg.specs.declared.loaded.Loaded.{Loaded}
+use Rattle.cbpf_dbg.specs.Loaded.{machine_in, records_in, breakpoints_in}
 use Rattle.cbpf_dbg.specs.declared.cursor.Moved.TheVariants as moved
 use Rattle.cbpf_dbg.specs.Breakpoints.{Breakpoints}
 use Rattle.cbpf_dbg.specs.Joined.{ahead, rest, entries_from, joined_from}
 use Rattle.cbpf_dbg.specs.Session.{hits}
-use Rattle.cbpf_dbg.specs.Cursor.{Stands, followed, moved_by, owed, passed}
+use Rattle.cbpf_dbg.specs.Cursor.{AreLeft, Stands, followed, moved_by, owed, passed}
 use Rattle.cbpf_dbg.specs.Going.{Covers, GoesOn}
 use Rattle.cbpf_dbg.proofs.JoinedLemmas.{place_at, entry, ahead-in, ahead-entry, ahead-leave, rest-same, rest-pass}
 use Rattle.cbpf_dbg.proofs.LeftLemmas.{left_here, left_past}
@@ -148,52 +150,6 @@ module _ (machine : Machine) (capture : List Record) (w : Cursor) (r : Record) (
         rw (step, e) at follows in
         omega (arith, slice_get_within xs (w.place.step + n - 1) s on.2, steps_few)
 
-    -- where the packet was followed from its k-th entry on
-    pub goes_to_entry : (k : ℕ) (f : Followed) (s : Registers) (v : Cursor) (before after : ℕ)
-        (left : List Record) (others : List Record) → k ≡ w.place.step → moved.Entry ≡ moved_by f
-        → v ≡ followed (record w { state = s }) f → Follows pauses xs (outcome machine r.bytes r.wire) k w.state s f
-        → after + 1 ≡ before + turns_to xs k f + min k 1 → left ≡ r ∷ others
-        → GoesOn machine capture breakpoints pauses w v left left before after true
-    goes_to_entry k (Ended o) s v before after left others step moves e f turns is = absurd cc
-    goes_to_entry k (Watched n) s v before after left others step moves e f turns is =
-        let on : Follows pauses xs (outcome machine r.bytes r.wire) w.place.step w.state s (Watched n) = rw step at f in
-        rw e (record {
-          passes = record {
-            stands = stands_at machine capture w r h at (w.place.step + n) s on.2;
-            origin = refl;
-            order = inr (refl, omega arith);
-            hits = on_hits n s on;
-            spent = omega (arith, on_owed n s on, turns, step);
-          };
-          left = λ end there. left_here capture w.place end left r others is there (moved_on w n s).place refl;
-          entry = λ _. (omega (arith, on.0), on.3);
-          out = λ (z : true ≡ false). absurd cc;
-        })
-
-    pub goes_out : (k : ℕ) (f : Followed) (s : Registers) (v : Cursor) (before after : ℕ)
-        (left : List Record) (others : List Record) → k ≡ w.place.step → moved.Packet ≡ moved_by f
-        → v ≡ followed (record w { state = s }) f → Follows pauses xs (outcome machine r.bytes r.wire) k w.state s f
-        → after + 1 ≡ before + turns_to xs k f + min k 1 → left ≡ r ∷ others
-        → GoesOn machine capture breakpoints pauses w v left others before after false
-    goes_out k (Watched n) s v before after left others step moves e f turns is = absurd cc
-    goes_out k (Ended o) s v before after left others step moves e f turns is =
-        let on : Follows pauses xs (outcome machine r.bytes r.wire) w.place.step w.state s (Ended o) = rw step at f in
-        let leave = ahead-leave machine capture w.place.packet (length xs) r from_one at (omega arith) in
-        let same : passed w (outcome machine r.bytes r.wire) ≡ passed (record w { state = s }) o =
-        rw (on.1, on.2) refl in
-        rw e (record {
-          passes = record {
-            stands = subst (λ u. Stands machine capture u) same (stands-passed machine capture w r h at);
-            origin = refl;
-            order = inl (omega arith);
-            hits = end_hits on.0;
-            spent = omega (arith, ahead_long w.place.step step_within, ap length leave, turns, step, step_within);
-          };
-          left = λ end there. left_past capture w.place end left r others is there from_one;
-          entry = λ (z : false ≡ true). absurd cc;
-          out = λ _. refl;
-        })
-
     -- where it pauses first
     pub first_pause : (f : Followed) (s : Registers) (v : Cursor) → w.place.step ≡ 0 → moved.Entry ≡ moved_by f
         → v ≡ followed (record w { state = s }) f → Follows pauses xs (outcome machine r.bytes r.wire) 0 w.state s f
@@ -207,3 +163,57 @@ module _ (machine : Machine) (capture : List Record) (w : Cursor) (r : Record) (
         subst (λ (u : Cursor). Unpaused pauses (trace machine q.bytes q.wire) 0 (u.place.step - 1)) (sym e)
         (subst (λ j. Unpaused pauses (trace machine q.bytes q.wire) 0 (j + n - 1)) (sym step)
         (subst (λ (x : Record). Unpaused pauses (trace machine x.bytes x.wire) 0 (0 + n - 1)) same f.1))
+
+module _ {A : Type 0} (l : Loaded A) (w : Cursor) (r : Record) (h : Stands (machine_in l) (records_in l) w)
+    (at : slice_get (records_in l) (w.place.packet - 1) ≡ Some r) (pauses : Registers → Bool)
+    (covers : Covers pauses (machine_in l) (breakpoints_in l)) where
+  abbrev entries : List Registers
+  entries = trace (machine_in l) r.bytes r.wire
+
+  -- where the packet was followed from its k-th entry on
+  pub goes_to_entry : (k : ℕ) (f : Followed) (s : Registers) (v : Cursor) (before after : ℕ)
+      (left others : List Record) (end : ℕ) → AreLeft (records_in l) w.place end left → k ≡ w.place.step → moved.Entry ≡ moved_by f
+      → v ≡ followed (record w { state = s }) f → Follows pauses entries (outcome (machine_in l) r.bytes r.wire) k w.state s f
+      → after + 1 ≡ before + turns_to entries k f + min k 1 → left ≡ r ∷ others
+      → GoesOn l pauses (record { cursor = w; left = left; end = end }) (record { cursor = v; left = left; end = end }) before after true
+  goes_to_entry k (Ended o) s v before after left others end there step moves e f turns is = absurd cc
+  goes_to_entry k (Watched n) s v before after left others end there step moves e f turns is =
+      let on : Follows pauses entries (outcome (machine_in l) r.bytes r.wire) w.place.step w.state s (Watched n) = rw step at f in
+      rw e (record {
+        passes = record {
+          stands = stands_at _ _ w r h at (w.place.step + n) s on.2;
+          origin = refl;
+          order = inr (refl, omega arith);
+          hits = on_hits _ _ w r h at _ pauses covers n s on;
+          spent = omega (arith, on_owed _ _ w r h at (breakpoints_in l) pauses covers n s on, turns, step);
+        };
+        left = left_here (records_in l) w.place end left r others is there (moved_on w n s).place refl;
+        same = refl;
+        entry = λ _. (omega (arith, on.0), on.3);
+        out = λ (z : true ≡ false). absurd cc;
+      })
+
+  pub goes_out : (k : ℕ) (f : Followed) (s : Registers) (v : Cursor) (before after : ℕ)
+      (left others : List Record) (end : ℕ) → AreLeft (records_in l) w.place end left → k ≡ w.place.step → moved.Packet ≡ moved_by f
+      → v ≡ followed (record w { state = s }) f → Follows pauses entries (outcome (machine_in l) r.bytes r.wire) k w.state s f
+      → after + 1 ≡ before + turns_to entries k f + min k 1 → left ≡ r ∷ others
+      → GoesOn l pauses (record { cursor = w; left = left; end = end }) (record { cursor = v; left = others; end = end }) before after false
+  goes_out k (Watched n) s v before after left others end there step moves e f turns is = absurd cc
+  goes_out k (Ended o) s v before after left others end there step moves e f turns is =
+      let on : Follows pauses entries (outcome (machine_in l) r.bytes r.wire) w.place.step w.state s (Ended o) = rw step at f in
+      let leave = ahead-leave (machine_in l) (records_in l) w.place.packet (length entries) r (from_one _ _ w r h at) at (omega arith) in
+      let same : passed w (outcome (machine_in l) r.bytes r.wire) ≡ passed (record w { state = s }) o =
+      rw (on.1, on.2) refl in
+      rw e (record {
+        passes = record {
+          stands = subst (λ u. Stands (machine_in l) (records_in l) u) same (stands-passed _ _ w r h at);
+          origin = refl;
+          order = inl (omega arith);
+          hits = end_hits _ _ w r h at _ pauses covers on.0;
+          spent = omega (arith, ahead_long _ _ w r h at w.place.step (step_within _ _ w r h at), ap length leave, turns, step, (step_within _ _ w r h at));
+        };
+        left = left_past (records_in l) w.place end left r others is there (from_one _ _ w r h at);
+        same = refl;
+        entry = λ (z : false ≡ true). absurd cc;
+        out = λ _. refl;
+      })

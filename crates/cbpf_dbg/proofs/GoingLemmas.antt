@@ -4,7 +4,7 @@ use Rattle.std.proofs.Common.{Bool, true, false, subst, inl}
 use Rattle.std.specs.Prelude.{Some, slice_get, nat_le, ◌||◌}
 use Rattle.std.proofs.lemmas.Bool.Decides.{nat_tests}
 use Rattle.std.proofs.lemmas.Option.{slice_get_cases, slice_get_within}
-use Rattle.cbpf_machine.specs.Follow.{Unpaused, Watching, is_watched}
+use Rattle.cbpf_machine.specs.Follow.{Unpaused, is_watched}
 use Rattle.cbpf_machine.specs.Machine.{Machine}
 use Rattle.cbpf_machine.specs.Registers.{Registers}
 use Rattle.cbpf_machine.specs.Trace.{IsRun, trace}
@@ -13,9 +13,12 @@ use Rattle.pcap_classic.specs.Records.{Record}
 use Rattle.cbpf_reply.specs.declared.reply.Place.{Place}
 use Rattle.cbpf_reply.specs.declared.reply.Why.TheVariants as why
 use Rattle.cbpf_dbg.specs.declared.cursor.Cursor.{Cursor}
+use Rattle.cbpf_dbg.specs.declared.cursor.Walk.{Walk}
+use Rattle.cbpf_dbg.specs.declared.loaded.Loaded.{Loaded}
+use Rattle.cbpf_dbg.specs.Loaded.{machine_in, records_in, breakpoints_in}
 use Rattle.cbpf_dbg.specs.Breakpoints.{Breakpoints}
 use Rattle.cbpf_dbg.specs.Joined.{ahead, rest, stop_at}
-use Rattle.cbpf_dbg.specs.Session.{Watches, hits}
+use Rattle.cbpf_dbg.specs.Session.{hits}
 use Rattle.cbpf_dbg.specs.Cursor.{Stands, Passes, before, entry_here}
 use Rattle.cbpf_dbg.specs.Going.{GoesOn}
 use Rattle.cbpf_dbg.proofs.CursorLemmas.{goes, entry_at_place}
@@ -37,24 +40,6 @@ module _ (machine : Machine) (capture : List Record) (breakpoints : Breakpoints)
         order = not_before_after old.place mid.place new.place h.order then_.order;
         hits = h.hits ∙ then_.hits;
         spent = then_.spent ∙ h.spent;
-      }
-
-  pub goes_passed : (pauses : Registers → Bool) (old new : Cursor) (from left : List Record) (m n : ℕ)
-      → GoesOn machine capture breakpoints pauses old new from left m n false
-      → Passes machine capture breakpoints old new new.place m n
-  goes_passed pauses old new from left m n h =
-      subst (λ to. Passes machine capture breakpoints old new to m n) (before_none new.place (h.out refl)) h.passes
-
-  pub goes_more : (p q : Registers → Bool) (old mid new : Cursor) (from between left : List Record) (m n k : ℕ)
-      (paused : Bool) → GoesOn machine capture breakpoints p old mid from between m n false
-      → GoesOn machine capture breakpoints q mid new between left n k paused
-      → GoesOn machine capture breakpoints q old new from left m k paused
-  goes_more p q old mid new from between left m n k paused h then_ =
-      record {
-        passes = passes_more old mid new (before new.place) m n k (goes_passed p old mid from between m n h) then_.passes;
-        left = λ end there. then_.left end (h.left end there);
-        entry = then_.entry;
-        out = then_.out;
       }
 
   -- the entry of a place is the first one from it on
@@ -92,20 +77,38 @@ module _ (machine : Machine) (capture : List Record) (breakpoints : Breakpoints)
         spent = h.spent;
       }
 
-  -- where a run pauses at the hits alone, it paused at the first one
-  pub at_hit : (watched : Watching) (old new : Cursor) (from left : List Record) (m n : ℕ)
-      → Watches watched machine breakpoints
-      → GoesOn machine capture breakpoints (is_watched watched) old new from left m n true
-      → (r : Record) × (new.state.pc < length machine.list) × (rest machine capture breakpoints old.place
-      ≡ stop_at why.Break (entry_here machine r new) ∷ rest machine capture breakpoints new.place)
-  at_hit watched old new from left m n watches h =
+module _ {A : Type 0} (l : Loaded A) where
+  pub goes_passed : (pauses : Registers → Bool) (old new : Walk) (m n : ℕ) → GoesOn l pauses old new m n false
+      → Passes (machine_in l) (records_in l) (breakpoints_in l) old.cursor new.cursor new.cursor.place m n
+  goes_passed pauses old new m n h =
+      subst (λ to. Passes (machine_in l) (records_in l) (breakpoints_in l) old.cursor new.cursor to m n)
+      (before_none new.cursor.place (h.out refl)) h.passes
+
+  pub goes_more : (p q : Registers → Bool) (old mid new : Walk) (m n k : ℕ) (paused : Bool)
+      → GoesOn l p old mid m n false → GoesOn l q mid new n k paused → GoesOn l q old new m k paused
+  goes_more p q old mid new m n k paused h then_ =
+      record {
+        passes = passes_more _ _ _ _ _ _ _ _ _ _ (goes_passed p old mid m n h) then_.passes;
+        left = then_.left;
+        same = then_.same ∙ h.same;
+        entry = then_.entry;
+        out = then_.out;
+      }
+
+  -- where a run pauses at a hit, it is the first one
+  pub at_hit : (pauses : Registers → Bool) (old new : Walk) (m n : ℕ) → GoesOn l pauses old new m n true
+      → is_watched l.watched.now new.cursor.state ≡ true → (r : Record) × (new.cursor.state.pc < length l.program.now)
+      × (rest (machine_in l) (records_in l) (breakpoints_in l) old.cursor.place
+      ≡ stop_at why.Break (entry_here (machine_in l) r new.cursor)
+      ∷ rest (machine_in l) (records_in l) (breakpoints_in l) new.cursor.place)
+  at_hit pauses old new m n h hit =
       let here = h.entry refl in
       let at = h.passes.stands.at here.0 in
-      let inside = (goes machine capture new at.0 h.passes.stands at.1 here.0).inside in (
+      let inside = (goes _ _ new.cursor at.0 h.passes.stands at.1 here.0).inside in (
         at.0,
         inside,
-        h.passes.hits ∙ hits_hit new at.0 h.passes.stands here.0 at.1
-            (sym (watches at.0.bytes at.0.wire new.state inside) ∙ here.1),
+        h.passes.hits ∙ hits_hit _ _ _ new.cursor at.0 h.passes.stands here.0 at.1
+            (sym (l.watches at.0.bytes at.0.wire new.cursor.state inside) ∙ hit),
       )
 
 -- a run of which no instruction before its last has a number of at least n has few entries

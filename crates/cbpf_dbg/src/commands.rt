@@ -6,7 +6,7 @@ ghost use Rattle.cbpf_dbg.specs.Shown.{CanShow, Shows};
 ghost use Rattle.cbpf_machine.specs.Trail.{most_turns_back};
 ghost use Rattle.std.specs.List.{All};
 
-use crate::cursor::Cursor;
+use crate::cursor::{Cursor, Walk};
 use crate::loaded::Loaded;
 use crate::resume::resume_at;
 use crate::run::run;
@@ -199,8 +199,11 @@ impl<T: Trail, A: Allocator> Session<T, A> {
         let left = loaded.capture.records(self.cursor.place.packet, end);
         Ok(Stops {
             loaded,
-            cursor: self.cursor,
-            left,
+            walk: Walk {
+                cursor: self.cursor,
+                left,
+                end,
+            },
             meter: Meter::new(),
         })
     }

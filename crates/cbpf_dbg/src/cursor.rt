@@ -15,7 +15,7 @@ ghost use Rattle.cbpf_dbg.specs.Cursor.{Countable, moved_by};
 use crate::loaded::Loaded;
 use cbpf_machine::{Followed, Meter, Outcome, Packet, State, turn_in_place};
 use cbpf_reply::{Counts, Place};
-use pcap_classic::Captured;
+use pcap_classic::{Captured, Records};
 use std::alloc::Allocator;
 
 /// A place with its state, and the outcomes of the packets from the origin up to the place's.
@@ -27,6 +27,14 @@ pub(crate) struct Cursor {
     /// The entry at the place; of no meaning at step 0.
     pub(crate) state: State,
     pub(crate) counts: Counts,
+}
+
+/// A cursor with the records of its place's packet and the later ones, before the packet `end`.
+#[derive(Drop)]
+pub(crate) struct Walk<'a> {
+    pub(crate) cursor: Cursor,
+    pub(crate) left: Records<'a>,
+    pub(crate) end: u64,
 }
 
 /// Where a move led.

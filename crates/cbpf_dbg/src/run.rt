@@ -1,7 +1,6 @@
 //! Runs to the next hit.
 
-ghost use Rattle.std.specs.Prelude.{◌≡◌, ◌≢◌, ◌+◌, ◌-◌, ◌*◌, ◌<◌, ◌≤◌, ◌^◌, [], Some, true, false, slice_get};
-ghost use Rattle.cbpf_code.specs.declared.checker.TheConstants.{MAX_INSTRUCTIONS};
+ghost use Rattle.std.specs.Prelude.{◌≡◌, ◌≢◌, ◌+◌, ◌-◌, ◌<◌, ◌≤◌, ◌^◌, [], Some, true, false, slice_get};
 ghost use Rattle.pcap_classic.specs.Records.{Record};
 ghost use Rattle.cbpf_machine.specs.Follow.{UnpausedBetween, is_watched};
 ghost use Rattle.cbpf_machine.specs.Trace.{trace};
@@ -10,15 +9,14 @@ ghost use Rattle.cbpf_dbg.specs.Joined.{rest};
 ghost use Rattle.cbpf_dbg.specs.Loaded.{machine_in, records_in, breakpoints_in};
 ghost use Rattle.cbpf_dbg.specs.Session.{IsInside, Keeps};
 ghost use Rattle.cbpf_dbg.specs.Cursor as spec;
-ghost use Rattle.cbpf_dbg.specs.Cursor.{Stands, owed, Passes, before, Gives, run_from, turns_of, ComesTo, IsEnd};
+ghost use Rattle.cbpf_dbg.specs.Cursor.{Stands, Passes, before, Gives, run_from, turns_of, ComesTo};
 ghost use Rattle.cbpf_dbg.specs.Going.{CanGoOn, GoesOn};
 
-use crate::cursor::{Cursor, Moved};
+use crate::cursor::{Cursor, Moved, Walk};
 use crate::hit::stop_at;
 use crate::loaded::Loaded;
 use cbpf_machine::{Before, Followed, Meter, Never, Packet, Pause, Trail, follow_packet};
 use cbpf_reply::{RunReply, Stop, Why};
-use pcap_classic::Records;
 use std::alloc::Allocator;
 
 /// The packet before which a run from packet `first` ends that comes to no hit.
@@ -40,38 +38,36 @@ pub(crate) fn run_records<P: Pause, A: Allocator>(
     meter: &mut Meter,
     loaded: &Loaded<'_, A>,
     pause: &P,
-    left: &mut Records<'_>,
-    cursor: &mut Cursor,
+    walk: &mut Walk<'_>,
 ) -> bool
-    requires can { CanGoOn (machine_in loaded.now) (records_in loaded.now) (breakpoints_in loaded.now)
-        (λ s. P.pauses pause.now s) cursor.old left.old meter.old }
-    requires before { cursor.old.place.step ≡ 0 }
-    ensures goes { GoesOn (machine_in loaded.now) (records_in loaded.now) (breakpoints_in loaded.now)
-        (λ s. P.pauses pause.now s) cursor.old cursor.new left.old left.new meter.old meter.new result }
-    ensures none { result ≡ false → left.new ≡ [] }
+    requires can { CanGoOn loaded.now (λ s. P.pauses pause.now s) walk.old meter.old }
+    requires before { walk.old.cursor.place.step ≡ 0 }
+    ensures goes { GoesOn loaded.now (λ s. P.pauses pause.now s) walk.old walk.new meter.old meter.new result }
+    ensures none { result ≡ false → walk.new.left ≡ [] }
 
     // Of the packet's entries it is the first where it pauses.
     ensures first { result ≡ true → (r : Record)
-        → slice_get (records_in loaded.now) (cursor.new.place.packet - 1) ≡ Some r
+        → slice_get (records_in loaded.now) (walk.new.cursor.place.packet - 1) ≡ Some r
         → UnpausedBetween (λ s. P.pauses pause.now s) (trace (machine_in loaded.now) r.bytes r.wire) 0
-        cursor.new.place.step }
+        walk.new.cursor.place.step }
 {
     // Bound here, as the compiler would load them again after each packet.
     let program = loaded.program;
     let values = loaded.values;
-    'go: while let Some(here) = left.first() {
+    'go: while let Some(here) = walk.left.first() {
         let packet = Packet {
             bytes: here.bytes,
             wire: here.wire,
         };
-        match follow_packet(meter, program, packet, values, pause, &mut cursor.state) {
+        let state = &mut walk.cursor.state;
+        match follow_packet(meter, program, packet, values, pause, state) {
             Followed::Watched(entries) => {
-                cursor.place.step = entries;
+                walk.cursor.place.step = entries;
                 return true;
             }
-            Followed::Ended(outcome) => cursor.finish_whole_packet(outcome),
+            Followed::Ended(outcome) => walk.cursor.finish_whole_packet(outcome),
         }
-        left.pass(&here);
+        walk.left.pass(&here);
     }
     false
 }
@@ -80,52 +76,46 @@ pub(crate) fn run_records<P: Pause, A: Allocator>(
 fn run_whole<T: Trail, A: Allocator>(
     meter: &mut Meter,
     loaded: &Loaded<'_, A>,
-    left: &mut Records<'_>,
-    cursor: &mut Cursor,
+    walk: &mut Walk<'_>,
 ) -> bool
-    requires can { CanGoOn (machine_in loaded.now) (records_in loaded.now) (breakpoints_in loaded.now)
-        (is_watched loaded.now.watched.now) cursor.old left.old meter.old }
-    requires before { cursor.old.place.step ≡ 0 }
-    ensures goes { GoesOn (machine_in loaded.now) (records_in loaded.now) (breakpoints_in loaded.now)
-        (λ s. true) cursor.old cursor.new left.old left.new meter.old meter.new result }
-    ensures none { result ≡ false → left.new ≡ [] }
-    ensures near { result ≡ true → cursor.new.place.step ≤ T.gap 0 + 1 }
+    requires can { CanGoOn loaded.now (is_watched loaded.now.watched.now) walk.old meter.old }
+    requires before { walk.old.cursor.place.step ≡ 0 }
+    ensures goes { GoesOn loaded.now (λ s. true) walk.old walk.new meter.old meter.new result }
+    ensures none { result ≡ false → walk.new.left ≡ [] }
+    ensures near { result ≡ true → walk.new.cursor.place.step ≤ T.gap 0 + 1 }
 {
     let first_gap = T::first_gap();
     if loaded.cannot_stop {
-        return run_records(meter, loaded, &Never, left, cursor);
+        return run_records(meter, loaded, &Never, walk);
     }
     if loaded.program.len() <= first_gap {
-        return run_records(meter, loaded, loaded.watched, left, cursor);
+        return run_records(meter, loaded, loaded.watched, walk);
     }
     let pause = Before {
         pause: loaded.watched,
         fence: first_gap as usize,
     };
-    run_records(meter, loaded, &pause, left, cursor)
+    run_records(meter, loaded, &pause, walk)
 }
 
 /// Goes on in the place's packet, where it has begun, to its next hit, or out of it: whether there is a hit.
 fn go_on_in_packet<T: Trail, A: Allocator>(
     meter: &mut Meter,
     loaded: &Loaded<'_, A>,
-    left: &mut Records<'_>,
-    cursor: &mut Cursor,
+    walk: &mut Walk<'_>,
     trail: &mut T,
 ) -> bool
-    requires can { CanGoOn (machine_in loaded.now) (records_in loaded.now) (breakpoints_in loaded.now)
-        (is_watched loaded.now.watched.now) cursor.old left.old meter.old }
+    requires can { CanGoOn loaded.now (is_watched loaded.now.watched.now) walk.old meter.old }
     requires keeps { Keeps (λ xs. T.stands_for trail.old xs) (machine_in loaded.now)
-        (records_in loaded.now) cursor.old.place }
-    ensures goes { GoesOn (machine_in loaded.now) (records_in loaded.now) (breakpoints_in loaded.now)
-        (is_watched loaded.now.watched.now) cursor.old cursor.new left.old left.new meter.old meter.new result }
+        (records_in loaded.now) walk.old.cursor.place }
+    ensures goes { GoesOn loaded.now (is_watched loaded.now.watched.now) walk.old walk.new meter.old meter.new result }
     ensures keeps { result ≡ true → Keeps (λ xs. T.stands_for trail.new xs) (machine_in loaded.now)
-        (records_in loaded.now) cursor.new.place }
+        (records_in loaded.now) walk.new.cursor.place }
 {
-    if cursor.place.step == 0 {
+    if walk.cursor.place.step == 0 {
         return false;
     }
-    let Some(here) = left.first() else {
+    let Some(here) = walk.left.first() else {
         unreachable!()
     };
     let packet = Packet {
@@ -138,48 +128,43 @@ fn go_on_in_packet<T: Trail, A: Allocator>(
         packet,
         loaded.values,
         loaded.watched,
-        &mut cursor.state,
+        &mut walk.cursor.state,
     );
-    if let Moved::Entry = cursor.apply(followed) {
+    if let Moved::Entry = walk.cursor.apply(followed) {
         return true;
     }
-    left.pass(&here);
+    walk.left.pass(&here);
     false
 }
 
-/// Goes on to the next hit, or to before packet `end`.
+/// Goes on to the next hit, or past the records that are left.
 fn run_to_hit<T: Trail, A: Allocator>(
     meter: &mut Meter,
     loaded: &Loaded<'_, A>,
-    end: u64,
-    cursor: &mut Cursor,
+    walk: &mut Walk<'_>,
     trail: &mut T,
 ) -> Option<Stop>
-    requires stands { Stands (machine_in loaded.now) (records_in loaded.now) cursor.old }
+    requires can { CanGoOn loaded.now (is_watched loaded.now.watched.now) walk.old meter.old }
     requires keeps { Keeps (λ xs. T.stands_for trail.old xs) (machine_in loaded.now)
-        (records_in loaded.now) cursor.old.place }
-    requires spare { meter.old + owed (machine_in loaded.now) (records_in loaded.now) cursor.old.place
-        + 2 * MAX_INSTRUCTIONS ≤ 2 ^ 128 }
-    requires ends { IsEnd (records_in loaded.now) cursor.old.place end }
+        (records_in loaded.now) walk.old.cursor.place }
     ensures passes { Passes (machine_in loaded.now) (records_in loaded.now) (breakpoints_in loaded.now)
-        cursor.old cursor.new (before cursor.new.place) meter.old meter.new }
-    ensures comes { ComesTo (machine_in loaded.now) (records_in loaded.now) (breakpoints_in loaded.now) end
-        cursor.old result cursor.new }
+        walk.old.cursor walk.new.cursor (before walk.new.cursor.place) meter.old meter.new }
+    ensures comes { ComesTo (machine_in loaded.now) (records_in loaded.now) (breakpoints_in loaded.now) walk.old.end
+        walk.old.cursor result walk.new.cursor }
     ensures keeps { Keeps (λ xs. T.stands_for trail.new xs) (machine_in loaded.now)
-        (records_in loaded.now) cursor.new.place }
+        (records_in loaded.now) walk.new.cursor.place }
 {
-    let mut left = loaded.capture.records(cursor.place.packet, end);
     'go: loop {
-        if go_on_in_packet(meter, loaded, &mut left, cursor, trail) {
-            return Some(stop_at(loaded, cursor, Why::Break));
+        if go_on_in_packet(meter, loaded, walk, trail) {
+            return Some(stop_at(loaded, &walk.cursor, Why::Break));
         }
         trail.clear();
-        if !run_whole::<T, A>(meter, loaded, &mut left, cursor) {
+        if !run_whole::<T, A>(meter, loaded, walk) {
             return None;
         }
-        trail.start(cursor.place.step, cursor.state);
-        if loaded.watched.pauses_at(&cursor.state) {
-            return Some(stop_at(loaded, cursor, Why::Break));
+        trail.start(walk.cursor.place.step, walk.cursor.state);
+        if loaded.watched.pauses_at(&walk.cursor.state) {
+            return Some(stop_at(loaded, &walk.cursor, Why::Break));
         }
     }
 }
@@ -213,16 +198,21 @@ pub(crate) fn run<T: Trail, A: Allocator>(
 {
     let count = loaded.capture.count();
     let end = end_of(limit, cursor.place.packet, count);
-    let mut moved = *cursor;
-    let stop = run_to_hit(meter, loaded, end, &mut moved, trail);
-    *cursor = moved;
+    let mut walk = Walk {
+        cursor: *cursor,
+        left: loaded.capture.records(cursor.place.packet, end),
+        end,
+    };
+    let stop = run_to_hit(meter, loaded, &mut walk, trail);
+    *cursor = walk.cursor;
     if let Some(stop) = stop {
         return RunReply::Stopped(stop);
     }
     if end <= count {
-        return RunReply::Limit(moved.counts);
+        return RunReply::Limit(cursor.counts);
     }
+    let counts = cursor.counts;
     trail.clear();
     *cursor = Cursor::start();
-    RunReply::Finished(moved.counts)
+    RunReply::Finished(counts)
 }

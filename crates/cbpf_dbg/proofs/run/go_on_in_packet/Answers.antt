@@ -11,16 +11,16 @@ use Rattle.cbpf_dbg.proofs.run.go_on_in_packet.Goals as goal
 pub follow-followed-requires-clause-spare : goal.follow-followed-requires-clause-spare
 follow-followed-requires-clause-spare g c =
     let few = steps_few _ _ _ (record_of c.in-Some.here)
-    c.requires.can.stands (first_left _ _ _ _ _ _ (first_of _ _ c.in-Some.ensures) c.requires.can.left.1) in
+    c.requires.can.stands (first_left _ _ _ _ _ _ (first_of _ _ c.in-Some.ensures) c.requires.can.left) in
     omega (arith, few, c.requires.can.spare)
 
 pub apply-requires-clause-counts : goal.apply-requires-clause-counts
 apply-requires-clause-counts g c =
-    countable _ _ c.args.cursor.now c.requires.can.stands c.args.loaded.now.few
+    countable _ _ c.args.walk.now.cursor c.requires.can.stands c.args.loaded.now.few
 
 pub apply-requires-clause-steps : goal.apply-requires-clause-steps
 apply-requires-clause-steps g c = λ n e.
-    let here = first_left _ _ _ _ _ _ (first_of _ _ c.in-Some.ensures) c.requires.can.left.1 in
+    let here = first_left _ _ _ _ _ _ (first_of _ _ c.in-Some.ensures) c.requires.can.left in
     let k = kept_steps _ _ _ (record_of c.in-Some.here)
     c.requires.can.stands here (g.T.Trail.kept c.args.trail.now)
     (g.met.T.Trail.as_long c.args.trail.now _ (c.requires.keeps _ here)) in
@@ -32,35 +32,35 @@ apply-requires-clause-steps g c = λ n e.
 pub returns-in-Entry-clause-goes : goal.returns-in-Entry-clause-goes
 returns-in-Entry-clause-goes g c =
     let is = first_of _ _ c.in-Some.ensures in
-    let here = first_left _ _ _ _ _ _ is c.requires.can.left.1 in
+    let here = first_left _ _ _ _ _ _ is c.requires.can.left in
     let k = kept_steps _ _ _ (record_of c.in-Some.here)
     c.requires.can.stands here (g.T.Trail.kept c.args.trail.now)
     (g.met.T.Trail.as_long c.args.trail.now _ (c.requires.keeps _ here)) in
-    goes_to_entry _ _ _ (record_of c.in-Some.here)
-    c.requires.can.stands here _ _ c.requires.can.covers (g.T.Trail.kept c.args.trail.now) c.follow-followed.result c.follow-followed.new.s
-    c.apply.new.self c.args.meter.now c.follow-followed.new.meter c.args.left.now _ k c.in-Entry.ensures.moved
+    goes_to_entry _ _ (record_of c.in-Some.here)
+    c.requires.can.stands here _ c.requires.can.covers (g.T.Trail.kept c.args.trail.now) c.follow-followed.result c.follow-followed.new.s
+    c.apply.new.self c.args.meter.now c.follow-followed.new.meter c.args.walk.now.left _ _ c.requires.can.left k c.in-Entry.ensures.moved
     c.in-Entry.ensures.cursor c.follow-followed.ensures.follows
-    (omega (arith, c.follow-followed.ensures.turns, k, c.if-cursor-eq0.false)) is
+    (omega (arith, c.follow-followed.ensures.turns, k, c.if-walk-eq0.false)) is
 
 pub returns-in-Entry-clause-keeps : goal.returns-in-Entry-clause-keeps
 returns-in-Entry-clause-keeps g c = λ _.
-    let here = first_left _ _ _ _ _ _ (first_of _ _ c.in-Some.ensures) c.requires.can.left.1 in
+    let here = first_left _ _ _ _ _ _ (first_of _ _ c.in-Some.ensures) c.requires.can.left in
     let k = kept_steps _ _ _ (record_of c.in-Some.here)
     c.requires.can.stands here (g.T.Trail.kept c.args.trail.now)
     (g.met.T.Trail.as_long c.args.trail.now _ (c.requires.keeps _ here)) in
     keeps_followed (λ xs. g.T.Trail.stands_for c.follow-followed.new.self xs) (machine_in c.args.loaded.now) (records_in c.args.loaded.now)
-    c.args.cursor.now (record_of c.in-Some.here) here c.follow-followed.result c.follow-followed.new.s moved.Entry
+    c.args.walk.now.cursor (record_of c.in-Some.here) here c.follow-followed.result c.follow-followed.new.s moved.Entry
     c.apply.new.self c.in-Entry.ensures.cursor c.in-Entry.ensures.moved
     (λ n e. rw k at (c.follow-followed.ensures.stands n e)) refl
 
 pub returns-clause-goes : goal.returns-clause-goes
 returns-clause-goes g c =
-    let here = first_left _ _ _ _ _ _ c.pass.ensures c.requires.can.left.1 in
+    let here = first_left _ _ _ _ _ _ c.pass.ensures c.requires.can.left in
     let k = kept_steps _ _ _ (record_of c.in-Some.here)
     c.requires.can.stands here (g.T.Trail.kept c.args.trail.now)
     (g.met.T.Trail.as_long c.args.trail.now _ (c.requires.keeps _ here)) in
-    goes_out _ _ _ (record_of c.in-Some.here)
-    c.requires.can.stands here _ _ c.requires.can.covers (g.T.Trail.kept c.args.trail.now) c.follow-followed.result c.follow-followed.new.s
-    c.apply.new.self c.args.meter.now c.follow-followed.new.meter c.args.left.now _ k
+    goes_out _ _ (record_of c.in-Some.here)
+    c.requires.can.stands here _ c.requires.can.covers (g.T.Trail.kept c.args.trail.now) c.follow-followed.result c.follow-followed.new.s
+    c.apply.new.self c.args.meter.now c.follow-followed.new.meter c.args.walk.now.left _ _ c.requires.can.left k
     c.in_default-apply.ensures.moved c.in_default-apply.ensures.cursor c.follow-followed.ensures.follows
-    (omega (arith, c.follow-followed.ensures.turns, k, c.if-cursor-eq0.false)) c.pass.ensures
+    (omega (arith, c.follow-followed.ensures.turns, k, c.if-walk-eq0.false)) c.pass.ensures

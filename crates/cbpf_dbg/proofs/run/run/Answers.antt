@@ -1,4 +1,4 @@
-use Rattle.std.proofs.Common.{arith, ◌-◌}
+use Rattle.std.proofs.Common.{arith, ◌-◌, ◌∙◌}
 use Rattle.std.proofs.lemmas.Option.{slice_get_within}
 use Rattle.cbpf_dbg.specs.Loaded.{machine_in, records_in}
 use Rattle.cbpf_dbg.proofs.LeftLemmas.{is_end}
@@ -6,17 +6,21 @@ use Rattle.cbpf_dbg.proofs.RunLemmas.{run_stopped, run_limited, run_finished, no
 use Rattle.cbpf_dbg.proofs.TurnLemmas.{turns-reply, spent_between, owed-turns, owed_bound}
 use Rattle.cbpf_dbg.proofs.run.run.Goals as goal
 
-pub run_to_hit-stop-requires-clause-spare : goal.run_to_hit-stop-requires-clause-spare
-run_to_hit-stop-requires-clause-spare g c =
+pub run_to_hit-stop-requires-clause-can : goal.run_to_hit-stop-requires-clause-can
+run_to_hit-stop-requires-clause-can g c =
     let most = owed_bound (machine_in c.args.loaded.now) (records_in c.args.loaded.now) c.args.cursor.now.place c.requires.stands.sound c.args.loaded.now.few in
-    omega (arith, most, c.requires.early)
-
-pub run_to_hit-stop-requires-clause-ends : goal.run_to_hit-stop-requires-clause-ends
-run_to_hit-stop-requires-clause-ends g c =
-    is_end _ _ c.args.limit _ (rw c.count-count.ensures.value at c.end_of-end.ensures) c.requires.limit
-    c.requires.stands.within (λ begun.
-    let at = c.requires.stands.at begun in
-    omega (arith, slice_get_within (records_in c.args.loaded.now) (c.args.cursor.now.place.packet - 1) at.0 at.1))
+    record {
+      stands = c.requires.stands;
+      left = record {
+        is = c.records.ensures;
+        ends = is_end _ _ c.args.limit _ (rw c.count-count.ensures.value at c.end_of-end.ensures) c.requires.limit
+            c.requires.stands.within (λ begun.
+            let at = c.requires.stands.at begun in
+            omega (arith, slice_get_within (records_in c.args.loaded.now) (c.args.cursor.now.place.packet - 1) at.0 at.1));
+      };
+      covers = λ bytes wire s inside hit. c.args.loaded.now.watches bytes wire s inside ∙ hit;
+      spare = omega (arith, most, c.requires.early);
+    }
 
 pub returns-in-Some-clause-runs : goal.returns-in-Some-clause-runs
 returns-in-Some-clause-runs g c =
@@ -50,14 +54,14 @@ returns-clause-runs g c =
 pub returns-clause-ahead : goal.returns-clause-ahead
 returns-clause-ahead g c =
     (none_ahead _ c.args.loaded.now.capture.now _ c.args.limit c.args.cursor.now _
-    (rw c.count-count.ensures.value at c.end_of-end.ensures) c.run_to_hit-stop.new.cursor c.in_default.ensures.comes
+    (rw c.count-count.ensures.value at c.end_of-end.ensures) c.run_to_hit-stop.new.walk.cursor c.in_default.ensures.comes
     (rw c.count-count.ensures.value at c.if-end-count.false)).1
 
 pub returns-clause-turns : goal.returns-clause-turns
 returns-clause-turns g c =
     let came = c.in_default.ensures in
     let none = (none_ahead _ c.args.loaded.now.capture.now _ c.args.limit c.args.cursor.now _
-    (rw c.count-count.ensures.value at c.end_of-end.ensures) c.run_to_hit-stop.new.cursor came.comes
+    (rw c.count-count.ensures.value at c.end_of-end.ensures) c.run_to_hit-stop.new.walk.cursor came.comes
     (rw c.count-count.ensures.value at c.if-end-count.false)).0 in
     let all = owed-turns _ _ c.args.cursor.now c.requires.stands in
     rw (turns-reply _ _ _ _ _ _ _ (returns-clause-runs g c)) (omega (arith, all, none, came.passes.spent))

@@ -10,31 +10,31 @@ pub follow_packet-requires : goal.follow_packet-requires
 follow_packet-requires g c = omega (arith, c.requires.can.spare, c.go.invariant.passes.spent)
 
 pub finish_whole_packet-requires-clause-counts : goal.finish_whole_packet-requires-clause-counts
-finish_whole_packet-requires-clause-counts g c = countable _ _ c.go.cursor c.go.invariant.passes.stands c.args.loaded.now.few
+finish_whole_packet-requires-clause-counts g c = countable _ _ c.go.walk.cursor c.go.invariant.passes.stands c.args.loaded.now.few
 
 pub returns-in-Watched-clause-goes : goal.returns-in-Watched-clause-goes
 returns-in-Watched-clause-goes g c =
     let so = c.go.invariant in
     let is = first_of _ _ c.in-Some.ensures in
-    let here = first_left _ _ _ _ _ _ is (so.left _ c.requires.can.left.1) in
+    let here = first_left _ _ _ _ _ _ is so.left in
     let step = so.out refl in
-    let sum : c.go.cursor.place.step + c.in-Watched.entries ≡ c.in-Watched.entries = omega (arith, step) in
-    goes_more _ _ _ _ _ _ _ _ _ _ _ _ _ _ _ so (goes_to_entry _ _ _ (record_of c.in-Some.here)
-    so.passes.stands here _ _ c.requires.can.covers 0 c.follow_packet.result c.follow_packet.new.s _ c.go.meter
-    c.follow_packet.new.meter c.go.left _ (omega (arith, step)) (rw c.in-Watched.is refl)
+    let sum : c.go.walk.cursor.place.step + c.in-Watched.entries ≡ c.in-Watched.entries = omega (arith, step) in
+    goes_more _ _ _ _ _ _ _ _ _ _ so (goes_to_entry _ _ (record_of c.in-Some.here)
+    so.passes.stands here _ c.requires.can.covers 0 c.follow_packet.result c.follow_packet.new.s _ c.go.meter
+    c.follow_packet.new.meter c.go.walk.left _ _ so.left (omega (arith, step)) (rw c.in-Watched.is refl)
     (rw (c.in-Watched.is, sum) refl) c.follow_packet.ensures.follows
     (omega (arith, c.follow_packet.ensures.turns)) is)
 
 pub returns-in-Watched-clause-first : goal.returns-in-Watched-clause-first
 returns-in-Watched-clause-first g c = λ _.
     let so = c.go.invariant in
-    let here = first_left _ _ _ _ _ _ (first_of _ _ c.in-Some.ensures) (so.left _ c.requires.can.left.1) in
+    let here = first_left _ _ _ _ _ _ (first_of _ _ c.in-Some.ensures) so.left in
     let step = so.out refl in
-    let sum : c.go.cursor.place.step + c.in-Watched.entries ≡ c.in-Watched.entries = omega (arith, step) in
+    let sum : c.go.walk.cursor.place.step + c.in-Watched.entries ≡ c.in-Watched.entries = omega (arith, step) in
     first_pause _ _ _ (record_of c.in-Some.here)
     so.passes.stands here _ _ c.requires.can.covers c.follow_packet.result c.follow_packet.new.s
-    (record c.go.cursor {
-      place = record { packet = c.go.cursor.place.packet; step = c.in-Watched.entries };
+    (record c.go.walk.cursor {
+      place = record { packet = c.go.walk.cursor.place.packet; step = c.in-Watched.entries };
       state = c.follow_packet.new.s;
     }) step
     (rw c.in-Watched.is refl) (rw (c.in-Watched.is, sum) refl) c.follow_packet.ensures.follows
@@ -42,10 +42,10 @@ returns-in-Watched-clause-first g c = λ _.
 pub go-preserved : goal.go-preserved
 go-preserved g c =
     let so = c.go.invariant in
-    let here = first_left _ _ _ _ _ _ c.pass.ensures (so.left _ c.requires.can.left.1) in
-    goes_more _ _ _ _ _ _ _ _ _ _ _ _ _ _ _ so (goes_out _ _ _ (record_of c.in-Some.here)
-    so.passes.stands here _ _ c.requires.can.covers 0 c.follow_packet.result c.follow_packet.new.s c.finish_whole_packet.new.self c.go.meter
-    c.follow_packet.new.meter c.go.left _ (omega (arith, so.out refl)) (rw c.in-Ended.is refl)
+    let here = first_left _ _ _ _ _ _ c.pass.ensures so.left in
+    goes_more _ _ _ _ _ _ _ _ _ _ so (goes_out _ _ (record_of c.in-Some.here)
+    so.passes.stands here _ c.requires.can.covers 0 c.follow_packet.result c.follow_packet.new.s c.finish_whole_packet.new.self c.go.meter
+    c.follow_packet.new.meter c.go.walk.left _ _ so.left (omega (arith, so.out refl)) (rw c.in-Ended.is refl)
     (c.finish_whole_packet.ensures ∙ rw c.in-Ended.is refl) c.follow_packet.ensures.follows
     (omega (arith, c.follow_packet.ensures.turns)) c.pass.ensures)
 

@@ -1,10 +1,8 @@
-use Rattle.std.proofs.Common.{arith, sym, ◌∙◌, refl, true}
-use Rattle.cbpf_machine.specs.Follow.{is_watched}
+use Rattle.std.proofs.Common.{arith, sym, ◌∙◌, refl}
 use Rattle.cbpf_machine.specs.Trace.{trace}
 use Rattle.cbpf_machine.proofs.SoundLemmas.{sound_few}
 use Rattle.cbpf_machine.proofs.TraceLemmas.{first_entry}
-use Rattle.cbpf_dbg.specs.Going.{GoesOn}
-use Rattle.cbpf_dbg.specs.Loaded.{machine_in, records_in, breakpoints_in}
+use Rattle.cbpf_dbg.specs.Loaded.{machine_in}
 use Rattle.cbpf_dbg.proofs.CursorLemmas.{goes, entry_at_place}
 use Rattle.cbpf_dbg.proofs.FollowLemmas.{step_within, steps_few}
 use Rattle.cbpf_dbg.proofs.GoingLemmas.{at_hit, goes_more, goes_passed, passes_entry, passes_more}
@@ -13,22 +11,22 @@ use Rattle.cbpf_dbg.proofs.run.run_to_hit.Goals as goal
 
 pub stop_at-requires : goal.stop_at-requires
 stop_at-requires g c =
-    (at_hit _ _ _ c.args.loaded.now.watched.now _ _ _ _ _ _ c.args.loaded.now.watches
-    c.if-go_on_in_packet.ensures.goes).1
+    let went = c.if-go_on_in_packet.ensures.goes in (at_hit _ _ _ _ _ _ went (went.entry refl).1).1
 
 pub returns-then-go_on_in_packet-clause-comes : goal.returns-then-go_on_in_packet-clause-comes
 returns-then-go_on_in_packet-clause-comes g c =
     let so = c.go.invariant in
     let went = c.if-go_on_in_packet.ensures.goes in
-    let hit = at_hit _ _ _ c.args.loaded.now.watched.now _ _ _ _ _ _ c.args.loaded.now.watches went in
-    rw (c.stop_at.ensures hit.0) (refl, (went.left _ so.left).ends.later (went.entry refl).0, so.passes.hits ∙ hit.2)
+    let hit = at_hit _ _ _ _ _ _ went (went.entry refl).1 in
+    rw (c.stop_at.ensures hit.0) (refl, omega (arith, went.left.ends.later (went.entry refl).0, went.same, so.same), so.passes.hits ∙ hit.2)
 
 pub returns-then-not-run_whole-clause-comes : goal.returns-then-not-run_whole-clause-comes
 returns-then-not-run_whole-clause-comes g c =
-    let all = goes_more _ _ _ _ _ _ _ _ _ _ _ _ _ _ _ c.if-go_on_in_packet.ensures.goes
+    let all = goes_more _ _ _ _ _ _ _ _ _ _ c.if-go_on_in_packet.ensures.goes
     c.if-not-run_whole.ensures.goes in
-    let passes = goes_passed _ _ _ _ _ _ _ _ _ _ all in (
-      none_left _ _ _ _ _ passes.stands (c.if-not-run_whole.ensures.none refl) (all.left _ c.go.invariant.left),
+    let passes = goes_passed _ _ _ _ _ _ all in (
+      rw (all.same ∙ c.go.invariant.same) at (none_left _ _ _ _ _ passes.stands (c.if-not-run_whole.ensures.none refl)
+          all.left),
       sym (c.go.invariant.passes.hits ∙ passes.hits),
     )
 
@@ -40,10 +38,7 @@ start-requires-clause-few g c =
 
 pub stop_at-requires-then-pauses_at : goal.stop_at-requires-then-pauses_at
 stop_at-requires-then-pauses_at g c =
-    let ran = c.if-not-run_whole.ensures.goes in
-    let begun = (ran.entry refl).0 in
-    let at = ran.passes.stands.at begun in
-    (goes _ _ _ at.0 ran.passes.stands at.1 begun).inside
+    (at_hit _ _ _ _ _ _ c.if-not-run_whole.ensures.goes (sym c.pauses_at.ensures ∙ c.if-pauses_at.true)).1
 
 pub pauses_at-requires : goal.pauses_at-requires
 pauses_at-requires g c =
@@ -57,20 +52,9 @@ pub returns-then-pauses_at-clause-comes : goal.returns-then-pauses_at-clause-com
 returns-then-pauses_at-clause-comes g c =
     let so = c.go.invariant in
     let ran = c.if-not-run_whole.ensures.goes in
-    let begun = (ran.entry refl).0 in
-    let at = ran.passes.stands.at begun in
-    let watched : GoesOn (machine_in c.args.loaded.now) (records_in c.args.loaded.now) (breakpoints_in c.args.loaded.now)
-    (is_watched c.args.loaded.now.watched.now) c.go_on_in_packet.new.cursor c.run_whole.new.cursor
-    c.go_on_in_packet.new.left c.run_whole.new.left c.go_on_in_packet.new.meter c.run_whole.new.meter true =
-    record {
-      passes = ran.passes;
-      left = ran.left;
-      entry = λ e. ((ran.entry e).0, sym c.pauses_at.ensures ∙ c.if-pauses_at.true);
-      out = ran.out;
-    } in
-    let all = goes_more _ _ _ _ _ _ _ _ _ _ _ _ _ _ _ c.if-go_on_in_packet.ensures.goes watched in
-    let hit = at_hit _ _ _ c.args.loaded.now.watched.now _ _ _ _ _ _ c.args.loaded.now.watches all in
-    rw (c.stop_at-then-pauses_at.ensures hit.0) (refl, (all.left _ so.left).ends.later begun, so.passes.hits ∙ hit.2)
+    let all = goes_more _ _ _ _ _ _ _ _ _ _ c.if-go_on_in_packet.ensures.goes ran in
+    let hit = at_hit _ _ _ _ _ _ all (sym c.pauses_at.ensures ∙ c.if-pauses_at.true) in
+    rw (c.stop_at-then-pauses_at.ensures hit.0) (refl, omega (arith, all.left.ends.later (ran.entry refl).0, all.same, so.same), so.passes.hits ∙ hit.2)
 
 pub returns-then-pauses_at-clause-keeps : goal.returns-then-pauses_at-clause-keeps
 returns-then-pauses_at-clause-keeps g c = λ r there.
@@ -87,13 +71,14 @@ go-preserved g c =
     let ran = c.if-not-run_whole.ensures.goes in
     let begun = (ran.entry refl).0 in
     let at = ran.passes.stands.at begun in
-    let all = goes_more _ _ _ _ _ _ _ _ _ _ _ _ _ _ _ c.if-go_on_in_packet.ensures.goes ran in
+    let all = goes_more _ _ _ _ _ _ _ _ _ _ c.if-go_on_in_packet.ensures.goes ran in
     let inside = (goes _ _ _ at.0 ran.passes.stands at.1 begun).inside in
     let none = sym (c.args.loaded.now.watches at.0.bytes at.0.wire _ inside) ∙ (sym c.pauses_at.ensures
     ∙ c.if-pauses_at.false) in
     record {
       passes = passes_more _ _ _ _ _ _ _ _ _ _ so.passes (passes_entry _ _ _ _ _ at.0 _ _ begun at.1 none all.passes);
-      left = all.left _ so.left;
+      left = all.left;
+      same = all.same ∙ so.same;
       keeps = λ r there. c.start.ensures.stands (trace (machine_in c.args.loaded.now) r.bytes r.wire)
           (first_entry (machine_in c.args.loaded.now) r.bytes r.wire ran.passes.stands.sound)
           (entry_at_place _ _ _ r ran.passes.stands there begun);

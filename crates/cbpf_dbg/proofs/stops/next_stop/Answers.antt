@@ -10,27 +10,27 @@ pub returns-then-not-run_records-clause-next : goal.returns-then-not-run_records
 returns-then-not-run_records-clause-next g c =
     let left = c.if-not-go_on_in_packet.ensures in
     let ran = c.if-not-run_records.ensures.goes in
-    let ended = nothing_left _ _ _ _ ran.passes.stands (ran.left _ (left.left _ c.requires.left))
+    let ended = nothing_left _ _ _ _ ran.passes.stands (rw (ran.same ∙ left.same ∙ c.requires.all) at ran.left)
     (c.if-not-run_records.ensures.none refl) in
     let none = rest-none _ _ (breakpoints_in c.args.loaded.now)
-    c.run_records.new.cursor.place ended.1 in
-    ((goes_passed _ _ _ _ _ _ _ _ _ _ left).hits ∙ (goes_passed _ _ _ _ _ _ _ _ _ _ ran).hits ∙ none, none)
+    c.run_records.new.walk.cursor.place ended.1 in
+    ((goes_passed _ _ _ _ _ _ left).hits ∙ (goes_passed _ _ _ _ _ _ ran).hits ∙ none, none)
 
 pub stop_at-requires : goal.stop_at-requires
 stop_at-requires g c = elim c.if-not-go_on_in_packet.branch [
   | then-not-go_on_in_packet+else-not-run_records w ↦
-      rw w.cursor-is (at_hit _ _ _ c.args.loaded.now.watched.now _ _ _ _ _ _ c.args.loaded.now.watches w.if-not-run_records.ensures.goes).1
+      rw w.walk-is (at_hit _ _ _ _ _ _ w.if-not-run_records.ensures.goes (w.if-not-run_records.ensures.goes.entry refl).1).1
   | else-not-go_on_in_packet w ↦
-      rw w.cursor-is (at_hit _ _ _ c.args.loaded.now.watched.now _ _ _ _ _ _ c.args.loaded.now.watches w.if-not-go_on_in_packet.ensures).1
+      rw w.walk-is (at_hit _ _ _ _ _ _ w.if-not-go_on_in_packet.ensures (w.if-not-go_on_in_packet.ensures.entry refl).1).1
 ]
 
 pub returns-clause-next : goal.returns-clause-next
 returns-clause-next g c = elim c.if-not-go_on_in_packet.branch [
   | then-not-go_on_in_packet+else-not-run_records w ↦
-      let hit = at_hit _ _ _ c.args.loaded.now.watched.now _ _ _ _ _ _ c.args.loaded.now.watches w.if-not-run_records.ensures.goes in
-      rw (c.stop_at.ensures hit.0, w.cursor-is)
-      ((goes_passed _ _ _ _ _ _ _ _ _ _ w.if-not-go_on_in_packet.ensures).hits ∙ hit.2)
+      let hit = at_hit _ _ _ _ _ _ w.if-not-run_records.ensures.goes (w.if-not-run_records.ensures.goes.entry refl).1 in
+      rw (c.stop_at.ensures hit.0, w.walk-is)
+      ((goes_passed _ _ _ _ _ _ w.if-not-go_on_in_packet.ensures).hits ∙ hit.2)
   | else-not-go_on_in_packet w ↦
-      let hit = at_hit _ _ _ c.args.loaded.now.watched.now _ _ _ _ _ _ c.args.loaded.now.watches w.if-not-go_on_in_packet.ensures in
-      rw (c.stop_at.ensures hit.0, w.cursor-is) hit.2
+      let hit = at_hit _ _ _ _ _ _ w.if-not-go_on_in_packet.ensures (w.if-not-go_on_in_packet.ensures.entry refl).1 in
+      rw (c.stop_at.ensures hit.0, w.walk-is) hit.2
 ]

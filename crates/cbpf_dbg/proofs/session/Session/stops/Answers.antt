@@ -1,8 +1,8 @@
 use Rattle.cbpf_dbg.specs.Commands.{stops}
 use Rattle.cbpf_machine.specs.Machine.{machine_of}
 use Rattle.cbpf_dbg.proofs.WholeLemmas.{Holds}
-use Rattle.std.proofs.Common.{arith, refl, rules, Some}
-use Rattle.cbpf_dbg.specs.Session.{Fits}
+use Rattle.std.proofs.Common.{arith, refl, rules, Some, ◌∙◌}
+use Rattle.cbpf_dbg.specs.Session.{Fits, IsKnown}
 use Rattle.cbpf_dbg.proofs.LeftLemmas.{all_left}
 use Rattle.cbpf_dbg.proofs.TurnLemmas.{few_hits, owed_bound}
 use Rattle.cbpf_dbg.proofs.CarryLemmas.{known-sound}
@@ -34,9 +34,16 @@ invariant_of-result g c =
     let fits : Fits (λ xs. g.T.Trail.stands_for c.self.inside.trail xs) (Some c.in-Some.program) c.self.inside.values
     (Some c.in-Some-capture.capture) c.self.inside.cursor =
     rw (c.in-Some.is, c.in-Some-capture.is) at c.self.invariant.0 in
-    let few = owed_bound machine records c.self.inside.cursor.place (known-sound _ _ _ _ _ _ c.in-Some.is c.self.invariant.1)
+    let known : IsKnown c.self.inside.needs_no_value c.self.inside.watched (Some c.in-Some.program)
+    c.self.inside.values c.self.inside.breakpoints.entries = rw c.in-Some.is at c.self.invariant.1 in
+    let few = owed_bound machine records c.self.inside.cursor.place known.3
     (omega (arith, c.count-few.ensures.value, c.count-few.ensures.bounded)) in (
-      fits.0,
-      all_left _ _ _ _ fits.0 (rw c.count-end.ensures.value at c.records-left.ensures),
-      omega (arith, few, c.new.ensures),
+      record {
+        stands = fits.0;
+        left = rw c.count-end.ensures.value
+            (all_left _ _ _ _ fits.0 (rw c.count-end.ensures.value at c.records-left.ensures));
+        covers = λ bytes wire s inside hit. known.1 bytes wire s inside ∙ hit;
+        spare = omega (arith, few, c.new.ensures);
+      },
+      omega (arith, c.count-end.ensures.value),
     )
