@@ -3,12 +3,17 @@ use Rattle.std.specs.Prelude.{◌≡◌, ℕ, ◌+◌, ◌*◌, ◌<◌, ◌≤�
 use Rattle.cbpf_code.specs.declared.checker.TheConstants.{MAX_INSTRUCTIONS}
 use Rattle.cbpf_machine.specs.Machine.{Machine}
 use Rattle.cbpf_machine.specs.Registers.{Registers}
+use Rattle.cbpf_reply.specs.declared.reply.Place.{Place}
 use Rattle.cbpf_dbg.specs.declared.cursor.Walk.{Walk}
 use Rattle.cbpf_dbg.specs.declared.loaded.Loaded.{Loaded}
 use Rattle.cbpf_dbg.specs.Loaded.{machine_in, records_in, breakpoints_in}
 use Rattle.cbpf_dbg.specs.Breakpoints.{Breakpoints}
-use Rattle.cbpf_dbg.specs.Session.{hits}
+use Rattle.cbpf_dbg.specs.Session.{hits, Keeps}
 use Rattle.cbpf_dbg.specs.Cursor.{Stands, AreLeft, Passes, before, owed}
+
+-- a trail stands for the entries of a place's packet up to its step
+abbrev pub KeepsIn : {A : Type 0} → (List Registers → Type 0) → Loaded A → Place → Type 0
+KeepsIn stands_for l place = Keeps stands_for (machine_in l) (records_in l) place
 
 -- a run pauses at each entry that is a hit
 abbrev pub Covers : (Registers → Bool) → Machine → Breakpoints → Type 0

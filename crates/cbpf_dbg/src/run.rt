@@ -7,10 +7,10 @@ ghost use Rattle.cbpf_machine.specs.Trace.{trace};
 ghost use Rattle.cbpf_dbg.specs.Commands.{PassesHits};
 ghost use Rattle.cbpf_dbg.specs.Joined.{rest};
 ghost use Rattle.cbpf_dbg.specs.Loaded.{machine_in, records_in, breakpoints_in};
-ghost use Rattle.cbpf_dbg.specs.Session.{IsInside, Keeps};
+ghost use Rattle.cbpf_dbg.specs.Session.{IsInside};
 ghost use Rattle.cbpf_dbg.specs.Cursor as spec;
 ghost use Rattle.cbpf_dbg.specs.Cursor.{Stands, Passes, before, Gives, run_from, turns_of, ComesTo};
-ghost use Rattle.cbpf_dbg.specs.Going.{CanGoOn, GoesOn};
+ghost use Rattle.cbpf_dbg.specs.Going.{CanGoOn, GoesOn, KeepsIn};
 
 use crate::cursor::{Cursor, Moved, Walk};
 use crate::hit::stop_at;
@@ -106,11 +106,9 @@ fn go_on_in_packet<T: Trail, A: Allocator>(
     trail: &mut T,
 ) -> bool
     requires can { CanGoOn loaded.now (is_watched loaded.now.watched.now) walk.old meter.old }
-    requires keeps { Keeps (λ xs. T.stands_for trail.old xs) (machine_in loaded.now)
-        (records_in loaded.now) walk.old.cursor.place }
+    requires keeps { KeepsIn (λ xs. T.stands_for trail.old xs) loaded.now walk.old.cursor.place }
     ensures goes { GoesOn loaded.now (is_watched loaded.now.watched.now) walk.old walk.new meter.old meter.new result }
-    ensures keeps { result ≡ true → Keeps (λ xs. T.stands_for trail.new xs) (machine_in loaded.now)
-        (records_in loaded.now) walk.new.cursor.place }
+    ensures keeps { result ≡ true → KeepsIn (λ xs. T.stands_for trail.new xs) loaded.now walk.new.cursor.place }
 {
     if walk.cursor.place.step == 0 {
         return false;
@@ -145,14 +143,12 @@ fn run_to_hit<T: Trail, A: Allocator>(
     trail: &mut T,
 ) -> Option<Stop>
     requires can { CanGoOn loaded.now (is_watched loaded.now.watched.now) walk.old meter.old }
-    requires keeps { Keeps (λ xs. T.stands_for trail.old xs) (machine_in loaded.now)
-        (records_in loaded.now) walk.old.cursor.place }
+    requires keeps { KeepsIn (λ xs. T.stands_for trail.old xs) loaded.now walk.old.cursor.place }
     ensures passes { Passes (machine_in loaded.now) (records_in loaded.now) (breakpoints_in loaded.now)
         walk.old.cursor walk.new.cursor (before walk.new.cursor.place) meter.old meter.new }
     ensures comes { ComesTo (machine_in loaded.now) (records_in loaded.now) (breakpoints_in loaded.now) walk.old.end
         walk.old.cursor result walk.new.cursor }
-    ensures keeps { Keeps (λ xs. T.stands_for trail.new xs) (machine_in loaded.now)
-        (records_in loaded.now) walk.new.cursor.place }
+    ensures keeps { KeepsIn (λ xs. T.stands_for trail.new xs) loaded.now walk.new.cursor.place }
 {
     'go: loop {
         if go_on_in_packet(meter, loaded, walk, trail) {
@@ -179,13 +175,11 @@ pub(crate) fn run<T: Trail, A: Allocator>(
     limit: Option<u64>,
 ) -> RunReply
     requires stands { Stands (machine_in loaded.now) (records_in loaded.now) cursor.old }
-    requires keeps { Keeps (λ xs. T.stands_for trail.old xs) (machine_in loaded.now)
-        (records_in loaded.now) cursor.old.place }
+    requires keeps { KeepsIn (λ xs. T.stands_for trail.old xs) loaded.now cursor.old.place }
     requires early { meter.old ≤ 2 ^ 127 }
     requires limit { limit ≢ Some 0 }
     ensures stands { Stands (machine_in loaded.now) (records_in loaded.now) cursor.new }
-    ensures keeps { Keeps (λ xs. T.stands_for trail.new xs) (machine_in loaded.now)
-        (records_in loaded.now) cursor.new.place }
+    ensures keeps { KeepsIn (λ xs. T.stands_for trail.new xs) loaded.now cursor.new.place }
     ensures runs { Gives (machine_in loaded.now) loaded.now.capture.now (breakpoints_in loaded.now)
         (run_from (machine_in loaded.now) (records_in loaded.now) limit) cursor.old cursor.new result }
     ensures inside { IsInside (records_in loaded.now) cursor.new.place }

@@ -4,7 +4,8 @@ ghost use Rattle.std.specs.Prelude.{◌≡◌, ◌+◌, ◌*◌, ◌≤◌, ◌^
 ghost use Rattle.cbpf_code.specs.declared.checker.TheConstants.{MAX_INSTRUCTIONS};
 ghost use Rattle.cbpf_dbg.specs.Breakpoints.{Breakpoints};
 ghost use Rattle.cbpf_dbg.specs.Loaded.{machine_in, records_in};
-ghost use Rattle.cbpf_dbg.specs.Session.{IsInside, Keeps};
+ghost use Rattle.cbpf_dbg.specs.Going.{KeepsIn};
+ghost use Rattle.cbpf_dbg.specs.Session.{IsInside};
 ghost use Rattle.cbpf_dbg.specs.Cursor.{Stands, AllLeft, Nears, owed};
 ghost use Rattle.cbpf_dbg.specs.Cursor.{Gives, step_from, turns_of, StepsBack, CannotStepBack};
 ghost use Rattle.cbpf_machine.specs.Trail.{most_turns_back};
@@ -66,13 +67,11 @@ pub(crate) fn step_on<T: Trail, A: Allocator>(
     n: u64,
 ) -> RunReply
     requires stands { Stands (machine_in loaded.now) (records_in loaded.now) cursor.old }
-    requires keeps { Keeps (λ xs. T.stands_for trail.old xs) (machine_in loaded.now)
-        (records_in loaded.now) cursor.old.place }
+    requires keeps { KeepsIn (λ xs. T.stands_for trail.old xs) loaded.now cursor.old.place }
     requires early { meter.old ≤ 2 ^ 127 }
     requires some { 1 ≤ n }
     ensures stands { Stands (machine_in loaded.now) (records_in loaded.now) cursor.new }
-    ensures keeps { Keeps (λ xs. T.stands_for trail.new xs) (machine_in loaded.now)
-        (records_in loaded.now) cursor.new.place }
+    ensures keeps { KeepsIn (λ xs. T.stands_for trail.new xs) loaded.now cursor.new.place }
     ensures steps { (breakpoints : Breakpoints) → Gives (machine_in loaded.now) loaded.now.capture.now breakpoints
         (step_from (machine_in loaded.now) (records_in loaded.now) n) cursor.old cursor.new result }
     ensures inside { IsInside (records_in loaded.now) cursor.new.place }
@@ -118,13 +117,11 @@ pub(crate) fn step_back<T: Trail, A: Allocator>(
     b: u64,
 ) -> Result<Stop, u32>
     requires stands { Stands (machine_in loaded.now) (records_in loaded.now) cursor.old }
-    requires keeps { Keeps (λ xs. T.stands_for trail.old xs) (machine_in loaded.now)
-        (records_in loaded.now) cursor.old.place }
+    requires keeps { KeepsIn (λ xs. T.stands_for trail.old xs) loaded.now cursor.old.place }
     requires some { 1 ≤ b }
     requires spare { meter.old ≤ 2 ^ 127 }
     ensures stands { Stands (machine_in loaded.now) (records_in loaded.now) cursor.new }
-    ensures keeps { Keeps (λ xs. T.stands_for trail.new xs) (machine_in loaded.now)
-        (records_in loaded.now) cursor.new.place }
+    ensures keeps { KeepsIn (λ xs. T.stands_for trail.new xs) loaded.now cursor.new.place }
     ensures answer { MatchResult result
         (λ stop. StepsBack (machine_in loaded.now) (records_in loaded.now) cursor.old cursor.new b stop)
         (λ most. CannotStepBack cursor.old cursor.new b most) }
