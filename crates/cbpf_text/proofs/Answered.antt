@@ -1,9 +1,8 @@
 -- Each text assembles or is refused at a line: its labels and targets are looked up one by one.
-use Rattle.cbpf_text.specs.declared.encode.TheConstants.{FARTHEST}
 use Rattle.std.proofs.lemmas.List.Elements.{All-nil, All-cons}
 use Rattle.std.proofs.lemmas.Option.{slice_get_within, get_or_from_slice_get}
-use Rattle.std.proofs.Common.{◌≡◌, refl, sym, ◌∙◌, subst, ℕ, zero, suc, ◌+◌, ◌-◌, ◌<◌, ◌≤◌, Bool, true, false, List}
-use Rattle.std.proofs.Common.{[], ◌∷◌, ◌++◌, length, map, Option, Some, None, ◌⊎◌, inl, inr, arith, append_assoc}
+use Rattle.std.proofs.Common.{◌≡◌, refl, sym, subst, ℕ, zero, suc, ◌+◌, ◌<◌, Bool, true, false, List}
+use Rattle.std.proofs.Common.{[], ◌∷◌, ◌++◌, length, map, Some, ◌⊎◌, inl, inr, arith, append_assoc}
 use Rattle.std.proofs.Common.{append-nil}
 use Rattle.std.specs.Prelude.{slice_get, All}
 use Rattle.std.proofs.lemmas.Bool.{cases_lt}
@@ -24,20 +23,19 @@ use Rattle.cbpf_syntax.proofs.Refused.{large_within}
 use Rattle.cbpf_syntax.proofs.Answered.{each_parsed}
 use Rattle.cbpf_text.specs.declared.fault.AsmKind.{AsmKind}
 use Rattle.cbpf_text.specs.declared.fault.AsmKind.TheVariants as kinds
-use Rattle.cbpf_text.specs.Labels.{name_of, set_labels, times_among, AreDistinct, IsPlace}
+use Rattle.cbpf_text.specs.Labels.{name_of, set_labels, times_among, AreDistinct}
 use Rattle.cbpf_text.specs.Operands.{HasForm, literal_in, targets_in}
-use Rattle.cbpf_text.specs.Assembled.{IsOffset, FillsFields, IsEncoded, EncodeEach, HasProgramLength, AreEncoded}
+use Rattle.cbpf_text.specs.Assembled.{FillsFields, IsEncoded, EncodeEach, HasProgramLength, AreEncoded}
 use Rattle.cbpf_text.specs.Assembled.{AssembleTokens}
-use Rattle.cbpf_text.specs.Refusals.{IsFirstRepeat, Use, is_conditional, uses_of, uses_from, IsUseFault, IsGoodUse}
+use Rattle.cbpf_text.specs.Refusals.{IsFirstRepeat, Use, is_conditional, uses_of, uses_from, IsGoodUse}
 use Rattle.cbpf_text.specs.Refusals.{IsFirstBadUse, IsItemsFault, IsTokensFault, piece_kind, grammar_kind, shown_at}
-use Rattle.cbpf_text.specs.Refusals.IsUseFault.{not_set, not_after, too_far}
 use Rattle.cbpf_text.specs.Refusals.IsItemsFault.{no_item, too_many, set_twice, bad_use}
 use Rattle.cbpf_text.specs.Refusals.IsTokensFault.{of_grammar, of_items}
 use Rattle.cbpf_text.specs.Refusals.IsTextFault.{of_piece, of_tokens}
-use Rattle.cbpf_text.specs.Tables.{labels_from, place_among, IsLookup}
 use Rattle.cbpf_text.specs.Laws.{EachAnswered}
-use Rattle.cbpf_text.proofs.LabelLists.{distinct_more, lookup_found}
-use Rattle.cbpf_text.proofs.Forms.{use_of, good_use, items_forms, bad_here, bad_after}
+use Rattle.cbpf_text.proofs.LabelLists.{distinct_more}
+use Rattle.cbpf_text.proofs.Forms.{items_forms, bad_here, bad_after}
+use Rattle.cbpf_text.proofs.Uses.{use_of, good_use, HasOffset, HasPlace, no_target, each_use}
 use Rattle.cbpf_text.proofs.Faults.{tokens_assembled}
 
 get_some : {A : Type 0} (xs : List A) (i : ℕ) → i < length xs → (x : A) × (slice_get xs i ≡ Some x)
@@ -66,35 +64,6 @@ labels_once before (t ∷ after) d = elim (cases_lt 0 (times_among before (name_
       (labels_once (before ++ (t ∷ [])) after (distinct_more before t d (omega (arith, l))))
 ]
 
--- a use with an offset that it may have
-abbrev HasOffset : List Item → ℕ → Bool → Option Lexeme → Type 0
-HasOffset is index short o = (n : ℕ) × IsOffset is index o n × (short ≡ true → n ≤ FARTHEST)
-
-abbrev HasPlace : List Item → Use → Type 0
-HasPlace is u = HasOffset is u.index u.short (Some u.target)
-
-each_use : (is : List Item) (u : Use) → AreDistinct (set_labels is)
-    → ((kind : AsmKind) × IsUseFault is u kind) ⊎ HasPlace is u
-each_use is u d =
-    by_lookup (place_among (labels_from 0 is) (name_of u.target)) (lookup_found is (name_of u.target) _ d refl)
-  where
-    by_short : (b : Bool) → u.short ≡ b → (n : ℕ) → IsPlace is (name_of u.target) (u.index + 1 + n)
-        → ((kind : AsmKind) × IsUseFault is u kind) ⊎ HasPlace is u
-    by_short true e n at = elim (cases_lt FARTHEST n) [
-      | inl far ↦ inl (kinds.TooFar, too_far (u.index + 1 + n) at.sets e (omega (arith, far)))
-      | inr near ↦ inr (n, at, λ _. near)
-    ]
-    by_short false e n at = inr (n, at, λ z. let k : false ≡ true = sym e ∙ z in cc)
-
-    by_lookup : (o : Option ℕ) → IsLookup is (name_of u.target) o
-        → ((kind : AsmKind) × IsUseFault is u kind) ⊎ HasPlace is u
-    by_lookup None e = inl (kinds.LabelNotSet, not_set e)
-    by_lookup (Some p) at = elim (cases_lt u.index p) [
-      | inl l ↦ let e : p ≡ u.index + 1 + (p - u.index - 1) = omega (arith, l) in
-          by_short u.short refl (p - u.index - 1) (subst (IsPlace is (name_of u.target)) e at)
-      | inr l ↦ inl (kinds.NotAfter, not_after p at.sets l)
-    ]
-
 abbrev AllPlaced : List Item → List Use → Type 0
 AllPlaced is [] = Unit {0}
 AllPlaced is (u ∷ us) = HasPlace is u × AllPlaced is us
@@ -111,7 +80,7 @@ each_placed is (u ∷ us) d = elim (each_use is u d) [
       b.0,
       b.1,
       bad_after is (u ∷ []) us b.0 b.1
-          (All-cons (IsGoodUse is) u [] (good_use is u.index u.target p.0 u.short p.1 p.2)
+          (All-cons (IsGoodUse is) u [] (good_use is u.index u.target p.0 u.short p.1)
           (All-nil (IsGoodUse is))) b.2,
     )
     | inr q ↦ inr (p, q)
@@ -125,7 +94,7 @@ placed_parts is (u ∷ us) vs p = let q = placed_parts is us vs p.1 in ((p.0, q.
 -- the instructions of items whose targets have places
 offset_at : (is : List Item) (index : ℕ) (short : Bool) (ts : List Lexeme) (i : ℕ)
     → AllPlaced is (map (use_of index short) ts) → HasOffset is index short (slice_get ts i)
-offset_at is index short [] i p = (0, refl, λ _. omega arith)
+offset_at is index short [] i p = no_target is index short
 offset_at is index short (t ∷ ts) zero p = p.0
 offset_at is index short (t ∷ ts) (suc i) p = offset_at is index short ts i p.1
 
@@ -140,10 +109,10 @@ filled is index Branch code k ts p =
     let q = offset_at is index true ts 1 p in (
       record { code = code; jt = o.0; jf = q.0; k = k },
       refl,
-      (record { is = o.1; short = o.2 refl }, record { is = q.1; short = q.2 refl }, refl),
+      (o.1, q.1, refl),
     )
 filled is index Swapped code k ts p = let o = offset_at is index true ts 0 p in
-    (record { code = code; jt = 0; jf = o.0; k = k }, refl, (refl, record { is = o.1; short = o.2 refl }, refl))
+    (record { code = code; jt = 0; jf = o.0; k = k }, refl, (refl, o.1, refl))
 
 encoded : (is : List Item) (index : ℕ) (item : Item) → AllPlaced is (uses_of index item)
     → (insn : Insn) × IsEncoded is index item insn

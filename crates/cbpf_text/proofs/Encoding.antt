@@ -17,7 +17,8 @@ use Rattle.cbpf_text.specs.declared.placed_fault.PlacedFault.{PlacedFault}
 use Rattle.cbpf_syntax.proofs.Steps.{some_known}
 use Rattle.cbpf_text.specs.declared.draft.Statement.{Statement}
 use Rattle.cbpf_text.specs.Drafts.{IsStatement, AreStatements}
-use Rattle.cbpf_text.proofs.Forms.{takes, form_takes, use_of, good_use, reported_more, bad_after, bad_before}
+use Rattle.cbpf_text.proofs.Forms.{takes, form_takes, reported_more, bad_after, bad_before}
+use Rattle.cbpf_text.proofs.Uses.{use_of, good_use}
 
 neither : (a b : Bool) → (a ≡ true → ⊥) → (b ≡ true → ⊥) → (a || b) ≡ true → ⊥
 neither a b h1 h2 h3 = search (rules)
@@ -27,17 +28,17 @@ fields_good : (is : List Item) (index : ℕ) (f : Fields) (k : ℕ) (ts : List L
     → All (IsGoodUse is) (map (use_of index (is_conditional f)) ts)
 fields_good is index Constant k (t ∷ ts) insn p e = search (rules, eqb-true)
 fields_good is index Goto k (t ∷ []) insn p e = All-cons (IsGoodUse is) (use_of index false t) []
-    (good_use is index t insn.k false p.2 (λ z. let c : false ≡ true = z in cc)) (All-nil (IsGoodUse is))
+    (good_use is index t insn.k false p.2) (All-nil (IsGoodUse is))
 fields_good is index Goto k (t ∷ u ∷ ts) insn p e = search (rules, eqb-true)
 fields_good is index Branch k (t ∷ []) insn p e = All-cons (IsGoodUse is) (use_of index true t) []
-    (good_use is index t insn.jt true p.0.is (λ z. p.0.short)) (All-nil (IsGoodUse is))
+    (good_use is index t insn.jt true p.0) (All-nil (IsGoodUse is))
 fields_good is index Branch k (t ∷ u ∷ []) insn p e =
     All-cons (IsGoodUse is) (use_of index true t) (use_of index true u ∷ [])
-    (good_use is index t insn.jt true p.0.is (λ z. p.0.short)) (All-cons (IsGoodUse is) (use_of index true u) []
-    (good_use is index u insn.jf true p.1.is (λ z. p.1.short)) (All-nil (IsGoodUse is)))
+    (good_use is index t insn.jt true p.0) (All-cons (IsGoodUse is) (use_of index true u) []
+    (good_use is index u insn.jf true p.1) (All-nil (IsGoodUse is)))
 fields_good is index Branch k (t ∷ u ∷ v ∷ ts) insn p e = search (rules, neither, eqb-true)
 fields_good is index Swapped k (t ∷ []) insn p e = All-cons (IsGoodUse is) (use_of index true t) []
-    (good_use is index t insn.jf true p.1.is (λ z. p.1.short)) (All-nil (IsGoodUse is))
+    (good_use is index t insn.jf true p.1) (All-nil (IsGoodUse is))
 fields_good is index Swapped k (t ∷ u ∷ ts) insn p e = search (rules, eqb-true)
 fields_good is index x k ts insn p e = All-nil (IsGoodUse is)
 

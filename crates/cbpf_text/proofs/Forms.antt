@@ -1,7 +1,6 @@
 -- Items by their forms: how many targets each has, and its mnemonic.
 use Rattle.std.proofs.Common.{◌++◌, append_assoc, ap, ◌≡◌, refl, ◌∙◌, ℕ, zero, suc, ◌+◌, Bool, true, false, List, []}
-use Rattle.std.proofs.Common.{◌∷◌, length, drop, arith, rules, sym, subst, ◌≤◌, map, Option, Some, None}
-use Rattle.cbpf_text.specs.declared.encode.TheConstants.{FARTHEST}
+use Rattle.std.proofs.Common.{◌∷◌, length, drop, arith, rules, sym, subst, map, Option, Some, None}
 use Rattle.std.proofs.lemmas.List.Elements.{All-append, All-nil, All-cons}
 use Rattle.std.specs.Prelude.{All, Contains, ◌==◌, ◌||◌, slice_get}
 use Rattle.std.specs.List.{list_all}
@@ -17,13 +16,11 @@ use Rattle.cbpf_syntax.specs.Items.{Item, Items, Form, names_at, label_classes}
 use Rattle.cbpf_syntax.proofs.Elements.{list_all_at}
 use Rattle.cbpf_text.specs.Operands.{HasForm, targets_in}
 use Rattle.cbpf_text.specs.declared.fault.AsmKind.{AsmKind}
-use Rattle.cbpf_text.specs.Labels.{name_of, IsPlace}
 use Rattle.cbpf_text.specs.Assembled.{IsShortOffset, IsOffset, IsEncoded}
 use Rattle.cbpf_text.specs.Refusals.{Use, IsUseFault, IsGoodUse, IsFirstBadUse, IsTargetFault, Reported, uses_of}
 use Rattle.cbpf_text.specs.Refusals.{is_conditional}
 use Rattle.cbpf_text.specs.declared.placed_fault.PlacedFault.{PlacedFault}
-use Rattle.cbpf_text.specs.Refusals.IsUseFault.{not_set, not_after, too_far}
-use Rattle.cbpf_text.proofs.LabelLists.{one_place}
+use Rattle.cbpf_text.proofs.Uses.{use_of, good_use}
 use Rattle.cbpf_text.specs.declared.draft.Target.{Target}
 use Rattle.cbpf_text.specs.Drafts.{IsTarget, AreTargets, IsStatement}
 use Rattle.cbpf_text.specs.declared.draft.Statement.{Statement}
@@ -82,21 +79,6 @@ items_forms ts (i ∷ is) p (suc k) d l = items_forms p.1 is p.4 k d (omega arit
 
 -- The targets of one instruction: which are good, and the first that is refused.
 
-abbrev pub use_of : ℕ → Bool → Lexeme → Use
-use_of index short t = record { index = index; target = t; short = short }
-
--- a target that has an offset isn't refused
-pub good_use : (is : List Item) (index : ℕ) (t : Lexeme) (n : ℕ) (short : Bool)
-    → IsPlace is (name_of t) (index + 1 + n) → (short ≡ true → n ≤ FARTHEST) → IsGoodUse is (use_of index short t)
-good_use is index t n short p le kind (not_set e) = absurd (omega (arith, p.once, e))
-good_use is index t n short p le kind (not_after place s l) =
-    let e : place ≡ index + 1 + n = one_place is place (index + 1 + n) (name_of t) p.once s p.sets in
-    absurd (omega (arith, e, l))
-good_use is index t n short p le kind (too_far place s b l) =
-    let e : place ≡ index + 1 + n = one_place is place (index + 1 + n) (name_of t) p.once s p.sets in
-    let m : n ≤ FARTHEST = le b in
-    absurd (omega (arith, e, l, m))
-
 -- the first use that is refused, at the front, after good ones, and before others
 pub bad_here : (is : List Item) (u : Use) (uses : List Use) (kind : AsmKind) (at : ℕ) → IsUseFault is u kind
     → at ≡ u.target.at → IsFirstBadUse is (u ∷ uses) kind at
@@ -139,7 +121,7 @@ pub second_bad : (is : List Item) (index : ℕ) (ts : List Lexeme) (n : ℕ) (ki
     → IsFirstBadUse is (map (use_of index true) ts) kind at
 second_bad is index (t ∷ u ∷ ts) n kind at o f =
     bad_after is (use_of index true t ∷ []) (map (use_of index true) (u ∷ ts)) kind at
-    (All-cons (IsGoodUse is) (use_of index true t) [] (good_use is index t n true o.is (λ e. o.short))
+    (All-cons (IsGoodUse is) (use_of index true t) [] (good_use is index t n true o)
     (All-nil (IsGoodUse is))) (bad_here is (use_of index true u) (map (use_of index true) ts) kind at f.0 f.1)
 second_bad is index x n kind at o f = absurd f
 

@@ -1,7 +1,7 @@
 -- A text has at most one answer: one list of instructions, or one refusal with a line.
 use Rattle.std.proofs.lemmas.List.Elements.{All-contains, Contains-append_right}
 use Rattle.std.proofs.lemmas.Option.{slice_get_within}
-use Rattle.std.proofs.Common.{rules, ◌≡◌, refl, sym, ◌∙◌, subst, ℕ, ◌+◌, List, [], ◌∷◌, Option, Some, None, arith, ◌≢◌}
+use Rattle.std.proofs.Common.{rules, ◌≡◌, refl, sym, ◌∙◌, subst, ℕ, ◌+◌, List, [], ◌∷◌, arith, ◌≢◌}
 use Rattle.std.proofs.Common.{ap, ◌<◌, ◌++◌, length}
 use Rattle.std.specs.Prelude.{All}
 use Rattle.cbpf_syntax.proofs.Outcomes.{one_list}
@@ -10,17 +10,17 @@ use Rattle.cbpf_syntax.specs.declared.table.Fields.{Fields}
 use Rattle.cbpf_syntax.specs.Lexemes.{Lexeme, lexemes_of}
 use Rattle.cbpf_syntax.specs.Items.{Item}
 use Rattle.cbpf_syntax.proofs.Apart.{one_reading, bytes_eq_self}
-use Rattle.cbpf_text.specs.Labels.{name_of, times_among, AreDistinct, set_labels, times_set, SetsAt}
-use Rattle.cbpf_text.specs.Assembled.{AssembleTokens, EncodeEach, IsEncoded, FillsFields, IsOffset, AreEncoded}
+use Rattle.cbpf_text.specs.Labels.{name_of, times_among, AreDistinct, set_labels}
+use Rattle.cbpf_text.specs.Assembled.{AssembleTokens, EncodeEach, IsEncoded, FillsFields, AreEncoded}
 use Rattle.cbpf_text.specs.Assembled.{HasProgramLength}
 use Rattle.cbpf_text.specs.Operands.{HasForm}
 use Rattle.cbpf_text.specs.Laws.{OneAssembly, NeverBoth, OneRefusal}
-use Rattle.cbpf_text.proofs.LabelLists.{one_place, times_append, times_cons, times_hit, distinct_once, sets_some}
+use Rattle.cbpf_text.proofs.LabelLists.{times_append, times_cons, times_hit}
 use Rattle.std.proofs.lemmas.Grind.{common_steps}
 use Rattle.cbpf_code.specs.declared.checker.TheConstants.{MAX_INSTRUCTIONS}
 use Rattle.cbpf_syntax.proofs.Refused.{items_accepted}
 use Rattle.cbpf_text.specs.declared.fault.AsmKind.{AsmKind}
-use Rattle.cbpf_text.specs.Refusals.{IsGoodUse, IsItemsFault, IsTokensFault, Use, IsUseFault, IsFirstRepeat}
+use Rattle.cbpf_text.specs.Refusals.{IsGoodUse, IsItemsFault, IsTokensFault, Use, IsFirstRepeat}
 use Rattle.cbpf_text.specs.Refusals.{IsFirstBadUse, IsExcess, uses_from, piece_kind, grammar_kind, shown_at}
 use Rattle.cbpf_text.specs.Refusals.IsItemsFault.{no_item, too_many, set_twice, bad_use}
 use Rattle.cbpf_text.specs.Refusals.IsTokensFault.{of_grammar, of_items}
@@ -32,13 +32,7 @@ use Rattle.cbpf_syntax.proofs.OneRefusal as grammar
 use Rattle.cbpf_syntax.specs.Tokens.{line_of}
 use Rattle.cbpf_syntax.proofs.Cuts.{some-same}
 use Rattle.cbpf_syntax.specs.Reading.{IsPlaceOf}
-use Rattle.cbpf_text.specs.Refusals.IsUseFault.{not_set, not_after, too_far}
-
-one_offset : (is : List Item) (index : ℕ) (o : Option Lexeme) (m n : ℕ) → IsOffset is index o m
-    → IsOffset is index o n → m ≡ n
-one_offset is index None m n p q = p ∙ sym q
-one_offset is index (Some t) m n p q =
-    omega (arith, one_place is (index + 1 + m) (index + 1 + n) (name_of t) p.once p.sets q.sets)
+use Rattle.cbpf_text.proofs.Uses.{one_offset, one_kind}
 
 one_fields : (is : List Item) (index : ℕ) (f : Fields) (k : ℕ) (ts : List Lexeme) (a b : Insn)
     → FillsFields f is index k ts a → FillsFields f is index k ts b → (a.jt ≡ b.jt) × (a.jf ≡ b.jf) × (a.k ≡ b.k)
@@ -128,26 +122,6 @@ one_repeat ls m n a b = by_order (order a.before b.before a.label b.label a.afte
     by_order (same e) = a.place ∙ (ap (λ (t : Lexeme). t.at) e ∙ sym b.place)
     by_order (before w e) = absurd (no_repeat a.before a.label w (subst AreDistinct e b.distinct) a.given)
     by_order (after w e) = absurd (no_repeat b.before b.label w (subst AreDistinct e a.distinct) b.given)
-
-same_set : (is : List Item) (p q : ℕ) (name : List ℕ) → AreDistinct (set_labels is) → SetsAt is p name
-    → SetsAt is q name → p ≡ q
-same_set is p q name d s t =
-    let some : 0 < times_set is name = sets_some is p name s in
-    one_place is p q name (distinct_once (set_labels is) name d (λ z. omega (arith, some, z))) s t
-
-one_kind : (is : List Item) (u : Use) (k l : AsmKind) → AreDistinct (set_labels is) → IsUseFault is u k
-    → IsUseFault is u l → k ≡ l
-one_kind is u k l d (not_set e) (not_set f) = refl
-one_kind is u k l d (not_set e) (not_after p s h) = absurd (omega (arith, e, sets_some is p (name_of u.target) s))
-one_kind is u k l d (not_set e) (too_far p s b h) = absurd (omega (arith, e, sets_some is p (name_of u.target) s))
-one_kind is u k l d (not_after p s h) (not_set e) = absurd (omega (arith, e, sets_some is p (name_of u.target) s))
-one_kind is u k l d (not_after p s h) (not_after q t g) = refl
-one_kind is u k l d (not_after p s h) (too_far q t b g) =
-    absurd (omega (arith, same_set is p q (name_of u.target) d s t, h, g))
-one_kind is u k l d (too_far p s b h) (not_set e) = absurd (omega (arith, e, sets_some is p (name_of u.target) s))
-one_kind is u k l d (too_far p s b h) (not_after q t g) =
-    absurd (omega (arith, same_set is p q (name_of u.target) d s t, h, g))
-one_kind is u k l d (too_far p s b h) (too_far q t c g) = refl
 
 one_bad : (is : List Item) (uses : List Use) (k l : AsmKind) (m n : ℕ) → AreDistinct (set_labels is)
     → IsFirstBadUse is uses k m → IsFirstBadUse is uses l n → (k ≡ l) × (m ≡ n)

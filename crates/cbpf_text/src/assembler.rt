@@ -53,10 +53,10 @@ fn encode_draft<A: Allocator + Copy>(
 ///
 /// # Errors
 ///
-/// `At`: what is wrong, and on which line. First come A1, A2 and A3 of a number above
-/// 4294967295, over the whole text; then A4, A5 and A3 of a number above 2147483648 after
-/// a `-`; then A11 and A10; then A6; then A7, A8 and A9, target by target. Of each of these
-/// groups it is the first in the text. `Memory`: the allocator refused, whatever the text is.
+/// `At`: what is wrong, and on which line. First come bytes and numbers that are no tokens, over
+/// the whole text; then tokens that form no instructions, and numbers out of range after a `-`;
+/// then the count of instructions; then labels set twice; then targets, one by one. Of each of
+/// these groups it is the first in the text. `Memory`: the allocator refused, whatever the text is.
 pub fn assemble<A: Allocator + Copy>(alloc: A, text: &[u8]) -> Result<Vec<Insn, A>, AsmFault>
     ensures assembled { IfOk result (λ v. Assembles text.now v.items) }
     ensures refused { IfErr result (IsRefused text.now) }

@@ -39,8 +39,8 @@ pub(crate) fn line_of(text: &[u8], at: usize) -> u64
 ///
 /// # Errors
 ///
-/// A1, A2, or A3 of a number above 4294967295: the first in the text, with its line.
-/// `Memory`: the allocator refused, whatever the text is.
+/// `At`: the first piece of the text that is no token, with its line. `Memory`: the allocator refused,
+/// whatever the text is.
 pub fn tokens<A: Allocator>(alloc: A, text: &[u8]) -> Result<Vec<Token, A>, AsmFault>
     ensures lexed { IfOk result (λ v. Lexes text.now v.items) }
     ensures spans { IfOk result (λ v. All (IsSpanOf text.now) v.items) }
