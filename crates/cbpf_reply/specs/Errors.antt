@@ -4,28 +4,18 @@ use Rattle.cbpf_code.specs.declared.words.WordFault.{WordFault}
 use Rattle.cbpf_code.specs.declared.words.WordFault.TheVariants as word
 use Rattle.cbpf_code.specs.declared.checker.CheckFault.{CheckFault}
 use Rattle.cbpf_code.specs.declared.checker.CheckFault.TheVariants as check
-use Rattle.pcap_classic.specs.declared.fault.CaptureFault.{CaptureFault}
-use Rattle.pcap_classic.specs.declared.fault.CaptureFault.TheVariants as capture
+use Rattle.pcap_classic.specs.declared.header.CaptureFault.{CaptureFault}
+use Rattle.pcap_classic.specs.declared.header.CaptureFault.TheVariants as capture
 use Rattle.cbpf_code.specs.Text.{with_number}
+use Rattle.cbpf_reply.specs.declared.errors.CommandFault.{CommandFault}
+use Rattle.cbpf_reply.specs.declared.errors.CommandFault.TheVariants as command
+use Rattle.cbpf_reply.specs.declared.errors.LoadFault.{LoadFault}
+use Rattle.cbpf_reply.specs.declared.errors.LoadFault.TheVariants as load
 use Rattle.cbpf_reply.specs.Numbers.{with_numbers}
 use Rattle.cbpf_reply.specs.declared.reply.SessionFault.{SessionFault}
 use Rattle.cbpf_reply.specs.declared.reply.SessionFault.TheVariants.{NoProgram, NoCapture, NoPackets, NoInstruction}
 use Rattle.cbpf_reply.specs.declared.reply.SessionFault.TheVariants.{NoPacket, NoStep, TooFarBack, ZeroCount, NoValue}
 use Rattle.cbpf_reply.specs.declared.reply.SessionFault.TheVariants.{Memory}
-
--- ---- refusals of a line and of a file, and out of memory
-
-abbrev pub unknown_command_text : List ℕ
-unknown_command_text = codes "error: Q1 unknown command\n"
-
-abbrev pub wrong_arguments_text : List ℕ
-wrong_arguments_text = codes "error: Q2 wrong arguments\n"
-
-abbrev pub absent_text : List ℕ
-absent_text = codes "error: F1 no such file\n"
-
-abbrev pub device_text : List ℕ
-device_text = codes "error: F2 file could not be read\n"
 
 abbrev pub memory_text : List ℕ
 memory_text = codes "error: out of memory\n"
@@ -33,7 +23,16 @@ memory_text = codes "error: out of memory\n"
 abbrev pub no_program_text : List ℕ
 no_program_text = codes "error: S1 no program\n"
 
--- ---- refusals of word text, of the checker and of a capture
+-- ---- refusals of a line, of a file, of word text, of the checker and of a capture
+
+unfoldable pub command_fault_text : CommandFault → List ℕ
+command_fault_text command.UnknownCommand = codes "error: Q1 unknown command\n"
+command_fault_text command.WrongArguments = codes "error: Q2 wrong arguments\n"
+
+unfoldable pub load_fault_text : LoadFault → List ℕ
+load_fault_text load.Absent = codes "error: F1 no such file\n"
+load_fault_text load.Device = codes "error: F2 file could not be read\n"
+load_fault_text load.Memory = memory_text
 
 unfoldable pub word_fault_text : WordFault → List ℕ
 word_fault_text word.Memory = memory_text

@@ -9,32 +9,24 @@ use cbpf_code::{CheckFault, WordFault, WriteFault, write_bytes, write_with_numbe
 use pcap_classic::CaptureFault;
 use std::io::Write;
 
-/// Writes Q1: no command has this name.
-pub fn write_unknown_command<W: Write>(w: &mut W) -> Result<(), WriteFault>
-    ensures { Wrote (W.contents w.old) (W.contents w.new) result spec.unknown_command_text }
-{
-    write_bytes(w, b"error: Q1 unknown command\n")
+/// Why a line is no command.
+#[derive(Clone, Copy, Debug, PartialEq, Eq)]
+pub enum CommandFault {
+    /// Q1: the first word is no command's.
+    UnknownCommand,
+    /// Q2: a missing, extra or unreadable argument.
+    WrongArguments,
 }
 
-/// Writes Q2: an argument is missing, too many, or none that the command takes.
-pub fn write_wrong_arguments<W: Write>(w: &mut W) -> Result<(), WriteFault>
-    ensures { Wrote (W.contents w.old) (W.contents w.new) result spec.wrong_arguments_text }
-{
-    write_bytes(w, b"error: Q2 wrong arguments\n")
-}
-
-/// Writes F1: there is no such file.
-pub fn write_absent<W: Write>(w: &mut W) -> Result<(), WriteFault>
-    ensures { Wrote (W.contents w.old) (W.contents w.new) result spec.absent_text }
-{
-    write_bytes(w, b"error: F1 no such file\n")
-}
-
-/// Writes F2: the file could not be read.
-pub fn write_unreadable<W: Write>(w: &mut W) -> Result<(), WriteFault>
-    ensures { Wrote (W.contents w.old) (W.contents w.new) result spec.device_text }
-{
-    write_bytes(w, b"error: F2 file could not be read\n")
+/// Why a file was not loaded.
+#[derive(Clone, Copy, PartialEq, Eq, Debug)]
+pub enum LoadFault {
+    /// F1: there is no file of that name.
+    Absent,
+    /// F2: the file could not be read.
+    Device,
+    /// Out of memory for its bytes.
+    Memory,
 }
 
 /// Writes that it is out of memory.
@@ -49,6 +41,29 @@ pub fn write_no_program<W: Write>(w: &mut W) -> Result<(), WriteFault>
     ensures { Wrote (W.contents w.old) (W.contents w.new) result spec.no_program_text }
 {
     write_bytes(w, b"error: S1 no program\n")
+}
+
+/// Writes why a line is no command.
+#[tactic(auto, unfolding(crate::specs::Errors::command_fault_text))]
+pub fn write_command_fault<W: Write>(w: &mut W, fault: CommandFault) -> Result<(), WriteFault>
+    ensures { Wrote (W.contents w.old) (W.contents w.new) result (spec.command_fault_text fault) }
+{
+    match fault {
+        CommandFault::UnknownCommand => write_bytes(w, b"error: Q1 unknown command\n"),
+        CommandFault::WrongArguments => write_bytes(w, b"error: Q2 wrong arguments\n"),
+    }
+}
+
+/// Writes why a file was not loaded.
+#[tactic(auto, unfolding(crate::specs::Errors::load_fault_text))]
+pub fn write_load_fault<W: Write>(w: &mut W, fault: LoadFault) -> Result<(), WriteFault>
+    ensures { Wrote (W.contents w.old) (W.contents w.new) result (spec.load_fault_text fault) }
+{
+    match fault {
+        LoadFault::Absent => write_bytes(w, b"error: F1 no such file\n"),
+        LoadFault::Device => write_bytes(w, b"error: F2 file could not be read\n"),
+        LoadFault::Memory => write_out_of_memory(w),
+    }
 }
 
 /// Writes the line of a word text's refusal, with its number, or that it is out of memory.

@@ -29,9 +29,8 @@ pub use cbpf_machine::When;
 pub use counts::{write_finished, write_limit, write_place, write_went_to};
 pub use dump::write_stop;
 pub use errors::{
-    write_absent, write_capture_fault, write_check_fault, write_no_program, write_out_of_memory,
-    write_session_fault, write_unknown_command, write_unreadable, write_word_fault,
-    write_wrong_arguments,
+    CommandFault, LoadFault, write_capture_fault, write_check_fault, write_command_fault,
+    write_load_fault, write_no_program, write_out_of_memory, write_session_fault, write_word_fault,
 };
 pub use law::{place_order, row_length};
 pub use loads::{write_capture, write_program};

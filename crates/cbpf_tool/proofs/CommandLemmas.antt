@@ -12,7 +12,7 @@ use Rattle.std.proofs.lemmas.Str.Ascii.{IsAscii-nil, IsAscii-cons}
 use Rattle.cbpf_tool.specs.Words.{words, after_words, trimmed}
 use Rattle.cbpf_tool.specs.Commands.{Reading, readings, reading_in, by_name, name_in, load_by}
 use Rattle.cbpf_tool.specs.declared.command.Command.TheVariants.{LoadCapture}
-use Rattle.cbpf_tool.specs.declared.command.CommandFault.TheVariants.{UnknownCommand}
+use Rattle.cbpf_reply.specs.declared.errors.CommandFault.TheVariants.{UnknownCommand}
 
 differs : (w p : List ℕ) (t : Bool) → bytes_eq w p ≡ t → (w ≡ p → ⊥) → bytes_eq w p ≡ false
 differs w p true e n = absurd (n ((bytes_eq-Decides w p).0 e))

@@ -9,19 +9,20 @@ use Rattle.cbpf_code.specs.declared.insn.Insn.{Insn}
 use Rattle.cbpf_tool.specs.Commands.{command_of}
 use Rattle.cbpf_tool.specs.declared.command.Command.{Command}
 use Rattle.cbpf_tool.specs.declared.command.Command.TheVariants.{LoadWords, LoadCapture, Session, Quit}
-use Rattle.cbpf_tool.specs.declared.command.CommandFault.{CommandFault}
+use Rattle.cbpf_reply.specs.declared.errors.CommandFault.{CommandFault}
 use Rattle.cbpf_dbg.specs.View.{View}
 use Rattle.pcap_classic.specs.Savefile.{Savefile, IsSavefile, IsRefusal}
-use Rattle.pcap_classic.specs.declared.fault.CaptureFault.{CaptureFault}
-use Rattle.pcap_classic.specs.declared.fault.CaptureFault.TheVariants as capture_fault
+use Rattle.pcap_classic.specs.declared.header.CaptureFault.{CaptureFault}
+use Rattle.pcap_classic.specs.declared.header.CaptureFault.TheVariants as capture_fault
 use Rattle.pcap_classic.proofs.SavefileLemmas as captures
 use Rattle.cbpf_tool.specs.FileMap.{FileMap}
 use Rattle.cbpf_tool.specs.Output.{at_end, at_quit, at_line}
 use Rattle.cbpf_tool.specs.Replies.{Reply, LoadsWords, unreadable, unsound, accepted, ReadsCapture, no_capture}
-use Rattle.cbpf_tool.specs.Replies.{a_capture, LoadsCapture, OwnReply, own, unheld, unread, command_fault_text}
+use Rattle.cbpf_tool.specs.Replies.{a_capture, LoadsCapture, OwnReply, own, unheld, unread}
 use Rattle.cbpf_tool.specs.SessionReplies.{reply_to}
-use Rattle.cbpf_reply.specs.Errors.{memory_text, device_text, word_fault_text, check_fault_text, capture_fault_text}
-use Rattle.cbpf_reply.specs.Errors.{absent_text}
+use Rattle.cbpf_reply.specs.Errors.{memory_text, command_fault_text, load_fault_text}
+use Rattle.cbpf_reply.specs.Errors.{word_fault_text, check_fault_text, capture_fault_text}
+use Rattle.cbpf_reply.specs.declared.errors.LoadFault.TheVariants.{Absent, Device}
 use Rattle.cbpf_reply.specs.Loads.{program_text, capture_text}
 use Rattle.cbpf_dbg.specs.Commands.{with_program_loaded, with_capture_loaded}
 use Rattle.cbpf_tool.specs.Laws.{OwnOutput, own_end, own_quit, own_line, Stands, OneOutput}
@@ -112,7 +113,7 @@ some-reads m bytes = elim (captures.has_answer bytes) [
     by e r = ((capture_fault_text e, m), no_capture e r (λ z. cc) refl)
 
 some-capture : (m : View) (bytes : Option (List ℕ)) → (r : Reply) × LoadsCapture m bytes r
-some-capture m None = ((absent_text, m), refl)
+some-capture m None = ((load_fault_text Absent, m), refl)
 some-capture m (Some bytes) = some-reads m bytes
 
 own-some : (files : FileMap) (m : View) (said : Result (Option Command) CommandFault)
@@ -154,8 +155,8 @@ no_other files m f g ls t at_end memory device = own_end
 no_other files m f g ls t (at_quit l more q) memory device = own_quit l more q
 no_other files m f g ls t (at_line {g = mid} {rest = rest} {ls = more} l r (own k a) o) memory device =
     own_line l r a (no_other files r.1 mid g more rest o
-    (λ h. memory (later-stands memory_text r.0 rest h)) (λ h. device (later-stands device_text r.0 rest h)))
+    (λ h. memory (later-stands memory_text r.0 rest h)) (λ h. device (later-stands (load_fault_text Device) r.0 rest h)))
 no_other files m f g ls t (at_line {rest = rest} l r (unheld k u w) o) memory device =
     absurd (memory (first-stands memory_text rest m r w))
 no_other files m f g ls t (at_line {rest = rest} l r (unread k u w) o) memory device =
-    absurd (device (first-stands device_text rest m r w))
+    absurd (device (first-stands (load_fault_text Device) rest m r w))

@@ -12,22 +12,22 @@ use Rattle.cbpf_dbg.specs.View.{View}
 use Rattle.cbpf_dbg.specs.Commands.{with_program_loaded, with_capture_loaded}
 use Rattle.cbpf_tool.specs.FileMap.{Source}
 use Rattle.cbpf_tool.specs.Loads.{Loads}
-use Rattle.cbpf_tool.specs.Progress.{Kept, Replied, Answered, LineRan, load_fault_text}
+use Rattle.cbpf_tool.specs.Progress.{Kept, Replied, Answered, LineRan}
 use Rattle.cbpf_tool.specs.declared.debugger.AfterLine.{AfterLine}
-use Rattle.cbpf_tool.specs.declared.files.LoadFault.TheVariants.{Absent, Device, Memory}
+use Rattle.cbpf_reply.specs.declared.errors.LoadFault.TheVariants.{Absent, Device, Memory}
 use Rattle.cbpf_code.specs.declared.writing.WriteFault.{WriteFault}
-use Rattle.cbpf_tool.specs.declared.command.CommandFault.{CommandFault}
+use Rattle.cbpf_reply.specs.declared.errors.CommandFault.{CommandFault}
 use Rattle.std.specs.Result.{IsOkAnd, MatchResult}
 use Rattle.cbpf_tool.specs.declared.debugger.AfterLine.TheVariants.{NextLine, Quit}
-use Rattle.cbpf_reply.specs.Errors.{word_fault_text, check_fault_text, capture_fault_text}
+use Rattle.cbpf_reply.specs.Errors.{load_fault_text, word_fault_text, check_fault_text, capture_fault_text}
 use Rattle.cbpf_reply.specs.Loads.{program_text, capture_text}
 use Rattle.cbpf_tool.specs.Replies.{unreadable, unsound, accepted, no_capture, a_capture, own, unheld, unread}
-use Rattle.cbpf_tool.specs.declared.files.LoadFault.{LoadFault}
+use Rattle.cbpf_reply.specs.declared.errors.LoadFault.{LoadFault}
 use Rattle.cbpf_tool.specs.declared.command.Command.{Command}
 use Rattle.cbpf_tool.specs.declared.command.Command.TheVariants.{LoadWords, LoadCapture}
 use Rattle.pcap_classic.specs.Savefile.{Savefile, IsSavefile, IsRefusal}
-use Rattle.pcap_classic.specs.declared.fault.CaptureFault.{CaptureFault}
-use Rattle.pcap_classic.specs.declared.fault.CaptureFault.TheVariants as capture_fault
+use Rattle.pcap_classic.specs.declared.header.CaptureFault.{CaptureFault}
+use Rattle.pcap_classic.specs.declared.header.CaptureFault.TheVariants as capture_fault
 
 -- ---- `load bpf`
 
@@ -60,6 +60,7 @@ module _ {V : Type 0} (items : V → List ℕ) (f g : Source) (m n : View) (name
 
   pub load-failed : (e : LoadFault) → Loads items f g name (Err e) → n ≡ m → Written (load_fault_text e)
       → Replied f g m n (Ok (Some (LoadCapture name))) Written
+  unfolding load_fault_text
   load-failed Absent l v w = (kept-from (Err Absent) l, λ t. (_, own l.counts (rw (l.gives t, v) refl), w))
   load-failed Device l v w = (kept-from (Err Device) l, λ t. (_, unread (l.rises, l.counts) tt (rw v refl), w))
   load-failed Memory l v w = (kept-from (Err Memory) l, λ t. (_, unheld l.counts tt (rw v refl), w))

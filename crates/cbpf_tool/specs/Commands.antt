@@ -9,8 +9,8 @@ use Rattle.cbpf_code.specs.Extension.{ext_name, ext_table}
 use Rattle.cbpf_reply.specs.Breakpoints.{When, Always, A, X}
 use Rattle.cbpf_tool.specs.Words.{words, after_words, trimmed}
 use Rattle.cbpf_tool.specs.Numbers.{number, signed_number}
-use Rattle.cbpf_tool.specs.declared.command.CommandFault.{CommandFault}
-use Rattle.cbpf_tool.specs.declared.command.CommandFault.TheVariants.{UnknownCommand, WrongArguments}
+use Rattle.cbpf_reply.specs.declared.errors.CommandFault.{CommandFault}
+use Rattle.cbpf_reply.specs.declared.errors.CommandFault.TheVariants.{UnknownCommand, WrongArguments}
 use Rattle.cbpf_tool.specs.declared.command.Command.{Command}
 use Rattle.cbpf_tool.specs.declared.command.Command.TheVariants.{LoadWords, LoadCapture, Session, Quit}
 use Rattle.cbpf_tool.specs.declared.command.SessionCommand.{SessionCommand}

@@ -8,8 +8,7 @@ use Rattle.std.specs.FinMap as map
 abbrev pub FileMap : Type 0
 FileMap = map.FinMap (slice_cmp nat_cmp) (List ℕ)
 
--- a source of files: the files, how many loads failed for other reasons than an absent name or out of
--- memory, and whether it is known what the source holds
+-- a source of files: the files, how many loads failed by `Device`, and whether it is known what the source holds
 pub record Source : Type 0 where
   pub files : FileMap
   pub failures : ℕ

@@ -4,8 +4,8 @@ use Rattle.std.specs.Coded.{Coded, code_by, coded×, coded_ℕ, coded_list}
 use Rattle.std.specs.FinMap as map
 use Rattle.cbpf_tool.specs.FileMap.{FileMap, Source, known_source}
 
--- the files, how many loads failed for other reasons than an absent name or out of memory, and the number
--- of the load that is to fail, counted from 1 from now on; 0 for none
+-- the files, how many loads failed by `Device`, and the number of the load that is to fail, counted from 1 from now
+-- on; 0 for none
 pub record InMemory : Type 0 where
   pub files : FileMap
   pub failures : ℕ

@@ -6,7 +6,8 @@ use Rattle.cbpf_dbg.specs.View.{View}
 use Rattle.cbpf_tool.specs.FileMap.{FileMap}
 use Rattle.cbpf_tool.specs.Output.{Output}
 use Rattle.cbpf_tool.specs.Replies.{Reply, OwnReply}
-use Rattle.cbpf_reply.specs.Errors.{memory_text, device_text}
+use Rattle.cbpf_reply.specs.Errors.{memory_text, load_fault_text}
+use Rattle.cbpf_reply.specs.declared.errors.LoadFault.TheVariants.{Device}
 
 -- the output of some lines, each with its own reply
 pub data OwnOutput (files : FileMap) : View → List (List ℕ) → List ℕ → Type 0 where
@@ -38,4 +39,4 @@ OwnIsOutput = (files : FileMap) (m : View) (f : ℕ) (ls : List (List ℕ)) (t :
 -- an output in which neither of the two other replies stands is that one
 abbrev pub NoOther : Type 0
 NoOther = (files : FileMap) (m : View) (f g : ℕ) (ls : List (List ℕ)) (t : List ℕ) → Output files m f ls t g
-    → ¬ Stands memory_text t → ¬ Stands device_text t → OwnOutput files m ls t
+    → ¬ Stands memory_text t → ¬ Stands (load_fault_text Device) t → OwnOutput files m ls t

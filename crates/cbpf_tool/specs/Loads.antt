@@ -1,12 +1,12 @@
 -- What a load from a source of files may answer, and what a failure of the file system is reported as.
-use Rattle.std.specs.Prelude.{◌≡◌, ◌≤◌, ◌<◌, ◌+◌, ◌-◌, ◌^◌, ◌⊎◌, min, ℕ, List, Some, None, Result, Ok, Err}
+use Rattle.std.specs.Prelude.{◌≡◌, ◌≤◌, ◌<◌, ◌+◌, ◌-◌, ◌^◌, ◌⊎◌, min, ℕ, List, Some, None, Result, Err}
 use Rattle.std.specs.Prelude.{MatchResult, IsTrue}
 use Rattle.std.specs.FinMap as map
 use Rattle.std.specs.declared.io.ErrorKind.{ErrorKind}
 use Rattle.std.specs.declared.io.ErrorKind.TheVariants.{NotFound, OutOfMemory}
 use Rattle.cbpf_tool.specs.FileMap.{Source}
-use Rattle.cbpf_tool.specs.declared.files.LoadFault.{LoadFault}
-use Rattle.cbpf_tool.specs.declared.files.LoadFault.TheVariants.{Absent, Device, Memory}
+use Rattle.cbpf_reply.specs.declared.errors.LoadFault.{LoadFault}
+use Rattle.cbpf_reply.specs.declared.errors.LoadFault.TheVariants.{Absent, Device, Memory}
 
 -- why a load failed: where the source says what it holds, an absent name is not in its map;
 -- a device fault raises the count, which stops at its greatest value
@@ -17,10 +17,8 @@ Faults old new name Memory = Unit {0}
 
 -- the count of failures after a load, where each device fault is counted once
 abbrev pub counted : {V : Type 0} → Result V LoadFault → ℕ → ℕ
-counted (Ok v) failures = failures
-counted (Err Absent) failures = failures
 counted (Err Device) failures = min (failures + 1) (2 ^ 64 - 1)
-counted (Err Memory) failures = failures
+counted _ failures = failures
 
 -- a load of the name with bytes `name`. A count at its greatest value stays there
 pub record Loads {V : Type 0} (items : V → List ℕ) (old new : Source) (name : List ℕ) (r : Result V LoadFault) :

@@ -5,7 +5,7 @@ use Rattle.cbpf_code.specs.declared.writing.WriteFault.{WriteFault}
 use Rattle.cbpf_tool.specs.Commands.{command_of}
 use Rattle.cbpf_tool.specs.declared.command.Command.{Command}
 use Rattle.cbpf_tool.specs.declared.command.Command.TheVariants as command
-use Rattle.cbpf_tool.specs.declared.command.CommandFault.{CommandFault}
+use Rattle.cbpf_reply.specs.declared.errors.CommandFault.{CommandFault}
 use Rattle.cbpf_tool.specs.FileMap.{FileMap, Source}
 use Rattle.cbpf_tool.specs.Lines.{has_newline, unlines}
 use Rattle.cbpf_dbg.specs.View.{View, empty_view}
@@ -13,9 +13,7 @@ use Rattle.cbpf_tool.specs.Reading.{unread}
 use Rattle.cbpf_tool.specs.Replies.{Reply, LineReplies, CanRunOut}
 use Rattle.cbpf_tool.specs.SessionReplies.{reply_to}
 use Rattle.cbpf_tool.specs.declared.command.SessionCommand.{SessionCommand}
-use Rattle.cbpf_tool.specs.declared.files.LoadFault.{LoadFault}
-use Rattle.cbpf_tool.specs.declared.files.LoadFault.TheVariants.{Absent, Device, Memory}
-use Rattle.cbpf_reply.specs.Errors.{absent_text, device_text, memory_text}
+use Rattle.cbpf_reply.specs.Errors.{memory_text}
 use Rattle.cbpf_tool.specs.declared.debugger.AfterLine.{AfterLine}
 use Rattle.cbpf_tool.specs.declared.debugger.AfterLine.TheVariants.{NextLine, Quit}
 
@@ -44,12 +42,6 @@ Writes reply n Written = (n ≡ reply.1) × Written reply.0
 -- the reply to a command of the session: its own, or `error: out of memory`
 unfoldable pub Replies : View → View → SessionCommand → (List ℕ → Type 0) → Type 0
 Replies m n c Written = Writes (reply_to c m) n Written ⊎ (CanRunOut m c × Writes (memory_text, m) n Written)
-
--- the reply to `load pcap` of a file that is not loaded
-abbrev pub load_fault_text : LoadFault → List ℕ
-load_fault_text Absent = absent_text
-load_fault_text Device = device_text
-load_fault_text Memory = memory_text
 
 -- what a line wrote that was run, by what comes after it
 abbrev pub LineResult : FileMap → View → View → ℕ → ℕ → Result (Option Command) CommandFault → Option (List ℕ)

@@ -14,16 +14,16 @@ use Rattle.cbpf_tool.specs.declared.command.Command.{Command}
 use Rattle.cbpf_tool.specs.declared.command.Command.TheVariants.{LoadWords, LoadCapture, Session, Quit}
 use Rattle.cbpf_tool.specs.declared.command.SessionCommand.{SessionCommand}
 use Rattle.cbpf_tool.specs.declared.command.SessionCommand.TheVariants.{Breakpoint}
-use Rattle.cbpf_tool.specs.declared.command.CommandFault.{CommandFault}
-use Rattle.cbpf_tool.specs.declared.command.CommandFault.TheVariants.{UnknownCommand, WrongArguments}
+use Rattle.cbpf_reply.specs.declared.errors.CommandFault.{CommandFault}
+use Rattle.cbpf_reply.specs.declared.errors.LoadFault.TheVariants.{Absent, Device}
 use Rattle.pcap_classic.specs.Savefile.{Savefile, IsSavefile, IsRefusal}
-use Rattle.pcap_classic.specs.declared.fault.CaptureFault.{CaptureFault}
-use Rattle.pcap_classic.specs.declared.fault.CaptureFault.TheVariants as capture_fault
+use Rattle.pcap_classic.specs.declared.header.CaptureFault.{CaptureFault}
+use Rattle.pcap_classic.specs.declared.header.CaptureFault.TheVariants as capture_fault
 use Rattle.cbpf_tool.specs.FileMap.{FileMap}
 use Rattle.cbpf_dbg.specs.View.{View}
 use Rattle.cbpf_dbg.specs.Commands.{with_program_loaded, with_capture_loaded, breakpoint_when}
 use Rattle.cbpf_tool.specs.SessionReplies.{reply_to}
-use Rattle.cbpf_reply.specs.Errors.{unknown_command_text, wrong_arguments_text, absent_text, device_text, memory_text}
+use Rattle.cbpf_reply.specs.Errors.{command_fault_text, load_fault_text, memory_text}
 use Rattle.cbpf_reply.specs.Errors.{word_fault_text, check_fault_text, capture_fault_text}
 use Rattle.cbpf_reply.specs.Loads.{program_text, capture_text}
 
@@ -48,12 +48,8 @@ pub data ReadsCapture (m : View) (bytes : List ℕ) (reply : Reply) : Type 0 whe
       → reply ≡ (capture_text capture, with_capture_loaded m capture) → ReadsCapture m bytes reply
 
 abbrev pub LoadsCapture : View → Option (List ℕ) → Reply → Type 0
-LoadsCapture m None reply = reply ≡ (absent_text, m)
+LoadsCapture m None reply = reply ≡ (load_fault_text Absent, m)
 LoadsCapture m (Some bytes) reply = ReadsCapture m bytes reply
-
-abbrev pub command_fault_text : CommandFault → List ℕ
-command_fault_text UnknownCommand = unknown_command_text
-command_fault_text WrongArguments = wrong_arguments_text
 
 -- a line's own reply, by what the line says; `quit` has none
 abbrev pub OwnReply : FileMap → View → Result (Option Command) CommandFault → Reply → Type 0
@@ -92,4 +88,4 @@ pub data LineReplies (files : FileMap) (m : View) (f g : ℕ) (said : Result (Op
     (reply : Reply) : Type 0 where
   own : g ≡ f → OwnReply files m said reply → LineReplies files m f g said reply
   unheld : g ≡ f → IsUnheld m said → reply ≡ (memory_text, m) → LineReplies files m f g said reply
-  unread : Failed f g → IsUnread said → reply ≡ (device_text, m) → LineReplies files m f g said reply
+  unread : Failed f g → IsUnread said → reply ≡ (load_fault_text Device, m) → LineReplies files m f g said reply

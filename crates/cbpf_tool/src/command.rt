@@ -11,6 +11,7 @@ use crate::number::{number, number_32, signed_number};
 use crate::scan::{next_word, trimmed};
 use cbpf_code::{Ext, ext_named};
 use cbpf_dbg::{Place, When};
+use cbpf_reply::CommandFault;
 use std::str::from_utf8;
 
 /// A command of the debugger.
@@ -72,15 +73,6 @@ impl Command<'_> {
                 )
         )
     }
-}
-
-/// Why a line is no command.
-#[derive(Clone, Copy, Debug, PartialEq, Eq)]
-pub enum CommandFault {
-    /// Q1: the first word is no command's.
-    UnknownCommand,
-    /// Q2: a missing, extra or unreadable argument.
-    WrongArguments,
 }
 
 /// A command that has no arguments, if there are none.

@@ -1,15 +1,13 @@
 // Runs a script line by line.
 ghost use Rattle.std.specs.Prelude.{◌≡◌, ℕ, List, [], Some, IsTrue, Ok, IfErr};
 ghost use Rattle.std.specs.Io.KnownBytes.{Keeps};
-ghost use Rattle.cbpf_code.specs.Writing.{Wrote};
 ghost use Rattle.cbpf_dbg.specs.View.{empty_view};
-ghost use Rattle.cbpf_tool.specs.Replies.{command_fault_text};
 ghost use Rattle.cbpf_tool.specs.Debugged.{Debugged};
 ghost use Rattle.cbpf_tool.specs.Progress.{LineRan};
 ghost use Rattle.cbpf_tool.specs.Reading.{pending_in};
 ghost use Rattle.cbpf_tool.specs.declared.fault.ToolFault.TheVariants as fault;
 
-use crate::command::{Command, CommandFault, command_of};
+use crate::command::{Command, command_of};
 use crate::fault::ToolFault;
 use crate::files::Files;
 use crate::flushing::flush;
@@ -19,7 +17,7 @@ use crate::reply_to::reply_to;
 use crate::session_replies::ScriptSession;
 use cbpf_code::WriteFault;
 use cbpf_dbg::{MarkTrail, Session};
-use cbpf_reply::{write_unknown_command, write_wrong_arguments};
+use cbpf_reply::{CommandFault, write_command_fault};
 use std::alloc::Allocator;
 use std::io::{Read, Write};
 
@@ -78,16 +76,6 @@ fn flush_before<W: Write>(w: &mut W, unflushed: &mut bool, said: &Said<'_>) -> R
         *unflushed = true;
     }
     Ok(())
-}
-
-/// Writes why a line is no command.
-fn write_command_fault<W: Write>(w: &mut W, fault: CommandFault) -> Result<(), WriteFault>
-    ensures { Wrote (W.contents w.old) (W.contents w.new) result (command_fault_text fault) }
-{
-    match fault {
-        CommandFault::UnknownCommand => write_unknown_command(w),
-        CommandFault::WrongArguments => write_wrong_arguments(w),
-    }
 }
 
 /// Runs a line that was read, and writes its reply.

@@ -4,9 +4,10 @@ ghost use Rattle.std.specs.Io.KnownBytes.{IsAtEnd};
 ghost use Rattle.std.specs.IoError.{error_kind};
 ghost use Rattle.cbpf_tool.specs.FileMap.{unknown_source};
 ghost use Rattle.cbpf_tool.specs.Loads as spec;
-ghost use Rattle.cbpf_tool.specs.declared.files.LoadFault.TheVariants as fault;
+ghost use Rattle.cbpf_reply.specs.declared.errors.LoadFault.TheVariants as fault;
 
-use crate::files::{Files, LoadFault};
+use crate::files::Files;
+use cbpf_reply::LoadFault;
 use std::alloc::Allocator;
 use std::fs::{self, OpenFile};
 use std::io::{self, ErrorKind, Read};

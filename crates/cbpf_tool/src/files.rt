@@ -2,18 +2,8 @@
 ghost use Rattle.cbpf_tool.specs.FileMap.{Source};
 ghost use Rattle.cbpf_tool.specs.Loads.{Loads};
 
+use cbpf_reply::LoadFault;
 use std::alloc::Allocator;
-
-/// Why a file was not loaded.
-#[derive(Clone, Copy, PartialEq, Eq, Debug)]
-pub enum LoadFault {
-    /// F1: there is no file of that name.
-    Absent,
-    /// F2: the file could not be read.
-    Device,
-    /// Out of memory for its bytes.
-    Memory,
-}
 
 /// A source of files by name. A load leaves the files as they are. Where the source says what it
 /// holds, a load gives the bytes of the name, and answers `Absent` only where there is no such name.

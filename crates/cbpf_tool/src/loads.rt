@@ -1,15 +1,15 @@
 // Loads of programs and captures into a session.
 ghost use Rattle.std.specs.Prelude.{Some, Ok};
 ghost use Rattle.cbpf_code.specs.Writing.{Wrote};
-ghost use Rattle.cbpf_tool.specs.Progress.{Answered, Replied, load_fault_text};
+ghost use Rattle.cbpf_tool.specs.Progress.{Answered, Replied};
 ghost use Rattle.cbpf_tool.specs.declared.command.Command.TheVariants.{LoadWords, LoadCapture};
 
-use crate::files::{Files, LoadFault};
+use crate::files::Files;
 use crate::session_replies::ScriptSession;
 use cbpf_code::{WriteFault, check, read_words};
 use cbpf_reply::{
-    write_absent, write_capture, write_capture_fault, write_check_fault, write_out_of_memory,
-    write_program, write_unreadable, write_word_fault,
+    write_capture, write_capture_fault, write_check_fault, write_load_fault, write_program,
+    write_word_fault,
 };
 use pcap_classic::Capture;
 use std::alloc::Allocator;
@@ -36,17 +36,6 @@ pub(crate) fn load_words<A: Allocator, W: Write>(
             write_program(w, count)
         }
         Err((fault, _)) => write_check_fault(w, fault),
-    }
-}
-
-/// Why a file was not loaded.
-fn write_load_fault<W: Write>(w: &mut W, fault: LoadFault) -> Result<(), WriteFault>
-    ensures { Wrote (W.contents w.old) (W.contents w.new) result (load_fault_text fault) }
-{
-    match fault {
-        LoadFault::Absent => write_absent(w),
-        LoadFault::Device => write_unreadable(w),
-        LoadFault::Memory => write_out_of_memory(w),
     }
 }
 

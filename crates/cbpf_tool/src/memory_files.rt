@@ -1,11 +1,12 @@
 // Files in memory.
-ghost use Rattle.std.specs.Prelude.{◌≡◌, ◌≤◌, ◌↔◌, ◌-◌, Some, None, OnOk, OnErr, IfErr, MatchResult, Err};
+ghost use Rattle.std.specs.Prelude.{◌≡◌, ◌≤◌, ◌⊎◌, ◌↔◌, ◌-◌, Some, None, OnOk, OnErr, IfErr, MatchResult, Err};
 ghost use Rattle.std.specs.FinMap as finmap;
 ghost use Rattle.cbpf_tool.specs.InMemory.{source_of};
 ghost use Rattle.cbpf_tool.specs.Loads.{Loads, counted};
-ghost use Rattle.cbpf_tool.specs.declared.files.LoadFault.TheVariants as fault;
+ghost use Rattle.cbpf_reply.specs.declared.errors.LoadFault.TheVariants as fault;
 
-use crate::files::{Files, LoadFault};
+use crate::files::Files;
+use cbpf_reply::LoadFault;
 use std::alloc::{Allocator, Global};
 use std::collections::VecDeque;
 use std::marker::Model;
@@ -79,7 +80,7 @@ impl<A: Allocator + Clone> MemoryFiles<A> {
     fn copied<B: Allocator>(&self, alloc: B, name: &str) -> Result<Vec<u8, B>, LoadFault>
         ensures gives { MatchResult result (λ v. finmap.get self.now.files name.now ≡ Some v.items)
             (λ e. e ≡ fault.Absent → finmap.get self.now.files name.now ≡ None) }
-        ensures reads { IfErr result (λ e. e ≡ fault.Device → ⊥) }
+        ensures reads { IfErr result (λ e. (e ≡ fault.Absent) ⊎ (e ≡ fault.Memory)) }
     {
         for entry in &self.log {
             if name.as_bytes() == entry.0.as_slice() {

@@ -10,9 +10,9 @@ use Rattle.pcap_classic.specs.Savefile.{HasAnswer}
 use Rattle.pcap_classic.specs.Scan.{magic_of, is_version_2_4, header_by_magic, header_of, savefile_with}
 use Rattle.pcap_classic.specs.declared.endianness.Endianness.{Endianness}
 use Rattle.pcap_classic.specs.declared.endianness.Endianness.TheVariants.{Big, Little}
-use Rattle.pcap_classic.specs.declared.fault.CaptureFault.{CaptureFault}
-use Rattle.pcap_classic.specs.declared.fault.CaptureFault.TheVariants.{FileHeaderCut, UnknownMagic, UnknownVersion}
-use Rattle.pcap_classic.specs.declared.fault.CaptureFault.TheVariants.{Memory}
+use Rattle.pcap_classic.specs.declared.header.CaptureFault.{CaptureFault}
+use Rattle.pcap_classic.specs.declared.header.CaptureFault.TheVariants.{FileHeaderCut, UnknownMagic, UnknownVersion}
+use Rattle.pcap_classic.specs.declared.header.CaptureFault.TheVariants.{Memory}
 use Rattle.pcap_classic.specs.declared.header.Magic.{Magic}
 use Rattle.pcap_classic.specs.declared.header.FileHeader.{FileHeader}
 use Rattle.pcap_classic.proofs.HoldsLemmas.{contents-hold, holds-once}

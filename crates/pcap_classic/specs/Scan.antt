@@ -10,8 +10,8 @@ use Rattle.pcap_classic.specs.declared.endianness.Endianness.{Endianness}
 use Rattle.pcap_classic.specs.declared.endianness.Endianness.TheVariants.{Big, Little}
 use Rattle.pcap_classic.specs.declared.ending.Ending.{Ending}
 use Rattle.pcap_classic.specs.declared.ending.Ending.TheVariants.{Whole, CutHeader, CutData}
-use Rattle.pcap_classic.specs.declared.fault.CaptureFault.{CaptureFault}
-use Rattle.pcap_classic.specs.declared.fault.CaptureFault.TheVariants.{FileHeaderCut, UnknownMagic, UnknownVersion}
+use Rattle.pcap_classic.specs.declared.header.CaptureFault.{CaptureFault}
+use Rattle.pcap_classic.specs.declared.header.CaptureFault.TheVariants.{FileHeaderCut, UnknownMagic, UnknownVersion}
 use Rattle.pcap_classic.specs.declared.front.Front.{Front}
 use Rattle.pcap_classic.specs.declared.front.Front.TheVariants.{Nothing, PartOfHeader, PartOfData, WholeRecord}
 use Rattle.pcap_classic.specs.declared.header.Magic.{Magic}

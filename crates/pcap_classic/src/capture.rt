@@ -8,9 +8,8 @@ ghost use Rattle.pcap_classic.specs.Savefile.{IsSavefile, IsRefusal};
 
 use crate::captured::{Captured, record_at};
 use crate::ending::Ending;
-use crate::fault::CaptureFault;
 use crate::front::RECORD_HEADER;
-use crate::header::{FILE_HEADER, FileHeader, header_of};
+use crate::header::{CaptureFault, FILE_HEADER, FileHeader, header_of};
 use crate::index::{Index, index_of, start_of};
 use crate::records::Records;
 use std::alloc::{Allocator, Global};
@@ -46,9 +45,7 @@ impl<A: Allocator> Capture<A> {
     ///
     /// # Errors
     ///
-    /// The first of these that stands, with the same bytes: `FileHeaderCut` where there are fewer than
-    /// 24 bytes, `UnknownMagic` where the first four are no magic number, `UnknownVersion` where the
-    /// version is not 2.4, `Memory` where the index of the records runs out of memory.
+    /// The first fault that stands, in the order of `CaptureFault`, with the same bytes.
     pub fn from_bytes(alloc: A, bytes: Vec<u8, A>) -> Result<Capture<A>, (CaptureFault, Vec<u8, A>)>
         ensures capture { IfOk result (λ c. IsSavefile bytes.items c) }
         ensures refused { IfErr result (λ e. IsRefusal e.0 bytes.items) }

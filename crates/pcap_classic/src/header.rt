@@ -1,10 +1,9 @@
-//! The header of a capture file.
+//! The header of a capture file, or why there is none.
 
 ghost use Rattle.std.specs.Prelude.{◌≡◌, ◌≤◌, length};
 ghost use Rattle.pcap_classic.specs.Scan as spec;
 
 use crate::endianness::Endianness;
-use crate::fault::CaptureFault;
 use byteorder::{BigEndian, ByteOrder, LittleEndian};
 
 /// The length of a file header in bytes.
@@ -13,6 +12,19 @@ pub(crate) const FILE_HEADER: usize = 24;
 const MICROS: u32 = 0xa1b2_c3d4;
 
 const NANOS: u32 = 0xa1b2_3c4d;
+
+/// Why some bytes are no capture: the first of these reasons that stands.
+#[derive(Clone, Copy, Debug, PartialEq, Eq)]
+pub enum CaptureFault {
+    /// P1: there are fewer than 24 bytes, the length of a file header.
+    FileHeaderCut,
+    /// P2: the first four bytes are neither 0xa1b2c3d4 nor 0xa1b23c4d, in either byte order.
+    UnknownMagic,
+    /// P3: the version is not 2.4.
+    UnknownVersion,
+    /// Out of memory for the index of the records. The bytes are a capture.
+    Memory,
+}
 
 /// What the magic number of a file says.
 #[derive(Clone, Copy)]
