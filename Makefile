@@ -9,7 +9,6 @@ DIST ?= $(CURDIR)/out
 export PREFIX DESTDIR
 PROGRAM = crates/cbpf/out/cbpf
 
-
 # The one place of the version, and that of its date.
 VERSION = $(shell sed -n 's/^const VERSION: &str = "\(.*\)";$$/\1/p' crates/cbpf_command_line/src/parse.rt)
 DATE = $(shell sed -n 's/^## $(VERSION), //p' CHANGES.md)

@@ -1,5 +1,4 @@
-// Calls that ask an allocator for nothing, though what they are given holds one. The writers are given none: a
-// slice, and a `Program` that doesn't lend its own.
+// Calls that ask an allocator for nothing, though what they are given holds one. Writers get a slice, or a `Program`, which lends none.
 use crate::assertions::Test;
 use crate::fault_injection::{Fault, FaultyAllocator, FaultyWriter};
 use crate::loaded::{ICMP_WORDS, STRAIGHT, program_of, session_of, two_packets};

@@ -1,6 +1,5 @@
 //! Tests of the debugger and of the program: the machine and its trails (cbpf_machine), captures (pcap_classic), sessions (cbpf_dbg),
-//! dumps of stops (cbpf_reply); and over readers, writers and allocators that fail, memory that is given back, and large inputs
-//! (cbpf_tool, cbpf_text).
+//! dumps of stops (cbpf_reply); and readers, writers and allocators that fail, room that is given back, large inputs (cbpf_tool, cbpf_text).
 #![tactic(auto)]
 
 #[cfg(test)]

@@ -1,4 +1,3 @@
--- Written down, so that a wrong body is refused at once, and not after all that the prover tries by itself.
 use Rattle.std.proofs.Common.{rules}
 use Rattle.cbpf_tool.proofs.AssemblyLemmas.{asm_answers}
 use Rattle.cbpf_tool.proofs.assembler.asm.Goals as goal

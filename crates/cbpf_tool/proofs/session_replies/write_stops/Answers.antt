@@ -1,4 +1,3 @@
--- Written down, so that a wrong body is refused at once, and not after all that the prover tries by itself.
 use Rattle.std.proofs.Common.{rules}
 use Rattle.cbpf_code.proofs.WrittenLemmas.{pairs}
 use Rattle.cbpf_reply.specs.Stops.{stops_text}

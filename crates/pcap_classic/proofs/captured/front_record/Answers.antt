@@ -1,4 +1,3 @@
--- Written down, so that a wrong body is refused at once, and not after all that the prover tries by itself.
 use Rattle.std.proofs.Common.{arith}
 use Rattle.std.proofs.lemmas.Grind.{common_steps}
 use Rattle.pcap_classic.proofs.captured.front_record.Goals as goal

@@ -1,3 +1,4 @@
+use Rattle.std.proofs.Common.{rules}
 use Rattle.pcap_classic.specs.Scan.{savefile_with}
 use Rattle.pcap_classic.proofs.SavefileLemmas.{header-says}
 use Rattle.pcap_classic.proofs.capture.Capture.from_bytes.Goals as goal
@@ -15,3 +16,6 @@ returns-in-Err-index_of-clause-refused g c = (
   savefile_with c.in-Ok.header c.args.bytes.items,
   header-says c.args.bytes.items _ _ (rw c.as_slice.ensures.value at c.header_of.ensures) c.in-Ok.is,
 )
+
+pub returns-in-Err-clause-handed_back : goal.returns-in-Err-clause-handed_back
+returns-in-Err-clause-handed_back g c = search rules
