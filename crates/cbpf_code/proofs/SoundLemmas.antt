@@ -102,4 +102,4 @@ sound_allowed list i insn op sound here known = formed_allowed list i insn op (w
 -- what follows an instruction of a checked program is one of its indices
 pub sound_next : (list : List Insn) (i : ℕ) (insn : Insn) (op : Op) → IsSound list → slice_get list i ≡ Some insn
     → op_of insn.code ≡ Some op → (t : ℕ) → Follows op insn i t → t < length list
-sound_next list i insn op sound here known = formed_next list i insn op (well_formed list sound) here known
+sound_next list i insn op sound here known = grind (arith, formed_next, well_formed)

@@ -61,8 +61,7 @@ reads-space text due ns r at = rw (law-blank at 32 text refl) (r (at + 1))
 
 reads-comma : (text : List ℕ) (due : Due) (ns : List ℕ) → range_of due ≡ None → Reads text (next_due due) ns
     → Reads (44 ∷ text) due ns
-reads-comma text due ns none r at =
-    rw (law-single at 44 text refl refl) ((λ n. rw none ((r (at + 1)).0 n)), (r (at + 1)).1)
+reads-comma text due ns none r at = grind (arith, law-single)
 
 reads-number : (text : List ℕ) (number range : ℕ) (due : Due) (ns : List ℕ) → begins_with_digit text ≡ false
     → range_of due ≡ Some range → range ≤ 2 ^ 32 → number < range → Reads text (next_due due) ns

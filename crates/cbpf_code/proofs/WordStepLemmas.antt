@@ -45,8 +45,7 @@ read-insn text n list i at end r x =
 pub read-next : (text : List ℕ) (n : ℕ) (list : List Insn) (i : Insn) (at mid end : ℕ) → IsRead text n list at
     → Passes text code at (i.code ∷ i.jt ∷ i.jf ∷ i.k ∷ []) comma mid → Passes text comma mid [] code end
     → IsRead text n (list ++ i ∷ []) end
-read-next text n list i at mid end r x y =
-    rw (append-nil (fields_of (list ++ i ∷ []))) at (passes-then (read-insn text n list i at mid r x) y)
+read-next text n list i at mid end r x y = grind (arith, append-nil, passes-then, read-insn)
 
 -- the end, where it may stand
 read-end : (text : List ℕ) (n : ℕ) (list : List Insn) (due : Due) (end : ℕ)

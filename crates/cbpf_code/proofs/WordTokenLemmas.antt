@@ -1,6 +1,6 @@
 -- How the tokens of a text begin.
 use Rattle.std.proofs.Common.{IsTrue, nat_eq, ◌↔◌, ◌≡◌, ℕ, ◌+◌, ◌<◌, ◌≤◌, ◌≢◌, true, false}
-use Rattle.std.proofs.Common.{inl, inr, List, [], ◌∷◌, ◌++◌, length, drop, get_or, refl, sym, ◌∙◌, ap, arith, tests}
+use Rattle.std.proofs.Common.{inl, inr, List, [], ◌∷◌, ◌++◌, length, drop, get_or, refl, ◌∙◌, ap, arith, tests}
 use Rattle.std.proofs.Common.{drop-cons, drop-drop, add-one, suc}
 use Rattle.std.specs.List.{AllByRecursion, take_while, prefix_len}
 use Rattle.std.proofs.lemmas.Bool.{cases_Bool, cases_lt, eq-eqb, eqb-true}
@@ -60,14 +60,12 @@ law-run at (d ∷ ds) rest some all stop =
 
 pub step-blank : (text : List ℕ) (i : ℕ) → i < length text → is_blank (get_or text i 0) ≡ true
     → tokens_after text i ≡ tokens_after text (i + 1)
-step-blank text i l e =
-    rw (drop-cons text i 0, add-one) (rw add-one at (law-blank i (get_or text i 0) (drop (suc i) text) e))
+step-blank text i l e = grind (arith, drop-cons, add-one, law-blank)
 
 pub step-single : (text : List ℕ) (i : ℕ) → i < length text → is_digit (get_or text i 0) ≡ false
     → is_blank (get_or text i 0) ≡ false
     → tokens_after text i ≡ single i (get_or text i 0) ∷ tokens_after text (i + 1)
-step-single text i l d e =
-    rw (drop-cons text i 0, add-one) (rw add-one at (law-single i (get_or text i 0) (drop (suc i) text) e d))
+step-single text i l d e = grind (arith, drop-cons, add-one, law-single)
 
 pub step-end : (text : List ℕ) (i : ℕ) → length text ≤ i → tokens_after text i ≡ []
 step-end text i l = rw (drop_all i text l) (law-empty i)
@@ -98,8 +96,7 @@ tokens-some at b bs n e = elim (cases_Bool (is_digit b)) [
 
 pub some-token : (text : List ℕ) (i : ℕ) → i < length text → is_blank (get_or text i 0) ≡ false
     → tokens_after text i ≡ [] → ⊥
-some-token text i l b e =
-    tokens-some i (get_or text i 0) (drop (suc i) text) b (sym (ap (tokens_from i) (drop-cons text i 0 l)) ∙ e)
+some-token text i l b e = grind (arith, tokens-some, drop-cons)
 
 -- `place` is the first place from `at` on that is no blank
 pub end-or-not : (text : List ℕ) (at place : ℕ) → place ≤ length text → tokens_after text place ≡ tokens_after text at

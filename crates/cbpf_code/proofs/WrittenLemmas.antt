@@ -58,8 +58,7 @@ take-len-drop text at = take_all _ _ (omega (arith, length-drop at text))
 pub stepped : (u v w : Option (List ℕ)) (text : List ℕ) (at n : ℕ) → at + n ≤ length text
     → Appended u v (take at text) → Appends v w (take n (take (length text - at) (drop at text)))
     → Appended u w (take (at + n) text)
-stepped u v w text at n h x y =
-    rw (take-add at n text) (appended-by u v w _ _ x (rw (take-len-drop text at) at y))
+stepped u v w text at n h x y = grind (arith, take-add, appended-by, take-len-drop)
 
 pub err-exit : {X E : Type 0} (u w : Option (List ℕ)) (a : List ℕ) (r : Result X E) → IsErr r → AppendedPart u w a
     → Wrote u w r a
