@@ -25,7 +25,4 @@ returns-in_err-write_whole_line g c =
     (rw (line_at list c.loop-i.i zero_insn below) at c.in_err-write_whole_line.ensures))
 
 pub returns : goal.returns
-returns g c =
-    let size = length-enumerate_from 0 c.args.p.now in
-    loop-done numbered_line (enumerate_from 0 c.args.p.now) c.loop-i.i _ _
-    (omega (arith, c.loop-i-test.false, c.len-i-end.ensures.value)) c.loop-i.invariant
+returns g c = grind (arith, length-enumerate_from, loop-done, enumerate_from)

@@ -1,12 +1,10 @@
-use Rattle.std.proofs.Common.{◌≡◌, [], length, take_all, rules, arith}
+use Rattle.std.proofs.Common.{[], take_all, arith}
 use Rattle.std.proofs.lemmas.List.{nil_from_length}
 use Rattle.cbpf_code.proofs.WrittenLemmas.{part-take, appended-by, appended-kept, appended-nil, rest-wrote}
 use Rattle.cbpf_code.proofs.writing.write_bytes.Goals as goal
 
 pub returns-then-is_empty : goal.returns-then-is_empty
-returns-then-is_empty g c =
-    let none : length c.args.text.now ≡ 0 = search (rules, c.if-is_empty.true, c.is_empty.ensures) in
-    rw (nil_from_length c.args.text.now none) (appended-nil _)
+returns-then-is_empty g c = grind (arith, nil_from_length, appended-nil)
 
 pub returns-in-Ok-eq0 : goal.returns-in-Ok-eq0
 returns-in-Ok-eq0 g c =

@@ -1,14 +1,9 @@
-use Rattle.std.proofs.Common.{◌∙◌, length, length-append, length-drop, ap, sym, arith}
+use Rattle.std.proofs.Common.{length-append, length-drop, arith}
 use Rattle.cbpf_code.proofs.DigitLemmas.{ten_digits}
 use Rattle.cbpf_code.proofs.line.Line.put_u32.Goals as goal
 
 pub write_digits-self-inside-requires : goal.write_digits-self-inside-requires
-write_digits-self-inside-requires c =
-    let short = ten_digits c.args.n (omega arith) in
-    let size = sym (length-drop c.self.inside.at c.self.inside.bytes) ∙ ap length c.self.view_is in
-    (omega arith, omega arith)
+write_digits-self-inside-requires c = grind (arith, ten_digits, length-drop)
 
 pub returns-clause-grown : goal.returns-clause-grown
-returns-clause-grown c =
-    let short = ten_digits c.args.n (omega arith) in
-    rw (c.write_digits-self-inside.ensures.written, c.self.view_is, length-append) (omega arith)
+returns-clause-grown c = grind (arith, ten_digits, length-append)
