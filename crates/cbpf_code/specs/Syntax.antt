@@ -9,8 +9,8 @@ use Rattle.cbpf_code.specs.declared.opcode.Size.TheVariants.{Word, Half, Byte}
 use Rattle.cbpf_code.specs.declared.opcode.AluOp.TheVariants.{Add, Sub, Mul, Div, Or, And, Lsh, Rsh, Mod, Xor}
 use Rattle.cbpf_code.specs.declared.opcode.Src.TheVariants.{K, X}
 use Rattle.cbpf_code.specs.declared.opcode.Cond.TheVariants.{Eq, Gt, Ge, Bits}
-use Rattle.cbpf_code.specs.declared.syntax.Operand.{Operand}
-use Rattle.cbpf_code.specs.declared.syntax.Operand.TheVariants as operands
+use Rattle.cbpf_code.specs.declared.listing.Operand.{Operand}
+use Rattle.cbpf_code.specs.declared.listing.Operand.TheVariants as operands
 
 abbrev pub mnemonic_of : Op → List ℕ
 mnemonic_of LdImm = codes "ld"

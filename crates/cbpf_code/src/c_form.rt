@@ -4,8 +4,7 @@ ghost use Rattle.cbpf_code.specs.Writing.{Wrote};
 ghost use Rattle.cbpf_code.specs.CForm.{hex_prefix, padding, c_line, c_form};
 
 use crate::insn::Insn;
-use crate::line::Line;
-use crate::writing::WriteFault;
+use crate::writing::{Line, WriteFault};
 use std::io::Write;
 
 fn prefix_of(n: u32) -> &'static [u8]

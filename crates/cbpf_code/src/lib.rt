@@ -8,13 +8,11 @@ mod extension;
 mod form;
 mod insn;
 mod law;
-mod line;
 mod listing;
 mod opcode;
 mod program;
 mod scan;
 mod slots;
-mod syntax;
 mod word_form;
 mod words;
 mod writing;
@@ -25,7 +23,6 @@ pub use extension::{Ext, FIRST_EXTENSION, ext_at, ext_name, ext_named, ext_offse
 pub use form::Form;
 pub use insn::Insn;
 pub use law::each_has_answer;
-pub use line::Line;
 pub use listing::{put_line, write_line, write_lines};
 pub use opcode::{AluOp, Cond, Op, Size, Src, code_of, op_of, op_of_byte};
 pub use program::Program;
@@ -33,5 +30,5 @@ pub use scan::{is_blank, is_digit, laws_of_marks};
 pub use word_form::write_words;
 pub use words::{WordFault, read_words};
 pub use writing::{
-    WriteFault, write_bytes, write_decimal, write_hex, write_parts, write_with_number,
+    Line, WriteFault, write_bytes, write_decimal, write_hex, write_parts, write_with_number,
 };

@@ -1,12 +1,15 @@
 // Texts go to a writer by these calls alone.
-ghost use Rattle.std.specs.Prelude.{◌≤◌, decimal};
+
+ghost use Rattle.std.specs.Prelude.{◌≤◌, decimal, ◌≡◌, ◌+◌, ◌%◌, ◌++◌, [], false, length};
 ghost use Rattle.std.specs.List.{flat_map};
 ghost use Rattle.cbpf_code.specs.Writing.{Wrote};
 ghost use Rattle.cbpf_code.specs.Text.{hex, with_number};
+ghost use Rattle.std.specs.Fmt.{digit_glyph};
+ghost use Rattle.cbpf_code.specs.HexPlaces.{hex_digits, hex_places};
 
-use crate::line::Line;
-use itoa::Buffer;
+use itoa::{Buffer, write_digits};
 use std::io::Write;
+use std::marker::Model;
 
 /// A writer failed, or took nothing of a text that was not empty. The bytes that it took are a
 /// beginning of the text.
@@ -87,4 +90,165 @@ pub fn write_hex<W: Write>(w: &mut W, n: u32, least: u32) -> Result<(), WriteFau
     let mut line = Line::new();
     line.put_hex(n, least);
     line.write(w)
+}
+
+/// The byte of a number's last hexadecimal digit.
+#[tactic(auto, using(crate::proofs::HexLemmas::hex_texts))]
+fn last_hex_digit(n: u32) -> u8
+    ensures { result ≡ digit_glyph false (n % 16) }
+{
+    b"0123456789abcdef"[(n % 16) as usize]
+}
+
+/// How many hexadecimal digits a number needs, at least 1 and at most 8.
+fn digits_needed(n: u32) -> usize
+    ensures same { result ≡ hex_places n }
+    ensures few { (1 ≤ result) × (result ≤ 8) }
+{
+    if n < 16 {
+        1
+    } else if n < 256 {
+        2
+    } else if n < 4096 {
+        3
+    } else if n < 65536 {
+        4
+    } else if n < 1_048_576 {
+        5
+    } else if n < 16_777_216 {
+        6
+    } else if n < 268_435_456 {
+        7
+    } else {
+        8
+    }
+}
+
+/// A number as eight hexadecimal digits, in lower case.
+fn eight_digits(n: u32) -> [u8; 8]
+    ensures { result ≡ hex_digits 8 n }
+{
+    let n1 = n / 16;
+    let n2 = n1 / 16;
+    let n3 = n2 / 16;
+    let n4 = n3 / 16;
+    let n5 = n4 / 16;
+    let n6 = n5 / 16;
+    let n7 = n6 / 16;
+    [
+        last_hex_digit(n7),
+        last_hex_digit(n6),
+        last_hex_digit(n5),
+        last_hex_digit(n4),
+        last_hex_digit(n3),
+        last_hex_digit(n2),
+        last_hex_digit(n1),
+        last_hex_digit(n),
+    ]
+}
+
+/// A text of at most 256 bytes. What is put stands before what was put so far, so that a line is
+/// put from its last part to its first.
+#[derive(Drop)]
+pub struct Line {
+    bytes: [u8; 256],
+    at: usize,
+}
+
+impl Model for Line {
+    ghost use Rattle.std.specs.Prelude.{ℕ, List, ◌≤◌, drop};
+
+    ghost Value = { List ℕ };
+
+    ghost view = { λ l. drop l.at l.bytes };
+
+    ghost invariant = { λ l. l.at ≤ 256 };
+}
+
+impl Line {
+    /// The empty text.
+    #[inline(always)]
+    pub fn new() -> Self
+        ensures { result ≡ [] }
+    {
+        Line {
+            bytes: [0; 256],
+            at: 256,
+        }
+    }
+
+    /// Puts a text.
+    #[inline(always)]
+    pub fn put(&mut self, text: &[u8])
+        requires { length self.old + length text.now ≤ 256 }
+        ensures text { self.new ≡ text.now ++ self.old }
+        ensures grown { length self.new ≡ length self.old + length text.now }
+    {
+        // The place is stored last: so it stays in a register from one text to the next.
+        let at = self.at - text.len();
+        self.bytes[at..self.at].copy_from_slice(text);
+        self.at = at;
+    }
+
+    /// Puts a number of 64 bits in decimal, which takes at most 20 places.
+    #[inline(always)]
+    pub fn put_u64(&mut self, n: u64)
+        requires { length self.old + 20 ≤ 256 }
+        ensures text { self.new ≡ decimal n ++ self.old }
+        ensures grown { length self.new ≤ length self.old + 20 }
+    {
+        self.at = write_digits(n, &mut self.bytes, self.at);
+    }
+
+    /// Puts a number of 32 bits in decimal, which takes at most 10 places.
+    #[inline(always)]
+    pub fn put_u32(&mut self, n: u32)
+        requires { length self.old + 10 ≤ 256 }
+        ensures text { self.new ≡ decimal n ++ self.old }
+        ensures grown { length self.new ≤ length self.old + 10 }
+    {
+        self.at = write_digits(n as u64, &mut self.bytes, self.at);
+    }
+
+    /// Puts a number in lower case hexadecimal, in at least `least` digits, of which there are at
+    /// most 8.
+    #[inline(always)]
+    pub fn put_hex(&mut self, n: u32, least: u32)
+        requires few { least ≤ 8 }
+        requires room { length self.old + 8 ≤ 256 }
+        ensures text { self.new ≡ hex least n ++ self.old }
+        ensures grown { length self.new ≤ length self.old + 8 }
+    {
+        let places = digits_needed(n).max(least as usize);
+        self.put(&eight_digits(n));
+        self.at += 8 - places;
+    }
+
+    /// Puts a byte as two hexadecimal digits, in lower case.
+    #[inline(always)]
+    #[tactic(auto, using(crate::proofs::HexLemmas::hex_texts))]
+    pub fn put_byte(&mut self, n: u8)
+        requires { length self.old + 2 ≤ 256 }
+        ensures text { self.new ≡ hex 2 n ++ self.old }
+        ensures grown { length self.new ≡ length self.old + 2 }
+    {
+        let n = u32::from(n);
+        self.put(&[last_hex_digit(n / 16), last_hex_digit(n)]);
+    }
+
+    /// The text.
+    #[inline(always)]
+    pub fn as_bytes(&self) -> &[u8]
+        ensures { result.now ≡ self.now }
+    {
+        &self.bytes[self.at..]
+    }
+
+    /// Writes the text.
+    #[inline(always)]
+    pub fn write<W: Write>(&self, w: &mut W) -> Result<(), WriteFault>
+        ensures { Wrote (W.contents w.old) (W.contents w.new) result self.now }
+    {
+        write_bytes(w, self.as_bytes())
+    }
 }

@@ -10,8 +10,8 @@ use Rattle.cbpf_machine.specs.Follow.{Watching, HasRoom, is_met}
 use Rattle.cbpf_machine.specs.Registers.{Registers}
 use Rattle.cbpf_machine.specs.Machine.{Machine, machine_of}
 use Rattle.cbpf_machine.specs.Step.{turn}
-use Rattle.cbpf_machine.specs.declared.watched.When.{When}
-use Rattle.cbpf_machine.specs.declared.watched.When.TheVariants.{Always}
+use Rattle.cbpf_machine.specs.declared.pause.When.{When}
+use Rattle.cbpf_machine.specs.declared.pause.When.TheVariants.{Always}
 use Rattle.cbpf_dbg.specs.Breakpoints.{Breakpoints, carries}
 use Rattle.cbpf_dbg.specs.Joined.{is_unknown}
 use Rattle.cbpf_dbg.specs.Session.{IsSameBut, IsKnown, KeepsRoom, Watches, hits}

@@ -4,7 +4,7 @@ use Rattle.std.specs.Prelude.{ℕ, nat_eq, Bool, List}
 use Rattle.std.specs.Map.{lookup}
 use Rattle.cbpf_machine.specs.Follow.{is_met}
 use Rattle.cbpf_machine.specs.Registers.{Registers}
-use Rattle.cbpf_machine.specs.declared.watched.When.{When}
+use Rattle.cbpf_machine.specs.declared.pause.When.{When}
 
 -- numbers of instructions, each with its condition, in order of setting
 abbrev pub Breakpoints : Type 0

@@ -10,8 +10,8 @@ use Rattle.std.specs.Option.{option_map}
 use Rattle.std.specs.Result.{result_unwrap_or, result_map_both}
 use Rattle.std.specs.Map.{lookup}
 use Rattle.cbpf_reply.specs.declared.reply.Counts.{Counts}
-use Rattle.cbpf_machine.specs.declared.watched.When.{When}
-use Rattle.cbpf_machine.specs.declared.watched.When.TheVariants.{Always}
+use Rattle.cbpf_machine.specs.declared.pause.When.{When}
+use Rattle.cbpf_machine.specs.declared.pause.When.TheVariants.{Always}
 use Rattle.cbpf_machine.specs.Values.{with_value, takes_value}
 use Rattle.cbpf_machine.specs.Machine.{Machine, machine_of}
 use Rattle.cbpf_machine.specs.Step.{turn}

@@ -3,7 +3,7 @@
 use Rattle.std.specs.Prelude.{◌≡◌, ℕ, ◌-◌, ◌<◌, ◌≤◌, List, [], Bool, true, Option, Some, None, length, take}
 use Rattle.std.specs.Prelude.{slice_get, nat_eq, ◌||◌}
 use Rattle.std.specs.Map.{lookup}
-use Rattle.cbpf_machine.specs.declared.watched.When.{When}
+use Rattle.cbpf_machine.specs.declared.pause.When.{When}
 use Rattle.cbpf_code.specs.declared.insn.Insn.{Insn}
 use Rattle.cbpf_code.specs.Sound.{IsSound}
 use Rattle.cbpf_machine.specs.Registers.{Registers}

@@ -1,10 +1,12 @@
 //! The commands of a session that ask or move its place.
 
 ghost use Rattle.std.specs.Prelude.{◌≡◌, ◌≤◌, ◌<◌, ◌+◌, length, ◌*◌, ◌^◌, ◌<ℤ◌, pos, IfErr, IfOk, OnErr, OnOk};
-ghost use Rattle.cbpf_dbg.specs.Commands as spec;
 ghost use Rattle.cbpf_dbg.specs.Shown.{CanShow, Shows};
 ghost use Rattle.cbpf_machine.specs.Trail.{most_turns_back};
 ghost use Rattle.std.specs.List.{All};
+ghost use Rattle.cbpf_code.specs.Writing.{Wrote};
+ghost use Rattle.cbpf_dbg.specs.Commands as spec;
+ghost use Rattle.cbpf_dbg.specs.Shown as shown;
 
 use crate::cursor::{Cursor, Walk};
 use crate::loaded::Loaded;
@@ -13,9 +15,11 @@ use crate::run::run;
 use crate::session::Session;
 use crate::step::{step_back, step_on};
 use crate::stops::Stops;
+use cbpf_code::WriteFault;
 use cbpf_machine::{Meter, Trail};
-use cbpf_reply::{Place, RunReply, SessionFault};
+use cbpf_reply::{Place, RunReply, SessionFault, Stop};
 use std::alloc::Allocator;
+use std::io::Write;
 
 /// What a command of a session works on. Without a program or a capture it refuses the command.
 // A macro, as a call would borrow all of the session.
@@ -206,5 +210,30 @@ impl<T: Trail, A: Allocator> Session<T, A> {
             },
             meter: Meter::new(),
         })
+    }
+}
+
+impl<T: Trail, A: Allocator> Session<T, A> {
+    /// Writes the dump of a stop: its place, the registers before the instruction, the packet, and why
+    /// it stopped.
+    ///
+    /// A program and a capture are loaded, the stop's packet is one of the capture's, and its pc is
+    /// less than the program's length. So it is with each stop that this session gave since they were
+    /// loaded.
+    ///
+    /// # Errors
+    ///
+    /// The writer fails, or takes nothing of a text that isn't empty; the bytes that it took are a
+    /// beginning of the dump.
+    #[tactic(auto, unfolding(crate::specs::Shown::CanShow, crate::specs::Shown::stop_text))]
+    pub fn write_stop<W: Write>(&self, w: &mut W, stop: &Stop) -> Result<(), WriteFault>
+        requires { shown.CanShow self.now stop.now }
+        ensures { Wrote (W.contents w.old) (W.contents w.new) result (shown.stop_text self.now stop.now) }
+    {
+        let (Some(program), Some(capture)) = (&self.program, &self.capture) else {
+            unreachable!()
+        };
+        let packet = capture.item(stop.place.packet);
+        cbpf_reply::write_stop(w, program, stop, packet.bytes, packet.wire)
     }
 }

@@ -7,14 +7,15 @@ ghost use Rattle.pcap_classic.specs.Lent.{record_of};
 ghost use Rattle.pcap_classic.specs.Records.{Record};
 ghost use Rattle.cbpf_dbg.specs.Loaded.{machine_in, records_in};
 ghost use Rattle.cbpf_dbg.specs.View.{start};
+ghost use Rattle.cbpf_dbg.specs.Cursor.{Stands, Moves, IsEntry, entered, stepped, passed, followed as after};
+ghost use Rattle.cbpf_dbg.specs.Cursor.{Countable, moved_by, entry_here};
 ghost use Rattle.cbpf_dbg.specs.declared.cursor.Moved.TheVariants as moved;
 ghost use Rattle.cbpf_machine.specs.declared.follow.Followed.TheVariants as ways;
-ghost use Rattle.cbpf_dbg.specs.Cursor.{Stands, Moves, IsEntry, entered, stepped, passed, followed as after};
-ghost use Rattle.cbpf_dbg.specs.Cursor.{Countable, moved_by};
+ghost use Rattle.cbpf_dbg.specs.Joined as joined;
 
 use crate::loaded::Loaded;
-use cbpf_machine::{Followed, Meter, Outcome, Packet, State, turn_in_place};
-use cbpf_reply::{Counts, Place};
+use cbpf_machine::{Followed, Meter, Outcome, Packet, State, missing_extension, turn_in_place};
+use cbpf_reply::{Counts, Place, Stop, Why};
 use pcap_classic::{Captured, Records};
 use std::alloc::Allocator;
 
@@ -237,4 +238,22 @@ pub(crate) fn enter_packet<A: Allocator>(
     ensures origin { cursor.new.origin ≡ cursor.old.origin }
 {
     cursor.enter();
+}
+
+/// The stop at the entry of a cursor, whose instruction is read without a turn.
+#[inline(always)]
+pub(crate) fn stop_at<A: Allocator>(loaded: &Loaded<'_, A>, cursor: &Cursor, reason: Why) -> Stop
+    requires { cursor.now.state.pc < length loaded.now.program.now }
+    ensures { (r : Record) → result ≡ joined.stop_at reason (entry_here (machine_in loaded.now) r cursor.now) }
+{
+    let insn = loaded.program.at_index(cursor.state.pc());
+    let why = match missing_extension(insn, loaded.values) {
+        Some(e) => Why::Unknown(e),
+        None => reason,
+    };
+    Stop {
+        place: cursor.place,
+        state: cursor.state,
+        why,
+    }
 }

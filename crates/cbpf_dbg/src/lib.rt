@@ -8,7 +8,6 @@
 
 mod commands;
 mod cursor;
-mod hit;
 mod law;
 mod loaded;
 mod resume;
@@ -18,7 +17,6 @@ mod session;
 mod step;
 mod stops;
 mod watching;
-mod write_stop;
 
 pub use cbpf_machine::{ListTrail, MarkTrail, Meter, State, Trail};
 pub use cbpf_reply::{Counts, Place, RunReply, SessionFault, Stop, When, Why};

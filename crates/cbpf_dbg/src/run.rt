@@ -12,8 +12,7 @@ ghost use Rattle.cbpf_dbg.specs.Cursor as spec;
 ghost use Rattle.cbpf_dbg.specs.Cursor.{Stands, Passes, before, Gives, run_from, turns_of, ComesTo};
 ghost use Rattle.cbpf_dbg.specs.Going.{CanGoOn, GoesOn, KeepsIn};
 
-use crate::cursor::{Cursor, Moved, Walk};
-use crate::hit::stop_at;
+use crate::cursor::{Cursor, Moved, Walk, stop_at};
 use crate::loaded::Loaded;
 use cbpf_machine::{Before, Followed, Meter, Never, Packet, Pause, Trail, follow_packet};
 use cbpf_reply::{RunReply, Stop, Why};

@@ -10,8 +10,7 @@ ghost use Rattle.cbpf_dbg.specs.Cursor.{Stands, AllLeft, Nears, owed};
 ghost use Rattle.cbpf_dbg.specs.Cursor.{Gives, step_from, turns_of, StepsBack, CannotStepBack};
 ghost use Rattle.cbpf_machine.specs.Trail.{most_turns_back};
 
-use crate::cursor::{Cursor, Moved, advance};
-use crate::hit::stop_at;
+use crate::cursor::{Cursor, Moved, advance, stop_at};
 use crate::loaded::Loaded;
 use cbpf_machine::{Meter, Packet, Trail, run_packet};
 use cbpf_reply::{RunReply, Stop, Why};

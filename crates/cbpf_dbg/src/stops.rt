@@ -8,8 +8,7 @@ ghost use Rattle.cbpf_dbg.specs.Going.{CanGoOn, GoesOn};
 ghost use Rattle.cbpf_machine.specs.Follow.{is_watched};
 ghost use Rattle.cbpf_dbg.specs.declared.cursor.Walk.{Walk};
 
-use crate::cursor::{Moved, Walk};
-use crate::hit::stop_at;
+use crate::cursor::{Moved, Walk, stop_at};
 use crate::loaded::Loaded;
 use crate::run::run_records;
 use cbpf_machine::{Meter, Packet, follow_on};

@@ -8,7 +8,6 @@
 #![tactic(auto)]
 
 mod arithmetic;
-mod core_state;
 mod execute;
 mod extension;
 mod follow;
@@ -17,27 +16,22 @@ mod load;
 mod mark_trail;
 mod meter;
 mod outcome;
-mod packet;
 mod pause;
 mod run;
 mod state;
-mod together;
 mod trail;
 mod values;
-mod watched;
 
-pub use core_state::Core;
 pub use execute::{turn, turn_in_place};
 pub use extension::missing_extension;
 pub use follow::{Followed, follow_on, follow_packet};
 pub use list_trail::ListTrail;
+pub use load::Packet;
 pub use mark_trail::MarkTrail;
 pub use meter::Meter;
 pub use outcome::{Outcome, Turn};
-pub use packet::Packet;
-pub use pause::{Before, Never, Pause};
+pub use pause::{Before, Never, Pause, Watched, When};
 pub use run::run_packet;
-pub use state::State;
+pub use state::{Core, State};
 pub use trail::Trail;
 pub use values::Values;
-pub use watched::{Watched, When};

@@ -1,7 +1,7 @@
 ghost use Rattle.std.specs.Prelude.{◌≡◌, [], IfOk};
 
+use crate::load::Packet;
 use crate::meter::Meter;
-use crate::packet::Packet;
 use crate::state::State;
 use crate::trail::Trail;
 use crate::values::Values;

@@ -5,6 +5,15 @@ ghost use Rattle.cbpf_machine.specs.Step.{width};
 use byteorder::{BigEndian, ByteOrder};
 use cbpf_code::Size;
 
+/// A packet as a capture has it.
+#[derive(Clone, Copy, Debug, PartialEq, Eq)]
+pub struct Packet<'a> {
+    /// The captured bytes.
+    pub bytes: &'a [u8],
+    /// The original length in bytes, which may be more than was captured.
+    pub wire: u32,
+}
+
 /// The number at a place of the captured bytes, in network byte order; `None` where it isn't inside.
 #[inline(always)]
 pub(crate) fn number_at(bytes: &[u8], at: u32, size: Size) -> Option<u32>

@@ -3,13 +3,12 @@ ghost use Rattle.cbpf_code.specs.declared.checker.TheConstants.{MAX_INSTRUCTIONS
 ghost use Rattle.cbpf_machine.specs.Machine.{machine_of};
 ghost use Rattle.cbpf_machine.specs.Trace as spec;
 
-use crate::core_state::Core;
 use crate::follow::{Followed, follow_packet};
+use crate::load::Packet;
 use crate::meter::Meter;
 use crate::outcome::Outcome;
-use crate::packet::Packet;
 use crate::pause::Pause;
-use crate::state::State;
+use crate::state::{Core, State};
 use crate::values::Values;
 use cbpf_code::Program;
 use std::alloc::Allocator;

@@ -4,8 +4,8 @@ use Rattle.std.specs.List.{flat_map}
 use Rattle.cbpf_code.specs.Text.{joined, with_number}
 use Rattle.cbpf_code.specs.declared.insn.Insn.{Insn}
 use Rattle.cbpf_code.specs.Listing.{line_text}
-pub use Rattle.cbpf_machine.specs.declared.watched.When.{When}
-pub use Rattle.cbpf_machine.specs.declared.watched.When.TheVariants.{Always, A, X}
+pub use Rattle.cbpf_machine.specs.declared.pause.When.{When}
+pub use Rattle.cbpf_machine.specs.declared.pause.When.TheVariants.{Always, A, X}
 
 -- the condition of a breakpoint that is set, and the line's end
 abbrev pub condition_text : When → List ℕ

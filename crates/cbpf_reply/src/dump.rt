@@ -1,10 +1,12 @@
 // The dump of a stop.
-ghost use Rattle.std.specs.Prelude.{◌≡◌, ◌<◌, ◌≤◌, ◌+◌, ◌++◌, Some, codes, length};
+
+ghost use Rattle.std.specs.Prelude.{◌≡◌, ◌<◌, ◌≤◌, ◌+◌, ◌++◌, Some, codes, length, ◌-◌};
 ghost use Rattle.cbpf_code.specs.Writing.{Wrote};
 ghost use Rattle.cbpf_reply.specs.Scratch.{scratch_lines};
+ghost use Rattle.cbpf_code.specs.Text.{joined, spaces};
+ghost use Rattle.cbpf_reply.specs.Columns.{value_pieces};
 ghost use Rattle.cbpf_reply.specs.Dump as spec;
 
-use crate::columns::put_value;
 use crate::packet::write_packet;
 use crate::reply::{Place, Stop, Why};
 use crate::scratch::write_scratch;
@@ -182,4 +184,36 @@ pub fn write_stop<W: Write, A: Allocator>(
     write_place_and_instruction(w, p, stop.place, stop.state.pc())?;
     write_register_lines(w, &stop.state)?;
     write_packet(w, bytes, wire, stop.why)
+}
+
+/// Puts a value in hexadecimal and in decimal, and the line's end.
+#[inline(always)]
+pub(crate) fn put_value(line: &mut Line, value: u32)
+    requires room { length line.old + 23 ≤ 256 }
+    ensures text { line.new ≡ joined (value_pieces value) ++ line.old }
+    ensures grown { length line.new ≤ length line.old + 23 }
+{
+    line.put(b"]\n");
+    line.put_u32(value);
+    line.put(b"][");
+    line.put_hex(value, 8);
+    line.put(b"[");
+}
+
+/// The spaces that fill a text of this length up to ten places.
+#[tactic(auto, using(crate::proofs::SpaceLemmas::pads))]
+pub(crate) fn spaces_to_ten(len: usize) -> &'static [u8]
+    ensures same { result.now ≡ spaces (10 - len) }
+    ensures short { length result.now ≤ 10 }
+{
+    &b"          "[..10usize.saturating_sub(len)]
+}
+
+/// The spaces that set a text of this length right in five places.
+#[tactic(auto, using(crate::proofs::SpaceLemmas::pads))]
+pub(crate) fn spaces_to_five(len: usize) -> &'static [u8]
+    ensures same { result.now ≡ spaces (5 - len) }
+    ensures short { length result.now ≤ 5 }
+{
+    &b"     "[..5usize.saturating_sub(len)]
 }

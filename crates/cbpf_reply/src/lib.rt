@@ -10,7 +10,6 @@
 
 mod breakpoints;
 mod c_dump;
-mod columns;
 mod counts;
 mod dump;
 mod errors;

@@ -10,8 +10,7 @@ ghost use Rattle.cbpf_reply.specs.Dump.{why_line};
 ghost use Rattle.cbpf_reply.specs.declared.packet.TheConstants.{ROW};
 ghost use Rattle.cbpf_reply.specs.Packet as spec;
 
-use crate::columns::spaces_to_five;
-use crate::dump::put_why;
+use crate::dump::{put_why, spaces_to_five};
 use crate::reply::Why;
 use cbpf_code::{Line, WriteFault};
 use std::io::Write;

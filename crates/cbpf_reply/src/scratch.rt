@@ -4,7 +4,7 @@ ghost use Rattle.cbpf_code.specs.Text.{joined};
 ghost use Rattle.cbpf_code.specs.Writing.{Wrote};
 ghost use Rattle.cbpf_reply.specs.Scratch as spec;
 
-use crate::columns::{put_value, spaces_to_ten};
+use crate::dump::{put_value, spaces_to_ten};
 use cbpf_code::{Line, WriteFault};
 use std::io::Write;
 

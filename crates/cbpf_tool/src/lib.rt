@@ -22,7 +22,6 @@ mod number;
 mod reply_to;
 mod run_job;
 mod scan;
-mod session_replies;
 
 pub use asm_on_host::asm_job;
 pub use assembler::asm;

@@ -5,7 +5,7 @@ ghost use Rattle.cbpf_tool.specs.Progress.{Answered, Replied};
 ghost use Rattle.cbpf_tool.specs.declared.command.Command.TheVariants.{LoadWords, LoadCapture};
 
 use crate::files::Files;
-use crate::session_replies::ScriptSession;
+use crate::reply_to::ScriptSession;
 use cbpf_code::{WriteFault, check, read_words};
 use cbpf_reply::{
     write_capture, write_capture_fault, write_check_fault, write_load_fault, write_program,

@@ -2,17 +2,22 @@
 #![tactic(auto, using(crate::proofs::SessionReplyLemmas::replies))]
 
 ghost use Rattle.cbpf_code.specs.Writing.{Wrote};
-ghost use Rattle.cbpf_reply.specs.Breakpoints.{set_in};
+ghost use Rattle.cbpf_reply.specs.Breakpoints.{set_in, listed_text, list_text, breakpoints_text};
 ghost use Rattle.cbpf_tool.specs.Progress.{Replies, Writes};
+ghost use Rattle.std.specs.Prelude.{◌≡◌, ◌+◌, ◌<◌, ◌^◌, length, IfOk};
+ghost use Rattle.std.specs.List.{flat_map};
+ghost use Rattle.cbpf_dbg.specs.Shown.{Shows};
+ghost use Rattle.cbpf_tool.specs.RunText.{run_text};
+ghost use Rattle.cbpf_reply.specs.Stops.{stop_line, stops_text};
 ghost use Rattle.cbpf_tool.specs.SessionReplies as spec;
 ghost use Rattle.cbpf_tool.specs.declared.command.SessionCommand.TheVariants as command;
 
 use crate::command::SessionCommand;
-use crate::session_replies::{ScriptSession, write_breakpoints, write_run, write_stops};
 use cbpf_code::{Ext, WriteFault};
-use cbpf_dbg::{Meter, Place, When};
+use cbpf_dbg::{MarkTrail, Meter, Place, RunReply, Session, Stops, When};
 use cbpf_reply::{
-    write_breakpoint, write_c_dump, write_no_program, write_place, write_session_fault,
+    write_breakpoint, write_c_dump, write_finished, write_limit, write_list_end, write_list_head,
+    write_listed, write_no_program, write_place, write_session_fault, write_stop_line, write_total,
     write_value, write_went_to,
 };
 use cbpf_text::write_listing;
@@ -234,4 +239,92 @@ fn dump<A: Allocator, W: Write>(w: &mut W, session: &ScriptSession<A>) -> Result
         Some(program) => write_c_dump(w, program.as_slice()),
         None => write_no_program(w),
     }
+}
+
+/// The session of a script.
+pub(crate) type ScriptSession<A> = Session<MarkTrail, A>;
+
+/// Writes the answer of a run or a step of this session: the dump of its stop, or the counts.
+///
+/// A stop is one of this session's, of the program and the capture that are loaded.
+#[tactic(auto, unfolding(crate::specs::RunText::run_text))]
+pub(crate) fn write_run<W: Write, A: Allocator>(
+    w: &mut W,
+    session: &ScriptSession<A>,
+    reply: RunReply,
+) -> Result<(), WriteFault>
+    requires { Shows session.now reply }
+    ensures { Wrote (W.contents w.old) (W.contents w.new) result (run_text reply session.now) }
+{
+    match reply {
+        RunReply::Stopped(stop) => session.write_stop(w, &stop),
+        RunReply::Limit(counts) => write_limit(w, counts, session.place().packet),
+        RunReply::Finished(counts) => write_finished(w, counts),
+    }
+}
+
+/// The breakpoints of a session.
+fn write_all_listed<W: Write, A: Allocator>(
+    w: &mut W,
+    session: &ScriptSession<A>,
+) -> Result<(), WriteFault>
+    ensures { Wrote (W.contents w.old) (W.contents w.new) result (flat_map listed_text session.now.breakpoints) }
+{
+    for i in 0..session.breakpoint_count() {
+        match (session.breakpoint_at(i), session.breakpoint_when_at(i)) {
+            (Some(n), Some(when)) => write_listed(w, n, when)?,
+            _ => unreachable!(),
+        }
+    }
+    Ok(())
+}
+
+#[tactic(auto, using(cbpf_code::proofs::WrittenLemmas::pairs))]
+fn write_list<W: Write, A: Allocator>(
+    w: &mut W,
+    session: &ScriptSession<A>,
+) -> Result<(), WriteFault>
+    ensures { Wrote (W.contents w.old) (W.contents w.new) result (list_text session.now.breakpoints) }
+{
+    write_all_listed(w, session)?;
+    write_list_end(w)
+}
+
+/// Writes the breakpoints of a session, in order of setting.
+#[tactic(auto, using(cbpf_code::proofs::WrittenLemmas::pairs), unfolding(cbpf_reply::specs::Breakpoints::breakpoints_text))]
+pub(crate) fn write_breakpoints<W: Write, A: Allocator>(
+    w: &mut W,
+    session: &ScriptSession<A>,
+) -> Result<(), WriteFault>
+    ensures { Wrote (W.contents w.old) (W.contents w.new) result (breakpoints_text session.now.breakpoints) }
+{
+    write_list_head(w)?;
+    write_list(w, session)
+}
+
+/// Writes a line for each stop, and returns how many there were.
+fn write_lines<W: Write, A: Allocator>(w: &mut W, stops: Stops<'_, A>) -> Result<u128, WriteFault>
+    requires { length stops < 2 ^ 128 }
+    ensures lines { Wrote (W.contents w.old) (W.contents w.new) result (flat_map stop_line stops.entry) }
+    ensures count { IfOk result (λ n. n ≡ length stops.entry) }
+{
+    let mut count: u128 = 0;
+    for stop in stops {
+        write_stop_line(w, &stop)?;
+        count += 1;
+    }
+    Ok(count)
+}
+
+/// Writes a line for each stop, and how many there are.
+#[tactic(auto, using(cbpf_code::proofs::WrittenLemmas::pairs), unfolding(cbpf_reply::specs::Stops::stops_text))]
+pub(crate) fn write_stops<W: Write, A: Allocator>(
+    w: &mut W,
+    stops: Stops<'_, A>,
+) -> Result<(), WriteFault>
+    requires { length stops < 2 ^ 128 }
+    ensures { Wrote (W.contents w.old) (W.contents w.new) result (stops_text stops.entry) }
+{
+    let count = write_lines(w, stops)?;
+    write_total(w, count)
 }

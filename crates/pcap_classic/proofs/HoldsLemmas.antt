@@ -3,10 +3,10 @@ use Rattle.std.proofs.Common.{◌≡◌, ℕ, zero, suc, ◌+◌, ◌≤◌, ◌
 use Rattle.std.proofs.Common.{length-drop}
 use Rattle.std.proofs.lemmas.Bool.{cases_lt}
 use Rattle.std.proofs.lemmas.Bool.Decides.{nat_tests}
-use Rattle.pcap_classic.specs.declared.endianness.Endianness.{Endianness}
+use Rattle.pcap_classic.specs.declared.captured.Endianness.{Endianness}
 use Rattle.pcap_classic.specs.declared.ending.Ending.{Ending}
-use Rattle.pcap_classic.specs.declared.front.Front.{Front}
-use Rattle.pcap_classic.specs.declared.front.Front.TheVariants.{PartOfHeader, PartOfData, WholeRecord}
+use Rattle.pcap_classic.specs.declared.captured.Front.{Front}
+use Rattle.pcap_classic.specs.declared.captured.Front.TheVariants.{PartOfHeader, PartOfData, WholeRecord}
 use Rattle.pcap_classic.specs.Index.{ending_by}
 use Rattle.pcap_classic.specs.Records.{Record, Holds, no_bytes, part_of_header, part_of_data, whole_record, record_at}
 use Rattle.pcap_classic.specs.Records.{record_length}

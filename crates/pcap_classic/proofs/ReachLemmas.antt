@@ -4,9 +4,9 @@ use Rattle.std.proofs.Common.{length-drop, add-one, refl}
 use Rattle.std.specs.Prelude.{Some, slice_get}
 use Rattle.std.proofs.lemmas.List.{drop-drop, length-take-le}
 use Rattle.std.proofs.lemmas.Option.{slice_get_within}
-use Rattle.pcap_classic.specs.declared.endianness.Endianness.{Endianness}
-use Rattle.pcap_classic.specs.declared.front.Front.{Front}
-use Rattle.pcap_classic.specs.declared.front.Front.TheVariants.{Nothing, PartOfHeader, PartOfData, WholeRecord}
+use Rattle.pcap_classic.specs.declared.captured.Endianness.{Endianness}
+use Rattle.pcap_classic.specs.declared.captured.Front.{Front}
+use Rattle.pcap_classic.specs.declared.captured.Front.TheVariants.{Nothing, PartOfHeader, PartOfData, WholeRecord}
 use Rattle.pcap_classic.specs.Records.{Record, record_at, record_length}
 use Rattle.pcap_classic.specs.Scan.{front_of, contents}
 use Rattle.pcap_classic.specs.Numbers.{number_at}

@@ -8,8 +8,8 @@ use Rattle.std.proofs.lemmas.Bool.Decides.{nat_tests}
 use Rattle.pcap_classic.specs.Savefile.{Savefile, IsSavefile, IsRefusal, HasMagic, HasVersion, OneCapture, OneRefusal}
 use Rattle.pcap_classic.specs.Savefile.{HasAnswer}
 use Rattle.pcap_classic.specs.Scan.{magic_of, is_version_2_4, header_by_magic, header_of, savefile_with}
-use Rattle.pcap_classic.specs.declared.endianness.Endianness.{Endianness}
-use Rattle.pcap_classic.specs.declared.endianness.Endianness.TheVariants.{Big, Little}
+use Rattle.pcap_classic.specs.declared.captured.Endianness.{Endianness}
+use Rattle.pcap_classic.specs.declared.captured.Endianness.TheVariants.{Big, Little}
 use Rattle.pcap_classic.specs.declared.header.CaptureFault.{CaptureFault}
 use Rattle.pcap_classic.specs.declared.header.CaptureFault.TheVariants.{FileHeaderCut, UnknownMagic, UnknownVersion}
 use Rattle.pcap_classic.specs.declared.header.CaptureFault.TheVariants.{Memory}

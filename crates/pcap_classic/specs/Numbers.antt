@@ -2,8 +2,8 @@
 -- Header").
 use Rattle.std.specs.Prelude.{ℕ, List, drop}
 use Rattle.byteorder.specs.Endian.{big_number, little_number}
-use Rattle.pcap_classic.specs.declared.endianness.Endianness.{Endianness}
-use Rattle.pcap_classic.specs.declared.endianness.Endianness.TheVariants.{Big, Little}
+use Rattle.pcap_classic.specs.declared.captured.Endianness.{Endianness}
+use Rattle.pcap_classic.specs.declared.captured.Endianness.TheVariants.{Big, Little}
 
 -- the number in the first n bytes
 abbrev pub number : Endianness → ℕ → List ℕ → ℕ

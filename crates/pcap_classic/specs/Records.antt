@@ -2,7 +2,7 @@
 -- last record is reported by its place is this crate's rule).
 use Rattle.std.specs.Prelude.{ℕ, ◌+◌, ◌≤◌, ◌<◌, List, [], ◌∷◌, length, take, drop}
 use Rattle.pcap_classic.specs.Numbers.{number_at}
-use Rattle.pcap_classic.specs.declared.endianness.Endianness.{Endianness}
+use Rattle.pcap_classic.specs.declared.captured.Endianness.{Endianness}
 use Rattle.pcap_classic.specs.declared.ending.Ending.{Ending}
 use Rattle.pcap_classic.specs.declared.ending.Ending.TheVariants.{Whole, CutHeader, CutData}
 

@@ -6,14 +6,14 @@ use Rattle.byteorder.specs.Endian.{big_number, little_number}
 use Rattle.pcap_classic.specs.Numbers.{number_at}
 use Rattle.pcap_classic.specs.Records.{Record, record_length, record_at}
 use Rattle.pcap_classic.specs.Savefile.{Savefile, micros_magic, nanos_magic}
-use Rattle.pcap_classic.specs.declared.endianness.Endianness.{Endianness}
-use Rattle.pcap_classic.specs.declared.endianness.Endianness.TheVariants.{Big, Little}
+use Rattle.pcap_classic.specs.declared.captured.Endianness.{Endianness}
+use Rattle.pcap_classic.specs.declared.captured.Endianness.TheVariants.{Big, Little}
 use Rattle.pcap_classic.specs.declared.ending.Ending.{Ending}
 use Rattle.pcap_classic.specs.declared.ending.Ending.TheVariants.{Whole, CutHeader, CutData}
 use Rattle.pcap_classic.specs.declared.header.CaptureFault.{CaptureFault}
 use Rattle.pcap_classic.specs.declared.header.CaptureFault.TheVariants.{FileHeaderCut, UnknownMagic, UnknownVersion}
-use Rattle.pcap_classic.specs.declared.front.Front.{Front}
-use Rattle.pcap_classic.specs.declared.front.Front.TheVariants.{Nothing, PartOfHeader, PartOfData, WholeRecord}
+use Rattle.pcap_classic.specs.declared.captured.Front.{Front}
+use Rattle.pcap_classic.specs.declared.captured.Front.TheVariants.{Nothing, PartOfHeader, PartOfData, WholeRecord}
 use Rattle.pcap_classic.specs.declared.header.Magic.{Magic}
 use Rattle.pcap_classic.specs.declared.header.FileHeader.{FileHeader}
 

@@ -6,9 +6,8 @@ ghost use Rattle.std.specs.Option.{option_map};
 ghost use Rattle.pcap_classic.specs.Lent.{record_of};
 ghost use Rattle.pcap_classic.specs.Savefile.{IsSavefile, IsRefusal};
 
-use crate::captured::{Captured, record_at};
+use crate::captured::{Captured, RECORD_HEADER, record_at};
 use crate::ending::Ending;
-use crate::front::RECORD_HEADER;
 use crate::header::{CaptureFault, FILE_HEADER, FileHeader, header_of};
 use crate::index::{Index, index_of, start_of};
 use crate::records::Records;

@@ -3,11 +3,11 @@
 ghost use Rattle.std.specs.Prelude.{◌≡◌, ◌≤◌, ◌-◌, length, slice_get, Some};
 ghost use Rattle.pcap_classic.specs.Index.{Reaches};
 ghost use Rattle.pcap_classic.specs.Lent.{record_of};
+ghost use Rattle.pcap_classic.specs.Numbers.{number};
 ghost use Rattle.pcap_classic.specs.Records as records;
 ghost use Rattle.pcap_classic.specs.Scan as spec;
 
-use crate::endianness::Endianness;
-use crate::front::{RECORD_HEADER, record_length};
+use byteorder::{BigEndian, ByteOrder, LittleEndian};
 
 /// A record of a capture.
 #[derive(Clone, Copy, Debug, PartialEq, Eq)]
@@ -54,4 +54,82 @@ pub(crate) fn record_at(order: Endianness, file: &[u8], number: u64, start: usiz
     ensures number { result.number ≡ number }
 {
     front_record(order, number, start, &file[start..])
+}
+
+/// The length of a record's header in bytes.
+pub(crate) const RECORD_HEADER: usize = 16;
+
+/// What some bytes begin with.
+#[derive(Clone, Copy)]
+pub(crate) enum Front {
+    /// There are no bytes.
+    Nothing,
+    /// There are fewer bytes than a record's header has.
+    PartOfHeader,
+    /// There is a record's header with fewer bytes after it than its captured length says.
+    PartOfData,
+    /// A record of this length, with its header.
+    WholeRecord(usize),
+}
+
+/// The length of a record in bytes, with its header, by its captured length.
+#[inline(always)]
+pub(crate) fn record_length(order: Endianness, bytes: &[u8]) -> usize
+    requires { 16 ≤ length bytes.now }
+    ensures { result ≡ records.record_length order bytes.now }
+{
+    RECORD_HEADER + order.read_u32(&bytes[8..]) as usize
+}
+
+#[inline(always)]
+pub(crate) fn front_of(order: Endianness, bytes: &[u8]) -> Front
+    ensures { result ≡ spec.front_of order bytes.now }
+{
+    if bytes.is_empty() {
+        return Front::Nothing;
+    }
+    if bytes.len() < RECORD_HEADER {
+        return Front::PartOfHeader;
+    }
+    let length = record_length(order, bytes);
+    if bytes.len() < length {
+        Front::PartOfData
+    } else {
+        Front::WholeRecord(length)
+    }
+}
+
+/// The order in which the bytes of a number stand.
+#[derive(Clone, Copy)]
+pub(crate) enum Endianness {
+    /// The highest byte stands first.
+    Big,
+    /// The lowest byte stands first.
+    Little,
+}
+
+impl Endianness {
+    /// The number in the first two bytes.
+    #[inline]
+    pub(crate) fn read_u16(self, bytes: &[u8]) -> u16
+        requires { 2 ≤ length bytes.now }
+        ensures { result ≡ number self 2 bytes.now }
+    {
+        match self {
+            Endianness::Big => BigEndian::read_u16(bytes),
+            Endianness::Little => LittleEndian::read_u16(bytes),
+        }
+    }
+
+    /// The number in the first four bytes.
+    #[inline(always)]
+    pub(crate) fn read_u32(self, bytes: &[u8]) -> u32
+        requires { 4 ≤ length bytes.now }
+        ensures { result ≡ number self 4 bytes.now }
+    {
+        match self {
+            Endianness::Big => BigEndian::read_u32(bytes),
+            Endianness::Little => LittleEndian::read_u32(bytes),
+        }
+    }
 }

@@ -3,7 +3,7 @@
 ghost use Rattle.std.specs.Prelude.{◌≡◌, ◌≤◌, length};
 ghost use Rattle.pcap_classic.specs.Scan as spec;
 
-use crate::endianness::Endianness;
+use crate::captured::Endianness;
 use byteorder::{BigEndian, ByteOrder, LittleEndian};
 
 /// The length of a file header in bytes.

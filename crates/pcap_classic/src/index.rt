@@ -3,11 +3,10 @@
 ghost use Rattle.std.specs.Prelude.{◌≡◌, ◌≤◌, ◌<◌, ◌+◌, ◌-◌, ◌*◌, ◌^◌, ◌↔◌, ℕ, List, length, drop, true, IfOk};
 ghost use Rattle.pcap_classic.specs.Index.{IsIndex, AreEven, AreKept, AreStarts, Reaches, ending_by};
 ghost use Rattle.pcap_classic.specs.Scan as spec;
-ghost use Rattle.pcap_classic.specs.declared.front.Front.TheVariants.{WholeRecord};
+ghost use Rattle.pcap_classic.specs.declared.captured.Front.TheVariants.{WholeRecord};
 
-use crate::endianness::Endianness;
+use crate::captured::{Endianness, Front, front_of, record_length};
 use crate::ending::Ending;
-use crate::front::{Front, front_of, record_length};
 use crate::header::FILE_HEADER;
 use arrayvec::ArrayVec;
 use std::alloc::{AllocError, Allocator};

@@ -6,9 +6,7 @@
 
 mod capture;
 mod captured;
-mod endianness;
 mod ending;
-mod front;
 mod header;
 mod index;
 mod law;

@@ -5,9 +5,7 @@ ghost use Rattle.std.specs.Option.{option_map};
 ghost use Rattle.std.specs.Iterator.{YieldsFirstBy, item_count};
 ghost use Rattle.pcap_classic.specs.Lent.{record_of};
 
-use crate::captured::{Captured, record_at};
-use crate::endianness::Endianness;
-use crate::front::RECORD_HEADER;
+use crate::captured::{Captured, Endianness, RECORD_HEADER, record_at};
 use std::marker::Model;
 
 /// Records of a capture that follow one another, in order. Contracts see it as the list of those that are left.

@@ -1,7 +1,7 @@
 use Rattle.std.proofs.Common.{◌≡◌, ℕ, ◌+◌, ◌*◌, List, arith, inl, inr}
 use Rattle.std.proofs.lemmas.Bool.{cases_lt}
 use Rattle.std.proofs.lemmas.List.{take_rest}
-use Rattle.pcap_classic.specs.declared.endianness.Endianness.{Endianness}
+use Rattle.pcap_classic.specs.declared.captured.Endianness.{Endianness}
 use Rattle.pcap_classic.specs.Index.{Reaches, AreEven}
 use Rattle.pcap_classic.proofs.ReachLemmas.{onward}
 use Rattle.pcap_classic.proofs.index.pass_repeats.Goals as goal

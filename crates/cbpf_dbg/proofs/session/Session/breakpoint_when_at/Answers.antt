@@ -1,7 +1,7 @@
 use Rattle.std.proofs.Common.{ap, ◌∙◌}
 use Rattle.std.specs.Prelude.{ℕ}
 use Rattle.std.specs.Option.{option_map}
-use Rattle.cbpf_machine.specs.declared.watched.When.{When}
+use Rattle.cbpf_machine.specs.declared.pause.When.{When}
 use Rattle.cbpf_dbg.proofs.session.Session.breakpoint_when_at.Goals as goal
 
 pub returns-in_err-when : goal.returns-in_err-when

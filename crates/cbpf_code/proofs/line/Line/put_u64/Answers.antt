@@ -1,9 +1,0 @@
-use Rattle.std.proofs.Common.{length-append, length-drop, arith}
-use Rattle.cbpf_code.proofs.DigitLemmas.{twenty_digits}
-use Rattle.cbpf_code.proofs.line.Line.put_u64.Goals as goal
-
-pub write_digits-self-inside-requires : goal.write_digits-self-inside-requires
-write_digits-self-inside-requires c = grind (arith, twenty_digits, length-drop)
-
-pub returns-clause-grown : goal.returns-clause-grown
-returns-clause-grown c = grind (arith, twenty_digits, length-append)
