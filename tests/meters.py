@@ -207,7 +207,7 @@ def list_machine(files):
     print("literals of a state:")
     for word in ("State", "Core"):
         list_words(files, word, is_literal)
-    list_words([file for file in files if file.path.name in ("state.rt", "core_state.rt")], "Self")
+    list_words([file for file in files if file.path.name == "state.rt"], "Self")
     print("changes of a state's registers:")
     for word in ("pc", "a", "x"):
         list_words(files, word, is_changed)
