@@ -123,8 +123,7 @@ back_at m None = Err (fault.TooFarBack (m.place.step - 1))
 back_at m (Some e) = Ok (stopped m (stop_at why.Step e))
 
 abbrev pub back_to : View → Machine → List Record → ℕ → Answer RunReply
-back_to m machine capture b =
-    back_at m (if nat_lt b m.place.step
+back_to m machine capture b = back_at m (if nat_lt b m.place.step
     then entry_in machine (slice_get capture (m.place.packet - 1)) (back_place m.place b) else None)
 
 abbrev pub step_by : View → Machine → List Record → ℤ → Answer RunReply
@@ -237,12 +236,11 @@ with_capture_loaded m c = record m { capture = Some c; place = start; origin = 1
 
 -- a value for an extension: the place's packet begins anew, and is the first that counts
 abbrev pub with_value_set : View → Ext → ℕ → View
-with_value_set m e n =
-    record m {
-      values = with_value m.values e n;
-      place = record { packet = m.place.packet; step = 0 };
-      origin = m.place.packet;
-    }
+with_value_set m e n = record m {
+  values = with_value m.values e n;
+  place = record { packet = m.place.packet; step = 0 };
+  origin = m.place.packet;
+}
 
 unfoldable pub set_value : View → Ext → ℕ → Answer (Unit {0})
 set_value m e n = if takes_value e then Ok (tt, with_value_set m e n) else Err fault.NoValue
@@ -263,11 +261,10 @@ breakpoint m n = breakpoint_when m n Always
 
 -- whether it was set; the others keep their order
 unfoldable pub delete : View → ℕ → Answer Bool
-delete m n =
-    at_instruction m n (Ok (
-      is_some (lookup (nat_eq n) m.breakpoints),
-      record m { breakpoints = shift_remove_entry (nat_eq n) m.breakpoints },
-    ))
+delete m n = at_instruction m n (Ok (
+  is_some (lookup (nat_eq n) m.breakpoints),
+  record m { breakpoints = shift_remove_entry (nat_eq n) m.breakpoints },
+))
 
 abbrev pub without_breakpoints : View → View
 without_breakpoints m = record m { breakpoints = [] }

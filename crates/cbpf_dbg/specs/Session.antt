@@ -1,5 +1,4 @@
--- What the parts of a session have to do with one another: it is a matter of this crate alone,
--- and no public clause names it.
+-- How the parts of a session fit together: a matter of this crate alone, which no public clause names.
 use Rattle.std.specs.Prelude.{◌≡◌, ℕ, ◌-◌, ◌<◌, ◌≤◌, List, [], Bool, true, Option, Some, None, length, take}
 use Rattle.std.specs.Prelude.{slice_get, nat_eq, ◌||◌}
 use Rattle.std.specs.Map.{lookup}
@@ -27,9 +26,6 @@ Keeps stands_for machine capture place =
     (r : Record) → slice_get capture (place.packet - 1) ≡ Some r
     → stands_for (take place.step (trace machine r.bytes r.wire))
 
-abbrev pub IsStart : Cursor → Type 0
-IsStart w = (w.place ≡ start) × (w.origin ≡ 1)
-
 -- no place is after the last packet, where there is one
 abbrev pub IsInside : List Record → Place → Type 0
 IsInside capture place = 0 < length capture → place.packet ≤ length capture
@@ -39,7 +35,7 @@ abbrev pub Fits : (List Registers → Type 0) → Option (List Insn) → Values 
 Fits stands_for (Some list) values (Some c) w =
     Stands (machine_of list values) c.records w × Keeps stands_for (machine_of list values) c.records w.place
     × IsInside c.records w.place
-Fits stands_for _ values _ w = IsStart w
+Fits stands_for _ values _ w = (w.place ≡ start) × (w.origin ≡ 1)
 
 -- no turn of a machine asks for an extension that has no value
 abbrev pub NeedsNoValue : Machine → Type 0
