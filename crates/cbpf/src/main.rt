@@ -91,7 +91,7 @@ fn explain<R: Print + Eprint>(rt: &R, text: &str) -> ExitCode {
     }
 }
 
-fn run<R: Input + Print + Eprint + Files + AllocGlobal>(rt: &R, words: Vec<String>) -> ExitCode {
+fn do_job<R: Input + Print + Eprint + Files + AllocGlobal>(rt: &R, words: Vec<String>) -> ExitCode {
     match command_line(rt.alloc(), words) {
         Ok(job) => {
             let done = run_on(rt.alloc(), &mut Machine { rt }, job);
@@ -111,7 +111,7 @@ fn run<R: Input + Print + Eprint + Files + AllocGlobal>(rt: &R, words: Vec<Strin
 
 fn main(rt: HostRuntime) -> ExitCode {
     match words(&rt) {
-        Ok(words) => run(&rt, words),
+        Ok(words) => do_job(&rt, words),
         Err(e) if e.kind() == ErrorKind::OutOfMemory => {
             report(&rt, &Failure::Tool(ToolFault::Memory))
         }

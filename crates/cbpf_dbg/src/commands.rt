@@ -11,7 +11,7 @@ ghost use Rattle.cbpf_dbg.specs.Shown as shown;
 use crate::cursor::{Cursor, Walk};
 use crate::loaded::Loaded;
 use crate::resume::resume_at;
-use crate::run::run;
+use crate::run::run_to_limit;
 use crate::session::Session;
 use crate::step::{step_back, step_on};
 use crate::stops::Stops;
@@ -89,7 +89,7 @@ impl<T: Trail, A: Allocator> Session<T, A> {
         if let Some(0) = limit {
             return Err(SessionFault::ZeroCount);
         }
-        let reply = run(meter, &loaded, &mut self.cursor, &mut self.trail, limit);
+        let reply = run_to_limit(meter, &loaded, &mut self.cursor, &mut self.trail, limit);
         Ok(reply)
     }
 

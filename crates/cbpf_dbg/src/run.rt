@@ -166,7 +166,7 @@ fn run_to_hit<T: Trail, A: Allocator>(
 
 /// Goes on to the next hit, to the limit of finished packets, or to the end.
 // It moves a copy, and writes it back once, at its end.
-pub(crate) fn run<T: Trail, A: Allocator>(
+pub(crate) fn run_to_limit<T: Trail, A: Allocator>(
     meter: &mut Meter,
     loaded: &Loaded<'_, A>,
     cursor: &mut Cursor,

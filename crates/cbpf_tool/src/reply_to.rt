@@ -248,7 +248,7 @@ pub(crate) type ScriptSession<A> = Session<MarkTrail, A>;
 ///
 /// A stop is one of this session's, of the program and the capture that are loaded.
 #[tactic(auto, unfolding(crate::specs::RunText::run_text))]
-pub(crate) fn write_run<W: Write, A: Allocator>(
+fn write_run<W: Write, A: Allocator>(
     w: &mut W,
     session: &ScriptSession<A>,
     reply: RunReply,
@@ -292,7 +292,7 @@ fn write_list<W: Write, A: Allocator>(
 
 /// Writes the breakpoints of a session, in order of setting.
 #[tactic(auto, using(cbpf_code::proofs::WrittenLemmas::pairs), unfolding(cbpf_reply::specs::Breakpoints::breakpoints_text))]
-pub(crate) fn write_breakpoints<W: Write, A: Allocator>(
+fn write_breakpoints<W: Write, A: Allocator>(
     w: &mut W,
     session: &ScriptSession<A>,
 ) -> Result<(), WriteFault>
@@ -318,10 +318,7 @@ fn write_lines<W: Write, A: Allocator>(w: &mut W, stops: Stops<'_, A>) -> Result
 
 /// Writes a line for each stop, and how many there are.
 #[tactic(auto, using(cbpf_code::proofs::WrittenLemmas::pairs), unfolding(cbpf_reply::specs::Stops::stops_text))]
-pub(crate) fn write_stops<W: Write, A: Allocator>(
-    w: &mut W,
-    stops: Stops<'_, A>,
-) -> Result<(), WriteFault>
+fn write_stops<W: Write, A: Allocator>(w: &mut W, stops: Stops<'_, A>) -> Result<(), WriteFault>
     requires { length stops < 2 ^ 128 }
     ensures { Wrote (W.contents w.old) (W.contents w.new) result (stops_text stops.entry) }
 {

@@ -7,7 +7,7 @@ use Rattle.cbpf_dbg.proofs.session.Session.run.Goals as goal
 pub returns-clause-shown : goal.returns-clause-shown
 returns-clause-shown g c =
     shows-run _ _ _ (record { program = c.in-Some.is; values = refl; capture = c.in-Some-capture.is }) _
-    (known-sound _ _ _ _ _ _ c.in-Some.is c.self.invariant.1) _ _ _ _ c.run-reply.ensures.runs
+    (known-sound _ _ _ _ _ _ c.in-Some.is c.self.invariant.1) _ _ _ _ c.run_to_limit-reply.ensures.runs
 
 pub returns-clause-reply : goal.returns-clause-reply
 unfolding run stops

@@ -4,7 +4,7 @@ use Rattle.cbpf_dbg.specs.Loaded.{machine_in, records_in}
 use Rattle.cbpf_dbg.proofs.LeftLemmas.{is_end}
 use Rattle.cbpf_dbg.proofs.RunLemmas.{run_stopped, run_limited, run_finished, none_ahead}
 use Rattle.cbpf_dbg.proofs.TurnLemmas.{turns-reply, spent_between, owed-turns, owed_bound}
-use Rattle.cbpf_dbg.proofs.run.run.Goals as goal
+use Rattle.cbpf_dbg.proofs.run.run_to_limit.Goals as goal
 
 pub run_to_hit-stop-requires-clause-can : goal.run_to_hit-stop-requires-clause-can
 run_to_hit-stop-requires-clause-can g c =
