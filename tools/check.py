@@ -3,6 +3,9 @@
 
 What `rt ci` prints goes through as it is, but a line of a step has the time in front: a crate that is proved, its
 tests, and a crate whose must-fail edits are at work. It ends as `rt ci` ends.
+
+Each check of a crate or an edit gets one processor, and one runs on each: two processors make one check hardly
+faster, and two checks at once are. RT_JOBS says another number of checks at a time.
 """
 
 import os
@@ -16,7 +19,14 @@ from pathlib import Path
 from build import record, sources
 
 ROOT = Path(__file__).resolve().parent.parent
+# The most memory that a check takes, with room to spare.
+CHECK_NEEDS = 4 << 30
 STEP = re.compile(r"rt: (\w+)(: its tests are)? (proved|NOT PROVED|ran)|rt: (\w+): trying its must-fail edits")
+
+
+def checks_at_a_time():
+    memory = os.sysconf("SC_PHYS_PAGES") * os.sysconf("SC_PAGE_SIZE")
+    return max(1, min(len(os.sched_getaffinity(0)), memory // CHECK_NEEDS))
 
 
 def main():
@@ -36,7 +46,7 @@ def main():
         stderr=subprocess.STDOUT,
         text=True,
         errors="replace",
-        env={**os.environ, "PYTHONUNBUFFERED": "1"},
+        env={"RT_JOBS": str(checks_at_a_time()), **os.environ, "PYTHONUNBUFFERED": "1"},
     ) as rt:
         for line in rt.stdout:
             minutes, seconds = divmod(int(time.time() - began), 60)
