@@ -52,24 +52,23 @@ demo: ## Proves and builds the program, assembles an example, and debugs a filte
 try: ## Runs the demonstration on a program that is built with no proof, in about a minute; keeps no program.
 	@python3 tools/try.py
 
-test: built ## Runs the end-to-end cases, sessions, verdicts and the examples of the documents on the program that is built, and looks up the documents' names.
+test: built ## Runs the end-to-end cases, sessions, verdicts, the works of bench and the examples of the documents on the program that is built, and looks up the documents' names.
 	python3 tests/names.py
 	python3 tests/run.py "$(PROGRAM)"
 	python3 tests/sessions.py "$(PROGRAM)"
 	python3 tests/verdicts.py "$(PROGRAM)"
+	@for it in assembler debugger growth loading processes session; do \
+		echo "python3 bench/$$it.py --answers"; python3 bench/$$it.py --answers > /dev/null || exit; done
 	python3 tests/documents.py "$(PROGRAM)"
 
 bench: built ## Measures the program that is built beside its peers, and writes the tables of bench/README.md and bench/growth.svg.
 	python3 bench/all.py
 
-check: ## The gate: proves all crates and their tests from nothing, tries the must-fail edits, runs all tests; an hour and more on two processors, by the machine.
+check: ## The gate: proves all crates and their tests from nothing, tries the must-fail edits, runs all tests; about an hour on two processors, by the machine.
 	python3 tests/names.py
 	@python3 tools/check.py
 	python3 tests/compile.py
-	python3 tests/run.py "$(PROGRAM)"
-	python3 tests/sessions.py "$(PROGRAM)"
-	python3 tests/verdicts.py "$(PROGRAM)"
-	python3 tests/documents.py "$(PROGRAM)"
+	@$(MAKE) --no-print-directory test
 
 built:
 	@test -x "$(PROGRAM)" || { echo 'There is no $(PROGRAM): `make build` proves and builds it.' >&2; exit 1; }

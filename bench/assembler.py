@@ -57,6 +57,9 @@ def colliding(count):
     The program that prints them hashes names as the toolchain's `FoldHasher` does from its fixed seed, until enough
     have the same 14 lowest bits: a minute or two for a million.
     """
+    if session.ONLY_ANSWERS:
+        yield from plain(count)
+        return
     printed, _ = session.in_folder(lambda folder: answers.asked([session.compiled(folder, "colliding_names"), count]))
     names = printed.splitlines()
     are_so = len(names) == count and all(len(name) == 8 for name in names)
@@ -120,10 +123,14 @@ def main(folder):
         print(f"{what}, {size / 1e6:.2f} MB: {spent * 1e3:.2f} ms, {peak / 1e6:.1f} MB", flush=True)
 
     row("4000 instructions with 2000 labels", [with_labels()], 51, "4000,40 0 0 0,21 0 2 0,")
-    for what, pieces, rounds, wanted in HOSTILE:
-        row(what, pieces, rounds, wanted)
+    steps = [(10**4, 51), (10**5, 31), (10**6, 9), (10**7, 3)]
+    if session.ONLY_ANSWERS:
+        steps = steps[:1]
+    else:
+        for what, pieces, rounds, wanted in HOSTILE:
+            row(what, pieces, rounds, wanted)
     for what, pieces, wanted in GROWING:
-        for size, rounds in [(10**4, 51), (10**5, 31), (10**6, 9), (10**7, 3)]:
+        for size, rounds in steps:
             row(what, pieces(size), rounds, wanted(size))
 
 

@@ -188,4 +188,5 @@ def print_counts(folder):
 
 
 if __name__ == "__main__":
-    session.in_folder(print_counts if "--callgrind" in sys.argv[1:] else print_times)
+    is_counting = session.ONLY_ANSWERS or "--callgrind" in sys.argv[1:]
+    session.in_folder(print_counts if is_counting else print_times)

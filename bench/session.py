@@ -6,7 +6,8 @@ libpcap (libpcap-dev) are there, libpcap's bpf_filter runs over the same capture
 before it is timed (answers.py). Wants crates/cbpf built by `make build`.
 
 `session.py --callgrind` counts in their place the machine instructions of the same works, by valgrind: one command
-more less the same script without it. These don't depend on the machine's load.
+more less the same script without it. These don't depend on the machine's load. With `--answers` nothing is measured:
+the answers to small works are looked at alone, as `make test` does with each of these scripts that takes the word.
 """
 import dataclasses
 import functools
@@ -27,6 +28,7 @@ import programs
 top = pathlib.Path(__file__).resolve().parent.parent
 cbpf = top / "crates/cbpf/out/cbpf"
 
+ONLY_ANSWERS = "--answers" in sys.argv[1:]
 STRAIGHT_PACKETS = 3_000
 # How many turns two works take, and how often a command is given beyond its first time.
 ROUNDS = 7
@@ -71,6 +73,8 @@ def timed(command, script, rounds=5, env=None):
 
 def counted(command, script="/dev/null", status=0):
     """The machine instructions of a process, whose start reads all of its environment: so it has little."""
+    if ONLY_ANSWERS:
+        return 0
     valgrind = ["valgrind", "--tool=callgrind", "--callgrind-out-file=/dev/null"]
     env = {name: os.environ[name] for name in ("PATH", "HOME") if name in os.environ}
     _, said = answers.asked(valgrind + [str(word) for word in command], script, status, env=env)
@@ -84,7 +88,7 @@ class Measure:
     """Measures works in a folder: by their seconds, or by their machine instructions."""
 
     folder: pathlib.Path
-    counting: bool = "--callgrind" in sys.argv[1:]
+    counting: bool = ONLY_ANSWERS or "--callgrind" in sys.argv[1:]
 
     def cost(self, command, file="/dev/null", rounds=1):
         return counted(command, file) if self.counting else timed(command, file, rounds)
@@ -112,6 +116,8 @@ class Measure:
 
     def compare(self, what, ours, unit, than, theirs, units):
         """Shows what measures a work beside what measures another one, by turns: the ratio is of the medians."""
+        if ONLY_ANSWERS:
+            return
         ours, theirs = zip(*((ours(), theirs()) for _ in range(1 if self.counting else ROUNDS)))
         mine, other = statistics.median(ours), statistics.median(theirs)
         shown = f"{other / units:.1f}" if self.counting else f"{min(ours) / min(theirs):.2f} of the least"
@@ -125,7 +131,7 @@ def in_folder(work):
 
 def compiled(folder, name, *libraries):
     """The C program of this name, where it can be built."""
-    if not shutil.which("cc"):
+    if ONLY_ANSWERS or not shutil.which("cc"):
         return None
     words = ["cc", "-O2", "-o", folder / name, top / f"bench/{name}.c", *libraries]
     return folder / name if subprocess.run(words, capture_output=True).returncode == 0 else None
@@ -146,6 +152,8 @@ class Used:
 
 def used(process, command, script="/dev/null", env=None, status=0):
     """What a command took, which ends with this status, by the program of process.c."""
+    if ONLY_ANSWERS:
+        return Used(0, 0, 0, 0)
     words = [str(word) for word in command]
     answer, _ = answers.asked([process, script, *words], env=env)
     answers.holds(process, re.fullmatch(r"(\d+ ){4}\d+\n", answer), "five numbers", answer)
