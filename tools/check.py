@@ -20,7 +20,7 @@ from build import record, sources
 
 ROOT = Path(__file__).resolve().parent.parent
 # The most memory that a check takes, with room to spare.
-CHECK_NEEDS = 4 << 30
+CHECK_NEEDS = 5 << 30
 STEP = re.compile(r"rt: (\w+)(: its tests are)? (proved|NOT PROVED|ran)|rt: (\w+): trying its must-fail edits")
 
 
