@@ -15,7 +15,7 @@ use Rattle.cbpf_code.specs.declared.checker.CheckFault.TheVariants.{UnknownExten
 use Rattle.cbpf_code.specs.declared.words.WordFault.{WordFault}
 use Rattle.cbpf_code.specs.declared.words.WordFault.TheVariants.{Memory}
 use Rattle.cbpf_code.specs.Opcode.{op_of}
-use Rattle.cbpf_code.specs.ControlFlow.{InsnAt, FollowsCode, IsSuccessor, StoresSlot, MayBeUnwritten, loads_slot}
+use Rattle.cbpf_code.specs.ControlFlow.{InsnAt, CanFollowCode, IsSuccessor, StoresSlot, MayBeUnwritten, loads_slot}
 use Rattle.cbpf_code.specs.ControlFlow.{stores_slot}
 use Rattle.cbpf_code.specs.ControlFlow.MayBeUnwritten.{at_start, onward}
 use Rattle.cbpf_code.specs.Faults.{NamesNoSlot, DividesByZero, ShiftsTooFar, JumpsOutside, LoadsNoExtension}
@@ -23,7 +23,7 @@ use Rattle.cbpf_code.specs.Faults.{HasFault, FirstFault, IsEarlier, rank, index_
 use Rattle.cbpf_code.specs.Faults.{uses_slot, divides_by_k, shifts_by_k}
 use Rattle.cbpf_code.specs.Sound.{IsSound}
 use Rattle.cbpf_code.specs.CheckSteps.{PassesBefore, IsWellFormed, IsAllowed, AllowedAt}
-use Rattle.cbpf_code.specs.WordTokens.{Token, run, single, tokens}
+use Rattle.cbpf_code.specs.WordTokens.{WordToken, run, single, tokens}
 use Rattle.cbpf_code.specs.WordText.{Due, count, next_due, range_of, token_fault, or_else, first_fault, fault_of}
 use Rattle.cbpf_code.specs.WordText.{count_of, list_of, Spells, Refused}
 use Rattle.cbpf_code.specs.Laws.{EachTextIsRead, EachListIsChecked}
@@ -162,7 +162,7 @@ fault_at list i below = elim (slice_get_cases list i).1 [
 stores : (list : List Insn) (i s : ℕ) → Decided (StoresSlot list i s)
 stores list i s = insn_at list i _ (λ op insn. both (is_true (stores_slot op)) (cases_eq insn.k s))
 
-follows : (o : Option Op) (insn : Insn) (i t : ℕ) → Decided (FollowsCode o insn i t)
+follows : (o : Option Op) (insn : Insn) (i t : ℕ) → Decided (CanFollowCode o insn i t)
 follows None insn i t = cases_eq t (i + 1)
 follows (Some RetK) insn i t = inr (λ h. h)
 follows (Some RetA) insn i t = inr (λ h. h)
@@ -250,7 +250,7 @@ each_list_is_checked list = elim (cases_eq (length list) 0) [
 -- ---- each text
 
 -- no token and no end is out of memory
-token_fault-other : (range : Option ℕ) (m : Token) → token_fault range m ≢ Some Memory
+token_fault-other : (range : Option ℕ) (m : WordToken) → token_fault range m ≢ Some Memory
 token_fault-other None (run p ds) h = cc
 token_fault-other (Some range) (run p ds) h = grind (arith, tests)
 token_fault-other None (single p b) h = grind (arith, tests)
@@ -260,7 +260,7 @@ or_else-other : (o p : Option WordFault) → o ≢ Some Memory → p ≢ Some Me
 or_else-other None p first then = then
 or_else-other (Some e) p first then = first
 
-first_fault-other : (due : Due) (n : ℕ) (ms : List Token) → first_fault due n ms ≢ Some Memory
+first_fault-other : (due : Due) (n : ℕ) (ms : List WordToken) → first_fault due n ms ≢ Some Memory
 first_fault-other count n [] h = cc
 first_fault-other _ n [] h = cc
 first_fault-other due n (m ∷ ms) h =

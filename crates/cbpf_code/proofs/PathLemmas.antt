@@ -12,7 +12,7 @@ use Rattle.cbpf_code.specs.declared.opcode.Op.TheVariants.{LdMem, St}
 use Rattle.cbpf_code.specs.declared.checker.CheckFault.TheVariants.{UnwrittenSlot}
 use Rattle.cbpf_code.specs.declared.checker.TheConstants.{MAX_INSTRUCTIONS, SLOTS}
 use Rattle.cbpf_code.specs.Opcode.{op_of}
-use Rattle.cbpf_code.specs.ControlFlow.{Follows, IsSuccessor, StoresSlot, MayBeUnwritten}
+use Rattle.cbpf_code.specs.ControlFlow.{CanFollow, IsSuccessor, StoresSlot, MayBeUnwritten}
 use Rattle.cbpf_code.specs.ControlFlow.{loads_slot, stores_slot}
 use Rattle.cbpf_code.specs.ControlFlow.MayBeUnwritten.{at_start, onward}
 use Rattle.cbpf_code.specs.Faults.{uses_slot, HasFault}
@@ -20,7 +20,7 @@ use Rattle.cbpf_code.specs.SlotMasks.{InMask, InMaskOf, LeavesUnwritten, AddsToM
 use Rattle.cbpf_code.proofs.FaultLemmas.{insn_at-same}
 
 successor-same : (list : List Insn) (i t : ℕ) (insn : Insn) (op : Op) → IsSuccessor list i t
-    → slice_get list i ≡ Some insn → op_of insn.code ≡ Some op → Follows op insn i t
+    → slice_get list i ≡ Some insn → op_of insn.code ≡ Some op → CanFollow op insn i t
 successor-same list i t insn op next here known = grind arith
 
 -- ---- paths
@@ -77,7 +77,7 @@ reached-further list s m t (inr r) = inr (r.0, omega arith, r.2, r.3, r.4)
 pub tracks_paths-next : (list : List Insn) (i : ℕ) (insn : Insn) (op : Op) (masks next_masks : List ℕ) (left : ℕ)
     → slice_get list i ≡ Some insn → op_of insn.code ≡ Some op → TracksPaths list i masks
     → LeavesUnwritten (slice_index masks i) op insn left
-    → AddsToMasks masks next_masks left (λ t. Follows op insn i t) → (IsTrue (loads_slot op) → insn.k < SLOTS)
+    → AddsToMasks masks next_masks left (λ t. CanFollow op insn i t) → (IsTrue (loads_slot op) → insn.k < SLOTS)
     → (IsTrue (loads_slot op) × InMaskOf masks i insn.k → ⊥) → TracksPaths list (i + 1) next_masks
 tracks_paths-next list i insn op masks next_masks left here known tracks leaves adds small_k fine = record {
   long = adds.long ∙ tracks.long;

@@ -11,7 +11,7 @@ use Rattle.cbpf_code.specs.declared.insn.Insn.{Insn}
 use Rattle.cbpf_code.specs.declared.opcode.Op.{Op}
 use Rattle.cbpf_code.specs.declared.opcode.Op.TheVariants.{Ja, Jump, RetK, RetA}
 use Rattle.cbpf_code.specs.declared.checker.TheConstants.{SLOTS}
-use Rattle.cbpf_code.specs.ControlFlow.{Follows, stores_slot}
+use Rattle.cbpf_code.specs.ControlFlow.{CanFollow, stores_slot}
 use Rattle.cbpf_code.specs.SlotMasks.{InMask, LeavesUnwritten, AddsToMasks}
 
 -- ---- one mask
@@ -46,7 +46,7 @@ adds_to_masks-one masks at left inside =
 
 pub follows-next : (op : Op) (insn : Insn) (i : ℕ) → (op ≡ Ja → ⊥)
     → ((cond_is : _) (src : _) → op ≡ Jump cond_is src → ⊥) → (op ≡ RetK → ⊥) → (op ≡ RetA → ⊥)
-    → Follows op insn i (i + 1)
+    → CanFollow op insn i (i + 1)
 follows-next Ja insn i a b c d = absurd (a refl)
 follows-next (Jump k src) insn i a b c d = absurd (b k src refl)
 follows-next RetK insn i a b c d = absurd (c refl)

@@ -8,10 +8,10 @@ use Rattle.std.proofs.lemmas.Fmt.{decimal_is_IsNumeral, decimal_nonempty}
 use Rattle.std.proofs.lemmas.List.Elements.{All-head, All-tail}
 use Rattle.std.proofs.lemmas.Str.{digit_value_digit}
 use Rattle.std.proofs.lemmas.Str.Parse.{digit_from_value}
-use Rattle.cbpf_code.specs.WordTokens.{run, is_digit, begins_with_digit, number, tokens_from}
+use Rattle.cbpf_code.specs.WordTokens.{run, is_digit, begins_with_digit, decimal_value, tokens_from}
 use Rattle.cbpf_code.specs.WordText.{Due, count, count_comma, code, jt, jf, k, comma, next_due, range_of}
 use Rattle.cbpf_code.specs.WordText.{first_fault, numbers, Spells}
-use Rattle.cbpf_code.specs.WordForm.{InRange, word_line, words}
+use Rattle.cbpf_code.specs.WordForm.{InRange, word_line, word_text}
 use Rattle.cbpf_code.specs.WordSteps.{fields_of}
 use Rattle.cbpf_code.proofs.WordTokenLemmas.{law-empty, law-blank, law-single, law-run}
 use Rattle.cbpf_code.proofs.WordStepLemmas.{whole-spells}
@@ -34,7 +34,7 @@ number_after n (c ∷ cs) h =
     let e : 10 * n + (c - 48) ≡ n * 10 + digit_value c = omega arith in
     ap (λ m. fold (λ m b. 10 * m + (b - 48)) m cs) e ∙ number_after (n * 10 + digit_value c) cs h.1
 
-number-decimal : (n : ℕ) → n < 2 ^ 64 → number (decimal n) ≡ n
+number-decimal : (n : ℕ) → n < 2 ^ 64 → decimal_value (decimal n) ≡ n
 number-decimal n h = let k = decimal_is_IsNumeral n h in number_after 0 (decimal n) k.0.1 ∙ k.1
 
 some_digits : (ds : List ℕ) → 0 < length ds → ds ≢ []
@@ -91,18 +91,18 @@ reads-lines (i ∷ is) h =
     (reads-line i _ _ (All-head InRange i is h) (reads-lines is (All-tail InRange i is h)))
 
 words-split : (list : List Insn)
-    → words list ≡ decimal (length list) ++ (44 ∷ (flat_map word_line list ++ codes "\n"))
+    → word_text list ≡ decimal (length list) ++ (44 ∷ (flat_map word_line list ++ codes "\n"))
 words-split list = simp append_assoc
 
 reads-words : (list : List Insn) → length list < 2 ^ 32 → All InRange list
-    → Reads (words list) count (length list ∷ fields_of list)
+    → Reads (word_text list) count (length list ∷ fields_of list)
 reads-words list l h =
     rw (words-split list)
     (reads-number _ (length list) _ count _ refl refl (omega arith) l
     (reads-comma _ count_comma _ refl (reads-lines list h)))
 
 -- the law that a list is read back from its text
-pub words-spell : (list : List Insn) → All InRange list → length list ≤ 4294967295 → Spells (words list) list
+pub words-spell : (list : List Insn) → All InRange list → length list ≤ 4294967295 → Spells (word_text list) list
 words-spell list h l =
     let r = reads-words list (omega (arith, l)) h 0 in
-    whole-spells (words list) (length list) list (record { good = r.0 (length (words list)); spelled = r.1 }) refl
+    whole-spells (word_text list) (length list) list (record { good = r.0 (length (word_text list)); spelled = r.1 }) refl

@@ -4,13 +4,13 @@ use Rattle.std.proofs.Common.{refl, sym, ◌∙◌, ap, subst, arith, Some, None
 use Rattle.cbpf_code.specs.WordTokens.{tokens_after}
 use Rattle.cbpf_code.specs.WordText.{Due, count, count_comma, code, comma, end_fault, first_fault, numbers}
 use Rattle.cbpf_code.specs.WordText.{in_fours, list_of, Spells, Refused}
-use Rattle.cbpf_code.specs.WordSteps.{fault_from, Passes, Stops, IsRead, IsReadWhole, fields_of}
+use Rattle.cbpf_code.specs.WordSteps.{fault_from, PassesTokens, IsFaultAt, IsRead, IsReadWhole, fields_of}
 use Rattle.cbpf_code.specs.declared.insn.Insn.{Insn}
 use Rattle.cbpf_code.specs.declared.words.WordFault.TheVariants.{NumberExpected, CountDiffers, CommaExpected}
 use Rattle.cbpf_code.specs.declared.words.WordFault.{WordFault}
 
-pub passes-then : {text : List ℕ} {a b c : Due} {at mid end : ℕ} {ns ms : List ℕ} → Passes text a at ns b mid
-    → Passes text b mid ms c end → Passes text a at (ns ++ ms) c end
+pub passes-then : {text : List ℕ} {a b c : Due} {at mid end : ℕ} {ns ms : List ℕ} → PassesTokens text a at ns b mid
+    → PassesTokens text b mid ms c end → PassesTokens text a at (ns ++ ms) c end
 passes-then {text} {a} {b} {c} {at} {mid} {end} {ns} {ms} x y = record {
   within = y.within;
   after = omega (arith, x.after, y.after);
@@ -20,8 +20,9 @@ passes-then {text} {a} {b} {c} {at} {mid} {end} {ns} {ms} x y = record {
 }
 
 -- what is wrong after good tokens
-stops-then : {text : List ℕ} {a b : Due} {at mid : ℕ} {ns : List ℕ} {e at_end : WordFault} → Passes text a at ns b mid
-    → Stops text b mid e at_end → (tokens_after text mid ≡ [] → end_fault b (length text) ≡ Some at_end)
+stops-then : {text : List ℕ} {a b : Due} {at mid : ℕ} {ns : List ℕ} {e at_end : WordFault}
+    → PassesTokens text a at ns b mid
+    → IsFaultAt text b mid e at_end → (tokens_after text mid ≡ [] → end_fault b (length text) ≡ Some at_end)
     → fault_from text a at ≡ Some e
 stops-then x (inl h) last = x.good ∙ h
 stops-then {text} {a} {b} x (inr h) last =
@@ -37,24 +38,24 @@ fields_of-push [] i = refl
 fields_of-push (x ∷ xs) i = ap (λ (l : List ℕ). x.code ∷ x.jt ∷ x.jf ∷ x.k ∷ l) (fields_of-push xs i)
 
 read-insn : (text : List ℕ) (n : ℕ) (list : List Insn) (i : Insn) (at end : ℕ) → IsRead text n list at
-    → Passes text code at (i.code ∷ i.jt ∷ i.jf ∷ i.k ∷ []) comma end
-    → Passes text count 0 (n ∷ fields_of (list ++ i ∷ [])) comma end
+    → PassesTokens text code at (i.code ∷ i.jt ∷ i.jf ∷ i.k ∷ []) comma end
+    → PassesTokens text count 0 (n ∷ fields_of (list ++ i ∷ [])) comma end
 read-insn text n list i at end r x =
-    subst (λ (ns : List ℕ). Passes text count 0 (n ∷ ns) comma end) (fields_of-push list i) (passes-then r x)
+    subst (λ (ns : List ℕ). PassesTokens text count 0 (n ∷ ns) comma end) (fields_of-push list i) (passes-then r x)
 
 pub read-next : (text : List ℕ) (n : ℕ) (list : List Insn) (i : Insn) (at mid end : ℕ) → IsRead text n list at
-    → Passes text code at (i.code ∷ i.jt ∷ i.jf ∷ i.k ∷ []) comma mid → Passes text comma mid [] code end
+    → PassesTokens text code at (i.code ∷ i.jt ∷ i.jf ∷ i.k ∷ []) comma mid → PassesTokens text comma mid [] code end
     → IsRead text n (list ++ i ∷ []) end
 read-next text n list i at mid end r x y = grind (arith, append-nil, passes-then, read-insn)
 
 -- the end, where it may stand
 read-end : (text : List ℕ) (n : ℕ) (list : List Insn) (due : Due) (end : ℕ)
-    → Passes text count 0 (n ∷ fields_of list) due end → tokens_after text end ≡ []
+    → PassesTokens text count 0 (n ∷ fields_of list) due end → tokens_after text end ≡ []
     → end_fault due (length text) ≡ None → IsReadWhole text n list
 read-end text n list due end r e fine = grind (arith, append-nil)
 
 pub read-last : (text : List ℕ) (n : ℕ) (list : List Insn) (i : Insn) (at end : ℕ) → IsRead text n list at
-    → Passes text code at (i.code ∷ i.jt ∷ i.jf ∷ i.k ∷ []) comma end → tokens_after text end ≡ []
+    → PassesTokens text code at (i.code ∷ i.jt ∷ i.jf ∷ i.k ∷ []) comma end → tokens_after text end ≡ []
     → IsReadWhole text n (list ++ i ∷ [])
 read-last text n list i at end r x e =
     read-end text n (list ++ i ∷ []) comma end (read-insn text n list i at end r x) e refl
@@ -72,17 +73,17 @@ whole-miscounts text n list w differs = grind (arith, whole-list)
 
 -- ---- refusals
 
-pub stops-first : (text : List ℕ) (e : WordFault) → Stops text count 0 e (NumberExpected (length text))
+pub stops-first : (text : List ℕ) (e : WordFault) → IsFaultAt text count 0 e (NumberExpected (length text))
     → Refused text e
 stops-first text e (inl h) = inr (inl h)
 stops-first text e (inr h) = inr (inl (ap (first_fault count (length text)) h.0 ∙ ap Some (sym h.1)))
 
-pub stops-count : (text : List ℕ) (n a : ℕ) (e : WordFault) → Passes text count 0 (n ∷ []) count_comma a
-    → Stops text count_comma a e (CommaExpected (length text)) → Refused text e
+pub stops-count : (text : List ℕ) (n a : ℕ) (e : WordFault) → PassesTokens text count 0 (n ∷ []) count_comma a
+    → IsFaultAt text count_comma a e (CommaExpected (length text)) → Refused text e
 stops-count text n a e x s = inr (inl (stops-then x s (λ none. refl)))
 
 pub stops-fields : (text : List ℕ) (n : ℕ) (list : List Insn) (at : ℕ) (e : WordFault) → IsRead text n list at
-    → (tokens_after text at ≡ [] → ⊥) → Stops text code at e (NumberExpected (length text)) → Refused text e
+    → (tokens_after text at ≡ [] → ⊥) → IsFaultAt text code at e (NumberExpected (length text)) → Refused text e
 stops-fields text n list at e r some s = inr (inl (stops-then r s (λ none. absurd (some none))))
 
 pub ruleset reading = (stops-first, stops-count, stops-fields, whole-spells, whole-miscounts)

@@ -6,7 +6,7 @@ use Rattle.std.specs.List.{AllByRecursion, take_while, prefix_len}
 use Rattle.std.proofs.lemmas.Bool.{cases_Bool, cases_lt, eq-eqb, eqb-true}
 use Rattle.std.proofs.Math.Seq.{take-append_seam, drop-append_seam}
 use Rattle.std.proofs.lemmas.List.{drop_all}
-use Rattle.cbpf_code.specs.WordTokens.{Token, run, single, is_digit, is_blank, begins_with_digit, tokens_in}
+use Rattle.cbpf_code.specs.WordTokens.{WordToken, run, single, is_digit, is_blank, begins_with_digit, tokens_in}
 use Rattle.cbpf_code.specs.WordTokens.{tokens_from, tokens_after}
 
 blank_no_digit : (b : ℕ) → is_blank b ≡ true → is_digit b ≡ false
@@ -82,7 +82,7 @@ step-run text i l d =
     let rest : tokens_in true (suc i) bs ≡ tokens_after text (i + suc n) =
     after_run (suc i) bs ∙ ap (tokens_from (suc i + n)) (drop-drop n (suc i) text) ∙ ap (tokens_after text) seam in
     rw (drop-cons text i 0 l, d, one)
-    (ap (λ (ms : List Token). run i (get_or text i 0 ∷ take_while is_digit bs) ∷ ms) rest)
+    (ap (λ (ms : List WordToken). run i (get_or text i 0 ∷ take_while is_digit bs) ∷ ms) rest)
 
 pub ruleset token_steps = (step-blank, step-single, step-end)
 

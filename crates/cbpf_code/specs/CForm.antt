@@ -2,7 +2,7 @@
 -- documentation, networking/filter).
 use Rattle.std.specs.Prelude.{ℕ, ◌==◌, ◌-◌, if◌then◌else◌, List, [], ◌∷◌, length, codes, decimal}
 use Rattle.std.specs.List.{flat_map}
-use Rattle.cbpf_code.specs.Text.{joined, spaces, hex}
+use Rattle.cbpf_code.specs.Text.{concat, spaces, hex}
 use Rattle.cbpf_code.specs.declared.insn.Insn.{Insn}
 
 -- in front of a number's hexadecimal digits: a number that is 0 has zeros alone
@@ -15,7 +15,7 @@ padding n = spaces (2 - length (decimal n))
 
 -- the code in at least two hexadecimal digits, jt and jf in decimal, k in eight hexadecimal digits
 abbrev pub c_line : Insn → List ℕ
-c_line i = joined (
+c_line i = concat (
     codes "{ " ∷ hex_prefix i.code ∷ hex 2 i.code ∷ codes ", " ∷ padding i.jt ∷ decimal i.jt ∷ codes ", "
     ∷ padding i.jf ∷ decimal i.jf
     ∷ codes ", " ∷ hex_prefix i.k ∷ hex 8 i.k ∷ codes " },\n" ∷ [])

@@ -19,21 +19,21 @@ IsTarget (Jump cond src) insn i t = (t ≡ i + 1 + insn.jt) ⊎ (t ≡ i + 1 + i
 IsTarget _ insn i t = ⊥
 
 -- t may follow the instruction at i: nothing follows a return, only its targets follow a jump, and else the next one
-abbrev pub Follows : Op → Insn → ℕ → ℕ → Type 0
-Follows RetK insn i t = ⊥
-Follows RetA insn i t = ⊥
-Follows Ja insn i t = IsTarget Ja insn i t
-Follows (Jump cond src) insn i t = IsTarget (Jump cond src) insn i t
-Follows _ insn i t = t ≡ i + 1
+abbrev pub CanFollow : Op → Insn → ℕ → ℕ → Type 0
+CanFollow RetK insn i t = ⊥
+CanFollow RetA insn i t = ⊥
+CanFollow Ja insn i t = IsTarget Ja insn i t
+CanFollow (Jump cond src) insn i t = IsTarget (Jump cond src) insn i t
+CanFollow _ insn i t = t ≡ i + 1
 
 -- the same where the code may be unknown
-abbrev pub FollowsCode : Option Op → Insn → ℕ → ℕ → Type 0
-FollowsCode (Some op) insn i t = Follows op insn i t
-FollowsCode None insn i t = t ≡ i + 1
+abbrev pub CanFollowCode : Option Op → Insn → ℕ → ℕ → Type 0
+CanFollowCode (Some op) insn i t = CanFollow op insn i t
+CanFollowCode None insn i t = t ≡ i + 1
 
 -- an edge of the jump graph from i to t
 abbrev pub IsSuccessor : List Insn → ℕ → ℕ → Type 0
-IsSuccessor list i t = (insn : Insn) × (slice_get list i ≡ Some insn) × FollowsCode (op_of insn.code) insn i t
+IsSuccessor list i t = (insn : Insn) × (slice_get list i ≡ Some insn) × CanFollowCode (op_of insn.code) insn i t
 
 abbrev pub loads_slot : Op → Bool
 loads_slot LdMem = true

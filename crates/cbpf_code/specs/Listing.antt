@@ -9,7 +9,7 @@ use Rattle.cbpf_code.specs.declared.opcode.Op.{Op}
 use Rattle.cbpf_code.specs.declared.extension.Ext.{Ext}
 use Rattle.cbpf_code.specs.Opcode.{op_of}
 use Rattle.cbpf_code.specs.Extension.{ext_at, ext_name}
-use Rattle.cbpf_code.specs.Text.{joined, with_number, hex}
+use Rattle.cbpf_code.specs.Text.{concat, with_number, hex}
 use Rattle.cbpf_code.specs.declared.listing.Operand.{Operand}
 use Rattle.cbpf_code.specs.declared.listing.Operand.TheVariants.{Bare, X, A, Length, Immediate, Absolute, Indexed}
 use Rattle.cbpf_code.specs.declared.listing.Operand.TheVariants.{Memory, Header, Label, ImmediateTwo, XTwo}
@@ -17,23 +17,23 @@ use Rattle.cbpf_code.specs.Syntax.{mnemonic_of, operand_of}
 
 -- the label of the instruction at an index, and its mnemonic
 abbrev pub head : ℕ → List ℕ → List ℕ
-head i word = joined (codes "l" ∷ decimal i ∷ codes ":\t" ∷ word ∷ [])
+head i word = concat (codes "l" ∷ decimal i ∷ codes ":\t" ∷ word ∷ [])
 
 -- k in hexadecimal without leading zeros, or `#0`; each operand has its space before it
-abbrev pub immediate : ℕ → List ℕ
-immediate k = if k == 0 then codes " #0" else codes " #0x" ++ hex 1 k
+abbrev pub immediate_operand : ℕ → List ℕ
+immediate_operand k = if k == 0 then codes " #0" else codes " #0x" ++ hex 1 k
 
 -- a place of the packet, or the name of the extension that has the place
 abbrev pub place_or_name : Option Ext → ℕ → List ℕ
 place_or_name None k = with_number (codes " [") k (codes "]")
-place_or_name (Some e) k = joined (codes " " ∷ ext_name e ∷ [])
+place_or_name (Some e) k = concat (codes " " ∷ ext_name e ∷ [])
 
-abbrev pub absolute : ℕ → List ℕ
-absolute k = place_or_name (ext_at k) k
+abbrev pub absolute_operand : ℕ → List ℕ
+absolute_operand k = place_or_name (ext_at k) k
 
 -- the targets of the conditional jump at an index: where it holds, and where it doesn't
 abbrev pub targets : ℕ → Insn → List ℕ
-targets i insn = joined (codes ", l" ∷ decimal (i + 1 + insn.jt) ∷ codes ", l" ∷ decimal (i + 1 + insn.jf) ∷ [])
+targets i insn = concat (codes ", l" ∷ decimal (i + 1 + insn.jt) ∷ codes ", l" ∷ decimal (i + 1 + insn.jf) ∷ [])
 
 -- what stands after the mnemonic of the instruction at an index
 abbrev pub operand_text : Operand → ℕ → Insn → List ℕ
@@ -41,13 +41,13 @@ operand_text Bare i insn = []
 operand_text X i insn = codes " x"
 operand_text A i insn = codes " a"
 operand_text Length i insn = codes " len"
-operand_text Immediate i insn = immediate insn.k
-operand_text Absolute i insn = absolute insn.k
+operand_text Immediate i insn = immediate_operand insn.k
+operand_text Absolute i insn = absolute_operand insn.k
 operand_text Indexed i insn = with_number (codes " [x + ") insn.k (codes "]")
 operand_text Memory i insn = with_number (codes " M[") insn.k (codes "]")
 operand_text Header i insn = with_number (codes " 4*([") insn.k (codes "]&0xf)")
 operand_text Label i insn = with_number (codes " l") (i + 1 + insn.k) []
-operand_text ImmediateTwo i insn = immediate insn.k ++ targets i insn
+operand_text ImmediateTwo i insn = immediate_operand insn.k ++ targets i insn
 operand_text XTwo i insn = codes " x" ++ targets i insn
 
 -- the instruction at an index, of this operation

@@ -1,24 +1,24 @@
 -- What the scanner finds: the next token of a text.
 use Rattle.std.specs.Prelude.{◌≡◌, ℕ, ◌<◌, ◌≤◌, ◌^◌, min, List, ◌∷◌, length, slice_range}
-use Rattle.cbpf_code.specs.WordTokens.{Token, run, single, number, tokens_after}
-use Rattle.cbpf_code.specs.declared.scan.Found.{Found}
-use Rattle.cbpf_code.specs.declared.scan.Lexeme.{Lexeme}
-use Rattle.cbpf_code.specs.declared.scan.Lexeme.TheVariants.{Digits, Byte}
+use Rattle.cbpf_code.specs.WordTokens.{WordToken, run, single, decimal_value, tokens_after}
+use Rattle.cbpf_code.specs.declared.scan.FoundToken.{FoundToken}
+use Rattle.cbpf_code.specs.declared.scan.TokenKind.{TokenKind}
+use Rattle.cbpf_code.specs.declared.scan.TokenKind.TheVariants.{Digits, Byte}
 
 -- the token that was found, in a text
-abbrev pub token_of : List ℕ → Found → Token
-token_of text f = elim f.lexeme [
+abbrev pub token_found : List ℕ → FoundToken → WordToken
+token_found text f = elim f.kind [
   | Digits v ↦ run f.place (slice_range text f.place f.end)
   | Byte b ↦ single f.place b
 ]
 
 -- a number is read up to a cap that no field reaches
-abbrev pub HasValue : List ℕ → Found → Lexeme → Type 0
-HasValue text f (Digits v) = v ≡ min (number (slice_range text f.place f.end)) (2 ^ 32)
+abbrev pub HasValue : List ℕ → FoundToken → TokenKind → Type 0
+HasValue text f (Digits v) = v ≡ min (decimal_value (slice_range text f.place f.end)) (2 ^ 32)
 HasValue text f (Byte b) = Unit {0}
 
-pub record IsNextToken (text : List ℕ) (at : ℕ) (f : Found) : Type 0 where
+pub record IsNextToken (text : List ℕ) (at : ℕ) (f : FoundToken) : Type 0 where
   pub within : f.end ≤ length text
   pub after : at < f.end
-  pub first : tokens_after text at ≡ token_of text f ∷ tokens_after text f.end
-  pub value : HasValue text f f.lexeme
+  pub first : tokens_after text at ≡ token_found text f ∷ tokens_after text f.end
+  pub value : HasValue text f f.kind

@@ -5,8 +5,8 @@ use Rattle.std.specs.List.{flat_map, repeat}
 use Rattle.std.specs.Fmt.{digits}
 
 -- pieces of text, one after another
-abbrev pub joined : List (List ℕ) → List ℕ
-joined parts = flat_map (λ p. p) parts
+abbrev pub concat : List (List ℕ) → List ℕ
+concat parts = flat_map (λ p. p) parts
 
 -- a byte at the front of the first of some parts
 abbrev pub put_front : ℕ → List (List ℕ) → List (List ℕ)
@@ -15,7 +15,7 @@ put_front b (part ∷ parts) = (b ∷ part) ∷ parts
 
 -- a decimal number between two texts
 abbrev pub with_number : List ℕ → ℕ → List ℕ → List ℕ
-with_number before n after = joined (before ∷ decimal n ∷ after ∷ [])
+with_number before n after = concat (before ∷ decimal n ∷ after ∷ [])
 
 abbrev pub spaces : ℕ → List ℕ
 spaces n = repeat n (codes " ")

@@ -10,15 +10,15 @@ abbrev pub fault_from : List ℕ → Due → ℕ → Option WordFault
 fault_from text due at = first_fault due (length text) (tokens_after text at)
 
 -- from a place on, where something is due, good tokens with these numbers come up to an end, where something else is
-pub record Passes (text : List ℕ) (due : Due) (at : ℕ) (ns : List ℕ) (next : Due) (end : ℕ) : Type 0 where
+pub record PassesTokens (text : List ℕ) (due : Due) (at : ℕ) (ns : List ℕ) (next : Due) (end : ℕ) : Type 0 where
   pub within : end ≤ length text
   pub after : at < end
   pub good : fault_from text due at ≡ fault_from text next end
   pub spelled : numbers (tokens_after text at) ≡ ns ++ numbers (tokens_after text end)
 
 -- what is wrong from a place on, or no token is left and this is wrong with the end
-abbrev pub Stops : List ℕ → Due → ℕ → WordFault → WordFault → Type 0
-Stops text due at e at_end = (fault_from text due at ≡ Some e) ⊎ ((tokens_after text at ≡ []) × (e ≡ at_end))
+abbrev pub IsFaultAt : List ℕ → Due → ℕ → WordFault → WordFault → Type 0
+IsFaultAt text due at e at_end = (fault_from text due at ≡ Some e) ⊎ ((tokens_after text at ≡ []) × (e ≡ at_end))
 
 -- the numbers of the instructions
 abbrev pub fields_of : List Insn → List ℕ
@@ -27,7 +27,7 @@ fields_of (i ∷ is) = i.code ∷ i.jt ∷ i.jf ∷ i.k ∷ fields_of is
 
 -- the text was read up to `at`: its count, and a list with a comma after each instruction
 abbrev pub IsRead : List ℕ → ℕ → List Insn → ℕ → Type 0
-IsRead text n list at = Passes text count 0 (n ∷ fields_of list) code at
+IsRead text n list at = PassesTokens text count 0 (n ∷ fields_of list) code at
 
 -- the whole text was read
 pub record IsReadWhole (text : List ℕ) (n : ℕ) (list : List Insn) : Type 0 where

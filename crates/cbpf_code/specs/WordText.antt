@@ -1,7 +1,7 @@
 -- Word text: a count, a comma, and for each instruction its four numbers and a comma, of which the last may be missing.
 use Rattle.std.specs.Prelude.{◌≡◌, ◌≢◌, ℕ, ◌^◌, ◌⊎◌, ◌==◌, nat_lt, if◌then◌else◌, List, [], ◌∷◌, length, drop}
 use Rattle.std.specs.Prelude.{slice_index, Option, Some, None}
-use Rattle.cbpf_code.specs.WordTokens.{Token, run, single, tokens, number}
+use Rattle.cbpf_code.specs.WordTokens.{WordToken, run, single, tokens, decimal_value}
 use Rattle.cbpf_code.specs.declared.insn.Insn.{Insn}
 use Rattle.cbpf_code.specs.declared.words.WordFault.{WordFault}
 use Rattle.cbpf_code.specs.declared.words.WordFault.TheVariants.{Memory, NumberExpected, OutOfRange, UnexpectedByte}
@@ -36,10 +36,10 @@ range_of k = Some (2 ^ 32)
 range_of _ = None
 
 -- what is wrong with a token where a comma is due, or a number below a range
-abbrev pub token_fault : Option ℕ → Token → Option WordFault
+abbrev pub token_fault : Option ℕ → WordToken → Option WordFault
 token_fault None (run p ds) = Some (CommaExpected p)
 token_fault None (single p b) = if b == 44 then None else Some (UnexpectedByte p)
-token_fault (Some range) (run p ds) = if nat_lt (number ds) range then None else Some (OutOfRange p)
+token_fault (Some range) (run p ds) = if nat_lt (decimal_value ds) range then None else Some (OutOfRange p)
 token_fault (Some range) (single p b) = if b == 44 then Some (NumberExpected p) else Some (UnexpectedByte p)
 
 -- what is wrong with the end of the text, at place n: it may stand after an instruction and after a comma
@@ -54,16 +54,16 @@ or_else (Some e) o = Some e
 or_else None o = o
 
 -- the first thing wrong with the tokens up to the end at place n
-abbrev pub first_fault : Due → ℕ → List Token → Option WordFault
+abbrev pub first_fault : Due → ℕ → List WordToken → Option WordFault
 first_fault due n [] = end_fault due n
 first_fault due n (m ∷ ms) = or_else (token_fault (range_of due) m) (first_fault (next_due due) n ms)
 
 abbrev pub fault_of : List ℕ → Option WordFault
 fault_of text = first_fault count (length text) (tokens text)
 
-abbrev pub numbers : List Token → List ℕ
+abbrev pub numbers : List WordToken → List ℕ
 numbers [] = []
-numbers (run p ds ∷ ms) = number ds ∷ numbers ms
+numbers (run p ds ∷ ms) = decimal_value ds ∷ numbers ms
 numbers (single p b ∷ ms) = numbers ms
 
 -- numbers in fours

@@ -5,9 +5,9 @@ use Rattle.std.specs.Prelude.{[], ◌∷◌, drop, fold}
 use Rattle.std.specs.List.{take_while}
 
 -- a run of digits or a single byte, with the place of its first byte
-pub data Token : Type 0 where
-  run : (place : ℕ) (digits : List ℕ) → Token
-  single : (place : ℕ) (byte : ℕ) → Token
+pub data WordToken : Type 0 where
+  run : (place : ℕ) (digits : List ℕ) → WordToken
+  single : (place : ℕ) (byte : ℕ) → WordToken
 
 abbrev pub is_digit : ℕ → Bool
 is_digit b = nat_lt 47 b && nat_lt b 58
@@ -21,23 +21,23 @@ begins_with_digit [] = false
 begins_with_digit (b ∷ bs) = is_digit b
 
 -- the tokens that begin in a text whose first byte has the place `at`: within a run of digits a digit begins none
-unfoldable pub tokens_in : (in_run : Bool) → ℕ → List ℕ → List Token
+unfoldable pub tokens_in : (in_run : Bool) → ℕ → List ℕ → List WordToken
 tokens_in in_run at [] = []
 tokens_in in_run at (b ∷ bs) =
     if is_digit b then (if in_run then tokens_in true (suc at) bs
     else (run at (b ∷ take_while is_digit bs) ∷ tokens_in true (suc at) bs))
     else (if is_blank b then tokens_in false (suc at) bs else (single at b ∷ tokens_in false (suc at) bs))
 
-abbrev pub tokens_from : ℕ → List ℕ → List Token
+abbrev pub tokens_from : ℕ → List ℕ → List WordToken
 tokens_from at text = tokens_in false at text
 
-abbrev pub tokens : List ℕ → List Token
+abbrev pub tokens : List ℕ → List WordToken
 tokens text = tokens_from 0 text
 
 -- the tokens of a text from a place on
-abbrev pub tokens_after : List ℕ → ℕ → List Token
+abbrev pub tokens_after : List ℕ → ℕ → List WordToken
 tokens_after text at = tokens_from at (drop at text)
 
 -- the number that digits spell
-abbrev pub number : List ℕ → ℕ
-number ds = fold (λ n b. 10 * n + (b - 48)) 0 ds
+abbrev pub decimal_value : List ℕ → ℕ
+decimal_value ds = fold (λ n b. 10 * n + (b - 48)) 0 ds

@@ -36,7 +36,7 @@ fn put_between(line: &mut Line, before: &[u8], n: u64, after: &[u8])
 #[inline(always)]
 fn put_immediate(line: &mut Line, k: u32)
     requires room { length line.old + 13 ≤ 256 }
-    ensures text { line.new ≡ spec.immediate k ++ line.old }
+    ensures text { line.new ≡ spec.immediate_operand k ++ line.old }
     ensures grown { length line.new ≤ length line.old + 13 }
 {
     if k == 0 {
@@ -52,7 +52,7 @@ fn put_immediate(line: &mut Line, k: u32)
 #[tactic(auto, using(crate::proofs::NameLemmas::names))]
 fn put_absolute(line: &mut Line, k: u32)
     requires room { length line.old + 36 ≤ 256 }
-    ensures text { line.new ≡ spec.absolute k ++ line.old }
+    ensures text { line.new ≡ spec.absolute_operand k ++ line.old }
     ensures grown { length line.new ≤ length line.old + 36 }
 {
     match ext_at(k) {

@@ -2,7 +2,7 @@
 ghost use Rattle.std.specs.Prelude.{◌≡◌, ◌≢◌, ◌+◌, ◌<◌, ◌≤◌, ◌^◌, ℕ, min, take, length, slice_index, true, false};
 ghost use Rattle.std.specs.Prelude.{List, [], ◌∷◌, ◌++◌, MatchOption};
 ghost use Rattle.std.specs.List.{AllByRecursion, prefix_len};
-ghost use Rattle.cbpf_code.specs.WordTokens.{single, run, is_digit, is_blank, begins_with_digit, number, tokens_from};
+ghost use Rattle.cbpf_code.specs.WordTokens.{single, run, is_digit, is_blank, begins_with_digit, decimal_value, tokens_from};
 ghost use Rattle.cbpf_code.specs.WordTokens.{tokens_after};
 ghost use Rattle.cbpf_code.specs.NextToken.{IsNextToken};
 
@@ -29,7 +29,7 @@ pub fn is_blank(b: u8) -> bool
 #[tactic(auto, using(std::proofs::lemmas::List::Sums::prefix_len_is))]
 fn leading_digits(text: &[u8]) -> (usize, u64)
     ensures length { result.0 ≡ prefix_len is_digit text.now }
-    ensures value { result.1 ≡ min (number (take result.0 text.now)) (2 ^ 32) }
+    ensures value { result.1 ≡ min (decimal_value (take result.0 text.now)) (2 ^ 32) }
 {
     let mut value = 0;
     for (i, b) in text.iter().enumerate() {
@@ -43,7 +43,7 @@ fn leading_digits(text: &[u8]) -> (usize, u64)
 
 /// What a token is.
 #[derive(Clone, Copy)]
-pub enum Lexeme {
+pub enum TokenKind {
     /// A run of digits, and the number that they spell, at most `CAP`.
     Digits(u64),
     /// A byte that is neither digit nor blank.
@@ -52,10 +52,10 @@ pub enum Lexeme {
 
 /// A token with the place of its first byte and the place after its last.
 #[derive(Clone, Copy)]
-pub struct Found {
+pub struct FoundToken {
     pub place: usize,
     pub end: usize,
-    pub lexeme: Lexeme,
+    pub kind: TokenKind,
 }
 
 /// The place of the first byte from `at` on that is no blank, or the text's length.
@@ -75,7 +75,7 @@ pub(crate) fn skip_blanks(text: &[u8], at: usize) -> usize
 
 /// The first token from `at` on.
 #[tactic(auto, using(crate::proofs::WordTokenLemmas::token_steps))]
-pub(crate) fn next_token(text: &[u8], at: usize) -> Option<Found>
+pub(crate) fn next_token(text: &[u8], at: usize) -> Option<FoundToken>
     requires { at ≤ length text.now }
     ensures { MatchOption result (tokens_after text.now at ≡ []) (λ f. IsNextToken text.now at f) }
 {
@@ -86,16 +86,16 @@ pub(crate) fn next_token(text: &[u8], at: usize) -> Option<Found>
     let byte = text[place];
     if is_digit(byte) {
         let (len, value) = leading_digits(&text[place..]);
-        return Some(Found {
+        return Some(FoundToken {
             place,
             end: place + len,
-            lexeme: Lexeme::Digits(value),
+            kind: TokenKind::Digits(value),
         });
     }
-    Some(Found {
+    Some(FoundToken {
         place,
         end: place + 1,
-        lexeme: Lexeme::Byte(byte),
+        kind: TokenKind::Byte(byte),
     })
 }
 

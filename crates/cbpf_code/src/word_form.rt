@@ -3,7 +3,7 @@ ghost use Rattle.std.specs.Prelude.{◌≡◌, ◌≤◌, ◌<◌, ◌+◌, ◌+
 ghost use Rattle.std.specs.List.{flat_map};
 ghost use Rattle.cbpf_code.specs.Writing.{Wrote};
 ghost use Rattle.cbpf_code.specs.WordText.{Spells};
-ghost use Rattle.cbpf_code.specs.WordForm.{InRange, word_line, words};
+ghost use Rattle.cbpf_code.specs.WordForm.{InRange, word_line, word_text};
 
 use crate::insn::Insn;
 use crate::writing::{WriteFault, write_bytes, write_parts};
@@ -89,7 +89,7 @@ fn fields_are_in_range(_insn: Insn)
 /// Looks at each instruction once, since only what is read is known to be in its range. It changes
 /// nothing, so a compiler can drop it.
 fn all_are_in_range(list: &[Insn])
-    ensures { length list.now ≤ 4294967295 → Spells (words list.now) list.now }
+    ensures { length list.now ≤ 4294967295 → Spells (word_text list.now) list.now }
 {
     for insn in list {
         fields_are_in_range(*insn);
@@ -102,8 +102,8 @@ fn all_are_in_range(list: &[Insn])
 /// from its text.
 #[tactic(auto, using(crate::proofs::WrittenLemmas::three))]
 pub fn write_words<W: Write>(w: &mut W, list: &[Insn]) -> Result<(), WriteFault>
-    ensures written { Wrote (W.contents w.old) (W.contents w.new) result (words list.now) }
-    ensures read_back { length list.now ≤ 4294967295 → Spells (words list.now) list.now }
+    ensures written { Wrote (W.contents w.old) (W.contents w.new) result (word_text list.now) }
+    ensures read_back { length list.now ≤ 4294967295 → Spells (word_text list.now) list.now }
 {
     all_are_in_range(list);
     write_count(w, list.len())?;

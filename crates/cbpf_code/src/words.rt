@@ -3,13 +3,13 @@ ghost use Rattle.std.specs.Prelude.{◌≡◌, ◌<◌, ◌≤◌, ◌^◌, ◌�
 ghost use Rattle.std.specs.Prelude.{List, ◌≢◌, ◌⊎◌, Some};
 ghost use Rattle.cbpf_code.specs.WordTokens.{tokens_after};
 ghost use Rattle.cbpf_code.specs.WordText.{Due, code, comma, next_due, range_of, Spells, Refused};
-ghost use Rattle.cbpf_code.specs.WordSteps.{Passes, Stops, IsReadWhole};
+ghost use Rattle.cbpf_code.specs.WordSteps.{PassesTokens, IsFaultAt, IsReadWhole};
 ghost use Rattle.cbpf_code.specs.declared.insn.Insn.{Insn};
 ghost use Rattle.cbpf_code.specs.declared.words.WordFault.{WordFault};
 ghost use Rattle.cbpf_code.specs.declared.words.WordFault.TheVariants.{Memory, NumberExpected, CommaExpected};
 
 use crate::insn::Insn;
-use crate::scan::{Lexeme, next_token, skip_blanks};
+use crate::scan::{TokenKind, next_token, skip_blanks};
 use std::alloc::Allocator;
 
 /// Why word text is refused. A place is a byte's, counted from 0.
@@ -45,16 +45,16 @@ fn number_at(text: &[u8], at: usize, range: u64) -> Result<(u64, usize), WordFau
     requires range { range ≤ 2 ^ 32 }
     ensures below { IfOk result (λ r. (r.0 < range) × (r.1 ≤ length text.now)) }
     ensures step { (due : Due) → range_of due ≡ Some range →
-        MatchResult result (λ r. Passes text.now due at (r.0 ∷ []) (next_due due) r.1)
-        (λ e. Stops text.now due at e (NumberExpected (length text.now))) }
+        MatchResult result (λ r. PassesTokens text.now due at (r.0 ∷ []) (next_due due) r.1)
+        (λ e. IsFaultAt text.now due at e (NumberExpected (length text.now))) }
 {
     match next_token(text, at) {
         None => Err(WordFault::NumberExpected(text.len())),
-        Some(found) => match found.lexeme {
-            Lexeme::Digits(n) if n < range => Ok((n, found.end)),
-            Lexeme::Digits(_) => Err(WordFault::OutOfRange(found.place)),
-            Lexeme::Byte(b',') => Err(WordFault::NumberExpected(found.place)),
-            Lexeme::Byte(_) => Err(WordFault::UnexpectedByte(found.place)),
+        Some(found) => match found.kind {
+            TokenKind::Digits(n) if n < range => Ok((n, found.end)),
+            TokenKind::Digits(_) => Err(WordFault::OutOfRange(found.place)),
+            TokenKind::Byte(b',') => Err(WordFault::NumberExpected(found.place)),
+            TokenKind::Byte(_) => Err(WordFault::UnexpectedByte(found.place)),
         },
     }
 }
@@ -63,15 +63,15 @@ fn number_at(text: &[u8], at: usize, range: u64) -> Result<(u64, usize), WordFau
 fn comma_at(text: &[u8], at: usize) -> Result<usize, WordFault>
     requires { at ≤ length text.now }
     ensures { (due : Due) → range_of due ≡ None →
-        MatchResult result (λ end. Passes text.now due at [] (next_due due) end)
-        (λ e. Stops text.now due at e (CommaExpected (length text.now))) }
+        MatchResult result (λ end. PassesTokens text.now due at [] (next_due due) end)
+        (λ e. IsFaultAt text.now due at e (CommaExpected (length text.now))) }
 {
     match next_token(text, at) {
         None => Err(WordFault::CommaExpected(text.len())),
-        Some(found) => match found.lexeme {
-            Lexeme::Digits(_) => Err(WordFault::CommaExpected(found.place)),
-            Lexeme::Byte(b',') => Ok(found.end),
-            Lexeme::Byte(_) => Err(WordFault::UnexpectedByte(found.place)),
+        Some(found) => match found.kind {
+            TokenKind::Digits(_) => Err(WordFault::CommaExpected(found.place)),
+            TokenKind::Byte(b',') => Ok(found.end),
+            TokenKind::Byte(_) => Err(WordFault::UnexpectedByte(found.place)),
         },
     }
 }
@@ -80,8 +80,8 @@ fn comma_at(text: &[u8], at: usize) -> Result<usize, WordFault>
 fn insn_at(text: &[u8], at: usize) -> Result<(Insn, usize), WordFault>
     requires { at ≤ length text.now }
     ensures { MatchResult result
-        (λ r. Passes text.now code at (r.0.code ∷ r.0.jt ∷ r.0.jf ∷ r.0.k ∷ []) comma r.1)
-        (λ e. Stops text.now code at e (NumberExpected (length text.now))) }
+        (λ r. PassesTokens text.now code at (r.0.code ∷ r.0.jt ∷ r.0.jf ∷ r.0.k ∷ []) comma r.1)
+        (λ e. IsFaultAt text.now code at e (NumberExpected (length text.now))) }
 {
     let (code, at) = number_at(text, at, 65536)?;
     let (jt, at) = number_at(text, at, 256)?;

@@ -7,7 +7,7 @@ use Rattle.cbpf_machine.specs.Registers.{Registers, zero_state}
 use Rattle.cbpf_machine.specs.declared.outcome.Turn.TheVariants.{Next}
 use Rattle.cbpf_machine.specs.Step.{turn}
 use Rattle.cbpf_machine.specs.Trace.{trace, outcome, next_of, outcome_of}
-use Rattle.cbpf_machine.specs.Follow.{Goes}
+use Rattle.cbpf_machine.specs.Follow.{IsOnTrace}
 use Rattle.cbpf_machine.proofs.TraceLemmas.{first_entry, goes_from_entry, goes_next, goes_at, goes_last, outcome_at_last}
 use Rattle.cbpf_machine.proofs.SoundLemmas.{sound_some}
 use Rattle.pcap_classic.specs.Records.{Record}
@@ -57,7 +57,8 @@ module _ (machine : Machine) (capture : List Record) (w : Cursor) (r : Record) (
       let same : e.0 ≡ r = cc in
       subst (λ (q : Record). slice_get (trace machine q.bytes q.wire) (w.place.step - 1) ≡ Some w.state) same e.2
 
-  pub goes : 0 < w.place.step → Goes machine r.bytes r.wire (trace machine r.bytes r.wire) (w.place.step - 1) w.state
+  pub goes : 0 < w.place.step → IsOnTrace machine r.bytes r.wire (trace machine r.bytes r.wire)
+      (w.place.step - 1) w.state
   goes inside = goes_from_entry machine r.bytes r.wire (w.place.step - 1) zero_state w.state h.sound
       (sound_some machine.list h.sound) (entry_at_place inside)
 

@@ -9,7 +9,7 @@ use Rattle.cbpf_reply.specs.declared.reply.Place.{Place}
 use Rattle.cbpf_machine.specs.Machine.{Machine}
 use Rattle.cbpf_dbg.specs.declared.cursor.Cursor.{Cursor}
 use Rattle.cbpf_dbg.specs.Joined.{ahead}
-use Rattle.cbpf_dbg.specs.Cursor.{AreLeft, AllLeft, IsEnd, Stands, end_of}
+use Rattle.cbpf_dbg.specs.Cursor.{AreLeft, AllLeft, IsEnd, Stands, end_of_run}
 use Rattle.cbpf_dbg.proofs.JoinedLemmas.{ahead-end}
 
 cut : {X : Type 0} (xs : List X) (i e : ℕ) (x : X) (rest : List X) → drop i (take e xs) ≡ x ∷ rest
@@ -117,7 +117,7 @@ none_of (x ∷ left) e = cc
 
 -- where a run ends is not before its place
 pub is_end : (capture : List Record) (place : Place) (limit : Option ℕ) (end : ℕ)
-    → end ≡ end_of limit place.packet (length capture) → (limit ≡ Some 0 → ⊥) → place.packet ≤ length capture + 1
+    → end ≡ end_of_run limit place.packet (length capture) → (limit ≡ Some 0 → ⊥) → place.packet ≤ length capture + 1
     → (0 < place.step → place.packet ≤ length capture) → IsEnd capture place end
 is_end capture place None end is some within begun = rw is (record {
   within = omega arith;

@@ -13,10 +13,11 @@ use Rattle.cbpf_reply.specs.declared.reply.Why.TheVariants as why
 use Rattle.cbpf_reply.specs.declared.reply.RunReply.TheVariants.{Stopped, Limit, Finished}
 use Rattle.cbpf_reply.specs.Places.{is_after}
 use Rattle.cbpf_dbg.specs.declared.cursor.Cursor.{Cursor}
-use Rattle.cbpf_dbg.specs.Joined.{ahead, rest, counts, stop_at, stops}
+use Rattle.cbpf_dbg.specs.Joined.{ahead, rest, counts, stop_at, every_stop}
 use Rattle.cbpf_dbg.specs.View.{View, start}
 use Rattle.cbpf_dbg.specs.Commands.{run_to, run_out, within_limit, finished, limited}
-use Rattle.cbpf_dbg.specs.Cursor.{Stands, view_at, entry_here, Gives, run_from, step_from, ComesTo, NotBefore, end_of, owed}
+use Rattle.cbpf_dbg.specs.Cursor.{Stands, view_at, entry_here, Gives, run_from, step_from, ComesTo, NotBefore}
+use Rattle.cbpf_dbg.specs.Cursor.{end_of_run, owed}
 use Rattle.cbpf_dbg.proofs.JoinedLemmas.{rest-none, ahead-end}
 use Rattle.cbpf_dbg.specs.Breakpoints.{Breakpoints}
 
@@ -26,7 +27,7 @@ pub not_before_forward : (new old : Place) → NotBefore new old → old.packet 
 not_before_forward new old h = elim h [ inl more ↦ omega arith | inr same ↦ (let e = same.0 in omega arith) ]
 
 -- before the end the limit is not reached
-within_end : (limit : Option ℕ) (first packet count : ℕ) → packet < end_of limit first count → first ≤ packet
+within_end : (limit : Option ℕ) (first packet count : ℕ) → packet < end_of_run limit first count → first ≤ packet
     → within_limit limit (packet - first) ≡ true
 within_end None first packet count before forward = refl
 within_end (Some n) first packet count before forward = grind (arith, nat_tests)
@@ -34,7 +35,7 @@ within_end (Some n) first packet count before forward = grind (arith, nat_tests)
 -- ---- the three ends
 
 run_out_end : (m : View) (machine : Machine) (capture : List Record) (limit : Option ℕ)
-    → length capture < end_of limit m.place.packet (length capture)
+    → length capture < end_of_run limit m.place.packet (length capture)
     → run_out m machine capture limit ≡ finished m machine capture
 run_out_end m machine capture None past = refl
 run_out_end m machine capture (Some n) past =
@@ -42,7 +43,7 @@ run_out_end m machine capture (Some n) past =
     rw no refl
 
 run_to_limit : (m : View) (machine : Machine) (capture : List Record) (limit : Option ℕ) (end : ℕ) (hs : List Stop)
-    → end ≡ end_of limit m.place.packet (length capture) → end ≤ length capture
+    → end ≡ end_of_run limit m.place.packet (length capture) → end ≤ length capture
     → ((h : Stop) (more : List Stop) → hs ≡ h ∷ more → end ≤ h.place.packet)
     → run_to m machine capture limit hs ≡ limited m machine capture end
 run_to_limit m machine capture None end hs is here later = absurd (omega (arith, is, here))
@@ -61,7 +62,7 @@ pub rest-head : (machine : Machine) (capture : List Record) (breakpoints : Break
     (more : List Stop) → rest machine capture breakpoints place ≡ h ∷ more → is_after place h.place ≡ true
 rest-head machine capture breakpoints place h more e =
     let at : Stop → Bool = λ k. is_after place k.place in
-    let passed = filter_passes at (stops machine capture breakpoints) in
+    let passed = filter_passes at (every_stop machine capture breakpoints) in
     All-head (λ (k : Stop). at k ≡ true) h more (rw e at passed)
 
 rest-later : (machine : Machine) (capture : List Record) (breakpoints : Breakpoints) (place : Place) (h : Stop)
@@ -70,7 +71,7 @@ rest-later machine capture breakpoints place h more e =
     let after = rest-head machine capture breakpoints place h more e in grind (arith, nat_tests)
 
 module _ (machine : Machine) (c : Savefile) (breakpoints : Breakpoints) (limit : Option ℕ) (w0 : Cursor) (end : ℕ)
-    (is : end ≡ end_of limit w0.place.packet (length c.records)) where
+    (is : end ≡ end_of_run limit w0.place.packet (length c.records)) where
   abbrev pub hits : Place → List Stop
   hits place = rest machine c.records breakpoints place
 

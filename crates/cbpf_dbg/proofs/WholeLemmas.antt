@@ -15,7 +15,7 @@ use Rattle.cbpf_reply.specs.declared.reply.SessionFault.{SessionFault}
 use Rattle.cbpf_reply.specs.declared.reply.Counts.{Counts}
 use Rattle.cbpf_reply.specs.declared.reply.Why.TheVariants as why
 use Rattle.cbpf_reply.specs.Places.{is_after}
-use Rattle.cbpf_dbg.specs.Joined.{stops as every_hit, Entry, joined, joined_from, ahead, rest, is_hit, stop_at}
+use Rattle.cbpf_dbg.specs.Joined.{every_stop, Entry, joined, joined_from, ahead, rest, is_hit, stop_at}
 use Rattle.cbpf_dbg.specs.Joined.{turns_between, turns_to_end, counts}
 use Rattle.cbpf_dbg.specs.Cursor.{NotBefore}
 use Rattle.cbpf_dbg.specs.View.{View, start}
@@ -106,7 +106,7 @@ ahead-start machine [] = refl
 ahead-start machine (r ∷ more) = ahead-in machine (r ∷ more) 1 0 r (omega arith) refl
 
 rest-start : (machine : Machine) (capture : List Record) (breakpoints : Breakpoints)
-    → rest machine capture breakpoints start ≡ every_hit machine capture breakpoints
+    → rest machine capture breakpoints start ≡ every_stop machine capture breakpoints
 rest-start machine capture breakpoints = rest-ahead machine capture breakpoints start
     ∙ ap (λ es. map (stop_at why.Break) (filter (is_hit breakpoints) es)) (ahead-start machine capture)
 

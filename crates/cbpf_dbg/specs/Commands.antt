@@ -25,7 +25,7 @@ use Rattle.cbpf_reply.specs.declared.reply.RunReply.{RunReply}
 use Rattle.cbpf_reply.specs.declared.reply.RunReply.TheVariants.{Stopped, Limit, Finished}
 use Rattle.cbpf_reply.specs.declared.reply.SessionFault.{SessionFault}
 use Rattle.cbpf_reply.specs.declared.reply.SessionFault.TheVariants as fault
-use Rattle.cbpf_dbg.specs.Joined.{Entry, ahead, stops as every_hit, rest, stop_at, counts, turns_between, turns_to_end}
+use Rattle.cbpf_dbg.specs.Joined.{Entry, ahead, every_stop, rest, stop_at, counts, turns_between, turns_to_end}
 use Rattle.indexmap.specs.IndexMap.{insert_entry, shift_remove_entry}
 use Rattle.cbpf_dbg.specs.View.{View, start}
 
@@ -126,13 +126,13 @@ abbrev pub back_to : View → Machine → List Record → ℕ → Answer RunRepl
 back_to m machine capture b = back_at m (if nat_lt b m.place.step
     then entry_in machine (slice_get capture (m.place.packet - 1)) (back_place m.place b) else None)
 
-abbrev pub step_by : View → Machine → List Record → ℤ → Answer RunReply
-step_by m machine capture (pos zero) = Err fault.ZeroCount
-step_by m machine capture (pos (suc n)) = Ok (step_to m machine capture (slice_get (ahead machine capture m.place) n))
-step_by m machine capture (negsuc n) = back_to m machine capture (n + 1)
+abbrev pub step_in : View → Machine → List Record → ℤ → Answer RunReply
+step_in m machine capture (pos zero) = Err fault.ZeroCount
+step_in m machine capture (pos (suc n)) = Ok (step_to m machine capture (slice_get (ahead machine capture m.place) n))
+step_in m machine capture (negsuc n) = back_to m machine capture (n + 1)
 
 unfoldable pub step : View → ℤ → Answer RunReply
-step m n = loaded m (λ machine capture. with_packets capture (step_by m machine capture n))
+step m n = loaded m (λ machine capture. with_packets capture (step_in m machine capture n))
 
 -- ---- select, mark, resume
 
@@ -208,7 +208,7 @@ run_to_end m = loaded m (λ machine capture.
 
 -- all hits, from the start
 unfoldable pub all_stops : View → Result (List Stop) SessionFault
-all_stops m = loaded m (λ machine capture. Ok (every_hit machine capture m.breakpoints))
+all_stops m = loaded m (λ machine capture. Ok (every_stop machine capture m.breakpoints))
 
 -- the place of the last of some stops; with none, a place before them
 abbrev pub last_place : Place → List Stop → Place

@@ -64,12 +64,12 @@ abbrev pub stop_at : Why → Entry → Stop
 stop_at reason e = record { place = e.place; state = e.state; why = why_of reason e.turn }
 
 -- the hits
-abbrev pub stops : Machine → List Record → Breakpoints → List Stop
-stops machine capture breakpoints = map (stop_at why.Break) (filter (is_hit breakpoints) (joined machine capture))
+abbrev pub every_stop : Machine → List Record → Breakpoints → List Stop
+every_stop machine capture breakpoints = map (stop_at why.Break) (filter (is_hit breakpoints) (joined machine capture))
 
 -- the hits after a place
 abbrev pub rest : Machine → List Record → Breakpoints → Place → List Stop
-rest machine capture breakpoints place = filter (λ h. is_after place h.place) (stops machine capture breakpoints)
+rest machine capture breakpoints place = filter (λ h. is_after place h.place) (every_stop machine capture breakpoints)
 
 abbrev pub is_pass : Outcome → Bool
 is_pass (outcome_is.Pass v) = true

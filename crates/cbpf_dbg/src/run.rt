@@ -22,7 +22,7 @@ use std::alloc::Allocator;
 #[inline(always)]
 fn end_of(limit: Option<u64>, first: u64, count: u64) -> u64
     requires { count < 2 ^ 60 }
-    ensures { result ≡ spec.end_of limit first count }
+    ensures { result ≡ spec.end_of_run limit first count }
 {
     match limit {
         Some(n) => first.saturating_add(n).min(count + 1),

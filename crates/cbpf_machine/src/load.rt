@@ -1,5 +1,5 @@
 ghost use Rattle.std.specs.Prelude.{◌≡◌};
-ghost use Rattle.cbpf_machine.specs.Number.{number};
+ghost use Rattle.cbpf_machine.specs.Number.{packet_number};
 ghost use Rattle.cbpf_machine.specs.Step.{width};
 
 use byteorder::{BigEndian, ByteOrder};
@@ -17,7 +17,7 @@ pub struct Packet<'a> {
 /// The number at a place of the captured bytes, in network byte order; `None` where it isn't inside.
 #[inline(always)]
 pub(crate) fn number_at(bytes: &[u8], at: u32, size: Size) -> Option<u32>
-    ensures { result ≡ number bytes.now at (width size) }
+    ensures { result ≡ packet_number bytes.now at (width size) }
 {
     let at = at as usize;
     match size {

@@ -3,7 +3,7 @@ use Rattle.std.proofs.Common.{◌≡◌, ℕ, ◌+◌, ◌-◌, ◌<◌, ◌≤�
 use Rattle.std.proofs.Common.{drop, get_or, refl, ◌∙◌, arith, tests, drop-cons, add-one, length-drop}
 use Rattle.std.proofs.lemmas.List.{nil_from_length}
 use Rattle.std.proofs.lemmas.Grind.{flat_map-append}
-use Rattle.cbpf_code.specs.Text.{joined, spaces}
+use Rattle.cbpf_code.specs.Text.{concat, spaces}
 use Rattle.cbpf_reply.specs.Columns.{labelled}
 use Rattle.cbpf_reply.specs.Scratch.{Run, before, runs_from}
 
@@ -61,6 +61,6 @@ pub ruleset runs = (run-first, run-more, run-stop, run-last)
 
 -- the texts of a line with a label
 pub labelled-parts : (label pieces : List (List ℕ))
-    → labelled label pieces ≡ joined label ++ (spaces (10 - length (joined label)) ++ joined pieces)
+    → labelled label pieces ≡ concat label ++ (spaces (10 - length (concat label)) ++ concat pieces)
 labelled-parts label pieces =
-    flat_map-append (λ (p : List ℕ). p) label (spaces (10 - length (joined label)) ∷ pieces)
+    flat_map-append (λ (p : List ℕ). p) label (spaces (10 - length (concat label)) ∷ pieces)

@@ -1,7 +1,7 @@
 -- The replies that show breakpoints (this project's own).
 use Rattle.std.specs.Prelude.{ℕ, List, [], ◌∷◌, ◌++◌, codes, decimal, Option, Some, None}
 use Rattle.std.specs.List.{flat_map}
-use Rattle.cbpf_code.specs.Text.{joined, with_number}
+use Rattle.cbpf_code.specs.Text.{concat, with_number}
 use Rattle.cbpf_code.specs.declared.insn.Insn.{Insn}
 use Rattle.cbpf_code.specs.Listing.{line_text}
 pub use Rattle.cbpf_machine.specs.declared.pause.When.{When}
@@ -29,9 +29,9 @@ set_in (Some list) n when = set_text list n when
 
 -- a breakpoint in the list of them
 abbrev pub listed_text : ℕ × When → List ℕ
-listed_text (n, Always) = joined (codes " " ∷ decimal n ∷ [])
-listed_text (n, A v) = joined (codes " " ∷ decimal n ∷ codes "(a=" ∷ decimal v ∷ codes ")" ∷ [])
-listed_text (n, X v) = joined (codes " " ∷ decimal n ∷ codes "(x=" ∷ decimal v ∷ codes ")" ∷ [])
+listed_text (n, Always) = concat (codes " " ∷ decimal n ∷ [])
+listed_text (n, A v) = concat (codes " " ∷ decimal n ∷ codes "(a=" ∷ decimal v ∷ codes ")" ∷ [])
+listed_text (n, X v) = concat (codes " " ∷ decimal n ∷ codes "(x=" ∷ decimal v ∷ codes ")" ∷ [])
 
 abbrev pub list_end : List ℕ
 list_end = codes "\n"

@@ -1,7 +1,7 @@
 -- Places, and counts of packets (the kernel's Documentation/networking/filter shows the counts of `run` for
 -- `bpf_dbg`; the rest is this project's own).
 use Rattle.std.specs.Prelude.{ℕ, ◌==◌, if◌then◌else◌, List, [], ◌∷◌, ◌++◌, codes, decimal}
-use Rattle.cbpf_code.specs.Text.{joined, with_number}
+use Rattle.cbpf_code.specs.Text.{concat, with_number}
 use Rattle.cbpf_reply.specs.Numbers.{with_numbers}
 use Rattle.cbpf_reply.specs.declared.reply.Counts.{Counts}
 use Rattle.cbpf_reply.specs.declared.reply.Place.{Place}
@@ -19,11 +19,11 @@ at_text p = place_after (codes "at ") p
 
 -- how many packets asked for an extension without a value, where one did
 abbrev pub unknown_text : ℕ → List ℕ
-unknown_text n = if n == 0 then [] else joined (codes " unknown:" ∷ decimal n ∷ [])
+unknown_text n = if n == 0 then [] else concat (codes " unknown:" ∷ decimal n ∷ [])
 
 -- two numbers, each after a text
 abbrev pub two : List ℕ → ℕ → List ℕ → ℕ → List ℕ
-two before m between n = joined (before ∷ decimal m ∷ between ∷ decimal n ∷ [])
+two before m between n = concat (before ∷ decimal m ∷ between ∷ decimal n ∷ [])
 
 unfoldable pub known_text : ℕ → ℕ → List ℕ
 known_text passes fails = two (codes "bpf passes:") passes (codes " fails:") fails

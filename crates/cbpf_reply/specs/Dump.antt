@@ -6,7 +6,7 @@ use Rattle.std.specs.List.{range_with_len}
 use Rattle.cbpf_code.specs.declared.checker.TheConstants.{SLOTS}
 use Rattle.cbpf_code.specs.declared.insn.Insn.{Insn}
 use Rattle.cbpf_code.specs.Extension.{ext_name}
-use Rattle.cbpf_code.specs.Text.{joined}
+use Rattle.cbpf_code.specs.Text.{concat}
 use Rattle.cbpf_code.specs.Listing.{line_text}
 use Rattle.cbpf_reply.specs.Columns.{labelled, value_line}
 use Rattle.cbpf_reply.specs.Scratch.{scratch_lines}
@@ -31,7 +31,7 @@ pub record Shown : Type 0 where
 
 abbrev pub heading : ℕ → ℕ → List ℕ
 heading packet step =
-    joined (codes "-- packet " ∷ decimal packet ∷ codes ", step " ∷ decimal step ∷ codes " --\n" ∷ [])
+    concat (codes "-- packet " ∷ decimal packet ∷ codes ", step " ∷ decimal step ∷ codes " --\n" ∷ [])
 
 abbrev pub pc_line : ℕ → List ℕ
 pc_line pc = labelled (codes "pc:" ∷ []) (codes "[" ∷ decimal pc ∷ codes "]\n" ∷ [])
@@ -65,7 +65,7 @@ why_text why_is.Step = codes "step"
 why_text (why_is.Unknown e) = codes "extension " ++ ext_name e
 
 abbrev pub why_line : Why → List ℕ
-why_line why = joined (codes "(" ∷ why_text why ∷ codes ")\n" ∷ [])
+why_line why = concat (codes "(" ∷ why_text why ∷ codes ")\n" ∷ [])
 
 abbrev pub dump_text : List Insn → Shown → List ℕ
 dump_text list s =

@@ -2,7 +2,7 @@
 use Rattle.std.specs.Prelude.{ℕ, zero, suc, ◌-◌, ◌*◌, List, [], ◌∷◌, ◌++◌, length, take, drop, decimal, codes}
 use Rattle.std.specs.List.{flat_map}
 use Rattle.std.specs.Int.{div_ceil}
-use Rattle.cbpf_code.specs.Text.{joined, spaces, hex}
+use Rattle.cbpf_code.specs.Text.{concat, spaces, hex}
 use Rattle.cbpf_reply.specs.declared.packet.TheConstants.{ROW}
 
 -- the texts of a, a + 1 and so on, n in all
@@ -12,24 +12,24 @@ texts_from f a (suc n) = f a ++ texts_from f (suc a) n
 
 -- two hexadecimal digits after a space
 abbrev pub byte_text : ℕ → List ℕ
-byte_text b = joined (codes " " ∷ hex 2 b ∷ [])
+byte_text b = concat (codes " " ∷ hex 2 b ∷ [])
 
 -- the offset, right in five places, and the bytes
 abbrev pub row_line : ℕ → List ℕ → List ℕ
 row_line at row =
-    joined (spaces (5 - length (decimal at)) ∷ decimal at ∷ codes ":" ∷ flat_map byte_text row ∷ codes "\n" ∷ [])
+    concat (spaces (5 - length (decimal at)) ∷ decimal at ∷ codes ":" ∷ flat_map byte_text row ∷ codes "\n" ∷ [])
 
 -- row r, of ROW bytes or of those that are left
-abbrev pub row : List ℕ → ℕ → List ℕ
-row bytes r = row_line (ROW * r) (take ROW (drop (ROW * r) bytes))
+abbrev pub packet_row : List ℕ → ℕ → List ℕ
+packet_row bytes r = row_line (ROW * r) (take ROW (drop (ROW * r) bytes))
 
 abbrev pub packet_rows : List ℕ → List ℕ
-packet_rows bytes = texts_from (row bytes) 0 (div_ceil (length bytes) ROW)
+packet_rows bytes = texts_from (packet_row bytes) 0 (div_ceil (length bytes) ROW)
 
 -- captured and original length
 abbrev pub length_line : ℕ → ℕ → List ℕ
 length_line captured wire =
-    joined (codes "len: " ∷ decimal captured ∷ codes " wire: " ∷ decimal wire ∷ codes "\n" ∷ [])
+    concat (codes "len: " ∷ decimal captured ∷ codes " wire: " ∷ decimal wire ∷ codes "\n" ∷ [])
 
 unfoldable pub packet_head : ℕ → ℕ → List ℕ
 packet_head captured wire = codes "-- packet dump --\n" ++ length_line captured wire

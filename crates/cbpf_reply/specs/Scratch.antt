@@ -23,13 +23,13 @@ runs_from i [] = []
 runs_from i (v ∷ vs) = before i v (runs_from (suc i) vs)
 
 -- one slot, or the first and the last
-abbrev pub label : Run → List (List ℕ)
-label r =
+abbrev pub slots_label : Run → List (List ℕ)
+slots_label r =
     if r.first == r.last then (codes "M[" ∷ decimal r.first ∷ codes "]:" ∷ [])
     else (codes "M[" ∷ decimal r.first ∷ codes "," ∷ decimal r.last ∷ codes "]:" ∷ [])
 
 abbrev pub scratch_line : Run → List ℕ
-scratch_line r = value_line (label r) r.value
+scratch_line r = value_line (slots_label r) r.value
 
 abbrev pub scratch_lines : List ℕ → List ℕ
 scratch_lines slots = flat_map scratch_line (runs_from 0 slots)

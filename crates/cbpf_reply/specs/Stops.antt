@@ -1,13 +1,13 @@
 -- The list of stops (this project's own).
 use Rattle.std.specs.Prelude.{ℕ, List, [], ◌∷◌, ◌++◌, length, codes, decimal}
 use Rattle.std.specs.List.{flat_map}
-use Rattle.cbpf_code.specs.Text.{joined, with_number}
+use Rattle.cbpf_code.specs.Text.{concat, with_number}
 use Rattle.cbpf_reply.specs.Dump.{why_line}
 use Rattle.cbpf_reply.specs.declared.reply.Stop.{Stop}
 
 abbrev pub registers_text : Stop → List ℕ
 registers_text s =
-    joined (decimal s.place.packet ∷ codes " " ∷ decimal s.place.step ∷ codes " l" ∷ decimal s.state.pc ∷ codes " A "
+    concat (decimal s.place.packet ∷ codes " " ∷ decimal s.place.step ∷ codes " l" ∷ decimal s.state.pc ∷ codes " A "
     ∷ decimal s.state.a ∷ codes " X " ∷ decimal s.state.x ∷ codes " " ∷ [])
 
 unfoldable pub stop_line : Stop → List ℕ

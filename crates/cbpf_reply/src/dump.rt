@@ -3,7 +3,7 @@
 ghost use Rattle.std.specs.Prelude.{◌≡◌, ◌<◌, ◌≤◌, ◌+◌, ◌++◌, Some, codes, length, ◌-◌};
 ghost use Rattle.cbpf_code.specs.Writing.{Wrote};
 ghost use Rattle.cbpf_reply.specs.Scratch.{scratch_lines};
-ghost use Rattle.cbpf_code.specs.Text.{joined, spaces};
+ghost use Rattle.cbpf_code.specs.Text.{concat, spaces};
 ghost use Rattle.cbpf_reply.specs.Columns.{value_pieces};
 ghost use Rattle.cbpf_reply.specs.Dump as spec;
 
@@ -190,7 +190,7 @@ pub fn write_stop<W: Write, A: Allocator>(
 #[inline(always)]
 pub(crate) fn put_value(line: &mut Line, value: u32)
     requires room { length line.old + 23 ≤ 256 }
-    ensures text { line.new ≡ joined (value_pieces value) ++ line.old }
+    ensures text { line.new ≡ concat (value_pieces value) ++ line.old }
     ensures grown { length line.new ≤ length line.old + 23 }
 {
     line.put(b"]\n");

@@ -68,7 +68,7 @@ fn put_rows(line: &mut Line, bytes: &[u8], from: usize, to: usize)
     requires few { to ≤ from + 3 }
     requires within { to ≤ div_ceil (length bytes.now) ROW }
     requires room { length line.old + 225 ≤ 256 }
-    ensures text { line.new ≡ spec.texts_from (spec.row bytes.now) from (to - from) ++ line.old }
+    ensures text { line.new ≡ spec.texts_from (spec.packet_row bytes.now) from (to - from) ++ line.old }
 {
     let mut r = to;
     while r > from {
@@ -85,7 +85,7 @@ fn write_rows<W: Write>(w: &mut W, bytes: &[u8], from: usize, to: usize) -> Resu
     requires few { to ≤ from + 3 }
     requires within { to ≤ div_ceil (length bytes.now) ROW }
     ensures { Wrote (W.contents w.old) (W.contents w.new) result
-        (spec.texts_from (spec.row bytes.now) from (to - from)) }
+        (spec.texts_from (spec.packet_row bytes.now) from (to - from)) }
 {
     let mut line = Line::new();
     put_rows(&mut line, bytes, from, to);
@@ -104,7 +104,7 @@ fn write_last_rows<W: Write>(
     requires few { to ≤ from + 3 }
     requires within { to ≤ div_ceil (length bytes.now) ROW }
     ensures { Wrote (W.contents w.old) (W.contents w.new) result
-        (spec.texts_from (spec.row bytes.now) from (to - from) ++ why_line why) }
+        (spec.texts_from (spec.packet_row bytes.now) from (to - from) ++ why_line why) }
 {
     let mut line = Line::new();
     put_why(&mut line, why);

@@ -1,6 +1,6 @@
 // The lines of scratch memory.
 ghost use Rattle.std.specs.Prelude.{ℕ, ◌≡◌, ◌≤◌, ◌<◌, ◌∷◌, ◌+◌, ◌++◌, length, drop, slice_index};
-ghost use Rattle.cbpf_code.specs.Text.{joined};
+ghost use Rattle.cbpf_code.specs.Text.{concat};
 ghost use Rattle.cbpf_code.specs.Writing.{Wrote};
 ghost use Rattle.cbpf_reply.specs.Scratch as spec;
 
@@ -31,7 +31,7 @@ fn put_label(line: &mut Line, first: usize, last: usize)
     requires within { first ≤ last }
     requires room { length line.old + 45 ≤ 256 }
     ensures text { (value : ℕ) → line.new
-        ≡ joined (spec.label (record { first = first; last = last; value = value })) ++ line.old }
+        ≡ concat (spec.slots_label (record { first = first; last = last; value = value })) ++ line.old }
     ensures grown { length line.new ≤ length line.old + 45 }
 {
     line.put(b"]:");

@@ -3,7 +3,7 @@ use Rattle.std.proofs.Common.{rules, ◌≡◌, ℕ, suc, ◌<◌, true, List, [
 use Rattle.std.proofs.Common.{length-append}
 use Rattle.std.proofs.lemmas.List.{take-append-le}
 use Rattle.cbpf_syntax.specs.Lexemes.{Lexeme}
-use Rattle.cbpf_syntax.specs.Items.{Item, Form}
+use Rattle.cbpf_syntax.specs.Items.{Item, IsItem}
 use Rattle.cbpf_syntax.specs.Steps.{Goes, Stuck, IsNextItem, starts_with_label, AreLabels}
 use Rattle.cbpf_syntax.specs.Views.{label_words}
 use Rattle.cbpf_syntax.proofs.Greedy.{front_as, goes_as}
@@ -26,7 +26,7 @@ pub next_more : (n : ℕ) (ts us : List Lexeme) (item : Item) → n < length ts 
     → IsNextItem (ts ++ us) n item
 next_more n ts us item l next = record {
   goes = goes_more n ts us l next.goes;
-  form = subst (λ x. Form x item) (front_as n ts (ts ++ us) (front_more n ts us l)) next.form;
+  form = subst (λ x. IsItem x item) (front_as n ts (ts ++ us) (front_more n ts us l)) next.form;
 }
 
 pub label_more : (ts us : List Lexeme) → starts_with_label ts ≡ true → starts_with_label (ts ++ us) ≡ true

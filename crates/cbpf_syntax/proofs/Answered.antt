@@ -8,7 +8,7 @@ use Rattle.cbpf_syntax.specs.Lexemes.{Symbol, Lexeme}
 use Rattle.cbpf_syntax.specs.Lexemes.Symbol.{number, mark}
 use Rattle.cbpf_syntax.specs.Table.{classes, table}
 use Rattle.cbpf_syntax.specs.Fits.{fits, fits_all, fits_front}
-use Rattle.cbpf_syntax.specs.Items.{Item, Items, Form}
+use Rattle.cbpf_syntax.specs.Items.{Item, Items, IsItem}
 use Rattle.cbpf_syntax.specs.Steps.{Goes, Stuck, IsNextItem, starts_with_colon}
 use Rattle.cbpf_syntax.specs.Refusals.{symbol_at, most_negative, IsLarge, IsLargeNegative, IsStuckAt}
 use Rattle.cbpf_syntax.specs.Refusals.ParseFault.{Misplaced, LargeNegative, Unfinished}
@@ -70,7 +70,7 @@ base_step t ts s = by_whole (cases_Bool (some_whole (take front.0 (t ∷ ts))))
         inl (front.0, _, record { goes = goes; form = form_of 0 r.0 (take front.0 (t ∷ ts)) r.1 r.2 })
     by_whole (inr other) = inr (front.0, record { goes = goes; none = λ i form. none front.0 i form other })
       where
-        none : (n : ℕ) (i : Item) → Form (take n (t ∷ ts)) i → some_whole (take n (t ∷ ts)) ≡ false → ⊥
+        none : (n : ℕ) (i : Item) → IsItem (take n (t ∷ ts)) i → some_whole (take n (t ∷ ts)) ≡ false → ⊥
         none zero i form other = no_classes form.count i.row form.row form.fits
         none (suc n) i form other = let fit = bare_whole form.count i.row t (take n ts) s form.fits in
             both_ways _ other (any_element (λ r. fits_all (classes r) (t ∷ take n ts)) table i.row form.row fit)

@@ -13,7 +13,7 @@ use Rattle.cbpf_syntax.specs.Lexemes.Symbol.{word, number, mark}
 use Rattle.cbpf_syntax.specs.Classes.Class.{the_word, the_mark, literal, negated, exactly, extension, name}
 use Rattle.cbpf_syntax.proofs.Elements.{list_all_at, all_pairs, same_or_pair}
 use Rattle.cbpf_syntax.proofs.Fronts.{whole_front}
-use Rattle.cbpf_syntax.specs.Items.{Item, Form, Items, BeginsItem, classes_of}
+use Rattle.cbpf_syntax.specs.Items.{Item, IsItem, Items, BeginsItem, classes_of}
 
 abbrev pub is_numeric : Class → Bool
 is_numeric literal = true
@@ -182,7 +182,7 @@ comma_form : (n : ℕ) (r : Row) (ts : List Lexeme) → Contains table r → fit
     → starts_with_comma ts ≡ true → ⊥
 comma_form n r ts h1 h2 h3 = search (rules, comma_row, row_starts, comma_name, and_parts)
 
-comma_front : (ts us : List Lexeme) (i : Item) → Form ts i → starts_with_comma (ts ++ us) ≡ true → ⊥
+comma_front : (ts us : List Lexeme) (i : Item) → IsItem ts i → starts_with_comma (ts ++ us) ≡ true → ⊥
 comma_front [] us i form h = no_classes form.count i.row form.row form.fits
 comma_front (t ∷ ts) us i form h = comma_form form.count i.row (t ∷ ts) form.row (whole_front _ (t ∷ ts) form.fits) h
 
@@ -205,11 +205,11 @@ same_front (c ∷ cs) (t ∷ ts) x (u ∷ us) y f g e =
     (cc, both.1)
 same_front cs ts x us y f g e = cc
 
-same_item : (f g : List Lexeme) (i j : Item) → f ≡ g → (p : Form f i) (q : Form g j) → p.count ≡ q.count
+same_item : (f g : List Lexeme) (i j : Item) → f ≡ g → (p : IsItem f i) (q : IsItem g j) → p.count ≡ q.count
     → i.row ≡ j.row → i ≡ j
 same_item f g i j h1 p q h2 h3 = search (rules)
 
-nothing : (ts f r : List Lexeme) (i : Item) → ts ≡ [] → ts ≡ f ++ r → Form f i → ⊥
+nothing : (ts f r : List Lexeme) (i : Item) → ts ≡ [] → ts ≡ f ++ r → IsItem f i → ⊥
 nothing ts [] r i e h form = no_classes form.count i.row form.row form.fits
 nothing ts (t ∷ f) r i e h form = let k : [] ≡ t ∷ (f ++ r) = sym e ∙ h in cc
 

@@ -4,7 +4,7 @@ use Rattle.std.proofs.Common.{rules, ◌≡◌, ◌≢◌, ℕ, zero, suc, Bool,
 use Rattle.std.proofs.Common.{◌++◌, length, map, take, refl, arith, ap, ◌⊎◌, inl, inr, get_or, Bor, append-nil}
 use Rattle.std.specs.Prelude.{Contains, flat_map}
 use Rattle.std.proofs.lemmas.List.{length-map, map-append, take_all, take-map, map_more, take_more}
-use Rattle.cbpf_syntax.specs.declared.table.Entry as declared_entry
+use Rattle.cbpf_syntax.specs.declared.table.TableEntry as declared_entry
 use Rattle.cbpf_syntax.specs.declared.class.Class as declared_class
 use Rattle.std.proofs.lemmas.List.Elements.{Contains-append_right, Contains-append_cases}
 use Rattle.cbpf_syntax.specs.declared.choice.Match.{Match}
@@ -78,32 +78,33 @@ pub no_better_form : (form : List declared_class.Class) (tokens : List declared_
     → IsBest (rs ++ row ∷ []) (map lexeme_of tokens) best
 no_better_form form tokens best h1 h2 rs row h3 h4 = grind (arith, common_steps, common_mapped, length-map, no_better)
 
-abbrev form_row : List ℕ → declared_entry.Entry → Bor (List declared_class.Class) → Row
+abbrev form_row : List ℕ → declared_entry.TableEntry → Bor (List declared_class.Class) → Row
 form_row w e f = record { mnemonic = w; operand = map class_of f.now; op = e.op; fields = e.fields }
 
 map_twice : {X Y Z : Type 0} (g : Y → Z) (f : X → Y) (xs : List X) → map g (map f xs) ≡ map (λ x. g (f x)) xs
 map_twice g f [] = refl
 map_twice g f (x ∷ xs) = ap (λ ys. g (f x) ∷ ys) (map_twice g f xs)
 
-rows_are : (w : List ℕ) (e : declared_entry.Entry) (forms : List (Bor (List declared_class.Class)))
+rows_are : (w : List ℕ) (e : declared_entry.TableEntry) (forms : List (Bor (List declared_class.Class)))
     → map (λ f. map class_of f.now) forms ≡ mode_forms e.mode → entry_rows w (entry_of e) ≡ map (form_row w e) forms
 rows_are w e forms h1 = search (rules, map_twice)
 
 -- the rows of an addressing mode as far as one more form
-pub next_form : (w : List ℕ) (e : declared_entry.Entry) (forms : List (Bor (List declared_class.Class))) (i : ℕ)
+pub next_form : (w : List ℕ) (e : declared_entry.TableEntry) (forms : List (Bor (List declared_class.Class))) (i : ℕ)
     (d : Bor (List declared_class.Class)) → map (λ f. map class_of f.now) forms ≡ mode_forms e.mode → i < length forms
     → take (i + 1) (entry_rows w (entry_of e))
     ≡ take i (entry_rows w (entry_of e)) ++ (form_row w e (get_or forms i d) ∷ [])
 next_form w e forms i d h l = rw (rows_are w e forms h, take-map, take-map) (map_more (form_row w e) forms i d l)
 
 -- the rows of a mnemonic as far as one more addressing mode
-pub next_entry : (w : List ℕ) (es : List declared_entry.Entry) (i : ℕ) (d : declared_entry.Entry) → i < length es
+pub next_entry : (w : List ℕ) (es : List declared_entry.TableEntry) (i : ℕ) (d : declared_entry.TableEntry)
+    → i < length es
     → flat_map (entry_rows w) (map entry_of (take (i + 1) es))
     ≡ flat_map (entry_rows w) (map entry_of (take i es)) ++ entry_rows w (entry_of (get_or es i d))
 next_entry w es i d h1 = grind (arith, common_steps, take_more, map-append, get_or, flat_map-append, append-nil)
 
 -- the rows of an addressing mode after its last form
-pub all_forms : (w : List ℕ) (e : declared_entry.Entry) (forms : List (Bor (List declared_class.Class))) (i : ℕ)
+pub all_forms : (w : List ℕ) (e : declared_entry.TableEntry) (forms : List (Bor (List declared_class.Class))) (i : ℕ)
     → map (λ f. map class_of f.now) forms ≡ mode_forms e.mode → length forms ≤ i
     → take i (entry_rows w (entry_of e)) ≡ entry_rows w (entry_of e)
 all_forms w e forms i h l = grind (arith, common_steps, take_all, rows_are, length-map)

@@ -6,7 +6,7 @@ use Rattle.std.proofs.lemmas.Bool.{both_ways, cases_Bool}
 use Rattle.std.proofs.lemmas.List.{take-append-drop}
 use Rattle.std.proofs.lemmas.List.Elements.{Contains-append_left}
 use Rattle.cbpf_syntax.specs.declared.choice.Match.{Match}
-use Rattle.cbpf_syntax.specs.declared.table.Entry as declared_entry
+use Rattle.cbpf_syntax.specs.declared.table.TableEntry as declared_entry
 use Rattle.cbpf_syntax.specs.declared.lexeme.Lexeme as declared_lexeme
 use Rattle.cbpf_syntax.specs.Classes.{Class}
 use Rattle.cbpf_syntax.specs.Classes.Class.{the_mark}
@@ -76,7 +76,7 @@ take_known k xs x c =
     subst (λ ys. Contains ys x) (take-append-drop k xs) (Contains-append_left (take k xs) (drop k xs) x c)
 
 -- the rows of the first addressing modes are the mnemonic's
-front_known : (w : List ℕ) (es : List declared_entry.Entry) (k : ℕ) (r : Row)
+front_known : (w : List ℕ) (es : List declared_entry.TableEntry) (k : ℕ) (r : Row)
     → Contains (flat_map (entry_rows w) (map entry_of (take k es))) r
     → Contains (flat_map (entry_rows w) (map entry_of es)) r
 front_known w es k r c =
@@ -85,7 +85,8 @@ front_known w es k r c =
     into_flat_map (entry_rows w) (map entry_of es) q.0 r
     (subst (λ x. Contains (map entry_of es) x) e.2 (into_map entry_of es e.0 (take_known k es e.0 e.1))) q.2
 
-pub final_best : (m : Mnemonic) (es : List declared_entry.Entry) (k : ℕ) (r : Row) (ts : List Lexeme) (best : Match)
+pub final_best : (m : Mnemonic) (es : List declared_entry.TableEntry) (k : ℕ) (r : Row) (ts : List Lexeme)
+    (best : Match)
     → map entry_of es ≡ m.entries → Contains mnemonics m → Contains (rows_of m) r
     → IsBest (r ∷ flat_map (entry_rows m.word) (map entry_of (take k es))) ts best
     → length (row_of best.row).operand ≡ best.len → is_comma_at ts best.len ≡ false → IsBest (rows_of m) ts best

@@ -9,7 +9,7 @@ use Rattle.cbpf_syntax.specs.Classes.{Class}
 use Rattle.cbpf_syntax.specs.Lexemes.{Lexeme}
 use Rattle.cbpf_syntax.specs.Fits.{fits, fits_all, fits_front}
 use Rattle.cbpf_syntax.specs.Table.{Row, table}
-use Rattle.cbpf_syntax.specs.Items.{Item, Form, Items, BeginsItem, BeginsItems, classes_of}
+use Rattle.cbpf_syntax.specs.Items.{Item, IsItem, Items, BeginsItem, BeginsItems, classes_of}
 use Rattle.cbpf_syntax.specs.Steps.{Goes, Stuck, IsNextItem}
 use Rattle.cbpf_syntax.specs.Refusals.{IsStuckAt}
 use Rattle.cbpf_syntax.proofs.Fronts.{whole_front, length_whole, length_front, front_before, front_joined, front_cut}
@@ -28,7 +28,7 @@ begins_front n ts b = record {
   fits = front_before (classes_of b.count b.row) (take n ts) (drop n ts) (rw (take-append-drop n ts) b.fits);
 }
 
-begins_whole : (ts : List Lexeme) (i : Item) → Form ts i → BeginsItem ts
+begins_whole : (ts : List Lexeme) (i : Item) → IsItem ts i → BeginsItem ts
 begins_whole ts i form = grind (arith, whole_front)
 
 -- no longer front than the longest begins an item
@@ -57,7 +57,7 @@ front_split (c ∷ cs) (d ∷ ds) (t ∷ ts) x (u ∷ us) y a f g e l =
     ]
 front_split cs ds ts x us y a f g e l = cc
 
-whole_first : (n : ℕ) (ts g y : List Lexeme) (j : Item) → Goes n ts → ts ≡ g ++ y → Form g j
+whole_first : (n : ℕ) (ts g y : List Lexeme) (j : Item) → Goes n ts → ts ≡ g ++ y → IsItem g j
     → (g ≡ take n ts) ⊎ (starts_with_comma y ≡ true)
 whole_first n ts g y j goes e form =
     let ours = goes.begins in
@@ -79,7 +79,7 @@ whole_first n ts g y j goes e form =
 
 -- A reading that is more than a beginning has the longest front as its first item.
 first_item : (n : ℕ) (ts f r : List Lexeme) (items : List Item) → Goes n ts → ts ≡ f ++ r → Items f items
-    → BeginsItem r → (ts ≡ r → ⊥) → (j : Item) × (g : List Lexeme) × (ks : List Item) × Form (take n ts) j
+    → BeginsItem r → (ts ≡ r → ⊥) → (j : Item) × (g : List Lexeme) × (ks : List Item) × IsItem (take n ts) j
     × (drop n ts ≡ g ++ r) × Items g ks
 first_item n ts f r [] goes e p b more = absurd (more (e ∙ ap (λ x. x ++ r) p))
 first_item n ts f r (j ∷ js) goes e p b more =
@@ -89,7 +89,7 @@ first_item n ts f r (j ∷ js) goes e p b more =
         j,
         p.1,
         js,
-        subst (λ x. Form x j) same p.3,
+        subst (λ x. IsItem x j) same p.3,
         append_cancel_left (take n ts) (drop n ts) (p.1 ++ r)
             (take-append-drop n ts ∙ (split ∙ ap (λ x. x ++ (p.1 ++ r)) same)),
         p.4,
@@ -100,7 +100,7 @@ first_item n ts f r (j ∷ js) goes e p b more =
 pub begins_items : (ts : List Lexeme) → BeginsItem ts → BeginsItems ts
 begins_items ts b = ([], ts, [], refl, refl, b)
 
-items_after : (f ts : List Lexeme) (i : Item) → Form f i → BeginsItems ts → BeginsItems (f ++ ts)
+items_after : (f ts : List Lexeme) (i : Item) → IsItem f i → BeginsItems ts → BeginsItems (f ++ ts)
 items_after f ts i form b = (
   f ++ b.0,
   b.1,
@@ -120,17 +120,17 @@ goes_as n ts us e l m g = grind (arith, front_as)
 
 -- the first item of a longer front
 first_of : (n m : ℕ) (ts : List Lexeme) → Goes n ts → n < m → m ≤ length ts → (b : BeginsItems (take m ts))
-    → (j : Item) × (g : List Lexeme) × (ks : List Item) × Form (take n ts) j
+    → (j : Item) × (g : List Lexeme) × (ks : List Item) × IsItem (take n ts) j
     × (drop n (take m ts) ≡ g ++ b.1) × Items g ks
 first_of n m ts goes l w b =
     let e : take (suc n) ts ≡ take (suc n) (take m ts) = sym (take-take (suc n) m ts (omega arith)) in
     let long : n < length (take m ts) = omega (arith, length-take-le m ts w) in
     let r = first_item n (take m ts) b.0 b.1 b.2 (goes_as n ts (take m ts) e (omega arith) long goes) b.3 b.4 b.5
     (λ h. no_longer n m ts goes l w (subst BeginsItem (sym h) b.5)) in
-    (r.0, r.1, r.2, subst (λ x. Form x r.0) (sym (front_as n ts (take m ts) e)) r.3, r.4, r.5)
+    (r.0, r.1, r.2, subst (λ x. IsItem x r.0) (sym (front_as n ts (take m ts) e)) r.3, r.4, r.5)
 
 first_of_all : (n : ℕ) (ts : List Lexeme) (js : List Item) → Goes n ts → 0 < length ts → Items ts js
-    → (j : Item) × (g : List Lexeme) × (ks : List Item) × Form (take n ts) j × (drop n ts ≡ g ++ []) × Items g ks
+    → (j : Item) × (g : List Lexeme) × (ks : List Item) × IsItem (take n ts) j × (drop n ts ≡ g ++ []) × Items g ks
 first_of_all n ts js goes some p =
     first_item n ts ts [] js goes (sym (append-nil ts)) p begins_nil (λ h. omega (arith, some, ap length h))
 

@@ -17,7 +17,7 @@ use Rattle.cbpf_syntax.specs.Classes.{Class}
 use Rattle.cbpf_syntax.specs.Classes.Class.{the_word, the_mark, name}
 use Rattle.cbpf_syntax.specs.Table.{Row, classes, table, Mnemonic, mnemonics, rows_of}
 use Rattle.cbpf_syntax.specs.Fits.{fits, fits_all, fits_front, is_reserved, is_one_of, mnemonic_words}
-use Rattle.cbpf_syntax.specs.Items.{Item, Form, BeginsItem, label_classes, classes_of, names_at}
+use Rattle.cbpf_syntax.specs.Items.{Item, IsItem, BeginsItem, label_classes, classes_of, names_at}
 use Rattle.cbpf_syntax.specs.Choice.{IsBest}
 use Rattle.cbpf_syntax.specs.Steps.{Goes, Stuck, IsNextItem, starts_with_colon, starts_with_label}
 use Rattle.cbpf_syntax.specs.Views.{row_of, symbol_of, lexeme_of}
@@ -55,7 +55,7 @@ abbrev pub item_of : ℕ → Row → List Lexeme → Item
 item_of m r ts = record { labels = names_at (label_classes m) ts; row = r; body = drop (m + m) ts }
 
 pub form_of : (m : ℕ) (r : Row) (ts : List Lexeme) → Contains table r → fits_all (classes_of m r) ts ≡ true
-    → Form ts (item_of m r ts)
+    → IsItem ts (item_of m r ts)
 form_of m r ts k f = record { count = m; row = k; fits = f; labels = refl; body = refl }
 
 -- a label with its colon

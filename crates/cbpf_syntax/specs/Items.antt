@@ -38,7 +38,7 @@ names_at (c ∷ cs) [] = []
 names_at (c ∷ cs) (t ∷ ts) = when_name c t ++ names_at cs ts
 
 -- the tokens are an item: they fit its labels and a row of the table
-pub record Form (tokens : List Lexeme) (item : Item) : Type 0 where
+pub record IsItem (tokens : List Lexeme) (item : Item) : Type 0 where
   pub count : ℕ
   pub row : Contains table item.row
   pub fits : fits_all (classes_of count item.row) tokens ≡ true
@@ -49,7 +49,7 @@ pub record Form (tokens : List Lexeme) (item : Item) : Type 0 where
 abbrev pub Items : List Lexeme → List Item → Type 0
 Items tokens [] = tokens ≡ []
 Items tokens (item ∷ items) = (front : List Lexeme) × (rest : List Lexeme) × (tokens ≡ front ++ rest)
-    × Form front item × Items rest items
+    × IsItem front item × Items rest items
 
 -- the tokens begin an item: they are the front of what fits labels and a row
 pub record BeginsItem (tokens : List Lexeme) : Type 0 where

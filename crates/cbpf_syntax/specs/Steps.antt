@@ -6,7 +6,7 @@ use Rattle.cbpf_syntax.specs.declared.item.Row as declared_row
 use Rattle.cbpf_syntax.specs.Lexemes.{Lexeme}
 use Rattle.cbpf_syntax.specs.Classes.Class.{the_mark, name}
 use Rattle.cbpf_syntax.specs.Fits.{fits}
-use Rattle.cbpf_syntax.specs.Items.{Item, Form, BeginsItem}
+use Rattle.cbpf_syntax.specs.Items.{Item, IsItem, BeginsItem}
 use Rattle.cbpf_syntax.specs.Views.{row_of}
 
 -- the first n tokens begin an item, and with the next one they don't
@@ -18,12 +18,12 @@ pub record Goes (n : ℕ) (ts : List Lexeme) : Type 0 where
 -- the tokens go so far, and these are no item
 pub record Stuck (n : ℕ) (ts : List Lexeme) : Type 0 where
   pub goes : Goes n ts
-  pub none : (i : Item) → Form (take n ts) i → ⊥
+  pub none : (i : Item) → IsItem (take n ts) i → ⊥
 
 -- the tokens go so far, and these are the item
 pub record IsNextItem (ts : List Lexeme) (n : ℕ) (item : Item) : Type 0 where
   pub goes : Goes n ts
-  pub form : Form (take n ts) item
+  pub form : IsItem (take n ts) item
 
 abbrev pub starts_with_colon : List Lexeme → Bool
 starts_with_colon [] = false

@@ -30,14 +30,14 @@ abbrev pub classes : Row → List Class
 classes row = the_word row.mnemonic ∷ row.operand
 
 -- an addressing mode of a mnemonic, with the forms of its operand
-pub record Entry : Type 0 where
+pub record TableEntry : Type 0 where
   pub forms : List (List Class)
   pub op : Op
   pub fields : Fields
 
 pub record Mnemonic : Type 0 where
   pub word : List ℕ
-  pub entries : List Entry
+  pub entries : List TableEntry
 
 -- the words that are no mnemonics
 abbrev pub x_word : List ℕ
@@ -67,101 +67,104 @@ abbrev pub byte : ℕ → List (List Class)
 byte b = one (the_mark b)
 
 -- a number with an optional `+` or `-`
-abbrev pub n : List (List Class)
-n = (literal ∷ []) ∷ (the_mark 43 ∷ literal ∷ []) ∷ (the_mark 45 ∷ negated ∷ []) ∷ []
+abbrev pub signed : List (List Class)
+signed = (literal ∷ []) ∷ (the_mark 43 ∷ literal ∷ []) ∷ (the_mark 45 ∷ negated ∷ []) ∷ []
 
 -- `x` and `a`, each with an optional `%`
-abbrev pub x : List (List Class)
-x = (the_word x_word ∷ []) ∷ (the_mark 37 ∷ the_word x_word ∷ []) ∷ []
+abbrev pub x_operand : List (List Class)
+x_operand = (the_word x_word ∷ []) ∷ (the_mark 37 ∷ the_word x_word ∷ []) ∷ []
 
-abbrev pub a : List (List Class)
-a = (the_word a_word ∷ []) ∷ (the_mark 37 ∷ the_word a_word ∷ []) ∷ []
+abbrev pub a_operand : List (List Class)
+a_operand = (the_word a_word ∷ []) ∷ (the_mark 37 ∷ the_word a_word ∷ []) ∷ []
 
 -- an extension's name and `len`, each with an optional `#`
-abbrev pub ext : List (List Class)
-ext = (extension ∷ []) ∷ (the_mark 35 ∷ extension ∷ []) ∷ []
+abbrev pub extension_operand : List (List Class)
+extension_operand = (extension ∷ []) ∷ (the_mark 35 ∷ extension ∷ []) ∷ []
 
-abbrev pub len : List (List Class)
-len = (the_word length_word ∷ []) ∷ (the_mark 35 ∷ the_word length_word ∷ []) ∷ []
+abbrev pub length_operand : List (List Class)
+length_operand = (the_word length_word ∷ []) ∷ (the_mark 35 ∷ the_word length_word ∷ []) ∷ []
 
 abbrev pub label : List (List Class)
 label = one name
 
 -- `[n]`, `[x + n]`, `M[n]`, `#n`, `4*([n]&0xf)`
 abbrev pub absolute : List (List Class)
-absolute = byte 91 · n · byte 93
+absolute = byte 91 · signed · byte 93
 
 abbrev pub indexed : List (List Class)
-indexed = byte 91 · x · byte 43 · n · byte 93
+indexed = byte 91 · x_operand · byte 43 · signed · byte 93
 
 abbrev pub memory : List (List Class)
-memory = one (the_word memory_word) · byte 91 · n · byte 93
+memory = one (the_word memory_word) · byte 91 · signed · byte 93
 
 abbrev pub immediate : List (List Class)
-immediate = byte 35 · n
+immediate = byte 35 · signed
 
 abbrev pub header : List (List Class)
-header = one (exactly 4) · byte 42 · byte 40 · byte 91 · n · byte 93 · byte 38 · one (exactly 15) · byte 41
+header = one (exactly 4) · byte 42 · byte 40 · byte 91 · signed · byte 93 · byte 38 · one (exactly 15) · byte 41
 
 abbrev pub comma : List (List Class)
 comma = byte 44
 
-abbrev pub none : List (List Class)
-none = [] ∷ []
+abbrev pub no_operand : List (List Class)
+no_operand = [] ∷ []
 
-abbrev pub entry : List (List Class) → Op → Fields → Entry
+abbrev pub entry : List (List Class) → Op → Fields → TableEntry
 entry forms op fields = record { forms = forms; op = op; fields = fields }
 
-abbrev pub load : Size → List Entry
-load s = entry absolute (LdAbs s) Constant ∷ entry indexed (LdInd s) Constant ∷ entry ext (LdAbs s) Constant ∷ []
+abbrev pub load : Size → List TableEntry
+load s = entry absolute (LdAbs s) Constant ∷ entry indexed (LdInd s) Constant
+    ∷ entry extension_operand (LdAbs s) Constant ∷ []
 
-abbrev pub one_target : Cond → Fields → List Entry
+abbrev pub one_target : Cond → Fields → List TableEntry
 one_target c fields = entry (immediate · comma · label) (Jump c src.K) fields
-    ∷ entry (x · comma · label) (Jump c src.X) fields ∷ []
+    ∷ entry (x_operand · comma · label) (Jump c src.X) fields ∷ []
 
-abbrev pub two_targets : Cond → List Entry
+abbrev pub two_targets : Cond → List TableEntry
 two_targets c = entry (immediate · comma · label · comma · label) (Jump c src.K) Branch
-    ∷ entry (x · comma · label · comma · label) (Jump c src.X) Branch ∷ []
+    ∷ entry (x_operand · comma · label · comma · label) (Jump c src.X) Branch ∷ []
 
-abbrev pub mnemonic : List ℕ → List Entry → Mnemonic
+abbrev pub mnemonic : List ℕ → List TableEntry → Mnemonic
 mnemonic word entries = record { word = word; entries = entries }
 
 -- under the word that a listing writes: one addressing mode, a conditional jump, an operation of arithmetic
 abbrev pub only : List (List Class) → Op → Fields → Mnemonic
 only forms op fields = mnemonic (mnemonic_of op) (entry forms op fields ∷ [])
 
-abbrev pub jump : Cond → Mnemonic
-jump c = mnemonic (mnemonic_of (Jump c src.K)) (two_targets c ++ one_target c Branch)
+abbrev pub conditional : Cond → Mnemonic
+conditional c = mnemonic (mnemonic_of (Jump c src.K)) (two_targets c ++ one_target c Branch)
 
-abbrev pub alu : AluOp → Mnemonic
-alu op = mnemonic (mnemonic_of (Alu op src.K))
-    (entry immediate (Alu op src.K) Constant ∷ entry x (Alu op src.X) Constant ∷ [])
+abbrev pub arithmetic : AluOp → Mnemonic
+arithmetic op = mnemonic (mnemonic_of (Alu op src.K))
+    (entry immediate (Alu op src.K) Constant ∷ entry x_operand (Alu op src.X) Constant ∷ [])
 
 unfoldable pub mnemonics : List Mnemonic
 mnemonics =
     mnemonic (mnemonic_of LdImm)
-    (load size.Word ++ (entry memory LdMem Constant ∷ entry immediate LdImm Constant ∷ entry len LdLen Constant ∷ []))
+    (load size.Word ++ (entry memory LdMem Constant ∷ entry immediate LdImm Constant
+    ∷ entry length_operand LdLen Constant ∷ []))
     ∷ mnemonic (mnemonic_of (LdAbs size.Half)) (load size.Half)
     ∷ mnemonic (mnemonic_of (LdAbs size.Byte)) (load size.Byte)
-    ∷ mnemonic (codes "ldi") (entry immediate LdImm Constant ∷ entry n LdImm Constant ∷ [])
+    ∷ mnemonic (codes "ldi") (entry immediate LdImm Constant ∷ entry signed LdImm Constant ∷ [])
     ∷ mnemonic (mnemonic_of LdxImm)
     (entry memory LdxMem Constant ∷ entry immediate LdxImm Constant ∷ entry header LdxMsh Constant
-    ∷ entry len LdxLen Constant ∷ [])
-    ∷ mnemonic (codes "ldxi") (entry immediate LdxImm Constant ∷ entry n LdxImm Constant ∷ [])
+    ∷ entry length_operand LdxLen Constant ∷ [])
+    ∷ mnemonic (codes "ldxi") (entry immediate LdxImm Constant ∷ entry signed LdxImm Constant ∷ [])
     ∷ only header LdxMsh Constant ∷ only memory St Constant ∷ only memory Stx Constant ∷ only label Ja Goto
     ∷ mnemonic (codes "ja") (entry label Ja Goto ∷ [])
-    ∷ jump cond.Eq ∷ jump cond.Gt ∷ jump cond.Ge ∷ jump cond.Bits
+    ∷ conditional cond.Eq ∷ conditional cond.Gt ∷ conditional cond.Ge ∷ conditional cond.Bits
     ∷ mnemonic (codes "jneq") (one_target cond.Eq Swapped)
     ∷ mnemonic (codes "jne") (one_target cond.Eq Swapped)
     ∷ mnemonic (codes "jlt") (one_target cond.Ge Swapped)
     ∷ mnemonic (codes "jle") (one_target cond.Gt Swapped)
-    ∷ alu alu_op.Add ∷ alu alu_op.Sub ∷ alu alu_op.Mul ∷ alu alu_op.Div ∷ alu alu_op.Mod ∷ alu alu_op.And
-    ∷ alu alu_op.Or ∷ alu alu_op.Xor ∷ alu alu_op.Lsh ∷ alu alu_op.Rsh
-    ∷ only none Neg Constant ∷ only none Tax Constant ∷ only none Txa Constant
-    ∷ mnemonic (mnemonic_of RetK) (entry immediate RetK Constant ∷ entry a RetA Constant ∷ [])
+    ∷ arithmetic alu_op.Add ∷ arithmetic alu_op.Sub ∷ arithmetic alu_op.Mul ∷ arithmetic alu_op.Div
+    ∷ arithmetic alu_op.Mod ∷ arithmetic alu_op.And
+    ∷ arithmetic alu_op.Or ∷ arithmetic alu_op.Xor ∷ arithmetic alu_op.Lsh ∷ arithmetic alu_op.Rsh
+    ∷ only no_operand Neg Constant ∷ only no_operand Tax Constant ∷ only no_operand Txa Constant
+    ∷ mnemonic (mnemonic_of RetK) (entry immediate RetK Constant ∷ entry a_operand RetA Constant ∷ [])
     ∷ []
 
-abbrev pub entry_rows : List ℕ → Entry → List Row
+abbrev pub entry_rows : List ℕ → TableEntry → List Row
 entry_rows word e = map (λ form. record { mnemonic = word; operand = form; op = e.op; fields = e.fields }) e.forms
 
 abbrev pub rows_of : Mnemonic → List Row

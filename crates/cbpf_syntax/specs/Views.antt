@@ -5,7 +5,7 @@ use Rattle.cbpf_syntax.specs.declared.class.Class.{Class}
 use Rattle.cbpf_syntax.specs.declared.class.Class.TheVariants.{Word, Mark, Literal, Negated, Exactly, Extension, Name}
 use Rattle.cbpf_syntax.specs.declared.mode.Mode.{Mode}
 use Rattle.cbpf_syntax.specs.declared.mode.Mode.TheVariants as modes
-use Rattle.cbpf_syntax.specs.declared.table.Entry.{Entry}
+use Rattle.cbpf_syntax.specs.declared.table.TableEntry.{TableEntry}
 use Rattle.cbpf_syntax.specs.declared.table.Mnemonic.{Mnemonic}
 use Rattle.cbpf_syntax.specs.declared.lexeme.Symbol.{Symbol}
 use Rattle.cbpf_syntax.specs.declared.lexeme.Symbol.TheVariants as symbols
@@ -15,8 +15,9 @@ use Rattle.cbpf_syntax.specs.Lexemes as lexemes
 use Rattle.cbpf_syntax.specs.Classes as classes
 use Rattle.cbpf_syntax.specs.Classes.Class.{the_word, the_mark, literal, negated, exactly, extension, name}
 use Rattle.cbpf_syntax.specs.Table as tables
-use Rattle.cbpf_syntax.specs.Table.{◌·◌, x, a, n, ext, len, label, absolute, indexed, memory, immediate, header}
-use Rattle.cbpf_syntax.specs.Table.{comma, none, entry, mnemonic}
+use Rattle.cbpf_syntax.specs.Table.{◌·◌, x_operand, a_operand, signed, extension_operand, length_operand, label}
+use Rattle.cbpf_syntax.specs.Table.{absolute, indexed, memory, immediate, header}
+use Rattle.cbpf_syntax.specs.Table.{comma, no_operand, entry, mnemonic}
 
 abbrev pub class_of : Class → classes.Class
 class_of (Word w) = the_word w.now
@@ -28,24 +29,24 @@ class_of Extension = extension
 class_of Name = name
 
 abbrev pub mode_forms : Mode → List (List classes.Class)
-mode_forms modes.X = x
+mode_forms modes.X = x_operand
 mode_forms modes.Absolute = absolute
 mode_forms modes.Indexed = indexed
 mode_forms modes.Memory = memory
 mode_forms modes.Immediate = immediate
-mode_forms modes.Number = n
+mode_forms modes.Number = signed
 mode_forms modes.Header = header
 mode_forms modes.Label = label
 mode_forms modes.ImmediateTwo = immediate · comma · label · comma · label
-mode_forms modes.XTwo = x · comma · label · comma · label
+mode_forms modes.XTwo = x_operand · comma · label · comma · label
 mode_forms modes.ImmediateOne = immediate · comma · label
-mode_forms modes.XOne = x · comma · label
-mode_forms modes.A = a
-mode_forms modes.Extension = ext
-mode_forms modes.Length = len
-mode_forms modes.Bare = none
+mode_forms modes.XOne = x_operand · comma · label
+mode_forms modes.A = a_operand
+mode_forms modes.Extension = extension_operand
+mode_forms modes.Length = length_operand
+mode_forms modes.Bare = no_operand
 
-abbrev pub entry_of : Entry → tables.Entry
+abbrev pub entry_of : TableEntry → tables.TableEntry
 entry_of e = entry (mode_forms e.mode) e.op e.fields
 
 abbrev pub mnemonic_of : Mnemonic → tables.Mnemonic

@@ -15,7 +15,7 @@ use crate::item::Row;
 use crate::lexeme::Lexeme;
 use crate::mode::forms;
 use crate::reserved::fits;
-use crate::table::{Entry, Mnemonic};
+use crate::table::{Mnemonic, TableEntry};
 
 /// A row, and how many tokens fit its operand.
 #[derive(Clone, Copy)]
@@ -71,7 +71,7 @@ fn better(best: Match, new: Match) -> Match
 
 /// The row of an addressing mode's form.
 #[inline(always)]
-fn make_row(mnemonic: &Mnemonic, entry: &Entry, form: &'static [Class]) -> Row
+fn make_row(mnemonic: &Mnemonic, entry: &TableEntry, form: &'static [Class]) -> Row
     ensures { row_of result ≡ record {
       mnemonic = mnemonic.now.word.now;
       operand = map class_of form.now;
@@ -107,7 +107,7 @@ fn may_be_better(best: &Match, form: &[Class], tokens: &[Lexeme<'_>]) -> bool
 fn better_form(
     best: Match,
     mnemonic: &Mnemonic,
-    entry: &Entry,
+    entry: &TableEntry,
     form: &'static [Class],
     tokens: &[Lexeme<'_>],
 ) -> Match
@@ -128,7 +128,7 @@ fn better_form(
 
 /// The best one of a row and the forms of an addressing mode.
 #[inline(always)]
-fn better_mode(best: Match, mnemonic: &Mnemonic, entry: &Entry, tokens: &[Lexeme<'_>]) -> Match
+fn better_mode(best: Match, mnemonic: &Mnemonic, entry: &TableEntry, tokens: &[Lexeme<'_>]) -> Match
     ensures { (rs : List tables.Row) → IsBest rs (map lexeme_of tokens.now) best →
         IsBest (rs ++ entry_rows mnemonic.now.word.now (entry_of entry.now)) (map lexeme_of tokens.now) result }
 {
@@ -141,7 +141,7 @@ fn better_mode(best: Match, mnemonic: &Mnemonic, entry: &Entry, tokens: &[Lexeme
 
 /// The first form of a mnemonic.
 #[inline(always)]
-fn first_form(mnemonic: &Mnemonic, entry: &Entry, tokens: &[Lexeme<'_>]) -> Match
+fn first_form(mnemonic: &Mnemonic, entry: &TableEntry, tokens: &[Lexeme<'_>]) -> Match
     ensures { (r : tables.Row) × Contains (entry_rows mnemonic.now.word.now (entry_of entry.now)) r ×
         IsBest (r ∷ []) (map lexeme_of tokens.now) result }
 {

@@ -24,7 +24,7 @@ pub enum Fields {
 
 /// An addressing mode of a mnemonic.
 #[derive(Clone, Copy)]
-pub struct Entry {
+pub struct TableEntry {
     pub mode: Mode,
     pub op: Op,
     pub fields: Fields,
@@ -34,12 +34,12 @@ pub struct Entry {
 #[derive(Clone, Copy)]
 pub struct Mnemonic {
     pub word: &'static [u8],
-    pub entries: &'static [Entry],
+    pub entries: &'static [TableEntry],
 }
 
 macro_rules! entry {
     ($mode:ident, $op:expr, $fields:ident) => {
-        Entry { mode: Mode::$mode, op: $op, fields: Fields::$fields }
+        TableEntry { mode: Mode::$mode, op: $op, fields: Fields::$fields }
     };
 }
 

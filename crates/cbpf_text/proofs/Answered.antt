@@ -28,7 +28,7 @@ use Rattle.cbpf_text.specs.Labels.{name_of, set_labels, times_among, AreDistinct
 use Rattle.cbpf_text.specs.Operands.{HasForm, literal_in, targets_in}
 use Rattle.cbpf_text.specs.Assembled.{FillsFields, IsEncoded, EncodeEach, HasProgramLength, AreEncoded, AssembleTokens}
 use Rattle.cbpf_text.specs.Refusals.{IsFirstRepeat, Use, is_conditional, uses_of, uses_from, IsGoodUse, IsExcess}
-use Rattle.cbpf_text.specs.Refusals.{IsFirstBadUse, IsItemsFault, IsTokensFault, piece_kind, grammar_kind, shown_at}
+use Rattle.cbpf_text.specs.Refusals.{IsFirstBadUse, IsItemsFault, IsTokensFault, bad_piece_kind, grammar_kind, shown_at}
 use Rattle.cbpf_text.specs.Refusals.IsItemsFault.{no_item, too_many, set_twice, bad_use}
 use Rattle.cbpf_text.specs.Refusals.IsTokensFault.{of_grammar, of_items}
 use Rattle.cbpf_text.specs.Refusals.IsTextFault.{of_piece, of_tokens}
@@ -288,7 +288,7 @@ each_tokens ts = elim (each_parsed ts) [
 
 pub each_answered : EachAnswered
 each_answered text = elim (each_lexed text) [
-  | inr b ↦ inr (piece_kind b.0, b.1, of_piece b.0 b.1 b.2)
+  | inr b ↦ inr (bad_piece_kind b.0, b.1, of_piece b.0 b.1 b.2)
   | inl l ↦ elim (each_tokens (lexemes_of text l.0)) [
     | inl a ↦ inl (a.0, record { tokens = l.0; lexed = l.1; assembled = a.1 })
     | inr f ↦ inr (f.0, line_of text f.1, of_tokens l.0 f.0 f.1 l.1 f.2)

@@ -12,7 +12,7 @@ use Rattle.cbpf_syntax.specs.Classes.Class.{the_mark, name}
 use Rattle.cbpf_syntax.specs.Lexemes.{Lexeme}
 use Rattle.cbpf_syntax.specs.Fits.{fits, fits_all}
 use Rattle.cbpf_syntax.specs.Table.{Row, classes, table, mnemonics}
-use Rattle.cbpf_syntax.specs.Items.{Item, Items, Form, names_at, label_classes}
+use Rattle.cbpf_syntax.specs.Items.{Item, Items, IsItem, names_at, label_classes}
 use Rattle.cbpf_syntax.proofs.Elements.{list_all_at}
 use Rattle.cbpf_text.specs.Operands.{HasForm, targets_in}
 use Rattle.cbpf_text.specs.declared.fault.AsmKind.{AsmKind}
@@ -22,7 +22,7 @@ use Rattle.cbpf_text.specs.Refusals.{is_conditional}
 use Rattle.cbpf_text.specs.declared.placed_fault.PlacedFault.{PlacedFault}
 use Rattle.cbpf_text.proofs.Uses.{use_of, good_use}
 use Rattle.cbpf_text.specs.declared.draft.Target.{Target}
-use Rattle.cbpf_text.specs.Drafts.{IsTarget, AreTargets, IsStatement}
+use Rattle.cbpf_text.specs.Drafts.{KeepsLabel, AreTargets, IsStatement}
 use Rattle.cbpf_text.specs.declared.draft.Statement.{Statement}
 use Rattle.cbpf_text.specs.declared.placed_fault.PlacedFault.TheVariants as placed
 
@@ -73,7 +73,7 @@ after_labels (suc n) cs (t ∷ u ∷ ts) e =
 -- the items of a token list have their forms
 pub items_forms : (ts : List Lexeme) (is : List Item) → Items ts is → All HasForm is
 items_forms ts [] p k d l = absurd (omega arith)
-items_forms ts (i ∷ is) p zero d l = let f : Form p.0 i = p.3 in
+items_forms ts (i ∷ is) p zero d l = let f : IsItem p.0 i = p.3 in
     record { known = f.row; fits = rw f.body (after_labels f.count (classes i.row) p.0 f.fits) }
 items_forms ts (i ∷ is) p (suc k) d l = items_forms p.1 is p.4 k d (omega arith)
 
@@ -134,25 +134,25 @@ reported_more P Q (placed.At kind at) f p = f kind at p
 
 -- a jump has its first target
 has_first : (f : Fields) (ls : List Lexeme) (n : ℕ) (s t : Target) → (f ≡ Constant → ⊥) → takes f (length ls) ≡ true
-    → AreTargets n s t ls → (l : Lexeme) × (Some l ≡ slice_get ls 0) × IsTarget s l
+    → AreTargets n s t ls → (l : Lexeme) × (Some l ≡ slice_get ls 0) × KeepsLabel s l
 has_first f ls n s t h1 h2 h3 = search (rules)
 
 pub has_second : (ls : List Lexeme) (n : ℕ) (s t : Target) → n ≡ 2 → AreTargets n s t ls
-    → (l : Lexeme) × (Some l ≡ slice_get ls 1) × IsTarget t l
+    → (l : Lexeme) × (Some l ≡ slice_get ls 1) × KeepsLabel t l
 has_second ls n s t h1 h2 = search (rules)
 
 pub no_second : (ls : List Lexeme) (n : ℕ) (s t : Target) → (n ≡ 2 → ⊥) → AreTargets n s t ls → None ≡ slice_get ls 1
 no_second ls n s t h1 h2 = search (rules)
 
 first_target : (item : Item) (s : Statement) (f : Fields) → IsStatement s item → HasForm item → s.fields ≡ f
-    → (f ≡ Constant → ⊥) → (l : Lexeme) × (Some l ≡ slice_get (targets_in item) 0) × IsTarget s.first l
+    → (f ≡ Constant → ⊥) → (l : Lexeme) × (Some l ≡ slice_get (targets_in item) 0) × KeepsLabel s.first l
 first_target item s f h form e jumps = has_first item.row.fields (targets_in item) s.targets s.first s.second
     (λ z. jumps (sym e ∙ (h.fields ∙ z))) (form_takes item form) h.targets
 
 -- what is found or refused of a statement's targets is found or refused of the item's
 module _ (is : List Item) (index : ℕ) (item : Item) (s : Statement) (h : IsStatement s item) (form : HasForm item) where
   pub first_refused : (f : Fields) (r : PlacedFault) → s.fields ≡ f → (f ≡ Constant → ⊥)
-      → ((l : Lexeme) → IsTarget s.first l → Reported (IsTargetFault is index (is_conditional f) (Some l)) r)
+      → ((l : Lexeme) → KeepsLabel s.first l → Reported (IsTargetFault is index (is_conditional f) (Some l)) r)
       → Reported (IsFirstBadUse is (uses_of index item)) r
   first_refused f r e jumps refused =
       let t = first_target item s f h form e jumps in
@@ -163,8 +163,8 @@ module _ (is : List Item) (index : ℕ) (item : Item) (s : Statement) (h : IsSta
       (refused t.0 t.2)
 
   pub second_refused : (n : ℕ) (r : PlacedFault) → s.fields ≡ Branch → s.targets ≡ 2
-      → ((l : Lexeme) → IsTarget s.first l → IsShortOffset is index (Some l) n)
-      → ((l : Lexeme) → IsTarget s.second l → Reported (IsTargetFault is index true (Some l)) r)
+      → ((l : Lexeme) → KeepsLabel s.first l → IsShortOffset is index (Some l) n)
+      → ((l : Lexeme) → KeepsLabel s.second l → Reported (IsTargetFault is index true (Some l)) r)
       → Reported (IsFirstBadUse is (uses_of index item)) r
   second_refused n r e two found refused =
       let t = first_target item s Branch h form e (λ z. let k : Branch ≡ Constant = z in cc) in
@@ -174,7 +174,7 @@ module _ (is : List Item) (index : ℕ) (item : Item) (s : Statement) (h : IsSta
       (λ kind at p. rw (sym h.fields ∙ e) (second_bad is index (targets_in item) n kind at o (rw (← u.1) p)))
       (refused u.0 u.2)
 
-  pub goto_encoded : (d : ℕ) → s.fields ≡ Goto → ((l : Lexeme) → IsTarget s.first l → IsOffset is index (Some l) d)
+  pub goto_encoded : (d : ℕ) → s.fields ≡ Goto → ((l : Lexeme) → KeepsLabel s.first l → IsOffset is index (Some l) d)
       → IsEncoded is index item (record { code = s.code; jt = 0; jf = 0; k = d })
   goto_encoded d e found =
       let t = first_target item s Goto h form e (λ z. let k : Goto ≡ Constant = z in cc) in
@@ -182,7 +182,7 @@ module _ (is : List Item) (index : ℕ) (item : Item) (s : Statement) (h : IsSta
       search (rules)
 
   pub swapped_encoded : (d : ℕ) → s.fields ≡ Swapped
-      → ((l : Lexeme) → IsTarget s.first l → IsShortOffset is index (Some l) d)
+      → ((l : Lexeme) → KeepsLabel s.first l → IsShortOffset is index (Some l) d)
       → IsEncoded is index item (record { code = s.code; jt = 0; jf = d; k = s.literal })
   swapped_encoded d e found =
       let t = first_target item s Swapped h form e (λ z. let k : Swapped ≡ Constant = z in cc) in
@@ -191,7 +191,7 @@ module _ (is : List Item) (index : ℕ) (item : Item) (s : Statement) (h : IsSta
 
   -- a conditional jump without a second target
   pub branch_encoded : (d : ℕ) → s.fields ≡ Branch → (s.targets ≡ 2 → ⊥)
-      → ((l : Lexeme) → IsTarget s.first l → IsShortOffset is index (Some l) d)
+      → ((l : Lexeme) → KeepsLabel s.first l → IsShortOffset is index (Some l) d)
       → IsEncoded is index item (record { code = s.code; jt = d; jf = 0; k = s.literal })
   branch_encoded d e one found =
       let t = first_target item s Branch h form e (λ z. let k : Branch ≡ Constant = z in cc) in

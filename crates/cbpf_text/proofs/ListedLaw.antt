@@ -5,7 +5,7 @@ use Rattle.std.proofs.Common.{length, refl, sym, subst, arith, inl, inr, ◌++�
 use Rattle.std.specs.Prelude.{decimal, All, is_some, slice_get, Ok, Err}
 use Rattle.std.proofs.lemmas.Fmt.{decimal_injective}
 use Rattle.cbpf_syntax.specs.Lexemes.{Lexeme}
-use Rattle.cbpf_syntax.specs.Items.{Item, Form, Items, names_at}
+use Rattle.cbpf_syntax.specs.Items.{Item, IsItem, Items, names_at}
 use Rattle.cbpf_syntax.proofs.Apart.{equal_bytes, bytes_eq_self}
 use Rattle.cbpf_text.specs.Labels.{name_of, set_labels, times_among, times_set, AreDistinct, SetsAt}
 use Rattle.cbpf_text.proofs.LabelLists.{times_append, times_miss, times_hit}
@@ -213,7 +213,7 @@ line_lexemes at i w operand after = search (rules, first_byte, later_bytes, lexe
 
 line_form : (at i : ℕ) (op : Op) (named : Bool) (operand : List Segment) → i < 2 ^ 64
     → fits_all (operand_classes named (operand_of op)) (lexemes_at (operand_at at i (mnemonic_of op)) operand) ≡ true
-    → Form (line_tokens at i (mnemonic_of op) operand)
+    → IsItem (line_tokens at i (mnemonic_of op) operand)
     (line_item at i (mnemonic_of op) operand (operation_row named op).row)
 line_form at i op named operand l fits = record {
   count = 1;

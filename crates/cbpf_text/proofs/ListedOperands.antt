@@ -18,7 +18,7 @@ use Rattle.cbpf_syntax.specs.Fits.{fits_all, is_one_of, extension_names}
 use Rattle.cbpf_syntax.specs.Items.{Item, names_at}
 use Rattle.cbpf_code.specs.declared.listing.Operand.{Operand}
 use Rattle.cbpf_code.specs.declared.listing.Operand.TheVariants as operands
-use Rattle.cbpf_code.specs.Listing.{immediate, operand_text, place_or_name}
+use Rattle.cbpf_code.specs.Listing.{immediate_operand, operand_text, place_or_name}
 use Rattle.cbpf_text.specs.Assembled.{FillsFields}
 use Rattle.cbpf_text.specs.Operands.{literal_of, place_named}
 use Rattle.cbpf_text.proofs.ListedRows.{operand_classes, operand_fields, first_byte, later_bytes, IsWord, word_of_test}
@@ -97,7 +97,8 @@ decimal_text before after k l = ap (λ (w : List ℕ). before ++ (w ++ after)) (
 
 pub operand_spelled : (o : Operand) (e : Option Ext) (i : ℕ) (insn : Insn) → ext_at insn.k ≡ e → insn.k < 2 ^ 32
     → text_of (operand_segments o e i insn) ≡ operand_text o i insn
-operand_spelled operands.Immediate e i insn p l = immediate_text (insn.k == 0) insn.k [] ∙ append-nil (immediate insn.k)
+operand_spelled operands.Immediate e i insn p l = immediate_text (insn.k == 0) insn.k []
+    ∙ append-nil (immediate_operand insn.k)
 operand_spelled operands.Absolute (Some x) i insn p l =
     ap (λ (w : List ℕ). codes " " ++ (w ++ [])) (ext_word x).0 ∙ sym (ap (λ q. place_or_name q insn.k) p)
 operand_spelled operands.Absolute None i insn p l =

@@ -10,7 +10,7 @@ use Rattle.cbpf_text.specs.Assembled.{AssembleTokens, EncodeEach, IsEncoded, Fil
 use Rattle.cbpf_text.specs.Laws.{OneAssembly, NeverBoth, OneRefusal}
 use Rattle.cbpf_syntax.proofs.Refused.{items_accepted}
 use Rattle.cbpf_text.specs.declared.fault.AsmKind.{AsmKind}
-use Rattle.cbpf_text.specs.Refusals.{IsItemsFault, IsTokensFault, piece_kind, grammar_kind, shown_at}
+use Rattle.cbpf_text.specs.Refusals.{IsItemsFault, IsTokensFault, bad_piece_kind, grammar_kind, shown_at}
 use Rattle.cbpf_text.specs.Refusals.IsTokensFault.{of_grammar, of_items}
 use Rattle.cbpf_text.specs.Refusals.IsTextFault.{of_piece, of_tokens}
 use Rattle.cbpf_text.proofs.Forms.{items_forms}
@@ -75,7 +75,7 @@ one_of_tokens ts k l m n (of_items is c i o a x) (of_items js d j p b y) =
 
 pub one_refusal : OneRefusal
 one_refusal text k l m n (of_piece c i x) (of_piece d j y) =
-    let e = lexer.one_fault text c d m n x y in (ap piece_kind e.0, e.1)
+    let e = lexer.one_fault text c d m n x y in (ap bad_piece_kind e.0, e.1)
 one_refusal text k l m n (of_piece c i x) (of_tokens us d j y z) = absurd (lexer.never_both text us c i y x)
 one_refusal text k l m n (of_tokens us d j y z) (of_piece c i x) = absurd (lexer.never_both text us c i y x)
 one_refusal text k l m n (of_tokens us c i x w) (of_tokens vs d j y z) =

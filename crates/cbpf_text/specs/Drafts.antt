@@ -15,14 +15,14 @@ use Rattle.cbpf_text.specs.Refusals.{IsFirstRepeat, IsExcess}
 use Rattle.cbpf_text.specs.Tables.{SetLabel, labels_of, labels_from, place_among}
 
 -- the target is the label, by its name and its place
-abbrev pub IsTarget : Target → Lexeme → Type 0
-IsTarget t l = (t.name.bytes.now ≡ name_of l) × (t.at ≡ l.at)
+abbrev pub KeepsLabel : Target → Lexeme → Type 0
+KeepsLabel t l = (t.name.bytes.now ≡ name_of l) × (t.at ≡ l.at)
 
 -- the targets are the labels: the first two where there are more, and the count goes no higher
 abbrev pub AreTargets : ℕ → Target → Target → List Lexeme → Type 0
 AreTargets count first second [] = count ≡ 0
-AreTargets count first second (l ∷ []) = (count ≡ 1) × IsTarget first l
-AreTargets count first second (l ∷ m ∷ ls) = (count ≡ 2) × IsTarget first l × IsTarget second m
+AreTargets count first second (l ∷ []) = (count ≡ 1) × KeepsLabel first l
+AreTargets count first second (l ∷ m ∷ ls) = (count ≡ 2) × KeepsLabel first l × KeepsLabel second m
 
 -- the statement is that of the item
 pub record IsStatement (s : Statement) (item : Item) : Type 0 where

@@ -24,10 +24,10 @@ use Rattle.cbpf_text.specs.Labels.{name_of, set_labels, times_among, times_set, 
 use Rattle.cbpf_text.specs.Operands.{targets_in}
 use Rattle.cbpf_text.specs.Assembled.{HasProgramLength}
 
-abbrev pub piece_kind : BadPiece → AsmKind
-piece_kind pieces.NoToken = kinds.NoToken
-piece_kind pieces.OpenComment = kinds.OpenComment
-piece_kind pieces.LargeNumber = kinds.LargeNumber
+abbrev pub bad_piece_kind : BadPiece → AsmKind
+bad_piece_kind pieces.NoToken = kinds.NoToken
+bad_piece_kind pieces.OpenComment = kinds.OpenComment
+bad_piece_kind pieces.LargeNumber = kinds.LargeNumber
 
 -- the first label whose name one before it has given already, and its place
 pub record IsFirstRepeat (labels : List Lexeme) (at : ℕ) : Type 0 where
@@ -116,7 +116,7 @@ pub data IsTokensFault (ts : List Lexeme) : AsmKind → ℕ → Type 0 where
 
 -- why a text is refused, and the line: its first bad piece, and where there is none the fault of its tokens
 pub data IsTextFault (text : List ℕ) : AsmKind → ℕ → Type 0 where
-  of_piece : (bad : BadPiece) (line : ℕ) → IsFirstBad text bad line → IsTextFault text (piece_kind bad) line
+  of_piece : (bad : BadPiece) (line : ℕ) → IsFirstBad text bad line → IsTextFault text (bad_piece_kind bad) line
   of_tokens : (tokens : List Token) (kind : AsmKind) (at : ℕ) → Lexes text tokens
       → IsTokensFault (lexemes_of text tokens) kind at → IsTextFault text kind (line_of text at)
 
@@ -128,7 +128,7 @@ IsRefused text (faults.At kind line) = IsTextFault text kind line
 -- what `tokens` reports of a text that has none
 abbrev pub IsLexRefused : List ℕ → AsmFault → Type 0
 IsLexRefused text faults.Memory = Unit {0}
-IsLexRefused text (faults.At kind line) = (bad : BadPiece) × (kind ≡ piece_kind bad) × IsFirstBad text bad line
+IsLexRefused text (faults.At kind line) = (bad : BadPiece) × (kind ≡ bad_piece_kind bad) × IsFirstBad text bad line
 
 -- the refusal has this cause; out of memory says nothing
 abbrev pub Reported : (AsmKind → ℕ → Type 0) → PlacedFault → Type 0

@@ -8,7 +8,7 @@ ghost use Rattle.cbpf_syntax.specs.Lexemes as lexemes;
 ghost use Rattle.cbpf_text.specs.Assembled.{IsOffset, IsShortOffset, IsEncoded, EncodeEach};
 ghost use Rattle.cbpf_text.specs.Refusals.{Reported, IsTargetFault, IsFirstBadUse, uses_of, uses_from};
 ghost use Rattle.cbpf_text.specs.Tables.{same_name, Resolves};
-ghost use Rattle.cbpf_text.specs.Drafts.{IsStatement, AreStatements, IsTarget};
+ghost use Rattle.cbpf_text.specs.Drafts.{IsStatement, AreStatements, KeepsLabel};
 ghost use Rattle.cbpf_text.specs.Operands.{HasForm};
 
 use crate::draft::{Statement, Target};
@@ -29,9 +29,9 @@ fn distance<A: Allocator>(
     target: &Target<'_>,
 ) -> Result<u32, PlacedFault>
     ensures found { (is : List items.Item) → Resolves is (λ k. get same_name labels.now k) →
-        (label : lexemes.Lexeme) → IsTarget target.now label → IfOk result (IsOffset is index (Some label)) }
+        (label : lexemes.Lexeme) → KeepsLabel target.now label → IfOk result (IsOffset is index (Some label)) }
     ensures refused { (is : List items.Item) (short : Bool) → Resolves is (λ k. get same_name labels.now k) →
-        (label : lexemes.Lexeme) → IsTarget target.now label →
+        (label : lexemes.Lexeme) → KeepsLabel target.now label →
         IfErr result (Reported (IsTargetFault is index short (Some label))) }
 {
     match labels.get(&target.name) {
@@ -53,9 +53,9 @@ fn short_offset<A: Allocator>(
     target: &Target<'_>,
 ) -> Result<u8, PlacedFault>
     ensures found { (is : List items.Item) → Resolves is (λ k. get same_name labels.now k) →
-        (label : lexemes.Lexeme) → IsTarget target.now label → IfOk result (IsShortOffset is index (Some label)) }
+        (label : lexemes.Lexeme) → KeepsLabel target.now label → IfOk result (IsShortOffset is index (Some label)) }
     ensures refused { (is : List items.Item) → Resolves is (λ k. get same_name labels.now k) →
-        (label : lexemes.Lexeme) → IsTarget target.now label →
+        (label : lexemes.Lexeme) → KeepsLabel target.now label →
         IfErr result (Reported (IsTargetFault is index true (Some label))) }
 {
     let distance = distance(labels, index, target)?;

@@ -2,14 +2,14 @@
 
 ghost use Rattle.std.specs.Prelude.{◌≡◌, ℕ, List, IfOk, IfErr, All};
 ghost use Rattle.cbpf_syntax.specs.Tokens.{Lexes, IsLexFault, IsSpanOf, line_of};
-ghost use Rattle.cbpf_text.specs.Refusals.{IsLexRefused, piece_kind};
+ghost use Rattle.cbpf_text.specs.Refusals.{IsLexRefused, bad_piece_kind};
 
 use crate::fault::{AsmFault, AsmKind};
 use cbpf_syntax::{BadPiece, LexFault, Token};
 use std::alloc::Allocator;
 
 fn piece_kind(bad: BadPiece) -> AsmKind
-    ensures { result ≡ piece_kind bad }
+    ensures { result ≡ bad_piece_kind bad }
 {
     match bad {
         BadPiece::NoToken => AsmKind::NoToken,

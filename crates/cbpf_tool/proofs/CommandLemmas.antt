@@ -9,8 +9,8 @@ use Rattle.std.proofs.lemmas.Bool.Decides.{nat_tests}
 use Rattle.std.proofs.lemmas.Slice.Eq.{bytes_eq-Decides, text_from_reads, HasBytesAt}
 use Rattle.std.proofs.lemmas.Str.{is_utf8-from_IsUtf8, IsUtf8-from_is_utf8, IsUtf8-from_ascii}
 use Rattle.std.proofs.lemmas.Str.Ascii.{IsAscii-nil, IsAscii-cons}
-use Rattle.cbpf_tool.specs.Words.{words, after_words, trimmed}
-use Rattle.cbpf_tool.specs.Commands.{Reading, readings, reading_in, by_name, name_in, load_by}
+use Rattle.cbpf_tool.specs.Words.{words_of, after_words, trimmed}
+use Rattle.cbpf_tool.specs.Commands.{ReadsArguments, readings, reading_in, by_name, name_in, load_by}
 use Rattle.cbpf_tool.specs.declared.command.Command.TheVariants.{LoadCapture}
 use Rattle.cbpf_reply.specs.declared.errors.CommandFault.TheVariants.{UnknownCommand}
 
@@ -30,7 +30,7 @@ ascii (b ∷ s) e =
 no-name : (w p : List ℕ) → (IsUtf8 w → ⊥) → is_ascii p ≡ true → bytes_eq w p ≡ false
 no-name w p n h = differs w p (bytes_eq w p) refl (λ e. n (subst IsUtf8 (sym e) (IsUtf8-from_ascii p (ascii p h))))
 
-none-named : (rows : List (List ℕ × Reading)) (w : List ℕ) → (IsUtf8 w → ⊥)
+none-named : (rows : List (List ℕ × ReadsArguments)) (w : List ℕ) → (IsUtf8 w → ⊥)
     → list_all (λ row. is_ascii row.0) rows ≡ true → reading_in rows w ≡ None
 none-named [] w n h = refl
 none-named (row ∷ rows) w n h =
@@ -59,9 +59,9 @@ after_words-none : (s : List ℕ) → after_words 0 s ≡ s
 unfolding after_words
 after_words-none s = refl
 
-pub loads : (text kind rest p : List ℕ) → words text ≡ kind ∷ words rest → after_words 1 text ≡ after_words 0 rest
+pub loads : (text kind rest p : List ℕ) → words_of text ≡ kind ∷ words_of rest → after_words 1 text ≡ after_words 0 rest
     → length kind ≡ length p → HasBytesAt kind 0 p
-    → load_by (words text) (trimmed (after_words 1 text)) ≡ load_by (p ∷ []) (trimmed rest)
+    → load_by (words_of text) (trimmed (after_words 1 text)) ≡ load_by (p ∷ []) (trimmed rest)
 loads text kind rest p w b l h =
     let k : kind ≡ p = text_from_reads kind p l h in
     rw (w, b, after_words-none rest, k) refl

@@ -5,38 +5,39 @@ use Rattle.std.specs.List.{list_all}
 use Rattle.std.proofs.lemmas.List.{take-append-drop, take_more}
 use Rattle.std.proofs.lemmas.List.Folds.{list_all_at}
 use Rattle.std.proofs.lemmas.List.Sums.{fold-append}
-use Rattle.cbpf_code.specs.WordTokens.{is_digit, number as value}
-use Rattle.cbpf_tool.specs.Numbers.{number}
+use Rattle.cbpf_code.specs.WordTokens.{is_digit, decimal_value}
+use Rattle.cbpf_tool.specs.Numbers.{number_up_to}
 
 abbrev onward : ℕ → ℕ → ℕ
 onward n b = 10 * n + (b - 48)
 
 pub value-more : (s : List ℕ) (i : ℕ) → i < length s
-    → value (take (i + 1) s) ≡ 10 * value (take i s) + (get_or s i 0 - 48)
-value-more s i l = ap value (take_more s i 0 l) ∙ fold-append onward 0 (take i s) (get_or s i 0 ∷ [])
+    → decimal_value (take (i + 1) s) ≡ 10 * decimal_value (take i s) + (get_or s i 0 - 48)
+value-more s i l = ap decimal_value (take_more s i 0 l) ∙ fold-append onward 0 (take i s) (get_or s i 0 ∷ [])
 
 fold-grows : (a : ℕ) (ys : List ℕ) → a ≤ fold onward a ys
 fold-grows a [] = omega arith
 fold-grows a (y ∷ ys) = omega (arith, fold-grows (10 * a + (y - 48)) ys)
 
-value-grows : (s : List ℕ) (i : ℕ) → value (take i s) ≤ value s
+value-grows : (s : List ℕ) (i : ℕ) → decimal_value (take i s) ≤ decimal_value s
 value-grows s i =
     let whole : take i s ++ drop i s ≡ s = take-append-drop i s in
-    let sum : value s ≡ fold onward (value (take i s)) (drop i s) =
-    ap value (sym whole) ∙ fold-append onward 0 (take i s) (drop i s) in
-    omega (arith, sum, fold-grows (value (take i s)) (drop i s))
+    let sum : decimal_value s ≡ fold onward (decimal_value (take i s)) (drop i s) =
+    ap decimal_value (sym whole) ∙ fold-append onward 0 (take i s) (drop i s) in
+    omega (arith, sum, fold-grows (decimal_value (take i s)) (drop i s))
 
-number-refused : (most : ℕ) (s : List ℕ) → (list_all is_digit s && nat_le (value s) most) ≡ false → number most s ≡ None
+number-refused : (most : ℕ) (s : List ℕ) → (list_all is_digit s && nat_le (decimal_value s) most) ≡ false
+    → number_up_to most s ≡ None
 number-refused most [] h = refl
 number-refused most (b ∷ bs) h = rw h refl
 
 pub number-letter : (most : ℕ) (s : List ℕ) (i : ℕ) → i < length s → is_digit (get_or s i 0) ≡ false
-    → None ≡ number most s
+    → None ≡ number_up_to most s
 number-letter most s i l e = sym (number-refused most s (rw (list_all_at is_digit s i 0 l e) refl))
 
-pub number-big : (most : ℕ) (s : List ℕ) (i : ℕ) → most < value (take i s) → None ≡ number most s
+pub number-big : (most : ℕ) (s : List ℕ) (i : ℕ) → most < decimal_value (take i s) → None ≡ number_up_to most s
 number-big most s i l =
-    let no : nat_le (value s) most ≡ false = grind (arith, tests, value-grows s i) in
+    let no : nat_le (decimal_value s) most ≡ false = grind (arith, tests, value-grows s i) in
     sym (number-refused most s (grind (arith, tests)))
 
 pub ruleset numbers = (value-more, number-letter, number-big)

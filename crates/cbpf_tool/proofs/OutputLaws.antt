@@ -25,7 +25,7 @@ use Rattle.cbpf_reply.specs.Errors.{word_fault_text, check_fault_text, capture_f
 use Rattle.cbpf_reply.specs.declared.errors.LoadFault.TheVariants.{Absent, Device}
 use Rattle.cbpf_reply.specs.Loads.{program_text, capture_text}
 use Rattle.cbpf_dbg.specs.Commands.{with_program_loaded, with_capture_loaded}
-use Rattle.cbpf_tool.specs.Laws.{OwnOutput, own_end, own_quit, own_line, Stands, OneOutput}
+use Rattle.cbpf_tool.specs.Laws.{OwnOutput, own_end, own_quit, own_line, IsPartOf, OneOutput}
 use Rattle.cbpf_tool.specs.Laws.{NoOther, HasOutput, OwnIsOutput}
 
 words-once : (m : View) (text : List ℕ) (r r' : Reply) → LoadsWords m text r → LoadsWords m text r' → r' ≡ r
@@ -143,10 +143,10 @@ own_is_output files m f ls t (own_line {rest = rest} {ls = more} l r a o) =
 
 -- ---- an output in which neither of the two other replies stands
 
-first-stands : (text rest : List ℕ) (m : View) (r : Reply) → r ≡ (text, m) → Stands text (r.0 ++ rest)
+first-stands : (text rest : List ℕ) (m : View) (r : Reply) → r ≡ (text, m) → IsPartOf text (r.0 ++ rest)
 first-stands text rest m r e = ([], rest, ap (λ (x : Reply). x.0 ++ rest) e)
 
-later-stands : (reply t rest : List ℕ) → Stands reply rest → Stands reply (t ++ rest)
+later-stands : (reply t rest : List ℕ) → IsPartOf reply rest → IsPartOf reply (t ++ rest)
 later-stands reply t rest h =
     (t ++ h.0, h.1, ap (λ (x : List ℕ). t ++ x) h.2 ∙ sym (append_assoc t h.0 (reply ++ h.1)))
 

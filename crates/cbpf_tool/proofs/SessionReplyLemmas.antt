@@ -14,7 +14,7 @@ use Rattle.cbpf_reply.specs.declared.reply.SessionFault.TheVariants.{Memory, NoI
 use Rattle.cbpf_reply.specs.Errors.{fault_text, memory_text}
 use Rattle.cbpf_tool.specs.Progress.{Answered, Writes, Replies}
 use Rattle.cbpf_tool.specs.Replies.{own, unheld}
-use Rattle.cbpf_tool.specs.SessionReplies.{reply_to, reply_and_view, reply_text, IsInstruction}
+use Rattle.cbpf_tool.specs.SessionReplies.{reply_to, reply_and_view, reply_text, HasInstruction}
 use Rattle.cbpf_tool.specs.declared.command.Command.TheVariants.{Session}
 use Rattle.cbpf_tool.specs.declared.command.SessionCommand.{SessionCommand}
 use Rattle.cbpf_tool.specs.declared.command.SessionCommand.TheVariants.{Breakpoint}
@@ -75,7 +75,7 @@ session-answered m n c Written (inr w) = λ files f. (memory_text, unheld refl w
 
 instruction-of : {R : Type 0} (p : Option (List Insn)) (k : ℕ) (m : View) (answer : Answer R) (x : R)
     → Ok x ≡ reply_of (with_program p (λ list. if nat_lt k (length list) then answer else Err NoInstruction))
-    → IsInstruction p k
+    → HasInstruction p k
 instruction-of None k m answer x e = absurd (cc)
 instruction-of (Some list) k m answer x e = go (nat_lt k (length list)) refl e
   where
@@ -92,10 +92,10 @@ program-kept (Some list) k m a e = elim (nat_lt k (length list))
     as (λ b. (view_after m (if b then Ok a else Err NoInstruction)).program ≡ m.program) [ true ↦ e | false ↦ refl ]
 
 pub set-at : (m n : View) (k : ℕ) (when : When) (x : Unit {0}) → Ok x ≡ reply_of (breakpoint_when m k when)
-    → n ≡ view_after m (breakpoint_when m k when) → IsInstruction n.program k
+    → n ≡ view_after m (breakpoint_when m k when) → HasInstruction n.program k
 unfolding breakpoint_when
 set-at m n k when x e v =
-    subst (λ p. IsInstruction p k) (sym (ap (λ (y : View). y.program) v ∙ program-kept m.program k m _ refl))
+    subst (λ p. HasInstruction p k) (sym (ap (λ (y : View). y.program) v ∙ program-kept m.program k m _ refl))
     (instruction-of m.program k m _ x e)
 
 refused-view : {R : Type 0} (m : View) (a : Answer R) (f : SessionFault) → Err f ≡ reply_of a → view_after m a ≡ m

@@ -7,7 +7,7 @@ use Rattle.std.proofs.lemmas.Bool.{cases_Bool}
 use Rattle.std.proofs.lemmas.List.{take_more, nil_from_length, reverse-append, reverse-reverse}
 use Rattle.cbpf_code.specs.WordTokens.{is_blank}
 use Rattle.cbpf_code.specs.Text.{put_front}
-use Rattle.cbpf_tool.specs.Words.{words, after_words, word_end, trim_start, trim_end}
+use Rattle.cbpf_tool.specs.Words.{words_of, after_words, word_end, trim_start, trim_end}
 
 -- ---- blanks at the front and at the end
 
@@ -70,8 +70,8 @@ word-none s i l = rw (drop-none s i l) refl
 pub ruleset runs = (word-step, word-stop, word-none)
 
 begun-words : (b : ℕ) (bs : List ℕ) → is_blank b ≡ false
-    → words (b ∷ bs) ≡ (b ∷ take (word_end bs) bs) ∷ words (drop (word_end bs) bs)
-unfolding words
+    → words_of (b ∷ bs) ≡ (b ∷ take (word_end bs) bs) ∷ words_of (drop (word_end bs) bs)
+unfolding words_of
 begun-words b [] h = rw h refl
 begun-words b (x ∷ xs) h = elim (cases_Bool (is_blank x)) [
   | inl e ↦ let w : word_end (x ∷ xs) ≡ 0 = rw e refl in rw (h, ap not e, w) refl
@@ -88,8 +88,8 @@ begun-rest n b (x ∷ xs) h = elim (cases_Bool (is_blank x)) [
   | inr e ↦ let w : word_end (x ∷ xs) ≡ suc (word_end xs) = rw e refl in rw (h, ap not e, w) (begun-rest n x xs e)
 ]
 
-pub no-words : (text : List ℕ) → length (trim_start text) ≡ 0 → words text ≡ []
-unfolding words trim_start
+pub no-words : (text : List ℕ) → length (trim_start text) ≡ 0 → words_of text ≡ []
+unfolding words_of trim_start
 no-words [] n = refl
 no-words (b ∷ bs) n = elim (cases_Bool (is_blank b)) [
   | inl e ↦ rw e (no-words bs (rw e at n))
@@ -97,8 +97,8 @@ no-words (b ∷ bs) n = elim (cases_Bool (is_blank b)) [
 ]
 
 pub first-word : (text : List ℕ) (i : ℕ) → i ≡ word_end (trim_start text) → (length (trim_start text) ≡ 0 → ⊥)
-    → words text ≡ take i (trim_start text) ∷ words (drop i (trim_start text))
-unfolding words trim_start
+    → words_of text ≡ take i (trim_start text) ∷ words_of (drop i (trim_start text))
+unfolding words_of trim_start
 first-word [] i k n = absurd (n refl)
 first-word (b ∷ bs) i k n = elim (cases_Bool (is_blank b)) [
   | inl e ↦ rw e (first-word bs i (rw e at k) (rw e at n))

@@ -2,7 +2,7 @@
 -- (kernel documentation, networking/filter, on `bpf_asm`).
 use Rattle.std.specs.Prelude.{◌≢◌, ℕ, List, [], Option, Result, Ok, Err}
 use Rattle.cbpf_code.specs.Writing.{Appended, AppendedPart}
-use Rattle.cbpf_code.specs.WordForm.{words}
+use Rattle.cbpf_code.specs.WordForm.{word_text}
 use Rattle.cbpf_code.specs.CForm.{c_form}
 use Rattle.cbpf_code.specs.declared.form.Form.{Form}
 use Rattle.cbpf_code.specs.declared.form.Form.TheVariants.{Decimal, C}
@@ -15,7 +15,7 @@ use Rattle.cbpf_tool.specs.declared.fault.ToolFault.TheVariants.{Source, Read, W
 
 -- the text of instructions in a form
 abbrev pub form_text : Form → List Insn → List ℕ
-form_text Decimal list = words list
+form_text Decimal list = word_text list
 form_text C list = c_form list
 
 -- a fault before anything is written

@@ -7,8 +7,8 @@ use Rattle.std.specs.Str.{is_utf8}
 use Rattle.cbpf_code.specs.declared.extension.Ext.{Ext}
 use Rattle.cbpf_code.specs.Extension.{ext_name, ext_table}
 use Rattle.cbpf_reply.specs.Breakpoints.{When, Always, A, X}
-use Rattle.cbpf_tool.specs.Words.{words, after_words, trimmed}
-use Rattle.cbpf_tool.specs.Numbers.{number, signed_number}
+use Rattle.cbpf_tool.specs.Words.{words_of, after_words, trimmed}
+use Rattle.cbpf_tool.specs.Numbers.{number_up_to, signed_number}
 use Rattle.cbpf_reply.specs.declared.errors.CommandFault.{CommandFault}
 use Rattle.cbpf_reply.specs.declared.errors.CommandFault.TheVariants.{UnknownCommand, WrongArguments}
 use Rattle.cbpf_tool.specs.declared.command.Command.{Command}
@@ -25,7 +25,7 @@ alone c (w ∷ ws) = None
 
 -- one number of 64 bits, and no more
 abbrev pub sole_number : List (List ℕ) → Option ℕ
-sole_number (w ∷ []) = number (2 ^ 64 - 1) w
+sole_number (w ∷ []) = number_up_to (2 ^ 64 - 1) w
 sole_number _ = None
 
 -- by two values, where both are
@@ -37,7 +37,7 @@ by_both f None y = None
 -- how many packets at most; without a number there is no limit
 abbrev pub run_by : List (List ℕ) → Option SessionCommand
 run_by [] = Some (Run None)
-run_by (w ∷ []) = option_map (λ n. Run (Some n)) (number (2 ^ 64 - 1) w)
+run_by (w ∷ []) = option_map (λ n. Run (Some n)) (number_up_to (2 ^ 64 - 1) w)
 run_by _ = None
 
 -- by the name of a register: a is the accumulator, x the index register
@@ -53,8 +53,9 @@ abbrev pub breakpoint_by : List (List ℕ) → Option SessionCommand
 breakpoint_by [] = Some Breakpoints
 breakpoint_by (w ∷ []) =
     if bytes_eq w (codes "reset") then Some ResetBreakpoints
-    else option_map (λ n. Breakpoint n Always) (number (2 ^ 64 - 1) w)
-breakpoint_by (n ∷ r ∷ v ∷ []) = by_both Breakpoint (number (2 ^ 64 - 1) n) (condition_by r (number (2 ^ 32 - 1) v))
+    else option_map (λ n. Breakpoint n Always) (number_up_to (2 ^ 64 - 1) w)
+breakpoint_by (n ∷ r ∷ v ∷ []) = by_both Breakpoint (number_up_to (2 ^ 64 - 1) n)
+    (condition_by r (number_up_to (2 ^ 32 - 1) v))
 breakpoint_by _ = None
 
 abbrev pub delete_by : List (List ℕ) → Option SessionCommand
@@ -72,7 +73,7 @@ select_by ws = option_map Select (sole_number ws)
 -- a packet's number of 64 bits, and a step of 32
 abbrev pub resume_by : List (List ℕ) → Option SessionCommand
 resume_by (p ∷ s ∷ []) = by_both (λ packet n. Resume (record { packet = packet; step = n }))
-    (number (2 ^ 64 - 1) p) (number (2 ^ 32 - 1) s)
+    (number_up_to (2 ^ 64 - 1) p) (number_up_to (2 ^ 32 - 1) s)
 resume_by _ = None
 
 -- the extension of a table that has this name
@@ -82,14 +83,14 @@ named_in (row ∷ rows) w = if bytes_eq w (ext_name row.1) then Some row.1 else 
 
 -- an extension's name, and a number of 32 bits
 abbrev pub value_by : List (List ℕ) → Option SessionCommand
-value_by (name ∷ n ∷ []) = by_both Value (named_in ext_table name) (number (2 ^ 32 - 1) n)
+value_by (name ∷ n ∷ []) = by_both Value (named_in ext_table name) (number_up_to (2 ^ 32 - 1) n)
 value_by _ = None
 
 -- the commands of the session by their names, and how each reads the words after its name
-abbrev pub Reading : Type 0
-Reading = List (List ℕ) → Option SessionCommand
+abbrev pub ReadsArguments : Type 0
+ReadsArguments = List (List ℕ) → Option SessionCommand
 
-abbrev pub readings : List (List ℕ × Reading)
+abbrev pub readings : List (List ℕ × ReadsArguments)
 readings =
     (codes "run", run_by)
     ∷ (codes "disassemble", alone Disassemble)
@@ -104,7 +105,7 @@ readings =
     ∷ (codes "value", value_by)
     ∷ []
 
-abbrev pub reading_in : List (List ℕ × Reading) → List ℕ → Option Reading
+abbrev pub reading_in : List (List ℕ × ReadsArguments) → List ℕ → Option ReadsArguments
 reading_in [] w = None
 reading_in (row ∷ rows) w = if bytes_eq w row.0 then Some row.1 else reading_in rows w
 
@@ -136,7 +137,7 @@ abbrev pub session_or_wrong : Option SessionCommand → Result (Option Command) 
 session_or_wrong None = Err WrongArguments
 session_or_wrong (Some c) = Ok (Some (Session c))
 
-abbrev pub by_reading : Option Reading → List (List ℕ) → Result (Option Command) CommandFault
+abbrev pub by_reading : Option ReadsArguments → List (List ℕ) → Result (Option Command) CommandFault
 by_reading None ws = Err UnknownCommand
 by_reading (Some read) ws = session_or_wrong (read ws)
 
@@ -152,4 +153,4 @@ by_words (w ∷ ws) text = by_name w ws text
 
 -- what a line says: no command where it has no words
 unfoldable pub command_of : List ℕ → Result (Option Command) CommandFault
-command_of line = by_words (words line) (trimmed (after_words 2 line))
+command_of line = by_words (words_of line) (trimmed (after_words 2 line))

@@ -19,8 +19,8 @@ pub data OwnOutput (files : FileMap) : View → List (List ℕ) → List ℕ →
       → OwnOutput files m (l ∷ ls) (reply.0 ++ rest)
 
 -- a reply stands in a text
-abbrev pub Stands : List ℕ → List ℕ → Type 0
-Stands reply text = (before after : List ℕ) × (text ≡ before ++ (reply ++ after))
+abbrev pub IsPartOf : List ℕ → List ℕ → Type 0
+IsPartOf reply text = (before after : List ℕ) × (text ≡ before ++ (reply ++ after))
 
 -- some lines have one output at most
 abbrev pub OneOutput : Type 0
@@ -39,4 +39,4 @@ OwnIsOutput = (files : FileMap) (m : View) (f : ℕ) (ls : List (List ℕ)) (t :
 -- an output in which neither of the two other replies stands is that one
 abbrev pub NoOther : Type 0
 NoOther = (files : FileMap) (m : View) (f g : ℕ) (ls : List (List ℕ)) (t : List ℕ) → Output files m f ls t g
-    → ¬ Stands memory_text t → ¬ Stands (load_fault_text Device) t → OwnOutput files m ls t
+    → ¬ IsPartOf memory_text t → ¬ IsPartOf (load_fault_text Device) t → OwnOutput files m ls t

@@ -79,8 +79,8 @@ IsUnread (Ok (Some (LoadCapture name))) = Unit {0}
 IsUnread _ = ⊥
 
 -- one failure was counted, or the count stays at its greatest value
-abbrev pub Failed : ℕ → ℕ → Type 0
-Failed f g = (f ≤ g) × (g ≡ min (f + 1) (2 ^ 64 - 1))
+abbrev pub CountsFailure : ℕ → ℕ → Type 0
+CountsFailure f g = (f ≤ g) × (g ≡ min (f + 1) (2 ^ 64 - 1))
 
 -- a line's reply, while the count of failures goes from f to g: its own, or in its place `error: out of memory`
 -- or F2. One failure is counted at F2, and none at the others
@@ -88,4 +88,4 @@ pub data LineReplies (files : FileMap) (m : View) (f g : ℕ) (said : Result (Op
     (reply : Reply) : Type 0 where
   own : g ≡ f → OwnReply files m said reply → LineReplies files m f g said reply
   unheld : g ≡ f → IsUnheld m said → reply ≡ (memory_text, m) → LineReplies files m f g said reply
-  unread : Failed f g → IsUnread said → reply ≡ (load_fault_text Device, m) → LineReplies files m f g said reply
+  unread : CountsFailure f g → IsUnread said → reply ≡ (load_fault_text Device, m) → LineReplies files m f g said reply

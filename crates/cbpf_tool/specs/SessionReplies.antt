@@ -32,9 +32,9 @@ reply_text text (Ok r) = text r
 reply_text text (Err e) = fault_text e
 
 -- an instruction of a program that is loaded
-abbrev pub IsInstruction : Option (List Insn) → ℕ → Type 0
-IsInstruction None n = ⊥
-IsInstruction (Some list) n = n < length list
+abbrev pub HasInstruction : Option (List Insn) → ℕ → Type 0
+HasInstruction None n = ⊥
+HasInstruction (Some list) n = n < length list
 
 -- `disassemble`, of the program that is loaded
 unfoldable pub listing_text : Option (List Insn) → List ℕ

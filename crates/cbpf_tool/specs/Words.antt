@@ -9,10 +9,10 @@ begins_word [] = false
 begins_word (b ∷ bs) = not (is_blank b)
 
 -- the longest runs of bytes that are no blanks
-unfoldable pub words : List ℕ → List (List ℕ)
-words [] = []
-words (b ∷ bs) =
-    if is_blank b then words bs else (if begins_word bs then put_front b (words bs) else ((b ∷ []) ∷ words bs))
+unfoldable pub words_of : List ℕ → List (List ℕ)
+words_of [] = []
+words_of (b ∷ bs) =
+    if is_blank b then words_of bs else (if begins_word bs then put_front b (words_of bs) else ((b ∷ []) ∷ words_of bs))
 
 -- the text after its first n words
 unfoldable pub after_words : ℕ → List ℕ → List ℕ

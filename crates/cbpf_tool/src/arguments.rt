@@ -1,6 +1,6 @@
 // The words after a command's first one.
-ghost use Rattle.cbpf_tool.specs.Words.{words};
-ghost use Rattle.cbpf_tool.specs.Arguments.{Holds};
+ghost use Rattle.cbpf_tool.specs.Words.{words_of};
+ghost use Rattle.cbpf_tool.specs.Arguments.{AreArguments};
 
 use crate::scan::next_word;
 
@@ -16,7 +16,7 @@ pub enum Arguments<'a> {
 
 /// The words of a text.
 pub(crate) fn arguments_in(text: &[u8]) -> Arguments<'_>
-    ensures { Holds (words text.now) result }
+    ensures { AreArguments (words_of text.now) result }
 {
     let Some((first, text)) = next_word(text) else {
         return Arguments::Zero;

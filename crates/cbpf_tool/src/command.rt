@@ -2,12 +2,12 @@
 ghost use Rattle.std.specs.Prelude.{◌≡◌, ℕ, List};
 ghost use Rattle.cbpf_code.specs.Extension.{ext_table};
 ghost use Rattle.cbpf_tool.specs.Commands as spec;
-ghost use Rattle.cbpf_tool.specs.Words.{words, after_words, trimmed};
-ghost use Rattle.cbpf_tool.specs.Arguments.{Holds};
+ghost use Rattle.cbpf_tool.specs.Words.{words_of, after_words, trimmed};
+ghost use Rattle.cbpf_tool.specs.Arguments.{AreArguments};
 
 use crate::arguments::{Arguments, arguments_in};
 use crate::lent::{Name, Text};
-use crate::number::{number, number_32, signed_number};
+use crate::number::{number_32, number_up_to, signed_number};
 use crate::scan::{next_word, trimmed};
 use cbpf_code::{Ext, ext_named};
 use cbpf_dbg::{Place, When};
@@ -77,7 +77,7 @@ impl Command<'_> {
 
 /// A command that has no arguments, if there are none.
 fn alone(arguments: Arguments<'_>, command: SessionCommand) -> Option<SessionCommand>
-    ensures { (ws : List (List ℕ)) → Holds ws arguments.entry → result ≡ spec.alone command ws }
+    ensures { (ws : List (List ℕ)) → AreArguments ws arguments.entry → result ≡ spec.alone command ws }
 {
     match arguments {
         Arguments::Zero => Some(command),
@@ -86,7 +86,7 @@ fn alone(arguments: Arguments<'_>, command: SessionCommand) -> Option<SessionCom
 }
 
 fn quit_by(arguments: Arguments<'_>) -> Option<Command<'_>>
-    ensures { (ws : List (List ℕ)) → Holds ws arguments.entry → result ≡ spec.quit_by ws }
+    ensures { (ws : List (List ℕ)) → AreArguments ws arguments.entry → result ≡ spec.quit_by ws }
 {
     match arguments {
         Arguments::Zero => Some(Command::Quit),
@@ -96,35 +96,35 @@ fn quit_by(arguments: Arguments<'_>) -> Option<Command<'_>>
 
 /// The one argument, a number.
 fn sole_number(arguments: Arguments<'_>) -> Option<u64>
-    ensures { (ws : List (List ℕ)) → Holds ws arguments.entry → result ≡ spec.sole_number ws }
+    ensures { (ws : List (List ℕ)) → AreArguments ws arguments.entry → result ≡ spec.sole_number ws }
 {
     match arguments {
-        Arguments::One(word) => number(word, u64::MAX),
+        Arguments::One(word) => number_up_to(word, u64::MAX),
         _ => None,
     }
 }
 
 fn run_by(arguments: Arguments<'_>) -> Option<SessionCommand>
-    ensures { (ws : List (List ℕ)) → Holds ws arguments.entry → result ≡ spec.run_by ws }
+    ensures { (ws : List (List ℕ)) → AreArguments ws arguments.entry → result ≡ spec.run_by ws }
 {
     match arguments {
         Arguments::Zero => Some(SessionCommand::Run(None)),
-        Arguments::One(word) => Some(SessionCommand::Run(Some(number(word, u64::MAX)?))),
+        Arguments::One(word) => Some(SessionCommand::Run(Some(number_up_to(word, u64::MAX)?))),
         _ => None,
     }
 }
 
 fn breakpoint_by(arguments: Arguments<'_>) -> Option<SessionCommand>
-    ensures { (ws : List (List ℕ)) → Holds ws arguments.entry → result ≡ spec.breakpoint_by ws }
+    ensures { (ws : List (List ℕ)) → AreArguments ws arguments.entry → result ≡ spec.breakpoint_by ws }
 {
     match arguments {
         Arguments::Zero => Some(SessionCommand::Breakpoints),
         Arguments::One(b"reset") => Some(SessionCommand::ResetBreakpoints),
         Arguments::One(word) => {
-            Some(SessionCommand::Breakpoint(number(word, u64::MAX)?, When::Always))
+            Some(SessionCommand::Breakpoint(number_up_to(word, u64::MAX)?, When::Always))
         }
         Arguments::Three(n, register, v) => Some(SessionCommand::Breakpoint(
-            number(n, u64::MAX)?,
+            number_up_to(n, u64::MAX)?,
             condition(register, number_32(v)?)?,
         )),
         _ => None,
@@ -143,13 +143,13 @@ fn condition(register: &[u8], v: u32) -> Option<When>
 }
 
 fn delete_by(arguments: Arguments<'_>) -> Option<SessionCommand>
-    ensures { (ws : List (List ℕ)) → Holds ws arguments.entry → result ≡ spec.delete_by ws }
+    ensures { (ws : List (List ℕ)) → AreArguments ws arguments.entry → result ≡ spec.delete_by ws }
 {
     Some(SessionCommand::Delete(sole_number(arguments)?))
 }
 
 fn step_by(arguments: Arguments<'_>) -> Option<SessionCommand>
-    ensures { (ws : List (List ℕ)) → Holds ws arguments.entry → result ≡ spec.step_by ws }
+    ensures { (ws : List (List ℕ)) → AreArguments ws arguments.entry → result ≡ spec.step_by ws }
 {
     match arguments {
         Arguments::Zero => Some(SessionCommand::Step(1)),
@@ -159,17 +159,17 @@ fn step_by(arguments: Arguments<'_>) -> Option<SessionCommand>
 }
 
 fn select_by(arguments: Arguments<'_>) -> Option<SessionCommand>
-    ensures { (ws : List (List ℕ)) → Holds ws arguments.entry → result ≡ spec.select_by ws }
+    ensures { (ws : List (List ℕ)) → AreArguments ws arguments.entry → result ≡ spec.select_by ws }
 {
     Some(SessionCommand::Select(sole_number(arguments)?))
 }
 
 fn resume_by(arguments: Arguments<'_>) -> Option<SessionCommand>
-    ensures { (ws : List (List ℕ)) → Holds ws arguments.entry → result ≡ spec.resume_by ws }
+    ensures { (ws : List (List ℕ)) → AreArguments ws arguments.entry → result ≡ spec.resume_by ws }
 {
     match arguments {
         Arguments::Two(packet, step) => Some(SessionCommand::Resume(Place {
-            packet: number(packet, u64::MAX)?,
+            packet: number_up_to(packet, u64::MAX)?,
             step: number_32(step)?,
         })),
         _ => None,
@@ -177,7 +177,7 @@ fn resume_by(arguments: Arguments<'_>) -> Option<SessionCommand>
 }
 
 fn value_by(arguments: Arguments<'_>) -> Option<SessionCommand>
-    ensures { (ws : List (List ℕ)) → Holds ws arguments.entry → result ≡ spec.value_by ws }
+    ensures { (ws : List (List ℕ)) → AreArguments ws arguments.entry → result ≡ spec.value_by ws }
 {
     match arguments {
         Arguments::Two(name, n) => Some(SessionCommand::Value(
@@ -217,7 +217,7 @@ fn name_in(text: &[u8]) -> Option<Command<'_>>
 }
 
 fn load_by(text: &[u8]) -> Option<Command<'_>>
-    ensures { result ≡ spec.load_by (words text.now) (trimmed (after_words 1 text.now)) }
+    ensures { result ≡ spec.load_by (words_of text.now) (trimmed (after_words 1 text.now)) }
 {
     let (kind, rest) = next_word(text)?;
     match kind {
@@ -252,7 +252,7 @@ fn session_or_wrong<'a>(
 /// The command of this name with what stands after it. Each command's name is ASCII, so a word that isn't UTF-8 is none.
 #[tactic(auto, using(crate::proofs::CommandLemmas::unknown))]
 fn command_by<'a>(name: &[u8], text: &'a [u8]) -> Result<Option<Command<'a>>, CommandFault>
-    ensures { result ≡ spec.by_name name.now (words text.now) (trimmed (after_words 1 text.now)) }
+    ensures { result ≡ spec.by_name name.now (words_of text.now) (trimmed (after_words 1 text.now)) }
 {
     match from_utf8(name) {
         Ok(name) => command_named(name, text),
@@ -262,7 +262,7 @@ fn command_by<'a>(name: &[u8], text: &'a [u8]) -> Result<Option<Command<'a>>, Co
 
 /// The command of a name that is UTF-8. It is compared as `str`: bytes are compared one by one, in many more steps of the proof.
 fn command_named<'a>(name: &str, text: &'a [u8]) -> Result<Option<Command<'a>>, CommandFault>
-    ensures { result ≡ spec.by_name name.now (words text.now) (trimmed (after_words 1 text.now)) }
+    ensures { result ≡ spec.by_name name.now (words_of text.now) (trimmed (after_words 1 text.now)) }
 {
     let arguments = arguments_in(text);
     let command = match name {

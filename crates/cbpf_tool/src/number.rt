@@ -7,8 +7,8 @@ use cbpf_code::is_digit;
 /// The decimal number that a word spells, of those up to `most`. Zeros may stand in front, as many as
 /// there are.
 #[tactic(auto, using(crate::proofs::NumberLemmas::numbers))]
-pub(crate) fn number(word: &[u8], most: u64) -> Option<u64>
-    ensures { result ≡ spec.number most word.now }
+pub(crate) fn number_up_to(word: &[u8], most: u64) -> Option<u64>
+    ensures { result ≡ spec.number_up_to most word.now }
 {
     if word.is_empty() {
         return None;
@@ -25,9 +25,9 @@ pub(crate) fn number(word: &[u8], most: u64) -> Option<u64>
 
 /// The same of 32 bits.
 pub(crate) fn number_32(word: &[u8]) -> Option<u32>
-    ensures { result ≡ spec.number (2 ^ 32 - 1) word.now }
+    ensures { result ≡ spec.number_up_to (2 ^ 32 - 1) word.now }
 {
-    Some(number(word, u64::from(u32::MAX))? as u32)
+    Some(number_up_to(word, u64::from(u32::MAX))? as u32)
 }
 
 /// The number that a word spells with or without a sign in front, of at most 9223372036854775807 and
@@ -36,8 +36,8 @@ pub(crate) fn signed_number(word: &[u8]) -> Option<i64>
     ensures { result ≡ spec.signed_number (2 ^ 63 - 1) word.now }
 {
     match word {
-        [b'+', digits @ ..] => Some(number(digits, i64::MAX as u64)? as i64),
-        [b'-', digits @ ..] => Some(-(number(digits, i64::MAX as u64)? as i64)),
-        digits => Some(number(digits, i64::MAX as u64)? as i64),
+        [b'+', digits @ ..] => Some(number_up_to(digits, i64::MAX as u64)? as i64),
+        [b'-', digits @ ..] => Some(-(number_up_to(digits, i64::MAX as u64)? as i64)),
+        digits => Some(number_up_to(digits, i64::MAX as u64)? as i64),
     }
 }

@@ -121,7 +121,7 @@ fn write_set<A: Allocator, W: Write>(
     n: u64,
     when: When,
 ) -> Result<(), WriteFault>
-    requires { spec.IsInstruction session.now.program n }
+    requires { spec.HasInstruction session.now.program n }
     ensures { Wrote (W.contents w.old) (W.contents w.new) result (set_in session.now.program n when) }
 {
     match session.program() {

@@ -51,8 +51,8 @@ fn word_len(text: &[u8]) -> usize
 /// The first word, and what stands after it.
 #[tactic(auto, using(crate::proofs::WordLemmas::firsts))]
 pub(crate) fn next_word(text: &[u8]) -> Option<(&[u8], &[u8])>
-    ensures words { MatchOption result (spec.words text.now ≡ [])
-        (λ r. spec.words text.now ≡ r.0.now ∷ spec.words r.1.now) }
+    ensures words { MatchOption result (spec.words_of text.now ≡ [])
+        (λ r. spec.words_of text.now ≡ r.0.now ∷ spec.words_of r.1.now) }
     ensures rest { IfSome result (λ r. (n : ℕ) → spec.after_words (suc n) text.now ≡ spec.after_words n r.1.now) }
 {
     let begun = trim_start(text);

@@ -10,7 +10,7 @@ use Rattle.pcap_classic.specs.declared.captured.Front.TheVariants.{Nothing, Part
 use Rattle.pcap_classic.specs.Records.{Record, record_at, record_length}
 use Rattle.pcap_classic.specs.Scan.{front_of, contents}
 use Rattle.pcap_classic.specs.Numbers.{number_at}
-use Rattle.pcap_classic.specs.Index.{Reaches, ending_by}
+use Rattle.pcap_classic.specs.Index.{IsRecordStart, ending_by}
 use Rattle.pcap_classic.proofs.HoldsLemmas.{AtFront, at_front, contents-hold, more-whole}
 
 slice_get-drop_head : {X : Type 0} (xs : List X) (i : ℕ) (x : X) (rest : List X) → drop i xs ≡ x ∷ rest
@@ -21,7 +21,7 @@ slice_get-drop_head (y ∷ xs) zero x rest h = (cc, cc)
 slice_get-drop_head (y ∷ xs) (suc i) x rest h = rw add-one (rw add-one at (slice_get-drop_head xs i x rest h))
 
 -- the first record, or the end, stands after the file header
-pub reaches_first : (order : Endianness) (file : List ℕ) → 24 ≤ length file → Reaches order file 0 24
+pub reaches_first : (order : Endianness) (file : List ℕ) → 24 ≤ length file → IsRecordStart order file 0 24
 reaches_first order file h =
     record {
       inside = h;
@@ -35,10 +35,10 @@ pub record Onward (order : Endianness) (file : List ℕ) (i place size : ℕ) : 
   pub within : size ≤ length (drop place file)
   pub inside : place + size ≤ length file
   pub found : slice_get (contents order file).records i ≡ Some (record_at order (i + 1) place (drop place file))
-  pub next : Reaches order file (i + 1) (place + size)
+  pub next : IsRecordStart order file (i + 1) (place + size)
 
 -- a whole record is the next one of the file, and the one after it, or the end, stands behind it
-pub onward : (order : Endianness) (file : List ℕ) (i place size : ℕ) → Reaches order file i place
+pub onward : (order : Endianness) (file : List ℕ) (i place size : ℕ) → IsRecordStart order file i place
     → front_of order (drop place file) ≡ WholeRecord size → Onward order file i place size
 onward order file i place size here whole =
     let front = rw whole at (at_front order _ _ _ _ _ here.rest) in
@@ -58,7 +58,7 @@ onward order file i place size here whole =
     }
 
 -- before the last record a whole record is in front
-pub onward_more : (order : Endianness) (file : List ℕ) (i place : ℕ) → Reaches order file i place
+pub onward_more : (order : Endianness) (file : List ℕ) (i place : ℕ) → IsRecordStart order file i place
     → i < length (contents order file).records → Onward order file i place (record_length order (drop place file))
 onward_more order file i place here more =
     let left = length-drop i (contents order file).records in
@@ -69,7 +69,7 @@ pub record IsEnd (order : Endianness) (file : List ℕ) (i place : ℕ) (front :
   pub ending : ending_by front place ≡ (contents order file).ending
 
 -- with no whole record in front the file ends
-pub reaches_end : (order : Endianness) (file : List ℕ) (i place : ℕ) → Reaches order file i place
+pub reaches_end : (order : Endianness) (file : List ℕ) (i place : ℕ) → IsRecordStart order file i place
     → ((size : ℕ) → front_of order (drop place file) ≡ WholeRecord size → ⊥)
     → IsEnd order file i place (front_of order (drop place file))
 reaches_end order file i place here none =
@@ -90,7 +90,7 @@ reaches_end order file i place here none =
     by PartOfData none there = ended PartOfData there.0 there.1
 
 stands : (order : Endianness) (file : List ℕ) (i : ℕ) → 24 ≤ length file → i ≤ length (contents order file).records
-    → (place : ℕ) × Reaches order file i place
+    → (place : ℕ) × IsRecordStart order file i place
 stands order file zero long h = (24, reaches_first order file long)
 stands order file (suc i) long h =
     let before = stands order file i long (omega arith) in
@@ -100,7 +100,7 @@ stands order file (suc i) long h =
 -- the number of a record of the file, and the place after it
 pub record After (order : Endianness) (file : List ℕ) (i : ℕ) (r : Record) : Type 0 where
   pub number : r.number ≡ i + 1
-  pub there : Reaches order file (i + 1) (r.start + 16 + length r.bytes)
+  pub there : IsRecordStart order file (i + 1) (r.start + 16 + length r.bytes)
 
 pub after : (order : Endianness) (file : List ℕ) (i : ℕ) (r : Record) → 24 ≤ length file
     → slice_get (contents order file).records i ≡ Some r → After order file i r

@@ -2,7 +2,7 @@
 use Rattle.std.proofs.Common.{◌≡◌, ℕ, zero, suc, ◌+◌, ◌-◌, ◌<◌, ◌≤◌, List, [], ◌∷◌, length, drop, take, arith, refl, add-one}
 use Rattle.std.specs.Prelude.{Some, None, slice_get}
 use Rattle.pcap_classic.specs.declared.captured.Endianness.{Endianness}
-use Rattle.pcap_classic.specs.Index.{IsWalk, Reaches}
+use Rattle.pcap_classic.specs.Index.{IsWalk, IsRecordStart}
 use Rattle.pcap_classic.specs.Records.{Record}
 use Rattle.pcap_classic.specs.Scan.{contents}
 use Rattle.pcap_classic.proofs.ReachLemmas.{after}
@@ -46,7 +46,7 @@ goes order file place number end r walk first =
     let one = walk.from_one before in
     let there = after order file (number - 1) r walk.long head.is in
     let on : number - 1 + 1 ≡ number + 1 - 1 = omega (arith, one) in
-    let next : Reaches order file (number + 1 - 1) (r.start + 16 + length r.bytes) = rw on at there.there in
+    let next : IsRecordStart order file (number + 1 - 1) (r.start + 16 + length r.bytes) = rw on at there.there in
     record {
       left = rw on at head.left;
       walk = record {

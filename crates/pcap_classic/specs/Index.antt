@@ -10,7 +10,7 @@ use Rattle.pcap_classic.specs.declared.captured.Front.TheVariants.{Nothing, Part
 use Rattle.pcap_classic.specs.declared.index.TheConstants.{STRIDE}
 
 -- the record after the first i ones stands at this place of the file, or would if there were one more
-pub record Reaches (order : Endianness) (file : List ℕ) (i place : ℕ) : Type 0 where
+pub record IsRecordStart (order : Endianness) (file : List ℕ) (i place : ℕ) : Type 0 where
   pub inside : place ≤ length file
   pub passed : i ≤ length (contents order file).records
   pub rest : Holds order (i + 1) place (drop place file) (drop i (contents order file).records)
@@ -20,15 +20,15 @@ pub record Reaches (order : Endianness) (file : List ℕ) (i place : ℕ) : Type
 pub record AreKept (order : Endianness) (file : List ℕ) (starts : List ℕ) (count : ℕ) : Type 0 where
   pub enough : count ≤ STRIDE * length starts
   pub no_more : STRIDE * length starts < count + STRIDE
-  pub each : (j : ℕ) → j < length starts → Reaches order file (STRIDE * j) (slice_index starts j)
+  pub each : (j : ℕ) → j < length starts → IsRecordStart order file (STRIDE * j) (slice_index starts j)
 
 -- the starts are the places of the records 1, 65, 129 and so on, as far as they go
 pub record AreStarts (order : Endianness) (file : List ℕ) (starts : List ℕ) : Type 0 where
-  pub each : (j : ℕ) → j < length starts → Reaches order file (STRIDE * j) (slice_index starts j)
+  pub each : (j : ℕ) → j < length starts → IsRecordStart order file (STRIDE * j) (slice_index starts j)
 
 -- the first `count` records have all this length
 pub record AreEven (order : Endianness) (file : List ℕ) (size count : ℕ) : Type 0 where
-  pub each : (i : ℕ) → i ≤ count → Reaches order file i (24 + i * size)
+  pub each : (i : ℕ) → i ≤ count → IsRecordStart order file i (24 + i * size)
 
 -- the number of records, the places of the records 1, 65, 129 and so on, and how the file ends
 pub record IsIndex (order : Endianness) (file : List ℕ) (count : ℕ) (starts : List ℕ) (how : Ending) : Type 0 where
@@ -51,4 +51,4 @@ pub record IsWalk (order : Endianness) (file : List ℕ) (place number end : ℕ
   pub ordered : number ≤ end
   pub within : end ≤ length (contents order file).records + 1
   pub from_one : number < end → 1 ≤ number
-  pub there : number < end → Reaches order file (number - 1) place
+  pub there : number < end → IsRecordStart order file (number - 1) place

@@ -6,10 +6,10 @@ use Rattle.pcap_classic.specs.declared.captured.Endianness.{Endianness}
 use Rattle.pcap_classic.specs.declared.captured.Endianness.TheVariants.{Big, Little}
 
 -- the number in the first n bytes
-abbrev pub number : Endianness → ℕ → List ℕ → ℕ
-number Big n bytes = big_number n bytes
-number Little n bytes = little_number n bytes
+abbrev pub number_in_order : Endianness → ℕ → List ℕ → ℕ
+number_in_order Big n bytes = big_number n bytes
+number_in_order Little n bytes = little_number n bytes
 
 -- the number in the n bytes from a place on
 abbrev pub number_at : Endianness → ℕ → ℕ → List ℕ → ℕ
-number_at order place n bytes = number order n (drop place bytes)
+number_at order place n bytes = number_in_order order n (drop place bytes)

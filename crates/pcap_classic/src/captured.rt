@@ -1,9 +1,9 @@
 //! A record, borrowed from a capture.
 
 ghost use Rattle.std.specs.Prelude.{◌≡◌, ◌≤◌, ◌-◌, length, slice_get, Some};
-ghost use Rattle.pcap_classic.specs.Index.{Reaches};
+ghost use Rattle.pcap_classic.specs.Index.{IsRecordStart};
 ghost use Rattle.pcap_classic.specs.Lent.{record_of};
-ghost use Rattle.pcap_classic.specs.Numbers.{number};
+ghost use Rattle.pcap_classic.specs.Numbers.{number_in_order};
 ghost use Rattle.pcap_classic.specs.Records as records;
 ghost use Rattle.pcap_classic.specs.Scan as spec;
 
@@ -49,7 +49,7 @@ fn front_record(order: Endianness, number: u64, start: usize, bytes: &[u8]) -> C
 pub(crate) fn record_at(order: Endianness, file: &[u8], number: u64, start: usize) -> Captured<'_>
     requires from_one { 1 ≤ number }
     requires within { number ≤ length (spec.contents order file.now).records }
-    requires there { Reaches order file.now (number - 1) start }
+    requires there { IsRecordStart order file.now (number - 1) start }
     ensures record { slice_get (spec.contents order file.entry.now).records (number - 1) ≡ Some (record_of result) }
     ensures number { result.number ≡ number }
 {
@@ -113,7 +113,7 @@ impl Endianness {
     #[inline]
     pub(crate) fn read_u16(self, bytes: &[u8]) -> u16
         requires { 2 ≤ length bytes.now }
-        ensures { result ≡ number self 2 bytes.now }
+        ensures { result ≡ number_in_order self 2 bytes.now }
     {
         match self {
             Endianness::Big => BigEndian::read_u16(bytes),
@@ -125,7 +125,7 @@ impl Endianness {
     #[inline(always)]
     pub(crate) fn read_u32(self, bytes: &[u8]) -> u32
         requires { 4 ≤ length bytes.now }
-        ensures { result ≡ number self 4 bytes.now }
+        ensures { result ≡ number_in_order self 4 bytes.now }
     {
         match self {
             Endianness::Big => BigEndian::read_u32(bytes),

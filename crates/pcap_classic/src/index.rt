@@ -1,7 +1,7 @@
 //! The passes over the headers of all records, and the way from a kept start to a later one.
 
 ghost use Rattle.std.specs.Prelude.{◌≡◌, ◌≤◌, ◌<◌, ◌+◌, ◌-◌, ◌*◌, ◌^◌, ◌↔◌, ℕ, List, length, drop, true, IfOk};
-ghost use Rattle.pcap_classic.specs.Index.{IsIndex, AreEven, AreKept, AreStarts, Reaches, ending_by};
+ghost use Rattle.pcap_classic.specs.Index.{IsIndex, AreEven, AreKept, AreStarts, IsRecordStart, ending_by};
 ghost use Rattle.pcap_classic.specs.Scan as spec;
 ghost use Rattle.pcap_classic.specs.declared.captured.Front.TheVariants.{WholeRecord};
 
@@ -59,7 +59,7 @@ type Starts = ArrayVec<usize, 8000>;
 /// Keeps the place of the record after `count` others, where it is the next one to keep.
 #[inline(always)]
 fn keep_start(starts: &mut Starts, count: u64, place: usize)
-    ensures { (order : Endianness) → (file : List ℕ) → Reaches order file count place →
+    ensures { (order : Endianness) → (file : List ℕ) → IsRecordStart order file count place →
         AreStarts order file starts.old.items → AreStarts order file starts.new.items }
 {
     if count % STRIDE == 0 && count / STRIDE == starts.len() as u64 {
@@ -83,10 +83,10 @@ fn pass_repeats(
     starts: &mut Starts,
     from: Passed,
 ) -> Passed
-    requires here { Reaches order file.now from.count from.place }
+    requires here { IsRecordStart order file.now from.count from.place }
     requires few { 16 * from.count + 24 ≤ from.place }
     requires kept { AreStarts order file.now starts.old.items }
-    ensures here { Reaches order file.now result.count result.place }
+    ensures here { IsRecordStart order file.now result.count result.place }
     ensures few { 16 * result.count + 24 ≤ result.place }
     ensures kept { AreStarts order file.now starts.new.items }
     ensures on { from.place ≤ result.place }
@@ -107,10 +107,10 @@ fn pass_repeats(
 
 /// Passes all records from a place on.
 fn pass_all(order: Endianness, file: &[u8], starts: &mut Starts, from: Passed) -> Passed
-    requires here { Reaches order file.now from.count from.place }
+    requires here { IsRecordStart order file.now from.count from.place }
     requires few { 16 * from.count + 24 ≤ from.place }
     requires kept { AreStarts order file.now starts.old.items }
-    ensures here { Reaches order file.now result.count result.place }
+    ensures here { IsRecordStart order file.now result.count result.place }
     ensures few { 16 * result.count + 24 ≤ result.place }
     ensures kept { AreStarts order file.now starts.new.items }
     ensures end { (size : ℕ) → spec.front_of order (drop result.place file.now) ≡ WholeRecord size → ⊥ }
@@ -154,12 +154,12 @@ fn start_after(
     from: Passed,
     count: u64,
 ) -> usize
-    requires here { Reaches order file.now from.count from.place }
+    requires here { IsRecordStart order file.now from.count from.place }
     requires ahead { from.count ≤ count }
     requires within { count ≤ length (spec.contents order file.now).records }
     requires kept { AreStarts order file.now starts.now }
     requires even { AreEven order file.now run.length run.count }
-    ensures { Reaches order file.now count result }
+    ensures { IsRecordStart order file.now count result }
 {
     if count <= run.count {
         return FILE_HEADER + count as usize * run.length;
@@ -245,10 +245,10 @@ pub(crate) fn index_of<A: Allocator>(
 
 /// The place of record `to`, counted from 0, by that of record `from`.
 pub(crate) fn place_of(order: Endianness, file: &[u8], from: u64, start: usize, to: u64) -> usize
-    requires start { Reaches order file.now from start }
+    requires start { IsRecordStart order file.now from start }
     requires ahead { from ≤ to }
     requires within { to ≤ length (spec.contents order file.now).records }
-    ensures { Reaches order file.now to result }
+    ensures { IsRecordStart order file.now to result }
 {
     let mut place = start;
     'records: for _i in from..to {
@@ -263,7 +263,7 @@ pub(crate) fn start_of(order: Endianness, file: &[u8], starts: &[usize], number:
     requires from_one { 1 ≤ number }
     requires within { number ≤ length (spec.contents order file.now).records }
     requires kept { AreKept order file.now starts.now (length (spec.contents order file.now).records) }
-    ensures { Reaches order file.now (number - 1) result }
+    ensures { IsRecordStart order file.now (number - 1) result }
 {
     let kept = (number - 1) / STRIDE;
     let start = starts[kept as usize];

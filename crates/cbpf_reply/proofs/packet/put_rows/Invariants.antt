@@ -1,12 +1,12 @@
 use Rattle.std.proofs.Common.{◌≡◌, ◌≤◌, ◌+◌, ◌-◌, ◌*◌, ◌++◌, length}
-use Rattle.cbpf_reply.specs.Packet.{texts_from, row}
+use Rattle.cbpf_reply.specs.Packet.{texts_from, packet_row}
 use Rattle.cbpf_reply.proofs.packet.put_rows.Given as goal
 
 abbrev pub invariant-loop-r : goal.invariant-loop-r
 invariant-loop-r l = record {
   from : l.from ≤ l.r;
   within : l.r ≤ l.to;
-  text : l.line ≡ texts_from (row l.bytes) l.r (l.to - l.r) ++ l.initial.line;
+  text : l.line ≡ texts_from (packet_row l.bytes) l.r (l.to - l.r) ++ l.initial.line;
   grown : length l.line + 75 * l.r ≤ length l.initial.line + 75 * l.to;
 }
 

@@ -1,11 +1,11 @@
 use Rattle.std.proofs.Common.{◌-◌, ◌+◌, ◌*◌, ◌<◌, ◌≤◌, length}
-use Rattle.pcap_classic.specs.Index.{Reaches, AreStarts}
+use Rattle.pcap_classic.specs.Index.{IsRecordStart, AreStarts}
 use Rattle.pcap_classic.proofs.index.pass_all.Given as goal
 
 abbrev pub invariant-records : goal.invariant-records
 invariant-records l =
     record {
-      here : Reaches l.order l.file l.count l.place;
+      here : IsRecordStart l.order l.file l.count l.place;
       kept : AreStarts l.order l.file l.starts.items;
       few : 16 * l.count + 24 ≤ l.place;
       repeated : l.repeats < 4;

@@ -1,11 +1,11 @@
 use Rattle.std.proofs.Common.{◌≡◌, ◌-◌, ◌+◌, ◌*◌, ◌≤◌, length}
-use Rattle.pcap_classic.specs.Index.{Reaches, AreStarts, AreEven}
+use Rattle.pcap_classic.specs.Index.{IsRecordStart, AreStarts, AreEven}
 use Rattle.pcap_classic.proofs.index.pass_repeats.Given as goal
 
 abbrev pub invariant-repeats : goal.invariant-repeats
 invariant-repeats l =
     record {
-      here : Reaches l.order l.file l.count l.place;
+      here : IsRecordStart l.order l.file l.count l.place;
       kept : AreStarts l.order l.file l.starts.items;
       few : 16 * l.count + 24 ≤ l.place;
       on : l.initial.place ≤ l.place;

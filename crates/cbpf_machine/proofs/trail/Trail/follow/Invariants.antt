@@ -3,7 +3,7 @@ use Rattle.cbpf_code.specs.Sound.{IsSound}
 use Rattle.cbpf_machine.specs.Core.{registers}
 use Rattle.cbpf_machine.specs.Machine.{machine_of}
 use Rattle.cbpf_machine.specs.Trace.{trace}
-use Rattle.cbpf_machine.specs.Follow.{Goes, Unpaused, is_watched}
+use Rattle.cbpf_machine.specs.Follow.{IsOnTrace, Unpaused, is_watched}
 use Rattle.cbpf_machine.proofs.trail.Trail.follow.Given as goal
 
 -- the state is the last entry kept, after so many turns, and none of the new ones is watched
@@ -13,7 +13,7 @@ invariant-follow g l =
       sound : IsSound l.p;
       from_one : 1 ≤ g.Self.Trail.kept l.self;
       kept : g.Self.Trail.kept l.self ≡ g.Self.Trail.kept l.fn.self + l.made;
-      here : Goes (machine_of l.p l.values) l.packet.bytes.now l.packet.wire
+      here : IsOnTrace (machine_of l.p l.values) l.packet.bytes.now l.packet.wire
           (trace (machine_of l.p l.values) l.packet.bytes.now l.packet.wire) (g.Self.Trail.kept l.self - 1)
           (registers l.here l.slots);
       stands : g.Self.Trail.stands_for l.self (take (g.Self.Trail.kept l.self)

@@ -1,10 +1,10 @@
 use Rattle.std.proofs.Common.{◌≡◌, take, true}
 use Rattle.std.specs.List.{list_all}
-use Rattle.cbpf_code.specs.WordTokens.{is_digit, number as value}
-use Rattle.cbpf_tool.proofs.number.number.Given as goal
+use Rattle.cbpf_code.specs.WordTokens.{is_digit, decimal_value}
+use Rattle.cbpf_tool.proofs.number.number_up_to.Given as goal
 
 abbrev pub invariant-loop-b : goal.invariant-loop-b
 invariant-loop-b l = record {
   digits : list_all is_digit (take l.b-index l.word) ≡ true;
-  sum : l.value ≡ value (take l.b-index l.word);
+  sum : l.value ≡ decimal_value (take l.b-index l.word);
 }

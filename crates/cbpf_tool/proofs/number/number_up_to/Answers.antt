@@ -1,6 +1,6 @@
 use Rattle.std.proofs.Common.{◌+◌, ◌∙◌, arith}
 use Rattle.cbpf_tool.proofs.NumberLemmas.{value-more, number-big}
-use Rattle.cbpf_tool.proofs.number.number.Goals as goal
+use Rattle.cbpf_tool.proofs.number.number_up_to.Goals as goal
 
 pub returns-in_err-checked_mul : goal.returns-in_err-checked_mul
 returns-in_err-checked_mul c =
