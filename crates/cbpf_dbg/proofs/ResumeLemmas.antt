@@ -1,6 +1,6 @@
 -- A place of a session is one that `resume` takes.
-use Rattle.std.proofs.Common.{◌≡◌, ℕ, zero, suc, ◌-◌, ◌<◌, ◌≤◌, List, [], ◌∷◌, arith, refl, ◌∙◌, cond}
-use Rattle.std.proofs.Common.{Bool, true, inl, inr, ◌⊎◌}
+use Rattle.std.proofs.Common.{◌≡◌, ℕ, zero, suc, ◌-◌, ◌<◌, ◌≤◌, List, [], ◌∷◌, length, ◌==◌, arith, refl, ◌∙◌, cond}
+use Rattle.std.proofs.Common.{Bool, true, false, inl, inr, ◌⊎◌}
 use Rattle.std.specs.Prelude.{Option, Some, None, Ok, Err, IsOk, is_some, slice_get, nat_le}
 use Rattle.std.proofs.lemmas.Bool.Decides.{nat_tests}
 use Rattle.std.proofs.lemmas.Option.{slice_get_within}
@@ -17,7 +17,7 @@ use Rattle.cbpf_dbg.specs.declared.cursor.Cursor.{Cursor}
 use Rattle.cbpf_dbg.specs.Cursor.{IsEntry}
 use Rattle.cbpf_dbg.specs.Session.{Fits, IsInside}
 use Rattle.cbpf_dbg.specs.View.{View}
-use Rattle.cbpf_dbg.specs.Commands.{Answer, with_packets, has_packet, steps_of, resume, IsResumable}
+use Rattle.cbpf_dbg.specs.Commands.{Answer, has_packet, steps_of, resume, IsResumable}
 
 steps-at : (machine : Machine) (capture : List Record) (p k : ℕ) (s : Registers)
     → (0 < k → IsEntry machine capture (record { packet = p; step = k }) s)
@@ -28,15 +28,15 @@ steps-at machine capture p (suc k) s h =
     let within = slice_get_within (trace machine e.0.bytes e.0.wire) (suc k - 1) s e.2 in
     rw e.1 (omega arith)
 
-ok-both : {X Y : Type 0} (b c : Bool) (x : X) (e f : Y) → b ≡ true → c ≡ true
-    → IsOk (cond b (cond c (Ok x) (Err e)) (Err f))
-ok-both b c x e f h g = rw (h, g) refl
+ok-all : {X Y : Type 0} (a b c : Bool) (x : X) (d e f : Y) → a ≡ false → b ≡ true → c ≡ true
+    → IsOk (cond a (Err d) (cond b (cond c (Ok x) (Err e)) (Err f)))
+ok-all a b c x d e f i h g = rw (i, h, g) refl
 
 -- the answer of `resume` where a packet and a step are there
 abbrev answer : Machine → List Record → Place → Unit {0} × View → Answer (Unit {0})
 answer machine capture place x =
     let steps = steps_of machine (slice_get capture (place.packet - 1)) in
-    with_packets capture (cond (has_packet capture place.packet)
+    cond (length capture == 0) (Err NoPackets) (cond (has_packet capture place.packet)
     (cond (nat_le place.step steps) (Ok x) (Err (NoStep steps))) (Err NoPacket))
 
 taken : (machine : Machine) (capture : List Record) (place : Place) (x : Unit {0} × View) → 1 ≤ place.packet
@@ -45,10 +45,9 @@ taken : (machine : Machine) (capture : List Record) (place : Place) (x : Unit {0
 taken machine [] place x one inside steps = inr refl
 taken machine (r ∷ more) place x one inside steps =
     let within = inside (omega arith) in
-    inl (ok-both (has_packet (r ∷ more) place.packet)
-    (nat_le place.step (steps_of machine (slice_get (r ∷ more) (place.packet - 1)))) x
-    (NoStep (steps_of machine (slice_get (r ∷ more) (place.packet - 1)))) NoPacket
-    (grind (arith, nat_tests)) (grind (arith, nat_tests)))
+    let steps_in = steps_of machine (slice_get (r ∷ more) (place.packet - 1)) in
+    inl (ok-all (length (r ∷ more) == 0) (has_packet (r ∷ more) place.packet) (nat_le place.step steps_in) x NoPackets
+    (NoStep steps_in) NoPacket (grind (arith, nat_tests)) (grind (arith, nat_tests)) (grind (arith, nat_tests)))
 
 pub resumable : (stands_for : List Registers → Type 0) (program : Option (List Insn)) (values : Values)
     (capture : Option Savefile) (w : Cursor) (m : View) → Fits stands_for program values capture w

@@ -1,7 +1,7 @@
 -- What each command of a session answers, which view it leaves, and how many turns it makes
 -- (the commands `run`, `breakpoint`, `step` and `select` are named in Linux Documentation/networking/filter;
 -- the rest is this project's own).
-use Rattle.std.specs.Prelude.{◌≡◌, ℕ, ◌+◌, ◌-◌, ◌≤◌, zero, suc, nat_lt, nat_le, nat_eq, is_some, ◌&&◌, Bool, true}
+use Rattle.std.specs.Prelude.{◌≡◌, ℕ, ◌+◌, ◌-◌, ◌≤◌, zero, suc, nat_lt, nat_le, nat_eq, is_some, ◌==◌, ◌&&◌, Bool, true}
 use Rattle.std.specs.Prelude.{List, [], ◌∷◌, ◌++◌, length, slice_get, Option, Some, None, Result, Ok, Err}
 use Rattle.std.specs.Prelude.{if◌then◌else◌, ℤ, pos, negsuc, ◌⊎◌, IsOk}
 use Rattle.cbpf_code.specs.declared.insn.Insn.{Insn}
@@ -41,25 +41,15 @@ abbrev pub view_after : {R : Type 0} → View → Answer R → View
 view_after m (Ok a) = a.1
 view_after m (Err e) = m
 
--- a command that needs a program
-abbrev pub with_program : {R : Type 0} → Option (List Insn) → (List Insn → Result R SessionFault)
-    → Result R SessionFault
-with_program None act = Err fault.NoProgram
-with_program (Some list) act = act list
-
--- one that needs a capture too
-abbrev pub with_capture : {R : Type 0} → Option Savefile → (List Record → Result R SessionFault)
-    → Result R SessionFault
-with_capture None act = Err fault.NoCapture
-with_capture (Some c) act = act c.records
+-- a command that needs a program and a capture, of which the program is missed first
+abbrev pub with_both : {R : Type 0} → Option (List Insn) → Option Savefile
+    → (List Insn → Savefile → Result R SessionFault) → Result R SessionFault
+with_both None capture act = Err fault.NoProgram
+with_both (Some list) None act = Err fault.NoCapture
+with_both (Some list) (Some c) act = act list c
 
 abbrev pub loaded : {R : Type 0} → View → (Machine → List Record → Result R SessionFault) → Result R SessionFault
-loaded m act = with_program m.program (λ list. with_capture m.capture (act (machine_of list m.values)))
-
--- one that needs a packet too
-abbrev pub with_packets : {R : Type 0} → List Record → Result R SessionFault → Result R SessionFault
-with_packets [] answer = Err fault.NoPackets
-with_packets (r ∷ rest) answer = answer
+loaded m act = with_both m.program m.capture (λ list c. act (machine_of list m.values) c.records)
 
 abbrev pub stopped : View → Stop → RunReply × View
 stopped m stop = (Stopped stop, record m { place = stop.place })
@@ -91,15 +81,12 @@ run_to m machine capture limit [] = run_out m machine capture limit
 run_to m machine capture limit (h ∷ hits) =
     if within_limit limit (h.place.packet - m.place.packet) then stopped m h else run_out m machine capture limit
 
--- a limit is not 0
-abbrev pub checked_limit : {R : Type 0} → Option ℕ → Result R SessionFault → Result R SessionFault
-checked_limit (Some zero) answer = Err fault.ZeroCount
-checked_limit _ answer = answer
+abbrev pub run_in : View → Machine → List Record → Option ℕ → Answer RunReply
+run_in m machine capture (Some zero) = Err fault.ZeroCount
+run_in m machine capture limit = Ok (run_to m machine capture limit (rest machine capture m.breakpoints m.place))
 
 unfoldable pub run : View → Option ℕ → Answer RunReply
-run m limit =
-    loaded m (λ machine capture.
-    checked_limit limit (Ok (run_to m machine capture limit (rest machine capture m.breakpoints m.place))))
+run m limit = loaded m (λ machine capture. run_in m machine capture limit)
 
 -- ---- step
 
@@ -132,7 +119,8 @@ step_in m machine capture (pos (suc n)) = Ok (step_to m machine capture (slice_g
 step_in m machine capture (negsuc n) = back_to m machine capture (n + 1)
 
 unfoldable pub step : View → ℤ → Answer RunReply
-step m n = loaded m (λ machine capture. with_packets capture (step_in m machine capture n))
+step m n =
+    loaded m (λ machine capture. if length capture == 0 then Err fault.NoPackets else step_in m machine capture n)
 
 -- ---- select, mark, resume
 
@@ -144,8 +132,8 @@ has_packet capture n = nat_lt 0 n && nat_le n (length capture)
 
 unfoldable pub select : View → ℕ → Answer (Unit {0})
 select m n =
-    loaded m (λ machine capture. with_packets capture
-    (if has_packet capture n then Ok (moved m (record { packet = n; step = 0 })) else Err fault.NoPacket))
+    loaded m (λ machine capture. if length capture == 0 then Err fault.NoPackets
+    else (if has_packet capture n then Ok (moved m (record { packet = n; step = 0 })) else Err fault.NoPacket))
 
 unfoldable pub mark : View → Result Place SessionFault
 mark m = loaded m (λ machine capture. Ok m.place)
@@ -162,8 +150,8 @@ resume_in m machine capture place =
 
 unfoldable pub resume : View → Place → Answer (Unit {0})
 resume m place =
-    loaded m (λ machine capture. with_packets capture
-    (if has_packet capture place.packet then resume_in m machine capture place else Err fault.NoPacket))
+    loaded m (λ machine capture. if length capture == 0 then Err fault.NoPackets
+    else (if has_packet capture place.packet then resume_in m machine capture place else Err fault.NoPacket))
 
 -- a place that `resume` takes wherever this program, these values and this capture are loaded, but for a capture
 -- that has no packets
@@ -246,14 +234,14 @@ unfoldable pub set_value : View → Ext → ℕ → Answer (Unit {0})
 set_value m e n = if takes_value e then Ok (tt, with_value_set m e n) else Err fault.NoValue
 
 -- a breakpoint names an instruction of the program
-abbrev pub at_instruction : {R : Type 0} → View → ℕ → Result R SessionFault → Result R SessionFault
-at_instruction m n answer =
-    with_program m.program (λ list. if nat_lt n (length list) then answer else Err fault.NoInstruction)
+abbrev pub at_instruction : {R : Type 0} → Option (List Insn) → ℕ → Result R SessionFault → Result R SessionFault
+at_instruction None n answer = Err fault.NoProgram
+at_instruction (Some list) n answer = if nat_lt n (length list) then answer else Err fault.NoInstruction
 
 -- a breakpoint goes last; one that is set keeps its place and takes the condition
 unfoldable pub breakpoint_when : View → ℕ → When → Answer (Unit {0})
 breakpoint_when m n when =
-    at_instruction m n (Ok (tt, record m { breakpoints = insert_entry nat_eq m.breakpoints n when }))
+    at_instruction m.program n (Ok (tt, record m { breakpoints = insert_entry nat_eq m.breakpoints n when }))
 
 -- one without a condition
 abbrev pub breakpoint : View → ℕ → Answer (Unit {0})
@@ -261,7 +249,7 @@ breakpoint m n = breakpoint_when m n Always
 
 -- whether it was set; the others keep their order
 unfoldable pub delete : View → ℕ → Answer Bool
-delete m n = at_instruction m n (Ok (
+delete m n = at_instruction m.program n (Ok (
   is_some (lookup (nat_eq n) m.breakpoints),
   record m { breakpoints = shift_remove_entry (nat_eq n) m.breakpoints },
 ))

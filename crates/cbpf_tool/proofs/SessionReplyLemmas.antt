@@ -6,7 +6,7 @@ use Rattle.std.specs.Map.{lookup}
 use Rattle.std.proofs.lemmas.Bool.{ltb-true}
 use Rattle.cbpf_code.specs.Writing.{Wrote}
 use Rattle.cbpf_code.specs.declared.insn.Insn.{Insn}
-use Rattle.cbpf_dbg.specs.Commands.{Answer, reply_of, view_after, breakpoint_when, with_program}
+use Rattle.cbpf_dbg.specs.Commands.{Answer, reply_of, view_after, breakpoint_when, at_instruction}
 use Rattle.cbpf_dbg.specs.View.{View}
 use Rattle.cbpf_reply.specs.Breakpoints.{When}
 use Rattle.cbpf_reply.specs.declared.reply.SessionFault.{SessionFault}
@@ -74,8 +74,7 @@ session-answered m n c Written (inr w) = λ files f. (memory_text, unheld refl w
 -- ---- a breakpoint that is set
 
 instruction-of : {R : Type 0} (p : Option (List Insn)) (k : ℕ) (m : View) (answer : Answer R) (x : R)
-    → Ok x ≡ reply_of (with_program p (λ list. if nat_lt k (length list) then answer else Err NoInstruction))
-    → HasInstruction p k
+    → Ok x ≡ reply_of (at_instruction p k answer) → HasInstruction p k
 instruction-of None k m answer x e = absurd (cc)
 instruction-of (Some list) k m answer x e = go (nat_lt k (length list)) refl e
   where
@@ -85,8 +84,7 @@ instruction-of (Some list) k m answer x e = go (nat_lt k (length list)) refl e
     go false h q = absurd (cc)
 
 program-kept : (p : Option (List Insn)) (k : ℕ) (m : View) (a : Unit {0} × View) → a.1.program ≡ m.program
-    → (view_after m (with_program p (λ list. if nat_lt k (length list) then Ok a else Err NoInstruction))).program
-    ≡ m.program
+    → (view_after m (at_instruction p k (Ok a))).program ≡ m.program
 program-kept None k m a e = refl
 program-kept (Some list) k m a e = elim (nat_lt k (length list))
     as (λ b. (view_after m (if b then Ok a else Err NoInstruction)).program ≡ m.program) [ true ↦ e | false ↦ refl ]
