@@ -51,7 +51,7 @@ pub part-take : (u v : Option (List ℕ)) (n : ℕ) (text : List ℕ) → Append
 unfolding Appended AppendedPart
 part-take u v n text x = (take n text, drop n text, take-append-drop n text, x)
 
-take-len-drop : (text : List ℕ) (at : ℕ) → take (length text - at) (drop at text) ≡ drop at text
+pub take-len-drop : (text : List ℕ) (at : ℕ) → take (length text - at) (drop at text) ≡ drop at text
 take-len-drop text at = take_all _ _ (omega (arith, length-drop at text))
 
 -- `write(&text[at..])` took n bytes

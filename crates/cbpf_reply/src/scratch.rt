@@ -1,5 +1,6 @@
 // The lines of scratch memory.
-ghost use Rattle.std.specs.Prelude.{ℕ, ◌≡◌, ◌≤◌, ◌<◌, ◌∷◌, ◌+◌, ◌++◌, length, drop, slice_index};
+ghost use Rattle.std.specs.Prelude.{◌≡◌, ◌≤◌, ◌<◌, ◌+◌, ◌++◌, ◌==◌, length};
+ghost use Rattle.std.specs.List.{prefix_len};
 ghost use Rattle.cbpf_code.specs.Text.{concat};
 ghost use Rattle.cbpf_code.specs.Writing.{Wrote};
 ghost use Rattle.cbpf_reply.specs.Scratch as spec;
@@ -8,21 +9,20 @@ use crate::dump::{put_value, spaces_to_ten};
 use cbpf_code::{Line, WriteFault};
 use std::io::Write;
 
-/// The last slot of the run that begins at `first`.
-#[tactic(auto, using(crate::proofs::RunLemmas::runs))]
-fn run_end(slots: &[u32], first: usize) -> usize
-    requires { first < length slots.now }
-    ensures from { first ≤ result }
-    ensures within { result < length slots.now }
-    ensures run { spec.runs_from first (drop first slots.now)
-        ≡ record { first = first; last = result; value = slice_index slots.now first } ∷ spec.runs_from (result + 1)
-        (drop (result + 1) slots.now) }
+/// Whether a run begins at a slot.
+fn begins_run(slots: &[u32], i: usize) -> bool
+    requires { i < length slots.now }
+    ensures { result ≡ spec.begins_run slots.now i }
 {
-    let mut last = first;
-    while last + 1 < slots.len() && slots[last + 1] == slots[first] {
-        last += 1;
-    }
-    last
+    i == 0 || slots[i] != slots[i - 1]
+}
+
+/// How many of some slots at the front have this value.
+fn run_len(slots: &[u32], value: u32) -> usize
+    ensures within { result ≤ length slots.now }
+    ensures run { result ≡ prefix_len (λ v. v == value) slots.now }
+{
+    slots.iter().take_while(|v| **v == value).count()
 }
 
 /// The label of slots `first` to `last`, which may be one slot.
@@ -30,8 +30,7 @@ fn run_end(slots: &[u32], first: usize) -> usize
 fn put_label(line: &mut Line, first: usize, last: usize)
     requires within { first ≤ last }
     requires room { length line.old + 45 ≤ 256 }
-    ensures text { (value : ℕ) → line.new
-        ≡ concat (spec.slots_label (record { first = first; last = last; value = value })) ++ line.old }
+    ensures text { line.new ≡ concat (spec.slots_label first last) ++ line.old }
     ensures grown { length line.new ≤ length line.old + 45 }
 {
     line.put(b"]:");
@@ -51,8 +50,7 @@ fn write_scratch_line<W: Write>(
     value: u32,
 ) -> Result<(), WriteFault>
     requires { first ≤ last }
-    ensures { Wrote (W.contents w.old) (W.contents w.new) result
-        (spec.scratch_line (record { first = first; last = last; value = value })) }
+    ensures { Wrote (W.contents w.old) (W.contents w.new) result (spec.scratch_line first last value) }
 {
     let mut label = Line::new();
     put_label(&mut label, first, last);
@@ -64,16 +62,26 @@ fn write_scratch_line<W: Write>(
     line.write(w)
 }
 
+/// Writes the line of the run that begins at a slot, if one does.
+#[tactic(auto, using(crate::proofs::ScratchLemmas::lines))]
+fn write_run_line<W: Write>(w: &mut W, slots: &[u32], i: usize) -> Result<(), WriteFault>
+    requires { i < length slots.now }
+    ensures { Wrote (W.contents w.old) (W.contents w.new) result (spec.run_line slots.now i) }
+{
+    if !begins_run(slots, i) {
+        return Ok(());
+    }
+    let last = i + run_len(&slots[i + 1..], slots[i]);
+    write_scratch_line(w, i, last, slots[i])
+}
+
 /// Writes a line for each longest run of neighbouring slots of equal value.
 #[tactic(auto, using(crate::proofs::ScratchLemmas::lines))]
 pub(crate) fn write_scratch<W: Write>(w: &mut W, slots: &[u32]) -> Result<(), WriteFault>
     ensures { Wrote (W.contents w.old) (W.contents w.new) result (spec.scratch_lines slots.now) }
 {
-    let mut first = 0;
-    while first < slots.len() {
-        let last = run_end(slots, first);
-        write_scratch_line(w, first, last, slots[first])?;
-        first = last + 1;
+    for i in 0..slots.len() {
+        write_run_line(w, slots, i)?;
     }
     Ok(())
 }
