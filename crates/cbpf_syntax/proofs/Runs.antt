@@ -1,18 +1,18 @@
 -- The piece at the front of a text, by its first byte.
-use Rattle.std.proofs.Common.{◌≡◌, ℕ, zero, suc, ◌+◌, ◌<◌, ◌≤◌, Bool, true, false, not, cond, List, [], ◌∷◌, length}
-use Rattle.std.proofs.Common.{take, drop, refl, ap, ◌∙◌, arith, Some, None, ne_eqb, eq-eqb, length-take-le, rules}
+use Rattle.std.proofs.Common.{◌≡◌, ℕ, zero, suc, ◌+◌, ◌-◌, ◌<◌, ◌≤◌, Bool, true, false, not, cond, List, [], ◌∷◌, length}
+use Rattle.std.proofs.Common.{take, drop, refl, ap, ◌∙◌, arith, Some, None, length-take-le, take-take, rules}
 use Rattle.std.proofs.Common.{get_or, Option, eqb-true, inl, inr}
 use Rattle.std.proofs.Math.Numerals.{one-add}
-use Rattle.std.specs.Prelude.{◌==◌, ◌≢◌}
+use Rattle.std.specs.Prelude.{◌==◌, nat_le}
 use Rattle.std.specs.List.{list_all, prefix_len}
 use Rattle.cbpf_syntax.specs.declared.piece.PieceKind.{PieceKind}
 use Rattle.cbpf_syntax.specs.declared.piece.PieceKind.TheVariants.{Blanks, Comment, TokenOf, Bad}
 use Rattle.cbpf_syntax.specs.declared.token.Kind.TheVariants.{Word, Mark}
 use Rattle.cbpf_syntax.specs.Bytes.{is_blank, is_name_byte}
 use Rattle.cbpf_syntax.specs.Numbers.{number_value}
-use Rattle.cbpf_syntax.specs.Pieces.{IsNext, piece_kind, led_kind, slash_kind, only_if, run_kind, alone, first_close}
-use Rattle.cbpf_syntax.specs.Pieces.{comment_kind, is_line_blank}
-use Rattle.cbpf_syntax.specs.NextPiece.{comment_piece, slash_piece, led_piece}
+use Rattle.cbpf_syntax.specs.Pieces.{IsNext, piece_kind, led_kind, slash_kind, only_if, run_kind, alone, has_close}
+use Rattle.cbpf_syntax.specs.Pieces.{is_line_blank}
+use Rattle.cbpf_syntax.specs.NextPiece.{close_after, comment_piece, slash_piece, led_piece}
 use Rattle.cbpf_syntax.specs.Leads.{lead_of}
 use Rattle.cbpf_syntax.proofs.LeadTable.{blank_lead}
 use Rattle.cbpf_syntax.proofs.Comments.{close_taken, close_within}
@@ -22,7 +22,8 @@ use Rattle.cbpf_syntax.specs.declared.piece.Lead.TheVariants.{Blank, LineComment
 use Rattle.std.proofs.lemmas.List.Sums.{prefix_len-le-length, prefix_len_stops}
 use Rattle.std.proofs.lemmas.List.Folds.{list_all_at}
 use Rattle.std.proofs.lemmas.Bool.{cases_Bool}
-use Rattle.std.proofs.lemmas.List.{take_all, drop_all, drop_more, get_or-take}
+use Rattle.std.proofs.lemmas.Bool.Decides.{nat_tests}
+use Rattle.std.proofs.lemmas.List.{drop_all, drop_more, get_or-take}
 use Rattle.cbpf_syntax.specs.declared.token.Token.{Token}
 use Rattle.cbpf_syntax.specs.Tokens.{LexesTo}
 use Rattle.cbpf_syntax.proofs.Cuts.{piece_at, piece_more}
@@ -76,36 +77,44 @@ module _ (fresh : Bool) (b : ℕ) (e : lead_of fresh b ≡ Slash) where
   slashed cs = ap (λ l. led_kind l b cs) e
 
   -- a comment that ends at the first `*/` after `/*`
-  comment_next : (bs : List ℕ) (n : ℕ) → first_close bs ≡ Some n
+  comment_next : (bs : List ℕ) (n : ℕ) → close_after false bs ≡ Some n
       → IsNext fresh (b ∷ 42 ∷ bs) (record { kind = Comment; size = 2 + n })
   comment_next bs n h =
-      let w = close_within bs n h in
+      let w = close_within false bs n h in
+      let some = closed 0 in
+      let none : nat_le n (n - 1) ≡ false = grind (arith, nat_tests, some) in
       rw (two-add n) (record {
         within = omega arith;
-        kind = cut n (omega arith) w ∙ ap (λ t. only_if t Comment) (eq-eqb n n refl);
+        kind = cut n (omega arith) w ∙ ap (λ t. only_if (not t) Comment) none;
         longest = longer;
       })
     where
-      cut : (m : ℕ) → n ≤ m → m ≤ length bs → piece_kind fresh (b ∷ 42 ∷ take m bs) ≡ only_if (n == m) Comment
-      cut m l w = slashed (42 ∷ take m bs)
-          ∙ (λ i. comment_kind (close_taken bs n m h l i) (length-take-le m bs w i))
+      closed : (m : ℕ) → has_close (take m bs) ≡ nat_le n m
+      closed m = rw h at (close_taken bs m)
+
+      cut : (m : ℕ) → n ≤ m → m ≤ length bs
+          → piece_kind fresh (b ∷ 42 ∷ take m bs) ≡ only_if (not (nat_le n (m - 1))) Comment
+      cut m l w =
+          let has : nat_le n m ≡ true = grind (arith, nat_tests) in
+          let shorter = take-take (m - 1) m bs (omega arith) in
+          slashed (42 ∷ take m bs) ∙ rw (closed m, has, length-take-le m bs w, shorter, closed (m - 1)) refl
 
       longer : (m : ℕ) → suc (suc n) < m → m ≤ suc (suc (length bs)) → piece_kind fresh (take m (b ∷ 42 ∷ bs)) ≡ None
-      longer (suc (suc m)) l w = let d : n ≢ m = λ q. absurd (omega (arith, l, q)) in
-          cut m (omega arith) (omega arith) ∙ ap (λ t. only_if t Comment) (ne_eqb n m d)
+      longer (suc (suc m)) l w =
+          let has : nat_le n (m - 1) ≡ true = grind (arith, nat_tests) in
+          cut m (omega arith) (omega arith) ∙ ap (λ t. only_if (not t) Comment) has
       longer m l w = absurd (omega arith)
 
   -- an open comment, which is all of the text
-  open_next : (bs : List ℕ) → first_close bs ≡ None
+  open_next : (bs : List ℕ) → close_after false bs ≡ None
       → IsNext fresh (b ∷ 42 ∷ bs) (record { kind = Bad OpenComment; size = 2 + length bs })
   open_next bs h = rw (two-add (length bs)) (record {
     within = omega arith;
-    kind = rw (take_all (length bs) bs (omega arith))
-        (slashed (42 ∷ bs) ∙ ap (λ o. comment_kind o (length bs)) h);
+    kind = slashed (42 ∷ take (length bs) bs) ∙ rw (close_taken bs (length bs), h) refl;
     longest = λ n l w. absurd (omega arith);
   })
 
-  by_close : (bs : List ℕ) (o : Option ℕ) → first_close bs ≡ o
+  by_close : (bs : List ℕ) (o : Option ℕ) → close_after false bs ≡ o
       → IsNext fresh (b ∷ 42 ∷ bs) (comment_piece o (length bs))
   by_close bs None h = open_next bs h
   by_close bs (Some n) h = comment_next bs n h
@@ -124,8 +133,8 @@ module _ (fresh : Bool) (b : ℕ) (e : lead_of fresh b ≡ Slash) where
   slash_next (c ∷ cs) = by_star (c == 42) refl
     where
       by_star : (t : Bool) → (c == 42) ≡ t → IsNext fresh (b ∷ c ∷ cs)
-          (cond t (comment_piece (first_close cs) (length cs)) (record { kind = Bad NoToken; size = 1 }))
-      by_star true h = rw (eqb-true c 42 h) (by_close cs (first_close cs) refl)
+          (cond t (comment_piece (close_after false cs) (length cs)) (record { kind = Bad NoToken; size = 1 }))
+      by_star true h = rw (eqb-true c 42 h) (by_close cs (close_after false cs) refl)
       by_star false h = lone_slash (c ∷ cs) none
         where
           none : (n : ℕ) → 0 < n → n ≤ suc (length cs) → slash_kind (take n (c ∷ cs)) ≡ None

@@ -1,8 +1,8 @@
 -- How a source text is cut into pieces: blanks, comments, tokens and bad pieces, each the longest at its place. The
 -- kernel's Documentation/networking/filter shows words, numbers, marks and comments by example; these rules are this
 -- project's own.
-use Rattle.std.specs.Prelude.{◌≡◌, ℕ, suc, ◌+◌, ◌<◌, ◌≤◌, Bool, true, false, not, ◌&&◌, ◌||◌, List, [], ◌∷◌}
-use Rattle.std.specs.Prelude.{length, take, drop, nat_lt, ◌==◌, if◌then◌else◌, fold, Option, Some, None, option_map}
+use Rattle.std.specs.Prelude.{◌≡◌, ℕ, ◌+◌, ◌-◌, ◌<◌, ◌≤◌, Bool, true, false, not, ◌&&◌, ◌||◌, List, [], ◌∷◌}
+use Rattle.std.specs.Prelude.{length, take, drop, nat_lt, ◌==◌, if◌then◌else◌, fold, Option, Some, None}
 use Rattle.std.specs.List.{list_all}
 use Rattle.cbpf_syntax.specs.declared.token.Kind.TheVariants.{Word, Number, Mark}
 use Rattle.cbpf_syntax.specs.declared.token.BadPiece.TheVariants.{NoToken, OpenComment, LargeNumber}
@@ -38,21 +38,19 @@ begins_with_close [] = false
 begins_with_close (b ∷ []) = false
 begins_with_close (b ∷ c ∷ bs) = b == 42 && c == 47
 
--- how many bytes there are up to the end of the first `*/`, where there is one
-abbrev pub first_close : List ℕ → Option ℕ
-first_close [] = None
-first_close (b ∷ bs) = if begins_with_close (b ∷ bs) then Some 2 else option_map suc (first_close bs)
+abbrev pub has_close : List ℕ → Bool
+has_close [] = false
+has_close (b ∷ bs) = begins_with_close (b ∷ bs) || has_close bs
 
--- A `/*` and so many bytes after it, by the end of the first `*/` among them: a comment where the bytes end there,
--- and an open comment where there is none.
-abbrev pub comment_kind : Option ℕ → ℕ → Option PieceKind
-comment_kind None size = Some (Bad OpenComment)
-comment_kind (Some close) size = only_if (close == size) Comment
+-- The bytes after a `/*`: a comment where they end with their first `*/`, an open comment where they have none.
+abbrev pub comment_kind : List ℕ → Option PieceKind
+comment_kind bs =
+    if has_close bs then only_if (not (has_close (take (length bs - 1) bs))) Comment else Some (Bad OpenComment)
 
 -- a `/` and the bytes after it
 abbrev pub slash_kind : List ℕ → Option PieceKind
 slash_kind [] = Some (Bad NoToken)
-slash_kind (b ∷ bs) = if b == 42 then comment_kind (first_close bs) (length bs) else None
+slash_kind (b ∷ bs) = if b == 42 then comment_kind bs else None
 
 -- the kind by what the first byte says
 abbrev pub led_kind : Lead → ℕ → List ℕ → Option PieceKind

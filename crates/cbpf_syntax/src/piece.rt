@@ -1,10 +1,10 @@
 //! The piece at the front of a text: blanks, a comment, a token, or a bad piece.
 
-ghost use Rattle.std.specs.Prelude.{true, IfSome, IfNone, ◌∷◌, ◌&&◌, ◌==◌, ◌≡◌, ◌≤◌, length};
+ghost use Rattle.std.specs.Prelude.{true, false, IfSome, IfNone, ◌∷◌, ◌&&◌, ◌==◌, ◌≡◌, ◌≤◌, length};
 ghost use Rattle.cbpf_syntax.specs.Numbers.{number_value};
-ghost use Rattle.cbpf_syntax.specs.Pieces.{IsNext, is_line_blank, run_kind, first_close};
+ghost use Rattle.cbpf_syntax.specs.Pieces.{IsNext, is_line_blank, run_kind};
 ghost use Rattle.cbpf_syntax.specs.Leads.{lead_of};
-ghost use Rattle.cbpf_syntax.specs.NextPiece.{slash_piece};
+ghost use Rattle.cbpf_syntax.specs.NextPiece.{close_after, slash_piece};
 ghost use Rattle.cbpf_syntax.specs.Tokens.{is_good};
 ghost use Rattle.cbpf_syntax.specs.declared.piece.PieceKind.TheVariants.{Bad};
 
@@ -92,10 +92,9 @@ fn is_close(star: bool, b: u8) -> bool
 }
 
 /// How many bytes there are up to the first `*/` and with it.
-#[tactic(auto, using(crate::proofs::Comments::open_start))]
 fn close_len(body: &[u8]) -> Option<usize>
     ensures within { IfSome result (λ n. n ≤ length body.now) }
-    ensures first { result ≡ first_close body.now }
+    ensures first { result ≡ close_after false body.now }
 {
     let mut star = false;
     for (i, b) in body.iter().enumerate() {
