@@ -26,6 +26,38 @@ follow-init g c = record {
   spent = omega arith;
 }
 
+pub overflow_add-fence : goal.overflow_add-fence
+overflow_add-fence g c = omega (
+  arith,
+  c.gap.ensures.few,
+  c.follow.invariant.here.inside,
+  sound_few c.args.p.now c.follow.invariant.sound,
+)
+
+pub overflow_cast-pause : goal.overflow_cast-pause
+overflow_cast-pause g c = omega (
+  arith,
+  c.gap.ensures.few,
+  c.follow.invariant.here.inside,
+  sound_few c.args.p.now c.follow.invariant.sound,
+)
+
+pub overflow_sub-pause : goal.overflow_sub-pause
+overflow_sub-pause g c = omega (
+  arith,
+  c.gap.ensures.few,
+  c.follow.invariant.here.inside,
+  sound_few c.args.p.now c.follow.invariant.sound,
+)
+
+pub invariant_of-pause : goal.invariant_of-pause
+invariant_of-pause g c = omega (
+  arith,
+  c.gap.ensures.few,
+  c.follow.invariant.here.inside,
+  sound_few c.args.p.now c.follow.invariant.sound,
+)
+
 reached : (g : Over) (c : After-pass-turns g)
     → Reaches (machine_of c.args.p.now c.args.values.now) c.args.packet.bytes.now c.args.packet.wire
     (is_watched c.args.watched.now)
