@@ -1,5 +1,5 @@
 -- Moves to the next hit.
-use Rattle.std.proofs.Common.{◌≡◌, ℕ, zero, suc, ◌+◌, ◌-◌, ◌<◌, ◌≤◌, List, ◌∷◌, length, drop, take, arith, sym, ap, subst, ◌∙◌, refl, inl}
+use Rattle.std.proofs.Common.{◌≡◌, ℕ, zero, suc, ◌+◌, ◌-◌, ◌<◌, ◌≤◌, List, ◌∷◌, length, drop, take, arith, ap, subst, ◌∙◌, refl, inl}
 use Rattle.std.proofs.Common.{inr, length-append, length-drop, length-take, Bool, true, false}
 use Rattle.std.specs.Prelude.{Some, slice_get, min}
 use Rattle.std.proofs.lemmas.Bool.{cases_lt}
@@ -149,20 +149,6 @@ module _ (machine : Machine) (capture : List Record) (w : Cursor) (r : Record) (
         let on : Follows pauses xs (outcome machine r.bytes r.wire) w.place.step w.state s (Watched n) =
         rw (step, e) at follows in
         omega (arith, slice_get_within xs (w.place.step + n - 1) s on.2, steps_few)
-
-    -- where it pauses first
-    pub first_pause : (f : Followed) (s : Registers) (v : Cursor) → w.place.step ≡ 0 → moved.Entry ≡ moved_by f
-        → v ≡ followed (record w { state = s }) f → Follows pauses xs (outcome machine r.bytes r.wire) 0 w.state s f
-        → (q : Record) → slice_get capture (v.place.packet - 1) ≡ Some q
-        → Unpaused pauses (trace machine q.bytes q.wire) 0 (v.place.step - 1)
-    first_pause (Ended o) s v step moves e f q there = absurd cc
-    first_pause (Watched n) s v step moves e f q there =
-        let here : slice_get capture (w.place.packet - 1) ≡ Some q =
-        subst (λ (u : Cursor). slice_get capture (u.place.packet - 1) ≡ Some q) e there in
-        let same : r ≡ q = cc in
-        subst (λ (u : Cursor). Unpaused pauses (trace machine q.bytes q.wire) 0 (u.place.step - 1)) (sym e)
-        (subst (λ j. Unpaused pauses (trace machine q.bytes q.wire) 0 (j + n - 1)) (sym step)
-        (subst (λ (x : Record). Unpaused pauses (trace machine x.bytes x.wire) 0 (0 + n - 1)) same f.1))
 
 module _ {A : Type 0} (l : Loaded A) (w : Cursor) (r : Record) (h : Stands (machine_in l) (records_in l) w)
     (at : slice_get (records_in l) (w.place.packet - 1) ≡ Some r) (pauses : Registers → Bool)

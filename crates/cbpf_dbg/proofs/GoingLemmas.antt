@@ -1,14 +1,10 @@
 -- Runs that go on, one after another.
-use Rattle.std.proofs.Common.{◌≡◌, ℕ, zero, suc, ◌+◌, ◌-◌, ◌<◌, ◌≤◌, List, ◌∷◌, length, arith, sym, ap, ◌∙◌, refl, inr}
-use Rattle.std.proofs.Common.{Bool, true, false, subst, inl}
-use Rattle.std.specs.Prelude.{Some, slice_get, nat_le, ◌||◌}
-use Rattle.std.proofs.lemmas.Bool.Decides.{nat_tests}
-use Rattle.std.proofs.lemmas.Option.{slice_get_cases, slice_get_within}
-use Rattle.cbpf_machine.specs.Follow.{Unpaused, is_watched}
+use Rattle.std.proofs.Common.{◌≡◌, ℕ, ◌+◌, ◌-◌, ◌<◌, ◌≤◌, List, ◌∷◌, length, arith, sym, ap, ◌∙◌, refl}
+use Rattle.std.proofs.Common.{Bool, true, false, subst}
+use Rattle.std.specs.Prelude.{Some, slice_get}
+use Rattle.cbpf_machine.specs.Follow.{is_watched}
 use Rattle.cbpf_machine.specs.Machine.{Machine}
 use Rattle.cbpf_machine.specs.Registers.{Registers}
-use Rattle.cbpf_machine.specs.Trace.{IsRun, trace}
-use Rattle.cbpf_machine.proofs.TraceLemmas.{trace-is_run}
 use Rattle.pcap_classic.specs.Records.{Record}
 use Rattle.cbpf_reply.specs.declared.reply.Place.{Place}
 use Rattle.cbpf_reply.specs.declared.reply.Why.TheVariants as why
@@ -110,44 +106,3 @@ module _ {A : Type 0} (l : Loaded A) where
         h.passes.hits ∙ hits_hit _ _ _ new.cursor at.0 h.passes.stands here.0 at.1
             (sym (l.watches at.0.bytes at.0.wire new.cursor.state inside) ∙ hit),
       )
-
--- a run of which no instruction before its last has a number of at least n has few entries
-least : (machine : Machine) (bytes : List ℕ) (wire : ℕ) (xs : List Registers) (i : ℕ) (s : Registers)
-    → IsRun machine bytes wire xs → slice_get xs i ≡ Some s → i ≤ s.pc
-least machine bytes wire xs zero s run at = omega arith
-least machine bytes wire xs (suc i) s run at =
-    let within = slice_get_within xs (suc i) s at in
-    elim (slice_get_cases xs i).1 [
-      | inl found ↦
-          let e : suc i ≡ i + 1 = omega arith in
-          let next : slice_get xs (i + 1) ≡ Some s = rw e at at in
-          omega (arith, run.rises i found.0 s found.2 next, least machine bytes wire xs i found.0 run found.2)
-      | inr past ↦ absurd (omega (arith, past.0, within))
-    ]
-
-not_past : (n pc : ℕ) (b : Bool) → (nat_le n pc || b) ≡ false → pc < n
-not_past n pc b h = grind (arith, nat_tests)
-
-pub few_before : (machine : Machine) (capture : List Record) (pauses : Registers → Bool) (fence : ℕ) (w : Cursor)
-    (r : Record) → Stands machine capture w → 0 < w.place.step → slice_get capture (w.place.packet - 1) ≡ Some r
-    → Unpaused (λ s. nat_le fence s.pc || pauses s) (trace machine r.bytes r.wire) 0 (w.place.step - 1)
-    → w.place.step ≤ fence + 1
-few_before machine capture pauses fence w r h begun at unpaused =
-    let xs : List Registers = trace machine r.bytes r.wire in
-    let within = slice_get_within xs (w.place.step - 1) w.state (entry_at_place machine capture w r h at begun) in
-    few w.place.step within refl
-  where
-    few : (k : ℕ) → w.place.step - 1 < length (trace machine r.bytes r.wire) → w.place.step ≡ k
-        → w.place.step ≤ fence + 1
-    few zero within e = omega (arith, e)
-    few (suc zero) within e = omega (arith, e)
-    few (suc (suc i)) within e =
-        elim (slice_get_cases (trace machine r.bytes r.wire) i).1 [
-          | inl found ↦
-              let run = trace-is_run machine r.bytes r.wire h.sound in
-              let low = least machine r.bytes r.wire (trace machine r.bytes r.wire) i found.0 run found.2 in
-              let high = not_past fence found.0.pc (pauses found.0)
-              (unpaused i found.0 (omega arith) (omega (arith, e)) found.2) in
-              omega (arith, e, low, high)
-          | inr past ↦ absurd (omega (arith, past.0, within, e))
-        ]

@@ -1,9 +1,7 @@
 //! Runs to the next hit.
 
-ghost use Rattle.std.specs.Prelude.{◌≡◌, ◌≢◌, ◌+◌, ◌-◌, ◌<◌, ◌≤◌, ◌^◌, [], Some, true, false, slice_get};
-ghost use Rattle.pcap_classic.specs.Records.{Record};
-ghost use Rattle.cbpf_machine.specs.Follow.{UnpausedBetween, is_watched};
-ghost use Rattle.cbpf_machine.specs.Trace.{trace};
+ghost use Rattle.std.specs.Prelude.{◌≡◌, ◌≢◌, ◌+◌, ◌-◌, ◌<◌, ◌≤◌, ◌^◌, [], Some, true, false};
+ghost use Rattle.cbpf_machine.specs.Follow.{is_watched};
 ghost use Rattle.cbpf_dbg.specs.Commands.{PassesHits};
 ghost use Rattle.cbpf_dbg.specs.Joined.{rest};
 ghost use Rattle.cbpf_dbg.specs.Loaded.{machine_in, records_in, breakpoints_in};
@@ -14,7 +12,7 @@ ghost use Rattle.cbpf_dbg.specs.Going.{CanGoOn, GoesOn, KeepsIn};
 
 use crate::cursor::{Cursor, Moved, Walk, stop_at};
 use crate::loaded::Loaded;
-use cbpf_machine::{Before, Followed, Meter, Never, Packet, Pause, Trail, follow_packet};
+use cbpf_machine::{Followed, Meter, Never, Packet, Pause, Trail, follow_packet};
 use cbpf_reply::{RunReply, Stop, Why};
 use std::alloc::Allocator;
 
@@ -43,12 +41,6 @@ pub(crate) fn run_records<P: Pause, A: Allocator>(
     requires before { walk.old.cursor.place.step ≡ 0 }
     ensures goes { GoesOn loaded.now (λ s. P.pauses pause.now s) walk.old walk.new meter.old meter.new result }
     ensures none { result ≡ false → walk.new.left ≡ [] }
-
-    // Of the packet's entries it is the first where it pauses.
-    ensures first { result ≡ true → (r : Record)
-        → slice_get (records_in loaded.now) (walk.new.cursor.place.packet - 1) ≡ Some r
-        → UnpausedBetween (λ s. P.pauses pause.now s) (trace (machine_in loaded.now) r.bytes r.wire) 0
-        walk.new.cursor.place.step }
 {
     // Bound here, as the compiler would load them again after each packet.
     let program = loaded.program;
@@ -71,30 +63,70 @@ pub(crate) fn run_records<P: Pause, A: Allocator>(
     false
 }
 
-/// The same with a pause that covers the hits, so soon that the trail can start there.
+/// Goes on over whole packets to the next hit, or past the records that are left: whether there is one. The trail keeps
+/// the entries of each packet on the way.
+#[inline(never)]
+fn run_kept<T: Trail, A: Allocator>(
+    meter: &mut Meter,
+    loaded: &Loaded<'_, A>,
+    walk: &mut Walk<'_>,
+    trail: &mut T,
+) -> bool
+    requires can { CanGoOn loaded.now (is_watched loaded.now.watched.now) walk.old meter.old }
+    requires before { walk.old.cursor.place.step ≡ 0 }
+    requires empty { T.stands_for trail.old [] }
+    ensures goes { GoesOn loaded.now (is_watched loaded.now.watched.now) walk.old walk.new meter.old meter.new result }
+    ensures none { result ≡ false → walk.new.left ≡ [] }
+    ensures keeps { KeepsIn (λ xs. T.stands_for trail.new xs) loaded.now walk.new.cursor.place }
+{
+    let program = loaded.program;
+    let values = loaded.values;
+    let watched = loaded.watched;
+    'go: while let Some(here) = walk.left.first() {
+        let packet = Packet {
+            bytes: here.bytes,
+            wire: here.wire,
+        };
+        let state = &mut walk.cursor.state;
+        match trail.follow_packet(meter, program, packet, values, watched, state) {
+            Followed::Watched(entries) => {
+                walk.cursor.place.step = entries;
+                return true;
+            }
+            Followed::Ended(outcome) => walk.cursor.finish_whole_packet(outcome),
+        }
+        walk.left.pass(&here);
+        trail.clear();
+    }
+    false
+}
+
+/// The same by a loop that keeps no trail, where nothing can stop it, or each packet is so short that the trail can
+/// start at the hit.
 fn run_whole<T: Trail, A: Allocator>(
     meter: &mut Meter,
     loaded: &Loaded<'_, A>,
     walk: &mut Walk<'_>,
+    trail: &mut T,
 ) -> bool
     requires can { CanGoOn loaded.now (is_watched loaded.now.watched.now) walk.old meter.old }
     requires before { walk.old.cursor.place.step ≡ 0 }
-    ensures goes { GoesOn loaded.now (λ s. true) walk.old walk.new meter.old meter.new result }
+    requires empty { T.stands_for trail.old [] }
+    ensures goes { GoesOn loaded.now (is_watched loaded.now.watched.now) walk.old walk.new meter.old meter.new result }
     ensures none { result ≡ false → walk.new.left ≡ [] }
-    ensures near { result ≡ true → walk.new.cursor.place.step ≤ T.gap 0 + 1 }
+    ensures keeps { KeepsIn (λ xs. T.stands_for trail.new xs) loaded.now walk.new.cursor.place }
 {
-    let first_gap = T::first_gap();
     if loaded.cannot_stop {
         return run_records(meter, loaded, &Never, walk);
     }
-    if loaded.program.len() <= first_gap {
-        return run_records(meter, loaded, loaded.watched, walk);
+    if loaded.program.len() > T::first_gap() {
+        return run_kept(meter, loaded, walk, trail);
     }
-    let pause = Before {
-        pause: loaded.watched,
-        fence: first_gap as usize,
-    };
-    run_records(meter, loaded, &pause, walk)
+    if !run_records(meter, loaded, loaded.watched, walk) {
+        return false;
+    }
+    trail.start(walk.cursor.place.step, walk.cursor.state);
+    true
 }
 
 /// Goes on in the place's packet, where it has begun, to its next hit, or out of it: whether there is a hit.
@@ -149,19 +181,13 @@ fn run_to_hit<T: Trail, A: Allocator>(
         walk.old.cursor result walk.new.cursor }
     ensures keeps { KeepsIn (λ xs. T.stands_for trail.new xs) loaded.now walk.new.cursor.place }
 {
-    'go: loop {
-        if go_on_in_packet(meter, loaded, walk, trail) {
-            return Some(stop_at(loaded, &walk.cursor, Why::Break));
-        }
+    if !go_on_in_packet(meter, loaded, walk, trail) {
         trail.clear();
-        if !run_whole::<T, A>(meter, loaded, walk) {
+        if !run_whole(meter, loaded, walk, trail) {
             return None;
         }
-        trail.start(walk.cursor.place.step, walk.cursor.state);
-        if loaded.watched.pauses_at(&walk.cursor.state) {
-            return Some(stop_at(loaded, &walk.cursor, Why::Break));
-        }
     }
+    Some(stop_at(loaded, &walk.cursor, Why::Break))
 }
 
 /// Goes on to the next hit, to the limit of finished packets, or to the end.

@@ -1,7 +1,7 @@
 use Rattle.std.proofs.Common.{◌≡◌, ◌+◌, ◌∙◌, arith, refl}
 use Rattle.pcap_classic.specs.Lent.{record_of}
 use Rattle.cbpf_dbg.proofs.CountLemmas.{countable}
-use Rattle.cbpf_dbg.proofs.FollowLemmas.{goes_to_entry, goes_out, first_pause}
+use Rattle.cbpf_dbg.proofs.FollowLemmas.{goes_to_entry, goes_out}
 use Rattle.cbpf_dbg.proofs.GoingLemmas.{goes_more}
 use Rattle.cbpf_dbg.proofs.LeftLemmas.{first_left, first_of, none_of}
 use Rattle.cbpf_dbg.proofs.run.run_records.Goals as goal
@@ -24,20 +24,6 @@ returns-in-Watched-clause-goes g c =
     c.follow_packet.new.meter c.go.walk.left _ _ so.left (omega (arith, step)) (rw c.in-Watched.is refl)
     (rw (c.in-Watched.is, sum) refl) c.follow_packet.ensures.follows
     (omega (arith, c.follow_packet.ensures.turns)) is)
-
-pub returns-in-Watched-clause-first : goal.returns-in-Watched-clause-first
-returns-in-Watched-clause-first g c = λ _.
-    let so = c.go.invariant in
-    let here = first_left _ _ _ _ _ _ (first_of _ _ c.in-Some.ensures) so.left in
-    let step = so.out refl in
-    let sum : c.go.walk.cursor.place.step + c.in-Watched.entries ≡ c.in-Watched.entries = omega (arith, step) in
-    first_pause _ _ _ (record_of c.in-Some.here)
-    so.passes.stands here _ _ c.requires.can.covers c.follow_packet.result c.follow_packet.new.s
-    (record c.go.walk.cursor {
-      place = record { packet = c.go.walk.cursor.place.packet; step = c.in-Watched.entries };
-      state = c.follow_packet.new.s;
-    }) step
-    (rw c.in-Watched.is refl) (rw (c.in-Watched.is, sum) refl) c.follow_packet.ensures.follows
 
 pub go-preserved : goal.go-preserved
 go-preserved g c =
