@@ -74,7 +74,6 @@ fn run_kept<T: Trail, A: Allocator>(
 ) -> bool
     requires can { CanGoOn loaded.now (is_watched loaded.now.watched.now) walk.old meter.old }
     requires before { walk.old.cursor.place.step ≡ 0 }
-    requires empty { T.stands_for trail.old [] }
     ensures goes { GoesOn loaded.now (is_watched loaded.now.watched.now) walk.old walk.new meter.old meter.new result }
     ensures none { result ≡ false → walk.new.left ≡ [] }
     ensures keeps { KeepsIn (λ xs. T.stands_for trail.new xs) loaded.now walk.new.cursor.place }
@@ -96,8 +95,8 @@ fn run_kept<T: Trail, A: Allocator>(
             Followed::Ended(outcome) => walk.cursor.finish_whole_packet(outcome),
         }
         walk.left.pass(&here);
-        trail.clear();
     }
+    trail.clear();
     false
 }
 

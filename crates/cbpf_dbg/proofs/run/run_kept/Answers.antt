@@ -10,8 +10,8 @@ use Rattle.cbpf_dbg.proofs.KeepLemmas.{keeps_clear}
 use Rattle.cbpf_dbg.proofs.LeftLemmas.{first_left, first_of, none_of}
 use Rattle.cbpf_dbg.proofs.run.run_kept.Goals as goal
 
-pub follow_packet-requires-clause-spare : goal.follow_packet-requires-clause-spare
-follow_packet-requires-clause-spare g c = omega (arith, c.requires.can.spare, c.go.invariant.goes.passes.spent)
+pub follow_packet-requires : goal.follow_packet-requires
+follow_packet-requires g c = omega (arith, c.requires.can.spare, c.go.invariant.goes.passes.spent)
 
 pub finish_whole_packet-requires-clause-counts : goal.finish_whole_packet-requires-clause-counts
 finish_whole_packet-requires-clause-counts g c =
@@ -48,12 +48,11 @@ go-preserved g c =
           c.follow_packet.new.meter c.go.walk.left _ _ so.left (omega (arith, so.out refl)) (rw c.in-Ended.is refl)
           (c.finish_whole_packet.ensures ∙ rw c.in-Ended.is refl) c.follow_packet.ensures.follows
           (omega (arith, c.follow_packet.ensures.turns)) c.pass.ensures);
-      empty = c.clear.ensures;
     }
 
 pub returns-clause-none : goal.returns-clause-none
 returns-clause-none g c = λ _. none_of _ c.in_default.ensures
 
 pub returns-clause-keeps : goal.returns-clause-keeps
-returns-clause-keeps g c = keeps_clear (λ xs. g.T.Trail.stands_for c.go.trail xs) (machine_in c.args.loaded.now)
-    (records_in c.args.loaded.now) c.go.walk.cursor.place (c.go.invariant.goes.out refl) c.go.invariant.empty
+returns-clause-keeps g c = keeps_clear (λ xs. g.T.Trail.stands_for c.clear.new.self xs) (machine_in c.args.loaded.now)
+    (records_in c.args.loaded.now) c.go.walk.cursor.place (c.go.invariant.goes.out refl) c.clear.ensures
