@@ -11,7 +11,4 @@ take-repeat b (suc k) (suc n) h = ap (λ (t : List ℕ). b ∷ t) (take-repeat b
 pub take-ten : (k : ℕ) → k ≤ 10 → take k (codes "          ") ≡ spaces k
 take-ten k h = take-repeat 32 k 10 h
 
-pub take-five : (k : ℕ) → k ≤ 5 → take k (codes "     ") ≡ spaces k
-take-five k h = take-repeat 32 k 5 h
-
-pub ruleset pads = (take-ten, take-five)
+pub ruleset pads = (take-ten)

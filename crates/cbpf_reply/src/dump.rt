@@ -200,20 +200,12 @@ pub(crate) fn put_value(line: &mut Line, value: u32)
     line.put(b"[");
 }
 
-/// The spaces that fill a text of this length up to ten places.
+/// The spaces that fill a text of this length up to so many places, at most ten.
 #[tactic(auto, using(crate::proofs::SpaceLemmas::pads))]
-pub(crate) fn spaces_to_ten(len: usize) -> &'static [u8]
-    ensures same { result.now ≡ spaces (10 - len) }
-    ensures short { length result.now ≤ 10 }
+pub(crate) fn spaces_to(places: usize, len: usize) -> &'static [u8]
+    requires { places ≤ 10 }
+    ensures same { result.now ≡ spaces (places - len) }
+    ensures short { length result.now ≤ places }
 {
-    &b"          "[..10usize.saturating_sub(len)]
-}
-
-/// The spaces that set a text of this length right in five places.
-#[tactic(auto, using(crate::proofs::SpaceLemmas::pads))]
-pub(crate) fn spaces_to_five(len: usize) -> &'static [u8]
-    ensures same { result.now ≡ spaces (5 - len) }
-    ensures short { length result.now ≤ 5 }
-{
-    &b"     "[..5usize.saturating_sub(len)]
+    &b"          "[..places.saturating_sub(len)]
 }

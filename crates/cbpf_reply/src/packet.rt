@@ -10,7 +10,7 @@ ghost use Rattle.cbpf_reply.specs.Dump.{why_line};
 ghost use Rattle.cbpf_reply.specs.declared.packet.TheConstants.{ROW};
 ghost use Rattle.cbpf_reply.specs.Packet as spec;
 
-use crate::dump::{put_why, spaces_to_five};
+use crate::dump::{put_why, spaces_to};
 use crate::reply::Why;
 use cbpf_code::{Line, WriteFault};
 use std::io::Write;
@@ -34,20 +34,7 @@ fn put_cells(line: &mut Line, row: &[u8])
     }
 }
 
-/// Puts a number right in five places.
-#[inline(always)]
-fn put_offset(line: &mut Line, at: usize)
-    requires room { length line.old + 25 ≤ 256 }
-    ensures text { line.new ≡ spaces (5 - length (decimal at)) ++ decimal at ++ line.old }
-    ensures grown { length line.new ≤ length line.old + 25 }
-{
-    let before = line.as_bytes().len();
-    line.put_u64(at as u64);
-    let digits = line.as_bytes().len() - before;
-    line.put(spaces_to_five(digits));
-}
-
-/// Puts a row of at most `ROW` bytes, the first of which has offset `at`.
+/// Puts a row of at most `ROW` bytes, the first of which has offset `at`, right in five places.
 #[inline(always)]
 fn put_row(line: &mut Line, at: usize, row: &[u8])
     requires few { length row.now ≤ ROW }
@@ -58,7 +45,10 @@ fn put_row(line: &mut Line, at: usize, row: &[u8])
     line.put(b"\n");
     put_cells(line, row);
     line.put(b":");
-    put_offset(line, at);
+    let before = line.as_bytes().len();
+    line.put_u64(at as u64);
+    let digits = line.as_bytes().len() - before;
+    line.put(spaces_to(5, digits));
 }
 
 /// Puts the rows from `from` on and before `to`, of which there are at most three.

@@ -5,7 +5,7 @@ ghost use Rattle.cbpf_code.specs.Text.{concat};
 ghost use Rattle.cbpf_code.specs.Writing.{Wrote};
 ghost use Rattle.cbpf_reply.specs.Scratch as spec;
 
-use crate::dump::{put_value, spaces_to_ten};
+use crate::dump::{put_value, spaces_to};
 use cbpf_code::{Line, WriteFault};
 use std::io::Write;
 
@@ -57,7 +57,7 @@ fn write_scratch_line<W: Write>(
     let label = label.as_bytes();
     let mut line = Line::new();
     put_value(&mut line, value);
-    line.put(spaces_to_ten(label.len()));
+    line.put(spaces_to(10, label.len()));
     line.put(label);
     line.write(w)
 }

@@ -15,7 +15,7 @@ returns g c =
     (rw (
       c.put-2.ensures.text,
       c.put.ensures.text,
-      c.spaces_to_ten.ensures.same,
+      c.spaces_to.ensures.same,
       c.put_value.ensures.text,
       c.new-line.ensures,
       append-nil (concat (value_pieces c.args.value)),
