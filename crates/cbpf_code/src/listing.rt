@@ -214,6 +214,37 @@ pub enum Operand {
     XTwo,
 }
 
+/// The mnemonics of listings, which sources have too.
+#[macro_export]
+macro_rules! mnemonic {
+    (Ld) => { b"ld" };
+    (LdHalf) => { b"ldh" };
+    (LdByte) => { b"ldb" };
+    (Ldx) => { b"ldx" };
+    (LdxMsh) => { b"ldxb" };
+    (St) => { b"st" };
+    (Stx) => { b"stx" };
+    (Add) => { b"add" };
+    (Sub) => { b"sub" };
+    (Mul) => { b"mul" };
+    (Div) => { b"div" };
+    (Or) => { b"or" };
+    (And) => { b"and" };
+    (Lsh) => { b"lsh" };
+    (Rsh) => { b"rsh" };
+    (Mod) => { b"mod" };
+    (Xor) => { b"xor" };
+    (Neg) => { b"neg" };
+    (Ja) => { b"jmp" };
+    (Eq) => { b"jeq" };
+    (Gt) => { b"jgt" };
+    (Ge) => { b"jge" };
+    (Bits) => { b"jset" };
+    (Ret) => { b"ret" };
+    (Tax) => { b"tax" };
+    (Txa) => { b"txa" };
+}
+
 /// The mnemonic of an operation.
 #[inline]
 pub(crate) fn mnemonic_of(op: Op) -> &'static [u8]
@@ -221,32 +252,32 @@ pub(crate) fn mnemonic_of(op: Op) -> &'static [u8]
     ensures short { length result.now ≤ 4 }
 {
     match op {
-        Op::LdAbs(Size::Half) | Op::LdInd(Size::Half) => b"ldh",
-        Op::LdAbs(Size::Byte) | Op::LdInd(Size::Byte) => b"ldb",
-        Op::LdImm | Op::LdAbs(_) | Op::LdInd(_) | Op::LdMem | Op::LdLen => b"ld",
-        Op::LdxImm | Op::LdxMem | Op::LdxLen => b"ldx",
-        Op::LdxMsh => b"ldxb",
-        Op::St => b"st",
-        Op::Stx => b"stx",
-        Op::Alu(AluOp::Add, _) => b"add",
-        Op::Alu(AluOp::Sub, _) => b"sub",
-        Op::Alu(AluOp::Mul, _) => b"mul",
-        Op::Alu(AluOp::Div, _) => b"div",
-        Op::Alu(AluOp::Or, _) => b"or",
-        Op::Alu(AluOp::And, _) => b"and",
-        Op::Alu(AluOp::Lsh, _) => b"lsh",
-        Op::Alu(AluOp::Rsh, _) => b"rsh",
-        Op::Alu(AluOp::Mod, _) => b"mod",
-        Op::Alu(AluOp::Xor, _) => b"xor",
-        Op::Neg => b"neg",
-        Op::Ja => b"jmp",
-        Op::Jump(Cond::Eq, _) => b"jeq",
-        Op::Jump(Cond::Gt, _) => b"jgt",
-        Op::Jump(Cond::Ge, _) => b"jge",
-        Op::Jump(Cond::Bits, _) => b"jset",
-        Op::RetK | Op::RetA => b"ret",
-        Op::Tax => b"tax",
-        Op::Txa => b"txa",
+        Op::LdAbs(Size::Half) | Op::LdInd(Size::Half) => mnemonic!(LdHalf),
+        Op::LdAbs(Size::Byte) | Op::LdInd(Size::Byte) => mnemonic!(LdByte),
+        Op::LdImm | Op::LdAbs(_) | Op::LdInd(_) | Op::LdMem | Op::LdLen => mnemonic!(Ld),
+        Op::LdxImm | Op::LdxMem | Op::LdxLen => mnemonic!(Ldx),
+        Op::LdxMsh => mnemonic!(LdxMsh),
+        Op::St => mnemonic!(St),
+        Op::Stx => mnemonic!(Stx),
+        Op::Alu(AluOp::Add, _) => mnemonic!(Add),
+        Op::Alu(AluOp::Sub, _) => mnemonic!(Sub),
+        Op::Alu(AluOp::Mul, _) => mnemonic!(Mul),
+        Op::Alu(AluOp::Div, _) => mnemonic!(Div),
+        Op::Alu(AluOp::Or, _) => mnemonic!(Or),
+        Op::Alu(AluOp::And, _) => mnemonic!(And),
+        Op::Alu(AluOp::Lsh, _) => mnemonic!(Lsh),
+        Op::Alu(AluOp::Rsh, _) => mnemonic!(Rsh),
+        Op::Alu(AluOp::Mod, _) => mnemonic!(Mod),
+        Op::Alu(AluOp::Xor, _) => mnemonic!(Xor),
+        Op::Neg => mnemonic!(Neg),
+        Op::Ja => mnemonic!(Ja),
+        Op::Jump(Cond::Eq, _) => mnemonic!(Eq),
+        Op::Jump(Cond::Gt, _) => mnemonic!(Gt),
+        Op::Jump(Cond::Ge, _) => mnemonic!(Ge),
+        Op::Jump(Cond::Bits, _) => mnemonic!(Bits),
+        Op::RetK | Op::RetA => mnemonic!(Ret),
+        Op::Tax => mnemonic!(Tax),
+        Op::Txa => mnemonic!(Txa),
     }
 }
 

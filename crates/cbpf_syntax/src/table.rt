@@ -7,7 +7,7 @@ ghost use Rattle.cbpf_syntax.specs.Initials.{begins_with};
 ghost use Rattle.cbpf_syntax.specs.Views.{mnemonic_of};
 
 use crate::mode::Mode;
-use cbpf_code::{AluOp, Cond, Op, Size, Src};
+use cbpf_code::{AluOp, Cond, Op, Size, Src, mnemonic};
 
 /// Where an instruction's literal and targets go.
 #[derive(Clone, Copy, Debug, PartialEq, Eq)]
@@ -37,229 +37,158 @@ pub struct Mnemonic {
     pub entries: &'static [TableEntry],
 }
 
-macro_rules! entry {
-    ($mode:ident, $op:expr, $fields:ident) => {
-        TableEntry { mode: Mode::$mode, op: $op, fields: Fields::$fields }
+macro_rules! entries {
+    ($(($mode:ident, $op:expr, $fields:ident)),+) => {
+        &[$(TableEntry { mode: Mode::$mode, op: $op, fields: Fields::$fields }),+]
     };
 }
 
 macro_rules! load {
-    ($size:ident) => {
-        &[
-            entry!(Absolute, Op::LdAbs(Size::$size), Constant),
-            entry!(Indexed, Op::LdInd(Size::$size), Constant),
-            entry!(Extension, Op::LdAbs(Size::$size), Constant),
-        ]
+    ($word:ident, $size:ident) => {
+        Mnemonic {
+            word: mnemonic!($word),
+            entries: entries!(
+                (Absolute, Op::LdAbs(Size::$size), Constant),
+                (Indexed, Op::LdInd(Size::$size), Constant),
+                (Extension, Op::LdAbs(Size::$size), Constant)
+            ),
+        }
     };
 }
 
 macro_rules! one_target {
-    ($cond:ident) => {
-        &[
-            entry!(ImmediateOne, Op::Jump(Cond::$cond, Src::K), Swapped),
-            entry!(XOne, Op::Jump(Cond::$cond, Src::X), Swapped),
-        ]
+    ($word:literal, $cond:ident) => {
+        Mnemonic {
+            word: $word,
+            entries: entries!(
+                (ImmediateOne, Op::Jump(Cond::$cond, Src::K), Swapped),
+                (XOne, Op::Jump(Cond::$cond, Src::X), Swapped)
+            ),
+        }
     };
 }
 
 // The longer forms stand first, so that a jump with two targets is found at its first form.
 macro_rules! jump {
     ($cond:ident) => {
-        &[
-            entry!(ImmediateTwo, Op::Jump(Cond::$cond, Src::K), Branch),
-            entry!(XTwo, Op::Jump(Cond::$cond, Src::X), Branch),
-            entry!(ImmediateOne, Op::Jump(Cond::$cond, Src::K), Branch),
-            entry!(XOne, Op::Jump(Cond::$cond, Src::X), Branch),
-        ]
+        Mnemonic {
+            word: mnemonic!($cond),
+            entries: entries!(
+                (ImmediateTwo, Op::Jump(Cond::$cond, Src::K), Branch),
+                (XTwo, Op::Jump(Cond::$cond, Src::X), Branch),
+                (ImmediateOne, Op::Jump(Cond::$cond, Src::K), Branch),
+                (XOne, Op::Jump(Cond::$cond, Src::X), Branch)
+            ),
+        }
     };
 }
 
 macro_rules! alu {
     ($op:ident) => {
-        &[
-            entry!(Immediate, Op::Alu(AluOp::$op, Src::K), Constant),
-            entry!(X, Op::Alu(AluOp::$op, Src::X), Constant),
-        ]
+        Mnemonic {
+            word: mnemonic!($op),
+            entries: entries!(
+                (Immediate, Op::Alu(AluOp::$op, Src::K), Constant),
+                (X, Op::Alu(AluOp::$op, Src::X), Constant)
+            ),
+        }
+    };
+}
+
+// One addressing mode.
+macro_rules! only {
+    ($op:ident, $mode:ident, $fields:ident) => {
+        Mnemonic {
+            word: mnemonic!($op),
+            entries: entries!(($mode, Op::$op, $fields)),
+        }
     };
 }
 
 static L_MNEMONICS: [Mnemonic; 8] = [
     Mnemonic {
-        word: b"ld",
-        entries: &[
-            entry!(Absolute, Op::LdAbs(Size::Word), Constant),
-            entry!(Indexed, Op::LdInd(Size::Word), Constant),
-            entry!(Extension, Op::LdAbs(Size::Word), Constant),
-            entry!(Memory, Op::LdMem, Constant),
-            entry!(Immediate, Op::LdImm, Constant),
-            entry!(Length, Op::LdLen, Constant),
-        ],
+        word: mnemonic!(Ld),
+        entries: entries!(
+            (Absolute, Op::LdAbs(Size::Word), Constant),
+            (Indexed, Op::LdInd(Size::Word), Constant),
+            (Extension, Op::LdAbs(Size::Word), Constant),
+            (Memory, Op::LdMem, Constant),
+            (Immediate, Op::LdImm, Constant),
+            (Length, Op::LdLen, Constant)
+        ),
     },
-    Mnemonic {
-        word: b"ldh",
-        entries: load!(Half),
-    },
-    Mnemonic {
-        word: b"ldb",
-        entries: load!(Byte),
-    },
+    load!(LdHalf, Half),
+    load!(LdByte, Byte),
     Mnemonic {
         word: b"ldi",
-        entries: &[
-            entry!(Immediate, Op::LdImm, Constant),
-            entry!(Number, Op::LdImm, Constant),
-        ],
+        entries: entries!(
+            (Immediate, Op::LdImm, Constant),
+            (Number, Op::LdImm, Constant)
+        ),
     },
     Mnemonic {
-        word: b"ldx",
-        entries: &[
-            entry!(Memory, Op::LdxMem, Constant),
-            entry!(Immediate, Op::LdxImm, Constant),
-            entry!(Header, Op::LdxMsh, Constant),
-            entry!(Length, Op::LdxLen, Constant),
-        ],
+        word: mnemonic!(Ldx),
+        entries: entries!(
+            (Memory, Op::LdxMem, Constant),
+            (Immediate, Op::LdxImm, Constant),
+            (Header, Op::LdxMsh, Constant),
+            (Length, Op::LdxLen, Constant)
+        ),
     },
     Mnemonic {
         word: b"ldxi",
-        entries: &[
-            entry!(Immediate, Op::LdxImm, Constant),
-            entry!(Number, Op::LdxImm, Constant),
-        ],
+        entries: entries!(
+            (Immediate, Op::LdxImm, Constant),
+            (Number, Op::LdxImm, Constant)
+        ),
     },
-    Mnemonic {
-        word: b"ldxb",
-        entries: &[entry!(Header, Op::LdxMsh, Constant)],
-    },
-    Mnemonic {
-        word: b"lsh",
-        entries: alu!(Lsh),
-    },
+    only!(LdxMsh, Header, Constant),
+    alu!(Lsh),
 ];
 
 static S_MNEMONICS: [Mnemonic; 3] = [
-    Mnemonic {
-        word: b"st",
-        entries: &[entry!(Memory, Op::St, Constant)],
-    },
-    Mnemonic {
-        word: b"stx",
-        entries: &[entry!(Memory, Op::Stx, Constant)],
-    },
-    Mnemonic {
-        word: b"sub",
-        entries: alu!(Sub),
-    },
+    only!(St, Memory, Constant),
+    only!(Stx, Memory, Constant),
+    alu!(Sub),
 ];
 
 static J_MNEMONICS: [Mnemonic; 10] = [
-    Mnemonic {
-        word: b"jmp",
-        entries: &[entry!(Label, Op::Ja, Goto)],
-    },
+    only!(Ja, Label, Goto),
     Mnemonic {
         word: b"ja",
-        entries: &[entry!(Label, Op::Ja, Goto)],
+        entries: entries!((Label, Op::Ja, Goto)),
     },
-    Mnemonic {
-        word: b"jeq",
-        entries: jump!(Eq),
-    },
-    Mnemonic {
-        word: b"jgt",
-        entries: jump!(Gt),
-    },
-    Mnemonic {
-        word: b"jge",
-        entries: jump!(Ge),
-    },
-    Mnemonic {
-        word: b"jset",
-        entries: jump!(Bits),
-    },
-    Mnemonic {
-        word: b"jneq",
-        entries: one_target!(Eq),
-    },
-    Mnemonic {
-        word: b"jne",
-        entries: one_target!(Eq),
-    },
-    Mnemonic {
-        word: b"jlt",
-        entries: one_target!(Ge),
-    },
-    Mnemonic {
-        word: b"jle",
-        entries: one_target!(Gt),
-    },
+    jump!(Eq),
+    jump!(Gt),
+    jump!(Ge),
+    jump!(Bits),
+    one_target!(b"jneq", Eq),
+    one_target!(b"jne", Eq),
+    one_target!(b"jlt", Ge),
+    one_target!(b"jle", Gt),
 ];
 
-static A_MNEMONICS: [Mnemonic; 2] = [
-    Mnemonic {
-        word: b"add",
-        entries: alu!(Add),
-    },
-    Mnemonic {
-        word: b"and",
-        entries: alu!(And),
-    },
-];
+static A_MNEMONICS: [Mnemonic; 2] = [alu!(Add), alu!(And)];
 
-static M_MNEMONICS: [Mnemonic; 2] = [
-    Mnemonic {
-        word: b"mul",
-        entries: alu!(Mul),
-    },
-    Mnemonic {
-        word: b"mod",
-        entries: alu!(Mod),
-    },
-];
+static M_MNEMONICS: [Mnemonic; 2] = [alu!(Mul), alu!(Mod)];
 
-static D_MNEMONICS: [Mnemonic; 1] = [Mnemonic {
-    word: b"div",
-    entries: alu!(Div),
-}];
+static D_MNEMONICS: [Mnemonic; 1] = [alu!(Div)];
 
-static O_MNEMONICS: [Mnemonic; 1] = [Mnemonic {
-    word: b"or",
-    entries: alu!(Or),
-}];
+static O_MNEMONICS: [Mnemonic; 1] = [alu!(Or)];
 
-static X_MNEMONICS: [Mnemonic; 1] = [Mnemonic {
-    word: b"xor",
-    entries: alu!(Xor),
-}];
+static X_MNEMONICS: [Mnemonic; 1] = [alu!(Xor)];
 
 static R_MNEMONICS: [Mnemonic; 2] = [
+    alu!(Rsh),
     Mnemonic {
-        word: b"rsh",
-        entries: alu!(Rsh),
-    },
-    Mnemonic {
-        word: b"ret",
-        entries: &[
-            entry!(Immediate, Op::RetK, Constant),
-            entry!(A, Op::RetA, Constant),
-        ],
+        word: mnemonic!(Ret),
+        entries: entries!((Immediate, Op::RetK, Constant), (A, Op::RetA, Constant)),
     },
 ];
 
-static N_MNEMONICS: [Mnemonic; 1] = [Mnemonic {
-    word: b"neg",
-    entries: &[entry!(Bare, Op::Neg, Constant)],
-}];
+static N_MNEMONICS: [Mnemonic; 1] = [only!(Neg, Bare, Constant)];
 
-static T_MNEMONICS: [Mnemonic; 2] = [
-    Mnemonic {
-        word: b"tax",
-        entries: &[entry!(Bare, Op::Tax, Constant)],
-    },
-    Mnemonic {
-        word: b"txa",
-        entries: &[entry!(Bare, Op::Txa, Constant)],
-    },
-];
+static T_MNEMONICS: [Mnemonic; 2] = [only!(Tax, Bare, Constant), only!(Txa, Bare, Constant)];
 
 /// The mnemonics whose word begins with a byte.
 #[inline]
