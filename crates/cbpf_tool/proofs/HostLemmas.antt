@@ -64,12 +64,12 @@ debugged-from h script left old new f g t o e d =
 
 -- an output was left with the replies
 pub debugged-left : (h mid last new : Hosted) (script : List ℕ) (w : Option (List ℕ)) (event : List ℕ → Event)
-    (t : Result (Unit {0}) ToolFault) (r : Result (Unit {0}) Failure) → r ≡ tooled t → mid ≡ h → last ≡ mid
+    (t : Result (Unit {0}) ToolFault) → mid ≡ h → last ≡ mid
     → (text : List ℕ) → w ≡ Some text → DebuggedTo mid script text t
     → ((x : List ℕ) → w ≡ Some x → new ≡ and_then last (event x ∷ []))
-    → RunsTool h new event (DebuggedTo h script) r
-debugged-left h mid last new script w event t r e m l text some d p =
-    (t, e, inr (text, rw (l, m) at (p text some), rw m at d))
+    → Ends h new event (DebuggedTo h script) t
+debugged-left h mid last new script w event t m l text some d p =
+    inr (text, rw (l, m) at (p text some), rw m at d)
 
 -- ---- after a file was opened or created
 
@@ -91,6 +91,9 @@ pub created-left : (h mid last new : Hosted) (name at to script : List ℕ) (w :
     → mid ≡ and_then h (created at ∷ []) → last ≡ mid → (text : List ℕ) → w ≡ Some text
     → DebuggedTo mid script text t → ((x : List ℕ) → w ≡ Some x → new ≡ and_then last (wrote to x ∷ []))
     → RunsTool (and_then h (created name ∷ [])) new (wrote name) (DebuggedTo h script) r
-created-left h mid last new name at to script w t r e a b m l text some d p =
-    debugged-left (and_then h (created name ∷ [])) mid last new script w (wrote name) t r e (rw a at m) l text some d
-    (λ x s. rw b at (p x s))
+created-left h mid last new name at to script w t r e a b m l text some d p = (
+  t,
+  e,
+  debugged-left (and_then h (created name ∷ [])) mid last new script w (wrote name) t (rw a at m) l text some d
+      (λ x s. rw b at (p x s)),
+)

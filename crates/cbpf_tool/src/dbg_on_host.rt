@@ -1,7 +1,8 @@
 // The job `dbg`.
 ghost use Rattle.std.specs.Prelude.{◌≡◌, ℕ, IsTrue, List, [], None, Some, string_bytes};
 ghost use Rattle.std.specs.Option.{option_map};
-ghost use Rattle.cbpf_tool.specs.Jobs.{DbgJob, DebuggedTo, RepliesTo};
+ghost use Rattle.cbpf_tool.specs.Hosted.{printed};
+ghost use Rattle.cbpf_tool.specs.Jobs.{DbgJob, DebuggedTo, Ends, RepliesTo};
 
 use crate::debugger::debug;
 use crate::failure::{Failure, tooled};
@@ -25,7 +26,46 @@ fn run_script<A: Allocator, H: Host, I: Read, O: Write>(
     debug(alloc, reader, writer, &mut disk)
 }
 
-/// Runs the script that a reader gives, with the replies to a file, or to the standard output.
+/// Runs the script that a reader gives, with the replies to the standard output.
+fn debug_to_output<A: Allocator, H: Host, I: Read>(
+    alloc: A,
+    host: &mut H,
+    reader: &mut I,
+) -> Result<(), ToolFault>
+    ensures { IsTrue (H.view host.old).is_known → (script : List ℕ) → I.remaining reader.old ≡ Some script →
+        Ends (H.view host.old) (H.view host.new) printed (DebuggedTo (H.view host.old) script) result }
+{
+    let Ok(mut writer) = host.output() else {
+        return Err(ToolFault::Memory);
+    };
+    let done = run_script(alloc, host, reader, &mut writer);
+    host.print(writer);
+    done
+}
+
+/// The same with the replies to a file.
+fn debug_to_file<A: Allocator, H: Host, I: Read>(
+    alloc: A,
+    host: &mut H,
+    reader: &mut I,
+    name: String,
+) -> Result<(), Failure>
+    ensures { IsTrue (H.view host.old).is_known → (script : List ℕ) → I.remaining reader.old ≡ Some script →
+        RepliesTo (H.view host.old) (H.view host.new) script (Some (string_bytes name)) result }
+{
+    match host.create(name.as_str()) {
+        Ok(sink) => {
+            let mut sink = sink;
+            let done = run_script(alloc, host, reader, &mut sink);
+            host.close(name.as_str(), sink);
+            tooled(done)
+        }
+        Err(CreateFault::NotCreated) => Err(Failure::CannotOpen(name)),
+        Err(CreateFault::Memory) => Err(Failure::Tool(ToolFault::Memory)),
+    }
+}
+
+/// The same with the replies to the file of this name, or to the standard output.
 fn debug_from<A: Allocator, H: Host, I: Read>(
     alloc: A,
     host: &mut H,
@@ -36,24 +76,8 @@ fn debug_from<A: Allocator, H: Host, I: Read>(
         RepliesTo (H.view host.old) (H.view host.new) script (option_map (λ n. string_bytes n) output) result }
 {
     match output {
-        None => {
-            let Ok(mut writer) = host.output() else {
-                return Err(Failure::Tool(ToolFault::Memory));
-            };
-            let done = run_script(alloc, host, reader, &mut writer);
-            host.print(writer);
-            tooled(done)
-        }
-        Some(name) => match host.create(name.as_str()) {
-            Ok(sink) => {
-                let mut sink = sink;
-                let done = run_script(alloc, host, reader, &mut sink);
-                host.close(name.as_str(), sink);
-                tooled(done)
-            }
-            Err(CreateFault::NotCreated) => Err(Failure::CannotOpen(name)),
-            Err(CreateFault::Memory) => Err(Failure::Tool(ToolFault::Memory)),
-        },
+        None => tooled(debug_to_output(alloc, host, reader)),
+        Some(name) => debug_to_file(alloc, host, reader, name),
     }
 }
 
