@@ -1,4 +1,4 @@
 pub mod SpaceLemmas
-pub mod ScratchLemmas
+pub mod LeftLemmas
 pub mod RowLemmas
 pub mod DumpLemmas

@@ -2,9 +2,10 @@
 use Rattle.std.proofs.Common.{◌≡◌, ℕ, zero, suc, ◌+◌, ◌-◌, ◌<◌, ◌≤◌, List, ◌++◌, Option, Result, length, take, drop}
 use Rattle.std.proofs.Common.{min, refl, sym, ap, ◌∙◌, arith, append_assoc, append-nil, take_all, length-drop, inl, inr}
 use Rattle.std.proofs.lemmas.Bool.{cases_lt}
+use Rattle.std.specs.Result.{IsErr}
 use Rattle.cbpf_code.specs.Writing.{Appended, AppendedPart, Wrote}
-use Rattle.cbpf_code.proofs.WrittenLemmas.{appended-nil, appended-then, err-exit, first-failed, part-then, part-more}
-use Rattle.cbpf_code.proofs.WrittenLemmas.{wrote-then}
+use Rattle.cbpf_code.proofs.WrittenLemmas.{first-failed}
+use Rattle.cbpf_reply.proofs.LeftLemmas.{Left, left-first, left-next, left-last, left-stop}
 use Rattle.cbpf_reply.specs.Packet.{texts_from}
 use Rattle.cbpf_reply.specs.declared.packet.TheConstants.{ROW}
 
@@ -31,28 +32,25 @@ texts-add f a (suc m) n =
     let next : a + suc m ≡ suc a + m = omega arith in
     rw (one, next, append_assoc, texts-add f (suc a) m n) refl
 
--- the first b rows are the first a and those after them
-texts-on : (f : ℕ → List ℕ) (a b : ℕ) → a ≤ b → texts_from f 0 b ≡ texts_from f 0 a ++ texts_from f a (b - a)
-texts-on f a b l =
-    let whole : b ≡ a + (b - a) = omega arith in
-    let here : 0 + a ≡ a = omega arith in
-    ap (texts_from f 0) whole ∙ texts-add f 0 a (b - a) ∙ rw here refl
+-- the rows from a on are those before b, and those from b on
+rows-split : (f : ℕ → List ℕ) (a b n : ℕ) (end : List ℕ) → a ≤ b → b ≤ n
+    → texts_from f a (n - a) ++ end ≡ texts_from f a (b - a) ++ (texts_from f b (n - b) ++ end)
+rows-split f a b n end l m =
+    let whole : n - a ≡ (b - a) + (n - b) = omega arith in
+    let here : a + (b - a) ≡ b = omega arith in
+    rw (whole, texts-add f a (b - a) (n - b), here, append_assoc) refl
 
-pub rows-next : (f : ℕ → List ℕ) (a b : ℕ) (u v w : Option (List ℕ)) → a ≤ b → Appended u v (texts_from f 0 a)
-    → Appended v w (texts_from f a (b - a)) → Appended u w (texts_from f 0 b)
-rows-next f a b u v w l x y = rw (texts-on f a b l) (appended-then u v w _ _ x y)
+pub rows-next : (f : ℕ → List ℕ) (a b n : ℕ) (end text : List ℕ) (u v w : Option (List ℕ)) → a ≤ b → b ≤ n
+    → Left u v (texts_from f a (n - a) ++ end) text → Appended v w (texts_from f a (b - a))
+    → Left u w (texts_from f b (n - b) ++ end) text
+rows-next f a b n end text u v w l m left x =
+    left-next u v w (texts_from f a (b - a)) _ text (rw (rows-split f a b n end l m) at left) x
 
-pub rows-stop : (f : ℕ → List ℕ) (a b n : ℕ) (end : List ℕ) (u v w : Option (List ℕ)) → a ≤ b → b ≤ n
-    → Appended u v (texts_from f 0 a) → AppendedPart v w (texts_from f a (b - a))
-    → AppendedPart u w (texts_from f 0 n ++ end)
-rows-stop f a b n end u v w l m x y =
-    rw (texts-on f b n m, append_assoc) (part-more u w (texts_from f 0 b) _
-    (rw (texts-on f a b l) (part-then u v w _ _ x y)))
-
-pub rows-last : {A E : Type 0} (f : ℕ → List ℕ) (a n : ℕ) (end : List ℕ) (u v w : Option (List ℕ)) (r : Result A E)
-    → a ≤ n → Appended u v (texts_from f 0 a) → Wrote v w r (texts_from f a (n - a) ++ end)
-    → Wrote u w r (texts_from f 0 n ++ end)
-rows-last f a n end u v w r l x y = rw (texts-on f a n l, append_assoc) (wrote-then u v w _ _ r x y)
+pub rows-stop : {A E : Type 0} (f : ℕ → List ℕ) (a b n : ℕ) (end text : List ℕ) (u v w : Option (List ℕ))
+    (r : Result A E) → a ≤ b → b ≤ n → IsErr r → Left u v (texts_from f a (n - a) ++ end) text
+    → AppendedPart v w (texts_from f a (b - a)) → Wrote u w r text
+rows-stop f a b n end text u v w r l m e left x =
+    left-stop u v w (texts_from f a (b - a)) _ text r e (rw (rows-split f a b n end l m) at left) x
 
 pub row-taken : (s : List ℕ) (at e : ℕ) → e ≡ min (length s) (at + ROW)
     → take (e - at) (drop at s) ≡ take ROW (drop at s)
@@ -65,14 +63,12 @@ row-taken s at e h = elim (cases_lt (length s) (at + ROW)) [
 
 pub ruleset rows = (
   append-nil,
-  appended-nil,
-  err-exit,
   first-failed,
-  wrote-then,
   texts-before,
   texts-none,
+  left-first,
+  left-last,
   rows-next,
   rows-stop,
-  rows-last,
   row-taken,
 )

@@ -6,9 +6,8 @@ use Rattle.std.specs.List.{range_with_len}
 use Rattle.cbpf_code.specs.declared.checker.TheConstants.{SLOTS}
 use Rattle.cbpf_code.specs.declared.insn.Insn.{Insn}
 use Rattle.cbpf_code.specs.Extension.{ext_name}
-use Rattle.cbpf_code.specs.Text.{concat}
+use Rattle.cbpf_code.specs.Text.{concat, hex}
 use Rattle.cbpf_code.specs.Listing.{line_text}
-use Rattle.cbpf_reply.specs.Columns.{labelled, value_line}
 use Rattle.cbpf_reply.specs.Scratch.{scratch_lines}
 use Rattle.cbpf_reply.specs.Packet.{packet_head, packet_rows}
 use Rattle.cbpf_reply.specs.declared.reply.Why.{Why}
@@ -29,35 +28,23 @@ pub record Shown : Type 0 where
   pub wire : ℕ
   pub why : Why
 
-abbrev pub heading : ℕ → ℕ → List ℕ
-heading packet step =
-    concat (codes "-- packet " ∷ decimal packet ∷ codes ", step " ∷ decimal step ∷ codes " --\n" ∷ [])
+-- the place, and its instruction in decimal and as the listing has it
+abbrev pub place_lines : ℕ → ℕ → ℕ → List ℕ → Option Insn → List ℕ
+place_lines packet step pc line None = []
+place_lines packet step pc line (Some i) =
+    concat (codes "-- packet " ∷ decimal packet ∷ codes ", step " ∷ decimal step
+    ∷ codes " --\n-- register dump --\npc:       [" ∷ decimal pc ∷ codes "]\ncode:     [" ∷ decimal i.code
+    ∷ codes "] jt[" ∷ decimal i.jt ∷ codes "] jf[" ∷ decimal i.jf ∷ codes "] k[" ∷ decimal i.k
+    ∷ codes "]\ncurr:     " ∷ line ∷ codes "\n" ∷ [])
 
-abbrev pub pc_line : ℕ → List ℕ
-pc_line pc = labelled (codes "pc:" ∷ []) (codes "[" ∷ decimal pc ∷ codes "]\n" ∷ [])
-
--- all in decimal
-abbrev pub code_line : Option Insn → List ℕ
-code_line None = []
-code_line (Some i) =
-    labelled (codes "code:" ∷ [])
-    (codes "[" ∷ decimal i.code ∷ codes "] jt[" ∷ decimal i.jt ∷ codes "] jf[" ∷ decimal i.jf ∷ codes "] k["
-    ∷ decimal i.k ∷ codes "]\n" ∷ [])
-
--- the instruction as the listing has it
-abbrev pub current_line : List Insn → ℕ → List ℕ
-current_line list pc = labelled (codes "curr:" ∷ []) (line_text list pc ∷ codes "\n" ∷ [])
-
-abbrev pub instruction_lines : List Insn → ℕ → List ℕ
-instruction_lines list pc = pc_line pc ++ (code_line (slice_get list pc) ++ current_line list pc)
-
--- the place, and the instruction there
 unfoldable pub instruction_dump : List Insn → ℕ → ℕ → ℕ → List ℕ
-instruction_dump list packet step pc =
-    heading packet step ++ (codes "-- register dump --\n" ++ instruction_lines list pc)
+instruction_dump list packet step pc = place_lines packet step pc (line_text list pc) (slice_get list pc)
 
+-- each in hexadecimal and in decimal
 unfoldable pub register_lines : ℕ → ℕ → List ℕ
-register_lines a x = value_line (codes "A:" ∷ []) a ++ value_line (codes "X:" ∷ []) x
+register_lines a x =
+    concat (codes "A:        [" ∷ hex 8 a ∷ codes "][" ∷ decimal a ∷ codes "]\nX:        [" ∷ hex 8 x ∷ codes "]["
+    ∷ decimal x ∷ codes "]\n" ∷ [])
 
 abbrev pub why_text : Why → List ℕ
 why_text why_is.Break = codes "breakpoint"
@@ -70,8 +57,9 @@ why_line why = concat (codes "(" ∷ why_text why ∷ codes ")\n" ∷ [])
 abbrev pub dump_text : List Insn → Shown → List ℕ
 dump_text list s =
     instruction_dump list s.packet s.step s.pc
-    ++ ((register_lines s.a s.x ++ scratch_lines s.slots)
-    ++ (packet_head (length s.bytes) s.wire ++ (packet_rows s.bytes ++ why_line s.why)))
+    ++ (register_lines s.a s.x
+    ++ (scratch_lines s.slots
+    ++ (packet_head (length s.bytes) s.wire ++ (packet_rows s.bytes ++ why_line s.why))))
 
 -- scratch memory, from slot 0 on
 unfoldable pub slots_of : Registers → List ℕ

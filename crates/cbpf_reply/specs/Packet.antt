@@ -27,9 +27,6 @@ abbrev pub packet_rows : List ℕ → List ℕ
 packet_rows bytes = texts_from (packet_row bytes) 0 (div_ceil (length bytes) ROW)
 
 -- captured and original length
-abbrev pub length_line : ℕ → ℕ → List ℕ
-length_line captured wire =
-    concat (codes "len: " ∷ decimal captured ∷ codes " wire: " ∷ decimal wire ∷ codes "\n" ∷ [])
-
 unfoldable pub packet_head : ℕ → ℕ → List ℕ
-packet_head captured wire = codes "-- packet dump --\n" ++ length_line captured wire
+packet_head captured wire =
+    concat (codes "-- packet dump --\nlen: " ∷ decimal captured ∷ codes " wire: " ∷ decimal wire ∷ codes "\n" ∷ [])

@@ -3,14 +3,15 @@
 use Rattle.std.specs.Prelude.{ℕ, ◌+◌, ◌-◌, Bool, not, ◌==◌, ◌||◌, if◌then◌else◌, List, [], ◌∷◌, length, drop, slice_index}
 use Rattle.std.specs.Prelude.{decimal, codes}
 use Rattle.std.specs.List.{prefix_len}
+use Rattle.cbpf_code.specs.Text.{concat, with_number}
 use Rattle.cbpf_reply.specs.Columns.{value_line}
 use Rattle.cbpf_reply.specs.Packet.{texts_from}
 
 -- one slot, or the first and the last
-abbrev pub slots_label : ℕ → ℕ → List (List ℕ)
+abbrev pub slots_label : ℕ → ℕ → List ℕ
 slots_label first last =
-    if first == last then (codes "M[" ∷ decimal first ∷ codes "]:" ∷ [])
-    else (codes "M[" ∷ decimal first ∷ codes "," ∷ decimal last ∷ codes "]:" ∷ [])
+    if first == last then with_number (codes "M[") first (codes "]:")
+    else concat (codes "M[" ∷ decimal first ∷ codes "," ∷ decimal last ∷ codes "]:" ∷ [])
 
 abbrev pub scratch_line : ℕ → ℕ → ℕ → List ℕ
 scratch_line first last value = value_line (slots_label first last) value

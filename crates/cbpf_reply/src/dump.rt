@@ -2,9 +2,7 @@
 
 ghost use Rattle.std.specs.Prelude.{◌≡◌, ◌<◌, ◌≤◌, ◌+◌, ◌++◌, Some, codes, length, ◌-◌};
 ghost use Rattle.cbpf_code.specs.Writing.{Wrote};
-ghost use Rattle.cbpf_reply.specs.Scratch.{scratch_lines};
-ghost use Rattle.cbpf_code.specs.Text.{concat, spaces};
-ghost use Rattle.cbpf_reply.specs.Columns.{value_pieces};
+ghost use Rattle.cbpf_code.specs.Text.{spaces};
 ghost use Rattle.cbpf_reply.specs.Dump as spec;
 
 use crate::packet::write_packet;
@@ -15,75 +13,9 @@ use cbpf_machine::State;
 use std::alloc::Allocator;
 use std::io::Write;
 
-#[inline(always)]
-fn put_heading(line: &mut Line, packet: u64, step: u32)
-    requires { length line.old + 51 ≤ 256 }
-    ensures { line.new ≡ spec.heading packet step ++ line.old }
-{
-    line.put(b" --\n");
-    line.put_u32(step);
-    line.put(b", step ");
-    line.put_u64(packet);
-    line.put(b"-- packet ");
-}
-
-#[inline(always)]
-fn put_pc_line(line: &mut Line, pc: u32)
-    requires room { length line.old + 23 ≤ 256 }
-    ensures text { line.new ≡ spec.pc_line pc ++ line.old }
-    ensures grown { length line.new ≤ length line.old + 23 }
-{
-    line.put(b"]\n");
-    line.put_u32(pc);
-    line.put(b"pc:       [");
-}
-
-#[inline(always)]
-fn put_code_line(line: &mut Line, insn: Insn)
-    requires room { length line.old + 71 ≤ 256 }
-    ensures text { line.new ≡ spec.code_line (Some insn) ++ line.old }
-    ensures grown { length line.new ≤ length line.old + 71 }
-{
-    line.put(b"]\n");
-    line.put_u32(insn.k);
-    line.put(b"] k[");
-    line.put_u32(u32::from(insn.jf));
-    line.put(b"] jf[");
-    line.put_u32(u32::from(insn.jt));
-    line.put(b"] jt[");
-    line.put_u32(u32::from(insn.code));
-    line.put(b"code:     [");
-}
-
-#[inline(always)]
-fn put_current_line<A: Allocator>(line: &mut Line, p: &Program<A>, pc: u32)
-    requires within { pc < length p.now }
-    requires room { length line.old + 88 ≤ 256 }
-    ensures text { line.new ≡ spec.current_line p.now pc ++ line.old }
-    ensures grown { length line.new ≤ length line.old + 88 }
-{
-    line.put(b"\n");
-    put_line(line, p, pc);
-    line.put(b"curr:     ");
-}
-
-/// The head of the registers, and the instruction.
-#[inline(always)]
-fn put_instruction<A: Allocator>(line: &mut Line, p: &Program<A>, pc: u32)
-    requires within { pc < length p.now }
-    requires room { length line.old + 202 ≤ 256 }
-    ensures text { line.new ≡ codes "-- register dump --\n" ++ (spec.instruction_lines p.now pc ++ line.old) }
-    ensures grown { length line.new ≤ length line.old + 202 }
-{
-    put_current_line(line, p, pc);
-    put_code_line(line, p.at_index(pc));
-    put_pc_line(line, pc);
-    line.put(b"-- register dump --\n");
-}
-
-/// The place, the head of the registers, and the instruction.
-#[tactic(auto, using(crate::proofs::DumpLemmas::dumps), unfolding(crate::specs::Dump::instruction_dump))]
-fn write_place_and_instruction<W: Write, A: Allocator>(
+/// The place, and the instruction there.
+#[tactic(auto, unfolding(crate::specs::Dump::instruction_dump))]
+fn write_instruction<W: Write, A: Allocator>(
     w: &mut W,
     p: &Program<A>,
     place: Place,
@@ -93,22 +25,25 @@ fn write_place_and_instruction<W: Write, A: Allocator>(
     ensures { Wrote (W.contents w.old) (W.contents w.new) result
         (spec.instruction_dump p.now place.packet place.step pc) }
 {
+    let insn = p.at_index(pc);
     let mut line = Line::new();
-    put_instruction(&mut line, p, pc);
-    put_heading(&mut line, place.packet, place.step);
-    line.write(w)
-}
-
-/// The lines of A and X.
-#[tactic(auto, unfolding(crate::specs::Dump::register_lines))]
-fn write_registers<W: Write>(w: &mut W, a: u32, x: u32) -> Result<(), WriteFault>
-    ensures { Wrote (W.contents w.old) (W.contents w.new) result (spec.register_lines a x) }
-{
-    let mut line = Line::new();
-    put_value(&mut line, x);
-    line.put(b"X:        ");
-    put_value(&mut line, a);
-    line.put(b"A:        ");
+    line.put(b"\n");
+    put_line(&mut line, p, pc);
+    line.put(b"]\ncurr:     ");
+    line.put_u32(insn.k);
+    line.put(b"] k[");
+    line.put_u32(u32::from(insn.jf));
+    line.put(b"] jf[");
+    line.put_u32(u32::from(insn.jt));
+    line.put(b"] jt[");
+    line.put_u32(u32::from(insn.code));
+    line.put(b"]\ncode:     [");
+    line.put_u32(pc);
+    line.put(b" --\n-- register dump --\npc:       [");
+    line.put_u32(place.step);
+    line.put(b", step ");
+    line.put_u64(place.packet);
+    line.put(b"-- packet ");
     line.write(w)
 }
 
@@ -137,13 +72,22 @@ fn slots_of(s: &State) -> [u32; SLOTS]
     ]
 }
 
-#[tactic(auto, using(crate::proofs::DumpLemmas::dumps))]
-fn write_register_lines<W: Write>(w: &mut W, state: &State) -> Result<(), WriteFault>
-    ensures { Wrote (W.contents w.old) (W.contents w.new) result
-        (spec.register_lines state.now.a state.now.x ++ scratch_lines (spec.slots_of state.now)) }
+/// The lines of A and X.
+#[tactic(auto, unfolding(crate::specs::Dump::register_lines))]
+fn write_registers<W: Write>(w: &mut W, a: u32, x: u32) -> Result<(), WriteFault>
+    ensures { Wrote (W.contents w.old) (W.contents w.new) result (spec.register_lines a x) }
 {
-    write_registers(w, state.a(), state.x())?;
-    write_scratch(w, &slots_of(state))
+    let mut line = Line::new();
+    line.put(b"]\n");
+    line.put_u32(x);
+    line.put(b"][");
+    line.put_hex(x, 8);
+    line.put(b"]\nX:        [");
+    line.put_u32(a);
+    line.put(b"][");
+    line.put_hex(a, 8);
+    line.put(b"A:        [");
+    line.write(w)
 }
 
 /// Puts why it stopped.
@@ -181,23 +125,10 @@ pub fn write_stop<W: Write, A: Allocator>(
     ensures { Wrote (W.contents w.old) (W.contents w.new) result
         (spec.dump_text p.now (spec.shown_in bytes.now wire stop.now)) }
 {
-    write_place_and_instruction(w, p, stop.place, stop.state.pc())?;
-    write_register_lines(w, &stop.state)?;
+    write_instruction(w, p, stop.place, stop.state.pc())?;
+    write_registers(w, stop.state.a(), stop.state.x())?;
+    write_scratch(w, &slots_of(&stop.state))?;
     write_packet(w, bytes, wire, stop.why)
-}
-
-/// Puts a value in hexadecimal and in decimal, and the line's end.
-#[inline(always)]
-pub(crate) fn put_value(line: &mut Line, value: u32)
-    requires room { length line.old + 23 ≤ 256 }
-    ensures text { line.new ≡ concat (value_pieces value) ++ line.old }
-    ensures grown { length line.new ≤ length line.old + 23 }
-{
-    line.put(b"]\n");
-    line.put_u32(value);
-    line.put(b"][");
-    line.put_hex(value, 8);
-    line.put(b"[");
 }
 
 /// The spaces that fill a text of this length up to so many places, at most ten.

@@ -69,67 +69,8 @@ fn put_rows(line: &mut Line, bytes: &[u8], from: usize, to: usize)
     }
 }
 
-/// Writes the rows from `from` on and before `to`, of which there are at most three.
-fn write_rows<W: Write>(w: &mut W, bytes: &[u8], from: usize, to: usize) -> Result<(), WriteFault>
-    requires order { from ≤ to }
-    requires few { to ≤ from + 3 }
-    requires within { to ≤ div_ceil (length bytes.now) ROW }
-    ensures { Wrote (W.contents w.old) (W.contents w.new) result
-        (spec.texts_from (spec.packet_row bytes.now) from (to - from)) }
-{
-    let mut line = Line::new();
-    put_rows(&mut line, bytes, from, to);
-    line.write(w)
-}
-
-/// Writes the last rows, of which there are at most three, and why it stopped.
-fn write_last_rows<W: Write>(
-    w: &mut W,
-    bytes: &[u8],
-    from: usize,
-    to: usize,
-    why: Why,
-) -> Result<(), WriteFault>
-    requires order { from ≤ to }
-    requires few { to ≤ from + 3 }
-    requires within { to ≤ div_ceil (length bytes.now) ROW }
-    ensures { Wrote (W.contents w.old) (W.contents w.new) result
-        (spec.texts_from (spec.packet_row bytes.now) from (to - from) ++ why_line why) }
-{
-    let mut line = Line::new();
-    put_why(&mut line, why);
-    put_rows(&mut line, bytes, from, to);
-    line.write(w)
-}
-
-/// Writes a row for each `ROW` bytes, and why it stopped.
-fn write_rows_and_why<W: Write>(w: &mut W, bytes: &[u8], why: Why) -> Result<(), WriteFault>
-    ensures { Wrote (W.contents w.old) (W.contents w.new) result
-        (spec.packet_rows bytes.now ++ why_line why) }
-{
-    let count = bytes.len().div_ceil(ROW);
-    let mut from = 0;
-    while count - from > 3 {
-        write_rows(w, bytes, from, from + 3)?;
-        from += 3;
-    }
-    write_last_rows(w, bytes, from, count, why)
-}
-
-#[tactic(auto, unfolding(crate::specs::Packet::packet_head))]
-fn write_lengths<W: Write>(w: &mut W, captured: usize, wire: u32) -> Result<(), WriteFault>
-    ensures { Wrote (W.contents w.old) (W.contents w.new) result (spec.packet_head captured wire) }
-{
-    let mut line = Line::new();
-    line.put(b"\n");
-    line.put_u32(wire);
-    line.put(b" wire: ");
-    line.put_u64(captured as u64);
-    line.put(b"-- packet dump --\nlen: ");
-    line.write(w)
-}
-
-/// Writes the lengths of a packet, its captured bytes, and why it stopped.
+/// Writes the lengths of a packet, a row for each `ROW` captured bytes, and why it stopped.
+#[tactic(auto, using(crate::proofs::RowLemmas::rows), unfolding(crate::specs::Packet::packet_head))]
 pub(crate) fn write_packet<W: Write>(
     w: &mut W,
     bytes: &[u8],
@@ -139,6 +80,23 @@ pub(crate) fn write_packet<W: Write>(
     ensures { Wrote (W.contents w.old) (W.contents w.new) result
         (spec.packet_head (length bytes.now) wire ++ (spec.packet_rows bytes.now ++ why_line why)) }
 {
-    write_lengths(w, bytes.len(), wire)?;
-    write_rows_and_why(w, bytes, why)
+    let mut line = Line::new();
+    line.put(b"\n");
+    line.put_u32(wire);
+    line.put(b" wire: ");
+    line.put_u64(bytes.len() as u64);
+    line.put(b"-- packet dump --\nlen: ");
+    line.write(w)?;
+    let count = bytes.len().div_ceil(ROW);
+    let mut from = 0;
+    while count - from > 3 {
+        let mut line = Line::new();
+        put_rows(&mut line, bytes, from, from + 3);
+        line.write(w)?;
+        from += 3;
+    }
+    let mut line = Line::new();
+    put_why(&mut line, why);
+    put_rows(&mut line, bytes, from, count);
+    line.write(w)
 }

@@ -1,11 +1,10 @@
 // The lines of scratch memory.
 ghost use Rattle.std.specs.Prelude.{◌≡◌, ◌≤◌, ◌<◌, ◌+◌, ◌++◌, ◌==◌, length};
 ghost use Rattle.std.specs.List.{prefix_len};
-ghost use Rattle.cbpf_code.specs.Text.{concat};
 ghost use Rattle.cbpf_code.specs.Writing.{Wrote};
 ghost use Rattle.cbpf_reply.specs.Scratch as spec;
 
-use crate::dump::{put_value, spaces_to};
+use crate::dump::spaces_to;
 use cbpf_code::{Line, WriteFault};
 use std::io::Write;
 
@@ -30,7 +29,7 @@ fn run_len(slots: &[u32], value: u32) -> usize
 fn put_label(line: &mut Line, first: usize, last: usize)
     requires within { first ≤ last }
     requires room { length line.old + 45 ≤ 256 }
-    ensures text { line.new ≡ concat (spec.slots_label first last) ++ line.old }
+    ensures text { line.new ≡ spec.slots_label first last ++ line.old }
     ensures grown { length line.new ≤ length line.old + 45 }
 {
     line.put(b"]:");
@@ -42,46 +41,38 @@ fn put_label(line: &mut Line, first: usize, last: usize)
     line.put(b"M[");
 }
 
-/// The line of slots `first` to `last`.
-fn write_scratch_line<W: Write>(
-    w: &mut W,
-    first: usize,
-    last: usize,
-    value: u32,
-) -> Result<(), WriteFault>
-    requires { first ≤ last }
-    ensures { Wrote (W.contents w.old) (W.contents w.new) result (spec.scratch_line first last value) }
-{
-    let mut label = Line::new();
-    put_label(&mut label, first, last);
-    let label = label.as_bytes();
-    let mut line = Line::new();
-    put_value(&mut line, value);
-    line.put(spaces_to(10, label.len()));
-    line.put(label);
-    line.write(w)
-}
-
 /// Writes the line of the run that begins at a slot, if one does.
-#[tactic(auto, using(crate::proofs::ScratchLemmas::lines))]
-fn write_run_line<W: Write>(w: &mut W, slots: &[u32], i: usize) -> Result<(), WriteFault>
+#[tactic(auto, using(crate::proofs::LeftLemmas::lines))]
+fn write_run<W: Write>(w: &mut W, slots: &[u32], i: usize) -> Result<(), WriteFault>
     requires { i < length slots.now }
     ensures { Wrote (W.contents w.old) (W.contents w.new) result (spec.run_line slots.now i) }
 {
     if !begins_run(slots, i) {
         return Ok(());
     }
-    let last = i + run_len(&slots[i + 1..], slots[i]);
-    write_scratch_line(w, i, last, slots[i])
+    let value = slots[i];
+    let last = i + run_len(&slots[i + 1..], value);
+    let mut label = Line::new();
+    put_label(&mut label, i, last);
+    let label = label.as_bytes();
+    let mut line = Line::new();
+    line.put(b"]\n");
+    line.put_u32(value);
+    line.put(b"][");
+    line.put_hex(value, 8);
+    line.put(b"[");
+    line.put(spaces_to(10, label.len()));
+    line.put(label);
+    line.write(w)
 }
 
 /// Writes a line for each longest run of neighbouring slots of equal value.
-#[tactic(auto, using(crate::proofs::ScratchLemmas::lines))]
+#[tactic(auto, using(crate::proofs::LeftLemmas::lines))]
 pub(crate) fn write_scratch<W: Write>(w: &mut W, slots: &[u32]) -> Result<(), WriteFault>
     ensures { Wrote (W.contents w.old) (W.contents w.new) result (spec.scratch_lines slots.now) }
 {
     for i in 0..slots.len() {
-        write_run_line(w, slots, i)?;
+        write_run(w, slots, i)?;
     }
     Ok(())
 }

@@ -1,8 +1,10 @@
-use Rattle.cbpf_code.specs.Writing.{Appended}
+use Rattle.std.proofs.Common.{◌-◌, length}
 use Rattle.cbpf_reply.specs.Packet.{texts_from}
-use Rattle.cbpf_reply.specs.Scratch.{run_line}
+use Rattle.cbpf_reply.specs.Scratch.{run_line, scratch_lines}
+use Rattle.cbpf_reply.proofs.LeftLemmas.{Left}
 use Rattle.cbpf_reply.proofs.scratch.write_scratch.Given as goal
 
 abbrev pub invariant-loop-i : goal.invariant-loop-i
 invariant-loop-i g l =
-    Appended (g.W.Write.contents l.initial.w) (g.W.Write.contents l.w) (texts_from (run_line l.slots) 0 l.i)
+    Left (g.W.Write.contents l.fn.w) (g.W.Write.contents l.w) (texts_from (run_line l.slots) l.i (length l.slots - l.i))
+    (scratch_lines l.slots)
