@@ -1,10 +1,9 @@
 -- A text that several calls write: what of it is left.
 use Rattle.std.proofs.Common.{◌≡◌, ℕ, suc, ◌+◌, ◌-◌, ◌<◌, ◌≤◌, List, [], ◌++◌, Option, Result, refl, arith}
-use Rattle.std.proofs.Common.{◌∙◌, append_assoc, append-nil}
+use Rattle.std.proofs.Common.{◌∙◌, ap, sym, append_assoc, append-nil}
 use Rattle.std.specs.Result.{IsErr}
 use Rattle.cbpf_code.specs.Writing.{Appended, AppendedPart, Wrote}
-use Rattle.cbpf_code.proofs.WrittenLemmas.{appended-nil, appended-then, err-exit, part-then, part-more, wrote-then}
-use Rattle.cbpf_code.proofs.WrittenLemmas.{first-failed}
+use Rattle.cbpf_code.proofs.WrittenLemmas.{appended-nil, appended-then, first-failed, wrote-then}
 use Rattle.cbpf_reply.specs.Packet.{texts_from}
 
 -- from `old` to `now` the text was written but for `rest`
@@ -19,11 +18,12 @@ left-all u text = record { front = []; whole = refl; written = appended-nil u }
 pub left-first : (u v : Option (List ℕ)) (a rest : List ℕ) → Appended u v a → Left u v rest (a ++ rest)
 left-first u v a rest x = record { front = a; whole = refl; written = x }
 
-pub left-next : (u v w : Option (List ℕ)) (a rest text : List ℕ) → Left u v (a ++ rest) text → Appended v w a
-    → Left u w rest text
-left-next u v w a rest text l x = record {
+-- of what was left, which is `a` and `rest`, `a` is written, or a part of it
+pub left-next : (u v w : Option (List ℕ)) (both a rest text : List ℕ) → both ≡ a ++ rest → Left u v both text
+    → Appended v w a → Left u w rest text
+left-next u v w both a rest text e l x = record {
   front = l.front ++ a;
-  whole = append_assoc l.front a rest ∙ l.whole;
+  whole = append_assoc l.front a rest ∙ ap (λ t. l.front ++ t) (sym e) ∙ l.whole;
   written = appended-then u v w l.front a l.written x;
 }
 
@@ -31,24 +31,16 @@ pub left-last : {A E : Type 0} (u v w : Option (List ℕ)) (rest text : List ℕ
     → Wrote v w r rest → Wrote u w r text
 left-last u v w rest text r l x = rw (← l.whole) (wrote-then u v w l.front rest r l.written x)
 
-pub left-stop : {A E : Type 0} (u v w : Option (List ℕ)) (a rest text : List ℕ) (r : Result A E) → IsErr r
-    → Left u v (a ++ rest) text → AppendedPart v w a → Wrote u w r text
-left-stop u v w a rest text r e l x = left-last u v w (a ++ rest) text r l (first-failed v w a rest r e x)
+pub left-stop : {A E : Type 0} (u v w : Option (List ℕ)) (both a rest text : List ℕ) (r : Result A E) → IsErr r
+    → both ≡ a ++ rest → Left u v both text → AppendedPart v w a → Wrote u w r text
+left-stop u v w both a rest text r f e l x = left-last u v w both text r l (rw e (first-failed v w a rest r f x))
 
 -- ---- texts of a, a + 1 and so on
 
-from-one : (f : ℕ → List ℕ) (i n : ℕ) → i < n → texts_from f i (n - i) ≡ f i ++ texts_from f (i + 1) (n - (i + 1))
+pub from-one : (f : ℕ → List ℕ) (i n : ℕ) → i < n → texts_from f i (n - i) ≡ f i ++ texts_from f (i + 1) (n - (i + 1))
 from-one f i n l = let more : n - i ≡ suc (n - (i + 1)) = omega arith in
     let next : i + 1 ≡ suc i = omega arith in
     rw (more, next) refl
-
-pub line-next : (f : ℕ → List ℕ) (i n : ℕ) (text : List ℕ) (u v w : Option (List ℕ)) → i < n
-    → Left u v (texts_from f i (n - i)) text → Appended v w (f i) → Left u w (texts_from f (i + 1) (n - (i + 1))) text
-line-next f i n text u v w b l x = left-next u v w (f i) _ text (rw (from-one f i n b) at l) x
-
-pub line-stop : {A E : Type 0} (f : ℕ → List ℕ) (i n : ℕ) (text : List ℕ) (u v w : Option (List ℕ)) (r : Result A E)
-    → i < n → IsErr r → Left u v (texts_from f i (n - i)) text → AppendedPart v w (f i) → Wrote u w r text
-line-stop f i n text u v w r b e l x = left-stop u v w (f i) _ text r e (rw (from-one f i n b) at l) x
 
 pub line-end : (f : ℕ → List ℕ) (i n : ℕ) (text : List ℕ) (u v : Option (List ℕ)) → n ≤ i
     → Left u v (texts_from f i (n - i)) text → Appended u v text
@@ -56,4 +48,4 @@ line-end f i n text u v b l = let none : n - i ≡ 0 = omega arith in
     let whole : l.front ++ texts_from f i 0 ≡ text = rw none at l.whole in
     rw (← whole, append-nil) l.written
 
-pub ruleset lines = (appended-nil, left-all, line-next, line-stop, line-end)
+pub ruleset lines = (appended-nil, left-all, line-end)

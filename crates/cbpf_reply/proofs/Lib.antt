@@ -1,4 +1,3 @@
 pub mod SpaceLemmas
 pub mod LeftLemmas
 pub mod RowLemmas
-pub mod DumpLemmas

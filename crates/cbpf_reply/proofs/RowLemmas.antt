@@ -2,10 +2,8 @@
 use Rattle.std.proofs.Common.{◌≡◌, ℕ, zero, suc, ◌+◌, ◌-◌, ◌<◌, ◌≤◌, List, ◌++◌, Option, Result, length, take, drop}
 use Rattle.std.proofs.Common.{min, refl, sym, ap, ◌∙◌, arith, append_assoc, append-nil, take_all, length-drop, inl, inr}
 use Rattle.std.proofs.lemmas.Bool.{cases_lt}
-use Rattle.std.specs.Result.{IsErr}
-use Rattle.cbpf_code.specs.Writing.{Appended, AppendedPart, Wrote}
 use Rattle.cbpf_code.proofs.WrittenLemmas.{first-failed}
-use Rattle.cbpf_reply.proofs.LeftLemmas.{Left, left-first, left-next, left-last, left-stop}
+use Rattle.cbpf_reply.proofs.LeftLemmas.{left-first}
 use Rattle.cbpf_reply.specs.Packet.{texts_from}
 use Rattle.cbpf_reply.specs.declared.packet.TheConstants.{ROW}
 
@@ -33,24 +31,12 @@ texts-add f a (suc m) n =
     rw (one, next, append_assoc, texts-add f (suc a) m n) refl
 
 -- the rows from a on are those before b, and those from b on
-rows-split : (f : ℕ → List ℕ) (a b n : ℕ) (end : List ℕ) → a ≤ b → b ≤ n
+pub rows-split : (f : ℕ → List ℕ) (a b n : ℕ) (end : List ℕ) → a ≤ b → b ≤ n
     → texts_from f a (n - a) ++ end ≡ texts_from f a (b - a) ++ (texts_from f b (n - b) ++ end)
 rows-split f a b n end l m =
     let whole : n - a ≡ (b - a) + (n - b) = omega arith in
     let here : a + (b - a) ≡ b = omega arith in
     rw (whole, texts-add f a (b - a) (n - b), here, append_assoc) refl
-
-pub rows-next : (f : ℕ → List ℕ) (a b n : ℕ) (end text : List ℕ) (u v w : Option (List ℕ)) → a ≤ b → b ≤ n
-    → Left u v (texts_from f a (n - a) ++ end) text → Appended v w (texts_from f a (b - a))
-    → Left u w (texts_from f b (n - b) ++ end) text
-rows-next f a b n end text u v w l m left x =
-    left-next u v w (texts_from f a (b - a)) _ text (rw (rows-split f a b n end l m) at left) x
-
-pub rows-stop : {A E : Type 0} (f : ℕ → List ℕ) (a b n : ℕ) (end text : List ℕ) (u v w : Option (List ℕ))
-    (r : Result A E) → a ≤ b → b ≤ n → IsErr r → Left u v (texts_from f a (n - a) ++ end) text
-    → AppendedPart v w (texts_from f a (b - a)) → Wrote u w r text
-rows-stop f a b n end text u v w r l m e left x =
-    left-stop u v w (texts_from f a (b - a)) _ text r e (rw (rows-split f a b n end l m) at left) x
 
 pub row-taken : (s : List ℕ) (at e : ℕ) → e ≡ min (length s) (at + ROW)
     → take (e - at) (drop at s) ≡ take ROW (drop at s)
@@ -61,14 +47,4 @@ row-taken s at e h = elim (cases_lt (length s) (at + ROW)) [
   | inr l ↦ (let k : e - at ≡ ROW = omega arith in rw k refl)
 ]
 
-pub ruleset rows = (
-  append-nil,
-  first-failed,
-  texts-before,
-  texts-none,
-  left-first,
-  left-last,
-  rows-next,
-  rows-stop,
-  row-taken,
-)
+pub ruleset rows = (append-nil, first-failed, texts-before, texts-none, left-first, row-taken)

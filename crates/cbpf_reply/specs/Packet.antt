@@ -3,6 +3,7 @@ use Rattle.std.specs.Prelude.{ℕ, zero, suc, ◌-◌, ◌*◌, List, [], ◌∷
 use Rattle.std.specs.List.{flat_map}
 use Rattle.std.specs.Int.{div_ceil}
 use Rattle.cbpf_code.specs.Text.{concat, spaces, hex}
+use Rattle.cbpf_reply.specs.Numbers.{with_numbers}
 use Rattle.cbpf_reply.specs.declared.packet.TheConstants.{ROW}
 
 -- the texts of a, a + 1 and so on, n in all
@@ -29,4 +30,4 @@ packet_rows bytes = texts_from (packet_row bytes) 0 (div_ceil (length bytes) ROW
 -- captured and original length
 unfoldable pub packet_head : ℕ → ℕ → List ℕ
 packet_head captured wire =
-    concat (codes "-- packet dump --\nlen: " ∷ decimal captured ∷ codes " wire: " ∷ decimal wire ∷ codes "\n" ∷ [])
+    with_numbers (codes "-- packet dump --\nlen: ") captured (codes " wire: ") wire (codes "\n")

@@ -113,7 +113,7 @@ pub(crate) fn put_why(line: &mut Line, why: Why)
 /// captured bytes and the original length of the stop's packet, and why it stopped.
 ///
 /// The stop's pc must be less than the program's length.
-#[tactic(auto, using(crate::proofs::DumpLemmas::dumps))]
+#[tactic(auto, using(cbpf_code::proofs::WrittenLemmas::three))]
 pub fn write_stop<W: Write, A: Allocator>(
     w: &mut W,
     p: &Program<A>,

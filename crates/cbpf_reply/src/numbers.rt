@@ -1,36 +1,34 @@
 //! Texts with numbers in them.
 
+ghost use Rattle.std.specs.Prelude.{◌≤◌, ◌+◌, length};
 ghost use Rattle.cbpf_code.specs.Text.{with_number};
 ghost use Rattle.cbpf_code.specs.Writing.{Wrote};
 ghost use Rattle.cbpf_reply.specs.Numbers as spec;
 
-use cbpf_code::{WriteFault, write_parts, write_with_number};
-use itoa::Buffer;
+use cbpf_code::{Line, WriteFault, write_with_number};
 use std::io::Write;
 
 /// A line with two numbers in it.
-pub(crate) fn write_with_numbers<'a, W: Write>(
+#[inline(always)]
+pub(crate) fn write_with_numbers<W: Write>(
     w: &mut W,
-    before: &'a [u8],
+    before: &[u8],
     m: u64,
-    between: &'a [u8],
+    between: &[u8],
     n: u64,
-    after: &'a [u8],
+    after: &[u8],
 ) -> Result<(), WriteFault>
+    requires { length before.now + length between.now + length after.now ≤ 216 }
     ensures { Wrote (W.contents w.old) (W.contents w.new) result
         (spec.with_numbers before.now m between.now n after.now) }
 {
-    let (mut first, mut second) = (Buffer::new(), Buffer::new());
-    write_parts(
-        w,
-        &[
-            before,
-            first.format(m).as_bytes(),
-            between,
-            second.format(n).as_bytes(),
-            after,
-        ],
-    )
+    let mut line = Line::new();
+    line.put(after);
+    line.put_u64(n);
+    line.put(between);
+    line.put_u64(m);
+    line.put(before);
+    line.write(w)
 }
 
 /// A number of 32 bits between two texts.

@@ -2,35 +2,31 @@ use Rattle.std.proofs.Common.{◌+◌, append-nil, arith}
 use Rattle.cbpf_code.proofs.WrittenLemmas.{first-failed}
 use Rattle.cbpf_reply.specs.Dump.{why_line}
 use Rattle.cbpf_reply.specs.Packet.{packet_head, packet_row}
-use Rattle.cbpf_reply.proofs.LeftLemmas.{left-last}
-use Rattle.cbpf_reply.proofs.RowLemmas.{rows-next, rows-stop}
+use Rattle.cbpf_reply.proofs.LeftLemmas.{left-next, left-last, left-stop}
+use Rattle.cbpf_reply.proofs.RowLemmas.{rows-split}
 use Rattle.cbpf_reply.proofs.packet.write_packet.Goals as goal
 
-pub returns-in_err-write : goal.returns-in_err-write
+pub returns-in_err-write_with_numbers : goal.returns-in_err-write_with_numbers
 unfolding packet_head
-returns-in_err-write g c = first-failed _ _ _ _ _ c.from_residual.ensures.0 (rw (
-  c.put-3.ensures.text,
-  c.put_u64.ensures.text,
-  c.put-2.ensures.text,
-  c.put_u32.ensures.text,
-  c.put.ensures.text,
-  c.new-line.ensures,
-) at c.in_err-write.ensures)
+returns-in_err-write_with_numbers g c =
+    first-failed _ _ _ _ _ c.from_residual.ensures.0 (rw c.from.ensures at c.in_err-write_with_numbers.ensures)
 
 pub loop-from-preserved : goal.loop-from-preserved
 loop-from-preserved g c = record {
   within = omega arith;
-  left = rows-next (packet_row c.args.bytes.now) c.loop-from.from (c.loop-from.from + 3) _ (why_line c.args.why) _ _ _ _
-      (omega arith) (omega arith) c.loop-from.invariant.left
-      (rw (c.put_rows.ensures.text, c.new-line-in-loop-from.ensures, append-nil) at c.in_ok-write-2.ensures);
+  left = left-next _ _ _ _ _ _ _
+      (rows-split (packet_row c.args.bytes.now) c.loop-from.from (c.loop-from.from + 3) _ (why_line c.args.why)
+      (omega arith) (omega arith)) c.loop-from.invariant.left
+      (rw (c.put_rows.ensures.text, c.new-line.ensures, append-nil) at c.in_ok-write.ensures);
 }
 
-pub returns-in_err-write-2 : goal.returns-in_err-write-2
-returns-in_err-write-2 g c =
-    rows-stop (packet_row c.args.bytes.now) c.loop-from.from (c.loop-from.from + 3) _ (why_line c.args.why) _ _ _ _ _
-    (omega arith) (omega arith) c.from_residual-in_err-write-2.ensures.0 c.loop-from.invariant.left
-    (rw (c.put_rows.ensures.text, c.new-line-in-loop-from.ensures, append-nil) at c.in_err-write-2.ensures)
+pub returns-in_err-write : goal.returns-in_err-write
+returns-in_err-write g c = left-stop _ _ _ _ _ _ _ _ c.from_residual-in_err-write.ensures.0
+    (rows-split (packet_row c.args.bytes.now) c.loop-from.from (c.loop-from.from + 3) _ (why_line c.args.why)
+    (omega arith) (omega arith)) c.loop-from.invariant.left
+    (rw (c.put_rows.ensures.text, c.new-line.ensures, append-nil) at c.in_err-write.ensures)
 
 pub returns : goal.returns
 returns g c = left-last _ _ _ _ _ _ c.loop-from.invariant.left
-    (rw (c.put_rows-2.ensures.text, c.put_why.ensures.text, c.new-line-2.ensures, append-nil (why_line c.args.why)) at c.write-2.ensures)
+    (rw (c.put_rows-2.ensures.text, c.put_why.ensures.text, c.new-line-2.ensures, append-nil (why_line c.args.why))
+    at c.write-2.ensures)
