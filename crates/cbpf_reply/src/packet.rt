@@ -35,24 +35,8 @@ fn put_cells(line: &mut Line, row: &[u8])
     }
 }
 
-/// Puts a row of at most `ROW` bytes, the first of which has offset `at`, right in five places.
-#[inline(always)]
-fn put_row(line: &mut Line, at: usize, row: &[u8])
-    requires few { length row.now ≤ ROW }
-    requires room { length line.old + 75 ≤ 256 }
-    ensures text { line.new ≡ spec.row_line at row.now ++ line.old }
-    ensures grown { length line.new ≤ length line.old + 75 }
-{
-    line.put(b"\n");
-    put_cells(line, row);
-    line.put(b":");
-    let before = line.as_bytes().len();
-    line.put_u64(at as u64);
-    let digits = line.as_bytes().len() - before;
-    line.put(spaces_to(5, digits));
-}
-
-/// Puts the rows from `from` on and before `to`, of which there are at most three.
+/// Puts the rows from `from` on and before `to`, of which there are at most three, each after the offset of its first
+/// byte, right in five places.
 #[inline(always)]
 fn put_rows(line: &mut Line, bytes: &[u8], from: usize, to: usize)
     requires order { from ≤ to }
@@ -66,7 +50,13 @@ fn put_rows(line: &mut Line, bytes: &[u8], from: usize, to: usize)
         r -= 1;
         let at = ROW * r;
         let end = bytes.len().min(at + ROW);
-        put_row(line, at, &bytes[at..end]);
+        line.put(b"\n");
+        put_cells(line, &bytes[at..end]);
+        line.put(b":");
+        let before = line.as_bytes().len();
+        line.put_u64(at as u64);
+        let digits = line.as_bytes().len() - before;
+        line.put(spaces_to(5, digits));
     }
 }
 
