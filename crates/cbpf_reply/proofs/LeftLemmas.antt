@@ -1,9 +1,9 @@
 -- A text that several calls write: what of it is left.
-use Rattle.std.proofs.Common.{◌≡◌, ℕ, suc, ◌+◌, ◌-◌, ◌<◌, ◌≤◌, List, [], ◌++◌, Option, Result, refl, arith}
+use Rattle.std.proofs.Common.{◌≡◌, ℕ, suc, ◌+◌, ◌-◌, ◌<◌, ◌≤◌, List, ◌++◌, Option, Result, refl, arith}
 use Rattle.std.proofs.Common.{◌∙◌, ap, sym, append_assoc, append-nil}
 use Rattle.std.specs.Result.{IsErr}
 use Rattle.cbpf_code.specs.Writing.{Appended, AppendedPart, Wrote}
-use Rattle.cbpf_code.proofs.WrittenLemmas.{appended-nil, appended-then, first-failed, wrote-then}
+use Rattle.cbpf_code.proofs.WrittenLemmas.{appended-then, first-failed, wrote-then}
 use Rattle.cbpf_reply.specs.Packet.{texts_from}
 
 -- from `old` to `now` the text was written but for `rest`
@@ -11,9 +11,6 @@ pub record Left (old now : Option (List ℕ)) (rest text : List ℕ) : Type 0 wh
   pub front : List ℕ
   pub whole : front ++ rest ≡ text
   pub written : Appended old now front
-
-pub left-all : (u : Option (List ℕ)) (text : List ℕ) → Left u u text text
-left-all u text = record { front = []; whole = refl; written = appended-nil u }
 
 pub left-first : (u v : Option (List ℕ)) (a rest : List ℕ) → Appended u v a → Left u v rest (a ++ rest)
 left-first u v a rest x = record { front = a; whole = refl; written = x }
@@ -48,4 +45,4 @@ line-end f i n text u v b l = let none : n - i ≡ 0 = omega arith in
     let whole : l.front ++ texts_from f i 0 ≡ text = rw none at l.whole in
     rw (← whole, append-nil) l.written
 
-pub ruleset lines = (appended-nil, left-all, line-end)
+pub ruleset lines = (line-end)

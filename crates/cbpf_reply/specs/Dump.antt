@@ -57,9 +57,8 @@ why_line why = concat (codes "(" ∷ why_text why ∷ codes ")\n" ∷ [])
 abbrev pub dump_text : List Insn → Shown → List ℕ
 dump_text list s =
     instruction_dump list s.packet s.step s.pc
-    ++ (register_lines s.a s.x
-    ++ (scratch_lines s.slots
-    ++ (packet_head (length s.bytes) s.wire ++ (packet_rows s.bytes ++ why_line s.why))))
+    ++ ((register_lines s.a s.x ++ scratch_lines s.slots)
+    ++ (packet_head (length s.bytes) s.wire ++ (packet_rows s.bytes ++ why_line s.why)))
 
 -- scratch memory, from slot 0 on
 unfoldable pub slots_of : Registers → List ℕ

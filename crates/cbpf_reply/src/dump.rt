@@ -4,10 +4,11 @@ ghost use Rattle.std.specs.Prelude.{◌≡◌, ◌<◌, ◌≤◌, ◌+◌, ◌+
 ghost use Rattle.cbpf_code.specs.Writing.{Wrote};
 ghost use Rattle.cbpf_code.specs.Text.{spaces};
 ghost use Rattle.cbpf_reply.specs.Dump as spec;
+ghost use Rattle.cbpf_reply.specs.Scratch.{scratch_lines};
 
 use crate::packet::write_packet;
 use crate::reply::{Place, Stop, Why};
-use crate::scratch::write_scratch;
+use crate::scratch::write_run;
 use cbpf_code::{Insn, Line, Program, SLOTS, WriteFault, ext_name, put_line};
 use cbpf_machine::State;
 use std::alloc::Allocator;
@@ -72,10 +73,11 @@ fn slots_of(s: &State) -> [u32; SLOTS]
     ]
 }
 
-/// The lines of A and X.
-#[tactic(auto, unfolding(crate::specs::Dump::register_lines))]
-fn write_registers<W: Write>(w: &mut W, a: u32, x: u32) -> Result<(), WriteFault>
-    ensures { Wrote (W.contents w.old) (W.contents w.new) result (spec.register_lines a x) }
+/// The lines of A and X, and a line for each longest run of neighbouring slots of equal value.
+#[tactic(auto, using(crate::proofs::LeftLemmas::lines))]
+fn write_registers<W: Write>(w: &mut W, a: u32, x: u32, slots: &[u32]) -> Result<(), WriteFault>
+    ensures { Wrote (W.contents w.old) (W.contents w.new) result
+        (spec.register_lines a x ++ scratch_lines slots.now) }
 {
     let mut line = Line::new();
     line.put(b"]\n");
@@ -87,7 +89,11 @@ fn write_registers<W: Write>(w: &mut W, a: u32, x: u32) -> Result<(), WriteFault
     line.put(b"][");
     line.put_hex(a, 8);
     line.put(b"A:        [");
-    line.write(w)
+    line.write(w)?;
+    for i in 0..slots.len() {
+        write_run(w, slots, i)?;
+    }
+    Ok(())
 }
 
 /// Puts why it stopped.
@@ -126,8 +132,8 @@ pub fn write_stop<W: Write, A: Allocator>(
         (spec.dump_text p.now (spec.shown_in bytes.now wire stop.now)) }
 {
     write_instruction(w, p, stop.place, stop.state.pc())?;
-    write_registers(w, stop.state.a(), stop.state.x())?;
-    write_scratch(w, &slots_of(&stop.state))?;
+    let state = &stop.state;
+    write_registers(w, state.a(), state.x(), &slots_of(state))?;
     write_packet(w, bytes, wire, stop.why)
 }
 

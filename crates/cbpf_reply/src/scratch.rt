@@ -42,8 +42,8 @@ fn put_label(line: &mut Line, first: usize, last: usize)
 }
 
 /// Writes the line of the run that begins at a slot, if one does.
-#[tactic(auto, using(crate::proofs::LeftLemmas::lines))]
-fn write_run<W: Write>(w: &mut W, slots: &[u32], i: usize) -> Result<(), WriteFault>
+#[tactic(auto, using(cbpf_code::proofs::WrittenLemmas::loops))]
+pub(crate) fn write_run<W: Write>(w: &mut W, slots: &[u32], i: usize) -> Result<(), WriteFault>
     requires { i < length slots.now }
     ensures { Wrote (W.contents w.old) (W.contents w.new) result (spec.run_line slots.now i) }
 {
@@ -64,15 +64,4 @@ fn write_run<W: Write>(w: &mut W, slots: &[u32], i: usize) -> Result<(), WriteFa
     line.put(spaces_to(10, label.len()));
     line.put(label);
     line.write(w)
-}
-
-/// Writes a line for each longest run of neighbouring slots of equal value.
-#[tactic(auto, using(crate::proofs::LeftLemmas::lines))]
-pub(crate) fn write_scratch<W: Write>(w: &mut W, slots: &[u32]) -> Result<(), WriteFault>
-    ensures { Wrote (W.contents w.old) (W.contents w.new) result (spec.scratch_lines slots.now) }
-{
-    for i in 0..slots.len() {
-        write_run(w, slots, i)?;
-    }
-    Ok(())
 }

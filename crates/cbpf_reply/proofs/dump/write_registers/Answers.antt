@@ -1,7 +1,25 @@
-use Rattle.std.proofs.Common.{◌≡◌}
+use Rattle.std.proofs.Common.{◌≡◌, ◌-◌, length, arith}
+use Rattle.cbpf_code.proofs.WrittenLemmas.{first-failed}
 use Rattle.cbpf_reply.specs.Dump.{register_lines}
+use Rattle.cbpf_reply.specs.Scratch.{run_line}
+use Rattle.cbpf_reply.proofs.LeftLemmas.{left-first, left-next, left-stop, from-one}
 use Rattle.cbpf_reply.proofs.dump.write_registers.Goals as goal
 
-pub returns : goal.returns
+pub returns-in_err-write : goal.returns-in_err-write
 unfolding register_lines
-returns g c = let text : c.put-5.new.self ≡ register_lines c.args.a c.args.x = cc in rw text at c.write.ensures
+returns-in_err-write g c = let text : c.put-5.new.self ≡ register_lines c.args.a c.args.x = cc in
+    first-failed _ _ _ _ _ c.from_residual.ensures.0 (rw text at c.in_err-write.ensures)
+
+pub loop-i-init : goal.loop-i-init
+unfolding register_lines
+loop-i-init g c = let text : c.put-5.new.self ≡ register_lines c.args.a c.args.x = cc in
+    let all : length c.args.slots.now - 0 ≡ length c.args.slots.now = omega arith in
+    rw all (left-first _ _ _ _ (rw text at c.in_ok-write.ensures))
+
+pub loop-i-preserved : goal.loop-i-preserved
+loop-i-preserved g c = left-next _ _ _ _ _ _ _ (from-one (run_line c.args.slots.now) c.loop-i.i _ (omega arith))
+    c.loop-i.invariant c.in_ok-write_run.ensures
+
+pub returns-in_err-write_run : goal.returns-in_err-write_run
+returns-in_err-write_run g c = left-stop _ _ _ _ _ _ _ _ c.from_residual-in_err-write_run.ensures.0
+    (from-one (run_line c.args.slots.now) c.loop-i.i _ (omega arith)) c.loop-i.invariant c.in_err-write_run.ensures
