@@ -47,23 +47,6 @@ fn put_immediate(line: &mut Line, k: u32)
     }
 }
 
-/// Puts a place of the packet, or the extension that has this place.
-#[inline(always)]
-#[tactic(auto, using(crate::proofs::NameLemmas::names))]
-fn put_absolute(line: &mut Line, k: u32)
-    requires room { length line.old + 36 ≤ 256 }
-    ensures text { line.new ≡ spec.absolute_operand k ++ line.old }
-    ensures grown { length line.new ≤ length line.old + 36 }
-{
-    match ext_at(k) {
-        Some(e) => {
-            line.put(ext_name(e).as_bytes());
-            line.put(b" ");
-        }
-        None => put_between(line, b" [", u64::from(k), b"]"),
-    }
-}
-
 /// Puts both targets of the conditional jump at an index.
 #[inline(always)]
 fn put_targets(line: &mut Line, i: u32, insn: Insn)
@@ -80,6 +63,7 @@ fn put_targets(line: &mut Line, i: u32, insn: Insn)
 
 /// Puts what stands after the mnemonic of the instruction at an index.
 #[inline(always)]
+#[tactic(auto, using(crate::proofs::NameLemmas::names))]
 fn put_operand(line: &mut Line, i: u32, insn: Insn, operand: Operand)
     requires room { length line.old + 60 ≤ 256 }
     ensures text { line.new ≡ spec.operand_text operand i insn ++ line.old }
@@ -91,7 +75,13 @@ fn put_operand(line: &mut Line, i: u32, insn: Insn, operand: Operand)
         Operand::A => line.put(b" a"),
         Operand::Length => line.put(b" len"),
         Operand::Immediate => put_immediate(line, insn.k),
-        Operand::Absolute => put_absolute(line, insn.k),
+        Operand::Absolute => match ext_at(insn.k) {
+            Some(e) => {
+                line.put(ext_name(e).as_bytes());
+                line.put(b" ");
+            }
+            None => put_between(line, b" [", u64::from(insn.k), b"]"),
+        },
         Operand::Indexed => put_between(line, b" [x + ", u64::from(insn.k), b"]"),
         Operand::Memory => put_between(line, b" M[", u64::from(insn.k), b"]"),
         Operand::Header => put_between(line, b" 4*([", u64::from(insn.k), b"]&0xf)"),
@@ -105,20 +95,6 @@ fn put_operand(line: &mut Line, i: u32, insn: Insn, operand: Operand)
             line.put(b" x");
         }
     }
-}
-
-/// Puts the line of an operation.
-#[inline(always)]
-fn put_operation(line: &mut Line, i: u32, insn: Insn, op: Op)
-    requires room { length line.old + 77 ≤ 256 }
-    ensures text { line.new ≡ spec.operation_text i insn op ++ line.old }
-    ensures grown { length line.new ≤ length line.old + 77 }
-{
-    put_operand(line, i, insn, operand_of(op));
-    line.put(mnemonic_of(op));
-    line.put(b":\t");
-    line.put_u32(i);
-    line.put(b"l");
 }
 
 /// Puts the line of the instruction at index `i`, without a newline, of at most 77 bytes, before
@@ -135,7 +111,13 @@ pub fn put_line<A: Allocator>(line: &mut Line, p: &Program<A>, i: u32)
 {
     let insn = p.at_index(i);
     match op_of(insn.code) {
-        Some(op) => put_operation(line, i, insn, op),
+        Some(op) => {
+            put_operand(line, i, insn, operand_of(op));
+            line.put(mnemonic_of(op));
+            line.put(b":\t");
+            line.put_u32(i);
+            line.put(b"l");
+        }
         None => unreachable!(),
     }
 }
@@ -158,28 +140,16 @@ pub fn write_line<W: Write, A: Allocator>(
     line.write(w)
 }
 
-/// A line and its newline.
-fn write_whole_line<W: Write, A: Allocator>(
-    w: &mut W,
-    p: &Program<A>,
-    i: u32,
-) -> Result<(), WriteFault>
-    requires { i < length p.now }
-    ensures { Wrote (W.contents w.old) (W.contents w.new) result (spec.whole_line p.now i) }
-{
-    let mut line = Line::new();
-    line.put(b"\n");
-    put_line(&mut line, p, i);
-    line.write(w)
-}
-
 /// Writes the lines of all instructions in order, each with a newline.
 #[tactic(auto, using(crate::proofs::WrittenLemmas::loops))]
 pub fn write_lines<W: Write, A: Allocator>(w: &mut W, p: &Program<A>) -> Result<(), WriteFault>
     ensures { Wrote (W.contents w.old) (W.contents w.new) result (spec.listing p.now) }
 {
     for i in 0..p.len() {
-        write_whole_line(w, p, i)?;
+        let mut line = Line::new();
+        line.put(b"\n");
+        put_line(&mut line, p, i);
+        line.write(w)?;
     }
     Ok(())
 }
