@@ -1,9 +1,7 @@
 -- What is shown of a stop: the place, the instruction, the registers and the scratch memory before it, the packet,
 -- and why it stopped (the kernel's Documentation/networking/filter shows such a dump;
 -- this layout is this project's own).
-use Rattle.std.specs.Prelude.{ℕ, List, [], ◌∷◌, ◌++◌, length, Option, Some, None, slice_get, slice_index, map, decimal, codes}
-use Rattle.std.specs.List.{range_with_len}
-use Rattle.cbpf_code.specs.declared.checker.TheConstants.{SLOTS}
+use Rattle.std.specs.Prelude.{ℕ, List, [], ◌∷◌, ◌++◌, length, Option, Some, None, slice_get, decimal, codes}
 use Rattle.cbpf_code.specs.declared.insn.Insn.{Insn}
 use Rattle.cbpf_code.specs.Extension.{ext_name}
 use Rattle.cbpf_code.specs.Text.{concat, hex}
@@ -13,7 +11,6 @@ use Rattle.cbpf_reply.specs.Packet.{packet_head, packet_rows}
 use Rattle.cbpf_reply.specs.declared.reply.Why.{Why}
 use Rattle.cbpf_reply.specs.declared.reply.Why.TheVariants as why_is
 use Rattle.cbpf_reply.specs.declared.reply.Stop.{Stop}
-use Rattle.cbpf_machine.specs.Registers.{Registers}
 
 -- what a dump shows beside the program: slots are the words of scratch memory, bytes the captured ones,
 -- wire is the packet's original length
@@ -60,10 +57,6 @@ dump_text list s =
     ++ ((register_lines s.a s.x ++ scratch_lines s.slots)
     ++ (packet_head (length s.bytes) s.wire ++ (packet_rows s.bytes ++ why_line s.why)))
 
--- scratch memory, from slot 0 on
-unfoldable pub slots_of : Registers → List ℕ
-slots_of s = map (λ i. slice_index s.slots i) (range_with_len 0 SLOTS)
-
 -- a stop in a packet of these captured bytes and this original length
 abbrev pub shown_in : List ℕ → ℕ → Stop → Shown
 shown_in bytes wire stop =
@@ -73,7 +66,7 @@ shown_in bytes wire stop =
       pc = stop.state.pc;
       a = stop.state.a;
       x = stop.state.x;
-      slots = slots_of stop.state;
+      slots = stop.state.slots;
       bytes = bytes;
       wire = wire;
       why = stop.why;

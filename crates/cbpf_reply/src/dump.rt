@@ -9,8 +9,7 @@ ghost use Rattle.cbpf_reply.specs.Scratch.{scratch_lines};
 use crate::packet::write_packet;
 use crate::reply::{Place, Stop, Why};
 use crate::scratch::write_run;
-use cbpf_code::{Insn, Line, Program, SLOTS, WriteFault, ext_name, put_line};
-use cbpf_machine::State;
+use cbpf_code::{Line, Program, WriteFault, ext_name, put_line};
 use std::alloc::Allocator;
 use std::io::Write;
 
@@ -46,31 +45,6 @@ fn write_instruction<W: Write, A: Allocator>(
     line.put_u64(place.packet);
     line.put(b"-- packet ");
     line.write(w)
-}
-
-/// The words of scratch memory.
-#[tactic(auto, unfolding(crate::specs::Dump::slots_of))]
-fn slots_of(s: &State) -> [u32; SLOTS]
-    ensures { result ≡ spec.slots_of s.now }
-{
-    [
-        s.slot(0),
-        s.slot(1),
-        s.slot(2),
-        s.slot(3),
-        s.slot(4),
-        s.slot(5),
-        s.slot(6),
-        s.slot(7),
-        s.slot(8),
-        s.slot(9),
-        s.slot(10),
-        s.slot(11),
-        s.slot(12),
-        s.slot(13),
-        s.slot(14),
-        s.slot(15),
-    ]
 }
 
 /// The lines of A and X, and a line for each longest run of neighbouring slots of equal value.
@@ -133,7 +107,7 @@ pub fn write_stop<W: Write, A: Allocator>(
 {
     write_instruction(w, p, stop.place, stop.state.pc())?;
     let state = &stop.state;
-    write_registers(w, state.a(), state.x(), &slots_of(state))?;
+    write_registers(w, state.a(), state.x(), &state.slots())?;
     write_packet(w, bytes, wire, stop.why)
 }
 
