@@ -48,7 +48,7 @@ fn write_instruction<W: Write, A: Allocator>(
 }
 
 /// The lines of A and X, and a line for each longest run of neighbouring slots of equal value.
-#[tactic(auto, using(crate::proofs::LeftLemmas::lines))]
+#[tactic(auto, using(crate::proofs::RowLemmas::rows))]
 fn write_registers<W: Write>(w: &mut W, a: u32, x: u32, slots: &[u32]) -> Result<(), WriteFault>
     ensures { Wrote (W.contents w.old) (W.contents w.new) result
         (spec.register_lines a x ++ scratch_lines slots.now) }
