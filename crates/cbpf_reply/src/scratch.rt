@@ -41,19 +41,18 @@ fn put_label(line: &mut Line, first: usize, last: usize)
     line.put(b"M[");
 }
 
-/// Writes the line of the run that begins at a slot, if one does.
-#[tactic(auto, using(cbpf_code::proofs::WrittenLemmas::loops))]
-pub(crate) fn write_run<W: Write>(w: &mut W, slots: &[u32], i: usize) -> Result<(), WriteFault>
-    requires { i < length slots.now }
-    ensures { Wrote (W.contents w.old) (W.contents w.new) result (spec.run_line slots.now i) }
+/// The line of slots `first` to `last`.
+fn write_scratch_line<W: Write>(
+    w: &mut W,
+    first: usize,
+    last: usize,
+    value: u32,
+) -> Result<(), WriteFault>
+    requires { first ≤ last }
+    ensures { Wrote (W.contents w.old) (W.contents w.new) result (spec.scratch_line first last value) }
 {
-    if !begins_run(slots, i) {
-        return Ok(());
-    }
-    let value = slots[i];
-    let last = i + run_len(&slots[i + 1..], value);
     let mut label = Line::new();
-    put_label(&mut label, i, last);
+    put_label(&mut label, first, last);
     let label = label.as_bytes();
     let mut line = Line::new();
     line.put(b"]\n");
@@ -64,4 +63,18 @@ pub(crate) fn write_run<W: Write>(w: &mut W, slots: &[u32], i: usize) -> Result<
     line.put(spaces_to(10, label.len()));
     line.put(label);
     line.write(w)
+}
+
+/// Writes the line of the run that begins at a slot, if one does.
+#[tactic(auto, using(cbpf_code::proofs::WrittenLemmas::loops))]
+pub(crate) fn write_run<W: Write>(w: &mut W, slots: &[u32], i: usize) -> Result<(), WriteFault>
+    requires { i < length slots.now }
+    ensures { Wrote (W.contents w.old) (W.contents w.new) result (spec.run_line slots.now i) }
+{
+    // Only where a line is written is room for it made.
+    if !begins_run(slots, i) {
+        return Ok(());
+    }
+    let last = i + run_len(&slots[i + 1..], slots[i]);
+    write_scratch_line(w, i, last, slots[i])
 }
