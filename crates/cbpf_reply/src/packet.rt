@@ -60,6 +60,39 @@ fn put_rows(line: &mut Line, bytes: &[u8], from: usize, to: usize)
     }
 }
 
+/// Writes the rows from `from` on and before `to`, of which there are at most three.
+fn write_rows<W: Write>(w: &mut W, bytes: &[u8], from: usize, to: usize) -> Result<(), WriteFault>
+    requires order { from ≤ to }
+    requires few { to ≤ from + 3 }
+    requires within { to ≤ div_ceil (length bytes.now) ROW }
+    ensures { Wrote (W.contents w.old) (W.contents w.new) result
+        (spec.texts_from (spec.packet_row bytes.now) from (to - from)) }
+{
+    let mut line = Line::new();
+    put_rows(&mut line, bytes, from, to);
+    line.write(w)
+}
+
+/// Writes the last rows, of which there are at most three, and why it stopped.
+fn write_last_rows<W: Write>(
+    w: &mut W,
+    bytes: &[u8],
+    from: usize,
+    to: usize,
+    why: Why,
+) -> Result<(), WriteFault>
+    requires order { from ≤ to }
+    requires few { to ≤ from + 3 }
+    requires within { to ≤ div_ceil (length bytes.now) ROW }
+    ensures { Wrote (W.contents w.old) (W.contents w.new) result
+        (spec.texts_from (spec.packet_row bytes.now) from (to - from) ++ why_line why) }
+{
+    let mut line = Line::new();
+    put_why(&mut line, why);
+    put_rows(&mut line, bytes, from, to);
+    line.write(w)
+}
+
 /// Writes the lengths of a packet, a row for each `ROW` captured bytes, and why it stopped.
 #[tactic(auto, using(crate::proofs::RowLemmas::rows), unfolding(crate::specs::Packet::packet_head))]
 pub(crate) fn write_packet<W: Write>(
@@ -82,13 +115,8 @@ pub(crate) fn write_packet<W: Write>(
     let count = bytes.len().div_ceil(ROW);
     let mut from = 0;
     while count - from > 3 {
-        let mut line = Line::new();
-        put_rows(&mut line, bytes, from, from + 3);
-        line.write(w)?;
+        write_rows(w, bytes, from, from + 3)?;
         from += 3;
     }
-    let mut line = Line::new();
-    put_why(&mut line, why);
-    put_rows(&mut line, bytes, from, count);
-    line.write(w)
+    write_last_rows(w, bytes, from, count, why)
 }
