@@ -1,4 +1,4 @@
-use Rattle.std.proofs.Common.{◌≡◌, Err, inl, inr, refl, subst, List, ℕ, [], ◌∷◌}
+use Rattle.std.proofs.Common.{rules, ◌≡◌, Err, inl, inr, refl, subst, List, ℕ, [], ◌∷◌}
 use Rattle.cbpf_tool.specs.declared.fault.ToolFault.TheVariants.{Memory}
 use Rattle.cbpf_tool.specs.Hosted.{and_then, created}
 use Rattle.cbpf_tool.proofs.HostLemmas.{created-left}
@@ -24,3 +24,6 @@ returns g c = λ known script e.
         refl,
       ),
     )
+
+pub returns-in-Err-NotCreated : goal.returns-in-Err-NotCreated
+returns-in-Err-NotCreated g c = search rules
