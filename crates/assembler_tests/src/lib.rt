@@ -1,5 +1,4 @@
-//! Tests of the assembler and of what it stands on: tables, the checker, word text, and the calls that write and list (cbpf_code),
-//! tokens and items (cbpf_syntax), and sources (cbpf_text).
+//! Tests of the assembler and of what it stands on.
 #![tactic(auto)]
 
 #[cfg(test)]

@@ -1,9 +1,8 @@
 //! Sessions of a debugger for classic BPF: breakpoints, runs, steps both ways, saved places and stops
 //! over the packets of a capture.
 //!
-//! The commands `run`, `breakpoint`, `step` and `select` are those of Linux
-//! Documentation/networking/filter ("BPF debugger"). Saved places, limits, steps back and the list of
-//! stops are this project's own.
+//! Commands that `bpf_dbg` has do what they do there (Linux Documentation/networking/filter, "BPF debugger"); the others
+//! are this project's own.
 #![tactic(auto)]
 
 mod commands;

@@ -1,5 +1,4 @@
-//! What a debugger's session answers, and the texts that the debugger prints, but the listing: stops, counts, places,
-//! breakpoints, values, loads, the program in C form and the lines `error: ..`.
+//! What a debugger's session answers, and all texts that the debugger prints but the listing, a file for each notion.
 //!
 //! The dump of a stop has the parts that the kernel's Documentation/networking/filter shows for
 //! `bpf_dbg`; its layout, and the other texts but the counts, are this project's own.

@@ -1,5 +1,5 @@
--- Which tokens belong to which class, and which words are reserved: the mnemonics and operand words of the kernel's
--- Documentation/networking/filter (BPF engine and instruction set), and its extensions' names.
+-- Which tokens belong to which class, and which words are reserved: mnemonics, operand words and extensions' names;
+-- the tables of these say which are the kernel's (Documentation/networking/filter), and which this project's own.
 use Rattle.std.specs.Prelude.{ℕ, Bool, true, false, not, ◌&&◌, ◌||◌, List, [], ◌∷◌, ◌==◌, map, bytes_eq}
 use Rattle.std.specs.List.{list_any}
 use Rattle.cbpf_code.specs.Extension.{ext_table, ext_name}

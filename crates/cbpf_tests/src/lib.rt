@@ -1,5 +1,4 @@
-//! Tests of the debugger and of the program: the machine and its trails (cbpf_machine), captures (pcap_classic), sessions (cbpf_dbg),
-//! dumps of stops (cbpf_reply); and readers, writers and allocators that fail, room that is given back, large inputs (cbpf_tool, cbpf_text).
+//! Tests of the debugger and of the program, and of readers, writers and allocators that fail.
 #![tactic(auto)]
 
 #[cfg(test)]

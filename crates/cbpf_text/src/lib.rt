@@ -1,9 +1,9 @@
 //! The assembler: source text in, instructions out; and the listing of a program, which it takes
 //! back.
 //!
-//! Mnemonics, addressing modes and labels are those of the kernel's
-//! Documentation/networking/filter; comments, number spellings and refusals are this
-//! project's own.
+//! Labels are those of the kernel's Documentation/networking/filter, and so are mnemonics, addressing modes and
+//! extensions, but for those that their tables call this project's own; comments, number spellings and refusals are
+//! this project's own.
 #![tactic(auto)]
 
 mod assembler;
