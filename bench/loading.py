@@ -26,6 +26,7 @@ cbpf = session.cbpf
 LARGE_PAGES = {**os.environ, "GLIBC_TUNABLES": "glibc.malloc.hugetlb=1"}
 # Bytes of a packet, and packets: some 80 to 90 MB.
 CAPTURES = [(64, 1_000_000), (200, 400_000), (1500, 60_000)]
+# 1.08 GB, which only `make bench` loads: a lower limit of captures shows nowhere else.
 GIGABYTE = (200, 5_000_000)
 COUNTED_PACKETS = 1_000
 ROUNDS = 7

@@ -9,19 +9,19 @@ use Rattle.cbpf_code.specs.declared.checker.TheConstants.{MAX_INSTRUCTIONS}
 use Rattle.cbpf_code.specs.ControlFlow.{InsnAt}
 use Rattle.cbpf_code.specs.Faults.{InsnHasFault, HasFault, IsEarlier, rank}
 
--- an instruction of a known code, at i of n, has none of C4 to C8
+-- an instruction of a known code, at i of n, has no fault of its own
 abbrev pub IsAllowed : Op → Insn → ℕ → ℕ → Type 0
 IsAllowed op insn i n = (e : CheckFault) → InsnHasFault op insn i n e → ⊥
 
--- the instruction at i has none of the faults C3 to C8
+-- the instruction at i has a known code, and no fault of its own
 abbrev pub AllowedAt : List Insn → ℕ → Type 0
 AllowedAt list i = InsnAt list i (λ op insn. IsAllowed op insn i (length list))
 
--- C1 to C8 are absent before instruction m
+-- no fault comes before that of an unknown code at m
 pub record PassesBefore (list : List Insn) (m : ℕ) : Type 0 where
   pub none : (e : CheckFault) → IsEarlier e (UnknownCode m) → HasFault list e → ⊥
 
--- C1 to C9 are absent, so that each path ends at a return
+-- no fault but those of paths is there, so that each path ends at a return
 pub record IsWellFormed (list : List Insn) : Type 0 where
   pub few : length list ≤ MAX_INSTRUCTIONS
   pub none : (e : CheckFault) → rank e < 4 → HasFault list e → ⊥

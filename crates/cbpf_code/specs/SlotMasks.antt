@@ -1,5 +1,5 @@
--- Masks of slots of scratch memory, a bit for each of the 16 slots (Documentation/networking/filter, "BPF
--- engine and instruction set": M[0] to M[15]).
+-- Masks of slots of scratch memory, a bit for each slot (Documentation/networking/filter, "BPF engine and
+-- instruction set").
 use Rattle.std.specs.Prelude.{◌≡◌, ◌⊎◌, ℕ, ◌<◌, IsTrue, List, length, slice_index}
 use Rattle.std.specs.Int.{bit_at}
 use Rattle.cbpf_code.specs.declared.insn.Insn.{Insn}

@@ -135,6 +135,7 @@ macro_rules! op_of_code {
     };
 }
 
+// `tools/other_codes` makes its numbers, the codes that have no operation.
 macro_rules! op_of_each_byte {
     ($value:expr; $($code:literal => $op:expr,)*) => {
         known_or_none! {
