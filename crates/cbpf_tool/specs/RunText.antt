@@ -1,4 +1,4 @@
--- The reply to a run or a step: the dump of a stop, or the counts.
+-- The text of a RunReply: the dump of a stop, or the counts.
 use Rattle.std.specs.Prelude.{ℕ, List}
 use Rattle.cbpf_dbg.specs.Shown.{stop_text}
 use Rattle.cbpf_dbg.specs.View.{View}
