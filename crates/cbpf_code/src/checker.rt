@@ -1,9 +1,9 @@
 ghost use Rattle.std.specs.Prelude.{◌≡◌, ◌<◌, ◌≤◌, ◌+◌, ◌-◌, ◌↔◌, ◌⊎◌, ℕ, Some, length, slice_get, slice_index};
-ghost use Rattle.std.specs.Prelude.{MatchOption, IsOk, IfOk, IfErr, IsTrue};
-ghost use Rattle.cbpf_code.specs.Faults.{FirstFault, HasFault, InsnHasFault, IsReturn};
+ghost use Rattle.std.specs.Prelude.{MatchOption, IsOk, IfOk, IfErr};
+ghost use Rattle.cbpf_code.specs.Faults.{FirstFault, InsnHasFault};
 ghost use Rattle.cbpf_code.specs.Faults as spec;
 ghost use Rattle.cbpf_code.specs.Sound.{IsSound};
-ghost use Rattle.cbpf_code.specs.CheckSteps.{AllowedAt, IsAllowed};
+ghost use Rattle.cbpf_code.specs.CheckSteps.{IsAllowed};
 ghost use Rattle.cbpf_code.specs.declared.checker.CheckFault.{CheckFault};
 
 use crate::extension::{FIRST_EXTENSION, ext_at};
@@ -62,7 +62,7 @@ pub fn check<A: Allocator>(list: Vec<Insn, A>) -> Result<Program<A>, (CheckFault
     ensures back { IfErr result (λ e. e.1 ≡ list) }
 {
     match first_fault(&list) {
-        None => Ok(Program::of_sound(list)),
+        None => Ok(Program { list }),
         Some(fault) => Err((fault, list)),
     }
 }
@@ -79,38 +79,18 @@ fn first_fault(list: &[Insn]) -> Option<CheckFault>
     }
     let count = list.len() as u32;
     for i in 0..count {
-        match fault_at(list, i, count) {
-            Some(fault) => return Some(fault),
-            None => (),
+        let insn = list[i as usize];
+        match op_of(insn.code) {
+            None => return Some(CheckFault::UnknownCode(i)),
+            Some(op) => match fault_of(op, insn, i, count) {
+                Some(fault) => return Some(fault),
+                None => (),
+            },
         }
     }
-    if !is_return(list[list.len() - 1]) {
-        return Some(CheckFault::NoReturn);
-    }
-    match first_unwritten(list) {
-        None => None,
-        Some(i) => Some(CheckFault::UnwrittenSlot(i)),
-    }
-}
-
-fn is_return(insn: Insn) -> bool
-    ensures { IsTrue result ↔ IsReturn insn }
-{
-    matches!(op_of(insn.code), Some(Op::RetK) | Some(Op::RetA))
-}
-
-/// The one of C3 to C8 that the instruction at `i` has.
-fn fault_at(list: &[Insn], i: u32, count: u32) -> Option<CheckFault>
-    requires within { i < count }
-    requires all { count ≡ length list.now }
-    requires few { count ≤ MAX_INSTRUCTIONS }
-    ensures { MatchOption result (AllowedAt list.now i)
-        (λ e. HasFault list.now e × (spec.rank e ≡ 2) × (spec.index_of e ≡ i)) }
-{
-    let insn = list[i as usize];
-    match op_of(insn.code) {
-        None => Some(CheckFault::UnknownCode(i)),
-        Some(op) => fault_of(op, insn, i, count),
+    match op_of(list[list.len() - 1].code) {
+        Some(Op::RetK | Op::RetA) => Some(CheckFault::UnwrittenSlot(first_unwritten(list)?)),
+        _ => Some(CheckFault::NoReturn),
     }
 }
 

@@ -10,7 +10,7 @@ use std::marker::Model;
 /// Only `check` makes one. Contracts see it as its list of instructions.
 #[derive(Drop)]
 pub struct Program<A: Allocator = Global> {
-    list: Vec<Insn, A>,
+    pub(crate) list: Vec<Insn, A>,
 }
 
 impl<A: Allocator> Model for Program<A> {
@@ -26,13 +26,6 @@ impl<A: Allocator> Model for Program<A> {
 }
 
 impl<A: Allocator> Program<A> {
-    pub(crate) fn of_sound(list: Vec<Insn, A>) -> Program<A>
-        requires { IsSound list.items }
-        ensures { result ≡ list.items }
-    {
-        Program { list }
-    }
-
     /// How many instructions the program has: 1 to `MAX_INSTRUCTIONS`.
     #[inline]
     #[tactic(auto, using(crate::proofs::SoundLemmas::sound_few))]

@@ -1,9 +1,17 @@
-use Rattle.std.proofs.Common.{arith}
-use Rattle.cbpf_code.proofs.FaultLemmas.{first_fault-slot, well_formed-at_end}
+use Rattle.std.proofs.Common.{rules, sym, ◌∙◌}
+use Rattle.std.proofs.lemmas.Option.{slice_get-get_or}
+use Rattle.cbpf_code.specs.CheckSteps.{IsWellFormed}
+use Rattle.cbpf_code.proofs.FaultLemmas.{passes_before-next, first_fault-slot, well_formed-at_end, zero_insn}
 use Rattle.cbpf_code.proofs.checker.first_fault.Goals as goal
 
-pub returns-in-Some-first_unwritten : goal.returns-in-Some-first_unwritten
-returns-in-Some-first_unwritten c =
-    let formed = well_formed-at_end _ _ c.loop-i.invariant (omega arith)
-    (c.is_return.ensures.0 c.if-not-is_return.false) in
-    first_fault-slot _ _ formed c.in-Some-first_unwritten.ensures.0 c.in-Some-first_unwritten.ensures.1
+pub loop-i-preserved : goal.loop-i-preserved
+loop-i-preserved c =
+    let at = slice_get-get_or _ _ zero_insn c.loop-i-test.true in
+    passes_before-next _ _ c.loop-i.invariant
+    (_, _, at, sym c.op_of.ensures ∙ c.in-Some.is, c.in-None-fault_of.ensures)
+
+pub returns-in_ok-first_unwritten-in-Some-RetK : goal.returns-in_ok-first_unwritten-in-Some-RetK
+returns-in_ok-first_unwritten-in-Some-RetK c =
+    let unwritten = c.in_ok-first_unwritten-in-Some-RetK.ensures in
+    let formed : IsWellFormed c.args.list.now = search (rules, well_formed-at_end) in
+    first_fault-slot _ _ formed unwritten.0 unwritten.1
