@@ -38,25 +38,15 @@ pub(crate) fn first_unwritten(list: &[Insn]) -> Option<u32>
     None
 }
 
-fn loads_slot(op: Op) -> bool
-    ensures { result ≡ flow.loads_slot op }
-{
-    matches!(op, Op::LdMem | Op::LdxMem)
-}
-
 /// Whether the instruction loads one of the slots of a mask.
 fn loads_any(op: Op, insn: Insn, mask: u16) -> bool
     requires { IsTrue (flow.loads_slot op) → insn.k < SLOTS }
     ensures { IsTrue result ↔ IsTrue (flow.loads_slot op) × InMask mask insn.k }
 {
-    loads_slot(op) && is_in_mask(mask, insn.k)
-}
-
-fn is_in_mask(mask: u16, slot: u32) -> bool
-    requires { slot < SLOTS }
-    ensures { IsTrue result ↔ InMask mask slot }
-{
-    (mask >> slot) & 1 == 1
+    match op {
+        Op::LdMem | Op::LdxMem => (mask >> insn.k) & 1 == 1,
+        _ => false,
+    }
 }
 
 /// The slots of a mask into which the instruction stores nothing.
