@@ -5,7 +5,7 @@ ghost use Rattle.std.specs.List.{flat_map};
 ghost use Rattle.cbpf_code.specs.Writing.{Wrote};
 ghost use Rattle.cbpf_code.specs.Text.{hex, with_number};
 ghost use Rattle.std.specs.Fmt.{digit_glyph};
-ghost use Rattle.cbpf_code.specs.HexPlaces.{hex_digits, hex_places};
+ghost use Rattle.cbpf_code.specs.HexPlaces.{hex_places};
 
 use itoa::{Buffer, write_digits};
 use std::io::Write;
@@ -124,29 +124,6 @@ fn digits_needed(n: u32) -> usize
     }
 }
 
-/// A number as eight hexadecimal digits, in lower case.
-fn eight_digits(n: u32) -> [u8; 8]
-    ensures { result ≡ hex_digits 8 n }
-{
-    let n1 = n / 16;
-    let n2 = n1 / 16;
-    let n3 = n2 / 16;
-    let n4 = n3 / 16;
-    let n5 = n4 / 16;
-    let n6 = n5 / 16;
-    let n7 = n6 / 16;
-    [
-        last_hex_digit(n7),
-        last_hex_digit(n6),
-        last_hex_digit(n5),
-        last_hex_digit(n4),
-        last_hex_digit(n3),
-        last_hex_digit(n2),
-        last_hex_digit(n1),
-        last_hex_digit(n),
-    ]
-}
-
 /// A text of at most 256 bytes. What is put stands before what was put so far, so that a line is
 /// put from its last part to its first.
 #[derive(Drop)]
@@ -220,7 +197,23 @@ impl Line {
         ensures grown { length self.new ≤ length self.old + 8 }
     {
         let places = digits_needed(n).max(least as usize);
-        self.put(&eight_digits(n));
+        let n1 = n / 16;
+        let n2 = n1 / 16;
+        let n3 = n2 / 16;
+        let n4 = n3 / 16;
+        let n5 = n4 / 16;
+        let n6 = n5 / 16;
+        let n7 = n6 / 16;
+        self.put(&[
+            last_hex_digit(n7),
+            last_hex_digit(n6),
+            last_hex_digit(n5),
+            last_hex_digit(n4),
+            last_hex_digit(n3),
+            last_hex_digit(n2),
+            last_hex_digit(n1),
+            last_hex_digit(n),
+        ]);
         self.at += 8 - places;
     }
 
