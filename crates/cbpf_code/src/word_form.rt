@@ -1,21 +1,14 @@
 // A program as word text.
-ghost use Rattle.std.specs.Prelude.{◌≡◌, ◌≤◌, ◌<◌, ◌+◌, ◌++◌, ◌∷◌, drop, length, codes, decimal};
+ghost use Rattle.std.specs.Prelude.{◌≡◌, ◌≤◌, ◌<◌, ◌+◌, ◌++◌, ◌∷◌, drop, length, decimal};
 ghost use Rattle.std.specs.List.{flat_map};
 ghost use Rattle.cbpf_code.specs.Writing.{Wrote};
 ghost use Rattle.cbpf_code.specs.WordText.{Spells};
 ghost use Rattle.cbpf_code.specs.WordForm.{InRange, word_line, word_text};
 
 use crate::insn::Insn;
-use crate::writing::{WriteFault, write_bytes, write_parts};
-use itoa::{Buffer, write_digits};
+use crate::writing::{WriteFault, write_bytes, write_with_number};
+use itoa::write_digits;
 use std::io::Write;
-
-fn write_count<W: Write>(w: &mut W, count: usize) -> Result<(), WriteFault>
-    ensures { Wrote (W.contents w.old) (W.contents w.new) result (decimal count ++ codes ",") }
-{
-    let mut buffer = Buffer::new();
-    write_parts(w, &[buffer.format(count).as_bytes(), b","])
-}
 
 /// The size of the longest line: 5, 3, 3 and 10 digits, and a byte after each of the numbers.
 const LONGEST_LINE: usize = 25;
@@ -106,7 +99,7 @@ pub fn write_words<W: Write>(w: &mut W, list: &[Insn]) -> Result<(), WriteFault>
     ensures read_back { length list.now ≤ 4294967295 → Spells (word_text list.now) list.now }
 {
     all_are_in_range(list);
-    write_count(w, list.len())?;
+    write_with_number(w, b"", list.len() as u64, b",")?;
     write_word_lines(w, list)?;
     write_bytes(w, b"\n")
 }
