@@ -10,10 +10,9 @@ use Rattle.cbpf_code.specs.declared.extension.Ext.{Ext}
 use Rattle.cbpf_code.specs.Opcode.{op_of}
 use Rattle.cbpf_code.specs.Extension.{ext_at, ext_name}
 use Rattle.cbpf_code.specs.Text.{concat, with_number, hex}
-use Rattle.cbpf_code.specs.declared.listing.Operand.{Operand}
-use Rattle.cbpf_code.specs.declared.listing.Operand.TheVariants.{Bare, X, A, Length, Immediate, Absolute, Indexed}
-use Rattle.cbpf_code.specs.declared.listing.Operand.TheVariants.{Memory, Header, Label, ImmediateTwo, XTwo}
-use Rattle.cbpf_code.specs.Syntax.{mnemonic_of, operand_of}
+use Rattle.cbpf_code.specs.Syntax.{Operand, mnemonic_of, operand_of}
+use Rattle.cbpf_code.specs.Syntax.Operand.{Bare, X, A, Length, Immediate, Absolute, Indexed, Memory, Header, Label}
+use Rattle.cbpf_code.specs.Syntax.Operand.{ImmediateTwo, XTwo}
 
 -- the label of the instruction at an index, and its mnemonic
 abbrev pub head : ℕ → List ℕ → List ℕ

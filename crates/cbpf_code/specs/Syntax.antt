@@ -7,10 +7,26 @@ use Rattle.cbpf_code.specs.declared.opcode.Op.TheVariants.{LdImm, LdAbs, LdInd, 
 use Rattle.cbpf_code.specs.declared.opcode.Op.TheVariants.{LdxMsh, St, Stx, Alu, Neg, Ja, Jump, RetK, RetA, Tax, Txa}
 use Rattle.cbpf_code.specs.declared.opcode.Size.TheVariants.{Word, Half, Byte}
 use Rattle.cbpf_code.specs.declared.opcode.AluOp.TheVariants.{Add, Sub, Mul, Div, Or, And, Lsh, Rsh, Mod, Xor}
-use Rattle.cbpf_code.specs.declared.opcode.Src.TheVariants.{K, X}
+use Rattle.cbpf_code.specs.declared.opcode.Src.TheVariants as sources
 use Rattle.cbpf_code.specs.declared.opcode.Cond.TheVariants.{Eq, Gt, Ge, Bits}
-use Rattle.cbpf_code.specs.declared.listing.Operand.{Operand}
-use Rattle.cbpf_code.specs.declared.listing.Operand.TheVariants as operands
+
+-- what stands after a mnemonic: an addressing mode, in the form that a listing has it
+pub data Operand : Type 0 where
+  Bare : Operand
+  -- `x`, `a`, `len`, `#0x5`
+  X : Operand
+  A : Operand
+  Length : Operand
+  Immediate : Operand
+  -- `[5]` or an extension's name, `[x + 5]`, `M[5]`, `4*([5]&0xf)`
+  Absolute : Operand
+  Indexed : Operand
+  Memory : Operand
+  Header : Operand
+  -- `l5`, and `#0x5, l5, l6` and `x, l5, l6`
+  Label : Operand
+  ImmediateTwo : Operand
+  XTwo : Operand
 
 abbrev pub mnemonic_of : Op → List ℕ
 mnemonic_of LdImm = codes "ld"
@@ -50,24 +66,24 @@ mnemonic_of Tax = codes "tax"
 mnemonic_of Txa = codes "txa"
 
 abbrev pub operand_of : Op → Operand
-operand_of LdImm = operands.Immediate
-operand_of (LdAbs size) = operands.Absolute
-operand_of (LdInd size) = operands.Indexed
-operand_of LdMem = operands.Memory
-operand_of LdLen = operands.Length
-operand_of LdxImm = operands.Immediate
-operand_of LdxMem = operands.Memory
-operand_of LdxLen = operands.Length
-operand_of LdxMsh = operands.Header
-operand_of St = operands.Memory
-operand_of Stx = operands.Memory
-operand_of (Alu op K) = operands.Immediate
-operand_of (Alu op X) = operands.X
-operand_of Neg = operands.Bare
-operand_of Ja = operands.Label
-operand_of (Jump cond K) = operands.ImmediateTwo
-operand_of (Jump cond X) = operands.XTwo
-operand_of RetK = operands.Immediate
-operand_of RetA = operands.A
-operand_of Tax = operands.Bare
-operand_of Txa = operands.Bare
+operand_of LdImm = Immediate
+operand_of (LdAbs size) = Absolute
+operand_of (LdInd size) = Indexed
+operand_of LdMem = Memory
+operand_of LdLen = Length
+operand_of LdxImm = Immediate
+operand_of LdxMem = Memory
+operand_of LdxLen = Length
+operand_of LdxMsh = Header
+operand_of St = Memory
+operand_of Stx = Memory
+operand_of (Alu op sources.K) = Immediate
+operand_of (Alu op sources.X) = X
+operand_of Neg = Bare
+operand_of Ja = Label
+operand_of (Jump cond sources.K) = ImmediateTwo
+operand_of (Jump cond sources.X) = XTwo
+operand_of RetK = Immediate
+operand_of RetA = A
+operand_of Tax = Bare
+operand_of Txa = Bare

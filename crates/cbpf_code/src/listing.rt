@@ -61,36 +61,38 @@ fn put_targets(line: &mut Line, i: u32, insn: Insn)
     line.put(b", l");
 }
 
-/// Puts what stands after the mnemonic of the instruction at an index.
+/// Puts what stands after the mnemonic of the instruction at an index, of this operation.
 #[inline(always)]
 #[tactic(auto, using(crate::proofs::NameLemmas::names))]
-fn put_operand(line: &mut Line, i: u32, insn: Insn, operand: Operand)
+fn put_operand(line: &mut Line, i: u32, insn: Insn, op: Op)
     requires room { length line.old + 60 ≤ 256 }
-    ensures text { line.new ≡ spec.operand_text operand i insn ++ line.old }
+    ensures text { line.new ≡ spec.operand_text (syntax.operand_of op) i insn ++ line.old }
     ensures grown { length line.new ≤ length line.old + 60 }
 {
-    match operand {
-        Operand::Bare => {}
-        Operand::X => line.put(b" x"),
-        Operand::A => line.put(b" a"),
-        Operand::Length => line.put(b" len"),
-        Operand::Immediate => put_immediate(line, insn.k),
-        Operand::Absolute => match ext_at(insn.k) {
+    match op {
+        Op::Neg | Op::Tax | Op::Txa => {}
+        Op::Alu(_, Src::X) => line.put(b" x"),
+        Op::RetA => line.put(b" a"),
+        Op::LdLen | Op::LdxLen => line.put(b" len"),
+        Op::LdImm | Op::LdxImm | Op::Alu(_, Src::K) | Op::RetK => put_immediate(line, insn.k),
+        Op::LdAbs(_) => match ext_at(insn.k) {
             Some(e) => {
                 line.put(ext_name(e).as_bytes());
                 line.put(b" ");
             }
             None => put_between(line, b" [", u64::from(insn.k), b"]"),
         },
-        Operand::Indexed => put_between(line, b" [x + ", u64::from(insn.k), b"]"),
-        Operand::Memory => put_between(line, b" M[", u64::from(insn.k), b"]"),
-        Operand::Header => put_between(line, b" 4*([", u64::from(insn.k), b"]&0xf)"),
-        Operand::Label => put_between(line, b" l", u64::from(i) + 1 + u64::from(insn.k), b""),
-        Operand::ImmediateTwo => {
+        Op::LdInd(_) => put_between(line, b" [x + ", u64::from(insn.k), b"]"),
+        Op::LdMem | Op::LdxMem | Op::St | Op::Stx => {
+            put_between(line, b" M[", u64::from(insn.k), b"]");
+        }
+        Op::LdxMsh => put_between(line, b" 4*([", u64::from(insn.k), b"]&0xf)"),
+        Op::Ja => put_between(line, b" l", u64::from(i) + 1 + u64::from(insn.k), b""),
+        Op::Jump(_, Src::K) => {
             put_targets(line, i, insn);
             put_immediate(line, insn.k);
         }
-        Operand::XTwo => {
+        Op::Jump(_, Src::X) => {
             put_targets(line, i, insn);
             line.put(b" x");
         }
@@ -112,7 +114,7 @@ pub fn put_line<A: Allocator>(line: &mut Line, p: &Program<A>, i: u32)
     let insn = p.at_index(i);
     match op_of(insn.code) {
         Some(op) => {
-            put_operand(line, i, insn, operand_of(op));
+            put_operand(line, i, insn, op);
             line.put(mnemonic_of(op));
             line.put(b":\t");
             line.put_u32(i);
@@ -154,36 +156,6 @@ pub fn write_lines<W: Write, A: Allocator>(w: &mut W, p: &Program<A>) -> Result<
     Ok(())
 }
 
-/// What stands after a mnemonic: one of the addressing modes of the kernel's
-/// Documentation/networking/filter, in the form that a listing has it.
-#[derive(Clone, Copy)]
-pub enum Operand {
-    /// Nothing.
-    Bare,
-    /// `x`.
-    X,
-    /// `a`.
-    A,
-    /// `len`.
-    Length,
-    /// `#0x5`.
-    Immediate,
-    /// `[5]`, or an extension's name.
-    Absolute,
-    /// `[x + 5]`.
-    Indexed,
-    /// `M[5]`.
-    Memory,
-    /// `4*([5]&0xf)`.
-    Header,
-    /// `l5`.
-    Label,
-    /// `#0x5, l5, l6`.
-    ImmediateTwo,
-    /// `x, l5, l6`.
-    XTwo,
-}
-
 /// The mnemonics of listings, which sources have too.
 #[macro_export]
 macro_rules! mnemonic {
@@ -217,7 +189,7 @@ macro_rules! mnemonic {
 
 /// The mnemonic of an operation.
 #[inline]
-pub(crate) fn mnemonic_of(op: Op) -> &'static [u8]
+fn mnemonic_of(op: Op) -> &'static [u8]
     ensures same { result.now ≡ syntax.mnemonic_of op }
     ensures short { length result.now ≤ 4 }
 {
@@ -248,26 +220,5 @@ pub(crate) fn mnemonic_of(op: Op) -> &'static [u8]
         Op::RetK | Op::RetA => mnemonic!(Ret),
         Op::Tax => mnemonic!(Tax),
         Op::Txa => mnemonic!(Txa),
-    }
-}
-
-/// What stands after the mnemonic of an operation.
-#[inline]
-pub(crate) fn operand_of(op: Op) -> Operand
-    ensures { result ≡ syntax.operand_of op }
-{
-    match op {
-        Op::LdImm | Op::LdxImm | Op::Alu(_, Src::K) | Op::RetK => Operand::Immediate,
-        Op::LdAbs(_) => Operand::Absolute,
-        Op::LdInd(_) => Operand::Indexed,
-        Op::LdMem | Op::LdxMem | Op::St | Op::Stx => Operand::Memory,
-        Op::LdLen | Op::LdxLen => Operand::Length,
-        Op::LdxMsh => Operand::Header,
-        Op::Alu(_, Src::X) => Operand::X,
-        Op::Neg | Op::Tax | Op::Txa => Operand::Bare,
-        Op::Ja => Operand::Label,
-        Op::Jump(_, Src::K) => Operand::ImmediateTwo,
-        Op::Jump(_, Src::X) => Operand::XTwo,
-        Op::RetA => Operand::A,
     }
 }
