@@ -15,15 +15,15 @@ fn is_run_refused<A: Allocator + Copy>(
     session.run_to_end(&mut Meter::new(), found) == Err(SessionFault::NoProgram)
 }
 
-/// Whether breakpoints are refused without a program.
-fn are_breakpoints_refused<A: Allocator + Copy>(session: &mut Session<MarkTrail, A>) -> bool {
-    let refused = Err(SessionFault::NoProgram);
-    session.breakpoint(0) == refused && session.breakpoint_when(0, When::A(1)) == refused
+/// Breakpoints, which are refused without a program.
+fn set_without_program<A: Allocator + Copy>(rt: &impl Abort, session: &mut Session<MarkTrail, A>) {
+    assert!(rt; session.breakpoint(0) == Err(SessionFault::NoProgram));
+    assert!(rt; session.breakpoint_when(0, When::A(1)) == Err(SessionFault::NoProgram));
 }
 
 fn call_with_nothing_loaded<A: Allocator + Copy>(rt: &impl Abort, alloc: A) {
     let mut session = Session::new(alloc, MarkTrail::new());
-    assert!(rt; are_breakpoints_refused(&mut session));
+    set_without_program(rt, &mut session);
     assert!(rt; is_run_refused(&mut session, &mut Vec::new(alloc)));
 }
 
@@ -54,10 +54,12 @@ fn dump<A: Allocator + Copy>(rt: &impl Abort, session: &mut Session<MarkTrail, A
     }
 }
 
-/// Steps, and a run of one packet.
-fn go<A: Allocator + Copy>(rt: &impl Abort, session: &mut Session<MarkTrail, A>) {
-    assert!(rt; session.step(&mut Meter::new(), 3).is_ok());
-    assert!(rt; session.step(&mut Meter::new(), -1).is_ok());
+fn step<A: Allocator + Copy>(rt: &impl Abort, session: &mut Session<MarkTrail, A>, steps: i64) {
+    assert!(rt; session.step(&mut Meter::new(), steps).is_ok());
+}
+
+/// A run of one packet.
+fn run_one<A: Allocator + Copy>(rt: &impl Abort, session: &mut Session<MarkTrail, A>) {
     assert!(rt; session.run(&mut Meter::new(), Some(1)).is_ok());
 }
 
@@ -94,18 +96,18 @@ fn delete<A: Allocator + Copy>(rt: &impl Abort, session: &mut Session<MarkTrail,
     session.reset_breakpoints();
 }
 
-/// A session over both packets, with two breakpoints.
-fn begin<A: Allocator + Copy>(rt: &impl Abort, alloc: A) -> Session<MarkTrail, A> {
-    let mut session = session_of(alloc, ICMP_WORDS).expect(rt, "the session");
+/// The two breakpoints.
+fn begin<A: Allocator + Copy>(rt: &impl Abort, session: &mut Session<MarkTrail, A>) {
     assert!(rt; session.breakpoint(1) == Ok(()));
     assert!(rt; session.breakpoint_when(4, When::X(0)) == Ok(()));
-    session
 }
 
 fn call_each<A: Allocator + Copy>(rt: &impl Test, session: &mut Session<MarkTrail, A>) {
     set(rt, session);
     dump(rt, session);
-    go(rt, session);
+    step(rt, session, 3);
+    step(rt, session, -1);
+    run_one(rt, session);
     go_to(rt, session);
     list(rt, session);
     run_on(rt, session);
@@ -114,7 +116,8 @@ fn call_each<A: Allocator + Copy>(rt: &impl Test, session: &mut Session<MarkTrai
 
 /// Calls of a session of `alloc`, whose calls `refusing` counts.
 fn calls_of<A: Allocator + Copy>(rt: &impl Test, alloc: A, refusing: &FaultyAllocator<Global>) {
-    let mut session = begin(rt, alloc);
+    let mut session = session_of(alloc, ICMP_WORDS).expect(rt, "the session");
+    begin(rt, &mut session);
     let left = refusing.left();
     call_each(rt, &mut session);
     assert!(rt; refusing.left() == left);
