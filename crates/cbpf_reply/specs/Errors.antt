@@ -11,11 +11,18 @@ use Rattle.cbpf_reply.specs.declared.errors.CommandFault.{CommandFault}
 use Rattle.cbpf_reply.specs.declared.errors.CommandFault.TheVariants as command
 use Rattle.cbpf_reply.specs.declared.errors.LoadFault.{LoadFault}
 use Rattle.cbpf_reply.specs.declared.errors.LoadFault.TheVariants as load
+use Rattle.cbpf_reply.specs.declared.errors.ErrorLine.{ErrorLine}
+use Rattle.cbpf_reply.specs.declared.errors.ErrorLine.TheVariants.{Text, Number, Numbers}
 use Rattle.cbpf_reply.specs.Numbers.{with_numbers}
 use Rattle.cbpf_reply.specs.declared.reply.SessionFault.{SessionFault}
 use Rattle.cbpf_reply.specs.declared.reply.SessionFault.TheVariants.{NoProgram, NoCapture, NoPackets, NoInstruction}
 use Rattle.cbpf_reply.specs.declared.reply.SessionFault.TheVariants.{NoPacket, NoStep, TooFarBack, ZeroCount, NoValue}
 use Rattle.cbpf_reply.specs.declared.reply.SessionFault.TheVariants.{Memory}
+
+abbrev pub line_text : ErrorLine → List ℕ
+line_text (Text text) = text.now
+line_text (Number before n after) = with_number before.now n after.now
+line_text (Numbers before m between n after) = with_numbers before.now m between.now n after.now
 
 abbrev pub memory_text : List ℕ
 memory_text = codes "error: out of memory\n"

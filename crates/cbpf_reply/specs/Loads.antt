@@ -8,9 +8,6 @@ use Rattle.cbpf_code.specs.Text.{with_number}
 unfoldable pub program_text : ℕ → List ℕ
 program_text count = with_number (codes "bpf: ") count (codes " instructions\n")
 
-unfoldable pub packets_text : ℕ → List ℕ
-packets_text count = with_number (codes "pcap: ") count (codes " packets")
-
 -- where a capture is cut, if it is, and the line's end
 abbrev pub ending_text : Ending → List ℕ
 ending_text Whole = codes "\n"
@@ -18,4 +15,4 @@ ending_text (CutHeader place) = with_number (codes ", cut record header at ") pl
 ending_text (CutData place) = with_number (codes ", cut record data at ") place (codes "\n")
 
 unfoldable pub capture_text : Savefile → List ℕ
-capture_text c = packets_text (length c.records) ++ ending_text c.ending
+capture_text c = with_number (codes "pcap: ") (length c.records) (codes " packets") ++ ending_text c.ending
