@@ -1,6 +1,6 @@
 //! The texts of breakpoints.
 
-ghost use Rattle.std.specs.Prelude.{ℕ, ◌≡◌, ◌<◌, ◌≤◌, ◌+◌, ◌++◌, codes, decimal, length};
+ghost use Rattle.std.specs.Prelude.{◌<◌, length};
 ghost use Rattle.cbpf_code.specs.Writing.{Wrote};
 ghost use Rattle.cbpf_reply.specs.Breakpoints as spec;
 
@@ -9,13 +9,18 @@ use cbpf_machine::When;
 use std::alloc::Allocator;
 use std::io::Write;
 
-/// Puts the condition of a breakpoint that is set, and the line's end.
-#[inline(always)]
-fn put_condition(line: &mut Line, when: When)
-    requires room { length line.old + 21 ≤ 256 }
-    ensures text { line.new ≡ spec.condition_text when ++ line.old }
-    ensures grown { length line.new ≤ length line.old + 21 }
+/// Writes where a breakpoint was set: the line of its instruction, and its condition. `n` is less than
+/// the program's length.
+pub fn write_breakpoint<W: Write, A: Allocator>(
+    w: &mut W,
+    program: &Program<A>,
+    n: u32,
+    when: When,
+) -> Result<(), WriteFault>
+    requires { n < length program.now }
+    ensures { Wrote (W.contents w.old) (W.contents w.new) result (spec.set_text program.now n when) }
 {
+    let mut line = Line::new();
     line.put(b"\n");
     match when {
         When::Always => {}
@@ -28,34 +33,16 @@ fn put_condition(line: &mut Line, when: When)
             line.put(b" when x = ");
         }
     }
-}
-
-/// Writes where a breakpoint was set: the line of its instruction, and its condition. `n` is less than
-/// the program's length.
-#[tactic(auto, unfolding(crate::specs::Breakpoints::set_head))]
-pub fn write_breakpoint<W: Write, A: Allocator>(
-    w: &mut W,
-    program: &Program<A>,
-    n: u32,
-    when: When,
-) -> Result<(), WriteFault>
-    requires { n < length program.now }
-    ensures { Wrote (W.contents w.old) (W.contents w.new) result (spec.set_text program.now n when) }
-{
-    let mut line = Line::new();
-    put_condition(&mut line, when);
     put_line(&mut line, program, n);
     line.put(b"breakpoint at: ");
     line.write(w)
 }
 
-/// Puts the value of a register that a condition names, in parentheses.
-#[inline(always)]
-fn put_listed_value(line: &mut Line, when: When)
-    requires room { length line.old + 14 ≤ 256 }
-    ensures text { (n : ℕ) → spec.listed_text (n, when) ++ line.old ≡ codes " " ++ (decimal n ++ line.new) }
-    ensures grown { length line.new ≤ length line.old + 14 }
+/// Writes a breakpoint as the list of them has it, without the line's end.
+pub fn write_listed<W: Write>(w: &mut W, n: u32, when: When) -> Result<(), WriteFault>
+    ensures { Wrote (W.contents w.old) (W.contents w.new) result (spec.listed_text (n, when)) }
 {
+    let mut line = Line::new();
     match when {
         When::Always => {}
         When::A(v) => {
@@ -69,14 +56,6 @@ fn put_listed_value(line: &mut Line, when: When)
             line.put(b"(x=");
         }
     }
-}
-
-/// Writes a breakpoint as the list of them has it, without the line's end.
-pub fn write_listed<W: Write>(w: &mut W, n: u32, when: When) -> Result<(), WriteFault>
-    ensures { Wrote (W.contents w.old) (W.contents w.new) result (spec.listed_text (n, when)) }
-{
-    let mut line = Line::new();
-    put_listed_value(&mut line, when);
     line.put_u32(n);
     line.put(b" ");
     line.write(w)

@@ -7,18 +7,10 @@ ghost use Rattle.cbpf_reply.specs.CDump as spec;
 use cbpf_code::{Insn, WriteFault, write_bytes, write_c};
 use std::io::Write;
 
-#[tactic(auto, unfolding(crate::specs::CDump::c_head))]
-fn write_c_head<W: Write>(w: &mut W) -> Result<(), WriteFault>
-    ensures { Wrote (W.contents w.old) (W.contents w.new) result spec.c_head }
-{
-    write_bytes(w, b"/* { op, jt, jf, k }, */\n")
-}
-
 /// Writes a program in C form, under its head line.
-#[tactic(auto, using(cbpf_code::proofs::WrittenLemmas::pairs), unfolding(crate::specs::CDump::c_dump_text))]
 pub fn write_c_dump<W: Write>(w: &mut W, program: &[Insn]) -> Result<(), WriteFault>
     ensures { Wrote (W.contents w.old) (W.contents w.new) result (spec.c_dump_text (Some program.now)) }
 {
-    write_c_head(w)?;
+    write_bytes(w, b"/* { op, jt, jf, k }, */\n")?;
     write_c(w, program)
 }

@@ -23,19 +23,6 @@ pub fn write_went_to<W: Write>(w: &mut W, place: Place) -> Result<(), WriteFault
     write_with_numbers(w, b"at ", place.packet, b" ", u64::from(place.step), b"\n")
 }
 
-/// Puts how many packets asked for an extension without a value, where one did.
-#[inline(always)]
-fn put_unknown(line: &mut Line, unknown: u64)
-    requires room { length line.old + 29 ≤ 256 }
-    ensures text { line.new ≡ spec.unknown_text unknown ++ line.old }
-    ensures grown { length line.new ≤ length line.old + 29 }
-{
-    if unknown != 0 {
-        line.put_u64(unknown);
-        line.put(b" unknown:");
-    }
-}
-
 /// Puts how many packets passed and failed, and how many asked for an extension without a value.
 #[inline(always)]
 #[tactic(auto, unfolding(crate::specs::Counts::counts_text, crate::specs::Counts::known_text))]
@@ -43,7 +30,10 @@ fn put_counts(line: &mut Line, counts: Counts)
     requires room { length line.old + 88 ≤ 256 }
     ensures { line.new ≡ spec.counts_text counts ++ line.old }
 {
-    put_unknown(line, counts.unknown);
+    if counts.unknown != 0 {
+        line.put_u64(counts.unknown);
+        line.put(b" unknown:");
+    }
     line.put_u64(counts.fails);
     line.put(b" fails:");
     line.put_u64(counts.passes);

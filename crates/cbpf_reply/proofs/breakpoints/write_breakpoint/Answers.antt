@@ -1,13 +1,9 @@
-use Rattle.std.proofs.Common.{append-nil}
+use Rattle.std.proofs.Common.{◌≡◌, append-nil, arith}
 use Rattle.cbpf_reply.specs.Breakpoints.{set_head, condition_text}
 use Rattle.cbpf_reply.proofs.breakpoints.write_breakpoint.Goals as goal
 
 pub returns : goal.returns
 unfolding set_head
-returns g c = rw (
-  c.put.ensures.text,
-  c.put_line.ensures.text,
-  c.put_condition.ensures.text,
-  c.new-line.ensures,
-  append-nil (condition_text c.args.when),
-) at c.write.ensures
+returns g c =
+    let condition : c.match-when.line ≡ condition_text c.args.when = grind (arith, append-nil) in
+    rw (c.put-2.ensures.text, c.put_line.ensures.text, condition) at c.write.ensures
