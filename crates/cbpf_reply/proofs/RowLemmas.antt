@@ -1,7 +1,9 @@
 -- Rows one before another in a text, and texts one after another.
 use Rattle.std.proofs.Common.{◌≡◌, ℕ, zero, suc, ◌+◌, ◌-◌, ◌<◌, ◌≤◌, List, ◌++◌, Option, length, take, drop, min}
 use Rattle.std.proofs.Common.{refl, arith, append_assoc, append-nil, take_all, length-drop}
+use Rattle.std.proofs.lemmas.List.Sums.{prefix_len-drop_all, prefix_len-drop_no, prefix_len-drop_yes}
 use Rattle.cbpf_code.specs.Writing.{Appended}
+use Rattle.cbpf_code.proofs.WrittenLemmas.{appended-nil}
 use Rattle.cbpf_reply.proofs.LeftLemmas.{Left, left-first}
 use Rattle.cbpf_reply.specs.Packet.{texts_from}
 use Rattle.cbpf_reply.specs.declared.packet.TheConstants.{ROW}
@@ -42,3 +44,6 @@ pub row-taken : (s : List ℕ) (at e : ℕ) → e ≡ min (length s) (at + ROW)
 row-taken s at e h = grind (arith, take_all, length-drop)
 
 pub ruleset rows = (append-nil, texts-none, texts-end, left-first)
+
+-- how far a run goes, one slot after another
+pub ruleset runs = (prefix_len-drop_all, prefix_len-drop_no, prefix_len-drop_yes, appended-nil)

@@ -14,7 +14,6 @@ use std::alloc::Allocator;
 use std::io::Write;
 
 /// The place, and the instruction there.
-#[tactic(auto, unfolding(crate::specs::Dump::instruction_dump))]
 fn write_instruction<W: Write, A: Allocator>(
     w: &mut W,
     p: &Program<A>,
@@ -93,7 +92,6 @@ pub(crate) fn put_why(line: &mut Line, why: Why)
 /// captured bytes and the original length of the stop's packet, and why it stopped.
 ///
 /// The stop's pc must be less than the program's length.
-#[tactic(auto, using(cbpf_code::proofs::WrittenLemmas::three))]
 pub fn write_stop<W: Write, A: Allocator>(
     w: &mut W,
     p: &Program<A>,

@@ -35,61 +35,37 @@ fn put_cells(line: &mut Line, row: &[u8])
     }
 }
 
-/// Puts the rows from `from` on and before `to`, of which there are at most three, each after the offset of its first
-/// byte, right in five places.
-#[inline(always)]
-fn put_rows(line: &mut Line, bytes: &[u8], from: usize, to: usize)
+/// Writes the rows from `from` on and before `to`, of which there are at most three, each after the offset of its
+/// first byte, right in five places, and a text after them.
+fn write_rows<W: Write>(
+    w: &mut W,
+    bytes: &[u8],
+    from: usize,
+    to: usize,
+    after: &[u8],
+) -> Result<(), WriteFault>
     requires order { from ≤ to }
     requires few { to ≤ from + 3 }
     requires within { to ≤ div_ceil (length bytes.now) ROW }
-    requires room { length line.old + 225 ≤ 256 }
-    ensures text { line.new ≡ spec.texts_from (spec.packet_row bytes.now) from (to - from) ++ line.old }
+    requires room { length after.now ≤ 31 }
+    ensures { Wrote (W.contents w.old) (W.contents w.new) result
+        (spec.texts_from (spec.packet_row bytes.now) from (to - from) ++ after.now) }
 {
+    let mut line = Line::new();
+    line.put(after);
     let mut r = to;
     while r > from {
         r -= 1;
         let at = ROW * r;
         let end = bytes.len().min(at + ROW);
         line.put(b"\n");
-        put_cells(line, &bytes[at..end]);
+        put_cells(&mut line, &bytes[at..end]);
         line.put(b":");
         let before = line.as_bytes().len();
         line.put_u64(at as u64);
         let digits = line.as_bytes().len() - before;
         line.put(spaces_to(5, digits));
     }
-}
-
-/// Writes the rows from `from` on and before `to`, of which there are at most three.
-fn write_rows<W: Write>(w: &mut W, bytes: &[u8], from: usize, to: usize) -> Result<(), WriteFault>
-    requires order { from ≤ to }
-    requires few { to ≤ from + 3 }
-    requires within { to ≤ div_ceil (length bytes.now) ROW }
-    ensures { Wrote (W.contents w.old) (W.contents w.new) result
-        (spec.texts_from (spec.packet_row bytes.now) from (to - from)) }
-{
-    let mut line = Line::new();
-    put_rows(&mut line, bytes, from, to);
-    line.write(w)
-}
-
-/// Writes the last rows, of which there are at most three, and why it stopped.
-fn write_last_rows<W: Write>(
-    w: &mut W,
-    bytes: &[u8],
-    from: usize,
-    to: usize,
-    why: Why,
-) -> Result<(), WriteFault>
-    requires order { from ≤ to }
-    requires few { to ≤ from + 3 }
-    requires within { to ≤ div_ceil (length bytes.now) ROW }
-    ensures { Wrote (W.contents w.old) (W.contents w.new) result
-        (spec.texts_from (spec.packet_row bytes.now) from (to - from) ++ why_line why) }
-{
-    let mut line = Line::new();
-    put_why(&mut line, why);
-    put_rows(&mut line, bytes, from, to);
     line.write(w)
 }
 
@@ -115,8 +91,10 @@ pub(crate) fn write_packet<W: Write>(
     let count = bytes.len().div_ceil(ROW);
     let mut from = 0;
     while count - from > 3 {
-        write_rows(w, bytes, from, from + 3)?;
+        write_rows(w, bytes, from, from + 3, b"")?;
         from += 3;
     }
-    write_last_rows(w, bytes, from, count, why)
+    let mut reason = Line::new();
+    put_why(&mut reason, why);
+    write_rows(w, bytes, from, count, reason.as_bytes())
 }

@@ -1,4 +1,4 @@
-use Rattle.std.proofs.Common.{◌+◌, arith}
+use Rattle.std.proofs.Common.{◌+◌, append-nil, arith}
 use Rattle.cbpf_code.proofs.WrittenLemmas.{first-failed}
 use Rattle.cbpf_reply.specs.Dump.{why_line}
 use Rattle.cbpf_reply.specs.Packet.{packet_head, packet_row}
@@ -16,13 +16,15 @@ loop-from-preserved g c = record {
   within = omega arith;
   left = left-next _ _ _ _ _ _ _
       (rows-split (packet_row c.args.bytes.now) c.loop-from.from (c.loop-from.from + 3) _ (why_line c.args.why)
-      (omega arith) (omega arith)) c.loop-from.invariant.left c.in_ok-write_rows.ensures;
+      (omega arith) (omega arith)) c.loop-from.invariant.left (rw append-nil at c.in_ok-write_rows.ensures);
 }
 
 pub returns-in_err-write_rows : goal.returns-in_err-write_rows
 returns-in_err-write_rows g c = left-stop _ _ _ _ _ _ _ _ c.from_residual-in_err-write_rows.ensures.0
     (rows-split (packet_row c.args.bytes.now) c.loop-from.from (c.loop-from.from + 3) _ (why_line c.args.why)
-    (omega arith) (omega arith)) c.loop-from.invariant.left c.in_err-write_rows.ensures
+    (omega arith) (omega arith)) c.loop-from.invariant.left (rw append-nil at c.in_err-write_rows.ensures)
 
 pub returns : goal.returns
-returns g c = left-last _ _ _ _ _ _ c.loop-from.invariant.left c.write_last_rows.ensures
+returns g c = left-last _ _ _ _ _ _ c.loop-from.invariant.left
+    (rw (c.as_bytes.ensures, c.put_why.ensures.text, c.new-reason.ensures, append-nil (why_line c.args.why))
+    at c.write_rows-2.ensures)

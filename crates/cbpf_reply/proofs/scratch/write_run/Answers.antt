@@ -1,7 +1,14 @@
-use Rattle.std.proofs.Common.{◌+◌}
-use Rattle.cbpf_code.proofs.WrittenLemmas.{take-len-drop}
+use Rattle.std.proofs.Common.{◌≡◌, ◌+◌, ◌-◌, ◌==◌, true, drop, slice_index, arith}
+use Rattle.std.specs.List.{prefix_len}
+use Rattle.cbpf_reply.specs.Scratch.{begins_run}
+use Rattle.cbpf_reply.proofs.RowLemmas.{runs}
 use Rattle.cbpf_reply.proofs.scratch.write_run.Goals as goal
 
 pub returns : goal.returns
-returns g c = rw (← c.if-not-begins_run.ensures, ← take-len-drop c.args.slots.now (c.args.i + 1), ← c.run_len.ensures.run)
-    c.write_scratch_line.ensures
+returns g c =
+    let slots = c.args.slots.now in
+    let i = c.args.i in
+    let begins : begins_run slots i ≡ true = grind arith in
+    let last : c.loop-end.end - 1 ≡ i + prefix_len (λ v. v == slice_index slots i) (drop (i + 1) slots) =
+    grind (arith, runs) in
+    rw (begins, ← last) c.write_scratch_line.ensures

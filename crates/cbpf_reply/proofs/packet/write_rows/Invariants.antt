@@ -1,14 +1,14 @@
 use Rattle.std.proofs.Common.{◌≡◌, ◌≤◌, ◌+◌, ◌-◌, ◌*◌, ◌++◌, length}
 use Rattle.cbpf_reply.specs.Packet.{texts_from, packet_row}
-use Rattle.cbpf_reply.proofs.packet.put_rows.Given as goal
+use Rattle.cbpf_reply.proofs.packet.write_rows.Given as goal
 
 abbrev pub invariant-loop-r : goal.invariant-loop-r
-invariant-loop-r l = record {
+invariant-loop-r g l = record {
   from : l.from ≤ l.r;
   within : l.r ≤ l.to;
-  text : l.line ≡ texts_from (packet_row l.bytes) l.r (l.to - l.r) ++ l.initial.line;
-  grown : length l.line + 75 * l.r ≤ length l.initial.line + 75 * l.to;
+  text : l.line ≡ texts_from (packet_row l.bytes) l.r (l.to - l.r) ++ l.after;
+  grown : length l.line + 75 * l.r ≤ length l.after + 75 * l.to;
 }
 
 abbrev pub decreases-loop-r : goal.decreases-loop-r
-decreases-loop-r l = l.r
+decreases-loop-r g l = l.r
