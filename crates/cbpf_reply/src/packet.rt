@@ -1,9 +1,10 @@
 // The packet's bytes.
 #![tactic(auto, using(crate::proofs::RowLemmas::rows))]
 
-ghost use Rattle.std.specs.Prelude.{◌≡◌, ◌≤◌, ◌+◌, ◌-◌, ◌++◌, length, decimal};
+ghost use Rattle.std.specs.Prelude.{◌≡◌, ◌≤◌, ◌+◌, ◌-◌, ◌++◌, [], length, decimal};
 ghost use Rattle.std.specs.Int.{div_ceil};
 ghost use Rattle.std.specs.List.{flat_map};
+ghost use Rattle.std.specs.Option.{option_map_or};
 ghost use Rattle.cbpf_code.specs.Writing.{Wrote};
 ghost use Rattle.cbpf_code.specs.Text.{spaces};
 ghost use Rattle.cbpf_reply.specs.Dump.{why_line};
@@ -36,23 +37,24 @@ fn put_cells(line: &mut Line, row: &[u8])
 }
 
 /// Writes the rows from `from` on and before `to`, of which there are at most three, each after the offset of its
-/// first byte, right in five places, and a text after them.
+/// first byte, right in five places, and after the last ones why it stopped.
 fn write_rows<W: Write>(
     w: &mut W,
     bytes: &[u8],
     from: usize,
     to: usize,
-    after: &[u8],
+    why: Option<Why>,
 ) -> Result<(), WriteFault>
     requires order { from ≤ to }
     requires few { to ≤ from + 3 }
     requires within { to ≤ div_ceil (length bytes.now) ROW }
-    requires room { length after.now ≤ 31 }
     ensures { Wrote (W.contents w.old) (W.contents w.new) result
-        (spec.texts_from (spec.packet_row bytes.now) from (to - from) ++ after.now) }
+        (spec.texts_from (spec.packet_row bytes.now) from (to - from) ++ option_map_or (λ y. why_line y) why []) }
 {
     let mut line = Line::new();
-    line.put(after);
+    if let Some(why) = why {
+        put_why(&mut line, why);
+    }
     let mut r = to;
     while r > from {
         r -= 1;
@@ -91,10 +93,8 @@ pub(crate) fn write_packet<W: Write>(
     let count = bytes.len().div_ceil(ROW);
     let mut from = 0;
     while count - from > 3 {
-        write_rows(w, bytes, from, from + 3, b"")?;
+        write_rows(w, bytes, from, from + 3, None)?;
         from += 3;
     }
-    let mut reason = Line::new();
-    put_why(&mut reason, why);
-    write_rows(w, bytes, from, count, reason.as_bytes())
+    write_rows(w, bytes, from, count, Some(why))
 }

@@ -25,6 +25,4 @@ returns-in_err-write_rows g c = left-stop _ _ _ _ _ _ _ _ c.from_residual-in_err
     (omega arith) (omega arith)) c.loop-from.invariant.left (rw append-nil at c.in_err-write_rows.ensures)
 
 pub returns : goal.returns
-returns g c = left-last _ _ _ _ _ _ c.loop-from.invariant.left
-    (rw (c.as_bytes.ensures, c.put_why.ensures.text, c.new-reason.ensures, append-nil (why_line c.args.why))
-    at c.write_rows-2.ensures)
+returns g c = left-last _ _ _ _ _ _ c.loop-from.invariant.left c.write_rows-2.ensures
