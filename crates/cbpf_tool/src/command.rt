@@ -49,7 +49,7 @@ pub enum SessionCommand {
     Step(i64),
     /// `select n`: before packet n, from 1.
     Select(u64),
-    /// `mark`: the place, as `resume` takes it.
+    /// `mark`: the place.
     Mark,
     /// `resume p s`: to a place that `mark` printed.
     Resume(Place),
