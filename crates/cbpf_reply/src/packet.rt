@@ -38,6 +38,7 @@ fn put_cells(line: &mut Line, row: &[u8])
 
 /// Writes the rows from `from` on and before `to`, of which there are at most three, each after the offset of its
 /// first byte, right in five places, and after the last ones why it stopped.
+#[inline(always)]
 fn write_rows<W: Write>(
     w: &mut W,
     bytes: &[u8],
