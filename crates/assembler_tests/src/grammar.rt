@@ -81,7 +81,7 @@ static ITEMS: [(&[u8], u16, Fields); 111] = [
     (b"txa", 135, Fields::Constant),
     (b"ret #1", 6, Fields::Constant),
     (b"ret a", 22, Fields::Constant),
-    // Options: signs, `%`, `#`, spellings of 4 and 15.
+    // Options of the forms.
     (b"ld [+12]", 32, Fields::Constant),
     (b"ld [-12]", 32, Fields::Constant),
     (b"ld [x + -1]", 64, Fields::Constant),

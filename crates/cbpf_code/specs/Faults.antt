@@ -42,7 +42,7 @@ loads_absolute _ = false
 abbrev pub IsReturn : Insn → Type 0
 IsReturn insn = (op_of insn.code ≡ Some RetK) ⊎ (op_of insn.code ≡ Some RetA)
 
--- what is wrong with one instruction, at index i of n: C4 to C8, a definition each
+-- what is wrong with one instruction, at index i of n: for each fault of its own a definition
 abbrev pub NamesNoSlot : Op → Insn → Type 0
 NamesNoSlot op insn = IsTrue (uses_slot op) × (SLOTS ≤ insn.k)
 
@@ -58,7 +58,7 @@ JumpsOutside op insn i n = (t : ℕ) × IsTarget op insn i t × (n ≤ t)
 abbrev pub LoadsNoExtension : Op → Insn → Type 0
 LoadsNoExtension op insn = IsTrue (loads_absolute op) × (4294963200 ≤ insn.k) × (ext_at insn.k ≡ None)
 
--- the order of reports: C1, C2, then C3 to C8 by instruction, then C9, then C10 by instruction
+-- the order of reports: by rank, and of one rank by the instruction's index
 abbrev pub rank : CheckFault → ℕ
 rank NoInstruction = 0
 rank TooMany = 1
@@ -76,7 +76,7 @@ index_of (UnknownExtension i) = i
 index_of (UnwrittenSlot i) = i
 index_of _ = 0
 
--- an instruction of a known code, at index i of n, has this one of C4 to C8
+-- an instruction of a known code, at index i of n, has this fault of its own
 abbrev pub InsnHasFault : Op → Insn → ℕ → ℕ → CheckFault → Type 0
 InsnHasFault op insn i n (NoSlot at) = NamesNoSlot op insn
 InsnHasFault op insn i n (ZeroDivisor at) = DividesByZero op insn
@@ -85,7 +85,7 @@ InsnHasFault op insn i n (JumpOutside at) = JumpsOutside op insn i n
 InsnHasFault op insn i n (UnknownExtension at) = LoadsNoExtension op insn
 InsnHasFault op insn i n _ = ⊥
 
--- a list has a fault: C1 to C3, C9 and C10, and those of an instruction
+-- a list has a fault: one that is named here, or else an instruction's own
 abbrev pub HasFault : List Insn → CheckFault → Type 0
 HasFault list NoInstruction = length list ≡ 0
 HasFault list TooMany = MAX_INSTRUCTIONS < length list

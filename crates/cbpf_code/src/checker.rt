@@ -94,7 +94,7 @@ fn first_fault(list: &[Insn]) -> Option<CheckFault>
     }
 }
 
-/// The one of C4 to C8 that an instruction of a known operation has, at `i` of `count`.
+/// The fault of its own that an instruction of a known operation has, at `i` of `count`.
 fn fault_of(op: Op, insn: Insn, i: u32, count: u32) -> Option<CheckFault>
     requires few { count ≤ MAX_INSTRUCTIONS }
     requires within { i < count }

@@ -1,7 +1,7 @@
 //! Listings: the disassembly of a program, one line of assembler text an instruction.
 //!
-//! Mnemonics and operands are those of the kernel's Documentation/networking/filter; the
-//! label before each instruction, and jump targets as these labels, are this project's own.
+//! Mnemonics and operands are those of the kernel's Documentation/networking/filter where it has them; all
+//! else, as the label before each instruction and jump targets as these labels, is this project's own.
 
 ghost use Rattle.std.specs.Prelude.{◌≡◌, ◌<◌, ◌≤◌, ◌+◌, ◌++◌, ℕ, length, Some};
 ghost use Rattle.cbpf_code.specs.Text.{with_number};

@@ -1,6 +1,6 @@
 -- What each command of a session answers, which view it leaves, and how many turns it makes
--- (the commands `run`, `breakpoint`, `step` and `select` are named in Linux Documentation/networking/filter;
--- the rest is this project's own).
+-- (commands that Linux Documentation/networking/filter names for `bpf_dbg` do what they do there; the rest is this
+-- project's own).
 use Rattle.std.specs.Prelude.{◌≡◌, ℕ, ◌+◌, ◌-◌, ◌≤◌, zero, suc, nat_lt, nat_le, nat_eq, is_some, ◌==◌, ◌&&◌, Bool, true}
 use Rattle.std.specs.Prelude.{List, [], ◌∷◌, ◌++◌, length, slice_get, Option, Some, None, Result, Ok, Err}
 use Rattle.std.specs.Prelude.{if◌then◌else◌, ℤ, pos, negsuc, ◌⊎◌, IsOk}
@@ -122,7 +122,7 @@ unfoldable pub step : View → ℤ → Answer RunReply
 step m n =
     loaded m (λ machine capture. if length capture == 0 then Err fault.NoPackets else step_in m machine capture n)
 
--- ---- select, mark, resume
+-- ---- the place
 
 abbrev pub moved : View → Place → Unit {0} × View
 moved m place = (tt, record m { place = place; origin = place.packet })
@@ -214,7 +214,7 @@ Found old new old_found new_found =
 abbrev pub turns_left : View → ℕ
 turns_left m = result_unwrap_or (loaded m (λ machine capture. Ok (turns_to_end machine capture m.place))) 0
 
--- ---- loads and breakpoints
+-- ---- what is loaded and set
 
 abbrev pub with_program_loaded : View → List Insn → View
 with_program_loaded m list = record m { program = Some list; breakpoints = []; place = start; origin = 1 }

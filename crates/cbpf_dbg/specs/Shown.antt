@@ -1,5 +1,5 @@
--- What is shown of a stop: the parts that the kernel's Documentation/networking/filter shows for `bpf_dbg`,
--- of the stop's own packet.
+-- What is shown of a stop, of the stop's own packet (the kernel's Documentation/networking/filter shows such a dump for
+-- `bpf_dbg`).
 use Rattle.std.specs.Prelude.{ℕ, ◌-◌, ◌≤◌, ◌<◌, List, [], length, slice_get, Option, Some, None}
 use Rattle.cbpf_code.specs.declared.insn.Insn.{Insn}
 use Rattle.cbpf_reply.specs.Dump.{shown_in, dump_text}

@@ -1,5 +1,4 @@
-//! Sessions of a debugger for classic BPF: breakpoints, runs, steps both ways, saved places and stops
-//! over the packets of a capture.
+//! Sessions of a debugger for classic BPF: what its commands do with a program over the packets of a capture.
 //!
 //! Commands that `bpf_dbg` has do what they do there (Linux Documentation/networking/filter, "BPF debugger"); the others
 //! are this project's own.

@@ -58,8 +58,8 @@ impl<T: Trail, A: Allocator> Model for Session<T, A> {
 }
 
 impl<T: Trail, A: Allocator + Copy> Session<T, A> {
-    /// A session with no program, no values, no capture and no breakpoints. Its breakpoints will take
-    /// their memory from this allocator.
+    /// A session with nothing loaded and nothing set. Its breakpoints will take their memory from this
+    /// allocator.
     pub fn new(alloc: A, trail: T) -> Self
         ensures { result ≡ empty_view }
     {

@@ -1,4 +1,4 @@
--- What a trail of checkpoints stands for: a list of states, of which one in STRIDE is kept (this project's own;
+-- What a trail stands for: a list of states, of which it may keep some alone, as one in STRIDE (this project's own;
 -- no standard speaks of it).
 use Rattle.std.specs.Prelude.{◌≡◌, ℕ, ◌+◌, ◌-◌, ◌*◌, ◌/◌, ◌<◌, List, length, slice_get}
 use Rattle.cbpf_machine.specs.declared.mark_trail.TheConstants.{STRIDE}

@@ -1,8 +1,8 @@
 //! The filter machine of classic BPF: one turn, one packet, and trails of the states that a packet
 //! has passed.
 //!
-//! The instructions do what Linux Documentation/networking/filter ("BPF engine and instruction
-//! set") and bpf(4) ("FILTER MACHINE") say. Two choices are this project's own: a shift by 32 or
+//! The instructions of Linux Documentation/networking/filter ("BPF engine and instruction set") and
+//! bpf(4) ("FILTER MACHINE") do what these say. All else is this project's own: so a shift by 32 or
 //! more gives 0, and a load from an extension's number gives the value that the extension was given, or
 //! ends the packet's run as `Unknown` where it has none.
 #![tactic(auto)]

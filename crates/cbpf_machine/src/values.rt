@@ -55,8 +55,8 @@ impl Values {
         self.places[place_of(e)]
     }
 
-    /// Gives an extension a value. For `Nla`, `NlaN`, `PayOff` and `Rand` the answer is false, and
-    /// nothing changes.
+    /// Gives an extension a value. For one that takes none, by `takes_value`, the answer is false,
+    /// and nothing changes.
     pub fn set(&mut self, e: Ext, n: u32) -> bool
         ensures answer { result ≡ spec.takes_value e }
         ensures value { self.new ≡ spec.with_value self.old e n }

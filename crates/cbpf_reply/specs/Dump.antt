@@ -1,6 +1,5 @@
--- What is shown of a stop: the place, the instruction, the registers and the scratch memory before it, the packet,
--- and why it stopped (the kernel's Documentation/networking/filter shows such a dump;
--- this layout is this project's own).
+-- The dump of a stop: what there is before its instruction, and why it stopped
+-- (the kernel's Documentation/networking/filter shows such a dump; this layout is this project's own).
 use Rattle.std.specs.Prelude.{ℕ, List, [], ◌∷◌, ◌++◌, length, Option, Some, None, slice_get, decimal, codes}
 use Rattle.cbpf_code.specs.declared.insn.Insn.{Insn}
 use Rattle.cbpf_code.specs.Extension.{ext_name}

@@ -1,7 +1,7 @@
 //! What a debugger's session answers, and all texts that the debugger prints but the listing, a file for each notion.
 //!
-//! The dump of a stop has the parts that the kernel's Documentation/networking/filter shows for
-//! `bpf_dbg`; its layout, and the other texts but the counts, are this project's own.
+//! What `bpf_dbg` prints in the kernel's Documentation/networking/filter has the same parts here; the
+//! layout of the dump of a stop, and all other texts, are this project's own.
 //!
 //! Each `write_..` answers `WriteFault` where the writer failed, or took nothing of a text that isn't empty: a
 //! beginning of the text was written.

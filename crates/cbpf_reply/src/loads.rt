@@ -8,7 +8,7 @@ use pcap_classic::{Capture, Ending};
 use std::alloc::Allocator;
 use std::io::Write;
 
-/// Writes the reply to a program that was loaded: how many instructions it has.
+/// Writes the reply to a program of so many instructions that was loaded.
 #[tactic(auto, unfolding(crate::specs::Loads::program_text))]
 pub fn write_program<W: Write>(w: &mut W, count: u32) -> Result<(), WriteFault>
     ensures { Wrote (W.contents w.old) (W.contents w.new) result (spec.program_text count) }
@@ -16,7 +16,7 @@ pub fn write_program<W: Write>(w: &mut W, count: u32) -> Result<(), WriteFault>
     write_with_number(w, b"bpf: ", u64::from(count), b" instructions\n")
 }
 
-/// Writes the reply to a capture that was loaded: how many packets it has, and where it is cut.
+/// Writes the reply to a capture that was loaded.
 #[tactic(auto, unfolding(crate::specs::Loads::capture_text))]
 pub fn write_capture<W: Write, A: Allocator>(
     w: &mut W,

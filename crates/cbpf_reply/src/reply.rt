@@ -48,7 +48,7 @@ pub struct Counts {
     pub unknown: u64,
 }
 
-/// The answer of a run or a step.
+/// The answer of a command that can come to a stop.
 #[derive(Clone, Copy, Debug, PartialEq, Eq)]
 pub enum RunReply {
     /// It stopped before an instruction.

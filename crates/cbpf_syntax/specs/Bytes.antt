@@ -1,5 +1,5 @@
--- The classes of bytes that a source text of the assembler is made of. The bytes of marks are those of the operands
--- in the kernel's Documentation/networking/filter; what counts as a blank is this project's own.
+-- The classes of bytes that a source text of the assembler is made of (this project's own; the marks of operands in the
+-- kernel's Documentation/networking/filter are among them).
 use Rattle.std.specs.Prelude.{ℕ, Bool, ◌&&◌, ◌||◌, nat_le, ◌==◌}
 
 -- a space, a tab, a newline or a carriage return

@@ -1,5 +1,5 @@
--- The classes of tokens of which the forms of instructions in the kernel's Documentation/networking/filter (BPF
--- engine and instruction set) are made.
+-- The classes of tokens of which the forms of `Table` are made (of the kernel's Documentation/networking/filter, and
+-- this project's own).
 use Rattle.std.specs.Prelude.{ℕ, List}
 
 -- what may stand at a place of a form

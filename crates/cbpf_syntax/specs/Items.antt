@@ -1,5 +1,5 @@
--- The items of a token list, instructions with their labels, as the forms of the kernel's
--- Documentation/networking/filter (BPF engine and instruction set) make them, and what begins a list of items.
+-- The items of a token list, instructions with their labels, as the forms of `Table` make them (of the kernel's
+-- Documentation/networking/filter, and this project's own), and what begins a list of items.
 use Rattle.std.specs.Prelude.{◌≡◌, ℕ, zero, suc, ◌+◌, true, List, [], ◌∷◌, ◌++◌, drop, Contains}
 use Rattle.cbpf_syntax.specs.Classes.{Class}
 use Rattle.cbpf_syntax.specs.Lexemes.{Lexeme}

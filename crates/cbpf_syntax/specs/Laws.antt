@@ -1,4 +1,4 @@
--- Laws of the forms in the kernel's Documentation/networking/filter (BPF engine and instruction set): a token list
+-- Laws of the forms of `Table` (of the kernel's Documentation/networking/filter, and this project's own): a token list
 -- has one reading or one first refusal.
 use Rattle.std.specs.Prelude.{◌≡◌, ◌⊎◌, List}
 use Rattle.cbpf_syntax.specs.Lexemes.{Lexeme}

@@ -1,5 +1,5 @@
--- Tokens as the grammar of the assembler sees them: words by their bytes, numbers by their values, marks. The tokens
--- are those of the operands in the kernel's Documentation/networking/filter (BPF engine and instruction set).
+-- Tokens as the grammar of the assembler sees them: words by their bytes, numbers by their values, marks (of the
+-- kernel's Documentation/networking/filter, and this project's own).
 use Rattle.std.specs.Prelude.{◌≡◌, ℕ, List, map, slice_range}
 use Rattle.cbpf_syntax.specs.declared.token.Kind.{Kind}
 use Rattle.cbpf_syntax.specs.declared.token.Kind.TheVariants as kinds

@@ -1,5 +1,5 @@
 -- The numbers that runs of bytes spell. The kernel's Documentation/networking/filter shows decimal and hexadecimal
--- ones; octal and binary ones are this project's own.
+-- ones; all others are this project's own.
 use Rattle.std.specs.Prelude.{◌≡◌, ◌^◌, min, ℕ, ◌+◌, ◌-◌, ◌*◌, ◌&&◌, List, [], ◌∷◌, nat_lt, nat_le, ◌==◌}
 use Rattle.std.specs.Prelude.{if◌then◌else◌, Option, Some, None}
 use Rattle.cbpf_syntax.specs.Bytes.{is_digit}

@@ -1,5 +1,5 @@
--- A source text whose items are taken one by one, with a few tokens read ahead: what stands next, by the forms of the
--- kernel's Documentation/networking/filter (BPF engine and instruction set).
+-- A source text whose items are taken one by one, with a few tokens read ahead: what stands next, by the forms of
+-- `Table` (of the kernel's Documentation/networking/filter, and this project's own).
 use Rattle.std.specs.Prelude.{◌≡◌, ◌<◌, ◌+◌, ◌-◌, ℕ, Bool, true, List, [], ◌++◌, length, map, slice_get, Option}
 use Rattle.std.specs.Prelude.{Some, None, Ok}
 use Rattle.cbpf_syntax.specs.declared.token.Token.{Token}

@@ -74,7 +74,7 @@ fn is_listed(word: &[u8]) -> bool
     is_mnemonic(word) || is_extension(word) || is_operand_word(word)
 }
 
-/// Whether a word is a mnemonic, an extension's name, `len`, `x`, `a` or `M`, and so no label.
+/// Whether a word is a mnemonic, an extension's name or one of `OPERAND_WORDS`, and so no label.
 // Labels often end with a number, and then there is no need to look them up.
 #[inline(always)]
 pub(crate) fn is_reserved(word: &[u8]) -> bool

@@ -7,7 +7,7 @@ use cbpf_text::{AsmFault, AsmKind};
 use cbpf_tool::{Form, ToolFault, asm};
 use std::io::ErrorKind;
 
-/// What the source assembles to, in both forms.
+/// What the source assembles to, in each form.
 const ARP_TEXTS: [(Form, &[u8]); 2] = [(Form::Decimal, ARP_WORDS), (Form::C, ARP_C)];
 
 /// One read after another fails.

@@ -194,7 +194,7 @@ fn loads_0(rt: &impl Test, values: &mut Values) -> bool {
         && loads_so(rt, values, Ext::Mark, 4294963220)
 }
 
-/// Nothing but `ld`, `ldh` and `ldb` from the place of an extension asks for one.
+/// Nothing but an absolute load from the place of an extension asks for one.
 fn others_ask_for_none() -> bool {
     let none = Values::new();
     asked(&none, 64, 4294963256).is_none()

@@ -249,7 +249,7 @@ fn check_onward<T: Trail>(rt: &impl Test, trail: &mut T, p: &Program) {
     }
 }
 
-/// Asserts the ways back and onward, of a trail that keeps all states, or each 64th.
+/// Asserts the ways back and onward, of a trail that keeps all states, or some.
 fn check_trail<T: Trail>(rt: &impl Test, trail: &mut T, p: &Program, keeps_all: bool) {
     check_back(rt, trail, p, keeps_all);
     check_onward(rt, trail, p);

@@ -226,7 +226,7 @@ static ROWS: [Row<'static>; 33] = [
     (Call::Words(b"4294967295,6 0 0"), 0, 0),
     (Call::Tokens(SMALL), 2, 99),
     (Call::Source(BRANCH), 4, 99),
-    // A refused source for each other kind of fault.
+    // Refused sources.
     (Call::Source(b"ld #1\nret $"), 1, 99),
     (Call::Source(b"ld #1\nret #0 /* x"), 1, 99),
     (Call::Source(b"ld #1\nret #4294967296"), 1, 99),

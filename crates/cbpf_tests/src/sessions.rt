@@ -279,7 +279,7 @@ const SESSIONS: &[Shown] = &[
     ),
 ];
 
-/// The calls of a session, over either trail.
+/// The calls of a session, over each trail.
 fn check_session(rt: &impl Test, session: &Shown) {
     check_rows(rt, MarkTrail::new(), false, session);
     let all = ListTrail::new(rt.alloc()).expect(rt, "memory");

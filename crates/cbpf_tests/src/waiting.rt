@@ -231,7 +231,7 @@ fn a_script_without_replies_flushes_nothing(rt: HostRuntime) {
     each_flush(&rt, &SILENT);
 }
 
-/// Each command that may take long, after another one that has a reply, and after one that has not.
+/// Commands that may take long, after others that have a reply, and after ones that have not.
 static SCRIPT: [Exchange; 17] = [
     (b"load bpf 1,6 0 0 1\n", Short, 20),
     (b"mark\n", Short, 21),

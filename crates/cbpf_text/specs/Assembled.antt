@@ -1,5 +1,5 @@
--- Which instructions a source text stands for: opcodes, literals and jump offsets as in the kernel's
--- Documentation/networking/filter, as a relation between whole lists.
+-- Which instructions a source text stands for, by forms of the kernel's Documentation/networking/filter and this
+-- project's own, as a relation between whole lists.
 use Rattle.std.specs.Prelude.{◌≡◌, ℕ, ◌+◌, ◌<◌, ◌≤◌, List, [], ◌∷◌, length, slice_get, Option, Some, None}
 use Rattle.cbpf_code.specs.declared.checker.TheConstants.{MAX_INSTRUCTIONS}
 use Rattle.cbpf_syntax.specs.declared.token.Token.{Token}

@@ -1,5 +1,5 @@
--- What the assembler keeps of the items that it has read: their opcodes, literals, targets and labels, as the
--- addressing modes of the kernel's Documentation/networking/filter have them.
+-- What the assembler keeps of the items that it has read, which have forms of the kernel's
+-- Documentation/networking/filter and this project's own: what their instructions depend on.
 use Rattle.std.specs.Prelude.{◌≡◌, ◌≤◌, ℕ, List, [], ◌∷◌, ◌++◌, length, map, Option, Some, None}
 use Rattle.std.specs.List.{AllZip}
 use Rattle.cbpf_code.specs.declared.checker.TheConstants.{MAX_INSTRUCTIONS}

@@ -1,5 +1,5 @@
--- The literal and the targets of an instruction, by the addressing modes of the kernel's
--- Documentation/networking/filter: numbers, extensions' names and labels.
+-- The literal and the targets of an instruction, by the classes of its tokens, in addressing modes of the kernel's
+-- Documentation/networking/filter and this project's own.
 use Rattle.std.specs.Prelude.{◌≡◌, ℕ, true, Contains, ◌-◌, ◌%◌, ◌^◌, List, [], ◌∷◌, Option, Some, None, bytes_eq}
 use Rattle.std.specs.Prelude.{if◌then◌else◌}
 use Rattle.std.specs.Option.{unwrap_or}

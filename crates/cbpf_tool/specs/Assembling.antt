@@ -1,5 +1,5 @@
--- What the assembler leaves in its writer: the instructions of a source in one of two forms
--- (kernel documentation, networking/filter, on `bpf_asm`).
+-- What the assembler leaves in its writer: the instructions of a source in a form
+-- (kernel documentation, networking/filter, on `bpf_asm`, of forms that it has).
 use Rattle.std.specs.Prelude.{◌≢◌, ℕ, List, [], Option, Result, Ok, Err}
 use Rattle.cbpf_code.specs.Writing.{Appended, AppendedPart}
 use Rattle.cbpf_code.specs.WordForm.{word_text}

@@ -1,6 +1,5 @@
--- The debugger's commands, and how lines spell them (kernel documentation, networking/filter, on `bpf_dbg`;
--- breakpoints with a condition, `breakpoint reset`, `delete`, `mark`, `resume`,
--- `stops` and `value` are this project's own).
+-- The debugger's commands, and how lines spell them (kernel documentation, networking/filter, on `bpf_dbg`, of commands
+-- that it has; the rest is this project's own).
 use Rattle.std.specs.Prelude.{ℕ, ◌-◌, ◌^◌, pos, if◌then◌else◌, List, [], ◌∷◌, Option, Some, None, option_map}
 use Rattle.std.specs.Prelude.{Result, Ok, Err, codes, bytes_eq}
 use Rattle.std.specs.Str.{is_utf8}

@@ -1,4 +1,4 @@
--- What the two jobs do on a machine: what is opened, created and written, in which order, and which fault ends
+-- What the jobs do on a machine: what is opened, created and written, in which order, and which fault ends
 -- a job (this project's own).
 use Rattle.std.specs.Prelude.{◌≡◌, ◌⊎◌, ℕ, List, [], ◌∷◌, Option, Some, None, Result, Ok, Err, string_bytes}
 use Rattle.std.specs.FinMap as map

@@ -1,6 +1,5 @@
 -- The replies to the commands of a session, and the view of the session after them
--- (kernel documentation, networking/filter, on `bpf_dbg`; saved places, limits,
--- steps back and the list of stops are this project's own).
+-- (kernel documentation, networking/filter, on `bpf_dbg`, of commands that it has; the rest is this project's own).
 use Rattle.std.specs.Prelude.{ℕ, ◌<◌, [], length, List, Option, Some, None, Result, Ok, Err}
 use Rattle.cbpf_code.specs.declared.insn.Insn.{Insn}
 use Rattle.cbpf_code.specs.Listing.{listing}

@@ -244,7 +244,7 @@ fn dump<A: Allocator, W: Write>(w: &mut W, session: &ScriptSession<A>) -> Result
 /// The session of a script.
 pub(crate) type ScriptSession<A> = Session<MarkTrail, A>;
 
-/// Writes the answer of a run or a step of this session: the dump of its stop, or the counts.
+/// Writes a `RunReply` of this session: the dump of its stop, or the counts.
 ///
 /// A stop is one of this session's, of the program and the capture that are loaded.
 #[tactic(auto, unfolding(crate::specs::RunText::run_text))]
