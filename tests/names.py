@@ -18,6 +18,7 @@ crates/*/must-fail/README.md. Each is read outside its blocks of code, and names
   a definition     of a file specs/: it is reached from the clauses of public functions, traits and models, or its item
                    of docs/DEFINITIONS.md says that only private functions cite it, or docs/ARCHITECTURE.md has its file
                    in the column `only for the crate`; and something cites it
+  a file           of src/ or specs/: it stands in its crate's row of the table of docs/ARCHITECTURE.md
   a call           in a block ```calls of docs/ARCHITECTURE.md: the function stands in the line's file
 A line of tests/shown.txt is a sentence and, each after ` | `, what shows it, with texts between backquotes:
   test C::M::F     the function F has #[test] in the module M of the crate C; a text stands in the file of M, of a
@@ -532,6 +533,18 @@ def check_own_files(path):
         check(not named, path, number, f"a public clause reaches {', '.join(named)} of {crate}/specs/{module}.antt")
 
 
+def check_listed(path):
+    """Whether the table of the crates names each file of src/ and specs/ in its crate's row."""
+    for number, _, head, cells in tables(path):
+        if head[-1] != "only for the crate":
+            continue
+        crate = CRATES / crates_in(cells[0])[0]
+        for file in sorted([*crate.glob("src/*.rt"), *crate.glob("specs/*.antt")]):
+            name = file.name if file.suffix == ".rt" else file.stem
+            listed = re.search(rf"\b{re.escape(name)}\b", " ".join(cells)) or file.stem in ("lib", "law", "Lib")
+            check(listed, path, number, f"no {name} in the row of {crate.name}")
+
+
 def check_reached(path):
     marked = set()
     for number, one, private in described(path):
@@ -554,7 +567,7 @@ def check_reached(path):
 OF_ONE = {
     "PROMISES.md": [check_promises],
     "DEFINITIONS.md": [check_definitions, check_reached],
-    "ARCHITECTURE.md": [check_own_files],
+    "ARCHITECTURE.md": [check_own_files, check_listed],
     "must-fail": [check_edits],
 }
 
