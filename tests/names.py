@@ -541,8 +541,8 @@ def check_listed(path):
         crate = CRATES / crates_in(cells[0])[0]
         for file in sorted([*crate.glob("src/*.rt"), *crate.glob("specs/*.antt")]):
             name = file.name if file.suffix == ".rt" else file.stem
-            listed = re.search(rf"\b{re.escape(name)}\b", " ".join(cells)) or file.stem in ("lib", "law", "Lib")
-            check(listed, path, number, f"no {name} in the row of {crate.name}")
+            listed = re.search(rf"`(specs/)?{re.escape(name)}(\.antt)?`", " ".join(cells)) or file.stem in ("lib", "law", "Lib")
+            check(listed, path, number, f"no `{name}` in the row of {crate.name}")
 
 
 def check_reached(path):
