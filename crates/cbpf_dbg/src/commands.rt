@@ -214,7 +214,8 @@ impl<T: Trail, A: Allocator> Session<T, A> {
 }
 
 impl<T: Trail, A: Allocator> Session<T, A> {
-    /// Writes the dump of a stop: what there is before its instruction, and why it stopped.
+    /// Writes the dump of a stop: its place, the registers before the instruction, the packet, and why
+    /// it stopped.
     ///
     /// A program and a capture are loaded, the stop's packet is one of the capture's, and its pc is
     /// less than the program's length. So it is with each stop that this session gave since they were

@@ -224,7 +224,7 @@ impl<T: Trail, A: Allocator> Session<T, A> {
     ///
     /// # Errors
     ///
-    /// `NoValue` for an extension that takes none.
+    /// `NoValue` for an extension that takes none, as [`Values::set`] names them.
     #[tactic(auto, unfolding(crate::specs::Commands::set_value))]
     pub fn set_value(&mut self, e: Ext, n: u32) -> Result<(), SessionFault>
         ensures reply { result ≡ spec.reply_of (spec.set_value self.old e n) }

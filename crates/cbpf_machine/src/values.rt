@@ -30,8 +30,7 @@ fn place_of(e: Ext) -> usize
     ext_offset(e) as usize / 4
 }
 
-/// Whether the extension takes a value. `nla`, `nlan` and `poff` are found by a search in the packet, and
-/// `rand` is random: these take no value.
+/// Whether the extension takes a value.
 fn takes_value(e: Ext) -> bool
     ensures { result ≡ spec.takes_value e }
 {
@@ -55,8 +54,8 @@ impl Values {
         self.places[place_of(e)]
     }
 
-    /// Gives an extension a value. For one that takes none, by `takes_value`, the answer is false,
-    /// and nothing changes.
+    /// Gives an extension a value. `Nla`, `NlaN` and `PayOff` are found by a search in the packet, and
+    /// `Rand` is random: these take none, so the answer is false, and nothing changes.
     pub fn set(&mut self, e: Ext, n: u32) -> bool
         ensures answer { result ≡ spec.takes_value e }
         ensures value { self.new ≡ spec.with_value self.old e n }

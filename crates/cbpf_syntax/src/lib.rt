@@ -1,7 +1,7 @@
 //! The syntax of the assembler: cuts a source text into tokens, and finds which of them are instructions.
 //!
 //! Words, numbers, marks and the forms of instructions are those of the kernel's filter language (Documentation/networking/filter,
-//! sections on `bpf_asm` and on the table of instructions and addressing modes), but for those that their tables call this
+//! sections on `bpf_asm` and on the table of instructions and addressing modes), but for those that specs/Table.antt calls this
 //! project's own, with all options written out as data; comments, the spellings of numbers and the refusals are this project's
 //! own. A form is a list of token classes; the reader takes, item by item, the form of which most tokens fit.
 #![tactic(auto)]

@@ -60,7 +60,7 @@ pub enum SessionCommand {
 }
 
 impl Command<'_> {
-    /// Whether it can pass more than a packet, or wait for a file.
+    /// Whether it makes turns, or loads a file.
     pub fn may_take_long(&self) -> bool {
         matches!(
             self,

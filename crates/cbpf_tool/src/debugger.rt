@@ -145,8 +145,8 @@ fn run_lines<A: Allocator + Copy, R: Read, W: Write, F: Files>(
 
 /// Runs a script of commands: reads lines up to `quit` or the end of the input, and writes the reply of
 /// each before the next one acts. A refused command is answered by a line `error: ..`, and the script goes
-/// on. The replies are flushed before each command that may take long, as `run` and `load pcap`, before
-/// each read, and before `Ok`; where none was written since the last flush, nothing is flushed.
+/// on. The replies are flushed before each command that may take long (it makes turns, or loads a capture),
+/// before each read, and before `Ok`; where none was written since the last flush, nothing is flushed.
 /// So what the writer was given before the call goes out with the first replies.
 ///
 /// # Errors

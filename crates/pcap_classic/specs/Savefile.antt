@@ -1,5 +1,5 @@
--- What the bytes of a capture file say, or why they are no capture (pcap-savefile(5), in the versions and with the
--- magics below).
+-- What the bytes of a capture file say, or why they are no capture (pcap-savefile(5), version 2.4, with the magics
+-- below).
 use Rattle.std.specs.Prelude.{◌≡◌, ◌≤◌, ◌<◌, ◌⊎◌, ℕ, if◌then◌else◌, Bool, List, length, drop}
 use Rattle.pcap_classic.specs.Numbers.{number_at}
 use Rattle.pcap_classic.specs.Records.{Record, Holds}

@@ -1,6 +1,6 @@
-//! Reads captures in the classic format of pcap-savefile(5), but those that `CaptureFault` names, in both byte orders
-//! and with time stamps in microseconds or nanoseconds. A capture keeps the bytes of its file as they are, and each
-//! record borrows from there. A file that is cut gives the whole records before the cut.
+//! Reads captures in the classic format of pcap-savefile(5), version 2.4, in both byte orders and with time stamps in
+//! microseconds or nanoseconds; `CaptureFault` names what it refuses. A capture keeps the bytes of its file as they are,
+//! and each record borrows from there. A file that is cut gives the whole records before the cut.
 #![tactic(auto)]
 
 mod capture;
