@@ -4,7 +4,7 @@ use Rattle.std.proofs.Common.{sym, ap, ◌∙◌}
 use Rattle.std.specs.Prelude.{Option, Some, None, slice_get}
 use Rattle.std.proofs.lemmas.Bool.{cases_lt}
 use Rattle.std.proofs.lemmas.Option.{slice_get_within}
-use Rattle.pcap_classic.specs.Records.{Record}
+use Rattle.pcap_classic.specs.Records.{Record, StartsAt}
 use Rattle.cbpf_reply.specs.declared.reply.Place.{Place}
 use Rattle.cbpf_machine.specs.Machine.{Machine}
 use Rattle.cbpf_dbg.specs.declared.cursor.Cursor.{Cursor}
@@ -59,6 +59,23 @@ module _ (capture : List Record) (place : Place) (end : ℕ) (left : List Record
           later = λ begun. absurd (omega (arith, begun));
         };
       }
+
+head_of : {X : Type 0} (xs : List X) (i e : ℕ) → i < e → slice_get (drop i (take e xs)) 0 ≡ slice_get xs i
+head_of xs i zero h = absurd (omega (arith, h))
+head_of [] zero (suc e) h = refl
+head_of [] (suc i) (suc e) h = refl
+head_of (y ∷ xs) zero (suc e) h = refl
+head_of (y ∷ xs) (suc i) (suc e) h = head_of xs i e (omega (arith, h))
+
+-- before the end the packet's record starts where the first of those that are left does
+pub starts_first : (machine : Machine) (capture : List Record) (w : Cursor) (end : ℕ) (left : List Record)
+    (here : Record) → AreLeft capture w.place end left → Stands machine capture w → w.place.packet < end
+    → Some here ≡ slice_get left 0 → StartsAt capture w.place.packet here.start
+starts_first machine capture w end left here h stands more first = λ r there.
+    let head = head_of capture (w.place.packet - 1) (end - 1)
+    (omega (arith, stands.from_one, stands.ordered, more)) in
+    let same : here ≡ r = cc (rw h.is at first, head, there) in
+    ap (λ (k : Record). k.start) same
 
 none_cut : {X : Type 0} (xs : List X) (i e : ℕ) → drop i (take e xs) ≡ [] → e ≤ length xs → e ≤ i
 none_cut xs i zero h fits = omega arith

@@ -11,7 +11,7 @@ use Rattle.cbpf_machine.specs.Machine.{Machine, machine_of}
 use Rattle.cbpf_machine.specs.Step.{turn, asked}
 use Rattle.cbpf_machine.specs.Follow.{Watching, is_watched}
 use Rattle.cbpf_machine.specs.Trace.{trace}
-use Rattle.pcap_classic.specs.Records.{Record}
+use Rattle.pcap_classic.specs.Records.{Record, StartsAt}
 use Rattle.pcap_classic.specs.Savefile.{Savefile}
 use Rattle.cbpf_reply.specs.declared.reply.Place.{Place}
 use Rattle.cbpf_dbg.specs.declared.cursor.Cursor.{Cursor}
@@ -34,7 +34,7 @@ IsInside capture place = 0 < length capture → place.packet ≤ length capture
 abbrev pub Fits : (List Registers → Type 0) → Option (List Insn) → Values → Option Savefile → Cursor → Type 0
 Fits stands_for (Some list) values (Some c) w =
     Stands (machine_of list values) c.records w × Keeps stands_for (machine_of list values) c.records w.place
-    × IsInside c.records w.place
+    × IsInside c.records w.place × StartsAt c.records w.place.packet w.start
 Fits stands_for _ values _ w = (w.place ≡ start) × (w.origin ≡ 1)
 
 -- no turn of a machine asks for an extension that has no value

@@ -182,7 +182,7 @@ impl<T: Trail, A: Allocator> Session<T, A> {
         if n == 0 || n > count {
             return Err(SessionFault::NoPacket);
         }
-        self.cursor = Cursor::before(n);
+        self.cursor = Cursor::before(n, loaded.capture.start_of(n));
         self.trail.clear();
         Ok(())
     }
@@ -200,7 +200,8 @@ impl<T: Trail, A: Allocator> Session<T, A> {
     {
         let loaded = loaded_in!(self);
         let end = loaded.capture.count() + 1;
-        let left = loaded.capture.records(self.cursor.place.packet, end);
+        let Cursor { place, start, .. } = self.cursor;
+        let left = loaded.capture.records(place.packet, start, end);
         Ok(Stops {
             loaded,
             walk: Walk {
@@ -233,7 +234,13 @@ impl<T: Trail, A: Allocator> Session<T, A> {
         let (Some(program), Some(capture)) = (&self.program, &self.capture) else {
             unreachable!()
         };
-        let packet = capture.item(stop.place.packet);
+        let n = stop.place.packet;
+        let start = if n == self.cursor.place.packet {
+            self.cursor.start
+        } else {
+            capture.start_of(n)
+        };
+        let packet = capture.item_at(n, start);
         cbpf_reply::write_stop(w, program, stop, packet.bytes, packet.wire)
     }
 }

@@ -6,7 +6,6 @@ ghost use Rattle.cbpf_machine.specs.Machine.{Machine};
 ghost use Rattle.pcap_classic.specs.Lent.{record_of};
 ghost use Rattle.pcap_classic.specs.Records.{Record};
 ghost use Rattle.cbpf_dbg.specs.Loaded.{machine_in, records_in};
-ghost use Rattle.cbpf_dbg.specs.View.{start};
 ghost use Rattle.cbpf_dbg.specs.Cursor.{Stands, Moves, IsEntry, entered, stepped, passed, followed as after};
 ghost use Rattle.cbpf_dbg.specs.Cursor.{Countable, moved_by, entry_here};
 ghost use Rattle.cbpf_dbg.specs.declared.cursor.Moved.TheVariants as moved;
@@ -25,6 +24,8 @@ pub(crate) struct Cursor {
     /// The packet from which outcomes are counted.
     pub(crate) origin: u64,
     pub(crate) place: Place,
+    /// Where the record of the place's packet stands in the capture's file; of no meaning on the way over packets.
+    pub(crate) start: usize,
     /// The entry at the place; of no meaning at step 0.
     pub(crate) state: State,
     pub(crate) counts: Counts,
@@ -109,17 +110,19 @@ impl Cursor {
         }
     }
 
-    /// Before a packet, from which it counts.
-    pub(crate) fn before(packet: u64) -> Cursor
+    /// Before a packet, whose record starts there, and from which it counts.
+    pub(crate) fn before(packet: u64, start: usize) -> Cursor
         requires { 1 ≤ packet }
         ensures stands { (machine : Machine) (capture : List Record) → IsSound machine.list
             → packet ≤ length capture + 1 → Stands machine capture result }
         ensures place { result.place ≡ record { packet = packet; step = 0 } }
+        ensures start { result.start ≡ start }
         ensures origin { result.origin ≡ packet }
     {
         Cursor {
             origin: packet,
             place: Place { packet, step: 0 },
+            start,
             state: State::zero(),
             counts: Counts {
                 passes: 0,
@@ -129,18 +132,20 @@ impl Cursor {
         }
     }
 
-    /// At an entry of a packet, from which it counts.
-    pub(crate) fn at_entry(place: Place, state: State) -> Cursor
+    /// At an entry of a packet, whose record starts there, and from which it counts.
+    pub(crate) fn at_entry(place: Place, start: usize, state: State) -> Cursor
         requires { 1 ≤ place.packet }
         ensures stands { (machine : Machine) (capture : List Record) → IsSound machine.list
             → place.packet ≤ length capture + 1 → IsEntry machine capture place state
             → Stands machine capture result }
         ensures place { result.place ≡ place }
+        ensures start { result.start ≡ start }
         ensures origin { result.origin ≡ place.packet }
     {
         Cursor {
             origin: place.packet,
             place,
+            start,
             state,
             counts: Counts {
                 passes: 0,
@@ -148,16 +153,6 @@ impl Cursor {
                 unknown: 0,
             },
         }
-    }
-
-    /// At the start of a capture.
-    pub(crate) fn start() -> Cursor
-        ensures stands { (machine : Machine) (capture : List Record) → IsSound machine.list
-            → Stands machine capture result }
-        ensures place { result.place ≡ start }
-        ensures origin { result.origin ≡ 1 }
-    {
-        Cursor::before(1)
     }
 }
 

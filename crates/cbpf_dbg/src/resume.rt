@@ -1,6 +1,7 @@
 //! Saved places.
 
 ghost use Rattle.std.specs.Prelude.{◌≡◌, ◌+◌, ◌-◌, ◌*◌, ◌<◌, ◌≤◌, ◌^◌, length, slice_get, IfErr, OnOk};
+ghost use Rattle.pcap_classic.specs.Records.{StartsAt};
 ghost use Rattle.cbpf_dbg.specs.Commands.{steps_of};
 ghost use Rattle.cbpf_dbg.specs.Loaded.{machine_in, records_in};
 ghost use Rattle.cbpf_dbg.specs.Session.{Keeps};
@@ -26,6 +27,7 @@ pub(crate) fn resume_at<T: Trail, A: Allocator>(
     ensures found { OnOk result (Stands (machine_in loaded.now) (records_in loaded.now) cursor.new
         × Keeps (λ xs. T.stands_for trail.new xs) (machine_in loaded.now) (records_in loaded.now) cursor.new.place
         × (cursor.new.place ≡ place) × (cursor.new.origin ≡ place.packet)
+        × StartsAt (records_in loaded.now) place.packet cursor.new.start
         × (place.step ≤ steps_of (machine_in loaded.now) (slice_get (records_in loaded.now) (place.packet - 1)))) }
     ensures short { IfErr result
         (λ n. (n ≡ steps_of (machine_in loaded.now) (slice_get (records_in loaded.now) (place.packet - 1)))
@@ -33,17 +35,17 @@ pub(crate) fn resume_at<T: Trail, A: Allocator>(
     ensures counts { meter.old ≤ meter.new }
     ensures few { meter.new ≤ meter.old + 2 * place.step }
 {
+    let item = loaded.capture.item(place.packet);
     if place.step == 0 {
         trail.clear();
-        *cursor = Cursor::before(place.packet);
+        *cursor = Cursor::before(place.packet, item.start);
         return Ok(());
     }
-    let item = loaded.capture.item(place.packet);
     let packet = Packet {
         bytes: item.bytes,
         wire: item.wire,
     };
     let state = trail.go_to(meter, loaded.program, packet, loaded.values, place.step)?;
-    *cursor = Cursor::at_entry(place, state);
+    *cursor = Cursor::at_entry(place, item.start, state);
     Ok(())
 }

@@ -1,7 +1,8 @@
 //! Runs to the next hit.
 
-ghost use Rattle.std.specs.Prelude.{◌≡◌, ◌≢◌, ◌+◌, ◌-◌, ◌<◌, ◌≤◌, ◌^◌, [], Some, true, false};
+ghost use Rattle.std.specs.Prelude.{◌≡◌, ◌≢◌, ◌+◌, ◌-◌, ◌<◌, ◌≤◌, ◌^◌, [], Some, true, false, OnSome};
 ghost use Rattle.cbpf_machine.specs.Follow.{is_watched};
+ghost use Rattle.pcap_classic.specs.Records.{StartsAt};
 ghost use Rattle.cbpf_dbg.specs.Commands.{PassesHits};
 ghost use Rattle.cbpf_dbg.specs.Joined.{rest};
 ghost use Rattle.cbpf_dbg.specs.Loaded.{machine_in, records_in, breakpoints_in};
@@ -178,6 +179,7 @@ fn run_to_hit<T: Trail, A: Allocator>(
         walk.old.cursor walk.new.cursor (before walk.new.cursor.place) meter.old meter.new }
     ensures comes { ComesTo (machine_in loaded.now) (records_in loaded.now) (breakpoints_in loaded.now) walk.old.end
         walk.old.cursor result walk.new.cursor }
+    ensures start { OnSome result (StartsAt (records_in loaded.now) walk.new.cursor.place.packet walk.new.cursor.start) }
     ensures keeps { KeepsIn (λ xs. T.stands_for trail.new xs) loaded.now walk.new.cursor.place }
 {
     if !go_on_in_packet(meter, loaded, walk, trail) {
@@ -186,6 +188,10 @@ fn run_to_hit<T: Trail, A: Allocator>(
             return None;
         }
     }
+    let Some(here) = walk.left.first() else {
+        unreachable!()
+    };
+    walk.cursor.start = here.start;
     Some(stop_at(loaded, &walk.cursor, Why::Break))
 }
 
@@ -201,8 +207,10 @@ pub(crate) fn run_to_limit<T: Trail, A: Allocator>(
     requires stands { Stands (machine_in loaded.now) (records_in loaded.now) cursor.old }
     requires keeps { KeepsIn (λ xs. T.stands_for trail.old xs) loaded.now cursor.old.place }
     requires early { meter.old ≤ 2 ^ 127 }
+    requires start { StartsAt (records_in loaded.now) cursor.old.place.packet cursor.old.start }
     requires limit { limit ≢ Some 0 }
     ensures stands { Stands (machine_in loaded.now) (records_in loaded.now) cursor.new }
+    ensures start { StartsAt (records_in loaded.now) cursor.new.place.packet cursor.new.start }
     ensures keeps { KeepsIn (λ xs. T.stands_for trail.new xs) loaded.now cursor.new.place }
     ensures runs { Gives (machine_in loaded.now) loaded.now.capture.now (breakpoints_in loaded.now)
         (run_from (machine_in loaded.now) (records_in loaded.now) limit) cursor.old cursor.new result }
@@ -218,7 +226,9 @@ pub(crate) fn run_to_limit<T: Trail, A: Allocator>(
     let end = end_of(limit, cursor.place.packet, count);
     let mut walk = Walk {
         cursor: *cursor,
-        left: loaded.capture.records(cursor.place.packet, end),
+        left: loaded
+            .capture
+            .records(cursor.place.packet, cursor.start, end),
         end,
     };
     let stop = run_to_hit(meter, loaded, &mut walk, trail);
@@ -226,11 +236,12 @@ pub(crate) fn run_to_limit<T: Trail, A: Allocator>(
     if let Some(stop) = stop {
         return RunReply::Stopped(stop);
     }
-    if end <= count {
-        return RunReply::Limit(cursor.counts);
-    }
     let counts = cursor.counts;
+    if end <= count {
+        cursor.start = loaded.capture.start_of(end);
+        return RunReply::Limit(counts);
+    }
     trail.clear();
-    *cursor = Cursor::start();
+    *cursor = Cursor::before(1, loaded.capture.start_of(1));
     RunReply::Finished(counts)
 }

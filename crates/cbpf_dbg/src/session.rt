@@ -72,7 +72,7 @@ impl<T: Trail, A: Allocator + Copy> Session<T, A> {
             watched: Watched::none(alloc),
             capture: None,
             breakpoints: IndexMap::new(alloc),
-            cursor: Cursor::start(),
+            cursor: Cursor::before(1, 0),
             trail,
         }
     }
@@ -146,7 +146,11 @@ impl<T: Trail, A: Allocator> Session<T, A> {
         self.needs_no_value = needs_no_value(&p, &self.values);
         watch(&mut self.watched, &p, &self.values, &self.breakpoints);
         self.program = Some(p);
-        self.cursor = Cursor::start();
+        let start = match &self.capture {
+            Some(capture) => capture.start_of(1),
+            None => 0,
+        };
+        self.cursor = Cursor::before(1, start);
         self.trail.clear();
     }
 
@@ -154,8 +158,8 @@ impl<T: Trail, A: Allocator> Session<T, A> {
     pub fn load_capture(&mut self, c: Capture<A>)
         ensures { self.new ≡ spec.with_capture_loaded self.old c }
     {
+        self.cursor = Cursor::before(1, c.start_of(1));
         self.capture = Some(c);
-        self.cursor = Cursor::start();
         self.trail.clear();
     }
 
@@ -230,7 +234,6 @@ impl<T: Trail, A: Allocator> Session<T, A> {
         ensures reply { result ≡ spec.reply_of (spec.set_value self.old e n) }
         ensures after { self.new ≡ spec.view_after self.old (spec.set_value self.old e n) }
     {
-        let packet = self.place().packet;
         if !self.values.set(e, n) {
             return Err(SessionFault::NoValue);
         }
@@ -238,7 +241,7 @@ impl<T: Trail, A: Allocator> Session<T, A> {
             self.needs_no_value = needs_no_value(program, &self.values);
             watch(&mut self.watched, program, &self.values, &self.breakpoints);
         }
-        self.cursor = Cursor::before(packet);
+        self.cursor = Cursor::before(self.cursor.place.packet, self.cursor.start);
         self.trail.clear();
         Ok(())
     }

@@ -2,6 +2,7 @@
 
 ghost use Rattle.std.specs.Prelude.{◌≡◌, ◌+◌, ◌*◌, ◌≤◌, ◌^◌, MatchResult, OnErr, OnOk};
 ghost use Rattle.cbpf_code.specs.declared.checker.TheConstants.{MAX_INSTRUCTIONS};
+ghost use Rattle.pcap_classic.specs.Records.{StartsAt};
 ghost use Rattle.cbpf_dbg.specs.Breakpoints.{Breakpoints};
 ghost use Rattle.cbpf_dbg.specs.Loaded.{machine_in, records_in};
 ghost use Rattle.cbpf_dbg.specs.Going.{KeepsIn};
@@ -68,8 +69,10 @@ pub(crate) fn step_on<T: Trail, A: Allocator>(
     requires stands { Stands (machine_in loaded.now) (records_in loaded.now) cursor.old }
     requires keeps { KeepsIn (λ xs. T.stands_for trail.old xs) loaded.now cursor.old.place }
     requires early { meter.old ≤ 2 ^ 127 }
+    requires start { StartsAt (records_in loaded.now) cursor.old.place.packet cursor.old.start }
     requires some { 1 ≤ n }
     ensures stands { Stands (machine_in loaded.now) (records_in loaded.now) cursor.new }
+    ensures start { StartsAt (records_in loaded.now) cursor.new.place.packet cursor.new.start }
     ensures keeps { KeepsIn (λ xs. T.stands_for trail.new xs) loaded.now cursor.new.place }
     ensures steps { (breakpoints : Breakpoints) → Gives (machine_in loaded.now) loaded.now.capture.now breakpoints
         (step_from (machine_in loaded.now) (records_in loaded.now) n) cursor.old cursor.new result }
@@ -80,7 +83,9 @@ pub(crate) fn step_on<T: Trail, A: Allocator>(
 {
     let count = loaded.capture.count();
     let mut left = n;
-    let mut records = loaded.capture.records(cursor.place.packet, count + 1);
+    let mut records = loaded
+        .capture
+        .records(cursor.place.packet, cursor.start, count + 1);
     if cursor.place.step == 0 {
         left = skip_packets(meter, loaded, &mut records, cursor, left);
         trail.clear();
@@ -90,6 +95,7 @@ pub(crate) fn step_on<T: Trail, A: Allocator>(
             Moved::Entry => {
                 trail.push(cursor.state);
                 if left == 1 {
+                    cursor.start = here.start;
                     return RunReply::Stopped(stop_at(loaded, cursor, Why::Step));
                 }
                 left -= 1;
@@ -103,7 +109,7 @@ pub(crate) fn step_on<T: Trail, A: Allocator>(
     }
     let counts = cursor.counts;
     trail.clear();
-    *cursor = Cursor::start();
+    *cursor = Cursor::before(1, loaded.capture.start_of(1));
     RunReply::Finished(counts)
 }
 
@@ -117,6 +123,7 @@ pub(crate) fn step_back<T: Trail, A: Allocator>(
 ) -> Result<Stop, u32>
     requires stands { Stands (machine_in loaded.now) (records_in loaded.now) cursor.old }
     requires keeps { KeepsIn (λ xs. T.stands_for trail.old xs) loaded.now cursor.old.place }
+    requires start { StartsAt (records_in loaded.now) cursor.old.place.packet cursor.old.start }
     requires some { 1 ≤ b }
     requires spare { meter.old ≤ 2 ^ 127 }
     ensures stands { Stands (machine_in loaded.now) (records_in loaded.now) cursor.new }
@@ -124,6 +131,7 @@ pub(crate) fn step_back<T: Trail, A: Allocator>(
     ensures answer { MatchResult result
         (λ stop. StepsBack (machine_in loaded.now) (records_in loaded.now) cursor.old cursor.new b stop)
         (λ most. CannotStepBack cursor.old cursor.new b most) }
+    ensures start { cursor.new.start ≡ cursor.old.start }
     ensures inside { IsInside (records_in loaded.now) cursor.old.place
         → IsInside (records_in loaded.now) cursor.new.place }
     ensures counts { meter.old ≤ meter.new }
@@ -135,7 +143,7 @@ pub(crate) fn step_back<T: Trail, A: Allocator>(
         return Err(cursor.place.step.saturating_sub(1));
     }
     let to = cursor.place.step - b as u32;
-    let item = loaded.capture.item(cursor.place.packet);
+    let item = loaded.capture.item_at(cursor.place.packet, cursor.start);
     let packet = Packet {
         bytes: item.bytes,
         wire: item.wire,

@@ -1,5 +1,5 @@
 -- Steps from record to record.
-use Rattle.std.proofs.Common.{◌≡◌, ℕ, zero, suc, ◌+◌, ◌<◌, ◌≤◌, List, [], ◌∷◌, length, drop, arith, sym, ap, ◌∙◌}
+use Rattle.std.proofs.Common.{◌≡◌, ℕ, zero, suc, ◌+◌, ◌-◌, ◌<◌, ◌≤◌, List, [], ◌∷◌, length, drop, arith, sym, ap, ◌∙◌}
 use Rattle.std.proofs.Common.{length-drop, add-one, refl}
 use Rattle.std.specs.Prelude.{Some, slice_get}
 use Rattle.std.proofs.lemmas.List.{drop-drop, length-take-le}
@@ -7,7 +7,7 @@ use Rattle.std.proofs.lemmas.Option.{slice_get_within}
 use Rattle.pcap_classic.specs.declared.captured.Endianness.{Endianness}
 use Rattle.pcap_classic.specs.declared.captured.Front.{Front}
 use Rattle.pcap_classic.specs.declared.captured.Front.TheVariants.{Nothing, PartOfHeader, PartOfData, WholeRecord}
-use Rattle.pcap_classic.specs.Records.{Record, record_at, record_length}
+use Rattle.pcap_classic.specs.Records.{Record, StartsAt, record_at, record_length}
 use Rattle.pcap_classic.specs.Scan.{front_of, contents}
 use Rattle.pcap_classic.specs.Numbers.{number_at}
 use Rattle.pcap_classic.specs.Index.{IsRecordStart, ending_by}
@@ -96,6 +96,23 @@ stands order file (suc i) long h =
     let before = stands order file i long (omega arith) in
     let on = onward_more order file i before.0 before.1 (omega arith) in
     (_, rw add-one at on.next)
+
+-- the record that a place of the file has
+pub start_once : (order : Endianness) (file : List ℕ) (i place : ℕ) (r : Record) → IsRecordStart order file i place
+    → slice_get (contents order file).records i ≡ Some r → place ≡ r.start
+start_once order file i place r here found =
+    let on = onward_more order file i place here (slice_get_within (contents order file).records i r found) in
+    let is : record_at order (i + 1) place (drop place file) ≡ r = cc (found, on.found) in
+    ap (λ (x : Record). x.start) is
+
+-- the place that a record of the file has
+pub start_is : (order : Endianness) (file : List ℕ) (n place : ℕ) → 24 ≤ length file → 1 ≤ n
+    → n ≤ length (contents order file).records → StartsAt (contents order file).records n place
+    → IsRecordStart order file (n - 1) place
+start_is order file n place long one within there =
+    let here = stands order file (n - 1) long (omega (arith, within)) in
+    let on = onward_more order file (n - 1) here.0 here.1 (omega (arith, one, within)) in
+    rw (there _ on.found) here.1
 
 -- the number of a record of the file, and the place after it
 pub record After (order : Endianness) (file : List ℕ) (i : ℕ) (r : Record) : Type 0 where

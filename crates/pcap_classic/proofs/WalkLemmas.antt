@@ -1,5 +1,6 @@
 -- A walk from record to record.
-use Rattle.std.proofs.Common.{◌≡◌, ℕ, zero, suc, ◌+◌, ◌-◌, ◌<◌, ◌≤◌, List, [], ◌∷◌, length, drop, take, arith, refl, add-one}
+use Rattle.std.proofs.Common.{◌≡◌, ℕ, zero, suc, ◌+◌, ◌-◌, ◌<◌, ◌≤◌, List, [], ◌∷◌, length, drop, take, min, arith, refl, add-one}
+use Rattle.std.proofs.lemmas.Grind.{common_steps}
 use Rattle.std.specs.Prelude.{Some, None, slice_get}
 use Rattle.pcap_classic.specs.declared.captured.Endianness.{Endianness}
 use Rattle.pcap_classic.specs.Index.{IsWalk, IsRecordStart}
@@ -28,6 +29,12 @@ is_first (y ∷ xs) zero (suc e) x h = record { before = omega arith; is = h; le
 is_first (y ∷ xs) (suc i) (suc e) x h =
     let rest = is_first xs i e x h in
     record { before = omega (arith, rest.before); is = rest.is; left = rw add-one (rw add-one at rest.left) }
+
+-- those that are left up to an end, which may be far behind the last, and before the first
+pub left_of : {X : Type 0} (xs : List X) (from end : ℕ) → 1 ≤ from
+    → drop (min from (min end (length xs + 1)) - 1) (take (min end (length xs + 1) - 1) xs)
+    ≡ drop (from - 1) (take (end - 1) xs)
+left_of xs from end one = grind (arith, common_steps)
 
 -- past its first record a walk is one again
 pub record Goes (order : Endianness) (file : List ℕ) (number end : ℕ) (r : Record) : Type 0 where

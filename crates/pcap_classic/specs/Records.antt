@@ -1,6 +1,6 @@
 -- The records after the file header of a capture, and how they end (pcap-savefile(5), "Packet Header"; that a cut
 -- last record is reported by its place is this crate's rule).
-use Rattle.std.specs.Prelude.{ℕ, ◌+◌, ◌≤◌, ◌<◌, List, [], ◌∷◌, length, take, drop}
+use Rattle.std.specs.Prelude.{◌≡◌, ℕ, ◌+◌, ◌-◌, ◌≤◌, ◌<◌, List, [], ◌∷◌, length, take, drop, slice_get, Some}
 use Rattle.pcap_classic.specs.Numbers.{number_at}
 use Rattle.pcap_classic.specs.declared.captured.Endianness.{Endianness}
 use Rattle.pcap_classic.specs.declared.ending.Ending.{Ending}
@@ -15,6 +15,10 @@ pub record Record : Type 0 where
   pub fraction : ℕ
   pub wire : ℕ
   pub bytes : List ℕ
+
+-- record n, counted from 1, stands at this place of the file, if there is one
+abbrev pub StartsAt : List Record → ℕ → ℕ → Type 0
+StartsAt records n start = (r : Record) → slice_get records (n - 1) ≡ Some r → start ≡ r.start
 
 -- the length of a record with its header of 16 bytes, whose third number is the captured length
 abbrev pub record_length : Endianness → List ℕ → ℕ

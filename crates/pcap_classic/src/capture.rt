@@ -4,6 +4,7 @@ ghost use Rattle.std.specs.Prelude.{◌≡◌, ◌≤◌, ◌<◌, ◌+◌, ◌-
 ghost use Rattle.std.specs.Prelude.{IfSome};
 ghost use Rattle.std.specs.Option.{option_map};
 ghost use Rattle.pcap_classic.specs.Lent.{record_of};
+ghost use Rattle.pcap_classic.specs.Records.{StartsAt};
 ghost use Rattle.pcap_classic.specs.Savefile.{IsSavefile, IsRefusal};
 
 use crate::captured::{Captured, RECORD_HEADER, record_at};
@@ -105,6 +106,20 @@ impl<A: Allocator> Capture<A> {
         self.index.starts.len()
     }
 
+    /// Where record `n`, counted from 1, stands in the file: the byte place of its header. Where there is no such
+    /// record it is any place. It takes time for up to 63 records before it.
+    #[inline]
+    pub fn start_of(&self, n: u64) -> usize
+        requires { 1 ≤ n }
+        ensures { StartsAt self.now.records n result }
+    {
+        if n > self.index.count {
+            return FILE_HEADER;
+        }
+        let order = self.header.magic.order;
+        start_of(order, self.file.as_slice(), self.index.starts.as_slice(), n)
+    }
+
     /// Record `n`, counted from 1. It takes time for up to 63 records before it.
     #[inline]
     pub fn item(&self, n: u64) -> Captured<'_>
@@ -113,31 +128,34 @@ impl<A: Allocator> Capture<A> {
         ensures record { slice_get self.now.records (n - 1) ≡ Some (record_of result) }
         ensures number { result.number ≡ n }
     {
-        let order = self.header.magic.order;
-        let file = self.file.as_slice();
-        let place = start_of(order, file, self.index.starts.as_slice(), n);
-        record_at(order, file, n, place)
+        self.item_at(n, self.start_of(n))
     }
 
-    /// The records from number `from` on, counted from 1, up to the one before number `end`, or to the last. It takes
-    /// time for up to 63 records before the first.
+    /// Record `n`, counted from 1, which stands at this place of the file.
     #[inline]
-    pub fn records(&self, from: u64, end: u64) -> Records<'_>
-        requires { 1 ≤ from }
+    pub fn item_at(&self, n: u64, start: usize) -> Captured<'_>
+        requires from_one { 1 ≤ n }
+        requires within { n ≤ length self.now.records }
+        requires there { StartsAt self.now.records n start }
+        ensures record { slice_get self.now.records (n - 1) ≡ Some (record_of result) }
+        ensures number { result.number ≡ n }
+    {
+        record_at(self.header.magic.order, self.file.as_slice(), n, start)
+    }
+
+    /// The records from number `from` on, counted from 1, which stands at this place of the file, up to the one before
+    /// number `end`, or to the last.
+    #[inline]
+    pub fn records(&self, from: u64, start: usize, end: u64) -> Records<'_>
+        requires from_one { 1 ≤ from }
+        requires there { StartsAt self.now.records from start }
         ensures { result ≡ drop (from - 1) (take (end - 1) self.now.records) }
     {
-        let order = self.header.magic.order;
-        let file = self.file.as_slice();
         let end = end.min(self.index.count + 1);
-        let place = if from < end {
-            start_of(order, file, self.index.starts.as_slice(), from)
-        } else {
-            FILE_HEADER
-        };
         Records {
-            order,
-            file,
-            place,
+            order: self.header.magic.order,
+            file: self.file.as_slice(),
+            place: start,
             number: from.min(end),
             end,
         }

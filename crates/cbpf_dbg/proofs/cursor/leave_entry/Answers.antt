@@ -43,12 +43,7 @@ returns-in-None g c =
 pub returns-in-Some : goal.returns-in-Some
 returns-in-Some g c =
     let v = c.in-Some.ensures.value in
-    let here : Cursor = record {
-      origin = c.args.cursor.now.origin;
-      place = c.args.cursor.now.place;
-      state = c.turn_in_place.new.s;
-      counts = c.args.cursor.now.counts;
-    } in
+    let here : Cursor = record c.args.cursor.now { state = c.turn_in_place.new.s } in
     let stays : here ≡ c.args.cursor.now = ap (λ (s : Registers). record c.args.cursor.now { state = s }) v.2 in
     let same : c.finish_packet.new.self ≡ passed c.args.cursor.now (outcome_of
     (turn (machine_in c.args.loaded.now) c.args.here.now.bytes.now c.args.here.now.wire c.args.cursor.now.state)) =

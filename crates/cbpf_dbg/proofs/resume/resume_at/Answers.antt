@@ -1,4 +1,4 @@
-use Rattle.std.proofs.Common.{◌≡◌, ◌-◌, Some, arith, take, slice_get, subst}
+use Rattle.std.proofs.Common.{◌≡◌, ◌-◌, Some, ap, arith, take, slice_get, subst}
 use Rattle.std.proofs.lemmas.Option.{slice_get_within}
 use Rattle.cbpf_machine.specs.Trace.{trace}
 use Rattle.pcap_classic.specs.Records.{Record}
@@ -25,5 +25,7 @@ returns-clause-found g c =
       rw c.at_entry.ensures.place keeps,
       c.at_entry.ensures.place,
       c.at_entry.ensures.origin,
+      (λ q there.
+          let same : r ≡ q = cc in rw c.at_entry.ensures.start (ap (λ (k : Record). k.start) same)),
       rw at (omega (arith, within)),
     )

@@ -36,8 +36,10 @@ returns-in-Some-clause-turns g c =
 pub returns-then-end-count-clause-runs : goal.returns-then-end-count-clause-runs
 returns-then-end-count-clause-runs g c =
     let came = c.in_default.ensures in
-    run_limited _ _ _ _ _ _ (rw c.count-count.ensures.value at c.end_of-end.ensures) _ came.passes.stands came.passes.origin
-    came.comes (rw c.count-count.ensures.value at c.if-end-count.true)
+    let gives = run_limited _ _ _ _ c.args.cursor.now _ (rw c.count-count.ensures.value at c.end_of-end.ensures)
+    c.run_to_hit-stop.new.walk.cursor came.passes.stands came.passes.origin came.comes
+    (rw c.count-count.ensures.value at c.if-end-count.true) in
+    record { reply_is = gives.reply_is; place_is = gives.place_is; origin_is = gives.origin_is }
 
 pub returns-then-end-count-clause-turns : goal.returns-then-end-count-clause-turns
 returns-then-end-count-clause-turns g c =
@@ -49,7 +51,7 @@ pub returns-clause-runs : goal.returns-clause-runs
 returns-clause-runs g c =
     let came = c.in_default.ensures in
     run_finished _ _ _ _ _ _ (rw c.count-count.ensures.value at c.end_of-end.ensures) _ _ came.passes.stands came.passes.origin
-    came.comes (rw c.count-count.ensures.value at c.if-end-count.false) c.start.ensures.place c.start.ensures.origin
+    came.comes (rw c.count-count.ensures.value at c.if-end-count.false) c.before-2.ensures.place c.before-2.ensures.origin
 
 pub returns-clause-ahead : goal.returns-clause-ahead
 returns-clause-ahead g c =

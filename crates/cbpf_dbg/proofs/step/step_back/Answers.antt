@@ -11,7 +11,7 @@ use Rattle.cbpf_dbg.proofs.step.step_back.Goals as goal
 
 pub stop_at-requires : goal.stop_at-requires
 stop_at-requires g c =
-    (goes_from_entry (machine_in c.args.loaded.now) c.item-item.result.bytes.now c.item-item.result.wire
+    (goes_from_entry (machine_in c.args.loaded.now) c.item_at-item.result.bytes.now c.item_at-item.result.wire
     (c.args.cursor.now.place.step - c.args.b - 1) zero_state c.back-state.result
     c.requires.stands.sound (sound_some c.args.loaded.now.program.now c.requires.stands.sound)
     c.back-state.ensures.entry).inside
@@ -21,15 +21,15 @@ returns-clause-answer g c =
     let e : Entry = record {
       place = back_place c.args.cursor.now.place c.args.b;
       state = c.back-state.result;
-      turn = turn (machine_in c.args.loaded.now) c.item-item.result.bytes.now c.item-item.result.wire
+      turn = turn (machine_in c.args.loaded.now) c.item_at-item.result.bytes.now c.item_at-item.result.wire
           c.back-state.result;
     } in
     record {
       within = omega arith;
       entry = (
         e,
-        rw (c.item-item.ensures.record, c.back-state.ensures.entry) refl,
-        c.stop_at.ensures (record_of c.item-item.result),
+        rw (c.item_at-item.ensures.record, c.back-state.ensures.entry) refl,
+        c.stop_at.ensures (record_of c.item_at-item.result),
       );
       place_is = refl;
       origin_is = refl;

@@ -68,7 +68,7 @@ returns-then-left-eq1-clause-steps g c = λ breakpoints.
     rw m.4
     (slice_get-first (entry_here (machine_in c.args.loaded.now) m.0 c.advance.new.cursor) _ c.go.left (omega arith)) in
     step_stopped (machine_in c.args.loaded.now) c.args.loaded.now.capture.now breakpoints c.args.n c.args.cursor.now
-    c.advance.new.cursor m.0 c.stop_at.result (c.go.invariant.nears.sought ∙ here) (c.stop_at.ensures m.0)
+    (record c.advance.new.cursor { start = c.in-Some.here.start }) m.0 c.stop_at.result (c.go.invariant.nears.sought ∙ here) (c.stop_at.ensures m.0)
     (c.in-Entry.ensures.origin ∙ c.go.invariant.nears.origin)
 
 pub returns-then-left-eq1-clause-turns : goal.returns-then-left-eq1-clause-turns
@@ -131,7 +131,7 @@ returns-clause-steps g c = λ breakpoints.
     let none : slice_get (ahead (machine_in c.args.loaded.now) (records_in c.args.loaded.now) c.go.cursor.place)
     (c.go.left - 1) ≡ None = rw m.1 refl in
     (step_finished (machine_in c.args.loaded.now) c.args.loaded.now.capture.now breakpoints c.args.n c.args.cursor.now
-    c.go.cursor c.start.result (so.sought ∙ none) so.stands so.origin m.0 c.start.ensures.place c.start.ensures.origin)
+    c.go.cursor c.before-2.result (so.sought ∙ none) so.stands so.origin m.0 c.before-2.ensures.place c.before-2.ensures.origin)
 
 pub returns-clause-turns : goal.returns-clause-turns
 returns-clause-turns g c = λ breakpoints.

@@ -14,5 +14,5 @@ returns g c =
     subst (λ (t : List ℕ).
     Wrote (g.W.Write.contents c.args.w.now) (g.W.Write.contents c.write_stop.new.w) c.write_stop.result t)
     (text-within c.args.self.now c.args.stop.now c.in-Some-Some.program c.in-Some-Some.capture
-    (record_of c.item-packet.result) p q c.item-packet.ensures.record)
+    (record_of c.item_at-packet.result) p q c.item_at-packet.ensures.record)
     c.write_stop.ensures
