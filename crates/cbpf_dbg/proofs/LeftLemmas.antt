@@ -1,7 +1,8 @@
 -- The records that a walk has left.
-use Rattle.std.proofs.Common.{◌≡◌, ℕ, zero, suc, ◌+◌, ◌-◌, ◌<◌, ◌≤◌, List, [], ◌∷◌, length, drop, take, arith, refl, inl, inr}
+use Rattle.std.proofs.Common.{◌≡◌, ℕ, zero, suc, ◌+◌, ◌-◌, ◌<◌, ◌≤◌, ◌^◌, List, [], ◌∷◌, length, drop, take, min, arith, refl, inl, inr}
 use Rattle.std.proofs.Common.{sym, ap, ◌∙◌}
 use Rattle.std.specs.Prelude.{Option, Some, None, slice_get}
+use Rattle.std.specs.Option.{unwrap_or}
 use Rattle.std.proofs.lemmas.Bool.{cases_lt}
 use Rattle.std.proofs.lemmas.Option.{slice_get_within}
 use Rattle.pcap_classic.specs.Records.{Record, StartsAt}
@@ -131,6 +132,13 @@ first_of (x ∷ left) r e = cc
 pub none_of : (left : List Record) → None ≡ slice_get left 0 → left ≡ []
 none_of [] e = refl
 none_of (x ∷ left) e = cc
+
+-- the packet before which a run ends that comes to no hit
+pub end_is : (limit : Option ℕ) (first : ℕ) {count total most sum end : ℕ} → total ≡ count → count < 2 ^ 60
+    → most ≡ unwrap_or limit (2 ^ 64 - 1) → sum ≡ min (first + most) (2 ^ 64 - 1) → end ≡ min sum (total + 1)
+    → end ≡ end_of_run limit first count
+end_is None first all few most sum end = omega (arith, all, few, most, sum, end)
+end_is (Some n) first all few most sum end = omega (arith, all, few, most, sum, end)
 
 -- where a run ends is not before its place
 pub is_end : (capture : List Record) (place : Place) (limit : Option ℕ) (end : ℕ)

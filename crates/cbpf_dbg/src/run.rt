@@ -7,7 +7,6 @@ ghost use Rattle.cbpf_dbg.specs.Commands.{PassesHits};
 ghost use Rattle.cbpf_dbg.specs.Joined.{rest};
 ghost use Rattle.cbpf_dbg.specs.Loaded.{machine_in, records_in, breakpoints_in};
 ghost use Rattle.cbpf_dbg.specs.Session.{IsInside};
-ghost use Rattle.cbpf_dbg.specs.Cursor as spec;
 ghost use Rattle.cbpf_dbg.specs.Cursor.{Stands, Passes, before, Gives, run_from, turns_of, ComesTo};
 ghost use Rattle.cbpf_dbg.specs.Going.{CanGoOn, GoesOn, KeepsIn};
 
@@ -16,18 +15,6 @@ use crate::loaded::Loaded;
 use cbpf_machine::{Followed, Meter, Never, Packet, Pause, Trail, follow_packet};
 use cbpf_reply::{RunReply, Stop, Why};
 use std::alloc::Allocator;
-
-/// The packet before which a run from packet `first` ends that comes to no hit.
-#[inline(always)]
-fn end_of(limit: Option<u64>, first: u64, count: u64) -> u64
-    requires { count < 2 ^ 60 }
-    ensures { result ≡ spec.end_of_run limit first count }
-{
-    match limit {
-        Some(n) => first.saturating_add(n).min(count + 1),
-        None => count + 1,
-    }
-}
 
 /// Goes on over whole packets to the next entry where it pauses, or past the records that are left: whether it pauses.
 // It isn't inlined, so that the processor's registers are for its loop alone.
@@ -223,7 +210,8 @@ pub(crate) fn run_to_limit<T: Trail, A: Allocator>(
         (run_from (machine_in loaded.now) (records_in loaded.now) limit) cursor.old }
 {
     let count = loaded.capture.count();
-    let end = end_of(limit, cursor.place.packet, count);
+    let most = limit.unwrap_or(u64::MAX);
+    let end = cursor.place.packet.saturating_add(most).min(count + 1);
     let mut walk = Walk {
         cursor: *cursor,
         left: loaded
