@@ -61,23 +61,6 @@ module _ (capture : List Record) (place : Place) (end : ℕ) (left : List Record
         };
       }
 
-head_of : {X : Type 0} (xs : List X) (i e : ℕ) → i < e → slice_get (drop i (take e xs)) 0 ≡ slice_get xs i
-head_of xs i zero h = absurd (omega (arith, h))
-head_of [] zero (suc e) h = refl
-head_of [] (suc i) (suc e) h = refl
-head_of (y ∷ xs) zero (suc e) h = refl
-head_of (y ∷ xs) (suc i) (suc e) h = head_of xs i e (omega (arith, h))
-
--- before the end the packet's record starts where the first of those that are left does
-pub starts_first : (machine : Machine) (capture : List Record) (w : Cursor) (end : ℕ) (left : List Record)
-    (here : Record) → AreLeft capture w.place end left → Stands machine capture w → w.place.packet < end
-    → Some here ≡ slice_get left 0 → StartsAt capture w.place.packet here.start
-starts_first machine capture w end left here h stands more first = λ r there.
-    let head = head_of capture (w.place.packet - 1) (end - 1)
-    (omega (arith, stands.from_one, stands.ordered, more)) in
-    let same : here ≡ r = cc (rw h.is at first, head, there) in
-    ap (λ (k : Record). k.start) same
-
 none_cut : {X : Type 0} (xs : List X) (i e : ℕ) → drop i (take e xs) ≡ [] → e ≤ length xs → e ≤ i
 none_cut xs i zero h fits = omega arith
 none_cut [] i (suc e) h fits = absurd (omega (arith, fits))
@@ -128,6 +111,13 @@ all_left machine capture w left stands e =
 pub first_of : (left : List Record) (r : Record) → Some r ≡ slice_get left 0 → left ≡ r ∷ drop 1 left
 first_of [] r e = cc
 first_of (x ∷ left) r e = cc
+
+-- the packet's record starts where the first of those that are left does
+pub start_first : (capture : List Record) (place : Place) (end : ℕ) (left : List Record) (here : Record)
+    → AreLeft capture place end left → Some here ≡ slice_get left 0 → StartsAt capture place.packet here.start
+start_first capture place end left here h first = λ r there.
+    let same : here ≡ r = cc (first_left capture place end left here _ (first_of left here first) h, there) in
+    ap (λ (k : Record). k.start) same
 
 pub none_of : (left : List Record) → None ≡ slice_get left 0 → left ≡ []
 none_of [] e = refl

@@ -1,6 +1,6 @@
 -- What each command of a session answers, which view it leaves, and how many turns it makes
--- (commands that `bpf_dbg` has are those of Linux Documentation/networking/filter, "BPF debugger", but for the
--- differences that docs/KERNEL_TOOLS.md lists; the rest is this project's own).
+-- (commands that `bpf_dbg` has, of Linux Documentation/networking/filter, "BPF debugger", do what they do there, but
+-- for the differences that docs/KERNEL_TOOLS.md lists; the rest is this project's own).
 use Rattle.std.specs.Prelude.{◌≡◌, ℕ, ◌+◌, ◌-◌, ◌≤◌, zero, suc, nat_lt, nat_le, nat_eq, is_some, ◌==◌, ◌&&◌, Bool, true}
 use Rattle.std.specs.Prelude.{List, [], ◌∷◌, ◌++◌, length, slice_get, Option, Some, None, Result, Ok, Err}
 use Rattle.std.specs.Prelude.{if◌then◌else◌, ℤ, pos, negsuc, ◌⊎◌, IsOk}

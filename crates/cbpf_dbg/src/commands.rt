@@ -201,7 +201,7 @@ impl<T: Trail, A: Allocator> Session<T, A> {
         let loaded = loaded_in!(self);
         let end = loaded.capture.count() + 1;
         let Cursor { place, start, .. } = self.cursor;
-        let left = loaded.capture.records(place.packet, start, end);
+        let left = loaded.capture.records_at(place.packet, start, end);
         Ok(Stops {
             loaded,
             walk: Walk {
@@ -215,8 +215,8 @@ impl<T: Trail, A: Allocator> Session<T, A> {
 }
 
 impl<T: Trail, A: Allocator> Session<T, A> {
-    /// Writes the dump of a stop: its place, the registers before the instruction, the packet, and why
-    /// it stopped.
+    /// Writes the dump of a stop: its place and instruction, the registers and the scratch memory before
+    /// it, the packet, and why it stopped.
     ///
     /// A program and a capture are loaded, the stop's packet is one of the capture's, and its pc is
     /// less than the program's length. So it is with each stop that this session gave since they were

@@ -24,7 +24,8 @@ pub(crate) struct Cursor {
     /// The packet from which outcomes are counted.
     pub(crate) origin: u64,
     pub(crate) place: Place,
-    /// Where the record of the place's packet stands in the capture's file; of no meaning on the way over packets.
+    /// Where the record of the place's packet starts in the capture's file, where there is one; of no meaning on the way
+    /// over packets.
     pub(crate) start: usize,
     /// The entry at the place; of no meaning at step 0.
     pub(crate) state: State,
@@ -110,7 +111,7 @@ impl Cursor {
         }
     }
 
-    /// Before a packet, whose record starts there, and from which it counts.
+    /// Before a packet, whose record starts at `start`, and from which it counts.
     pub(crate) fn before(packet: u64, start: usize) -> Cursor
         requires { 1 ≤ packet }
         ensures stands { (machine : Machine) (capture : List Record) → IsSound machine.list
@@ -119,24 +120,14 @@ impl Cursor {
         ensures start { result.start ≡ start }
         ensures origin { result.origin ≡ packet }
     {
-        Cursor {
-            origin: packet,
-            place: Place { packet, step: 0 },
-            start,
-            state: State::zero(),
-            counts: Counts {
-                passes: 0,
-                fails: 0,
-                unknown: 0,
-            },
-        }
+        Cursor::at(Place { packet, step: 0 }, start, State::zero())
     }
 
-    /// At an entry of a packet, whose record starts there, and from which it counts.
-    pub(crate) fn at_entry(place: Place, start: usize, state: State) -> Cursor
+    /// At a place of a packet, whose record starts at `start`, and from which it counts.
+    pub(crate) fn at(place: Place, start: usize, state: State) -> Cursor
         requires { 1 ≤ place.packet }
         ensures stands { (machine : Machine) (capture : List Record) → IsSound machine.list
-            → place.packet ≤ length capture + 1 → IsEntry machine capture place state
+            → place.packet ≤ length capture + 1 → (0 < place.step → IsEntry machine capture place state)
             → Stands machine capture result }
         ensures place { result.place ≡ place }
         ensures start { result.start ≡ start }

@@ -46,6 +46,6 @@ pub(crate) fn resume_at<T: Trail, A: Allocator>(
         wire: item.wire,
     };
     let state = trail.go_to(meter, loaded.program, packet, loaded.values, place.step)?;
-    *cursor = Cursor::at_entry(place, item.start, state);
+    *cursor = Cursor::at(place, item.start, state);
     Ok(())
 }

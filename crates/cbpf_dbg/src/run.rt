@@ -216,7 +216,7 @@ pub(crate) fn run_to_limit<T: Trail, A: Allocator>(
         cursor: *cursor,
         left: loaded
             .capture
-            .records(cursor.place.packet, cursor.start, end),
+            .records_at(cursor.place.packet, cursor.start, end),
         end,
     };
     let stop = run_to_hit(meter, loaded, &mut walk, trail);
@@ -224,11 +224,11 @@ pub(crate) fn run_to_limit<T: Trail, A: Allocator>(
     if let Some(stop) = stop {
         return RunReply::Stopped(stop);
     }
-    let counts = cursor.counts;
     if end <= count {
         cursor.start = loaded.capture.start_of(end);
-        return RunReply::Limit(counts);
+        return RunReply::Limit(cursor.counts);
     }
+    let counts = cursor.counts;
     trail.clear();
     *cursor = Cursor::before(1, loaded.capture.start_of(1));
     RunReply::Finished(counts)

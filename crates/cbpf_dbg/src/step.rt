@@ -85,7 +85,7 @@ pub(crate) fn step_on<T: Trail, A: Allocator>(
     let mut left = n;
     let mut records = loaded
         .capture
-        .records(cursor.place.packet, cursor.start, count + 1);
+        .records_at(cursor.place.packet, cursor.start, count + 1);
     if cursor.place.step == 0 {
         left = skip_packets(meter, loaded, &mut records, cursor, left);
         trail.clear();

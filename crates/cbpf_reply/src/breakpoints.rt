@@ -9,8 +9,8 @@ use cbpf_machine::When;
 use std::alloc::Allocator;
 use std::io::Write;
 
-/// Writes the reply to a breakpoint that was set at instruction `n`, which is less than the program's
-/// length.
+/// Writes where a breakpoint was set: the line of its instruction, and its condition. `n` is less than
+/// the program's length.
 pub fn write_breakpoint<W: Write, A: Allocator>(
     w: &mut W,
     program: &Program<A>,

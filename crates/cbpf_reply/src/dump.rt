@@ -88,8 +88,8 @@ pub(crate) fn put_why(line: &mut Line, why: Why)
     }
 }
 
-/// Writes the dump of a stop in a program: the place, the registers before the instruction, the
-/// captured bytes and the original length of the stop's packet, and why it stopped.
+/// Writes the dump of a stop in a program: its place and instruction, the registers and the scratch
+/// memory before it, the packet, of these captured bytes and this original length, and why it stopped.
 ///
 /// The stop's pc must be less than the program's length.
 pub fn write_stop<W: Write, A: Allocator>(

@@ -16,7 +16,7 @@ pub fn write_program<W: Write>(w: &mut W, count: u32) -> Result<(), WriteFault>
     write_with_number(w, b"bpf: ", u64::from(count), b" instructions\n")
 }
 
-/// Writes the reply to a capture that was loaded: how many packets it has, and where it is cut.
+/// Writes the reply to a capture that was loaded: how many packets it has, and where it is cut, if it is.
 #[tactic(auto, unfolding(crate::specs::Loads::capture_text))]
 pub fn write_capture<W: Write, A: Allocator>(
     w: &mut W,

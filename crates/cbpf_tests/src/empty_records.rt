@@ -47,11 +47,10 @@ fn walks_130(capture: &Capture) -> bool {
     if capture.count() != 130 {
         return false;
     }
-    let start = capture.start_of(65);
-    capture.records(65, start, 67).first() == Some(capture.item(65))
-        && capture.records(65, start, 67).count() == 2
-        && capture.records(65, start, u64::MAX).count() == 66
-        && capture.records(131, capture.start_of(131), u64::MAX).next() == None
+    capture.records(65, 67).first() == Some(capture.item(65))
+        && capture.records(65, 67).count() == 2
+        && capture.records(65, u64::MAX).count() == 66
+        && capture.records(131, u64::MAX).next() == None
 }
 
 /// The packets that passed and that failed, and the turns of a run to the end.

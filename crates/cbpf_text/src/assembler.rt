@@ -53,10 +53,11 @@ fn encode_draft<A: Allocator + Copy>(
 ///
 /// # Errors
 ///
-/// `At`: what is wrong, and on which line. First comes what is no token, over the whole text; then
-/// what is wrong with tokens beside one another, as a number too large after a `-`; then the count
-/// of instructions; then labels that are set twice; then targets, one by one. Of each of these
-/// groups it is the first in the text. `Memory`: the allocator refused, whatever the text is.
+/// `At`: what is wrong, and on which line. First come bytes, comments and numbers that are no
+/// tokens, over the whole text; then tokens that form no instructions, and numbers too large after a
+/// `-`; then the count of instructions; then labels that are set twice; then targets, one by one. Of
+/// each of these groups it is the first in the text. `Memory`: the allocator refused, whatever the
+/// text is.
 pub fn assemble<A: Allocator + Copy>(alloc: A, text: &[u8]) -> Result<Vec<Insn, A>, AsmFault>
     ensures assembled { IfOk result (λ v. Assembles text.now v.items) }
     ensures refused { IfErr result (IsRefused text.now) }

@@ -6,7 +6,7 @@ use thiserror::Error;
 /// What is wrong with a source text.
 #[derive(Clone, Copy, Debug, PartialEq, Eq, Error)]
 pub enum AsmKind {
-    /// A1: a byte, or a run of digits and a name's bytes that begins with a digit, that is no token.
+    /// A1: a byte, or a run of letters, digits and `_` that begins with a digit, that is no token.
     #[error("A1 unknown byte")]
     NoToken,
     /// A2: a `/*` comment that isn't closed.

@@ -60,7 +60,7 @@ pub enum SessionCommand {
 }
 
 impl Command<'_> {
-    /// Whether it makes turns, or loads a file.
+    /// Whether it can make turns, or loads a capture.
     pub fn may_take_long(&self) -> bool {
         matches!(
             self,

@@ -50,7 +50,7 @@ fn act<A: Allocator + Copy, W: Write, F: Files>(
 /// What a line says, as `command_of` answers it.
 type Said<'a> = Result<Option<Command<'a>>, CommandFault>;
 
-/// Whether a command can pass more than a packet, or wait for a file.
+/// Whether a command can make turns, or loads a capture.
 fn may_take_long(said: &Said<'_>) -> bool {
     match said {
         Ok(Some(command)) => command.may_take_long(),
@@ -145,8 +145,8 @@ fn run_lines<A: Allocator + Copy, R: Read, W: Write, F: Files>(
 
 /// Runs a script of commands: reads lines up to `quit` or the end of the input, and writes the reply of
 /// each before the next one acts. A refused command is answered by a line `error: ..`, and the script goes
-/// on. The replies are flushed before each command that may take long (it makes turns, or loads a capture),
-/// before each read, and before `Ok`; where none was written since the last flush, nothing is flushed.
+/// on. The replies are flushed before each command that can make turns or loads a capture, as it may take
+/// long, before each read, and before `Ok`; where none was written since the last flush, nothing is flushed.
 /// So what the writer was given before the call goes out with the first replies.
 ///
 /// # Errors

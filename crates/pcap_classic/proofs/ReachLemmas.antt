@@ -97,7 +97,7 @@ stands order file (suc i) long h =
     let on = onward_more order file i before.0 before.1 (omega arith) in
     (_, rw add-one at on.next)
 
--- the record that a place of the file has
+-- the place where record i + 1 is found is its start
 pub start_once : (order : Endianness) (file : List ℕ) (i place : ℕ) (r : Record) → IsRecordStart order file i place
     → slice_get (contents order file).records i ≡ Some r → place ≡ r.start
 start_once order file i place r here found =
@@ -105,7 +105,7 @@ start_once order file i place r here found =
     let is : record_at order (i + 1) place (drop place file) ≡ r = cc (found, on.found) in
     ap (λ (x : Record). x.start) is
 
--- the place that a record of the file has
+-- where record n starts it is found
 pub start_is : (order : Endianness) (file : List ℕ) (n place : ℕ) → 24 ≤ length file → 1 ≤ n
     → n ≤ length (contents order file).records → StartsAt (contents order file).records n place
     → IsRecordStart order file (n - 1) place

@@ -106,8 +106,8 @@ impl<A: Allocator> Capture<A> {
         self.index.starts.len()
     }
 
-    /// Where record `n`, counted from 1, stands in the file: the byte place of its header. Where there is no such
-    /// record it is any place. It takes time for up to 63 records before it.
+    /// Where record `n`, counted from 1, starts in the file: the byte place of its header, or any place where there is
+    /// no such record. It takes time for up to 63 records before it.
     #[inline]
     pub fn start_of(&self, n: u64) -> usize
         requires { 1 ≤ n }
@@ -131,7 +131,7 @@ impl<A: Allocator> Capture<A> {
         self.item_at(n, self.start_of(n))
     }
 
-    /// Record `n`, counted from 1, which stands at this place of the file.
+    /// Record `n`, counted from 1, given where it starts, as [`Capture::start_of`] says. It goes over no other header.
     #[inline]
     pub fn item_at(&self, n: u64, start: usize) -> Captured<'_>
         requires from_one { 1 ≤ n }
@@ -143,10 +143,19 @@ impl<A: Allocator> Capture<A> {
         record_at(self.header.magic.order, self.file.as_slice(), n, start)
     }
 
-    /// The records from number `from` on, counted from 1, which stands at this place of the file, up to the one before
-    /// number `end`, or to the last.
+    /// The records from number `from` on, counted from 1, up to the one before number `end`, or to the last. It takes
+    /// time for up to 63 records before the first.
     #[inline]
-    pub fn records(&self, from: u64, start: usize, end: u64) -> Records<'_>
+    pub fn records(&self, from: u64, end: u64) -> Records<'_>
+        requires { 1 ≤ from }
+        ensures { result ≡ drop (from - 1) (take (end - 1) self.now.records) }
+    {
+        self.records_at(from, self.start_of(from), end)
+    }
+
+    /// The same, given where record `from` starts, if there is one. It goes over no header.
+    #[inline]
+    pub fn records_at(&self, from: u64, start: usize, end: u64) -> Records<'_>
         requires from_one { 1 ≤ from }
         requires there { StartsAt self.now.records from start }
         ensures { result ≡ drop (from - 1) (take (end - 1) self.now.records) }

@@ -20,12 +20,12 @@ returns-clause-found g c =
     subst (λ (k : Record). g.T.Trail.stands_for c.go_to.new.self
     (take c.args.place.step (trace (machine_in c.args.loaded.now) k.bytes k.wire)))
     same c.in_ok-state.ensures.stands in (
-      c.at_entry.ensures.stands (machine_in c.args.loaded.now) (records_in c.args.loaded.now)
-          c.args.loaded.now.sound (omega arith) (r, at, entry),
-      rw c.at_entry.ensures.place keeps,
-      c.at_entry.ensures.place,
-      c.at_entry.ensures.origin,
+      c.at.ensures.stands (machine_in c.args.loaded.now) (records_in c.args.loaded.now)
+          c.args.loaded.now.sound (omega arith) (λ begun. (r, at, entry)),
+      rw c.at.ensures.place keeps,
+      c.at.ensures.place,
+      c.at.ensures.origin,
       (λ q there.
-          let same : r ≡ q = cc in rw c.at_entry.ensures.start (ap (λ (k : Record). k.start) same)),
+          let same : r ≡ q = cc in rw c.at.ensures.start (ap (λ (k : Record). k.start) same)),
       rw at (omega (arith, within)),
     )

@@ -1,7 +1,6 @@
 use Rattle.std.proofs.Common.{arith, sym, refl}
-use Rattle.pcap_classic.specs.Lent.{record_of}
 use Rattle.cbpf_dbg.proofs.GoingLemmas.{at_hit, goes_more, goes_passed}
-use Rattle.cbpf_dbg.proofs.LeftLemmas.{none_left, starts_first}
+use Rattle.cbpf_dbg.proofs.LeftLemmas.{none_left, start_first}
 use Rattle.cbpf_dbg.proofs.run.run_to_hit.Goals as goal
 use Rattle.cbpf_dbg.proofs.run.run_to_hit.Goals.{then-not-go_on_in_packet+else-not-run_whole, else-not-go_on_in_packet}
 
@@ -41,11 +40,9 @@ returns-clause-comes g c = elim c.if-not-go_on_in_packet.branch [
 pub returns-clause-start : goal.returns-clause-start
 returns-clause-start g c = elim c.if-not-go_on_in_packet.branch [
   | then-not-go_on_in_packet+else-not-run_whole w ↦
-      let ran = w.if-not-run_whole.ensures.goes in
-      rw w.walk-is (starts_first _ _ _ _ _ (record_of c.in-Some.here) ran.left ran.passes.stands
-      (ran.left.ends.later (ran.entry refl).0) (rw w.walk-is at c.in-Some.ensures))
+      let left = w.if-not-run_whole.ensures.goes.left in
+      rw w.walk-is (start_first _ _ _ _ _ left (rw w.walk-is at c.in-Some.ensures))
   | else-not-go_on_in_packet w ↦
-      let went = w.if-not-go_on_in_packet.ensures.goes in
-      rw w.walk-is (starts_first _ _ _ _ _ (record_of c.in-Some.here) went.left went.passes.stands
-      (went.left.ends.later (went.entry refl).0) (rw w.walk-is at c.in-Some.ensures))
+      let left = w.if-not-go_on_in_packet.ensures.goes.left in
+      rw w.walk-is (start_first _ _ _ _ _ left (rw w.walk-is at c.in-Some.ensures))
 ]

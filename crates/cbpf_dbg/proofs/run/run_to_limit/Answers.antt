@@ -12,7 +12,7 @@ run_to_hit-stop-requires-clause-can g c =
     record {
       stands = c.requires.stands;
       left = record {
-        is = c.records.ensures;
+        is = c.records_at.ensures;
         ends = is_end _ _ c.args.limit _ (end_is c.args.limit c.args.cursor.now.place.packet c.count-count.ensures.value c.args.loaded.now.few c.unwrap_or-most.ensures c.saturating_add.ensures c.min-end.ensures) c.requires.limit
             c.requires.stands.within (λ begun.
             let at = c.requires.stands.at begun in

@@ -27,7 +27,7 @@ go-init g c = elim c.if-cursor-eq0.branch [
   | else-cursor-eq0 w ↦ rw (w.meter-is, w.cursor-is, w.trail-is, w.left-is, w.records-is) (record {
     nears = nears_none _ _ _ _ _ c.requires.stands
         c.requires.some;
-    records = all_left _ _ _ _ c.requires.stands (rw c.count-count.ensures.value at c.records-records.ensures);
+    records = all_left _ _ _ _ c.requires.stands (rw c.count-count.ensures.value at c.records_at-records.ensures);
     keeps = c.requires.keeps;
   })
 ]

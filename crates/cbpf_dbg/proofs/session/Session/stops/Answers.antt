@@ -41,7 +41,7 @@ invariant_of-result g c =
       record {
         stands = fits.0;
         left = rw c.count-end.ensures.value
-            (all_left _ _ _ _ fits.0 (rw c.count-end.ensures.value at c.records-left.ensures));
+            (all_left _ _ _ _ fits.0 (rw c.count-end.ensures.value at c.records_at-left.ensures));
         covers = λ bytes wire s inside hit. known.1 bytes wire s inside ∙ hit;
         spare = omega (arith, few, c.new.ensures);
       },

@@ -1,6 +1,6 @@
 use Rattle.std.proofs.Common.{arith}
 use Rattle.cbpf_dbg.proofs.CursorLemmas.{counts-at}
-use Rattle.cbpf_dbg.proofs.cursor.Cursor.at_entry.Goals as goal
+use Rattle.cbpf_dbg.proofs.cursor.Cursor.at.Goals as goal
 
 pub returns-clause-stands : goal.returns-clause-stands
 returns-clause-stands c = λ list capture sound within entry.
@@ -9,6 +9,6 @@ returns-clause-stands c = λ list capture sound within entry.
       from_one = c.requires;
       ordered = omega arith;
       within = within;
-      at = λ _. entry;
+      at = entry;
       counted = counts-at list capture c.args.place.packet;
     }

@@ -1,7 +1,7 @@
 use Rattle.std.proofs.Common.{◌≡◌, arith}
 use Rattle.pcap_classic.proofs.ReachLemmas.{start_is}
 use Rattle.pcap_classic.proofs.WalkLemmas.{left_of}
-use Rattle.pcap_classic.proofs.capture.Capture.records.Goals as goal
+use Rattle.pcap_classic.proofs.capture.Capture.records_at.Goals as goal
 
 pub invariant_of-result : goal.invariant_of-result
 invariant_of-result g c =
