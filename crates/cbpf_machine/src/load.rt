@@ -21,10 +21,9 @@ pub(crate) fn number_at(bytes: &[u8], at: u32, size: Size) -> Option<u32>
 {
     let at = at as usize;
     match size {
-        Size::Word => bytes.get(at..at + 4).map(BigEndian::read_u32),
-        Size::Half => bytes
-            .get(at..at + 2)
-            .map(|b| u32::from(BigEndian::read_u16(b))),
-        Size::Byte => bytes.get(at).map(|b| u32::from(*b)),
+        Size::Word if at + 4 <= bytes.len() => Some(BigEndian::read_u32(&bytes[at..])),
+        Size::Half if at + 2 <= bytes.len() => Some(u32::from(BigEndian::read_u16(&bytes[at..]))),
+        Size::Byte if at < bytes.len() => Some(u32::from(bytes[at])),
+        _ => None,
     }
 }
