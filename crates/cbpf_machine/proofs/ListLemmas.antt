@@ -1,5 +1,5 @@
 -- Lists by place.
-use Rattle.std.proofs.Common.{◌≡◌, ℕ, zero, suc, ◌+◌, List, [], ◌∷◌, ◌++◌, take, drop, arith, ap, refl, add-one}
+use Rattle.std.proofs.Common.{◌≡◌, ℕ, zero, suc, ◌+◌, ◌<◌, List, [], ◌∷◌, ◌++◌, take, drop, arith, ap, refl, add-one}
 use Rattle.std.specs.Prelude.{Some, slice_get}
 
 pub slice_get-drop_head : {X : Type 0} (xs : List X) (i : ℕ) (x : X) (rest : List X) → drop i xs ≡ x ∷ rest
@@ -17,3 +17,9 @@ take-slice_get (y ∷ ys) (suc i) x h =
     let ih = take-slice_get ys i x h in
     let e : suc i + 1 ≡ suc (i + 1) = omega arith in
     rw e (ap (λ rest. y ∷ rest) ih)
+
+pub slice_get-take : {X : Type 0} (xs : List X) (n i : ℕ) → i < n → slice_get (take n xs) i ≡ slice_get xs i
+slice_get-take xs zero i h = absurd (omega arith)
+slice_get-take [] (suc n) i h = refl
+slice_get-take (y ∷ ys) (suc n) zero h = refl
+slice_get-take (y ∷ ys) (suc n) (suc i) h = slice_get-take ys n i (omega arith)

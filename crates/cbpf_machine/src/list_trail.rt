@@ -75,7 +75,9 @@ impl<A: Allocator> Trail for ListTrail<A> {
     }
 
     #[inline(always)]
-    fn keep_unstored(&mut self, _count: u32) {}
+    fn keep(&mut self, _count: u32, s: State) {
+        self.push(s);
+    }
 
     fn back<B: Allocator>(
         &mut self,
