@@ -1,6 +1,6 @@
 -- From what a call answered to the reply of its line.
 use Rattle.std.proofs.Common.{◌≡◌, refl, ℕ, List, Option, Some, Result, Ok, Err, length}
-use Rattle.cbpf_code.specs.Writing.{Wrote}
+use Rattle.cbpf_code.specs.Writing.{AppendedPart}
 use Rattle.cbpf_code.specs.WordText.{Spells, Refused}
 use Rattle.cbpf_code.specs.Sound.{IsSound}
 use Rattle.cbpf_code.specs.Faults.{FirstFault}
@@ -17,8 +17,7 @@ use Rattle.cbpf_tool.specs.declared.debugger.AfterLine.{AfterLine}
 use Rattle.cbpf_reply.specs.declared.errors.LoadFault.TheVariants.{Absent, Device, Memory}
 use Rattle.cbpf_code.specs.declared.writing.WriteFault.{WriteFault}
 use Rattle.cbpf_reply.specs.declared.errors.CommandFault.{CommandFault}
-use Rattle.std.specs.Result.{IsOkAnd, MatchResult}
-use Rattle.cbpf_tool.specs.declared.debugger.AfterLine.TheVariants.{NextLine, Quit}
+use Rattle.std.specs.Result.{IsErr}
 use Rattle.cbpf_reply.specs.Errors.{load_fault_text, word_fault_text, check_fault_text, capture_fault_text}
 use Rattle.cbpf_reply.specs.Loads.{program_text, capture_text}
 use Rattle.cbpf_tool.specs.Replies.{unreadable, unsound, accepted, no_capture, a_capture, own, unheld, unread}
@@ -82,12 +81,9 @@ module _ {V : Type 0} (items : V → List ℕ) (f g : Source) (m n : View) (name
 
 -- ---- a line
 
--- a line other than `quit` was run, and the next line comes after its reply
-pub replied : (f g : Source) (m n : View) (said : Result (Option Command) CommandFault) (old new : Option (List ℕ))
-    (r : Result (Unit {0}) WriteFault) (a : Result AfterLine WriteFault)
-    → MatchResult r (λ x. IsOkAnd a (λ b. b ≡ NextLine)) (λ e. a ≡ Err e)
-    → Replied f g m n said (λ t. Wrote old new r t) → LineRan f g m n said old new a
-replied f g m n said old new (Ok x) (Ok NextLine) e h = h
-replied f g m n said old new (Ok x) (Ok Quit) e h = absurd (cc)
-replied f g m n said old new (Ok x) (Err b) e h = absurd e
-replied f g m n said old new (Err x) a e h = rw e h
+-- a line other than `quit` was run, and its reply couldn't be written
+pub unwritten : (f g : Source) (m n : View) (said : Result (Option Command) CommandFault) (old new : Option (List ℕ))
+    (a : Result AfterLine WriteFault) → IsErr a → Replied f g m n said (λ t. AppendedPart old new t)
+    → LineRan f g m n said old new a
+unwritten f g m n said old new (Ok b) e h = absurd (cc)
+unwritten f g m n said old new (Err x) e h = h

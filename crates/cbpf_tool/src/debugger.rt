@@ -44,7 +44,8 @@ fn act<A: Allocator + Copy, W: Write, F: Files>(
         Command::Session(command) => reply_to(w, session, command),
         Command::Quit => return Ok(AfterLine::Quit),
     };
-    reply.map(|_| AfterLine::NextLine)
+    reply?;
+    Ok(AfterLine::NextLine)
 }
 
 /// What a line says, as `command_of` answers it.
@@ -91,7 +92,10 @@ fn run_line<A: Allocator + Copy, W: Write, F: Files>(
     match said {
         Ok(None) => Ok(AfterLine::NextLine),
         Ok(Some(command)) => act(alloc, w, session, files, command),
-        Err(fault) => write_command_fault(w, fault).map(|_| AfterLine::NextLine),
+        Err(fault) => {
+            write_command_fault(w, fault)?;
+            Ok(AfterLine::NextLine)
+        }
     }
 }
 
