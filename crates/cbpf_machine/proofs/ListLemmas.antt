@@ -1,6 +1,8 @@
 -- Lists by place.
-use Rattle.std.proofs.Common.{◌≡◌, ℕ, zero, suc, ◌+◌, ◌<◌, List, [], ◌∷◌, ◌++◌, take, drop, arith, ap, refl, add-one}
+use Rattle.std.proofs.Common.{◌≡◌, ℕ, zero, suc, ◌+◌, ◌<◌, List, [], ◌∷◌, ◌++◌, length, get_or, take, drop, arith, ap}
+use Rattle.std.proofs.Common.{refl, add-one}
 use Rattle.std.specs.Prelude.{Some, slice_get}
+use Rattle.std.proofs.lemmas.Option.{slice_get-get_or}
 
 pub slice_get-drop_head : {X : Type 0} (xs : List X) (i : ℕ) (x : X) (rest : List X) → drop i xs ≡ x ∷ rest
     → (slice_get xs i ≡ Some x) × (drop (i + 1) xs ≡ rest)
@@ -23,3 +25,8 @@ slice_get-take xs zero i h = absurd (omega arith)
 slice_get-take [] (suc n) i h = refl
 slice_get-take (y ∷ ys) (suc n) zero h = refl
 slice_get-take (y ∷ ys) (suc n) (suc i) h = slice_get-take ys n i (omega arith)
+
+-- an element that is read, where the default isn't
+pub read_at : {X : Type 0} {xs ys : List X} {i : ℕ} (d : X) → xs ≡ ys → i < length ys
+    → slice_get ys i ≡ Some (get_or xs i d)
+read_at {ys = ys} {i = i} d e within = rw e (slice_get-get_or ys i d within)
