@@ -95,17 +95,11 @@ pub fn ext_at(k: u32) -> Option<Ext>
 }
 
 /// How far the extension's place is above 4294963200, the place of the first one; 0 to 60.
-#[tactic(auto, using(crate::proofs::TableLemmas::tables))]
+#[tactic(auto, using(crate::proofs::TableLemmas::tables), unfolding(crate::specs::Extension::ext_at))]
 pub fn ext_offset(e: Ext) -> u32
     ensures value { result ≡ spec.ext_offset e }
     ensures known { spec.ext_at (4294963200 + result) ≡ Some e }
     ensures only { (k : ℕ) → spec.ext_at k ≡ Some e → k ≡ 4294963200 + result }
-{
-    offset_in_table(e)
-}
-
-fn offset_in_table(e: Ext) -> u32
-    ensures { result ≡ spec.ext_offset e }
 {
     extensions!(offset_of_ext, e)
 }
