@@ -32,21 +32,6 @@ fn put_between(line: &mut Line, before: &[u8], n: u64, after: &[u8])
     line.put(before);
 }
 
-/// Puts a number in hexadecimal, or `#0`.
-#[inline(always)]
-fn put_immediate(line: &mut Line, k: u32)
-    requires room { length line.old + 13 ≤ 256 }
-    ensures text { line.new ≡ spec.immediate_operand k ++ line.old }
-    ensures grown { length line.new ≤ length line.old + 13 }
-{
-    if k == 0 {
-        line.put(b" #0");
-    } else {
-        line.put_hex(k, 1);
-        line.put(b" #0x");
-    }
-}
-
 /// Puts both targets of the conditional jump at an index.
 #[inline(always)]
 fn put_targets(line: &mut Line, i: u32, insn: Insn)
@@ -69,12 +54,22 @@ fn put_operand(line: &mut Line, i: u32, insn: Insn, op: Op)
     ensures text { line.new ≡ spec.operand_text (syntax.operand_of op) i insn ++ line.old }
     ensures grown { length line.new ≤ length line.old + 60 }
 {
+    if let Op::Jump(_, _) = op {
+        put_targets(line, i, insn);
+    }
     match op {
         Op::Neg | Op::Tax | Op::Txa => {}
-        Op::Alu(_, Src::X) => line.put(b" x"),
+        Op::Alu(_, Src::X) | Op::Jump(_, Src::X) => line.put(b" x"),
         Op::RetA => line.put(b" a"),
         Op::LdLen | Op::LdxLen => line.put(b" len"),
-        Op::LdImm | Op::LdxImm | Op::Alu(_, Src::K) | Op::RetK => put_immediate(line, insn.k),
+        Op::LdImm | Op::LdxImm | Op::Alu(_, Src::K) | Op::Jump(_, Src::K) | Op::RetK => {
+            if insn.k == 0 {
+                line.put(b" #0");
+            } else {
+                line.put_hex(insn.k, 1);
+                line.put(b" #0x");
+            }
+        }
         Op::LdAbs(_) => match ext_at(insn.k) {
             Some(e) => {
                 line.put(ext_name(e).as_bytes());
@@ -88,14 +83,6 @@ fn put_operand(line: &mut Line, i: u32, insn: Insn, op: Op)
         }
         Op::LdxMsh => put_between(line, b" 4*([", u64::from(insn.k), b"]&0xf)"),
         Op::Ja => put_between(line, b" l", u64::from(i) + 1 + u64::from(insn.k), b""),
-        Op::Jump(_, Src::K) => {
-            put_targets(line, i, insn);
-            put_immediate(line, insn.k);
-        }
-        Op::Jump(_, Src::X) => {
-            put_targets(line, i, insn);
-            line.put(b" x");
-        }
     }
 }
 
