@@ -11,7 +11,6 @@ pub mod Plain
 pub mod SlotMasks
 pub mod Sound
 pub mod Text
-pub mod HexPlaces
 pub mod WordSteps
 pub mod WordText
 pub mod Writing

@@ -4,8 +4,6 @@ ghost use Rattle.std.specs.Prelude.{◌≤◌, decimal, ◌≡◌, ◌+◌, ◌%
 ghost use Rattle.std.specs.List.{flat_map};
 ghost use Rattle.cbpf_code.specs.Writing.{Wrote};
 ghost use Rattle.cbpf_code.specs.Text.{hex, with_number};
-ghost use Rattle.std.specs.Fmt.{digit_glyph};
-ghost use Rattle.cbpf_code.specs.HexPlaces.{hex_places};
 
 use itoa::{Buffer, write_digits};
 use std::io::Write;
@@ -92,38 +90,6 @@ pub fn write_hex<W: Write>(w: &mut W, n: u32, least: u32) -> Result<(), WriteFau
     line.write(w)
 }
 
-/// The byte of a number's last hexadecimal digit.
-#[tactic(auto, using(crate::proofs::HexLemmas::hex_texts))]
-fn last_hex_digit(n: u32) -> u8
-    ensures { result ≡ digit_glyph false (n % 16) }
-{
-    b"0123456789abcdef"[(n % 16) as usize]
-}
-
-/// How many hexadecimal digits a number needs, at least 1 and at most 8.
-fn digits_needed(n: u32) -> usize
-    ensures same { result ≡ hex_places n }
-    ensures few { (1 ≤ result) × (result ≤ 8) }
-{
-    if n < 16 {
-        1
-    } else if n < 256 {
-        2
-    } else if n < 4096 {
-        3
-    } else if n < 65536 {
-        4
-    } else if n < 1_048_576 {
-        5
-    } else if n < 16_777_216 {
-        6
-    } else if n < 268_435_456 {
-        7
-    } else {
-        8
-    }
-}
-
 /// A text of at most 256 bytes. What is put stands before what was put so far, so that a line is
 /// put from its last part to its first.
 #[derive(Drop)]
@@ -196,25 +162,12 @@ impl Line {
         ensures text { self.new ≡ hex least n ++ self.old }
         ensures grown { length self.new ≤ length self.old + 8 }
     {
-        let places = digits_needed(n).max(least as usize);
-        let n1 = n / 16;
-        let n2 = n1 / 16;
-        let n3 = n2 / 16;
-        let n4 = n3 / 16;
-        let n5 = n4 / 16;
-        let n6 = n5 / 16;
-        let n7 = n6 / 16;
-        self.put(&[
-            last_hex_digit(n7),
-            last_hex_digit(n6),
-            last_hex_digit(n5),
-            last_hex_digit(n4),
-            last_hex_digit(n3),
-            last_hex_digit(n2),
-            last_hex_digit(n1),
-            last_hex_digit(n),
-        ]);
-        self.at += 8 - places;
+        let needed = n.max(1).ilog2() / 4 + 1; // four bits a digit
+        self.put_byte((n % 256) as u8);
+        self.put_byte((n / 256 % 256) as u8);
+        self.put_byte((n / 65_536 % 256) as u8);
+        self.put_byte((n / 16_777_216) as u8);
+        self.at += 8 - needed.max(least) as usize;
     }
 
     /// Puts a byte as two hexadecimal digits, in lower case.
@@ -225,8 +178,9 @@ impl Line {
         ensures text { self.new ≡ hex 2 n ++ self.old }
         ensures grown { length self.new ≡ length self.old + 2 }
     {
-        let n = u32::from(n);
-        self.put(&[last_hex_digit(n / 16), last_hex_digit(n)]);
+        let digits = b"0123456789abcdef";
+        let n = usize::from(n);
+        self.put(&[digits[n / 16], digits[n % 16]]);
     }
 
     /// The text.
