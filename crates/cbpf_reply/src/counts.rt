@@ -4,23 +4,37 @@ ghost use Rattle.std.specs.Prelude.{◌≡◌, ◌≤◌, ◌+◌, ◌++◌, len
 ghost use Rattle.cbpf_code.specs.Writing.{Wrote};
 ghost use Rattle.cbpf_reply.specs.Counts as spec;
 
-use crate::numbers::write_with_numbers;
 use crate::reply::{Counts, Place};
 use cbpf_code::{Line, WriteFault};
 use std::io::Write;
+
+/// Writes a place after a text.
+#[inline(always)]
+fn write_place_after<W: Write>(w: &mut W, before: &[u8], place: Place) -> Result<(), WriteFault>
+    requires { length before.now ≤ 3 }
+    ensures { Wrote (W.contents w.old) (W.contents w.new) result (spec.place_after before.now place) }
+{
+    let mut line = Line::new();
+    line.put(b"\n");
+    line.put_u32(place.step);
+    line.put(b" ");
+    line.put_u64(place.packet);
+    line.put(before);
+    line.write(w)
+}
 
 /// Writes a place.
 pub fn write_place<W: Write>(w: &mut W, place: Place) -> Result<(), WriteFault>
     ensures { Wrote (W.contents w.old) (W.contents w.new) result (spec.place_text place) }
 {
-    write_with_numbers(w, b"", place.packet, b" ", u64::from(place.step), b"\n")
+    write_place_after(w, b"", place)
 }
 
 /// Writes the place that a command went to.
 pub fn write_went_to<W: Write>(w: &mut W, place: Place) -> Result<(), WriteFault>
     ensures { Wrote (W.contents w.old) (W.contents w.new) result (spec.at_text place) }
 {
-    write_with_numbers(w, b"at ", place.packet, b" ", u64::from(place.step), b"\n")
+    write_place_after(w, b"at ", place)
 }
 
 /// Puts how many packets passed and failed, and how many asked for an extension without a value.

@@ -14,7 +14,6 @@ mod dump;
 mod errors;
 mod law;
 mod loads;
-mod numbers;
 mod packet;
 mod reply;
 mod scratch;

@@ -12,7 +12,6 @@ ghost use Rattle.cbpf_reply.specs.declared.packet.TheConstants.{ROW};
 ghost use Rattle.cbpf_reply.specs.Packet as spec;
 
 use crate::dump::{put_why, spaces_to};
-use crate::numbers::write_with_numbers;
 use crate::reply::Why;
 use cbpf_code::{Line, WriteFault};
 use std::io::Write;
@@ -83,14 +82,13 @@ pub(crate) fn write_packet<W: Write>(
     ensures { Wrote (W.contents w.old) (W.contents w.new) result
         (spec.packet_head (length bytes.now) wire ++ (spec.packet_rows bytes.now ++ why_line why)) }
 {
-    write_with_numbers(
-        w,
-        b"-- packet dump --\nlen: ",
-        bytes.len() as u64,
-        b" wire: ",
-        u64::from(wire),
-        b"\n",
-    )?;
+    let mut head = Line::new();
+    head.put(b"\n");
+    head.put_u32(wire);
+    head.put(b" wire: ");
+    head.put_u64(bytes.len() as u64);
+    head.put(b"-- packet dump --\nlen: ");
+    head.write(w)?;
     let count = bytes.len().div_ceil(ROW);
     let mut from = 0;
     while count - from > 3 {

@@ -1,4 +1,4 @@
-use Rattle.std.proofs.Common.{◌+◌, append-nil, arith}
+use Rattle.std.proofs.Common.{◌≡◌, ◌+◌, length, append-nil, arith}
 use Rattle.cbpf_code.proofs.WrittenLemmas.{first-failed}
 use Rattle.cbpf_reply.specs.Dump.{why_line}
 use Rattle.cbpf_reply.specs.Packet.{packet_head, packet_row}
@@ -6,10 +6,11 @@ use Rattle.cbpf_reply.proofs.LeftLemmas.{left-next, left-last, left-stop}
 use Rattle.cbpf_reply.proofs.RowLemmas.{rows-split}
 use Rattle.cbpf_reply.proofs.packet.write_packet.Goals as goal
 
-pub returns-in_err-write_with_numbers : goal.returns-in_err-write_with_numbers
+pub returns-in_err-write : goal.returns-in_err-write
 unfolding packet_head
-returns-in_err-write_with_numbers g c =
-    first-failed _ _ _ _ _ c.from_residual.ensures.0 (rw c.from.ensures at c.in_err-write_with_numbers.ensures)
+returns-in_err-write g c =
+    let text : c.put-3.new.self ≡ packet_head (length c.args.bytes.now) c.args.wire = cc in
+    first-failed _ _ _ _ _ c.from_residual.ensures.0 (rw text at c.in_err-write.ensures)
 
 pub loop-from-preserved : goal.loop-from-preserved
 loop-from-preserved g c = record {
