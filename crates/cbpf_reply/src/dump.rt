@@ -1,8 +1,7 @@
 // The dump of a stop.
 
-ghost use Rattle.std.specs.Prelude.{◌≡◌, ◌<◌, ◌≤◌, ◌+◌, ◌++◌, length, ◌-◌};
+ghost use Rattle.std.specs.Prelude.{◌≡◌, ◌<◌, ◌≤◌, ◌+◌, ◌++◌, length};
 ghost use Rattle.cbpf_code.specs.Writing.{Wrote};
-ghost use Rattle.cbpf_code.specs.Text.{spaces};
 ghost use Rattle.cbpf_reply.specs.Dump as spec;
 ghost use Rattle.cbpf_reply.specs.Scratch.{scratch_lines};
 
@@ -107,14 +106,4 @@ pub fn write_stop<W: Write, A: Allocator>(
     let state = &stop.state;
     write_registers(w, state.a(), state.x(), &state.slots())?;
     write_packet(w, bytes, wire, stop.why)
-}
-
-/// The spaces that fill a text of this length up to so many places, at most ten.
-#[tactic(auto, using(crate::proofs::SpaceLemmas::pads))]
-pub(crate) fn spaces_to(places: usize, len: usize) -> &'static [u8]
-    requires { places ≤ 10 }
-    ensures same { result.now ≡ spaces (places - len) }
-    ensures short { length result.now ≤ places }
-{
-    &b"          "[..places.saturating_sub(len)]
 }

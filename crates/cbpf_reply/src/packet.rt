@@ -6,12 +6,11 @@ ghost use Rattle.std.specs.Int.{div_ceil};
 ghost use Rattle.std.specs.List.{flat_map};
 ghost use Rattle.std.specs.Option.{option_map_or};
 ghost use Rattle.cbpf_code.specs.Writing.{Wrote};
-ghost use Rattle.cbpf_code.specs.Text.{spaces};
 ghost use Rattle.cbpf_reply.specs.Dump.{why_line};
 ghost use Rattle.cbpf_reply.specs.declared.packet.TheConstants.{ROW};
 ghost use Rattle.cbpf_reply.specs.Packet as spec;
 
-use crate::dump::{put_why, spaces_to};
+use crate::dump::put_why;
 use crate::reply::Why;
 use cbpf_code::{Line, WriteFault};
 use std::io::Write;
@@ -66,7 +65,7 @@ fn write_rows<W: Write>(
         let before = line.as_bytes().len();
         line.put_u64(at as u64);
         let digits = line.as_bytes().len() - before;
-        line.put(spaces_to(5, digits));
+        line.put(&b"     "[digits.min(5)..]);
     }
     line.write(w)
 }

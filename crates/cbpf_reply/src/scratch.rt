@@ -3,7 +3,6 @@ ghost use Rattle.std.specs.Prelude.{◌≡◌, ◌≤◌, ◌<◌, ◌+◌, ◌+
 ghost use Rattle.cbpf_code.specs.Writing.{Wrote};
 ghost use Rattle.cbpf_reply.specs.Scratch as spec;
 
-use crate::dump::spaces_to;
 use cbpf_code::{Line, WriteFault};
 use std::io::Write;
 
@@ -32,7 +31,7 @@ fn write_scratch_line<W: Write>(
     line.put(b"][");
     line.put_hex(value, 8);
     line.put(b"[");
-    line.put(spaces_to(10, label.len()));
+    line.put(&b"          "[label.len().min(10)..]);
     line.put(label);
     line.write(w)
 }
