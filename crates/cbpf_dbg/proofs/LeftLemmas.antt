@@ -124,11 +124,11 @@ none_of [] e = refl
 none_of (x ∷ left) e = cc
 
 -- the packet before which a run ends that comes to no hit
-pub end_is : (limit : Option ℕ) (first : ℕ) {count total most sum end : ℕ} → total ≡ count → count < 2 ^ 60
+pub end_reckoned : (limit : Option ℕ) (first : ℕ) {count total most sum end : ℕ} → total ≡ count → count < 2 ^ 60
     → most ≡ unwrap_or limit (2 ^ 64 - 1) → sum ≡ min (first + most) (2 ^ 64 - 1) → end ≡ min sum (total + 1)
     → end ≡ end_of_run limit first count
-end_is None first all few most sum end = omega (arith, all, few, most, sum, end)
-end_is (Some n) first all few most sum end = omega (arith, all, few, most, sum, end)
+end_reckoned None first all few most sum end = omega (arith, all, few, most, sum, end)
+end_reckoned (Some n) first all few most sum end = omega (arith, all, few, most, sum, end)
 
 -- where a run ends is not before its place
 pub is_end : (capture : List Record) (place : Place) (limit : Option ℕ) (end : ℕ)

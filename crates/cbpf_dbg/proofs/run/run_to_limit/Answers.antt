@@ -1,19 +1,21 @@
 use Rattle.std.proofs.Common.{arith, ◌-◌, ◌∙◌}
 use Rattle.std.proofs.lemmas.Option.{slice_get_within}
 use Rattle.cbpf_dbg.specs.Loaded.{machine_in, records_in}
-use Rattle.cbpf_dbg.proofs.LeftLemmas.{is_end, end_is}
+use Rattle.cbpf_dbg.proofs.LeftLemmas.{is_end, end_reckoned}
 use Rattle.cbpf_dbg.proofs.RunLemmas.{run_stopped, run_limited, run_finished, none_ahead}
 use Rattle.cbpf_dbg.proofs.TurnLemmas.{turns-reply, spent_between, owed-turns, owed_bound}
 use Rattle.cbpf_dbg.proofs.run.run_to_limit.Goals as goal
 
 pub run_to_hit-stop-requires-clause-can : goal.run_to_hit-stop-requires-clause-can
 run_to_hit-stop-requires-clause-can g c =
+    let ends = end_reckoned c.args.limit c.args.cursor.now.place.packet c.count-count.ensures.value
+    c.args.loaded.now.few c.unwrap_or-most.ensures c.saturating_add.ensures c.min-end.ensures in
     let most = owed_bound (machine_in c.args.loaded.now) (records_in c.args.loaded.now) c.args.cursor.now.place c.requires.stands.sound c.args.loaded.now.few in
     record {
       stands = c.requires.stands;
       left = record {
         is = c.records_at.ensures;
-        ends = is_end _ _ c.args.limit _ (end_is c.args.limit c.args.cursor.now.place.packet c.count-count.ensures.value c.args.loaded.now.few c.unwrap_or-most.ensures c.saturating_add.ensures c.min-end.ensures) c.requires.limit
+        ends = is_end _ _ c.args.limit _ ends c.requires.limit
             c.requires.stands.within (λ begun.
             let at = c.requires.stands.at begun in
             omega (arith, slice_get_within (records_in c.args.loaded.now) (c.args.cursor.now.place.packet - 1) at.0 at.1));
@@ -24,8 +26,10 @@ run_to_hit-stop-requires-clause-can g c =
 
 pub returns-in-Some-clause-runs : goal.returns-in-Some-clause-runs
 returns-in-Some-clause-runs g c =
+    let ends = end_reckoned c.args.limit c.args.cursor.now.place.packet c.count-count.ensures.value
+    c.args.loaded.now.few c.unwrap_or-most.ensures c.saturating_add.ensures c.min-end.ensures in
     let came = c.in-Some.ensures in
-    run_stopped _ _ _ _ _ _ (end_is c.args.limit c.args.cursor.now.place.packet c.count-count.ensures.value c.args.loaded.now.few c.unwrap_or-most.ensures c.saturating_add.ensures c.min-end.ensures) _ _ came.passes.origin came.passes.order came.comes
+    run_stopped _ _ _ _ _ _ ends _ _ came.passes.origin came.passes.order came.comes
 
 pub returns-in-Some-clause-turns : goal.returns-in-Some-clause-turns
 returns-in-Some-clause-turns g c =
@@ -35,8 +39,10 @@ returns-in-Some-clause-turns g c =
 
 pub returns-then-end-count-clause-runs : goal.returns-then-end-count-clause-runs
 returns-then-end-count-clause-runs g c =
+    let ends = end_reckoned c.args.limit c.args.cursor.now.place.packet c.count-count.ensures.value
+    c.args.loaded.now.few c.unwrap_or-most.ensures c.saturating_add.ensures c.min-end.ensures in
     let came = c.in_default.ensures in
-    let gives = run_limited _ _ _ _ c.args.cursor.now _ (end_is c.args.limit c.args.cursor.now.place.packet c.count-count.ensures.value c.args.loaded.now.few c.unwrap_or-most.ensures c.saturating_add.ensures c.min-end.ensures)
+    let gives = run_limited _ _ _ _ c.args.cursor.now _ ends
     c.run_to_hit-stop.new.walk.cursor came.passes.stands came.passes.origin came.comes
     (rw c.count-count.ensures.value at c.if-end-count.true) in
     record { reply_is = gives.reply_is; place_is = gives.place_is; origin_is = gives.origin_is }
@@ -49,21 +55,27 @@ returns-then-end-count-clause-turns g c =
 
 pub returns-clause-runs : goal.returns-clause-runs
 returns-clause-runs g c =
+    let ends = end_reckoned c.args.limit c.args.cursor.now.place.packet c.count-count.ensures.value
+    c.args.loaded.now.few c.unwrap_or-most.ensures c.saturating_add.ensures c.min-end.ensures in
     let came = c.in_default.ensures in
-    run_finished _ _ _ _ _ _ (end_is c.args.limit c.args.cursor.now.place.packet c.count-count.ensures.value c.args.loaded.now.few c.unwrap_or-most.ensures c.saturating_add.ensures c.min-end.ensures) _ _ came.passes.stands came.passes.origin
+    run_finished _ _ _ _ _ _ ends _ _ came.passes.stands came.passes.origin
     came.comes (rw c.count-count.ensures.value at c.if-end-count.false) c.before-2.ensures.place c.before-2.ensures.origin
 
 pub returns-clause-ahead : goal.returns-clause-ahead
 returns-clause-ahead g c =
+    let ends = end_reckoned c.args.limit c.args.cursor.now.place.packet c.count-count.ensures.value
+    c.args.loaded.now.few c.unwrap_or-most.ensures c.saturating_add.ensures c.min-end.ensures in
     (none_ahead _ c.args.loaded.now.capture.now _ c.args.limit c.args.cursor.now _
-    (end_is c.args.limit c.args.cursor.now.place.packet c.count-count.ensures.value c.args.loaded.now.few c.unwrap_or-most.ensures c.saturating_add.ensures c.min-end.ensures) c.run_to_hit-stop.new.walk.cursor c.in_default.ensures.comes
+    ends c.run_to_hit-stop.new.walk.cursor c.in_default.ensures.comes
     (rw c.count-count.ensures.value at c.if-end-count.false)).1
 
 pub returns-clause-turns : goal.returns-clause-turns
 returns-clause-turns g c =
+    let ends = end_reckoned c.args.limit c.args.cursor.now.place.packet c.count-count.ensures.value
+    c.args.loaded.now.few c.unwrap_or-most.ensures c.saturating_add.ensures c.min-end.ensures in
     let came = c.in_default.ensures in
     let none = (none_ahead _ c.args.loaded.now.capture.now _ c.args.limit c.args.cursor.now _
-    (end_is c.args.limit c.args.cursor.now.place.packet c.count-count.ensures.value c.args.loaded.now.few c.unwrap_or-most.ensures c.saturating_add.ensures c.min-end.ensures) c.run_to_hit-stop.new.walk.cursor came.comes
+    ends c.run_to_hit-stop.new.walk.cursor came.comes
     (rw c.count-count.ensures.value at c.if-end-count.false)).0 in
     let all = owed-turns _ _ c.args.cursor.now c.requires.stands in
     rw (turns-reply _ _ _ _ _ _ _ (returns-clause-runs g c)) (omega (arith, all, none, came.passes.spent))
