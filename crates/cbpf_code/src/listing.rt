@@ -3,7 +3,7 @@
 //! Mnemonics and operands are those of the kernel's Documentation/networking/filter where it has them; all
 //! else, as the label before each instruction and jump targets as these labels, is this project's own.
 
-ghost use Rattle.std.specs.Prelude.{◌≡◌, ◌<◌, ◌≤◌, ◌+◌, ◌++◌, ℕ, length, Some};
+ghost use Rattle.std.specs.Prelude.{◌≡◌, ◌<◌, ◌≤◌, ◌+◌, ◌++◌, length, Some};
 ghost use Rattle.cbpf_code.specs.Text.{with_number};
 ghost use Rattle.cbpf_code.specs.Writing.{Wrote};
 ghost use Rattle.cbpf_code.specs.Opcode.{op_of};
@@ -54,6 +54,7 @@ fn put_operand(line: &mut Line, i: u32, insn: Insn, op: Op)
     ensures text { line.new ≡ spec.operand_text (syntax.operand_of op) i insn ++ line.old }
     ensures grown { length line.new ≤ length line.old + 60 }
 {
+    // Targets stand last, so they are put first.
     if let Op::Jump(_, _) = op {
         put_targets(line, i, insn);
     }

@@ -1,6 +1,6 @@
 // Texts go to a writer by these calls alone.
 
-ghost use Rattle.std.specs.Prelude.{◌≤◌, decimal, ◌≡◌, ◌+◌, ◌%◌, ◌++◌, [], false, length};
+ghost use Rattle.std.specs.Prelude.{◌≤◌, decimal, ◌≡◌, ◌+◌, ◌++◌, [], length};
 ghost use Rattle.std.specs.List.{flat_map};
 ghost use Rattle.cbpf_code.specs.Writing.{Wrote};
 ghost use Rattle.cbpf_code.specs.Text.{hex, with_number};

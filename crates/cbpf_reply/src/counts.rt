@@ -8,7 +8,7 @@ use crate::reply::{Counts, Place};
 use cbpf_code::{Line, WriteFault};
 use std::io::Write;
 
-/// Writes a place after a text.
+/// Writes a place after a text of at most 3 bytes.
 #[inline(always)]
 fn write_place_after<W: Write>(w: &mut W, before: &[u8], place: Place) -> Result<(), WriteFault>
     requires { length before.now ≤ 3 }

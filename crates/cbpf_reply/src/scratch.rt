@@ -31,6 +31,7 @@ fn write_scratch_line<W: Write>(
     line.put(b"][");
     line.put_hex(value, 8);
     line.put(b"[");
+    // The label stands left in ten places.
     line.put(&b"          "[label.len().min(10)..]);
     line.put(label);
     line.write(w)

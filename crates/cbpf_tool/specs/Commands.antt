@@ -18,9 +18,9 @@ use Rattle.cbpf_tool.specs.declared.command.SessionCommand.TheVariants.{Breakpoi
 use Rattle.cbpf_tool.specs.declared.command.SessionCommand.TheVariants.{Select, Mark, Resume, Stops, Value}
 
 -- a command without arguments
-abbrev pub alone : SessionCommand → List (List ℕ) → Option SessionCommand
-alone c [] = Some c
-alone c (w ∷ ws) = None
+abbrev pub without_arguments : SessionCommand → List (List ℕ) → Option SessionCommand
+without_arguments c [] = Some c
+without_arguments c (w ∷ ws) = None
 
 -- one number of 64 bits, and no more
 abbrev pub sole_number : List (List ℕ) → Option ℕ
@@ -92,15 +92,15 @@ ReadsArguments = List (List ℕ) → Option SessionCommand
 abbrev pub readings : List (List ℕ × ReadsArguments)
 readings =
     (codes "run", run_by)
-    ∷ (codes "disassemble", alone Disassemble)
-    ∷ (codes "dump", alone Dump)
+    ∷ (codes "disassemble", without_arguments Disassemble)
+    ∷ (codes "dump", without_arguments Dump)
     ∷ (codes "breakpoint", breakpoint_by)
     ∷ (codes "delete", delete_by)
     ∷ (codes "step", step_by)
     ∷ (codes "select", select_by)
-    ∷ (codes "mark", alone Mark)
+    ∷ (codes "mark", without_arguments Mark)
     ∷ (codes "resume", resume_by)
-    ∷ (codes "stops", alone Stops)
+    ∷ (codes "stops", without_arguments Stops)
     ∷ (codes "value", value_by)
     ∷ []
 

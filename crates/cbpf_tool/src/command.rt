@@ -76,8 +76,8 @@ impl Command<'_> {
 }
 
 /// A command that has no arguments, if there are none.
-fn alone(arguments: Arguments<'_>, command: SessionCommand) -> Option<SessionCommand>
-    ensures { (ws : List (List ℕ)) → AreArguments ws arguments.entry → result ≡ spec.alone command ws }
+fn without_arguments(arguments: Arguments<'_>, command: SessionCommand) -> Option<SessionCommand>
+    ensures { (ws : List (List ℕ)) → AreArguments ws arguments.entry → result ≡ spec.without_arguments command ws }
 {
     match arguments {
         Arguments::Zero => Some(command),
@@ -269,15 +269,15 @@ fn command_named<'a>(name: &str, text: &'a [u8]) -> Result<Option<Command<'a>>, 
         "load" => return or_wrong(load_by(text)),
         "quit" => return or_wrong(quit_by(arguments)),
         "run" => run_by(arguments),
-        "disassemble" => alone(arguments, SessionCommand::Disassemble),
-        "dump" => alone(arguments, SessionCommand::Dump),
+        "disassemble" => without_arguments(arguments, SessionCommand::Disassemble),
+        "dump" => without_arguments(arguments, SessionCommand::Dump),
         "breakpoint" => breakpoint_by(arguments),
         "delete" => delete_by(arguments),
         "step" => step_by(arguments),
         "select" => select_by(arguments),
-        "mark" => alone(arguments, SessionCommand::Mark),
+        "mark" => without_arguments(arguments, SessionCommand::Mark),
         "resume" => resume_by(arguments),
-        "stops" => alone(arguments, SessionCommand::Stops),
+        "stops" => without_arguments(arguments, SessionCommand::Stops),
         "value" => value_by(arguments),
         _ => return Err(CommandFault::UnknownCommand),
     };
