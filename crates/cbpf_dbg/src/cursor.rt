@@ -50,7 +50,6 @@ pub(crate) enum Moved {
 }
 
 impl Cursor {
-    #[inline(always)]
     fn enter(&mut self)
         ensures { self.new ≡ entered self.old }
     {
@@ -58,7 +57,6 @@ impl Cursor {
         self.state = State::zero();
     }
 
-    #[inline(always)]
     fn go_on(&mut self)
         requires { self.old.place.step + 1 < 2 ^ 32 }
         ensures { self.new ≡ stepped self.old self.old.state }
@@ -67,7 +65,6 @@ impl Cursor {
     }
 
     /// Goes before the next packet, as this one, which it is before, ended with the outcome.
-    #[inline(always)]
     pub(crate) fn finish_whole_packet(&mut self, outcome: Outcome)
         requires before { self.old.place.step ≡ 0 }
         requires counts { Countable self.old.place.packet self.old.counts }
@@ -82,7 +79,6 @@ impl Cursor {
     }
 
     /// The same from anywhere in the packet.
-    #[inline(always)]
     pub(crate) fn finish_packet(&mut self, outcome: Outcome)
         requires { Countable self.old.place.packet self.old.counts }
         ensures { self.new ≡ passed self.old outcome }
@@ -92,7 +88,6 @@ impl Cursor {
     }
 
     /// Moves to where following the packet led, which left the state here: to an entry, or before the next packet.
-    #[inline(always)]
     pub(crate) fn apply(&mut self, followed: Followed) -> Moved
         requires counts { Countable self.old.place.packet self.old.counts }
         requires steps { (n : ℕ) → followed ≡ ways.Watched n → self.old.place.step + n < 2 ^ 32 }
@@ -148,7 +143,6 @@ impl Cursor {
 }
 
 /// Goes on by one entry from an entry of the packet, or out of the packet, whose record is `here`.
-#[inline(always)]
 fn leave_entry<A: Allocator>(
     meter: &mut Meter,
     loaded: &Loaded<'_, A>,
@@ -187,7 +181,6 @@ fn leave_entry<A: Allocator>(
 }
 
 /// Goes on by one entry, or out of the packet, whose record is `here`.
-#[inline(always)]
 pub(crate) fn advance<A: Allocator>(
     meter: &mut Meter,
     loaded: &Loaded<'_, A>,
@@ -210,7 +203,6 @@ pub(crate) fn advance<A: Allocator>(
 }
 
 /// Goes to the first entry of a packet, whose record is `here`.
-#[inline(always)]
 pub(crate) fn enter_packet<A: Allocator>(
     loaded: &Loaded<'_, A>,
     here: &Captured<'_>,
@@ -227,7 +219,6 @@ pub(crate) fn enter_packet<A: Allocator>(
 }
 
 /// The stop at the entry of a cursor, whose instruction is read without a turn.
-#[inline(always)]
 pub(crate) fn stop_at<A: Allocator>(loaded: &Loaded<'_, A>, cursor: &Cursor, reason: Why) -> Stop
     requires { cursor.now.state.pc < length loaded.now.program.now }
     ensures { (r : Record) → result ≡ joined.stop_at reason (entry_here (machine_in loaded.now) r cursor.now) }

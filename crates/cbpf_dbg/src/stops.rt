@@ -79,7 +79,6 @@ fn go_on_in_packet<A: Allocator>(
 }
 
 /// Goes on to the next hit, or to the end.
-#[inline(always)]
 fn next_stop<A: Allocator>(
     meter: &mut Meter,
     loaded: &Loaded<'_, A>,

@@ -51,12 +51,10 @@ impl<A: Allocator> Trail for ListTrail<A> {
 
     ghost as_long = { λ t xs h. Prim.search rules };
 
-    #[inline(always)]
     fn clear(&mut self) {
         self.states.clear();
     }
 
-    #[inline(always)]
     fn push(&mut self, s: State) {
         match self.states.push(s) {
             Ok(()) => (),
@@ -64,17 +62,14 @@ impl<A: Allocator> Trail for ListTrail<A> {
         }
     }
 
-    #[inline(always)]
     fn first_gap() -> u32 {
         1
     }
 
-    #[inline(always)]
     fn gap(&self) -> u32 {
         1
     }
 
-    #[inline(always)]
     fn keep(&mut self, _count: u32, s: State) {
         self.push(s);
     }

@@ -20,7 +20,6 @@ impl Model for Meter {
 
 impl Meter {
     /// A meter that has counted no turn.
-    #[inline(always)]
     pub fn new() -> Meter
         ensures { result ≡ 0 }
     {
@@ -28,7 +27,6 @@ impl Meter {
     }
 
     /// How many turns it has counted.
-    #[inline(always)]
     pub fn spent(&self) -> u128
         ensures { result ≡ self.now }
     {

@@ -31,7 +31,6 @@ impl From<End> for Turn {
 
     ghost from_gives = { λ end t. t ≡ turn_of end };
 
-    #[inline(always)]
     fn from(end: End) -> Turn {
         match end {
             End::Returned(v) => Turn::Returned(v),
@@ -60,7 +59,6 @@ impl From<End> for Outcome {
 
     ghost from_gives = { λ end o. o ≡ outcome_of (turn_of end) };
 
-    #[inline(always)]
     fn from(end: End) -> Outcome {
         match end {
             End::Returned(v) if v != 0 => Outcome::Pass(v),

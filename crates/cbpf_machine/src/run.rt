@@ -32,7 +32,6 @@ impl Pause for Whole {
 /// as the program has instructions.
 ///
 /// The meter is at least twice `MAX_INSTRUCTIONS` turns below 2 to the 128 before.
-#[inline(always)]
 pub fn run_packet<A: Allocator>(
     meter: &mut Meter,
     p: &Program<A>,
