@@ -16,7 +16,7 @@ use Rattle.cbpf_machine.proofs.SoundLemmas.{sound_few, sound_some}
 use Rattle.pcap_classic.specs.Records.{Record}
 use Rattle.cbpf_dbg.specs.declared.cursor.Cursor.{Cursor}
 use Rattle.cbpf_dbg.specs.declared.loaded.Loaded.{Loaded}
-use Rattle.cbpf_dbg.specs.Loaded.{machine_in, records_in, breakpoints_in}
+use Rattle.cbpf_dbg.specs.Loaded.{machine_in, records_in}
 use Rattle.cbpf_dbg.specs.declared.cursor.Moved.TheVariants as moved
 use Rattle.cbpf_dbg.specs.Breakpoints.{Breakpoints}
 use Rattle.cbpf_dbg.specs.Joined.{ahead, rest, entries_from, joined_from}
@@ -38,7 +38,7 @@ not_covered : (pauses : Registers → Bool) (hit : Bool) (s : Registers) → (hi
 not_covered pauses false s covers none = refl
 not_covered pauses true s covers none = let some = covers refl in absurd cc
 
-there : {X : Type 0} (xs : List X) (i : ℕ) → i < length xs → (x : X) × (slice_get xs i ≡ Some x)
+pub there : {X : Type 0} (xs : List X) (i : ℕ) → i < length xs → (x : X) × (slice_get xs i ≡ Some x)
 there xs i h = elim (slice_get_cases xs i).1 [ inl found ↦ (found.0, found.2) | inr past ↦ absurd (omega arith) ]
 
 module _ (machine : Machine) (capture : List Record) (w : Cursor) (r : Record) (h : Stands machine capture w)
@@ -120,6 +120,16 @@ module _ (machine : Machine) (capture : List Record) (w : Cursor) (r : Record) (
         let within = slice_get_within xs m s f.2 in
         entries-passed breakpoints w.place.step (n - 1) m (omega (arith, f.0)) (omega (arith, within)) (no_hits m f.1)
 
+    end_hits : Unpaused pauses xs w.place.step (length xs)
+        → rest machine capture breakpoints w.place ≡ rest machine capture breakpoints (place_at (w.place.packet + 1) 0)
+    end_hits unpaused =
+        let leave = ahead-leave machine capture w.place.packet (length xs) r from_one at (omega arith) in
+        entries-passed breakpoints w.place.step (length xs - w.place.step) (length xs) (omega (arith, step_within))
+        (omega arith) (no_hits (length xs) unpaused)
+        ∙ rest-same machine capture breakpoints (place_at w.place.packet (length xs))
+        (place_at (w.place.packet + 1) 0) leave
+
+  module _ (pauses : Registers → Bool) where
     on_owed : (n : ℕ) (s : Registers)
         → Follows pauses xs (outcome machine r.bytes r.wire) w.place.step w.state s (Watched n)
         → owed machine capture w.place + 1 ≡ n + owed machine capture (moved_on w n s).place + min w.place.step 1
@@ -132,15 +142,6 @@ module _ (machine : Machine) (capture : List Record) (w : Cursor) (r : Record) (
           some,
         )
 
-    end_hits : Unpaused pauses xs w.place.step (length xs)
-        → rest machine capture breakpoints w.place ≡ rest machine capture breakpoints (place_at (w.place.packet + 1) 0)
-    end_hits unpaused =
-        let leave = ahead-leave machine capture w.place.packet (length xs) r from_one at (omega arith) in
-        entries-passed breakpoints w.place.step (length xs - w.place.step) (length xs) (omega (arith, step_within))
-        (omega arith) (no_hits (length xs) unpaused)
-        ∙ rest-same machine capture breakpoints (place_at w.place.packet (length xs))
-        (place_at (w.place.packet + 1) 0) leave
-
     -- the steps can be counted
     pub steps_fit : (k : ℕ) (f : Followed) (s : Registers) → k ≡ w.place.step
         → Follows pauses xs (outcome machine r.bytes r.wire) k w.state s f → (n : ℕ) → f ≡ Watched n
@@ -151,8 +152,7 @@ module _ (machine : Machine) (capture : List Record) (w : Cursor) (r : Record) (
         omega (arith, slice_get_within xs (w.place.step + n - 1) s on.2, steps_few)
 
 module _ {A : Type 0} (l : Loaded A) (w : Cursor) (r : Record) (h : Stands (machine_in l) (records_in l) w)
-    (at : slice_get (records_in l) (w.place.packet - 1) ≡ Some r) (pauses : Registers → Bool)
-    (covers : Covers pauses (machine_in l) (breakpoints_in l)) where
+    (at : slice_get (records_in l) (w.place.packet - 1) ≡ Some r) (pauses : Registers → Bool) where
   abbrev entries : List Registers
   entries = trace (machine_in l) r.bytes r.wire
 
@@ -170,9 +170,9 @@ module _ {A : Type 0} (l : Loaded A) (w : Cursor) (r : Record) (h : Stands (mach
           stands = stands_at _ _ w r h at (w.place.step + n) s on.2;
           origin = refl;
           order = inr (refl, omega arith);
-          hits = on_hits _ _ w r h at _ pauses covers n s on;
-          spent = omega (arith, on_owed _ _ w r h at (breakpoints_in l) pauses covers n s on, turns, step);
+          spent = omega (arith, on_owed _ _ w r h at pauses n s on, turns, step);
         };
+        hits = λ covers. on_hits _ _ w r h at _ pauses covers n s on;
         left = left_here (records_in l) w.place end left r others is there (moved_on w n s).place refl;
         same = refl;
         entry = λ _. (omega (arith, on.0), on.3);
@@ -195,9 +195,9 @@ module _ {A : Type 0} (l : Loaded A) (w : Cursor) (r : Record) (h : Stands (mach
           stands = subst (λ u. Stands (machine_in l) (records_in l) u) same (stands-passed _ _ w r h at);
           origin = refl;
           order = inl (omega arith);
-          hits = end_hits _ _ w r h at _ pauses covers on.0;
           spent = omega (arith, ahead_long _ _ w r h at w.place.step (step_within _ _ w r h at), ap length leave, turns, step, (step_within _ _ w r h at));
         };
+        hits = λ covers. end_hits _ _ w r h at _ pauses covers on.0;
         left = left_past (records_in l) w.place end left r others is there (from_one _ _ w r h at);
         same = refl;
         entry = λ (z : false ≡ true). absurd cc;

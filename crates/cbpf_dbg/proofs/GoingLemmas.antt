@@ -1,12 +1,11 @@
 -- Runs that go on, one after another.
 use Rattle.std.proofs.Common.{◌≡◌, ℕ, ◌+◌, ◌-◌, ◌<◌, ◌≤◌, List, ◌∷◌, length, arith, sym, ap, ◌∙◌, refl}
-use Rattle.std.proofs.Common.{Bool, true, false, subst}
+use Rattle.std.proofs.Common.{Bool, true, false}
 use Rattle.std.specs.Prelude.{Some, slice_get}
 use Rattle.cbpf_machine.specs.Follow.{is_watched}
 use Rattle.cbpf_machine.specs.Machine.{Machine}
 use Rattle.cbpf_machine.specs.Registers.{Registers}
 use Rattle.pcap_classic.specs.Records.{Record}
-use Rattle.cbpf_reply.specs.declared.reply.Place.{Place}
 use Rattle.cbpf_reply.specs.declared.reply.Why.TheVariants as why
 use Rattle.cbpf_dbg.specs.declared.cursor.Cursor.{Cursor}
 use Rattle.cbpf_dbg.specs.declared.cursor.Walk.{Walk}
@@ -16,28 +15,22 @@ use Rattle.cbpf_dbg.specs.Breakpoints.{Breakpoints}
 use Rattle.cbpf_dbg.specs.Joined.{ahead, rest, stop_at}
 use Rattle.cbpf_dbg.specs.Session.{hits}
 use Rattle.cbpf_dbg.specs.Cursor.{Stands, Passes, before, entry_here}
-use Rattle.cbpf_dbg.specs.Going.{GoesOn}
+use Rattle.cbpf_dbg.specs.Going.{Covers, GoesOn}
 use Rattle.cbpf_dbg.proofs.CursorLemmas.{goes, entry_at_place}
-use Rattle.cbpf_dbg.proofs.JoinedLemmas.{ahead-entry, rest-hit, rest-pass}
+use Rattle.cbpf_dbg.proofs.JoinedLemmas.{ahead-entry, rest-hit}
 use Rattle.cbpf_dbg.proofs.TurnLemmas.{not_before_after}
 
-before_none : (place : Place) → place.step ≡ 0 → before place ≡ place
-before_none place step = let e : place.step - 1 ≡ place.step = omega (arith, step) in
-    ap (λ k. record { packet = place.packet; step = k }) e
+pub passes_more : (machine : Machine) (capture : List Record) (old mid new : Cursor) (m n k : ℕ)
+    → Passes machine capture old mid m n → Passes machine capture mid new n k → Passes machine capture old new m k
+passes_more machine capture old mid new m n k h then_ =
+    record {
+      stands = then_.stands;
+      origin = then_.origin ∙ h.origin;
+      order = not_before_after old.place mid.place new.place h.order then_.order;
+      spent = then_.spent ∙ h.spent;
+    }
 
 module _ (machine : Machine) (capture : List Record) (breakpoints : Breakpoints) where
-  pub passes_more : (old mid new : Cursor) (to : Place) (m n k : ℕ)
-      → Passes machine capture breakpoints old mid mid.place m n → Passes machine capture breakpoints mid new to n k
-      → Passes machine capture breakpoints old new to m k
-  passes_more old mid new to m n k h then_ =
-      record {
-        stands = then_.stands;
-        origin = then_.origin ∙ h.origin;
-        order = not_before_after old.place mid.place new.place h.order then_.order;
-        hits = h.hits ∙ then_.hits;
-        spent = then_.spent ∙ h.spent;
-      }
-
   -- the entry of a place is the first one from it on
   module _ (w : Cursor) (r : Record) (h : Stands machine capture w) (begun : 0 < w.place.step)
       (at : slice_get capture (w.place.packet - 1) ≡ Some r) where
@@ -54,55 +47,45 @@ module _ (machine : Machine) (capture : List Record) (breakpoints : Breakpoints)
     hits_hit hit =
         rest-hit machine capture breakpoints (before w.place) w.place (entry_here machine r w) entry_first hit
 
-    pub hits_none : hits machine breakpoints r.bytes r.wire w.state ≡ false
-        → rest machine capture breakpoints (before w.place) ≡ rest machine capture breakpoints w.place
-    hits_none none =
-        rest-pass machine capture breakpoints (before w.place) w.place (entry_here machine r w) entry_first none
-
-  -- past an entry that is no hit
-  pub passes_entry : (old w : Cursor) (r : Record) (m n : ℕ) → 0 < w.place.step
-      → slice_get capture (w.place.packet - 1) ≡ Some r → hits machine breakpoints r.bytes r.wire w.state ≡ false
-      → Passes machine capture breakpoints old w (before w.place) m n
-      → Passes machine capture breakpoints old w w.place m n
-  passes_entry old w r m n begun at none h =
-      record {
-        stands = h.stands;
-        origin = h.origin;
-        order = h.order;
-        hits = h.hits ∙ hits_none w r h.stands begun at none;
-        spent = h.spent;
-      }
-
 module _ {A : Type 0} (l : Loaded A) where
-  pub goes_passed : (pauses : Registers → Bool) (old new : Walk) (m n : ℕ) → GoesOn l pauses old new m n false
-      → Passes (machine_in l) (records_in l) (breakpoints_in l) old.cursor new.cursor new.cursor.place m n
-  goes_passed pauses old new m n h =
-      subst (λ to. Passes (machine_in l) (records_in l) (breakpoints_in l) old.cursor new.cursor to m n)
-      (before_none new.cursor.place (h.out refl)) h.passes
+  -- where it pauses at what the session watches, it pauses at each hit
+  pub watches_hits : Covers (is_watched l.watched.now) (machine_in l) (breakpoints_in l)
+  watches_hits = λ bytes wire s inside hit. l.watches bytes wire s inside ∙ hit
 
-  pub goes_more : (p q : Registers → Bool) (old mid new : Walk) (m n k : ℕ) (paused : Bool)
-      → GoesOn l p old mid m n false → GoesOn l q mid new n k paused → GoesOn l q old new m k paused
-  goes_more p q old mid new m n k paused h then_ =
+  -- out of a packet, past no hit
+  pub hits_out : (pauses : Registers → Bool) (old new : Walk) (m n : ℕ) → GoesOn l pauses old new m n false
+      → Covers pauses (machine_in l) (breakpoints_in l)
+      → rest (machine_in l) (records_in l) (breakpoints_in l) old.cursor.place
+      ≡ rest (machine_in l) (records_in l) (breakpoints_in l) new.cursor.place
+  hits_out pauses old new m n h covers =
+      let e : new.cursor.place.step - 1 ≡ new.cursor.place.step = omega (arith, h.out refl) in
+      h.hits covers ∙ ap (λ k. rest (machine_in l) (records_in l) (breakpoints_in l)
+      (record { packet = new.cursor.place.packet; step = k })) e
+
+  pub goes_more : (pauses : Registers → Bool) (old mid new : Walk) (m n k : ℕ) (paused : Bool)
+      → GoesOn l pauses old mid m n false → GoesOn l pauses mid new n k paused → GoesOn l pauses old new m k paused
+  goes_more pauses old mid new m n k paused h then_ =
       record {
-        passes = passes_more _ _ _ _ _ _ _ _ _ _ (goes_passed p old mid m n h) then_.passes;
+        passes = passes_more _ _ _ _ _ _ _ _ h.passes then_.passes;
+        hits = λ covers. hits_out pauses old mid m n h covers ∙ then_.hits covers;
         left = then_.left;
         same = then_.same ∙ h.same;
         entry = then_.entry;
         out = then_.out;
       }
 
-  -- where a run pauses at a hit, it is the first one
-  pub at_hit : (pauses : Registers → Bool) (old new : Walk) (m n : ℕ) → GoesOn l pauses old new m n true
-      → is_watched l.watched.now new.cursor.state ≡ true → (r : Record) × (new.cursor.state.pc < length l.program.now)
+  -- where it pauses at what the session watches, that is the first hit
+  pub at_hit : (old new : Walk) (m n : ℕ) → GoesOn l (is_watched l.watched.now) old new m n true
+      → (r : Record) × (new.cursor.state.pc < length l.program.now)
       × (rest (machine_in l) (records_in l) (breakpoints_in l) old.cursor.place
       ≡ stop_at why.Break (entry_here (machine_in l) r new.cursor)
       ∷ rest (machine_in l) (records_in l) (breakpoints_in l) new.cursor.place)
-  at_hit pauses old new m n h hit =
+  at_hit old new m n h =
       let here = h.entry refl in
       let at = h.passes.stands.at here.0 in
       let inside = (goes _ _ new.cursor at.0 h.passes.stands at.1 here.0).inside in (
         at.0,
         inside,
-        h.passes.hits ∙ hits_hit _ _ _ new.cursor at.0 h.passes.stands here.0 at.1
-            (sym (l.watches at.0.bytes at.0.wire new.cursor.state inside) ∙ hit),
+        h.hits watches_hits ∙ hits_hit _ _ _ new.cursor at.0 h.passes.stands here.0 at.1
+            (sym (l.watches at.0.bytes at.0.wire new.cursor.state inside) ∙ here.1),
       )

@@ -1,32 +1,43 @@
 -- How a step nears the entry that it seeks.
-use Rattle.std.proofs.Common.{◌≡◌, ℕ, ◌+◌, ◌-◌, ◌<◌, ◌≤◌, ◌++◌, List, length, length-append, arith, sym, ap, ◌∙◌, refl}
-use Rattle.std.proofs.Common.{inl, inr}
+use Rattle.std.proofs.Common.{◌≡◌, ℕ, zero, suc, ◌+◌, ◌-◌, ◌*◌, ◌<◌, ◌≤◌, ◌++◌, List, [], length, length-append, arith}
+use Rattle.std.proofs.Common.{append_assoc, sym, ap, ◌∙◌, refl, inl, inr}
+use Rattle.std.proofs.Common.{◌^◌, ◌/◌, Bool, true, false}
 use Rattle.std.specs.Prelude.{Some, slice_get, min}
+use Rattle.std.proofs.lemmas.Nat.{le-div, mul-le}
+use Rattle.std.proofs.lemmas.Option.{slice_get_within}
+use Rattle.std.proofs.Math.Nat.{div-mul-le_self}
 use Rattle.cbpf_machine.specs.Machine.{Machine}
-use Rattle.cbpf_machine.specs.Trace.{trace, outcome}
+use Rattle.cbpf_machine.specs.Registers.{zero_state}
+use Rattle.cbpf_machine.specs.Trace.{trace}
+use Rattle.cbpf_machine.proofs.SoundLemmas.{sound_some}
+use Rattle.cbpf_machine.proofs.TraceLemmas.{length-trace_from}
+use Rattle.cbpf_code.specs.Sound.{IsSound}
 use Rattle.pcap_classic.specs.Records.{Record}
 use Rattle.cbpf_reply.specs.declared.reply.Place.{Place}
 use Rattle.cbpf_dbg.specs.declared.cursor.Cursor.{Cursor}
+use Rattle.cbpf_dbg.specs.declared.cursor.Walk.{Walk}
 use Rattle.cbpf_dbg.specs.declared.cursor.Moved.TheVariants as moved
-use Rattle.cbpf_dbg.specs.Joined.{ahead, packet_entries}
-use Rattle.cbpf_dbg.specs.Cursor.{Stands, Moves, Nears, entry_here, passed}
+use Rattle.cbpf_dbg.specs.declared.loaded.Loaded.{Loaded}
+use Rattle.cbpf_dbg.specs.Loaded.{machine_in, records_in}
+use Rattle.cbpf_dbg.specs.Going.{GoesOn}
+use Rattle.cbpf_dbg.specs.Joined.{Entry, ahead, packet_entries}
+use Rattle.cbpf_dbg.specs.Cursor.{Stands, Moves, Nears, Passes, entry_here}
 use Rattle.cbpf_dbg.proofs.JoinedLemmas.{place_at, ahead-whole}
-use Rattle.cbpf_dbg.proofs.CursorLemmas.{stands-passed}
+use Rattle.cbpf_dbg.proofs.LeftLemmas.{none_left}
+use Rattle.cbpf_dbg.proofs.FollowLemmas.{there}
+use Rattle.cbpf_dbg.proofs.GoingLemmas.{passes_more}
 use Rattle.cbpf_dbg.proofs.RunLemmas.{slice_get-past, slice_get-later}
-use Rattle.cbpf_dbg.proofs.TurnLemmas.{length_entries, not_before_after}
+use Rattle.cbpf_dbg.proofs.TurnLemmas.{length_entries}
 
 module _ (machine : Machine) (capture : List Record) where
   pub nears_none : (w : Cursor) (n spent : ℕ) → Stands machine capture w → 1 ≤ n
       → Nears machine capture w w n n spent spent
   nears_none w n spent h some =
       record {
-        stands = h;
-        origin = refl;
-        order = inr (refl, omega arith);
+        passes = record { stands = h; origin = refl; order = inr (refl, omega arith); spent = refl };
         some = some;
         sought = refl;
         fewer = omega arith;
-        spent = refl;
       }
 
   pub nears_more : (old mid new : Cursor) (n m left before between after : ℕ)
@@ -34,50 +45,64 @@ module _ (machine : Machine) (capture : List Record) where
       → Nears machine capture old new n left before after
   nears_more old mid new n m left before between after h k =
       record {
-        stands = k.stands;
-        origin = k.origin ∙ h.origin;
-        order = not_before_after old.place mid.place new.place h.order k.order;
+        passes = passes_more _ _ _ _ _ _ _ _ h.passes k.passes;
         some = k.some;
         sought = h.sought ∙ k.sought;
         fewer = omega (arith, h.fewer, k.fewer);
-        spent = k.spent ∙ h.spent;
       }
 
-  -- past a packet that has fewer entries
-  pub nears_past : (w v : Cursor) (r : Record) (left k before after : ℕ) → Stands machine capture w
-      → slice_get capture (w.place.packet - 1) ≡ Some r → w.place.step ≡ 0
-      → v ≡ passed w (outcome machine r.bytes r.wire) → k ≡ length (trace machine r.bytes r.wire) → k < left
-      → after ≡ before + k → Nears machine capture w v left (left - k) before after
-  nears_past w v r left k before after h at step e made more turns =
+  -- the entries of so many packets
+  packets_entries : (n p : ℕ) → IsSound machine.list → 1 ≤ p → n + p ≤ length capture + 1 → (es : List Entry)
+      × (ahead machine capture (place_at p 0) ≡ es ++ ahead machine capture (place_at (n + p) 0))
+      × (length es ≤ n * length machine.list)
+  packets_entries zero p sound one within =
+      let same : p ≡ zero + p = omega arith in
+      ([], ap (λ q. ahead machine capture (place_at q 0)) same, omega arith)
+  packets_entries (suc n) p sound one within =
+      let r = there capture (p - 1) (omega (arith, within, one)) in
+      let on : n + (p + 1) ≡ suc n + p = omega arith in
+      let others = packets_entries n (p + 1) sound (omega arith) (omega (arith, within)) in
+      let es : List Entry = packet_entries machine r.0 p in (
+        es ++ others.0,
+        ahead-whole machine capture p r.0 one r.1 ∙ ap (λ ds. es ++ ds) others.1
+            ∙ sym (append_assoc es others.0 (ahead machine capture (place_at (n + (p + 1)) 0)))
+            ∙ ap (λ q. (es ++ others.0) ++ ahead machine capture (place_at q 0)) on,
+        omega (
+          arith,
+          length-append es others.0,
+          others.2,
+          length_entries machine r.0 p 1 (trace machine r.0.bytes r.0.wire),
+          length-trace_from machine r.0.bytes r.0.wire zero_state,
+        ),
+      )
+
+  -- past so many packets, which have fewer entries
+  nears_past : (w v : Cursor) (left n before after : ℕ) → Passes machine capture w v before after → w.place.step ≡ 0
+      → v.place ≡ place_at (n + w.place.packet) 0 → n * length machine.list < left → 1 ≤ w.place.packet
+      → (before ≤ after) × (after - before < left) × Nears machine capture w v left (left - (after - before)) before after
+  nears_past w v left n before after h step to few one =
       let p : ℕ = w.place.packet in
-      let place : v.place ≡ place_at (p + 1) 0 = ap (λ (n : Cursor). n.place) e in
-      let one : 1 ≤ p = omega (arith, h.from_one, h.ordered) in
-      let start : ahead machine capture w.place
-      ≡ packet_entries machine r p ++ ahead machine capture (place_at (p + 1) 0) =
-      ap (λ i. ahead machine capture (place_at p i)) step ∙ ahead-whole machine capture p r one at in
-      let long : length (packet_entries machine r p) ≡ length (trace machine r.bytes r.wire) =
-      length_entries machine r p 1 (trace machine r.bytes r.wire) in
-      let past = slice_get-past (packet_entries machine r p) (ahead machine capture (place_at (p + 1) 0)) k left
-      (long ∙ sym made) more in
-      let fewer : length (ahead machine capture w.place) ≡ k + length (ahead machine capture v.place) =
-      omega (
-        arith,
-        made,
-        long,
-        ap length start,
-        ap (λ q. length (ahead machine capture q)) place,
-        length-append (packet_entries machine r p) (ahead machine capture (place_at (p + 1) 0)),
-      ) in
-      record {
-        stands = rw e (stands-passed machine capture w r h at);
-        origin = ap (λ (n : Cursor). n.origin) e;
-        order = inl (omega (arith, ap (λ (q : Place). q.packet) place));
-        some = omega (arith, more);
-        sought = ap (λ xs. slice_get xs (left - 1)) start ∙ past
-            ∙ ap (λ q. slice_get (ahead machine capture q) (left - k - 1)) (sym place);
-        fewer = omega (arith, fewer);
-        spent = omega (arith, fewer, turns, step, ap (λ (q : Place). q.step) place);
-      }
+      let packet : v.place.packet ≡ n + p = ap (λ (q : Place). q.packet) to in
+      let es = packets_entries n p h.stands.sound one (omega (arith, packet, h.stands.within)) in
+      let start : ahead machine capture w.place ≡ es.0 ++ ahead machine capture v.place =
+      ap (λ i. ahead machine capture (place_at p i)) step ∙ es.1
+      ∙ ap (λ q. es.0 ++ ahead machine capture q) (sym to) in
+      let fewer : length (ahead machine capture w.place) ≡ length es.0 + length (ahead machine capture v.place) =
+      ap length start ∙ length-append es.0 (ahead machine capture v.place) in
+      let made : after ≡ before + length es.0 =
+      omega (arith, fewer, h.spent, step, ap (λ (q : Place). q.step) to) in
+      let long : length es.0 ≡ after - before = omega (arith, made) in
+      let more : after - before < left = omega (arith, long, es.2, few) in (
+        omega (arith, made),
+        more,
+        record {
+          passes = h;
+          some = omega (arith, more);
+          sought = ap (λ xs. slice_get xs (left - 1)) start
+              ∙ slice_get-past es.0 (ahead machine capture v.place) (after - before) left long more;
+          fewer = omega (arith, fewer);
+        },
+      )
 
   -- to an entry that isn't the one that is sought
   pub nears_entry : (w v : Cursor) (left before after : ℕ) → Stands machine capture v
@@ -85,13 +110,15 @@ module _ (machine : Machine) (capture : List Record) where
       → after ≡ before + min w.place.step 1 → Nears machine capture w v left (left - 1) before after
   nears_entry w v left before after h m origin more turns =
       record {
-        stands = h;
-        origin = origin;
-        order = inr (sym m.2, omega (arith, m.3));
+        passes = record {
+          stands = h;
+          origin = origin;
+          order = inr (sym m.2, omega (arith, m.3));
+          spent = omega (arith, ap length m.4, m.3, turns);
+        };
         some = omega (arith, more);
         sought = rw m.4 (slice_get-later (entry_here machine m.0 v) _ left more);
         fewer = omega (arith, ap length m.4);
-        spent = omega (arith, ap length m.4, m.3, turns);
       }
 
   -- out of a packet
@@ -100,11 +127,50 @@ module _ (machine : Machine) (capture : List Record) where
       → after ≡ before + min w.place.step 1 → Nears machine capture w v left left before after
   nears_out w v left before after h m origin some turns =
       record {
-        stands = h;
-        origin = origin;
-        order = inl (omega (arith, ap (λ (q : Place). q.packet) m.0));
+        passes = record {
+          stands = h;
+          origin = origin;
+          order = inl (omega (arith, ap (λ (q : Place). q.packet) m.0));
+          spent = omega (arith, ap length m.1, ap (λ (q : Place). q.step) m.0, turns);
+        };
         some = some;
         sought = ap (λ xs. slice_get xs (left - 1)) m.1;
         fewer = omega (arith, ap length m.1);
-        spent = omega (arith, ap length m.1, ap (λ (q : Place). q.step) m.0, turns);
       }
+
+-- the end of so many packets as have fewer entries than are left
+end_of_packets : (p left longest : ℕ) {sum past end : ℕ} → 0 < longest → longest < left → p < past
+    → past ≤ 2 ^ 60 → sum ≡ min (p + (left - 1) / longest) (2 ^ 64 - 1) → end ≡ min sum past
+    → (p < end) × ((end - p) * longest < left)
+end_of_packets p left longest {sum} {past} {end} pos more before few is_sum is_end =
+    let q : ℕ = (left - 1) / longest in
+    let some : 1 ≤ q = le-div 1 (left - 1) longest pos (omega (arith, more)) in
+    let within : end - p ≤ q = omega (arith, is_sum, is_end) in
+    let most = mul-le (end - p) longest q longest within (omega arith) in (
+      omega (arith, is_sum, is_end, some, before, few),
+      omega (arith, most, div-mul-le_self (left - 1) longest, more),
+    )
+
+-- a run without a pause goes to the end of such packets
+pub goes_past : {A : Type 0} (l : Loaded A) (old new : Walk) (r : Record) (left before after : ℕ) (paused : Bool)
+    {past sum : ℕ} → Stands (machine_in l) (records_in l) old.cursor → old.cursor.place.step ≡ 0
+    → slice_get (records_in l) (old.cursor.place.packet - 1) ≡ Some r → length l.program.now < left
+    → past ≡ length (records_in l) + 1
+    → sum ≡ min (old.cursor.place.packet + (left - 1) / length l.program.now) (2 ^ 64 - 1) → old.end ≡ min sum past
+    → GoesOn l (λ s. false) old new before after paused → (paused ≡ false → new.left ≡ [])
+    → (old.cursor.place.packet < old.end) × (new.cursor.place ≡ place_at old.end 0) × (before ≤ after)
+    × (after - before < left)
+    × Nears (machine_in l) (records_in l) old.cursor new.cursor left (left - (after - before)) before after
+goes_past l old new r left before after true stands step at more is_past is_sum is_end h none =
+    let never = (h.entry refl).1 in absurd cc
+goes_past l old new r left before after false stands step at more is_past is_sum is_end h none =
+    let p : ℕ = old.cursor.place.packet in
+    let one : 1 ≤ p = omega (arith, stands.from_one, stands.ordered) in
+    let ends = end_of_packets p left (length l.program.now) (sound_some _ l.sound) more
+    (omega (arith, slice_get_within (records_in l) (p - 1) r at, one, is_past)) (omega (arith, l.few, is_past)) is_sum is_end in
+    let to : new.cursor.place ≡ place_at old.end 0 =
+    rw h.same at (none_left _ _ new.cursor new.end new.left h.passes.stands (none refl) h.left) in
+    let e : old.end ≡ old.end - p + p = omega (arith, ends.0) in
+    let past = nears_past _ _ old.cursor new.cursor left (old.end - p) before after h.passes step
+    (to ∙ ap (λ q. place_at q 0) e) ends.1 one in
+    (ends.0, to, past.0, past.1, past.2)

@@ -158,26 +158,22 @@ NotBefore new old = (old.packet < new.packet) ⊎ ((old.packet ≡ new.packet) �
 abbrev pub before : Place → Place
 before place = record { packet = place.packet; step = place.step - 1 }
 
--- a cursor went on past no hit up to a place, by the turns that it owes no longer
-pub record Passes (machine : Machine) (capture : List Record) (breakpoints : Breakpoints) (old new : Cursor)
-    (to : Place) (spent_old spent_new : ℕ) : Type 0 where
-  pub stands : Stands machine capture new
-  pub origin : new.origin ≡ old.origin
-  pub order : NotBefore new.place old.place
-  pub hits : rest machine capture breakpoints old.place ≡ rest machine capture breakpoints to
-  pub spent : spent_new + owed machine capture new.place ≡ spent_old + owed machine capture old.place
-
--- a cursor nears the entry that is n entries ahead, so that fewer are left, by the turns that it owes no longer
-pub record Nears (machine : Machine) (capture : List Record) (old new : Cursor) (n left spent_old spent_new : ℕ) :
+-- a cursor went on, by the turns that it owes no longer
+pub record Passes (machine : Machine) (capture : List Record) (old new : Cursor) (spent_old spent_new : ℕ) :
     Type 0 where
   pub stands : Stands machine capture new
   pub origin : new.origin ≡ old.origin
   pub order : NotBefore new.place old.place
+  pub spent : spent_new + owed machine capture new.place ≡ spent_old + owed machine capture old.place
+
+-- a cursor nears the entry that is n entries ahead, so that fewer are left
+pub record Nears (machine : Machine) (capture : List Record) (old new : Cursor) (n left spent_old spent_new : ℕ) :
+    Type 0 where
+  pub passes : Passes machine capture old new spent_old spent_new
   pub some : 1 ≤ left
   pub sought : slice_get (ahead machine capture old.place) (n - 1)
       ≡ slice_get (ahead machine capture new.place) (left - 1)
   pub fewer : length (ahead machine capture new.place) ≤ length (ahead machine capture old.place)
-  pub spent : spent_new + owed machine capture new.place ≡ spent_old + owed machine capture old.place
 
 -- a step back answers the entry at that step, and the cursor stands there
 pub record StepsBack (machine : Machine) (capture : List Record) (old new : Cursor) (b : ℕ) (stop : Stop) :

@@ -8,6 +8,7 @@ use Rattle.cbpf_dbg.specs.declared.cursor.Walk.{Walk}
 use Rattle.cbpf_dbg.specs.declared.loaded.Loaded.{Loaded}
 use Rattle.cbpf_dbg.specs.Loaded.{machine_in, records_in, breakpoints_in}
 use Rattle.cbpf_dbg.specs.Breakpoints.{Breakpoints}
+use Rattle.cbpf_dbg.specs.Joined.{rest}
 use Rattle.cbpf_dbg.specs.Session.{hits, Keeps}
 use Rattle.cbpf_dbg.specs.Cursor.{Stands, AreLeft, Passes, before, owed}
 
@@ -21,17 +22,18 @@ Covers pauses machine breakpoints = (bytes : List ℕ) (wire : ℕ) (s : Registe
     → hits machine breakpoints bytes wire s ≡ true → pauses s ≡ true
 
 -- a run can go on over the records that are left
-pub record CanGoOn {A : Type 0} (l : Loaded A) (pauses : Registers → Bool) (w : Walk) (spent : ℕ) : Type 0 where
+pub record CanGoOn {A : Type 0} (l : Loaded A) (w : Walk) (spent : ℕ) : Type 0 where
   pub stands : Stands (machine_in l) (records_in l) w.cursor
   pub left : AreLeft (records_in l) w.cursor.place w.end w.left
-  pub covers : Covers pauses (machine_in l) (breakpoints_in l)
   pub spare : spent + owed (machine_in l) (records_in l) w.cursor.place + 2 * MAX_INSTRUCTIONS ≤ 2 ^ 128
 
--- a run goes on to an entry where it pauses, of which the record is the first that is left then, or to before a packet
+-- a run goes on to an entry where it pauses, of which the record is the first that is left then, or to before a packet;
+-- past no hit, if it pauses at each
 pub record GoesOn {A : Type 0} (l : Loaded A) (pauses : Registers → Bool) (old new : Walk) (spent_old spent_new : ℕ)
     (paused : Bool) : Type 0 where
-  pub passes : Passes (machine_in l) (records_in l) (breakpoints_in l) old.cursor new.cursor (before new.cursor.place)
-      spent_old spent_new
+  pub passes : Passes (machine_in l) (records_in l) old.cursor new.cursor spent_old spent_new
+  pub hits : Covers pauses (machine_in l) (breakpoints_in l) → rest (machine_in l) (records_in l) (breakpoints_in l)
+      old.cursor.place ≡ rest (machine_in l) (records_in l) (breakpoints_in l) (before new.cursor.place)
   pub left : AreLeft (records_in l) new.cursor.place new.end new.left
   pub same : new.end ≡ old.end
   pub entry : paused ≡ true → (0 < new.cursor.place.step) × (pauses new.cursor.state ≡ true)

@@ -7,7 +7,7 @@ ghost use Rattle.cbpf_dbg.specs.Commands.{PassesHits};
 ghost use Rattle.cbpf_dbg.specs.Joined.{rest};
 ghost use Rattle.cbpf_dbg.specs.Loaded.{machine_in, records_in, breakpoints_in};
 ghost use Rattle.cbpf_dbg.specs.Session.{IsInside};
-ghost use Rattle.cbpf_dbg.specs.Cursor.{Stands, Passes, before, Gives, run_from, turns_of, ComesTo};
+ghost use Rattle.cbpf_dbg.specs.Cursor.{Stands, Passes, Gives, run_from, turns_of, ComesTo};
 ghost use Rattle.cbpf_dbg.specs.Going.{CanGoOn, GoesOn, KeepsIn};
 
 use crate::cursor::{Cursor, Moved, Walk, stop_at};
@@ -25,7 +25,7 @@ pub(crate) fn run_records<P: Pause, A: Allocator>(
     pause: &P,
     walk: &mut Walk<'_>,
 ) -> bool
-    requires can { CanGoOn loaded.now (λ s. P.pauses pause.now s) walk.old meter.old }
+    requires can { CanGoOn loaded.now walk.old meter.old }
     requires before { walk.old.cursor.place.step ≡ 0 }
     ensures goes { GoesOn loaded.now (λ s. P.pauses pause.now s) walk.old walk.new meter.old meter.new result }
     ensures none { result ≡ false → walk.new.left ≡ [] }
@@ -60,7 +60,7 @@ fn run_kept<T: Trail, A: Allocator>(
     walk: &mut Walk<'_>,
     trail: &mut T,
 ) -> bool
-    requires can { CanGoOn loaded.now (is_watched loaded.now.watched.now) walk.old meter.old }
+    requires can { CanGoOn loaded.now walk.old meter.old }
     requires before { walk.old.cursor.place.step ≡ 0 }
     ensures goes { GoesOn loaded.now (is_watched loaded.now.watched.now) walk.old walk.new meter.old meter.new result }
     ensures none { result ≡ false → walk.new.left ≡ [] }
@@ -96,7 +96,7 @@ fn run_whole<T: Trail, A: Allocator>(
     walk: &mut Walk<'_>,
     trail: &mut T,
 ) -> bool
-    requires can { CanGoOn loaded.now (is_watched loaded.now.watched.now) walk.old meter.old }
+    requires can { CanGoOn loaded.now walk.old meter.old }
     requires before { walk.old.cursor.place.step ≡ 0 }
     requires empty { T.stands_for trail.old [] }
     ensures goes { GoesOn loaded.now (is_watched loaded.now.watched.now) walk.old walk.new meter.old meter.new result }
@@ -123,7 +123,7 @@ fn go_on_in_packet<T: Trail, A: Allocator>(
     walk: &mut Walk<'_>,
     trail: &mut T,
 ) -> bool
-    requires can { CanGoOn loaded.now (is_watched loaded.now.watched.now) walk.old meter.old }
+    requires can { CanGoOn loaded.now walk.old meter.old }
     requires keeps { KeepsIn (λ xs. T.stands_for trail.old xs) loaded.now walk.old.cursor.place }
     ensures goes { GoesOn loaded.now (is_watched loaded.now.watched.now) walk.old walk.new meter.old meter.new result }
     ensures keeps { result ≡ true → KeepsIn (λ xs. T.stands_for trail.new xs) loaded.now walk.new.cursor.place }
@@ -160,10 +160,10 @@ fn run_to_hit<T: Trail, A: Allocator>(
     walk: &mut Walk<'_>,
     trail: &mut T,
 ) -> Option<Stop>
-    requires can { CanGoOn loaded.now (is_watched loaded.now.watched.now) walk.old meter.old }
+    requires can { CanGoOn loaded.now walk.old meter.old }
     requires keeps { KeepsIn (λ xs. T.stands_for trail.old xs) loaded.now walk.old.cursor.place }
-    ensures passes { Passes (machine_in loaded.now) (records_in loaded.now) (breakpoints_in loaded.now)
-        walk.old.cursor walk.new.cursor (before walk.new.cursor.place) meter.old meter.new }
+    ensures passes { Passes (machine_in loaded.now) (records_in loaded.now) walk.old.cursor walk.new.cursor
+        meter.old meter.new }
     ensures comes { ComesTo (machine_in loaded.now) (records_in loaded.now) (breakpoints_in loaded.now) walk.old.end
         walk.old.cursor result walk.new.cursor }
     ensures start { OnSome result (StartsAt (records_in loaded.now) walk.new.cursor.place.packet walk.new.cursor.start) }

@@ -11,21 +11,20 @@ ghost use Rattle.cbpf_dbg.specs.Cursor.{Stands, AllLeft, Nears, owed};
 ghost use Rattle.cbpf_dbg.specs.Cursor.{Gives, step_from, turns_of, StepsBack, CannotStepBack};
 ghost use Rattle.cbpf_machine.specs.Trail.{most_turns_back};
 
-use crate::cursor::{Cursor, Moved, advance, stop_at};
+use crate::cursor::{Cursor, Moved, Walk, advance, stop_at};
 use crate::loaded::Loaded;
-use cbpf_machine::{Meter, Packet, Trail, run_packet};
+use crate::run::run_records;
+use cbpf_machine::{Meter, Never, Packet, Trail};
 use cbpf_reply::{RunReply, Stop, Why};
 use pcap_classic::Records;
 use std::alloc::Allocator;
 
 /// Passes over whole packets while the entry that is sought, the `n`-th ahead, is in a later one: how far ahead it is
 /// then.
-// It isn't inlined, so that the processor's registers are for its loop alone.
-#[inline(never)]
-fn skip_packets<A: Allocator>(
+fn skip_packets<'a, A: Allocator>(
     meter: &mut Meter,
-    loaded: &Loaded<'_, A>,
-    records: &mut Records<'_>,
+    loaded: &Loaded<'a, A>,
+    records: &mut Records<'a>,
     cursor: &mut Cursor,
     n: u64,
 ) -> u64
@@ -41,19 +40,27 @@ fn skip_packets<A: Allocator>(
     ensures before { cursor.new.place.step ≡ 0 }
 {
     let longest = u64::from(loaded.program.len());
+    let past = loaded.capture.count() + 1;
     let mut left = n;
     'skip: while left > longest {
         let Some(here) = records.first() else {
             return left;
         };
-        let packet = Packet {
-            bytes: here.bytes,
-            wire: here.wire,
+        // So many packets have fewer entries than are left.
+        let packets = (left - 1) / longest;
+        let end = cursor.place.packet.saturating_add(packets).min(past);
+        let mut walk = Walk {
+            cursor: *cursor,
+            left: loaded
+                .capture
+                .records_at(cursor.place.packet, here.start, end),
+            end,
         };
         let before = meter.spent();
-        cursor.finish_packet(run_packet(meter, loaded.program, packet, loaded.values));
+        let _paused = run_records(meter, loaded, &Never, &mut walk);
         left -= (meter.spent() - before) as u64;
-        records.pass(&here);
+        *cursor = walk.cursor;
+        *records = loaded.capture.records(end, past);
     }
     left
 }

@@ -32,7 +32,6 @@ impl<'a, A: Allocator> Model for Stops<'a, A> {
     ghost use Rattle.cbpf_reply.specs.declared.reply.Stop.{Stop};
     ghost use Rattle.cbpf_dbg.specs.Joined.{rest};
     ghost use Rattle.cbpf_dbg.specs.Loaded.{machine_in, records_in, breakpoints_in};
-    ghost use Rattle.cbpf_machine.specs.Follow.{is_watched};
     ghost use Rattle.cbpf_dbg.specs.Going.{CanGoOn};
 
     ghost Value = { List Stop };
@@ -40,7 +39,7 @@ impl<'a, A: Allocator> Model for Stops<'a, A> {
     ghost view = { λ s. rest (machine_in s.loaded) (records_in s.loaded) (breakpoints_in s.loaded)
         s.walk.cursor.place };
 
-    ghost invariant = { λ s. CanGoOn s.loaded (is_watched s.loaded.watched.now) s.walk s.meter
+    ghost invariant = { λ s. CanGoOn s.loaded s.walk s.meter
         × (s.walk.end ≡ length (records_in s.loaded) + 1) };
 }
 
@@ -50,7 +49,7 @@ fn go_on_in_packet<A: Allocator>(
     loaded: &Loaded<'_, A>,
     walk: &mut Walk<'_>,
 ) -> bool
-    requires { CanGoOn loaded.now (is_watched loaded.now.watched.now) walk.old meter.old }
+    requires { CanGoOn loaded.now walk.old meter.old }
     ensures { GoesOn loaded.now (is_watched loaded.now.watched.now) walk.old walk.new meter.old meter.new result }
 {
     if walk.cursor.place.step == 0 {
@@ -84,9 +83,9 @@ fn next_stop<A: Allocator>(
     loaded: &Loaded<'_, A>,
     walk: &mut Walk<'_>,
 ) -> Option<Stop>
-    requires can { CanGoOn loaded.now (is_watched loaded.now.watched.now) walk.old meter.old }
+    requires can { CanGoOn loaded.now walk.old meter.old }
     requires all { walk.old.end ≡ length (records_in loaded.now) + 1 }
-    ensures can { CanGoOn loaded.now (is_watched loaded.now.watched.now) walk.new meter.new }
+    ensures can { CanGoOn loaded.now walk.new meter.new }
     ensures all { walk.new.end ≡ walk.old.end }
     ensures next { YieldsFirst
         (λ (v : Walk). rest (machine_in loaded.now) (records_in loaded.now) (breakpoints_in loaded.now) v.cursor.place)

@@ -25,7 +25,7 @@ apply-requires-clause-steps g c = λ n e.
     c.requires.can.stands here (g.T.Trail.kept c.args.trail.now)
     (g.met.T.Trail.as_long c.args.trail.now _ (c.requires.keeps _ here)) in
     let fit = steps_fit _ _ _ (record_of c.in-Some.here)
-    c.requires.can.stands here _ _ c.requires.can.covers (g.T.Trail.kept c.args.trail.now) c.follow-followed.result c.follow-followed.new.s k
+    c.requires.can.stands here _ (g.T.Trail.kept c.args.trail.now) c.follow-followed.result c.follow-followed.new.s k
     c.follow-followed.ensures.follows n e in
     omega (arith, fit)
 
@@ -37,7 +37,7 @@ returns-in-Entry-clause-goes g c =
     c.requires.can.stands here (g.T.Trail.kept c.args.trail.now)
     (g.met.T.Trail.as_long c.args.trail.now _ (c.requires.keeps _ here)) in
     goes_to_entry _ _ (record_of c.in-Some.here)
-    c.requires.can.stands here _ c.requires.can.covers (g.T.Trail.kept c.args.trail.now) c.follow-followed.result c.follow-followed.new.s
+    c.requires.can.stands here _ (g.T.Trail.kept c.args.trail.now) c.follow-followed.result c.follow-followed.new.s
     c.apply.new.self c.args.meter.now c.follow-followed.new.meter c.args.walk.now.left _ _ c.requires.can.left k c.in-Entry.ensures.moved
     c.in-Entry.ensures.cursor c.follow-followed.ensures.follows
     (omega (arith, c.follow-followed.ensures.turns, k, c.if-walk-eq0.false)) is
@@ -60,7 +60,7 @@ returns-clause-goes g c =
     c.requires.can.stands here (g.T.Trail.kept c.args.trail.now)
     (g.met.T.Trail.as_long c.args.trail.now _ (c.requires.keeps _ here)) in
     goes_out _ _ (record_of c.in-Some.here)
-    c.requires.can.stands here _ c.requires.can.covers (g.T.Trail.kept c.args.trail.now) c.follow-followed.result c.follow-followed.new.s
+    c.requires.can.stands here _ (g.T.Trail.kept c.args.trail.now) c.follow-followed.result c.follow-followed.new.s
     c.apply.new.self c.args.meter.now c.follow-followed.new.meter c.args.walk.now.left _ _ c.requires.can.left k
     c.in_default-apply.ensures.moved c.in_default-apply.ensures.cursor c.follow-followed.ensures.follows
     (omega (arith, c.follow-followed.ensures.turns, k, c.if-walk-eq0.false)) c.pass.ensures

@@ -19,8 +19,8 @@ returns-in-Watched-clause-goes g c =
     let here = first_left _ _ _ _ _ _ is so.left in
     let step = so.out refl in
     let sum : c.go.walk.cursor.place.step + c.in-Watched.entries ≡ c.in-Watched.entries = omega (arith, step) in
-    goes_more _ _ _ _ _ _ _ _ _ _ so (goes_to_entry _ _ (record_of c.in-Some.here)
-    so.passes.stands here _ c.requires.can.covers 0 c.follow_packet.result c.follow_packet.new.s _ c.go.meter
+    goes_more _ _ _ _ _ _ _ _ _ so (goes_to_entry _ _ (record_of c.in-Some.here)
+    so.passes.stands here _ 0 c.follow_packet.result c.follow_packet.new.s _ c.go.meter
     c.follow_packet.new.meter c.go.walk.left _ _ so.left (omega (arith, step)) (rw c.in-Watched.is refl)
     (rw (c.in-Watched.is, sum) refl) c.follow_packet.ensures.follows
     (omega (arith, c.follow_packet.ensures.turns)) is)
@@ -29,8 +29,8 @@ pub go-preserved : goal.go-preserved
 go-preserved g c =
     let so = c.go.invariant in
     let here = first_left _ _ _ _ _ _ c.pass.ensures so.left in
-    goes_more _ _ _ _ _ _ _ _ _ _ so (goes_out _ _ (record_of c.in-Some.here)
-    so.passes.stands here _ c.requires.can.covers 0 c.follow_packet.result c.follow_packet.new.s c.finish_whole_packet.new.self c.go.meter
+    goes_more _ _ _ _ _ _ _ _ _ so (goes_out _ _ (record_of c.in-Some.here)
+    so.passes.stands here _ 0 c.follow_packet.result c.follow_packet.new.s c.finish_whole_packet.new.self c.go.meter
     c.follow_packet.new.meter c.go.walk.left _ _ so.left (omega (arith, so.out refl)) (rw c.in-Ended.is refl)
     (c.finish_whole_packet.ensures ∙ rw c.in-Ended.is refl) c.follow_packet.ensures.follows
     (omega (arith, c.follow_packet.ensures.turns)) c.pass.ensures)

@@ -1,4 +1,4 @@
-use Rattle.std.proofs.Common.{arith, ◌-◌, ◌∙◌}
+use Rattle.std.proofs.Common.{arith, ◌-◌}
 use Rattle.std.proofs.lemmas.Option.{slice_get_within}
 use Rattle.cbpf_dbg.specs.Loaded.{machine_in, records_in}
 use Rattle.cbpf_dbg.proofs.LeftLemmas.{is_end, end_reckoned}
@@ -20,7 +20,6 @@ run_to_hit-stop-requires-clause-can g c =
             let at = c.requires.stands.at begun in
             omega (arith, slice_get_within (records_in c.args.loaded.now) (c.args.cursor.now.place.packet - 1) at.0 at.1));
       };
-      covers = λ bytes wire s inside hit. c.args.loaded.now.watches bytes wire s inside ∙ hit;
       spare = omega (arith, most, c.requires.early);
     }
 

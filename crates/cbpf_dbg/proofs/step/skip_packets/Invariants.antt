@@ -1,4 +1,4 @@
-use Rattle.std.proofs.Common.{◌≡◌, length}
+use Rattle.std.proofs.Common.{◌≡◌, ◌+◌, ◌-◌, length}
 use Rattle.cbpf_dbg.specs.Loaded.{machine_in, records_in}
 use Rattle.cbpf_dbg.specs.Cursor.{AllLeft, Nears}
 use Rattle.cbpf_dbg.proofs.step.skip_packets.Given as goal
@@ -12,4 +12,4 @@ invariant-skip g l =
     }
 
 abbrev pub decreases-skip : goal.decreases-skip
-decreases-skip g l = length l.records
+decreases-skip g l = length (records_in l.loaded) + 1 - l.cursor.place.packet

@@ -39,7 +39,7 @@ advance-requires-clause-here g c = first_left _ _ _ _ _ _ (first_of _ _ c.in-Som
 pub advance-requires-clause-spare : goal.advance-requires-clause-spare
 advance-requires-clause-spare g c =
     let most = owed_bound (machine_in c.args.loaded.now) (records_in c.args.loaded.now) c.args.cursor.now.place c.requires.stands.sound c.args.loaded.now.few in
-    omega (arith, most, c.requires.early, c.go.invariant.nears.spent)
+    omega (arith, most, c.requires.early, c.go.invariant.nears.passes.spent)
 
 pub push-requires : goal.push-requires
 push-requires g c =
@@ -69,18 +69,18 @@ returns-then-left-eq1-clause-steps g c = λ breakpoints.
     (slice_get-first (entry_here (machine_in c.args.loaded.now) m.0 c.advance.new.cursor) _ c.go.left (omega arith)) in
     step_stopped (machine_in c.args.loaded.now) c.args.loaded.now.capture.now breakpoints c.args.n c.args.cursor.now
     (record c.advance.new.cursor { start = c.in-Some.here.start }) m.0 c.stop_at.result (c.go.invariant.nears.sought ∙ here) (c.stop_at.ensures m.0)
-    (c.in-Entry.ensures.origin ∙ c.go.invariant.nears.origin)
+    (c.in-Entry.ensures.origin ∙ c.go.invariant.nears.passes.origin)
 
 pub returns-then-left-eq1-clause-turns : goal.returns-then-left-eq1-clause-turns
 returns-then-left-eq1-clause-turns g c = λ breakpoints.
     let m = c.in-Entry.ensures.moves in
     let steps = returns-then-left-eq1-clause-steps g c breakpoints in
-    let order = not_before_step c.args.cursor.now.place c.go.cursor.place c.advance.new.cursor.place c.go.invariant.nears.order m.2
+    let order = not_before_step c.args.cursor.now.place c.go.cursor.place c.advance.new.cursor.place c.go.invariant.nears.passes.order m.2
     (omega (arith, m.3)) in
     let spent : c.advance.new.meter
     + owed (machine_in c.args.loaded.now) (records_in c.args.loaded.now) c.advance.new.cursor.place
     ≡ c.args.meter.now + owed (machine_in c.args.loaded.now) (records_in c.args.loaded.now) c.args.cursor.now.place =
-    omega (arith, ap length m.4, m.3, c.in-Entry.ensures.turns, c.go.invariant.nears.spent) in
+    omega (arith, ap length m.4, m.3, c.in-Entry.ensures.turns, c.go.invariant.nears.passes.spent) in
     rw (turns-reply _ _ _ _ _ _ _ steps) (spent_between _ _ c.args.cursor.now c.advance.new.cursor
     c.args.meter.now c.advance.new.meter c.requires.stands c.in-Entry.ensures.stands order spent)
 
@@ -101,7 +101,7 @@ go-preserved-in-Entry g c =
 pub skip_packets-left-requires-in-Packet-clause-records : goal.skip_packets-left-requires-in-Packet-clause-records
 skip_packets-left-requires-in-Packet-clause-records g c =
     rw c.in-Packet.ensures.moves.0 (left_past _ _ _ _ _ _ c.pass.ensures c.go.invariant.records
-    (omega (arith, c.go.invariant.nears.stands.from_one, c.go.invariant.nears.stands.ordered)))
+    (omega (arith, c.go.invariant.nears.passes.stands.from_one, c.go.invariant.nears.passes.stands.ordered)))
 
 pub skip_packets-left-requires-in-Packet-clause-spare : goal.skip_packets-left-requires-in-Packet-clause-spare
 skip_packets-left-requires-in-Packet-clause-spare g c =
@@ -109,7 +109,7 @@ skip_packets-left-requires-in-Packet-clause-spare g c =
     let on = nears_out _ _ c.go.cursor c.advance.new.cursor c.go.left c.go.meter
     c.advance.new.meter moved.stands moved.moves moved.origin c.go.invariant.nears.some moved.turns in
     let most = owed_bound (machine_in c.args.loaded.now) (records_in c.args.loaded.now) c.args.cursor.now.place c.requires.stands.sound c.args.loaded.now.few in
-    omega (arith, most, c.requires.early, c.go.invariant.nears.spent, on.spent)
+    omega (arith, most, c.requires.early, c.go.invariant.nears.passes.spent, on.passes.spent)
 
 pub go-preserved : goal.go-preserved
 go-preserved g c =
@@ -127,15 +127,15 @@ go-preserved g c =
 pub returns-clause-steps : goal.returns-clause-steps
 returns-clause-steps g c = λ breakpoints.
     let so = c.go.invariant.nears in
-    let m = nothing_left _ _ _ _ so.stands c.go.invariant.records (none_of _ c.in_default.ensures) in
+    let m = nothing_left _ _ _ _ so.passes.stands c.go.invariant.records (none_of _ c.in_default.ensures) in
     let none : slice_get (ahead (machine_in c.args.loaded.now) (records_in c.args.loaded.now) c.go.cursor.place)
     (c.go.left - 1) ≡ None = rw m.1 refl in
     (step_finished (machine_in c.args.loaded.now) c.args.loaded.now.capture.now breakpoints c.args.n c.args.cursor.now
-    c.go.cursor c.before-2.result (so.sought ∙ none) so.stands so.origin m.0 c.before-2.ensures.place c.before-2.ensures.origin)
+    c.go.cursor c.before-2.result (so.sought ∙ none) so.passes.stands so.passes.origin m.0 c.before-2.ensures.place c.before-2.ensures.origin)
 
 pub returns-clause-turns : goal.returns-clause-turns
 returns-clause-turns g c = λ breakpoints.
-    let m = nothing_left _ _ _ _ c.go.invariant.nears.stands c.go.invariant.records (none_of _ c.in_default.ensures) in
+    let m = nothing_left _ _ _ _ c.go.invariant.nears.passes.stands c.go.invariant.records (none_of _ c.in_default.ensures) in
     let steps = returns-clause-steps g c breakpoints in
     let all = owed-turns _ _ c.args.cursor.now c.requires.stands in
-    rw (turns-reply _ _ _ _ _ _ _ steps) (omega (arith, all, ap length m.1, m.2, c.go.invariant.nears.spent))
+    rw (turns-reply _ _ _ _ _ _ _ steps) (omega (arith, all, ap length m.1, m.2, c.go.invariant.nears.passes.spent))

@@ -23,7 +23,7 @@ apply-requires-clause-steps g c = λ n e.
     let entry = entry_at_place _ _ _ (record_of c.in-Some.here)
     c.requires.stands here begun in
     let fit = steps_fit _ _ _ (record_of c.in-Some.here)
-    c.requires.stands here _ _ c.requires.covers _ c.follow_on-followed.result c.follow_on-followed.new.s refl
+    c.requires.stands here _ _ c.follow_on-followed.result c.follow_on-followed.new.s refl
     (c.follow_on-followed.ensures.follows _ begun entry) n e in
     omega (arith, fit)
 
@@ -35,7 +35,7 @@ returns-in-Entry g c =
     let entry = entry_at_place _ _ _ (record_of c.in-Some.here)
     c.requires.stands here begun in
     goes_to_entry _ _ (record_of c.in-Some.here)
-    c.requires.stands here _ c.requires.covers _ c.follow_on-followed.result c.follow_on-followed.new.s
+    c.requires.stands here _ _ c.follow_on-followed.result c.follow_on-followed.new.s
     c.apply.new.self c.args.meter.now c.follow_on-followed.new.meter c.args.walk.now.left _ _ c.requires.left refl c.in-Entry.ensures.moved
     c.in-Entry.ensures.cursor (c.follow_on-followed.ensures.follows _ begun entry)
     (omega (arith, c.follow_on-followed.ensures.turns _ begun entry, begun)) is
@@ -47,7 +47,7 @@ returns g c =
     let entry = entry_at_place _ _ _ (record_of c.in-Some.here)
     c.requires.stands here begun in
     goes_out _ _ (record_of c.in-Some.here)
-    c.requires.stands here _ c.requires.covers _ c.follow_on-followed.result c.follow_on-followed.new.s
+    c.requires.stands here _ _ c.follow_on-followed.result c.follow_on-followed.new.s
     c.apply.new.self c.args.meter.now c.follow_on-followed.new.meter c.args.walk.now.left _ _ c.requires.left refl
     c.in_default-apply.ensures.moved c.in_default-apply.ensures.cursor
     (c.follow_on-followed.ensures.follows _ begun entry)

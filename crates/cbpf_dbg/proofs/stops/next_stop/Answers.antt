@@ -1,6 +1,6 @@
 use Rattle.std.proofs.Common.{◌∙◌, refl}
 use Rattle.cbpf_dbg.specs.Loaded.{breakpoints_in}
-use Rattle.cbpf_dbg.proofs.GoingLemmas.{at_hit, goes_passed}
+use Rattle.cbpf_dbg.proofs.GoingLemmas.{at_hit, hits_out, watches_hits}
 use Rattle.cbpf_dbg.proofs.JoinedLemmas.{rest-none}
 use Rattle.cbpf_dbg.proofs.LeftLemmas.{nothing_left}
 use Rattle.cbpf_dbg.proofs.stops.next_stop.Goals as goal
@@ -14,23 +14,24 @@ returns-then-not-run_records-clause-next g c =
     (c.if-not-run_records.ensures.none refl) in
     let none = rest-none _ _ (breakpoints_in c.args.loaded.now)
     c.run_records.new.walk.cursor.place ended.1 in
-    ((goes_passed _ _ _ _ _ _ left).hits ∙ (goes_passed _ _ _ _ _ _ ran).hits ∙ none, none)
+    let covers = watches_hits c.args.loaded.now in
+    (hits_out _ _ _ _ _ _ left covers ∙ hits_out _ _ _ _ _ _ ran covers ∙ none, none)
 
 pub stop_at-requires : goal.stop_at-requires
 stop_at-requires g c = elim c.if-not-go_on_in_packet.branch [
   | then-not-go_on_in_packet+else-not-run_records w ↦
-      rw w.walk-is (at_hit _ _ _ _ _ _ w.if-not-run_records.ensures.goes (w.if-not-run_records.ensures.goes.entry refl).1).1
+      rw w.walk-is (at_hit _ _ _ _ _ w.if-not-run_records.ensures.goes).1
   | else-not-go_on_in_packet w ↦
-      rw w.walk-is (at_hit _ _ _ _ _ _ w.if-not-go_on_in_packet.ensures (w.if-not-go_on_in_packet.ensures.entry refl).1).1
+      rw w.walk-is (at_hit _ _ _ _ _ w.if-not-go_on_in_packet.ensures).1
 ]
 
 pub returns-clause-next : goal.returns-clause-next
 returns-clause-next g c = elim c.if-not-go_on_in_packet.branch [
   | then-not-go_on_in_packet+else-not-run_records w ↦
-      let hit = at_hit _ _ _ _ _ _ w.if-not-run_records.ensures.goes (w.if-not-run_records.ensures.goes.entry refl).1 in
+      let hit = at_hit _ _ _ _ _ w.if-not-run_records.ensures.goes in
       rw (c.stop_at.ensures hit.0, w.walk-is)
-      ((goes_passed _ _ _ _ _ _ w.if-not-go_on_in_packet.ensures).hits ∙ hit.2)
+      (hits_out _ _ _ _ _ _ w.if-not-go_on_in_packet.ensures (watches_hits c.args.loaded.now) ∙ hit.2)
   | else-not-go_on_in_packet w ↦
-      let hit = at_hit _ _ _ _ _ _ w.if-not-go_on_in_packet.ensures (w.if-not-go_on_in_packet.ensures.entry refl).1 in
+      let hit = at_hit _ _ _ _ _ w.if-not-go_on_in_packet.ensures in
       rw (c.stop_at.ensures hit.0, w.walk-is) hit.2
 ]

@@ -1,7 +1,7 @@
 use Rattle.cbpf_dbg.specs.Commands.{stops}
 use Rattle.cbpf_machine.specs.Machine.{machine_of}
 use Rattle.cbpf_dbg.proofs.WholeLemmas.{Holds}
-use Rattle.std.proofs.Common.{arith, refl, rules, Some, ◌∙◌}
+use Rattle.std.proofs.Common.{arith, refl, rules, Some}
 use Rattle.cbpf_dbg.specs.Session.{Fits, IsKnown}
 use Rattle.cbpf_dbg.proofs.LeftLemmas.{all_left}
 use Rattle.cbpf_dbg.proofs.TurnLemmas.{few_hits, owed_bound}
@@ -42,7 +42,6 @@ invariant_of-result g c =
         stands = fits.0;
         left = rw c.count-end.ensures.value
             (all_left _ _ _ _ fits.0 (rw c.count-end.ensures.value at c.records_at-left.ensures));
-        covers = λ bytes wire s inside hit. known.1 bytes wire s inside ∙ hit;
         spare = omega (arith, few, c.new.ensures);
       },
       omega (arith, c.count-end.ensures.value),
