@@ -30,7 +30,7 @@ is_first (y ∷ xs) (suc i) (suc e) x h =
     let rest = is_first xs i e x h in
     record { before = omega (arith, rest.before); is = rest.is; left = rw add-one (rw add-one at rest.left) }
 
--- those that are left up to an end, which may be far behind the last, and before the first
+-- the records left before an end, which may be far behind the last, and before the first
 pub left_of : {X : Type 0} (xs : List X) (from end : ℕ) → 1 ≤ from
     → drop (min from (min end (length xs + 1)) - 1) (take (min end (length xs + 1) - 1) xs)
     ≡ drop (from - 1) (take (end - 1) xs)
