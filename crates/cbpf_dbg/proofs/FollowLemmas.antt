@@ -21,7 +21,7 @@ use Rattle.cbpf_dbg.specs.declared.cursor.Moved.TheVariants as moved
 use Rattle.cbpf_dbg.specs.Breakpoints.{Breakpoints}
 use Rattle.cbpf_dbg.specs.Joined.{ahead, rest, entries_from, joined_from}
 use Rattle.cbpf_dbg.specs.Session.{hits}
-use Rattle.cbpf_dbg.specs.Cursor.{AreLeft, Stands, followed, moved_by, owed, passed}
+use Rattle.cbpf_dbg.specs.Cursor.{AreLeft, IsEnd, Stands, followed, moved_by, owed, passed}
 use Rattle.cbpf_dbg.specs.Going.{Covers, GoesOn}
 use Rattle.cbpf_dbg.proofs.JoinedLemmas.{place_at, entry, ahead-in, ahead-entry, ahead-leave, rest-same, rest-pass}
 use Rattle.cbpf_dbg.proofs.LeftLemmas.{left_here, left_past}
@@ -158,12 +158,13 @@ module _ {A : Type 0} (l : Loaded A) (w : Cursor) (r : Record) (h : Stands (mach
 
   -- where the packet was followed from its k-th entry on
   pub goes_to_entry : (k : ℕ) (f : Followed) (s : Registers) (v : Cursor) (before after : ℕ)
-      (left others : List Record) (end : ℕ) → AreLeft (records_in l) w.place end left → k ≡ w.place.step → moved.Entry ≡ moved_by f
+      (left others : List Record) (end : ℕ) → AreLeft (records_in l) w.place left
+      → IsEnd (records_in l) w.place end → w.place.packet < end → k ≡ w.place.step → moved.Entry ≡ moved_by f
       → v ≡ followed (record w { state = s }) f → Follows pauses entries (outcome (machine_in l) r.bytes r.wire) k w.state s f
       → after + 1 ≡ before + turns_to entries k f + min k 1 → left ≡ r ∷ others
       → GoesOn l pauses (record { cursor = w; left = left; end = end }) (record { cursor = v; left = left; end = end }) before after true
-  goes_to_entry k (Ended o) s v before after left others end there step moves e f turns is = absurd cc
-  goes_to_entry k (Watched n) s v before after left others end there step moves e f turns is =
+  goes_to_entry k (Ended o) s v before after left others end there ends early step moves e f turns is = absurd cc
+  goes_to_entry k (Watched n) s v before after left others end there ends early step moves e f turns is =
       let on : Follows pauses entries (outcome (machine_in l) r.bytes r.wire) w.place.step w.state s (Watched n) = rw step at f in
       rw e (record {
         passes = record {
@@ -173,19 +174,21 @@ module _ {A : Type 0} (l : Loaded A) (w : Cursor) (r : Record) (h : Stands (mach
           spent = omega (arith, on_owed _ _ w r h at pauses n s on, turns, step);
         };
         hits = λ covers. on_hits _ _ w r h at _ pauses covers n s on;
-        left = left_here (records_in l) w.place end left r others is there (moved_on w n s).place refl;
+        left = left_here (records_in l) w.place (moved_on w n s).place left there refl;
+        ends = record { within = ends.within; most = ends.most; later = λ _. early };
         same = refl;
         entry = λ _. (omega (arith, on.0), on.3);
         out = λ (z : true ≡ false). absurd cc;
       })
 
   pub goes_out : (k : ℕ) (f : Followed) (s : Registers) (v : Cursor) (before after : ℕ)
-      (left others : List Record) (end : ℕ) → AreLeft (records_in l) w.place end left → k ≡ w.place.step → moved.Packet ≡ moved_by f
+      (left others : List Record) (end : ℕ) → AreLeft (records_in l) w.place left
+      → IsEnd (records_in l) w.place end → w.place.packet < end → k ≡ w.place.step → moved.Packet ≡ moved_by f
       → v ≡ followed (record w { state = s }) f → Follows pauses entries (outcome (machine_in l) r.bytes r.wire) k w.state s f
       → after + 1 ≡ before + turns_to entries k f + min k 1 → left ≡ r ∷ others
       → GoesOn l pauses (record { cursor = w; left = left; end = end }) (record { cursor = v; left = others; end = end }) before after false
-  goes_out k (Watched n) s v before after left others end there step moves e f turns is = absurd cc
-  goes_out k (Ended o) s v before after left others end there step moves e f turns is =
+  goes_out k (Watched n) s v before after left others end there ends early step moves e f turns is = absurd cc
+  goes_out k (Ended o) s v before after left others end there ends early step moves e f turns is =
       let on : Follows pauses entries (outcome (machine_in l) r.bytes r.wire) w.place.step w.state s (Ended o) = rw step at f in
       let leave = ahead-leave (machine_in l) (records_in l) w.place.packet (length entries) r (from_one _ _ w r h at) at (omega arith) in
       let same : passed w (outcome (machine_in l) r.bytes r.wire) ≡ passed (record w { state = s }) o =
@@ -198,7 +201,8 @@ module _ {A : Type 0} (l : Loaded A) (w : Cursor) (r : Record) (h : Stands (mach
           spent = omega (arith, ahead_long _ _ w r h at w.place.step (step_within _ _ w r h at), ap length leave, turns, step, (step_within _ _ w r h at));
         };
         hits = λ covers. end_hits _ _ w r h at _ pauses covers on.0;
-        left = left_past (records_in l) w.place end left r others is there (from_one _ _ w r h at);
+        left = left_past (records_in l) w.place left r others is there (from_one _ _ w r h at);
+        ends = record { within = ends.within; most = omega (arith, early); later = λ (z : 0 < 0). absurd (omega arith) };
         same = refl;
         entry = λ (z : false ≡ true). absurd cc;
         out = λ _. refl;

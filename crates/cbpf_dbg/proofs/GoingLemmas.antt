@@ -69,6 +69,7 @@ module _ {A : Type 0} (l : Loaded A) where
         passes = passes_more _ _ _ _ _ _ _ _ h.passes then_.passes;
         hits = λ covers. hits_out pauses old mid m n h covers ∙ then_.hits covers;
         left = then_.left;
+        ends = then_.ends;
         same = then_.same ∙ h.same;
         entry = then_.entry;
         out = then_.out;

@@ -2,9 +2,8 @@
 use Rattle.std.proofs.Common.{◌≡◌, ℕ, zero, suc, ◌+◌, ◌-◌, ◌*◌, ◌<◌, ◌≤◌, ◌++◌, List, [], length, length-append, arith}
 use Rattle.std.proofs.Common.{append_assoc, sym, ap, ◌∙◌, refl, inl, inr}
 use Rattle.std.proofs.Common.{◌^◌, ◌/◌, Bool, true, false}
-use Rattle.std.specs.Prelude.{Some, slice_get, min}
+use Rattle.std.specs.Prelude.{slice_get, min}
 use Rattle.std.proofs.lemmas.Nat.{le-div, mul-le}
-use Rattle.std.proofs.lemmas.Option.{slice_get_within}
 use Rattle.std.proofs.Math.Nat.{div-mul-le_self}
 use Rattle.cbpf_machine.specs.Machine.{Machine}
 use Rattle.cbpf_machine.specs.Registers.{zero_state}
@@ -23,7 +22,7 @@ use Rattle.cbpf_dbg.specs.Going.{GoesOn}
 use Rattle.cbpf_dbg.specs.Joined.{Entry, ahead, packet_entries}
 use Rattle.cbpf_dbg.specs.Cursor.{Stands, Moves, Nears, Passes, entry_here}
 use Rattle.cbpf_dbg.proofs.JoinedLemmas.{place_at, ahead-whole}
-use Rattle.cbpf_dbg.proofs.LeftLemmas.{none_left}
+use Rattle.cbpf_dbg.proofs.LeftLemmas.{at_end}
 use Rattle.cbpf_dbg.proofs.FollowLemmas.{there}
 use Rattle.cbpf_dbg.proofs.GoingLemmas.{passes_more}
 use Rattle.cbpf_dbg.proofs.RunLemmas.{slice_get-past, slice_get-later}
@@ -152,24 +151,23 @@ end_of_packets p left longest {sum} {past} {end} pos more before few is_sum is_e
     )
 
 -- a run without a pause goes to the end of such packets
-pub goes_past : {A : Type 0} (l : Loaded A) (old new : Walk) (r : Record) (left before after : ℕ) (paused : Bool)
+pub goes_past : {A : Type 0} (l : Loaded A) (old new : Walk) (left before after : ℕ) (paused : Bool)
     {past sum : ℕ} → Stands (machine_in l) (records_in l) old.cursor → old.cursor.place.step ≡ 0
-    → slice_get (records_in l) (old.cursor.place.packet - 1) ≡ Some r → length l.program.now < left
-    → past ≡ length (records_in l) + 1
+    → length l.program.now < left → old.cursor.place.packet < past → past ≡ length (records_in l) + 1
     → sum ≡ min (old.cursor.place.packet + (left - 1) / length l.program.now) (2 ^ 64 - 1) → old.end ≡ min sum past
-    → GoesOn l (λ s. false) old new before after paused → (paused ≡ false → new.left ≡ [])
+    → GoesOn l (λ s. false) old new before after paused → (paused ≡ false → new.cursor.place.packet ≡ new.end)
     → (old.cursor.place.packet < old.end) × (new.cursor.place ≡ place_at old.end 0) × (before ≤ after)
     × (after - before < left)
     × Nears (machine_in l) (records_in l) old.cursor new.cursor left (left - (after - before)) before after
-goes_past l old new r left before after true stands step at more is_past is_sum is_end h none =
+goes_past l old new left before after true stands step more early is_past is_sum is_end h none =
     let never = (h.entry refl).1 in absurd cc
-goes_past l old new r left before after false stands step at more is_past is_sum is_end h none =
+goes_past l old new left before after false stands step more early is_past is_sum is_end h none =
     let p : ℕ = old.cursor.place.packet in
     let one : 1 ≤ p = omega (arith, stands.from_one, stands.ordered) in
-    let ends = end_of_packets p left (length l.program.now) (sound_some _ l.sound) more
-    (omega (arith, slice_get_within (records_in l) (p - 1) r at, one, is_past)) (omega (arith, l.few, is_past)) is_sum is_end in
+    let ends = end_of_packets p left (length l.program.now) (sound_some _ l.sound) more early
+    (omega (arith, l.few, is_past)) is_sum is_end in
     let to : new.cursor.place ≡ place_at old.end 0 =
-    rw h.same at (none_left _ _ new.cursor new.end new.left h.passes.stands (none refl) h.left) in
+    rw h.same at (at_end _ _ _ h.ends (none refl)) in
     let e : old.end ≡ old.end - p + p = omega (arith, ends.0) in
     let past = nears_past _ _ old.cursor new.cursor left (old.end - p) before after h.passes step
     (to ∙ ap (λ q. place_at q 0) e) ends.1 one in

@@ -1,5 +1,5 @@
 -- A cursor over the entries of a capture: it is a matter of this crate alone, and no public clause names it.
-use Rattle.std.specs.Prelude.{◌≡◌, ℕ, ◌+◌, ◌-◌, ◌≤◌, ◌<◌, List, ◌∷◌, length, slice_get, take, drop, Option, Some, None}
+use Rattle.std.specs.Prelude.{◌≡◌, ℕ, ◌+◌, ◌-◌, ◌≤◌, ◌<◌, List, ◌∷◌, length, slice_get, drop, Option, Some, None}
 use Rattle.std.specs.Prelude.{min, ◌⊎◌, ◌^◌}
 use Rattle.cbpf_code.specs.Sound.{IsSound}
 use Rattle.cbpf_machine.specs.Registers.{Registers, zero_state}
@@ -132,14 +132,9 @@ pub record IsEnd (capture : List Record) (place : Place) (end : ℕ) : Type 0 wh
   pub most : place.packet ≤ end
   pub later : 0 < place.step → place.packet < end
 
--- the records from a place's packet on are left, up to an end
-pub record AreLeft (capture : List Record) (place : Place) (end : ℕ) (left : List Record) : Type 0 where
-  pub is : left ≡ drop (place.packet - 1) (take (end - 1) capture)
-  pub ends : IsEnd capture place end
-
--- all records from a place's packet on are left
-abbrev pub AllLeft : List Record → Place → List Record → Type 0
-AllLeft capture place left = AreLeft capture place (length capture + 1) left
+-- the records from a place's packet on are left
+pub record AreLeft (capture : List Record) (place : Place) (left : List Record) : Type 0 where
+  pub is : left ≡ drop (place.packet - 1) capture
 
 -- a cursor comes to the first hit before an end, or to the end past none
 abbrev pub ComesTo : Machine → List Record → Breakpoints → ℕ → Cursor → Option Stop → Cursor → Type 0

@@ -10,7 +10,7 @@ use Rattle.cbpf_dbg.specs.Loaded.{machine_in, records_in, breakpoints_in}
 use Rattle.cbpf_dbg.specs.Breakpoints.{Breakpoints}
 use Rattle.cbpf_dbg.specs.Joined.{rest}
 use Rattle.cbpf_dbg.specs.Session.{hits, Keeps}
-use Rattle.cbpf_dbg.specs.Cursor.{Stands, AreLeft, Passes, before, owed}
+use Rattle.cbpf_dbg.specs.Cursor.{Stands, IsEnd, AreLeft, Passes, before, owed}
 
 -- a trail stands for the entries of a place's packet up to its step
 abbrev pub KeepsIn : {A : Type 0} → (List Registers → Type 0) → Loaded A → Place → Type 0
@@ -21,10 +21,11 @@ abbrev pub Covers : (Registers → Bool) → Machine → Breakpoints → Type 0
 Covers pauses machine breakpoints = (bytes : List ℕ) (wire : ℕ) (s : Registers) → s.pc < length machine.list
     → hits machine breakpoints bytes wire s ≡ true → pauses s ≡ true
 
--- a run can go on over the records that are left
+-- a run can go on over the records that are left, up to its end
 pub record CanGoOn {A : Type 0} (l : Loaded A) (w : Walk) (spent : ℕ) : Type 0 where
   pub stands : Stands (machine_in l) (records_in l) w.cursor
-  pub left : AreLeft (records_in l) w.cursor.place w.end w.left
+  pub left : AreLeft (records_in l) w.cursor.place w.left
+  pub ends : IsEnd (records_in l) w.cursor.place w.end
   pub spare : spent + owed (machine_in l) (records_in l) w.cursor.place + 2 * MAX_INSTRUCTIONS ≤ 2 ^ 128
 
 -- a run goes on to an entry where it pauses, of which the record is the first that is left then, or to before a packet;
@@ -34,7 +35,8 @@ pub record GoesOn {A : Type 0} (l : Loaded A) (pauses : Registers → Bool) (old
   pub passes : Passes (machine_in l) (records_in l) old.cursor new.cursor spent_old spent_new
   pub hits : Covers pauses (machine_in l) (breakpoints_in l) → rest (machine_in l) (records_in l) (breakpoints_in l)
       old.cursor.place ≡ rest (machine_in l) (records_in l) (breakpoints_in l) (before new.cursor.place)
-  pub left : AreLeft (records_in l) new.cursor.place new.end new.left
+  pub left : AreLeft (records_in l) new.cursor.place new.left
+  pub ends : IsEnd (records_in l) new.cursor.place new.end
   pub same : new.end ≡ old.end
   pub entry : paused ≡ true → (0 < new.cursor.place.step) × (pauses new.cursor.state ≡ true)
   pub out : paused ≡ false → new.cursor.place.step ≡ 0

@@ -32,11 +32,12 @@ pub(crate) struct Cursor {
     pub(crate) counts: Counts,
 }
 
-/// A cursor with the records of its place's packet and the later ones, before the packet `end`.
+/// A cursor with the records of its place's packet and the later ones.
 #[derive(Drop)]
 pub(crate) struct Walk<'a> {
     pub(crate) cursor: Cursor,
     pub(crate) left: Records<'a>,
+    /// The packet before which a run ends.
     pub(crate) end: u64,
 }
 

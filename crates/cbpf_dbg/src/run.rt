@@ -16,7 +16,7 @@ use cbpf_machine::{Followed, Meter, Never, Packet, Pause, Trail, follow_packet};
 use cbpf_reply::{RunReply, Stop, Why};
 use std::alloc::Allocator;
 
-/// Goes on over whole packets to the next entry where it pauses, or past the records that are left: whether it pauses.
+/// Goes on over whole packets to the next entry where it pauses, or to the end: whether it pauses.
 // It isn't inlined, so that the processor's registers are for its loop alone.
 #[inline(never)]
 pub(crate) fn run_records<P: Pause, A: Allocator>(
@@ -28,12 +28,15 @@ pub(crate) fn run_records<P: Pause, A: Allocator>(
     requires can { CanGoOn loaded.now walk.old meter.old }
     requires before { walk.old.cursor.place.step ≡ 0 }
     ensures goes { GoesOn loaded.now (λ s. P.pauses pause.now s) walk.old walk.new meter.old meter.new result }
-    ensures none { result ≡ false → walk.new.left ≡ [] }
+    ensures none { result ≡ false → walk.new.cursor.place.packet ≡ walk.new.end }
 {
     // Bound here, as the compiler would load them again after each packet.
     let program = loaded.program;
     let values = loaded.values;
-    'go: while let Some(here) = walk.left.first() {
+    'go: while walk.cursor.place.packet < walk.end {
+        let Some(here) = walk.left.first() else {
+            unreachable!()
+        };
         let packet = Packet {
             bytes: here.bytes,
             wire: here.wire,
@@ -51,8 +54,8 @@ pub(crate) fn run_records<P: Pause, A: Allocator>(
     false
 }
 
-/// Goes on over whole packets to the next hit, or past the records that are left: whether there is one. The trail keeps
-/// the entries of each packet on the way.
+/// Goes on over whole packets to the next hit, or to the end: whether there is one. The trail keeps the entries of each
+/// packet on the way.
 #[inline(never)]
 fn run_kept<T: Trail, A: Allocator>(
     meter: &mut Meter,
@@ -63,13 +66,16 @@ fn run_kept<T: Trail, A: Allocator>(
     requires can { CanGoOn loaded.now walk.old meter.old }
     requires before { walk.old.cursor.place.step ≡ 0 }
     ensures goes { GoesOn loaded.now (is_watched loaded.now.watched.now) walk.old walk.new meter.old meter.new result }
-    ensures none { result ≡ false → walk.new.left ≡ [] }
+    ensures none { result ≡ false → walk.new.cursor.place.packet ≡ walk.new.end }
     ensures keeps { KeepsIn (λ xs. T.stands_for trail.new xs) loaded.now walk.new.cursor.place }
 {
     let program = loaded.program;
     let values = loaded.values;
     let watched = loaded.watched;
-    'go: while let Some(here) = walk.left.first() {
+    'go: while walk.cursor.place.packet < walk.end {
+        let Some(here) = walk.left.first() else {
+            unreachable!()
+        };
         let packet = Packet {
             bytes: here.bytes,
             wire: here.wire,
@@ -100,7 +106,7 @@ fn run_whole<T: Trail, A: Allocator>(
     requires before { walk.old.cursor.place.step ≡ 0 }
     requires empty { T.stands_for trail.old [] }
     ensures goes { GoesOn loaded.now (is_watched loaded.now.watched.now) walk.old walk.new meter.old meter.new result }
-    ensures none { result ≡ false → walk.new.left ≡ [] }
+    ensures none { result ≡ false → walk.new.cursor.place.packet ≡ walk.new.end }
     ensures keeps { KeepsIn (λ xs. T.stands_for trail.new xs) loaded.now walk.new.cursor.place }
 {
     if loaded.cannot_stop {
@@ -153,7 +159,7 @@ fn go_on_in_packet<T: Trail, A: Allocator>(
     false
 }
 
-/// Goes on to the next hit, or past the records that are left.
+/// Goes on to the next hit, or to the end.
 fn run_to_hit<T: Trail, A: Allocator>(
     meter: &mut Meter,
     loaded: &Loaded<'_, A>,
@@ -216,7 +222,7 @@ pub(crate) fn run_to_limit<T: Trail, A: Allocator>(
         cursor: *cursor,
         left: loaded
             .capture
-            .records_at(cursor.place.packet, cursor.start, end),
+            .records_at(cursor.place.packet, cursor.start, count + 1),
         end,
     };
     let stop = run_to_hit(meter, loaded, &mut walk, trail);

@@ -7,7 +7,7 @@ ghost use Rattle.cbpf_dbg.specs.Breakpoints.{Breakpoints};
 ghost use Rattle.cbpf_dbg.specs.Loaded.{machine_in, records_in};
 ghost use Rattle.cbpf_dbg.specs.Going.{KeepsIn};
 ghost use Rattle.cbpf_dbg.specs.Session.{IsInside};
-ghost use Rattle.cbpf_dbg.specs.Cursor.{Stands, AllLeft, Nears, owed};
+ghost use Rattle.cbpf_dbg.specs.Cursor.{Stands, AreLeft, Nears, owed};
 ghost use Rattle.cbpf_dbg.specs.Cursor.{Gives, step_from, turns_of, StepsBack, CannotStepBack};
 ghost use Rattle.cbpf_machine.specs.Trail.{most_turns_back};
 
@@ -29,39 +29,42 @@ fn skip_packets<'a, A: Allocator>(
     n: u64,
 ) -> u64
     requires stands { Stands (machine_in loaded.now) (records_in loaded.now) cursor.old }
-    requires records { AllLeft (records_in loaded.now) cursor.old.place records.old }
+    requires left { AreLeft (records_in loaded.now) cursor.old.place records.old }
     requires before { cursor.old.place.step ≡ 0 }
     requires some { 1 ≤ n }
     requires spare { meter.old + owed (machine_in loaded.now) (records_in loaded.now) cursor.old.place
         + 2 * MAX_INSTRUCTIONS ≤ 2 ^ 128 }
     ensures nears { Nears (machine_in loaded.now) (records_in loaded.now) cursor.old cursor.new n result
         meter.old meter.new }
-    ensures records { AllLeft (records_in loaded.now) cursor.new.place records.new }
+    ensures left { AreLeft (records_in loaded.now) cursor.new.place records.new }
     ensures before { cursor.new.place.step ≡ 0 }
 {
     let longest = u64::from(loaded.program.len());
+    if n <= longest {
+        return n;
+    }
+    let Some(here) = records.first() else {
+        return n;
+    };
     let past = loaded.capture.count() + 1;
+    let mut walk = Walk {
+        cursor: *cursor,
+        left: loaded
+            .capture
+            .records_at(cursor.place.packet, here.start, past),
+        end: past,
+    };
     let mut left = n;
-    'skip: while left > longest {
-        let Some(here) = records.first() else {
-            return left;
-        };
+    'skip: while left > longest && walk.cursor.place.packet < past {
         // So many packets have fewer entries than are left.
         let packets = (left - 1) / longest;
-        let end = cursor.place.packet.saturating_add(packets).min(past);
-        let mut walk = Walk {
-            cursor: *cursor,
-            left: loaded
-                .capture
-                .records_at(cursor.place.packet, here.start, end),
-            end,
-        };
+        walk.end = walk.cursor.place.packet.saturating_add(packets).min(past);
         let before = meter.spent();
         let _paused = run_records(meter, loaded, &Never, &mut walk);
         left -= (meter.spent() - before) as u64;
-        *cursor = walk.cursor;
-        *records = loaded.capture.records(end, past);
     }
+    *cursor = walk.cursor;
+    *records = walk.left;
     left
 }
 

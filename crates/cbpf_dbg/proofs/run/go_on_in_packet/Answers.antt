@@ -11,7 +11,7 @@ use Rattle.cbpf_dbg.proofs.run.go_on_in_packet.Goals as goal
 pub follow-followed-requires-clause-spare : goal.follow-followed-requires-clause-spare
 follow-followed-requires-clause-spare g c =
     let few = steps_few _ _ _ (record_of c.in-Some.here)
-    c.requires.can.stands (first_left _ _ _ _ _ _ (first_of _ _ c.in-Some.ensures) c.requires.can.left) in
+    c.requires.can.stands (first_left _ _ _ _ _ (first_of _ _ c.in-Some.ensures) c.requires.can.left) in
     omega (arith, few, c.requires.can.spare)
 
 pub apply-requires-clause-counts : goal.apply-requires-clause-counts
@@ -20,7 +20,7 @@ apply-requires-clause-counts g c =
 
 pub apply-requires-clause-steps : goal.apply-requires-clause-steps
 apply-requires-clause-steps g c = λ n e.
-    let here = first_left _ _ _ _ _ _ (first_of _ _ c.in-Some.ensures) c.requires.can.left in
+    let here = first_left _ _ _ _ _ (first_of _ _ c.in-Some.ensures) c.requires.can.left in
     let k = kept_steps _ _ _ (record_of c.in-Some.here)
     c.requires.can.stands here (g.T.Trail.kept c.args.trail.now)
     (g.met.T.Trail.as_long c.args.trail.now _ (c.requires.keeps _ here)) in
@@ -32,19 +32,20 @@ apply-requires-clause-steps g c = λ n e.
 pub returns-in-Entry-clause-goes : goal.returns-in-Entry-clause-goes
 returns-in-Entry-clause-goes g c =
     let is = first_of _ _ c.in-Some.ensures in
-    let here = first_left _ _ _ _ _ _ is c.requires.can.left in
+    let here = first_left _ _ _ _ _ is c.requires.can.left in
     let k = kept_steps _ _ _ (record_of c.in-Some.here)
     c.requires.can.stands here (g.T.Trail.kept c.args.trail.now)
     (g.met.T.Trail.as_long c.args.trail.now _ (c.requires.keeps _ here)) in
     goes_to_entry _ _ (record_of c.in-Some.here)
     c.requires.can.stands here _ (g.T.Trail.kept c.args.trail.now) c.follow-followed.result c.follow-followed.new.s
-    c.apply.new.self c.args.meter.now c.follow-followed.new.meter c.args.walk.now.left _ _ c.requires.can.left k c.in-Entry.ensures.moved
+    c.apply.new.self c.args.meter.now c.follow-followed.new.meter c.args.walk.now.left _ _ c.requires.can.left c.requires.can.ends
+    (c.requires.can.ends.later (omega (arith, c.if-walk-eq0.false))) k c.in-Entry.ensures.moved
     c.in-Entry.ensures.cursor c.follow-followed.ensures.follows
     (omega (arith, c.follow-followed.ensures.turns, k, c.if-walk-eq0.false)) is
 
 pub returns-in-Entry-clause-keeps : goal.returns-in-Entry-clause-keeps
 returns-in-Entry-clause-keeps g c = λ _.
-    let here = first_left _ _ _ _ _ _ (first_of _ _ c.in-Some.ensures) c.requires.can.left in
+    let here = first_left _ _ _ _ _ (first_of _ _ c.in-Some.ensures) c.requires.can.left in
     let k = kept_steps _ _ _ (record_of c.in-Some.here)
     c.requires.can.stands here (g.T.Trail.kept c.args.trail.now)
     (g.met.T.Trail.as_long c.args.trail.now _ (c.requires.keeps _ here)) in
@@ -55,12 +56,13 @@ returns-in-Entry-clause-keeps g c = λ _.
 
 pub returns-clause-goes : goal.returns-clause-goes
 returns-clause-goes g c =
-    let here = first_left _ _ _ _ _ _ c.pass.ensures c.requires.can.left in
+    let here = first_left _ _ _ _ _ c.pass.ensures c.requires.can.left in
     let k = kept_steps _ _ _ (record_of c.in-Some.here)
     c.requires.can.stands here (g.T.Trail.kept c.args.trail.now)
     (g.met.T.Trail.as_long c.args.trail.now _ (c.requires.keeps _ here)) in
     goes_out _ _ (record_of c.in-Some.here)
     c.requires.can.stands here _ (g.T.Trail.kept c.args.trail.now) c.follow-followed.result c.follow-followed.new.s
-    c.apply.new.self c.args.meter.now c.follow-followed.new.meter c.args.walk.now.left _ _ c.requires.can.left k
+    c.apply.new.self c.args.meter.now c.follow-followed.new.meter c.args.walk.now.left _ _ c.requires.can.left c.requires.can.ends
+    (c.requires.can.ends.later (omega (arith, c.if-walk-eq0.false))) k
     c.in_default-apply.ensures.moved c.in_default-apply.ensures.cursor c.follow-followed.ensures.follows
     (omega (arith, c.follow-followed.ensures.turns, k, c.if-walk-eq0.false)) c.pass.ensures

@@ -7,7 +7,7 @@ use Rattle.cbpf_dbg.proofs.CountLemmas.{countable}
 use Rattle.cbpf_dbg.proofs.FollowLemmas.{goes_to_entry, goes_out}
 use Rattle.cbpf_dbg.proofs.GoingLemmas.{goes_more}
 use Rattle.cbpf_dbg.proofs.KeepLemmas.{keeps_clear}
-use Rattle.cbpf_dbg.proofs.LeftLemmas.{first_left, first_of, none_of}
+use Rattle.cbpf_dbg.proofs.LeftLemmas.{first_left, first_of}
 use Rattle.cbpf_dbg.proofs.run.run_kept.Goals as goal
 
 pub follow_packet-requires : goal.follow_packet-requires
@@ -21,18 +21,18 @@ pub returns-in-Watched-clause-goes : goal.returns-in-Watched-clause-goes
 returns-in-Watched-clause-goes g c =
     let so = c.go.invariant.goes in
     let is = first_of _ _ c.in-Some.ensures in
-    let here = first_left _ _ _ _ _ _ is so.left in
+    let here = first_left _ _ _ _ _ is so.left in
     let step = so.out refl in
     let sum : c.go.walk.cursor.place.step + c.in-Watched.entries ≡ c.in-Watched.entries = omega (arith, step) in
     goes_more _ _ _ _ _ _ _ _ _ so (goes_to_entry _ _ (record_of c.in-Some.here)
     so.passes.stands here _ 0 c.follow_packet.result c.follow_packet.new.s _ c.go.meter
-    c.follow_packet.new.meter c.go.walk.left _ _ so.left (omega (arith, step)) (rw c.in-Watched.is refl)
+    c.follow_packet.new.meter c.go.walk.left _ _ so.left so.ends c.go-test.true (omega (arith, step)) (rw c.in-Watched.is refl)
     (rw (c.in-Watched.is, sum) refl) c.follow_packet.ensures.follows
     (omega (arith, c.follow_packet.ensures.turns)) is)
 
 pub returns-in-Watched-clause-keeps : goal.returns-in-Watched-clause-keeps
 returns-in-Watched-clause-keeps g c = λ r there.
-    let here = first_left _ _ _ _ _ _ (first_of _ _ c.in-Some.ensures) c.go.invariant.goes.left in
+    let here = first_left _ _ _ _ _ (first_of _ _ c.in-Some.ensures) c.go.invariant.goes.left in
     let same : record_of c.in-Some.here ≡ r = cc in
     subst (λ (q : Record). g.T.Trail.stands_for c.follow_packet.new.self (take c.in-Watched.entries
     (trace (machine_in c.args.loaded.now) q.bytes q.wire))) same
@@ -41,17 +41,17 @@ returns-in-Watched-clause-keeps g c = λ r there.
 pub go-preserved : goal.go-preserved
 go-preserved g c =
     let so = c.go.invariant.goes in
-    let here = first_left _ _ _ _ _ _ c.pass.ensures so.left in
+    let here = first_left _ _ _ _ _ c.pass.ensures so.left in
     record {
       goes = goes_more _ _ _ _ _ _ _ _ _ so (goes_out _ _ (record_of c.in-Some.here)
           so.passes.stands here _ 0 c.follow_packet.result c.follow_packet.new.s c.finish_whole_packet.new.self c.go.meter
-          c.follow_packet.new.meter c.go.walk.left _ _ so.left (omega (arith, so.out refl)) (rw c.in-Ended.is refl)
+          c.follow_packet.new.meter c.go.walk.left _ _ so.left so.ends c.go-test.true (omega (arith, so.out refl)) (rw c.in-Ended.is refl)
           (c.finish_whole_packet.ensures ∙ rw c.in-Ended.is refl) c.follow_packet.ensures.follows
           (omega (arith, c.follow_packet.ensures.turns)) c.pass.ensures);
     }
 
 pub returns-clause-none : goal.returns-clause-none
-returns-clause-none g c = λ _. none_of _ c.in_default.ensures
+returns-clause-none g c = λ _. omega (arith, c.go.invariant.goes.ends.most, c.go-test.false)
 
 pub returns-clause-keeps : goal.returns-clause-keeps
 returns-clause-keeps g c = keeps_clear (λ xs. g.T.Trail.stands_for c.clear.new.self xs) (machine_in c.args.loaded.now)

@@ -1,13 +1,13 @@
 use Rattle.std.proofs.Common.{arith, sym, refl}
 use Rattle.cbpf_dbg.proofs.GoingLemmas.{at_hit, goes_more, hits_out, watches_hits}
-use Rattle.cbpf_dbg.proofs.LeftLemmas.{none_left, start_first}
+use Rattle.cbpf_dbg.proofs.LeftLemmas.{at_end, start_first}
 use Rattle.cbpf_dbg.proofs.run.run_to_hit.Goals as goal
 use Rattle.cbpf_dbg.proofs.run.run_to_hit.Goals.{then-not-go_on_in_packet+else-not-run_whole, else-not-go_on_in_packet}
 
 pub returns-then-not-run_whole-clause-comes : goal.returns-then-not-run_whole-clause-comes
 returns-then-not-run_whole-clause-comes g c =
     let all = goes_more _ _ _ _ _ _ _ _ _ c.if-not-go_on_in_packet.ensures.goes c.if-not-run_whole.ensures.goes in (
-      rw all.same at (none_left _ _ _ _ _ all.passes.stands (c.if-not-run_whole.ensures.none refl) all.left),
+      rw all.same at (at_end _ _ _ all.ends (c.if-not-run_whole.ensures.none refl)),
       sym (hits_out _ _ _ _ _ _ all (watches_hits c.args.loaded.now)),
     )
 
@@ -28,20 +28,20 @@ returns-clause-comes g c = elim c.if-not-go_on_in_packet.branch [
       let all = goes_more _ _ _ _ _ _ _ _ _ w.if-not-go_on_in_packet.ensures.goes ran in
       let hit = at_hit _ _ _ _ _ all in
       rw (c.stop_at.ensures hit.0, w.walk-is)
-      (refl, omega (arith, all.left.ends.later (all.entry refl).0, all.same), hit.2)
+      (refl, omega (arith, all.ends.later (all.entry refl).0, all.same), hit.2)
   | else-not-go_on_in_packet w ↦
       let went = w.if-not-go_on_in_packet.ensures.goes in
       let hit = at_hit _ _ _ _ _ went in
       rw (c.stop_at.ensures hit.0, w.walk-is)
-      (refl, omega (arith, went.left.ends.later (went.entry refl).0, went.same), hit.2)
+      (refl, omega (arith, went.ends.later (went.entry refl).0, went.same), hit.2)
 ]
 
 pub returns-clause-start : goal.returns-clause-start
 returns-clause-start g c = elim c.if-not-go_on_in_packet.branch [
   | then-not-go_on_in_packet+else-not-run_whole w ↦
       let left = w.if-not-run_whole.ensures.goes.left in
-      rw w.walk-is (start_first _ _ _ _ _ left (rw w.walk-is at c.in-Some.ensures))
+      rw w.walk-is (start_first _ _ _ _ left (rw w.walk-is at c.in-Some.ensures))
   | else-not-go_on_in_packet w ↦
       let left = w.if-not-go_on_in_packet.ensures.goes.left in
-      rw w.walk-is (start_first _ _ _ _ _ left (rw w.walk-is at c.in-Some.ensures))
+      rw w.walk-is (start_first _ _ _ _ left (rw w.walk-is at c.in-Some.ensures))
 ]

@@ -1,7 +1,6 @@
-use Rattle.std.proofs.Common.{arith, ◌-◌}
-use Rattle.std.proofs.lemmas.Option.{slice_get_within}
+use Rattle.std.proofs.Common.{arith}
 use Rattle.cbpf_dbg.specs.Loaded.{machine_in, records_in}
-use Rattle.cbpf_dbg.proofs.LeftLemmas.{is_end, end_reckoned}
+use Rattle.cbpf_dbg.proofs.LeftLemmas.{all_left, is_end, is_end_of_all, end_reckoned}
 use Rattle.cbpf_dbg.proofs.RunLemmas.{run_stopped, run_limited, run_finished, none_ahead}
 use Rattle.cbpf_dbg.proofs.TurnLemmas.{turns-reply, spent_between, owed-turns, owed_bound}
 use Rattle.cbpf_dbg.proofs.run.run_to_limit.Goals as goal
@@ -13,13 +12,8 @@ run_to_hit-stop-requires-clause-can g c =
     let most = owed_bound (machine_in c.args.loaded.now) (records_in c.args.loaded.now) c.args.cursor.now.place c.requires.stands.sound c.args.loaded.now.few in
     record {
       stands = c.requires.stands;
-      left = record {
-        is = c.records_at.ensures;
-        ends = is_end _ _ c.args.limit _ ends c.requires.limit
-            c.requires.stands.within (λ begun.
-            let at = c.requires.stands.at begun in
-            omega (arith, slice_get_within (records_in c.args.loaded.now) (c.args.cursor.now.place.packet - 1) at.0 at.1));
-      };
+      left = all_left _ _ _ (rw c.count-count.ensures.value at c.records_at.ensures);
+      ends = is_end _ _ c.args.limit _ ends c.requires.limit (is_end_of_all _ _ _ c.requires.stands);
       spare = omega (arith, most, c.requires.early);
     }
 

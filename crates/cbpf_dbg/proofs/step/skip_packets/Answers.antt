@@ -1,7 +1,6 @@
 use Rattle.std.proofs.Common.{◌+◌, ◌∙◌, arith, ap}
 use Rattle.cbpf_machine.proofs.SoundLemmas.{sound_some}
 use Rattle.cbpf_reply.specs.declared.reply.Place.{Place}
-use Rattle.cbpf_dbg.proofs.LeftLemmas.{all_left, first_left, first_of, start_first}
 use Rattle.cbpf_dbg.proofs.StepLemmas.{goes_past, nears_more}
 use Rattle.cbpf_dbg.proofs.step.skip_packets.Goals as goal
 
@@ -9,29 +8,12 @@ pub nonzero_div-packets : goal.nonzero_div-packets
 nonzero_div-packets g c =
     omega (arith, sound_some _ c.args.loaded.now.sound, c.len.ensures.value, c.from-longest.ensures)
 
-pub records_at-requires-clause-there : goal.records_at-requires-clause-there
-records_at-requires-clause-there g c =
-    start_first _ _ _ _ _ c.skip.invariant.records c.in-Some.ensures
-
-pub run_records-paused-requires-clause-can : goal.run_records-paused-requires-clause-can
-run_records-paused-requires-clause-can g c =
-    let so = c.skip.invariant in
-    record {
-      stands = so.nears.passes.stands;
-      left = record {
-        is = c.records_at.ensures;
-        ends = record { within = omega arith; most = omega arith; later = λ begun. omega (arith, begun, so.before) };
-      };
-      spare = omega (arith, c.requires.spare, so.nears.passes.spent);
-    }
-
 pub overflow_sub-left : goal.overflow_sub-left
 overflow_sub-left g c =
     let so = c.skip.invariant in
     let longest = c.from-longest.ensures ∙ c.len.ensures.value in
-    let past = goes_past c.args.loaded.now _ _ _ c.skip.left _ _ _ so.nears.passes.stands so.before
-    (first_left _ _ _ _ _ _ (first_of _ _ c.in-Some.ensures) so.records) (rw longest at c.skip-test.true)
-    (ap (λ n. n + 1) c.count-past.ensures.value) (rw longest at c.saturating_add.ensures) c.min-end.ensures
+    let past = goes_past c.args.loaded.now _ _ c.skip.left _ _ _ so.nears.passes.stands so.before
+    (rw longest at c.skip-test.true) c.if-walk-past.true (ap (λ n. n + 1) c.count-past.ensures.value) (rw longest at c.saturating_add.ensures) c.min.ensures
     c.run_records-paused.ensures.goes c.run_records-paused.ensures.none in
     omega (arith, c.spent-before.ensures, c.spent.ensures, past.2)
 
@@ -39,9 +21,8 @@ pub overflow_cast-left : goal.overflow_cast-left
 overflow_cast-left g c =
     let so = c.skip.invariant in
     let longest = c.from-longest.ensures ∙ c.len.ensures.value in
-    let past = goes_past c.args.loaded.now _ _ _ c.skip.left _ _ _ so.nears.passes.stands so.before
-    (first_left _ _ _ _ _ _ (first_of _ _ c.in-Some.ensures) so.records) (rw longest at c.skip-test.true)
-    (ap (λ n. n + 1) c.count-past.ensures.value) (rw longest at c.saturating_add.ensures) c.min-end.ensures
+    let past = goes_past c.args.loaded.now _ _ c.skip.left _ _ _ so.nears.passes.stands so.before
+    (rw longest at c.skip-test.true) c.if-walk-past.true (ap (λ n. n + 1) c.count-past.ensures.value) (rw longest at c.saturating_add.ensures) c.min.ensures
     c.run_records-paused.ensures.goes c.run_records-paused.ensures.none in
     omega (arith, c.spent-before.ensures, c.spent.ensures, past.3)
 
@@ -49,9 +30,8 @@ pub overflow_sub-left-in-skip : goal.overflow_sub-left-in-skip
 overflow_sub-left-in-skip g c =
     let so = c.skip.invariant in
     let longest = c.from-longest.ensures ∙ c.len.ensures.value in
-    let past = goes_past c.args.loaded.now _ _ _ c.skip.left _ _ _ so.nears.passes.stands so.before
-    (first_left _ _ _ _ _ _ (first_of _ _ c.in-Some.ensures) so.records) (rw longest at c.skip-test.true)
-    (ap (λ n. n + 1) c.count-past.ensures.value) (rw longest at c.saturating_add.ensures) c.min-end.ensures
+    let past = goes_past c.args.loaded.now _ _ c.skip.left _ _ _ so.nears.passes.stands so.before
+    (rw longest at c.skip-test.true) c.if-walk-past.true (ap (λ n. n + 1) c.count-past.ensures.value) (rw longest at c.saturating_add.ensures) c.min.ensures
     c.run_records-paused.ensures.goes c.run_records-paused.ensures.none in
     omega (arith, c.spent-before.ensures, c.spent.ensures, past.3)
 
@@ -59,9 +39,8 @@ pub skip-smaller : goal.skip-smaller
 skip-smaller g c =
     let so = c.skip.invariant in
     let longest = c.from-longest.ensures ∙ c.len.ensures.value in
-    let past = goes_past c.args.loaded.now _ _ _ c.skip.left _ _ _ so.nears.passes.stands so.before
-    (first_left _ _ _ _ _ _ (first_of _ _ c.in-Some.ensures) so.records) (rw longest at c.skip-test.true)
-    (ap (λ n. n + 1) c.count-past.ensures.value) (rw longest at c.saturating_add.ensures) c.min-end.ensures
+    let past = goes_past c.args.loaded.now _ _ c.skip.left _ _ _ so.nears.passes.stands so.before
+    (rw longest at c.skip-test.true) c.if-walk-past.true (ap (λ n. n + 1) c.count-past.ensures.value) (rw longest at c.saturating_add.ensures) c.min.ensures
     c.run_records-paused.ensures.goes c.run_records-paused.ensures.none in
     omega (arith, past.0, ap (λ (q : Place). q.packet) past.1)
 
@@ -69,12 +48,11 @@ pub skip-preserved : goal.skip-preserved
 skip-preserved g c =
     let so = c.skip.invariant in
     let longest = c.from-longest.ensures ∙ c.len.ensures.value in
-    let past = goes_past c.args.loaded.now _ _ _ c.skip.left _ _ _ so.nears.passes.stands so.before
-    (first_left _ _ _ _ _ _ (first_of _ _ c.in-Some.ensures) so.records) (rw longest at c.skip-test.true)
-    (ap (λ n. n + 1) c.count-past.ensures.value) (rw longest at c.saturating_add.ensures) c.min-end.ensures
+    let past = goes_past c.args.loaded.now _ _ c.skip.left _ _ _ so.nears.passes.stands so.before
+    (rw longest at c.skip-test.true) c.if-walk-past.true (ap (λ n. n + 1) c.count-past.ensures.value) (rw longest at c.saturating_add.ensures) c.min.ensures
     c.run_records-paused.ensures.goes c.run_records-paused.ensures.none in
     record {
       nears = nears_more _ _ _ _ _ _ _ _ _ _ _ so.nears (rw (c.spent-before.ensures, c.spent.ensures) past.4);
-      records = all_left _ _ _ _ past.4.passes.stands (rw (past.1, ← c.count-past.ensures.value) c.records.ensures);
+      left = c.run_records-paused.ensures.goes.left;
       before = ap (λ (q : Place). q.step) past.1;
     }

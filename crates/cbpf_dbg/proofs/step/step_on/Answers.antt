@@ -20,20 +20,20 @@ pub go-init : goal.go-init
 go-init g c = elim c.if-cursor-eq0.branch [
   | then-cursor-eq0 w ↦ rw (w.meter-is, w.cursor-is, w.trail-is, w.left-is, w.records-is) (record {
     nears = w.skip_packets-left.ensures.nears;
-    records = w.skip_packets-left.ensures.records;
+    left = w.skip_packets-left.ensures.left;
     keeps = keeps_clear (λ xs. g.T.Trail.stands_for w.clear.new.self xs) (machine_in c.args.loaded.now)
         (records_in c.args.loaded.now) _ w.skip_packets-left.ensures.before w.clear.ensures;
   })
   | else-cursor-eq0 w ↦ rw (w.meter-is, w.cursor-is, w.trail-is, w.left-is, w.records-is) (record {
     nears = nears_none _ _ _ _ _ c.requires.stands
         c.requires.some;
-    records = all_left _ _ _ _ c.requires.stands (rw c.count-count.ensures.value at c.records_at-records.ensures);
+    left = all_left _ _ _ (rw c.count-count.ensures.value at c.records_at-records.ensures);
     keeps = c.requires.keeps;
   })
 ]
 
 pub advance-requires-clause-here : goal.advance-requires-clause-here
-advance-requires-clause-here g c = first_left _ _ _ _ _ _ (first_of _ _ c.in-Some.ensures) c.go.invariant.records
+advance-requires-clause-here g c = first_left _ _ _ _ _ (first_of _ _ c.in-Some.ensures) c.go.invariant.left
 
 -- no more turns are made than were owed
 pub advance-requires-clause-spare : goal.advance-requires-clause-spare
@@ -92,15 +92,15 @@ go-preserved-in-Entry g c =
     c.in-Entry.ensures.turns in
     record {
       nears = nears_more _ _ _ _ _ _ _ _ _ _ _ c.go.invariant.nears on;
-      records = left_here _ _ _ _ _ _ (first_of _ _ c.in-Some.ensures) c.go.invariant.records _ m.2;
+      left = left_here _ _ _ _ c.go.invariant.left m.2;
       keeps = keeps_push (λ xs. g.T.Trail.stands_for c.go.trail xs) (λ xs. g.T.Trail.stands_for c.push.new.self xs)
           (machine_in c.args.loaded.now) (records_in c.args.loaded.now) c.go.cursor.place c.advance.new.cursor m.0
           c.in-Entry.ensures.stands m.1 m.2 m.3 c.push.ensures c.go.invariant.keeps;
     }
 
-pub skip_packets-left-requires-in-Packet-clause-records : goal.skip_packets-left-requires-in-Packet-clause-records
-skip_packets-left-requires-in-Packet-clause-records g c =
-    rw c.in-Packet.ensures.moves.0 (left_past _ _ _ _ _ _ c.pass.ensures c.go.invariant.records
+pub skip_packets-left-requires-in-Packet-clause-left : goal.skip_packets-left-requires-in-Packet-clause-left
+skip_packets-left-requires-in-Packet-clause-left g c =
+    rw c.in-Packet.ensures.moves.0 (left_past _ _ _ _ _ c.pass.ensures c.go.invariant.left
     (omega (arith, c.go.invariant.nears.passes.stands.from_one, c.go.invariant.nears.passes.stands.ordered)))
 
 pub skip_packets-left-requires-in-Packet-clause-spare : goal.skip_packets-left-requires-in-Packet-clause-spare
@@ -119,7 +119,7 @@ go-preserved g c =
     c.advance.new.meter moved.stands moved.moves moved.origin c.go.invariant.nears.some moved.turns in
     record {
       nears = nears_more _ _ _ _ _ _ _ _ _ _ _ (nears_more _ _ _ _ _ _ _ _ _ _ _ c.go.invariant.nears on) skipped.nears;
-      records = skipped.records;
+      left = skipped.left;
       keeps = keeps_clear (λ xs. g.T.Trail.stands_for c.clear-in-Packet.new.self xs) (machine_in c.args.loaded.now)
           (records_in c.args.loaded.now) _ skipped.before c.clear-in-Packet.ensures;
     }
@@ -127,7 +127,7 @@ go-preserved g c =
 pub returns-clause-steps : goal.returns-clause-steps
 returns-clause-steps g c = λ breakpoints.
     let so = c.go.invariant.nears in
-    let m = nothing_left _ _ _ _ so.passes.stands c.go.invariant.records (none_of _ c.in_default.ensures) in
+    let m = nothing_left _ _ _ _ so.passes.stands c.go.invariant.left (none_of _ c.in_default.ensures) in
     let none : slice_get (ahead (machine_in c.args.loaded.now) (records_in c.args.loaded.now) c.go.cursor.place)
     (c.go.left - 1) ≡ None = rw m.1 refl in
     (step_finished (machine_in c.args.loaded.now) c.args.loaded.now.capture.now breakpoints c.args.n c.args.cursor.now
@@ -135,7 +135,7 @@ returns-clause-steps g c = λ breakpoints.
 
 pub returns-clause-turns : goal.returns-clause-turns
 returns-clause-turns g c = λ breakpoints.
-    let m = nothing_left _ _ _ _ c.go.invariant.nears.passes.stands c.go.invariant.records (none_of _ c.in_default.ensures) in
+    let m = nothing_left _ _ _ _ c.go.invariant.nears.passes.stands c.go.invariant.left (none_of _ c.in_default.ensures) in
     let steps = returns-clause-steps g c breakpoints in
     let all = owed-turns _ _ c.args.cursor.now c.requires.stands in
     rw (turns-reply _ _ _ _ _ _ _ steps) (omega (arith, all, ap length m.1, m.2, c.go.invariant.nears.passes.spent))

@@ -1,6 +1,6 @@
 use Rattle.std.proofs.Common.{◌+◌, length}
 use Rattle.cbpf_dbg.specs.Joined.{ahead}
-use Rattle.cbpf_dbg.specs.Cursor.{Nears, AllLeft}
+use Rattle.cbpf_dbg.specs.Cursor.{Nears, AreLeft}
 use Rattle.cbpf_dbg.specs.Session.{Keeps}
 use Rattle.cbpf_dbg.specs.Loaded.{machine_in, records_in}
 use Rattle.cbpf_dbg.proofs.step.step_on.Given as goal
@@ -10,7 +10,7 @@ abbrev pub invariant-go : goal.invariant-go
 invariant-go g l =
     record {
       nears : Nears (machine_in l.loaded) (records_in l.loaded) l.fn.cursor l.cursor l.n l.left l.fn.meter l.meter;
-      records : AllLeft (records_in l.loaded) l.cursor.place l.records;
+      left : AreLeft (records_in l.loaded) l.cursor.place l.records;
       keeps : Keeps (λ xs. g.T.Trail.stands_for l.trail xs) (machine_in l.loaded) (records_in l.loaded) l.cursor.place;
     }
 

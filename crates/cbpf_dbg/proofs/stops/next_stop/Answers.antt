@@ -1,8 +1,7 @@
-use Rattle.std.proofs.Common.{◌∙◌, refl}
-use Rattle.cbpf_dbg.specs.Loaded.{breakpoints_in}
+use Rattle.std.proofs.Common.{◌≡◌, ◌+◌, ◌∙◌, arith, length, refl}
+use Rattle.cbpf_dbg.specs.Loaded.{breakpoints_in, records_in}
 use Rattle.cbpf_dbg.proofs.GoingLemmas.{at_hit, hits_out, watches_hits}
-use Rattle.cbpf_dbg.proofs.JoinedLemmas.{rest-none}
-use Rattle.cbpf_dbg.proofs.LeftLemmas.{nothing_left}
+use Rattle.cbpf_dbg.proofs.JoinedLemmas.{ahead-end, rest-none}
 use Rattle.cbpf_dbg.proofs.stops.next_stop.Goals as goal
 use Rattle.cbpf_dbg.proofs.stops.next_stop.Goals.{then-not-go_on_in_packet+else-not-run_records, else-not-go_on_in_packet}
 
@@ -10,10 +9,10 @@ pub returns-then-not-run_records-clause-next : goal.returns-then-not-run_records
 returns-then-not-run_records-clause-next g c =
     let left = c.if-not-go_on_in_packet.ensures in
     let ran = c.if-not-run_records.ensures.goes in
-    let ended = nothing_left _ _ _ _ ran.passes.stands (rw (ran.same ∙ left.same ∙ c.requires.all) at ran.left)
-    (c.if-not-run_records.ensures.none refl) in
-    let none = rest-none _ _ (breakpoints_in c.args.loaded.now)
-    c.run_records.new.walk.cursor.place ended.1 in
+    let past : c.run_records.new.walk.cursor.place.packet ≡ length (records_in c.args.loaded.now) + 1 =
+    c.if-not-run_records.ensures.none refl ∙ ran.same ∙ left.same ∙ c.requires.all in
+    let none = rest-none _ _ (breakpoints_in c.args.loaded.now) c.run_records.new.walk.cursor.place
+    (ahead-end _ _ _ _ (omega (arith, past))) in
     let covers = watches_hits c.args.loaded.now in
     (hits_out _ _ _ _ _ _ left covers ∙ hits_out _ _ _ _ _ _ ran covers ∙ none, none)
 

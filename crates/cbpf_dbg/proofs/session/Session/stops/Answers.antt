@@ -3,7 +3,7 @@ use Rattle.cbpf_machine.specs.Machine.{machine_of}
 use Rattle.cbpf_dbg.proofs.WholeLemmas.{Holds}
 use Rattle.std.proofs.Common.{arith, refl, rules, Some}
 use Rattle.cbpf_dbg.specs.Session.{Fits, IsKnown}
-use Rattle.cbpf_dbg.proofs.LeftLemmas.{all_left}
+use Rattle.cbpf_dbg.proofs.LeftLemmas.{all_left, is_end_of_all}
 use Rattle.cbpf_dbg.proofs.TurnLemmas.{few_hits, owed_bound}
 use Rattle.cbpf_dbg.proofs.CarryLemmas.{known-sound}
 use Rattle.cbpf_dbg.proofs.ShownStops.{shows-rest}
@@ -40,8 +40,8 @@ invariant_of-result g c =
     (omega (arith, c.count-few.ensures.value, c.count-few.ensures.bounded)) in (
       record {
         stands = fits.0;
-        left = rw c.count-end.ensures.value
-            (all_left _ _ _ _ fits.0 (rw c.count-end.ensures.value at c.records_at-left.ensures));
+        left = all_left _ _ _ (rw c.count-end.ensures.value at c.records_at-left.ensures);
+        ends = rw c.count-end.ensures.value (is_end_of_all _ _ _ fits.0);
         spare = omega (arith, few, c.new.ensures);
       },
       omega (arith, c.count-end.ensures.value),
