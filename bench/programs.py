@@ -27,18 +27,18 @@ def words(instructions):
     return ",".join([str(len(instructions)), *instructions])
 
 
-def arithmetic_instructions():
-    """62 instructions: two loads, arithmetic of all kinds but division, and scratch memory."""
+def arithmetic_instructions(count):
+    """So many instructions: two loads, arithmetic of all kinds but division, and scratch memory."""
     numbers = {4: 12345, 20: 77, 36: 2654435761, 68: 0x10101, 84: 0xFFFFFFFE, 164: 0x5BD1E995, 100: 3, 116: 1}
     found = ["32 0 0 26", "7 0 0 0", "32 0 0 30"]
-    for turn, code in enumerate([4, 12, 20, 28, 36, 44, 68, 76, 84, 92, 164, 172, 100, 116] * 4):
+    for turn, code in enumerate([4, 12, 20, 28, 36, 44, 68, 76, 84, 92, 164, 172, 100, 116] * 10):
         found.append(f"{code} 0 0 {numbers.get(code, 0)}")
         if turn % 9 in (0, 4):
             found.append(f"{97 if turn % 9 else 2} 0 0 {turn // 9}")
-    return found[:60] + ["68 0 0 1", "22 0 0 0"]
+    return found[: count - 2] + ["68 0 0 1", "22 0 0 0"]
 
 
-ARITHMETIC = arithmetic_instructions()
+ARITHMETIC = arithmetic_instructions(62)
 # the longest program, straight on
 STEPS = ["4 0 0 {}", "12 0 0 0", "2 0 0 3", "7 0 0 0"]
 STRAIGHT = ["7 0 0 0", *(STEPS[i % 4].format(i) for i in range(4094)), "6 0 0 1"]

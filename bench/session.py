@@ -238,6 +238,11 @@ def comparisons(folder, file):
         yield Comparison(f"a step past the capture's end, {what}", quiet, "a run", quiet, "step 1000000000", "run")
         name = f"run with a condition never met, {what}"
         yield Comparison(name, with_condition, f"a run with {never}", with_breakpoint, "run")
+    # Longer than the first 64 instructions, so that the run keeps the trail.
+    longer = programs.arithmetic_instructions(140)
+    quiet = f"load bpf {programs.words([*longer, '6 0 0 0'])}\nload pcap {file}\n"
+    name = "run with a breakpoint never reached, 141 instructions"
+    yield Comparison(name, quiet + f"breakpoint {len(longer)}\n", "a run without", quiet, "run")
     mark, seven = (f"load bpf {words}\nload pcap {file}\n" for words in (programs.MARK, programs.SEVEN))
     yield Comparison("run, ld mark with a value", mark + "value mark 7\n", "the same with ld #7", seven, "run")
     header = f"load bpf {programs.HEADER}\nload pcap {file}\n"
