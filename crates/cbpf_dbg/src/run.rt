@@ -1,7 +1,12 @@
 //! Runs to the next hit.
 
-ghost use Rattle.std.specs.Prelude.{◌≡◌, ◌≢◌, ◌+◌, ◌-◌, ◌<◌, ◌≤◌, ◌^◌, [], Some, true, false, OnSome};
-ghost use Rattle.cbpf_machine.specs.Follow.{is_watched};
+ghost use Rattle.std.specs.Prelude.{◌≡◌, ◌≢◌, ◌+◌, ◌-◌, ◌*◌, ◌<◌, ◌≤◌, ◌^◌, ℕ, List, [], Some, true, false, OnSome, take};
+ghost use Rattle.cbpf_code.specs.declared.checker.TheConstants.{MAX_INSTRUCTIONS};
+ghost use Rattle.cbpf_machine.specs.Registers.{Registers};
+ghost use Rattle.cbpf_machine.specs.Machine.{machine_of};
+ghost use Rattle.cbpf_machine.specs.Trace.{trace, outcome};
+ghost use Rattle.cbpf_machine.specs.Follow.{Follows, is_watched, turns_to};
+ghost use Rattle.cbpf_machine.specs.declared.follow.Followed.TheVariants as followed;
 ghost use Rattle.pcap_classic.specs.Records.{StartsAt};
 ghost use Rattle.cbpf_dbg.specs.Commands.{PassesHits};
 ghost use Rattle.cbpf_dbg.specs.Joined.{rest};
@@ -12,23 +17,90 @@ ghost use Rattle.cbpf_dbg.specs.Going.{CanGoOn, GoesOn, KeepsIn};
 
 use crate::cursor::{Cursor, Moved, Walk, stop_at};
 use crate::loaded::Loaded;
-use cbpf_machine::{Followed, Meter, Never, Packet, Pause, Trail, follow_packet};
+use cbpf_code::Program;
+use cbpf_machine::{
+    Followed, Meter, Never, Packet, Pause, State, Trail, Values, Watched, follow_packet,
+};
 use cbpf_reply::{RunReply, Stop, Why};
 use std::alloc::Allocator;
+
+/// What a run keeps of a packet as it follows it: a trail, or nothing.
+pub(crate) trait Keeper<P: Pause, A: Allocator> {
+    ghost stands_for: { Self → List Registers → Type 0 };
+
+    /// As `cbpf_machine::follow_packet`.
+    fn follow_packet(
+        &mut self,
+        meter: &mut Meter,
+        program: &Program<A>,
+        packet: Packet<'_>,
+        values: &Values,
+        pause: &P,
+        state: &mut State,
+    ) -> Followed
+        requires { meter.old + 2 * MAX_INSTRUCTIONS ≤ 2 ^ 128 }
+        ensures follows { Follows (λ s. P.pauses pause.now s)
+            (trace (machine_of program.now values.now) packet.entry.bytes.now packet.entry.wire)
+            (outcome (machine_of program.now values.now) packet.entry.bytes.now packet.entry.wire) 0 state.old state.new result }
+        ensures turns { meter.new + 1 ≡ meter.old
+            + turns_to (trace (machine_of program.now values.now) packet.entry.bytes.now packet.entry.wire) 0 result }
+        ensures stands { (n : ℕ) → result ≡ followed.Watched n → stands_for self.new
+            (take n (trace (machine_of program.now values.now) packet.entry.bytes.now packet.entry.wire)) };
+}
+
+/// No trail.
+#[derive(Drop)]
+pub(crate) struct NoTrail;
+
+impl<P: Pause, A: Allocator> Keeper<P, A> for NoTrail {
+    ghost stands_for = { λ t xs. Unit {0} };
+
+    #[inline(always)]
+    fn follow_packet(
+        &mut self,
+        meter: &mut Meter,
+        program: &Program<A>,
+        packet: Packet<'_>,
+        values: &Values,
+        pause: &P,
+        state: &mut State,
+    ) -> Followed {
+        follow_packet(meter, program, packet, values, pause, state)
+    }
+}
+
+impl<T: Trail, A: Allocator> Keeper<Watched<A>, A> for T {
+    ghost stands_for = { λ t xs. T.stands_for t xs };
+
+    #[inline(always)]
+    fn follow_packet(
+        &mut self,
+        meter: &mut Meter,
+        program: &Program<A>,
+        packet: Packet<'_>,
+        values: &Values,
+        pause: &Watched<A>,
+        state: &mut State,
+    ) -> Followed {
+        Trail::follow_packet(self, meter, program, packet, values, pause, state)
+    }
+}
 
 /// Goes on over whole packets to the next entry where it pauses, or to the end: whether it pauses.
 // It isn't inlined, so that the processor's registers are for its loop alone.
 #[inline(never)]
-pub(crate) fn run_records<P: Pause, A: Allocator>(
+pub(crate) fn run_records<P: Pause, A: Allocator, K: Keeper<P, A>>(
     meter: &mut Meter,
     loaded: &Loaded<'_, A>,
     pause: &P,
     walk: &mut Walk<'_>,
+    kept: &mut K,
 ) -> bool
     requires can { CanGoOn loaded.now walk.old meter.old }
     requires before { walk.old.cursor.place.step ≡ 0 }
     ensures goes { GoesOn loaded.now (λ s. P.pauses pause.now s) walk.old walk.new meter.old meter.new result }
     ensures none { result ≡ false → walk.new.cursor.place.packet ≡ walk.new.end }
+    ensures keeps { result ≡ true → KeepsIn (λ xs. K.stands_for kept.new xs) loaded.now walk.new.cursor.place }
 {
     // Bound here, as the compiler would load them again after each packet.
     let program = loaded.program;
@@ -42,7 +114,7 @@ pub(crate) fn run_records<P: Pause, A: Allocator>(
             wire: here.wire,
         };
         let state = &mut walk.cursor.state;
-        match follow_packet(meter, program, packet, values, pause, state) {
+        match kept.follow_packet(meter, program, packet, values, pause, state) {
             Followed::Watched(entries) => {
                 walk.cursor.place.step = entries;
                 return true;
@@ -54,48 +126,8 @@ pub(crate) fn run_records<P: Pause, A: Allocator>(
     false
 }
 
-/// Goes on over whole packets to the next hit, or to the end: whether there is one. The trail keeps the entries of each
-/// packet on the way.
-#[inline(never)]
-fn run_kept<T: Trail, A: Allocator>(
-    meter: &mut Meter,
-    loaded: &Loaded<'_, A>,
-    walk: &mut Walk<'_>,
-    trail: &mut T,
-) -> bool
-    requires can { CanGoOn loaded.now walk.old meter.old }
-    requires before { walk.old.cursor.place.step ≡ 0 }
-    ensures goes { GoesOn loaded.now (is_watched loaded.now.watched.now) walk.old walk.new meter.old meter.new result }
-    ensures none { result ≡ false → walk.new.cursor.place.packet ≡ walk.new.end }
-    ensures keeps { KeepsIn (λ xs. T.stands_for trail.new xs) loaded.now walk.new.cursor.place }
-{
-    let program = loaded.program;
-    let values = loaded.values;
-    let watched = loaded.watched;
-    'go: while walk.cursor.place.packet < walk.end {
-        let Some(here) = walk.left.first() else {
-            unreachable!()
-        };
-        let packet = Packet {
-            bytes: here.bytes,
-            wire: here.wire,
-        };
-        let state = &mut walk.cursor.state;
-        match trail.follow_packet(meter, program, packet, values, watched, state) {
-            Followed::Watched(entries) => {
-                walk.cursor.place.step = entries;
-                return true;
-            }
-            Followed::Ended(outcome) => walk.cursor.finish_whole_packet(outcome),
-        }
-        walk.left.pass(&here);
-    }
-    trail.clear();
-    false
-}
-
-/// The same by a loop that keeps no trail, where nothing can stop it, or each packet is so short that the trail can
-/// start at the hit.
+/// Goes on over whole packets to the next hit, or to the end: whether there is one. It keeps no trail on the way where
+/// nothing can stop it, or each packet is so short that the trail can start at the hit.
 fn run_whole<T: Trail, A: Allocator>(
     meter: &mut Meter,
     loaded: &Loaded<'_, A>,
@@ -110,12 +142,16 @@ fn run_whole<T: Trail, A: Allocator>(
     ensures keeps { KeepsIn (λ xs. T.stands_for trail.new xs) loaded.now walk.new.cursor.place }
 {
     if loaded.cannot_stop {
-        return run_records(meter, loaded, &Never, walk);
+        return run_records(meter, loaded, &Never, walk, &mut NoTrail);
     }
     if loaded.program.len() > T::first_gap() {
-        return run_kept(meter, loaded, walk, trail);
+        if run_records(meter, loaded, loaded.watched, walk, trail) {
+            return true;
+        }
+        trail.clear();
+        return false;
     }
-    if !run_records(meter, loaded, loaded.watched, walk) {
+    if !run_records(meter, loaded, loaded.watched, walk, &mut NoTrail) {
         return false;
     }
     trail.start(walk.cursor.place.step, walk.cursor.state);

@@ -13,7 +13,7 @@ ghost use Rattle.cbpf_machine.specs.Trail.{most_turns_back};
 
 use crate::cursor::{Cursor, Moved, Walk, advance, stop_at};
 use crate::loaded::Loaded;
-use crate::run::run_records;
+use crate::run::{NoTrail, run_records};
 use cbpf_machine::{Meter, Never, Packet, Trail};
 use cbpf_reply::{RunReply, Stop, Why};
 use pcap_classic::Records;
@@ -60,7 +60,7 @@ fn skip_packets<'a, A: Allocator>(
         let packets = (left - 1) / longest;
         walk.end = walk.cursor.place.packet.saturating_add(packets).min(past);
         let before = meter.spent();
-        let _paused = run_records(meter, loaded, &Never, &mut walk);
+        let _paused = run_records(meter, loaded, &Never, &mut walk, &mut NoTrail);
         left -= (meter.spent() - before) as u64;
     }
     *cursor = walk.cursor;

@@ -10,7 +10,7 @@ ghost use Rattle.cbpf_dbg.specs.declared.cursor.Walk.{Walk};
 
 use crate::cursor::{Moved, Walk, stop_at};
 use crate::loaded::Loaded;
-use crate::run::run_records;
+use crate::run::{NoTrail, run_records};
 use cbpf_machine::{Meter, Packet, follow_on};
 use cbpf_reply::{Stop, Why};
 use std::alloc::{Allocator, Global};
@@ -92,7 +92,7 @@ fn next_stop<A: Allocator>(
         walk.old result walk.new }
 {
     if !go_on_in_packet(meter, loaded, walk) {
-        if !run_records(meter, loaded, loaded.watched, walk) {
+        if !run_records(meter, loaded, loaded.watched, walk, &mut NoTrail) {
             return None;
         }
     }
