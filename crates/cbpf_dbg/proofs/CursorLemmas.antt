@@ -7,9 +7,8 @@ use Rattle.cbpf_machine.specs.Registers.{Registers, zero_state}
 use Rattle.cbpf_machine.specs.declared.outcome.Turn.TheVariants.{Next}
 use Rattle.cbpf_machine.specs.Step.{turn}
 use Rattle.cbpf_machine.specs.Trace.{trace, outcome, next_of, outcome_of}
-use Rattle.cbpf_machine.specs.Follow.{IsOnTrace}
+use Rattle.cbpf_machine.specs.Together.{Task, IsOnTrace}
 use Rattle.cbpf_machine.proofs.TraceLemmas.{first_entry, goes_from_entry, goes_next, goes_at, goes_last, outcome_at_last}
-use Rattle.cbpf_machine.proofs.SoundLemmas.{sound_some}
 use Rattle.pcap_classic.specs.Records.{Record}
 use Rattle.cbpf_reply.specs.declared.reply.Counts.{Counts}
 use Rattle.cbpf_dbg.specs.declared.cursor.Cursor.{Cursor}
@@ -22,6 +21,9 @@ use Rattle.cbpf_dbg.proofs.CountLemmas.{counts-more}
 -- what is known of a cursor and the record of its packet
 module _ (machine : Machine) (capture : List Record) (w : Cursor) (r : Record) (h : Stands machine capture w)
     (at : slice_get capture (w.place.packet - 1) ≡ Some r) where
+  abbrev task : Task
+  task = record { machine = machine; bytes = r.bytes; wire = r.wire }
+
   pub packet_from_one : 1 ≤ w.place.packet
   packet_from_one = omega (arith, h.from_one, h.ordered)
 
@@ -57,13 +59,11 @@ module _ (machine : Machine) (capture : List Record) (w : Cursor) (r : Record) (
       let same : e.0 ≡ r = cc in
       subst (λ (q : Record). slice_get (trace machine q.bytes q.wire) (w.place.step - 1) ≡ Some w.state) same e.2
 
-  pub goes : 0 < w.place.step → IsOnTrace machine r.bytes r.wire (trace machine r.bytes r.wire)
-      (w.place.step - 1) w.state
-  goes inside = goes_from_entry machine r.bytes r.wire (w.place.step - 1) zero_state w.state h.sound
-      (sound_some machine.list h.sound) (entry_at_place inside)
+  pub goes : 0 < w.place.step → IsOnTrace task (w.place.step - 1) w.state
+  goes inside = goes_from_entry task h.sound (w.place.step - 1) w.state (entry_at_place inside)
 
   pub stands-entered : Stands machine capture (entered w)
-  stands-entered = stands_at 1 zero_state (first_entry machine r.bytes r.wire h.sound)
+  stands-entered = stands_at 1 zero_state (first_entry task h.sound)
 
   pub moves-entered : w.place.step ≡ 0 → Moves machine capture w moved.Entry (entered w)
   moves-entered step = (
@@ -73,7 +73,7 @@ module _ (machine : Machine) (capture : List Record) (w : Cursor) (r : Record) (
     omega (arith, step),
     ap (λ k. ahead machine capture (place_at w.place.packet k)) step
         ∙ ahead-entry machine capture w.place.packet 0 r zero_state packet_from_one at
-        (first_entry machine r.bytes r.wire h.sound),
+        (first_entry task h.sound),
   )
 
   module _ (inside : 0 < w.place.step) where
@@ -81,8 +81,7 @@ module _ (machine : Machine) (capture : List Record) (w : Cursor) (r : Record) (
         → slice_get (trace machine r.bytes r.wire) w.place.step ≡ Some t
     next_entry t e =
         let i : w.place.step - 1 + 1 ≡ w.place.step = omega (arith, inside) in
-        rw i at (goes_at machine r.bytes r.wire (trace machine r.bytes r.wire) (w.place.step - 1 + 1) t h.sound
-        (goes_next _ _ _ _ _ _ t h.sound (goes inside) e))
+        rw i at (goes_at task h.sound (goes_next task h.sound (goes inside) t e))
 
     pub stands-stepped : (t : Registers) → turn machine r.bytes r.wire w.state ≡ Next t
         → Stands machine capture (stepped w t)
@@ -103,13 +102,12 @@ module _ (machine : Machine) (capture : List Record) (w : Cursor) (r : Record) (
     module _ (none : next_of (turn machine r.bytes r.wire w.state) ≡ None) where
       pub stands-left : Stands machine capture (passed w (outcome_of (turn machine r.bytes r.wire w.state)))
       stands-left = subst (λ o. Stands machine capture (passed w o))
-          (outcome_at_last machine r.bytes r.wire (w.place.step - 1) w.state h.sound (goes inside) none) stands-passed
+          (outcome_at_last task h.sound (goes inside) none) stands-passed
 
       pub moves-left : Moves machine capture w moved.Packet (passed w (outcome_of
           (turn machine r.bytes r.wire w.state)))
       moves-left =
-          let last = goes_last machine r.bytes r.wire (trace machine r.bytes r.wire) (w.place.step - 1) w.state h.sound
-          (goes inside) none in
+          let last = goes_last task h.sound (goes inside) none in
           (refl, ahead-leave machine capture w.place.packet w.place.step r packet_from_one at (omega (arith, last, inside)))
 
 pub counts-at : (machine : Machine) (capture : List Record) (n : ℕ)

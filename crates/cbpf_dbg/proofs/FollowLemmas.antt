@@ -12,7 +12,7 @@ use Rattle.cbpf_machine.specs.declared.follow.Followed.TheVariants.{Watched, End
 use Rattle.cbpf_machine.specs.Trace.{trace, outcome}
 use Rattle.cbpf_machine.specs.Follow.{Follows, Unpaused, turns_to}
 use Rattle.cbpf_machine.proofs.TraceLemmas.{goes_from_entry, length-trace_from}
-use Rattle.cbpf_machine.proofs.SoundLemmas.{sound_few, sound_some}
+use Rattle.cbpf_machine.proofs.SoundLemmas.{sound_few}
 use Rattle.pcap_classic.specs.Records.{Record}
 use Rattle.cbpf_dbg.specs.declared.cursor.Cursor.{Cursor}
 use Rattle.cbpf_dbg.specs.declared.loaded.Loaded.{Loaded}
@@ -108,7 +108,7 @@ module _ (machine : Machine) (capture : List Record) (w : Cursor) (r : Record) (
     no_hits : (m : ℕ) → Unpaused pauses xs w.place.step m → NoHits breakpoints w.place.step m
     no_hits m unpaused = λ i s from to there.
         not_covered pauses (hits machine breakpoints r.bytes r.wire s) s (covers r.bytes r.wire s
-        (goes_from_entry machine r.bytes r.wire i zero_state s h.sound (sound_some machine.list h.sound) there).inside)
+        (goes_from_entry _ h.sound i s there).inside)
         (unpaused i s from to there)
 
     on_hits : (n : ℕ) (s : Registers)

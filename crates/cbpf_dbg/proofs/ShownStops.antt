@@ -10,7 +10,7 @@ use Rattle.cbpf_machine.specs.Machine.{Machine}
 use Rattle.cbpf_code.specs.Sound.{IsSound}
 use Rattle.cbpf_machine.specs.Registers.{Registers}
 use Rattle.cbpf_machine.specs.Trace.{trace}
-use Rattle.cbpf_machine.proofs.TraceLemmas.{trace-is_run}
+use Rattle.cbpf_machine.proofs.TraceLemmas.{goes_from_entry}
 use Rattle.pcap_classic.specs.Records.{Record}
 use Rattle.pcap_classic.specs.Savefile.{Savefile}
 use Rattle.cbpf_reply.specs.declared.reply.Place.{Place}
@@ -59,7 +59,7 @@ module _ (machine : Machine) (capture : List Record) (reason : Why) where
     within-joined_from q (r ∷ more) from_one fits =
         All-append (EntryWithin machine capture reason) (packet_entries machine r q) (joined_from machine (q + 1) more)
         (within-entries r q 1 (trace machine r.bytes r.wire) from_one (omega (arith, fits))
-        ((trace-is_run machine r.bytes r.wire sound).inside))
+        (λ i s here. (goes_from_entry _ sound i s here).inside))
         (within-joined_from (q + 1) more (omega arith) (omega (arith, fits)))
 
     within-joined : All (EntryWithin machine capture reason) (joined machine capture)
@@ -133,7 +133,7 @@ within-entry_in machine capture place None e sound from_one at is = absurd cc
 within-entry_in machine capture place (Some r) e sound from_one at is =
     within-entry_at machine capture place r (slice_get (trace machine r.bytes r.wire) (place.step - 1)) e
     from_one (omega (arith, slice_get_within capture (place.packet - 1) r at, from_one))
-    (λ s here. (trace-is_run machine r.bytes r.wire sound).inside (place.step - 1) s here) is
+    (λ s here. (goes_from_entry _ sound (place.step - 1) s here).inside) is
 
 module _ (machine : Machine) (c : Savefile) (v : View) (h : Holds machine c v) where
   shows-stop : (stop : Stop) → IsWithin machine.list c.records stop → CanShow v stop

@@ -26,5 +26,5 @@ returns-clause-keeps g c = λ r there.
     let ran = c.if-not-run_records.ensures.goes in
     let begun = (ran.entry refl).0 in
     c.start.ensures.stands (trace (machine_in c.args.loaded.now) r.bytes r.wire)
-    (first_entry (machine_in c.args.loaded.now) r.bytes r.wire ran.passes.stands.sound)
+    (first_entry _ ran.passes.stands.sound)
     (entry_at_place _ _ _ r ran.passes.stands there begun)

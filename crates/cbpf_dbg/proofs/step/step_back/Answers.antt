@@ -1,8 +1,6 @@
 use Rattle.std.proofs.Common.{◌-◌, arith, refl}
-use Rattle.cbpf_machine.specs.Registers.{zero_state}
 use Rattle.pcap_classic.specs.Lent.{record_of}
 use Rattle.cbpf_machine.specs.Step.{turn}
-use Rattle.cbpf_machine.proofs.SoundLemmas.{sound_some}
 use Rattle.cbpf_machine.proofs.TraceLemmas.{goes_from_entry}
 use Rattle.cbpf_dbg.specs.Joined.{Entry}
 use Rattle.cbpf_dbg.specs.Commands.{back_place}
@@ -11,9 +9,7 @@ use Rattle.cbpf_dbg.proofs.step.step_back.Goals as goal
 
 pub stop_at-requires : goal.stop_at-requires
 stop_at-requires g c =
-    (goes_from_entry (machine_in c.args.loaded.now) c.item_at-item.result.bytes.now c.item_at-item.result.wire
-    (c.args.cursor.now.place.step - c.args.b - 1) zero_state c.back-state.result
-    c.requires.stands.sound (sound_some c.args.loaded.now.program.now c.requires.stands.sound)
+    (goes_from_entry _ c.requires.stands.sound (c.args.cursor.now.place.step - c.args.b - 1) c.back-state.result
     c.back-state.ensures.entry).inside
 
 pub returns-clause-answer : goal.returns-clause-answer

@@ -1,6 +1,7 @@
 use Rattle.std.proofs.Common.{arith}
 use Rattle.cbpf_machine.specs.Machine.{machine_of}
 use Rattle.cbpf_machine.specs.Registers.{zero_state}
+use Rattle.cbpf_machine.specs.Together.{task_of}
 use Rattle.cbpf_machine.proofs.TraceLemmas.{length-trace_from, trace-is_run}
 use Rattle.cbpf_machine.proofs.run.run_packet.Goals as goal
 
@@ -12,5 +13,4 @@ returns-clause-few g c = omega (
 )
 
 pub returns-clause-whole : goal.returns-clause-whole
-returns-clause-whole g c = trace-is_run (machine_of c.args.p.now c.args.values.now) c.args.packet.bytes.now
-    c.args.packet.wire c.len-few.ensures.sound
+returns-clause-whole g c = trace-is_run (task_of c.args.p.now c.args.values.now c.args.packet) c.len-few.ensures.sound

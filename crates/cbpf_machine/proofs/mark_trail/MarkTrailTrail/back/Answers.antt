@@ -4,11 +4,9 @@ use Rattle.std.specs.Prelude.{Some, None, slice_get}
 use Rattle.std.proofs.lemmas.List.{get_or-take}
 use Rattle.std.proofs.lemmas.Option.{slice_get_read, slice_get_within, get_or_from_slice_get}
 use Rattle.cbpf_machine.specs.Trail.{AreCheckpoints, Checkpoints}
-use Rattle.cbpf_machine.specs.Registers.{Registers, zero_state}
-use Rattle.cbpf_machine.specs.Machine.{machine_of}
-use Rattle.cbpf_machine.specs.Step.{turn}
-use Rattle.cbpf_machine.specs.Trace.{trace, next_of}
-use Rattle.cbpf_machine.proofs.SoundLemmas.{sound_some}
+use Rattle.cbpf_machine.specs.Registers.{Registers}
+use Rattle.cbpf_machine.specs.Trace.{next_of}
+use Rattle.cbpf_machine.specs.Together.{task_of, turn_in, trace_in}
 use Rattle.cbpf_machine.proofs.TraceLemmas.{goes_from_entry, goes_next, goes_at, goes_last, next_of-none}
 use Rattle.cbpf_machine.specs.declared.mark_trail.TheConstants.{STRIDE}
 use Rattle.cbpf_machine.proofs.mark_trail.MarkTrailTrail.back.Goals as goal
@@ -33,16 +31,14 @@ kept_at kept items xs j r are under is =
 pub again-init : goal.again-init
 again-init g c =
     let at = kept_at c.self.inside.kept c.self.inside.checkpoints.items
-    (trace (machine_of c.args.p.now c.args.values.now) c.args.packet.bytes.now c.args.packet.wire)
-    ((c.args.to - 1) / STRIDE) c.index-deref-checkpoint.result
-    (subst (λ k. AreCheckpoints k
-    (take k.kept (trace (machine_of c.args.p.now c.args.values.now) c.args.packet.bytes.now c.args.packet.wire)))
+    (trace_in (task_of c.args.p.now c.args.values.now c.args.packet)) ((c.args.to - 1) / STRIDE)
+    c.index-deref-checkpoint.result (subst (λ k. AreCheckpoints k
+    (take k.kept (trace_in (task_of c.args.p.now c.args.values.now c.args.packet))))
     (sym c.self.view_is) c.requires.of_trace) (omega (arith, ap (λ (k : Checkpoints). k.kept) c.self.view_is))
     (rw c.deref.ensures.0 at c.index-deref-checkpoint.is) in
     record {
       sound = c.len-sound.ensures.sound;
-      here = goes_from_entry _ _ _ _ zero_state _ c.len-sound.ensures.sound
-          (sound_some c.args.p.now c.len-sound.ensures.sound) at;
+      here = goes_from_entry _ c.len-sound.ensures.sound _ _ at;
       turns = omega arith;
     }
 
@@ -50,27 +46,20 @@ pub again-preserved : goal.again-preserved
 again-preserved g c =
     record {
       sound = c.again.invariant.sound;
-      here = goes_next _ _ _ _ _ _ c.in-Next.next c.again.invariant.sound c.again.invariant.here
-          (sym c.in-Next.ensures.value);
+      here = goes_next _ c.again.invariant.sound c.again.invariant.here c.in-Next.next (sym c.in-Next.ensures.value);
       turns = omega arith;
     }
 
 -- an entry before the last has a next one
 pub unreachable-requires : goal.unreachable-requires
 unreachable-requires g c =
-    let none : next_of (turn (machine_of c.args.p.now c.args.values.now) c.args.packet.bytes.now c.args.packet.wire
-    c.again.s) ≡ None =
+    let none : next_of (turn_in (task_of c.args.p.now c.args.values.now c.args.packet) c.again.s) ≡ None =
     rw (← c.turn.ensures.value) (next_of-none c.turn.result c.in_default.not-Next) in
-    let end = goes_last _ _ _ _ _ _ c.again.invariant.sound c.again.invariant.here none in
+    let end = goes_last _ c.again.invariant.sound c.again.invariant.here none in
     let long = c.requires.of_trace.long in
-    omega (
-      arith,
-      end,
-      length-take c.args.self.now.kept
-          (trace (machine_of c.args.p.now c.args.values.now) c.args.packet.bytes.now c.args.packet.wire),
-    )
+    omega (arith, end, length-take c.args.self.now.kept (trace_in (task_of c.args.p.now c.args.values.now c.args.packet)))
 
 pub returns-clause-entry : goal.returns-clause-entry
 returns-clause-entry g c =
     let last : c.again.i ≡ c.args.to - 1 = omega arith in
-    rw last at (goes_at _ _ _ _ _ _ c.again.invariant.sound c.again.invariant.here)
+    rw last at (goes_at _ c.again.invariant.sound c.again.invariant.here)

@@ -1,8 +1,6 @@
 use Rattle.std.proofs.Common.{◌≡◌, ◌+◌, ◌*◌}
 use Rattle.cbpf_code.specs.Sound.{IsSound}
-use Rattle.cbpf_machine.specs.Machine.{machine_of}
-use Rattle.cbpf_machine.specs.Trace.{trace}
-use Rattle.cbpf_machine.specs.Follow.{IsOnTrace}
+use Rattle.cbpf_machine.specs.Together.{IsOnTrace, task_of}
 use Rattle.cbpf_machine.specs.declared.mark_trail.TheConstants.{STRIDE}
 use Rattle.cbpf_machine.proofs.mark_trail.MarkTrailTrail.back.Given as goal
 
@@ -11,7 +9,6 @@ abbrev pub invariant-again : goal.invariant-again
 invariant-again g l =
     record {
       sound : IsSound l.p;
-      here : IsOnTrace (machine_of l.p l.values) l.packet.bytes.now l.packet.wire
-          (trace (machine_of l.p l.values) l.packet.bytes.now l.packet.wire) l.i l.s;
+      here : IsOnTrace (task_of l.p l.values l.packet) l.i l.s;
       turns : l.meter + STRIDE * l.checkpoint ≡ l.initial.meter + l.i;
     }

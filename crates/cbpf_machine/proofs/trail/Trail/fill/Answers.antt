@@ -3,9 +3,7 @@ use Rattle.std.specs.Prelude.{None}
 use Rattle.cbpf_code.specs.declared.checker.TheConstants.{MAX_INSTRUCTIONS}
 use Rattle.cbpf_machine.specs.Core.{registers}
 use Rattle.cbpf_machine.specs.Registers.{Registers, zero_state}
-use Rattle.cbpf_machine.specs.Machine.{machine_of}
-use Rattle.cbpf_machine.specs.Trace.{trace}
-use Rattle.cbpf_machine.specs.Together.{Reaches}
+use Rattle.cbpf_machine.specs.Together.{Reaches, task_of, trace_in}
 use Rattle.cbpf_machine.proofs.TraceLemmas.{first_entry, goes_at}
 use Rattle.cbpf_machine.proofs.ListLemmas.{take-slice_get}
 use Rattle.cbpf_machine.proofs.FollowLemmas.{Comes, comes, start_goes, few_entries, ended, reaches_fenced}
@@ -23,18 +21,16 @@ fill-init g c =
       from_one = omega arith;
       within = c.requires.from_one;
       kept = sym (g.met.Self.Trail.as_long _ _ pushed);
-      here = rw c.zero-here.ensures (start_goes _ _ _ sound);
-      stands = rw (take-slice_get _ 0 zero_state (first_entry _ _ _ sound)) pushed;
+      here = rw c.zero-here.ensures (start_goes _ sound);
+      stands = rw (take-slice_get _ 0 zero_state (first_entry _ sound)) pushed;
       spent = omega arith;
     }
 
 reached : (g : Over) (c : After-pass-turns g)
-    → Reaches (machine_of c.args.p.now c.args.values.now) c.args.packet.bytes.now c.args.packet.wire
-    (λ (r : Registers). false)
-    (trace (machine_of c.args.p.now c.args.values.now) c.args.packet.bytes.now c.args.packet.wire)
-    (c.fill.entries - 1) (registers c.pass-turns.new.s c.pass-turns.new.slots) c.pass-turns.result.0
-    c.pass-turns.result.1 × (c.pass-turns.result.0 ≤ c.min.result)
-reached g c = reaches_fenced c.min.result (c.pass-turns.ensures.reaches _ _ c.fill.invariant.here) c.fill.invariant.here
+    → Reaches (task_of c.args.p.now c.args.values.now c.args.packet) (λ (r : Registers). false) (c.fill.entries - 1)
+    (registers c.pass-turns.new.s c.pass-turns.new.slots) c.pass-turns.result.0 c.pass-turns.result.1
+    × (c.pass-turns.result.0 ≤ c.min.result)
+reached g c = reaches_fenced c.min.result (c.pass-turns.ensures.reaches _ c.fill.invariant.here) c.fill.invariant.here
     c.fill.invariant.sound c.pass-turns.ensures.some
     (omega (arith, c.gap.ensures.some, c.min.ensures, c.fill-test.true)) (omega arith)
 
@@ -43,8 +39,7 @@ few : (g : Over) (c : After-pass-turns g) → (c.pass-turns.result.0 ≤ c.args.
 few g c =
     let h = reached g c in
     let within = reaches_within _ h.0 c.fill.invariant.sound c.pass-turns.ensures.some in
-    let all = few_entries (machine_of c.args.p.now c.args.values.now) c.args.packet.bytes.now c.args.packet.wire
-    zero_state c.fill.invariant.sound in
+    let all = few_entries (task_of c.args.p.now c.args.values.now c.args.packet) c.fill.invariant.sound in
     (omega (arith, h.1, c.min.ensures), omega (arith, within, all, c.fill.invariant.from_one))
 
 pub add-requires : goal.add-requires
@@ -77,17 +72,15 @@ keep-requires-clause-near g c =
     rw c.fill.invariant.kept (omega (arith, h.1, c.min.ensures, rw c.fill.invariant.kept at c.gap.ensures.value))
 
 on : (g : Over) (c : After-pass-turns g) → c.pass-turns.result.1 ≡ None
-    → Comes (machine_of c.args.p.now c.args.values.now) c.args.packet.bytes.now c.args.packet.wire
-    (λ (r : Registers). false) c.fill.entries (c.fill.entries + c.pass-turns.result.0)
-    (registers c.pass-turns.new.s c.pass-turns.new.slots)
+    → Comes (task_of c.args.p.now c.args.values.now c.args.packet) (λ (r : Registers). false) c.fill.entries
+    (c.fill.entries + c.pass-turns.result.0) (registers c.pass-turns.new.s c.pass-turns.new.slots)
 on g c is = comes c.fill.entries (rw is at (reached g c).0) (λ i s low high here. refl) c.fill.invariant.sound
     c.fill.invariant.from_one c.pass-turns.ensures.some
 
 pub keep-requires-clause-few : goal.keep-requires-clause-few
 keep-requires-clause-few g c =
     let to = on g (goal.at.keep-requires-clause-few g c).After-pass-turns c.in_default.is in
-    let all = few_entries (machine_of c.args.p.now c.args.values.now) c.args.packet.bytes.now c.args.packet.wire
-    zero_state c.fill.invariant.sound in
+    let all = few_entries (task_of c.args.p.now c.args.values.now c.args.packet) c.fill.invariant.sound in
     omega (arith, to.within, all, c.fill.invariant.kept)
 
 pub overflow_add-entries : goal.overflow_add-entries
@@ -101,8 +94,7 @@ fill-preserved g c =
     let h = few g at in
     let to = on g at c.in_default.is in
     let k = c.fill.invariant.kept in
-    let kept = c.keep.ensures.stands
-    (trace (machine_of c.args.p.now c.args.values.now) c.args.packet.bytes.now c.args.packet.wire)
+    let kept = c.keep.ensures.stands (trace_in (task_of c.args.p.now c.args.values.now c.args.packet))
     (rw (k, c.of.ensures) to.at) (rw k c.fill.invariant.stands) in
     let some = c.pass-turns.ensures.some in
     record {
@@ -118,4 +110,4 @@ fill-preserved g c =
 pub returns-clause-entry : goal.returns-clause-entry
 returns-clause-entry g c =
     let all : c.fill.entries ≡ c.args.to = omega (arith, c.fill-test.false, c.fill.invariant.within) in
-    rw c.of-2.ensures (rw all at (goes_at _ _ _ _ _ _ c.fill.invariant.sound c.fill.invariant.here))
+    rw c.of-2.ensures (rw all at (goes_at _ c.fill.invariant.sound c.fill.invariant.here))

@@ -1,9 +1,7 @@
 use Rattle.std.proofs.Common.{◌≡◌, ◌≤◌, ◌+◌, ◌-◌, take}
 use Rattle.cbpf_code.specs.Sound.{IsSound}
 use Rattle.cbpf_machine.specs.Core.{registers}
-use Rattle.cbpf_machine.specs.Machine.{machine_of}
-use Rattle.cbpf_machine.specs.Trace.{trace}
-use Rattle.cbpf_machine.specs.Follow.{IsOnTrace}
+use Rattle.cbpf_machine.specs.Together.{IsOnTrace, task_of, trace_in}
 use Rattle.cbpf_machine.proofs.trail.Trail.fill.Given as goal
 
 -- the trail keeps so many entries, of which the state is the last
@@ -14,10 +12,8 @@ invariant-fill g l =
       from_one : 1 ≤ l.entries;
       within : l.entries ≤ l.to;
       kept : g.Self.Trail.kept l.self ≡ l.entries;
-      here : IsOnTrace (machine_of l.p l.values) l.packet.bytes.now l.packet.wire
-          (trace (machine_of l.p l.values) l.packet.bytes.now l.packet.wire) (l.entries - 1) (registers l.here l.slots);
-      stands : g.Self.Trail.stands_for l.self
-          (take l.entries (trace (machine_of l.p l.values) l.packet.bytes.now l.packet.wire));
+      here : IsOnTrace (task_of l.p l.values l.packet) (l.entries - 1) (registers l.here l.slots);
+      stands : g.Self.Trail.stands_for l.self (take l.entries (trace_in (task_of l.p l.values l.packet)));
       spent : l.meter + 1 ≡ l.fn.meter + l.entries;
     }
 

@@ -2,12 +2,11 @@ use Rattle.std.proofs.Common.{◌≡◌, ◌≤◌, ◌+◌, ◌∙◌, ◌-◌,
 use Rattle.std.specs.Prelude.{None}
 use Rattle.cbpf_code.specs.declared.checker.TheConstants.{MAX_INSTRUCTIONS}
 use Rattle.cbpf_machine.specs.Core.{registers}
-use Rattle.cbpf_machine.specs.Machine.{machine_of}
-use Rattle.cbpf_machine.specs.Trace.{trace}
 use Rattle.cbpf_machine.specs.Follow.{is_watched}
-use Rattle.cbpf_machine.specs.Together.{Reaches}
+use Rattle.cbpf_machine.specs.Together.{Reaches, task_of, trace_in}
 use Rattle.cbpf_machine.proofs.SoundLemmas.{sound_few}
-use Rattle.cbpf_machine.proofs.FollowLemmas.{Comes, comes, entry_goes, few_entries, unpaused_next, ended}
+use Rattle.cbpf_machine.proofs.TraceLemmas.{goes_from_entry}
+use Rattle.cbpf_machine.proofs.FollowLemmas.{Comes, comes, few_entries, unpaused_next, ended}
 use Rattle.cbpf_machine.proofs.FollowLemmas.{reaches_fenced, reaches_within}
 use Rattle.cbpf_machine.proofs.trail.Trail.follow.Given.{Over}
 use Rattle.cbpf_machine.proofs.trail.Trail.follow.Goals.{After-pass-turns}
@@ -19,7 +18,7 @@ follow-init g c = record {
   from_one = c.requires.from_one;
   kept = omega arith;
   here = rw (c.slots-slots.ensures, c.core-here.ensures)
-      (entry_goes _ _ _ c.len-few.ensures.sound _ _ c.requires.last);
+      (goes_from_entry _ c.len-few.ensures.sound _ _ c.requires.last);
   stands = c.requires.of_trace;
   unpaused = λ i s low high at. absurd (omega arith);
   state = refl;
@@ -59,22 +58,19 @@ invariant_of-pause g c = omega (
 )
 
 reached : (g : Over) (c : After-pass-turns g)
-    → Reaches (machine_of c.args.p.now c.args.values.now) c.args.packet.bytes.now c.args.packet.wire
-    (is_watched c.args.watched.now)
-    (trace (machine_of c.args.p.now c.args.values.now) c.args.packet.bytes.now c.args.packet.wire)
+    → Reaches (task_of c.args.p.now c.args.values.now c.args.packet) (is_watched c.args.watched.now)
     (g.Self.Trail.kept c.follow.self - 1) (registers c.pass-turns.new.s c.pass-turns.new.slots) c.pass-turns.result.0
     c.pass-turns.result.1 × (c.pass-turns.result.0 ≤ c.gap.result)
-reached g c = reaches_fenced c.gap.result (c.pass-turns.ensures.reaches _ _ c.follow.invariant.here)
+reached g c = reaches_fenced c.gap.result (c.pass-turns.ensures.reaches _ c.follow.invariant.here)
     c.follow.invariant.here c.follow.invariant.sound c.pass-turns.ensures.some c.gap.ensures.some (omega arith)
 
 within : (g : Over) (c : After-pass-turns g)
     → (g.Self.Trail.kept c.follow.self + c.pass-turns.result.0
-    ≤ length (trace (machine_of c.args.p.now c.args.values.now) c.args.packet.bytes.now c.args.packet.wire) + 1)
-    × (length (trace (machine_of c.args.p.now c.args.values.now) c.args.packet.bytes.now c.args.packet.wire)
-    ≤ MAX_INSTRUCTIONS)
+    ≤ length (trace_in (task_of c.args.p.now c.args.values.now c.args.packet)) + 1)
+    × (length (trace_in (task_of c.args.p.now c.args.values.now c.args.packet)) ≤ MAX_INSTRUCTIONS)
 within g c =
     let h = reaches_within _ (reached g c).0 c.follow.invariant.sound c.pass-turns.ensures.some in
-    (omega (arith, c.follow.invariant.from_one), few_entries _ _ _ _ c.follow.invariant.sound)
+    (omega (arith, c.follow.invariant.from_one), few_entries _ c.follow.invariant.sound)
 
 pub add-requires : goal.add-requires
 add-requires g c =
@@ -102,9 +98,9 @@ keep-requires-clause-near g c =
 
 -- and to another entry
 on : (g : Over) (c : After-pass-turns g) → c.pass-turns.result.1 ≡ None
-    → Comes (machine_of c.args.p.now c.args.values.now) c.args.packet.bytes.now c.args.packet.wire
-    (is_watched c.args.watched.now) (g.Self.Trail.kept c.args.self.now)
-    (g.Self.Trail.kept c.follow.self + c.pass-turns.result.0) (registers c.pass-turns.new.s c.pass-turns.new.slots)
+    → Comes (task_of c.args.p.now c.args.values.now c.args.packet) (is_watched c.args.watched.now)
+    (g.Self.Trail.kept c.args.self.now) (g.Self.Trail.kept c.follow.self + c.pass-turns.result.0)
+    (registers c.pass-turns.new.s c.pass-turns.new.slots)
 on g c is = comes (g.Self.Trail.kept c.follow.self) (rw is at (reached g c).0) c.follow.invariant.unpaused
     c.follow.invariant.sound c.follow.invariant.from_one c.pass-turns.ensures.some
 
