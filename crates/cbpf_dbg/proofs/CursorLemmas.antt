@@ -81,7 +81,7 @@ module _ (machine : Machine) (capture : List Record) (w : Cursor) (r : Record) (
         → slice_get (trace machine r.bytes r.wire) w.place.step ≡ Some t
     next_entry t e =
         let i : w.place.step - 1 + 1 ≡ w.place.step = omega (arith, inside) in
-        rw i at (goes_at task h.sound (goes_next task h.sound (goes inside) t e))
+        rw i at (goes_at (goes_next (goes inside) t e))
 
     pub stands-stepped : (t : Registers) → turn machine r.bytes r.wire w.state ≡ Next t
         → Stands machine capture (stepped w t)
@@ -102,12 +102,12 @@ module _ (machine : Machine) (capture : List Record) (w : Cursor) (r : Record) (
     module _ (none : next_of (turn machine r.bytes r.wire w.state) ≡ None) where
       pub stands-left : Stands machine capture (passed w (outcome_of (turn machine r.bytes r.wire w.state)))
       stands-left = subst (λ o. Stands machine capture (passed w o))
-          (outcome_at_last task h.sound (goes inside) none) stands-passed
+          (outcome_at_last (goes inside) none) stands-passed
 
       pub moves-left : Moves machine capture w moved.Packet (passed w (outcome_of
           (turn machine r.bytes r.wire w.state)))
       moves-left =
-          let last = goes_last task h.sound (goes inside) none in
+          let last = goes_last (goes inside) none in
           (refl, ahead-leave machine capture w.place.packet w.place.step r packet_from_one at (omega (arith, last, inside)))
 
 pub counts-at : (machine : Machine) (capture : List Record) (n : ℕ)

@@ -37,7 +37,6 @@ again-init g c =
     (sym c.self.view_is) c.requires.of_trace) (omega (arith, ap (λ (k : Checkpoints). k.kept) c.self.view_is))
     (rw c.deref.ensures.0 at c.index-deref-checkpoint.is) in
     record {
-      sound = c.len-sound.ensures.sound;
       here = goes_from_entry _ c.len-sound.ensures.sound _ _ at;
       turns = omega arith;
     }
@@ -45,8 +44,7 @@ again-init g c =
 pub again-preserved : goal.again-preserved
 again-preserved g c =
     record {
-      sound = c.again.invariant.sound;
-      here = goes_next _ c.again.invariant.sound c.again.invariant.here c.in-Next.next (sym c.in-Next.ensures.value);
+      here = goes_next c.again.invariant.here c.in-Next.next (sym c.in-Next.ensures.value);
       turns = omega arith;
     }
 
@@ -55,11 +53,11 @@ pub unreachable-requires : goal.unreachable-requires
 unreachable-requires g c =
     let none : next_of (turn_in (task_of c.args.p.now c.args.values.now c.args.packet) c.again.s) ≡ None =
     rw (← c.turn.ensures.value) (next_of-none c.turn.result c.in_default.not-Next) in
-    let end = goes_last _ c.again.invariant.sound c.again.invariant.here none in
+    let end = goes_last c.again.invariant.here none in
     let long = c.requires.of_trace.long in
     omega (arith, end, length-take c.args.self.now.kept (trace_in (task_of c.args.p.now c.args.values.now c.args.packet)))
 
 pub returns-clause-entry : goal.returns-clause-entry
 returns-clause-entry g c =
     let last : c.again.i ≡ c.args.to - 1 = omega arith in
-    rw last at (goes_at _ c.again.invariant.sound c.again.invariant.here)
+    rw last at (goes_at c.again.invariant.here)

@@ -1,5 +1,4 @@
 use Rattle.std.proofs.Common.{◌≡◌, ◌+◌, ◌*◌}
-use Rattle.cbpf_code.specs.Sound.{IsSound}
 use Rattle.cbpf_machine.specs.Together.{IsOnTrace, task_of}
 use Rattle.cbpf_machine.specs.declared.mark_trail.TheConstants.{STRIDE}
 use Rattle.cbpf_machine.proofs.mark_trail.MarkTrailTrail.back.Given as goal
@@ -8,7 +7,6 @@ use Rattle.cbpf_machine.proofs.mark_trail.MarkTrailTrail.back.Given as goal
 abbrev pub invariant-again : goal.invariant-again
 invariant-again g l =
     record {
-      sound : IsSound l.p;
       here : IsOnTrace (task_of l.p l.values l.packet) l.i l.s;
       turns : l.meter + STRIDE * l.checkpoint ≡ l.initial.meter + l.i;
     }

@@ -17,7 +17,6 @@ fill-init g c =
     let sound = c.len-sound.ensures.sound in
     let pushed = rw c.zero.ensures at (c.push.ensures [] c.requires.empty) in
     record {
-      sound = sound;
       from_one = omega arith;
       within = c.requires.from_one;
       kept = sym (g.met.Self.Trail.as_long _ _ pushed);
@@ -31,15 +30,14 @@ reached : (g : Over) (c : After-pass-turns g)
     (registers c.pass-turns.new.s c.pass-turns.new.slots) c.pass-turns.result.0 c.pass-turns.result.1
     × (c.pass-turns.result.0 ≤ c.min.result)
 reached g c = reaches_fenced c.min.result (c.pass-turns.ensures.reaches _ c.fill.invariant.here) c.fill.invariant.here
-    c.fill.invariant.sound c.pass-turns.ensures.some
-    (omega (arith, c.gap.ensures.some, c.min.ensures, c.fill-test.true)) (omega arith)
+    c.pass-turns.ensures.some (omega (arith, c.gap.ensures.some, c.min.ensures, c.fill-test.true)) (omega arith)
 
 few : (g : Over) (c : After-pass-turns g) → (c.pass-turns.result.0 ≤ c.args.to - c.fill.entries)
     × (c.fill.entries + c.pass-turns.result.0 ≤ MAX_INSTRUCTIONS + 1)
 few g c =
     let h = reached g c in
-    let within = reaches_within _ h.0 c.fill.invariant.sound c.pass-turns.ensures.some in
-    let all = few_entries (task_of c.args.p.now c.args.values.now c.args.packet) c.fill.invariant.sound in
+    let within = reaches_within _ h.0 c.pass-turns.ensures.some in
+    let all = few_entries (task_of c.args.p.now c.args.values.now c.args.packet) c.fill.invariant.here.sound in
     (omega (arith, h.1, c.min.ensures), omega (arith, within, all, c.fill.invariant.from_one))
 
 pub add-requires : goal.add-requires
@@ -58,7 +56,7 @@ returns-in-Some-clause-short g c =
     let h = few g at in
     let some = c.pass-turns.ensures.some in
     let end = (ended {k = c.fill.entries} c.fill.entries zero_state (rw c.in-Some.is at (reached g at).0)
-    (λ i s low high here. refl) c.fill.invariant.sound c.fill.invariant.from_one some refl).1 in
+    (λ i s low high here. refl) c.fill.invariant.from_one some refl).1 in
     (omega (arith, end, some), omega (arith, h.0, c.fill-test.true))
 
 pub returns-in-Some-clause-few : goal.returns-in-Some-clause-few
@@ -74,13 +72,13 @@ keep-requires-clause-near g c =
 on : (g : Over) (c : After-pass-turns g) → c.pass-turns.result.1 ≡ None
     → Comes (task_of c.args.p.now c.args.values.now c.args.packet) (λ (r : Registers). false) c.fill.entries
     (c.fill.entries + c.pass-turns.result.0) (registers c.pass-turns.new.s c.pass-turns.new.slots)
-on g c is = comes c.fill.entries (rw is at (reached g c).0) (λ i s low high here. refl) c.fill.invariant.sound
+on g c is = comes c.fill.entries (rw is at (reached g c).0) (λ i s low high here. refl)
     c.fill.invariant.from_one c.pass-turns.ensures.some
 
 pub keep-requires-clause-few : goal.keep-requires-clause-few
 keep-requires-clause-few g c =
     let to = on g (goal.at.keep-requires-clause-few g c).After-pass-turns c.in_default.is in
-    let all = few_entries (task_of c.args.p.now c.args.values.now c.args.packet) c.fill.invariant.sound in
+    let all = few_entries (task_of c.args.p.now c.args.values.now c.args.packet) c.fill.invariant.here.sound in
     omega (arith, to.within, all, c.fill.invariant.kept)
 
 pub overflow_add-entries : goal.overflow_add-entries
@@ -98,7 +96,6 @@ fill-preserved g c =
     (rw (k, c.of.ensures) to.at) (rw k c.fill.invariant.stands) in
     let some = c.pass-turns.ensures.some in
     record {
-      sound = c.fill.invariant.sound;
       from_one = omega (arith, some);
       within = omega (arith, h.0, c.fill-test.true);
       kept = omega (arith, kept.1, k);
@@ -110,4 +107,4 @@ fill-preserved g c =
 pub returns-clause-entry : goal.returns-clause-entry
 returns-clause-entry g c =
     let all : c.fill.entries ≡ c.args.to = omega (arith, c.fill-test.false, c.fill.invariant.within) in
-    rw c.of-2.ensures (rw all at (goes_at _ c.fill.invariant.sound c.fill.invariant.here))
+    rw c.of-2.ensures (rw all at (goes_at c.fill.invariant.here))

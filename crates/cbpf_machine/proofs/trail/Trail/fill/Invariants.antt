@@ -1,5 +1,4 @@
 use Rattle.std.proofs.Common.{◌≡◌, ◌≤◌, ◌+◌, ◌-◌, take}
-use Rattle.cbpf_code.specs.Sound.{IsSound}
 use Rattle.cbpf_machine.specs.Core.{registers}
 use Rattle.cbpf_machine.specs.Together.{IsOnTrace, task_of, trace_in}
 use Rattle.cbpf_machine.proofs.trail.Trail.fill.Given as goal
@@ -8,7 +7,6 @@ use Rattle.cbpf_machine.proofs.trail.Trail.fill.Given as goal
 abbrev pub invariant-fill : goal.invariant-fill
 invariant-fill g l =
     record {
-      sound : IsSound l.p;
       from_one : 1 ≤ l.entries;
       within : l.entries ≤ l.to;
       kept : g.Self.Trail.kept l.self ≡ l.entries;

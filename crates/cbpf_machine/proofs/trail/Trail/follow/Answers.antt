@@ -14,7 +14,6 @@ use Rattle.cbpf_machine.proofs.trail.Trail.follow.Goals as goal
 
 pub follow-init : goal.follow-init
 follow-init g c = record {
-  sound = c.len-few.ensures.sound;
   from_one = c.requires.from_one;
   kept = omega arith;
   here = rw (c.slots-slots.ensures, c.core-here.ensures)
@@ -30,7 +29,7 @@ overflow_add-fence g c = omega (
   arith,
   c.gap.ensures.few,
   c.follow.invariant.here.inside,
-  sound_few c.args.p.now c.follow.invariant.sound,
+  sound_few c.args.p.now c.follow.invariant.here.sound,
 )
 
 pub overflow_cast-pause : goal.overflow_cast-pause
@@ -38,7 +37,7 @@ overflow_cast-pause g c = omega (
   arith,
   c.gap.ensures.few,
   c.follow.invariant.here.inside,
-  sound_few c.args.p.now c.follow.invariant.sound,
+  sound_few c.args.p.now c.follow.invariant.here.sound,
 )
 
 pub overflow_sub-pause : goal.overflow_sub-pause
@@ -46,7 +45,7 @@ overflow_sub-pause g c = omega (
   arith,
   c.gap.ensures.few,
   c.follow.invariant.here.inside,
-  sound_few c.args.p.now c.follow.invariant.sound,
+  sound_few c.args.p.now c.follow.invariant.here.sound,
 )
 
 pub invariant_of-pause : goal.invariant_of-pause
@@ -54,7 +53,7 @@ invariant_of-pause g c = omega (
   arith,
   c.gap.ensures.few,
   c.follow.invariant.here.inside,
-  sound_few c.args.p.now c.follow.invariant.sound,
+  sound_few c.args.p.now c.follow.invariant.here.sound,
 )
 
 reached : (g : Over) (c : After-pass-turns g)
@@ -62,15 +61,15 @@ reached : (g : Over) (c : After-pass-turns g)
     (g.Self.Trail.kept c.follow.self - 1) (registers c.pass-turns.new.s c.pass-turns.new.slots) c.pass-turns.result.0
     c.pass-turns.result.1 × (c.pass-turns.result.0 ≤ c.gap.result)
 reached g c = reaches_fenced c.gap.result (c.pass-turns.ensures.reaches _ c.follow.invariant.here)
-    c.follow.invariant.here c.follow.invariant.sound c.pass-turns.ensures.some c.gap.ensures.some (omega arith)
+    c.follow.invariant.here c.pass-turns.ensures.some c.gap.ensures.some (omega arith)
 
 within : (g : Over) (c : After-pass-turns g)
     → (g.Self.Trail.kept c.follow.self + c.pass-turns.result.0
     ≤ length (trace_in (task_of c.args.p.now c.args.values.now c.args.packet)) + 1)
     × (length (trace_in (task_of c.args.p.now c.args.values.now c.args.packet)) ≤ MAX_INSTRUCTIONS)
 within g c =
-    let h = reaches_within _ (reached g c).0 c.follow.invariant.sound c.pass-turns.ensures.some in
-    (omega (arith, c.follow.invariant.from_one), few_entries _ c.follow.invariant.sound)
+    let h = reaches_within _ (reached g c).0 c.pass-turns.ensures.some in
+    (omega (arith, c.follow.invariant.from_one), few_entries _ c.follow.invariant.here.sound)
 
 pub add-requires : goal.add-requires
 add-requires g c =
@@ -81,7 +80,7 @@ pub returns-in-Some : goal.returns-in-Some
 returns-in-Some g c =
     let end = ended (g.Self.Trail.kept c.follow.self) c.args.s.now
     (rw c.in-Some.is at (reached g (goal.at.returns-in-Some g c).After-pass-turns).0)
-    c.follow.invariant.unpaused c.follow.invariant.sound c.follow.invariant.from_one c.pass-turns.ensures.some
+    c.follow.invariant.unpaused c.follow.invariant.from_one c.pass-turns.ensures.some
     c.from.ensures in
     record {
       follows = rw c.follow.invariant.state end.0;
@@ -102,7 +101,7 @@ on : (g : Over) (c : After-pass-turns g) → c.pass-turns.result.1 ≡ None
     (g.Self.Trail.kept c.args.self.now) (g.Self.Trail.kept c.follow.self + c.pass-turns.result.0)
     (registers c.pass-turns.new.s c.pass-turns.new.slots)
 on g c is = comes (g.Self.Trail.kept c.follow.self) (rw is at (reached g c).0) c.follow.invariant.unpaused
-    c.follow.invariant.sound c.follow.invariant.from_one c.pass-turns.ensures.some
+    c.follow.invariant.from_one c.pass-turns.ensures.some
 
 pub keep-requires-clause-few : goal.keep-requires-clause-few
 keep-requires-clause-few g c =
@@ -119,7 +118,7 @@ overflow_add-made g c =
 pub pauses_at-requires : goal.pauses_at-requires
 pauses_at-requires g c =
     let inside = c.pass-turns.ensures.inside in
-    rw c.of-state.ensures (omega (arith, inside, sound_few c.args.p.now c.follow.invariant.sound))
+    rw c.of-state.ensures (omega (arith, inside, sound_few c.args.p.now c.follow.invariant.here.sound))
 
 pub returns-then-pauses_at : goal.returns-then-pauses_at
 returns-then-pauses_at g c =
@@ -160,7 +159,6 @@ follow-preserved g c =
     let all : g.Self.Trail.kept c.follow.self + c.pass-turns.result.0 - 1 + 1
     ≡ g.Self.Trail.kept c.keep.new.self = omega (arith, some, kept.1) in
     record {
-      sound = c.follow.invariant.sound;
       from_one = omega (arith, some, kept.1);
       kept = omega (arith, kept.1, c.follow.invariant.kept);
       here = rw (← kept.1) at to.goes;

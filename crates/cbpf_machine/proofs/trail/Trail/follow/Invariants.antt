@@ -1,5 +1,4 @@
 use Rattle.std.proofs.Common.{◌≡◌, ◌≤◌, ◌+◌, ◌-◌, length, take}
-use Rattle.cbpf_code.specs.Sound.{IsSound}
 use Rattle.cbpf_machine.specs.Core.{registers}
 use Rattle.cbpf_machine.specs.Follow.{Unpaused, is_watched}
 use Rattle.cbpf_machine.specs.Together.{IsOnTrace, task_of, trace_in}
@@ -9,7 +8,6 @@ use Rattle.cbpf_machine.proofs.trail.Trail.follow.Given as goal
 abbrev pub invariant-follow : goal.invariant-follow
 invariant-follow g l =
     record {
-      sound : IsSound l.p;
       from_one : 1 ≤ g.Self.Trail.kept l.self;
       kept : g.Self.Trail.kept l.self ≡ g.Self.Trail.kept l.fn.self + l.made;
       here : IsOnTrace (task_of l.p l.values l.packet) (g.Self.Trail.kept l.self - 1) (registers l.here l.slots);
