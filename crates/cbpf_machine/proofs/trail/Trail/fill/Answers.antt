@@ -1,13 +1,11 @@
 use Rattle.std.proofs.Common.{◌≡◌, ◌≤◌, ◌+◌, ◌-◌, [], arith, refl, sym, false}
 use Rattle.std.specs.Prelude.{None}
-use Rattle.cbpf_code.specs.declared.checker.TheConstants.{MAX_INSTRUCTIONS}
 use Rattle.cbpf_machine.specs.Core.{registers}
 use Rattle.cbpf_machine.specs.Registers.{Registers, zero_state}
 use Rattle.cbpf_machine.specs.Together.{Reaches, task_of, trace_in}
 use Rattle.cbpf_machine.proofs.TraceLemmas.{first_entry, goes_at}
 use Rattle.cbpf_machine.proofs.ListLemmas.{take-slice_get}
 use Rattle.cbpf_machine.proofs.FollowLemmas.{Comes, comes, start_goes, few_entries, ended, reaches_fenced}
-use Rattle.cbpf_machine.proofs.FollowLemmas.{reaches_within}
 use Rattle.cbpf_machine.proofs.trail.Trail.fill.Given.{Over}
 use Rattle.cbpf_machine.proofs.trail.Trail.fill.Goals.{After-pass-turns}
 use Rattle.cbpf_machine.proofs.trail.Trail.fill.Goals as goal
@@ -32,23 +30,16 @@ reached : (g : Over) (c : After-pass-turns g)
 reached g c = reaches_fenced c.min.result (c.pass-turns.ensures.reaches _ c.fill.invariant.here) c.fill.invariant.here
     c.pass-turns.ensures.some (omega (arith, c.gap.ensures.some, c.min.ensures, c.fill-test.true)) (omega arith)
 
-few : (g : Over) (c : After-pass-turns g) → (c.pass-turns.result.0 ≤ c.args.to - c.fill.entries)
-    × (c.fill.entries + c.pass-turns.result.0 ≤ MAX_INSTRUCTIONS + 1)
-few g c =
-    let h = reached g c in
-    let within = reaches_within _ h.0 c.pass-turns.ensures.some in
-    let all = few_entries (task_of c.args.p.now c.args.values.now c.args.packet) c.fill.invariant.here.sound in
-    (omega (arith, h.1, c.min.ensures), omega (arith, within, all, c.fill.invariant.from_one))
+few : (g : Over) (c : After-pass-turns g) → c.fill.entries + c.pass-turns.result.0 ≤ c.args.to
+few g c = omega (arith, (reached g c).1, c.min.ensures, c.fill-test.true)
 
 pub add-requires : goal.add-requires
 add-requires g c =
     let h = few g (goal.at.add-requires g c).After-pass-turns in
-    omega (arith, h.0, c.requires.spare, c.fill.invariant.spent, c.fill-test.true)
+    omega (arith, h, c.requires.spare, c.fill.invariant.spent)
 
 pub overflow_add-result : goal.overflow_add-result
-overflow_add-result g c =
-    let h = few g (goal.at.overflow_add-result g c).After-pass-turns in
-    omega (arith, h.1)
+overflow_add-result g c = omega (arith, few g (goal.at.overflow_add-result g c).After-pass-turns)
 
 pub returns-in-Some-clause-short : goal.returns-in-Some-clause-short
 returns-in-Some-clause-short g c =
@@ -57,12 +48,12 @@ returns-in-Some-clause-short g c =
     let some = c.pass-turns.ensures.some in
     let end = (ended {k = c.fill.entries} c.fill.entries zero_state (rw c.in-Some.is at (reached g at).0)
     (λ i s low high here. refl) c.fill.invariant.from_one some refl).1 in
-    (omega (arith, end, some), omega (arith, h.0, c.fill-test.true))
+    (omega (arith, end, some), omega (arith, h))
 
 pub returns-in-Some-clause-few : goal.returns-in-Some-clause-few
 returns-in-Some-clause-few g c =
     let h = few g (goal.at.returns-in-Some-clause-few g c).After-pass-turns in
-    omega (arith, h.0, c.add.ensures, c.fill.invariant.spent, c.fill-test.true)
+    omega (arith, h, c.add.ensures, c.fill.invariant.spent)
 
 pub keep-requires-clause-near : goal.keep-requires-clause-near
 keep-requires-clause-near g c =
@@ -82,9 +73,7 @@ keep-requires-clause-few g c =
     omega (arith, to.within, all, c.fill.invariant.kept)
 
 pub overflow_add-entries : goal.overflow_add-entries
-overflow_add-entries g c =
-    let h = few g (goal.at.overflow_add-entries g c).After-pass-turns in
-    omega (arith, h.1)
+overflow_add-entries g c = omega (arith, few g (goal.at.overflow_add-entries g c).After-pass-turns)
 
 pub fill-preserved : goal.fill-preserved
 fill-preserved g c =
@@ -97,7 +86,7 @@ fill-preserved g c =
     let some = c.pass-turns.ensures.some in
     record {
       from_one = omega (arith, some);
-      within = omega (arith, h.0, c.fill-test.true);
+      within = h;
       kept = omega (arith, kept.1, k);
       here = to.goes;
       stands = rw k at kept.0;
