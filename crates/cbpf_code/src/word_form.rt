@@ -1,5 +1,5 @@
 // A program as word text.
-ghost use Rattle.std.specs.Prelude.{◌≡◌, ◌≤◌, ◌<◌, ◌+◌, ◌++◌, ◌∷◌, drop, length, decimal};
+ghost use Rattle.std.specs.Prelude.{◌≡◌, ◌≤◌, ◌<◌, ◌+◌, ◌*◌, ◌++◌, ◌∷◌, drop, length, decimal};
 ghost use Rattle.std.specs.List.{flat_map};
 ghost use Rattle.cbpf_code.specs.Writing.{Wrote};
 ghost use Rattle.cbpf_code.specs.WordText.{Spells};
@@ -33,9 +33,9 @@ fn put_number(text: &mut [u8], end: usize, number: u64, after: u8) -> usize
 #[inline(always)]
 #[tactic(auto, using(crate::proofs::DigitLemmas::few_digits))]
 fn put_word_line(text: &mut [u8], end: usize, insn: Insn) -> usize
-    requires room { 25 ≤ end }
+    requires room { LONGEST_LINE ≤ end }
     requires within { end ≤ length text.old }
-    ensures begin { (end ≤ result + 25) × (result ≤ end) }
+    ensures begin { (end ≤ result + LONGEST_LINE) × (result ≤ end) }
     ensures bytes { drop result text.new ≡ word_line insn ++ drop end text.old }
 {
     let at = put_number(text, end, insn.k as u64, b',');
@@ -44,10 +44,10 @@ fn put_word_line(text: &mut [u8], end: usize, insn: Insn) -> usize
     put_number(text, at, insn.code as u64, b' ')
 }
 
-/// Writes the lines of at most 64 instructions to the end of a text, and returns where they begin.
+/// Writes the lines of at most `LINES` instructions to the end of a text, and returns where they begin.
 fn put_word_lines(text: &mut [u8; LINES * LONGEST_LINE], list: &[Insn]) -> usize
-    requires few { length list.now ≤ 64 }
-    ensures begin { result ≤ 1600 }
+    requires few { length list.now ≤ LINES }
+    ensures begin { result ≤ LINES * LONGEST_LINE }
     ensures bytes { drop result text.new ≡ flat_map word_line list.now }
 {
     let mut at = text.len();

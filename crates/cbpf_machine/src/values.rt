@@ -5,10 +5,13 @@ ghost use Rattle.cbpf_machine.specs.Values as spec;
 use cbpf_code::{Ext, ext_offset};
 use std::marker::Model;
 
+/// One place for each offset below 64 that 4 divides.
+const PLACES: usize = 16;
+
 /// Values for extensions: a load of an extension that has one loads it into A, and the packet goes on.
 #[derive(Clone, Copy, Debug, PartialEq, Eq)]
 pub struct Values {
-    places: [Option<u32>; 16],
+    places: [Option<u32>; PLACES],
 }
 
 impl Model for Values {
@@ -25,7 +28,7 @@ impl Model for Values {
 #[inline(always)]
 fn place_of(e: Ext) -> usize
     ensures value { result ≡ spec.place_of e }
-    ensures within { result < 16 }
+    ensures within { result < PLACES }
 {
     ext_offset(e) as usize / 4
 }
@@ -43,7 +46,9 @@ impl Values {
         ensures value { result ≡ spec.no_values }
         ensures none { (e : AnExt) → spec.value_of result e ≡ None }
     {
-        Values { places: [None; 16] }
+        Values {
+            places: [None; PLACES],
+        }
     }
 
     /// The value of an extension, where it has one.

@@ -1,10 +1,11 @@
 -- What taking one line from a reader leaves, where its bytes are known. No public clause names it.
 use Rattle.std.specs.Prelude.{◌≡◌, ℕ, false, List, [], ◌∷◌, ◌++◌, slice_range, Bool, true, Option, Some, Result, Ok}
-use Rattle.std.specs.Prelude.{Err}
+use Rattle.std.specs.Prelude.{Err, ◌+◌, ◌-◌, ◌*◌}
 use Rattle.std.specs.Option.{option_map}
 use Rattle.cbpf_tool.specs.Lines.{has_newline}
 use Rattle.cbpf_tool.specs.declared.fault.ToolFault.{ToolFault}
 use Rattle.cbpf_tool.specs.declared.fault.ToolFault.TheVariants.{Source, Read, Write, Memory}
+use Rattle.cbpf_tool.specs.declared.TheConstants.{READ_SIZE}
 use Rattle.cbpf_tool.specs.declared.line_reader.LineEnd.{LineEnd}
 use Rattle.cbpf_tool.specs.declared.line_reader.LineEnd.TheVariants.{Newline, Input}
 
@@ -18,6 +19,10 @@ IsStreamFault (Source f) = ⊥
 -- the bytes of a chunk that were read and not yet taken
 abbrev pub pending_in : List ℕ → ℕ → ℕ → List ℕ
 pending_in chunk start end = slice_range chunk start end
+
+-- it falls with each byte that is taken, and with each read, which gives READ_SIZE bytes at most
+abbrev pub steps_left : ℕ → ℕ → ℕ → ℕ
+steps_left reads start end = (READ_SIZE + 1) * reads + (end - start)
 
 -- the bytes that were read and not yet taken, and those that the reader has left
 unfoldable pub unread : List ℕ → Option (List ℕ) → Option (List ℕ)
@@ -43,9 +48,8 @@ TakesPart pending pending' line line' (Ok false) =
     (has_newline pending ≡ false) × (pending' ≡ []) × (line' ≡ line ++ pending)
 TakesPart pending pending' line line' (Err e) = e ≡ Memory
 
--- a line and its newline; all that was left, without a newline, and the reader is at its end;
--- a part of a line after which a read
--- failed; or that there is a line
+-- a line and its newline; all that was left, without a newline, and the reader is at its end; a part of a line after
+-- which a read failed; or that there is a line
 abbrev pub TakesLine : List ℕ → List ℕ → Option (List ℕ) → List ℕ → Result LineEnd ToolFault → Type 0
 TakesLine bytes pending left line (Ok Newline) =
     (has_newline line ≡ false) × Took bytes pending left (line ++ 10 ∷ [])

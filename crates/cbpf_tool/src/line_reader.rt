@@ -1,9 +1,10 @@
 // Takes the lines of a reader one after another, in chunks.
-ghost use Rattle.std.specs.Prelude.{◌≡◌, ◌+◌, ◌*◌, ◌-◌, ◌^◌, ◌<◌, ◌≤◌, ℕ, List, Some, Ok, [], take, length};
+ghost use Rattle.std.specs.Prelude.{◌≡◌, ◌-◌, ◌^◌, ◌<◌, ◌≤◌, ℕ, List, Some, Ok, [], take, length};
 ghost use Rattle.std.specs.Prelude.{slice_index, true, false, OnOk, IfOk, IfErr, MatchOption, MatchResult};
 ghost use Rattle.std.specs.Io.KnownBytes.{Keeps, Consumes, IsAtEnd};
 ghost use Rattle.cbpf_tool.specs.Lines.{has_newline};
-ghost use Rattle.cbpf_tool.specs.Reading.{IsStreamFault, pending_in, unread, Fills, TakesPart, TakesLine};
+ghost use Rattle.cbpf_tool.specs.Reading.{IsStreamFault, pending_in, steps_left, unread, Fills, TakesPart, TakesLine};
+ghost use Rattle.cbpf_tool.specs.declared.TheConstants.{READ_SIZE};
 ghost use Rattle.cbpf_tool.specs.declared.line_reader.LineEnd.TheVariants as end;
 
 use crate::READ_SIZE;
@@ -44,7 +45,7 @@ pub struct LineReader {
     reads: u64,
     ghost ordered: { start ≤ end },
     ghost within: { end ≤ length chunk },
-    ghost bounded: { end ≤ 4096 },
+    ghost bounded: { end ≤ READ_SIZE },
 }
 
 impl LineReader {
@@ -105,8 +106,8 @@ impl LineReader {
         unflushed: &mut bool,
     ) -> Result<bool, ToolFault>
         ensures flushed { Keeps (W.contents writer.old) (W.contents writer.new) }
-        ensures fewer { OnOk result (4097 * self.new.reads + (self.new.end - self.new.start)
-            ≤ 4097 * self.old.reads + (self.old.end - self.old.start)) }
+        ensures fewer { OnOk result (steps_left self.new.reads self.new.start self.new.end
+            ≤ steps_left self.old.reads self.old.start self.old.end) }
         ensures some { IfOk result (λ more. more ≡ true → self.new.start < self.new.end) }
         ensures bytes { (bytes : List ℕ)
             → unread (pending_in self.old.chunk self.old.start self.old.end) (R.remaining reader.old) ≡ Some bytes →
@@ -162,10 +163,10 @@ impl LineReader {
             → unread (pending_in self.old.chunk self.old.start self.old.end) (R.remaining reader.old) ≡ Some bytes →
             TakesLine bytes (pending_in self.new.chunk self.new.start self.new.end) (R.remaining reader.new)
             line.new.items result }
-        ensures fewer { OnOk result (4097 * self.new.reads + (self.new.end - self.new.start)
-            ≤ 4097 * self.old.reads + (self.old.end - self.old.start)) }
-        ensures onward { result ≡ Ok end.Newline → 4097 * self.new.reads + (self.new.end - self.new.start)
-            < 4097 * self.old.reads + (self.old.end - self.old.start) }
+        ensures fewer { OnOk result (steps_left self.new.reads self.new.start self.new.end
+            ≤ steps_left self.old.reads self.old.start self.old.end) }
+        ensures onward { result ≡ Ok end.Newline → steps_left self.new.reads self.new.start self.new.end
+            < steps_left self.old.reads self.old.start self.old.end }
     {
         line.clear();
         'parts: loop {

@@ -1,10 +1,10 @@
-use Rattle.std.proofs.Common.{◌≡◌, [], drop, length, refl, arith}
+use Rattle.std.proofs.Common.{length, refl, arith}
 use Rattle.std.proofs.lemmas.List.{drop_all}
 use Rattle.cbpf_code.proofs.word_form.put_word_lines.Goals as goal
 
 pub loop-i-init : goal.loop-i-init
 loop-i-init c =
-    let full : drop 1600 c.args.text.now ≡ [] = drop_all 1600 c.args.text.now (omega (arith, c.told-text)) in (
+    let full = rw c.told-text at (drop_all (length c.args.text.now) c.args.text.now (omega arith)) in (
       omega (arith, c.requires.few),
       omega arith,
       omega arith,

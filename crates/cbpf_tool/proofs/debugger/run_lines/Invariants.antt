@@ -1,5 +1,5 @@
-use Rattle.std.proofs.Common.{◌≡◌, ℕ, ◌+◌, ◌*◌, ◌-◌, List, Some, IsTrue}
-use Rattle.cbpf_tool.specs.Reading.{pending_in}
+use Rattle.std.proofs.Common.{◌≡◌, ℕ, List, Some, IsTrue}
+use Rattle.cbpf_tool.specs.Reading.{pending_in, steps_left}
 use Rattle.cbpf_tool.specs.Progress.{Progress}
 use Rattle.cbpf_tool.proofs.debugger.run_lines.Given as goal
 
@@ -11,4 +11,4 @@ invariant-script g l = (script : List ℕ) → g.R.Read.remaining l.fn.reader �
     (g.F.Files.source l.files) l.session
 
 abbrev pub decreases-script : goal.decreases-script
-decreases-script g l = 4097 * l.lines.reads + (l.lines.end - l.lines.start)
+decreases-script g l = steps_left l.lines.reads l.lines.start l.lines.end

@@ -1,15 +1,15 @@
-use Rattle.std.proofs.Common.{◌≡◌, ℕ, ◌+◌, ◌*◌, ◌-◌, ◌≤◌, List, Some, false}
+use Rattle.std.proofs.Common.{◌≡◌, ℕ, ◌≤◌, List, Some, false}
 use Rattle.std.specs.Io.KnownBytes.{Keeps}
 use Rattle.cbpf_tool.specs.Lines.{has_newline}
-use Rattle.cbpf_tool.specs.Reading.{pending_in, unread, Took}
+use Rattle.cbpf_tool.specs.Reading.{pending_in, steps_left, unread, Took}
 use Rattle.cbpf_tool.proofs.line_reader.LineReader.next_line.Given as goal
 
 abbrev pub invariant-parts : goal.invariant-parts
 invariant-parts g l = record {
   kept : Keeps (g.W.Write.contents l.fn.writer) (g.W.Write.contents l.writer);
   plain : has_newline l.line.items ≡ false;
-  fewer : 4097 * l.self.reads + (l.self.end - l.self.start)
-      ≤ 4097 * l.fn.self.reads + (l.fn.self.end - l.fn.self.start);
+  fewer : steps_left l.self.reads l.self.start l.self.end
+      ≤ steps_left l.fn.self.reads l.fn.self.start l.fn.self.end;
   so_far : (bytes : List ℕ)
       → unread (pending_in l.fn.self.chunk l.fn.self.start l.fn.self.end) (g.R.Read.remaining l.fn.reader)
       ≡ Some bytes →
@@ -17,4 +17,4 @@ invariant-parts g l = record {
 }
 
 abbrev pub decreases-parts : goal.decreases-parts
-decreases-parts g l = 4097 * l.self.reads + (l.self.end - l.self.start)
+decreases-parts g l = steps_left l.self.reads l.self.start l.self.end
