@@ -2,9 +2,6 @@
 //!
 //! What `bpf_dbg` prints in the kernel's Documentation/networking/filter has the same parts here; the
 //! layout of the dump of a stop, and all other texts, are this project's own.
-//!
-//! Each `write_..` answers `WriteFault` where the writer failed, or took nothing of a text that isn't empty: a
-//! beginning of the text was written.
 #![tactic(auto)]
 
 mod breakpoints;

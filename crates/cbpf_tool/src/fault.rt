@@ -10,7 +10,7 @@ pub enum ToolFault {
     /// The input failed, or hadn't ended after 18446744073709551615 reads.
     #[error("read fault")]
     Read,
-    /// The output failed, or took nothing of a text that was not empty.
+    /// A write failed, as [`WriteFault`](cbpf_code::WriteFault) says, or a flush did.
     #[error("write fault")]
     Write,
     /// The input, or what it stands for, could not be held.
