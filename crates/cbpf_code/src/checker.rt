@@ -82,7 +82,7 @@ fn first_fault(list: &[Insn]) -> Option<CheckFault>
         let insn = list[i as usize];
         match op_of(insn.code) {
             None => return Some(CheckFault::UnknownCode(i)),
-            Some(op) => match fault_of(op, insn, i, count) {
+            Some(op) => match insn_fault(op, insn, i, count) {
                 Some(fault) => return Some(fault),
                 None => (),
             },
@@ -95,7 +95,7 @@ fn first_fault(list: &[Insn]) -> Option<CheckFault>
 }
 
 /// The fault of its own that an instruction of a known operation has, at `i` of `count`.
-fn fault_of(op: Op, insn: Insn, i: u32, count: u32) -> Option<CheckFault>
+fn insn_fault(op: Op, insn: Insn, i: u32, count: u32) -> Option<CheckFault>
     requires few { count ≤ MAX_INSTRUCTIONS }
     requires within { i < count }
     ensures { MatchOption result (IsAllowed op insn i count)

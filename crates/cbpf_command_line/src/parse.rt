@@ -208,7 +208,7 @@ fn job_of(alloc: Global, matches: &ArgMatches<'_>) -> Result<Job, AllocError>
     }
 }
 
-fn fault_of(alloc: Global, error: &Error) -> LineFault
+fn line_fault(alloc: Global, error: &Error) -> LineFault
     ensures { (kinds : List ErrorKind) → HasKind kinds error.now → spec.IsFaultOf kinds result }
 {
     if error.kind() == ErrorKind::OutOfMemory {
@@ -243,7 +243,7 @@ fn job_asked(alloc: Global, words: &[String]) -> Result<Job, LineFault>
     };
     let matches = match command.try_get_matches_from(words) {
         Ok(matches) => matches,
-        Err(error) => return Err(fault_of(alloc, &error)),
+        Err(error) => return Err(line_fault(alloc, &error)),
     };
     match job_of(alloc, &matches) {
         Ok(job) => Ok(job),

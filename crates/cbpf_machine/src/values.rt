@@ -26,8 +26,8 @@ impl Model for Values {
 
 /// Where the value of an extension is kept.
 #[inline(always)]
-fn place_of(e: Ext) -> usize
-    ensures value { result ≡ spec.place_of e }
+fn value_index(e: Ext) -> usize
+    ensures value { result ≡ spec.value_index e }
     ensures within { result < PLACES }
 {
     ext_offset(e) as usize / 4
@@ -56,7 +56,7 @@ impl Values {
     pub fn value_of(&self, e: Ext) -> Option<u32>
         ensures { result ≡ spec.value_of self.now e }
     {
-        self.places[place_of(e)]
+        self.places[value_index(e)]
     }
 
     /// Gives an extension a value. `Nla`, `NlaN` and `PayOff` are found by a search in the packet, and
@@ -73,7 +73,7 @@ impl Values {
         if !takes_value(e) {
             return false;
         }
-        self.places[place_of(e)] = Some(n);
+        self.places[value_index(e)] = Some(n);
         true
     }
 }

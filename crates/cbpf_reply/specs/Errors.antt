@@ -19,10 +19,10 @@ use Rattle.cbpf_reply.specs.declared.reply.SessionFault.TheVariants.{NoProgram, 
 use Rattle.cbpf_reply.specs.declared.reply.SessionFault.TheVariants.{NoPacket, NoStep, TooFarBack, ZeroCount, NoValue}
 use Rattle.cbpf_reply.specs.declared.reply.SessionFault.TheVariants.{Memory}
 
-abbrev pub line_text : ErrorLine → List ℕ
-line_text (Text text) = text.now
-line_text (Number before n after) = with_number before.now n after.now
-line_text (Numbers before m between n after) = with_numbers before.now m between.now n after.now
+abbrev pub error_line_text : ErrorLine → List ℕ
+error_line_text (Text text) = text.now
+error_line_text (Number before n after) = with_number before.now n after.now
+error_line_text (Numbers before m between n after) = with_numbers before.now m between.now n after.now
 
 abbrev pub memory_text : List ℕ
 memory_text = codes "error: out of memory\n"

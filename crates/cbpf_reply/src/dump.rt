@@ -7,7 +7,7 @@ ghost use Rattle.cbpf_reply.specs.Scratch.{scratch_lines};
 
 use crate::packet::write_packet;
 use crate::reply::{Place, Stop, Why};
-use crate::scratch::write_run;
+use crate::scratch::write_run_at;
 use cbpf_code::{Line, Program, WriteFault, ext_name, put_line};
 use std::alloc::Allocator;
 use std::io::Write;
@@ -63,7 +63,7 @@ fn write_registers<W: Write>(w: &mut W, a: u32, x: u32, slots: &[u32]) -> Result
     line.put(b"A:        [");
     line.write(w)?;
     for i in 0..slots.len() {
-        write_run(w, slots, i)?;
+        write_run_at(w, slots, i)?;
     }
     Ok(())
 }

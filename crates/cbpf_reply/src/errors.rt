@@ -82,8 +82,8 @@ enum ErrorLine {
 }
 
 /// Writes the line of a refusal.
-fn write_line<W: Write>(w: &mut W, line: ErrorLine) -> Result<(), WriteFault>
-    ensures { Wrote (W.contents w.old) (W.contents w.new) result (spec.line_text line) }
+fn write_error_line<W: Write>(w: &mut W, line: ErrorLine) -> Result<(), WriteFault>
+    ensures { Wrote (W.contents w.old) (W.contents w.new) result (spec.error_line_text line) }
 {
     match line {
         Text(text) => write_bytes(w, text),
@@ -98,7 +98,7 @@ fn write_line<W: Write>(w: &mut W, line: ErrorLine) -> Result<(), WriteFault>
 
 #[tactic(auto, unfolding(crate::specs::Errors::word_fault_text))]
 fn word_line(fault: WordFault) -> ErrorLine
-    ensures { spec.line_text result ≡ spec.word_fault_text fault }
+    ensures { spec.error_line_text result ≡ spec.word_fault_text fault }
 {
     match fault {
         WordFault::Memory => Text(OUT_OF_MEMORY),
@@ -128,12 +128,12 @@ fn word_line(fault: WordFault) -> ErrorLine
 pub fn write_word_fault<W: Write>(w: &mut W, fault: WordFault) -> Result<(), WriteFault>
     ensures { Wrote (W.contents w.old) (W.contents w.new) result (spec.word_fault_text fault) }
 {
-    write_line(w, word_line(fault))
+    write_error_line(w, word_line(fault))
 }
 
 #[tactic(auto, unfolding(crate::specs::Errors::check_fault_text))]
 fn check_line(fault: CheckFault) -> ErrorLine
-    ensures { spec.line_text result ≡ spec.check_fault_text fault }
+    ensures { spec.error_line_text result ≡ spec.check_fault_text fault }
 {
     match fault {
         CheckFault::NoInstruction => Text(b"error: C1 no instruction\n"),
@@ -159,7 +159,7 @@ fn check_line(fault: CheckFault) -> ErrorLine
 pub fn write_check_fault<W: Write>(w: &mut W, fault: CheckFault) -> Result<(), WriteFault>
     ensures { Wrote (W.contents w.old) (W.contents w.new) result (spec.check_fault_text fault) }
 {
-    write_line(w, check_line(fault))
+    write_error_line(w, check_line(fault))
 }
 
 /// Writes the line of a capture's refusal, with its number, or that it is out of memory.
@@ -178,7 +178,7 @@ pub fn write_capture_fault<W: Write>(w: &mut W, fault: CaptureFault) -> Result<(
 
 #[tactic(auto, unfolding(crate::specs::Errors::fault_text))]
 fn session_line(fault: SessionFault) -> ErrorLine
-    ensures { spec.line_text result ≡ spec.fault_text fault }
+    ensures { spec.error_line_text result ≡ spec.fault_text fault }
 {
     match fault {
         SessionFault::NoProgram => Text(NO_PROGRAM),
@@ -198,5 +198,5 @@ fn session_line(fault: SessionFault) -> ErrorLine
 pub fn write_session_fault<W: Write>(w: &mut W, fault: SessionFault) -> Result<(), WriteFault>
     ensures { Wrote (W.contents w.old) (W.contents w.new) result (spec.fault_text fault) }
 {
-    write_line(w, session_line(fault))
+    write_error_line(w, session_line(fault))
 }

@@ -23,8 +23,8 @@ use Rattle.cbpf_syntax.proofs.Refused.{misplaced_first, unfinished_first, items_
 use Rattle.cbpf_syntax.proofs.Cuts.{some-same}
 
 -- what stands at the front of tokens
-abbrev Front : List Lexeme → Type 0
-Front ts = ((n : ℕ) × (i : Item) × IsNextItem ts n i) ⊎ ((n : ℕ) × Stuck n ts)
+abbrev NextOrStuck : List Lexeme → Type 0
+NextOrStuck ts = ((n : ℕ) × (i : Item) × IsNextItem ts n i) ⊎ ((n : ℕ) × Stuck n ts)
 
 abbrev some_front : List Lexeme → Bool
 some_front ts = list_any (λ r. fits_front (classes r) ts) table
@@ -45,7 +45,7 @@ longest ts (suc left) n l w h = elim (cases_lt n (length ts)) [
   ]
 ]
 
-base_step : (t : Lexeme) (ts : List Lexeme) → fits name t.symbol ≡ false → Front (t ∷ ts)
+base_step : (t : Lexeme) (ts : List Lexeme) → fits name t.symbol ≡ false → NextOrStuck (t ∷ ts)
 base_step t ts s = by_whole (cases_Bool (some_whole (take front.0 (t ∷ ts))))
   where
     front : (m : ℕ) × (m ≤ length (t ∷ ts)) × (some_front (take m (t ∷ ts)) ≡ true)
@@ -64,7 +64,7 @@ base_step t ts s = by_whole (cases_Bool (some_whole (take front.0 (t ∷ ts))))
         }
 
     by_whole : (some_whole (take front.0 (t ∷ ts)) ≡ true) ⊎ (some_whole (take front.0 (t ∷ ts)) ≡ false)
-        → Front (t ∷ ts)
+        → NextOrStuck (t ∷ ts)
     by_whole (inl found) =
         let r = some_element (λ r. fits_all (classes r) (take front.0 (t ∷ ts))) table found in
         inl (front.0, _, record { goes = goes; form = form_of 0 r.0 (take front.0 (t ∷ ts)) r.1 r.2 })
@@ -75,7 +75,7 @@ base_step t ts s = by_whole (cases_Bool (some_whole (take front.0 (t ∷ ts))))
         none (suc n) i form other = let fit = bare_whole form.count i.row t (take n ts) s form.fits in
             both_ways _ other (any_element (λ r. fits_all (classes r) (t ∷ take n ts)) table i.row form.row fit)
 
-bare_step : (t : Lexeme) (ts : List Lexeme) → starts_with_colon ts ≡ false → Front (t ∷ ts)
+bare_step : (t : Lexeme) (ts : List Lexeme) → starts_with_colon ts ≡ false → NextOrStuck (t ∷ ts)
 bare_step t ts c = elim (cases_Bool (fits name t.symbol)) [
   | inl e ↦ inr (1, name_stuck t ts e c)
   | inr e ↦ base_step t ts e
@@ -83,11 +83,11 @@ bare_step t ts c = elim (cases_Bool (fits name t.symbol)) [
 
 -- a label and its colon before a step
 label_step : (t u : Lexeme) (ts : List Lexeme) → fits name t.symbol ≡ true → fits (the_mark 58) u.symbol ≡ true
-    → Front ts → Front (t ∷ u ∷ ts)
+    → NextOrStuck ts → NextOrStuck (t ∷ u ∷ ts)
 label_step t u ts a b (inl p) = inl (suc (suc p.0), _, label_item t u ts p.0 p.1 a b p.2)
 label_step t u ts a b (inr p) = inr (suc (suc p.0), label_stuck t u ts p.0 a b p.1)
 
-step : (ts : List Lexeme) → Front ts
+step : (ts : List Lexeme) → NextOrStuck ts
 step [] = inr (0, end_stuck)
 step (t ∷ []) = bare_step t [] refl
 step (t ∷ u ∷ ts) = elim (cases_Bool (fits (the_mark 58) u.symbol)) [

@@ -5,7 +5,7 @@ ghost use Rattle.cbpf_syntax.specs.Tokens.{Lexes, IsLexFault, IsSpanOf, line_of}
 ghost use Rattle.cbpf_syntax.specs.TokenReading.{IsNextToken, HasNoMore, IsNextFault};
 
 use crate::bytes::is_blank;
-use crate::piece::{PieceKind, fault_of, next_piece};
+use crate::piece::{PieceKind, bad_piece_of, next_piece};
 use crate::token::{LexFault, Token};
 use std::alloc::Allocator;
 use std::marker::Model;
@@ -80,7 +80,7 @@ impl<'a> Lexer<'a> {
             }
             let piece = next_piece(&text[..at], first, &text[at + 1..]);
             let end = at + piece.size;
-            if let Some(fault) = fault_of(piece.kind) {
+            if let Some(fault) = bad_piece_of(piece.kind) {
                 return Err(LexFault::At(fault, line_of(text, at)));
             }
             if let PieceKind::TokenOf(kind) = piece.kind {

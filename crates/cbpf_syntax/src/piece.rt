@@ -184,7 +184,7 @@ pub(crate) fn next_piece(before: &[u8], first: u8, rest: &[u8]) -> Piece
 }
 
 /// What is wrong with a bad piece.
-pub(crate) fn fault_of(kind: PieceKind) -> Option<BadPiece>
+pub(crate) fn bad_piece_of(kind: PieceKind) -> Option<BadPiece>
     ensures bad { IfSome result (λ fault. kind ≡ Bad fault) }
     ensures good { IfNone result (is_good kind ≡ true) }
 {

@@ -64,7 +64,7 @@ all_accepted ts is n p l h = items_accepted ts is p (λ k q. h k (omega (arith, 
 
 -- What the reader of items stands at: so many tokens were taken,
 -- which are the items and then labels of these words, which wait for theirs.
-pub record Front (ts : List Lexeme) (is : List Item) (ws : List Lexeme) (n : ℕ) : Type 0 where
+pub record Taken (ts : List Lexeme) (is : List Item) (ws : List Lexeme) (n : ℕ) : Type 0 where
   pub from : ℕ
   pub ls : List Lexeme
   pub labels : AreLabels ls
@@ -85,8 +85,8 @@ words_size (t ∷ []) a = absurd a
 words_size (t ∷ u ∷ ls) a = omega (arith, words_size ls a.2)
 
 front_label : (ts : List Lexeme) (is : List Item) (ws : List Lexeme) (n : ℕ) (x y : Lexeme) (more : List Lexeme)
-    → Front ts is ws n → drop n ts ≡ (x ∷ y ∷ []) ++ more → starts_with_label (drop n ts) ≡ true
-    → Front ts is (ws ++ (x ∷ [])) (n + 2)
+    → Taken ts is ws n → drop n ts ≡ (x ∷ y ∷ []) ++ more → starts_with_label (drop n ts) ≡ true
+    → Taken ts is (ws ++ (x ∷ [])) (n + 2)
 front_label ts is ws n x y more f e starts =
     let both : starts_with_label (x ∷ y ∷ more) ≡ true = subst (λ us. starts_with_label us ≡ true) e starts in
     let label = and_parts (fits name x.symbol) (fits (the_mark 58) y.symbol) both in
@@ -102,9 +102,9 @@ front_label ts is ws n x y more f e starts =
           ∙ sym (append_assoc f.ls (x ∷ y ∷ []) (drop (n + 2) ts));
     }
 
-front_item : (ts : List Lexeme) (is : List Item) (ws : List Lexeme) (n m : ℕ) (item : Item) → Front ts is ws n
+front_item : (ts : List Lexeme) (is : List Item) (ws : List Lexeme) (n m : ℕ) (item : Item) → Taken ts is ws n
     → item.labels ≡ ws → IsNextItem (drop n ts) m (record item { labels = [] })
-    → Front ts (is ++ (item ∷ [])) [] (n + m)
+    → Taken ts (is ++ (item ∷ [])) [] (n + m)
 front_item ts is ws n m item f e next =
     let none : n + m + 0 ≡ n + m = omega arith in
     let labels : label_words f.ls ++ [] ≡ item.labels = append-nil (label_words f.ls) ∙ (f.words ∙ sym e) in
@@ -131,7 +131,7 @@ pub record IsState (text : List ℕ) (n : ℕ) (o : Option ℕ) (ss : List State
   pub none : waits ≡ false → words ≡ []
   pub some : waits ≡ true → (0 < length words) × (0 < n)
   pub draft : IsDraft o ss rep look is words
-  pub front : (ts : List Lexeme) → AreLexemes text ts → Front ts is words n
+  pub front : (ts : List Lexeme) → AreLexemes text ts → Taken ts is words n
 
 two_of : (window : List declared_lexeme.Lexeme) (d e : declared_lexeme.Lexeme) → 2 ≤ length window
     → map lexeme_of (take 2 window) ≡ lexeme_of (get_or window 0 d) ∷ lexeme_of (get_or window 1 e) ∷ []

@@ -13,7 +13,7 @@ ghost use Rattle.cbpf_text.specs.Tables.{same_name};
 use crate::draft::{Draft, read};
 use crate::encode::encode_all;
 use crate::fault::{AsmFault, AsmKind};
-use crate::placed_fault::{PlacedFault, fault_of};
+use crate::placed_fault::{PlacedFault, with_line};
 use cbpf_code::Insn;
 use std::alloc::Allocator;
 
@@ -65,6 +65,6 @@ pub fn assemble<A: Allocator + Copy>(alloc: A, text: &[u8]) -> Result<Vec<Insn, 
     let draft = read(alloc, text)?;
     match encode_draft(alloc, &draft) {
         Ok(insns) => Ok(insns),
-        Err(fault) => Err(fault_of(text, fault)),
+        Err(fault) => Err(with_line(text, fault)),
     }
 }

@@ -18,7 +18,7 @@ use crate::fault::{AsmFault, AsmKind};
 use crate::labels::Labels;
 use crate::name::{Name, name_of};
 use crate::operand::value_at;
-use crate::placed_fault::{PlacedFault, fault_of};
+use crate::placed_fault::{PlacedFault, with_line};
 use crate::source::asm_fault;
 use cbpf_code::{MAX_INSTRUCTIONS, code_of};
 use cbpf_syntax::{Class, Fields, Lexeme, Reader, Row, Step};
@@ -152,7 +152,7 @@ fn add_instruction<'a, A: Allocator>(
 }
 
 /// The fault of the syntax, as one of the assembler.
-fn placed(refused: cbpf_syntax::SyntaxFault) -> PlacedFault
+fn syntax_fault(refused: cbpf_syntax::SyntaxFault) -> PlacedFault
     ensures { (ts : List lexemes.Lexeme) → IsRefusedFor ts refused → Reported (IsTokensFault ts) result }
 {
     match refused {
@@ -174,7 +174,7 @@ fn fault_here<A: Allocator>(text: &[u8], reader: &mut Reader<'_, A>, n: usize) -
 {
     let refused = reader.fault(n);
     match reader.finish() {
-        Ok(()) => fault_of(text, placed(refused)),
+        Ok(()) => with_line(text, syntax_fault(refused)),
         Err(fault) => asm_fault(fault),
     }
 }
@@ -220,7 +220,7 @@ fn read_items<'a, A: Allocator + Copy>(
             None if waits => return Err(fault_here(text, reader, 0)),
             None => {
                 return match reader.large() {
-                    Some(at) => Err(fault_of(text, PlacedFault::At(AsmKind::LargeNumber, at))),
+                    Some(at) => Err(with_line(text, PlacedFault::At(AsmKind::LargeNumber, at))),
                     None => Ok(()),
                 };
             }

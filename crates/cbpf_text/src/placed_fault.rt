@@ -7,7 +7,7 @@ use crate::source::line_of;
 use std::alloc::{AllocError, AllocFailed};
 
 /// The fault with its line.
-pub(crate) fn fault_of(text: &[u8], fault: PlacedFault) -> AsmFault
+pub(crate) fn with_line(text: &[u8], fault: PlacedFault) -> AsmFault
     ensures { IsReportedAt text.now fault result }
 {
     match fault {

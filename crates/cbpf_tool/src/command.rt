@@ -6,7 +6,7 @@ ghost use Rattle.cbpf_tool.specs.Words.{words_of, after_words, trimmed};
 ghost use Rattle.cbpf_tool.specs.Arguments.{AreArguments};
 
 use crate::arguments::{Arguments, arguments_in};
-use crate::lent::{Name, Text};
+use crate::lent::{FileName, Text};
 use crate::number::{number_32, number_up_to, signed_number};
 use crate::scan::{next_word, trimmed};
 use cbpf_code::{Ext, ext_named};
@@ -20,7 +20,7 @@ pub enum Command<'a> {
     /// `load bpf <word text>`: the word text is the rest of the line, without the blanks around it.
     LoadWords(Text<'a>),
     /// `load pcap <name>`: the name is the rest of the line, without the blanks around it.
-    LoadCapture(Name<'a>),
+    LoadCapture(FileName<'a>),
     /// A command that the session answers.
     Session(SessionCommand),
     /// `quit`
@@ -211,7 +211,7 @@ fn name_in(text: &[u8]) -> Option<Command<'_>>
         return None;
     }
     match from_utf8(text) {
-        Ok(name) => Some(Command::LoadCapture(Name::of(name))),
+        Ok(name) => Some(Command::LoadCapture(FileName::of(name))),
         Err(_) => None,
     }
 }

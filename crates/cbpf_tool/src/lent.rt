@@ -33,11 +33,11 @@ impl<'a> Text<'a> {
 
 /// A name in a line.
 #[derive(Drop)]
-pub(crate) struct Name<'a> {
+pub(crate) struct FileName<'a> {
     name: &'a str,
 }
 
-impl<'a> Model for Name<'a> {
+impl<'a> Model for FileName<'a> {
     ghost use Rattle.std.specs.Prelude.{ℕ, List};
 
     ghost Value = { List ℕ };
@@ -45,11 +45,11 @@ impl<'a> Model for Name<'a> {
     ghost view = { λ n. n.name.now };
 }
 
-impl<'a> Name<'a> {
-    pub(crate) fn of(name: &'a str) -> Name<'a>
+impl<'a> FileName<'a> {
+    pub(crate) fn of(name: &'a str) -> FileName<'a>
         ensures { result ≡ name.now }
     {
-        Name { name }
+        FileName { name }
     }
 
     pub(crate) fn as_str(&self) -> &'a str

@@ -7,7 +7,7 @@ ghost use Rattle.pcap_classic.specs.Lent.{record_of};
 ghost use Rattle.pcap_classic.specs.Records.{StartsAt};
 ghost use Rattle.pcap_classic.specs.Savefile.{IsSavefile, IsRefusal};
 
-use crate::captured::{Captured, RECORD_HEADER, record_at};
+use crate::captured::{Captured, RECORD_HEADER, file_record};
 use crate::ending::Ending;
 use crate::header::{CaptureFault, FILE_HEADER, FileHeader, header_of};
 use crate::index::{Index, index_of, start_of};
@@ -140,7 +140,7 @@ impl<A: Allocator> Capture<A> {
         ensures record { slice_get self.now.records (n - 1) ≡ Some (record_of result) }
         ensures number { result.number ≡ n }
     {
-        record_at(self.header.magic.order, self.file.as_slice(), n, start)
+        file_record(self.header.magic.order, self.file.as_slice(), n, start)
     }
 
     /// The records from number `from` on, counted from 1, up to the one before number `end`, or to the last. It takes
@@ -182,6 +182,6 @@ impl<A: Allocator> Capture<A> {
         }
         let order = self.header.magic.order;
         let place = item.start + RECORD_HEADER + item.bytes.len();
-        Some(record_at(order, self.file.as_slice(), item.number + 1, place))
+        Some(file_record(order, self.file.as_slice(), item.number + 1, place))
     }
 }

@@ -46,7 +46,7 @@ fn front_record(order: Endianness, number: u64, start: usize, bytes: &[u8]) -> C
 
 /// Record `number` of a file, counted from 1, whose header stands at `start`.
 #[inline(always)]
-pub(crate) fn record_at(order: Endianness, file: &[u8], number: u64, start: usize) -> Captured<'_>
+pub(crate) fn file_record(order: Endianness, file: &[u8], number: u64, start: usize) -> Captured<'_>
     requires from_one { 1 ≤ number }
     requires within { number ≤ length (spec.contents order file.now).records }
     requires there { IsRecordStart order file.now (number - 1) start }

@@ -5,7 +5,7 @@ ghost use Rattle.std.specs.Option.{option_map};
 ghost use Rattle.std.specs.Iterator.{YieldsFirstBy, item_count};
 ghost use Rattle.pcap_classic.specs.Lent.{record_of};
 
-use crate::captured::{Captured, Endianness, RECORD_HEADER, record_at};
+use crate::captured::{Captured, Endianness, RECORD_HEADER, file_record};
 use std::marker::Model;
 
 /// Records of a capture that follow one another, in order. Contracts see it as the list of those that are left.
@@ -45,7 +45,7 @@ impl<'a> Records<'a> {
         if self.number == self.end {
             return None;
         }
-        Some(record_at(self.order, self.file, self.number, self.place))
+        Some(file_record(self.order, self.file, self.number, self.place))
     }
 
     /// Goes on past its first record, which is this one.

@@ -8,7 +8,7 @@ pub loop-i-preserved : goal.loop-i-preserved
 loop-i-preserved c =
     let at = slice_get-get_or _ _ zero_insn c.loop-i-test.true in
     passes_before-next _ _ c.loop-i.invariant
-    (_, _, at, sym c.op_of.ensures ∙ c.in-Some.is, c.in-None-fault_of.ensures)
+    (_, _, at, sym c.op_of.ensures ∙ c.in-Some.is, c.in-None-insn_fault.ensures)
 
 pub returns-in_ok-first_unwritten-in-Some-RetK : goal.returns-in_ok-first_unwritten-in-Some-RetK
 returns-in_ok-first_unwritten-in-Some-RetK c =

@@ -20,7 +20,7 @@ returns-in-Ok-clause-assembled g c =
 pub returns-clause-refused : goal.returns-clause-refused
 returns-clause-refused g c =
     let d = c.in_ok-draft.ensures.items in
-    whole_refused c.args.text.now d.0 c.in-Err.fault c.fault_of.result d.2
+    whole_refused c.args.text.now d.0 c.in-Err.fault c.with_line.result d.2
     (reported_more (IsItemsFault d.1) (IsTokensFault d.0) c.in-Err.fault
     (λ kind at f. of_items d.1 kind at d.3 d.4 f) (c.in-Err.ensures.refused d.1 d.5 (items_forms d.0 d.1 d.3)))
-    c.fault_of.ensures
+    c.with_line.ensures

@@ -8,8 +8,8 @@ pub returns-in-Ok : goal.returns-in-Ok
 returns-in-Ok g c m r some stuck =
     let all = c.in-Ok.ensures.lexed m r in
     let t = subst (λ u. AreLexemes u all.0) c.requires.text all.1 in
-    whole_refused c.args.text.now all.0 c.placed.result c.fault_of.result t
-    (c.placed.ensures all.0 (c.fault-refused.ensures m all.0 r all.1 some (stuck all.0 t))) c.fault_of.ensures
+    whole_refused c.args.text.now all.0 c.syntax_fault.result c.with_line.result t
+    (c.syntax_fault.ensures all.0 (c.fault-refused.ensures m all.0 r all.1 some (stuck all.0 t))) c.with_line.ensures
 
 pub returns-in-Err : goal.returns-in-Err
 returns-in-Err g c m r some stuck =

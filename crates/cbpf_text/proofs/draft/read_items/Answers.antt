@@ -128,8 +128,8 @@ returns-in-Some-clause-refused g c =
     let at = goal.at.returns-in-Some-clause-refused g c in
     let e = ended g at.After-large (stepped g at.In-Ok) in
     let large : IsFirstLarge e.0 e.2 (Some c.in-Some.at) = subst (λ o. IsFirstLarge e.0 e.2 o) c.in-Some.is e.7 in
-    whole_refused c.args.text.now e.0 (placed.At kinds.LargeNumber c.in-Some.at) c.fault_of.result e.3
-    (items_large_refused e.0 e.1 e.2 c.in-Some.at e.4 large) c.fault_of.ensures
+    whole_refused c.args.text.now e.0 (placed.At kinds.LargeNumber c.in-Some.at) c.with_line.result e.3
+    (items_large_refused e.0 e.1 e.2 c.in-Some.at e.4 large) c.with_line.ensures
 
 pub returns-in-None-large-clause-items : goal.returns-in-None-large-clause-items
 returns-in-None-large-clause-items g c =

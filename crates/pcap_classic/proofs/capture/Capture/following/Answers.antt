@@ -20,15 +20,15 @@ overflow_add-item g c =
     let next = after _ _ _ _ c.self.invariant.1.long own in
     omega (arith, next.number, next.there.passed, c.self.invariant.1.counted, c.self.invariant.1.few)
 
-pub record_at-requires-clause-within : goal.record_at-requires-clause-within
-record_at-requires-clause-within g c =
+pub file_record-requires-clause-within : goal.file_record-requires-clause-within
+file_record-requires-clause-within g c =
     let own = rw (← c.self.view_is) at c.requires in
     let next = after _ _ _ _ c.self.invariant.1.long own in
     rw c.as_slice.ensures.value
     (omega (arith, next.number, next.there.passed, c.self.invariant.1.counted, c.if-item-self.false))
 
-pub record_at-requires-clause-there : goal.record_at-requires-clause-there
-record_at-requires-clause-there g c =
+pub file_record-requires-clause-there : goal.file_record-requires-clause-there
+file_record-requires-clause-there g c =
     let own = rw (← c.self.view_is) at c.requires in
     let next = after _ _ _ _ c.self.invariant.1.long own in
     let number : c.args.item.now.number - 1 + 1 ≡ c.args.item.now.number + 1 - 1 = omega (arith, next.number) in

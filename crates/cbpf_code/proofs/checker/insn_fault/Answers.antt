@@ -1,8 +1,8 @@
 use Rattle.std.proofs.Common.{◌+◌, refl, arith, inl, inr}
 use Rattle.cbpf_code.specs.ControlFlow.{IsTarget}
-use Rattle.cbpf_code.proofs.checker.fault_of.Goals as goal
-use Rattle.cbpf_code.proofs.checker.fault_of.Goals.{else-from-ahead-via-then-from-ahead+else-from-ahead-2}
-use Rattle.cbpf_code.proofs.checker.fault_of.Goals.{else-from-ahead-via-else-from-ahead}
+use Rattle.cbpf_code.proofs.checker.insn_fault.Goals as goal
+use Rattle.cbpf_code.proofs.checker.insn_fault.Goals.{else-from-ahead-via-then-from-ahead+else-from-ahead-2}
+use Rattle.cbpf_code.proofs.checker.insn_fault.Goals.{else-from-ahead-via-else-from-ahead}
 
 pub returns-else-insn-ahead : goal.returns-else-insn-ahead
 returns-else-insn-ahead c =

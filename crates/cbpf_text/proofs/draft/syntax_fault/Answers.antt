@@ -1,5 +1,5 @@
 use Rattle.cbpf_text.specs.Refusals.IsTokensFault.{of_grammar}
-use Rattle.cbpf_text.proofs.draft.placed.Goals as goal
+use Rattle.cbpf_text.proofs.draft.syntax_fault.Goals as goal
 
 pub returns-in-Misplaced : goal.returns-in-Misplaced
 returns-in-Misplaced c = rw c.in-Misplaced.is (λ ts h. of_grammar _ c.in-Misplaced.at h.1 h.2)

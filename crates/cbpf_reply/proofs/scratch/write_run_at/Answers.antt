@@ -2,7 +2,7 @@ use Rattle.std.proofs.Common.{◌≡◌, ◌+◌, ◌-◌, ◌==◌, true, drop,
 use Rattle.std.specs.List.{prefix_len}
 use Rattle.cbpf_reply.specs.Scratch.{begins_run}
 use Rattle.cbpf_reply.proofs.RowLemmas.{runs}
-use Rattle.cbpf_reply.proofs.scratch.write_run.Goals as goal
+use Rattle.cbpf_reply.proofs.scratch.write_run_at.Goals as goal
 
 pub returns : goal.returns
 returns g c =

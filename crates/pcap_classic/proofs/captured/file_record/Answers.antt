@@ -4,7 +4,7 @@ use Rattle.std.proofs.lemmas.List.{take_rest}
 use Rattle.pcap_classic.specs.Lent.{record_of}
 use Rattle.pcap_classic.specs.Records.{Record, record_at}
 use Rattle.pcap_classic.proofs.ReachLemmas.{onward_more}
-use Rattle.pcap_classic.proofs.captured.record_at.Goals as goal
+use Rattle.pcap_classic.proofs.captured.file_record.Goals as goal
 
 pub front_record-requires-clause-header : goal.front_record-requires-clause-header
 front_record-requires-clause-header c =
