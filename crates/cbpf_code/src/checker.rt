@@ -1,8 +1,10 @@
 ghost use Rattle.std.specs.Prelude.{◌≡◌, ◌<◌, ◌≤◌, ◌+◌, ◌-◌, ◌↔◌, ◌⊎◌, ℕ, Some, length, slice_get, slice_index};
-ghost use Rattle.std.specs.Prelude.{MatchOption, IsOk, IfOk, IfErr};
+ghost use Rattle.std.specs.Prelude.{MatchOption, IfNone, IsOk, IfOk, IfErr};
+ghost use Rattle.std.specs.List.{All};
 ghost use Rattle.cbpf_code.specs.Faults.{FirstFault, InsnHasFault};
 ghost use Rattle.cbpf_code.specs.Faults as spec;
 ghost use Rattle.cbpf_code.specs.Sound.{IsSound};
+ghost use Rattle.cbpf_code.specs.WordForm.{InRange};
 ghost use Rattle.cbpf_code.specs.CheckSteps.{IsAllowed};
 ghost use Rattle.cbpf_code.specs.declared.checker.CheckFault.{CheckFault};
 
@@ -69,7 +71,8 @@ pub fn check<A: Allocator>(list: Vec<Insn, A>) -> Result<Program<A>, (CheckFault
 
 #[tactic(auto, using(crate::proofs::FaultLemmas::passes))]
 fn first_fault(list: &[Insn]) -> Option<CheckFault>
-    ensures { MatchOption result (IsSound list.now) (λ e. FirstFault list.now e) }
+    ensures fault { MatchOption result (IsSound list.now) (λ e. FirstFault list.now e) }
+    ensures ranges { IfNone result (All InRange list.now) }
 {
     if list.is_empty() {
         return Some(CheckFault::NoInstruction);
@@ -98,8 +101,9 @@ fn first_fault(list: &[Insn]) -> Option<CheckFault>
 fn insn_fault(op: Op, insn: Insn, i: u32, count: u32) -> Option<CheckFault>
     requires few { count ≤ MAX_INSTRUCTIONS }
     requires within { i < count }
-    ensures { MatchOption result (IsAllowed op insn i count)
+    ensures fault { MatchOption result (IsAllowed op insn i count)
         (λ e. InsnHasFault op insn i count e × (spec.rank e ≡ 2) × (spec.index_of e ≡ i)) }
+    ensures ranges { InRange insn }
 {
     let ahead = count - i - 1; // how many instructions a jump can reach
     match op {

@@ -1,5 +1,7 @@
 ghost use Rattle.std.specs.Prelude.{◌≡◌, ◌<◌, ◌≤◌, ℕ, Some, length, slice_get};
+ghost use Rattle.std.specs.List.{All};
 ghost use Rattle.cbpf_code.specs.Sound.{IsSound};
+ghost use Rattle.cbpf_code.specs.WordForm.{InRange};
 
 use crate::insn::Insn;
 use std::alloc::{Allocator, Global};
@@ -16,13 +18,15 @@ pub struct Program<A: Allocator = Global> {
 impl<A: Allocator> Model for Program<A> {
     ghost use Rattle.std.specs.Prelude.{List};
     ghost use Rattle.cbpf_code.specs.declared.insn.Insn.{Insn};
+    ghost use Rattle.std.specs.List.{All};
     ghost use Rattle.cbpf_code.specs.Sound.{IsSound};
+    ghost use Rattle.cbpf_code.specs.WordForm.{InRange};
 
     ghost Value = { List Insn };
 
     ghost view = { λ p. p.list.items };
 
-    ghost invariant = { λ p. IsSound p.list.items };
+    ghost invariant = { λ p. IsSound p.list.items × All InRange p.list.items };
 }
 
 impl<A: Allocator> Program<A> {
@@ -52,6 +56,7 @@ impl<A: Allocator> Program<A> {
     pub fn as_slice(&self) -> &[Insn]
         ensures value { result.now ≡ self.now }
         ensures sound { IsSound self.now }
+        ensures ranges { All InRange self.now }
     {
         self.list.as_slice()
     }

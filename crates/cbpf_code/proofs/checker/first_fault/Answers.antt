@@ -1,5 +1,7 @@
 use Rattle.std.proofs.Common.{rules, sym, ◌∙◌}
+use Rattle.std.proofs.lemmas.List.Elements.{All-more}
 use Rattle.std.proofs.lemmas.Option.{slice_get-get_or}
+use Rattle.cbpf_code.specs.WordForm.{InRange}
 use Rattle.cbpf_code.specs.CheckSteps.{IsWellFormed}
 use Rattle.cbpf_code.proofs.FaultLemmas.{passes_before-next, first_fault-slot, well_formed-at_end, zero_insn}
 use Rattle.cbpf_code.proofs.checker.first_fault.Goals as goal
@@ -7,11 +9,14 @@ use Rattle.cbpf_code.proofs.checker.first_fault.Goals as goal
 pub loop-i-preserved : goal.loop-i-preserved
 loop-i-preserved c =
     let at = slice_get-get_or _ _ zero_insn c.loop-i-test.true in
-    passes_before-next _ _ c.loop-i.invariant
-    (_, _, at, sym c.op_of.ensures ∙ c.in-Some.is, c.in-None-insn_fault.ensures)
+    record {
+      passes = passes_before-next _ _ c.loop-i.invariant.passes
+          (_, _, at, sym c.op_of.ensures ∙ c.in-Some.is, c.in-None-insn_fault.ensures.fault);
+      ranges = All-more InRange c.args.list.now c.loop-i.i zero_insn c.loop-i-test.true c.loop-i.invariant.ranges c.insn_fault.ensures.ranges;
+    }
 
-pub returns-in_ok-first_unwritten-in-Some-RetK : goal.returns-in_ok-first_unwritten-in-Some-RetK
-returns-in_ok-first_unwritten-in-Some-RetK c =
+pub returns-in_ok-first_unwritten-in-Some-RetK-clause-fault : goal.returns-in_ok-first_unwritten-in-Some-RetK-clause-fault
+returns-in_ok-first_unwritten-in-Some-RetK-clause-fault c =
     let unwritten = c.in_ok-first_unwritten-in-Some-RetK.ensures in
     let formed : IsWellFormed c.args.list.now = search (rules, well_formed-at_end) in
     first_fault-slot _ _ formed unwritten.0 unwritten.1

@@ -4,13 +4,13 @@ use Rattle.cbpf_code.proofs.checker.insn_fault.Goals as goal
 use Rattle.cbpf_code.proofs.checker.insn_fault.Goals.{else-from-ahead-via-then-from-ahead+else-from-ahead-2}
 use Rattle.cbpf_code.proofs.checker.insn_fault.Goals.{else-from-ahead-via-else-from-ahead}
 
-pub returns-else-insn-ahead : goal.returns-else-insn-ahead
-returns-else-insn-ahead c =
+pub returns-else-insn-ahead-clause-fault : goal.returns-else-insn-ahead-clause-fault
+returns-else-insn-ahead-clause-fault c =
     let target : IsTarget c.args.op c.args.insn c.args.i (c.args.i + 1 + c.args.insn.k) = rw c.in-Ja.is refl in
     ((_, target, omega arith), refl, refl)
 
-pub returns-else-from-ahead : goal.returns-else-from-ahead
-returns-else-from-ahead c = elim c.else-from-ahead.branch [
+pub returns-else-from-ahead-clause-fault : goal.returns-else-from-ahead-clause-fault
+returns-else-from-ahead-clause-fault c = elim c.else-from-ahead.branch [
   | else-from-ahead-via-then-from-ahead+else-from-ahead-2 w ↦
       let target : IsTarget c.args.op c.args.insn c.args.i (c.args.i + 1 + c.args.insn.jf) =
       rw c.in-Jump.is (inr refl) in
