@@ -238,7 +238,7 @@ def comparisons(folder, file):
         yield Comparison(f"a step past the capture's end, {what}", quiet, "a run", quiet, "step 1000000000", "run")
         name = f"run with a condition never met, {what}"
         yield Comparison(name, with_condition, f"a run with {never}", with_breakpoint, "run")
-    # Longer than the first 64 instructions, so that the run keeps the trail.
+    # Longer than `first_gap`, which is 64, so that the run keeps the trail.
     longer = programs.arithmetic_instructions(140)
     quiet = f"load bpf {programs.words([*longer, '6 0 0 0'])}\nload pcap {file}\n"
     name = "run with a breakpoint never reached, 141 instructions"

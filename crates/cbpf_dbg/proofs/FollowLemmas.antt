@@ -38,8 +38,8 @@ not_covered : (pauses : Registers → Bool) (hit : Bool) (s : Registers) → (hi
 not_covered pauses false s covers none = refl
 not_covered pauses true s covers none = let some = covers refl in absurd cc
 
-pub there : {X : Type 0} (xs : List X) (i : ℕ) → i < length xs → (x : X) × (slice_get xs i ≡ Some x)
-there xs i h = elim (slice_get_cases xs i).1 [ inl found ↦ (found.0, found.2) | inr past ↦ absurd (omega arith) ]
+pub item_within : {X : Type 0} (xs : List X) (i : ℕ) → i < length xs → (x : X) × (slice_get xs i ≡ Some x)
+item_within xs i h = elim (slice_get_cases xs i).1 [ inl found ↦ (found.0, found.2) | inr past ↦ absurd (omega arith) ]
 
 module _ (machine : Machine) (capture : List Record) (w : Cursor) (r : Record) (h : Stands machine capture w)
     (at : slice_get capture (w.place.packet - 1) ≡ Some r) where
@@ -98,7 +98,7 @@ module _ (machine : Machine) (capture : List Record) (w : Cursor) (r : Record) (
         let same : k ≡ m = omega (arith, e) in
         rw same refl
     entries-passed k (suc n) m e within none =
-        let s = there xs k (omega (arith, e, within)) in
+        let s = item_within xs k (omega (arith, e, within)) in
         let first = ahead-entry machine capture w.place.packet k r s.0 from_one at s.1 in
         rest-pass machine capture breakpoints (place_at w.place.packet k) (place_at w.place.packet (k + 1))
         (entry machine r w.place.packet (k + 1) s.0) first (none k s.0 (omega arith) (omega (arith, e)) s.1)

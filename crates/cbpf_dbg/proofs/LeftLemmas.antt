@@ -34,7 +34,7 @@ module _ (capture : List Record) (place : Place) (left : List Record) (r : Recor
       let on : suc (place.packet - 1) ≡ place.packet + 1 - 1 = omega (arith, one) in
       record { is = rw on at (cut capture (place.packet - 1) r others (sym h.is ∙ e)).1 }
 
--- they stay in the packet
+-- at another step of the packet the same records are left
 pub left_here : (capture : List Record) (old new : Place) (left : List Record) → AreLeft capture old left
     → new.packet ≡ old.packet → AreLeft capture new left
 left_here capture old new left h same = record { is = rw same h.is }
@@ -48,12 +48,6 @@ pub count_left : (capture : List Record) (place : Place) (left : List Record) �
     → length left ≡ length capture - (place.packet - 1)
 count_left capture place left h = ap length h.is ∙ length-drop (place.packet - 1) capture
 
--- before an end there is one
-pub some_left : (capture : List Record) (place : Place) (end : ℕ) (left : List Record) → AreLeft capture place left
-    → IsEnd capture place end → 1 ≤ place.packet → place.packet < end → None ≡ slice_get left 0 → ⊥
-some_left capture place end left h ends one before none =
-    omega (arith, count_left capture place left h, ap length (none_of left none), ends.within)
-
 -- at a run's end the packet hasn't begun
 pub at_end : (capture : List Record) (place : Place) (end : ℕ) → IsEnd capture place end → place.packet ≡ end
     → place ≡ record { packet = end; step = 0 }
@@ -62,7 +56,7 @@ at_end capture place end ends e = elim (cases_lt 0 place.step) [
   | inr none ↦ (let before : place.step ≡ 0 = omega (arith, none) in rw (e, before) refl)
 ]
 
--- a place is before the end of the capture
+-- the capture's end is an end for each cursor
 pub is_end_of_all : (machine : Machine) (capture : List Record) (w : Cursor) → Stands machine capture w
     → IsEnd capture w.place (length capture + 1)
 is_end_of_all machine capture w stands =

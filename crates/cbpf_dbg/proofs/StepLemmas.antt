@@ -23,7 +23,7 @@ use Rattle.cbpf_dbg.specs.Joined.{Entry, ahead, packet_entries}
 use Rattle.cbpf_dbg.specs.Cursor.{Stands, Moves, Nears, Passes, entry_here}
 use Rattle.cbpf_dbg.proofs.JoinedLemmas.{place_at, ahead-whole}
 use Rattle.cbpf_dbg.proofs.LeftLemmas.{at_end}
-use Rattle.cbpf_dbg.proofs.FollowLemmas.{there}
+use Rattle.cbpf_dbg.proofs.FollowLemmas.{item_within}
 use Rattle.cbpf_dbg.proofs.GoingLemmas.{passes_more}
 use Rattle.cbpf_dbg.proofs.RunLemmas.{slice_get-past, slice_get-later}
 use Rattle.cbpf_dbg.proofs.TurnLemmas.{length_entries}
@@ -58,7 +58,7 @@ module _ (machine : Machine) (capture : List Record) where
       let same : p ≡ zero + p = omega arith in
       ([], ap (λ q. ahead machine capture (place_at q 0)) same, omega arith)
   packets_entries (suc n) p sound one within =
-      let r = there capture (p - 1) (omega (arith, within, one)) in
+      let r = item_within capture (p - 1) (omega (arith, within, one)) in
       let on : n + (p + 1) ≡ suc n + p = omega arith in
       let others = packets_entries n (p + 1) sound (omega arith) (omega (arith, within)) in
       let es : List Entry = packet_entries machine r.0 p in (

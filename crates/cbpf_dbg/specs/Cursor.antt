@@ -161,7 +161,7 @@ pub record Passes (machine : Machine) (capture : List Record) (old new : Cursor)
   pub order : NotBefore new.place old.place
   pub spent : spent_new + owed machine capture new.place ≡ spent_old + owed machine capture old.place
 
--- a cursor nears the entry that is n entries ahead, so that fewer are left
+-- a cursor goes on, so that the entry that was n entries ahead is `left` entries ahead
 pub record Nears (machine : Machine) (capture : List Record) (old new : Cursor) (n left spent_old spent_new : ℕ) :
     Type 0 where
   pub passes : Passes machine capture old new spent_old spent_new

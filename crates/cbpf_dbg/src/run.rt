@@ -26,6 +26,7 @@ use std::alloc::Allocator;
 
 /// What a run keeps of a packet as it follows it: a trail, or nothing.
 pub(crate) trait Keeper<P: Pause, A: Allocator> {
+    /// The lists of entries that it stands for.
     ghost stands_for: { Self → List Registers → Type 0 };
 
     /// As `cbpf_machine::follow_packet`.
@@ -55,7 +56,6 @@ pub(crate) struct NoTrail;
 impl<P: Pause, A: Allocator> Keeper<P, A> for NoTrail {
     ghost stands_for = { λ t xs. Unit {0} };
 
-    #[inline(always)]
     fn follow_packet(
         &mut self,
         meter: &mut Meter,
@@ -72,7 +72,6 @@ impl<P: Pause, A: Allocator> Keeper<P, A> for NoTrail {
 impl<T: Trail, A: Allocator> Keeper<Watched<A>, A> for T {
     ghost stands_for = { λ t xs. T.stands_for t xs };
 
-    #[inline(always)]
     fn follow_packet(
         &mut self,
         meter: &mut Meter,
@@ -94,27 +93,26 @@ pub(crate) fn run_records<P: Pause, A: Allocator, K: Keeper<P, A>>(
     loaded: &Loaded<'_, A>,
     pause: &P,
     walk: &mut Walk<'_>,
-    kept: &mut K,
+    keeper: &mut K,
 ) -> bool
     requires can { CanGoOn loaded.now walk.old meter.old }
     requires before { walk.old.cursor.place.step ≡ 0 }
     ensures goes { GoesOn loaded.now (λ s. P.pauses pause.now s) walk.old walk.new meter.old meter.new result }
     ensures none { result ≡ false → walk.new.cursor.place.packet ≡ walk.new.end }
-    ensures keeps { result ≡ true → KeepsIn (λ xs. K.stands_for kept.new xs) loaded.now walk.new.cursor.place }
+    ensures keeps { result ≡ true → KeepsIn (λ xs. K.stands_for keeper.new xs) loaded.now walk.new.cursor.place }
 {
     // Bound here, as the compiler would load them again after each packet.
     let program = loaded.program;
     let values = loaded.values;
-    'go: while walk.cursor.place.packet < walk.end {
-        let Some(here) = walk.left.first() else {
-            unreachable!()
-        };
+    let end = walk.end;
+    'go: while walk.cursor.place.packet < end {
+        let here = walk.left.front();
         let packet = Packet {
             bytes: here.bytes,
             wire: here.wire,
         };
         let state = &mut walk.cursor.state;
-        match kept.follow_packet(meter, program, packet, values, pause, state) {
+        match keeper.follow_packet(meter, program, packet, values, pause, state) {
             Followed::Watched(entries) => {
                 walk.cursor.place.step = entries;
                 return true;
@@ -127,7 +125,7 @@ pub(crate) fn run_records<P: Pause, A: Allocator, K: Keeper<P, A>>(
 }
 
 /// Goes on over whole packets to the next hit, or to the end: whether there is one. It keeps no trail on the way where
-/// nothing can stop it, or each packet is so short that the trail can start at the hit.
+/// nothing can stop it, or the program is so short that the trail can start at the hit.
 fn run_whole<T: Trail, A: Allocator>(
     meter: &mut Meter,
     loaded: &Loaded<'_, A>,
@@ -173,9 +171,7 @@ fn go_on_in_packet<T: Trail, A: Allocator>(
     if walk.cursor.place.step == 0 {
         return false;
     }
-    let Some(here) = walk.left.first() else {
-        unreachable!()
-    };
+    let here = walk.left.front();
     let packet = Packet {
         bytes: here.bytes,
         wire: here.wire,
@@ -217,9 +213,7 @@ fn run_to_hit<T: Trail, A: Allocator>(
             return None;
         }
     }
-    let Some(here) = walk.left.first() else {
-        unreachable!()
-    };
+    let here = walk.left.front();
     walk.cursor.start = here.start;
     Some(stop_at(loaded, &walk.cursor, Why::Break))
 }

@@ -22,7 +22,7 @@ use std::marker::Model;
 #[derive(Drop)]
 pub struct Stops<'a, A: Allocator = Global> {
     pub(crate) loaded: Loaded<'a, A>,
-    /// Over all records from the place's packet on.
+    /// To the capture's end.
     pub(crate) walk: Walk<'a>,
     pub(crate) meter: Meter,
 }
@@ -55,9 +55,7 @@ fn go_on_in_packet<A: Allocator>(
     if walk.cursor.place.step == 0 {
         return false;
     }
-    let Some(here) = walk.left.first() else {
-        unreachable!()
-    };
+    let here = walk.left.front();
     let packet = Packet {
         bytes: here.bytes,
         wire: here.wire,

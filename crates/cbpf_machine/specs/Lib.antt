@@ -9,4 +9,5 @@ pub mod Trace
 pub mod Trail
 pub mod Follow
 pub mod InPlace
+pub mod Task
 pub mod Together

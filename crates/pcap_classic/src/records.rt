@@ -1,6 +1,6 @@
 //! The records of a capture, one after another.
 
-ghost use Rattle.std.specs.Prelude.{◌≡◌, ◌∷◌, slice_get, Some};
+ghost use Rattle.std.specs.Prelude.{◌≡◌, ◌<◌, ◌∷◌, length, slice_get, Some};
 ghost use Rattle.std.specs.Option.{option_map};
 ghost use Rattle.std.specs.Iterator.{YieldsFirstBy, item_count};
 ghost use Rattle.pcap_classic.specs.Lent.{record_of};
@@ -45,7 +45,16 @@ impl<'a> Records<'a> {
         if self.number == self.end {
             return None;
         }
-        Some(file_record(self.order, self.file, self.number, self.place))
+        Some(self.front())
+    }
+
+    /// The same, where one is left.
+    #[inline(always)]
+    pub fn front(&self) -> Captured<'a>
+        requires { 0 < length self.now }
+        ensures { slice_get self.now 0 ≡ Some (record_of result) }
+    {
+        file_record(self.order, self.file, self.number, self.place)
     }
 
     /// Goes on past its first record, which is this one.

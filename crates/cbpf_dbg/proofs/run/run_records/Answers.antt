@@ -1,4 +1,4 @@
-use Rattle.std.proofs.Common.{◌≡◌, ◌+◌, ◌∙◌, arith, refl, subst, take}
+use Rattle.std.proofs.Common.{◌≡◌, ◌+◌, ◌∙◌, arith, sym, refl, subst, take}
 use Rattle.pcap_classic.specs.Lent.{record_of}
 use Rattle.pcap_classic.specs.Records.{Record}
 use Rattle.cbpf_machine.specs.Trace.{trace}
@@ -18,20 +18,20 @@ finish_whole_packet-requires-clause-counts g c = countable _ _ c.go.walk.cursor 
 pub returns-in-Watched-clause-goes : goal.returns-in-Watched-clause-goes
 returns-in-Watched-clause-goes g c =
     let so = c.go.invariant in
-    let is = first_of _ _ c.in-Some.ensures in
+    let is = first_of _ _ (sym c.front-here.ensures) in
     let here = first_left _ _ _ _ _ is so.left in
     let step = so.out refl in
     let sum : c.go.walk.cursor.place.step + c.in-Watched.entries ≡ c.in-Watched.entries = omega (arith, step) in
-    goes_more _ _ _ _ _ _ _ _ _ so (goes_to_entry _ _ (record_of c.in-Some.here)
+    goes_more _ _ _ _ _ _ _ _ _ so (goes_to_entry _ _ (record_of c.front-here.result)
     so.passes.stands here _ 0 c.follow_packet.result c.follow_packet.new.state _ c.go.meter
-    c.follow_packet.new.meter c.go.walk.left _ _ so.left so.ends c.go-test.true (omega (arith, step)) (rw c.in-Watched.is refl)
+    c.follow_packet.new.meter c.go.walk.left _ _ so.left so.ends (omega (arith, c.go-test.true, so.same)) (omega (arith, step)) (rw c.in-Watched.is refl)
     (rw (c.in-Watched.is, sum) refl) c.follow_packet.ensures.follows
     (omega (arith, c.follow_packet.ensures.turns)) is)
 
 pub returns-in-Watched-clause-keeps : goal.returns-in-Watched-clause-keeps
 returns-in-Watched-clause-keeps g c = λ _ r there.
-    let here = first_left _ _ _ _ _ (first_of _ _ c.in-Some.ensures) c.go.invariant.left in
-    let same : record_of c.in-Some.here ≡ r = cc in
+    let here = first_left _ _ _ _ _ (first_of _ _ (sym c.front-here.ensures)) c.go.invariant.left in
+    let same : record_of c.front-here.result ≡ r = cc in
     subst (λ (q : Record). g.K.Keeper.stands_for c.follow_packet.new.self (take c.in-Watched.entries
     (trace (machine_in c.args.loaded.now) q.bytes q.wire))) same
     (c.follow_packet.ensures.stands c.in-Watched.entries c.in-Watched.is)
@@ -40,11 +40,11 @@ pub go-preserved : goal.go-preserved
 go-preserved g c =
     let so = c.go.invariant in
     let here = first_left _ _ _ _ _ c.pass.ensures so.left in
-    goes_more _ _ _ _ _ _ _ _ _ so (goes_out _ _ (record_of c.in-Some.here)
+    goes_more _ _ _ _ _ _ _ _ _ so (goes_out _ _ (record_of c.front-here.result)
     so.passes.stands here _ 0 c.follow_packet.result c.follow_packet.new.state c.finish_whole_packet.new.self c.go.meter
-    c.follow_packet.new.meter c.go.walk.left _ _ so.left so.ends c.go-test.true (omega (arith, so.out refl)) (rw c.in-Ended.is refl)
+    c.follow_packet.new.meter c.go.walk.left _ _ so.left so.ends (omega (arith, c.go-test.true, so.same)) (omega (arith, so.out refl)) (rw c.in-Ended.is refl)
     (c.finish_whole_packet.ensures ∙ rw c.in-Ended.is refl) c.follow_packet.ensures.follows
     (omega (arith, c.follow_packet.ensures.turns)) c.pass.ensures)
 
 pub returns-clause-none : goal.returns-clause-none
-returns-clause-none g c = λ _. omega (arith, c.go.invariant.ends.most, c.go-test.false)
+returns-clause-none g c = λ _. omega (arith, c.go.invariant.ends.most, c.go.invariant.same, c.go-test.false)

@@ -40,8 +40,8 @@ pub returns-clause-start : goal.returns-clause-start
 returns-clause-start g c = elim c.if-not-go_on_in_packet.branch [
   | then-not-go_on_in_packet+else-not-run_whole w ↦
       let left = w.if-not-run_whole.ensures.goes.left in
-      rw w.walk-is (start_first _ _ _ _ left (rw w.walk-is at c.in-Some.ensures))
+      rw w.walk-is (start_first _ _ _ _ left (rw w.walk-is at (sym c.front-here.ensures)))
   | else-not-go_on_in_packet w ↦
       let left = w.if-not-go_on_in_packet.ensures.goes.left in
-      rw w.walk-is (start_first _ _ _ _ left (rw w.walk-is at c.in-Some.ensures))
+      rw w.walk-is (start_first _ _ _ _ left (rw w.walk-is at (sym c.front-here.ensures)))
 ]

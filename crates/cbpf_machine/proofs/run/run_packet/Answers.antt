@@ -1,7 +1,7 @@
 use Rattle.std.proofs.Common.{arith}
 use Rattle.cbpf_machine.specs.Machine.{machine_of}
 use Rattle.cbpf_machine.specs.Registers.{zero_state}
-use Rattle.cbpf_machine.specs.Together.{task_of}
+use Rattle.cbpf_machine.specs.Task.{task_of}
 use Rattle.cbpf_machine.proofs.TraceLemmas.{length-trace_from, trace-is_run}
 use Rattle.cbpf_machine.proofs.run.run_packet.Goals as goal
 

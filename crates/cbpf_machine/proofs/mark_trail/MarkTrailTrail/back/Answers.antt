@@ -6,7 +6,7 @@ use Rattle.std.proofs.lemmas.Option.{slice_get_read, slice_get_within, get_or_fr
 use Rattle.cbpf_machine.specs.Trail.{AreCheckpoints, Checkpoints}
 use Rattle.cbpf_machine.specs.Registers.{Registers}
 use Rattle.cbpf_machine.specs.Trace.{next_of}
-use Rattle.cbpf_machine.specs.Together.{task_of, turn_in, trace_in}
+use Rattle.cbpf_machine.specs.Task.{task_of, turn_in, trace_in}
 use Rattle.cbpf_machine.proofs.TraceLemmas.{goes_from_entry, goes_next, goes_at, goes_last, next_of-none}
 use Rattle.cbpf_machine.specs.declared.mark_trail.TheConstants.{STRIDE}
 use Rattle.cbpf_machine.proofs.mark_trail.MarkTrailTrail.back.Goals as goal

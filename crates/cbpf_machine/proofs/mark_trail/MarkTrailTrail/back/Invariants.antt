@@ -1,5 +1,5 @@
 use Rattle.std.proofs.Common.{◌≡◌, ◌+◌, ◌*◌}
-use Rattle.cbpf_machine.specs.Together.{IsOnTrace, task_of}
+use Rattle.cbpf_machine.specs.Task.{IsOnTrace, task_of}
 use Rattle.cbpf_machine.specs.declared.mark_trail.TheConstants.{STRIDE}
 use Rattle.cbpf_machine.proofs.mark_trail.MarkTrailTrail.back.Given as goal
 

@@ -2,7 +2,8 @@ use Rattle.std.proofs.Common.{◌≡◌, ◌≤◌, ◌+◌, ◌-◌, [], arith,
 use Rattle.std.specs.Prelude.{None}
 use Rattle.cbpf_machine.specs.Core.{registers}
 use Rattle.cbpf_machine.specs.Registers.{Registers, zero_state}
-use Rattle.cbpf_machine.specs.Together.{Reaches, task_of, trace_in}
+use Rattle.cbpf_machine.specs.Task.{task_of, trace_in}
+use Rattle.cbpf_machine.specs.Together.{Reaches}
 use Rattle.cbpf_machine.proofs.TraceLemmas.{first_entry, goes_at}
 use Rattle.cbpf_machine.proofs.ListLemmas.{take-slice_get}
 use Rattle.cbpf_machine.proofs.FollowLemmas.{Comes, comes, start_goes, few_entries, ended, reaches_fenced}

@@ -1,6 +1,6 @@
 use Rattle.std.proofs.Common.{◌≡◌, ◌≤◌, ◌+◌, ◌-◌, take}
 use Rattle.cbpf_machine.specs.Core.{registers}
-use Rattle.cbpf_machine.specs.Together.{IsOnTrace, task_of, trace_in}
+use Rattle.cbpf_machine.specs.Task.{IsOnTrace, task_of, trace_in}
 use Rattle.cbpf_machine.proofs.trail.Trail.fill.Given as goal
 
 -- the trail keeps so many entries, of which the state is the last

@@ -3,7 +3,8 @@ use Rattle.std.specs.Prelude.{None}
 use Rattle.cbpf_code.specs.declared.checker.TheConstants.{MAX_INSTRUCTIONS}
 use Rattle.cbpf_machine.specs.Core.{registers}
 use Rattle.cbpf_machine.specs.Follow.{is_watched}
-use Rattle.cbpf_machine.specs.Together.{Reaches, task_of, trace_in}
+use Rattle.cbpf_machine.specs.Task.{task_of, trace_in}
+use Rattle.cbpf_machine.specs.Together.{Reaches}
 use Rattle.cbpf_machine.proofs.SoundLemmas.{sound_few}
 use Rattle.cbpf_machine.proofs.TraceLemmas.{goes_from_entry}
 use Rattle.cbpf_machine.proofs.FollowLemmas.{Comes, comes, few_entries, unpaused_next, ended}

@@ -1,7 +1,7 @@
 use Rattle.std.proofs.Common.{◌≡◌, ◌≤◌, ◌+◌, ◌-◌, length, take}
 use Rattle.cbpf_machine.specs.Core.{registers}
 use Rattle.cbpf_machine.specs.Follow.{Unpaused, is_watched}
-use Rattle.cbpf_machine.specs.Together.{IsOnTrace, task_of, trace_in}
+use Rattle.cbpf_machine.specs.Task.{IsOnTrace, task_of, trace_in}
 use Rattle.cbpf_machine.proofs.trail.Trail.follow.Given as goal
 
 -- the state is the last entry kept, after so many turns, and none of the new ones is watched
