@@ -3,8 +3,6 @@
 ghost use Rattle.std.specs.Prelude.{◌≡◌, ◌≢◌, ◌+◌, ◌-◌, ◌*◌, ◌<◌, ◌≤◌, ◌^◌, ℕ, List, [], Some, true, false, OnSome, take};
 ghost use Rattle.cbpf_code.specs.declared.checker.TheConstants.{MAX_INSTRUCTIONS};
 ghost use Rattle.cbpf_machine.specs.Registers.{Registers};
-ghost use Rattle.cbpf_machine.specs.Machine.{machine_of};
-ghost use Rattle.cbpf_machine.specs.Trace.{trace, outcome};
 ghost use Rattle.cbpf_machine.specs.Follow.{Follows, is_watched, turns_to};
 ghost use Rattle.cbpf_machine.specs.declared.follow.Followed.TheVariants as followed;
 ghost use Rattle.pcap_classic.specs.Records.{StartsAt};
@@ -13,7 +11,7 @@ ghost use Rattle.cbpf_dbg.specs.Joined.{rest};
 ghost use Rattle.cbpf_dbg.specs.Loaded.{machine_in, records_in, breakpoints_in};
 ghost use Rattle.cbpf_dbg.specs.Session.{IsInside};
 ghost use Rattle.cbpf_dbg.specs.Cursor.{Stands, Passes, Gives, run_from, turns_of, ComesTo};
-ghost use Rattle.cbpf_dbg.specs.Going.{CanGoOn, GoesOn, KeepsIn};
+ghost use Rattle.cbpf_dbg.specs.Going.{CanGoOn, GoesOn, KeepsIn, entries_of, outcome_of};
 
 use crate::cursor::{Cursor, Moved, Walk, stop_at};
 use crate::loaded::Loaded;
@@ -24,6 +22,14 @@ use cbpf_machine::{
 use cbpf_reply::{RunReply, Stop, Why};
 use std::alloc::Allocator;
 
+/// A packet that a run follows, with the program and the values for extensions.
+#[derive(Drop)]
+pub(crate) struct Task<'a, A: Allocator> {
+    program: &'a Program<A>,
+    values: &'a Values,
+    packet: Packet<'a>,
+}
+
 /// What a run keeps of a packet as it follows it: a trail, or nothing.
 pub(crate) trait Keeper<P: Pause, A: Allocator> {
     /// The lists of entries that it stands for.
@@ -33,20 +39,16 @@ pub(crate) trait Keeper<P: Pause, A: Allocator> {
     fn follow_packet(
         &mut self,
         meter: &mut Meter,
-        program: &Program<A>,
-        packet: Packet<'_>,
-        values: &Values,
+        task: &Task<'_, A>,
         pause: &P,
         state: &mut State,
     ) -> Followed
         requires { meter.old + 2 * MAX_INSTRUCTIONS ≤ 2 ^ 128 }
-        ensures follows { Follows (λ s. P.pauses pause.now s)
-            (trace (machine_of program.now values.now) packet.entry.bytes.now packet.entry.wire)
-            (outcome (machine_of program.now values.now) packet.entry.bytes.now packet.entry.wire) 0 state.old state.new result }
-        ensures turns { meter.new + 1 ≡ meter.old
-            + turns_to (trace (machine_of program.now values.now) packet.entry.bytes.now packet.entry.wire) 0 result }
-        ensures stands { (n : ℕ) → result ≡ followed.Watched n → stands_for self.new
-            (take n (trace (machine_of program.now values.now) packet.entry.bytes.now packet.entry.wire)) };
+        ensures follows { Follows (λ s. P.pauses pause.now s) (entries_of task.now) (outcome_of task.now) 0
+            state.old state.new result }
+        ensures turns { meter.new + 1 ≡ meter.old + turns_to (entries_of task.now) 0 result }
+        ensures stands { (n : ℕ) → result ≡ followed.Watched n
+            → stands_for self.new (take n (entries_of task.now)) };
 }
 
 /// No trail.
@@ -59,13 +61,11 @@ impl<P: Pause, A: Allocator> Keeper<P, A> for NoTrail {
     fn follow_packet(
         &mut self,
         meter: &mut Meter,
-        program: &Program<A>,
-        packet: Packet<'_>,
-        values: &Values,
+        task: &Task<'_, A>,
         pause: &P,
         state: &mut State,
     ) -> Followed {
-        follow_packet(meter, program, packet, values, pause, state)
+        follow_packet(meter, task.program, task.packet, task.values, pause, state)
     }
 }
 
@@ -75,13 +75,19 @@ impl<T: Trail, A: Allocator> Keeper<Watched<A>, A> for T {
     fn follow_packet(
         &mut self,
         meter: &mut Meter,
-        program: &Program<A>,
-        packet: Packet<'_>,
-        values: &Values,
+        task: &Task<'_, A>,
         pause: &Watched<A>,
         state: &mut State,
     ) -> Followed {
-        Trail::follow_packet(self, meter, program, packet, values, pause, state)
+        Trail::follow_packet(
+            self,
+            meter,
+            task.program,
+            task.packet,
+            task.values,
+            pause,
+            state,
+        )
     }
 }
 
@@ -107,12 +113,15 @@ pub(crate) fn run_records<P: Pause, A: Allocator, K: Keeper<P, A>>(
     let end = walk.end;
     'go: while walk.cursor.place.packet < end {
         let here = walk.left.front();
-        let packet = Packet {
-            bytes: here.bytes,
-            wire: here.wire,
+        let task = Task {
+            program,
+            values,
+            packet: Packet {
+                bytes: here.bytes,
+                wire: here.wire,
+            },
         };
-        let state = &mut walk.cursor.state;
-        match keeper.follow_packet(meter, program, packet, values, pause, state) {
+        match keeper.follow_packet(meter, &task, pause, &mut walk.cursor.state) {
             Followed::Watched(entries) => {
                 walk.cursor.place.step = entries;
                 return true;
