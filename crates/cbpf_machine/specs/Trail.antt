@@ -1,5 +1,4 @@
--- What a trail stands for: a list of states, of which it may keep some alone, as one in STRIDE (this project's own;
--- no standard speaks of it).
+-- What a trail stands for: a list of states, of which it may keep some alone, as one in STRIDE (this project's own).
 use Rattle.std.specs.Prelude.{◌≡◌, ℕ, ◌+◌, ◌-◌, ◌*◌, ◌/◌, ◌<◌, List, length, slice_get}
 use Rattle.cbpf_machine.specs.declared.mark_trail.TheConstants.{STRIDE}
 use Rattle.cbpf_machine.specs.Registers.{Registers}
