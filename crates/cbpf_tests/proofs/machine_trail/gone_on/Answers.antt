@@ -5,13 +5,13 @@ use Rattle.cbpf_machine.specs.Machine.{machine_of}
 use Rattle.cbpf_machine.specs.Trace.{trace}
 use Rattle.cbpf_machine.specs.Values.{no_values}
 use Rattle.cbpf_machine.proofs.TraceLemmas.{goes_from_entry, length-trace_from}
-use Rattle.cbpf_machine.proofs.SoundLemmas.{sound_few, sound_some}
+use Rattle.cbpf_machine.proofs.SoundLemmas.{sound_few}
 use Rattle.cbpf_tests.proofs.machine_trail.gone_on.Goals as goal
 
 pub pauses_at-requires : goal.pauses_at-requires
 pauses_at-requires g c =
     let sound = c.len-sound.ensures.sound in
-    let here = goes_from_entry (machine_of c.args.p.now no_values) [] 0 _ zero_state _ sound (sound_some _ sound)
+    let here = goes_from_entry (record { machine = machine_of c.args.p.now no_values; bytes = []; wire = 0 }) sound _ _
     c.requires.last in
     omega (arith, here.inside, sound_few c.args.p.now sound)
 
