@@ -9,6 +9,7 @@ use Rattle.cbpf_code.specs.declared.checker.CheckFault.TheVariants.{NoInstructio
 use Rattle.cbpf_code.specs.declared.checker.CheckFault.TheVariants.{ZeroDivisor, WideShift, JumpOutside}
 use Rattle.cbpf_code.specs.declared.checker.CheckFault.TheVariants.{UnknownExtension, NoReturn}
 use Rattle.cbpf_code.specs.declared.checker.TheConstants.{MAX_INSTRUCTIONS, SLOTS}
+use Rattle.cbpf_code.specs.declared.extension.TheConstants.{FIRST_EXTENSION}
 use Rattle.cbpf_code.specs.Opcode.{op_of}
 use Rattle.cbpf_code.specs.Extension.{ext_at}
 use Rattle.cbpf_code.specs.ControlFlow.{CanFollow, IsTarget}
@@ -26,7 +27,7 @@ pub record Allowed (op : Op) (insn : Insn) (i n : ℕ) : Type 0 where
   pub divisor : IsTrue (divides_by_k op) → 0 < insn.k
   pub shift : IsTrue (shifts_by_k op) → insn.k < 32
   pub targets : (t : ℕ) → IsTarget op insn i t → t < n
-  pub extension : IsTrue (loads_absolute op) → 4294963200 ≤ insn.k → ext_at insn.k ≡ None → ⊥
+  pub extension : IsTrue (loads_absolute op) → FIRST_EXTENSION ≤ insn.k → ext_at insn.k ≡ None → ⊥
 
 -- ---- where C1 to C9 are absent
 

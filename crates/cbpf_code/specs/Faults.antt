@@ -9,6 +9,7 @@ use Rattle.cbpf_code.specs.declared.opcode.Op.TheVariants.{LdAbs, LdMem, LdxMem,
 use Rattle.cbpf_code.specs.declared.opcode.AluOp.TheVariants.{Div, Mod, Lsh, Rsh}
 use Rattle.cbpf_code.specs.declared.opcode.Src.TheVariants.{K}
 use Rattle.cbpf_code.specs.declared.checker.TheConstants.{MAX_INSTRUCTIONS, SLOTS}
+use Rattle.cbpf_code.specs.declared.extension.TheConstants.{FIRST_EXTENSION}
 use Rattle.cbpf_code.specs.declared.checker.CheckFault.{CheckFault}
 use Rattle.cbpf_code.specs.declared.checker.CheckFault.TheVariants.{NoInstruction, TooMany, UnknownCode, NoSlot}
 use Rattle.cbpf_code.specs.declared.checker.CheckFault.TheVariants.{ZeroDivisor, WideShift, JumpOutside}
@@ -56,7 +57,7 @@ abbrev pub JumpsOutside : Op → Insn → ℕ → ℕ → Type 0
 JumpsOutside op insn i n = (t : ℕ) × IsTarget op insn i t × (n ≤ t)
 
 abbrev pub LoadsNoExtension : Op → Insn → Type 0
-LoadsNoExtension op insn = IsTrue (loads_absolute op) × (4294963200 ≤ insn.k) × (ext_at insn.k ≡ None)
+LoadsNoExtension op insn = IsTrue (loads_absolute op) × (FIRST_EXTENSION ≤ insn.k) × (ext_at insn.k ≡ None)
 
 -- the order of reports: by rank, and of one rank by the instruction's index
 abbrev pub rank : CheckFault → ℕ

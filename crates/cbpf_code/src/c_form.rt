@@ -1,6 +1,7 @@
 // A program as the initializers of a C array.
 ghost use Rattle.std.specs.Prelude.{◌≡◌, ◌≤◌, ◌+◌, ◌++◌, length, decimal};
 ghost use Rattle.cbpf_code.specs.Writing.{Wrote};
+ghost use Rattle.cbpf_code.specs.declared.writing.TheConstants.{LINE_SIZE};
 ghost use Rattle.cbpf_code.specs.CForm.{hex_prefix, padding, c_line, c_form};
 
 use crate::insn::Insn;
@@ -17,7 +18,7 @@ fn prefix_of(n: u32) -> &'static [u8]
 #[inline(always)]
 #[tactic(auto, using(crate::proofs::DigitLemmas::one_or_more_digits))]
 fn put_padded(line: &mut Line, n: u8)
-    requires room { length line.old + 11 ≤ 256 }
+    requires room { length line.old + 11 ≤ LINE_SIZE }
     ensures text { line.new ≡ padding n ++ decimal n ++ line.old }
     ensures grown { length line.new ≤ length line.old + 11 }
 {

@@ -1,6 +1,7 @@
 ghost use Rattle.std.specs.Prelude.{◌≡◌, ◌+◌, ℕ, Some, MatchOption};
 ghost use Rattle.cbpf_code.specs.Extension as spec;
 ghost use Rattle.cbpf_code.specs.declared.extension.Ext.{Ext};
+ghost use Rattle.cbpf_code.specs.declared.extension.TheConstants.{FIRST_EXTENSION};
 
 /// An extension of Linux: what an absolute load from a place that no packet has asks for instead
 /// (Documentation/networking/filter, "BPF engine and instruction set", the table of extensions).
@@ -94,12 +95,12 @@ pub fn ext_at(k: u32) -> Option<Ext>
     extensions!(ext_of_place, k)
 }
 
-/// How far the extension's place is above 4294963200, the place of the first one; 0 to 60.
+/// How far the extension's place is above that of the first one; 0 to 60.
 #[tactic(auto, using(crate::proofs::TableLemmas::tables), unfolding(crate::specs::Extension::ext_at))]
 pub fn ext_offset(e: Ext) -> u32
     ensures value { result ≡ spec.ext_offset e }
-    ensures known { spec.ext_at (4294963200 + result) ≡ Some e }
-    ensures only { (k : ℕ) → spec.ext_at k ≡ Some e → k ≡ 4294963200 + result }
+    ensures known { spec.ext_at (FIRST_EXTENSION + result) ≡ Some e }
+    ensures only { (k : ℕ) → spec.ext_at k ≡ Some e → k ≡ FIRST_EXTENSION + result }
 {
     extensions!(offset_of_ext, e)
 }

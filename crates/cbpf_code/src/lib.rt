@@ -30,5 +30,6 @@ pub use scan::{is_blank, is_digit, laws_of_marks};
 pub use word_form::write_words;
 pub use words::{WordFault, read_words};
 pub use writing::{
-    Line, WriteFault, write_bytes, write_decimal, write_hex, write_parts, write_with_number,
+    LINE_SIZE, Line, WriteFault, write_bytes, write_decimal, write_hex, write_parts,
+    write_with_number,
 };

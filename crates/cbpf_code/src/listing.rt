@@ -5,6 +5,7 @@
 
 ghost use Rattle.std.specs.Prelude.{◌≡◌, ◌<◌, ◌≤◌, ◌+◌, ◌++◌, length, Some};
 ghost use Rattle.cbpf_code.specs.Text.{with_number};
+ghost use Rattle.cbpf_code.specs.declared.writing.TheConstants.{LINE_SIZE};
 ghost use Rattle.cbpf_code.specs.Writing.{Wrote};
 ghost use Rattle.cbpf_code.specs.Opcode.{op_of};
 ghost use Rattle.cbpf_code.specs.declared.opcode.Op.{Op};
@@ -23,7 +24,7 @@ use std::io::Write;
 #[inline(always)]
 fn put_between(line: &mut Line, before: &[u8], n: u64, after: &[u8])
     requires short { (length before.now ≤ 8) × (length after.now ≤ 8) }
-    requires room { length line.old + 36 ≤ 256 }
+    requires room { length line.old + 36 ≤ LINE_SIZE }
     ensures text { line.new ≡ with_number before.now n after.now ++ line.old }
     ensures grown { length line.new ≤ length line.old + 36 }
 {
@@ -35,7 +36,7 @@ fn put_between(line: &mut Line, before: &[u8], n: u64, after: &[u8])
 /// Puts both targets of the conditional jump at an index.
 #[inline(always)]
 fn put_targets(line: &mut Line, i: u32, insn: Insn)
-    requires room { length line.old + 46 ≤ 256 }
+    requires room { length line.old + 46 ≤ LINE_SIZE }
     ensures text { line.new ≡ spec.targets i insn ++ line.old }
     ensures grown { length line.new ≤ length line.old + 46 }
 {
@@ -50,7 +51,7 @@ fn put_targets(line: &mut Line, i: u32, insn: Insn)
 #[inline(always)]
 #[tactic(auto, using(crate::proofs::NameLemmas::names))]
 fn put_operand(line: &mut Line, i: u32, insn: Insn, op: Op)
-    requires room { length line.old + 60 ≤ 256 }
+    requires room { length line.old + 60 ≤ LINE_SIZE }
     ensures text { line.new ≡ spec.operand_text (syntax.operand_of op) i insn ++ line.old }
     ensures grown { length line.new ≤ length line.old + 60 }
 {
@@ -95,7 +96,7 @@ fn put_operand(line: &mut Line, i: u32, insn: Insn, op: Op)
 #[tactic(auto, using(crate::proofs::SoundLemmas::sound_known))]
 pub fn put_line<A: Allocator>(line: &mut Line, p: &Program<A>, i: u32)
     requires within { i < length p.now }
-    requires room { length line.old + 77 ≤ 256 }
+    requires room { length line.old + 77 ≤ LINE_SIZE }
     ensures text { line.new ≡ spec.line_text p.now i ++ line.old }
     ensures grown { length line.new ≤ length line.old + 77 }
 {

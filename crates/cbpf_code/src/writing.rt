@@ -4,6 +4,7 @@ ghost use Rattle.std.specs.Prelude.{◌≤◌, decimal, ◌≡◌, ◌+◌, ◌+
 ghost use Rattle.std.specs.List.{flat_map};
 ghost use Rattle.cbpf_code.specs.Writing.{Wrote};
 ghost use Rattle.cbpf_code.specs.Text.{hex, with_number};
+ghost use Rattle.cbpf_code.specs.declared.writing.TheConstants.{LINE_SIZE};
 
 use itoa::{Buffer, write_digits};
 use std::io::Write;
@@ -90,22 +91,26 @@ pub fn write_hex<W: Write>(w: &mut W, n: u32, least: u32) -> Result<(), WriteFau
     line.write(w)
 }
 
+/// The most bytes of a `Line`.
+pub const LINE_SIZE: usize = 256;
+
 /// A text of at most 256 bytes. What is put stands before what was put so far, so that a line is
 /// put from its last part to its first.
 #[derive(Drop)]
 pub struct Line {
-    bytes: [u8; 256],
+    bytes: [u8; LINE_SIZE],
     at: usize,
 }
 
 impl Model for Line {
     ghost use Rattle.std.specs.Prelude.{ℕ, List, ◌≤◌, drop};
+    ghost use Rattle.cbpf_code.specs.declared.writing.TheConstants.{LINE_SIZE};
 
     ghost Value = { List ℕ };
 
     ghost view = { λ l. drop l.at l.bytes };
 
-    ghost invariant = { λ l. l.at ≤ 256 };
+    ghost invariant = { λ l. l.at ≤ LINE_SIZE };
 }
 
 impl Line {
@@ -115,15 +120,15 @@ impl Line {
         ensures { result ≡ [] }
     {
         Line {
-            bytes: [0; 256],
-            at: 256,
+            bytes: [0; LINE_SIZE],
+            at: LINE_SIZE,
         }
     }
 
     /// Puts a text.
     #[inline(always)]
     pub fn put(&mut self, text: &[u8])
-        requires { length self.old + length text.now ≤ 256 }
+        requires { length self.old + length text.now ≤ LINE_SIZE }
         ensures text { self.new ≡ text.now ++ self.old }
         ensures grown { length self.new ≡ length self.old + length text.now }
     {
@@ -136,7 +141,7 @@ impl Line {
     /// Puts a number of 64 bits in decimal, which takes at most 20 places.
     #[inline(always)]
     pub fn put_u64(&mut self, n: u64)
-        requires { length self.old + 20 ≤ 256 }
+        requires { length self.old + 20 ≤ LINE_SIZE }
         ensures text { self.new ≡ decimal n ++ self.old }
         ensures grown { length self.new ≤ length self.old + 20 }
     {
@@ -146,7 +151,7 @@ impl Line {
     /// Puts a number of 32 bits in decimal, which takes at most 10 places.
     #[inline(always)]
     pub fn put_u32(&mut self, n: u32)
-        requires { length self.old + 10 ≤ 256 }
+        requires { length self.old + 10 ≤ LINE_SIZE }
         ensures text { self.new ≡ decimal n ++ self.old }
         ensures grown { length self.new ≤ length self.old + 10 }
     {
@@ -158,7 +163,7 @@ impl Line {
     #[inline(always)]
     pub fn put_hex(&mut self, n: u32, least: u32)
         requires few { least ≤ 8 }
-        requires room { length self.old + 8 ≤ 256 }
+        requires room { length self.old + 8 ≤ LINE_SIZE }
         ensures text { self.new ≡ hex least n ++ self.old }
         ensures grown { length self.new ≤ length self.old + 8 }
     {
@@ -174,7 +179,7 @@ impl Line {
     #[inline(always)]
     #[tactic(auto, using(crate::proofs::HexLemmas::hex_texts))]
     pub fn put_byte(&mut self, n: u8)
-        requires { length self.old + 2 ≤ 256 }
+        requires { length self.old + 2 ≤ LINE_SIZE }
         ensures text { self.new ≡ hex 2 n ++ self.old }
         ensures grown { length self.new ≡ length self.old + 2 }
     {

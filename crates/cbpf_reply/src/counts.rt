@@ -2,6 +2,7 @@
 
 ghost use Rattle.std.specs.Prelude.{◌≡◌, ◌≤◌, ◌+◌, ◌++◌, length};
 ghost use Rattle.cbpf_code.specs.Writing.{Wrote};
+ghost use Rattle.cbpf_code.specs.declared.writing.TheConstants.{LINE_SIZE};
 ghost use Rattle.cbpf_reply.specs.Counts as spec;
 
 use crate::reply::{Counts, Place};
@@ -41,7 +42,7 @@ pub fn write_went_to<W: Write>(w: &mut W, place: Place) -> Result<(), WriteFault
 #[inline(always)]
 #[tactic(auto, unfolding(crate::specs::Counts::counts_text, crate::specs::Counts::known_text))]
 fn put_counts(line: &mut Line, counts: Counts)
-    requires room { length line.old + 88 ≤ 256 }
+    requires room { length line.old + 88 ≤ LINE_SIZE }
     ensures { line.new ≡ spec.counts_text counts ++ line.old }
 {
     if counts.unknown != 0 {

@@ -2,6 +2,7 @@
 
 ghost use Rattle.std.specs.Prelude.{◌≡◌, ◌<◌, ◌≤◌, ◌+◌, ◌++◌, length};
 ghost use Rattle.cbpf_code.specs.Writing.{Wrote};
+ghost use Rattle.cbpf_code.specs.declared.writing.TheConstants.{LINE_SIZE};
 ghost use Rattle.cbpf_reply.specs.Dump as spec;
 ghost use Rattle.cbpf_reply.specs.Scratch.{scratch_lines};
 
@@ -72,7 +73,7 @@ fn write_registers<W: Write>(w: &mut W, a: u32, x: u32, slots: &[u32]) -> Result
 #[inline(always)]
 #[tactic(auto, using(cbpf_code::proofs::NameLemmas::names))]
 pub(crate) fn put_why(line: &mut Line, why: Why)
-    requires room { length line.old + 23 ≤ 256 }
+    requires room { length line.old + 23 ≤ LINE_SIZE }
     ensures text { line.new ≡ spec.why_line why ++ line.old }
     ensures grown { length line.new ≤ length line.old + 23 }
 {

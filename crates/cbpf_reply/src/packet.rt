@@ -6,6 +6,7 @@ ghost use Rattle.std.specs.Int.{div_ceil};
 ghost use Rattle.std.specs.List.{flat_map};
 ghost use Rattle.std.specs.Option.{option_map_or};
 ghost use Rattle.cbpf_code.specs.Writing.{Wrote};
+ghost use Rattle.cbpf_code.specs.declared.writing.TheConstants.{LINE_SIZE};
 ghost use Rattle.cbpf_reply.specs.Dump.{why_line};
 ghost use Rattle.cbpf_reply.specs.declared.packet.TheConstants.{ROW};
 ghost use Rattle.cbpf_reply.specs.Packet as spec;
@@ -22,7 +23,7 @@ const ROW: usize = 16;
 #[inline(always)]
 fn put_cells(line: &mut Line, row: &[u8])
     requires few { length row.now ≤ ROW }
-    requires room { length line.old + 48 ≤ 256 }
+    requires room { length line.old + 48 ≤ LINE_SIZE }
     ensures text { line.new ≡ flat_map spec.byte_text row.now ++ line.old }
     ensures grown { length line.new ≤ length line.old + 48 }
 {

@@ -44,15 +44,15 @@ distinct_more ts t h z = All-push (λ u. times_among (ts ++ (t ∷ [])) (name_of
         absurd (omega (arith, s, e, z))
     old u e false p = omega (arith, times_append ts (t ∷ []) (name_of u), e, times_miss t (name_of u) p)
 
-abbrev Found : List Lexeme → List ℕ → Type 0
-Found us name = (k : ℕ) × (k < length us) × (d : Lexeme) × (name_of (get_or us k d) ≡ name)
+abbrev HasName : List Lexeme → List ℕ → Type 0
+HasName us name = (k : ℕ) × (k < length us) × (d : Lexeme) × (name_of (get_or us k d) ≡ name)
 
-found : (us : List Lexeme) (name : List ℕ) → times_among us name ≢ 0 → Found us name
-found [] name m = absurd (m refl)
-found (u ∷ us) name m = by_test (bytes_eq (name_of u) name) refl (λ n. found us name n)
+named : (us : List Lexeme) (name : List ℕ) → times_among us name ≢ 0 → HasName us name
+named [] name m = absurd (m refl)
+named (u ∷ us) name m = by_test (bytes_eq (name_of u) name) refl (λ n. named us name n)
   where
-    by_test : (b : Bool) → bytes_eq (name_of u) name ≡ b → (times_among us name ≢ 0 → Found us name)
-        → Found (u ∷ us) name
+    by_test : (b : Bool) → bytes_eq (name_of u) name ≡ b → (times_among us name ≢ 0 → HasName us name)
+        → HasName (u ∷ us) name
     by_test true e again = (0, omega arith, u, equal_bytes (name_of u) name e)
     by_test false e again =
         let f = again (λ z. m (omega (arith, times_cons u us name, times_miss u name e, z))) in
@@ -61,7 +61,7 @@ found (u ∷ us) name m = by_test (bytes_eq (name_of u) name) refl (λ n. found 
 -- a name that is given is given once
 pub distinct_once : (ts : List Lexeme) (name : List ℕ) → AreDistinct ts → times_among ts name ≢ 0
     → times_among ts name ≡ 1
-distinct_once ts name h n = let f = found ts name n in subst (λ w. times_among ts w ≡ 1) f.3 (h f.0 f.2 f.1)
+distinct_once ts name h n = let f = named ts name n in subst (λ w. times_among ts w ≡ 1) f.3 (h f.0 f.2 f.1)
 
 abbrev pub or_else : Option ℕ → Option ℕ → Option ℕ
 or_else None o = o

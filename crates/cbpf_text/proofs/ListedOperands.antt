@@ -8,6 +8,7 @@ use Rattle.cbpf_code.specs.declared.checker.TheConstants.{MAX_INSTRUCTIONS}
 use Rattle.cbpf_code.specs.declared.insn.Insn.{Insn}
 use Rattle.cbpf_code.specs.declared.extension.Ext.{Ext}
 use Rattle.cbpf_code.specs.declared.extension.Ext.TheVariants.{Proto}
+use Rattle.cbpf_code.specs.declared.extension.TheConstants.{FIRST_EXTENSION}
 use Rattle.cbpf_code.specs.Extension.{ext_at, ext_name, ext_offset, ext_table}
 use Rattle.cbpf_code.specs.Text.{hex}
 use Rattle.cbpf_code.specs.WordForm.{InRange}
@@ -71,7 +72,7 @@ ext_listed Proto = refl
 ext_listed e = refl
 
 ext_value : (e : Ext)
-    → place_named ext_table (first_byte (ext_name e) ∷ later_bytes (ext_name e)) ≡ Some (4294963200 + ext_offset e)
+    → place_named ext_table (first_byte (ext_name e) ∷ later_bytes (ext_name e)) ≡ Some (FIRST_EXTENSION + ext_offset e)
 ext_value Proto = refl
 ext_value e = refl
 
