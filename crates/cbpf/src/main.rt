@@ -13,11 +13,11 @@ use std::{env, fs};
 
 /// The machine that `rt` reaches. What it holds is not known.
 #[derive(Drop)]
-struct Machine<'a, R> {
+struct RealHost<'a, R> {
     rt: &'a R,
 }
 
-impl<'a, R: Input + Print + Files + AllocGlobal> Host for Machine<'a, R> {
+impl<'a, R: Input + Print + Files + AllocGlobal> Host for RealHost<'a, R> {
     ghost view = { λ _. unknown };
 
     type Source = R::File;
@@ -94,7 +94,7 @@ fn explain<R: Print + Eprint>(rt: &R, text: &str) -> ExitCode {
 fn do_job<R: Input + Print + Eprint + Files + AllocGlobal>(rt: &R, words: Vec<String>) -> ExitCode {
     match command_line(rt.alloc(), words) {
         Ok(job) => {
-            let done = run_on(rt.alloc(), &mut Machine { rt }, job);
+            let done = run_on(rt.alloc(), &mut RealHost { rt }, job);
             if let Err(failure) = &done {
                 complain(rt, failure);
             }

@@ -40,7 +40,7 @@ fn is_end(text: &[u8], at: usize) -> bool
 }
 
 /// A number below `range`, and where it ends.
-fn number_at(text: &[u8], at: usize, range: u64) -> Result<(u64, usize), WordFault>
+fn decimal_at(text: &[u8], at: usize, range: u64) -> Result<(u64, usize), WordFault>
     requires place { at ≤ length text.now }
     requires range { range ≤ 2 ^ 32 }
     ensures below { IfOk result (λ r. (r.0 < range) × (r.1 ≤ length text.now)) }
@@ -83,10 +83,10 @@ fn insn_at(text: &[u8], at: usize) -> Result<(Insn, usize), WordFault>
         (λ r. PassesTokens text.now code at (r.0.code ∷ r.0.jt ∷ r.0.jf ∷ r.0.k ∷ []) comma r.1)
         (λ e. IsFaultAt text.now code at e (NumberExpected (length text.now))) }
 {
-    let (code, at) = number_at(text, at, 65536)?;
-    let (jt, at) = number_at(text, at, 256)?;
-    let (jf, at) = number_at(text, at, 256)?;
-    let (k, at) = number_at(text, at, 4_294_967_296)?;
+    let (code, at) = decimal_at(text, at, 65536)?;
+    let (jt, at) = decimal_at(text, at, 256)?;
+    let (jf, at) = decimal_at(text, at, 256)?;
+    let (k, at) = decimal_at(text, at, 4_294_967_296)?;
     let insn = Insn {
         code: code as u16,
         jt: jt as u8,
@@ -121,7 +121,7 @@ fn counted<A: Allocator>(
 fn read_list<A: Allocator>(alloc: A, text: &[u8]) -> Result<Vec<Insn, A>, WordFault>
     ensures { MatchResult result (λ v. Spells text.now v.items) (λ e. Refused text.now e) }
 {
-    let (count, at) = number_at(text, 0, 4_294_967_296)?;
+    let (count, at) = decimal_at(text, 0, 4_294_967_296)?;
     let mut at = comma_at(text, at)?;
     let mut list = Vec::new(alloc);
     while !is_end(text, at) {

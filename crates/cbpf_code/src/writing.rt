@@ -132,7 +132,7 @@ impl Line {
         ensures text { self.new ≡ text.now ++ self.old }
         ensures grown { length self.new ≡ length self.old + length text.now }
     {
-        // The place is stored last: so it stays in a register from one text to the next.
+        // Stored once, after the copy.
         let at = self.at - text.len();
         self.bytes[at..self.at].copy_from_slice(text);
         self.at = at;

@@ -177,7 +177,7 @@ fn name_in(alloc: Global, matches: &ArgMatches<'_>, id: &str) -> Result<Option<S
     }
 }
 
-fn asm_job(alloc: Global, matches: &ArgMatches<'_>) -> Result<Job, AllocError>
+fn asm_asked(alloc: Global, matches: &ArgMatches<'_>) -> Result<Job, AllocError>
     ensures { IfOk result (λ j. spec.meaning j ≡ spec.asm_asked (rows_of (found_of matches.now))) }
 {
     Ok(Job::Asm {
@@ -186,7 +186,7 @@ fn asm_job(alloc: Global, matches: &ArgMatches<'_>) -> Result<Job, AllocError>
     })
 }
 
-fn dbg_job(alloc: Global, matches: &ArgMatches<'_>) -> Result<Job, AllocError>
+fn dbg_asked(alloc: Global, matches: &ArgMatches<'_>) -> Result<Job, AllocError>
     ensures { IfOk result (λ j. spec.meaning j ≡ spec.dbg_asked (rows_of (found_of matches.now))) }
 {
     Ok(Job::Dbg {
@@ -203,8 +203,8 @@ fn job_of(alloc: Global, matches: &ArgMatches<'_>) -> Result<Job, AllocError>
             input: None,
             output: None,
         }),
-        Some(("asm", inner)) => asm_job(alloc, inner),
-        Some((_, inner)) => dbg_job(alloc, inner),
+        Some(("asm", inner)) => asm_asked(alloc, inner),
+        Some((_, inner)) => dbg_asked(alloc, inner),
     }
 }
 

@@ -29,7 +29,7 @@ use Rattle.cbpf_dbg.specs.Commands.{back_place}
 use Rattle.cbpf_dbg.specs.Shown.{IsWithin, CanShow, Shows}
 use Rattle.cbpf_dbg.specs.Cursor.{Stands, Gives, run_from, step_from, StepsBack, view_at}
 use Rattle.cbpf_dbg.proofs.JoinedLemmas.{entry}
-use Rattle.cbpf_dbg.proofs.WholeLemmas.{Holds}
+use Rattle.cbpf_dbg.proofs.WholeLemmas.{HasLoaded}
 use Rattle.cbpf_dbg.specs.Breakpoints.{Breakpoints}
 
 -- an element has what all have
@@ -135,7 +135,7 @@ within-entry_in machine capture place (Some r) e sound from_one at is =
     from_one (omega (arith, slice_get_within capture (place.packet - 1) r at, from_one))
     (λ s here. (goes_from_entry _ sound (place.step - 1) s here).inside) is
 
-module _ (machine : Machine) (c : Savefile) (v : View) (h : Holds machine c v) where
+module _ (machine : Machine) (c : Savefile) (v : View) (h : HasLoaded machine c v) where
   shows-stop : (stop : Stop) → IsWithin machine.list c.records stop → CanShow v stop
   unfolding CanShow
   shows-stop stop within = rw (h.program, h.capture) within

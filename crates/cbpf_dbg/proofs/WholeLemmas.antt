@@ -28,12 +28,12 @@ use Rattle.std.proofs.Common.{append_assoc, append-nil}
 use Rattle.cbpf_dbg.specs.Breakpoints.{Breakpoints}
 
 -- what is known of a session with a program and a capture
-pub record Holds (machine : Machine) (c : Savefile) (v : View) : Type 0 where
+pub record HasLoaded (machine : Machine) (c : Savefile) (v : View) : Type 0 where
   pub program : v.program ≡ Some machine.list
   pub values : v.values ≡ machine.values
   pub capture : v.capture ≡ Some c
 
-module _ (machine : Machine) (c : Savefile) (v : View) (h : Holds machine c v) where
+module _ (machine : Machine) (c : Savefile) (v : View) (h : HasLoaded machine c v) where
   pub stops-held : stops v ≡ Ok (rest machine c.records v.breakpoints v.place)
   unfolding stops
   stops-held = rw (h.program, h.values, h.capture) refl
@@ -126,8 +126,8 @@ pub record Going (machine : Machine) (c : Savefile) (old new : View) (old_found 
     (before after : ℕ) : Type 0 where
   pub sound : IsSound machine.list
   pub few : length c.records < 2 ^ 60
-  pub old_holds : Holds machine c old
-  pub new_holds : Holds machine c new
+  pub old_holds : HasLoaded machine c old
+  pub new_holds : HasLoaded machine c new
   pub passed : List Stop
   pub place : new ≡ record old { place = last_place old.place passed }
   pub found : new_found ≡ old_found ++ passed
@@ -166,7 +166,7 @@ module _ (machine : Machine) (c : Savefile) (old v : View) (f g : List Stop) (m 
       let first = first-hit machine c v h.new_holds new stop ahead_is in
       let there : new ≡ record v { place = stop.place } =
       after ∙ ap (view_after v) (run-first machine c v h.new_holds stop first.0 first.1) in
-      let holds : Holds machine c new = rw there
+      let holds : HasLoaded machine c new = rw there
       (record { program = h.new_holds.program; values = h.new_holds.values; capture = h.new_holds.capture }) in
       let left : rest machine c.records new.breakpoints new.place ≡ first.0 =
       (let s = stops-held machine c new holds in let t = first.2 in cc) in

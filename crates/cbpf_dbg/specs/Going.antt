@@ -16,11 +16,11 @@ use Rattle.cbpf_dbg.specs.Session.{hits, Keeps}
 use Rattle.cbpf_dbg.specs.Cursor.{Stands, IsEnd, AreLeft, Passes, before, owed}
 
 -- a task's entries, and how its packet ends
-abbrev pub entries_of : {A : Type 0} → Task A → List Registers
-entries_of t = trace (machine_of t.program.now t.values.now) t.packet.bytes.now t.packet.wire
+abbrev pub entries_in : {A : Type 0} → Task A → List Registers
+entries_in t = trace (machine_of t.program.now t.values.now) t.packet.bytes.now t.packet.wire
 
-abbrev pub outcome_of : {A : Type 0} → Task A → Outcome
-outcome_of t = outcome (machine_of t.program.now t.values.now) t.packet.bytes.now t.packet.wire
+abbrev pub outcome_in : {A : Type 0} → Task A → Outcome
+outcome_in t = outcome (machine_of t.program.now t.values.now) t.packet.bytes.now t.packet.wire
 
 -- a trail stands for the entries of a place's packet up to its step
 abbrev pub KeepsIn : {A : Type 0} → (List Registers → Type 0) → Loaded A → Place → Type 0

@@ -221,11 +221,6 @@ impl<T: Trail, A: Allocator> Session<T, A> {
     /// A program and a capture are loaded, the stop's packet is one of the capture's, and its pc is
     /// less than the program's length. So it is with each stop that this session gave since they were
     /// loaded.
-    ///
-    /// # Errors
-    ///
-    /// The writer fails, or takes nothing of a text that isn't empty; the bytes that it took are a
-    /// beginning of the dump.
     #[tactic(auto, unfolding(crate::specs::Shown::CanShow, crate::specs::Shown::stop_text))]
     pub fn write_stop<W: Write>(&self, w: &mut W, stop: &Stop) -> Result<(), WriteFault>
         requires { shown.CanShow self.now stop.now }

@@ -65,7 +65,7 @@ impl Cursor {
         self.place.step += 1;
     }
 
-    /// Goes before the next packet, as this one, which it is before, ended with the outcome.
+    /// Counts the outcome of the packet that it stands before, and goes before the next.
     pub(crate) fn finish_whole_packet(&mut self, outcome: Outcome)
         requires before { self.old.place.step ≡ 0 }
         requires counts { Countable self.old.place.packet self.old.counts }
@@ -88,7 +88,7 @@ impl Cursor {
         self.finish_whole_packet(outcome);
     }
 
-    /// Moves to where following the packet led, which left the state here: to an entry, or before the next packet.
+    /// Moves to where following the packet led: to an entry, whose state is there already, or before the next packet.
     pub(crate) fn apply(&mut self, followed: Followed) -> Moved
         requires counts { Countable self.old.place.packet self.old.counts }
         requires steps { (n : ℕ) → followed ≡ ways.Watched n → self.old.place.step + n < 2 ^ 32 }

@@ -11,7 +11,7 @@ ghost use Rattle.cbpf_dbg.specs.Joined.{rest};
 ghost use Rattle.cbpf_dbg.specs.Loaded.{machine_in, records_in, breakpoints_in};
 ghost use Rattle.cbpf_dbg.specs.Session.{IsInside};
 ghost use Rattle.cbpf_dbg.specs.Cursor.{Stands, Passes, Gives, run_from, turns_of, ComesTo};
-ghost use Rattle.cbpf_dbg.specs.Going.{CanGoOn, GoesOn, KeepsIn, entries_of, outcome_of};
+ghost use Rattle.cbpf_dbg.specs.Going.{CanGoOn, GoesOn, KeepsIn, entries_in, outcome_in};
 
 use crate::cursor::{Cursor, Moved, Walk, stop_at};
 use crate::loaded::Loaded;
@@ -44,11 +44,11 @@ pub(crate) trait Keeper<P: Pause, A: Allocator> {
         state: &mut State,
     ) -> Followed
         requires { meter.old + 2 * MAX_INSTRUCTIONS ≤ 2 ^ 128 }
-        ensures follows { Follows (λ s. P.pauses pause.now s) (entries_of task.now) (outcome_of task.now) 0
+        ensures follows { Follows (λ s. P.pauses pause.now s) (entries_in task.now) (outcome_in task.now) 0
             state.old state.new result }
-        ensures turns { meter.new + 1 ≡ meter.old + turns_to (entries_of task.now) 0 result }
+        ensures turns { meter.new + 1 ≡ meter.old + turns_to (entries_in task.now) 0 result }
         ensures stands { (n : ℕ) → result ≡ followed.Watched n
-            → stands_for self.new (take n (entries_of task.now)) };
+            → stands_for self.new (take n (entries_in task.now)) };
 }
 
 /// No trail.
@@ -92,7 +92,7 @@ impl<T: Trail, A: Allocator> Keeper<Watched<A>, A> for T {
 }
 
 /// Goes on over whole packets to the next entry where it pauses, or to the end: whether it pauses.
-// It isn't inlined, so that the processor's registers are for its loop alone.
+// Kept out of line: the hot loop over packets stands alone.
 #[inline(never)]
 pub(crate) fn run_records<P: Pause, A: Allocator, K: Keeper<P, A>>(
     meter: &mut Meter,
@@ -107,7 +107,7 @@ pub(crate) fn run_records<P: Pause, A: Allocator, K: Keeper<P, A>>(
     ensures none { result ≡ false → walk.new.cursor.place.packet ≡ walk.new.end }
     ensures keeps { result ≡ true → KeepsIn (λ xs. K.stands_for keeper.new xs) loaded.now walk.new.cursor.place }
 {
-    // Bound here, as the compiler would load them again after each packet.
+    // Read once, not once a packet.
     let program = loaded.program;
     let values = loaded.values;
     let end = walk.end;

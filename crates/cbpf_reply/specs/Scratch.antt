@@ -21,9 +21,9 @@ abbrev pub begins_run : List ℕ → ℕ → Bool
 begins_run slots i = i == 0 || not (slice_index slots i == slice_index slots (i - 1))
 
 -- the line of the run that begins at a slot, and goes on while the slots after it have its value
-abbrev pub run_line : List ℕ → ℕ → List ℕ
-run_line slots i = let value = slice_index slots i in
+abbrev pub slots_line : List ℕ → ℕ → List ℕ
+slots_line slots i = let value = slice_index slots i in
     if begins_run slots i then scratch_line i (i + prefix_len (λ v. v == value) (drop (i + 1) slots)) value else []
 
 abbrev pub scratch_lines : List ℕ → List ℕ
-scratch_lines slots = texts_from (run_line slots) 0 (length slots)
+scratch_lines slots = texts_from (slots_line slots) 0 (length slots)

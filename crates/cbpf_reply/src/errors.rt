@@ -97,7 +97,7 @@ fn write_error_line<W: Write>(w: &mut W, line: ErrorLine) -> Result<(), WriteFau
 }
 
 #[tactic(auto, unfolding(crate::specs::Errors::word_fault_text))]
-fn word_line(fault: WordFault) -> ErrorLine
+fn word_fault_line(fault: WordFault) -> ErrorLine
     ensures { spec.error_line_text result ≡ spec.word_fault_text fault }
 {
     match fault {
@@ -128,7 +128,7 @@ fn word_line(fault: WordFault) -> ErrorLine
 pub fn write_word_fault<W: Write>(w: &mut W, fault: WordFault) -> Result<(), WriteFault>
     ensures { Wrote (W.contents w.old) (W.contents w.new) result (spec.word_fault_text fault) }
 {
-    write_error_line(w, word_line(fault))
+    write_error_line(w, word_fault_line(fault))
 }
 
 #[tactic(auto, unfolding(crate::specs::Errors::check_fault_text))]

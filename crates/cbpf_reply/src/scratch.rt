@@ -41,7 +41,7 @@ fn write_scratch_line<W: Write>(
 #[tactic(auto, using(crate::proofs::RowLemmas::runs))]
 pub(crate) fn write_run_at<W: Write>(w: &mut W, slots: &[u32], i: usize) -> Result<(), WriteFault>
     requires { i < length slots.now }
-    ensures { Wrote (W.contents w.old) (W.contents w.new) result (spec.run_line slots.now i) }
+    ensures { Wrote (W.contents w.old) (W.contents w.new) result (spec.slots_line slots.now i) }
 {
     let value = slots[i];
     if i > 0 && slots[i - 1] == value {

@@ -112,7 +112,7 @@ fn read_more<'a, A: Allocator>(
     ensures still { OnErr result (lexer.new.at ≡ lexer.old.at) }
     ensures kept { take (length ahead.old.items) ahead.new.items ≡ ahead.old.items }
 {
-    // A lexer of its own can stay in registers.
+    // A copy, written back where it stops.
     let mut here = lexer.copied();
     for i in 0..CHUNK {
         match here.next_token()? {

@@ -180,7 +180,7 @@ fn fault_here<A: Allocator>(text: &[u8], reader: &mut Reader<'_, A>, n: usize) -
 }
 
 /// Reads the items of a text to its end, and puts what is kept of them into an empty draft.
-// Reader and draft are lent, so that none of its exits has to drop them: that makes its proof short.
+// It takes references, so that no exit drops anything: that keeps its proof short.
 fn read_items<'a, A: Allocator + Copy>(
     text: &'a [u8],
     reader: &mut Reader<'a, A>,

@@ -26,7 +26,7 @@ pub record Loads {V : Type 0} (items : V → List ℕ) (old new : Source) (name 
   pub same_files : new.files ≡ old.files
   pub same_known : new.is_known ≡ old.is_known
   pub rises : old.failures ≤ new.failures
-  pub stops : old.failures ≡ 2 ^ 64 - 1 → new.failures ≡ 2 ^ 64 - 1
+  pub stays : old.failures ≡ 2 ^ 64 - 1 → new.failures ≡ 2 ^ 64 - 1
   pub counts : new.failures ≡ counted r old.failures
   pub gives :
       MatchResult r (λ v. IsTrue old.is_known → map.get old.files name ≡ Some (items v)) (λ e. Faults old new name e)

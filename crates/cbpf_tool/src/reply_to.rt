@@ -25,7 +25,7 @@ use std::alloc::Allocator;
 use std::io::Write;
 
 /// Does a command of the session, and writes its reply.
-// As a call it makes 31 more machine instructions for each command, of the 537 of `mark`.
+// Inlined: a call costs `mark` 6 % more.
 #[inline(always)]
 pub(crate) fn reply_to<A: Allocator + Copy, W: Write>(
     w: &mut W,
@@ -303,7 +303,10 @@ fn write_breakpoints<W: Write, A: Allocator>(
 }
 
 /// Writes a line for each stop, and returns how many there were.
-fn write_lines<W: Write, A: Allocator>(w: &mut W, stops: Stops<'_, A>) -> Result<u128, WriteFault>
+fn write_stop_lines<W: Write, A: Allocator>(
+    w: &mut W,
+    stops: Stops<'_, A>,
+) -> Result<u128, WriteFault>
     requires { length stops < 2 ^ 128 }
     ensures lines { Wrote (W.contents w.old) (W.contents w.new) result (flat_map stop_line stops.entry) }
     ensures count { IfOk result (λ n. n ≡ length stops.entry) }
@@ -322,6 +325,6 @@ fn write_stops<W: Write, A: Allocator>(w: &mut W, stops: Stops<'_, A>) -> Result
     requires { length stops < 2 ^ 128 }
     ensures { Wrote (W.contents w.old) (W.contents w.new) result (stops_text stops.entry) }
 {
-    let count = write_lines(w, stops)?;
+    let count = write_stop_lines(w, stops)?;
     write_total(w, count)
 }

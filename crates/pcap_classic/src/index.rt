@@ -169,7 +169,7 @@ fn start_after(
             return *start;
         }
     }
-    place_of(order, file, from.count, from.place, count)
+    start_from(order, file, from.count, from.place, count)
 }
 
 /// The places of the records 1, 65, 129 and so on of a file that has so many records.
@@ -244,7 +244,7 @@ pub(crate) fn index_of<A: Allocator>(
 }
 
 /// The place of record `to`, counted from 0, by that of record `from`.
-pub(crate) fn place_of(order: Endianness, file: &[u8], from: u64, start: usize, to: u64) -> usize
+pub(crate) fn start_from(order: Endianness, file: &[u8], from: u64, start: usize, to: u64) -> usize
     requires start { IsRecordStart order file.now from start }
     requires ahead { from ≤ to }
     requires within { to ≤ length (spec.contents order file.now).records }
@@ -267,5 +267,5 @@ pub(crate) fn start_of(order: Endianness, file: &[u8], starts: &[usize], number:
 {
     let kept = (number - 1) / STRIDE;
     let start = starts[kept as usize];
-    place_of(order, file, kept * STRIDE, start, number - 1)
+    start_from(order, file, kept * STRIDE, start, number - 1)
 }

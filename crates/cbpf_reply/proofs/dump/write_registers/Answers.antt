@@ -1,7 +1,7 @@
 use Rattle.std.proofs.Common.{◌≡◌, ◌-◌, length, arith}
 use Rattle.cbpf_code.proofs.WrittenLemmas.{first-failed}
 use Rattle.cbpf_reply.specs.Dump.{register_lines}
-use Rattle.cbpf_reply.specs.Scratch.{run_line}
+use Rattle.cbpf_reply.specs.Scratch.{slots_line}
 use Rattle.cbpf_reply.proofs.LeftLemmas.{left-first, left-next, left-stop}
 use Rattle.cbpf_reply.proofs.RowLemmas.{texts-next}
 use Rattle.cbpf_reply.proofs.dump.write_registers.Goals as goal
@@ -18,9 +18,9 @@ loop-i-init g c = let text : c.put-5.new.self ≡ register_lines c.args.a c.args
     rw all (left-first _ _ _ _ (rw text at c.in_ok-write.ensures))
 
 pub loop-i-preserved : goal.loop-i-preserved
-loop-i-preserved g c = left-next _ _ _ _ _ _ _ (texts-next (run_line c.args.slots.now) c.loop-i.i _ (omega arith))
+loop-i-preserved g c = left-next _ _ _ _ _ _ _ (texts-next (slots_line c.args.slots.now) c.loop-i.i _ (omega arith))
     c.loop-i.invariant c.in_ok-write_run_at.ensures
 
 pub returns-in_err-write_run_at : goal.returns-in_err-write_run_at
 returns-in_err-write_run_at g c = left-stop _ _ _ _ _ _ _ _ c.from_residual-in_err-write_run_at.ensures.0
-    (texts-next (run_line c.args.slots.now) c.loop-i.i _ (omega arith)) c.loop-i.invariant c.in_err-write_run_at.ensures
+    (texts-next (slots_line c.args.slots.now) c.loop-i.i _ (omega arith)) c.loop-i.invariant c.in_err-write_run_at.ensures

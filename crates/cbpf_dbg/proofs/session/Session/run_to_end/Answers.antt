@@ -1,14 +1,14 @@
 use Rattle.cbpf_machine.specs.Machine.{machine_of}
 use Rattle.std.proofs.Common.{◌≡◌, [], ◌∷◌, ◌++◌, arith, sym, append-nil, refl, ap, ◌∙◌, inl}
 use Rattle.cbpf_dbg.proofs.CarryLemmas.{known-sound}
-use Rattle.cbpf_dbg.proofs.WholeLemmas.{Holds, stops-held, from_start, going-spare, going-found, going-stop}
+use Rattle.cbpf_dbg.proofs.WholeLemmas.{HasLoaded, stops-held, from_start, going-spare, going-found, going-stop}
 use Rattle.cbpf_dbg.proofs.WholeLemmas.{going-end, fewer, going-turns, end-turns}
 use Rattle.cbpf_dbg.proofs.session.Session.run_to_end.Goals as goal
 
 pub runs-init : goal.runs-init
 runs-init g c =
     let holds :
-    Holds (machine_of c.in-Some._program c.args.self.now.values) c.in-Some-capture.capture c.args.self.now = record {
+    HasLoaded (machine_of c.in-Some._program c.args.self.now.values) c.in-Some-capture.capture c.args.self.now = record {
       program = rw (← c.self.view_is) c.in-Some.is;
       values = refl;
       capture = rw (← c.self.view_is) c.in-Some-capture.is;

@@ -1,6 +1,6 @@
 use Rattle.cbpf_dbg.specs.Commands.{stops}
 use Rattle.cbpf_machine.specs.Machine.{machine_of}
-use Rattle.cbpf_dbg.proofs.WholeLemmas.{Holds}
+use Rattle.cbpf_dbg.proofs.WholeLemmas.{HasLoaded}
 use Rattle.std.proofs.Common.{arith, refl, rules, Some}
 use Rattle.cbpf_dbg.specs.Session.{Fits, IsKnown}
 use Rattle.cbpf_dbg.proofs.LeftLemmas.{all_left, is_end_of_all}
@@ -11,7 +11,7 @@ use Rattle.cbpf_dbg.proofs.session.Session.stops.Goals as goal
 
 pub returns-clause-shown : goal.returns-clause-shown
 returns-clause-shown g c =
-    let holds : Holds (machine_of c.in-Some.program c.self.inside.values) c.in-Some-capture.capture c.args.self.now =
+    let holds : HasLoaded (machine_of c.in-Some.program c.self.inside.values) c.in-Some-capture.capture c.args.self.now =
     record {
       program = rw (← c.self.view_is) c.in-Some.is;
       values = rw (← c.self.view_is) refl;

@@ -2,7 +2,7 @@ use Rattle.std.proofs.Common.{◌≡◌, ◌++◌, length}
 use Rattle.std.specs.List.{flat_map}
 use Rattle.cbpf_code.specs.Writing.{Appended}
 use Rattle.cbpf_reply.specs.Stops as spec
-use Rattle.cbpf_tool.proofs.reply_to.write_lines.Given as goal
+use Rattle.cbpf_tool.proofs.reply_to.write_stop_lines.Given as goal
 
 abbrev pub invariant-loop-stop : goal.invariant-loop-stop
 invariant-loop-stop g l =

@@ -2,7 +2,7 @@ use Rattle.std.proofs.Common.{◌≡◌, ◌∙◌, sym, ap, refl, ◌+◌, leng
 use Rattle.cbpf_code.proofs.WrittenLemmas.{appended-nil, err-exit}
 use Rattle.cbpf_reply.specs.Stops as spec
 use Rattle.cbpf_tool.proofs.EachText.{each-next, each-failed, one-left, one-counted, none-left, some-left}
-use Rattle.cbpf_tool.proofs.reply_to.write_lines.Goals as goal
+use Rattle.cbpf_tool.proofs.reply_to.write_stop_lines.Goals as goal
 
 pub loop-stop-init : goal.loop-stop-init
 loop-stop-init g c = (appended-nil _, refl, c.into_iter-stop-iterator.ensures.into_iter_gives)

@@ -1,7 +1,7 @@
 use Rattle.std.proofs.Common.{arith}
 use Rattle.std.proofs.lemmas.List.{take_rest}
 use Rattle.pcap_classic.proofs.ReachLemmas.{onward_more}
-use Rattle.pcap_classic.proofs.index.place_of.Goals as goal
+use Rattle.pcap_classic.proofs.index.start_from.Goals as goal
 
 pub record_length-place-requires : goal.record_length-place-requires
 record_length-place-requires c =
