@@ -150,15 +150,20 @@ end_of_packets p left longest {sum} {past} {end} pos more before few is_sum is_e
       omega (arith, most, div-mul-le_self (left - 1) longest, more),
     )
 
--- a run without a pause goes to the end of such packets
+-- a run without a pause goes to the end of so many packets as have fewer entries than are left
+pub record GoesPast {A : Type 0} (l : Loaded A) (old new : Walk) (left before after : ℕ) : Type 0 where
+  pub early : old.cursor.place.packet < old.end
+  pub to : new.cursor.place ≡ place_at old.end 0
+  pub rises : before ≤ after
+  pub fewer : after - before < left
+  pub nears : Nears (machine_in l) (records_in l) old.cursor new.cursor left (left - (after - before)) before after
+
 pub goes_past : {A : Type 0} (l : Loaded A) (old new : Walk) (left before after : ℕ) (paused : Bool)
     {past sum : ℕ} → Stands (machine_in l) (records_in l) old.cursor → old.cursor.place.step ≡ 0
     → length l.program.now < left → old.cursor.place.packet < past → past ≡ length (records_in l) + 1
     → sum ≡ min (old.cursor.place.packet + (left - 1) / length l.program.now) (2 ^ 64 - 1) → old.end ≡ min sum past
     → GoesOn l (λ s. false) old new before after paused → (paused ≡ false → new.cursor.place.packet ≡ new.end)
-    → (old.cursor.place.packet < old.end) × (new.cursor.place ≡ place_at old.end 0) × (before ≤ after)
-    × (after - before < left)
-    × Nears (machine_in l) (records_in l) old.cursor new.cursor left (left - (after - before)) before after
+    → GoesPast l old new left before after
 goes_past l old new left before after true stands step more early is_past is_sum is_end h none =
     let never = (h.entry refl).1 in absurd cc
 goes_past l old new left before after false stands step more early is_past is_sum is_end h none =
@@ -171,4 +176,4 @@ goes_past l old new left before after false stands step more early is_past is_su
     let e : old.end ≡ old.end - p + p = omega (arith, ends.0) in
     let past = nears_past _ _ old.cursor new.cursor left (old.end - p) before after h.passes step
     (to ∙ ap (λ q. place_at q 0) e) ends.1 one in
-    (ends.0, to, past.0, past.1, past.2)
+    record { early = ends.0; to = to; rises = past.0; fewer = past.1; nears = past.2 }

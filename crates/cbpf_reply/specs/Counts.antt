@@ -10,11 +10,11 @@ use Rattle.cbpf_reply.specs.declared.reply.Place.{Place}
 abbrev pub place_after : List ℕ → Place → List ℕ
 place_after before p = with_numbers before p.packet (codes " ") p.step (codes "\n")
 
-abbrev pub place_text : Place → List ℕ
+unfoldable pub place_text : Place → List ℕ
 place_text p = place_after [] p
 
 -- the place that a command went to
-abbrev pub at_text : Place → List ℕ
+unfoldable pub at_text : Place → List ℕ
 at_text p = place_after (codes "at ") p
 
 -- how many packets asked for an extension without a value, where one did

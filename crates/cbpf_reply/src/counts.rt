@@ -25,6 +25,7 @@ fn write_place_after<W: Write>(w: &mut W, before: &[u8], place: Place) -> Result
 }
 
 /// Writes a place.
+#[tactic(auto, unfolding(crate::specs::Counts::place_text))]
 pub fn write_place<W: Write>(w: &mut W, place: Place) -> Result<(), WriteFault>
     ensures { Wrote (W.contents w.old) (W.contents w.new) result (spec.place_text place) }
 {
@@ -32,6 +33,7 @@ pub fn write_place<W: Write>(w: &mut W, place: Place) -> Result<(), WriteFault>
 }
 
 /// Writes the place that a command went to.
+#[tactic(auto, unfolding(crate::specs::Counts::at_text))]
 pub fn write_went_to<W: Write>(w: &mut W, place: Place) -> Result<(), WriteFault>
     ensures { Wrote (W.contents w.old) (W.contents w.new) result (spec.at_text place) }
 {

@@ -1,58 +1,48 @@
 use Rattle.std.proofs.Common.{◌+◌, ◌∙◌, arith, ap}
 use Rattle.cbpf_machine.proofs.SoundLemmas.{sound_some}
 use Rattle.cbpf_reply.specs.declared.reply.Place.{Place}
-use Rattle.cbpf_dbg.proofs.StepLemmas.{goes_past, nears_more}
+use Rattle.cbpf_dbg.proofs.StepLemmas.{GoesPast, goes_past, nears_more}
+use Rattle.cbpf_dbg.proofs.step.skip_packets.Given.{Over}
+use Rattle.cbpf_dbg.proofs.step.skip_packets.Goals.{After-run_records-paused}
 use Rattle.cbpf_dbg.proofs.step.skip_packets.Goals as goal
 
 pub nonzero_div-packets : goal.nonzero_div-packets
 nonzero_div-packets g c =
     omega (arith, sound_some _ c.args.loaded.now.sound, c.len.ensures.value, c.from-longest.ensures)
 
-pub overflow_sub-left : goal.overflow_sub-left
-overflow_sub-left g c =
+past : (g : Over) (c : After-run_records-paused g)
+    → GoesPast c.args.loaded.now (record c.skip.walk { end = c.min.result }) c.run_records-paused.new.walk c.skip.left
+    c.skip.meter c.run_records-paused.new.meter
+past g c =
     let so = c.skip.invariant in
     let longest = c.from-longest.ensures ∙ c.len.ensures.value in
-    let past = goes_past c.args.loaded.now _ _ c.skip.left _ _ _ so.nears.passes.stands so.before
-    (rw longest at c.skip-test.true) c.if-walk-past.true (ap (λ n. n + 1) c.count-past.ensures.value) (rw longest at c.saturating_add.ensures) c.min.ensures
-    c.run_records-paused.ensures.goes c.run_records-paused.ensures.none in
-    omega (arith, c.spent-before.ensures, c.spent.ensures, past.2)
+    goes_past c.args.loaded.now _ _ c.skip.left _ _ _ so.nears.passes.stands so.before
+    (rw longest at c.skip-test.true) c.if-walk-past.true (ap (λ n. n + 1) c.count-past.ensures.value)
+    (rw longest at c.saturating_add.ensures) c.min.ensures
+    c.run_records-paused.ensures.goes c.run_records-paused.ensures.none
+
+pub overflow_sub-left : goal.overflow_sub-left
+overflow_sub-left g c = let went = past g (goal.at.overflow_sub-left g c).After-run_records-paused in
+    omega (arith, c.spent-before.ensures, c.spent.ensures, went.rises)
 
 pub overflow_cast-left : goal.overflow_cast-left
-overflow_cast-left g c =
-    let so = c.skip.invariant in
-    let longest = c.from-longest.ensures ∙ c.len.ensures.value in
-    let past = goes_past c.args.loaded.now _ _ c.skip.left _ _ _ so.nears.passes.stands so.before
-    (rw longest at c.skip-test.true) c.if-walk-past.true (ap (λ n. n + 1) c.count-past.ensures.value) (rw longest at c.saturating_add.ensures) c.min.ensures
-    c.run_records-paused.ensures.goes c.run_records-paused.ensures.none in
-    omega (arith, c.spent-before.ensures, c.spent.ensures, past.3)
+overflow_cast-left g c = let went = past g (goal.at.overflow_cast-left g c).After-run_records-paused in
+    omega (arith, c.spent-before.ensures, c.spent.ensures, went.fewer)
 
 pub overflow_sub-left-in-skip : goal.overflow_sub-left-in-skip
-overflow_sub-left-in-skip g c =
-    let so = c.skip.invariant in
-    let longest = c.from-longest.ensures ∙ c.len.ensures.value in
-    let past = goes_past c.args.loaded.now _ _ c.skip.left _ _ _ so.nears.passes.stands so.before
-    (rw longest at c.skip-test.true) c.if-walk-past.true (ap (λ n. n + 1) c.count-past.ensures.value) (rw longest at c.saturating_add.ensures) c.min.ensures
-    c.run_records-paused.ensures.goes c.run_records-paused.ensures.none in
-    omega (arith, c.spent-before.ensures, c.spent.ensures, past.3)
+overflow_sub-left-in-skip g c = let went = past g (goal.at.overflow_sub-left-in-skip g c).After-run_records-paused in
+    omega (arith, c.spent-before.ensures, c.spent.ensures, went.fewer)
 
 pub skip-smaller : goal.skip-smaller
-skip-smaller g c =
-    let so = c.skip.invariant in
-    let longest = c.from-longest.ensures ∙ c.len.ensures.value in
-    let past = goes_past c.args.loaded.now _ _ c.skip.left _ _ _ so.nears.passes.stands so.before
-    (rw longest at c.skip-test.true) c.if-walk-past.true (ap (λ n. n + 1) c.count-past.ensures.value) (rw longest at c.saturating_add.ensures) c.min.ensures
-    c.run_records-paused.ensures.goes c.run_records-paused.ensures.none in
-    omega (arith, past.0, ap (λ (q : Place). q.packet) past.1)
+skip-smaller g c = let went = past g (goal.at.skip-smaller g c).After-run_records-paused in
+    omega (arith, went.early, ap (λ (q : Place). q.packet) went.to)
 
 pub skip-preserved : goal.skip-preserved
 skip-preserved g c =
-    let so = c.skip.invariant in
-    let longest = c.from-longest.ensures ∙ c.len.ensures.value in
-    let past = goes_past c.args.loaded.now _ _ c.skip.left _ _ _ so.nears.passes.stands so.before
-    (rw longest at c.skip-test.true) c.if-walk-past.true (ap (λ n. n + 1) c.count-past.ensures.value) (rw longest at c.saturating_add.ensures) c.min.ensures
-    c.run_records-paused.ensures.goes c.run_records-paused.ensures.none in
+    let went = past g (goal.at.skip-preserved g c).After-run_records-paused in
     record {
-      nears = nears_more _ _ _ _ _ _ _ _ _ _ _ so.nears (rw (c.spent-before.ensures, c.spent.ensures) past.4);
+      nears = nears_more _ _ _ _ _ _ _ _ _ _ _ c.skip.invariant.nears
+      (rw (c.spent-before.ensures, c.spent.ensures) went.nears);
       left = c.run_records-paused.ensures.goes.left;
-      before = ap (λ (q : Place). q.step) past.1;
+      before = ap (λ (q : Place). q.step) went.to;
     }
