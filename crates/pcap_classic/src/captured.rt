@@ -1,6 +1,6 @@
 //! A record, borrowed from a capture.
 
-ghost use Rattle.std.specs.Prelude.{◌≡◌, ◌≤◌, ◌+◌, ◌-◌, length, slice_get, Some};
+ghost use Rattle.std.specs.Prelude.{◌≡◌, ◌≤◌, ◌+◌, ◌-◌, length, take, drop, slice_get, Some};
 ghost use Rattle.pcap_classic.specs.Index.{IsRecordStart};
 ghost use Rattle.pcap_classic.specs.Lent.{record_of};
 ghost use Rattle.pcap_classic.specs.Numbers.{number_at};
@@ -33,15 +33,25 @@ fn front_record(order: Endianness, number: u64, start: usize, bytes: &[u8]) -> C
     requires whole { records.record_length order bytes.now ≤ length bytes.now }
     ensures { record_of result ≡ records.record_at order number start bytes.entry.now }
 {
-    let length = record_length(order, bytes);
     Captured {
         number,
         start,
         seconds: order.read_u32(bytes, 0),
         fraction: order.read_u32(bytes, 4),
         wire: order.read_u32(bytes, 12),
-        bytes: &bytes[RECORD_HEADER..length],
+        bytes: captured_bytes(order, bytes),
     }
+}
+
+/// The bytes that were captured, of the record that the bytes begin with.
+#[inline(always)]
+fn captured_bytes(order: Endianness, bytes: &[u8]) -> &[u8]
+    requires header { 16 ≤ length bytes.now }
+    requires whole { records.record_length order bytes.now ≤ length bytes.now }
+    ensures { result.now ≡ take (number_at order 8 4 bytes.entry.now) (drop 16 bytes.entry.now) }
+{
+    let length = record_length(order, bytes);
+    &bytes[RECORD_HEADER..length]
 }
 
 /// Record `number` of a file, counted from 1, whose header stands at `start`.
