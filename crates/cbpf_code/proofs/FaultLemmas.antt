@@ -110,6 +110,3 @@ sound_of list formed none = record { none = by }
     by : (f : CheckFault) → HasFault list f → ⊥
     by (UnwrittenSlot i) has = none i has
     by f has = formed.none f (omega arith) has
-
-pub ruleset passes =
-    (passes_before-start, passes_before-next, well_formed-at_end, first_fault-insn, first_fault-at_end, sound_of)

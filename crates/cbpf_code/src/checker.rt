@@ -69,7 +69,6 @@ pub fn check<A: Allocator>(list: Vec<Insn, A>) -> Result<Program<A>, (CheckFault
     }
 }
 
-#[tactic(auto, using(crate::proofs::FaultLemmas::passes))]
 fn first_fault(list: &[Insn]) -> Option<CheckFault>
     ensures fault { MatchOption result (IsSound list.now) (λ e. FirstFault list.now e) }
     ensures ranges { IfNone result (All InRange list.now) }

@@ -41,6 +41,7 @@ agree f g b h lt =
     same_lead (f b) (g b) (agree_below_at (λ k. number_of (f k) == number_of (g k)) (λ k. true) 256 b h lt)
 
 pub letter_lead : (fresh : Bool) (b : ℕ) → b < 256 → by_letter fresh (get_or LEADS b 0) ≡ lead_of fresh b
+unfolding lead_of
 letter_lead true b lt = agree (λ k. by_letter true (get_or LEADS k 0)) (lead_of true) b refl lt
 letter_lead false b lt = agree (λ k. by_letter false (get_or LEADS k 0)) (lead_of false) b refl lt
 
@@ -50,4 +51,5 @@ pub other_letter : (fresh : Bool) (g : ℕ) → g ≢ 76 → g ≢ 68 → g ≢ 
 other_letter fresh g h1 h2 h3 h4 h5 h6 h7 = search (rules, ne_eqb)
 
 pub blank_lead : (fresh : Bool) (b : ℕ) → is_blank b ≡ true → lead_of fresh b ≡ Blank
+unfolding lead_of
 blank_lead fresh b e = rw e refl

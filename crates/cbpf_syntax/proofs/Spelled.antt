@@ -105,6 +105,7 @@ lead_any false p lead b e f l h = lead_by false p lead b f l h
 
 lead_mark : (fresh : Bool) (b : ℕ) → b < 256 → is_mark b ≡ true → (fresh && b == 35) ≡ false
     → lead_of fresh b ≡ Single
+unfolding lead_of
 lead_mark true b l h f = lead_by true (λ c. is_mark c && not (c == 35)) Single b refl l
     (and_from (is_mark b) (not (b == 35)) h (not_from_false (b == 35) f))
 lead_mark false b l h f = lead_by false is_mark Single b refl l h
@@ -130,6 +131,7 @@ blank_ends ss h1 h2 = search (rules, not_both)
 
 segment_next : (fresh : Bool) (s : Segment) (ss : List Segment) → IsSegment s → AreSegments ss
     → stay_apart fresh (s ∷ ss) ≡ true → IsNext fresh (bytes_of s ++ text_of ss) (piece_of s)
+unfolding lead_of
 segment_next fresh (blank b) ss a ok k =
     let e : prefix_len is_blank (text_of ss) ≡ 0 = blank_ends ss ok (and_parts (ends_blank ss) _ k).0 in
     rw e at (led_next fresh b (text_of ss) Blank (blank_lead fresh b a.1))

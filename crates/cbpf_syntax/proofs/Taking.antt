@@ -199,8 +199,6 @@ pub label_word : (ts : List Lexeme) → starts_with_label ts ≡ true → Starts
 label_word [] h = cc
 label_word (t ∷ ts) h = let v = name_of t.symbol (and_parts (fits name t.symbol) _ h).0 in (v.0, ap (λ s. Some s) v.1)
 
-pub ruleset step_words = (stuck_within, stuck_word, label_word)
-
 -- the tokens that stay where some are taken
 pub kept_paste : (xs : List declared_lexeme.Lexeme) (n len : ℕ) → len ≡ length xs → n ≤ len
     → take (len - n) (copy_within xs n len 0) ≡ drop n xs

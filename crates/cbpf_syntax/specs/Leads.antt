@@ -5,7 +5,7 @@ use Rattle.cbpf_syntax.specs.declared.piece.Lead.TheVariants.{Blank, LineComment
 use Rattle.cbpf_syntax.specs.Bytes.{is_blank, is_digit, is_letter, is_mark}
 
 -- `fresh` says that the line before the byte has only blanks
-abbrev pub lead_of : Bool → ℕ → Lead
+unfoldable pub lead_of : Bool → ℕ → Lead
 lead_of fresh b =
     if is_blank b then Blank
     else (if b == 59 || (fresh && b == 35) then LineComment

@@ -58,7 +58,6 @@ fn step_len(step: Option<Step>) -> usize
 }
 
 /// The step at the front, or `None` where there is no token.
-#[tactic(auto, using(crate::proofs::Taking::step_words))]
 fn step_at(tokens: &[Lexeme<'_>]) -> Option<Step>
     ensures step { IsStepOf (map lexeme_of tokens.now) result }
     ensures within { step_len result ≤ length tokens.now }
@@ -270,9 +269,10 @@ impl<'a, A: Allocator> Reader<'a, A> {
         ensures reading { (m : ℕ) → IsReading m self.old → IsReading (m + n) self.new }
         ensures left { left self.new + n ≡ left self.old }
     {
-        let taken = &self.ahead[self.at..self.at + n];
-        self.large = first_large(self.large, taken);
+        let taken = &self.ahead()[..n];
+        let large = first_large(self.large, taken);
         self.last = taken[n - 1].at;
+        self.large = large;
         self.at += n;
     }
 

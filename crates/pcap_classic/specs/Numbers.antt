@@ -5,11 +5,7 @@ use Rattle.byteorder.specs.Endian.{big_number, little_number}
 use Rattle.pcap_classic.specs.declared.captured.Endianness.{Endianness}
 use Rattle.pcap_classic.specs.declared.captured.Endianness.TheVariants.{Big, Little}
 
--- the number in the first n bytes
-abbrev pub number_in_order : Endianness → ℕ → List ℕ → ℕ
-number_in_order Big n bytes = big_number n bytes
-number_in_order Little n bytes = little_number n bytes
-
--- the number in the n bytes from a place on
-abbrev pub number_at : Endianness → ℕ → ℕ → List ℕ → ℕ
-number_at order place n bytes = number_in_order order n (drop place bytes)
+-- the number in the n bytes from a place on; only the two calls that read one look into it
+unfoldable pub number_at : Endianness → ℕ → ℕ → List ℕ → ℕ
+number_at Big place n bytes = big_number n (drop place bytes)
+number_at Little place n bytes = little_number n (drop place bytes)

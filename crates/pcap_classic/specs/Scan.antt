@@ -2,7 +2,6 @@
 -- That it gives what the relations of Records and Savefile say is proved.
 use Rattle.std.specs.Prelude.{ℕ, zero, suc, ◌+◌, ◌==◌, ◌&&◌, nat_lt, if◌then◌else◌, Bool, true, false, List, [], ◌∷◌}
 use Rattle.std.specs.Prelude.{length, drop, Option, Some, None, Result, Ok, Err}
-use Rattle.byteorder.specs.Endian.{big_number, little_number}
 use Rattle.pcap_classic.specs.Numbers.{number_at}
 use Rattle.pcap_classic.specs.Records.{Record, record_length, record_at}
 use Rattle.pcap_classic.specs.Savefile.{Savefile, micros_magic, nanos_magic}
@@ -53,10 +52,10 @@ contents order file = contents_within (length file) order 1 24 (drop 24 file)
 -- the byte order in which the first four bytes are one of the magic numbers, and whether it is that of nanoseconds
 abbrev pub magic_of : List ℕ → Option Magic
 magic_of file =
-    if big_number 4 file == micros_magic then Some (record { order = Big; nanos = false })
-    else if big_number 4 file == nanos_magic then Some (record { order = Big; nanos = true })
-    else if little_number 4 file == micros_magic then Some (record { order = Little; nanos = false })
-    else if little_number 4 file == nanos_magic then Some (record { order = Little; nanos = true })
+    if number_at Big 0 4 file == micros_magic then Some (record { order = Big; nanos = false })
+    else if number_at Big 0 4 file == nanos_magic then Some (record { order = Big; nanos = true })
+    else if number_at Little 0 4 file == micros_magic then Some (record { order = Little; nanos = false })
+    else if number_at Little 0 4 file == nanos_magic then Some (record { order = Little; nanos = true })
     else None
 
 -- whether the two numbers after the magic are those of version 2.4

@@ -1,9 +1,9 @@
 //! A record, borrowed from a capture.
 
-ghost use Rattle.std.specs.Prelude.{◌≡◌, ◌≤◌, ◌-◌, length, slice_get, Some};
+ghost use Rattle.std.specs.Prelude.{◌≡◌, ◌≤◌, ◌+◌, ◌-◌, length, slice_get, Some};
 ghost use Rattle.pcap_classic.specs.Index.{IsRecordStart};
 ghost use Rattle.pcap_classic.specs.Lent.{record_of};
-ghost use Rattle.pcap_classic.specs.Numbers.{number_in_order};
+ghost use Rattle.pcap_classic.specs.Numbers.{number_at};
 ghost use Rattle.pcap_classic.specs.Records as records;
 ghost use Rattle.pcap_classic.specs.Scan as spec;
 
@@ -37,9 +37,9 @@ fn front_record(order: Endianness, number: u64, start: usize, bytes: &[u8]) -> C
     Captured {
         number,
         start,
-        seconds: order.read_u32(bytes),
-        fraction: order.read_u32(&bytes[4..]),
-        wire: order.read_u32(&bytes[12..]),
+        seconds: order.read_u32(bytes, 0),
+        fraction: order.read_u32(bytes, 4),
+        wire: order.read_u32(bytes, 12),
         bytes: &bytes[RECORD_HEADER..length],
     }
 }
@@ -78,7 +78,7 @@ pub(crate) fn record_length(order: Endianness, bytes: &[u8]) -> usize
     requires { 16 ≤ length bytes.now }
     ensures { result ≡ records.record_length order bytes.now }
 {
-    RECORD_HEADER + order.read_u32(&bytes[8..]) as usize
+    RECORD_HEADER + order.read_u32(bytes, 8) as usize
 }
 
 #[inline(always)]
@@ -109,27 +109,29 @@ pub(crate) enum Endianness {
 }
 
 impl Endianness {
-    /// The number in the first two bytes.
+    /// The number in the two bytes from a place on.
+    #[tactic(auto, unfolding(crate::specs::Numbers::number_at))]
     #[inline]
-    pub(crate) fn read_u16(self, bytes: &[u8]) -> u16
-        requires { 2 ≤ length bytes.now }
-        ensures { result ≡ number_in_order self 2 bytes.now }
+    pub(crate) fn read_u16(self, bytes: &[u8], place: usize) -> u16
+        requires { place + 2 ≤ length bytes.now }
+        ensures { result ≡ number_at self place 2 bytes.now }
     {
         match self {
-            Endianness::Big => BigEndian::read_u16(bytes),
-            Endianness::Little => LittleEndian::read_u16(bytes),
+            Endianness::Big => BigEndian::read_u16(&bytes[place..]),
+            Endianness::Little => LittleEndian::read_u16(&bytes[place..]),
         }
     }
 
-    /// The number in the first four bytes.
+    /// The number in the four bytes from a place on.
+    #[tactic(auto, unfolding(crate::specs::Numbers::number_at))]
     #[inline(always)]
-    pub(crate) fn read_u32(self, bytes: &[u8]) -> u32
-        requires { 4 ≤ length bytes.now }
-        ensures { result ≡ number_in_order self 4 bytes.now }
+    pub(crate) fn read_u32(self, bytes: &[u8], place: usize) -> u32
+        requires { place + 4 ≤ length bytes.now }
+        ensures { result ≡ number_at self place 4 bytes.now }
     {
         match self {
-            Endianness::Big => BigEndian::read_u32(bytes),
-            Endianness::Little => LittleEndian::read_u32(bytes),
+            Endianness::Big => BigEndian::read_u32(&bytes[place..]),
+            Endianness::Little => LittleEndian::read_u32(&bytes[place..]),
         }
     }
 }

@@ -4,7 +4,6 @@ ghost use Rattle.std.specs.Prelude.{◌≡◌, ◌≤◌, length};
 ghost use Rattle.pcap_classic.specs.Scan as spec;
 
 use crate::captured::Endianness;
-use byteorder::{BigEndian, ByteOrder, LittleEndian};
 
 /// The length of a file header in bytes.
 pub(crate) const FILE_HEADER: usize = 24;
@@ -44,8 +43,8 @@ fn magic_of(file: &[u8]) -> Option<Magic>
     requires { 4 ≤ length file.now }
     ensures { result ≡ spec.magic_of file.now }
 {
-    let big = BigEndian::read_u32(file);
-    let little = LittleEndian::read_u32(file);
+    let big = Endianness::Big.read_u32(file, 0);
+    let little = Endianness::Little.read_u32(file, 0);
     let (order, nanos) = if big == MICROS {
         (Endianness::Big, false)
     } else if big == NANOS {
@@ -64,7 +63,7 @@ fn is_version_2_4(order: Endianness, file: &[u8]) -> bool
     requires { 8 ≤ length file.now }
     ensures { result ≡ spec.is_version_2_4 order file.now }
 {
-    order.read_u16(&file[4..]) == 2 && order.read_u16(&file[6..]) == 4
+    order.read_u16(file, 4) == 2 && order.read_u16(file, 6) == 4
 }
 
 pub(crate) fn header_of(file: &[u8]) -> Result<FileHeader, CaptureFault>
@@ -79,6 +78,6 @@ pub(crate) fn header_of(file: &[u8]) -> Result<FileHeader, CaptureFault>
     if !is_version_2_4(magic.order, file) {
         return Err(CaptureFault::UnknownVersion);
     }
-    let link = magic.order.read_u32(&file[20..]);
+    let link = magic.order.read_u32(file, 20);
     Ok(FileHeader { magic, link })
 }

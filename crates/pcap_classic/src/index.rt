@@ -173,7 +173,6 @@ fn start_after(
 }
 
 /// The places of the records 1, 65, 129 and so on of a file that has so many records.
-#[tactic(auto, using(crate::proofs::ReachLemmas::reaches_first))]
 fn starts_of<A: Allocator>(
     alloc: A,
     order: Endianness,
@@ -182,7 +181,7 @@ fn starts_of<A: Allocator>(
     starts: &[usize],
     count: u64,
 ) -> Result<Vec<usize, A>, AllocError>
-    requires long { 24 ≤ length file.now }
+    requires first { IsRecordStart order file.now 0 24 }
     requires count { count ≡ length (spec.contents order file.now).records }
     requires few { count < 2 ^ 60 }
     requires kept { AreStarts order file.now starts.now }
@@ -210,7 +209,6 @@ fn starts_of<A: Allocator>(
 // The starts get their room at once, when the number of records is known. So no room is left over, and none is asked
 // for twice. What the pass over the headers keeps meanwhile spares a second pass, but for the records of mixed lengths
 // after the first 512,000.
-#[tactic(auto, using(crate::proofs::ReachLemmas::reaches_first))]
 pub(crate) fn index_of<A: Allocator>(
     alloc: A,
     order: Endianness,

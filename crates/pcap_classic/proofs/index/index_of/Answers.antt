@@ -1,6 +1,12 @@
 use Rattle.std.proofs.Common.{arith, ◌∙◌}
-use Rattle.pcap_classic.proofs.ReachLemmas.{reaches_end}
+use Rattle.pcap_classic.proofs.ReachLemmas.{reaches_end, reaches_first}
 use Rattle.pcap_classic.proofs.index.index_of.Goals as goal
+
+pub pass_repeats-first-requires-clause-here : goal.pass_repeats-first-requires-clause-here
+pass_repeats-first-requires-clause-here g c = reaches_first _ _ c.requires
+
+pub starts_of-requires-clause-first : goal.starts_of-requires-clause-first
+starts_of-requires-clause-first g c = reaches_first _ _ c.requires
 
 pub starts_of-requires-clause-count : goal.starts_of-requires-clause-count
 starts_of-requires-clause-count g c =

@@ -45,3 +45,15 @@ returns-then-self-clause-step g c n ts r t =
           (let l = rw (w.step_len.ensures, w.ahead-else-self.ensures) at w.if-step_len-ahead.true in
           omega (arith, l, length-map c.loop-self.self.tokens lexeme_of))
     ])
+
+pub returns-then-self-clause-within : goal.returns-then-self-clause-within
+returns-then-self-clause-within g c = rw c.ahead.ensures at c.step_at-step.ensures.within
+
+pub returns-then-self-clause-none : goal.returns-then-self-clause-none
+returns-then-self-clause-none g c = rw c.ahead.ensures at c.step_at-step.ensures.none
+
+pub returns-then-self-clause-some : goal.returns-then-self-clause-some
+returns-then-self-clause-some g c = rw c.ahead.ensures at c.step_at-step.ensures.some
+
+pub returns-then-self-clause-word : goal.returns-then-self-clause-word
+returns-then-self-clause-word g c = rw c.ahead.ensures at c.step_at-step.ensures.word

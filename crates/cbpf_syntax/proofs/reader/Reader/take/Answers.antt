@@ -1,4 +1,4 @@
-use Rattle.std.proofs.Common.{◌≡◌, ◌≤◌, ◌+◌, ◌-◌, refl, length, take, drop, arith}
+use Rattle.std.proofs.Common.{◌≡◌, ◌≤◌, length, drop}
 use Rattle.cbpf_syntax.proofs.Taking.{taken_ahead, last_taken, large_taken}
 use Rattle.cbpf_syntax.proofs.reader.Reader.take.Goals as goal
 
@@ -6,18 +6,16 @@ pub returns-clause-reading : goal.returns-clause-reading
 returns-clause-reading g c =
     let s = c.self.inside in
     let n = c.args.n in
-    let e : take (c.self.inside.at + c.args.n - c.self.inside.at) (drop c.self.inside.at c.deref.result.now)
-    ≡ take c.args.n (drop c.self.inside.at c.self.inside.ahead.items) =
-    let k : c.self.inside.at + c.args.n - c.self.inside.at ≡ c.args.n = omega arith in
-    rw (k, c.deref.ensures.value) refl in
+    let window : c.ahead.result.now ≡ drop c.self.inside.at c.self.inside.ahead.items =
+    rw (← c.self.view_is) at c.ahead.ensures in
     let within : c.args.n ≤ length (drop c.self.inside.at c.self.inside.ahead.items) =
     rw (← c.self.view_is) at c.requires.within in
     rw (← c.self.view_is) (λ m r. record {
       read = taken_ahead s.text.now s.lexer.at m n s.at s.ahead.items r.read within;
       end = r.end;
       last = λ ts t l.
-          rw e (last_taken s.text.now s.lexer.at m (drop s.at s.ahead.items) ts r.read t n _ within c.requires.some);
+          rw window (last_taken s.text.now s.lexer.at m (drop s.at s.ahead.items) ts r.read t n _ within c.requires.some);
       large = λ ts t. large_taken s.text.now s.lexer.at m (drop s.at s.ahead.items) ts r.read t n s.large
-          c.first_large-self-inside.result within (λ _. rw (← c.self.view_is) at c.requires.word)
-          (r.large ts t) c.first_large-self-inside.ensures.known (rw e at c.first_large-self-inside.ensures.new);
+          c.first_large-large.result within (λ _. rw (← c.self.view_is) at c.requires.word)
+          (r.large ts t) c.first_large-large.ensures.known (rw window at c.first_large-large.ensures.new);
     })
