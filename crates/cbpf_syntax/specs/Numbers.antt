@@ -5,7 +5,7 @@ use Rattle.std.specs.Prelude.{if◌then◌else◌, Option, Some, None}
 use Rattle.cbpf_syntax.specs.Bytes.{is_digit}
 
 -- the value of a digit of either case, and 16 for any other byte
-abbrev pub digit_value : ℕ → ℕ
+unfoldable pub digit_value : ℕ → ℕ
 digit_value b =
     if is_digit b then b - 48
     else (if nat_le 97 b && nat_le b 102 then b - 87

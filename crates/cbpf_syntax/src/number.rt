@@ -9,6 +9,7 @@ use crate::bytes::is_digit;
 pub const LIMIT: u64 = 1 << 32;
 
 /// The value of a hexadecimal digit, or 16.
+#[tactic(auto, unfolding(crate::specs::Numbers::digit_value))]
 fn digit_value(b: u8) -> u8
     ensures { result ≡ digit_value b }
 {

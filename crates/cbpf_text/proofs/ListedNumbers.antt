@@ -35,6 +35,7 @@ of_digits base p e most b l = implied (nat_lt (chars.digit_value b) base) (p b)
     (lt-ltb (chars.digit_value b) base l)
 
 same_digit : (b : ℕ) → chars.digit_value b < 16 → (digit_value b ≡ chars.digit_value b) × (is_name_byte b ≡ true)
+unfolding digit_value
 same_digit b l =
     let p = and_parts (digit_value b == chars.digit_value b) (is_name_byte b)
     (of_digits 16 (λ c. digit_value c == chars.digit_value c && is_name_byte c) refl (omega arith) b l) in

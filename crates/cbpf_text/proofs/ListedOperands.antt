@@ -25,6 +25,7 @@ use Rattle.cbpf_text.specs.Operands.{literal_of, place_named}
 use Rattle.cbpf_text.proofs.ListedRows.{operand_classes, operand_fields, first_byte, later_bytes, IsWord, word_of_test}
 use Rattle.cbpf_text.proofs.ListedRows.{plain_as}
 use Rattle.cbpf_text.proofs.ListedTokens.{lexemes_at, newline, are_positive}
+use Rattle.cbpf_syntax.specs.Numbers.{digit_value}
 use Rattle.cbpf_text.proofs.ListedNumbers.{Places, decimal_segment, spelled_decimal, is_decimal_segment, hex_segment}
 use Rattle.cbpf_text.proofs.ListedNumbers.{is_hex_segment, given_is, label_fits, label_segment, is_label_segment}
 
@@ -115,6 +116,7 @@ is_blank_segment = (lit< tt, refl)
 
 pub operand_are : (o : Operand) (e : Option Ext) (n i : ℕ) (insn : Insn) → InRange insn → n ≤ MAX_INSTRUCTIONS
     → TargetsInside n i insn o → AreSegments (operand_segments o e i insn)
+unfolding digit_value
 operand_are operands.Absolute (Some x) n i insn r most t = (is_blank_segment, ((ext_word x).1, tt))
 operand_are operands.Immediate e n i insn r most t = search (rules, is_hex_segment)
 operand_are operands.ImmediateTwo e n i insn r most t =
