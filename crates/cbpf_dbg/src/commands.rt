@@ -72,7 +72,7 @@ impl<T: Trail, A: Allocator> Session<T, A> {
     ///
     /// `NoProgram`, `NoCapture`, `ZeroCount` where the limit is 0.
     #[inline(never)]
-    #[tactic(auto, using(crate::proofs::TurnLemmas::owed_bound), unfolding(crate::specs::Commands::run, crate::specs::Commands::stops))]
+    #[tactic(auto, unfolding(crate::specs::Commands::run, crate::specs::Commands::stops))]
     pub fn run(&mut self, meter: &mut Meter, limit: Option<u64>) -> Result<RunReply, SessionFault>
         requires { meter.old ≤ 2 ^ 127 }
         ensures reply { result ≡ spec.reply_of (spec.run self.old limit) }
@@ -134,7 +134,7 @@ impl<T: Trail, A: Allocator> Session<T, A> {
     ///
     /// `NoProgram`, `NoCapture`, `NoPackets`; `ZeroCount` where `n` is 0; `TooFarBack` with the most
     /// that fits.
-    #[tactic(auto, using(crate::proofs::TurnLemmas::owed_bound), unfolding(crate::specs::Commands::step))]
+    #[tactic(auto, unfolding(crate::specs::Commands::step))]
     pub fn step(&mut self, meter: &mut Meter, n: i64) -> Result<RunReply, SessionFault>
         requires { meter.old ≤ 2 ^ 127 }
         ensures reply { result ≡ spec.reply_of (spec.step self.old n) }
@@ -192,7 +192,7 @@ impl<T: Trail, A: Allocator> Session<T, A> {
     /// # Errors
     ///
     /// `NoProgram`, `NoCapture`.
-    #[tactic(auto, using(crate::proofs::TurnLemmas::owed_bound), unfolding(crate::specs::Commands::stops))]
+    #[tactic(auto, unfolding(crate::specs::Commands::stops))]
     pub fn stops(&self) -> Result<Stops<'_, A>, SessionFault>
         ensures hits { result ≡ spec.stops self.now }
         ensures shown { IfOk result (λ hits. All (CanShow self.now) hits) }

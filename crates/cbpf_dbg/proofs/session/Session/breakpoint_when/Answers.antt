@@ -25,3 +25,7 @@ invariant_of-self-in-Ok-insert g c = (
 pub returns-in-Ok-insert-clause-after : goal.returns-in-Ok-insert-clause-after
 unfolding breakpoint_when
 returns-in-Ok-insert-clause-after g c = search rules
+
+pub returns-in-Ok-insert-clause-reply : goal.returns-in-Ok-insert-clause-reply
+unfolding breakpoint_when
+returns-in-Ok-insert-clause-reply g c = search rules

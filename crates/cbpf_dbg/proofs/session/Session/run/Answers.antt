@@ -20,3 +20,7 @@ returns-clause-after g c = search rules
 pub returns-clause-turns : goal.returns-clause-turns
 unfolding run stops
 returns-clause-turns g c = search rules
+
+pub returns-clause-ahead : goal.returns-clause-ahead
+unfolding run stops
+returns-clause-ahead g c = search rules

@@ -1,5 +1,6 @@
 use Rattle.cbpf_machine.specs.Machine.{machine_of}
-use Rattle.std.proofs.Common.{◌≡◌, [], ◌∷◌, ◌++◌, arith, sym, append-nil, refl, ap, ◌∙◌, inl}
+use Rattle.std.proofs.Common.{◌≡◌, [], ◌∷◌, ◌++◌, arith, sym, append-nil, refl, rules, ap, ◌∙◌, inl}
+use Rattle.cbpf_dbg.specs.Commands.{run}
 use Rattle.cbpf_dbg.proofs.CarryLemmas.{known-sound}
 use Rattle.cbpf_dbg.proofs.WholeLemmas.{HasLoaded, stops-held, from_start, going-spare, going-found, going-stop}
 use Rattle.cbpf_dbg.proofs.WholeLemmas.{going-end, fewer, going-turns, end-turns}
@@ -87,3 +88,7 @@ returns-in-Finished-clause-turns g c =
 
 pub returns-in-Finished-clause-from_start : goal.returns-in-Finished-clause-from_start
 returns-in-Finished-clause-from_start g c = from_start c.args.self.now
+
+pub unreachable-requires : goal.unreachable-requires
+unfolding run
+unreachable-requires g c = search rules

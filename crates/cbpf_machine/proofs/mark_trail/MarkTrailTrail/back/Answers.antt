@@ -1,4 +1,4 @@
-use Rattle.std.proofs.Common.{◌≡◌, ◌+◌, ◌*◌, ◌<◌, ◌-◌, ◌/◌, ◌∙◌, ℕ, List, arith, sym, ap, refl, subst, length}
+use Rattle.std.proofs.Common.{◌≡◌, ◌+◌, ◌*◌, ◌<◌, ◌≤◌, ◌-◌, ◌/◌, ◌∙◌, ℕ, List, arith, sym, ap, refl, subst, length}
 use Rattle.std.proofs.Common.{length-take, take, get_or}
 use Rattle.std.specs.Prelude.{Some, None, slice_get}
 use Rattle.std.proofs.lemmas.List.{get_or-take}
@@ -9,6 +9,7 @@ use Rattle.cbpf_machine.specs.Trace.{next_of}
 use Rattle.cbpf_machine.specs.Task.{task_of, turn_in, trace_in}
 use Rattle.cbpf_machine.proofs.TraceLemmas.{goes_from_entry, goes_next, goes_at, goes_last, next_of-none}
 use Rattle.cbpf_machine.specs.declared.mark_trail.TheConstants.{STRIDE}
+use Rattle.cbpf_machine.proofs.ListLemmas.{slice_get-take}
 use Rattle.cbpf_machine.proofs.mark_trail.MarkTrailTrail.back.Goals as goal
 
 taken_at : (xs : List Registers) (n i : ℕ) (r : Registers) → slice_get (take n xs) i ≡ Some r → i < n
@@ -27,6 +28,25 @@ kept_at kept items xs j r are under is =
     taken_at xs kept (STRIDE * j) r (sym (are.at j within)
     ∙ slice_get_read (take ((kept + (STRIDE - 1)) / STRIDE) items) _ j r refl within
     (is ∙ sym (get_or-take ((kept + (STRIDE - 1)) / STRIDE) items j r (omega arith)))) under
+
+-- of fewer states, the checkpoints are the first ones
+cut : (kept to : ℕ) (items xs : List Registers) → to ≤ kept
+    → AreCheckpoints (record { checkpoints = take ((kept + (STRIDE - 1)) / STRIDE) items; kept = kept }) (take kept xs)
+    → AreCheckpoints (record { checkpoints = take ((to + (STRIDE - 1)) / STRIDE) items; kept = to }) (take to xs)
+cut kept to items xs fewer are =
+    let all = length-take ((kept + (STRIDE - 1)) / STRIDE) items in
+    let some = length-take ((to + (STRIDE - 1)) / STRIDE) items in
+    record {
+      long = omega (arith, are.long, length-take kept xs, length-take to xs);
+      count = omega (arith, are.count, all, some);
+      at = λ j low.
+          let near : j < (to + (STRIDE - 1)) / STRIDE = omega (arith, low, some) in
+          slice_get-take items _ j near
+          ∙ (sym (slice_get-take items ((kept + (STRIDE - 1)) / STRIDE) j (omega (arith, near, fewer)))
+          ∙ (are.at j (omega (arith, near, fewer, are.count))
+          ∙ (slice_get-take xs kept (STRIDE * j) (omega (arith, near, fewer))
+          ∙ sym (slice_get-take xs to (STRIDE * j) (omega (arith, near))))));
+    }
 
 pub again-init : goal.again-init
 again-init g c =
@@ -61,3 +81,10 @@ pub returns-clause-entry : goal.returns-clause-entry
 returns-clause-entry g c =
     let last : c.again.i ≡ c.args.to - 1 = omega arith in
     rw last at (goes_at c.again.invariant.here)
+
+pub returns-clause-stands : goal.returns-clause-stands
+returns-clause-stands g c = cut c.self.inside.kept c.args.to c.self.inside.checkpoints.items
+    (trace_in (task_of c.args.p.now c.args.values.now c.args.packet))
+    (omega (arith, c.requires.within, ap (λ (k : Checkpoints). k.kept) c.self.view_is))
+    (subst (λ k. AreCheckpoints k (take k.kept (trace_in (task_of c.args.p.now c.args.values.now c.args.packet))))
+    (sym c.self.view_is) c.requires.of_trace)
