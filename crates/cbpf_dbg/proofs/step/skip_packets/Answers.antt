@@ -42,7 +42,7 @@ skip-preserved g c =
     let went = past g (goal.at.skip-preserved g c).After-run_records-paused in
     record {
       nears = nears_more _ _ _ _ _ _ _ _ _ _ _ c.skip.invariant.nears
-      (rw (c.spent-before.ensures, c.spent.ensures) went.nears);
+          (rw (c.spent-before.ensures, c.spent.ensures) went.nears);
       left = c.run_records-paused.ensures.goes.left;
       before = ap (λ (q : Place). q.step) went.to;
     }
