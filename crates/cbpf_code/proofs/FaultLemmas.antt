@@ -11,7 +11,7 @@ use Rattle.cbpf_code.specs.declared.checker.CheckFault.TheVariants.{NoInstructio
 use Rattle.cbpf_code.specs.declared.checker.CheckFault.TheVariants.{NoReturn, UnwrittenSlot}
 use Rattle.cbpf_code.specs.Opcode.{op_of}
 use Rattle.cbpf_code.specs.ControlFlow.{InsnAt}
-use Rattle.cbpf_code.specs.Faults.{IsReturn, HasFault, FirstFault, rank, index_of}
+use Rattle.cbpf_code.specs.Faults.{IsReturn, InsnHasFault, HasFault, FirstFault, rank, index_of}
 use Rattle.cbpf_code.specs.Sound.{IsSound}
 use Rattle.cbpf_code.specs.CheckSteps.{PassesBefore, IsWellFormed, IsAllowed, AllowedAt}
 
@@ -84,6 +84,16 @@ well_formed-at_end list i passed all returns =
 pub first_fault-insn : (list : List Insn) (m : ℕ) (e : CheckFault) → PassesBefore list m → HasFault list e
     → rank e ≡ 2 → index_of e ≡ m → FirstFault list e
 first_fault-insn list m e passed has r at = grind arith
+
+-- an instruction's own fault is one of the list
+pub own_fault : (list : List Insn) (e : CheckFault) (i : ℕ) (insn : Insn) (op : Op) → index_of e ≡ i
+    → slice_get list i ≡ Some insn → op_of insn.code ≡ Some op → InsnHasFault op insn i (length list) e → HasFault list e
+own_fault list NoInstruction i insn op at here known has = absurd has
+own_fault list TooMany i insn op at here known has = absurd has
+own_fault list NoReturn i insn op at here known has = absurd has
+own_fault list (UnknownCode j) i insn op at here known has = absurd has
+own_fault list (UnwrittenSlot j) i insn op at here known has = absurd has
+own_fault list e i insn op at here known has = rw at (insn, op, here, known, has)
 
 pub first_fault-at_end : (list : List Insn) (i : ℕ) → PassesBefore list i → i ≡ length list
     → (IsReturn (get_or list (length list - 1) zero_insn) → ⊥) → FirstFault list NoReturn
