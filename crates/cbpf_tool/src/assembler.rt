@@ -2,6 +2,7 @@
 ghost use Rattle.std.specs.Prelude.{◌≡◌, ℕ, List, [], Some, IfOk, IfErr, OnOk};
 ghost use Rattle.std.specs.Io.KnownBytes.{IsAtEnd};
 ghost use Rattle.cbpf_code.specs.Writing.{Appended, Wrote};
+ghost use Rattle.cbpf_text.specs.Assembled.{Assembles};
 ghost use Rattle.cbpf_tool.specs.Assembling.{Assembled, IsEarly, IsReadingFault, form_text};
 
 use crate::READ_SIZE;
@@ -45,6 +46,20 @@ fn write_form<W: Write>(w: &mut W, list: &[Insn], form: Form) -> Result<(), Writ
     }
 }
 
+/// Writes the instructions that a source assembles to.
+fn write_and_flush<W: Write>(w: &mut W, list: &[Insn], form: Form) -> Result<(), ToolFault>
+    ensures { (source : List ℕ) → Assembles source list.now
+        → Assembled source form (W.contents w.old) (W.contents w.new) result }
+{
+    match write_form(w, list, form) {
+        Err(_) => Err(ToolFault::Write),
+        Ok(()) => match w.flush() {
+            Ok(()) => Ok(()),
+            Err(_) => Err(ToolFault::Write),
+        },
+    }
+}
+
 /// Writes the instructions of a source.
 #[tactic(auto, using(crate::proofs::AssemblyLemmas::asm_answers))]
 fn assemble_into<A: Allocator + Copy, W: Write>(
@@ -60,13 +75,7 @@ fn assemble_into<A: Allocator + Copy, W: Write>(
         Err(AsmFault::Memory) => return Err(ToolFault::Memory),
         Err(fault) => return Err(ToolFault::Source(fault)),
     };
-    match write_form(writer, &list, form) {
-        Err(_) => Err(ToolFault::Write),
-        Ok(()) => match writer.flush() {
-            Ok(()) => Ok(()),
-            Err(_) => Err(ToolFault::Write),
-        },
-    }
+    write_and_flush(writer, &list, form)
 }
 
 /// Assembles a source, which is all bytes up to the reader's end, and writes its instructions.

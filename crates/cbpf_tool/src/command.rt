@@ -1,5 +1,5 @@
 // Commands, and how lines spell them.
-ghost use Rattle.std.specs.Prelude.{◌≡◌, ℕ, List};
+ghost use Rattle.std.specs.Prelude.{◌≡◌, ℕ, List, [], ◌∷◌};
 ghost use Rattle.cbpf_code.specs.Extension.{ext_table};
 ghost use Rattle.cbpf_tool.specs.Commands as spec;
 ghost use Rattle.cbpf_tool.specs.Words.{words_of, after_words, trimmed};
@@ -114,15 +114,22 @@ fn run_by(arguments: Arguments<'_>) -> Option<SessionCommand>
     }
 }
 
+/// `reset`, or the instruction of a breakpoint.
+fn reset_or_breakpoint(word: &[u8]) -> Option<SessionCommand>
+    ensures { result ≡ spec.breakpoint_by (word.now ∷ []) }
+{
+    match word {
+        b"reset" => Some(SessionCommand::ResetBreakpoints),
+        _ => Some(SessionCommand::Breakpoint(number_up_to(word, u64::MAX)?, When::Always)),
+    }
+}
+
 fn breakpoint_by(arguments: Arguments<'_>) -> Option<SessionCommand>
     ensures { (ws : List (List ℕ)) → AreArguments ws arguments.entry → result ≡ spec.breakpoint_by ws }
 {
     match arguments {
         Arguments::Zero => Some(SessionCommand::Breakpoints),
-        Arguments::One(b"reset") => Some(SessionCommand::ResetBreakpoints),
-        Arguments::One(word) => {
-            Some(SessionCommand::Breakpoint(number_up_to(word, u64::MAX)?, When::Always))
-        }
+        Arguments::One(word) => reset_or_breakpoint(word),
         Arguments::Three(n, register, v) => Some(SessionCommand::Breakpoint(
             number_up_to(n, u64::MAX)?,
             condition(register, number_32(v)?)?,

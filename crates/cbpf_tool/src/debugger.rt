@@ -147,6 +147,36 @@ fn run_lines<A: Allocator + Copy, R: Read, W: Write, F: Files>(
     }
 }
 
+/// Runs the lines, and flushes the replies that are left.
+fn run_all<A: Allocator + Copy, R: Read, W: Write, F: Files>(
+    alloc: A,
+    reader: &mut R,
+    writer: &mut W,
+    files: &mut F,
+    session: &mut ScriptSession<A>,
+    lines: &mut LineReader,
+    line: &mut Vec<u8, A>,
+) -> Result<(), ToolFault>
+    requires session { session.old ≡ empty_view }
+    requires lines { pending_in lines.old.chunk lines.old.start lines.old.end ≡ [] }
+    ensures { (script : List ℕ) → R.remaining reader.old ≡ Some script → IsTrue (F.source files.old).is_known →
+        Debugged script (R.remaining reader.new) (W.contents writer.old) (W.contents writer.new) (F.source files.old)
+        (F.source files.new) result }
+{
+    let mut unflushed = false;
+    run_lines(
+        alloc,
+        reader,
+        writer,
+        files,
+        session,
+        lines,
+        line,
+        &mut unflushed,
+    )?;
+    flush(writer, &mut unflushed)
+}
+
 /// Runs a script of commands: reads lines up to `quit` or the end of the input, and writes the reply of
 /// each before the next one acts. A refused command is answered by a line `error: ..`, and the script goes
 /// on. The replies are flushed before each command that can make turns or loads a capture, as it may take
@@ -173,8 +203,7 @@ pub fn debug<A: Allocator, R: Read, W: Write, F: Files>(
     let mut session = Session::new(alloc, MarkTrail::new());
     let mut lines = LineReader::new();
     let mut line = Vec::new(alloc);
-    let mut unflushed = false;
-    run_lines(
+    run_all(
         alloc,
         reader,
         writer,
@@ -182,7 +211,5 @@ pub fn debug<A: Allocator, R: Read, W: Write, F: Files>(
         &mut session,
         &mut lines,
         &mut line,
-        &mut unflushed,
-    )?;
-    flush(writer, &mut unflushed)
+    )
 }

@@ -1,5 +1,5 @@
 // Numbers in a line.
-ghost use Rattle.std.specs.Prelude.{◌≡◌, ◌-◌, ◌^◌};
+ghost use Rattle.std.specs.Prelude.{◌≡◌, ◌-◌, ◌^◌, pos, option_map};
 ghost use Rattle.cbpf_tool.specs.Numbers as spec;
 
 use cbpf_code::is_digit;
@@ -30,14 +30,21 @@ pub(crate) fn number_32(word: &[u8]) -> Option<u32>
     Some(number_up_to(word, u64::from(u32::MAX))? as u32)
 }
 
+/// The same up to 9223372036854775807.
+fn number_63(word: &[u8]) -> Option<i64>
+    ensures { result ≡ option_map pos (spec.number_up_to (2 ^ 63 - 1) word.now) }
+{
+    Some(number_up_to(word, i64::MAX as u64)? as i64)
+}
+
 /// The number that a word spells with or without a sign in front, of at most 9223372036854775807 and
 /// at least the same below 0. So its negation is a number too.
 pub(crate) fn signed_number(word: &[u8]) -> Option<i64>
     ensures { result ≡ spec.signed_number (2 ^ 63 - 1) word.now }
 {
     match word {
-        [b'+', digits @ ..] => Some(number_up_to(digits, i64::MAX as u64)? as i64),
-        [b'-', digits @ ..] => Some(-(number_up_to(digits, i64::MAX as u64)? as i64)),
-        digits => Some(number_up_to(digits, i64::MAX as u64)? as i64),
+        [b'+', digits @ ..] => number_63(digits),
+        [b'-', digits @ ..] => Some(-number_63(digits)?),
+        digits => number_63(digits),
     }
 }

@@ -1,5 +1,5 @@
 use Rattle.cbpf_tool.proofs.ScriptLemmas.{ended}
-use Rattle.cbpf_tool.proofs.debugger.debug.Goals as goal
+use Rattle.cbpf_tool.proofs.debugger.run_all.Goals as goal
 
 pub returns : goal.returns
 returns g c = λ script e is_known.
