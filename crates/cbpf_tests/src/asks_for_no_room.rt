@@ -7,24 +7,20 @@ use cbpf_dbg::{MarkTrail, Meter, Place, RunReply, Session, SessionFault, Stop, W
 use std::alloc::{Allocator, Global};
 use std::process::Abort;
 
-/// Whether a whole run is refused without a program.
-fn is_run_refused<A: Allocator + Copy>(
+/// Whether breakpoints and a whole run are refused without a program.
+fn are_refused<A: Allocator + Copy>(
     session: &mut Session<MarkTrail, A>,
     found: &mut Vec<Stop, A>,
 ) -> bool {
-    session.run_to_end(&mut Meter::new(), found) == Err(SessionFault::NoProgram)
-}
-
-/// Breakpoints, which are refused without a program.
-fn set_without_program<A: Allocator + Copy>(rt: &impl Abort, session: &mut Session<MarkTrail, A>) {
-    assert!(rt; session.breakpoint(0) == Err(SessionFault::NoProgram));
-    assert!(rt; session.breakpoint_when(0, When::A(1)) == Err(SessionFault::NoProgram));
+    session.breakpoint(0) == Err(SessionFault::NoProgram)
+        && session.breakpoint_when(0, When::A(1)) == Err(SessionFault::NoProgram)
+        && session.run_to_end(&mut Meter::new(), found) == Err(SessionFault::NoProgram)
 }
 
 fn call_with_nothing_loaded<A: Allocator + Copy>(rt: &impl Abort, alloc: A) {
     let mut session = Session::new(alloc, MarkTrail::new());
-    set_without_program(rt, &mut session);
-    assert!(rt; is_run_refused(&mut session, &mut Vec::new(alloc)));
+    let mut found = Vec::new(alloc);
+    assert!(rt; are_refused(&mut session, &mut found));
 }
 
 #[test]
@@ -34,52 +30,49 @@ fn a_session_with_nothing_loaded(rt: HostRuntime) {
     assert!(rt; refusing.left() == 1000);
 }
 
-/// Breakpoints that are refused, and two that are set already.
-fn set<A: Allocator + Copy>(rt: &impl Abort, session: &mut Session<MarkTrail, A>) {
+/// Whether breakpoints are refused, and two that are set already are set again.
+fn sets<A: Allocator + Copy>(session: &mut Session<MarkTrail, A>) -> bool {
     let refused = Err(SessionFault::NoInstruction);
-    assert!(rt; session.breakpoint(6) == refused);
-    assert!(rt; session.breakpoint_when(6, When::A(1)) == refused);
-    assert!(rt; session.breakpoint_when(1, When::A(2054)) == Ok(()));
-    assert!(rt; session.breakpoint(4) == Ok(()));
+    session.breakpoint(6) == refused
+        && session.breakpoint_when(6, When::A(1)) == refused
+        && session.breakpoint_when(1, When::A(2054)) == Ok(())
+        && session.breakpoint(4) == Ok(())
 }
 
-/// A run to a stop, and its dump.
-fn dump<A: Allocator + Copy>(rt: &impl Abort, session: &mut Session<MarkTrail, A>) {
+/// Whether a run comes to a stop, which is dumped.
+fn dumps<A: Allocator + Copy>(session: &mut Session<MarkTrail, A>) -> bool {
     match session.run(&mut Meter::new(), None) {
         Ok(RunReply::Stopped(stop)) => {
             let mut w = FaultyWriter::<2048>::new(Fault::Fails, 0);
-            assert!(rt; session.write_stop(&mut w, &stop) == Ok(()));
+            session.write_stop(&mut w, &stop) == Ok(())
         }
-        _ => assert!(rt; false),
+        _ => false,
     }
 }
 
-fn step<A: Allocator + Copy>(rt: &impl Abort, session: &mut Session<MarkTrail, A>, steps: i64) {
-    assert!(rt; session.step(&mut Meter::new(), steps).is_ok());
+/// Whether it makes steps on and back, and a run of one packet.
+fn goes_on<A: Allocator + Copy>(session: &mut Session<MarkTrail, A>) -> bool {
+    session.step(&mut Meter::new(), 3).is_ok()
+        && session.step(&mut Meter::new(), -1).is_ok()
+        && session.run(&mut Meter::new(), Some(1)).is_ok()
 }
 
-/// A run of one packet.
-fn run_one<A: Allocator + Copy>(rt: &impl Abort, session: &mut Session<MarkTrail, A>) {
-    assert!(rt; session.run(&mut Meter::new(), Some(1)).is_ok());
-}
-
-/// Places, and a value.
-fn go_to<A: Allocator + Copy>(rt: &impl Abort, session: &mut Session<MarkTrail, A>) {
+/// Whether it goes to places, and takes a value.
+fn goes_to<A: Allocator + Copy>(session: &mut Session<MarkTrail, A>) -> bool {
     let place = Place { packet: 2, step: 3 };
-    assert!(rt; session.resume(&mut Meter::new(), place).is_ok());
-    assert!(rt; session.select(1) == Ok(()));
-    assert!(rt; session.mark().is_ok());
-    assert!(rt; session.set_value(Ext::Mark, 7) == Ok(()));
+    session.resume(&mut Meter::new(), place).is_ok()
+        && session.select(1) == Ok(())
+        && session.mark().is_ok()
+        && session.set_value(Ext::Mark, 7) == Ok(())
 }
 
-/// The stops ahead, which are two.
-fn list<A: Allocator + Copy>(rt: &impl Abort, session: &Session<MarkTrail, A>) {
+/// Whether the stops ahead are two.
+fn lists_two<A: Allocator + Copy>(session: &Session<MarkTrail, A>) -> bool {
     match session.stops() {
         Ok(mut stops) => {
-            assert!(rt; stops.next().is_some() && stops.next().is_some());
-            assert!(rt; stops.next().is_none());
+            stops.next().is_some() && stops.next().is_some() && stops.next().is_none()
         }
-        Err(_) => assert!(rt; false),
+        Err(_) => false,
     }
 }
 
@@ -90,34 +83,27 @@ fn run_on<A: Allocator + Copy>(rt: &impl Test, session: &mut Session<MarkTrail, 
     assert!(rt; found.len() == 2);
 }
 
-/// Breakpoints that go.
-fn delete<A: Allocator + Copy>(rt: &impl Abort, session: &mut Session<MarkTrail, A>) {
-    assert!(rt; session.delete(4) == Ok(true));
-    session.reset_breakpoints();
+/// Whether the two breakpoints are set.
+fn begins<A: Allocator + Copy>(session: &mut Session<MarkTrail, A>) -> bool {
+    session.breakpoint(1) == Ok(()) && session.breakpoint_when(4, When::X(0)) == Ok(())
 }
 
-/// The two breakpoints.
-fn begin<A: Allocator + Copy>(rt: &impl Abort, session: &mut Session<MarkTrail, A>) {
-    assert!(rt; session.breakpoint(1) == Ok(()));
-    assert!(rt; session.breakpoint_when(4, When::X(0)) == Ok(()));
+/// Whether each of these calls gives its answer.
+fn answers<A: Allocator + Copy>(session: &mut Session<MarkTrail, A>) -> bool {
+    sets(session) && dumps(session) && goes_on(session) && goes_to(session) && lists_two(session)
 }
 
 fn call_each<A: Allocator + Copy>(rt: &impl Test, session: &mut Session<MarkTrail, A>) {
-    set(rt, session);
-    dump(rt, session);
-    step(rt, session, 3);
-    step(rt, session, -1);
-    run_one(rt, session);
-    go_to(rt, session);
-    list(rt, session);
+    assert!(rt; answers(session));
     run_on(rt, session);
-    delete(rt, session);
+    assert!(rt; session.delete(4) == Ok(true));
+    session.reset_breakpoints();
 }
 
 /// Calls of a session of `alloc`, whose calls `refusing` counts.
 fn calls_of<A: Allocator + Copy>(rt: &impl Test, alloc: A, refusing: &FaultyAllocator<Global>) {
     let mut session = session_of(alloc, ICMP_WORDS).expect(rt, "the session");
-    begin(rt, &mut session);
+    assert!(rt; begins(&mut session));
     let left = refusing.left();
     call_each(rt, &mut session);
     assert!(rt; refusing.left() == left);
@@ -168,7 +154,7 @@ fn loads_of_a_session(rt: HostRuntime) {
 }
 
 /// Word texts, and the fault of each that is no program.
-const CHECKED: [(&[u8], Option<CheckFault>); 5] = [
+static CHECKED: [(&[u8], Option<CheckFault>); 5] = [
     (ICMP_WORDS, None),
     // Both paths to the load store into its slot, and then one of them alone.
     (
@@ -195,8 +181,7 @@ fn check_words(rt: &impl Test, words: &[u8], wanted: Option<CheckFault>) {
     let refusing = FaultyAllocator::new(rt.alloc(), 1000);
     let list = read_words(&refusing, words).expect(rt, "the list");
     let left = refusing.left();
-    assert!(rt; fault_of(list) == wanted);
-    assert!(rt; refusing.left() == left);
+    assert!(rt; fault_of(list) == wanted && refusing.left() == left);
 }
 
 #[test]

@@ -8,7 +8,7 @@ use cbpf_tool::{Form, ToolFault, asm};
 use std::io::ErrorKind;
 
 /// What the source assembles to, in each form.
-const ARP_TEXTS: [(Form, &[u8]); 2] = [(Form::Decimal, ARP_WORDS), (Form::C, ARP_C)];
+static ARP_TEXTS: [(Form, &[u8]); 2] = [(Form::Decimal, ARP_WORDS), (Form::C, ARP_C)];
 
 /// One read after another fails.
 fn each_read_fails(rt: &impl Test, form: Form, kind: ErrorKind) {
@@ -17,9 +17,10 @@ fn each_read_fails(rt: &impl Test, form: Form, kind: ErrorKind) {
         reader.set_error(kind);
         let mut writer = FaultyWriter::<256>::new(Fault::Fails, 0);
         let result = asm(rt.alloc(), &mut reader, &mut writer, form);
-        assert_at(rt, result == Err(ToolFault::Read), "the read fault", call);
-        assert_at(rt, reader.calls() == call, "the reads up to a fault", call);
-        assert_at(rt, writer.written().is_empty(), "no text", call);
+        let is_wanted = result == Err(ToolFault::Read)
+            && reader.calls() == call
+            && writer.written().is_empty();
+        assert_at(rt, is_wanted, "the fault of the last read", call);
     }
 }
 
@@ -29,18 +30,18 @@ fn the_flush_fails(rt: &impl Test, form: Form, text: &[u8], kind: ErrorKind) {
     writer.set_flush_fails(true);
     writer.set_error(kind);
     let result = asm(rt.alloc(), &mut reader, &mut writer, form);
-    assert!(rt; result == Err(ToolFault::Write));
-    assert!(rt; writer.written() == text);
-    assert!(rt; writer.flushes() == 1);
+    let is_wanted = result == Err(ToolFault::Write)
+        && writer.written() == text
+        && writer.flushes() == 1;
+    assert!(rt; is_wanted);
 }
 
 /// Nothing fails over a reader that gives pieces of this length.
 fn assembles(rt: &impl Test, form: Form, text: &[u8], piece: usize, reader: &mut FaultyReader<'_>) {
     let mut writer = FaultyWriter::<256>::new(Fault::Fails, 0);
     let result = asm(rt.alloc(), reader, &mut writer, form);
-    assert_at(rt, result == Ok(()), "the answer", piece);
-    assert_at(rt, writer.written() == text, "the text", piece);
-    assert_at(rt, writer.flushes() == 1, "the flushes", piece);
+    let is_wanted = result == Ok(()) && writer.written() == text && writer.flushes() == 1;
+    assert_at(rt, is_wanted, "the text, flushed once", piece);
 }
 
 /// Nothing fails, and a read gives so many bytes at most.
@@ -64,15 +65,15 @@ fn in_one_form(rt: &impl Test, form: Form, text: &[u8]) {
 
 #[test]
 fn each_read_or_flush_that_fails(rt: HostRuntime) {
-    for (form, text) in ARP_TEXTS {
-        in_one_form(&rt, form, text);
+    for (form, text) in &ARP_TEXTS {
+        in_one_form(&rt, *form, text);
     }
 }
 
 /// A source, its refusal and its line where it has one, and the least number of growths.
 type Source = (&'static [u8], Option<(AsmKind, u64)>, u64);
 
-const SOURCES: [Source; 5] = [
+static SOURCES: [Source; 5] = [
     (ARP, None, 4),
     (b"ret #0\nret ret\n", Some((AsmKind::Misplaced, 2)), 1),
     (b"", Some((AsmKind::NoInstruction, 1)), 0),
@@ -94,14 +95,13 @@ fn is_refused(
     let mut writer = FaultyWriter::<256>::new(Fault::Fails, 0);
     let result = asm(&alloc, &mut reader, &mut writer, form);
     let is_refused = alloc.left() == 0;
-    let answer = if is_refused {
+    let (wanted, text) = if is_refused {
         (Err(ToolFault::Memory), b"".as_slice())
     } else {
         answer
     };
-    let (wanted, text) = answer;
-    assert_at(rt, result == wanted, "the answer", (row, nth));
-    assert_at(rt, writer.written() == text, "the text", (row, nth));
+    let is_wanted = result == wanted && writer.written() == text;
+    assert_at(rt, is_wanted, "the answer and the text", (row, nth));
     is_refused
 }
 
@@ -134,7 +134,7 @@ fn each_source(rt: &impl Test, form: Form, text: &[u8]) {
 
 #[test]
 fn each_refused_growth_leaves_nothing_written(rt: HostRuntime) {
-    for (form, text) in ARP_TEXTS {
-        each_source(&rt, form, text);
+    for (form, text) in &ARP_TEXTS {
+        each_source(&rt, *form, text);
     }
 }

@@ -1,5 +1,5 @@
 // Each beginning of a source, with its number of instructions or its refusal.
-use crate::assertions::Test;
+use crate::assertions::{Test, assert_at};
 use cbpf_text::{AsmFault, AsmKind, assemble};
 use std::alloc::Global;
 
@@ -77,10 +77,8 @@ fn answer_to(alloc: Global, source: &[u8]) -> Answer {
 fn have_answer(rt: &impl Test, source: &[u8], first: usize, last: usize, answer: Answer) {
     for len in first..=last {
         assert!(rt; len <= source.len());
-        assert!(rt;
-            answer_to(rt.alloc(), &source[..len]) == answer,
-            "length {len}"
-        );
+        let found = answer_to(rt.alloc(), &source[..len]);
+        assert_at(rt, len, found == answer);
     }
 }
 

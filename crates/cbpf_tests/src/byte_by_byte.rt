@@ -9,8 +9,7 @@ fn assembles_to(rt: &impl Test, source: &[u8], words: &[u8]) {
     let mut reader = FaultyReader::new(source, 1, 0);
     let mut text = Vec::new(rt.alloc());
     assert!(rt; asm(rt.alloc(), &mut reader, &mut text, Form::Decimal) == Ok(()));
-    assert!(rt; reader.calls() > 70_000);
-    assert!(rt; text.as_slice() == words);
+    assert!(rt; reader.calls() > 70_000 && text.as_slice() == words);
 }
 
 #[test]
@@ -26,8 +25,7 @@ fn replies(rt: &impl Test, script: &[u8], wanted: &[u8]) {
     let mut text = Vec::new(rt.alloc());
     let mut files = MemoryFiles::new(rt.alloc());
     assert!(rt; debug(rt.alloc(), &mut reader, &mut text, &mut files) == Ok(()));
-    assert!(rt; reader.calls() > 70_000);
-    assert!(rt; text.as_slice() == wanted);
+    assert!(rt; reader.calls() > 70_000 && text.as_slice() == wanted);
 }
 
 #[test]

@@ -1,10 +1,10 @@
 //! Texts with counts and places, for numbers of each length.
 
 use crate::assertions::Test;
-use cbpf_code::WriteFault;
 use cbpf_reply::{
     Counts, Place, write_finished, write_limit, write_place, write_total, write_went_to,
 };
+use std::process::Abort;
 
 /// A number in decimal, by division.
 fn digits_of(n: u128, room: &mut [u8; 39]) -> &[u8] {
@@ -13,23 +13,26 @@ fn digits_of(n: u128, room: &mut [u8; 39]) -> &[u8] {
         *digit = b'0' + (left % 10) as u8;
         left /= 10;
     }
-    let zeros = room.iter().take_while(|digit| **digit == b'0').count();
-    room.get(zeros.min(38)..).unwrap_or(b"")
+    for first in 0..38 {
+        if room[first] != b'0' {
+            return &room[first..];
+        }
+    }
+    &room[38..]
 }
 
-/// Whether a text is a number between two others.
-fn has_number(text: &[u8], before: &[u8], n: u128, after: &[u8]) -> bool {
+/// What follows in a text after a piece and a number, if it begins with them.
+fn after_number<'a>(text: &'a [u8], before: &[u8], n: u128) -> Option<&'a [u8]> {
     let mut room = [0; 39];
-    let inner = text
-        .strip_prefix(before)
-        .and_then(|rest| rest.strip_suffix(after));
-    inner == Some(digits_of(n, &mut room))
+    text.strip_prefix(before)?
+        .strip_prefix(digits_of(n, &mut room))
 }
 
 fn assert_total(rt: &impl Test, n: u128) {
     let mut text = Vec::new(rt.alloc());
-    assert!(rt; write_total(&mut text, n).is_ok(), "{n}");
-    assert!(rt; has_number(&text, b"stops: ", n, b"\n"), "{n}");
+    let wrote = write_total(&mut text, n).is_ok();
+    let is_wanted = wrote && after_number(&text, b"stops: ", n) == Some(b"\n".as_slice());
+    assert!(rt; is_wanted, "{n}");
 }
 
 #[test]
@@ -46,27 +49,35 @@ fn totals_of_each_length(rt: HostRuntime) {
     }
 }
 
-/// Whether what a call wrote is this text.
-fn is_written(text: &[u8], wrote: Result<(), WriteFault>, wanted: &str) -> bool {
-    wrote.is_ok() && text == wanted.as_bytes()
+/// Whether a text is these numbers, each after a piece, and then the end of a line.
+fn has_numbers(text: &[u8], numbers: &[(&[u8], u64)]) -> bool {
+    let mut left = text;
+    for (before, n) in numbers {
+        match after_number(left, before, u128::from(*n)) {
+            Some(rest) => left = rest,
+            None => return false,
+        }
+    }
+    left == b"\n".as_slice()
+}
+
+/// Asserts that calls wrote this text.
+fn assert_written(rt: &impl Abort, wrote: bool, text: &[u8], numbers: &[(&[u8], u64)], at: u64) {
+    assert!(rt; wrote && has_numbers(text, numbers), "{at}");
 }
 
 fn assert_places(rt: &impl Test, packet: u64, step: u32) {
     let place = Place { packet, step };
     let mut text = Vec::new(rt.alloc());
-    let wrote = write_place(&mut text, place);
-    let wanted = format!(in rt.alloc(); "{packet} {step}\n").expect(rt, "memory");
-    assert!(rt;
-        is_written(&text, wrote, wanted.as_str()),
-        "{packet} {step}"
-    );
-    let mut text = Vec::new(rt.alloc());
-    let wrote = write_went_to(&mut text, place);
-    let wanted = format!(in rt.alloc(); "at {packet} {step}\n").expect(rt, "memory");
-    assert!(rt;
-        is_written(&text, wrote, wanted.as_str()),
-        "{packet} {step}"
-    );
+    let wrote = write_place(&mut text, place).is_ok() && write_went_to(&mut text, place).is_ok();
+    let step = u64::from(step);
+    let numbers: [(&[u8], u64); 4] = [
+        (b"", packet),
+        (b" ", step),
+        (b"\nat ", packet),
+        (b" ", step),
+    ];
+    assert_written(rt, wrote, &text, &numbers, packet);
 }
 
 fn assert_counts(rt: &impl Test, passes: u64, fails: u64, packet: u64) {
@@ -76,15 +87,16 @@ fn assert_counts(rt: &impl Test, passes: u64, fails: u64, packet: u64) {
         unknown: 0,
     };
     let mut text = Vec::new(rt.alloc());
-    let wrote = write_finished(&mut text, counts);
-    let wanted = format!(in rt.alloc(); "bpf passes:{passes} fails:{fails}\n").expect(rt, "memory");
-    assert!(rt; is_written(&text, wrote, wanted.as_str()), "{passes}");
-    let mut text = Vec::new(rt.alloc());
-    let wrote = write_limit(&mut text, counts, packet);
-    let wanted = format!(in rt.alloc(); "bpf passes:{passes} fails:{fails} next:{packet}\n").expect(
-        rt, "memory",
-    );
-    assert!(rt; is_written(&text, wrote, wanted.as_str()), "{passes}");
+    let wrote = write_finished(&mut text, counts).is_ok()
+        && write_limit(&mut text, counts, packet).is_ok();
+    let numbers: [(&[u8], u64); 5] = [
+        (b"bpf passes:", passes),
+        (b" fails:", fails),
+        (b"\nbpf passes:", passes),
+        (b" fails:", fails),
+        (b" next:", packet),
+    ];
+    assert_written(rt, wrote, &text, &numbers, passes);
 }
 
 fn assert_unknown(rt: &impl Test, unknown: u64) {
@@ -94,11 +106,9 @@ fn assert_unknown(rt: &impl Test, unknown: u64) {
         unknown,
     };
     let mut text = Vec::new(rt.alloc());
-    let wrote = write_finished(&mut text, counts);
-    let wanted = format!(in rt.alloc(); "bpf passes:1 fails:2 unknown:{unknown}\n").expect(
-        rt, "memory",
-    );
-    assert!(rt; is_written(&text, wrote, wanted.as_str()), "{unknown}");
+    let wrote = write_finished(&mut text, counts).is_ok();
+    let numbers: [(&[u8], u64); 1] = [(b"bpf passes:1 fails:2 unknown:", unknown)];
+    assert_written(rt, wrote, &text, &numbers, unknown);
 }
 
 #[test]

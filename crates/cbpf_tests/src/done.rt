@@ -1,6 +1,6 @@
 // What a machine in memory writes into its log. It stands in no test, as specs/Events.antt cites it.
 /// What was done with the machine: names, and the text of an output.
-#[derive(Debug, PartialEq, Drop)]
+#[derive(Drop)]
 pub(crate) enum Done {
     Opened(Vec<u8>),
     NotOpened(Vec<u8>),

@@ -18,15 +18,15 @@ fn empty_records(rt: &impl Test, count: u32) -> Vec<u8> {
 }
 
 /// Numbers of records, and how many starts are kept of them.
-const MARKS: [(u32, usize); 4] = [(130, 3), (65, 2), (64, 1), (0, 0)];
+static MARKS: [(u32, usize); 4] = [(130, 3), (65, 2), (64, 1), (0, 0)];
 
 #[test]
 fn starts_that_are_kept(rt: HostRuntime) {
-    for (count, marks) in MARKS {
-        let file = empty_records(&rt, count);
+    for (count, marks) in &MARKS {
+        let file = empty_records(&rt, *count);
         let capture = capture(&rt, &file);
-        let is_kept = capture.count() == u64::from(count) && capture.marks() == marks;
-        assert_at(&rt, count as usize, is_kept);
+        let is_kept = capture.count() == u64::from(*count) && capture.marks() == *marks;
+        assert_at(&rt, *count as usize, is_kept);
     }
 }
 
@@ -75,8 +75,7 @@ fn a_capture_of_130_records(rt: HostRuntime) {
     let file = empty_records(&rt, 130);
     assert!(rt; file.len() == 2104);
     let first = capture(&rt, &file);
-    assert!(rt; has_130(&first));
-    assert!(rt; walks_130(&first));
+    assert!(rt; has_130(&first) && walks_130(&first));
     assert_run(&rt, MarkTrail::new(), first);
     let all = ListTrail::new(rt.alloc()).expect(&rt, "memory");
     assert_run(&rt, all, capture(&rt, &file));

@@ -63,8 +63,8 @@ fn state_of(rt: &impl Test, (value, slot): (u32, u32), (code, k, turns): (u16, u
 /// States that differ from the first one in pc, A or X.
 fn registers(rt: &impl Test) -> Vec<State> {
     let mut states = Vec::new(rt.alloc());
-    for row in ROWS {
-        let state = state_of(rt, (0, 0), row);
+    for row in &ROWS {
+        let state = state_of(rt, (0, 0), *row);
         states.push(state).expect(rt, "memory");
     }
     states
@@ -165,11 +165,11 @@ static COUNTS: [(u64, u64, u64); 7] = [
 
 fn counts(rt: &impl Test) -> Vec<Counts> {
     let mut all = Vec::new(rt.alloc());
-    for (passes, fails, unknown) in COUNTS {
+    for (passes, fails, unknown) in &COUNTS {
         let counts = Counts {
-            passes,
-            fails,
-            unknown,
+            passes: *passes,
+            fails: *fails,
+            unknown: *unknown,
         };
         all.push(counts).expect(rt, "memory");
     }

@@ -9,8 +9,7 @@ fn assert_replies(rt: &impl Test, files: &mut MemoryFiles, script: &[u8], wanted
     let mut reader = script;
     let mut writer = FaultyWriter::<512>::new(Fault::Fails, 0);
     let result = debug(rt.alloc(), &mut reader, &mut writer, files);
-    assert!(rt; result == Ok(()));
-    assert!(rt; writer.written() == wanted);
+    assert!(rt; result == Ok(()) && writer.written() == wanted);
 }
 
 #[test]

@@ -7,13 +7,14 @@ use crate::loaded::{
 };
 use crate::places::assert_at;
 use cbpf_code::{WriteFault, write_bytes, write_c, write_words};
-use cbpf_dbg::{Meter, RunReply};
+use cbpf_dbg::{MarkTrail, Meter, RunReply, Session};
 use cbpf_text::write_listing;
 use cbpf_tool::{Form, ToolFault, asm, debug};
 use std::io::ErrorKind;
+use std::process::Abort;
 
 /// How a write goes wrong.
-const FAULTS: [(Fault, ErrorKind); 4] = [
+static FAULTS: [(Fault, ErrorKind); 4] = [
     (Fault::Fails, ErrorKind::Other),
     (Fault::Fails, ErrorKind::Interrupted),
     (Fault::Fails, ErrorKind::OutOfMemory),
@@ -101,7 +102,7 @@ enum Call {
     Debug(&'static [u8]),
 }
 
-const CALLS: [(Call, &[u8]); 10] = [
+static CALLS: [(Call, &[u8]); 10] = [
     (Call::Bytes, ARP),
     (
         Call::Words(ICMP_WORDS),
@@ -147,13 +148,21 @@ fn write_program(
     }
 }
 
-fn write_first_stop(rt: &impl Test, w: &mut FaultyWriter<2048>) -> Result<(), WriteFault> {
-    let mut session = session_of(rt.alloc(), ICMP_WORDS).expect(rt, "the session");
-    assert!(rt; session.breakpoint(1) == Ok(()));
+fn write_next_stop(
+    rt: &impl Abort,
+    session: &mut Session<MarkTrail>,
+    w: &mut FaultyWriter<2048>,
+) -> Result<(), WriteFault> {
     match session.run(&mut Meter::new(), None) {
         Ok(RunReply::Stopped(stop)) => session.write_stop(w, &stop),
         _ => panic!(rt; "no stop"),
     }
+}
+
+fn write_first_stop(rt: &impl Test, w: &mut FaultyWriter<2048>) -> Result<(), WriteFault> {
+    let mut session = session_of(rt.alloc(), ICMP_WORDS).expect(rt, "the session");
+    assert!(rt; session.breakpoint(1) == Ok(()));
+    write_next_stop(rt, &mut session, w)
 }
 
 fn write_replies(
@@ -188,18 +197,20 @@ fn write(rt: &impl Test, call: Call, w: &mut FaultyWriter<2048>) -> Result<(), T
 fn none_goes_wrong(rt: &impl Test, call: Call, text: &[u8]) {
     let mut writer = FaultyWriter::new(Fault::Fails, 0);
     let answer = write(rt, call, &mut writer);
-    assert_at(rt, answer == Ok(()), "the answer", call);
-    assert_at(rt, writer.written() == text, "the text", call);
-    assert_at(rt, writer.calls() == text.len() as u64, "the writes", call);
+    let is_wanted = answer == Ok(())
+        && writer.written() == text
+        && writer.calls() == text.len() as u64;
+    assert_at(rt, is_wanted, "the text and its writes", call);
 }
 
 /// A write goes wrong after these bytes.
 fn goes_wrong(rt: &impl Test, call: Call, text: &[u8], writer: &mut FaultyWriter<2048>) {
     let i = text.len();
     let result = write(rt, call, writer);
-    assert_at(rt, result == Err(ToolFault::Write), "the fault", (call, i));
-    assert_at(rt, writer.written() == text, "the text", (call, i));
-    assert_at(rt, writer.calls() == i as u64 + 1, "the writes", (call, i));
+    let is_wanted = result == Err(ToolFault::Write)
+        && writer.written() == text
+        && writer.calls() == i as u64 + 1;
+    assert_at(rt, is_wanted, "the fault after the writes", (call, i));
 }
 
 /// One write after another goes wrong.
@@ -212,8 +223,8 @@ fn each_goes_wrong(rt: &impl Test, call: Call, text: &[u8], fault: Fault, kind: 
 }
 
 fn each_fault(rt: &impl Test, call: Call, text: &[u8]) {
-    for (fault, kind) in FAULTS {
-        each_goes_wrong(rt, call, text, fault, kind);
+    for (fault, kind) in &FAULTS {
+        each_goes_wrong(rt, call, text, *fault, *kind);
     }
 }
 

@@ -1,5 +1,6 @@
 // What was asked for of an allocator is given back: by loads that take the place of others, by refused loads,
 // by breakpoints that are set and taken out, and by what is dropped.
+use crate::assertions::Test;
 use crate::fault_injection::FaultyAllocator;
 use crate::loaded::{
     ARP, HEADER, ICMP_WORDS, RECORD, STRAIGHT, program_of, repeated, two_packets, two_packets_as_k,
@@ -81,14 +82,20 @@ enum Call {
     Source(&'static [u8]),
 }
 
+fn is_program_refused<A: Allocator>(rt: &impl Abort, alloc: A, text: &[u8]) -> bool {
+    check(read_words(alloc, text).expect(rt, "the list")).is_err()
+}
+
+fn is_capture_refused<A: Allocator + Copy>(rt: &impl Abort, alloc: A, bytes: &[u8]) -> bool {
+    let bytes = Vec::from_slice(alloc, bytes).expect(rt, "the bytes");
+    Capture::from_bytes(alloc, bytes).is_err()
+}
+
 fn is_refused<A: Allocator + Copy>(rt: &impl Abort, alloc: A, call: Call) -> bool {
     match call {
         Call::Words(text) => read_words(alloc, text).is_err(),
-        Call::Program(text) => check(read_words(alloc, text).expect(rt, "the list")).is_err(),
-        Call::Capture(bytes) => {
-            let bytes = Vec::from_slice(alloc, bytes).expect(rt, "the bytes");
-            Capture::from_bytes(alloc, bytes).is_err()
-        }
+        Call::Program(text) => is_program_refused(rt, alloc, text),
+        Call::Capture(bytes) => is_capture_refused(rt, alloc, bytes),
         Call::Tokens(source) => tokens(alloc, source).is_err(),
         Call::Source(source) => assemble(alloc, source).is_err(),
     }
@@ -123,18 +130,19 @@ fn answers_and_refusals(rt: HostRuntime) {
     }
 }
 
+/// Whether a file is loaded. Its bytes go.
+fn is_loaded<F: Files>(files: &mut F, alloc: &FaultyAllocator<Global>, name: &str) -> bool {
+    files.load(alloc, name).is_ok()
+}
+
 #[test]
 fn loads_of_files(rt: HostRuntime) {
     let counting = FaultyAllocator::new(rt.alloc(), 0);
-    assert!(rt;
-        DiskFiles::new(&rt)
-            .load(&counting, "/proc/self/status")
-            .is_ok()
-    );
+    assert!(rt; is_loaded(&mut DiskFiles::new(&rt), &counting, "/proc/self/status"));
     assert!(rt; counting.asked() > 0 && counting.held() == 0);
     let mut files = two_packets_as_k(&rt);
-    assert!(rt; files.load(&counting, "k").is_ok());
-    assert!(rt; files.load(&counting, "absent").is_err());
+    assert!(rt; is_loaded(&mut files, &counting, "k"));
+    assert!(rt; !is_loaded(&mut files, &counting, "absent"));
     assert!(rt; counting.held() == 0);
 }
 
@@ -188,6 +196,15 @@ impl<'a> Read for NotingReader<'a> {
     }
 }
 
+/// Runs the script over the capture of two packets, and a file that is none.
+fn run(rt: &impl Test, reader: &mut NotingReader<'_>) {
+    let mut files = two_packets_as_k(rt);
+    let bad = Vec::from_slice(rt.alloc(), RECORD).expect(rt, "the bytes");
+    assert!(rt; files.put("bad", bad).is_ok());
+    let mut replies = Vec::new(rt.alloc());
+    assert!(rt; debug(reader.counting, reader, &mut replies, &mut files) == Ok(()));
+}
+
 #[test]
 fn commands_of_a_script(rt: HostRuntime) {
     let counting = FaultyAllocator::new(rt.alloc(), 0);
@@ -197,13 +214,8 @@ fn commands_of_a_script(rt: HostRuntime) {
         held: 0,
         differing: 0,
     };
-    let mut files = two_packets_as_k(&rt);
-    let bad = Vec::from_slice(rt.alloc(), RECORD).expect(&rt, "the bytes");
-    assert!(rt; files.put("bad", bad).is_ok());
-    let mut replies = Vec::new(rt.alloc());
-    assert!(rt; debug(&counting, &mut reader, &mut replies, &mut files) == Ok(()));
-    assert!(rt; reader.reads == 120 && reader.held > 0);
-    assert!(rt; reader.differing == 0);
+    run(&rt, &mut reader);
+    assert!(rt; reader.reads == 120 && reader.held > 0 && reader.differing == 0);
     assert!(rt; counting.held() == 0);
 }
 

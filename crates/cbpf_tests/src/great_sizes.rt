@@ -49,8 +49,7 @@ fn are_both_of_each(rt: &impl Abort, stops: &[Stop]) {
 #[test]
 fn a_run_to_the_end_with_5000_stops(rt: HostRuntime) {
     let mut session = session_of_2500(&rt);
-    assert!(rt; session.breakpoint(0) == Ok(()));
-    assert!(rt; session.breakpoint(20) == Ok(()));
+    assert!(rt; session.breakpoint(0) == Ok(()) && session.breakpoint(20) == Ok(()));
     let mut stops = Vec::new(rt.alloc());
     run_to_end(&rt, &mut session, &mut stops);
     assert!(rt; stops.len() == 5000);
@@ -61,8 +60,8 @@ fn a_run_to_the_end_with_5000_stops(rt: HostRuntime) {
 fn two_million_tokens(rt: HostRuntime) {
     let source = repeated(&rt, b"", b"tax\n", 2000000, b"");
     let tokens = tokens(rt.alloc(), &source).expect(&rt, "the tokens");
-    assert!(rt; tokens.len() == 2000000);
-    assert!(rt; tokens[1999999].start == 7999996);
+    let last = tokens.last().expect(&rt, "a token");
+    assert!(rt; tokens.len() == 2000000 && last.start == 7999996);
 }
 
 /// A name of 300 bytes.

@@ -36,7 +36,7 @@ const INDEXED: &[u8] =
 const INDEXED_BY_AN_EXTENSION: &[u8] = b"3,1 0 0 4041,80 0 0 4294963256,22 0 0 0";
 
 /// Programs as word text, a packet's bytes and original length, and how the packet ends.
-const WORKED: &[(&[u8], &[u8], u32, Outcome)] = &[
+static WORKED: [(&[u8], &[u8], u32, Outcome); 19] = [
     (NEGATE, b"", 0, Pass(4294967295)),
     (SQUARE, b"\x08\x06", 60, Fail),
     (SHIFT_BY_32, b"\x08\x06", 60, Fail),
@@ -60,13 +60,16 @@ const WORKED: &[(&[u8], &[u8], u32, Outcome)] = &[
     (b"2,64 0 0 4294963256,22 0 0 0", b"\x08\x06", 2, Fail),
 ];
 
+fn outcome_of(rt: &impl Test, words: &[u8], packet: Packet<'_>) -> Outcome {
+    let p = of_words(rt.alloc(), words).expect(rt, "a program");
+    outcome(&p, packet, &Values::new())
+}
+
 #[test]
 fn worked_programs(rt: HostRuntime) {
     for (i, (words, bytes, wire, wanted)) in WORKED.iter().enumerate() {
-        let p = of_words(rt.alloc(), words).expect(&rt, "a program");
         let packet = Packet { bytes, wire: *wire };
-        let found = outcome(&p, packet, &Values::new());
-        assert_at(&rt, i, found == *wanted);
+        assert_at(&rt, i, outcome_of(&rt, words, packet) == *wanted);
     }
 }
 
@@ -74,7 +77,7 @@ const REGISTERS_AND_A_SLOT: &[u8] =
     b"7,1 0 0 9,3 0 0 5,97 0 0 5,135 0 0 0,53 0 1 10,6 0 0 0,22 0 0 0";
 
 /// Where its turns lead, and A, X and slot 5 there.
-const TURNS: [(u32, u32, u32, u32); 5] = [
+static TURNS: [(u32, u32, u32, u32); 5] = [
     (1, 0, 9, 0),
     (2, 0, 9, 9),
     (3, 0, 9, 9),
@@ -91,15 +94,15 @@ fn turns_one_by_one(rt: HostRuntime) {
     let p = of_words(rt.alloc(), REGISTERS_AND_A_SLOT).expect(&rt, "a program");
     let mut meter = Meter::new();
     let mut s = State::zero();
-    for row in TURNS {
+    for (i, row) in TURNS.iter().enumerate() {
         s = next_state(&rt, &p, &mut meter, &s);
-        assert!(rt; is_at(&s, row));
+        assert_at(&rt, i, is_at(&s, *row));
     }
     assert!(rt; meter.spent() == 5);
 }
 
 /// Each extension, the place from which a load asks for it, and a value for it, where it takes one.
-const EXTENSIONS: [(Ext, u32, Option<u32>); 15] = [
+static EXTENSIONS: [(Ext, u32, Option<u32>); 15] = [
     (Ext::Proto, 4294963200, Some(4294967295)),
     (Ext::PktType, 4294963204, Some(2147483648)),
     (Ext::IfIdx, 4294963208, Some(65536)),
@@ -162,28 +165,28 @@ fn loads_so(rt: &impl Test, values: &Values, e: Ext, place: u32) -> bool {
 
 fn assert_loads_without_values(rt: &impl Test) {
     let none = Values::new();
-    for (e, place, _) in EXTENSIONS {
-        let is_wanted = none.value_of(e).is_none() && loads_so(rt, &none, e, place);
-        assert_at(rt, place as usize, is_wanted);
+    for (e, place, _) in &EXTENSIONS {
+        let is_wanted = none.value_of(*e).is_none() && loads_so(rt, &none, *e, *place);
+        assert_at(rt, *place as usize, is_wanted);
     }
 }
 
 /// Values for all extensions that take one.
 fn all_values(rt: &impl Abort) -> Values {
     let mut values = Values::new();
-    for (e, place, value) in EXTENSIONS {
-        let had_none = values.value_of(e).is_none();
-        let is_set = values.set(e, value.unwrap_or(1));
+    for (e, place, value) in &EXTENSIONS {
+        let had_none = values.value_of(*e).is_none();
+        let is_set = values.set(*e, value.unwrap_or(1));
         let is_wanted = had_none && is_set == value.is_some();
-        assert_at(rt, place as usize, is_wanted);
+        assert_at(rt, *place as usize, is_wanted);
     }
     values
 }
 
 fn assert_loads_with_values(rt: &impl Test, values: &Values) {
-    for (e, place, value) in EXTENSIONS {
-        let is_wanted = values.value_of(e) == value && loads_so(rt, values, e, place);
-        assert_at(rt, place as usize, is_wanted);
+    for (e, place, value) in &EXTENSIONS {
+        let is_wanted = values.value_of(*e) == *value && loads_so(rt, values, *e, *place);
+        assert_at(rt, *place as usize, is_wanted);
     }
 }
 

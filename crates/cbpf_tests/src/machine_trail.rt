@@ -186,7 +186,7 @@ fn begun_and_back<T: Trail>(
 
 /// The instruction that is watched, the entry to which the way goes back from there, and by how many turns
 /// where each 64th state is kept.
-const BACK: [(u32, u32, u128); 15] = [
+static BACK: [(u32, u32, u128); 15] = [
     (0, 1, 0),
     (1, 1, 0),
     (1, 2, 1),
@@ -206,7 +206,7 @@ const BACK: [(u32, u32, u128); 15] = [
 
 /// How many entries are kept, and the next instruction that is watched, which lies before where there is
 /// none.
-const ONWARD: [(u32, u32); 10] = [
+static ONWARD: [(u32, u32); 10] = [
     (1, 1),
     (1, 64),
     (1, 4095),
@@ -232,20 +232,24 @@ fn onward(count: u32, watched: u32) -> (Followed, u32, u128) {
     }
 }
 
+/// Whether following went on so.
+fn is_onward((followed, s, turns): (Followed, State, u128), count: u32, watched: u32) -> bool {
+    let (wanted, entry, most) = onward(count, watched);
+    followed == wanted && is_entry(&s, entry) && turns == most
+}
+
 fn check_back<T: Trail>(rt: &impl Test, trail: &mut T, p: &Program, keeps_all: bool) {
-    for (watched, to, turns) in BACK {
-        let (back, found) = begun_and_back(rt, trail, p, watched, to);
-        let wanted = if keeps_all { 0 } else { turns };
-        assert_at_both(rt, watched, to, is_entry(&back, to) && found == wanted);
+    for (watched, to, turns) in &BACK {
+        let (back, found) = begun_and_back(rt, trail, p, *watched, *to);
+        let wanted = if keeps_all { 0 } else { *turns };
+        assert_at_both(rt, *watched, *to, is_entry(&back, *to) && found == wanted);
     }
 }
 
 fn check_onward<T: Trail>(rt: &impl Test, trail: &mut T, p: &Program) {
-    for (count, watched) in ONWARD {
-        let (followed, s, turns) = filled_and_followed(rt, trail, p, count, watched);
-        let (wanted, entry, most) = onward(count, watched);
-        let is_wanted = followed == wanted && is_entry(&s, entry) && turns == most;
-        assert_at_both(rt, count, watched, is_wanted);
+    for (count, watched) in &ONWARD {
+        let found = filled_and_followed(rt, trail, p, *count, *watched);
+        assert_at_both(rt, *count, *watched, is_onward(found, *count, *watched));
     }
 }
 
@@ -297,9 +301,8 @@ fn check_from_before(rt: &impl Test, p: &Program, first: u32) -> State {
 /// Asserts the way from the first instruction that is watched to the second one, or to the end.
 fn check_on(rt: &impl Test, p: &Program, first: u32, second: u32) {
     let from = check_from_before(rt, p, first);
-    let (followed, s, turns) = followed_on(rt, p, from, second);
-    let (wanted, entry, most) = onward(first.saturating_add(1), second);
-    let is_wanted = followed == wanted && is_entry(&s, entry) && turns == most;
+    let found = followed_on(rt, p, from, second);
+    let is_wanted = is_onward(found, first.saturating_add(1), second);
     assert_at_both(rt, first, second, is_wanted);
 }
 
@@ -313,7 +316,7 @@ fn keeps_the_state(alloc: Global, p: &Program, from: State) -> bool {
 }
 
 /// The instructions that are watched, first and then.
-const FIRST_AND_SECOND: [(u32, u32); 13] = [
+static FIRST_AND_SECOND: [(u32, u32); 13] = [
     (0, 1),
     (0, 63),
     (0, 64),
@@ -332,8 +335,8 @@ const FIRST_AND_SECOND: [(u32, u32); 13] = [
 #[test]
 fn a_packet_is_followed_with_no_trail(rt: HostRuntime) {
     let p = counting(&rt);
-    for (first, second) in FIRST_AND_SECOND {
-        check_on(&rt, &p, first, second);
+    for (first, second) in &FIRST_AND_SECOND {
+        check_on(&rt, &p, *first, *second);
     }
     assert!(rt; keeps_the_state(rt.alloc(), &p, check_from_before(&rt, &p, 1)));
 }

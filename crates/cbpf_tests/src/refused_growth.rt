@@ -29,7 +29,7 @@ type Row = (&'static [u8], &'static [u8], u64, &'static [Refused]);
 /// A growth, and what is written where it is refused.
 type Refused = (u64, &'static [u8]);
 
-const SCRIPTS: [Row; 5] = [
+static SCRIPTS: [Row; 5] = [
     (
         LOADS,
         COUNTS,
@@ -108,12 +108,11 @@ fn after_refusal(
     row: usize,
     nth: u64,
 ) {
-    let is_known = matches!(answer, Ok(()) | Err(ToolFault::Memory));
-    assert_at(rt, is_known, "success or no memory", (row, nth));
-    if let Some(text) = wanted {
-        assert_at(rt, answer == Ok(()), "the answer", (row, nth));
-        assert_at(rt, written == text, "the text", (row, nth));
-    }
+    let is_wanted = match wanted {
+        Some(text) => answer == Ok(()) && written == text,
+        None => matches!(answer, Ok(()) | Err(ToolFault::Memory)),
+    };
+    assert_at(rt, is_wanted, "the answer and the text", (row, nth));
 }
 
 /// Each growth of a script is refused, one after another.
@@ -125,8 +124,8 @@ fn each_is_refused(rt: &impl Test, script: &Row, row: usize) {
         }
         growths = nth;
     }
-    let least = script.2;
-    assert!(rt; least <= growths && growths < 99, "row {row}: {growths}");
+    let are_wanted = script.2 <= growths && growths < 99;
+    assert_at(rt, are_wanted, "the number of growths", (row, growths));
 }
 
 // Out of memory is a fault of the script, or the reply to a line, and neither comes of itself.

@@ -2,6 +2,7 @@
 use crate::assertions::Test;
 use crate::fault_injection::FaultyReader;
 use crate::loaded::{HEADER, RECORD, program_of, repeated};
+use crate::places::assert_at;
 use cbpf_code::read_words;
 use cbpf_dbg::{MarkTrail, Session, SessionFault, When};
 use cbpf_text::{assemble, tokens, write_listing};
@@ -15,8 +16,7 @@ fn records(rt: &impl Test) {
         .ok()
         .expect(rt, "the capture");
     assert!(rt; capture.count() == 3000);
-    assert!(rt; capture.ending() == Ending::Whole);
-    assert!(rt; capture.item(2999).start == 50990);
+    assert!(rt; capture.ending() == Ending::Whole && capture.item(2999).start == 50990);
 }
 
 fn instructions(rt: &impl Test) {
@@ -96,13 +96,14 @@ fn set(session: &mut Session<MarkTrail>, n: u64, i: u32) -> Result<(), SessionFa
 fn set_each(rt: &impl Abort, session: &mut Session<MarkTrail>) {
     for i in 0..4096u32 {
         let n = u64::from(4095 - i);
-        assert!(rt; set(session, n, i) == Ok(()), "{n}");
+        assert_at(rt, set(session, n, i) == Ok(()), "a breakpoint", n);
     }
 }
 
 fn are_set(rt: &impl Abort, session: &Session<MarkTrail>) {
     for i in 0..4096u32 {
-        assert!(rt; session.breakpoint_at(i as usize) == Some(4095 - i), "{i}");
+        let is_set = session.breakpoint_at(i as usize) == Some(4095 - i);
+        assert_at(rt, is_set, "a breakpoint", i);
     }
 }
 

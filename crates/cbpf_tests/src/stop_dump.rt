@@ -111,7 +111,7 @@ fn dump_after_zeros(rt: &impl Test, zeros: usize) -> Vec<u8> {
 }
 
 /// How many bytes of 0 there are, and how the dump ends.
-const OFFSETS: [(usize, &[u8]); 4] = [
+static OFFSETS: [(usize, &[u8]); 4] = [
     (0, b"\n    0: 2a 00\n(breakpoint)\n"),
     (9984, b"\n 9984: 2a 00\n(breakpoint)\n"),
     (99984, b"\n99984: 2a 00\n(breakpoint)\n"),
@@ -120,8 +120,8 @@ const OFFSETS: [(usize, &[u8]); 4] = [
 
 #[test]
 fn offsets_are_right_in_five_places(rt: HostRuntime) {
-    for (zeros, end) in OFFSETS {
-        let text = dump_after_zeros(&rt, zeros);
-        assert_at(&rt, zeros, text.ends_with(end));
+    for (zeros, end) in &OFFSETS {
+        let text = dump_after_zeros(&rt, *zeros);
+        assert_at(&rt, *zeros, text.ends_with(end));
     }
 }

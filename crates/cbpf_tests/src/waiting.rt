@@ -167,11 +167,10 @@ fn check(
     };
     let made = if failing == 0 { wanted.len() } else { failing };
     let done = writer.progress.get();
-    assert_at(rt, outcome == answer, "the answer", place);
-    let are_made = wanted.get(..made) == Some(writer.flushes.as_slice());
-    assert_at(rt, are_made, "the flushes", place);
-    assert_at(rt, done.late == 0, "late replies", place);
-    assert_at(rt, done.flushed == done.written, "the flushed text", place);
+    let are_made = outcome == answer && wanted.get(..made) == Some(writer.flushes.as_slice());
+    assert_at(rt, are_made, "the answer and the flushes", place);
+    let is_in_time = done.late == 0 && done.flushed == done.written;
+    assert_at(rt, is_in_time, "late replies, and the flushed text", place);
 }
 
 /// A run over some lines, each in a read of its own, with a flush that fails or none (0).
