@@ -5,7 +5,7 @@ use Rattle.byteorder.specs.Endian.{big_number, little_number}
 use Rattle.pcap_classic.specs.declared.captured.Endianness.{Endianness}
 use Rattle.pcap_classic.specs.declared.captured.Endianness.TheVariants.{Big, Little}
 
--- the number in the n bytes from a place on; only the two calls that read one look into it
+-- the number in the n bytes from a place on
 unfoldable pub number_at : Endianness → ℕ → ℕ → List ℕ → ℕ
 number_at Big place n bytes = big_number n (drop place bytes)
 number_at Little place n bytes = little_number n (drop place bytes)
