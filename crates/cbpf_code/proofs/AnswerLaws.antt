@@ -27,6 +27,7 @@ use Rattle.cbpf_code.specs.WordTokens.{WordToken, run, single, tokens}
 use Rattle.cbpf_code.specs.WordText.{Due, count, next_due, range_of, token_fault, or_else, first_fault, fault_of}
 use Rattle.cbpf_code.specs.WordText.{count_of, list_of, Spells, Refused}
 use Rattle.cbpf_code.specs.Laws.{EachTextIsRead, EachListIsChecked}
+use Rattle.cbpf_code.proofs.WordAnswerLemmas.{as-refused}
 use Rattle.cbpf_code.proofs.PathLemmas.{reached-unwritten_at}
 use Rattle.cbpf_code.proofs.SoundLemmas.{known_or}
 use Rattle.cbpf_code.proofs.FaultLemmas.{first_fault-insn, first_fault-at_end, first_fault-slot}
@@ -274,9 +275,9 @@ each_text_is_read text = by (fault_of text) refl
     by (Some e) is = inr (
       e,
       (λ memory. first_fault-other count (length text) (tokens text) (is ∙ ap Some memory)),
-      inr (inl is),
+      as-refused text e (inl is),
     )
     by None is = elim (cases_eq (count_of text) (length (list_of text))) [
       | inl same ↦ inl (_, record { good = is; reads = refl; counted = same })
-      | inr differs ↦ inr (_, (λ h. cc), inr (inr (record { good = is; differs = differs; fault = refl })))
+      | inr differs ↦ inr (_, (λ h. cc), inr (record { good = is; differs = differs; fault = refl }))
     ]

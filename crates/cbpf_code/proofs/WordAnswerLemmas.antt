@@ -1,6 +1,6 @@
 -- The answer of the reader is one: a text that spells a list is refused only when out of memory,
 -- and a text has one fault at most.
-use Rattle.std.proofs.Common.{◌≡◌, ◌≢◌, ℕ, ◌⊎◌, inl, inr, List, length, sym, ◌∙◌, ap, Some}
+use Rattle.std.proofs.Common.{◌≡◌, ◌≢◌, ℕ, ◌⊎◌, inl, inr, List, length, sym, ◌∙◌, ap, Some, tt}
 use Rattle.cbpf_code.specs.WordText.{Spells, Miscounts, Refused, fault_of}
 use Rattle.cbpf_code.specs.declared.insn.Insn.{Insn}
 use Rattle.cbpf_code.specs.declared.words.WordFault.{WordFault}
@@ -13,25 +13,49 @@ spells-once text list other a b = b.reads ∙ sym a.reads
 abbrev pub Faulty : List ℕ → WordFault → Type 0
 Faulty text e = (fault_of text ≡ Some e) ⊎ Miscounts text e
 
-pub spells-faultless : (text : List ℕ) (list : List Insn) (e : WordFault) → Spells text list → Faulty text e → ⊥
+spells-faultless : (text : List ℕ) (list : List Insn) (e : WordFault) → Spells text list → Faulty text e → ⊥
 spells-faultless text list e spells (inl fault) = let none = spells.good in absurd (cc)
 spells-faultless text list e spells (inr m) = m.differs (spells.counted ∙ ap length spells.reads)
 
-pub faulty-once : (text : List ℕ) (e f : WordFault) → Faulty text e → Faulty text f → f ≡ e
+faulty-once : (text : List ℕ) (e f : WordFault) → Faulty text e → Faulty text f → f ≡ e
 faulty-once text e f (inl a) (inl b) = cc
 faulty-once text e f (inr a) (inr b) = b.fault ∙ sym a.fault
 faulty-once text e f (inl a) (inr b) = let none = b.good in absurd (cc)
 faulty-once text e f (inr a) (inl b) = let none = a.good in absurd (cc)
 
+pub as-refused : (text : List ℕ) (e : WordFault) → Faulty text e → Refused text e
+as-refused text Memory faulty = tt
+as-refused text e faulty = faulty
+
+as-faulty : (text : List ℕ) (e : WordFault) → Refused text e → (e ≡ Memory) ⊎ Faulty text e
+as-faulty text Memory refused = inl refl
+as-faulty text e refused = inr refused
+
+pub spells-only : (text : List ℕ) (list : List Insn) (e : WordFault) → Spells text list → Refused text e → e ≡ Memory
+spells-only text list e spells refused = elim (as-faulty text e refused) [
+  | inl memory ↦ memory
+  | inr faulty ↦ absurd (spells-faultless text list e spells faulty)
+]
+
+pub refused-only : (text : List ℕ) (e f : WordFault) → f ≢ Memory → Refused text e → Refused text f
+    → (e ≡ Memory) ⊎ (e ≡ f)
+refused-only text e f other r s = elim (as-faulty text e r) [
+  | inl memory ↦ inl memory
+  | inr faulty ↦ elim (as-faulty text f s) [
+    | inl memory ↦ absurd (other memory)
+    | inr same ↦ inr (faulty-once text f e same faulty)
+  ]
+]
+
 pub spells-not_refused : (text : List ℕ) (list : List Insn) (e : WordFault) → Spells text list → e ≢ Memory
     → Refused text e → ⊥
-spells-not_refused text list e spells other (inl memory) = other memory
-spells-not_refused text list e spells other (inr faulty) = spells-faultless text list e spells faulty
+spells-not_refused text list e spells other refused = other (spells-only text list e spells refused)
 
 pub refused-once : (text : List ℕ) (e f : WordFault) → e ≢ Memory → f ≢ Memory → Refused text e
     → Refused text f → f ≡ e
-refused-once text e f one two (inl memory) s = absurd (one memory)
-refused-once text e f one two r (inl memory) = absurd (two memory)
-refused-once text e f one two (inr a) (inr b) = faulty-once text e f a b
+refused-once text e f one two r s = elim (refused-only text e f two r s) [
+  | inl memory ↦ absurd (one memory)
+  | inr same ↦ sym same
+]
 
-pub ruleset answers = (spells-once, spells-faultless, faulty-once)
+pub ruleset answers = (spells-once, spells-only, refused-only)

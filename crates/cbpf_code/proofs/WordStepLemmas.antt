@@ -4,6 +4,7 @@ use Rattle.std.proofs.Common.{refl, sym, ◌∙◌, ap, subst, arith, Some, None
 use Rattle.cbpf_code.specs.WordTokens.{tokens_after}
 use Rattle.cbpf_code.specs.WordText.{Due, count, count_comma, code, comma, end_fault, first_fault, numbers}
 use Rattle.cbpf_code.specs.WordText.{in_fours, list_of, Spells, Refused}
+use Rattle.cbpf_code.proofs.WordAnswerLemmas.{as-refused}
 use Rattle.cbpf_code.specs.WordSteps.{fault_from, PassesTokens, IsFaultAt, IsRead, IsReadWhole, fields_of}
 use Rattle.cbpf_code.specs.declared.insn.Insn.{Insn}
 use Rattle.cbpf_code.specs.declared.words.WordFault.TheVariants.{NumberExpected, CountDiffers, CommaExpected}
@@ -75,15 +76,16 @@ whole-miscounts text n list w differs = grind (arith, whole-list)
 
 pub stops-first : (text : List ℕ) (e : WordFault) → IsFaultAt text count 0 e (NumberExpected (length text))
     → Refused text e
-stops-first text e (inl h) = inr (inl h)
-stops-first text e (inr h) = inr (inl (ap (first_fault count (length text)) h.0 ∙ ap Some (sym h.1)))
+stops-first text e (inl h) = as-refused text e (inl h)
+stops-first text e (inr h) =
+    as-refused text e (inl (ap (first_fault count (length text)) h.0 ∙ ap Some (sym h.1)))
 
 pub stops-count : (text : List ℕ) (n a : ℕ) (e : WordFault) → PassesTokens text count 0 (n ∷ []) count_comma a
     → IsFaultAt text count_comma a e (CommaExpected (length text)) → Refused text e
-stops-count text n a e x s = inr (inl (stops-then x s (λ none. refl)))
+stops-count text n a e x s = as-refused text e (inl (stops-then x s (λ none. refl)))
 
 pub stops-fields : (text : List ℕ) (n : ℕ) (list : List Insn) (at : ℕ) (e : WordFault) → IsRead text n list at
     → (tokens_after text at ≡ [] → ⊥) → IsFaultAt text code at e (NumberExpected (length text)) → Refused text e
-stops-fields text n list at e r some s = inr (inl (stops-then r s (λ none. absurd (some none))))
+stops-fields text n list at e r some s = as-refused text e (inl (stops-then r s (λ none. absurd (some none))))
 
 pub ruleset reading = (stops-first, stops-count, stops-fields, whole-spells, whole-miscounts)

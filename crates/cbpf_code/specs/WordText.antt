@@ -1,6 +1,6 @@
 -- Word text: a count, a comma, and for each instruction its four numbers and a comma, of which the last may be missing.
 use Rattle.std.specs.Prelude.{◌≡◌, ◌≢◌, ℕ, ◌^◌, ◌⊎◌, ◌==◌, nat_lt, if◌then◌else◌, List, [], ◌∷◌, length, drop}
-use Rattle.std.specs.Prelude.{slice_index, Option, Some, None}
+use Rattle.std.specs.Prelude.{slice_index, Option, Some, None, Unit}
 use Rattle.cbpf_code.specs.WordTokens.{WordToken, run, single, tokens, decimal_value}
 use Rattle.cbpf_code.specs.declared.insn.Insn.{Insn}
 use Rattle.cbpf_code.specs.declared.words.WordFault.{WordFault}
@@ -89,6 +89,7 @@ pub record Miscounts (text : List ℕ) (e : WordFault) : Type 0 where
   pub differs : count_of text ≢ length (list_of text)
   pub fault : e ≡ CountDiffers (count_of text) (length (list_of text))
 
--- `read_words` refuses the text by this fault
+-- the fault that the text has; out of memory says nothing
 abbrev pub Refused : List ℕ → WordFault → Type 0
-Refused text e = (e ≡ Memory) ⊎ (fault_of text ≡ Some e) ⊎ Miscounts text e
+Refused text Memory = Unit {0}
+Refused text e = (fault_of text ≡ Some e) ⊎ Miscounts text e
