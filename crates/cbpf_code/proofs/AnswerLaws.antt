@@ -13,7 +13,7 @@ use Rattle.cbpf_code.specs.declared.checker.CheckFault.TheVariants.{NoInstructio
 use Rattle.cbpf_code.specs.declared.checker.CheckFault.TheVariants.{ZeroDivisor, WideShift, JumpOutside}
 use Rattle.cbpf_code.specs.declared.checker.CheckFault.TheVariants.{UnknownExtension, NoReturn, UnwrittenSlot}
 use Rattle.cbpf_code.specs.declared.words.WordFault.{WordFault}
-use Rattle.cbpf_code.specs.declared.words.WordFault.TheVariants.{Memory}
+use Rattle.cbpf_code.specs.declared.words.WordFault.TheVariants.{Memory, CountDiffers}
 use Rattle.cbpf_code.specs.Opcode.{op_of}
 use Rattle.cbpf_code.specs.ControlFlow.{InsnAt, CanFollowCode, IsSuccessor, StoresSlot, MayBeUnwritten, loads_slot}
 use Rattle.cbpf_code.specs.ControlFlow.{stores_slot}
@@ -28,10 +28,10 @@ use Rattle.cbpf_code.specs.WordText.{Due, count, next_due, range_of, token_fault
 use Rattle.cbpf_code.specs.WordText.{count_of, list_of, Spells, Refused}
 use Rattle.cbpf_code.specs.Laws.{EachTextIsRead, EachListIsChecked}
 use Rattle.cbpf_code.proofs.WordAnswerLemmas.{as-refused}
-use Rattle.cbpf_code.proofs.PathLemmas.{reached-unwritten_at}
+use Rattle.cbpf_code.proofs.PathLemmas.{reached-unwritten_at, first_fault-slot, sound_of}
 use Rattle.cbpf_code.proofs.SoundLemmas.{known_or}
-use Rattle.cbpf_code.proofs.FaultLemmas.{first_fault-insn, first_fault-at_end, first_fault-slot}
-use Rattle.cbpf_code.proofs.FaultLemmas.{passes_before-start, passes_before-next, well_formed-at_end, sound_of}
+use Rattle.cbpf_code.proofs.FaultLemmas.{first_fault-insn, first_fault-at_end}
+use Rattle.cbpf_code.proofs.FaultLemmas.{passes_before-start, passes_before-next, well_formed-at_end}
 
 -- ---- what is decided
 
@@ -279,5 +279,9 @@ each_text_is_read text = by (fault_of text) refl
     )
     by None is = elim (cases_eq (count_of text) (length (list_of text))) [
       | inl same ↦ inl (_, record { good = is; reads = refl; counted = same })
-      | inr differs ↦ inr (_, (λ h. cc), inr (record { good = is; differs = differs; fault = refl }))
+      | inr differs ↦ inr (
+        CountDiffers (count_of text) (length (list_of text)),
+        (λ h. cc),
+        inr (record { good = is; differs = differs; fault = refl }),
+      )
     ]

@@ -1,18 +1,22 @@
--- Faults of a list, from the passes that look for them.
-use Rattle.std.proofs.Common.{◌≡◌, ℕ, ◌+◌, ◌-◌, ◌<◌, ◌≤◌, List, length, get_or, arith, subst, inl, inr}
-use Rattle.std.specs.Prelude.{Some, slice_get}
+-- Faults of a list, from the passes that look for them, and that the first one is one.
+use Rattle.std.proofs.Common.{◌≡◌, ℕ, ◌+◌, ◌-◌, ◌<◌, ◌≤◌, List, length, get_or, arith, subst, inl, refl}
+use Rattle.std.specs.Prelude.{Option, Some, None, IsTrue, slice_get, ◌==◌, if◌then◌else◌}
 use Rattle.std.proofs.lemmas.Bool.{cases_eq, cases_lt}
 use Rattle.std.proofs.lemmas.Option.{slice_get_within, slice_get-get_or}
 use Rattle.cbpf_code.specs.declared.insn.Insn.{Insn}
 use Rattle.cbpf_code.specs.declared.opcode.Op.{Op}
+use Rattle.cbpf_code.specs.declared.opcode.Op.TheVariants.{LdAbs, LdMem, Alu, Ja, Jump}
+use Rattle.cbpf_code.specs.declared.opcode.AluOp.TheVariants.{Div, Mod, Lsh, Rsh}
+use Rattle.cbpf_code.specs.declared.opcode.Src.TheVariants.{K}
 use Rattle.cbpf_code.specs.declared.checker.TheConstants.{MAX_INSTRUCTIONS}
 use Rattle.cbpf_code.specs.declared.checker.CheckFault.{CheckFault}
-use Rattle.cbpf_code.specs.declared.checker.CheckFault.TheVariants.{NoInstruction, TooMany, UnknownCode}
-use Rattle.cbpf_code.specs.declared.checker.CheckFault.TheVariants.{NoReturn, UnwrittenSlot}
+use Rattle.cbpf_code.specs.declared.checker.CheckFault.TheVariants.{NoInstruction, TooMany, UnknownCode, NoSlot}
+use Rattle.cbpf_code.specs.declared.checker.CheckFault.TheVariants.{ZeroDivisor, WideShift, JumpOutside}
+use Rattle.cbpf_code.specs.declared.checker.CheckFault.TheVariants.{UnknownExtension, NoReturn, UnwrittenSlot}
 use Rattle.cbpf_code.specs.Opcode.{op_of}
-use Rattle.cbpf_code.specs.ControlFlow.{InsnAt}
-use Rattle.cbpf_code.specs.Faults.{IsReturn, InsnHasFault, HasFault, FirstFault, rank, index_of}
-use Rattle.cbpf_code.specs.Sound.{IsSound}
+use Rattle.cbpf_code.specs.ControlFlow.{InsnAt, IsTarget}
+use Rattle.cbpf_code.specs.Faults.{IsReturn, InsnHasFault, HasFault, FirstFault, rank, index_of, uses_slot}
+use Rattle.cbpf_code.specs.Faults.{divides_by_k, shifts_by_k, loads_absolute}
 use Rattle.cbpf_code.specs.CheckSteps.{PassesBefore, IsWellFormed, IsAllowed, AllowedAt}
 
 pub insn_at-same : (list : List Insn) (i : ℕ) (Has : Op → Insn → Type 0) (insn : Insn) (op : Op) → InsnAt list i Has
@@ -99,24 +103,75 @@ pub first_fault-at_end : (list : List Insn) (i : ℕ) → PassesBefore list i �
     → (IsReturn (get_or list (length list - 1) zero_insn) → ⊥) → FirstFault list NoReturn
 first_fault-at_end list i passed all never = grind (arith, slice_get-last, passes_all-excludes)
 
-unwritten_only : (list : List Insn) (i : ℕ) (f : CheckFault) → ((j : ℕ) → j < i → HasFault list (UnwrittenSlot j) → ⊥)
-    → rank f ≡ 4 → index_of f < i → HasFault list f → ⊥
-unwritten_only list i (UnwrittenSlot j) none g p st = none j p st
-unwritten_only list i _ none g p st = absurd (omega arith)
+-- ---- an instruction has at most one of the faults C3 to C8, so the first fault of a list is one
 
-pub first_fault-slot : (list : List Insn) (i : ℕ) → IsWellFormed list → HasFault list (UnwrittenSlot i)
-    → ((j : ℕ) → j < i → HasFault list (UnwrittenSlot j) → ⊥) → FirstFault list (UnwrittenSlot i)
-first_fault-slot list i formed st none = record {
-  present = st;
-  none_earlier = λ f earlier there. elim earlier [
-    | inl h ↦ formed.none f h there
-    | inr h ↦ unwritten_only list i f none h.0 h.1 there
-  ];
-}
+-- the one fault of C4 to C8 that an operation can be refused by, where there is one
+abbrev fault_for : Op → ℕ → CheckFault
+fault_for op i =
+    if uses_slot op then NoSlot i else if divides_by_k op then ZeroDivisor i else if shifts_by_k op then WideShift i
+    else if loads_absolute op then UnknownExtension i else JumpOutside i
 
-pub sound_of : (list : List Insn) → IsWellFormed list → ((j : ℕ) → HasFault list (UnwrittenSlot j) → ⊥) → IsSound list
-sound_of list formed none = record { none = by }
-  where
-    by : (f : CheckFault) → HasFault list f → ⊥
-    by (UnwrittenSlot i) has = none i has
-    by f has = formed.none f (omega arith) has
+-- C3 to C8: the one fault that a code can be refused by
+abbrev fault_by_code : Option Op → ℕ → CheckFault
+fault_by_code None i = UnknownCode i
+fault_by_code (Some op) i = fault_for op i
+
+for_slot : (op : Op) (i : ℕ) → IsTrue (uses_slot op) → fault_for op i ≡ NoSlot i
+for_slot LdMem i h = cc
+for_slot _ i h = cc
+
+for_divisor : (op : Op) (i : ℕ) → IsTrue (divides_by_k op) → fault_for op i ≡ ZeroDivisor i
+for_divisor (Alu Div K) i h = cc
+for_divisor (Alu Mod K) i h = cc
+for_divisor _ i h = cc
+
+for_shift : (op : Op) (i : ℕ) → IsTrue (shifts_by_k op) → fault_for op i ≡ WideShift i
+for_shift (Alu Lsh K) i h = cc
+for_shift (Alu Rsh K) i h = cc
+for_shift _ i h = cc
+
+for_target : (op : Op) (insn : Insn) (i t : ℕ) → IsTarget op insn i t → fault_for op i ≡ JumpOutside i
+for_target Ja insn i t h = refl
+for_target (Jump cond src) insn i t h = refl
+for_target _ insn i t h = absurd h
+
+for_extension : (op : Op) (i : ℕ) → IsTrue (loads_absolute op) → fault_for op i ≡ UnknownExtension i
+for_extension (LdAbs size) i h = refl
+for_extension _ i h = cc
+
+-- rank, index and the code there decide the fault
+abbrev fault_by : ℕ → ℕ → Option Op → CheckFault
+fault_by r i o =
+    if r == 2 then fault_by_code o i else if r == 0 then NoInstruction else if r == 1 then TooMany
+    else if r == 3 then NoReturn else UnwrittenSlot i
+
+abbrev code_at : List Insn → ℕ → Option Op
+code_at list i = op_of (get_or list i zero_insn).code
+
+known_at : (list : List Insn) (i : ℕ) (insn : Insn) (o : Option Op) → slice_get list i ≡ Some insn → op_of insn.code ≡ o
+    → code_at list i ≡ o
+known_at list i insn o here known =
+    let read = slice_get-get_or list i zero_insn (slice_get_within list i insn here) in
+    let same : get_or list i zero_insn ≡ insn = cc in
+    rw same known
+
+decided : (list : List Insn) (e : CheckFault) → HasFault list e
+    → fault_by (rank e) (index_of e) (code_at list (index_of e)) ≡ e
+decided list (UnknownCode i) has = rw (known_at list i has.0 _ has.1 has.2) refl
+decided list (NoSlot i) has = rw (known_at list i has.0 _ has.2 has.3) (for_slot has.1 i has.4.0)
+decided list (ZeroDivisor i) has = rw (known_at list i has.0 _ has.2 has.3) (for_divisor has.1 i has.4.0)
+decided list (WideShift i) has = rw (known_at list i has.0 _ has.2 has.3) (for_shift has.1 i has.4.0)
+decided list (JumpOutside i) has =
+    rw (known_at list i has.0 _ has.2 has.3) (for_target has.1 has.0 i has.4.0 has.4.1)
+decided list (UnknownExtension i) has = rw (known_at list i has.0 _ has.2 has.3) (for_extension has.1 i has.4.0)
+decided list _ has = refl
+
+-- two faults of one rank and index that a list has are the same
+same_place : (list : List Insn) (e f : CheckFault) → rank e ≡ rank f → index_of e ≡ index_of f → HasFault list e
+    → HasFault list f → e ≡ f
+same_place list e f ranks indexes has_e has_f = grind (arith, decided)
+
+pub first_fault-unique : (list : List Insn) (e f : CheckFault) → FirstFault list e → FirstFault list f → f ≡ e
+first_fault-unique list e f one two = grind (arith, same_place)
+
+pub ruleset unique = (first_fault-unique)

@@ -1,7 +1,6 @@
 pub mod AnswerLaws
 pub mod DigitLemmas
 pub mod FaultLemmas
-pub mod FirstFaultLemmas
 pub mod HexLemmas
 pub mod NameLemmas
 pub mod PathLemmas

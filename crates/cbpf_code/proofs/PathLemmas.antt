@@ -9,13 +9,16 @@ use Rattle.std.proofs.Math.ListN.{length-set, length-replicate, get_or-eq_defaul
 use Rattle.cbpf_code.specs.declared.insn.Insn.{Insn}
 use Rattle.cbpf_code.specs.declared.opcode.Op.{Op}
 use Rattle.cbpf_code.specs.declared.opcode.Op.TheVariants.{LdMem, St}
+use Rattle.cbpf_code.specs.declared.checker.CheckFault.{CheckFault}
 use Rattle.cbpf_code.specs.declared.checker.CheckFault.TheVariants.{UnwrittenSlot}
 use Rattle.cbpf_code.specs.declared.checker.TheConstants.{MAX_INSTRUCTIONS, SLOTS}
 use Rattle.cbpf_code.specs.Opcode.{op_of}
 use Rattle.cbpf_code.specs.ControlFlow.{CanFollow, IsSuccessor, StoresSlot, MayBeUnwritten}
 use Rattle.cbpf_code.specs.ControlFlow.{loads_slot, stores_slot}
 use Rattle.cbpf_code.specs.ControlFlow.MayBeUnwritten.{at_start, onward}
-use Rattle.cbpf_code.specs.Faults.{uses_slot, HasFault}
+use Rattle.cbpf_code.specs.Faults.{uses_slot, HasFault, FirstFault, rank, index_of}
+use Rattle.cbpf_code.specs.Sound.{IsSound}
+use Rattle.cbpf_code.specs.CheckSteps.{IsWellFormed}
 use Rattle.cbpf_code.specs.SlotMasks.{InMask, InMaskOf, LeavesUnwritten, AddsToMasks}
 use Rattle.cbpf_code.proofs.FaultLemmas.{insn_at-same}
 
@@ -124,3 +127,27 @@ loads_use-slot _ h = cc
 pub stores_use-slot : (op : Op) → IsTrue (stores_slot op) → IsTrue (uses_slot op)
 stores_use-slot St h = cc
 stores_use-slot _ h = cc
+
+-- ---- faults of paths, which come last
+
+unwritten_only : (list : List Insn) (i : ℕ) (f : CheckFault) → ((j : ℕ) → j < i → HasFault list (UnwrittenSlot j) → ⊥)
+    → rank f ≡ 4 → index_of f < i → HasFault list f → ⊥
+unwritten_only list i (UnwrittenSlot j) none g p st = none j p st
+unwritten_only list i _ none g p st = absurd (omega arith)
+
+pub first_fault-slot : (list : List Insn) (i : ℕ) → IsWellFormed list → HasFault list (UnwrittenSlot i)
+    → ((j : ℕ) → j < i → HasFault list (UnwrittenSlot j) → ⊥) → FirstFault list (UnwrittenSlot i)
+first_fault-slot list i formed st none = record {
+  present = st;
+  none_earlier = λ f earlier there. elim earlier [
+    | inl h ↦ formed.none f h there
+    | inr h ↦ unwritten_only list i f none h.0 h.1 there
+  ];
+}
+
+pub sound_of : (list : List Insn) → IsWellFormed list → ((j : ℕ) → HasFault list (UnwrittenSlot j) → ⊥) → IsSound list
+sound_of list formed none = record { none = by }
+  where
+    by : (f : CheckFault) → HasFault list f → ⊥
+    by (UnwrittenSlot i) has = none i has
+    by f has = formed.none f (omega arith) has

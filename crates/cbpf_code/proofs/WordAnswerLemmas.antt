@@ -1,6 +1,6 @@
 -- The answer of the reader is one: a text that spells a list is refused only when out of memory,
 -- and a text has one fault at most.
-use Rattle.std.proofs.Common.{◌≡◌, ◌≢◌, ℕ, ◌⊎◌, inl, inr, List, length, sym, ◌∙◌, ap, Some, tt}
+use Rattle.std.proofs.Common.{◌≡◌, ◌≢◌, ℕ, ◌⊎◌, inl, inr, List, length, sym, ◌∙◌, ap, Some, refl}
 use Rattle.cbpf_code.specs.WordText.{Spells, Miscounts, Refused, fault_of}
 use Rattle.cbpf_code.specs.declared.insn.Insn.{Insn}
 use Rattle.cbpf_code.specs.declared.words.WordFault.{WordFault}

@@ -1,6 +1,6 @@
 -- Word text: a count, a comma, and for each instruction its four numbers and a comma, of which the last may be missing.
 use Rattle.std.specs.Prelude.{◌≡◌, ◌≢◌, ℕ, ◌^◌, ◌⊎◌, ◌==◌, nat_lt, if◌then◌else◌, List, [], ◌∷◌, length, drop}
-use Rattle.std.specs.Prelude.{slice_index, Option, Some, None, Unit}
+use Rattle.std.specs.Prelude.{slice_index, Option, Some, None}
 use Rattle.cbpf_code.specs.WordTokens.{WordToken, run, single, tokens, decimal_value}
 use Rattle.cbpf_code.specs.declared.insn.Insn.{Insn}
 use Rattle.cbpf_code.specs.declared.words.WordFault.{WordFault}

@@ -12,7 +12,7 @@ use crate::extension::{FIRST_EXTENSION, ext_at};
 use crate::insn::Insn;
 use crate::opcode::{AluOp, Op, Src, op_of};
 use crate::program::Program;
-use crate::slots::first_unwritten;
+use crate::slots::path_fault;
 use std::alloc::Allocator;
 
 /// How many instructions a program has at most: the kernel's `BPF_MAXINSNS`.
@@ -54,7 +54,7 @@ pub enum CheckFault {
 ///
 /// The first fault of the list, and the list as it was. C1 and C2 come first, then by instruction
 /// from 0 the one of C3 to C8 that it has, then C9, then C10 with the least index.
-#[tactic(auto, using(crate::proofs::FirstFaultLemmas::unique))]
+#[tactic(auto, using(crate::proofs::FaultLemmas::unique))]
 pub fn check<A: Allocator>(list: Vec<Insn, A>) -> Result<Program<A>, (CheckFault, Vec<Insn, A>)>
     ensures accepts { IsOk result ↔ IsSound list.items }
     ensures same { IfOk result (λ p. p ≡ list.items) }
@@ -91,7 +91,7 @@ fn first_fault(list: &[Insn]) -> Option<CheckFault>
         }
     }
     match op_of(list[list.len() - 1].code) {
-        Some(Op::RetK | Op::RetA) => Some(CheckFault::UnwrittenSlot(first_unwritten(list)?)),
+        Some(Op::RetK | Op::RetA) => path_fault(list),
         _ => Some(CheckFault::NoReturn),
     }
 }

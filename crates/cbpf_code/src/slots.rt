@@ -1,24 +1,23 @@
 ghost use Rattle.std.specs.Prelude.{◌≡◌, ◌<◌, ◌≤◌, ◌+◌, ◌↔◌, ◌⊎◌, ℕ, Some, length, slice_get, slice_index};
 ghost use Rattle.std.specs.Prelude.{MatchOption, IsTrue};
 ghost use Rattle.cbpf_code.specs.ControlFlow as flow;
-ghost use Rattle.cbpf_code.specs.Faults.{HasFault};
+ghost use Rattle.cbpf_code.specs.Faults.{FirstFault};
+ghost use Rattle.cbpf_code.specs.Sound.{IsSound};
 ghost use Rattle.cbpf_code.specs.CheckSteps.{IsWellFormed};
 ghost use Rattle.cbpf_code.specs.SlotMasks.{AddsToMasks, InMask, LeavesUnwritten};
 ghost use Rattle.cbpf_code.specs.declared.checker.TheConstants.{SLOTS};
-ghost use Rattle.cbpf_code.specs.declared.checker.CheckFault.TheVariants.{UnwrittenSlot};
 
-use crate::checker::MAX_INSTRUCTIONS;
+use crate::checker::{CheckFault, MAX_INSTRUCTIONS};
 use crate::insn::Insn;
 use crate::opcode::{Op, op_of};
 
-/// The first instruction that loads a slot which some path to it leaves unwritten.
+/// The first fault of a path: an instruction loads a slot which some path to it leaves unwritten.
 ///
 /// Jumps only go forward, so one pass is enough: each instruction has a mask of the slots that some
 /// path to it leaves unwritten. No path gives an empty mask, as do paths that write all slots.
-pub(crate) fn first_unwritten(list: &[Insn]) -> Option<u32>
+pub(crate) fn path_fault(list: &[Insn]) -> Option<CheckFault>
     requires { IsWellFormed list.now }
-    ensures { MatchOption result ((j : ℕ) → HasFault list.now (UnwrittenSlot j) → ⊥)
-        (λ i. HasFault list.now (UnwrittenSlot i) × ((j : ℕ) → j < i → HasFault list.now (UnwrittenSlot j) → ⊥)) }
+    ensures { MatchOption result (IsSound list.now) (λ e. FirstFault list.now e) }
 {
     let mut unwritten = [0u16; MAX_INSTRUCTIONS];
     unwritten[0] = u16::MAX;
@@ -28,7 +27,7 @@ pub(crate) fn first_unwritten(list: &[Insn]) -> Option<u32>
             None => unreachable!(),
             Some(op) => {
                 if loads_any(op, insn, unwritten[i]) {
-                    return Some(i as u32);
+                    return Some(CheckFault::UnwrittenSlot(i as u32));
                 }
                 let left = still_unwritten(unwritten[i], op, insn);
                 propagate(&mut unwritten, i, op, insn, left);

@@ -3,7 +3,7 @@ use Rattle.std.proofs.Common.{◌≡◌, ℕ, length, List, [], ◌∷◌, ◌++
 use Rattle.std.proofs.Common.{refl, sym, ◌∙◌, ap, subst, append_assoc}
 use Rattle.std.specs.FinMap as map
 use Rattle.cbpf_code.proofs.WordAnswerLemmas.{spells-once, spells-not_refused, refused-once}
-use Rattle.cbpf_code.proofs.FirstFaultLemmas.{first_fault-unique}
+use Rattle.cbpf_code.proofs.FaultLemmas.{first_fault-unique}
 use Rattle.cbpf_code.proofs.AnswerLaws.{each_text_is_read, each_list_is_checked}
 use Rattle.cbpf_code.specs.declared.insn.Insn.{Insn}
 use Rattle.cbpf_tool.specs.Commands.{command_of}

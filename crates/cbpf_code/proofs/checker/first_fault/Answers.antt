@@ -2,8 +2,7 @@ use Rattle.std.proofs.Common.{rules, sym, ◌∙◌, refl}
 use Rattle.std.proofs.lemmas.List.Elements.{All-more}
 use Rattle.std.proofs.lemmas.Option.{slice_get-get_or}
 use Rattle.cbpf_code.specs.WordForm.{InRange}
-use Rattle.cbpf_code.specs.CheckSteps.{IsWellFormed}
-use Rattle.cbpf_code.proofs.FaultLemmas.{passes_before-next, own_fault, first_fault-insn, first_fault-slot, sound_of}
+use Rattle.cbpf_code.proofs.FaultLemmas.{passes_before-next, own_fault, first_fault-insn}
 use Rattle.cbpf_code.proofs.FaultLemmas.{well_formed-at_end, zero_insn}
 use Rattle.cbpf_code.proofs.checker.first_fault.Goals as goal
 
@@ -28,16 +27,5 @@ returns-in-Some-insn_fault-clause-fault c =
     let has = own_fault _ _ _ _ _ own.2 at (sym c.op_of.ensures ∙ c.in-Some.is) own.0 in
     first_fault-insn _ _ _ c.loop-i.invariant.passes has own.1 own.2
 
-pub first_unwritten-requires : goal.first_unwritten-requires
-first_unwritten-requires c = search (rules, well_formed-at_end)
-
-pub returns-in_err-first_unwritten-in-Some-RetK-clause-fault : goal.returns-in_err-first_unwritten-in-Some-RetK-clause-fault
-returns-in_err-first_unwritten-in-Some-RetK-clause-fault c =
-    let formed : IsWellFormed c.args.list.now = search (rules, well_formed-at_end) in
-    rw c.from_residual.ensures (sound_of _ formed c.in_err-first_unwritten-in-Some-RetK.ensures)
-
-pub returns-in_ok-first_unwritten-in-Some-RetK-clause-fault : goal.returns-in_ok-first_unwritten-in-Some-RetK-clause-fault
-returns-in_ok-first_unwritten-in-Some-RetK-clause-fault c =
-    let unwritten = c.in_ok-first_unwritten-in-Some-RetK.ensures in
-    let formed : IsWellFormed c.args.list.now = search (rules, well_formed-at_end) in
-    first_fault-slot _ _ formed unwritten.0 unwritten.1
+pub path_fault-requires : goal.path_fault-requires
+path_fault-requires c = search (rules, well_formed-at_end)

@@ -1,5 +1,5 @@
 use Rattle.cbpf_code.proofs.PathLemmas.{TracksPaths}
-use Rattle.cbpf_code.proofs.slots.first_unwritten.Given as goal
+use Rattle.cbpf_code.proofs.slots.path_fault.Given as goal
 
 -- the masks hold the paths through the instructions so far
 abbrev pub invariant-loop-i : goal.invariant-loop-i
