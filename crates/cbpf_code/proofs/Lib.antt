@@ -1,4 +1,5 @@
 pub mod AnswerLaws
+pub mod Decided
 pub mod DigitLemmas
 pub mod FaultLemmas
 pub mod HexLemmas

@@ -1,25 +1,28 @@
--- Paths through a list of instructions, and the masks that stand for them.
-use Rattle.std.proofs.Common.{◌≡◌, ℕ, ◌+◌, ◌<◌, List, length, get_or, replicate, arith, refl, ◌∙◌, inl, inr}
-use Rattle.std.specs.Prelude.{◌⊎◌, Some, IsTrue, slice_get, slice_set, slice_index}
+-- Paths through a list of instructions, the masks that stand for them, and the faults that paths show.
+use Rattle.std.proofs.Common.{◌≡◌, ℕ, zero, suc, ◌+◌, ◌<◌, List, length, get_or, replicate}
+use Rattle.std.proofs.Common.{arith, refl, sym, subst, ◌∙◌, inl, inr}
+use Rattle.std.specs.Prelude.{◌⊎◌, Option, None, Some, IsTrue, slice_get, slice_set, slice_index}
 use Rattle.std.proofs.lemmas.Bool.{cases_eq, cases_lt}
+use Rattle.std.proofs.lemmas.Option.{slice_get_within}
 use Rattle.std.proofs.lemmas.Nat.Bits.{bit_at-zero, bit_at_ones}
 use Rattle.std.proofs.lemmas.List.{get_or-set_other, get_or-replicate}
 use Rattle.std.proofs.lemmas.Grind.{get_or-set_at}
 use Rattle.std.proofs.Math.ListN.{length-set, length-replicate, get_or-eq_default}
 use Rattle.cbpf_code.specs.declared.insn.Insn.{Insn}
 use Rattle.cbpf_code.specs.declared.opcode.Op.{Op}
-use Rattle.cbpf_code.specs.declared.opcode.Op.TheVariants.{LdMem, St}
+use Rattle.cbpf_code.specs.declared.opcode.Op.TheVariants.{LdMem, St, Ja, Jump, RetK, RetA}
 use Rattle.cbpf_code.specs.declared.checker.CheckFault.{CheckFault}
 use Rattle.cbpf_code.specs.declared.checker.CheckFault.TheVariants.{UnwrittenSlot}
 use Rattle.cbpf_code.specs.declared.checker.TheConstants.{MAX_INSTRUCTIONS, SLOTS}
 use Rattle.cbpf_code.specs.Opcode.{op_of}
-use Rattle.cbpf_code.specs.ControlFlow.{CanFollow, IsSuccessor, StoresSlot, MayBeUnwritten}
+use Rattle.cbpf_code.specs.ControlFlow.{CanFollow, CanFollowCode, IsSuccessor, StoresSlot, MayBeUnwritten}
 use Rattle.cbpf_code.specs.ControlFlow.{loads_slot, stores_slot}
 use Rattle.cbpf_code.specs.ControlFlow.MayBeUnwritten.{at_start, onward}
 use Rattle.cbpf_code.specs.Faults.{uses_slot, HasFault, FirstFault, rank, index_of}
 use Rattle.cbpf_code.specs.Sound.{IsSound}
 use Rattle.cbpf_code.specs.CheckSteps.{IsWellFormed}
 use Rattle.cbpf_code.specs.SlotMasks.{InMask, InMaskOf, LeavesUnwritten, AddsToMasks}
+use Rattle.cbpf_code.proofs.Decided.{Decided, is_true, both, either, not, least, found, insn_at}
 use Rattle.cbpf_code.proofs.FaultLemmas.{insn_at-same}
 
 successor-same : (list : List Insn) (i t : ℕ) (insn : Insn) (op : Op) → IsSuccessor list i t
@@ -151,3 +154,52 @@ sound_of list formed none = record { none = by }
     by : (f : CheckFault) → HasFault list f → ⊥
     by (UnwrittenSlot i) has = none i has
     by f has = formed.none f (omega arith) has
+
+-- ---- paths are decided
+
+stores : (list : List Insn) (i s : ℕ) → Decided (StoresSlot list i s)
+stores list i s = insn_at list i _ (λ op insn. both (is_true (stores_slot op)) (cases_eq insn.k s))
+
+follows : (o : Option Op) (insn : Insn) (i t : ℕ) → Decided (CanFollowCode o insn i t)
+follows None insn i t = cases_eq t (i + 1)
+follows (Some RetK) insn i t = inr (λ h. h)
+follows (Some RetA) insn i t = inr (λ h. h)
+follows (Some Ja) insn i t = cases_eq t (i + 1 + insn.k)
+follows (Some (Jump cond src)) insn i t = either (cases_eq t (i + 1 + insn.jt)) (cases_eq t (i + 1 + insn.jf))
+follows (Some _) insn i t = cases_eq t (i + 1)
+
+successor : (list : List Insn) (i t : ℕ) → Decided (IsSuccessor list i t)
+successor list i t = found (slice_get list i) _ (λ insn. follows (op_of insn.code) insn i t)
+
+-- instruction h passes slot s on to t unwritten
+abbrev PassesOn : List Insn → ℕ → ℕ → ℕ → Type 0
+PassesOn list s t h = MayBeUnwritten list s h × ((StoresSlot list h s → ⊥) × IsSuccessor list h t)
+
+unwritten_below : (list : List Insn) (s m i : ℕ) → i < m → Decided (MayBeUnwritten list s i)
+unwritten_below list s zero i below = absurd (omega arith)
+unwritten_below list s (suc m) i below =
+    elim (least (PassesOn list s i) i (λ h before.
+    both (unwritten_below list s m h (omega arith)) (both (not (stores list h s)) (successor list h i)))) [
+      | inl found ↦ inl (onward found.1 found.2.0 found.2.1.0 found.2.1.1)
+      | inr none ↦ elim (cases_eq i 0) [
+        | inl first ↦ inl (subst (MayBeUnwritten list s) (sym first) at_start)
+        | inr later ↦ inr (λ u. elim (reached-unwritten_at list s i u) [
+          | inl first ↦ later first
+          | inr r ↦ none r.0 r.1 (r.2, (r.3, r.4))
+        ])
+      ]
+    ]
+
+unwritten : (list : List Insn) (i : ℕ) → Decided (HasFault list (UnwrittenSlot i))
+unwritten list i =
+    insn_at list i _ (λ op insn. both (is_true (loads_slot op)) (unwritten_below list insn.k (suc i) i (omega arith)))
+
+abbrev pub Checked : List Insn → Type 0
+Checked list = IsSound list ⊎ ((e : CheckFault) × FirstFault list e)
+
+pub formed-checked : (list : List Insn) → IsWellFormed list → Checked list
+formed-checked list formed =
+    elim (least (λ j. HasFault list (UnwrittenSlot j)) (length list) (λ j below. unwritten list j)) [
+      | inl found ↦ inr (UnwrittenSlot found.0, first_fault-slot list found.0 formed found.2 found.3)
+      | inr none ↦ inl (sound_of list formed (λ j has. none j (slice_get_within list j has.0 has.2) has))
+    ]
