@@ -114,7 +114,7 @@ pub fn ext_name(e: Ext) -> &'static str
 
 /// The extension of this name; `None` where no extension has it.
 pub fn ext_named(name: &[u8]) -> Option<Ext>
-    ensures { MatchOption result ((e : Ext) → name.now ≡ spec.ext_name e → ⊥) (λ e. name.now ≡ spec.ext_name e) }
+    ensures { result ≡ spec.ext_named name.now }
 {
     for e in &EXTENSIONS {
         if name == ext_name(*e).as_bytes() {

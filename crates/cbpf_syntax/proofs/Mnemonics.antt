@@ -1,7 +1,7 @@
 -- The rows of a mnemonic, and that no two mnemonics have one word.
 use Rattle.std.proofs.Common.{rules, ◌≡◌, ℕ, ◌<◌, Bool, true, false, not, cond, map, ◌&&◌, ◌||◌, List, [], ◌∷◌, length}
 use Rattle.std.proofs.Common.{refl, arith, ap, sym, ◌∙◌, inl, inr, get_or, ltb-true, ◌-◌, Option, Some, None, Bor}
-use Rattle.std.specs.Prelude.{IfSome, IfNone, Contains, nat_lt, nat_le, bytes_eq, MatchOption, slice_index}
+use Rattle.std.specs.Prelude.{IfSome, IfNone, Contains, nat_lt, nat_le, bytes_eq, slice_index}
 use Rattle.cbpf_syntax.specs.declared.table.Mnemonic as declared_mnemonic
 use Rattle.cbpf_syntax.specs.Views.{mnemonic_of}
 use Rattle.std.specs.List.{list_all, filter}
@@ -14,7 +14,7 @@ use Rattle.cbpf_syntax.proofs.Elements.{all_pairs, same_or_pair, first_element, 
 use Rattle.cbpf_syntax.proofs.Elements.{into_map, from_flat_map, into_flat_map, any_element, some_element, list_all_at}
 use Rattle.std.specs.Option.{is_some}
 use Rattle.cbpf_code.specs.declared.extension.Ext.{Ext}
-use Rattle.cbpf_code.specs.Extension.{ext_table, ext_name}
+use Rattle.cbpf_code.specs.Extension.{ext_table, ext_name, ext_named, named_in}
 
 words_differ : all_pairs (λ (m n : Mnemonic). not (bytes_eq m.word n.word)) mnemonics ≡ true
 unfolding mnemonics
@@ -119,20 +119,16 @@ none_from (b ∷ bs) d l e = sym (from_listed b bs mnemonics) ∙ e
 
 -- Words that are extensions' names, and words that no reserved word is.
 
-name_listed : (e : Ext) → is_one_of extension_names (ext_name e) ≡ true
-unfolding extension_names
-name_listed e = search (rules)
+named_test : (es : List (ℕ × Ext)) (w : List ℕ) → is_some (named_in es w) ≡ is_one_of (map (λ e. ext_name e.1) es) w
+named_test [] w = refl
+named_test (e ∷ es) w = elim (cases_Bool (bytes_eq w (ext_name e.1))) [
+  | inl same ↦ rw same refl
+  | inr other ↦ rw other (named_test es w)
+]
 
-listed_name : (w : List ℕ) → is_one_of extension_names w ≡ true → (e : Ext) × (w ≡ ext_name e)
-unfolding extension_names
-listed_name w h =
-    let s = some_element (λ v. bytes_eq w v) (map (λ e. ext_name e.1) ext_table) h in
-    let m = from_map (λ e. ext_name e.1) ext_table s.0 s.1 in
-    (m.0.1, equal_bytes w s.0 s.2 ∙ sym m.2)
-
-pub extension_test : (w : List ℕ) (o : Option Ext)
-    → MatchOption o ((e : Ext) → w ≡ ext_name e → ⊥) (λ e. w ≡ ext_name e) → is_some o ≡ is_one_of extension_names w
-extension_test w o h1 = search (rules, listed_name, name_listed)
+pub extension_test : (w : List ℕ) (o : Option Ext) → o ≡ ext_named w → is_some o ≡ is_one_of extension_names w
+unfolding ext_named extension_names
+extension_test w o found = rw found (named_test ext_table w)
 
 -- a word that fails a test which all words of a list pass is none of them
 not_listed : (p : List ℕ → Bool) (words : List (List ℕ)) (w : List ℕ) → list_all p words ≡ true → p w ≡ false

@@ -9,7 +9,7 @@ use Rattle.cbpf_code.specs.declared.insn.Insn.{Insn}
 use Rattle.cbpf_code.specs.declared.extension.Ext.{Ext}
 use Rattle.cbpf_code.specs.declared.extension.Ext.TheVariants.{Proto}
 use Rattle.cbpf_code.specs.declared.extension.TheConstants.{FIRST_EXTENSION}
-use Rattle.cbpf_code.specs.Extension.{ext_at, ext_name, ext_offset, ext_table}
+use Rattle.cbpf_code.specs.Extension.{ext_at, ext_name, ext_named, ext_offset, ext_place, ext_table}
 use Rattle.cbpf_code.specs.Text.{hex}
 use Rattle.cbpf_code.specs.WordForm.{InRange}
 use Rattle.cbpf_code.proofs.TableLemmas.{ext_only}
@@ -21,7 +21,7 @@ use Rattle.cbpf_code.specs.Syntax.{Operand}
 use Rattle.cbpf_code.specs.Syntax.{Operand as operands}
 use Rattle.cbpf_code.specs.Listing.{immediate_operand, operand_text, place_or_name}
 use Rattle.cbpf_text.specs.Assembled.{FillsFields}
-use Rattle.cbpf_text.specs.Operands.{literal_of, place_named}
+use Rattle.cbpf_text.specs.Operands.{literal_of}
 use Rattle.cbpf_text.proofs.ListedRows.{operand_classes, operand_fields, first_byte, later_bytes, IsWord, word_of_test}
 use Rattle.cbpf_text.proofs.ListedRows.{plain_as}
 use Rattle.cbpf_text.proofs.ListedTokens.{lexemes_at, newline, are_positive}
@@ -73,7 +73,8 @@ ext_listed Proto = refl
 ext_listed e = refl
 
 ext_value : (e : Ext)
-    → place_named ext_table (first_byte (ext_name e) ∷ later_bytes (ext_name e)) ≡ Some (FIRST_EXTENSION + ext_offset e)
+    → option_map ext_place (ext_named (first_byte (ext_name e) ∷ later_bytes (ext_name e))) ≡ Some (ext_place e)
+unfolding ext_named
 ext_value Proto = refl
 ext_value e = refl
 

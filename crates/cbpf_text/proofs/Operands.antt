@@ -20,7 +20,7 @@ use Rattle.cbpf_syntax.specs.Classes.Class.{the_word}
 use Rattle.cbpf_syntax.specs.Lexemes.{Symbol, Lexeme}
 use Rattle.cbpf_syntax.specs.Items.{names_at, when_name}
 use Rattle.cbpf_syntax.specs.Views.{class_of, symbol_of, lexeme_of}
-use Rattle.cbpf_text.specs.Operands.{value_at, literal_of, place_named}
+use Rattle.cbpf_text.specs.Operands.{value_at, literal_of}
 
 -- what the classes from an index on give, with their tokens
 abbrev pub literals : List declared_class.Class → List declared_lexeme.Lexeme → ℕ → ℕ → ℕ
@@ -111,12 +111,3 @@ literal_past os bs i j e f = (all_past os bs i j e f).0
 pub names_past : (os : List declared_class.Class) (bs : List declared_lexeme.Lexeme) (i j : ℕ) → j ≡ length bs - 1
     → i ≡ min (length os) j → names os bs i (i + 1) ≡ []
 names_past os bs i j e f = (all_past os bs i j e f).1
-
-pub not_named : (es : List (ℕ × Ext)) (w : List ℕ) → ((e : Ext) → w ≡ ext_name e → ⊥) → place_named es w ≡ None
-not_named [] w h = refl
-not_named (e ∷ es) w h = by_test (bytes_eq w (ext_name e.1)) refl (not_named es w h)
-  where
-    by_test : (t : Bool) → bytes_eq w (ext_name e.1) ≡ t → place_named es w ≡ None
-        → cond t (Some e.0) (place_named es w) ≡ None
-    by_test true p q = absurd (h e.1 ((bytes_eq-Decides w (ext_name e.1)).0 p))
-    by_test false p q = q

@@ -1,7 +1,6 @@
 pub mod WordLemmas
 pub mod CommandLemmas
 pub mod NumberLemmas
-pub mod NameLemmas
 pub mod LineLemmas
 pub mod FileLemmas
 pub mod ReplyLemmas

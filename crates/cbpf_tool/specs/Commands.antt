@@ -4,7 +4,7 @@ use Rattle.std.specs.Prelude.{ℕ, ◌-◌, ◌^◌, pos, if◌then◌else◌, L
 use Rattle.std.specs.Prelude.{Result, Ok, Err, codes, bytes_eq}
 use Rattle.std.specs.Str.{is_utf8}
 use Rattle.cbpf_code.specs.declared.extension.Ext.{Ext}
-use Rattle.cbpf_code.specs.Extension.{ext_name, ext_table}
+use Rattle.cbpf_code.specs.Extension.{ext_named}
 use Rattle.cbpf_reply.specs.Breakpoints.{When, Always, A, X}
 use Rattle.cbpf_tool.specs.Words.{words_of, after_words, trimmed}
 use Rattle.cbpf_tool.specs.Numbers.{number_up_to, signed_number}
@@ -75,14 +75,9 @@ resume_by (p ∷ s ∷ []) = by_both (λ packet n. Resume (record { packet = pac
     (number_up_to (2 ^ 64 - 1) p) (number_up_to (2 ^ 32 - 1) s)
 resume_by _ = None
 
--- the extension of a table that has this name
-abbrev pub named_in : List (ℕ × Ext) → List ℕ → Option Ext
-named_in [] w = None
-named_in (row ∷ rows) w = if bytes_eq w (ext_name row.1) then Some row.1 else named_in rows w
-
 -- an extension's name, and a number of 32 bits
 abbrev pub value_by : List (List ℕ) → Option SessionCommand
-value_by (name ∷ n ∷ []) = by_both Value (named_in ext_table name) (number_up_to (2 ^ 32 - 1) n)
+value_by (name ∷ n ∷ []) = by_both Value (ext_named name) (number_up_to (2 ^ 32 - 1) n)
 value_by _ = None
 
 -- the commands of the session by their names, and how each reads the words after its name

@@ -1,6 +1,5 @@
 // Commands, and how lines spell them.
 ghost use Rattle.std.specs.Prelude.{◌≡◌, ℕ, List, [], ◌∷◌};
-ghost use Rattle.cbpf_code.specs.Extension.{ext_table};
 ghost use Rattle.cbpf_tool.specs.Commands as spec;
 ghost use Rattle.cbpf_tool.specs.Words.{words_of, after_words, trimmed};
 ghost use Rattle.cbpf_tool.specs.Arguments.{AreArguments};
@@ -188,18 +187,11 @@ fn value_by(arguments: Arguments<'_>) -> Option<SessionCommand>
 {
     match arguments {
         Arguments::Two(name, n) => Some(SessionCommand::Value(
-            extension_named(name)?,
+            ext_named(name)?,
             number_32(n)?,
         )),
         _ => None,
     }
-}
-
-/// The extension of this name.
-fn extension_named(name: &[u8]) -> Option<Ext>
-    ensures { result ≡ spec.named_in ext_table name.now }
-{
-    ext_named(name)
 }
 
 fn words_in(text: &[u8]) -> Option<Command<'_>>
