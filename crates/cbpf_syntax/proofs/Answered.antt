@@ -1,4 +1,4 @@
--- Each token list is items, or has a first refusal: of each the longest front that begins a row is found.
+-- Each token list is items, or goes on no farther than a place: of each the longest front that begins a row is found.
 use Rattle.std.proofs.Common.{rules, ◌≡◌, ℕ, zero, suc, ◌+◌, ◌<◌, ◌≤◌, Bool, true, false, List, [], ◌∷◌, ◌++◌, length}
 use Rattle.std.proofs.Common.{take, drop, refl, arith, ap, ◌∙◌, ◌⊎◌, inl, inr, Option, Some, None}
 use Rattle.std.specs.List.{list_any}
@@ -11,15 +11,12 @@ use Rattle.cbpf_syntax.specs.Fits.{fits, fits_all, fits_front}
 use Rattle.cbpf_syntax.specs.Items.{Item, Items, IsItem}
 use Rattle.cbpf_syntax.specs.Steps.{Goes, Stuck, IsNextItem, starts_with_colon}
 use Rattle.cbpf_syntax.specs.Refusals.{symbol_at, most_negative, IsLarge, IsLargeNegative, IsStuckAt}
-use Rattle.cbpf_syntax.specs.Refusals.ParseFault.{Misplaced, LargeNegative, Unfinished}
-use Rattle.cbpf_syntax.specs.Laws.{EachParsed}
 use Rattle.cbpf_syntax.proofs.Elements.{any_element, some_element}
 use Rattle.cbpf_syntax.proofs.Apart.{no_classes}
 use Rattle.cbpf_syntax.proofs.Greedy.{Greedy}
 use Rattle.cbpf_syntax.proofs.Steps.{some_known, bare_front, bare_whole, form_of, name_stuck, label_stuck, label_item}
 use Rattle.cbpf_syntax.proofs.Steps.{end_stuck}
-use Rattle.cbpf_syntax.proofs.Refused.{greedy_more, greedy_all, next_some, stuck_at, large_within, large_first}
-use Rattle.cbpf_syntax.proofs.Refused.{misplaced_first, unfinished_first, items_accepted, items_large}
+use Rattle.cbpf_syntax.proofs.Refused.{greedy_more, greedy_all, next_some, stuck_at}
 use Rattle.cbpf_syntax.proofs.Cuts.{some-same}
 
 -- what stands at the front of tokens
@@ -99,7 +96,7 @@ step (t ∷ u ∷ ts) = elim (cases_Bool (fits (the_mark 58) u.symbol)) [
 ]
 
 -- the tokens are items, or don't go on at a place; of those after the ones that were read there are so many at most
-reach : (ts : List Lexeme) (left at : ℕ) (is : List Item) → length ts ≤ at + left → Greedy ts is (drop at ts)
+pub reach : (ts : List Lexeme) (left at : ℕ) (is : List Item) → length ts ≤ at + left → Greedy ts is (drop at ts)
     → ((js : List Item) × Items ts js) ⊎ ((s : ℕ) × IsStuckAt ts s)
 reach ts zero at is l p = inl (is, greedy_all ts is at (omega (arith, l)) p)
 reach ts (suc left) at is l p = elim (cases_lt at (length ts)) [
@@ -164,27 +161,12 @@ none_more : (ts : List Lexeme) (n : ℕ) → ((k : ℕ) → k < n → IsLargeNeg
     → (k : ℕ) → k < suc n → IsLargeNegative ts k → ⊥
 none_more ts n h1 h2 k h3 h4 = search (rules, cases_lt)
 
-first_large : (ts : List Lexeme) (n : ℕ) → HasFirst ts n
+pub first_large : (ts : List Lexeme) (n : ℕ) → HasFirst ts n
 first_large ts zero = inr (λ k l h. omega (arith, l))
 first_large ts (suc n) = elim (first_large ts n) [
   | inl f ↦ inl (f.0, omega (arith, f.1), f.2, f.3)
   | inr none ↦ elim (large_at ts n) [
     | inl h ↦ inl (n, omega arith, h, none)
     | inr last ↦ inr (none_more ts n none last)
-  ]
-]
-
-pub each_parsed : EachParsed
-each_parsed ts = elim (reach ts (length ts) 0 [] (omega arith) refl) [
-  | inl p ↦ elim (first_large ts (length ts)) [
-    | inl f ↦ inr (LargeNegative f.0, items_large ts p.0 f.0 p.1 f.2 f.3)
-    | inr none ↦ inl (p.0, p.1, items_accepted ts p.0 p.1 (λ k h. none k (large_within ts k h) h))
-  ]
-  | inr q ↦ elim (first_large ts q.0) [
-    | inl f ↦ inr (LargeNegative f.0, large_first ts q.0 f.0 q.1 f.1 f.2 f.3)
-    | inr none ↦ elim (cases_lt q.0 (length ts)) [
-      | inl l ↦ inr (Misplaced q.0, misplaced_first ts q.0 q.1 l none)
-      | inr l ↦ inr (Unfinished, unfinished_first ts q.0 q.1 l none)
-    ]
   ]
 ]

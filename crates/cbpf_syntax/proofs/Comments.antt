@@ -3,8 +3,7 @@ use Rattle.std.proofs.Common.{◌≡◌, ℕ, zero, suc, ◌+◌, ◌≤◌, Boo
 use Rattle.std.proofs.Common.{take, drop, refl, ap, sym, arith, Option, Some, None, inl, inr}
 use Rattle.std.specs.Prelude.{◌==◌, option_map, nat_le}
 use Rattle.std.proofs.lemmas.Bool.Decides.{nat_tests}
-use Rattle.cbpf_syntax.specs.Pieces.{begins_with_close, has_close}
-use Rattle.cbpf_syntax.specs.NextPiece.{close_after}
+use Rattle.cbpf_syntax.specs.Pieces.{begins_with_close, has_close, close_after}
 use Rattle.std.proofs.lemmas.Bool.{cases_Bool}
 use Rattle.cbpf_syntax.proofs.Cuts.{some-same}
 use Prim.Native.Nat.compare

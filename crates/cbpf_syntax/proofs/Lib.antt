@@ -14,7 +14,8 @@ pub mod Mnemonics
 pub mod Best
 pub mod Final
 pub mod Refused
-pub mod OneRefusal
+pub mod Minus
 pub mod Ahead
 pub mod Taking
 pub mod Answered
+pub mod FirstRefusal

@@ -1,20 +1,17 @@
--- Which refusal of a token list is the first.
+-- Where a number is too large after a `-`, and where tokens that were read as items go on no farther.
 use Rattle.std.proofs.Common.{rules, ◌≡◌, ℕ, zero, suc, ◌+◌, ◌-◌, ◌<◌, ◌≤◌, List, [], ◌∷◌, ◌++◌, length, take, drop}
-use Rattle.std.proofs.Common.{map, refl, arith, sym, inl, inr, subst, append-nil, length-drop, get_or, Some}
-use Rattle.std.proofs.lemmas.List.{take-append-drop, take_all, drop_all, drop-drop, take-take}
+use Rattle.std.proofs.Common.{map, refl, arith, sym, subst, length-drop, get_or, Some}
+use Rattle.std.proofs.lemmas.List.{take-append-drop, drop_all, drop-drop}
 use Rattle.std.proofs.lemmas.Option.{slice_get-map, slice_get-get_or, slice_get_past}
 use Rattle.std.proofs.lemmas.Bool.{cases_lt}
 use Rattle.cbpf_syntax.specs.declared.lexeme.Lexeme as declared_lexeme
-use Rattle.cbpf_syntax.specs.Refusals.ParseFault.{Misplaced, LargeNegative, Unfinished}
 use Rattle.cbpf_syntax.specs.Lexemes.{Lexeme}
-use Rattle.cbpf_syntax.specs.Items.{Item, Items, BeginsItems}
+use Rattle.cbpf_syntax.specs.Items.{Item, Items}
 use Rattle.cbpf_syntax.specs.Views.{symbol_of, lexeme_of}
 use Rattle.cbpf_syntax.specs.Steps.{Stuck, IsNextItem}
-use Rattle.cbpf_syntax.specs.Refusals.{ParseFault, symbol_at, IsLarge, IsLargeNegative, IsStuckAt}
-use Rattle.cbpf_syntax.specs.Refusals.{IsRefusedAt, IsFirstRefusal, IsAccepted}
-use Rattle.cbpf_syntax.proofs.Greedy.{Greedy, begins_take, stuck_first, stuck_after}
-use Rattle.cbpf_syntax.proofs.Apart.{begins_none, no_classes}
-use Rattle.cbpf_syntax.proofs.Steps.{some_known}
+use Rattle.cbpf_syntax.specs.Refusals.{symbol_at, IsLarge, IsLargeNegative, IsStuckAt}
+use Rattle.cbpf_syntax.proofs.Greedy.{Greedy, stuck_first, stuck_after}
+use Rattle.cbpf_syntax.proofs.Apart.{no_classes}
 use Rattle.cbpf_syntax.proofs.Cuts.{some-same}
 
 pub symbol_at_get : (ts : List declared_lexeme.Lexeme) (i : ℕ) (d : declared_lexeme.Lexeme) → i < length ts
@@ -34,66 +31,6 @@ not_large_here ts i d e h1 h2 h3 h4 = search (rules, some-same, symbol_at_get)
 
 pub large_within : (ts : List Lexeme) (i : ℕ) → IsLargeNegative ts i → i < length ts
 large_within ts i h = grind (arith, cases_lt, slice_get_past)
-
--- Where the tokens begin items up to a place, and no literal before one is too large, nothing is refused before that.
-not_before : (ts : List Lexeme) (s i : ℕ) → BeginsItems (take s ts) → i ≤ s → s ≤ length ts
-    → ((k : ℕ) → k < i → IsLargeNegative ts k → ⊥) → (other : ParseFault) (q : ℕ) → IsRefusedAt ts other q → i ≤ q
-not_before ts s i b l w none (Misplaced k) q r = elim (cases_lt k s) [
-  | inl m ↦ absurd
-      (r.1.with_it (subst BeginsItems (take-take (k + 1) s ts (omega arith)) (begins_take (take s ts) (k + 1) b)))
-  | inr m ↦ omega (arith, r.0)
-]
-not_before ts s i b l w none (LargeNegative k) q r =
-    elim (cases_lt k i) [ inl m ↦ absurd (none k m r.1) | inr m ↦ omega (arith, r.0) ]
-not_before ts s i b l w none Unfinished q r = omega (arith, r.0)
-
-pub large_first : (ts : List Lexeme) (s i : ℕ) → IsStuckAt ts s → i < s → IsLargeNegative ts i
-    → ((k : ℕ) → k < i → IsLargeNegative ts k → ⊥) → IsFirstRefusal ts (LargeNegative i)
-large_first ts s i stuck l large none = record {
-  place = i;
-  refused = (refl, large);
-  first = not_before ts s i stuck.before (omega arith) stuck.within none;
-}
-
-pub misplaced_first : (ts : List Lexeme) (s : ℕ) → IsStuckAt ts s → s < length ts
-    → ((k : ℕ) → k < s → IsLargeNegative ts k → ⊥) → IsFirstRefusal ts (Misplaced s)
-misplaced_first ts s stuck l none = record {
-  place = s;
-  refused = (refl, record { within = l; before = stuck.before; with_it = stuck.next l });
-  first = not_before ts s s stuck.before (omega arith) stuck.within none;
-}
-
-pub unfinished_first : (ts : List Lexeme) (s : ℕ) → IsStuckAt ts s → length ts ≤ s
-    → ((k : ℕ) → k < s → IsLargeNegative ts k → ⊥) → IsFirstRefusal ts Unfinished
-unfinished_first ts s stuck l none =
-    let e : s ≡ length ts = omega (arith, stuck.within) in
-    record {
-      place = s;
-      refused = (e, record { begins = subst BeginsItems (take_all s ts l) stuck.before; none = stuck.end e });
-      first = not_before ts s s stuck.before (omega arith) stuck.within none;
-    }
-
--- Where the tokens are items.
-items_begin : (ts : List Lexeme) (items : List Item) → Items ts items → BeginsItems ts
-items_begin ts items p =
-    (ts, [], items, sym (append-nil ts), p, begins_none some_known.0 some_known.1)
-
-pub items_accepted : (ts : List Lexeme) (items : List Item) → Items ts items → ((k : ℕ) → IsLargeNegative ts k → ⊥)
-    → IsAccepted ts
-items_accepted ts items p none (Misplaced k) q r = r.1.with_it (begins_take ts (k + 1) (items_begin ts items p))
-items_accepted ts items p none (LargeNegative k) q r = none k r.1
-items_accepted ts items p none Unfinished q r = r.1.none items p
-
-pub items_large : (ts : List Lexeme) (items : List Item) (i : ℕ) → Items ts items → IsLargeNegative ts i
-    → ((k : ℕ) → k < i → IsLargeNegative ts k → ⊥) → IsFirstRefusal ts (LargeNegative i)
-items_large ts items i p large none =
-    let l = large_within ts i large in
-    let begin = begins_take ts (length ts) (items_begin ts items p) in
-    record {
-      place = i;
-      refused = (refl, large);
-      first = not_before ts (length ts) i begin (omega arith) (omega arith) none;
-    }
 
 -- Where items were read one by one.
 greedy_snoc : (ts : List Lexeme) (is : List Item) (rest : List Lexeme) (n : ℕ) (i : Item) → Greedy ts is rest

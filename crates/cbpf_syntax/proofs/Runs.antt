@@ -9,10 +9,9 @@ use Rattle.cbpf_syntax.specs.declared.piece.PieceKind.{PieceKind}
 use Rattle.cbpf_syntax.specs.declared.piece.PieceKind.TheVariants.{Blanks, Comment, TokenOf, Bad}
 use Rattle.cbpf_syntax.specs.declared.token.Kind.TheVariants.{Word, Mark}
 use Rattle.cbpf_syntax.specs.Bytes.{is_blank, is_name_byte}
-use Rattle.cbpf_syntax.specs.Numbers.{number_value}
 use Rattle.cbpf_syntax.specs.Pieces.{IsNext, piece_kind, led_kind, slash_kind, only_if, run_kind, alone, has_close}
 use Rattle.cbpf_syntax.specs.Pieces.{is_line_blank}
-use Rattle.cbpf_syntax.specs.NextPiece.{close_after, comment_piece, slash_piece, led_piece}
+use Rattle.cbpf_syntax.specs.Pieces.{close_after, comment_piece, slash_piece, led_piece}
 use Rattle.cbpf_syntax.specs.Leads.{lead_of}
 use Rattle.cbpf_syntax.proofs.LeadTable.{blank_lead}
 use Rattle.cbpf_syntax.proofs.Comments.{close_taken, close_within}
@@ -149,8 +148,8 @@ led_next fresh b bs LineComment e =
     run_next fresh (λ c. not (c == 10)) (λ _. Comment) b bs (λ cs. ap (λ l. led_kind l b cs) e)
 led_next fresh b bs Letter e =
     run_next fresh is_name_byte (λ _. TokenOf Word) b bs (λ cs. ap (λ l. led_kind l b cs) e)
-led_next fresh b bs Digit e = run_next fresh is_name_byte (λ cs. run_kind (number_value (b ∷ cs))) b bs
-    (λ cs. ap (λ l. led_kind l b cs) e)
+led_next fresh b bs Digit e =
+    run_next fresh is_name_byte (λ cs. run_kind (b ∷ cs)) b bs (λ cs. ap (λ l. led_kind l b cs) e)
 led_next fresh b bs Slash e = slash_next fresh b e bs
 led_next fresh b bs Single e = alone_next fresh (TokenOf (Mark b)) b bs (λ cs. ap (λ l. led_kind l b cs) e)
 led_next fresh b bs Other e = alone_next fresh (Bad NoToken) b bs (λ cs. ap (λ l. led_kind l b cs) e)

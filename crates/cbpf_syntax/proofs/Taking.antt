@@ -22,13 +22,11 @@ use Rattle.cbpf_syntax.specs.Classes.Class.{the_word, name}
 use Rattle.cbpf_syntax.specs.Table.{Row}
 use Rattle.cbpf_syntax.specs.Fits.{fits, fits_front}
 use Rattle.cbpf_syntax.specs.Items.{Item, classes_of}
-use Rattle.cbpf_syntax.proofs.Refused.{next_some, large_first, misplaced_first, unfinished_first}
+use Rattle.cbpf_syntax.proofs.Refused.{next_some}
 use Rattle.cbpf_syntax.specs.Views.{lexeme_of, row_of}
 use Rattle.cbpf_syntax.specs.Steps.{Goes, IsNextItem, Stuck, starts_with_label}
-use Rattle.cbpf_syntax.specs.declared.reader.SyntaxFault.TheVariants as refusal
-use Rattle.cbpf_syntax.specs.Refusals.{symbol_at, IsLargeNegative, IsStuckAt}
-use Rattle.cbpf_syntax.specs.Reading.{AreAhead, IsStepOf, step_len, StartsWithWord, IsPlaceOf, IsFirstLarge}
-use Rattle.cbpf_syntax.specs.Reading.{IsRefusedFor}
+use Rattle.cbpf_syntax.specs.Refusals.{symbol_at, IsLargeNegative, IsPlaceOf}
+use Rattle.cbpf_syntax.specs.Reading.{AreAhead, IsStepOf, step_len, StartsWithWord, IsFirstLarge}
 use Rattle.cbpf_syntax.proofs.Ahead.{next_more, stuck_more, label_more}
 use Rattle.cbpf_syntax.proofs.Cuts.{some-same}
 
@@ -234,11 +232,6 @@ taken_ahead text at m n k items a l =
     subst (λ us. AreAhead text at (m + n) us) e
     (ahead_taken text at m n (map lexeme_of (drop k items)) a (omega (arith, l, length-map (drop k items) lexeme_of)))
 
--- the refusal of tokens that go on so far and no farther
-pub refused_large : (ts : List Lexeme) (s at : ℕ) → IsStuckAt ts s → IsFirstLarge ts s (Some at)
-    → IsRefusedFor ts (refusal.LargeNegative at)
-refused_large ts s at stuck h = (h.0, large_first ts s h.0 stuck h.1 h.2 h.3, h.4)
-
 -- The tokens of a text of which m were taken, with those ahead in the reader's own type.
 module _ (text : List ℕ) (at m : ℕ) (window : List declared_lexeme.Lexeme) (ts : List Lexeme)
     (a : AreAhead text at m (map lexeme_of window)) (t : AreLexemes text ts) where
@@ -254,49 +247,33 @@ module _ (text : List ℕ) (at m : ℕ) (window : List declared_lexeme.Lexeme) (
       (large_on ts (map lexeme_of (take n window)) part.0 m part.1 old new (taken_word n window w) h known
       (subst (λ k. IfNone old (IsFirstLarge (map lexeme_of (take n window)) k new)) same found))
 
-  place_taken : (k : ℕ) (d : declared_lexeme.Lexeme) → k < length window → IsPlaceOf ts (m + k) (get_or window k d).at
+  pub place_taken : (k : ℕ) (d : declared_lexeme.Lexeme) → k < length window → IsPlaceOf ts (m + k) (get_or window k d).at
   place_taken k d l =
       let all = ahead_is text at m (map lexeme_of window) ts a t in
       place_ahead ts (map lexeme_of window) all.0 m all.1 k _ (omega (arith, l, length-map window lexeme_of))
       (place_mapped window k d l)
 
+  pub place_before : (n : ℕ) (d : declared_lexeme.Lexeme) → n ≤ length window → 0 < n
+      → IsPlaceOf ts (m + n - 1) (get_or window (n - 1) d).at
+  place_before n d l some =
+      let i : m + (n - 1) ≡ m + n - 1 = omega (arith, some) in
+      subst (λ k. IsPlaceOf ts k (get_or window (n - 1) d).at) i (place_taken (n - 1) d (omega (arith, l, some)))
+
   pub last_taken : (n : ℕ) (d : declared_lexeme.Lexeme) → n ≤ length window → 0 < n
       → IsPlaceOf ts (m + n - 1) (get_or (take n window) (n - 1) d).at
   last_taken n d l some =
-      let i : m + (n - 1) ≡ m + n - 1 = omega (arith, some) in
       let before : n - 1 < n = omega (arith, some) in
-      rw (get_or-take n window (n - 1) d before) (subst (λ k. IsPlaceOf ts k (get_or window (n - 1) d).at) i
-      (place_taken (n - 1) d (omega (arith, l, some))))
+      rw (get_or-take n window (n - 1) d before) (place_before n d l some)
 
-  pub refused_misplaced : (n : ℕ) (d : declared_lexeme.Lexeme) → n < length window → IsStuckAt ts (m + n)
-      → IsFirstLarge ts (m + n) None → IsRefusedFor ts (refusal.Misplaced (get_or window n d).at)
-  refused_misplaced n d l stuck none =
+  pub within_taken : (n : ℕ) → n < length window → m + n < length ts
+  within_taken n l =
       let all = ahead_is text at m (map lexeme_of window) ts a t in
       let size : length (map lexeme_of window) ≡ length window = length-map window lexeme_of in
-      let within : m + n < length ts =
-      omega (arith, l, size, all.3, length-drop m ts, ap length all.1, length-append (map lexeme_of window) all.0) in
-      (m + n, misplaced_first ts (m + n) stuck within none, place_taken n d l)
+      omega (arith, l, size, all.3, length-drop m ts, ap length all.1, length-append (map lexeme_of window) all.0)
 
-  whole_size : at ≡ length text → length ts ≡ m + length window
+  pub whole_size : at ≡ length text → length ts ≡ m + length window
   whole_size e =
       let all = ahead_is text at m (map lexeme_of window) ts a t in
       let none : length all.0 ≡ 0 = ap length (all.2 e) in
       let size = length-map window lexeme_of in
       omega (arith, none, all.3, size, length-drop m ts, ap length all.1, length-append (map lexeme_of window) all.0)
-
-  pub refused_unfinished : (n : ℕ) (d : declared_lexeme.Lexeme) → n ≡ length window → 0 < n → at ≡ length text
-      → IsStuckAt ts (m + n) → IsFirstLarge ts (m + n) None
-      → IsRefusedFor ts (refusal.Unfinished (get_or window (n - 1) d).at)
-  refused_unfinished n d l some e stuck none =
-      let size = whole_size e in
-      let i : m + (n - 1) ≡ length ts - 1 = omega (arith, size, l, some) in (
-        unfinished_first ts (m + n) stuck (omega (arith, size, l)) none,
-        subst (λ k. IsPlaceOf ts k (get_or window (n - 1) d).at) i (place_taken (n - 1) d (omega (arith, l, some))),
-      )
-
-  pub refused_last : (n last : ℕ) → n ≡ 0 → n ≡ length window → at ≡ length text → IsPlaceOf ts (m - 1) last
-      → IsStuckAt ts (m + n) → IsFirstLarge ts (m + n) None → IsRefusedFor ts (refusal.Unfinished last)
-  refused_last n last z l e place stuck none =
-      let size = whole_size e in
-      let i : m - 1 ≡ length ts - 1 = omega (arith, size, l, z) in
-      (unfinished_first ts (m + n) stuck (omega (arith, size, l)) none, subst (λ k. IsPlaceOf ts k last) i place)

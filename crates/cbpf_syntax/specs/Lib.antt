@@ -2,7 +2,6 @@ pub mod Bytes
 pub mod Numbers
 pub mod Leads
 pub mod Pieces
-pub mod NextPiece
 pub mod Tokens
 pub mod CutLaws
 pub mod TokenReading

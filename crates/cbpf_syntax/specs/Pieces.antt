@@ -1,9 +1,9 @@
 -- How a source text is cut into pieces: blanks, comments, tokens and bad pieces, each the longest at its place. The
 -- kernel's Documentation/networking/filter shows words, numbers, marks and comments by example; these rules are this
 -- project's own.
-use Rattle.std.specs.Prelude.{◌≡◌, ℕ, ◌+◌, ◌-◌, ◌<◌, ◌≤◌, Bool, true, false, not, ◌&&◌, ◌||◌, List, [], ◌∷◌}
-use Rattle.std.specs.Prelude.{length, take, drop, nat_lt, ◌==◌, if◌then◌else◌, fold, Option, Some, None}
-use Rattle.std.specs.List.{list_all}
+use Rattle.std.specs.Prelude.{◌≡◌, ℕ, suc, ◌+◌, ◌-◌, ◌<◌, ◌≤◌, Bool, true, false, not, ◌&&◌, ◌||◌, List, [], ◌∷◌}
+use Rattle.std.specs.Prelude.{length, take, drop, nat_lt, ◌==◌, if◌then◌else◌, fold, Option, Some, None, option_map}
+use Rattle.std.specs.List.{list_all, prefix_len}
 use Rattle.cbpf_syntax.specs.declared.token.Kind.TheVariants.{Word, Number, Mark}
 use Rattle.cbpf_syntax.specs.declared.token.BadPiece.TheVariants.{NoToken, OpenComment, LargeNumber}
 use Rattle.cbpf_syntax.specs.declared.piece.PieceKind.{PieceKind}
@@ -27,10 +27,13 @@ abbrev pub only_if : Bool → PieceKind → Option PieceKind
 only_if true kind = Some kind
 only_if false kind = None
 
+abbrev pub number_kind : Option ℕ → PieceKind
+number_kind None = Bad NoToken
+number_kind (Some n) = if nat_lt n number_limit then TokenOf (Number n) else Bad LargeNumber
+
 -- a run that begins with a digit: a number, where it spells one below the limit
-abbrev pub run_kind : Option ℕ → PieceKind
-run_kind None = Bad NoToken
-run_kind (Some n) = if nat_lt n number_limit then TokenOf (Number n) else Bad LargeNumber
+abbrev pub run_kind : List ℕ → PieceKind
+run_kind run = number_kind (number_value run)
 
 -- the bytes begin with `*/`
 abbrev pub begins_with_close : List ℕ → Bool
@@ -57,7 +60,7 @@ abbrev pub led_kind : Lead → ℕ → List ℕ → Option PieceKind
 led_kind Blank b bs = only_if (list_all is_blank bs) Blanks
 led_kind LineComment b bs = only_if (list_all (λ c. not (c == 10)) bs) Comment
 led_kind Letter b bs = only_if (list_all is_name_byte bs) (TokenOf Word)
-led_kind Digit b bs = only_if (list_all is_name_byte bs) (run_kind (number_value (b ∷ bs)))
+led_kind Digit b bs = only_if (list_all is_name_byte bs) (run_kind (b ∷ bs))
 led_kind Slash b bs = slash_kind bs
 led_kind Single b bs = alone bs (TokenOf (Mark b))
 led_kind Other b bs = alone bs (Bad NoToken)
@@ -81,3 +84,33 @@ IsPieceAt text at piece = IsNext (is_line_blank (take at text)) (drop at text) p
 abbrev pub IsCut : List ℕ → ℕ → List Piece → ℕ → Type 0
 IsCut text at [] to = at ≡ to
 IsCut text at (piece ∷ pieces) to = IsPieceAt text at piece × IsCut text (at + piece.size) pieces to
+
+-- The next piece, as the lexer finds it by the first byte: a matter of this crate alone, which no public clause names.
+
+-- how many bytes there are up to the end of the first `*/`, where there is one, and whether a `*` stands before them
+abbrev pub close_after : Bool → List ℕ → Option ℕ
+close_after star [] = None
+close_after star (b ∷ bs) = if star && b == 47 then Some 1 else option_map suc (close_after (b == 42) bs)
+
+-- a `/*` and so many bytes after it, by the end of the first `*/` among them
+abbrev pub comment_piece : Option ℕ → ℕ → Piece
+comment_piece None size = record { kind = Bad OpenComment; size = 2 + size }
+comment_piece (Some close) size = record { kind = Comment; size = 2 + close }
+
+-- a `/` and what comes after it
+abbrev pub slash_piece : List ℕ → Piece
+slash_piece [] = record { kind = Bad NoToken; size = 1 }
+slash_piece (b ∷ bs) =
+    if b == 42 then comment_piece (close_after false bs) (length bs) else record { kind = Bad NoToken; size = 1 }
+
+abbrev pub led_piece : Lead → ℕ → List ℕ → Piece
+led_piece Blank b bs = record { kind = Blanks; size = 1 + prefix_len is_blank bs }
+led_piece LineComment b bs = record { kind = Comment; size = 1 + prefix_len (λ c. not (c == 10)) bs }
+led_piece Letter b bs = record { kind = TokenOf Word; size = 1 + prefix_len is_name_byte bs }
+led_piece Digit b bs = record {
+  kind = run_kind (b ∷ take (prefix_len is_name_byte bs) bs);
+  size = 1 + prefix_len is_name_byte bs;
+}
+led_piece Slash b bs = slash_piece bs
+led_piece Single b bs = record { kind = TokenOf (Mark b); size = 1 }
+led_piece Other b bs = record { kind = Bad NoToken; size = 1 }

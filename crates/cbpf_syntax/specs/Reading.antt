@@ -1,15 +1,13 @@
 -- A source text whose items are taken one by one, with a few tokens read ahead: what stands next, by the forms of
 -- `Table` (of the kernel's Documentation/networking/filter, and this project's own).
-use Rattle.std.specs.Prelude.{◌≡◌, ◌<◌, ◌+◌, ◌-◌, ℕ, Bool, true, List, [], ◌++◌, length, map, slice_get, Option}
+use Rattle.std.specs.Prelude.{◌≡◌, ◌<◌, ◌+◌, ◌-◌, ℕ, Bool, true, List, [], ◌++◌, length, map, Option}
 use Rattle.std.specs.Prelude.{Some, None, Ok}
 use Rattle.cbpf_syntax.specs.declared.token.Token.{Token}
 use Rattle.cbpf_syntax.specs.Tokens.{LexesTo}
 use Rattle.cbpf_syntax.specs.declared.lexeme.Lexeme as declared_lexeme
 use Rattle.cbpf_syntax.specs.declared.reader.Step.{Step}
 use Rattle.cbpf_syntax.specs.declared.reader.Step.TheVariants.{Label, Instruction, Stuck as stuck_step}
-use Rattle.cbpf_syntax.specs.declared.reader.SyntaxFault.{SyntaxFault}
-use Rattle.cbpf_syntax.specs.declared.reader.SyntaxFault.TheVariants as refused
-use Rattle.cbpf_syntax.specs.Refusals.{ParseFault as faults, IsLargeNegative, IsFirstRefusal, symbol_at}
+use Rattle.cbpf_syntax.specs.Refusals.{IsLargeNegative, IsPlaceOf, symbol_at}
 use Rattle.cbpf_syntax.specs.Lexemes.{Lexeme, lexemes_of, AreLexemes}
 use Rattle.cbpf_syntax.specs.Lexemes.Symbol.{word}
 use Rattle.cbpf_syntax.specs.Steps.{IsInstruction, Stuck, starts_with_label}
@@ -58,21 +56,11 @@ step_len (Some Label) = 2
 step_len (Some (Instruction row)) = 1 + length row.operand.now
 step_len (Some (stuck_step n)) = n
 
--- the lexeme at an index stands at the place
-abbrev pub IsPlaceOf : List Lexeme → ℕ → ℕ → Type 0
-IsPlaceOf ts i at = (t : Lexeme) × (slice_get ts i ≡ Some t) × (at ≡ t.at)
-
 -- the place of the first of so many tokens that is a number too large after a `-`
 abbrev pub IsFirstLarge : List Lexeme → ℕ → Option ℕ → Type 0
 IsFirstLarge ts n None = (k : ℕ) → k < n → IsLargeNegative ts k → ⊥
 IsFirstLarge ts n (Some at) = (i : ℕ) × (i < n) × IsLargeNegative ts i × ((k : ℕ) → k < i → IsLargeNegative ts k → ⊥)
     × IsPlaceOf ts i at
-
--- the first refusal of tokens, by the place of the token that shows it
-abbrev pub IsRefusedFor : List Lexeme → SyntaxFault → Type 0
-IsRefusedFor ts (refused.Misplaced at) = (i : ℕ) × IsFirstRefusal ts (faults.Misplaced i) × IsPlaceOf ts i at
-IsRefusedFor ts (refused.LargeNegative at) = (i : ℕ) × IsFirstRefusal ts (faults.LargeNegative i) × IsPlaceOf ts i at
-IsRefusedFor ts (refused.Unfinished at) = IsFirstRefusal ts faults.Unfinished × IsPlaceOf ts (length ts - 1) at
 
 -- of the text's lexemes, if it has any, n were taken
 pub record IsReading (n : ℕ) (a : Ahead) : Type 0 where

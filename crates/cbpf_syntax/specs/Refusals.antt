@@ -1,6 +1,9 @@
 -- Why a token list is no list of items, or has a literal out of range: this project's own rules, as the kernel's
 -- Documentation/networking/filter has no faults.
-use Rattle.std.specs.Prelude.{◌≡◌, ◌≤◌, ◌<◌, ℕ, ◌+◌, List, length, take, Option, Some, option_map, slice_get}
+use Rattle.std.specs.Prelude.{◌≡◌, ◌≤◌, ◌<◌, ℕ, ◌+◌, ◌-◌, List, length, take, Option, Some, option_map, slice_get}
+use Rattle.std.specs.Prelude.{nat_lt, if◌then◌else◌}
+use Rattle.cbpf_syntax.specs.declared.reader.SyntaxFault.{SyntaxFault}
+use Rattle.cbpf_syntax.specs.declared.reader.SyntaxFault.TheVariants as reported
 use Rattle.cbpf_syntax.specs.Lexemes.{Symbol, Lexeme}
 use Rattle.cbpf_syntax.specs.Lexemes.Symbol.{number, mark}
 use Rattle.cbpf_syntax.specs.Items.{Item, Items, BeginsItems}
@@ -62,6 +65,28 @@ pub record IsFirstRefusal (ts : List Lexeme) (fault : ParseFault) : Type 0 where
   pub place : ℕ
   pub refused : IsRefusedAt ts fault place
   pub first : (other : ParseFault) (q : ℕ) → IsRefusedAt ts other q → place ≤ q
+
+-- the lexeme at an index stands at the place
+abbrev pub IsPlaceOf : List Lexeme → ℕ → ℕ → Type 0
+IsPlaceOf ts i at = (t : Lexeme) × (slice_get ts i ≡ Some t) × (at ≡ t.at)
+
+-- the token that shows a refusal at the place: the one there, or the last one where that is their end
+abbrev pub shown_at : List Lexeme → ℕ → ℕ
+shown_at ts place = if nat_lt place (length ts) then place else length ts - 1
+
+-- a refusal as it is reported, with the place in the text
+abbrev pub reported_at : ParseFault → ℕ → SyntaxFault
+reported_at (Misplaced i) at = reported.Misplaced at
+reported_at (LargeNegative i) at = reported.LargeNegative at
+reported_at Unfinished at = reported.Unfinished at
+
+-- the first refusal of tokens, by the place in the text of the token that shows it
+pub record IsRefusedFor (ts : List Lexeme) (fault : SyntaxFault) : Type 0 where
+  pub refusal : ParseFault
+  pub first : IsFirstRefusal ts refusal
+  pub at : ℕ
+  pub shown : IsPlaceOf ts (shown_at ts first.place) at
+  pub is : fault ≡ reported_at refusal at
 
 abbrev pub IsAccepted : List Lexeme → Type 0
 IsAccepted ts = (fault : ParseFault) (place : ℕ) → IsRefusedAt ts fault place → ⊥

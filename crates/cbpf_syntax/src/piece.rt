@@ -1,10 +1,8 @@
 //! The piece at the front of a text: blanks, a comment, a token, or a bad piece.
 
 ghost use Rattle.std.specs.Prelude.{true, false, IfSome, IfNone, ◌∷◌, ◌&&◌, ◌==◌, ◌≡◌, ◌≤◌, length};
-ghost use Rattle.cbpf_syntax.specs.Numbers.{number_value};
-ghost use Rattle.cbpf_syntax.specs.Pieces.{IsNext, is_line_blank, run_kind};
+ghost use Rattle.cbpf_syntax.specs.Pieces.{IsNext, is_line_blank, run_kind, close_after, slash_piece};
 ghost use Rattle.cbpf_syntax.specs.Leads.{lead_of};
-ghost use Rattle.cbpf_syntax.specs.NextPiece.{close_after, slash_piece};
 ghost use Rattle.cbpf_syntax.specs.Tokens.{is_good};
 ghost use Rattle.cbpf_syntax.specs.declared.piece.PieceKind.TheVariants.{Bad};
 
@@ -109,7 +107,7 @@ fn close_len(body: &[u8]) -> Option<usize>
 /// The kind of a run of bytes that begins with a digit.
 #[inline(always)]
 fn run_kind(first: u8, rest: &[u8]) -> PieceKind
-    ensures { result ≡ run_kind (number_value (first ∷ rest.now)) }
+    ensures { result ≡ run_kind (first ∷ rest.now) }
 {
     match number_value(first, rest) {
         None => PieceKind::Bad(BadPiece::NoToken),

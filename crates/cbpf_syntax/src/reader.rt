@@ -7,9 +7,9 @@ ghost use Rattle.cbpf_syntax.specs.declared.token.Token.{Token};
 ghost use Rattle.cbpf_syntax.specs.Tokens.{Lexes, LexesTo, IsLexFault};
 ghost use Rattle.cbpf_syntax.specs.Lexemes.{AreLexemes};
 ghost use Rattle.cbpf_syntax.specs.Lexemes as lexemes;
-ghost use Rattle.cbpf_syntax.specs.Refusals.{IsStuckAt};
+ghost use Rattle.cbpf_syntax.specs.Refusals.{IsStuckAt, IsRefusedFor};
 ghost use Rattle.cbpf_syntax.specs.Reading.{AreAhead, IsReading, IsStepOf, step_len, left, StartsWithWord};
-ghost use Rattle.cbpf_syntax.specs.Reading.{IsFirstLarge, IsRefusedFor, ReadsOn};
+ghost use Rattle.cbpf_syntax.specs.Reading.{IsFirstLarge, ReadsOn};
 ghost use Rattle.cbpf_syntax.specs.Views.{lexeme_of};
 
 use crate::item::{Row, instruction, starts_with_label};

@@ -19,16 +19,15 @@ use Rattle.cbpf_syntax.specs.Classes.Class.{the_word}
 use Rattle.cbpf_syntax.specs.Lexemes.{Lexeme, lexemes_of}
 use Rattle.cbpf_syntax.specs.Fits.{fits_all}
 use Rattle.cbpf_syntax.specs.Items.{Item}
-use Rattle.cbpf_syntax.specs.Refusals.{ParseFault, IsFirstRefusal}
-use Rattle.cbpf_syntax.proofs.Refused.{large_within}
-use Rattle.cbpf_syntax.proofs.Answered.{each_parsed}
+use Rattle.cbpf_syntax.specs.Refusals.{ParseFault, IsFirstRefusal, IsPlaceOf, shown_at}
+use Rattle.cbpf_syntax.proofs.FirstRefusal.{each_parsed, shown_within}
 use Rattle.cbpf_text.specs.declared.fault.AsmKind.{AsmKind}
 use Rattle.cbpf_text.specs.declared.fault.AsmKind.TheVariants as kinds
 use Rattle.cbpf_text.specs.Labels.{name_of, set_labels, times_among, AreDistinct}
 use Rattle.cbpf_text.specs.Operands.{HasForm, literal_in, targets_in}
 use Rattle.cbpf_text.specs.Assembled.{FillsFields, IsEncoded, EncodeEach, HasProgramLength, AreEncoded, AssembleTokens}
 use Rattle.cbpf_text.specs.Refusals.{IsFirstRepeat, Use, is_conditional, uses_of, uses_from, IsGoodUse, IsExcess}
-use Rattle.cbpf_text.specs.Refusals.{IsFirstBadUse, IsItemsFault, IsTokensFault, bad_piece_kind, grammar_kind, shown_at}
+use Rattle.cbpf_text.specs.Refusals.{IsFirstBadUse, IsItemsFault, IsTokensFault, bad_piece_kind, grammar_kind}
 use Rattle.cbpf_text.specs.Refusals.IsItemsFault.{no_item, too_many, set_twice, bad_use}
 use Rattle.cbpf_text.specs.Refusals.IsTokensFault.{of_grammar, of_items}
 use Rattle.cbpf_text.specs.Refusals.IsTextFault.{of_piece, of_tokens}
@@ -40,7 +39,6 @@ use Rattle.cbpf_text.proofs.Faults.{tokens_assembled}
 use Rattle.std.proofs.lemmas.Grind.{common_steps}
 use Rattle.cbpf_syntax.proofs.Apart.{bytes_eq_self}
 use Rattle.cbpf_syntax.proofs.Cuts.{some-same}
-use Rattle.cbpf_syntax.specs.Reading.{IsPlaceOf}
 use Rattle.cbpf_text.proofs.Encoding.{good_uses}
 
 get_some : {A : Type 0} (xs : List A) (i : ℕ) → i < length xs → (x : A) × (slice_get xs i ≡ Some x)
@@ -265,15 +263,9 @@ one_of_items is k l m n (bad_use c p s d b) (set_twice q o r) = absurd (twice (s
 one_of_items is k l m n (bad_use c p s d b) (bad_use f q o g h) = one_bad is (uses_from 0 is) k l m n d b h
 
 -- tokens that are refused by the grammar
-shown_within : (ts : List Lexeme) (f : ParseFault) → IsFirstRefusal ts f → shown_at ts f < length ts
-shown_within ts (ParseFault.Misplaced i) r = r.refused.1.within
-shown_within ts (ParseFault.LargeNegative i) r = large_within ts i r.refused.1
-shown_within [] ParseFault.Unfinished r = absurd (r.refused.1.none [] refl)
-shown_within (t ∷ ts) ParseFault.Unfinished r = omega arith
-
 refused_tokens : (ts : List Lexeme) (f : ParseFault) → IsFirstRefusal ts f
     → (kind : AsmKind) × (at : ℕ) × IsTokensFault ts kind at
-refused_tokens ts f r = let t = get_some ts (shown_at ts f) (shown_within ts f r) in
+refused_tokens ts f r = let t = get_some ts (shown_at ts r.place) (shown_within ts f r) in
     (grammar_kind f, t.0.at, of_grammar f t.0.at r (t.0, t.1, refl))
 
 each_tokens : (ts : List Lexeme)

@@ -3,7 +3,8 @@ use Rattle.std.proofs.Common.{rules, ◌≡◌, refl, sym, subst, ℕ, List, ◌
 use Rattle.std.proofs.Common.{◌∷◌, ◌++◌, length, map, take, drop, get_or, Option, Some, None, arith, append_assoc}
 use Rattle.std.proofs.Common.{append-nil, length-append, length-drop}
 use Rattle.cbpf_syntax.specs.Tokens.{LexesTo}
-use Rattle.cbpf_syntax.specs.Refusals.{ParseFault, IsAccepted, IsStuckAt}
+use Rattle.cbpf_syntax.specs.declared.reader.SyntaxFault.{SyntaxFault}
+use Rattle.cbpf_syntax.specs.Refusals.{ParseFault, IsAccepted, IsStuckAt, IsRefusedFor}
 use Rattle.cbpf_syntax.specs.Lexemes.{Lexeme, lexemes_of, AreLexemes}
 use Rattle.cbpf_syntax.specs.Items.{Item, Items}
 use Rattle.cbpf_code.specs.declared.insn.Insn.{Insn}
@@ -11,6 +12,7 @@ use Rattle.cbpf_text.specs.declared.fault.AsmFault.{AsmFault}
 use Rattle.cbpf_text.specs.declared.placed_fault.PlacedFault.{PlacedFault}
 use Rattle.cbpf_text.specs.Assembled.{AreEncoded, AssembleTokens}
 use Rattle.cbpf_text.specs.Refusals.{Reported, IsTokensFault, IsRefused, IsLexRefused, IsReportedAt}
+use Rattle.cbpf_text.specs.Refusals.{grammar_kind}
 use Rattle.cbpf_text.specs.Refusals.IsTokensFault.{of_grammar}
 use Rattle.cbpf_text.specs.Refusals.IsTextFault.{of_piece, of_tokens}
 use Rattle.cbpf_text.specs.declared.fault.AsmFault.TheVariants as faults
@@ -26,7 +28,8 @@ use Rattle.cbpf_syntax.specs.Steps.{IsInstruction, IsNextItem, Stuck, AreLabels,
 use Rattle.cbpf_syntax.proofs.Greedy.{Greedy}
 use Rattle.cbpf_syntax.proofs.Ahead.{labels_item, labels_stuck, labels_append}
 use Rattle.cbpf_syntax.proofs.Taking.{taken_is, ahead_is}
-use Rattle.cbpf_syntax.proofs.Refused.{items_large, large_within, items_accepted, greedy_more, greedy_all, stuck_at}
+use Rattle.cbpf_syntax.proofs.Refused.{large_within, greedy_more, greedy_all, stuck_at}
+use Rattle.cbpf_syntax.proofs.FirstRefusal.{large_refused, items_accepted}
 use Rattle.cbpf_text.specs.declared.name.Name.{Name}
 use Rattle.cbpf_text.specs.declared.draft.Statement.{Statement}
 use Rattle.cbpf_text.specs.Drafts.{AreSet, IsKept, IsDraft}
@@ -53,10 +56,18 @@ whole_refused text ts placed.Memory fault t h e = rw e tt
 whole_refused text ts (placed.At kind at) fault t h e =
     rw e (of_tokens t.tokens kind at t.lexed (subst (λ us. IsTokensFault us kind at) t.are h))
 
+-- the first refusal of the grammar is the text's
+pub grammar_refused : (text : List ℕ) (ts : List Lexeme) {refused : SyntaxFault} (fault : AsmFault) → AreLexemes text ts
+    → (first : IsRefusedFor ts refused)
+    → IsReportedAt text (placed.At (grammar_kind first.refusal) first.at) fault → IsRefused text fault
+grammar_refused text ts fault t first e = whole_refused text ts (placed.At (grammar_kind first.refusal) first.at) fault t
+    (of_grammar first.refusal first.at first.first first.shown) e
+
 -- items with a literal that is too large
 pub items_large_refused : (ts : List Lexeme) (is : List Item) (n at : ℕ) → Items ts is → IsFirstLarge ts n (Some at)
     → IsTokensFault ts kinds.LargeNumber at
-items_large_refused ts is n at p h = of_grammar (ParseFault.LargeNegative h.0) at (items_large ts is h.0 p h.2 h.3) h.4
+items_large_refused ts is n at p h =
+    let r = large_refused ts is h.0 at p h.2 h.3 h.4 in of_grammar (ParseFault.LargeNegative h.0) at r.0 r.1
 
 pub all_accepted : (ts : List Lexeme) (is : List Item) (n : ℕ) → Items ts is → length ts ≤ n → IsFirstLarge ts n None
     → IsAccepted ts

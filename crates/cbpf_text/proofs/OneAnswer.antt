@@ -8,16 +8,16 @@ use Rattle.cbpf_syntax.specs.Items.{Item}
 use Rattle.cbpf_syntax.proofs.Apart.{one_reading}
 use Rattle.cbpf_text.specs.Assembled.{AssembleTokens, EncodeEach, IsEncoded, FillsFields, AreEncoded}
 use Rattle.cbpf_text.specs.Laws.{OneAssembly, NeverBoth, OneRefusal}
-use Rattle.cbpf_syntax.proofs.Refused.{items_accepted}
+use Rattle.cbpf_syntax.proofs.FirstRefusal.{items_accepted}
 use Rattle.cbpf_text.specs.declared.fault.AsmKind.{AsmKind}
-use Rattle.cbpf_text.specs.Refusals.{IsItemsFault, IsTokensFault, bad_piece_kind, grammar_kind, shown_at}
+use Rattle.cbpf_text.specs.Refusals.{IsItemsFault, IsTokensFault, bad_piece_kind, grammar_kind}
 use Rattle.cbpf_text.specs.Refusals.IsTokensFault.{of_grammar, of_items}
 use Rattle.cbpf_text.specs.Refusals.IsTextFault.{of_piece, of_tokens}
 use Rattle.cbpf_text.proofs.Forms.{items_forms}
 use Rattle.cbpf_syntax.proofs.Outcomes as lexer
-use Rattle.cbpf_syntax.proofs.OneRefusal as grammar
+use Rattle.cbpf_syntax.proofs.FirstRefusal as grammar
 use Rattle.cbpf_syntax.specs.Tokens.{line_of}
-use Rattle.cbpf_syntax.specs.Reading.{IsPlaceOf}
+use Rattle.cbpf_syntax.specs.Refusals.{IsPlaceOf, shown_at}
 use Rattle.cbpf_text.proofs.Uses.{one_offset}
 use Rattle.cbpf_text.proofs.Answered.{not_items, one_of_items, one_place_of}
 
@@ -67,7 +67,9 @@ one_of_tokens : (ts : List Lexeme) (k l : AsmKind) (m n : ℕ) → IsTokensFault
     → (k ≡ l) × (m ≡ n)
 one_of_tokens ts k l m n (of_grammar f i r p) (of_grammar g j s q) =
     let e : f ≡ g = grammar.one_refusal ts f g r s in
-    (ap grammar_kind e, one_place_of ts (shown_at ts g) m n (subst (λ h. IsPlaceOf ts (shown_at ts h) m) e p) q)
+    let place : IsPlaceOf ts (shown_at ts s.place) m =
+    subst (λ i. IsPlaceOf ts (shown_at ts i) m) (grammar.one_shown ts f g r s) p in
+    (ap grammar_kind e, one_place_of ts (shown_at ts s.place) m n place q)
 one_of_tokens ts k l m n (of_grammar f i r p) (of_items is c j o a x) = absurd (a f r.place r.refused)
 one_of_tokens ts k l m n (of_items is c j o a x) (of_grammar f i r p) = absurd (a f r.place r.refused)
 one_of_tokens ts k l m n (of_items is c i o a x) (of_items js d j p b y) =

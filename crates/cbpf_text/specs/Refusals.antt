@@ -1,6 +1,6 @@
 -- Why a source text is refused, and the line that is reported: this project's own rules, as the kernel's
 -- Documentation/networking/filter has no faults.
-use Rattle.std.specs.Prelude.{◌≡◌, ◌≢◌, ℕ, ◌+◌, ◌-◌, ◌<◌, ◌≤◌, Bool, true, false, List, [], ◌∷◌, ◌++◌, length, map}
+use Rattle.std.specs.Prelude.{◌≡◌, ◌≢◌, ℕ, ◌+◌, ◌<◌, ◌≤◌, Bool, true, false, List, [], ◌∷◌, ◌++◌, map}
 use Rattle.std.specs.Prelude.{slice_get, Option, Some, None, All}
 use Rattle.cbpf_code.specs.declared.checker.TheConstants.{MAX_INSTRUCTIONS}
 use Rattle.cbpf_syntax.specs.declared.token.Token.{Token}
@@ -11,8 +11,7 @@ use Rattle.cbpf_syntax.specs.declared.table.Fields.{Fields}
 use Rattle.cbpf_syntax.specs.declared.table.Fields.TheVariants.{Constant, Goto, Branch, Swapped}
 use Rattle.cbpf_syntax.specs.Lexemes.{Lexeme, lexemes_of}
 use Rattle.cbpf_syntax.specs.Items.{Item, Items}
-use Rattle.cbpf_syntax.specs.Refusals.{ParseFault, IsFirstRefusal, IsAccepted}
-use Rattle.cbpf_syntax.specs.Reading.{IsPlaceOf}
+use Rattle.cbpf_syntax.specs.Refusals.{ParseFault, IsFirstRefusal, IsAccepted, IsPlaceOf, shown_at}
 use Rattle.cbpf_text.specs.declared.encode.TheConstants.{FARTHEST}
 use Rattle.cbpf_text.specs.declared.fault.AsmKind.{AsmKind}
 use Rattle.cbpf_text.specs.declared.fault.AsmKind.TheVariants as kinds
@@ -96,21 +95,15 @@ pub data IsItemsFault (items : List Item) : AsmKind → ℕ → Type 0 where
   bad_use : (kind : AsmKind) (at : ℕ) → HasProgramLength items → AreDistinct (set_labels items)
       → IsFirstBadUse items (uses_from 0 items) kind at → IsItemsFault items kind at
 
--- a refusal of the grammar: its kind, and the index of the token that shows it
 abbrev pub grammar_kind : ParseFault → AsmKind
 grammar_kind (ParseFault.Misplaced i) = kinds.Misplaced
 grammar_kind (ParseFault.LargeNegative i) = kinds.LargeNumber
 grammar_kind ParseFault.Unfinished = kinds.Unfinished
 
-abbrev pub shown_at : List Lexeme → ParseFault → ℕ
-shown_at ts (ParseFault.Misplaced i) = i
-shown_at ts (ParseFault.LargeNegative i) = i
-shown_at ts ParseFault.Unfinished = length ts - 1
-
 -- why tokens are refused, and the place: the first refusal of the grammar, and where there is none that of the items
 pub data IsTokensFault (ts : List Lexeme) : AsmKind → ℕ → Type 0 where
-  of_grammar : (fault : ParseFault) (at : ℕ) → IsFirstRefusal ts fault → IsPlaceOf ts (shown_at ts fault) at
-      → IsTokensFault ts (grammar_kind fault) at
+  of_grammar : (fault : ParseFault) (at : ℕ) (first : IsFirstRefusal ts fault)
+      → IsPlaceOf ts (shown_at ts first.place) at → IsTokensFault ts (grammar_kind fault) at
   of_items : (items : List Item) (kind : AsmKind) (at : ℕ) → Items ts items → IsAccepted ts
       → IsItemsFault items kind at → IsTokensFault ts kind at
 

@@ -8,13 +8,13 @@ ghost use Rattle.cbpf_syntax.specs.Lexemes.{AreLexemes};
 ghost use Rattle.cbpf_syntax.specs.Items as items;
 ghost use Rattle.cbpf_syntax.specs.Items.{Items};
 ghost use Rattle.cbpf_syntax.specs.Refusals.{IsAccepted, IsStuckAt};
-ghost use Rattle.cbpf_syntax.specs.Reading.{IsReading, IsRefusedFor, StartsWithWord};
+ghost use Rattle.cbpf_syntax.specs.Reading.{IsReading, StartsWithWord};
 ghost use Rattle.cbpf_syntax.specs.Views.{lexeme_of, row_of};
 ghost use Rattle.cbpf_text.specs.Drafts.{IsStatement, IsDraft, AreTargets, AreSet};
-ghost use Rattle.cbpf_text.specs.Refusals.{Reported, IsTokensFault, IsRefused};
+ghost use Rattle.cbpf_text.specs.Refusals.{IsRefused};
 ghost use Rattle.cbpf_text.specs.Tables.{same_name};
 
-use crate::fault::{AsmFault, AsmKind};
+use crate::fault::{AsmFault, AsmKind, syntax_fault};
 use crate::labels::Labels;
 use crate::name::{Name, name_of};
 use crate::operand::value_at;
@@ -149,17 +149,6 @@ fn add_instruction<'a, A: Allocator>(
     }
     draft.statements.push(make_statement(row, body))?;
     Ok(())
-}
-
-/// The fault of the syntax, as one of the assembler.
-fn syntax_fault(refused: cbpf_syntax::SyntaxFault) -> PlacedFault
-    ensures { (ts : List lexemes.Lexeme) → IsRefusedFor ts refused → Reported (IsTokensFault ts) result }
-{
-    match refused {
-        cbpf_syntax::SyntaxFault::Misplaced(at) => PlacedFault::At(AsmKind::Misplaced, at),
-        cbpf_syntax::SyntaxFault::LargeNegative(at) => PlacedFault::At(AsmKind::LargeNumber, at),
-        cbpf_syntax::SyntaxFault::Unfinished(at) => PlacedFault::At(AsmKind::Unfinished, at),
-    }
 }
 
 /// The fault of a text whose tokens go on so far and no farther: its first bad piece, if one comes

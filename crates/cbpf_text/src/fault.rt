@@ -1,5 +1,12 @@
 //! Why a source text is refused.
 
+ghost use Rattle.std.specs.Prelude.{◌≡◌, ℕ};
+ghost use Rattle.cbpf_syntax.specs.Refusals.{ParseFault, reported_at};
+ghost use Rattle.cbpf_text.specs.Refusals.{bad_piece_kind, grammar_kind};
+ghost use Rattle.cbpf_text.specs.declared.placed_fault.PlacedFault.TheVariants.{At};
+
+use crate::placed_fault::PlacedFault;
+use cbpf_syntax::{BadPiece, SyntaxFault};
 use std::alloc::{AllocError, AllocFailed};
 use thiserror::Error;
 
@@ -39,6 +46,28 @@ pub enum AsmKind {
     /// A11: no instruction at all.
     #[error("A11 no instruction")]
     NoInstruction,
+}
+
+/// What a bad piece of a text is reported as.
+pub(crate) fn piece_kind(bad: BadPiece) -> AsmKind
+    ensures { result ≡ bad_piece_kind bad }
+{
+    match bad {
+        BadPiece::NoToken => AsmKind::NoToken,
+        BadPiece::OpenComment => AsmKind::OpenComment,
+        BadPiece::LargeNumber => AsmKind::LargeNumber,
+    }
+}
+
+/// What a refusal of the grammar is reported as.
+pub(crate) fn syntax_fault(refused: SyntaxFault) -> PlacedFault
+    ensures { (fault : ParseFault) (at : ℕ) → refused ≡ reported_at fault at → result ≡ At (grammar_kind fault) at }
+{
+    match refused {
+        SyntaxFault::Misplaced(at) => PlacedFault::At(AsmKind::Misplaced, at),
+        SyntaxFault::LargeNegative(at) => PlacedFault::At(AsmKind::LargeNumber, at),
+        SyntaxFault::Unfinished(at) => PlacedFault::At(AsmKind::Unfinished, at),
+    }
 }
 
 /// Why a source text has no instructions.

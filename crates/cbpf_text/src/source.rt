@@ -2,21 +2,11 @@
 
 ghost use Rattle.std.specs.Prelude.{◌≡◌, ℕ, List, IfOk, IfErr, All};
 ghost use Rattle.cbpf_syntax.specs.Tokens.{Lexes, IsLexFault, IsSpanOf, line_of};
-ghost use Rattle.cbpf_text.specs.Refusals.{IsLexRefused, bad_piece_kind};
+ghost use Rattle.cbpf_text.specs.Refusals.{IsLexRefused};
 
-use crate::fault::{AsmFault, AsmKind};
-use cbpf_syntax::{BadPiece, LexFault, Token};
+use crate::fault::{AsmFault, piece_kind};
+use cbpf_syntax::{LexFault, Token};
 use std::alloc::Allocator;
-
-fn piece_kind(bad: BadPiece) -> AsmKind
-    ensures { result ≡ bad_piece_kind bad }
-{
-    match bad {
-        BadPiece::NoToken => AsmKind::NoToken,
-        BadPiece::OpenComment => AsmKind::OpenComment,
-        BadPiece::LargeNumber => AsmKind::LargeNumber,
-    }
-}
 
 /// What is reported of a text that has no tokens.
 pub(crate) fn asm_fault(fault: LexFault) -> AsmFault

@@ -1,15 +1,16 @@
 use Rattle.std.proofs.Common.{subst}
 use Rattle.cbpf_syntax.specs.Tokens.{IsLexFault}
 use Rattle.cbpf_syntax.specs.Lexemes.{AreLexemes}
-use Rattle.cbpf_text.proofs.Faults.{lex_refused, whole_refused}
+use Rattle.cbpf_text.proofs.Faults.{lex_refused, grammar_refused}
 use Rattle.cbpf_text.proofs.draft.fault_here.Goals as goal
 
 pub returns-in-Ok : goal.returns-in-Ok
 returns-in-Ok g c m r some stuck =
     let all = c.in-Ok.ensures.lexed m r in
     let t = subst (λ u. AreLexemes u all.0) c.requires.text all.1 in
-    whole_refused c.args.text.now all.0 c.syntax_fault.result c.with_line.result t
-    (c.syntax_fault.ensures all.0 (c.fault-refused.ensures m all.0 r all.1 some (stuck all.0 t))) c.with_line.ensures
+    let first = c.fault-refused.ensures m all.0 r all.1 some (stuck all.0 t) in
+    grammar_refused c.args.text.now all.0 c.with_line.result t first
+    (rw (c.syntax_fault.ensures first.refusal first.at first.is) at c.with_line.ensures)
 
 pub returns-in-Err : goal.returns-in-Err
 returns-in-Err g c m r some stuck =

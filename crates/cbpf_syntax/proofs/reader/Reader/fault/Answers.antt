@@ -1,6 +1,8 @@
-use Rattle.std.proofs.Common.{◌≡◌, ◌≤◌, ◌<◌, ◌+◌, ℕ, Option, Some, None, refl, subst, length, map, drop, List, arith}
+use Rattle.std.proofs.Common.{◌≡◌, ◌≤◌, ◌<◌, ◌+◌, ◌-◌, ℕ, Option, Some, None, refl, subst, length, map, drop, List, arith}
 use Rattle.cbpf_syntax.specs.Reading.{AreAhead, IsFirstLarge}
-use Rattle.cbpf_syntax.proofs.Taking.{large_taken, refused_large, refused_misplaced, refused_unfinished, refused_last}
+use Rattle.cbpf_syntax.proofs.Taking.{large_taken, place_taken, place_before, within_taken, whole_size}
+use Rattle.cbpf_syntax.proofs.FirstRefusal.{refused_large, refused_misplaced, refused_unfinished}
+use Rattle.cbpf_syntax.specs.Refusals.{IsPlaceOf}
 use Rattle.cbpf_syntax.specs.Lexemes.{Lexeme, AreLexemes}
 use Rattle.cbpf_syntax.specs.Views.{lexeme_of}
 use Rattle.cbpf_syntax.proofs.reader.Reader.fault.Given.{Over}
@@ -44,7 +46,8 @@ returns-then-n-ahead g c =
     let k = ahead g (goal.at.returns-then-n-ahead g c).After-first_large in
     let more : c.args.n < length (drop c.self.inside.at c.self.inside.ahead.items) = rw k.1 at c.if-n-ahead.true in
     rw (← c.self.view_is, k.1) (λ m ts r t some stuck.
-    refused_misplaced s.text.now s.lexer.at m (drop s.at s.ahead.items) ts r.read t n _ more stuck
+    refused_misplaced ts (m + n) _ (within_taken s.text.now s.lexer.at m (drop s.at s.ahead.items) ts r.read t n more)
+    (place_taken s.text.now s.lexer.at m (drop s.at s.ahead.items) ts r.read t n _ more) stuck
     (subst (λ o. IsFirstLarge ts (m + n) o) (none_of c.first_large.result c.in_default.not-Some)
     (k.2 m ts r.read t (r.large ts t))))
 
@@ -57,8 +60,9 @@ returns-then-n-gt0 g c =
     let f = rw k.1 at c.if-n-ahead.false in
     omega (arith, f, k.0) in
     let ended = rw (← c.self.view_is) at c.requires.end in
-    rw (← c.self.view_is, k.1) (λ m ts r t some stuck. refused_unfinished s.text.now s.lexer.at m
-    (drop s.at s.ahead.items) ts r.read t n _ all c.if-n-gt0.true (r.end (ended all)) stuck
+    rw (← c.self.view_is, k.1) (λ m ts r t some stuck. refused_unfinished ts (m + n) _
+    (omega (arith, all, whole_size s.text.now s.lexer.at m (drop s.at s.ahead.items) ts r.read t (r.end (ended all))))
+    (place_before s.text.now s.lexer.at m (drop s.at s.ahead.items) ts r.read t n _ k.0 c.if-n-gt0.true) stuck
     (subst (λ o. IsFirstLarge ts (m + n) o) (none_of c.first_large.result c.in_default.not-Some)
     (k.2 m ts r.read t (r.large ts t))))
 
@@ -73,7 +77,9 @@ returns-else-n-gt0 g c =
     let zero_n : c.args.n ≡ 0 = let f = c.if-n-gt0.false in omega (arith, f) in
     let ended = rw (← c.self.view_is) at c.requires.end in
     rw (← c.self.view_is)
-    (λ m ts r t some stuck. refused_last s.text.now s.lexer.at m (drop s.at s.ahead.items) ts r.read t n s.last zero_n
-    all (r.end (ended all)) (r.last ts t (omega (arith, some, zero_n, all))) stuck
+    (λ m ts r t some stuck. let same : m - 1 ≡ m + n - 1 = omega (arith, zero_n) in
+    refused_unfinished ts (m + n) s.last
+    (omega (arith, all, whole_size s.text.now s.lexer.at m (drop s.at s.ahead.items) ts r.read t (r.end (ended all))))
+    (subst (λ i. IsPlaceOf ts i s.last) same (r.last ts t (omega (arith, some, zero_n, all)))) stuck
     (subst (λ o. IsFirstLarge ts (m + n) o) (none_of c.first_large.result c.in_default.not-Some)
     (k.2 m ts r.read t (r.large ts t))))

@@ -1,11 +1,10 @@
--- A token list has at most one first refusal: no token is misplaced that is a number after a `-`.
-use Rattle.std.proofs.Common.{rules, ◌≡◌, ℕ, zero, suc, ◌+◌, ◌≤◌, Bool, true, false, not, ◌&&◌, ◌||◌, List, [], ◌∷◌}
-use Rattle.std.proofs.Common.{◌++◌, take, refl, arith, ap, sym, ◌∙◌, subst, Some, eqb-true, eq-eqb}
+-- No token is misplaced that is a number after a `-`.
+use Rattle.std.proofs.Common.{rules, ◌≡◌, ℕ, zero, suc, ◌+◌, Bool, true, false, not, ◌&&◌, ◌||◌, List, [], ◌∷◌}
+use Rattle.std.proofs.Common.{◌++◌, take, refl, arith, ap, sym, ◌∙◌, Some, eqb-true, eq-eqb}
 use Rattle.std.specs.Prelude.{◌==◌, Contains}
 use Rattle.std.specs.List.{list_all}
 use Rattle.std.proofs.lemmas.Bool.{and_parts, both_ways, not-true}
 use Rattle.cbpf_syntax.proofs.Elements.{list_all_at}
-use Rattle.cbpf_syntax.specs.Refusals.ParseFault.{Misplaced, LargeNegative, Unfinished}
 use Rattle.cbpf_syntax.specs.Lexemes.{Symbol, Lexeme}
 use Rattle.cbpf_syntax.specs.Lexemes.Symbol.{number, mark}
 use Rattle.cbpf_syntax.specs.Classes.{Class}
@@ -13,10 +12,8 @@ use Rattle.cbpf_syntax.specs.Classes.Class.{the_mark, negated, name}
 use Rattle.cbpf_syntax.specs.Table.{Row, classes, mnemonics, table}
 use Rattle.cbpf_syntax.specs.Fits.{fits, fits_front}
 use Rattle.cbpf_syntax.specs.Items.{classes_of}
-use Rattle.cbpf_syntax.specs.Refusals.{ParseFault, symbol_at, IsLargeNegative, IsMisplaced, IsRefusedAt}
-use Rattle.cbpf_syntax.specs.Laws.{OneRefusal}
+use Rattle.cbpf_syntax.specs.Refusals.{symbol_at, IsLargeNegative, IsMisplaced}
 use Rattle.cbpf_syntax.proofs.Greedy.{chain, AreKnown, chain_of, chain_begins}
-use Rattle.cbpf_syntax.proofs.Refused.{large_within}
 use Rattle.cbpf_syntax.proofs.Cuts.{some-same}
 
 abbrev pub is_minus : Class → Bool
@@ -106,22 +103,3 @@ never_both ts i p q =
     (two.3 ∙ q.large.2) (minus_chain c.0 c.1) ends in
     let more : suc (suc q.before) ≡ i + 1 = omega (arith, e) in
     p.with_it (chain_begins c.0 (take (i + 1) ts) c.1 (rw (← more, two.5) on))
-
-same_place : (m n : ℕ) → m ≤ n → n ≤ m → m ≡ n
-same_place m n a b = omega arith
-
-same_fault : (ts : List Lexeme) (f g : ParseFault) (p : ℕ) → IsRefusedAt ts f p → IsRefusedAt ts g p → f ≡ g
-same_fault ts (Misplaced i) (Misplaced j) p a b = ap (λ k. Misplaced k) (sym a.0 ∙ b.0)
-same_fault ts (Misplaced i) (LargeNegative j) p a b =
-    absurd (never_both ts j (subst (λ k. IsMisplaced ts k) (sym a.0 ∙ b.0) a.1) b.1)
-same_fault ts (Misplaced i) Unfinished p a b = absurd (omega (arith, a.0, b.0, a.1.within))
-same_fault ts (LargeNegative i) (Misplaced j) p a b =
-    absurd (never_both ts i (subst (λ k. IsMisplaced ts k) (sym b.0 ∙ a.0) b.1) a.1)
-same_fault ts (LargeNegative i) (LargeNegative j) p a b = ap (λ k. LargeNegative k) (sym a.0 ∙ b.0)
-same_fault ts (LargeNegative i) Unfinished p a b = absurd (omega (arith, a.0, b.0, large_within ts i a.1))
-same_fault ts Unfinished (Misplaced j) p a b = absurd (omega (arith, a.0, b.0, b.1.within))
-same_fault ts Unfinished (LargeNegative j) p a b = absurd (omega (arith, a.0, b.0, large_within ts j b.1))
-same_fault ts Unfinished Unfinished p a b = refl
-
-pub one_refusal : OneRefusal
-one_refusal = search (rules, same_place, same_fault)
