@@ -8,7 +8,7 @@ use crate::fault::{AsmFault, AsmKind};
 use cbpf_syntax::{BadPiece, LexFault, Token};
 use std::alloc::Allocator;
 
-fn piece_kind(bad: BadPiece) -> AsmKind
+fn bad_piece_kind(bad: BadPiece) -> AsmKind
     ensures { result ≡ bad_piece_kind bad }
 {
     match bad {
@@ -24,7 +24,7 @@ pub(crate) fn asm_fault(fault: LexFault) -> AsmFault
 {
     match fault {
         LexFault::Memory => AsmFault::Memory,
-        LexFault::At(bad, line) => AsmFault::At(piece_kind(bad), line),
+        LexFault::At(bad, line) => AsmFault::At(bad_piece_kind(bad), line),
     }
 }
 
