@@ -12,7 +12,7 @@ ghost use Rattle.cbpf_syntax.specs.Reading.{IsReading, IsRefusedFor, StartsWithW
 ghost use Rattle.cbpf_syntax.specs.Views.{lexeme_of, row_of};
 ghost use Rattle.cbpf_text.specs.Drafts.{IsStatement, IsDraft, AreTargets, AreSet};
 ghost use Rattle.cbpf_text.specs.Refusals.{Reported, IsTokensFault, IsRefused};
-ghost use Rattle.cbpf_text.specs.Tables.{same_name};
+ghost use Rattle.cbpf_text.specs.LabelTable.{same_name};
 
 use crate::fault::{AsmFault, AsmKind};
 use crate::labels::Labels;
