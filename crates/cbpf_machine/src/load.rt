@@ -1,6 +1,6 @@
 ghost use Rattle.std.specs.Prelude.{◌≡◌};
-ghost use Rattle.cbpf_machine.specs.Number.{packet_number};
-ghost use Rattle.cbpf_machine.specs.Step.{width};
+ghost use Rattle.cbpf_machine.specs.PacketNumber.{packet_number};
+ghost use Rattle.cbpf_machine.specs.Turn.{width};
 
 use byteorder::{BigEndian, ByteOrder};
 use cbpf_code::Size;
