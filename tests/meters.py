@@ -25,7 +25,7 @@ from typing import NamedTuple
 CRATES = Path(sys.argv[1] if len(sys.argv) > 1 else Path(__file__).parent.parent / "crates").resolve()
 MACHINE = "cbpf_machine"
 # What changes a state, calculates or loads for a turn: whoever names one of these, or names who does, makes turns.
-ROOTS = "of set_core with_slot skip alu negated compares number_at op_of op_of_byte".split()
+ROOTS = "of set_core with_slot skip alu negated compares packet_number op_of op_of_byte".split()
 # The words of loops, which make turns again.
 LOOPS = {"for", "while", "loop"}
 TOKEN = re.compile(

@@ -150,7 +150,7 @@ fn command<'a>(alloc: Global) -> Result<Command<'a>, AllocError>
 
 /// What was given for an argument.
 #[tactic(auto, using(crate::proofs::Parses::first_text))]
-fn text_in<'a>(matches: &ArgMatches<'a>, id: &str) -> Option<&'a str>
+fn given_text<'a>(matches: &ArgMatches<'a>, id: &str) -> Option<&'a str>
     ensures { option_map (λ s. s.now) result ≡ first_of id.now (rows_of (found_of matches.now)) }
 {
     matches.get_str(id)
@@ -167,11 +167,15 @@ fn form_of(flag: Option<&str>) -> Form
 }
 
 /// The name that was given for an argument, in memory of its own.
-fn name_in(alloc: Global, matches: &ArgMatches<'_>, id: &str) -> Result<Option<String>, AllocError>
+fn given_name(
+    alloc: Global,
+    matches: &ArgMatches<'_>,
+    id: &str,
+) -> Result<Option<String>, AllocError>
     ensures { IfOk result (λ name. option_map (λ s. s.bytes.items) name
         ≡ first_of id.now (rows_of (found_of matches.now))) }
 {
-    match text_in(matches, id) {
+    match given_text(matches, id) {
         Some(name) => Ok(Some(String::from_str(alloc, name)?)),
         None => Ok(None),
     }
@@ -181,8 +185,8 @@ fn asm_asked(alloc: Global, matches: &ArgMatches<'_>) -> Result<Job, AllocError>
     ensures { IfOk result (λ j. spec.meaning j ≡ spec.asm_asked (rows_of (found_of matches.now))) }
 {
     Ok(Job::Asm {
-        form: form_of(text_in(matches, "c")),
-        file: name_in(alloc, matches, "file")?,
+        form: form_of(given_text(matches, "c")),
+        file: given_name(alloc, matches, "file")?,
     })
 }
 
@@ -190,8 +194,8 @@ fn dbg_asked(alloc: Global, matches: &ArgMatches<'_>) -> Result<Job, AllocError>
     ensures { IfOk result (λ j. spec.meaning j ≡ spec.dbg_asked (rows_of (found_of matches.now))) }
 {
     Ok(Job::Dbg {
-        input: name_in(alloc, matches, "input")?,
-        output: name_in(alloc, matches, "output")?,
+        input: given_name(alloc, matches, "input")?,
+        output: given_name(alloc, matches, "output")?,
     })
 }
 

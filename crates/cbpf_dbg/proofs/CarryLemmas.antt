@@ -9,7 +9,7 @@ use Rattle.cbpf_machine.specs.Values.{Values}
 use Rattle.cbpf_machine.specs.Follow.{Watching, HasRoom, is_met}
 use Rattle.cbpf_machine.specs.Registers.{Registers}
 use Rattle.cbpf_machine.specs.Machine.{Machine, machine_of}
-use Rattle.cbpf_machine.specs.Step.{turn}
+use Rattle.cbpf_machine.specs.Turn.{turn}
 use Rattle.cbpf_machine.specs.declared.pause.When.{When}
 use Rattle.cbpf_machine.specs.declared.pause.When.TheVariants.{Always}
 use Rattle.cbpf_dbg.specs.Breakpoints.{Breakpoints, carries}

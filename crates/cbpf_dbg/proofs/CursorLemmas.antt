@@ -5,7 +5,7 @@ use Rattle.std.proofs.lemmas.Option.{slice_get_within}
 use Rattle.cbpf_machine.specs.Machine.{Machine}
 use Rattle.cbpf_machine.specs.Registers.{Registers, zero_state}
 use Rattle.cbpf_machine.specs.declared.outcome.Turn.TheVariants.{Next}
-use Rattle.cbpf_machine.specs.Step.{turn}
+use Rattle.cbpf_machine.specs.Turn.{turn}
 use Rattle.cbpf_machine.specs.Trace.{trace, outcome, next_of, outcome_of}
 use Rattle.cbpf_machine.specs.Task.{Task, IsOnTrace}
 use Rattle.cbpf_machine.proofs.TraceLemmas.{first_entry, goes_from_entry, goes_next, goes_at, goes_last, outcome_at_last}

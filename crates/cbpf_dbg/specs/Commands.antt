@@ -14,7 +14,7 @@ use Rattle.cbpf_machine.specs.declared.pause.When.{When}
 use Rattle.cbpf_machine.specs.declared.pause.When.TheVariants.{Always}
 use Rattle.cbpf_machine.specs.Values.{with_value, takes_value}
 use Rattle.cbpf_machine.specs.Machine.{Machine, machine_of}
-use Rattle.cbpf_machine.specs.Step.{turn}
+use Rattle.cbpf_machine.specs.Turn.{turn}
 use Rattle.cbpf_machine.specs.Trace.{trace, entry_at}
 use Rattle.pcap_classic.specs.Records.{Record}
 use Rattle.pcap_classic.specs.Savefile.{Savefile}

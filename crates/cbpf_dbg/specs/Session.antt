@@ -8,7 +8,7 @@ use Rattle.cbpf_code.specs.Sound.{IsSound}
 use Rattle.cbpf_machine.specs.Registers.{Registers}
 use Rattle.cbpf_machine.specs.Values.{Values}
 use Rattle.cbpf_machine.specs.Machine.{Machine, machine_of}
-use Rattle.cbpf_machine.specs.Step.{turn, asked}
+use Rattle.cbpf_machine.specs.Turn.{turn, asked}
 use Rattle.cbpf_machine.specs.Follow.{Watching, is_watched}
 use Rattle.cbpf_machine.specs.Trace.{trace}
 use Rattle.pcap_classic.specs.Records.{Record, StartsAt}

@@ -1,5 +1,5 @@
 pub mod SoundLemmas
-pub mod StepLemmas
+pub mod TurnLemmas
 pub mod ListLemmas
 pub mod TraceLemmas
 pub mod AskedLemmas

@@ -1,9 +1,9 @@
 pub mod Registers
 pub mod Core
-pub mod Number
+pub mod PacketNumber
 pub mod Values
 pub mod Machine
-pub mod Step
+pub mod Turn
 pub mod Checked
 pub mod Trace
 pub mod Trail

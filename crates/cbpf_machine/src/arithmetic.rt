@@ -1,5 +1,5 @@
 ghost use Rattle.std.specs.Prelude.{◌≡◌};
-ghost use Rattle.cbpf_machine.specs.Step as spec;
+ghost use Rattle.cbpf_machine.specs.Turn as spec;
 
 use cbpf_code::{AluOp, Cond};
 

@@ -9,29 +9,29 @@
 
 mod arithmetic;
 mod execute;
-mod extension;
 mod follow;
 mod list_trail;
 mod load;
 mod mark_trail;
 mod meter;
+mod missing;
 mod outcome;
 mod pause;
-mod run;
 mod state;
 mod trail;
 mod values;
+mod whole_packet;
 
 pub use execute::{turn, turn_in_place};
-pub use extension::missing_extension;
 pub use follow::{Followed, follow_on, follow_packet};
 pub use list_trail::ListTrail;
 pub use load::Packet;
 pub use mark_trail::MarkTrail;
 pub use meter::Meter;
+pub use missing::missing_extension;
 pub use outcome::{Outcome, Turn};
 pub use pause::{Before, Never, Pause, Watched, When};
-pub use run::run_packet;
 pub use state::{Core, State};
 pub use trail::Trail;
 pub use values::Values;
+pub use whole_packet::run_packet;

@@ -1,6 +1,6 @@
 ghost use Rattle.std.specs.Prelude.{◌≡◌};
-ghost use Rattle.cbpf_machine.specs.Number.{packet_number};
-ghost use Rattle.cbpf_machine.specs.Step.{width};
+ghost use Rattle.cbpf_machine.specs.PacketNumber.{packet_number};
+ghost use Rattle.cbpf_machine.specs.Turn.{width};
 
 use byteorder::{BigEndian, ByteOrder};
 use cbpf_code::Size;
@@ -16,7 +16,7 @@ pub struct Packet<'a> {
 
 /// The number at a place of the captured bytes, in network byte order; `None` where it isn't inside.
 #[inline(always)]
-pub(crate) fn number_at(bytes: &[u8], at: u32, size: Size) -> Option<u32>
+pub(crate) fn packet_number(bytes: &[u8], at: u32, size: Size) -> Option<u32>
     ensures { result ≡ packet_number bytes.now at (width size) }
 {
     let at = at as usize;

@@ -2,7 +2,7 @@
 -- `bpf_dbg`; the rest is this project's own).
 use Rattle.std.specs.Prelude.{ℕ, ◌==◌, if◌then◌else◌, List, [], ◌∷◌, ◌++◌, codes, decimal}
 use Rattle.cbpf_code.specs.Text.{concat, with_number}
-use Rattle.cbpf_reply.specs.Numbers.{with_numbers}
+use Rattle.cbpf_reply.specs.WithNumbers.{with_numbers}
 use Rattle.cbpf_reply.specs.declared.reply.Counts.{Counts}
 use Rattle.cbpf_reply.specs.declared.reply.Place.{Place}
 

@@ -13,7 +13,7 @@ use Rattle.cbpf_reply.specs.declared.errors.LoadFault.{LoadFault}
 use Rattle.cbpf_reply.specs.declared.errors.LoadFault.TheVariants as load
 use Rattle.cbpf_reply.specs.declared.errors.ErrorLine.{ErrorLine}
 use Rattle.cbpf_reply.specs.declared.errors.ErrorLine.TheVariants.{Text, Number, Numbers}
-use Rattle.cbpf_reply.specs.Numbers.{with_numbers}
+use Rattle.cbpf_reply.specs.WithNumbers.{with_numbers}
 use Rattle.cbpf_reply.specs.declared.reply.SessionFault.{SessionFault}
 use Rattle.cbpf_reply.specs.declared.reply.SessionFault.TheVariants.{NoProgram, NoCapture, NoPackets, NoInstruction}
 use Rattle.cbpf_reply.specs.declared.reply.SessionFault.TheVariants.{NoPacket, NoStep, TooFarBack, ZeroCount, NoValue}

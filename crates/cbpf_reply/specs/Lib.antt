@@ -1,5 +1,5 @@
 pub mod Columns
-pub mod Numbers
+pub mod WithNumbers
 pub mod Scratch
 pub mod Packet
 pub mod Dump

@@ -3,7 +3,7 @@ use Rattle.std.proofs.Common.{rules, ◌≡◌, ℕ, ◌<◌, Bool, true, false,
 use Rattle.std.proofs.Common.{refl, arith, ap, sym, ◌∙◌, inl, inr, get_or, ltb-true, ◌-◌, Option, Some, None, Bor}
 use Rattle.std.specs.Prelude.{IfSome, IfNone, Contains, nat_lt, nat_le, bytes_eq, slice_index}
 use Rattle.cbpf_syntax.specs.declared.table.Mnemonic as declared_mnemonic
-use Rattle.cbpf_syntax.specs.Views.{mnemonic_of}
+use Rattle.cbpf_syntax.specs.Views.{mnemonic_view}
 use Rattle.std.specs.List.{list_all, filter}
 use Rattle.std.proofs.lemmas.Bool.{and_parts, both_ways, cases_Bool, false_from_ne_true, leb-true, or_from}
 use Rattle.cbpf_syntax.specs.Fits.{is_one_of, mnemonic_words, is_reserved, extension_names}
@@ -68,10 +68,10 @@ pub word_listed : (w : List ℕ) (m : Mnemonic) → Contains mnemonics m → byt
 word_listed w m p e = rw (equal_bytes w m.word e) (word_known m p)
 
 pub mnemonic_test : (w : List ℕ) (o : Option (Bor declared_mnemonic.Mnemonic))
-    → IfSome o (λ m. Contains mnemonics (mnemonic_of m.now)) → IfSome o (λ m. bytes_eq w m.now.word.now ≡ true)
+    → IfSome o (λ m. Contains mnemonics (mnemonic_view m.now)) → IfSome o (λ m. bytes_eq w m.now.word.now ≡ true)
     → IfNone o (is_one_of mnemonic_words w ≡ false) → is_some o ≡ is_one_of mnemonic_words w
 mnemonic_test w None f g h = sym h
-mnemonic_test w (Some m) f g h = sym (word_listed w (mnemonic_of m.now) f g)
+mnemonic_test w (Some m) f g h = sym (word_listed w (mnemonic_view m.now) f g)
 
 -- no mnemonic is longer than 4 bytes
 pub long_word : (w : List ℕ) → 4 < length w → is_one_of mnemonic_words w ≡ false

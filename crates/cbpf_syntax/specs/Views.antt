@@ -49,8 +49,8 @@ mode_forms modes.Bare = no_operand
 abbrev pub entry_of : TableEntry → tables.TableEntry
 entry_of e = entry (mode_forms e.mode) e.op e.fields
 
-abbrev pub mnemonic_of : Mnemonic → tables.Mnemonic
-mnemonic_of m = mnemonic m.word.now (map entry_of m.entries.now)
+abbrev pub mnemonic_view : Mnemonic → tables.Mnemonic
+mnemonic_view m = mnemonic m.word.now (map entry_of m.entries.now)
 
 abbrev pub symbol_of : Symbol → lexemes.Symbol
 symbol_of (symbols.Word w) = lexemes.Symbol.word w.now

@@ -8,7 +8,7 @@ ghost use Rattle.cbpf_syntax.specs.Table as tables;
 ghost use Rattle.cbpf_syntax.specs.Table.{entry_rows, rows_of, mnemonics};
 ghost use Rattle.cbpf_syntax.specs.Choice.{common, IsBest, is_comma_at};
 ghost use Rattle.cbpf_syntax.specs.Fits.{fits};
-ghost use Rattle.cbpf_syntax.specs.Views.{class_of, symbol_of, lexeme_of, row_of, entry_of, mnemonic_of};
+ghost use Rattle.cbpf_syntax.specs.Views.{class_of, symbol_of, lexeme_of, row_of, entry_of, mnemonic_view};
 
 use crate::class::Class;
 use crate::item::Row;
@@ -170,8 +170,8 @@ fn is_final(best: &Match, tokens: &[Lexeme<'_>]) -> bool
 /// The best form of a mnemonic.
 pub(crate) fn best_row(mnemonic: &Mnemonic, tokens: &[Lexeme<'_>]) -> Match
     requires some { 0 < length mnemonic.now.entries.now }
-    requires known { Contains mnemonics (mnemonic_of mnemonic.now) }
-    ensures { IsBest (rows_of (mnemonic_of mnemonic.now)) (map lexeme_of tokens.now) result }
+    requires known { Contains mnemonics (mnemonic_view mnemonic.now) }
+    ensures { IsBest (rows_of (mnemonic_view mnemonic.now)) (map lexeme_of tokens.now) result }
 {
     let entries = mnemonic.entries;
     let mut best = first_form(mnemonic, &entries[0], tokens);

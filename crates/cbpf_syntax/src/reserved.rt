@@ -3,7 +3,7 @@
 ghost use Rattle.std.specs.Prelude.{◌≡◌, true, false, IfSome, IfNone, Contains, bytes_eq};
 ghost use Rattle.cbpf_syntax.specs.Table.{mnemonics, operand_words};
 ghost use Rattle.cbpf_syntax.specs.Fits.{fits, is_one_of, is_reserved, extension_names, mnemonic_words};
-ghost use Rattle.cbpf_syntax.specs.Views.{class_of, symbol_of, mnemonic_of};
+ghost use Rattle.cbpf_syntax.specs.Views.{class_of, symbol_of, mnemonic_view};
 
 use crate::class::Class;
 use crate::lexeme::Symbol;
@@ -18,7 +18,7 @@ const LONGEST: usize = 4;
 #[inline(always)]
 #[tactic(auto, using(crate::proofs::Mnemonics::long_word, crate::proofs::Mnemonics::no_word))]
 pub(crate) fn mnemonic_named(word: &[u8]) -> Option<&'static Mnemonic>
-    ensures found { IfSome result (λ m. Contains mnemonics (mnemonic_of m.now)) }
+    ensures found { IfSome result (λ m. Contains mnemonics (mnemonic_view m.now)) }
     ensures word { IfSome result (λ m. bytes_eq word.now m.now.word.now ≡ true) }
     ensures none { IfNone result (is_one_of mnemonic_words word.now ≡ false) }
 {

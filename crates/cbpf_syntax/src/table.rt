@@ -4,7 +4,7 @@ ghost use Rattle.std.specs.Prelude.{◌≡◌, map};
 ghost use Rattle.std.specs.List.{filter};
 ghost use Rattle.cbpf_syntax.specs.Table.{mnemonics};
 ghost use Rattle.cbpf_syntax.specs.Initials.{begins_with};
-ghost use Rattle.cbpf_syntax.specs.Views.{mnemonic_of};
+ghost use Rattle.cbpf_syntax.specs.Views.{mnemonic_view};
 
 use crate::mode::Mode;
 use cbpf_code::{AluOp, Cond, Op, Size, Src, mnemonic};
@@ -194,7 +194,7 @@ static T_MNEMONICS: [Mnemonic; 2] = [only!(Tax, Bare, Constant), only!(Txa, Bare
 #[inline]
 #[tactic(auto, unfolding(crate::specs::Table::mnemonics))]
 pub(crate) fn mnemonics_from(first: u8) -> &'static [Mnemonic]
-    ensures { map mnemonic_of result.now ≡ filter (begins_with first) mnemonics }
+    ensures { map mnemonic_view result.now ≡ filter (begins_with first) mnemonics }
 {
     match first {
         b'l' => &L_MNEMONICS,

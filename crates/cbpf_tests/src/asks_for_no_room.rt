@@ -1,7 +1,7 @@
 // Calls that ask an allocator for nothing, though what they are given holds one. Writers get a slice, or a `Program`, which lends none.
 use crate::assertions::Test;
 use crate::fault_injection::{Fault, FaultyAllocator, FaultyWriter};
-use crate::loaded::{ICMP_WORDS, STRAIGHT, program_of, session_of, two_packets};
+use crate::inputs::{ICMP_WORDS, STRAIGHT, program_of, session_of, two_packets};
 use cbpf_code::{CheckFault, Ext, Insn, check, read_words};
 use cbpf_dbg::{MarkTrail, Meter, Place, RunReply, Session, SessionFault, Stop, When};
 use std::alloc::{Allocator, Global};

@@ -1,8 +1,8 @@
 // The assembler over readers, flushes and allocators that fail at one call.
 use crate::assertions::Test;
 use crate::fault_injection::{ERROR_KINDS, Fault, FaultyAllocator, FaultyReader, FaultyWriter};
-use crate::loaded::{ARP, ARP_C, ARP_WORDS};
-use crate::places::assert_at;
+use crate::inputs::{ARP, ARP_C, ARP_WORDS};
+use crate::named_assertion::assert_named;
 use cbpf_text::{AsmFault, AsmKind};
 use cbpf_tool::{Form, ToolFault, asm};
 use std::io::ErrorKind;
@@ -20,7 +20,7 @@ fn each_read_fails(rt: &impl Test, form: Form, kind: ErrorKind) {
         let is_wanted = result == Err(ToolFault::Read)
             && reader.calls() == call
             && writer.written().is_empty();
-        assert_at(rt, is_wanted, "the fault of the last read", call);
+        assert_named(rt, is_wanted, "the fault of the last read", call);
     }
 }
 
@@ -41,7 +41,7 @@ fn assembles(rt: &impl Test, form: Form, text: &[u8], piece: usize, reader: &mut
     let mut writer = FaultyWriter::<256>::new(Fault::Fails, 0);
     let result = asm(rt.alloc(), reader, &mut writer, form);
     let is_wanted = result == Ok(()) && writer.written() == text && writer.flushes() == 1;
-    assert_at(rt, is_wanted, "the text, flushed once", piece);
+    assert_named(rt, is_wanted, "the text, flushed once", piece);
 }
 
 /// Nothing fails, and a read gives so many bytes at most.
@@ -51,7 +51,7 @@ fn none_fails(rt: &impl Test, form: Form, text: &[u8]) {
         assembles(rt, form, text, piece, &mut reader);
         // No read is made after the one that finds the end.
         let reads = ARP.len().div_ceil(piece) as u64 + 1;
-        assert_at(rt, reader.calls() == reads, "the reads", piece);
+        assert_named(rt, reader.calls() == reads, "the reads", piece);
     }
 }
 
@@ -101,7 +101,7 @@ fn is_refused(
         answer
     };
     let is_wanted = result == wanted && writer.written() == text;
-    assert_at(rt, is_wanted, "the answer and the text", (row, nth));
+    assert_named(rt, is_wanted, "the answer and the text", (row, nth));
     is_refused
 }
 
@@ -123,7 +123,7 @@ fn each_growth_is_refused(rt: &impl Test, form: Form, text: &[u8], source: Sourc
         growths = nth;
     }
     let are_enough = growths >= least && growths < 199;
-    assert_at(rt, are_enough, "the number of growths", (row, growths));
+    assert_named(rt, are_enough, "the number of growths", (row, growths));
 }
 
 fn each_source(rt: &impl Test, form: Form, text: &[u8]) {

@@ -1,7 +1,7 @@
 // Sources and scripts of 70,000 bytes and more, of which each read gives one.
 use crate::assertions::Test;
 use crate::fault_injection::FaultyReader;
-use crate::loaded::repeated;
+use crate::inputs::repeated;
 use cbpf_tool::{Form, MemoryFiles, asm, debug};
 
 /// Whether the source assembles to these words.

@@ -1,7 +1,7 @@
 // A file in memory of which one load fails.
 use crate::assertions::Test;
 use crate::fault_injection::{Fault, FaultyWriter};
-use crate::loaded::two_packets_as_k;
+use crate::inputs::two_packets_as_k;
 use cbpf_tool::{MemoryFiles, debug};
 
 /// The replies to a script over these files.

@@ -1,8 +1,8 @@
 // A reader that gives a few bytes a call, and fails at one call.
 use crate::assertions::Test;
 use crate::fault_injection::{ERROR_KINDS, Fault, FaultyReader, FaultyWriter};
-use crate::loaded::{ARP_SCRIPT, ARP_SCRIPT_REPLIES};
-use crate::places::assert_at;
+use crate::inputs::{ARP_SCRIPT, ARP_SCRIPT_REPLIES};
+use crate::named_assertion::assert_named;
 use cbpf_tool::{MemoryFiles, ToolFault, debug};
 use std::alloc::Global;
 use std::io::ErrorKind;
@@ -30,7 +30,7 @@ fn each_read_fails(rt: &impl Test, kind: ErrorKind) {
         let is_wanted = result == Err(ToolFault::Read)
             && reader.calls() == call as u64
             && writer.written() == replies_before(call);
-        assert_at(rt, is_wanted, "the fault and the replies before", call);
+        assert_named(rt, is_wanted, "the fault and the replies before", call);
     }
 }
 
@@ -51,7 +51,7 @@ fn none_fails(rt: &impl Test) {
         let mut writer = FaultyWriter::<256>::new(Fault::Fails, 0);
         let result = run(rt.alloc(), &mut reader, &mut writer);
         let is_whole = result == Ok(()) && writer.written() == ARP_SCRIPT_REPLIES;
-        assert_at(rt, is_whole, "the replies", piece);
+        assert_named(rt, is_whole, "the replies", piece);
     }
 }
 

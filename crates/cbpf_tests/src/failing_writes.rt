@@ -1,11 +1,11 @@
 // The calls that write, over writers that take one byte a call, and fail or take nothing at one call.
 use crate::assertions::Test;
 use crate::fault_injection::{Fault, FaultyWriter};
-use crate::loaded::{
+use crate::inputs::{
     ARP, ARP_C, ARP_SCRIPT, ARP_SCRIPT_REPLIES, ARP_WORDS, ICMP_WORDS, program_of, session_of,
     two_packets_as_k,
 };
-use crate::places::assert_at;
+use crate::named_assertion::assert_named;
 use cbpf_code::{WriteFault, write_bytes, write_c, write_words};
 use cbpf_dbg::{MarkTrail, Meter, RunReply, Session};
 use cbpf_text::write_listing;
@@ -200,7 +200,7 @@ fn none_goes_wrong(rt: &impl Test, call: Call, text: &[u8]) {
     let is_wanted = answer == Ok(())
         && writer.written() == text
         && writer.calls() == text.len() as u64;
-    assert_at(rt, is_wanted, "the text and its writes", call);
+    assert_named(rt, is_wanted, "the text and its writes", call);
 }
 
 /// A write goes wrong after these bytes.
@@ -210,7 +210,7 @@ fn goes_wrong(rt: &impl Test, call: Call, text: &[u8], writer: &mut FaultyWriter
     let is_wanted = result == Err(ToolFault::Write)
         && writer.written() == text
         && writer.calls() == i as u64 + 1;
-    assert_at(rt, is_wanted, "the fault after the writes", (call, i));
+    assert_named(rt, is_wanted, "the fault after the writes", (call, i));
 }
 
 /// One write after another goes wrong.

@@ -2,10 +2,10 @@
 // by breakpoints that are set and taken out, and by what is dropped.
 use crate::assertions::Test;
 use crate::fault_injection::FaultyAllocator;
-use crate::loaded::{
+use crate::inputs::{
     ARP, HEADER, ICMP_WORDS, RECORD, STRAIGHT, program_of, repeated, two_packets, two_packets_as_k,
 };
-use crate::places::assert_at;
+use crate::named_assertion::assert_named;
 use cbpf_code::{check, read_words};
 use cbpf_dbg::{ListTrail, MarkTrail, Session, Trail, When};
 use cbpf_text::{assemble, tokens};
@@ -24,13 +24,13 @@ fn set<T: Trail, A: Allocator + Copy>(rt: &impl Abort, session: &mut Session<T, 
         } else {
             session.breakpoint_when(n, When::A(7))
         };
-        assert_at(rt, set == Ok(()), "a breakpoint", n);
+        assert_named(rt, set == Ok(()), "a breakpoint", n);
     }
 }
 
 fn take_out<T: Trail, A: Allocator + Copy>(rt: &impl Abort, session: &mut Session<T, A>) {
     for n in 0..20u64 {
-        assert_at(rt, session.delete(n) == Ok(true), "a breakpoint", n);
+        assert_named(rt, session.delete(n) == Ok(true), "a breakpoint", n);
     }
 }
 
@@ -57,7 +57,7 @@ fn load_again_and_again<T: Trail, A: Allocator + Copy>(
     assert!(rt; held > 0);
     for round in 2..=10u32 {
         load(rt, alloc, &mut session);
-        assert_at(rt, counting.held() == held, "held after a round", round);
+        assert_named(rt, counting.held() == held, "held after a round", round);
     }
 }
 
@@ -124,9 +124,9 @@ fn answers_and_refusals(rt: HostRuntime) {
     for (row, (call, refused)) in CALLS.iter().enumerate() {
         let asked = counting.asked();
         let answer = is_refused(&rt, &counting, *call);
-        assert_at(&rt, answer == *refused, "the answer", row);
-        assert_at(&rt, counting.asked() > asked || *refused, "asked for", row);
-        assert_at(&rt, counting.held() == 0, "held", row);
+        assert_named(&rt, answer == *refused, "the answer", row);
+        assert_named(&rt, counting.asked() > asked || *refused, "asked for", row);
+        assert_named(&rt, counting.held() == 0, "held", row);
     }
 }
 
@@ -275,8 +275,8 @@ fn room_for_the_index_of_a_capture(rt: HostRuntime) {
         let bytes = repeated(&rt, HEADER, RECORD, *records, b"");
         let found = index_of(&rt, &counting, &counting, &bytes);
         let is_wanted = found == (*room, *room);
-        assert_at(&rt, is_wanted, "the bytes of the index", *records);
-        assert_at(&rt, counting.held() == 0, "held", *records);
+        assert_named(&rt, is_wanted, "the bytes of the index", *records);
+        assert_named(&rt, counting.held() == 0, "held", *records);
     }
 }
 

@@ -1,7 +1,7 @@
 // Calls at sizes near their greatest sensible ones, with memory at hand, which no script of the program makes.
 use crate::assertions::Test;
-use crate::loaded::{HEADER, RECORD, STRAIGHT, program_of, repeated};
-use crate::places::assert_at;
+use crate::inputs::{HEADER, RECORD, STRAIGHT, program_of, repeated};
+use crate::named_assertion::assert_named;
 use cbpf_dbg::{Counts, MarkTrail, Meter, Place, Session, Stop};
 use cbpf_text::tokens;
 use cbpf_tool::{Files, MemoryFiles};
@@ -34,7 +34,7 @@ fn run_to_end(rt: &impl Abort, session: &mut Session<MarkTrail>, stops: &mut Vec
 fn are_both_of_each(rt: &impl Abort, stops: &[Stop]) {
     let mut wanted = Place { packet: 1, step: 1 };
     for stop in stops {
-        assert_at(rt, stop.place == wanted, "the stop", wanted.packet);
+        assert_named(rt, stop.place == wanted, "the stop", wanted.packet);
         wanted = if wanted.step == 1 {
             Place { step: 21, ..wanted }
         } else {
@@ -81,7 +81,7 @@ fn put(rt: &impl Test, files: &mut MemoryFiles, n: u8) {
     let bytes = bytes_of(rt, n);
     let name = name_of(n);
     let name = std::str::from_utf8(&name).ok().expect(rt, "the name");
-    assert_at(rt, files.put(name, bytes).is_ok(), "a file", n);
+    assert_named(rt, files.put(name, bytes).is_ok(), "a file", n);
 }
 
 fn is_there(rt: &impl Test, files: &mut MemoryFiles, n: u8) {
@@ -89,7 +89,7 @@ fn is_there(rt: &impl Test, files: &mut MemoryFiles, n: u8) {
     let name = name_of(n);
     let name = std::str::from_utf8(&name).ok().expect(rt, "the name");
     let bytes = files.load(rt.alloc(), name).ok().expect(rt, "the load");
-    assert_at(rt, bytes.as_slice() == wanted.as_slice(), "the bytes", n);
+    assert_named(rt, bytes.as_slice() == wanted.as_slice(), "the bytes", n);
 }
 
 #[test]

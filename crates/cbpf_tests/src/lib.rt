@@ -33,7 +33,7 @@ mod given_back;
 #[cfg(test)]
 mod great_sizes;
 #[cfg(test)]
-mod loaded;
+mod inputs;
 #[cfg(test)]
 mod machine;
 #[cfg(test)]
@@ -41,7 +41,7 @@ mod machine_trail;
 #[cfg(test)]
 mod memory_host;
 #[cfg(test)]
-mod places;
+mod named_assertion;
 #[cfg(test)]
 mod programs;
 #[cfg(test)]

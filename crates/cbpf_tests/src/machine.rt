@@ -1,5 +1,5 @@
 use crate::assertions::{Test, assert_at};
-use crate::loaded::program_of as of_words;
+use crate::inputs::program_of as of_words;
 use crate::programs::{next_state, program_of};
 use cbpf_code::{Ext, Insn, Program};
 use cbpf_machine::Outcome::{Fail, Pass, Unknown};

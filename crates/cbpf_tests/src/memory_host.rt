@@ -7,7 +7,7 @@ ghost use Rattle.cbpf_tests.specs.Events.{event};
 use crate::assertions::Test;
 use crate::done::Done;
 use crate::fault_injection::FaultyAllocator;
-use crate::loaded::{ARP, ARP_WORDS, TWO_PACKETS};
+use crate::inputs::{ARP, ARP_WORDS, TWO_PACKETS};
 use cbpf_tool::{
     CreateFault, Failure, Files, Form, Host, Job, LoadFault, ToolFault, asm_job, dbg_job, run_on,
     status_of,

@@ -1,10 +1,10 @@
 // Calls of which each growth is refused, one after another, and which run out of memory only then.
 use crate::assertions::Test;
 use crate::fault_injection::FaultyAllocator;
-use crate::loaded::{
+use crate::inputs::{
     HEADER, ICMP_WORDS, RECORD, STRAIGHT, TWO_PACKETS, repeated, session_of, two_packets_as_k,
 };
-use crate::places::assert_at;
+use crate::named_assertion::assert_named;
 use cbpf_code::{WordFault, read_words};
 use cbpf_dbg::{ListTrail, MarkTrail, Meter, Session, SessionFault, Stop, When};
 use cbpf_text::{AsmFault, assemble, tokens};
@@ -78,7 +78,7 @@ fn finds_none_for_files<A: Allocator + Copy>(rt: &impl Abort, alloc: A) -> bool 
     let mut found = false;
     for count in 0..20u8 {
         let is_put = is_put(alloc, &mut files, count);
-        assert_at(rt, is_put || !found, "a file after a refusal", count);
+        assert_named(rt, is_put || !found, "a file after a refusal", count);
         found |= !is_put;
     }
     found
@@ -129,10 +129,10 @@ fn finds_none_for_one<A: Allocator + Copy>(
     let set = set(session, n, when);
     if set == Err(SessionFault::Memory) {
         let set = session.breakpoint_when(n, when);
-        assert_at(rt, set == Ok(()), "the same breakpoint", n);
+        assert_named(rt, set == Ok(()), "the same breakpoint", n);
         true
     } else {
-        assert_at(rt, set == Ok(()), "a breakpoint", n);
+        assert_named(rt, set == Ok(()), "a breakpoint", n);
         false
     }
 }
@@ -145,7 +145,7 @@ fn finds_none_for_twenty<A: Allocator + Copy>(
     let mut found = false;
     for n in 0..20u64 {
         let finds_none = finds_none_for_one(rt, session, n, when);
-        assert_at(rt, !finds_none || !found, "a breakpoint after a refusal", n);
+        assert_named(rt, !finds_none || !found, "a breakpoint after a refusal", n);
         found |= finds_none;
     }
     assert!(rt; session.breakpoint_count() == 20);
@@ -287,7 +287,7 @@ fn is_refused(rt: &impl DiskTest, call: Call<'_>, row: usize, nth: u64) -> bool 
     let refusing = FaultyAllocator::new(rt.alloc(), nth);
     let found = finds_no_memory(rt, &refusing, call);
     let is_wanted = found == (refusing.left() == 0);
-    assert_at(rt, is_wanted, "memory", (row, nth));
+    assert_named(rt, is_wanted, "memory", (row, nth));
     found
 }
 
@@ -302,7 +302,7 @@ fn check_row(rt: &impl DiskTest, row: usize, content: &Row<'_>) {
         growths = nth;
     }
     let are_wanted = least <= growths && growths <= most;
-    assert_at(rt, are_wanted, "the number of growths", (row, growths));
+    assert_named(rt, are_wanted, "the number of growths", (row, growths));
 }
 
 /// The same call over other bytes.

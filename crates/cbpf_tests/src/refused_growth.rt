@@ -1,8 +1,8 @@
 // Scripts of which each growth is refused, one after another.
 use crate::assertions::Test;
 use crate::fault_injection::{Fault, FaultyAllocator, FaultyWriter};
-use crate::loaded::two_packets_as_k;
-use crate::places::assert_at;
+use crate::inputs::two_packets_as_k;
+use crate::named_assertion::assert_named;
 use cbpf_tool::{ToolFault, debug};
 use std::process::Abort;
 
@@ -86,7 +86,7 @@ fn is_refused(rt: &impl Test, script: &Row, row: usize, nth: u64) -> bool {
     let result = debug(&alloc, &mut reader, &mut writer, &mut files);
     let is_whole = result == Ok(()) && writer.written() == replies;
     let is_refused = alloc.left() == 0;
-    assert_at(rt, is_whole != is_refused, "the whole text", (row, nth));
+    assert_named(rt, is_whole != is_refused, "the whole text", (row, nth));
     if !is_whole {
         after_refusal(
             rt,
@@ -112,7 +112,7 @@ fn after_refusal(
         Some(text) => answer == Ok(()) && written == text,
         None => matches!(answer, Ok(()) | Err(ToolFault::Memory)),
     };
-    assert_at(rt, is_wanted, "the answer and the text", (row, nth));
+    assert_named(rt, is_wanted, "the answer and the text", (row, nth));
 }
 
 /// Each growth of a script is refused, one after another.
@@ -125,7 +125,7 @@ fn each_is_refused(rt: &impl Test, script: &Row, row: usize) {
         growths = nth;
     }
     let are_wanted = script.2 <= growths && growths < 99;
-    assert_at(rt, are_wanted, "the number of growths", (row, growths));
+    assert_named(rt, are_wanted, "the number of growths", (row, growths));
 }
 
 // Out of memory is a fault of the script, or the reply to a line, and neither comes of itself.
@@ -172,7 +172,7 @@ fn each_growth_over_a_slice(rt: HostRuntime) {
     let mut met = [false; 4];
     for nth in 1..100u64 {
         let (end, is_refused) = end_over_a_slice(&rt, nth);
-        assert_at(&rt, is_refused == (end < 3), "the end", nth);
+        assert_named(&rt, is_refused == (end < 3), "the end", nth);
         if let Some(is_met) = met.get_mut(end) {
             *is_met = true;
         }

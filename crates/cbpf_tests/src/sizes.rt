@@ -1,8 +1,8 @@
 // Large inputs: thousands of records, instructions, tokens and breakpoints, with memory at hand.
 use crate::assertions::Test;
 use crate::fault_injection::FaultyReader;
-use crate::loaded::{HEADER, RECORD, program_of, repeated};
-use crate::places::assert_at;
+use crate::inputs::{HEADER, RECORD, program_of, repeated};
+use crate::named_assertion::assert_named;
 use cbpf_code::read_words;
 use cbpf_dbg::{MarkTrail, Session, SessionFault, When};
 use cbpf_text::{assemble, tokens, write_listing};
@@ -96,14 +96,14 @@ fn set(session: &mut Session<MarkTrail>, n: u64, i: u32) -> Result<(), SessionFa
 fn set_each(rt: &impl Abort, session: &mut Session<MarkTrail>) {
     for i in 0..4096u32 {
         let n = u64::from(4095 - i);
-        assert_at(rt, set(session, n, i) == Ok(()), "a breakpoint", n);
+        assert_named(rt, set(session, n, i) == Ok(()), "a breakpoint", n);
     }
 }
 
 fn are_set(rt: &impl Abort, session: &Session<MarkTrail>) {
     for i in 0..4096u32 {
         let is_set = session.breakpoint_at(i as usize) == Some(4095 - i);
-        assert_at(rt, is_set, "a breakpoint", i);
+        assert_named(rt, is_set, "a breakpoint", i);
     }
 }
 

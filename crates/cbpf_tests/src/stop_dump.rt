@@ -1,7 +1,7 @@
 //! Dumps of stops, byte for byte.
 
 use crate::assertions::{Test, assert_at};
-use crate::loaded::program_of;
+use crate::inputs::program_of;
 use cbpf_code::{Ext, Program};
 use cbpf_machine::{Meter, Packet, State, Turn, Values, turn};
 use cbpf_reply::{Place, Stop, Why, write_stop};

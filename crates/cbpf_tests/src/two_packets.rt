@@ -1,6 +1,6 @@
 //! Two captures of the same two packets: an ARP packet of 42 bytes, and an ICMP packet of 34.
 
-use crate::loaded::TWO_PACKETS;
+use crate::inputs::TWO_PACKETS;
 
 /// With nanoseconds.
 const BIG_ENDIAN: [u8; 132] = [

@@ -3,8 +3,8 @@
 // nothing is read and nothing is written.
 use crate::assertions::Test;
 use crate::fault_injection::ERROR_KINDS;
-use crate::loaded::two_packets_as_k;
-use crate::places::assert_at;
+use crate::inputs::two_packets_as_k;
+use crate::named_assertion::assert_named;
 use cbpf_tool::{ToolFault, debug};
 use std::cell::Cell;
 use std::io;
@@ -168,9 +168,9 @@ fn check(
     let made = if failing == 0 { wanted.len() } else { failing };
     let done = writer.progress.get();
     let are_made = outcome == answer && wanted.get(..made) == Some(writer.flushes.as_slice());
-    assert_at(rt, are_made, "the answer and the flushes", place);
+    assert_named(rt, are_made, "the answer and the flushes", place);
     let is_in_time = done.late == 0 && done.flushed == done.written;
-    assert_at(rt, is_in_time, "late replies, and the flushed text", place);
+    assert_named(rt, is_in_time, "late replies, and the flushed text", place);
 }
 
 /// A run over some lines, each in a read of its own, with a flush that fails or none (0).

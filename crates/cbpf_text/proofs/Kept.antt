@@ -11,7 +11,7 @@ use Rattle.cbpf_syntax.specs.Views.{lexeme_of}
 use Rattle.cbpf_text.specs.declared.name.Name.{Name}
 use Rattle.cbpf_text.specs.declared.fault.AsmKind.TheVariants as kinds
 use Rattle.cbpf_text.specs.Labels.{set_labels, AreDistinct}
-use Rattle.cbpf_text.specs.Tables.{SetLabel, labels_of, labels_from, Resolves}
+use Rattle.cbpf_text.specs.LabelTable.{SetLabel, labels_of, labels_from, Resolves}
 use Rattle.cbpf_text.specs.declared.draft.Statement.{Statement}
 use Rattle.cbpf_text.specs.Drafts.{IsStatement, AreSet, IsKept}
 use Rattle.cbpf_text.specs.Refusals.{IsItemsFault, IsFirstRepeat, IsExcess}

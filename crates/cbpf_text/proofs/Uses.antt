@@ -11,7 +11,7 @@ use Rattle.cbpf_text.specs.Labels.{name_of, set_labels, times_set, AreDistinct, 
 use Rattle.cbpf_text.specs.Assembled.{IsOffset, IsShortOffset}
 use Rattle.cbpf_text.specs.Refusals.{Use, IsUseFault, IsGoodUse}
 use Rattle.cbpf_text.specs.Refusals.IsUseFault.{not_set, not_after, too_far}
-use Rattle.cbpf_text.specs.Tables.{labels_from, place_among, IsLookup}
+use Rattle.cbpf_text.specs.LabelTable.{labels_from, place_among, IsLookup}
 use Rattle.cbpf_text.proofs.LabelLists.{one_place, distinct_once, sets_some, lookup_found}
 
 abbrev pub use_of : ℕ → Bool → Lexeme → Use

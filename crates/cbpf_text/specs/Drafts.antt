@@ -12,7 +12,7 @@ use Rattle.cbpf_text.specs.declared.name.Name.{Name}
 use Rattle.cbpf_text.specs.Labels.{AreDistinct, name_of}
 use Rattle.cbpf_text.specs.Operands.{literal_in, targets_in}
 use Rattle.cbpf_text.specs.Refusals.{IsFirstRepeat, IsExcess}
-use Rattle.cbpf_text.specs.Tables.{SetLabel, labels_of, labels_from, place_among}
+use Rattle.cbpf_text.specs.LabelTable.{SetLabel, labels_of, labels_from, place_among}
 
 -- the target is the label, by its name and its place
 abbrev pub KeepsLabel : Target → Lexeme → Type 0

@@ -3,5 +3,5 @@ pub mod Operands
 pub mod Assembled
 pub mod Refusals
 pub mod Laws
-pub mod Tables
+pub mod LabelTable
 pub mod Drafts

@@ -8,7 +8,7 @@ ghost use Rattle.cbpf_text.specs.Assembled.{Assembles, AreEncoded};
 ghost use Rattle.cbpf_text.specs.Drafts.{IsDraft};
 ghost use Rattle.cbpf_text.specs.Refusals.{Reported, IsItemsFault, IsRefused};
 ghost use Rattle.cbpf_text.specs.Operands.{HasForm};
-ghost use Rattle.cbpf_text.specs.Tables.{same_name};
+ghost use Rattle.cbpf_text.specs.LabelTable.{same_name};
 
 use crate::draft::{Draft, read};
 use crate::encode::encode_all;

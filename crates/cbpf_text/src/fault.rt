@@ -49,7 +49,7 @@ pub enum AsmKind {
 }
 
 /// What a bad piece of a text is reported as.
-pub(crate) fn piece_kind(bad: BadPiece) -> AsmKind
+pub(crate) fn bad_piece_kind(bad: BadPiece) -> AsmKind
     ensures { result ≡ bad_piece_kind bad }
 {
     match bad {

@@ -12,10 +12,10 @@ mod encode;
 mod fault;
 mod labels;
 mod law;
-mod listing;
 mod name;
 mod operand;
 mod placed_fault;
+mod round_trip;
 mod source;
 
 pub use assembler::assemble;
@@ -23,5 +23,5 @@ pub use cbpf_code::write_line;
 pub use cbpf_syntax::{Kind, Token};
 pub use fault::{AsmFault, AsmKind};
 pub use law::{listing_assembles, one_assembly};
-pub use listing::write_listing;
+pub use round_trip::write_listing;
 pub use source::tokens;

@@ -4,7 +4,7 @@ ghost use Rattle.std.specs.Prelude.{◌≡◌, ℕ, List, IfOk, IfErr, All};
 ghost use Rattle.cbpf_syntax.specs.Tokens.{Lexes, IsLexFault, IsSpanOf, line_of};
 ghost use Rattle.cbpf_text.specs.Refusals.{IsLexRefused};
 
-use crate::fault::{AsmFault, piece_kind};
+use crate::fault::{AsmFault, bad_piece_kind};
 use cbpf_syntax::{LexFault, Token};
 use std::alloc::Allocator;
 
@@ -14,7 +14,7 @@ pub(crate) fn asm_fault(fault: LexFault) -> AsmFault
 {
     match fault {
         LexFault::Memory => AsmFault::Memory,
-        LexFault::At(bad, line) => AsmFault::At(piece_kind(bad), line),
+        LexFault::At(bad, line) => AsmFault::At(bad_piece_kind(bad), line),
     }
 }
 

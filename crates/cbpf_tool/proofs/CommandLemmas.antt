@@ -9,7 +9,7 @@ use Rattle.std.proofs.lemmas.Bool.Decides.{nat_tests}
 use Rattle.std.proofs.lemmas.Slice.Eq.{bytes_eq-Decides, text_from_reads, HasBytesAt}
 use Rattle.std.proofs.lemmas.Str.{is_utf8-from_IsUtf8, IsUtf8-from_is_utf8, IsUtf8-from_ascii}
 use Rattle.std.proofs.lemmas.Str.Ascii.{IsAscii-nil, IsAscii-cons}
-use Rattle.cbpf_tool.specs.Words.{words_of, after_words, trimmed}
+use Rattle.cbpf_tool.specs.LineWords.{words_of, after_words, trimmed}
 use Rattle.cbpf_tool.specs.Commands.{ReadsArguments, readings, reading_in, by_name, name_in, load_by}
 use Rattle.cbpf_tool.specs.declared.command.Command.TheVariants.{LoadCapture}
 use Rattle.cbpf_reply.specs.declared.errors.CommandFault.TheVariants.{UnknownCommand}

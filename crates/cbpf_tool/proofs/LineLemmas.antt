@@ -5,7 +5,7 @@ use Rattle.std.proofs.Common.{Err, MatchResult, append_assoc, append-nil, refl, 
 use Rattle.std.proofs.lemmas.List.Folds.{list_any-append, list_any_more}
 use Rattle.std.specs.Io.KnownBytes.{Keeps, Consumes, IsAtEnd}
 use Rattle.cbpf_tool.specs.Lines.{has_newline}
-use Rattle.cbpf_tool.specs.Reading.{IsStreamFault, unread, Took, Fills, TakesLine}
+use Rattle.cbpf_tool.specs.LineReader.{IsStreamFault, unread, Took, Fills, TakesLine}
 use Rattle.cbpf_tool.specs.declared.fault.ToolFault.{ToolFault}
 use Rattle.cbpf_tool.specs.declared.fault.ToolFault.TheVariants.{Source, Read, Write, Memory}
 

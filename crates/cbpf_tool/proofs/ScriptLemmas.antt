@@ -13,7 +13,7 @@ use Rattle.cbpf_tool.specs.FileMap.{FileMap, Source}
 use Rattle.cbpf_code.specs.Text.{put_front}
 use Rattle.cbpf_tool.specs.Lines.{lines, unlines, has_newline}
 use Rattle.cbpf_dbg.specs.View.{View, empty_view}
-use Rattle.cbpf_tool.specs.Reading.{unread as unread_bytes, Took, TakesLine}
+use Rattle.cbpf_tool.specs.LineReader.{unread as unread_bytes, Took, TakesLine}
 use Rattle.cbpf_tool.specs.Replies.{Reply, LineReplies, own, unheld, unread}
 use Rattle.cbpf_tool.specs.Output.{Output, at_end, at_quit, at_line, HasQuit}
 use Rattle.cbpf_tool.specs.Progress.{LineRan, EachPlain, LinesRan, still, onward, Progress}

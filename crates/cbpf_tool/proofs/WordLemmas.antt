@@ -7,7 +7,7 @@ use Rattle.std.proofs.lemmas.Bool.{cases_Bool}
 use Rattle.std.proofs.lemmas.List.{take_more, nil_from_length, reverse-append, reverse-reverse}
 use Rattle.cbpf_code.specs.WordTokens.{is_blank}
 use Rattle.cbpf_code.specs.Text.{put_front}
-use Rattle.cbpf_tool.specs.Words.{words_of, after_words, word_end, trim_start, trim_end}
+use Rattle.cbpf_tool.specs.LineWords.{words_of, after_words, word_end, trim_start, trim_end}
 
 -- ---- blanks at the front and at the end
 

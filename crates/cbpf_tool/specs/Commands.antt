@@ -6,7 +6,7 @@ use Rattle.std.specs.Str.{is_utf8}
 use Rattle.cbpf_code.specs.declared.extension.Ext.{Ext}
 use Rattle.cbpf_code.specs.Extension.{ext_named}
 use Rattle.cbpf_reply.specs.Breakpoints.{When, Always, A, X}
-use Rattle.cbpf_tool.specs.Words.{words_of, after_words, trimmed}
+use Rattle.cbpf_tool.specs.LineWords.{words_of, after_words, trimmed}
 use Rattle.cbpf_tool.specs.Numbers.{number_up_to, signed_number}
 use Rattle.cbpf_reply.specs.declared.errors.CommandFault.{CommandFault}
 use Rattle.cbpf_reply.specs.declared.errors.CommandFault.TheVariants.{UnknownCommand, WrongArguments}

@@ -1,4 +1,4 @@
-pub mod Words
+pub mod LineWords
 pub mod Numbers
 pub mod Commands
 pub mod Arguments
@@ -6,7 +6,7 @@ pub mod FileMap
 pub mod InMemory
 pub mod Loads
 pub mod Lines
-pub mod Reading
+pub mod LineReader
 pub mod RunText
 pub mod SessionReplies
 pub mod Replies
@@ -17,4 +17,4 @@ pub mod Assembling
 pub mod Hosted
 pub mod Jobs
 pub mod Laws
-pub mod Run
+pub mod RunJob

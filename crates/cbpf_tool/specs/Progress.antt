@@ -9,7 +9,7 @@ use Rattle.cbpf_reply.specs.declared.errors.CommandFault.{CommandFault}
 use Rattle.cbpf_tool.specs.FileMap.{FileMap, Source}
 use Rattle.cbpf_tool.specs.Lines.{has_newline, unlines}
 use Rattle.cbpf_dbg.specs.View.{View, empty_view}
-use Rattle.cbpf_tool.specs.Reading.{unread}
+use Rattle.cbpf_tool.specs.LineReader.{unread}
 use Rattle.cbpf_tool.specs.Replies.{Reply, LineReplies, CanRunOut}
 use Rattle.cbpf_tool.specs.SessionReplies.{reply_to}
 use Rattle.cbpf_tool.specs.declared.command.SessionCommand.{SessionCommand}

@@ -1,8 +1,8 @@
 // The words after a command's first one.
-ghost use Rattle.cbpf_tool.specs.Words.{words_of};
+ghost use Rattle.cbpf_tool.specs.LineWords.{words_of};
 ghost use Rattle.cbpf_tool.specs.Arguments.{AreArguments};
 
-use crate::scan::next_word;
+use crate::line_words::next_word;
 
 /// The arguments of a command; none has four.
 #[derive(Clone, Copy)]

@@ -1,13 +1,13 @@
 // Commands, and how lines spell them.
 ghost use Rattle.std.specs.Prelude.{◌≡◌, ℕ, List, [], ◌∷◌};
 ghost use Rattle.cbpf_tool.specs.Commands as spec;
-ghost use Rattle.cbpf_tool.specs.Words.{words_of, after_words, trimmed};
+ghost use Rattle.cbpf_tool.specs.LineWords.{words_of, after_words, trimmed};
 ghost use Rattle.cbpf_tool.specs.Arguments.{AreArguments};
 
 use crate::arguments::{Arguments, arguments_in};
 use crate::lent::{FileName, Text};
+use crate::line_words::{next_word, trimmed};
 use crate::number::{number_32, number_up_to, signed_number};
-use crate::scan::{next_word, trimmed};
 use cbpf_code::{Ext, ext_named};
 use cbpf_dbg::{Place, When};
 use cbpf_reply::CommandFault;

@@ -4,7 +4,7 @@ ghost use Rattle.std.specs.Io.KnownBytes.{Keeps};
 ghost use Rattle.cbpf_dbg.specs.View.{empty_view};
 ghost use Rattle.cbpf_tool.specs.Debugged.{Debugged};
 ghost use Rattle.cbpf_tool.specs.Progress.{LineRan};
-ghost use Rattle.cbpf_tool.specs.Reading.{pending_in};
+ghost use Rattle.cbpf_tool.specs.LineReader.{pending_in};
 ghost use Rattle.cbpf_tool.specs.declared.fault.ToolFault.TheVariants as fault;
 
 use crate::command::{Command, command_of};

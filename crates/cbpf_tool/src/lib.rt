@@ -16,12 +16,12 @@ mod host;
 mod law;
 mod lent;
 mod line_reader;
+mod line_words;
 mod loads;
 mod memory_files;
 mod number;
 mod reply_to;
 mod run_job;
-mod scan;
 
 pub use asm_on_host::asm_job;
 pub use assembler::asm;

@@ -3,7 +3,7 @@ ghost use Rattle.std.specs.Prelude.{◌≡◌, ◌-◌, ◌^◌, ◌<◌, ◌≤
 ghost use Rattle.std.specs.Prelude.{slice_index, true, false, OnOk, IfOk, IfErr, MatchOption, MatchResult};
 ghost use Rattle.std.specs.Io.KnownBytes.{Keeps, Consumes, IsAtEnd};
 ghost use Rattle.cbpf_tool.specs.Lines.{has_newline};
-ghost use Rattle.cbpf_tool.specs.Reading.{IsStreamFault, pending_in, steps_left, unread, Fills, TakesPart, TakesLine};
+ghost use Rattle.cbpf_tool.specs.LineReader.{IsStreamFault, pending_in, steps_left, unread, Fills, TakesPart, TakesLine};
 ghost use Rattle.cbpf_tool.specs.declared.TheConstants.{READ_SIZE};
 ghost use Rattle.cbpf_tool.specs.declared.line_reader.LineEnd.TheVariants as end;
 

@@ -1,7 +1,7 @@
 // The job that a command line asks for.
 ghost use Rattle.std.specs.Prelude.{◌≡◌, IsTrue};
 ghost use Rattle.std.specs.Process.{exit_status};
-ghost use Rattle.cbpf_tool.specs.Run as spec;
+ghost use Rattle.cbpf_tool.specs.RunJob as spec;
 
 use crate::asm_on_host::asm_job;
 use crate::dbg_on_host::dbg_job;

@@ -5,23 +5,23 @@ use Rattle.std.proofs.lemmas.Bool.{cases_lt}
 use Rattle.std.proofs.lemmas.Bool.Decides.{nat_tests}
 use Rattle.pcap_classic.specs.declared.captured.Endianness.{Endianness}
 use Rattle.pcap_classic.specs.declared.ending.Ending.{Ending}
-use Rattle.pcap_classic.specs.declared.captured.Front.{Front}
-use Rattle.pcap_classic.specs.declared.captured.Front.TheVariants.{PartOfHeader, PartOfData, WholeRecord}
+use Rattle.pcap_classic.specs.declared.captured.Extent.{Extent}
+use Rattle.pcap_classic.specs.declared.captured.Extent.TheVariants.{PartOfHeader, PartOfData, WholeRecord}
 use Rattle.pcap_classic.specs.Index.{ending_by}
 use Rattle.pcap_classic.specs.Records.{Record, Holds, no_bytes, part_of_header, part_of_data, whole_record, record_at}
 use Rattle.pcap_classic.specs.Records.{record_length}
-use Rattle.pcap_classic.specs.Scan.{front_of, contents_within}
+use Rattle.pcap_classic.specs.Contents.{extent_of, contents_within}
 
 front-header : (order : Endianness) (bytes : List ℕ) → 0 < length bytes → length bytes < 16
-    → front_of order bytes ≡ PartOfHeader
+    → extent_of order bytes ≡ PartOfHeader
 front-header order bytes some short = grind (arith, nat_tests)
 
 front-data : (order : Endianness) (bytes : List ℕ) → 16 ≤ length bytes → length bytes < record_length order bytes
-    → front_of order bytes ≡ PartOfData
+    → extent_of order bytes ≡ PartOfData
 front-data order bytes long cut = grind (arith, nat_tests)
 
 front-whole : (order : Endianness) (bytes : List ℕ) → record_length order bytes ≤ length bytes
-    → front_of order bytes ≡ WholeRecord (record_length order bytes)
+    → extent_of order bytes ≡ WholeRecord (record_length order bytes)
 front-whole order bytes whole = grind (arith, nat_tests)
 
 -- what the function gives, the relation says
@@ -45,15 +45,15 @@ contents-hold (suc most) order n place (b ∷ rest) h =
       ]
     ]
 
--- what the relation says where this is in front
-abbrev pub AtFront : Endianness → ℕ → ℕ → List ℕ → List Record → Ending → Front → Type 0
+-- what the relation says where so much of a record is in front
+abbrev pub AtFront : Endianness → ℕ → ℕ → List ℕ → List Record → Ending → Extent → Type 0
 AtFront order n place bytes rs how (WholeRecord size) = (size ≡ record_length order bytes) × (size ≤ length bytes)
     × (rest : List Record) × (rs ≡ record_at order n place bytes ∷ rest)
     × Holds order (n + 1) (place + size) (drop size bytes) rest how
-AtFront order n place bytes rs how front = (rs ≡ []) × (how ≡ ending_by front place)
+AtFront order n place bytes rs how extent = (rs ≡ []) × (how ≡ ending_by extent place)
 
 pub at_front : (order : Endianness) (n place : ℕ) (bytes : List ℕ) (rs : List Record) (how : Ending)
-    → Holds order n place bytes rs how → AtFront order n place bytes rs how (front_of order bytes)
+    → Holds order n place bytes rs how → AtFront order n place bytes rs how (extent_of order bytes)
 at_front order n place _ _ _ no_bytes = (refl, refl)
 at_front order n place _ _ _ (part_of_header bytes a b) = rw (front-header order bytes a b) (refl, refl)
 at_front order n place _ _ _ (part_of_data bytes a b) = rw (front-data order bytes a b) (refl, refl)
@@ -61,7 +61,7 @@ at_front order n place _ _ _ (whole_record bytes a h) = rw (front-whole order by
 
 -- before the last record a whole one is in front
 pub more-whole : (order : Endianness) (n place : ℕ) (bytes : List ℕ) (rs : List Record) (how : Ending)
-    → Holds order n place bytes rs how → 0 < length rs → front_of order bytes ≡ WholeRecord (record_length order bytes)
+    → Holds order n place bytes rs how → 0 < length rs → extent_of order bytes ≡ WholeRecord (record_length order bytes)
 more-whole order n place _ _ _ (whole_record bytes a h) some = front-whole order bytes a
 more-whole order n place _ _ _ _ some = absurd (omega arith)
 

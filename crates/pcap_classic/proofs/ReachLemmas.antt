@@ -5,11 +5,11 @@ use Rattle.std.specs.Prelude.{Some, slice_get}
 use Rattle.std.proofs.lemmas.List.{drop-drop, length-take-le}
 use Rattle.std.proofs.lemmas.Option.{slice_get_within}
 use Rattle.pcap_classic.specs.declared.captured.Endianness.{Endianness}
-use Rattle.pcap_classic.specs.declared.captured.Front.{Front}
-use Rattle.pcap_classic.specs.declared.captured.Front.TheVariants.{Nothing, PartOfHeader, PartOfData, WholeRecord}
+use Rattle.pcap_classic.specs.declared.captured.Extent.{Extent}
+use Rattle.pcap_classic.specs.declared.captured.Extent.TheVariants.{Nothing, PartOfHeader, PartOfData, WholeRecord}
 use Rattle.pcap_classic.specs.Records.{Record, StartsAt, record_at, record_length}
-use Rattle.pcap_classic.specs.Scan.{front_of, contents}
-use Rattle.pcap_classic.specs.Numbers.{number_at}
+use Rattle.pcap_classic.specs.Contents.{extent_of, contents}
+use Rattle.pcap_classic.specs.FileNumbers.{number_at}
 use Rattle.pcap_classic.specs.Index.{IsRecordStart, ending_by}
 use Rattle.pcap_classic.proofs.HoldsLemmas.{AtFront, at_front, contents-hold, more-whole}
 
@@ -39,7 +39,7 @@ pub record Onward (order : Endianness) (file : List ℕ) (i place size : ℕ) : 
 
 -- a whole record is the next one of the file, and the one after it, or the end, stands behind it
 pub onward : (order : Endianness) (file : List ℕ) (i place size : ℕ) → IsRecordStart order file i place
-    → front_of order (drop place file) ≡ WholeRecord size → Onward order file i place size
+    → extent_of order (drop place file) ≡ WholeRecord size → Onward order file i place size
 onward order file i place size here whole =
     let front = rw whole at (at_front order _ _ _ _ _ here.rest) in
     let split = slice_get-drop_head _ i _ _ front.3 in
@@ -64,26 +64,26 @@ onward_more order file i place here more =
     let left = length-drop i (contents order file).records in
     onward order file i place _ here (more-whole order _ _ _ _ _ here.rest (omega arith))
 
-pub record IsEnd (order : Endianness) (file : List ℕ) (i place : ℕ) (front : Front) : Type 0 where
+pub record IsEnd (order : Endianness) (file : List ℕ) (i place : ℕ) (extent : Extent) : Type 0 where
   pub count : i ≡ length (contents order file).records
-  pub ending : ending_by front place ≡ (contents order file).ending
+  pub ending : ending_by extent place ≡ (contents order file).ending
 
 -- with no whole record in front the file ends
 pub reaches_end : (order : Endianness) (file : List ℕ) (i place : ℕ) → IsRecordStart order file i place
-    → ((size : ℕ) → front_of order (drop place file) ≡ WholeRecord size → ⊥)
-    → IsEnd order file i place (front_of order (drop place file))
+    → ((size : ℕ) → extent_of order (drop place file) ≡ WholeRecord size → ⊥)
+    → IsEnd order file i place (extent_of order (drop place file))
 reaches_end order file i place here none =
-    by (front_of order (drop place file)) none (at_front order _ _ _ _ _ here.rest)
+    by (extent_of order (drop place file)) none (at_front order _ _ _ _ _ here.rest)
   where
-    ended : (front : Front) → drop i (contents order file).records ≡ []
-        → (contents order file).ending ≡ ending_by front place → IsEnd order file i place front
-    ended front nothing ending =
+    ended : (extent : Extent) → drop i (contents order file).records ≡ []
+        → (contents order file).ending ≡ ending_by extent place → IsEnd order file i place extent
+    ended extent nothing ending =
         let some = length-drop i (contents order file).records in
         record { count = omega (arith, ap length nothing, here.passed); ending = sym ending }
 
-    by : (front : Front) → ((size : ℕ) → front ≡ WholeRecord size → ⊥)
+    by : (extent : Extent) → ((size : ℕ) → extent ≡ WholeRecord size → ⊥)
         → AtFront order (i + 1) place (drop place file) (drop i (contents order file).records)
-        (contents order file).ending front → IsEnd order file i place front
+        (contents order file).ending extent → IsEnd order file i place extent
     by (WholeRecord size) none there = absurd (none size refl)
     by Nothing none there = ended Nothing there.0 there.1
     by PartOfHeader none there = ended PartOfHeader there.0 there.1

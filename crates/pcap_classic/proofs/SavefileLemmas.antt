@@ -2,12 +2,12 @@
 use Rattle.std.proofs.Common.{◌≡◌, ℕ, Bool, true, false, List, length, drop, Option, Some, None, Result, Ok, Err}
 use Rattle.std.proofs.Common.{◌⊎◌, inl, inr, arith, refl, length-drop, ◌≤◌, ◌∙◌, sym}
 use Rattle.std.specs.Prelude.{nat_lt, if◌then◌else◌}
-use Rattle.pcap_classic.specs.Numbers.{number_at}
+use Rattle.pcap_classic.specs.FileNumbers.{number_at}
 use Rattle.std.proofs.lemmas.Bool.{ltb-false, ltb-true}
 use Rattle.std.proofs.lemmas.Bool.Decides.{nat_tests}
 use Rattle.pcap_classic.specs.Savefile.{Savefile, IsSavefile, IsRefusal, HasMagic, HasVersion, OneCapture, OneRefusal}
 use Rattle.pcap_classic.specs.Savefile.{HasAnswer}
-use Rattle.pcap_classic.specs.Scan.{magic_of, is_version_2_4, header_by_magic, header_of, savefile_with}
+use Rattle.pcap_classic.specs.Contents.{magic_of, is_version_2_4, header_by_magic, header_of, savefile_with}
 use Rattle.pcap_classic.specs.declared.captured.Endianness.{Endianness}
 use Rattle.pcap_classic.specs.declared.captured.Endianness.TheVariants.{Big, Little}
 use Rattle.pcap_classic.specs.declared.header.CaptureFault.{CaptureFault}

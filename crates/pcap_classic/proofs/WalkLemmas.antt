@@ -5,7 +5,7 @@ use Rattle.std.specs.Prelude.{Some, None, slice_get}
 use Rattle.pcap_classic.specs.declared.captured.Endianness.{Endianness}
 use Rattle.pcap_classic.specs.Index.{IsWalk, IsRecordStart}
 use Rattle.pcap_classic.specs.Records.{Record}
-use Rattle.pcap_classic.specs.Scan.{contents}
+use Rattle.pcap_classic.specs.Contents.{contents}
 use Rattle.pcap_classic.proofs.ReachLemmas.{after}
 
 pub nothing_left : {X : Type 0} (xs : List X) → slice_get xs 0 ≡ None → xs ≡ []

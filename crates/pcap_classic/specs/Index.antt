@@ -1,12 +1,12 @@
 -- What the index of a capture says of its bytes: it is a matter of this crate alone, and no public clause names it.
 use Rattle.std.specs.Prelude.{◌≡◌, ℕ, ◌+◌, ◌-◌, ◌*◌, ◌≤◌, ◌<◌, ◌^◌, List, length, drop, slice_index}
 use Rattle.pcap_classic.specs.Records.{Holds}
-use Rattle.pcap_classic.specs.Scan.{contents}
+use Rattle.pcap_classic.specs.Contents.{contents}
 use Rattle.pcap_classic.specs.declared.captured.Endianness.{Endianness}
 use Rattle.pcap_classic.specs.declared.ending.Ending.{Ending}
 use Rattle.pcap_classic.specs.declared.ending.Ending.TheVariants.{Whole, CutHeader, CutData}
-use Rattle.pcap_classic.specs.declared.captured.Front.{Front}
-use Rattle.pcap_classic.specs.declared.captured.Front.TheVariants.{Nothing, PartOfHeader, PartOfData, WholeRecord}
+use Rattle.pcap_classic.specs.declared.captured.Extent.{Extent}
+use Rattle.pcap_classic.specs.declared.captured.Extent.TheVariants.{Nothing, PartOfHeader, PartOfData, WholeRecord}
 use Rattle.pcap_classic.specs.declared.index.TheConstants.{STRIDE}
 
 -- the record after the first i ones stands at this place of the file, or would if there were one more
@@ -39,7 +39,7 @@ pub record IsIndex (order : Endianness) (file : List ℕ) (count : ℕ) (starts 
   pub ended : how ≡ (contents order file).ending
 
 -- how the file ends where no whole record is in front
-abbrev pub ending_by : Front → ℕ → Ending
+abbrev pub ending_by : Extent → ℕ → Ending
 ending_by Nothing place = Whole
 ending_by PartOfHeader place = CutHeader place
 ending_by PartOfData place = CutData place

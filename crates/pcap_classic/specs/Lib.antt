@@ -1,6 +1,6 @@
-pub mod Numbers
+pub mod FileNumbers
 pub mod Records
 pub mod Lent
 pub mod Savefile
-pub mod Scan
+pub mod Contents
 pub mod Index

@@ -1,7 +1,7 @@
 -- The records after the file header of a capture, and how they end (pcap-savefile(5), "Packet Header"; that a cut
 -- last record is reported by its place is this crate's rule).
 use Rattle.std.specs.Prelude.{◌≡◌, ℕ, ◌+◌, ◌-◌, ◌≤◌, ◌<◌, List, [], ◌∷◌, length, take, drop, slice_get, Some}
-use Rattle.pcap_classic.specs.Numbers.{number_at}
+use Rattle.pcap_classic.specs.FileNumbers.{number_at}
 use Rattle.pcap_classic.specs.declared.captured.Endianness.{Endianness}
 use Rattle.pcap_classic.specs.declared.ending.Ending.{Ending}
 use Rattle.pcap_classic.specs.declared.ending.Ending.TheVariants.{Whole, CutHeader, CutData}

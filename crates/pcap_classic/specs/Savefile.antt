@@ -1,7 +1,7 @@
 -- What the bytes of a capture file say, or why they are no capture (pcap-savefile(5), version 2.4, with the magics
 -- below).
 use Rattle.std.specs.Prelude.{◌≡◌, ◌≤◌, ◌<◌, ◌⊎◌, ℕ, if◌then◌else◌, Bool, List, length, drop}
-use Rattle.pcap_classic.specs.Numbers.{number_at}
+use Rattle.pcap_classic.specs.FileNumbers.{number_at}
 use Rattle.pcap_classic.specs.Records.{Record, Holds}
 use Rattle.pcap_classic.specs.declared.captured.Endianness.{Endianness}
 use Rattle.pcap_classic.specs.declared.ending.Ending.{Ending}

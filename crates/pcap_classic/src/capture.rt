@@ -29,7 +29,7 @@ impl<A: Allocator> Model for Capture<A> {
     ghost use Rattle.std.specs.Prelude.{◌≡◌, Ok};
     ghost use Rattle.pcap_classic.specs.Index.{IsIndex};
     ghost use Rattle.pcap_classic.specs.Savefile.{Savefile};
-    ghost use Rattle.pcap_classic.specs.Scan.{savefile_with, header_of};
+    ghost use Rattle.pcap_classic.specs.Contents.{savefile_with, header_of};
 
     ghost Value = { Savefile };
 

@@ -3,9 +3,9 @@
 ghost use Rattle.std.specs.Prelude.{◌≡◌, ◌≤◌, ◌+◌, ◌-◌, length, slice_get, Some};
 ghost use Rattle.pcap_classic.specs.Index.{IsRecordStart};
 ghost use Rattle.pcap_classic.specs.Lent.{record_of};
-ghost use Rattle.pcap_classic.specs.Numbers.{number_at};
+ghost use Rattle.pcap_classic.specs.FileNumbers.{number_at};
 ghost use Rattle.pcap_classic.specs.Records as records;
-ghost use Rattle.pcap_classic.specs.Scan as spec;
+ghost use Rattle.pcap_classic.specs.Contents as spec;
 
 use byteorder::{BigEndian, ByteOrder, LittleEndian};
 
@@ -59,9 +59,9 @@ pub(crate) fn file_record(order: Endianness, file: &[u8], number: u64, start: us
 /// The length of a record's header in bytes.
 pub(crate) const RECORD_HEADER: usize = 16;
 
-/// What some bytes begin with.
+/// How much of a record some bytes begin with.
 #[derive(Clone, Copy)]
-pub(crate) enum Front {
+pub(crate) enum Extent {
     /// There are no bytes.
     Nothing,
     /// There are fewer bytes than a record's header has.
@@ -82,20 +82,20 @@ pub(crate) fn record_length(order: Endianness, bytes: &[u8]) -> usize
 }
 
 #[inline(always)]
-pub(crate) fn front_of(order: Endianness, bytes: &[u8]) -> Front
-    ensures { result ≡ spec.front_of order bytes.now }
+pub(crate) fn extent_of(order: Endianness, bytes: &[u8]) -> Extent
+    ensures { result ≡ spec.extent_of order bytes.now }
 {
     if bytes.is_empty() {
-        return Front::Nothing;
+        return Extent::Nothing;
     }
     if bytes.len() < RECORD_HEADER {
-        return Front::PartOfHeader;
+        return Extent::PartOfHeader;
     }
     let length = record_length(order, bytes);
     if bytes.len() < length {
-        Front::PartOfData
+        Extent::PartOfData
     } else {
-        Front::WholeRecord(length)
+        Extent::WholeRecord(length)
     }
 }
 
@@ -110,7 +110,7 @@ pub(crate) enum Endianness {
 
 impl Endianness {
     /// The number in the two bytes from a place on.
-    #[tactic(auto, unfolding(crate::specs::Numbers::number_at))]
+    #[tactic(auto, unfolding(crate::specs::FileNumbers::number_at))]
     #[inline]
     pub(crate) fn read_u16(self, bytes: &[u8], place: usize) -> u16
         requires { place + 2 ≤ length bytes.now }
@@ -123,7 +123,7 @@ impl Endianness {
     }
 
     /// The number in the four bytes from a place on.
-    #[tactic(auto, unfolding(crate::specs::Numbers::number_at))]
+    #[tactic(auto, unfolding(crate::specs::FileNumbers::number_at))]
     #[inline(always)]
     pub(crate) fn read_u32(self, bytes: &[u8], place: usize) -> u32
         requires { place + 4 ≤ length bytes.now }

@@ -1,7 +1,7 @@
 //! The header of a capture file, or why there is none.
 
 ghost use Rattle.std.specs.Prelude.{◌≡◌, ◌≤◌, length};
-ghost use Rattle.pcap_classic.specs.Scan as spec;
+ghost use Rattle.pcap_classic.specs.Contents as spec;
 
 use crate::captured::Endianness;
 

@@ -2,10 +2,10 @@
 
 ghost use Rattle.std.specs.Prelude.{◌≡◌, ◌≤◌, ◌<◌, ◌+◌, ◌-◌, ◌*◌, ◌^◌, ◌↔◌, ℕ, List, length, drop, true, IfOk};
 ghost use Rattle.pcap_classic.specs.Index.{IsIndex, AreEven, AreKept, AreStarts, IsRecordStart, ending_by};
-ghost use Rattle.pcap_classic.specs.Scan as spec;
-ghost use Rattle.pcap_classic.specs.declared.captured.Front.TheVariants.{WholeRecord};
+ghost use Rattle.pcap_classic.specs.Contents as spec;
+ghost use Rattle.pcap_classic.specs.declared.captured.Extent.TheVariants.{WholeRecord};
 
-use crate::captured::{Endianness, Front, front_of, record_length};
+use crate::captured::{Endianness, Extent, extent_of, record_length};
 use crate::ending::Ending;
 use crate::header::FILE_HEADER;
 use arrayvec::ArrayVec;
@@ -27,11 +27,11 @@ pub(crate) struct Index<A: Allocator> {
 /// How the file ends where no whole record stands at `place`.
 fn ending_at(order: Endianness, file: &[u8], place: usize) -> Ending
     requires { place ≤ length file.now }
-    ensures { result ≡ ending_by (spec.front_of order (drop place file.now)) place }
+    ensures { result ≡ ending_by (spec.extent_of order (drop place file.now)) place }
 {
-    match front_of(order, &file[place..]) {
-        Front::PartOfHeader => Ending::CutHeader(place),
-        Front::PartOfData => Ending::CutData(place),
+    match extent_of(order, &file[place..]) {
+        Extent::PartOfHeader => Ending::CutHeader(place),
+        Extent::PartOfData => Ending::CutData(place),
         _ => Ending::Whole,
     }
 }
@@ -44,10 +44,10 @@ const REPEATS: u32 = 4;
 /// Whether a whole record of this length is in front.
 #[inline(always)]
 fn is_record_of(order: Endianness, bytes: &[u8], length: usize) -> bool
-    ensures { (result ≡ true) ↔ (spec.front_of order bytes.now ≡ WholeRecord length) }
+    ensures { (result ≡ true) ↔ (spec.extent_of order bytes.now ≡ WholeRecord length) }
 {
-    match front_of(order, bytes) {
-        Front::WholeRecord(found) => found == length,
+    match extent_of(order, bytes) {
+        Extent::WholeRecord(found) => found == length,
         _ => false,
     }
 }
@@ -91,7 +91,7 @@ fn pass_repeats(
     ensures kept { AreStarts order file.now starts.new.items }
     ensures on { from.place ≤ result.place }
     ensures even { from.count ≡ 0 → from.place ≡ 24 → AreEven order file.now length result.count }
-    ensures all { spec.front_of order (drop result.place file.now) ≡ WholeRecord length → ⊥ }
+    ensures all { spec.extent_of order (drop result.place file.now) ≡ WholeRecord length → ⊥ }
 {
     let Passed {
         mut count,
@@ -113,7 +113,7 @@ fn pass_all(order: Endianness, file: &[u8], starts: &mut Starts, from: Passed) -
     ensures here { IsRecordStart order file.now result.count result.place }
     ensures few { 16 * result.count + 24 ≤ result.place }
     ensures kept { AreStarts order file.now starts.new.items }
-    ensures end { (size : ℕ) → spec.front_of order (drop result.place file.now) ≡ WholeRecord size → ⊥ }
+    ensures end { (size : ℕ) → spec.extent_of order (drop result.place file.now) ≡ WholeRecord size → ⊥ }
 {
     let Passed {
         mut count,
@@ -121,7 +121,7 @@ fn pass_all(order: Endianness, file: &[u8], starts: &mut Starts, from: Passed) -
     } = from;
     let mut last = 0;
     let mut repeats = 0u32;
-    'records: while let Front::WholeRecord(length) = front_of(order, &file[place..]) {
+    'records: while let Extent::WholeRecord(length) = extent_of(order, &file[place..]) {
         keep_start(starts, count, place);
         count += 1;
         place += length;
@@ -218,8 +218,8 @@ pub(crate) fn index_of<A: Allocator>(
     ensures { IfOk result (λ index. IsIndex order file.now index.count index.starts.items index.ending) }
 {
     let mut kept = Starts::new();
-    let length = match front_of(order, &file[FILE_HEADER..]) {
-        Front::WholeRecord(length) => length,
+    let length = match extent_of(order, &file[FILE_HEADER..]) {
+        Extent::WholeRecord(length) => length,
         _ => 0,
     };
     let header = Passed {

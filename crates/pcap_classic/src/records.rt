@@ -27,7 +27,7 @@ impl<'a> Model for Records<'a> {
     ghost use Rattle.std.specs.Prelude.{List, ◌-◌, take, drop};
     ghost use Rattle.pcap_classic.specs.Index.{IsWalk};
     ghost use Rattle.pcap_classic.specs.Records.{Record};
-    ghost use Rattle.pcap_classic.specs.Scan.{contents};
+    ghost use Rattle.pcap_classic.specs.Contents.{contents};
 
     ghost Value = { List Record };
 

@@ -1,6 +1,6 @@
 use Rattle.std.proofs.Common.{◌≡◌, arith, sym, subst, ap, ◌∙◌}
 use Rattle.cbpf_dbg.specs.declared.cursor.Cursor.{Cursor}
-use Rattle.cbpf_machine.specs.Step.{turn}
+use Rattle.cbpf_machine.specs.Turn.{turn}
 use Rattle.cbpf_machine.specs.declared.outcome.Turn.TheVariants.{Next}
 use Rattle.cbpf_machine.specs.Trace.{outcome_of}
 use Rattle.cbpf_machine.specs.Registers.{Registers}

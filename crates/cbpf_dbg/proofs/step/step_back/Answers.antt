@@ -1,6 +1,6 @@
 use Rattle.std.proofs.Common.{◌-◌, arith, refl}
 use Rattle.pcap_classic.specs.Lent.{record_of}
-use Rattle.cbpf_machine.specs.Step.{turn}
+use Rattle.cbpf_machine.specs.Turn.{turn}
 use Rattle.cbpf_machine.proofs.TraceLemmas.{goes_from_entry}
 use Rattle.cbpf_dbg.specs.Joined.{Entry}
 use Rattle.cbpf_dbg.specs.Commands.{back_place}

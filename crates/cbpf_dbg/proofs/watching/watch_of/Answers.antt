@@ -1,7 +1,7 @@
 use Rattle.std.proofs.Common.{◌≡◌, sym, ap, ◌∙◌, true, false}
 use Rattle.std.specs.Prelude.{is_some}
 use Rattle.cbpf_machine.specs.Machine.{machine_of}
-use Rattle.cbpf_machine.specs.Step.{turn}
+use Rattle.cbpf_machine.specs.Turn.{turn}
 use Rattle.cbpf_dbg.specs.Joined.{is_unknown}
 use Rattle.cbpf_dbg.proofs.CarryLemmas.{hits_unknown, hits_carried, room-kept}
 use Rattle.cbpf_dbg.proofs.watching.watch_of.Goals as goal

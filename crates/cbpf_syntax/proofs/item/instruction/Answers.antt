@@ -4,7 +4,7 @@ use Rattle.std.proofs.lemmas.List.{take_rest, length-map}
 use Rattle.std.proofs.lemmas.List.Sums.{common_prefix_len-le}
 use Rattle.std.proofs.Math.Numerals.{one-add}
 use Rattle.cbpf_syntax.specs.declared.lexeme.Symbol.TheVariants.{Word}
-use Rattle.cbpf_syntax.specs.Views.{lexeme_of, class_of, mnemonic_of}
+use Rattle.cbpf_syntax.specs.Views.{lexeme_of, class_of, mnemonic_view}
 use Rattle.cbpf_syntax.proofs.Mnemonics.{has_modes}
 use Rattle.cbpf_syntax.proofs.Steps.{lexeme, first_symbol, no_token_stuck, no_word_stuck, reserved_stuck, word_stuck}
 use Rattle.cbpf_syntax.proofs.Steps.{mnemonic_whole, mnemonic_part}
@@ -35,7 +35,7 @@ returns-in_default-mnemonic_named c =
 
 pub best_row-best-requires-clause-some : goal.best_row-best-requires-clause-some
 best_row-best-requires-clause-some c = rw (length-map c.in-Some-mnemonic_named.mnemonic.now.entries.now _) at
-    (has_modes (mnemonic_of c.in-Some-mnemonic_named.mnemonic.now) c.in-Some-mnemonic_named.ensures.found)
+    (has_modes (mnemonic_view c.in-Some-mnemonic_named.mnemonic.now) c.in-Some-mnemonic_named.ensures.found)
 
 pub overflow_add-result : goal.overflow_add-result
 overflow_add-result c = search (rules, take_rest, common_prefix_len-le, ltb-true, length-map, length-drop)

@@ -5,16 +5,16 @@ use Rattle.std.proofs.lemmas.List.{get_or_default, take_all}
 use Rattle.cbpf_syntax.specs.declared.table.Mnemonic.{Mnemonic}
 use Rattle.cbpf_syntax.specs.Table.{mnemonics}
 use Rattle.cbpf_syntax.specs.Initials.{begins_with}
-use Rattle.cbpf_syntax.specs.Views.{mnemonic_of}
+use Rattle.cbpf_syntax.specs.Views.{mnemonic_view}
 use Rattle.cbpf_syntax.proofs.Elements.{into_map}
 use Rattle.cbpf_syntax.proofs.Mnemonics.{from_known, none_from}
 use Rattle.cbpf_syntax.proofs.reserved.mnemonic_named.Goals as goal
 
 known_at : (b : ℕ) (items : List Mnemonic) (i : ℕ) (d : Mnemonic) → i < length items
-    → map mnemonic_of items ≡ filter (begins_with b) mnemonics → Contains mnemonics (mnemonic_of (get_or items i d))
-known_at b items i d l e = from_known b mnemonics (mnemonic_of (get_or items i d))
-    (subst (λ ms. Contains ms (mnemonic_of (get_or items i d))) e
-    (into_map mnemonic_of items (get_or items i d) (i, l, get_or_default items i (get_or items i d) d l)))
+    → map mnemonic_view items ≡ filter (begins_with b) mnemonics → Contains mnemonics (mnemonic_view (get_or items i d))
+known_at b items i d l e = from_known b mnemonics (mnemonic_view (get_or items i d))
+    (subst (λ ms. Contains ms (mnemonic_view (get_or items i d))) e
+    (into_map mnemonic_view items (get_or items i d) (i, l, get_or_default items i (get_or items i d) d l)))
 
 some_bytes : (w : List ℕ) → (length w == 0) ≡ false → 0 < length w
 some_bytes [] e = cc

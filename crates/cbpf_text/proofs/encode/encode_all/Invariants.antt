@@ -5,7 +5,7 @@ use Rattle.cbpf_syntax.specs.Items.{Item}
 use Rattle.cbpf_text.specs.Assembled.{EncodeEach}
 use Rattle.cbpf_text.specs.Drafts.{AreStatements}
 use Rattle.cbpf_text.specs.Operands.{HasForm}
-use Rattle.cbpf_text.specs.Tables.{same_name, Resolves}
+use Rattle.cbpf_text.specs.LabelTable.{same_name, Resolves}
 use Rattle.cbpf_text.proofs.encode.encode_all.Given as goal
 
 abbrev pub invariant-loop-i : goal.invariant-loop-i

@@ -2,7 +2,7 @@ use Rattle.std.proofs.Common.{◌≡◌, ◌∙◌, [], length, Ok, refl, arith,
 use Rattle.std.proofs.KnownBytes.{Keeps-trans}
 use Rattle.std.proofs.lemmas.Grind.{common_steps}
 use Rattle.cbpf_dbg.specs.View.{View}
-use Rattle.cbpf_tool.specs.Reading.{pending_in}
+use Rattle.cbpf_tool.specs.LineReader.{pending_in}
 use Rattle.cbpf_tool.specs.Progress.{Progress, LineRan}
 use Rattle.cbpf_tool.proofs.ScriptLemmas.{progress-start, line-faulted, write-faulted, quit-done, line-done, end-done}
 use Rattle.cbpf_tool.proofs.ScriptLemmas.{either-done, next-whole, next-last, unflushed}

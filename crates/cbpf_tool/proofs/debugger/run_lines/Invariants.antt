@@ -1,5 +1,5 @@
 use Rattle.std.proofs.Common.{◌≡◌, ℕ, List, Some, IsTrue}
-use Rattle.cbpf_tool.specs.Reading.{pending_in, steps_left}
+use Rattle.cbpf_tool.specs.LineReader.{pending_in, steps_left}
 use Rattle.cbpf_tool.specs.Progress.{Progress}
 use Rattle.cbpf_tool.proofs.debugger.run_lines.Given as goal
 

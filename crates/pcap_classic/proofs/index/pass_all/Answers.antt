@@ -6,14 +6,14 @@ use Rattle.pcap_classic.proofs.index.pass_all.Goals.{then-length-last, else-leng
 
 pub pass_repeats-passed-requires-clause-here : goal.pass_repeats-passed-requires-clause-here
 pass_repeats-passed-requires-clause-here c =
-    let front = rw take_rest at c.front_of.ensures in
+    let front = rw take_rest at c.extent_of.ensures in
     let on = onward _ _ _ _ _ c.records.invariant.here (sym front ∙ c.in-WholeRecord.is) in
     on.next
 
 pub records-preserved : goal.records-preserved
 records-preserved c =
     let before = c.records.invariant in
-    let front = rw take_rest at c.front_of.ensures in
+    let front = rw take_rest at c.extent_of.ensures in
     let on = onward _ _ _ _ _ before.here (sym front ∙ c.in-WholeRecord.is) in
     record {
       here = on.next;
@@ -28,5 +28,5 @@ records-preserved c =
 
 pub returns-clause-end : goal.returns-clause-end
 returns-clause-end c =
-    let front = rw take_rest at c.front_of.ensures in
+    let front = rw take_rest at c.extent_of.ensures in
     λ size whole. c.in_default.not-WholeRecord size (front ∙ whole)

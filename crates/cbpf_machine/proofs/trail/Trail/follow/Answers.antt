@@ -10,7 +10,7 @@ use Rattle.cbpf_machine.proofs.TraceLemmas.{goes_from_entry}
 use Rattle.cbpf_machine.proofs.FollowLemmas.{Comes, comes, few_entries, unpaused_next, ended}
 use Rattle.cbpf_machine.proofs.FollowLemmas.{reaches_fenced, reaches_within}
 use Rattle.cbpf_machine.proofs.trail.Trail.follow.Given.{Over}
-use Rattle.cbpf_machine.proofs.trail.Trail.follow.Goals.{After-pass-turns}
+use Rattle.cbpf_machine.proofs.trail.Trail.follow.Goals.{After-make_turns-turns}
 use Rattle.cbpf_machine.proofs.trail.Trail.follow.Goals as goal
 
 pub follow-init : goal.follow-init
@@ -57,31 +57,31 @@ invariant_of-pause g c = omega (
   sound_few c.args.p.now c.follow.invariant.here.sound,
 )
 
-reached : (g : Over) (c : After-pass-turns g)
+reached : (g : Over) (c : After-make_turns-turns g)
     → Reaches (task_of c.args.p.now c.args.values.now c.args.packet) (is_watched c.args.watched.now)
-    (g.Self.Trail.kept c.follow.self - 1) (registers c.pass-turns.new.s c.pass-turns.new.slots) c.pass-turns.result.0
-    c.pass-turns.result.1 × (c.pass-turns.result.0 ≤ c.gap.result)
-reached g c = reaches_fenced c.gap.result (c.pass-turns.ensures.reaches _ c.follow.invariant.here)
-    c.follow.invariant.here c.pass-turns.ensures.some c.gap.ensures.some (omega arith)
+    (g.Self.Trail.kept c.follow.self - 1) (registers c.make_turns-turns.new.s c.make_turns-turns.new.slots) c.make_turns-turns.result.0
+    c.make_turns-turns.result.1 × (c.make_turns-turns.result.0 ≤ c.gap.result)
+reached g c = reaches_fenced c.gap.result (c.make_turns-turns.ensures.reaches _ c.follow.invariant.here)
+    c.follow.invariant.here c.make_turns-turns.ensures.some c.gap.ensures.some (omega arith)
 
-within : (g : Over) (c : After-pass-turns g)
-    → (g.Self.Trail.kept c.follow.self + c.pass-turns.result.0
+within : (g : Over) (c : After-make_turns-turns g)
+    → (g.Self.Trail.kept c.follow.self + c.make_turns-turns.result.0
     ≤ length (trace_in (task_of c.args.p.now c.args.values.now c.args.packet)) + 1)
     × (length (trace_in (task_of c.args.p.now c.args.values.now c.args.packet)) ≤ MAX_INSTRUCTIONS)
 within g c =
-    let h = reaches_within _ (reached g c).0 c.pass-turns.ensures.some in
+    let h = reaches_within _ (reached g c).0 c.make_turns-turns.ensures.some in
     (omega (arith, c.follow.invariant.from_one), few_entries _ c.follow.invariant.here.sound)
 
 pub add-requires : goal.add-requires
 add-requires g c =
-    let h = within g (goal.at.add-requires g c).After-pass-turns in
+    let h = within g (goal.at.add-requires g c).After-make_turns-turns in
     omega (arith, c.requires.spare, c.follow.invariant.spent, c.follow.invariant.kept)
 
 pub returns-in-Some : goal.returns-in-Some
 returns-in-Some g c =
     let end = ended (g.Self.Trail.kept c.follow.self) c.args.s.now
-    (rw c.in-Some.is at (reached g (goal.at.returns-in-Some g c).After-pass-turns).0)
-    c.follow.invariant.unpaused c.follow.invariant.from_one c.pass-turns.ensures.some
+    (rw c.in-Some.is at (reached g (goal.at.returns-in-Some g c).After-make_turns-turns).0)
+    c.follow.invariant.unpaused c.follow.invariant.from_one c.make_turns-turns.ensures.some
     c.from.ensures in
     record {
       follows = rw c.follow.invariant.state end.0;
@@ -93,41 +93,41 @@ returns-in-Some g c =
 
 pub keep-requires-clause-near : goal.keep-requires-clause-near
 keep-requires-clause-near g c =
-    let few = (reached g (goal.at.keep-requires-clause-near g c).After-pass-turns).1 in
+    let few = (reached g (goal.at.keep-requires-clause-near g c).After-make_turns-turns).1 in
     omega (arith, c.gap.ensures.value)
 
 -- and to another entry
-on : (g : Over) (c : After-pass-turns g) → c.pass-turns.result.1 ≡ None
+on : (g : Over) (c : After-make_turns-turns g) → c.make_turns-turns.result.1 ≡ None
     → Comes (task_of c.args.p.now c.args.values.now c.args.packet) (is_watched c.args.watched.now)
-    (g.Self.Trail.kept c.args.self.now) (g.Self.Trail.kept c.follow.self + c.pass-turns.result.0)
-    (registers c.pass-turns.new.s c.pass-turns.new.slots)
+    (g.Self.Trail.kept c.args.self.now) (g.Self.Trail.kept c.follow.self + c.make_turns-turns.result.0)
+    (registers c.make_turns-turns.new.s c.make_turns-turns.new.slots)
 on g c is = comes (g.Self.Trail.kept c.follow.self) (rw is at (reached g c).0) c.follow.invariant.unpaused
-    c.follow.invariant.from_one c.pass-turns.ensures.some
+    c.follow.invariant.from_one c.make_turns-turns.ensures.some
 
 pub keep-requires-clause-few : goal.keep-requires-clause-few
 keep-requires-clause-few g c =
-    let at = (goal.at.keep-requires-clause-few g c).After-pass-turns in
+    let at = (goal.at.keep-requires-clause-few g c).After-make_turns-turns in
     let to = on g at c.in_default.is in
     let few = within g at in
     omega (arith, to.within, few.1)
 
 pub overflow_add-made : goal.overflow_add-made
 overflow_add-made g c =
-    let few = within g (goal.at.overflow_add-made g c).After-pass-turns in
+    let few = within g (goal.at.overflow_add-made g c).After-make_turns-turns in
     omega (arith, few.0, few.1, c.follow.invariant.kept, c.requires.from_one)
 
 pub pauses_at-requires : goal.pauses_at-requires
 pauses_at-requires g c =
-    let inside = c.pass-turns.ensures.inside in
+    let inside = c.make_turns-turns.ensures.inside in
     rw c.of-state.ensures (omega (arith, inside, sound_few c.args.p.now c.follow.invariant.here.sound))
 
 pub returns-then-pauses_at : goal.returns-then-pauses_at
 returns-then-pauses_at g c =
-    let on = on g (goal.at.returns-then-pauses_at g c).After-pass-turns c.in_default.is in
+    let on = on g (goal.at.returns-then-pauses_at g c).After-make_turns-turns c.in_default.is in
     let kept = c.keep.ensures.stands _ (rw c.of-state.ensures on.at) c.follow.invariant.stands in
-    let some = c.pass-turns.ensures.some in
-    let all : g.Self.Trail.kept c.follow.self + c.pass-turns.result.0
-    ≡ g.Self.Trail.kept c.args.self.now + (c.follow.made + c.pass-turns.result.0) =
+    let some = c.make_turns-turns.ensures.some in
+    let all : g.Self.Trail.kept c.follow.self + c.make_turns-turns.result.0
+    ≡ g.Self.Trail.kept c.args.self.now + (c.follow.made + c.make_turns-turns.result.0) =
     omega (arith, c.follow.invariant.kept) in
     record {
       follows = rw c.of-state.ensures (
@@ -137,7 +137,7 @@ returns-then-pauses_at g c =
         rw c.of-state.ensures at (sym c.pauses_at.ensures ∙ c.if-pauses_at.true),
       );
       stands = λ n e.
-          let same : c.follow.made + c.pass-turns.result.0 ≡ n = cc in
+          let same : c.follow.made + c.make_turns-turns.result.0 ≡ n = cc in
           rw (← same) (rw all at kept.0);
       of_trace = rw (← kept.1) at kept.0;
       more = omega (arith, kept.1, c.follow.invariant.kept);
@@ -146,18 +146,18 @@ returns-then-pauses_at g c =
 
 pub follow-smaller : goal.follow-smaller
 follow-smaller g c =
-    let to = on g (goal.at.follow-smaller g c).After-pass-turns c.in_default.is in
-    let some = c.pass-turns.ensures.some in
+    let to = on g (goal.at.follow-smaller g c).After-make_turns-turns c.in_default.is in
+    let some = c.make_turns-turns.ensures.some in
     omega (arith, some, to.within, c.follow.invariant.kept)
 
 pub follow-preserved : goal.follow-preserved
 follow-preserved g c =
-    let to = on g (goal.at.follow-preserved g c).After-pass-turns c.in_default.is in
+    let to = on g (goal.at.follow-preserved g c).After-make_turns-turns c.in_default.is in
     let kept = c.keep.ensures.stands _ (rw c.of-state.ensures to.at) c.follow.invariant.stands in
-    let some = c.pass-turns.ensures.some in
-    let quiet : is_watched c.args.watched.now (registers c.pass-turns.new.s c.pass-turns.new.slots) ≡ false =
+    let some = c.make_turns-turns.ensures.some in
+    let quiet : is_watched c.args.watched.now (registers c.make_turns-turns.new.s c.make_turns-turns.new.slots) ≡ false =
     rw c.of-state.ensures at (sym c.pauses_at.ensures ∙ c.if-pauses_at.false) in
-    let all : g.Self.Trail.kept c.follow.self + c.pass-turns.result.0 - 1 + 1
+    let all : g.Self.Trail.kept c.follow.self + c.make_turns-turns.result.0 - 1 + 1
     ≡ g.Self.Trail.kept c.keep.new.self = omega (arith, some, kept.1) in
     record {
       from_one = omega (arith, some, kept.1);

@@ -1,7 +1,7 @@
 use Rattle.std.proofs.Common.{◌≡◌, ℕ, ◌≤◌, List, Some, false}
 use Rattle.std.specs.Io.KnownBytes.{Keeps}
 use Rattle.cbpf_tool.specs.Lines.{has_newline}
-use Rattle.cbpf_tool.specs.Reading.{pending_in, steps_left, unread, Took}
+use Rattle.cbpf_tool.specs.LineReader.{pending_in, steps_left, unread, Took}
 use Rattle.cbpf_tool.proofs.line_reader.LineReader.next_line.Given as goal
 
 abbrev pub invariant-parts : goal.invariant-parts

@@ -1,5 +1,5 @@
 use Rattle.std.proofs.Common.{rules}
-use Rattle.pcap_classic.specs.Scan.{savefile_with}
+use Rattle.pcap_classic.specs.Contents.{savefile_with}
 use Rattle.pcap_classic.proofs.SavefileLemmas.{header-says}
 use Rattle.pcap_classic.proofs.capture.Capture.from_bytes.Goals as goal
 

@@ -1,6 +1,6 @@
 use Rattle.std.proofs.Common.{◌-◌, arith}
 use Rattle.std.proofs.lemmas.Option.{slice_get_within}
-use Rattle.pcap_classic.specs.Scan.{contents}
+use Rattle.pcap_classic.specs.Contents.{contents}
 use Rattle.pcap_classic.proofs.ReachLemmas.{start_once}
 use Rattle.pcap_classic.proofs.capture.Capture.start_of.Goals as goal
 

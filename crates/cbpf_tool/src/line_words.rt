@@ -1,6 +1,6 @@
 // The words of a line.
 ghost use Rattle.std.specs.Prelude.{◌≡◌, ◌≤◌, ◌∷◌, ℕ, suc, drop, take, length, [], true, MatchOption, IfSome};
-ghost use Rattle.cbpf_tool.specs.Words as spec;
+ghost use Rattle.cbpf_tool.specs.LineWords as spec;
 
 use cbpf_code::is_blank;
 

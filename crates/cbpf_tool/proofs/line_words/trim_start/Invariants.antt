@@ -1,6 +1,6 @@
 use Rattle.std.proofs.Common.{◌≡◌, ◌≤◌, ◌-◌, length, drop}
-use Rattle.cbpf_tool.specs.Words as spec
-use Rattle.cbpf_tool.proofs.scan.trim_start.Given as goal
+use Rattle.cbpf_tool.specs.LineWords as spec
+use Rattle.cbpf_tool.proofs.line_words.trim_start.Given as goal
 
 abbrev pub invariant-loop-at : goal.invariant-loop-at
 invariant-loop-at l = record {

@@ -2,7 +2,7 @@
 -- That it gives what the relations of Records and Savefile say is proved.
 use Rattle.std.specs.Prelude.{ℕ, zero, suc, ◌+◌, ◌==◌, ◌&&◌, nat_lt, if◌then◌else◌, Bool, true, false, List, [], ◌∷◌}
 use Rattle.std.specs.Prelude.{length, drop, Option, Some, None, Result, Ok, Err}
-use Rattle.pcap_classic.specs.Numbers.{number_at}
+use Rattle.pcap_classic.specs.FileNumbers.{number_at}
 use Rattle.pcap_classic.specs.Records.{Record, record_length, record_at}
 use Rattle.pcap_classic.specs.Savefile.{Savefile, micros_magic, nanos_magic}
 use Rattle.pcap_classic.specs.declared.captured.Endianness.{Endianness}
@@ -11,14 +11,14 @@ use Rattle.pcap_classic.specs.declared.ending.Ending.{Ending}
 use Rattle.pcap_classic.specs.declared.ending.Ending.TheVariants.{Whole, CutHeader, CutData}
 use Rattle.pcap_classic.specs.declared.header.CaptureFault.{CaptureFault}
 use Rattle.pcap_classic.specs.declared.header.CaptureFault.TheVariants.{FileHeaderCut, UnknownMagic, UnknownVersion}
-use Rattle.pcap_classic.specs.declared.captured.Front.{Front}
-use Rattle.pcap_classic.specs.declared.captured.Front.TheVariants.{Nothing, PartOfHeader, PartOfData, WholeRecord}
+use Rattle.pcap_classic.specs.declared.captured.Extent.{Extent}
+use Rattle.pcap_classic.specs.declared.captured.Extent.TheVariants.{Nothing, PartOfHeader, PartOfData, WholeRecord}
 use Rattle.pcap_classic.specs.declared.header.Magic.{Magic}
 use Rattle.pcap_classic.specs.declared.header.FileHeader.{FileHeader}
 
--- what the bytes begin with
-abbrev pub front_of : Endianness → List ℕ → Front
-front_of order bytes =
+-- how much of a record the bytes begin with
+abbrev pub extent_of : Endianness → List ℕ → Extent
+extent_of order bytes =
     if length bytes == 0 then Nothing
     else if nat_lt (length bytes) 16 then PartOfHeader
     else if nat_lt (length bytes) (record_length order bytes) then PartOfData
@@ -29,20 +29,20 @@ pub record Contents : Type 0 where
   pub records : List Record
   pub ending : Ending
 
--- the contents of bytes that stand at a place of the file, by what they begin with, where the last
+-- the contents of bytes that stand at a place of the file, by how much of a record they begin with, where the last
 -- argument gives the contents after a whole record of this length
-abbrev pub by_front : Front → ℕ → Record → (ℕ → Contents) → Contents
-by_front Nothing place r rest = record { records = []; ending = Whole }
-by_front PartOfHeader place r rest = record { records = []; ending = CutHeader place }
-by_front PartOfData place r rest = record { records = []; ending = CutData place }
-by_front (WholeRecord size) place r rest = record { records = r ∷ (rest size).records; ending = (rest size).ending }
+abbrev pub by_extent : Extent → ℕ → Record → (ℕ → Contents) → Contents
+by_extent Nothing place r rest = record { records = []; ending = Whole }
+by_extent PartOfHeader place r rest = record { records = []; ending = CutHeader place }
+by_extent PartOfData place r rest = record { records = []; ending = CutData place }
+by_extent (WholeRecord size) place r rest = record { records = r ∷ (rest size).records; ending = (rest size).ending }
 
 -- the contents of bytes that stand at a place of the file, the next record having number n. A record
 -- takes at least one byte, so `most` is large enough where there are at most that many bytes
 unfoldable pub contents_within : ℕ → Endianness → ℕ → ℕ → List ℕ → Contents
 contents_within zero order n place bytes = record { records = []; ending = Whole }
 contents_within (suc most) order n place bytes =
-    by_front (front_of order bytes) place (record_at order n place bytes)
+    by_extent (extent_of order bytes) place (record_at order n place bytes)
     (λ size. contents_within most order (n + 1) (place + size) (drop size bytes))
 
 -- the contents of a file, after its header of 24 bytes

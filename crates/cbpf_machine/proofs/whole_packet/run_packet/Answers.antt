@@ -3,7 +3,7 @@ use Rattle.cbpf_machine.specs.Machine.{machine_of}
 use Rattle.cbpf_machine.specs.Registers.{zero_state}
 use Rattle.cbpf_machine.specs.Task.{task_of}
 use Rattle.cbpf_machine.proofs.TraceLemmas.{length-trace_from, trace-is_run}
-use Rattle.cbpf_machine.proofs.run.run_packet.Goals as goal
+use Rattle.cbpf_machine.proofs.whole_packet.run_packet.Goals as goal
 
 pub returns-clause-few : goal.returns-clause-few
 returns-clause-few g c = omega (

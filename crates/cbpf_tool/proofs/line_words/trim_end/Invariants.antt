@@ -1,6 +1,6 @@
 use Rattle.std.proofs.Common.{◌≡◌, ◌≤◌, length, take}
-use Rattle.cbpf_tool.specs.Words as spec
-use Rattle.cbpf_tool.proofs.scan.trim_end.Given as goal
+use Rattle.cbpf_tool.specs.LineWords as spec
+use Rattle.cbpf_tool.proofs.line_words.trim_end.Given as goal
 
 abbrev pub invariant-loop-end : goal.invariant-loop-end
 invariant-loop-end l = record {

@@ -2,7 +2,7 @@ use Rattle.std.proofs.Common.{◌≡◌, arith}
 use Rattle.std.specs.Prelude.{None}
 use Rattle.cbpf_code.specs.Extension.{ext_at}
 use Rattle.cbpf_machine.proofs.AskedLemmas.{asked_turn, asked_none, without}
-use Rattle.cbpf_machine.proofs.extension.missing_extension.Goals as goal
+use Rattle.cbpf_machine.proofs.missing.missing_extension.Goals as goal
 
 pub returns-in_err-e : goal.returns-in_err-e
 returns-in_err-e c = λ list bytes wire s here.

@@ -1,5 +1,5 @@
 use Rattle.cbpf_text.proofs.ListedLaw.{listing_assembles}
-use Rattle.cbpf_text.proofs.listing.write_listing.Goals as goal
+use Rattle.cbpf_text.proofs.round_trip.write_listing.Goals as goal
 
 pub returns-clause-assembles : goal.returns-clause-assembles
 returns-clause-assembles g c =

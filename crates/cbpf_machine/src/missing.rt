@@ -3,7 +3,7 @@ ghost use Rattle.cbpf_code.specs.declared.insn.Insn.{Insn};
 ghost use Rattle.cbpf_code.specs.Faults.{loads_absolute};
 ghost use Rattle.cbpf_machine.specs.Machine.{machine_of};
 ghost use Rattle.cbpf_machine.specs.Registers.{Registers};
-ghost use Rattle.cbpf_machine.specs.Step as spec;
+ghost use Rattle.cbpf_machine.specs.Turn as spec;
 
 use crate::values::Values;
 use cbpf_code::{Ext, Insn, Op, ext_at, op_of};

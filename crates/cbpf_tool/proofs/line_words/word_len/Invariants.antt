@@ -1,6 +1,6 @@
 use Rattle.std.proofs.Common.{◌≡◌, ◌+◌, ◌-◌, ◌≤◌, length, drop}
-use Rattle.cbpf_tool.specs.Words.{word_end}
-use Rattle.cbpf_tool.proofs.scan.word_len.Given as goal
+use Rattle.cbpf_tool.specs.LineWords.{word_end}
+use Rattle.cbpf_tool.proofs.line_words.word_len.Given as goal
 
 abbrev pub invariant-loop-len : goal.invariant-loop-len
 invariant-loop-len l = record {
