@@ -1,7 +1,7 @@
 -- Each operand of a listing is spelled by segments, whose tokens fit its row of the table and give the
 -- instruction's fields back.
 use Rattle.std.proofs.Common.{◌≡◌, ℕ, ◌+◌, ◌^◌, ◌<◌, Bool, true, false, cond, ◌&&◌, List, [], ◌∷◌, ◌++◌, refl, ap, sym}
-use Rattle.std.proofs.Common.{◌∙◌, arith, rules, append-nil, lit<, Option, Some, None, ◌≤◌}
+use Rattle.std.proofs.Common.{◌∙◌, arith, rules, append-nil, lit<, Option, Some, None, option_map, ◌≤◌}
 use Rattle.std.specs.Prelude.{◌==◌, codes, is_some, decimal}
 use Rattle.std.proofs.lemmas.Bool.{and_from}
 use Rattle.cbpf_code.specs.declared.checker.TheConstants.{MAX_INSTRUCTIONS}

@@ -9,9 +9,12 @@ use Rattle.cbpf_text.specs.declared.fault.AsmKind.{AsmKind}
 use Rattle.cbpf_text.specs.declared.fault.AsmKind.TheVariants as kinds
 use Rattle.cbpf_text.specs.Labels.{name_of, set_labels, times_set, AreDistinct, SetsAt, IsPlace}
 use Rattle.cbpf_text.specs.Assembled.{IsOffset, IsShortOffset}
-use Rattle.cbpf_text.specs.Refusals.{Use, IsUseFault, IsGoodUse}
+use Rattle.cbpf_text.specs.declared.draft.Target.{Target}
+use Rattle.cbpf_text.specs.declared.name.Name.{Name}
+use Rattle.cbpf_text.specs.Drafts.{KeepsLabel}
+use Rattle.cbpf_text.specs.Refusals.{Use, IsUseFault, IsGoodUse, IsTargetFault}
 use Rattle.cbpf_text.specs.Refusals.IsUseFault.{not_set, not_after, too_far}
-use Rattle.cbpf_text.specs.LabelTable.{labels_from, place_among, IsLookup}
+use Rattle.cbpf_text.specs.LabelTable.{labels_from, place_among, IsLookup, Resolves}
 use Rattle.cbpf_text.proofs.LabelLists.{one_place, distinct_once, sets_some, lookup_found}
 
 abbrev pub use_of : ℕ → Bool → Lexeme → Use
@@ -102,3 +105,32 @@ each_use is u d =
           by_short u.short refl (p - u.index - 1) (subst (IsPlace is (name_of u.target)) e at)
       | inr l ↦ inl (kinds.NotAfter, not_after p at.sets l)
     ]
+
+-- What a look-up of a target's name answers, and how far the target lies, refuses it or gives its offset.
+
+pub unset_refused : (is : List Item) (index : ℕ) (short : Bool) (look : Name → Option ℕ) (target : Target)
+    (label : Lexeme) → Resolves is look → KeepsLabel target label → None ≡ look target.name
+    → IsTargetFault is index short (Some label) kinds.LabelNotSet target.at
+unset_refused is index short look target label resolves keeps e =
+    (not_set (rw (← e, keeps.0) at (resolves target.name)), keeps.1)
+
+pub before_refused : (is : List Item) (index : ℕ) (short : Bool) (look : Name → Option ℕ) (target : Target)
+    (label : Lexeme) (place : ℕ) → Resolves is look → KeepsLabel target label → Some place ≡ look target.name
+    → place ≤ index → IsTargetFault is index short (Some label) kinds.NotAfter target.at
+before_refused is index short look target label place resolves keeps e l =
+    let found : IsPlace is (name_of label) place = rw (← e, keeps.0) at (resolves target.name) in
+    (not_after place found.sets l, keeps.1)
+
+pub after_found : (is : List Item) (index : ℕ) (look : Name → Option ℕ) (target : Target) (label : Lexeme) (place : ℕ)
+    → Resolves is look → KeepsLabel target label → Some place ≡ look target.name → index < place
+    → IsOffset is index (Some label) (place - index - 1)
+after_found is index look target label place resolves keeps e l =
+    let found : IsPlace is (name_of label) place = rw (← e, keeps.0) at (resolves target.name) in
+    let same : place ≡ index + 1 + (place - index - 1) = omega (arith, l) in
+    subst (IsPlace is (name_of label)) same found
+
+pub far_refused : (is : List Item) (index : ℕ) (target : Target) (label : Lexeme) (distance : ℕ)
+    → KeepsLabel target label → IsOffset is index (Some label) distance → FARTHEST < distance
+    → IsTargetFault is index true (Some label) kinds.TooFar target.at
+far_refused is index target label distance keeps o l =
+    (too_far (index + 1 + distance) o.sets refl (omega (arith, l)), keeps.1)

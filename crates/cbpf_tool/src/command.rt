@@ -186,10 +186,7 @@ fn value_by(arguments: Arguments<'_>) -> Option<SessionCommand>
     ensures { (ws : List (List ℕ)) → AreArguments ws arguments.entry → result ≡ spec.value_by ws }
 {
     match arguments {
-        Arguments::Two(name, n) => Some(SessionCommand::Value(
-            ext_named(name)?,
-            number_32(n)?,
-        )),
+        Arguments::Two(name, n) => Some(SessionCommand::Value(ext_named(name)?, number_32(n)?)),
         _ => None,
     }
 }

@@ -1,6 +1,6 @@
 use Rattle.std.proofs.Common.{arith, refl, true}
 use Rattle.std.proofs.lemmas.Result.{err_from_is_err_and}
-use Rattle.cbpf_text.specs.Refusals.IsUseFault.{too_far}
+use Rattle.cbpf_text.proofs.Uses.{far_refused}
 use Rattle.cbpf_text.proofs.encode.short_offset.Goals as goal
 
 pub returns-in_err-distance-clause-refused : goal.returns-in_err-distance-clause-refused
@@ -10,8 +10,8 @@ returns-in_err-distance-clause-refused g c is r label t =
 
 pub returns-then-distance-gt-FARTHEST-clause-refused : goal.returns-then-distance-gt-FARTHEST-clause-refused
 returns-then-distance-gt-FARTHEST-clause-refused g c is r label t =
-    let place = c.in_ok-distance.ensures.found is r label t in
-    (too_far _ place.sets refl (omega arith), t.1)
+    far_refused is c.args.index c.args.target.now label _ t (c.in_ok-distance.ensures.found is r label t)
+    c.if-distance-gt-FARTHEST.true
 
 pub returns-clause-found : goal.returns-clause-found
 returns-clause-found g c is r label t =
