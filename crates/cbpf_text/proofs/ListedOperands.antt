@@ -8,8 +8,7 @@ use Rattle.cbpf_code.specs.declared.checker.TheConstants.{MAX_INSTRUCTIONS}
 use Rattle.cbpf_code.specs.declared.insn.Insn.{Insn}
 use Rattle.cbpf_code.specs.declared.extension.Ext.{Ext}
 use Rattle.cbpf_code.specs.declared.extension.Ext.TheVariants.{Proto}
-use Rattle.cbpf_code.specs.declared.extension.TheConstants.{FIRST_EXTENSION}
-use Rattle.cbpf_code.specs.Extension.{ext_at, ext_name, ext_named, ext_offset, ext_place, ext_table}
+use Rattle.cbpf_code.specs.Extension.{ext_at, ext_name, ext_named, ext_place}
 use Rattle.cbpf_code.specs.Text.{hex}
 use Rattle.cbpf_code.specs.WordForm.{InRange}
 use Rattle.cbpf_code.proofs.TableLemmas.{ext_only}

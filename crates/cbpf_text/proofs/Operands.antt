@@ -1,16 +1,12 @@
 -- An operand's tokens one by one, from its end: its literal, its labels.
-use Rattle.std.proofs.Common.{◌≡◌, refl, sym, ◌∙◌, cond, ℕ, ◌+◌, ◌-◌, ◌<◌, ◌≤◌, ◌⊎◌, inl, inr, min, Bool}
-use Rattle.std.proofs.Common.{true, false, List, [], ◌∷◌, length, map, drop, get_or, Option, Some, None, arith}
-use Rattle.std.specs.Prelude.{bytes_eq}
+use Rattle.std.proofs.Common.{◌≡◌, refl, sym, ◌∙◌, ℕ, ◌+◌, ◌-◌, ◌<◌, ◌≤◌, ◌⊎◌, inl, inr, min}
+use Rattle.std.proofs.Common.{List, [], ◌∷◌, length, map, drop, get_or, Option, None, arith}
 use Rattle.std.specs.Option.{unwrap_or}
 use Rattle.std.proofs.Math.Numerals.{add-one}
 use Rattle.std.proofs.Math.ListN.{get_or-map}
 use Rattle.std.proofs.Math.Seq.{drop-cons}
 use Rattle.std.proofs.lemmas.Bool.{cases_lt}
 use Rattle.std.proofs.lemmas.List.{drop_all, length-map}
-use Rattle.std.proofs.lemmas.Slice.Eq.{bytes_eq-Decides}
-use Rattle.cbpf_code.specs.declared.extension.Ext.{Ext}
-use Rattle.cbpf_code.specs.Extension.{ext_name}
 use Rattle.cbpf_syntax.specs.declared.class.Class as declared_class
 use Rattle.cbpf_syntax.specs.declared.class.Class.TheVariants as variants
 use Rattle.cbpf_syntax.specs.declared.lexeme.Lexeme as declared_lexeme
