@@ -1,4 +1,4 @@
-use Rattle.std.proofs.Common.{arith, refl, true}
+use Rattle.std.proofs.Common.{arith, true}
 use Rattle.std.proofs.lemmas.Result.{err_from_is_err_and}
 use Rattle.cbpf_text.proofs.Uses.{far_refused}
 use Rattle.cbpf_text.proofs.encode.short_offset.Goals as goal
