@@ -1,9 +1,9 @@
 -- Each text assembles or is refused at a line: its labels and targets are looked up one by one. What has a case for each
--- fault of items stands here.
+-- fault of items stands here, with what shows one of what is kept.
 use Rattle.std.proofs.lemmas.List.Elements.{All-nil, All-cons, All-contains, Contains-append_right}
 use Rattle.std.proofs.lemmas.Option.{slice_get_within, get_or_from_slice_get}
 use Rattle.std.proofs.Common.{◌≡◌, refl, sym, subst, ℕ, zero, suc, ◌+◌, ◌<◌, Bool, true, false, List}
-use Rattle.std.proofs.Common.{[], ◌∷◌, ◌++◌, length, map, Some, ◌⊎◌, inl, inr, arith, append_assoc}
+use Rattle.std.proofs.Common.{[], ◌∷◌, ◌++◌, length, map, Some, None, Option, ◌⊎◌, inl, inr, arith, append_assoc}
 use Rattle.std.proofs.Common.{append-nil, rules, ap, ◌≢◌, ◌∙◌}
 use Rattle.std.specs.Prelude.{slice_get, All}
 use Rattle.std.proofs.lemmas.Bool.{cases_lt}
@@ -32,14 +32,19 @@ use Rattle.cbpf_text.specs.Refusals.IsItemsFault.{no_item, too_many, set_twice, 
 use Rattle.cbpf_text.specs.Refusals.IsTokensFault.{of_grammar, of_items}
 use Rattle.cbpf_text.specs.Refusals.IsTextFault.{of_piece, of_tokens}
 use Rattle.cbpf_text.specs.Laws.{EachAnswered}
-use Rattle.cbpf_text.proofs.LabelLists.{distinct_more, times_append, times_cons, times_hit}
+use Rattle.cbpf_text.proofs.LabelLists.{distinct_more, times_append, times_cons, times_hit, words_from, lookup_found}
 use Rattle.cbpf_text.proofs.Forms.{items_forms, bad_here, bad_after}
 use Rattle.cbpf_text.proofs.Uses.{use_of, good_use, HasOffset, HasPlace, no_target, each_use, one_kind}
 use Rattle.cbpf_text.proofs.Faults.{tokens_assembled}
 use Rattle.std.proofs.lemmas.Grind.{common_steps}
 use Rattle.cbpf_syntax.proofs.Apart.{bytes_eq_self}
 use Rattle.cbpf_syntax.proofs.Cuts.{some-same}
-use Rattle.cbpf_text.proofs.Encoding.{good_uses}
+use Rattle.cbpf_text.proofs.Encoding.{good_uses, statements_size}
+use Rattle.std.proofs.lemmas.List.{nil_from_length}
+use Rattle.cbpf_text.specs.declared.name.Name.{Name}
+use Rattle.cbpf_text.specs.declared.draft.Statement.{Statement}
+use Rattle.cbpf_text.specs.Drafts.{AreSet, IsKept}
+use Rattle.cbpf_text.specs.LabelTable.{SetLabel, labels_from, Resolves}
 
 get_some : {A : Type 0} (xs : List A) (i : ℕ) → i < length xs → (x : A) × (slice_get xs i ≡ Some x)
 get_some [] i l = absurd (omega (arith, l))
@@ -261,6 +266,30 @@ one_of_items is k l m n (bad_use c p s d b) (no_item e) = absurd (empty is e s)
 one_of_items is k l m n (bad_use c p s d b) (too_many q x) = absurd (long is n x s)
 one_of_items is k l m n (bad_use c p s d b) (set_twice q o r) = absurd (twice (set_labels is) n r d)
 one_of_items is k l m n (bad_use c p s d b) (bad_use f q o g h) = one_bad is (uses_from 0 is) k l m n d b h
+
+-- What the assembler keeps of items after which no label waits shows their fault.
+module _ {ss : List Statement} {rep : Option ℕ} {look : Name → Option ℕ} {is : List Item}
+    (k : IsKept ss rep look is []) where
+  pub kept_none : length ss ≡ 0 → IsItemsFault is kinds.NoInstruction 0
+  kept_none e = no_item (nil_from_length is (omega (arith, statements_size ss is k.same)))
+
+  pub kept_length : (length ss ≡ 0 → ⊥) → HasProgramLength is
+  kept_length some = record { some = omega (arith, statements_size ss is k.same, some); most = k.most }
+
+  kept_labels : AreSet (labels_from 0 is) rep look
+  kept_labels = subst (λ (us : List SetLabel). AreSet us rep look) (append-nil (labels_from 0 is)) k.set
+
+  -- where a label is set a second time, and where none is
+  pub kept_repeat : (at : ℕ) → rep ≡ Some at → HasProgramLength is → IsItemsFault is kinds.LabelSetTwice at
+  kept_repeat at e limits =
+      let s : IsFirstRepeat _ at = subst (λ o. AreSet (labels_from 0 is) o look) e kept_labels in
+      set_twice at limits (subst (λ ts. IsFirstRepeat ts at) (words_from 0 is) s)
+
+  pub kept_once : rep ≡ None → AreDistinct (set_labels is) × Resolves is look
+  kept_once e =
+      let s : AreSet (labels_from 0 is) None look = subst (λ o. AreSet (labels_from 0 is) o look) e kept_labels in
+      let d : AreDistinct (set_labels is) = subst AreDistinct (words_from 0 is) s.1 in
+      (d, λ j. lookup_found is j.bytes.now (look j) d (sym (s.0 j)))
 
 -- tokens that are refused by the grammar
 refused_tokens : (ts : List Lexeme) (f : ParseFault) → IsFirstRefusal ts f

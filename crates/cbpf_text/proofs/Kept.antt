@@ -1,24 +1,19 @@
 -- What is kept of items that are read one by one: statements, and labels with their places.
-use Rattle.std.proofs.Common.{rules, ◌≡◌, refl, sym, ◌∙◌, ap, subst, ℕ, ◌+◌, ◌<◌, List, [], ◌∷◌, ◌++◌, length, map}
+use Rattle.std.proofs.Common.{rules, ◌≡◌, refl, sym, ◌∙◌, ap, ℕ, ◌+◌, ◌<◌, List, [], ◌∷◌, ◌++◌, length, map}
 use Rattle.std.proofs.Common.{get_or, Option, Some, None, arith, append_assoc, append-nil, length-append}
 use Rattle.std.specs.Prelude.{slice_get}
-use Rattle.std.proofs.lemmas.List.{map-append, nil_from_length}
+use Rattle.std.proofs.lemmas.List.{map-append}
 use Rattle.cbpf_code.specs.declared.checker.TheConstants.{MAX_INSTRUCTIONS}
 use Rattle.cbpf_syntax.specs.declared.lexeme.Lexeme as declared_lexeme
 use Rattle.cbpf_syntax.specs.Lexemes.{Lexeme}
 use Rattle.cbpf_syntax.specs.Items.{Item}
 use Rattle.cbpf_syntax.specs.Views.{lexeme_of}
 use Rattle.cbpf_text.specs.declared.name.Name.{Name}
-use Rattle.cbpf_text.specs.declared.fault.AsmKind.TheVariants as kinds
-use Rattle.cbpf_text.specs.Labels.{set_labels, AreDistinct}
-use Rattle.cbpf_text.specs.LabelTable.{SetLabel, labels_of, labels_from, Resolves}
+use Rattle.cbpf_text.specs.LabelTable.{SetLabel, labels_of, labels_from}
 use Rattle.cbpf_text.specs.declared.draft.Statement.{Statement}
 use Rattle.cbpf_text.specs.Drafts.{IsStatement, AreSet, IsKept}
-use Rattle.cbpf_text.specs.Refusals.{IsItemsFault, IsFirstRepeat, IsExcess}
-use Rattle.cbpf_text.specs.Refusals.IsItemsFault.{no_item, set_twice}
-use Rattle.cbpf_text.specs.Assembled.{HasProgramLength}
+use Rattle.cbpf_text.specs.Refusals.{IsExcess}
 use Rattle.cbpf_text.proofs.Encoding.{statements_size, statements_more}
-use Rattle.cbpf_text.proofs.LabelLists.{words_from, lookup_found}
 
 -- the labels of one more item
 pub labels_snoc : (k : ℕ) (is : List Item) (i : Item)
@@ -63,27 +58,3 @@ kept_excess ss rep look is ls i (t ∷ body) d k e b l =
       found = ap (λ q. slice_get (is ++ (i ∷ [])) q) (sym n) ∙ get_last is i;
       place = (lexeme_of t, ap (λ us. slice_get us 0) b, refl);
     }
-
--- what is kept of items after which no label waits
-module _ {ss : List Statement} {rep : Option ℕ} {look : Name → Option ℕ} {is : List Item}
-    (k : IsKept ss rep look is []) where
-  pub kept_none : length ss ≡ 0 → IsItemsFault is kinds.NoInstruction 0
-  kept_none e = no_item (nil_from_length is (omega (arith, statements_size ss is k.same)))
-
-  pub kept_length : (length ss ≡ 0 → ⊥) → HasProgramLength is
-  kept_length some = record { some = omega (arith, statements_size ss is k.same, some); most = k.most }
-
-  kept_labels : AreSet (labels_from 0 is) rep look
-  kept_labels = subst (λ (us : List SetLabel). AreSet us rep look) (append-nil (labels_from 0 is)) k.set
-
-  -- where a label is set a second time, and where none is
-  pub kept_repeat : (at : ℕ) → rep ≡ Some at → HasProgramLength is → IsItemsFault is kinds.LabelSetTwice at
-  kept_repeat at e limits =
-      let s : IsFirstRepeat _ at = subst (λ o. AreSet (labels_from 0 is) o look) e kept_labels in
-      set_twice at limits (subst (λ ts. IsFirstRepeat ts at) (words_from 0 is) s)
-
-  pub kept_once : rep ≡ None → AreDistinct (set_labels is) × Resolves is look
-  kept_once e =
-      let s : AreSet (labels_from 0 is) None look = subst (λ o. AreSet (labels_from 0 is) o look) e kept_labels in
-      let d : AreDistinct (set_labels is) = subst AreDistinct (words_from 0 is) s.1 in
-      (d, λ j. lookup_found is j.bytes.now (look j) d (sym (s.0 j)))

@@ -2,7 +2,8 @@ use Rattle.std.proofs.Common.{arith, rules}
 use Rattle.cbpf_text.specs.Refusals.{uses_from}
 use Rattle.cbpf_text.specs.Refusals.IsItemsFault.{too_many, bad_use}
 use Rattle.cbpf_text.proofs.Forms.{reported_more}
-use Rattle.cbpf_text.proofs.Kept.{none_if, kept_none, kept_length, kept_repeat, kept_once}
+use Rattle.cbpf_text.proofs.Kept.{none_if}
+use Rattle.cbpf_text.proofs.Answered.{kept_none, kept_length, kept_repeat, kept_once}
 use Rattle.cbpf_text.proofs.assembler.encode_draft.Goals as goal
 
 pub returns-in-Some-clause-refused : goal.returns-in-Some-clause-refused
