@@ -10,9 +10,8 @@ ghost use Rattle.cbpf_syntax.specs.Items.{Items};
 ghost use Rattle.cbpf_syntax.specs.Refusals.{IsAccepted, IsStuckAt};
 ghost use Rattle.cbpf_syntax.specs.Reading.{IsReading, StartsWithWord};
 ghost use Rattle.cbpf_syntax.specs.Views.{lexeme_of, row_of};
-ghost use Rattle.cbpf_text.specs.Drafts.{IsStatement, IsDraft, AreTargets, AreSet};
+ghost use Rattle.cbpf_text.specs.Drafts.{IsStatement, IsDraft, AreTargets, AreSet, same_name};
 ghost use Rattle.cbpf_text.specs.Refusals.{IsRefused};
-ghost use Rattle.cbpf_text.specs.Tables.{same_name};
 
 use crate::fault::{AsmFault, AsmKind, syntax_fault};
 use crate::labels::Labels;
