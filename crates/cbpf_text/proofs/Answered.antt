@@ -43,8 +43,7 @@ use Rattle.cbpf_text.proofs.Encoding.{good_uses, statements_size}
 use Rattle.std.proofs.lemmas.List.{nil_from_length}
 use Rattle.cbpf_text.specs.declared.name.Name.{Name}
 use Rattle.cbpf_text.specs.declared.draft.Statement.{Statement}
-use Rattle.cbpf_text.specs.Drafts.{AreSet, IsKept}
-use Rattle.cbpf_text.specs.LabelTable.{SetLabel, labels_from, Resolves}
+use Rattle.cbpf_text.specs.Drafts.{AreSet, IsKept, SetLabel, labels_from, Resolves}
 
 get_some : {A : Type 0} (xs : List A) (i : ℕ) → i < length xs → (x : A) × (slice_get xs i ≡ Some x)
 get_some [] i l = absurd (omega (arith, l))

@@ -9,9 +9,8 @@ use Rattle.cbpf_syntax.specs.Lexemes.{Lexeme}
 use Rattle.cbpf_syntax.specs.Items.{Item}
 use Rattle.cbpf_syntax.specs.Views.{lexeme_of}
 use Rattle.cbpf_text.specs.declared.name.Name.{Name}
-use Rattle.cbpf_text.specs.LabelTable.{SetLabel, labels_of, labels_from}
+use Rattle.cbpf_text.specs.Drafts.{SetLabel, labels_of, labels_from, IsStatement, AreSet, IsKept}
 use Rattle.cbpf_text.specs.declared.draft.Statement.{Statement}
-use Rattle.cbpf_text.specs.Drafts.{IsStatement, AreSet, IsKept}
 use Rattle.cbpf_text.specs.Refusals.{IsExcess}
 use Rattle.cbpf_text.proofs.Encoding.{statements_size, statements_more}
 

@@ -7,8 +7,7 @@ use Rattle.std.proofs.lemmas.List.Sums.{sum_by-append}
 use Rattle.cbpf_syntax.specs.Lexemes.{Lexeme}
 use Rattle.cbpf_syntax.proofs.Apart.{equal_bytes, bytes_eq_self}
 use Rattle.cbpf_text.specs.Labels.{name_of, times_among, AreDistinct, set_labels, times_set, SetsAt}
-use Rattle.cbpf_text.specs.Drafts.{set_words, AreSet}
-use Rattle.cbpf_text.specs.LabelTable.{SetLabel, place_among, labels_of, labels_from, IsLookup}
+use Rattle.cbpf_text.specs.Drafts.{set_words, AreSet, SetLabel, place_among, labels_of, labels_from, IsLookup}
 use Rattle.std.proofs.lemmas.List.{map-append}
 use Rattle.cbpf_syntax.specs.Items.{Item}
 use Rattle.cbpf_text.specs.declared.name.Name.{Name}

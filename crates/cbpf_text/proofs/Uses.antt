@@ -11,10 +11,9 @@ use Rattle.cbpf_text.specs.Labels.{name_of, set_labels, times_set, AreDistinct, 
 use Rattle.cbpf_text.specs.Assembled.{IsOffset, IsShortOffset}
 use Rattle.cbpf_text.specs.declared.draft.Target.{Target}
 use Rattle.cbpf_text.specs.declared.name.Name.{Name}
-use Rattle.cbpf_text.specs.Drafts.{KeepsLabel}
+use Rattle.cbpf_text.specs.Drafts.{KeepsLabel, labels_from, place_among, IsLookup, Resolves}
 use Rattle.cbpf_text.specs.Refusals.{Use, IsUseFault, IsGoodUse, IsTargetFault}
 use Rattle.cbpf_text.specs.Refusals.IsUseFault.{not_set, not_after, too_far}
-use Rattle.cbpf_text.specs.LabelTable.{labels_from, place_among, IsLookup, Resolves}
 use Rattle.cbpf_text.proofs.LabelLists.{one_place, distinct_once, sets_some, lookup_found}
 
 abbrev pub use_of : ℕ → Bool → Lexeme → Use

@@ -3,5 +3,4 @@ pub mod Operands
 pub mod Assembled
 pub mod Refusals
 pub mod Laws
-pub mod LabelTable
 pub mod Drafts

@@ -5,10 +5,9 @@ ghost use Rattle.cbpf_code.specs.declared.checker.TheConstants.{MAX_INSTRUCTIONS
 ghost use Rattle.indexmap.specs.IndexMap.{get};
 ghost use Rattle.cbpf_syntax.specs.Items as items;
 ghost use Rattle.cbpf_text.specs.Assembled.{Assembles, AreEncoded};
-ghost use Rattle.cbpf_text.specs.Drafts.{IsDraft};
+ghost use Rattle.cbpf_text.specs.Drafts.{IsDraft, same_name};
 ghost use Rattle.cbpf_text.specs.Refusals.{Reported, IsItemsFault, IsRefused};
 ghost use Rattle.cbpf_text.specs.Operands.{HasForm};
-ghost use Rattle.cbpf_text.specs.LabelTable.{same_name};
 
 use crate::draft::{Draft, read};
 use crate::encode::encode_all;

@@ -10,8 +10,7 @@ ghost use Rattle.cbpf_syntax.specs.Items.{Items};
 ghost use Rattle.cbpf_syntax.specs.Refusals.{IsAccepted, IsStuckAt};
 ghost use Rattle.cbpf_syntax.specs.Reading.{IsReading, StartsWithWord};
 ghost use Rattle.cbpf_syntax.specs.Views.{lexeme_of, row_of};
-ghost use Rattle.cbpf_text.specs.Drafts.{IsStatement, IsDraft, AreTargets, AreSet};
-ghost use Rattle.cbpf_text.specs.LabelTable.{same_name};
+ghost use Rattle.cbpf_text.specs.Drafts.{IsStatement, IsDraft, AreTargets, AreSet, same_name};
 ghost use Rattle.cbpf_text.specs.Refusals.{IsRefused};
 
 use crate::fault::{AsmFault, AsmKind, syntax_fault};

@@ -7,8 +7,7 @@ ghost use Rattle.cbpf_syntax.specs.Items as items;
 ghost use Rattle.cbpf_syntax.specs.Lexemes as lexemes;
 ghost use Rattle.cbpf_text.specs.Assembled.{IsOffset, IsShortOffset, IsEncoded, EncodeEach};
 ghost use Rattle.cbpf_text.specs.Refusals.{Reported, IsTargetFault, IsFirstBadUse, uses_of, uses_from};
-ghost use Rattle.cbpf_text.specs.LabelTable.{same_name, Resolves};
-ghost use Rattle.cbpf_text.specs.Drafts.{IsStatement, AreStatements, KeepsLabel};
+ghost use Rattle.cbpf_text.specs.Drafts.{same_name, Resolves, IsStatement, AreStatements, KeepsLabel};
 ghost use Rattle.cbpf_text.specs.Operands.{HasForm};
 
 use crate::draft::{Statement, Target};

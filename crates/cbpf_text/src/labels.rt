@@ -3,9 +3,8 @@
 ghost use Rattle.std.specs.Prelude.{[], ◌∷◌, ◌++◌, List, OnOk};
 ghost use Rattle.indexmap.specs.IndexMap.{get};
 ghost use Rattle.cbpf_syntax.specs.Views.{lexeme_of};
-ghost use Rattle.cbpf_text.specs.Drafts.{AreSet};
-ghost use Rattle.cbpf_text.specs.LabelTable as tables;
-ghost use Rattle.cbpf_text.specs.LabelTable.{same_name};
+ghost use Rattle.cbpf_text.specs.Drafts.{AreSet, same_name};
+ghost use Rattle.cbpf_text.specs.Drafts as tables;
 
 use crate::name::{Name, name_of};
 use cbpf_syntax::Lexeme;

@@ -1,8 +1,7 @@
 use Rattle.std.proofs.Common.{rules, ◌≡◌, ◌<◌, length, refl, subst}
 use Rattle.cbpf_code.specs.declared.checker.TheConstants.{MAX_INSTRUCTIONS}
 use Rattle.indexmap.specs.IndexMap.{get}
-use Rattle.cbpf_text.specs.Drafts.{IsDraft}
-use Rattle.cbpf_text.specs.LabelTable.{same_name}
+use Rattle.cbpf_text.specs.Drafts.{IsDraft, same_name}
 use Rattle.cbpf_text.proofs.LabelLists.{is_some_false}
 use Rattle.cbpf_text.proofs.Kept.{kept_item, kept_excess}
 use Rattle.cbpf_text.proofs.draft.add_instruction.Goals as goal

@@ -2,7 +2,7 @@ use Rattle.std.proofs.Common.{rules, ◌≡◌, length}
 use Rattle.std.proofs.lemmas.Result.{on_ok_weaker}
 use Rattle.indexmap.specs.IndexMap.{get}
 use Rattle.cbpf_syntax.specs.Views.{lexeme_of}
-use Rattle.cbpf_text.specs.LabelTable.{same_name}
+use Rattle.cbpf_text.specs.Drafts.{same_name}
 use Rattle.cbpf_text.proofs.LabelLists.{is_some_false}
 use Rattle.cbpf_text.proofs.Kept.{kept_label}
 use Rattle.cbpf_text.proofs.draft.add_label.Goals as goal

@@ -6,8 +6,7 @@ use Rattle.indexmap.specs.IndexMap.{get}
 use Rattle.cbpf_syntax.specs.declared.reader.Step.{Step}
 use Rattle.cbpf_text.specs.declared.draft.Statement.{Statement}
 use Rattle.cbpf_text.specs.declared.name.Name.{Name}
-use Rattle.cbpf_text.specs.LabelTable.{same_name}
-use Rattle.cbpf_text.specs.Drafts.{IsDraft}
+use Rattle.cbpf_text.specs.Drafts.{same_name, IsDraft}
 use Rattle.cbpf_syntax.specs.Items.{Item, Items}
 use Rattle.cbpf_syntax.specs.Lexemes.{Lexeme, AreLexemes}
 use Rattle.cbpf_syntax.specs.Reading.{Ahead, IsReading, IsStepOf, IsFirstLarge, step_len}

@@ -3,9 +3,8 @@ use Rattle.std.specs.Prelude.{All}
 use Rattle.indexmap.specs.IndexMap.{get}
 use Rattle.cbpf_syntax.specs.Items.{Item}
 use Rattle.cbpf_text.specs.Assembled.{EncodeEach}
-use Rattle.cbpf_text.specs.Drafts.{AreStatements}
+use Rattle.cbpf_text.specs.Drafts.{AreStatements, same_name, Resolves}
 use Rattle.cbpf_text.specs.Operands.{HasForm}
-use Rattle.cbpf_text.specs.LabelTable.{same_name, Resolves}
 use Rattle.cbpf_text.proofs.encode.encode_all.Given as goal
 
 abbrev pub invariant-loop-i : goal.invariant-loop-i

@@ -1,7 +1,7 @@
 use Rattle.std.proofs.Common.{◌∙◌, ap}
 use Rattle.std.specs.Prelude.{is_some}
 use Rattle.indexmap.specs.IndexMap.{get}
-use Rattle.cbpf_text.specs.LabelTable.{same_name}
+use Rattle.cbpf_text.specs.Drafts.{same_name}
 use Rattle.cbpf_text.proofs.LabelLists.{set_past, set_again, set_new}
 use Rattle.cbpf_text.proofs.labels.Labels.add.Goals.{then-is_some-2, else-is_some-2}
 use Rattle.cbpf_text.proofs.labels.Labels.add.Goals as goal
