@@ -3,7 +3,6 @@
 use Rattle.std.specs.Prelude.{ℕ, ◌-◌, ◌^◌, pos, if◌then◌else◌, List, [], ◌∷◌, Option, Some, None, option_map}
 use Rattle.std.specs.Prelude.{Result, Ok, Err, codes, bytes_eq}
 use Rattle.std.specs.Str.{is_utf8}
-use Rattle.cbpf_code.specs.declared.extension.Ext.{Ext}
 use Rattle.cbpf_code.specs.Extension.{ext_named}
 use Rattle.cbpf_reply.specs.Breakpoints.{When, Always, A, X}
 use Rattle.cbpf_tool.specs.LineWords.{words_of, after_words, trimmed}
