@@ -1,4 +1,4 @@
--- Faults of a list, from the passes that look for them, and that the first one is one.
+-- Faults of a list, from the passes that look for them; a list has one first fault at most.
 use Rattle.std.proofs.Common.{◌≡◌, ℕ, ◌+◌, ◌-◌, ◌<◌, ◌≤◌, List, length, get_or, arith, subst, inl, refl}
 use Rattle.std.specs.Prelude.{Option, Some, None, IsTrue, slice_get, ◌==◌, if◌then◌else◌}
 use Rattle.std.proofs.lemmas.Bool.{cases_eq, cases_lt}

@@ -1,6 +1,5 @@
-ghost use Rattle.std.specs.Prelude.{◌≡◌, ◌+◌, ℕ, Some, MatchOption};
+ghost use Rattle.std.specs.Prelude.{◌≡◌, ◌+◌, ℕ, Some};
 ghost use Rattle.cbpf_code.specs.Extension as spec;
-ghost use Rattle.cbpf_code.specs.declared.extension.Ext.{Ext};
 ghost use Rattle.cbpf_code.specs.declared.extension.TheConstants.{FIRST_EXTENSION};
 
 /// An extension of Linux: what an absolute load from a place that no packet has asks for instead
@@ -106,8 +105,10 @@ pub fn ext_offset(e: Ext) -> u32
 }
 
 /// The name of the extension in assembler text.
+#[tactic(auto, unfolding(crate::specs::Extension::ext_named))]
 pub fn ext_name(e: Ext) -> &'static str
-    ensures { result.now ≡ spec.ext_name e }
+    ensures value { result.now ≡ spec.ext_name e }
+    ensures known { spec.ext_named result.now ≡ Some e }
 {
     extensions!(name_of_ext, e)
 }

@@ -11,7 +11,8 @@ use crate::checker::{CheckFault, MAX_INSTRUCTIONS};
 use crate::insn::Insn;
 use crate::opcode::{Op, op_of};
 
-/// The first fault of a path: an instruction loads a slot which some path to it leaves unwritten.
+/// The first fault of a path: an instruction loads a slot which some path to it leaves unwritten. Without one the
+/// list is sound.
 ///
 /// Jumps only go forward, so one pass is enough: each instruction has a mask of the slots that some
 /// path to it leaves unwritten. No path gives an empty mask, as do paths that write all slots.

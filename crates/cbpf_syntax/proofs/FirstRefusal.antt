@@ -1,4 +1,4 @@
--- Which refusal of a token list is the first, and as what it is reported: what has a case for each stands here.
+-- The first refusal of a token list, and how it is reported: lemmas with a case for each refusal.
 use Rattle.std.proofs.Common.{rules, ◌≡◌, ℕ, ◌+◌, ◌-◌, ◌<◌, ◌≤◌, List, [], ◌∷◌, length, take, refl, arith, ap, sym}
 use Rattle.std.proofs.Common.{◌∙◌, inl, inr, subst, append-nil, Some, None}
 use Rattle.std.proofs.lemmas.List.{take_all, take-take}
@@ -131,9 +131,9 @@ shown_within (t ∷ ts) f r = elim (cases_lt r.place (length (t ∷ ts))) [
 ]
 
 -- two first refusals have one place
-pub one_shown : (ts : List Lexeme) (f g : ParseFault) (r : IsFirstRefusal ts f) (s : IsFirstRefusal ts g)
+pub one_place_of : (ts : List Lexeme) (f g : ParseFault) (r : IsFirstRefusal ts f) (s : IsFirstRefusal ts g)
     → r.place ≡ s.place
-one_shown ts f g r s = same_place r.place s.place (r.first g s.place s.refused) (s.first f r.place r.refused)
+one_place_of ts f g r s = same_place r.place s.place (r.first g s.place s.refused) (s.first f r.place r.refused)
 
 pub refused_large : (ts : List Lexeme) (s at : ℕ) → IsStuckAt ts s → IsFirstLarge ts s (Some at)
     → IsRefusedFor ts (reported.LargeNegative at)

@@ -1,5 +1,5 @@
--- Each text assembles or is refused at a line: its labels and targets are looked up one by one. What has a case for each
--- fault of items stands here, with what shows one of what is kept.
+-- Each text assembles or is refused at a line: its labels and targets are looked up one by one. The lemmas that have
+-- a case for each fault of items stand here.
 use Rattle.std.proofs.lemmas.List.Elements.{All-nil, All-cons, All-contains, Contains-append_right}
 use Rattle.std.proofs.lemmas.Option.{slice_get_within, get_or_from_slice_get}
 use Rattle.std.proofs.Common.{◌≡◌, refl, sym, subst, ℕ, zero, suc, ◌+◌, ◌<◌, Bool, true, false, List}

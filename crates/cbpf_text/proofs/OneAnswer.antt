@@ -68,7 +68,7 @@ one_of_tokens : (ts : List Lexeme) (k l : AsmKind) (m n : ℕ) → IsTokensFault
 one_of_tokens ts k l m n (of_grammar f i r p) (of_grammar g j s q) =
     let e : f ≡ g = grammar.one_refusal ts f g r s in
     let place : IsPlaceOf ts (shown_at ts s.place) m =
-    subst (λ i. IsPlaceOf ts (shown_at ts i) m) (grammar.one_shown ts f g r s) p in
+    subst (λ i. IsPlaceOf ts (shown_at ts i) m) (grammar.one_place_of ts f g r s) p in
     (ap grammar_kind e, one_place_of ts (shown_at ts s.place) m n place q)
 one_of_tokens ts k l m n (of_grammar f i r p) (of_items is c j o a x) = absurd (a f r.place r.refused)
 one_of_tokens ts k l m n (of_items is c j o a x) (of_grammar f i r p) = absurd (a f r.place r.refused)

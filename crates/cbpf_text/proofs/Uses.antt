@@ -1,4 +1,4 @@
--- Labels in operands, by what refuses one: each lemma here has a case for each such fault.
+-- Labels in operands, by what refuses one: a new such fault is a case of these lemmas.
 use Rattle.std.proofs.Common.{◌≡◌, refl, sym, ◌∙◌, subst, ℕ, ◌+◌, ◌-◌, ◌<◌, ◌≤◌, Bool, true, false, List, Option}
 use Rattle.std.proofs.Common.{Some, None, ◌⊎◌, inl, inr, arith}
 use Rattle.std.proofs.lemmas.Bool.{cases_lt}

@@ -95,6 +95,7 @@ pub data IsItemsFault (items : List Item) : AsmKind → ℕ → Type 0 where
   bad_use : (kind : AsmKind) (at : ℕ) → HasProgramLength items → AreDistinct (set_labels items)
       → IsFirstBadUse items (uses_from 0 items) kind at → IsItemsFault items kind at
 
+-- a refusal of the grammar, as it is reported
 abbrev pub grammar_kind : ParseFault → AsmKind
 grammar_kind (ParseFault.Misplaced i) = kinds.Misplaced
 grammar_kind (ParseFault.LargeNegative i) = kinds.LargeNumber

@@ -3,8 +3,7 @@
 ghost use Rattle.std.specs.Prelude.{[], ◌∷◌, ◌++◌, List, OnOk};
 ghost use Rattle.indexmap.specs.IndexMap.{get};
 ghost use Rattle.cbpf_syntax.specs.Views.{lexeme_of};
-ghost use Rattle.cbpf_text.specs.Drafts.{AreSet, same_name};
-ghost use Rattle.cbpf_text.specs.Drafts as tables;
+ghost use Rattle.cbpf_text.specs.Drafts.{AreSet, SetLabel, same_name};
 
 use crate::name::{Name, name_of};
 use cbpf_syntax::Lexeme;
@@ -68,7 +67,7 @@ impl<'a, A: Allocator> Labels<'a, A> {
         label: Lexeme<'a>,
         index: u32,
     ) -> Result<(), AllocFailed<(Name<'a>, u32)>>
-        ensures { OnOk result ((ls : List tables.SetLabel) →
+        ensures { OnOk result ((ls : List SetLabel) →
             AreSet ls self.old.repeat (λ k. get same_name self.old.table k) →
             AreSet (ls ++ record { word = lexeme_of label.entry; place = index } ∷ [])
             self.new.repeat (λ k. get same_name self.new.table k)) }

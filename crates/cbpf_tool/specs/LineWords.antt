@@ -1,4 +1,4 @@
--- The words of a command line, and what stands after them.
+-- The words of a script's line, and what stands after them.
 use Rattle.std.specs.Prelude.{ℕ, zero, suc, Bool, false, not, if◌then◌else◌, List, [], ◌∷◌, reverse}
 use Rattle.cbpf_code.specs.Text.{put_front}
 use Rattle.cbpf_code.specs.WordTokens.{is_blank}

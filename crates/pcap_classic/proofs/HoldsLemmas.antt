@@ -12,17 +12,17 @@ use Rattle.pcap_classic.specs.Records.{Record, Holds, no_bytes, part_of_header, 
 use Rattle.pcap_classic.specs.Records.{record_length}
 use Rattle.pcap_classic.specs.Contents.{extent_of, contents_within}
 
-front-header : (order : Endianness) (bytes : List ℕ) → 0 < length bytes → length bytes < 16
+extent-header : (order : Endianness) (bytes : List ℕ) → 0 < length bytes → length bytes < 16
     → extent_of order bytes ≡ PartOfHeader
-front-header order bytes some short = grind (arith, nat_tests)
+extent-header order bytes some short = grind (arith, nat_tests)
 
-front-data : (order : Endianness) (bytes : List ℕ) → 16 ≤ length bytes → length bytes < record_length order bytes
+extent-data : (order : Endianness) (bytes : List ℕ) → 16 ≤ length bytes → length bytes < record_length order bytes
     → extent_of order bytes ≡ PartOfData
-front-data order bytes long cut = grind (arith, nat_tests)
+extent-data order bytes long cut = grind (arith, nat_tests)
 
-front-whole : (order : Endianness) (bytes : List ℕ) → record_length order bytes ≤ length bytes
+extent-whole : (order : Endianness) (bytes : List ℕ) → record_length order bytes ≤ length bytes
     → extent_of order bytes ≡ WholeRecord (record_length order bytes)
-front-whole order bytes whole = grind (arith, nat_tests)
+extent-whole order bytes whole = grind (arith, nat_tests)
 
 -- what the function gives, the relation says
 pub contents-hold : (most : ℕ) (order : Endianness) (n place : ℕ) (bytes : List ℕ) → length bytes ≤ most
@@ -35,45 +35,45 @@ contents-hold (suc most) order n place [] h = no_bytes
 contents-hold (suc most) order n place (b ∷ rest) h =
     let bytes : List ℕ = b ∷ rest in
     elim (cases_lt (length bytes) 16) [
-      | inl short ↦ rw (front-header order bytes (omega arith) short) (part_of_header bytes (omega arith) short)
+      | inl short ↦ rw (extent-header order bytes (omega arith) short) (part_of_header bytes (omega arith) short)
       | inr long ↦ elim (cases_lt (length bytes) (record_length order bytes)) [
-        | inl cut ↦ rw (front-data order bytes long cut) (part_of_data bytes long cut)
+        | inl cut ↦ rw (extent-data order bytes long cut) (part_of_data bytes long cut)
         | inr whole ↦
             (let left = length-drop (record_length order bytes) bytes in
-            rw (front-whole order bytes whole)
+            rw (extent-whole order bytes whole)
             (whole_record bytes whole (contents-hold most order _ _ _ (omega arith))))
       ]
     ]
 
 -- what the relation says where so much of a record is in front
-abbrev pub AtFront : Endianness → ℕ → ℕ → List ℕ → List Record → Ending → Extent → Type 0
-AtFront order n place bytes rs how (WholeRecord size) = (size ≡ record_length order bytes) × (size ≤ length bytes)
+abbrev pub HasExtent : Endianness → ℕ → ℕ → List ℕ → List Record → Ending → Extent → Type 0
+HasExtent order n place bytes rs how (WholeRecord size) = (size ≡ record_length order bytes) × (size ≤ length bytes)
     × (rest : List Record) × (rs ≡ record_at order n place bytes ∷ rest)
     × Holds order (n + 1) (place + size) (drop size bytes) rest how
-AtFront order n place bytes rs how extent = (rs ≡ []) × (how ≡ ending_by extent place)
+HasExtent order n place bytes rs how extent = (rs ≡ []) × (how ≡ ending_by extent place)
 
-pub at_front : (order : Endianness) (n place : ℕ) (bytes : List ℕ) (rs : List Record) (how : Ending)
-    → Holds order n place bytes rs how → AtFront order n place bytes rs how (extent_of order bytes)
-at_front order n place _ _ _ no_bytes = (refl, refl)
-at_front order n place _ _ _ (part_of_header bytes a b) = rw (front-header order bytes a b) (refl, refl)
-at_front order n place _ _ _ (part_of_data bytes a b) = rw (front-data order bytes a b) (refl, refl)
-at_front order n place _ _ _ (whole_record bytes a h) = rw (front-whole order bytes a) (refl, a, _, refl, h)
+pub has_extent : (order : Endianness) (n place : ℕ) (bytes : List ℕ) (rs : List Record) (how : Ending)
+    → Holds order n place bytes rs how → HasExtent order n place bytes rs how (extent_of order bytes)
+has_extent order n place _ _ _ no_bytes = (refl, refl)
+has_extent order n place _ _ _ (part_of_header bytes a b) = rw (extent-header order bytes a b) (refl, refl)
+has_extent order n place _ _ _ (part_of_data bytes a b) = rw (extent-data order bytes a b) (refl, refl)
+has_extent order n place _ _ _ (whole_record bytes a h) = rw (extent-whole order bytes a) (refl, a, _, refl, h)
 
 -- before the last record a whole one is in front
 pub more-whole : (order : Endianness) (n place : ℕ) (bytes : List ℕ) (rs : List Record) (how : Ending)
     → Holds order n place bytes rs how → 0 < length rs → extent_of order bytes ≡ WholeRecord (record_length order bytes)
-more-whole order n place _ _ _ (whole_record bytes a h) some = front-whole order bytes a
+more-whole order n place _ _ _ (whole_record bytes a h) some = extent-whole order bytes a
 more-whole order n place _ _ _ _ some = absurd (omega arith)
 
 -- some bytes hold one list of records alone
 pub holds-once : (order : Endianness) (n place : ℕ) (bytes : List ℕ) (rs rs' : List Record) (how how' : Ending)
     → Holds order n place bytes rs how → Holds order n place bytes rs' how' → (rs' ≡ rs) × (how' ≡ how)
-holds-once order n place _ _ rs' _ how' no_bytes k = at_front order n place [] rs' how' k
+holds-once order n place _ _ rs' _ how' no_bytes k = has_extent order n place [] rs' how' k
 holds-once order n place _ _ rs' _ how' (part_of_header bytes a b) k =
-    rw (front-header order bytes a b) at (at_front order n place bytes rs' how' k)
+    rw (extent-header order bytes a b) at (has_extent order n place bytes rs' how' k)
 holds-once order n place _ _ rs' _ how' (part_of_data bytes a b) k =
-    rw (front-data order bytes a b) at (at_front order n place bytes rs' how' k)
+    rw (extent-data order bytes a b) at (has_extent order n place bytes rs' how' k)
 holds-once order n place _ _ rs' how how' (whole_record bytes a h) k =
-    let there = rw (front-whole order bytes a) at (at_front order n place bytes rs' how' k) in
+    let there = rw (extent-whole order bytes a) at (has_extent order n place bytes rs' how' k) in
     let rest = holds-once order _ _ _ _ there.2 how how' h there.4 in
     (cc, rest.1)

@@ -11,7 +11,7 @@ use Rattle.pcap_classic.specs.Records.{Record, StartsAt, record_at, record_lengt
 use Rattle.pcap_classic.specs.Contents.{extent_of, contents}
 use Rattle.pcap_classic.specs.FileNumbers.{number_at}
 use Rattle.pcap_classic.specs.Index.{IsRecordStart, ending_by}
-use Rattle.pcap_classic.proofs.HoldsLemmas.{AtFront, at_front, contents-hold, more-whole}
+use Rattle.pcap_classic.proofs.HoldsLemmas.{HasExtent, has_extent, contents-hold, more-whole}
 
 slice_get-drop_head : {X : Type 0} (xs : List X) (i : ℕ) (x : X) (rest : List X) → drop i xs ≡ x ∷ rest
     → (slice_get xs i ≡ Some x) × (drop (i + 1) xs ≡ rest)
@@ -41,7 +41,7 @@ pub record Onward (order : Endianness) (file : List ℕ) (i place size : ℕ) : 
 pub onward : (order : Endianness) (file : List ℕ) (i place size : ℕ) → IsRecordStart order file i place
     → extent_of order (drop place file) ≡ WholeRecord size → Onward order file i place size
 onward order file i place size here whole =
-    let front = rw whole at (at_front order _ _ _ _ _ here.rest) in
+    let front = rw whole at (has_extent order _ _ _ _ _ here.rest) in
     let split = slice_get-drop_head _ i _ _ front.3 in
     let passed = slice_get_within _ i _ split.0 in
     let left = length-drop place file in
@@ -73,7 +73,7 @@ pub reaches_end : (order : Endianness) (file : List ℕ) (i place : ℕ) → IsR
     → ((size : ℕ) → extent_of order (drop place file) ≡ WholeRecord size → ⊥)
     → IsEnd order file i place (extent_of order (drop place file))
 reaches_end order file i place here none =
-    by (extent_of order (drop place file)) none (at_front order _ _ _ _ _ here.rest)
+    by (extent_of order (drop place file)) none (has_extent order _ _ _ _ _ here.rest)
   where
     ended : (extent : Extent) → drop i (contents order file).records ≡ []
         → (contents order file).ending ≡ ending_by extent place → IsEnd order file i place extent
@@ -82,7 +82,7 @@ reaches_end order file i place here none =
         record { count = omega (arith, ap length nothing, here.passed); ending = sym ending }
 
     by : (extent : Extent) → ((size : ℕ) → extent ≡ WholeRecord size → ⊥)
-        → AtFront order (i + 1) place (drop place file) (drop i (contents order file).records)
+        → HasExtent order (i + 1) place (drop place file) (drop i (contents order file).records)
         (contents order file).ending extent → IsEnd order file i place extent
     by (WholeRecord size) none there = absurd (none size refl)
     by Nothing none there = ended Nothing there.0 there.1

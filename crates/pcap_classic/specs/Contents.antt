@@ -1,5 +1,5 @@
--- What a file holds, as a function of its bytes: it is a matter of this crate alone, and no public clause names it.
--- That it gives what the relations of Records and Savefile say is proved.
+-- What a file holds, as a function of its bytes, of which the model of a capture is made. That it gives what the
+-- relations of Records and Savefile say is proved.
 use Rattle.std.specs.Prelude.{ℕ, zero, suc, ◌+◌, ◌==◌, ◌&&◌, nat_lt, if◌then◌else◌, Bool, true, false, List, [], ◌∷◌}
 use Rattle.std.specs.Prelude.{length, drop, Option, Some, None, Result, Ok, Err}
 use Rattle.pcap_classic.specs.FileNumbers.{number_at}

@@ -23,7 +23,7 @@ at_place _ = (omega arith, refl)
 pub returns-then-eq : goal.returns-then-eq
 returns-then-eq c =
     let same = (bytes_eq-Decides c.args.name.now c.as_bytes.result.now).0 (sym (c.if-eq.ensures {u = tt})) in
-    name-found _ _ (same ∙ c.as_bytes.ensures.value ∙ c.ext_name.ensures)
+    name-found _ _ (same ∙ c.as_bytes.ensures.value ∙ c.ext_name.ensures.value)
 
 pub returns : goal.returns
 returns c = sym (none_named c.args.name.now (λ e named.
