@@ -17,7 +17,7 @@ use Rattle.cbpf_dbg.specs.declared.cursor.Cursor.{Cursor}
 use Rattle.cbpf_dbg.specs.Cursor.{IsEntry}
 use Rattle.cbpf_dbg.specs.Session.{Fits, IsInside}
 use Rattle.cbpf_dbg.specs.View.{View}
-use Rattle.cbpf_dbg.specs.Commands.{Answer, has_packet, steps_of, resume, IsResumable}
+use Rattle.cbpf_dbg.specs.Commands.{Answer, has_packet, steps_of, IsResumable}
 
 steps-at : (machine : Machine) (capture : List Record) (p k : ℕ) (s : Registers)
     → (0 < k → IsEntry machine capture (record { packet = p; step = k }) s)
@@ -53,7 +53,6 @@ pub resumable : (stands_for : List Registers → Type 0) (program : Option (List
     (capture : Option Savefile) (w : Cursor) (m : View) → Fits stands_for program values capture w
     → m.program ≡ program → m.values ≡ values → m.capture ≡ capture → is_some program ≡ true
     → is_some capture ≡ true → IsResumable m w.place
-unfolding resume
 resumable stands_for None values capture w m h p v c some held = absurd cc
 resumable stands_for (Some list) values None w m h p v c some held = absurd cc
 resumable stands_for (Some list) values (Some file) w m h p v c some held = λ n np nv nc.

@@ -35,13 +35,11 @@ pub record HasLoaded (machine : Machine) (c : Savefile) (v : View) : Type 0 wher
 
 module _ (machine : Machine) (c : Savefile) (v : View) (h : HasLoaded machine c v) where
   pub stops-held : stops v ≡ Ok (rest machine c.records v.breakpoints v.place)
-  unfolding stops
   stops-held = rw (h.program, h.values, h.capture) refl
 
   -- a run without a limit that has a hit ahead
   run-first : (stop : Stop) (left : List Stop) → rest machine c.records v.breakpoints v.place ≡ stop ∷ left
       → run v None ≡ Ok (stopped v stop)
-  unfolding run
   run-first stop left e = rw (h.program, h.values, h.capture, e) refl
 
   turns-first : (stop : Stop) (left : List Stop) → rest machine c.records v.breakpoints v.place ≡ stop ∷ left
@@ -50,7 +48,6 @@ module _ (machine : Machine) (c : Savefile) (v : View) (h : HasLoaded machine c 
 
   -- and one that has none
   run-last : rest machine c.records v.breakpoints v.place ≡ [] → run v None ≡ Ok (finished v machine c.records)
-  unfolding run
   run-last e = rw (h.program, h.values, h.capture, e) refl
 
   turns-last : rest machine c.records v.breakpoints v.place ≡ []
@@ -112,7 +109,6 @@ rest-start machine capture breakpoints = rest-ahead machine capture breakpoints 
 
 from_start-held : (program : Option (List Insn)) (capture : Option Savefile) (v : View) → v.program ≡ program
     → v.capture ≡ capture → v.place ≡ start → stops v ≡ all_stops v
-unfolding stops all_stops
 from_start-held None capture v p c e = rw p refl
 from_start-held (Some list) None v p c e = rw (p, c) refl
 from_start-held (Some list) (Some s) v p c e =
@@ -193,7 +189,6 @@ module _ (machine : Machine) (c : Savefile) (old v : View) (f g : List Stop) (m 
     pub going-end : Ok (Finished counted) ≡ reply_of (run v None) → new ≡ view_after v (run v None)
         → (Ok counted ≡ reply_of (run_to_end old)) × (new ≡ view_after old (run_to_end old))
         × (g ≡ f ++ rest machine c.records old.breakpoints old.place)
-    unfolding run_to_end
     going-end reply after =
         let ran = run-last machine c v h.new_holds none in
         let there : new ≡ record v { place = start; origin = 1 } = after ∙ ap (view_after v) ran in

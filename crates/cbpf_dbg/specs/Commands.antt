@@ -85,7 +85,7 @@ abbrev pub run_in : View → Machine → List Record → Option ℕ → Answer R
 run_in m machine capture (Some zero) = Err fault.ZeroCount
 run_in m machine capture limit = Ok (run_to m machine capture limit (rest machine capture m.breakpoints m.place))
 
-unfoldable pub run : View → Option ℕ → Answer RunReply
+abbrev pub run : View → Option ℕ → Answer RunReply
 run m limit = loaded m (λ machine capture. run_in m machine capture limit)
 
 -- ---- step
@@ -118,7 +118,7 @@ step_in m machine capture (pos zero) = Err fault.ZeroCount
 step_in m machine capture (pos (suc n)) = Ok (step_to m machine capture (slice_get (ahead machine capture m.place) n))
 step_in m machine capture (negsuc n) = back_to m machine capture (n + 1)
 
-unfoldable pub step : View → ℤ → Answer RunReply
+abbrev pub step : View → ℤ → Answer RunReply
 step m n =
     loaded m (λ machine capture. if length capture == 0 then Err fault.NoPackets else step_in m machine capture n)
 
@@ -130,12 +130,12 @@ moved m place = (tt, record m { place = place; origin = place.packet })
 abbrev pub has_packet : List Record → ℕ → Bool
 has_packet capture n = nat_lt 0 n && nat_le n (length capture)
 
-unfoldable pub select : View → ℕ → Answer (Unit {0})
+abbrev pub select : View → ℕ → Answer (Unit {0})
 select m n =
     loaded m (λ machine capture. if length capture == 0 then Err fault.NoPackets
     else (if has_packet capture n then Ok (moved m (record { packet = n; step = 0 })) else Err fault.NoPacket))
 
-unfoldable pub mark : View → Result Place SessionFault
+abbrev pub mark : View → Result Place SessionFault
 mark m = loaded m (λ machine capture. Ok m.place)
 
 -- how many steps a packet has
@@ -148,7 +148,7 @@ resume_in m machine capture place =
     let steps = steps_of machine (slice_get capture (place.packet - 1)) in
     if nat_le place.step steps then Ok (moved m place) else Err (fault.NoStep steps)
 
-unfoldable pub resume : View → Place → Answer (Unit {0})
+abbrev pub resume : View → Place → Answer (Unit {0})
 resume m place =
     loaded m (λ machine capture. if length capture == 0 then Err fault.NoPackets
     else (if has_packet capture place.packet then resume_in m machine capture place else Err fault.NoPacket))
@@ -171,7 +171,7 @@ turns_forward m answer =
     result_unwrap_or (loaded m (λ machine capture. result_map_both (turns_in m machine capture) (λ e. e) answer)) 0
 
 -- the hits ahead
-unfoldable pub stops : View → Result (List Stop) SessionFault
+abbrev pub stops : View → Result (List Stop) SessionFault
 stops m = loaded m (λ machine capture. Ok (rest machine capture m.breakpoints m.place))
 
 -- how a run's answer goes with the hits ahead before it and after it: a stop is the first of them,
@@ -190,12 +190,12 @@ Continues old new reply =
 -- ---- whole runs
 
 -- runs without a limit until the last packet is finished answer its counts, and go back to the start
-unfoldable pub run_to_end : View → Answer Counts
+abbrev pub run_to_end : View → Answer Counts
 run_to_end m = loaded m (λ machine capture.
     Ok (counts machine capture m.origin (length capture + 1), record m { place = start; origin = 1 }))
 
 -- all hits, from the start
-unfoldable pub all_stops : View → Result (List Stop) SessionFault
+abbrev pub all_stops : View → Result (List Stop) SessionFault
 all_stops m = loaded m (λ machine capture. Ok (every_stop machine capture m.breakpoints))
 
 -- the place of the last of some stops; with none, a place before them
@@ -230,7 +230,7 @@ with_value_set m e n = record m {
   origin = m.place.packet;
 }
 
-unfoldable pub set_value : View → Ext → ℕ → Answer (Unit {0})
+abbrev pub set_value : View → Ext → ℕ → Answer (Unit {0})
 set_value m e n = if takes_value e then Ok (tt, with_value_set m e n) else Err fault.NoValue
 
 -- a breakpoint names an instruction of the program
@@ -239,7 +239,7 @@ at_instruction None n answer = Err fault.NoProgram
 at_instruction (Some list) n answer = if nat_lt n (length list) then answer else Err fault.NoInstruction
 
 -- a breakpoint goes last; one that is set keeps its place and takes the condition
-unfoldable pub breakpoint_when : View → ℕ → When → Answer (Unit {0})
+abbrev pub breakpoint_when : View → ℕ → When → Answer (Unit {0})
 breakpoint_when m n when =
     at_instruction m.program n (Ok (tt, record m { breakpoints = insert_entry nat_eq m.breakpoints n when }))
 
@@ -248,7 +248,7 @@ abbrev pub breakpoint : View → ℕ → Answer (Unit {0})
 breakpoint m n = breakpoint_when m n Always
 
 -- whether it was set; the others keep their order
-unfoldable pub delete : View → ℕ → Answer Bool
+abbrev pub delete : View → ℕ → Answer Bool
 delete m n = at_instruction m.program n (Ok (
   is_some (lookup (nat_eq n) m.breakpoints),
   record m { breakpoints = shift_remove_entry (nat_eq n) m.breakpoints },

@@ -49,7 +49,6 @@ impl<T: Trail, A: Allocator> Session<T, A> {
     /// # Errors
     ///
     /// `NoProgram`, `NoCapture`.
-    #[tactic(auto, unfolding(crate::specs::Commands::mark))]
     pub fn mark(&self) -> Result<Place, SessionFault>
         ensures place { result ≡ spec.mark self.now }
         ensures resumable { IfOk result (spec.IsResumable self.now) }
@@ -72,7 +71,6 @@ impl<T: Trail, A: Allocator> Session<T, A> {
     ///
     /// `NoProgram`, `NoCapture`, `ZeroCount` where the limit is 0.
     #[inline(never)]
-    #[tactic(auto, unfolding(crate::specs::Commands::run, crate::specs::Commands::stops))]
     pub fn run(&mut self, meter: &mut Meter, limit: Option<u64>) -> Result<RunReply, SessionFault>
         requires { meter.old ≤ 2 ^ 127 }
         ensures reply { result ≡ spec.reply_of (spec.run self.old limit) }
@@ -102,7 +100,6 @@ impl<T: Trail, A: Allocator> Session<T, A> {
     ///
     /// `NoProgram`, `NoCapture`, `NoPackets`; `NoPacket` where the capture has no such packet;
     /// `NoStep` with the number of the packet's steps where it has no such step.
-    #[tactic(auto, unfolding(crate::specs::Commands::resume))]
     pub fn resume(&mut self, meter: &mut Meter, place: Place) -> Result<(), SessionFault>
         requires { meter.old ≤ 2 ^ 127 }
         ensures reply { result ≡ spec.reply_of (spec.resume self.old place) }
@@ -134,7 +131,6 @@ impl<T: Trail, A: Allocator> Session<T, A> {
     ///
     /// `NoProgram`, `NoCapture`, `NoPackets`; `ZeroCount` where `n` is 0; `TooFarBack` with the most
     /// that fits.
-    #[tactic(auto, unfolding(crate::specs::Commands::step))]
     pub fn step(&mut self, meter: &mut Meter, n: i64) -> Result<RunReply, SessionFault>
         requires { meter.old ≤ 2 ^ 127 }
         ensures reply { result ≡ spec.reply_of (spec.step self.old n) }
@@ -169,7 +165,6 @@ impl<T: Trail, A: Allocator> Session<T, A> {
     /// # Errors
     ///
     /// `NoProgram`, `NoCapture`, `NoPackets`; `NoPacket` where the capture has no such packet.
-    #[tactic(auto, unfolding(crate::specs::Commands::select))]
     pub fn select(&mut self, n: u64) -> Result<(), SessionFault>
         ensures reply { result ≡ spec.reply_of (spec.select self.old n) }
         ensures after { self.new ≡ spec.view_after self.old (spec.select self.old n) }
@@ -192,7 +187,6 @@ impl<T: Trail, A: Allocator> Session<T, A> {
     /// # Errors
     ///
     /// `NoProgram`, `NoCapture`.
-    #[tactic(auto, unfolding(crate::specs::Commands::stops))]
     pub fn stops(&self) -> Result<Stops<'_, A>, SessionFault>
         ensures hits { result ≡ spec.stops self.now }
         ensures shown { IfOk result (λ hits. All (CanShow self.now) hits) }

@@ -101,7 +101,6 @@ impl<T: Trail, A: Allocator + Copy> Session<T, A> {
     /// # Errors
     ///
     /// `NoProgram`; `NoInstruction` where the program has no such instruction; `Memory`.
-    #[tactic(auto, unfolding(crate::specs::Commands::breakpoint_when))]
     pub fn breakpoint_when(&mut self, n: u64, when: When) -> Result<(), SessionFault>
         ensures reply { (result ≡ spec.reply_of (spec.breakpoint_when self.old n when)) ⊎
             (result ≡ Err fault.Memory × IsOk (spec.breakpoint_when self.old n when)) }
@@ -183,7 +182,6 @@ impl<T: Trail, A: Allocator> Session<T, A> {
     /// # Errors
     ///
     /// `NoProgram`; `NoInstruction` where the program has no such instruction.
-    #[tactic(auto, unfolding(crate::specs::Commands::delete))]
     pub fn delete(&mut self, n: u64) -> Result<bool, SessionFault>
         ensures reply { result ≡ spec.reply_of (spec.delete self.old n) }
         ensures after { self.new ≡ spec.view_after self.old (spec.delete self.old n) }
@@ -229,7 +227,6 @@ impl<T: Trail, A: Allocator> Session<T, A> {
     /// # Errors
     ///
     /// `NoValue` for an extension that takes none, as [`Values::set`] names them.
-    #[tactic(auto, unfolding(crate::specs::Commands::set_value))]
     pub fn set_value(&mut self, e: Ext, n: u32) -> Result<(), SessionFault>
         ensures reply { result ≡ spec.reply_of (spec.set_value self.old e n) }
         ensures after { self.new ≡ spec.view_after self.old (spec.set_value self.old e n) }

@@ -32,16 +32,16 @@ no_program_text = codes "error: S1 no program\n"
 
 -- ---- refusals of a line, of a file, of word text, of the checker and of a capture
 
-unfoldable pub command_fault_text : CommandFault → List ℕ
+abbrev pub command_fault_text : CommandFault → List ℕ
 command_fault_text command.UnknownCommand = codes "error: Q1 unknown command\n"
 command_fault_text command.WrongArguments = codes "error: Q2 wrong arguments\n"
 
-unfoldable pub load_fault_text : LoadFault → List ℕ
+abbrev pub load_fault_text : LoadFault → List ℕ
 load_fault_text load.Absent = codes "error: F1 no such file\n"
 load_fault_text load.Device = codes "error: F2 file could not be read\n"
 load_fault_text load.Memory = memory_text
 
-unfoldable pub word_fault_text : WordFault → List ℕ
+abbrev pub word_fault_text : WordFault → List ℕ
 word_fault_text word.Memory = memory_text
 word_fault_text (word.NumberExpected p) = with_number (codes "error: N1 at byte ") p (codes ": number expected\n")
 word_fault_text (word.OutOfRange p) = with_number (codes "error: N2 at byte ") p (codes ": number out of range\n")
@@ -50,7 +50,7 @@ word_fault_text (word.CountDiffers said found) =
     with_numbers (codes "error: N4 count says ") said (codes ", found ") found (codes "\n")
 word_fault_text (word.CommaExpected p) = with_number (codes "error: N5 at byte ") p (codes ": comma expected\n")
 
-unfoldable pub check_fault_text : CheckFault → List ℕ
+abbrev pub check_fault_text : CheckFault → List ℕ
 check_fault_text check.NoInstruction = codes "error: C1 no instruction\n"
 check_fault_text check.TooMany = codes "error: C2 more than 4096 instructions\n"
 check_fault_text (check.UnknownCode i) = with_number (codes "error: C3 at ") i (codes ": unknown code\n")
@@ -63,7 +63,7 @@ check_fault_text check.NoReturn = codes "error: C9 last instruction is no return
 check_fault_text (check.UnwrittenSlot i) =
     with_number (codes "error: C10 at ") i (codes ": scratch slot read before it is written\n")
 
-unfoldable pub capture_fault_text : CaptureFault → List ℕ
+abbrev pub capture_fault_text : CaptureFault → List ℕ
 capture_fault_text capture.FileHeaderCut = codes "error: P1 file header is cut\n"
 capture_fault_text capture.UnknownMagic = codes "error: P2 unknown magic\n"
 capture_fault_text capture.UnknownVersion = codes "error: P3 version is not 2.4\n"
@@ -71,7 +71,7 @@ capture_fault_text capture.Memory = memory_text
 
 -- ---- refusals of a session
 
-unfoldable pub fault_text : SessionFault → List ℕ
+abbrev pub fault_text : SessionFault → List ℕ
 fault_text NoProgram = no_program_text
 fault_text NoCapture = codes "error: S2 no capture\n"
 fault_text NoPackets = codes "error: S3 capture has no packets\n"

@@ -28,6 +28,6 @@ abbrev pub packet_rows : List ℕ → List ℕ
 packet_rows bytes = texts_from (packet_row bytes) 0 (div_ceil (length bytes) ROW)
 
 -- captured and original length
-unfoldable pub packet_head : ℕ → ℕ → List ℕ
+abbrev pub packet_head : ℕ → ℕ → List ℕ
 packet_head captured wire =
     with_numbers (codes "-- packet dump --\nlen: ") captured (codes " wire: ") wire (codes "\n")

@@ -50,7 +50,6 @@ pub fn write_no_program<W: Write>(w: &mut W) -> Result<(), WriteFault>
 }
 
 /// Writes why a line is no command.
-#[tactic(auto, unfolding(crate::specs::Errors::command_fault_text))]
 pub fn write_command_fault<W: Write>(w: &mut W, fault: CommandFault) -> Result<(), WriteFault>
     ensures { Wrote (W.contents w.old) (W.contents w.new) result (spec.command_fault_text fault) }
 {
@@ -62,7 +61,6 @@ pub fn write_command_fault<W: Write>(w: &mut W, fault: CommandFault) -> Result<(
 }
 
 /// Writes why a file was not loaded.
-#[tactic(auto, unfolding(crate::specs::Errors::load_fault_text))]
 pub fn write_load_fault<W: Write>(w: &mut W, fault: LoadFault) -> Result<(), WriteFault>
     ensures { Wrote (W.contents w.old) (W.contents w.new) result (spec.load_fault_text fault) }
 {
@@ -96,7 +94,6 @@ fn write_error_line<W: Write>(w: &mut W, line: ErrorLine) -> Result<(), WriteFau
     }
 }
 
-#[tactic(auto, unfolding(crate::specs::Errors::word_fault_text))]
 fn word_fault_line(fault: WordFault) -> ErrorLine
     ensures { spec.error_line_text result ≡ spec.word_fault_text fault }
 {
@@ -131,7 +128,6 @@ pub fn write_word_fault<W: Write>(w: &mut W, fault: WordFault) -> Result<(), Wri
     write_error_line(w, word_fault_line(fault))
 }
 
-#[tactic(auto, unfolding(crate::specs::Errors::check_fault_text))]
 fn check_line(fault: CheckFault) -> ErrorLine
     ensures { spec.error_line_text result ≡ spec.check_fault_text fault }
 {
@@ -163,7 +159,6 @@ pub fn write_check_fault<W: Write>(w: &mut W, fault: CheckFault) -> Result<(), W
 }
 
 /// Writes the line of a capture's refusal, with its number, or that it is out of memory.
-#[tactic(auto, unfolding(crate::specs::Errors::capture_fault_text))]
 pub fn write_capture_fault<W: Write>(w: &mut W, fault: CaptureFault) -> Result<(), WriteFault>
     ensures { Wrote (W.contents w.old) (W.contents w.new) result (spec.capture_fault_text fault) }
 {
@@ -176,7 +171,6 @@ pub fn write_capture_fault<W: Write>(w: &mut W, fault: CaptureFault) -> Result<(
     write_bytes(w, text)
 }
 
-#[tactic(auto, unfolding(crate::specs::Errors::fault_text))]
 fn session_line(fault: SessionFault) -> ErrorLine
     ensures { spec.error_line_text result ≡ spec.fault_text fault }
 {

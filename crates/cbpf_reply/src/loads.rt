@@ -9,7 +9,6 @@ use std::alloc::Allocator;
 use std::io::Write;
 
 /// Writes the reply to a program of so many instructions that was loaded.
-#[tactic(auto, unfolding(crate::specs::Loads::program_text))]
 pub fn write_program<W: Write>(w: &mut W, count: u32) -> Result<(), WriteFault>
     ensures { Wrote (W.contents w.old) (W.contents w.new) result (spec.program_text count) }
 {
@@ -17,7 +16,6 @@ pub fn write_program<W: Write>(w: &mut W, count: u32) -> Result<(), WriteFault>
 }
 
 /// Writes the reply to a capture that was loaded: how many packets it has, and where it is cut, if it is.
-#[tactic(auto, unfolding(crate::specs::Loads::capture_text))]
 pub fn write_capture<W: Write, A: Allocator>(
     w: &mut W,
     capture: &Capture<A>,

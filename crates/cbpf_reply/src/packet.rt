@@ -72,7 +72,7 @@ fn write_rows<W: Write>(
 }
 
 /// Writes the lengths of a packet, a row for each `ROW` captured bytes, and why it stopped.
-#[tactic(auto, using(crate::proofs::RowLemmas::rows), unfolding(crate::specs::Packet::packet_head))]
+#[tactic(auto, using(crate::proofs::RowLemmas::rows))]
 pub(crate) fn write_packet<W: Write>(
     w: &mut W,
     bytes: &[u8],

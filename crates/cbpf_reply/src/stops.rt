@@ -10,7 +10,6 @@ use itoa::Buffer;
 use std::io::Write;
 
 /// Writes a stop's line in the list of stops.
-#[tactic(auto, unfolding(crate::specs::Stops::stop_line))]
 pub fn write_stop_line<W: Write>(w: &mut W, stop: &Stop) -> Result<(), WriteFault>
     ensures { Wrote (W.contents w.old) (W.contents w.new) result (spec.stop_line stop.now) }
 {

@@ -33,7 +33,6 @@ use Rattle.pcap_classic.specs.declared.header.CaptureFault.TheVariants as captur
 -- a word text that is no list, or out of memory
 pub words-refused : (m : View) (text : List ℕ) (fault : WordFault) (Written : List ℕ → Type 0) → Refused text fault
     → Written (word_fault_text fault) → Answered m m (LoadWords text) Written
-unfolding word_fault_text
 words-refused m text word.Memory Written r w = λ files f. (_, unheld refl tt refl, w)
 words-refused m text e Written r w = λ files f. (_, own refl (unreadable e r (λ z. cc) refl), w)
 
@@ -59,7 +58,6 @@ module _ {V : Type 0} (items : V → List ℕ) (f g : Source) (m n : View) (name
 
   pub load-failed : (e : LoadFault) → Loads items f g name (Err e) → n ≡ m → Written (load_fault_text e)
       → Replied f g m n (Ok (Some (LoadCapture name))) Written
-  unfolding load_fault_text
   load-failed Absent l v w = (kept-from (Err Absent) l, λ t. (_, own l.counts (rw (l.gives t, v) refl), w))
   load-failed Device l v w = (kept-from (Err Device) l, λ t. (_, unread (l.rises, l.counts) tt (rw v refl), w))
   load-failed Memory l v w = (kept-from (Err Memory) l, λ t. (_, unheld l.counts tt (rw v refl), w))
@@ -67,7 +65,6 @@ module _ {V : Type 0} (items : V → List ℕ) (f g : Source) (m n : View) (name
   module _ (v : V) (l : Loads items f g name (Ok v)) where
     pub load-refused : (fault : CaptureFault) → IsRefusal fault (items v) → n ≡ m → Written (capture_fault_text fault)
         → Replied f g m n (Ok (Some (LoadCapture name))) Written
-    unfolding capture_fault_text
     load-refused capture_fault.Memory r e w = (kept-from (Ok v) l, λ t. (_, unheld l.counts tt (rw e refl), w))
     load-refused fault r e w = (
       kept-from (Ok v) l,

@@ -91,7 +91,6 @@ program-kept (Some list) k m a e = elim (nat_lt k (length list))
 
 pub set-at : (m n : View) (k : ℕ) (when : When) (x : Unit {0}) → Ok x ≡ reply_of (breakpoint_when m k when)
     → n ≡ view_after m (breakpoint_when m k when) → HasInstruction n.program k
-unfolding breakpoint_when
 set-at m n k when x e v =
     subst (λ p. HasInstruction p k) (sym (ap (λ (y : View). y.program) v ∙ program-kept m.program k m _ refl))
     (instruction-of m.program k m _ x e)
@@ -114,7 +113,7 @@ pub set-refused : {X E : Type 0} (m n : View) (k : ℕ) (when : When) (f : Sessi
     → (Err f ≡ reply_of (breakpoint_when m k when)) ⊎ ((Err f ≡ no_memory) × IsOk (breakpoint_when m k when))
     → (Err f ≡ no_memory → lookup (nat_eq k) m.breakpoints ≡ None) → n ≡ m → Wrote old new r (fault_text f)
     → Replies m n (Breakpoint k when) (λ s. Wrote old new r s)
-unfolding fault_text Replies
+unfolding Replies
 set-refused m n k when f old new r (inl e) absent v w =
     own-reply m n (Breakpoint k when) _ (reply-err _ m n (breakpoint_when m k when) f old new r e
     (v ∙ sym (refused-view m (breakpoint_when m k when) f e)) w)

@@ -145,5 +145,5 @@ by_words [] text = Ok None
 by_words (w ∷ ws) text = by_name w ws text
 
 -- what a line says: no command where it has no words
-unfoldable pub command_of : List ℕ → Result (Option Command) CommandFault
+abbrev pub command_of : List ℕ → Result (Option Command) CommandFault
 command_of line = by_words (words_of line) (trimmed (after_words 2 line))

@@ -36,7 +36,7 @@ HasInstruction None n = ⊥
 HasInstruction (Some list) n = n < length list
 
 -- `disassemble`, of the program that is loaded
-unfoldable pub listing_text : Option (List Insn) → List ℕ
+abbrev pub listing_text : Option (List Insn) → List ℕ
 listing_text None = no_program_text
 listing_text (Some list) = listing list
 

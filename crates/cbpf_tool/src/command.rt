@@ -282,7 +282,6 @@ fn command_named<'a>(name: &str, text: &'a [u8]) -> Result<Option<Command<'a>>, 
 
 /// The command that a line spells; `None` for a line without words. Words are separated by blanks,
 /// which are spaces, tabs, carriage returns and newlines.
-#[tactic(auto, unfolding(crate::specs::Commands::command_of))]
 pub fn command_of(line: &[u8]) -> Result<Option<Command<'_>>, CommandFault>
     ensures { result ≡ spec.command_of line.now }
 {

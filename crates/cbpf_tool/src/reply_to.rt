@@ -215,7 +215,7 @@ fn stops<A: Allocator, W: Write>(w: &mut W, session: &ScriptSession<A>) -> Resul
 }
 
 /// `disassemble`
-#[tactic(auto, using(crate::proofs::SessionReplyLemmas::replies), unfolding(crate::specs::SessionReplies::listing_text))]
+#[tactic(auto, using(crate::proofs::SessionReplyLemmas::replies))]
 fn disassemble<A: Allocator, W: Write>(
     w: &mut W,
     session: &ScriptSession<A>,

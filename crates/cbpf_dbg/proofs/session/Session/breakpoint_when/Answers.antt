@@ -1,5 +1,3 @@
-use Rattle.cbpf_dbg.specs.Commands.{breakpoint_when}
-use Rattle.std.proofs.Common.{rules}
 use Rattle.cbpf_dbg.proofs.CarryLemmas.{same-but, known-at, known-room, known-more, room-after, room-more}
 use Rattle.cbpf_dbg.proofs.session.Session.breakpoint_when.Goals as goal
 
@@ -21,11 +19,3 @@ invariant_of-self-in-Ok-insert g c = (
       (λ when at. c.in-Ok.ensures.here)
       (room-more _ _ _ c.make_room.ensures.more (known-room _ _ _ _ _ _ c.in-Some.is c.self.invariant.1)))),
 )
-
-pub returns-in-Ok-insert-clause-after : goal.returns-in-Ok-insert-clause-after
-unfolding breakpoint_when
-returns-in-Ok-insert-clause-after g c = search rules
-
-pub returns-in-Ok-insert-clause-reply : goal.returns-in-Ok-insert-clause-reply
-unfolding breakpoint_when
-returns-in-Ok-insert-clause-reply g c = search rules

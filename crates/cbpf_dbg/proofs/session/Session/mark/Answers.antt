@@ -1,11 +1,6 @@
 use Rattle.std.proofs.Common.{rules, refl}
-use Rattle.cbpf_dbg.specs.Commands.{mark}
 use Rattle.cbpf_dbg.proofs.ResumeLemmas.{resumable}
 use Rattle.cbpf_dbg.proofs.session.Session.mark.Goals as goal
-
-pub returns-clause-place : goal.returns-clause-place
-unfolding mark
-returns-clause-place g c = search rules
 
 pub returns-clause-resumable : goal.returns-clause-resumable
 returns-clause-resumable g c =

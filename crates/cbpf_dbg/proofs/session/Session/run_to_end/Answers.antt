@@ -1,5 +1,5 @@
 use Rattle.cbpf_machine.specs.Machine.{machine_of}
-use Rattle.std.proofs.Common.{◌≡◌, [], ◌∷◌, ◌++◌, arith, sym, append-nil, refl, rules, ap, ◌∙◌, inl}
+use Rattle.std.proofs.Common.{◌≡◌, [], ◌∷◌, ◌++◌, arith, sym, append-nil, refl, ap, ◌∙◌, inl}
 use Rattle.cbpf_dbg.specs.Commands.{run}
 use Rattle.cbpf_dbg.proofs.CarryLemmas.{known-sound}
 use Rattle.cbpf_dbg.proofs.WholeLemmas.{HasLoaded, stops-held, from_start, going-spare, going-found, going-stop}
@@ -47,7 +47,7 @@ pub run-requires : goal.run-requires
 run-requires g c = let w = c.runs.invariant.going in going-spare _ _ _ _ _ _ _ _ w.2
 
 pub runs-smaller : goal.runs-smaller
-runs-smaller g c = fewer _ _ _ (rw c.in-Stopped.is at c.in-Ok.ensures.ahead)
+runs-smaller g c = fewer c.runs.self c.run.new.self c.in-Stopped.stop (rw c.in-Stopped.is at c.in-Ok.ensures.ahead)
 
 pub runs-preserved : goal.runs-preserved
 runs-preserved g c =
@@ -84,11 +84,7 @@ returns-in-Finished-clause-stops g c =
 pub returns-in-Finished-clause-turns : goal.returns-in-Finished-clause-turns
 returns-in-Finished-clause-turns g c =
     let w = c.runs.invariant.going in
-    end-turns _ _ _ _ _ _ _ _ w.2 _ c.in-Finished.counts (rw c.in-Finished.is at c.in-Ok.ensures.ahead) _ c.run.ensures.turns
+    end-turns _ _ _ _ _ _ _ _ w.2 c.run.new.self c.in-Finished.counts (rw c.in-Finished.is at c.in-Ok.ensures.ahead) _ c.run.ensures.turns
 
 pub returns-in-Finished-clause-from_start : goal.returns-in-Finished-clause-from_start
 returns-in-Finished-clause-from_start g c = from_start c.args.self.now
-
-pub unreachable-requires : goal.unreachable-requires
-unfolding run
-unreachable-requires g c = search rules

@@ -1,7 +1,6 @@
-use Rattle.cbpf_dbg.specs.Commands.{stops}
 use Rattle.cbpf_machine.specs.Machine.{machine_of}
 use Rattle.cbpf_dbg.proofs.WholeLemmas.{HasLoaded}
-use Rattle.std.proofs.Common.{arith, refl, rules, Some}
+use Rattle.std.proofs.Common.{arith, refl, Some}
 use Rattle.cbpf_dbg.specs.Session.{Fits, IsKnown}
 use Rattle.cbpf_dbg.proofs.LeftLemmas.{all_left, is_end_of_all}
 use Rattle.cbpf_dbg.proofs.TurnLemmas.{few_hits, owed_bound}
@@ -22,10 +21,6 @@ returns-clause-shown g c =
 pub returns-clause-few : goal.returns-clause-few
 returns-clause-few g c =
     few_hits _ _ _ _ (known-sound _ _ _ _ _ _ c.in-Some.is c.self.invariant.1) (omega (arith, c.count-few.ensures.value, c.count-few.ensures.bounded))
-
-pub returns-clause-hits : goal.returns-clause-hits
-unfolding stops
-returns-clause-hits g c = search rules
 
 pub invariant_of-result : goal.invariant_of-result
 invariant_of-result g c =
