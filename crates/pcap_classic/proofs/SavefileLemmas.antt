@@ -20,6 +20,7 @@ use Rattle.pcap_classic.proofs.HoldsLemmas.{contents-hold, holds-once}
 -- the function of the magic finds it, so that there is one alone
 magic-found : (file : List ℕ) (order : Endianness) (nanos : Bool) → HasMagic order nanos file
     → magic_of file ≡ Some (record { order = order; nanos = nanos })
+unfolding number_at
 magic-found file Big true h = grind (arith, nat_tests)
 magic-found file Big false h = grind (arith, nat_tests)
 magic-found file Little true h = grind (arith, nat_tests)

@@ -6,6 +6,6 @@ use Rattle.pcap_classic.specs.declared.captured.Endianness.{Endianness}
 use Rattle.pcap_classic.specs.declared.captured.Endianness.TheVariants.{Big, Little}
 
 -- the number in the n bytes from a place on
-abbrev pub number_at : Endianness → ℕ → ℕ → List ℕ → ℕ
+unfoldable pub number_at : Endianness → ℕ → ℕ → List ℕ → ℕ
 number_at Big place n bytes = big_number n (drop place bytes)
 number_at Little place n bytes = little_number n (drop place bytes)

@@ -110,6 +110,7 @@ pub(crate) enum Endianness {
 
 impl Endianness {
     /// The number in the two bytes from a place on.
+    #[tactic(auto, unfolding(crate::specs::FileNumbers::number_at))]
     #[inline]
     pub(crate) fn read_u16(self, bytes: &[u8], place: usize) -> u16
         requires { place + 2 ≤ length bytes.now }
@@ -122,6 +123,7 @@ impl Endianness {
     }
 
     /// The number in the four bytes from a place on.
+    #[tactic(auto, unfolding(crate::specs::FileNumbers::number_at))]
     #[inline(always)]
     pub(crate) fn read_u32(self, bytes: &[u8], place: usize) -> u32
         requires { place + 4 ≤ length bytes.now }

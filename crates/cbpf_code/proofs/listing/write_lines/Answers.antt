@@ -1,3 +1,4 @@
+use Rattle.cbpf_code.proofs.WrittenLemmas.{loops}
 use Rattle.std.proofs.Common.{◌<◌, length, arith}
 use Rattle.std.specs.List.{enumerate_from}
 use Rattle.std.proofs.lemmas.List.FromFn.{length-enumerate_from}
@@ -28,3 +29,6 @@ returns-in_err-write g c =
 
 pub returns : goal.returns
 returns g c = grind (arith, length-enumerate_from, loop-done, enumerate_from)
+
+pub loop-i-init : goal.loop-i-init
+loop-i-init g c = grind (arith, loops)

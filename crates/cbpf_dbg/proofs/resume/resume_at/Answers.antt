@@ -1,4 +1,4 @@
-use Rattle.std.proofs.Common.{◌≡◌, ◌-◌, Some, ap, arith, take, slice_get, subst}
+use Rattle.std.proofs.Common.{◌≡◌, ◌-◌, Some, ap, arith, take, slice_get, subst, rules}
 use Rattle.std.proofs.lemmas.Option.{slice_get_within}
 use Rattle.cbpf_machine.specs.Trace.{trace}
 use Rattle.pcap_classic.specs.Records.{Record}
@@ -29,3 +29,6 @@ returns-clause-found g c =
           let same : r ≡ q = cc in rw c.at.ensures.start (ap (λ (k : Record). k.start) same)),
       rw at (omega (arith, within)),
     )
+
+pub returns-in_err-state-clause-short : goal.returns-in_err-state-clause-short
+returns-in_err-state-clause-short g c = search rules

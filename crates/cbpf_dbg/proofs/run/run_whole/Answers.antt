@@ -1,4 +1,4 @@
-use Rattle.std.proofs.Common.{arith, refl}
+use Rattle.std.proofs.Common.{arith, refl, rules}
 use Rattle.cbpf_machine.specs.Registers.{zero_state}
 use Rattle.cbpf_machine.specs.Trace.{trace}
 use Rattle.cbpf_machine.proofs.TraceLemmas.{first_entry, length-trace_from}
@@ -28,3 +28,9 @@ returns-clause-keeps g c = λ r there.
     c.start.ensures.stands (trace (machine_in c.args.loaded.now) r.bytes r.wire)
     (first_entry _ ran.passes.stands.sound)
     (entry_at_place _ _ _ r ran.passes.stands there begun)
+
+pub returns-then-len-first_gap-clause-goes : goal.returns-then-len-first_gap-clause-goes
+returns-then-len-first_gap-clause-goes g c = search rules
+
+pub returns-then-loaded-clause-goes : goal.returns-then-loaded-clause-goes
+returns-then-loaded-clause-goes g c = search rules

@@ -1,4 +1,4 @@
-use Rattle.std.proofs.Common.{◌-◌, arith, refl}
+use Rattle.std.proofs.Common.{◌-◌, arith, refl, rules}
 use Rattle.pcap_classic.specs.Lent.{record_of}
 use Rattle.cbpf_machine.specs.Turn.{turn}
 use Rattle.cbpf_machine.proofs.TraceLemmas.{goes_from_entry}
@@ -30,3 +30,9 @@ returns-clause-answer g c =
       place_is = refl;
       origin_is = refl;
     }
+
+pub returns-clause-turns : goal.returns-clause-turns
+returns-clause-turns g c = search rules
+
+pub returns-then-b-from-clause-answer : goal.returns-then-b-from-clause-answer
+returns-then-b-from-clause-answer g c = search rules

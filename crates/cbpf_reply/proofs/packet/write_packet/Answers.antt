@@ -1,4 +1,4 @@
-use Rattle.std.proofs.Common.{◌≡◌, ◌+◌, length, append-nil, arith}
+use Rattle.std.proofs.Common.{◌≡◌, ◌+◌, length, append-nil, arith, rules}
 use Rattle.cbpf_code.proofs.WrittenLemmas.{first-failed}
 use Rattle.cbpf_reply.specs.Dump.{why_line}
 use Rattle.cbpf_reply.specs.Packet.{packet_head, packet_row}
@@ -26,3 +26,6 @@ returns-in_err-write_rows g c = left-stop _ _ _ _ _ _ _ _ c.from_residual-in_err
 
 pub returns : goal.returns
 returns g c = left-last _ _ _ _ _ _ c.loop-from.invariant.left c.write_rows-2.ensures
+
+pub loop-from-init : goal.loop-from-init
+loop-from-init g c = search rules

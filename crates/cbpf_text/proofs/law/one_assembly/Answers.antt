@@ -1,3 +1,4 @@
+use Rattle.std.proofs.Common.{rules}
 use Rattle.cbpf_text.proofs.OneAnswer as one
 use Rattle.cbpf_text.proofs.Answered as answered
 use Rattle.cbpf_text.proofs.law.one_assembly.Goals as goal
@@ -13,3 +14,6 @@ returns-clause-refusal c = one.one_refusal
 
 pub returns-clause-answered : goal.returns-clause-answered
 returns-clause-answered c = answered.each_answered
+
+pub returns-clause-farthest : goal.returns-clause-farthest
+returns-clause-farthest c = search rules

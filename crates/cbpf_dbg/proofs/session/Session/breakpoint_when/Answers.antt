@@ -1,3 +1,4 @@
+use Rattle.std.proofs.Common.{rules}
 use Rattle.cbpf_dbg.proofs.CarryLemmas.{same-but, known-at, known-room, known-more, room-after, room-more}
 use Rattle.cbpf_dbg.proofs.session.Session.breakpoint_when.Goals as goal
 
@@ -19,3 +20,6 @@ invariant_of-self-in-Ok-insert g c = (
       (λ when at. c.in-Ok.ensures.here)
       (room-more _ _ _ c.make_room.ensures.more (known-room _ _ _ _ _ _ c.in-Some.is c.self.invariant.1)))),
 )
+
+pub returns-in-Ok-insert-clause-after : goal.returns-in-Ok-insert-clause-after
+returns-in-Ok-insert-clause-after g c = search rules

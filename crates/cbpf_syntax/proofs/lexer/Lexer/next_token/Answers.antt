@@ -66,3 +66,6 @@ loop-at-preserved c =
       more = to_run_end text c.self.inside.at _ within (piece_more text c.self.inside.at at piece h.1 h.0
           c.in_default.ensures.good c.in_default-kind.not-TokenOf);
     }
+
+pub returns-clause-finished : goal.returns-clause-finished
+returns-clause-finished c = search rules

@@ -1,4 +1,5 @@
-use Rattle.std.proofs.Common.{rules, ◌≡◌, sym, subst, length, map, drop, List}
+use Rattle.std.proofs.lemmas.Grind.{common_steps}
+use Rattle.std.proofs.Common.{rules, ◌≡◌, sym, subst, length, map, drop, List, arith}
 use Rattle.cbpf_syntax.specs.declared.lexeme.Lexeme as declared_lexeme
 use Rattle.cbpf_syntax.specs.Reading.{AreAhead}
 use Rattle.cbpf_syntax.specs.Views.{lexeme_of}
@@ -33,3 +34,6 @@ returns-in-Ok-clause-reading g c =
       last = r.last;
       large = r.large;
     })
+
+pub returns-in-Err-clause-same : goal.returns-in-Err-clause-same
+returns-in-Err-clause-same g c = grind (arith, common_steps)
