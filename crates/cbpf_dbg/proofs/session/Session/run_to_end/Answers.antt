@@ -1,6 +1,5 @@
 use Rattle.cbpf_machine.specs.Machine.{machine_of}
 use Rattle.std.proofs.Common.{◌≡◌, [], ◌∷◌, ◌++◌, arith, sym, append-nil, refl, ap, ◌∙◌, inl, rules}
-use Rattle.cbpf_dbg.specs.Commands.{run}
 use Rattle.cbpf_dbg.proofs.CarryLemmas.{known-sound}
 use Rattle.cbpf_dbg.proofs.WholeLemmas.{HasLoaded, stops-held, from_start, going-spare, going-found, going-stop}
 use Rattle.cbpf_dbg.proofs.WholeLemmas.{going-end, fewer, going-turns, end-turns}
