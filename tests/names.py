@@ -350,7 +350,7 @@ def check_edits(path):
         for name in CODE_SPAN.findall(cells[0]):
             rows.setdefault(name, []).append(number)
             check((path.parent / f"{name}.edit").exists(), path, number, f"no edit {name}")
-        spans = [name for name in CODE_SPAN.findall(cells[-1]) if re.fullmatch(r"[a-z][\w:]*", name)]
+        spans = [name for name in CODE_SPAN.findall(cells[-1]) if re.fullmatch(r"[A-Za-z][\w:]*", name)]
         called = [name.split("::")[-1] for name in spans if name.split("::")[-1] in functions(crate)]
         known = {*functions(crate), *members(crate)}.union(*(functions(crate)[f] for f in called))
         if not called:

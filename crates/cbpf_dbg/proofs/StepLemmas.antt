@@ -1,7 +1,6 @@
 -- How a step nears the entry that it seeks.
 use Rattle.std.proofs.Common.{◌≡◌, ℕ, zero, suc, ◌+◌, ◌-◌, ◌*◌, ◌<◌, ◌≤◌, ◌++◌, List, [], length, length-append, arith}
-use Rattle.std.proofs.Common.{append_assoc, sym, ap, ◌∙◌, refl, inl, inr}
-use Rattle.std.proofs.Common.{◌^◌, ◌/◌, Bool, true, false}
+use Rattle.std.proofs.Common.{append_assoc, sym, ap, ◌∙◌, refl, inl, inr, ◌^◌, ◌/◌, Bool, true, false}
 use Rattle.std.specs.Prelude.{slice_get, min}
 use Rattle.std.proofs.lemmas.Nat.{le-div, mul-le}
 use Rattle.std.proofs.Math.Nat.{div-mul-le_self}

@@ -10,8 +10,7 @@ use Rattle.cbpf_syntax.specs.declared.piece.PieceKind.TheVariants.{Blanks, Comme
 use Rattle.cbpf_syntax.specs.declared.token.Kind.TheVariants.{Word, Mark}
 use Rattle.cbpf_syntax.specs.Bytes.{is_blank, is_name_byte}
 use Rattle.cbpf_syntax.specs.Pieces.{IsNext, piece_kind, led_kind, slash_kind, only_if, run_kind, alone, has_close}
-use Rattle.cbpf_syntax.specs.Pieces.{is_line_blank}
-use Rattle.cbpf_syntax.specs.Pieces.{close_after, comment_piece, slash_piece, led_piece}
+use Rattle.cbpf_syntax.specs.Pieces.{is_line_blank, close_after, comment_piece, slash_piece, led_piece}
 use Rattle.cbpf_syntax.specs.Leads.{lead_of}
 use Rattle.cbpf_syntax.proofs.LeadTable.{blank_lead}
 use Rattle.cbpf_syntax.proofs.Comments.{close_taken, close_within}

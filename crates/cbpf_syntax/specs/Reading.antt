@@ -1,7 +1,6 @@
 -- A source text whose items are taken one by one, with a few tokens read ahead: what stands next, by the forms of
 -- `Table` (of the kernel's Documentation/networking/filter, and this project's own).
-use Rattle.std.specs.Prelude.{◌≡◌, ◌<◌, ◌+◌, ◌-◌, ℕ, Bool, true, List, [], ◌++◌, length, map, Option}
-use Rattle.std.specs.Prelude.{Some, None, Ok}
+use Rattle.std.specs.Prelude.{◌≡◌, ◌<◌, ◌+◌, ◌-◌, ℕ, Bool, true, List, [], ◌++◌, length, map, Option, Some, None, Ok}
 use Rattle.cbpf_syntax.specs.declared.token.Token.{Token}
 use Rattle.cbpf_syntax.specs.Tokens.{LexesTo}
 use Rattle.cbpf_syntax.specs.declared.lexeme.Lexeme as declared_lexeme

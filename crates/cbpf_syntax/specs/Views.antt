@@ -16,8 +16,7 @@ use Rattle.cbpf_syntax.specs.Classes as classes
 use Rattle.cbpf_syntax.specs.Classes.Class.{the_word, the_mark, literal, negated, exactly, extension, name}
 use Rattle.cbpf_syntax.specs.Table as tables
 use Rattle.cbpf_syntax.specs.Table.{◌·◌, x_operand, a_operand, signed, extension_operand, length_operand, label}
-use Rattle.cbpf_syntax.specs.Table.{absolute, indexed, memory, immediate, header}
-use Rattle.cbpf_syntax.specs.Table.{comma, no_operand, entry, mnemonic}
+use Rattle.cbpf_syntax.specs.Table.{absolute, indexed, memory, immediate, header, comma, no_operand, entry, mnemonic}
 
 abbrev pub class_of : Class → classes.Class
 class_of (Word w) = the_word w.now

@@ -11,8 +11,7 @@ use Rattle.cbpf_code.specs.declared.insn.Insn.{Insn}
 use Rattle.cbpf_text.specs.declared.fault.AsmFault.{AsmFault}
 use Rattle.cbpf_text.specs.declared.placed_fault.PlacedFault.{PlacedFault}
 use Rattle.cbpf_text.specs.Assembled.{AreEncoded, AssembleTokens}
-use Rattle.cbpf_text.specs.Refusals.{Reported, IsTokensFault, IsRefused, IsLexRefused, IsReportedAt}
-use Rattle.cbpf_text.specs.Refusals.{grammar_kind}
+use Rattle.cbpf_text.specs.Refusals.{Reported, IsTokensFault, IsRefused, IsLexRefused, IsReportedAt, grammar_kind}
 use Rattle.cbpf_text.specs.Refusals.IsTokensFault.{of_grammar}
 use Rattle.cbpf_text.specs.Refusals.IsTextFault.{of_piece, of_tokens}
 use Rattle.cbpf_text.specs.declared.fault.AsmFault.TheVariants as faults

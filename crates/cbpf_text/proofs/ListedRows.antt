@@ -20,8 +20,7 @@ use Rattle.cbpf_syntax.specs.Classes.Class.{the_word, the_mark, literal, exactly
 use Rattle.cbpf_syntax.specs.Table.{Row, table, mnemonics}
 use Rattle.cbpf_syntax.proofs.Apart.{equal_bytes}
 use Rattle.cbpf_syntax.proofs.Elements.{some_element}
-use Rattle.cbpf_code.specs.Syntax.{Operand, mnemonic_of, operand_of}
-use Rattle.cbpf_code.specs.Syntax.{Operand as operands}
+use Rattle.cbpf_code.specs.Syntax.{Operand, mnemonic_of, operand_of, Operand as operands}
 
 -- the classes of the tokens that a listing writes after a mnemonic, and where they go; where k is an extension's place,
 -- it writes the name

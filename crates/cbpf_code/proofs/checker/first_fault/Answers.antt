@@ -2,8 +2,7 @@ use Rattle.std.proofs.Common.{rules, sym, ◌∙◌, refl}
 use Rattle.std.proofs.lemmas.List.Elements.{All-more}
 use Rattle.std.proofs.lemmas.Option.{slice_get-get_or}
 use Rattle.cbpf_code.specs.WordForm.{InRange}
-use Rattle.cbpf_code.proofs.FaultLemmas.{passes_before-next, own_fault, first_fault-insn}
-use Rattle.cbpf_code.proofs.FaultLemmas.{well_formed-at_end, zero_insn}
+use Rattle.cbpf_code.proofs.FaultLemmas.{passes_before-next, own_fault, first_fault-insn, well_formed-at_end, zero_insn}
 use Rattle.cbpf_code.proofs.checker.first_fault.Goals as goal
 
 pub loop-i-preserved : goal.loop-i-preserved

@@ -1,8 +1,7 @@
-use Rattle.cbpf_code.proofs.WrittenLemmas.{loops}
+use Rattle.cbpf_code.proofs.WrittenLemmas.{loops, loop-next, loop-stop, loop-done, err-exit}
 use Rattle.std.proofs.Common.{◌<◌, length, arith}
 use Rattle.std.specs.List.{enumerate_from}
 use Rattle.std.proofs.lemmas.List.FromFn.{length-enumerate_from}
-use Rattle.cbpf_code.proofs.WrittenLemmas.{loop-next, loop-stop, loop-done, err-exit}
 use Rattle.cbpf_code.specs.Listing.{numbered_line}
 use Rattle.cbpf_code.proofs.FaultLemmas.{zero_insn}
 use Rattle.cbpf_code.proofs.ListingLemmas.{line_at}

@@ -1,5 +1,4 @@
-use Rattle.std.proofs.Common.{take_all, length-drop}
-use Rattle.std.proofs.Common.{arith}
+use Rattle.std.proofs.Common.{take_all, length-drop, arith}
 use Rattle.std.specs.List.{prefix_len}
 use Rattle.std.proofs.lemmas.List.Sums.{prefix_len-le-length, prefix_len-drop_yes}
 use Rattle.cbpf_code.proofs.WordTokenLemmas.{step-run}

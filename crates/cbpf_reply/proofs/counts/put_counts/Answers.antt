@@ -1,6 +1,5 @@
 use Rattle.std.proofs.lemmas.Grind.{common_steps}
-use Rattle.cbpf_reply.specs.Counts.{counts_text}
-use Rattle.cbpf_reply.specs.Counts.{known_text}
+use Rattle.cbpf_reply.specs.Counts.{counts_text, known_text}
 use Rattle.std.proofs.Common.{arith}
 use Rattle.cbpf_reply.proofs.counts.put_counts.Goals as goal
 
