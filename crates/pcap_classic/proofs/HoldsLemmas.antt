@@ -3,21 +3,20 @@ use Rattle.std.proofs.Common.{◌≡◌, ℕ, zero, suc, ◌+◌, ◌≤◌, ◌
 use Rattle.std.proofs.Common.{length-drop}
 use Rattle.std.proofs.lemmas.Bool.{cases_lt}
 use Rattle.std.proofs.lemmas.Bool.Decides.{nat_tests}
-use Rattle.pcap_classic.specs.declared.captured.Endianness.{Endianness}
+use Rattle.pcap_classic.specs.declared.captured.{Endianness.Endianness, Extent.Extent, TheConstants.RECORD_HEADER}
 use Rattle.pcap_classic.specs.declared.ending.Ending.{Ending}
-use Rattle.pcap_classic.specs.declared.captured.Extent.{Extent}
 use Rattle.pcap_classic.specs.declared.captured.Extent.TheVariants.{PartOfHeader, PartOfData, WholeRecord}
 use Rattle.pcap_classic.specs.Index.{ending_by}
 use Rattle.pcap_classic.specs.Records.{Record, Holds, no_bytes, part_of_header, part_of_data, whole_record, record_at}
 use Rattle.pcap_classic.specs.Records.{record_length}
 use Rattle.pcap_classic.specs.Contents.{extent_of, contents_within}
 
-extent-header : (order : Endianness) (bytes : List ℕ) → 0 < length bytes → length bytes < 16
+extent-header : (order : Endianness) (bytes : List ℕ) → 0 < length bytes → length bytes < RECORD_HEADER
     → extent_of order bytes ≡ PartOfHeader
 extent-header order bytes some short = grind (arith, nat_tests)
 
-extent-data : (order : Endianness) (bytes : List ℕ) → 16 ≤ length bytes → length bytes < record_length order bytes
-    → extent_of order bytes ≡ PartOfData
+extent-data : (order : Endianness) (bytes : List ℕ) → RECORD_HEADER ≤ length bytes
+    → length bytes < record_length order bytes → extent_of order bytes ≡ PartOfData
 extent-data order bytes long cut = grind (arith, nat_tests)
 
 extent-whole : (order : Endianness) (bytes : List ℕ) → record_length order bytes ≤ length bytes
@@ -34,7 +33,7 @@ contents-hold zero order n place (b ∷ bytes) h = absurd (omega arith)
 contents-hold (suc most) order n place [] h = no_bytes
 contents-hold (suc most) order n place (b ∷ rest) h =
     let bytes : List ℕ = b ∷ rest in
-    elim (cases_lt (length bytes) 16) [
+    elim (cases_lt (length bytes) RECORD_HEADER) [
       | inl short ↦ rw (extent-header order bytes (omega arith) short) (part_of_header bytes (omega arith) short)
       | inr long ↦ elim (cases_lt (length bytes) (record_length order bytes)) [
         | inl cut ↦ rw (extent-data order bytes long cut) (part_of_data bytes long cut)

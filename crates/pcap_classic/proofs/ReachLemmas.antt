@@ -4,8 +4,8 @@ use Rattle.std.proofs.Common.{length-drop, add-one, refl}
 use Rattle.std.specs.Prelude.{Some, slice_get}
 use Rattle.std.proofs.lemmas.List.{drop-drop, length-take-le}
 use Rattle.std.proofs.lemmas.Option.{slice_get_within}
-use Rattle.pcap_classic.specs.declared.captured.Endianness.{Endianness}
-use Rattle.pcap_classic.specs.declared.captured.Extent.{Extent}
+use Rattle.pcap_classic.specs.declared.captured.{Endianness.Endianness, Extent.Extent, TheConstants.RECORD_HEADER}
+use Rattle.pcap_classic.specs.declared.header.TheConstants.{FILE_HEADER}
 use Rattle.pcap_classic.specs.declared.captured.Extent.TheVariants.{Nothing, PartOfHeader, PartOfData, WholeRecord}
 use Rattle.pcap_classic.specs.Records.{Record, StartsAt, record_at, record_length}
 use Rattle.pcap_classic.specs.Contents.{extent_of, contents}
@@ -21,17 +21,19 @@ slice_get-drop_head (y ∷ xs) zero x rest h = (cc, cc)
 slice_get-drop_head (y ∷ xs) (suc i) x rest h = rw add-one (rw add-one at (slice_get-drop_head xs i x rest h))
 
 -- the first record, or the end, stands after the file header
-pub reaches_first : (order : Endianness) (file : List ℕ) → 24 ≤ length file → IsRecordStart order file 0 24
+pub reaches_first : (order : Endianness) (file : List ℕ) → FILE_HEADER ≤ length file
+    → IsRecordStart order file 0 FILE_HEADER
 reaches_first order file h =
     record {
       inside = h;
       passed = omega arith;
-      rest = contents-hold (length file) order 1 24 (drop 24 file) (omega (arith, length-drop 24 file));
+      rest = contents-hold (length file) order 1 FILE_HEADER (drop FILE_HEADER file)
+          (omega (arith, length-drop FILE_HEADER file));
     }
 
 -- a record that stands before the end, and the place after it
 pub record Onward (order : Endianness) (file : List ℕ) (i place size : ℕ) : Type 0 where
-  pub header : 16 ≤ size
+  pub header : RECORD_HEADER ≤ size
   pub within : size ≤ length (drop place file)
   pub inside : place + size ≤ length file
   pub found : slice_get (contents order file).records i ≡ Some (record_at order (i + 1) place (drop place file))
@@ -89,9 +91,9 @@ reaches_end order file i place here none =
     by PartOfHeader none there = ended PartOfHeader there.0 there.1
     by PartOfData none there = ended PartOfData there.0 there.1
 
-stands : (order : Endianness) (file : List ℕ) (i : ℕ) → 24 ≤ length file → i ≤ length (contents order file).records
-    → (place : ℕ) × IsRecordStart order file i place
-stands order file zero long h = (24, reaches_first order file long)
+stands : (order : Endianness) (file : List ℕ) (i : ℕ) → FILE_HEADER ≤ length file
+    → i ≤ length (contents order file).records → (place : ℕ) × IsRecordStart order file i place
+stands order file zero long h = (FILE_HEADER, reaches_first order file long)
 stands order file (suc i) long h =
     let before = stands order file i long (omega arith) in
     let on = onward_more order file i before.0 before.1 (omega arith) in
@@ -106,7 +108,7 @@ start_once order file i place r here found =
     ap (λ (x : Record). x.start) is
 
 -- where record n starts it is found
-pub start_is : (order : Endianness) (file : List ℕ) (n place : ℕ) → 24 ≤ length file → 1 ≤ n
+pub start_is : (order : Endianness) (file : List ℕ) (n place : ℕ) → FILE_HEADER ≤ length file → 1 ≤ n
     → n ≤ length (contents order file).records → StartsAt (contents order file).records n place
     → IsRecordStart order file (n - 1) place
 start_is order file n place long one within there =
@@ -117,9 +119,9 @@ start_is order file n place long one within there =
 -- the number of a record of the file, and the place after it
 pub record After (order : Endianness) (file : List ℕ) (i : ℕ) (r : Record) : Type 0 where
   pub number : r.number ≡ i + 1
-  pub there : IsRecordStart order file (i + 1) (r.start + 16 + length r.bytes)
+  pub there : IsRecordStart order file (i + 1) (r.start + RECORD_HEADER + length r.bytes)
 
-pub after : (order : Endianness) (file : List ℕ) (i : ℕ) (r : Record) → 24 ≤ length file
+pub after : (order : Endianness) (file : List ℕ) (i : ℕ) (r : Record) → FILE_HEADER ≤ length file
     → slice_get (contents order file).records i ≡ Some r → After order file i r
 after order file i r long found =
     let inside = slice_get_within (contents order file).records i r found in
@@ -128,8 +130,8 @@ after order file i r long found =
     let is : r ≡ record_at order (i + 1) here.0 (drop here.0 file) = cc (found, on.found) in
     let captured : length r.bytes ≡ number_at order 8 4 (drop here.0 file) =
     ap (λ (x : Record). length x.bytes) is
-    ∙ length-take-le (number_at order 8 4 (drop here.0 file)) (drop 16 (drop here.0 file))
-    (omega (arith, on.within, length-drop 16 (drop here.0 file))) in
-    let place : here.0 + record_length order (drop here.0 file) ≡ r.start + 16 + length r.bytes =
+    ∙ length-take-le (number_at order 8 4 (drop here.0 file)) (drop RECORD_HEADER (drop here.0 file))
+    (omega (arith, on.within, length-drop RECORD_HEADER (drop here.0 file))) in
+    let place : here.0 + record_length order (drop here.0 file) ≡ r.start + RECORD_HEADER + length r.bytes =
     omega (arith, ap (λ (x : Record). x.start) is, captured) in
     record { number = ap (λ (x : Record). x.number) is; there = rw place at on.next }

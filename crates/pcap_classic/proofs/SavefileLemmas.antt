@@ -8,13 +8,10 @@ use Rattle.std.proofs.lemmas.Bool.Decides.{nat_tests}
 use Rattle.pcap_classic.specs.Savefile.{Savefile, IsSavefile, IsRefusal, HasMagic, HasVersion, OneCapture, OneRefusal}
 use Rattle.pcap_classic.specs.Savefile.{HasAnswer}
 use Rattle.pcap_classic.specs.Contents.{magic_of, is_version_2_4, header_by_magic, header_of, savefile_with}
-use Rattle.pcap_classic.specs.declared.captured.Endianness.{Endianness}
-use Rattle.pcap_classic.specs.declared.captured.Endianness.TheVariants.{Big, Little}
-use Rattle.pcap_classic.specs.declared.header.CaptureFault.{CaptureFault}
+use Rattle.pcap_classic.specs.declared.captured.Endianness.{Endianness, TheVariants.Big, TheVariants.Little}
+use Rattle.pcap_classic.specs.declared.header.CaptureFault.{CaptureFault, TheVariants.Memory}
 use Rattle.pcap_classic.specs.declared.header.CaptureFault.TheVariants.{FileHeaderCut, UnknownMagic, UnknownVersion}
-use Rattle.pcap_classic.specs.declared.header.CaptureFault.TheVariants.{Memory}
-use Rattle.pcap_classic.specs.declared.header.Magic.{Magic}
-use Rattle.pcap_classic.specs.declared.header.FileHeader.{FileHeader}
+use Rattle.pcap_classic.specs.declared.header.{Magic.Magic, FileHeader.FileHeader, TheConstants.FILE_HEADER}
 use Rattle.pcap_classic.proofs.HoldsLemmas.{contents-hold, holds-once}
 
 -- the function of the magic finds it, so that there is one alone
@@ -49,9 +46,9 @@ version-found : (order : Endianness) (file : List ℕ) → HasVersion order file
 version-found order file h = grind (arith, nat_tests)
 
 says : (file : List ℕ) → Says file (header_of file)
-says file = by (nat_lt (length file) 24) refl (magic_of file) refl
+says file = by (nat_lt (length file) FILE_HEADER) refl (magic_of file) refl
   where
-    by_version : (m : Magic) → 24 ≤ length file → HasMagic m.order m.nanos file → (b : Bool)
+    by_version : (m : Magic) → FILE_HEADER ≤ length file → HasMagic m.order m.nanos file → (b : Bool)
         → is_version_2_4 m.order file ≡ b
         → Says file (if b then Ok (record { magic = m; link = number_at m.order 20 4 file }) else Err UnknownVersion)
     by_version m long magic true h = record {
@@ -60,18 +57,18 @@ says file = by (nat_lt (length file) 24) refl (magic_of file) refl
       magic = magic;
       version = version-is m.order file h;
       link = refl;
-      contents = contents-hold _ m.order 1 24 (drop 24 file) (omega (arith, length-drop 24 file));
+      contents = contents-hold _ m.order 1 FILE_HEADER _ (omega (arith, length-drop FILE_HEADER file));
     }
     by_version m long magic false h =
         (long, m.order, m.nanos, magic, λ v. let is = version-found m.order file v in absurd (cc))
 
-    by : (b : Bool) → nat_lt (length file) 24 ≡ b → (m : Option Magic) → magic_of file ≡ m
+    by : (b : Bool) → nat_lt (length file) FILE_HEADER ≡ b → (m : Option Magic) → magic_of file ≡ m
         → Says file (if b then Err FileHeaderCut else header_by_magic m file)
-    by true short m e = ltb-true (length file) 24 short
+    by true short m e = ltb-true (length file) FILE_HEADER short
     by false long None e =
-        (ltb-false (length file) 24 long, λ order nanos h. let is = magic-found file order nanos h in absurd (cc))
+        (ltb-false _ FILE_HEADER long, λ order nanos h. let is = magic-found file order nanos h in absurd (cc))
     by false long (Some m) e =
-        by_version m (ltb-false (length file) 24 long) (magic-is file m e) (is_version_2_4 m.order file) refl
+        by_version m (ltb-false (length file) FILE_HEADER long) (magic-is file m e) (is_version_2_4 m.order file) refl
 
 same_savefile : (c d : Savefile) → d.nanos ≡ c.nanos → d.link ≡ c.link → d.records ≡ c.records → d.ending ≡ c.ending
     → d ≡ c

@@ -2,8 +2,8 @@
 use Rattle.std.proofs.Common.{◌≡◌, ℕ, zero, suc, ◌+◌, ◌-◌, ◌<◌, ◌≤◌, List, [], ◌∷◌, length, drop, take, min, arith, refl, add-one}
 use Rattle.std.proofs.lemmas.Grind.{common_steps}
 use Rattle.std.specs.Prelude.{Some, None, slice_get}
-use Rattle.pcap_classic.specs.declared.captured.Endianness.{Endianness}
-use Rattle.pcap_classic.specs.Index.{IsWalk, IsRecordStart}
+use Rattle.pcap_classic.specs.declared.captured.{Endianness.Endianness, TheConstants.RECORD_HEADER}
+use Rattle.pcap_classic.specs.Index.{IsWalk}
 use Rattle.pcap_classic.specs.Records.{Record}
 use Rattle.pcap_classic.specs.Contents.{contents}
 use Rattle.pcap_classic.proofs.ReachLemmas.{after}
@@ -40,8 +40,8 @@ left_of xs from end one = grind (arith, common_steps)
 pub record Goes (order : Endianness) (file : List ℕ) (number end : ℕ) (r : Record) : Type 0 where
   pub left : drop (number - 1) (take (end - 1) (contents order file).records)
       ≡ r ∷ drop (number + 1 - 1) (take (end - 1) (contents order file).records)
-  pub walk : IsWalk order file (r.start + 16 + length r.bytes) (number + 1) end
-  pub inside : r.start + 16 + length r.bytes ≤ length file
+  pub walk : IsWalk order file (r.start + RECORD_HEADER + length r.bytes) (number + 1) end
+  pub inside : r.start + RECORD_HEADER + length r.bytes ≤ length file
 
 pub goes : (order : Endianness) (file : List ℕ) (place number end : ℕ) (r : Record)
     → IsWalk order file place number end
@@ -53,7 +53,7 @@ goes order file place number end r walk first =
     let one = walk.from_one before in
     let there = after order file (number - 1) r walk.long head.is in
     let on : number - 1 + 1 ≡ number + 1 - 1 = omega (arith, one) in
-    let next : IsRecordStart order file (number + 1 - 1) (r.start + 16 + length r.bytes) = rw on at there.there in
+    let next = rw on at there.there in
     record {
       left = rw on at head.left;
       walk = record {

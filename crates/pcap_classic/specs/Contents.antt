@@ -5,22 +5,20 @@ use Rattle.std.specs.Prelude.{length, drop, Option, Some, None, Result, Ok, Err}
 use Rattle.pcap_classic.specs.FileNumbers.{number_at}
 use Rattle.pcap_classic.specs.Records.{Record, record_length, record_at}
 use Rattle.pcap_classic.specs.Savefile.{Savefile, micros_magic, nanos_magic}
-use Rattle.pcap_classic.specs.declared.captured.Endianness.{Endianness}
+use Rattle.pcap_classic.specs.declared.captured.{Endianness.Endianness, TheConstants.RECORD_HEADER}
 use Rattle.pcap_classic.specs.declared.captured.Endianness.TheVariants.{Big, Little}
-use Rattle.pcap_classic.specs.declared.ending.Ending.{Ending}
-use Rattle.pcap_classic.specs.declared.ending.Ending.TheVariants.{Whole, CutHeader, CutData}
+use Rattle.pcap_classic.specs.declared.ending.Ending.{Ending, TheVariants.Whole, TheVariants.CutHeader, TheVariants.CutData}
 use Rattle.pcap_classic.specs.declared.header.CaptureFault.{CaptureFault}
 use Rattle.pcap_classic.specs.declared.header.CaptureFault.TheVariants.{FileHeaderCut, UnknownMagic, UnknownVersion}
 use Rattle.pcap_classic.specs.declared.captured.Extent.{Extent}
 use Rattle.pcap_classic.specs.declared.captured.Extent.TheVariants.{Nothing, PartOfHeader, PartOfData, WholeRecord}
-use Rattle.pcap_classic.specs.declared.header.Magic.{Magic}
-use Rattle.pcap_classic.specs.declared.header.FileHeader.{FileHeader}
+use Rattle.pcap_classic.specs.declared.header.{Magic.Magic, FileHeader.FileHeader, TheConstants.FILE_HEADER}
 
 -- how much of a record the bytes begin with
 abbrev pub extent_of : Endianness → List ℕ → Extent
 extent_of order bytes =
     if length bytes == 0 then Nothing
-    else if nat_lt (length bytes) 16 then PartOfHeader
+    else if nat_lt (length bytes) RECORD_HEADER then PartOfHeader
     else if nat_lt (length bytes) (record_length order bytes) then PartOfData
     else WholeRecord (record_length order bytes)
 
@@ -45,9 +43,9 @@ contents_within (suc most) order n place bytes =
     by_extent (extent_of order bytes) place (record_at order n place bytes)
     (λ size. contents_within most order (n + 1) (place + size) (drop size bytes))
 
--- the contents of a file, after its header of 24 bytes
+-- the contents of a file, after its header
 abbrev pub contents : Endianness → List ℕ → Contents
-contents order file = contents_within (length file) order 1 24 (drop 24 file)
+contents order file = contents_within (length file) order 1 FILE_HEADER (drop FILE_HEADER file)
 
 -- the byte order in which the first four bytes are one of the magic numbers, and whether it is that of nanoseconds
 abbrev pub magic_of : List ℕ → Option Magic
@@ -62,7 +60,7 @@ magic_of file =
 abbrev pub is_version_2_4 : Endianness → List ℕ → Bool
 is_version_2_4 order file = (number_at order 4 2 file == 2) && (number_at order 6 2 file == 4)
 
--- the header of 24 bytes, its last number being the link type; or the first reason why it is none
+-- the header, its last number being the link type; or the first reason why it is none
 abbrev pub header_by_magic : Option Magic → List ℕ → Result FileHeader CaptureFault
 header_by_magic None file = Err UnknownMagic
 header_by_magic (Some magic) file =
@@ -70,7 +68,7 @@ header_by_magic (Some magic) file =
     else Err UnknownVersion
 
 abbrev pub header_of : List ℕ → Result FileHeader CaptureFault
-header_of file = if nat_lt (length file) 24 then Err FileHeaderCut else header_by_magic (magic_of file) file
+header_of file = if nat_lt (length file) FILE_HEADER then Err FileHeaderCut else header_by_magic (magic_of file) file
 
 abbrev pub savefile_with : FileHeader → List ℕ → Savefile
 savefile_with header file =

@@ -2,8 +2,7 @@
 -- Header").
 use Rattle.std.specs.Prelude.{ℕ, List, drop}
 use Rattle.byteorder.specs.Endian.{big_number, little_number}
-use Rattle.pcap_classic.specs.declared.captured.Endianness.{Endianness}
-use Rattle.pcap_classic.specs.declared.captured.Endianness.TheVariants.{Big, Little}
+use Rattle.pcap_classic.specs.declared.captured.Endianness.{Endianness, TheVariants.Big, TheVariants.Little}
 
 -- the number in the n bytes from a place on
 unfoldable pub number_at : Endianness → ℕ → ℕ → List ℕ → ℕ

@@ -2,12 +2,10 @@
 use Rattle.std.specs.Prelude.{◌≡◌, ℕ, ◌+◌, ◌-◌, ◌*◌, ◌≤◌, ◌<◌, ◌^◌, List, length, drop, slice_index}
 use Rattle.pcap_classic.specs.Records.{Holds}
 use Rattle.pcap_classic.specs.Contents.{contents}
-use Rattle.pcap_classic.specs.declared.captured.Endianness.{Endianness}
-use Rattle.pcap_classic.specs.declared.ending.Ending.{Ending}
-use Rattle.pcap_classic.specs.declared.ending.Ending.TheVariants.{Whole, CutHeader, CutData}
-use Rattle.pcap_classic.specs.declared.captured.Extent.{Extent}
+use Rattle.pcap_classic.specs.declared.captured.{Endianness.Endianness, Extent.Extent}
+use Rattle.pcap_classic.specs.declared.ending.Ending.{Ending, TheVariants.Whole, TheVariants.CutHeader, TheVariants.CutData}
 use Rattle.pcap_classic.specs.declared.captured.Extent.TheVariants.{Nothing, PartOfHeader, PartOfData, WholeRecord}
-use Rattle.pcap_classic.specs.declared.index.TheConstants.{STRIDE}
+use Rattle.pcap_classic.specs.declared.{header.TheConstants.FILE_HEADER, index.TheConstants.STRIDE}
 
 -- the record after the first i ones stands at this place of the file, or would if there were one more
 pub record IsRecordStart (order : Endianness) (file : List ℕ) (i place : ℕ) : Type 0 where
@@ -28,11 +26,11 @@ pub record AreStarts (order : Endianness) (file : List ℕ) (starts : List ℕ) 
 
 -- the first `count` records have all this length
 pub record AreEven (order : Endianness) (file : List ℕ) (size count : ℕ) : Type 0 where
-  pub each : (i : ℕ) → i ≤ count → IsRecordStart order file i (24 + i * size)
+  pub each : (i : ℕ) → i ≤ count → IsRecordStart order file i (FILE_HEADER + i * size)
 
 -- the number of records, the places of the records 1, 65, 129 and so on, and how the file ends
 pub record IsIndex (order : Endianness) (file : List ℕ) (count : ℕ) (starts : List ℕ) (how : Ending) : Type 0 where
-  pub long : 24 ≤ length file
+  pub long : FILE_HEADER ≤ length file
   pub counted : count ≡ length (contents order file).records
   pub few : count < 2 ^ 60
   pub kept : AreKept order file starts count
@@ -47,7 +45,7 @@ ending_by (WholeRecord size) place = Whole
 
 -- a walk has the records from this number on up to an end, and a place where the first of them stands
 pub record IsWalk (order : Endianness) (file : List ℕ) (place number end : ℕ) : Type 0 where
-  pub long : 24 ≤ length file
+  pub long : FILE_HEADER ≤ length file
   pub ordered : number ≤ end
   pub within : end ≤ length (contents order file).records + 1
   pub from_one : number < end → 1 ≤ number

@@ -2,9 +2,8 @@
 -- last record is reported by its place is this crate's rule).
 use Rattle.std.specs.Prelude.{◌≡◌, ℕ, ◌+◌, ◌-◌, ◌≤◌, ◌<◌, List, [], ◌∷◌, length, take, drop, slice_get, Some}
 use Rattle.pcap_classic.specs.FileNumbers.{number_at}
-use Rattle.pcap_classic.specs.declared.captured.Endianness.{Endianness}
-use Rattle.pcap_classic.specs.declared.ending.Ending.{Ending}
-use Rattle.pcap_classic.specs.declared.ending.Ending.TheVariants.{Whole, CutHeader, CutData}
+use Rattle.pcap_classic.specs.declared.captured.{Endianness.Endianness, TheConstants.RECORD_HEADER}
+use Rattle.pcap_classic.specs.declared.ending.Ending.{Ending, TheVariants.Whole, TheVariants.CutHeader, TheVariants.CutData}
 
 -- a record: its number, counted from 1, the byte place of its header in the file, its time stamp in
 -- seconds and fractions, the packet's original length, and the captured bytes
@@ -22,7 +21,7 @@ StartsAt records n start = (r : Record) → slice_get records (n - 1) ≡ Some r
 
 -- the length of a record with its header of 16 bytes, whose third number is the captured length
 abbrev pub record_length : Endianness → List ℕ → ℕ
-record_length order bytes = 16 + number_at order 8 4 bytes
+record_length order bytes = RECORD_HEADER + number_at order 8 4 bytes
 
 -- the record that the bytes begin with
 abbrev pub record_at : Endianness → ℕ → ℕ → List ℕ → Record
@@ -33,7 +32,7 @@ record_at order n place bytes =
       seconds = number_at order 0 4 bytes;
       fraction = number_at order 4 4 bytes;
       wire = number_at order 12 4 bytes;
-      bytes = take (number_at order 8 4 bytes) (drop 16 bytes);
+      bytes = take (number_at order 8 4 bytes) (drop RECORD_HEADER bytes);
     }
 
 -- bytes that stand at a place of the file hold these whole records, the first of which has number n, and
@@ -41,10 +40,10 @@ record_at order n place bytes =
 -- after it; or they begin with a whole record, and the bytes after it hold the others
 pub data Holds (order : Endianness) : ℕ → ℕ → List ℕ → List Record → Ending → Type 0 where
   no_bytes : {n place : ℕ} → Holds order n place [] [] Whole
-  part_of_header : {n place : ℕ} (bytes : List ℕ) → 0 < length bytes → length bytes < 16
+  part_of_header : {n place : ℕ} (bytes : List ℕ) → 0 < length bytes → length bytes < RECORD_HEADER
       → Holds order n place bytes [] (CutHeader place)
-  part_of_data : {n place : ℕ} (bytes : List ℕ) → 16 ≤ length bytes → length bytes < record_length order bytes
-      → Holds order n place bytes [] (CutData place)
+  part_of_data : {n place : ℕ} (bytes : List ℕ) → RECORD_HEADER ≤ length bytes
+      → length bytes < record_length order bytes → Holds order n place bytes [] (CutData place)
   whole_record : {n place : ℕ} {rest : List Record} {how : Ending} (bytes : List ℕ)
       → record_length order bytes ≤ length bytes
       → Holds order (n + 1) (place + record_length order bytes) (drop (record_length order bytes) bytes) rest how

@@ -5,7 +5,7 @@ use Rattle.pcap_classic.specs.FileNumbers.{number_at}
 use Rattle.pcap_classic.specs.Records.{Record, Holds}
 use Rattle.pcap_classic.specs.declared.captured.Endianness.{Endianness}
 use Rattle.pcap_classic.specs.declared.ending.Ending.{Ending}
-use Rattle.pcap_classic.specs.declared.header.CaptureFault.{CaptureFault}
+use Rattle.pcap_classic.specs.declared.header.{CaptureFault.CaptureFault, TheConstants.FILE_HEADER}
 use Rattle.pcap_classic.specs.declared.header.CaptureFault.TheVariants.{FileHeaderCut, UnknownMagic, UnknownVersion}
 use Rattle.pcap_classic.specs.declared.header.CaptureFault.TheVariants.{Memory}
 
@@ -35,18 +35,19 @@ pub record Savefile : Type 0 where
 -- a file holds a capture: a header of 24 bytes, whose last number is the link type, and the records after it
 pub record IsSavefile (file : List ℕ) (c : Savefile) : Type 0 where
   pub order : Endianness
-  pub long : 24 ≤ length file
+  pub long : FILE_HEADER ≤ length file
   pub magic : HasMagic order c.nanos file
   pub version : HasVersion order file
   pub link : c.link ≡ number_at order 20 4 file
-  pub contents : Holds order 1 24 (drop 24 file) c.records c.ending
+  pub contents : Holds order 1 FILE_HEADER (drop FILE_HEADER file) c.records c.ending
 
 -- a fault stands: why the file holds no capture, or that it is out of memory for one that it does hold
 abbrev pub IsRefusal : CaptureFault → List ℕ → Type 0
-IsRefusal FileHeaderCut file = length file < 24
-IsRefusal UnknownMagic file = (24 ≤ length file) × ((order : Endianness) (nanos : Bool) → ¬ HasMagic order nanos file)
-IsRefusal UnknownVersion file = (24 ≤ length file) × (order : Endianness) × (nanos : Bool) × HasMagic order nanos file
-    × (¬ HasVersion order file)
+IsRefusal FileHeaderCut file = length file < FILE_HEADER
+IsRefusal UnknownMagic file = (FILE_HEADER ≤ length file)
+    × ((order : Endianness) (nanos : Bool) → ¬ HasMagic order nanos file)
+IsRefusal UnknownVersion file = (FILE_HEADER ≤ length file) × (order : Endianness) × (nanos : Bool)
+    × HasMagic order nanos file × (¬ HasVersion order file)
 IsRefusal Memory file = (c : Savefile) × IsSavefile file c
 
 -- a file holds one capture at most, and has one fault at most; a fault of one that holds a capture is `Memory`

@@ -6,6 +6,7 @@ ghost use Rattle.pcap_classic.specs.Lent.{record_of};
 ghost use Rattle.pcap_classic.specs.FileNumbers.{number_at};
 ghost use Rattle.pcap_classic.specs.Records as records;
 ghost use Rattle.pcap_classic.specs.Contents as spec;
+ghost use Rattle.pcap_classic.specs.declared.captured.TheConstants.{RECORD_HEADER};
 
 use byteorder::{BigEndian, ByteOrder, LittleEndian};
 
@@ -29,7 +30,7 @@ pub struct Captured<'a> {
 /// The record that the bytes begin with, and that stands at this place of the file.
 #[inline(always)]
 fn front_record(order: Endianness, number: u64, start: usize, bytes: &[u8]) -> Captured<'_>
-    requires header { 16 ≤ length bytes.now }
+    requires header { RECORD_HEADER ≤ length bytes.now }
     requires whole { records.record_length order bytes.now ≤ length bytes.now }
     ensures { record_of result ≡ records.record_at order number start bytes.entry.now }
 {
@@ -75,7 +76,7 @@ pub(crate) enum Extent {
 /// The length of a record in bytes, with its header, by its captured length.
 #[inline(always)]
 pub(crate) fn record_length(order: Endianness, bytes: &[u8]) -> usize
-    requires { 16 ≤ length bytes.now }
+    requires { RECORD_HEADER ≤ length bytes.now }
     ensures { result ≡ records.record_length order bytes.now }
 {
     RECORD_HEADER + order.read_u32(bytes, 8) as usize

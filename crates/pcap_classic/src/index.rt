@@ -3,7 +3,8 @@
 ghost use Rattle.std.specs.Prelude.{◌≡◌, ◌≤◌, ◌<◌, ◌+◌, ◌-◌, ◌*◌, ◌^◌, ◌↔◌, ℕ, List, length, drop, true, IfOk};
 ghost use Rattle.pcap_classic.specs.Index.{IsIndex, AreEven, AreKept, AreStarts, IsRecordStart, ending_by};
 ghost use Rattle.pcap_classic.specs.Contents as spec;
-ghost use Rattle.pcap_classic.specs.declared.captured.Extent.TheVariants.{WholeRecord};
+ghost use Rattle.pcap_classic.specs.declared.captured.{Extent.TheVariants.WholeRecord, TheConstants.RECORD_HEADER};
+ghost use Rattle.pcap_classic.specs.declared.header.TheConstants.{FILE_HEADER};
 
 use crate::captured::{Endianness, Extent, extent_of, record_length};
 use crate::ending::Ending;
@@ -84,13 +85,13 @@ fn pass_repeats(
     from: Passed,
 ) -> Passed
     requires here { IsRecordStart order file.now from.count from.place }
-    requires few { 16 * from.count + 24 ≤ from.place }
+    requires few { RECORD_HEADER * from.count + FILE_HEADER ≤ from.place }
     requires kept { AreStarts order file.now starts.old.items }
     ensures here { IsRecordStart order file.now result.count result.place }
-    ensures few { 16 * result.count + 24 ≤ result.place }
+    ensures few { RECORD_HEADER * result.count + FILE_HEADER ≤ result.place }
     ensures kept { AreStarts order file.now starts.new.items }
     ensures on { from.place ≤ result.place }
-    ensures even { from.count ≡ 0 → from.place ≡ 24 → AreEven order file.now length result.count }
+    ensures even { from.count ≡ 0 → from.place ≡ FILE_HEADER → AreEven order file.now length result.count }
     ensures all { spec.extent_of order (drop result.place file.now) ≡ WholeRecord length → ⊥ }
 {
     let Passed {
@@ -108,10 +109,10 @@ fn pass_repeats(
 /// Passes all records from a place on.
 fn pass_all(order: Endianness, file: &[u8], starts: &mut Starts, from: Passed) -> Passed
     requires here { IsRecordStart order file.now from.count from.place }
-    requires few { 16 * from.count + 24 ≤ from.place }
+    requires few { RECORD_HEADER * from.count + FILE_HEADER ≤ from.place }
     requires kept { AreStarts order file.now starts.old.items }
     ensures here { IsRecordStart order file.now result.count result.place }
-    ensures few { 16 * result.count + 24 ≤ result.place }
+    ensures few { RECORD_HEADER * result.count + FILE_HEADER ≤ result.place }
     ensures kept { AreStarts order file.now starts.new.items }
     ensures end { (size : ℕ) → spec.extent_of order (drop result.place file.now) ≡ WholeRecord size → ⊥ }
 {
@@ -181,7 +182,7 @@ fn starts_of<A: Allocator>(
     starts: &[usize],
     count: u64,
 ) -> Result<Vec<usize, A>, AllocError>
-    requires first { IsRecordStart order file.now 0 24 }
+    requires first { IsRecordStart order file.now 0 FILE_HEADER }
     requires count { count ≡ length (spec.contents order file.now).records }
     requires few { count < 2 ^ 60 }
     requires kept { AreStarts order file.now starts.now }
@@ -205,7 +206,7 @@ fn starts_of<A: Allocator>(
     Ok(all)
 }
 
-/// The index of a file of at least 24 bytes.
+/// The index of a file with a whole header.
 // The starts get their room at once, when the number of records is known. So no room is left over, and none is asked
 // for twice. What the pass over the headers keeps meanwhile spares a second pass, but for the records of mixed lengths
 // after the first 512,000.
@@ -214,7 +215,7 @@ pub(crate) fn index_of<A: Allocator>(
     order: Endianness,
     file: &[u8],
 ) -> Result<Index<A>, AllocError>
-    requires { 24 ≤ length file.now }
+    requires { FILE_HEADER ≤ length file.now }
     ensures { IfOk result (λ index. IsIndex order file.now index.count index.starts.items index.ending) }
 {
     let mut kept = Starts::new();

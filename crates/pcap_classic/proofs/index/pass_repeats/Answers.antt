@@ -1,23 +1,23 @@
 use Rattle.std.proofs.Common.{◌≡◌, ℕ, ◌+◌, ◌*◌, List, arith, inl, inr}
 use Rattle.std.proofs.lemmas.Bool.{cases_lt}
 use Rattle.std.proofs.lemmas.List.{take_rest}
-use Rattle.pcap_classic.specs.declared.captured.Endianness.{Endianness}
+use Rattle.pcap_classic.specs.declared.{captured.Endianness.Endianness, header.TheConstants.FILE_HEADER}
 use Rattle.pcap_classic.specs.Index.{IsRecordStart, AreEven}
 use Rattle.pcap_classic.proofs.ReachLemmas.{onward}
 use Rattle.pcap_classic.proofs.index.pass_repeats.Goals as goal
 
-even_none : (order : Endianness) (file : List ℕ) (size count place : ℕ) → count ≡ 0 → place ≡ 24
-    → IsRecordStart order file count place → (place ≡ 24 + count * size) × AreEven order file size count
+even_none : (order : Endianness) (file : List ℕ) (size count place : ℕ) → count ≡ 0 → place ≡ FILE_HEADER
+    → IsRecordStart order file count place → (place ≡ FILE_HEADER + count * size) × AreEven order file size count
 even_none order file size count place none first here =
-    let at : place ≡ 24 + count * size = rw (none, first) (omega arith) in
+    let at : place ≡ FILE_HEADER + count * size = rw (none, first) (omega arith) in
     (at, record { each = λ i h. let is : i ≡ count = omega (arith, h, none) in rw is (rw at at here) })
 
 even_next : (order : Endianness) (file : List ℕ) (size count place : ℕ)
     → IsRecordStart order file (count + 1) (place + size)
-    → (place ≡ 24 + count * size) × AreEven order file size count
-    → (place + size ≡ 24 + (count + 1) * size) × AreEven order file size (count + 1)
+    → (place ≡ FILE_HEADER + count * size) × AreEven order file size count
+    → (place + size ≡ FILE_HEADER + (count + 1) * size) × AreEven order file size (count + 1)
 even_next order file size count place next before =
-    let at : place + size ≡ 24 + (count + 1) * size = omega (arith, before.0) in (
+    let at : place + size ≡ FILE_HEADER + (count + 1) * size = omega (arith, before.0) in (
       at,
       record {
         each = λ i h. elim (cases_lt i (count + 1)) [
