@@ -70,7 +70,7 @@ tracks_paths-start list = record {
   each_reached = λ t s small reached.
       elim reached [
         | inl e ↦ rw (get_or-set_at {X = ℕ} (replicate MAX_INSTRUCTIONS 0) 0 t 65535 0 e (omega arith))
-            (bit_at_ones 16 s small)
+            (bit_at_ones SLOTS s small)
         | inr r ↦ absurd (omega arith)
       ];
   written = λ j below stands. absurd (omega arith);
