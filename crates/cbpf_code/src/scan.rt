@@ -4,7 +4,7 @@ ghost use Rattle.std.specs.Prelude.{List, [], ◌∷◌, ◌++◌, MatchOption};
 ghost use Rattle.std.specs.List.{AllByRecursion, prefix_len};
 ghost use Rattle.cbpf_code.specs.WordTokens.{single, run, is_digit, is_blank, begins_with_digit, decimal_value, tokens_from};
 ghost use Rattle.cbpf_code.specs.WordTokens.{tokens_after};
-ghost use Rattle.cbpf_code.specs.NextToken.{IsNextToken};
+ghost use Rattle.cbpf_code.specs.NextToken.{IsFound};
 
 /// No field of word text reaches this number, so greater ones stand for it.
 const CAP: u64 = 4_294_967_296;
@@ -77,7 +77,7 @@ pub(crate) fn skip_blanks(text: &[u8], at: usize) -> usize
 #[tactic(auto, using(crate::proofs::WordTokenLemmas::token_steps))]
 pub(crate) fn next_token(text: &[u8], at: usize) -> Option<FoundToken>
     requires { at ≤ length text.now }
-    ensures { MatchOption result (tokens_after text.now at ≡ []) (λ f. IsNextToken text.now at f) }
+    ensures { MatchOption result (tokens_after text.now at ≡ []) (λ f. IsFound text.now at f) }
 {
     let place = skip_blanks(text, at);
     if place == text.len() {
