@@ -17,7 +17,7 @@ pub fn is_digit(b: u8) -> bool
     b > 47 && b < 58
 }
 
-/// Whether a byte is a blank of word text and of scripts: a space, a tab, a carriage return or a newline.
+/// Whether a byte is a blank of word text, scripts and sources: a space, a tab, a carriage return or a newline.
 #[inline(always)]
 pub fn is_blank(b: u8) -> bool
     ensures { result ≡ is_blank b }

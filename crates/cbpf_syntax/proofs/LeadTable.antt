@@ -6,7 +6,7 @@ use Rattle.cbpf_syntax.specs.declared.piece.TheConstants.{LEADS}
 use Rattle.cbpf_syntax.specs.declared.piece.Lead.{Lead}
 use Rattle.cbpf_syntax.specs.declared.piece.Lead.TheVariants.{Blank, LineComment, Letter, Digit, Slash, Single, Other}
 use Rattle.cbpf_syntax.specs.Leads.{lead_of}
-use Rattle.cbpf_syntax.specs.Bytes.{is_blank}
+use Rattle.cbpf_code.specs.WordTokens.{is_blank}
 
 -- what a letter of the table says
 abbrev pub by_letter : Bool → ℕ → Lead

@@ -8,7 +8,8 @@ use Rattle.std.specs.List.{list_all, prefix_len}
 use Rattle.cbpf_syntax.specs.declared.piece.PieceKind.{PieceKind}
 use Rattle.cbpf_syntax.specs.declared.piece.PieceKind.TheVariants.{Blanks, Comment, TokenOf, Bad}
 use Rattle.cbpf_syntax.specs.declared.token.Kind.TheVariants.{Word, Mark}
-use Rattle.cbpf_syntax.specs.Bytes.{is_blank, is_name_byte}
+use Rattle.cbpf_code.specs.WordTokens.{is_blank}
+use Rattle.cbpf_syntax.specs.Bytes.{is_name_byte}
 use Rattle.cbpf_syntax.specs.Pieces.{IsNext, piece_kind, led_kind, slash_kind, only_if, run_kind, alone, has_close}
 use Rattle.cbpf_syntax.specs.Pieces.{is_line_blank, close_after, comment_piece, slash_piece, led_piece}
 use Rattle.cbpf_syntax.specs.Leads.{lead_of}

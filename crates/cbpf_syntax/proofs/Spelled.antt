@@ -16,7 +16,8 @@ use Rattle.cbpf_syntax.specs.declared.piece.PieceKind.TheVariants.{Blanks, Token
 use Rattle.cbpf_syntax.specs.declared.piece.Lead.{Lead}
 use Rattle.cbpf_syntax.specs.declared.piece.Lead.TheVariants.{Blank, Letter, Digit, Single}
 use Rattle.cbpf_syntax.specs.declared.piece.Piece.{Piece}
-use Rattle.cbpf_syntax.specs.Bytes.{is_blank, is_letter, is_digit, is_name_byte, is_mark}
+use Rattle.cbpf_code.specs.WordTokens.{is_blank, is_digit}
+use Rattle.cbpf_syntax.specs.Bytes.{is_letter, is_name_byte, is_mark}
 use Rattle.cbpf_syntax.specs.Numbers.{number_value}
 use Rattle.cbpf_syntax.specs.Pieces.{IsNext, IsPieceAt, IsCut, is_line_blank, run_kind}
 use Rattle.cbpf_syntax.specs.Leads.{lead_of}

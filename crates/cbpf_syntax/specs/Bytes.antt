@@ -1,13 +1,7 @@
--- The classes of bytes that a source text of the assembler is made of (this project's own; the marks of operands in the
--- kernel's Documentation/networking/filter are among them).
+-- The classes of bytes of a source text, beside its blanks and digits, which are those of word text (this project's
+-- own; the marks of operands in the kernel's Documentation/networking/filter are among them).
 use Rattle.std.specs.Prelude.{ℕ, Bool, ◌&&◌, ◌||◌, nat_le, ◌==◌}
-
--- a space, a tab, a newline or a carriage return
-abbrev pub is_blank : ℕ → Bool
-is_blank b = b == 32 || b == 9 || b == 10 || b == 13
-
-abbrev pub is_digit : ℕ → Bool
-is_digit b = nat_le 48 b && nat_le b 57
+use Rattle.cbpf_code.specs.WordTokens.{is_digit}
 
 -- an ASCII letter or `_`
 abbrev pub is_letter : ℕ → Bool

@@ -2,7 +2,8 @@
 use Rattle.std.specs.Prelude.{ℕ, Bool, ◌&&◌, ◌||◌, ◌==◌, if◌then◌else◌}
 use Rattle.cbpf_syntax.specs.declared.piece.Lead.{Lead}
 use Rattle.cbpf_syntax.specs.declared.piece.Lead.TheVariants.{Blank, LineComment, Letter, Digit, Slash, Single, Other}
-use Rattle.cbpf_syntax.specs.Bytes.{is_blank, is_digit, is_letter, is_mark}
+use Rattle.cbpf_code.specs.WordTokens.{is_blank, is_digit}
+use Rattle.cbpf_syntax.specs.Bytes.{is_letter, is_mark}
 
 -- `fresh` says that the line before the byte has only blanks
 unfoldable pub lead_of : Bool → ℕ → Lead

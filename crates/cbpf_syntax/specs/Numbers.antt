@@ -2,7 +2,7 @@
 -- ones; all others are this project's own.
 use Rattle.std.specs.Prelude.{◌≡◌, ◌^◌, min, ℕ, ◌+◌, ◌-◌, ◌*◌, ◌&&◌, List, [], ◌∷◌, nat_lt, nat_le, ◌==◌}
 use Rattle.std.specs.Prelude.{if◌then◌else◌, Option, Some, None}
-use Rattle.cbpf_syntax.specs.Bytes.{is_digit}
+use Rattle.cbpf_code.specs.WordTokens.{is_digit}
 
 -- the value of a digit of either case, and 16 for any other byte
 unfoldable pub digit_value : ℕ → ℕ

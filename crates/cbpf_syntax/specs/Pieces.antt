@@ -11,7 +11,8 @@ use Rattle.cbpf_syntax.specs.declared.piece.PieceKind.TheVariants.{Blanks, Comme
 use Rattle.cbpf_syntax.specs.declared.piece.Piece.{Piece}
 use Rattle.cbpf_syntax.specs.declared.piece.Lead.{Lead}
 use Rattle.cbpf_syntax.specs.declared.piece.Lead.TheVariants.{Blank, LineComment, Letter, Digit, Slash, Single, Other}
-use Rattle.cbpf_syntax.specs.Bytes.{is_blank, is_name_byte}
+use Rattle.cbpf_code.specs.WordTokens.{is_blank}
+use Rattle.cbpf_syntax.specs.Bytes.{is_name_byte}
 use Rattle.cbpf_syntax.specs.Leads.{lead_of}
 use Rattle.cbpf_syntax.specs.Numbers.{number_value, number_limit}
 

@@ -2,21 +2,11 @@
 
 ghost use Rattle.std.specs.Prelude.{not, ◌==◌, ◌≡◌, ◌≤◌, length};
 ghost use Rattle.std.specs.List.{prefix_len};
-ghost use Rattle.cbpf_syntax.specs.Bytes.{is_blank, is_digit, is_name_byte};
+ghost use Rattle.cbpf_code.specs.WordTokens.{is_blank};
+ghost use Rattle.cbpf_syntax.specs.Bytes.{is_name_byte};
 ghost use Rattle.cbpf_syntax.specs.Pieces.{is_line_blank};
 
-/// A space, a tab, a newline or a carriage return.
-pub(crate) fn is_blank(b: u8) -> bool
-    ensures { result ≡ is_blank b }
-{
-    b <= b' ' && matches!(b, b' ' | b'\t' | b'\n' | b'\r')
-}
-
-pub(crate) fn is_digit(b: u8) -> bool
-    ensures { result ≡ is_digit b }
-{
-    b >= b'0' && b <= b'9'
-}
+use cbpf_code::is_blank;
 
 // A byte maps to itself if it may stand in a name, else to a dot.
 static NAME_BYTES: [u8; 256] = *b"\

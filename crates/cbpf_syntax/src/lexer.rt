@@ -4,9 +4,9 @@ ghost use Rattle.std.specs.Prelude.{◌≡◌, ◌≤◌, length, IfOk, IfErr, I
 ghost use Rattle.cbpf_syntax.specs.Tokens.{Lexes, IsLexFault, IsSpanOf, line_of};
 ghost use Rattle.cbpf_syntax.specs.TokenReading.{IsNextToken, HasNoMore, IsNextFault};
 
-use crate::bytes::is_blank;
 use crate::piece::{PieceKind, bad_piece_of, next_piece};
 use crate::token::{LexFault, Token};
+use cbpf_code::is_blank;
 use std::alloc::Allocator;
 use std::marker::Model;
 

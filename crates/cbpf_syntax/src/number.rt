@@ -3,7 +3,7 @@
 ghost use Rattle.std.specs.Prelude.{◌≡◌, ◌^◌, ◌≤◌, ◌∷◌};
 ghost use Rattle.cbpf_syntax.specs.Numbers.{digit_value, number_value, digits_value, some_digits_value, IsCapped};
 
-use crate::bytes::is_digit;
+use cbpf_code::is_digit;
 
 /// The least number that is too large. It stands for all larger ones too.
 pub const LIMIT: u64 = 1 << 32;

@@ -9,7 +9,8 @@ use Rattle.std.specs.Str.Parse.{AllDigits, digits_value_after}
 use Rattle.std.proofs.lemmas.Fmt.{digits_is_IsNumeral, first_decimal, decimal_digit}
 use Rattle.std.proofs.lemmas.Bool.{agree_below, and_parts}
 use Rattle.std.proofs.lemmas.Bool.Decides.{nat_tests}
-use Rattle.cbpf_syntax.specs.Bytes.{is_digit, is_name_byte}
+use Rattle.cbpf_code.specs.WordTokens.{is_digit}
+use Rattle.cbpf_syntax.specs.Bytes.{is_name_byte}
 use Rattle.cbpf_syntax.specs.Numbers.{digit_value, digits_value, number_value}
 use Rattle.cbpf_code.specs.Text.{hex}
 use Rattle.cbpf_syntax.proofs.Spelled.{holds_below, implied, Segment, IsSegment}

@@ -1,7 +1,7 @@
 use Rattle.std.proofs.Common.{◌≡◌, ◌≤◌, length, take, true, ◌||◌, ◌&&◌}
 use Rattle.std.specs.Prelude.{◌==◌}
 use Rattle.std.specs.List.{fold}
-use Rattle.cbpf_syntax.specs.Bytes.{is_blank}
+use Rattle.cbpf_code.specs.WordTokens.{is_blank}
 use Rattle.cbpf_syntax.proofs.bytes.is_line_blank.Given as goal
 
 -- the bytes after are blanks of the last line

@@ -1,5 +1,5 @@
 use Rattle.std.proofs.Common.{rules, arith, List, ◌≡◌, ◌∙◌, sym, subst, get_or, false}
-use Rattle.cbpf_syntax.specs.Bytes.{is_blank}
+use Rattle.cbpf_code.specs.WordTokens.{is_blank}
 use Rattle.cbpf_syntax.specs.Pieces.{IsPieceAt}
 use Rattle.cbpf_syntax.proofs.Runs.{to_run_end, to_here}
 use Rattle.cbpf_syntax.proofs.Cuts.{next_at, piece_within, piece_some, token_more, piece_more}
