@@ -1,7 +1,7 @@
 //! The classes of tokens.
 
 /// What may stand at a place of a form.
-#[derive(Clone, Copy, Debug)]
+#[derive(Clone, Copy)]
 pub enum Class {
     /// The word of these bytes.
     Word(&'static [u8]),

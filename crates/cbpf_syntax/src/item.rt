@@ -12,7 +12,7 @@ use crate::table::Fields;
 use cbpf_code::Op;
 
 /// One form of an instruction.
-#[derive(Clone, Copy, Debug)]
+#[derive(Clone, Copy)]
 pub struct Row {
     pub mnemonic: &'static [u8],
     /// The classes of the tokens after the mnemonic.

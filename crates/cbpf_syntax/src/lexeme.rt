@@ -8,7 +8,7 @@ ghost use Rattle.cbpf_syntax.specs.Views.{lexeme_of};
 use crate::token::{Kind, Token};
 
 /// A token by what it says.
-#[derive(Clone, Copy, Debug)]
+#[derive(Clone, Copy)]
 pub enum Symbol<'a> {
     /// The bytes of a word.
     Word(&'a [u8]),
@@ -19,7 +19,7 @@ pub enum Symbol<'a> {
 }
 
 /// A symbol, and the place of its first byte in the text, counted from 0.
-#[derive(Clone, Copy, Debug)]
+#[derive(Clone, Copy)]
 pub struct Lexeme<'a> {
     pub symbol: Symbol<'a>,
     pub at: usize,

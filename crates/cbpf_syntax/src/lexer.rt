@@ -19,7 +19,7 @@ pub fn line_of(text: &[u8], at: usize) -> u64
 }
 
 /// A source text, and how far its tokens were taken.
-#[derive(Debug, Drop)]
+#[derive(Drop)]
 pub struct Lexer<'a> {
     text: &'a [u8],
     /// Where the next piece begins.

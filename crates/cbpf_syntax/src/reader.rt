@@ -24,7 +24,7 @@ use std::marker::Model;
 const CHUNK: usize = 128;
 
 /// What stands at the front of tokens.
-#[derive(Clone, Copy, Debug)]
+#[derive(Clone, Copy)]
 pub enum Step {
     /// A word that isn't reserved, and a colon.
     Label,
