@@ -116,9 +116,10 @@ impl<T: Trail, A: Allocator> Session<T, A> {
         if place.packet == 0 || place.packet > count {
             return Err(SessionFault::NoPacket);
         }
-        resume_at(meter, &loaded, &mut self.cursor, &mut self.trail, place).map_err(
-            SessionFault::NoStep,
-        )
+        match resume_at(meter, &loaded, &mut self.cursor, &mut self.trail, place) {
+            Ok(()) => Ok(()),
+            Err(steps) => Err(SessionFault::NoStep(steps)),
+        }
     }
 
     /// Goes on by `n` entries, or back by `-n` entries of the same packet, whatever hits lie between.
