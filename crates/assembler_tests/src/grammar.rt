@@ -1,12 +1,15 @@
 //! What sources stand for, by hand.
 
-use crate::assertions::assert_at;
+use crate::assertions::{Test, assert_at};
 use cbpf_code::code_of;
 use cbpf_syntax::{Fields, Reader, Row, Step, SyntaxFault};
 use std::alloc::Global;
 
-/// Each mnemonic with each of its modes, and all spellings of each mode once: sources of one item, with its code.
-static ITEMS: [(&[u8], u16, Fields); 111] = [
+/// A source of one item, with its code.
+type Item = (&'static [u8], u16, Fields);
+
+/// Each mnemonic with each of its modes: loads and stores.
+static LOADS: [Item; 23] = [
     (b"ld [12]", 32, Fields::Constant),
     (b"ld [x + 12]", 64, Fields::Constant),
     (b"ld rand", 32, Fields::Constant),
@@ -30,6 +33,10 @@ static ITEMS: [(&[u8], u16, Fields); 111] = [
     (b"ldxb 4*([14]&0xf)", 177, Fields::Constant),
     (b"st M[0]", 2, Fields::Constant),
     (b"stx M[0]", 3, Fields::Constant),
+];
+
+/// The jumps.
+static JUMPS: [Item; 26] = [
     (b"jmp l", 5, Fields::Goto),
     (b"ja l", 5, Fields::Goto),
     (b"jeq #1, t", 21, Fields::Branch),
@@ -56,6 +63,10 @@ static ITEMS: [(&[u8], u16, Fields); 111] = [
     (b"jlt x, f", 61, Fields::Swapped),
     (b"jle #1, f", 37, Fields::Swapped),
     (b"jle x, f", 45, Fields::Swapped),
+];
+
+/// The others.
+static OTHERS: [Item; 25] = [
     (b"add #1", 4, Fields::Constant),
     (b"add x", 12, Fields::Constant),
     (b"sub #1", 20, Fields::Constant),
@@ -81,7 +92,10 @@ static ITEMS: [(&[u8], u16, Fields); 111] = [
     (b"txa", 135, Fields::Constant),
     (b"ret #1", 6, Fields::Constant),
     (b"ret a", 22, Fields::Constant),
-    // Options of the forms.
+];
+
+/// Options of the forms, and all spellings of each mode once.
+static OPTIONS: [Item; 37] = [
     (b"ld [+12]", 32, Fields::Constant),
     (b"ld [-12]", 32, Fields::Constant),
     (b"ld [x + -1]", 64, Fields::Constant),
@@ -177,73 +191,98 @@ static FAULTS: [(&[u8], SyntaxFault); 46] = [
     ),
 ];
 
-/// What the steps over a source come to.
-#[derive(Drop)]
-enum Outcome {
-    Items(Vec<Row>),
+/// What stands next.
+#[derive(Clone, Copy)]
+enum Next {
+    Label,
+    Item(Row),
+    End,
     Refused(SyntaxFault),
     /// The source has a bad piece, or the allocator refused.
     Unread,
 }
 
-fn read(alloc: Global, source: &[u8]) -> Outcome {
-    let mut reader = Reader::new(alloc, source);
-    let mut items = Vec::new(alloc);
-    let mut labelled = false;
-    for _ in 0..=source.len() {
-        match reader.step() {
-            Err(_) => return Outcome::Unread,
-            Ok(None) if labelled => return Outcome::Refused(reader.fault(0)),
-            Ok(None) => {
-                return match reader.large() {
-                    Some(at) => Outcome::Refused(SyntaxFault::LargeNegative(at)),
-                    None => Outcome::Items(items),
-                };
-            }
-            Ok(Some(Step::Label)) => {
-                reader.take(2);
-                labelled = true;
-            }
-            Ok(Some(Step::Instruction(row))) => {
-                reader.take(1 + row.operand.len());
-                labelled = false;
-                if items.push(row).is_err() {
-                    return Outcome::Unread;
-                }
-            }
-            Ok(Some(Step::Stuck(n))) => return Outcome::Refused(reader.fault(n)),
+/// What stands next, after a label or not.
+fn read_next(reader: &mut Reader<'_, Global>, labelled: bool) -> Next {
+    match reader.step() {
+        Err(_) => Next::Unread,
+        Ok(None) if labelled => Next::Refused(reader.fault(0)),
+        Ok(None) => match reader.large() {
+            Some(at) => Next::Refused(SyntaxFault::LargeNegative(at)),
+            None => Next::End,
+        },
+        Ok(Some(Step::Label)) => {
+            reader.take(2);
+            Next::Label
         }
+        Ok(Some(Step::Instruction(row))) => {
+            reader.take(1 + row.operand.len());
+            Next::Item(row)
+        }
+        Ok(Some(Step::Stuck(n))) => Next::Refused(reader.fault(n)),
     }
-    Outcome::Unread
 }
 
-fn is_item(items: &[Row], code: u16, fields: Fields) -> bool {
-    match items {
-        [item] => code_of(item.op) == code && item.fields == fields,
-        _ => false,
+/// The number of a source's items, the last one, and what ends them.
+fn read(alloc: Global, source: &[u8]) -> (u32, Option<Row>, Next) {
+    let mut reader = Reader::new(alloc, source);
+    let (mut count, mut item, mut labelled) = (0u32, None, false);
+    for _ in 0..=source.len() {
+        match read_next(&mut reader, labelled) {
+            Next::Label => labelled = true,
+            Next::Item(row) => {
+                (count, item, labelled) = (count.saturating_add(1), Some(row), false);
+            }
+            end => return (count, item, end),
+        }
     }
+    (count, item, Next::Unread)
 }
 
 /// Whether the source is one item of this code.
 fn has_item(alloc: Global, source: &[u8], code: u16, fields: Fields) -> bool {
     match read(alloc, source) {
-        Outcome::Items(items) => is_item(&items, code, fields),
+        (1, Some(item), Next::End) => code_of(item.op) == code && item.fields == fields,
         _ => false,
     }
 }
 
 fn is_refused(alloc: Global, source: &[u8], fault: SyntaxFault) -> bool {
     match read(alloc, source) {
-        Outcome::Refused(found) => found == fault,
+        (_, _, Next::Refused(found)) => found == fault,
         _ => false,
     }
 }
 
+fn assert_items(rt: &impl Test, items: &[Item]) {
+    for (row, (source, code, fields)) in items.iter().enumerate() {
+        assert_at(rt, row, has_item(rt.alloc(), source, *code, *fields));
+    }
+}
+
+// A call for each table: a proof grows with the square of the rows that its function sees.
+fn loads(rt: &impl Test) {
+    assert_items(rt, &LOADS);
+}
+
+fn jumps(rt: &impl Test) {
+    assert_items(rt, &JUMPS);
+}
+
+fn others(rt: &impl Test) {
+    assert_items(rt, &OTHERS);
+}
+
+fn options(rt: &impl Test) {
+    assert_items(rt, &OPTIONS);
+}
+
 #[test]
 fn worked_sources(rt: HostRuntime) {
-    for (row, (source, code, fields)) in ITEMS.iter().enumerate() {
-        assert_at(&rt, row, has_item(rt.alloc(), source, *code, *fields));
-    }
+    loads(&rt);
+    jumps(&rt);
+    others(&rt);
+    options(&rt);
 }
 
 #[test]

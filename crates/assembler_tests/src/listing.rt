@@ -1,6 +1,6 @@
 //! Worked listings, and one line of each operation.
 
-use crate::assertions::Test;
+use crate::assertions::{Test, assert_at};
 use cbpf_code::{Program, WriteFault, check, read_words, write_line, write_lines};
 use std::process::Abort;
 
@@ -69,10 +69,9 @@ fn program_of(rt: &impl Test, words: &[u8]) -> Program {
     check(list).ok().expect(rt, "a program")
 }
 
-fn assert_listing(rt: &impl Test, program: &Program, wanted: &[u8], row: usize) {
+fn is_listed(rt: &impl Test, program: &Program, wanted: &[u8]) -> bool {
     let mut text = Vec::new(rt.alloc());
-    assert!(rt; write_lines(&mut text, program).is_ok());
-    assert!(rt; text.as_slice() == wanted, "row {row}");
+    write_lines(&mut text, program).is_ok() && text.as_slice() == wanted
 }
 
 fn assert_two_lines(rt: &impl Abort, program: &Program) {
@@ -89,7 +88,7 @@ fn assert_two_lines(rt: &impl Abort, program: &Program) {
 fn worked_listings(rt: HostRuntime) {
     for (row, (words, wanted)) in LISTINGS.iter().enumerate() {
         let program = program_of(&rt, words);
-        assert_listing(&rt, &program, wanted, row);
+        assert_at(&rt, row, is_listed(&rt, &program, wanted));
         if program.len() == 2 {
             assert_two_lines(&rt, &program);
         }

@@ -24,8 +24,11 @@ fn is_number(text: &[u8], digits: &[u8], least: usize) -> bool {
 
 fn assert_decimal(rt: &impl Test, n: u128) {
     let mut text = Vec::new(rt.alloc());
-    assert!(rt; write_decimal(&mut text, n).is_ok(), "{n}");
-    assert!(rt; is_number(&text, &decimal_digits(n), 1), "{n}");
+    let is_written = write_decimal(&mut text, n).is_ok();
+    assert!(rt;
+        is_written && is_number(&text, &decimal_digits(n), 1),
+        "{n}"
+    );
 }
 
 /// A number and those on both sides of it.
@@ -62,11 +65,9 @@ fn assert_hex(rt: &impl Test, n: u32, least: u32)
     requires { (1 ≤ least) × (least ≤ 8) }
 {
     let mut text = Vec::new(rt.alloc());
-    assert!(rt; write_hex(&mut text, n, least).is_ok(), "{n} {least}");
-    assert!(rt;
-        is_number(&text, &hex_digits(n), least as usize),
-        "{n} {least}"
-    );
+    let is_written = write_hex(&mut text, n, least).is_ok();
+    let is_wanted = is_written && is_number(&text, &hex_digits(n), least as usize);
+    assert!(rt; is_wanted, "{n} {least}");
 }
 
 fn assert_hex_of_each_length(rt: &impl Test, n: u32) {

@@ -96,18 +96,10 @@ fn fault_at_end(marks: &[Mark], length: usize) -> Option<WordFault> {
 
 /// Whether an instruction is the four numbers from this mark on.
 fn is_at(marks: &[Mark], first: usize, insn: Insn) -> bool {
-    let fields = [
-        u64::from(insn.code),
-        u64::from(insn.jt),
-        u64::from(insn.jf),
-        u64::from(insn.k),
-    ];
-    for (i, field) in fields.iter().enumerate() {
-        if number_at(marks, first.saturating_add(i)) != *field {
-            return false;
-        }
-    }
-    true
+    number_at(marks, first) == u64::from(insn.code)
+        && number_at(marks, first.saturating_add(1)) == u64::from(insn.jt)
+        && number_at(marks, first.saturating_add(2)) == u64::from(insn.jf)
+        && number_at(marks, first.saturating_add(3)) == u64::from(insn.k)
 }
 
 /// Whether the instructions are the numbers after the count.

@@ -1,3 +1,4 @@
+use crate::assertions::assert_at;
 use cbpf_code::{
     AluOp, Cond, Ext, Op, Size, Src, code_of, ext_at, ext_name, ext_named, ext_offset, op_of,
 };
@@ -94,18 +95,15 @@ fn each_code(rt: &impl Abort) {
 
 fn each_operation(rt: &impl Abort) {
     for (code, op) in &OPERATIONS {
-        assert!(rt; op_of(*code) == Some(*op), "{code}");
+        assert_at(rt, usize::from(*code), op_of(*code) == Some(*op));
     }
 }
 
-fn assert_extension(rt: &impl Abort, ext: Ext, offset: u32, name: &str) {
-    assert!(rt; ext_offset(ext) == offset);
-    assert!(rt;
-        ext_at(4294963200u32.saturating_add(offset)) == Some(ext),
-        "{name}"
-    );
-    assert!(rt; ext_name(ext) == name, "{name}");
-    assert!(rt; ext_named(name.as_bytes()) == Some(ext), "{name}");
+fn is_extension(ext: Ext, offset: u32, name: &str) -> bool {
+    ext_offset(ext) == offset
+        && ext_at(4294963200u32.saturating_add(offset)) == Some(ext)
+        && ext_name(ext) == name
+        && ext_named(name.as_bytes()) == Some(ext)
 }
 
 static NO_PLACES: [u32; 6] = [
@@ -116,10 +114,10 @@ static NO_NAMES: [&[u8]; 5] = [b"len", b"", b"Rand", b"ran", b"rand "];
 
 fn no_extension(rt: &impl Abort) {
     for k in &NO_PLACES {
-        assert!(rt; ext_at(*k).is_none(), "{k}");
+        assert_at(rt, *k as usize, ext_at(*k).is_none());
     }
-    for name in &NO_NAMES {
-        assert!(rt; ext_named(name).is_none(), "{name:?}");
+    for (row, name) in NO_NAMES.iter().enumerate() {
+        assert_at(rt, row, ext_named(name).is_none());
     }
 }
 
@@ -128,7 +126,7 @@ fn codes_and_extensions(rt: HostRuntime) {
     each_code(&rt);
     each_operation(&rt);
     for (ext, offset, name) in &EXTENSIONS {
-        assert_extension(&rt, *ext, *offset, name);
+        assert_at(&rt, *offset as usize, is_extension(*ext, *offset, name));
     }
     no_extension(&rt);
 }

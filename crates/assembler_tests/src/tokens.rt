@@ -115,13 +115,6 @@ fn are_kinds(found: &[Token], wanted: &[Kind]) -> bool {
     found.len() == wanted.len()
 }
 
-fn has_kinds(alloc: Global, text: &[u8], wanted: &[Kind]) -> bool {
-    match tokens(alloc, text) {
-        Ok(found) => are_kinds(&found, wanted),
-        Err(_) => false,
-    }
-}
-
 /// Whether tokens are of these kinds, between these starts and ends.
 fn are_placed(found: &[Token], wanted: &[(Kind, usize, usize)]) -> bool {
     for (token, row) in found.iter().zip(wanted) {
@@ -132,16 +125,14 @@ fn are_placed(found: &[Token], wanted: &[(Kind, usize, usize)]) -> bool {
     found.len() == wanted.len()
 }
 
-fn has_placed(alloc: Global, text: &[u8], wanted: &[(Kind, usize, usize)]) -> bool {
-    match tokens(alloc, text) {
-        Ok(found) => are_placed(&found, wanted),
-        Err(_) => false,
-    }
+fn tokens_of(rt: &impl Test, text: &[u8]) -> Vec<Token> {
+    tokens(rt.alloc(), text).expect(rt, "tokens")
 }
 
 /// Whether the whole text is this number.
-fn is_number(alloc: Global, text: &[u8], value: u32) -> bool {
-    has_placed(alloc, text, &[(Kind::Number(value), 0, text.len())])
+fn is_number(rt: &impl Test, text: &[u8], value: u32) -> bool {
+    let found = tokens_of(rt, text);
+    are_placed(&found, &[(Kind::Number(value), 0, text.len())])
 }
 
 fn is_bad(alloc: Global, text: &[u8], bad: BadPiece, line: u64) -> bool {
@@ -151,14 +142,14 @@ fn is_bad(alloc: Global, text: &[u8], bad: BadPiece, line: u64) -> bool {
 #[test]
 fn each_kind(rt: HostRuntime) {
     for (row, (text, wanted)) in KINDS.iter().enumerate() {
-        assert_at(&rt, row, has_kinds(rt.alloc(), text, wanted));
+        assert_at(&rt, row, are_kinds(&tokens_of(&rt, text), wanted));
     }
 }
 
 #[test]
 fn each_number(rt: HostRuntime) {
     for (row, (text, value)) in NUMBERS.iter().enumerate() {
-        assert_at(&rt, row, is_number(rt.alloc(), text, *value));
+        assert_at(&rt, row, is_number(&rt, text, *value));
     }
 }
 
@@ -172,7 +163,7 @@ fn each_fault(rt: HostRuntime) {
 #[test]
 fn each_place(rt: HostRuntime) {
     let placed = [(WORD, 0, 2), (HASH, 3, 4), (Kind::Number(5), 4, 7)];
-    assert!(rt; has_placed(rt.alloc(), b"ld #0x5", &placed));
+    assert!(rt; are_placed(&tokens_of(&rt, b"ld #0x5"), &placed));
 }
 
 /// A piece many times, between a first and a last one, and the number of tokens. A lexer that goes back over
@@ -196,18 +187,11 @@ fn repeated(rt: &impl Test, first: &[u8], piece: &[u8], times: u32) -> Vec<u8> {
     text
 }
 
-fn has_count(alloc: Global, text: &[u8], count: usize) -> bool {
-    match tokens(alloc, text) {
-        Ok(found) => found.len() == count,
-        Err(_) => false,
-    }
-}
-
 #[test]
 fn long_texts_take_no_long_time(rt: HostRuntime) {
     for (row, (first, piece, times, last, count)) in LONG.iter().enumerate() {
         let mut text = repeated(&rt, first, piece, *times);
         text.extend_from_slice(last).expect(&rt, "memory");
-        assert_at(&rt, row, has_count(rt.alloc(), &text, *count));
+        assert_at(&rt, row, tokens_of(&rt, &text).len() == *count);
     }
 }

@@ -1,6 +1,7 @@
+use crate::assertions::{Test, assert_at};
 use crate::lists::{Fields, list_of};
 use cbpf_code::{
-    WriteFault, read_words, write_bytes, write_c, write_decimal, write_hex, write_parts,
+    Insn, WriteFault, read_words, write_bytes, write_c, write_decimal, write_hex, write_parts,
     write_words,
 };
 
@@ -53,17 +54,17 @@ static LISTS: [(&[Fields], &[u8], &[u8]); 3] = [
     ),
 ];
 
+/// Whether a list is written as these words and in this C form, and the words are read as the list.
+fn has_forms(rt: &impl Test, list: &[Insn], words: &[u8], c: &[u8]) -> bool {
+    let (mut text, mut c_text) = (Vec::new(rt.alloc()), Vec::new(rt.alloc()));
+    assert!(rt; write_words(&mut text, list).is_ok() && write_c(&mut c_text, list).is_ok());
+    let back = read_words(rt.alloc(), &text).expect(rt, "a list");
+    text.as_slice() == words && c_text.as_slice() == c && back.as_slice() == list
+}
+
 #[test]
 fn forms_of_instructions(rt: HostRuntime) {
     for (row, (fields, words, c)) in LISTS.iter().enumerate() {
-        let list = list_of(&rt, fields);
-        let mut text = Vec::new(rt.alloc());
-        assert!(rt; write_words(&mut text, &list).is_ok());
-        assert!(rt; text.as_slice() == *words, "row {row}");
-        let back = read_words(rt.alloc(), &text).expect(&rt, "a list");
-        assert!(rt; back.as_slice() == list.as_slice(), "row {row}");
-        let mut text = Vec::new(rt.alloc());
-        assert!(rt; write_c(&mut text, &list).is_ok());
-        assert!(rt; text.as_slice() == *c, "row {row}");
+        assert_at(&rt, row, has_forms(&rt, &list_of(&rt, fields), words, c));
     }
 }

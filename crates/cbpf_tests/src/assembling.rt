@@ -1,8 +1,7 @@
 // The assembler over readers, flushes and allocators that fail at one call.
-use crate::assertions::Test;
+use crate::assertions::{Test, assert_named};
 use crate::fault_injection::{ERROR_KINDS, Fault, FaultyAllocator, FaultyReader, FaultyWriter};
 use crate::inputs::{ARP, ARP_C, ARP_WORDS};
-use crate::named_assertion::assert_named;
 use cbpf_text::{AsmFault, AsmKind};
 use cbpf_tool::{Form, ToolFault, asm};
 use std::io::ErrorKind;

@@ -1,5 +1,6 @@
 //! Assertions of tables and loops, whose failures show at which numbers they failed.
 
+use std::fmt::Debug;
 use std::process::Abort;
 
 /// The runtime of a test, which can end it, and gives memory.
@@ -20,4 +21,9 @@ pub fn assert_at_both(rt: &impl Abort, a: u32, b: u32, holds: bool) {
 /// Of a row of a table that shows something.
 pub fn assert_shown(rt: &impl Abort, shows: &str, row: usize, holds: bool) {
     assert!(rt; holds, "{shows}: row {row}");
+}
+
+/// Names what was to hold, and the place, such as a row and a growth.
+pub fn assert_named<P: Debug + Drop>(rt: &impl Abort, holds: bool, what: &str, place: P) {
+    assert!(rt; holds, "{what} at {place:?}");
 }

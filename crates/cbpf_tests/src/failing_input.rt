@@ -1,8 +1,7 @@
 // A reader that gives a few bytes a call, and fails at one call.
-use crate::assertions::Test;
+use crate::assertions::{Test, assert_named};
 use crate::fault_injection::{ERROR_KINDS, Fault, FaultyReader, FaultyWriter};
 use crate::inputs::{ARP_SCRIPT, ARP_SCRIPT_REPLIES};
-use crate::named_assertion::assert_named;
 use cbpf_tool::{MemoryFiles, ToolFault, debug};
 use std::alloc::Global;
 use std::io::ErrorKind;

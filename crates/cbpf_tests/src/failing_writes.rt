@@ -1,11 +1,10 @@
 // The calls that write, over writers that take one byte a call, and fail or take nothing at one call.
-use crate::assertions::Test;
+use crate::assertions::{Test, assert_named};
 use crate::fault_injection::{Fault, FaultyWriter};
 use crate::inputs::{
     ARP, ARP_C, ARP_SCRIPT, ARP_SCRIPT_REPLIES, ARP_WORDS, ICMP_WORDS, program_of, session_of,
     two_packets_as_k,
 };
-use crate::named_assertion::assert_named;
 use cbpf_code::{WriteFault, write_bytes, write_c, write_words};
 use cbpf_dbg::{MarkTrail, Meter, RunReply, Session};
 use cbpf_text::write_listing;

@@ -1,11 +1,10 @@
 // What was asked for of an allocator is given back: by loads that take the place of others, by refused loads,
 // by breakpoints that are set and taken out, and by what is dropped.
-use crate::assertions::Test;
+use crate::assertions::{Test, assert_named};
 use crate::fault_injection::FaultyAllocator;
 use crate::inputs::{
     ARP, HEADER, ICMP_WORDS, RECORD, STRAIGHT, program_of, repeated, two_packets, two_packets_as_k,
 };
-use crate::named_assertion::assert_named;
 use cbpf_code::{check, read_words};
 use cbpf_dbg::{ListTrail, MarkTrail, Session, Trail, When};
 use cbpf_text::{assemble, tokens};

@@ -1,7 +1,6 @@
 // Calls at sizes near their greatest sensible ones, with memory at hand, which no script of the program makes.
-use crate::assertions::Test;
+use crate::assertions::{Test, assert_named};
 use crate::inputs::{HEADER, RECORD, STRAIGHT, program_of, repeated};
-use crate::named_assertion::assert_named;
 use cbpf_dbg::{Counts, MarkTrail, Meter, Place, Session, Stop};
 use cbpf_text::tokens;
 use cbpf_tool::{Files, MemoryFiles};

@@ -41,8 +41,6 @@ mod machine_trail;
 #[cfg(test)]
 mod memory_host;
 #[cfg(test)]
-mod named_assertion;
-#[cfg(test)]
 mod programs;
 #[cfg(test)]
 mod refused_calls;

@@ -4,7 +4,8 @@ ghost use Rattle.cbpf_machine.specs.Trace.{trace};
 ghost use Rattle.cbpf_machine.specs.Values.{no_values};
 
 use crate::assertions::{Test, assert_at, assert_at_both};
-use cbpf_code::{Insn, Program, check};
+use crate::programs::program_of;
+use cbpf_code::Program;
 use cbpf_machine::{
     Before, Followed, ListTrail, MarkTrail, Meter, Outcome, Packet, State, Trail, Values, Watched,
     When, follow_on, follow_packet,
@@ -21,15 +22,9 @@ fn counting(rt: &impl Test) -> Program {
             _ if i % 2 == 1 => (4, 1),
             _ => (2, 3),
         };
-        list.push(Insn {
-            code,
-            jt: 0,
-            jf: 0,
-            k,
-        })
-        .expect(rt, "memory");
+        list.push((code, 0, 0, k)).expect(rt, "memory");
     }
-    check(list).ok().expect(rt, "a program")
+    program_of(rt, &list)
 }
 
 const EMPTY: Packet<'static> = Packet {

@@ -1,10 +1,9 @@
 // Calls of which each growth is refused, one after another, and which run out of memory only then.
-use crate::assertions::Test;
+use crate::assertions::{Test, assert_named};
 use crate::fault_injection::FaultyAllocator;
 use crate::inputs::{
     HEADER, ICMP_WORDS, RECORD, STRAIGHT, TWO_PACKETS, repeated, session_of, two_packets_as_k,
 };
-use crate::named_assertion::assert_named;
 use cbpf_code::{WordFault, read_words};
 use cbpf_dbg::{ListTrail, MarkTrail, Meter, Session, SessionFault, Stop, When};
 use cbpf_text::{AsmFault, assemble, tokens};

@@ -1,8 +1,7 @@
 // Scripts of which each growth is refused, one after another.
-use crate::assertions::Test;
+use crate::assertions::{Test, assert_named};
 use crate::fault_injection::{Fault, FaultyAllocator, FaultyWriter};
 use crate::inputs::two_packets_as_k;
-use crate::named_assertion::assert_named;
 use cbpf_tool::{ToolFault, debug};
 use std::process::Abort;
 

@@ -44,7 +44,8 @@ const WITH_TWO_BREAKPOINTS: &[Row] = &[
     Row::Break(4, When::Always, Ok(())),
 ];
 
-const SESSIONS: &[Shown] = &[
+/// Runs, with conditions and limits.
+const RUNS: &[Shown] = &[
     (
         "each hit once and in order, also from the start again",
         WITH_TWO_BREAKPOINTS,
@@ -118,7 +119,6 @@ const SESSIONS: &[Shown] = &[
             Row::Mark(1, 0),
         ],
     ),
-    // Conditions and limits.
     (
         "a condition on A, and one on X, which is 0 at each instruction",
         LOADED,
@@ -142,7 +142,9 @@ const SESSIONS: &[Shown] = &[
             Row::Run(Some(18446744073709551615), Finishes(1, 1, 0), Exactly(5)),
         ],
     ),
-    // Places.
+];
+
+const PLACES: &[Shown] = &[
     (
         "a saved place gives the rest, and counts from its packet",
         WITH_TWO_BREAKPOINTS,
@@ -205,7 +207,9 @@ const SESSIONS: &[Shown] = &[
             Row::Run(None, Finishes(1, 1, 0), Exactly(8)),
         ],
     ),
-    // Steps.
+];
+
+const STEPS: &[Shown] = &[
     (
         "steps both ways",
         WITH_TWO_BREAKPOINTS,
@@ -305,14 +309,24 @@ fn check_sessions(rt: &impl Test, sessions: &[Shown]) {
     }
 }
 
-/// The table by a call, so that proofs do not carry its rows.
-fn sessions() -> &'static [Shown] {
-    SESSIONS
+// Each table by a call, so that proofs do not carry all rows.
+fn runs() -> &'static [Shown] {
+    RUNS
+}
+
+fn places() -> &'static [Shown] {
+    PLACES
+}
+
+fn steps() -> &'static [Shown] {
+    STEPS
 }
 
 #[test]
 fn sessions_over_two_packets(rt: HostRuntime) {
-    check_sessions(&rt, sessions());
+    check_sessions(&rt, runs());
+    check_sessions(&rt, places());
+    check_sessions(&rt, steps());
     check_sessions(&rt, values());
     assert!(rt; places_are_in_order());
 }

@@ -1,8 +1,7 @@
 // Large inputs: thousands of records, instructions, tokens and breakpoints, with memory at hand.
-use crate::assertions::Test;
+use crate::assertions::{Test, assert_named};
 use crate::fault_injection::FaultyReader;
 use crate::inputs::{HEADER, RECORD, program_of, repeated};
-use crate::named_assertion::assert_named;
 use cbpf_code::read_words;
 use cbpf_dbg::{MarkTrail, Session, SessionFault, When};
 use cbpf_text::{assemble, tokens, write_listing};

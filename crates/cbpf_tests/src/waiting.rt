@@ -1,10 +1,9 @@
 // A reader and a writer that share a count. Before each read that waits, and before each command that may take
 // long, the replies so far are written and flushed; nothing is flushed twice; and after a flush that fails
 // nothing is read and nothing is written.
-use crate::assertions::Test;
+use crate::assertions::{Test, assert_named};
 use crate::fault_injection::ERROR_KINDS;
 use crate::inputs::two_packets_as_k;
-use crate::named_assertion::assert_named;
 use cbpf_tool::{ToolFault, debug};
 use std::cell::Cell;
 use std::io;

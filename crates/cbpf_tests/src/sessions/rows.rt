@@ -137,18 +137,6 @@ fn matches_stops(found: &[Stop], wanted: &[(u64, u32, u32, u32)]) -> bool {
     found.len() == wanted.len()
 }
 
-fn matches_run<T: Trail>(
-    s: &mut Session<T>,
-    limit: Option<u64>,
-    answer: &Answer,
-    turns: &Turns,
-    keeps_all: bool,
-) -> bool {
-    let mut meter = Meter::new();
-    let reply = s.run(&mut meter, limit);
-    matches_answer(reply, answer) && matches_turns(&meter, turns, keeps_all)
-}
-
 fn matches_run_to_end<T: Trail>(
     rt: &impl Test,
     s: &mut Session<T>,
@@ -166,29 +154,6 @@ fn matches_run_to_end<T: Trail>(
     matches_answer(reply, &Answer::Finishes(passes, fails, unknown))
         && matches_stops(&found, stops)
         && matches_turns(&meter, turns, keeps_all)
-}
-
-fn matches_step<T: Trail>(
-    s: &mut Session<T>,
-    n: i64,
-    answer: &Answer,
-    turns: &Turns,
-    keeps_all: bool,
-) -> bool {
-    let mut meter = Meter::new();
-    let reply = s.step(&mut meter, n);
-    matches_answer(reply, answer) && matches_turns(&meter, turns, keeps_all)
-}
-
-fn matches_resume<T: Trail>(
-    s: &mut Session<T>,
-    place: Place,
-    answer: &Result<(), SessionFault>,
-    turns: &Turns,
-    keeps_all: bool,
-) -> bool {
-    let mut meter = Meter::new();
-    s.resume(&mut meter, place) == *answer && matches_turns(&meter, turns, keeps_all)
 }
 
 fn matches_list<T: Trail>(rt: &impl Test, s: &Session<T>, list: &[(u64, u32, u32, u32)]) -> bool {
@@ -229,18 +194,25 @@ fn matches_still<T: Trail>(s: &mut Session<T>, row: &Row) -> bool {
 
 /// Makes the call of a row that makes turns, or that `matches_still` makes.
 fn matches_call<T: Trail>(rt: &impl Test, s: &mut Session<T>, row: &Row, keeps_all: bool) -> bool {
+    let mut meter = Meter::new();
     match row {
-        Row::Run(limit, answer, turns) => matches_run(s, *limit, answer, turns, keeps_all),
+        Row::Run(limit, answer, turns) => {
+            let reply = s.run(&mut meter, *limit);
+            matches_answer(reply, answer) && matches_turns(&meter, turns, keeps_all)
+        }
         Row::RunToEnd(stops, ends, turns) => {
             matches_run_to_end(rt, s, stops, *ends, turns, keeps_all)
         }
-        Row::Step(n, answer, turns) => matches_step(s, *n, answer, turns, keeps_all),
+        Row::Step(n, answer, turns) => {
+            let reply = s.step(&mut meter, *n);
+            matches_answer(reply, answer) && matches_turns(&meter, turns, keeps_all)
+        }
         Row::Resume(packet, step, answer, turns) => {
             let place = Place {
                 packet: *packet,
                 step: *step,
             };
-            matches_resume(s, place, answer, turns, keeps_all)
+            s.resume(&mut meter, place) == *answer && matches_turns(&meter, turns, keeps_all)
         }
         _ => matches_still(s, row),
     }
