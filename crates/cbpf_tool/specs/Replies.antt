@@ -1,6 +1,6 @@
 -- What a line of a script replies, and the view of the session after it.
 use Rattle.std.specs.Prelude.{◌≡◌, ◌≤◌, ◌+◌, ◌-◌, ◌^◌, min, ℕ, List, [], length, Option, Some, None}
-use Rattle.std.specs.Prelude.{Result, Ok, Err, IsOk, nat_eq}
+use Rattle.std.specs.Prelude.{◌≢◌, Result, Ok, Err, IsOk, nat_eq}
 use Rattle.std.specs.FinMap as map
 use Rattle.std.specs.Map.{lookup}
 use Rattle.cbpf_code.specs.WordText.{Spells, Refused}
@@ -33,7 +33,7 @@ Reply = List ℕ × View
 
 -- `load bpf`: the word text's refusal, else the checker's, else the program is held
 pub data LoadsWords (m : View) (text : List ℕ) (reply : Reply) : Type 0 where
-  unreadable : (fault : WordFault) → Refused text fault → (fault ≡ Memory → ⊥) → reply ≡ (word_fault_text fault, m)
+  unreadable : (fault : WordFault) → Refused text fault → fault ≢ Memory → reply ≡ (word_fault_text fault, m)
       → LoadsWords m text reply
   unsound : (list : List Insn) (fault : CheckFault) → Spells text list → FirstFault list fault
       → reply ≡ (check_fault_text fault, m) → LoadsWords m text reply
@@ -42,7 +42,7 @@ pub data LoadsWords (m : View) (text : List ℕ) (reply : Reply) : Type 0 where
 
 -- `load pcap` of a file with these bytes: why they are no capture, else the capture is held
 pub data ReadsCapture (m : View) (bytes : List ℕ) (reply : Reply) : Type 0 where
-  no_capture : (fault : CaptureFault) → IsRefusal fault bytes → (fault ≡ capture_fault.Memory → ⊥)
+  no_capture : (fault : CaptureFault) → IsRefusal fault bytes → fault ≢ capture_fault.Memory
       → reply ≡ (capture_fault_text fault, m) → ReadsCapture m bytes reply
   a_capture : (capture : Savefile) → IsSavefile bytes capture
       → reply ≡ (capture_text capture, with_capture_loaded m capture) → ReadsCapture m bytes reply
