@@ -79,7 +79,7 @@ pub one_capture : OneCapture
 one_capture file c d h k =
     let magic = one_magic file h.order k.order c.nanos d.nanos h.magic k.magic in
     let link : d.link ≡ c.link = rw (magic.0) at k.link ∙ sym h.link in
-    let same = holds-once h.order 1 24 (drop 24 file) c.records d.records c.ending d.ending h.contents
+    let same = holds-once h.order 1 FILE_HEADER (drop FILE_HEADER file) c.records d.records c.ending d.ending h.contents
     (rw magic.0 at k.contents) in
     same_savefile c d magic.1 link same.0 same.1
 
