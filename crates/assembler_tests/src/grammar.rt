@@ -1,6 +1,6 @@
 //! What sources stand for, by hand.
 
-use crate::assertions::{Test, assert_at};
+use crate::assertions::{Test, assert_at, assert_of};
 use cbpf_code::code_of;
 use cbpf_syntax::{Fields, Reader, Row, Step, SyntaxFault};
 use std::alloc::Global;
@@ -254,27 +254,27 @@ fn is_refused(alloc: Global, source: &[u8], fault: SyntaxFault) -> bool {
     }
 }
 
-fn assert_items(rt: &impl Test, items: &[Item]) {
+fn assert_items(rt: &impl Test, table: &str, items: &[Item]) {
     for (row, (source, code, fields)) in items.iter().enumerate() {
-        assert_at(rt, row, has_item(rt.alloc(), source, *code, *fields));
+        assert_of(rt, table, row, has_item(rt.alloc(), source, *code, *fields));
     }
 }
 
 // A call for each table: a proof grows with the square of the rows that its function sees.
 fn loads(rt: &impl Test) {
-    assert_items(rt, &LOADS);
+    assert_items(rt, "loads", &LOADS);
 }
 
 fn jumps(rt: &impl Test) {
-    assert_items(rt, &JUMPS);
+    assert_items(rt, "jumps", &JUMPS);
 }
 
 fn others(rt: &impl Test) {
-    assert_items(rt, &OTHERS);
+    assert_items(rt, "others", &OTHERS);
 }
 
 fn options(rt: &impl Test) {
-    assert_items(rt, &OPTIONS);
+    assert_items(rt, "options", &OPTIONS);
 }
 
 #[test]

@@ -1,4 +1,4 @@
-use crate::assertions::assert_at;
+use crate::assertions::{assert_at, assert_of};
 use cbpf_code::{
     AluOp, Cond, Ext, Op, Size, Src, code_of, ext_at, ext_name, ext_named, ext_offset, op_of,
 };
@@ -95,7 +95,7 @@ fn each_code(rt: &impl Abort) {
 
 fn each_operation(rt: &impl Abort) {
     for (code, op) in &OPERATIONS {
-        assert_at(rt, usize::from(*code), op_of(*code) == Some(*op));
+        assert_of(rt, "code", usize::from(*code), op_of(*code) == Some(*op));
     }
 }
 
@@ -114,7 +114,7 @@ static NO_NAMES: [&[u8]; 5] = [b"len", b"", b"Rand", b"ran", b"rand "];
 
 fn no_extension(rt: &impl Abort) {
     for k in &NO_PLACES {
-        assert_at(rt, *k as usize, ext_at(*k).is_none());
+        assert_of(rt, "place", *k as usize, ext_at(*k).is_none());
     }
     for (row, name) in NO_NAMES.iter().enumerate() {
         assert_at(rt, row, ext_named(name).is_none());
@@ -126,7 +126,12 @@ fn codes_and_extensions(rt: HostRuntime) {
     each_code(&rt);
     each_operation(&rt);
     for (ext, offset, name) in &EXTENSIONS {
-        assert_at(&rt, *offset as usize, is_extension(*ext, *offset, name));
+        assert_of(
+            &rt,
+            "offset",
+            *offset as usize,
+            is_extension(*ext, *offset, name),
+        );
     }
     no_extension(&rt);
 }

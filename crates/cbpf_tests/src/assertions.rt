@@ -1,4 +1,4 @@
-//! Assertions of tables and loops, whose failures show at which numbers they failed.
+//! Assertions of tables and loops, whose failures show where they failed.
 
 use std::fmt::Debug;
 use std::process::Abort;
@@ -16,11 +16,6 @@ pub fn assert_at(rt: &impl Abort, at: usize, holds: bool) {
 /// Of a row by its first two numbers.
 pub fn assert_at_both(rt: &impl Abort, a: u32, b: u32, holds: bool) {
     assert!(rt; holds, "at {a} and {b}");
-}
-
-/// Of a row of a table that shows something.
-pub fn assert_shown(rt: &impl Abort, shows: &str, row: usize, holds: bool) {
-    assert!(rt; holds, "{shows}: row {row}");
 }
 
 /// Names what was to hold, and the place, such as a row and a growth.

@@ -1,7 +1,7 @@
 //! Calls of a session in rows: what it is asked, what it answers, and in how many turns.
 
 use super::Shown;
-use crate::assertions::{Test, assert_shown};
+use crate::assertions::{Test, assert_named};
 use crate::programs::{Code, program_of};
 use crate::{captures, two_packets};
 use cbpf_code::{Ext, Program};
@@ -249,7 +249,7 @@ fn check_calls<T: Trail>(
 ) {
     for (i, row) in rows.iter().enumerate() {
         let holds = matches_row(rt, s, row, keeps_all);
-        assert_shown(rt, shows, i, holds);
+        assert_named(rt, holds, shows, i);
     }
 }
 
