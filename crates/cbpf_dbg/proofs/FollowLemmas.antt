@@ -24,8 +24,8 @@ use Rattle.cbpf_dbg.specs.Session.{hits}
 use Rattle.cbpf_dbg.specs.Cursor.{AreLeft, IsEnd, Stands, followed, moved_by, owed, passed}
 use Rattle.cbpf_dbg.specs.Going.{Covers, GoesOn}
 use Rattle.cbpf_dbg.proofs.JoinedLemmas.{place_at, entry, ahead-in, ahead-entry, ahead-leave, rest-same, rest-pass}
-use Rattle.cbpf_dbg.proofs.LeftLemmas.{left_here, left_past}
-use Rattle.cbpf_dbg.proofs.TurnLemmas.{length_entries}
+use Rattle.cbpf_dbg.proofs.RecordsLeftLemmas.{left_here, left_past}
+use Rattle.cbpf_dbg.proofs.TurnCountLemmas.{length_entries}
 use Rattle.cbpf_dbg.proofs.CursorLemmas.{packet_from_one, stands_at, stands-passed, entry_at_place}
 
 -- a cursor so many entries on, in the same packet

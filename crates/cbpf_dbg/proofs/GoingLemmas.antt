@@ -18,7 +18,7 @@ use Rattle.cbpf_dbg.specs.Cursor.{Stands, Passes, before, entry_here}
 use Rattle.cbpf_dbg.specs.Going.{Covers, GoesOn}
 use Rattle.cbpf_dbg.proofs.CursorLemmas.{goes, entry_at_place}
 use Rattle.cbpf_dbg.proofs.JoinedLemmas.{ahead-entry, rest-hit}
-use Rattle.cbpf_dbg.proofs.TurnLemmas.{not_before_after}
+use Rattle.cbpf_dbg.proofs.TurnCountLemmas.{not_before_after}
 
 pub passes_more : (machine : Machine) (capture : List Record) (old mid new : Cursor) (m n k : ℕ)
     → Passes machine capture old mid m n → Passes machine capture mid new n k → Passes machine capture old new m k

@@ -2,10 +2,10 @@ pub mod JoinedLemmas
 pub mod CountLemmas
 pub mod CursorLemmas
 pub mod CarryLemmas
-pub mod LeftLemmas
+pub mod RecordsLeftLemmas
 pub mod RunLemmas
 pub mod FollowLemmas
-pub mod TurnLemmas
+pub mod TurnCountLemmas
 pub mod StepLemmas
 pub mod GoingLemmas
 pub mod KeepLemmas

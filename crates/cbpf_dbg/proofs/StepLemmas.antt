@@ -21,11 +21,11 @@ use Rattle.cbpf_dbg.specs.Going.{GoesOn}
 use Rattle.cbpf_dbg.specs.Joined.{Entry, ahead, packet_entries}
 use Rattle.cbpf_dbg.specs.Cursor.{Stands, Moves, Nears, Passes, entry_here}
 use Rattle.cbpf_dbg.proofs.JoinedLemmas.{place_at, ahead-whole}
-use Rattle.cbpf_dbg.proofs.LeftLemmas.{at_end}
+use Rattle.cbpf_dbg.proofs.RecordsLeftLemmas.{at_end}
 use Rattle.cbpf_dbg.proofs.FollowLemmas.{item_within}
 use Rattle.cbpf_dbg.proofs.GoingLemmas.{passes_more}
 use Rattle.cbpf_dbg.proofs.RunLemmas.{slice_get-past, slice_get-later}
-use Rattle.cbpf_dbg.proofs.TurnLemmas.{length_entries}
+use Rattle.cbpf_dbg.proofs.TurnCountLemmas.{length_entries}
 
 module _ (machine : Machine) (capture : List Record) where
   pub nears_none : (w : Cursor) (n spent : ℕ) → Stands machine capture w → 1 ≤ n

@@ -21,7 +21,7 @@ use Rattle.cbpf_dbg.specs.Cursor.{NotBefore}
 use Rattle.cbpf_dbg.specs.View.{View, start}
 use Rattle.cbpf_dbg.specs.Commands.{reply_of, view_after, run, run_to_end, stops, all_stops, Found, last_place}
 use Rattle.cbpf_dbg.specs.Commands.{turns_forward, turns_left, Continues, stopped, finished}
-use Rattle.cbpf_dbg.proofs.TurnLemmas.{turns-split, length_joined}
+use Rattle.cbpf_dbg.proofs.TurnCountLemmas.{turns-split, length_joined}
 use Rattle.cbpf_dbg.proofs.RunLemmas.{rest-head}
 use Rattle.cbpf_dbg.proofs.JoinedLemmas.{ahead-in, rest-ahead}
 use Rattle.std.proofs.Common.{append_assoc, append-nil}

@@ -1,3 +1,3 @@
 pub mod SpaceLemmas
-pub mod LeftLemmas
+pub mod TextLeftLemmas
 pub mod RowLemmas

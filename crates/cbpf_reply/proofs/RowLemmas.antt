@@ -4,7 +4,7 @@ use Rattle.std.proofs.Common.{refl, arith, append_assoc, append-nil, take_all, l
 use Rattle.std.proofs.lemmas.List.Sums.{prefix_len-drop_all, prefix_len-drop_no, prefix_len-drop_yes}
 use Rattle.cbpf_code.specs.Writing.{Appended}
 use Rattle.cbpf_code.proofs.WrittenLemmas.{appended-nil}
-use Rattle.cbpf_reply.proofs.LeftLemmas.{Left, left-first}
+use Rattle.cbpf_reply.proofs.TextLeftLemmas.{Left, left-first}
 use Rattle.cbpf_reply.specs.Packet.{texts_from}
 use Rattle.cbpf_reply.specs.declared.packet.TheConstants.{ROW}
 

@@ -35,7 +35,7 @@ use Rattle.cbpf_text.specs.Laws.{EachAnswered}
 use Rattle.cbpf_text.proofs.LabelLists.{distinct_more, times_append, times_cons, times_hit, words_from, lookup_found}
 use Rattle.cbpf_text.proofs.Forms.{items_forms, bad_here, bad_after}
 use Rattle.cbpf_text.proofs.Uses.{use_of, good_use, HasOffset, HasPlace, no_target, each_use, one_kind}
-use Rattle.cbpf_text.proofs.Faults.{tokens_assembled}
+use Rattle.cbpf_text.proofs.FaultParts.{tokens_assembled}
 use Rattle.std.proofs.lemmas.Grind.{common_steps}
 use Rattle.cbpf_syntax.proofs.Apart.{bytes_eq_self}
 use Rattle.cbpf_syntax.proofs.Cuts.{some-same}

@@ -4,7 +4,7 @@ pub mod Uses
 pub mod Forms
 pub mod Encoding
 pub mod OneAnswer
-pub mod Faults
+pub mod FaultParts
 pub mod ListedNumbers
 pub mod ListedRows
 pub mod ListedTokens

@@ -5,7 +5,7 @@ use Rattle.cbpf_dbg.specs.declared.cursor.Moved.TheVariants as moved
 use Rattle.cbpf_dbg.proofs.CountLemmas.{countable}
 use Rattle.cbpf_dbg.proofs.FollowLemmas.{kept_steps, steps_few, steps_fit, goes_to_entry, goes_out}
 use Rattle.cbpf_dbg.proofs.KeepLemmas.{keeps_followed}
-use Rattle.cbpf_dbg.proofs.LeftLemmas.{first_left, first_of}
+use Rattle.cbpf_dbg.proofs.RecordsLeftLemmas.{first_left, first_of}
 use Rattle.cbpf_dbg.proofs.run.go_on_in_packet.Goals as goal
 
 pub follow-followed-requires-clause-spare : goal.follow-followed-requires-clause-spare

@@ -6,7 +6,7 @@ use Rattle.cbpf_dbg.specs.Loaded.{machine_in}
 use Rattle.cbpf_dbg.proofs.CountLemmas.{countable}
 use Rattle.cbpf_dbg.proofs.FollowLemmas.{goes_to_entry, goes_out}
 use Rattle.cbpf_dbg.proofs.GoingLemmas.{goes_more}
-use Rattle.cbpf_dbg.proofs.LeftLemmas.{first_left, first_of}
+use Rattle.cbpf_dbg.proofs.RecordsLeftLemmas.{first_left, first_of}
 use Rattle.cbpf_dbg.proofs.run.run_records.Goals as goal
 
 pub follow_packet-requires : goal.follow_packet-requires

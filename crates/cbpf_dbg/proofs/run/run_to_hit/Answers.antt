@@ -1,6 +1,6 @@
 use Rattle.std.proofs.Common.{arith, sym, refl}
 use Rattle.cbpf_dbg.proofs.GoingLemmas.{at_hit, goes_more, hits_out, watches_hits}
-use Rattle.cbpf_dbg.proofs.LeftLemmas.{at_end, start_first}
+use Rattle.cbpf_dbg.proofs.RecordsLeftLemmas.{at_end, start_first}
 use Rattle.cbpf_dbg.proofs.run.run_to_hit.Goals as goal
 use Rattle.cbpf_dbg.proofs.run.run_to_hit.Goals.{then-not-go_on_in_packet+else-not-run_whole, else-not-go_on_in_packet}
 

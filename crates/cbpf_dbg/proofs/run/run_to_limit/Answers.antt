@@ -1,8 +1,8 @@
 use Rattle.std.proofs.Common.{arith}
 use Rattle.cbpf_dbg.specs.Loaded.{machine_in, records_in}
-use Rattle.cbpf_dbg.proofs.LeftLemmas.{all_left, is_end, is_end_of_all, end_reckoned}
+use Rattle.cbpf_dbg.proofs.RecordsLeftLemmas.{all_left, is_end, is_end_of_all, end_reckoned}
 use Rattle.cbpf_dbg.proofs.RunLemmas.{run_stopped, run_limited, run_finished, none_ahead}
-use Rattle.cbpf_dbg.proofs.TurnLemmas.{turns-reply, spent_between, owed-turns, owed_bound}
+use Rattle.cbpf_dbg.proofs.TurnCountLemmas.{turns-reply, spent_between, owed-turns, owed_bound}
 use Rattle.cbpf_dbg.proofs.run.run_to_limit.Goals as goal
 
 pub run_to_hit-stop-requires-clause-can : goal.run_to_hit-stop-requires-clause-can

@@ -2,11 +2,11 @@ use Rattle.std.proofs.Common.{◌≡◌, ◌+◌, ◌-◌, length, arith, ap, �
 use Rattle.cbpf_dbg.specs.Joined.{ahead}
 use Rattle.cbpf_dbg.specs.Cursor.{owed, entry_here}
 use Rattle.cbpf_dbg.proofs.CursorLemmas.{goes}
-use Rattle.cbpf_dbg.proofs.LeftLemmas.{first_left, first_of, left_here, left_past, none_of, nothing_left, all_left}
+use Rattle.cbpf_dbg.proofs.RecordsLeftLemmas.{first_left, first_of, left_here, left_past, none_of, nothing_left, all_left}
 use Rattle.cbpf_dbg.proofs.RunLemmas.{slice_get-first, step_stopped, step_finished}
 use Rattle.cbpf_dbg.proofs.KeepLemmas.{keeps_push, keeps_few, keeps_clear}
 use Rattle.cbpf_dbg.proofs.StepLemmas.{nears_none, nears_more, nears_entry, nears_out}
-use Rattle.cbpf_dbg.proofs.TurnLemmas.{turns-reply, spent_between, owed-turns, not_before_step, owed_bound}
+use Rattle.cbpf_dbg.proofs.TurnCountLemmas.{turns-reply, spent_between, owed-turns, not_before_step, owed_bound}
 use Rattle.cbpf_dbg.specs.Loaded.{machine_in, records_in}
 use Rattle.cbpf_dbg.proofs.step.step_on.Goals as goal
 use Rattle.cbpf_dbg.proofs.step.step_on.Goals.{then-cursor-eq0, else-cursor-eq0}

@@ -3,7 +3,7 @@ use Rattle.pcap_classic.specs.Lent.{record_of}
 use Rattle.cbpf_dbg.proofs.CountLemmas.{countable}
 use Rattle.cbpf_dbg.proofs.CursorLemmas.{goes, entry_at_place}
 use Rattle.cbpf_dbg.proofs.FollowLemmas.{steps_fit, goes_to_entry, goes_out}
-use Rattle.cbpf_dbg.proofs.LeftLemmas.{first_left, first_of}
+use Rattle.cbpf_dbg.proofs.RecordsLeftLemmas.{first_left, first_of}
 use Rattle.cbpf_dbg.proofs.stops.go_on_in_packet.Goals as goal
 
 pub follow_on-followed-requires-clause-inside : goal.follow_on-followed-requires-clause-inside

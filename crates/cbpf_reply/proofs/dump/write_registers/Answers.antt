@@ -2,7 +2,7 @@ use Rattle.std.proofs.Common.{◌≡◌, ◌-◌, length, arith}
 use Rattle.cbpf_code.proofs.WrittenLemmas.{first-failed}
 use Rattle.cbpf_reply.specs.Dump.{register_lines}
 use Rattle.cbpf_reply.specs.Scratch.{slots_line}
-use Rattle.cbpf_reply.proofs.LeftLemmas.{left-first, left-next, left-stop}
+use Rattle.cbpf_reply.proofs.TextLeftLemmas.{left-first, left-next, left-stop}
 use Rattle.cbpf_reply.proofs.RowLemmas.{texts-next}
 use Rattle.cbpf_reply.proofs.dump.write_registers.Goals as goal
 

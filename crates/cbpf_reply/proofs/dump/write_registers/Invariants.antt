@@ -2,7 +2,7 @@ use Rattle.std.proofs.Common.{◌-◌, ◌++◌, length}
 use Rattle.cbpf_reply.specs.Dump.{register_lines}
 use Rattle.cbpf_reply.specs.Packet.{texts_from}
 use Rattle.cbpf_reply.specs.Scratch.{slots_line, scratch_lines}
-use Rattle.cbpf_reply.proofs.LeftLemmas.{Left}
+use Rattle.cbpf_reply.proofs.TextLeftLemmas.{Left}
 use Rattle.cbpf_reply.proofs.dump.write_registers.Given as goal
 
 abbrev pub invariant-loop-i : goal.invariant-loop-i

@@ -2,7 +2,7 @@ use Rattle.std.proofs.Common.{◌≡◌, ◌+◌, length, append-nil, arith, rul
 use Rattle.cbpf_code.proofs.WrittenLemmas.{first-failed}
 use Rattle.cbpf_reply.specs.Dump.{why_line}
 use Rattle.cbpf_reply.specs.Packet.{packet_head, packet_row}
-use Rattle.cbpf_reply.proofs.LeftLemmas.{left-next, left-last, left-stop}
+use Rattle.cbpf_reply.proofs.TextLeftLemmas.{left-next, left-last, left-stop}
 use Rattle.cbpf_reply.proofs.RowLemmas.{rows-split}
 use Rattle.cbpf_reply.proofs.packet.write_packet.Goals as goal
 

@@ -1,7 +1,7 @@
 use Rattle.std.proofs.Common.{◌≤◌, ◌-◌, ◌++◌, length}
 use Rattle.cbpf_reply.specs.Dump.{why_line}
 use Rattle.cbpf_reply.specs.Packet.{texts_from, packet_row, packet_head, packet_rows}
-use Rattle.cbpf_reply.proofs.LeftLemmas.{Left}
+use Rattle.cbpf_reply.proofs.TextLeftLemmas.{Left}
 use Rattle.cbpf_reply.proofs.packet.write_packet.Given as goal
 
 abbrev pub invariant-loop-from : goal.invariant-loop-from

@@ -2,7 +2,7 @@ use Rattle.std.proofs.Common.{subst}
 use Rattle.cbpf_text.specs.Assembled.{AssembleTokens}
 use Rattle.cbpf_text.specs.Refusals.{IsItemsFault, IsTokensFault}
 use Rattle.cbpf_text.specs.Refusals.IsTokensFault.{of_items}
-use Rattle.cbpf_text.proofs.Faults.{tokens_assembled, whole_refused}
+use Rattle.cbpf_text.proofs.FaultParts.{tokens_assembled, whole_refused}
 use Rattle.cbpf_text.proofs.Forms.{items_forms, reported_more}
 use Rattle.cbpf_text.proofs.assembler.assemble.Goals as goal
 

@@ -1,7 +1,7 @@
 use Rattle.std.proofs.Common.{subst}
 use Rattle.cbpf_syntax.specs.Tokens.{IsLexFault}
 use Rattle.cbpf_syntax.specs.Lexemes.{AreLexemes}
-use Rattle.cbpf_text.proofs.Faults.{lex_refused, grammar_refused}
+use Rattle.cbpf_text.proofs.FaultParts.{lex_refused, grammar_refused}
 use Rattle.cbpf_text.proofs.draft.fault_here.Goals as goal
 
 pub returns-in-Ok : goal.returns-in-Ok

@@ -14,8 +14,8 @@ use Rattle.cbpf_syntax.specs.Steps.{Stuck}
 use Rattle.cbpf_syntax.proofs.Steps.{end_stuck}
 use Rattle.cbpf_text.specs.declared.fault.AsmKind.TheVariants as kinds
 use Rattle.cbpf_text.specs.declared.placed_fault.PlacedFault.TheVariants as placed
-use Rattle.cbpf_text.proofs.Faults.{lex_refused, IsState, state_init, state_stuck, state_items, state_lexemes}
-use Rattle.cbpf_text.proofs.Faults.{label_state, item_state, whole_refused, all_accepted, items_large_refused}
+use Rattle.cbpf_text.proofs.FaultParts.{lex_refused, IsState, state_init, state_stuck, state_items, state_lexemes}
+use Rattle.cbpf_text.proofs.FaultParts.{label_state, item_state, whole_refused, all_accepted, items_large_refused}
 use Rattle.cbpf_text.proofs.draft.read_items.Given.{Over}
 use Rattle.cbpf_text.proofs.draft.read_items.Goals.{In-Ok, After-large}
 use Rattle.cbpf_text.proofs.draft.read_items.Goals as goal

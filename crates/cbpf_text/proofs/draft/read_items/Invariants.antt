@@ -3,7 +3,7 @@ use Rattle.cbpf_code.specs.declared.checker.TheConstants.{MAX_INSTRUCTIONS}
 use Rattle.indexmap.specs.IndexMap.{get}
 use Rattle.cbpf_syntax.specs.Reading.{IsReading, left}
 use Rattle.cbpf_text.specs.Drafts.{same_name}
-use Rattle.cbpf_text.proofs.Faults.{IsState}
+use Rattle.cbpf_text.proofs.FaultParts.{IsState}
 use Rattle.cbpf_text.proofs.draft.read_items.Given as goal
 
 abbrev pub invariant-loop-next : goal.invariant-loop-next

@@ -2,8 +2,8 @@ use Rattle.cbpf_machine.specs.Machine.{machine_of}
 use Rattle.cbpf_dbg.proofs.WholeLemmas.{HasLoaded}
 use Rattle.std.proofs.Common.{arith, refl, Some}
 use Rattle.cbpf_dbg.specs.Session.{Fits, IsKnown}
-use Rattle.cbpf_dbg.proofs.LeftLemmas.{all_left, is_end_of_all}
-use Rattle.cbpf_dbg.proofs.TurnLemmas.{few_hits, owed_bound}
+use Rattle.cbpf_dbg.proofs.RecordsLeftLemmas.{all_left, is_end_of_all}
+use Rattle.cbpf_dbg.proofs.TurnCountLemmas.{few_hits, owed_bound}
 use Rattle.cbpf_dbg.proofs.CarryLemmas.{known-sound}
 use Rattle.cbpf_dbg.proofs.ShownStops.{shows-rest}
 use Rattle.cbpf_dbg.proofs.session.Session.stops.Goals as goal
