@@ -116,6 +116,7 @@ impl<T: Trail, A: Allocator> Session<T, A> {
         if place.packet == 0 || place.packet > count {
             return Err(SessionFault::NoPacket);
         }
+        // A match, as a variant passed as a function has a proof of its own.
         match resume_at(meter, &loaded, &mut self.cursor, &mut self.trail, place) {
             Ok(()) => Ok(()),
             Err(steps) => Err(SessionFault::NoStep(steps)),

@@ -10,7 +10,7 @@ use Rattle.cbpf_syntax.specs.declared.token.BadPiece.{BadPiece}
 use Rattle.cbpf_syntax.specs.Pieces.{IsPieceAt, IsCut}
 use Rattle.cbpf_syntax.specs.declared.token.Token.{Token}
 use Rattle.cbpf_syntax.specs.Tokens.{LexesTo, Lexes, tokens_of, token_of, line_of, is_good}
-use Rattle.cbpf_syntax.specs.CutLaws.{OneCut, OneList, OneFault, NeverCutAndBad}
+use Rattle.cbpf_syntax.specs.CutLaws.{OneCut, OneList, OneFault, NeverLexedAndBad}
 use Rattle.cbpf_syntax.proofs.Cuts.{one_next, past_end}
 use Rattle.cbpf_syntax.proofs.Cuts as cuts
 
@@ -63,7 +63,7 @@ one_fault text f g l m a b =
     b.bad refl refl in
     (bad-same f g (ap (λ (p : Piece). p.kind) both.1), a.line ∙ (ap (λ n. line_of text n) both.0 ∙ sym b.line))
 
-pub never_both : NeverCutAndBad
+pub never_both : NeverLexedAndBad
 never_both text ts f l a b = no_bad text 0 a.pieces b.before.pieces b.at (record { kind = Bad f; size = b.size })
     a.cut b.before.cut a.good b.bad refl
 

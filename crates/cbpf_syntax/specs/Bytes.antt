@@ -1,5 +1,5 @@
--- The classes of bytes of a source text, beside its blanks and digits, which are those of word text (this project's
--- own; the marks of operands in the kernel's Documentation/networking/filter are among them).
+-- The classes of bytes of a source text, this project's own (the marks of operands in the kernel's
+-- Documentation/networking/filter are among them). Its blanks and digits are those of word text.
 use Rattle.std.specs.Prelude.{ℕ, Bool, ◌&&◌, ◌||◌, nat_le, ◌==◌}
 use Rattle.cbpf_code.specs.WordTokens.{is_digit}
 

@@ -16,8 +16,9 @@ OneList = (text : List ℕ) (ts us : List Token) → Lexes text ts → Lexes tex
 abbrev pub OneFault : Type 0
 OneFault = (text : List ℕ) (f g : BadPiece) (l m : ℕ) → IsFirstBad text f l → IsFirstBad text g m → (f ≡ g) × (l ≡ m)
 
-abbrev pub NeverCutAndBad : Type 0
-NeverCutAndBad = (text : List ℕ) (ts : List Token) (f : BadPiece) (l : ℕ) → Lexes text ts → IsFirstBad text f l → ⊥
+-- no text has both tokens and a first bad piece
+abbrev pub NeverLexedAndBad : Type 0
+NeverLexedAndBad = (text : List ℕ) (ts : List Token) (f : BadPiece) (l : ℕ) → Lexes text ts → IsFirstBad text f l → ⊥
 
 -- each text has tokens, or a first bad piece
 abbrev pub EachLexed : Type 0

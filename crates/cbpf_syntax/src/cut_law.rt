@@ -1,6 +1,6 @@
 //! Laws of the definitions, which hold whatever a program does.
 
-ghost use Rattle.cbpf_syntax.specs.CutLaws.{OneCut, OneList, OneFault, NeverCutAndBad, EachLexed};
+ghost use Rattle.cbpf_syntax.specs.CutLaws.{OneCut, OneList, OneFault, NeverLexedAndBad, EachLexed};
 
 /// A text is cut into pieces in one way.
 #[tactic(auto, using(crate::proofs::Outcomes::one_cut))]
@@ -12,6 +12,6 @@ pub fn one_cut()
 pub fn one_outcome()
     ensures list { OneList }
     ensures fault { OneFault }
-    ensures never_both { NeverCutAndBad }
+    ensures never_both { NeverLexedAndBad }
     ensures answered { EachLexed }
 {}

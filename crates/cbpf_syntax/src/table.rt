@@ -10,7 +10,7 @@ use crate::mode::Mode;
 use cbpf_code::{AluOp, Cond, Op, Size, Src, mnemonic};
 
 /// Where an instruction's literal and targets go.
-#[derive(Clone, Copy, Debug, PartialEq, Eq)]
+#[derive(Clone, Copy, PartialEq, Eq)]
 pub enum Fields {
     /// k is the literal, which an extension's name stands for too, or 0 where there is none.
     Constant,
