@@ -1,4 +1,4 @@
-use Rattle.std.proofs.Common.{arith}
+use Rattle.std.proofs.Common.{arith, rules}
 use Rattle.cbpf_dbg.specs.Loaded.{machine_in, records_in}
 use Rattle.cbpf_dbg.proofs.RecordsLeftLemmas.{all_left, is_end, is_end_of_all, end_reckoned}
 use Rattle.cbpf_dbg.proofs.RunLemmas.{run_stopped, run_limited, run_finished, none_ahead}
@@ -72,3 +72,9 @@ returns-clause-turns g c =
     (rw c.count-count.ensures.value at c.if-end-count.false)).0 in
     let all = owed-turns _ _ c.args.cursor.now c.requires.stands in
     rw (turns-reply _ _ _ _ _ _ _ (returns-clause-runs g c)) (omega (arith, all, none, came.passes.spent))
+
+pub returns-in-Some-clause-ahead : goal.returns-in-Some-clause-ahead
+returns-in-Some-clause-ahead g c = search rules
+
+pub returns-then-end-count-clause-ahead : goal.returns-then-end-count-clause-ahead
+returns-then-end-count-clause-ahead g c = search rules

@@ -10,3 +10,9 @@ returns-clause-shown g c =
 
 pub returns-clause-after : goal.returns-clause-after
 returns-clause-after g c = search rules
+
+pub returns-clause-ahead : goal.returns-clause-ahead
+returns-clause-ahead g c = search rules
+
+pub returns-clause-turns : goal.returns-clause-turns
+returns-clause-turns g c = search rules
