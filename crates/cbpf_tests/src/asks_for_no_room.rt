@@ -2,8 +2,9 @@
 use crate::assertions::Test;
 use crate::fault_injection::{Fault, FaultyAllocator, FaultyWriter};
 use crate::inputs::{ICMP_WORDS, STRAIGHT, program_of, session_of, two_packets};
+use crate::sessions::rows::{Answer, Row, Turns, check_calls_of};
 use cbpf_code::{CheckFault, Ext, Insn, check, read_words};
-use cbpf_dbg::{MarkTrail, Meter, Place, RunReply, Session, SessionFault, Stop, When};
+use cbpf_dbg::{MarkTrail, Meter, RunReply, Session, SessionFault, Stop, When};
 use std::alloc::{Allocator, Global};
 use std::process::Abort;
 
@@ -30,14 +31,36 @@ fn a_session_with_nothing_loaded(rt: HostRuntime) {
     assert!(rt; refusing.left() == 1000);
 }
 
-/// Whether breakpoints are refused, and two that are set already are set again.
-fn sets<A: Allocator + Copy>(session: &mut Session<MarkTrail, A>) -> bool {
-    let refused = Err(SessionFault::NoInstruction);
-    session.breakpoint(6) == refused
-        && session.breakpoint_when(6, When::A(1)) == refused
-        && session.breakpoint_when(1, When::A(2054)) == Ok(())
-        && session.breakpoint(4) == Ok(())
-}
+const BREAKPOINTS: &[Row] = &[
+    Row::Break(1, When::Always, Ok(())),
+    Row::Break(4, When::X(0), Ok(())),
+];
+
+/// Breakpoints that are refused, and two that are set already and set again.
+const SET_AGAIN: &[Row] = &[
+    Row::Break(6, When::Always, Err(SessionFault::NoInstruction)),
+    Row::Break(6, When::A(1), Err(SessionFault::NoInstruction)),
+    Row::Break(1, When::A(2054), Ok(())),
+    Row::Break(4, When::Always, Ok(())),
+];
+
+/// From the first stop on. The run to the end lists its stops in another memory.
+const CALLS: &[Row] = &[
+    Row::Step(3, Answer::Steps(2, 2, 1, 2048), Turns::Exactly(3)),
+    Row::Step(-1, Answer::Steps(2, 1, 0, 0), Turns::Exactly(0)),
+    Row::Run(Some(1), Answer::Breaks(2, 5, 4, 1), Turns::Exactly(4)),
+    Row::Resume(2, 3, Ok(()), Turns::There(2)),
+    Row::Select(1, Ok(())),
+    Row::Mark(1, 0),
+    Row::SetValue(Ext::Mark, 7, Ok(())),
+    Row::Stops(&[(1, 2, 1, 2054), (2, 5, 4, 1)]),
+    Row::RunToEnd(
+        &[(1, 2, 1, 2054), (2, 5, 4, 1)],
+        (1, 1, 0),
+        Turns::Exactly(8),
+    ),
+    Row::Delete(4, Ok(true)),
+];
 
 /// Whether a run comes to a stop, which is dumped.
 fn dumps<A: Allocator + Copy>(session: &mut Session<MarkTrail, A>) -> bool {
@@ -50,62 +73,15 @@ fn dumps<A: Allocator + Copy>(session: &mut Session<MarkTrail, A>) -> bool {
     }
 }
 
-/// Whether it makes steps on and back, and a run of one packet.
-fn goes_on<A: Allocator + Copy>(session: &mut Session<MarkTrail, A>) -> bool {
-    session.step(&mut Meter::new(), 3).is_ok()
-        && session.step(&mut Meter::new(), -1).is_ok()
-        && session.run(&mut Meter::new(), Some(1)).is_ok()
-}
-
-/// Whether it goes to places, and takes a value.
-fn goes_to<A: Allocator + Copy>(session: &mut Session<MarkTrail, A>) -> bool {
-    let place = Place { packet: 2, step: 3 };
-    session.resume(&mut Meter::new(), place).is_ok()
-        && session.select(1) == Ok(())
-        && session.mark().is_ok()
-        && session.set_value(Ext::Mark, 7) == Ok(())
-}
-
-/// Whether the stops ahead are two.
-fn lists_two<A: Allocator + Copy>(session: &Session<MarkTrail, A>) -> bool {
-    match session.stops() {
-        Ok(mut stops) => {
-            stops.next().is_some() && stops.next().is_some() && stops.next().is_none()
-        }
-        Err(_) => false,
-    }
-}
-
-/// A run over both stops, into another memory.
-fn run_on<A: Allocator + Copy>(rt: &impl Test, session: &mut Session<MarkTrail, A>) {
-    let mut found = Vec::new(rt.alloc());
-    assert!(rt; session.run_to_end(&mut Meter::new(), &mut found).is_ok());
-    assert!(rt; found.len() == 2);
-}
-
-/// Whether the two breakpoints are set.
-fn begins<A: Allocator + Copy>(session: &mut Session<MarkTrail, A>) -> bool {
-    session.breakpoint(1) == Ok(()) && session.breakpoint_when(4, When::X(0)) == Ok(())
-}
-
-/// Whether each of these calls gives its answer.
-fn answers<A: Allocator + Copy>(session: &mut Session<MarkTrail, A>) -> bool {
-    sets(session) && dumps(session) && goes_on(session) && goes_to(session) && lists_two(session)
-}
-
-fn call_each<A: Allocator + Copy>(rt: &impl Test, session: &mut Session<MarkTrail, A>) {
-    assert!(rt; answers(session));
-    run_on(rt, session);
-    assert!(rt; session.delete(4) == Ok(true));
-    session.reset_breakpoints();
-}
-
 /// Calls of a session of `alloc`, whose calls `refusing` counts.
 fn calls_of<A: Allocator + Copy>(rt: &impl Test, alloc: A, refusing: &FaultyAllocator<Global>) {
     let mut session = session_of(alloc, ICMP_WORDS).expect(rt, "the session");
-    assert!(rt; begins(&mut session));
+    check_calls_of(rt, &mut session, "breakpoints", BREAKPOINTS);
     let left = refusing.left();
-    call_each(rt, &mut session);
+    check_calls_of(rt, &mut session, "breakpoints again", SET_AGAIN);
+    assert!(rt; dumps(&mut session));
+    check_calls_of(rt, &mut session, "calls from the first stop on", CALLS);
+    session.reset_breakpoints();
     assert!(rt; refusing.left() == left);
 }
 

@@ -4,7 +4,7 @@
 //! passes ICMP packets. The ARP packet executes 3 of them, and the ICMP packet 5.
 
 mod listed_stops;
-mod rows;
+pub(crate) mod rows;
 mod values;
 
 use crate::assertions::Test;

@@ -7,6 +7,7 @@ use crate::{captures, two_packets};
 use cbpf_code::{Ext, Program};
 use cbpf_dbg::{Meter, Place, RunReply, Session, SessionFault, Stop, Trail, When, Why};
 use pcap_classic::Capture;
+use std::alloc::Allocator;
 
 /// The capture of the two packets.
 pub fn capture(rt: &impl Test) -> Capture {
@@ -117,7 +118,7 @@ fn matches_turns(meter: &Meter, wanted: &Turns, keeps_all: bool) -> bool {
     }
 }
 
-fn matches_breakpoints<T: Trail>(s: &Session<T>, wanted: &[(u32, When)]) -> bool {
+fn matches_breakpoints<T: Trail, A: Allocator>(s: &Session<T, A>, wanted: &[(u32, When)]) -> bool {
     for (i, (n, when)) in wanted.iter().enumerate() {
         if s.breakpoint_at(i) != Some(*n) || s.breakpoint_when_at(i) != Some(*when) {
             return false;
@@ -137,9 +138,9 @@ fn matches_stops(found: &[Stop], wanted: &[(u64, u32, u32, u32)]) -> bool {
     found.len() == wanted.len()
 }
 
-fn matches_run_to_end<T: Trail>(
+fn matches_run_to_end<T: Trail, A: Allocator>(
     rt: &impl Test,
-    s: &mut Session<T>,
+    s: &mut Session<T, A>,
     stops: &[(u64, u32, u32, u32)],
     (passes, fails, unknown): (u64, u64, u64),
     turns: &Turns,
@@ -156,7 +157,11 @@ fn matches_run_to_end<T: Trail>(
         && matches_turns(&meter, turns, keeps_all)
 }
 
-fn matches_list<T: Trail>(rt: &impl Test, s: &Session<T>, list: &[(u64, u32, u32, u32)]) -> bool {
+fn matches_list<T: Trail, A: Allocator>(
+    rt: &impl Test,
+    s: &Session<T, A>,
+    list: &[(u64, u32, u32, u32)],
+) -> bool {
     let mut found = Vec::new(rt.alloc());
     for stop in s.stops().ok().expect(rt, "stops") {
         found.push(stop).expect(rt, "memory");
@@ -165,7 +170,7 @@ fn matches_list<T: Trail>(rt: &impl Test, s: &Session<T>, list: &[(u64, u32, u32
 }
 
 /// Makes the call of a row that lists or changes breakpoints.
-fn matches_at_breakpoints<T: Trail>(s: &mut Session<T>, row: &Row) -> bool {
+fn matches_at_breakpoints<T: Trail, A: Allocator + Copy>(s: &mut Session<T, A>, row: &Row) -> bool {
     match row {
         Row::Break(n, When::Always, answer) => s.breakpoint(*n) == *answer,
         Row::Break(n, when, answer) => s.breakpoint_when(*n, *when) == *answer,
@@ -176,7 +181,7 @@ fn matches_at_breakpoints<T: Trail>(s: &mut Session<T>, row: &Row) -> bool {
 }
 
 /// Makes the call of a row that makes no turns.
-fn matches_still<T: Trail>(s: &mut Session<T>, row: &Row) -> bool {
+fn matches_still<T: Trail, A: Allocator + Copy>(s: &mut Session<T, A>, row: &Row) -> bool {
     match row {
         Row::Select(k, answer) => s.select(*k) == *answer,
         Row::Mark(packet, step) => {
@@ -192,8 +197,13 @@ fn matches_still<T: Trail>(s: &mut Session<T>, row: &Row) -> bool {
     }
 }
 
-/// Makes the call of a row that makes turns, or that `matches_still` makes.
-fn matches_call<T: Trail>(rt: &impl Test, s: &mut Session<T>, row: &Row, keeps_all: bool) -> bool {
+/// Makes the call of a row that makes turns or lists the stops, or that `matches_still` makes.
+fn matches_call<T: Trail, A: Allocator + Copy>(
+    rt: &impl Test,
+    s: &mut Session<T, A>,
+    row: &Row,
+    keeps_all: bool,
+) -> bool {
     let mut meter = Meter::new();
     match row {
         Row::Run(limit, answer, turns) => {
@@ -214,6 +224,7 @@ fn matches_call<T: Trail>(rt: &impl Test, s: &mut Session<T>, row: &Row, keeps_a
             };
             s.resume(&mut meter, place) == *answer && matches_turns(&meter, turns, keeps_all)
         }
+        Row::Stops(list) => matches_list(rt, s, list),
         _ => matches_still(s, row),
     }
 }
@@ -234,8 +245,20 @@ fn matches_row<T: Trail>(rt: &impl Test, s: &mut Session<T>, row: &Row, keeps_al
             s.load_capture(captures::capture(rt, file));
             true
         }
-        Row::Stops(list) => matches_list(rt, s, list),
         _ => matches_call(rt, s, row, keeps_all),
+    }
+}
+
+/// Makes the calls of the rows, which load nothing, of a session that keeps each 64th state.
+pub fn check_calls_of<T: Trail, A: Allocator + Copy>(
+    rt: &impl Test,
+    s: &mut Session<T, A>,
+    shows: &str,
+    rows: &[Row],
+) {
+    for (i, row) in rows.iter().enumerate() {
+        let holds = matches_call(rt, s, row, false);
+        assert_named(rt, holds, shows, i);
     }
 }
 
