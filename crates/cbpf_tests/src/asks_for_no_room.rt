@@ -4,24 +4,21 @@ use crate::fault_injection::{Fault, FaultyAllocator, FaultyWriter};
 use crate::inputs::{ICMP_WORDS, STRAIGHT, program_of, session_of, two_packets};
 use crate::sessions::rows::{Answer, Row, Turns, check_calls_of};
 use cbpf_code::{CheckFault, Ext, Insn, check, read_words};
-use cbpf_dbg::{MarkTrail, Meter, RunReply, Session, SessionFault, Stop, When};
+use cbpf_dbg::{MarkTrail, Meter, RunReply, Session, SessionFault, When};
 use std::alloc::{Allocator, Global};
 use std::process::Abort;
 
-/// Whether breakpoints and a whole run are refused without a program.
-fn are_refused<A: Allocator + Copy>(
-    session: &mut Session<MarkTrail, A>,
-    found: &mut Vec<Stop, A>,
-) -> bool {
-    session.breakpoint(0) == Err(SessionFault::NoProgram)
-        && session.breakpoint_when(0, When::A(1)) == Err(SessionFault::NoProgram)
-        && session.run_to_end(&mut Meter::new(), found) == Err(SessionFault::NoProgram)
-}
+const NOTHING_LOADED: &[Row] = &[
+    Row::Break(0, When::Always, Err(SessionFault::NoProgram)),
+    Row::Break(0, When::A(1), Err(SessionFault::NoProgram)),
+];
 
-fn call_with_nothing_loaded<A: Allocator + Copy>(rt: &impl Abort, alloc: A) {
+fn call_with_nothing_loaded<A: Allocator + Copy>(rt: &impl Test, alloc: A) {
     let mut session = Session::new(alloc, MarkTrail::new());
+    check_calls_of(rt, &mut session, "nothing loaded", NOTHING_LOADED);
     let mut found = Vec::new(alloc);
-    assert!(rt; are_refused(&mut session, &mut found));
+    let reply = session.run_to_end(&mut Meter::new(), &mut found);
+    assert!(rt; reply == Err(SessionFault::NoProgram));
 }
 
 #[test]
@@ -73,16 +70,25 @@ fn dumps<A: Allocator + Copy>(session: &mut Session<MarkTrail, A>) -> bool {
     }
 }
 
+/// The calls of the rows, and a dump.
+fn make_calls<A: Allocator + Copy>(
+    rt: &impl Test,
+    session: &mut Session<MarkTrail, A>,
+    refusing: &FaultyAllocator<Global>,
+) {
+    check_calls_of(rt, session, "breakpoints", BREAKPOINTS);
+    let left = refusing.left();
+    check_calls_of(rt, session, "breakpoints again", SET_AGAIN);
+    assert!(rt; dumps(session));
+    check_calls_of(rt, session, "calls from the first stop on", CALLS);
+    session.reset_breakpoints();
+    assert!(rt; refusing.left() == left);
+}
+
 /// Calls of a session of `alloc`, whose calls `refusing` counts.
 fn calls_of<A: Allocator + Copy>(rt: &impl Test, alloc: A, refusing: &FaultyAllocator<Global>) {
     let mut session = session_of(alloc, ICMP_WORDS).expect(rt, "the session");
-    check_calls_of(rt, &mut session, "breakpoints", BREAKPOINTS);
-    let left = refusing.left();
-    check_calls_of(rt, &mut session, "breakpoints again", SET_AGAIN);
-    assert!(rt; dumps(&mut session));
-    check_calls_of(rt, &mut session, "calls from the first stop on", CALLS);
-    session.reset_breakpoints();
-    assert!(rt; refusing.left() == left);
+    make_calls(rt, &mut session, refusing);
 }
 
 #[test]
@@ -91,36 +97,15 @@ fn calls_of_a_session(rt: HostRuntime) {
     calls_of(&rt, &refusing, &refusing);
 }
 
-/// A program of `alloc`, whose calls `refusing` counts, goes into a session.
-fn load_program<A: Allocator + Copy>(
-    rt: &impl Abort,
-    alloc: A,
-    refusing: &FaultyAllocator<Global>,
-    session: &mut Session<MarkTrail, A>,
-) {
-    let program = program_of(alloc, STRAIGHT).expect(rt, "the program");
-    let left = refusing.left();
-    session.load_program(program);
-    assert!(rt; refusing.left() == left);
-}
-
-/// The same of a capture.
-fn load_capture<A: Allocator + Copy>(
-    rt: &impl Abort,
-    alloc: A,
-    refusing: &FaultyAllocator<Global>,
-    session: &mut Session<MarkTrail, A>,
-) {
-    let capture = two_packets(alloc).expect(rt, "the capture");
-    let left = refusing.left();
-    session.load_capture(capture);
-    assert!(rt; refusing.left() == left);
-}
-
+/// A program and a capture of `alloc`, whose calls `refusing` counts, go into a session.
 fn load_both<A: Allocator + Copy>(rt: &impl Abort, alloc: A, refusing: &FaultyAllocator<Global>) {
     let mut session = session_of(alloc, ICMP_WORDS).expect(rt, "the session");
-    load_program(rt, alloc, refusing, &mut session);
-    load_capture(rt, alloc, refusing, &mut session);
+    let program = program_of(alloc, STRAIGHT).expect(rt, "the program");
+    let capture = two_packets(alloc).expect(rt, "the capture");
+    let left = refusing.left();
+    session.load_program(program);
+    session.load_capture(capture);
+    assert!(rt; refusing.left() == left);
 }
 
 #[test]
