@@ -1,6 +1,6 @@
 -- Masks of slots of scratch memory, a bit for each slot (Documentation/networking/filter, "BPF engine and
 -- instruction set").
-use Rattle.std.specs.Prelude.{◌≡◌, ◌⊎◌, ℕ, ◌<◌, IsTrue, List, length, slice_index}
+use Rattle.std.specs.Prelude.{◌≡◌, ◌≢◌, ◌⊎◌, ℕ, ◌<◌, IsTrue, List, length, slice_index}
 use Rattle.std.specs.Int.{bit_at}
 use Rattle.cbpf_code.specs.declared.insn.Insn.{Insn}
 use Rattle.cbpf_code.specs.declared.opcode.Op.{Op}
@@ -17,9 +17,9 @@ InMaskOf masks t s = InMask (slice_index masks t) s
 
 -- the slots of a mask into which an instruction stores nothing
 pub record LeavesUnwritten (mask : ℕ) (op : Op) (insn : Insn) (left : ℕ) : Type 0 where
-  pub kept : (s : ℕ) → s < SLOTS → InMask mask s → (IsTrue (stores_slot op) → insn.k ≡ s → ⊥) → InMask left s
+  pub kept : (s : ℕ) → s < SLOTS → InMask mask s → (IsTrue (stores_slot op) → insn.k ≢ s) → InMask left s
   pub only : (s : ℕ) → s < SLOTS → InMask left s → InMask mask s
-  pub stored : (s : ℕ) → s < SLOTS → InMask left s → IsTrue (stores_slot op) → insn.k ≡ s → ⊥
+  pub stored : (s : ℕ) → s < SLOTS → InMask left s → IsTrue (stores_slot op) → insn.k ≢ s
 
 -- a mask was added to the masks of the instructions To, and to no other
 pub record AddsToMasks (old new : List ℕ) (added_mask : ℕ) (To : ℕ → Type 0) : Type 0 where

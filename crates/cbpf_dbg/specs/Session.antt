@@ -1,6 +1,6 @@
 -- How the parts of a session fit together: a matter of this crate alone, which no public clause names.
 use Rattle.std.specs.Prelude.{◌≡◌, ℕ, ◌-◌, ◌<◌, ◌≤◌, List, [], Bool, true, Option, Some, None, length, take}
-use Rattle.std.specs.Prelude.{slice_get, nat_eq, ◌||◌}
+use Rattle.std.specs.Prelude.{◌≢◌, slice_get, nat_eq, ◌||◌}
 use Rattle.std.specs.Map.{lookup}
 use Rattle.cbpf_machine.specs.declared.pause.When.{When}
 use Rattle.cbpf_code.specs.declared.insn.Insn.{Insn}
@@ -64,7 +64,7 @@ KeepsRoom breakpoints room = (i : ℕ) (when : When) → lookup (nat_eq i) break
 
 -- the breakpoints at other instructions than i are the same
 abbrev pub IsSameBut : ℕ → Breakpoints → Breakpoints → Type 0
-IsSameBut i before after = (s : Registers) → (s.pc ≡ i → ⊥) → carries after s ≡ carries before s
+IsSameBut i before after = (s : Registers) → s.pc ≢ i → carries after s ≡ carries before s
 
 -- what is known of a program
 abbrev pub IsKnown : Bool → Watching → Option (List Insn) → Values → Breakpoints → Type 0

@@ -1,6 +1,6 @@
 -- What taking one line from a reader leaves, where its bytes are known. No public clause names it.
 use Rattle.std.specs.Prelude.{◌≡◌, ℕ, false, List, [], ◌∷◌, ◌++◌, slice_range, Bool, true, Option, Some, Result, Ok}
-use Rattle.std.specs.Prelude.{Err, ◌+◌, ◌-◌, ◌*◌}
+use Rattle.std.specs.Prelude.{Err, ◌≢◌, ◌+◌, ◌-◌, ◌*◌}
 use Rattle.std.specs.Option.{option_map}
 use Rattle.cbpf_tool.specs.Lines.{has_newline}
 use Rattle.cbpf_tool.specs.declared.fault.ToolFault.{ToolFault}
@@ -57,5 +57,5 @@ TakesLine bytes pending left line (Ok Input) = (has_newline line ≡ false) × (
 TakesLine bytes pending left line (Err Read) =
     (has_newline line ≡ false) × (pending ≡ []) × Took bytes pending left line
 TakesLine bytes pending left line (Err Write) = Unit {0}
-TakesLine bytes pending left line (Err Memory) = bytes ≡ [] → ⊥
+TakesLine bytes pending left line (Err Memory) = bytes ≢ []
 TakesLine bytes pending left line (Err (Source f)) = ⊥

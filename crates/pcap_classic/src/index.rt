@@ -1,6 +1,6 @@
 //! The passes over the headers of all records, and the way from a kept start to a later one.
 
-ghost use Rattle.std.specs.Prelude.{◌≡◌, ◌≤◌, ◌<◌, ◌+◌, ◌-◌, ◌*◌, ◌^◌, ◌↔◌, ℕ, List, length, drop, true, IfOk};
+ghost use Rattle.std.specs.Prelude.{◌≡◌, ◌≢◌, ◌≤◌, ◌<◌, ◌+◌, ◌-◌, ◌*◌, ◌^◌, ◌↔◌, ℕ, List, length, drop, true, IfOk};
 ghost use Rattle.pcap_classic.specs.Index.{IsIndex, AreEven, AreKept, AreStarts, IsRecordStart, ending_by};
 ghost use Rattle.pcap_classic.specs.Contents as spec;
 ghost use Rattle.pcap_classic.specs.declared.captured.{Extent.TheVariants.WholeRecord, TheConstants.RECORD_HEADER};
@@ -92,7 +92,7 @@ fn pass_repeats(
     ensures kept { AreStarts order file.now starts.new.items }
     ensures on { from.place ≤ result.place }
     ensures even { from.count ≡ 0 → from.place ≡ FILE_HEADER → AreEven order file.now length result.count }
-    ensures all { spec.extent_of order (drop result.place file.now) ≡ WholeRecord length → ⊥ }
+    ensures all { spec.extent_of order (drop result.place file.now) ≢ WholeRecord length }
 {
     let Passed {
         mut count,
@@ -114,7 +114,7 @@ fn pass_all(order: Endianness, file: &[u8], starts: &mut Starts, from: Passed) -
     ensures here { IsRecordStart order file.now result.count result.place }
     ensures few { RECORD_HEADER * result.count + FILE_HEADER ≤ result.place }
     ensures kept { AreStarts order file.now starts.new.items }
-    ensures end { (size : ℕ) → spec.extent_of order (drop result.place file.now) ≡ WholeRecord size → ⊥ }
+    ensures end { (size : ℕ) → spec.extent_of order (drop result.place file.now) ≢ WholeRecord size }
 {
     let Passed {
         mut count,
