@@ -2,7 +2,7 @@
 use crate::assertions::Test;
 use crate::fault_injection::{Fault, FaultyAllocator, FaultyWriter};
 use crate::inputs::{ICMP_WORDS, STRAIGHT, program_of, session_of, two_packets};
-use crate::sessions::rows::{Answer, Row, Turns, check_calls_of};
+use crate::sessions::rows::{Answer, Row, Turns, check_calls};
 use cbpf_code::{CheckFault, Ext, Insn, check, read_words};
 use cbpf_dbg::{MarkTrail, Meter, RunReply, Session, SessionFault, When};
 use std::alloc::{Allocator, Global};
@@ -15,7 +15,7 @@ const NOTHING_LOADED: &[Row] = &[
 
 fn call_with_nothing_loaded<A: Allocator + Copy>(rt: &impl Test, alloc: A) {
     let mut session = Session::new(alloc, MarkTrail::new());
-    check_calls_of(rt, &mut session, "nothing loaded", NOTHING_LOADED);
+    check_calls(rt, &mut session, "nothing loaded", NOTHING_LOADED);
     let mut found = Vec::new(alloc);
     let reply = session.run_to_end(&mut Meter::new(), &mut found);
     assert!(rt; reply == Err(SessionFault::NoProgram));
@@ -33,7 +33,7 @@ const BREAKPOINTS: &[Row] = &[
     Row::Break(4, When::X(0), Ok(())),
 ];
 
-/// Breakpoints that are refused, and two that are set already and set again.
+/// Breakpoints that are refused, and two that are set already, set again.
 const SET_AGAIN: &[Row] = &[
     Row::Break(6, When::Always, Err(SessionFault::NoInstruction)),
     Row::Break(6, When::A(1), Err(SessionFault::NoInstruction)),
@@ -41,7 +41,7 @@ const SET_AGAIN: &[Row] = &[
     Row::Break(4, When::Always, Ok(())),
 ];
 
-/// From the first stop on. The run to the end lists its stops in another memory.
+/// From the first stop on. What is found is listed in another memory.
 const CALLS: &[Row] = &[
     Row::Step(3, Answer::Steps(2, 2, 1, 2048), Turns::Exactly(3)),
     Row::Step(-1, Answer::Steps(2, 1, 0, 0), Turns::Exactly(0)),
@@ -70,17 +70,17 @@ fn dumps<A: Allocator + Copy>(session: &mut Session<MarkTrail, A>) -> bool {
     }
 }
 
-/// The calls of the rows, and a dump.
+/// The calls of the rows, and a dump. After the first breakpoints none asks for room.
 fn make_calls<A: Allocator + Copy>(
     rt: &impl Test,
     session: &mut Session<MarkTrail, A>,
     refusing: &FaultyAllocator<Global>,
 ) {
-    check_calls_of(rt, session, "breakpoints", BREAKPOINTS);
+    check_calls(rt, session, "breakpoints", BREAKPOINTS);
     let left = refusing.left();
-    check_calls_of(rt, session, "breakpoints again", SET_AGAIN);
+    check_calls(rt, session, "breakpoints again", SET_AGAIN);
     assert!(rt; dumps(session));
-    check_calls_of(rt, session, "calls from the first stop on", CALLS);
+    check_calls(rt, session, "calls from the first stop on", CALLS);
     session.reset_breakpoints();
     assert!(rt; refusing.left() == left);
 }

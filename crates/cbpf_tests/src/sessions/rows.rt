@@ -250,7 +250,7 @@ fn matches_row<T: Trail>(rt: &impl Test, s: &mut Session<T>, row: &Row, keeps_al
 }
 
 /// Makes the calls of the rows, which load nothing, of a session that keeps each 64th state.
-pub fn check_calls_of<T: Trail, A: Allocator + Copy>(
+pub fn check_calls<T: Trail, A: Allocator + Copy>(
     rt: &impl Test,
     s: &mut Session<T, A>,
     shows: &str,
@@ -263,7 +263,7 @@ pub fn check_calls_of<T: Trail, A: Allocator + Copy>(
 }
 
 /// Makes the calls of the rows one after the other, and asserts what each answers.
-fn check_calls<T: Trail>(
+fn check_each<T: Trail>(
     rt: &impl Test,
     s: &mut Session<T>,
     keeps_all: bool,
@@ -280,6 +280,6 @@ fn check_calls<T: Trail>(
 pub fn check_rows<T: Trail>(rt: &impl Test, trail: T, keeps_all: bool, session: &Shown) {
     let (shows, begin, rows) = *session;
     let mut s = Session::new(rt.alloc(), trail);
-    check_calls(rt, &mut s, keeps_all, shows, begin);
-    check_calls(rt, &mut s, keeps_all, shows, rows);
+    check_each(rt, &mut s, keeps_all, shows, begin);
+    check_each(rt, &mut s, keeps_all, shows, rows);
 }
