@@ -1,4 +1,5 @@
 use Rattle.std.proofs.Common.{◌≡◌, ◌+◌, ◌∙◌, arith, sym, refl, subst, take}
+use Rattle.std.proofs.lemmas.Grind.{common_steps}
 use Rattle.pcap_classic.specs.Lent.{record_of}
 use Rattle.pcap_classic.specs.Records.{Record}
 use Rattle.cbpf_machine.specs.Trace.{trace}
@@ -8,6 +9,9 @@ use Rattle.cbpf_dbg.proofs.FollowLemmas.{goes_to_entry, goes_out}
 use Rattle.cbpf_dbg.proofs.GoingLemmas.{goes_more}
 use Rattle.cbpf_dbg.proofs.RecordsLeftLemmas.{first_left, first_of}
 use Rattle.cbpf_dbg.proofs.run.run_records.Goals as goal
+
+pub front-here-requires : goal.front-here-requires
+front-here-requires g c = grind (arith, common_steps)
 
 pub follow_packet-requires : goal.follow_packet-requires
 follow_packet-requires g c = omega (arith, c.requires.can.spare, c.go.invariant.passes.spent)

@@ -1,4 +1,5 @@
 use Rattle.std.proofs.Common.{arith, sym, refl}
+use Rattle.std.proofs.lemmas.Grind.{common_steps}
 use Rattle.cbpf_dbg.proofs.GoingLemmas.{at_hit, goes_more, hits_out, watches_hits}
 use Rattle.cbpf_dbg.proofs.RecordsLeftLemmas.{at_end, start_first}
 use Rattle.cbpf_dbg.proofs.run.run_to_hit.Goals as goal
@@ -10,6 +11,9 @@ returns-then-not-run_whole-clause-comes g c =
       rw all.same at (at_end _ _ _ all.ends (c.if-not-run_whole.ensures.none refl)),
       sym (hits_out _ _ _ _ _ _ all (watches_hits c.args.loaded.now)),
     )
+
+pub front-here-requires : goal.front-here-requires
+front-here-requires g c = grind (arith, common_steps)
 
 pub stop_at-requires : goal.stop_at-requires
 stop_at-requires g c = elim c.if-not-go_on_in_packet.branch [

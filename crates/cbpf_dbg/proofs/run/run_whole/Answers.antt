@@ -29,8 +29,5 @@ returns-clause-keeps g c = λ r there.
     (first_entry _ ran.passes.stands.sound)
     (entry_at_place _ _ _ r ran.passes.stands there begun)
 
-pub returns-then-len-first_gap-clause-goes : goal.returns-then-len-first_gap-clause-goes
-returns-then-len-first_gap-clause-goes g c = search rules
-
 pub returns-then-loaded-clause-goes : goal.returns-then-loaded-clause-goes
 returns-then-loaded-clause-goes g c = search rules

@@ -1,8 +1,9 @@
+use Rattle.std.proofs.lemmas.Grind.{common_steps}
 use Rattle.std.proofs.Common.{◌≡◌, ◌+◌, ◌-◌, length, arith, ap, ◌∙◌, Some, None, slice_get, refl}
 use Rattle.cbpf_dbg.specs.Joined.{ahead}
 use Rattle.cbpf_dbg.specs.Cursor.{owed, entry_here}
 use Rattle.cbpf_dbg.proofs.CursorLemmas.{goes}
-use Rattle.cbpf_dbg.proofs.RecordsLeftLemmas.{first_left, first_of, left_here, left_past, none_of, nothing_left, all_left}
+use Rattle.cbpf_dbg.proofs.RecordsLeftLemmas.{first_left, first_of, start_first, left_here, left_past, none_of, nothing_left, all_left}
 use Rattle.cbpf_dbg.proofs.RunLemmas.{slice_get-first, step_stopped, step_finished}
 use Rattle.cbpf_dbg.proofs.KeepLemmas.{keeps_push, keeps_few, keeps_clear}
 use Rattle.cbpf_dbg.proofs.StepLemmas.{nears_none, nears_more, nears_entry, nears_out}
@@ -52,6 +53,13 @@ pub stop_at-requires : goal.stop_at-requires
 stop_at-requires g c =
     (goes _ _ c.advance.new.cursor c.in-Entry.ensures.moves.0 c.in-Entry.ensures.stands
     c.in-Entry.ensures.moves.1 (omega (arith, c.in-Entry.ensures.moves.3))).inside
+
+pub returns-then-left-eq1-clause-start : goal.returns-then-left-eq1-clause-start
+returns-then-left-eq1-clause-start g c =
+    rw c.in-Entry.ensures.moves.2 (start_first _ _ _ _ c.go.invariant.left c.in-Some.ensures)
+
+pub returns-then-left-eq1-clause-inside : goal.returns-then-left-eq1-clause-inside
+returns-then-left-eq1-clause-inside g c = grind (arith, common_steps)
 
 pub returns-then-left-eq1-clause-keeps : goal.returns-then-left-eq1-clause-keeps
 returns-then-left-eq1-clause-keeps g c =
@@ -110,6 +118,9 @@ skip_packets-left-requires-in-Packet-clause-spare g c =
     c.advance.new.meter moved.stands moved.moves moved.origin c.go.invariant.nears.some moved.turns in
     let most = owed_bound (machine_in c.args.loaded.now) (records_in c.args.loaded.now) c.args.cursor.now.place c.requires.stands.sound c.args.loaded.now.few in
     omega (arith, most, c.requires.early, c.go.invariant.nears.passes.spent, on.passes.spent)
+
+pub go-smaller : goal.go-smaller
+go-smaller g c = grind (arith, common_steps)
 
 pub go-preserved : goal.go-preserved
 go-preserved g c =

@@ -1,4 +1,3 @@
-use Rattle.std.proofs.Common.{rules}
 use Rattle.cbpf_dbg.proofs.CarryLemmas.{same-but, known-at, known-room, room-after}
 use Rattle.cbpf_dbg.proofs.session.Session.delete.Goals as goal
 
@@ -16,6 +15,3 @@ invariant_of-self g c = (
       (λ when at. let gone = c.shift_remove.ensures.updates.1 in absurd cc)
       (known-room _ _ _ _ _ _ c.in-Some.is c.self.invariant.1))),
 )
-
-pub returns-clause-reply : goal.returns-clause-reply
-returns-clause-reply g c = search rules
