@@ -21,15 +21,15 @@ run_to_hit-stop-requires-clause-can g c =
 pub returns-in-Some-clause-start : goal.returns-in-Some-clause-start
 returns-in-Some-clause-start g c = grind (arith, common_steps)
 
-pub returns-in-Some-clause-inside : goal.returns-in-Some-clause-inside
-returns-in-Some-clause-inside g c = grind (arith, common_steps)
-
 pub returns-in-Some-clause-runs : goal.returns-in-Some-clause-runs
 returns-in-Some-clause-runs g c =
     let ends = end_reckoned c.args.limit c.args.cursor.now.place.packet c.count-count.ensures.value
     c.args.loaded.now.few c.unwrap_or-most.ensures c.saturating_add.ensures c.min-end.ensures in
     let came = c.in-Some.ensures in
     run_stopped _ _ _ _ _ _ ends _ _ came.passes.origin came.passes.order came.comes
+
+pub returns-in-Some-clause-inside : goal.returns-in-Some-clause-inside
+returns-in-Some-clause-inside g c = grind (arith, common_steps)
 
 pub returns-in-Some-clause-ahead : goal.returns-in-Some-clause-ahead
 returns-in-Some-clause-ahead g c = search rules
@@ -46,9 +46,6 @@ returns-then-end-count-clause-stands g c = grind (arith, common_steps)
 pub returns-then-end-count-clause-start : goal.returns-then-end-count-clause-start
 returns-then-end-count-clause-start g c = grind (arith, common_steps)
 
-pub returns-then-end-count-clause-inside : goal.returns-then-end-count-clause-inside
-returns-then-end-count-clause-inside g c = grind (arith, common_steps)
-
 pub returns-then-end-count-clause-runs : goal.returns-then-end-count-clause-runs
 returns-then-end-count-clause-runs g c =
     let ends = end_reckoned c.args.limit c.args.cursor.now.place.packet c.count-count.ensures.value
@@ -58,6 +55,9 @@ returns-then-end-count-clause-runs g c =
     c.run_to_hit-stop.new.walk.cursor came.passes.stands came.passes.origin came.comes
     (rw c.count-count.ensures.value at c.if-end-count.true) in
     record { reply_is = gives.reply_is; place_is = gives.place_is; origin_is = gives.origin_is }
+
+pub returns-then-end-count-clause-inside : goal.returns-then-end-count-clause-inside
+returns-then-end-count-clause-inside g c = grind (arith, common_steps)
 
 pub returns-then-end-count-clause-ahead : goal.returns-then-end-count-clause-ahead
 returns-then-end-count-clause-ahead g c = search rules
@@ -74,9 +74,6 @@ returns-clause-stands g c = grind (arith, common_steps)
 pub returns-clause-start : goal.returns-clause-start
 returns-clause-start g c = grind (arith, common_steps)
 
-pub returns-clause-inside : goal.returns-clause-inside
-returns-clause-inside g c = grind (arith, common_steps)
-
 pub returns-clause-runs : goal.returns-clause-runs
 returns-clause-runs g c =
     let ends = end_reckoned c.args.limit c.args.cursor.now.place.packet c.count-count.ensures.value
@@ -84,6 +81,9 @@ returns-clause-runs g c =
     let came = c.in_default.ensures in
     run_finished _ _ _ _ _ _ ends _ _ came.passes.stands came.passes.origin
     came.comes (rw c.count-count.ensures.value at c.if-end-count.false) c.before-2.ensures.place c.before-2.ensures.origin
+
+pub returns-clause-inside : goal.returns-clause-inside
+returns-clause-inside g c = grind (arith, common_steps)
 
 pub returns-clause-ahead : goal.returns-clause-ahead
 returns-clause-ahead g c =

@@ -7,6 +7,9 @@ use Rattle.cbpf_dbg.proofs.CursorLemmas.{entry_at_place}
 use Rattle.cbpf_dbg.proofs.FollowLemmas.{step_within, steps_few}
 use Rattle.cbpf_dbg.proofs.run.run_whole.Goals as goal
 
+pub returns-then-loaded-clause-goes : goal.returns-then-loaded-clause-goes
+returns-then-loaded-clause-goes g c = search rules
+
 pub start-requires-clause-near : goal.start-requires-clause-near
 start-requires-clause-near g c =
     let ran = c.if-not-run_records.ensures.goes in
@@ -28,6 +31,3 @@ returns-clause-keeps g c = λ r there.
     c.start.ensures.stands (trace (machine_in c.args.loaded.now) r.bytes r.wire)
     (first_entry _ ran.passes.stands.sound)
     (entry_at_place _ _ _ r ran.passes.stands there begun)
-
-pub returns-then-loaded-clause-goes : goal.returns-then-loaded-clause-goes
-returns-then-loaded-clause-goes g c = search rules

@@ -7,6 +7,9 @@ use Rattle.cbpf_dbg.specs.Commands.{back_place}
 use Rattle.cbpf_dbg.specs.Loaded.{machine_in}
 use Rattle.cbpf_dbg.proofs.step.step_back.Goals as goal
 
+pub returns-then-b-from-clause-answer : goal.returns-then-b-from-clause-answer
+returns-then-b-from-clause-answer g c = search rules
+
 pub stop_at-requires : goal.stop_at-requires
 stop_at-requires g c =
     (goes_from_entry _ c.requires.stands.sound (c.args.cursor.now.place.step - c.args.b - 1) c.back-state.result
@@ -33,6 +36,3 @@ returns-clause-answer g c =
 
 pub returns-clause-turns : goal.returns-clause-turns
 returns-clause-turns g c = search rules
-
-pub returns-then-b-from-clause-answer : goal.returns-then-b-from-clause-answer
-returns-then-b-from-clause-answer g c = search rules

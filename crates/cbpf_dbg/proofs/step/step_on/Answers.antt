@@ -1,5 +1,5 @@
-use Rattle.std.proofs.lemmas.Grind.{common_steps}
 use Rattle.std.proofs.Common.{◌≡◌, ◌+◌, ◌-◌, length, arith, ap, ◌∙◌, Some, None, slice_get, refl}
+use Rattle.std.proofs.lemmas.Grind.{common_steps}
 use Rattle.cbpf_dbg.specs.Joined.{ahead}
 use Rattle.cbpf_dbg.specs.Cursor.{owed, entry_here}
 use Rattle.cbpf_dbg.proofs.CursorLemmas.{goes}
@@ -58,9 +58,6 @@ pub returns-then-left-eq1-clause-start : goal.returns-then-left-eq1-clause-start
 returns-then-left-eq1-clause-start g c =
     rw c.in-Entry.ensures.moves.2 (start_first _ _ _ _ c.go.invariant.left c.in-Some.ensures)
 
-pub returns-then-left-eq1-clause-inside : goal.returns-then-left-eq1-clause-inside
-returns-then-left-eq1-clause-inside g c = grind (arith, common_steps)
-
 pub returns-then-left-eq1-clause-keeps : goal.returns-then-left-eq1-clause-keeps
 returns-then-left-eq1-clause-keeps g c =
     let m = c.in-Entry.ensures.moves in
@@ -78,6 +75,9 @@ returns-then-left-eq1-clause-steps g c = λ breakpoints.
     step_stopped (machine_in c.args.loaded.now) c.args.loaded.now.capture.now breakpoints c.args.n c.args.cursor.now
     (record c.advance.new.cursor { start = c.in-Some.here.start }) m.0 c.stop_at.result (c.go.invariant.nears.sought ∙ here) (c.stop_at.ensures m.0)
     (c.in-Entry.ensures.origin ∙ c.go.invariant.nears.passes.origin)
+
+pub returns-then-left-eq1-clause-inside : goal.returns-then-left-eq1-clause-inside
+returns-then-left-eq1-clause-inside g c = grind (arith, common_steps)
 
 pub returns-then-left-eq1-clause-turns : goal.returns-then-left-eq1-clause-turns
 returns-then-left-eq1-clause-turns g c = λ breakpoints.
