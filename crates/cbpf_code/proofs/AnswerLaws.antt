@@ -15,9 +15,8 @@ use Rattle.cbpf_code.specs.declared.checker.CheckFault.TheVariants.{UnknownExten
 use Rattle.cbpf_code.specs.declared.words.WordFault.{WordFault}
 use Rattle.cbpf_code.specs.declared.words.WordFault.TheVariants.{Memory, CountDiffers}
 use Rattle.cbpf_code.specs.Opcode.{op_of}
-use Rattle.cbpf_code.specs.Faults.{NamesNoSlot, DividesByZero, ShiftsTooFar, JumpsOutside, LoadsNoExtension}
-use Rattle.cbpf_code.specs.Faults.{HasFault, FirstFault, IsEarlier, rank, index_of}
-use Rattle.cbpf_code.specs.Faults.{uses_slot, divides_by_k, shifts_by_k}
+use Rattle.cbpf_code.specs.Faults.{NamesNoSlot, HasFault, FirstFault, rank, index_of, uses_slot, shifts_by_k}
+use Rattle.cbpf_code.specs.Faults.{DividesByZero, ShiftsTooFar, JumpsOutside, LoadsNoExtension, IsEarlier, divides_by_k}
 use Rattle.cbpf_code.specs.CheckSteps.{PassesBefore, IsAllowed, AllowedAt}
 use Rattle.cbpf_code.specs.WordTokens.{WordToken, run, single, tokens}
 use Rattle.cbpf_code.specs.WordText.{Due, count, next_due, range_of, token_fault, or_else, first_fault, fault_of}

@@ -1,7 +1,6 @@
 -- How the tokens of a text begin.
-use Rattle.std.proofs.Common.{IsTrue, nat_eq, ◌↔◌, ◌≡◌, ℕ, ◌+◌, ◌<◌, ◌≤◌, ◌≢◌, true, false}
-use Rattle.std.proofs.Common.{inl, inr, List, [], ◌∷◌, ◌++◌, length, drop, get_or, refl, ◌∙◌, ap, arith, tests}
-use Rattle.std.proofs.Common.{drop-cons, drop-drop, add-one, suc}
+use Rattle.std.proofs.Common.{IsTrue, nat_eq, true, false, length, get_or, arith, tests, drop-cons, drop-drop, add-one}
+use Rattle.std.proofs.Common.{◌↔◌, ◌≡◌, ℕ, ◌+◌, ◌<◌, ◌≤◌, ◌≢◌, inl, inr, List, [], ◌∷◌, ◌++◌, drop, refl, ◌∙◌, ap, suc}
 use Rattle.std.specs.List.{AllByRecursion, take_while, prefix_len}
 use Rattle.std.proofs.lemmas.Bool.{cases_Bool, cases_lt, eq-eqb, eqb-true}
 use Rattle.std.proofs.Math.Seq.{take-append_seam, drop-append_seam}

@@ -1,7 +1,6 @@
 -- Writes one after another.
-use Rattle.std.proofs.Common.{◌≡◌, ℕ, ◌+◌, ◌-◌, ◌≤◌, List, [], ◌++◌, take, drop, get_or, ◌<◌}
-use Rattle.std.proofs.Common.{length, length-drop, take_all, append_assoc, append-nil, sym, ◌∙◌, ap, arith}
-use Rattle.std.proofs.Common.{Option, None, Some, Result, Ok, Err}
+use Rattle.std.proofs.Common.{◌≡◌, ◌+◌, ◌-◌, ◌≤◌, List, [], ◌++◌, take, drop, ◌<◌, sym, ◌∙◌, ap, None, Some, Ok, Err}
+use Rattle.std.proofs.Common.{ℕ, get_or, length, length-drop, take_all, append_assoc, append-nil, arith, Option, Result}
 use Rattle.std.specs.Io.KnownBytes.{Appends, Keeps}
 use Rattle.std.proofs.lemmas.List.{take-append-drop, take_more}
 use Rattle.std.proofs.lemmas.Grind.{flat_map-append}

@@ -1,5 +1,5 @@
 -- How the parts of a session fit together: a matter of this crate alone, which no public clause names.
-use Rattle.std.specs.Prelude.{◌≡◌, ℕ, ◌-◌, ◌<◌, ◌≤◌, List, [], Bool, true, Option, Some, None, length, take}
+use Rattle.std.specs.Prelude.{◌≡◌, ℕ, ◌-◌, ◌<◌, ◌≤◌, List, Bool, true, Option, Some, None, length, take}
 use Rattle.std.specs.Prelude.{◌≢◌, slice_get, nat_eq, ◌||◌}
 use Rattle.std.specs.Map.{lookup}
 use Rattle.cbpf_machine.specs.declared.pause.When.{When}
@@ -41,10 +41,6 @@ Fits stands_for _ values _ w = (w.place ≡ start) × (w.origin ≡ 1)
 abbrev pub NeedsNoValue : Machine → Type 0
 NeedsNoValue machine = (bytes : List ℕ) (wire : ℕ) (s : Registers) → s.pc < length machine.list
     → asked (turn machine bytes wire s) ≡ None
-
--- no entry can be a hit
-abbrev pub CannotStop : Machine → Breakpoints → Type 0
-CannotStop machine breakpoints = (breakpoints ≡ []) × NeedsNoValue machine
 
 -- whether an entry with this state is a hit
 abbrev pub hits : Machine → Breakpoints → List ℕ → ℕ → Registers → Bool

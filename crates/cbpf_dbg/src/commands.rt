@@ -38,7 +38,7 @@ macro_rules! loaded_in {
             capture,
             breakpoints: &$session.breakpoints,
             watched: &$session.watched,
-            cannot_stop: $session.needs_no_value && $session.breakpoints.is_empty(),
+            needs_no_value: $session.needs_no_value,
         }
     }};
 }

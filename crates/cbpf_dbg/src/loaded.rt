@@ -1,9 +1,9 @@
 //! What a session's commands work on.
 
-ghost use Rattle.std.specs.Prelude.{◌≡◌, ◌<◌, ◌^◌, length, true};
+ghost use Rattle.std.specs.Prelude.{◌≡◌, ◌<◌, ◌^◌, [], length, true};
 ghost use Rattle.cbpf_code.specs.Sound.{IsSound};
 ghost use Rattle.cbpf_machine.specs.Machine.{machine_of};
-ghost use Rattle.cbpf_dbg.specs.Session.{CannotStop, Watches};
+ghost use Rattle.cbpf_dbg.specs.Session.{NeedsNoValue, Watches};
 
 use cbpf_code::Program;
 use cbpf_machine::{Values, Watched};
@@ -25,10 +25,20 @@ pub(crate) struct Loaded<'a, A: Allocator> {
     pub(crate) breakpoints: &'a Breakpoints<A>,
     /// The entries that are hits.
     pub(crate) watched: &'a Watched<A>,
-    /// Whether it is known that no entry can be a hit.
-    pub(crate) cannot_stop: bool,
+    /// Whether it is known that no instruction asks for an extension that has no value.
+    pub(crate) needs_no_value: bool,
     ghost sound: { IsSound program.now },
     ghost few: { length capture.now.records < 2 ^ 60 },
     ghost watches: { Watches watched.now (machine_of program.now values.now) breakpoints.now.entries },
-    ghost none: { cannot_stop ≡ true → CannotStop (machine_of program.now values.now) breakpoints.now.entries },
+    ghost none: { needs_no_value ≡ true → NeedsNoValue (machine_of program.now values.now) },
+}
+
+impl<A: Allocator> Loaded<'_, A> {
+    /// Whether it is known that no entry can be a hit.
+    pub(crate) fn cannot_stop(&self) -> bool
+        ensures { result ≡ true → (self.now.breakpoints.now.entries ≡ [])
+            × NeedsNoValue (machine_of self.now.program.now self.now.values.now) }
+    {
+        self.needs_no_value && self.breakpoints.is_empty()
+    }
 }

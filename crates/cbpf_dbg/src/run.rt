@@ -148,7 +148,7 @@ fn run_whole<T: Trail, A: Allocator>(
     ensures none { result ≡ false → walk.new.cursor.place.packet ≡ walk.new.end }
     ensures keeps { KeepsIn (λ xs. T.stands_for trail.new xs) loaded.now walk.new.cursor.place }
 {
-    if loaded.cannot_stop {
+    if loaded.cannot_stop() {
         return run_records(meter, loaded, &Never, walk, &mut NoTrail);
     }
     if loaded.program.len() > T::first_gap() {

@@ -29,9 +29,8 @@ use Rattle.cbpf_code.specs.WordForm.{InRange}
 use Rattle.cbpf_code.specs.Extension.{ext_at}
 use Rattle.cbpf_text.proofs.ListedRows.{IsWord, HasRow, first_byte, later_bytes, mnemonic_word, plain_as, plain_is}
 use Rattle.cbpf_text.proofs.ListedRows.{operation_row, operand_classes, operand_fields}
-use Rattle.cbpf_text.proofs.ListedTokens.{lexemes_at, lexemes_append, text_append, are_append, ends_before}
-use Rattle.cbpf_text.proofs.ListedTokens.{apart_before, are_positive, positive_append, lexemes_spelled}
-use Rattle.cbpf_text.proofs.ListedTokens.{no_large_negative}
+use Rattle.cbpf_text.proofs.ListedTokens.{lexemes_at, text_append, are_append, ends_before, apart_before, are_positive}
+use Rattle.cbpf_text.proofs.ListedTokens.{lexemes_append, positive_append, lexemes_spelled, no_large_negative}
 use Rattle.cbpf_text.proofs.ListedOperands.{operand_segments, TargetsInside, operand_apart, operand_spelled}
 use Rattle.cbpf_text.proofs.ListedOperands.{operand_are, operand_fits, operand_fills}
 use Rattle.cbpf_syntax.specs.Lexemes as grammar

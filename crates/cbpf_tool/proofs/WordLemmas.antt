@@ -1,7 +1,6 @@
 -- Words and blanks of a text.
-use Rattle.std.proofs.Common.{◌≡◌, ℕ, suc, ◌+◌, ◌-◌, ◌<◌, ◌≤◌, true, false, not, List, [], ◌∷◌, ◌++◌, length, take}
-use Rattle.std.proofs.Common.{drop, get_or, drop-cons, add-one, length-drop, take_all, inl, inr, refl, sym, ap}
-use Rattle.std.proofs.Common.{◌∙◌, arith}
+use Rattle.std.proofs.Common.{◌≡◌, ℕ, suc, ◌+◌, ◌-◌, ◌<◌, ◌≤◌, not, [], ◌∷◌, take, drop, inl, inr, refl, sym, ap, ◌∙◌}
+use Rattle.std.proofs.Common.{true, false, List, ◌++◌, length, get_or, drop-cons, add-one, length-drop, take_all, arith}
 use Rattle.std.specs.Prelude.{reverse}
 use Rattle.std.proofs.lemmas.Bool.{cases_Bool}
 use Rattle.std.proofs.lemmas.List.{take_more, nil_from_length, reverse-append, reverse-reverse}

@@ -1,4 +1,5 @@
 use Rattle.std.proofs.Common.{arith, sym, refl}
+use Rattle.std.proofs.lemmas.Grind.{common_steps}
 use Rattle.pcap_classic.specs.Lent.{record_of}
 use Rattle.cbpf_dbg.specs.Loaded.{machine_in, records_in}
 use Rattle.cbpf_dbg.specs.declared.cursor.Moved.TheVariants as moved
@@ -7,6 +8,9 @@ use Rattle.cbpf_dbg.proofs.FollowLemmas.{kept_steps, steps_few, steps_fit, goes_
 use Rattle.cbpf_dbg.proofs.KeepLemmas.{keeps_followed}
 use Rattle.cbpf_dbg.proofs.RecordsLeftLemmas.{first_left, first_of}
 use Rattle.cbpf_dbg.proofs.run.go_on_in_packet.Goals as goal
+
+pub front-here-requires : goal.front-here-requires
+front-here-requires g c = grind (arith, common_steps)
 
 pub follow-followed-requires-clause-spare : goal.follow-followed-requires-clause-spare
 follow-followed-requires-clause-spare g c =

@@ -7,8 +7,8 @@ use Rattle.cbpf_dbg.proofs.CursorLemmas.{entry_at_place}
 use Rattle.cbpf_dbg.proofs.FollowLemmas.{step_within, steps_few}
 use Rattle.cbpf_dbg.proofs.run.run_whole.Goals as goal
 
-pub returns-then-loaded-clause-goes : goal.returns-then-loaded-clause-goes
-returns-then-loaded-clause-goes g c = search rules
+pub returns-then-cannot_stop-clause-goes : goal.returns-then-cannot_stop-clause-goes
+returns-then-cannot_stop-clause-goes g c = search rules
 
 pub start-requires-clause-near : goal.start-requires-clause-near
 start-requires-clause-near g c =

@@ -1,10 +1,18 @@
 use Rattle.std.proofs.Common.{◌+◌, ◌∙◌, arith, ap}
+use Rattle.std.proofs.lemmas.Grind.{common_steps}
 use Rattle.cbpf_machine.proofs.SoundLemmas.{sound_some}
 use Rattle.cbpf_reply.specs.declared.reply.Place.{Place}
+use Rattle.cbpf_dbg.proofs.RecordsLeftLemmas.{start_first}
 use Rattle.cbpf_dbg.proofs.StepLemmas.{GoesPast, goes_past, nears_more}
 use Rattle.cbpf_dbg.proofs.step.skip_packets.Given.{Over}
 use Rattle.cbpf_dbg.proofs.step.skip_packets.Goals.{After-run_records-paused}
 use Rattle.cbpf_dbg.proofs.step.skip_packets.Goals as goal
+
+pub records_at-requires-clause-there : goal.records_at-requires-clause-there
+records_at-requires-clause-there g c = start_first _ _ _ _ c.requires.left c.in-Some.ensures
+
+pub skip-init : goal.skip-init
+skip-init g c = grind (arith, common_steps)
 
 pub nonzero_div-packets : goal.nonzero_div-packets
 nonzero_div-packets g c =
