@@ -1,5 +1,0 @@
-use Rattle.std.proofs.Common.{rules}
-use Rattle.cbpf_code.proofs.writing.write_with_number.Goals as goal
-
-pub returns : goal.returns
-returns g c = search rules
