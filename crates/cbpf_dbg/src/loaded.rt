@@ -25,12 +25,12 @@ pub(crate) struct Loaded<'a, A: Allocator> {
     pub(crate) breakpoints: &'a Breakpoints<A>,
     /// The entries that are hits.
     pub(crate) watched: &'a Watched<A>,
-    /// Whether it is known that no instruction asks for an extension that has no value.
+    /// Whether no instruction asks for an extension that has no value.
     pub(crate) needs_no_value: bool,
     ghost sound: { IsSound program.now },
     ghost few: { length capture.now.records < 2 ^ 60 },
     ghost watches: { Watches watched.now (machine_of program.now values.now) breakpoints.now.entries },
-    ghost none: { needs_no_value ≡ true → NeedsNoValue (machine_of program.now values.now) },
+    ghost needs: { needs_no_value ≡ true → NeedsNoValue (machine_of program.now values.now) },
 }
 
 impl<A: Allocator> Loaded<'_, A> {
