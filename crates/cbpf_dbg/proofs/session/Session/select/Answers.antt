@@ -1,5 +1,0 @@
-use Rattle.std.proofs.Common.{rules}
-use Rattle.cbpf_dbg.proofs.session.Session.select.Goals as goal
-
-pub returns-clause-after : goal.returns-clause-after
-returns-clause-after g c = search rules

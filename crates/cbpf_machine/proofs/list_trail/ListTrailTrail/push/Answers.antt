@@ -1,5 +1,0 @@
-use Rattle.std.proofs.Common.{rules}
-use Rattle.cbpf_machine.proofs.list_trail.ListTrailTrail.push.Goals as goal
-
-pub returns : goal.returns
-returns g c = search rules

@@ -1,8 +1,0 @@
-use Rattle.std.proofs.Common.{rules}
-use Rattle.cbpf_tool.proofs.disk_files.bytes_read.Goals as goal
-
-pub returns-in-Err : goal.returns-in-Err
-returns-in-Err g c = search rules
-
-pub returns-in-Ok : goal.returns-in-Ok
-returns-in-Ok g c = search rules
