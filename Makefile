@@ -64,7 +64,7 @@ test: built ## Runs the end-to-end cases, sessions, verdicts, the works of bench
 bench: built ## Measures the program that is built beside its peers, and writes the tables of bench/README.md and bench/growth.svg.
 	python3 bench/all.py
 
-check: ## The gate: proves all crates and their tests from nothing, tries the must-fail edits, runs all tests; about an hour on two processors, by the machine.
+check: ## The gate: proves all crates and their tests from nothing, tries the must-fail edits, runs all tests; an hour or more on two processors, by the machine.
 	python3 tests/names.py
 	@python3 tools/check.py
 	python3 tests/compile.py
