@@ -1,6 +1,6 @@
 // A reader and a writer that share a count. Before each read that waits, and before each command that may take
-// long, the replies so far are written and flushed; nothing is flushed twice; and after a flush that fails
-// nothing is read and nothing is written.
+// long, the replies so far are written and flushed, once; at the end there is always a flush; and after a flush
+// that fails nothing is read and nothing is written.
 use crate::assertions::{Test, assert_named};
 use crate::fault_injection::ERROR_KINDS;
 use crate::inputs::two_packets_as_k;
@@ -140,13 +140,14 @@ fn wanted_flushes(rt: &impl Test, exchanges: &[Exchange], in_one_read: bool) -> 
         }
         written = written.saturating_add(*reply);
     }
-    if written > flushed {
+    let quits = matches!(exchanges.last(), Some((b"quit\n", _, _)));
+    if written > flushed && !quits {
         flushes.push(written).expect(rt, "memory");
     }
     if exchanges.len() == CUT {
-        let with_answer = written.saturating_add(ANSWER_TO_A_CUT_LINE);
-        flushes.push(with_answer).expect(rt, "memory");
+        written = written.saturating_add(ANSWER_TO_A_CUT_LINE);
     }
+    flushes.push(written).expect(rt, "memory");
     flushes
 }
 
@@ -225,12 +226,12 @@ fn each_reply_is_flushed_before_the_next_read_or_nothing_more_is_read(rt: HostRu
 static SILENT: [Exchange; 3] = [(b"\n", Short, 0), (b" \n", Short, 0), (b"quit\n", Short, 0)];
 
 #[test]
-fn a_script_without_replies_flushes_nothing(rt: HostRuntime) {
+fn a_script_without_replies_is_flushed_at_its_end(rt: HostRuntime) {
     each_flush(&rt, &SILENT);
 }
 
 /// Commands that may take long, after others that have a reply, and after ones that have not.
-static SCRIPT: [Exchange; 17] = [
+static SCRIPT: [Exchange; 21] = [
     (b"load bpf 1,6 0 0 1\n", Short, 20),
     (b"mark\n", Short, 21),
     (b"load pcap k\n", Long, 16),
@@ -242,8 +243,14 @@ static SCRIPT: [Exchange; 17] = [
     (b"resume 1 0\n", Long, 7),
     (b"mark\n", Short, 4),
     // error: S8 count is zero
-    (b"step 0\n", Long, 24),
-    (b"step 0\n", Long, 24),
+    (b"step 0\n", Short, 24),
+    // error: S7 at most 0 back
+    (b"step -4095\n", Short, 25),
+    (b"step -4096\n", Long, 25),
+    // bpf passes:2 fails:0
+    (b"step 4095\n", Short, 21),
+    (b"step 4096\n", Long, 21),
+    (b"step 0\n", Short, 24),
     (b"hello\n", Short, 26),
     (b"stops\n", Long, 9),
     (b"select 1\n", Short, 7),

@@ -5,9 +5,9 @@ use Rattle.std.proofs.Common.{Err, MatchResult, append_assoc, append-nil, refl, 
 use Rattle.std.proofs.lemmas.List.Folds.{list_any-append, list_any_more}
 use Rattle.std.specs.Io.KnownBytes.{Keeps, Consumes, IsAtEnd}
 use Rattle.cbpf_tool.specs.Lines.{has_newline}
-use Rattle.cbpf_tool.specs.LineReader.{IsStreamFault, unread, Took, Fills, TakesLine}
+use Rattle.cbpf_tool.specs.LineReader.{unread, Took, Fills, TakesLine}
 use Rattle.cbpf_tool.specs.declared.fault.ToolFault.{ToolFault}
-use Rattle.cbpf_tool.specs.declared.fault.ToolFault.TheVariants.{Source, Read, Write, Memory}
+use Rattle.cbpf_tool.specs.declared.fault.ToolFault.TheVariants.{Read}
 
 pub plain-append : (l m : List ℕ) → has_newline l ≡ false → has_newline m ≡ false → has_newline (l ++ m) ≡ false
 plain-append l m h k = list_any-append (λ b. eqb b 10) l m ∙ rw (h, k) refl
@@ -109,13 +109,10 @@ took-some {p = p} {line = []} {left = left} t h e = unread-some p t.rest left h 
 took-some {line = b ∷ bs} t h e = let f : (b ∷ bs) ++ t.rest ≡ [] = sym t.split ∙ e in cc
 
 pub line-unfilled : {bytes p p' line : List ℕ} {left : Option (List ℕ)} (left' : Option (List ℕ)) (e : ToolFault)
-    → Took bytes p left line → has_newline line ≡ false → IsStreamFault e
+    → Took bytes p left line → has_newline line ≡ false → e ≡ Read
     → ((rest : List ℕ) → unread p left ≡ Some rest → Fills rest p' left' (Err e))
     → TakesLine bytes p' left' line (Err e)
-line-unfilled left' Read t h n f = let k = f t.rest t.known in (h, k.1, took-filled t k.0)
-line-unfilled left' Write t h n f = tt
-line-unfilled left' Memory t h n f = absurd n
-line-unfilled left' (Source e) t h n f = absurd n
+line-unfilled left' e t h n f = let k = f t.rest t.known in rw n (h, k.1, took-filled t k.0)
 
 pub pending-some : (chunk : List ℕ) (start end : ℕ) → end ≤ length chunk → start < end
     → 0 < length (take (end - start) (drop start chunk))

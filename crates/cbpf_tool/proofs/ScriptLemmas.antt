@@ -20,7 +20,8 @@ use Rattle.cbpf_tool.specs.Progress.{LineRan, EachPlain, LinesRan, still, onward
 use Rattle.cbpf_tool.specs.Debugged.{Printed, Faulted, Finished}
 use Rattle.cbpf_tool.specs.declared.fault.ToolFault.{ToolFault}
 use Rattle.cbpf_tool.specs.declared.fault.ToolFault.TheVariants.{Source as RefusedSource, Read, Write, Memory}
-use Rattle.cbpf_tool.specs.declared.debugger.AfterLine.{AfterLine}
+use Rattle.cbpf_tool.specs.declared.line_reader.LineEnd.{LineEnd}
+use Rattle.cbpf_tool.specs.declared.line_reader.LineEnd.TheVariants.{Newline, Input}
 use Rattle.cbpf_tool.specs.declared.debugger.AfterLine.TheVariants.{NextLine, Quit}
 
 lines-plain : (l bs : List ℕ) → has_newline l ≡ false → lines (l ++ 10 ∷ bs) ≡ l ∷ lines bs
@@ -147,7 +148,7 @@ module _ {script pending : List ℕ} {left old new : Option (List ℕ)} {m : Vie
     no_quit,
     wrote,
   )
-  line-faulted pending' line left' Write h = (printed, part-whole old new' p.text wrote)
+  line-faulted pending' line left' Write h = absurd h
   line-faulted pending' line left' Memory h = (printed, lines-some p.rest h, no_quit, wrote)
   line-faulted pending' line left' (RefusedSource e) h = absurd h
 
@@ -203,13 +204,12 @@ module _ {script pending : List ℕ} {left old new : Option (List ℕ)} {m : Vie
         } in
         (all, refl, inl (quit-in p.done line more q.0), appended-then old new' new'' p.text [] wrote q.2)
 
-    -- after it the input is at its end, whatever comes after the line
-    pub either-done : (left' : Option (List ℕ)) → left' ≡ Some [] → more ≡ [] → (b : AfterLine)
-        → LineRan g g' m n (command_of line) new' new'' (Ok b) → Finished script left' old new'' f g'
-    either-done left' z e NextLine c =
+    -- after it the input is at its end
+    pub last-done : (left' : Option (List ℕ)) → left' ≡ Some [] → more ≡ []
+        → LineRan g g' m n (command_of line) new' new'' (Ok NextLine) → Finished script left' old new'' f g'
+    last-done left' z e c =
         let r = c.1 still_known in
         (one_line r.0 r.1, e, inr z, rw (append-nil r.0) (appended-then old new' new'' p.text r.0 wrote r.2))
-    either-done left' z e Quit c = quit-done left' c
 
     pub line-done : {pending' : List ℕ} {left' : Option (List ℕ)} → has_newline line ≡ false
         → Took p.rest pending' left' (line ++ 10 ∷ []) → LineRan g g' m n (command_of line) new' new'' (Ok NextLine)
@@ -254,10 +254,16 @@ pub next-whole : {rest pending held line : List ℕ} {left : Option (List ℕ)} 
 next-whole {held = held} e h t =
     rw e (ap lines (t.split ∙ append_assoc held (10 ∷ []) t.rest) ∙ lines-plain held t.rest h)
 
-pub next-last : {rest held line : List ℕ} → line ≡ held → has_newline held ≡ false → (length held ≡ 0 → ⊥)
+pub next-last : {rest held line : List ℕ} → line ≡ held → has_newline held ≡ false → (held ≡ [] → ⊥)
     → rest ≡ held → lines rest ≡ line ∷ []
 next-last {held = []} l h s e = absurd (s refl)
 next-last {held = b ∷ bs} l h s e = ap lines e ∙ lines-last b bs h ∙ sym (ap (λ (x : List ℕ). x ∷ []) l)
+
+-- either way
+pub next : {line : List ℕ} (rest pending held : List ℕ) (left : Option (List ℕ)) (end : LineEnd) → line ≡ held
+    → TakesLine rest pending left held (Ok (Some end)) → (more : List (List ℕ)) × (lines rest ≡ line ∷ more)
+next rest pending held left Newline e t = (_, next-whole e t.0 t.1)
+next rest pending held left Input e t = (_, next-last e t.0 t.3 t.1)
 
 -- after the last flush
 pub ended : (script : List ℕ) (left old new new' : Option (List ℕ)) (f g : Source) (r : Result (Unit {0}) ToolFault)

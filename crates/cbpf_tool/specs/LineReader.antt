@@ -1,5 +1,5 @@
 -- What taking one line from a reader leaves, where its bytes are known. No public clause names it.
-use Rattle.std.specs.Prelude.{◌≡◌, ℕ, false, List, [], ◌∷◌, ◌++◌, slice_range, Bool, true, Option, Some, Result, Ok}
+use Rattle.std.specs.Prelude.{◌≡◌, ℕ, false, List, [], ◌∷◌, ◌++◌, slice_range, Bool, true, Option, Some, None, Result, Ok}
 use Rattle.std.specs.Prelude.{Err, ◌≢◌, ◌+◌, ◌-◌, ◌*◌}
 use Rattle.std.specs.Option.{option_map}
 use Rattle.cbpf_tool.specs.Lines.{has_newline}
@@ -8,13 +8,6 @@ use Rattle.cbpf_tool.specs.declared.fault.ToolFault.TheVariants.{Source, Read, W
 use Rattle.cbpf_tool.specs.declared.TheConstants.{READ_SIZE}
 use Rattle.cbpf_tool.specs.declared.line_reader.LineEnd.{LineEnd}
 use Rattle.cbpf_tool.specs.declared.line_reader.LineEnd.TheVariants.{Newline, Input}
-
--- a fault of the reader or of the writer
-abbrev pub IsStreamFault : ToolFault → Type 0
-IsStreamFault Read = Unit {0}
-IsStreamFault Write = Unit {0}
-IsStreamFault Memory = ⊥
-IsStreamFault (Source f) = ⊥
 
 -- the bytes of a chunk that were read and not yet taken
 abbrev pub pending_in : List ℕ → ℕ → ℕ → List ℕ
@@ -48,14 +41,16 @@ TakesPart pending pending' line line' (Ok false) =
     (has_newline pending ≡ false) × (pending' ≡ []) × (line' ≡ line ++ pending)
 TakesPart pending pending' line line' (Err e) = e ≡ Memory
 
--- a line and its newline; all that was left, without a newline, and the reader is at its end; a part of a line after
--- which a read failed; or that there is a line
-abbrev pub TakesLine : List ℕ → List ℕ → Option (List ℕ) → List ℕ → Result LineEnd ToolFault → Type 0
-TakesLine bytes pending left line (Ok Newline) =
+-- a line and its newline; all that was left, without a newline, and the reader is at its end; that nothing was left; a
+-- part of a line after which a read failed; or that there is a line
+abbrev pub TakesLine : List ℕ → List ℕ → Option (List ℕ) → List ℕ → Result (Option LineEnd) ToolFault → Type 0
+TakesLine bytes pending left line (Ok (Some Newline)) =
     (has_newline line ≡ false) × Took bytes pending left (line ++ 10 ∷ [])
-TakesLine bytes pending left line (Ok Input) = (has_newline line ≡ false) × (bytes ≡ line) × (left ≡ Some [])
+TakesLine bytes pending left line (Ok (Some Input)) =
+    (has_newline line ≡ false) × (bytes ≡ line) × (left ≡ Some []) × (line ≢ [])
+TakesLine bytes pending left line (Ok None) = (bytes ≡ []) × (left ≡ Some [])
 TakesLine bytes pending left line (Err Read) =
     (has_newline line ≡ false) × (pending ≡ []) × Took bytes pending left line
-TakesLine bytes pending left line (Err Write) = Unit {0}
+TakesLine bytes pending left line (Err Write) = ⊥
 TakesLine bytes pending left line (Err Memory) = bytes ≢ []
 TakesLine bytes pending left line (Err (Source f)) = ⊥

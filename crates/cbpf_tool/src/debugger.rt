@@ -1,16 +1,14 @@
 // Runs a script line by line.
-ghost use Rattle.std.specs.Prelude.{◌≡◌, ℕ, List, [], Some, IsTrue, Ok, IfErr};
-ghost use Rattle.std.specs.Io.KnownBytes.{Keeps};
+ghost use Rattle.std.specs.Prelude.{◌≡◌, ℕ, List, [], Some, IsTrue, Ok};
 ghost use Rattle.cbpf_dbg.specs.View.{empty_view};
 ghost use Rattle.cbpf_tool.specs.Debugged.{Debugged};
 ghost use Rattle.cbpf_tool.specs.Progress.{LineRan};
 ghost use Rattle.cbpf_tool.specs.LineReader.{pending_in};
-ghost use Rattle.cbpf_tool.specs.declared.fault.ToolFault.TheVariants as fault;
 
 use crate::command::{Command, command_of};
 use crate::fault::ToolFault;
 use crate::files::Files;
-use crate::flushing::flush;
+use crate::flushing::{flush, flush_due};
 use crate::line_reader::{LineEnd, LineReader};
 use crate::loads::{load_capture, load_words};
 use crate::reply_to::{ScriptSession, reply_to};
@@ -51,7 +49,7 @@ fn act<A: Allocator + Copy, W: Write, F: Files>(
 /// What a line says, as `command_of` answers it.
 type Said<'a> = Result<Option<Command<'a>>, CommandFault>;
 
-/// Whether a command can make turns, or loads a capture.
+/// Whether a line has a command that may take long.
 fn may_take_long(said: &Said<'_>) -> bool {
     match said {
         Ok(Some(command)) => command.may_take_long(),
@@ -59,23 +57,9 @@ fn may_take_long(said: &Said<'_>) -> bool {
     }
 }
 
-/// Whether a line has no reply.
-fn has_no_reply(said: &Said<'_>) -> bool {
-    matches!(said, Ok(None) | Ok(Some(Command::Quit)))
-}
-
-/// Flushes the replies so far before a command that may take long. What comes next is the line's reply.
-fn flush_before<W: Write>(w: &mut W, unflushed: &mut bool, said: &Said<'_>) -> Result<(), ToolFault>
-    ensures kept { Keeps (W.contents w.old) (W.contents w.new) }
-    ensures fault { IfErr result (λ e. e ≡ fault.Write) }
-{
-    if may_take_long(said) {
-        flush(w, unflushed)?;
-    }
-    if !has_no_reply(said) {
-        *unflushed = true;
-    }
-    Ok(())
+/// Whether a line has a reply.
+fn has_reply(said: &Said<'_>) -> bool {
+    !matches!(said, Ok(None) | Ok(Some(Command::Quit)))
 }
 
 /// Runs a line that was read, and writes its reply.
@@ -109,7 +93,6 @@ fn run_lines<A: Allocator + Copy, R: Read, W: Write, F: Files>(
     session: &mut ScriptSession<A>,
     lines: &mut LineReader,
     line: &mut Vec<u8, A>,
-    unflushed: &mut bool,
 ) -> Result<(), ToolFault>
     requires session { session.old ≡ empty_view }
     requires lines { pending_in lines.old.chunk lines.old.start lines.old.end ≡ [] }
@@ -117,41 +100,38 @@ fn run_lines<A: Allocator + Copy, R: Read, W: Write, F: Files>(
         Debugged script (R.remaining reader.new) (W.contents writer.old) (W.contents writer.new) (F.source files.old)
         (F.source files.new) result }
 {
+    let mut waiting = false;
     'script: loop {
-        match lines.next_line(reader, writer, unflushed, line) {
+        if let Err(fault) = flush_due(writer, &mut waiting, !lines.has_line()) {
+            return Err(fault);
+        }
+        match lines.next_line(reader, line) {
             Err(fault) => return Err(fault),
-            Ok(LineEnd::Input) => break,
-            Ok(LineEnd::Newline) => {
+            Ok(None) => return Ok(()),
+            Ok(Some(end)) => {
                 let said = command_of(line.as_slice());
-                if let Err(fault) = flush_before(writer, unflushed, &said) {
+                if let Err(fault) = flush_due(writer, &mut waiting, may_take_long(&said)) {
                     return Err(fault);
                 }
+                waiting |= has_reply(&said);
                 match run_line(alloc, writer, session, files, said) {
                     Err(_) => return Err(ToolFault::Write),
                     Ok(AfterLine::Quit) => return Ok(()),
-                    Ok(AfterLine::NextLine) => {}
+                    Ok(AfterLine::NextLine) => match end {
+                        LineEnd::Newline => {}
+                        LineEnd::Input => return Ok(()),
+                    },
                 }
             }
         }
-    }
-    if line.is_empty() {
-        return Ok(());
-    }
-    let said = command_of(line.as_slice());
-    if let Err(fault) = flush_before(writer, unflushed, &said) {
-        return Err(fault);
-    }
-    match run_line(alloc, writer, session, files, said) {
-        Err(_) => Err(ToolFault::Write),
-        Ok(_) => Ok(()),
     }
 }
 
 /// Runs a script of commands: reads lines up to `quit` or the end of the input, and writes the reply of
 /// each before the next one acts. A refused command is answered by a line `error: ..`, and the script goes
-/// on. The replies are flushed before each command that can make turns or loads a capture, as it may take
-/// long, before each read, and before `Ok`; where none was written since the last flush, nothing is flushed.
-/// So what the writer was given before the call goes out with the first replies.
+/// on. Replies that were written since the last flush are flushed before each read, and before each command
+/// that loads a capture, runs, resumes, lists stops or steps by 4096 instructions or more, as it may take long.
+/// Before `Ok` the writer is flushed whether or not any were written.
 ///
 /// # Errors
 ///
@@ -173,7 +153,6 @@ pub fn debug<A: Allocator, R: Read, W: Write, F: Files>(
     let mut session = Session::new(alloc, MarkTrail::new());
     let mut lines = LineReader::new();
     let mut line = Vec::new(alloc);
-    let mut unflushed = false;
     run_lines(
         alloc,
         reader,
@@ -182,7 +161,6 @@ pub fn debug<A: Allocator, R: Read, W: Write, F: Files>(
         &mut session,
         &mut lines,
         &mut line,
-        &mut unflushed,
     )?;
-    flush(writer, &mut unflushed)
+    flush(writer)
 }

@@ -3,15 +3,15 @@ ghost use Rattle.std.specs.Prelude.{◌≡◌, ◌-◌, ◌^◌, ◌<◌, ◌≤
 ghost use Rattle.std.specs.Prelude.{slice_index, true, false, OnOk, IfOk, IfErr, MatchOption, MatchResult};
 ghost use Rattle.std.specs.Io.KnownBytes.{Keeps, Consumes, IsAtEnd};
 ghost use Rattle.cbpf_tool.specs.Lines.{has_newline};
-ghost use Rattle.cbpf_tool.specs.LineReader.{IsStreamFault, pending_in, steps_left, unread, Fills, TakesPart, TakesLine};
+ghost use Rattle.cbpf_tool.specs.LineReader.{pending_in, steps_left, unread, Fills, TakesPart, TakesLine};
 ghost use Rattle.cbpf_tool.specs.declared.TheConstants.{READ_SIZE};
+ghost use Rattle.cbpf_tool.specs.declared.fault.ToolFault.TheVariants as fault;
 ghost use Rattle.cbpf_tool.specs.declared.line_reader.LineEnd.TheVariants as end;
 
 use crate::READ_SIZE;
 use crate::fault::ToolFault;
-use crate::flushing::flush;
 use std::alloc::Allocator;
-use std::io::{Read, Write};
+use std::io::Read;
 
 /// What a line ends at.
 #[derive(Clone, Copy)]
@@ -36,12 +36,24 @@ fn newline_in(bytes: &[u8]) -> Option<usize>
     None
 }
 
+/// Where the last line ends that has its newline.
+fn whole_lines_end(bytes: &[u8]) -> usize {
+    for i in (0..bytes.len()).rev() {
+        if bytes[i] == b'\n' {
+            return i + 1;
+        }
+    }
+    0
+}
+
 /// The lines of an input. It makes at most 18446744073709551615 reads in all.
 #[derive(Drop)]
 pub struct LineReader {
     chunk: [u8; READ_SIZE],
     start: usize,
     end: usize,
+    /// Where the last line of the chunk ends that has its newline.
+    whole: usize,
     reads: u64,
     ghost ordered: { start ≤ end },
     ghost within: { end ≤ length chunk },
@@ -57,20 +69,19 @@ impl LineReader {
             chunk: [0; READ_SIZE],
             start: 0,
             end: 0,
+            whole: 0,
             reads: u64::MAX,
         }
     }
 
-    /// Reads the next bytes, once all that were read are taken; false at the end of the input. What was
-    /// written is flushed first, since the read may wait.
-    fn refill<R: Read, W: Write>(
-        &mut self,
-        reader: &mut R,
-        writer: &mut W,
-        unflushed: &mut bool,
-    ) -> Result<bool, ToolFault>
+    /// Whether the next line is taken without a read.
+    pub(crate) fn has_line(&self) -> bool {
+        self.start < self.whole
+    }
+
+    /// Reads the next bytes, once all that were read are taken; false at the end of the input.
+    fn refill<R: Read>(&mut self, reader: &mut R) -> Result<bool, ToolFault>
         requires { self.old.start ≡ self.old.end }
-        ensures flushed { Keeps (W.contents writer.old) (W.contents writer.new) }
         ensures fewer { OnOk result (self.new.reads < self.old.reads) }
         ensures some { IfOk result (λ more. more ≡ true → self.new.start < self.new.end) }
         ensures bytes { MatchResult result
@@ -80,9 +91,8 @@ impl LineReader {
             × IsAtEnd (R.remaining reader.new)))
             (λ e. Keeps (R.remaining reader.old) (R.remaining reader.new)
             × (pending_in self.new.chunk self.new.start self.new.end ≡ [])) }
-        ensures fault { IfErr result IsStreamFault }
+        ensures fault { IfErr result (λ e. e ≡ fault.Read) }
     {
-        flush(writer, unflushed)?;
         if self.reads == 0 {
             return Err(ToolFault::Read);
         }
@@ -93,31 +103,26 @@ impl LineReader {
             Err(_) => Err(ToolFault::Read),
             Ok(count) => {
                 self.end = count;
+                self.whole = whole_lines_end(&self.chunk[..count]);
                 Ok(count > 0)
             }
         }
     }
 
     /// Sees that there are bytes to take; false at the end of the input.
-    fn fill<R: Read, W: Write>(
-        &mut self,
-        reader: &mut R,
-        writer: &mut W,
-        unflushed: &mut bool,
-    ) -> Result<bool, ToolFault>
-        ensures flushed { Keeps (W.contents writer.old) (W.contents writer.new) }
+    fn fill<R: Read>(&mut self, reader: &mut R) -> Result<bool, ToolFault>
         ensures fewer { OnOk result (steps_left self.new.reads self.new.start self.new.end
             ≤ steps_left self.old.reads self.old.start self.old.end) }
         ensures some { IfOk result (λ more. more ≡ true → self.new.start < self.new.end) }
         ensures bytes { (bytes : List ℕ)
             → unread (pending_in self.old.chunk self.old.start self.old.end) (R.remaining reader.old) ≡ Some bytes →
             Fills bytes (pending_in self.new.chunk self.new.start self.new.end) (R.remaining reader.new) result }
-        ensures fault { IfErr result IsStreamFault }
+        ensures fault { IfErr result (λ e. e ≡ fault.Read) }
     {
         if self.start < self.end {
             return Ok(true);
         }
-        self.refill(reader, writer, unflushed)
+        self.refill(reader)
     }
 
     /// Takes what was read up to the line's end; true where its newline was found.
@@ -150,34 +155,32 @@ impl LineReader {
         }
     }
 
-    /// Takes the next line, without its newline. At the end of the input it is what was left there.
-    pub(crate) fn next_line<R: Read, W: Write, A: Allocator>(
+    /// Takes the next line, without its newline; one that ends with the input is what was left there, if anything.
+    pub(crate) fn next_line<R: Read, A: Allocator>(
         &mut self,
         reader: &mut R,
-        writer: &mut W,
-        unflushed: &mut bool,
         line: &mut Vec<u8, A>,
-    ) -> Result<LineEnd, ToolFault>
-        ensures flushed { Keeps (W.contents writer.old) (W.contents writer.new) }
+    ) -> Result<Option<LineEnd>, ToolFault>
         ensures line { (bytes : List ℕ)
             → unread (pending_in self.old.chunk self.old.start self.old.end) (R.remaining reader.old) ≡ Some bytes →
             TakesLine bytes (pending_in self.new.chunk self.new.start self.new.end) (R.remaining reader.new)
             line.new.items result }
         ensures fewer { OnOk result (steps_left self.new.reads self.new.start self.new.end
             ≤ steps_left self.old.reads self.old.start self.old.end) }
-        ensures onward { result ≡ Ok end.Newline → steps_left self.new.reads self.new.start self.new.end
+        ensures onward { result ≡ Ok (Some end.Newline) → steps_left self.new.reads self.new.start self.new.end
             < steps_left self.old.reads self.old.start self.old.end }
     {
         line.clear();
         'parts: loop {
-            match self.fill(reader, writer, unflushed) {
+            match self.fill(reader) {
                 Err(fault) => return Err(fault),
-                Ok(false) => return Ok(LineEnd::Input),
+                Ok(false) if line.is_empty() => return Ok(None),
+                Ok(false) => return Ok(Some(LineEnd::Input)),
                 Ok(true) => {}
             }
             match self.take_part(line) {
                 Err(fault) => return Err(fault),
-                Ok(true) => return Ok(LineEnd::Newline),
+                Ok(true) => return Ok(Some(LineEnd::Newline)),
                 Ok(false) => {}
             }
         }

@@ -1,5 +1,5 @@
-use Rattle.std.proofs.Common.{arith}
-use Rattle.std.proofs.KnownBytes.{Keeps-trans}
+use Rattle.std.proofs.Common.{◌≡◌, ◌∙◌, [], arith}
+use Rattle.std.proofs.lemmas.Grind.{common_steps}
 use Rattle.cbpf_tool.proofs.LineLemmas.{line-unfilled, took-filled, took-end, took-part, took-all, took-some}
 use Rattle.cbpf_tool.proofs.LineLemmas.{plain-append, pending-some}
 use Rattle.cbpf_tool.proofs.line_reader.LineReader.next_line.Goals as goal
@@ -13,7 +13,15 @@ pub returns-in-Ok-false-clause-line : goal.returns-in-Ok-false-clause-line
 returns-in-Ok-false-clause-line g c = λ bytes e.
     let t = c.parts.invariant.so_far bytes e in
     let h = rw c.in-Ok-false.field-0-test at (c.in-Ok-false.ensures.bytes t.rest t.known) in
-    (c.parts.invariant.plain, took-end t h.0, h.1)
+    let none : c.parts.line.items ≡ [] = grind (arith, common_steps) in
+    (took-end t h.0 ∙ none, h.1)
+
+pub returns-in-Ok-false-2-clause-line : goal.returns-in-Ok-false-2-clause-line
+returns-in-Ok-false-2-clause-line g c = λ bytes e.
+    let t = c.parts.invariant.so_far bytes e in
+    let h = rw c.in-Ok-false.field-0-test at (c.in-Ok-false.ensures.bytes t.rest t.known) in
+    let some : c.parts.line.items ≡ [] → ⊥ = grind (arith, common_steps) in
+    (c.parts.invariant.plain, took-end t h.0, h.1, some)
 
 pub returns-in-Err-take_part-clause-line : goal.returns-in-Err-take_part-clause-line
 returns-in-Err-take_part-clause-line g c = λ bytes e.
@@ -33,7 +41,6 @@ pub parts-preserved : goal.parts-preserved
 parts-preserved g c =
     let p = rw c.in-Ok-false-take_part.field-0-test at c.in-Ok-false-take_part.ensures.taken in
     record {
-      kept = Keeps-trans _ _ _ c.parts.invariant.kept c.fill.ensures.flushed;
       plain = rw p.2 (plain-append c.parts.line.items _ c.parts.invariant.plain p.0);
       fewer = omega (
         arith,

@@ -1,12 +1,10 @@
 use Rattle.std.proofs.Common.{◌≡◌, ℕ, ◌≤◌, List, Some, false}
-use Rattle.std.specs.Io.KnownBytes.{Keeps}
 use Rattle.cbpf_tool.specs.Lines.{has_newline}
 use Rattle.cbpf_tool.specs.LineReader.{pending_in, steps_left, unread, Took}
 use Rattle.cbpf_tool.proofs.line_reader.LineReader.next_line.Given as goal
 
 abbrev pub invariant-parts : goal.invariant-parts
 invariant-parts g l = record {
-  kept : Keeps (g.W.Write.contents l.fn.writer) (g.W.Write.contents l.writer);
   plain : has_newline l.line.items ≡ false;
   fewer : steps_left l.self.reads l.self.start l.self.end
       ≤ steps_left l.fn.self.reads l.fn.self.start l.fn.self.end;
