@@ -18,11 +18,11 @@ use Rattle.cbpf_code.specs.Opcode.{op_of}
 use Rattle.cbpf_code.specs.Faults.{NamesNoSlot, HasFault, FirstFault, rank, index_of, uses_slot, shifts_by_k}
 use Rattle.cbpf_code.specs.Faults.{DividesByZero, ShiftsTooFar, JumpsOutside, LoadsNoExtension, IsEarlier, divides_by_k}
 use Rattle.cbpf_code.specs.CheckSteps.{PassesBefore, IsAllowed, AllowedAt}
-use Rattle.cbpf_code.specs.WordTokens.{WordToken, run, single, tokens}
-use Rattle.cbpf_code.specs.WordText.{Due, count, next_due, range_of, token_fault, or_else, first_fault, fault_of}
+use Rattle.cbpf_code.specs.WordTokens.{tokens}
+use Rattle.cbpf_code.specs.WordText.{count, fault_of}
 use Rattle.cbpf_code.specs.WordText.{count_of, list_of, Spells, Refused}
 use Rattle.cbpf_code.specs.Laws.{EachTextIsRead, EachListIsChecked}
-use Rattle.cbpf_code.proofs.WordAnswerLemmas.{as-refused}
+use Rattle.cbpf_code.proofs.WordAnswerLemmas.{as-refused, first_fault-other}
 use Rattle.cbpf_code.proofs.Decided.{Decided, is_true, at_most, both, is_none}
 use Rattle.cbpf_code.proofs.PathLemmas.{formed-checked}
 use Rattle.cbpf_code.proofs.SoundLemmas.{known_or}
@@ -131,23 +131,6 @@ each_list_is_checked list = elim (cases_eq (length list) 0) [
 ]
 
 -- ---- each text
-
--- no token and no end is out of memory
-token_fault-other : (range : Option ℕ) (m : WordToken) → token_fault range m ≢ Some Memory
-token_fault-other None (run p ds) h = cc
-token_fault-other (Some range) (run p ds) h = grind (arith, tests)
-token_fault-other None (single p b) h = grind (arith, tests)
-token_fault-other (Some range) (single p b) h = grind (arith, tests)
-
-or_else-other : (o p : Option WordFault) → o ≢ Some Memory → p ≢ Some Memory → or_else o p ≢ Some Memory
-or_else-other None p first then = then
-or_else-other (Some e) p first then = first
-
-first_fault-other : (due : Due) (n : ℕ) (ms : List WordToken) → first_fault due n ms ≢ Some Memory
-first_fault-other count n [] h = cc
-first_fault-other _ n [] h = cc
-first_fault-other due n (m ∷ ms) h =
-    or_else-other _ _ (token_fault-other (range_of due) m) (first_fault-other (next_due due) n ms) h
 
 pub each_text_is_read : EachTextIsRead
 each_text_is_read text = by (fault_of text) refl

@@ -1,7 +1,10 @@
 -- The answer of the reader is one: a text that spells a list is refused only when out of memory,
 -- and a text has one fault at most.
-use Rattle.std.proofs.Common.{◌≡◌, ◌≢◌, ℕ, ◌⊎◌, inl, inr, List, length, sym, ◌∙◌, ap, Some, refl}
-use Rattle.cbpf_code.specs.WordText.{Spells, Miscounts, Refused, fault_of}
+use Rattle.std.proofs.Common.{◌≡◌, ◌≢◌, ℕ, ◌⊎◌, inl, inr, List, [], ◌∷◌, length, sym, ◌∙◌, ap, Option, Some, None, refl}
+use Rattle.std.proofs.Common.{arith, tests}
+use Rattle.cbpf_code.specs.WordTokens.{WordToken, run, single, tokens}
+use Rattle.cbpf_code.specs.WordText.{Due, count, next_due, range_of, token_fault, or_else, first_fault, fault_of}
+use Rattle.cbpf_code.specs.WordText.{Spells, Miscounts, Refused}
 use Rattle.cbpf_code.specs.declared.insn.Insn.{Insn}
 use Rattle.cbpf_code.specs.declared.words.WordFault.{WordFault}
 use Rattle.cbpf_code.specs.declared.words.WordFault.TheVariants.{Memory}
@@ -23,8 +26,26 @@ faulty-once text e f (inr a) (inr b) = b.fault ∙ sym a.fault
 faulty-once text e f (inl a) (inr b) = let none = b.good in absurd (cc)
 faulty-once text e f (inr a) (inl b) = let none = a.good in absurd (cc)
 
+-- no token and no end is out of memory
+token_fault-other : (range : Option ℕ) (m : WordToken) → token_fault range m ≢ Some Memory
+token_fault-other None (run p ds) h = cc
+token_fault-other (Some range) (run p ds) h = grind (arith, tests)
+token_fault-other None (single p b) h = grind (arith, tests)
+token_fault-other (Some range) (single p b) h = grind (arith, tests)
+
+or_else-other : (o p : Option WordFault) → o ≢ Some Memory → p ≢ Some Memory → or_else o p ≢ Some Memory
+or_else-other None p first then = then
+or_else-other (Some e) p first then = first
+
+pub first_fault-other : (due : Due) (n : ℕ) (ms : List WordToken) → first_fault due n ms ≢ Some Memory
+first_fault-other count n [] h = cc
+first_fault-other _ n [] h = cc
+first_fault-other due n (m ∷ ms) h =
+    or_else-other _ _ (token_fault-other (range_of due) m) (first_fault-other (next_due due) n ms) h
+
 pub as-refused : (text : List ℕ) (e : WordFault) → Faulty text e → Refused text e
-as-refused text Memory faulty = tt
+as-refused text Memory (inl h) = absurd (first_fault-other count (length text) (tokens text) h)
+as-refused text Memory (inr m) = absurd (let h = m.fault in cc)
 as-refused text e faulty = faulty
 
 as-faulty : (text : List ℕ) (e : WordFault) → Refused text e → (e ≡ Memory) ⊎ Faulty text e

@@ -1,7 +1,7 @@
 -- Steps of the reader, one after another.
 use Rattle.std.proofs.Common.{◌≡◌, ◌≢◌, ℕ, inl, inr, List, [], ◌∷◌, ◌++◌, length, drop, append_assoc, append-nil}
-use Rattle.std.proofs.Common.{refl, sym, ◌∙◌, ap, subst, arith, Some, None}
-use Rattle.cbpf_code.specs.WordTokens.{tokens_after}
+use Rattle.std.proofs.Common.{◌≤◌, length-append, refl, sym, ◌∙◌, ap, subst, arith, Some, None}
+use Rattle.cbpf_code.specs.WordTokens.{tokens, tokens_after}
 use Rattle.cbpf_code.specs.WordText.{Due, count, count_comma, code, comma, end_fault, first_fault, numbers}
 use Rattle.cbpf_code.specs.WordText.{in_fours, list_of, Spells, Refused}
 use Rattle.cbpf_code.proofs.WordAnswerLemmas.{as-refused}
@@ -48,6 +48,11 @@ pub read-next : (text : List ℕ) (n : ℕ) (list : List Insn) (i : Insn) (at mi
     → PassesTokens text code at (i.code ∷ i.jt ∷ i.jf ∷ i.k ∷ []) comma mid → PassesTokens text comma mid [] code end
     → IsRead text n (list ++ i ∷ []) end
 read-next text n list i at mid end r x y = grind (arith, append-nil, passes-then, read-insn)
+
+pub five : (text : List ℕ) (n : ℕ) (list : List Insn) (i : Insn) (at end : ℕ) → IsRead text n list at
+    → PassesTokens text code at (i.code ∷ i.jt ∷ i.jf ∷ i.k ∷ []) comma end → 5 ≤ length (numbers (tokens text))
+five text n list i at end r x =
+    omega (arith, ap length r.spelled, ap length x.spelled, length-append (n ∷ fields_of list) (numbers (tokens_after text at)))
 
 -- the end, where it may stand
 read-end : (text : List ℕ) (n : ℕ) (list : List Insn) (due : Due) (end : ℕ)

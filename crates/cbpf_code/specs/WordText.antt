@@ -1,5 +1,5 @@
 -- Word text: a count, a comma, and for each instruction its four numbers and a comma, of which the last may be missing.
-use Rattle.std.specs.Prelude.{◌≡◌, ◌≢◌, ℕ, ◌^◌, ◌⊎◌, ◌==◌, nat_lt, if◌then◌else◌, List, [], ◌∷◌, length, drop}
+use Rattle.std.specs.Prelude.{◌≡◌, ◌≢◌, ◌≤◌, ℕ, ◌^◌, ◌⊎◌, ◌==◌, nat_lt, if◌then◌else◌, List, [], ◌∷◌, length, drop}
 use Rattle.std.specs.Prelude.{slice_index, Option, Some, None}
 use Rattle.cbpf_code.specs.WordTokens.{WordToken, run, single, tokens, decimal_value}
 use Rattle.cbpf_code.specs.declared.insn.Insn.{Insn}
@@ -89,7 +89,7 @@ pub record Miscounts (text : List ℕ) (e : WordFault) : Type 0 where
   pub differs : count_of text ≢ length (list_of text)
   pub fault : e ≡ CountDiffers (count_of text) (length (list_of text))
 
--- the fault that the text has; out of memory says nothing
+-- the fault that the text has; out of memory only says that it has the numbers of an instruction
 abbrev pub Refused : List ℕ → WordFault → Type 0
-Refused text Memory = Unit {0}
+Refused text Memory = 5 ≤ length (numbers (tokens text))
 Refused text e = (fault_of text ≡ Some e) ⊎ Miscounts text e
