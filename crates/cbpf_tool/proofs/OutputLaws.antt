@@ -6,6 +6,7 @@ use Rattle.cbpf_code.proofs.WordAnswerLemmas.{spells-once, spells-not_refused, r
 use Rattle.cbpf_code.proofs.FaultLemmas.{first_fault-unique}
 use Rattle.cbpf_code.proofs.AnswerLaws.{each_text_is_read, each_list_is_checked}
 use Rattle.cbpf_code.specs.declared.insn.Insn.{Insn}
+use Rattle.cbpf_tool.proofs.FileLemmas.{none-counted}
 use Rattle.cbpf_tool.specs.Commands.{command_of}
 use Rattle.cbpf_tool.specs.declared.command.Command.{Command}
 use Rattle.cbpf_tool.specs.declared.command.Command.TheVariants.{LoadWords, LoadCapture, Session, Quit}
@@ -15,7 +16,7 @@ use Rattle.pcap_classic.specs.Savefile.{Savefile, IsSavefile, IsRefusal}
 use Rattle.pcap_classic.specs.declared.header.CaptureFault.{CaptureFault}
 use Rattle.pcap_classic.specs.declared.header.CaptureFault.TheVariants as capture_fault
 use Rattle.pcap_classic.proofs.SavefileLemmas as captures
-use Rattle.cbpf_tool.specs.FileMap.{FileMap}
+use Rattle.cbpf_tool.specs.FileMap.{Held}
 use Rattle.cbpf_tool.specs.Output.{at_end, at_quit, at_line}
 use Rattle.cbpf_tool.specs.Replies.{Reply, LoadsWords, unreadable, unsound, accepted, ReadsCapture, no_capture}
 use Rattle.cbpf_tool.specs.Replies.{a_capture, LoadsCapture, OwnReply, own, unheld, unread}
@@ -61,17 +62,17 @@ capture-once : (m : View) (bytes : Option (List ℕ)) (r r' : Reply) → LoadsCa
 capture-once m None r r' a b = b ∙ sym a
 capture-once m (Some bytes) r r' a b = reads-once m bytes r r' a b
 
-own-once : (files : FileMap) (m : View) (said : Result (Option Command) CommandFault) (r r' : Reply)
+own-once : (files : Held) (m : View) (said : Result (Option Command) CommandFault) (r r' : Reply)
     → OwnReply files m said r → OwnReply files m said r' → r' ≡ r
 own-once files m (Ok (Some (LoadWords text))) r r' a b = words-once m text r r' a b
-own-once files m (Ok (Some (LoadCapture name))) r r' a b = capture-once m (map.get files name) r r' a b
+own-once files m (Ok (Some (LoadCapture name))) r r' a b = capture-once m (map.get files.by_name name) r r' a b
 own-once files m (Ok (Some (Session c))) r r' a b = b ∙ sym a
 own-once files m (Ok (Some Quit)) r r' a b = absurd a
 own-once files m (Ok None) r r' a b = b ∙ sym a
 own-once files m (Err e) r r' a b = b ∙ sym a
 
 -- `quit` has no reply
-quit-none : (files : FileMap) (m : View) (said : Result (Option Command) CommandFault) (r : Reply)
+quit-none : (files : Held) (m : View) (said : Result (Option Command) CommandFault) (r : Reply)
     → said ≡ Ok (Some Quit) → OwnReply files m said r → ⊥
 quit-none files m said r e h = subst (λ x. OwnReply files m x r) e h
 
@@ -116,10 +117,10 @@ some-capture : (m : View) (bytes : Option (List ℕ)) → (r : Reply) × LoadsCa
 some-capture m None = ((load_fault_text Absent, m), refl)
 some-capture m (Some bytes) = some-reads m bytes
 
-own-some : (files : FileMap) (m : View) (said : Result (Option Command) CommandFault)
+own-some : (files : Held) (m : View) (said : Result (Option Command) CommandFault)
     → (said ≡ Ok (Some Quit)) ⊎ ((r : Reply) × OwnReply files m said r)
 own-some files m (Ok (Some (LoadWords text))) = inr (some-words m text)
-own-some files m (Ok (Some (LoadCapture name))) = inr (some-capture m (map.get files name))
+own-some files m (Ok (Some (LoadCapture name))) = inr (some-capture m (map.get files.by_name name))
 own-some files m (Ok (Some (Session c))) = inr (reply_to c m, refl)
 own-some files m (Ok (Some Quit)) = inl refl
 own-some files m (Ok None) = inr (([], m), refl)
@@ -139,7 +140,7 @@ pub own_is_output : OwnIsOutput
 own_is_output files m f ls t own_end = at_end
 own_is_output files m f ls t (own_quit l more q) = at_quit l more q
 own_is_output files m f ls t (own_line {rest = rest} {ls = more} l r a o) =
-    at_line l r (own refl a) (own_is_output files r.1 f more rest o)
+    at_line l r (own (none-counted f) a) (own_is_output files r.1 f more rest o)
 
 -- ---- an output in which neither of the two other replies stands
 

@@ -9,7 +9,7 @@ use Rattle.cbpf_code.specs.declared.writing.WriteFault.{WriteFault}
 use Rattle.cbpf_code.proofs.WrittenLemmas.{appended-nil, appended-then, appended-kept, part-then, part-take}
 use Rattle.cbpf_tool.specs.Commands.{command_of}
 use Rattle.cbpf_tool.specs.declared.command.Command.TheVariants as command
-use Rattle.cbpf_tool.specs.FileMap.{FileMap, Source}
+use Rattle.cbpf_tool.specs.FileMap.{Held, Source}
 use Rattle.cbpf_code.specs.Text.{put_front}
 use Rattle.cbpf_tool.specs.Lines.{lines, unlines, has_newline}
 use Rattle.cbpf_dbg.specs.View.{View, empty_view}
@@ -82,13 +82,13 @@ quit-last [] l (inr h) = absurd h
 quit-last (x ∷ xs) l (inl h) = inl (inl h)
 quit-last (x ∷ xs) l (inr h) = elim (quit-last xs l h) [ inl k ↦ inl (inr k) | inr k ↦ inr k ]
 
-quit-silent : (files : FileMap) (m : View) (f g : ℕ) (reply : Reply) → LineReplies files m f g (Ok (Some command.Quit)) reply
+quit-silent : (files : Held) (m : View) (f g : ℕ) (reply : Reply) → LineReplies files m f g (Ok (Some command.Quit)) reply
     → ⊥
 quit-silent files m f g reply (own k h) = h
 quit-silent files m f g reply (unheld k u h) = u
 quit-silent files m f g reply (unread k u h) = u
 
-ran-no-quit : (files : FileMap) (f g : ℕ) (m n : View) (ls : List (List ℕ)) (t : List ℕ) → LinesRan files m f ls t n g
+ran-no-quit : (files : Held) (f g : ℕ) (m n : View) (ls : List (List ℕ)) (t : List ℕ) → LinesRan files m f ls t n g
     → HasQuit ls → ⊥
 ran-no-quit files f g m n ls t still h = h
 ran-no-quit files f g m n ls t (onward {n = k} {g = g'} {ls = ls'} {t = t'} l v r a) h = elim (quit-last ls' l h) [
@@ -97,7 +97,7 @@ ran-no-quit files f g m n ls t (onward {n = k} {g = g'} {ls = ls'} {t = t'} l v 
 ]
 
 -- what runs on after some lines
-ran-output : (files : FileMap) (f g h : ℕ) (m n : View) (ls : List (List ℕ)) (t : List ℕ)
+ran-output : (files : Held) (f g h : ℕ) (m n : View) (ls : List (List ℕ)) (t : List ℕ)
     → LinesRan files m f ls t n g → (rest : List (List ℕ)) (u : List ℕ) → Output files n g rest u h
     → Output files m f (ls ++ rest) (t ++ u) h
 ran-output files f g h m n ls t still rest u o = o

@@ -12,6 +12,7 @@ use Rattle.cbpf_reply.specs.Breakpoints.{When}
 use Rattle.cbpf_reply.specs.declared.reply.SessionFault.{SessionFault}
 use Rattle.cbpf_reply.specs.declared.reply.SessionFault.TheVariants.{Memory, NoInstruction}
 use Rattle.cbpf_reply.specs.Errors.{fault_text, memory_text}
+use Rattle.cbpf_tool.proofs.FileLemmas.{none-counted}
 use Rattle.cbpf_tool.specs.Progress.{Answered, Writes, Replies}
 use Rattle.cbpf_tool.specs.Replies.{own, unheld}
 use Rattle.cbpf_tool.specs.SessionReplies.{reply_to, reply_and_view, reply_text, HasInstruction}
@@ -68,8 +69,8 @@ own-reply m n c Written w = inl w
 pub session-answered : (m n : View) (c : SessionCommand) (Written : List ℕ → Type 0) → Replies m n c Written
     → Answered m n (Session c) Written
 unfolding Replies Writes
-session-answered m n c Written (inl w) = λ files f. ((reply_to c m).0, own refl (rw w.0 refl), w.1)
-session-answered m n c Written (inr w) = λ files f. (memory_text, unheld refl w.0 (rw w.1.0 refl), w.1.1)
+session-answered m n c Written (inl w) = λ files f. ((reply_to c m).0, own (none-counted f) (rw w.0 refl), w.1)
+session-answered m n c Written (inr w) = λ files f. (memory_text, unheld (none-counted f) w.0 (rw w.1.0 refl), w.1.1)
 
 -- ---- a breakpoint that is set
 

@@ -8,19 +8,26 @@ use Rattle.std.specs.FinMap as map
 abbrev pub FileMap : Type 0
 FileMap = map.FinMap (slice_cmp nat_cmp) (List ℕ)
 
--- a source of files: the files, how many loads failed by `Device`, and whether it is known what the source holds
+-- what a source holds, and whether its count of failures rises by one at each `Device` and at nothing else
+pub record Held : Type 0 where
+  pub by_name : FileMap
+  pub counts_exactly : Bool
+
+-- a source of files: what it holds, its count of failures, and whether it is known what it holds
 pub record Source : Type 0 where
-  pub files : FileMap
+  pub files : Held
   pub failures : ℕ
   pub is_known : Bool
 
--- a source of which it is known what it holds
+-- a source that counts exactly, of which it is known what it holds
 abbrev pub known_source : FileMap → ℕ → Source
-known_source files failures = record { files = files; failures = failures; is_known = true }
+known_source files failures =
+    record { files = record { by_name = files; counts_exactly = true }; failures = failures; is_known = true }
 
--- a source of which it is not known what it holds
+-- one of which it is not known what it holds
 abbrev pub unknown_source : ℕ → Source
-unknown_source failures = record { files = map.empty; failures = failures; is_known = false }
+unknown_source failures =
+    record { files = record { by_name = map.empty; counts_exactly = true }; failures = failures; is_known = false }
 
 -- the map of a list of files, of which the first of a name counts
 abbrev pub files_of : List (List ℕ × List ℕ) → FileMap

@@ -3,14 +3,14 @@ use Rattle.std.specs.Prelude.{◌≡◌, ℕ, List, [], ◌∷◌, ◌++◌, Som
 use Rattle.cbpf_tool.specs.Commands.{command_of}
 use Rattle.cbpf_tool.specs.declared.command.Command.TheVariants.{Quit}
 use Rattle.cbpf_dbg.specs.View.{View}
-use Rattle.cbpf_tool.specs.FileMap.{FileMap}
+use Rattle.cbpf_tool.specs.FileMap.{Held}
 use Rattle.cbpf_tool.specs.Output.{Output}
 use Rattle.cbpf_tool.specs.Replies.{Reply, OwnReply}
 use Rattle.cbpf_reply.specs.Errors.{memory_text, load_fault_text}
 use Rattle.cbpf_reply.specs.declared.errors.LoadFault.TheVariants.{Device}
 
 -- the output of some lines, each with its own reply
-pub data OwnOutput (files : FileMap) : View → List (List ℕ) → List ℕ → Type 0 where
+pub data OwnOutput (files : Held) : View → List (List ℕ) → List ℕ → Type 0 where
   own_end : {m : View} → OwnOutput files m [] []
   own_quit : {m : View} (l : List ℕ) (ls : List (List ℕ)) → command_of l ≡ Ok (Some Quit)
       → OwnOutput files m (l ∷ ls) []
@@ -24,19 +24,19 @@ IsPartOf reply text = (before after : List ℕ) × (text ≡ before ++ (reply ++
 
 -- some lines have one output at most
 abbrev pub OneOutput : Type 0
-OneOutput = (files : FileMap) (m : View) (ls : List (List ℕ)) (t u : List ℕ) → OwnOutput files m ls t
+OneOutput = (files : Held) (m : View) (ls : List (List ℕ)) (t u : List ℕ) → OwnOutput files m ls t
     → OwnOutput files m ls u → u ≡ t
 
 -- some lines have an output
 abbrev pub HasOutput : Type 0
-HasOutput = (files : FileMap) (m : View) (ls : List (List ℕ)) → (t : List ℕ) × OwnOutput files m ls t
+HasOutput = (files : Held) (m : View) (ls : List (List ℕ)) → (t : List ℕ) × OwnOutput files m ls t
 
 -- it is one of their outputs, by which no failure is counted
 abbrev pub OwnIsOutput : Type 0
-OwnIsOutput = (files : FileMap) (m : View) (f : ℕ) (ls : List (List ℕ)) (t : List ℕ) → OwnOutput files m ls t
+OwnIsOutput = (files : Held) (m : View) (f : ℕ) (ls : List (List ℕ)) (t : List ℕ) → OwnOutput files m ls t
     → Output files m f ls t f
 
 -- an output in which neither of the two other replies stands is that one
 abbrev pub NoOther : Type 0
-NoOther = (files : FileMap) (m : View) (f g : ℕ) (ls : List (List ℕ)) (t : List ℕ) → Output files m f ls t g
+NoOther = (files : Held) (m : View) (f g : ℕ) (ls : List (List ℕ)) (t : List ℕ) → Output files m f ls t g
     → ¬ IsPartOf memory_text t → ¬ IsPartOf (load_fault_text Device) t → OwnOutput files m ls t

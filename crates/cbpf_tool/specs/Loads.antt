@@ -11,25 +11,25 @@ use Rattle.cbpf_reply.specs.declared.errors.LoadFault.TheVariants.{Absent, Devic
 -- why a load failed: where the source says what it holds, an absent name is not in its map;
 -- a device fault raises the count, which stops at its greatest value
 abbrev pub Faults : Source → Source → List ℕ → LoadFault → Type 0
-Faults old new name Absent = IsTrue old.is_known → map.get old.files name ≡ None
+Faults old new name Absent = IsTrue old.is_known → map.get old.files.by_name name ≡ None
 Faults old new name Device = (old.failures < new.failures) ⊎ (old.failures ≡ 2 ^ 64 - 1)
 Faults old new name Memory = Unit {0}
 
--- the count of failures after a load, where each device fault is counted once
+-- the count of failures after a load, where each device fault is counted once, and nothing else
 abbrev pub counted : {V : Type 0} → Result V LoadFault → ℕ → ℕ
 counted (Err Device) failures = min (failures + 1) (2 ^ 64 - 1)
 counted _ failures = failures
 
--- a load of the name with bytes `name`. A count at its greatest value stays there
+-- a load of the name with bytes `name`. The count never falls, and at its greatest value it stays there
 pub record Loads {V : Type 0} (items : V → List ℕ) (old new : Source) (name : List ℕ) (r : Result V LoadFault) :
     Type 0 where
   pub same_files : new.files ≡ old.files
   pub same_known : new.is_known ≡ old.is_known
   pub rises : old.failures ≤ new.failures
   pub stays : old.failures ≡ 2 ^ 64 - 1 → new.failures ≡ 2 ^ 64 - 1
-  pub counts : new.failures ≡ counted r old.failures
-  pub gives :
-      MatchResult r (λ v. IsTrue old.is_known → map.get old.files name ≡ Some (items v)) (λ e. Faults old new name e)
+  pub counts : IsTrue old.files.counts_exactly → new.failures ≡ counted r old.failures
+  pub gives : MatchResult r (λ v. IsTrue old.is_known → map.get old.files.by_name name ≡ Some (items v))
+      (λ e. Faults old new name e)
 
 -- a failure to read a file that is open, or to find room for its bytes
 abbrev pub reading_fault : ErrorKind → LoadFault

@@ -2,13 +2,13 @@
 use Rattle.std.specs.Prelude.{◌≡◌, ◌⊎◌, ℕ, List, [], ◌∷◌, ◌++◌, Some, Ok}
 use Rattle.cbpf_tool.specs.Commands.{command_of}
 use Rattle.cbpf_tool.specs.declared.command.Command.TheVariants.{Quit}
-use Rattle.cbpf_tool.specs.FileMap.{FileMap}
+use Rattle.cbpf_tool.specs.FileMap.{Held}
 use Rattle.cbpf_dbg.specs.View.{View}
 use Rattle.cbpf_tool.specs.Replies.{Reply, LineReplies}
 
 -- the text of the replies to some lines, from what is loaded before them, while the count of failures
 -- goes from one number to another
-pub data Output (files : FileMap) : View → ℕ → List (List ℕ) → List ℕ → ℕ → Type 0 where
+pub data Output (files : Held) : View → ℕ → List (List ℕ) → List ℕ → ℕ → Type 0 where
   at_end : {m : View} {f : ℕ} → Output files m f [] [] f
   at_quit : {m : View} {f : ℕ} (l : List ℕ) (ls : List (List ℕ)) → command_of l ≡ Ok (Some Quit)
       → Output files m f (l ∷ ls) [] f

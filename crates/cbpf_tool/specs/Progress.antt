@@ -6,7 +6,7 @@ use Rattle.cbpf_tool.specs.Commands.{command_of}
 use Rattle.cbpf_tool.specs.declared.command.Command.{Command}
 use Rattle.cbpf_tool.specs.declared.command.Command.TheVariants as command
 use Rattle.cbpf_reply.specs.declared.errors.CommandFault.{CommandFault}
-use Rattle.cbpf_tool.specs.FileMap.{FileMap, Source}
+use Rattle.cbpf_tool.specs.FileMap.{Held, Source}
 use Rattle.cbpf_tool.specs.Lines.{has_newline, unlines}
 use Rattle.cbpf_dbg.specs.View.{View, empty_view}
 use Rattle.cbpf_tool.specs.LineReader.{unread}
@@ -23,7 +23,7 @@ pub record Kept (f g : Source) : Type 0 where
   pub is_known : g.is_known ≡ f.is_known
 
 -- a line has this reply, whose text is written as `Written` says, and the view after it is n
-abbrev pub Answers : FileMap → View → View → ℕ → ℕ → Result (Option Command) CommandFault → (List ℕ → Type 0) → Type 0
+abbrev pub Answers : Held → View → View → ℕ → ℕ → Result (Option Command) CommandFault → (List ℕ → Type 0) → Type 0
 Answers files m n f g said Written = (text : List ℕ) × LineReplies files m f g said (text, n) × Written text
 
 -- a line other than `quit` was run, where it is known what the files hold
@@ -33,7 +33,7 @@ Replied f g m n said Written =
 
 -- the same of a command that opens no file
 abbrev pub Answered : View → View → Command → (List ℕ → Type 0) → Type 0
-Answered m n c Written = (files : FileMap) (f : ℕ) → Answers files m n f f (Ok (Some c)) Written
+Answered m n c Written = (files : Held) (f : ℕ) → Answers files m n f f (Ok (Some c)) Written
 
 -- a reply's text is written, as `Written` says, and the view after it is n
 unfoldable pub Writes : Reply → View → (List ℕ → Type 0) → Type 0
@@ -44,7 +44,7 @@ unfoldable pub Replies : View → View → SessionCommand → (List ℕ → Type
 Replies m n c Written = Writes (reply_to c m) n Written ⊎ (CanRunOut m c × Writes (memory_text, m) n Written)
 
 -- what a line wrote that was run, by what comes after it
-abbrev pub LineResult : FileMap → View → View → ℕ → ℕ → Result (Option Command) CommandFault → Option (List ℕ)
+abbrev pub LineResult : Held → View → View → ℕ → ℕ → Result (Option Command) CommandFault → Option (List ℕ)
     → Option (List ℕ) → Result AfterLine WriteFault → Type 0
 LineResult files m n f g said old new (Ok NextLine) = Answers files m n f g said (λ t. Appended old new t)
 LineResult files m n f g said old new (Ok Quit) = (said ≡ Ok (Some command.Quit)) × (f ≡ g) × Appended old new []
@@ -61,7 +61,7 @@ EachPlain [] = Unit {0}
 EachPlain (l ∷ ls) = (has_newline l ≡ false) × EachPlain ls
 
 -- the replies to lines of which none is `quit`
-pub data LinesRan (files : FileMap) : View → ℕ → List (List ℕ) → List ℕ → View → ℕ → Type 0 where
+pub data LinesRan (files : Held) : View → ℕ → List (List ℕ) → List ℕ → View → ℕ → Type 0 where
   still : {m : View} {f : ℕ} → LinesRan files m f [] [] m f
   onward : {m n p : View} {f g h : ℕ} {ls : List (List ℕ)} {t : List ℕ} (l u : List ℕ) → LinesRan files m f ls t n g
       → LineReplies files n g h (command_of l) (u, p)

@@ -1,5 +1,5 @@
 -- What a line of a script replies, and the view of the session after it.
-use Rattle.std.specs.Prelude.{◌≡◌, ◌≤◌, ◌+◌, ◌-◌, ◌^◌, min, ℕ, List, [], length, Option, Some, None}
+use Rattle.std.specs.Prelude.{◌≡◌, ◌≤◌, ◌<◌, ◌⊎◌, ◌+◌, ◌-◌, ◌^◌, min, IsTrue, ℕ, List, [], length, Option, Some, None}
 use Rattle.std.specs.Prelude.{◌≢◌, Result, Ok, Err, IsOk, nat_eq}
 use Rattle.std.specs.FinMap as map
 use Rattle.std.specs.Map.{lookup}
@@ -19,7 +19,7 @@ use Rattle.cbpf_reply.specs.declared.errors.LoadFault.TheVariants.{Absent, Devic
 use Rattle.pcap_classic.specs.Savefile.{Savefile, IsSavefile, IsRefusal}
 use Rattle.pcap_classic.specs.declared.header.CaptureFault.{CaptureFault}
 use Rattle.pcap_classic.specs.declared.header.CaptureFault.TheVariants as capture_fault
-use Rattle.cbpf_tool.specs.FileMap.{FileMap}
+use Rattle.cbpf_tool.specs.FileMap.{Held}
 use Rattle.cbpf_dbg.specs.View.{View}
 use Rattle.cbpf_dbg.specs.Commands.{with_program_loaded, with_capture_loaded, breakpoint_when}
 use Rattle.cbpf_tool.specs.SessionReplies.{reply_to}
@@ -52,10 +52,10 @@ LoadsCapture m None reply = reply ≡ (load_fault_text Absent, m)
 LoadsCapture m (Some bytes) reply = ReadsCapture m bytes reply
 
 -- a line's own reply, by what the line says; `quit` has none
-abbrev pub OwnReply : FileMap → View → Result (Option Command) CommandFault → Reply → Type 0
+abbrev pub OwnReply : Held → View → Result (Option Command) CommandFault → Reply → Type 0
 OwnReply files m (Ok None) reply = reply ≡ ([], m)
 OwnReply files m (Ok (Some (LoadWords text))) reply = LoadsWords m text reply
-OwnReply files m (Ok (Some (LoadCapture name))) reply = LoadsCapture m (map.get files name) reply
+OwnReply files m (Ok (Some (LoadCapture name))) reply = LoadsCapture m (map.get files.by_name name) reply
 OwnReply files m (Ok (Some (Session c))) reply = reply ≡ reply_to c m
 OwnReply files m (Ok (Some Quit)) reply = ⊥
 OwnReply files m (Err e) reply = reply ≡ (command_fault_text e, m)
@@ -78,14 +78,19 @@ abbrev pub IsUnread : Result (Option Command) CommandFault → Type 0
 IsUnread (Ok (Some (LoadCapture name))) = Unit {0}
 IsUnread _ = ⊥
 
--- one failure was counted, or the count stays at its greatest value
-abbrev pub CountsFailure : ℕ → ℕ → Type 0
-CountsFailure f g = (f ≤ g) × (g ≡ min (f + 1) (2 ^ 64 - 1))
+-- a failure was counted, or the count stays at its greatest value; one failure, where they are counted exactly
+abbrev pub CountsFailure : Held → ℕ → ℕ → Type 0
+CountsFailure files f g = (f ≤ g) × ((f < g) ⊎ (f ≡ 2 ^ 64 - 1))
+    × (IsTrue files.counts_exactly → g ≡ min (f + 1) (2 ^ 64 - 1))
+
+-- no failure was counted, where they are counted exactly
+abbrev pub CountsNone : Held → ℕ → ℕ → Type 0
+CountsNone files f g = (f ≤ g) × (IsTrue files.counts_exactly → g ≡ f)
 
 -- a line's reply, while the count of failures goes from f to g: its own, or in its place `error: out of memory`
 -- or F2. One failure is counted at F2, and none at the others
-pub data LineReplies (files : FileMap) (m : View) (f g : ℕ) (said : Result (Option Command) CommandFault)
+pub data LineReplies (files : Held) (m : View) (f g : ℕ) (said : Result (Option Command) CommandFault)
     (reply : Reply) : Type 0 where
-  own : g ≡ f → OwnReply files m said reply → LineReplies files m f g said reply
-  unheld : g ≡ f → IsUnheld m said → reply ≡ (memory_text, m) → LineReplies files m f g said reply
-  unread : CountsFailure f g → IsUnread said → reply ≡ (load_fault_text Device, m) → LineReplies files m f g said reply
+  own : CountsNone files f g → OwnReply files m said reply → LineReplies files m f g said reply
+  unheld : CountsNone files f g → IsUnheld m said → reply ≡ (memory_text, m) → LineReplies files m f g said reply
+  unread : CountsFailure files f g → IsUnread said → reply ≡ (load_fault_text Device, m) → LineReplies files m f g said reply

@@ -7,7 +7,8 @@ use std::alloc::Allocator;
 
 /// A source of files by name. A load leaves the files as they are. Where the source says what it
 /// holds, a load gives the bytes of the name, and answers `Absent` only where there is no such name.
-/// The count of failures rises by one at `Device`, up to its greatest value, and at nothing else.
+/// The count of failures never falls, and rises at `Device` up to its greatest value. A source that
+/// `counts_exactly` counts one failure at each `Device` and none at anything else.
 pub trait Files {
     /// The files, the count of failures, and whether the source says what it holds.
     ghost source: { Self → Source };
