@@ -110,7 +110,9 @@ impl<'a, R: Test, A: Allocator + Copy> Host for MemoryHost<'a, R, A> {
     }
 
     fn input(&mut self) -> &'static [u8] {
-        self.input
+        let input = self.input;
+        self.input = b"";
+        input
     }
 
     fn create(&mut self, name: &str) -> Result<Vec<u8, A>, CreateFault> {

@@ -28,6 +28,10 @@ unknown = record { is_known = false; files = map.empty; input = []; events = [] 
 abbrev pub and_then : Hosted → List Event → Hosted
 and_then h es = record h { events = h.events ++ es }
 
+-- the standard input was given to be read, and nothing of it is left
+abbrev pub without_input : Hosted → Hosted
+without_input h = record h { input = [] }
+
 -- a file was opened, and all its bytes can be read, or it could not be opened
 abbrev pub Opens : {V E : Type 0} → (V → Option (List ℕ)) → Hosted → Hosted → List ℕ → Result V E → Type 0
 Opens remaining old new name (Ok v) = (bytes : List ℕ) × (map.get old.files name ≡ Some bytes)

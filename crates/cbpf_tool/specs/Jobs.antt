@@ -8,7 +8,8 @@ use Rattle.cbpf_tool.specs.Debugged.{Debugged}
 use Rattle.cbpf_tool.specs.FileMap.{Source, known_source}
 use Rattle.cbpf_tool.specs.declared.fault.ToolFault.{ToolFault}
 use Rattle.cbpf_tool.specs.declared.fault.ToolFault.TheVariants.{Memory}
-use Rattle.cbpf_tool.specs.Hosted.{Hosted, Event, and_then, opened, not_opened, created, not_created, wrote, printed}
+use Rattle.cbpf_tool.specs.Hosted.{Hosted, Event, and_then, without_input}
+use Rattle.cbpf_tool.specs.Hosted.{opened, not_opened, created, not_created, wrote, printed}
 use Rattle.cbpf_tool.specs.declared.failure.Failure.{Failure}
 use Rattle.cbpf_tool.specs.declared.failure.Failure.TheVariants.{Tool, CannotOpen}
 
@@ -49,7 +50,7 @@ DebuggedTo h script text t =
 
 -- `asm`: the source is the standard input, or the file, which is opened first
 abbrev pub AsmJob : Hosted → Hosted → Form → Option (List ℕ) → Result (Unit {0}) Failure → Type 0
-AsmJob old new form None r = RunsTool old new printed (AssembledTo old.input form) r
+AsmJob old new form None r = RunsTool (without_input old) new printed (AssembledTo old.input form) r
 AsmJob old new form (Some name) r = EndsUnopened old new name (not_opened name) r
     ⊎ ((bytes : List ℕ) × (map.get old.files name ≡ Some bytes)
     × RunsTool (and_then old (opened name ∷ [])) new printed (AssembledTo bytes form) r)
@@ -62,7 +63,7 @@ RepliesTo old new script (Some name) r = EndsUnopened old new name (not_created 
 
 -- `dbg`: the script is the standard input, or the file, which is opened before the other is created
 abbrev pub DbgJob : Hosted → Hosted → Option (List ℕ) → Option (List ℕ) → Result (Unit {0}) Failure → Type 0
-DbgJob old new None output r = RepliesTo old new old.input output r
+DbgJob old new None output r = RepliesTo (without_input old) new old.input output r
 DbgJob old new (Some name) output r = EndsUnopened old new name (not_opened name) r
     ⊎ ((bytes : List ℕ) × (map.get old.files name ≡ Some bytes)
     × RepliesTo (and_then old (opened name ∷ [])) new bytes output r)

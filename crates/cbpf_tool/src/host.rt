@@ -1,7 +1,7 @@
 // What a job needs of the machine on which it runs.
 ghost use Rattle.std.specs.Prelude.{◌≡◌, ℕ, IsTrue, List, [], ◌∷◌, Some, IfOk};
 ghost use Rattle.cbpf_tool.specs.FileMap.{known_source};
-ghost use Rattle.cbpf_tool.specs.Hosted.{Hosted, and_then, wrote, printed, Opens, Creates};
+ghost use Rattle.cbpf_tool.specs.Hosted.{Hosted, and_then, without_input, wrote, printed, Opens, Creates};
 
 use crate::files::Files;
 use std::io::{self, Read, Write};
@@ -35,10 +35,10 @@ pub trait Host {
         ensures { IsTrue (view self.old).is_known →
             Opens Self.Source.remaining (view self.old) (view self.new) name.now result };
 
-    /// The standard input.
+    /// The standard input, of which nothing is left for another call.
     fn input(&mut self) -> Self::Input
         ensures { IsTrue (view self.old).is_known →
-            (view self.new ≡ view self.old) × (Self.Input.remaining result ≡ Some (view self.old).input) };
+            (view self.new ≡ without_input (view self.old)) × (Self.Input.remaining result ≡ Some (view self.old).input) };
 
     /// A file of this name, which is empty and to be written.
     fn create(&mut self, name: &str) -> Result<Self::Sink, CreateFault>
