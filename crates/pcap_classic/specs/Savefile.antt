@@ -48,7 +48,7 @@ IsRefusal UnknownMagic file = (FILE_HEADER ≤ length file)
     × ((order : Endianness) (nanos : Bool) → ¬ HasMagic order nanos file)
 IsRefusal UnknownVersion file = (FILE_HEADER ≤ length file) × (order : Endianness) × (nanos : Bool)
     × HasMagic order nanos file × (¬ HasVersion order file)
-IsRefusal Memory file = (c : Savefile) × IsSavefile file c
+IsRefusal Memory file = (c : Savefile) × IsSavefile file c × (0 < length c.records)
 
 -- a file holds one capture at most, and has one fault at most; a fault of one that holds a capture is `Memory`
 abbrev pub OneCapture : Type 0

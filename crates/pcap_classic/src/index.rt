@@ -1,6 +1,6 @@
 //! The passes over the headers of all records, and the way from a kept start to a later one.
 
-ghost use Rattle.std.specs.Prelude.{◌≡◌, ◌≢◌, ◌≤◌, ◌<◌, ◌+◌, ◌-◌, ◌*◌, ◌^◌, ◌↔◌, ℕ, List, length, drop, true, IfOk};
+ghost use Rattle.std.specs.Prelude.{◌≡◌, ◌≢◌, ◌≤◌, ◌<◌, ◌+◌, ◌-◌, ◌*◌, ◌^◌, ◌↔◌, ℕ, List, length, drop, true, IfOk, OnErr};
 ghost use Rattle.pcap_classic.specs.Index.{IsIndex, AreEven, AreKept, AreStarts, IsRecordStart, ending_by};
 ghost use Rattle.pcap_classic.specs.Contents as spec;
 ghost use Rattle.pcap_classic.specs.declared.captured.{Extent.TheVariants.WholeRecord, TheConstants.RECORD_HEADER};
@@ -187,7 +187,8 @@ fn starts_of<A: Allocator>(
     requires few { count < 2 ^ 60 }
     requires kept { AreStarts order file.now starts.now }
     requires even { AreEven order file.now run.length run.count }
-    ensures { IfOk result (λ all. AreKept order file.now all.items count) }
+    ensures kept { IfOk result (λ all. AreKept order file.now all.items count) }
+    ensures refused { OnErr result (0 < count) }
 {
     let room = (count + (STRIDE - 1)) / STRIDE;
     let mut all = Vec::with_capacity(alloc, room as usize)?;
@@ -216,7 +217,8 @@ pub(crate) fn index_of<A: Allocator>(
     file: &[u8],
 ) -> Result<Index<A>, AllocError>
     requires { FILE_HEADER ≤ length file.now }
-    ensures { IfOk result (λ index. IsIndex order file.now index.count index.starts.items index.ending) }
+    ensures index { IfOk result (λ index. IsIndex order file.now index.count index.starts.items index.ending) }
+    ensures refused { OnErr result (0 < length (spec.contents order file.now).records) }
 {
     let mut kept = Starts::new();
     let length = match extent_of(order, &file[FILE_HEADER..]) {

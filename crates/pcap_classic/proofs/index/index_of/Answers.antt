@@ -18,9 +18,12 @@ returns g c =
     let few = c.pass_all-count.ensures.few in
     let inside = c.pass_all-count.ensures.here.inside in
     record {
-      long = c.requires;
-      counted = end.count;
-      few = omega (arith, few, inside);
-      kept = c.in_ok-starts.ensures;
-      ended = c.ending_at-ending.ensures ∙ end.ending;
+      index = record {
+        long = c.requires;
+        counted = end.count;
+        few = omega (arith, few, inside);
+        kept = c.in_ok-starts.ensures.kept;
+        ended = c.ending_at-ending.ensures ∙ end.ending;
+      };
+      refused = tt;
     }

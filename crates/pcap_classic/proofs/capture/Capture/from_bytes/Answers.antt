@@ -15,6 +15,7 @@ pub returns-in-Err-index_of-clause-refused : goal.returns-in-Err-index_of-clause
 returns-in-Err-index_of-clause-refused g c = (
   savefile_with c.in-Ok.header c.args.bytes.items,
   header-says c.args.bytes.items _ _ (rw c.as_slice.ensures.value at c.header_of.ensures) c.in-Ok.is,
+  rw c.as_slice-2.ensures.value at c.in-Err-index_of.ensures.refused,
 )
 
 pub returns-in-Err-clause-handed_back : goal.returns-in-Err-clause-handed_back
