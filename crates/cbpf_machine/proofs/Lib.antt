@@ -6,3 +6,4 @@ pub mod AskedLemmas
 pub mod FollowLemmas
 pub mod TogetherLemmas
 pub mod WatchLemmas
+pub mod KeptLemmas

@@ -1,11 +1,16 @@
 -- What a trail stands for: a list of states, of which it may keep some alone, as one in STRIDE (this project's own).
-use Rattle.std.specs.Prelude.{◌≡◌, ℕ, ◌+◌, ◌-◌, ◌*◌, ◌/◌, ◌<◌, List, length, slice_get}
+use Rattle.std.specs.Prelude.{◌≡◌, ℕ, ◌+◌, ◌-◌, ◌*◌, ◌/◌, ◌<◌, ◌≤◌, List, length, take, slice_get}
 use Rattle.cbpf_machine.specs.declared.mark_trail.TheConstants.{STRIDE}
 use Rattle.cbpf_machine.specs.Registers.{Registers}
 
 -- how many turns it takes at most to come from a kept state to one after it, before the next that is kept
 abbrev pub most_turns_back : ℕ
 most_turns_back = STRIDE - 1
+
+-- trails stand for lists whatever is between the first k states and the last one, where these are at most n more
+abbrev pub IgnoresBetween : {T : Type 0} → (T → List Registers → Type 0) → ℕ → ℕ → Type 0
+IgnoresBetween {T} stands k n = (t : T) (xs ys : List Registers) → length xs ≡ length ys → length xs ≤ k + n
+    → take k xs ≡ take k ys → slice_get xs (length xs - 1) ≡ slice_get ys (length ys - 1) → stands t xs → stands t ys
 
 -- the kept states, and how many states they stand for
 pub record Checkpoints : Type 0 where

@@ -45,10 +45,6 @@ impl<A: Allocator> Trail for ListTrail<A> {
 
     ghost kept = { λ t. length t };
 
-    ghost gap = { λ i. 1 };
-
-    ghost turns_back = { λ to. 0 };
-
     ghost as_long = { λ t xs h. Prim.search rules };
 
     fn clear(&mut self) {
@@ -60,18 +56,6 @@ impl<A: Allocator> Trail for ListTrail<A> {
             Ok(()) => (),
             Err(_) => unreachable!(),
         }
-    }
-
-    fn first_gap() -> u32 {
-        1
-    }
-
-    fn gap(&self) -> u32 {
-        1
-    }
-
-    fn keep(&mut self, _count: u32, s: State) {
-        self.push(s);
     }
 
     fn back<B: Allocator>(

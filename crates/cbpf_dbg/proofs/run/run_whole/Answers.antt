@@ -1,6 +1,7 @@
 use Rattle.std.proofs.Common.{arith, refl, rules}
 use Rattle.cbpf_machine.specs.Registers.{zero_state}
 use Rattle.cbpf_machine.specs.Trace.{trace}
+use Rattle.cbpf_machine.proofs.KeptLemmas.{ignores_fewer}
 use Rattle.cbpf_machine.proofs.TraceLemmas.{first_entry, length-trace_from}
 use Rattle.cbpf_dbg.specs.Loaded.{machine_in}
 use Rattle.cbpf_dbg.proofs.CursorLemmas.{entry_at_place}
@@ -17,6 +18,14 @@ start-requires-clause-near g c =
     let within = step_within _ _ _ at.0 ran.passes.stands at.1 in
     let few = length-trace_from (machine_in c.args.loaded.now) at.0.bytes at.0.wire zero_state in
     omega (arith, within, few)
+
+pub start-requires-clause-ignores : goal.start-requires-clause-ignores
+start-requires-clause-ignores g c =
+    let ran = c.if-not-run_records.ensures.goes in
+    let at = ran.passes.stands.at ((ran.entry refl).0) in
+    let within = step_within _ _ _ at.0 ran.passes.stands at.1 in
+    let few = length-trace_from (machine_in c.args.loaded.now) at.0.bytes at.0.wire zero_state in
+    ignores_fewer g.T.Trail.stands_for 1 _ _ (omega (arith, within, few)) c.first_gap.ensures.ignores
 
 pub start-requires-clause-few : goal.start-requires-clause-few
 start-requires-clause-few g c =

@@ -7,6 +7,7 @@ use Rattle.cbpf_machine.specs.Together.{Reaches}
 use Rattle.cbpf_machine.proofs.TraceLemmas.{first_entry, goes_at}
 use Rattle.cbpf_machine.proofs.ListLemmas.{take-slice_get}
 use Rattle.cbpf_machine.proofs.FollowLemmas.{Comes, comes, start_goes, few_entries, ended, reaches_fenced}
+use Rattle.cbpf_machine.proofs.KeptLemmas.{ignores_fewer}
 use Rattle.cbpf_machine.proofs.trail.Trail.fill.Given.{Over}
 use Rattle.cbpf_machine.proofs.trail.Trail.fill.Goals.{After-make_turns-turns}
 use Rattle.cbpf_machine.proofs.trail.Trail.fill.Goals as goal
@@ -59,7 +60,12 @@ returns-in-Some-clause-few g c =
 pub keep-requires-clause-near : goal.keep-requires-clause-near
 keep-requires-clause-near g c =
     let h = reached g (goal.at.keep-requires-clause-near g c).After-make_turns-turns in
-    rw c.fill.invariant.kept (omega (arith, h.1, c.min.ensures, rw c.fill.invariant.kept at c.gap.ensures.value))
+    omega (arith, h.1, c.min.ensures, c.gap.ensures.near)
+
+pub keep-requires-clause-ignores : goal.keep-requires-clause-ignores
+keep-requires-clause-ignores g c =
+    let h = reached g (goal.at.keep-requires-clause-ignores g c).After-make_turns-turns in
+    ignores_fewer _ _ _ _ (omega (arith, h.1, c.min.ensures)) c.gap.ensures.ignores
 
 on : (g : Over) (c : After-make_turns-turns g) → c.make_turns-turns.result.1 ≡ None
     → Comes (task_of c.args.p.now c.args.values.now c.args.packet) (λ (r : Registers). false) c.fill.entries

@@ -9,6 +9,7 @@ use Rattle.cbpf_machine.proofs.SoundLemmas.{sound_few}
 use Rattle.cbpf_machine.proofs.TraceLemmas.{goes_from_entry}
 use Rattle.cbpf_machine.proofs.FollowLemmas.{Comes, comes, few_entries, unpaused_next, ended}
 use Rattle.cbpf_machine.proofs.FollowLemmas.{reaches_fenced, reaches_within}
+use Rattle.cbpf_machine.proofs.KeptLemmas.{ignores_fewer}
 use Rattle.cbpf_machine.proofs.trail.Trail.follow.Given.{Over}
 use Rattle.cbpf_machine.proofs.trail.Trail.follow.Goals.{After-make_turns-turns}
 use Rattle.cbpf_machine.proofs.trail.Trail.follow.Goals as goal
@@ -94,7 +95,12 @@ returns-in-Some g c =
 pub keep-requires-clause-near : goal.keep-requires-clause-near
 keep-requires-clause-near g c =
     let few = (reached g (goal.at.keep-requires-clause-near g c).After-make_turns-turns).1 in
-    omega (arith, c.gap.ensures.value)
+    omega (arith, c.gap.ensures.near)
+
+pub keep-requires-clause-ignores : goal.keep-requires-clause-ignores
+keep-requires-clause-ignores g c =
+    ignores_fewer _ _ _ _ (reached g (goal.at.keep-requires-clause-ignores g c).After-make_turns-turns).1
+    c.gap.ensures.ignores
 
 -- and to another entry
 on : (g : Over) (c : After-make_turns-turns g) → c.make_turns-turns.result.1 ≡ None

@@ -1,0 +1,5 @@
+use Rattle.cbpf_machine.proofs.KeptLemmas.{ignores_none}
+use Rattle.cbpf_machine.proofs.trail.Trail.first_gap.Goals as goal
+
+pub returns-clause-ignores : goal.returns-clause-ignores
+returns-clause-ignores g c = ignores_none g.Self.Trail.stands_for 1
