@@ -257,7 +257,9 @@ delete m n = at_instruction m.program n (Ok (
 abbrev pub without_breakpoints : View → View
 without_breakpoints m = record m { breakpoints = [] }
 
--- of the refusals, only the one that counts a packet's steps makes turns
-abbrev pub Spends : SessionFault → ℕ → ℕ → Type 0
-Spends (fault.NoStep n) old new = old ≤ new
-Spends _ old new = new ≡ old
+-- how many turns a place takes: those from the packet's start to its step, twice; of the refusals only the one that
+-- counts the packet's steps makes turns, one for each
+abbrev pub turns_to_resume : ℕ → Result (Unit {0}) SessionFault → ℕ
+turns_to_resume step (Ok u) = 2 * (step - 1)
+turns_to_resume step (Err (fault.NoStep n)) = n
+turns_to_resume step (Err e) = 0

@@ -94,7 +94,8 @@ impl<T: Trail, A: Allocator> Session<T, A> {
     /// Goes to a place that [`Session::mark`] gave with the same program, capture and values, and
     /// counts from its packet.
     ///
-    /// The meter has spent at most 2 to the 127 before; it rises by at most twice the step.
+    /// The meter has spent at most 2 to the 127 before. It rises by twice the turns from the packet's start to the
+    /// step, which is less than twice the step. Where the packet has no such step, it rises by the packet's turns.
     ///
     /// # Errors
     ///
@@ -104,9 +105,8 @@ impl<T: Trail, A: Allocator> Session<T, A> {
         requires { meter.old ≤ 2 ^ 127 }
         ensures reply { result ≡ spec.reply_of (spec.resume self.old place) }
         ensures after { self.new ≡ spec.view_after self.old (spec.resume self.old place) }
-        ensures counts { meter.old ≤ meter.new }
-        ensures turns { meter.new ≤ meter.old + 2 * place.step }
-        ensures refused { IfErr result (λ e. spec.Spends e meter.old meter.new) }
+        ensures turns { meter.new ≡ meter.old + spec.turns_to_resume place.step result }
+        ensures few { meter.new ≤ meter.old + 2 * place.step }
     {
         let loaded = loaded_in!(self);
         let count = loaded.capture.count();

@@ -1,6 +1,6 @@
 //! Saved places.
 
-ghost use Rattle.std.specs.Prelude.{◌≡◌, ◌+◌, ◌-◌, ◌*◌, ◌<◌, ◌≤◌, ◌^◌, length, slice_get, IfErr, OnOk};
+ghost use Rattle.std.specs.Prelude.{◌≡◌, ◌+◌, ◌-◌, ◌*◌, ◌<◌, ◌≤◌, ◌^◌, length, slice_get, IfErr, MatchResult, OnOk};
 ghost use Rattle.pcap_classic.specs.Records.{StartsAt};
 ghost use Rattle.cbpf_dbg.specs.Commands.{steps_of};
 ghost use Rattle.cbpf_dbg.specs.Loaded.{machine_in, records_in};
@@ -32,8 +32,7 @@ pub(crate) fn resume_at<T: Trail, A: Allocator>(
     ensures short { IfErr result
         (λ n. (n ≡ steps_of (machine_in loaded.now) (slice_get (records_in loaded.now) (place.packet - 1)))
         × (n < place.step) × (cursor.new ≡ cursor.old) × (trail.new ≡ trail.old)) }
-    ensures counts { meter.old ≤ meter.new }
-    ensures few { meter.new ≤ meter.old + 2 * place.step }
+    ensures turns { MatchResult result (λ u. meter.new ≡ meter.old + 2 * (place.step - 1)) (λ n. meter.new ≡ meter.old + n) }
 {
     let item = loaded.capture.item(place.packet);
     if place.step == 0 {

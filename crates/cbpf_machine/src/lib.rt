@@ -17,6 +17,7 @@ mod meter;
 mod missing;
 mod outcome;
 mod pause;
+mod reach;
 mod state;
 mod trail;
 mod values;

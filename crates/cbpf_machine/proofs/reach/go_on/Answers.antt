@@ -1,0 +1,36 @@
+use Rattle.std.proofs.Common.{ℕ, ◌≤◌, arith, false}
+use Rattle.cbpf_machine.specs.Core.{registers}
+use Rattle.cbpf_machine.specs.Registers.{Registers}
+use Rattle.cbpf_machine.specs.Task.{IsOnTrace, task_of}
+use Rattle.cbpf_machine.specs.Together.{Reaches}
+use Rattle.cbpf_machine.proofs.TraceLemmas.{ended_last}
+use Rattle.cbpf_machine.proofs.FollowLemmas.{reaches_fenced}
+use Rattle.cbpf_machine.proofs.reach.go_on.Given.{Over}
+use Rattle.cbpf_machine.proofs.reach.go_on.Goals.{After-make_turns-turns}
+use Rattle.cbpf_machine.proofs.reach.go_on.Goals as goal
+
+reached : (g : Over) (c : After-make_turns-turns g) (i : ℕ)
+    → IsOnTrace (task_of c.args.p.now c.args.values.now c.args.packet) i (registers c.args.s.now c.args.slots.now)
+    → Reaches (task_of c.args.p.now c.args.values.now c.args.packet) (λ (r : Registers). false) i
+    (registers c.make_turns-turns.new.s c.make_turns-turns.new.slots) c.make_turns-turns.result.0 c.make_turns-turns.result.1
+    × (c.make_turns-turns.result.0 ≤ c.args.most)
+reached g c i on = reaches_fenced c.args.most (c.make_turns-turns.ensures.reaches i on) on
+    c.make_turns-turns.ensures.some c.requires.some (omega arith)
+
+pub add-requires : goal.add-requires
+add-requires g c =
+    let few = (reached g (goal.at.add-requires g c).After-make_turns-turns c.requires.on.0 c.requires.on.1).1 in
+    omega (arith, few, c.requires.spare)
+
+pub returns-in-None-clause-goes : goal.returns-in-None-clause-goes
+returns-in-None-clause-goes g c = λ i on.
+    let h = reached g (goal.at.returns-in-None-clause-goes g c).After-make_turns-turns i on in
+    (c.make_turns-turns.ensures.some, h.1, (rw c.in-None.is at h.0).arrives)
+
+pub returns-in-Some-clause-goes : goal.returns-in-Some-clause-goes
+returns-in-Some-clause-goes g c = λ i on.
+    let some = c.make_turns-turns.ensures.some in
+    let h = reached g (goal.at.returns-in-Some-clause-goes g c).After-make_turns-turns i on in
+    let end = (rw c.in-Some.is at h.0).arrives in
+    let last = ended_last end.0 _ end.1 in
+    (some, h.1, omega (arith, last, some))
