@@ -1,7 +1,7 @@
 -- What each command of a session answers, which view it leaves, and how many turns it makes
 -- (commands that `bpf_dbg` has, of Linux Documentation/networking/filter, "BPF debugger", do what they do there, but
 -- for the differences that docs/KERNEL_TOOLS.md lists; the rest is this project's own).
-use Rattle.std.specs.Prelude.{◌≡◌, ℕ, ◌+◌, ◌-◌, ◌≤◌, zero, suc, nat_lt, nat_le, nat_eq, is_some, ◌==◌, ◌&&◌, Bool, true}
+use Rattle.std.specs.Prelude.{◌≡◌, ℕ, ◌+◌, ◌-◌, ◌*◌, zero, suc, nat_lt, nat_le, nat_eq, is_some, ◌==◌, ◌&&◌, Bool, true}
 use Rattle.std.specs.Prelude.{List, [], ◌∷◌, ◌++◌, length, slice_get, Option, Some, None, Result, Ok, Err}
 use Rattle.std.specs.Prelude.{if◌then◌else◌, ℤ, pos, negsuc, ◌⊎◌, IsOk}
 use Rattle.cbpf_code.specs.declared.insn.Insn.{Insn}
@@ -260,6 +260,6 @@ without_breakpoints m = record m { breakpoints = [] }
 -- how many turns a place takes: those from the packet's start to its step, twice; of the refusals only the one that
 -- counts the packet's steps makes turns, one for each
 abbrev pub turns_to_resume : ℕ → Result (Unit {0}) SessionFault → ℕ
-turns_to_resume step (Ok u) = 2 * (step - 1)
-turns_to_resume step (Err (fault.NoStep n)) = n
-turns_to_resume step (Err e) = 0
+turns_to_resume s (Ok u) = 2 * (s - 1)
+turns_to_resume s (Err (fault.NoStep n)) = n
+turns_to_resume s (Err _) = 0
