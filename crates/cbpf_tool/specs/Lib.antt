@@ -11,6 +11,7 @@ pub mod RunText
 pub mod SessionReplies
 pub mod Replies
 pub mod Output
+pub mod Flushing
 pub mod Debugged
 pub mod Progress
 pub mod Assembling

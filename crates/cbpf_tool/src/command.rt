@@ -58,40 +58,6 @@ pub enum SessionCommand {
     Value(Ext, u32),
 }
 
-impl Command<'_> {
-    /// Whether it loads a capture, or can make more turns than a short step.
-    // Without `_`, so that each new command gets an answer.
-    pub fn may_take_long(&self) -> bool {
-        match self {
-            Command::LoadCapture(_) => true,
-            Command::Session(command) => command.may_take_long(),
-            Command::LoadWords(_) | Command::Quit => false,
-        }
-    }
-}
-
-/// A step of as many instructions, on or back, may take long.
-const LONG_STEP: i64 = 4096;
-
-impl SessionCommand {
-    /// Whether it can make more turns than a short step.
-    fn may_take_long(&self) -> bool {
-        match self {
-            SessionCommand::Run(_) | SessionCommand::Resume(_) | SessionCommand::Stops => true,
-            SessionCommand::Step(n) => *n <= -LONG_STEP || LONG_STEP <= *n,
-            SessionCommand::Disassemble
-            | SessionCommand::Dump
-            | SessionCommand::Breakpoint(_, _)
-            | SessionCommand::Breakpoints
-            | SessionCommand::ResetBreakpoints
-            | SessionCommand::Delete(_)
-            | SessionCommand::Select(_)
-            | SessionCommand::Mark
-            | SessionCommand::Value(_, _) => false,
-        }
-    }
-}
-
 /// A command that has no arguments, if there are none.
 fn without_arguments(arguments: Arguments<'_>, command: SessionCommand) -> Option<SessionCommand>
     ensures { (ws : List (List ℕ)) → AreArguments ws arguments.entry → result ≡ spec.without_arguments command ws }

@@ -8,7 +8,7 @@ ghost use Rattle.cbpf_tool.specs.LineReader.{pending_in};
 use crate::command::{Command, command_of};
 use crate::fault::ToolFault;
 use crate::files::Files;
-use crate::flushing::{flush, flush_due};
+use crate::flushing::{Said, flush, flush_if, has_reply, may_take_long};
 use crate::line_reader::{LineEnd, LineReader};
 use crate::loads::{load_capture, load_words};
 use crate::reply_to::{ScriptSession, reply_to};
@@ -44,22 +44,6 @@ fn act<A: Allocator + Copy, W: Write, F: Files>(
     };
     reply?;
     Ok(AfterLine::NextLine)
-}
-
-/// What a line says, as `command_of` answers it.
-type Said<'a> = Result<Option<Command<'a>>, CommandFault>;
-
-/// Whether a line has a command that may take long.
-fn may_take_long(said: &Said<'_>) -> bool {
-    match said {
-        Ok(Some(command)) => command.may_take_long(),
-        _ => false,
-    }
-}
-
-/// Whether a line has a reply.
-fn has_reply(said: &Said<'_>) -> bool {
-    !matches!(said, Ok(None) | Ok(Some(Command::Quit)))
 }
 
 /// Runs a line that was read, and writes its reply.
@@ -100,17 +84,20 @@ fn run_lines<A: Allocator + Copy, R: Read, W: Write, F: Files>(
         Debugged script (R.remaining reader.new) (W.contents writer.old) (W.contents writer.new) (F.source files.old)
         (F.source files.new) result }
 {
+    // Whether a reply was written since the last flush.
     let mut waiting = false;
     'script: loop {
-        if let Err(fault) = flush_due(writer, &mut waiting, !lines.has_line()) {
+        let has_line = lines.has_line();
+        if let Err(fault) = flush_if(writer, waiting && !has_line) {
             return Err(fault);
         }
+        waiting &= has_line;
         match lines.next_line(reader, line) {
             Err(fault) => return Err(fault),
             Ok(None) => return Ok(()),
             Ok(Some(end)) => {
                 let said = command_of(line.as_slice());
-                if let Err(fault) = flush_due(writer, &mut waiting, may_take_long(&said)) {
+                if let Err(fault) = flush_if(writer, waiting && may_take_long(&said)) {
                     return Err(fault);
                 }
                 waiting |= has_reply(&said);

@@ -19,7 +19,7 @@ pub returns-in-Err : goal.returns-in-Err
 returns-in-Err g c = λ script e is_known.
     let p = c.script.invariant script e is_known in
     record {
-      outcome = unflushed p _ c.flush_due.ensures.kept _ c.in-Err.fault c.in-Err.ensures.fault;
+      outcome = unflushed p _ c.flush_if.ensures.kept _ c.in-Err.fault c.in-Err.ensures.fault;
     }
 
 pub returns-in-Err-next_line : goal.returns-in-Err-next_line
@@ -27,7 +27,7 @@ returns-in-Err-next_line g c = λ script e is_known.
     let p = c.script.invariant script e is_known in
     let pending = pending_in c.next_line.new.self.chunk c.next_line.new.self.start c.next_line.new.self.end in
     record {
-      outcome = line-faulted p _ c.flush_due.ensures.kept pending c.next_line.new.line.items _
+      outcome = line-faulted p _ c.flush_if.ensures.kept pending c.next_line.new.line.items _
           c.in-Err-next_line.fault (c.in-Err-next_line.ensures.line p.rest p.known);
     }
 
@@ -36,17 +36,17 @@ returns-in-Ok-None g c = λ script e is_known.
     let p = c.script.invariant script e is_known in
     let t = rw c.in-Ok-None.field-0-is at (c.in-Ok-None.ensures.line p.rest p.known) in
     record {
-      outcome = end-done p _ c.flush_due.ensures.kept _ t.0 t.1;
+      outcome = end-done p _ c.flush_if.ensures.kept _ t.0 t.1;
     }
 
 -- ---- a line
 
-pub returns-in-Err-flush_due : goal.returns-in-Err-flush_due
-returns-in-Err-flush_due g c = λ script e is_known.
+pub returns-in-Err-flush_if : goal.returns-in-Err-flush_if
+returns-in-Err-flush_if g c = λ script e is_known.
     let p = c.script.invariant script e is_known in
     record {
-      outcome = unflushed p _ (Keeps-trans _ _ _ c.flush_due.ensures.kept c.flush_due-in-Ok-Some.ensures.kept)
-          _ c.in-Err-flush_due.fault c.in-Err-flush_due.ensures.fault;
+      outcome = unflushed p _ (Keeps-trans _ _ _ c.flush_if.ensures.kept c.flush_if-in-Ok-Some.ensures.kept)
+          _ c.in-Err-flush_if.fault c.in-Err-flush_if.ensures.fault;
     }
 
 pub returns-in-Err-run_line : goal.returns-in-Err-run_line
@@ -57,7 +57,7 @@ returns-in-Err-run_line g c = λ script e is_known.
     let after = next p.rest pending c.next_line.new.line.items (g.R.Read.remaining c.next_line.new.reader)
     c.in-Ok-Some.end c.as_slice.ensures.value t in
     record {
-      outcome = write-faulted p _ (Keeps-trans _ _ _ c.flush_due.ensures.kept c.flush_due-in-Ok-Some.ensures.kept)
+      outcome = write-faulted p _ (Keeps-trans _ _ _ c.flush_if.ensures.kept c.flush_if-in-Ok-Some.ensures.kept)
           _ c.run_line.new.session _ after.1 is_known (g.R.Read.remaining c.next_line.new.reader)
           c.in-Err-run_line.field-0
           (rw (← c.command_of-said.ensures) (c.in-Err-run_line.ensures {u = tt}));
@@ -71,7 +71,7 @@ returns-in-Ok-Quit g c = λ script e is_known.
     let after = next p.rest pending c.next_line.new.line.items (g.R.Read.remaining c.next_line.new.reader)
     c.in-Ok-Some.end c.as_slice.ensures.value t in
     record {
-      outcome = quit-done p _ (Keeps-trans _ _ _ c.flush_due.ensures.kept c.flush_due-in-Ok-Some.ensures.kept)
+      outcome = quit-done p _ (Keeps-trans _ _ _ c.flush_if.ensures.kept c.flush_if-in-Ok-Some.ensures.kept)
           _ c.run_line.new.session _ after.1 is_known _
           (rw (← c.command_of-said.ensures) (rw c.in-Ok-Quit.field-0-is at (c.in-Ok-Quit.ensures {u = tt})));
     }
@@ -81,7 +81,7 @@ script-preserved g c = λ script e is_known.
     let p = c.script.invariant script e is_known in
     let t = rw c.in-Newline.is at (rw c.in-Ok-Some.field-0-is at (c.in-Ok-Some.ensures.line p.rest p.known)) in
     let q = rw (← c.as_slice.ensures.value) at t in
-    line-done p _ (Keeps-trans _ _ _ c.flush_due.ensures.kept c.flush_due-in-Ok-Some.ensures.kept) _
+    line-done p _ (Keeps-trans _ _ _ c.flush_if.ensures.kept c.flush_if-in-Ok-Some.ensures.kept) _
     c.run_line.new.session _ (next-whole c.as_slice.ensures.value t.0 t.1) is_known q.0 q.1
     (rw (← c.command_of-said.ensures) (rw c.in-Ok-NextLine.field-0-is at (c.in-Ok-NextLine.ensures {u = tt})))
 
@@ -90,7 +90,7 @@ returns-in-Input g c = λ script e is_known.
     let p = c.script.invariant script e is_known in
     let t = rw c.in-Input.is at (rw c.in-Ok-Some.field-0-is at (c.in-Ok-Some.ensures.line p.rest p.known)) in
     record {
-      outcome = last-done p _ (Keeps-trans _ _ _ c.flush_due.ensures.kept c.flush_due-in-Ok-Some.ensures.kept)
+      outcome = last-done p _ (Keeps-trans _ _ _ c.flush_if.ensures.kept c.flush_if-in-Ok-Some.ensures.kept)
           _ c.run_line.new.session _ (next-last c.as_slice.ensures.value t.0 t.3 t.1) is_known _ t.2 refl
           (rw (← c.command_of-said.ensures) (rw c.in-Ok-NextLine.field-0-is at (c.in-Ok-NextLine.ensures {u = tt})));
     }
