@@ -66,6 +66,7 @@ struct MemoryHost<'a, R: Test, A: Allocator + Copy> {
     alloc: A,
     files: &'static [File],
     input: &'static [u8],
+    has_output: bool,
     refusal: Option<CreateFault>,
     log: Vec<Done>,
 }
@@ -82,6 +83,7 @@ impl<'a, R: Test, A: Allocator + Copy> Host for MemoryHost<'a, R, A> {
       is_known = true;
       files = files_of (map (λ f. (f.0.now, f.1.now)) h.files.now);
       input = h.input.now;
+      has_output = h.has_output;
       events = map event h.log.items;
     } };
 
@@ -135,6 +137,7 @@ impl<'a, R: Test, A: Allocator + Copy> Host for MemoryHost<'a, R, A> {
     }
 
     fn output(&mut self) -> Result<Vec<u8, A>, CreateFault> {
+        self.has_output = false;
         match self.refusal {
             Some(fault) => Err(fault),
             None => Ok(Vec::new(self.alloc)),
@@ -164,6 +167,7 @@ fn machine<R: Test, A: Allocator + Copy>(rt: &R, alloc: A) -> MemoryHost<'_, R, 
         alloc,
         files: &FILES,
         input: b"ret #0\n",
+        has_output: true,
         refusal: None,
         log: Vec::new(rt.alloc()),
     }

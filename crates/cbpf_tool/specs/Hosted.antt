@@ -1,6 +1,6 @@
 -- What a machine on which a job runs holds, and what was done with it (this project's own). The files are those
 -- that can be read: what is created or written doesn't change them.
-use Rattle.std.specs.Prelude.{◌≡◌, ℕ, Bool, false, List, [], ◌∷◌, ◌++◌, Option, Some, Result, Ok, Err}
+use Rattle.std.specs.Prelude.{◌≡◌, ℕ, Bool, false, IsTrue, List, [], ◌∷◌, ◌++◌, Option, Some, Result, Ok, Err}
 use Rattle.std.specs.FinMap as map
 use Rattle.cbpf_tool.specs.FileMap.{FileMap}
 use Rattle.cbpf_tool.specs.declared.host.CreateFault.{CreateFault}
@@ -14,16 +14,18 @@ pub data Event : Type 0 where
   wrote : (name text : List ℕ) → Event
   printed : (text : List ℕ) → Event
 
--- whether it is known what the machine holds, the files that can be read, the standard input, and the events so far
+-- whether it is known what the machine holds, the files that can be read, what is left of the standard input, whether the
+-- standard output can still be given, and the events so far
 pub record Hosted : Type 0 where
   pub is_known : Bool
   pub files : FileMap
   pub input : List ℕ
+  pub has_output : Bool
   pub events : List Event
 
 -- a machine of which it is not known what it holds
 abbrev pub unknown : Hosted
-unknown = record { is_known = false; files = map.empty; input = []; events = [] }
+unknown = record { is_known = false; files = map.empty; input = []; has_output = false; events = [] }
 
 abbrev pub and_then : Hosted → List Event → Hosted
 and_then h es = record h { events = h.events ++ es }
@@ -31,6 +33,14 @@ and_then h es = record h { events = h.events ++ es }
 -- the standard input was given to be read, and nothing of it is left
 abbrev pub without_input : Hosted → Hosted
 without_input h = record h { input = [] }
+
+-- the standard output was given to be written
+abbrev pub without_output : Hosted → Hosted
+without_output h = record h { has_output = false }
+
+-- it is known what the machine holds, and its standard output was not given
+abbrev pub IsReady : Hosted → Type 0
+IsReady h = IsTrue h.is_known × IsTrue h.has_output
 
 -- a file was opened, and all its bytes can be read, or it could not be opened
 abbrev pub Opens : {V E : Type 0} → (V → Option (List ℕ)) → Hosted → Hosted → List ℕ → Result V E → Type 0

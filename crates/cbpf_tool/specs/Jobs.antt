@@ -8,7 +8,7 @@ use Rattle.cbpf_tool.specs.Debugged.{Debugged}
 use Rattle.cbpf_tool.specs.FileMap.{Source, known_source}
 use Rattle.cbpf_tool.specs.declared.fault.ToolFault.{ToolFault}
 use Rattle.cbpf_tool.specs.declared.fault.ToolFault.TheVariants.{Memory}
-use Rattle.cbpf_tool.specs.Hosted.{Hosted, Event, and_then, without_input}
+use Rattle.cbpf_tool.specs.Hosted.{Hosted, Event, and_then, without_input, without_output}
 use Rattle.cbpf_tool.specs.Hosted.{opened, not_opened, created, not_created, wrote, printed}
 use Rattle.cbpf_tool.specs.declared.failure.Failure.{Failure}
 use Rattle.cbpf_tool.specs.declared.failure.Failure.TheVariants.{Tool, CannotOpen}
@@ -24,16 +24,21 @@ unopened (Ok x) = None
 unopened (Err (Tool e)) = None
 unopened (Err (CannotOpen n)) = Some (string_bytes n)
 
--- a tool ran, and its result is the job's: what it wrote is the one event, or there was no room for a buffer, and it
--- did not begin
+-- what a tool wrote is the one event, or there was no room for a buffer, and it did not begin
 abbrev pub Ends : Hosted → Hosted → (List ℕ → Event) → (List ℕ → Result (Unit {0}) ToolFault → Type 0)
     → Result (Unit {0}) ToolFault → Type 0
 Ends old new event Done t =
     ((new ≡ old) × (t ≡ Err Memory)) ⊎ ((text : List ℕ) × (new ≡ and_then old (event text ∷ [])) × Done text t)
 
+-- a tool ran whose result is the job's
 abbrev pub RunsTool : Hosted → Hosted → (List ℕ → Event) → (List ℕ → Result (Unit {0}) ToolFault → Type 0)
     → Result (Unit {0}) Failure → Type 0
 RunsTool old new event Done r = (t : Result (Unit {0}) ToolFault) × (r ≡ tooled t) × Ends old new event Done t
+
+-- the same of a tool that writes to the standard output
+abbrev pub Prints : Hosted → Hosted → (List ℕ → Result (Unit {0}) ToolFault → Type 0) → Result (Unit {0}) Failure
+    → Type 0
+Prints old new Done r = RunsTool (without_output old) new printed Done r
 
 -- the one event is that a file of this name could not be opened, which ends the job
 abbrev pub EndsUnopened : Hosted → Hosted → List ℕ → Event → Result (Unit {0}) Failure → Type 0
@@ -50,14 +55,14 @@ DebuggedTo h script text t =
 
 -- `asm`: the source is the standard input, or the file, which is opened first
 abbrev pub AsmJob : Hosted → Hosted → Form → Option (List ℕ) → Result (Unit {0}) Failure → Type 0
-AsmJob old new form None r = RunsTool (without_input old) new printed (AssembledTo old.input form) r
+AsmJob old new form None r = Prints (without_input old) new (AssembledTo old.input form) r
 AsmJob old new form (Some name) r = EndsUnopened old new name (not_opened name) r
     ⊎ ((bytes : List ℕ) × (map.get old.files name ≡ Some bytes)
-    × RunsTool (and_then old (opened name ∷ [])) new printed (AssembledTo bytes form) r)
+    × Prints (and_then old (opened name ∷ [])) new (AssembledTo bytes form) r)
 
 -- the replies go to the standard output, or to the file, which is created
 abbrev pub RepliesTo : Hosted → Hosted → List ℕ → Option (List ℕ) → Result (Unit {0}) Failure → Type 0
-RepliesTo old new script None r = RunsTool old new printed (DebuggedTo old script) r
+RepliesTo old new script None r = Prints old new (DebuggedTo old script) r
 RepliesTo old new script (Some name) r = EndsUnopened old new name (not_created name) r
     ⊎ RunsTool (and_then old (created name ∷ [])) new (wrote name) (DebuggedTo old script) r
 

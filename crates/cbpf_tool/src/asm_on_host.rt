@@ -1,7 +1,7 @@
 // The job `asm`.
-ghost use Rattle.std.specs.Prelude.{◌≡◌, ℕ, IsTrue, List, [], Some, string_bytes};
+ghost use Rattle.std.specs.Prelude.{◌≡◌, ℕ, List, [], Some, string_bytes};
 ghost use Rattle.std.specs.Option.{option_map};
-ghost use Rattle.cbpf_tool.specs.Hosted.{printed};
+ghost use Rattle.cbpf_tool.specs.Hosted.{IsReady, printed, without_output};
 ghost use Rattle.cbpf_tool.specs.Jobs.{AsmJob, AssembledTo, Ends};
 
 use crate::assembler::asm;
@@ -19,8 +19,8 @@ fn assemble_from<A: Allocator, H: Host, I: Read>(
     reader: &mut I,
     form: Form,
 ) -> Result<(), ToolFault>
-    ensures { IsTrue (H.view host.old).is_known → (source : List ℕ) → I.remaining reader.old ≡ Some source →
-        Ends (H.view host.old) (H.view host.new) printed (AssembledTo source form) result }
+    ensures { IsReady (H.view host.old) → (source : List ℕ) → I.remaining reader.old ≡ Some source →
+        Ends (without_output (H.view host.old)) (H.view host.new) printed (AssembledTo source form) result }
 {
     let Ok(mut writer) = host.output() else {
         return Err(ToolFault::Memory);
@@ -37,7 +37,7 @@ pub fn asm_job<A: Allocator, H: Host>(
     form: Form,
     file: Option<String>,
 ) -> Result<(), Failure>
-    ensures { IsTrue (H.view host.old).is_known → AsmJob (H.view host.old) (H.view host.new) form
+    ensures { IsReady (H.view host.old) → AsmJob (H.view host.old) (H.view host.new) form
         (option_map (λ n. string_bytes n) file) result }
 {
     match file {

@@ -1,7 +1,7 @@
 // The job `dbg`.
 ghost use Rattle.std.specs.Prelude.{◌≡◌, ℕ, IsTrue, List, [], None, Some, string_bytes};
 ghost use Rattle.std.specs.Option.{option_map};
-ghost use Rattle.cbpf_tool.specs.Hosted.{printed};
+ghost use Rattle.cbpf_tool.specs.Hosted.{IsReady, printed, without_output};
 ghost use Rattle.cbpf_tool.specs.Jobs.{DbgJob, DebuggedTo, Ends, RepliesTo};
 
 use crate::debugger::debug;
@@ -32,8 +32,8 @@ fn debug_to_output<A: Allocator, H: Host, I: Read>(
     host: &mut H,
     reader: &mut I,
 ) -> Result<(), ToolFault>
-    ensures { IsTrue (H.view host.old).is_known → (script : List ℕ) → I.remaining reader.old ≡ Some script →
-        Ends (H.view host.old) (H.view host.new) printed (DebuggedTo (H.view host.old) script) result }
+    ensures { IsReady (H.view host.old) → (script : List ℕ) → I.remaining reader.old ≡ Some script →
+        Ends (without_output (H.view host.old)) (H.view host.new) printed (DebuggedTo (H.view host.old) script) result }
 {
     let Ok(mut writer) = host.output() else {
         return Err(ToolFault::Memory);
@@ -72,7 +72,7 @@ fn debug_from<A: Allocator, H: Host, I: Read>(
     reader: &mut I,
     output: Option<String>,
 ) -> Result<(), Failure>
-    ensures { IsTrue (H.view host.old).is_known → (script : List ℕ) → I.remaining reader.old ≡ Some script →
+    ensures { IsReady (H.view host.old) → (script : List ℕ) → I.remaining reader.old ≡ Some script →
         RepliesTo (H.view host.old) (H.view host.new) script (option_map (λ n. string_bytes n) output) result }
 {
     match output {
@@ -87,7 +87,7 @@ fn debug_input<A: Allocator, H: Host>(
     host: &mut H,
     output: Option<String>,
 ) -> Result<(), Failure>
-    ensures { IsTrue (H.view host.old).is_known → DbgJob (H.view host.old) (H.view host.new) None
+    ensures { IsReady (H.view host.old) → DbgJob (H.view host.old) (H.view host.new) None
         (option_map (λ n. string_bytes n) output) result }
 {
     let mut reader = host.input();
@@ -101,7 +101,7 @@ pub fn dbg_job<A: Allocator, H: Host>(
     input: Option<String>,
     output: Option<String>,
 ) -> Result<(), Failure>
-    ensures { IsTrue (H.view host.old).is_known → DbgJob (H.view host.old) (H.view host.new)
+    ensures { IsReady (H.view host.old) → DbgJob (H.view host.old) (H.view host.new)
         (option_map (λ n. string_bytes n) input) (option_map (λ n. string_bytes n) output) result }
 {
     match input {

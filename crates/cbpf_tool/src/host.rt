@@ -1,7 +1,8 @@
 // What a job needs of the machine on which it runs.
 ghost use Rattle.std.specs.Prelude.{◌≡◌, ℕ, IsTrue, List, [], ◌∷◌, Some, IfOk};
 ghost use Rattle.cbpf_tool.specs.FileMap.{known_source};
-ghost use Rattle.cbpf_tool.specs.Hosted.{Hosted, and_then, without_input, wrote, printed, Opens, Creates};
+ghost use Rattle.cbpf_tool.specs.Hosted.{Hosted, IsReady, and_then, without_input, without_output};
+ghost use Rattle.cbpf_tool.specs.Hosted.{wrote, printed, Opens, Creates};
 
 use crate::files::Files;
 use std::io::{self, Read, Write};
@@ -50,10 +51,11 @@ pub trait Host {
         ensures { IsTrue (view self.old).is_known → (text : List ℕ) → Self.Sink.contents sink ≡ Some text →
             view self.new ≡ and_then (view self.old) (wrote name.now text ∷ []) };
 
-    /// The standard output, of which nothing is written yet, or out of memory for its buffer.
+    /// The standard output, or out of memory for its buffer. The first call gives one of which nothing is written; of
+    /// another nothing is known.
     fn output(&mut self) -> Result<Self::Output, CreateFault>
-        ensures { IsTrue (view self.old).is_known →
-            (view self.new ≡ view self.old) × IfOk result (λ w. Self.Output.contents w ≡ Some []) };
+        ensures left { IsTrue (view self.old).is_known → view self.new ≡ without_output (view self.old) }
+        ensures empty { IsReady (view self.old) → IfOk result (λ w. Self.Output.contents w ≡ Some []) };
 
     /// Leaves what was written in the standard output.
     fn print(&mut self, output: Self::Output)

@@ -1,5 +1,6 @@
 // The job that a command line asks for.
-ghost use Rattle.std.specs.Prelude.{◌≡◌, IsTrue};
+ghost use Rattle.std.specs.Prelude.{◌≡◌};
+ghost use Rattle.cbpf_tool.specs.Hosted.{IsReady};
 ghost use Rattle.std.specs.Process.{exit_status};
 ghost use Rattle.cbpf_tool.specs.RunJob as spec;
 
@@ -13,7 +14,7 @@ use std::process::ExitCode;
 
 /// Runs a job on a machine.
 pub fn run_on<A: Allocator, H: Host>(alloc: A, host: &mut H, job: Job) -> Result<(), Failure>
-    ensures { IsTrue (H.view host.old).is_known → spec.JobDone (H.view host.old) (H.view host.new) job result }
+    ensures { IsReady (H.view host.old) → spec.JobDone (H.view host.old) (H.view host.new) job result }
 {
     match job {
         Job::Asm { form, file } => asm_job(alloc, host, form, file),
