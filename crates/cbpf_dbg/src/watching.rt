@@ -55,7 +55,8 @@ pub(crate) fn make_room<A: Allocator>(
     ensures watches { watched.new.watches ≡ watched.old.watches }
     ensures more { watched.old.room ≤ watched.new.room }
     ensures here { OnOk result (i < watched.new.room) }
-    ensures refused { OnErr result (lookup (nat_eq i) breakpoints.now.entries ≡ None) }
+    ensures refused { OnErr result ((lookup (nat_eq i) breakpoints.now.entries ≡ None)
+        × (watched.old.room < length p.now) × (watched.new ≡ watched.old)) }
 {
     if breakpoints.contains_key(&i) {
         return Ok(());
