@@ -46,7 +46,7 @@ const CALLS: &[Row] = &[
     Row::Step(3, Answer::Steps(2, 2, 1, 2048), Turns::Exactly(3)),
     Row::Step(-1, Answer::Steps(2, 1, 0, 0), Turns::Exactly(0)),
     Row::Run(Some(1), Answer::Breaks(2, 5, 4, 1), Turns::Exactly(4)),
-    Row::Resume(2, 3, Ok(()), Turns::There(2)),
+    Row::Resume(2, 3, Ok(()), Turns::Exactly(4)),
     Row::Select(1, Ok(())),
     Row::Mark(1, 0),
     Row::SetValue(Ext::Mark, 7, Ok(())),

@@ -41,6 +41,8 @@ mod machine_trail;
 #[cfg(test)]
 mod memory_host;
 #[cfg(test)]
+mod outsiders;
+#[cfg(test)]
 mod programs;
 #[cfg(test)]
 mod refused_calls;

@@ -8,9 +8,10 @@ pub(crate) mod rows;
 mod values;
 
 use crate::assertions::Test;
+use crate::outsiders::plain_trail;
 use cbpf_dbg::{ListTrail, MarkTrail, Place, SessionFault, When};
 use rows::Answer::{Breaks, Finishes, Limit, Refuses, Steps};
-use rows::Turns::{Back, Exactly, There};
+use rows::Turns::{Back, Exactly};
 use rows::{Row, check_rows};
 use values::values;
 
@@ -149,7 +150,7 @@ const PLACES: &[Shown] = &[
         "a saved place gives the rest, and counts from its packet",
         WITH_TWO_BREAKPOINTS,
         &[
-            Row::Resume(2, 2, Ok(()), There(1)),
+            Row::Resume(2, 2, Ok(()), Exactly(2)),
             Row::Mark(2, 2),
             Row::Run(None, Breaks(2, 5, 4, 1), Exactly(3)),
             Row::Run(None, Finishes(1, 0, 0), Exactly(1)),
@@ -169,7 +170,7 @@ const PLACES: &[Shown] = &[
             Row::Run(None, Breaks(1, 1, 0, 0), Exactly(0)),
             Row::Run(None, Breaks(1, 3, 5, 2054), Exactly(2)),
             Row::Mark(1, 3),
-            Row::Resume(1, 3, Ok(()), There(2)),
+            Row::Resume(1, 3, Ok(()), Exactly(4)),
             Row::Run(None, Breaks(2, 1, 0, 0), Exactly(1)),
             Row::Resume(2, 0, Ok(()), Exactly(0)),
             Row::Run(None, Breaks(2, 1, 0, 0), Exactly(0)),
@@ -258,7 +259,7 @@ const STEPS: &[Shown] = &[
             Row::Step(1, Steps(1, 65, 64, 2117), Exactly(1)),
             Row::Step(-1, Steps(1, 64, 63, 2116), Back(63)),
             Row::Step(-63, Steps(1, 1, 0, 0), Back(0)),
-            Row::Resume(1, 2, Ok(()), There(1)),
+            Row::Resume(1, 2, Ok(()), Exactly(2)),
             Row::Resume(1, 0, Ok(()), Exactly(0)),
             Row::Delete(4095, Ok(true)),
             Row::Run(None, Finishes(2, 0, 0), Exactly(8192)),
@@ -283,11 +284,12 @@ const STEPS: &[Shown] = &[
     ),
 ];
 
-/// The calls of a session, over each trail.
+/// The calls of a session, over each trail, and over one of an outsider.
 fn check_session(rt: &impl Test, session: &Shown) {
     check_rows(rt, MarkTrail::new(), false, session);
     let all = ListTrail::new(rt.alloc()).expect(rt, "memory");
     check_rows(rt, all, true, session);
+    check_rows(rt, plain_trail(rt), true, session);
 }
 
 const LATE_IN_1: Place = Place {

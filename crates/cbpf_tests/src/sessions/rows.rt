@@ -75,8 +75,6 @@ pub enum Answer {
 #[derive(Drop)]
 pub enum Turns {
     Exactly(u128),
-    /// So many on the way to an entry where each 64th state is kept, and twice as many where all are.
-    There(u128),
     /// So many on the way back where each 64th state is kept, and none where all are.
     Back(u128),
 }
@@ -113,7 +111,6 @@ fn matches_answer(reply: Result<RunReply, SessionFault>, wanted: &Answer) -> boo
 fn matches_turns(meter: &Meter, wanted: &Turns, keeps_all: bool) -> bool {
     match wanted {
         Turns::Exactly(n) => meter.spent() == *n,
-        Turns::There(n) => meter.spent() == n.saturating_mul(if keeps_all { 2 } else { 1 }),
         Turns::Back(n) => meter.spent() == if keeps_all { 0 } else { *n },
     }
 }
