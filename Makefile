@@ -52,11 +52,12 @@ demo: ## Proves and builds the program, assembles an example, and debugs a filte
 try: ## Runs the demonstration on a program that is built with no proof, in about a minute; keeps no program.
 	@python3 tools/try.py
 
-test: built ## Runs the end-to-end cases, sessions, verdicts, the works of bench and the examples of the documents on the program that is built, and looks up the documents' names.
+test: built ## Runs the end-to-end cases, sessions, verdicts, filters of the running kernel, the works of bench and the examples of the documents on the program that is built, and looks up the documents' names.
 	python3 tests/names.py
 	python3 tests/run.py "$(PROGRAM)"
 	python3 tests/sessions.py "$(PROGRAM)"
 	python3 tests/verdicts.py "$(PROGRAM)"
+	python3 tests/kernel.py "$(PROGRAM)"
 	@for it in assembler debugger growth loading processes session; do \
 		echo "python3 bench/$$it.py --answers"; python3 bench/$$it.py --answers > /dev/null || exit; done
 	python3 tests/documents.py "$(PROGRAM)"
