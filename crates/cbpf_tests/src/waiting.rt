@@ -102,7 +102,7 @@ impl<'a> Read for WaitingReader<'a> {
     }
 }
 
-static EXCHANGES: [Exchange; 9] = [
+static EXCHANGES: [Exchange; 19] = [
     // bpf: 1 instructions
     (b"load bpf 1,6 0 0 1\n", Short, 20),
     // pcap: 2 packets
@@ -118,6 +118,16 @@ static EXCHANGES: [Exchange; 9] = [
     (b"rk\n", Short, 4),
     // stops: 0, and 1 0
     (b"stops\nmark\n", Long, 13),
+    (b"value mark 7\n", Short, 13),
+    (b"breakpoint 0\n", Short, 28),
+    (b"breakpoint\n", Short, 15),
+    (b"delete 0\n", Short, 13),
+    (b"breakpoint reset\n", Short, 13),
+    (b"disassemble\n", Short, 13),
+    (b"dump\n", Short, 55),
+    (b"select 2\n", Short, 7),
+    (b"resume 1 0\n", Long, 7),
+    (b"load\n", Short, 26),
     (b"quit\n", Short, 0),
 ];
 
@@ -197,6 +207,10 @@ fn run_line_by_line(
     let mut files = two_packets_as_k(rt);
     let outcome = debug(rt.alloc(), &mut reader, &mut writer, &mut files);
     check(rt, outcome, &writer, wanted, (exchanges.len(), failing));
+    // The read that finds the end is the last one, and after `quit` there is none.
+    let is_quit = matches!(exchanges.last(), Some((b"quit\n", _, _)));
+    let most = exchanges.len().saturating_add(usize::from(!is_quit));
+    assert_named(rt, reader.reads <= most, "the reads", exchanges.len());
 }
 
 fn each_error(rt: &impl Test, lines: &[Exchange], wanted: &[u64], failing: usize) {
@@ -231,7 +245,7 @@ fn a_script_without_replies_is_flushed_at_its_end(rt: HostRuntime) {
 }
 
 /// Commands that may take long, after others that have a reply, and after ones that have not.
-static SCRIPT: [Exchange; 21] = [
+static SCRIPT: [Exchange; 27] = [
     (b"load bpf 1,6 0 0 1\n", Short, 20),
     (b"mark\n", Short, 21),
     (b"load pcap k\n", Long, 16),
@@ -241,6 +255,12 @@ static SCRIPT: [Exchange; 21] = [
     (b"mark\n", Short, 4),
     // at 1 0
     (b"resume 1 0\n", Long, 7),
+    (b"mark\n", Short, 4),
+    (b"step 5\n", Short, 21),
+    (b"mark\n", Short, 4),
+    (b"resume 1 1\n", Long, 7),
+    (b"mark\n", Short, 4),
+    (b"run 5\n", Long, 21),
     (b"mark\n", Short, 4),
     // error: S8 count is zero
     (b"step 0\n", Short, 24),
