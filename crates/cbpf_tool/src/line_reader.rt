@@ -156,6 +156,8 @@ impl LineReader {
     }
 
     /// Takes the next line, without its newline; one that ends with the input is what was left there, if anything.
+    // As a call it makes 70 machine instructions more a line.
+    #[inline(always)]
     pub(crate) fn next_line<R: Read, A: Allocator>(
         &mut self,
         reader: &mut R,
