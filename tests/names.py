@@ -541,7 +541,7 @@ def check_listed(path):
         crate = CRATES / crates_in(cells[0])[0]
         for file in sorted([*crate.glob("src/*.rt"), *crate.glob("specs/*.antt")]):
             name = file.name if file.suffix == ".rt" else file.stem
-            listed = re.search(rf"`(specs/)?{re.escape(name)}(\.antt)?`", " ".join(cells)) or file.stem in ("lib", "law", "Lib")
+            listed = re.search(rf"`(specs/)?{re.escape(name)}(\.antt)?`", " ".join(cells)) or file.stem in ("lib", "law", "equality", "Lib")
             check(listed, path, number, f"no `{name}` in the row of {crate.name}")
 
 

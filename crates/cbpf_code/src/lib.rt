@@ -4,6 +4,7 @@
 
 mod c_form;
 mod checker;
+mod equality;
 mod extension;
 mod form;
 mod insn;
@@ -19,6 +20,7 @@ mod writing;
 
 pub use c_form::write_c;
 pub use checker::{CheckFault, MAX_INSTRUCTIONS, SLOTS, check};
+pub use equality::equal_where_same;
 pub use extension::{Ext, FIRST_EXTENSION, ext_at, ext_name, ext_named, ext_offset};
 pub use form::Form;
 pub use insn::Insn;

@@ -1,6 +1,6 @@
 -- The command line of the program, and what its words ask for:
 -- this project's own, by `clap`'s meaning of a command line.
-use Rattle.std.specs.Prelude.{◌≢◌, ◌⊎◌, if◌then◌else◌, true, [], List, Option, Some, None, option_map, codes}
+use Rattle.std.specs.Prelude.{◌≡◌, ◌≢◌, ◌⊎◌, if◌then◌else◌, true, [], List, Option, Some, None, option_map, codes}
 use Rattle.std.specs.Prelude.{bytes_eq, String}
 use Rattle.clap.specs.Words.{App, Rule, Row, Text, new_app, new_rule, with_rule, with_subcommand, first_of}
 use Rattle.clap.specs.Words.{subcommand_of, fault_of}
@@ -86,3 +86,10 @@ IsFaultOf kinds (Help text) = IsAmong DisplayHelp kinds ⊎ IsAmong DisplayVersi
 IsFaultOf kinds (Refused text) =
     (kind : ErrorKind) × (kind ≢ DisplayHelp) × (kind ≢ DisplayVersion) × IsAmong kind kinds
 IsFaultOf kinds Memory = Unit {0}
+
+-- two faults of the same kind, with the same text
+abbrev pub IsSameFault : LineFault → LineFault → Type 0
+IsSameFault (Help a) (Help b) = text_of a ≡ text_of b
+IsSameFault (Refused a) (Refused b) = text_of a ≡ text_of b
+IsSameFault Memory Memory = Unit {0}
+IsSameFault _ _ = ⊥

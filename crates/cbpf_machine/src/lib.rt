@@ -8,6 +8,7 @@
 #![tactic(auto)]
 
 mod arithmetic;
+mod equality;
 mod execute;
 mod follow;
 mod list_trail;
@@ -23,6 +24,7 @@ mod trail;
 mod values;
 mod whole_packet;
 
+pub use equality::equal_where_same;
 pub use execute::{turn, turn_in_place};
 pub use follow::{Followed, follow_on, follow_packet};
 pub use list_trail::ListTrail;

@@ -8,6 +8,7 @@ mod breakpoints;
 mod c_dump;
 mod counts;
 mod dump;
+mod equality;
 mod errors;
 mod law;
 mod loads;
@@ -22,6 +23,7 @@ pub use c_dump::write_c_dump;
 pub use cbpf_machine::When;
 pub use counts::{write_finished, write_limit, write_place, write_went_to};
 pub use dump::write_stop;
+pub use equality::equal_where_same;
 pub use errors::{
     CommandFault, LoadFault, write_capture_fault, write_check_fault, write_command_fault,
     write_load_fault, write_no_program, write_out_of_memory, write_session_fault, write_word_fault,

@@ -10,6 +10,7 @@ mod bytes;
 mod choice;
 mod class;
 mod cut_law;
+mod equality;
 mod item;
 mod law;
 mod lexeme;
@@ -25,6 +26,7 @@ mod token;
 
 pub use class::Class;
 pub use cut_law::{one_cut, one_outcome};
+pub use equality::equal_where_same;
 pub use item::Row;
 pub use law::{one_reading, one_refusal};
 pub use lexeme::{Lexeme, Symbol};

@@ -19,8 +19,6 @@ mod done;
 #[cfg(test)]
 mod empty_records;
 #[cfg(test)]
-mod equality;
-#[cfg(test)]
 mod failing_files;
 #[cfg(test)]
 mod failing_input;

@@ -9,6 +9,7 @@
 mod assembler;
 mod draft;
 mod encode;
+mod equality;
 mod fault;
 mod labels;
 mod law;
@@ -21,6 +22,7 @@ mod source;
 pub use assembler::assemble;
 pub use cbpf_code::write_line;
 pub use cbpf_syntax::{Kind, Token};
+pub use equality::equal_where_same;
 pub use fault::{AsmFault, AsmKind};
 pub use law::{listing_assembles, one_assembly};
 pub use round_trip::write_listing;

@@ -6,6 +6,7 @@
 mod capture;
 mod captured;
 mod ending;
+mod equality;
 mod header;
 mod index;
 mod law;
@@ -14,6 +15,7 @@ mod records;
 pub use capture::Capture;
 pub use captured::Captured;
 pub use ending::Ending;
+pub use equality::equal_where_same;
 pub use header::CaptureFault;
 pub use law::one_capture;
 pub use records::Records;

@@ -1,0 +1,22 @@
+//! The laws of `==`.
+
+ghost use Rattle.std.specs.Prelude.{◌≡◌, Decides};
+
+use crate::follow::Followed;
+use crate::load::Packet;
+use crate::outcome::{Outcome, Turn};
+use crate::pause::When;
+use crate::state::State;
+use crate::values::Values;
+
+/// Two values of a type are equal by `==` exactly where contracts see the same.
+pub fn equal_where_same()
+    ensures state { (a b : _) → Decides (⟦<State as PartialEq>⟧.eq a b) (a ≡ b) }
+    ensures values { (a b : _) → Decides (⟦<Values as PartialEq>⟧.eq a b) (a ≡ b) }
+    ensures when { (a b : _) → Decides (⟦<When as PartialEq>⟧.eq a b) (a ≡ b) }
+    ensures turn { (a b : _) → Decides (⟦<Turn as PartialEq>⟧.eq a b) (a ≡ b) }
+    ensures outcome { (a b : _) → Decides (⟦<Outcome as PartialEq>⟧.eq a b) (a ≡ b) }
+    ensures followed { (a b : _) → Decides (⟦<Followed as PartialEq>⟧.eq a b) (a ≡ b) }
+    ensures packet { (a b : _) → Decides (⟦<Packet<'static> as PartialEq>⟧.eq a b)
+        ((a.bytes.now ≡ b.bytes.now) × (a.wire ≡ b.wire)) }
+{}
