@@ -20,6 +20,7 @@ crates/*/must-fail/README.md. Each is read outside its blocks of code, and names
                    in the column `only for the crate`; and something cites it
   a file           of src/ or specs/: it stands in its crate's row of the table of docs/ARCHITECTURE.md
   a call           in a block ```calls of docs/ARCHITECTURE.md: the function stands in the line's file
+A public type that has `==` has a clause in src/equality.rt of its crate.
 A line of tests/shown.txt is a sentence and, each after ` | `, what shows it, with texts between backquotes:
   test C::M::F     the function F has #[test] in the module M of the crate C; a text stands in the file of M, of a
                    module below M, or of one of the crate that M names
@@ -48,6 +49,8 @@ OUTSIDE = re.compile(r"[/~$]|linux/|Documentation/|PREFIX/|(crates/cbpf/)?out/|.
 STANDARD = set("grow shrink cmp partial_cmp madvise".split())
 # Documents of what users type, in which a name needn't be one of the sources.
 OF_USERS = {"REFERENCE.md", "KERNEL_TOOLS.md"}
+# Files of most crates, which no row of a table names.
+IN_EACH = {"lib", "law", "equality", "Lib"}
 CODE_SPAN = re.compile(r"(?<!`)`([^`]+)`(?!`)")
 NAME = re.compile(r"[A-Za-z_][\w]*(?:(?:::|\.)[A-Za-z_]\w*)*(?:\(.*\))?")
 SHOWN_BY = re.compile(r"(test|case|edit|script) ([\w:/.]+)((?: `[^`]+`)*)")
@@ -541,7 +544,7 @@ def check_listed(path):
         crate = CRATES / crates_in(cells[0])[0]
         for file in sorted([*crate.glob("src/*.rt"), *crate.glob("specs/*.antt")]):
             name = file.name if file.suffix == ".rt" else file.stem
-            listed = re.search(rf"`(specs/)?{re.escape(name)}(\.antt)?`", " ".join(cells)) or file.stem in ("lib", "law", "equality", "Lib")
+            listed = re.search(rf"`(specs/)?{re.escape(name)}(\.antt)?`", " ".join(cells)) or file.stem in IN_EACH
             check(listed, path, number, f"no `{name}` in the row of {crate.name}")
 
 
@@ -563,6 +566,17 @@ def check_reached(path):
             check(known, file, 1, f"no public clause reaches {item}, and no document says so")
 
 
+def check_equality(library):
+    """Whether each type with `==` that a library has and exports has a clause in its src/equality.rt."""
+    laws, exported = library.with_name("equality.rt"), re.findall(r"^pub use ([^;]+);", text_of(library), re.M)
+    clauses = set(re.findall(r"⟦<(\w+)(?:<[^>]*>)? as PartialEq>⟧", text_of(laws))) if laws.exists() else set()
+    code = "".join(joined_sources(library.parent.parent.name))
+    compared = re.findall(r"#\[derive[^\]]*\bPartialEq\b[^\]]*\]\s*pub (?:struct|enum) (\w+)", code)
+    compared += re.findall(r"\bPartialEq for (\w+)", code)
+    for name in set(compared) & set(re.findall(r"\w+", " ".join(exported))):
+        check(name in clauses, laws, 1, f"no clause of {name}")
+
+
 # The checks of a document by its name, or by its folder's.
 OF_ONE = {
     "PROMISES.md": [check_promises],
@@ -582,6 +596,8 @@ def main():
             look_up(path)
     for folder in sorted(CRATES.glob("*/must-fail")):
         check((folder / "README.md").exists(), folder, 1, "no README.md")
+    for library in sorted(CRATES.glob("*/src/lib.rt")):
+        check_equality(library)
     for fault in faults:
         print(fault)
     print(f"{names} names, {len(faults)} failed")
