@@ -10,6 +10,9 @@ its own word in any form of a call. It lists
   outside cbpf_machine, in every crate but those of tests: the word Meter anywhere but in the type `&mut Meter` and in an
     import by its own name; the field meter; the word stops, of the call that has a meter of its own
   in each of these crates: the imports that give another name, or all names
+  in cbpf_machine and in each crate that stands on it: the macros of this repository that it calls, as a macro may be
+    given a function once and call it twice: how often `$` stands in each before a name, once where it is declared, and
+    before a part that is repeated
   in cbpf_machine: the word Meter as above; the derives of Meter, its functions, the words Self and turns in its file;
     each literal of a state, and each change of its registers; what it exports; for each function that makes turns, by
     itself or by a call, how often it names each such function and how many loops it has, and whether other crates can
@@ -126,9 +129,10 @@ def items_of(words):
 class Source:
     def __init__(self, path):
         self.path = path
-        crate, _, *inner = path.relative_to(CRATES).parts
-        self.name = "/".join([crate, *inner])
+        self.crate, _, *inner = path.relative_to(CRATES).parts
+        self.name = "/".join([self.crate, *inner])
         self.imports, self.words = items_of(code_of(path))
+        self.named = {word.text for word in self.words}.union(*self.imports)
         self.lines = path.read_text().splitlines()
 
 
@@ -148,6 +152,43 @@ def list_words(files, wanted, holds=lambda words, at: True):
         for at, word in enumerate(file.words):
             if word.text == wanted and holds(file.words, at):
                 print(f"  {file.name}, {word.inside}: {file.lines[word.line - 1].strip()}")
+
+
+def on_the_machine(files):
+    """The files of the machine, and of each crate that stands on it."""
+    above, more = set(), {MACHINE}
+    while not more <= above:
+        above |= more
+        more = {file.crate for file in files if above & file.named}
+    return [file for file in files if file.crate in above]
+
+
+def macros_of(files):
+    """The macros by name: the file, and the words after the name."""
+    found = {}
+    for file in files:
+        for at, word in enumerate(file.words):
+            if word.text == "macro_rules":
+                found[file.words[at + 2].text] = file.name, file.words[at + 3 : end_of(file.words, at + 3)]
+    return found
+
+
+def called_in(words, macros):
+    return {word.text for word, after in zip(words, words[1:]) if after.text == "!" and word.text in macros}
+
+
+def list_macros(files):
+    """The macros that these files call above the machine, and how often they name what they are given."""
+    macros, called = macros_of(files), set()
+    more = {name for file in on_the_machine(files) for name in called_in(file.words, macros)}
+    while not more <= called:
+        called |= more
+        more = {name for macro in called for name in called_in(macros[macro][1], macros)}
+    for name in sorted(called):
+        file, words = macros[name]
+        named = Counter(after.text for word, after in zip(words, words[1:]) if word.text == "$")
+        parts = [f"{'a repeated part' if text == '(' else text} {times}" for text, times in sorted(named.items())]
+        print(f"  {file}, {name}: {', '.join(parts)}")
 
 
 def is_not_lent(words, at):
@@ -240,6 +281,8 @@ def main():
     list_words(outside, "stops", lambda words, at: words[at - 1].text not in ("fn", "mod"))
     print("meters in the machine:")
     list_words(machine, "Meter", is_not_lent)
+    print("macros, which may repeat what they are given:")
+    list_macros(outside + machine)
     print("imports that give another name, or all names:")
     list_imports(outside + machine, lambda imported: "as" in imported or "*" in imported)
     list_machine(machine)
