@@ -1,6 +1,6 @@
-// A reader and a writer that share a count. Before each read that waits, and before each command that may take
-// long, the replies so far are written and flushed, once; at the end there is always a flush; and after a flush
-// that fails nothing is read and nothing is written.
+// A reader and a writer that share a count. The writer is flushed before each line that isn't read yet, before each
+// command that may take long, and at the end. By then the replies so far are written, and after a flush that fails
+// nothing is read and nothing is written.
 use crate::assertions::{Test, assert_named};
 use crate::fault_injection::ERROR_KINDS;
 use crate::inputs::two_packets_as_k;
@@ -142,16 +142,19 @@ const ANSWER_TO_A_CUT_LINE: u64 = 26;
 fn wanted_flushes(rt: &impl Test, exchanges: &[Exchange], in_one_read: bool) -> Vec<u64> {
     let mut flushes = Vec::new(rt.alloc());
     let mut written: u64 = 0;
-    let mut flushed = 0;
-    for (_, length, reply) in exchanges {
-        if (*length == Long || !in_one_read) && written > flushed {
+    let mut is_unread = true;
+    for (line, length, reply) in exchanges {
+        if is_unread {
             flushes.push(written).expect(rt, "memory");
-            flushed = written;
+        }
+        if *length == Long {
+            flushes.push(written).expect(rt, "memory");
         }
         written = written.saturating_add(*reply);
+        is_unread = !in_one_read && line.last() == Some(&b'\n');
     }
     let quits = matches!(exchanges.last(), Some((b"quit\n", _, _)));
-    if written > flushed && !quits {
+    if is_unread && !quits {
         flushes.push(written).expect(rt, "memory");
     }
     if exchanges.len() == CUT {
@@ -240,7 +243,7 @@ fn each_reply_is_flushed_before_the_next_read_or_nothing_more_is_read(rt: HostRu
 static SILENT: [Exchange; 3] = [(b"\n", Short, 0), (b" \n", Short, 0), (b"quit\n", Short, 0)];
 
 #[test]
-fn a_script_without_replies_is_flushed_at_its_end(rt: HostRuntime) {
+fn a_script_without_replies_is_flushed_too(rt: HostRuntime) {
     each_flush(&rt, &SILENT);
 }
 

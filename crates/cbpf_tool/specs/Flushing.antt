@@ -1,5 +1,4 @@
--- When the replies of a script go out (this project's own): at its end, before each read, and before a command that may
--- take long.
+-- Before which commands a script's replies go out: those that may take long (this project's own).
 use Rattle.std.specs.Prelude.{ℕ, Bool, true, false, nat_le, unsigned_abs, Option, Some, None, Result, Ok, Err}
 use Rattle.cbpf_reply.specs.declared.errors.CommandFault.{CommandFault}
 use Rattle.cbpf_tool.specs.declared.command.Command.{Command}
@@ -21,9 +20,3 @@ abbrev pub may_take_long : Result (Option Command) CommandFault → Bool
 may_take_long (Ok (Some (LoadCapture name))) = true
 may_take_long (Ok (Some (Session c))) = makes_many_turns c
 may_take_long _ = false
-
--- whether a line has a reply: all have one but an empty line and `quit`
-abbrev pub has_reply : Result (Option Command) CommandFault → Bool
-has_reply (Ok None) = false
-has_reply (Ok (Some Quit)) = false
-has_reply _ = true

@@ -8,7 +8,7 @@ ghost use Rattle.cbpf_tool.specs.LineReader.{pending_in};
 use crate::command::{Command, command_of};
 use crate::fault::ToolFault;
 use crate::files::Files;
-use crate::flushing::{Said, flush, flush_if, has_reply, may_take_long};
+use crate::flushing::{Said, flush, flush_if, may_take_long};
 use crate::line_reader::{LineEnd, LineReader};
 use crate::loads::{load_capture, load_words};
 use crate::reply_to::{ScriptSession, reply_to};
@@ -84,23 +84,18 @@ fn run_lines<A: Allocator + Copy, R: Read, W: Write, F: Files>(
         Debugged script (R.remaining reader.new) (W.contents writer.old) (W.contents writer.new) (F.source files.old)
         (F.source files.new) result }
 {
-    // Whether a reply was written since the last flush.
-    let mut waiting = false;
     'script: loop {
-        let has_line = lines.has_line();
-        if let Err(fault) = flush_if(writer, waiting && !has_line) {
+        if let Err(fault) = flush_if(writer, !lines.has_line()) {
             return Err(fault);
         }
-        waiting &= has_line;
         match lines.next_line(reader, line) {
             Err(fault) => return Err(fault),
             Ok(None) => return Ok(()),
             Ok(Some(end)) => {
                 let said = command_of(line.as_slice());
-                if let Err(fault) = flush_if(writer, waiting && may_take_long(&said)) {
+                if let Err(fault) = flush_if(writer, may_take_long(&said)) {
                     return Err(fault);
                 }
-                waiting |= has_reply(&said);
                 match run_line(alloc, writer, session, files, said) {
                     Err(_) => return Err(ToolFault::Write),
                     Ok(AfterLine::Quit) => return Ok(()),
@@ -116,9 +111,8 @@ fn run_lines<A: Allocator + Copy, R: Read, W: Write, F: Files>(
 
 /// Runs a script of commands: reads lines up to `quit` or the end of the input, and writes the reply of
 /// each before the next one acts. A refused command is answered by a line `error: ..`, and the script goes
-/// on. Replies that were written since the last flush are flushed before each read, and before each command
-/// that loads a capture, runs, resumes, lists stops or steps by 4096 instructions or more, as it may take long.
-/// Before `Ok` the writer is flushed whether or not any were written.
+/// on. The writer is flushed before each line that isn't read yet, before `Ok`, and before each command that loads a
+/// capture, runs, resumes, lists stops or steps by 4096 instructions or more, as it may take long.
 ///
 /// # Errors
 ///

@@ -36,6 +36,8 @@ fn makes_many_turns(command: &SessionCommand) -> bool
 }
 
 /// Whether a line's command may take long: it may make many turns, or loads a capture.
+// As a call, since where it is inlined the command is copied field by field.
+#[inline(never)]
 pub(crate) fn may_take_long(said: &Said<'_>) -> bool
     ensures { result ≡ spec.may_take_long said.now }
 {
@@ -44,13 +46,6 @@ pub(crate) fn may_take_long(said: &Said<'_>) -> bool
         Ok(Some(Command::Session(command))) => makes_many_turns(command),
         Ok(Some(Command::LoadWords(_) | Command::Quit)) | Ok(None) | Err(_) => false,
     }
-}
-
-/// Whether a line has a reply.
-pub(crate) fn has_reply(said: &Said<'_>) -> bool
-    ensures { result ≡ spec.has_reply said.now }
-{
-    !matches!(said, Ok(None) | Ok(Some(Command::Quit)))
 }
 
 /// Flushes a writer.
