@@ -1,8 +1,20 @@
 # Completion of the command line of cbpf(1) for bash.
 
+# The names of files that begin with $1; those that begin with a dash get `./` where $2 is empty. `compgen` ends each
+# name by a newline, which a name may have too. So it puts `//` before that newline.
 _cbpf_names() {
+    local line name=''
     compopt -o filenames 2> /dev/null
-    mapfile -t COMPREPLY < <(compgen -f -- "$1")
+    while IFS= read -r line; do
+        name+=$line
+        if [[ $name != *// ]]; then
+            name+=$'\n'
+            continue
+        fi
+        [[ -z $2 && $name == -* ]] && name=./$name
+        COMPREPLY+=("${name%//}")
+        name=''
+    done < <(compgen -f -S // -- "$1")
 }
 
 _cbpf_words() {
@@ -36,7 +48,7 @@ _cbpf() {
     if [[ -z $ended && $word == -* ]]; then
         _cbpf_words "$word" "$options"
     elif ((names < most)); then
-        _cbpf_names "$word"
+        _cbpf_names "$word" "$ended"
     fi
 }
 
