@@ -39,6 +39,8 @@ mod machine_trail;
 #[cfg(test)]
 mod memory_host;
 #[cfg(test)]
+mod mixes;
+#[cfg(test)]
 mod outsiders;
 #[cfg(test)]
 mod programs;
