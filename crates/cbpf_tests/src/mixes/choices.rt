@@ -1,7 +1,6 @@
 //! Random calls, most of which fit what the session has.
 
 use super::calls::Call;
-use super::loads::{CAPTURE_COUNT, PROGRAM_COUNT};
 use super::model::Model;
 use super::random::Random;
 use cbpf_code::Ext;
@@ -28,6 +27,11 @@ pub static EXTENSIONS: [Ext; 15] = [
 
 /// Those that the programs ask for.
 static ASKED: [Ext; 4] = [Ext::Mark, Ext::VlanTci, Ext::Cpu, Ext::Rand];
+
+/// The numbers of all programs and captures, those of long programs and of captures with packets more often.
+static PROGRAMS: [u64; 12] = [0, 1, 2, 3, 4, 5, 6, 7, 1, 6, 7, 7];
+
+static CAPTURES: [u64; 8] = [0, 1, 2, 3, 4, 0, 3, 3];
 
 static LIMITS: [u64; 8] = [0, 1, 1, 2, 3, 60, u64::MAX - 1, u64::MAX];
 
@@ -99,7 +103,7 @@ fn either_way(random: &mut Random, n: u64) -> Call {
 }
 
 fn step(random: &mut Random, m: &Model) -> Call {
-    match random.below(6) {
+    match random.below(8) {
         0 => Call::Step(random.one_of(&FAR).unwrap_or(0)),
         1 => {
             let most = m.joined.len() as u64;
@@ -110,12 +114,13 @@ fn step(random: &mut Random, m: &Model) -> Call {
             let n = random.below(130);
             either_way(random, n)
         }
-        3 => {
-            let n = random.below(u64::from(m.place.step));
+        3..=5 => {
+            let most = u64::from(m.place.step).saturating_sub(1);
+            let n = random.below(most).saturating_add(1);
             Call::Step(-((n as u32) as i64))
         }
         _ => {
-            let n = random.below(4);
+            let n = random.below(3).saturating_add(1);
             either_way(random, n)
         }
     }
@@ -154,9 +159,9 @@ fn value(random: &mut Random) -> Call {
 fn load(random: &mut Random, m: &Model) -> Option<Call> {
     let (program, capture) = (m.program.is_some(), m.capture.is_some());
     if random.below(if program { 50 } else { 5 }) == 0 {
-        Some(Call::Program(random.below(PROGRAM_COUNT)))
+        random.one_of(&PROGRAMS).map(Call::Program)
     } else if random.below(if capture { 50 } else { 5 }) == 0 {
-        Some(Call::Capture(random.below(CAPTURE_COUNT)))
+        random.one_of(&CAPTURES).map(Call::Capture)
     } else {
         None
     }
@@ -168,13 +173,13 @@ pub fn choose(random: &mut Random, m: &Model, saved: &[Place]) -> Call {
         return call;
     }
     match random.below(64) {
-        0..=2 => Call::Reset,
-        3..=4 => value(random),
-        5..=8 => select(random, m),
-        9..=16 => delete(random, m),
-        17..=26 => breakpoint(random, m),
-        27..=36 => resume(random, m, saved),
-        37..=50 => step(random, m),
+        0 => Call::Reset,
+        1..=2 => value(random),
+        3..=5 => select(random, m),
+        6..=10 => delete(random, m),
+        11..=22 => breakpoint(random, m),
+        23..=32 => resume(random, m, saved),
+        33..=48 => step(random, m),
         _ => run(random),
     }
 }

@@ -66,9 +66,6 @@ static PROGRAMS: [Written; 8] = [
     ),
 ];
 
-/// How many programs there are.
-pub const PROGRAM_COUNT: u64 = 8;
-
 fn program_by(rt: &impl Test, (first, count, middle, last): &Written) -> Program {
     let mut all = Vec::from_slice(rt.alloc(), first).expect(rt, "memory");
     for _ in 0..*count {
@@ -98,10 +95,7 @@ fn seventy(rt: &impl Test) -> Capture {
     capture(rt, &file)
 }
 
-/// How many captures there are.
-pub const CAPTURE_COUNT: u64 = 5;
-
-/// Capture `n`, from 0: the last one where there is no such capture.
+/// Capture `n`, from 0, of five.
 pub fn capture_numbered(rt: &impl Test, n: u64) -> Capture {
     match n {
         0 => capture(rt, two_packets::little_endian()),
