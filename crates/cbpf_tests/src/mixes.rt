@@ -8,16 +8,17 @@ mod model;
 mod random;
 
 use crate::assertions::{Test, assert_named};
-use answers::{answer, mark, turns};
+use answers::{answer, mark, stops, turns};
 use calls::{Call, make};
-use cbpf_dbg::{ListTrail, MarkTrail, Meter, Place, Session, Trail, Why};
+use cbpf_dbg::{ListTrail, MarkTrail, Meter, Place, Session, SessionFault, Stop, Trail};
 use choices::{EXTENSIONS, choose};
 use model::Model;
 use random::Random;
 
-/// How many lists of calls there are for each trail, and how many calls each has.
+/// How many lists of calls each trail gets.
 const LISTS: u64 = 40;
 
+/// How many calls a list has.
 const CALLS: u32 = 400;
 
 fn agrees_on_place<T: Trail>(s: &Session<T>, m: &Model) -> bool {
@@ -42,32 +43,32 @@ fn agrees_on_values<T: Trail>(s: &Session<T>, m: &Model) -> bool {
     true
 }
 
-/// Whether the list of stops is that of the hits after the place.
-fn agrees_on_stops<T: Trail>(s: &Session<T>, m: &Model) -> bool {
-    let mut stops = match s.stops() {
-        Ok(stops) => stops,
-        Err(fault) => return mark(m) == Err(fault),
-    };
-    for entry in &m.joined {
-        if m.place < entry.place
-            && m.is_hit(entry)
-            && stops.next() != Some(entry.stop(Why::Break))
-        {
-            return false;
-        }
+/// The stops of the session's list.
+fn listed<T: Trail>(rt: &impl Test, s: &Session<T>) -> Result<Vec<Stop>, SessionFault> {
+    let mut found = Vec::new(rt.alloc());
+    for stop in s.stops()? {
+        found.push(stop).expect(rt, "memory");
     }
-    stops.next().is_none()
+    Ok(found)
 }
 
-/// Whether a session agrees with the model about all that it can be asked.
+fn agrees_on_stops<T: Trail>(rt: &impl Test, s: &Session<T>, m: &Model) -> bool {
+    match (listed(rt, s), stops(rt, m)) {
+        (Ok(found), Ok(wanted)) => found.as_slice() == wanted.as_slice(),
+        (Err(found), Err(wanted)) => found == wanted,
+        _ => false,
+    }
+}
+
+/// Asserts that a session agrees with the model about all that it can be asked.
 fn check_agrees<T: Trail>(rt: &impl Test, s: &Session<T>, m: &Model, at: (u64, u32, Call)) {
     assert_named(rt, agrees_on_place(s, m), "the place", at);
     assert_named(rt, agrees_on_breakpoints(s, m), "the breakpoints", at);
     assert_named(rt, agrees_on_values(s, m), "the values", at);
-    assert_named(rt, agrees_on_stops(s, m), "the stops", at);
+    assert_named(rt, agrees_on_stops(rt, s, m), "the stops", at);
 }
 
-/// Makes a call of a session and of the model, and asserts that both answer the same by the turns of the model.
+/// Makes a call, and asserts that the session answers what the model answers, in exactly as many turns.
 fn check_call<T: Trail>(
     rt: &impl Test,
     s: &mut Session<T>,
@@ -84,7 +85,7 @@ fn check_call<T: Trail>(
     assert_named(rt, meter.spent() == wanted, "the turns", at);
 }
 
-/// Makes the calls of one list.
+/// Makes the calls of one list. Each place that the session comes to is saved for later calls.
 fn check_calls<T: Trail>(rt: &impl Test, s: &mut Session<T>, keeps_all: bool, list: u64) {
     let mut m = Model::new(rt);
     let mut random = Random::new(list);

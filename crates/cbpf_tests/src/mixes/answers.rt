@@ -5,7 +5,7 @@ use super::loads::{capture_numbered, program_numbered};
 use super::model::Model;
 use crate::assertions::Test;
 use cbpf_code::Ext;
-use cbpf_dbg::{Place, RunReply, SessionFault, When, Why};
+use cbpf_dbg::{Place, RunReply, SessionFault, Stop, When, Why};
 
 /// The extensions that take no value.
 static WITHOUT_VALUE: [Ext; 4] = [Ext::Nla, Ext::NlaN, Ext::PayOff, Ext::Rand];
@@ -35,7 +35,7 @@ fn some_packets(m: &Model) -> Result<u64, SessionFault> {
     }
 }
 
-/// Refuses a number of which there is no instruction.
+/// Refuses a number that no instruction has.
 fn instruction(m: &Model, n: u64) -> Result<(), SessionFault> {
     if n < length(m)? {
         Ok(())
@@ -44,7 +44,7 @@ fn instruction(m: &Model, n: u64) -> Result<(), SessionFault> {
     }
 }
 
-/// Refuses a number of which there is no packet.
+/// Refuses a number that no packet has.
 fn packet(m: &Model, n: u64) -> Result<(), SessionFault> {
     let count = some_packets(m)?;
     if 1 <= n && n <= count {
@@ -60,7 +60,7 @@ pub fn mark(m: &Model) -> Result<Place, SessionFault> {
     Ok(m.place)
 }
 
-/// The end of the last packet, and the way back to the start.
+/// Counts up to the last packet, and goes back to the start.
 fn finish(m: &mut Model, packets: u64) -> RunReply {
     let counts = m.counts(packets.saturating_add(1));
     m.go_before(1);
@@ -73,16 +73,22 @@ fn limit_of(m: &Model, packets: u64, limit: Option<u64>) -> Option<u64> {
     if next <= packets { Some(next) } else { None }
 }
 
-fn run(m: &mut Model, limit: Option<u64>) -> Result<RunReply, SessionFault> {
+/// What `stops` answers.
+pub fn stops(rt: &impl Test, m: &Model) -> Result<Vec<Stop>, SessionFault> {
+    packets(m)?;
+    Ok(m.hits_ahead(rt))
+}
+
+fn run(rt: &impl Test, m: &mut Model, limit: Option<u64>) -> Result<RunReply, SessionFault> {
     let packets = packets(m)?;
     if limit == Some(0) {
         return Err(SessionFault::ZeroCount);
     }
     let end = limit_of(m, packets, limit);
-    match m.next_hit() {
+    match m.hits_ahead(rt).first() {
         Some(stop) if stop.place.packet < end.unwrap_or(u64::MAX) => {
             m.place = stop.place;
-            return Ok(RunReply::Stopped(stop));
+            return Ok(RunReply::Stopped(*stop));
         }
         _ => {}
     }
@@ -106,10 +112,11 @@ fn step_on(m: &mut Model, n: u64, packets: u64) -> RunReply {
 
 fn step_back(rt: &impl Test, m: &mut Model, n: u64) -> Result<RunReply, SessionFault> {
     let most = m.place.step.saturating_sub(1);
-    if u64::from(most) < n {
+    let back = u32::try_from(n).unwrap_or(u32::MAX);
+    if most < back {
         return Err(SessionFault::TooFarBack(most));
     }
-    m.place.step = m.place.step.saturating_sub(n as u32);
+    m.place.step = m.place.step.saturating_sub(back);
     let entry = m.entry_at(m.place).expect(rt, "an entry");
     Ok(RunReply::Stopped(entry.stop(Why::Step)))
 }
@@ -148,7 +155,8 @@ fn set_breakpoint(rt: &impl Test, m: &mut Model, n: u64, when: When) -> Result<(
             return Ok(());
         }
     }
-    m.breakpoints.push((n as u32, when)).expect(rt, "memory");
+    let n = u32::try_from(n).ok().expect(rt, "an instruction");
+    m.breakpoints.push((n, when)).expect(rt, "memory");
     Ok(())
 }
 
@@ -197,7 +205,7 @@ pub fn answer(rt: &impl Test, m: &mut Model, call: Call) -> Reply {
             m.breakpoints.clear();
             Reply::Done
         }
-        Call::Run(limit) => Reply::Ran(run(m, limit)),
+        Call::Run(limit) => Reply::Ran(run(rt, m, limit)),
         Call::Step(n) => Reply::Ran(step(rt, m, n)),
         Call::Select(n) => Reply::Answered(select(m, n)),
         Call::Resume(place) => Reply::Answered(resume(m, place)),
@@ -214,13 +222,13 @@ fn turns_back(step: u32, keeps_all: bool) -> u128 {
     }
 }
 
-/// How many turns a resumed step takes: one for each entry before it, and where all are kept a second one.
+/// How many turns it takes to resume a step: one for each entry before it, and two where all states are kept.
 fn turns_there(step: u32, keeps_all: bool) -> u128 {
     let before = u128::from(step.saturating_sub(1));
     before.saturating_mul(if keeps_all { 2 } else { 1 })
 }
 
-/// How many turns a run or a step from a place makes, of a model that it left so.
+/// How many turns a run or a step from a place makes that leaves the model so.
 fn turns_of_reply(m: &Model, from: Place, reply: RunReply, keeps_all: bool) -> u128 {
     match reply {
         RunReply::Finished(_) => m.entries_between(from, None),
@@ -230,7 +238,7 @@ fn turns_of_reply(m: &Model, from: Place, reply: RunReply, keeps_all: bool) -> u
     }
 }
 
-/// How many turns a call from a place makes, of a model that it left so.
+/// How many turns a call from a place makes that leaves the model so.
 pub fn turns(m: &Model, from: Place, call: Call, reply: Reply, keeps_all: bool) -> u128 {
     match (call, reply) {
         (_, Reply::Ran(Ok(reply))) => turns_of_reply(m, from, reply, keeps_all),

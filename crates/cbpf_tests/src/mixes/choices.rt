@@ -28,16 +28,20 @@ pub static EXTENSIONS: [Ext; 15] = [
 /// Those that the programs ask for.
 static ASKED: [Ext; 4] = [Ext::Mark, Ext::VlanTci, Ext::Cpu, Ext::Rand];
 
-/// The numbers of all programs and captures, those of long programs and of captures with packets more often.
+/// The number of each program. Some stand more than once, to be loaded more often.
 static PROGRAMS: [u64; 12] = [0, 1, 2, 3, 4, 5, 6, 7, 1, 6, 7, 7];
 
+/// The number of each capture, likewise.
 static CAPTURES: [u64; 8] = [0, 1, 2, 3, 4, 0, 3, 3];
+
+static VALUES: [u32; 5] = [0, 1, 1, 2, u32::MAX];
 
 static LIMITS: [u64; 8] = [0, 1, 1, 2, 3, 60, u64::MAX - 1, u64::MAX];
 
-static FAR: [i64; 6] = [i64::MIN, i64::MIN + 1, -4096, 0, 4096, i64::MAX];
+static FAR_STEPS: [i64; 6] = [i64::MIN, i64::MIN + 1, -4096, 0, 4096, i64::MAX];
 
-static PLACES_THAT_ARE_NOT: [Place; 4] = [
+/// Places that most captures and programs do not have.
+static FAR_PLACES: [Place; 4] = [
     Place { packet: 0, step: 1 },
     Place {
         packet: 1,
@@ -53,7 +57,7 @@ static PLACES_THAT_ARE_NOT: [Place; 4] = [
     },
 ];
 
-/// A number of an instruction, or one that lies too far.
+/// The number of an instruction, or one past the last.
 fn instruction(random: &mut Random) -> u64 {
     match random.below(8) {
         0 => random.below(202),
@@ -63,7 +67,7 @@ fn instruction(random: &mut Random) -> u64 {
     }
 }
 
-/// A breakpoint at an instruction, whose condition is as it is at an entry of the model.
+/// A breakpoint, mostly at the instruction of an entry, with a condition that holds there.
 fn breakpoint(random: &mut Random, m: &Model) -> Call {
     let Some(entry) = random.one_of(&m.joined) else {
         return Call::Break(instruction(random), When::X(0));
@@ -80,7 +84,7 @@ fn breakpoint(random: &mut Random, m: &Model) -> Call {
     }
 }
 
-/// A number that carries a breakpoint, or another one.
+/// Mostly of a breakpoint that is set.
 fn delete(random: &mut Random, m: &Model) -> Call {
     match random.one_of(&m.breakpoints) {
         Some((n, _)) if random.below(4) > 0 => Call::Delete(u64::from(n)),
@@ -96,15 +100,26 @@ fn run(random: &mut Random) -> Call {
     }
 }
 
-/// A step of this many, one way or the other.
+fn forward(n: u64) -> Call {
+    Call::Step(i64::try_from(n).unwrap_or(i64::MAX))
+}
+
+fn back(n: u64) -> Call {
+    Call::Step(0i64.saturating_sub(i64::try_from(n).unwrap_or(i64::MAX)))
+}
+
+/// So many steps forward or back.
 fn either_way(random: &mut Random, n: u64) -> Call {
-    let n = (n as u32) as i64;
-    Call::Step(if random.below(2) == 0 { n } else { -n })
+    if random.below(2) == 0 {
+        forward(n)
+    } else {
+        back(n)
+    }
 }
 
 fn step(random: &mut Random, m: &Model) -> Call {
     match random.below(8) {
-        0 => Call::Step(random.one_of(&FAR).unwrap_or(0)),
+        0 => Call::Step(random.one_of(&FAR_STEPS).unwrap_or(0)),
         1 => {
             let most = m.joined.len() as u64;
             let n = random.below(most);
@@ -116,8 +131,7 @@ fn step(random: &mut Random, m: &Model) -> Call {
         }
         3..=5 => {
             let most = u64::from(m.place.step).saturating_sub(1);
-            let n = random.below(most).saturating_add(1);
-            Call::Step(-((n as u32) as i64))
+            back(random.below(most).saturating_add(1))
         }
         _ => {
             let n = random.below(3).saturating_add(1);
@@ -126,10 +140,10 @@ fn step(random: &mut Random, m: &Model) -> Call {
     }
 }
 
-/// A saved place, that of an entry, or one that there is not.
+/// A saved place, the place of an entry, or one that is far.
 fn resume(random: &mut Random, m: &Model, saved: &[Place]) -> Call {
     let place = match random.below(6) {
-        0 => random.one_of(&PLACES_THAT_ARE_NOT),
+        0 => random.one_of(&FAR_PLACES),
         1 | 2 => random.one_of(&m.joined).map(|entry| entry.place),
         _ => random.one_of(saved),
     };
@@ -139,7 +153,7 @@ fn resume(random: &mut Random, m: &Model, saved: &[Place]) -> Call {
 fn select(random: &mut Random, m: &Model) -> Call {
     match random.below(8) {
         0 => Call::Select(u64::MAX),
-        _ => Call::Select(random.below(m.packets().saturating_add(2))),
+        _ => Call::Select(random.below(m.packet_count().saturating_add(2))),
     }
 }
 
@@ -148,14 +162,11 @@ fn value(random: &mut Random) -> Call {
         0 => random.one_of(&EXTENSIONS),
         _ => random.one_of(&ASKED),
     };
-    let v = match random.below(4) {
-        0 => u32::MAX,
-        _ => random.below(3) as u32,
-    };
+    let v = random.one_of(&VALUES).unwrap_or(0);
     Call::SetValue(e.unwrap_or(Ext::Proto), v)
 }
 
-/// A load, sooner of what isn't loaded yet.
+/// Sometimes a load, and more often where nothing is loaded yet.
 fn load(random: &mut Random, m: &Model) -> Option<Call> {
     let (program, capture) = (m.program.is_some(), m.capture.is_some());
     if random.below(if program { 50 } else { 5 }) == 0 {
@@ -167,7 +178,7 @@ fn load(random: &mut Random, m: &Model) -> Option<Call> {
     }
 }
 
-/// A call, where these places were saved.
+/// The next call. `saved` are the places so far.
 pub fn choose(random: &mut Random, m: &Model, saved: &[Place]) -> Call {
     if let Some(call) = load(random, m) {
         return call;

@@ -1,5 +1,6 @@
-//! A session by its definitions. All entries of all packets are one list, each made from the one before by
-//! `turn`, from `State::zero` on. The answers filter this list, and compare places. It has no cursor and no trail.
+//! A model of a session, written from the definitions: one list of the entries of all packets. `turn` gives each
+//! entry from the one before, and `State::zero` is the first of a packet. Answers filter the list and compare places.
+//! The model has no cursor and no trail, and goes over the whole list at each question.
 
 use crate::assertions::Test;
 use cbpf_code::{Ext, Program};
@@ -26,12 +27,12 @@ pub struct Entry {
     pub after: After,
 }
 
-/// What a session has, as far as its answers depend on it.
+/// All that the answers of a session depend on.
 #[derive(Drop)]
 pub struct Model {
     pub program: Option<Program>,
     pub capture: Option<Capture>,
-    /// Each value that an extension was given, of which its last one holds.
+    /// The values that extensions were given. The last one of each extension holds.
     pub values: Vec<(Ext, u32)>,
     /// In order of setting.
     pub breakpoints: Vec<(u32, When)>,
@@ -42,12 +43,20 @@ pub struct Model {
 }
 
 /// What comes after an entry whose turn gave this.
-fn after_turn(turn: Turn) -> After {
+fn after_turn(turn: &Turn) -> After {
     match turn {
         Turn::Next(_) => After::Entry,
         Turn::Returned(0) | Turn::Outside | Turn::ZeroDivisor => After::Fail,
         Turn::Returned(_) => After::Pass,
-        Turn::Unknown(e) => After::Unknown(e),
+        Turn::Unknown(e) => After::Unknown(*e),
+    }
+}
+
+/// The state after a turn, unless the packet ends.
+fn state_after(turn: &Turn) -> Option<State> {
+    match turn {
+        Turn::Next(next) => Some(*next),
+        _ => None,
     }
 }
 
@@ -74,20 +83,20 @@ fn add_entries(
 ) {
     let mut state = State::zero();
     for step in 1..=p.len() {
-        let turn = turn_at(rt, p, packet, values, &state);
+        let gives = turn_at(rt, p, packet, values, &state);
         let entry = Entry {
             place: Place {
                 packet: number,
                 step,
             },
             state,
-            after: after_turn(turn),
+            after: after_turn(&gives),
         };
         joined.push(entry).expect(rt, "memory");
-        match turn {
-            Turn::Next(next) => state = next,
-            _ => return,
-        }
+        let Some(next) = state_after(&gives) else {
+            return;
+        };
+        state = next;
     }
 }
 
@@ -117,7 +126,7 @@ fn stops_at(breakpoint: &(u32, When), state: &State) -> bool {
 }
 
 impl Entry {
-    /// The stop at this entry, where nothing else than `why` is the reason.
+    /// The stop at this entry, for this reason unless the entry asks for an extension.
     pub fn stop(&self, why: Why) -> Stop {
         let why = match self.after {
             After::Unknown(e) => Why::Unknown(e),
@@ -174,7 +183,7 @@ impl Model {
     }
 
     /// How many packets there are.
-    pub fn packets(&self) -> u64 {
+    pub fn packet_count(&self) -> u64 {
         match &self.capture {
             Some(capture) => capture.count(),
             None => 0,
@@ -202,14 +211,15 @@ impl Model {
         matches!(entry.after, After::Unknown(_))
     }
 
-    /// The first hit after the place.
-    pub fn next_hit(&self) -> Option<Stop> {
+    /// The hits after the place.
+    pub fn hits_ahead(&self, rt: &impl Test) -> Vec<Stop> {
+        let mut hits = Vec::new(rt.alloc());
         for entry in &self.joined {
             if self.place < entry.place && self.is_hit(entry) {
-                return Some(entry.stop(Why::Break));
+                hits.push(entry.stop(Why::Break)).expect(rt, "memory");
             }
         }
-        None
+        hits
     }
 
     /// The `n`-th entry after the place, from 1.
