@@ -9,7 +9,7 @@ mod random;
 
 use crate::assertions::{Test, assert_named};
 use answers::{answer, mark, stops, turns};
-use calls::{Call, make};
+use calls::{Call, make_call};
 use cbpf_dbg::{ListTrail, MarkTrail, Meter, Place, Session, SessionFault, Stop, Trail};
 use choices::{EXTENSIONS, choose};
 use model::Model;
@@ -79,7 +79,7 @@ fn check_call<T: Trail>(
     let (_, _, call) = at;
     let from = m.place;
     let mut meter = Meter::new();
-    let reply = make(rt, s, &mut meter, call);
+    let reply = make_call(rt, s, &mut meter, call);
     assert_named(rt, reply == answer(rt, m, call), "the reply", at);
     let wanted = turns(m, from, call, reply, keeps_all);
     assert_named(rt, meter.spent() == wanted, "the turns", at);

@@ -33,7 +33,7 @@ pub enum Reply {
 }
 
 /// Makes a call that changes breakpoints or values.
-fn set<T: Trail>(s: &mut Session<T>, call: Call) -> Reply {
+fn make_change<T: Trail>(s: &mut Session<T>, call: Call) -> Reply {
     match call {
         Call::Break(n, When::Always) => Reply::Answered(s.breakpoint(n)),
         Call::Break(n, when) => Reply::Answered(s.breakpoint_when(n, when)),
@@ -47,7 +47,12 @@ fn set<T: Trail>(s: &mut Session<T>, call: Call) -> Reply {
 }
 
 /// Makes a call of a session.
-pub fn make<T: Trail>(rt: &impl Test, s: &mut Session<T>, meter: &mut Meter, call: Call) -> Reply {
+pub fn make_call<T: Trail>(
+    rt: &impl Test,
+    s: &mut Session<T>,
+    meter: &mut Meter,
+    call: Call,
+) -> Reply {
     assert!(rt; meter.spent() == 0);
     match call {
         Call::Program(n) => {
@@ -62,6 +67,6 @@ pub fn make<T: Trail>(rt: &impl Test, s: &mut Session<T>, meter: &mut Meter, cal
         Call::Step(n) => Reply::Ran(s.step(meter, n)),
         Call::Select(n) => Reply::Answered(s.select(n)),
         Call::Resume(place) => Reply::Answered(s.resume(meter, place)),
-        _ => set(s, call),
+        _ => make_change(s, call),
     }
 }

@@ -13,9 +13,11 @@ use pcap_classic::Capture;
 pub enum After {
     /// The packet's next entry.
     Entry,
-    /// The packet's end, as the variants say.
+    /// The packet's end: it passes.
     Pass,
+    /// The packet's end: it fails.
     Fail,
+    /// The packet's end: it asks for this extension, which has no value.
     Unknown(Ext),
 }
 
