@@ -222,10 +222,10 @@ fn turns_back(step: u32, keeps_all: bool) -> u128 {
     }
 }
 
-/// How many turns it takes to resume a step: one for each entry before it, and two where all states are kept.
-fn turns_there(step: u32, keeps_all: bool) -> u128 {
+/// How many turns it takes to resume a step: twice those of the entries before it.
+fn turns_there(step: u32) -> u128 {
     let before = u128::from(step.saturating_sub(1));
-    before.saturating_mul(if keeps_all { 2 } else { 1 })
+    before.saturating_mul(2)
 }
 
 /// How many turns a run or a step from a place makes that leaves the model so.
@@ -243,7 +243,7 @@ pub fn turns(m: &Model, from: Place, call: Call, reply: Reply, keeps_all: bool) 
     match (call, reply) {
         (_, Reply::Ran(Ok(reply))) => turns_of_reply(m, from, reply, keeps_all),
         (_, Reply::Answered(Err(SessionFault::NoStep(steps)))) => u128::from(steps),
-        (Call::Resume(place), Reply::Answered(Ok(()))) => turns_there(place.step, keeps_all),
+        (Call::Resume(place), Reply::Answered(Ok(()))) => turns_there(place.step),
         _ => 0,
     }
 }
