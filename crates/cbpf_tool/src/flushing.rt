@@ -36,8 +36,6 @@ fn makes_many_turns(command: &SessionCommand) -> bool
 }
 
 /// Whether a line's command may take long: it may make many turns, or loads a capture.
-// As a call, since where it is inlined the command is copied field by field.
-#[inline(never)]
 pub(crate) fn may_take_long(said: &Said<'_>) -> bool
     ensures { result ≡ spec.may_take_long said.now }
 {
