@@ -1,4 +1,4 @@
-// Sources and scripts of 70,000 bytes and more, of which each read gives one.
+// Sources and scripts of 700,000 bytes and more, of which each read gives one.
 use crate::assertions::Test;
 use crate::fault_injection::FaultyReader;
 use crate::inputs::repeated;
@@ -9,13 +9,13 @@ fn assembles_to(rt: &impl Test, source: &[u8], words: &[u8]) {
     let mut reader = FaultyReader::new(source, 1, 0);
     let mut text = Vec::new(rt.alloc());
     assert!(rt; asm(rt.alloc(), &mut reader, &mut text, Form::Decimal) == Ok(()));
-    assert!(rt; reader.calls() > 70_000 && text.as_slice() == words);
+    assert!(rt; reader.calls() > 700_000 && text.as_slice() == words);
 }
 
 #[test]
 fn a_source(rt: HostRuntime) {
     let comment = b" ; seventeen bytes\n";
-    let source = repeated(&rt, b"ret #5", comment, 4000, b"");
+    let source = repeated(&rt, b"ret #5", comment, 40_000, b"");
     assembles_to(&rt, &source, b"1,6 0 0 5,\n");
 }
 
@@ -25,20 +25,20 @@ fn replies(rt: &impl Test, script: &[u8], wanted: &[u8]) {
     let mut text = Vec::new(rt.alloc());
     let mut files = MemoryFiles::new(rt.alloc());
     assert!(rt; debug(rt.alloc(), &mut reader, &mut text, &mut files) == Ok(()));
-    assert!(rt; reader.calls() > 70_000 && text.as_slice() == wanted);
+    assert!(rt; reader.calls() > 700_000 && text.as_slice() == wanted);
 }
 
 #[test]
 fn a_line(rt: HostRuntime) {
-    let line = repeated(&rt, b"load bpf ", b" \t", 35_000, b"1,6 0 0 1\n");
+    let line = repeated(&rt, b"load bpf ", b" \t", 350_000, b"1,6 0 0 1\n");
     replies(&rt, &line, b"bpf: 1 instructions\n");
 }
 
 #[test]
 fn many_lines(rt: HostRuntime) {
-    let lines = repeated(&rt, b"", b"hello\n\n", 10_000, b"mark\n");
+    let lines = repeated(&rt, b"", b"hello\n\n", 100_000, b"mark\n");
     let reply = b"error: Q1 unknown command\n";
     let last = b"error: S1 no program\n";
-    let wanted = repeated(&rt, b"", reply, 10_000, last);
+    let wanted = repeated(&rt, b"", reply, 100_000, last);
     replies(&rt, &lines, &wanted);
 }

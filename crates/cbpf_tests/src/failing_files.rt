@@ -1,8 +1,8 @@
-// A file in memory of which one load fails.
-use crate::assertions::Test;
+// Files of which a load fails.
+use crate::assertions::{Test, assert_at};
 use crate::fault_injection::{Fault, FaultyWriter};
 use crate::inputs::two_packets_as_k;
-use cbpf_tool::{MemoryFiles, debug};
+use cbpf_tool::{DiskFiles, Files, LoadFault, MemoryFiles, debug};
 
 /// The replies to a script over these files.
 fn assert_replies(rt: &impl Test, files: &mut MemoryFiles, script: &[u8], wanted: &[u8]) {
@@ -37,4 +37,29 @@ error: F1 no such file\nbpf: 1 instructions\nat 2 0\nerror: F2 file could not be
 pcap: 2 packets\n1 0\n"
         .as_slice();
     assert_replies(&rt, &mut files, script, wanted);
+}
+
+fn load_fails(rt: &impl Test, files: &mut impl Files, name: &str, nth: usize) {
+    let fails = matches!(files.load(rt.alloc(), name), Err(LoadFault::Device));
+    assert_at(rt, nth, fails);
+}
+
+fn loads(rt: &impl Test, files: &mut impl Files, name: &str) {
+    assert!(rt; files.load(rt.alloc(), name).is_ok());
+}
+
+#[test]
+fn a_load_after_forty_failures(rt: HostRuntime) {
+    let mut files = two_packets_as_k(&rt);
+    for nth in 1..=40usize {
+        files.fail_at(1);
+        load_fails(&rt, &mut files, "k", nth);
+        loads(&rt, &mut files, "k");
+    }
+    // A folder is no file that can be read.
+    let mut files = DiskFiles::new(&rt);
+    for nth in 1..=40usize {
+        load_fails(&rt, &mut files, "/", nth);
+        loads(&rt, &mut files, "/dev/null");
+    }
 }

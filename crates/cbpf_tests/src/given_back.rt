@@ -1,14 +1,15 @@
 // What was asked for of an allocator is given back: by loads that take the place of others, by refused loads,
 // by breakpoints that are set and taken out, and by what is dropped.
 use crate::assertions::{Test, assert_named};
-use crate::fault_injection::FaultyAllocator;
+use crate::fault_injection::{Fault, FaultyAllocator, FaultyWriter};
 use crate::inputs::{
-    ARP, HEADER, ICMP_WORDS, RECORD, STRAIGHT, program_of, repeated, two_packets, two_packets_as_k,
+    ARP, ARP_WORDS, HEADER, ICMP_WORDS, RECORD, STRAIGHT, program_of, repeated, two_packets,
+    two_packets_as_k,
 };
 use cbpf_code::{check, read_words};
 use cbpf_dbg::{ListTrail, MarkTrail, Session, Trail, When};
 use cbpf_text::{assemble, tokens};
-use cbpf_tool::{DiskFiles, Files, Form, asm, debug};
+use cbpf_tool::{DiskFiles, Files, Form, ToolFault, asm, debug};
 use pcap_classic::Capture;
 use std::alloc::{Allocator, Global};
 use std::io;
@@ -101,10 +102,13 @@ fn is_refused<A: Allocator + Copy>(rt: &impl Abort, alloc: A, call: Call) -> boo
 }
 
 /// A call, and whether it is refused.
-static CALLS: [(Call, bool); 13] = [
+static CALLS: [(Call, bool); 23] = [
     (Call::Words(ICMP_WORDS), false),
     (Call::Words(b"3,6 0 0 1,6 0 0 1"), true),
+    (Call::Words(b"2,6 0 0 1,6 0 0"), true),
+    (Call::Words(b"2,6 0 0 1,6 0 0 4294967296"), true),
     (Call::Words(b"2,6 0 0 1,6 0 0 x"), true),
+    (Call::Words(b"2,6 0 0 1,6 0 0 0 9"), true),
     (Call::Program(STRAIGHT), false),
     (Call::Program(b"2,6 0 0 1,5 0 0 0"), true),
     (Call::Program(b"2,96 0 0 0,22 0 0 0"), true),
@@ -113,8 +117,15 @@ static CALLS: [(Call, bool); 13] = [
     (Call::Capture(b"no capture, as its magic says"), true),
     (Call::Tokens(b"ldh [12] $"), true),
     (Call::Source(ARP), false),
-    (Call::Source(b"in: ld #1\njmp no\nret #0"), true),
+    (Call::Source(b"in: ld #1\nret $"), true),
+    (Call::Source(b"in: ld #1\nret #0 /* x"), true),
+    (Call::Source(b"in: ld #1\nret #4294967296"), true),
+    (Call::Source(b"in: ld #1\nret #-2147483649"), true),
     (Call::Source(b"in: ld #1\nret ret"), true),
+    (Call::Source(b"in: ld #1\nret #0\ntop:"), true),
+    (Call::Source(b"in: ld #1\nin: ret #0"), true),
+    (Call::Source(b"in: ld #1\njmp no\nret #0"), true),
+    (Call::Source(b"in: ld #1\njmp in\nret #0"), true),
 ];
 
 #[test]
@@ -233,6 +244,29 @@ fn sources(rt: HostRuntime) {
     }
 }
 
+/// Writes into a room, and fails at each flush.
+fn unflushable() -> FaultyWriter<64> {
+    let mut writer = FaultyWriter::new(Fault::Fails, 0);
+    writer.set_flush_fails(true);
+    writer
+}
+
+#[test]
+fn after_a_last_flush_that_failed(rt: HostRuntime) {
+    let counting = FaultyAllocator::new(rt.alloc(), 0);
+    let (mut reader, mut writer) = (ARP, unflushable());
+    let answer = asm(&counting, &mut reader, &mut writer, Form::Decimal);
+    assert!(rt; answer == Err(ToolFault::Write) && writer.written() == ARP_WORDS);
+    assert!(rt; counting.asked() > 0 && counting.held() == 0);
+    for script in [LINES[0], b"load bpf 1,6 0 0 1\nbreakpoint 0\nquit\n"] {
+        let (mut reader, mut writer) = (script, unflushable());
+        let mut files = two_packets_as_k(&rt);
+        let answer = debug(&counting, &mut reader, &mut writer, &mut files);
+        assert!(rt; answer == Err(ToolFault::Write) && writer.flushes() > 0);
+        assert!(rt; counting.asked() > 0 && counting.held() == 0);
+    }
+}
+
 /// The number of records of a capture, and the bytes that its index asks for: a place of 8 bytes for each 64 records
 /// and for what is left of them. It holds them all.
 static INDEXES: [(u32, u64); 10] = [
@@ -286,5 +320,69 @@ fn room_for_a_list_of_states(rt: HostRuntime) {
     // 4096 states of 80 bytes.
     assert!(rt; counting.asked() == 327680 && counting.held() == 327680);
     drop(trail);
+    assert!(rt; counting.held() == 0);
+}
+
+/// The bytes that breakpoints at all instructions of a session take.
+#[derive(Clone, Copy)]
+struct Room {
+    breakpoints: u64,
+    /// What the first one asks for.
+    first: u64,
+    /// What they all ask for.
+    asked: u64,
+    held: u64,
+}
+
+/// Sets a breakpoint at each instruction of a session, whose bytes `counting` counts.
+fn room_of<T: Trail, A: Allocator + Copy>(
+    rt: &impl Abort,
+    session: &mut Session<T, A>,
+    counting: &FaultyAllocator<Global>,
+) -> Room {
+    let (asked, held) = (counting.asked(), counting.held());
+    assert!(rt; session.breakpoint_when(0, When::A(7)) == Ok(()));
+    let first = counting.asked().saturating_sub(asked);
+    let mut breakpoints = 1u64;
+    while session.breakpoint(breakpoints) == Ok(()) {
+        breakpoints = breakpoints.saturating_add(1);
+    }
+    Room {
+        breakpoints,
+        first,
+        asked: counting.asked().saturating_sub(asked),
+        held: counting.held().saturating_sub(held),
+    }
+}
+
+/// Room for conditions of 8 bytes an instruction, and for a table that doubles.
+fn is_bounded(room: &Room) -> bool {
+    let conditions = room.breakpoints.saturating_mul(8).saturating_add(256);
+    let held = conditions.saturating_add(room.breakpoints.saturating_mul(48));
+    let asked = conditions.saturating_add(room.breakpoints.saturating_mul(80));
+    room.first <= conditions && room.held <= held && room.asked <= asked
+}
+
+fn assert_room<A: Allocator + Copy>(
+    rt: &impl Abort,
+    alloc: A,
+    counting: &FaultyAllocator<Global>,
+    words: &[u8],
+) {
+    let mut session = Session::new(alloc, MarkTrail::new());
+    session.load_program(program_of(alloc, words).expect(rt, "the program"));
+    let room = room_of(rt, &mut session, counting);
+    let count = session.breakpoint_count() as u64;
+    let is_wanted = room.breakpoints == count && is_bounded(&room);
+    assert_named(rt, is_wanted, "the room of breakpoints", count);
+}
+
+#[test]
+fn room_for_breakpoints(rt: HostRuntime) {
+    let counting = FaultyAllocator::new(rt.alloc(), 0);
+    assert_room(&rt, &counting, &counting, b"1,6 0 0 1");
+    assert_room(&rt, &counting, &counting, STRAIGHT);
+    let longest = repeated(&rt, b"4096,", b"7 0 0 0,", 4095, b"6 0 0 1");
+    assert_room(&rt, &counting, &counting, &longest);
     assert!(rt; counting.held() == 0);
 }

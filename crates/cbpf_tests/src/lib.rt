@@ -58,3 +58,5 @@ mod stop_dump;
 mod two_packets;
 #[cfg(test)]
 mod waiting;
+#[cfg(test)]
+mod widths;

@@ -2,7 +2,6 @@
 use crate::assertions::{Test, assert_named};
 use crate::fault_injection::FaultyReader;
 use crate::inputs::{HEADER, RECORD, program_of, repeated};
-use cbpf_code::read_words;
 use cbpf_dbg::{MarkTrail, Session, SessionFault, When};
 use cbpf_text::{assemble, tokens, write_listing};
 use cbpf_tool::{Form, MemoryFiles, asm, debug};
@@ -16,12 +15,6 @@ fn records(rt: &impl Test) {
         .expect(rt, "the capture");
     assert!(rt; capture.count() == 3000);
     assert!(rt; capture.ending() == Ending::Whole && capture.item(2999).start == 50990);
-}
-
-fn instructions(rt: &impl Test) {
-    let words = repeated(rt, b"5000,", b"7 0 0 0,", 4999, b"6 1 2 3");
-    let list = read_words(rt.alloc(), &words).expect(rt, "the list");
-    assert!(rt; list.len() == 5000);
 }
 
 fn source_tokens(rt: &impl Test) {
@@ -66,7 +59,6 @@ fn loads(rt: &impl Test, script: &[u8]) {
 #[test]
 fn thousands_of_records_instructions_and_tokens(rt: HostRuntime) {
     records(&rt);
-    instructions(&rt);
     source_tokens(&rt);
     let words = repeated(&rt, b"4096,", b"7 0 0 0,", 4095, b"6 0 0 1,\n");
     let listing = listing_of(&rt, &words);
