@@ -357,7 +357,7 @@ fn room_of<T: Trail, A: Allocator + Copy>(
 
 /// Room for conditions of 8 bytes an instruction, and for a table that doubles.
 fn is_bounded(room: &Room) -> bool {
-    let conditions = room.breakpoints.saturating_mul(8).saturating_add(256);
+    let conditions = room.breakpoints.saturating_mul(8).saturating_add(320);
     let held = conditions.saturating_add(room.breakpoints.saturating_mul(48));
     let asked = conditions.saturating_add(room.breakpoints.saturating_mul(80));
     room.first <= conditions && room.held <= held && room.asked <= asked

@@ -33,6 +33,8 @@ mod great_sizes;
 #[cfg(test)]
 mod inputs;
 #[cfg(test)]
+mod long_steps;
+#[cfg(test)]
 mod machine;
 #[cfg(test)]
 mod machine_trail;
