@@ -24,6 +24,8 @@ mod tables;
 #[cfg(test)]
 mod tokens;
 #[cfg(test)]
+mod widths;
+#[cfg(test)]
 mod words;
 #[cfg(test)]
 mod writing;
