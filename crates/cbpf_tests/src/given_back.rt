@@ -334,6 +334,16 @@ struct Room {
     held: u64,
 }
 
+/// Sets a breakpoint at each instruction: how many there are.
+fn set_all<T: Trail, A: Allocator + Copy>(session: &mut Session<T, A>) -> u64 {
+    for n in 0..4096u64 {
+        if session.breakpoint(n) != Ok(()) {
+            return n;
+        }
+    }
+    4096
+}
+
 /// Sets a breakpoint at each instruction of a session, whose bytes `counting` counts.
 fn room_of<T: Trail, A: Allocator + Copy>(
     rt: &impl Abort,
@@ -343,10 +353,7 @@ fn room_of<T: Trail, A: Allocator + Copy>(
     let (asked, held) = (counting.asked(), counting.held());
     assert!(rt; session.breakpoint_when(0, When::A(7)) == Ok(()));
     let first = counting.asked().saturating_sub(asked);
-    let mut breakpoints = 1u64;
-    while session.breakpoint(breakpoints) == Ok(()) {
-        breakpoints = breakpoints.saturating_add(1);
-    }
+    let breakpoints = set_all(session);
     Room {
         breakpoints,
         first,
