@@ -118,8 +118,8 @@ fn a_hundred_thousand_look_ups_late_in_a_capture(rt: HostRuntime) {
         .expect(&rt, "the capture");
     assert!(rt; capture.count() == 1_000_000);
     for _ in 0..100_000u32 {
-        assert!(rt; capture.item(1_000_000).start == 16_000_008);
-        assert!(rt; capture.records(1_000_000, u64::MAX).count() == 1);
+        assert!(rt; capture.item(999_937).start == 15_999_000);
+        assert!(rt; capture.records(999_937, 999_938).count() == 1);
     }
 }
 
