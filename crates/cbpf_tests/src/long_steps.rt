@@ -1,61 +1,38 @@
 // A long step goes over whole packets without keeping their entries, which no clause says. It is counted, as time
 // would depend on the machine.
-ghost use Rattle.std.specs.Prelude.{◌≡◌, ◌≤◌};
-
 use crate::assertions::Test;
 use crate::inputs::{HEADER, RECORD, STRAIGHT, program_of, repeated};
 use cbpf_code::Program;
-use cbpf_dbg::{MarkTrail, Meter, Place, RunReply, Session, State, Trail};
+use cbpf_dbg::{ListTrail, Meter, Place, RunReply, Session, State, Trail};
 use cbpf_machine::{Packet, Values};
 use pcap_classic::Capture;
 use std::alloc::Allocator;
 use std::cell::Cell;
 
-/// A trail that counts the entries it is given.
+/// A trail of all states that counts those that it is given.
 #[derive(Drop)]
-struct CountingTrail<'a, T: Trail> {
-    inner: T,
+struct CountingTrail<'a> {
+    states: ListTrail,
     given: &'a Cell<u64>,
 }
 
-fn count(given: &Cell<u64>) {
-    given.set(given.get().saturating_add(1));
-}
+impl<'a> Trail for CountingTrail<'a> {
+    ghost use Rattle.std.specs.Prelude.{◌≡◌, length};
+    ghost use Rattle.std.proofs.Common.{rules};
 
-impl<'a, T: Trail> Trail for CountingTrail<'a, T> {
-    ghost stands_for = { λ t xs. T.stands_for t.inner xs };
+    ghost stands_for = { λ t xs. t.states ≡ xs };
 
-    ghost kept = { λ t. T.kept t.inner };
+    ghost kept = { λ t. length t.states };
 
-    ghost gap = { λ i. T.gap i };
-
-    ghost turns_back = { λ to. T.turns_back to };
-
-    ghost as_long = { λ t xs h. T.as_long t.inner xs h };
+    ghost as_long = { λ t xs h. Prim.search rules };
 
     fn clear(&mut self) {
-        self.inner.clear();
+        self.states.clear();
     }
 
     fn push(&mut self, s: State) {
-        count(self.given);
-        self.inner.push(s);
-    }
-
-    fn first_gap() -> u32
-        ensures some { 1 ≤ result }
-        ensures value { result ≡ T.gap 0 }
-    {
-        T::first_gap()
-    }
-
-    fn gap(&self) -> u32 {
-        self.inner.gap()
-    }
-
-    fn keep(&mut self, more: u32, s: State) {
-        count(self.given);
-        self.inner.keep(more, s);
+        self.given.set(self.given.get().saturating_add(1));
+        self.states.push(s);
     }
 
     fn back<A: Allocator>(
@@ -66,7 +43,7 @@ impl<'a, T: Trail> Trail for CountingTrail<'a, T> {
         values: &Values,
         to: u32,
     ) -> State {
-        self.inner.back(meter, p, packet, values, to)
+        self.states.back(meter, p, packet, values, to)
     }
 }
 
@@ -87,7 +64,7 @@ fn step<T: Trail>(rt: &impl Test, trail: T) -> Option<Place> {
 fn a_step_over_thousands_of_packets_keeps_few_entries(rt: HostRuntime) {
     let given = Cell::new(0u64);
     let trail = CountingTrail {
-        inner: MarkTrail::new(),
+        states: ListTrail::new(rt.alloc()).expect(&rt, "memory"),
         given: &given,
     };
     let place = Place {
