@@ -2,50 +2,10 @@
 // would depend on the machine.
 use crate::assertions::Test;
 use crate::inputs::{HEADER, RECORD, STRAIGHT, program_of, repeated};
-use cbpf_code::Program;
-use cbpf_dbg::{ListTrail, Meter, Place, RunReply, Session, State, Trail};
-use cbpf_machine::{Packet, Values};
+use crate::outsiders::counting_trail;
+use cbpf_dbg::{Meter, Place, RunReply, Session, Trail};
 use pcap_classic::Capture;
-use std::alloc::Allocator;
 use std::cell::Cell;
-
-/// A trail of all states that counts those that it is given.
-#[derive(Drop)]
-struct CountingTrail<'a> {
-    states: ListTrail,
-    given: &'a Cell<u64>,
-}
-
-impl<'a> Trail for CountingTrail<'a> {
-    ghost use Rattle.std.specs.Prelude.{◌≡◌, length};
-    ghost use Rattle.std.proofs.Common.{rules};
-
-    ghost stands_for = { λ t xs. t.states ≡ xs };
-
-    ghost kept = { λ t. length t.states };
-
-    ghost as_long = { λ t xs h. Prim.search rules };
-
-    fn clear(&mut self) {
-        self.states.clear();
-    }
-
-    fn push(&mut self, s: State) {
-        self.given.set(self.given.get().saturating_add(1));
-        self.states.push(s);
-    }
-
-    fn back<A: Allocator>(
-        &mut self,
-        meter: &mut Meter,
-        p: &Program<A>,
-        packet: Packet<'_>,
-        values: &Values,
-        to: u32,
-    ) -> State {
-        self.states.back(meter, p, packet, values, to)
-    }
-}
 
 /// Steps 60,000 entries ahead over packets of 21 entries: the place.
 fn step<T: Trail>(rt: &impl Test, trail: T) -> Option<Place> {
@@ -63,10 +23,7 @@ fn step<T: Trail>(rt: &impl Test, trail: T) -> Option<Place> {
 #[test]
 fn a_step_over_thousands_of_packets_keeps_few_entries(rt: HostRuntime) {
     let given = Cell::new(0u64);
-    let trail = CountingTrail {
-        states: ListTrail::new(rt.alloc()).expect(&rt, "memory"),
-        given: &given,
-    };
+    let trail = counting_trail(&rt, &given);
     let place = Place {
         packet: 2858,
         step: 3,

@@ -7,21 +7,24 @@ use cbpf_machine::{Meter, Packet, State, Values};
 use cbpf_reply::LoadFault;
 use cbpf_tool::{Files, debug};
 use std::alloc::Allocator;
+use std::cell::Cell;
 use std::process::Abort;
 
-/// A trail that stores each state.
+/// A trail that stores each state, and counts those that it is given.
 #[derive(Drop)]
-pub struct PlainTrail {
+pub struct CountingTrail<'a> {
     states: ListTrail,
+    given: &'a Cell<u64>,
 }
 
-pub fn plain_trail(rt: &impl Test) -> PlainTrail {
-    PlainTrail {
+pub fn counting_trail<'a>(rt: &impl Test, given: &'a Cell<u64>) -> CountingTrail<'a> {
+    CountingTrail {
         states: ListTrail::new(rt.alloc()).expect(rt, "memory"),
+        given,
     }
 }
 
-impl Trail for PlainTrail {
+impl<'a> Trail for CountingTrail<'a> {
     ghost use Rattle.std.specs.Prelude.{◌≡◌, length};
     ghost use Rattle.std.proofs.Common.{rules};
 
@@ -36,6 +39,7 @@ impl Trail for PlainTrail {
     }
 
     fn push(&mut self, s: State) {
+        self.given.set(self.given.get().saturating_add(1));
         self.states.push(s);
     }
 

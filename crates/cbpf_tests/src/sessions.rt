@@ -8,11 +8,12 @@ pub(crate) mod rows;
 mod values;
 
 use crate::assertions::Test;
-use crate::outsiders::plain_trail;
+use crate::outsiders::counting_trail;
 use cbpf_dbg::{ListTrail, MarkTrail, Place, SessionFault, When};
 use rows::Answer::{Breaks, Finishes, Limit, Refuses, Steps};
 use rows::Turns::{Back, Exactly};
 use rows::{Row, check_rows};
+use std::cell::Cell;
 use values::values;
 
 const LOAD_RULE: Row = Row::Program(
@@ -289,7 +290,8 @@ fn check_session(rt: &impl Test, session: &Shown) {
     check_rows(rt, MarkTrail::new(), false, session);
     let all = ListTrail::new(rt.alloc()).expect(rt, "memory");
     check_rows(rt, all, true, session);
-    check_rows(rt, plain_trail(rt), true, session);
+    let given = Cell::new(0u64);
+    check_rows(rt, counting_trail(rt, &given), true, session);
 }
 
 const LATE_IN_1: Place = Place {
