@@ -95,7 +95,7 @@ impl<T: Trail, A: Allocator> Session<T, A> {
     /// counts from its packet.
     ///
     /// The meter has spent at most 2 to the 127 before. It rises by twice the turns from the packet's start to the
-    /// step, which is less than twice the step. Where the packet has no such step, it rises by the packet's turns.
+    /// step, which is at most twice the step. Where the packet has no such step, it rises by the packet's turns.
     ///
     /// # Errors
     ///

@@ -24,7 +24,7 @@ abbrev pub known_source : FileMap → ℕ → Source
 known_source files failures =
     record { files = record { by_name = files; counts_exactly = true }; failures = failures; is_known = true }
 
--- one of which it is not known what it holds
+-- one that counts exactly, of which it is not known what it holds
 abbrev pub unknown_source : ℕ → Source
 unknown_source failures =
     record { files = record { by_name = map.empty; counts_exactly = true }; failures = failures; is_known = false }

@@ -88,7 +88,7 @@ abbrev pub CountsNone : Held → ℕ → ℕ → Type 0
 CountsNone files f g = (f ≤ g) × (IsTrue files.counts_exactly → g ≡ f)
 
 -- a line's reply, while the count of failures goes from f to g: its own, or in its place `error: out of memory`
--- or F2. One failure is counted at F2, and none at the others
+-- or F2. A failure is counted at F2; where failures are counted exactly, it is one, and there is none at the others
 pub data LineReplies (files : Held) (m : View) (f g : ℕ) (said : Result (Option Command) CommandFault)
     (reply : Reply) : Type 0 where
   own : CountsNone files f g → OwnReply files m said reply → LineReplies files m f g said reply
