@@ -40,7 +40,10 @@ pub(crate) fn go_on<A: Allocator>(
         pause: &Never,
         fence: s.pc + most as usize,
     };
-    let (turns, end) = make_turns::<_, A, false>(&pause, p, packet, values, s, slots);
+    // A copy, which the loop of turns keeps in registers.
+    let mut here = *s;
+    let (turns, end) = make_turns::<_, A, false>(&pause, p, packet, values, &mut here, slots);
+    *s = here;
     meter.add(turns);
     match end {
         None => Ok(turns),
