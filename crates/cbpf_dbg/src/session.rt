@@ -116,7 +116,7 @@ impl<T: Trail, A: Allocator + Copy> Session<T, A> {
         if n >= u64::from(program.len()) {
             return Err(SessionFault::NoInstruction);
         }
-        let Ok(()) = make_room(&mut self.watched, program, &self.breakpoints, n as u32) else {
+        let Ok(()) = make_room(&mut self.watched, program, &mut self.breakpoints, n as u32) else {
             return Err(SessionFault::Memory);
         };
         match self.breakpoints.insert(n as u32, when) {
@@ -130,7 +130,7 @@ impl<T: Trail, A: Allocator + Copy> Session<T, A> {
                 );
                 Ok(())
             }
-            Err(_) => Err(SessionFault::Memory),
+            Err(_) => unreachable!(),
         }
     }
 }

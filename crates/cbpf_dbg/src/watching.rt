@@ -1,6 +1,7 @@
 //! The watches of a run: the entries that are hits.
 
-ghost use Rattle.std.specs.Prelude.{◌≡◌, ◌<◌, ◌≤◌, ℕ, List, None, OnErr, OnOk, length, nat_eq, true};
+ghost use Rattle.std.specs.Prelude.{◌≡◌, ◌<◌, ◌≤◌, ◌⊎◌, ℕ, List, None, OnErr, OnOk, length, nat_eq, true};
+ghost use Rattle.indexmap.specs.IndexMap.{spare};
 ghost use Rattle.std.specs.Map.{lookup};
 ghost use Rattle.cbpf_machine.specs.Follow.{HasRoom, is_met};
 ghost use Rattle.cbpf_machine.specs.Machine.{machine_of};
@@ -43,25 +44,28 @@ fn watch_of<A: Allocator>(
     breakpoints.get(&i).copied()
 }
 
-/// Makes room for the condition of a breakpoint. One that is set already has it.
+/// Makes room for a breakpoint and its condition. One that is set already has it.
 pub(crate) fn make_room<A: Allocator>(
     watched: &mut Watched<A>,
     p: &Program<A>,
-    breakpoints: &Breakpoints<A>,
+    breakpoints: &mut Breakpoints<A>,
     i: u32,
 ) -> Result<(), AllocError>
     requires inside { i < length p.now }
-    requires room { KeepsRoom breakpoints.now.entries watched.old.room }
+    requires room { KeepsRoom breakpoints.old.entries watched.old.room }
     ensures watches { watched.new.watches ≡ watched.old.watches }
+    ensures entries { breakpoints.new.entries ≡ breakpoints.old.entries }
     ensures more { watched.old.room ≤ watched.new.room }
     ensures here { OnOk result (i < watched.new.room) }
-    ensures refused { OnErr result ((lookup (nat_eq i) breakpoints.now.entries ≡ None)
-        × (watched.old.room < length p.now) × (watched.new ≡ watched.old)) }
+    ensures table { OnOk result ((lookup (nat_eq i) breakpoints.old.entries ≡ None) → 0 < spare breakpoints.new) }
+    ensures refused { OnErr result ((lookup (nat_eq i) breakpoints.old.entries ≡ None)
+        × ((watched.old.room < length p.now) ⊎ (spare breakpoints.old ≡ 0))) }
 {
     if breakpoints.contains_key(&i) {
         return Ok(());
     }
-    watched.make_room(p.len() as usize)
+    watched.make_room(p.len() as usize)?;
+    breakpoints.reserve(1)
 }
 
 /// Watches the entries that are hits.

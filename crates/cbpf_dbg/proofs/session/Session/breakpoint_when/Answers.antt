@@ -1,4 +1,3 @@
-use Rattle.std.proofs.Common.{rules}
 use Rattle.cbpf_dbg.proofs.CarryLemmas.{same-but, known-at, known-room, known-more, room-after, room-more}
 use Rattle.cbpf_dbg.proofs.session.Session.breakpoint_when.Goals as goal
 
@@ -8,18 +7,18 @@ make_room-requires-clause-room g c = known-room _ _ _ _ _ _ c.in-Some.is c.self.
 pub watch_at-requires-clause-room : goal.watch_at-requires-clause-room
 watch_at-requires-clause-room g c = room-after c.args.n _ _ _ (λ q h. c.in-Ok-insert.ensures.updates.2 q h)
     (λ when at. c.in-Ok.ensures.here)
-    (room-more _ _ _ c.make_room.ensures.more (known-room _ _ _ _ _ _ c.in-Some.is c.self.invariant.1))
+    (rw c.make_room.ensures.entries
+    (room-more _ _ _ c.make_room.ensures.more (known-room _ _ _ _ _ _ c.in-Some.is c.self.invariant.1)))
 
 pub invariant_of-self-in-Ok-insert : goal.invariant_of-self-in-Ok-insert
 invariant_of-self-in-Ok-insert g c = (
   c.self.invariant.0,
   known-at _ _ _ _ _ _ c.in-Some.is (known-more _ _ _ _ _ _ c.in-Some.is c.self.invariant.1 _
       c.make_room.ensures.watches c.make_room.ensures.more) _ _
-      (λ w. c.watch_at.ensures.watches _ w (same-but c.args.n _ _ (λ q h. c.in-Ok-insert.ensures.updates.2 q h)))
+      (λ w. c.watch_at.ensures.watches _ w (rw c.make_room.ensures.entries at
+      (same-but c.args.n _ _ (λ q h. c.in-Ok-insert.ensures.updates.2 q h))))
       (rw c.watch_at.ensures.room (room-after c.args.n _ _ _ (λ q h. c.in-Ok-insert.ensures.updates.2 q h)
       (λ when at. c.in-Ok.ensures.here)
-      (room-more _ _ _ c.make_room.ensures.more (known-room _ _ _ _ _ _ c.in-Some.is c.self.invariant.1)))),
+      (rw c.make_room.ensures.entries
+      (room-more _ _ _ c.make_room.ensures.more (known-room _ _ _ _ _ _ c.in-Some.is c.self.invariant.1))))),
 )
-
-pub returns-in-Ok-insert-clause-after : goal.returns-in-Ok-insert-clause-after
-returns-in-Ok-insert-clause-after g c = search rules
