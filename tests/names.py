@@ -571,7 +571,7 @@ def check_equality(library):
     laws, exported = library.with_name("equality.rt"), re.findall(r"^pub use ([^;]+);", text_of(library), re.M)
     clauses = set(re.findall(r"⟦<(\w+)(?:<[^>]*>)? as PartialEq>⟧", text_of(laws))) if laws.exists() else set()
     code = "".join(joined_sources(library.parent.parent.name))
-    compared = re.findall(r"#\[derive[^\]]*\bPartialEq\b[^\]]*\]\s*pub (?:struct|enum) (\w+)", code)
+    compared = re.findall(r"#\[derive[^\]]*\bPartialEq\b[^\]]*\]\s*(?:#\[[^\]]*\]\s*)*pub (?:struct|enum) (\w+)", code)
     compared += re.findall(r"\bPartialEq for (\w+)", code)
     for name in set(compared) & set(re.findall(r"\w+", " ".join(exported))):
         check(name in clauses, laws, 1, f"no clause of {name}")
