@@ -15,11 +15,11 @@ extent-header : (order : Endianness) (bytes : List ℕ) → 0 < length bytes →
     → extent_of order bytes ≡ PartOfHeader
 extent-header order bytes some short = grind (arith, nat_tests)
 
-extent-data : (order : Endianness) (bytes : List ℕ) → RECORD_HEADER ≤ length bytes
+pub extent-data : (order : Endianness) (bytes : List ℕ) → RECORD_HEADER ≤ length bytes
     → length bytes < record_length order bytes → extent_of order bytes ≡ PartOfData
 extent-data order bytes long cut = grind (arith, nat_tests)
 
-extent-whole : (order : Endianness) (bytes : List ℕ) → record_length order bytes ≤ length bytes
+pub extent-whole : (order : Endianness) (bytes : List ℕ) → record_length order bytes ≤ length bytes
     → extent_of order bytes ≡ WholeRecord (record_length order bytes)
 extent-whole order bytes whole = grind (arith, nat_tests)
 

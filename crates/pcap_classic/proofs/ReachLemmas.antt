@@ -27,8 +27,7 @@ reaches_first order file h =
     record {
       inside = h;
       passed = omega arith;
-      rest = contents-hold (length file) order 1 FILE_HEADER (drop FILE_HEADER file)
-          (omega (arith, length-drop FILE_HEADER file));
+      rest = contents-hold _ order 1 FILE_HEADER (drop FILE_HEADER file) (omega arith);
     }
 
 -- a record that stands before the end, and the place after it

@@ -1,16 +1,18 @@
 -- What a file holds, by the relations and by the function of its bytes.
 use Rattle.std.proofs.Common.{◌≡◌, ℕ, Bool, true, false, List, length, drop, Option, Some, None, Result, Ok, Err}
-use Rattle.std.proofs.Common.{◌⊎◌, inl, inr, arith, refl, length-drop, ◌≤◌, ◌∙◌, sym}
+use Rattle.std.proofs.Common.{◌⊎◌, inl, inr, arith, refl, ◌≤◌, ◌∙◌, sym}
 use Rattle.std.specs.Prelude.{nat_lt, if◌then◌else◌}
 use Rattle.pcap_classic.specs.FileNumbers.{number_at}
 use Rattle.std.proofs.lemmas.Bool.{ltb-false, ltb-true}
 use Rattle.std.proofs.lemmas.Bool.Decides.{nat_tests}
 use Rattle.pcap_classic.specs.Savefile.{Savefile, IsSavefile, IsRefusal, HasMagic, HasVersion, OneCapture, OneRefusal}
-use Rattle.pcap_classic.specs.Savefile.{HasAnswer}
+use Rattle.pcap_classic.specs.Savefile.{HasAnswer, capture_fault}
 use Rattle.pcap_classic.specs.Contents.{magic_of, is_version_2_4, header_by_magic, header_of, savefile_with}
 use Rattle.pcap_classic.specs.declared.captured.Endianness.{Endianness, TheVariants.Big, TheVariants.Little}
 use Rattle.pcap_classic.specs.declared.header.CaptureFault.{CaptureFault, TheVariants.Memory}
 use Rattle.pcap_classic.specs.declared.header.CaptureFault.TheVariants.{FileHeaderCut, UnknownMagic, UnknownVersion}
+use Rattle.pcap_classic.specs.declared.header.HeaderFault.{HeaderFault}
+use Rattle.pcap_classic.specs.declared.header.HeaderFault.TheVariants as header_fault
 use Rattle.pcap_classic.specs.declared.header.{Magic.Magic, FileHeader.FileHeader, TheConstants.FILE_HEADER}
 use Rattle.pcap_classic.proofs.HoldsLemmas.{contents-hold, holds-once}
 
@@ -31,9 +33,9 @@ one_magic file order order' nanos nanos' a b =
     (grind arith, grind arith)
 
 -- what the function of the header gives
-abbrev pub Says : List ℕ → Result FileHeader CaptureFault → Type 0
+abbrev pub Says : List ℕ → Result FileHeader HeaderFault → Type 0
 Says file (Ok header) = IsSavefile file (savefile_with header file)
-Says file (Err fault) = IsRefusal fault file
+Says file (Err fault) = IsRefusal (capture_fault fault) file
 
 -- what the function finds is there
 magic-is : (file : List ℕ) (m : Magic) → magic_of file ≡ Some m → HasMagic m.order m.nanos file
@@ -50,27 +52,27 @@ says file = by (nat_lt (length file) FILE_HEADER) refl (magic_of file) refl
   where
     by_version : (m : Magic) → FILE_HEADER ≤ length file → HasMagic m.order m.nanos file → (b : Bool)
         → is_version_2_4 m.order file ≡ b
-        → Says file (if b then Ok (record { magic = m; link = number_at m.order 20 4 file }) else Err UnknownVersion)
+        → Says file (if b then Ok (record { magic = m; link = number_at m.order 20 4 file }) else Err header_fault.UnknownVersion)
     by_version m long magic true h = record {
       order = m.order;
       long = long;
       magic = magic;
       version = version-is m.order file h;
       link = refl;
-      contents = contents-hold _ m.order 1 FILE_HEADER _ (omega (arith, length-drop FILE_HEADER file));
+      contents = contents-hold _ m.order 1 FILE_HEADER _ (omega arith);
     }
     by_version m long magic false h =
         (long, m.order, m.nanos, magic, λ v. let is = version-found m.order file v in absurd (cc))
 
     by : (b : Bool) → nat_lt (length file) FILE_HEADER ≡ b → (m : Option Magic) → magic_of file ≡ m
-        → Says file (if b then Err FileHeaderCut else header_by_magic m file)
+        → Says file (if b then Err header_fault.FileHeaderCut else header_by_magic m file)
     by true short m e = ltb-true (length file) FILE_HEADER short
     by false long None e =
         (ltb-false _ FILE_HEADER long, λ order nanos h. let is = magic-found file order nanos h in absurd (cc))
     by false long (Some m) e =
         by_version m (ltb-false (length file) FILE_HEADER long) (magic-is file m e) (is_version_2_4 m.order file) refl
 
-same_savefile : (c d : Savefile) → d.nanos ≡ c.nanos → d.link ≡ c.link → d.records ≡ c.records → d.ending ≡ c.ending
+pub same_savefile : (c d : Savefile) → d.nanos ≡ c.nanos → d.link ≡ c.link → d.records ≡ c.records → d.ending ≡ c.ending
     → d ≡ c
 same_savefile c d n l r e = grind arith
 
@@ -106,12 +108,12 @@ one_refusal file _ FileHeaderCut h k = absurd (omega (arith, k, h.0))
 pub has_answer : HasAnswer
 has_answer file = by (header_of file) (says file)
   where
-    by : (r : Result FileHeader CaptureFault) → Says file r
+    by : (r : Result FileHeader HeaderFault) → Says file r
         → ((c : Savefile) × IsSavefile file c) ⊎ ((e : CaptureFault) × IsRefusal e file)
     by (Ok header) s = inl (savefile_with header file, s)
-    by (Err e) s = inr (e, s)
+    by (Err e) s = inr (capture_fault e, s)
 
 -- what a file's header says of it
-pub header-says : (file : List ℕ) (r header : Result FileHeader CaptureFault) → r ≡ header_of file → r ≡ header
+pub header-says : (file : List ℕ) (r header : Result FileHeader HeaderFault) → r ≡ header_of file → r ≡ header
     → Says file header
 header-says file r header e is = rw (sym e ∙ is) at (says file)

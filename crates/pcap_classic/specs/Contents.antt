@@ -8,8 +8,8 @@ use Rattle.pcap_classic.specs.Savefile.{Savefile, micros_magic, nanos_magic}
 use Rattle.pcap_classic.specs.declared.captured.{Endianness.Endianness, TheConstants.RECORD_HEADER}
 use Rattle.pcap_classic.specs.declared.captured.Endianness.TheVariants.{Big, Little}
 use Rattle.pcap_classic.specs.declared.ending.Ending.{Ending, TheVariants.Whole, TheVariants.CutHeader, TheVariants.CutData}
-use Rattle.pcap_classic.specs.declared.header.CaptureFault.{CaptureFault}
-use Rattle.pcap_classic.specs.declared.header.CaptureFault.TheVariants.{FileHeaderCut, UnknownMagic, UnknownVersion}
+use Rattle.pcap_classic.specs.declared.header.HeaderFault.{HeaderFault}
+use Rattle.pcap_classic.specs.declared.header.HeaderFault.TheVariants.{FileHeaderCut, UnknownMagic, UnknownVersion}
 use Rattle.pcap_classic.specs.declared.captured.Extent.{Extent}
 use Rattle.pcap_classic.specs.declared.captured.Extent.TheVariants.{Nothing, PartOfHeader, PartOfData, WholeRecord}
 use Rattle.pcap_classic.specs.declared.header.{Magic.Magic, FileHeader.FileHeader, TheConstants.FILE_HEADER}
@@ -43,9 +43,13 @@ contents_within (suc most) order n place bytes =
     by_extent (extent_of order bytes) place (record_at order n place bytes)
     (λ size. contents_within most order (n + 1) (place + size) (drop size bytes))
 
+-- the contents of all bytes from a place of the file on, the next record having number n
+abbrev pub contents_from : Endianness → ℕ → ℕ → List ℕ → Contents
+contents_from order n place bytes = contents_within (length bytes) order n place bytes
+
 -- the contents of a file, after its header
 abbrev pub contents : Endianness → List ℕ → Contents
-contents order file = contents_within (length file) order 1 FILE_HEADER (drop FILE_HEADER file)
+contents order file = contents_from order 1 FILE_HEADER (drop FILE_HEADER file)
 
 -- the byte order in which the first four bytes are one of the magic numbers, and whether it is that of nanoseconds
 abbrev pub magic_of : List ℕ → Option Magic
@@ -61,16 +65,20 @@ abbrev pub is_version_2_4 : Endianness → List ℕ → Bool
 is_version_2_4 order file = (number_at order 4 2 file == 2) && (number_at order 6 2 file == 4)
 
 -- the header, its last number being the link type; or the first reason why it is none
-abbrev pub header_by_magic : Option Magic → List ℕ → Result FileHeader CaptureFault
+abbrev pub header_by_magic : Option Magic → List ℕ → Result FileHeader HeaderFault
 header_by_magic None file = Err UnknownMagic
 header_by_magic (Some magic) file =
     if is_version_2_4 magic.order file then Ok (record { magic = magic; link = number_at magic.order 20 4 file })
     else Err UnknownVersion
 
-abbrev pub header_of : List ℕ → Result FileHeader CaptureFault
+abbrev pub header_of : List ℕ → Result FileHeader HeaderFault
 header_of file = if nat_lt (length file) FILE_HEADER then Err FileHeaderCut else header_by_magic (magic_of file) file
 
-abbrev pub savefile_with : FileHeader → List ℕ → Savefile
-savefile_with header file =
-    let after = contents header.magic.order file in
+-- a capture without its first records, by the header and the bytes from a place on, the next record having number n
+abbrev pub savefile_from : FileHeader → ℕ → ℕ → List ℕ → Savefile
+savefile_from header n place bytes =
+    let after = contents_from header.magic.order n place bytes in
     record { nanos = header.magic.nanos; link = header.link; records = after.records; ending = after.ending }
+
+abbrev pub savefile_with : FileHeader → List ℕ → Savefile
+savefile_with header file = savefile_from header 1 FILE_HEADER (drop FILE_HEADER file)

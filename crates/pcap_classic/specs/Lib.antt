@@ -3,4 +3,5 @@ pub mod Records
 pub mod Lent
 pub mod Savefile
 pub mod Contents
+pub mod Reading
 pub mod Index

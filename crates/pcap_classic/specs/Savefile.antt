@@ -8,6 +8,8 @@ use Rattle.pcap_classic.specs.declared.ending.Ending.{Ending}
 use Rattle.pcap_classic.specs.declared.header.{CaptureFault.CaptureFault, TheConstants.FILE_HEADER}
 use Rattle.pcap_classic.specs.declared.header.CaptureFault.TheVariants.{FileHeaderCut, UnknownMagic, UnknownVersion}
 use Rattle.pcap_classic.specs.declared.header.CaptureFault.TheVariants.{Memory}
+use Rattle.pcap_classic.specs.declared.header.HeaderFault.{HeaderFault}
+use Rattle.pcap_classic.specs.declared.header.HeaderFault.TheVariants as header_fault
 
 -- the magic number of time stamps in microseconds, and in nanoseconds
 abbrev pub micros_magic : ℕ
@@ -49,6 +51,12 @@ IsRefusal UnknownMagic file = (FILE_HEADER ≤ length file)
 IsRefusal UnknownVersion file = (FILE_HEADER ≤ length file) × (order : Endianness) × (nanos : Bool)
     × HasMagic order nanos file × (¬ HasVersion order file)
 IsRefusal Memory file = (c : Savefile) × IsSavefile file c × (0 < length c.records)
+
+-- the fault of a capture that a fault of the header is
+abbrev pub capture_fault : HeaderFault → CaptureFault
+capture_fault header_fault.FileHeaderCut = FileHeaderCut
+capture_fault header_fault.UnknownMagic = UnknownMagic
+capture_fault header_fault.UnknownVersion = UnknownVersion
 
 -- a file holds one capture at most, and has one fault at most; a fault of one that holds a capture is `Memory`
 abbrev pub OneCapture : Type 0

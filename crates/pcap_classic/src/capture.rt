@@ -53,7 +53,7 @@ impl<A: Allocator> Capture<A> {
     {
         let header = match header_of(bytes.as_slice()) {
             Ok(header) => header,
-            Err(fault) => return Err((fault, bytes)),
+            Err(fault) => return Err((CaptureFault::from(fault), bytes)),
         };
         match index_of(alloc, header.magic.order, bytes.as_slice()) {
             Ok(index) => Ok(Capture {

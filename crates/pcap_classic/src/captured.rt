@@ -29,7 +29,12 @@ pub struct Captured<'a> {
 
 /// The record that the bytes begin with, and that stands at this place of the file.
 #[inline(always)]
-fn front_record(order: Endianness, number: u64, start: usize, bytes: &[u8]) -> Captured<'_>
+pub(crate) fn front_record(
+    order: Endianness,
+    number: u64,
+    start: usize,
+    bytes: &[u8],
+) -> Captured<'_>
     requires header { RECORD_HEADER ≤ length bytes.now }
     requires whole { records.record_length order bytes.now ≤ length bytes.now }
     ensures { record_of result ≡ records.record_at order number start bytes.entry.now }

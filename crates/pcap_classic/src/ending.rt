@@ -1,3 +1,10 @@
+//! How a capture ends.
+
+ghost use Rattle.std.specs.Prelude.{◌≡◌};
+ghost use Rattle.pcap_classic.specs.Index as spec;
+
+use crate::captured::Extent;
+
 /// How a capture ends after its last whole record.
 #[derive(Clone, Copy, Debug, PartialEq, Eq)]
 pub enum Ending {
@@ -9,4 +16,15 @@ pub enum Ending {
     /// The header of a record is left, with fewer bytes after it than its captured length says. It
     /// begins at this byte place of the file, counted from 0.
     CutData(usize),
+}
+
+/// How the file ends where no whole record stands at `place`, but so much of one.
+pub(crate) fn ending_by(extent: Extent, place: usize) -> Ending
+    ensures { result ≡ spec.ending_by extent place }
+{
+    match extent {
+        Extent::PartOfHeader => Ending::CutHeader(place),
+        Extent::PartOfData => Ending::CutData(place),
+        _ => Ending::Whole,
+    }
 }

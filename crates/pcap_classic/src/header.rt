@@ -25,6 +25,33 @@ pub enum CaptureFault {
     Memory,
 }
 
+/// Why some bytes have no header of a capture: the first of these reasons that stands. Each is the `CaptureFault` of
+/// the same name.
+#[derive(Clone, Copy, Debug, PartialEq, Eq)]
+pub enum HeaderFault {
+    /// P1: there are fewer than 24 bytes, the length of a file header.
+    FileHeaderCut,
+    /// P2: the first four bytes are neither 0xa1b2c3d4 nor 0xa1b23c4d, in either byte order.
+    UnknownMagic,
+    /// P3: the version is not 2.4.
+    UnknownVersion,
+}
+
+impl From<HeaderFault> for CaptureFault {
+    ghost use Rattle.std.specs.Prelude.{◌≡◌};
+    ghost use Rattle.pcap_classic.specs.Savefile.{capture_fault};
+
+    ghost from_gives = { λ fault e. e ≡ capture_fault fault };
+
+    fn from(fault: HeaderFault) -> CaptureFault {
+        match fault {
+            HeaderFault::FileHeaderCut => CaptureFault::FileHeaderCut,
+            HeaderFault::UnknownMagic => CaptureFault::UnknownMagic,
+            HeaderFault::UnknownVersion => CaptureFault::UnknownVersion,
+        }
+    }
+}
+
 /// What the magic number of a file says.
 #[derive(Clone, Copy)]
 pub(crate) struct Magic {
@@ -66,17 +93,17 @@ fn is_version_2_4(order: Endianness, file: &[u8]) -> bool
     order.read_u16(file, 4) == 2 && order.read_u16(file, 6) == 4
 }
 
-pub(crate) fn header_of(file: &[u8]) -> Result<FileHeader, CaptureFault>
+pub(crate) fn header_of(file: &[u8]) -> Result<FileHeader, HeaderFault>
     ensures { result ≡ spec.header_of file.now }
 {
     if file.len() < FILE_HEADER {
-        return Err(CaptureFault::FileHeaderCut);
+        return Err(HeaderFault::FileHeaderCut);
     }
     let Some(magic) = magic_of(file) else {
-        return Err(CaptureFault::UnknownMagic);
+        return Err(HeaderFault::UnknownMagic);
     };
     if !is_version_2_4(magic.order, file) {
-        return Err(CaptureFault::UnknownVersion);
+        return Err(HeaderFault::UnknownVersion);
     }
     let link = magic.order.read_u32(file, 20);
     Ok(FileHeader { magic, link })

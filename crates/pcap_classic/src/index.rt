@@ -1,13 +1,13 @@
 //! The passes over the headers of all records, and the way from a kept start to a later one.
 
 ghost use Rattle.std.specs.Prelude.{◌≡◌, ◌≢◌, ◌≤◌, ◌<◌, ◌+◌, ◌-◌, ◌*◌, ◌^◌, ◌↔◌, ℕ, List, length, drop, true, IfOk, OnErr};
-ghost use Rattle.pcap_classic.specs.Index.{IsIndex, AreEven, AreKept, AreStarts, IsRecordStart, ending_by};
+ghost use Rattle.pcap_classic.specs.Index.{IsIndex, AreEven, AreKept, AreStarts, IsRecordStart};
 ghost use Rattle.pcap_classic.specs.Contents as spec;
 ghost use Rattle.pcap_classic.specs.declared.captured.{Extent.TheVariants.WholeRecord, TheConstants.RECORD_HEADER};
 ghost use Rattle.pcap_classic.specs.declared.header.TheConstants.{FILE_HEADER};
 
 use crate::captured::{Endianness, Extent, extent_of, record_length};
-use crate::ending::Ending;
+use crate::ending::{Ending, ending_by};
 use crate::header::FILE_HEADER;
 use arrayvec::ArrayVec;
 use std::alloc::{AllocError, Allocator};
@@ -23,18 +23,6 @@ pub(crate) struct Index<A: Allocator> {
     /// The places of the records 1, 65, 129 and so on.
     pub(crate) starts: Vec<usize, A>,
     pub(crate) ending: Ending,
-}
-
-/// How the file ends where no whole record stands at `place`.
-fn ending_at(order: Endianness, file: &[u8], place: usize) -> Ending
-    requires { place ≤ length file.now }
-    ensures { result ≡ ending_by (spec.extent_of order (drop place file.now)) place }
-{
-    match extent_of(order, &file[place..]) {
-        Extent::PartOfHeader => Ending::CutHeader(place),
-        Extent::PartOfData => Ending::CutData(place),
-        _ => Ending::Whole,
-    }
 }
 
 /// After a length was repeated so many times, the next record is taken to repeat it too.
@@ -236,7 +224,7 @@ pub(crate) fn index_of<A: Allocator>(
     };
     let Passed { count, place } = pass_all(order, file, &mut kept, first);
     let starts = starts_of(alloc, order, file, run, kept.as_slice(), count)?;
-    let ending = ending_at(order, file, place);
+    let ending = ending_by(extent_of(order, &file[place..]), place);
     Ok(Index {
         count,
         starts,

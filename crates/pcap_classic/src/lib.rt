@@ -4,18 +4,23 @@
 #![tactic(auto)]
 
 mod capture;
+mod capture_reader;
 mod captured;
 mod ending;
 mod equality;
 mod header;
 mod index;
 mod law;
+mod reading;
 mod records;
+mod window;
 
 pub use capture::Capture;
+pub use capture_reader::CaptureReader;
 pub use captured::Captured;
 pub use ending::Ending;
 pub use equality::equal_where_same;
-pub use header::CaptureFault;
+pub use header::{CaptureFault, HeaderFault};
 pub use law::one_capture;
+pub use reading::{OpenFault, ReadFault};
 pub use records::Records;

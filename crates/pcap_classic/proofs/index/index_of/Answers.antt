@@ -1,4 +1,5 @@
 use Rattle.std.proofs.Common.{arith, ◌∙◌}
+use Rattle.std.proofs.lemmas.List.{take_rest}
 use Rattle.pcap_classic.proofs.ReachLemmas.{reaches_end, reaches_first}
 use Rattle.pcap_classic.proofs.index.index_of.Goals as goal
 
@@ -23,7 +24,7 @@ returns g c =
         counted = end.count;
         few = omega (arith, few, inside);
         kept = c.in_ok-starts.ensures.kept;
-        ended = c.ending_at-ending.ensures ∙ end.ending;
+        ended = rw (rw take_rest at c.extent_of-2.ensures) at c.ending_by-ending.ensures ∙ end.ending;
       };
       refused = tt;
     }

@@ -1,0 +1,392 @@
+//! Captures that are read record by record, beside the same bytes as a `Capture`.
+
+use crate::assertions::{Test, assert_at, assert_at_both, assert_named};
+use crate::captures::{capture, generated};
+use crate::fault_injection::{ERROR_KINDS, FaultyAllocator, FaultyReader};
+use crate::inputs::{HEADER, RECORD, repeated};
+use crate::two_packets;
+use pcap_classic::{
+    Capture, CaptureFault, CaptureReader, Captured, Ending, HeaderFault, OpenFault, ReadFault,
+    Records,
+};
+use std::alloc::Allocator;
+use std::io;
+use std::io::{ErrorKind, Read};
+use std::process::Abort;
+
+/// The bytes of the room at first.
+const ROOM: usize = 131_072;
+
+/// Whether the reader reads this record next.
+fn reads<R: Read, A: Allocator>(reader: &mut CaptureReader<R, A>, wanted: &Captured<'_>) -> bool {
+    let is_next = matches!(reader.next_record(), Ok(Some(record)) if record == *wanted);
+    is_next && reader.ending() == None
+}
+
+/// Whether it is at its end, which is this one.
+fn ends<R: Read, A: Allocator>(reader: &mut CaptureReader<R, A>, wanted: Ending) -> bool {
+    matches!(reader.next_record(), Ok(None)) && reader.ending() == Some(wanted)
+}
+
+/// How many of these records it reads, one after the other.
+fn count_read<R: Read, A: Allocator>(
+    reader: &mut CaptureReader<R, A>,
+    records: Records<'_>,
+) -> u64 {
+    let mut count = 0u64;
+    for record in records {
+        if !reads(reader, &record) {
+            return count;
+        }
+        count = count.saturating_add(1);
+    }
+    count
+}
+
+/// Whether it reads what the capture holds, and nothing after that.
+fn reads_all<R: Read, A: Allocator>(reader: &mut CaptureReader<R, A>, capture: &Capture) -> bool {
+    reader.ending() == None
+        && reader.nanos() == capture.nanos()
+        && reader.link() == capture.link()
+        && count_read(reader, capture.records(1, u64::MAX)) == capture.count()
+        && ends(reader, capture.ending())
+        && ends(reader, capture.ending())
+}
+
+/// Whether a reader that gives so many bytes a read is read as the bytes are.
+fn is_read_as_a_whole(rt: &impl Test, bytes: &[u8], chunk: usize) -> bool {
+    let all = Vec::from_slice(rt.alloc(), bytes).expect(rt, "memory");
+    let reader = CaptureReader::new(rt.alloc(), FaultyReader::new(bytes, chunk.max(1), 0));
+    match (Capture::from_bytes(rt.alloc(), all), reader) {
+        (Ok(capture), Ok(mut reader)) => reads_all(&mut reader, &capture),
+        (Err((fault, _bytes)), Err(OpenFault::Header(other))) => fault == CaptureFault::from(other),
+        _ => false,
+    }
+}
+
+/// The two packets with another first byte or two, which are of the magic.
+fn with_magic(rt: &impl Test, file: &[u8], place: usize, magic: [u8; 2]) -> Vec<u8> {
+    let mut bytes = Vec::from_slice(rt.alloc(), file).expect(rt, "memory");
+    for (there, byte) in bytes.iter_mut().skip(place).zip(magic) {
+        *there = byte;
+    }
+    bytes
+}
+
+fn each_beginning(rt: &impl Test, file: &[u8], chunk: usize) {
+    for length in 0..=file.len() {
+        let is_wanted = is_read_as_a_whole(rt, &file[..length], chunk);
+        assert_at(rt, length, is_wanted);
+    }
+}
+
+#[test]
+fn each_beginning_of_two_packets(rt: HostRuntime) {
+    each_beginning(&rt, two_packets::little_endian(), 1);
+    each_beginning(&rt, two_packets::big_endian(), 1);
+    each_beginning(&rt, two_packets::big_endian(), 1_000_000);
+}
+
+#[test]
+fn each_beginning_with_the_other_fraction(rt: HostRuntime) {
+    let nanos = with_magic(&rt, two_packets::little_endian(), 0, [0x4d, 0x3c]);
+    assert!(rt; capture(&rt, &nanos).nanos());
+    each_beginning(&rt, &nanos, 7);
+    let micros = with_magic(&rt, two_packets::big_endian(), 2, [0xc3, 0xd4]);
+    assert!(rt; !capture(&rt, &micros).nanos());
+    each_beginning(&rt, &micros, 7);
+}
+
+#[test]
+fn each_byte_of_the_header_changed(rt: HostRuntime) {
+    for place in 0..24 {
+        let bytes = with_magic(&rt, two_packets::little_endian(), place, [0x55, 0x55]);
+        assert_at(&rt, place, is_read_as_a_whole(&rt, &bytes, 5));
+    }
+}
+
+/// What a reader answers to these bytes.
+fn fault_of(rt: &impl Test, bytes: &[u8]) -> Option<HeaderFault> {
+    match CaptureReader::new(rt.alloc(), FaultyReader::new(bytes, 3, 0)) {
+        Err(OpenFault::Header(fault)) => Some(fault),
+        _ => None,
+    }
+}
+
+#[test]
+fn each_fault_of_the_header(rt: HostRuntime) {
+    let file = two_packets::little_endian();
+    let of_another_version = with_magic(&rt, file, 6, [3, 0]);
+    let of_another_magic = with_magic(&rt, file, 0, [0, 0]);
+    assert!(rt; fault_of(&rt, file.get(0..23).unwrap_or(b"")) == Some(HeaderFault::FileHeaderCut));
+    assert!(rt; fault_of(&rt, &of_another_magic) == Some(HeaderFault::UnknownMagic));
+    assert!(rt; fault_of(&rt, &of_another_version) == Some(HeaderFault::UnknownVersion));
+    assert!(rt; fault_of(&rt, file.get(0..24).unwrap_or(b"")) == None);
+}
+
+#[test]
+fn records_of_many_lengths_in_pieces(rt: HostRuntime) {
+    for big in [false, true] {
+        let bytes = generated(&rt, big);
+        for chunk in [1, 2, 15, 16, 17, 97, 113, 4_096, 1_000_000] {
+            assert_at(&rt, chunk, is_read_as_a_whole(&rt, &bytes, chunk));
+        }
+    }
+}
+
+/// Asserts that a file of 100,000 records takes few reads, and the room at first.
+fn read_in_few_calls(rt: &impl Test, file: &[u8]) {
+    let counting = FaultyAllocator::new(rt.alloc(), 0);
+    let mut source = FaultyReader::new(file, usize::MAX, 0);
+    let whole = capture(rt, file);
+    match CaptureReader::new(&counting, &mut source) {
+        Ok(mut reader) => assert!(rt; reads_all(&mut reader, &whole)),
+        Err(_) => assert!(rt; false),
+    }
+    // A record that is cut at the end of the room goes to its front, so a read is of a few bytes less.
+    let most = file.len() / (ROOM - 100) + 4;
+    assert!(rt; source.calls() <= most as u64);
+    assert!(rt; counting.asked() == ROOM as u64 && counting.held() == 0);
+}
+
+#[test]
+fn a_hundred_thousand_records(rt: HostRuntime) {
+    let bytes = repeated(&rt, HEADER, RECORD, 100_000, b"");
+    read_in_few_calls(&rt, &bytes);
+    assert!(rt; is_read_as_a_whole(&rt, &bytes, 1));
+}
+
+/// A record of this captured length, with so many bytes after its header.
+fn append_long(rt: &impl Abort, bytes: &mut Vec<u8>, captured: u32, present: usize) {
+    let length = bytes.len().saturating_add(16).saturating_add(present);
+    bytes.extend_from_slice(&[7; 8]).expect(rt, "memory");
+    for _ in 0..2 {
+        bytes
+            .extend_from_slice(&captured.to_le_bytes())
+            .expect(rt, "memory");
+    }
+    bytes.resize(length, 9).expect(rt, "memory");
+}
+
+/// A capture of records of these captured lengths.
+fn of_lengths(rt: &impl Test, lengths: &[u32]) -> Vec<u8> {
+    let mut bytes = Vec::from_slice(rt.alloc(), HEADER).expect(rt, "memory");
+    for length in lengths {
+        append_long(rt, &mut bytes, *length, *length as usize);
+    }
+    bytes
+}
+
+/// Lengths around that of the room, with the record's header.
+static LONG: [u32; 8] = [131_056, 131_055, 131_057, 262_144, 0, 500_000, 1, 131_072];
+
+#[test]
+fn long_records(rt: HostRuntime) {
+    let bytes = of_lengths(&rt, &LONG);
+    for chunk in [100, 4_096, 131_072, 10_000_000] {
+        assert_at(&rt, chunk, is_read_as_a_whole(&rt, &bytes, chunk));
+    }
+}
+
+#[test]
+fn a_record_of_twenty_million_bytes(rt: HostRuntime) {
+    let bytes = of_lengths(&rt, &[20_000_000, 3]);
+    assert!(rt; is_read_as_a_whole(&rt, &bytes, 65_536));
+}
+
+/// The bytes asked for while a capture of one record of 4 GB is read, of which so many bytes come.
+fn asked_for(rt: &impl Test, present: usize) -> u64 {
+    let mut bytes = of_lengths(rt, &[]);
+    append_long(rt, &mut bytes, u32::MAX, present);
+    let counting = FaultyAllocator::new(rt.alloc(), 0);
+    match CaptureReader::new(&counting, FaultyReader::new(&bytes, 10_000, 0)) {
+        Ok(mut reader) => assert!(rt; ends(&mut reader, Ending::CutData(24))),
+        Err(_) => assert!(rt; false),
+    }
+    assert!(rt; counting.held() == 0);
+    counting.asked()
+}
+
+/// How many bytes of the record come, and how many are asked for: of each growth those of the whole new room.
+static ASKED: [(usize, u64); 6] = [
+    (0, 131_072),
+    (131_055, 131_072),
+    (131_056, 131_072 + 262_144),
+    (262_127, 131_072 + 262_144),
+    (262_128, 131_072 + 262_144 + 524_288),
+    (300_000, 131_072 + 262_144 + 524_288),
+];
+
+#[test]
+fn a_record_that_claims_4_gb(rt: HostRuntime) {
+    for (present, wanted) in &ASKED {
+        assert_at(&rt, *present, asked_for(&rt, *present) == *wanted);
+    }
+}
+
+/// Whether a call failed as the read that is to fail does.
+fn is_failed(fault: &ReadFault, kind: ErrorKind) -> bool {
+    matches!(fault, ReadFault::Read(e) if e.kind() == kind)
+}
+
+/// Whether the reader reads this record next, or first a fault of this kind and then the record. Counts faults.
+fn reads_in_two<R: Read, A: Allocator>(
+    reader: &mut CaptureReader<R, A>,
+    wanted: &Captured<'_>,
+    kind: ErrorKind,
+    faults: &mut u32,
+) -> bool {
+    match reader.next_record() {
+        Ok(Some(record)) => record == *wanted,
+        Ok(None) => false,
+        Err(fault) => {
+            *faults = faults.saturating_add(1);
+            is_failed(&fault, kind) && reader.ending() == None && reads(reader, wanted)
+        }
+    }
+}
+
+/// Whether it is at this end, or has a fault of this kind first. Counts faults.
+fn ends_in_two<R: Read, A: Allocator>(
+    reader: &mut CaptureReader<R, A>,
+    wanted: Ending,
+    kind: ErrorKind,
+    faults: &mut u32,
+) -> bool {
+    match reader.next_record() {
+        Ok(record) => record == None && reader.ending() == Some(wanted),
+        Err(fault) => {
+            *faults = faults.saturating_add(1);
+            is_failed(&fault, kind) && ends(reader, wanted)
+        }
+    }
+}
+
+/// How often a call fails while a capture is read whole, of which one read fails by this kind of error.
+fn faults_at(rt: &impl Test, file: &[u8], call: u64, kind: ErrorKind) -> u32 {
+    let capture = capture(rt, file);
+    let mut faults = 0;
+    let mut source = FaultyReader::new(file, 13, call);
+    source.set_error(kind);
+    match CaptureReader::new(rt.alloc(), source) {
+        Ok(mut reader) => {
+            for record in capture.records(1, u64::MAX) {
+                assert!(rt; reads_in_two(&mut reader, &record, kind, &mut faults));
+            }
+            assert!(rt; ends_in_two(&mut reader, capture.ending(), kind, &mut faults));
+        }
+        Err(OpenFault::Read(fault)) => {
+            assert!(rt; call <= 2 && is_failed(&fault, kind));
+            faults = 1;
+        }
+        Err(_) => assert!(rt; false),
+    }
+    faults
+}
+
+#[test]
+fn one_read_fails(rt: HostRuntime) {
+    let file = two_packets::big_endian();
+    let cut = file.get(0..131).unwrap_or(b"");
+    for kind in ERROR_KINDS {
+        for call in 1..=12u32 {
+            let faults = faults_at(&rt, file, u64::from(call), kind);
+            assert_at_both(&rt, call, 132, faults == 1);
+            let faults = faults_at(&rt, cut, u64::from(call), kind);
+            assert_at_both(&rt, call, 131, faults == 1);
+        }
+        assert!(rt; faults_at(&rt, file, 13, kind) == 0);
+    }
+}
+
+/// Whether the record comes at once, or after one call that is out of memory. Counts these.
+fn reads_after_memory<R: Read, A: Allocator>(
+    reader: &mut CaptureReader<R, A>,
+    wanted: &Captured<'_>,
+    faults: &mut u32,
+) -> bool {
+    match reader.next_record() {
+        Ok(Some(record)) => record == *wanted,
+        Ok(None) => false,
+        Err(fault) => {
+            *faults = faults.saturating_add(1);
+            matches!(fault, ReadFault::Memory) && reads(reader, wanted)
+        }
+    }
+}
+
+/// Asserts that a capture is read whole where one growth is refused: how often a call is out of memory.
+fn refused_at(rt: &impl Test, file: &[u8], nth: u64) -> u32 {
+    let capture = capture(rt, file);
+    let refusing = FaultyAllocator::new(rt.alloc(), nth);
+    let mut faults = 0;
+    match CaptureReader::new(&refusing, FaultyReader::new(file, 50_000, 0)) {
+        Ok(mut reader) => {
+            for record in capture.records(1, u64::MAX) {
+                assert!(rt; reads_after_memory(&mut reader, &record, &mut faults));
+            }
+            assert!(rt; ends(&mut reader, capture.ending()));
+        }
+        Err(fault) => {
+            faults = 1;
+            assert!(rt; nth == 1 && matches!(fault, OpenFault::Read(ReadFault::Memory)));
+        }
+    }
+    assert_named(rt, (refusing.left() == 0) == (faults == 1), "left", nth);
+    faults
+}
+
+#[test]
+fn each_growth_is_refused(rt: HostRuntime) {
+    let bytes = of_lengths(&rt, &[5, 400_000, 7, 300_000, 600_000, 9]);
+    for nth in 1..=4u32 {
+        assert_named(
+            &rt,
+            refused_at(&rt, &bytes, u64::from(nth)) == 1,
+            "growth",
+            nth,
+        );
+    }
+    assert!(rt; refused_at(&rt, &bytes, 5) == 0);
+}
+
+/// A source that has more bytes once its end was read.
+#[derive(Drop)]
+struct GrowingSource<'a> {
+    bytes: &'a [u8],
+    later: &'a [u8],
+}
+
+impl<'a> Read for GrowingSource<'a> {
+    fn read(&mut self, buf: &mut [u8]) -> io::Result<usize> {
+        if self.bytes.is_empty() {
+            self.bytes = self.later;
+            self.later = b"";
+            return Ok(0);
+        }
+        self.bytes.read(buf)
+    }
+}
+
+/// Whether the records of a beginning are read up to its end, and then those of the whole file.
+fn goes_on(rt: &impl Test, file: &[u8], length: usize) -> bool {
+    let (bytes, later) = file.split_at(length.min(file.len()));
+    let (first, whole) = (capture(rt, bytes), capture(rt, file));
+    let Ok(mut reader) = CaptureReader::new(rt.alloc(), GrowingSource { bytes, later }) else {
+        return false;
+    };
+    let next = first.count().saturating_add(1);
+    count_read(&mut reader, first.records(1, u64::MAX)) == first.count()
+        && ends(&mut reader, first.ending())
+        && count_read(&mut reader, whole.records(next, u64::MAX))
+            == whole.count().saturating_sub(first.count())
+        && ends(&mut reader, whole.ending())
+}
+
+#[test]
+fn a_source_that_grows_after_its_end(rt: HostRuntime) {
+    let file = two_packets::little_endian();
+    for length in 24..=file.len() {
+        assert_at(&rt, length, goes_on(&rt, file, length));
+    }
+}

@@ -1,0 +1,233 @@
+-- What is left of a capture, by the bytes in front and those that a reader has left.
+use Rattle.std.proofs.Common.{◌≡◌, ℕ, ◌+◌, ◌<◌, ◌≤◌, List, [], ◌∷◌, ◌++◌, length, drop, arith, refl, sym, ap, ◌∙◌}
+use Rattle.std.proofs.Common.{Option, Some, None, Ok, Err, inl, inr, length-drop, length-take, length-append, append-nil}
+use Rattle.std.specs.Prelude.{IfSome, IsSomeAnd}
+use Rattle.std.specs.Option.{option_map}
+use Rattle.std.specs.Io.KnownBytes.{Keeps, IsAtEnd, prepend_known}
+use Rattle.std.proofs.lemmas.Bool.{cases_lt}
+use Rattle.std.proofs.lemmas.Bool.Decides.{nat_tests}
+use Rattle.std.proofs.lemmas.List.{drop-append-le, take-append-le}
+use Rattle.byteorder.specs.Numbers.{big_from-append, little_from-append}
+use Rattle.pcap_classic.specs.FileNumbers.{number_at}
+use Rattle.pcap_classic.specs.declared.captured.{Endianness.Endianness, Extent.Extent, TheConstants.RECORD_HEADER}
+use Rattle.pcap_classic.specs.declared.captured.Endianness.TheVariants.{Big, Little}
+use Rattle.pcap_classic.specs.declared.captured.Extent.TheVariants.{Nothing, PartOfHeader, PartOfData, WholeRecord}
+use Rattle.pcap_classic.specs.declared.ending.Ending.{Ending}
+use Rattle.pcap_classic.specs.declared.header.{HeaderFault.HeaderFault, FileHeader.FileHeader, TheConstants.FILE_HEADER}
+use Rattle.pcap_classic.specs.Records.{Record, record_at, record_length}
+use Rattle.pcap_classic.specs.Savefile.{IsSavefile, IsRefusal, capture_fault}
+use Rattle.pcap_classic.specs.Contents.{extent_of, header_of, savefile_from}
+use Rattle.pcap_classic.specs.Index.{ending_by}
+use Rattle.pcap_classic.specs.Reading.{Gives, NeedsRoom}
+use Rattle.pcap_classic.specs.declared.reading.ReadFault.{ReadFault, TheVariants.Memory, TheVariants.Read}
+use Rattle.pcap_classic.specs.declared.window.TheConstants.{ROOM}
+use Rattle.pcap_classic.specs.Lent.{record_of}
+use Rattle.pcap_classic.specs.declared.captured.Captured.{Captured}
+use Rattle.pcap_classic.proofs.HoldsLemmas.{has_extent, contents-hold, holds-once, extent-data, extent-whole}
+use Rattle.pcap_classic.proofs.SavefileLemmas.{header-says, same_savefile}
+
+-- ---- numbers and records in the first bytes
+
+pub number-front : (order : Endianness) (place n : ℕ) (xs ys : List ℕ) → place + n ≤ length xs
+    → number_at order place n (xs ++ ys) ≡ number_at order place n xs
+unfolding number_at
+number-front Big place n xs ys h =
+    let inside : n ≤ length (drop place xs) = omega (arith, h, length-drop place xs) in
+    rw (drop-append-le place xs ys (omega (arith, h))) (big_from-append n (drop place xs) ys inside)
+number-front Little place n xs ys h =
+    let inside : n ≤ length (drop place xs) = omega (arith, h, length-drop place xs) in
+    rw (drop-append-le place xs ys (omega (arith, h))) (little_from-append n (drop place xs) ys inside)
+
+-- a whole record in front, whatever follows
+record WholeFront (order : Endianness) (n place size : ℕ) (xs ys : List ℕ) : Type 0 where
+  pub length_is : size ≡ record_length order xs
+  pub within : size ≤ length xs
+  pub whole : extent_of order (xs ++ ys) ≡ WholeRecord size
+  pub same : record_at order n place (xs ++ ys) ≡ record_at order n place xs
+  pub rest : drop size (xs ++ ys) ≡ drop size xs ++ ys
+
+whole_front : (order : Endianness) (n place size : ℕ) (xs ys : List ℕ) → extent_of order xs ≡ WholeRecord size
+    → WholeFront order n place size xs ys
+whole_front order n place size xs ys e =
+    let front = rw e at (has_extent order n place xs _ _ (contents-hold (length xs) order n place xs (omega arith))) in
+    let long : RECORD_HEADER ≤ length xs = omega (arith, front.0, front.1) in
+    let captured = number-front order 8 4 xs ys (omega (arith, long)) in
+    let joined = length-append xs ys in
+    let seconds = number-front order 0 4 xs ys (omega (arith, long)) in
+    let fraction = number-front order 4 4 xs ys (omega (arith, long)) in
+    let wire = number-front order 12 4 xs ys (omega (arith, long)) in
+    let size_is : record_length order (xs ++ ys) ≡ size = omega (arith, captured, front.0) in
+    let after = drop-append-le RECORD_HEADER xs ys long in
+    let bytes = take-append-le (number_at order 8 4 xs) (drop RECORD_HEADER xs) ys
+    (omega (arith, front.0, front.1, length-drop RECORD_HEADER xs)) in
+    record {
+      length_is = front.0;
+      within = front.1;
+      whole = rw (← size_is) (extent-whole order (xs ++ ys) (omega (arith, size_is, front.1, joined)));
+      same = rw (seconds, fraction, wire, captured, after, bytes) refl;
+      rest = drop-append-le size xs ys front.1;
+    }
+
+-- ---- contents
+
+-- what is left with a whole record in front
+left-whole : (header : FileHeader) (n place size : ℕ) (xs ys : List ℕ)
+    → extent_of header.magic.order xs ≡ WholeRecord size
+    → savefile_from header n place (xs ++ ys)
+    ≡ record (savefile_from header (n + 1) (place + size) (drop size xs ++ ys)) {
+      records = record_at header.magic.order n place xs
+          ∷ (savefile_from header (n + 1) (place + size) (drop size xs ++ ys)).records;
+    }
+left-whole header n place size xs ys e =
+    let order : Endianness = header.magic.order in
+    let f = whole_front order n place size xs ys e in
+    let own = rw f.whole at (has_extent order n place (xs ++ ys) _ _
+    (contents-hold (length (xs ++ ys)) order n place (xs ++ ys) (omega arith))) in
+    let rest = rw f.rest at own.4 in
+    let same = holds-once order (n + 1) (place + size) (drop size xs ++ ys) _ _ _ _
+    (contents-hold (length (drop size xs ++ ys)) order (n + 1) (place + size) (drop size xs ++ ys) (omega arith)) rest in
+    same_savefile _ _ refl refl (own.3 ∙ ap (λ (r : Record). r ∷ own.2) f.same ∙ ap (λ (rs : List Record). record_at order n place xs ∷ rs) same.0) same.1
+
+-- what is left with no whole record in front
+left-none : (header : FileHeader) (n place : ℕ) (bytes : List ℕ) (extent : Extent)
+    → extent_of header.magic.order bytes ≡ extent → ((size : ℕ) → extent ≡ WholeRecord size → ⊥)
+    → ((savefile_from header n place bytes).records ≡ [])
+    × ((savefile_from header n place bytes).ending ≡ ending_by extent place)
+left-none header n place bytes (WholeRecord size) e none = absurd (none size refl)
+left-none header n place bytes Nothing e none =
+    rw e at (has_extent header.magic.order n place bytes _ _ (contents-hold (length bytes) header.magic.order n place bytes (omega arith)))
+left-none header n place bytes PartOfHeader e none =
+    rw e at (has_extent header.magic.order n place bytes _ _ (contents-hold (length bytes) header.magic.order n place bytes (omega arith)))
+left-none header n place bytes PartOfData e none =
+    rw e at (has_extent header.magic.order n place bytes _ _ (contents-hold (length bytes) header.magic.order n place bytes (omega arith)))
+
+-- ---- a step
+
+-- a record was read
+pub given : (header : FileHeader) (count n place size place' : ℕ) (old new : List ℕ) (a b : Option (List ℕ))
+    (how : Option Ending) (item : Captured) → Keeps (prepend_known old a) (prepend_known new b)
+    → extent_of header.magic.order new ≡ WholeRecord size → place' ≡ place + size
+    → record_of item ≡ record_at header.magic.order n place new
+    → IfSome (option_map (savefile_from header n place) (prepend_known old a)) (λ c. Gives c (Ok (Some item)) (record {
+      count = count;
+      ended = how;
+      left = option_map (savefile_from header (n + 1) place') (prepend_known (drop size new) b);
+    }))
+given header count n place size place' old new None b how item k e at is = tt
+given header count n place size place' old new (Some xs) None how item k e at is = absurd k
+given header count n place size place' old new (Some xs) (Some ys) how item k e at is =
+    let same : old ++ xs ≡ new ++ ys = sym k in (
+      savefile_from header (n + 1) (place + size) (drop size new ++ ys),
+      rw at refl,
+      rw (same, is) (left-whole header n place size new ys e),
+    )
+
+-- the end was reached
+pub ended : (header : FileHeader) (count n place : ℕ) (old new : List ℕ) (a b : Option (List ℕ)) (extent : Extent)
+    (how : Ending) → Keeps (prepend_known old a) (prepend_known new b)
+    → ((extent_of header.magic.order new ≡ WholeRecord (record_length header.magic.order new) → ⊥) → IsAtEnd b)
+    → extent_of header.magic.order new ≡ extent → ((size : ℕ) → extent ≡ WholeRecord size → ⊥)
+    → how ≡ ending_by extent place
+    → IfSome (option_map (savefile_from header n place) (prepend_known old a)) (λ c. Gives c (Ok None) (record {
+      count = count;
+      ended = Some how;
+      left = option_map (savefile_from header n place) (prepend_known new b);
+    }))
+ended header count n place old new None b extent how k end e none is = tt
+ended header count n place old new (Some xs) None extent how k end e none is = absurd k
+ended header count n place old new (Some xs) (Some ys) extent how k end e none is =
+    let same : old ++ xs ≡ new ++ ys = sym k in
+    let all : new ++ ys ≡ new = ap (λ l. new ++ l) (end (λ whole. none _ (sym e ∙ whole))) ∙ append-nil new in
+    let none_left = left-none header n place new extent e none in
+    rw (same, all) (none_left.0, ap Some (is ∙ sym none_left.1), refl)
+
+-- where the room is full before a whole record is there, one longer than the room at first is next, or one that is cut
+needs-room : (header : FileHeader) (n place : ℕ) (xs ys : List ℕ) → ROOM ≤ length xs
+    → length xs < record_length header.magic.order xs
+    → NeedsRoom (savefile_from header n place (xs ++ ys)).records (savefile_from header n place (xs ++ ys)).ending
+needs-room header n place xs ys full more =
+    let order : Endianness = header.magic.order in
+    let all : List ℕ = xs ++ ys in
+    let joined = length-append xs ys in
+    let captured = number-front order 8 4 xs ys (omega (arith, full)) in
+    let extent = has_extent order n place all _ _ (contents-hold (length all) order n place all (omega arith)) in
+    elim (cases_lt (length all) (record_length order all)) [
+      | inl cut ↦
+          (let none = rw (extent-data order all (omega (arith, full, joined)) cut) at extent in
+          rw none.0 (place, none.1))
+      | inr whole ↦
+          (let front = rw (extent-whole order all whole) at extent in
+          rw front.3 (omega (
+            arith,
+            full,
+            more,
+            captured,
+            whole,
+            length-drop RECORD_HEADER all,
+            length-take (number_at order 8 4 all) (drop RECORD_HEADER all),
+          )))
+    ]
+
+-- nothing was taken
+pub stayed : (header : FileHeader) (count n place : ℕ) (old new : List ℕ) (a b : Option (List ℕ)) (fault : ReadFault)
+    → Keeps (prepend_known old a) (prepend_known new b)
+    → (fault ≡ Memory → (ROOM ≤ length new) × (length new < record_length header.magic.order new))
+    → IfSome (option_map (savefile_from header n place) (prepend_known old a)) (λ c. Gives c (Err fault) (record {
+      count = count;
+      ended = None;
+      left = option_map (savefile_from header n place) (prepend_known new b);
+    }))
+stayed header count n place old new None b fault k full = tt
+stayed header count n place old new (Some xs) None fault k full = absurd k
+stayed header count n place old new (Some xs) (Some ys) (Read e) k full =
+    let same : old ++ xs ≡ new ++ ys = sym k in rw same refl
+stayed header count n place old new (Some xs) (Some ys) Memory k full =
+    let same : old ++ xs ≡ new ++ ys = sym k in
+    let long = full refl in
+    rw same (refl, needs-room header n place new ys long.0 long.1)
+
+-- ---- the header
+
+header-front : (xs ys : List ℕ) → FILE_HEADER ≤ length xs → header_of (xs ++ ys) ≡ header_of xs
+header-front xs ys long =
+    let joined = length-append xs ys in
+    let big = number-front Big 0 4 xs ys (omega (arith, long)) in
+    let little = number-front Little 0 4 xs ys (omega (arith, long)) in
+    let big_major = number-front Big 4 2 xs ys (omega (arith, long)) in
+    let little_major = number-front Little 4 2 xs ys (omega (arith, long)) in
+    let big_minor = number-front Big 6 2 xs ys (omega (arith, long)) in
+    let little_minor = number-front Little 6 2 xs ys (omega (arith, long)) in
+    let big_link = number-front Big 20 4 xs ys (omega (arith, long)) in
+    let little_link = number-front Little 20 4 xs ys (omega (arith, long)) in
+    grind (arith, nat_tests)
+
+header-long : (file : List ℕ) (header : FileHeader) → header_of file ≡ Ok header → FILE_HEADER ≤ length file
+header-long file header e = elim (cases_lt (length file) FILE_HEADER) [
+  | inl short ↦ absurd (grind (arith, nat_tests))
+  | inr long ↦ long
+]
+
+-- the bytes after the header hold the capture
+pub opened : (a b : Option (List ℕ)) (front : List ℕ) (header : FileHeader)
+    → Keeps (prepend_known [] a) (prepend_known front b) → header_of front ≡ Ok header
+    → IfSome a (λ file. IsSomeAnd (option_map (savefile_from header 1 FILE_HEADER) (prepend_known (drop FILE_HEADER front) b)) (IsSavefile file))
+opened None b front header k e = tt
+opened (Some file) None front header k e = absurd k
+opened (Some file) (Some rest) front header k e =
+    let long = header-long front header e in
+    let says = header-says (front ++ rest) (Ok header) (Ok header) (sym (header-front front rest long ∙ e)) refl in
+    let split = drop-append-le FILE_HEADER front rest long in
+    rw (← k, ← split) says
+
+-- the bytes have the fault
+pub refused : (a b : Option (List ℕ)) (front : List ℕ) (fault : HeaderFault)
+    → Keeps (prepend_known [] a) (prepend_known front b) → (length front < FILE_HEADER → IsAtEnd b)
+    → header_of front ≡ Err fault → IfSome a (IsRefusal (capture_fault fault))
+refused None b front fault k end e = tt
+refused (Some file) None front fault k end e = absurd k
+refused (Some file) (Some rest) front fault k end e = elim (cases_lt (length front) FILE_HEADER) [
+  | inl short ↦
+      (let all : front ++ rest ≡ front = ap (λ l. front ++ l) (end short) ∙ append-nil front in
+      rw (← k, all) (header-says front (Err fault) (Err fault) (sym e) refl))
+  | inr long ↦ rw (← k) (header-says (front ++ rest) (Err fault) (Err fault) (sym (header-front front rest long ∙ e)) refl)
+]

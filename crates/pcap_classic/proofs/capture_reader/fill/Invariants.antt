@@ -1,0 +1,10 @@
+use Rattle.std.proofs.Common.{◌-◌, ◌^◌, length}
+use Rattle.std.specs.Io.KnownBytes.{Keeps, prepend_known}
+use Rattle.pcap_classic.proofs.capture_reader.fill.Given as goal
+
+abbrev pub invariant-reads : goal.invariant-reads
+invariant-reads g l =
+    Keeps (prepend_known l.fn.window (g.R.Read.remaining l.fn.reader)) (prepend_known l.window (g.R.Read.remaining l.reader))
+
+abbrev pub decreases-reads : goal.decreases-reads
+decreases-reads g l = 2 ^ 64 - length l.window

@@ -1,0 +1,46 @@
+-- What a reader of a capture has read, and what is left of the capture.
+use Rattle.std.specs.Prelude.{◌≡◌, ℕ, ◌+◌, ◌<◌, ◌^◌, List, [], ◌∷◌, length, Option, Some, None, Result, Ok, Err, IsSome, ⊤}
+use Rattle.pcap_classic.specs.Lent.{record_of}
+use Rattle.pcap_classic.specs.Records.{Record}
+use Rattle.pcap_classic.specs.Savefile.{Savefile, IsRefusal, capture_fault}
+use Rattle.pcap_classic.specs.declared.captured.Captured.{Captured}
+use Rattle.pcap_classic.specs.declared.captured.TheConstants.{RECORD_HEADER}
+use Rattle.pcap_classic.specs.declared.ending.Ending.{Ending, TheVariants.CutData}
+use Rattle.pcap_classic.specs.declared.reading.ReadFault.{ReadFault, TheVariants.Memory, TheVariants.Read}
+use Rattle.pcap_classic.specs.declared.reading.OpenFault.{OpenFault}
+use Rattle.pcap_classic.specs.declared.reading.OpenFault.TheVariants as open_fault
+use Rattle.pcap_classic.specs.declared.window.TheConstants.{ROOM}
+
+-- how many records were read; how the capture ends, where the last call came to its end; and the capture without the
+-- records that were read, where the reader's bytes are known
+pub record Reading : Type 0 where
+  pub count : ℕ
+  pub ended : Option Ending
+  pub left : Option Savefile
+
+-- the next record is longer than the room at first, or it is cut
+abbrev pub NeedsRoom : List Record → Ending → Type 0
+NeedsRoom (next ∷ rest) how = ROOM < RECORD_HEADER + length next.bytes
+NeedsRoom [] how = (place : ℕ) × (how ≡ CutData place)
+
+-- where this was left of a capture: its first record is lent, and the rest is left; or it has no record, and its ending
+-- is known; or it is left as it was
+abbrev pub Gives : Savefile → Result (Option Captured) ReadFault → Reading → Type 0
+Gives s (Ok (Some item)) new = (rest : Savefile) × (new.left ≡ Some rest)
+    × (s ≡ record rest { records = record_of item ∷ rest.records })
+Gives s (Ok None) new = (s.records ≡ []) × (new.ended ≡ Some s.ending) × (new.left ≡ Some s)
+Gives s (Err (Read e)) new = new.left ≡ Some s
+Gives s (Err Memory) new = (new.left ≡ Some s) × NeedsRoom s.records s.ending
+
+-- whatever the reader's bytes are: a record has the number after that of the last one, and there is an ending exactly
+-- where there was no record
+abbrev pub Proceeds : ℕ → Result (Option Captured) ReadFault → Reading → Type 0
+Proceeds before (Ok (Some item)) new = (item.number ≡ before + 1) × (new.count ≡ before + 1) × (new.count < 2 ^ 60)
+    × (new.ended ≡ None)
+Proceeds before (Ok None) new = (new.count ≡ before) × IsSome new.ended
+Proceeds before (Err e) new = (new.count ≡ before) × (new.ended ≡ None)
+
+-- the bytes have this fault of the header; of another fault nothing is said
+abbrev pub IsOpenFault : List ℕ → OpenFault → Type 0
+IsOpenFault file (open_fault.Header fault) = IsRefusal (capture_fault fault) file
+IsOpenFault file (open_fault.Read fault) = ⊤
