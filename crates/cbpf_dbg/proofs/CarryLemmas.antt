@@ -6,7 +6,7 @@ use Rattle.std.proofs.lemmas.Bool.Decides.{nat_tests}
 use Rattle.cbpf_code.specs.declared.insn.Insn.{Insn}
 use Rattle.cbpf_code.specs.Sound.{IsSound}
 use Rattle.cbpf_machine.specs.Values.{Values}
-use Rattle.cbpf_machine.specs.Follow.{Watching, HasRoom, is_met}
+use Rattle.cbpf_machine.specs.Follow.{Watching, HasRoom, IsSameAt, is_met, room_in}
 use Rattle.cbpf_machine.specs.Registers.{Registers}
 use Rattle.cbpf_machine.specs.Machine.{Machine, machine_of}
 use Rattle.cbpf_machine.specs.Turn.{turn}
@@ -77,23 +77,26 @@ module _ (needs_no_value : Bool) (old : Watching) (program : Option (List Insn))
   -- it stays known where breakpoints change at one instruction
   pub known-at : (new : Watching) (after : Breakpoints)
       → (Watches old (machine_of list values) before → Watches new (machine_of list values) after)
-      → KeepsRoom after new.room → IsKnown needs_no_value new program values after
+      → KeepsRoom after (room_in new) → IsKnown needs_no_value new program values after
   known-at new after step room = rw e (held.0, step held.1, room, held.3)
 
   -- the room that is known to be there
-  pub known-room : KeepsRoom before old.room
+  pub known-room : KeepsRoom before (room_in old)
   known-room = held.2
 
   pub known-sound : IsSound list
   known-sound = held.3
 
   -- more room
-  pub known-more : (new : Watching) → new.watches ≡ old.watches → old.room ≤ new.room
+  pub known-more : (new : Watching) → ((i : ℕ) → IsSameAt i old new) → room_in old ≤ room_in new
       → IsKnown needs_no_value new program values before
   known-more new same more = rw e (
     held.0,
-    λ bytes wire s inside. rw same (held.1 bytes wire s inside),
-    room-more before old.room new.room more held.2,
+    record {
+      hits_are = λ bytes wire s inside. ap (λ w. is_met w s) (same s.pc).watch ∙ held.1.hits_are bytes wire s inside;
+      knows = λ i insn at. rw (same i).code (held.1.knows i insn at);
+    },
+    room-more before (room_in old) (room_in new) more held.2,
     held.3,
   )
 

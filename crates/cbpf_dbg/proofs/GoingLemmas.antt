@@ -50,7 +50,7 @@ module _ (machine : Machine) (capture : List Record) (breakpoints : Breakpoints)
 module _ {A : Type 0} (l : Loaded A) where
   -- where it pauses at what the session watches, it pauses at each hit
   pub watches_hits : Covers (is_watched l.watched.now) (machine_in l) (breakpoints_in l)
-  watches_hits = λ bytes wire s inside hit. l.watches bytes wire s inside ∙ hit
+  watches_hits = λ bytes wire s inside hit. l.watches.hits_are bytes wire s inside ∙ hit
 
   -- out of a packet, past no hit
   pub hits_out : (pauses : Registers → Bool) (old new : Walk) (m n : ℕ) → GoesOn l pauses old new m n false
@@ -88,5 +88,5 @@ module _ {A : Type 0} (l : Loaded A) where
         at.0,
         inside,
         h.hits watches_hits ∙ hits_hit _ _ _ new.cursor at.0 h.passes.stands here.0 at.1
-            (sym (l.watches at.0.bytes at.0.wire new.cursor.state inside) ∙ here.1),
+            (sym (l.watches.hits_are at.0.bytes at.0.wire new.cursor.state inside) ∙ here.1),
       )

@@ -9,7 +9,7 @@ use Rattle.cbpf_machine.specs.Registers.{Registers}
 use Rattle.cbpf_machine.specs.Values.{Values}
 use Rattle.cbpf_machine.specs.Machine.{Machine, machine_of}
 use Rattle.cbpf_machine.specs.Turn.{turn, asked}
-use Rattle.cbpf_machine.specs.Follow.{Watching, is_watched}
+use Rattle.cbpf_machine.specs.Follow.{Watching, Knows, KnowsEach, is_watched, room_in}
 use Rattle.cbpf_machine.specs.Trace.{trace}
 use Rattle.pcap_classic.specs.Records.{Record, StartsAt}
 use Rattle.pcap_classic.specs.Savefile.{Savefile}
@@ -51,8 +51,10 @@ abbrev pub WatchesTo : Watching → Machine → Breakpoints → ℕ → Type 0
 WatchesTo watched machine breakpoints n = (bytes : List ℕ) (wire : ℕ) (s : Registers) → s.pc < n
     → is_watched watched s ≡ hits machine breakpoints bytes wire s
 
-abbrev pub Watches : Watching → Machine → Breakpoints → Type 0
-Watches watched machine breakpoints = WatchesTo watched machine breakpoints (length machine.list)
+-- at all of them, and the others are carried out by their own code
+pub record Watches (watched : Watching) (machine : Machine) (breakpoints : Breakpoints) : Type 0 where
+  pub hits_are : WatchesTo watched machine breakpoints (length machine.list)
+  pub knows : KnowsEach (λ i insn. Knows watched i insn) machine.list
 
 -- there is room for the condition of each breakpoint
 abbrev pub KeepsRoom : Breakpoints → ℕ → Type 0
@@ -66,5 +68,5 @@ IsSameBut i before after = (s : Registers) → s.pc ≢ i → carries after s �
 abbrev pub IsKnown : Bool → Watching → Option (List Insn) → Values → Breakpoints → Type 0
 IsKnown needs_no_value watched (Some list) values breakpoints =
     (needs_no_value ≡ true → NeedsNoValue (machine_of list values))
-    × Watches watched (machine_of list values) breakpoints × KeepsRoom breakpoints watched.room × IsSound list
+    × Watches watched (machine_of list values) breakpoints × KeepsRoom breakpoints (room_in watched) × IsSound list
 IsKnown needs_no_value watched None values breakpoints = Unit {0}

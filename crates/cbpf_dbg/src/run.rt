@@ -3,7 +3,7 @@
 ghost use Rattle.std.specs.Prelude.{◌≡◌, ◌≢◌, ◌+◌, ◌-◌, ◌*◌, ◌<◌, ◌≤◌, ◌^◌, ℕ, List, [], Some, true, false, OnSome, take};
 ghost use Rattle.cbpf_code.specs.declared.checker.TheConstants.{MAX_INSTRUCTIONS};
 ghost use Rattle.cbpf_machine.specs.Registers.{Registers};
-ghost use Rattle.cbpf_machine.specs.Follow.{Follows, is_watched, turns_to};
+ghost use Rattle.cbpf_machine.specs.Follow.{Follows, KnowsEach, is_watched, turns_to};
 ghost use Rattle.cbpf_machine.specs.declared.follow.Followed.TheVariants as followed;
 ghost use Rattle.pcap_classic.specs.Records.{StartsAt};
 ghost use Rattle.cbpf_dbg.specs.Commands.{PassesHits};
@@ -43,7 +43,8 @@ pub(crate) trait Keeper<P: Pause, A: Allocator> {
         pause: &P,
         state: &mut State,
     ) -> Followed
-        requires { meter.old + 2 * MAX_INSTRUCTIONS ≤ 2 ^ 128 }
+        requires spare { meter.old + 2 * MAX_INSTRUCTIONS ≤ 2 ^ 128 }
+        requires knows { KnowsEach (λ i insn. P.knows pause.now i insn) task.now.program.now }
         ensures follows { Follows (λ s. P.pauses pause.now s) (entries_in task.now) (outcome_in task.now) 0
             state.old state.new result }
         ensures turns { meter.new + 1 ≡ meter.old + turns_to (entries_in task.now) 0 result }
@@ -103,6 +104,7 @@ pub(crate) fn run_records<P: Pause, A: Allocator, K: Keeper<P, A>>(
 ) -> bool
     requires can { CanGoOn loaded.now walk.old meter.old }
     requires before { walk.old.cursor.place.step ≡ 0 }
+    requires knows { KnowsEach (λ i insn. P.knows pause.now i insn) loaded.now.program.now }
     ensures goes { GoesOn loaded.now (λ s. P.pauses pause.now s) walk.old walk.new meter.old meter.new result }
     ensures none { result ≡ false → walk.new.cursor.place.packet ≡ walk.new.end }
     ensures keeps { result ≡ true → KeepsIn (λ xs. K.stands_for keeper.new xs) loaded.now walk.new.cursor.place }

@@ -3,7 +3,7 @@
 ghost use Rattle.std.specs.Prelude.{◌≡◌, ◌<◌, ◌≤◌, ◌⊎◌, ℕ, List, None, OnErr, OnOk, length, nat_eq, true};
 ghost use Rattle.indexmap.specs.IndexMap.{spare};
 ghost use Rattle.std.specs.Map.{lookup};
-ghost use Rattle.cbpf_machine.specs.Follow.{HasRoom, is_met};
+ghost use Rattle.cbpf_machine.specs.Follow.{HasRoom, IsSameAt, is_met, room_in};
 ghost use Rattle.cbpf_machine.specs.Machine.{machine_of};
 ghost use Rattle.cbpf_machine.specs.Registers.{Registers};
 ghost use Rattle.cbpf_dbg.specs.Breakpoints.{Breakpoints as SomeBreakpoints};
@@ -52,14 +52,14 @@ pub(crate) fn make_room<A: Allocator>(
     i: u32,
 ) -> Result<(), AllocError>
     requires inside { i < length p.now }
-    requires room { KeepsRoom breakpoints.old.entries watched.old.room }
-    ensures watches { watched.new.watches ≡ watched.old.watches }
+    requires room { KeepsRoom breakpoints.old.entries (room_in watched.old) }
+    ensures same { (j : ℕ) → IsSameAt j watched.old watched.new }
     ensures entries { breakpoints.new.entries ≡ breakpoints.old.entries }
-    ensures more { watched.old.room ≤ watched.new.room }
-    ensures here { OnOk result (i < watched.new.room) }
+    ensures more { room_in watched.old ≤ room_in watched.new }
+    ensures here { OnOk result (i < room_in watched.new) }
     ensures table { OnOk result ((lookup (nat_eq i) breakpoints.old.entries ≡ None) → 0 < spare breakpoints.new) }
     ensures refused { OnErr result ((lookup (nat_eq i) breakpoints.old.entries ≡ None)
-        × ((watched.old.room < length p.now) ⊎ (spare breakpoints.old ≡ 0))) }
+        × ((room_in watched.old < length p.now) ⊎ (spare breakpoints.old ≡ 0))) }
 {
     if breakpoints.contains_key(&i) {
         return Ok(());
@@ -75,12 +75,12 @@ pub(crate) fn watch<A: Allocator>(
     values: &Values,
     breakpoints: &Breakpoints<A>,
 )
-    requires { KeepsRoom breakpoints.now.entries watched.old.room }
+    requires { KeepsRoom breakpoints.now.entries (room_in watched.old) }
     ensures watches { Watches watched.new (machine_of p.now values.now) breakpoints.now.entries }
-    ensures room { watched.new.room ≡ watched.old.room }
+    ensures room { room_in watched.new ≡ room_in watched.old }
 {
     'scan: for i in 0..p.len() {
-        watched.set(i as usize, watch_of(p, values, breakpoints, i));
+        watched.set(i as usize, p.at_index(i), watch_of(p, values, breakpoints, i));
     }
 }
 
@@ -93,12 +93,12 @@ pub(crate) fn watch_at<A: Allocator>(
     i: u32,
 )
     requires inside { i < length p.now }
-    requires room { KeepsRoom breakpoints.now.entries watched.old.room }
+    requires room { KeepsRoom breakpoints.now.entries (room_in watched.old) }
     ensures watches { (before : SomeBreakpoints) → Watches watched.old (machine_of p.now values.now) before
         → IsSameBut i before breakpoints.now.entries
         → Watches watched.new (machine_of p.now values.now) breakpoints.now.entries }
-    ensures room { watched.new.room ≡ watched.old.room }
+    ensures room { room_in watched.new ≡ room_in watched.old }
 {
     let _few = p.len();
-    watched.set(i as usize, watch_of(p, values, breakpoints, i));
+    watched.set(i as usize, p.at_index(i), watch_of(p, values, breakpoints, i));
 }

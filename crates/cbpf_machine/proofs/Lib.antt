@@ -5,5 +5,6 @@ pub mod TraceLemmas
 pub mod AskedLemmas
 pub mod FollowLemmas
 pub mod TogetherLemmas
-pub mod WatchLemmas
 pub mod KeptLemmas
+pub mod WayLemmas
+pub mod TallyLemmas

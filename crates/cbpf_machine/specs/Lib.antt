@@ -11,3 +11,5 @@ pub mod Follow
 pub mod InPlace
 pub mod Task
 pub mod Together
+pub mod Ways
+pub mod Walk

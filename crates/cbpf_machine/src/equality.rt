@@ -4,10 +4,13 @@ ghost use Rattle.std.specs.Prelude.{◌≡◌, Decides};
 
 use crate::follow::Followed;
 use crate::load::Packet;
-use crate::outcome::{Outcome, Turn};
+use crate::outcome::{End, Outcome, Turn};
+use crate::packet_end::PacketEnd;
 use crate::pause::When;
 use crate::state::State;
+use crate::tally::Runs;
 use crate::values::Values;
+use crate::way::{Test, Way};
 
 /// Two values of a type are equal by `==` exactly where contracts see the same.
 pub fn equal_where_same()
@@ -16,6 +19,11 @@ pub fn equal_where_same()
     ensures when { (a b : _) → Decides (⟦<When as PartialEq>⟧.eq a b) (a ≡ b) }
     ensures turn { (a b : _) → Decides (⟦<Turn as PartialEq>⟧.eq a b) (a ≡ b) }
     ensures outcome { (a b : _) → Decides (⟦<Outcome as PartialEq>⟧.eq a b) (a ≡ b) }
+    ensures end { (a b : _) → Decides (⟦<End as PartialEq>⟧.eq a b) (a ≡ b) }
+    ensures packet_end { (a b : _) → Decides (⟦<PacketEnd as PartialEq>⟧.eq a b) (a ≡ b) }
+    ensures test { (a b : _) → Decides (⟦<Test as PartialEq>⟧.eq a b) (a ≡ b) }
+    ensures way { (a b : _) → Decides (⟦<Way as PartialEq>⟧.eq a b) (a ≡ b) }
+    ensures runs { (a b : _) → Decides (⟦<Runs as PartialEq>⟧.eq a b) (a ≡ b) }
     ensures followed { (a b : _) → Decides (⟦<Followed as PartialEq>⟧.eq a b) (a ≡ b) }
     ensures packet { (a b : _) → Decides (⟦<Packet<'static> as PartialEq>⟧.eq a b)
         ((a.bytes.now ≡ b.bytes.now) × (a.wire ≡ b.wire)) }

@@ -17,11 +17,15 @@ pub enum Turn {
 }
 
 /// How a packet's last turn ends it.
-#[derive(Clone, Copy)]
-pub(crate) enum End {
+#[derive(Clone, Copy, Debug, PartialEq, Eq)]
+pub enum End {
+    /// It returned this number, which may be 0.
     Returned(u32),
+    /// A load went past the captured bytes.
     Outside,
+    /// A division or remainder by 0.
     ZeroDivisor,
+    /// A load asked for this extension, which has no value.
     Unknown(Ext),
 }
 

@@ -8,7 +8,7 @@ ghost use Rattle.cbpf_machine.specs.Task.{IsOnTrace, task_of, trace_in};
 use crate::follow::make_turns;
 use crate::load::Packet;
 use crate::meter::Meter;
-use crate::pause::{Before, Never};
+use crate::pause::Never;
 use crate::state::Core;
 use crate::values::Values;
 use cbpf_code::{Program, SLOTS};
@@ -36,13 +36,19 @@ pub(crate) fn go_on<A: Allocator>(
     ensures turns { MatchResult result (λ n. meter.new ≡ meter.old + n) (λ n. meter.new ≡ meter.old + n) }
 {
     let _few = p.len();
-    let pause = Before {
-        pause: &Never,
-        fence: s.pc + most as usize,
-    };
+    let fence = s.pc + most as usize;
     // A copy, which the loop of turns keeps in registers.
     let mut here = *s;
-    let (turns, end) = make_turns::<_, A, false>(&pause, p, packet, values, &mut here, slots);
+    let (turns, end) = make_turns::<_, A, 2>(
+        &Never,
+        false,
+        Some(fence),
+        p,
+        packet,
+        values,
+        &mut here,
+        slots,
+    );
     *s = here;
     meter.add(turns);
     match end {

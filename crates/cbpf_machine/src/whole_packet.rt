@@ -3,30 +3,13 @@ ghost use Rattle.cbpf_code.specs.declared.checker.TheConstants.{MAX_INSTRUCTIONS
 ghost use Rattle.cbpf_machine.specs.Machine.{machine_of};
 ghost use Rattle.cbpf_machine.specs.Trace as spec;
 
-use crate::follow::{Followed, follow_packet};
 use crate::load::Packet;
 use crate::meter::Meter;
 use crate::outcome::Outcome;
-use crate::pause::Pause;
-use crate::state::{Core, State};
+use crate::packet_end::end_of_packet;
 use crate::values::Values;
 use cbpf_code::Program;
 use std::alloc::Allocator;
-
-/// A run to the packet's end, as by `Never`.
-// A pause of its own, since a loop of turns with two callers isn't inlined.
-struct Whole;
-
-impl Pause for Whole {
-    ghost use Rattle.std.specs.Prelude.{false};
-
-    ghost pauses = { λ w s. false };
-
-    #[inline(always)]
-    fn is_at(&self, s: &Core) -> bool {
-        false
-    }
-}
 
 /// Runs a program on a packet, from the zero state to the packet's end, by at most as many turns
 /// as the program has instructions.
@@ -48,10 +31,6 @@ pub fn run_packet<A: Allocator>(
     ensures whole { spec.IsRun (machine_of p.now values.now) packet.entry.bytes.now packet.entry.wire
         (spec.trace (machine_of p.now values.now) packet.entry.bytes.now packet.entry.wire) }
 {
-    let _few = p.len();
-    let mut s = State::zero();
-    match follow_packet(meter, p, packet, values, &Whole, &mut s) {
-        Followed::Ended(outcome) => outcome,
-        _ => unreachable!(),
-    }
+    let _sound = p.len();
+    end_of_packet(meter, p, packet, values).outcome()
 }

@@ -8,6 +8,7 @@ use crate::inputs::{
 };
 use cbpf_code::{check, read_words};
 use cbpf_dbg::{ListTrail, MarkTrail, Session, Trail, When};
+use cbpf_machine::Tally;
 use cbpf_text::{assemble, tokens};
 use cbpf_tool::{DiskFiles, Files, Form, ToolFault, asm, debug};
 use pcap_classic::Capture;
@@ -320,6 +321,17 @@ fn room_for_a_list_of_states(rt: HostRuntime) {
     // 4096 states of 80 bytes.
     assert!(rt; counting.asked() == 327680 && counting.held() == 327680);
     drop(trail);
+    assert!(rt; counting.held() == 0);
+}
+
+#[test]
+fn room_for_a_tally(rt: HostRuntime) {
+    let p = program_of(rt.alloc(), STRAIGHT).expect(&rt, "the program");
+    let counting = FaultyAllocator::new(rt.alloc(), 0);
+    let tally = Tally::new(&counting, &p).expect(&rt, "the tally");
+    // 16 bytes for each of 21 instructions.
+    assert!(rt; counting.asked() == 336 && counting.held() == 336);
+    drop(tally);
     assert!(rt; counting.held() == 0);
 }
 

@@ -12,6 +12,8 @@ mod beginnings;
 #[cfg(test)]
 mod byte_by_byte;
 #[cfg(test)]
+mod capture_reader;
+#[cfg(test)]
 mod captures;
 #[cfg(test)]
 mod counts;
@@ -60,5 +62,7 @@ mod stop_dump;
 mod two_packets;
 #[cfg(test)]
 mod waiting;
+#[cfg(test)]
+mod ways;
 #[cfg(test)]
 mod widths;

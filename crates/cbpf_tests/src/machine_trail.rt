@@ -1,4 +1,5 @@
 ghost use Rattle.std.specs.Prelude.{◌≡◌, ◌≤◌, ◌-◌, [], Some, length, slice_get, take};
+ghost use Rattle.cbpf_machine.specs.Follow.{Knows, KnowsEach};
 ghost use Rattle.cbpf_machine.specs.Machine.{machine_of};
 ghost use Rattle.cbpf_machine.specs.Trace.{trace};
 ghost use Rattle.cbpf_machine.specs.Values.{no_values};
@@ -38,11 +39,15 @@ fn is_entry(s: &State, n: u32) -> bool {
     s.pc() == before && s.a() == n / 2 && s.slot(3) == before / 2
 }
 
-/// The table where one instruction is watched.
-fn only(rt: &impl Test, watched: u32) -> Watched {
-    assert!(rt; watched < 4096);
-    let mut table = Watched::none(rt.alloc());
-    table.set(watched as usize, Some(When::Always));
+/// The table of a program where at most one instruction is watched.
+fn only(alloc: Global, p: &Program, watched: u32) -> Watched
+    ensures knows { KnowsEach (λ i insn. Knows result i insn) p.now }
+{
+    let mut table = Watched::none(alloc);
+    'all: for i in 0..p.len() {
+        let watch = (i == watched).then_some(When::Always);
+        table.set(i as usize, p.at_index(i), watch);
+    }
     table
 }
 
@@ -88,7 +93,7 @@ fn filled_and_followed<T: Trail>(
     let _sound = p.len();
     let mut s = fill(rt, trail, p, packet, &values, count);
     let mut meter = Meter::new();
-    let followed = trail.follow(&mut meter, p, packet, &values, &only(rt, watched), &mut s);
+    let followed = trail.follow(&mut meter, p, packet, &values, &only(rt.alloc(), p, watched), &mut s);
     (followed, s, meter.spent())
 }
 
@@ -109,7 +114,8 @@ fn begun<T: Trail>(
     meter: &mut Meter,
     s: &mut State,
 ) -> u32
-    requires { meter.old ≡ 0 }
+    requires fresh { meter.old ≡ 0 }
+    requires knows { KnowsEach (λ i insn. Knows table.now i insn) p.now }
     ensures from_one { 1 ≤ result }
     ensures last { slice_get (trace (machine_of p.now no_values) [] 0) (result - 1) ≡ Some s.new }
     ensures stands { T.stands_for trail.new (take result (trace (machine_of p.now no_values) [] 0)) }
@@ -145,6 +151,7 @@ fn gone_on<T: Trail>(
     requires last { slice_get (trace (machine_of p.now no_values) [] 0) (count - 1) ≡ Some s.old }
     requires stands { T.stands_for trail.old (take count (trace (machine_of p.now no_values) [] 0)) }
     requires turns { meter.old ≤ 4096 }
+    requires knows { KnowsEach (λ i insn. Knows table.now i insn) p.now }
     ensures stands { T.stands_for trail.new (take result (trace (machine_of p.now no_values) [] 0)) }
     ensures within { result ≤ length (trace (machine_of p.now no_values) [] 0) }
 {
@@ -167,7 +174,7 @@ fn begun_and_back<T: Trail>(
     watched: u32,
     to: u32,
 ) -> (State, u128) {
-    let table = only(rt, watched);
+    let table = only(rt.alloc(), p, watched);
     let mut meter = Meter::new();
     let mut s = State::zero();
     let count = begun(rt, trail, p, &table, &mut meter, &mut s);
@@ -267,7 +274,7 @@ fn trails_of_4096_entries(rt: HostRuntime) {
 fn followed_from_before(rt: &impl Test, p: &Program, watched: u32) -> (Followed, State, u128) {
     let mut s = State::zero();
     let mut meter = Meter::new();
-    let table = only(rt, watched);
+    let table = only(rt.alloc(), p, watched);
     let followed = follow_packet(&mut meter, p, EMPTY, &Values::new(), &table, &mut s);
     (followed, s, meter.spent())
 }
@@ -277,7 +284,7 @@ fn followed_on(rt: &impl Test, p: &Program, from: State, watched: u32) -> (Follo
     assert!(rt; from.pc() < p.len());
     let mut s = from;
     let mut meter = Meter::new();
-    let table = only(rt, watched);
+    let table = only(rt.alloc(), p, watched);
     let followed = follow_on(&mut meter, p, EMPTY, &Values::new(), &table, &mut s);
     (followed, s, meter.spent())
 }
@@ -305,7 +312,7 @@ fn check_on(rt: &impl Test, p: &Program, first: u32, second: u32) {
 fn keeps_the_state(alloc: Global, p: &Program, from: State) -> bool {
     let mut s = from;
     let mut meter = Meter::new();
-    let table = Watched::none(alloc);
+    let table = only(alloc, p, 4096);
     let followed = follow_packet(&mut meter, p, EMPTY, &Values::new(), &table, &mut s);
     followed == Followed::Ended(Outcome::Pass(2048)) && is_entry(&s, 2) && meter.spent() == 4096
 }

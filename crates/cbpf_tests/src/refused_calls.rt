@@ -2,10 +2,12 @@
 use crate::assertions::{Test, assert_named};
 use crate::fault_injection::FaultyAllocator;
 use crate::inputs::{
-    HEADER, ICMP_WORDS, RECORD, STRAIGHT, TWO_PACKETS, repeated, session_of, two_packets_as_k,
+    HEADER, ICMP_WORDS, RECORD, STRAIGHT, TWO_PACKETS, program_of, repeated, session_of,
+    two_packets_as_k,
 };
 use cbpf_code::{WordFault, read_words};
 use cbpf_dbg::{ListTrail, MarkTrail, Meter, Session, SessionFault, Stop, When};
+use cbpf_machine::Tally;
 use cbpf_text::{AsmFault, assemble, tokens};
 use cbpf_tool::{DiskFiles, Files, LoadFault, MemoryFiles};
 use pcap_classic::{Capture, CaptureFault};
@@ -26,6 +28,8 @@ enum Call<'a> {
     Source(&'a [u8]),
     Capture(&'a [u8]),
     Trail,
+    /// A tally for a program of 21 instructions.
+    Tally,
     /// Twenty files in memory, of two names.
     Put,
     /// A file in memory, of which there is `k` alone.
@@ -46,6 +50,7 @@ fn finds_no_memory<A: Allocator + Copy>(rt: &impl DiskTest, alloc: A, call: Call
         Call::Source(source) => matches!(assemble(alloc, source), Err(AsmFault::Memory)),
         Call::Capture(bytes) => finds_none_for_a_capture(alloc, bytes),
         Call::Trail => ListTrail::new(alloc).is_err(),
+        Call::Tally => finds_none_for_a_tally(rt, alloc),
         Call::Put => finds_none_for_files(rt, alloc),
         Call::Load(name) => finds_none_for_a_load(rt, alloc, name),
         Call::LoadFromDisk(name) => finds_none_for_a_disk_file(rt, alloc, name),
@@ -62,6 +67,11 @@ fn finds_none_for_a_capture<A: Allocator + Copy>(alloc: A, bytes: &[u8]) -> bool
         ),
         Err(_) => true,
     }
+}
+
+fn finds_none_for_a_tally<A: Allocator>(rt: &impl Test, alloc: A) -> bool {
+    let p = program_of(rt.alloc(), STRAIGHT).expect(rt, "the program");
+    Tally::new(alloc, &p).is_err()
 }
 
 fn is_put<A: Allocator + Copy>(alloc: A, files: &mut MemoryFiles<A>, count: u8) -> bool {
@@ -216,7 +226,7 @@ const OTHER_VERSION: &[u8] = b"\xd4\xc3\xb2\xa1\x02\x00\x05\x00\x00\x00\x00\x00\
 /// A call, and the least and the greatest number of its growths.
 type Row<'a> = (Call<'a>, u64, u64);
 
-static ROWS: [Row<'static>; 33] = [
+static ROWS: [Row<'static>; 34] = [
     (Call::Words(ICMP_WORDS), 2, 99),
     // A count asks for no room.
     (Call::Words(b"4294967295,"), 0, 0),
@@ -249,6 +259,7 @@ static ROWS: [Row<'static>; 33] = [
     // The file is longer than the system says.
     (Call::LoadFromDisk("/proc/self/status"), 2, 20),
     (Call::Trail, 1, 1),
+    (Call::Tally, 1, 1),
     (Call::Breakpoints(When::Always), 6, 99),
     (Call::Breakpoints(When::A(0)), 6, 99),
     (Call::Breakpoints(When::X(0)), 6, 99),

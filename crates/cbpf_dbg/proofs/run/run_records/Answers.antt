@@ -13,8 +13,8 @@ use Rattle.cbpf_dbg.proofs.run.run_records.Goals as goal
 pub front-here-requires : goal.front-here-requires
 front-here-requires g c = grind (arith, common_steps)
 
-pub follow_packet-requires : goal.follow_packet-requires
-follow_packet-requires g c = omega (arith, c.requires.can.spare, c.go.invariant.passes.spent)
+pub follow_packet-requires-clause-spare : goal.follow_packet-requires-clause-spare
+follow_packet-requires-clause-spare g c = omega (arith, c.requires.can.spare, c.go.invariant.passes.spent)
 
 pub finish_whole_packet-requires-clause-counts : goal.finish_whole_packet-requires-clause-counts
 finish_whole_packet-requires-clause-counts g c = countable _ _ c.go.walk.cursor c.go.invariant.passes.stands c.args.loaded.now.few

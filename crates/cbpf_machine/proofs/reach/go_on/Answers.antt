@@ -1,4 +1,4 @@
-use Rattle.std.proofs.Common.{ℕ, ◌≤◌, arith, false}
+use Rattle.std.proofs.Common.{refl, ℕ, ◌≤◌, arith, false}
 use Rattle.cbpf_machine.specs.Core.{registers}
 use Rattle.cbpf_machine.specs.Registers.{Registers}
 use Rattle.cbpf_machine.specs.Task.{IsOnTrace, task_of}
@@ -15,7 +15,7 @@ reached : (g : Over) (c : After-make_turns-turns g) (i : ℕ)
     (registers c.make_turns-turns.new.s c.make_turns-turns.new.slots) c.make_turns-turns.result.0 c.make_turns-turns.result.1
     × (c.make_turns-turns.result.0 ≤ c.args.most)
 reached g c i on = reaches_fenced c.args.most (c.make_turns-turns.ensures.reaches i on) on
-    c.make_turns-turns.ensures.some c.requires.some (omega arith)
+    (c.make_turns-turns.ensures.some refl) c.requires.some (omega arith)
 
 pub add-requires : goal.add-requires
 add-requires g c =
@@ -25,11 +25,11 @@ add-requires g c =
 pub returns-in-None-clause-goes : goal.returns-in-None-clause-goes
 returns-in-None-clause-goes g c = λ i on.
     let h = reached g (goal.at.returns-in-None-clause-goes g c).After-make_turns-turns i on in
-    (c.make_turns-turns.ensures.some, h.1, (rw c.in-None.is at h.0).arrives)
+    ((c.make_turns-turns.ensures.some refl), h.1, (rw c.in-None.is at h.0).arrives)
 
 pub returns-in-Some-clause-goes : goal.returns-in-Some-clause-goes
 returns-in-Some-clause-goes g c = λ i on.
-    let some = c.make_turns-turns.ensures.some in
+    let some = c.make_turns-turns.ensures.some refl in
     let h = reached g (goal.at.returns-in-Some-clause-goes g c).After-make_turns-turns i on in
     let end = (rw c.in-Some.is at h.0).arrives in
     let last = ended_last end.0 _ end.1 in

@@ -14,7 +14,7 @@ pub invariant_of-self-in-Ok-insert : goal.invariant_of-self-in-Ok-insert
 invariant_of-self-in-Ok-insert g c = (
   c.self.invariant.0,
   known-at _ _ _ _ _ _ c.in-Some.is (known-more _ _ _ _ _ _ c.in-Some.is c.self.invariant.1 _
-      c.make_room.ensures.watches c.make_room.ensures.more) _ _
+      c.make_room.ensures.same c.make_room.ensures.more) _ _
       (λ w. c.watch_at.ensures.watches _ w (rw c.make_room.ensures.entries at
       (same-but c.args.n _ _ (λ q h. c.in-Ok-insert.ensures.updates.2 q h))))
       (rw c.watch_at.ensures.room (room-after c.args.n _ _ _ (λ q h. c.in-Ok-insert.ensures.updates.2 q h)

@@ -34,43 +34,19 @@ overflow_add-fence g c = omega (
   sound_few c.args.p.now c.follow.invariant.here.sound,
 )
 
-pub overflow_cast-pause : goal.overflow_cast-pause
-overflow_cast-pause g c = omega (
-  arith,
-  c.gap.ensures.few,
-  c.follow.invariant.here.inside,
-  sound_few c.args.p.now c.follow.invariant.here.sound,
-)
-
-pub overflow_sub-pause : goal.overflow_sub-pause
-overflow_sub-pause g c = omega (
-  arith,
-  c.gap.ensures.few,
-  c.follow.invariant.here.inside,
-  sound_few c.args.p.now c.follow.invariant.here.sound,
-)
-
-pub invariant_of-pause : goal.invariant_of-pause
-invariant_of-pause g c = omega (
-  arith,
-  c.gap.ensures.few,
-  c.follow.invariant.here.inside,
-  sound_few c.args.p.now c.follow.invariant.here.sound,
-)
-
 reached : (g : Over) (c : After-make_turns-turns g)
     → Reaches (task_of c.args.p.now c.args.values.now c.args.packet) (is_watched c.args.watched.now)
     (g.Self.Trail.kept c.follow.self - 1) (registers c.make_turns-turns.new.s c.make_turns-turns.new.slots) c.make_turns-turns.result.0
     c.make_turns-turns.result.1 × (c.make_turns-turns.result.0 ≤ c.gap.result)
 reached g c = reaches_fenced c.gap.result (c.make_turns-turns.ensures.reaches _ c.follow.invariant.here)
-    c.follow.invariant.here c.make_turns-turns.ensures.some c.gap.ensures.some (omega arith)
+    c.follow.invariant.here (c.make_turns-turns.ensures.some refl) c.gap.ensures.some (omega arith)
 
 within : (g : Over) (c : After-make_turns-turns g)
     → (g.Self.Trail.kept c.follow.self + c.make_turns-turns.result.0
     ≤ length (trace_in (task_of c.args.p.now c.args.values.now c.args.packet)) + 1)
     × (length (trace_in (task_of c.args.p.now c.args.values.now c.args.packet)) ≤ MAX_INSTRUCTIONS)
 within g c =
-    let h = reaches_within _ (reached g c).0 c.make_turns-turns.ensures.some in
+    let h = reaches_within _ (reached g c).0 (c.make_turns-turns.ensures.some refl) in
     (omega (arith, c.follow.invariant.from_one), few_entries _ c.follow.invariant.here.sound)
 
 pub add-requires : goal.add-requires
@@ -82,7 +58,7 @@ pub returns-in-Some : goal.returns-in-Some
 returns-in-Some g c =
     let end = ended (g.Self.Trail.kept c.follow.self) c.args.s.now
     (rw c.in-Some.is at (reached g (goal.at.returns-in-Some g c).After-make_turns-turns).0)
-    c.follow.invariant.unpaused c.follow.invariant.from_one c.make_turns-turns.ensures.some
+    c.follow.invariant.unpaused c.follow.invariant.from_one (c.make_turns-turns.ensures.some refl)
     c.from.ensures in
     record {
       follows = rw c.follow.invariant.state end.0;
@@ -108,7 +84,7 @@ on : (g : Over) (c : After-make_turns-turns g) → c.make_turns-turns.result.1 �
     (g.Self.Trail.kept c.args.self.now) (g.Self.Trail.kept c.follow.self + c.make_turns-turns.result.0)
     (registers c.make_turns-turns.new.s c.make_turns-turns.new.slots)
 on g c is = comes (g.Self.Trail.kept c.follow.self) (rw is at (reached g c).0) c.follow.invariant.unpaused
-    c.follow.invariant.from_one c.make_turns-turns.ensures.some
+    c.follow.invariant.from_one (c.make_turns-turns.ensures.some refl)
 
 pub keep-requires-clause-few : goal.keep-requires-clause-few
 keep-requires-clause-few g c =
@@ -131,7 +107,7 @@ pub returns-then-pauses_at : goal.returns-then-pauses_at
 returns-then-pauses_at g c =
     let on = on g (goal.at.returns-then-pauses_at g c).After-make_turns-turns c.in_default.is in
     let kept = c.keep.ensures.stands _ (rw c.of-state.ensures on.at) c.follow.invariant.stands in
-    let some = c.make_turns-turns.ensures.some in
+    let some = c.make_turns-turns.ensures.some refl in
     let all : g.Self.Trail.kept c.follow.self + c.make_turns-turns.result.0
     ≡ g.Self.Trail.kept c.args.self.now + (c.follow.made + c.make_turns-turns.result.0) =
     omega (arith, c.follow.invariant.kept) in
@@ -153,14 +129,14 @@ returns-then-pauses_at g c =
 pub follow-smaller : goal.follow-smaller
 follow-smaller g c =
     let to = on g (goal.at.follow-smaller g c).After-make_turns-turns c.in_default.is in
-    let some = c.make_turns-turns.ensures.some in
+    let some = c.make_turns-turns.ensures.some refl in
     omega (arith, some, to.within, c.follow.invariant.kept)
 
 pub follow-preserved : goal.follow-preserved
 follow-preserved g c =
     let to = on g (goal.at.follow-preserved g c).After-make_turns-turns c.in_default.is in
     let kept = c.keep.ensures.stands _ (rw c.of-state.ensures to.at) c.follow.invariant.stands in
-    let some = c.make_turns-turns.ensures.some in
+    let some = c.make_turns-turns.ensures.some refl in
     let quiet : is_watched c.args.watched.now (registers c.make_turns-turns.new.s c.make_turns-turns.new.slots) ≡ false =
     rw c.of-state.ensures at (sym c.pauses_at.ensures ∙ c.if-pauses_at.false) in
     let all : g.Self.Trail.kept c.follow.self + c.make_turns-turns.result.0 - 1 + 1

@@ -1,0 +1,17 @@
+use Rattle.std.proofs.Common.{◌≡◌, ◌-◌, length}
+use Rattle.cbpf_machine.specs.Task.{task_of}
+use Rattle.cbpf_machine.specs.Walk.{Walked}
+use Rattle.cbpf_machine.proofs.TallyLemmas.{CountsFirst}
+use Rattle.cbpf_machine.proofs.tally.count_turns.Given as goal
+
+-- the entries before the state are counted
+abbrev pub invariant-turns : goal.invariant-turns
+invariant-turns g l =
+    record {
+      walked : Walked (task_of l.p l.values l.packet) l.walk l.slots;
+      long : length l.runs ≡ length l.p;
+      counts : CountsFirst (task_of l.p l.values l.packet) l.walk.turns l.walk.core.pc l.fn.runs l.runs;
+    }
+
+abbrev pub decreases-turns : goal.decreases-turns
+decreases-turns g l = length l.p - l.walk.core.pc

@@ -1,0 +1,73 @@
+//! Where and why a packet ends.
+
+ghost use Rattle.std.specs.Prelude.{◌≡◌, ◌≤◌, ◌+◌, ◌*◌, ◌^◌, length};
+ghost use Rattle.cbpf_code.specs.declared.checker.TheConstants.{MAX_INSTRUCTIONS};
+ghost use Rattle.cbpf_machine.specs.Machine.{machine_of};
+ghost use Rattle.cbpf_machine.specs.Registers.{zero_state};
+ghost use Rattle.cbpf_machine.specs.InPlace.{turn_of};
+ghost use Rattle.cbpf_machine.specs.Trace.{last_or, outcome, outcome_of, trace};
+ghost use Rattle.cbpf_machine.specs.Turn as spec;
+
+use crate::follow::make_turns;
+use crate::load::Packet;
+use crate::meter::Meter;
+use crate::outcome::{End, Outcome};
+use crate::pause::Never;
+use crate::state::{Core, State};
+use crate::values::Values;
+use cbpf_code::{Program, SLOTS};
+use std::alloc::Allocator;
+
+/// Where and why a packet ended.
+#[derive(Clone, Copy, Debug, PartialEq, Eq)]
+pub struct PacketEnd {
+    /// The state before the last instruction.
+    pub last: State,
+    /// Why the packet ended there.
+    pub reason: End,
+}
+
+impl PacketEnd {
+    /// Whether the packet passed.
+    pub fn outcome(&self) -> Outcome
+        ensures { result ≡ outcome_of (turn_of self.now.reason) }
+    {
+        Outcome::from(self.reason)
+    }
+}
+
+/// Runs a program on a packet as `run_packet` does: where and why the packet ended.
+///
+/// The meter is at least twice `MAX_INSTRUCTIONS` turns below 2 to the 128 before.
+pub fn end_of_packet<A: Allocator>(
+    meter: &mut Meter,
+    p: &Program<A>,
+    packet: Packet<'_>,
+    values: &Values,
+) -> PacketEnd
+    requires { meter.old + 2 * MAX_INSTRUCTIONS ≤ 2 ^ 128 }
+    ensures last { result.last
+        ≡ last_or zero_state (trace (machine_of p.now values.now) packet.entry.bytes.now packet.entry.wire) }
+    ensures reason { spec.turn (machine_of p.now values.now) packet.entry.bytes.now packet.entry.wire result.last
+        ≡ turn_of result.reason }
+    ensures outcome { outcome (machine_of p.now values.now) packet.entry.bytes.now packet.entry.wire
+        ≡ outcome_of (turn_of result.reason) }
+    ensures turns { meter.new
+        ≡ meter.old + length (trace (machine_of p.now values.now) packet.entry.bytes.now packet.entry.wire) }
+    ensures few { meter.new ≤ meter.old + length p.now }
+{
+    let _few = p.len();
+    let mut core = Core::zero();
+    let mut slots = [0; SLOTS];
+    let (turns, end) = make_turns::<_, A, 3>(
+        &Never, false, None, p, packet, values, &mut core, &mut slots,
+    );
+    meter.add(turns);
+    match end {
+        Some(reason) => PacketEnd {
+            last: State::of(core, slots),
+            reason,
+        },
+        None => unreachable!(),
+    }
+}
