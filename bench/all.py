@@ -86,9 +86,10 @@ def counts(lines):
 
 
 def turns(lines):
-    """Ratios of times that were measured by turns: of the medians, as others' work may spoil the least."""
-    pattern = rf"(.+): .+, {NUMBER} times (.+) \(.+ of the least\)"
-    return [(work, than, ratio) for work, ratio, than in matched(pattern, lines)]
+    """Ratios of times that were measured by turns: of the medians, as others' work may spoil the least. Last is where
+    the loops of both lie, if that was asked."""
+    pattern = rf"(.+): .+, {NUMBER} times (.+) \([\d.]+ of the least(?:; loops at (.+))?\)"
+    return [(work, than, ratio, places or "") for work, ratio, than, places in matched(pattern, lines)]
 
 
 def left_out(lines):
@@ -107,7 +108,7 @@ def loads(lines):
 def beside_tcpdump(lines):
     """Load and run as ratios to each of tcpdump's two ways, a column each."""
     rows, peers = {}, []
-    for work, than, ratio in turns(lines):
+    for work, than, ratio, _ in turns(lines):
         if than not in peers:
             peers.append(than)
         rows.setdefault(work, {})[than] = ratio
@@ -136,7 +137,8 @@ def growth(quiet, picture):
 
 def absent():
     """The peers and tools that are missing."""
-    names = [tool for tool in ["tcpdump", "bpf_asm", "bpf_dbg", "valgrind", "cc"] if not shutil.which(tool)]
+    tools = ["tcpdump", "bpf_asm", "bpfc", "bpf_dbg", "valgrind", "cc"]
+    names = [tool for tool in tools if not shutil.which(tool)]
     with tempfile.TemporaryDirectory() as folder:
         if "cc" not in names and not session.compiled(pathlib.Path(folder), "bpf_filter", "-lpcap"):
             names.append("libpcap-dev")
@@ -155,7 +157,8 @@ def measure(said, quiet, missing, picture):
     if "tcpdump" not in missing and loading:
         put("tcpdump", [said, "", *beside_tcpdump(loading)])
     lines = lines_of("session.py") + lines_of("debugger.py")
-    put("ratios", [said, "", *table(["work", "beside", "ratio of the medians"], turns(lines))])
+    head = ["work", "beside", "ratio of the medians", "addresses of both loops modulo 64"]
+    put("ratios", [said, "", *table(head, turns(lines))])
     if "cc" not in missing and (quiet or "valgrind" not in missing):
         put("growth", growth(quiet, picture))
     if quiet and "cc" not in missing:

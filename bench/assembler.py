@@ -42,6 +42,12 @@ def with_labels():
     return "".join(lines)
 
 
+def without_labels():
+    """4000 instructions, a line each."""
+    lines = [f"ldh [{i}]\nadd #0x{i:x}\n" for i in range(1999)]
+    return "".join([*lines, "tax\nret #-1\n"])
+
+
 def labels(names):
     return itertools.chain((f"{name}:\n" for name in names), ["ret #0\n"])
 

@@ -1,6 +1,7 @@
 /* Runs libpcap's bpf_filter again and again, for a comparison of time.
  * bpf_filter PROGRAM TIMES CAPTURE: over all packets of a little-endian capture, which is mapped into memory.
- * The program is in the form of `tcpdump -ddd`. */
+ * The program is in the form of `tcpdump -ddd`. The records are looked at before the first run, as the debugger does
+ * when it loads a capture. So the loop that is timed tests none of them, and counts nothing but the passes. */
 #include <sys/types.h>
 #include <sys/mman.h>
 #include <sys/stat.h>
@@ -11,25 +12,38 @@
 #include <stdlib.h>
 #include <string.h>
 
-static unsigned long passes, fails, returned;
+struct record {
+    const unsigned char *bytes;
+    uint32_t captured, wire;
+};
 
-static void filter(const struct bpf_insn *list, const unsigned char *bytes, unsigned wire, unsigned captured) {
-    unsigned v = bpf_filter(list, bytes, wire, captured);
-    if (v) passes++; else fails++;
-    returned += v;
+static struct record record_at(const unsigned char *at) {
+    struct record record = { .bytes = at + 16 };
+    memcpy(&record.captured, at + 8, 4);
+    memcpy(&record.wire, at + 12, 4);
+    return record;
 }
 
-static void filter_all(const struct bpf_insn *list, unsigned long times, const unsigned char *file, const unsigned char *end) {
-    for (; times > 0; times--) {
-        for (const unsigned char *at = file + 24; at + 16 <= end;) {
-            uint32_t captured, wire;
-            memcpy(&captured, at + 8, 4);
-            memcpy(&wire, at + 12, 4);
-            if (captured > end - at - 16) break;
-            filter(list, at + 16, wire, captured);
-            at += 16 + captured;
-        }
+/* The number of whole records; *end becomes where they end. */
+static unsigned long count_records(const unsigned char *at, const unsigned char **end) {
+    unsigned long records = 0;
+    for (; *end - at >= 16; records++) {
+        struct record record = record_at(at);
+        if (record.captured > *end - record.bytes) break;
+        at = record.bytes + record.captured;
     }
+    *end = at;
+    return records;
+}
+
+static unsigned long count_passes(const struct bpf_insn *list, const unsigned char *at, const unsigned char *end) {
+    unsigned long passes = 0;
+    while (at < end) {
+        struct record record = record_at(at);
+        if (bpf_filter(list, record.bytes, record.wire, record.captured)) passes++;
+        at = record.bytes + record.captured;
+    }
+    return passes;
 }
 
 int main(int argc, char **argv) {
@@ -43,13 +57,15 @@ int main(int argc, char **argv) {
         if (fscanf(f, "%u %u %u %u", &code, &jt, &jf, &k) != 4) return 2;
         list[i] = (struct bpf_insn){ code, jt, jf, k };
     }
-    unsigned long count = strtoul(argv[2], 0, 10);
+    unsigned long times = strtoul(argv[2], 0, 10), passes = 0;
     int fd = open(argv[3], O_RDONLY);
     struct stat st;
     if (fd < 0 || fstat(fd, &st)) return 2;
     const unsigned char *file = mmap(0, st.st_size, PROT_READ, MAP_PRIVATE, fd, 0);
     if (file == MAP_FAILED) return 2;
-    filter_all(list, count, file, file + st.st_size);
-    printf("passes:%lu fails:%lu unknown:0 returned:%lu\n", passes, fails, returned);
+    const unsigned char *end = file + st.st_size;
+    unsigned long packets = count_records(file + 24, &end);
+    for (; times > 0; times--) passes += count_passes(list, file + 24, end);
+    printf("packets:%lu passes:%lu\n", packets, passes);
     return 0;
 }

@@ -1,9 +1,9 @@
 """Measures whole processes beside their peers: a short session, short and long sources, and a load with its run.
 
 Machine instructions by valgrind, page faults and peak memory don't depend on the machine's load. Times are compared
-by turns, as ratios. Peers are an empty C program, the kernel's bpf_asm and tcpdump; what is missing is left out, and
-without cc or valgrind so are the columns that need it. Each program's answer is looked at before it is measured
-(answers.py). Needs crates/cbpf built by `make build`.
+by turns, as ratios. Peers are an empty C program, the kernel's bpf_asm, netsniff-ng's bpfc, and tcpdump; what is
+missing is left out, and without cc or valgrind so are the columns that need it. Each program's answer is looked at
+before it is measured (answers.py). Needs crates/cbpf built by `make build`.
 
 Its lines: what: instructions, page faults, peak memory in MB, ratio of the times to those of cbpf's line above
 """
@@ -17,7 +17,9 @@ import session
 
 cbpf = session.cbpf
 
-PACKETS = 100_000
+PACKETS = [100_000] if session.ONLY_ANSWERS else [100_000, 1_000_000]
+# Assemblers that print the same words.
+ASSEMBLERS = [["bpf_asm"], ["bpfc", "-f", "xt_bpf", "-i"]]
 ROUNDS = 31
 TEN = "ldh [12]\njne #0x800, drop\nldb [23]\njne #6, drop\nldh [20]\njset #0x1fff, drop\nldxb 4*([14]&0xf)\n"
 TEN += "ldh [x + 16]\nret #-1\ndrop: ret #0\n"
@@ -33,19 +35,25 @@ def assembled(source, count):
     ours, _ = answers.asked([cbpf, "asm", source])
     answers.holds(cbpf, ours.startswith(f"{count},") and ours.count(",") == count + 1, f"{count} instructions", ours)
     commands = [("`cbpf asm`", [cbpf, "asm", source])]
-    if shutil.which("bpf_asm"):
-        theirs, _ = answers.asked(["bpf_asm", source])
-        answers.same("bpf_asm", ours.replace(",", "\n"), theirs.replace(",", "\n"))
-        commands.append(("`bpf_asm`", ["bpf_asm", source]))
+    for words in ASSEMBLERS:
+        if shutil.which(words[0]):
+            theirs, _ = answers.asked([*words, source])
+            answers.same(words[0], lines(ours), lines(theirs))
+            commands.append((f"`{words[0]}`", [*words, source]))
     return commands
 
 
-def loaded(folder):
-    """The commands that read 100,000 packets and filter them."""
-    packets, script = session.capture(folder / "packets", PACKETS), folder / "script"
+def lines(words):
+    """An instruction a line, as not every assembler ends its last one with a line end."""
+    return words.rstrip("\n").replace(",", "\n")
+
+
+def loaded(folder, count):
+    """The commands that read so many packets and filter them."""
+    packets, script = session.capture(folder / "packets", count), folder / "script"
     script.write_text(f"load bpf {programs.SIX}\nload pcap {packets}\nrun\n")
-    passes = answers.counts(cbpf, script, PACKETS)
-    yield "load and `run` of 100,000 packets of 64 bytes, `ip proto 17`", [cbpf, "dbg", script]
+    passes = answers.counts(cbpf, script, count)
+    yield f"load and `run` of {count:,} packets of 64 bytes, `ip proto 17`", [cbpf, "dbg", script]
     if shutil.which("tcpdump"):
         answers.read_by_tcpdump(packets, "ip proto 17", passes, 16 + len(session.FRAME))
         for what, words in [("--count", ["--count"]), ("-w /dev/null", ["-w", "/dev/null"])]:
@@ -54,18 +62,23 @@ def loaded(folder):
 
 def works(folder):
     """Each work with the commands that do it: cbpf first."""
-    ten, large = folder / "ten", folder / "large"
-    ten.write_text(TEN)
-    large.write_text(assembler.with_labels())
+    sources = [
+        ("of 10 instructions", TEN, 10),
+        ("of 4000 instructions without labels", assembler.without_labels(), 4000),
+        ("of 4000 instructions with 2000 labels", assembler.with_labels(), 4000),
+    ]
+    source = folder / "source"
     empty = session.compiled(folder, "empty")
     start = [("`cbpf`, an empty script", [cbpf]), ("`cbpf dbg`, an empty script", [cbpf, "dbg"])]
     start += [("an empty C program", [empty])] if empty else []
     for _, command in start:
         answers.same(command[0], "", answers.asked(command)[0])
     yield start
-    for what, source, count in [("of 10 instructions", ten, 10), ("of 4000 instructions with 2000 labels", large, 4000)]:
+    for what, text, count in sources:
+        source.write_text(text)
         yield [(f"{who} {what}", command) for who, command in assembled(source, count)]
-    yield list(loaded(folder))
+    for count in PACKETS:
+        yield list(loaded(folder, count))
 
 
 def print_work(process, commands):

@@ -3,12 +3,14 @@ back, and short commands.
 
 User and system time of whole processes: the least of several, or medians where two are compared by turns. Where cc and
 libpcap (libpcap-dev) are there, libpcap's bpf_filter runs over the same capture. Each program's answer is looked at
-before it is timed (answers.py). Wants crates/cbpf built by `make build`.
+before it is timed (answers.py). Wants crates/cbpf built by `make build`. Where valgrind is there, the ratios of runs
+say where both loops lie, modulo 64: the same loop takes up to 1.3 times as long at another of these places.
 
 `session.py --callgrind` counts in their place the machine instructions of the same works, by valgrind: one command
 more less the same script without it. These don't depend on the machine's load. With `--answers` nothing is measured:
 the answers to small works are looked at alone, as `make test` does with each of these scripts that takes the word.
 """
+import collections
 import dataclasses
 import functools
 import os
@@ -71,16 +73,47 @@ def timed(command, script, rounds=5, env=None):
     return least
 
 
-def counted(command, script="/dev/null", status=0):
-    """The machine instructions of a process, whose start reads all of its environment: so it has little."""
-    if ONLY_ANSWERS:
-        return 0
-    valgrind = ["valgrind", "--tool=callgrind", "--callgrind-out-file=/dev/null"]
+def callgrind(command, script, status=0, out="/dev/null", options=()):
+    """What valgrind says of a process, whose start reads all of its environment: so it has little."""
+    valgrind = ["valgrind", "--tool=callgrind", f"--callgrind-out-file={out}", *options]
     env = {name: os.environ[name] for name in ("PATH", "HOME") if name in os.environ}
     _, said = answers.asked(valgrind + [str(word) for word in command], script, status, env=env)
+    return said
+
+
+def counted(command, script="/dev/null", status=0):
+    """The machine instructions of a process."""
+    if ONLY_ANSWERS:
+        return 0
+    said = callgrind(command, script, status)
     found = re.search(r"Collected : (\d+)", said)
     answers.holds("valgrind", found, "a count of instructions", said)
     return int(found[1])
+
+
+def how_often(folder, command, script):
+    """How often each machine instruction runs in a process, by its file and its address there."""
+    out = folder / "callgrind"
+    callgrind(command, script, 0, out, ["--dump-instr=yes", "--compress-pos=no"])
+    ran, lines = collections.Counter(), iter(out.read_text().splitlines())
+    for line in lines:
+        if line.startswith("ob="):
+            file = line.split()[0]
+        elif line.startswith("calls="):
+            # The next line is of all that the call did.
+            next(lines)
+        elif found := re.fullmatch(r"0x([0-9a-f]+) \d+ (\d+)", line):
+            ran[file, int(found[1], 16)] += int(found[2])
+    return ran
+
+
+def place_of_loop(folder, start):
+    """The address, modulo 64, of the loop of a work, for which `start` has the command and its input where it is done
+    so many times: of the first of the machine instructions that run most often."""
+    once, twice = (how_often(folder, *start(times)) for times in (1, 2))
+    more = twice - once
+    most = max(more.values())
+    return min(address for (_, address), times in more.items() if times == most) % 64
 
 
 @dataclasses.dataclass(frozen=True)
@@ -110,17 +143,25 @@ class Measure:
 
         return lambda: self.alone(taken, times)
 
+    @functools.cache
+    def place(self, head, work):
+        """Where the debugger's loop lies in a work of a script, as `place_of_loop` says."""
+        return place_of_loop(self.folder, lambda times: ([cbpf], script(self.folder, head + f"{work}\n" * times)))
+
     def show(self, what, spent, unit, beside=""):
         cost = f"{spent:.1f} machine instructions" if self.counting else f"{spent * 1e9:.0f} ns"
         print(f"{what}: {cost} {unit}{beside}", flush=True)
 
-    def compare(self, what, ours, unit, than, theirs, units):
-        """Shows what measures a work beside what measures another one, by turns: the ratio is of the medians."""
+    def compare(self, what, ours, unit, than, theirs, units, places=None):
+        """Shows what measures a work beside what measures another one, by turns: the ratio is of the medians.
+        `places` finds where the loops of both lie, which times depend on."""
         if ONLY_ANSWERS:
             return
         ours, theirs = zip(*((ours(), theirs()) for _ in range(1 if self.counting else ROUNDS)))
         mine, other = statistics.median(ours), statistics.median(theirs)
         shown = f"{other / units:.1f}" if self.counting else f"{min(ours) / min(theirs):.2f} of the least"
+        if places and not self.counting and shutil.which("valgrind"):
+            shown += "; loops at {} and {}".format(*places())
         self.show(what, mine / units, unit, f", {mine / other:.2f} times {than} ({shown})")
 
 
@@ -212,7 +253,11 @@ def show_runs(measure):
         def theirs():
             return measure.alone(lambda times: measure.cost([*filtering, times, file]))
 
-        measure.compare(f"run alone, {what}", ours, "a packet", "bpf_filter", theirs, packets)
+        def places():
+            beside = place_of_loop(folder, lambda times: ([*filtering, times, file], "/dev/null"))
+            return measure.place(head, "run"), beside
+
+        measure.compare(f"run alone, {what}", ours, "a packet", "bpf_filter", theirs, packets, places)
 
 
 def comparisons(folder, file):
@@ -280,9 +325,13 @@ def measurable(folder, packets):
 def show_compared(measure):
     count = COUNTED_PACKETS if measure.counting else COMPARED_PACKETS
     for compared, packets in measurable(measure.folder, count):
-        ours = measure.of(cbpf, compared.head, compared.command)
-        theirs = measure.of(cbpf, compared.base, compared.beside or compared.command)
-        measure.compare(compared.what, ours, "a packet", compared.than, theirs, packets)
+        works = [(compared.head, compared.command), (compared.base, compared.beside or compared.command)]
+        ours, theirs = (measure.of(cbpf, *work) for work in works)
+
+        def places():
+            return [measure.place(*work) for work in works]
+
+        measure.compare(compared.what, ours, "a packet", compared.than, theirs, packets, places)
 
 
 def singles(folder, packets):
