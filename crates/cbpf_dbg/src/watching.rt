@@ -80,7 +80,11 @@ pub(crate) fn watch<A: Allocator>(
     ensures room { room_in watched.new ≡ room_in watched.old }
 {
     'scan: for i in 0..p.len() {
-        watched.set(i as usize, p.at_index(i), watch_of(p, values, breakpoints, i));
+        watched.set(
+            i as usize,
+            p.at_index(i),
+            watch_of(p, values, breakpoints, i),
+        );
     }
 }
 
@@ -100,5 +104,9 @@ pub(crate) fn watch_at<A: Allocator>(
     ensures room { room_in watched.new ≡ room_in watched.old }
 {
     let _few = p.len();
-    watched.set(i as usize, p.at_index(i), watch_of(p, values, breakpoints, i));
+    watched.set(
+        i as usize,
+        p.at_index(i),
+        watch_of(p, values, breakpoints, i),
+    );
 }

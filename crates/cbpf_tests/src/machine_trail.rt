@@ -93,7 +93,14 @@ fn filled_and_followed<T: Trail>(
     let _sound = p.len();
     let mut s = fill(rt, trail, p, packet, &values, count);
     let mut meter = Meter::new();
-    let followed = trail.follow(&mut meter, p, packet, &values, &only(rt.alloc(), p, watched), &mut s);
+    let followed = trail.follow(
+        &mut meter,
+        p,
+        packet,
+        &values,
+        &only(rt.alloc(), p, watched),
+        &mut s,
+    );
     (followed, s, meter.spent())
 }
 
