@@ -1,3 +1,5 @@
+//! Lists with the errors C, and lists that are accepted.
+
 use CheckFault::{
     JumpOutside, NoInstruction, NoReturn, NoSlot, UnknownCode, UnknownExtension, UnwrittenSlot,
     WideShift, ZeroDivisor,

@@ -1,3 +1,5 @@
+//! Lists of instructions by their numbers.
+
 use crate::assertions::Test;
 use cbpf_code::Insn;
 

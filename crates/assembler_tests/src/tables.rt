@@ -1,3 +1,5 @@
+//! The tables of codes and of extensions, beside values from elsewhere.
+
 use crate::assertions::{assert_at, assert_of};
 use cbpf_code::{
     AluOp, Cond, Ext, Op, Size, Src, code_of, ext_at, ext_name, ext_named, ext_offset, op_of,

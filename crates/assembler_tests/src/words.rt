@@ -1,3 +1,5 @@
+//! Word texts with their instructions or their errors N.
+
 use crate::assertions::{Test, assert_at};
 use crate::lists::{Fields, list_of};
 use WordFault::{CommaExpected, CountDiffers, NumberExpected, OutOfRange, UnexpectedByte};

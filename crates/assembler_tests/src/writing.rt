@@ -1,3 +1,5 @@
+//! The calls that write, and the forms of instructions.
+
 use crate::assertions::{Test, assert_at};
 use crate::lists::{Fields, list_of};
 use cbpf_code::{

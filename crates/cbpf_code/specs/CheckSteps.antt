@@ -1,5 +1,5 @@
--- What the passes of the checker promise one another; the rules themselves are those of Faults (bpf(4),
--- "FILTER MACHINE").
+-- What the passes of the checker promise one another; the rules themselves are those of Faults (bpf(4), "FILTER
+-- MACHINE"). No public clause names it.
 use Rattle.std.specs.Prelude.{ℕ, ◌<◌, ◌≤◌, List, length}
 use Rattle.cbpf_code.specs.declared.insn.Insn.{Insn}
 use Rattle.cbpf_code.specs.declared.opcode.Op.{Op}

@@ -1,4 +1,4 @@
--- What the scanner finds: the next token of a text.
+-- What the scanner finds: the next token of a text. No public clause names it.
 use Rattle.std.specs.Prelude.{◌≡◌, ℕ, ◌<◌, ◌≤◌, ◌^◌, min, List, ◌∷◌, length, slice_range}
 use Rattle.cbpf_code.specs.WordTokens.{WordToken, run, single, decimal_value, tokens_after}
 use Rattle.cbpf_code.specs.declared.scan.FoundToken.{FoundToken}

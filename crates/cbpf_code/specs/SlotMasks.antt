@@ -1,5 +1,5 @@
--- Masks of slots of scratch memory, a bit for each slot (Documentation/networking/filter, "BPF engine and
--- instruction set").
+-- Masks of slots of scratch memory, a bit for each slot (Documentation/networking/filter, "BPF engine and instruction
+-- set"). No public clause names it.
 use Rattle.std.specs.Prelude.{◌≡◌, ◌≢◌, ◌⊎◌, ℕ, ◌<◌, IsTrue, List, length, slice_index}
 use Rattle.std.specs.Int.{bit_at}
 use Rattle.cbpf_code.specs.declared.insn.Insn.{Insn}

@@ -1,4 +1,4 @@
--- What the reader's steps take from the tokens of a text.
+-- What the reader's steps take from the tokens of a text. No public clause names it.
 use Rattle.std.specs.Prelude.{◌≡◌, ℕ, ◌<◌, ◌≤◌, ◌⊎◌, List, [], ◌∷◌, ◌++◌, length, Option, Some, None}
 use Rattle.cbpf_code.specs.WordTokens.{tokens, tokens_after}
 use Rattle.cbpf_code.specs.WordText.{Due, count, code, first_fault, fault_of, numbers}

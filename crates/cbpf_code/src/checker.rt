@@ -1,3 +1,5 @@
+//! Checks a list of instructions: the errors C, and which of them comes first.
+
 ghost use Rattle.std.specs.Prelude.{◌≡◌, ◌<◌, ◌≤◌, ◌+◌, ◌-◌, ◌↔◌, ◌⊎◌, ℕ, Some, length, slice_get, slice_index};
 ghost use Rattle.std.specs.Prelude.{MatchOption, IfNone, IsOk, IfOk, IfErr};
 ghost use Rattle.std.specs.List.{All};

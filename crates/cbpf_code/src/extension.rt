@@ -1,3 +1,5 @@
+//! The extensions: their names, and the places of a packet that stand for them.
+
 ghost use Rattle.std.specs.Prelude.{◌≡◌, ◌+◌, ℕ, Some};
 ghost use Rattle.cbpf_code.specs.Extension as spec;
 ghost use Rattle.cbpf_code.specs.declared.extension.TheConstants.{FIRST_EXTENSION};

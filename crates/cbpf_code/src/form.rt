@@ -1,3 +1,5 @@
+//! The forms in which instructions are written.
+
 /// How the assembler writes instructions.
 #[derive(Clone, Copy, Debug, PartialEq, Eq)]
 pub enum Form {

@@ -1,3 +1,5 @@
+//! An instruction, as its four numbers.
+
 /// One instruction of classic BPF, as `struct sock_filter` of the kernel's filter documentation and
 /// `struct bpf_insn` of bpf(4).
 #[derive(Clone, Copy, PartialEq, Eq, Debug)]

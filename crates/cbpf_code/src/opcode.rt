@@ -1,3 +1,5 @@
+//! The operations, and the table of their codes.
+
 ghost use Rattle.std.specs.Prelude.{◌≡◌, ℕ, Some};
 ghost use Rattle.cbpf_code.specs.Opcode as spec;
 

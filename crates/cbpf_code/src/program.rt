@@ -1,3 +1,5 @@
+//! Checked programs.
+
 ghost use Rattle.std.specs.Prelude.{◌≡◌, ◌<◌, ◌≤◌, ℕ, Some, length, slice_get};
 ghost use Rattle.std.specs.List.{All};
 ghost use Rattle.cbpf_code.specs.Sound.{IsSound};

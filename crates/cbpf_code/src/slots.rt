@@ -1,3 +1,5 @@
+//! The slots of scratch memory along the paths of a program: the error C10.
+
 ghost use Rattle.std.specs.Prelude.{◌≡◌, ◌<◌, ◌≤◌, ◌+◌, ◌↔◌, ◌⊎◌, ℕ, Some, length, slice_get, slice_index};
 ghost use Rattle.std.specs.Prelude.{MatchOption, IsTrue};
 ghost use Rattle.cbpf_code.specs.ControlFlow as flow;

@@ -1,5 +1,5 @@
--- Which of the forms of `Table` (of the kernel's Documentation/networking/filter, and this project's own) the tokens at
--- the front of a list go along farthest.
+-- Which of the forms of `Table` (of the kernel's Documentation/networking/filter, and this project's own) the tokens
+-- at the front of a list go along farthest. No public clause names it.
 use Rattle.std.specs.Prelude.{◌≡◌, ◌≢◌, ◌≤◌, ℕ, zero, suc, Bool, false, List, [], ◌∷◌, length, Contains}
 use Rattle.std.specs.List.{common_prefix_len}
 use Rattle.cbpf_syntax.specs.declared.choice.Match.{Match}

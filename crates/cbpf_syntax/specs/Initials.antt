@@ -1,5 +1,4 @@
--- The first bytes of mnemonics, by which the reader looks them up: it is a matter of this crate alone, and no public
--- clause names it.
+-- The first bytes of mnemonics, by which the reader looks them up. No public clause names it.
 use Rattle.std.specs.Prelude.{ℕ, Bool, false, ◌==◌, List, [], ◌∷◌}
 use Rattle.cbpf_syntax.specs.Table.{Mnemonic}
 

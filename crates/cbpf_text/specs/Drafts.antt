@@ -1,5 +1,6 @@
 -- What the assembler keeps of the items that it has read, which have forms of the kernel's
--- Documentation/networking/filter and this project's own: what their instructions depend on.
+-- Documentation/networking/filter and this project's own: what their instructions depend on. No public clause names
+-- it.
 use Rattle.std.specs.Prelude.{◌≡◌, ◌≤◌, ℕ, ◌+◌, Bool, List, [], ◌∷◌, ◌++◌, length, map, Option, Some, None, bytes_eq}
 use Rattle.std.specs.Prelude.{if◌then◌else◌}
 use Rattle.std.specs.List.{AllZip}
