@@ -1,6 +1,7 @@
 -- What some bytes hold, by what they begin with.
 use Rattle.std.proofs.Common.{◌≡◌, ℕ, zero, suc, ◌+◌, ◌≤◌, ◌<◌, List, [], ◌∷◌, length, drop, arith, refl, inl, inr}
-use Rattle.std.proofs.Common.{length-drop}
+use Rattle.std.proofs.Common.{length-drop, Some}
+use Rattle.std.specs.Prelude.{slice_get}
 use Rattle.std.proofs.lemmas.Bool.{cases_lt}
 use Rattle.std.proofs.lemmas.Bool.Decides.{nat_tests}
 use Rattle.pcap_classic.specs.declared.captured.{Endianness.Endianness, Extent.Extent, TheConstants.RECORD_HEADER}
@@ -76,3 +77,14 @@ holds-once order n place _ _ rs' how how' (whole_record bytes a h) k =
     let there = rw (extent-whole order bytes a) at (has_extent order n place bytes rs' how' k) in
     let rest = holds-once order _ _ _ _ there.2 how how' h there.4 in
     (cc, rest.1)
+
+-- the records of some bytes are numbered on
+pub holds-numbered : (order : Endianness) (n place : ℕ) (bytes : List ℕ) (rs : List Record) (how : Ending)
+    → Holds order n place bytes rs how → (i : ℕ) (r : Record) → slice_get rs i ≡ Some r → r.number ≡ n + i
+holds-numbered order n place _ _ _ no_bytes i r at = absurd cc
+holds-numbered order n place _ _ _ (part_of_header bytes a b) i r at = absurd cc
+holds-numbered order n place _ _ _ (part_of_data bytes a b) i r at = absurd cc
+holds-numbered order n place _ _ _ (whole_record bytes a h) zero r at =
+    let same : record_at order n place bytes ≡ r = cc in rw (← same) (omega arith)
+holds-numbered order n place _ _ _ (whole_record bytes a h) (suc i) r at =
+    let is = holds-numbered order _ _ _ _ _ h i r at in omega (arith, is)

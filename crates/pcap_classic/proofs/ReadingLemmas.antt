@@ -14,16 +14,16 @@ use Rattle.pcap_classic.specs.declared.captured.Endianness.TheVariants.{Big, Lit
 use Rattle.pcap_classic.specs.declared.captured.Extent.TheVariants.{Nothing, PartOfHeader, PartOfData, WholeRecord}
 use Rattle.pcap_classic.specs.declared.ending.Ending.{Ending}
 use Rattle.pcap_classic.specs.declared.header.{HeaderFault.HeaderFault, FileHeader.FileHeader, TheConstants.FILE_HEADER}
-use Rattle.pcap_classic.specs.Records.{Record, record_at, record_length}
-use Rattle.pcap_classic.specs.Savefile.{IsSavefile, IsRefusal, capture_fault}
+use Rattle.pcap_classic.specs.Records.{AreNumbered, Record, record_at, record_length}
+use Rattle.pcap_classic.specs.Savefile.{Savefile, IsSavefile, IsRefusal, capture_fault}
 use Rattle.pcap_classic.specs.Contents.{extent_of, header_of, savefile_from}
 use Rattle.pcap_classic.specs.Index.{ending_by}
-use Rattle.pcap_classic.specs.Reading.{Gives, NeedsRoom}
+use Rattle.pcap_classic.specs.Reading.{Gives, HasRecord, NeedsRoom}
 use Rattle.pcap_classic.specs.declared.reading.ReadFault.{ReadFault, TheVariants.Memory, TheVariants.Read}
 use Rattle.pcap_classic.specs.declared.window.TheConstants.{ROOM}
 use Rattle.pcap_classic.specs.Lent.{record_of}
 use Rattle.pcap_classic.specs.declared.captured.Captured.{Captured}
-use Rattle.pcap_classic.proofs.HoldsLemmas.{has_extent, contents-hold, holds-once, extent-data, extent-whole}
+use Rattle.pcap_classic.proofs.HoldsLemmas.{has_extent, contents-hold, holds-numbered, holds-once, extent-data, extent-whole}
 use Rattle.pcap_classic.proofs.SavefileLemmas.{header-says, same_savefile}
 
 -- ---- numbers and records in the first bytes
@@ -88,6 +88,13 @@ left-whole header n place size xs ys e =
     (contents-hold (length (drop size xs ++ ys)) order (n + 1) (place + size) (drop size xs ++ ys) (omega arith)) rest in
     same_savefile _ _ refl refl (own.3 ∙ ap (λ (r : Record). r ∷ own.2) f.same ∙ ap (λ (rs : List Record). record_at order n place xs ∷ rs) same.0) same.1
 
+pub has-record : (header : FileHeader) (n place size : ℕ) (bytes : List ℕ) (b : Option (List ℕ))
+    → extent_of header.magic.order bytes ≡ WholeRecord size
+    → IfSome (option_map (savefile_from header n place) (prepend_known bytes b)) HasRecord
+has-record header n place size bytes None e = tt
+has-record header n place size bytes (Some rest) e = λ none.
+    let whole = ap (λ (s : Savefile). s.records) (left-whole header n place size bytes rest e) in absurd cc
+
 -- what is left with no whole record in front
 left-none : (header : FileHeader) (n place : ℕ) (bytes : List ℕ) (extent : Extent)
     → extent_of header.magic.order bytes ≡ extent → ((size : ℕ) → extent ≡ WholeRecord size → ⊥)
@@ -100,6 +107,15 @@ left-none header n place bytes PartOfHeader e none =
     rw e at (has_extent header.magic.order n place bytes _ _ (contents-hold (length bytes) header.magic.order n place bytes (omega arith)))
 left-none header n place bytes PartOfData e none =
     rw e at (has_extent header.magic.order n place bytes _ _ (contents-hold (length bytes) header.magic.order n place bytes (omega arith)))
+
+pub left-numbered : (header : FileHeader) (count place : ℕ) (bytes : Option (List ℕ))
+    → IfSome (option_map (savefile_from header (count + 1) place) bytes) (λ c. AreNumbered count c.records)
+left-numbered header count place None = tt
+left-numbered header count place (Some bytes) = λ i r at.
+    let order : Endianness = header.magic.order in
+    let is = holds-numbered order (count + 1) place bytes _ _
+    (contents-hold (length bytes) order (count + 1) place bytes (omega arith)) i r at in
+    omega (arith, is)
 
 -- ---- a step
 

@@ -1,4 +1,4 @@
--- What the index of a capture says of its bytes: it is a matter of this crate alone, and no public clause names it.
+-- What the index of a capture says of its bytes. No public clause names it.
 use Rattle.std.specs.Prelude.{◌≡◌, ℕ, ◌+◌, ◌-◌, ◌*◌, ◌≤◌, ◌<◌, ◌^◌, List, length, drop, slice_index}
 use Rattle.pcap_classic.specs.Records.{Holds}
 use Rattle.pcap_classic.specs.Contents.{contents}

@@ -1,5 +1,5 @@
 -- What a reader of a capture has read, and what is left of the capture.
-use Rattle.std.specs.Prelude.{◌≡◌, ℕ, ◌+◌, ◌<◌, ◌^◌, List, [], ◌∷◌, length, Option, Some, None, Result, Ok, Err, IsSome, ⊤}
+use Rattle.std.specs.Prelude.{◌≡◌, ◌≢◌, ℕ, ◌+◌, ◌<◌, ◌^◌, List, [], ◌∷◌, length, Option, Some, None, Result, Ok, Err, IsSome, ⊤}
 use Rattle.pcap_classic.specs.Lent.{record_of}
 use Rattle.pcap_classic.specs.Records.{Record}
 use Rattle.pcap_classic.specs.Savefile.{Savefile, IsRefusal, capture_fault}
@@ -39,6 +39,10 @@ Proceeds before (Ok (Some item)) new = (item.number ≡ before + 1) × (new.coun
     × (new.ended ≡ None)
 Proceeds before (Ok None) new = (new.count ≡ before) × IsSome new.ended
 Proceeds before (Err e) new = (new.count ≡ before) × (new.ended ≡ None)
+
+-- a whole record is left of a capture, so that a read that does not fail gives it
+abbrev pub HasRecord : Savefile → Type 0
+HasRecord s = s.records ≢ []
 
 -- the bytes have this fault of the header; of another fault nothing is said
 abbrev pub IsOpenFault : List ℕ → OpenFault → Type 0

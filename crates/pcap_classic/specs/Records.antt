@@ -19,6 +19,10 @@ pub record Record : Type 0 where
 abbrev pub StartsAt : List Record → ℕ → ℕ → Type 0
 StartsAt records n start = (r : Record) → slice_get records (n - 1) ≡ Some r → start ≡ r.start
 
+-- the records have the numbers after this one, one after another
+abbrev pub AreNumbered : ℕ → List Record → Type 0
+AreNumbered before records = (i : ℕ) (r : Record) → slice_get records i ≡ Some r → r.number ≡ before + i + 1
+
 -- the length of a record with its header of 16 bytes, whose third number is the captured length
 abbrev pub record_length : Endianness → List ℕ → ℕ
 record_length order bytes = RECORD_HEADER + number_at order 8 4 bytes

@@ -7,7 +7,7 @@ ghost use Rattle.std.specs.Io.KnownBytes.{Keeps, IsAtEnd, prepend_known};
 ghost use Rattle.pcap_classic.specs.Records as records;
 ghost use Rattle.pcap_classic.specs.Savefile.{IsSavefile};
 ghost use Rattle.pcap_classic.specs.Contents as spec;
-ghost use Rattle.pcap_classic.specs.Reading.{Proceeds, Gives, IsOpenFault};
+ghost use Rattle.pcap_classic.specs.Reading.{Proceeds, Gives, HasRecord, IsOpenFault};
 ghost use Rattle.pcap_classic.specs.declared.captured.{Extent.TheVariants.WholeRecord, TheConstants.RECORD_HEADER};
 ghost use Rattle.pcap_classic.specs.declared.reading.ReadFault.TheVariants.{Memory};
 ghost use Rattle.pcap_classic.specs.declared.window.TheConstants.{ROOM};
@@ -181,6 +181,18 @@ impl<R: Read, A: Allocator> CaptureReader<R, A> {
         self.header.link
     }
 
+    /// Whether the bytes of a whole next record were read, so that `next_record` lends it without a read.
+    #[inline]
+    pub fn has_next(&self) -> bool
+        ensures { result ≡ true → IfSome self.now.left HasRecord }
+    {
+        needed(
+            self.header.magic.order,
+            &self.window.as_slice()[self.last..],
+        )
+        .is_none()
+    }
+
     /// The next record, which is lent until the reader is used again; `None` after the last whole one.
     ///
     /// After `None` nothing has to be read again, and [`CaptureReader::ending`] says how the capture ends. A further call
@@ -217,6 +229,15 @@ impl<R: Read, A: Allocator> CaptureReader<R, A> {
         }
         self.ending = Some(ending_by(extent, start));
         Ok(None)
+    }
+
+    /// How many records were read. The numbers of the records that are left go on from there.
+    #[inline]
+    pub fn count(&self) -> u64
+        ensures value { result ≡ self.now.count }
+        ensures numbered { IfSome self.now.left (λ c. records.AreNumbered self.now.count c.records) }
+    {
+        self.count
     }
 
     /// How the capture ends, where the last call of `next_record` gave `None`; else `None`.
