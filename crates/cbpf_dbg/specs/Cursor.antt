@@ -1,4 +1,4 @@
--- A cursor over the entries of a capture: it is a matter of this crate alone, and no public clause names it.
+-- A cursor over the entries of a capture. No public clause names it.
 use Rattle.std.specs.Prelude.{◌≡◌, ℕ, ◌+◌, ◌-◌, ◌≤◌, ◌<◌, List, ◌∷◌, length, slice_get, drop, Option, Some, None}
 use Rattle.std.specs.Prelude.{min, ◌⊎◌, ◌^◌}
 use Rattle.cbpf_code.specs.Sound.{IsSound}

@@ -1,4 +1,4 @@
--- How a run goes on over the packets of a capture: it is a matter of this crate alone, and no public clause names it.
+-- How a run goes on over the packets of a capture. No public clause names it.
 use Rattle.std.specs.Prelude.{◌≡◌, ℕ, ◌+◌, ◌*◌, ◌<◌, ◌≤◌, ◌^◌, List, length, Bool, true, false}
 use Rattle.cbpf_code.specs.declared.checker.TheConstants.{MAX_INSTRUCTIONS}
 use Rattle.cbpf_machine.specs.Machine.{Machine, machine_of}

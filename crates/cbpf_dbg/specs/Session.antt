@@ -1,4 +1,4 @@
--- How the parts of a session fit together: a matter of this crate alone, which no public clause names.
+-- How the parts of a session fit together. No public clause names it.
 use Rattle.std.specs.Prelude.{◌≡◌, ℕ, ◌-◌, ◌<◌, ◌≤◌, List, Bool, true, Option, Some, None, length, take}
 use Rattle.std.specs.Prelude.{◌≢◌, slice_get, nat_eq, ◌||◌}
 use Rattle.std.specs.Map.{lookup}

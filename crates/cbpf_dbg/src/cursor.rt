@@ -220,6 +220,8 @@ pub(crate) fn enter_packet<A: Allocator>(
 }
 
 /// The stop at the entry of a cursor, whose instruction is read without a turn.
+// Inlined, so that a stop is made where it is wanted, and not copied.
+#[inline(always)]
 pub(crate) fn stop_at<A: Allocator>(loaded: &Loaded<'_, A>, cursor: &Cursor, reason: Why) -> Stop
     requires { cursor.now.state.pc < length loaded.now.program.now }
     ensures { (r : Record) → result ≡ joined.stop_at reason (entry_here (machine_in loaded.now) r cursor.now) }

@@ -1,3 +1,5 @@
+//! Arithmetic and comparisons.
+
 ghost use Rattle.std.specs.Prelude.{◌≡◌};
 ghost use Rattle.cbpf_machine.specs.Turn as spec;
 

@@ -1,3 +1,5 @@
+//! A trail that stores every state.
+
 ghost use Rattle.std.specs.Prelude.{◌≡◌, [], IfOk};
 
 use crate::load::Packet;

@@ -1,3 +1,5 @@
+//! Packets, and loads from them.
+
 ghost use Rattle.std.specs.Prelude.{◌≡◌};
 ghost use Rattle.cbpf_machine.specs.PacketNumber.{packet_number};
 ghost use Rattle.cbpf_machine.specs.Turn.{width};

@@ -1,3 +1,5 @@
+//! The extension that an instruction asks for and that has no value.
+
 ghost use Rattle.std.specs.Prelude.{◌≡◌, ℕ, List, Some, slice_get};
 ghost use Rattle.cbpf_code.specs.declared.insn.Insn.{Insn};
 ghost use Rattle.cbpf_code.specs.Faults.{loads_absolute};

@@ -1,3 +1,5 @@
+//! What a turn gives, and how a packet ends.
+
 use crate::state::State;
 use cbpf_code::Ext;
 

@@ -39,7 +39,11 @@ impl PacketEnd {
 /// Runs a program on a packet as `run_packet` does: where and why the packet ended.
 ///
 /// The meter is at least twice `MAX_INSTRUCTIONS` turns below 2 to the 128 before.
-pub fn end_of_packet<A: Allocator>(
+///
+/// `COPY` is a number from 3, which changes no answer. A caller that alone gives its number has a copy of its own,
+/// inlined.
+#[inline(always)]
+pub fn end_of_packet<A: Allocator, const COPY: u32>(
     meter: &mut Meter,
     p: &Program<A>,
     packet: Packet<'_>,
@@ -59,7 +63,7 @@ pub fn end_of_packet<A: Allocator>(
     let _few = p.len();
     let mut core = Core::zero();
     let mut slots = [0; SLOTS];
-    let (turns, end) = make_turns::<_, A, 3>(
+    let (turns, end) = make_turns::<_, A, COPY>(
         &Never, false, None, p, packet, values, &mut core, &mut slots,
     );
     meter.add(turns);

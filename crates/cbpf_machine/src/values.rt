@@ -1,3 +1,5 @@
+//! Values for extensions.
+
 ghost use Rattle.std.specs.Prelude.{◌≡◌, ◌≢◌, ◌<◌, Some, None, true, false};
 ghost use Rattle.cbpf_code.specs.declared.extension.Ext.{Ext as AnExt};
 ghost use Rattle.cbpf_machine.specs.Values as spec;

@@ -1,3 +1,5 @@
+//! A packet from its start to its end.
+
 ghost use Rattle.std.specs.Prelude.{◌≡◌, ◌≤◌, ◌+◌, ◌*◌, ◌^◌, length};
 ghost use Rattle.cbpf_code.specs.declared.checker.TheConstants.{MAX_INSTRUCTIONS};
 ghost use Rattle.cbpf_machine.specs.Machine.{machine_of};
@@ -32,5 +34,5 @@ pub fn run_packet<A: Allocator>(
         (spec.trace (machine_of p.now values.now) packet.entry.bytes.now packet.entry.wire) }
 {
     let _sound = p.len();
-    end_of_packet(meter, p, packet, values).outcome()
+    end_of_packet::<A, 3>(meter, p, packet, values).outcome()
 }
