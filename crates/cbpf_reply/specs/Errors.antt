@@ -1,12 +1,12 @@
 -- The lines `error: ..`, each once: refusals by their numbers, and out of memory (this project's own).
-use Rattle.std.specs.Prelude.{ℕ, List, codes}
+use Rattle.std.specs.Prelude.{ℕ, List, [], ◌∷◌, codes, decimal}
 use Rattle.cbpf_code.specs.declared.words.WordFault.{WordFault}
 use Rattle.cbpf_code.specs.declared.words.WordFault.TheVariants as word
 use Rattle.cbpf_code.specs.declared.checker.CheckFault.{CheckFault}
 use Rattle.cbpf_code.specs.declared.checker.CheckFault.TheVariants as check
 use Rattle.pcap_classic.specs.declared.header.CaptureFault.{CaptureFault}
 use Rattle.pcap_classic.specs.declared.header.CaptureFault.TheVariants as capture
-use Rattle.cbpf_code.specs.Text.{with_number}
+use Rattle.cbpf_code.specs.Text.{concat, with_number}
 use Rattle.cbpf_reply.specs.declared.errors.CommandFault.{CommandFault}
 use Rattle.cbpf_reply.specs.declared.errors.CommandFault.TheVariants as command
 use Rattle.cbpf_reply.specs.declared.errors.LoadFault.{LoadFault}
@@ -20,9 +20,11 @@ use Rattle.cbpf_reply.specs.declared.reply.SessionFault.TheVariants.{NoPacket, N
 use Rattle.cbpf_reply.specs.declared.reply.SessionFault.TheVariants.{Memory}
 
 abbrev pub error_line_text : ErrorLine → List ℕ
-error_line_text (Text text) = text.now
-error_line_text (Number before n after) = with_number before.now n after.now
-error_line_text (Numbers before m between n after) = with_numbers before.now m between.now n after.now
+error_line_text (Text text) = concat (codes "error: " ∷ text.now ∷ codes "\n" ∷ [])
+error_line_text (Number before n after) =
+    concat (codes "error: " ∷ before.now ∷ decimal n ∷ after.now ∷ codes "\n" ∷ [])
+error_line_text (Numbers before m between n after) =
+    concat (codes "error: " ∷ before.now ∷ decimal m ∷ between.now ∷ decimal n ∷ after.now ∷ codes "\n" ∷ [])
 
 abbrev pub memory_text : List ℕ
 memory_text = codes "error: out of memory\n"

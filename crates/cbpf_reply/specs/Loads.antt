@@ -1,5 +1,5 @@
 -- The replies to a program and to a capture that were loaded (this project's own).
-use Rattle.std.specs.Prelude.{ℕ, ◌++◌, List, length, codes}
+use Rattle.std.specs.Prelude.{ℕ, ◌++◌, List, [], length, codes}
 use Rattle.pcap_classic.specs.Savefile.{Savefile}
 use Rattle.pcap_classic.specs.declared.ending.Ending.{Ending}
 use Rattle.pcap_classic.specs.declared.ending.Ending.TheVariants.{Whole, CutHeader, CutData}
@@ -14,5 +14,15 @@ ending_text Whole = codes "\n"
 ending_text (CutHeader place) = with_number (codes ", cut record header at ") place (codes "\n")
 ending_text (CutData place) = with_number (codes ", cut record data at ") place (codes "\n")
 
+-- how many packets a capture has, and where it is cut, if it is
+abbrev pub packets_text : ℕ → Ending → List ℕ
+packets_text count how = with_number (codes "pcap: ") count (codes " packets") ++ ending_text how
+
 abbrev pub capture_text : Savefile → List ℕ
-capture_text c = with_number (codes "pcap: ") (length c.records) (codes " packets") ++ ending_text c.ending
+capture_text c = packets_text (length c.records) c.ending
+
+-- the same where it is cut
+abbrev pub cut_text : ℕ → Ending → List ℕ
+cut_text count Whole = []
+cut_text count (CutHeader place) = packets_text count (CutHeader place)
+cut_text count (CutData place) = packets_text count (CutData place)

@@ -6,10 +6,11 @@ ghost use Rattle.cbpf_reply.specs.Errors as spec;
 
 use crate::errors::ErrorLine::{Number, Numbers, Text};
 use crate::reply::SessionFault;
-use cbpf_code::{CheckFault, WordFault, WriteFault, write_bytes, write_parts, write_with_number};
+use cbpf_code::{CheckFault, WordFault, WriteFault, write_parts};
 use itoa::Buffer;
 use pcap_classic::CaptureFault;
 use std::io::Write;
+use thiserror::Error;
 
 /// Why a line is no command.
 #[derive(Clone, Copy, Debug, PartialEq, Eq)]
@@ -31,33 +32,32 @@ pub enum LoadFault {
     Memory,
 }
 
-const OUT_OF_MEMORY: &'static [u8] = b"error: out of memory\n";
+const OUT_OF_MEMORY: &str = "out of memory";
 
-const NO_PROGRAM: &'static [u8] = b"error: S1 no program\n";
+const NO_PROGRAM: &str = "S1 no program";
 
 /// Writes that it is out of memory.
 pub fn write_out_of_memory<W: Write>(w: &mut W) -> Result<(), WriteFault>
     ensures { Wrote (W.contents w.old) (W.contents w.new) result spec.memory_text }
 {
-    write_bytes(w, OUT_OF_MEMORY)
+    write_error_line(w, Text(OUT_OF_MEMORY))
 }
 
 /// Writes S1: no program is loaded.
 pub fn write_no_program<W: Write>(w: &mut W) -> Result<(), WriteFault>
     ensures { Wrote (W.contents w.old) (W.contents w.new) result spec.no_program_text }
 {
-    write_bytes(w, NO_PROGRAM)
+    write_error_line(w, Text(NO_PROGRAM))
 }
 
 /// Writes why a line is no command.
 pub fn write_command_fault<W: Write>(w: &mut W, fault: CommandFault) -> Result<(), WriteFault>
     ensures { Wrote (W.contents w.old) (W.contents w.new) result (spec.command_fault_text fault) }
 {
-    let text: &[u8] = match fault {
-        CommandFault::UnknownCommand => b"error: Q1 unknown command\n",
-        CommandFault::WrongArguments => b"error: Q2 wrong arguments\n",
-    };
-    write_bytes(w, text)
+    match fault {
+        CommandFault::UnknownCommand => write_error_line(w, Text("Q1 unknown command")),
+        CommandFault::WrongArguments => write_error_line(w, Text("Q2 wrong arguments")),
+    }
 }
 
 /// Writes why a file was not loaded.
@@ -65,18 +65,22 @@ pub fn write_load_fault<W: Write>(w: &mut W, fault: LoadFault) -> Result<(), Wri
     ensures { Wrote (W.contents w.old) (W.contents w.new) result (spec.load_fault_text fault) }
 {
     match fault {
-        LoadFault::Absent => write_bytes(w, b"error: F1 no such file\n"),
-        LoadFault::Device => write_bytes(w, b"error: F2 file could not be read\n"),
+        LoadFault::Absent => write_error_line(w, Text("F1 no such file")),
+        LoadFault::Device => write_error_line(w, Text("F2 file could not be read")),
         LoadFault::Memory => write_out_of_memory(w),
     }
 }
 
-/// A line of an error: texts, and numbers between them. Where faults have many lines, these are data, so that each
-/// is written at one place.
-enum ErrorLine {
-    Text(&'static [u8]),
-    Number(&'static [u8], u64, &'static [u8]),
-    Numbers(&'static [u8], u64, &'static [u8], u64, &'static [u8]),
+/// What a line of an error says: texts, and numbers between them. Where faults have many lines, these are data, so that
+/// each is written at one place.
+#[derive(Clone, Copy, Debug, Error)]
+pub enum ErrorLine {
+    #[error("{0}")]
+    Text(&'static str),
+    #[error("{0}{1}{2}")]
+    Number(&'static str, u64, &'static str),
+    #[error("{0}{1}{2}{3}{4}")]
+    Numbers(&'static str, u64, &'static str, u64, &'static str),
 }
 
 /// Writes the line of a refusal.
@@ -84,40 +88,40 @@ fn write_error_line<W: Write>(w: &mut W, line: ErrorLine) -> Result<(), WriteFau
     ensures { Wrote (W.contents w.old) (W.contents w.new) result (spec.error_line_text line) }
 {
     match line {
-        Text(text) => write_bytes(w, text),
-        Number(before, n, after) => write_with_number(w, before, n, after),
+        Text(text) => write_parts(w, &[b"error: ", text.as_bytes(), b"\n"]),
+        Number(before, n, after) => {
+            let mut number = Buffer::new();
+            let n = number.format(n).as_bytes();
+            let (before, after) = (before.as_bytes(), after.as_bytes());
+            write_parts(w, &[b"error: ", before, n, after, b"\n"])
+        }
         Numbers(before, m, between, n, after) => {
             let (mut first, mut second) = (Buffer::new(), Buffer::new());
             let (m, n) = (first.format(m).as_bytes(), second.format(n).as_bytes());
-            write_parts(w, &[before, m, between, n, after])
+            let (before, between) = (before.as_bytes(), between.as_bytes());
+            let after = after.as_bytes();
+            write_parts(w, &[b"error: ", before, m, between, n, after, b"\n"])
         }
     }
 }
 
-fn word_fault_line(fault: WordFault) -> ErrorLine
+/// What the line of a word text's refusal says after `error: `.
+pub fn word_fault_line(fault: WordFault) -> ErrorLine
     ensures { spec.error_line_text result ≡ spec.word_fault_text fault }
 {
     match fault {
         WordFault::Memory => Text(OUT_OF_MEMORY),
-        WordFault::NumberExpected(at) => {
-            Number(b"error: N1 at byte ", at as u64, b": number expected\n")
-        }
-        WordFault::OutOfRange(at) => {
-            Number(b"error: N2 at byte ", at as u64, b": number out of range\n")
-        }
-        WordFault::UnexpectedByte(at) => {
-            Number(b"error: N3 at byte ", at as u64, b": unexpected byte\n")
-        }
+        WordFault::NumberExpected(at) => { Number("N1 at byte ", at as u64, ": number expected") }
+        WordFault::OutOfRange(at) => { Number("N2 at byte ", at as u64, ": number out of range") }
+        WordFault::UnexpectedByte(at) => { Number("N3 at byte ", at as u64, ": unexpected byte") }
         WordFault::CountDiffers { said, found } => Numbers(
-            b"error: N4 count says ",
+            "N4 count says ",
             said as u64,
-            b", found ",
+            ", found ",
             found as u64,
-            b"\n",
+            "",
         ),
-        WordFault::CommaExpected(at) => {
-            Number(b"error: N5 at byte ", at as u64, b": comma expected\n")
-        }
+        WordFault::CommaExpected(at) => { Number("N5 at byte ", at as u64, ": comma expected") }
     }
 }
 
@@ -128,25 +132,24 @@ pub fn write_word_fault<W: Write>(w: &mut W, fault: WordFault) -> Result<(), Wri
     write_error_line(w, word_fault_line(fault))
 }
 
-fn check_line(fault: CheckFault) -> ErrorLine
+/// What the line of the checker's refusal says after `error: `.
+pub fn check_fault_line(fault: CheckFault) -> ErrorLine
     ensures { spec.error_line_text result ≡ spec.check_fault_text fault }
 {
     match fault {
-        CheckFault::NoInstruction => Text(b"error: C1 no instruction\n"),
-        CheckFault::TooMany => Text(b"error: C2 more than 4096 instructions\n"),
-        CheckFault::UnknownCode(i) => Number(b"error: C3 at ", i as u64, b": unknown code\n"),
-        CheckFault::NoSlot(i) => Number(b"error: C4 at ", i as u64, b": no such scratch slot\n"),
-        CheckFault::ZeroDivisor(i) => Number(b"error: C5 at ", i as u64, b": division by zero\n"),
-        CheckFault::WideShift(i) => Number(b"error: C6 at ", i as u64, b": shift of 32 or more\n"),
-        CheckFault::JumpOutside(i) => Number(b"error: C7 at ", i as u64, b": jump outside\n"),
-        CheckFault::UnknownExtension(i) => {
-            Number(b"error: C8 at ", i as u64, b": unknown extension\n")
-        }
-        CheckFault::NoReturn => Text(b"error: C9 last instruction is no return\n"),
+        CheckFault::NoInstruction => Text("C1 no instruction"),
+        CheckFault::TooMany => Text("C2 more than 4096 instructions"),
+        CheckFault::UnknownCode(i) => Number("C3 at ", i as u64, ": unknown code"),
+        CheckFault::NoSlot(i) => Number("C4 at ", i as u64, ": no such scratch slot"),
+        CheckFault::ZeroDivisor(i) => Number("C5 at ", i as u64, ": division by zero"),
+        CheckFault::WideShift(i) => Number("C6 at ", i as u64, ": shift of 32 or more"),
+        CheckFault::JumpOutside(i) => Number("C7 at ", i as u64, ": jump outside"),
+        CheckFault::UnknownExtension(i) => { Number("C8 at ", i as u64, ": unknown extension") }
+        CheckFault::NoReturn => Text("C9 last instruction is no return"),
         CheckFault::UnwrittenSlot(i) => Number(
-            b"error: C10 at ",
+            "C10 at ",
             i as u64,
-            b": scratch slot read before it is written\n",
+            ": scratch slot read before it is written",
         ),
     }
 }
@@ -155,20 +158,26 @@ fn check_line(fault: CheckFault) -> ErrorLine
 pub fn write_check_fault<W: Write>(w: &mut W, fault: CheckFault) -> Result<(), WriteFault>
     ensures { Wrote (W.contents w.old) (W.contents w.new) result (spec.check_fault_text fault) }
 {
-    write_error_line(w, check_line(fault))
+    write_error_line(w, check_fault_line(fault))
+}
+
+/// What the line of a capture's refusal says after `error: `.
+pub fn capture_fault_line(fault: CaptureFault) -> ErrorLine
+    ensures { spec.error_line_text result ≡ spec.capture_fault_text fault }
+{
+    match fault {
+        CaptureFault::FileHeaderCut => Text("P1 file header is cut"),
+        CaptureFault::UnknownMagic => Text("P2 unknown magic"),
+        CaptureFault::UnknownVersion => Text("P3 version is not 2.4"),
+        CaptureFault::Memory => Text(OUT_OF_MEMORY),
+    }
 }
 
 /// Writes the line of a capture's refusal, with its number, or that it is out of memory.
 pub fn write_capture_fault<W: Write>(w: &mut W, fault: CaptureFault) -> Result<(), WriteFault>
     ensures { Wrote (W.contents w.old) (W.contents w.new) result (spec.capture_fault_text fault) }
 {
-    let text: &[u8] = match fault {
-        CaptureFault::FileHeaderCut => b"error: P1 file header is cut\n",
-        CaptureFault::UnknownMagic => b"error: P2 unknown magic\n",
-        CaptureFault::UnknownVersion => b"error: P3 version is not 2.4\n",
-        CaptureFault::Memory => OUT_OF_MEMORY,
-    };
-    write_bytes(w, text)
+    write_error_line(w, capture_fault_line(fault))
 }
 
 fn session_line(fault: SessionFault) -> ErrorLine
@@ -176,14 +185,14 @@ fn session_line(fault: SessionFault) -> ErrorLine
 {
     match fault {
         SessionFault::NoProgram => Text(NO_PROGRAM),
-        SessionFault::NoCapture => Text(b"error: S2 no capture\n"),
-        SessionFault::NoPackets => Text(b"error: S3 capture has no packets\n"),
-        SessionFault::NoInstruction => Text(b"error: S4 no such instruction\n"),
-        SessionFault::NoPacket => Text(b"error: S5 no such packet\n"),
-        SessionFault::NoStep(steps) => Number(b"error: S6 packet has ", steps as u64, b" steps\n"),
-        SessionFault::TooFarBack(most) => Number(b"error: S7 at most ", most as u64, b" back\n"),
-        SessionFault::ZeroCount => Text(b"error: S8 count is zero\n"),
-        SessionFault::NoValue => Text(b"error: S9 no value for this extension\n"),
+        SessionFault::NoCapture => Text("S2 no capture"),
+        SessionFault::NoPackets => Text("S3 capture has no packets"),
+        SessionFault::NoInstruction => Text("S4 no such instruction"),
+        SessionFault::NoPacket => Text("S5 no such packet"),
+        SessionFault::NoStep(steps) => Number("S6 packet has ", steps as u64, " steps"),
+        SessionFault::TooFarBack(most) => Number("S7 at most ", most as u64, " back"),
+        SessionFault::ZeroCount => Text("S8 count is zero"),
+        SessionFault::NoValue => Text("S9 no value for this extension"),
         SessionFault::Memory => Text(OUT_OF_MEMORY),
     }
 }

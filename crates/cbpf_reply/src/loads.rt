@@ -15,16 +15,13 @@ pub fn write_program<W: Write>(w: &mut W, count: u32) -> Result<(), WriteFault>
     write_with_number(w, b"bpf: ", u64::from(count), b" instructions\n")
 }
 
-/// Writes the reply to a capture that was loaded: how many packets it has, and where it is cut, if it is.
-pub fn write_capture<W: Write, A: Allocator>(
-    w: &mut W,
-    capture: &Capture<A>,
-) -> Result<(), WriteFault>
-    ensures { Wrote (W.contents w.old) (W.contents w.new) result (spec.capture_text capture.now) }
+/// Writes how many packets a capture has, and where it is cut, if it is.
+fn write_packets<W: Write>(w: &mut W, count: u64, ending: Ending) -> Result<(), WriteFault>
+    ensures { Wrote (W.contents w.old) (W.contents w.new) result (spec.packets_text count ending) }
 {
     let mut line = Line::new();
     line.put(b"\n");
-    match capture.ending() {
+    match ending {
         Ending::Whole => {}
         Ending::CutHeader(place) => {
             line.put_u64(place as u64);
@@ -36,7 +33,28 @@ pub fn write_capture<W: Write, A: Allocator>(
         }
     }
     line.put(b" packets");
-    line.put_u64(capture.count());
+    line.put_u64(count);
     line.put(b"pcap: ");
     line.write(w)
+}
+
+/// Writes the reply to a capture that was loaded: how many packets it has, and where it is cut, if it is.
+pub fn write_capture<W: Write, A: Allocator>(
+    w: &mut W,
+    capture: &Capture<A>,
+) -> Result<(), WriteFault>
+    ensures { Wrote (W.contents w.old) (W.contents w.new) result (spec.capture_text capture.now) }
+{
+    write_packets(w, capture.count(), capture.ending())
+}
+
+/// Writes the same of a capture of so many packets, where it is cut.
+#[tactic(auto, using(cbpf_code::proofs::WrittenLemmas::steps))]
+pub fn write_cut<W: Write>(w: &mut W, count: u64, ending: Ending) -> Result<(), WriteFault>
+    ensures { Wrote (W.contents w.old) (W.contents w.new) result (spec.cut_text count ending) }
+{
+    match ending {
+        Ending::Whole => Ok(()),
+        Ending::CutHeader(_) | Ending::CutData(_) => write_packets(w, count, ending),
+    }
 }
