@@ -1,0 +1,9 @@
+pub mod StepLemmas
+pub mod TextLemmas
+pub mod GroupLemmas
+pub mod FilterLemmas
+pub mod JobLemmas
+pub mod RangeLemmas
+pub mod ReportLemmas
+pub mod BlockLemmas
+pub mod LawLemmas

@@ -1,0 +1,266 @@
+-- Packets of ranges, which are taken one range after another.
+use Rattle.std.proofs.Common.{◌≡◌, ℕ, zero, suc, ◌<◌, ◌≤◌, List, [], ◌∷◌, ◌++◌, length, take, arith, refl, sym, ap, ◌∙◌}
+use Rattle.std.proofs.Common.{length-append, append_assoc, inl, inr, take_all}
+use Rattle.std.specs.Prelude.{Bool, true, false, Option, Some, None, filter, nat_le, slice_get, if◌then◌else◌}
+use Rattle.std.specs.List.{All, list_any}
+use Rattle.std.proofs.lemmas.Bool.{cases_lt}
+use Rattle.std.proofs.lemmas.Bool.Decides.{nat_tests}
+use Rattle.std.proofs.lemmas.Grind.{flat_map-append}
+use Rattle.std.proofs.lemmas.List.Elements.{filter-append}
+use Rattle.std.proofs.lemmas.List.Folds.{list_any_at}
+use Rattle.std.proofs.lemmas.Option.{get_or_from_slice_get, slice_get_within}
+use Rattle.cbpf_code.proofs.WrittenLemmas.{appended-then, part-then}
+use Rattle.cbpf_code.specs.Writing.{Appended}
+use Rattle.pcap_classic.specs.Reading.{Reading}
+use Rattle.pcap_classic.specs.Records.{Record}
+use Rattle.pcap_classic.specs.Savefile.{Savefile}
+use Rattle.cbpf_why.specs.Chosen.{AreSorted, chosen, is_chosen, is_within}
+use Rattle.cbpf_why.specs.Job.{Broke, Faulted, IsFirstAbove, IsOver, Looked, LookedKnown, Ranged, Reads, ReadsKnown, Stopped, Took, Went, machine_in}
+use Rattle.cbpf_why.specs.Reports.{EndsBy, IsNext, packet_text, packets_text}
+use Rattle.cbpf_why.specs.declared.chosen.PacketRange.{PacketRange}
+use Rattle.cbpf_why.specs.declared.counted.Counted.{Counted}
+use Rattle.cbpf_why.specs.declared.job.Question.{Question}
+use Rattle.cbpf_why.specs.declared.job.WhyFault.{WhyFault}
+use Rattle.cbpf_why.specs.declared.job.WhyFault.TheVariants as why
+
+-- ---- which ranges a number stands in
+
+untrue : (b : Bool) → (b ≡ true → ⊥) → b ≡ false
+untrue true h = absurd (h refl)
+untrue false h = refl
+
+rest_of : {X : Type 0} (P : X → Type 0) (x : X) (xs : List X) → All P (x ∷ xs) → All P xs
+rest_of P x xs h = λ k d l. h (suc k) d (omega (arith, l))
+
+beyond : (count n : ℕ) (x : PacketRange) → EndsBy count x → count < n → is_within n x ≡ false
+beyond count n x h above = untrue (is_within n x) (λ e. let most = h n e in absurd (omega (arith, most, above)))
+
+pub none_above : (count n : ℕ) (ranges : List PacketRange) → All (EndsBy count) ranges → count < n
+    → list_any (is_within n) ranges ≡ false
+none_above count n [] h above = refl
+none_above count n (x ∷ xs) h above =
+    let here = beyond count n x (h 0 x (omega arith)) above in
+    rw here (none_above count n xs (rest_of (EndsBy count) x xs h) above)
+
+outside : (n : ℕ) (x : PacketRange) → n < x.first → is_within n x ≡ false
+outside n x h = grind (arith, nat_tests)
+
+none_below : (n first : ℕ) (ranges : List PacketRange) → All (λ r. first ≤ r.first) ranges → n < first
+    → list_any (is_within n) ranges ≡ false
+none_below n first [] h below = refl
+none_below n first (x ∷ xs) h below =
+    let least : first ≤ x.first = h 0 x (omega arith) in
+    rw (outside n x (omega (arith, least, below)))
+    (none_below n first xs (rest_of (λ (r : PacketRange). first ≤ r.first) x xs h) below)
+
+-- a number above those that the ranges before one end by, and below its first one
+none_before : (ranges : List PacketRange) (i : ℕ) (range : PacketRange) (count n : ℕ) → AreSorted ranges
+    → slice_get ranges i ≡ Some range → All (EndsBy count) (take i ranges) → count < n → n < range.first
+    → list_any (is_within n) ranges ≡ false
+none_before [] i range count n sorted at ended above below = refl
+none_before (x ∷ xs) zero range count n sorted at ended above below =
+    let same : x ≡ range = cc in
+    let first : n < x.first = rw same below in
+    rw (outside n x first) (none_below n x.first xs sorted.0 first)
+none_before (x ∷ xs) (suc i) range count n sorted at ended above below =
+    rw (beyond count n x (ended 0 x (omega arith)) above)
+    (none_before xs i range count n sorted.1 at (rest_of (EndsBy count) x (take i xs) ended) above below)
+
+within_some : (ranges : List PacketRange) (i : ℕ) (range : PacketRange) (n : ℕ) → slice_get ranges i ≡ Some range
+    → is_within n range ≡ true → list_any (is_within n) ranges ≡ true
+within_some ranges i range n at is =
+    list_any_at (is_within n) ranges i range (slice_get_within ranges i range at)
+    (ap (is_within n) (get_or_from_slice_get ranges i range range at) ∙ is)
+
+chosen_any : (ranges : List PacketRange) (i : ℕ) (range : PacketRange) (n : ℕ) → slice_get ranges i ≡ Some range
+    → is_chosen ranges n ≡ list_any (is_within n) ranges
+chosen_any [] i range n at = absurd cc
+chosen_any (x ∷ xs) i range n at = refl
+
+-- one up to a range's last one is looked at where it is in the range
+chosen_here : (ranges : List PacketRange) (i : ℕ) (range : PacketRange) (count n : ℕ) → AreSorted ranges
+    → slice_get ranges i ≡ Some range → All (EndsBy count) (take i ranges) → count < n → n ≤ range.last
+    → is_chosen ranges n ≡ nat_le range.first n
+chosen_here ranges i range count n sorted at ended above up_to =
+    chosen_any ranges i range n at ∙ elim (cases_lt n range.first) [
+      | inl below ↦
+          (let no : nat_le range.first n ≡ false = grind (arith, nat_tests) in
+          none_before ranges i range count n sorted at ended above below ∙ sym no)
+      | inr from ↦
+          (let yes : nat_le range.first n ≡ true = grind (arith, nat_tests) in
+          let is : is_within n range ≡ true = grind (arith, nat_tests) in
+          within_some ranges i range n at is ∙ sym yes)
+    ]
+
+pub ends-later : (a b : ℕ) (ranges : List PacketRange) → All (EndsBy a) ranges → a ≤ b → All (EndsBy b) ranges
+ends-later a b ranges h le = λ k d l n is. let most = h k d l n is in omega (arith, most, le)
+
+pub next-is : (ranges : List PacketRange) (i : ℕ) (range : PacketRange) (count n : ℕ) → AreSorted ranges
+    → slice_get ranges i ≡ Some range → All (EndsBy count) (take i ranges) → IsFirstAbove range count n
+    → IsNext ranges count n
+next-is ranges i range count n sorted at ended is = record {
+  wanted = chosen_any ranges i range n at ∙ within_some ranges i range n at is.within;
+  beyond = is.above;
+  first = λ m above wanted. elim (cases_lt m range.first) [
+    | inl below ↦
+        (let none = none_before ranges i range count m sorted at ended above below in
+        absurd (cc (chosen_any ranges i range m at, none, wanted)))
+    | inr from ↦ is.least m above from
+  ];
+}
+
+-- ---- records
+
+filter_like : (p q : Record → Bool) (xs : List Record) → ((i : ℕ) (r : Record) → slice_get xs i ≡ Some r → p r ≡ q r)
+    → filter p xs ≡ filter q xs
+filter_like p q [] h = refl
+filter_like p q (x ∷ xs) h =
+    let rest = filter_like p q xs (λ i r at. h (suc i) r at) in
+    let here = h 0 x refl in
+    ap (λ b. if b then x ∷ filter p xs else filter p xs) here ∙ ap (λ l. if q x then x ∷ l else l) rest
+
+abbrev with_records : Savefile → List Record → Savefile
+with_records s l = record s { records = l }
+
+looked_more : (ranges : List PacketRange) (i : ℕ) (range : PacketRange) (s mid rest : Savefile) (before after : ℕ)
+    (records more : List Record) → AreSorted ranges → slice_get ranges i ≡ Some range
+    → All (EndsBy before) (take i ranges) → (before < after → after ≤ range.last)
+    → Looked ranges s mid before records → Reads range.first mid rest before after more
+    → Looked ranges s rest after (records ++ more)
+looked_more ranges i range s mid rest before after records more sorted at ended up_to looked reads = record {
+  front = looked.front ++ reads.front;
+  split = looked.split
+      ∙ ap (λ (x : Savefile). with_records x (looked.front ++ x.records)) reads.split
+      ∙ ap (with_records rest) (sym (append_assoc looked.front reads.front rest.records));
+  counted = omega (arith, looked.counted, reads.counted, length-append looked.front reads.front);
+  among =
+      let here : filter (λ r. nat_le range.first r.number) reads.front ≡ chosen ranges reads.front =
+      filter_like (λ r. nat_le range.first r.number) (λ r. is_chosen ranges r.number) reads.front (λ j r there.
+      let within = slice_get_within reads.front j r there in
+      let number = reads.numbered j r there in
+      let most = up_to (omega (arith, within, reads.counted)) in
+      sym (chosen_here ranges i range before r.number sorted at ended (omega (arith, number))
+      (omega (arith, number, within, reads.counted, most)))) in
+      ap (λ l. l ++ more) looked.among
+      ∙ ap (λ l. chosen ranges looked.front ++ l) (reads.taken ∙ here)
+      ∙ sym (filter-append (λ r. is_chosen ranges r.number) looked.front reads.front);
+}
+
+known_more : (ranges : List PacketRange) (i : ℕ) (range : PacketRange) (old mid new : Option Savefile) (before after : ℕ)
+    (records more : List Record) → AreSorted ranges → slice_get ranges i ≡ Some range
+    → All (EndsBy before) (take i ranges) → (before < after → after ≤ range.last)
+    → LookedKnown ranges old mid before records → ReadsKnown range.first mid new before after more
+    → LookedKnown ranges old new after (records ++ more)
+known_more ranges i range None mid new before after records more sorted at ended up_to looked reads = tt
+known_more ranges i range (Some s) mid new before after records more sorted at ended up_to looked reads =
+    let next = rw looked.1 at reads in (
+      next.0,
+      next.1,
+      looked_more ranges i range s looked.0 next.0 before after records more sorted at ended up_to looked.2 next.2,
+    )
+
+-- ---- what was taken
+
+pub went-nothing : {A P : Type 0} (q : Question P) (old : Reading) (c : Counted A) (w : Option (List ℕ)) → Took q c []
+    → old.count ≡ 0 → Appended w w [] → Went q old old c w w
+went-nothing q old c w took count nothing = record {
+  records = [];
+  took = took;
+  few = omega arith;
+  known = rw count (starts q.packets.now old.left);
+  wrote = nothing;
+}
+  where
+    starts : (ranges : List PacketRange) (o : Option Savefile) → LookedKnown ranges o o 0 []
+    starts ranges None = tt
+    starts ranges (Some s) = (s, refl, record { front = []; split = refl; counted = refl; among = refl })
+
+module _ {A P : Type 0} (q : Question P) (i : ℕ) (range : PacketRange) (before : ℕ) (old mid new : Reading)
+    (c d : Counted A) (u v w : Option (List ℕ)) (sorted : AreSorted q.packets.now)
+    (at : slice_get q.packets.now i ≡ Some range) (ended : All (EndsBy before) (take i q.packets.now))
+    (went : Went q old mid c u v) (count : mid.count ≡ before) where
+  pub went-more : (after : ℕ) → Ranged q range went.records before mid new d v w after → Went q old new d u w
+  went-more after ranged = record {
+    records = went.records ++ ranged.going.more;
+    took = ranged.going.took;
+    few = rw ranged.count ranged.going.few;
+    known = rw ranged.count (known_more q.packets.now i range old.left mid.left new.left before after went.records
+        ranged.going.more sorted at ended ranged.up_to (rw count at went.known) ranged.going.reads);
+    wrote = rw (flat_map-append (packet_text q.report (machine_in q)) went.records ranged.going.more)
+        (appended-then _ _ _ _ _ went.wrote ranged.going.wrote);
+  }
+
+  pub broke-more : (fault : WhyFault) → Faulted q range before mid new v w fault → Broke q old.left new.left u w fault
+  broke-more fault faulted = record {
+    records = went.records ++ faulted.more;
+    count = faulted.after;
+    known = known_more q.packets.now i range old.left mid.left new.left before faulted.after went.records
+        faulted.more sorted at ended faulted.up_to (rw count at went.known) faulted.reads;
+    stopped = rw (flat_map-append (packet_text q.report (machine_in q)) went.records faulted.more)
+        (stopped_more fault u v w (packets_text q.report (machine_in q) went.records) _ went.wrote faulted.stopped);
+  }
+    where
+      stopped_more : (e : WhyFault) (u v w : Option (List ℕ)) (a b : List ℕ) → Appended u v a → Stopped e v w b
+          → Stopped e u w (a ++ b)
+      stopped_more why.Write u v w a b x y = part-then u v w a b x y
+      stopped_more why.Read u v w a b x y = appended-then u v w a b x y
+      stopped_more why.Memory u v w a b x y = appended-then u v w a b x y
+      stopped_more (why.NoPacket n) u v w a b x y = y
+
+-- the first number above is up to the last one
+pub within-less : (range : PacketRange) (count n : ℕ) → IsFirstAbove range count n → count < range.last
+within-less range count n is =
+    let most : n ≤ range.last = grind (arith, nat_tests, is.within) in omega (arith, most, is.above)
+
+pub all-ended : (ranges : List PacketRange) (count i : ℕ) → length ranges ≤ i → All (EndsBy count) (take i ranges)
+    → All (EndsBy count) ranges
+all-ended ranges count i past h = rw (take_all i ranges past) at h
+
+-- the end of what was left is that of the capture
+pub is-over : {A P : Type 0} (q : Question P) (old mid new : Reading) (c : Counted A) (u v : Option (List ℕ))
+    → Went q old mid c u v → IsOver mid.left new → IsOver old.left new
+is-over q old mid new c u v went over = by q.packets.now old.left mid.left new mid.count went.records went.known over
+  where
+    by : (ranges : List PacketRange) (a b : Option Savefile) (r : Reading) (n : ℕ) (records : List Record)
+        → LookedKnown ranges a b n records → IsOver b r → IsOver a r
+    by ranges None b r n records known h = tt
+    by ranges (Some s) b r n records known h = rw known.1 at h
+
+-- ---- all packets
+
+looked_all : (s rest : Savefile) (after : ℕ) (more : List Record) → Reads 1 s rest 0 after more
+    → Looked [] s rest after more
+looked_all s rest after more reads = record {
+  front = reads.front;
+  split = reads.split;
+  counted = omega (arith, reads.counted);
+  among = reads.taken
+      ∙ filter_like (λ r. nat_le 1 r.number) (λ r. is_chosen [] r.number) reads.front (λ i r there.
+      let number = reads.numbered i r there in grind (arith, nat_tests));
+}
+
+known_all : (old new : Option Savefile) (after : ℕ) (more : List Record) → ReadsKnown 1 old new 0 after more
+    → LookedKnown [] old new after more
+known_all None new after more reads = tt
+known_all (Some s) new after more reads = (reads.0, reads.1, looked_all s reads.0 after more reads.2)
+
+pub went-all : {A P : Type 0} (q : Question P) (last : ℕ) (old new : Reading) (d : Counted A) (u w : Option (List ℕ))
+    (after : ℕ) → q.packets.now ≡ [] → Ranged q (record { first = 1; last = last }) [] 0 old new d u w after
+    → Went q old new d u w
+went-all q last old new d u w after all ranged = record {
+  records = ranged.going.more;
+  took = ranged.going.took;
+  few = rw ranged.count ranged.going.few;
+  known = rw (all, ranged.count) (known_all old.left new.left after ranged.going.more ranged.going.reads);
+  wrote = ranged.going.wrote;
+}
+
+pub broke-all : {P : Type 0} (q : Question P) (last : ℕ) (old new : Reading) (u w : Option (List ℕ)) (fault : WhyFault)
+    → q.packets.now ≡ [] → Faulted q (record { first = 1; last = last }) 0 old new u w fault
+    → Broke q old.left new.left u w fault
+broke-all q last old new u w fault all faulted = record {
+  records = faulted.more;
+  count = faulted.after;
+  known = rw all (known_all old.left new.left faulted.after faulted.more faulted.reads);
+  stopped = faulted.stopped;
+}

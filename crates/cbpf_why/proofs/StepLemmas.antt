@@ -1,0 +1,77 @@
+-- Texts of the entries of a packet's trace, and where its last entry and its last conditional jump stand.
+use Rattle.std.proofs.Common.{◌≡◌, ℕ, zero, suc, ◌+◌, ◌<◌, List, [], ◌∷◌, ◌++◌, length, take, Option, Some, None, arith, refl, ap, take_all, append-nil}
+use Rattle.std.specs.Prelude.{Bool, true, false, filter, if◌then◌else◌, slice_get, option_map, IfSome}
+use Rattle.std.specs.List.{flat_map}
+use Rattle.std.proofs.lemmas.Grind.{flat_map-append}
+use Rattle.cbpf_code.specs.Sound.{IsSound}
+use Rattle.cbpf_code.specs.Writing.{Appended, AppendedPart}
+use Rattle.cbpf_code.proofs.WrittenLemmas.{appended-then, part-then, part-front}
+use Rattle.cbpf_code.proofs.SoundLemmas.{sound_some}
+use Rattle.cbpf_machine.specs.Registers.{Registers, zero_state}
+use Rattle.cbpf_machine.specs.Task.{Task, IsOnTrace, trace_in, turn_in}
+use Rattle.cbpf_machine.specs.Trace.{last_or, next_of}
+use Rattle.cbpf_machine.specs.declared.outcome.Turn.{Turn}
+use Rattle.cbpf_machine.specs.declared.outcome.Turn.TheVariants.{Next, Returned, Outside, ZeroDivisor, Unknown}
+use Rattle.cbpf_machine.specs.Ways.{is_test, last_test, test_of}
+use Rattle.cbpf_machine.proofs.TraceLemmas.{goes_last, trace-is_run}
+use Rattle.cbpf_machine.proofs.WayLemmas.{take_next}
+
+-- the texts of the entries up to one, with its own
+module _ {t : Task} {i : ℕ} {s : Registers} (here : IsOnTrace t i s) (f : Registers → List ℕ) where
+  texts-more : flat_map f (take (i + 1) (trace_in t)) ≡ flat_map f (take i (trace_in t)) ++ f s
+  texts-more = rw (take_next here, flat_map-append, append-nil (f s)) refl
+
+  pub steps-next : (u v w : Option (List ℕ)) → Appended u v (flat_map f (take i (trace_in t))) → Appended v w (f s)
+      → Appended u w (flat_map f (take (i + 1) (trace_in t)))
+  steps-next u v w x y = rw texts-more (appended-then u v w _ _ x y)
+
+  pub steps-stop : (u v w : Option (List ℕ)) → Appended u v (flat_map f (take i (trace_in t))) → AppendedPart v w (f s)
+      → AppendedPart u w (flat_map f (trace_in t))
+  steps-stop u v w x y = part-front f (trace_in t) (i + 1) u w (rw texts-more (part-then u v w _ _ x y))
+
+  pub steps-done : (u v w : Option (List ℕ)) → next_of (turn_in t s) ≡ None → Appended u v (flat_map f (take i (trace_in t)))
+      → Appended v w (f s) → Appended u w (flat_map f (trace_in t))
+  steps-done u v w end x y =
+      let all : take (i + 1) (trace_in t) ≡ trace_in t = take_all _ _ (omega (arith, goes_last here end)) in
+      rw (← all) (steps-next u v w x y)
+
+last_within : (n : ℕ) (xs : List Registers) (d : Registers) → ((i : ℕ) (s : Registers) → slice_get xs i ≡ Some s → s.pc < n)
+    → d.pc < n → (last_or d xs).pc < n
+last_within n [] d h l = l
+last_within n (x ∷ xs) d h l = last_within n xs x (λ i s e. h (suc i) s e) (h 0 x refl)
+
+either_within : (n : ℕ) (b : Bool) (x : Registers) (ys : List Registers) → x.pc < n
+    → ((j : ℕ) (s : Registers) → slice_get ys j ≡ Some s → s.pc < n)
+    → (j : ℕ) (s : Registers) → slice_get (if b then x ∷ ys else ys) j ≡ Some s → s.pc < n
+either_within n true x ys hx hy zero s e = let same : x ≡ s = cc in rw same at hx
+either_within n true x ys hx hy (suc j) s e = hy j s e
+either_within n false x ys hx hy j s e = hy j s e
+
+filter_within : (n : ℕ) (p : Registers → Bool) (xs : List Registers)
+    → ((i : ℕ) (s : Registers) → slice_get xs i ≡ Some s → s.pc < n)
+    → (j : ℕ) (s : Registers) → slice_get (filter p xs) j ≡ Some s → s.pc < n
+filter_within n p [] h j s e = absurd cc
+filter_within n p (x ∷ xs) h j s e =
+    either_within n (p x) x (filter p xs) (h 0 x refl) (filter_within n p xs (λ i u m. h (suc i) u m)) j s e
+
+test_within : (n : ℕ) (o : Option Registers) → ((s : Registers) → o ≡ Some s → s.pc < n)
+    → IfSome (option_map test_of o) (λ t. t.pc < n)
+test_within n None h = tt
+test_within n (Some s) h = h s refl
+
+-- of a checked program
+module _ (t : Task) (sound : IsSound t.machine.list) where
+  pub last_inside : (last_or zero_state (trace_in t)).pc < length t.machine.list
+  last_inside = last_within _ (trace_in t) zero_state (trace-is_run t sound).inside (sound_some t.machine.list sound)
+
+  pub test_inside : IfSome (option_map test_of (last_test t.machine.list (trace_in t))) (λ o. o.pc < length t.machine.list)
+  test_inside = test_within _ (last_test t.machine.list (trace_in t))
+      (filter_within _ (is_test t.machine.list) (trace_in t) (trace-is_run t sound).inside _)
+
+-- a turn that goes on
+pub next_is : (o : Turn) (s : Registers) → next_of o ≡ Some s → o ≡ Next s
+next_is (Next t) s h = let same : t ≡ s = cc in ap Next same
+next_is (Returned v) s h = absurd cc
+next_is Outside s h = absurd cc
+next_is ZeroDivisor s h = absurd cc
+next_is (Unknown e) s h = absurd cc

@@ -1,0 +1,28 @@
+use Rattle.std.proofs.Common.{◌∙◌}
+use Rattle.cbpf_machine.specs.Task.{Task}
+use Rattle.pcap_classic.specs.Lent.{record_of}
+use Rattle.cbpf_why.specs.Job.{machine_in}
+use Rattle.cbpf_why.proofs.JobLemmas.{ended-is, tallies-more}
+use Rattle.cbpf_why.proofs.StepLemmas.{last_inside}
+use Rattle.cbpf_why.proofs.counted.count_packet.Goals as goal
+
+pub returns-clause-ended : goal.returns-clause-ended
+returns-clause-ended g c =
+    c.of.ensures ∙ ended-is (machine_in c.args.question.now) (record_of c.args.record.now)
+    c.count_packet-way.result.end.last c.count_packet-way.result.end.reason
+    (rw c.packet_of.ensures at c.count_packet-way.ensures.last) (rw c.packet_of.ensures at c.count_packet-way.ensures.reason)
+
+pub returns-clause-inside : goal.returns-clause-inside
+returns-clause-inside g c =
+    let task : Task = record {
+      machine = machine_in c.args.question.now;
+      bytes = c.args.record.now.bytes.now;
+      wire = c.args.record.now.wire;
+    } in
+    rw (c.of.ensures, c.count_packet-way.ensures.last, c.packet_of.ensures) (last_inside task c.len-sound.ensures.sound)
+
+pub returns-clause-tallies : goal.returns-clause-tallies
+returns-clause-tallies g c = λ records had.
+    tallies-more _ _ (machine_in c.args.question.now) records (record_of c.args.record.now) had
+    c.count_packet-way.ensures.packets c.count_packet-way.ensures.long
+    (rw c.packet_of.ensures at c.count_packet-way.ensures.executed) (rw c.packet_of.ensures at c.count_packet-way.ensures.taken)

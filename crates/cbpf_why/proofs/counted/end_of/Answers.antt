@@ -1,0 +1,22 @@
+use Rattle.std.proofs.Common.{◌∙◌}
+use Rattle.cbpf_machine.specs.Task.{Task}
+use Rattle.pcap_classic.specs.Lent.{record_of}
+use Rattle.cbpf_why.specs.Job.{machine_in}
+use Rattle.cbpf_why.proofs.JobLemmas.{ended-is}
+use Rattle.cbpf_why.proofs.StepLemmas.{last_inside}
+use Rattle.cbpf_why.proofs.counted.end_of.Goals as goal
+
+pub returns-clause-ended : goal.returns-clause-ended
+returns-clause-ended g c =
+    c.of.ensures ∙ ended-is (machine_in c.args.question.now) (record_of c.args.record.now)
+    c.end_of_packet-end.result.last c.end_of_packet-end.result.reason
+    (rw c.packet_of.ensures at c.end_of_packet-end.ensures.last) (rw c.packet_of.ensures at c.end_of_packet-end.ensures.reason)
+
+pub returns-clause-inside : goal.returns-clause-inside
+returns-clause-inside g c =
+    let task : Task = record {
+      machine = machine_in c.args.question.now;
+      bytes = c.args.record.now.bytes.now;
+      wire = c.args.record.now.wire;
+    } in
+    rw (c.of.ensures, c.end_of_packet-end.ensures.last, c.packet_of.ensures) (last_inside task c.len-sound.ensures.sound)

@@ -1,0 +1,52 @@
+use Rattle.std.proofs.Common.{◌≡◌, ◌++◌, arith, refl, true, false}
+use Rattle.cbpf_code.proofs.WrittenLemmas.{appended-nil}
+use Rattle.cbpf_why.proofs.JobLemmas.{range-starts, range-goes, range-ends, range-fails}
+use Rattle.cbpf_why.proofs.taking.take_range.Goals as goal
+
+pub records-init : goal.records-init
+records-init g c = record {
+  count = c.requires.count;
+  few = c.requires.few;
+  since = omega arith;
+  up_to = λ h. omega arith;
+  going = λ records took few. range-starts c.args.question.now c.args.range.first records c.args.before c.args.reader.now.left
+      c.args.counted.now _ took few (appended-nil _);
+}
+
+pub records-preserved : goal.records-preserved
+records-preserved g c =
+    let before = c.records.invariant in
+    let was = c.requires.took in
+    let first = before.going was.0 was.1 was.2 in
+    let is : c.in-Ok.has_more ≡ true = grind arith in
+    let step = rw is at (c.in-Ok.ensures (was.0 ++ first.more) first.took) in
+    record {
+      count = omega (arith, step.count, step.is_one, before.count);
+      few = let less = step.few (omega (arith, before.few, before.count)) in
+          omega (arith, less, step.count, step.is_one, before.count);
+      since = omega (arith, before.since);
+      up_to = λ h. omega arith;
+      going = λ records took few.
+          let going = before.going records took few in
+          range-goes c.args.question.now c.args.range.first records c.args.before c.args.reader.now c.records.reader
+          c.take_next.new.reader c.records.counted c.take_next.new.counted _ _ _ c.records.count going before.count
+          (rw is at (c.in-Ok.ensures (records ++ going.more) going.took));
+    }
+
+pub returns-in-Err : goal.returns-in-Err
+returns-in-Err g c = λ records took few.
+    let before = c.records.invariant in
+    let going = before.going records took few in
+    range-fails c.args.question.now c.args.range records c.args.before c.args.reader.now c.records.reader
+    c.take_next.new.reader c.records.counted _ _ _ c.records.count c.in-Err.fault going before.count (omega arith)
+    (c.in-Err.ensures (records ++ going.more) going.took)
+
+pub returns-then-not-has_more : goal.returns-then-not-has_more
+returns-then-not-has_more g c = λ records took few.
+    let before = c.records.invariant in
+    let going = before.going records took few in
+    let is : c.in-Ok.has_more ≡ false = grind arith in
+    let step = rw is at (c.in-Ok.ensures (records ++ going.more) going.took) in
+    range-ends c.args.question.now c.args.range records c.args.before c.args.reader.now c.records.reader
+    c.take_next.new.reader c.records.counted c.take_next.new.counted _ _ _ c.records.count step.one going before.count
+    before.since before.up_to before.few step.is_one step.took step.count step.leaves (step.ends refl) step.wrote

@@ -1,0 +1,13 @@
+use Rattle.std.proofs.Common.{◌≡◌, ◌<◌, ◌^◌, take}
+use Rattle.std.specs.List.{All}
+use Rattle.cbpf_why.specs.Job.{Went}
+use Rattle.cbpf_why.specs.Reports.{EndsBy}
+use Rattle.cbpf_why.proofs.taking.take_ranges.Given as goal
+
+abbrev pub invariant-loop-range : goal.invariant-loop-range
+invariant-loop-range g l = record {
+  count : l.reader.count ≡ l.count;
+  few : l.count < 2 ^ 60;
+  went : Went l.question l.fn.reader l.reader l.counted (g.W.Write.contents l.fn.w) (g.W.Write.contents l.w);
+  ended : All (EndsBy l.count) (take l.range-index l.question.packets.now);
+}

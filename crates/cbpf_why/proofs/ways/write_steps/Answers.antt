@@ -1,0 +1,44 @@
+use Rattle.std.proofs.Common.{◌∙◌, sym, arith}
+use Rattle.cbpf_code.proofs.WrittenLemmas.{appended-nil, err-exit}
+use Rattle.cbpf_machine.specs.Machine.{machine_of}
+use Rattle.cbpf_machine.proofs.FollowLemmas.{start_goes}
+use Rattle.cbpf_machine.proofs.TraceLemmas.{goes_next, turn_on}
+use Rattle.pcap_classic.specs.Lent.{record_of}
+use Rattle.cbpf_why.specs.Ways.{step_in}
+use Rattle.cbpf_why.proofs.StepLemmas.{next_is, steps-next, steps-stop, steps-done}
+use Rattle.cbpf_why.proofs.ways.write_steps.Goals as goal
+
+pub turns-init : goal.turns-init
+turns-init g c = rw (c.new-meter.ensures, c.zero-s.ensures) (record {
+  here = start_goes _ c.len-sound.ensures.sound;
+  rises = omega arith;
+  written = appended-nil _;
+})
+
+pub turns-preserved : goal.turns-preserved
+turns-preserved g c =
+    let before = c.turns.invariant in
+    let made = c.turn.ensures.value in
+    let is = sym made ∙ next_is c.turn.result c.in-Some.next (sym c.next_state-next.ensures ∙ c.in-Some.is) in
+    let higher = turn_on _ before.here.sound _ _ before.here.inside is in
+    record {
+      here = rw c.turn.ensures.spent (goes_next before.here c.in-Some.next is);
+      rises = omega (arith, c.turn.ensures.spent, before.rises, higher.0);
+      written = rw c.turn.ensures.spent (steps-next before.here
+          (step_in (machine_of c.args.p.now c.args.values.now) (record_of c.args.record.now)) _ _ _ before.written
+          (rw (c.next_state-next.ensures, made) at c.in_ok-write_step.ensures));
+    }
+
+pub returns-in_err-write_step : goal.returns-in_err-write_step
+returns-in_err-write_step g c =
+    let before = c.turns.invariant in
+    err-exit _ _ _ _ c.from_residual.ensures.0 (steps-stop before.here
+    (step_in (machine_of c.args.p.now c.args.values.now) (record_of c.args.record.now)) _ _ _ before.written
+    (rw (c.next_state-next.ensures, c.turn.ensures.value) at c.in_err-write_step.ensures))
+
+pub returns-in-None : goal.returns-in-None
+returns-in-None g c =
+    let before = c.turns.invariant in
+    steps-done before.here (step_in (machine_of c.args.p.now c.args.values.now) (record_of c.args.record.now)) _ _ _
+    (rw (c.next_state-next.ensures, c.turn.ensures.value) at c.in-None.is) before.written
+    (rw (c.next_state-next.ensures, c.turn.ensures.value) at c.in_ok-write_step.ensures)

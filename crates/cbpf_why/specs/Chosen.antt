@@ -1,0 +1,22 @@
+-- Which packets of a capture are looked at (this project's own; packets are numbered from 1, as `tcpdump -#` does).
+use Rattle.std.specs.Prelude.{ℕ, ◌≤◌, Bool, true, ◌&&◌, nat_le, List, [], ◌∷◌, filter}
+use Rattle.std.specs.List.{All, list_any}
+use Rattle.pcap_classic.specs.Records.{Record}
+use Rattle.cbpf_why.specs.declared.chosen.PacketRange.{PacketRange}
+
+abbrev pub is_within : ℕ → PacketRange → Bool
+is_within n range = nat_le range.first n && nat_le n range.last
+
+-- a packet is in one of the ranges; where there is none, it is all packets
+abbrev pub is_chosen : List PacketRange → ℕ → Bool
+is_chosen [] n = true
+is_chosen (range ∷ ranges) n = list_any (is_within n) (range ∷ ranges)
+
+-- the records that are looked at, in the capture's order
+abbrev pub chosen : List PacketRange → List Record → List Record
+chosen ranges records = filter (λ r. is_chosen ranges r.number) records
+
+-- each range begins at or after the one before
+abbrev pub AreSorted : List PacketRange → Type 0
+AreSorted [] = Unit {0}
+AreSorted (range ∷ ranges) = All (λ r. range.first ≤ r.first) ranges × AreSorted ranges

@@ -1,0 +1,81 @@
+-- How a packet ends, where and why there (Linux Documentation/networking/filter: a filter runs to a return, whose value
+-- decides; the words are this project's own).
+use Rattle.std.specs.Prelude.{ℕ, Bool, true, false, List, [], ◌++◌, codes, decimal, map}
+use Rattle.cbpf_code.specs.Extension.{ext_name}
+use Rattle.cbpf_machine.specs.Machine.{Machine}
+use Rattle.cbpf_machine.specs.Registers.{Registers, zero_state}
+use Rattle.cbpf_machine.specs.InPlace.{turn_of}
+use Rattle.cbpf_machine.specs.Trace.{trace, last_or, outcome_of}
+use Rattle.cbpf_machine.specs.Turn.{turn}
+use Rattle.cbpf_machine.specs.declared.outcome.Turn.{Turn}
+use Rattle.cbpf_machine.specs.declared.outcome.Turn.TheVariants as turn_is
+use Rattle.cbpf_machine.specs.declared.outcome.End.{End}
+use Rattle.cbpf_machine.specs.declared.outcome.End.TheVariants.{Returned, Outside, ZeroDivisor, Unknown}
+use Rattle.cbpf_machine.specs.declared.outcome.Outcome.{Outcome}
+use Rattle.cbpf_machine.specs.declared.outcome.Outcome.TheVariants as outcome_is
+use Rattle.pcap_classic.specs.Records.{Record}
+use Rattle.cbpf_why.specs.declared.ended.Verdict.{Verdict}
+use Rattle.cbpf_why.specs.declared.ended.Verdict.TheVariants as verdict_is
+use Rattle.cbpf_why.specs.declared.ended.Ended.{Ended}
+
+-- the kind of an outcome
+abbrev pub kind_of : Outcome → Verdict
+kind_of (outcome_is.Pass v) = verdict_is.Pass
+kind_of outcome_is.Fail = verdict_is.Fail
+kind_of (outcome_is.Unknown e) = verdict_is.Unknown
+
+-- what it means for a packet that it ends in this way
+abbrev pub verdict_of : End → Verdict
+verdict_of reason = kind_of (outcome_of (turn_of reason))
+
+abbrev pub is_verdict : Verdict → Verdict → Bool
+is_verdict verdict_is.Pass verdict_is.Pass = true
+is_verdict verdict_is.Fail verdict_is.Fail = true
+is_verdict verdict_is.Unknown verdict_is.Unknown = true
+is_verdict _ _ = false
+
+-- how a turn ends a packet; the last turn goes on with no state
+abbrev pub end_of : Turn → End
+end_of (turn_is.Next s) = Outside
+end_of (turn_is.Returned v) = Returned v
+end_of turn_is.Outside = Outside
+end_of turn_is.ZeroDivisor = ZeroDivisor
+end_of (turn_is.Unknown e) = Unknown e
+
+-- the state before the last instruction that a packet executes
+abbrev pub last_state : Machine → Record → Registers
+last_state m r = last_or zero_state (trace m r.bytes r.wire)
+
+-- how a packet ends, by its last state
+abbrev pub ended_at : Machine → Record → Registers → Ended
+ended_at m r s = record { packet = r.number; pc = s.pc; reason = end_of (turn m r.bytes r.wire s) }
+
+abbrev pub ended : Machine → Record → Ended
+ended m r = ended_at m r (last_state m r)
+
+abbrev pub ends_of : Machine → List Record → List Ended
+ends_of m records = map (ended m) records
+
+-- ---- the words for it
+
+abbrev pub verdict_text : Verdict → List ℕ
+verdict_text verdict_is.Pass = codes "pass"
+verdict_text verdict_is.Fail = codes "fail"
+verdict_text verdict_is.Unknown = codes "unknown"
+
+abbrev pub verdict_in : Ended → List ℕ
+verdict_in e = verdict_text (verdict_of e.reason)
+
+-- the value that was returned, or why it ended without one
+abbrev pub reason_text : End → List ℕ
+reason_text (Returned v) = decimal v
+reason_text Outside = codes "outside the packet"
+reason_text ZeroDivisor = codes "division by 0"
+reason_text (Unknown e) = ext_name e ++ codes " has no value"
+
+-- the same after an instruction; of a return the instruction says it
+abbrev pub reason_after : End → List ℕ
+reason_after (Returned v) = []
+reason_after Outside = codes ", outside the packet"
+reason_after ZeroDivisor = codes ", division by 0"
+reason_after (Unknown e) = codes ", " ++ (ext_name e ++ codes " has no value")

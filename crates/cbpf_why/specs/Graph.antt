@@ -1,0 +1,183 @@
+-- A program as a graph in DOT, the language of Graphviz: a node for each basic block with its listing, an edge for each
+-- way from one block to another with how often it was taken, and for each group of packets that ended at the same
+-- instruction in the same way a node in the colour of that way. A block or a way that never ran is grey (this project's
+-- own; a quoted string, `\l` and the entity `&amp;` are those of Graphviz's "The DOT Language" and "escString").
+use Rattle.std.specs.Prelude.{◌≡◌, ◌<◌, ℕ, zero, suc, ◌+◌, ◌-◌, Bool, ◌==◌, ◌||◌, false, List, [], ◌∷◌, ◌++◌, length}
+use Rattle.std.specs.Prelude.{codes, decimal, Option, Some, None, if◌then◌else◌, slice_get, slice_index_or}
+use Rattle.std.specs.List.{flat_map, list_any, enumerate_from}
+use Rattle.cbpf_code.specs.Listing.{line_text}
+use Rattle.cbpf_code.specs.Opcode.{op_of}
+use Rattle.cbpf_code.specs.Text.{concat}
+use Rattle.cbpf_code.specs.declared.insn.Insn.{Insn}
+use Rattle.cbpf_code.specs.declared.opcode.Op.{Op}
+use Rattle.cbpf_code.specs.declared.opcode.Op.TheVariants.{Ja, Jump, RetK, RetA}
+use Rattle.cbpf_machine.specs.Machine.{Machine}
+use Rattle.cbpf_reply.specs.Packet.{texts_from}
+use Rattle.pcap_classic.specs.Records.{Record}
+use Rattle.cbpf_why.specs.declared.ended.Ended.{Ended}
+use Rattle.cbpf_why.specs.declared.ended.Verdict.{Verdict}
+use Rattle.cbpf_why.specs.declared.ended.Verdict.TheVariants.{Pass, Fail, Unknown}
+use Rattle.cbpf_why.specs.Ends.{verdict_in, reason_after, verdict_of}
+use Rattle.cbpf_why.specs.Groups.{group, kept, Keeps, by_verdict}
+use Rattle.cbpf_machine.specs.Ways.{runs_at}
+use Rattle.cbpf_why.specs.declared.graph.Counted.{Counted}
+use Rattle.cbpf_why.specs.Ends.{ends_of}
+use Rattle.cbpf_why.specs.declared.groups.Group.{Group}
+use Rattle.cbpf_why.specs.declared.graph.Facts.{Facts}
+use Rattle.cbpf_why.specs.Runs.{executed, taken}
+
+-- ---- basic blocks
+
+-- the instruction at an index, of this operation, opens a block at another: a jump where it leads, and a jump or a
+-- return after itself
+abbrev pub opens_by : ℕ → ℕ → Insn → Option Op → Bool
+opens_by to at insn (Some Ja) = (at + 1 == to) || (at + 1 + insn.k == to)
+opens_by to at insn (Some (Jump cond src)) = (at + 1 == to) || ((at + 1 + insn.jt == to) || (at + 1 + insn.jf == to))
+opens_by to at insn (Some RetK) = at + 1 == to
+opens_by to at insn (Some RetA) = at + 1 == to
+opens_by to at insn _ = false
+
+abbrev pub opens : ℕ → ℕ × Insn → Bool
+opens to e = opens_by to e.0 e.1 (op_of e.1.code)
+
+-- a block begins at the first instruction, and where an instruction opens one
+abbrev pub begins_block : List Insn → ℕ → Bool
+begins_block list i = (i == 0) || list_any (opens i) (enumerate_from 0 list)
+
+-- the first instruction of an instruction's block
+abbrev pub block_of : List Insn → ℕ → ℕ
+block_of list zero = 0
+block_of list (suc i) = if begins_block list (suc i) then suc i else block_of list i
+
+-- the last instruction of its block
+abbrev pub is_last : List Insn → ℕ → Bool
+is_last list i = (i + 1 == length list) || begins_block list (i + 1)
+
+-- ---- text in quotes
+
+-- a byte of a label: `"` and `\` stand after `\`, `&` begins an entity, and a tab is a space
+abbrev pub label_byte : ℕ → List ℕ
+label_byte b =
+    if b == 34 then codes "\\\"" else (if b == 92 then codes "\\\\" else (if b == 38 then codes "&amp;"
+    else (if b == 9 then codes " " else (b ∷ []))))
+
+abbrev pub label_text : List ℕ → List ℕ
+label_text text = flat_map label_byte text
+
+-- a line of a block, from the left
+abbrev pub block_line : List Insn → ℕ → List ℕ
+block_line list i = label_text (line_text list i) ++ codes "\\l"
+
+-- ---- nodes and edges
+
+abbrev pub node : ℕ → List ℕ
+node i = codes "l" ++ decimal i
+
+-- what never ran is grey
+abbrev pub grey_where_none : ℕ → List ℕ
+grey_where_none count = if count == 0 then codes " color=grey fontcolor=grey" else []
+
+-- an edge with how often it was taken, after a word
+unfoldable pub edge : ℕ → ℕ → List ℕ → ℕ → List ℕ
+edge from to word count =
+    concat (node from ∷ codes " -> " ∷ node to ∷ codes " [label=\"" ∷ word ∷ decimal count ∷ codes "\""
+    ∷ grey_where_none count ∷ codes "]\n" ∷ [])
+
+abbrev pub ended_in : Facts → ℕ
+ended_in f = f.passed.count + f.failed.count + f.unknown.count
+
+-- the ways from the last instruction of a block, of this operation
+abbrev pub edges_by : ℕ → ℕ → Insn → Facts → Option Op → List ℕ
+edges_by block i insn f None = []
+edges_by block i insn f (Some Ja) = edge block (i + 1 + insn.k) [] f.runs.executed
+edges_by block i insn f (Some (Jump cond src)) =
+    edge block (i + 1 + insn.jt) (codes "true ") f.runs.taken ++ edge block (i + 1 + insn.jf) (codes "false ") (f.runs.executed - f.runs.taken)
+edges_by block i insn f (Some RetK) = []
+edges_by block i insn f (Some RetA) = []
+edges_by block i insn f (Some op) = edge block (i + 1) [] (f.runs.executed - ended_in f)
+
+abbrev pub edges_of : ℕ → ℕ → Facts → Option Insn → List ℕ
+edges_of block i f None = []
+edges_of block i f (Some insn) = edges_by block i insn f (op_of insn.code)
+
+-- how a block begins and ends
+abbrev pub block_head : ℕ → List ℕ
+block_head block = concat (node block ∷ codes " [label=\"" ∷ [])
+
+abbrev pub block_end : ℕ → List ℕ
+block_end count = concat (codes "\"" ∷ grey_where_none count ∷ codes "]\n" ∷ [])
+
+abbrev pub ways_out : ℕ → List Insn → ℕ → Facts → List ℕ
+ways_out block list i f = block_end f.block_runs ++ edges_of block i f (slice_get list i)
+
+-- an instruction of a block, with what follows where it is the last one
+abbrev pub body : ℕ → Bool → List Insn → ℕ → Facts → List ℕ
+body block last list i f = block_line list i ++ (if last then ways_out block list i f else [])
+
+-- and with what stands before it where it is the first one
+abbrev pub part_in : ℕ → Bool → List Insn → ℕ → Facts → List ℕ
+part_in block last list i f = (if block == i then block_head block else []) ++ body block last list i f
+
+abbrev pub colour : Verdict → List ℕ
+colour Pass = codes "palegreen"
+colour Fail = codes "lightsalmon"
+colour Unknown = codes "khaki"
+
+abbrev pub end_node : Ended → List ℕ
+end_node e = verdict_in e ++ decimal e.pc
+
+-- packets that ended at an instruction, after the block that they came from
+abbrev pub end_edge : ℕ → Ended → ℕ → List ℕ
+end_edge block e count =
+    concat (end_node e ∷ codes " [label=\"" ∷ verdict_in e ∷ reason_after e.reason ∷ codes "\" shape=oval style=filled fillcolor="
+    ∷ colour (verdict_of e.reason) ∷ codes "]\n" ∷ node block ∷ codes " -> " ∷ end_node e ∷ codes " [label=\"" ∷ decimal count
+    ∷ codes "\"]\n" ∷ [])
+
+abbrev pub first_edge : ℕ → ℕ → Option Ended → List ℕ
+first_edge block count None = []
+first_edge block count (Some e) = end_edge block e count
+
+abbrev pub end_edges : ℕ → Group → List ℕ
+end_edges block g = first_edge block g.count g.first
+
+-- ---- the graph
+
+abbrev pub facts_at : Machine → List Record → List Ended → ℕ → Facts
+facts_at m records ends i =
+    record {
+      runs = record { executed = executed m records i; taken = taken m records i };
+      block_runs = executed m records (block_of m.list i);
+      passed = kept (group ends i Pass);
+      failed = kept (group ends i Fail);
+      unknown = kept (group ends i Unknown);
+    }
+
+abbrev pub block_part : List Insn → ℕ → Facts → List ℕ
+block_part list i f = part_in (block_of list i) (is_last list i) list i f
+
+abbrev pub end_part : ℕ → Facts → List ℕ
+end_part block f = end_edges block f.passed ++ (end_edges block f.failed ++ end_edges block f.unknown)
+
+abbrev pub graph_head : List ℕ
+graph_head = codes "digraph filter {\nnode [shape=box fontname=monospace]\n"
+
+unfoldable pub graph_text : Machine → List Record → List Ended → List ℕ
+graph_text m records ends =
+    graph_head ++ (texts_from (λ i. block_part m.list i (facts_at m records ends i)) 0 (length m.list)
+    ++ (texts_from (λ i. end_part (block_of m.list i) (facts_at m records ends i)) 0 (length m.list) ++ codes "}\n"))
+
+-- ---- a matter of this crate alone
+
+-- each instruction has its counts, its groups, and says whether it begins a block
+pub record Fits {A P : Type 0} (c : Counted A P) : Type 0 where
+  pub runs : length c.runs.now ≡ length c.program.now
+  pub begins : length c.begins.now ≡ length c.program.now
+  pub groups : (v : Verdict) → length (by_verdict c.groups.now v) ≡ length c.program.now
+
+-- what is counted of a program over some records: the blocks are those of its list, each instruction ran so often, and
+-- the groups are those of the records
+pub record Counts {A P : Type 0} (c : Counted A P) (m : Machine) (records : List Record) : Type 0 where
+  pub list : m.list ≡ c.program.now
+  pub begins : (i : ℕ) → i < length m.list → slice_index_or c.begins.now i false ≡ begins_block m.list i
+  pub runs : (i : ℕ) → runs_at c.runs.now i ≡ record { executed = executed m records i; taken = taken m records i }
+  pub groups : Keeps c.groups.now (length m.list) (ends_of m records)

@@ -1,0 +1,196 @@
+-- What was taken of a capture, packet by packet (this project's own; a matter of this crate alone).
+use Rattle.std.specs.Prelude.{◌≡◌, ℕ, ◌+◌, ◌<◌, ◌≤◌, nat_le, Bool, true, false, List, [], ◌∷◌, ◌++◌, length, filter, slice_get, if◌then◌else◌}
+use Rattle.std.specs.Prelude.{Option, Some, None, IfSome, ◌^◌, Result, Ok, Err}
+use Rattle.std.specs.List.{All}
+use Rattle.cbpf_machine.specs.Machine.{Machine, machine_of}
+use Rattle.cbpf_machine.specs.Ways.{Counted as CountedRuns, runs_at}
+use Rattle.pcap_classic.specs.Reading.{Reading}
+use Rattle.pcap_classic.specs.Records.{Record}
+use Rattle.pcap_classic.specs.Savefile.{Savefile}
+use Rattle.cbpf_why.specs.declared.chosen.PacketRange.{PacketRange}
+use Rattle.cbpf_why.specs.declared.counted.Counted.{Counted}
+use Rattle.cbpf_why.specs.declared.job.Question.{Question}
+use Rattle.cbpf_why.specs.declared.report.Report.{Report}
+use Rattle.cbpf_why.specs.declared.report.Report.TheVariants.{Summary, Ways, Packets, Coverage, Graph}
+use Rattle.cbpf_why.specs.Chosen.{chosen, is_within}
+use Rattle.cbpf_why.specs.Ends.{ends_of}
+use Rattle.cbpf_why.specs.Groups.{Keeps}
+use Rattle.cbpf_why.specs.Reports.{EndsBy, IsNext, packets_text}
+use Rattle.cbpf_why.specs.Runs.{executed, taken}
+use Rattle.cbpf_code.specs.Writing.{Appended, AppendedPart}
+use Rattle.cbpf_why.specs.declared.job.WhyFault.{WhyFault}
+use Rattle.cbpf_why.specs.declared.job.WhyFault.TheVariants.{Read, Write, Memory, NoPacket}
+
+abbrev pub machine_in : {P : Type 0} → Question P → Machine
+machine_in q = machine_of q.program.now q.values.now
+
+-- the reports that show groups, and those that show how often instructions ran
+abbrev pub shows_groups : Report → Bool
+shows_groups Summary = true
+shows_groups Coverage = true
+shows_groups Graph = true
+shows_groups Ways = false
+shows_groups Packets = false
+
+abbrev pub shows_runs : Report → Bool
+shows_runs Coverage = true
+shows_runs Graph = true
+shows_runs Summary = false
+shows_runs Ways = false
+shows_runs Packets = false
+
+-- the records where they are counted
+abbrev pub where_shown : Bool → List Record → List Record
+where_shown shows records = if shows then records else []
+
+-- a tally of a machine on some records
+pub record Tallies (t : CountedRuns) (m : Machine) (records : List Record) : Type 0 where
+  pub packets : t.packets ≡ length records
+  pub long : length t.runs ≡ length m.list
+  pub runs : (i : ℕ) → runs_at t.runs i ≡ record { executed = executed m records i; taken = taken m records i }
+
+-- what is counted of the records that were taken
+pub record Took {A P : Type 0} (q : Question P) (c : Counted A) (records : List Record) : Type 0 where
+  pub groups : Keeps c.groups (length q.program.now) (ends_of (machine_in q) (where_shown (shows_groups q.report) records))
+  pub runs : Tallies c.tally (machine_in q) (where_shown (shows_runs q.report) records)
+
+-- of what was left of a capture the first records were read, and those were taken whose number is not below a range's
+-- first one
+pub record Reads (first : ℕ) (s rest : Savefile) (before after : ℕ) (more : List Record) : Type 0 where
+  pub front : List Record
+  pub split : s ≡ record rest { records = front ++ rest.records }
+  pub counted : after ≡ before + length front
+  pub numbered : (i : ℕ) (r : Record) → slice_get front i ≡ Some r → r.number ≡ before + i + 1
+  pub taken : more ≡ filter (λ r. nat_le first r.number) front
+
+-- what is known of the capture before and after, where anything is
+abbrev pub ReadsKnown : ℕ → Option Savefile → Option Savefile → ℕ → ℕ → List Record → Type 0
+ReadsKnown first None new before after more = Unit {0}
+ReadsKnown first (Some s) new before after more = (rest : Savefile) × (new ≡ Some rest) × Reads first s rest before after more
+
+-- a fault of a write, or of a read, after some text
+abbrev pub Stopped : WhyFault → Option (List ℕ) → Option (List ℕ) → List ℕ → Type 0
+Stopped Write old new text = AppendedPart old new text
+Stopped Read old new text = Appended old new text
+Stopped Memory old new text = Appended old new text
+Stopped (NoPacket n) old new text = ⊥
+
+-- what is written of all packets together: all of it, or a beginning, or nothing where there was no memory
+abbrev pub Closed : Option (List ℕ) → Option (List ℕ) → Result (Unit {0}) WhyFault → List ℕ → Type 0
+Closed old new (Ok x) text = Appended old new text
+Closed old new (Err Write) text = AppendedPart old new text
+Closed old new (Err Memory) text = Appended old new []
+Closed old new (Err e) text = ⊥
+
+-- nothing is left of a capture that is known, and its ending is known
+abbrev pub IsOver : Option Savefile → Reading → Type 0
+IsOver old new = IfSome old (λ _. IfSome new.left (λ s. (s.records ≡ []) × (new.ended ≡ Some s.ending)))
+
+-- the end of a capture that is known was reached before the end of a range
+abbrev pub EndsBefore : PacketRange → ℕ → Reading → Reading → Type 0
+EndsBefore range after old new = after < range.last → IsOver old.left new
+
+-- packets of a range were taken, after those records and as many packets as before: so many packets were read then, and
+-- more records were taken
+pub record Going {A P : Type 0} (q : Question P) (first : ℕ) (records : List Record) (before : ℕ) (old new : Option Savefile)
+    (c : Counted A) (w v : Option (List ℕ)) (after : ℕ) : Type 0 where
+  pub more : List Record
+  pub took : Took q c (records ++ more)
+  pub few : length (records ++ more) ≤ after
+  pub reads : ReadsKnown first old new before after more
+  pub wrote : Appended w v (packets_text q.report (machine_in q) more)
+
+-- likewise all packets of a range
+pub record Ranged {A P : Type 0} (q : Question P) (range : PacketRange) (records : List Record) (before : ℕ)
+    (old new : Reading) (c : Counted A) (w v : Option (List ℕ)) (after : ℕ) : Type 0 where
+  pub going : Going q range.first records before old.left new.left c w v after
+  pub since : before ≤ after
+  pub up_to : before < after → after ≤ range.last
+  pub most : after < 2 ^ 60
+  pub count : new.count ≡ after
+  pub ends : EndsBefore range after old new
+
+-- or a fault came, after the records that were taken last
+pub record Faulted {P : Type 0} (q : Question P) (range : PacketRange) (before : ℕ) (old new : Reading)
+    (w v : Option (List ℕ)) (fault : WhyFault) : Type 0 where
+  pub more : List Record
+  pub after : ℕ
+  pub up_to : before < after → after ≤ range.last
+  pub reads : ReadsKnown range.first old.left new.left before after more
+  pub stopped : Stopped fault w v (packets_text q.report (machine_in q) more)
+
+-- what is known of the capture before and after a call that reads a record, if there is one
+abbrev pub LeavesKnown : ℕ → Option Savefile → Option Savefile → List Record → Type 0
+LeavesKnown before None new one = Unit {0}
+LeavesKnown before (Some s) new one = (rest : Savefile) × (new ≡ Some rest)
+    × (s ≡ record rest { records = one ++ rest.records })
+    × ((r : Record) → slice_get one 0 ≡ Some r → r.number ≡ before + 1)
+
+-- the records of a list whose number isn't below a first one
+abbrev pub from_first : ℕ → List Record → List Record
+from_first first records = filter (λ r. nat_le first r.number) records
+
+-- a record was read and taken, or there was none
+pub record Stepped {A P : Type 0} (q : Question P) (first : ℕ) (records : List Record) (old new : Reading) (c : Counted A)
+    (w v : Option (List ℕ)) (has_more : Bool) : Type 0 where
+  pub one : List Record
+  pub is_one : length one ≡ (if has_more then 1 else 0)
+  pub took : Took q c (records ++ from_first first one)
+  pub count : new.count ≡ old.count + length one
+  pub few : old.count < 2 ^ 60 → new.count < 2 ^ 60
+  pub leaves : LeavesKnown old.count old.left new.left one
+  pub ends : has_more ≡ false → IfSome old.left (λ s. (s.records ≡ []) × (new.ended ≡ Some s.ending))
+  pub wrote : Appended w v (packets_text q.report (machine_in q) (from_first first one))
+
+-- or a fault came, of the write of a record that was read, or of a read
+pub record StepFault {P : Type 0} (q : Question P) (first : ℕ) (old new : Reading) (w v : Option (List ℕ)) (fault : WhyFault)
+    : Type 0 where
+  pub one : List Record
+  pub is_few : length one ≤ 1
+  pub leaves : LeavesKnown old.count old.left new.left one
+  pub stopped : Stopped fault w v (packets_text q.report (machine_in q) (from_first first one))
+
+-- ---- packets of several ranges
+
+-- the first number of a range above this one
+pub record IsFirstAbove (range : PacketRange) (count n : ℕ) : Type 0 where
+  pub within : is_within n range ≡ true
+  pub above : count < n
+  pub least : (m : ℕ) → count < m → range.first ≤ m → n ≤ m
+
+-- of a capture the first records were read, and of these those are that are looked at
+pub record Looked (ranges : List PacketRange) (s rest : Savefile) (count : ℕ) (records : List Record) : Type 0 where
+  pub front : List Record
+  pub split : s ≡ record rest { records = front ++ rest.records }
+  pub counted : count ≡ length front
+  pub among : records ≡ chosen ranges front
+
+abbrev pub LookedKnown : List PacketRange → Option Savefile → Option Savefile → ℕ → List Record → Type 0
+LookedKnown ranges None new count records = Unit {0}
+LookedKnown ranges (Some s) new count records = (rest : Savefile) × (new ≡ Some rest) × Looked ranges s rest count records
+
+-- of the packets that were read, those that are looked at were taken
+pub record Went {A P : Type 0} (q : Question P) (old new : Reading) (c : Counted A) (w v : Option (List ℕ)) : Type 0 where
+  pub records : List Record
+  pub took : Took q c records
+  pub few : length records ≤ new.count
+  pub known : LookedKnown q.packets.now old.left new.left new.count records
+  pub wrote : Appended w v (packets_text q.report (machine_in q) records)
+
+-- or a fault came, after the records that were taken last
+pub record Broke {P : Type 0} (q : Question P) (old new : Option Savefile) (w v : Option (List ℕ)) (fault : WhyFault)
+    : Type 0 where
+  pub records : List Record
+  pub count : ℕ
+  pub known : LookedKnown q.packets.now old new count records
+  pub stopped : Stopped fault w v (packets_text q.report (machine_in q) records)
+
+-- which number of the ranges is above those that were read: none, or the first one where nothing is left
+abbrev pub Lacks : List PacketRange → Option Savefile → Reading → Option ℕ → Type 0
+Lacks ranges old new None = All (EndsBy new.count) ranges
+Lacks ranges old new (Some n) = IsNext ranges new.count n × IsOver old new
+
+-- all packets are looked at, and were read; or those of ranges
+abbrev pub Lacking : List PacketRange → Option Savefile → Reading → Option ℕ → Type 0
+Lacking [] old new missing = (missing ≡ None) × IsOver old new
+Lacking (range ∷ ranges) old new missing = Lacks (range ∷ ranges) old new missing

@@ -1,0 +1,13 @@
+pub mod Filters
+pub mod Chosen
+pub mod Ends
+pub mod Operations
+pub mod Ways
+pub mod Packets
+pub mod Groups
+pub mod Runs
+pub mod Coverage
+pub mod Graph
+pub mod Reports
+pub mod Job
+pub mod Laws

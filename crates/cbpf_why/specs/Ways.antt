@@ -1,0 +1,68 @@
+-- The way of a packet: each instruction that it executes, with A and X before, and where a jump went; at last how the
+-- packet ends, and where it fails, the last conditional jump before that (this project's own).
+use Rattle.std.specs.Prelude.{ℕ, List, [], ◌∷◌, ◌++◌, codes, decimal, Option, Some, None, option_map}
+use Rattle.std.specs.Prelude.{if◌then◌else◌}
+use Rattle.std.specs.List.{flat_map}
+use Rattle.cbpf_code.specs.Listing.{line_text}
+use Rattle.cbpf_code.specs.Text.{concat, with_number, hex}
+use Rattle.cbpf_code.specs.declared.insn.Insn.{Insn}
+use Rattle.cbpf_machine.specs.Machine.{Machine}
+use Rattle.cbpf_machine.specs.Registers.{Registers}
+use Rattle.cbpf_machine.specs.Trace.{trace, next_of}
+use Rattle.cbpf_machine.specs.Turn.{turn}
+use Rattle.cbpf_machine.specs.Ways.{last_test, test_of}
+use Rattle.cbpf_machine.specs.declared.way.Test.{Test}
+use Rattle.pcap_classic.specs.Records.{Record}
+use Rattle.cbpf_why.specs.declared.ended.Ended.{Ended}
+use Rattle.cbpf_why.specs.declared.ended.Verdict.{Verdict}
+use Rattle.cbpf_why.specs.declared.ended.Verdict.TheVariants.{Pass, Fail, Unknown}
+use Rattle.cbpf_why.specs.Ends.{ended, verdict_in, verdict_of, reason_after}
+use Rattle.cbpf_why.specs.Operations.{is_op_at, is_jump}
+
+-- a register in decimal and in hexadecimal
+abbrev pub register_text : List ℕ → ℕ → List ℕ
+register_text name v = concat (name ∷ codes " " ∷ decimal v ∷ codes " (0x" ∷ hex 1 v ∷ codes ")" ∷ [])
+
+abbrev pub registers_text : ℕ → ℕ → List ℕ
+registers_text a x = concat (register_text (codes "A") a ∷ codes " " ∷ register_text (codes "X") x ∷ [])
+
+-- where a jump went
+abbrev pub went_to : Option Registers → List ℕ
+went_to None = []
+went_to (Some t) = with_number (codes "\tto l") t.pc []
+
+abbrev pub went_text : List Insn → Registers → Option Registers → List ℕ
+went_text list s next = if is_op_at is_jump list s.pc then went_to next else []
+
+-- an executed instruction, by the state before it and the one that its turn goes on with
+abbrev pub step_line : List Insn → Registers → Option Registers → List ℕ
+step_line list s next =
+    concat (line_text list s.pc ∷ codes "\t" ∷ registers_text s.a s.x ∷ went_text list s next ∷ codes "\n" ∷ [])
+
+abbrev pub step_in : Machine → Record → Registers → List ℕ
+step_in m r s = step_line m.list s (next_of (turn m r.bytes r.wire s))
+
+-- the conditional jump that came last before a packet failed
+abbrev pub test_text : List Insn → Option Test → List ℕ
+test_text list None = []
+test_text list (Some t) = concat (codes ", after " ∷ line_text list t.pc ∷ codes " with " ∷ registers_text t.a t.x ∷ [])
+
+abbrev pub test_after : List Insn → Verdict → Option Test → List ℕ
+test_after list Fail test = test_text list test
+test_after list Pass test = []
+test_after list Unknown test = []
+
+-- how the packet ends
+abbrev pub ended_text : List Insn → Ended → List ℕ
+ended_text list e = concat (verdict_in e ∷ codes " at " ∷ line_text list e.pc ∷ reason_after e.reason ∷ [])
+
+abbrev pub end_line : List Insn → Ended → Option Test → List ℕ
+end_line list e test = ended_text list e ++ (test_after list (verdict_of e.reason) test ++ codes "\n")
+
+abbrev pub way_head : ℕ → List ℕ
+way_head packet = with_number (codes "packet ") packet (codes "\n")
+
+unfoldable pub way_text : Machine → Record → List ℕ
+way_text m r =
+    let entries = trace m r.bytes r.wire in
+    way_head r.number ++ (flat_map (step_in m r) entries ++ end_line m.list (ended m r) (option_map test_of (last_test m.list entries)))

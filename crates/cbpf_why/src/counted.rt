@@ -1,0 +1,119 @@
+//! What is counted of packets.
+
+ghost use Rattle.std.specs.Prelude.{◌≡◌, ◌<◌, ◌+◌, ◌^◌, ◌++◌, [], ◌∷◌, List, length, true, false, IfOk};
+ghost use Rattle.cbpf_machine.specs.Machine.{Machine};
+ghost use Rattle.pcap_classic.specs.Lent.{record_of};
+ghost use Rattle.pcap_classic.specs.Records.{Record};
+ghost use Rattle.cbpf_why.specs.Ends.{ended};
+ghost use Rattle.cbpf_why.specs.Groups.{Keeps};
+ghost use Rattle.cbpf_why.specs.Job as spec;
+
+use crate::ended::Ended;
+use crate::groups::Groups;
+use crate::job::Question;
+use cbpf_code::Program;
+use cbpf_machine::{Meter, Packet, Tally, end_of_packet};
+use pcap_classic::Captured;
+use std::alloc::{AllocError, Allocator};
+
+/// What is counted of packets.
+#[derive(Drop)]
+pub(crate) struct Counted<A: Allocator> {
+    pub(crate) groups: Groups<A>,
+    pub(crate) tally: Tally<A>,
+}
+
+impl<A: Allocator + Copy> Counted<A> {
+    pub(crate) fn new<P: Allocator>(alloc: A, p: &Program<P>) -> Result<Counted<A>, AllocError>
+        ensures groups { IfOk result (λ c. Keeps c.groups (length p.now) []) }
+        ensures tally { IfOk result (λ c. (m : Machine) → m.list ≡ p.now → spec.Tallies c.tally m []) }
+    {
+        Ok(Counted {
+            groups: Groups::new(alloc, p.len())?,
+            tally: Tally::new(alloc, p)?,
+        })
+    }
+}
+
+fn packet_of<'a>(record: &Captured<'a>) -> Packet<'a>
+    ensures { result ≡ record { bytes = record.now.bytes; wire = record.now.wire } }
+{
+    Packet {
+        bytes: record.bytes,
+        wire: record.wire,
+    }
+}
+
+/// How a packet ends.
+// `COPY` is unused: it gives each caller a copy of its own, inlined.
+#[inline(always)]
+pub(crate) fn end_of<P: Allocator, const COPY: u32>(
+    question: &Question<'_, P>,
+    record: &Captured<'_>,
+) -> Ended
+    ensures ended { result ≡ ended (spec.machine_in question.now) (record_of record.now) }
+    ensures inside { result.pc < length question.now.program.now }
+{
+    let _sound = question.program.len();
+    let end = end_of_packet::<P, COPY>(
+        &mut Meter::new(),
+        question.program,
+        packet_of(record),
+        question.values,
+    );
+    Ended::of(record.number, &end)
+}
+
+/// How a packet ends, with its instructions counted.
+fn count_packet<P: Allocator, A: Allocator>(
+    question: &Question<'_, P>,
+    tally: &mut Tally<A>,
+    record: &Captured<'_>,
+) -> Ended
+    requires long { length tally.old.runs ≡ length question.now.program.now }
+    requires few { tally.old.packets + 1 < 2 ^ 64 }
+    ensures ended { result ≡ ended (spec.machine_in question.now) (record_of record.now) }
+    ensures inside { result.pc < length question.now.program.now }
+    ensures tallies { (records : List Record) → spec.Tallies tally.old (spec.machine_in question.now) records
+        → spec.Tallies tally.new (spec.machine_in question.now) (records ++ record_of record.now ∷ []) }
+{
+    let _sound = question.program.len();
+    let way = tally.count_packet(
+        &mut Meter::new(),
+        question.program,
+        packet_of(record),
+        question.values,
+    );
+    Ended::of(record.number, &way.end)
+}
+
+/// Counts a packet by how it ends.
+// Kept out of line: the loop over records stands alone.
+#[inline(never)]
+pub(crate) fn add_ended<P: Allocator, A: Allocator + Copy>(
+    question: &Question<'_, P>,
+    counted: &mut Counted<A>,
+    record: &Captured<'_>,
+)
+    requires shows { (spec.shows_groups question.now.report ≡ true) × (spec.shows_runs question.now.report ≡ false) }
+    requires took { (records : List Record) × spec.Took question.now counted.old records × (length records + 1 < 2 ^ 64) }
+    ensures { (records : List Record) → spec.Took question.now counted.old records
+        → spec.Took question.now counted.new (records ++ record_of record.now ∷ []) }
+{
+    counted.groups.add(end_of::<P, 4>(question, record));
+}
+
+/// Counts a packet by how it ends, and its instructions.
+pub(crate) fn add_counted<P: Allocator, A: Allocator + Copy>(
+    question: &Question<'_, P>,
+    counted: &mut Counted<A>,
+    record: &Captured<'_>,
+)
+    requires shows { (spec.shows_groups question.now.report ≡ true) × (spec.shows_runs question.now.report ≡ true) }
+    requires took { (records : List Record) × spec.Took question.now counted.old records × (length records + 1 < 2 ^ 64) }
+    ensures { (records : List Record) → spec.Took question.now counted.old records
+        → spec.Took question.now counted.new (records ++ record_of record.now ∷ []) }
+{
+    let ended = count_packet(question, &mut counted.tally, record);
+    counted.groups.add(ended);
+}

@@ -1,0 +1,98 @@
+//! How a packet ends.
+
+ghost use Rattle.std.specs.Prelude.{◌≡◌, ◌≤◌, ◌+◌, ◌++◌, length};
+ghost use Rattle.cbpf_code.specs.declared.writing.TheConstants.{LINE_SIZE};
+ghost use Rattle.cbpf_why.specs.Ends as spec;
+
+use cbpf_code::{Line, ext_name};
+use cbpf_machine::{End, Outcome, PacketEnd};
+
+/// What a packet's end means for the packet.
+#[derive(Clone, Copy, Debug, PartialEq, Eq)]
+pub enum Verdict {
+    /// The program returned a number other than 0.
+    Pass,
+    /// The program returned 0, loaded from outside the packet or divided by 0.
+    Fail,
+    /// The program asked for an extension that has no value.
+    Unknown,
+}
+
+/// A packet that ended.
+#[derive(Clone, Copy, Debug, PartialEq, Eq)]
+pub struct Ended {
+    /// The number of the packet, counted from 1.
+    pub packet: u64,
+    /// The number of its last instruction, counted from 0.
+    pub pc: u32,
+    /// Why it ended there.
+    pub reason: End,
+}
+
+impl Ended {
+    /// The packet of this number, by how a run of the program on it ended.
+    pub(crate) fn of(packet: u64, end: &PacketEnd) -> Ended
+        ensures { result ≡ record { packet = packet; pc = end.now.last.pc; reason = end.now.reason } }
+    {
+        Ended {
+            packet,
+            pc: end.last.pc(),
+            reason: end.reason,
+        }
+    }
+
+    /// What it means for the packet.
+    pub fn verdict(self) -> Verdict
+        ensures { result ≡ spec.verdict_of self.reason }
+    {
+        match Outcome::from(self.reason) {
+            Outcome::Pass(_) => Verdict::Pass,
+            Outcome::Fail => Verdict::Fail,
+            Outcome::Unknown(_) => Verdict::Unknown,
+        }
+    }
+}
+
+/// Puts the word for a verdict, of at most 7 bytes.
+pub(crate) fn put_verdict(line: &mut Line, verdict: Verdict)
+    requires { length line.old + 7 ≤ LINE_SIZE }
+    ensures text { line.new ≡ spec.verdict_text verdict ++ line.old }
+    ensures grown { length line.new ≤ length line.old + 7 }
+{
+    line.put(match verdict {
+        Verdict::Pass => b"pass",
+        Verdict::Fail => b"fail",
+        Verdict::Unknown => b"unknown",
+    });
+}
+
+/// Puts the value that was returned, or why none was, in at most 23 bytes.
+#[tactic(auto, using(cbpf_code::proofs::NameLemmas::names))]
+pub(crate) fn put_reason(line: &mut Line, end: End)
+    requires { length line.old + 23 ≤ LINE_SIZE }
+    ensures text { line.new ≡ spec.reason_text end ++ line.old }
+    ensures grown { length line.new ≤ length line.old + 23 }
+{
+    match end {
+        End::Returned(value) => line.put_u32(value),
+        End::Outside => line.put(b"outside the packet"),
+        End::ZeroDivisor => line.put(b"division by 0"),
+        End::Unknown(e) => {
+            line.put(b" has no value");
+            line.put(ext_name(e).as_bytes());
+        }
+    }
+}
+
+/// Puts why no value was returned, where that is so, in at most 25 bytes.
+pub(crate) fn put_reason_after(line: &mut Line, end: End)
+    requires { length line.old + 25 ≤ LINE_SIZE }
+    ensures text { line.new ≡ spec.reason_after end ++ line.old }
+    ensures grown { length line.new ≤ length line.old + 25 }
+{
+    if let End::Returned(_) = end {
+        return;
+    }
+    put_reason(line, end);
+    line.put(b", ");
+}

@@ -1,0 +1,239 @@
+//! How packets ended, counted.
+
+ghost use Rattle.std.specs.Prelude.{◌≡◌, ◌<◌, ◌+◌, ◌^◌, ◌++◌, [], ◌∷◌, List, ℕ, length, IfSome, slice_get, replicate, IfOk, Some, None};
+ghost use Rattle.cbpf_code.specs.Writing.{Wrote};
+ghost use Rattle.cbpf_why.specs.declared.ended.Ended.{Ended as AnEnded};
+ghost use Rattle.cbpf_why.specs.declared.ended.Verdict.{Verdict as AVerdict};
+ghost use Rattle.cbpf_why.specs.Ends.{verdict_of};
+ghost use Rattle.cbpf_why.specs.Groups as spec;
+
+use crate::ended::{Ended, Verdict, put_reason_after, put_verdict};
+use cbpf_code::{Line, Program, WriteFault, put_line};
+use cbpf_reply::Counts;
+use std::alloc::{AllocError, Allocator};
+use std::io::Write;
+use std::marker::Model;
+
+/// Packets that ended at the same instruction in the same way.
+#[derive(Clone, Copy, Debug, PartialEq, Eq)]
+pub(crate) struct Group {
+    /// How many there are.
+    pub(crate) count: u64,
+    /// The first of them.
+    pub(crate) first: Option<Ended>,
+}
+
+impl Group {
+    /// Adds a packet.
+    #[inline(always)]
+    fn add(&mut self, ended: Ended)
+        requires { self.old.count + 1 < 2 ^ 64 }
+        ensures { self.new ≡ spec.with_one self.old ended }
+    {
+        self.count += 1;
+        if self.first.is_none() {
+            self.first = Some(ended);
+        }
+    }
+}
+
+/// No packet.
+const EMPTY: Group = Group {
+    count: 0,
+    first: None,
+};
+
+/// Adds a packet to the group at its instruction.
+#[inline(always)]
+fn add<A: Allocator>(groups: &mut Vec<Group, A>, ended: Ended)
+    requires inside { ended.pc < length groups.old.items }
+    requires few { (ends : List AnEnded) × (v : AVerdict) × spec.AreGroups ends v groups.old.items × (length ends + 1 < 2 ^ 64) }
+    ensures groups { (ends : List AnEnded) → spec.AreGroups ends (verdict_of ended.reason) groups.old.items
+        → spec.AreGroups (ends ++ ended ∷ []) (verdict_of ended.reason) groups.new.items }
+    ensures long { length groups.new.items ≡ length groups.old.items }
+{
+    groups[ended.pc as usize].add(ended);
+}
+
+/// How packets ended, by the instruction and the way.
+#[derive(Drop)]
+pub(crate) struct Groups<A: Allocator> {
+    passed: Vec<Group, A>,
+    failed: Vec<Group, A>,
+    unknown: Vec<Group, A>,
+    totals: Counts,
+}
+
+fn empty_groups<A: Allocator>(alloc: A, length: u32) -> Result<Vec<Group, A>, AllocError>
+    ensures { IfOk result (λ groups. groups.items ≡ replicate length (record { count = 0; first = None })) }
+{
+    let mut groups = Vec::new(alloc);
+    groups.resize(length as usize, EMPTY)?;
+    Ok(groups)
+}
+
+impl<A: Allocator> Model for Groups<A> {
+    ghost use Rattle.cbpf_why.specs.Groups.{Kept};
+
+    ghost Value = { Kept };
+
+    ghost view = { λ g. record {
+      passed = g.passed.items;
+      failed = g.failed.items;
+      unknown = g.unknown.items;
+      totals = g.totals;
+    } };
+}
+
+impl<A: Allocator + Copy> Groups<A> {
+    /// No packet, for a program of so many instructions.
+    pub(crate) fn new(alloc: A, length: u32) -> Result<Groups<A>, AllocError>
+        ensures { IfOk result (λ g. spec.Keeps g length []) }
+    {
+        Ok(Groups {
+            passed: empty_groups(alloc, length)?,
+            failed: empty_groups(alloc, length)?,
+            unknown: empty_groups(alloc, length)?,
+            totals: Counts {
+                passes: 0,
+                fails: 0,
+                unknown: 0,
+            },
+        })
+    }
+
+    /// Adds a packet.
+    #[inline(always)]
+    pub(crate) fn add(&mut self, ended: Ended)
+        requires { (n : ℕ) × (ends : List AnEnded) × spec.Keeps self.old n ends × (length ends + 1 < 2 ^ 64) × (ended.pc < n) }
+        ensures { (n : ℕ) (ends : List AnEnded) → spec.Keeps self.old n ends → spec.Keeps self.new n (ends ++ ended ∷ []) }
+    {
+        match ended.verdict() {
+            Verdict::Pass => {
+                self.totals.passes += 1;
+                add(&mut self.passed, ended);
+            }
+            Verdict::Fail => {
+                self.totals.fails += 1;
+                add(&mut self.failed, ended);
+            }
+            Verdict::Unknown => {
+                self.totals.unknown += 1;
+                add(&mut self.unknown, ended);
+            }
+        }
+    }
+
+    /// The packets that ended at an instruction in a way.
+    pub(crate) fn at(&self, verdict: Verdict, i: u32) -> Group
+        requires { i < length (spec.by_verdict self.now verdict) }
+        ensures { slice_get (spec.by_verdict self.now verdict) i ≡ Some result }
+    {
+        match verdict {
+            Verdict::Pass => self.passed[i as usize],
+            Verdict::Fail => self.failed[i as usize],
+            Verdict::Unknown => self.unknown[i as usize],
+        }
+    }
+
+    /// How many packets passed and failed, and how many asked for an extension without a value.
+    pub(crate) fn totals(&self) -> Counts
+        ensures { result ≡ self.now.totals }
+    {
+        self.totals
+    }
+}
+
+/// Writes the line of a group, by how many packets it has and the first of them.
+fn write_group_line<W: Write, P: Allocator>(
+    w: &mut W,
+    p: &Program<P>,
+    count: u64,
+    first: Ended,
+) -> Result<(), WriteFault>
+    requires { first.pc < length p.now }
+    ensures { Wrote (W.contents w.old) (W.contents w.new) result (spec.group_line p.now count first) }
+{
+    let mut line = Line::new();
+    line.put(b"\n");
+    line.put_u64(first.packet);
+    line.put(b", first packet ");
+    put_reason_after(&mut line, first.reason);
+    put_line(&mut line, p, first.pc);
+    line.put(b" at ");
+    line.put_u64(count);
+    line.put(b" ");
+    put_verdict(&mut line, first.verdict());
+    line.write(w)
+}
+
+/// Writes the line of a group, where it has packets.
+#[tactic(auto, using(cbpf_code::proofs::WrittenLemmas::three, cbpf_code::proofs::WrittenLemmas::steps))]
+fn write_group<W: Write, P: Allocator>(
+    w: &mut W,
+    p: &Program<P>,
+    group: Group,
+) -> Result<(), WriteFault>
+    requires { IfSome group.first (λ e. e.pc < length p.now) }
+    ensures { Wrote (W.contents w.old) (W.contents w.new) result (spec.group_text p.now group) }
+{
+    match group.first {
+        Some(first) => write_group_line(w, p, group.count, first),
+        None => Ok(()),
+    }
+}
+
+/// Writes the lines of three groups.
+#[tactic(auto, using(cbpf_code::proofs::WrittenLemmas::three, cbpf_code::proofs::WrittenLemmas::steps))]
+fn write_three<W: Write, P: Allocator>(
+    w: &mut W,
+    p: &Program<P>,
+    passed: Group,
+    failed: Group,
+    unknown: Group,
+) -> Result<(), WriteFault>
+    requires passed { IfSome passed.first (λ e. e.pc < length p.now) }
+    requires failed { IfSome failed.first (λ e. e.pc < length p.now) }
+    requires unknown { IfSome unknown.first (λ e. e.pc < length p.now) }
+    ensures { Wrote (W.contents w.old) (W.contents w.new) result
+        (spec.group_text p.now passed ++ (spec.group_text p.now failed ++ spec.group_text p.now unknown)) }
+{
+    write_group(w, p, passed)?;
+    write_group(w, p, failed)?;
+    write_group(w, p, unknown)
+}
+
+/// Writes a line for each group at an instruction, those that passed before those that failed.
+fn write_groups_at<W: Write, A: Allocator + Copy, P: Allocator>(
+    w: &mut W,
+    p: &Program<P>,
+    groups: &Groups<A>,
+    i: u32,
+) -> Result<(), WriteFault>
+    requires inside { i < length p.now }
+    requires kept { (ends : List AnEnded) × spec.Keeps groups.now (length p.now) ends }
+    ensures { (ends : List AnEnded) → spec.Keeps groups.now (length p.now) ends
+        → Wrote (W.contents w.old) (W.contents w.new) result (spec.groups_at p.now ends i) }
+{
+    let passed = groups.at(Verdict::Pass, i);
+    let failed = groups.at(Verdict::Fail, i);
+    let unknown = groups.at(Verdict::Unknown, i);
+    write_three(w, p, passed, failed, unknown)
+}
+
+/// Writes a line for each group, in the program's order.
+#[tactic(auto, using(crate::proofs::TextLemmas::texts), unfolding(crate::specs::Groups::groups_text))]
+pub(crate) fn write_groups<W: Write, A: Allocator + Copy, P: Allocator>(
+    w: &mut W,
+    p: &Program<P>,
+    groups: &Groups<A>,
+) -> Result<(), WriteFault>
+    requires { (ends : List AnEnded) × spec.Keeps groups.now (length p.now) ends }
+    ensures { (ends : List AnEnded) → spec.Keeps groups.now (length p.now) ends
+        → Wrote (W.contents w.old) (W.contents w.new) result (spec.groups_text p.now ends) }
+{
+    for i in 0..p.len() {
+        write_groups_at(w, p, groups, i)?;
+    }
+    Ok(())
+}

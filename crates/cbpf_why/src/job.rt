@@ -1,0 +1,203 @@
+//! What is reported of a program on a capture.
+
+ghost use Rattle.std.specs.Prelude.{◌≡◌, ◌++◌, [], List, length, Ok, Err, IfSome, MatchResult};
+ghost use Rattle.std.specs.Option.{option_map_or};
+ghost use Rattle.cbpf_code.specs.Writing.{Wrote};
+ghost use Rattle.cbpf_reply.specs.Counts.{finished_text};
+ghost use Rattle.cbpf_reply.specs.Loads.{cut_text};
+ghost use Rattle.pcap_classic.specs.Records.{Record};
+ghost use Rattle.cbpf_why.specs.Chosen.{AreSorted};
+ghost use Rattle.cbpf_why.specs.Coverage.{coverage_text};
+ghost use Rattle.cbpf_why.specs.Ends.{ends_of};
+ghost use Rattle.cbpf_why.specs.Graph.{graph_text};
+ghost use Rattle.cbpf_why.specs.Groups.{Keeps, groups_text, totals};
+ghost use Rattle.cbpf_why.specs.Job as spec;
+ghost use Rattle.cbpf_why.specs.Reports as reports;
+ghost use Rattle.cbpf_why.specs.declared.ended.Ended.{Ended as AnEnded};
+ghost use Rattle.cbpf_why.specs.declared.job.WhyFault.TheVariants as fault;
+
+use crate::blocks::block_begins;
+use crate::chosen::PacketRange;
+use crate::counted::Counted;
+use crate::coverage::write_coverage;
+use crate::graph::{Counted as CountedProgram, write_graph};
+use crate::groups::{Groups, write_groups};
+use crate::report::Report;
+use crate::taking::take_packets;
+use cbpf_code::{Program, WriteFault};
+use cbpf_machine::Values;
+use cbpf_reply::{write_cut, write_finished};
+use pcap_classic::{CaptureReader, Ending};
+use std::alloc::Allocator;
+use std::io::{Read, Write};
+
+/// A program with values for extensions, and what is to be reported of it.
+#[derive(Drop)]
+pub struct Question<'a, P: Allocator> {
+    pub program: &'a Program<P>,
+    pub values: &'a Values,
+    pub report: Report,
+    /// Which packets are looked at, where the list isn't empty; else it is all.
+    pub packets: &'a [PacketRange],
+}
+
+/// Why a report ended before its end.
+#[derive(Clone, Copy, Debug, PartialEq, Eq)]
+pub enum WhyFault {
+    /// A read of the capture failed.
+    Read,
+    /// A write or a flush failed.
+    Write,
+    /// Out of memory.
+    Memory,
+    /// The report is whole, but the capture has no packet of this number.
+    NoPacket(u64),
+}
+
+/// Writes how packets ended, how many passed and failed, and where the capture is cut.
+#[tactic(auto, using(cbpf_code::proofs::WrittenLemmas::three, cbpf_code::proofs::WrittenLemmas::steps))]
+fn write_summary<P: Allocator, A: Allocator + Copy, W: Write>(
+    w: &mut W,
+    p: &Program<P>,
+    groups: &Groups<A>,
+    count: u64,
+    ending: Option<Ending>,
+) -> Result<(), WriteFault>
+    requires { (ends : List AnEnded) × Keeps groups.now (length p.now) ends }
+    ensures { (ends : List AnEnded) → Keeps groups.now (length p.now) ends
+        → Wrote (W.contents w.old) (W.contents w.new) result
+        (groups_text p.now ends ++ (finished_text (totals ends) ++ option_map_or (cut_text count) ending [])) }
+{
+    write_groups(w, p, groups)?;
+    write_finished(w, groups.totals())?;
+    match ending {
+        Some(ending) => write_cut(w, count, ending),
+        None => Ok(()),
+    }
+}
+
+/// Writes the graph of a program, of which this is counted.
+#[tactic(auto, using(cbpf_code::proofs::WrittenLemmas::three, cbpf_code::proofs::WrittenLemmas::steps))]
+fn write_counted_graph<P: Allocator, A: Allocator + Copy, W: Write>(
+    alloc: A,
+    w: &mut W,
+    question: &Question<'_, P>,
+    counted: &Counted<A>,
+) -> Result<(), WhyFault>
+    requires { (records : List Record)
+        × Keeps counted.now.groups (length question.now.program.now) (ends_of (spec.machine_in question.now) records)
+        × spec.Tallies counted.now.tally (spec.machine_in question.now) records }
+    ensures { (records : List Record)
+        → Keeps counted.now.groups (length question.now.program.now) (ends_of (spec.machine_in question.now) records)
+        → spec.Tallies counted.now.tally (spec.machine_in question.now) records
+        → spec.Closed (W.contents w.old) (W.contents w.new) result
+        (graph_text (spec.machine_in question.now) records (ends_of (spec.machine_in question.now) records)) }
+{
+    let Ok(begins) = block_begins(alloc, question.program) else {
+        return Err(WhyFault::Memory);
+    };
+    let counted = CountedProgram {
+        program: question.program,
+        runs: counted.tally.runs(),
+        begins: &begins,
+        groups: &counted.groups,
+    };
+    match write_graph(w, &counted) {
+        Ok(()) => Ok(()),
+        Err(_) => Err(WhyFault::Write),
+    }
+}
+
+/// Writes the listing with how often each instruction ran.
+fn write_counted_coverage<P: Allocator, A: Allocator + Copy, W: Write>(
+    w: &mut W,
+    question: &Question<'_, P>,
+    counted: &Counted<A>,
+) -> Result<(), WriteFault>
+    requires { (records : List Record) × spec.Tallies counted.now.tally (spec.machine_in question.now) records }
+    ensures { (records : List Record) → spec.Tallies counted.now.tally (spec.machine_in question.now) records
+        → Wrote (W.contents w.old) (W.contents w.new) result (coverage_text (spec.machine_in question.now) records) }
+{
+    write_coverage(w, question.program, counted.tally.runs())
+}
+
+/// A fault of a write as that of the report.
+fn written(done: Result<(), WriteFault>) -> Result<(), WhyFault>
+    ensures { MatchResult done (λ x. result ≡ Ok x) (λ e. result ≡ Err fault.Write) }
+{
+    match done {
+        Ok(()) => Ok(()),
+        Err(_) => Err(WhyFault::Write),
+    }
+}
+
+/// Writes what is reported of all packets together, of which so many were read, and how the capture ends where that is
+/// shown.
+fn write_closing<P: Allocator, A: Allocator + Copy, W: Write>(
+    alloc: A,
+    w: &mut W,
+    question: &Question<'_, P>,
+    counted: &Counted<A>,
+    count: u64,
+    ending: Option<Ending>,
+) -> Result<(), WhyFault>
+    requires { (records : List Record) × spec.Took question.now counted.now records }
+    ensures { (records : List Record) → spec.Took question.now counted.now records
+        → spec.Closed (W.contents w.old) (W.contents w.new) result
+        (reports.closing_text question.now.report (spec.machine_in question.now) records count ending) }
+{
+    let p = question.program;
+    match question.report {
+        Report::Ways => Ok(()),
+        Report::Packets => Ok(()),
+        Report::Summary => written(write_summary(w, p, &counted.groups, count, ending)),
+        Report::Coverage => written(write_counted_coverage(w, question, counted)),
+        Report::Graph => write_counted_graph(alloc, w, question, counted),
+    }
+}
+
+/// How the capture ends, where all packets are looked at.
+fn shown_ending(packets: &[PacketRange], ending: Option<Ending>) -> Option<Ending>
+    ensures { result ≡ reports.shown_ending packets.now ending }
+{
+    if packets.is_empty() { ending } else { None }
+}
+
+/// Writes what is to be reported of a program on a capture, of which no record was read yet.
+///
+/// The ranges of packets are sorted. Of a packet whose number stands in none nothing is reported, and after the last
+/// packet that is looked at nothing is read. What is reported packet by packet is flushed before a read that may wait.
+///
+/// The totals count the outcomes of the packets, as [`crate::totals_of_outcomes`] says. The debugger's `run` counts the
+/// same, as `same_totals` of cbpf_tool says.
+///
+/// # Errors
+///
+/// `Read` or `Memory` where no further record could be read: what was to be written of the packets before was written,
+/// but nothing of all together. `Memory` also where there is no room for the counts. `Write` where a write or a flush
+/// failed: a beginning of the text was written. `NoPacket` after the whole text.
+pub fn why<P: Allocator, A: Allocator + Copy, R: Read, B: Allocator, W: Write>(
+    alloc: A,
+    question: &Question<'_, P>,
+    reader: &mut CaptureReader<R, B>,
+    w: &mut W,
+) -> Result<(), WhyFault>
+    requires count { reader.old.count ≡ 0 }
+    requires sorted { AreSorted question.now.packets.now }
+    ensures { IfSome reader.old.left (λ c. reports.Reported question.now.report question.now.packets.now
+        (spec.machine_in question.now) c (W.contents w.old) (W.contents w.new) result) }
+{
+    let Ok(mut counted) = Counted::new(alloc, question.program) else {
+        return Err(WhyFault::Memory);
+    };
+    let missing = take_packets(question, &mut counted, reader, w)?;
+    let ending = shown_ending(question.packets, reader.ending());
+    write_closing(alloc, w, question, &counted, reader.count(), ending)?;
+    if w.flush().is_err() {
+        return Err(WhyFault::Write);
+    }
+    match missing {
+        Some(number) => Err(WhyFault::NoPacket(number)),
+        None => Ok(()),
+    }
+}

@@ -1,0 +1,26 @@
+//! Which packets of a capture pass a program, and why the others don't, for captures of any size.
+#![tactic(auto)]
+
+mod blocks;
+mod chosen;
+mod counted;
+mod coverage;
+mod ended;
+mod equality;
+mod filter;
+mod graph;
+mod groups;
+mod job;
+mod law;
+mod packets;
+mod report;
+mod taking;
+mod ways;
+
+pub use chosen::PacketRange;
+pub use ended::{Ended, Verdict};
+pub use equality::equal_where_same;
+pub use filter::{FilterFault, program_of};
+pub use job::{Question, WhyFault, why};
+pub use law::totals_of_outcomes;
+pub use report::Report;

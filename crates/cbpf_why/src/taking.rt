@@ -1,0 +1,231 @@
+//! The packets that are looked at, one after another.
+
+ghost use Rattle.std.specs.Prelude.{◌≡◌, ◌<◌, ◌≤◌, ◌+◌, ◌^◌, ◌++◌, [], ◌∷◌, List, length, true, Ok, IfErr, OnOk, not, IfSome, IfNone, MatchResult};
+ghost use Rattle.std.specs.Io.KnownBytes.{Keeps as KeepsBytes};
+ghost use Rattle.cbpf_code.specs.Writing.{Wrote};
+ghost use Rattle.pcap_classic.specs.Lent.{record_of};
+ghost use Rattle.pcap_classic.specs.Records.{Record};
+ghost use Rattle.cbpf_why.specs.Chosen.{AreSorted};
+ghost use Rattle.cbpf_why.specs.Job as spec;
+ghost use Rattle.cbpf_why.specs.Reports as reports;
+ghost use Rattle.cbpf_why.specs.declared.job.WhyFault.TheVariants as fault;
+
+use crate::chosen::PacketRange;
+use crate::counted::{Counted, add_counted, add_ended, end_of};
+use crate::job::{Question, WhyFault};
+use crate::packets::write_packet_line;
+use crate::report::Report;
+use crate::ways::write_way;
+use cbpf_code::WriteFault;
+use pcap_classic::{CaptureReader, Captured, ReadFault};
+use std::alloc::Allocator;
+use std::io::{Read, Write};
+
+/// Whether something is written of each packet as it comes.
+fn writes_each(report: Report) -> bool
+    ensures { result ≡ not (spec.shows_groups report) }
+{
+    matches!(report, Report::Ways | Report::Packets)
+}
+
+/// Counts a packet, or writes what is to be reported of it.
+fn take_packet<P: Allocator, A: Allocator + Copy, W: Write>(
+    question: &Question<'_, P>,
+    counted: &mut Counted<A>,
+    w: &mut W,
+    record: &Captured<'_>,
+) -> Result<(), WriteFault>
+    requires { (records : List Record) × spec.Took question.now counted.old records × (length records + 1 < 2 ^ 64) }
+    ensures wrote { Wrote (W.contents w.old) (W.contents w.new) result
+        (reports.packet_text question.now.report (spec.machine_in question.now) (record_of record.now)) }
+    ensures took { (records : List Record) → spec.Took question.now counted.old records
+        → OnOk result (spec.Took question.now counted.new (records ++ record_of record.now ∷ [])) }
+{
+    match question.report {
+        Report::Ways => write_way(w, question.program, question.values, record),
+        Report::Packets => write_packet_line(w, end_of::<P, 5>(question, record)),
+        Report::Summary => {
+            add_ended(question, counted, record);
+            Ok(())
+        }
+        Report::Coverage => {
+            add_counted(question, counted, record);
+            Ok(())
+        }
+        Report::Graph => {
+            add_counted(question, counted, record);
+            Ok(())
+        }
+    }
+}
+
+/// Flushes what was written of packets before a read that may wait.
+fn flush_if_due<R: Read, B: Allocator, W: Write>(
+    report: Report,
+    reader: &CaptureReader<R, B>,
+    w: &mut W,
+) -> Result<(), WhyFault>
+    ensures kept { KeepsBytes (W.contents w.old) (W.contents w.new) }
+    ensures counted { spec.shows_groups report ≡ true → result ≡ Ok tt }
+    ensures fault { IfErr result (λ e. e ≡ fault.Write) }
+{
+    if writes_each(report) && !reader.has_next() && w.flush().is_err() {
+        return Err(WhyFault::Write);
+    }
+    Ok(())
+}
+
+/// Reads a record, and takes it where its number isn't below the first one that is looked at: false at the end.
+fn take_next<P: Allocator, A: Allocator + Copy, R: Read, B: Allocator, W: Write>(
+    question: &Question<'_, P>,
+    counted: &mut Counted<A>,
+    reader: &mut CaptureReader<R, B>,
+    w: &mut W,
+    first: u64,
+) -> Result<bool, WhyFault>
+    requires { (records : List Record) × spec.Took question.now counted.old records × (length records + 1 < 2 ^ 64) }
+    ensures { (records : List Record) → spec.Took question.now counted.old records →
+        MatchResult result
+        (λ has_more. spec.Stepped question.now first records reader.old reader.new counted.new
+        (W.contents w.old) (W.contents w.new) has_more)
+        (λ fault. spec.StepFault question.now first reader.old reader.new (W.contents w.old) (W.contents w.new) fault) }
+{
+    if flush_if_due(question.report, reader, w).is_err() {
+        return Err(WhyFault::Write);
+    }
+    match reader.next_record() {
+        Ok(Some(record)) => {
+            if record.number < first {
+                return Ok(true);
+            }
+            match take_packet(question, counted, w, &record) {
+                Ok(()) => Ok(true),
+                Err(_) => Err(WhyFault::Write),
+            }
+        }
+        Ok(None) => Ok(false),
+        Err(ReadFault::Read(_)) => Err(WhyFault::Read),
+        Err(ReadFault::Memory) => Err(WhyFault::Memory),
+    }
+}
+
+/// Takes the packets of a range, where so many records were read before: how many were read after it. It is fewer than
+/// the range's last number only at the capture's end.
+fn take_range<P: Allocator, A: Allocator + Copy, R: Read, B: Allocator, W: Write>(
+    question: &Question<'_, P>,
+    counted: &mut Counted<A>,
+    reader: &mut CaptureReader<R, B>,
+    w: &mut W,
+    range: PacketRange,
+    before: u64,
+) -> Result<u64, WhyFault>
+    requires count { reader.old.count ≡ before }
+    requires few { before < 2 ^ 60 }
+    requires took { (records : List Record) × spec.Took question.now counted.old records × (length records ≤ before) }
+    ensures { (records : List Record) → spec.Took question.now counted.old records → length records ≤ before →
+        MatchResult result
+        (λ after. spec.Ranged question.now range records before reader.old reader.new counted.new
+        (W.contents w.old) (W.contents w.new) after)
+        (λ fault. spec.Faulted question.now range before reader.old reader.new
+        (W.contents w.old) (W.contents w.new) fault) }
+{
+    let mut count = before;
+    'records: while count < range.last {
+        match take_next(question, counted, reader, w, range.first) {
+            Ok(has_more) => {
+                if !has_more {
+                    return Ok(count);
+                }
+                count += 1;
+            }
+            Err(fault) => return Err(fault),
+        }
+    }
+    Ok(count)
+}
+
+/// The first number of a range that is above a count.
+fn first_above(range: PacketRange, count: u64) -> Option<u64>
+    requires { count < 2 ^ 60 }
+    ensures some { IfSome result (spec.IsFirstAbove range count) }
+    ensures none { IfNone result (reports.EndsBy count range) }
+{
+    let number = range.first.max(count + 1);
+    if number <= range.last {
+        Some(number)
+    } else {
+        None
+    }
+}
+
+/// Takes the packets of ranges, which are sorted: the first number that is looked at and that the capture doesn't have.
+fn take_ranges<P: Allocator, A: Allocator + Copy, R: Read, B: Allocator, W: Write>(
+    question: &Question<'_, P>,
+    counted: &mut Counted<A>,
+    reader: &mut CaptureReader<R, B>,
+    w: &mut W,
+) -> Result<Option<u64>, WhyFault>
+    requires count { reader.old.count ≡ 0 }
+    requires took { spec.Took question.now counted.old [] }
+    requires sorted { AreSorted question.now.packets.now }
+    ensures { MatchResult result
+        (λ missing. spec.Went question.now reader.old reader.new counted.new (W.contents w.old) (W.contents w.new)
+        × spec.Lacks question.now.packets.now reader.old.left reader.new missing)
+        (λ fault. spec.Broke question.now reader.old.left reader.new.left (W.contents w.old) (W.contents w.new) fault) }
+{
+    let mut count = 0;
+    for range in question.packets {
+        count = take_range(question, counted, reader, w, *range, count)?;
+        if let Some(number) = first_above(*range, count) {
+            return Ok(Some(number));
+        }
+    }
+    Ok(None)
+}
+
+/// Takes all packets.
+fn take_all<P: Allocator, A: Allocator + Copy, R: Read, B: Allocator, W: Write>(
+    question: &Question<'_, P>,
+    counted: &mut Counted<A>,
+    reader: &mut CaptureReader<R, B>,
+    w: &mut W,
+) -> Result<(), WhyFault>
+    requires count { reader.old.count ≡ 0 }
+    requires took { spec.Took question.now counted.old [] }
+    requires all { question.now.packets.now ≡ [] }
+    ensures { MatchResult result
+        (λ _. spec.Went question.now reader.old reader.new counted.new (W.contents w.old) (W.contents w.new)
+        × spec.IsOver reader.old.left reader.new)
+        (λ fault. spec.Broke question.now reader.old.left reader.new.left (W.contents w.old) (W.contents w.new) fault) }
+{
+    let all = PacketRange {
+        first: 1,
+        last: u64::MAX,
+    };
+    match take_range(question, counted, reader, w, all, 0) {
+        Ok(_) => Ok(()),
+        Err(fault) => Err(fault),
+    }
+}
+
+/// Takes the packets that are looked at: the first number that is looked at and that the capture doesn't have.
+pub(crate) fn take_packets<P: Allocator, A: Allocator + Copy, R: Read, B: Allocator, W: Write>(
+    question: &Question<'_, P>,
+    counted: &mut Counted<A>,
+    reader: &mut CaptureReader<R, B>,
+    w: &mut W,
+) -> Result<Option<u64>, WhyFault>
+    requires count { reader.old.count ≡ 0 }
+    requires took { spec.Took question.now counted.old [] }
+    requires sorted { AreSorted question.now.packets.now }
+    ensures { MatchResult result
+        (λ missing. spec.Went question.now reader.old reader.new counted.new (W.contents w.old) (W.contents w.new)
+        × spec.Lacking question.now.packets.now reader.old.left reader.new missing)
+        (λ fault. spec.Broke question.now reader.old.left reader.new.left (W.contents w.old) (W.contents w.new) fault) }
+{
+    if question.packets.is_empty() {
+        take_all(question, counted, reader, w)?;
+        return Ok(None);
+    }
+    take_ranges(question, counted, reader, w)
+}
