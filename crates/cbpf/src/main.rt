@@ -1,10 +1,15 @@
 //! `cbpf`: an assembler and a debugger for classic BPF.
 #![tactic(auto)]
 
+ghost use Rattle.std.specs.Prelude.{◌≡◌};
+ghost use Rattle.std.specs.Process.{exit_status};
 ghost use Rattle.cbpf_tool.specs.Hosted.{unknown};
+ghost use Rattle.cbpf_tool.specs.Requests.{HasSortedPackets};
+ghost use Rattle.cbpf_tool.specs.RunJob.{request_status};
 
 use cbpf_tool::{
-    CreateFault, DiskFiles, Failure, Host, LineFault, ToolFault, command_line, run_on, status_of,
+    CreateFault, DiskFiles, Failure, Host, LineFault, Request, ToolFault, WhyFailure, read_request,
+    request_status, run_request,
 };
 use std::io::{self, BufWriter, ErrorKind, Printer};
 use std::process::ExitCode;
@@ -73,13 +78,20 @@ fn words<R: Env + AllocGlobal>(rt: &R) -> io::Result<Vec<String>> {
     Ok(words)
 }
 
-fn complain<R: Eprint>(rt: &R, failure: &Failure) {
-    let _ = eprintln!(rt; "cbpf: {failure}");
+/// Says why the program failed, where it did, and gives the status with which it ends.
+fn end<R: Eprint>(rt: &R, done: &Result<(), WhyFailure>) -> ExitCode
+    ensures { exit_status result ≡ request_status done.now }
+{
+    if let Err(failure) = done {
+        let _ = eprintln!(rt; "cbpf: {failure}");
+    }
+    request_status(done)
 }
 
-fn report<R: Eprint>(rt: &R, failure: &Failure) -> ExitCode {
-    complain(rt, failure);
-    ExitCode::FAILURE
+fn report<R: Eprint>(rt: &R, failure: Failure) -> ExitCode
+    ensures { exit_status result ≡ 1 }
+{
+    end(rt, &Err(WhyFailure::Job(failure)))
 }
 
 /// Prints help or the version. A reader that closes its pipe has seen enough of such a text.
@@ -87,37 +99,43 @@ fn explain<R: Print + Eprint>(rt: &R, text: &str) -> ExitCode {
     match print!(rt; "{text}") {
         Ok(()) => ExitCode::SUCCESS,
         Err(e) if e.kind() == ErrorKind::BrokenPipe => ExitCode::SUCCESS,
-        Err(_) => report(rt, &Failure::Tool(ToolFault::Write)),
+        Err(_) => report(rt, Failure::Tool(ToolFault::Write)),
     }
 }
 
-fn do_job<R: Input + Print + Eprint + Files + AllocGlobal>(rt: &R, words: Vec<String>) -> ExitCode {
-    match command_line(rt.alloc(), words) {
-        Ok(job) => {
-            let done = run_on(rt.alloc(), &mut RealHost { rt }, job);
-            if let Err(failure) = &done {
-                complain(rt, failure);
-            }
-            status_of(&done)
-        }
+/// Says why the command line is refused.
+fn refuse<R: Eprint>(rt: &R, text: &str) -> ExitCode
+    ensures { exit_status result ≡ 2 }
+{
+    let _ = eprint!(rt; "{text}");
+    ExitCode::from(2)
+}
+
+fn run<R: Input + Print + Eprint + Files + AllocGlobal>(rt: &R, request: Request) -> ExitCode
+    requires sorted { HasSortedPackets request }
+{
+    let done = run_request(rt.alloc(), &mut RealHost { rt }, request);
+    end(rt, &done)
+}
+
+fn do_request<R: Input + Print + Eprint + Files + AllocGlobal>(
+    rt: &R,
+    words: Vec<String>,
+) -> ExitCode {
+    match read_request(rt.alloc(), words) {
+        Ok(request) => run(rt, request),
         Err(LineFault::Help(text)) => explain(rt, text.as_str()),
-        Err(LineFault::Refused(text)) => {
-            let _ = eprint!(rt; "{text}");
-            ExitCode::from(2)
-        }
-        Err(LineFault::Memory) => report(rt, &Failure::Tool(ToolFault::Memory)),
+        Err(LineFault::Refused(text)) => refuse(rt, text.as_str()),
+        Err(LineFault::Memory) => report(rt, Failure::Tool(ToolFault::Memory)),
     }
 }
 
 fn main(rt: HostRuntime) -> ExitCode {
     match words(&rt) {
-        Ok(words) => do_job(&rt, words),
+        Ok(words) => do_request(&rt, words),
         Err(e) if e.kind() == ErrorKind::OutOfMemory => {
-            report(&rt, &Failure::Tool(ToolFault::Memory))
+            report(&rt, Failure::Tool(ToolFault::Memory))
         }
-        Err(_) => {
-            let _ = eprintln!(rt; "cbpf: an argument is not UTF-8");
-            ExitCode::from(2)
-        }
+        Err(_) => refuse(&rt, "cbpf: an argument is not UTF-8\n"),
     }
 }

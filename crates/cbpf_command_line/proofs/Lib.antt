@@ -1,1 +1,3 @@
 pub mod Parses
+pub mod Requests
+pub mod WithoutWhy

@@ -4,7 +4,9 @@ use Rattle.std.proofs.Common.{ap, arith, refl, ◌∙◌, subst}
 use Rattle.clap.specs.Words.{App, Text, HasMatchesOf, is_simple, is_simple_and_free, fault_of, subcommand_of}
 use Rattle.clap.specs.Words.{subcommand_rows_of, Kinds, first_value, first_of, found_of, rows_of}
 use Rattle.clap.specs.Faults.{walk_fault, defaults_fault}
-use Rattle.clap.proofs.WalkLemmas.{first_value-rows}
+use Rattle.clap.specs.Words.{matched_of, raw_values, all_of}
+use Rattle.std.specs.Prelude.{option_map}
+use Rattle.clap.proofs.WalkLemmas.{first_value-rows, raw_values-rows}
 use Rattle.clap.specs.declared.parser.matches.ArgMatches.{ArgMatches}
 use Rattle.cbpf_command_line.specs.CommandLine.{cbpf_app, dbg, asked_for, asked_by, faults_in}
 
@@ -44,3 +46,7 @@ unfolding faults_in walk_fault defaults_fault
 faults_in-none [] few = refl
 faults_in-none (name ∷ []) few = refl
 faults_in-none (name ∷ word ∷ words) few = absurd (omega (arith, few))
+
+pub all_texts : (m : ArgMatches) (id : Text)
+    → option_map raw_values (matched_of (found_of m) id) ≡ all_of id (rows_of (found_of m))
+all_texts m id = raw_values-rows (found_of m) id

@@ -79,12 +79,16 @@ abbrev pub meaning : Job → Asked
 meaning (job.Asm form file) = asm form (option_map text_of file)
 meaning (job.Dbg input output) = dbg (option_map text_of input) (option_map text_of output)
 
+-- it is neither help nor the version
+abbrev pub IsRefusalKind : ErrorKind → Type 0
+IsRefusalKind kind = (kind ≢ DisplayHelp) × (kind ≢ DisplayVersion)
+
 -- help or the version where it is asked for, a refusal for every other kind of fault;
 -- `Memory` says nothing of the words
 abbrev pub IsFaultOf : List ErrorKind → LineFault → Type 0
 IsFaultOf kinds (Help text) = IsAmong DisplayHelp kinds ⊎ IsAmong DisplayVersion kinds
 IsFaultOf kinds (Refused text) =
-    (kind : ErrorKind) × (kind ≢ DisplayHelp) × (kind ≢ DisplayVersion) × IsAmong kind kinds
+    (kind : ErrorKind) × IsRefusalKind kind × IsAmong kind kinds
 IsFaultOf kinds Memory = Unit {0}
 
 -- two faults of the same kind, with the same text

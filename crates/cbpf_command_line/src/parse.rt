@@ -19,22 +19,25 @@ const ABOUT: &str = "An assembler and a debugger for classic BPF filters";
 const EXAMPLES: &str = "Without a command, cbpf runs the debugger, dbg, on standard input.
 
 Examples:
+  Say how the packets of a capture end in a filter:
+    $ cbpf why filter.asm trace.pcap
+  The same for a filter of tcpdump, compiled for the capture's link type:
+    $ tcpdump -r trace.pcap -ddd arp > filter.words
+    $ cbpf why filter.words trace.pcap
   Assemble a filter:
     $ cbpf asm filter.asm
   Run the debugger's commands in a file:
     $ cbpf dbg session.dbg
-  Count the packets of a capture that a filter passes:
-    $ (echo \"load bpf $(cbpf asm filter.asm)\"
-       echo load pcap trace.pcap; echo run) | cbpf
-  The same for a filter of tcpdump, compiled for the capture's link type:
-    $ (echo \"load bpf $(tcpdump -r trace.pcap -ddd arp | tr '\\n' ',')\"
-       echo load pcap trace.pcap; echo run) | cbpf
 
 Exit status:
   0  done, also where the debugger refused commands (its replies `error: ..`)
-  1  a source was refused, a file could not be opened, reading or writing
-     failed, or memory ran out
-  2  the command line was refused";
+  1  a source, a filter or a capture was refused, the capture has no packet of
+     a number that was asked for, a file could not be opened, reading or
+     writing failed, or memory ran out
+  2  the command line was refused
+
+The cause and cure of each error stand in share/doc/cbpf/REFERENCE.md, below
+the place where cbpf is installed. The manual page lists the errors.";
 
 const ASM_ABOUT: &str = "Assembles a filter's source, and writes its instructions";
 
@@ -104,7 +107,7 @@ fn form_flag<'a>(alloc: Global) -> Arg<'a>
 }
 
 /// The name of a file, which may be left out.
-fn file_name<'a>(alloc: Global, id: &'a str, name: &'a str, help: &'a str) -> Arg<'a>
+pub(crate) fn file_name<'a>(alloc: Global, id: &'a str, name: &'a str, help: &'a str) -> Arg<'a>
     ensures rule { rule_of result ≡ record (new_rule id.entry.now) { value_names = 1 } }
     ensures local { result.global ≡ false }
 {
@@ -112,7 +115,12 @@ fn file_name<'a>(alloc: Global, id: &'a str, name: &'a str, help: &'a str) -> Ar
 }
 
 /// A subcommand without arguments.
-fn bare<'a>(alloc: Global, name: &'a str, about: &'a str, examples: &'a str) -> Command<'a>
+pub(crate) fn bare<'a>(
+    alloc: Global,
+    name: &'a str,
+    about: &'a str,
+    examples: &'a str,
+) -> Command<'a>
     ensures app { app_of result ≡ new_app name.entry.now }
     ensures local { (fields_of result).has_globals ≡ false }
 {
@@ -137,7 +145,7 @@ fn dbg_command<'a>(alloc: Global) -> Result<Command<'a>, AllocError>
         .arg(file_name(alloc, "output", "OUTPUT", REPLIES))
 }
 
-fn command<'a>(alloc: Global) -> Result<Command<'a>, AllocError>
+pub(crate) fn command<'a>(alloc: Global) -> Result<Command<'a>, AllocError>
     ensures { IfOk result (λ c. app_of c ≡ spec.cbpf_app) }
 {
     Command::new(alloc, "cbpf")
@@ -150,7 +158,7 @@ fn command<'a>(alloc: Global) -> Result<Command<'a>, AllocError>
 
 /// What was given for an argument.
 #[tactic(auto, using(crate::proofs::Parses::first_text))]
-fn given_text<'a>(matches: &ArgMatches<'a>, id: &str) -> Option<&'a str>
+pub(crate) fn given_text<'a>(matches: &ArgMatches<'a>, id: &str) -> Option<&'a str>
     ensures { option_map (λ s. s.now) result ≡ first_of id.now (rows_of (found_of matches.now)) }
 {
     matches.get_str(id)
@@ -167,7 +175,7 @@ fn form_of(flag: Option<&str>) -> Form
 }
 
 /// The name that was given for an argument, in memory of its own.
-fn given_name(
+pub(crate) fn given_name(
     alloc: Global,
     matches: &ArgMatches<'_>,
     id: &str,
@@ -199,7 +207,7 @@ fn dbg_asked(alloc: Global, matches: &ArgMatches<'_>) -> Result<Job, AllocError>
     })
 }
 
-fn job_of(alloc: Global, matches: &ArgMatches<'_>) -> Result<Job, AllocError>
+pub(crate) fn job_of(alloc: Global, matches: &ArgMatches<'_>) -> Result<Job, AllocError>
     ensures { IfOk result (λ j. spec.meaning j ≡ spec.asked_by (subcommand_rows_of matches.now)) }
 {
     match matches.subcommand() {
@@ -212,7 +220,7 @@ fn job_of(alloc: Global, matches: &ArgMatches<'_>) -> Result<Job, AllocError>
     }
 }
 
-fn line_fault(alloc: Global, error: &Error) -> LineFault
+pub(crate) fn line_fault(alloc: Global, error: &Error) -> LineFault
     ensures { (kinds : List ErrorKind) → HasKind kinds error.now → spec.IsFaultOf kinds result }
 {
     if error.kind() == ErrorKind::OutOfMemory {

@@ -12,13 +12,13 @@ use Rattle.cbpf_tool.specs.Hosted.{Hosted, Event, and_then, without_output, open
 use Rattle.cbpf_tool.specs.Jobs.{tooled, Ends, Prints, RunsTool, AssembledTo, DebuggedTo, RepliesTo}
 use Rattle.cbpf_tool.specs.declared.failure.Failure.{Failure}
 
-appended-some : (old : List ℕ) (new : Option (List ℕ)) (t : List ℕ) → Appended (Some old) new t
+pub appended-some : (old : List ℕ) (new : Option (List ℕ)) (t : List ℕ) → Appended (Some old) new t
     → (text : List ℕ) × (new ≡ Some text)
 unfolding Appended
 appended-some old None t h = absurd h
 appended-some old (Some text) t h = (text, refl)
 
-part-some : (old : List ℕ) (new : Option (List ℕ)) (t : List ℕ) → AppendedPart (Some old) new t
+pub part-some : (old : List ℕ) (new : Option (List ℕ)) (t : List ℕ) → AppendedPart (Some old) new t
     → (text : List ℕ) × (new ≡ Some text)
 unfolding AppendedPart
 part-some old None t h = absurd h.3

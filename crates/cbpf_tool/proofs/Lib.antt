@@ -12,3 +12,5 @@ pub mod OutputLaws
 pub mod HostLemmas
 pub mod EachText
 pub mod ListedLemmas
+pub mod RequestLemmas
+pub mod WhyLemmas

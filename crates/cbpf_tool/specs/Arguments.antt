@@ -1,4 +1,4 @@
--- The words after a command's first one, as the parser keeps them.
+-- The words after a command's first one, as the parser keeps them. No public clause names it.
 use Rattle.std.specs.Prelude.{◌≡◌, ℕ, List, [], ◌∷◌}
 use Rattle.cbpf_tool.specs.declared.arguments.Arguments.{Arguments}
 use Rattle.cbpf_tool.specs.declared.arguments.Arguments.TheVariants.{Zero, One, Two, Three, More}

@@ -18,4 +18,7 @@ pub mod Assembling
 pub mod Hosted
 pub mod Jobs
 pub mod Laws
+pub mod Totals
 pub mod RunJob
+pub mod Requests
+pub mod WhyJobs

@@ -1,11 +1,17 @@
--- What a job of the command line does on a machine, and the status with which the program ends (this project's own).
-use Rattle.std.specs.Prelude.{ℕ, Result, Ok, Err, string_bytes}
+-- What a job or a request of the command line does on a machine, and the status with which the program ends
+-- (this project's own).
+use Rattle.std.specs.Prelude.{◌≡◌, ℕ, Result, Ok, Err, string_bytes}
 use Rattle.std.specs.Option.{option_map}
 use Rattle.cbpf_command_line.specs.declared.job.Job.{Job}
 use Rattle.cbpf_command_line.specs.declared.job.Job.TheVariants.{Asm, Dbg}
 use Rattle.cbpf_tool.specs.Hosted.{Hosted}
 use Rattle.cbpf_tool.specs.Jobs.{AsmJob, DbgJob}
+use Rattle.cbpf_tool.specs.WhyJobs.{WhyDone}
 use Rattle.cbpf_tool.specs.declared.failure.Failure.{Failure}
+use Rattle.cbpf_tool.specs.declared.request.Request.{Request}
+use Rattle.cbpf_tool.specs.declared.request.Request.TheVariants.{Job as AJob, Why}
+use Rattle.cbpf_tool.specs.declared.why_failure.WhyFailure.{WhyFailure}
+use Rattle.cbpf_tool.specs.declared.why_failure.WhyFailure.TheVariants as why_failure
 
 abbrev pub JobDone : Hosted → Hosted → Job → Result (Unit {0}) Failure → Type 0
 JobDone old new (Asm form file) r = AsmJob old new form (option_map (λ n. string_bytes n) file) r
@@ -15,3 +21,16 @@ JobDone old new (Dbg input output) r =
 abbrev pub status : Result (Unit {0}) Failure → ℕ
 status (Ok x) = 0
 status (Err e) = 1
+
+-- the result of the program's two jobs as that of a request
+abbrev pub as_request : Result (Unit {0}) Failure → Result (Unit {0}) WhyFailure
+as_request (Ok x) = Ok x
+as_request (Err e) = Err (why_failure.Job e)
+
+abbrev pub RequestDone : Hosted → Hosted → Request → Result (Unit {0}) WhyFailure → Type 0
+RequestDone old new (AJob job) r = (done : Result (Unit {0}) Failure) × JobDone old new job done × (r ≡ as_request done)
+RequestDone old new (Why job) r = WhyDone old new job r
+
+abbrev pub request_status : Result (Unit {0}) WhyFailure → ℕ
+request_status (Ok x) = 0
+request_status (Err e) = 1

@@ -14,7 +14,10 @@ use std::io::{Read, Write};
 
 /// All bytes up to the reader's end, by at most 18446744073709551615 reads. A read that is interrupted has
 /// failed like any other, which `read_to_end` would make again.
-fn read_source<A: Allocator, R: Read>(alloc: A, reader: &mut R) -> Result<Vec<u8, A>, ToolFault>
+pub(crate) fn read_source<A: Allocator, R: Read>(
+    alloc: A,
+    reader: &mut R,
+) -> Result<Vec<u8, A>, ToolFault>
     ensures bytes { IfOk result
         (λ source. (text : List ℕ) → R.remaining reader.old ≡ Some text → source.items ≡ text) }
     ensures end { OnOk result (IsAtEnd (R.remaining reader.new)) }

@@ -1,3 +1,5 @@
+// Why the assembler or the debugger ends before its end.
+
 use cbpf_text::AsmFault;
 use thiserror::Error;
 

@@ -1,6 +1,7 @@
 //! Laws of the definitions, which hold whatever a program does.
 
 ghost use Rattle.cbpf_tool.specs.Laws.{OneOutput, HasOutput, OwnIsOutput, NoOther};
+ghost use Rattle.cbpf_tool.specs.Totals.{SameTotals};
 
 /// A script has exactly one output where no growth is refused and no file fails, whatever it says and
 /// whatever the files hold; it is one of its outputs, by which no failure is counted. An output in
@@ -10,4 +11,10 @@ pub fn one_output()
     ensures some_output { HasOutput }
     ensures is_output { OwnIsOutput }
     ensures no_other { NoOther }
+{}
+
+/// The totals that `cbpf why` reports of all packets of a capture are the counts that `run` answers in the debugger, for
+/// the same program, capture and values, where it goes from the first packet to the last.
+pub fn same_totals()
+    ensures { SameTotals }
 {}

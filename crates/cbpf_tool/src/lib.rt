@@ -1,4 +1,5 @@
-//! The jobs of `cbpf`: the debugger over a script of commands, the assembler over a source, and the job of a command line.
+//! The jobs of `cbpf`: the debugger over a script of commands, the assembler over a source, why packets of a capture
+//! pass a filter or fail it, and what a command line asks for.
 #![tactic(auto)]
 
 mod arguments;
@@ -22,7 +23,10 @@ mod loads;
 mod memory_files;
 mod number;
 mod reply_to;
+mod request;
 mod run_job;
+mod why_failure;
+mod why_on_host;
 
 pub use asm_on_host::asm_job;
 pub use assembler::asm;
@@ -36,9 +40,12 @@ pub use failure::Failure;
 pub use fault::ToolFault;
 pub use files::Files;
 pub use host::{CreateFault, Host};
-pub use law::one_output;
+pub use law::{one_output, same_totals};
 pub use memory_files::MemoryFiles;
-pub use run_job::{run_on, status_of};
+pub use request::{Request, WhyJob, read_request};
+pub use run_job::{request_status, run_on, run_request, status_of};
+pub use why_failure::WhyFailure;
+pub use why_on_host::why_job;
 
 /// How many bytes are read at once, at most.
 pub(crate) const READ_SIZE: usize = 4096;

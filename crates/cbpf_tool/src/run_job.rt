@@ -1,13 +1,17 @@
-// The job that a command line asks for.
+// What a command line asks for.
 ghost use Rattle.std.specs.Prelude.{◌≡◌};
 ghost use Rattle.cbpf_tool.specs.Hosted.{IsReady};
 ghost use Rattle.std.specs.Process.{exit_status};
+ghost use Rattle.cbpf_tool.specs.Requests.{HasSortedPackets};
 ghost use Rattle.cbpf_tool.specs.RunJob as spec;
 
 use crate::asm_on_host::asm_job;
 use crate::dbg_on_host::dbg_job;
 use crate::failure::Failure;
 use crate::host::Host;
+use crate::request::Request;
+use crate::why_failure::WhyFailure;
+use crate::why_on_host::why_job;
 use cbpf_command_line::Job;
 use std::alloc::Allocator;
 use std::process::ExitCode;
@@ -29,5 +33,41 @@ pub fn status_of(done: &Result<(), Failure>) -> ExitCode
     match done {
         Ok(_) => ExitCode::SUCCESS,
         Err(_) => ExitCode::FAILURE,
+    }
+}
+
+/// The result of a job as that of a request.
+fn as_request(done: Result<(), Failure>) -> Result<(), WhyFailure>
+    ensures { result ≡ spec.as_request done }
+{
+    match done {
+        Ok(()) => Ok(()),
+        Err(failure) => Err(WhyFailure::Job(failure)),
+    }
+}
+
+/// Runs what a command line asks for on a machine.
+pub fn run_request<A: Allocator + Copy, H: Host>(
+    alloc: A,
+    host: &mut H,
+    request: Request,
+) -> Result<(), WhyFailure>
+    requires sorted { HasSortedPackets request }
+    ensures { IsReady (H.view host.old) → spec.RequestDone (H.view host.old) (H.view host.new) request result }
+{
+    match request {
+        Request::Job(job) => as_request(run_on(alloc, host, job)),
+        Request::Why(job) => why_job(alloc, host, job),
+    }
+}
+
+/// The status with which the program ends after a request.
+pub fn request_status(done: &Result<(), WhyFailure>) -> ExitCode
+    ensures { exit_status result ≡ spec.request_status done.now }
+{
+    if done.is_ok() {
+        ExitCode::SUCCESS
+    } else {
+        ExitCode::FAILURE
     }
 }

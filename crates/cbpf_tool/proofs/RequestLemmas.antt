@@ -1,0 +1,149 @@
+-- The words of `why`, one after another.
+use Rattle.std.proofs.Common.{◌≡◌, ℕ, ◌+◌, ◌-◌, ◌<◌, ◌≤◌, Bool, true, false, List, [], ◌∷◌, ◌++◌, map, fold, length}
+use Rattle.std.proofs.Common.{take, drop, get_or}
+use Rattle.std.proofs.Common.{Option, Some, None, refl, sym, ap, ◌∙◌, arith, length-drop, drop-cons, take_all, Global}
+use Rattle.std.specs.Prelude.{find, is_some, is_none, String}
+use Rattle.std.specs.Option.{option_or}
+use Rattle.std.specs.List.{filter_map}
+use Rattle.std.proofs.lemmas.List.{take-append-drop, map_more, take-map, get_or-map, map-append}
+use Rattle.std.proofs.lemmas.List.Folds.{find-append}
+use Rattle.std.proofs.lemmas.List.Sums.{fold-append}
+use Rattle.std.proofs.lemmas.List.Elements.{filter_map-append}
+use Rattle.cbpf_command_line.specs.CommandLine.{text_of}
+use Rattle.cbpf_why.specs.declared.chosen.PacketRange.{PacketRange}
+use Rattle.cbpf_machine.specs.Values.{Values, no_values}
+use Rattle.std.specs.Prelude.{IsSorted, suc}
+use Rattle.std.proofs.Common.{Ordering, Less, Equal, Greater, add-one, is_lt, nat_cmp}
+use Rattle.std.specs.Ordering.{ordering_then}
+use Rattle.std.proofs.lemmas.Map.Keys.{ge_from_not_lt}
+use Rattle.std.proofs.lemmas.List.Elements.{All-cons, All-nil, All-weaker}
+use Rattle.cbpf_command_line.specs.CommandLine.{Asked, IsFaultOf}
+use Rattle.cbpf_command_line.specs.RequestLine.{job, why, WhyAsked, requested_for, request_faults}
+use Rattle.cbpf_command_line.specs.declared.job.LineFault.{LineFault}
+use Rattle.cbpf_command_line.proofs.Requests.{fault-first}
+use Rattle.cbpf_why.specs.Chosen.{AreSorted}
+use Rattle.cbpf_tool.specs.Requests.{line_faults, why_faults}
+use Rattle.std.specs.Prelude.{if◌then◌else◌}
+use Rattle.cbpf_tool.specs.Requests.{value_in, with_given, values_by, packet_range, no_value, no_packets}
+
+-- the whole rest of a word
+pub rest : (s : List ℕ) (n : ℕ) → take (length s - n) (drop n s) ≡ drop n s
+rest s n = take_all _ _ (omega (arith, length-drop {A = ℕ}))
+
+pub none-of-some : {X : Type 0} (o : Option X) → is_some o ≡ false → is_none o ≡ true
+none-of-some None e = refl
+none-of-some (Some x) e = absurd (cc e)
+
+pub some-of-none : {X : Type 0} (o : Option X) → is_some o ≡ true → is_none o ≡ false
+some-of-none None e = absurd (cc e)
+some-of-none (Some x) e = refl
+
+-- the words up to the next one
+taken-more : (words : List (String Global)) (i : ℕ) (d : String Global) → i < length words
+    → map text_of (take (i + 1) words) ≡ map text_of (take i words) ++ text_of (get_or words i d) ∷ []
+taken-more words i d inside = map_more text_of words i d inside
+
+module _ (p : List ℕ → Bool) where
+  found-last : (front : List (List ℕ)) (word : List ℕ) (b : Bool) → find p front ≡ None → p word ≡ b
+      → find p (front ++ word ∷ []) ≡ (if b then Some word else None)
+  found-last front word true none e = find-append p front (word ∷ []) ∙ rw (none, e) refl
+  found-last front word false none e = find-append p front (word ∷ []) ∙ rw (none, e) refl
+
+  found-front : (front more : List (List ℕ)) (word : List ℕ) → find p front ≡ Some word
+      → find p (front ++ more) ≡ Some word
+  found-front front more word e = find-append p front more ∙ rw e refl
+
+  module _ (words : List (String Global)) (i : ℕ) (d : String Global) (inside : i < length words)
+      (before : find p (map text_of (take i words)) ≡ None) where
+    -- no word yet passes the test
+    pub none-yet : p (text_of (get_or words i d)) ≡ false → find p (map text_of (take (i + 1) words)) ≡ None
+    none-yet e = ap (find p) (taken-more words i d inside) ∙ found-last _ _ false before e
+
+    -- it is the first word that passes the test
+    pub first-one : p (text_of (get_or words i d)) ≡ true
+        → find p (map text_of words) ≡ Some (text_of (get_or words i d))
+    first-one e =
+        let here : find p (map text_of (take (i + 1) words)) ≡ Some (text_of (get_or words i d)) =
+        ap (find p) (taken-more words i d inside) ∙ found-last _ _ true before e in
+        let whole : map text_of (take (i + 1) words) ++ map text_of (drop (i + 1) words) ≡ map text_of words =
+        sym (map-append text_of (take (i + 1) words) (drop (i + 1) words))
+        ∙ ap (map text_of) (take-append-drop (i + 1) words) in
+        ap (find p) (sym whole) ∙ found-front _ (map text_of (drop (i + 1) words)) _ here
+
+-- one more word
+pub values-more : (words : List (String Global)) (i : ℕ) (d : String Global) → i < length words
+    → values_by (map text_of (take (i + 1) words))
+    ≡ with_given (values_by (map text_of (take i words))) (value_in (text_of (get_or words i d)))
+values-more words i d inside =
+    let sets : Values → List ℕ → Values = λ values word. with_given values (value_in word) in
+    ap values_by (taken-more words i d inside)
+    ∙ fold-append sets no_values (map text_of (take i words)) (text_of (get_or words i d) ∷ [])
+
+pub ranges-more : (words : List (String Global)) (i : ℕ) (d : String Global) (range : PacketRange) → i < length words
+    → packet_range (text_of (get_or words i d)) ≡ Some range
+    → filter_map packet_range (map text_of (take (i + 1) words))
+    ≡ filter_map packet_range (map text_of (take i words)) ++ range ∷ []
+ranges-more words i d range inside e =
+    ap (filter_map packet_range) (taken-more words i d inside)
+    ∙ filter_map-append packet_range (map text_of (take i words)) (text_of (get_or words i d) ∷ []) ∙ rw e refl
+
+-- all words
+pub whole : (words : List (String Global)) → take (length words) words ≡ words
+whole words = take_all (length words) words (omega arith)
+
+pub ruleset named = (none-yet, first-one, values-more, ranges-more, none-of-some, some-of-none, whole)
+
+-- ---- sorted ranges
+
+first-not-less : (o q : Ordering) → is_lt (ordering_then o q) ≡ false → is_lt o ≡ false
+first-not-less Less q h = h
+first-not-less Equal q h = refl
+first-not-less Greater q h = refl
+
+abbrev Rises : List PacketRange → Type 0
+Rises xs = (k : ℕ) (d : PacketRange) → suc k < length xs → (get_or xs k d).first ≤ (get_or xs (suc k) d).first
+
+rises-tail : (x : PacketRange) (xs : List PacketRange) → Rises (x ∷ xs) → Rises xs
+rises-tail x xs h k d l = h (suc k) d (omega (arith, l))
+
+sorted-rising : (xs : List PacketRange) → Rises xs → AreSorted xs
+sorted-rising [] h = tt
+sorted-rising (x ∷ []) h = (All-nil _, tt)
+sorted-rising (x ∷ y ∷ xs) h =
+    let rest : AreSorted (y ∷ xs) = sorted-rising (y ∷ xs) (rises-tail x (y ∷ xs) h) in
+    let step : x.first ≤ y.first = h 0 x (omega arith) in (
+      All-cons (λ r. x.first ≤ r.first) y xs step
+          (All-weaker (λ r. y.first ≤ r.first) (λ r. x.first ≤ r.first) (λ r l. omega (arith, step, l)) xs rest.0),
+      rest,
+    )
+
+pub sorted-ranges : (xs : List PacketRange)
+    → IsSorted (λ a b. ordering_then (nat_cmp a.first b.first) (nat_cmp a.last b.last)) xs → AreSorted xs
+sorted-ranges xs h = sorted-rising xs (λ k d l.
+    let next : k + 1 < length xs = omega (arith, l) in
+    rw (add-one k) at (ge_from_not_lt (get_or xs (k + 1) d).first (get_or xs k d).first
+    (first-not-less (nat_cmp (get_or xs (k + 1) d).first (get_or xs k d).first)
+    (nat_cmp (get_or xs (k + 1) d).last (get_or xs k d).last) (h k d (omega arith) next))))
+
+-- ---- faults of a command line
+
+module _ (words : List (List ℕ)) where
+  pub line-first : (fault : LineFault) → IsFaultOf (request_faults words) fault → IsFaultOf (line_faults words) fault
+  unfolding line_faults
+  line-first fault h = fault-first _ _ fault h
+
+  pub none-of-job : (asked : Asked) → job asked ≡ requested_for words → request_faults words ≡ []
+      → line_faults words ≡ []
+  unfolding line_faults
+  none-of-job asked e n = rw (n, ← e) refl
+
+  module _ (asked : WhyAsked) (e : why asked ≡ requested_for words) (n : request_faults words ≡ []) where
+    pub none-of-why : why_faults asked ≡ [] → line_faults words ≡ []
+    unfolding line_faults
+    none-of-why h = rw (n, ← e, h) refl
+
+    pub fault-of-why : (fault : LineFault) → IsFaultOf (why_faults asked) fault → IsFaultOf (line_faults words) fault
+    unfolding line_faults
+    fault-of-why fault h = rw (n, ← e) h
+
+pub ruleset lines = (line-first, none-of-job, none-of-why, fault-of-why)

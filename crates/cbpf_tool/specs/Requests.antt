@@ -1,0 +1,142 @@
+-- What a command line asks for, with `why`: which packets, which values and which report (this project's own).
+use Rattle.std.specs.Prelude.{◌≡◌, ℕ, ◌+◌, ◌-◌, ◌^◌, ◌==◌, nat_le, nat_lt, Bool, true, false, if◌then◌else◌, List, []}
+use Rattle.std.specs.Prelude.{◌∷◌, ◌++◌, map, fold}
+use Rattle.std.specs.Prelude.{length, take, drop, position, find, codes, string_bytes, IsPermutation}
+use Rattle.std.specs.Prelude.{Option, Some, None, is_none, option_map, option_and_then}
+use Rattle.std.specs.List.{filter_map}
+use Rattle.cbpf_code.specs.Extension.{ext_named}
+use Rattle.cbpf_code.specs.declared.extension.Ext.{Ext}
+use Rattle.cbpf_command_line.specs.CommandLine.{meaning, asked_for}
+use Rattle.cbpf_command_line.specs.RequestLine.{Requested, job, why, WhyAsked, requested_for, request_faults, Kinds}
+use Rattle.cbpf_command_line.specs.RequestLine.{or_else, word_faults}
+use Rattle.cbpf_command_line.specs.declared.request.Detail.{Detail}
+use Rattle.cbpf_command_line.specs.declared.request.Detail.TheVariants as detail
+use Rattle.cbpf_machine.specs.Values.{Values, no_values, with_value, takes_value}
+use Rattle.cbpf_why.specs.Chosen.{AreSorted}
+use Rattle.cbpf_why.specs.declared.chosen.PacketRange.{PacketRange}
+use Rattle.cbpf_why.specs.declared.report.Report.{Report}
+use Rattle.cbpf_why.specs.declared.report.Report.TheVariants as report
+use Rattle.cbpf_tool.specs.Numbers.{number_up_to}
+use Rattle.cbpf_tool.specs.Commands.{by_both}
+use Rattle.cbpf_tool.specs.declared.request.NamesFault.{NamesFault}
+use Rattle.cbpf_tool.specs.declared.request.NamesFault.TheVariants as names
+use Rattle.cbpf_tool.specs.declared.request.WhyJob.{WhyJob}
+use Rattle.cbpf_tool.specs.declared.request.Request.{Request}
+use Rattle.cbpf_tool.specs.declared.request.Request.TheVariants as request
+
+-- what stands before and after the first byte of a kind
+abbrev pub split_once : ℕ → List ℕ → Option (List ℕ × List ℕ)
+split_once sign word = option_map (λ i. (take i word, drop (i + 1) word)) (position (λ b. b == sign) word)
+
+-- ---- packets
+
+-- packets are counted from 1
+abbrev pub positive : ℕ → Option ℕ
+positive n = if n == 0 then None else Some n
+
+abbrev pub packet_number : List ℕ → Option ℕ
+packet_number word = option_and_then positive (number_up_to (2 ^ 64 - 1) word)
+
+abbrev pub range_between : ℕ → ℕ → Option PacketRange
+range_between first last = if nat_le first last then Some (record { first = first; last = last }) else None
+
+abbrev pub range_by : Option (List ℕ × List ℕ) → List ℕ → Option PacketRange
+range_by None word = option_map (λ n. record { first = n; last = n }) (packet_number word)
+range_by (Some ends) word =
+    option_and_then (λ first. option_and_then (range_between first) (packet_number ends.1)) (packet_number ends.0)
+
+-- a number, or a first and a last one with `-` between
+abbrev pub packet_range : List ℕ → Option PacketRange
+packet_range word = range_by (split_once 45 word) word
+
+-- ---- values
+
+-- an extension and a number, with `=` between
+abbrev pub extension_value : List ℕ → Option (Ext × ℕ)
+extension_value word =
+    option_and_then (λ ends. by_both (λ e n. (e, n)) (ext_named ends.0) (number_up_to (2 ^ 32 - 1) ends.1))
+    (split_once 61 word)
+
+abbrev pub where_taken : Ext × ℕ → Option (Ext × ℕ)
+where_taken v = if takes_value v.0 then Some v else None
+
+-- an extension that takes a value, and its value
+abbrev pub value_in : List ℕ → Option (Ext × ℕ)
+value_in word = option_and_then where_taken (extension_value word)
+
+abbrev pub with_given : Values → Option (Ext × ℕ) → Values
+with_given values None = values
+with_given values (Some v) = with_value values v.0 v.1
+
+-- the values that words give, of which a later one stands for an earlier one of the same extension
+abbrev pub values_by : List (List ℕ) → Values
+values_by words = fold (λ values word. with_given values (value_in word)) no_values words
+
+-- ---- refusals
+
+-- the first word that gives no value, and the first one that names no packets
+abbrev pub no_value : List (List ℕ) → Option (List ℕ)
+no_value words = find (λ word. is_none (value_in word)) words
+
+abbrev pub no_packets : List (List ℕ) → Option (List ℕ)
+no_packets words = find (λ word. is_none (packet_range word)) words
+
+-- why words don't name packets
+abbrev pub IsNamesFault : List (List ℕ) → NamesFault → Type 0
+IsNamesFault words (names.Refused word) = no_packets words ≡ Some word.now
+IsNamesFault words names.Memory = Unit {0}
+
+-- the refusal of a word that was given for an argument
+abbrev pub refusal_text : List ℕ → List ℕ → List ℕ
+refusal_text word argument =
+    codes "invalid value '" ++ (word ++ (codes "' for '" ++ (argument ++ codes "'")))
+
+abbrev pub refused_by : Option (List ℕ) → Kinds
+refused_by None = []
+refused_by (Some word) = word_faults
+
+abbrev pub why_faults : WhyAsked → Kinds
+why_faults asked = or_else (refused_by (no_value asked.values)) (refused_by (no_packets asked.packets))
+
+abbrev pub faults_by : Requested → Kinds
+faults_by (job asked) = []
+faults_by (why asked) = why_faults asked
+
+-- the kinds of faults that a command line may have, of which there are none where it is taken
+unfoldable pub line_faults : List (List ℕ) → Kinds
+line_faults words = or_else (request_faults words) (faults_by (requested_for words))
+
+-- ---- requests
+
+-- without a flag it is the way of each packet, where packets are named
+abbrev pub report_by : Option Detail → Bool → Report
+report_by (Some detail.Packets) has_packets = report.Packets
+report_by (Some detail.Listing) has_packets = report.Coverage
+report_by (Some detail.Graph) has_packets = report.Graph
+report_by None true = report.Ways
+report_by None false = report.Summary
+
+-- what `why` is asked is this job
+pub record IsWhyJob (asked : WhyAsked) (j : WhyJob) : Type 0 where
+  pub report : j.report ≡ report_by asked.detail (nat_lt 0 (length asked.packets))
+  pub values : j.values ≡ values_by asked.values
+  pub filter : string_bytes j.filter ≡ asked.filter
+  pub capture : option_map (λ name. string_bytes name) j.capture ≡ asked.capture
+  pub packets : IsPermutation (filter_map packet_range asked.packets) j.packets.items
+  pub sorted : AreSorted j.packets.items
+
+-- a request is what the words ask for
+abbrev pub IsRequest : Requested → Request → Type 0
+IsRequest (job asked) (request.Job j) = meaning j ≡ asked
+IsRequest (why asked) (request.Why j) = IsWhyJob asked j
+IsRequest _ _ = ⊥
+
+-- a request for a job that words without `why` ask for
+abbrev pub IsJobRequest : List (List ℕ) → Request → Type 0
+IsJobRequest words (request.Job j) = meaning j ≡ asked_for words
+IsJobRequest words (request.Why j) = ⊥
+
+-- the packets of `why` are sorted
+abbrev pub HasSortedPackets : Request → Type 0
+HasSortedPackets (request.Job j) = Unit {0}
+HasSortedPackets (request.Why j) = AreSorted j.packets.items

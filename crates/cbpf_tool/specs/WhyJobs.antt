@@ -1,0 +1,148 @@
+-- What `why` does on a machine: what is opened, read and printed, in which order, and which fault ends it (this
+-- project's own).
+use Rattle.std.specs.Prelude.{◌≡◌, ◌≢◌, ◌⊎◌, ℕ, if◌then◌else◌, List, [], ◌∷◌, Option, Some, None, Result, Ok, Err}
+use Rattle.std.specs.Prelude.{MatchResult, bytes_eq, codes, string_bytes}
+use Rattle.std.specs.Option.{option_map, option_and_then}
+use Rattle.std.specs.FinMap as map
+use Rattle.cbpf_code.specs.declared.insn.Insn.{Insn}
+use Rattle.cbpf_machine.specs.Machine.{Machine, machine_of}
+use Rattle.pcap_classic.specs.Savefile.{Savefile, IsSavefile, IsRefusal, capture_fault}
+use Rattle.pcap_classic.specs.declared.header.HeaderFault.{HeaderFault}
+use Rattle.pcap_classic.specs.declared.reading.OpenFault.{OpenFault}
+use Rattle.pcap_classic.specs.declared.reading.OpenFault.TheVariants as open_fault
+use Rattle.pcap_classic.specs.declared.reading.ReadFault.TheVariants as read_fault
+use Rattle.cbpf_why.specs.Filters.{IsFilter, IsNoFilter}
+use Rattle.cbpf_why.specs.Job.{machine_in}
+use Rattle.cbpf_why.specs.Reports.{Reported}
+use Rattle.cbpf_why.specs.declared.chosen.PacketRange.{PacketRange}
+use Rattle.cbpf_why.specs.declared.filter.FilterFault.TheVariants as filter_fault
+use Rattle.cbpf_why.specs.declared.job.Question.{Question}
+use Rattle.cbpf_why.specs.declared.job.WhyFault.{WhyFault}
+use Rattle.cbpf_why.specs.declared.job.WhyFault.TheVariants as why_fault
+use Rattle.cbpf_why.specs.declared.report.Report.{Report}
+use Rattle.cbpf_tool.specs.Hosted.{Hosted, and_then, without_input, without_output, opened, not_opened, printed}
+use Rattle.cbpf_tool.specs.declared.failure.Failure.{Failure}
+use Rattle.cbpf_tool.specs.declared.failure.Failure.TheVariants.{Tool, CannotOpen}
+use Rattle.cbpf_tool.specs.declared.fault.ToolFault.{ToolFault}
+use Rattle.cbpf_tool.specs.declared.fault.ToolFault.TheVariants.{Read, Write, Memory}
+use Rattle.cbpf_tool.specs.declared.request.WhyJob.{WhyJob}
+use Rattle.cbpf_tool.specs.declared.why_failure.WhyFailure.{WhyFailure}
+use Rattle.cbpf_tool.specs.declared.why_failure.WhyFailure.TheVariants as failure
+
+-- the fault of a tool
+abbrev pub failed : ToolFault → WhyFailure
+failed fault = failure.Job (Tool fault)
+
+-- a read failed of the file of this name, or of the standard input
+abbrev pub IsReadFailure : Option (List ℕ) → WhyFailure → Type 0
+IsReadFailure (Some name) (failure.Read n) = string_bytes n ≡ name
+IsReadFailure None (failure.Job fault) = fault ≡ Tool Read
+IsReadFailure _ _ = ⊥
+
+-- why a report on the capture of this name ended
+abbrev pub IsReportFailure : Option (List ℕ) → WhyFault → WhyFailure → Type 0
+IsReportFailure name why_fault.Read e = IsReadFailure name e
+IsReportFailure name why_fault.Write e = e ≡ failed Write
+IsReportFailure name why_fault.Memory e = e ≡ failed Memory
+IsReportFailure name (why_fault.NoPacket n) e = e ≡ failure.NoPacket n
+
+abbrev pub IsReported : Option (List ℕ) → Result (Unit {0}) WhyFault → Result (Unit {0}) WhyFailure → Type 0
+IsReported name (Ok x) r = r ≡ Ok x
+IsReported name (Err fault) r = MatchResult r (λ x. ⊥) (IsReportFailure name fault)
+
+-- the failure is that the file of this name could not be opened
+abbrev pub IsUnopened : List ℕ → WhyFailure → Type 0
+IsUnopened name (failure.Job (CannotOpen n)) = string_bytes n ≡ name
+IsUnopened name _ = ⊥
+
+-- ---- the filter
+
+-- a filter's text is this program; or it is none, and the failure has the name of its file and the fault; or the text
+-- or the program could not be read or held
+abbrev pub IsProgram : List ℕ → List ℕ → Result (List Insn) WhyFailure → Type 0
+IsProgram name text (Ok p) = IsFilter text p
+IsProgram name text (Err (failure.Filter n fault)) =
+    (string_bytes n ≡ name) × IsNoFilter text fault × (fault ≢ filter_fault.Memory)
+IsProgram name text (Err (failure.Read n)) = string_bytes n ≡ name
+IsProgram name text (Err (failure.Job (Tool Memory))) = Unit {0}
+IsProgram name text (Err _) = ⊥
+
+-- the file of this name could not be opened
+pub record NotOpened {X : Type 0} (old new : Hosted) (name : List ℕ) (r : Result X WhyFailure) : Type 0 where
+  pub failure : WhyFailure
+  pub is_err : r ≡ Err failure
+  pub names : IsUnopened name failure
+  pub event : new ≡ and_then old (not_opened name ∷ [])
+
+-- the file of the filter was opened and read, or could not be opened
+abbrev pub OpensFilter : Hosted → Hosted → List ℕ → Result (List Insn) WhyFailure → Type 0
+OpensFilter old new name r = NotOpened old new name r
+    ⊎ ((text : List ℕ) × (map.get old.files name ≡ Some text) × (new ≡ and_then old (opened name ∷ []))
+    × IsProgram name text r)
+
+-- ---- the report
+
+-- what is asked: which report of which packets, of a program with values
+pub record Query : Type 0 where
+  pub report : Report
+  pub ranges : List PacketRange
+  pub machine : Machine
+
+abbrev pub query_of : {P : Type 0} → Question P → Query
+query_of q = record { report = q.report; ranges = q.packets.now; machine = machine_in q }
+
+-- a report on a capture is the one text that was printed, whose end is the job's; or there was no room for a buffer,
+-- and nothing was printed
+pub data PrintsReport (old new : Hosted) (q : Query) (name : Option (List ℕ)) (c : Savefile)
+    (r : Result (Unit {0}) WhyFailure) : Type 0 where
+  no_room : new ≡ without_output old → r ≡ Err (failed Memory) → PrintsReport old new q name c r
+  prints : (text : List ℕ) (end : Result (Unit {0}) WhyFault) → new ≡ and_then (without_output old) (printed text ∷ [])
+      → Reported q.report q.ranges q.machine c (Some []) (Some text) end → IsReported name end r
+      → PrintsReport old new q name c r
+
+-- the fault of a header, with the capture's name where it is a file
+abbrev pub IsHeaderFailure : Option (List ℕ) → HeaderFault → WhyFailure → Type 0
+IsHeaderFailure None fault (failure.Input f) = f ≡ fault
+IsHeaderFailure (Some name) fault (failure.Capture n f) = (string_bytes n ≡ name) × (f ≡ fault)
+IsHeaderFailure _ fault _ = ⊥
+
+-- a header that was not taken
+abbrev pub IsOpenFailure : Option (List ℕ) → OpenFault → WhyFailure → Type 0
+IsOpenFailure name (open_fault.Header fault) e = IsHeaderFailure name fault e
+IsOpenFailure name (open_fault.Read (read_fault.Read x)) e = IsReadFailure name e
+IsOpenFailure name (open_fault.Read read_fault.Memory) e = e ≡ failed Memory
+
+-- a report on the capture that has these bytes. Where they have no header, or it could not be read, nothing was
+-- printed, and the standard output was not asked for
+pub data ReportsOn (old new : Hosted) (q : Query) (name : Option (List ℕ)) (bytes : List ℕ)
+    (r : Result (Unit {0}) WhyFailure) : Type 0 where
+  unread : (e : WhyFailure) → new ≡ old → IsReadFailure name e ⊎ (e ≡ failed Memory) → r ≡ Err e
+      → ReportsOn old new q name bytes r
+  no_capture : (fault : HeaderFault) (e : WhyFailure) → new ≡ old → IsRefusal (capture_fault fault) bytes
+      → IsHeaderFailure name fault e → r ≡ Err e → ReportsOn old new q name bytes r
+  a_capture : (c : Savefile) → IsSavefile bytes c → PrintsReport old new q name c r → ReportsOn old new q name bytes r
+
+-- the name of the capture's file, which is not the standard input
+abbrev pub file_name : Option (List ℕ) → Option (List ℕ)
+file_name name = option_and_then (λ n. if bytes_eq n (codes "-") then None else Some n) name
+
+-- a report on the standard input, or on the file of this name, which is opened first
+abbrev pub ReportsBy : Hosted → Hosted → Query → Option (List ℕ) → Result (Unit {0}) WhyFailure → Type 0
+ReportsBy old new q None r = ReportsOn (without_input old) new q None old.input r
+ReportsBy old new q (Some name) r = NotOpened old new name r
+    ⊎ ((bytes : List ℕ) × (map.get old.files name ≡ Some bytes)
+    × ReportsOn (and_then old (opened name ∷ [])) new q (Some name) bytes r)
+
+-- ---- the job
+
+abbrev pub query_by : WhyJob → List Insn → Query
+query_by job p = record { report = job.report; ranges = job.packets.items; machine = machine_of p job.values }
+
+-- `why`: the filter is opened and read first; where it isn't accepted, that is all, and else the capture is reported on
+pub record WhyDone (old new : Hosted) (job : WhyJob) (r : Result (Unit {0}) WhyFailure) : Type 0 where
+  pub mid : Hosted
+  pub filter : Result (List Insn) WhyFailure
+  pub opens : OpensFilter old mid (string_bytes job.filter) filter
+  pub goes : MatchResult filter
+      (λ p. ReportsBy mid new (query_by job p) (file_name (option_map (λ n. string_bytes n) job.capture)) r)
+      (λ e. (new ≡ mid) × (r ≡ Err e))

@@ -1,0 +1,264 @@
+// What a command line asks for, with `why`.
+ghost use Rattle.std.specs.Prelude.{◌≡◌, ◌==◌, ◌<◌, [], length, position, map, filter_map, option_map, is_some};
+ghost use Rattle.std.specs.Prelude.{false, Some, None, IfSome, IfOk, IfErr, OnOk, MatchResult, IsPermutation};
+ghost use Rattle.cbpf_command_line.specs.CommandLine.{text_of, IsFaultOf, faults_in};
+ghost use Rattle.cbpf_command_line.specs.RequestLine.{names_why, requested_for, why_meaning, word_faults};
+ghost use Rattle.cbpf_why.specs.Chosen.{AreSorted};
+ghost use Rattle.cbpf_tool.specs.Requests as spec;
+
+use crate::number::{number_32, number_up_to};
+use cbpf_code::{Ext, ext_named};
+use cbpf_command_line::{
+    Detail, Job, LineFault, RequestWords, WhyWords, refused_word, request_line,
+};
+use cbpf_machine::Values;
+use cbpf_why::{PacketRange, Report};
+use std::alloc::{AllocError, Global};
+
+/// `why`: which report of a filter on a capture.
+#[derive(Debug, Drop)]
+pub struct WhyJob {
+    pub report: Report,
+    /// The values of extensions.
+    pub values: Values,
+    /// The name of the filter's file.
+    pub filter: String,
+    /// The name of the capture; without one it is the standard input.
+    pub capture: Option<String>,
+    /// Which packets are looked at, sorted; where the list is empty, it is all.
+    pub packets: Vec<PacketRange>,
+}
+
+/// What a command line asks for.
+#[derive(Debug, Drop)]
+pub enum Request {
+    Job(Job),
+    Why(WhyJob),
+}
+
+/// The place of the first byte of a kind.
+fn place_of(word: &[u8], sign: u8) -> Option<usize>
+    ensures place { result ≡ position (λ b. b == sign) word.now }
+    ensures inside { IfSome result (λ i. i < length word.now) }
+{
+    word.iter().position(|b| *b == sign)
+}
+
+/// What stands before and after the first byte of a kind.
+#[tactic(auto, using(crate::proofs::RequestLemmas::rest))]
+fn split_once(word: &[u8], sign: u8) -> Option<(&[u8], &[u8])>
+    ensures { option_map (λ ends. (ends.0.now, ends.1.now)) result ≡ spec.split_once sign word.now }
+{
+    let place = place_of(word, sign)?;
+    Some((&word[..place], &word[place + 1..]))
+}
+
+/// A number that isn't 0.
+fn packet_number(word: &[u8]) -> Option<u64>
+    ensures { result ≡ spec.packet_number word.now }
+{
+    match number_up_to(word, u64::MAX) {
+        Some(0) | None => None,
+        Some(number) => Some(number),
+    }
+}
+
+/// The packets from one number to another, where there are any.
+fn range_between(first: u64, last: u64) -> Option<PacketRange>
+    ensures { result ≡ spec.range_between first last }
+{
+    if first <= last {
+        Some(PacketRange { first, last })
+    } else {
+        None
+    }
+}
+
+/// The packets that a word names: a number, or a first and a last one with `-` between.
+fn packet_range(word: &[u8]) -> Option<PacketRange>
+    ensures { result ≡ spec.packet_range word.now }
+{
+    match split_once(word, b'-') {
+        None => {
+            let number = packet_number(word)?;
+            Some(PacketRange {
+                first: number,
+                last: number,
+            })
+        }
+        Some((first, last)) => range_between(packet_number(first)?, packet_number(last)?),
+    }
+}
+
+/// An extension and its value, of a word `EXT=N`.
+fn extension_value(word: &[u8]) -> Option<(Ext, u32)>
+    ensures { result ≡ spec.extension_value word.now }
+{
+    let (name, number) = split_once(word, b'=')?;
+    Some((ext_named(name)?, number_32(number)?))
+}
+
+/// Sets the value that a word gives; false where it gives none.
+fn set_value(values: &mut Values, word: &[u8]) -> bool
+    ensures is_set { result ≡ is_some (spec.value_in word.now) }
+    ensures value { values.new ≡ spec.with_given values.old (spec.value_in word.now) }
+{
+    match extension_value(word) {
+        Some((e, n)) => values.set(e, n),
+        None => false,
+    }
+}
+
+/// The values that words give, or the first word that gives none.
+#[tactic(auto, using(crate::proofs::RequestLemmas::named))]
+fn values_of(words: &[String]) -> Result<Values, &str>
+    ensures { MatchResult result
+        (λ values. (spec.no_value (map text_of words.now) ≡ None) × (values ≡ spec.values_by (map text_of words.now)))
+        (λ word. spec.no_value (map text_of words.now) ≡ Some word.now) }
+{
+    let mut values = Values::new();
+    for word in words {
+        if !set_value(&mut values, word.as_str().as_bytes()) {
+            return Err(word.as_str());
+        }
+    }
+    Ok(values)
+}
+
+/// Why words don't name packets.
+#[derive(Clone, Copy)]
+enum NamesFault<'a> {
+    /// This is the first word that names none.
+    Refused(&'a str),
+    /// The allocator refused.
+    Memory,
+}
+
+/// The packets that words name, in the words' order.
+#[tactic(auto, using(crate::proofs::RequestLemmas::named))]
+fn ranges_named(alloc: Global, words: &[String]) -> Result<Vec<PacketRange>, NamesFault<'_>>
+    ensures { MatchResult result
+        (λ ranges. (spec.no_packets (map text_of words.now) ≡ None)
+        × (ranges.items ≡ filter_map spec.packet_range (map text_of words.now)))
+        (spec.IsNamesFault (map text_of words.now)) }
+{
+    let mut ranges = Vec::new(alloc);
+    for word in words {
+        let Some(range) = packet_range(word.as_str().as_bytes()) else {
+            return Err(NamesFault::Refused(word.as_str()));
+        };
+        if ranges.push(range).is_err() {
+            return Err(NamesFault::Memory);
+        }
+    }
+    Ok(ranges)
+}
+
+/// The packets that words name, sorted.
+fn ranges_of(alloc: Global, words: &[String]) -> Result<Vec<PacketRange>, NamesFault<'_>>
+    ensures { MatchResult result
+        (λ ranges. (spec.no_packets (map text_of words.now) ≡ None)
+        × IsPermutation (filter_map spec.packet_range (map text_of words.now)) ranges.items × AreSorted ranges.items)
+        (spec.IsNamesFault (map text_of words.now)) }
+{
+    let mut ranges = ranges_named(alloc, words)?;
+    match ranges.sort() {
+        Ok(()) => Ok(ranges),
+        Err(_) => Err(NamesFault::Memory),
+    }
+}
+
+/// What is wrong with a word that was given for an argument.
+fn refusal_text(alloc: Global, word: &str, argument: &str) -> Result<String, AllocError>
+    ensures { IfOk result (λ text. text_of text ≡ spec.refusal_text word.now argument.now) }
+{
+    format!(in alloc; "invalid value '{word}' for '{argument}'")
+}
+
+/// The refusal of a word that was given for an argument.
+fn refused(alloc: Global, word: &str, argument: &str) -> LineFault
+    ensures { IsFaultOf word_faults result }
+{
+    match refusal_text(alloc, word, argument) {
+        Ok(text) => refused_word(alloc, text.as_str()),
+        Err(_) => LineFault::Memory,
+    }
+}
+
+/// The report that is asked for.
+fn report_of(detail: Option<Detail>, has_packets: bool) -> Report
+    ensures { result ≡ spec.report_by detail has_packets }
+{
+    match detail {
+        Some(Detail::Packets) => Report::Packets,
+        Some(Detail::Listing) => Report::Coverage,
+        Some(Detail::Graph) => Report::Graph,
+        None if has_packets => Report::Ways,
+        None => Report::Summary,
+    }
+}
+
+/// The values that are asked for.
+fn values_asked(alloc: Global, words: &[String]) -> Result<Values, LineFault>
+    ensures { MatchResult result
+        (λ values. (spec.no_value (map text_of words.now) ≡ None) × (values ≡ spec.values_by (map text_of words.now)))
+        (IsFaultOf (spec.refused_by (spec.no_value (map text_of words.now)))) }
+{
+    match values_of(words) {
+        Ok(values) => Ok(values),
+        Err(word) => Err(refused(alloc, word, "-v <EXT=N>")),
+    }
+}
+
+/// The packets that are asked for.
+fn ranges_asked(alloc: Global, words: &[String]) -> Result<Vec<PacketRange>, LineFault>
+    ensures { MatchResult result
+        (λ ranges. (spec.no_packets (map text_of words.now) ≡ None)
+        × IsPermutation (filter_map spec.packet_range (map text_of words.now)) ranges.items × AreSorted ranges.items)
+        (IsFaultOf (spec.refused_by (spec.no_packets (map text_of words.now)))) }
+{
+    match ranges_of(alloc, words) {
+        Ok(ranges) => Ok(ranges),
+        Err(NamesFault::Refused(word)) => Err(refused(alloc, word, "[PACKET]...")),
+        Err(NamesFault::Memory) => Err(LineFault::Memory),
+    }
+}
+
+/// The job that the words of `why` ask for.
+fn why_of(alloc: Global, words: WhyWords) -> Result<WhyJob, LineFault>
+    ensures { MatchResult result
+        (λ job. (spec.why_faults (why_meaning words) ≡ []) × spec.IsWhyJob (why_meaning words) job)
+        (IsFaultOf (spec.why_faults (why_meaning words))) }
+{
+    let values = values_asked(alloc, &words.values)?;
+    let packets = ranges_asked(alloc, &words.packets)?;
+    Ok(WhyJob {
+        report: report_of(words.detail, !words.packets.is_empty()),
+        values,
+        filter: words.filter,
+        capture: words.capture,
+        packets,
+    })
+}
+
+/// What the words of a command line ask for, of which the first is the program's own name. Words that don't name `why`
+/// are answered as [`command_line`](crate::command_line) answers them.
+///
+/// # Errors
+///
+/// As of [`command_line`](crate::command_line); `Refused` also where two of `-l`, `-g` and `-p` are given, a word gives
+/// no value, or it names no packets.
+#[tactic(auto, using(crate::proofs::RequestLemmas::lines))]
+pub fn read_request(alloc: Global, words: Vec<String>) -> Result<Request, LineFault>
+    ensures request { IfOk result (spec.IsRequest (requested_for (map text_of words.items))) }
+    ensures sorted { IfOk result spec.HasSortedPackets }
+    ensures taken { OnOk result (spec.line_faults (map text_of words.items) ≡ []) }
+    ensures refused { IfErr result (IsFaultOf (spec.line_faults (map text_of words.items))) }
+    ensures before { names_why (map text_of words.items) ≡ false → MatchResult result
+        (spec.IsJobRequest (map text_of words.items)) (IsFaultOf (faults_in (map text_of words.items))) }
+{
+    match request_line(alloc, words)? {
+        RequestWords::Job(job) => Ok(Request::Job(job)),
+        RequestWords::Why(words) => Ok(Request::Why(why_of(alloc, words)?)),
+    }
+}

@@ -1,0 +1,73 @@
+// Why `why` ended before its end.
+ghost use Rattle.std.specs.Prelude.{◌≡◌, Some, None, string_bytes};
+ghost use Rattle.std.specs.Option.{option_map};
+ghost use Rattle.cbpf_tool.specs.WhyJobs as spec;
+
+use crate::failure::Failure;
+use crate::fault::ToolFault;
+use cbpf_reply::capture_fault_line;
+use cbpf_why::{FilterFault, WhyFault};
+use pcap_classic::{CaptureFault, HeaderFault};
+use thiserror::Error;
+
+/// Why the program failed, with `why`.
+#[derive(Debug, Drop, Error)]
+pub enum WhyFailure {
+    /// As of the other jobs.
+    #[error("{0}")]
+    Job(Failure),
+    /// The file of this name could not be read.
+    #[error("{}: {}", .0, ToolFault::Read)]
+    Read(String),
+    /// The filter of this name is refused.
+    #[error("{0}: {1}")]
+    Filter(String, FilterFault),
+    /// The capture of this name is none.
+    #[error("{}: {}", .0, capture_fault_line(CaptureFault::from(*.1)))]
+    Capture(String, HeaderFault),
+    /// The standard input holds no capture.
+    #[error("{}", capture_fault_line(CaptureFault::from(*.0)))]
+    Input(HeaderFault),
+    /// The capture has no packet of this number.
+    #[error("no packet {0}")]
+    NoPacket(u64),
+}
+
+/// The fault of a tool as that of `why`.
+pub(crate) fn failed(fault: ToolFault) -> WhyFailure
+    ensures { result ≡ spec.failed fault }
+{
+    WhyFailure::Job(Failure::Tool(fault))
+}
+
+/// A read failed of the file of this name, or of the standard input.
+pub(crate) fn read_failure(name: Option<String>) -> WhyFailure
+    ensures { spec.IsReadFailure (option_map (λ n. string_bytes n) name) result }
+{
+    match name {
+        Some(name) => WhyFailure::Read(name),
+        None => failed(ToolFault::Read),
+    }
+}
+
+/// Why a report on the capture of this name ended, as the failure of the job.
+fn report_failure(fault: WhyFault, name: Option<String>) -> WhyFailure
+    ensures { spec.IsReportFailure (option_map (λ n. string_bytes n) name) fault result }
+{
+    match fault {
+        WhyFault::Read => read_failure(name),
+        WhyFault::Write => failed(ToolFault::Write),
+        WhyFault::Memory => failed(ToolFault::Memory),
+        WhyFault::NoPacket(number) => WhyFailure::NoPacket(number),
+    }
+}
+
+/// The end of a report on the capture of this name as that of the job.
+pub(crate) fn reported(done: Result<(), WhyFault>, name: Option<String>) -> Result<(), WhyFailure>
+    ensures { spec.IsReported (option_map (λ n. string_bytes n) name) done result }
+{
+    match done {
+        Ok(()) => Ok(()),
+        Err(fault) => Err(report_failure(fault, name)),
+    }
+}

@@ -1,0 +1,208 @@
+// The job `why`.
+ghost use Rattle.std.specs.Prelude.{◌≡◌, ℕ, List, Some, None, IsTrue, string_bytes};
+ghost use Rattle.std.specs.Option.{option_map};
+ghost use Rattle.pcap_classic.specs.Savefile.{Savefile};
+ghost use Rattle.cbpf_why.specs.Chosen.{AreSorted};
+ghost use Rattle.cbpf_tool.specs.Hosted.{IsReady};
+ghost use Rattle.cbpf_tool.specs.WhyJobs as spec;
+
+use crate::assembler::read_source;
+use crate::failure::Failure;
+use crate::fault::ToolFault;
+use crate::host::Host;
+use crate::request::WhyJob;
+use crate::why_failure::{WhyFailure, failed, read_failure, reported};
+use cbpf_code::Program;
+use cbpf_why::{FilterFault, Question, program_of, why};
+use pcap_classic::{CaptureReader, OpenFault, ReadFault};
+use std::alloc::Allocator;
+use std::io::Read;
+
+/// The filter that a file holds.
+fn read_filter<A: Allocator + Copy, R: Read>(
+    alloc: A,
+    reader: &mut R,
+    name: String,
+) -> Result<Program<A>, WhyFailure>
+    ensures { (text : List ℕ) → R.remaining reader.old ≡ Some text → spec.IsProgram (string_bytes name) text result }
+{
+    let text = match read_source(alloc, reader) {
+        Ok(text) => text,
+        Err(ToolFault::Read) => return Err(WhyFailure::Read(name)),
+        Err(fault) => return Err(failed(fault)),
+    };
+    match program_of(alloc, text) {
+        Ok(program) => Ok(program),
+        Err(FilterFault::Memory) => Err(failed(ToolFault::Memory)),
+        Err(fault) => Err(WhyFailure::Filter(name, fault)),
+    }
+}
+
+/// The filter of this name.
+fn open_filter<A: Allocator + Copy, H: Host>(
+    alloc: A,
+    host: &mut H,
+    name: String,
+) -> Result<Program<A>, WhyFailure>
+    ensures { IsTrue (H.view host.old).is_known →
+        spec.OpensFilter (H.view host.old) (H.view host.new) (string_bytes name) result }
+{
+    match host.open(name.as_str()) {
+        Ok(source) => {
+            let mut source = source;
+            read_filter(alloc, &mut source, name)
+        }
+        Err(_) => Err(WhyFailure::Job(Failure::CannotOpen(name))),
+    }
+}
+
+/// Why the capture of this name can't be read.
+fn open_failure(fault: OpenFault, name: Option<String>) -> WhyFailure
+    ensures { spec.IsOpenFailure (option_map (λ n. string_bytes n) name) fault result }
+{
+    match fault {
+        OpenFault::Header(fault) => match name {
+            Some(name) => WhyFailure::Capture(name, fault),
+            None => WhyFailure::Input(fault),
+        },
+        OpenFault::Read(ReadFault::Read(_)) => read_failure(name),
+        OpenFault::Read(ReadFault::Memory) => failed(ToolFault::Memory),
+    }
+}
+
+/// Writes a report on the capture of this name to the standard output.
+fn print_report<A: Allocator + Copy, P: Allocator, H: Host, R: Read>(
+    alloc: A,
+    host: &mut H,
+    question: &Question<'_, P>,
+    reader: &mut CaptureReader<R, A>,
+    name: Option<String>,
+) -> Result<(), WhyFailure>
+    requires count { reader.old.count ≡ 0 }
+    requires sorted { AreSorted question.now.packets.now }
+    ensures { IsReady (H.view host.old) → (c : Savefile) → reader.old.left ≡ Some c →
+        spec.PrintsReport (H.view host.old) (H.view host.new) (spec.query_of question.now)
+        (option_map (λ n. string_bytes n) name) c result }
+{
+    let Ok(mut writer) = host.output() else {
+        return Err(failed(ToolFault::Memory));
+    };
+    let done = why(alloc, question, reader, &mut writer);
+    host.print(writer);
+    reported(done, name)
+}
+
+/// Writes a report on the capture that a reader gives.
+fn report_on<A: Allocator + Copy, P: Allocator, H: Host, R: Read + Drop>(
+    alloc: A,
+    host: &mut H,
+    question: &Question<'_, P>,
+    reader: R,
+    name: Option<String>,
+) -> Result<(), WhyFailure>
+    requires sorted { AreSorted question.now.packets.now }
+    ensures { IsReady (H.view host.old) → (bytes : List ℕ) → R.remaining reader ≡ Some bytes →
+        spec.ReportsOn (H.view host.old) (H.view host.new) (spec.query_of question.now)
+        (option_map (λ n. string_bytes n) name) bytes result }
+{
+    match CaptureReader::new(alloc, reader) {
+        Ok(capture) => {
+            let mut capture = capture;
+            print_report(alloc, host, question, &mut capture, name)
+        }
+        Err(fault) => Err(open_failure(fault, name)),
+    }
+}
+
+/// Writes a report on the capture of the standard input.
+fn report_on_input<A: Allocator + Copy, P: Allocator, H: Host>(
+    alloc: A,
+    host: &mut H,
+    question: &Question<'_, P>,
+) -> Result<(), WhyFailure>
+    requires sorted { AreSorted question.now.packets.now }
+    ensures { IsReady (H.view host.old) →
+        spec.ReportsBy (H.view host.old) (H.view host.new) (spec.query_of question.now) None result }
+{
+    let input = host.input();
+    report_on(alloc, host, question, input, None)
+}
+
+/// Writes a report on the capture of this name.
+fn report_on_file<A: Allocator + Copy, P: Allocator, H: Host>(
+    alloc: A,
+    host: &mut H,
+    question: &Question<'_, P>,
+    name: String,
+) -> Result<(), WhyFailure>
+    requires sorted { AreSorted question.now.packets.now }
+    ensures { IsReady (H.view host.old) → spec.ReportsBy (H.view host.old) (H.view host.new)
+        (spec.query_of question.now) (Some (string_bytes name)) result }
+{
+    match host.open(name.as_str()) {
+        Ok(source) => report_on(alloc, host, question, source, Some(name)),
+        Err(_) => Err(WhyFailure::Job(Failure::CannotOpen(name))),
+    }
+}
+
+/// The name of the capture's file, where it is not the standard input.
+fn file_of(capture: Option<String>) -> Option<String>
+    ensures { option_map (λ n. string_bytes n) result
+        ≡ spec.file_name (option_map (λ n. string_bytes n) capture) }
+{
+    let name = capture?;
+    if name.as_str() == "-" {
+        None
+    } else {
+        Some(name)
+    }
+}
+
+/// Writes a report on the capture of this name, or on that of the standard input.
+fn report_by_name<A: Allocator + Copy, P: Allocator, H: Host>(
+    alloc: A,
+    host: &mut H,
+    question: &Question<'_, P>,
+    capture: Option<String>,
+) -> Result<(), WhyFailure>
+    requires sorted { AreSorted question.now.packets.now }
+    ensures { IsReady (H.view host.old) → spec.ReportsBy (H.view host.old) (H.view host.new)
+        (spec.query_of question.now) (spec.file_name (option_map (λ n. string_bytes n) capture)) result }
+{
+    match file_of(capture) {
+        Some(name) => report_on_file(alloc, host, question, name),
+        None => report_on_input(alloc, host, question),
+    }
+}
+
+/// `why`: reports on a filter and a capture to the standard output. The filter's file is opened and read first, and
+/// nothing is printed before the capture's header was read. The packets of the job are sorted.
+///
+/// # Errors
+///
+/// `Job` where a file can't be opened, a read or a write failed, or memory ran out; `Filter` where the filter is
+/// refused; `Capture` or `Input` where the header of the capture is; `NoPacket` after the whole report.
+pub fn why_job<A: Allocator + Copy, H: Host>(
+    alloc: A,
+    host: &mut H,
+    job: WhyJob,
+) -> Result<(), WhyFailure>
+    requires sorted { AreSorted job.packets.items }
+    ensures { IsReady (H.view host.old) → spec.WhyDone (H.view host.old) (H.view host.new) job result }
+{
+    let WhyJob {
+        report,
+        values,
+        filter,
+        capture,
+        packets,
+    } = job;
+    let program = open_filter(alloc, host, filter)?;
+    let question = Question {
+        program: &program,
+        values: &values,
+        report,
+        packets: &packets,
+    };
+    report_by_name(alloc, host, &question, capture)
+}
