@@ -64,10 +64,10 @@ fn is_read_as_a_whole(rt: &impl Test, bytes: &[u8], chunk: usize) -> bool {
     }
 }
 
-/// The two packets with another first byte or two, which are of the magic.
-fn with_magic(rt: &impl Test, file: &[u8], place: usize, magic: [u8; 2]) -> Vec<u8> {
+/// A file with two other bytes at a place, as of the magic.
+pub(crate) fn with_bytes(rt: &impl Test, file: &[u8], place: usize, other: [u8; 2]) -> Vec<u8> {
     let mut bytes = Vec::from_slice(rt.alloc(), file).expect(rt, "memory");
-    for (there, byte) in bytes.iter_mut().skip(place).zip(magic) {
+    for (there, byte) in bytes.iter_mut().skip(place).zip(other) {
         *there = byte;
     }
     bytes
@@ -89,10 +89,10 @@ fn each_beginning_of_two_packets(rt: HostRuntime) {
 
 #[test]
 fn each_beginning_with_the_other_fraction(rt: HostRuntime) {
-    let nanos = with_magic(&rt, two_packets::little_endian(), 0, [0x4d, 0x3c]);
+    let nanos = with_bytes(&rt, two_packets::little_endian(), 0, [0x4d, 0x3c]);
     assert!(rt; capture(&rt, &nanos).nanos());
     each_beginning(&rt, &nanos, 7);
-    let micros = with_magic(&rt, two_packets::big_endian(), 2, [0xc3, 0xd4]);
+    let micros = with_bytes(&rt, two_packets::big_endian(), 2, [0xc3, 0xd4]);
     assert!(rt; !capture(&rt, &micros).nanos());
     each_beginning(&rt, &micros, 7);
 }
@@ -100,7 +100,7 @@ fn each_beginning_with_the_other_fraction(rt: HostRuntime) {
 #[test]
 fn each_byte_of_the_header_changed(rt: HostRuntime) {
     for place in 0..24 {
-        let bytes = with_magic(&rt, two_packets::little_endian(), place, [0x55, 0x55]);
+        let bytes = with_bytes(&rt, two_packets::little_endian(), place, [0x55, 0x55]);
         assert_at(&rt, place, is_read_as_a_whole(&rt, &bytes, 5));
     }
 }
@@ -116,8 +116,8 @@ fn fault_of(rt: &impl Test, bytes: &[u8]) -> Option<HeaderFault> {
 #[test]
 fn each_fault_of_the_header(rt: HostRuntime) {
     let file = two_packets::little_endian();
-    let of_another_version = with_magic(&rt, file, 6, [3, 0]);
-    let of_another_magic = with_magic(&rt, file, 0, [0, 0]);
+    let of_another_version = with_bytes(&rt, file, 6, [3, 0]);
+    let of_another_magic = with_bytes(&rt, file, 0, [0, 0]);
     assert!(rt; fault_of(&rt, file.get(0..23).unwrap_or(b"")) == Some(HeaderFault::FileHeaderCut));
     assert!(rt; fault_of(&rt, &of_another_magic) == Some(HeaderFault::UnknownMagic));
     assert!(rt; fault_of(&rt, &of_another_version) == Some(HeaderFault::UnknownVersion));
@@ -169,7 +169,7 @@ fn append_long(rt: &impl Abort, bytes: &mut Vec<u8>, captured: u32, present: usi
 }
 
 /// A capture of records of these captured lengths.
-fn of_lengths(rt: &impl Test, lengths: &[u32]) -> Vec<u8> {
+pub(crate) fn of_lengths(rt: &impl Test, lengths: &[u32]) -> Vec<u8> {
     let mut bytes = Vec::from_slice(rt.alloc(), HEADER).expect(rt, "memory");
     for length in lengths {
         append_long(rt, &mut bytes, *length, *length as usize);

@@ -2,13 +2,15 @@
 use crate::assertions::{Test, assert_named};
 use crate::fault_injection::{Fault, FaultyWriter};
 use crate::inputs::{
-    ARP, ARP_C, ARP_SCRIPT, ARP_SCRIPT_REPLIES, ARP_WORDS, ICMP_WORDS, program_of, session_of,
-    two_packets_as_k,
+    ARP, ARP_C, ARP_SCRIPT, ARP_SCRIPT_REPLIES, ARP_WORDS, ICMP_WORDS, TWO_PACKETS, program_of,
+    session_of, two_packets_as_k,
 };
+use crate::why::{ARP_REPORTS, report_on};
 use cbpf_code::{WriteFault, write_bytes, write_c, write_words};
 use cbpf_dbg::{MarkTrail, Meter, RunReply, Session};
 use cbpf_text::write_listing;
 use cbpf_tool::{Form, ToolFault, asm, debug};
+use cbpf_why::{Report, WhyFault};
 use std::io::ErrorKind;
 use std::process::Abort;
 
@@ -89,7 +91,7 @@ const SEVENTY: &[u8] =
 7 0 0 0,7 0 0 0,7 0 0 0,7 0 0 0,7 0 0 0,7 0 0 0,7 0 0 0,7 0 0 0,7 0 0 0,7 0 0 0,7 0 0 0,7 0 0 0,7 0 0 0,6 0 0 1,\n";
 
 /// What writes: bytes, a program in a form, which is the ICMP filter where none is named, a session its first
-/// stop, and the two jobs.
+/// stop, the two jobs, and a report on the ARP filter.
 #[derive(Clone, Copy, Debug)]
 enum Call {
     Bytes,
@@ -99,6 +101,7 @@ enum Call {
     Stop,
     Asm(Form),
     Debug(&'static [u8]),
+    Why(Report),
 }
 
 static CALLS: [(Call, &[u8]); 10] = [
@@ -174,6 +177,18 @@ fn write_replies(
     debug(rt.alloc(), &mut reader, w, &mut files)
 }
 
+fn write_report(
+    rt: &impl Test,
+    report: Report,
+    w: &mut FaultyWriter<2048>,
+) -> Result<(), ToolFault> {
+    match report_on(rt, (ARP, None, report), &[], TWO_PACKETS, w) {
+        Ok(()) => Ok(()),
+        Err(WhyFault::Write) => Err(ToolFault::Write),
+        Err(_) => Err(ToolFault::Read),
+    }
+}
+
 fn write(rt: &impl Test, call: Call, w: &mut FaultyWriter<2048>) -> Result<(), ToolFault> {
     let written = match call {
         Call::Bytes => write_bytes(w, ARP),
@@ -185,6 +200,7 @@ fn write(rt: &impl Test, call: Call, w: &mut FaultyWriter<2048>) -> Result<(), T
             return asm(rt.alloc(), &mut source, w, form);
         }
         Call::Debug(script) => return write_replies(rt, script, w),
+        Call::Why(report) => return write_report(rt, report, w),
     };
     match written {
         Ok(()) => Ok(()),
@@ -233,5 +249,14 @@ fn a_write_that_goes_wrong_is_the_last_one(rt: HostRuntime) {
     for (call, text) in CALLS.iter() {
         none_goes_wrong(&rt, *call, text);
         each_fault(&rt, *call, text);
+    }
+}
+
+#[test]
+fn a_write_of_a_report_that_fails_is_the_last_one(rt: HostRuntime) {
+    for (report, text, _) in &ARP_REPORTS {
+        let call = Call::Why(*report);
+        none_goes_wrong(&rt, call, text);
+        each_goes_wrong(&rt, call, text, Fault::Fails, ErrorKind::Other);
     }
 }

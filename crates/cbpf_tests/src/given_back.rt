@@ -6,12 +6,14 @@ use crate::inputs::{
     ARP, ARP_WORDS, HEADER, ICMP_WORDS, RECORD, STRAIGHT, program_of, repeated, two_packets,
     two_packets_as_k,
 };
+use crate::why::{ARP_REPORTS, report_in};
 use cbpf_code::{check, read_words};
 use cbpf_dbg::{ListTrail, MarkTrail, Session, Trail, When};
 use cbpf_machine::Tally;
 use cbpf_text::{assemble, tokens};
 use cbpf_tool::{DiskFiles, Files, Form, ToolFault, asm, debug};
-use pcap_classic::Capture;
+use cbpf_why::Report;
+use pcap_classic::{Capture, CaptureReader};
 use std::alloc::{Allocator, Global};
 use std::io;
 use std::io::Read;
@@ -81,6 +83,7 @@ enum Call {
     Capture(&'static [u8]),
     Tokens(&'static [u8]),
     Source(&'static [u8]),
+    Filter(&'static [u8]),
 }
 
 fn is_program_refused<A: Allocator>(rt: &impl Abort, alloc: A, text: &[u8]) -> bool {
@@ -92,6 +95,11 @@ fn is_capture_refused<A: Allocator + Copy>(rt: &impl Abort, alloc: A, bytes: &[u
     Capture::from_bytes(alloc, bytes).is_err()
 }
 
+fn is_filter_refused<A: Allocator + Copy>(rt: &impl Abort, alloc: A, text: &[u8]) -> bool {
+    let text = Vec::from_slice(alloc, text).expect(rt, "the text");
+    cbpf_why::program_of(alloc, text).is_err()
+}
+
 fn is_refused<A: Allocator + Copy>(rt: &impl Abort, alloc: A, call: Call) -> bool {
     match call {
         Call::Words(text) => read_words(alloc, text).is_err(),
@@ -99,11 +107,12 @@ fn is_refused<A: Allocator + Copy>(rt: &impl Abort, alloc: A, call: Call) -> boo
         Call::Capture(bytes) => is_capture_refused(rt, alloc, bytes),
         Call::Tokens(source) => tokens(alloc, source).is_err(),
         Call::Source(source) => assemble(alloc, source).is_err(),
+        Call::Filter(text) => is_filter_refused(rt, alloc, text),
     }
 }
 
 /// A call, and whether it is refused.
-static CALLS: [(Call, bool); 23] = [
+static CALLS: [(Call, bool); 29] = [
     (Call::Words(ICMP_WORDS), false),
     (Call::Words(b"3,6 0 0 1,6 0 0 1"), true),
     (Call::Words(b"2,6 0 0 1,6 0 0"), true),
@@ -127,6 +136,12 @@ static CALLS: [(Call, bool); 23] = [
     (Call::Source(b"in: ld #1\nin: ret #0"), true),
     (Call::Source(b"in: ld #1\njmp no\nret #0"), true),
     (Call::Source(b"in: ld #1\njmp in\nret #0"), true),
+    (Call::Filter(ARP), false),
+    (Call::Filter(ARP_WORDS), false),
+    (Call::Filter(b"2\n0 0 0 1\n22 0 0 0\n"), false),
+    (Call::Filter(b"in: ld #1\njmp in\nret #0"), true),
+    (Call::Filter(b"2,6 0 0 1,6 0 0 x"), true),
+    (Call::Filter(b"2,6 0 0 1,5 0 0 0"), true),
 ];
 
 #[test]
@@ -333,6 +348,36 @@ fn room_for_a_tally(rt: HostRuntime) {
     assert!(rt; counting.asked() == 336 && counting.held() == 336);
     drop(tally);
     assert!(rt; counting.held() == 0);
+}
+
+/// What a report on a capture asks for, beside the capture's reader and the text. It is given back.
+fn room_of_report(rt: &impl Test, report: Report, file: &[u8]) -> u64 {
+    let counting = FaultyAllocator::new(rt.alloc(), 0);
+    let mut reader = CaptureReader::new(rt.alloc(), file)
+        .ok()
+        .expect(rt, "the capture");
+    let mut text = Vec::new(rt.alloc());
+    let answer = report_in(
+        rt,
+        &counting,
+        (ARP, None, report),
+        &[],
+        &mut reader,
+        &mut text,
+    );
+    assert!(rt; answer == Ok(()) && counting.held() == 0);
+    counting.asked()
+}
+
+#[test]
+fn room_for_a_report(rt: HostRuntime) {
+    let file = repeated(&rt, HEADER, RECORD, 3000, b"");
+    for (report, _, _) in &ARP_REPORTS {
+        let room = room_of_report(&rt, *report, &file);
+        // Three groups of 40 bytes for each of 4 instructions, 16 bytes for how often it ran, and where blocks begin.
+        let is_wanted = room_of_report(&rt, *report, HEADER) == room && room <= 4 * 138;
+        assert_named(&rt, is_wanted, "the room of a report", *report);
+    }
 }
 
 /// The bytes that breakpoints at all instructions of a session take.

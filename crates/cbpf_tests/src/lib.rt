@@ -65,4 +65,6 @@ mod waiting;
 #[cfg(test)]
 mod ways;
 #[cfg(test)]
+mod why;
+#[cfg(test)]
 mod widths;

@@ -1,3 +1,5 @@
+//! The effect of each instruction, by packets and values from elsewhere.
+
 use crate::assertions::{Test, assert_at};
 use crate::inputs::program_of as of_words;
 use crate::programs::{next_state, program_of};

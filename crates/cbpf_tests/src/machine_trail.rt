@@ -1,3 +1,5 @@
+//! Trails by the calls of the machine alone.
+
 ghost use Rattle.std.specs.Prelude.{◌≡◌, ◌≤◌, ◌-◌, [], Some, length, slice_get, take};
 ghost use Rattle.cbpf_machine.specs.Follow.{Knows, KnowsEach};
 ghost use Rattle.cbpf_machine.specs.Machine.{machine_of};

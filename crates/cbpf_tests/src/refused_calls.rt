@@ -2,15 +2,17 @@
 use crate::assertions::{Test, assert_named};
 use crate::fault_injection::FaultyAllocator;
 use crate::inputs::{
-    HEADER, ICMP_WORDS, RECORD, STRAIGHT, TWO_PACKETS, program_of, repeated, session_of,
-    two_packets_as_k,
+    ARP, ARP_WORDS, HEADER, ICMP_WORDS, RECORD, STRAIGHT, TWO_PACKETS, program_of, repeated,
+    session_of, two_packets_as_k,
 };
+use crate::why::report_in;
 use cbpf_code::{WordFault, read_words};
 use cbpf_dbg::{ListTrail, MarkTrail, Meter, Session, SessionFault, Stop, When};
 use cbpf_machine::Tally;
 use cbpf_text::{AsmFault, assemble, tokens};
 use cbpf_tool::{DiskFiles, Files, LoadFault, MemoryFiles};
-use pcap_classic::{Capture, CaptureFault};
+use cbpf_why::{FilterFault, Report, WhyFault};
+use pcap_classic::{Capture, CaptureFault, CaptureReader};
 use std::alloc::Allocator;
 use std::process::Abort;
 use std::rt;
@@ -40,6 +42,9 @@ enum Call<'a> {
     Breakpoints(When),
     /// A run to the end over two packets, with so many breakpoints. The session is in another memory.
     RunToEnd(u64),
+    Filter(&'a [u8]),
+    /// What is reported of the ARP filter on two packets. The filter and the reader are in another memory.
+    Why(Report),
 }
 
 /// Whether the call answers that it is out of memory. What is called again after a refusal works.
@@ -56,6 +61,8 @@ fn finds_no_memory<A: Allocator + Copy>(rt: &impl DiskTest, alloc: A, call: Call
         Call::LoadFromDisk(name) => finds_none_for_a_disk_file(rt, alloc, name),
         Call::Breakpoints(when) => finds_none_for_breakpoints(rt, alloc, when),
         Call::RunToEnd(breakpoints) => finds_none_for_stops(rt, alloc, breakpoints),
+        Call::Filter(text) => finds_none_for_a_filter(alloc, text),
+        Call::Why(report) => finds_none_for_a_report(rt, alloc, report),
     }
 }
 
@@ -208,6 +215,25 @@ fn finds_none_for_stops<A: Allocator + Copy>(rt: &impl Test, alloc: A, breakpoin
     finds_none_in_a_run(rt, alloc, &mut session, breakpoints)
 }
 
+fn finds_none_for_a_filter<A: Allocator + Copy>(alloc: A, text: &[u8]) -> bool {
+    match Vec::from_slice(alloc, text) {
+        Ok(text) => matches!(cbpf_why::program_of(alloc, text), Err(FilterFault::Memory)),
+        Err(_) => true,
+    }
+}
+
+/// Nothing is written where there is no room for what is counted.
+fn finds_none_for_a_report<A: Allocator + Copy>(rt: &impl Test, alloc: A, report: Report) -> bool {
+    let mut reader = CaptureReader::new(rt.alloc(), TWO_PACKETS)
+        .ok()
+        .expect(rt, "the capture");
+    let mut text = Vec::new(rt.alloc());
+    let answer = report_in(rt, alloc, (ARP, None, report), &[], &mut reader, &mut text);
+    let found = answer == Err(WhyFault::Memory);
+    assert!(rt; found == text.is_empty() && (found || answer == Ok(())));
+    found
+}
+
 const BRANCH: &[u8] = b"/* both\n   ways */ ldx 4*([14] & 0xf)   ; header\nldh [x + 16]\n  # port\n\
 jgt %x, up, down\nother: ret #0\nup: down: ret #0b11\n";
 
@@ -226,7 +252,7 @@ const OTHER_VERSION: &[u8] = b"\xd4\xc3\xb2\xa1\x02\x00\x05\x00\x00\x00\x00\x00\
 /// A call, and the least and the greatest number of its growths.
 type Row<'a> = (Call<'a>, u64, u64);
 
-static ROWS: [Row<'static>; 34] = [
+static ROWS: [Row<'static>; 43] = [
     (Call::Words(ICMP_WORDS), 2, 99),
     // A count asks for no room.
     (Call::Words(b"4294967295,"), 0, 0),
@@ -267,6 +293,18 @@ static ROWS: [Row<'static>; 34] = [
     (Call::RunToEnd(0), 1, 1),
     (Call::RunToEnd(1), 1, 99),
     (Call::RunToEnd(21), 4, 99),
+    (Call::Filter(ARP), 5, 99),
+    (Call::Filter(ARP_WORDS), 2, 99),
+    (Call::Filter(b"in: ld #1\njmp in\nret #0"), 2, 99),
+    // Out of range, and no return.
+    (Call::Filter(b"1,65536"), 1, 1),
+    // Groups of those that pass, fail and ask, and how often each instruction ran.
+    (Call::Why(Report::Summary), 4, 4),
+    (Call::Why(Report::Ways), 4, 4),
+    (Call::Why(Report::Packets), 4, 4),
+    (Call::Why(Report::Coverage), 4, 4),
+    // And where blocks begin.
+    (Call::Why(Report::Graph), 5, 5),
 ];
 
 /// A first piece, one that comes so many times, and a last; the call over all, and its row.
@@ -278,7 +316,7 @@ type LargeRow = (
     Row<'static>,
 );
 
-static LARGE_ROWS: [LargeRow; 5] = [
+static LARGE_ROWS: [LargeRow; 6] = [
     (b"5000,", b"7 0 0 0,", 5000, b"", (Call::Words(b""), 9, 99)),
     (b"", b"add x\n", 3000, b"", (Call::Tokens(b""), 9, 99)),
     (b"", b"tax\n", 4097, b"", (Call::Source(b""), 9, 99)),
@@ -290,6 +328,13 @@ static LARGE_ROWS: [LargeRow; 5] = [
         (Call::Source(b""), 9, 99),
     ),
     (HEADER, RECORD, 3000, b"", (Call::Capture(b""), 2, 2)),
+    (
+        b"4096\n",
+        b"7 0 0 0\n",
+        4095,
+        b"6 0 0 1\n",
+        (Call::Filter(b""), 9, 99),
+    ),
 ];
 
 /// Whether the growth `nth` is refused. It runs out of memory only then.
@@ -321,6 +366,7 @@ fn over<'a>(call: Call<'_>, bytes: &'a [u8]) -> Call<'a> {
         Call::Words(_) => Call::Words(bytes),
         Call::Tokens(_) => Call::Tokens(bytes),
         Call::Source(_) => Call::Source(bytes),
+        Call::Filter(_) => Call::Filter(bytes),
         _ => Call::Capture(bytes),
     }
 }

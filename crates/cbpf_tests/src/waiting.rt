@@ -12,16 +12,16 @@ use std::process::Abort;
 
 /// How many bytes were written, how many of these were flushed, and what came too late.
 #[derive(Clone, Copy)]
-struct Progress {
-    written: u64,
-    flushed: u64,
+pub(crate) struct Progress {
+    pub(crate) written: u64,
+    pub(crate) flushed: u64,
     /// Whether a flush failed.
-    failed: bool,
+    pub(crate) failed: bool,
     /// How many reads were made while replies waited, and how many reads and writes after a flush that failed.
-    late: u64,
+    pub(crate) late: u64,
 }
 
-const NOTHING: Progress = Progress {
+pub(crate) const NOTHING: Progress = Progress {
     written: 0,
     flushed: 0,
     failed: false,
@@ -31,12 +31,12 @@ const NOTHING: Progress = Progress {
 /// A writer that takes all that it is given, and keeps how much that was at each flush. One flush may be chosen
 /// to fail.
 #[derive(Drop)]
-struct CountingWriter<'a> {
-    progress: &'a Cell<Progress>,
-    flushes: Vec<u64>,
+pub(crate) struct CountingWriter<'a> {
+    pub(crate) progress: &'a Cell<Progress>,
+    pub(crate) flushes: Vec<u64>,
     /// The number of the flush that fails, counted from 1; 0 for none.
-    failing: usize,
-    error: ErrorKind,
+    pub(crate) failing: usize,
+    pub(crate) error: ErrorKind,
 }
 
 impl<'a> Write for CountingWriter<'a> {
@@ -63,7 +63,7 @@ impl<'a> Write for CountingWriter<'a> {
 
 /// Whether a command may take long.
 #[derive(Clone, Copy, PartialEq)]
-enum Length {
+pub(crate) enum Length {
     Short,
     Long,
 }
@@ -71,16 +71,16 @@ enum Length {
 use Length::{Long, Short};
 
 /// A line of a script or a part of one, whether its command may take long, and the length of its reply.
-type Exchange = (&'static [u8], Length, u64);
+pub(crate) type Exchange = (&'static [u8], Length, u64);
 
 /// A reader that gives one line a call, as a terminal does.
 #[derive(Drop)]
-struct WaitingReader<'a> {
-    exchanges: &'a [Exchange],
-    progress: &'a Cell<Progress>,
+pub(crate) struct WaitingReader<'a> {
+    pub(crate) exchanges: &'a [Exchange],
+    pub(crate) progress: &'a Cell<Progress>,
     /// The length of the replies to the lines that it gave.
-    replies: u64,
-    reads: usize,
+    pub(crate) replies: u64,
+    pub(crate) reads: usize,
 }
 
 impl<'a> Read for WaitingReader<'a> {

@@ -1,0 +1,137 @@
+//! Reports of some packets.
+ghost use Rattle.std.specs.Prelude.{◌≡◌};
+ghost use Rattle.cbpf_why.specs.Chosen.{AreSorted};
+
+use crate::assertions::{Test, assert_named};
+use crate::fault_injection::FaultyReader;
+use crate::inputs::ARP;
+use crate::two_packets;
+use crate::why::report_on;
+use crate::why::reports::seven_packets;
+use cbpf_why::{PacketRange, Report, WhyFault};
+
+pub(crate) fn packets(first: u64, last: u64) -> PacketRange
+    ensures { result ≡ record { first = first; last = last } }
+{
+    PacketRange { first, last }
+}
+
+/// Passes each packet, and returns the length that it had.
+const WIRE: &[u8] = b"ld len\nret a\n";
+
+/// Asserts the lines of some of the seven packets, and how many bytes are read, each by a read of its own.
+fn lines(
+    rt: &impl Test,
+    ranges: &[PacketRange],
+    wanted: Result<(), WhyFault>,
+    text: &[u8],
+    read: u64,
+)
+    requires { AreSorted ranges.now }
+{
+    let mut source = FaultyReader::new(seven_packets(), 1, 0);
+    let mut written = Vec::new(rt.alloc());
+    let asked = (WIRE, None, Report::Packets);
+    let answer = report_on(rt, asked, ranges, &mut source, &mut written);
+    let is_wanted = answer == wanted && written.as_slice() == text;
+    assert_named(rt, is_wanted, "the answer and the lines", text.len());
+    assert_named(rt, source.calls() == read, "the reads", text.len());
+}
+
+const FIRST_TWO: &[u8] = b"1\tpass\tl1\t60\n2\tpass\tl1\t60\n";
+
+const FOURTH: &[u8] = b"4\tpass\tl1\t60\n";
+
+const TWO_TO_FIVE: &[u8] = b"2\tpass\tl1\t60\n3\tpass\tl1\t60\n4\tpass\tl1\t60\n5\tpass\tl1\t60\n";
+
+const LAST_TWO: &[u8] = b"6\tpass\tl1\t60\n7\tpass\tl1\t60\n";
+
+// The records end at the bytes 44, 64, 81, 97, 116, 133 and 153. After the last one a read finds the end.
+#[test]
+fn ranges_of_packets(rt: HostRuntime) {
+    lines(&rt, &[packets(1, 2)], Ok(()), FIRST_TWO, 64);
+    lines(&rt, &[packets(4, 4)], Ok(()), FOURTH, 97);
+    lines(&rt, &[packets(4, 4), packets(4, 4)], Ok(()), FOURTH, 97);
+    lines(
+        &rt,
+        &[packets(2, 4), packets(3, 5)],
+        Ok(()),
+        TWO_TO_FIVE,
+        116,
+    );
+    lines(
+        &rt,
+        &[packets(2, 5), packets(3, 4)],
+        Ok(()),
+        TWO_TO_FIVE,
+        116,
+    );
+    lines(
+        &rt,
+        &[packets(2, 2), packets(3, 3), packets(4, 5)],
+        Ok(()),
+        TWO_TO_FIVE,
+        116,
+    );
+    lines(&rt, &[packets(6, 7)], Ok(()), LAST_TWO, 153);
+    lines(&rt, &[packets(6, 6), packets(7, 7)], Ok(()), LAST_TWO, 153);
+    // No packet is in a range that ends before it begins.
+    lines(&rt, &[packets(3, 2)], Ok(()), b"", 64);
+    lines(&rt, &[packets(1, 0), packets(4, 4)], Ok(()), FOURTH, 97);
+}
+
+#[test]
+fn ranges_beyond_the_end(rt: HostRuntime) {
+    let missing = |n| Err(WhyFault::NoPacket(n));
+    lines(&rt, &[packets(6, 8)], missing(8), LAST_TWO, 154);
+    lines(
+        &rt,
+        &[packets(6, 7), packets(10, 12)],
+        missing(10),
+        LAST_TWO,
+        154,
+    );
+    lines(
+        &rt,
+        &[packets(4, 4), packets(8, 8), packets(9, 9)],
+        missing(8),
+        FOURTH,
+        154,
+    );
+    lines(&rt, &[packets(8, 8)], missing(8), b"", 154);
+    lines(&rt, &[packets(9, u64::MAX)], missing(9), b"", 154);
+    lines(
+        &rt,
+        &[packets(u64::MAX, u64::MAX)],
+        missing(u64::MAX),
+        b"",
+        154,
+    );
+}
+
+/// The packets of a cut capture that are in a range: how it is cut is said of no range.
+fn summary(rt: &impl Test, ranges: &[PacketRange], wanted: Result<(), WhyFault>, text: &[u8])
+    requires { AreSorted ranges.now }
+{
+    let cut = two_packets::big_endian().get(..131).unwrap_or(b"");
+    let mut written = Vec::new(rt.alloc());
+    let answer = report_on(rt, (ARP, None, Report::Summary), ranges, cut, &mut written);
+    assert!(rt; answer == wanted && written.as_slice() == text);
+}
+
+const FIRST: &[u8] = b"pass 1 at l2:\tret #0xffffffff, first packet 1\nbpf passes:1 fails:0\n";
+
+#[test]
+fn summaries_of_a_cut_capture(rt: HostRuntime) {
+    let cut = b"pass 1 at l2:\tret #0xffffffff, first packet 1\nbpf passes:1 fails:0\n\
+pcap: 1 packets, cut record data at 82\n";
+    summary(&rt, &[], Ok(()), cut);
+    summary(&rt, &[packets(1, 1)], Ok(()), FIRST);
+    summary(&rt, &[packets(1, 2)], Err(WhyFault::NoPacket(2)), FIRST);
+    summary(
+        &rt,
+        &[packets(2, 2)],
+        Err(WhyFault::NoPacket(2)),
+        b"bpf passes:0 fails:0\n",
+    );
+}
