@@ -1,0 +1,56 @@
+//! Prints the numbers of the packets of a capture that pass a filter: `passing FILTER CAPTURE`.
+#![tactic(auto)]
+
+mod numbers;
+
+use cbpf_reply::capture_fault_line;
+use cbpf_why::{FilterFault, program_of};
+use numbers::passing;
+use pcap_classic::{Capture, CaptureFault};
+use std::alloc::AllocError;
+use std::process::ExitCode;
+use std::rt::{Env, Files};
+use std::{env, fs, io};
+use thiserror::Error;
+
+/// Why there are no numbers.
+#[derive(Debug, Drop, Error)]
+enum Fault {
+    #[error("usage: passing FILTER CAPTURE")]
+    Usage,
+    #[error("{0}")]
+    Io(#[from] io::Error),
+    #[error("{0}")]
+    Filter(#[from] FilterFault),
+    #[error("{}", capture_fault_line(*.0))]
+    Capture(CaptureFault),
+    #[error("out of memory")]
+    Memory(#[from] AllocError),
+}
+
+fn print_numbers<R: Env + Files + Print + AllocGlobal>(rt: &R) -> Result<(), Fault> {
+    let alloc = rt.alloc();
+    let mut words = env::args(rt)?.skip(1);
+    let (Some(filter), Some(file)) = (words.next(), words.next()) else {
+        return Err(Fault::Usage);
+    };
+    let program = program_of(alloc, fs::read(rt, filter.as_str())?)?;
+    let capture = match Capture::from_bytes(alloc, fs::read(rt, file.as_str())?) {
+        Ok(capture) => capture,
+        Err((fault, _)) => return Err(Fault::Capture(fault)),
+    };
+    for number in passing(alloc, &program, &capture)?.iter() {
+        println!(rt; "{number}")?;
+    }
+    Ok(())
+}
+
+fn main(rt: HostRuntime) -> ExitCode {
+    match print_numbers(&rt) {
+        Ok(()) => ExitCode::SUCCESS,
+        Err(fault) => {
+            let _ = eprintln!(rt; "{fault}");
+            ExitCode::FAILURE
+        }
+    }
+}
