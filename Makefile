@@ -11,12 +11,20 @@ PROGRAM = crates/cbpf/out/cbpf
 
 # The one place of the version, and that of its date.
 VERSION = $(shell sed -n 's/^const VERSION: &str = "\(.*\)";$$/\1/p' crates/cbpf_command_line/src/parse.rt)
-DATE = $(shell sed -n 's/^## $(VERSION), //p' CHANGES.md)
+RELEASED = $(shell sed -n 's/^## $(VERSION), //p' CHANGES.md)
+# A version between releases, such as 1.1.0-dev, has the date of the release before it.
+DATE = $(or $(RELEASED),$(if $(filter %-dev,$(VERSION)),$(shell sed -n 's/^## [0-9.]*, //p' CHANGES.md | head -n 1)))
+# Whether there are changes after the last release.
+NEXT = $(shell sed -n '/^## Next/,/^## [0-9]/{/^- /s/.*/changes/p;}' CHANGES.md | head -n 1)
 PACKAGE = cbpf-$(VERSION)-x86_64-linux
 
-# What `install` puts into PREFIX, beside the program and its pages: a mode, a file, and its place.
+# What `install` puts into PREFIX, beside the program: a mode, a file, and its place.
 define FILES
+755 tools/cbpf-shell bin/cbpf-shell
 755 tools/cbpf-transcript bin/cbpf-transcript
+644 man/cbpf.1 share/man/man1/cbpf.1
+644 man/cbpf-shell.1 share/man/man1/cbpf-shell.1
+644 man/cbpf-transcript.1 share/man/man1/cbpf-transcript.1
 644 completion/cbpf.bash share/bash-completion/completions/cbpf
 644 completion/_cbpf share/zsh/site-functions/_cbpf
 644 completion/cbpf.fish share/fish/vendor_completions.d/cbpf.fish
@@ -37,7 +45,14 @@ define FILES
 endef
 export FILES
 
-.PHONY: help build built unchanged rooted demo try test bench check install uninstall dist clean
+# Links where Debian's shells look for completion, for a PREFIX below which they don't: that PREFIX, the link, its target.
+define LINKS
+/usr /usr/share/zsh/vendor-completions/_cbpf ../site-functions/_cbpf
+/usr/local /etc/fish/completions/cbpf.fish /usr/local/share/fish/vendor_completions.d/cbpf.fish
+endef
+export LINKS
+
+.PHONY: help build built unchanged rooted unreleased demo try test bench check install uninstall dist clean
 
 help: ## Lists the targets.
 	@grep -E '^[a-z]+:.*##' Makefile | sed -E 's/:.*## /\t/' | expand -t 12
@@ -52,13 +67,15 @@ demo: ## Proves and builds the program, assembles an example, and debugs a filte
 try: ## Runs the demonstration on a program that is built with no proof, in about a minute; keeps no program.
 	@python3 tools/try.py
 
-test: built ## Runs the end-to-end cases, sessions, verdicts, filters of the running kernel, the works of bench and the examples of the documents on the program that is built, and looks up the documents' names.
+test: built ## Runs the end-to-end cases, sessions, the shell at a terminal, reports of why, verdicts, filters of the running kernel, the works of bench and the examples of the documents on the program that is built, and looks up the documents' names.
 	python3 tests/names.py
 	python3 tests/run.py "$(PROGRAM)"
 	python3 tests/sessions.py "$(PROGRAM)"
+	python3 tests/shell.py "$(PROGRAM)"
+	python3 tests/why.py "$(PROGRAM)"
 	python3 tests/verdicts.py "$(PROGRAM)"
 	python3 tests/kernel.py "$(PROGRAM)"
-	@for it in assembler debugger growth loading processes session; do \
+	@for it in assembler debugger growth loading processes session why; do \
 		echo "python3 bench/$$it.py --answers"; python3 bench/$$it.py --answers > /dev/null || exit; done
 	python3 tests/documents.py "$(PROGRAM)"
 
@@ -82,26 +99,36 @@ unchanged: built
 rooted:
 	@case $$PREFIX in /*) ;; *) echo "PREFIX has to begin with a slash: $$PREFIX" >&2; exit 1;; esac
 
-install: unchanged rooted ## Puts the program that is built, cbpf-transcript, pages, completion, documents and examples into PREFIX (/usr/local).
+# A link that can't be made is no fault: not all who may write into /usr/local may write into /etc.
+install: unchanged rooted ## Puts the program that is built, cbpf-shell, cbpf-transcript, pages, completion, documents and examples into PREFIX (/usr/local).
 	@install -D -m 755 "$(PROGRAM)" "$$DESTDIR$$PREFIX/bin/cbpf"
-	@sed -e 's/^\.Dd .*/.Dd $(DATE)/' -e 's/^\.Os .*/.Os cbpf $(VERSION)/' man/cbpf.1 | \
-		install -D -m 644 /dev/stdin "$$DESTDIR$$PREFIX/share/man/man1/cbpf.1"
-	@echo .so man1/cbpf.1 | install -D -m 644 /dev/stdin "$$DESTDIR$$PREFIX/share/man/man1/cbpf-transcript.1"
 	@echo "$$FILES" | while read -r mode file place; do \
-		install -D -m "$$mode" "$$file" "$$DESTDIR$$PREFIX/$$place" || exit; done
+		install -D -m "$$mode" "$$file" "$$DESTDIR$$PREFIX/$$place" || exit; \
+		case $$file in *.1 | *.md) \
+			PLACE="$${CBPF_PLACE-$$PREFIX}" tools/placed "$$file" '$(VERSION)' '$(DATE)' \
+				> "$$DESTDIR$$PREFIX/$$place" || exit;; \
+		esac; done
+	@echo "$$LINKS" | while read -r prefix link target; do \
+		test "$$prefix" != "$${PREFIX%/}" || { install -d -m 755 "$$DESTDIR$${link%/*}" && \
+			ln -sf "$$target" "$$DESTDIR$$link"; } || true; done
 	@echo "cbpf $(VERSION) is installed below $$DESTDIR$$PREFIX; its documents are in share/doc/cbpf there."
 
 # Folders that others may use stay.
 uninstall: rooted ## Takes out of PREFIX what `install` put there.
-	@for place in bin/cbpf share/man/man1/cbpf.1 share/man/man1/cbpf-transcript.1; do \
-		rm -f "$$DESTDIR$$PREFIX/$$place" || exit; done
+	@rm -f "$$DESTDIR$$PREFIX/bin/cbpf"
 	@echo "$$FILES" | while read -r mode file place; do rm -f "$$DESTDIR$$PREFIX/$$place" || exit; done
+	@echo "$$LINKS" | while read -r prefix link target; do \
+		test "$$prefix" != "$${PREFIX%/}" || rm -f "$$DESTDIR$$link" || true; done
 	@for folder in share/cbpf share/doc/cbpf/examples share/doc/cbpf; do \
 		test ! -d "$$DESTDIR$$PREFIX/$$folder" || rmdir --ignore-fail-on-non-empty "$$DESTDIR$$PREFIX/$$folder"; done
 
-dist: unchanged ## Makes out/cbpf-VERSION-x86_64-linux.tar.gz: what `install` puts, the program stripped, with a script that installs it.
+unreleased: unchanged
+	@test -z '$(NEXT)' || test -z '$(RELEASED)' || { \
+		echo 'CHANGES.md has items below `## Next`, so this is not $(VERSION), which was released before them.' >&2; exit 1; }
+
+dist: unreleased ## Makes out/cbpf-VERSION-x86_64-linux.tar.gz: what `install` puts, the program stripped, with a script that installs it.
 	@rm -rf "$(DIST)/$(PACKAGE)" "$(DIST)/$(PACKAGE).tar.gz"
-	@$(MAKE) -s --no-print-directory install DESTDIR="$(DIST)/$(PACKAGE)" PREFIX=/ > /dev/null
+	@$(MAKE) -s --no-print-directory install DESTDIR="$(DIST)/$(PACKAGE)" PREFIX=/ CBPF_PLACE=. > /dev/null
 	@strip -R .comment "$(DIST)/$(PACKAGE)/bin/cbpf" || { rm -rf "$(DIST)/$(PACKAGE)"; exit 1; }
 	@install -m 755 tools/package/install "$(DIST)/$(PACKAGE)/install"
 	@install -m 644 tools/package/README "$(DIST)/$(PACKAGE)/README"

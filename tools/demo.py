@@ -22,7 +22,7 @@ def main():
     print("$ cbpf-transcript", SCRIPT, flush=True)
     transcript = [TOOLS / "cbpf-transcript", SCRIPT]
     subprocess.run(transcript, cwd=EXAMPLES, env={**os.environ, "CBPF": program}, check=True)
-    print("Done. Next: `make install`, and then `cbpf dbg --help`; or type these commands in examples/ yourself.")
+    print("Done. Next: `make install`, and then `cbpf-shell mixed.pcap arp.asm` in examples/, where `help` lists commands.")
 
 
 if __name__ == "__main__":
