@@ -116,6 +116,15 @@ def beside_tcpdump(lines):
     return table(head, [[work, *(each.get(peer, "") for peer in peers)] for work, each in rows.items()])
 
 
+def beside_why(lines):
+    """`why` and the debugger over captures of 1 GB, beside the first program of each capture."""
+    pattern = rf"(.+), {NUMBER} packets of (\d+) bytes: {NUMBER} ms, {NUMBER} MB, {NUMBER} times (.+)"
+    rows = [(size, packets, work, peak, ratio) for work, packets, size, _, peak, ratio, _ in matched(pattern, lines)]
+    than = next((found[-1] for found in matched(pattern, lines)), "tcpdump --count").replace("tcpdump", "tcpdump -r", 1)
+    head = ["bytes of a packet", "packets", "work", "peak memory in MB", f"time as a ratio to `{than}`'s"]
+    return table(head, rows) + [""] * bool(left_out(lines)) + left_out(lines)
+
+
 def sources():
     """A table of sources with one size, and one of those that grow."""
     rows = matched(rf"(.+), {NUMBER} MB: {NUMBER} ms, {NUMBER} MB", lines_of("assembler.py"))
@@ -148,12 +157,14 @@ def absent():
 def measure(said, quiet, missing, picture):
     put("processes", [said, "", *processes()])
     if "valgrind" not in missing:
-        scripts = ["session.py", "debugger.py", "loading.py"]
+        scripts = ["session.py", "debugger.py", "loading.py", "why.py"]
         rows = [row for script in scripts for row in counts(lines_of(script, "--callgrind"))]
         put("instructions", table(["work", "machine instructions", "beside", "which takes"], rows))
     loading = lines_of("loading.py") if "cc" not in missing else []
     if loading:
         put("loads", [said, "", *loads(loading)])
+    if "cc" not in missing:
+        put("why", [said, "", *beside_why(lines_of("why.py"))])
     if "tcpdump" not in missing and loading:
         put("tcpdump", [said, "", *beside_tcpdump(loading)])
     lines = lines_of("session.py") + lines_of("debugger.py")

@@ -51,6 +51,12 @@ def memory_left():
     return int(found[1]) * 1024 if found else 0
 
 
+def has_room(folder, wanted):
+    """Whether disk and memory have room for a capture of so many bytes: for the kernel's copy of the file and the
+    debugger's own, and as much again for the others."""
+    return shutil.disk_usage(folder).free >= 2 * wanted and memory_left() >= 4 * wanted
+
+
 @dataclasses.dataclass
 class Work:
     """A command, whether it is to get large pages, and what it took in each of its turns."""
@@ -150,9 +156,7 @@ def print_beside_tcpdump(folder, process, what, file, packets, size, filter_, ro
 
 def print_gigabyte(folder, process):
     size, packets = GIGABYTE
-    wanted = size_of(packets, size)
-    # The kernel's copy of the file and the debugger's own, and as much again for the others.
-    if shutil.disk_usage(folder).free < 2 * wanted or memory_left() < 4 * wanted:
+    if not has_room(folder, size_of(packets, size)):
         print("left out: the capture of 1 GB, as disk or memory have no room", flush=True)
         return
     file = session.capture(folder / "gigabyte", packets, frames(size))

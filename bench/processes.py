@@ -1,4 +1,5 @@
-"""Measures whole processes beside their peers: a short session, short and long sources, and a load with its run.
+"""Measures whole processes beside their peers: a short session, short and long sources, a load with its run, and
+`why`.
 
 Machine instructions by valgrind, page faults and peak memory don't depend on the machine's load. Times are compared
 by turns, as ratios. Peers are an empty C program, the kernel's bpf_asm, netsniff-ng's bpfc, and tcpdump; what is
@@ -54,6 +55,11 @@ def loaded(folder, count):
     script.write_text(f"load bpf {programs.SIX}\nload pcap {packets}\nrun\n")
     passes = answers.counts(cbpf, script, count)
     yield f"load and `run` of {count:,} packets of 64 bytes, `ip proto 17`", [cbpf, "dbg", script]
+    filter_ = folder / "filter"
+    filter_.write_text(programs.SIX)
+    answer, _ = answers.asked([cbpf, "why", filter_, packets])
+    answers.same(cbpf, f"bpf passes:{passes} fails:{count - passes}\n", answer.splitlines(True)[-1])
+    yield "`cbpf why` with that filter", [cbpf, "why", filter_, packets]
     if shutil.which("tcpdump"):
         answers.read_by_tcpdump(packets, "ip proto 17", passes, 16 + len(session.FRAME))
         for what, words in [("--count", ["--count"]), ("-w /dev/null", ["-w", "/dev/null"])]:

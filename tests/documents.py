@@ -3,16 +3,17 @@
 
 usage: documents.py PROGRAM [DOCUMENT..]
 
-The documents are README.md, CONTRIBUTING.md, docs/*.md and man/cbpf.1; README.md, docs/REFERENCE.md and the page have
+The documents are README.md, CONTRIBUTING.md, docs/*.md and man/*.1; README.md, docs/REFERENCE.md and the pages have
 examples. In Markdown an example stands between ```console and ```, in the page between .Bd -literal and .Ed. A line that
 begins with `$ ` is a command, which `sh` runs in a copy of examples/, with completion/ and tools/ beside it, one for each
-document, in the locale C. PROGRAM is `cbpf` on the PATH, with cbpf-transcript beside it. The lines after the command are
-what it prints, on standard output and standard error. Where it takes the keyboard (`cbpf`, `cbpf dbg` or
+document, in the locale C. PROGRAM is `cbpf` on the PATH, with cbpf-shell and cbpf-transcript beside it. The lines after the
+command are what it prints, on standard output and standard error. Where it takes the keyboard (`cbpf`, `cbpf dbg` or
 `.. cat) | cbpf`), they are a session: each line that is no reply is typed, and a block without a command goes on with it.
+Of cbpf-shell each line after the prompt `cbpf> ` is typed.
 A line `..` stands for any lines. A command whose tool is missing, or may not do what it has to, isn't run; neither are its
 session, the commands after it in its block, and those that name a file which it makes by `> `.
-Each relative link of the Markdown documents names a file that is there, and the arrows of docs/ARCHITECTURE.md lead
-from each crate to those below it by crates.txt, directly or not.
+Each relative link of the Markdown documents names a file that is there, and the lines of the picture of docs/ARCHITECTURE.md, in
+its block ```crates, lead down from each crate to those below it by crates.txt, directly or not.
 The last line is `N passed, M failed`, and how many weren't run where there are such.
 """
 
@@ -26,7 +27,10 @@ from functools import cache
 from pathlib import Path
 
 TOP = Path(__file__).resolve().parent.parent
-TOOLS = "tcpdump rlwrap gzip grep head tail yes tr seq sed awk xargs mkfifo diff timeout cpp cc ss tc unshare setpriv bwrap bash"
+TOOLS = (
+    "tcpdump rlwrap gzip grep head tail yes tr seq sed awk xargs mkfifo diff"
+    " timeout cpp cc ss tc unshare setpriv bwrap bash editcap text2pcap vim dot parallel xxd"
+)
 # What some need beside being there: headers, or rights that a user may not have.
 TRIALS = {
     "cpp": "echo | cpp -imacros linux/if_ether.h",
@@ -40,8 +44,9 @@ TRIALS = {
     "setpriv": "setpriv --reuid=nobody --regid=nogroup --clear-groups true",
     "bwrap": "bwrap --unshare-all --ro-bind / / true",
 }
-REQUIRED = [TOP / "README.md", TOP / "docs/REFERENCE.md", TOP / "man/cbpf.1"]
+REQUIRED = [TOP / "README.md", TOP / "docs/REFERENCE.md", *sorted((TOP / "man").glob("*.1"))]
 SECONDS = 60
+PROMPT = "cbpf> "
 SESSION = re.compile(r"(rlwrap .*)?cbpf( dbg)?|.*\bcat\) \| (rlwrap .*)?cbpf( dbg)?")
 PAGE_ESCAPES = ((r"\-", "-"), (r"\(aq", "'"), (r"\(dq", '"'), (r"\(ti", "~"), (r"\(ha", "^"), (r"\&", ""), (r"\e", "\\"))
 
@@ -117,7 +122,9 @@ def session_difference(command, lines, folder, program):
 def difference(command, lines, folder, program):
     if SESSION.fullmatch(command):
         return session_difference(command, lines, folder, program)
-    got = output(command, [], folder, program)
+    typed = [line.removeprefix(PROMPT) for line in lines if line.startswith(PROMPT)]
+    lines = [line for line in lines if not line.startswith(PROMPT)]
+    got = output(command, typed, folder, program)
     return None if fits(got, lines) else f"wanted {lines}, got {got}"
 
 
@@ -149,14 +156,38 @@ def below(arrows):
     return found
 
 
+def drawn_in(path):
+    """The pairs of a crate and one to which lines lead down from it. Of `|`, `-` and `+` none leads up."""
+    picture = re.search(r"^```crates\n(.*?)^```", path.read_text(), re.M | re.S)
+    rows = picture[1].splitlines() if picture else []
+    found = set()
+    for y, row in enumerate(rows):
+        for name in re.finditer(r"\w+", row):
+            # Each cell with the step that led there.
+            left, seen = [(x, y + 1, 0) for x in range(*name.span())], set()
+            while left:
+                x, y_of, step = left.pop()
+                cell = rows[y_of][x : x + 1] if y_of < len(rows) else ""
+                if (x, y_of, step) in seen:
+                    continue
+                seen.add((x, y_of, step))
+                if cell == "-" and step or cell == "+":
+                    left += [(x + way, y_of, way) for way in (-1, 1) if step in (0, way)]
+                if cell == "+" or (cell == "|" and step == 0):
+                    left.append((x, y_of + 1, 0))
+                if cell.isidentifier() and step == 0:
+                    lower = next(other for other in re.finditer(r"\w+", rows[y_of]) if x in range(*other.span()))
+                    found.add((name[0], lower[0]))
+    return found
+
+
 def crates_differ(path):
     """The pairs that the picture and the list of crates don't share."""
     rows = (TOP / "crates.txt").read_text().split("# Tests")[0].splitlines()
     uses = [row.split(":") for row in rows if ":" in row]
     own = [crate for crate, _ in uses]
     listed = {(crate, used) for crate, words in uses for used in words.split() if used in own}
-    drawn = set(re.findall(r"^ *(\w+) --> (\w+)$", path.read_text(), re.M))
-    return sorted(below(listed) ^ below(drawn))
+    return sorted(below(listed) ^ below(drawn_in(path)))
 
 
 def main():
@@ -176,7 +207,8 @@ def main():
             # Another user may run it, too.
             os.chmod(folder, 0o755)
             shutil.copy(sys.argv[1], program / "cbpf").chmod(0o755)
-            shutil.copy(TOP / "tools/cbpf-transcript", program)
+            for name in ("cbpf-shell", "cbpf-transcript"):
+                shutil.copy(TOP / "tools" / name, program)
             found = examples(path)
             if path in REQUIRED and not found:
                 faults.append("no example")

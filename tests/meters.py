@@ -7,8 +7,9 @@ A turn that counts on a meter which nobody sees, or on none, breaks no contract,
 in hiding. So the case session/one_meter_in_the_session holds this list as it is to be. The source is read word by word,
 without comments, texts, attributes and contracts: what is called, renamed, borrowed or passed on as a value is named by
 its own word in any form of a call. It lists
-  outside cbpf_machine, in every crate but those of tests: the word Meter anywhere but in the type `&mut Meter` and in an
-    import by its own name; the field meter; the word stops, of the call that has a meter of its own
+  outside cbpf_machine, in every crate but those of tests and examples: the word Meter anywhere but in the type
+    `&mut Meter` and in an import by its own name; the field meter; the word stops, of the call that has a meter of its
+    own
   in each of these crates: the imports that give another name, or all names
   in cbpf_machine and in each crate that stands on it: the macros of this repository that it calls, as a macro may be
     given a function once and call it twice: how often `$` stands in each before a name, once where it is declared, and
@@ -27,6 +28,8 @@ from typing import NamedTuple
 
 CRATES = Path(sys.argv[1] if len(sys.argv) > 1 else Path(__file__).parent.parent / "crates").resolve()
 MACHINE = "cbpf_machine"
+# Programs that nothing of `cbpf` stands on.
+EXAMPLES = {"keep", "passing"}
 # What changes a state, calculates or loads for a turn: whoever names one of these, or names who does, makes turns.
 ROOTS = "of set_core with_slot skip alu negated compares packet_number op_of op_of_byte".split()
 # The words of loops, which make turns again.
@@ -270,7 +273,8 @@ def list_machine(files):
 
 def main():
     crates = sorted(path.name for path in CRATES.iterdir() if (path / "src").is_dir())
-    outside = [file for crate in crates if crate != MACHINE and not crate.endswith("_tests") for file in sources(crate)]
+    apart = {MACHINE, *EXAMPLES}
+    outside = [file for crate in crates if crate not in apart and not crate.endswith("_tests") for file in sources(crate)]
     machine = sources(MACHINE)
     print("meters outside the machine:")
     list_words(outside, "Meter", is_not_lent)

@@ -3,8 +3,8 @@
 
 usage: names.py
 
-The documents are README.md, CONTRIBUTING.md, docs/*.md, bench/*.md, tests/*.md, crates/*/README* and
-crates/*/must-fail/README.md. Each is read outside its blocks of code, and names what stands between backquotes:
+The documents are README.md, CONTRIBUTING.md, docs/*.md, bench/*.md, tests/*.md, crates/*/README*, crates/*/CALLING.md
+and crates/*/must-fail/README.md. Each is read outside its blocks of code, and names what stands between backquotes:
   a path           with a slash or a suffix of this repository's files: it is there, from the top, from crates/, from
                    the document's folder, from a crate of the heading or of the row, or in examples/
   another name     it stands in the code, the definitions, the proofs or the scripts, or it is a file's or a folder's
@@ -16,10 +16,15 @@ crates/*/must-fail/README.md. Each is read outside its blocks of code, and names
                    stands once where it says. Each edit has one row, whose function and clause are there, and whose
                    goals have no answer below proofs/, unless it is named as `the answer of` one
   a definition     of a file specs/: it is reached from the clauses of public functions, traits and models, or its item
-                   of docs/DEFINITIONS.md says that only private functions cite it, or docs/ARCHITECTURE.md has its file
-                   in the column `only for the crate`; and something cites it
-  a file           of src/ or specs/: it stands in its crate's row of the table of docs/ARCHITECTURE.md
+                   of docs/DEFINITIONS.md says that only private functions cite it, or the comment at the head of its
+                   file says that no public clause names it; and something cites it
+  a crate          docs/ARCHITECTURE.md has a heading of its own for it
   a call           in a block ```calls of docs/ARCHITECTURE.md: the function stands in the line's file
+  a contract       in a block ```contracts of a CALLING.md, where a blank line parts them: it stands in the code of the
+                   crate, with all its clauses, but for comments
+  a definition     in a `ghost use` line of a CALLING.md: it is there
+  a line           in a block ```crates.txt of a CALLING.md: it stands in crates.txt
+Each file of src/ and specs/ opens with a comment that says what it is about.
 A public type that has `==` has a clause in src/equality.rt of its crate.
 A line of tests/shown.txt is a sentence and, each after ` | `, what shows it, with texts between backquotes:
   test C::M::F     the function F has #[test] in the module M of the crate C; a text stands in the file of M, of a
@@ -45,12 +50,10 @@ SUFFIXES = "rt antt edit md py sh txt asm dbg pcap pcapng words bash 1 c".split(
 SOURCES = "rt antt edit py sh bash words asm dbg 1 c".split()
 # Names of other people's files, what a build makes, and a placeholder.
 OUTSIDE = re.compile(r"[/~$]|linux/|Documentation/|PREFIX/|(crates/cbpf/)?out/|.*\bwhat_is_wrong\.edit$")
-# Calls of the standard library that no source of ours writes.
-STANDARD = set("grow shrink cmp partial_cmp madvise".split())
+# Calls and traits of the standard library that no source of ours writes.
+STANDARD = set("grow shrink cmp partial_cmp madvise Display".split())
 # Documents of what users type, in which a name needn't be one of the sources.
 OF_USERS = {"REFERENCE.md", "KERNEL_TOOLS.md"}
-# Files of most crates, which no row of a table names.
-IN_EACH = {"lib", "law", "equality", "Lib"}
 CODE_SPAN = re.compile(r"(?<!`)`([^`]+)`(?!`)")
 NAME = re.compile(r"[A-Za-z_][\w]*(?:(?:::|\.)[A-Za-z_]\w*)*(?:\(.*\))?")
 SHOWN_BY = re.compile(r"(test|case|edit|script) ([\w:/.]+)((?: `[^`]+`)*)")
@@ -287,7 +290,7 @@ def shown_files(kind, name):
         found = [CRATES / f"{name.replace('/', '/must-fail/')}.edit"]
     elif kind == "case":
         found = [TOP / "tests/cases" / f"{name}.case"]
-    elif f" tests/{name}" in text_of(TOP / "Makefile").partition("\ncheck:")[2]:
+    elif f" tests/{name}" in text_of(TOP / "Makefile").partition("\ntest:")[2]:
         found = [TOP / "tests" / name]
     return [file for file in found if file.is_file()]
 
@@ -522,30 +525,70 @@ def cited_anywhere():
     return found
 
 
-def own_files(path):
-    """The files in the column `only for the crate` of docs/ARCHITECTURE.md: line, crate, module."""
-    for number, _, head, cells in tables(path):
-        if head[-1] == "only for the crate":
-            for module in re.findall(r"specs/(\w+)\.antt", cells[-1]):
-                yield number, crates_in(cells[0])[0], module
+@cache
+def own_files():
+    """The files of definitions that say at their head that no public clause names them."""
+    heads = {one: re.match(r"(?:--.*\n)*", text_of(path))[0] for one, path in spec_files().items()}
+    return {one for one, head in heads.items() if FOR_PRIVATE.search(head.replace("\n-- ", " "))}
 
 
-def check_own_files(path):
-    for number, crate, module in own_files(path):
-        named = sorted(item for c, m, item in reached() if (c, m) == (crate, module))
-        check(not named, path, number, f"a public clause reaches {', '.join(named)} of {crate}/specs/{module}.antt")
+@cache
+def code_in_a_line(crate):
+    return " ".join(re.sub(r"//.*", "", "\n".join(joined_sources(crate))).split())
+
+
+def blocks(path):
+    """The blocks of code of a document: line, kind, text."""
+    for block in re.finditer(r"^```(\S+)\n(.*?)^```", text_of(path), re.M | re.S):
+        yield text_of(path)[: block.start()].count("\n") + 1, block[1], block[2]
+
+
+def check_contracts(path):
+    """Whether the contracts that a page for callers quotes stand in the code, each whole."""
+    own = code_in_a_line(path.parent.name)
+    for number, kind, text in blocks(path):
+        for contract in text.split("\n\n") if kind == "contracts" else ():
+            # After the last clause comes the body, or the end of a member of a trait.
+            whole = " ".join(contract.split()) + ("" if contract.rstrip().endswith(";") else " {")
+            check(whole in own, path, number, f"no contract {contract.split('(')[0].strip()}")
 
 
 def check_listed(path):
-    """Whether the table of the crates names each file of src/ and specs/ in its crate's row."""
-    for number, _, head, cells in tables(path):
-        if head[-1] != "only for the crate":
-            continue
-        crate = CRATES / crates_in(cells[0])[0]
-        for file in sorted([*crate.glob("src/*.rt"), *crate.glob("specs/*.antt")]):
-            name = file.name if file.suffix == ".rt" else file.stem
-            listed = re.search(rf"`(specs/)?{re.escape(name)}(\.antt)?`", " ".join(cells)) or file.stem in IN_EACH
-            check(listed, path, number, f"no `{name}` in the row of {crate.name}")
+    """Whether the lines of crates.txt that a page for callers quotes are there."""
+    listed = text_of(TOP / "crates.txt").splitlines()
+    for number, kind, text in blocks(path):
+        for line in text.splitlines() if kind == "crates.txt" else ():
+            check(line in listed, path, number, f"not in crates.txt: {line}")
+
+
+def check_imports(path):
+    """Whether the definitions of the `ghost use` lines of a page for callers are there."""
+    for number, _, text in blocks(path):
+        for crate, module, inner, several, _ in IMPORT.findall(text):
+            file = spec_files().get((crate, module))
+            known = spec_items(file)[1] if file else words() if module == "declared" else set()
+            for name in re.findall(r"\w+", re.sub(r" as \w+", "", f"{inner} {several}")):
+                if crate in crates():
+                    check(name in known, path, number, f"no definition {name} in {crate}/{module}")
+
+
+def check_own_files():
+    for crate, module in own_files():
+        named = sorted(item for c, m, item in reached() if (c, m) == (crate, module))
+        check(not named, spec_files()[crate, module], 1, f"a public clause reaches {', '.join(named)}")
+
+
+def check_heads():
+    """Whether each file of code or definitions opens with a comment."""
+    for path in sorted([*CRATES.glob("*/src/*.rt"), *CRATES.glob("*/specs/*.antt")]):
+        check(path.stem == "Lib" or text_of(path).startswith(("//", "--")), path, 1, "no comment says what it is about")
+
+
+def check_crates(path):
+    """Whether each crate has a heading of its own."""
+    headings = [line for _, line in lines_of(path) if line.startswith("###")]
+    for crate in sorted(crates()):
+        check(any(crates_in(line) == [crate] for line in headings), path, 1, f"no heading for {crate}")
 
 
 def check_reached(path):
@@ -557,12 +600,11 @@ def check_reached(path):
             check(one not in reached(), path, number, f"a public clause reaches {name}")
         else:
             check(one in reached(), path, number, f"no public clause reaches {name}, and the page doesn't say so")
-    own = {(crate, module) for _, crate, module in own_files(path.parent / "ARCHITECTURE.md")}
     for (crate, module), file in spec_files().items():
         for item in spec_items(file)[0]:
             one = (crate, module, item)
             check(one in cited_anywhere(), file, 1, f"nothing cites {item}")
-            known = one in reached() or one in marked or (crate, module) in own
+            known = one in reached() or one in marked or (crate, module) in own_files()
             check(known, file, 1, f"no public clause reaches {item}, and no document says so")
 
 
@@ -581,7 +623,8 @@ def check_equality(library):
 OF_ONE = {
     "PROMISES.md": [check_promises],
     "DEFINITIONS.md": [check_definitions, check_reached],
-    "ARCHITECTURE.md": [check_own_files, check_listed],
+    "ARCHITECTURE.md": [check_crates],
+    "CALLING.md": [check_contracts, check_listed, check_imports],
     "must-fail": [check_edits],
 }
 
@@ -589,7 +632,8 @@ OF_ONE = {
 def main():
     check_shown(TOP / "tests/shown.txt")
     documents = [TOP / "README.md", TOP / "CONTRIBUTING.md"]
-    for pattern in ("docs/*.md", "bench/*.md", "tests/*.md", "crates/*/README*", "crates/*/must-fail/README.md"):
+    folders = "docs/*.md bench/*.md tests/*.md crates/*/README* crates/*/CALLING.md crates/*/must-fail/README.md"
+    for pattern in folders.split():
         documents += sorted(TOP.glob(pattern))
     for path in documents:
         for look_up in [check_spans, check_calls, *OF_ONE.get(path.name, []), *OF_ONE.get(path.parent.name, [])]:
@@ -598,6 +642,8 @@ def main():
         check((folder / "README.md").exists(), folder, 1, "no README.md")
     for library in sorted(CRATES.glob("*/src/lib.rt")):
         check_equality(library)
+    check_heads()
+    check_own_files()
     for fault in faults:
         print(fault)
     print(f"{names} names, {len(faults)} failed")

@@ -1,0 +1,400 @@
+#!/usr/bin/env python3
+"""Types into tools/cbpf-shell at a pseudo-terminal, over a built program.
+
+usage: shell.py PROGRAM
+
+Each session is typed twice: with no rlwrap on the PATH, and under rlwrap, which is not run where that is missing. A
+recorder between the shell and the program keeps the lines that the shell sends, and each has to be a plain command of
+`cbpf dbg`. Where a run has to take its time, a stand-in that answers slowly is in the program's place.
+The last line is `N passed, M failed`.
+"""
+
+import fcntl
+import os
+import pty
+import re
+import select
+import shutil
+import signal
+import struct
+import subprocess
+import sys
+import tempfile
+import termios
+import time
+from pathlib import Path
+
+TOP = Path(__file__).resolve().parent.parent
+SHELL = TOP / "tools/cbpf-shell"
+EXAMPLES = TOP / "examples"
+NEEDED = "sh awk cat grep head id mkfifo mktemp readlink rm rmdir sleep stty tee tr"
+SECONDS = 30
+PROMPT = "cbpf> "
+ESCAPES = re.compile(r"\x1b\[[0-9;?]*[A-Za-z]|\x1b[=>]|[\x00\x07\x0f]")
+RECORDER = """#!/bin/sh
+case $1 in asm) exec "$REAL" "$@" ;; esac
+tee "$SENT" | "$REAL" "$@"
+"""
+# Each `run` takes a tenth of a second and has more packets ahead.
+SLOW = """#!/bin/sh
+runs=0
+while read -r line; do
+    case $line in
+        run*) runs=$((runs + 1)); sleep 0.1; echo "bpf passes:0 fails:$runs next:$((runs + 1))" ;;
+        .) echo "error: Q1 unknown command" ;;
+        load) echo "error: Q2 wrong arguments" ;;
+        *) echo "1 0" ;;
+    esac
+done
+"""
+
+
+class Missing(Exception):
+    """What was waited for didn't come."""
+
+
+class Terminal:
+    """A command at a pseudo-terminal of its own."""
+
+    def __init__(self, words, folder, environment, rlwrap):
+        self.rlwrap = rlwrap
+        self.child, self.end = pty.fork()
+        if self.child == 0:
+            os.chdir(folder)
+            fcntl.ioctl(0, termios.TIOCSWINSZ, struct.pack("HHHH", 40, 120, 0, 0))
+            os.execve(words[0], words, environment)
+        self.pending = ""
+
+    def read(self, stop):
+        """What came up to `stop`, which is a pattern, or to the end."""
+        limit = time.monotonic() + SECONDS
+        while not (match := re.search(stop, self.pending) if stop else None):
+            if not select.select([self.end], [], [], max(0, limit - time.monotonic()))[0]:
+                raise Missing(f"no {stop!r} within {SECONDS} seconds after {self.pending!r}")
+            try:
+                piece = os.read(self.end, 65536).decode(errors="replace")
+            except OSError:
+                piece = ""
+            if not piece and stop:
+                raise Missing(f"the end before {stop!r}, after {self.pending!r}")
+            if not piece:
+                break
+            self.pending = ESCAPES.sub("", self.pending + piece)
+        end = match.end() if match else len(self.pending)
+        found, self.pending = self.pending[:end], self.pending[end:]
+        return found.replace("\r", "")
+
+    def reply(self):
+        """What came before the prompt, which rlwrap writes anew whenever it likes."""
+        return self.read(re.escape(PROMPT) + "$").removesuffix(PROMPT)
+
+    def type(self, text):
+        os.write(self.end, text.encode())
+
+    def status(self):
+        """What came to the end, and the status of the command."""
+        rest = self.read(None)
+        return rest, os.waitstatus_to_exitcode(os.waitpid(self.child, 0)[1])
+
+
+class Place:
+    """A folder to run in, with a recorder, with or without rlwrap."""
+
+    def __init__(self, program, folder, rlwrap):
+        self.folder, self.rlwrap = folder, rlwrap
+        shutil.copytree(EXAMPLES, folder, dirs_exist_ok=True)
+        tools = folder / "tools"
+        tools.mkdir()
+        (folder / "temporary").mkdir()
+        for name in NEEDED.split() + (["rlwrap"] if rlwrap else []):
+            if at := shutil.which(name):
+                (tools / name).symlink_to(at)
+        for name, text in (("recorder", RECORDER), ("slow", SLOW)):
+            (folder / name).write_text(text)
+            (folder / name).chmod(0o755)
+        self.sent = folder / "sent"
+        self.environment = {
+            "PATH": str(tools),
+            "HOME": str(folder),
+            "TMPDIR": str(folder / "temporary"),
+            "TERM": "xterm",
+            "LC_ALL": "C",
+            "CBPF": str(folder / "recorder"),
+            "REAL": program,
+            "SENT": str(self.sent),
+        }
+
+    def terminal(self, *words, **more):
+        return Terminal([str(SHELL), *words], self.folder, {**self.environment, **more}, self.rlwrap)
+
+    def piped(self, text, *words, **more):
+        environment = {**self.environment, **more}
+        return subprocess.run([SHELL, *words], input=text, capture_output=True, cwd=self.folder, env=environment)
+
+    def commands(self):
+        """The lines that were sent, each of which two more follow that mark its reply's end."""
+        lines = self.sent.read_text().split("\n")[:-1]
+        check("the marks", {*zip(lines[1::3], lines[2::3])} - {(".", "load")}, set())
+        return lines[::3]
+
+
+faults = []
+passed = 0
+
+
+def check(what, got, wanted):
+    global passed
+    if got == wanted:
+        passed += 1
+    else:
+        faults.append(f"{what}: wanted {wanted!r}, got {got!r}")
+
+
+def say(terminal, line, *wanted):
+    """Types a line, and waits for the wanted lines, each after the one before."""
+    terminal.type(line + "\n")
+    awaited(terminal, line, *wanted)
+
+
+def awaited(terminal, what, *wanted):
+    global passed
+    try:
+        for text in wanted:
+            terminal.read(re.escape(text).replace("\\\t", r"\s+"))
+            passed += 1
+        if not terminal.rlwrap:
+            terminal.reply()
+    except Missing as fault:
+        faults.append(f"{what}: {fault}")
+
+
+def typed(terminal, line):
+    terminal.type(line + "\n")
+    return terminal.reply()
+
+
+NO_RLWRAP = "cbpf-shell: there is no history and no completion, as rlwrap is not installed"
+ARP = "4,40 0 0 12,21 0 1 2054,6 0 0 4294967295,6 0 0 0,"
+
+
+def check_session(place):
+    """Short forms, labels, hexadecimal numbers, repeats, and what is sent for them."""
+    one = place.terminal("mixed.pcap", "arp.asm")
+    awaited(one, "the loads", *([] if place.rlwrap else [NO_RLWRAP]), "bpf: 4 instructions", "pcap: 35 packets")
+    say(one, "b l2", "breakpoint at: l2:\tret #0xffffffff")
+    say(one, "b l1 a 0x806", "breakpoint at: l1:\tjeq #0x806, l2, l3 when a = 2054")
+    say(one, "b", "breakpoints: 2 1(a=2054)")
+    say(one, "d l1", "breakpoints: 2")
+    say(one, "l", "l0:\tldh [12]", "l3:\tret #0")
+    say(one, "r", "-- packet 1, step 3 --", "(breakpoint)")
+    say(one, "bs", "-- packet 1, step 2 --", "(step)")
+    say(one, "bs 1", "-- packet 1, step 1 --", "(step)")
+    say(one, "s", "-- packet 1, step 2 --", "(step)")
+    say(one, "", "-- packet 1, step 3 --", "(step)")
+    say(one, "", "-- packet 2, step 1 --", "(step)")
+    say(one, "value mark 0x10", "value mark 16")
+    say(one, "")
+    say(one, "b 0xzz", "error: Q2 wrong arguments")
+    say(one, "b 2 a 0x100000000", "error: Q2 wrong arguments")
+    say(one, "* $(halt)", "error: Q1 unknown command")
+    say(one, "load pcap  no  such", "error: F1 no such file")
+    say(one, ".", "error: Q1 unknown command")
+    say(one, "load", "error: Q2 wrong arguments")
+    # A key of rlwrap's.
+    say(one, "" if place.rlwrap else "\v")
+    say(one, "select 2", "at 2 0")
+    say(one, "run 2", "bpf passes:0 fails:2 next:4")
+    say(one, "r", "bpf passes:0 fails:34")
+    say(one, "")
+    one.type("q\n")
+    check("the status of quit", one.status()[1], 0)
+    wanted = """load pcap mixed.pcap
+breakpoint 2
+breakpoint 1 a 2054
+breakpoint
+delete 1
+disassemble
+run 100000
+step -1
+step -1
+step
+step
+step
+value mark 16
+breakpoint 0xzz
+breakpoint 2 a 0x100000000
+* $(halt)
+load pcap  no  such
+.
+load
+\v
+select 2
+run 2
+run 100000
+quit"""
+    wanted = [line for line in wanted.split("\n") if line != "\v" or not place.rlwrap]
+    check("what is sent", place.commands(), ["load bpf " + ARP, *wanted])
+
+
+def check_interrupts(place):
+    """Ctrl-C drops a line, and breaks off a run; the session is kept."""
+    one = place.terminal("two-packets.pcap", "arp.asm")
+    awaited(one, "the loads", "bpf: 4 instructions", "pcap: 2 packets")
+    one.type("hal")
+    one.read("hal")
+    interrupt = [] if place.rlwrap else ["^C"]
+    for _ in range(2):
+        one.type("\x03")
+        awaited(one, "Ctrl-C", *interrupt)
+        say(one, "mark", "1 0")
+    one.type("\x04")
+    check("the status of Ctrl-D", one.status()[1], 0)
+    check("what is sent", place.commands(), ["load bpf " + ARP, "load pcap two-packets.pcap", "mark", "mark"])
+    slow = place.terminal(CBPF=str(place.folder / "slow"))
+    awaited(slow, "the prompt", *([PROMPT] if place.rlwrap else []))
+    slow.type("run\n")
+    slow.read("run")
+    time.sleep(1)
+    slow.type("\x03")
+    awaited(slow, "a run that is broken off", "bpf passes:0 fails:")
+    say(slow, "mark", "1 0")
+    slow.type("run\n")
+    slow.read("run")
+    time.sleep(0.5)
+    slow.type("\x1c")
+    check("the status of Ctrl-\\", slow.status()[1] in (131, -signal.SIGQUIT), True)
+
+
+def many_packets(path, count):
+    header = struct.pack("<IHHiIII", 0xA1B2C3D4, 2, 4, 0, 0, 65535, 1)
+    packets = [struct.pack("<IIII", 0, 0, 14, 14) + bytes(12) + kind for kind in (b"\x08\x06", b"\x08\x00")]
+    path.write_bytes(header + b"".join(packets) * (count // 2))
+
+
+def check_long_runs(place):
+    """A run by pieces counts as the debugger's own."""
+    for count in (99_998, 100_000, 200_000, 250_002):
+        many_packets(place.folder / "many.pcap", count)
+        one = place.terminal("many.pcap", "arp.asm")
+        one.reply()
+        counts = re.findall("bpf passes.*", typed(one, "run"))
+        check(f"a run over {count} packets", counts, [f"bpf passes:{count // 2} fails:{count // 2}"])
+        say(one, "b 2")
+        say(one, f"select {count - 3}", "at ")
+        say(one, "run", f"-- packet {count - 3}, step 3 --")
+        say(one, "", f"-- packet {count - 1}, step 3 --")
+        say(one, "", "bpf passes:2 fails:2")
+        check("Enter after the end", typed(one, "").strip(), "")
+        one.type("\x04")
+        one.status()
+
+
+def check_filters(place):
+    """Sources, words, and lines of tcpdump; and what is refused."""
+    words = "4,40 0 0 12,21 0 1 2054,6 0 0 4294967295,6 0 0 0"
+    for name, text in {
+        "words": words,
+        "words of lines": words.replace(",", "\n") + "\n",
+        "words over lines": "\n\t" + words.replace(",", ",\n") + ",\n",
+    }.items():
+        (place.folder / name).write_text(text)
+        one = place.terminal("mixed.pcap", name)
+        awaited(one, name, "bpf: 4 instructions", "pcap: 35 packets")
+        one.type("q\n")
+        one.status()
+    (place.folder / "jump").write_text("1,21 0 9 1")
+    (place.folder / "wrong").write_text("ldh [12\n")
+    one = place.terminal("mixed.pcap", "jump")
+    awaited(one, "a refused program", "error: C7 at 0: jump outside", "pcap: 35 packets")
+    one.type("q\n")
+    one.status()
+    for wrong, said in {
+        ("mixed.pcap", "wrong"): "cbpf: line 1: A5 text ends inside an instruction",
+        ("mixed.pcap", "absent"): "cbpf-shell: cannot read absent: No such file or directory",
+        ("mixed.pcap", "."): "cbpf-shell: cannot read .: Is a directory",
+        ("a\nb",): "cbpf-shell: a capture's name can't have a newline here",
+    }.items():
+        rest, status = place.terminal(*wrong).status()
+        check(f"{wrong}", rest.removeprefix(NO_RLWRAP + "\n"), said + "\n")
+        check(f"the status of {wrong}", status, 1)
+    rest, status = place.terminal("a", "b", "c").status()
+    check("three names", (rest, status), ("usage: cbpf-shell [CAPTURE [FILTER]]\n", 2))
+    rest, status = place.terminal(CBPF="absent").status()
+    check("no program", (rest, status), ("cbpf-shell: there is no program absent\n", 1))
+    rest, status = place.terminal("--help").status()
+    check("--help", (rest.splitlines()[0], status), ("usage: cbpf-shell [CAPTURE [FILTER]]", 0))
+
+
+def check_help(place):
+    """The list of `help` has each command of `cbpf dbg --help`."""
+    text = subprocess.run([place.environment["REAL"], "dbg", "--help"], capture_output=True, text=True).stdout
+    listed = re.search(r"^Commands.*?\n(.*?)\n\n", text, re.M | re.S)[1]
+    commands = set(re.findall(r"^  ([a-z]+)", listed, re.M))
+    one = place.terminal()
+    one.reply()
+    for form in ("help", "h", "?"):
+        words = set(re.findall("[a-z]+", typed(one, form)))
+        check(f"{form} lacks", commands - words, set())
+    one.type("q\n")
+    one.status()
+    check("what is sent for help", place.commands(), ["quit"])
+
+
+def check_without_terminal(place):
+    """From a pipe there is no prompt, and a last line needs no newline."""
+    done = place.piped(b"b l2\nr", "mixed.pcap", "arp.asm")
+    *lines, last = done.stdout.decode().splitlines()
+    wanted = ["bpf: 4 instructions", "pcap: 35 packets", "breakpoint at: l2:\tret #0xffffffff"]
+    check("from a pipe", (lines[:3], last), (wanted, "(breakpoint)"))
+    check("the status from a pipe", (done.stderr, done.returncode), (b"", 0))
+    done = place.piped(b"mark\n", CBPF="/bin/false")
+    check("a program that fails", (done.stdout, done.returncode), (b"", 1))
+
+
+def check_history(place):
+    """rlwrap brings a line back, also in the next session, and completes commands and names."""
+    for lines in (["select 7", "mark"], []):
+        one = place.terminal()
+        for line in lines:
+            say(one, line, "error: S")
+        if not lines:
+            one.type("\x10\x10\x10")
+            one.read("select 7")
+            say(one, "", "error: S1 no program")
+            one.type("disa\t")
+            one.read("disassemble")
+            say(one, "", "error: S1 no program")
+            one.type("load pcap two\t")
+            one.read("two-packets.pcap")
+            one.type("\x15")
+        one.type("q\n")
+        one.status()
+    check("the file of the history", (place.folder / ".cbpf-shell_history").exists(), True)
+
+
+def main():
+    if len(sys.argv) != 2:
+        sys.exit(__doc__)
+    program = str(Path(sys.argv[1]).resolve())
+    for rlwrap in (False, True):
+        if rlwrap and not shutil.which("rlwrap"):
+            print("not run under rlwrap: no rlwrap")
+            continue
+        plain = [check_filters, check_without_terminal, check_help, check_long_runs]
+        for one in [check_session, check_interrupts, *([check_history] if rlwrap else plain)]:
+            with tempfile.TemporaryDirectory() as folder:
+                before = len(faults)
+                try:
+                    one(Place(program, Path(folder), rlwrap))
+                    check(f"what {one.__name__} leaves", [*(Path(folder) / "temporary").rglob("*")], [])
+                except Missing as fault:
+                    faults.append(str(fault))
+                faults[before:] = [("under rlwrap, " if rlwrap else "") + fault for fault in faults[before:]]
+    for fault in faults:
+        print(f"failed {fault}")
+    print(f"{passed} passed, {len(faults)} failed")
+    sys.exit(1 if faults or not passed else 0)
+
+
+if __name__ == "__main__":
+    main()

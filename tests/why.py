@@ -1,0 +1,633 @@
+#!/usr/bin/env python3
+"""Compares `why` of a built program with its debugger, and feeds it by pipes.
+
+usage: why.py PROGRAM [N]
+
+N random programs (300 where no number is given), of which some are wrong, run over random captures with random values,
+and those of tests/verdicts.txt over examples/mixed.pcap. The debugger's replies to `run`, and to `stops` with a
+breakpoint at each instruction, say what each report of `why` is: how packets ended, a line for each, the ways of some,
+and the counts in the listing and in the graph. Whole outputs are compared. For a capture that is cut at each byte, and
+for one whose file header has each byte changed, `load pcap` and `run` say it. The other tests, of pipes, of files that
+grow and of signals, are the functions of TESTS. The last line is `N programs and M tests, F failed`.
+"""
+
+import contextlib
+import operator
+import os
+import random
+import re
+import select
+import signal
+import socket
+import struct
+import subprocess
+import sys
+import tempfile
+import threading
+from collections import Counter
+from concurrent.futures import ProcessPoolExecutor
+from functools import partial
+from itertools import pairwise, zip_longest
+from pathlib import Path
+from typing import NamedTuple
+
+from kernel import ABSOLUTE, EXTENSIONS, JA, JUMPS, NAMES, RET_A, RETURNS, TOP, instructions, random_program, words_of
+from sessions import TAKE_NO_VALUE
+
+SECONDS = 60
+PROGRAMS = 300
+PLACES = {name: EXTENSIONS + 4 * place for place, name in enumerate(NAMES) if name != "-"}
+# What a conditional jump compares, by its code without the bit for X.
+COMPARED = {0x15: operator.eq, 0x25: operator.gt, 0x35: operator.ge, 0x45: operator.and_}
+BY_X = 0x08
+DIVISIONS_BY_X = [0x3C, 0x9C]
+VERDICTS = {"pass": "palegreen", "fail": "lightsalmon", "unknown": "khaki"}
+MICROSECONDS, NANOSECONDS = 0xA1B2C3D4, 0xA1B23C4D
+# The most memory that a capture may take, whatever its size.
+FEW_BYTES = 4 << 20
+MEGABYTES = 300
+ARP = "4,40 0 0 12,21 0 1 2054,6 0 0 4294967295,6 0 0 0"
+
+
+class Step(NamedTuple):
+    """An instruction that a packet executes, A and X before it, and the extension that has no value, or nothing."""
+
+    pc: int
+    a: int
+    x: int
+    asks: str
+
+
+class End(NamedTuple):
+    """How a packet ended: `why` is the value returned, or why there is none."""
+
+    pc: int
+    verdict: str
+    why: str
+    returned: bool
+
+
+class Debugged(NamedTuple):
+    """What the debugger says of a program over a capture: the listing's lines, the reply to `load pcap`, the one to
+    `run`, and the way of each packet."""
+
+    program: list
+    listing: list
+    loaded: str
+    totals: str
+    ways: list
+
+    def end(self, way):
+        last = way[-1]
+        code, _, _, k = self.program[last.pc]
+        if last.asks:
+            return End(last.pc, "unknown", f"{last.asks} has no value", False)
+        if code in RETURNS:
+            value = last.a if code == RET_A else k
+            return End(last.pc, "pass" if value else "fail", str(value), True)
+        return End(last.pc, "fail", "division by 0" if code in DIVISIONS_BY_X else "outside the packet", False)
+
+    def ends(self):
+        """How packets ended, in the order of the report: instruction, verdict, and why no value was returned."""
+        found = {}
+        for number, way in enumerate(self.ways, 1):
+            end = self.end(way)
+            place = (end.pc, list(VERDICTS).index(end.verdict), end.verdict, "" if end.returned else f", {end.why}")
+            found.setdefault(place, []).append(number)
+        for (pc, _, verdict, why), numbers in sorted(found.items()):
+            yield pc, verdict, why, numbers
+
+    def holds(self, step):
+        """Whether the comparison of a conditional jump holds."""
+        code, _, _, k = self.program[step.pc]
+        return bool(code in JUMPS and COMPARED[code & ~BY_X](step.a, step.x if code & BY_X else k))
+
+    def counts(self):
+        """How often each instruction ran, and how often its comparison held."""
+        steps = [step for way in self.ways for step in way]
+        return Counter(step.pc for step in steps), Counter(step.pc for step in steps if self.holds(step))
+
+
+# The reports, as lines.
+def summary(found):
+    for pc, verdict, why, numbers in found.ends():
+        yield f"{verdict} {len(numbers)} at {found.listing[pc]}{why}, first packet {numbers[0]}"
+    yield found.totals
+    if "cut" in found.loaded:
+        yield found.loaded
+
+
+def line_of_packet(found, number):
+    end = found.end(found.ways[number - 1])
+    yield f"{number}\t{end.verdict}\tl{end.pc}\t{end.why}"
+
+
+def registers(step):
+    return f"A {step.a} ({step.a:#x}) X {step.x} ({step.x:#x})"
+
+
+def way_of_packet(found, number):
+    way = found.ways[number - 1]
+    yield f"packet {number}"
+    for step, after in zip_longest(way, way[1:]):
+        to = f"\tto l{after.pc}" if after and found.program[step.pc][0] in [JA, *JUMPS] else ""
+        yield f"{found.listing[step.pc]}\t{registers(step)}{to}"
+    end = found.end(way)
+    tests = [step for step in way if found.program[step.pc][0] in JUMPS]
+    after = f", after {found.listing[tests[-1].pc]} with {registers(tests[-1])}" if tests else ""
+    why = "" if end.returned else f", {end.why}"
+    yield f"{end.verdict} at {found.listing[end.pc]}{why}" + (after if end.verdict == "fail" else "")
+
+
+def coverage(found):
+    ran, held = found.counts()
+    for pc, (code, *_) in enumerate(found.program):
+        ways = f"\ttrue {held[pc]} false {ran[pc] - held[pc]}" if code in JUMPS else ""
+        yield f"{ran[pc]}\t{found.listing[pc]}{ways}"
+
+
+def blocks(program):
+    """The first and the last instruction of each basic block."""
+    begins = {0}
+    for at, (code, jt, jf, k) in enumerate(program, 1):
+        ways = [at] * (code in RETURNS) + [at, at + k] * (code == JA) + [at, at + jt, at + jf] * (code in JUMPS)
+        begins |= {to for to in ways if to < len(program)}
+    return [(first, after - 1) for first, after in pairwise([*sorted(begins), len(program)])]
+
+
+def edges(found, last):
+    """The ways out of a block whose last instruction is this: where, how often, and the word for it."""
+    (ran, held), (code, jt, jf, k) = found.counts(), found.program[last]
+    if code in JUMPS:
+        yield last + 1 + jt, held[last], "true "
+        yield last + 1 + jf, ran[last] - held[last], "false "
+    elif code not in RETURNS:
+        ended = sum(len(numbers) for pc, _, _, numbers in found.ends() if pc == last)
+        yield last + 1 + (k if code == JA else 0), ran[last] - ended, ""
+
+
+def grey(count):
+    return "" if count else " color=grey fontcolor=grey"
+
+
+def graph(found):
+    ran, _ = found.counts()
+    yield "digraph filter {"
+    yield "node [shape=box fontname=monospace]"
+    for first, last in blocks(found.program):
+        lines = [line.replace("\t", " ").replace("&", "&amp;") + "\\l" for line in found.listing[first : last + 1]]
+        yield f'l{first} [label="{"".join(lines)}"{grey(ran[first])}]'
+        for to, count, word in edges(found, last):
+            yield f'l{first} -> l{to} [label="{word}{count}"{grey(count)}]'
+    for pc, verdict, why, numbers in found.ends():
+        block = next(first for first, last in blocks(found.program) if first <= pc <= last)
+        yield f'{verdict}{pc} [label="{verdict}{why}" shape=oval style=filled fillcolor={VERDICTS[verdict]}]'
+        yield f'l{block} -> {verdict}{pc} [label="{len(numbers)}"]'
+    yield "}"
+
+
+def of_each(report, found, chosen):
+    """The lines of a report of each of some packets."""
+    return [line for number in chosen for line in report(found, number)]
+
+
+def of_all(report, found, chosen):
+    """The lines of a report of some packets together."""
+    return list(report(found._replace(ways=[found.ways[number - 1] for number in chosen])))
+
+
+def of_chosen(lines_of, report, found, chosen):
+    """What a report says of chosen packets, what is said of one that isn't there, and the status."""
+    there = sorted(number for number in chosen if number <= len(found.ways))
+    missing = sorted(chosen.difference(there))
+    return lines_of(report, found, there), [f"cbpf: no packet {number}" for number in missing[:1]], len(missing[:1])
+
+
+# Random captures and programs.
+def header(order="<", magic=MICROSECONDS):
+    return struct.pack(f"{order}IHHIIII", magic, 2, 4, 0, 0, 65535, 1)
+
+
+def record(packet, wire=None, order="<"):
+    return struct.pack(f"{order}IIII", 1, 0, len(packet), len(packet) if wire is None else wire) + packet
+
+
+def drawn_record(draw, order):
+    size = draw.choice([0, 1, 2, 5, 17, 40, 64, 64, 300])
+    return record(bytes(draw.choices([0, 1, 2, 3, 6, 8, 17, 255], k=size)), size + draw.choice([0, 0, 9, 2**31]), order)
+
+
+def drawn_capture(draw):
+    """A capture in one of both byte orders, with microseconds or nanoseconds. Some are cut, and of some the bytes after
+    the file header are changed, so that lengths are others."""
+    order = draw.choice("<>")
+    head = header(order, draw.choice([MICROSECONDS, NANOSECONDS]))
+    data = bytearray().join(drawn_record(draw, order) for _ in range(draw.choice([0, 1, 3, 8, 20])))
+    if data and not draw.randrange(4):
+        for _ in range(draw.randrange(1, 6)):
+            data[draw.randrange(len(data))] = draw.choice([0, 1, 16, 255])
+    return head + data[: len(data) - draw.choice([0, 0, draw.randrange(90)])]
+
+
+def with_extensions(draw, program):
+    """The program with extensions in some of its loads."""
+
+    def drawn(code, jt, jf, k):
+        return (code, jt, jf, draw.choice(list(PLACES.values())) if not draw.randrange(6) else k)
+
+    return [drawn(*insn) if insn[0] in ABSOLUTE else insn for insn in program]
+
+
+def drawn_values(draw):
+    names = [name for name in PLACES if name not in TAKE_NO_VALUE and draw.randrange(2)]
+    return {name: draw.choice([0, 1, 2, 63, 2048, 2**32 - 1]) for name in names}
+
+
+def drawn_numbers(draw, count):
+    """Words that choose packets, and what they choose, of a capture of so many."""
+    pairs = [sorted(draw.choices(range(1, count + 2), k=2)) for _ in range(draw.randrange(1, 4))]
+    words = [draw.choice([f"{first}-{last}"] + [str(first)] * (first == last)) for first, last in pairs]
+    return words, {number for first, last in pairs for number in range(first, last + 1)}
+
+
+# What the debugger and `why` say.
+def ran(words, folder, **given):
+    """Standard output and standard error of a command as lines, and its status."""
+    done = subprocess.run(words, capture_output=True, cwd=folder, timeout=SECONDS, **given)
+    return done.stdout.decode().splitlines(), done.stderr.decode().splitlines(), done.returncode
+
+
+def fault_of(what, got, wanted):
+    return [] if got == wanted else [f"{what}: wanted {wanted}, got {got}"]
+
+
+def replies(program, folder, script):
+    said, faults, status = ran([program], folder, input="".join(f"{line}\n" for line in script).encode())
+    if faults or status:
+        raise RuntimeError(f"the debugger: {faults}, status {status}")
+    return said
+
+
+STOP = re.compile(r"(\d+) \d+ l(\d+) A (\d+) X (\d+) \((?:breakpoint|extension (\w+))\)")
+
+
+def way_by_packet(lines, count):
+    """The ways of so many packets by the lines of `stops`."""
+    ways = [[] for _ in range(count)]
+    for line in lines:
+        number, pc, a, x, asks = STOP.fullmatch(line).groups("")
+        ways[int(number) - 1].append(Step(int(pc), int(a), int(x), asks))
+    return ways
+
+
+def debugged(program, folder, insns, values, most):
+    """What the debugger says of a program over the capture in the folder, which has so many packets at most, or how it
+    refuses the program. A run stops at each packet that asks for an extension without a value."""
+    size = len(insns)
+    begin = [f"load bpf {words_of(insns)}", *(f"value {name} {n}" for name, n in values.items()), "load pcap capture"]
+    breakpoints = [f"breakpoint {at}" for at in range(size)]
+    script = [*begin, "disassemble", *breakpoints, "stops", "breakpoint reset", *["run"] * (most + 1)]
+    said = replies(program, folder, script)
+    if said[0].startswith("error: "):
+        return said[0].removeprefix("error: ")
+    loaded, at = said[len(begin) - 1], len(begin) + size
+    last = next(at for at, line in enumerate(said) if line.startswith("stops: "))
+    totals = next(line for line in said[last:] if line.startswith("bpf passes:"))
+    ways = way_by_packet(said[at + size : last], int(loaded.split()[1]))
+    return Debugged(insns, said[len(begin) : at], loaded, totals, ways)
+
+
+def filter_text(draw, insns, listing):
+    """The text of a program's filter, in a form that `why` takes."""
+    words = words_of(insns)
+    source = "".join(f"{line}\n" for line in listing)
+    return draw.choice([words, f"\n {words},\n", words.replace(",", "\n") + "\n", source, f"; a comment\n{source}"])
+
+
+def asked(draw, found):
+    """The options and packets of some command lines, and what each is to give."""
+    for option, report in ([], summary), (["-l"], coverage), (["-g"], graph):
+        yield option, [], (list(report(found)), [], 0)
+    yield ["-p"], [], of_chosen(of_each, line_of_packet, found, set(range(1, len(found.ways) + 1)))
+    for option, report in (["-p"], line_of_packet), ([], way_of_packet):
+        words, chosen = drawn_numbers(draw, len(found.ways))
+        yield option, words, of_chosen(of_each, report, found, chosen)
+    words, chosen = drawn_numbers(draw, len(found.ways))
+    option, report = draw.choice([(["-l"], coverage), (["-g"], graph)])
+    yield option, words, of_chosen(of_all, report, found, chosen)
+
+
+def differences(draw, program, folder, found, values):
+    """Where `why` says something else than the debugger."""
+    given = [word for name, n in values.items() for word in ("-v", f"{name}={n}")]
+    for option, packets, wanted in asked(draw, found):
+        name = draw.choice(["capture", "-"])
+        with open(folder / "capture", "rb") as capture:
+            words = [program, "why", *option, *given, "filter", name, *packets]
+            got = ran(words, folder, stdin=subprocess.DEVNULL if name == "capture" else capture)
+        yield from fault_of(" ".join(words[1:]), got, wanted)
+
+
+def refusal(program, folder, insns, said):
+    """Where `why` refuses a program otherwise than the debugger, which said this."""
+    (folder / "filter").write_text(words_of(insns))
+    return fault_of("refused", ran([program, "why", "filter", "capture"], folder), ([], [f"cbpf: filter: {said}"], 1))
+
+
+def compared(program, task):
+    """The faults of a program over a capture, and what was reached: ends of packets, or the error of a program."""
+    insns, capture, values, seed = task
+    with tempfile.TemporaryDirectory() as name:
+        folder = Path(name)
+        (folder / "capture").write_bytes(capture)
+        found = debugged(program, folder, insns, values, len(capture) // 16)
+        if isinstance(found, str):
+            faults, reached = refusal(program, folder, insns, found), {found.split()[0]}
+        else:
+            draw = random.Random(seed)
+            (folder / "filter").write_text(filter_text(draw, insns, found.listing))
+            faults = list(differences(draw, program, folder, found, values))
+            ends = [end.why for end in map(found.end, found.ways) if not end.returned]
+            reached = {re.sub(r"^\w+ has", "an extension has", why) for why in ends}
+    return [f"{words_of(insns)} over {capture.hex()}: {fault}" for fault in faults], reached
+
+
+def tasks(count):
+    """The programs that are compared: instructions, capture, values, and the seed of the rest."""
+    mixed = (TOP / "examples/mixed.pcap").read_bytes()
+    for seed, row in enumerate((TOP / "tests/verdicts.txt").read_text().splitlines()):
+        yield instructions(row.split("|")[1]), mixed, {}, seed
+    draw = random.Random(0)
+    for seed in range(count):
+        yield with_extensions(draw, random_program(draw)), drawn_capture(draw), drawn_values(draw), seed
+
+
+# Pipes, files that grow, signals.
+@contextlib.contextmanager
+def started(words, folder):
+    """A process with pipes, which is ended where it takes too long."""
+    given = {name: subprocess.PIPE for name in ("stdin", "stdout", "stderr")}
+    with subprocess.Popen(words, cwd=folder, bufsize=0, **given) as process:
+        watch = threading.Timer(SECONDS, process.kill)
+        watch.start()
+        try:
+            yield process
+        finally:
+            watch.cancel()
+
+
+def words_of_load(said, status_of_run, name):
+    """What `why` prints, by the replies to `load pcap` and `run`, for a program of one return."""
+    if said.startswith("error: "):
+        return [], [f"cbpf: {name}: {said.removeprefix('error: ')}"], 1
+    count = int(said.split()[1])
+    ended = [f"pass {count} at l0:\tret #0x1, first packet 1"] if count else []
+    return [*ended, status_of_run, *([said] if "cut" in said else [])], [], 0
+
+
+def agrees_with_loads(program, folder, captures):
+    """Of captures by their names: `why` says what `load pcap` and `run` say."""
+    for name, data in captures.items():
+        (folder / name).write_bytes(data)
+    script = [line for name in captures for line in ("load bpf 1,6 0 0 1", f"load pcap {name}", "run")]
+    said = iter(replies(program, folder, script))
+    (folder / "filter").write_text("ret #1")
+    for name, _, loaded, run in zip(captures, said, said, said):
+        got = ran([program, "why", "filter", name], folder)
+        yield from fault_of(name, got, words_of_load(loaded, run, name))
+
+
+def cut_at_each_byte(program, folder):
+    records = [record(b"abc"), record(b"", 9), record(bytes(20)), record(b"z")]
+    whole = header() + b"".join(records)
+    claimed = header() + records[0] + struct.pack("<IIII", 1, 0, 2**32 - 1, 2**32 - 1) + b"few"
+    captures = {f"cut at {size}": whole[:size] for size in range(len(whole) + 1)}
+    captures |= {f"a claim, cut at {size}": claimed[:size] for size in range(24, len(claimed) + 1)}
+    yield from agrees_with_loads(program, folder, captures)
+
+
+def each_byte_of_the_header(program, folder):
+    data = {f"{order}{magic:x}": header(order, magic) for order in "<>" for magic in (MICROSECONDS, NANOSECONDS)}
+    changed = {
+        f"{name}, byte {at} as {byte}": head[:at] + bytes([byte]) + head[at + 1 :]
+        for name, head in data.items()
+        for at in range(24)
+        for byte in (0, head[at] ^ 1)
+    }
+    yield from agrees_with_loads(program, folder, {**data, **changed})
+
+
+def send_bytes(own, data):
+    with own:
+        for at in range(len(data)):
+            own.send(data[at : at + 1])
+
+
+def by_one_byte_a_read(program, folder):
+    """Each read of such a socket gives one message."""
+    (folder / "filter").write_text("ldb [0]\nret a")
+    data = header(">") + b"".join(record(bytes([at]) * 40, order=">") for at in range(3))
+    (folder / "capture").write_bytes(data)
+    for options in [], ["-p"], ["-l"]:
+        own, other = socket.socketpair(socket.AF_UNIX, socket.SOCK_SEQPACKET)
+        words = [program, "why", *options, "filter"]
+        with other:
+            threading.Thread(target=send_bytes, args=(own, data), daemon=True).start()
+            got = ran(words, folder, stdin=other)
+        yield from fault_of(f"bytes one by one, {options}", got, ran([*words, "capture"], folder))
+
+
+def waits(process):
+    """Whether nothing comes of a process for a while."""
+    return not select.select([process.stdout], [], [], 0.05)[0]
+
+
+def line_by_line(program, folder):
+    """Each packet's line comes before the next packet, and none before its packet is whole."""
+    (folder / "filter").write_text("ldb [0]\nret a")
+    with started([program, "why", "-p", "filter"], folder) as process:
+        process.stdin.write(header())
+        for number in range(1, 51):
+            data = record(bytes([number, 0, 0]))
+            if number % 10 == 0:
+                process.stdin.write(data[:-1])
+                yield from fault_of(f"before packet {number} is whole", waits(process), True)
+                data = data[-1:]
+            process.stdin.write(data)
+            yield from fault_of("a live pipe", process.stdout.readline(), b"%d\tpass\tl1\t%d\n" % (number, number))
+        process.stdin.close()
+        got = process.stdout.read(), process.stderr.read(), process.wait()
+        yield from fault_of("a live pipe's end", got, (b"", b"", 0))
+
+
+def the_last_packet_ends_it(program, folder):
+    """After the last packet that is asked for nothing is read: it ends while the pipe is open."""
+    (folder / "filter").write_text("ret #1")
+    with started([program, "why", "-p", "filter", "-", "2", "1"], folder) as process:
+        process.stdin.write(header() + record(b"a") + record(b"b"))
+        got = process.stdout.read(), process.wait()
+        yield from fault_of("the last packet", got, (b"1\tpass\tl0\t1\n2\tpass\tl0\t1\n", 0))
+    with started([program, "why", "filter", "-", "1-2"], folder) as process:
+        process.stdin.write(header() + record(b"a"))
+        lines = [b"packet 1\n", b"l0:\tret #0x1\tA 0 (0x0) X 0 (0x0)\n", b"pass at l0:\tret #0x1\n"]
+        yield from fault_of("a way on a live pipe", [process.stdout.readline() for _ in range(3)], lines)
+        process.stdin.close()
+        yield from fault_of("no packet", (process.stderr.read(), process.wait()), (b"cbpf: no packet 2\n", 1))
+
+
+def nothing_is_read_after_the_end(program, folder):
+    """A read of the socket gives one message; one without bytes is an end, as at a terminal."""
+    (folder / "filter").write_text("ret #1")
+    for packets, end in ([], b""), (["-", "1-2"], b""), (["-", "2"], record(b"c")):
+        own, other = socket.socketpair(socket.AF_UNIX, socket.SOCK_SEQPACKET)
+        with own, other:
+            for message in [header(), record(b"a"), record(b"b"), end, b"more"]:
+                own.send(message)
+            _, faults, status = ran([program, "why", "filter", *packets], folder, stdin=other)
+            other.settimeout(1)
+            left = other.recv(100) or other.recv(100)
+        yield from fault_of(f"after the end, {packets}", (faults, status, left), ([], 0, end or b"more"))
+
+
+def a_closed_output(program, folder):
+    (folder / "filter").write_text("ret #1")
+    (folder / "capture").write_bytes(header() + record(b"a") * 100_000)
+    for options, first in (["-p"], b"1\tpass\tl0\t1\n"), ([], b"packet 1\n"):
+        with started([program, "why", *options, "filter", "capture", "1-100000"], folder) as process:
+            line = process.stdout.readline()
+            process.stdout.close()
+            got = line, process.stderr.read(), process.wait()
+        yield from fault_of(f"a closed output, {options}", got, (first, b"cbpf: write fault\n", 1))
+
+
+def an_interrupt(program, folder):
+    """What was printed stays, and nothing comes after it. A shell may have made this script ignore the signal."""
+    signal.signal(signal.SIGINT, signal.SIG_DFL)
+    (folder / "filter").write_text("ret #1")
+    with started([program, "why", "-p", "filter"], folder) as process:
+        process.stdin.write(header() + record(b"a"))
+        line = process.stdout.readline()
+        process.send_signal(signal.SIGINT)
+        got = line, process.stdout.read(), process.wait()
+    yield from fault_of("SIGINT", got, (b"1\tpass\tl0\t1\n", b"", -signal.SIGINT))
+
+
+def a_read_that_fails(program, folder):
+    """What is due has gone out, and the totals haven't. A socket whose other end is closed before it has read all gives
+    what it was sent, and then an error."""
+    (folder / "filter").write_text("ret #1")
+    way = "packet 1\nl0:\tret #0x1\tA 0 (0x0) X 0 (0x0)\npass at l0:\tret #0x1\n"
+    due = {"-p": "1\tpass\tl0\t1\n", "- 1-9": way, "-": "", "-l": "", "-g": "", "- 7": ""}
+    for options, wanted in due.items():
+        own, other = socket.socketpair()
+        other.send(b"never read")
+        own.send(header() + record(b"a") + record(b"b")[:-1])
+        own.close()
+        with other:
+            got = ran([program, "why", "filter", *options.split()], folder, stdin=other)
+        yield from fault_of(f"a read that fails, {options}", got, (wanted.splitlines(), ["cbpf: read fault"], 1))
+
+
+def a_growing_file(program, folder):
+    """It is read up to the end that it has then: what comes while its output waits is read too."""
+    (folder / "filter").write_text("ret #1")
+    data = header() + record(bytes(50)) * 60_000
+    (folder / "capture").write_bytes(data)
+    with started([program, "why", "-p", "filter", "capture"], folder) as process:
+        process.stdout.readline()
+        with open(folder / "capture", "ab") as capture:
+            capture.write(record(b"a") * 1000 + record(b"b")[:-1])
+        got = process.stdout.read().count(b"\n"), process.wait()
+    yield from fault_of("a growing file", got, (60_999, 0))
+    says = [f"pass 61000 at l0:\tret #0x1, first packet 1", "bpf passes:61000 fails:0"]
+    cut = f"pcap: 61000 packets, cut record data at {len(data) + 17_000}"
+    yield from fault_of("a grown file", ran([program, "why", "filter", "capture"], folder), ([*says, cut], [], 0))
+
+
+def of_process(process, file, name):
+    """A number that the kernel keeps of a process."""
+    return int(re.search(rf"(?m)^{name}:\s*(\d+)", Path(f"/proc/{process.pid}/{file}").read_text())[1])
+
+
+def a_long_pipe(program, folder):
+    """Packets of 64 bytes, in little memory, and with few reads."""
+    (folder / "filter").write_text(ARP)
+    piece = (record(bytes(12) + b"\x08\x06" + bytes(50)) + record(bytes(64))) * 6_250
+    packets = 6_250 * MEGABYTES
+    with started([program, "why", "filter"], folder) as process:
+        process.stdin.write(header())
+        for _ in range(MEGABYTES):
+            write_all(process.stdin, piece)
+        used, reads = of_process(process, "status", "VmHWM") * 1024, of_process(process, "io", "syscr")
+        process.stdin.close()
+        said, status = process.stdout.read().decode().splitlines(), process.wait()
+    yield from fault_of("a long pipe", (said[-1:], status), ([f"bpf passes:{packets} fails:{packets}"], 0))
+    yield from fault_of(f"memory of a long pipe: {used} bytes", used <= FEW_BYTES, True)
+    yield from fault_of(f"reads of a long pipe: {reads}", reads < 100_000, True)
+
+
+def write_all(file, data):
+    view = memoryview(data)
+    while view:
+        view = view[file.write(view) :]
+
+
+def a_claim_of_4_gigabytes(program, folder):
+    """Nothing is asked for before its bytes come."""
+    (folder / "filter").write_text("ret #1")
+    with started([program, "why", "filter"], folder) as process:
+        process.stdin.write(header() + struct.pack("<IIII", 1, 0, 2**32 - 1, 2**32 - 1) + bytes(1000))
+        yield from fault_of("a claim", waits(process), True)
+        used = of_process(process, "status", "VmHWM") * 1024
+        process.stdin.close()
+        got = process.stdout.read(), process.wait()
+    yield from fault_of("a claim", got, (b"bpf passes:0 fails:0\npcap: 0 packets, cut record data at 24\n", 0))
+    yield from fault_of(f"memory of a claim: {used} bytes", used <= FEW_BYTES, True)
+
+
+TESTS = [
+    a_long_pipe,
+    cut_at_each_byte,
+    each_byte_of_the_header,
+    by_one_byte_a_read,
+    line_by_line,
+    the_last_packet_ends_it,
+    nothing_is_read_after_the_end,
+    a_closed_output,
+    an_interrupt,
+    a_read_that_fails,
+    a_growing_file,
+    a_claim_of_4_gigabytes,
+]
+# What the random programs reach beside returns.
+REASONS = {"outside the packet", "division by 0", "an extension has no value", *(f"C{n}" for n in range(3, 11))}
+
+
+def tested(program, test):
+    with tempfile.TemporaryDirectory() as folder:
+        try:
+            return [f"{test.__name__}: {fault}" for fault in test(program, Path(folder))]
+        except OSError as error:
+            return [f"{test.__name__}: {error}"]
+
+
+def main():
+    if len(sys.argv) not in (2, 3):
+        sys.exit(__doc__)
+    program = str(Path(sys.argv[1]).resolve())
+    count = int(sys.argv[2]) if len(sys.argv) == 3 else PROGRAMS
+    programs = list(tasks(count))
+    with ProcessPoolExecutor(len(os.sched_getaffinity(0))) as pool:
+        of_tests = pool.map(partial(tested, program), TESTS)
+        outcomes = list(pool.map(partial(compared, program), programs, chunksize=4))
+        faults = [found for found in of_tests if found] + [found for found, _ in outcomes if found]
+    missing = REASONS.difference(*(reached for _, reached in outcomes)) if count >= PROGRAMS else set()
+    faults += [[f"never reached: {missing}"]] if missing else []
+    for found in faults:
+        print("failed " + "\n    ".join(fault[:2000] for fault in found))
+    print(f"{len(programs)} programs and {len(TESTS)} tests, {len(faults)} failed")
+    sys.exit(1 if faults else 0)
+
+
+if __name__ == "__main__":
+    main()
