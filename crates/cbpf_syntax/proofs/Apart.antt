@@ -1,7 +1,7 @@
 -- No two rows of the table fit the same tokens, unless one goes on with a comma where the other ends.
 use Rattle.std.proofs.Common.{rules, ◌≡◌, ℕ, Bool, true, false, not, ◌&&◌, ◌||◌, List, [], ◌∷◌, ◌++◌, length, refl, sym}
 use Rattle.std.proofs.Common.{◌∙◌, ◌⊎◌, inl, inr, eq-eqb, eqb-true, zero, suc, ap, subst, append-nil, append_assoc}
-use Rattle.std.specs.Prelude.{◌==◌, bytes_eq, Contains}
+use Rattle.std.specs.Prelude.{◌==◌, bytes_eq, nat_lt, Contains}
 use Rattle.std.specs.List.{list_all}
 use Rattle.std.proofs.lemmas.Bool.{and_parts}
 use Rattle.std.proofs.lemmas.Slice.Eq.{bytes_eq-Decides}
@@ -47,9 +47,9 @@ apart [] (d ∷ ds) = is_comma d
 apart (c ∷ cs) [] = is_comma c
 apart (c ∷ cs) (d ∷ ds) = not (overlap c d) || apart cs ds
 
-pub table_length : length table ≡ 193
+pub table_some : nat_lt 0 (length table) ≡ true
 unfolding mnemonics extension_names
-table_length = refl
+table_some = refl
 
 abbrev both_apart : Row → Row → Bool
 both_apart r s = apart (classes r) (classes s) && apart (classes s) (classes r)

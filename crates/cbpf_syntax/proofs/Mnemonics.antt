@@ -5,13 +5,13 @@ use Rattle.std.specs.Prelude.{IfSome, IfNone, Contains, nat_lt, nat_le, bytes_eq
 use Rattle.cbpf_syntax.specs.declared.table.Mnemonic as declared_mnemonic
 use Rattle.cbpf_syntax.specs.Views.{mnemonic_view}
 use Rattle.std.specs.List.{list_all, filter}
-use Rattle.std.proofs.lemmas.Bool.{and_parts, both_ways, cases_Bool, false_from_ne_true, leb-true, or_from}
+use Rattle.std.proofs.lemmas.Bool.{and_parts, both_ways, cases_Bool, false_from_ne_true, or_from}
 use Rattle.cbpf_syntax.specs.Fits.{is_one_of, mnemonic_words, is_reserved, extension_names}
 use Rattle.cbpf_syntax.specs.Table.{Row, Mnemonic, mnemonics, table, rows_of, entry_rows, operand_words}
 use Rattle.cbpf_syntax.specs.Initials.{begins_with, is_first}
 use Rattle.cbpf_syntax.proofs.Apart.{bytes_eq_self, equal_bytes}
 use Rattle.cbpf_syntax.proofs.Elements.{all_pairs, same_or_pair, first_element, later_element, which_element, from_map}
-use Rattle.cbpf_syntax.proofs.Elements.{into_map, from_flat_map, into_flat_map, any_element, some_element, list_all_at}
+use Rattle.cbpf_syntax.proofs.Elements.{into_map, from_flat_map, into_flat_map, any_element, list_all_at}
 use Rattle.std.specs.Option.{is_some}
 use Rattle.cbpf_code.specs.declared.extension.Ext.{Ext}
 use Rattle.cbpf_code.specs.Extension.{ext_table, ext_name, ext_named, named_in}
@@ -23,10 +23,6 @@ words_differ = refl
 modes_given : list_all (λ (m : Mnemonic). nat_lt 0 (length m.entries)) mnemonics ≡ true
 unfolding mnemonics
 modes_given = refl
-
-words_short : list_all (λ (m : Mnemonic). nat_le (length m.word) 4) mnemonics ≡ true
-unfolding mnemonics
-words_short = refl
 
 not_same : {B : Type 0} (v w : List ℕ) → v ≡ w → not (bytes_eq v w) ≡ true → B
 not_same v w h1 h2 = search (rules, bytes_eq_self)
@@ -72,17 +68,6 @@ pub mnemonic_test : (w : List ℕ) (o : Option (Bor declared_mnemonic.Mnemonic))
     → IfNone o (is_one_of mnemonic_words w ≡ false) → is_some o ≡ is_one_of mnemonic_words w
 mnemonic_test w None f g h = sym h
 mnemonic_test w (Some m) f g h = sym (word_listed w (mnemonic_view m.now) f g)
-
--- no mnemonic is longer than 4 bytes
-pub long_word : (w : List ℕ) → 4 < length w → is_one_of mnemonic_words w ≡ false
-long_word w h = false_from_ne_true (is_one_of mnemonic_words w) (λ e.
-    let s = some_element (λ v. bytes_eq w v) mnemonic_words e in
-    let m = from_map (λ (n : Mnemonic). n.word) mnemonics s.0 s.1 in
-    let short : nat_le (length m.0.word) 4 ≡ true = rw m.1.2 at
-    (list_all_at (λ (n : Mnemonic). nat_le (length n.word) 4) mnemonics m.1.0 m.0 words_short m.1.1) in
-    let same : length w ≡ length m.0.word = ap length (equal_bytes w s.0 s.2 ∙ sym m.2) in
-    let most = leb-true (length m.0.word) 4 short in
-    omega (arith, most, same))
 
 -- the empty word is no mnemonic
 pub no_word : (w : List ℕ) → length w ≡ 0 → is_one_of mnemonic_words w ≡ false

@@ -1,6 +1,6 @@
 -- One item of a parser: its labels, and then the row of which most tokens fit, a whole one before one that goes on.
 use Rattle.std.proofs.Common.{rules, ◌≡◌, ℕ, zero, suc, ◌+◌, ◌<◌, ◌≤◌, Bool, true, false, not, List, [], ◌∷◌, length}
-use Rattle.std.proofs.Common.{take, drop, refl, arith, ap, sym, ◌∙◌, ◌≢◌, ◌&&◌, subst, get_or, Bor, map}
+use Rattle.std.proofs.Common.{take, drop, refl, arith, ap, sym, ◌∙◌, ◌≢◌, ◌&&◌, subst, get_or, Bor, map, ltb-true}
 use Rattle.std.specs.Prelude.{Contains, bytes_eq}
 use Rattle.std.proofs.lemmas.List.{get_or_default, length-take-le}
 use Rattle.std.proofs.lemmas.List.Sums.{common_prefix_len-le}
@@ -23,12 +23,12 @@ use Rattle.cbpf_syntax.specs.Steps.{Goes, Stuck, IsNextItem, starts_with_colon, 
 use Rattle.cbpf_syntax.specs.Views.{row_of, symbol_of, lexeme_of}
 use Rattle.cbpf_syntax.proofs.Fronts.{whole_front, length_whole, front_whole, common_fits, common_most}
 use Rattle.cbpf_syntax.proofs.Apart.{overlap_sound, row_starts, starts_reserved, no_classes, equal_bytes, begins_none}
-use Rattle.cbpf_syntax.proofs.Apart.{table_length}
+use Rattle.cbpf_syntax.proofs.Apart.{table_some}
 use Rattle.cbpf_syntax.proofs.Mnemonics.{same_mnemonic, row_mnemonic, row_word, row_known, word_reserved, word_listed}
 
 pub some_known : (r : Row) × Contains table r
 some_known =
-    let l : 0 < length table = rw table_length (omega arith) in (
+    let l : 0 < length table = ltb-true 0 (length table) table_some in (
       get_or table 0 (record { mnemonic = []; operand = []; op = Tax; fields = Constant }),
       (0, l, get_or_default table 0 _ _ l),
     )

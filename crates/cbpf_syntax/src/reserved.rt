@@ -11,21 +11,15 @@ use crate::mode::OPERAND_WORDS;
 use crate::table::{Mnemonic, mnemonics_from};
 use cbpf_code::ext_named;
 
-/// The size of the longest mnemonic.
-const LONGEST: usize = 4;
-
 /// The mnemonic of this word.
 #[inline(always)]
-#[tactic(auto, using(crate::proofs::Mnemonics::long_word, crate::proofs::Mnemonics::no_word))]
+#[tactic(auto, using(crate::proofs::Mnemonics::no_word))]
 pub(crate) fn mnemonic_named(word: &[u8]) -> Option<&'static Mnemonic>
     ensures found { IfSome result (λ m. Contains mnemonics (mnemonic_view m.now)) }
     ensures word { IfSome result (λ m. bytes_eq word.now m.now.word.now ≡ true) }
     ensures none { IfNone result (is_one_of mnemonic_words word.now ≡ false) }
 {
     if word.is_empty() {
-        return None;
-    }
-    if word.len() > LONGEST {
         return None;
     }
     for mnemonic in mnemonics_from(word[0]) {

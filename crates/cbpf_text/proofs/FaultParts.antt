@@ -10,9 +10,12 @@ use Rattle.cbpf_syntax.specs.Items.{Item, Items}
 use Rattle.cbpf_code.specs.declared.insn.Insn.{Insn}
 use Rattle.cbpf_text.specs.declared.fault.AsmFault.{AsmFault}
 use Rattle.cbpf_text.specs.declared.placed_fault.PlacedFault.{PlacedFault}
-use Rattle.cbpf_text.specs.Assembled.{AreEncoded, AssembleTokens}
-use Rattle.cbpf_text.specs.Refusals.{Reported, IsTokensFault, IsRefused, IsLexRefused, IsReportedAt, grammar_kind}
-use Rattle.cbpf_text.specs.Refusals.IsTokensFault.{of_grammar}
+use Rattle.cbpf_text.specs.declared.fault.AsmKind.{AsmKind}
+use Rattle.cbpf_text.specs.Labels.{labels_from}
+use Rattle.cbpf_text.specs.Assembled.{insns_from, AssembleTokens}
+use Rattle.cbpf_text.specs.Refusals.{items_fault, Reported, IsTokensFault, IsRefused, IsLexRefused, IsReportedAt}
+use Rattle.cbpf_text.specs.Refusals.{grammar_kind}
+use Rattle.cbpf_text.specs.Refusals.IsTokensFault.{of_grammar, of_items}
 use Rattle.cbpf_text.specs.Refusals.IsTextFault.{of_piece, of_tokens}
 use Rattle.cbpf_text.specs.declared.fault.AsmFault.TheVariants as faults
 use Rattle.std.proofs.lemmas.List.{length-map, length-take-le, drop-drop}
@@ -38,9 +41,14 @@ use Rattle.cbpf_syntax.specs.declared.item.Row as declared_row
 use Rattle.cbpf_text.specs.declared.fault.AsmKind.TheVariants as kinds
 
 pub tokens_assembled : (ts : List Lexeme) (is : List Item) (insns : List Insn) → Items ts is → IsAccepted ts
-    → AreEncoded is insns → AssembleTokens ts insns
-tokens_assembled ts is insns p a e =
-    record { items = is; parsed = p; ranged = λ i h. a (ParseFault.LargeNegative i) i (refl, h); encoded = e }
+    → items_fault is ≡ None → insns ≡ insns_from (labels_from 0 is) 0 is → AssembleTokens ts insns
+tokens_assembled ts is insns p a sound e = record {
+  items = is;
+  parsed = p;
+  ranged = λ i h. a (ParseFault.LargeNegative i) i (refl, h);
+  sound = sound;
+  encoded = e;
+}
 
 pub lex_refused : (text : List ℕ) (fault : AsmFault) → IsLexRefused text fault → IsRefused text fault
 lex_refused text faults.Memory h = tt
@@ -49,17 +57,23 @@ lex_refused text (faults.At kind line) h = rw h.1 (of_piece h.0 line h.2)
 -- The refusals of a text whose items are read one by one, and what is kept of them.
 
 -- the refusal of the text's tokens is the text's
-pub whole_refused : (text : List ℕ) (ts : List Lexeme) (r : PlacedFault) (fault : AsmFault) → AreLexemes text ts
-    → Reported (IsTokensFault ts) r → IsReportedAt text r fault → IsRefused text fault
-whole_refused text ts placed.Memory fault t h e = rw e tt
-whole_refused text ts (placed.At kind at) fault t h e =
+pub tokens_refused : (text : List ℕ) (ts : List Lexeme) (kind : AsmKind) (at : ℕ) (fault : AsmFault)
+    → AreLexemes text ts → IsTokensFault ts kind at → IsReportedAt text (placed.At kind at) fault → IsRefused text fault
+tokens_refused text ts kind at fault t h e =
     rw e (of_tokens t.tokens kind at t.lexed (subst (λ us. IsTokensFault us kind at) t.are h))
+
+pub items_refused : (text : List ℕ) (ts : List Lexeme) (is : List Item) (r : PlacedFault) (fault : AsmFault)
+    → AreLexemes text ts → Items ts is → IsAccepted ts → Reported (items_fault is) r → IsReportedAt text r fault
+    → IsRefused text fault
+items_refused text ts is placed.Memory fault t p a h e = rw e tt
+items_refused text ts is (placed.At kind at) fault t p a h e =
+    tokens_refused text ts kind at fault t (of_items is kind at p a h) e
 
 -- the first refusal of the grammar is the text's
 pub grammar_refused : (text : List ℕ) (ts : List Lexeme) {refused : SyntaxFault} (fault : AsmFault) → AreLexemes text ts
     → (first : IsRefusedFor ts refused)
     → IsReportedAt text (placed.At (grammar_kind first.refusal) first.at) fault → IsRefused text fault
-grammar_refused text ts fault t first e = whole_refused text ts (placed.At (grammar_kind first.refusal) first.at) fault t
+grammar_refused text ts fault t first e = tokens_refused text ts (grammar_kind first.refusal) first.at fault t
     (of_grammar first.refusal first.at first.first first.shown) e
 
 -- items with a literal that is too large

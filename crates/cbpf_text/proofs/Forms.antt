@@ -1,10 +1,11 @@
--- Items by their forms: how many targets each has, and its mnemonic.
-use Rattle.std.proofs.Common.{◌++◌, append_assoc, ap, ◌≡◌, refl, ◌∙◌, ℕ, zero, suc, ◌+◌, Bool, true, false, List, []}
-use Rattle.std.proofs.Common.{◌∷◌, length, drop, arith, rules, sym, subst, map, Option, Some, None}
-use Rattle.std.proofs.lemmas.List.Elements.{All-append, All-nil, All-cons}
-use Rattle.std.specs.Prelude.{All, Contains, ◌==◌, ◌||◌, slice_get}
+-- Items by their forms: how many targets each has, and its mnemonic; and their statements.
+use Rattle.std.proofs.Common.{◌≡◌, refl, sym, ◌∙◌, ap, ℕ, zero, suc, ◌+◌, Bool, true, false, List, [], ◌∷◌, ◌++◌}
+use Rattle.std.proofs.Common.{length, drop, arith, map, Option, Some, None, inl, inr, eqb-true}
+use Rattle.std.specs.Prelude.{All, Contains, ◌==◌, ◌||◌, slice_get, Result, Ok, Err}
 use Rattle.std.specs.List.{list_all}
-use Rattle.std.proofs.lemmas.Bool.{and_parts}
+use Rattle.std.specs.Option.{option_or}
+use Rattle.std.proofs.lemmas.Bool.{and_parts, or_cases}
+use Rattle.cbpf_code.specs.declared.insn.Insn.{Insn}
 use Rattle.cbpf_syntax.specs.declared.table.Fields.{Fields}
 use Rattle.cbpf_syntax.specs.declared.table.Fields.TheVariants.{Constant, Goto, Branch, Swapped}
 use Rattle.cbpf_syntax.specs.Classes.{Class}
@@ -14,17 +15,15 @@ use Rattle.cbpf_syntax.specs.Fits.{fits, fits_all}
 use Rattle.cbpf_syntax.specs.Table.{Row, classes, table, mnemonics}
 use Rattle.cbpf_syntax.specs.Items.{Item, Items, IsItem, names_at, label_classes}
 use Rattle.cbpf_syntax.proofs.Elements.{list_all_at}
-use Rattle.cbpf_text.specs.Operands.{HasForm, targets_in}
 use Rattle.cbpf_text.specs.declared.fault.AsmKind.{AsmKind}
-use Rattle.cbpf_text.specs.Assembled.{IsShortOffset, IsOffset, IsEncoded}
-use Rattle.cbpf_text.specs.Refusals.{Use, IsUseFault, IsGoodUse, IsFirstBadUse, IsTargetFault, Reported, uses_of}
-use Rattle.cbpf_text.specs.Refusals.{is_conditional}
 use Rattle.cbpf_text.specs.declared.placed_fault.PlacedFault.{PlacedFault}
-use Rattle.cbpf_text.proofs.Uses.{use_of, good_use}
-use Rattle.cbpf_text.specs.declared.draft.Target.{Target}
-use Rattle.cbpf_text.specs.Drafts.{KeepsLabel, AreTargets, IsStatement}
-use Rattle.cbpf_text.specs.declared.draft.Statement.{Statement}
 use Rattle.cbpf_text.specs.declared.placed_fault.PlacedFault.TheVariants as placed
+use Rattle.cbpf_text.specs.declared.draft.Target.{Target}
+use Rattle.cbpf_text.specs.declared.draft.Statement.{Statement}
+use Rattle.cbpf_text.specs.Operands.{HasForm, targets_in}
+use Rattle.cbpf_text.specs.Refusals.{Use, is_conditional, use_fault, uses_fault, uses_of, Reported}
+use Rattle.cbpf_text.specs.Assembled.{offset_of, with_fields, insn_of}
+use Rattle.cbpf_text.specs.Drafts.{KeepsLabel, AreTargets, IsStatement, IsAnswer}
 
 abbrev one_if : Class → ℕ
 one_if name = 1
@@ -77,123 +76,123 @@ items_forms ts (i ∷ is) p zero d l = let f : IsItem p.0 i = p.3 in
     record { known = f.row; fits = rw f.body (after_labels f.count (classes i.row) p.0 f.fits) }
 items_forms ts (i ∷ is) p (suc k) d l = items_forms p.1 is p.4 k d (omega arith)
 
--- The targets of one instruction: which are good, and the first that is refused.
+-- where the first fault is reported, or is none
+pub refused_before : (o p : Option (AsmKind × ℕ)) (r : PlacedFault) → Reported o r → Reported (option_or o p) r
+refused_before o p placed.Memory h = tt
+refused_before o p (placed.At kind at) h = rw h refl
 
--- the first use that is refused, at the front, after good ones, and before others
-pub bad_here : (is : List Item) (u : Use) (uses : List Use) (kind : AsmKind) (at : ℕ) → IsUseFault is u kind
-    → at ≡ u.target.at → IsFirstBadUse is (u ∷ uses) kind at
-bad_here is u uses kind at bad place = record {
-  before = [];
-  u = u;
-  after = uses;
-  split = refl;
-  good = All-nil (IsGoodUse is);
-  bad = bad;
-  place = place;
-}
+-- The targets of a statement, which are its item's: what their offsets say of the item.
 
-pub bad_after : (is : List Item) (front uses : List Use) (kind : AsmKind) (at : ℕ) → All (IsGoodUse is) front
-    → IsFirstBadUse is uses kind at → IsFirstBadUse is (front ++ uses) kind at
-bad_after is front uses kind at g b = record {
-  before = front ++ b.before;
-  u = b.u;
-  after = b.after;
-  split = ap (λ us. front ++ us) b.split ∙ sym (append_assoc front b.before (b.u ∷ b.after));
-  good = All-append (IsGoodUse is) front b.before g b.good;
-  bad = b.bad;
-  place = b.place;
-}
+abbrev pub use_of : ℕ → Bool → Lexeme → Use
+use_of index short t = record { index = index; target = t; short = short }
 
-pub bad_before : (is : List Item) (uses rest : List Use) (kind : AsmKind) (at : ℕ)
-    → IsFirstBadUse is uses kind at → IsFirstBadUse is (uses ++ rest) kind at
-bad_before is uses rest kind at b = grind (arith, append_assoc)
+-- what is answered to a target
+abbrev pub IsOffset : List (Lexeme × ℕ) → ℕ → Bool → Target → Result ℕ PlacedFault → Type 0
+IsOffset ls index short target r = (l : Lexeme) → KeepsLabel target l
+    → IsAnswer (use_fault ls (use_of index short l)) (offset_of ls index (Some l)) r
 
--- the first target is refused
-pub first_bad : (is : List Item) (index : ℕ) (short : Bool) (ts : List Lexeme) (kind : AsmKind) (at : ℕ)
-    → IsTargetFault is index short (slice_get ts 0) kind at → IsFirstBadUse is (map (use_of index short) ts) kind at
-first_bad is index short [] kind at f = absurd f
-first_bad is index short (t ∷ ts) kind at f =
-    bad_here is (use_of index short t) (map (use_of index short) ts) kind at f.0 f.1
+abbrev Answers : List (Lexeme × ℕ) → ℕ → Fields → ℕ → ℕ → List Lexeme → Result Insn PlacedFault → Type 0
+Answers ls index f code k ts r = IsAnswer (uses_fault ls (map (use_of index (is_conditional f)) ts))
+    (with_fields f code k (offset_of ls index (slice_get ts 0)) (offset_of ls index (slice_get ts 1))) r
 
--- the second target of a conditional jump is refused, and the first is good
-pub second_bad : (is : List Item) (index : ℕ) (ts : List Lexeme) (n : ℕ) (kind : AsmKind) (at : ℕ)
-    → IsShortOffset is index (slice_get ts 0) n → IsTargetFault is index true (slice_get ts 1) kind at
-    → IsFirstBadUse is (map (use_of index true) ts) kind at
-second_bad is index (t ∷ u ∷ ts) n kind at o f =
-    bad_after is (use_of index true t ∷ []) (map (use_of index true) (u ∷ ts)) kind at
-    (All-cons (IsGoodUse is) (use_of index true t) [] (good_use is index t n true o)
-    (All-nil (IsGoodUse is))) (bad_here is (use_of index true u) (map (use_of index true) ts) kind at f.0 f.1)
-second_bad is index x n kind at o f = absurd f
+module _ (ls : List (Lexeme × ℕ)) (index code k : ℕ) (n : ℕ) (a b : Target) where
+  constant : (ts : List Lexeme) → takes Constant (length ts) ≡ true
+      → Answers ls index Constant code k ts (Ok (record { code = code; jt = 0; jf = 0; k = k }))
+  constant [] e = (refl, refl)
+  constant (t ∷ ts) e = let z = eqb-true (length (t ∷ ts)) 0 e in absurd (omega (arith, z))
 
-pub reported_more : (P Q : AsmKind → ℕ → Type 0) (r : PlacedFault)
-    → ((kind : AsmKind) (at : ℕ) → P kind at → Q kind at) → Reported P r → Reported Q r
-reported_more P Q placed.Memory f p = p
-reported_more P Q (placed.At kind at) f p = f kind at p
+  goto : (ts : List Lexeme) (d : ℕ) → takes Goto (length ts) ≡ true → AreTargets n a b ts → IsOffset ls index false a (Ok d)
+      → Answers ls index Goto code k ts (Ok (record { code = code; jt = 0; jf = 0; k = d }))
+  goto [] d e h o = let z : false ≡ true = e in cc
+  goto (t ∷ []) d e h o = let q = o t h.1 in (rw q.0 refl, rw q.1 refl)
+  goto (t ∷ u ∷ ts) d e h o = let z = eqb-true (length (t ∷ u ∷ ts)) 1 e in absurd (omega (arith, z))
 
--- The targets of a statement: they are those of its item.
+  swapped : (ts : List Lexeme) (d : ℕ) → takes Swapped (length ts) ≡ true → AreTargets n a b ts
+      → IsOffset ls index true a (Ok d)
+      → Answers ls index Swapped code k ts (Ok (record { code = code; jt = 0; jf = d; k = k }))
+  swapped [] d e h o = let z : false ≡ true = e in cc
+  swapped (t ∷ []) d e h o = let q = o t h.1 in (rw q.0 refl, rw q.1 refl)
+  swapped (t ∷ u ∷ ts) d e h o = let z = eqb-true (length (t ∷ u ∷ ts)) 1 e in absurd (omega (arith, z))
 
--- a jump has its first target
-has_first : (f : Fields) (ls : List Lexeme) (n : ℕ) (s t : Target) → (f ≡ Constant → ⊥) → takes f (length ls) ≡ true
-    → AreTargets n s t ls → (l : Lexeme) × (Some l ≡ slice_get ls 0) × KeepsLabel s l
-has_first f ls n s t h1 h2 h3 = search (rules)
+  one_branch : (ts : List Lexeme) (d : ℕ) → takes Branch (length ts) ≡ true → AreTargets n a b ts → (n ≡ 2 → ⊥)
+      → IsOffset ls index true a (Ok d)
+      → Answers ls index Branch code k ts (Ok (record { code = code; jt = d; jf = 0; k = k }))
+  one_branch [] d e h two o = let z : false ≡ true = e in cc
+  one_branch (t ∷ []) d e h two o = let q = o t h.1 in (rw q.0 refl, rw q.1 refl)
+  one_branch (t ∷ u ∷ ts) d e h two o = absurd (two h.0)
 
-pub has_second : (ls : List Lexeme) (n : ℕ) (s t : Target) → n ≡ 2 → AreTargets n s t ls
-    → (l : Lexeme) × (Some l ≡ slice_get ls 1) × KeepsLabel t l
-has_second ls n s t h1 h2 = search (rules)
+  two_branch : (ts : List Lexeme) (d m : ℕ) → takes Branch (length ts) ≡ true → AreTargets n a b ts → n ≡ 2
+      → IsOffset ls index true a (Ok d) → IsOffset ls index true b (Ok m)
+      → Answers ls index Branch code k ts (Ok (record { code = code; jt = d; jf = m; k = k }))
+  two_branch [] d m e h two o p = let z : false ≡ true = e in cc
+  two_branch (t ∷ []) d m e h two o p = absurd (omega (arith, h.0, two))
+  two_branch (t ∷ u ∷ []) d m e h two o p =
+      let q = o t h.1 in
+      let r = p u h.2 in
+      (rw (q.0, r.0) refl, rw (q.1, r.1) refl)
+  two_branch (t ∷ u ∷ v ∷ ts) d m e h two o p =
+      elim (or_cases (length (t ∷ u ∷ v ∷ ts) == 1) (length (t ∷ u ∷ v ∷ ts) == 2) e) [
+        | inl z ↦ absurd (omega (arith, eqb-true _ 1 z))
+        | inr z ↦ absurd (omega (arith, eqb-true _ 2 z))
+      ]
 
-pub no_second : (ls : List Lexeme) (n : ℕ) (s t : Target) → (n ≡ 2 → ⊥) → AreTargets n s t ls → None ≡ slice_get ls 1
-no_second ls n s t h1 h2 = search (rules)
+  -- the first target is refused, or the second one after it
+  first : (f : Fields) (ts : List Lexeme) (r : PlacedFault) → takes f (length ts) ≡ true → AreTargets n a b ts
+      → (f ≡ Constant → ⊥) → IsOffset ls index (is_conditional f) a (Err r) → Answers ls index f code k ts (Err r)
+  first f (t ∷ []) r e h jumps o = refused_before _ None r (o t h.1)
+  first f (t ∷ u ∷ ts) r e h jumps o = refused_before _ _ r (o t h.1)
+  first Constant [] r e h jumps o = absurd (jumps refl)
+  first f [] r e h jumps o = let z : false ≡ true = e in cc
 
-first_target : (item : Item) (s : Statement) (f : Fields) → IsStatement s item → HasForm item → s.fields ≡ f
-    → (f ≡ Constant → ⊥) → (l : Lexeme) × (Some l ≡ slice_get (targets_in item) 0) × KeepsLabel s.first l
-first_target item s f h form e jumps = has_first item.row.fields (targets_in item) s.targets s.first s.second
-    (λ z. jumps (sym e ∙ (h.fields ∙ z))) (form_takes item form) h.targets
+  second : (ts : List Lexeme) (d : ℕ) (r : PlacedFault) → AreTargets n a b ts → n ≡ 2
+      → IsOffset ls index true a (Ok d) → IsOffset ls index true b (Err r) → Answers ls index Branch code k ts (Err r)
+  second [] d r h two o p = absurd (omega (arith, h, two))
+  second (t ∷ []) d r h two o p = absurd (omega (arith, h.0, two))
+  second (t ∷ u ∷ ts) d r h two o p = rw (o t h.1).0 (refused_before _ _ r (p u h.2))
 
--- what is found or refused of a statement's targets is found or refused of the item's
-module _ (is : List Item) (index : ℕ) (item : Item) (s : Statement) (h : IsStatement s item) (form : HasForm item) where
+-- the same of an item and its statement
+module _ (ls : List (Lexeme × ℕ)) (index : ℕ) (item : Item) (s : Statement) (h : IsStatement s item)
+    (form : HasForm item) where
+  abbrev IsInsn : Result Insn PlacedFault → Type 0
+  IsInsn r = IsAnswer (uses_fault ls (uses_of index item)) (insn_of ls index item) r
+
+  kept : (f : Fields) (r : Result Insn PlacedFault) → s.fields ≡ f
+      → (takes f (length (targets_in item)) ≡ true
+      → Answers ls index f s.code s.literal (targets_in item) r) → IsInsn r
+  kept f r e answers =
+      let is : item.row.fields ≡ f = sym h.fields ∙ e in
+      rw (is, ← h.code, ← h.literal) (answers (rw is at (form_takes item form)))
+
+  pub constant_insn : s.fields ≡ Constant → IsInsn (Ok (record { code = s.code; jt = 0; jf = 0; k = s.literal }))
+  constant_insn e = kept Constant (Ok (record { code = s.code; jt = 0; jf = 0; k = s.literal })) e (constant ls index s.code s.literal s.targets s.first s.second (targets_in item))
+
+  pub goto_insn : (d : ℕ) → s.fields ≡ Goto → IsOffset ls index false s.first (Ok d)
+      → IsInsn (Ok (record { code = s.code; jt = 0; jf = 0; k = d }))
+  goto_insn d e o = kept Goto (Ok (record { code = s.code; jt = 0; jf = 0; k = d })) e (λ t. goto ls index s.code s.literal s.targets s.first s.second (targets_in item) d t
+      h.targets o)
+
+  pub swapped_insn : (d : ℕ) → s.fields ≡ Swapped → IsOffset ls index true s.first (Ok d)
+      → IsInsn (Ok (record { code = s.code; jt = 0; jf = d; k = s.literal }))
+  swapped_insn d e o = kept Swapped (Ok (record { code = s.code; jt = 0; jf = d; k = s.literal })) e (λ t. swapped ls index s.code s.literal s.targets s.first s.second
+      (targets_in item) d t h.targets o)
+
+  pub one_branch_insn : (d : ℕ) → s.fields ≡ Branch → (s.targets ≡ 2 → ⊥) → IsOffset ls index true s.first (Ok d)
+      → IsInsn (Ok (record { code = s.code; jt = d; jf = 0; k = s.literal }))
+  one_branch_insn d e two o = kept Branch (Ok (record { code = s.code; jt = d; jf = 0; k = s.literal })) e (λ t. one_branch ls index s.code s.literal s.targets s.first s.second
+      (targets_in item) d t h.targets two o)
+
+  pub two_branch_insn : (d m : ℕ) → s.fields ≡ Branch → s.targets ≡ 2 → IsOffset ls index true s.first (Ok d)
+      → IsOffset ls index true s.second (Ok m)
+      → IsInsn (Ok (record { code = s.code; jt = d; jf = m; k = s.literal }))
+  two_branch_insn d m e two o p = kept Branch (Ok (record { code = s.code; jt = d; jf = m; k = s.literal })) e (λ t. two_branch ls index s.code s.literal s.targets s.first s.second
+      (targets_in item) d m t h.targets two o p)
+
   pub first_refused : (f : Fields) (r : PlacedFault) → s.fields ≡ f → (f ≡ Constant → ⊥)
-      → ((l : Lexeme) → KeepsLabel s.first l → Reported (IsTargetFault is index (is_conditional f) (Some l)) r)
-      → Reported (IsFirstBadUse is (uses_of index item)) r
-  first_refused f r e jumps refused =
-      let t = first_target item s f h form e jumps in
-      reported_more (IsTargetFault is index (is_conditional f) (Some t.0)) (IsFirstBadUse is (uses_of index item)) r
-      (λ kind at p. first_bad is index (is_conditional item.row.fields) (targets_in item) kind at
-      (subst (λ (o : Option Lexeme). IsTargetFault is index (is_conditional item.row.fields) o kind at) t.1
-      (subst (λ (g : Fields). IsTargetFault is index (is_conditional g) (Some t.0) kind at) (sym e ∙ h.fields) p)))
-      (refused t.0 t.2)
+      → IsOffset ls index (is_conditional f) s.first (Err r) → IsInsn (Err r)
+  first_refused f r e jumps o = kept f (Err r) e (λ t. first ls index s.code s.literal s.targets s.first s.second f
+      (targets_in item) r t h.targets jumps o)
 
-  pub second_refused : (n : ℕ) (r : PlacedFault) → s.fields ≡ Branch → s.targets ≡ 2
-      → ((l : Lexeme) → KeepsLabel s.first l → IsShortOffset is index (Some l) n)
-      → ((l : Lexeme) → KeepsLabel s.second l → Reported (IsTargetFault is index true (Some l)) r)
-      → Reported (IsFirstBadUse is (uses_of index item)) r
-  second_refused n r e two found refused =
-      let t = first_target item s Branch h form e (λ z. let k : Branch ≡ Constant = z in cc) in
-      let u = has_second (targets_in item) s.targets s.first s.second two h.targets in
-      let o : IsShortOffset is index (slice_get (targets_in item) 0) n = rw (← t.1) (found t.0 t.2) in
-      reported_more (IsTargetFault is index true (Some u.0)) (IsFirstBadUse is (uses_of index item)) r
-      (λ kind at p. rw (sym h.fields ∙ e) (second_bad is index (targets_in item) n kind at o (rw (← u.1) p)))
-      (refused u.0 u.2)
-
-  pub goto_encoded : (d : ℕ) → s.fields ≡ Goto → ((l : Lexeme) → KeepsLabel s.first l → IsOffset is index (Some l) d)
-      → IsEncoded is index item (record { code = s.code; jt = 0; jf = 0; k = d })
-  goto_encoded d e found =
-      let t = first_target item s Goto h form e (λ z. let k : Goto ≡ Constant = z in cc) in
-      let o = found t.0 t.2 in
-      search (rules)
-
-  pub swapped_encoded : (d : ℕ) → s.fields ≡ Swapped
-      → ((l : Lexeme) → KeepsLabel s.first l → IsShortOffset is index (Some l) d)
-      → IsEncoded is index item (record { code = s.code; jt = 0; jf = d; k = s.literal })
-  swapped_encoded d e found =
-      let t = first_target item s Swapped h form e (λ z. let k : Swapped ≡ Constant = z in cc) in
-      let o = found t.0 t.2 in
-      search (rules)
-
-  -- a conditional jump without a second target
-  pub branch_encoded : (d : ℕ) → s.fields ≡ Branch → (s.targets ≡ 2 → ⊥)
-      → ((l : Lexeme) → KeepsLabel s.first l → IsShortOffset is index (Some l) d)
-      → IsEncoded is index item (record { code = s.code; jt = d; jf = 0; k = s.literal })
-  branch_encoded d e one found =
-      let t = first_target item s Branch h form e (λ z. let k : Branch ≡ Constant = z in cc) in
-      let o = found t.0 t.2 in
-      search (rules, no_second)
+  pub second_refused : (d : ℕ) (r : PlacedFault) → s.fields ≡ Branch → s.targets ≡ 2
+      → IsOffset ls index true s.first (Ok d) → IsOffset ls index true s.second (Err r) → IsInsn (Err r)
+  second_refused d r e two o p = kept Branch (Err r) e (λ _. second ls index s.code s.literal s.targets s.first s.second
+      (targets_in item) d r h.targets two o p)

@@ -1,6 +1,6 @@
 -- What is kept of items that are read one by one: statements, and labels with their places.
-use Rattle.std.proofs.Common.{rules, ◌≡◌, refl, sym, ◌∙◌, ap, ℕ, ◌+◌, ◌<◌, List, [], ◌∷◌, ◌++◌, length, map}
-use Rattle.std.proofs.Common.{get_or, Option, Some, None, arith, append_assoc, append-nil, length-append}
+use Rattle.std.proofs.Common.{rules, ◌≡◌, refl, sym, ◌∙◌, ap, ℕ, zero, suc, ◌+◌, ◌<◌, List, [], ◌∷◌, ◌++◌, length, map}
+use Rattle.std.proofs.Common.{get_or, Option, Some, None, option_map, arith, append_assoc, append-nil, length-append}
 use Rattle.std.specs.Prelude.{slice_get}
 use Rattle.std.proofs.lemmas.List.{map-append}
 use Rattle.cbpf_code.specs.declared.checker.TheConstants.{MAX_INSTRUCTIONS}
@@ -9,9 +9,10 @@ use Rattle.cbpf_syntax.specs.Lexemes.{Lexeme}
 use Rattle.cbpf_syntax.specs.Items.{Item}
 use Rattle.cbpf_syntax.specs.Views.{lexeme_of}
 use Rattle.cbpf_text.specs.declared.name.Name.{Name}
-use Rattle.cbpf_text.specs.Drafts.{SetLabel, labels_of, labels_from, IsStatement, AreSet, IsKept}
+use Rattle.cbpf_text.specs.Drafts.{IsStatement, AreSet, IsKept}
+use Rattle.cbpf_text.specs.Labels.{labels_of, labels_from}
 use Rattle.cbpf_text.specs.declared.draft.Statement.{Statement}
-use Rattle.cbpf_text.specs.Refusals.{IsExcess}
+use Rattle.cbpf_text.specs.Refusals.{mnemonic_at}
 use Rattle.cbpf_text.proofs.Encoding.{statements_size, statements_more}
 
 -- the labels of one more item
@@ -32,8 +33,7 @@ none_if (Some x) h = absurd (h x refl)
 -- one more label
 pub kept_label : (ss : List Statement) (rep rep2 : Option ℕ) (look look2 : Name → Option ℕ) (is : List Item)
     (ws : List Lexeme) (word : Lexeme) (place : ℕ) → IsKept ss rep look is ws → place ≡ length ss
-    → ((all : List SetLabel) → AreSet all rep look
-    → AreSet (all ++ (record { word = word; place = place } ∷ [])) rep2 look2)
+    → ((all : List (Lexeme × ℕ)) → AreSet all rep look → AreSet (all ++ ((word, place) ∷ [])) rep2 look2)
     → IsKept ss rep2 look2 is (ws ++ (word ∷ []))
 kept_label ss rep rep2 look look2 is ws word place h1 h2 h3 = search (rules, statements_size, append_assoc, map-append)
 
@@ -48,12 +48,15 @@ kept_item ss rep look is ws s i h1 h2 h3 h4 =
 pub kept_excess : (ss : List Statement) (rep : Option ℕ) (look : Name → Option ℕ) (is : List Item) (ls : List Lexeme)
     (i : Item) (body : List declared_lexeme.Lexeme) (d : declared_lexeme.Lexeme)
     → IsKept ss rep look is ls → length ss ≡ MAX_INSTRUCTIONS → i.body ≡ map lexeme_of body → 0 < length body
-    → IsExcess (is ++ (i ∷ [])) (get_or body 0 d).at
+    → option_map mnemonic_at (slice_get (is ++ (i ∷ [])) MAX_INSTRUCTIONS) ≡ Some (get_or body 0 d).at
 kept_excess ss rep look is ls i [] d k e b l = absurd (omega (arith, l))
 kept_excess ss rep look is ls i (t ∷ body) d k e b l =
     let n : length is ≡ MAX_INSTRUCTIONS = sym (statements_size ss is k.same) ∙ e in
-    record {
-      item = i;
-      found = ap (λ q. slice_get (is ++ (i ∷ [])) q) (sym n) ∙ get_last is i;
-      place = (lexeme_of t, ap (λ us. slice_get us 0) b, refl);
-    }
+    rw (← n, get_last is i, b) refl
+
+-- items after that one
+pub still_excess : (is more : List Item) (n at : ℕ) → option_map mnemonic_at (slice_get is n) ≡ Some at
+    → option_map mnemonic_at (slice_get (is ++ more) n) ≡ Some at
+still_excess [] more n at e = let k : ◌≡◌ {A = Option ℕ} None (Some at) = e in cc
+still_excess (i ∷ is) more zero at e = e
+still_excess (i ∷ is) more (suc n) at e = still_excess is more n at e

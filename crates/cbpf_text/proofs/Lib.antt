@@ -1,6 +1,5 @@
 pub mod Operands
 pub mod LabelLists
-pub mod Uses
 pub mod Forms
 pub mod Encoding
 pub mod OneAnswer

@@ -1,17 +1,18 @@
 -- The listing of a checked program assembles to the plain forms of its instructions.
-use Rattle.std.proofs.lemmas.List.Elements.{All-nil, All-cons, All-append}
+use Rattle.std.proofs.lemmas.List.Elements.{All-nil, All-head, All-tail, All-push}
 use Rattle.std.proofs.Common.{◌∙◌, Bool, rules, ◌≡◌, ℕ, zero, suc, ◌+◌, ◌^◌, ◌<◌, ◌≤◌, true, false, List, [], ◌∷◌}
-use Rattle.std.proofs.Common.{length, refl, sym, subst, arith, inl, inr, ◌++◌, map, ap, append_assoc, append-nil, Some}
-use Rattle.std.specs.Prelude.{decimal, All, is_some, slice_get, Ok, Err}
+use Rattle.std.proofs.Common.{length, refl, sym, subst, arith, inl, inr, ◌++◌, map, ap, append_assoc, append-nil, Some, None}
+use Rattle.std.specs.Prelude.{bytes_eq, decimal, All, is_some, slice_get, Ok, Err}
 use Rattle.std.proofs.lemmas.Fmt.{decimal_injective}
 use Rattle.cbpf_syntax.specs.Lexemes.{Lexeme}
 use Rattle.cbpf_syntax.specs.Items.{Item, IsItem, Items, names_at}
 use Rattle.cbpf_syntax.proofs.Apart.{equal_bytes, bytes_eq_self}
-use Rattle.cbpf_text.specs.Labels.{name_of, set_labels, times_among, times_set, AreDistinct, SetsAt}
-use Rattle.cbpf_text.proofs.LabelLists.{times_append, times_miss, times_hit}
+use Rattle.cbpf_text.specs.Labels.{name_of, labels_from, place_of, repeat_after}
+use Rattle.cbpf_text.proofs.Encoding.{fault_append}
+use Rattle.cbpf_text.proofs.Answered.{fault_counted}
 use Rattle.cbpf_text.proofs.ListedNumbers.{label_name, Places, label_fits, label_segment, is_label_segment}
 use Rattle.std.specs.List.{flat_map, enumerate_from}
-use Rattle.std.proofs.lemmas.Bool.{and_parts, and_from, cases_lt}
+use Rattle.std.proofs.lemmas.Bool.{and_parts, and_from, false_from_ne_true}
 use Rattle.cbpf_code.specs.declared.insn.Insn.{Insn}
 use Rattle.cbpf_code.specs.declared.opcode.Op.{Op}
 use Rattle.cbpf_code.specs.Opcode.{op_of}
@@ -23,7 +24,9 @@ use Rattle.cbpf_syntax.specs.Fits.{fits_all}
 use Rattle.cbpf_syntax.specs.Table.{Row}
 use Rattle.cbpf_code.specs.Syntax.{mnemonic_of, operand_of}
 use Rattle.cbpf_code.specs.Listing.{numbered_line, operand_text, listing}
-use Rattle.cbpf_text.specs.Assembled.{EncodeEach, IsEncoded, FillsFields, Assembles, AssembleTokens, AreEncoded}
+use Rattle.cbpf_text.specs.Assembled.{insn_of, insns_from, Assembles, AssembleTokens}
+use Rattle.cbpf_text.specs.Refusals.{uses_of, uses_from, uses_fault}
+use Rattle.cbpf_code.specs.Opcode.{code_of}
 use Rattle.cbpf_text.specs.Operands.{literal_of}
 use Rattle.cbpf_code.specs.WordForm.{InRange}
 use Rattle.cbpf_code.specs.Extension.{ext_at}
@@ -32,7 +35,7 @@ use Rattle.cbpf_text.proofs.ListedRows.{operation_row, operand_classes, operand_
 use Rattle.cbpf_text.proofs.ListedTokens.{lexemes_at, text_append, are_append, ends_before, apart_before, are_positive}
 use Rattle.cbpf_text.proofs.ListedTokens.{lexemes_append, positive_append, lexemes_spelled, no_large_negative}
 use Rattle.cbpf_text.proofs.ListedOperands.{operand_segments, TargetsInside, operand_apart, operand_spelled}
-use Rattle.cbpf_text.proofs.ListedOperands.{operand_are, operand_fits, operand_fills}
+use Rattle.cbpf_text.proofs.ListedOperands.{operand_are, operand_fits, operand_fills, Fills}
 use Rattle.cbpf_syntax.specs.Lexemes as grammar
 use Rattle.std.proofs.lemmas.Option.{slice_get_within, get_or_from_slice_get}
 use Rattle.cbpf_code.specs.declared.checker.TheConstants.{MAX_INSTRUCTIONS}
@@ -62,72 +65,46 @@ AreLabelled i (item ∷ items) = IsLabelled i item × AreLabelled (i + 1) items
 label_differs : (i j : ℕ) → i < 2 ^ 64 → j < 2 ^ 64 → label_name i ≡ label_name j → i ≡ j
 label_differs i j l m e = decimal_injective i j l m (cc)
 
--- how often one item sets a label
-times_here : (i m : ℕ) (item : Item) → IsLabelled i item → i ≡ m → times_among item.labels (label_name m) ≡ 1
-times_here i m item h e =
-    rw h.only (times_hit h.label (label_name m) (rw (h.named, e) (bytes_eq_self (label_name m))))
+differ : (i j : ℕ) → i < 2 ^ 64 → j < 2 ^ 64 → (i ≡ j → ⊥) → bytes_eq (label_name i) (label_name j) ≡ false
+differ i j l m apart = false_from_ne_true (bytes_eq (label_name i) (label_name j))
+    (λ e. apart (label_differs i j l m (equal_bytes (label_name i) (label_name j) e)))
 
-times_elsewhere : (i m : ℕ) (item : Item) → i < 2 ^ 64 → m < 2 ^ 64 → IsLabelled i item → (i ≡ m → ⊥)
-    → times_among item.labels (label_name m) ≡ 0
-times_elsewhere i m item h1 h2 h3 h4 = search (rules, times_miss, label_name, label_differs, equal_bytes)
-
--- how often the items set a label
-times_set_here : (i m : ℕ) (items : List Item) → i + length items < 2 ^ 64 → AreLabelled i items
-    → (m < i → times_set items (label_name m) ≡ 0)
-    × (i ≤ m → m < i + length items → times_set items (label_name m) ≡ 1)
-times_set_here i m [] l h = (λ b. refl, λ a b. absurd (omega arith))
-times_set_here i m (item ∷ items) l h =
-    let more = times_set_here (i + 1) m items (omega arith) h.1 in
-    let sum = times_append item.labels (set_labels items) (label_name m) in (
-      λ b. let none = times_elsewhere i m item (omega arith) (omega arith) h.0 (λ e. omega (arith, e, b)) in
-          omega (arith, sum, none, more.0),
-      λ a b. elim (cases_lt i m) [
-        | inl g ↦ omega (
-          arith,
-          sum,
-          times_elsewhere i m item (omega arith) (omega arith) h.0 (λ e. omega (arith, e, g)),
-          more.1 (omega arith) (omega arith),
-        )
-        | inr g ↦ omega (arith, sum, times_here i m item h.0 (omega arith), more.0 (omega arith))
-      ],
-    )
-
--- which item sets a label
-sets_at : (i m : ℕ) (items : List Item) → AreLabelled i items → m < length items → SetsAt items m (label_name (i + m))
-sets_at i m [] h l = absurd (omega arith)
-sets_at i zero (item ∷ items) h l =
-    let z : i ≡ i + 0 = omega arith in
-    let one : times_among item.labels (label_name (i + 0)) ≡ 1 = times_here i (i + 0) item h.0 z in
-    (item, refl, λ e. omega (arith, one, e))
-sets_at i (suc m) (item ∷ items) h l =
+place_here : (i m : ℕ) (items : List Item) → i + length items < 2 ^ 64 → AreLabelled i items → m < length items
+    → place_of (labels_from i items) (label_name (i + m)) ≡ Some (i + m)
+place_here i m [] l h b = absurd (omega arith)
+place_here i zero (item ∷ items) l h b =
+    let z : i + 0 ≡ i = omega arith in
+    rw (h.0.only, h.0.named, z, bytes_eq_self (label_name i)) refl
+place_here i (suc m) (item ∷ items) l h b =
     let e : i + suc m ≡ i + 1 + m = omega arith in
-    rw e (sets_at (i + 1) m items h.1 (omega arith))
+    rw (e, h.0.only, h.0.named, differ i (i + 1 + m) (omega arith) (omega arith) (λ z. omega (arith, z)))
+    (place_here (i + 1) m items (omega arith) h.1 (omega arith))
 
-labels_place : (items : List Item) → length items ≤ MAX_INSTRUCTIONS → AreLabelled 0 items → Places (length items) items
+labels_place : (items : List Item) → length items ≤ MAX_INSTRUCTIONS → AreLabelled 0 items
+    → Places (length items) (labels_from 0 items)
 labels_place items few h m l =
     let z : 0 + m ≡ m = omega arith in
-    record {
-      once = (times_set_here 0 m items (omega arith) h).1 (omega arith) (omega arith);
-      sets = rw z at (sets_at 0 m items h l);
-    }
+    rw z at (place_here 0 m items (omega arith) h l)
 
--- each label that is set is a number's
-abbrev Numbered : ℕ → Lexeme → Type 0
-Numbered to t = (m : ℕ) × (m < to) × (name_of t ≡ label_name m)
+-- the label is that of a number before this one
+abbrev Below : ℕ → Lexeme × ℕ → Type 0
+Below n l = (m : ℕ) × (m < n) × (name_of l.0 ≡ label_name m)
 
-numbered : (i to : ℕ) (items : List Item) → i + length items ≤ to → AreLabelled i items
-    → All (Numbered to) (set_labels items)
-numbered i to [] l h = All-nil (Numbered to)
-numbered i to (item ∷ items) l h =
-    let one = All-cons (Numbered to) h.0.label [] (i, omega arith, h.0.named) (All-nil (Numbered to)) in
-    let front : All (Numbered to) item.labels = subst (All (Numbered to)) (sym h.0.only) one in
-    All-append (Numbered to) item.labels (set_labels items) front (numbered (i + 1) to items (omega arith) h.1)
+no_place : (n : ℕ) (ls : List (Lexeme × ℕ)) → n < 2 ^ 64 → All (Below n) ls → place_of ls (label_name n) ≡ None
+no_place n [] l b = refl
+no_place n (x ∷ ls) l b =
+    let q = All-head (Below n) x ls b in
+    rw (q.2, differ q.0 n (omega (arith, q.1)) l (λ z. omega (arith, z, q.1)))
+    (no_place n ls l (All-tail (Below n) x ls b))
 
-labels_distinct_by_number : (items : List Item) → length items ≤ MAX_INSTRUCTIONS → AreLabelled 0 items
-    → AreDistinct (set_labels items)
-labels_distinct_by_number items few h k d l =
-    let n = numbered 0 (length items) items (omega arith) h k d l in
-    rw n.2 ((times_set_here 0 n.0 items (omega arith) h).1 (omega arith) (omega (arith, n.1)))
+no_repeat : (i : ℕ) (items : List Item) (before : List (Lexeme × ℕ)) → i + length items < 2 ^ 64 → AreLabelled i items
+    → All (Below i) before → repeat_after before (labels_from i items) ≡ None
+no_repeat i [] before l h b = refl
+no_repeat i (item ∷ items) before l h b =
+    let more = All-push (Below (i + 1)) before (h.0.label, i)
+    (λ k d m. let q = b k d m in (q.0, omega (arith, q.1), q.2)) (i, omega arith, h.0.named) in
+    rw (h.0.only, h.0.named, no_place i before (omega arith) b)
+    (no_repeat (i + 1) items (before ++ ((h.0.label, i) ∷ [])) (omega arith) h.1 more)
 
 -- The lines of a listing as segments, whose tokens are the items of the instructions.
 
@@ -143,7 +120,8 @@ record Lists (n i : ℕ) (insns : List Insn) : Type 0 where
   size : (at : ℕ) → length (items at) ≡ length insns
   parsed : (at : ℕ) → Items (lexemes_at at segments) (items at)
   labelled : (at : ℕ) → AreLabelled i (items at)
-  encoded : (at : ℕ) (all : List Item) → Places n all → EncodeEach all i (items at) (map plain insns)
+  good : (at : ℕ) (ls : List (Lexeme × ℕ)) → Places n ls → uses_fault ls (uses_from i (items at)) ≡ None
+  encoded : (at : ℕ) (ls : List (Lexeme × ℕ)) → Places n ls → map plain insns ≡ insns_from ls i (items at)
 
 lists_none : (n i : ℕ) → Lists n i []
 lists_none n i = record {
@@ -157,7 +135,8 @@ lists_none n i = record {
   size = λ at. refl;
   parsed = λ at. refl;
   labelled = λ at. tt;
-  encoded = λ at all p. tt;
+  good = λ at ls p. refl;
+  encoded = λ at ls p. refl;
 }
 
 -- a line's text, one piece after the other
@@ -226,16 +205,17 @@ line_form at i op named operand l fits = record {
     r : HasRow named op
     r = operation_row named op
 
-line_encoded : (at i : ℕ) (insn : Insn) (op : Op) (named : Bool) (operand : List Segment) (all : List Item)
-    → op_of insn.code ≡ Some op → FillsFields (operand_fields (operand_of op)) all i
+line_filled : (at i : ℕ) (insn : Insn) (op : Op) (named : Bool) (operand : List Segment) (ls : List (Lexeme × ℕ))
+    → op_of insn.code ≡ Some op → Fills (operand_fields (operand_of op)) ls i insn.code
     (literal_of (operand_classes named (operand_of op)) (lexemes_at (operand_at at i (mnemonic_of op)) operand))
     (names_at (operand_classes named (operand_of op)) (lexemes_at (operand_at at i (mnemonic_of op)) operand))
     (plain_as (operand_of op) insn)
-    → IsEncoded all i (line_item at i (mnemonic_of op) operand (operation_row named op).row) (plain insn)
-line_encoded at i insn op named operand all known fills =
+    → let item = line_item at i (mnemonic_of op) operand (operation_row named op).row in
+    (uses_fault ls (uses_of i item) ≡ None) × (plain insn ≡ insn_of ls i item)
+line_filled at i insn op named operand ls known fills =
     let r = operation_row named op in
-    rw (plain_is insn op known)
-    (record { code = code_only insn.code op known ∙ sym r.code; fields = rw (r.fields, r.operand) fills })
+    let code : insn.code ≡ code_of r.row.op = code_only insn.code op known ∙ sym r.code in
+    rw (plain_is insn op known, ← code, r.fields, r.operand) fills
 
 lists_line : (n i : ℕ) (insn : Insn) (op : Op) (insns : List Insn) → op_of insn.code ≡ Some op
     → n ≤ MAX_INSTRUCTIONS → i < n
@@ -249,6 +229,11 @@ lists_line n i insn op insns known most l range inside b =
     let small : i < 2 ^ 64 = omega arith in
     let ends = and_parts _ _ (operand_apart o e i insn) in
     let positive = and_parts _ _ ends.1 in
+    let filled : (at : ℕ) (ls : List (Lexeme × ℕ)) → Places n ls
+    → (uses_fault ls (uses_of i (line_item at i w operand row)) ≡ None)
+    × (plain insn ≡ insn_of ls i (line_item at i w operand row)) =
+    λ at ls p. line_filled at i insn op (is_some e) operand ls known
+    (operand_fills o e n i (operand_at at i w) insn ls refl range inside p) in
     record {
       segments = line_segments i w operand b.segments;
       text = line_text i insn op operand b.segments (flat_map numbered_line (enumerate_from (i + 1) insns)) known
@@ -269,11 +254,10 @@ lists_line n i insn op insns known most l range inside b =
       );
       labelled = λ at.
           (record { label = label_token at i; only = refl; named = refl }, b.labelled (after_at at i w operand));
-      encoded = λ at all p. (
-        line_encoded at i insn op (is_some e) operand all known
-            (operand_fills o e n i (operand_at at i w) insn all refl range inside p),
-        b.encoded (after_at at i w operand) all p,
-      );
+      good = λ at ls p. fault_append ls (uses_of i (line_item at i w operand row))
+          (uses_from (i + 1) (b.items (after_at at i w operand)))
+          ∙ rw ((filled at ls p).0, b.good (after_at at i w operand) ls p) refl;
+      encoded = λ at ls p j. (filled at ls p).1 j ∷ b.encoded (after_at at i w operand) ls p j;
     }
 
 -- The lines of a checked program.
@@ -302,25 +286,21 @@ lists all i (insn ∷ insns) sound range here =
     (lists all (i + 1) insns sound range
     (λ j x g. let e : i + 1 + j ≡ i + suc j = omega arith in rw e (here (suc j) x g)))
 
-encoded : (list : List Insn) (b : Lists (length list) 0 list) → IsSound list → AreEncoded (b.items 0) (map plain list)
-encoded list b sound =
-    let few : length (b.items 0) ≤ MAX_INSTRUCTIONS = omega (arith, b.size 0, sound_few list sound) in
-    let places : Places (length list) (b.items 0) =
-    subst (λ n. Places n (b.items 0)) (b.size 0) (labels_place (b.items 0) few (b.labelled 0)) in
-    record {
-      limits = record { some = omega (arith, b.size 0, sound_some list sound); most = few };
-      distinct = labels_distinct_by_number (b.items 0) few (b.labelled 0);
-      each = b.encoded 0 (b.items 0) places;
-    }
-
 tokens_assemble : (list : List Insn) (b : Lists (length list) 0 list) → IsSound list
     → AssembleTokens (lexemes_at 0 b.segments) (map plain list)
-tokens_assemble list b sound = record {
-  items = b.items 0;
-  parsed = b.parsed 0;
-  ranged = no_large_negative 0 b.segments b.positive;
-  encoded = encoded list b sound;
-}
+tokens_assemble list b sound =
+    let items = b.items 0 in
+    let few : length items ≤ MAX_INSTRUCTIONS = omega (arith, b.size 0, sound_few list sound) in
+    let places : Places (length list) (labels_from 0 items) =
+    subst (λ n. Places n (labels_from 0 items)) (b.size 0) (labels_place items few (b.labelled 0)) in
+    record {
+      items = items;
+      parsed = b.parsed 0;
+      ranged = no_large_negative 0 b.segments b.positive;
+      sound = fault_counted items (λ z. omega (arith, z, b.size 0, sound_some list sound)) few
+          ∙ rw (no_repeat 0 items [] (omega arith) (b.labelled 0) (All-nil (Below 0)), b.good 0 _ places) refl;
+      encoded = b.encoded 0 (labels_from 0 items) places;
+    }
 
 pub listing_assembles : ListingAssembles
 listing_assembles list sound range =

@@ -1,9 +1,9 @@
 -- Each operand of a listing is spelled by segments, whose tokens fit its row of the table and give the
 -- instruction's fields back.
 use Rattle.std.proofs.Common.{◌≡◌, ℕ, ◌+◌, ◌^◌, ◌<◌, Bool, true, false, cond, ◌&&◌, List, [], ◌∷◌, ◌++◌, refl, ap, sym}
-use Rattle.std.proofs.Common.{◌∙◌, arith, rules, append-nil, lit<, Option, Some, None, option_map, ◌≤◌}
-use Rattle.std.specs.Prelude.{◌==◌, codes, is_some, decimal}
-use Rattle.std.proofs.lemmas.Bool.{and_from}
+use Rattle.std.proofs.Common.{◌∙◌, arith, rules, append-nil, lit<, Option, Some, None, option_map, map, length, ◌-◌, ◌≤◌}
+use Rattle.std.specs.Prelude.{◌==◌, codes, is_some, decimal, slice_get, nat_le, nat_lt, if◌then◌else◌}
+use Rattle.std.proofs.lemmas.Bool.{and_from, lt-leb, le-ltb}
 use Rattle.cbpf_code.specs.declared.checker.TheConstants.{MAX_INSTRUCTIONS}
 use Rattle.cbpf_code.specs.declared.insn.Insn.{Insn}
 use Rattle.cbpf_code.specs.declared.extension.Ext.{Ext}
@@ -15,17 +15,27 @@ use Rattle.cbpf_code.proofs.TableLemmas.{ext_only}
 use Rattle.cbpf_syntax.proofs.Spelled.{Segment, text_of, IsSegment, AreSegments, ends_name, stay_apart}
 use Rattle.cbpf_syntax.proofs.Spelled.Segment.{blank, word, number, mark}
 use Rattle.cbpf_syntax.specs.Fits.{fits_all, is_one_of, extension_names}
-use Rattle.cbpf_syntax.specs.Items.{Item, names_at}
+use Rattle.cbpf_syntax.specs.Items.{names_at}
 use Rattle.cbpf_code.specs.Syntax.{Operand, Operand as operands}
 use Rattle.cbpf_code.specs.Listing.{immediate_operand, operand_text, place_or_name}
-use Rattle.cbpf_text.specs.Assembled.{FillsFields}
+use Rattle.cbpf_syntax.specs.declared.table.Fields.{Fields}
+use Rattle.cbpf_syntax.specs.declared.table.Fields.TheVariants.{Goto, Branch}
+use Rattle.cbpf_syntax.specs.Lexemes.{Lexeme}
+use Rattle.cbpf_syntax.specs.Lexemes as grammar
+use Rattle.cbpf_text.specs.declared.encode.TheConstants.{FARTHEST}
+use Rattle.cbpf_text.specs.declared.fault.AsmKind.{AsmKind}
+use Rattle.cbpf_text.specs.declared.fault.AsmKind.TheVariants as kinds
+use Rattle.cbpf_text.specs.Labels.{name_of, place_of}
+use Rattle.cbpf_text.specs.Assembled.{offset_of, with_fields}
+use Rattle.cbpf_text.specs.Refusals.{is_conditional, use_fault, uses_fault}
+use Rattle.cbpf_text.proofs.Forms.{use_of}
 use Rattle.cbpf_text.specs.Operands.{literal_of}
 use Rattle.cbpf_text.proofs.ListedRows.{operand_classes, operand_fields, first_byte, later_bytes, IsWord, word_of_test}
 use Rattle.cbpf_text.proofs.ListedRows.{plain_as}
 use Rattle.cbpf_text.proofs.ListedTokens.{lexemes_at, newline, are_positive}
 use Rattle.cbpf_syntax.specs.Numbers.{digit_value}
 use Rattle.cbpf_text.proofs.ListedNumbers.{Places, decimal_segment, spelled_decimal, is_decimal_segment, hex_segment}
-use Rattle.cbpf_text.proofs.ListedNumbers.{is_hex_segment, given_is, label_fits, label_segment, is_label_segment}
+use Rattle.cbpf_text.proofs.ListedNumbers.{is_hex_segment, given_is, hex_rest, hex_given, label_fits, label_name, label_segment, is_label_segment}
 
 abbrev immediate_segments : ℕ → List Segment
 immediate_segments k = blank 32 ∷ mark 35 ∷ hex_segment (k == 0) k ∷ []
@@ -136,24 +146,65 @@ operand_fits operands.XTwo e n i at insn most t = and_from _ _ (label_fits (i + 
     (and_from _ _ (label_fits (i + 1 + insn.jf) (omega arith)) refl)
 operand_fits o e n i at insn most t = refl
 
--- what the tokens give the instruction
-pub operand_fills : (o : Operand) (e : Option Ext) (n i at : ℕ) (insn : Insn) (all : List Item)
-    → ext_at insn.k ≡ e → InRange insn → TargetsInside n i insn o → Places n all
-    → FillsFields (operand_fields o) all i
+-- what the tokens give the instruction, and that no target is refused
+abbrev pub Fills : Fields → List (Lexeme × ℕ) → ℕ → ℕ → ℕ → List Lexeme → Insn → Type 0
+Fills f labels i code k ts insn = (uses_fault labels (map (use_of i (is_conditional f)) ts) ≡ None)
+    × (insn ≡ with_fields f code k (offset_of labels i (slice_get ts 0)) (offset_of labels i (slice_get ts 1)))
+
+-- a target after the instruction, as far as a conditional jump goes
+target_good : (labels : List (Lexeme × ℕ)) (n i d : ℕ) (short : Bool) (t : Lexeme) → Places n labels → i + 1 + d < n
+    → name_of t ≡ label_name (i + 1 + d) → (short ≡ true → d ≤ FARTHEST)
+    → (use_fault labels (use_of i short t) ≡ None) × (offset_of labels i (Some t) ≡ d)
+target_good labels n i d short t p l e near =
+    let found : place_of labels (name_of t) ≡ Some (i + 1 + d) = ap (place_of labels) e ∙ p (i + 1 + d) l in
+    let after : nat_le (i + 1 + d) i ≡ false = lt-leb (i + 1 + d) i (omega arith) in
+    let apart : i + 1 + d - (i + 1) ≡ d = omega arith in
+    (rw (found, after) (by_short short near), rw found apart)
+  where
+    by_short : (b : Bool) → (b ≡ true → d ≤ FARTHEST)
+        → option_map {U = AsmKind × ℕ} (λ kind. (kind, t.at)) (if b && nat_lt (i + 1 + FARTHEST) (i + 1 + d) then Some kinds.TooFar else None)
+        ≡ None
+    by_short false q = refl
+    by_short true q = rw (le-ltb (i + 1 + FARTHEST) (i + 1 + d) (omega (arith, q refl))) refl
+
+abbrev label_at : ℕ → ℕ → Lexeme
+label_at at m = record { symbol = grammar.Symbol.word (label_name m); at = at }
+
+goto_fills : (labels : List (Lexeme × ℕ)) (n i k : ℕ) (insn : Insn) (t : Lexeme) → Places n labels → i + 1 + insn.k < n
+    → name_of t ≡ label_name (i + 1 + insn.k)
+    → Fills Goto labels i insn.code k (t ∷ []) (record { code = insn.code; jt = 0; jf = 0; k = insn.k })
+goto_fills labels n i k insn t p l e =
+    let g = target_good labels n i insn.k false t p l e (λ z. let y : false ≡ true = z in cc) in
+    (rw g.0 refl, λ j. record { code = insn.code; jt = 0; jf = 0; k = sym g.1 j })
+
+branch_fills : (labels : List (Lexeme × ℕ)) (n i k m : ℕ) (insn : Insn) (t u : Lexeme) → Places n labels → InRange insn
+    → (i + 1 + insn.jt < n) × (i + 1 + insn.jf < n) → name_of t ≡ label_name (i + 1 + insn.jt)
+    → name_of u ≡ label_name (i + 1 + insn.jf) → m ≡ k
+    → Fills Branch labels i insn.code k (t ∷ u ∷ []) (record { code = insn.code; jt = insn.jt; jf = insn.jf; k = m })
+branch_fills labels n i k m insn t u p r l e f q =
+    let g = target_good labels n i insn.jt true t p l.0 e (λ _. omega (arith, r.jt)) in
+    let h = target_good labels n i insn.jf true u p l.1 f (λ _. omega (arith, r.jf)) in
+    (rw (g.0, h.0) refl, λ j. record { code = insn.code; jt = sym g.1 j; jf = sym h.1 j; k = q j })
+
+pub operand_fills : (o : Operand) (e : Option Ext) (n i at : ℕ) (insn : Insn) (labels : List (Lexeme × ℕ))
+    → ext_at insn.k ≡ e → InRange insn → TargetsInside n i insn o → Places n labels
+    → Fills (operand_fields o) labels i insn.code
     (literal_of (operand_classes (is_some e) o) (lexemes_at at (operand_segments o e i insn)))
     (names_at (operand_classes (is_some e) o) (lexemes_at at (operand_segments o e i insn))) (plain_as o insn)
-operand_fills operands.Immediate e n i at insn all f r t p = (refl, refl, given_is insn.k (insn.k == 0) refl)
-operand_fills operands.Absolute (Some x) n i at insn all f r t p =
-    (refl, refl, ext_only insn.k x f ∙ sym (rw (ext_value x) refl))
-operand_fills operands.Label e n i at insn all f r t p = (refl, refl, p (i + 1 + insn.k) t)
-operand_fills operands.ImmediateTwo e n i at insn all f r t p = (
-  record { is = p (i + 1 + insn.jt) t.0; short = omega (arith, r.jt) },
-  record { is = p (i + 1 + insn.jf) t.1; short = omega (arith, r.jf) },
-  given_is insn.k (insn.k == 0) refl,
-)
-operand_fills operands.XTwo e n i at insn all f r t p = (
-  record { is = p (i + 1 + insn.jt) t.0; short = omega (arith, r.jt) },
-  record { is = p (i + 1 + insn.jf) t.1; short = omega (arith, r.jf) },
-  refl,
-)
-operand_fills o e n i at insn all f r t p = (refl, refl, refl)
+operand_fills operands.Immediate e n i at insn labels f r t p =
+    (refl, λ j. record { code = insn.code; jt = 0; jf = 0; k = given_is insn.k (insn.k == 0) refl j })
+operand_fills operands.Absolute (Some x) n i at insn labels f r t p =
+    (refl, rw (ext_only insn.k x f, ext_value x) refl)
+operand_fills operands.Label e n i at insn labels f r t p =
+    goto_fills labels n i 0 insn (label_at (at + 1) (i + 1 + insn.k)) p t refl
+operand_fills operands.ImmediateTwo e n i at insn labels f r t p =
+    let first = at + 1 + 1 + (1 + length (hex_rest (insn.k == 0) insn.k)) + 1 + 1 in
+    let second = first + (1 + length (decimal (i + 1 + insn.jt))) + 1 + 1 in
+    branch_fills labels n i (hex_given (insn.k == 0) insn.k) insn.k insn (label_at first (i + 1 + insn.jt))
+    (label_at second (i + 1 + insn.jf)) p r t refl refl (given_is insn.k (insn.k == 0) refl)
+operand_fills operands.XTwo e n i at insn labels f r t p =
+    let first = at + 1 + (1 + 0) + 1 + 1 in
+    let second = first + (1 + length (decimal (i + 1 + insn.jt))) + 1 + 1 in
+    branch_fills labels n i 0 0 insn (label_at first (i + 1 + insn.jt)) (label_at second (i + 1 + insn.jf)) p r t refl
+    refl refl
+operand_fills o e n i at insn labels f r t p = (refl, refl)

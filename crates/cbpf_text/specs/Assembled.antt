@@ -1,7 +1,7 @@
 -- Which instructions a source text stands for, by forms of the kernel's Documentation/networking/filter and this
 -- project's own, as a relation between whole lists.
-use Rattle.std.specs.Prelude.{◌≡◌, ℕ, ◌+◌, ◌<◌, ◌≤◌, List, [], ◌∷◌, length, slice_get, Option, Some, None}
-use Rattle.cbpf_code.specs.declared.checker.TheConstants.{MAX_INSTRUCTIONS}
+use Rattle.std.specs.Prelude.{◌≡◌, ℕ, ◌+◌, ◌-◌, List, [], ◌∷◌, slice_get, Option, Some, None}
+use Rattle.std.specs.Option.{unwrap_or}
 use Rattle.cbpf_syntax.specs.declared.token.Token.{Token}
 use Rattle.cbpf_syntax.specs.Tokens.{Lexes}
 use Rattle.cbpf_code.specs.declared.insn.Insn.{Insn}
@@ -11,61 +11,39 @@ use Rattle.cbpf_syntax.specs.declared.table.Fields.TheVariants.{Constant, Goto, 
 use Rattle.cbpf_syntax.specs.Lexemes.{Lexeme, lexemes_of}
 use Rattle.cbpf_syntax.specs.Items.{Item, Items}
 use Rattle.cbpf_syntax.specs.Refusals.{IsLargeNegative}
-use Rattle.cbpf_text.specs.declared.encode.TheConstants.{FARTHEST}
-use Rattle.cbpf_text.specs.Labels.{name_of, set_labels, AreDistinct, IsPlace}
+use Rattle.cbpf_text.specs.Labels.{name_of, labels_from, place_of}
 use Rattle.cbpf_text.specs.Operands.{literal_in, targets_in}
+use Rattle.cbpf_text.specs.Refusals.{items_fault}
 
--- the offset of a target, counted from the item after the one at the index, and 0 where there is no target
-abbrev pub IsOffset : List Item → ℕ → Option Lexeme → ℕ → Type 0
-IsOffset items index None offset = offset ≡ 0
-IsOffset items index (Some target) offset = IsPlace items (name_of target) (index + 1 + offset)
+-- the number of items between the one at the index and a target's, and 0 where there is no target
+abbrev pub offset_of : List (Lexeme × ℕ) → ℕ → Option Lexeme → ℕ
+offset_of labels index None = 0
+offset_of labels index (Some target) = unwrap_or (place_of labels (name_of target)) 0 - (index + 1)
 
--- the same, of a conditional jump
-pub record IsShortOffset (items : List Item) (index : ℕ) (target : Option Lexeme) (offset : ℕ) : Type 0 where
-  pub is : IsOffset items index target offset
-  pub short : offset ≤ FARTHEST
+-- where the literal and the offsets of two targets stand
+abbrev pub with_fields : Fields → ℕ → ℕ → ℕ → ℕ → Insn
+with_fields Constant code k first second = record { code = code; jt = 0; jf = 0; k = k }
+with_fields Goto code k first second = record { code = code; jt = 0; jf = 0; k = first }
+with_fields Branch code k first second = record { code = code; jt = first; jf = second; k = k }
+with_fields Swapped code k first second = record { code = code; jt = 0; jf = first; k = k }
 
--- where the literal and the offsets of the targets stand
-abbrev pub FillsFields : Fields → List Item → ℕ → ℕ → List Lexeme → Insn → Type 0
-FillsFields Constant items index k targets insn = (insn.jt ≡ 0) × (insn.jf ≡ 0) × (insn.k ≡ k)
-FillsFields Goto items index k targets insn = (insn.jt ≡ 0) × (insn.jf ≡ 0)
-    × IsOffset items index (slice_get targets 0) insn.k
-FillsFields Branch items index k targets insn = IsShortOffset items index (slice_get targets 0) insn.jt
-    × IsShortOffset items index (slice_get targets 1) insn.jf × (insn.k ≡ k)
-FillsFields Swapped items index k targets insn = (insn.jt ≡ 0)
-    × IsShortOffset items index (slice_get targets 0) insn.jf × (insn.k ≡ k)
+-- the instruction of the item at the index
+abbrev pub insn_of : List (Lexeme × ℕ) → ℕ → Item → Insn
+insn_of labels index item = with_fields item.row.fields (code_of item.row.op) (literal_in item)
+    (offset_of labels index (slice_get (targets_in item) 0)) (offset_of labels index (slice_get (targets_in item) 1))
 
--- the instruction is that of the item at the index
-pub record IsEncoded (items : List Item) (index : ℕ) (item : Item) (insn : Insn) : Type 0 where
-  pub code : insn.code ≡ code_of item.row.op
-  pub fields : FillsFields item.row.fields items index (literal_in item) (targets_in item) insn
+-- those of items of which the first has the index
+abbrev pub insns_from : List (Lexeme × ℕ) → ℕ → List Item → List Insn
+insns_from labels index [] = []
+insns_from labels index (item ∷ items) = insn_of labels index item ∷ insns_from labels (index + 1) items
 
--- there are 1 to MAX_INSTRUCTIONS items
-pub record HasProgramLength (items : List Item) : Type 0 where
-  pub some : 0 < length items
-  pub most : length items ≤ MAX_INSTRUCTIONS
-
--- the instructions are those of the items, of which the first has the index, one for each; all items together set the
--- labels
-abbrev pub EncodeEach : List Item → ℕ → List Item → List Insn → Type 0
-EncodeEach all index [] [] = Unit {0}
-EncodeEach all index [] (insn ∷ insns) = ⊥
-EncodeEach all index (item ∷ items) [] = ⊥
-EncodeEach all index (item ∷ items) (insn ∷ insns) = IsEncoded all index item insn
-    × EncodeEach all (index + 1) items insns
-
--- there are as many items as a program has, each label is set once, and the instructions are the items'
-pub record AreEncoded (items : List Item) (insns : List Insn) : Type 0 where
-  pub limits : HasProgramLength items
-  pub distinct : AreDistinct (set_labels items)
-  pub each : EncodeEach items 0 items insns
-
--- the tokens are items, no literal is out of range, and the instructions are the items'
+-- the tokens are items, no literal is out of range, the items have no fault, and the instructions are theirs
 pub record AssembleTokens (ts : List Lexeme) (insns : List Insn) : Type 0 where
   pub items : List Item
   pub parsed : Items ts items
   pub ranged : (i : ℕ) → IsLargeNegative ts i → ⊥
-  pub encoded : AreEncoded items insns
+  pub sound : items_fault items ≡ None
+  pub encoded : insns ≡ insns_from (labels_from 0 items) 0 items
 
 -- the text assembles to the instructions: its tokens do
 pub record Assembles (text : List ℕ) (insns : List Insn) : Type 0 where

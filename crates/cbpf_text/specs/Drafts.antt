@@ -1,8 +1,8 @@
 -- What the assembler keeps of the items that it has read, which have forms of the kernel's
 -- Documentation/networking/filter and this project's own: what their instructions depend on. No public clause names
 -- it.
-use Rattle.std.specs.Prelude.{◌≡◌, ◌≤◌, ℕ, ◌+◌, Bool, List, [], ◌∷◌, ◌++◌, length, map, Option, Some, None, bytes_eq}
-use Rattle.std.specs.Prelude.{if◌then◌else◌}
+use Rattle.std.specs.Prelude.{◌≡◌, ◌≤◌, ℕ, Bool, List, [], ◌∷◌, ◌++◌, length, Option, Some, None, bytes_eq}
+use Rattle.std.specs.Prelude.{slice_get, option_map, Result, Ok, Err}
 use Rattle.std.specs.List.{AllZip}
 use Rattle.cbpf_code.specs.declared.checker.TheConstants.{MAX_INSTRUCTIONS}
 use Rattle.cbpf_code.specs.Opcode.{code_of}
@@ -11,41 +11,20 @@ use Rattle.cbpf_syntax.specs.Items.{Item}
 use Rattle.cbpf_text.specs.declared.draft.Statement.{Statement}
 use Rattle.cbpf_text.specs.declared.draft.Target.{Target}
 use Rattle.cbpf_text.specs.declared.name.Name.{Name}
-use Rattle.cbpf_text.specs.Labels.{AreDistinct, name_of, times_set, IsPlace}
+use Rattle.cbpf_text.specs.declared.fault.AsmKind.{AsmKind}
+use Rattle.cbpf_text.specs.declared.placed_fault.PlacedFault.{PlacedFault}
+use Rattle.cbpf_text.specs.Labels.{name_of, labels_of, labels_from, place_of, first_repeat}
 use Rattle.cbpf_text.specs.Operands.{literal_in, targets_in}
-use Rattle.cbpf_text.specs.Refusals.{IsFirstRepeat, IsExcess}
+use Rattle.cbpf_text.specs.Refusals.{mnemonic_at, Reported}
 
 -- The label table: for each name the index of the item that sets it.
 
 abbrev pub same_name : Name → Name → Bool
 same_name a b = bytes_eq a.bytes.now b.bytes.now
 
--- a label, and the index of the item that sets it
-pub record SetLabel : Type 0 where
-  pub word : Lexeme
-  pub place : ℕ
-
-abbrev pub labels_of : ℕ → List Lexeme → List SetLabel
-labels_of place words = map (λ t. record { word = t; place = place }) words
-
--- the labels of items of which the first has the index
-abbrev pub labels_from : ℕ → List Item → List SetLabel
-labels_from index [] = []
-labels_from index (item ∷ items) = labels_of index item.labels ++ labels_from (index + 1) items
-
--- the place of the first label of this name
-abbrev pub place_among : List SetLabel → List ℕ → Option ℕ
-place_among [] name = None
-place_among (l ∷ ls) name = if bytes_eq (name_of l.word) name then Some l.place else place_among ls name
-
--- what a look-up of the name answers
-abbrev pub IsLookup : List Item → List ℕ → Option ℕ → Type 0
-IsLookup items name None = times_set items name ≡ 0
-IsLookup items name (Some place) = IsPlace items name place
-
--- the look-ups answer where the items set their labels
-abbrev pub Resolves : List Item → (Name → Option ℕ) → Type 0
-Resolves items lookup = (k : Name) → IsLookup items k.bytes.now (lookup k)
+-- the look-ups answer for which items the labels stand
+abbrev pub Resolves : List (Lexeme × ℕ) → (Name → Option ℕ) → Type 0
+Resolves labels look = (k : Name) → look k ≡ place_of labels k.bytes.now
 
 -- What is kept of items.
 
@@ -70,23 +49,28 @@ pub record IsStatement (s : Statement) (item : Item) : Type 0 where
 abbrev pub AreStatements : List Statement → List Item → Type 0
 AreStatements statements items = AllZip IsStatement statements items
 
-abbrev pub set_words : List SetLabel → List Lexeme
-set_words ls = map (λ (l : SetLabel). l.word) ls
-
--- the look-ups answer where the labels are set, each once; or the place is that of the first label that is set a
--- second time
-abbrev pub AreSet : List SetLabel → Option ℕ → (Name → Option ℕ) → Type 0
-AreSet ls None lookup = ((k : Name) → lookup k ≡ place_among ls k.bytes.now) × AreDistinct (set_words ls)
-AreSet ls (Some at) lookup = IsFirstRepeat (set_words ls) at
+-- the look-ups answer for which items the labels stand, and no name is given twice; or the place is that of the first
+-- label that is set a second time
+abbrev pub AreSet : List (Lexeme × ℕ) → Option ℕ → (Name → Option ℕ) → Type 0
+AreSet labels None look = Resolves labels look × (first_repeat labels ≡ None)
+AreSet labels (Some at) look = first_repeat labels ≡ Some at
 
 -- the statements and labels are those of the items, and of the words of labels after them that wait for theirs
-pub record IsKept (statements : List Statement) (repeat : Option ℕ) (lookup : Name → Option ℕ)
+pub record IsKept (statements : List Statement) (repeat : Option ℕ) (look : Name → Option ℕ)
     (items : List Item) (waiting : List Lexeme) : Type 0 where
   pub same : AreStatements statements items
-  pub set : AreSet (labels_from 0 items ++ labels_of (length items) waiting) repeat lookup
+  pub set : AreSet (labels_from 0 items ++ labels_of (length items) waiting) repeat look
   pub most : length items ≤ MAX_INSTRUCTIONS
 
--- what is kept of items, where there are at most MAX_INSTRUCTIONS; and of more that place
+-- what is kept of items, where there are at most MAX_INSTRUCTIONS; and of more the place of the one after these
 abbrev pub IsDraft : Option ℕ → List Statement → Option ℕ → (Name → Option ℕ) → List Item → List Lexeme → Type 0
-IsDraft None statements repeat lookup items waiting = IsKept statements repeat lookup items waiting
-IsDraft (Some at) statements repeat lookup items waiting = IsExcess items at
+IsDraft None statements repeat look items waiting = IsKept statements repeat look items waiting
+IsDraft (Some at) statements repeat look items waiting =
+    option_map mnemonic_at (slice_get items MAX_INSTRUCTIONS) ≡ Some at
+
+-- What is made of what is kept.
+
+-- the answer is the value where there is no fault, and else it reports the fault
+abbrev pub IsAnswer : {X : Type 0} → Option (AsmKind × ℕ) → X → Result X PlacedFault → Type 0
+IsAnswer fault value (Ok x) = (fault ≡ None) × (x ≡ value)
+IsAnswer fault value (Err f) = Reported fault f

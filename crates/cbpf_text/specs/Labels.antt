@@ -1,6 +1,8 @@
--- Which labels a list of items sets, and where: labels as the kernel's Documentation/networking/filter has them, each
--- a name for the instruction after it.
-use Rattle.std.specs.Prelude.{◌≡◌, ◌≢◌, ℕ, List, [], bytes_eq, count_by, flat_map, slice_get, Some, All}
+-- Which labels a list of items sets, and for which item: labels as the kernel's Documentation/networking/filter has
+-- them, each a name for the instruction after it.
+use Rattle.std.specs.Prelude.{ℕ, ◌+◌, List, [], ◌∷◌, ◌++◌, map, bytes_eq, Option, Some, None, is_some}
+use Rattle.std.specs.Prelude.{if◌then◌else◌}
+use Rattle.std.specs.Map.{lookup}
 use Rattle.cbpf_syntax.specs.Lexemes.{Symbol, Lexeme}
 use Rattle.cbpf_syntax.specs.Lexemes.Symbol.{word}
 use Rattle.cbpf_syntax.specs.Items.{Item}
@@ -14,27 +16,24 @@ word_bytes s = []
 abbrev pub name_of : Lexeme → List ℕ
 name_of t = word_bytes t.symbol
 
--- all labels that are set, in text order
-abbrev pub set_labels : List Item → List Lexeme
-set_labels items = flat_map (λ item. item.labels) items
+-- labels of the item at an index, each with it
+abbrev pub labels_of : ℕ → List Lexeme → List (Lexeme × ℕ)
+labels_of index words = map (λ t. (t, index)) words
 
--- how many of the labels give the name
-abbrev pub times_among : List Lexeme → List ℕ → ℕ
-times_among labels name = count_by (λ t. bytes_eq (name_of t) name) labels
+-- the labels that items set, in text order, each with its item's index; the first item has the index
+abbrev pub labels_from : ℕ → List Item → List (Lexeme × ℕ)
+labels_from index [] = []
+labels_from index (item ∷ items) = labels_of index item.labels ++ labels_from (index + 1) items
 
--- how many times the items set the name
-abbrev pub times_set : List Item → List ℕ → ℕ
-times_set items name = times_among (set_labels items) name
+-- the index of the item of the first label that gives the name
+abbrev pub place_of : List (Lexeme × ℕ) → List ℕ → Option ℕ
+place_of labels name = lookup (λ t. bytes_eq (name_of t) name) labels
 
--- no two of the labels give one name
-abbrev pub AreDistinct : List Lexeme → Type 0
-AreDistinct labels = All (λ t. times_among labels (name_of t) ≡ 1) labels
+-- the place in the text of the first label whose name one before it gives, where some stand before all of them
+abbrev pub repeat_after : List (Lexeme × ℕ) → List (Lexeme × ℕ) → Option ℕ
+repeat_after before [] = None
+repeat_after before (l ∷ ls) =
+    if is_some (place_of before (name_of l.0)) then Some l.0.at else repeat_after (before ++ (l ∷ [])) ls
 
--- the item at the place sets the name
-abbrev pub SetsAt : List Item → ℕ → List ℕ → Type 0
-SetsAt items place name = (item : Item) × (slice_get items place ≡ Some item) × (times_among item.labels name ≢ 0)
-
--- the name is set exactly once, by the item at the place
-pub record IsPlace (items : List Item) (name : List ℕ) (place : ℕ) : Type 0 where
-  pub once : times_set items name ≡ 1
-  pub sets : SetsAt items place name
+abbrev pub first_repeat : List (Lexeme × ℕ) → Option ℕ
+first_repeat labels = repeat_after [] labels

@@ -1,6 +1,6 @@
 pub mod Labels
 pub mod Operands
-pub mod Assembled
 pub mod Refusals
+pub mod Assembled
 pub mod Laws
 pub mod Drafts

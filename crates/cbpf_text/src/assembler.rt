@@ -1,12 +1,13 @@
 //! Source text to instructions.
 
-ghost use Rattle.std.specs.Prelude.{◌≡◌, ◌≤◌, List, [], length, IfOk, IfErr, All};
+ghost use Rattle.std.specs.Prelude.{◌≡◌, ◌≤◌, List, [], None, length, IfOk, IfErr, All};
 ghost use Rattle.cbpf_code.specs.declared.checker.TheConstants.{MAX_INSTRUCTIONS};
 ghost use Rattle.indexmap.specs.IndexMap.{get};
 ghost use Rattle.cbpf_syntax.specs.Items as items;
-ghost use Rattle.cbpf_text.specs.Assembled.{Assembles, AreEncoded};
+ghost use Rattle.cbpf_text.specs.Assembled.{Assembles, insns_from};
+ghost use Rattle.cbpf_text.specs.Labels.{labels_from};
 ghost use Rattle.cbpf_text.specs.Drafts.{IsDraft, same_name};
-ghost use Rattle.cbpf_text.specs.Refusals.{Reported, IsItemsFault, IsRefused};
+ghost use Rattle.cbpf_text.specs.Refusals.{Reported, items_fault, IsRefused};
 ghost use Rattle.cbpf_text.specs.Operands.{HasForm};
 
 use crate::draft::{Draft, read};
@@ -25,11 +26,12 @@ fn encode_draft<A: Allocator + Copy>(
     ensures encoded { (is : List items.Item) →
         IsDraft draft.now.excess draft.now.statements.items draft.now.labels.repeat
         (λ k. get same_name draft.now.labels.table k) is [] →
-        All HasForm is → IfOk result (λ v. AreEncoded is v.items) }
+        All HasForm is →
+        IfOk result (λ v. (items_fault is ≡ None) × (v.items ≡ insns_from (labels_from 0 is) 0 is)) }
     ensures refused { (is : List items.Item) →
         IsDraft draft.now.excess draft.now.statements.items draft.now.labels.repeat
         (λ k. get same_name draft.now.labels.table k) is [] →
-        All HasForm is → IfErr result (Reported (IsItemsFault is)) }
+        All HasForm is → IfErr result (Reported (items_fault is)) }
 {
     if let Some(at) = draft.excess {
         return Err(PlacedFault::At(AsmKind::TooMany, at));

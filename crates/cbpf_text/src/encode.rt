@@ -1,13 +1,14 @@
 //! The instructions of items.
 
-ghost use Rattle.std.specs.Prelude.{◌≤◌, Bool, true, List, length, Some, IfOk, IfErr, All};
+ghost use Rattle.std.specs.Prelude.{◌≡◌, ◌≤◌, ℕ, true, List, length, Some, None, IfOk, IfErr, All};
 ghost use Rattle.cbpf_code.specs.declared.checker.TheConstants.{MAX_INSTRUCTIONS};
 ghost use Rattle.indexmap.specs.IndexMap.{get};
 ghost use Rattle.cbpf_syntax.specs.Items as items;
 ghost use Rattle.cbpf_syntax.specs.Lexemes as lexemes;
-ghost use Rattle.cbpf_text.specs.Assembled.{IsOffset, IsShortOffset, IsEncoded, EncodeEach};
-ghost use Rattle.cbpf_text.specs.Refusals.{Reported, IsTargetFault, IsFirstBadUse, uses_of, uses_from};
-ghost use Rattle.cbpf_text.specs.Drafts.{same_name, Resolves, IsStatement, AreStatements, KeepsLabel};
+ghost use Rattle.cbpf_text.specs.declared.encode.TheConstants.{FARTHEST};
+ghost use Rattle.cbpf_text.specs.Assembled.{offset_of, insn_of, insns_from};
+ghost use Rattle.cbpf_text.specs.Refusals.{Reported, use_fault, uses_fault, uses_of, uses_from};
+ghost use Rattle.cbpf_text.specs.Drafts.{same_name, Resolves, IsStatement, AreStatements, KeepsLabel, IsAnswer};
 ghost use Rattle.cbpf_text.specs.Operands.{HasForm};
 
 use crate::draft::{Statement, Target};
@@ -21,47 +22,31 @@ use std::alloc::Allocator;
 /// The most instructions that a conditional jump goes over.
 const FARTHEST: u32 = 255;
 
-/// The number of instructions between the one at the index and the target.
-fn distance<A: Allocator>(
+/// The number of instructions between the one at the index and the target, or why the target is refused. A
+/// conditional jump is short.
+fn offset<A: Allocator>(
     labels: &LabelTable<'_, A>,
     index: u32,
+    short: bool,
     target: &Target<'_>,
 ) -> Result<u32, PlacedFault>
-    ensures found { (is : List items.Item) → Resolves is (λ k. get same_name labels.now k) →
-        (label : lexemes.Lexeme) → KeepsLabel target.now label → IfOk result (IsOffset is index (Some label)) }
-    ensures refused { (is : List items.Item) (short : Bool) → Resolves is (λ k. get same_name labels.now k) →
+    ensures answer { (ls : List (lexemes.Lexeme × ℕ)) → Resolves ls (λ k. get same_name labels.now k) →
         (label : lexemes.Lexeme) → KeepsLabel target.now label →
-        IfErr result (Reported (IsTargetFault is index short (Some label))) }
+        IsAnswer (use_fault ls (record { index = index; target = label; short = short }))
+        (offset_of ls index (Some label)) result }
+    ensures near { IfOk result (λ n. short ≡ true → n ≤ FARTHEST) }
 {
-    match labels.get(&target.name) {
-        None => Err(PlacedFault::At(AsmKind::LabelNotSet, target.at)),
-        Some(place) => {
-            if *place > index {
-                Ok(*place - index - 1)
-            } else {
-                Err(PlacedFault::At(AsmKind::NotAfter, target.at))
-            }
-        }
+    let Some(place) = labels.get(&target.name) else {
+        return Err(PlacedFault::At(AsmKind::LabelNotSet, target.at));
+    };
+    if *place <= index {
+        return Err(PlacedFault::At(AsmKind::NotAfter, target.at));
     }
-}
-
-/// The offset of a conditional jump.
-fn short_offset<A: Allocator>(
-    labels: &LabelTable<'_, A>,
-    index: u32,
-    target: &Target<'_>,
-) -> Result<u8, PlacedFault>
-    ensures found { (is : List items.Item) → Resolves is (λ k. get same_name labels.now k) →
-        (label : lexemes.Lexeme) → KeepsLabel target.now label → IfOk result (IsShortOffset is index (Some label)) }
-    ensures refused { (is : List items.Item) → Resolves is (λ k. get same_name labels.now k) →
-        (label : lexemes.Lexeme) → KeepsLabel target.now label →
-        IfErr result (Reported (IsTargetFault is index true (Some label))) }
-{
-    let distance = distance(labels, index, target)?;
-    if distance > FARTHEST {
+    let between = *place - index - 1;
+    if short && between > FARTHEST {
         return Err(PlacedFault::At(AsmKind::TooFar, target.at));
     }
-    Ok(distance as u8)
+    Ok(between)
 }
 
 /// The instruction of a statement at the index, or its first target that is refused.
@@ -70,11 +55,9 @@ fn encode<A: Allocator>(
     index: u32,
     statement: &Statement<'_>,
 ) -> Result<Insn, PlacedFault>
-    ensures encoded { (is : List items.Item) (item : items.Item) → IsStatement statement.now item → HasForm item →
-        Resolves is (λ k. get same_name labels.now k) → IfOk result (IsEncoded is index item) }
-    ensures refused { (is : List items.Item) (item : items.Item) → IsStatement statement.now item → HasForm item →
-        Resolves is (λ k. get same_name labels.now k)
-        → IfErr result (Reported (IsFirstBadUse is (uses_of index item))) }
+    ensures { (ls : List (lexemes.Lexeme × ℕ)) (item : items.Item) → IsStatement statement.now item → HasForm item →
+        Resolves ls (λ k. get same_name labels.now k) →
+        IsAnswer (uses_fault ls (uses_of index item)) (insn_of ls index item) result }
 {
     let code = statement.code;
     let k = statement.literal;
@@ -90,13 +73,13 @@ fn encode<A: Allocator>(
             code,
             jt: 0,
             jf: 0,
-            k: distance(labels, index, first)?,
+            k: offset(labels, index, false, first)?,
         }),
         Fields::Branch => Ok(Insn {
             code,
-            jt: short_offset(labels, index, first)?,
+            jt: offset(labels, index, true, first)? as u8,
             jf: if statement.targets == 2 {
-                short_offset(labels, index, &statement.second)?
+                offset(labels, index, true, &statement.second)? as u8
             } else {
                 0
             },
@@ -105,7 +88,7 @@ fn encode<A: Allocator>(
         Fields::Swapped => Ok(Insn {
             code,
             jt: 0,
-            jf: short_offset(labels, index, first)?,
+            jf: offset(labels, index, true, first)? as u8,
             k,
         }),
     }
@@ -118,10 +101,12 @@ pub(crate) fn encode_all<A: Allocator + Copy>(
     statements: &[Statement<'_>],
 ) -> Result<Vec<Insn, A>, PlacedFault>
     requires { length statements.now ≤ MAX_INSTRUCTIONS }
-    ensures encoded { (is : List items.Item) → AreStatements statements.now is → All HasForm is →
-        Resolves is (λ k. get same_name labels.now k) → IfOk result (λ v. EncodeEach is 0 is v.items) }
-    ensures refused { (is : List items.Item) → AreStatements statements.now is → All HasForm is →
-        Resolves is (λ k. get same_name labels.now k) → IfErr result (Reported (IsFirstBadUse is (uses_from 0 is))) }
+    ensures encoded { (ls : List (lexemes.Lexeme × ℕ)) (is : List items.Item) → AreStatements statements.now is →
+        All HasForm is → Resolves ls (λ k. get same_name labels.now k) →
+        IfOk result (λ v. (uses_fault ls (uses_from 0 is) ≡ None) × (v.items ≡ insns_from ls 0 is)) }
+    ensures refused { (ls : List (lexemes.Lexeme × ℕ)) (is : List items.Item) → AreStatements statements.now is →
+        All HasForm is → Resolves ls (λ k. get same_name labels.now k) →
+        IfErr result (Reported (uses_fault ls (uses_from 0 is))) }
 {
     let mut insns = Vec::with_capacity(alloc, statements.len())?;
     for i in 0..statements.len() {

@@ -1,9 +1,10 @@
 //! The label table: for each label the index of the instruction that it names.
 
-ghost use Rattle.std.specs.Prelude.{[], ◌∷◌, ◌++◌, List, OnOk};
+ghost use Rattle.std.specs.Prelude.{[], ◌∷◌, ◌++◌, ℕ, List, OnOk};
 ghost use Rattle.indexmap.specs.IndexMap.{get};
+ghost use Rattle.cbpf_syntax.specs.Lexemes as lexemes;
 ghost use Rattle.cbpf_syntax.specs.Views.{lexeme_of};
-ghost use Rattle.cbpf_text.specs.Drafts.{AreSet, SetLabel, same_name};
+ghost use Rattle.cbpf_text.specs.Drafts.{AreSet, same_name};
 
 use crate::name::{Name, name_of};
 use cbpf_syntax::Lexeme;
@@ -67,9 +68,9 @@ impl<'a, A: Allocator> Labels<'a, A> {
         label: Lexeme<'a>,
         index: u32,
     ) -> Result<(), AllocFailed<(Name<'a>, u32)>>
-        ensures { OnOk result ((ls : List SetLabel) →
+        ensures { OnOk result ((ls : List (lexemes.Lexeme × ℕ)) →
             AreSet ls self.old.repeat (λ k. get same_name self.old.table k) →
-            AreSet (ls ++ record { word = lexeme_of label.entry; place = index } ∷ [])
+            AreSet (ls ++ (lexeme_of label.entry, index) ∷ [])
             self.new.repeat (λ k. get same_name self.new.table k)) }
     {
         if self.repeat.is_some() {

@@ -13,9 +13,8 @@ use Rattle.cbpf_syntax.specs.Reading.{Ahead, IsReading, IsStepOf, IsFirstLarge, 
 use Rattle.cbpf_syntax.specs.Steps.{Stuck}
 use Rattle.cbpf_syntax.proofs.Steps.{end_stuck}
 use Rattle.cbpf_text.specs.declared.fault.AsmKind.TheVariants as kinds
-use Rattle.cbpf_text.specs.declared.placed_fault.PlacedFault.TheVariants as placed
 use Rattle.cbpf_text.proofs.FaultParts.{lex_refused, IsState, state_init, state_stuck, state_items, state_lexemes}
-use Rattle.cbpf_text.proofs.FaultParts.{label_state, item_state, whole_refused, all_accepted, items_large_refused}
+use Rattle.cbpf_text.proofs.FaultParts.{label_state, item_state, tokens_refused, all_accepted, items_large_refused}
 use Rattle.cbpf_text.proofs.draft.read_items.Given.{Over}
 use Rattle.cbpf_text.proofs.draft.read_items.Goals.{In-Ok, After-large}
 use Rattle.cbpf_text.proofs.draft.read_items.Goals as goal
@@ -127,7 +126,7 @@ returns-in-Some-clause-refused g c =
     let at = goal.at.returns-in-Some-clause-refused g c in
     let e = ended g at.After-large (stepped g at.In-Ok) in
     let large : IsFirstLarge e.0 e.2 (Some c.in-Some.at) = subst (λ o. IsFirstLarge e.0 e.2 o) c.in-Some.is e.7 in
-    whole_refused c.args.text.now e.0 (placed.At kinds.LargeNumber c.in-Some.at) c.with_line.result e.3
+    tokens_refused c.args.text.now e.0 kinds.LargeNumber c.in-Some.at c.with_line.result e.3
     (items_large_refused e.0 e.1 e.2 c.in-Some.at e.4 large) c.with_line.ensures
 
 pub returns-in-None-large-clause-items : goal.returns-in-None-large-clause-items
