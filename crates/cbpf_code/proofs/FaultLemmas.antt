@@ -1,5 +1,5 @@
 -- Faults of a list, from the passes that look for them; a list has one first fault at most.
-use Rattle.std.proofs.Common.{◌≡◌, ℕ, ◌+◌, ◌-◌, ◌<◌, ◌≤◌, List, length, get_or, arith, subst, inl, refl}
+use Rattle.std.proofs.Common.{◌≡◌, ℕ, ◌+◌, ◌-◌, ◌<◌, ◌≤◌, List, length, get_or, arith, subst, inl, inr, refl, sym}
 use Rattle.std.specs.Prelude.{Option, Some, None, IsTrue, slice_get, ◌==◌, if◌then◌else◌}
 use Rattle.std.proofs.lemmas.Bool.{cases_eq, cases_lt}
 use Rattle.std.proofs.lemmas.Option.{slice_get_within, slice_get-get_or}
@@ -172,6 +172,12 @@ same_place : (list : List Insn) (e f : CheckFault) → rank e ≡ rank f → ind
 same_place list e f ranks indexes has_e has_f = grind (arith, decided)
 
 pub first_fault-unique : (list : List Insn) (e f : CheckFault) → FirstFault list e → FirstFault list f → f ≡ e
-first_fault-unique list e f one two = grind (arith, same_place)
+first_fault-unique list e f one two =
+    let lower = λ (h : rank f < rank e). one.none_earlier f (inl h) two.present in
+    let higher = λ (h : rank e < rank f). two.none_earlier e (inl h) one.present in
+    let ranks : rank f ≡ rank e = omega arith in
+    let before = λ (h : index_of f < index_of e). one.none_earlier f (inr (ranks, h)) two.present in
+    let after = λ (h : index_of e < index_of f). two.none_earlier e (inr (sym ranks, h)) one.present in
+    same_place list f e ranks (omega arith) two.present one.present
 
 pub ruleset unique = (first_fault-unique)

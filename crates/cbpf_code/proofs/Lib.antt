@@ -1,4 +1,5 @@
 pub mod AnswerLaws
+pub mod AsciiLemmas
 pub mod Decided
 pub mod DigitLemmas
 pub mod FaultLemmas

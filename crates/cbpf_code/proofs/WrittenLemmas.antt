@@ -65,7 +65,7 @@ err-exit u w a (Ok y) e h = absurd (cc)
 err-exit u w a (Err y) e h = h
 
 -- ---- a loop that writes the text of each element
-flat-more : {X : Type 0} (f : X → List ℕ) (xs : List X) (i : ℕ) (d : X) → i < length xs
+pub flat-more : {X : Type 0} (f : X → List ℕ) (xs : List X) (i : ℕ) (d : X) → i < length xs
     → flat_map f (take (i + 1) xs) ≡ flat_map f (take i xs) ++ f (get_or xs i d)
 flat-more f xs i d l = rw (take_more xs i d l, flat_map-append, append-nil (f (get_or xs i d)))
 

@@ -4,6 +4,7 @@ pub mod ControlFlow
 pub mod Extension
 pub mod Faults
 pub mod Laws
+pub mod Messages
 pub mod WordTokens
 pub mod NextToken
 pub mod Opcode

@@ -78,3 +78,13 @@ numbered_line e = insn_text e.0 e.1 ++ codes "\n"
 
 abbrev pub listing : List Insn → List ℕ
 listing list = flat_map numbered_line (enumerate_from 0 list)
+
+-- an instruction by itself: its line as the first of a program, or the four numbers of one that has no operation
+abbrev pub shown_for : Insn → Option Op → List ℕ
+shown_for insn (Some op) = operation_text 0 insn op
+shown_for insn None =
+    concat (decimal insn.code ∷ codes " " ∷ decimal insn.jt ∷ codes " " ∷ decimal insn.jf ∷ codes " " ∷ decimal insn.k
+    ∷ [])
+
+abbrev pub shown_text : Insn → List ℕ
+shown_text insn = shown_for insn (op_of insn.code)

@@ -17,6 +17,10 @@ put_front b (part ∷ parts) = (b ∷ part) ∷ parts
 abbrev pub with_number : List ℕ → ℕ → List ℕ → List ℕ
 with_number before n after = concat (before ∷ decimal n ∷ after ∷ [])
 
+-- two decimal numbers between texts
+abbrev pub with_numbers : List ℕ → ℕ → List ℕ → ℕ → List ℕ → List ℕ
+with_numbers before m between n after = concat (before ∷ decimal m ∷ between ∷ decimal n ∷ after ∷ [])
+
 abbrev pub spaces : ℕ → List ℕ
 spaces n = repeat n (codes " ")
 

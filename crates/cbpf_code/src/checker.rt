@@ -6,16 +6,21 @@ ghost use Rattle.std.specs.List.{All};
 ghost use Rattle.cbpf_code.specs.Faults.{FirstFault, InsnHasFault};
 ghost use Rattle.cbpf_code.specs.Faults as spec;
 ghost use Rattle.cbpf_code.specs.Sound.{IsSound};
+ghost use Rattle.cbpf_code.specs.Text.{with_number};
 ghost use Rattle.cbpf_code.specs.WordForm.{InRange};
 ghost use Rattle.cbpf_code.specs.CheckSteps.{IsAllowed};
+ghost use Rattle.cbpf_code.specs.Messages.{check_message, message_text};
 ghost use Rattle.cbpf_code.specs.declared.checker.CheckFault.{CheckFault};
 
 use crate::extension::{FIRST_EXTENSION, ext_at};
 use crate::insn::Insn;
+use crate::message::Message;
 use crate::opcode::{AluOp, Op, Src, op_of};
 use crate::program::Program;
 use crate::slots::path_fault;
 use std::alloc::Allocator;
+use std::error::Error;
+use std::fmt;
 
 /// How many instructions a program has at most: the kernel's `BPF_MAXINSNS`.
 pub const MAX_INSTRUCTIONS: usize = 4096;
@@ -47,6 +52,47 @@ pub enum CheckFault {
     /// C10: a load of a slot into which some path to it stores nothing.
     UnwrittenSlot(u32),
 }
+
+impl CheckFault {
+    /// What the program prints of it after `error: `.
+    pub fn message(&self) -> Message
+        ensures { message_text result ≡ check_message self.now }
+    {
+        match *self {
+            CheckFault::NoInstruction => Message::Text("C1 no instruction"),
+            CheckFault::TooMany => Message::Text("C2 more than 4096 instructions"),
+            CheckFault::UnknownCode(i) => at_index("C3 at ", i, ": unknown code"),
+            CheckFault::NoSlot(i) => at_index("C4 at ", i, ": no such scratch slot"),
+            CheckFault::ZeroDivisor(i) => at_index("C5 at ", i, ": division by zero"),
+            CheckFault::WideShift(i) => at_index("C6 at ", i, ": shift of 32 or more"),
+            CheckFault::JumpOutside(i) => at_index("C7 at ", i, ": jump outside"),
+            CheckFault::UnknownExtension(i) => at_index("C8 at ", i, ": unknown extension"),
+            CheckFault::NoReturn => Message::Text("C9 last instruction is no return"),
+            CheckFault::UnwrittenSlot(i) => {
+                at_index("C10 at ", i, ": scratch slot read before it is written")
+            }
+        }
+    }
+}
+
+fn at_index(before: &'static str, i: u32, after: &'static str) -> Message
+    ensures { message_text result ≡ with_number before.now i after.now }
+{
+    Message::Number(before, u64::from(i), after)
+}
+
+impl fmt::Display for CheckFault {
+    ghost use Rattle.std.specs.Prelude.{Some};
+    ghost use Rattle.cbpf_code.specs.Messages.{check_message};
+
+    ghost output = { λ fault. Some (check_message fault) };
+
+    fn fmt<W: fmt::Write>(&self, f: &mut fmt::Formatter<W>) -> fmt::Result {
+        write!(f, "{}", self.message())
+    }
+}
+
+impl Error for CheckFault {}
 
 /// Checks a list of instructions (bpf(4), "FILTER MACHINE"), and makes it a program.
 ///

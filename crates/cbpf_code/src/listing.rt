@@ -88,6 +88,20 @@ fn put_operand(line: &mut Line, i: u32, insn: Insn, op: Op)
     }
 }
 
+/// Puts the line of an instruction of this operation at an index.
+#[inline(always)]
+pub(crate) fn put_operation(line: &mut Line, i: u32, insn: Insn, op: Op)
+    requires room { length line.old + 77 ≤ LINE_SIZE }
+    ensures text { line.new ≡ spec.operation_text i insn op ++ line.old }
+    ensures grown { length line.new ≤ length line.old + 77 }
+{
+    put_operand(line, i, insn, op);
+    line.put(mnemonic_of(op));
+    line.put(b":\t");
+    line.put_u32(i);
+    line.put(b"l");
+}
+
 /// Puts the line of the instruction at index `i`, without a newline, of at most 77 bytes, before
 /// a text: what [`write_line`] writes.
 ///
@@ -102,13 +116,7 @@ pub fn put_line<A: Allocator>(line: &mut Line, p: &Program<A>, i: u32)
 {
     let insn = p.at_index(i);
     match op_of(insn.code) {
-        Some(op) => {
-            put_operand(line, i, insn, op);
-            line.put(mnemonic_of(op));
-            line.put(b":\t");
-            line.put_u32(i);
-            line.put(b"l");
-        }
+        Some(op) => put_operation(line, i, insn, op),
         None => unreachable!(),
     }
 }

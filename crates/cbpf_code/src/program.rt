@@ -1,10 +1,13 @@
 //! Checked programs.
 
-ghost use Rattle.std.specs.Prelude.{◌≡◌, ◌<◌, ◌≤◌, ℕ, Some, length, slice_get};
+ghost use Rattle.std.specs.Prelude.{◌≡◌, ◌<◌, ◌≤◌, ◌↔◌, ℕ, Some, length, slice_get, IsOk, IfOk, IfErr};
 ghost use Rattle.std.specs.List.{All};
+ghost use Rattle.cbpf_code.specs.Faults.{FirstFault};
 ghost use Rattle.cbpf_code.specs.Sound.{IsSound};
 ghost use Rattle.cbpf_code.specs.WordForm.{InRange};
+ghost use Rattle.cbpf_code.specs.declared.checker.CheckFault.{CheckFault};
 
+use crate::checker::{CheckFault, check};
 use crate::insn::Insn;
 use std::alloc::{Allocator, Global};
 use std::marker::Model;
@@ -32,6 +35,23 @@ impl<A: Allocator> Model for Program<A> {
 }
 
 impl<A: Allocator> Program<A> {
+    /// The program of a list of instructions, by `check`. A list that is refused is dropped.
+    ///
+    /// # Errors
+    ///
+    /// The first fault of the list, as `check` gives it.
+    pub fn new(list: Vec<Insn, A>) -> Result<Program<A>, CheckFault>
+        ensures accepts { IsOk result ↔ IsSound list.items }
+        ensures same { IfOk result (λ p. p ≡ list.items) }
+        ensures fault { IfErr result (λ e. FirstFault list.items e) }
+        ensures only { IfErr result (λ e. (f : CheckFault) → FirstFault list.items f → f ≡ e) }
+    {
+        match check(list) {
+            Ok(program) => Ok(program),
+            Err((fault, _)) => Err(fault),
+        }
+    }
+
     /// How many instructions the program has: 1 to `MAX_INSTRUCTIONS`.
     #[inline]
     #[tactic(auto, using(crate::proofs::SoundLemmas::sound_few))]

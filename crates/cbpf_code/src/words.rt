@@ -1,6 +1,8 @@
 // Reads word text, as `tcpdump -ddd` and `bpf_asm` print it.
 ghost use Rattle.std.specs.Prelude.{◌≡◌, ◌<◌, ◌≤◌, ◌^◌, ◌↔◌, ℕ, length, [], ◌∷◌, IsTrue, IfOk, MatchResult, None};
 ghost use Rattle.std.specs.Prelude.{List, ◌≢◌, ◌⊎◌, Some};
+ghost use Rattle.cbpf_code.specs.Messages.{message_text, word_message};
+ghost use Rattle.cbpf_code.specs.Text.{with_number};
 ghost use Rattle.cbpf_code.specs.WordTokens.{tokens_after};
 ghost use Rattle.cbpf_code.specs.WordText.{Due, code, comma, next_due, range_of, Spells, Refused};
 ghost use Rattle.cbpf_code.specs.WordSteps.{PassesTokens, IsFaultAt, IsReadWhole};
@@ -9,8 +11,11 @@ ghost use Rattle.cbpf_code.specs.declared.words.WordFault.{WordFault};
 ghost use Rattle.cbpf_code.specs.declared.words.WordFault.TheVariants.{Memory, NumberExpected, CommaExpected};
 
 use crate::insn::Insn;
+use crate::message::Message;
 use crate::scan::{TokenKind, next_token, skip_blanks};
 use std::alloc::Allocator;
+use std::error::Error;
+use std::fmt;
 
 /// Why word text is refused. A place is a byte's, counted from 0.
 #[derive(Clone, Copy, PartialEq, Eq, Debug)]
@@ -29,6 +34,44 @@ pub enum WordFault {
     /// N5: a number, or the end of the text after the count, where a comma must stand.
     CommaExpected(usize),
 }
+
+impl WordFault {
+    /// What the program prints of it after `error: `.
+    pub fn message(&self) -> Message
+        ensures { message_text result ≡ word_message self.now }
+    {
+        match *self {
+            WordFault::Memory => Message::Text("out of memory"),
+            WordFault::NumberExpected(at) => at_byte("N1 at byte ", at, ": number expected"),
+            WordFault::OutOfRange(at) => at_byte("N2 at byte ", at, ": number out of range"),
+            WordFault::UnexpectedByte(at) => at_byte("N3 at byte ", at, ": unexpected byte"),
+            WordFault::CountDiffers { said, found } => {
+                let (said, found) = (u64::from(said), found as u64);
+                Message::Numbers("N4 count says ", said, ", found ", found, "")
+            }
+            WordFault::CommaExpected(at) => at_byte("N5 at byte ", at, ": comma expected"),
+        }
+    }
+}
+
+fn at_byte(before: &'static str, at: usize, after: &'static str) -> Message
+    ensures { message_text result ≡ with_number before.now at after.now }
+{
+    Message::Number(before, at as u64, after)
+}
+
+impl fmt::Display for WordFault {
+    ghost use Rattle.std.specs.Prelude.{Some};
+    ghost use Rattle.cbpf_code.specs.Messages.{word_message};
+
+    ghost output = { λ fault. Some (word_message fault) };
+
+    fn fmt<W: fmt::Write>(&self, f: &mut fmt::Formatter<W>) -> fmt::Result {
+        write!(f, "{}", self.message())
+    }
+}
+
+impl Error for WordFault {}
 
 /// Whether no token is left.
 #[tactic(auto, using(crate::proofs::WordTokenLemmas::ends))]

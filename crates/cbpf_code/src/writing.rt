@@ -7,6 +7,8 @@ ghost use Rattle.cbpf_code.specs.Text.{hex, with_number};
 ghost use Rattle.cbpf_code.specs.declared.writing.TheConstants.{LINE_SIZE};
 
 use itoa::{Buffer, write_digits};
+use std::error::Error;
+use std::fmt;
 use std::io::Write;
 use std::marker::Model;
 
@@ -14,6 +16,19 @@ use std::marker::Model;
 /// beginning of the text.
 #[derive(Clone, Copy, PartialEq, Eq, Debug)]
 pub struct WriteFault;
+
+impl fmt::Display for WriteFault {
+    ghost use Rattle.std.specs.Prelude.{Some};
+    ghost use Rattle.cbpf_code.specs.Messages.{write_fault};
+
+    ghost output = { λ _. Some write_fault };
+
+    fn fmt<W: fmt::Write>(&self, f: &mut fmt::Formatter<W>) -> fmt::Result {
+        f.write_str("write fault")
+    }
+}
+
+impl Error for WriteFault {}
 
 /// Writes what a first call of `write` left of a text.
 #[cold]

@@ -6,6 +6,7 @@ pub mod Machine
 pub mod Turn
 pub mod Checked
 pub mod Trace
+pub mod Outcomes
 pub mod Trail
 pub mod Follow
 pub mod InPlace

@@ -1,5 +1,8 @@
 //! What a turn gives, and how a packet ends.
 
+ghost use Rattle.std.specs.Prelude.{◌≡◌};
+ghost use Rattle.cbpf_machine.specs.Outcomes as spec;
+
 use crate::state::State;
 use cbpf_code::Ext;
 
@@ -56,6 +59,15 @@ pub enum Outcome {
     Fail,
     /// The program asked for this extension, which has no value.
     Unknown(Ext),
+}
+
+impl Outcome {
+    /// Whether the packet passed.
+    pub fn is_pass(&self) -> bool
+        ensures { result ≡ spec.is_pass self.now }
+    {
+        matches!(self, Outcome::Pass(_))
+    }
 }
 
 impl From<End> for Outcome {

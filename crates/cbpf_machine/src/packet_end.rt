@@ -39,11 +39,8 @@ impl PacketEnd {
 /// Runs a program on a packet as `run_packet` does: where and why the packet ended.
 ///
 /// The meter is at least twice `MAX_INSTRUCTIONS` turns below 2 to the 128 before.
-///
-/// `COPY` is a number from 3, which changes no answer. A caller that alone gives its number has a copy of its own,
-/// inlined.
 #[inline(always)]
-pub fn end_of_packet<A: Allocator, const COPY: u32>(
+pub fn end_of_packet<A: Allocator>(
     meter: &mut Meter,
     p: &Program<A>,
     packet: Packet<'_>,
@@ -63,7 +60,7 @@ pub fn end_of_packet<A: Allocator, const COPY: u32>(
     let _few = p.len();
     let mut core = Core::zero();
     let mut slots = [0; SLOTS];
-    let (turns, end) = make_turns::<_, A, COPY>(
+    let (turns, end) = make_turns::<_, A, 3>(
         &Never, false, None, p, packet, values, &mut core, &mut slots,
     );
     meter.add(turns);

@@ -34,5 +34,12 @@ pub fn run_packet<A: Allocator>(
         (spec.trace (machine_of p.now values.now) packet.entry.bytes.now packet.entry.wire) }
 {
     let _sound = p.len();
-    end_of_packet::<A, 3>(meter, p, packet, values).outcome()
+    end_of_packet(meter, p, packet, values).outcome()
+}
+
+/// How a program ends on a packet, for those who count no turns.
+pub fn outcome_of<A: Allocator>(p: &Program<A>, packet: Packet<'_>, values: &Values) -> Outcome
+    ensures { result ≡ spec.outcome (machine_of p.now values.now) packet.entry.bytes.now packet.entry.wire }
+{
+    run_packet(&mut Meter::new(), p, packet, values)
 }

@@ -1,8 +1,7 @@
 -- Places, and counts of packets (the kernel's Documentation/networking/filter shows the counts of `run` for
 -- `bpf_dbg`; the rest is this project's own).
 use Rattle.std.specs.Prelude.{ℕ, ◌==◌, if◌then◌else◌, List, [], ◌∷◌, ◌++◌, codes, decimal}
-use Rattle.cbpf_code.specs.Text.{concat, with_number}
-use Rattle.cbpf_reply.specs.WithNumbers.{with_numbers}
+use Rattle.cbpf_code.specs.Text.{concat, with_number, with_numbers}
 use Rattle.cbpf_reply.specs.declared.reply.Counts.{Counts}
 use Rattle.cbpf_reply.specs.declared.reply.Place.{Place}
 

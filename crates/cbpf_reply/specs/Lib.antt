@@ -1,5 +1,4 @@
 pub mod Columns
-pub mod WithNumbers
 pub mod Scratch
 pub mod Packet
 pub mod Dump

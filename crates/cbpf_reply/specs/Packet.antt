@@ -2,8 +2,7 @@
 use Rattle.std.specs.Prelude.{ℕ, zero, suc, ◌-◌, ◌*◌, List, [], ◌∷◌, ◌++◌, length, take, drop, decimal, codes}
 use Rattle.std.specs.List.{flat_map}
 use Rattle.std.specs.Int.{div_ceil}
-use Rattle.cbpf_code.specs.Text.{concat, spaces, hex}
-use Rattle.cbpf_reply.specs.WithNumbers.{with_numbers}
+use Rattle.cbpf_code.specs.Text.{concat, spaces, hex, with_numbers}
 use Rattle.cbpf_reply.specs.declared.packet.TheConstants.{ROW}
 
 -- the texts of a, a + 1 and so on, n in all

@@ -13,6 +13,7 @@ mod errors;
 mod law;
 mod loads;
 mod packet;
+mod record;
 mod reply;
 mod scratch;
 mod stops;
@@ -25,12 +26,12 @@ pub use counts::{write_finished, write_limit, write_place, write_went_to};
 pub use dump::write_stop;
 pub use equality::equal_where_same;
 pub use errors::{
-    CommandFault, ErrorLine, LoadFault, capture_fault_line, check_fault_line, word_fault_line,
-    write_capture_fault, write_check_fault, write_command_fault, write_load_fault,
-    write_no_program, write_out_of_memory, write_session_fault, write_word_fault,
+    CommandFault, LoadFault, write_capture_fault, write_check_fault, write_command_fault,
+    write_load_fault, write_no_program, write_out_of_memory, write_session_fault, write_word_fault,
 };
 pub use law::{place_order, row_length};
 pub use loads::{write_capture, write_cut, write_program};
+pub use record::packet_of;
 pub use reply::{Counts, Place, RunReply, SessionFault, Stop, Why};
 pub use stops::{write_stop_line, write_total};
 pub use values::write_value;
