@@ -2,7 +2,7 @@
 use Rattle.std.specs.Prelude.{◌≡◌, ℕ, ◌+◌, ◌-◌, ◌*◌, ◌≤◌, ◌<◌, ◌^◌, List, length, drop, slice_index}
 use Rattle.pcap_classic.specs.Records.{Holds}
 use Rattle.pcap_classic.specs.Contents.{contents}
-use Rattle.pcap_classic.specs.declared.captured.{Endianness.Endianness, Extent.Extent}
+use Rattle.pcap_classic.specs.declared.captured.{Endianness.Endianness, Extent.Extent, TheConstants.RECORD_HEADER}
 use Rattle.pcap_classic.specs.declared.ending.Ending.{Ending, TheVariants.Whole, TheVariants.CutHeader, TheVariants.CutData}
 use Rattle.pcap_classic.specs.declared.captured.Extent.TheVariants.{Nothing, PartOfHeader, PartOfData, WholeRecord}
 use Rattle.pcap_classic.specs.declared.{header.TheConstants.FILE_HEADER, index.TheConstants.STRIDE}
@@ -20,13 +20,11 @@ pub record AreKept (order : Endianness) (file : List ℕ) (starts : List ℕ) (c
   pub no_more : STRIDE * length starts < count + STRIDE
   pub each : (j : ℕ) → j < length starts → IsRecordStart order file (STRIDE * j) (slice_index starts j)
 
--- the starts are the places of the records 1, 65, 129 and so on, as far as they go
-pub record AreStarts (order : Endianness) (file : List ℕ) (starts : List ℕ) : Type 0 where
-  pub each : (j : ℕ) → j < length starts → IsRecordStart order file (STRIDE * j) (slice_index starts j)
-
--- the first `count` records have all this length
-pub record AreEven (order : Endianness) (file : List ℕ) (size count : ℕ) : Type 0 where
-  pub each : (i : ℕ) → i ≤ count → IsRecordStart order file i (FILE_HEADER + i * size)
+-- the first `count` records stand before this place, and the starts are kept of them
+pub record ArePassed (order : Endianness) (file : List ℕ) (count : ℕ) (starts : List ℕ) (place : ℕ) : Type 0 where
+  pub here : IsRecordStart order file count place
+  pub kept : AreKept order file starts count
+  pub few : RECORD_HEADER * count + FILE_HEADER ≤ place
 
 -- the number of records, the places of the records 1, 65, 129 and so on, and how the file ends
 pub record IsIndex (order : Endianness) (file : List ℕ) (count : ℕ) (starts : List ℕ) (how : Ending) : Type 0 where

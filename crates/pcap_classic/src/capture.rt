@@ -4,7 +4,7 @@ ghost use Rattle.std.specs.Prelude.{◌≡◌, ◌≤◌, ◌<◌, ◌+◌, ◌-
 ghost use Rattle.std.specs.Prelude.{IfSome};
 ghost use Rattle.std.specs.Option.{option_map};
 ghost use Rattle.pcap_classic.specs.Lent.{record_of};
-ghost use Rattle.pcap_classic.specs.Records.{StartsAt};
+ghost use Rattle.pcap_classic.specs.Records.{StartsAt, AreNumbered};
 ghost use Rattle.pcap_classic.specs.Savefile.{IsSavefile, IsRefusal};
 
 use crate::captured::{Captured, RECORD_HEADER, file_record};
@@ -40,8 +40,8 @@ impl<A: Allocator> Model for Capture<A> {
 }
 
 impl<A: Allocator> Capture<A> {
-    /// The capture that a file's bytes hold. The bytes are kept, and no record is copied. The allocator is
-    /// asked once, for 8 bytes for each 64 records and for what is left of them.
+    /// The capture that a file's bytes hold. The bytes are kept, and no record is copied. The index of the records
+    /// grows with those that are found: it takes at most 16 bytes for each 64 records, and at least 32.
     ///
     /// # Errors
     ///
@@ -63,6 +63,18 @@ impl<A: Allocator> Capture<A> {
             }),
             Err(_) => Err((CaptureFault::Memory, bytes)),
         }
+    }
+
+    /// The same, where the bytes are dropped if they are refused, so that `?` takes the fault.
+    ///
+    /// # Errors
+    ///
+    /// Those of [`Capture::from_bytes`].
+    pub fn new(alloc: A, bytes: Vec<u8, A>) -> Result<Capture<A>, CaptureFault>
+        ensures capture { IfOk result (λ c. IsSavefile bytes.items c) }
+        ensures refused { IfErr result (λ e. IsRefusal e bytes.items) }
+    {
+        Capture::from_bytes(alloc, bytes).map_err(|refused| refused.0)
     }
 
     /// The number of records.
@@ -143,6 +155,15 @@ impl<A: Allocator> Capture<A> {
         file_record(self.header.magic.order, self.file.as_slice(), n, start)
     }
 
+    /// All records, in order. Record `n`, counted from 1, has number `n`.
+    #[inline]
+    pub fn iter(&self) -> Records<'_>
+        ensures all { result ≡ self.now.records }
+        ensures numbered { AreNumbered 0 self.now.records }
+    {
+        self.records(1, self.index.count + 1)
+    }
+
     /// The records from number `from` on, counted from 1, up to the one before number `end`, or to the last. It takes
     /// time for up to 63 records before the first.
     #[inline]
@@ -183,5 +204,21 @@ impl<A: Allocator> Capture<A> {
         let order = self.header.magic.order;
         let place = item.start + RECORD_HEADER + item.bytes.len();
         Some(file_record(order, self.file.as_slice(), item.number + 1, place))
+    }
+}
+
+impl<'a, A: Allocator> IntoIterator for &'a Capture<A> {
+    type Item = Captured<'a>;
+
+    type IntoIter = Records<'a>;
+
+    ghost use Rattle.std.specs.Prelude.{◌≡◌};
+    ghost use Rattle.pcap_classic.specs.Records.{AreNumbered};
+
+    ghost into_iter_gives = { λ capture all. (all ≡ capture.now.records) × AreNumbered 0 capture.now.records };
+
+    #[inline]
+    fn into_iter(self) -> Records<'a> {
+        self.iter()
     }
 }

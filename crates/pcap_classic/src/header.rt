@@ -2,8 +2,11 @@
 
 ghost use Rattle.std.specs.Prelude.{◌≡◌, ◌≤◌, length};
 ghost use Rattle.pcap_classic.specs.Contents as spec;
+ghost use Rattle.pcap_classic.specs.Messages.{capture_message};
 
 use crate::captured::Endianness;
+use std::error::Error;
+use std::fmt;
 
 /// The length of a file header in bytes.
 pub(crate) const FILE_HEADER: usize = 24;
@@ -24,6 +27,33 @@ pub enum CaptureFault {
     /// Out of memory for the index of the records. The bytes are a capture.
     Memory,
 }
+
+impl CaptureFault {
+    /// What the program prints of it after `error: `.
+    pub fn message(&self) -> &'static str
+        ensures { result.now ≡ capture_message self.now }
+    {
+        match *self {
+            CaptureFault::FileHeaderCut => "P1 file header is cut",
+            CaptureFault::UnknownMagic => "P2 unknown magic",
+            CaptureFault::UnknownVersion => "P3 version is not 2.4",
+            CaptureFault::Memory => "out of memory",
+        }
+    }
+}
+
+impl fmt::Display for CaptureFault {
+    ghost use Rattle.std.specs.Prelude.{Some};
+    ghost use Rattle.pcap_classic.specs.Messages.{capture_message};
+
+    ghost output = { λ fault. Some (capture_message fault) };
+
+    fn fmt<W: fmt::Write>(&self, f: &mut fmt::Formatter<W>) -> fmt::Result {
+        f.write_str(self.message())
+    }
+}
+
+impl Error for CaptureFault {}
 
 /// Why some bytes have no header of a capture: the first of these reasons that stands. Each is the `CaptureFault` of
 /// the same name.
@@ -51,6 +81,19 @@ impl From<HeaderFault> for CaptureFault {
         }
     }
 }
+
+impl fmt::Display for HeaderFault {
+    ghost use Rattle.std.specs.Prelude.{Some};
+    ghost use Rattle.pcap_classic.specs.Messages.{header_message};
+
+    ghost output = { λ fault. Some (header_message fault) };
+
+    fn fmt<W: fmt::Write>(&self, f: &mut fmt::Formatter<W>) -> fmt::Result {
+        f.write_str(CaptureFault::from(*self).message())
+    }
+}
+
+impl Error for HeaderFault {}
 
 /// What the magic number of a file says.
 #[derive(Clone, Copy)]

@@ -1,21 +1,20 @@
-//! The passes over the headers of all records, and the way from a kept start to a later one.
+//! The pass over the headers of all records, and the way from a kept start to a later one.
 
-ghost use Rattle.std.specs.Prelude.{◌≡◌, ◌≢◌, ◌≤◌, ◌<◌, ◌+◌, ◌-◌, ◌*◌, ◌^◌, ◌↔◌, ℕ, List, length, drop, true, IfOk, OnErr};
-ghost use Rattle.pcap_classic.specs.Index.{IsIndex, AreEven, AreKept, AreStarts, IsRecordStart};
+ghost use Rattle.std.specs.Prelude.{◌≡◌, ◌≢◌, ◌≤◌, ◌<◌, ◌+◌, ◌-◌, ◌↔◌, ℕ, List, length, drop, true, IfOk, OnOk, OnErr};
+ghost use Rattle.pcap_classic.specs.Index.{IsIndex, AreKept, ArePassed, IsRecordStart};
 ghost use Rattle.pcap_classic.specs.Contents as spec;
-ghost use Rattle.pcap_classic.specs.declared.captured.{Extent.TheVariants.WholeRecord, TheConstants.RECORD_HEADER};
+ghost use Rattle.pcap_classic.specs.declared.captured.{Endianness.Endianness, Extent.TheVariants.WholeRecord};
 ghost use Rattle.pcap_classic.specs.declared.header.TheConstants.{FILE_HEADER};
 
 use crate::captured::{Endianness, Extent, extent_of, record_length};
 use crate::ending::{Ending, ending_by};
 use crate::header::FILE_HEADER;
-use arrayvec::ArrayVec;
 use std::alloc::{AllocError, Allocator};
 
 /// How many records apart the kept starts are.
 pub(crate) const STRIDE: u64 = 64;
 
-/// What the passes over the headers of all records find out.
+/// What the pass over the headers of all records finds out.
 #[derive(Drop)]
 pub(crate) struct Index<A: Allocator> {
     /// The number of whole records.
@@ -25,180 +24,69 @@ pub(crate) struct Index<A: Allocator> {
     pub(crate) ending: Ending,
 }
 
-/// After a length was repeated so many times, the next record is taken to repeat it too.
-// The place after that record is then known before its header comes from memory. Records of mixed lengths seldom
-// have so many repeats, and a wrong guess costs more than the wait.
-const REPEATS: u32 = 4;
+/// Keeps the start of the record after `count` others, where it is one to keep.
+#[inline(always)]
+fn keep_start<A: Allocator>(
+    starts: &mut Vec<usize, A>,
+    count: u64,
+    place: usize,
+) -> Result<(), AllocError>
+    ensures { OnOk result ((order : Endianness) → (file : List ℕ) → IsRecordStart order file count place →
+        AreKept order file starts.old.items count → AreKept order file starts.new.items (count + 1)) }
+{
+    if count % STRIDE == 0 {
+        starts.push(place)?;
+    }
+    Ok(())
+}
+
+/// The records before a place.
+#[derive(Drop)]
+struct Passed<A: Allocator> {
+    /// Their number.
+    count: u64,
+    /// The places of the records 1, 65, 129 and so on of them.
+    starts: Vec<usize, A>,
+    /// The place after them.
+    place: usize,
+}
 
 /// Whether a whole record of this length is in front.
 #[inline(always)]
-fn is_record_of(order: Endianness, bytes: &[u8], length: usize) -> bool
-    ensures { (result ≡ true) ↔ (spec.extent_of order bytes.now ≡ WholeRecord length) }
+fn is_record_of(order: Endianness, bytes: &[u8], size: usize) -> bool
+    ensures { (result ≡ true) ↔ (spec.extent_of order bytes.now ≡ WholeRecord size) }
 {
     match extent_of(order, bytes) {
-        Extent::WholeRecord(found) => found == length,
+        Extent::WholeRecord(found) => found == size,
         _ => false,
     }
 }
 
-/// The starts that the pass over the headers keeps, as long as there is room for them.
-// They lie on the stack: 64,000 bytes, for the first 512,000 records.
-type Starts = ArrayVec<usize, 8000>;
-
-/// Keeps the place of the record after `count` others, where it is the next one to keep.
-#[inline(always)]
-fn keep_start(starts: &mut Starts, count: u64, place: usize)
-    ensures { (order : Endianness) → (file : List ℕ) → IsRecordStart order file count place →
-        AreStarts order file starts.old.items → AreStarts order file starts.new.items }
-{
-    if count % STRIDE == 0 && count / STRIDE == starts.len() as u64 {
-        let _ = starts.try_push(place);
-    }
-}
-
-/// The records before a place, and the place.
-#[derive(Clone, Copy)]
-struct Passed {
-    count: u64,
-    place: usize,
-}
-
-/// Passes the records from a place on that have this length.
+/// Passes the records from the place on that have this length.
+// The processor takes the next one to have it too. So it goes on to the place after that one before its header comes
+// from memory, which takes longer than all the rest.
 #[inline]
-fn pass_repeats(
+fn pass_repeats<A: Allocator>(
     order: Endianness,
     file: &[u8],
-    length: usize,
-    starts: &mut Starts,
-    from: Passed,
-) -> Passed
-    requires here { IsRecordStart order file.now from.count from.place }
-    requires few { RECORD_HEADER * from.count + FILE_HEADER ≤ from.place }
-    requires kept { AreStarts order file.now starts.old.items }
-    ensures here { IsRecordStart order file.now result.count result.place }
-    ensures few { RECORD_HEADER * result.count + FILE_HEADER ≤ result.place }
-    ensures kept { AreStarts order file.now starts.new.items }
-    ensures on { from.place ≤ result.place }
-    ensures even { from.count ≡ 0 → from.place ≡ FILE_HEADER → AreEven order file.now length result.count }
-    ensures all { spec.extent_of order (drop result.place file.now) ≢ WholeRecord length }
+    size: usize,
+    passed: &mut Passed<A>,
+) -> Result<(), AllocError>
+    requires { ArePassed order file.now passed.old.count passed.old.starts.items passed.old.place }
+    ensures passed { OnOk result (ArePassed order file.now passed.new.count passed.new.starts.items passed.new.place) }
+    ensures on { passed.old.place ≤ passed.new.place }
+    ensures all { OnOk result (spec.extent_of order (drop passed.new.place file.now) ≢ WholeRecord size) }
+    ensures refused { OnErr result (0 < length (spec.contents order file.now).records) }
 {
-    let Passed {
-        mut count,
-        mut place,
-    } = from;
-    'repeats: while is_record_of(order, &file[place..], length) {
-        keep_start(starts, count, place);
-        count += 1;
-        place += length;
+    'repeats: while is_record_of(order, &file[passed.place..], size) {
+        keep_start(&mut passed.starts, passed.count, passed.place)?;
+        passed.count += 1;
+        passed.place += size;
     }
-    Passed { count, place }
-}
-
-/// Passes all records from a place on.
-fn pass_all(order: Endianness, file: &[u8], starts: &mut Starts, from: Passed) -> Passed
-    requires here { IsRecordStart order file.now from.count from.place }
-    requires few { RECORD_HEADER * from.count + FILE_HEADER ≤ from.place }
-    requires kept { AreStarts order file.now starts.old.items }
-    ensures here { IsRecordStart order file.now result.count result.place }
-    ensures few { RECORD_HEADER * result.count + FILE_HEADER ≤ result.place }
-    ensures kept { AreStarts order file.now starts.new.items }
-    ensures end { (size : ℕ) → spec.extent_of order (drop result.place file.now) ≢ WholeRecord size }
-{
-    let Passed {
-        mut count,
-        mut place,
-    } = from;
-    let mut last = 0;
-    let mut repeats = 0u32;
-    'records: while let Extent::WholeRecord(length) = extent_of(order, &file[place..]) {
-        keep_start(starts, count, place);
-        count += 1;
-        place += length;
-        repeats = if length == last { repeats + 1 } else { 0 };
-        last = length;
-        if repeats == REPEATS {
-            let passed = pass_repeats(order, file, length, starts, Passed { count, place });
-            count = passed.count;
-            place = passed.place;
-            repeats = 0;
-        }
-    }
-    Passed { count, place }
-}
-
-/// The first records of a file, up to the first one of another length.
-#[derive(Clone, Copy)]
-struct FirstRun {
-    length: usize,
-    count: u64,
-}
-
-/// The place of the record after `count` others: by the first run or by the starts that are kept, and else by the way
-/// from an earlier record.
-fn start_after(
-    order: Endianness,
-    file: &[u8],
-    run: FirstRun,
-    starts: &[usize],
-    from: Passed,
-    count: u64,
-) -> usize
-    requires here { IsRecordStart order file.now from.count from.place }
-    requires ahead { from.count ≤ count }
-    requires within { count ≤ length (spec.contents order file.now).records }
-    requires kept { AreStarts order file.now starts.now }
-    requires even { AreEven order file.now run.length run.count }
-    ensures { IsRecordStart order file.now count result }
-{
-    if count <= run.count {
-        return FILE_HEADER + count as usize * run.length;
-    }
-    if count % STRIDE == 0 {
-        if let Some(start) = starts.get((count / STRIDE) as usize) {
-            return *start;
-        }
-    }
-    start_from(order, file, from.count, from.place, count)
-}
-
-/// The places of the records 1, 65, 129 and so on of a file that has so many records.
-fn starts_of<A: Allocator>(
-    alloc: A,
-    order: Endianness,
-    file: &[u8],
-    run: FirstRun,
-    starts: &[usize],
-    count: u64,
-) -> Result<Vec<usize, A>, AllocError>
-    requires first { IsRecordStart order file.now 0 FILE_HEADER }
-    requires count { count ≡ length (spec.contents order file.now).records }
-    requires few { count < 2 ^ 60 }
-    requires kept { AreStarts order file.now starts.now }
-    requires even { AreEven order file.now run.length run.count }
-    ensures kept { IfOk result (λ all. AreKept order file.now all.items count) }
-    ensures refused { OnErr result (0 < count) }
-{
-    let room = (count + (STRIDE - 1)) / STRIDE;
-    let mut all = Vec::with_capacity(alloc, room as usize)?;
-    let mut from = Passed {
-        count: 0,
-        place: FILE_HEADER,
-    };
-    'starts: for n in 0..room {
-        let place = start_after(order, file, run, starts, from, n * STRIDE);
-        all.push(place)?;
-        from = Passed {
-            count: n * STRIDE,
-            place,
-        };
-    }
-    Ok(all)
+    Ok(())
 }
 
 /// The index of a file with a whole header.
-// The starts get their room at once, when the number of records is known. So no room is left over, and none is asked
-// for twice. What the pass over the headers keeps meanwhile spares a second pass, but for the records of mixed lengths
-// after the first 512,000.
 pub(crate) fn index_of<A: Allocator>(
     alloc: A,
     order: Endianness,
@@ -208,26 +96,18 @@ pub(crate) fn index_of<A: Allocator>(
     ensures index { IfOk result (λ index. IsIndex order file.now index.count index.starts.items index.ending) }
     ensures refused { OnErr result (0 < length (spec.contents order file.now).records) }
 {
-    let mut kept = Starts::new();
-    let length = match extent_of(order, &file[FILE_HEADER..]) {
-        Extent::WholeRecord(length) => length,
-        _ => 0,
-    };
-    let header = Passed {
+    let mut passed = Passed {
         count: 0,
+        starts: Vec::new(alloc),
         place: FILE_HEADER,
     };
-    let first = pass_repeats(order, file, length, &mut kept, header);
-    let run = FirstRun {
-        length,
-        count: first.count,
-    };
-    let Passed { count, place } = pass_all(order, file, &mut kept, first);
-    let starts = starts_of(alloc, order, file, run, kept.as_slice(), count)?;
-    let ending = ending_by(extent_of(order, &file[place..]), place);
+    'lengths: while let Extent::WholeRecord(size) = extent_of(order, &file[passed.place..]) {
+        pass_repeats(order, file, size, &mut passed)?;
+    }
+    let ending = ending_by(extent_of(order, &file[passed.place..]), passed.place);
     Ok(Index {
-        count,
-        starts,
+        count: passed.count,
+        starts: passed.starts,
         ending,
     })
 }

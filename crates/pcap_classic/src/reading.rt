@@ -1,7 +1,8 @@
 //! Why a capture can't be read further.
 
 use crate::header::HeaderFault;
-use std::io;
+use std::error::Error;
+use std::{fmt, io};
 
 /// Why a reader's next bytes can't be taken.
 #[derive(Debug, Drop)]
@@ -12,6 +13,22 @@ pub enum ReadFault {
     Memory,
 }
 
+impl fmt::Display for ReadFault {
+    ghost use Rattle.std.specs.Prelude.{Some};
+    ghost use Rattle.pcap_classic.specs.Messages.{read_message};
+
+    ghost output = { λ fault. Some (read_message fault) };
+
+    fn fmt<W: fmt::Write>(&self, f: &mut fmt::Formatter<W>) -> fmt::Result {
+        match self {
+            ReadFault::Read(_) => f.write_str("read fault"),
+            ReadFault::Memory => f.write_str("out of memory"),
+        }
+    }
+}
+
+impl Error for ReadFault {}
+
 /// Why a capture can't be read from a reader's first bytes.
 #[derive(Debug, Drop)]
 pub enum OpenFault {
@@ -20,3 +37,19 @@ pub enum OpenFault {
     /// There was a fault before the header was read.
     Read(ReadFault),
 }
+
+impl fmt::Display for OpenFault {
+    ghost use Rattle.std.specs.Prelude.{Some};
+    ghost use Rattle.pcap_classic.specs.Messages.{open_message};
+
+    ghost output = { λ fault. Some (open_message fault) };
+
+    fn fmt<W: fmt::Write>(&self, f: &mut fmt::Formatter<W>) -> fmt::Result {
+        match self {
+            OpenFault::Header(fault) => write!(f, "{fault}"),
+            OpenFault::Read(fault) => write!(f, "{fault}"),
+        }
+    }
+}
+
+impl Error for OpenFault {}

@@ -1,0 +1,31 @@
+-- What the faults of a capture say, without `error: ` (this project's own).
+use Rattle.std.specs.Prelude.{List, ℕ, codes}
+use Rattle.pcap_classic.specs.Savefile.{capture_fault}
+use Rattle.pcap_classic.specs.declared.header.CaptureFault.{CaptureFault}
+use Rattle.pcap_classic.specs.declared.header.CaptureFault.TheVariants as capture
+use Rattle.pcap_classic.specs.declared.header.HeaderFault.{HeaderFault}
+use Rattle.pcap_classic.specs.declared.reading.OpenFault.{OpenFault}
+use Rattle.pcap_classic.specs.declared.reading.OpenFault.TheVariants as opening
+use Rattle.pcap_classic.specs.declared.reading.ReadFault.{ReadFault}
+use Rattle.pcap_classic.specs.declared.reading.ReadFault.TheVariants as reading
+
+abbrev pub out_of_memory : List ℕ
+out_of_memory = codes "out of memory"
+
+abbrev pub capture_message : CaptureFault → List ℕ
+capture_message capture.FileHeaderCut = codes "P1 file header is cut"
+capture_message capture.UnknownMagic = codes "P2 unknown magic"
+capture_message capture.UnknownVersion = codes "P3 version is not 2.4"
+capture_message capture.Memory = out_of_memory
+
+-- as the fault of the same name
+abbrev pub header_message : HeaderFault → List ℕ
+header_message fault = capture_message (capture_fault fault)
+
+abbrev pub read_message : ReadFault → List ℕ
+read_message (reading.Read cause) = codes "read fault"
+read_message reading.Memory = out_of_memory
+
+abbrev pub open_message : OpenFault → List ℕ
+open_message (opening.Header fault) = header_message fault
+open_message (opening.Read fault) = read_message fault
