@@ -12,7 +12,8 @@ use Rattle.cbpf_machine.specs.declared.outcome.Outcome.TheVariants as outcome_is
 use Rattle.cbpf_machine.specs.Trace.{outcome}
 use Rattle.pcap_classic.specs.Records.{Record}
 use Rattle.cbpf_machine.proofs.ListLemmas.{take-slice_get}
-use Rattle.cbpf_dbg.specs.Joined.{outcomes, counts, is_pass, is_fail, is_open}
+use Rattle.cbpf_machine.specs.Outcomes.{is_fail, is_open, is_pass}
+use Rattle.cbpf_dbg.specs.Joined.{outcomes, counts}
 use Rattle.cbpf_dbg.specs.Cursor.{Stands, Countable, with_outcome}
 use Rattle.cbpf_dbg.specs.declared.cursor.Cursor.{Cursor}
 

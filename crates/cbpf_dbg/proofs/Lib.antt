@@ -14,3 +14,4 @@ pub mod ShownLemmas
 pub mod ShownStops
 pub mod RisingLemmas
 pub mod ResumeLemmas
+pub mod HereLemmas

@@ -39,7 +39,7 @@ answer machine capture place x =
     cond (length capture == 0) (Err NoPackets) (cond (has_packet capture place.packet)
     (cond (nat_le place.step steps) (Ok x) (Err (NoStep steps))) (Err NoPacket))
 
-taken : (machine : Machine) (capture : List Record) (place : Place) (x : Unit {0} × View) → 1 ≤ place.packet
+pub taken : (machine : Machine) (capture : List Record) (place : Place) (x : Unit {0} × View) → 1 ≤ place.packet
     → IsInside capture place → place.step ≤ steps_of machine (slice_get capture (place.packet - 1))
     → IsOk (answer machine capture place x) ⊎ (answer machine capture place x ≡ Err NoPackets)
 taken machine [] place x one inside steps = inr refl

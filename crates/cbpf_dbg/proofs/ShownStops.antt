@@ -33,7 +33,7 @@ use Rattle.cbpf_dbg.proofs.WholeLemmas.{HasLoaded}
 use Rattle.cbpf_dbg.specs.Breakpoints.{Breakpoints}
 
 -- an element has what all have
-All-slice_get : {X : Type 0} (P : X → Type 0) (xs : List X) (i : ℕ) (x : X) → All P xs → slice_get xs i ≡ Some x → P x
+pub All-slice_get : {X : Type 0} (P : X → Type 0) (xs : List X) (i : ℕ) (x : X) → All P xs → slice_get xs i ≡ Some x → P x
 All-slice_get P xs i x all e =
     subst P (get_or_from_slice_get xs i x x e) (All-get_or P xs i x (slice_get_within xs i x e) all)
 

@@ -1,14 +1,14 @@
 -- The entries of all packets of a capture, in order, the ones among them at which a debugger stops,
 -- and the outcomes of packets (this project's own, over the trace of Linux Documentation/networking/filter's machine
 -- and the records of pcap-savefile(5)).
-use Rattle.std.specs.Prelude.{ℕ, ◌+◌, ◌-◌, ◌&&◌, ◌||◌, not, Bool, true, false, List, [], ◌∷◌, ◌++◌}
+use Rattle.std.specs.Prelude.{ℕ, ◌+◌, ◌-◌, ◌&&◌, ◌||◌, not, Bool, List, [], ◌∷◌, ◌++◌}
 use Rattle.std.specs.Prelude.{map, filter, take, drop, count_by, is_some}
 use Rattle.std.specs.Option.{option_map_or}
 use Rattle.cbpf_machine.specs.Registers.{Registers}
 use Rattle.cbpf_machine.specs.declared.outcome.Turn.{Turn}
 use Rattle.cbpf_machine.specs.declared.outcome.Outcome.{Outcome}
-use Rattle.cbpf_machine.specs.declared.outcome.Outcome.TheVariants as outcome_is
 use Rattle.cbpf_machine.specs.Machine.{Machine}
+use Rattle.cbpf_machine.specs.Outcomes.{is_fail, is_open, is_pass}
 use Rattle.cbpf_machine.specs.Turn.{turn, asked}
 use Rattle.cbpf_machine.specs.Trace.{trace, outcome}
 use Rattle.pcap_classic.specs.Records.{Record}
@@ -70,18 +70,6 @@ every_stop machine capture breakpoints = map (stop_at why.Break) (filter (is_hit
 -- the hits after a place
 abbrev pub rest : Machine → List Record → Breakpoints → Place → List Stop
 rest machine capture breakpoints place = filter (λ h. is_after place h.place) (every_stop machine capture breakpoints)
-
-abbrev pub is_pass : Outcome → Bool
-is_pass (outcome_is.Pass v) = true
-is_pass _ = false
-
-abbrev pub is_fail : Outcome → Bool
-is_fail outcome_is.Fail = true
-is_fail _ = false
-
-abbrev pub is_open : Outcome → Bool
-is_open (outcome_is.Unknown e) = true
-is_open _ = false
 
 -- the outcomes of the packets from a number up to, not including, another
 abbrev pub outcomes : Machine → List Record → ℕ → ℕ → List Outcome

@@ -1,6 +1,7 @@
 //! The commands of a session that ask or move its place.
 
-ghost use Rattle.std.specs.Prelude.{◌≡◌, ◌≤◌, ◌<◌, ◌+◌, length, ◌*◌, ◌^◌, ◌<ℤ◌, pos, IfErr, IfOk, OnErr, OnOk};
+ghost use Rattle.std.specs.Prelude.{◌≡◌, ◌≤◌, ◌<◌, ◌+◌, length, ◌*◌, ◌^◌, ◌<ℤ◌, pos, IfErr, IfOk, IfSome, OnErr, OnOk};
+ghost use Rattle.cbpf_dbg.specs.Here.{CanReturn, IsHere, Returns, stop_here};
 ghost use Rattle.cbpf_dbg.specs.Shown.{CanShow, Shows};
 ghost use Rattle.cbpf_machine.specs.Trail.{most_turns_back};
 ghost use Rattle.std.specs.List.{All};
@@ -8,7 +9,7 @@ ghost use Rattle.cbpf_code.specs.Writing.{Wrote};
 ghost use Rattle.cbpf_dbg.specs.Commands as spec;
 ghost use Rattle.cbpf_dbg.specs.Shown as shown;
 
-use crate::cursor::{Cursor, Walk};
+use crate::cursor::{Cursor, Walk, stop_at};
 use crate::loaded::Loaded;
 use crate::resume::resume_at;
 use crate::run::run_to_limit;
@@ -17,7 +18,7 @@ use crate::step::{step_back, step_on};
 use crate::stops::Stops;
 use cbpf_code::WriteFault;
 use cbpf_machine::{Meter, Trail};
-use cbpf_reply::{Place, RunReply, SessionFault, Stop};
+use cbpf_reply::{Place, RunReply, SessionFault, Stop, Why};
 use std::alloc::Allocator;
 use std::io::Write;
 
@@ -62,6 +63,29 @@ impl<T: Trail, A: Allocator> Session<T, A> {
         Ok(self.cursor.place)
     }
 
+    /// The stop at the place: where it is, with the registers there. `None` before a packet's first instruction, and
+    /// where no program or no capture is loaded.
+    ///
+    /// Its reason is that of [`Session::run`] where a run stops there, and else that of [`Session::step`].
+    pub fn here(&self) -> Option<Stop>
+        ensures stop { result ≡ stop_here self.now }
+        ensures shown { IfSome result (CanShow self.now) }
+    {
+        let (Some(program), Some(_)) = (&self.program, &self.capture) else {
+            return None;
+        };
+        if self.cursor.place.step == 0 {
+            return None;
+        }
+        let _few = program.len();
+        let reason = if self.watched.pauses_at(&self.cursor.state) {
+            Why::Break
+        } else {
+            Why::Step
+        };
+        Some(stop_at(program, &self.values, &self.cursor, reason))
+    }
+
     /// Goes on to the next hit, where fewer than `limit` packets are finished before it, else to the
     /// limit or the end.
     ///
@@ -82,6 +106,9 @@ impl<T: Trail, A: Allocator> Session<T, A> {
 
         // A stop is one that `write_stop` takes.
         ensures shown { IfOk result (λ reply. Shows self.new reply) }
+
+        // The session is at its stop, and can come back to it.
+        ensures returns { IfOk result (λ reply. Returns self.new reply) }
     {
         let loaded = loaded_in!(self);
         if let Some(0) = limit {
@@ -143,6 +170,7 @@ impl<T: Trail, A: Allocator> Session<T, A> {
         ensures back_turns { n <ℤ pos 0 → OnOk result (meter.new ≡ meter.old + T.turns_back self.new.place.step) }
         ensures refused { OnErr result (meter.new ≡ meter.old) }
         ensures shown { IfOk result (λ reply. Shows self.new reply) }
+        ensures here { IfOk result (λ reply. IsHere self.new reply) }
     {
         let loaded = loaded_in!(self);
         let packets = loaded.capture.count();
@@ -192,6 +220,7 @@ impl<T: Trail, A: Allocator> Session<T, A> {
     pub fn stops(&self) -> Result<Stops<'_, A>, SessionFault>
         ensures hits { result ≡ spec.stops self.now }
         ensures shown { IfOk result (λ hits. All (CanShow self.now) hits) }
+        ensures returns { IfOk result (λ hits. All (CanReturn self.now) hits) }
         ensures few { IfOk result (λ hits. length hits < 2 ^ 128) }
     {
         let loaded = loaded_in!(self);

@@ -2,7 +2,7 @@
 
 ghost use Rattle.std.specs.Prelude.{◌≡◌, ◌+◌, ◌-◌, ◌<◌, ◌≤◌, ◌^◌, ℕ, List, length, min, Some, slice_get};
 ghost use Rattle.cbpf_code.specs.Sound.{IsSound};
-ghost use Rattle.cbpf_machine.specs.Machine.{Machine};
+ghost use Rattle.cbpf_machine.specs.Machine.{Machine, machine_of};
 ghost use Rattle.pcap_classic.specs.Lent.{record_of};
 ghost use Rattle.pcap_classic.specs.Records.{Record};
 ghost use Rattle.cbpf_dbg.specs.Loaded.{machine_in, records_in};
@@ -13,7 +13,10 @@ ghost use Rattle.cbpf_machine.specs.declared.follow.Followed.TheVariants as ways
 ghost use Rattle.cbpf_dbg.specs.Joined as joined;
 
 use crate::loaded::Loaded;
-use cbpf_machine::{Followed, Meter, Outcome, Packet, State, missing_extension, turn_in_place};
+use cbpf_code::Program;
+use cbpf_machine::{
+    Followed, Meter, Outcome, Packet, State, Values, missing_extension, turn_in_place,
+};
 use cbpf_reply::{Counts, Place, Stop, Why};
 use pcap_classic::{Captured, Records};
 use std::alloc::Allocator;
@@ -222,12 +225,18 @@ pub(crate) fn enter_packet<A: Allocator>(
 /// The stop at the entry of a cursor, whose instruction is read without a turn.
 // Inlined, so that a stop is made where it is wanted, and not copied.
 #[inline(always)]
-pub(crate) fn stop_at<A: Allocator>(loaded: &Loaded<'_, A>, cursor: &Cursor, reason: Why) -> Stop
-    requires { cursor.now.state.pc < length loaded.now.program.now }
-    ensures { (r : Record) → result ≡ joined.stop_at reason (entry_here (machine_in loaded.now) r cursor.now) }
+pub(crate) fn stop_at<A: Allocator>(
+    program: &Program<A>,
+    values: &Values,
+    cursor: &Cursor,
+    reason: Why,
+) -> Stop
+    requires { cursor.now.state.pc < length program.now }
+    ensures { (r : Record) → result
+        ≡ joined.stop_at reason (entry_here (machine_of program.now values.now) r cursor.now) }
 {
-    let insn = loaded.program.at_index(cursor.state.pc());
-    let why = match missing_extension(insn, loaded.values) {
+    let insn = program.at_index(cursor.state.pc());
+    let why = match missing_extension(insn, values) {
         Some(e) => Why::Unknown(e),
         None => reason,
     };

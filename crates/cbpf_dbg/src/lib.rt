@@ -16,8 +16,10 @@ mod step;
 mod stops;
 mod watching;
 
-pub use cbpf_machine::{ListTrail, MarkTrail, Meter, State, Trail};
+pub use cbpf_code::{Ext, Program, WriteFault};
+pub use cbpf_machine::{ListTrail, MarkTrail, Meter, Packet, State, Trail, Values};
 pub use cbpf_reply::{Counts, Place, RunReply, SessionFault, Stop, When, Why};
 pub use law::rising_places;
+pub use pcap_classic::Capture;
 pub use session::Session;
 pub use stops::Stops;

@@ -226,7 +226,7 @@ fn run_to_hit<T: Trail, A: Allocator>(
     }
     let here = walk.left.front();
     walk.cursor.start = here.start;
-    Some(stop_at(loaded, &walk.cursor, Why::Break))
+    Some(stop_at(loaded.program, loaded.values, &walk.cursor, Why::Break))
 }
 
 /// Goes on to the next hit, to the limit of finished packets, or to the end.

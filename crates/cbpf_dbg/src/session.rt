@@ -6,6 +6,7 @@ ghost use Rattle.std.specs.Map.{lookup};
 ghost use Rattle.std.specs.Option.{option_map};
 ghost use Rattle.cbpf_machine.specs.Values.{value_of};
 ghost use Rattle.cbpf_dbg.specs.Commands as spec;
+ghost use Rattle.cbpf_dbg.specs.Here.{KeepsEntries};
 ghost use Rattle.cbpf_dbg.specs.View.{empty_view};
 ghost use Rattle.cbpf_reply.specs.declared.reply.SessionFault.TheVariants as fault;
 
@@ -248,6 +249,13 @@ impl<T: Trail, A: Allocator> Session<T, A> {
         ensures { result ≡ self.now.place }
     {
         self.cursor.place
+    }
+
+    /// The trail, which keeps the entries of the place's packet up to the place.
+    pub fn trail(&self) -> &T
+        ensures { KeepsEntries (λ xs. T.stands_for result.now xs) self.now }
+    {
+        &self.trail
     }
 
     /// How many breakpoints are set.

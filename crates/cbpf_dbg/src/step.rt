@@ -106,7 +106,12 @@ pub(crate) fn step_on<T: Trail, A: Allocator>(
                 trail.push(cursor.state);
                 if left == 1 {
                     cursor.start = here.start;
-                    return RunReply::Stopped(stop_at(loaded, cursor, Why::Step));
+                    return RunReply::Stopped(stop_at(
+                        loaded.program,
+                        loaded.values,
+                        cursor,
+                        Why::Step,
+                    ));
                 }
                 left -= 1;
             }
@@ -161,5 +166,5 @@ pub(crate) fn step_back<T: Trail, A: Allocator>(
     let state = trail.back(meter, loaded.program, packet, loaded.values, to);
     cursor.state = state;
     cursor.place.step = to;
-    Ok(stop_at(loaded, cursor, Why::Step))
+    Ok(stop_at(loaded.program, loaded.values, cursor, Why::Step))
 }

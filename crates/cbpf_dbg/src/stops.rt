@@ -94,7 +94,7 @@ fn next_stop<A: Allocator>(
             return None;
         }
     }
-    Some(stop_at(loaded, &walk.cursor, Why::Break))
+    Some(stop_at(loaded.program, loaded.values, &walk.cursor, Why::Break))
 }
 
 impl<'a, A: Allocator> Iterator for Stops<'a, A> {

@@ -3,6 +3,7 @@ use Rattle.std.proofs.Common.{◌≡◌, [], ◌∷◌, ◌++◌, arith, sym, ap
 use Rattle.cbpf_dbg.proofs.CarryLemmas.{known-sound}
 use Rattle.cbpf_dbg.proofs.WholeLemmas.{HasLoaded, stops-held, from_start, going-spare, going-found, going-stop}
 use Rattle.cbpf_dbg.proofs.WholeLemmas.{going-end, fewer, going-turns, end-turns}
+use Rattle.cbpf_dbg.proofs.HereLemmas.{going-returns, end-returns}
 use Rattle.cbpf_dbg.proofs.session.Session.run_to_end.Goals as goal
 
 pub runs-init : goal.runs-init
@@ -38,6 +39,10 @@ returns-then-is_err-clause-from_start g c = from_start c.args.self.now
 pub returns-then-is_err-clause-memory : goal.returns-then-is_err-clause-memory
 returns-then-is_err-clause-memory g c = λ _. let w = c.runs.invariant.going in
     rw c.reserve.ensures.items (going-found _ _ _ _ _ _ _ _ w.2)
+
+pub returns-then-is_err-clause-returns : goal.returns-then-is_err-clause-returns
+returns-then-is_err-clause-returns g c = λ all. let w = c.runs.invariant.going in
+    rw c.reserve.ensures.items (going-returns _ _ _ _ w.2.old_holds _ _ _ _ w.2 all)
 
 pub returns-then-is_err-clause-memory_turns : goal.returns-then-is_err-clause-memory_turns
 returns-then-is_err-clause-memory_turns g c = λ _. let w = c.runs.invariant.going in going-turns _ _ _ _ _ _ _ _ w.2
@@ -87,6 +92,13 @@ returns-in-Finished-clause-turns g c =
 
 pub returns-in-Finished-clause-from_start : goal.returns-in-Finished-clause-from_start
 returns-in-Finished-clause-from_start g c = from_start c.args.self.now
+
+pub returns-in-Finished-clause-returns : goal.returns-in-Finished-clause-returns
+returns-in-Finished-clause-returns g c = λ all.
+    let w = c.runs.invariant.going in
+    let end = going-end _ _ _ _ _ _ _ _ w.2 _ _ (rw c.in-Finished.is at c.in-Ok.ensures.ahead) (rw c.in-Finished.is at c.in-Ok.ensures.reply)
+    c.run.ensures.after in
+    end-returns _ _ _ _ w.2.old_holds _ _ end.1 (c.reserve.ensures.items ∙ end.2) all
 
 pub returns-in_default-clause-refused : goal.returns-in_default-clause-refused
 returns-in_default-clause-refused g c = search rules

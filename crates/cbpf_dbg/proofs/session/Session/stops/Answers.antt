@@ -5,6 +5,7 @@ use Rattle.cbpf_dbg.specs.Session.{Fits, IsKnown}
 use Rattle.cbpf_dbg.proofs.RecordsLeftLemmas.{all_left, is_end_of_all}
 use Rattle.cbpf_dbg.proofs.TurnCountLemmas.{few_hits, owed_bound}
 use Rattle.cbpf_dbg.proofs.CarryLemmas.{known-sound}
+use Rattle.cbpf_dbg.proofs.HereLemmas.{returns-rest}
 use Rattle.cbpf_dbg.proofs.ShownStops.{shows-rest}
 use Rattle.cbpf_dbg.proofs.session.Session.stops.Goals as goal
 
@@ -17,6 +18,16 @@ returns-clause-shown g c =
       capture = rw (← c.self.view_is) c.in-Some-capture.is;
     } in
     shows-rest _ _ _ holds _ (known-sound _ _ _ _ _ _ c.in-Some.is c.self.invariant.1) _
+
+pub returns-clause-returns : goal.returns-clause-returns
+returns-clause-returns g c =
+    let holds : HasLoaded (machine_of c.in-Some.program c.self.inside.values) c.in-Some-capture.capture c.args.self.now =
+    record {
+      program = rw (← c.self.view_is) c.in-Some.is;
+      values = rw (← c.self.view_is) refl;
+      capture = rw (← c.self.view_is) c.in-Some-capture.is;
+    } in
+    returns-rest _ _ _ holds _ _ (rw (← c.self.view_is) refl)
 
 pub returns-clause-few : goal.returns-clause-few
 returns-clause-few g c =
