@@ -1,4 +1,4 @@
-//! `cbpf`: an assembler and a debugger for classic BPF.
+//! `cbpf`: shows why packets pass or fail a classic BPF filter; assembles and debugs filters.
 #![tactic(auto)]
 
 ghost use Rattle.std.specs.Prelude.{◌≡◌};
@@ -8,10 +8,11 @@ ghost use Rattle.cbpf_tool.specs.Requests.{HasSortedPackets};
 ghost use Rattle.cbpf_tool.specs.RunJob.{request_status};
 
 use cbpf_tool::{
-    CreateFault, DiskFiles, Failure, Host, LineFault, Request, ToolFault, WhyFailure, read_request,
-    request_status, run_request,
+    CreateFault, DiskFiles, Failure, Host, LineFault, Remarks, Request, ToolFault, WhyFailure,
+    read_request, request_status, run_request, write_remarks,
 };
-use std::io::{self, BufWriter, ErrorKind, Printer};
+use std::alloc::Allocator;
+use std::io::{self, BufWriter, ErrorKind, Printer, Write};
 use std::process::ExitCode;
 use std::rt::{Env, Files};
 use std::{env, fs};
@@ -78,12 +79,34 @@ fn words<R: Env + AllocGlobal>(rt: &R) -> io::Result<Vec<String>> {
     Ok(words)
 }
 
-/// Says why the program failed, where it did, and gives the status with which it ends.
-fn end<R: Eprint>(rt: &R, done: &Result<(), WhyFailure>) -> ExitCode
+/// Writes what is to be said of a report to the standard error, by one write where there is memory.
+fn say<E: Print, A: Allocator>(errors: &E, alloc: A, remarks: &Remarks) {
+    match BufWriter::new(alloc, io::writer(errors)) {
+        Ok(mut w) => {
+            let _ = write_remarks(&mut w, remarks);
+            let _ = w.flush();
+        }
+        Err(_) => {
+            let _ = write_remarks(&mut io::writer(errors), remarks);
+        }
+    }
+}
+
+/// Says why the program failed, where it did, or what is to be said of a report, and gives the status with which the
+/// program ends.
+fn end<R: Eprint + AllocGlobal, E: Print>(
+    rt: &R,
+    errors: &E,
+    done: &Result<Option<Remarks>, WhyFailure>,
+) -> ExitCode
     ensures { exit_status result ≡ request_status done.now }
 {
-    if let Err(failure) = done {
-        let _ = eprintln!(rt; "cbpf: {failure}");
+    match done {
+        Ok(Some(remarks)) => say(errors, rt.alloc(), remarks),
+        Ok(None) => {}
+        Err(failure) => {
+            let _ = eprintln!(rt; "cbpf: {failure}");
+        }
     }
     request_status(done)
 }
@@ -91,7 +114,8 @@ fn end<R: Eprint>(rt: &R, done: &Result<(), WhyFailure>) -> ExitCode
 fn report<R: Eprint>(rt: &R, failure: Failure) -> ExitCode
     ensures { exit_status result ≡ 1 }
 {
-    end(rt, &Err(WhyFailure::Job(failure)))
+    let _ = eprintln!(rt; "cbpf: {failure}");
+    ExitCode::FAILURE
 }
 
 /// Prints help or the version. A reader that closes its pipe has seen enough of such a text.
@@ -111,19 +135,24 @@ fn refuse<R: Eprint>(rt: &R, text: &str) -> ExitCode
     ExitCode::from(2)
 }
 
-fn run<R: Input + Print + Eprint + Files + AllocGlobal>(rt: &R, request: Request) -> ExitCode
+fn run<R: Input + Print + Eprint + Files + AllocGlobal, E: Print>(
+    rt: &R,
+    errors: &E,
+    request: Request,
+) -> ExitCode
     requires sorted { HasSortedPackets request }
 {
     let done = run_request(rt.alloc(), &mut RealHost { rt }, request);
-    end(rt, &done)
+    end(rt, errors, &done)
 }
 
-fn do_request<R: Input + Print + Eprint + Files + AllocGlobal>(
+fn do_request<R: Input + Print + Eprint + Files + AllocGlobal, E: Print>(
     rt: &R,
+    errors: &E,
     words: Vec<String>,
 ) -> ExitCode {
     match read_request(rt.alloc(), words) {
-        Ok(request) => run(rt, request),
+        Ok(request) => run(rt, errors, request),
         Err(LineFault::Help(text)) => explain(rt, text.as_str()),
         Err(LineFault::Refused(text)) => refuse(rt, text.as_str()),
         Err(LineFault::Memory) => report(rt, Failure::Tool(ToolFault::Memory)),
@@ -132,7 +161,7 @@ fn do_request<R: Input + Print + Eprint + Files + AllocGlobal>(
 
 fn main(rt: HostRuntime) -> ExitCode {
     match words(&rt) {
-        Ok(words) => do_request(&rt, words),
+        Ok(words) => do_request(&rt, &rt.stderr(), words),
         Err(e) if e.kind() == ErrorKind::OutOfMemory => {
             report(&rt, Failure::Tool(ToolFault::Memory))
         }

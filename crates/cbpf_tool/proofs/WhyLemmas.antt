@@ -11,33 +11,34 @@ use Rattle.pcap_classic.specs.declared.reading.OpenFault.TheVariants.{Header, Re
 use Rattle.pcap_classic.specs.declared.reading.ReadFault.TheVariants as read_fault
 use Rattle.cbpf_why.specs.Reports.{Reported}
 use Rattle.cbpf_why.specs.declared.chosen.PacketRange.{PacketRange}
+use Rattle.cbpf_why.specs.declared.job.CaptureEnd.{CaptureEnd}
 use Rattle.cbpf_why.specs.declared.job.WhyFault.{WhyFault}
-use Rattle.cbpf_why.specs.declared.job.WhyFault.TheVariants.{Read, Write, Memory, NoPacket}
+use Rattle.cbpf_why.specs.declared.job.WhyFault.TheVariants.{Read, Write, Memory}
 use Rattle.cbpf_why.specs.declared.report.Report.{Report}
 use Rattle.cbpf_tool.specs.Hosted.{Hosted, IsReady, and_then, without_output, opened, printed}
 use Rattle.cbpf_tool.specs.WhyJobs.{Query, PrintsReport, prints, IsReported, ReportsOn, unread, no_capture, a_capture}
 use Rattle.cbpf_tool.specs.WhyJobs.{IsOpenFailure, OpensFilter, NotOpened}
+use Rattle.cbpf_tool.specs.declared.remarks.Remarks.{Remarks}
 use Rattle.cbpf_tool.specs.declared.why_failure.WhyFailure.{WhyFailure}
 use Rattle.cbpf_tool.proofs.HostLemmas.{appended-some, part-some}
 
 -- a report leaves a text in a writer that was empty
-reported-some : (q : Query) (c : Savefile) (new : Option (List ℕ)) (end : Result (Unit {0}) WhyFault)
-    → Reported q.report q.ranges q.machine c (Some []) new end → (text : List ℕ) × (new ≡ Some text)
-reported-some q c new (Ok x) h = appended-some [] new _ h.1
-reported-some q c new (Err Read) h = appended-some [] new _ h.3
-reported-some q c new (Err Memory) h = appended-some [] new _ h.3
-reported-some q c new (Err Write) h = part-some [] new _ h
-reported-some q c new (Err (NoPacket n)) h = appended-some [] new _ h.1
+reported-some : (q : Query) (c : Savefile) (count : ℕ) (new : Option (List ℕ)) (end : Result (Option CaptureEnd) WhyFault)
+    → Reported q.report q.ranges q.machine c count (Some []) new end → (text : List ℕ) × (new ≡ Some text)
+reported-some q c count new (Ok x) h = appended-some [] new _ h.1
+reported-some q c count new (Err Read) h = appended-some [] new _ h.wrote
+reported-some q c count new (Err Memory) h = appended-some [] new _ h.wrote
+reported-some q c count new (Err Write) h = part-some [] new _ h
 
-pub report-printed : (h mid new : Hosted) (q : Query) (name : Option (List ℕ)) (c : Savefile) (old w : Option (List ℕ))
-    (end : Result (Unit {0}) WhyFault) (r : Result (Unit {0}) WhyFailure) → mid ≡ without_output h → old ≡ Some []
-    → Reported q.report q.ranges q.machine c old w end
-    → ((text : List ℕ) → w ≡ Some text → new ≡ and_then mid (printed text ∷ [])) → IsReported name end r
-    → PrintsReport h new q name c r
-report-printed h mid new q name c old w end r m o d p e =
-    let b : Reported q.report q.ranges q.machine c (Some []) w end = rw o at d in
-    let some = reported-some q c w end b in
-    prints some.0 end (rw m at (p some.0 some.1)) (rw some.1 at b) e
+pub report-printed : (h mid new : Hosted) (q : Query) (name : Option (List ℕ)) (c : Savefile) (count : ℕ)
+    (old w : Option (List ℕ)) (end : Result (Option CaptureEnd) WhyFault) (r : Result (Option Remarks) WhyFailure)
+    → mid ≡ without_output h → old ≡ Some [] → Reported q.report q.ranges q.machine c count old w end
+    → ((text : List ℕ) → w ≡ Some text → new ≡ and_then mid (printed text ∷ []))
+    → IsReported q.report q.ranges name end r → PrintsReport h new q name c r
+report-printed h mid new q name c count old w end r m o d p e =
+    let b : Reported q.report q.ranges q.machine c count (Some []) w end = rw o at d in
+    let some = reported-some q c count w end b in
+    prints some.0 count end (rw m at (p some.0 some.1)) (rw some.1 at b) e
 
 pub some-and : {X : Type 0} (o : Option X) (P : X → Type 0) → IsSomeAnd o P → (x : X) × (o ≡ Some x) × P x
 some-and None P h = absurd h
@@ -52,7 +53,7 @@ open-refused h q name bytes (ReadAt (read_fault.Read x)) e refusal fails = unrea
 open-refused h q name bytes (ReadAt read_fault.Memory) e refusal fails = unread e refl (inr fails) refl
 
 -- a report on a file that was opened
-pub report-opened : (h mid new : Hosted) (name at bytes : List ℕ) (q : Query) (r : Result (Unit {0}) WhyFailure)
+pub report-opened : (h mid new : Hosted) (name at bytes : List ℕ) (q : Query) (r : Result (Option Remarks) WhyFailure)
     → at ≡ name → map.get h.files at ≡ Some bytes → mid ≡ and_then h (opened at ∷ [])
     → ReportsOn mid new q (Some name) bytes r
     → (x : List ℕ) × (map.get h.files name ≡ Some x) × ReportsOn (and_then h (opened name ∷ [])) new q (Some name) x r

@@ -21,4 +21,5 @@ pub mod Laws
 pub mod Totals
 pub mod RunJob
 pub mod Requests
+pub mod Remarks
 pub mod WhyJobs

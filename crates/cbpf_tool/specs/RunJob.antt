@@ -1,13 +1,15 @@
 -- What a job or a request of the command line does on a machine, and the status with which the program ends
 -- (this project's own).
-use Rattle.std.specs.Prelude.{◌≡◌, ℕ, Result, Ok, Err, string_bytes}
+use Rattle.std.specs.Prelude.{◌≡◌, ℕ, Bool, true, false, not, if◌then◌else◌, Option, Some, None, Result, Ok, Err, string_bytes}
 use Rattle.std.specs.Option.{option_map}
 use Rattle.cbpf_command_line.specs.declared.job.Job.{Job}
 use Rattle.cbpf_command_line.specs.declared.job.Job.TheVariants.{Asm, Dbg}
 use Rattle.cbpf_tool.specs.Hosted.{Hosted}
 use Rattle.cbpf_tool.specs.Jobs.{AsmJob, DbgJob}
+use Rattle.cbpf_tool.specs.Remarks.{lacks_packets}
 use Rattle.cbpf_tool.specs.WhyJobs.{WhyDone}
 use Rattle.cbpf_tool.specs.declared.failure.Failure.{Failure}
+use Rattle.cbpf_tool.specs.declared.remarks.Remarks.{Remarks}
 use Rattle.cbpf_tool.specs.declared.request.Request.{Request}
 use Rattle.cbpf_tool.specs.declared.request.Request.TheVariants.{Job as AJob, Why}
 use Rattle.cbpf_tool.specs.declared.why_failure.WhyFailure.{WhyFailure}
@@ -23,14 +25,19 @@ status (Ok x) = 0
 status (Err e) = 1
 
 -- the result of the program's two jobs as that of a request
-abbrev pub as_request : Result (Unit {0}) Failure → Result (Unit {0}) WhyFailure
-as_request (Ok x) = Ok x
+abbrev pub as_request : Result (Unit {0}) Failure → Result (Option Remarks) WhyFailure
+as_request (Ok x) = Ok None
 as_request (Err e) = Err (why_failure.Job e)
 
-abbrev pub RequestDone : Hosted → Hosted → Request → Result (Unit {0}) WhyFailure → Type 0
+abbrev pub RequestDone : Hosted → Hosted → Request → Result (Option Remarks) WhyFailure → Type 0
 RequestDone old new (AJob job) r = (done : Result (Unit {0}) Failure) × JobDone old new job done × (r ≡ as_request done)
 RequestDone old new (Why job) r = WhyDone old new job r
 
-abbrev pub request_status : Result (Unit {0}) WhyFailure → ℕ
-request_status (Ok x) = 0
-request_status (Err e) = 1
+-- a request was done, and the capture has each packet that was asked for
+abbrev pub is_done : Result (Option Remarks) WhyFailure → Bool
+is_done (Ok None) = true
+is_done (Ok (Some remarks)) = not (lacks_packets remarks)
+is_done (Err e) = false
+
+abbrev pub request_status : Result (Option Remarks) WhyFailure → ℕ
+request_status r = if is_done r then 0 else 1

@@ -12,11 +12,10 @@ use Rattle.pcap_classic.specs.declared.reading.OpenFault.{OpenFault}
 use Rattle.pcap_classic.specs.declared.reading.OpenFault.TheVariants as open_fault
 use Rattle.pcap_classic.specs.declared.reading.ReadFault.TheVariants as read_fault
 use Rattle.cbpf_why.specs.Filters.{IsFilter, IsNoFilter}
-use Rattle.cbpf_why.specs.Job.{machine_in}
 use Rattle.cbpf_why.specs.Reports.{Reported}
 use Rattle.cbpf_why.specs.declared.chosen.PacketRange.{PacketRange}
 use Rattle.cbpf_why.specs.declared.filter.FilterFault.TheVariants as filter_fault
-use Rattle.cbpf_why.specs.declared.job.Question.{Question}
+use Rattle.cbpf_why.specs.declared.job.CaptureEnd.{CaptureEnd}
 use Rattle.cbpf_why.specs.declared.job.WhyFault.{WhyFault}
 use Rattle.cbpf_why.specs.declared.job.WhyFault.TheVariants as why_fault
 use Rattle.cbpf_why.specs.declared.report.Report.{Report}
@@ -25,6 +24,9 @@ use Rattle.cbpf_tool.specs.declared.failure.Failure.{Failure}
 use Rattle.cbpf_tool.specs.declared.failure.Failure.TheVariants.{Tool, CannotOpen}
 use Rattle.cbpf_tool.specs.declared.fault.ToolFault.{ToolFault}
 use Rattle.cbpf_tool.specs.declared.fault.ToolFault.TheVariants.{Read, Write, Memory}
+use Rattle.cbpf_tool.specs.Remarks.{AreRemarks}
+use Rattle.cbpf_tool.specs.declared.remarks.Asked.{Asked}
+use Rattle.cbpf_tool.specs.declared.remarks.Remarks.{Remarks}
 use Rattle.cbpf_tool.specs.declared.request.WhyJob.{WhyJob}
 use Rattle.cbpf_tool.specs.declared.why_failure.WhyFailure.{WhyFailure}
 use Rattle.cbpf_tool.specs.declared.why_failure.WhyFailure.TheVariants as failure
@@ -44,11 +46,19 @@ abbrev pub IsReportFailure : Option (List ℕ) → WhyFault → WhyFailure → T
 IsReportFailure name why_fault.Read e = IsReadFailure name e
 IsReportFailure name why_fault.Write e = e ≡ failed Write
 IsReportFailure name why_fault.Memory e = e ≡ failed Memory
-IsReportFailure name (why_fault.NoPacket n) e = e ≡ failure.NoPacket n
 
-abbrev pub IsReported : Option (List ℕ) → Result (Unit {0}) WhyFault → Result (Unit {0}) WhyFailure → Type 0
-IsReported name (Ok x) r = r ≡ Ok x
-IsReported name (Err fault) r = MatchResult r (λ x. ⊥) (IsReportFailure name fault)
+abbrev pub SaysOf : Report → List PacketRange → Option (List ℕ) → Option CaptureEnd → Option Remarks → Type 0
+SaysOf report ranges name None None = Unit {0}
+SaysOf report ranges name (Some end) (Some remarks) = AreRemarks report ranges name end remarks
+SaysOf report ranges name _ _ = ⊥
+
+-- the end of a report on the capture of this name as that of the job: where the capture was read to its end, there is
+-- what is to be said of it
+abbrev pub IsReported : Report → List PacketRange → Option (List ℕ) → Result (Option CaptureEnd) WhyFault
+    → Result (Option Remarks) WhyFailure → Type 0
+IsReported report ranges name (Ok end) (Ok remarks) = SaysOf report ranges name end remarks
+IsReported report ranges name (Err fault) (Err e) = IsReportFailure name fault e
+IsReported report ranges name _ _ = ⊥
 
 -- the failure is that the file of this name could not be opened
 abbrev pub IsUnopened : List ℕ → WhyFailure → Type 0
@@ -88,17 +98,18 @@ pub record Query : Type 0 where
   pub ranges : List PacketRange
   pub machine : Machine
 
-abbrev pub query_of : {P : Type 0} → Question P → Query
-query_of q = record { report = q.report; ranges = q.packets.now; machine = machine_in q }
+abbrev pub query_of : List Insn → Asked → Query
+query_of p a = record { report = a.report; ranges = a.packets.items; machine = machine_of p a.values }
 
 -- a report on a capture is the one text that was printed, whose end is the job's; or there was no room for a buffer,
 -- and nothing was printed
 pub data PrintsReport (old new : Hosted) (q : Query) (name : Option (List ℕ)) (c : Savefile)
-    (r : Result (Unit {0}) WhyFailure) : Type 0 where
+    (r : Result (Option Remarks) WhyFailure) : Type 0 where
   no_room : new ≡ without_output old → r ≡ Err (failed Memory) → PrintsReport old new q name c r
-  prints : (text : List ℕ) (end : Result (Unit {0}) WhyFault) → new ≡ and_then (without_output old) (printed text ∷ [])
-      → Reported q.report q.ranges q.machine c (Some []) (Some text) end → IsReported name end r
-      → PrintsReport old new q name c r
+  prints : (text : List ℕ) (count : ℕ) (end : Result (Option CaptureEnd) WhyFault)
+      → new ≡ and_then (without_output old) (printed text ∷ [])
+      → Reported q.report q.ranges q.machine c count (Some []) (Some text) end
+      → IsReported q.report q.ranges name end r → PrintsReport old new q name c r
 
 -- the fault of a header, with the capture's name where it is a file
 abbrev pub IsHeaderFailure : Option (List ℕ) → HeaderFault → WhyFailure → Type 0
@@ -115,7 +126,7 @@ IsOpenFailure name (open_fault.Read read_fault.Memory) e = e ≡ failed Memory
 -- a report on the capture that has these bytes. Where they have no header, or it could not be read, nothing was
 -- printed, and the standard output was not asked for
 pub data ReportsOn (old new : Hosted) (q : Query) (name : Option (List ℕ)) (bytes : List ℕ)
-    (r : Result (Unit {0}) WhyFailure) : Type 0 where
+    (r : Result (Option Remarks) WhyFailure) : Type 0 where
   unread : (e : WhyFailure) → new ≡ old → IsReadFailure name e ⊎ (e ≡ failed Memory) → r ≡ Err e
       → ReportsOn old new q name bytes r
   no_capture : (fault : HeaderFault) (e : WhyFailure) → new ≡ old → IsRefusal (capture_fault fault) bytes
@@ -127,7 +138,7 @@ abbrev pub file_name : Option (List ℕ) → Option (List ℕ)
 file_name name = option_and_then (λ n. if bytes_eq n (codes "-") then None else Some n) name
 
 -- a report on the standard input, or on the file of this name, which is opened first
-abbrev pub ReportsBy : Hosted → Hosted → Query → Option (List ℕ) → Result (Unit {0}) WhyFailure → Type 0
+abbrev pub ReportsBy : Hosted → Hosted → Query → Option (List ℕ) → Result (Option Remarks) WhyFailure → Type 0
 ReportsBy old new q None r = ReportsOn (without_input old) new q None old.input r
 ReportsBy old new q (Some name) r = NotOpened old new name r
     ⊎ ((bytes : List ℕ) × (map.get old.files name ≡ Some bytes)
@@ -139,7 +150,7 @@ abbrev pub query_by : WhyJob → List Insn → Query
 query_by job p = record { report = job.report; ranges = job.packets.items; machine = machine_of p job.values }
 
 -- `why`: the filter is opened and read first; where it isn't accepted, that is all, and else the capture is reported on
-pub record WhyDone (old new : Hosted) (job : WhyJob) (r : Result (Unit {0}) WhyFailure) : Type 0 where
+pub record WhyDone (old new : Hosted) (job : WhyJob) (r : Result (Option Remarks) WhyFailure) : Type 0 where
   pub mid : Hosted
   pub filter : Result (List Insn) WhyFailure
   pub opens : OpensFilter old mid (string_bytes job.filter) filter

@@ -3,6 +3,7 @@ ghost use Rattle.std.specs.Prelude.{◌≡◌};
 ghost use Rattle.cbpf_tool.specs.Jobs as spec;
 
 use crate::fault::ToolFault;
+use crate::host::CreateFault;
 use thiserror::Error;
 
 /// Why the program failed.
@@ -10,7 +11,7 @@ use thiserror::Error;
 pub enum Failure {
     #[error("{0}")]
     Tool(ToolFault),
-    #[error("cannot open {0}")]
+    #[error("{} {}", CreateFault::NotCreated, .0)]
     CannotOpen(String),
 }
 

@@ -6,13 +6,16 @@ ghost use Rattle.cbpf_tool.specs.Hosted.{wrote, printed, Opens, Creates};
 
 use crate::files::Files;
 use std::io::{self, Read, Write};
+use thiserror::Error;
 
 /// Why there is no output to a file.
-#[derive(Clone, Copy, PartialEq, Eq, Debug)]
+#[derive(Clone, Copy, PartialEq, Eq, Debug, Error)]
 pub enum CreateFault {
     /// The file could not be created.
+    #[error("cannot open")]
     NotCreated,
     /// Out of memory for its buffer.
+    #[error("out of memory")]
     Memory,
 }
 

@@ -9,6 +9,7 @@ use crate::asm_on_host::asm_job;
 use crate::dbg_on_host::dbg_job;
 use crate::failure::Failure;
 use crate::host::Host;
+use crate::remarks::Remarks;
 use crate::request::Request;
 use crate::why_failure::WhyFailure;
 use crate::why_on_host::why_job;
@@ -37,21 +38,22 @@ pub fn status_of(done: &Result<(), Failure>) -> ExitCode
 }
 
 /// The result of a job as that of a request.
-fn as_request(done: Result<(), Failure>) -> Result<(), WhyFailure>
+fn as_request(done: Result<(), Failure>) -> Result<Option<Remarks>, WhyFailure>
     ensures { result ≡ spec.as_request done }
 {
     match done {
-        Ok(()) => Ok(()),
+        Ok(()) => Ok(None),
         Err(failure) => Err(WhyFailure::Job(failure)),
     }
 }
 
-/// Runs what a command line asks for on a machine.
+/// Runs what a command line asks for on a machine. The answer is what is to be said of a report of `why`, where the
+/// capture's end was read.
 pub fn run_request<A: Allocator + Copy, H: Host>(
     alloc: A,
     host: &mut H,
     request: Request,
-) -> Result<(), WhyFailure>
+) -> Result<Option<Remarks>, WhyFailure>
     requires sorted { HasSortedPackets request }
     ensures { IsReady (H.view host.old) → spec.RequestDone (H.view host.old) (H.view host.new) request result }
 {
@@ -61,11 +63,23 @@ pub fn run_request<A: Allocator + Copy, H: Host>(
     }
 }
 
-/// The status with which the program ends after a request.
-pub fn request_status(done: &Result<(), WhyFailure>) -> ExitCode
+/// Whether a request was done, with each packet that was asked for.
+fn is_done(done: &Result<Option<Remarks>, WhyFailure>) -> bool
+    ensures { result ≡ spec.is_done done.now }
+{
+    match done {
+        Ok(Some(remarks)) => !remarks.lacks_packets(),
+        Ok(None) => true,
+        Err(_) => false,
+    }
+}
+
+/// The status with which the program ends after a request: 1 where it failed, or the capture lacks a packet that was asked
+/// for.
+pub fn request_status(done: &Result<Option<Remarks>, WhyFailure>) -> ExitCode
     ensures { exit_status result ≡ spec.request_status done.now }
 {
-    if done.is_ok() {
+    if is_done(done) {
         ExitCode::SUCCESS
     } else {
         ExitCode::FAILURE

@@ -5,9 +5,9 @@ ghost use Rattle.cbpf_tool.specs.WhyJobs as spec;
 
 use crate::failure::Failure;
 use crate::fault::ToolFault;
-use cbpf_reply::capture_fault_line;
-use cbpf_why::{FilterFault, WhyFault};
-use pcap_classic::{CaptureFault, HeaderFault};
+use crate::remarks::{Asked, Remarks, remarks_of};
+use cbpf_why::{CaptureEnd, FilterFault, WhyFault};
+use pcap_classic::HeaderFault;
 use thiserror::Error;
 
 /// Why the program failed, with `why`.
@@ -23,14 +23,11 @@ pub enum WhyFailure {
     #[error("{0}: {1}")]
     Filter(String, FilterFault),
     /// The capture of this name is none.
-    #[error("{}: {}", .0, capture_fault_line(CaptureFault::from(*.1)))]
+    #[error("{0}: {1}")]
     Capture(String, HeaderFault),
     /// The standard input holds no capture.
-    #[error("{}", capture_fault_line(CaptureFault::from(*.0)))]
+    #[error("{0}")]
     Input(HeaderFault),
-    /// The capture has no packet of this number.
-    #[error("no packet {0}")]
-    NoPacket(u64),
 }
 
 /// The fault of a tool as that of `why`.
@@ -58,16 +55,26 @@ fn report_failure(fault: WhyFault, name: Option<String>) -> WhyFailure
         WhyFault::Read => read_failure(name),
         WhyFault::Write => failed(ToolFault::Write),
         WhyFault::Memory => failed(ToolFault::Memory),
-        WhyFault::NoPacket(number) => WhyFailure::NoPacket(number),
     }
 }
 
+/// What is to be said of a report on the capture of this name, where it was read to its end.
+fn said_of(asked: Asked, end: Option<CaptureEnd>, name: Option<String>) -> Option<Remarks>
+    ensures { spec.SaysOf asked.report asked.packets.items (option_map (λ n. string_bytes n) name) end result }
+{
+    Some(remarks_of(asked, name, end?))
+}
+
 /// The end of a report on the capture of this name as that of the job.
-pub(crate) fn reported(done: Result<(), WhyFault>, name: Option<String>) -> Result<(), WhyFailure>
-    ensures { spec.IsReported (option_map (λ n. string_bytes n) name) done result }
+pub(crate) fn reported(
+    done: Result<Option<CaptureEnd>, WhyFault>,
+    asked: Asked,
+    name: Option<String>,
+) -> Result<Option<Remarks>, WhyFailure>
+    ensures { spec.IsReported asked.report asked.packets.items (option_map (λ n. string_bytes n) name) done result }
 {
     match done {
-        Ok(()) => Ok(()),
+        Ok(end) => Ok(said_of(asked, end, name)),
         Err(fault) => Err(report_failure(fault, name)),
     }
 }

@@ -10,6 +10,7 @@ use crate::assembler::read_source;
 use crate::failure::Failure;
 use crate::fault::ToolFault;
 use crate::host::Host;
+use crate::remarks::{Asked, Remarks};
 use crate::request::WhyJob;
 use crate::why_failure::{WhyFailure, failed, read_failure, reported};
 use cbpf_code::Program;
@@ -74,41 +75,49 @@ fn open_failure(fault: OpenFault, name: Option<String>) -> WhyFailure
 fn print_report<A: Allocator + Copy, P: Allocator, H: Host, R: Read>(
     alloc: A,
     host: &mut H,
-    question: &Question<'_, P>,
+    program: &Program<P>,
+    asked: Asked,
     reader: &mut CaptureReader<R, A>,
     name: Option<String>,
-) -> Result<(), WhyFailure>
+) -> Result<Option<Remarks>, WhyFailure>
     requires count { reader.old.count ≡ 0 }
-    requires sorted { AreSorted question.now.packets.now }
+    requires sorted { AreSorted asked.packets.items }
     ensures { IsReady (H.view host.old) → (c : Savefile) → reader.old.left ≡ Some c →
-        spec.PrintsReport (H.view host.old) (H.view host.new) (spec.query_of question.now)
+        spec.PrintsReport (H.view host.old) (H.view host.new) (spec.query_of program.now asked)
         (option_map (λ n. string_bytes n) name) c result }
 {
     let Ok(mut writer) = host.output() else {
         return Err(failed(ToolFault::Memory));
     };
-    let done = why(alloc, question, reader, &mut writer);
+    let question = Question {
+        program,
+        values: &asked.values,
+        report: asked.report,
+        packets: &asked.packets,
+    };
+    let done = why(alloc, &question, reader, &mut writer);
     host.print(writer);
-    reported(done, name)
+    reported(done, asked, name)
 }
 
 /// Writes a report on the capture that a reader gives.
 fn report_on<A: Allocator + Copy, P: Allocator, H: Host, R: Read + Drop>(
     alloc: A,
     host: &mut H,
-    question: &Question<'_, P>,
+    program: &Program<P>,
+    asked: Asked,
     reader: R,
     name: Option<String>,
-) -> Result<(), WhyFailure>
-    requires sorted { AreSorted question.now.packets.now }
+) -> Result<Option<Remarks>, WhyFailure>
+    requires sorted { AreSorted asked.packets.items }
     ensures { IsReady (H.view host.old) → (bytes : List ℕ) → R.remaining reader ≡ Some bytes →
-        spec.ReportsOn (H.view host.old) (H.view host.new) (spec.query_of question.now)
+        spec.ReportsOn (H.view host.old) (H.view host.new) (spec.query_of program.now asked)
         (option_map (λ n. string_bytes n) name) bytes result }
 {
     match CaptureReader::new(alloc, reader) {
         Ok(capture) => {
             let mut capture = capture;
-            print_report(alloc, host, question, &mut capture, name)
+            print_report(alloc, host, program, asked, &mut capture, name)
         }
         Err(fault) => Err(open_failure(fault, name)),
     }
@@ -118,29 +127,31 @@ fn report_on<A: Allocator + Copy, P: Allocator, H: Host, R: Read + Drop>(
 fn report_on_input<A: Allocator + Copy, P: Allocator, H: Host>(
     alloc: A,
     host: &mut H,
-    question: &Question<'_, P>,
-) -> Result<(), WhyFailure>
-    requires sorted { AreSorted question.now.packets.now }
+    program: &Program<P>,
+    asked: Asked,
+) -> Result<Option<Remarks>, WhyFailure>
+    requires sorted { AreSorted asked.packets.items }
     ensures { IsReady (H.view host.old) →
-        spec.ReportsBy (H.view host.old) (H.view host.new) (spec.query_of question.now) None result }
+        spec.ReportsBy (H.view host.old) (H.view host.new) (spec.query_of program.now asked) None result }
 {
     let input = host.input();
-    report_on(alloc, host, question, input, None)
+    report_on(alloc, host, program, asked, input, None)
 }
 
 /// Writes a report on the capture of this name.
 fn report_on_file<A: Allocator + Copy, P: Allocator, H: Host>(
     alloc: A,
     host: &mut H,
-    question: &Question<'_, P>,
+    program: &Program<P>,
+    asked: Asked,
     name: String,
-) -> Result<(), WhyFailure>
-    requires sorted { AreSorted question.now.packets.now }
+) -> Result<Option<Remarks>, WhyFailure>
+    requires sorted { AreSorted asked.packets.items }
     ensures { IsReady (H.view host.old) → spec.ReportsBy (H.view host.old) (H.view host.new)
-        (spec.query_of question.now) (Some (string_bytes name)) result }
+        (spec.query_of program.now asked) (Some (string_bytes name)) result }
 {
     match host.open(name.as_str()) {
-        Ok(source) => report_on(alloc, host, question, source, Some(name)),
+        Ok(source) => report_on(alloc, host, program, asked, source, Some(name)),
         Err(_) => Err(WhyFailure::Job(Failure::CannotOpen(name))),
     }
 }
@@ -162,31 +173,33 @@ fn file_of(capture: Option<String>) -> Option<String>
 fn report_by_name<A: Allocator + Copy, P: Allocator, H: Host>(
     alloc: A,
     host: &mut H,
-    question: &Question<'_, P>,
+    program: &Program<P>,
+    asked: Asked,
     capture: Option<String>,
-) -> Result<(), WhyFailure>
-    requires sorted { AreSorted question.now.packets.now }
+) -> Result<Option<Remarks>, WhyFailure>
+    requires sorted { AreSorted asked.packets.items }
     ensures { IsReady (H.view host.old) → spec.ReportsBy (H.view host.old) (H.view host.new)
-        (spec.query_of question.now) (spec.file_name (option_map (λ n. string_bytes n) capture)) result }
+        (spec.query_of program.now asked) (spec.file_name (option_map (λ n. string_bytes n) capture)) result }
 {
     match file_of(capture) {
-        Some(name) => report_on_file(alloc, host, question, name),
-        None => report_on_input(alloc, host, question),
+        Some(name) => report_on_file(alloc, host, program, asked, name),
+        None => report_on_input(alloc, host, program, asked),
     }
 }
 
 /// `why`: reports on a filter and a capture to the standard output. The filter's file is opened and read first, and
-/// nothing is printed before the capture's header was read. The packets of the job are sorted.
+/// nothing is printed before the capture's header was read. The packets of the job are sorted. The answer is what is to be
+/// said of the report, where the capture's end was read.
 ///
 /// # Errors
 ///
 /// `Job` where a file can't be opened, a read or a write failed, or memory ran out; `Filter` where the filter is
-/// refused; `Capture` or `Input` where the header of the capture is; `NoPacket` after the whole report.
+/// refused; `Capture` or `Input` where the header of the capture is.
 pub fn why_job<A: Allocator + Copy, H: Host>(
     alloc: A,
     host: &mut H,
     job: WhyJob,
-) -> Result<(), WhyFailure>
+) -> Result<Option<Remarks>, WhyFailure>
     requires sorted { AreSorted job.packets.items }
     ensures { IsReady (H.view host.old) → spec.WhyDone (H.view host.old) (H.view host.new) job result }
 {
@@ -198,11 +211,10 @@ pub fn why_job<A: Allocator + Copy, H: Host>(
         packets,
     } = job;
     let program = open_filter(alloc, host, filter)?;
-    let question = Question {
-        program: &program,
-        values: &values,
+    let asked = Asked {
         report,
-        packets: &packets,
+        values,
+        packets,
     };
-    report_by_name(alloc, host, &question, capture)
+    report_by_name(alloc, host, &program, asked, capture)
 }

@@ -205,6 +205,7 @@ module _ {A P : Type 0} (q : Question P) (first : ℕ) (records : List Record) (
       record {
         one = record_of item ∷ [];
         is_few = omega arith;
+        count = goes.1;
         leaves = leaves_some old.count old.left new item goes.0 gives;
         stopped = rw (some, append-nil (packet_text q.report (machine_in q) (record_of item))) part;
       }
@@ -245,18 +246,22 @@ module _ {A P : Type 0} (q : Question P) (first : ℕ) (old new : Reading) (u v 
 
 -- a read failed, or there was no memory for a record
 module _ {P : Type 0} (q : Question P) (first : ℕ) (old new : Reading) (u v : Option (List ℕ)) (nothing : Appended u v []) where
-  pub stepped_unread : (e : Error) → IfSome old.left (λ s. Gives s (Err (Read e)) new) → StepFault q first old new u v why.Read
-  stepped_unread e gives = record {
+  pub stepped_unread : (e : Error) → Proceeds old.count (Err (Read e)) new
+      → IfSome old.left (λ s. Gives s (Err (Read e)) new) → StepFault q first old new u v why.Read
+  stepped_unread e goes gives = record {
     one = [];
     is_few = omega arith;
+    count = omega (arith, goes.0);
     leaves = leaves_none old.count old.left new (kept_read old.left new e gives);
     stopped = nothing;
   }
 
-  pub stepped_unheld : IfSome old.left (λ s. Gives s (Err Memory) new) → StepFault q first old new u v why.Memory
-  stepped_unheld gives = record {
+  pub stepped_unheld : Proceeds old.count (Err Memory) new → IfSome old.left (λ s. Gives s (Err Memory) new)
+      → StepFault q first old new u v why.Memory
+  stepped_unheld goes gives = record {
     one = [];
     is_few = omega arith;
+    count = omega (arith, goes.0);
     leaves = leaves_none old.count old.left new (kept_memory old.left new gives);
     stopped = nothing;
   }
@@ -271,6 +276,7 @@ pub stepped_unflushed : {P : Type 0} (q : Question P) (first : ℕ) (old : Readi
 stepped_unflushed q first old u v part = record {
   one = [];
   is_few = omega arith;
+  count = omega arith;
   leaves = leaves_none old.count old.left old (stays old.left);
   stopped = part;
 }
@@ -353,6 +359,7 @@ range-fails q range records before old mid new c u v w after fault going count b
   more = going.more ++ from_first range.first step.one;
   after = after + length step.one;
   up_to = λ h. omega (arith, below, step.is_few);
+  count = omega (arith, step.count, count);
   reads = known_any range.first old.left mid.left new.left before after going.more step.one going.reads
       (rw count at step.leaves) step.is_few;
   stopped = rw (flat_map-append (packet_text q.report (machine_in q)) going.more (from_first range.first step.one))
@@ -364,7 +371,6 @@ range-fails q range records before old mid new c u v w after fault going count b
     stopped_more Write u v w a b x y = part-then u v w a b x y
     stopped_more why.Read u v w a b x y = appended-then u v w a b x y
     stopped_more why.Memory u v w a b x y = appended-then u v w a b x y
-    stopped_more (why.NoPacket n) u v w a b x y = y
 
 ends_known : (first : ℕ) (old mid : Option Savefile) (new : Reading) (before after : ℕ) (more : List Record)
     → ReadsKnown first old mid before after more → LeavesKnown after mid new.left []

@@ -1,13 +1,13 @@
 -- Packets of ranges, which are taken one range after another.
 use Rattle.std.proofs.Common.{◌≡◌, ℕ, zero, suc, ◌<◌, ◌≤◌, List, [], ◌∷◌, ◌++◌, length, take, arith, refl, sym, ap, ◌∙◌}
 use Rattle.std.proofs.Common.{length-append, append_assoc, inl, inr, take_all}
-use Rattle.std.specs.Prelude.{Bool, true, false, Option, Some, None, filter, nat_le, slice_get, if◌then◌else◌}
+use Rattle.std.specs.Prelude.{Bool, ◌||◌, ◌==◌, true, false, Option, Some, None, filter, nat_le, slice_get, if◌then◌else◌}
 use Rattle.std.specs.List.{All, list_any}
-use Rattle.std.proofs.lemmas.Bool.{cases_lt}
+use Rattle.std.proofs.lemmas.Bool.{cases_lt, or_from, or_parts, or_right}
 use Rattle.std.proofs.lemmas.Bool.Decides.{nat_tests}
 use Rattle.std.proofs.lemmas.Grind.{flat_map-append}
 use Rattle.std.proofs.lemmas.List.Elements.{filter-append}
-use Rattle.std.proofs.lemmas.List.Folds.{list_any_at}
+use Rattle.std.proofs.lemmas.List.Folds.{list_any_at, list_any_none}
 use Rattle.std.proofs.lemmas.Option.{get_or_from_slice_get, slice_get_within}
 use Rattle.cbpf_code.proofs.WrittenLemmas.{appended-then, part-then}
 use Rattle.cbpf_code.specs.Writing.{Appended}
@@ -15,8 +15,8 @@ use Rattle.pcap_classic.specs.Reading.{Reading}
 use Rattle.pcap_classic.specs.Records.{Record}
 use Rattle.pcap_classic.specs.Savefile.{Savefile}
 use Rattle.cbpf_why.specs.Chosen.{AreSorted, chosen, is_chosen, is_within}
-use Rattle.cbpf_why.specs.Job.{Broke, Faulted, IsFirstAbove, IsOver, Looked, LookedKnown, Ranged, Reads, ReadsKnown, Stopped, Took, Went, machine_in}
-use Rattle.cbpf_why.specs.Reports.{EndsBy, IsNext, packet_text, packets_text}
+use Rattle.cbpf_why.specs.Job.{Broke, EndsBy, Faulted, IsOver, Looked, LookedKnown, Ranged, Reads, ReadsKnown, Stopped, Took, Went, machine_in}
+use Rattle.cbpf_why.specs.Reports.{ends_beyond, goes_to_end, packet_text, packets_text}
 use Rattle.cbpf_why.specs.declared.chosen.PacketRange.{PacketRange}
 use Rattle.cbpf_why.specs.declared.counted.Counted.{Counted}
 use Rattle.cbpf_why.specs.declared.job.Question.{Question}
@@ -25,15 +25,11 @@ use Rattle.cbpf_why.specs.declared.job.WhyFault.TheVariants as why
 
 -- ---- which ranges a number stands in
 
-untrue : (b : Bool) → (b ≡ true → ⊥) → b ≡ false
-untrue true h = absurd (h refl)
-untrue false h = refl
-
 rest_of : {X : Type 0} (P : X → Type 0) (x : X) (xs : List X) → All P (x ∷ xs) → All P xs
 rest_of P x xs h = λ k d l. h (suc k) d (omega (arith, l))
 
 beyond : (count n : ℕ) (x : PacketRange) → EndsBy count x → count < n → is_within n x ≡ false
-beyond count n x h above = untrue (is_within n x) (λ e. let most = h n e in absurd (omega (arith, most, above)))
+beyond count n x h above = grind (arith, nat_tests)
 
 pub none_above : (count n : ℕ) (ranges : List PacketRange) → All (EndsBy count) ranges → count < n
     → list_any (is_within n) ranges ≡ false
@@ -93,21 +89,38 @@ chosen_here ranges i range count n sorted at ended above up_to =
     ]
 
 pub ends-later : (a b : ℕ) (ranges : List PacketRange) → All (EndsBy a) ranges → a ≤ b → All (EndsBy b) ranges
-ends-later a b ranges h le = λ k d l n is. let most = h k d l n is in omega (arith, most, le)
+ends-later a b ranges h le = λ k d l. let most = h k d l in omega (arith, most, le)
 
-pub next-is : (ranges : List PacketRange) (i : ℕ) (range : PacketRange) (count n : ℕ) → AreSorted ranges
-    → slice_get ranges i ≡ Some range → All (EndsBy count) (take i ranges) → IsFirstAbove range count n
-    → IsNext ranges count n
-next-is ranges i range count n sorted at ended is = record {
-  wanted = chosen_any ranges i range n at ∙ within_some ranges i range n at is.within;
-  beyond = is.above;
-  first = λ m above wanted. elim (cases_lt m range.first) [
-    | inl below ↦
-        (let none = none_before ranges i range count m sorted at ended above below in
-        absurd (cc (chosen_any ranges i range m at, none, wanted)))
-    | inr from ↦ is.least m above from
-  ];
-}
+-- a range that ends beyond so many packets, and none that does
+pub asks-end : (ranges : List PacketRange) (i : ℕ) (range : PacketRange) (count : ℕ) → slice_get ranges i ≡ Some range
+    → count < range.last → true ≡ goes_to_end ranges count
+asks-end ranges i range count at below =
+    let is : ends_beyond count range ≡ true = grind (arith, nat_tests) in
+    let any = list_any_at (ends_beyond count) ranges i range (slice_get_within ranges i range at)
+    (ap (ends_beyond count) (get_or_from_slice_get ranges i range range at) ∙ is) in
+    sym (or_right (length ranges == 0) (list_any (ends_beyond count) ranges) any)
+
+pub asks-no-end : (ranges : List PacketRange) (count : ℕ) → 0 < length ranges → All (EndsBy count) ranges
+    → false ≡ goes_to_end ranges count
+asks-no-end ranges count some h =
+    let none = list_any_none (ends_beyond count) ranges
+    (λ k d l. let most = h k d l in grind (arith, nat_tests)) in
+    let no : (length ranges == 0) ≡ false = grind (arith, nat_tests) in
+    sym (or_from (length ranges == 0) (list_any (ends_beyond count) ranges) no none)
+
+any_none : (ranges : List PacketRange) (count : ℕ) → list_any (ends_beyond count) ranges ≡ false
+    → All (EndsBy count) ranges
+any_none [] count none = λ k d l. absurd (omega (arith, l))
+any_none (x ∷ xs) count none =
+    let parts = or_parts (ends_beyond count x) (list_any (ends_beyond count) xs) none in
+    by parts.0 (any_none xs count parts.1)
+  where
+    by : ends_beyond count x ≡ false → All (EndsBy count) xs → All (EndsBy count) (x ∷ xs)
+    by here rest zero d l = grind (arith, nat_tests)
+    by here rest (suc k) d l = rest k d (omega (arith, l))
+
+pub all-end : (ranges : List PacketRange) (count : ℕ) → false ≡ goes_to_end ranges count → All (EndsBy count) ranges
+all-end ranges count none = any_none ranges count (or_parts (length ranges == 0) (list_any (ends_beyond count) ranges) (sym none)).1
 
 -- ---- records
 
@@ -190,12 +203,11 @@ module _ {A P : Type 0} (q : Question P) (i : ℕ) (range : PacketRange) (before
         (appended-then _ _ _ _ _ went.wrote ranged.going.wrote);
   }
 
-  pub broke-more : (fault : WhyFault) → Faulted q range before mid new v w fault → Broke q old.left new.left u w fault
+  pub broke-more : (fault : WhyFault) → Faulted q range before mid new v w fault → Broke q old.left new u w fault
   broke-more fault faulted = record {
     records = went.records ++ faulted.more;
-    count = faulted.after;
-    known = known_more q.packets.now i range old.left mid.left new.left before faulted.after went.records
-        faulted.more sorted at ended faulted.up_to (rw count at went.known) faulted.reads;
+    known = rw faulted.count (known_more q.packets.now i range old.left mid.left new.left before faulted.after went.records
+        faulted.more sorted at ended faulted.up_to (rw count at went.known) faulted.reads);
     stopped = rw (flat_map-append (packet_text q.report (machine_in q)) went.records faulted.more)
         (stopped_more fault u v w (packets_text q.report (machine_in q) went.records) _ went.wrote faulted.stopped);
   }
@@ -205,12 +217,6 @@ module _ {A P : Type 0} (q : Question P) (i : ℕ) (range : PacketRange) (before
       stopped_more why.Write u v w a b x y = part-then u v w a b x y
       stopped_more why.Read u v w a b x y = appended-then u v w a b x y
       stopped_more why.Memory u v w a b x y = appended-then u v w a b x y
-      stopped_more (why.NoPacket n) u v w a b x y = y
-
--- the first number above is up to the last one
-pub within-less : (range : PacketRange) (count n : ℕ) → IsFirstAbove range count n → count < range.last
-within-less range count n is =
-    let most : n ≤ range.last = grind (arith, nat_tests, is.within) in omega (arith, most, is.above)
 
 pub all-ended : (ranges : List PacketRange) (count i : ℕ) → length ranges ≤ i → All (EndsBy count) (take i ranges)
     → All (EndsBy count) ranges
@@ -257,10 +263,9 @@ went-all q last old new d u w after all ranged = record {
 
 pub broke-all : {P : Type 0} (q : Question P) (last : ℕ) (old new : Reading) (u w : Option (List ℕ)) (fault : WhyFault)
     → q.packets.now ≡ [] → Faulted q (record { first = 1; last = last }) 0 old new u w fault
-    → Broke q old.left new.left u w fault
+    → Broke q old.left new u w fault
 broke-all q last old new u w fault all faulted = record {
   records = faulted.more;
-  count = faulted.after;
-  known = rw all (known_all old.left new.left faulted.after faulted.more faulted.reads);
+  known = rw (all, faulted.count) (known_all old.left new.left faulted.after faulted.more faulted.reads);
   stopped = faulted.stopped;
 }

@@ -1,11 +1,18 @@
 -- Which packets of a capture are looked at (this project's own; packets are numbered from 1, as `tcpdump -#` does).
-use Rattle.std.specs.Prelude.{ℕ, ◌≤◌, Bool, true, ◌&&◌, nat_le, List, [], ◌∷◌, filter}
+use Rattle.std.specs.Prelude.{ℕ, ◌+◌, ◌≤◌, Bool, true, ◌&&◌, nat_le, nat_lt, List, [], ◌∷◌, filter, Option, Some, None}
+use Rattle.std.specs.Prelude.{if◌then◌else◌}
 use Rattle.std.specs.List.{All, list_any}
 use Rattle.pcap_classic.specs.Records.{Record}
 use Rattle.cbpf_why.specs.declared.chosen.PacketRange.{PacketRange}
 
 abbrev pub is_within : ℕ → PacketRange → Bool
 is_within n range = nat_le range.first n && nat_le n range.last
+
+-- what is left of a range beyond the first packets, where anything is
+abbrev pub beyond : ℕ → PacketRange → Option PacketRange
+beyond count range =
+    if nat_le range.first range.last && nat_lt count range.last
+    then Some (record { first = if nat_lt count range.first then range.first else count + 1; last = range.last }) else None
 
 -- a packet is in one of the ranges; where there is none, it is all packets
 abbrev pub is_chosen : List PacketRange → ℕ → Bool

@@ -1,7 +1,7 @@
 -- A program as a graph in DOT, the language of Graphviz: a node for each basic block with its listing, an edge for each
 -- way from one block to another with how often it was taken, and for each group of packets that ended at the same
--- instruction in the same way a node in the colour of that way. A block or a way that never ran is grey (this project's
--- own; a quoted string, `\l` and the entity `&amp;` are those of Graphviz's "The DOT Language" and "escString").
+-- instruction in the same way a node in the colour of that way. A block, an instruction or a way that never ran is grey
+-- (this project's own; labels and their tags are those of Graphviz's "The DOT Language" and "HTML-Like Labels").
 use Rattle.std.specs.Prelude.{◌≡◌, ◌<◌, ℕ, zero, suc, ◌+◌, ◌-◌, Bool, ◌==◌, ◌||◌, false, List, [], ◌∷◌, ◌++◌, length}
 use Rattle.std.specs.Prelude.{codes, decimal, Option, Some, None, if◌then◌else◌, slice_get, slice_index_or}
 use Rattle.std.specs.List.{flat_map, list_any, enumerate_from}
@@ -53,20 +53,27 @@ block_of list (suc i) = if begins_block list (suc i) then suc i else block_of li
 abbrev pub is_last : List Insn → ℕ → Bool
 is_last list i = (i + 1 == length list) || begins_block list (i + 1)
 
--- ---- text in quotes
+-- ---- text in a label
 
--- a byte of a label: `"` and `\` stand after `\`, `&` begins an entity, and a tab is a space
+-- a byte of a label: `&` begins an entity, `<` and `>` a tag, and a tab is a space
 abbrev pub label_byte : ℕ → List ℕ
 label_byte b =
-    if b == 34 then codes "\\\"" else (if b == 92 then codes "\\\\" else (if b == 38 then codes "&amp;"
+    if b == 38 then codes "&amp;" else (if b == 60 then codes "&lt;" else (if b == 62 then codes "&gt;"
     else (if b == 9 then codes " " else (b ∷ []))))
 
 abbrev pub label_text : List ℕ → List ℕ
 label_text text = flat_map label_byte text
 
+abbrev pub grey_text : List ℕ → List ℕ
+grey_text text = codes "<font color=\"grey\">" ++ (label_text text ++ codes "</font>")
+
+-- the text of an instruction, which is grey where it never ran
+abbrev pub counted_text : List ℕ → ℕ → List ℕ
+counted_text text count = if count == 0 then grey_text text else label_text text
+
 -- a line of a block, from the left
-abbrev pub block_line : List Insn → ℕ → List ℕ
-block_line list i = label_text (line_text list i) ++ codes "\\l"
+abbrev pub block_line : List Insn → ℕ → ℕ → List ℕ
+block_line list i count = counted_text (line_text list i) count ++ codes "<br align=\"left\"/>"
 
 -- ---- nodes and edges
 
@@ -102,17 +109,17 @@ edges_of block i f (Some insn) = edges_by block i insn f (op_of insn.code)
 
 -- how a block begins and ends
 abbrev pub block_head : ℕ → List ℕ
-block_head block = concat (node block ∷ codes " [label=\"" ∷ [])
+block_head block = concat (node block ∷ codes " [label=<" ∷ [])
 
 abbrev pub block_end : ℕ → List ℕ
-block_end count = concat (codes "\"" ∷ grey_where_none count ∷ codes "]\n" ∷ [])
+block_end count = concat (codes ">" ∷ grey_where_none count ∷ codes "]\n" ∷ [])
 
 abbrev pub ways_out : ℕ → List Insn → ℕ → Facts → List ℕ
 ways_out block list i f = block_end f.block_runs ++ edges_of block i f (slice_get list i)
 
 -- an instruction of a block, with what follows where it is the last one
 abbrev pub body : ℕ → Bool → List Insn → ℕ → Facts → List ℕ
-body block last list i f = block_line list i ++ (if last then ways_out block list i f else [])
+body block last list i f = block_line list i f.runs.executed ++ (if last then ways_out block list i f else [])
 
 -- and with what stands before it where it is the first one
 abbrev pub part_in : ℕ → Bool → List Insn → ℕ → Facts → List ℕ

@@ -1,7 +1,6 @@
 -- What was taken of a capture, packet by packet (this project's own; a matter of this crate alone).
 use Rattle.std.specs.Prelude.{◌≡◌, ℕ, ◌+◌, ◌<◌, ◌≤◌, nat_le, Bool, true, false, List, [], ◌∷◌, ◌++◌, length, filter, slice_get, if◌then◌else◌}
 use Rattle.std.specs.Prelude.{Option, Some, None, IfSome, ◌^◌, Result, Ok, Err}
-use Rattle.std.specs.List.{All}
 use Rattle.cbpf_machine.specs.Machine.{Machine, machine_of}
 use Rattle.cbpf_machine.specs.Ways.{Counted as CountedRuns, runs_at}
 use Rattle.pcap_classic.specs.Reading.{Reading}
@@ -12,14 +11,14 @@ use Rattle.cbpf_why.specs.declared.counted.Counted.{Counted}
 use Rattle.cbpf_why.specs.declared.job.Question.{Question}
 use Rattle.cbpf_why.specs.declared.report.Report.{Report}
 use Rattle.cbpf_why.specs.declared.report.Report.TheVariants.{Summary, Ways, Packets, Coverage, Graph}
-use Rattle.cbpf_why.specs.Chosen.{chosen, is_within}
+use Rattle.cbpf_why.specs.Chosen.{chosen}
 use Rattle.cbpf_why.specs.Ends.{ends_of}
 use Rattle.cbpf_why.specs.Groups.{Keeps}
-use Rattle.cbpf_why.specs.Reports.{EndsBy, IsNext, packets_text}
+use Rattle.cbpf_why.specs.Reports.{goes_to_end, packets_text}
 use Rattle.cbpf_why.specs.Runs.{executed, taken}
 use Rattle.cbpf_code.specs.Writing.{Appended, AppendedPart}
 use Rattle.cbpf_why.specs.declared.job.WhyFault.{WhyFault}
-use Rattle.cbpf_why.specs.declared.job.WhyFault.TheVariants.{Read, Write, Memory, NoPacket}
+use Rattle.cbpf_why.specs.declared.job.WhyFault.TheVariants.{Read, Write, Memory}
 
 abbrev pub machine_in : {P : Type 0} → Question P → Machine
 machine_in q = machine_of q.program.now q.values.now
@@ -73,14 +72,13 @@ abbrev pub Stopped : WhyFault → Option (List ℕ) → Option (List ℕ) → Li
 Stopped Write old new text = AppendedPart old new text
 Stopped Read old new text = Appended old new text
 Stopped Memory old new text = Appended old new text
-Stopped (NoPacket n) old new text = ⊥
 
 -- what is written of all packets together: all of it, or a beginning, or nothing where there was no memory
 abbrev pub Closed : Option (List ℕ) → Option (List ℕ) → Result (Unit {0}) WhyFault → List ℕ → Type 0
 Closed old new (Ok x) text = Appended old new text
 Closed old new (Err Write) text = AppendedPart old new text
 Closed old new (Err Memory) text = Appended old new []
-Closed old new (Err e) text = ⊥
+Closed old new (Err Read) text = ⊥
 
 -- nothing is left of a capture that is known, and its ending is known
 abbrev pub IsOver : Option Savefile → Reading → Type 0
@@ -116,6 +114,7 @@ pub record Faulted {P : Type 0} (q : Question P) (range : PacketRange) (before :
   pub more : List Record
   pub after : ℕ
   pub up_to : before < after → after ≤ range.last
+  pub count : new.count ≡ after
   pub reads : ReadsKnown range.first old.left new.left before after more
   pub stopped : Stopped fault w v (packets_text q.report (machine_in q) more)
 
@@ -147,16 +146,11 @@ pub record StepFault {P : Type 0} (q : Question P) (first : ℕ) (old new : Read
     : Type 0 where
   pub one : List Record
   pub is_few : length one ≤ 1
+  pub count : new.count ≡ old.count + length one
   pub leaves : LeavesKnown old.count old.left new.left one
   pub stopped : Stopped fault w v (packets_text q.report (machine_in q) (from_first first one))
 
 -- ---- packets of several ranges
-
--- the first number of a range above this one
-pub record IsFirstAbove (range : PacketRange) (count n : ℕ) : Type 0 where
-  pub within : is_within n range ≡ true
-  pub above : count < n
-  pub least : (m : ℕ) → count < m → range.first ≤ m → n ≤ m
 
 -- of a capture the first records were read, and of these those are that are looked at
 pub record Looked (ranges : List PacketRange) (s rest : Savefile) (count : ℕ) (records : List Record) : Type 0 where
@@ -178,19 +172,17 @@ pub record Went {A P : Type 0} (q : Question P) (old new : Reading) (c : Counted
   pub wrote : Appended w v (packets_text q.report (machine_in q) records)
 
 -- or a fault came, after the records that were taken last
-pub record Broke {P : Type 0} (q : Question P) (old new : Option Savefile) (w v : Option (List ℕ)) (fault : WhyFault)
-    : Type 0 where
+pub record Broke {P : Type 0} (q : Question P) (old : Option Savefile) (new : Reading) (w v : Option (List ℕ))
+    (fault : WhyFault) : Type 0 where
   pub records : List Record
-  pub count : ℕ
-  pub known : LookedKnown q.packets.now old new count records
+  pub known : LookedKnown q.packets.now old new.left new.count records
   pub stopped : Stopped fault w v (packets_text q.report (machine_in q) records)
 
--- which number of the ranges is above those that were read: none, or the first one where nothing is left
-abbrev pub Lacks : List PacketRange → Option Savefile → Reading → Option ℕ → Type 0
-Lacks ranges old new None = All (EndsBy new.count) ranges
-Lacks ranges old new (Some n) = IsNext ranges new.count n × IsOver old new
+-- a range ends by a number of packets
+abbrev pub EndsBy : ℕ → PacketRange → Type 0
+EndsBy count range = range.last ≤ count
 
--- all packets are looked at, and were read; or those of ranges
-abbrev pub Lacking : List PacketRange → Option Savefile → Reading → Option ℕ → Type 0
-Lacking [] old new missing = (missing ≡ None) × IsOver old new
-Lacking (range ∷ ranges) old new missing = Lacks (range ∷ ranges) old new missing
+-- the end of the capture was read, or it wasn't asked for
+pub record Ends (ranges : List PacketRange) (old : Option Savefile) (new : Reading) (is_over : Bool) : Type 0 where
+  pub asked : is_over ≡ goes_to_end ranges new.count
+  pub over : is_over ≡ true → IsOver old new

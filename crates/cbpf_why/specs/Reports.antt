@@ -1,6 +1,7 @@
 -- What is reported of a program on a capture (this project's own).
-use Rattle.std.specs.Prelude.{◌≡◌, ◌<◌, ◌≤◌, true, ℕ, List, [], ◌∷◌, ◌++◌, length, Option, Some, None, Result, Ok, Err}
-use Rattle.std.specs.List.{All, flat_map}
+use Rattle.std.specs.Prelude.{◌≡◌, ◌≤◌, ℕ, ◌==◌, nat_lt, Bool, ◌||◌, if◌then◌else◌, List, [], ◌∷◌, ◌++◌, length, take}
+use Rattle.std.specs.Prelude.{Option, Some, None, Result, Ok, Err}
+use Rattle.std.specs.List.{flat_map, list_any}
 use Rattle.cbpf_code.specs.Writing.{Appended, AppendedPart}
 use Rattle.std.specs.Option.{option_map_or}
 use Rattle.pcap_classic.specs.declared.ending.Ending.{Ending}
@@ -10,11 +11,12 @@ use Rattle.cbpf_reply.specs.Loads.{cut_text}
 use Rattle.pcap_classic.specs.Records.{Record}
 use Rattle.pcap_classic.specs.Savefile.{Savefile}
 use Rattle.cbpf_why.specs.declared.chosen.PacketRange.{PacketRange}
+use Rattle.cbpf_why.specs.declared.job.CaptureEnd.{CaptureEnd}
 use Rattle.cbpf_why.specs.declared.job.WhyFault.{WhyFault}
-use Rattle.cbpf_why.specs.declared.job.WhyFault.TheVariants.{Read, Write, Memory, NoPacket}
+use Rattle.cbpf_why.specs.declared.job.WhyFault.TheVariants.{Read, Write, Memory}
 use Rattle.cbpf_why.specs.declared.report.Report.{Report}
 use Rattle.cbpf_why.specs.declared.report.Report.TheVariants.{Summary, Ways, Packets, Coverage, Graph}
-use Rattle.cbpf_why.specs.Chosen.{chosen, is_chosen, is_within}
+use Rattle.cbpf_why.specs.Chosen.{chosen}
 use Rattle.cbpf_why.specs.Coverage.{coverage_text}
 use Rattle.cbpf_why.specs.Ends.{ended, ends_of}
 use Rattle.cbpf_why.specs.Graph.{graph_text}
@@ -30,61 +32,65 @@ packet_text Summary m r = []
 packet_text Coverage m r = []
 packet_text Graph m r = []
 
--- what is written of all packets, after the last one, where so many were read, and with how the capture ends where
--- that is shown
-abbrev pub closing_text : Report → Machine → List Record → ℕ → Option Ending → List ℕ
-closing_text Summary m records count ending =
+-- where a capture is cut, if it is
+abbrev pub cut_line : CaptureEnd → List ℕ
+cut_line e = cut_text e.count e.ending
+
+-- what is written of all packets, after the last one, and of how the capture ends where that is shown
+abbrev pub closing_text : Report → Machine → List Record → Option CaptureEnd → List ℕ
+closing_text Summary m records end =
     groups_text m.list (ends_of m records)
-    ++ (finished_text (totals (ends_of m records)) ++ option_map_or (cut_text count) ending [])
-closing_text Coverage m records count ending = coverage_text m records
-closing_text Graph m records count ending = graph_text m records (ends_of m records)
-closing_text Ways m records count ending = []
-closing_text Packets m records count ending = []
+    ++ (finished_text (totals (ends_of m records)) ++ option_map_or cut_line end [])
+closing_text Coverage m records end = coverage_text m records
+closing_text Graph m records end = graph_text m records (ends_of m records)
+closing_text Ways m records end = []
+closing_text Packets m records end = []
 
 -- what is written of some records
 abbrev pub packets_text : Report → Machine → List Record → List ℕ
 packets_text report m records = flat_map (packet_text report m) records
 
+-- how many packets a capture has, and how it ends
+abbrev pub end_after : ℕ → Ending → CaptureEnd
+end_after count ending = record { count = count; ending = ending }
+
+abbrev pub end_of : Savefile → CaptureEnd
+end_of c = end_after (length c.records) c.ending
+
 -- how the capture ends is shown where all packets are looked at
-abbrev pub shown_ending : List PacketRange → Option Ending → Option Ending
-shown_ending [] ending = ending
-shown_ending (range ∷ ranges) ending = None
+abbrev pub shown_end : List PacketRange → Option CaptureEnd → Option CaptureEnd
+shown_end [] end = end
+shown_end (range ∷ ranges) end = None
 
 -- the whole text: of the packets that are looked at one by one, and of all of them
 unfoldable pub report_text : Report → List PacketRange → Machine → Savefile → List ℕ
 report_text report ranges m c =
     let records = chosen ranges c.records in
-    packets_text report m records ++ closing_text report m records (length c.records) (shown_ending ranges (Some c.ending))
+    packets_text report m records ++ closing_text report m records (shown_end ranges (Some (end_of c)))
 
--- no number of a range is above this one
-abbrev pub EndsBy : ℕ → PacketRange → Type 0
-EndsBy count range = (n : ℕ) → is_within n range ≡ true → n ≤ count
+-- a capture of so many packets is read to its end where all packets are looked at, or a range ends beyond
+abbrev pub ends_beyond : ℕ → PacketRange → Bool
+ends_beyond count range = nat_lt count range.last
 
--- the capture has a packet of each number of the ranges
-abbrev pub HasAll : List PacketRange → Savefile → Type 0
-HasAll ranges c = All (EndsBy (length c.records)) ranges
+abbrev pub goes_to_end : List PacketRange → ℕ → Bool
+goes_to_end ranges count = (length ranges == 0) || list_any (ends_beyond count) ranges
 
--- the first number above this one that is looked at
-pub record IsNext (ranges : List PacketRange) (count n : ℕ) : Type 0 where
-  pub wanted : is_chosen ranges n ≡ true
-  pub beyond : count < n
-  pub first : (m : ℕ) → count < m → is_chosen ranges m ≡ true → n ≤ m
+-- how the capture ends, where it is read to its end
+abbrev pub end_read : List PacketRange → Savefile → Option CaptureEnd
+end_read ranges c = if goes_to_end ranges (length c.records) then Some (end_of c) else None
 
--- the first number that is asked for and that the capture doesn't have; where all packets are looked at, none is asked for
-abbrev pub IsMissing : List PacketRange → Savefile → ℕ → Type 0
-IsMissing [] c n = ⊥
-IsMissing (range ∷ ranges) c n = IsNext (range ∷ ranges) (length c.records) n
+-- a fault of reading after so many packets: what was to be written of them one by one was written, and nothing of all
+-- packets together
+pub record WroteFront (report : Report) (ranges : List PacketRange) (m : Machine) (c : Savefile) (count : ℕ)
+    (old new : Option (List ℕ)) : Type 0 where
+  pub few : count ≤ length c.records
+  pub wrote : Appended old new (packets_text report m (chosen ranges (take count c.records)))
 
--- a fault of reading: what was to be written of the packets before was written, and nothing of all packets together
-abbrev pub WroteFront : Report → List PacketRange → Machine → Savefile → Option (List ℕ) → Option (List ℕ) → Type 0
-WroteFront report ranges m c old new = (front rest : List Record) × (c.records ≡ front ++ rest)
-    × Appended old new (packets_text report m (chosen ranges front))
-
--- what a report on a capture leaves in its writer
-abbrev pub Reported : Report → List PacketRange → Machine → Savefile → Option (List ℕ) → Option (List ℕ)
-    → Result (Unit {0}) WhyFault → Type 0
-Reported report ranges m c old new (Ok x) = HasAll ranges c × Appended old new (report_text report ranges m c)
-Reported report ranges m c old new (Err (NoPacket n)) = IsMissing ranges c n × Appended old new (report_text report ranges m c)
-Reported report ranges m c old new (Err Write) = AppendedPart old new (report_text report ranges m c)
-Reported report ranges m c old new (Err Read) = WroteFront report ranges m c old new
-Reported report ranges m c old new (Err Memory) = WroteFront report ranges m c old new
+-- what a report on a capture, of which so many packets were read, leaves in its writer
+abbrev pub Reported : Report → List PacketRange → Machine → Savefile → ℕ → Option (List ℕ) → Option (List ℕ)
+    → Result (Option CaptureEnd) WhyFault → Type 0
+Reported report ranges m c count old new (Ok end) =
+    (end ≡ end_read ranges c) × Appended old new (report_text report ranges m c)
+Reported report ranges m c count old new (Err Write) = AppendedPart old new (report_text report ranges m c)
+Reported report ranges m c count old new (Err Read) = WroteFront report ranges m c count old new
+Reported report ranges m c count old new (Err Memory) = WroteFront report ranges m c count old new

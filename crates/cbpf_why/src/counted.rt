@@ -12,7 +12,8 @@ use crate::ended::Ended;
 use crate::groups::Groups;
 use crate::job::Question;
 use cbpf_code::Program;
-use cbpf_machine::{Meter, Packet, Tally, end_of_packet};
+use cbpf_machine::{Meter, Tally, end_of_packet};
+use cbpf_reply::packet_of;
 use pcap_classic::Captured;
 use std::alloc::{AllocError, Allocator};
 
@@ -35,27 +36,15 @@ impl<A: Allocator + Copy> Counted<A> {
     }
 }
 
-fn packet_of<'a>(record: &Captured<'a>) -> Packet<'a>
-    ensures { result ≡ record { bytes = record.now.bytes; wire = record.now.wire } }
-{
-    Packet {
-        bytes: record.bytes,
-        wire: record.wire,
-    }
-}
-
 /// How a packet ends.
-// `COPY` is unused: it gives each caller a copy of its own, inlined.
+// It alone calls `end_of_packet`, and the summary alone calls it: so the loop over a packet is inlined there.
 #[inline(always)]
-pub(crate) fn end_of<P: Allocator, const COPY: u32>(
-    question: &Question<'_, P>,
-    record: &Captured<'_>,
-) -> Ended
+fn end_of<P: Allocator>(question: &Question<'_, P>, record: &Captured<'_>) -> Ended
     ensures ended { result ≡ ended (spec.machine_in question.now) (record_of record.now) }
     ensures inside { result.pc < length question.now.program.now }
 {
     let _sound = question.program.len();
-    let end = end_of_packet::<P, COPY>(
+    let end = end_of_packet(
         &mut Meter::new(),
         question.program,
         packet_of(record),
@@ -100,7 +89,7 @@ pub(crate) fn add_ended<P: Allocator, A: Allocator + Copy>(
     ensures { (records : List Record) → spec.Took question.now counted.old records
         → spec.Took question.now counted.new (records ++ record_of record.now ∷ []) }
 {
-    counted.groups.add(end_of::<P, 4>(question, record));
+    counted.groups.add(end_of(question, record));
 }
 
 /// Counts a packet by how it ends, and its instructions.

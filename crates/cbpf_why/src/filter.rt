@@ -5,8 +5,7 @@ ghost use Rattle.cbpf_code.specs.WordText.{Spells};
 ghost use Rattle.cbpf_text.specs.Assembled.{Assembles};
 ghost use Rattle.cbpf_why.specs.Filters as spec;
 
-use cbpf_code::{CheckFault, Insn, Program, WordFault, check, is_blank, is_digit, read_words};
-use cbpf_reply::{check_fault_line, word_fault_line};
+use cbpf_code::{CheckFault, Insn, Program, WordFault, is_blank, is_digit, read_words};
 use cbpf_text::{AsmFault, assemble};
 use std::alloc::Allocator;
 use thiserror::Error;
@@ -18,10 +17,10 @@ pub enum FilterFault {
     #[error("{0}")]
     Source(AsmFault),
     /// It is no word text. It is never `WordFault::Memory`.
-    #[error("{}", word_fault_line(*.0))]
+    #[error("{0}")]
     Words(WordFault),
     /// The checker refuses its instructions.
-    #[error("{}", check_fault_line(*.0))]
+    #[error("{0}")]
     Check(CheckFault),
     /// The allocator refused.
     #[error("out of memory")]
@@ -113,8 +112,8 @@ pub fn program_of<A: Allocator + Copy>(
     ensures refused { IfErr result (spec.IsNoFilter text.items) }
 {
     let list = list_of(alloc, text)?;
-    match check(list) {
+    match Program::new(list) {
         Ok(program) => Ok(program),
-        Err((fault, _)) => Err(FilterFault::Check(fault)),
+        Err(fault) => Err(FilterFault::Check(fault)),
     }
 }

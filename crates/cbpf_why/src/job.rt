@@ -1,11 +1,10 @@
 //! What is reported of a program on a capture.
 
-ghost use Rattle.std.specs.Prelude.{◌≡◌, ◌++◌, [], List, length, Ok, Err, IfSome, MatchResult};
-ghost use Rattle.std.specs.Option.{option_map_or};
+ghost use Rattle.std.specs.Prelude.{◌≡◌, ◌++◌, [], List, length, None, Ok, Err, IfSome, MatchResult, if◌then◌else◌};
+ghost use Rattle.std.specs.Option.{option_map, option_map_or};
 ghost use Rattle.cbpf_code.specs.Writing.{Wrote};
 ghost use Rattle.cbpf_reply.specs.Counts.{finished_text};
-ghost use Rattle.cbpf_reply.specs.Loads.{cut_text};
-ghost use Rattle.pcap_classic.specs.Records.{Record};
+ghost use Rattle.pcap_classic.specs.Records.{AreNumbered, Record};
 ghost use Rattle.cbpf_why.specs.Chosen.{AreSorted};
 ghost use Rattle.cbpf_why.specs.Coverage.{coverage_text};
 ghost use Rattle.cbpf_why.specs.Ends.{ends_of};
@@ -30,6 +29,7 @@ use cbpf_reply::{write_cut, write_finished};
 use pcap_classic::{CaptureReader, Ending};
 use std::alloc::Allocator;
 use std::io::{Read, Write};
+use thiserror::Error;
 
 /// A program with values for extensions, and what is to be reported of it.
 #[derive(Drop)]
@@ -42,16 +42,26 @@ pub struct Question<'a, P: Allocator> {
 }
 
 /// Why a report ended before its end.
-#[derive(Clone, Copy, Debug, PartialEq, Eq)]
+#[derive(Clone, Copy, Debug, PartialEq, Eq, Error)]
 pub enum WhyFault {
     /// A read of the capture failed.
+    #[error("read fault")]
     Read,
     /// A write or a flush failed.
+    #[error("{}", WriteFault)]
     Write,
     /// Out of memory.
+    #[error("out of memory")]
     Memory,
-    /// The report is whole, but the capture has no packet of this number.
-    NoPacket(u64),
+}
+
+/// How a capture ends.
+#[derive(Clone, Copy, Debug, PartialEq, Eq)]
+pub struct CaptureEnd {
+    /// How many packets it has.
+    pub count: u64,
+    /// Where it is cut, if it is.
+    pub ending: Ending,
 }
 
 /// Writes how packets ended, how many passed and failed, and where the capture is cut.
@@ -60,18 +70,18 @@ fn write_summary<P: Allocator, A: Allocator + Copy, W: Write>(
     w: &mut W,
     p: &Program<P>,
     groups: &Groups<A>,
-    count: u64,
-    ending: Option<Ending>,
+    end: Option<CaptureEnd>,
 ) -> Result<(), WriteFault>
     requires { (ends : List AnEnded) × Keeps groups.now (length p.now) ends }
     ensures { (ends : List AnEnded) → Keeps groups.now (length p.now) ends
         → Wrote (W.contents w.old) (W.contents w.new) result
-        (groups_text p.now ends ++ (finished_text (totals ends) ++ option_map_or (cut_text count) ending [])) }
+        (groups_text p.now ends
+        ++ (finished_text (totals ends) ++ option_map_or reports.cut_line end [])) }
 {
     write_groups(w, p, groups)?;
     write_finished(w, groups.totals())?;
-    match ending {
-        Some(ending) => write_cut(w, count, ending),
+    match end {
+        Some(end) => write_cut(w, end.count, end.ending),
         None => Ok(()),
     }
 }
@@ -131,42 +141,60 @@ fn written(done: Result<(), WriteFault>) -> Result<(), WhyFault>
     }
 }
 
-/// Writes what is reported of all packets together, of which so many were read, and how the capture ends where that is
-/// shown.
+/// Writes what is reported of all packets together, and how the capture ends where that is shown.
 fn write_closing<P: Allocator, A: Allocator + Copy, W: Write>(
     alloc: A,
     w: &mut W,
     question: &Question<'_, P>,
     counted: &Counted<A>,
-    count: u64,
-    ending: Option<Ending>,
+    end: Option<CaptureEnd>,
 ) -> Result<(), WhyFault>
     requires { (records : List Record) × spec.Took question.now counted.now records }
     ensures { (records : List Record) → spec.Took question.now counted.now records
         → spec.Closed (W.contents w.old) (W.contents w.new) result
-        (reports.closing_text question.now.report (spec.machine_in question.now) records count ending) }
+        (reports.closing_text question.now.report (spec.machine_in question.now) records end) }
 {
     let p = question.program;
     match question.report {
         Report::Ways => Ok(()),
         Report::Packets => Ok(()),
-        Report::Summary => written(write_summary(w, p, &counted.groups, count, ending)),
+        Report::Summary => written(write_summary(w, p, &counted.groups, end)),
         Report::Coverage => written(write_counted_coverage(w, question, counted)),
         Report::Graph => write_counted_graph(alloc, w, question, counted),
     }
 }
 
 /// How the capture ends, where all packets are looked at.
-fn shown_ending(packets: &[PacketRange], ending: Option<Ending>) -> Option<Ending>
-    ensures { result ≡ reports.shown_ending packets.now ending }
+fn shown_end(packets: &[PacketRange], end: Option<CaptureEnd>) -> Option<CaptureEnd>
+    ensures { result ≡ reports.shown_end packets.now end }
 {
-    if packets.is_empty() { ending } else { None }
+    if packets.is_empty() { end } else { None }
 }
 
-/// Writes what is to be reported of a program on a capture, of which no record was read yet.
+/// How the capture ends, where its end was read.
+fn end_read<R: Read, A: Allocator>(
+    reader: &CaptureReader<R, A>,
+    is_over: bool,
+) -> Option<CaptureEnd>
+    ensures end { result ≡ (if is_over
+        then option_map (reports.end_after reader.now.count) reader.now.ended else None) }
+    ensures numbered { IfSome reader.now.left (λ c. AreNumbered reader.now.count c.records) }
+{
+    let count = reader.count();
+    if !is_over {
+        return None;
+    }
+    let ending = reader.ending()?;
+    Some(CaptureEnd { count, ending })
+}
+
+/// Writes what is to be reported of a program on a capture, of which no record was read yet. The answer is how the
+/// capture ends, where its end was read.
 ///
 /// The ranges of packets are sorted. Of a packet whose number stands in none nothing is reported, and after the last
-/// packet that is looked at nothing is read. What is reported packet by packet is flushed before a read that may wait.
+/// packet that is looked at nothing is read. So the capture's end is read where all packets are looked at, or where a
+/// range ends beyond it. [`PacketRange::beyond`] says which numbers of a range the capture lacks. What is reported packet
+/// by packet is flushed before a read that may wait.
 ///
 /// The totals count the outcomes of the packets, as [`crate::totals_of_outcomes`] says. The debugger's `run` counts the
 /// same, as `same_totals` of cbpf_tool says.
@@ -175,29 +203,27 @@ fn shown_ending(packets: &[PacketRange], ending: Option<Ending>) -> Option<Endin
 ///
 /// `Read` or `Memory` where no further record could be read: what was to be written of the packets before was written,
 /// but nothing of all together. `Memory` also where there is no room for the counts. `Write` where a write or a flush
-/// failed: a beginning of the text was written. `NoPacket` after the whole text.
+/// failed: a beginning of the text was written.
 pub fn why<P: Allocator, A: Allocator + Copy, R: Read, B: Allocator, W: Write>(
     alloc: A,
     question: &Question<'_, P>,
     reader: &mut CaptureReader<R, B>,
     w: &mut W,
-) -> Result<(), WhyFault>
+) -> Result<Option<CaptureEnd>, WhyFault>
     requires count { reader.old.count ≡ 0 }
     requires sorted { AreSorted question.now.packets.now }
     ensures { IfSome reader.old.left (λ c. reports.Reported question.now.report question.now.packets.now
-        (spec.machine_in question.now) c (W.contents w.old) (W.contents w.new) result) }
+        (spec.machine_in question.now) c reader.new.count (W.contents w.old) (W.contents w.new) result) }
 {
     let Ok(mut counted) = Counted::new(alloc, question.program) else {
         return Err(WhyFault::Memory);
     };
-    let missing = take_packets(question, &mut counted, reader, w)?;
-    let ending = shown_ending(question.packets, reader.ending());
-    write_closing(alloc, w, question, &counted, reader.count(), ending)?;
+    let is_over = take_packets(question, &mut counted, reader, w)?;
+    let end = end_read(reader, is_over);
+    let shown = shown_end(question.packets, end);
+    write_closing(alloc, w, question, &counted, shown)?;
     if w.flush().is_err() {
         return Err(WhyFault::Write);
     }
-    match missing {
-        Some(number) => Err(WhyFault::NoPacket(number)),
-        None => Ok(()),
-    }
+    Ok(end)
 }

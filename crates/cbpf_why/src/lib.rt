@@ -1,10 +1,12 @@
 //! Which packets of a capture pass a program, and why the others don't, for captures of any size.
 #![tactic(auto)]
 
+mod block_nodes;
 mod blocks;
 mod chosen;
 mod counted;
 mod coverage;
+mod end_nodes;
 mod ended;
 mod equality;
 mod filter;
@@ -21,6 +23,6 @@ pub use chosen::PacketRange;
 pub use ended::{Ended, Verdict};
 pub use equality::equal_where_same;
 pub use filter::{FilterFault, program_of};
-pub use job::{Question, WhyFault, why};
+pub use job::{CaptureEnd, Question, WhyFault, why};
 pub use law::totals_of_outcomes;
 pub use report::Report;

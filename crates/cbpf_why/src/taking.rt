@@ -1,22 +1,27 @@
 //! The packets that are looked at, one after another.
 
-ghost use Rattle.std.specs.Prelude.{◌≡◌, ◌<◌, ◌≤◌, ◌+◌, ◌^◌, ◌++◌, [], ◌∷◌, List, length, true, Ok, IfErr, OnOk, not, IfSome, IfNone, MatchResult};
+ghost use Rattle.std.specs.Prelude.{◌≡◌, ◌<◌, ◌≤◌, ◌+◌, ◌^◌, ◌++◌, [], ◌∷◌, List, length, true, Ok, IfErr, OnOk, not, MatchResult};
 ghost use Rattle.std.specs.Io.KnownBytes.{Keeps as KeepsBytes};
 ghost use Rattle.cbpf_code.specs.Writing.{Wrote};
 ghost use Rattle.pcap_classic.specs.Lent.{record_of};
 ghost use Rattle.pcap_classic.specs.Records.{Record};
 ghost use Rattle.cbpf_why.specs.Chosen.{AreSorted};
+ghost use Rattle.cbpf_why.specs.Ends.{ended};
 ghost use Rattle.cbpf_why.specs.Job as spec;
+ghost use Rattle.cbpf_why.specs.Packets.{packet_line};
 ghost use Rattle.cbpf_why.specs.Reports as reports;
 ghost use Rattle.cbpf_why.specs.declared.job.WhyFault.TheVariants as fault;
 
 use crate::chosen::PacketRange;
-use crate::counted::{Counted, add_counted, add_ended, end_of};
+use crate::counted::{Counted, add_counted, add_ended};
+use crate::ended::Ended;
 use crate::job::{Question, WhyFault};
 use crate::packets::write_packet_line;
 use crate::report::Report;
 use crate::ways::write_way;
 use cbpf_code::WriteFault;
+use cbpf_machine::{Meter, way_of_packet};
+use cbpf_reply::packet_of;
 use pcap_classic::{CaptureReader, Captured, ReadFault};
 use std::alloc::Allocator;
 use std::io::{Read, Write};
@@ -26,6 +31,26 @@ fn writes_each(report: Report) -> bool
     ensures { result ≡ not (spec.shows_groups report) }
 {
     matches!(report, Report::Ways | Report::Packets)
+}
+
+/// Writes the line of a packet.
+// Kept out of line, as its registers would else be saved for each packet that is counted.
+#[inline(never)]
+fn write_line_of<P: Allocator, W: Write>(
+    question: &Question<'_, P>,
+    w: &mut W,
+    record: &Captured<'_>,
+) -> Result<(), WriteFault>
+    ensures { Wrote (W.contents w.old) (W.contents w.new) result
+        (packet_line (ended (spec.machine_in question.now) (record_of record.now))) }
+{
+    let way = way_of_packet(
+        &mut Meter::new(),
+        question.program,
+        packet_of(record),
+        question.values,
+    );
+    write_packet_line(w, Ended::of(record.number, &way.end))
 }
 
 /// Counts a packet, or writes what is to be reported of it.
@@ -43,7 +68,7 @@ fn take_packet<P: Allocator, A: Allocator + Copy, W: Write>(
 {
     match question.report {
         Report::Ways => write_way(w, question.program, question.values, record),
-        Report::Packets => write_packet_line(w, end_of::<P, 5>(question, record)),
+        Report::Packets => write_line_of(question, w, record),
         Report::Summary => {
             add_ended(question, counted, record);
             Ok(())
@@ -144,43 +169,30 @@ fn take_range<P: Allocator, A: Allocator + Copy, R: Read, B: Allocator, W: Write
     Ok(count)
 }
 
-/// The first number of a range that is above a count.
-fn first_above(range: PacketRange, count: u64) -> Option<u64>
-    requires { count < 2 ^ 60 }
-    ensures some { IfSome result (spec.IsFirstAbove range count) }
-    ensures none { IfNone result (reports.EndsBy count range) }
-{
-    let number = range.first.max(count + 1);
-    if number <= range.last {
-        Some(number)
-    } else {
-        None
-    }
-}
-
-/// Takes the packets of ranges, which are sorted: the first number that is looked at and that the capture doesn't have.
+/// Takes the packets of ranges, which are sorted: whether the capture's end was read.
 fn take_ranges<P: Allocator, A: Allocator + Copy, R: Read, B: Allocator, W: Write>(
     question: &Question<'_, P>,
     counted: &mut Counted<A>,
     reader: &mut CaptureReader<R, B>,
     w: &mut W,
-) -> Result<Option<u64>, WhyFault>
+) -> Result<bool, WhyFault>
     requires count { reader.old.count ≡ 0 }
     requires took { spec.Took question.now counted.old [] }
     requires sorted { AreSorted question.now.packets.now }
+    requires some { 0 < length question.now.packets.now }
     ensures { MatchResult result
-        (λ missing. spec.Went question.now reader.old reader.new counted.new (W.contents w.old) (W.contents w.new)
-        × spec.Lacks question.now.packets.now reader.old.left reader.new missing)
-        (λ fault. spec.Broke question.now reader.old.left reader.new.left (W.contents w.old) (W.contents w.new) fault) }
+        (λ is_over. spec.Went question.now reader.old reader.new counted.new (W.contents w.old) (W.contents w.new)
+        × spec.Ends question.now.packets.now reader.old.left reader.new is_over)
+        (λ fault. spec.Broke question.now reader.old.left reader.new (W.contents w.old) (W.contents w.new) fault) }
 {
     let mut count = 0;
     for range in question.packets {
         count = take_range(question, counted, reader, w, *range, count)?;
-        if let Some(number) = first_above(*range, count) {
-            return Ok(Some(number));
+        if count < range.last {
+            return Ok(true);
         }
     }
-    Ok(None)
+    Ok(false)
 }
 
 /// Takes all packets.
@@ -196,7 +208,7 @@ fn take_all<P: Allocator, A: Allocator + Copy, R: Read, B: Allocator, W: Write>(
     ensures { MatchResult result
         (λ _. spec.Went question.now reader.old reader.new counted.new (W.contents w.old) (W.contents w.new)
         × spec.IsOver reader.old.left reader.new)
-        (λ fault. spec.Broke question.now reader.old.left reader.new.left (W.contents w.old) (W.contents w.new) fault) }
+        (λ fault. spec.Broke question.now reader.old.left reader.new (W.contents w.old) (W.contents w.new) fault) }
 {
     let all = PacketRange {
         first: 1,
@@ -208,24 +220,24 @@ fn take_all<P: Allocator, A: Allocator + Copy, R: Read, B: Allocator, W: Write>(
     }
 }
 
-/// Takes the packets that are looked at: the first number that is looked at and that the capture doesn't have.
+/// Takes the packets that are looked at: whether the capture's end was read.
 pub(crate) fn take_packets<P: Allocator, A: Allocator + Copy, R: Read, B: Allocator, W: Write>(
     question: &Question<'_, P>,
     counted: &mut Counted<A>,
     reader: &mut CaptureReader<R, B>,
     w: &mut W,
-) -> Result<Option<u64>, WhyFault>
+) -> Result<bool, WhyFault>
     requires count { reader.old.count ≡ 0 }
     requires took { spec.Took question.now counted.old [] }
     requires sorted { AreSorted question.now.packets.now }
     ensures { MatchResult result
-        (λ missing. spec.Went question.now reader.old reader.new counted.new (W.contents w.old) (W.contents w.new)
-        × spec.Lacking question.now.packets.now reader.old.left reader.new missing)
-        (λ fault. spec.Broke question.now reader.old.left reader.new.left (W.contents w.old) (W.contents w.new) fault) }
+        (λ is_over. spec.Went question.now reader.old reader.new counted.new (W.contents w.old) (W.contents w.new)
+        × spec.Ends question.now.packets.now reader.old.left reader.new is_over)
+        (λ fault. spec.Broke question.now reader.old.left reader.new (W.contents w.old) (W.contents w.new) fault) }
 {
     if question.packets.is_empty() {
         take_all(question, counted, reader, w)?;
-        return Ok(None);
+        return Ok(true);
     }
     take_ranges(question, counted, reader, w)
 }

@@ -168,6 +168,8 @@ fn write_end<W: Write, A: Allocator>(
 }
 
 /// Writes the way of a packet.
+// Kept out of line, as its registers would else be saved for each packet that is counted.
+#[inline(never)]
 pub(crate) fn write_way<W: Write, A: Allocator>(
     w: &mut W,
     p: &Program<A>,

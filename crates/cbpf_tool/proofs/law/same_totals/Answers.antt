@@ -1,7 +1,8 @@
 use Rattle.std.proofs.Common.{◌≡◌, ℕ, ◌+◌, ◌-◌, List, [], ◌∷◌, ◌∙◌, refl, sym, ap, map, length, take, arith, take_all}
 use Rattle.std.specs.Prelude.{Bool, count_by, if◌then◌else◌}
 use Rattle.std.proofs.lemmas.List.Sums.{sum_by-cons}
-use Rattle.cbpf_dbg.specs.Joined.{counts, is_fail, is_open, is_pass}
+use Rattle.cbpf_machine.specs.Outcomes.{is_fail, is_open, is_pass}
+use Rattle.cbpf_dbg.specs.Joined.{counts}
 use Rattle.cbpf_machine.specs.Machine.{Machine}
 use Rattle.cbpf_machine.specs.declared.outcome.Outcome.{Outcome}
 use Rattle.cbpf_machine.specs.declared.outcome.Outcome.TheVariants as outcome_is

@@ -4,6 +4,6 @@ use Rattle.cbpf_tool.proofs.why_on_host.print_report.Goals as goal
 pub returns : goal.returns
 returns g c = λ ready capture e.
     let out = c.output.ensures.left ready.0 in
-    report-printed _ _ _ _ _ capture _ _ c.why-done.result _ out (c.in-Ok.ensures.empty ready)
-    (rw e at c.why-done.ensures)
+    report-printed _ _ _ _ _ capture _ _ _ c.why-done.result _ out (c.in-Ok.ensures.empty ready)
+    (rw c.deref.ensures.value at (rw e at c.why-done.ensures))
     (c.print.ensures (rw out ready.0)) c.reported.ensures

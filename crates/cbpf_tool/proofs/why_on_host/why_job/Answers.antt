@@ -17,5 +17,5 @@ returns g c = λ ready.
       mid = _;
       filter = Ok _;
       opens = opens;
-      goes = rw c.deref.ensures.value at (c.report_by_name.ensures (ready-after _ _ _ _ opens ready));
+      goes = c.report_by_name.ensures (ready-after _ _ _ _ opens ready);
     }

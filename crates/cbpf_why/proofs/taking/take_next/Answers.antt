@@ -35,13 +35,13 @@ pub returns-in-Err-Read : goal.returns-in-Err-Read
 returns-in-Err-Read g c = λ records took.
     let h = rw (c.in-Err-Read.is, c.in-Err-Read.field-0-is) at c.next_record.follows.holds-at-none in
     stepped_unread c.args.question.now c.args.first c.args.reader.now _ _ _
-    (appended-kept _ _ _ [] (appended-nil _) c.flush_if_due.ensures.kept) c.in-Err-Read.field-0-0 h.1
+    (appended-kept _ _ _ [] (appended-nil _) c.flush_if_due.ensures.kept) c.in-Err-Read.field-0-0 h.0 h.1
 
 pub returns-in-Err-Memory : goal.returns-in-Err-Memory
 returns-in-Err-Memory g c = λ records took.
     let h = rw (c.in-Err-Memory.is, c.in-Err-Memory.field-0-is) at c.next_record.follows.holds-at-none in
     stepped_unheld c.args.question.now c.args.first c.args.reader.now _ _ _
-    (appended-kept _ _ _ [] (appended-nil _) c.flush_if_due.ensures.kept) h.1
+    (appended-kept _ _ _ [] (appended-nil _) c.flush_if_due.ensures.kept) h.0 h.1
 
 pub returns-then-is_err : goal.returns-then-is_err
 returns-then-is_err g c = λ records took.

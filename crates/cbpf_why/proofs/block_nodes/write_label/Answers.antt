@@ -1,7 +1,7 @@
 use Rattle.std.proofs.Common.{arith}
 use Rattle.cbpf_code.proofs.WrittenLemmas.{loop-next, loop-stop, err-exit}
 use Rattle.cbpf_why.specs.Graph.{label_byte}
-use Rattle.cbpf_why.proofs.graph.write_label.Goals as goal
+use Rattle.cbpf_why.proofs.block_nodes.write_label.Goals as goal
 
 pub loop-b-preserved : goal.loop-b-preserved
 loop-b-preserved g c = loop-next label_byte c.args.text.now c.loop-b.b-index 0 _ _ _ (omega arith)

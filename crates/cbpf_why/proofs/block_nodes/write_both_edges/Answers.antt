@@ -1,5 +1,5 @@
 use Rattle.cbpf_code.proofs.WrittenLemmas.{first-failed, wrote-then}
-use Rattle.cbpf_why.proofs.graph.write_both_edges.Goals as goal
+use Rattle.cbpf_why.proofs.block_nodes.write_both_edges.Goals as goal
 
 pub returns-in_err-write_edge : goal.returns-in_err-write_edge
 returns-in_err-write_edge g c = first-failed _ _ _ _ _ c.from_residual.ensures.0
