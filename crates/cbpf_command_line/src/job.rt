@@ -1,6 +1,7 @@
 //! What the program is asked to do.
 
 use cbpf_code::Form;
+use thiserror::Error;
 
 /// What the program is asked to do. Without a file's name it is the standard stream.
 #[derive(Debug, PartialEq, Eq, Drop)]
@@ -18,12 +19,15 @@ pub enum Job {
 }
 
 /// Why a command line asks for no job.
-#[derive(Debug, PartialEq, Eq, Drop)]
+#[derive(Debug, PartialEq, Eq, Drop, Error)]
 pub enum LineFault {
     /// It asks for help or the version, and this is the text.
+    #[error("{0}")]
     Help(String),
     /// It is refused, and this says why.
+    #[error("{0}")]
     Refused(String),
     /// The allocator refused.
+    #[error("out of memory")]
     Memory,
 }

@@ -4,6 +4,7 @@ ghost use Rattle.std.specs.Prelude.{◌≡◌, false, List, [], map, option_map,
 ghost use Rattle.clap.specs.Words.{app_of, new_app, new_rule, rule_of, first_of, subcommand_rows_of, rows_of, found_of};
 ghost use Rattle.clap.specs.declared.builder.command.Command.TheViews.{out-Command as fields_of};
 ghost use Rattle.clap.specs.Kinds.{HasKind};
+ghost use Rattle.clap.specs.Values.{kind_of};
 ghost use Rattle.cbpf_command_line.specs.CommandLine as spec;
 
 use crate::job::{Job, LineFault};
@@ -12,9 +13,10 @@ use clap::error::ErrorKind;
 use clap::{Arg, ArgAction, ArgMatches, Command, Error};
 use std::alloc::{AllocError, Global};
 
-const VERSION: &str = "1.0.0";
+const VERSION: &str = "2.0.0-dev";
 
-const ABOUT: &str = "An assembler and a debugger for classic BPF filters";
+const ABOUT: &str =
+    "Shows why packets pass or fail a classic BPF filter; assembles and debugs filters";
 
 const EXAMPLES: &str = "Without a command, cbpf runs the debugger, dbg, on standard input.
 
@@ -238,6 +240,37 @@ pub(crate) fn line_fault(alloc: Global, error: &Error) -> LineFault
     }
 }
 
+/// Whether a word looks like the name of a file, as the name of no subcommand does.
+fn is_file_name(word: &str) -> bool {
+    word.contains('.') || word.contains('/')
+}
+
+/// The error of a parse. Where the name of a file stands in the place of a subcommand, it names the one that runs a file.
+fn with_tip(alloc: Global, words: &[String], error: Error) -> Result<Error, AllocError>
+    ensures { IfOk result (λ e. kind_of e ≡ kind_of error) }
+{
+    let kind = error.kind();
+    match words.get(1) {
+        Some(name) if kind == ErrorKind::InvalidSubcommand && is_file_name(name) => {
+            let text = format!(in alloc;
+                "unrecognized subcommand '{name}'\n\n  tip: to run a debugger's script, use 'cbpf dbg {name}'"
+            )?;
+            command(alloc)?.error(kind, &text)
+        }
+        _ => Ok(error),
+    }
+}
+
+/// What is wrong with words, of which the parse gave an error.
+pub(crate) fn parse_fault(alloc: Global, words: &[String], error: Error) -> LineFault
+    ensures { (kinds : List ErrorKind) → HasKind kinds error → spec.IsFaultOf kinds result }
+{
+    match with_tip(alloc, words, error) {
+        Ok(error) => line_fault(alloc, &error),
+        Err(_) => LineFault::Memory,
+    }
+}
+
 fn job_asked(alloc: Global, words: &[String]) -> Result<Job, LineFault>
     ensures job { IfOk result (λ j. spec.meaning j ≡ spec.asked_for (map spec.text_of words.now)) }
     ensures taken { IfOk result (λ _. spec.faults_in (map spec.text_of words.now) ≡ []) }
@@ -255,7 +288,7 @@ fn job_asked(alloc: Global, words: &[String]) -> Result<Job, LineFault>
     };
     let matches = match command.try_get_matches_from(words) {
         Ok(matches) => matches,
-        Err(error) => return Err(line_fault(alloc, &error)),
+        Err(error) => return Err(parse_fault(alloc, words, error)),
     };
     match job_of(alloc, &matches) {
         Ok(job) => Ok(job),

@@ -10,7 +10,9 @@ ghost use Rattle.cbpf_command_line.specs.CommandLine.{text_of, IsFaultOf, IsRefu
 ghost use Rattle.cbpf_command_line.specs.RequestLine as spec;
 
 use crate::job::{Job, LineFault};
-use crate::parse::{bare, command, file_name, given_name, given_text, job_of, line_fault};
+use crate::parse::{
+    bare, command, file_name, given_name, given_text, job_of, line_fault, parse_fault,
+};
 use crate::request::{Detail, RequestWords, WhyWords};
 use clap::error::ErrorKind;
 use clap::{Arg, ArgAction, ArgMatches, Command};
@@ -283,7 +285,7 @@ fn request_of(alloc: Global, words: &[String]) -> Result<RequestWords, LineFault
     };
     match command.try_get_matches_from(words) {
         Ok(matches) => request_asked(alloc, &matches),
-        Err(error) => Err(line_fault(alloc, &error)),
+        Err(error) => Err(parse_fault(alloc, words, error)),
     }
 }
 

@@ -20,7 +20,7 @@ returns-then-words-le1-clause-taken c =
 
 pub returns-in-Err-clause-refused : goal.returns-in-Err-clause-refused
 returns-in-Err-clause-refused c =
-    c.line_fault.ensures _ (faults_in-command (λ kinds. HasKind kinds c.in-Err.error) (app_of c.in-Ok.command)
+    c.parse_fault.ensures _ (faults_in-command (λ kinds. HasKind kinds c.in-Err.error) (app_of c.in-Ok.command)
     (map spec.text_of c.args.words.now) c.in-Ok.ensures c.in-Err.ensures.kinds)
 
 pub returns-in-Ok-job_of-clause-job : goal.returns-in-Ok-job_of-clause-job

@@ -22,7 +22,7 @@ returns-then-words-le1-clause-taken c =
 pub returns-in-Err-clause-refused : goal.returns-in-Err-clause-refused
 returns-in-Err-clause-refused c =
     faults-unparsed (app_of c.in-Ok.command) (map spec.text_of c.args.words.now) c.in-Ok.ensures
-    c.line_fault.result (λ simple. c.line_fault.ensures _ (c.in-Err.ensures.kinds simple))
+    c.parse_fault.result (λ simple. c.parse_fault.ensures _ (c.in-Err.ensures.kinds simple))
 
 pub returns-in-Ok-try_get_matches_from-clause-request : goal.returns-in-Ok-try_get_matches_from-clause-request
 returns-in-Ok-try_get_matches_from-clause-request c = IfOk-weaker c.request_asked.result _ _
