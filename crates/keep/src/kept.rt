@@ -1,78 +1,53 @@
 //! Stops that a session can go back to.
 
-ghost use Rattle.std.specs.Prelude.{◌≡◌, Ok, IfOk, IfSome};
+ghost use Rattle.std.specs.Prelude.{◌≡◌, IfOk, Ok};
 ghost use Rattle.std.specs.List.{All};
-ghost use Rattle.keep.specs.Kept.{IsKept, IsMoved};
+ghost use Rattle.cbpf_dbg.specs.Commands.{stops};
+ghost use Rattle.cbpf_dbg.specs.Here.{CanReturn};
+ghost use Rattle.keep.specs.Kept.{IsMoved};
 
-use cbpf_dbg::{Meter, Place, RunReply, Session, SessionFault, Stop, Trail};
+use cbpf_dbg::{Meter, Session, SessionFault, Stop, Trail};
 use std::alloc::Allocator;
 
-/// A stop, and the place from which a run comes to it.
-#[derive(Clone, Copy, Debug)]
-pub struct Kept {
-    pub from: Place,
-    pub stop: Stop,
-}
-
-/// Runs to the next stop and keeps it; `None` where the run came to the end of the capture.
-pub fn keep_next<T: Trail, A: Allocator>(
-    session: &mut Session<T, A>,
-) -> Result<Option<Kept>, SessionFault>
-    ensures kept { IfOk result (λ next. IfSome next (IsKept session.new)) }
-    ensures moved { IsMoved session.old session.new }
-{
-    let from = session.mark()?;
-    match session.run(&mut Meter::new(), None)? {
-        RunReply::Stopped(stop) => Ok(Some(Kept { from, stop })),
-        _ => Ok(None),
-    }
-}
-
-/// Runs to each stop that is ahead, and keeps all of them in order.
+/// Runs to each stop that is ahead, and keeps them: all, each once, in order.
 pub fn keep_all<T: Trail, A: Allocator + Copy>(
     alloc: A,
     session: &mut Session<T, A>,
-) -> Result<Vec<Kept, A>, SessionFault>
-    ensures kept { IfOk result (λ all. All (IsKept session.new) all.items) }
+) -> Result<Vec<Stop, A>, SessionFault>
+    ensures all { IfOk result (λ kept. stops session.old ≡ Ok kept.items) }
+    ensures kept { IfOk result (λ kept. All (CanReturn session.new) kept.items) }
     ensures moved { IsMoved session.old session.new }
 {
-    let mut all = Vec::new(alloc);
-    'stops: for _ in 0..u64::MAX {
-        let Some(next) = keep_next(session)? else {
-            break;
-        };
-        if all.push(next).is_err() {
-            return Err(SessionFault::Memory);
-        }
-    }
-    Ok(all)
+    let mut kept = Vec::new(alloc);
+    session.run_to_end(&mut Meter::new(), &mut kept)?;
+    Ok(kept)
 }
 
 /// Goes back to a stop that was kept: it is the same one, with the same registers.
 pub fn go_back<T: Trail, A: Allocator>(
     session: &mut Session<T, A>,
-    kept: &Kept,
+    stop: &Stop,
 ) -> Result<Stop, SessionFault>
-    requires { IsKept session.old kept.now }
-    ensures same { IfOk result (λ stop. stop ≡ kept.now.stop) }
+    requires { CanReturn session.old stop.now }
+    ensures same { IfOk result (λ again. again ≡ stop.now) }
     ensures moved { IsMoved session.old session.new }
 {
-    session.resume(&mut Meter::new(), kept.from)?;
-    match session.run(&mut Meter::new(), None)? {
-        RunReply::Stopped(stop) => Ok(stop),
-        _ => unreachable!(),
+    session.resume(&mut Meter::new(), stop.place)?;
+    match session.here() {
+        Some(again) => Ok(again),
+        None => unreachable!(),
     }
 }
 
 /// Goes back to the first of the stops that were kept, if there is one.
 pub fn go_back_to_first<T: Trail, A: Allocator>(
     session: &mut Session<T, A>,
-    all: &[Kept],
+    kept: &[Stop],
 ) -> Result<Option<Stop>, SessionFault>
-    requires { All (IsKept session.old) all.now }
+    requires { All (CanReturn session.old) kept.now }
     ensures moved { IsMoved session.old session.new }
 {
-    match all.first() {
+    match kept.first() {
         Some(first) => Ok(Some(go_back(session, first)?)),
         None => Ok(None),
     }

@@ -4,9 +4,8 @@
 mod kept;
 
 use cbpf_dbg::{MarkTrail, Session, SessionFault, Stop};
-use cbpf_reply::capture_fault_line;
 use cbpf_why::{FilterFault, program_of};
-use kept::{Kept, go_back_to_first, keep_all};
+use kept::{go_back_to_first, keep_all};
 use pcap_classic::{Capture, CaptureFault};
 use std::process::ExitCode;
 use std::rt::{Env, Files};
@@ -22,9 +21,9 @@ enum Fault {
     Io(#[from] io::Error),
     #[error("{0}")]
     Filter(#[from] FilterFault),
-    #[error("{}", capture_fault_line(*.0))]
-    Capture(CaptureFault),
-    #[error("{0:?}")]
+    #[error("{0}")]
+    Capture(#[from] CaptureFault),
+    #[error("{0}")]
     Session(#[from] SessionFault),
     #[error("no stop")]
     NoStop,
@@ -41,9 +40,9 @@ fn show<R: Print>(rt: &R, stop: &Stop) -> io::Result<()> {
     )
 }
 
-fn show_all<R: Print>(rt: &R, all: &[Kept]) -> io::Result<()> {
-    for kept in all {
-        show(rt, &kept.stop)?;
+fn show_all<R: Print>(rt: &R, stops: &[Stop]) -> io::Result<()> {
+    for stop in stops {
+        show(rt, stop)?;
     }
     Ok(())
 }
@@ -56,7 +55,7 @@ fn show_stops<R: Env + Files + Print + AllocGlobal>(rt: &R) -> Result<(), Fault>
     };
     let capture = match Capture::from_bytes(alloc, fs::read(rt, file.as_str())?) {
         Ok(capture) => capture,
-        Err((fault, _)) => return Err(Fault::Capture(fault)),
+        Err((fault, _)) => return Err(Fault::from(fault)),
     };
     let mut session = Session::new(alloc, MarkTrail::new());
     session.load_program(program_of(alloc, fs::read(rt, filter.as_str())?)?);

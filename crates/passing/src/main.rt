@@ -3,7 +3,6 @@
 
 mod numbers;
 
-use cbpf_reply::capture_fault_line;
 use cbpf_why::{FilterFault, program_of};
 use numbers::passing;
 use pcap_classic::{Capture, CaptureFault};
@@ -22,8 +21,8 @@ enum Fault {
     Io(#[from] io::Error),
     #[error("{0}")]
     Filter(#[from] FilterFault),
-    #[error("{}", capture_fault_line(*.0))]
-    Capture(CaptureFault),
+    #[error("{0}")]
+    Capture(#[from] CaptureFault),
     #[error("out of memory")]
     Memory(#[from] AllocError),
 }
@@ -37,7 +36,7 @@ fn print_numbers<R: Env + Files + Print + AllocGlobal>(rt: &R) -> Result<(), Fau
     let program = program_of(alloc, fs::read(rt, filter.as_str())?)?;
     let capture = match Capture::from_bytes(alloc, fs::read(rt, file.as_str())?) {
         Ok(capture) => capture,
-        Err((fault, _)) => return Err(Fault::Capture(fault)),
+        Err((fault, _)) => return Err(Fault::from(fault)),
     };
     for number in passing(alloc, &program, &capture)?.iter() {
         println!(rt; "{number}")?;

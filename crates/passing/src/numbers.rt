@@ -7,7 +7,8 @@ ghost use Rattle.pcap_classic.specs.Lent.{record_of};
 ghost use Rattle.passing.specs.Passing as spec;
 
 use cbpf_code::Program;
-use cbpf_machine::{Meter, Outcome, Packet, Values, run_packet};
+use cbpf_machine::{Values, outcome_of};
+use cbpf_reply::packet_of;
 use pcap_classic::{Capture, Captured};
 use std::alloc::{AllocError, Allocator};
 
@@ -15,16 +16,10 @@ use std::alloc::{AllocError, Allocator};
 fn passes<A: Allocator>(program: &Program<A>, captured: &Captured<'_>) -> bool
     ensures { result ≡ spec.passes (machine_of program.now no_values) (record_of captured.now) }
 {
-    let packet = Packet {
-        bytes: captured.bytes,
-        wire: captured.wire,
-    };
-    let outcome = run_packet(&mut Meter::new(), program, packet, &Values::new());
-    matches!(outcome, Outcome::Pass(_))
+    outcome_of(program, packet_of(captured), &Values::new()).is_pass()
 }
 
 /// The numbers of the packets that pass.
-#[tactic(auto, using(std::proofs::lemmas::List::take_all))]
 pub fn passing<A: Allocator + Copy>(
     alloc: A,
     program: &Program<A>,
@@ -34,7 +29,7 @@ pub fn passing<A: Allocator + Copy>(
         ≡ spec.passing (machine_of program.now no_values) capture.now.records) }
 {
     let mut numbers = Vec::new(alloc);
-    for record in capture.records(1, capture.count() + 1) {
+    for record in capture {
         if passes(program, &record) {
             numbers.push(record.number)?;
         }
