@@ -20,6 +20,8 @@ mod plain_words;
 #[cfg(test)]
 mod random_lists;
 #[cfg(test)]
+mod shown;
+#[cfg(test)]
 mod tables;
 #[cfg(test)]
 mod tokens;

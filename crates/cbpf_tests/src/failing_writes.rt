@@ -183,7 +183,7 @@ fn write_report(
     w: &mut FaultyWriter<2048>,
 ) -> Result<(), ToolFault> {
     match report_on(rt, (ARP, None, report), &[], TWO_PACKETS, w) {
-        Ok(()) => Ok(()),
+        Ok(_) => Ok(()),
         Err(WhyFault::Write) => Err(ToolFault::Write),
         Err(_) => Err(ToolFault::Read),
     }

@@ -283,19 +283,19 @@ fn after_a_last_flush_that_failed(rt: HostRuntime) {
     }
 }
 
-/// The number of records of a capture, and the bytes that its index asks for: a place of 8 bytes for each 64 records
-/// and for what is left of them. It holds them all.
-static INDEXES: [(u32, u64); 10] = [
-    (0, 0),
-    (1, 8),
-    (64, 8),
-    (65, 16),
-    (256, 32),
-    (257, 40),
-    (512, 64),
-    (513, 72),
-    (3000, 376),
-    (8192, 1024),
+/// The number of records of a capture, and the bytes that its index asks for, and those that it holds. It has room for
+/// the starts of four records, of 8 bytes each, and then for twice as many each time.
+static INDEXES: [(u32, u64, u64); 10] = [
+    (0, 0, 0),
+    (1, 32, 32),
+    (64, 32, 32),
+    (65, 32, 32),
+    (256, 32, 32),
+    (257, 96, 64),
+    (512, 96, 64),
+    (513, 224, 128),
+    (3000, 992, 512),
+    (8192, 2016, 1024),
 ];
 
 /// What an index asks for and holds, over the bytes of `alloc`, which `counting` counts.
@@ -319,11 +319,11 @@ fn index_of<A: Allocator + Copy>(
 
 #[test]
 fn room_for_the_index_of_a_capture(rt: HostRuntime) {
-    for (records, room) in INDEXES.iter() {
+    for (records, asked, held) in INDEXES.iter() {
         let counting = FaultyAllocator::new(rt.alloc(), 0);
         let bytes = repeated(&rt, HEADER, RECORD, *records, b"");
         let found = index_of(&rt, &counting, &counting, &bytes);
-        let is_wanted = found == (*room, *room);
+        let is_wanted = found == (*asked, *held);
         assert_named(&rt, is_wanted, "the bytes of the index", *records);
         assert_named(&rt, counting.held() == 0, "held", *records);
     }
@@ -365,7 +365,7 @@ fn room_of_report(rt: &impl Test, report: Report, file: &[u8]) -> u64 {
         &mut reader,
         &mut text,
     );
-    assert!(rt; answer == Ok(()) && counting.held() == 0);
+    assert!(rt; answer.is_ok() && counting.held() == 0);
     counting.asked()
 }
 

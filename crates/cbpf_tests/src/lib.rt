@@ -55,6 +55,8 @@ mod refused_growth;
 #[cfg(test)]
 mod sessions;
 #[cfg(test)]
+mod shown;
+#[cfg(test)]
 mod sizes;
 #[cfg(test)]
 mod stop_dump;

@@ -34,7 +34,7 @@ fn bytes_of(files: &[File], name: &str) -> Option<&'static [u8]>
 
 /// Files that commands load.
 #[derive(Drop)]
-struct ListedFiles {
+pub(crate) struct ListedFiles {
     files: &'static [File],
 }
 
@@ -61,14 +61,14 @@ fn copied<R: Test>(rt: &R, bytes: &[u8]) -> Vec<u8>
 /// Files, a standard input, and the log of what was done. Its outputs take memory of `alloc`, and `refusal` says why
 /// there is none. As the log has to grow, it ends the test where it can't.
 #[derive(Drop)]
-struct MemoryHost<'a, R: Test, A: Allocator + Copy> {
+pub(crate) struct MemoryHost<'a, R: Test, A: Allocator + Copy> {
     rt: &'a R,
     alloc: A,
     files: &'static [File],
-    input: &'static [u8],
+    pub(crate) input: &'static [u8],
     has_output: bool,
-    refusal: Option<CreateFault>,
-    log: Vec<Done>,
+    pub(crate) refusal: Option<CreateFault>,
+    pub(crate) log: Vec<Done>,
 }
 
 /// Adds an event to a log.
@@ -161,7 +161,7 @@ static FILES: [File; 3] = [
     ("k", TWO_PACKETS),
 ];
 
-fn machine<R: Test, A: Allocator + Copy>(rt: &R, alloc: A) -> MemoryHost<'_, R, A> {
+pub(crate) fn machine<R: Test, A: Allocator + Copy>(rt: &R, alloc: A) -> MemoryHost<'_, R, A> {
     MemoryHost {
         rt,
         alloc,
@@ -178,7 +178,7 @@ fn named<R: Test>(rt: &R, name: &str) -> Option<String> {
 }
 
 /// An entry of a log: what was done, a name and a text.
-type Entry = (&'static str, &'static [u8], &'static [u8]);
+pub(crate) type Entry = (&'static str, &'static [u8], &'static [u8]);
 
 fn entry_of(done: &Done) -> (&str, &[u8], &[u8]) {
     match done {
@@ -191,7 +191,7 @@ fn entry_of(done: &Done) -> (&str, &[u8], &[u8]) {
     }
 }
 
-fn has_entries(log: &[Done], wanted: &[Entry]) -> bool {
+pub(crate) fn has_entries(log: &[Done], wanted: &[Entry]) -> bool {
     for (i, entry) in wanted.iter().enumerate() {
         match log.get(i) {
             Some(done) if entry_of(done) == *entry => {}

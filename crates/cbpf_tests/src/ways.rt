@@ -89,7 +89,7 @@ fn all_say_so<A: Allocator>(rt: &impl Test, p: &Program<A>, row: &Row) -> bool {
     let packet = Packet { bytes, wire: 60 };
     let values = Values::new();
     let way = way_of_packet(&mut Meter::new(), p, packet, &values);
-    let end = end_of_packet::<_, 4>(&mut Meter::new(), p, packet, &values);
+    let end = end_of_packet(&mut Meter::new(), p, packet, &values);
     let mut tally = Tally::new(rt.alloc(), p).expect(rt, "the tally");
     let counted = tally.count_packet(&mut Meter::new(), p, packet, &values);
     let outcome = run_packet(&mut Meter::new(), p, packet, &values);

@@ -5,6 +5,7 @@ ghost use Rattle.cbpf_why.specs.Chosen.{AreSorted};
 mod faults;
 mod filters;
 mod flushes;
+mod on_host;
 mod ranges;
 mod reports;
 mod sizes;
@@ -12,13 +13,13 @@ mod sizes;
 use crate::assertions::Test;
 use cbpf_code::{Ext, Program};
 use cbpf_machine::Values;
-use cbpf_why::{PacketRange, Question, Report, WhyFault, program_of, why};
+use cbpf_why::{CaptureEnd, PacketRange, Question, Report, WhyFault, program_of, why};
 use pcap_classic::CaptureReader;
 use std::alloc::Allocator;
 use std::io::{Read, Write};
 
 /// What is reported of the ARP filter on the capture of two packets, of which it passes the first.
-const ARP_SUMMARY: &[u8] = b"pass 1 at l2:\tret #0xffffffff, first packet 1\n\
+pub(crate) const ARP_SUMMARY: &[u8] = b"pass 1 at l2:\tret #0xffffffff, first packet 1\n\
 fail 1 at l3:\tret #0, first packet 2\n\
 bpf passes:1 fails:1\n";
 
@@ -33,7 +34,7 @@ l1:\tjeq #0x806, l2, l3\tA 2048 (0x800) X 0 (0x0)\tto l3\n\
 l3:\tret #0\tA 2048 (0x800) X 0 (0x0)\n\
 fail at l3:\tret #0, after l1:\tjeq #0x806, l2, l3 with A 2048 (0x800) X 0 (0x0)\n";
 
-const ARP_LINES: &[u8] = b"1\tpass\tl2\t4294967295\n2\tfail\tl3\t0\n";
+pub(crate) const ARP_LINES: &[u8] = b"1\tpass\tl2\t4294967295\n2\tfail\tl3\t0\n";
 
 const ARP_COVERAGE: &[u8] = b"2\tl0:\tldh [12]\n\
 2\tl1:\tjeq #0x806, l2, l3\ttrue 1 false 1\n\
@@ -42,11 +43,11 @@ const ARP_COVERAGE: &[u8] = b"2\tl0:\tldh [12]\n\
 
 const ARP_GRAPH: &[u8] = b"digraph filter {\n\
 node [shape=box fontname=monospace]\n\
-l0 [label=\"l0: ldh [12]\\ll1: jeq #0x806, l2, l3\\l\"]\n\
+l0 [label=<l0: ldh [12]<br align=\"left\"/>l1: jeq #0x806, l2, l3<br align=\"left\"/>>]\n\
 l0 -> l2 [label=\"true 1\"]\n\
 l0 -> l3 [label=\"false 1\"]\n\
-l2 [label=\"l2: ret #0xffffffff\\l\"]\n\
-l3 [label=\"l3: ret #0\\l\"]\n\
+l2 [label=<l2: ret #0xffffffff<br align=\"left\"/>>]\n\
+l3 [label=<l3: ret #0<br align=\"left\"/>>]\n\
 pass2 [label=\"pass\" shape=oval style=filled fillcolor=palegreen]\n\
 l2 -> pass2 [label=\"1\"]\n\
 fail3 [label=\"fail\" shape=oval style=filled fillcolor=lightsalmon]\n\
@@ -90,7 +91,7 @@ pub(crate) fn report_in<A: Allocator + Copy, R: Read, B: Allocator, W: Write>(
     packets: &[PacketRange],
     reader: &mut CaptureReader<R, B>,
     w: &mut W,
-) -> Result<(), WhyFault>
+) -> Result<Option<CaptureEnd>, WhyFault>
     requires count { reader.old.count ≡ 0 }
     requires sorted { AreSorted packets.now }
 {
@@ -112,7 +113,7 @@ pub(crate) fn report_on<R: Read + Drop, W: Write>(
     packets: &[PacketRange],
     file: R,
     w: &mut W,
-) -> Result<(), WhyFault>
+) -> Result<Option<CaptureEnd>, WhyFault>
     requires { AreSorted packets.now }
 {
     let mut reader = CaptureReader::new(rt.alloc(), file)

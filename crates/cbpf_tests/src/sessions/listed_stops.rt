@@ -54,3 +54,15 @@ fn runs_show_the_stops_of_the_list(rt: HostRuntime) {
     let met = met(&rt, &mut s);
     assert!(rt; listed.as_slice() == met.as_slice() && is_whole(&listed));
 }
+
+/// A session that goes back to a stop shows it again. Before a packet there is none.
+#[test]
+fn each_stop_is_there_again(rt: HostRuntime) {
+    let mut s = session_with_stops(&rt);
+    let mut stops = Vec::new(rt.alloc());
+    let whole = s.run_to_end(&mut Meter::new(), &mut stops).is_ok();
+    assert!(rt; whole && stops.len() == 4 && s.here() == None);
+    for stop in &stops {
+        assert!(rt; s.resume(&mut Meter::new(), stop.place) == Ok(()) && s.here() == Some(*stop));
+    }
+}

@@ -8,7 +8,7 @@ use crate::inputs::ARP;
 use crate::two_packets;
 use crate::why::{ARP_REPORTS, ARP_SUMMARY, Reported, report_in, report_on};
 use cbpf_reply::write_capture;
-use cbpf_why::{Report, WhyFault};
+use cbpf_why::{CaptureEnd, Report, WhyFault};
 use pcap_classic::{CaptureReader, Ending};
 use std::io::ErrorKind;
 
@@ -34,6 +34,15 @@ fn a_read_fails(rt: &impl Test, row: &Reported, place: usize, kind: ErrorKind) {
     assert_named(rt, source.calls() == call, "the reads", (row.0, place));
 }
 
+/// How a capture ends that is read to its end.
+fn end_of(rt: &impl Test, file: &[u8]) -> CaptureEnd {
+    let capture = capture(rt, file);
+    CaptureEnd {
+        count: capture.count(),
+        ending: capture.ending(),
+    }
+}
+
 /// Asserts that where none fails the text is whole, and nothing is read after the end.
 fn no_read_fails(rt: &impl Test, row: &Reported, chunk: usize) {
     let chunk = chunk.max(1);
@@ -41,7 +50,7 @@ fn no_read_fails(rt: &impl Test, row: &Reported, chunk: usize) {
     let mut source = FaultyReader::new(file, chunk, 0);
     let mut text = Vec::new(rt.alloc());
     let answer = report_on(rt, (ARP, None, row.0), &[], &mut source, &mut text);
-    let is_wanted = answer == Ok(()) && text.as_slice() == row.1;
+    let is_wanted = answer == Ok(Some(end_of(rt, file))) && text.as_slice() == row.1;
     assert_named(rt, is_wanted, "the text", (row.0, chunk));
     let reads = file.len().div_ceil(chunk) as u64 + 1;
     assert_named(rt, source.calls() == reads, "the reads", (row.0, chunk));
@@ -94,7 +103,8 @@ fn reported_as_far_as_it_goes(rt: &impl Test, file: &[u8], place: usize) {
     for row in ARP_REPORTS.iter().take(3) {
         let mut text = Vec::new(rt.alloc());
         let answer = report_on(rt, (ARP, None, row.0), &[], file, &mut text);
-        let is_wanted = answer == Ok(()) && text.as_slice() == text_of(rt, row, file).as_slice();
+        let is_text = text.as_slice() == text_of(rt, row, file).as_slice();
+        let is_wanted = answer == Ok(Some(end_of(rt, file))) && is_text;
         assert_named(rt, is_wanted, "the text of a cut file", (row.0, place));
     }
 }

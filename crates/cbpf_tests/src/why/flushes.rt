@@ -61,7 +61,7 @@ fn flushes(
     };
     let answer = report_on(rt, (ARP, None, report), ranges, &mut reader, &mut writer);
     let (is_answer, made) = if failing == 0 {
-        (answer == Ok(()), wanted.len())
+        (answer.is_ok(), wanted.len())
     } else {
         (answer == Err(WhyFault::Write), failing)
     };

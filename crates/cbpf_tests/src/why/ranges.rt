@@ -8,7 +8,8 @@ use crate::inputs::ARP;
 use crate::two_packets;
 use crate::why::report_on;
 use crate::why::reports::seven_packets;
-use cbpf_why::{PacketRange, Report, WhyFault};
+use cbpf_why::{CaptureEnd, PacketRange, Report};
+use pcap_classic::Ending;
 
 pub(crate) fn packets(first: u64, last: u64) -> PacketRange
     ensures { result ≡ record { first = first; last = last } }
@@ -19,21 +20,16 @@ pub(crate) fn packets(first: u64, last: u64) -> PacketRange
 /// Passes each packet, and returns the length that it had.
 const WIRE: &[u8] = b"ld len\nret a\n";
 
-/// Asserts the lines of some of the seven packets, and how many bytes are read, each by a read of its own.
-fn lines(
-    rt: &impl Test,
-    ranges: &[PacketRange],
-    wanted: Result<(), WhyFault>,
-    text: &[u8],
-    read: u64,
-)
+/// Asserts the lines of some of the seven packets, how the capture ends where its end is read, and how many bytes are
+/// read, each by a read of its own.
+fn lines(rt: &impl Test, ranges: &[PacketRange], wanted: Option<CaptureEnd>, text: &[u8], read: u64)
     requires { AreSorted ranges.now }
 {
     let mut source = FaultyReader::new(seven_packets(), 1, 0);
     let mut written = Vec::new(rt.alloc());
     let asked = (WIRE, None, Report::Packets);
     let answer = report_on(rt, asked, ranges, &mut source, &mut written);
-    let is_wanted = answer == wanted && written.as_slice() == text;
+    let is_wanted = answer == Ok(wanted) && written.as_slice() == text;
     assert_named(rt, is_wanted, "the answer and the lines", text.len());
     assert_named(rt, source.calls() == read, "the reads", text.len());
 }
@@ -49,74 +45,54 @@ const LAST_TWO: &[u8] = b"6\tpass\tl1\t60\n7\tpass\tl1\t60\n";
 // The records end at the bytes 44, 64, 81, 97, 116, 133 and 153. After the last one a read finds the end.
 #[test]
 fn ranges_of_packets(rt: HostRuntime) {
-    lines(&rt, &[packets(1, 2)], Ok(()), FIRST_TWO, 64);
-    lines(&rt, &[packets(4, 4)], Ok(()), FOURTH, 97);
-    lines(&rt, &[packets(4, 4), packets(4, 4)], Ok(()), FOURTH, 97);
-    lines(
-        &rt,
-        &[packets(2, 4), packets(3, 5)],
-        Ok(()),
-        TWO_TO_FIVE,
-        116,
-    );
-    lines(
-        &rt,
-        &[packets(2, 5), packets(3, 4)],
-        Ok(()),
-        TWO_TO_FIVE,
-        116,
-    );
+    lines(&rt, &[packets(1, 2)], None, FIRST_TWO, 64);
+    lines(&rt, &[packets(4, 4)], None, FOURTH, 97);
+    lines(&rt, &[packets(4, 4), packets(4, 4)], None, FOURTH, 97);
+    lines(&rt, &[packets(2, 4), packets(3, 5)], None, TWO_TO_FIVE, 116);
+    lines(&rt, &[packets(2, 5), packets(3, 4)], None, TWO_TO_FIVE, 116);
     lines(
         &rt,
         &[packets(2, 2), packets(3, 3), packets(4, 5)],
-        Ok(()),
+        None,
         TWO_TO_FIVE,
         116,
     );
-    lines(&rt, &[packets(6, 7)], Ok(()), LAST_TWO, 153);
-    lines(&rt, &[packets(6, 6), packets(7, 7)], Ok(()), LAST_TWO, 153);
+    lines(&rt, &[packets(6, 7)], None, LAST_TWO, 153);
+    lines(&rt, &[packets(6, 6), packets(7, 7)], None, LAST_TWO, 153);
     // No packet is in a range that ends before it begins.
-    lines(&rt, &[packets(3, 2)], Ok(()), b"", 64);
-    lines(&rt, &[packets(1, 0), packets(4, 4)], Ok(()), FOURTH, 97);
+    lines(&rt, &[packets(3, 2)], None, b"", 64);
+    lines(&rt, &[packets(1, 0), packets(4, 4)], None, FOURTH, 97);
 }
 
 #[test]
 fn ranges_beyond_the_end(rt: HostRuntime) {
-    let missing = |n| Err(WhyFault::NoPacket(n));
-    lines(&rt, &[packets(6, 8)], missing(8), LAST_TWO, 154);
-    lines(
-        &rt,
-        &[packets(6, 7), packets(10, 12)],
-        missing(10),
-        LAST_TWO,
-        154,
-    );
+    let seven = Some(CaptureEnd {
+        count: 7,
+        ending: Ending::Whole,
+    });
+    lines(&rt, &[packets(6, 8)], seven, LAST_TWO, 154);
+    lines(&rt, &[packets(6, 7), packets(10, 12)], seven, LAST_TWO, 154);
     lines(
         &rt,
         &[packets(4, 4), packets(8, 8), packets(9, 9)],
-        missing(8),
+        seven,
         FOURTH,
         154,
     );
-    lines(&rt, &[packets(8, 8)], missing(8), b"", 154);
-    lines(&rt, &[packets(9, u64::MAX)], missing(9), b"", 154);
-    lines(
-        &rt,
-        &[packets(u64::MAX, u64::MAX)],
-        missing(u64::MAX),
-        b"",
-        154,
-    );
+    lines(&rt, &[packets(8, 8)], seven, b"", 154);
+    lines(&rt, &[packets(9, u64::MAX)], seven, b"", 154);
+    lines(&rt, &[packets(u64::MAX, u64::MAX)], seven, b"", 154);
 }
 
-/// The packets of a cut capture that are in a range: how it is cut is said of no range.
-fn summary(rt: &impl Test, ranges: &[PacketRange], wanted: Result<(), WhyFault>, text: &[u8])
+/// The packets of a cut capture that are in a range: how it is cut is said of no range, and answered where its end was
+/// read.
+fn summary(rt: &impl Test, ranges: &[PacketRange], wanted: Option<CaptureEnd>, text: &[u8])
     requires { AreSorted ranges.now }
 {
     let cut = two_packets::big_endian().get(..131).unwrap_or(b"");
     let mut written = Vec::new(rt.alloc());
     let answer = report_on(rt, (ARP, None, Report::Summary), ranges, cut, &mut written);
-    assert!(rt; answer == wanted && written.as_slice() == text);
+    assert!(rt; answer == Ok(wanted) && written.as_slice() == text);
 }
 
 const FIRST: &[u8] = b"pass 1 at l2:\tret #0xffffffff, first packet 1\nbpf passes:1 fails:0\n";
@@ -125,13 +101,38 @@ const FIRST: &[u8] = b"pass 1 at l2:\tret #0xffffffff, first packet 1\nbpf passe
 fn summaries_of_a_cut_capture(rt: HostRuntime) {
     let cut = b"pass 1 at l2:\tret #0xffffffff, first packet 1\nbpf passes:1 fails:0\n\
 pcap: 1 packets, cut record data at 82\n";
-    summary(&rt, &[], Ok(()), cut);
-    summary(&rt, &[packets(1, 1)], Ok(()), FIRST);
-    summary(&rt, &[packets(1, 2)], Err(WhyFault::NoPacket(2)), FIRST);
-    summary(
-        &rt,
-        &[packets(2, 2)],
-        Err(WhyFault::NoPacket(2)),
-        b"bpf passes:0 fails:0\n",
-    );
+    let end = Some(CaptureEnd {
+        count: 1,
+        ending: Ending::CutData(82),
+    });
+    summary(&rt, &[], end, cut);
+    summary(&rt, &[packets(1, 1)], None, FIRST);
+    summary(&rt, &[packets(1, 2)], end, FIRST);
+    summary(&rt, &[packets(2, 2)], end, b"bpf passes:0 fails:0\n");
+}
+
+/// A range, a number of packets, and what is left of the range beyond them.
+type Left = (PacketRange, u64, Option<PacketRange>);
+
+const EMPTY: PacketRange = PacketRange { first: 3, last: 2 };
+
+#[test]
+fn what_is_left_of_a_range(rt: HostRuntime) {
+    let rows: [Left; 8] = [
+        (packets(2, 4), 0, Some(packets(2, 4))),
+        (packets(2, 4), 1, Some(packets(2, 4))),
+        (packets(2, 4), 2, Some(packets(3, 4))),
+        (packets(2, 4), 3, Some(packets(4, 4))),
+        (packets(2, 4), 4, None),
+        (packets(1, u64::MAX), u64::MAX, None),
+        (
+            packets(0, u64::MAX),
+            u64::MAX - 1,
+            Some(packets(u64::MAX, u64::MAX)),
+        ),
+        (EMPTY, 0, None),
+    ];
+    for (range, count, left) in &rows {
+        assert!(rt; range.beyond(*count) == *left);
+    }
 }

@@ -128,26 +128,26 @@ const COVERAGE: &[u8] = b"7\tl0:\tldb [0]\n\
 
 const GRAPH: &[u8] = b"digraph filter {\n\
 node [shape=box fontname=monospace]\n\
-l0 [label=\"l0: ldb [0]\\ll1: jeq #0x1, l2, l3\\l\"]\n\
+l0 [label=<l0: ldb [0]<br align=\"left\"/>l1: jeq #0x1, l2, l3<br align=\"left\"/>>]\n\
 l0 -> l2 [label=\"true 1\"]\n\
 l0 -> l3 [label=\"false 5\"]\n\
-l2 [label=\"l2: div x\\l\"]\n\
+l2 [label=<l2: div x<br align=\"left\"/>>]\n\
 l2 -> l3 [label=\"0\" color=grey fontcolor=grey]\n\
-l3 [label=\"l3: jeq #0x2, l4, l4\\l\"]\n\
+l3 [label=<l3: jeq #0x2, l4, l4<br align=\"left\"/>>]\n\
 l3 -> l4 [label=\"true 3\"]\n\
 l3 -> l4 [label=\"false 2\"]\n\
-l4 [label=\"l4: jgt #0x3, l5, l8\\l\"]\n\
+l4 [label=<l4: jgt #0x3, l5, l8<br align=\"left\"/>>]\n\
 l4 -> l5 [label=\"true 1\"]\n\
 l4 -> l8 [label=\"false 4\"]\n\
-l5 [label=\"l5: ld mark\\ll6: tax\\ll7: ret a\\l\"]\n\
-l8 [label=\"l8: jmp l10\\l\"]\n\
+l5 [label=<l5: ld mark<br align=\"left\"/><font color=\"grey\">l6: tax</font><br align=\"left\"/><font color=\"grey\">l7: ret a</font><br align=\"left\"/>>]\n\
+l8 [label=<l8: jmp l10<br align=\"left\"/>>]\n\
 l8 -> l10 [label=\"4\"]\n\
-l9 [label=\"l9: ret #0x1\\l\" color=grey fontcolor=grey]\n\
-l10 [label=\"l10: ldh [2]\\ll11: jeq #0x806, l12, l13\\l\"]\n\
+l9 [label=<<font color=\"grey\">l9: ret #0x1</font><br align=\"left\"/>> color=grey fontcolor=grey]\n\
+l10 [label=<l10: ldh [2]<br align=\"left\"/>l11: jeq #0x806, l12, l13<br align=\"left\"/>>]\n\
 l10 -> l12 [label=\"true 2\"]\n\
 l10 -> l13 [label=\"false 1\"]\n\
-l12 [label=\"l12: ret #0x40000\\l\"]\n\
-l13 [label=\"l13: ret #0\\l\"]\n\
+l12 [label=<l12: ret #0x40000<br align=\"left\"/>>]\n\
+l13 [label=<l13: ret #0<br align=\"left\"/>>]\n\
 fail0 [label=\"fail, outside the packet\" shape=oval style=filled fillcolor=lightsalmon]\n\
 l0 -> fail0 [label=\"1\"]\n\
 fail2 [label=\"fail, division by 0\" shape=oval style=filled fillcolor=lightsalmon]\n\
@@ -202,12 +202,12 @@ pass at l3:\tret a\n";
 
 const RET_A_GRAPH: &[u8] = b"digraph filter {\n\
 node [shape=box fontname=monospace]\n\
-l0 [label=\"l0: ldb [0]\\ll1: jset #0x1, l3, l2\\l\"]\n\
+l0 [label=<l0: ldb [0]<br align=\"left\"/>l1: jset #0x1, l3, l2<br align=\"left\"/>>]\n\
 l0 -> l3 [label=\"true 2\"]\n\
 l0 -> l2 [label=\"false 2\"]\n\
-l2 [label=\"l2: ldxb 4*([0]&amp;0xf)\\l\"]\n\
+l2 [label=<l2: ldxb 4*([0]&amp;0xf)<br align=\"left\"/>>]\n\
 l2 -> l3 [label=\"2\"]\n\
-l3 [label=\"l3: ret a\\l\"]\n\
+l3 [label=<l3: ret a<br align=\"left\"/>>]\n\
 pass3 [label=\"pass\" shape=oval style=filled fillcolor=palegreen]\n\
 l3 -> pass3 [label=\"3\"]\n\
 fail3 [label=\"fail\" shape=oval style=filled fillcolor=lightsalmon]\n\
@@ -220,7 +220,7 @@ const NONE: &[u8] = b"\xd4\xc3\xb2\xa1\x02\x00\x04\x00\x00\x00\x00\x00\x00\x00\x
 
 const NONE_GRAPH: &[u8] = b"digraph filter {\n\
 node [shape=box fontname=monospace]\n\
-l0 [label=\"l0: ret #0\\l\" color=grey fontcolor=grey]\n\
+l0 [label=<<font color=\"grey\">l0: ret #0</font><br align=\"left\"/>> color=grey fontcolor=grey]\n\
 }\n";
 
 /// What is asked, the capture, and the text.
@@ -259,6 +259,6 @@ fn whole_texts(rt: HostRuntime) {
     for (row, (asked, file, text)) in REPORTS.iter().enumerate() {
         let mut written = Vec::new(rt.alloc());
         let answer = report_on(&rt, *asked, &[], *file, &mut written);
-        assert_at(&rt, row, answer == Ok(()) && written.as_slice() == *text);
+        assert_at(&rt, row, answer.is_ok() && written.as_slice() == *text);
     }
 }
