@@ -67,8 +67,9 @@ demo: ## Proves and builds the program, assembles an example, and debugs a filte
 try: ## Runs the demonstration on a program that is built with no proof, in about a minute; keeps no program.
 	@python3 tools/try.py
 
-test: built ## Runs the end-to-end cases, sessions, the shell at a terminal, reports of why, verdicts, filters of the running kernel, the works of bench and the examples of the documents on the program that is built, and looks up the documents' names.
+test: built ## Looks up whether CHANGES names what has changed; runs the end-to-end cases, sessions, the shell at a terminal, reports of why, verdicts, filters of the running kernel, the works of bench and the examples of the documents on the program that is built, and looks up the documents' names.
 	python3 tests/names.py
+	python3 tests/changes.py
 	python3 tests/run.py "$(PROGRAM)"
 	python3 tests/sessions.py "$(PROGRAM)"
 	python3 tests/shell.py "$(PROGRAM)"
@@ -84,6 +85,7 @@ bench: built ## Measures the program that is built beside its peers, and writes 
 
 check: ## The gate: proves all crates and their tests from nothing, tries the must-fail edits, runs all tests; an hour or more on two processors, by the machine.
 	python3 tests/names.py
+	python3 tests/changes.py
 	@python3 tools/check.py
 	python3 tests/compile.py
 	@$(MAKE) --no-print-directory test

@@ -1,5 +1,5 @@
 #!/usr/bin/env python3
-"""Checks that what the documents name is there.
+"""Checks that what the documents name is there, and that they name what is there.
 
 usage: names.py
 
@@ -12,20 +12,27 @@ and crates/*/must-fail/README.md. Each is read outside its blocks of code, and n
   a clause         in the column `clause` of docs/PROMISES.md: an `ensures` of the functions of its row, or a member of
                    a trait that the crate implements
   a definition     at the head of an item of docs/DEFINITIONS.md: it stands in a file that the item names
-  an edit          in the first column of a table of must-fail/README.md: its file is there, and each of its `old:` texts
-                   stands once where it says. Each edit has one row, whose function and clause are there, and whose
-                   goals have no answer below proofs/, unless it is named as `the answer of` one
-  a definition     of a file specs/: it is reached from the clauses of public functions, traits and models, or its item
-                   of docs/DEFINITIONS.md says that only private functions cite it, or the comment at the head of its
-                   file says that no public clause names it; and something cites it
-  a crate          docs/ARCHITECTURE.md has a heading of its own for it
+  an edit          in the first column of a table of must-fail/README.md: its file is there, and each of its `old:`
+                   texts stands once where it says. Each edit has one row, whose function and clause are there, and
+                   whose goals have no answer below proofs/, unless it is named as `the answer of` one
   a call           in a block ```calls of docs/ARCHITECTURE.md: the function stands in the line's file
   a contract       in a block ```contracts of a CALLING.md, where a blank line parts them: it stands in the code of the
                    crate, with all its clauses, but for comments
   a definition     in a `ghost use` line of a CALLING.md: it is there
   a line           in a block ```crates.txt of a CALLING.md: it stands in crates.txt
-Each file of src/ and specs/ opens with a comment that says what it is about.
-A public type that has `==` has a clause in src/equality.rt of its crate.
+What is there stands in the documents:
+  a crate          docs/ARCHITECTURE.md has a heading of its own for it
+  a public call    of a library: it has a row in docs/PROMISES.md in the crate's section, by its type and its name, or
+                   by its name alone where only one call of the crate has it
+  a definition     that the clauses of public functions, traits and models reach: an item of docs/DEFINITIONS.md has it
+  another one      of a file specs/: such an item says that only private functions cite it, or the comment at the head
+                   of its file says that no public clause names it; and something cites it
+  a command, an option, an error
+                   of the program: a case has it, and so have docs/REFERENCE.md and man/cbpf.1
+  a short form     of cbpf-shell: tests/shell.py, docs/REFERENCE.md and man/cbpf-shell.1 have it
+  a case           a line of tests/shown.txt names it
+  a type           that is public and has `==`: it has a clause in src/equality.rt of its crate
+  a file           of src/ or specs/: it opens with a comment that says what it is about
 A line of tests/shown.txt is a sentence and, each after ` | `, what shows it, with texts between backquotes:
   test C::M::F     the function F has #[test] in the module M of the crate C; a text stands in the file of M, of a
                    module below M, or of one of the crate that M names
@@ -36,16 +43,35 @@ Blanks and line ends of a text and of a file may differ in number.
 The last line is `N names, M failed`.
 """
 
-import os
 import re
 import sys
 from functools import cache
-from pathlib import Path
 
-from run import parts
+from run import CASES, parts
+from sources import (
+    CRATES,
+    FOR_PRIVATE,
+    FUNCTION,
+    IMPORT,
+    TOP,
+    all_paths,
+    cited_anywhere,
+    command_words,
+    crates,
+    error_texts,
+    functions,
+    joined_sources,
+    line_words,
+    members,
+    own_files,
+    public_calls,
+    reached,
+    short_forms,
+    spec_files,
+    spec_items,
+    text_of,
+)
 
-TOP = Path(__file__).resolve().parent.parent
-CRATES = TOP / "crates"
 SUFFIXES = "rt antt edit md py sh txt asm dbg pcap pcapng words bash 1 c".split()
 SOURCES = "rt antt edit py sh bash words asm dbg 1 c".split()
 # Names of other people's files, what a build makes, and a placeholder.
@@ -57,7 +83,8 @@ OF_USERS = {"REFERENCE.md", "KERNEL_TOOLS.md"}
 CODE_SPAN = re.compile(r"(?<!`)`([^`]+)`(?!`)")
 NAME = re.compile(r"[A-Za-z_][\w]*(?:(?:::|\.)[A-Za-z_]\w*)*(?:\(.*\))?")
 SHOWN_BY = re.compile(r"(test|case|edit|script) ([\w:/.]+)((?: `[^`]+`)*)")
-FUNCTION = re.compile(r"\bfn (\w+)")
+# The words by which an item of docs/DEFINITIONS.md says that no public clause names its definitions.
+ONLY_PRIVATE = re.compile(r"[Oo]nly private functions cite ((?:these\b|them\b|it\b|`\w+`|[ ,]|and\b)+)")
 # A goal of a row of must-fail/README.md, and one that has an answer.
 GOAL = re.compile(r"(?<!answer of )`([a-z]\w*(?:-\w+)+)`")
 ANSWER = re.compile(r"^pub ([\w-]+) : goal\.", re.M)
@@ -71,26 +98,6 @@ def check(holds, path, line, what):
     names += 1
     if not holds:
         faults.append(f"{path.relative_to(TOP)}:{line}: {what}")
-
-
-@cache
-def text_of(path):
-    return path.read_text(errors="replace")
-
-
-@cache
-def all_paths():
-    """All files and folders but those of builds, cases and captures."""
-    found = []
-    for folder, folders, files in os.walk(TOP):
-        folders[:] = [name for name in folders if name not in ("out", ".git", "cases", "captures")]
-        found += [Path(folder) / name for name in folders + files]
-    return sorted(found)
-
-
-@cache
-def joined_sources(crate):
-    return [text_of(path) for path in sorted((CRATES / crate / "src").rglob("*.rt"))]
 
 
 @cache
@@ -108,11 +115,6 @@ def words():
         if path.is_dir() or path.suffix in (".pcap", ".case"):
             found |= {path.stem, path.name}
     return found
-
-
-@cache
-def crates():
-    return {path.name for path in CRATES.iterdir() if path.is_dir()}
 
 
 def is_path(name):
@@ -189,27 +191,6 @@ def check_spans(path):
             check(name in crates() or name in words(), path, number, f"no crate {name}")
 
 
-@cache
-def functions(crate):
-    """The functions of a crate, each with the names of its clauses (of all functions of this name)."""
-    clauses = {}
-    for text in joined_sources(crate):
-        name = None
-        for line in text.splitlines():
-            if match := FUNCTION.search(line):
-                name = match[1]
-                clauses.setdefault(name, set())
-            if name and (match := re.match(r"\s*(?:ensures|requires)\s+(\w+)\s*\{", line)):
-                clauses[name].add(match[1])
-    return clauses
-
-
-@cache
-def members(crate):
-    """The ghost members and laws of a crate's traits and impl blocks, and the derives' own clauses."""
-    return set(re.findall(r"\bghost (?:law )?(\w+)", "".join(joined_sources(crate)))) | {"ensures"}
-
-
 def all_clauses(crate):
     return set().union(*functions(crate).values())
 
@@ -242,6 +223,37 @@ def check_promises(path):
             check(any(name in functions(crate) for crate in own), path, number, f"no function {name}")
 
 
+def promised(path):
+    """The calls that have a row in docs/PROMISES.md: crate, type or trait (None where the row says none), name."""
+    called = []
+    for _, heading, head, cells in tables(path):
+        if head[0] not in ("call", "law"):
+            continue
+        if cells[0]:
+            called = [re.sub(r"\(.*", "", span).split("::") for span in CODE_SPAN.findall(cells[0])]
+        for crate in crates_in(heading):
+            for *owner, name in called:
+                # A row of a type has the names of its calls in the next cell.
+                inner = CODE_SPAN.findall(cells[1]) if name[0].isupper() else []
+                yield from ((crate, name, each) for each in inner)
+                yield crate, owner[-1] if owner else None, name
+
+
+def check_called(path):
+    """Whether each call that a library's callers see has a row, or is named in bold items about all libraries."""
+    rows = set(promised(path))
+    of_all = re.findall(r"^- \*\*.*", text_of(path).partition("\n## cbpf")[0], re.M)
+    for crate in sorted(crates()):
+        calls = public_calls(crate)
+        names_of = [name for _, name in calls]
+        for owner, name in sorted(calls, key=str):
+            # Without its type a name stands for the one call that has it. `fmt` is what a clause `output` speaks of.
+            known = {(crate, owner, "output" if name == "fmt" else name)}
+            known |= {(crate, None, name)} if names_of.count(name) == 1 else set()
+            there = bool(rows & known) or name in CODE_SPAN.findall(" ".join(of_all))
+            check(there, path, 1, f"no row for {owner + '::' if owner else ''}{name} of {crate}")
+
+
 def explained(path):
     """The items of docs/DEFINITIONS.md, ``- `a`, `b` (file): ..``: line, names, files and the whole text."""
     own = []
@@ -252,7 +264,7 @@ def explained(path):
             folders = [TOP, *(CRATES / crate for crate in own)]
             listed = re.findall(r"[\w/]*specs/\w+\.antt", match[2])
             files = [folder / name for name in listed for folder in folders if (folder / name).exists()]
-            yield number, re.findall(r"\w+", match[1]), files, line
+            yield number, CODE_SPAN.findall(match[1]), files, line
 
 
 def check_definitions(path):
@@ -383,105 +395,6 @@ def check_calls(path):
             for name in filter(None, called):
                 check(name in known, path, number, f"no function {name} in {file}")
 
-# A word of the definitions, and the head of one.
-SPEC_WORD = re.compile(r"[^\s(){}\[\],;]+")
-SPEC_HEAD = re.compile(r"(?:abbrev |unfoldable )*(?:pub )?(?:(?:data|record) (\S+)|([^\s:(){}]+) :)")
-IMPORT = re.compile(
-    r"^ *(?:ghost )?(?:pub )?use Rattle\.(\w+)\.specs\.(\w+)((?:\.\w+)*)(?:\.\{([^}]*)\}| as (\w+));?$", re.M
-)
-FOR_PRIVATE = re.compile(r"[Nn]o public clause (?:cites|names) (?:it|them)|cited only by (?:a )?private function")
-ONLY_PRIVATE = re.compile(r"[Oo]nly private functions cite ((?:these\b|them\b|it\b|`\w+`|[ ,]|and\b)+)")
-
-
-@cache
-def spec_items(path):
-    """The definitions of a file: for each its text, and for each name (a constructor's too) whose it is."""
-    texts, owner, item = {}, {}, None
-    for line in re.sub(r"^\s*--.*$", "", text_of(path), flags=re.M).splitlines():
-        if match := SPEC_HEAD.match(line):
-            item = match[1] or match[2]
-            owner[item] = item
-        elif item and (match := re.match(r"  (?:pub )?([^\s:(){}]+) :", line)):
-            owner.setdefault(match[1], item)
-        if item and not line.startswith("use "):
-            texts[item] = texts.get(item, "") + line + "\n"
-    return texts, owner
-
-
-@cache
-def spec_files():
-    return {(path.parent.parent.name, path.stem): path for path in sorted(CRATES.glob("*/specs/*.antt"))}
-
-
-@cache
-def imported(path):
-    """What the names of a file stand for: a definition of a file of definitions, or such a file by another name."""
-    single, files = {}, {}
-    for crate, module, inner, several, alias in IMPORT.findall(text_of(path)):
-        if (crate, module) not in spec_files():
-            continue
-        owner = spec_items(spec_files()[crate, module])[1]
-        inside = inner.lstrip(".").split(".")[0]
-        for name in filter(None, (name.strip() for name in several.split(","))):
-            name, _, new = name.partition(" as ")
-            item = owner.get(inside or name)
-            if item:
-                single[new or name] = (crate, module, item)
-        if alias and inside:
-            single[alias] = (crate, module, owner.get(inside))
-        elif alias:
-            files[alias] = (crate, module)
-    return single, files
-
-
-def cited_in(text, path):
-    """The definitions that some text of a file names."""
-    single, files = imported(path)
-    here = (path.parent.parent.name, path.stem)
-    own = spec_items(path)[1] if here in spec_files() else {}
-    found = set()
-    for word in SPEC_WORD.findall(text):
-        head, _, rest = word.lstrip("¬λ").partition(".")
-        if head in files and rest:
-            crate, module = files[head]
-            item = spec_items(spec_files()[crate, module])[1].get(rest.split(".")[0])
-            found |= {(crate, module, item)} if item else set()
-        elif head in own:
-            found.add((*here, own[head]))
-        elif head in single:
-            found.add(single[head])
-    return found
-
-
-def all_reached(start):
-    reached, left = set(), set(start)
-    while left:
-        crate, module, item = one = left.pop()
-        if one not in reached and item:
-            reached.add(one)
-            path = spec_files()[crate, module]
-            left |= cited_in(spec_items(path)[0][item], path)
-    return reached
-
-
-def public_clauses(path):
-    """The clauses of public functions, and of all that stands in public traits and impl blocks of traits."""
-    public, within, found, inside = False, False, [], None
-    for line in re.sub(r"//.*", "", text_of(path)).splitlines():
-        if re.match(r"(?:pub )?trait |(?:unsafe )?impl\b|[})]", line):
-            within = re.match(r"pub trait |(?:unsafe )?impl\b.* for ", line) is not None
-        if match := re.match(r"\s*(pub )?(?:const )?fn |\s*(pub\(crate\) )fn ", line):
-            public = bool(match[1]) or (within and not match[2])
-            inside = None
-        if match := re.match(r"\s*(ensures|requires|ghost)\b(?! use)(?! invariant)", line):
-            inside = within if match[1] == "ghost" else public
-        elif re.match(r"\s*(?:\{|\}|ghost invariant)", line):
-            inside = None
-        if inside:
-            found.append(line)
-    return "\n".join(found)
-
-
 def marked_private(text, names):
     """Of the names of an item, those which it says that only private functions cite."""
     if FOR_PRIVATE.search(text):
@@ -501,35 +414,6 @@ def described(path):
                 if name in spec_items(file)[1]:
                     item = spec_items(file)[1][name]
                     yield number, (file.parent.parent.name, file.stem, item), name in private
-
-
-@cache
-def reached():
-    """All definitions that the clauses of public functions, traits and models name, or that those rest on."""
-    found = set()
-    for source in sorted(CRATES.glob("*/src/**/*.rt")):
-        found |= cited_in(public_clauses(source), source)
-    return all_reached(found)
-
-
-@cache
-def cited_anywhere():
-    """All definitions that some code, proof or other definition names."""
-    found = set()
-    for path in all_paths():
-        if path.suffix == ".rt" or (path.suffix == ".antt" and path not in spec_files().values()):
-            found |= cited_in(re.sub(r"(?m)(?://|--).*|^ *(?:ghost )?use .*", "", text_of(path)), path)
-    for (crate, module), path in spec_files().items():
-        for item, text in spec_items(path)[0].items():
-            found |= cited_in(text, path) - {(crate, module, item)}
-    return found
-
-
-@cache
-def own_files():
-    """The files of definitions that say at their head that no public clause names them."""
-    heads = {one: re.match(r"(?:--.*\n)*", text_of(path))[0] for one, path in spec_files().items()}
-    return {one for one, head in heads.items() if FOR_PRIVATE.search(head.replace("\n-- ", " "))}
 
 
 @cache
@@ -561,10 +445,18 @@ def check_listed(path):
             check(line in listed, path, number, f"not in crates.txt: {line}")
 
 
+@cache
+def passed_on(crate):
+    """The modules of other crates that a crate's specs/ pass on, by the name that they have there."""
+    lines = re.findall(r"^pub use Rattle\.(\w+)\.specs\.(\w+)((?:\.\w+)*)$", text_of(CRATES / crate / "specs/Lib.antt"), re.M)
+    return {(inner or module).split(".")[-1]: (low, module) for low, module, inner in lines}
+
+
 def check_imports(path):
     """Whether the definitions of the `ghost use` lines of a page for callers are there."""
     for number, _, text in blocks(path):
         for crate, module, inner, several, _ in IMPORT.findall(text):
+            crate, module = passed_on(crate).get(module, (crate, module)) if crate in crates() else (crate, module)
             file = spec_files().get((crate, module))
             known = spec_items(file)[1] if file else words() if module == "declared" else set()
             for name in re.findall(r"\w+", re.sub(r" as \w+", "", f"{inner} {several}")):
@@ -592,9 +484,10 @@ def check_crates(path):
 
 
 def check_reached(path):
-    marked = set()
+    named, marked = set(), set()
     for number, one, private in described(path):
         name = f"{one[2]} of {one[0]}/specs/{one[1]}.antt"
+        named.add(one)
         marked |= {one} if private else set()
         if private:
             check(one not in reached(), path, number, f"a public clause reaches {name}")
@@ -603,6 +496,7 @@ def check_reached(path):
     for (crate, module), file in spec_files().items():
         for item in spec_items(file)[0]:
             one = (crate, module, item)
+            check(one not in reached() or one in named, path, 1, f"no item for {item} of {crate}/specs/{module}.antt")
             check(one in cited_anywhere(), file, 1, f"nothing cites {item}")
             known = one in reached() or one in marked or (crate, module) in own_files()
             check(known, file, 1, f"no public clause reaches {item}, and no document says so")
@@ -619,9 +513,62 @@ def check_equality(library):
         check(name in clauses, laws, 1, f"no clause of {name}")
 
 
+def words_in(texts):
+    return set(re.findall(r"-*\w+", " ".join(texts)))
+
+
+def spans_below(path, heading):
+    """What stands between backquotes below a heading of a document."""
+    return CODE_SPAN.findall(text_of(path).partition(f"\n## {heading}\n")[2].partition("\n## ")[0])
+
+
+def items_of(page):
+    """The heads of a manual page's lists, with options as they are typed."""
+    return [re.sub(r"\bFl ", "-", item.replace("\\-", "-")) for item in re.findall(r"^\.It .*", text_of(page), re.M)]
+
+
+def check_covered():
+    """Whether cases, reference and manual page have each command, option and error of the program."""
+    cases = [parts(path) for path in sorted(CASES.rglob("*.case"))]
+    typed = b"\n".join(case.get("stdin", b"") for case in cases).split()
+    given = b"\n".join(case.get(name, b"") for case in cases for name in ("args", "command")).split()
+    in_cases = b"\n".join(text for case in cases for text in case.values())
+    reference, page = TOP / "docs/REFERENCE.md", TOP / "man/cbpf.1"
+    in_lines = CODE_SPAN.findall(text_of(reference)) + re.findall(r"^    cbpf .*", text_of(reference), re.M)
+    wanted = [(word, typed, spans_below(reference, "The debugger's commands")) for word in command_words()]
+    wanted += [(word, given, in_lines) for word in line_words()]
+    for word, tried, documented in wanted:
+        check(word.encode() in tried, CASES, 1, f"no case with {word}")
+        check(word in words_in(documented), reference, 1, f"no {word}")
+        check(word in words_in(items_of(page)), page, 1, f"no {word}")
+    for text in error_texts():
+        number = text.split()[0] if text[0].isupper() else None
+        in_row = rf"^\| {number} \|" if number else rf"`cbpf: (c\.pcap: )?{text}\b"
+        check(text.encode() in in_cases, CASES, 1, f"no case with {text}")
+        check(re.search(in_row, text_of(reference), re.M), reference, 1, f"no {text}")
+        check(any(re.match(rf"\.It {number or text}\b", item) for item in items_of(page)), page, 1, f"no {text}")
+
+
+def check_short_forms():
+    """Whether the reference, the page and the tests of cbpf-shell have each of its short forms."""
+    reference, page, tests = TOP / "docs/REFERENCE.md", TOP / "man/cbpf-shell.1", TOP / "tests/shell.py"
+    for word in short_forms():
+        check(word in words_in(spans_below(reference, "At a terminal")), reference, 1, f"no short form {word}")
+        check(word in words_in(items_of(page)), page, 1, f"no short form {word}")
+        check(re.search(rf'"{word}[" \\]', text_of(tests)), tests, 1, f"no short form {word}")
+
+
+def check_all_shown(path):
+    """Whether each case is named in the list of what is shown."""
+    named = set(re.findall(r" \| case ([\w/]+)", text_of(path)))
+    for case in sorted(CASES.rglob("*.case")):
+        name = str(case.with_suffix("").relative_to(CASES))
+        check(name in named, path, 1, f"no line of case {name}")
+
+
 # The checks of a document by its name, or by its folder's.
 OF_ONE = {
-    "PROMISES.md": [check_promises],
+    "PROMISES.md": [check_promises, check_called],
     "DEFINITIONS.md": [check_definitions, check_reached],
     "ARCHITECTURE.md": [check_crates],
     "CALLING.md": [check_contracts, check_listed, check_imports],
@@ -630,7 +577,10 @@ OF_ONE = {
 
 
 def main():
-    check_shown(TOP / "tests/shown.txt")
+    for look_up in (check_shown, check_all_shown):
+        look_up(TOP / "tests/shown.txt")
+    check_covered()
+    check_short_forms()
     documents = [TOP / "README.md", TOP / "CONTRIBUTING.md"]
     folders = "docs/*.md bench/*.md tests/*.md crates/*/README* crates/*/CALLING.md crates/*/must-fail/README.md"
     for pattern in folders.split():

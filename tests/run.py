@@ -15,6 +15,7 @@ program runs in a new folder, with
   setup    one shell command a line, run there first
   texts/NAME  lines for which a line `<<NAME>>` stands in any text of the case, and `<<NAME | ONE | OTHER>>` with ONE in
            place of `$1` and OTHER of `$2`; tests/texts has those of all cases
+<VERSION> stands in all of these for the version that the sources have.
 and must give
   stdout   exactly this
   stderr   exactly this (none: nothing)
@@ -45,6 +46,8 @@ MARK = re.compile(rb"(?m)^==> (.+) <==\n")
 CUT = b"\n\\ No newline at end of file\n"
 STANDS_FOR = re.compile(rb"(?m)^<<(.+)>>\n")
 K = b"../../examples/two-packets.pcap k\n"
+PARSE = CASES.parent.parent / "crates/cbpf_command_line/src/parse.rt"
+VERSION = re.search(rb'^const VERSION: &str = "(.*)";$', PARSE.read_bytes(), re.M)[1]
 
 
 def texts(path):
@@ -70,6 +73,7 @@ def parts(case):
     """The texts of a case by their names."""
     found = texts(CASES.parent / "texts") | texts(case)
     found = {name: expanded(text, found) for name, text in found.items() if not name.startswith("texts/")}
+    found = {name: text.replace(b"<VERSION>", VERSION) for name, text in found.items()}
     folder = case.with_suffix("")
     found |= {str(path.relative_to(folder)): path.read_bytes() for path in folder.rglob("*") if path.is_file()}
     return {"captures": b"" if "files/k" in found else K} | found

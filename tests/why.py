@@ -12,6 +12,7 @@ grow and of signals, are the functions of TESTS. The last line is `N programs an
 """
 
 import contextlib
+import html
 import operator
 import os
 import random
@@ -113,8 +114,7 @@ def summary(found):
     for pc, verdict, why, numbers in found.ends():
         yield f"{verdict} {len(numbers)} at {found.listing[pc]}{why}, first packet {numbers[0]}"
     yield found.totals
-    if "cut" in found.loaded:
-        yield found.loaded
+    yield from cut_line(found)
 
 
 def line_of_packet(found, number):
@@ -170,13 +170,18 @@ def grey(count):
     return "" if count else " color=grey fontcolor=grey"
 
 
+def line_of_block(line, count):
+    text = html.escape(line.replace("\t", " "), quote=False)
+    return (text if count else f'<font color="grey">{text}</font>') + '<br align="left"/>'
+
+
 def graph(found):
     ran, _ = found.counts()
     yield "digraph filter {"
     yield "node [shape=box fontname=monospace]"
     for first, last in blocks(found.program):
-        lines = [line.replace("\t", " ").replace("&", "&amp;") + "\\l" for line in found.listing[first : last + 1]]
-        yield f'l{first} [label="{"".join(lines)}"{grey(ran[first])}]'
+        lines = "".join(line_of_block(found.listing[at], ran[at]) for at in range(first, last + 1))
+        yield f"l{first} [label=<{lines}>{grey(ran[first])}]"
         for to, count, word in edges(found, last):
             yield f'l{first} -> l{to} [label="{word}{count}"{grey(count)}]'
     for pc, verdict, why, numbers in found.ends():
@@ -196,11 +201,26 @@ def of_all(report, found, chosen):
     return list(report(found._replace(ways=[found.ways[number - 1] for number in chosen])))
 
 
-def of_chosen(lines_of, report, found, chosen):
-    """What a report says of chosen packets, what is said of one that isn't there, and the status."""
+def lacking(found, first, last):
+    """What is said of the packets from one to another that aren't there."""
+    first = max(first, len(found.ways) + 1)
+    if first < last:
+        yield f"no packets {first}-{last}"
+    elif first == last:
+        yield f"no packet {first}"
+
+
+def cut_line(found):
+    return [found.loaded] if "cut" in found.loaded else []
+
+
+def of_chosen(lines_of, report, found, ranges):
+    """What a report says of chosen packets, what is said of those that aren't there and of a cut, and the status."""
+    chosen = {number for first, last in ranges for number in range(first, last + 1)}
     there = sorted(number for number in chosen if number <= len(found.ways))
-    missing = sorted(chosen.difference(there))
-    return lines_of(report, found, there), [f"cbpf: no packet {number}" for number in missing[:1]], len(missing[:1])
+    missing = [line for first, last in sorted(ranges) for line in lacking(found, first, last)]
+    said = [*missing, *cut_line(found)] if missing else []
+    return lines_of(report, found, there), said, int(bool(missing))
 
 
 # Random captures and programs.
@@ -244,10 +264,10 @@ def drawn_values(draw):
 
 
 def drawn_numbers(draw, count):
-    """Words that choose packets, and what they choose, of a capture of so many."""
-    pairs = [sorted(draw.choices(range(1, count + 2), k=2)) for _ in range(draw.randrange(1, 4))]
+    """Words that choose packets, and the ranges that they name, of a capture of so many."""
+    pairs = [sorted(draw.choices(range(1, count + draw.choice([2, 2, 4])), k=2)) for _ in range(draw.randrange(1, 4))]
     words = [draw.choice([f"{first}-{last}"] + [str(first)] * (first == last)) for first, last in pairs]
-    return words, {number for first, last in pairs for number in range(first, last + 1)}
+    return words, pairs
 
 
 # What the debugger and `why` say.
@@ -305,27 +325,30 @@ def filter_text(draw, insns, listing):
 
 
 def asked(draw, found):
-    """The options and packets of some command lines, and what each is to give."""
-    for option, report in ([], summary), (["-l"], coverage), (["-g"], graph):
-        yield option, [], (list(report(found)), [], 0)
-    yield ["-p"], [], of_chosen(of_each, line_of_packet, found, set(range(1, len(found.ways) + 1)))
+    """The options and packets of some command lines, and what each is to give: lines, what is said, and the status."""
+    yield [], [], (list(summary(found)), [], 0)
+    for option, report in (["-l"], coverage), (["-g"], graph):
+        yield option, [], (list(report(found)), cut_line(found), 0)
+    lines = of_each(line_of_packet, found, range(1, len(found.ways) + 1))
+    yield ["-p"], [], (lines, cut_line(found), 0)
     for option, report in (["-p"], line_of_packet), ([], way_of_packet):
-        words, chosen = drawn_numbers(draw, len(found.ways))
-        yield option, words, of_chosen(of_each, report, found, chosen)
-    words, chosen = drawn_numbers(draw, len(found.ways))
+        words, ranges = drawn_numbers(draw, len(found.ways))
+        yield option, words, of_chosen(of_each, report, found, ranges)
+    words, ranges = drawn_numbers(draw, len(found.ways))
     option, report = draw.choice([(["-l"], coverage), (["-g"], graph)])
-    yield option, words, of_chosen(of_all, report, found, chosen)
+    yield option, words, of_chosen(of_all, report, found, ranges)
 
 
 def differences(draw, program, folder, found, values):
     """Where `why` says something else than the debugger."""
     given = [word for name, n in values.items() for word in ("-v", f"{name}={n}")]
-    for option, packets, wanted in asked(draw, found):
+    for option, packets, (lines, said, status) in asked(draw, found):
         name = draw.choice(["capture", "-"])
+        start = "cbpf: capture: " if name == "capture" else "cbpf: "
         with open(folder / "capture", "rb") as capture:
             words = [program, "why", *option, *given, "filter", name, *packets]
             got = ran(words, folder, stdin=subprocess.DEVNULL if name == "capture" else capture)
-        yield from fault_of(" ".join(words[1:]), got, wanted)
+        yield from fault_of(" ".join(words[1:]), got, (lines, [start + line for line in said], status))
 
 
 def refusal(program, folder, insns, said):

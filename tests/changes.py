@@ -1,0 +1,252 @@
+#!/usr/bin/env python3
+"""Checks that CHANGES.md names what a release changes in the libraries, and that the version fits it.
+
+usage: changes.py [--release]
+
+tests/last_release.txt has a line for each public item of the libraries at the last release: the crate, the name, and a
+checksum of the signature and the clauses, without comments. With --release it is written anew, as a release does.
+  an item      that differs from the last release, is new or is gone stands by its name, between backquotes, in a part of
+               CHANGES.md above the last release that names its crate; `Type::name` also as `name` beside `Type`. For a
+               type that is new or gone its own name is enough. For such a crate a part begins with its name
+  the version  is that of the newest release of CHANGES.md, and nothing stands below `## Next`; or it is X.Y.Z-dev, where
+               X.Y.Z wasn't released yet
+  its first number  was raised where an item is gone
+Items are what src/lib.rt exports: functions, types with their public fields and derives, constants, traits, the public
+functions of types, and which traits a type implements, with their ghost members and the functions that have clauses. A constant counts as its value. What
+only the definitions of specs/ say is no part of an item.
+The last line is `N items, M failed`.
+"""
+
+import hashlib
+import re
+import sys
+from functools import cache
+from itertools import takewhile
+from pathlib import Path
+
+TOP = Path(__file__).resolve().parent.parent
+CRATES = TOP / "crates"
+RELEASED = TOP / "tests" / "last_release.txt"
+PARSE = CRATES / "cbpf_command_line" / "src" / "parse.rt"
+EXPORT = re.compile(r"^pub use ([^;]+);", re.M)
+DEFINED = re.compile(r" *pub (?:const |unsafe )*(fn|struct|enum|trait|const|type) (\w+)")
+BLOCK = re.compile(r"(?:unsafe )?impl\b(?:<[^{]*?>)? (?:(.+) for )?(?:&(?:'\w+ )?)?(\w+)")
+CODE_SPAN = re.compile(r"`([^`]+)`")
+
+
+def libraries():
+    """The crates that other programs may call."""
+    return [path.parent.parent for path in sorted(CRATES.glob("*/src/lib.rt")) if not path.parts[-3].endswith("_tests")]
+
+
+@cache
+def constants():
+    """The values of constants. A clause says the same by either."""
+    sources = "".join(path.read_text() for path in CRATES.glob("*/src/*.rt"))
+    found = re.findall(r"\bconst ([A-Z]\w+): \w+ = (0x[\da-f]+|\d+);", sources)
+    return {name: str(int(value, 0)) for name, value in found}
+
+
+def checksum(lines):
+    """A checksum of a text, in which blanks and commas at an end don't count."""
+    text = re.sub(r",(?= ?[)}\]>])", "", " ".join(" ".join(lines).split()))
+    text = re.sub(r"\b(?<!const )[A-Z]\w+", lambda name: constants().get(name[0], name[0]), text)
+    return hashlib.sha256(text.encode()).hexdigest()[:8]
+
+
+def exported(text):
+    """The names that a crate exports, each with the path after `pub use`."""
+    found = {}
+    for path in EXPORT.findall(text):
+        head, _, inner = path.partition("{")
+        for name in inner.rstrip("}").split(",") if inner else [head]:
+            whole = (head if inner else "") + name.strip()
+            if name.strip():
+                found[re.split(r" as |::", whole)[-1]] = whole
+    return found
+
+
+def signature(lines):
+    """A function with its clauses, from its first line to its body or its end."""
+    indent = re.match(" *", lines[0])[0]
+    taken = []
+    for line in lines:
+        if line.startswith(indent + "{"):
+            break
+        taken.append(line)
+        clauses = any(re.match(r" *(requires|ensures|ghost)\b", one) for one in taken)
+        if line.endswith(";") and line.startswith(indent) or line.endswith("{") and not clauses:
+            break
+    return taken
+
+
+def block(lines):
+    """From a first line to the end of its braces."""
+    indent = re.match(" *", lines[0])[0]
+    if lines[0].endswith((";", "}")):
+        return lines[:1]
+    return [*takewhile(lambda line: not re.match(indent + r"[})]", line), lines)]
+
+
+def ghosts(lines):
+    """The ghost members and types of a block: not what they import, nor what a type is made of."""
+    taken, inside = [], False
+    for line in lines:
+        inside = inside or re.match(r"    (?:ghost (?!use|view|invariant)|type )", line) is not None
+        taken += [line] if inside else []
+        inside = inside and not line.endswith(";")
+    return taken
+
+
+def type_text(kind, lines):
+    """A type without its private fields."""
+    whole = block(lines)
+    if kind != "struct":
+        return whole
+    return [line for line in whole if not line.startswith(" ") or line.lstrip().startswith("pub ")]
+
+
+def members(text):
+    """The members of a block, each with the lines that begin there."""
+    for i, line in enumerate(text):
+        if match := re.match(r"    (pub )?(?:const |unsafe )*fn (\w+)", line):
+            yield match[2], bool(match[1]), signature(text[i:])
+
+
+def items_of(lines, public):
+    """The public items of a file: each name, with its text."""
+    for i, line in enumerate(lines):
+        if match := BLOCK.match(line):
+            head, whole = line, block(lines[i:])
+            if match[2] in public and match[1]:
+                texts = [text for _, _, text in members(whole)]
+                said = [text for text in texts if re.search(r"(?m)^ *(requires|ensures)\b", "\n".join(text))]
+                yield f"{match[2]}: {re.sub('<.*', '', match[1])}", [head, *ghosts(whole), *sum(said, [])]
+            elif match[2] in public:
+                for name, is_public, text in members(whole):
+                    if is_public:
+                        yield f"{match[2]}::{name}", text
+        elif (match := DEFINED.match(line)) and match[2] in public:
+            kind, name = match[1], match[2]
+            above = [*takewhile(lambda one: one.startswith("#["), reversed(lines[:i]))]
+            derived = [one for one in above if "derive" in one]
+            if kind == "fn":
+                yield name, signature(lines[i:])
+            elif kind == "trait":
+                whole = block(lines[i:])
+                yield name, [line, *ghosts(whole)]
+                for inner, _, text in members(whole):
+                    yield f"{name}::{inner}", text
+            else:
+                yield name, derived + type_text(kind, lines[i:])
+
+
+def plain_lines(source):
+    """The lines of a file, without comments and without the short names of modules of definitions."""
+    source = re.sub(r" *//.*", "", source)
+    for short in re.findall(r"^ *ghost use .* as (\w+);", source, re.M):
+        source = re.sub(rf"\b{short}\.", "", source)
+    return [line for line in source.splitlines() if line.strip()]
+
+
+def items():
+    """The checksums of all public items, by crate and name."""
+    found = {}
+    for crate in libraries():
+        source = crate / "src"
+        names = exported((source / "lib.rt").read_text())
+        others = {name for name, path in names.items() if not (source / f"{path.split('::')[0]}.rt").exists()}
+        texts = {name: [names[name]] for name in others}
+        for path in sorted(source.rglob("*.rt")):
+            for name, text in items_of(plain_lines(path.read_text()), names.keys() - others):
+                texts.setdefault(name, []).extend(text)
+        for name in names.keys() - texts.keys():
+            sys.exit(f"{crate.name}: no item {name}")
+        found |= {(crate.name, name): checksum(text) for name, text in texts.items()}
+    return found
+
+
+def released():
+    """The checksums at the last release, and its version."""
+    head, *lines = RELEASED.read_text().splitlines()
+    rows = [line.split(" ", 1) for line in lines]
+    return {(crate, rest.rsplit(" ", 1)[0]): rest.rsplit(" ", 1)[1] for crate, rest in rows}, head.split()[-1]
+
+
+def release(version):
+    lines = [f"{crate} {name} {text}" for (crate, name), text in sorted(items().items())]
+    RELEASED.write_text("\n".join([f"# The public items of {version}", *lines]) + "\n")
+
+
+def next_items(changes):
+    """The items of CHANGES.md above the last release, each with the names between backquotes."""
+    text = re.split(r"(?m)^## [0-9]", changes)[0].partition("\n## Next")[2]
+    return [CODE_SPAN.findall(item) for item in re.split(r"(?m)^- ", text)[1:]]
+
+
+def differences(then, now):
+    """What differs, with how: a crate that came or went, a type that did, with all its parts, or an item."""
+    came_or_went = now.keys() ^ then.keys()
+    crates = {crate for crate, _ in now} ^ {crate for crate, _ in then}
+    found = {}
+    for crate, name in sorted(now.keys() | then.keys()):
+        if now.get((crate, name)) != then.get((crate, name)):
+            how = "is new" if (crate, name) not in then else "is gone" if (crate, name) not in now else "differs"
+            owner = re.match(r"\w+", name)[0]
+            found[crate, "" if crate in crates else owner if (crate, owner) in came_or_went else name] = how
+    return found
+
+
+def is_named(crate, name, told):
+    """Whether an item of CHANGES.md names something of a crate, or begins with the crate where all of it is meant."""
+    if not name:
+        return any(spans[:1] == [crate] for spans in told)
+    owner, _, member = re.sub(r": .*", "", name).partition("::")
+    for spans in told:
+        words = {word for span in spans for word in re.findall(r"[\w:]+", span)}
+        if crate in words and (f"{owner}::{member}" in words or {owner, member} - {""} <= words):
+            return True
+    return False
+
+
+def version_faults(version, versions, told):
+    """What is wrong with the version, by the releases of CHANGES.md, the newest first."""
+    number = version.removesuffix("-dev")
+    if version == number and told:
+        yield f"CHANGES.md has items below `## Next`, so the version is that of the next release, and -dev: not {version}"
+    if version == number and version != versions[0]:
+        yield f"the version is {version}, and the last release {versions[0]}"
+    if version != number and number in versions:
+        yield f"the version is {version}, and {number} was released"
+
+
+def faults():
+    changes = (TOP / "CHANGES.md").read_text()
+    version = re.search(r'^const VERSION: &str = "(.*)";$', PARSE.read_text(), re.M)[1]
+    versions = re.findall(r"^## ([0-9.]+), ", changes, re.M)
+    told = next_items(changes)
+    yield from version_faults(version, versions, told)
+    then, last = released()
+    if last != versions[0]:
+        yield f"tests/last_release.txt is of {last}, and the last release is {versions[0]}: tests/changes.py --release"
+        return
+    for (crate, name), how in differences(then, items()).items():
+        if how == "is gone" and version.split(".")[0] == last.split(".")[0]:
+            yield f"{crate}: {name} is gone, so the first number of {version} is to be raised"
+        if not is_named(crate, name, told):
+            yield f"{crate}: {name or 'all of it'} {how}, and CHANGES.md doesn't name it"
+
+
+def main():
+    if sys.argv[1:] == ["--release"]:
+        release(re.search(r"^## ([0-9.]+), ", (TOP / "CHANGES.md").read_text(), re.M)[1])
+    elif sys.argv[1:]:
+        sys.exit(__doc__)
+    else:
+        found = [*faults()]
+        print("\n".join([*found, f"{len(items())} items, {len(found)} failed"]))
+        sys.exit(1 if found else 0)
+
+
+if __name__ == "__main__":
+    main()

@@ -1,0 +1,240 @@
+"""What the code and the definitions have: crates, functions with their clauses, and which definitions cite which."""
+
+import os
+import re
+from functools import cache
+from pathlib import Path
+
+TOP = Path(__file__).resolve().parent.parent
+CRATES = TOP / "crates"
+FUNCTION = re.compile(r"\bfn (\w+)")
+
+
+@cache
+def text_of(path):
+    return path.read_text(errors="replace")
+
+
+@cache
+def all_paths():
+    """All files and folders but those of builds, cases and captures."""
+    found = []
+    for folder, folders, files in os.walk(TOP):
+        folders[:] = [name for name in folders if name not in ("out", ".git", "cases", "captures")]
+        found += [Path(folder) / name for name in folders + files]
+    return sorted(found)
+
+
+@cache
+def crates():
+    return {path.name for path in CRATES.iterdir() if path.is_dir()}
+
+
+@cache
+def joined_sources(crate):
+    return [text_of(path) for path in sorted((CRATES / crate / "src").rglob("*.rt"))]
+
+
+@cache
+def functions(crate):
+    """The functions of a crate, each with the names of its clauses (of all functions of this name)."""
+    clauses = {}
+    for text in joined_sources(crate):
+        name = None
+        for line in text.splitlines():
+            if match := FUNCTION.search(line):
+                name = match[1]
+                clauses.setdefault(name, set())
+            if name and (match := re.match(r"\s*(?:ensures|requires)\s+(\w+)\s*\{", line)):
+                clauses[name].add(match[1])
+    return clauses
+
+
+@cache
+def members(crate):
+    """The ghost members and laws of a crate's traits and impl blocks, and the derives' own clauses."""
+    return set(re.findall(r"\bghost (?:law )?(\w+)", "".join(joined_sources(crate)))) | {"ensures"}
+
+
+# A word of the definitions, and the head of one.
+SPEC_WORD = re.compile(r"[^\s(){}\[\],;]+")
+SPEC_HEAD = re.compile(r"(?:abbrev |unfoldable )*(?:pub )?(?:(?:data|record) (\S+)|([^\s:(){}]+) :)")
+IMPORT = re.compile(
+    r"^ *(?:ghost )?(?:pub )?use Rattle\.(\w+)\.specs\.(\w+)((?:\.\w+)*)(?:\.\{([^}]*)\}| as (\w+));?$", re.M
+)
+FOR_PRIVATE = re.compile(r"[Nn]o public clause (?:cites|names) (?:it|them)|cited only by (?:a )?private function")
+
+
+@cache
+def spec_items(path):
+    """The definitions of a file: for each its text, and for each name (a constructor's too) whose it is."""
+    texts, owner, item = {}, {}, None
+    for line in re.sub(r"^\s*--.*$", "", text_of(path), flags=re.M).splitlines():
+        if match := SPEC_HEAD.match(line):
+            item = match[1] or match[2]
+            # An operator is written without the marks of its places.
+            owner[item] = owner[item.strip("◌")] = item
+        elif item and (match := re.match(r"  (?:pub )?([^\s:(){}]+) :", line)):
+            owner.setdefault(match[1], item)
+        if item and not line.startswith(("use ", "infix")):
+            texts[item] = texts.get(item, "") + line + "\n"
+    return texts, owner
+
+
+@cache
+def spec_files():
+    return {(path.parent.parent.name, path.stem): path for path in sorted(CRATES.glob("*/specs/*.antt"))}
+
+
+@cache
+def imported(path):
+    """What the names of a file stand for: a definition of a file of definitions, or such a file by another name."""
+    single, files = {}, {}
+    for crate, module, inner, several, alias in IMPORT.findall(text_of(path)):
+        if (crate, module) not in spec_files():
+            continue
+        owner = spec_items(spec_files()[crate, module])[1]
+        inside = inner.lstrip(".").split(".")[0]
+        for name in filter(None, (name.strip() for name in several.split(","))):
+            name, _, new = name.partition(" as ")
+            item = owner.get(inside or name)
+            if item:
+                single[(new or name).strip("◌")] = (crate, module, item)
+        if alias and inside:
+            single[alias] = (crate, module, owner.get(inside))
+        elif alias:
+            files[alias] = (crate, module)
+    return single, files
+
+
+def cited_in(text, path):
+    """The definitions that some text of a file names."""
+    single, files = imported(path)
+    here = (path.parent.parent.name, path.stem)
+    own = spec_items(path)[1] if here in spec_files() else {}
+    found = set()
+    for word in SPEC_WORD.findall(text):
+        head, _, rest = word.lstrip("¬λ").partition(".")
+        if head in files and rest:
+            crate, module = files[head]
+            item = spec_items(spec_files()[crate, module])[1].get(rest.split(".")[0])
+            found |= {(crate, module, item)} if item else set()
+        elif head in own:
+            found.add((*here, own[head]))
+        elif head in single:
+            found.add(single[head])
+    return found
+
+
+def all_reached(start):
+    reached, left = set(), set(start)
+    while left:
+        crate, module, item = one = left.pop()
+        if one not in reached and item:
+            reached.add(one)
+            path = spec_files()[crate, module]
+            left |= cited_in(spec_items(path)[0][item], path)
+    return reached
+
+
+def public_clauses(path):
+    """The clauses of public functions, and of all that stands in public traits and impl blocks of traits."""
+    public, within, found, inside = False, False, [], None
+    for line in re.sub(r"//.*", "", text_of(path)).splitlines():
+        if re.match(r"(?:pub )?trait |(?:unsafe )?impl\b|[})]", line):
+            within = re.match(r"pub trait |(?:unsafe )?impl\b.* for (?!.*\{\}$)", line) is not None
+        if match := re.match(r"\s*(pub )?(?:const )?fn |\s*(pub\(crate\) )fn ", line):
+            public = bool(match[1]) or (within and not match[2])
+            inside = None
+        if match := re.match(r"\s*(ensures|requires|ghost)\b(?! use)(?! invariant)", line):
+            inside = within if match[1] == "ghost" else public
+        elif re.match(r"\s*(?:\{|\}|ghost invariant)", line):
+            inside = None
+        if inside:
+            found.append(line)
+    return "\n".join(found)
+
+
+@cache
+def reached():
+    """All definitions that the clauses of public functions, traits and models name, or that those rest on."""
+    found = set()
+    for source in sorted(CRATES.glob("*/src/**/*.rt")):
+        found |= cited_in(public_clauses(source), source)
+    return all_reached(found)
+
+
+@cache
+def cited_anywhere():
+    """All definitions that some code, proof or other definition names."""
+    found = set()
+    for path in all_paths():
+        if path.suffix == ".rt" or (path.suffix == ".antt" and path not in spec_files().values()):
+            found |= cited_in(re.sub(r"(?m)(?://|--).*|^ *(?:ghost )?use .*", "", text_of(path)), path)
+    for (crate, module), path in spec_files().items():
+        for item, text in spec_items(path)[0].items():
+            found |= cited_in(text, path) - {(crate, module, item)}
+    return found
+
+
+@cache
+def own_files():
+    """The files of definitions that say at their head that no public clause names them."""
+    heads = {one: re.match(r"(?:--.*\n)*", text_of(path))[0] for one, path in spec_files().items()}
+    return {one for one, head in heads.items() if FOR_PRIVATE.search(head.replace("\n-- ", " "))}
+
+
+@cache
+def exported(crate):
+    """The names that a library exports of its own; none for a program, which has no callers."""
+    library = CRATES / crate / "src/lib.rt"
+    lines = re.findall(r"^pub use ([^;]+);", text_of(library), re.M) if library.exists() else []
+    return set(re.findall(r"\w+", " ".join(lines)))
+
+
+@cache
+def public_calls(crate):
+    """The functions that a library's callers see, each as its type or trait, if it has one, and its name.
+
+    What implements a trait of the project is called by the trait's name.
+    """
+    found = set()
+    traits = set(re.findall(r"\bpub trait (\w+)", "".join(text for each in crates() for text in joined_sources(each))))
+    for text in joined_sources(crate):
+        owner, every = None, False
+        for line in text.splitlines():
+            if match := re.match(r"pub trait (\w+)|impl\b(?:<.*?>)? (?:(?:\w+::)*(\w+)(?:<.*>)? for )?(?:&(?:'\w+ )?)?(\w+)", line):
+                owner, every = match[1] or match[3], bool(match[1] or match[2]) and match[2] not in traits
+            if line.startswith("}") or re.match(r"\S.*\{\}$", line):
+                owner, every = None, False
+            elif match := re.match(r"\s*(pub )?(?:const )?fn (\w+)", line):
+                if (match[1] or every) and (owner or match[2]) in exported(crate):
+                    found.add((owner, match[2]))
+    return found
+
+
+def command_words():
+    """The names of the debugger's commands, and the words that stand for no value after them."""
+    return re.findall(r'^\s*b?"(\w+)" =>', text_of(CRATES / "cbpf_tool/src/command.rt"), re.M)
+
+
+def short_forms():
+    """The short forms of commands that cbpf-shell takes."""
+    lines = re.findall(r"^ *([\w |'?]+)\) word=\w+ ;;", text_of(TOP / "tools/cbpf-shell"), re.M)
+    return re.findall(r"\w+", " ".join(lines))
+
+
+def line_words():
+    """The subcommands and options of the program's command line, of which clap adds five."""
+    code = "".join(joined_sources("cbpf_command_line"))
+    options = re.findall(r"""(?:\.short\(|"\w",\s*)'(\w)'""", code)
+    added = ["help", "-h", "--help", "-V", "--version"]
+    return [*re.findall(r'bare\(alloc, "(\w+)"', code), *(f"-{letter}" for letter in options), *added]
+
+
+def error_texts():
+    """How the errors begin that the program prints: a number and a word, or some words."""
+    printing = ("cbpf", "cbpf_reply", "cbpf_text", "cbpf_tool", "cbpf_why")
+    code = "".join(text for crate in printing for text in joined_sources(crate))
+    others = re.findall(r'(?:#\[error\("|"cbpf: )([a-z]+ [^"{\\]*[a-zA-Z0-9])', code)
+    return sorted({*re.findall(r'"([A-Z]\d+ \w+)', code), *others})
