@@ -13,7 +13,7 @@ use clap::error::ErrorKind;
 use clap::{Arg, ArgAction, ArgMatches, Command, Error};
 use std::alloc::{AllocError, Global};
 
-const VERSION: &str = "2.0.0-dev";
+const VERSION: &str = "2.0.0";
 
 const ABOUT: &str =
     "Shows why packets pass or fail a classic BPF filter; assembles and debugs filters";
