@@ -3,7 +3,8 @@
 use Rattle.std.proofs.Common.{◌≡◌, ◌≢◌, ℕ, ◌⊎◌, inl, inr, List, [], ◌∷◌, length, sym, ◌∙◌, ap, Option, Some, None, refl}
 use Rattle.std.proofs.Common.{arith, tests}
 use Rattle.cbpf_code.specs.WordTokens.{WordToken, run, single, tokens}
-use Rattle.cbpf_code.specs.WordText.{Due, count, next_due, range_of, token_fault, or_else, first_fault, fault_of}
+use Rattle.std.specs.Option.{option_or}
+use Rattle.cbpf_code.specs.WordText.{Due, count, next_due, range_of, token_fault, first_fault, fault_of}
 use Rattle.cbpf_code.specs.WordText.{Spells, Miscounts, Refused}
 use Rattle.cbpf_code.specs.declared.insn.Insn.{Insn}
 use Rattle.cbpf_code.specs.declared.words.WordFault.{WordFault}
@@ -33,15 +34,15 @@ token_fault-other (Some range) (run p ds) h = grind (arith, tests)
 token_fault-other None (single p b) h = grind (arith, tests)
 token_fault-other (Some range) (single p b) h = grind (arith, tests)
 
-or_else-other : (o p : Option WordFault) → o ≢ Some Memory → p ≢ Some Memory → or_else o p ≢ Some Memory
-or_else-other None p first then = then
-or_else-other (Some e) p first then = first
+or-other : (o p : Option WordFault) → o ≢ Some Memory → p ≢ Some Memory → option_or o p ≢ Some Memory
+or-other None p first then = then
+or-other (Some e) p first then = first
 
 pub first_fault-other : (due : Due) (n : ℕ) (ms : List WordToken) → first_fault due n ms ≢ Some Memory
 first_fault-other count n [] h = cc
 first_fault-other _ n [] h = cc
 first_fault-other due n (m ∷ ms) h =
-    or_else-other _ _ (token_fault-other (range_of due) m) (first_fault-other (next_due due) n ms) h
+    or-other _ _ (token_fault-other (range_of due) m) (first_fault-other (next_due due) n ms) h
 
 pub as-refused : (text : List ℕ) (e : WordFault) → Faulty text e → Refused text e
 as-refused text Memory (inl h) = absurd (first_fault-other count (length text) (tokens text) h)

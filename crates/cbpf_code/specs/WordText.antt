@@ -1,6 +1,7 @@
 -- Word text: a count, a comma, and for each instruction its four numbers and a comma, of which the last may be missing.
 use Rattle.std.specs.Prelude.{◌≡◌, ◌≢◌, ◌≤◌, ℕ, ◌^◌, ◌⊎◌, ◌==◌, nat_lt, if◌then◌else◌, List, [], ◌∷◌, length, drop}
 use Rattle.std.specs.Prelude.{slice_index, Option, Some, None}
+use Rattle.std.specs.Option.{option_or}
 use Rattle.cbpf_code.specs.WordTokens.{WordToken, run, single, tokens, decimal_value}
 use Rattle.cbpf_code.specs.declared.insn.Insn.{Insn}
 use Rattle.cbpf_code.specs.declared.words.WordFault.{WordFault}
@@ -49,14 +50,10 @@ end_fault code n = None
 end_fault comma n = None
 end_fault _ n = Some (NumberExpected n)
 
-abbrev pub or_else : Option WordFault → Option WordFault → Option WordFault
-or_else (Some e) o = Some e
-or_else None o = o
-
 -- the first thing wrong with the tokens up to the end at place n
 abbrev pub first_fault : Due → ℕ → List WordToken → Option WordFault
 first_fault due n [] = end_fault due n
-first_fault due n (m ∷ ms) = or_else (token_fault (range_of due) m) (first_fault (next_due due) n ms)
+first_fault due n (m ∷ ms) = option_or (token_fault (range_of due) m) (first_fault (next_due due) n ms)
 
 abbrev pub fault_of : List ℕ → Option WordFault
 fault_of text = first_fault count (length text) (tokens text)

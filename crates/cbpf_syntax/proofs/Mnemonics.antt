@@ -14,7 +14,8 @@ use Rattle.cbpf_syntax.proofs.Elements.{all_pairs, same_or_pair, first_element, 
 use Rattle.cbpf_syntax.proofs.Elements.{into_map, from_flat_map, into_flat_map, any_element, list_all_at}
 use Rattle.std.specs.Option.{is_some}
 use Rattle.cbpf_code.specs.declared.extension.Ext.{Ext}
-use Rattle.cbpf_code.specs.Extension.{ext_table, ext_name, ext_named, named_in}
+use Rattle.std.specs.Map.{lookup}
+use Rattle.cbpf_code.specs.Extension.{ext_table, ext_name, ext_named}
 
 words_differ : all_pairs (λ (m n : Mnemonic). not (bytes_eq m.word n.word)) mnemonics ≡ true
 unfolding mnemonics
@@ -104,7 +105,8 @@ none_from (b ∷ bs) d l e = sym (from_listed b bs mnemonics) ∙ e
 
 -- Words that are extensions' names, and words that no reserved word is.
 
-named_test : (es : List (ℕ × Ext)) (w : List ℕ) → is_some (named_in es w) ≡ is_one_of (map (λ e. ext_name e.1) es) w
+named_test : (es : List (ℕ × Ext)) (w : List ℕ)
+    → is_some (lookup (bytes_eq w) (map (λ e. (ext_name e.1, e.1)) es)) ≡ is_one_of (map (λ e. ext_name e.1) es) w
 named_test [] w = refl
 named_test (e ∷ es) w = elim (cases_Bool (bytes_eq w (ext_name e.1))) [
   | inl same ↦ rw same refl

@@ -7,7 +7,8 @@ use Rattle.std.proofs.lemmas.Bool.{and_parts}
 use Rattle.std.specs.Bool.{beq}
 use Rattle.cbpf_code.specs.declared.insn.Insn.{Insn}
 use Rattle.cbpf_code.specs.declared.opcode.Op.{Op}
-use Rattle.cbpf_code.specs.Opcode.{op_table, look_up, op_of, code_of}
+use Rattle.std.specs.Map.{lookup}
+use Rattle.cbpf_code.specs.Opcode.{op_table, op_of, code_of}
 use Rattle.cbpf_code.specs.Plain.{kept, plain, plain_for, uses_k, uses_offsets}
 use Rattle.cbpf_code.proofs.TableLemmas.{code_known}
 use Rattle.cbpf_syntax.specs.Bytes.{is_letter, is_name_byte}
@@ -109,13 +110,13 @@ found_row named op h1 = search (rules, some_element, and_parts, eqb-true, equal_
 
 -- what holds of each entry of a table holds of what is found in it
 pub looked_up : {V : Type 0} (p : V → Bool) (t : List (ℕ × V)) (key : ℕ) (v : V)
-    → list_all (λ (e : ℕ × V). p e.1) t ≡ true → look_up t key ≡ Some v → p v ≡ true
+    → list_all (λ (e : ℕ × V). p e.1) t ≡ true → lookup (λ k. key == k) t ≡ Some v → p v ≡ true
 looked_up p [] key v a found = cc
 looked_up p (e ∷ es) key v a found =
     by_test (key == e.0) found (λ f. looked_up p es key v (and_parts (p e.1) _ a).1 f)
   where
-    by_test : (t : Bool) → cond t (Some e.1) (look_up es key) ≡ Some v
-        → (look_up es key ≡ Some v → p v ≡ true) → p v ≡ true
+    by_test : (t : Bool) → cond t (Some e.1) (lookup (λ k. key == k) es) ≡ Some v
+        → (lookup (λ k. key == k) es ≡ Some v → p v ≡ true) → p v ≡ true
     by_test true f again = let h : e.1 ≡ v = cc in rw (← h) (and_parts (p e.1) _ a).0
     by_test false f again = again f
 
