@@ -20,12 +20,8 @@ at_text p = place_after (codes "at ") p
 abbrev pub unknown_text : ℕ → List ℕ
 unknown_text n = if n == 0 then [] else concat (codes " unknown:" ∷ decimal n ∷ [])
 
--- two numbers, each after a text
-abbrev pub two : List ℕ → ℕ → List ℕ → ℕ → List ℕ
-two before m between n = concat (before ∷ decimal m ∷ between ∷ decimal n ∷ [])
-
 unfoldable pub known_text : ℕ → ℕ → List ℕ
-known_text passes fails = two (codes "bpf passes:") passes (codes " fails:") fails
+known_text passes fails = with_numbers (codes "bpf passes:") passes (codes " fails:") fails []
 
 -- how many packets passed and failed, and how many asked for an extension without a value
 unfoldable pub counts_text : Counts → List ℕ

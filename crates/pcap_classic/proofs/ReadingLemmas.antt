@@ -1,5 +1,5 @@
 -- What is left of a capture, by the bytes in front and those that a reader has left.
-use Rattle.std.proofs.Common.{◌≡◌, ℕ, ◌+◌, ◌<◌, ◌≤◌, List, [], ◌∷◌, ◌++◌, length, drop, arith, refl, sym, ap, ◌∙◌}
+use Rattle.std.proofs.Common.{◌≡◌, ℕ, zero, suc, ◌+◌, ◌<◌, ◌≤◌, List, [], ◌∷◌, ◌++◌, length, drop, arith, refl, sym, ap, ◌∙◌}
 use Rattle.std.proofs.Common.{Option, Some, None, Ok, Err, inl, inr, length-drop, length-take, length-append, append-nil}
 use Rattle.std.specs.Prelude.{IfSome, IsSomeAnd}
 use Rattle.std.specs.Option.{option_map}
@@ -7,8 +7,8 @@ use Rattle.std.specs.Io.KnownBytes.{Keeps, IsAtEnd, prepend_known}
 use Rattle.std.proofs.lemmas.Bool.{cases_lt}
 use Rattle.std.proofs.lemmas.Bool.Decides.{nat_tests}
 use Rattle.std.proofs.lemmas.List.{drop-append-le, take-append-le}
-use Rattle.byteorder.specs.Numbers.{big_from-append, little_from-append}
-use Rattle.pcap_classic.specs.FileNumbers.{number_at}
+use Rattle.std.proofs.Math.ListN.{get_or-append}
+use Rattle.pcap_classic.specs.FileNumbers.{big_endian, little_endian, number_at}
 use Rattle.pcap_classic.specs.declared.captured.{Endianness.Endianness, Extent.Extent, TheConstants.RECORD_HEADER}
 use Rattle.pcap_classic.specs.declared.captured.Endianness.TheVariants.{Big, Little}
 use Rattle.pcap_classic.specs.declared.captured.Extent.TheVariants.{Nothing, PartOfHeader, PartOfData, WholeRecord}
@@ -28,15 +28,23 @@ use Rattle.pcap_classic.proofs.SavefileLemmas.{header-says, same_savefile}
 
 -- ---- numbers and records in the first bytes
 
+big-front : (n place : ℕ) (xs ys : List ℕ) → place + n ≤ length xs
+    → big_endian (xs ++ ys) place n ≡ big_endian xs place n
+big-front zero place xs ys h = refl
+big-front (suc n) place xs ys h =
+    rw (get_or-append xs ys 0 place (omega (arith, h)), big-front n (place + 1) xs ys (omega (arith, h))) refl
+
+little-front : (n place : ℕ) (xs ys : List ℕ) → place + n ≤ length xs
+    → little_endian (xs ++ ys) place n ≡ little_endian xs place n
+little-front zero place xs ys h = refl
+little-front (suc n) place xs ys h =
+    rw (get_or-append xs ys 0 place (omega (arith, h)), little-front n (place + 1) xs ys (omega (arith, h))) refl
+
 pub number-front : (order : Endianness) (place n : ℕ) (xs ys : List ℕ) → place + n ≤ length xs
     → number_at order place n (xs ++ ys) ≡ number_at order place n xs
 unfolding number_at
-number-front Big place n xs ys h =
-    let inside : n ≤ length (drop place xs) = omega (arith, h, length-drop place xs) in
-    rw (drop-append-le place xs ys (omega (arith, h))) (big_from-append n (drop place xs) ys inside)
-number-front Little place n xs ys h =
-    let inside : n ≤ length (drop place xs) = omega (arith, h, length-drop place xs) in
-    rw (drop-append-le place xs ys (omega (arith, h))) (little_from-append n (drop place xs) ys inside)
+number-front Big place n xs ys h = big-front n place xs ys h
+number-front Little place n xs ys h = little-front n place xs ys h
 
 -- a whole record in front, whatever follows
 record WholeFront (order : Endianness) (n place size : ℕ) (xs ys : List ℕ) : Type 0 where
