@@ -1,23 +1,21 @@
 -- Each token list is items, or goes on no farther than a place: of each the longest front that begins a row is found.
 use Rattle.std.proofs.Common.{rules, ◌≡◌, ℕ, zero, suc, ◌+◌, ◌<◌, ◌≤◌, Bool, true, false, List, [], ◌∷◌, ◌++◌, length}
-use Rattle.std.proofs.Common.{take, drop, refl, arith, ap, ◌∙◌, ◌⊎◌, inl, inr, Option, Some, None}
+use Rattle.std.proofs.Common.{take, drop, refl, arith, ◌⊎◌, inl, inr}
 use Rattle.std.specs.List.{list_any}
-use Rattle.std.proofs.lemmas.Bool.{cases_lt, cases_eq, cases_Bool, both_ways}
+use Rattle.std.proofs.lemmas.Bool.{cases_lt, cases_Bool, both_ways}
 use Rattle.cbpf_syntax.specs.Classes.Class.{the_mark, name}
-use Rattle.cbpf_syntax.specs.Lexemes.{Symbol, Lexeme}
-use Rattle.cbpf_syntax.specs.Lexemes.Symbol.{number, mark}
+use Rattle.cbpf_syntax.specs.Lexemes.{Lexeme}
 use Rattle.cbpf_syntax.specs.Table.{classes, table}
 use Rattle.cbpf_syntax.specs.Fits.{fits, fits_all, fits_front}
 use Rattle.cbpf_syntax.specs.Items.{Item, Items, IsItem}
 use Rattle.cbpf_syntax.specs.Steps.{Goes, Stuck, IsNextItem, starts_with_colon}
-use Rattle.cbpf_syntax.specs.Refusals.{symbol_at, most_negative, IsLarge, IsLargeNegative, IsStuckAt}
+use Rattle.cbpf_syntax.specs.Refusals.{is_large_at, IsLargeNegative, IsStuckAt}
 use Rattle.cbpf_syntax.proofs.Elements.{any_element, some_element}
 use Rattle.cbpf_syntax.proofs.Apart.{no_classes}
 use Rattle.cbpf_syntax.proofs.Greedy.{Greedy}
 use Rattle.cbpf_syntax.proofs.Steps.{some_known, bare_front, bare_whole, form_of, name_stuck, label_stuck, label_item}
 use Rattle.cbpf_syntax.proofs.Steps.{end_stuck}
 use Rattle.cbpf_syntax.proofs.Refused.{greedy_more, greedy_all, next_some, stuck_at}
-use Rattle.cbpf_syntax.proofs.Cuts.{some-same}
 
 -- what stands at the front of tokens
 abbrev NextOrStuck : List Lexeme → Type 0
@@ -108,50 +106,6 @@ reach ts (suc left) at is l p = elim (cases_lt at (length ts)) [
   ]
 ]
 
--- whether a number too large stands after a `-`
-abbrev Either : Type 0 → Type 0
-Either P = P ⊎ (P → ⊥)
-
-large_pair : (s d : Symbol) → Either (IsLarge s d)
-large_pair (mark b) (number n) = elim (cases_eq b 45) [
-  | inl e ↦ elim (cases_lt most_negative n) [
-    | inl l ↦ inl (ap mark e, n, refl, l)
-    | inr l ↦ inr (λ h. let k = same_number n h.1 h.2 in omega (arith, k, l, h.3))
-  ]
-  | inr other ↦ inr (λ h. other (same_mark b 45 h.0))
-]
-  where
-    same_number : (m n : ℕ) → number m ≡ number n → m ≡ n
-    same_number m n e = cc
-
-    same_mark : (m n : ℕ) → mark m ≡ mark n → m ≡ n
-    same_mark m n e = cc
-large_pair s d = inr (λ h. let e = h.0 in let f = h.2 in cc)
-
-large_in : (o q : Option Symbol) → Either ((s : Symbol) × (d : Symbol) × (o ≡ Some s) × (q ≡ Some d) × IsLarge s d)
-large_in None q = inr (λ h. let e = h.2 in cc)
-large_in (Some s) None = inr (λ h. let e = h.3 in cc)
-large_in (Some s) (Some d) = elim (large_pair s d) [
-  | inl l ↦ inl (s, d, refl, refl, l)
-  | inr none ↦ inr (λ h. none (rw (some-same s h.0 h.2, some-same d h.1 h.3) h.4))
-]
-
-large_at : (ts : List Lexeme) (i : ℕ) → Either (IsLargeNegative ts i)
-large_at ts zero = inr (λ h. omega (arith, h.after))
-large_at ts (suc b) = elim (large_in (symbol_at ts b) (symbol_at ts (suc b))) [
-  | inl h ↦ inl (record {
-    before = b;
-    after = omega arith;
-    sign = h.0;
-    digits = h.1;
-    sign_at = h.2;
-    digits_at = h.3;
-    large = h.4;
-  })
-  | inr none ↦ inr (λ h. let e : b ≡ h.before = omega (arith, h.after) in
-      none (h.sign, h.digits, ap (symbol_at ts) e ∙ h.sign_at, h.digits_at, h.large))
-]
-
 -- the first of those before a place, or none is there
 abbrev HasFirst : List Lexeme → ℕ → Type 0
 HasFirst ts n = ((i : ℕ) × (i < n) × IsLargeNegative ts i × ((k : ℕ) → k < i → IsLargeNegative ts k → ⊥))
@@ -165,8 +119,8 @@ pub first_large : (ts : List Lexeme) (n : ℕ) → HasFirst ts n
 first_large ts zero = inr (λ k l h. omega (arith, l))
 first_large ts (suc n) = elim (first_large ts n) [
   | inl f ↦ inl (f.0, omega (arith, f.1), f.2, f.3)
-  | inr none ↦ elim (large_at ts n) [
+  | inr none ↦ elim (cases_Bool (is_large_at ts n)) [
     | inl h ↦ inl (n, omega arith, h, none)
-    | inr last ↦ inr (none_more ts n none last)
+    | inr last ↦ inr (none_more ts n none (λ h. both_ways _ last h))
   ]
 ]

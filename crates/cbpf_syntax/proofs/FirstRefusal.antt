@@ -1,61 +1,61 @@
 -- The first refusal of a token list, and how it is reported: lemmas with a case for each refusal.
-use Rattle.std.proofs.Common.{rules, ◌≡◌, ℕ, ◌+◌, ◌-◌, ◌<◌, ◌≤◌, List, [], ◌∷◌, length, take, refl, arith, ap, sym}
-use Rattle.std.proofs.Common.{◌∙◌, inl, inr, subst, append-nil, Some, None}
+use Rattle.std.proofs.Common.{◌≡◌, ℕ, ◌+◌, ◌-◌, ◌<◌, ◌≤◌, min, List, [], ◌∷◌, length, take, refl, arith, ap, sym}
+use Rattle.std.proofs.Common.{◌∙◌, inl, inr, subst, append-nil, Some, None, option_map}
 use Rattle.std.proofs.lemmas.List.{take_all, take-take}
 use Rattle.std.proofs.lemmas.Bool.{cases_lt}
-use Rattle.std.proofs.lemmas.Bool.Decides.{nat_tests}
-use Rattle.cbpf_syntax.specs.declared.reader.SyntaxFault.TheVariants as reported
+use Rattle.std.proofs.lemmas.Option.{slice_get-get_or}
 use Rattle.cbpf_syntax.specs.Lexemes.{Lexeme}
 use Rattle.cbpf_syntax.specs.Items.{Item, Items, BeginsItems}
 use Rattle.cbpf_syntax.specs.Refusals.ParseFault.{Misplaced, LargeNegative, Unfinished}
-use Rattle.cbpf_syntax.specs.Refusals.{ParseFault, IsLargeNegative, IsMisplaced, IsStuckAt, IsRefusedAt, IsFirstRefusal}
-use Rattle.cbpf_syntax.specs.Refusals.{IsAccepted, IsPlaceOf, IsRefusedFor, shown_at}
+use Rattle.cbpf_syntax.specs.Refusals.{ParseFault, IsLargeNegative, IsStuckAt, IsRefusedAt, IsFirstRefusal}
+use Rattle.cbpf_syntax.specs.Refusals.{IsAccepted, IsPlaceOf, IsRefusedFor}
 use Rattle.cbpf_syntax.specs.Reading.{IsFirstLarge}
 use Rattle.cbpf_syntax.specs.Laws.{OneRefusal, EachParsed}
+use Rattle.cbpf_syntax.proofs.Cuts.{some-same}
 use Rattle.cbpf_syntax.proofs.Greedy.{begins_take}
 use Rattle.cbpf_syntax.proofs.Apart.{begins_none}
 use Rattle.cbpf_syntax.proofs.Steps.{some_known}
 use Rattle.cbpf_syntax.proofs.Refused.{large_within}
 use Rattle.cbpf_syntax.proofs.Minus.{never_both}
 use Rattle.cbpf_syntax.proofs.Answered.{reach, first_large}
+use Rattle.cbpf_syntax.proofs.Taking.{place_left, place_right, large_left}
+use Rattle.std.proofs.Common.{◌++◌, length-append}
 
 -- Where the tokens begin items up to a place, and no literal before one is too large, nothing is refused before that.
 not_before : (ts : List Lexeme) (s i : ℕ) → BeginsItems (take s ts) → i ≤ s → s ≤ length ts
     → ((k : ℕ) → k < i → IsLargeNegative ts k → ⊥) → (other : ParseFault) (q : ℕ) → IsRefusedAt ts other q → i ≤ q
-not_before ts s i b l w none (Misplaced k) q r = elim (cases_lt k s) [
+not_before ts s i b l w none Misplaced q r = elim (cases_lt q s) [
   | inl m ↦ absurd
-      (r.1.with_it (subst BeginsItems (take-take (k + 1) s ts (omega arith)) (begins_take (take s ts) (k + 1) b)))
-  | inr m ↦ omega (arith, r.0)
+      (r.with_it (subst BeginsItems (take-take (q + 1) s ts (omega arith)) (begins_take (take s ts) (q + 1) b)))
+  | inr m ↦ omega arith
 ]
-not_before ts s i b l w none (LargeNegative k) q r =
-    elim (cases_lt k i) [ inl m ↦ absurd (none k m r.1) | inr m ↦ omega (arith, r.0) ]
+not_before ts s i b l w none LargeNegative q r = elim (cases_lt q i) [ inl m ↦ absurd (none q m r) | inr m ↦ m ]
 not_before ts s i b l w none Unfinished q r = omega (arith, r.0)
 
-pub large_first : (ts : List Lexeme) (s i : ℕ) → IsStuckAt ts s → i < s → IsLargeNegative ts i
-    → ((k : ℕ) → k < i → IsLargeNegative ts k → ⊥) → IsFirstRefusal ts (LargeNegative i)
-large_first ts s i stuck l large none = record {
-  place = i;
-  refused = (refl, large);
-  first = not_before ts s i stuck.before (omega arith) stuck.within none;
-}
+large_first : (ts : List Lexeme) (s i : ℕ) → IsStuckAt ts s → i < s → IsLargeNegative ts i
+    → ((k : ℕ) → k < i → IsLargeNegative ts k → ⊥) → IsFirstRefusal ts LargeNegative i
+large_first ts s i stuck l large none =
+    record { refused = large; first = not_before ts s i stuck.before (omega arith) stuck.within none }
 
-pub misplaced_first : (ts : List Lexeme) (s : ℕ) → IsStuckAt ts s → s < length ts
-    → ((k : ℕ) → k < s → IsLargeNegative ts k → ⊥) → IsFirstRefusal ts (Misplaced s)
+misplaced_first : (ts : List Lexeme) (s : ℕ) → IsStuckAt ts s → s < length ts
+    → ((k : ℕ) → k < s → IsLargeNegative ts k → ⊥) → IsFirstRefusal ts Misplaced s
 misplaced_first ts s stuck l none = record {
-  place = s;
-  refused = (refl, record { within = l; before = stuck.before; with_it = stuck.next l });
+  refused = record { within = l; before = stuck.before; with_it = stuck.next l };
   first = not_before ts s s stuck.before (omega arith) stuck.within none;
 }
 
-pub unfinished_first : (ts : List Lexeme) (s : ℕ) → IsStuckAt ts s → length ts ≤ s
-    → ((k : ℕ) → k < s → IsLargeNegative ts k → ⊥) → IsFirstRefusal ts Unfinished
-unfinished_first ts s stuck l none =
-    let e : s ≡ length ts = omega (arith, stuck.within) in
+unfinished_first : (ts : List Lexeme) (s : ℕ) → IsStuckAt ts s → s ≡ length ts
+    → ((k : ℕ) → k < s → IsLargeNegative ts k → ⊥) → IsFirstRefusal ts Unfinished s
+unfinished_first ts s stuck e none = record {
+  refused = (
+    e,
     record {
-      place = s;
-      refused = (e, record { begins = subst BeginsItems (take_all s ts l) stuck.before; none = stuck.end e });
-      first = not_before ts s s stuck.before (omega arith) stuck.within none;
-    }
+      begins = subst BeginsItems (take_all s ts (omega (arith, e))) stuck.before;
+      none = stuck.end e;
+    },
+  );
+  first = not_before ts s s stuck.before (omega arith) stuck.within none;
+}
 
 -- Where the tokens are items.
 items_begin : (ts : List Lexeme) (items : List Item) → Items ts items → BeginsItems ts
@@ -64,114 +64,111 @@ items_begin ts items p =
 
 pub items_accepted : (ts : List Lexeme) (items : List Item) → Items ts items → ((k : ℕ) → IsLargeNegative ts k → ⊥)
     → IsAccepted ts
-items_accepted ts items p none (Misplaced k) q r = r.1.with_it (begins_take ts (k + 1) (items_begin ts items p))
-items_accepted ts items p none (LargeNegative k) q r = none k r.1
+items_accepted ts items p none Misplaced q r = r.with_it (begins_take ts (q + 1) (items_begin ts items p))
+items_accepted ts items p none LargeNegative q r = none q r
 items_accepted ts items p none Unfinished q r = r.1.none items p
 
 items_large : (ts : List Lexeme) (items : List Item) (i : ℕ) → Items ts items → IsLargeNegative ts i
-    → ((k : ℕ) → k < i → IsLargeNegative ts k → ⊥) → IsFirstRefusal ts (LargeNegative i)
+    → ((k : ℕ) → k < i → IsLargeNegative ts k → ⊥) → IsFirstRefusal ts LargeNegative i
 items_large ts items i p large none =
     let l = large_within ts i large in
     let begin = begins_take ts (length ts) (items_begin ts items p) in
-    record {
-      place = i;
-      refused = (refl, large);
-      first = not_before ts (length ts) i begin (omega arith) (omega arith) none;
-    }
-
-same_place : (m n : ℕ) → m ≤ n → n ≤ m → m ≡ n
-same_place m n a b = omega arith
+    record { refused = large; first = not_before ts (length ts) i begin (omega arith) (omega arith) none }
 
 same_fault : (ts : List Lexeme) (f g : ParseFault) (p : ℕ) → IsRefusedAt ts f p → IsRefusedAt ts g p → f ≡ g
-same_fault ts (Misplaced i) (Misplaced j) p a b = ap (λ k. Misplaced k) (sym a.0 ∙ b.0)
-same_fault ts (Misplaced i) (LargeNegative j) p a b =
-    absurd (never_both ts j (subst (λ k. IsMisplaced ts k) (sym a.0 ∙ b.0) a.1) b.1)
-same_fault ts (Misplaced i) Unfinished p a b = absurd (omega (arith, a.0, b.0, a.1.within))
-same_fault ts (LargeNegative i) (Misplaced j) p a b =
-    absurd (never_both ts i (subst (λ k. IsMisplaced ts k) (sym b.0 ∙ a.0) b.1) a.1)
-same_fault ts (LargeNegative i) (LargeNegative j) p a b = ap (λ k. LargeNegative k) (sym a.0 ∙ b.0)
-same_fault ts (LargeNegative i) Unfinished p a b = absurd (omega (arith, a.0, b.0, large_within ts i a.1))
-same_fault ts Unfinished (Misplaced j) p a b = absurd (omega (arith, a.0, b.0, b.1.within))
-same_fault ts Unfinished (LargeNegative j) p a b = absurd (omega (arith, a.0, b.0, large_within ts j b.1))
+same_fault ts Misplaced Misplaced p a b = refl
+same_fault ts Misplaced LargeNegative p a b = absurd (never_both ts p a b)
+same_fault ts Misplaced Unfinished p a b = absurd (omega (arith, b.0, a.within))
+same_fault ts LargeNegative Misplaced p a b = absurd (never_both ts p b a)
+same_fault ts LargeNegative LargeNegative p a b = refl
+same_fault ts LargeNegative Unfinished p a b = absurd (omega (arith, b.0, large_within ts p a))
+same_fault ts Unfinished Misplaced p a b = absurd (omega (arith, a.0, b.within))
+same_fault ts Unfinished LargeNegative p a b = absurd (omega (arith, a.0, large_within ts p b))
 same_fault ts Unfinished Unfinished p a b = refl
 
 pub one_refusal : OneRefusal
-one_refusal = search (rules, same_place, same_fault)
+one_refusal ts f g p q a b =
+    let before = a.first g q b.refused in
+    let after = b.first f p a.refused in
+    let e : p ≡ q = omega arith in
+    (same_fault ts f g q (subst (λ i. IsRefusedAt ts f i) e a.refused) b.refused, e)
 
 pub each_parsed : EachParsed
 each_parsed ts = elim (reach ts (length ts) 0 [] (omega arith) refl) [
   | inl p ↦ elim (first_large ts (length ts)) [
-    | inl f ↦ inr (LargeNegative f.0, items_large ts p.0 f.0 p.1 f.2 f.3)
+    | inl f ↦ inr (LargeNegative, f.0, items_large ts p.0 f.0 p.1 f.2 f.3)
     | inr none ↦ inl (p.0, p.1, items_accepted ts p.0 p.1 (λ k h. none k (large_within ts k h) h))
   ]
   | inr q ↦ elim (first_large ts q.0) [
-    | inl f ↦ inr (LargeNegative f.0, large_first ts q.0 f.0 q.1 f.1 f.2 f.3)
+    | inl f ↦ inr (LargeNegative, f.0, large_first ts q.0 f.0 q.1 f.1 f.2 f.3)
     | inr none ↦ elim (cases_lt q.0 (length ts)) [
-      | inl l ↦ inr (Misplaced q.0, misplaced_first ts q.0 q.1 l none)
-      | inr l ↦ inr (Unfinished, unfinished_first ts q.0 q.1 l none)
+      | inl l ↦ inr (Misplaced, q.0, misplaced_first ts q.0 q.1 l none)
+      | inr l ↦ inr (Unfinished, q.0, unfinished_first ts q.0 q.1 (omega (arith, q.1.within)) none)
     ]
   ]
 ]
 
 -- The first refusal of tokens of a text, as it is reported.
 
-shown_there : (ts : List Lexeme) (place : ℕ) → place < length ts → shown_at ts place ≡ place
-shown_there ts place l = grind (arith, nat_tests)
-
-shown_last : (ts : List Lexeme) (place : ℕ) → length ts ≤ place → shown_at ts place ≡ length ts - 1
-shown_last ts place l = grind (arith, nat_tests)
-
 -- a list of no tokens is items, so each refusal has a token that shows it
-pub shown_within : (ts : List Lexeme) (f : ParseFault) (r : IsFirstRefusal ts f) → shown_at ts r.place < length ts
-shown_within [] f r =
-    absurd (items_accepted [] [] refl (λ k h. omega (arith, large_within [] k h)) f r.place r.refused)
-shown_within (t ∷ ts) f r = elim (cases_lt r.place (length (t ∷ ts))) [
-  | inl l ↦ rw (shown_there (t ∷ ts) r.place l) l
-  | inr l ↦ rw (shown_last (t ∷ ts) r.place l) (omega arith)
-]
+pub each_shown : (ts : List Lexeme) (f : ParseFault) (p : ℕ) → IsFirstRefusal ts f p
+    → (at : ℕ) × IsRefusedFor ts f at
+each_shown [] f p r = absurd (items_accepted [] [] refl (λ k h. omega (arith, large_within [] k h)) f p r.refused)
+each_shown (t ∷ ts) f p r =
+    let some = slice_get-get_or (t ∷ ts) (min p (length (t ∷ ts) - 1)) t (omega arith) in
+    (_, record { place = p; first = r; shown = ap (option_map (λ (u : Lexeme). u.at)) some })
 
--- two first refusals have one place
-pub one_place_of : (ts : List Lexeme) (f g : ParseFault) (r : IsFirstRefusal ts f) (s : IsFirstRefusal ts g)
-    → r.place ≡ s.place
-one_place_of ts f g r s = same_place r.place s.place (r.first g s.place s.refused) (s.first f r.place r.refused)
+pub one_shown : (ts : List Lexeme) (f g : ParseFault) (m n : ℕ) → IsRefusedFor ts f m → IsRefusedFor ts g n
+    → (f ≡ g) × (m ≡ n)
+one_shown ts f g m n a b =
+    let e = one_refusal ts f g a.place b.place a.first b.first in
+    (e.0, some-same m n (sym (subst (λ p. IsPlaceOf ts (min p (length ts - 1)) m) e.1 a.shown) ∙ b.shown))
 
-pub refused_large : (ts : List Lexeme) (s at : ℕ) → IsStuckAt ts s → IsFirstLarge ts s (Some at)
-    → IsRefusedFor ts (reported.LargeNegative at)
-unfolding large_first
-refused_large ts s at stuck h = record {
-  refusal = LargeNegative h.0;
-  first = large_first ts s h.0 stuck h.1 h.2 h.3;
-  at = at;
-  shown = rw (shown_there ts h.0 (large_within ts h.0 h.2)) h.4;
-  is = refl;
-}
+-- a refusal that is shown by the token at its place
+shown_there : (ts : List Lexeme) (f : ParseFault) (p at : ℕ) → p < length ts → IsFirstRefusal ts f p
+    → IsPlaceOf ts p at → IsRefusedFor ts f at
+shown_there ts f p at l r place =
+    let e : min p (length ts - 1) ≡ p = omega arith in record { place = p; first = r; shown = rw e place }
+
+pub refused_large : (us vs : List Lexeme) (at : ℕ) → IsStuckAt (us ++ vs) (length us) → IsFirstLarge us (Some at)
+    → IsRefusedFor (us ++ vs) LargeNegative at
+refused_large us vs at stuck h =
+    let l = large_within us h.0 h.1 in
+    let here = large_left us vs h.0 l ∙ h.1 in
+    shown_there (us ++ vs) LargeNegative h.0 at (large_within (us ++ vs) h.0 here)
+    (large_first (us ++ vs) (length us) h.0 stuck l here
+    (λ k b g. h.2 k b (sym (large_left us vs k (omega arith)) ∙ g))) (place_left us vs h.0 at l h.3)
 
 -- the same where the tokens are items
-pub large_refused : (ts : List Lexeme) (items : List Item) (i at : ℕ) → Items ts items → IsLargeNegative ts i
-    → ((k : ℕ) → k < i → IsLargeNegative ts k → ⊥) → IsPlaceOf ts i at
-    → (first : IsFirstRefusal ts (LargeNegative i)) × IsPlaceOf ts (shown_at ts first.place) at
-unfolding items_large
-large_refused ts items i at p large none place =
-    (items_large ts items i p large none, rw (shown_there ts i (large_within ts i large)) place)
+pub large_refused : (ts : List Lexeme) (items : List Item) (at : ℕ) → Items ts items → IsFirstLarge ts (Some at)
+    → IsRefusedFor ts LargeNegative at
+large_refused ts items at p h =
+    shown_there ts LargeNegative h.0 at (large_within ts h.0 h.1) (items_large ts items h.0 p h.1 h.2) h.3
 
-pub refused_misplaced : (ts : List Lexeme) (s at : ℕ) → s < length ts → IsPlaceOf ts s at → IsStuckAt ts s
-    → IsFirstLarge ts s None → IsRefusedFor ts (reported.Misplaced at)
-unfolding misplaced_first
-refused_misplaced ts s at l place stuck none = record {
-  refusal = Misplaced s;
-  first = misplaced_first ts s stuck l none;
-  at = at;
-  shown = rw (shown_there ts s l) place;
-  is = refl;
-}
+pub refused_misplaced : (us vs : List Lexeme) (at : ℕ) → IsPlaceOf vs 0 at → IsStuckAt (us ++ vs) (length us)
+    → IsFirstLarge us None → IsRefusedFor (us ++ vs) Misplaced at
+refused_misplaced us [] at place stuck none = cc
+refused_misplaced us (v ∷ vs) at place stuck none =
+    let l : length us < length (us ++ (v ∷ vs)) = omega (arith, length-append us (v ∷ vs)) in
+    let here : length us + 0 ≡ length us = omega arith in
+    shown_there (us ++ (v ∷ vs)) Misplaced (length us) at l
+    (misplaced_first (us ++ (v ∷ vs)) (length us) stuck l (λ k b g. none k (sym (large_left us (v ∷ vs) k b) ∙ g)))
+    (rw here at (place_right us (v ∷ vs) 0 at place))
 
-pub refused_unfinished : (ts : List Lexeme) (s at : ℕ) → s ≡ length ts → IsPlaceOf ts (s - 1) at → IsStuckAt ts s
-    → IsFirstLarge ts s None → IsRefusedFor ts (reported.Unfinished at)
-unfolding unfinished_first
-refused_unfinished ts s at e place stuck none = record {
-  refusal = Unfinished;
-  first = unfinished_first ts s stuck (omega (arith, e)) none;
-  at = at;
-  shown = rw (shown_last ts s (omega (arith, e)), ← e) place;
-  is = refl;
-}
+-- a list of no tokens is items
+stuck_some : (ts : List Lexeme) (i : ℕ) → IsStuckAt ts i → 0 < length ts
+stuck_some [] i stuck = absurd (stuck.end (omega (arith, stuck.within)) [] refl)
+stuck_some (t ∷ ts) i stuck = omega arith
+
+pub refused_unfinished : (us vs : List Lexeme) (at : ℕ) → vs ≡ []
+    → (0 < length us → IsPlaceOf us (length us - 1) at) → IsStuckAt (us ++ vs) (length us) → IsFirstLarge us None
+    → IsRefusedFor (us ++ vs) Unfinished at
+refused_unfinished us (v ∷ vs) at e place stuck none = cc
+refused_unfinished us [] at e place stuck none =
+    let last : min (length us) (length us - 1) ≡ length us - 1 = omega arith in
+    let whole : IsStuckAt us (length us) = rw append-nil at stuck in
+    rw append-nil (record {
+      place = length us;
+      first = unfinished_first us (length us) whole refl (λ k b. none k);
+      shown = rw last (place (stuck_some us (length us) whole));
+    })

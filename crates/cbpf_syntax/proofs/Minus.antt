@@ -1,6 +1,6 @@
 -- No token is misplaced that is a number after a `-`.
 use Rattle.std.proofs.Common.{rules, ◌≡◌, ℕ, zero, suc, ◌+◌, Bool, true, false, not, ◌&&◌, ◌||◌, List, [], ◌∷◌}
-use Rattle.std.proofs.Common.{◌++◌, take, refl, arith, ap, sym, ◌∙◌, Some, eqb-true, eq-eqb}
+use Rattle.std.proofs.Common.{◌++◌, take, refl, arith, ap, Some, eqb-true, eq-eqb}
 use Rattle.std.specs.Prelude.{◌==◌, Contains}
 use Rattle.std.specs.List.{list_all}
 use Rattle.std.proofs.lemmas.Bool.{and_parts, both_ways, not-true}
@@ -15,6 +15,7 @@ use Rattle.cbpf_syntax.specs.Items.{classes_of}
 use Rattle.cbpf_syntax.specs.Refusals.{symbol_at, IsLargeNegative, IsMisplaced}
 use Rattle.cbpf_syntax.proofs.Greedy.{chain, AreKnown, chain_of, chain_begins}
 use Rattle.cbpf_syntax.proofs.Cuts.{some-same}
+use Rattle.cbpf_syntax.proofs.Refused.{large_parts}
 
 abbrev pub is_minus : Class → Bool
 is_minus (the_mark b) = b == 45
@@ -93,13 +94,13 @@ two_at (t ∷ ts) (suc b) s d e f =
 two_at ts b s d e f = cc
 
 pub never_both : (ts : List Lexeme) (i : ℕ) → IsMisplaced ts i → IsLargeNegative ts i → ⊥
-never_both ts i p q =
-    let e : i ≡ suc q.before = omega (arith, q.after) in
-    let two = two_at ts q.before q.sign q.digits q.sign_at (ap (λ j. symbol_at ts j) (sym e) ∙ q.digits_at) in
+never_both ts zero p q = cc
+never_both ts (suc i) p q =
+    let large = large_parts (symbol_at ts i) (symbol_at ts (suc i)) q in
+    let two = two_at ts i (mark 45) (number large.0) large.1 large.2 in
     let b = p.before in
     let c = chain_of b.0 b.1 b.2 b.4 b.5 in
-    let ends : fits_front (chain c.0) (take q.before ts ++ (two.0 ∷ [])) ≡ true = rw (← b.3, e, two.4) at c.2 in
-    let on = front_goes_on (chain c.0) (take q.before ts) two.0 two.1 q.large.1 (two.2 ∙ q.large.0)
-    (two.3 ∙ q.large.2) (minus_chain c.0 c.1) ends in
-    let more : suc (suc q.before) ≡ i + 1 = omega (arith, e) in
-    p.with_it (chain_begins c.0 (take (i + 1) ts) c.1 (rw (← more, two.5) on))
+    let ends : fits_front (chain c.0) (take i ts ++ (two.0 ∷ [])) ≡ true = rw (← b.3, two.4) at c.2 in
+    let on = front_goes_on (chain c.0) (take i ts) two.0 two.1 large.0 two.2 two.3 (minus_chain c.0 c.1) ends in
+    let more : suc (suc i) ≡ suc i + 1 = omega arith in
+    p.with_it (chain_begins c.0 (take (suc i + 1) ts) c.1 (rw (← more, two.5) on))

@@ -1,5 +1,5 @@
 -- Where a number is too large after a `-`, and where tokens that were read as items go on no farther.
-use Rattle.std.proofs.Common.{rules, ◌≡◌, ℕ, zero, suc, ◌+◌, ◌-◌, ◌<◌, ◌≤◌, List, [], ◌∷◌, ◌++◌, length, take, drop}
+use Rattle.std.proofs.Common.{◌≡◌, ℕ, zero, suc, ◌+◌, ◌-◌, ◌<◌, ◌≤◌, List, [], ◌∷◌, ◌++◌, length, take, drop}
 use Rattle.std.proofs.Common.{map, refl, arith, sym, subst, length-drop, get_or, Some}
 use Rattle.std.proofs.lemmas.List.{take-append-drop, drop_all, drop-drop}
 use Rattle.std.proofs.lemmas.Option.{slice_get-map, slice_get-get_or, slice_get_past}
@@ -9,10 +9,14 @@ use Rattle.cbpf_syntax.specs.Lexemes.{Lexeme}
 use Rattle.cbpf_syntax.specs.Items.{Item, Items}
 use Rattle.cbpf_syntax.specs.Views.{symbol_of, lexeme_of}
 use Rattle.cbpf_syntax.specs.Steps.{Stuck, IsNextItem}
-use Rattle.cbpf_syntax.specs.Refusals.{symbol_at, IsLarge, IsLargeNegative, IsStuckAt}
+use Rattle.cbpf_syntax.specs.Refusals.{symbol_at, is_large, is_large_at, IsLargeNegative, IsStuckAt}
+use Rattle.cbpf_syntax.specs.Lexemes.{Symbol}
+use Rattle.cbpf_syntax.specs.Lexemes.Symbol.{number, mark}
+use Rattle.std.proofs.Common.{true, Option, ap, eqb-true}
+use Rattle.std.specs.Prelude.{◌==◌}
+use Rattle.std.proofs.lemmas.Bool.{and_parts}
 use Rattle.cbpf_syntax.proofs.Greedy.{Greedy, stuck_first, stuck_after}
 use Rattle.cbpf_syntax.proofs.Apart.{no_classes}
-use Rattle.cbpf_syntax.proofs.Cuts.{some-same}
 
 pub symbol_at_get : (ts : List declared_lexeme.Lexeme) (i : ℕ) (d : declared_lexeme.Lexeme) → i < length ts
     → symbol_at (map lexeme_of ts) i ≡ Some (symbol_of (get_or ts i d).symbol)
@@ -20,20 +24,28 @@ symbol_at_get ts i d l = rw (slice_get-map lexeme_of ts i, slice_get-get_or ts i
 
 -- what stands at an index and the one before
 pub large_here : (ts : List declared_lexeme.Lexeme) (i : ℕ) (d e : declared_lexeme.Lexeme) → 1 ≤ i → i < length ts
-    → IsLarge (symbol_of (get_or ts (i - 1) d).symbol) (symbol_of (get_or ts i e).symbol)
-    → IsLargeNegative (map lexeme_of ts) i
-large_here ts i d e h1 h2 h3 = search (rules, get_or, symbol_at_get)
+    → is_large_at (map lexeme_of ts) i
+    ≡ is_large (Some (symbol_of (get_or ts (i - 1) d).symbol)) (Some (symbol_of (get_or ts i e).symbol))
+large_here ts zero d e some within = absurd (omega (arith, some))
+large_here ts (suc i) d e some within =
+    let same : suc i - 1 ≡ i = omega arith in
+    rw (same, symbol_at_get ts i d (omega (arith, within)), symbol_at_get ts (suc i) e within) refl
 
-pub not_large_here : (ts : List declared_lexeme.Lexeme) (i : ℕ) (d e : declared_lexeme.Lexeme) → 1 ≤ i → i < length ts
-    → (IsLarge (symbol_of (get_or ts (i - 1) d).symbol) (symbol_of (get_or ts i e).symbol) → ⊥)
-    → IsLargeNegative (map lexeme_of ts) i → ⊥
-not_large_here ts i d e h1 h2 h3 h4 = search (rules, some-same, symbol_at_get)
+pub large_parts : (o q : Option Symbol) → is_large o q ≡ true
+    → (n : ℕ) × (o ≡ Some (mark 45)) × (q ≡ Some (number n))
+large_parts (Some (mark b)) (Some (number n)) h =
+    (n, ap (λ c. Some (mark c)) (eqb-true b 45 (and_parts (b == 45) _ h).0), refl)
+large_parts o q h = cc
+
+pub large_number : (ts : List Lexeme) (i : ℕ) → IsLargeNegative ts i → (n : ℕ) × (symbol_at ts i ≡ Some (number n))
+large_number ts zero h = cc
+large_number ts (suc i) h = let parts = large_parts (symbol_at ts i) (symbol_at ts (suc i)) h in (parts.0, parts.2)
 
 pub large_within : (ts : List Lexeme) (i : ℕ) → IsLargeNegative ts i → i < length ts
-large_within ts i h = grind (arith, cases_lt, slice_get_past)
+large_within ts i h = grind (arith, cases_lt, slice_get_past, large_number)
 
 -- Where items were read one by one.
-greedy_snoc : (ts : List Lexeme) (is : List Item) (rest : List Lexeme) (n : ℕ) (i : Item) → Greedy ts is rest
+pub greedy_snoc : (ts : List Lexeme) (is : List Item) (rest : List Lexeme) (n : ℕ) (i : Item) → Greedy ts is rest
     → IsNextItem rest n i → Greedy ts (is ++ (i ∷ [])) (drop n rest)
 greedy_snoc ts [] rest n i p next = rw p (n, next, refl)
 greedy_snoc ts (j ∷ is) rest n i p next = (p.0, p.1, greedy_snoc (drop p.0 ts) is rest n i p.2 next)
@@ -42,21 +54,21 @@ pub greedy_more : (ts : List Lexeme) (is : List Item) (at n : ℕ) (i : Item) �
     → IsNextItem (drop at ts) n i → Greedy ts (is ++ (i ∷ [])) (drop (at + n) ts)
 greedy_more ts is at n i p next = rw drop-drop at (greedy_snoc ts is (drop at ts) n i p next)
 
+pub greedy_items : (ts : List Lexeme) (is : List Item) → Greedy ts is [] → Items ts is
+greedy_items ts [] p = p
+greedy_items ts (i ∷ is) p =
+    (take p.0 ts, drop p.0 ts, sym (take-append-drop p.0 ts), p.1.form, greedy_items (drop p.0 ts) is p.2)
+
 pub greedy_all : (ts : List Lexeme) (is : List Item) (at : ℕ) → length ts ≤ at
     → Greedy ts is (drop at ts) → Items ts is
-greedy_all ts is at l p = all ts is (rw (drop_all at ts l) at p)
-  where
-    all : (us : List Lexeme) (is : List Item) → Greedy us is [] → Items us is
-    all us [] p = p
-    all us (i ∷ is) p =
-        (take p.0 us, drop p.0 us, sym (take-append-drop p.0 us), p.1.form, all (drop p.0 us) is p.2)
+greedy_all ts is at l p = greedy_items ts is (rw (drop_all at ts l) at p)
 
 -- an item has a token
 pub next_some : (ts : List Lexeme) (n : ℕ) (i : Item) → IsNextItem ts n i → 0 < n
 next_some ts zero i next = absurd (no_classes next.form.count i.row next.form.row next.form.fits)
 next_some ts (suc n) i next = omega arith
 
-stuck_from : (ts : List Lexeme) (is : List Item) (rest : List Lexeme) (s : ℕ) → Greedy ts is rest → 0 < length rest
+pub stuck_from : (ts : List Lexeme) (is : List Item) (rest : List Lexeme) (s : ℕ) → Greedy ts is rest → 0 < length rest
     → IsStuckAt rest s → (m : ℕ) × (length ts ≡ m + length rest) × IsStuckAt ts (m + s)
 stuck_from ts [] rest s p some stuck =
     let none : s ≡ 0 + s = omega arith in rw p (0, omega arith, subst (λ m. IsStuckAt rest m) none stuck)

@@ -1,6 +1,6 @@
 -- Laws of the forms of `Table` (of the kernel's Documentation/networking/filter, and this project's own): a token list
 -- has one reading or one first refusal.
-use Rattle.std.specs.Prelude.{◌≡◌, ◌⊎◌, List}
+use Rattle.std.specs.Prelude.{◌≡◌, ◌⊎◌, ℕ, List}
 use Rattle.cbpf_syntax.specs.Lexemes.{Lexeme}
 use Rattle.cbpf_syntax.specs.Items.{Item, Items}
 use Rattle.cbpf_syntax.specs.Refusals.{ParseFault, IsFirstRefusal, IsAccepted}
@@ -9,9 +9,10 @@ abbrev pub OneReading : Type 0
 OneReading = (ts : List Lexeme) (is js : List Item) → Items ts is → Items ts js → is ≡ js
 
 abbrev pub OneRefusal : Type 0
-OneRefusal = (ts : List Lexeme) (f g : ParseFault) → IsFirstRefusal ts f → IsFirstRefusal ts g → f ≡ g
+OneRefusal = (ts : List Lexeme) (f g : ParseFault) (p q : ℕ) → IsFirstRefusal ts f p → IsFirstRefusal ts g q
+    → (f ≡ g) × (p ≡ q)
 
 -- each token list is items and has no refusal, or has a first refusal
 abbrev pub EachParsed : Type 0
 EachParsed = (ts : List Lexeme)
-    → ((is : List Item) × Items ts is × IsAccepted ts) ⊎ ((f : ParseFault) × IsFirstRefusal ts f)
+    → ((is : List Item) × Items ts is × IsAccepted ts) ⊎ ((f : ParseFault) × (p : ℕ) × IsFirstRefusal ts f p)

@@ -1,10 +1,10 @@
 -- Tokens as the grammar of the assembler sees them: words by their bytes, numbers by their values, marks (of the
 -- kernel's Documentation/networking/filter, and this project's own).
-use Rattle.std.specs.Prelude.{◌≡◌, ℕ, List, map, slice_range}
+use Rattle.std.specs.Prelude.{◌≡◌, ℕ, List, length, map, slice_range}
 use Rattle.cbpf_syntax.specs.declared.token.Kind.{Kind}
 use Rattle.cbpf_syntax.specs.declared.token.Kind.TheVariants as kinds
 use Rattle.cbpf_syntax.specs.declared.token.Token.{Token}
-use Rattle.cbpf_syntax.specs.Tokens.{Lexes}
+use Rattle.cbpf_syntax.specs.Tokens.{LexesTo}
 
 pub data Symbol : Type 0 where
   word : List ℕ → Symbol
@@ -29,8 +29,12 @@ token_lexeme text token =
 abbrev pub lexemes_of : List ℕ → List Token → List Lexeme
 lexemes_of text tokens = map (token_lexeme text) tokens
 
--- the text has these tokens
-pub record AreLexemes (text : List ℕ) (lexemes : List Lexeme) : Type 0 where
+-- the tokens of the text up to a place
+pub record AreLexemesTo (text : List ℕ) (to : ℕ) (lexemes : List Lexeme) : Type 0 where
   pub tokens : List Token
-  pub lexed : Lexes text tokens
+  pub lexed : LexesTo text to tokens
   pub are : lexemes ≡ lexemes_of text tokens
+
+-- the text has these tokens
+abbrev pub AreLexemes : List ℕ → List Lexeme → Type 0
+AreLexemes text lexemes = AreLexemesTo text (length text) lexemes

@@ -1,7 +1,7 @@
 //! Literals out of range.
 
-ghost use Rattle.std.specs.Prelude.{◌<◌, ℕ, map, IfSome, IfNone, IsTrue, ◌↔◌};
-ghost use Rattle.cbpf_syntax.specs.Refusals.{IsLarge, IsLargeNegative};
+ghost use Rattle.std.specs.Prelude.{◌≡◌, ◌<◌, ℕ, map, Some, IfSome, IfNone};
+ghost use Rattle.cbpf_syntax.specs.Refusals.{is_large, IsLargeNegative};
 ghost use Rattle.cbpf_syntax.specs.Views.{symbol_of, lexeme_of};
 
 use crate::lexeme::{Lexeme, Symbol};
@@ -11,7 +11,7 @@ const MOST_NEGATIVE: u32 = 1 << 31;
 
 /// Whether these are a `-` and a number that is too large.
 fn is_large_negative(sign: Symbol<'_>, number: Symbol<'_>) -> bool
-    ensures { IsTrue result ↔ IsLarge (symbol_of sign.entry) (symbol_of number.entry) }
+    ensures { result ≡ is_large (Some (symbol_of sign.entry)) (Some (symbol_of number.entry)) }
 {
     match (sign, number) {
         (Symbol::Mark(b), Symbol::Number(n)) => b == b'-' && n > MOST_NEGATIVE,

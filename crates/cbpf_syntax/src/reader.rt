@@ -1,15 +1,15 @@
 //! What stands next in a text: labels and instructions, one after another.
 
-ghost use Rattle.std.specs.Prelude.{◌≡◌, ◌≤◌, ◌<◌, ◌+◌, ◌-◌, ℕ, List, [], true, false, length, map, drop, take, Some};
+ghost use Rattle.std.specs.Prelude.{◌≡◌, ◌≤◌, ◌<◌, ◌+◌, ℕ, List, [], ◌++◌, true, false, length, map, take, Some};
 ghost use Rattle.std.specs.Prelude.{None, IfOk, IfErr, IfSome, IfNone, OnOk, OnErr, ◌≢◌};
 ghost use Rattle.cbpf_syntax.specs.declared.token.LexFault.TheVariants.{Memory};
 ghost use Rattle.cbpf_syntax.specs.declared.token.Token.{Token};
 ghost use Rattle.cbpf_syntax.specs.Tokens.{Lexes, LexesTo, IsLexFault};
-ghost use Rattle.cbpf_syntax.specs.Lexemes.{AreLexemes};
+ghost use Rattle.cbpf_syntax.specs.Lexemes.{AreLexemes, AreLexemesTo};
 ghost use Rattle.cbpf_syntax.specs.Lexemes as lexemes;
-ghost use Rattle.cbpf_syntax.specs.Refusals.{IsStuckAt, IsRefusedFor};
-ghost use Rattle.cbpf_syntax.specs.Reading.{AreAhead, IsReading, IsStepOf, step_len, left, StartsWithWord};
-ghost use Rattle.cbpf_syntax.specs.Reading.{IsFirstLarge, ReadsOn};
+ghost use Rattle.cbpf_syntax.specs.Refusals.{ParseFault, IsStuckAt, IsRefusedFor, reported_at};
+ghost use Rattle.cbpf_syntax.specs.Reading.{IsReading, IsStepOf, step_len, left, StartsWithWord};
+ghost use Rattle.cbpf_syntax.specs.Reading.{IsFirstLarge, ReadsOn, MayRemain};
 ghost use Rattle.cbpf_syntax.specs.Views.{lexeme_of};
 
 use crate::item::{Row, instruction, starts_with_label};
@@ -80,7 +80,7 @@ fn step_at(tokens: &[Lexeme<'_>]) -> Option<Step>
 /// The place of the first number after a `-` that is too large: the known one, or one of the tokens.
 fn first_large(known: Option<usize>, tokens: &[Lexeme<'_>]) -> Option<usize>
     ensures known { IfSome known (λ at. result ≡ Some at) }
-    ensures new { IfNone known (IsFirstLarge (map lexeme_of tokens.now) (length tokens.now) result) }
+    ensures new { IfNone known (IsFirstLarge (map lexeme_of tokens.now) result) }
 {
     match known {
         Some(at) => Some(at),
@@ -106,8 +106,8 @@ fn read_more<'a, A: Allocator>(
     ensures left { OnOk result (lexer.old.at + length ahead.new.items ≤ lexer.new.at + length ahead.old.items) }
     ensures more { IfOk result (λ ended. ended ≡ false → lexer.old.at < lexer.new.at) }
     ensures end { IfOk result (λ ended. ended ≡ true → lexer.new.at ≡ length text.now) }
-    ensures fault { IfErr result (λ fault. (n : ℕ) →
-        AreAhead text.now lexer.old.at n (map lexeme_of ahead.old.items) → IsLexFault text.now fault) }
+    ensures fault { IfErr result (λ fault. (taken : List lexemes.Lexeme) →
+        AreLexemesTo text.now lexer.old.at (taken ++ map lexeme_of ahead.old.items) → IsLexFault text.now fault) }
     ensures still { OnErr result (lexer.new.at ≡ lexer.old.at) }
     ensures kept { take (length ahead.old.items) ahead.new.items ≡ ahead.old.items }
 {
@@ -181,7 +181,7 @@ impl<'a, A: Allocator> Reader<'a, A> {
     #[tactic(auto, using(crate::proofs::Taking::ahead_none))]
     pub fn new(alloc: A, text: &'a [u8]) -> Self
         ensures text { result.text ≡ text.now }
-        ensures reading { IsReading 0 result }
+        ensures reading { IsReading [] result }
     {
         Reader {
             text,
@@ -204,13 +204,15 @@ impl<'a, A: Allocator> Reader<'a, A> {
     /// Reads some more tokens.
     fn fill(&mut self) -> Result<(), LexFault>
         ensures text { OnOk result (self.new.text ≡ self.old.text) }
-        ensures reading { OnOk result ((n : ℕ) → IsReading n self.old → IsReading n self.new) }
+        ensures reading { OnOk result ((taken : List lexemes.Lexeme) →
+            IsReading taken self.old → IsReading taken self.new) }
         ensures left { OnOk result (left self.new ≤ left self.old) }
         ensures more { OnOk result (self.new.ended ≡ false → self.old.to < self.new.to) }
         ensures farther { OnOk result (self.old.to ≤ self.new.to) }
         ensures within { OnOk result (self.new.to ≤ length self.new.text) }
         ensures end { OnOk result (self.new.ended ≡ true → self.new.to ≡ length self.new.text) }
-        ensures fault { IfErr result (λ fault. (n : ℕ) → IsReading n self.old → IsLexFault self.old.text fault) }
+        ensures fault { IfErr result (λ fault. (taken : List lexemes.Lexeme) →
+            IsReading taken self.old → IsLexFault self.old.text fault) }
         ensures same { OnErr result (self.new ≡ self.old) }
     {
         let rest = self.ahead.len() - self.at;
@@ -237,18 +239,20 @@ impl<'a, A: Allocator> Reader<'a, A> {
     /// whatever the text is. The reader stays where it is, and another call tries again.
     pub fn step(&mut self) -> Result<Option<Step>, LexFault>
         ensures text { OnOk result (self.new.text ≡ self.old.text) }
-        ensures reading { OnOk result ((n : ℕ) → IsReading n self.old → IsReading n self.new) }
+        ensures reading { OnOk result ((taken : List lexemes.Lexeme) →
+            IsReading taken self.old → IsReading taken self.new) }
         ensures left { OnOk result (left self.new ≤ left self.old) }
-        ensures step { IfOk result (λ step. (n : ℕ) (ts : List lexemes.Lexeme) → IsReading n self.new →
-            AreLexemes self.new.text ts → IsStepOf (drop n ts) step) }
+        ensures step { IfOk result (λ step. (ts : List lexemes.Lexeme) → MayRemain self.new ts → IsStepOf ts step) }
         ensures within { IfOk result (λ step. step_len step ≤ length self.new.tokens) }
         ensures none { IfOk result (λ step. IfNone step (length self.new.tokens ≡ 0)) }
         ensures some { IfOk result (λ step. IfSome step (λ _. 0 < length self.new.tokens)) }
         ensures end { IfOk result (λ step. step_len step ≡ length self.new.tokens → self.new.ended ≡ true) }
         ensures word { IfOk result (λ step. 0 < step_len step → StartsWithWord (map lexeme_of self.new.tokens)) }
-        ensures fault { IfErr result (λ fault. (n : ℕ) → IsReading n self.old → IsLexFault self.old.text fault) }
+        ensures fault { IfErr result (λ fault. (taken : List lexemes.Lexeme) →
+            IsReading taken self.old → IsLexFault self.old.text fault) }
         ensures same_text { OnErr result (self.new.text ≡ self.old.text) }
-        ensures reads_on { OnErr result ((n : ℕ) → IsReading n self.old → IsReading n self.new) }
+        ensures reads_on { OnErr result ((taken : List lexemes.Lexeme) →
+            IsReading taken self.old → IsReading taken self.new) }
         ensures not_ended { OnErr result (self.new.ended ≡ false) }
     {
         loop {
@@ -266,7 +270,8 @@ impl<'a, A: Allocator> Reader<'a, A> {
         requires within { n ≤ length self.old.tokens }
         requires word { StartsWithWord (map lexeme_of self.old.tokens) }
         ensures text { self.new.text ≡ self.old.text }
-        ensures reading { (m : ℕ) → IsReading m self.old → IsReading (m + n) self.new }
+        ensures reading { (taken : List lexemes.Lexeme) → IsReading taken self.old →
+            IsReading (taken ++ map lexeme_of (take n self.old.tokens)) self.new }
         ensures left { left self.new + n ≡ left self.old }
     {
         let taken = &self.ahead()[..n];
@@ -288,8 +293,10 @@ impl<'a, A: Allocator> Reader<'a, A> {
         requires within { n ≤ length self.now.tokens }
         requires end { n ≡ length self.now.tokens → self.now.ended ≡ true }
         requires word { 0 < n → StartsWithWord (map lexeme_of self.now.tokens) }
-        ensures { (m : ℕ) (ts : List lexemes.Lexeme) → IsReading m self.now → AreLexemes self.now.text ts →
-            0 < m + length self.now.tokens → IsStuckAt ts (m + n) → IsRefusedFor ts result }
+        ensures { (taken ts : List lexemes.Lexeme) → IsReading taken self.now → MayRemain self.now ts →
+            IsStuckAt (taken ++ ts) (length taken + n) →
+            (refusal : ParseFault) × (at : ℕ) × (result ≡ reported_at refusal at) ×
+            IsRefusedFor (taken ++ ts) refusal at }
     {
         let ahead = self.ahead();
         if let Some(at) = first_large(self.large, &ahead[..n]) {
@@ -306,9 +313,10 @@ impl<'a, A: Allocator> Reader<'a, A> {
 
     /// Reads the text to its end, from where its tokens were read, and keeps nothing of it.
     pub fn finish(&self) -> Result<(), LexFault>
-        ensures lexed { OnOk result ((n : ℕ) → IsReading n self.now → (ts : List lexemes.Lexeme) ×
-            AreLexemes self.now.text ts) }
-        ensures fault { IfErr result (λ fault. (n : ℕ) → IsReading n self.now → IsLexFault self.now.text fault) }
+        ensures lexed { OnOk result ((taken : List lexemes.Lexeme) → IsReading taken self.now →
+            (ts : List lexemes.Lexeme) × MayRemain self.now ts × AreLexemes self.now.text (taken ++ ts)) }
+        ensures fault { IfErr result (λ fault. (taken : List lexemes.Lexeme) → IsReading taken self.now →
+            IsLexFault self.now.text fault) }
         ensures no_memory { IfErr result (λ fault. fault ≢ Memory) }
     {
         let mut rest = self.lexer.copied();

@@ -1,6 +1,6 @@
 -- What the assembler keeps of items shows their fault; and each text assembles, or is refused at a line.
-use Rattle.std.proofs.lemmas.Option.{slice_get_past, slice_get-get_or}
-use Rattle.std.proofs.Common.{◌≡◌, refl, ◌∙◌, subst, ℕ, ◌≤◌, ◌<◌, List, [], ◌∷◌, length, get_or, Some, None, Option}
+use Rattle.std.proofs.lemmas.Option.{slice_get_past}
+use Rattle.std.proofs.Common.{◌≡◌, refl, ◌∙◌, subst, ℕ, ◌≤◌, List, [], ◌∷◌, length, Some, None, Option}
 use Rattle.std.proofs.Common.{option_map, ◌⊎◌, inl, inr, arith, append-nil}
 use Rattle.std.proofs.lemmas.List.{nil_from_length}
 use Rattle.std.specs.Prelude.{slice_get}
@@ -10,10 +10,10 @@ use Rattle.cbpf_code.specs.declared.insn.Insn.{Insn}
 use Rattle.cbpf_syntax.specs.Tokens.{line_of}
 use Rattle.cbpf_syntax.specs.Lexemes.{Lexeme, lexemes_of}
 use Rattle.cbpf_syntax.specs.Items.{Item, Items}
-use Rattle.cbpf_syntax.specs.Refusals.{ParseFault, IsFirstRefusal, IsAccepted, shown_at}
+use Rattle.cbpf_syntax.specs.Refusals.{IsAccepted}
 use Rattle.cbpf_syntax.proofs.Cuts.{some-same}
 use Rattle.cbpf_syntax.proofs.EachLexed.{each_lexed}
-use Rattle.cbpf_syntax.proofs.FirstRefusal.{each_parsed, shown_within}
+use Rattle.cbpf_syntax.proofs.FirstRefusal.{each_parsed, each_shown}
 use Rattle.cbpf_text.specs.declared.fault.AsmKind.{AsmKind}
 use Rattle.cbpf_text.specs.declared.fault.AsmKind.TheVariants as kinds
 use Rattle.cbpf_text.specs.declared.name.Name.{Name}
@@ -21,17 +21,12 @@ use Rattle.cbpf_text.specs.declared.draft.Statement.{Statement}
 use Rattle.cbpf_text.specs.Labels.{labels_from, first_repeat}
 use Rattle.cbpf_text.specs.Assembled.{AssembleTokens, insns_from}
 use Rattle.cbpf_text.specs.Refusals.{mnemonic_at, uses_from, uses_fault, items_fault, IsTokensFault, bad_piece_kind}
-use Rattle.cbpf_text.specs.Refusals.{grammar_kind}
 use Rattle.cbpf_text.specs.Refusals.IsTokensFault.{of_grammar, of_items}
 use Rattle.cbpf_text.specs.Refusals.IsTextFault.{of_piece, of_tokens}
 use Rattle.cbpf_text.specs.Laws.{EachAnswered}
 use Rattle.cbpf_text.specs.Drafts.{AreSet, IsKept, Resolves}
 use Rattle.cbpf_text.proofs.Encoding.{statements_size}
 use Rattle.cbpf_text.proofs.FaultParts.{tokens_assembled}
-
-get_some : {A : Type 0} (xs : List A) (i : ℕ) → i < length xs → (x : A) × (slice_get xs i ≡ Some x)
-get_some [] i l = absurd (omega (arith, l))
-get_some (x ∷ xs) i l = (get_or (x ∷ xs) i x, slice_get-get_or (x ∷ xs) i x l)
 
 -- more items than a program has
 pub fault_excess : (is : List Item) (at : ℕ) → option_map mnemonic_at (slice_get is MAX_INSTRUCTIONS) ≡ Some at
@@ -77,16 +72,10 @@ module _ {ss : List Statement} {rep : Option ℕ} {look : Name → Option ℕ} {
   kept_once e some = let s : AreSet (labels_from 0 is) None look = subst (λ o. AreSet (labels_from 0 is) o look) e kept_labels in
       (s.0, kept_fault some ∙ rw s.1 refl)
 
--- tokens that are refused by the grammar
-refused_tokens : (ts : List Lexeme) (f : ParseFault) → IsFirstRefusal ts f
-    → (kind : AsmKind) × (at : ℕ) × IsTokensFault ts kind at
-refused_tokens ts f r = let t = get_some ts (shown_at ts r.place) (shown_within ts f r) in
-    (grammar_kind f, t.0.at, of_grammar f t.0.at r (t.0, t.1, refl))
-
 each_tokens : (ts : List Lexeme)
     → ((insns : List Insn) × AssembleTokens ts insns) ⊎ ((kind : AsmKind) × (at : ℕ) × IsTokensFault ts kind at)
 each_tokens ts = elim (each_parsed ts) [
-  | inr r ↦ inr (refused_tokens ts r.0 r.1)
+  | inr r ↦ let shown = each_shown ts r.0 r.1 r.2 in inr (_, shown.0, of_grammar r.0 shown.0 shown.1)
   | inl p ↦ by_fault p.0 p.1 p.2 (items_fault p.0) refl
 ]
   where

@@ -1,11 +1,9 @@
 -- From the refusal of a part to the refusal of the whole.
 use Rattle.std.proofs.Common.{rules, ◌≡◌, refl, sym, subst, ℕ, List, ◌∙◌, ap, suc, ◌+◌, ◌<◌, ◌≤◌, Bool, true, false, []}
 use Rattle.std.proofs.Common.{◌∷◌, ◌++◌, length, map, take, drop, get_or, Option, Some, None, arith, append_assoc}
-use Rattle.std.proofs.Common.{append-nil, length-append, length-drop}
-use Rattle.cbpf_syntax.specs.Tokens.{LexesTo}
-use Rattle.cbpf_syntax.specs.declared.reader.SyntaxFault.{SyntaxFault}
+use Rattle.std.proofs.Common.{append-nil, length-append}
 use Rattle.cbpf_syntax.specs.Refusals.{ParseFault, IsAccepted, IsStuckAt, IsRefusedFor}
-use Rattle.cbpf_syntax.specs.Lexemes.{Lexeme, lexemes_of, AreLexemes}
+use Rattle.cbpf_syntax.specs.Lexemes.{Lexeme, AreLexemes}
 use Rattle.cbpf_syntax.specs.Items.{Item, Items}
 use Rattle.cbpf_code.specs.declared.insn.Insn.{Insn}
 use Rattle.cbpf_text.specs.declared.fault.AsmFault.{AsmFault}
@@ -18,20 +16,20 @@ use Rattle.cbpf_text.specs.Refusals.{grammar_kind}
 use Rattle.cbpf_text.specs.Refusals.IsTokensFault.{of_grammar, of_items}
 use Rattle.cbpf_text.specs.Refusals.IsTextFault.{of_piece, of_tokens}
 use Rattle.cbpf_text.specs.declared.fault.AsmFault.TheVariants as faults
-use Rattle.std.proofs.lemmas.List.{length-map, length-take-le, drop-drop}
+use Rattle.std.proofs.lemmas.List.{length-map, length-take-le, drop_at, nil_from_length}
 use Rattle.cbpf_syntax.specs.Views.{lexeme_of, row_of, label_words}
-use Rattle.cbpf_syntax.specs.Reading.{Ahead, IsReading, IsFirstLarge}
+use Rattle.cbpf_syntax.specs.Reading.{Ahead, IsReading, IsFirstLarge, MayRemain}
 use Rattle.std.specs.Prelude.{Ok}
 use Rattle.std.proofs.Math.Seq.{take-append_seam}
 use Rattle.std.proofs.lemmas.Bool.{and_parts}
 use Rattle.cbpf_syntax.specs.Classes.Class.{the_mark, name}
 use Rattle.cbpf_syntax.specs.Fits.{fits}
 use Rattle.cbpf_syntax.specs.Steps.{IsInstruction, IsNextItem, Stuck, AreLabels, starts_with_label}
-use Rattle.cbpf_syntax.proofs.Greedy.{Greedy}
+use Rattle.cbpf_syntax.proofs.Greedy.{Greedy, stuck_first}
 use Rattle.cbpf_syntax.proofs.Ahead.{labels_item, labels_stuck, labels_append}
-use Rattle.cbpf_syntax.proofs.Taking.{taken_is, ahead_is}
-use Rattle.cbpf_syntax.proofs.Refused.{large_within, greedy_more, greedy_all, stuck_at}
-use Rattle.cbpf_syntax.proofs.FirstRefusal.{large_refused, items_accepted}
+use Rattle.cbpf_syntax.proofs.Taking.{remains}
+use Rattle.cbpf_syntax.proofs.Refused.{greedy_snoc, greedy_items, stuck_from}
+use Rattle.cbpf_syntax.proofs.FirstRefusal.{large_refused}
 use Rattle.cbpf_text.specs.declared.name.Name.{Name}
 use Rattle.cbpf_text.specs.declared.draft.Statement.{Statement}
 use Rattle.cbpf_text.specs.Drafts.{AreSet, IsKept, IsDraft}
@@ -45,7 +43,7 @@ pub tokens_assembled : (ts : List Lexeme) (is : List Item) (insns : List Insn) �
 tokens_assembled ts is insns p a sound e = record {
   items = is;
   parsed = p;
-  ranged = λ i h. a (ParseFault.LargeNegative i) i (refl, h);
+  ranged = λ i h. a ParseFault.LargeNegative i h;
   sound = sound;
   encoded = e;
 }
@@ -70,32 +68,24 @@ items_refused text ts is (placed.At kind at) fault t p a h e =
     tokens_refused text ts kind at fault t (of_items is kind at p a h) e
 
 -- the first refusal of the grammar is the text's
-pub grammar_refused : (text : List ℕ) (ts : List Lexeme) {refused : SyntaxFault} (fault : AsmFault) → AreLexemes text ts
-    → (first : IsRefusedFor ts refused)
-    → IsReportedAt text (placed.At (grammar_kind first.refusal) first.at) fault → IsRefused text fault
-grammar_refused text ts fault t first e = tokens_refused text ts (grammar_kind first.refusal) first.at fault t
-    (of_grammar first.refusal first.at first.first first.shown) e
+pub grammar_refused : (text : List ℕ) (ts : List Lexeme) (refusal : ParseFault) (at : ℕ) (fault : AsmFault)
+    → AreLexemes text ts → IsRefusedFor ts refusal at → IsReportedAt text (placed.At (grammar_kind refusal) at) fault
+    → IsRefused text fault
+grammar_refused text ts refusal at fault t first e =
+    tokens_refused text ts (grammar_kind refusal) at fault t (of_grammar refusal at first) e
 
 -- items with a literal that is too large
-pub items_large_refused : (ts : List Lexeme) (is : List Item) (n at : ℕ) → Items ts is → IsFirstLarge ts n (Some at)
+pub items_large_refused : (ts : List Lexeme) (is : List Item) (at : ℕ) → Items ts is → IsFirstLarge ts (Some at)
     → IsTokensFault ts kinds.LargeNumber at
-items_large_refused ts is n at p h =
-    let r = large_refused ts is h.0 at p h.2 h.3 h.4 in of_grammar (ParseFault.LargeNegative h.0) at r.0 r.1
+items_large_refused ts is at p h = of_grammar ParseFault.LargeNegative at (large_refused ts is at p h)
 
-pub all_accepted : (ts : List Lexeme) (is : List Item) (n : ℕ) → Items ts is → length ts ≤ n → IsFirstLarge ts n None
-    → IsAccepted ts
-all_accepted ts is n p l h = items_accepted ts is p (λ k q. h k (omega (arith, l, large_within ts k q)) q)
-
--- What the reader of items stands at: so many tokens were taken,
--- which are the items and then labels of these words, which wait for theirs.
-pub record Taken (ts : List Lexeme) (is : List Item) (ws : List Lexeme) (n : ℕ) : Type 0 where
-  pub from : ℕ
+-- What the reader of items stands at: the tokens that were taken, before those that follow,
+-- are the items and then labels of these words, which wait for theirs.
+pub record Taken (taken : List Lexeme) (is : List Item) (ws more : List Lexeme) : Type 0 where
   pub ls : List Lexeme
   pub labels : AreLabels ls
   pub words : label_words ls ≡ ws
-  pub size : from + length ls ≡ n
-  pub greedy : Greedy ts is (drop from ts)
-  pub rest : drop from ts ≡ ls ++ drop n ts
+  pub greedy : Greedy (taken ++ more) is (ls ++ more)
 
 words_on : (ls : List Lexeme) (x y : Lexeme) → AreLabels ls
     → label_words (ls ++ (x ∷ y ∷ [])) ≡ label_words ls ++ (x ∷ [])
@@ -108,92 +98,91 @@ words_size [] a = refl
 words_size (t ∷ []) a = absurd a
 words_size (t ∷ u ∷ ls) a = omega (arith, words_size ls a.2)
 
-front_label : (ts : List Lexeme) (is : List Item) (ws : List Lexeme) (n : ℕ) (x y : Lexeme) (more : List Lexeme)
-    → Taken ts is ws n → drop n ts ≡ (x ∷ y ∷ []) ++ more → starts_with_label (drop n ts) ≡ true
-    → Taken ts is (ws ++ (x ∷ [])) (n + 2)
-front_label ts is ws n x y more f e starts =
-    let both : starts_with_label (x ∷ y ∷ more) ≡ true = subst (λ us. starts_with_label us ≡ true) e starts in
-    let label = and_parts (fits name x.symbol) (fits (the_mark 58) y.symbol) both in
-    let after : more ≡ drop (n + 2) ts = sym (ap (λ us. drop 2 us) e) ∙ drop-drop 2 n ts in
+front_label : (taken : List Lexeme) (is : List Item) (ws : List Lexeme) (x y : Lexeme) (more : List Lexeme)
+    → Taken taken is ws (x ∷ y ∷ more) → starts_with_label (x ∷ y ∷ more) ≡ true
+    → Taken (taken ++ (x ∷ y ∷ [])) is (ws ++ (x ∷ [])) more
+front_label taken is ws x y more f starts =
+    let label = and_parts (fits name x.symbol) (fits (the_mark 58) y.symbol) starts in
     record {
-      from = f.from;
       ls = f.ls ++ (x ∷ y ∷ []);
       labels = labels_append f.ls (x ∷ y ∷ []) f.labels (label.0, label.1, tt);
       words = words_on f.ls x y f.labels ∙ ap (λ us. us ++ (x ∷ [])) f.words;
-      size = omega (arith, f.size, length-append f.ls (x ∷ y ∷ []));
-      greedy = f.greedy;
-      rest = f.rest ∙ ap (λ us. f.ls ++ us) (e ∙ ap (λ us. x ∷ y ∷ us) after)
-          ∙ sym (append_assoc f.ls (x ∷ y ∷ []) (drop (n + 2) ts));
+      greedy = rw (append_assoc taken (x ∷ y ∷ []) more, append_assoc f.ls (x ∷ y ∷ []) more) f.greedy;
     }
 
-front_item : (ts : List Lexeme) (is : List Item) (ws : List Lexeme) (n m : ℕ) (item : Item) → Taken ts is ws n
-    → item.labels ≡ ws → IsNextItem (drop n ts) m (record item { labels = [] })
-    → Taken ts (is ++ (item ∷ [])) [] (n + m)
-front_item ts is ws n m item f e next =
-    let none : n + m + 0 ≡ n + m = omega arith in
+front_item : (taken : List Lexeme) (is : List Item) (ws body more : List Lexeme) (item : Item)
+    → Taken taken is ws (body ++ more) → item.labels ≡ ws
+    → IsNextItem (body ++ more) (length body) (record item { labels = [] })
+    → Taken (taken ++ body) (is ++ (item ∷ [])) [] more
+front_item taken is ws body more item f e next =
     let labels : label_words f.ls ++ [] ≡ item.labels = append-nil (label_words f.ls) ∙ (f.words ∙ sym e) in
-    let whole : IsNextItem (f.ls ++ drop n ts) (length f.ls + m) item =
-    subst (λ (us : List Lexeme). IsNextItem (f.ls ++ drop n ts) (length f.ls + m) (record item { labels = us })) labels
-    (labels_item f.ls (drop n ts) m (record item { labels = [] }) f.labels next) in
-    let end : f.from + (length f.ls + m) ≡ n + m = omega (arith, f.size) in
+    let whole : IsNextItem (f.ls ++ (body ++ more)) (length f.ls + length body) item =
+    subst (λ (us : List Lexeme). IsNextItem (f.ls ++ (body ++ more)) (length f.ls + length body)
+    (record item { labels = us })) labels
+    (labels_item f.ls (body ++ more) (length body) (record item { labels = [] }) f.labels next) in
+    let rest : drop (length f.ls + length body) (f.ls ++ (body ++ more)) ≡ more =
+    ap (λ us. drop (length f.ls + length body) us) (sym (append_assoc f.ls body more))
+    ∙ drop_at (f.ls ++ body) more (length f.ls + length body) (length-append f.ls body) in
     record {
-      from = n + m;
       ls = [];
       labels = tt;
       words = refl;
-      size = none;
-      greedy = subst (λ k. Greedy ts (is ++ (item ∷ [])) (drop k ts)) end (greedy_more ts is f.from (length f.ls + m)
-          item f.greedy (subst (λ us. IsNextItem us (length f.ls + m) item) (sym f.rest) whole));
-      rest = refl;
+      greedy = subst (λ us. Greedy us (is ++ (item ∷ [])) more) (sym (append_assoc taken body more))
+          (subst (λ us. Greedy (taken ++ (body ++ more)) (is ++ (item ∷ [])) us) rest
+          (greedy_snoc (taken ++ (body ++ more)) is (f.ls ++ (body ++ more)) (length f.ls + length body) item
+          f.greedy whole));
     }
 
--- the same over a text of which n tokens were taken, with what is kept of its items, and whether labels wait
-pub record IsState (text : List ℕ) (n : ℕ) (o : Option ℕ) (ss : List Statement) (rep : Option ℕ)
+-- the same over a text of which some tokens were taken, with what is kept of its items, and whether labels wait
+pub record IsState (text : List ℕ) (taken : List Lexeme) (o : Option ℕ) (ss : List Statement) (rep : Option ℕ)
     (look : Name → Option ℕ) (waits : Bool) : Type 0 where
   pub is : List Item
   pub words : List Lexeme
   pub none : waits ≡ false → words ≡ []
-  pub some : waits ≡ true → (0 < length words) × (0 < n)
+  pub some : waits ≡ true → 0 < length words
   pub draft : IsDraft o ss rep look is words
-  pub front : (ts : List Lexeme) → AreLexemes text ts → Taken ts is words n
+  pub front : (ts : List Lexeme) → AreLexemes text (taken ++ ts) → Taken taken is words ts
 
 two_of : (window : List declared_lexeme.Lexeme) (d e : declared_lexeme.Lexeme) → 2 ≤ length window
     → map lexeme_of (take 2 window) ≡ lexeme_of (get_or window 0 d) ∷ lexeme_of (get_or window 1 e) ∷ []
 two_of window d e h1 = search (rules)
 
 -- The state before a step of a reader.
-module _ {text : List ℕ} {n : ℕ} {o : Option ℕ} {ss : List Statement} {rep : Option ℕ} {look : Name → Option ℕ}
-    {waits : Bool} (a : Ahead) (r : IsReading n a) (same : a.text ≡ text)
-    (s : IsState text n o ss rep look waits) where
+module _ {text : List ℕ} {taken : List Lexeme} {o : Option ℕ} {ss : List Statement} {rep : Option ℕ}
+    {look : Name → Option ℕ} {waits : Bool} (a : Ahead) (r : IsReading taken a) (same : a.text ≡ text)
+    (s : IsState text taken o ss rep look waits) where
   pub label_state : {p : Option ℕ} {tt : List Statement} {rep2 : Option ℕ} {look2 : Name → Option ℕ}
       (d : declared_lexeme.Lexeme)
-      → ((ts : List Lexeme) → AreLexemes text ts → starts_with_label (drop n ts) ≡ true) → 2 ≤ length a.tokens
+      → ((ts : List Lexeme) → MayRemain a ts → starts_with_label ts ≡ true) → 2 ≤ length a.tokens
       → ((is : List Item) (words : List Lexeme) → IsDraft o ss rep look is words
       → IsDraft p tt rep2 look2 is (words ++ (lexeme_of (get_or a.tokens 0 d) ∷ [])))
-      → IsState text (n + 2) p tt rep2 look2 true
+      → IsState text (taken ++ map lexeme_of (take 2 a.tokens)) p tt rep2 look2 true
   label_state d is_label two kept =
       let x = lexeme_of (get_or a.tokens 0 d) in
-      record {
+      let y = lexeme_of (get_or a.tokens 1 d) in
+      rw (two_of a.tokens d d two) (record {
         is = s.is;
         words = s.words ++ (x ∷ []);
         none = λ e. let k : true ≡ false = e in cc;
-        some = λ e. (omega (arith, length-append s.words (x ∷ [])), omega arith);
+        some = λ e. omega (arith, length-append s.words (x ∷ []));
         draft = kept s.is s.words s.draft;
         front = λ ts t.
-            let part = taken_is a.text a.to n 2 a.tokens ts r.read (rw (← same) at t) two in
-            front_label ts s.is s.words n x (lexeme_of (get_or a.tokens 1 d)) part.0 (s.front ts t)
-            (part.1 ∙ ap (λ us. us ++ part.0) (two_of a.tokens d d two)) (is_label ts t);
-      }
+            let all = subst (λ us. AreLexemes text us) (append_assoc taken (x ∷ y ∷ []) ts) t in
+            front_label taken s.is s.words x y ts (s.front (x ∷ y ∷ ts) all)
+            (is_label (x ∷ y ∷ ts) (remains text taken a (x ∷ y ∷ ts) r same all));
+      })
 
   pub item_state : {p : Option ℕ} {tt : List Statement} {rep2 : Option ℕ} {look2 : Name → Option ℕ}
       (row : declared_row.Row) (m : ℕ) → m ≡ 1 + length row.operand.now
-      → ((ts : List Lexeme) → AreLexemes text ts → IsInstruction (drop n ts) (Ok row)) → m ≤ length a.tokens
+      → ((ts : List Lexeme) → MayRemain a ts → IsInstruction ts (Ok row)) → m ≤ length a.tokens
       → ((is : List Item) (words : List Lexeme) → IsDraft o ss rep look is words → IsDraft p tt rep2 look2
       (is ++ (record { labels = words; row = row_of row; body = map lexeme_of (take m a.tokens) } ∷ [])) [])
-      → IsState text (n + m) p tt rep2 look2 false
+      → IsState text (taken ++ map lexeme_of (take m a.tokens)) p tt rep2 look2 false
   item_state row m size next within kept =
       let body = map lexeme_of (take m a.tokens) in
       let item : Item = record { labels = s.words; row = row_of row; body = body } in
+      let long : suc (length row.operand.now) ≡ length body =
+      omega (arith, size, length-map (take m a.tokens) lexeme_of, length-take-le m a.tokens within) in
       record {
         is = s.is ++ (item ∷ []);
         words = [];
@@ -201,75 +190,48 @@ module _ {text : List ℕ} {n : ℕ} {o : Option ℕ} {ss : List Statement} {rep
         some = λ e. let k : false ≡ true = e in cc;
         draft = kept s.is s.words s.draft;
         front = λ ts t.
-            let part = taken_is a.text a.to n m a.tokens ts r.read (rw (← same) at t) within in
-            let count : suc (length row.operand.now) ≡ m = omega (arith, size) in
-            let long : length body ≡ m =
-            length-map (take m a.tokens) lexeme_of ∙ length-take-le m a.tokens within in
-            let first : take m (drop n ts) ≡ body = ap (λ us. take m us) part.1
-            ∙ (ap (λ k. take k (body ++ part.0)) (sym long) ∙ take-append_seam body part.0) in
-            front_item ts s.is s.words n m item (s.front ts t) refl
-            (subst (λ (us : List Lexeme). IsNextItem (drop n ts) m (record item { labels = []; body = us })) first
-            (subst (λ k. IsNextItem (drop n ts) k (record item { labels = []; body = take k (drop n ts) })) count
-            (next ts t)));
+            let all = subst (λ us. AreLexemes text us) (append_assoc taken body ts) t in
+            front_item taken s.is s.words body ts item (s.front (body ++ ts) all) refl
+            (subst (λ (us : List Lexeme). IsNextItem (body ++ ts) (length body) (record item { labels = []; body = us }))
+            (take-append_seam body ts)
+            (subst (λ k. IsNextItem (body ++ ts) k (record item { labels = []; body = take k (body ++ ts) })) long
+            (next (body ++ ts) (remains text taken a (body ++ ts) r same all))));
       }
 
   -- where the tokens do not go on
-  pub state_stuck : (k : ℕ) (ts : List Lexeme) → AreLexemes text ts → 0 < length s.words + length a.tokens
-      → Stuck k (drop n ts) → IsStuckAt ts (n + k)
+  pub state_stuck : (k : ℕ) (ts : List Lexeme) → AreLexemes text (taken ++ ts) → 0 < length s.words + length ts
+      → Stuck k ts → IsStuckAt (taken ++ ts) (length taken + k)
   state_stuck k ts t some stuck =
       let f = s.front ts t in
-      let all = ahead_is a.text a.to n (map lexeme_of a.tokens) ts r.read (rw (← same) at t) in
-      let sizes = length-append (map lexeme_of a.tokens) all.0 in
       let labels = rw f.words at (words_size f.ls f.labels) in
-      let inside : f.from < length ts = omega (
-        arith,
-        some,
-        labels,
-        f.size,
-        all.3,
-        length-map a.tokens lexeme_of,
-        length-drop n ts,
-        ap length all.1,
-        sizes,
-      ) in
-      let e : f.from + (length f.ls + k) ≡ n + k = omega (arith, f.size) in
-      subst (λ j. IsStuckAt ts j) e
-      (stuck_at ts s.is f.from (length f.ls + k) inside f.greedy (subst (λ us. Stuck (length f.ls + k) us) (sym f.rest)
-      (labels_stuck f.ls (drop n ts) k f.labels stuck)))
+      let inside : 0 < length (f.ls ++ ts) = omega (arith, some, labels, length-append f.ls ts) in
+      let all = stuck_from (taken ++ ts) s.is (f.ls ++ ts) (length f.ls + k) f.greedy inside
+      (stuck_first (length f.ls + k) (f.ls ++ ts) inside (labels_stuck f.ls ts k f.labels stuck)) in
+      let e : all.0 + (length f.ls + k) ≡ length taken + k =
+      omega (arith, all.1, length-append taken ts, length-append f.ls ts) in
+      subst (λ j. IsStuckAt (taken ++ ts) j) e all.2
 
   -- the end of a text whose tokens are items
-  pub state_items : (ts : List Lexeme) → waits ≡ false → AreLexemes text ts → drop n ts ≡ []
-      → Items ts s.is × (length ts ≤ n) × IsDraft o ss rep look s.is []
-  state_items ts quiet t e =
-      let f = s.front ts t in
-      let past : length ts ≤ n = omega (arith, length-drop n ts, ap length e) in
+  pub state_items : waits ≡ false → AreLexemes text taken → Items taken s.is × IsDraft o ss rep look s.is []
+  state_items quiet t =
+      let f = s.front [] (rw append-nil t) in
       let none = rw (f.words, s.none quiet) at (words_size f.ls f.labels) in (
-        greedy_all ts s.is f.from (omega (arith, past, f.size, none)) f.greedy,
-        past,
+        greedy_items taken s.is (rw (nil_from_length f.ls (omega (arith, none)), append-nil) at f.greedy),
         subst (λ us. IsDraft o ss rep look s.is us) (s.none quiet) s.draft,
       )
 
-  -- all lexemes of a text that was read to its end
-  pub state_lexemes : a.ended ≡ true → (ts : List Lexeme) × AreLexemes text ts
-  state_lexemes e =
-      let end : a.to ≡ length text = r.end e ∙ ap length same in (
-        lexemes_of text r.read.tokens,
-        record {
-          tokens = r.read.tokens;
-          lexed = subst (λ k. LexesTo text k r.read.tokens) end
-              (subst (λ u. LexesTo u a.to r.read.tokens) same r.read.lexed);
-          are = refl;
-        },
-      )
+  -- all lexemes of a text that was read to its end, and of which all were taken
+  pub state_lexemes : a.ended ≡ true → length a.tokens ≡ 0 → AreLexemes text taken
+  state_lexemes e none = subst (λ u. AreLexemes u taken) same
+      (rw (← r.end e) (rw (nil_from_length a.tokens (omega (arith, none)), append-nil) at r.read))
 
 pub state_init : (text : List ℕ) (ss : List Statement) (rep : Option ℕ) (look : Name → Option ℕ)
-    → ss ≡ [] → AreSet [] rep look → IsState text 0 None ss rep look false
+    → ss ≡ [] → AreSet [] rep look → IsState text [] None ss rep look false
 state_init text ss rep look e h = record {
   is = [];
   words = [];
   none = λ z. refl;
   some = λ z. let k : false ≡ true = z in cc;
   draft = subst (λ us. IsKept us rep look [] []) (sym e) (record { same = tt; set = h; most = omega arith });
-  front = λ ts t.
-      record { from = 0; ls = []; labels = tt; words = refl; size = refl; greedy = refl; rest = refl };
+  front = λ ts t. record { ls = []; labels = tt; words = refl; greedy = refl };
 }

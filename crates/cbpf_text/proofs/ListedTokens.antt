@@ -15,6 +15,7 @@ use Rattle.cbpf_syntax.proofs.Spelled.Segment.{blank, word, number, mark}
 use Rattle.cbpf_syntax.specs.Lexemes as grammar
 use Rattle.cbpf_syntax.specs.Lexemes.{Lexeme, lexemes_of}
 use Rattle.cbpf_syntax.specs.Refusals.{symbol_at, IsLargeNegative}
+use Rattle.cbpf_syntax.proofs.Refused.{large_parts}
 
 -- the tokens of segments that begin at a place
 abbrev pub lexemes_at : ℕ → List Segment → List Lexeme
@@ -140,4 +141,7 @@ never_minus at (mark b ∷ ss) (suc j) s p g e = never_minus (at + 1) ss j s (an
 
 pub no_large_negative : (at : ℕ) (ss : List Segment) → are_positive ss ≡ true → (i : ℕ)
     → IsLargeNegative (lexemes_at at ss) i → ⊥
-no_large_negative at ss p i l = never_minus at ss l.before l.sign p l.sign_at l.large.0
+no_large_negative at ss p zero l = cc
+no_large_negative at ss p (suc i) l =
+    let minus = (large_parts (symbol_at (lexemes_at at ss) i) (symbol_at (lexemes_at at ss) (suc i)) l).1 in
+    never_minus at ss i (grammar.Symbol.mark 45) p minus refl

@@ -1,9 +1,8 @@
 -- A text has at most one answer: one list of instructions, or one refusal with a line.
-use Rattle.std.proofs.Common.{rules, ◌≡◌, ◌∙◌, sym, subst, ap, ℕ, List, Option, Some, None}
+use Rattle.std.proofs.Common.{◌≡◌, ◌∙◌, sym, subst, ap, ℕ, List, Option, Some, None}
 use Rattle.cbpf_code.specs.declared.insn.Insn.{Insn}
 use Rattle.cbpf_syntax.specs.Tokens.{line_of}
 use Rattle.cbpf_syntax.specs.Lexemes.{Lexeme, lexemes_of}
-use Rattle.cbpf_syntax.specs.Refusals.{IsPlaceOf, shown_at}
 use Rattle.cbpf_syntax.proofs.Cuts.{some-same}
 use Rattle.cbpf_syntax.proofs.Apart.{one_reading}
 use Rattle.cbpf_syntax.proofs.Outcomes.{one_list}
@@ -27,14 +26,12 @@ one_assembly text xs ys a b = let e : a.tokens ≡ b.tokens = one_list text a.to
     one_assembled (lexemes_of text b.tokens) xs ys
     (subst (λ us. AssembleTokens (lexemes_of text us) xs) e a.assembled) b.assembled
 
-one_place_of : (ts : List Lexeme) (i m n : ℕ) → IsPlaceOf ts i m → IsPlaceOf ts i n → m ≡ n
-one_place_of ts i m n h1 h2 = search (rules, some-same)
-
 -- A text that assembles isn't refused.
 
 not_tokens : (ts : List Lexeme) (insns : List Insn) (kind : AsmKind) (at : ℕ) → AssembleTokens ts insns
     → IsTokensFault ts kind at → ⊥
-not_tokens ts insns kind at a (of_grammar f n r p) = items_accepted ts a.items a.parsed a.ranged f r.place r.refused
+not_tokens ts insns kind at a (of_grammar f n r) =
+    items_accepted ts a.items a.parsed a.ranged f r.place r.first.refused
 not_tokens ts insns kind at a (of_items is k n p acc f) =
     let e : ◌≡◌ {A = Option (AsmKind × ℕ)} None (Some (k, n)) = sym a.sound ∙ (ap items_fault (one_reading ts a.items is a.parsed p) ∙ f) in cc
 
@@ -49,13 +46,10 @@ never_both text insns kind line a (of_tokens us k at l f) =
 
 one_of_tokens : (ts : List Lexeme) (k l : AsmKind) (m n : ℕ) → IsTokensFault ts k m → IsTokensFault ts l n
     → (k ≡ l) × (m ≡ n)
-one_of_tokens ts k l m n (of_grammar f i r p) (of_grammar g j s q) =
-    let e : f ≡ g = grammar.one_refusal ts f g r s in
-    let place : IsPlaceOf ts (shown_at ts s.place) m =
-    subst (λ i. IsPlaceOf ts (shown_at ts i) m) (grammar.one_place_of ts f g r s) p in
-    (ap grammar_kind e, one_place_of ts (shown_at ts s.place) m n place q)
-one_of_tokens ts k l m n (of_grammar f i r p) (of_items is c j o a x) = absurd (a f r.place r.refused)
-one_of_tokens ts k l m n (of_items is c j o a x) (of_grammar f i r p) = absurd (a f r.place r.refused)
+one_of_tokens ts k l m n (of_grammar f i r) (of_grammar g j s) =
+    let e = grammar.one_shown ts f g m n r s in (ap grammar_kind e.0, e.1)
+one_of_tokens ts k l m n (of_grammar f i r) (of_items is c j o a x) = absurd (a f r.place r.first.refused)
+one_of_tokens ts k l m n (of_items is c j o a x) (of_grammar f i r) = absurd (a f r.place r.first.refused)
 one_of_tokens ts k l m n (of_items is c i o a x) (of_items js d j p b y) =
     let e = some-same (c, i) (d, j) (sym x ∙ (ap items_fault (one_reading ts is js o p) ∙ y)) in
     (ap (λ q. q.0) e, ap (λ q. q.1) e)

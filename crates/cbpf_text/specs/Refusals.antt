@@ -12,7 +12,7 @@ use Rattle.cbpf_syntax.specs.declared.table.Fields.{Fields}
 use Rattle.cbpf_syntax.specs.declared.table.Fields.TheVariants.{Constant, Goto, Branch, Swapped}
 use Rattle.cbpf_syntax.specs.Lexemes.{Lexeme, lexemes_of}
 use Rattle.cbpf_syntax.specs.Items.{Item, Items}
-use Rattle.cbpf_syntax.specs.Refusals.{ParseFault, IsFirstRefusal, IsAccepted, IsPlaceOf, shown_at}
+use Rattle.cbpf_syntax.specs.Refusals.{ParseFault, IsAccepted, IsRefusedFor}
 use Rattle.cbpf_text.specs.declared.encode.TheConstants.{FARTHEST}
 use Rattle.cbpf_text.specs.declared.fault.AsmKind.{AsmKind}
 use Rattle.cbpf_text.specs.declared.fault.AsmKind.TheVariants as kinds
@@ -83,14 +83,13 @@ items_fault items =
 
 -- a refusal of the grammar, as it is reported
 abbrev pub grammar_kind : ParseFault → AsmKind
-grammar_kind (ParseFault.Misplaced i) = kinds.Misplaced
-grammar_kind (ParseFault.LargeNegative i) = kinds.LargeNumber
+grammar_kind ParseFault.Misplaced = kinds.Misplaced
+grammar_kind ParseFault.LargeNegative = kinds.LargeNumber
 grammar_kind ParseFault.Unfinished = kinds.Unfinished
 
 -- why tokens are refused, and the place: the first refusal of the grammar, and where there is none that of the items
 pub data IsTokensFault (ts : List Lexeme) : AsmKind → ℕ → Type 0 where
-  of_grammar : (fault : ParseFault) (at : ℕ) (first : IsFirstRefusal ts fault)
-      → IsPlaceOf ts (shown_at ts first.place) at → IsTokensFault ts (grammar_kind fault) at
+  of_grammar : (fault : ParseFault) (at : ℕ) → IsRefusedFor ts fault at → IsTokensFault ts (grammar_kind fault) at
   of_items : (items : List Item) (kind : AsmKind) (at : ℕ) → Items ts items → IsAccepted ts
       → items_fault items ≡ Some (kind, at) → IsTokensFault ts kind at
 

@@ -157,8 +157,9 @@ fn fault_here<A: Allocator>(text: &[u8], reader: &mut Reader<'_, A>, n: usize) -
     requires within { n ≤ length reader.old.tokens }
     requires end { n ≡ length reader.old.tokens → reader.old.ended ≡ true }
     requires word { 0 < n → StartsWithWord (map lexeme_of reader.old.tokens) }
-    ensures { (m : ℕ) → IsReading m reader.old → 0 < m + length reader.old.tokens →
-        ((ts : List lexemes.Lexeme) → AreLexemes text.now ts → IsStuckAt ts (m + n)) → IsRefused text.now result }
+    ensures { (taken : List lexemes.Lexeme) → IsReading taken reader.old →
+        ((ts : List lexemes.Lexeme) → AreLexemes text.now (taken ++ ts) → IsStuckAt (taken ++ ts) (length taken + n)) →
+        IsRefused text.now result }
 {
     let refused = reader.fault(n);
     match reader.finish() {
@@ -175,7 +176,7 @@ fn read_items<'a, A: Allocator + Copy>(
     draft: &mut Draft<'a, A>,
 ) -> Result<(), AsmFault>
     requires text { reader.old.text ≡ text.now }
-    requires reading { IsReading 0 reader.old }
+    requires reading { IsReading [] reader.old }
     requires statements { draft.old.statements.items ≡ [] }
     requires excess { draft.old.excess ≡ None }
     requires labels { AreSet [] draft.old.labels.repeat (λ k. get same_name draft.old.labels.table k) }

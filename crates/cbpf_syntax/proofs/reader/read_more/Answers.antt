@@ -1,7 +1,6 @@
-use Rattle.std.proofs.Common.{rules, length-append, map}
+use Rattle.std.proofs.Common.{rules, length-append}
 use Rattle.std.proofs.lemmas.List.{map-append, take-append-le}
 use Rattle.std.proofs.lemmas.Result.{err_from_is_err_and}
-use Rattle.cbpf_syntax.specs.Views.{lexeme_of}
 use Rattle.cbpf_syntax.proofs.Cuts.{text_fault}
 use Rattle.cbpf_syntax.proofs.Taking.{ahead_more, ahead_end}
 use Rattle.cbpf_syntax.proofs.reader.read_more.Goals as goal
@@ -10,15 +9,15 @@ pub returns-in_err-next_token-clause-fault : goal.returns-in_err-next_token-clau
 returns-in_err-next_token-clause-fault g c =
     let p = err_from_is_err_and c.from_residual.result c.from_residual.ensures.1 in
     let inv = c.loop-i.invariant in
-    rw (p.1, p.2) (λ n a. let b = inv.read n a in text_fault c.args.text.now c.loop-i.here.at b.tokens
+    rw (p.1, p.2) (λ taken a. let b = inv.read taken a in text_fault c.args.text.now c.loop-i.here.at b.tokens
     c.in_err-next_token.field-0.0 b.lexed (rw inv.text at c.in_err-next_token.ensures.fault))
 
 pub returns-in-None-clause-read : goal.returns-in-None-clause-read
-returns-in-None-clause-read g c n a =
+returns-in-None-clause-read g c taken a =
     let inv = c.loop-i.invariant in
     let none = rw (inv.text, c.in-None.is) at c.in_ok-next_token.ensures.end in
     let end = rw (inv.text, c.in-None.is) at c.in_ok-next_token.ensures.finished in
-    rw end (ahead_end c.args.text.now c.loop-i.here.at n (map lexeme_of c.loop-i.ahead.items) none (inv.read n a))
+    rw end (ahead_end c.args.text.now c.loop-i.here.at _ none (inv.read taken a))
 
 pub loop-i-preserved : goal.loop-i-preserved
 loop-i-preserved g c = search (rules, map-append, ahead_more, length-append, take-append-le)

@@ -1,10 +1,15 @@
-use Rattle.std.proofs.Common.{◌≡◌, ◌≤◌, ◌<◌, ◌+◌, ◌-◌, ℕ, Option, Some, None, refl, subst, length, map, drop, List, arith}
-use Rattle.cbpf_syntax.specs.Reading.{AreAhead, IsFirstLarge}
-use Rattle.cbpf_syntax.proofs.Taking.{large_taken, place_taken, place_before, within_taken, whole_size}
-use Rattle.cbpf_syntax.proofs.FirstRefusal.{refused_large, refused_misplaced, refused_unfinished}
-use Rattle.cbpf_syntax.specs.Refusals.{IsPlaceOf}
-use Rattle.cbpf_syntax.specs.Lexemes.{Lexeme, AreLexemes}
+use Rattle.std.proofs.Common.{◌≡◌, ◌≤◌, ◌<◌, ◌+◌, ◌-◌, ◌++◌, [], ℕ, Option, Some, None, refl, subst, sym, ap, ◌∙◌}
+use Rattle.std.proofs.Common.{length, map, drop, take, List, arith, append-nil, append_assoc, length-append, get_or}
+use Rattle.std.proofs.lemmas.List.{drop_all, drop_more}
+use Rattle.std.specs.Prelude.{option_map, slice_get}
+use Rattle.cbpf_syntax.specs.Reading.{IsFirstLarge}
+use Rattle.cbpf_syntax.specs.Refusals.{IsStuckAt, IsPlaceOf, IsRefusedFor}
+use Rattle.cbpf_syntax.specs.Refusals.ParseFault.{Misplaced, LargeNegative, Unfinished}
+use Rattle.cbpf_syntax.specs.Lexemes.{Lexeme}
+use Rattle.cbpf_syntax.specs.declared.lexeme.Lexeme as declared_lexeme
 use Rattle.cbpf_syntax.specs.Views.{lexeme_of}
+use Rattle.cbpf_syntax.proofs.Taking.{taken_size, taken_rest, taken_before, taken_large}
+use Rattle.cbpf_syntax.proofs.FirstRefusal.{refused_large, refused_misplaced, refused_unfinished}
 use Rattle.cbpf_syntax.proofs.reader.Reader.fault.Given.{Over}
 use Rattle.cbpf_syntax.proofs.reader.Reader.fault.Goals.{After-first_large}
 use Rattle.cbpf_syntax.proofs.reader.Reader.fault.Goals as goal
@@ -13,14 +18,55 @@ none_of : (o : Option ℕ) → ((x : ℕ) → o ≡ Some x → ⊥) → o ≡ No
 none_of None h = refl
 none_of (Some x) h = absurd (h x refl)
 
--- what stands ahead, and the first large literal once the tokens before the fault are taken
-ahead : (g : Over) (c : After-first_large g) → (c.args.n ≤ length (drop c.self.inside.at c.self.inside.ahead.items))
+-- the tokens before the fault
+abbrev before : List Lexeme → List declared_lexeme.Lexeme → ℕ → List Lexeme
+before taken ahead n = taken ++ map lexeme_of (take n ahead)
+
+-- Some tokens were taken, others stand ahead, of which n are before the fault, and a rest follows.
+module _ (taken : List Lexeme) (ahead : List declared_lexeme.Lexeme) (n : ℕ) (within : n ≤ length ahead)
+    (rest ts : List Lexeme) (e : ts ≡ map lexeme_of ahead ++ rest)
+    (stuck : IsStuckAt (taken ++ ts) (length taken + n)) where
+  abbrev after : List Lexeme
+  after = map lexeme_of (drop n ahead) ++ rest
+
+  parts : taken ++ ts ≡ before taken ahead n ++ after
+  parts = ap (λ us. taken ++ us) e ∙ (sym (append_assoc taken (map lexeme_of ahead) rest)
+      ∙ (ap (λ us. us ++ rest) (sym (taken_rest taken ahead n within))
+      ∙ append_assoc (before taken ahead n) (map lexeme_of (drop n ahead)) rest))
+
+  here : IsStuckAt (before taken ahead n ++ after) (length (before taken ahead n))
+  here =
+      let count : length taken + n ≡ length (before taken ahead n) =
+      omega (arith, length-append taken (map lexeme_of (take n ahead)), taken_size taken ahead n within) in
+      subst (λ i. IsStuckAt (before taken ahead n ++ after) i) count (rw parts at stuck)
+
+  large : (at : ℕ) → IsFirstLarge (before taken ahead n) (Some at) → IsRefusedFor (taken ++ ts) LargeNegative at
+  large at h = rw parts (refused_large (before taken ahead n) after at here h)
+
+  misplaced : (d : declared_lexeme.Lexeme) → n < length ahead → IsFirstLarge (before taken ahead n) None
+      → IsRefusedFor (taken ++ ts) Misplaced (get_or ahead n d).at
+  misplaced d more none =
+      let place : IsPlaceOf (map lexeme_of (drop n ahead) ++ rest) 0 (get_or ahead n d).at =
+      ap (λ us. option_map (λ (t : Lexeme). t.at) (slice_get (map lexeme_of us ++ rest) 0)) (drop_more ahead n d more) in
+      rw parts (refused_misplaced (before taken ahead n) after _ place here none)
+
+  unfinished : (at : ℕ) → n ≡ length ahead → rest ≡ [] → IsFirstLarge (before taken ahead n) None
+      → (0 < length (before taken ahead n) → IsPlaceOf (before taken ahead n) (length (before taken ahead n) - 1) at)
+      → IsRefusedFor (taken ++ ts) Unfinished at
+  unfinished at all end none place =
+      let past : length ahead ≤ n = omega (arith, all) in
+      let nothing : map lexeme_of (drop n ahead) ++ rest ≡ [] = rw (drop_all n ahead past, end) refl in
+      rw parts (refused_unfinished (before taken ahead n) after at nothing place here none)
+
+-- what stands ahead, and the first large literal before the fault
+ahead_of : (g : Over) (c : After-first_large g)
+    → (c.args.n ≤ length (drop c.self.inside.at c.self.inside.ahead.items))
     × (c.ahead-ahead.result.now ≡ drop c.self.inside.at c.self.inside.ahead.items)
-    × ((m : ℕ) (ts : List Lexeme)
-    → AreAhead c.self.inside.text.now c.self.inside.lexer.at m (map lexeme_of (drop c.self.inside.at
-    c.self.inside.ahead.items)) → AreLexemes c.self.inside.text.now ts → IsFirstLarge ts m c.self.inside.large →
-    IsFirstLarge ts (m + c.args.n) c.first_large.result)
-ahead g c =
+    × ((taken : List Lexeme) → IsFirstLarge taken c.self.inside.large → (o : Option ℕ) → c.first_large.result ≡ o
+    → IsFirstLarge (before taken (drop c.self.inside.at c.self.inside.ahead.items) c.args.n) o)
+    × (length c.ahead-ahead.result.now ≤ c.args.n
+    → c.args.n ≡ length (drop c.self.inside.at c.self.inside.ahead.items))
+ahead_of g c =
     let s = c.self.inside in
     let within : c.args.n ≤ length (drop c.self.inside.at c.self.inside.ahead.items) =
     rw (← c.self.view_is) at c.requires.within in
@@ -28,58 +74,60 @@ ahead g c =
     rw (← c.self.view_is) at c.ahead-ahead.ensures in (
       within,
       window,
-      λ m ts r t large. large_taken s.text.now s.lexer.at m (drop s.at s.ahead.items) ts r t c.args.n s.large
-          c.first_large.result within (rw (← c.self.view_is) at c.requires.word) large
-          c.first_large.ensures.known (rw window at c.first_large.ensures.new),
+      (λ taken large o is. subst (λ p. IsFirstLarge (before taken (drop s.at s.ahead.items) c.args.n) p) is
+          (taken_large taken (drop s.at s.ahead.items) c.args.n within s.large c.first_large.result
+          (rw (← c.self.view_is) at c.requires.word) large c.first_large.ensures.known
+          (rw window at c.first_large.ensures.new))),
+      λ f. let past = rw window at f in omega (arith, past, within),
     )
 
 pub returns-in-Some : goal.returns-in-Some
 returns-in-Some g c =
-    let k = ahead g (goal.at.returns-in-Some g c).After-first_large in
-    rw (← c.self.view_is) (λ m ts r t some stuck. refused_large ts (m + c.args.n) c.in-Some.at stuck
-    (subst (λ o. IsFirstLarge ts (m + c.args.n) o) c.in-Some.is (k.2 m ts r.read t (r.large ts t))))
+    let k = ahead_of g (goal.at.returns-in-Some g c).After-first_large in
+    rw (← c.self.view_is) (λ taken ts r may stuck.
+    (LargeNegative, _, refl, large taken _ c.args.n k.0 may.0 ts may.1 stuck _ (k.2 taken r.large _ c.in-Some.is)))
 
 pub returns-then-n-ahead : goal.returns-then-n-ahead
 returns-then-n-ahead g c =
-    let s = c.self.inside in
-    let n = c.args.n in
-    let k = ahead g (goal.at.returns-then-n-ahead g c).After-first_large in
+    let k = ahead_of g (goal.at.returns-then-n-ahead g c).After-first_large in
+    let none = none_of c.first_large.result c.in_default.not-Some in
     let more : c.args.n < length (drop c.self.inside.at c.self.inside.ahead.items) = rw k.1 at c.if-n-ahead.true in
-    rw (← c.self.view_is, k.1) (λ m ts r t some stuck.
-    refused_misplaced ts (m + n) _ (within_taken s.text.now s.lexer.at m (drop s.at s.ahead.items) ts r.read t n more)
-    (place_taken s.text.now s.lexer.at m (drop s.at s.ahead.items) ts r.read t n _ more) stuck
-    (subst (λ o. IsFirstLarge ts (m + n) o) (none_of c.first_large.result c.in_default.not-Some)
-    (k.2 m ts r.read t (r.large ts t))))
+    rw (← c.self.view_is, k.1) (λ taken ts r may stuck. (
+      Misplaced,
+      _,
+      refl,
+      misplaced taken _ c.args.n k.0 may.0 ts may.1 stuck _ more (k.2 taken r.large _ none),
+    ))
 
 pub returns-then-n-gt0 : goal.returns-then-n-gt0
 returns-then-n-gt0 g c =
     let s = c.self.inside in
-    let n = c.args.n in
-    let k = ahead g (goal.at.returns-then-n-gt0 g c).After-first_large in
-    let all : c.args.n ≡ length (drop c.self.inside.at c.self.inside.ahead.items) =
-    let f = rw k.1 at c.if-n-ahead.false in
-    omega (arith, f, k.0) in
+    let k = ahead_of g (goal.at.returns-then-n-gt0 g c).After-first_large in
+    let none = none_of c.first_large.result c.in_default.not-Some in
+    let all = k.3 c.if-n-ahead.false in
     let ended = rw (← c.self.view_is) at c.requires.end in
-    rw (← c.self.view_is, k.1) (λ m ts r t some stuck. refused_unfinished ts (m + n) _
-    (omega (arith, all, whole_size s.text.now s.lexer.at m (drop s.at s.ahead.items) ts r.read t (r.end (ended all))))
-    (place_before s.text.now s.lexer.at m (drop s.at s.ahead.items) ts r.read t n _ k.0 c.if-n-gt0.true) stuck
-    (subst (λ o. IsFirstLarge ts (m + n) o) (none_of c.first_large.result c.in_default.not-Some)
-    (k.2 m ts r.read t (r.large ts t))))
+    rw (← c.self.view_is, k.1) (λ taken ts r may stuck. (
+      Unfinished,
+      _,
+      refl,
+      unfinished taken _ c.args.n k.0 may.0 ts may.1 stuck _ all (may.2 (ended all)) (k.2 taken r.large _ none)
+          (λ some. taken_before taken (drop s.at s.ahead.items) c.args.n k.0 _ c.if-n-gt0.true),
+    ))
 
 pub returns-else-n-gt0 : goal.returns-else-n-gt0
 returns-else-n-gt0 g c =
     let s = c.self.inside in
-    let n = c.args.n in
-    let k = ahead g (goal.at.returns-else-n-gt0 g c).After-first_large in
-    let all : c.args.n ≡ length (drop c.self.inside.at c.self.inside.ahead.items) =
-    let f = rw k.1 at c.if-n-ahead.false in
-    omega (arith, f, k.0) in
+    let k = ahead_of g (goal.at.returns-else-n-gt0 g c).After-first_large in
+    let none = none_of c.first_large.result c.in_default.not-Some in
+    let all = k.3 c.if-n-ahead.false in
     let zero_n : c.args.n ≡ 0 = let f = c.if-n-gt0.false in omega (arith, f) in
     let ended = rw (← c.self.view_is) at c.requires.end in
-    rw (← c.self.view_is)
-    (λ m ts r t some stuck. let same : m - 1 ≡ m + n - 1 = omega (arith, zero_n) in
-    refused_unfinished ts (m + n) s.last
-    (omega (arith, all, whole_size s.text.now s.lexer.at m (drop s.at s.ahead.items) ts r.read t (r.end (ended all))))
-    (subst (λ i. IsPlaceOf ts i s.last) same (r.last ts t (omega (arith, some, zero_n, all)))) stuck
-    (subst (λ o. IsFirstLarge ts (m + n) o) (none_of c.first_large.result c.in_default.not-Some)
-    (k.2 m ts r.read t (r.large ts t))))
+    rw (← c.self.view_is) (λ taken ts r may stuck.
+    let same : before taken (drop s.at s.ahead.items) c.args.n ≡ taken =
+    ap (before taken (drop s.at s.ahead.items)) zero_n ∙ append-nil taken in (
+      Unfinished,
+      _,
+      refl,
+      unfinished taken _ c.args.n k.0 may.0 ts may.1 stuck s.last all (may.2 (ended all)) (k.2 taken r.large _ none)
+          (rw same r.last),
+    ))

@@ -1,7 +1,7 @@
 use Rattle.std.proofs.lemmas.Grind.{common_steps}
-use Rattle.std.proofs.Common.{rules, ◌≡◌, sym, subst, length, map, drop, List, arith}
+use Rattle.std.proofs.Common.{rules, ◌≡◌, ◌++◌, sym, subst, length, map, drop, List, arith}
 use Rattle.cbpf_syntax.specs.declared.lexeme.Lexeme as declared_lexeme
-use Rattle.cbpf_syntax.specs.Reading.{AreAhead}
+use Rattle.cbpf_syntax.specs.Lexemes.{AreLexemesTo}
 use Rattle.cbpf_syntax.specs.Views.{lexeme_of}
 use Rattle.cbpf_syntax.proofs.Taking.{kept_paste}
 use Rattle.cbpf_syntax.proofs.reader.Reader.fill.Given.{Over}
@@ -20,16 +20,16 @@ pub returns-in-Err-clause-fault : goal.returns-in-Err-clause-fault
 returns-in-Err-clause-fault g c =
     let s = c.self.inside in
     let same = sym (kept g (goal.at.returns-in-Err-clause-fault g c).After-truncate) in
-    rw (← c.self.view_is) (λ n r. c.in-Err.ensures.fault n
-    (subst (λ (us : List declared_lexeme.Lexeme). AreAhead s.text.now s.lexer.at n (map lexeme_of us)) same r.read))
+    rw (← c.self.view_is) (λ taken r. c.in-Err.ensures.fault taken (subst (λ (us : List declared_lexeme.Lexeme).
+    AreLexemesTo s.text.now s.lexer.at (taken ++ map lexeme_of us)) same r.read))
 
 pub returns-in-Ok-clause-reading : goal.returns-in-Ok-clause-reading
 returns-in-Ok-clause-reading g c =
     let s = c.self.inside in
     let same = sym (kept g (goal.at.returns-in-Ok-clause-reading g c).After-truncate) in
-    rw (← c.self.view_is) (λ n r. record {
-      read = c.in-Ok.ensures.read n (subst (λ (us : List declared_lexeme.Lexeme).
-          AreAhead s.text.now s.lexer.at n (map lexeme_of us)) same r.read);
+    rw (← c.self.view_is) (λ taken r. record {
+      read = c.in-Ok.ensures.read taken (subst (λ (us : List declared_lexeme.Lexeme).
+          AreLexemesTo s.text.now s.lexer.at (taken ++ map lexeme_of us)) same r.read);
       end = c.in-Ok.ensures.end;
       last = r.last;
       large = r.large;

@@ -4,7 +4,7 @@ use Rattle.std.proofs.lemmas.List.{length-map}
 use Rattle.cbpf_syntax.specs.Tokens.{IsLexFault}
 use Rattle.cbpf_syntax.specs.Reading.{Ahead, IsReading, IsStepOf}
 use Rattle.cbpf_syntax.specs.Views.{lexeme_of}
-use Rattle.cbpf_syntax.proofs.Taking.{ahead_is, step_more, step_all}
+use Rattle.cbpf_syntax.proofs.Taking.{step_more, step_all}
 use Rattle.cbpf_syntax.proofs.reader.Reader.step.Goals.{then-self-via-then-self}
 use Rattle.cbpf_syntax.proofs.reader.Reader.step.Goals.{then-self-via-else-self+then-step_len-ahead}
 use Rattle.cbpf_syntax.proofs.reader.Reader.step.Goals as goal
@@ -32,16 +32,14 @@ loop-self-preserved g c =
     }
 
 pub returns-then-self-clause-step : goal.returns-then-self-clause-step
-returns-then-self-clause-step g c n ts r t =
-    let all =
-    ahead_is c.loop-self.self.text c.loop-self.self.to n (map lexeme_of c.loop-self.self.tokens) ts r.read t in
+returns-then-self-clause-step g c ts may =
     let step : IsStepOf (map lexeme_of c.loop-self.self.tokens) c.step_at-step.result =
     rw c.ahead.ensures at c.step_at-step.ensures.step in
-    rw all.1 (elim c.then-self.branch [
-      | then-self-via-then-self w ↦ step_all (map lexeme_of c.loop-self.self.tokens) all.0 c.step_at-step.result step
-          (all.2 (r.end (sym (ap (λ (a : Ahead). a.ended) c.self.view_is) ∙ w.if-self.true)))
+    rw may.1 (elim c.then-self.branch [
+      | then-self-via-then-self w ↦ step_all (map lexeme_of c.loop-self.self.tokens) may.0 c.step_at-step.result step
+          (may.2 (sym (ap (λ (a : Ahead). a.ended) c.self.view_is) ∙ w.if-self.true))
       | then-self-via-else-self+then-step_len-ahead w ↦
-          step_more (map lexeme_of c.loop-self.self.tokens) all.0 c.step_at-step.result step
+          step_more (map lexeme_of c.loop-self.self.tokens) may.0 c.step_at-step.result step
           (let l = rw (w.step_len.ensures, w.ahead-else-self.ensures) at w.if-step_len-ahead.true in
           omega (arith, l, length-map c.loop-self.self.tokens lexeme_of))
     ])

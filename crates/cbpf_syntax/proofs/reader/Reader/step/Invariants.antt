@@ -1,11 +1,12 @@
-use Rattle.std.proofs.Common.{◌≡◌, ◌≤◌, ◌-◌, ◌+◌, ℕ, cond, length}
+use Rattle.std.proofs.Common.{◌≡◌, ◌≤◌, ◌-◌, ◌+◌, List, cond, length}
+use Rattle.cbpf_syntax.specs.Lexemes.{Lexeme}
 use Rattle.cbpf_syntax.specs.Reading.{IsReading, left}
 use Rattle.cbpf_syntax.proofs.reader.Reader.step.Given as goal
 
 abbrev pub invariant-loop-self : goal.invariant-loop-self
 invariant-loop-self g l = record {
   text : l.self.text ≡ l.initial.self.text;
-  reading : (n : ℕ) → IsReading n l.initial.self → IsReading n l.self;
+  reading : (taken : List Lexeme) → IsReading taken l.initial.self → IsReading taken l.self;
   left : left l.self ≤ left l.initial.self;
 }
 
