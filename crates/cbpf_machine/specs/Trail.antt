@@ -3,10 +3,6 @@ use Rattle.std.specs.Prelude.{◌≡◌, ℕ, ◌+◌, ◌-◌, ◌*◌, ◌/◌
 use Rattle.cbpf_machine.specs.declared.mark_trail.TheConstants.{STRIDE}
 use Rattle.cbpf_machine.specs.Registers.{Registers}
 
--- how many turns it takes at most to come from a kept state to one after it, before the next that is kept
-abbrev pub most_turns_back : ℕ
-most_turns_back = STRIDE - 1
-
 -- trails stand for lists whatever is between the first k states and the last one, where these are at most n more
 abbrev pub IgnoresBetween : {T : Type 0} → (T → List Registers → Type 0) → ℕ → ℕ → Type 0
 IgnoresBetween {T} stands k n = (t : T) (xs ys : List Registers) → length xs ≡ length ys → length xs ≤ k + n

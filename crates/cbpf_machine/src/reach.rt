@@ -1,4 +1,5 @@
-// How far a packet goes, by a state of its own.
+//! How far a packet goes, by a state of its own.
+
 ghost use Rattle.std.specs.Prelude.{◌≡◌, ◌<◌, ◌≤◌, ◌+◌, ◌^◌, ℕ, length, IfErr, MatchResult, OnOk};
 ghost use Rattle.cbpf_machine.specs.Machine.{machine_of};
 ghost use Rattle.cbpf_machine.specs.Trace.{trace};
