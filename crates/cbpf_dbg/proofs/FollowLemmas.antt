@@ -1,6 +1,6 @@
 -- Moves to the next hit.
-use Rattle.std.proofs.Common.{◌≡◌, ℕ, zero, suc, ◌+◌, ◌-◌, ◌<◌, ◌≤◌, List, ◌∷◌, length, drop, take, arith, ap, subst, ◌∙◌, refl, inl}
-use Rattle.std.proofs.Common.{inr, length-append, length-drop, length-take, Bool, true, false}
+use Rattle.std.proofs.Common.{◌≡◌, ℕ, zero, suc, ◌+◌, ◌-◌, ◌<◌, ◌≤◌, List, ◌∷◌, length, drop, arith, ap, subst, ◌∙◌, refl, inl}
+use Rattle.std.proofs.Common.{inr, length-append, length-drop, Bool, true, false}
 use Rattle.std.specs.Prelude.{Some, slice_get, min}
 use Rattle.std.proofs.lemmas.Bool.{cases_lt}
 use Rattle.std.proofs.lemmas.Option.{slice_get_cases, slice_get_within}
@@ -58,10 +58,6 @@ module _ (machine : Machine) (capture : List Record) (w : Cursor) (r : Record) (
 
   pub steps_few : length xs ≤ MAX_INSTRUCTIONS
   steps_few = omega (arith, length-trace_from machine r.bytes r.wire zero_state, sound_few machine.list h.sound)
-
-  -- a trail that keeps the entries up to the step keeps as many
-  pub kept_steps : (kept : ℕ) → length (take w.place.step xs) ≡ kept → kept ≡ w.place.step
-  kept_steps kept e = omega (arith, e, step_within, length-take w.place.step xs)
 
   -- the entries ahead are those of the packet, and those of the later packets
   pub ahead_long : (k : ℕ) → k ≤ length xs → length (ahead machine capture (place_at w.place.packet k)) + k

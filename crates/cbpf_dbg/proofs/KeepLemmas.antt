@@ -11,7 +11,7 @@ use Rattle.cbpf_machine.proofs.TraceLemmas.{length-trace_from}
 use Rattle.pcap_classic.specs.Records.{Record}
 use Rattle.cbpf_reply.specs.declared.reply.Place.{Place}
 use Rattle.cbpf_dbg.specs.declared.cursor.Cursor.{Cursor}
-use Rattle.cbpf_dbg.specs.Session.{Keeps}
+use Rattle.cbpf_dbg.specs.Session.{Keeps, KeepsTo}
 use Rattle.cbpf_machine.specs.declared.follow.Followed.{Followed}
 use Rattle.cbpf_machine.specs.declared.follow.Followed.TheVariants.{Watched, Ended}
 use Rattle.cbpf_dbg.specs.declared.cursor.Moved.{Moved}
@@ -33,6 +33,16 @@ keeps_push stands after machine capture old w r h at packet step pushed keeps = 
     let i : w.place.step - 1 ≡ old.step = omega (arith, step) in
     let entry : slice_get (trace machine q.bytes q.wire) old.step ≡ Some w.state = rw i at here in
     rw step (rw (take-slice_get (trace machine q.bytes q.wire) old.step w.state entry) (pushed _ (keeps q before)))
+
+-- at an entry a trail keeps the packet's up to it
+pub keeps_to : (stands : List Registers → Type 0) (machine : Machine) (capture : List Record) (w : Cursor) (r : Record)
+    → Stands machine capture w → slice_get capture (w.place.packet - 1) ≡ Some r → 0 < w.place.step
+    → Keeps stands machine capture w.place → KeepsTo stands (trace machine r.bytes r.wire) w.place.step w.state
+keeps_to stands machine capture w r h at begun keeps = record {
+  from_one = begun;
+  entry = entry_at_place machine capture w r h at begun;
+  stands = keeps r at;
+}
 
 -- fewer than MAX_INSTRUCTIONS are kept before the last entry
 pub keeps_few : (machine : Machine) (capture : List Record) (old : Place) (w : Cursor) (r : Record) (kept : ℕ)
@@ -65,3 +75,10 @@ keeps_followed after machine capture old r at (Watched n) s m v e moves kept ent
     subst (λ (k : Record). after (take (old.place.step + n) (trace machine k.bytes k.wire))) same (kept n refl) in
     subst (λ (u : Cursor). after (take u.place.step (trace machine q.bytes q.wire))) (sym e) all
 keeps_followed after machine capture old r at (Ended o) s m v e moves kept entry = cc
+
+-- as many as stand for them
+pub keeps_as_many : (stands : List Registers → Type 0) (xs : List Registers) (k : ℕ) (s : Registers) (kept : ℕ)
+    → KeepsTo stands xs k s → ((ys : List Registers) → stands ys → length ys ≡ kept) → kept ≡ k
+keeps_as_many stands xs k s kept at long =
+    let from_one = at.from_one in
+    omega (arith, slice_get_within xs (k - 1) s at.entry, long _ at.stands, length-take k xs, from_one)

@@ -62,18 +62,18 @@ module _ (machine : Machine) (c : Savefile) (v : View) (h : HasLoaded machine c 
       → (left : List Stop) × (rest machine c.records v.breakpoints v.place ≡ stop ∷ left) × (stops new ≡ Ok left)
   first-hit new stop k =
       let here = stops-held in
-      let ahead_is = k.2 in
-      let same : rest machine c.records v.breakpoints v.place ≡ k.0 = cc in
-      (k.1, same ∙ k.4, k.3)
+      let before_are = k.before_are in
+      let same : rest machine c.records v.breakpoints v.place ≡ k.before = cc in
+      (k.after, same ∙ k.passes, k.after_are)
 
   -- the end
   no-hit : (new : View) (counted : Counts) → Continues v new (Finished counted)
       → rest machine c.records v.breakpoints v.place ≡ []
   no-hit new counted k =
       let here = stops-held in
-      let ahead_is = k.2 in
-      let same : rest machine c.records v.breakpoints v.place ≡ k.0 = cc in
-      same ∙ k.4
+      let before_are = k.before_are in
+      let same : rest machine c.records v.breakpoints v.place ≡ k.before = cc in
+      same ∙ k.passes
 
 pub turns_to_end-bound : (machine : Machine) (capture : List Record) (place : Place) → IsSound machine.list
     → length capture < 2 ^ 60 → turns_to_end machine capture place ≤ 2 ^ 76
@@ -142,14 +142,14 @@ module _ (machine : Machine) (c : Savefile) (old v : View) (f g : List Stop) (m 
   going-spare = omega (arith, turns_to_end-bound machine c.records old.place h.sound h.few, h.spent, h.spare)
 
   pub going-found : Found old v f g
-  going-found = (
-    h.passed,
-    _,
-    stops-held machine c old h.old_holds ∙ ap Ok h.hits,
-    stops-held machine c v h.new_holds,
-    h.found,
-    h.place,
-  )
+  going-found = record {
+    hits = h.passed;
+    after = rest machine c.records v.breakpoints v.place;
+    before_are = stops-held machine c old h.old_holds ∙ ap Ok h.hits;
+    after_are = stops-held machine c v h.new_holds;
+    found_are = h.found;
+    moves = h.place;
+  }
 
   -- the turns so far
   pub going-turns : n + turns_left v ≡ m + turns_left old
@@ -222,4 +222,4 @@ how_many (Err e) = 0
 
 pub fewer : (old new : View) (stop : Stop) → Continues old new (Stopped stop)
     → how_many (stops new) < how_many (stops old)
-fewer old new stop k = rw (k.2, k.3, k.4) (omega arith)
+fewer old new stop k = rw (k.before_are, k.after_are, k.passes) (omega arith)

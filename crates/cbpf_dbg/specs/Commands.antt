@@ -182,10 +182,12 @@ PassesHits (Limit n) before after = before ≡ after
 PassesHits (Finished n) before after = before ≡ []
 
 -- the same by the views
-abbrev pub Continues : View → View → RunReply → Type 0
-Continues old new reply =
-    (before : List Stop) × (after : List Stop) × (stops old ≡ Ok before) × (stops new ≡ Ok after)
-    × PassesHits reply before after
+pub record Continues (old new : View) (reply : RunReply) : Type 0 where
+  pub before : List Stop
+  pub after : List Stop
+  pub before_are : stops old ≡ Ok before
+  pub after_are : stops new ≡ Ok after
+  pub passes : PassesHits reply before after
 
 -- ---- whole runs
 
@@ -205,10 +207,13 @@ last_place place (h ∷ hits) = last_place h.place hits
 
 -- the stops found are the first of those that were ahead, the others are still ahead,
 -- and only the place differs: it is the last one's
-abbrev pub Found : View → View → List Stop → List Stop → Type 0
-Found old new old_found new_found =
-    (hits : List Stop) × (after : List Stop) × (stops old ≡ Ok (hits ++ after)) × (stops new ≡ Ok after)
-    × (new_found ≡ old_found ++ hits) × (new ≡ record old { place = last_place old.place hits })
+pub record Found (old new : View) (old_found new_found : List Stop) : Type 0 where
+  pub hits : List Stop
+  pub after : List Stop
+  pub before_are : stops old ≡ Ok (hits ++ after)
+  pub after_are : stops new ≡ Ok after
+  pub found_are : new_found ≡ old_found ++ hits
+  pub moves : new ≡ record old { place = last_place old.place hits }
 
 -- how many turns lead to the end
 abbrev pub turns_left : View → ℕ

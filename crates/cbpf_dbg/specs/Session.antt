@@ -10,7 +10,7 @@ use Rattle.cbpf_machine.specs.Values.{Values}
 use Rattle.cbpf_machine.specs.Machine.{Machine, machine_of}
 use Rattle.cbpf_machine.specs.Turn.{turn, asked}
 use Rattle.cbpf_machine.specs.Follow.{Watching, Knows, KnowsEach, is_watched, room_in}
-use Rattle.cbpf_machine.specs.Trace.{trace}
+use Rattle.cbpf_machine.specs.Trace.{trace, entry_at}
 use Rattle.pcap_classic.specs.Records.{Record, StartsAt}
 use Rattle.pcap_classic.specs.Savefile.{Savefile}
 use Rattle.cbpf_reply.specs.declared.reply.Place.{Place}
@@ -25,6 +25,12 @@ abbrev pub Keeps : (List Registers → Type 0) → Machine → List Record → P
 Keeps stands_for machine capture place =
     (r : Record) → slice_get capture (place.packet - 1) ≡ Some r
     → stands_for (take place.step (trace machine r.bytes r.wire))
+
+-- of some entries, the k-th, counted from 1, and what stands for those up to it
+pub record KeepsTo (stands_for : List Registers → Type 0) (xs : List Registers) (k : ℕ) (s : Registers) : Type 0 where
+  pub from_one : 1 ≤ k
+  pub entry : entry_at xs k ≡ Some s
+  pub stands : stands_for (take k xs)
 
 -- no place is after the last packet, where there is one
 abbrev pub IsInside : List Record → Place → Type 0

@@ -3,9 +3,9 @@
 ghost use Rattle.std.specs.Prelude.{◌≡◌, ◌≤◌, ◌<◌, ◌+◌, length, ◌*◌, ◌^◌, ◌<ℤ◌, pos, IfErr, IfOk, IfSome, OnErr, OnOk};
 ghost use Rattle.cbpf_dbg.specs.Here.{CanReturn, IsHere, Returns, stop_here};
 ghost use Rattle.cbpf_dbg.specs.Shown.{CanShow, Shows};
-ghost use Rattle.cbpf_machine.specs.Trail.{most_turns_back};
 ghost use Rattle.std.specs.List.{All};
 ghost use Rattle.cbpf_code.specs.Writing.{Wrote};
+ghost use Rattle.cbpf_reply.specs.declared.reply.Stop.{Stop as AStop};
 ghost use Rattle.cbpf_dbg.specs.Commands as spec;
 ghost use Rattle.cbpf_dbg.specs.Shown as shown;
 
@@ -134,6 +134,9 @@ impl<T: Trail, A: Allocator> Session<T, A> {
         ensures after { self.new ≡ spec.view_after self.old (spec.resume self.old place) }
         ensures turns { meter.new ≡ meter.old + spec.turns_to_resume place.step result }
         ensures few { meter.new ≤ meter.old + 2 * place.step }
+
+        // Also where it refuses the place.
+        ensures others { (stop : AStop) → CanReturn self.old stop → CanReturn self.new stop }
     {
         let loaded = loaded_in!(self);
         let count = loaded.capture.count();
@@ -153,8 +156,8 @@ impl<T: Trail, A: Allocator> Session<T, A> {
     /// Goes on by `n` entries, or back by `-n` entries of the same packet, whatever hits lie between.
     ///
     /// The meter has spent at most 2 to the 127 before; on the way forward it rises by one for each entry that is left,
-    /// and on the way back by what the trail takes to go back to the entry, which is at most `most_turns_back`. A refusal
-    /// makes no turn.
+    /// and on the way back by what the trail takes to go back to the entry, which is at most its `most_turns_back`. A
+    /// refusal makes no turn.
     ///
     /// # Errors
     ///
@@ -166,7 +169,7 @@ impl<T: Trail, A: Allocator> Session<T, A> {
         ensures after { self.new ≡ spec.view_after self.old (spec.step self.old n) }
         ensures turns { pos 0 <ℤ n → meter.new ≡ meter.old + spec.turns_forward self.old (spec.step self.old n) }
         ensures counts { meter.old ≤ meter.new }
-        ensures back { n <ℤ pos 0 → meter.new ≤ meter.old + most_turns_back }
+        ensures back { n <ℤ pos 0 → meter.new ≤ meter.old + T.most_turns_back }
         ensures back_turns { n <ℤ pos 0 → OnOk result (meter.new ≡ meter.old + T.turns_back self.new.place.step) }
         ensures refused { OnErr result (meter.new ≡ meter.old) }
         ensures shown { IfOk result (λ reply. Shows self.new reply) }

@@ -1,6 +1,7 @@
 //! Runs to the next hit.
 
 ghost use Rattle.std.specs.Prelude.{◌≡◌, ◌≢◌, ◌+◌, ◌-◌, ◌*◌, ◌<◌, ◌≤◌, ◌^◌, ℕ, List, [], Some, true, false, OnSome, take};
+ghost use Rattle.cbpf_code.specs.Sound.{IsSound};
 ghost use Rattle.cbpf_code.specs.declared.checker.TheConstants.{MAX_INSTRUCTIONS};
 ghost use Rattle.cbpf_machine.specs.Registers.{Registers};
 ghost use Rattle.cbpf_machine.specs.Follow.{Follows, KnowsEach, is_watched, turns_to};
@@ -9,7 +10,7 @@ ghost use Rattle.pcap_classic.specs.Records.{StartsAt};
 ghost use Rattle.cbpf_dbg.specs.Commands.{PassesHits};
 ghost use Rattle.cbpf_dbg.specs.Joined.{rest};
 ghost use Rattle.cbpf_dbg.specs.Loaded.{machine_in, records_in, breakpoints_in};
-ghost use Rattle.cbpf_dbg.specs.Session.{IsInside};
+ghost use Rattle.cbpf_dbg.specs.Session.{IsInside, KeepsTo};
 ghost use Rattle.cbpf_dbg.specs.Cursor.{Stands, Passes, Gives, run_from, turns_of, ComesTo};
 ghost use Rattle.cbpf_dbg.specs.Going.{CanGoOn, GoesOn, KeepsIn, entries_in, outcome_in};
 
@@ -17,7 +18,7 @@ use crate::cursor::{Cursor, Moved, Walk, stop_at};
 use crate::loaded::Loaded;
 use cbpf_code::Program;
 use cbpf_machine::{
-    Followed, Meter, Never, Packet, Pause, State, Trail, Values, Watched, follow_packet,
+    Followed, Meter, Never, Packet, Pause, State, Trail, Values, Watched, follow_on, follow_packet,
 };
 use cbpf_reply::{RunReply, Stop, Why};
 use std::alloc::Allocator;
@@ -50,6 +51,25 @@ pub(crate) trait Keeper<P: Pause, A: Allocator> {
         ensures turns { meter.new + 1 ≡ meter.old + turns_to (entries_in task.now) 0 result }
         ensures stands { (n : ℕ) → result ≡ followed.Watched n
             → stands_for self.new (take n (entries_in task.now)) };
+
+    /// As `cbpf_machine::follow_on`, from an entry up to which the packet's are kept.
+    fn follow_on(
+        &mut self,
+        meter: &mut Meter,
+        task: &Task<'_, A>,
+        pause: &P,
+        state: &mut State,
+    ) -> Followed
+        requires sound { IsSound task.now.program.now }
+        requires keeps { (k : ℕ) × KeepsTo (λ xs. stands_for self.old xs) (entries_in task.now) k state.old }
+        requires spare { meter.old + 2 * MAX_INSTRUCTIONS ≤ 2 ^ 128 }
+        requires knows { KnowsEach (λ i insn. P.knows pause.now i insn) task.now.program.now }
+        ensures follows { (k : ℕ) → KeepsTo (λ xs. stands_for self.old xs) (entries_in task.now) k state.old
+            → Follows (λ s. P.pauses pause.now s) (entries_in task.now) (outcome_in task.now) k state.old state.new result }
+        ensures turns { (k : ℕ) → KeepsTo (λ xs. stands_for self.old xs) (entries_in task.now) k state.old
+            → meter.new ≡ meter.old + turns_to (entries_in task.now) k result }
+        ensures stands { (k : ℕ) → KeepsTo (λ xs. stands_for self.old xs) (entries_in task.now) k state.old
+            → (n : ℕ) → result ≡ followed.Watched n → stands_for self.new (take (k + n) (entries_in task.now)) };
 }
 
 /// No trail.
@@ -67,6 +87,16 @@ impl<P: Pause, A: Allocator> Keeper<P, A> for NoTrail {
         state: &mut State,
     ) -> Followed {
         follow_packet(meter, task.program, task.packet, task.values, pause, state)
+    }
+
+    fn follow_on(
+        &mut self,
+        meter: &mut Meter,
+        task: &Task<'_, A>,
+        pause: &P,
+        state: &mut State,
+    ) -> Followed {
+        follow_on(meter, task.program, task.packet, task.values, pause, state)
     }
 }
 
@@ -89,6 +119,16 @@ impl<T: Trail, A: Allocator> Keeper<Watched<A>, A> for T {
             pause,
             state,
         )
+    }
+
+    fn follow_on(
+        &mut self,
+        meter: &mut Meter,
+        task: &Task<'_, A>,
+        pause: &Watched<A>,
+        state: &mut State,
+    ) -> Followed {
+        self.follow(meter, task.program, task.packet, task.values, pause, state)
     }
 }
 
@@ -167,34 +207,33 @@ fn run_whole<T: Trail, A: Allocator>(
     true
 }
 
-/// Goes on in the place's packet, where it has begun, to its next hit, or out of it: whether there is a hit.
-fn go_on_in_packet<T: Trail, A: Allocator>(
+/// Goes on in the place's packet, where it has begun, to its next entry where it pauses, or out of it: whether it pauses.
+pub(crate) fn go_on_in_packet<P: Pause, A: Allocator, K: Keeper<P, A>>(
     meter: &mut Meter,
     loaded: &Loaded<'_, A>,
+    pause: &P,
     walk: &mut Walk<'_>,
-    trail: &mut T,
+    keeper: &mut K,
 ) -> bool
     requires can { CanGoOn loaded.now walk.old meter.old }
-    requires keeps { KeepsIn (λ xs. T.stands_for trail.old xs) loaded.now walk.old.cursor.place }
-    ensures goes { GoesOn loaded.now (is_watched loaded.now.watched.now) walk.old walk.new meter.old meter.new result }
-    ensures keeps { result ≡ true → KeepsIn (λ xs. T.stands_for trail.new xs) loaded.now walk.new.cursor.place }
+    requires keeps { KeepsIn (λ xs. K.stands_for keeper.old xs) loaded.now walk.old.cursor.place }
+    requires knows { KnowsEach (λ i insn. P.knows pause.now i insn) loaded.now.program.now }
+    ensures goes { GoesOn loaded.now (λ s. P.pauses pause.now s) walk.old walk.new meter.old meter.new result }
+    ensures keeps { result ≡ true → KeepsIn (λ xs. K.stands_for keeper.new xs) loaded.now walk.new.cursor.place }
 {
     if walk.cursor.place.step == 0 {
         return false;
     }
     let here = walk.left.front();
-    let packet = Packet {
-        bytes: here.bytes,
-        wire: here.wire,
+    let task = Task {
+        program: loaded.program,
+        values: loaded.values,
+        packet: Packet {
+            bytes: here.bytes,
+            wire: here.wire,
+        },
     };
-    let followed = trail.follow(
-        meter,
-        loaded.program,
-        packet,
-        loaded.values,
-        loaded.watched,
-        &mut walk.cursor.state,
-    );
+    let followed = keeper.follow_on(meter, &task, pause, &mut walk.cursor.state);
     if let Moved::Entry = walk.cursor.apply(followed) {
         return true;
     }
@@ -218,7 +257,7 @@ fn run_to_hit<T: Trail, A: Allocator>(
     ensures start { OnSome result (StartsAt (records_in loaded.now) walk.new.cursor.place.packet walk.new.cursor.start) }
     ensures keeps { KeepsIn (λ xs. T.stands_for trail.new xs) loaded.now walk.new.cursor.place }
 {
-    if !go_on_in_packet(meter, loaded, walk, trail) {
+    if !go_on_in_packet(meter, loaded, loaded.watched, walk, trail) {
         trail.clear();
         if !run_whole(meter, loaded, walk, trail) {
             return None;

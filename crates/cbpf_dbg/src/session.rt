@@ -251,7 +251,7 @@ impl<T: Trail, A: Allocator> Session<T, A> {
         self.cursor.place
     }
 
-    /// The trail, which keeps the entries of the place's packet up to the place.
+    /// The trail, which stands for the entries of the place's packet up to the place.
     pub fn trail(&self) -> &T
         ensures { KeepsEntries (λ xs. T.stands_for result.now xs) self.now }
     {

@@ -9,7 +9,6 @@ ghost use Rattle.cbpf_dbg.specs.Going.{KeepsIn};
 ghost use Rattle.cbpf_dbg.specs.Session.{IsInside};
 ghost use Rattle.cbpf_dbg.specs.Cursor.{Stands, AreLeft, Nears, owed};
 ghost use Rattle.cbpf_dbg.specs.Cursor.{Gives, step_from, turns_of, StepsBack, CannotStepBack};
-ghost use Rattle.cbpf_machine.specs.Trail.{most_turns_back};
 
 use crate::cursor::{Cursor, Moved, Walk, advance, stop_at};
 use crate::loaded::Loaded;
@@ -151,7 +150,7 @@ pub(crate) fn step_back<T: Trail, A: Allocator>(
         → IsInside (records_in loaded.now) cursor.new.place }
     ensures counts { meter.old ≤ meter.new }
     ensures turns { OnOk result (meter.new ≡ meter.old + T.turns_back cursor.new.place.step) }
-    ensures few { meter.new ≤ meter.old + most_turns_back }
+    ensures few { meter.new ≤ meter.old + T.most_turns_back }
     ensures refused { OnErr result (meter.new ≡ meter.old) }
 {
     if b >= u64::from(cursor.place.step) {

@@ -4,14 +4,13 @@ ghost use Rattle.std.specs.Prelude.{◌≡◌, ◌+◌, length};
 ghost use Rattle.std.specs.Iterator.{YieldsFirst, item_count};
 ghost use Rattle.cbpf_dbg.specs.Joined.{rest};
 ghost use Rattle.cbpf_dbg.specs.Loaded.{machine_in, records_in, breakpoints_in};
-ghost use Rattle.cbpf_dbg.specs.Going.{CanGoOn, GoesOn};
-ghost use Rattle.cbpf_machine.specs.Follow.{is_watched};
+ghost use Rattle.cbpf_dbg.specs.Going.{CanGoOn};
 ghost use Rattle.cbpf_dbg.specs.declared.cursor.Walk.{Walk};
 
-use crate::cursor::{Moved, Walk, stop_at};
+use crate::cursor::{Walk, stop_at};
 use crate::loaded::Loaded;
-use crate::run::{NoTrail, run_records};
-use cbpf_machine::{Meter, Packet, follow_on};
+use crate::run::{NoTrail, go_on_in_packet, run_records};
+use cbpf_machine::Meter;
 use cbpf_reply::{Stop, Why};
 use std::alloc::{Allocator, Global};
 use std::marker::Model;
@@ -43,38 +42,6 @@ impl<'a, A: Allocator> Model for Stops<'a, A> {
         × (s.walk.end ≡ length (records_in s.loaded) + 1) };
 }
 
-/// Goes on in the place's packet, where it has begun, to its next hit, or out of it: whether there is a hit.
-fn go_on_in_packet<A: Allocator>(
-    meter: &mut Meter,
-    loaded: &Loaded<'_, A>,
-    walk: &mut Walk<'_>,
-) -> bool
-    requires { CanGoOn loaded.now walk.old meter.old }
-    ensures { GoesOn loaded.now (is_watched loaded.now.watched.now) walk.old walk.new meter.old meter.new result }
-{
-    if walk.cursor.place.step == 0 {
-        return false;
-    }
-    let here = walk.left.front();
-    let packet = Packet {
-        bytes: here.bytes,
-        wire: here.wire,
-    };
-    let followed = follow_on(
-        meter,
-        loaded.program,
-        packet,
-        loaded.values,
-        loaded.watched,
-        &mut walk.cursor.state,
-    );
-    if let Moved::Entry = walk.cursor.apply(followed) {
-        return true;
-    }
-    walk.left.pass(&here);
-    false
-}
-
 /// Goes on to the next hit, or to the end.
 fn next_stop<A: Allocator>(
     meter: &mut Meter,
@@ -89,7 +56,7 @@ fn next_stop<A: Allocator>(
         (λ (v : Walk). rest (machine_in loaded.now) (records_in loaded.now) (breakpoints_in loaded.now) v.cursor.place)
         walk.old result walk.new }
 {
-    if !go_on_in_packet(meter, loaded, walk) {
+    if !go_on_in_packet(meter, loaded, loaded.watched, walk, &mut NoTrail) {
         if !run_records(meter, loaded, loaded.watched, walk, &mut NoTrail) {
             return None;
         }

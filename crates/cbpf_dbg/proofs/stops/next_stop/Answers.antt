@@ -7,7 +7,7 @@ use Rattle.cbpf_dbg.proofs.stops.next_stop.Goals.{then-not-go_on_in_packet+else-
 
 pub returns-then-not-run_records-clause-next : goal.returns-then-not-run_records-clause-next
 returns-then-not-run_records-clause-next g c =
-    let left = c.if-not-go_on_in_packet.ensures in
+    let left = c.if-not-go_on_in_packet.ensures.goes in
     let ran = c.if-not-run_records.ensures.goes in
     let past : c.run_records.new.walk.cursor.place.packet ≡ length (records_in c.args.loaded.now) + 1 =
     c.if-not-run_records.ensures.none refl ∙ ran.same ∙ left.same ∙ c.requires.all in
@@ -21,7 +21,7 @@ stop_at-requires g c = elim c.if-not-go_on_in_packet.branch [
   | then-not-go_on_in_packet+else-not-run_records w ↦
       rw w.walk-is (at_hit _ _ _ _ _ w.if-not-run_records.ensures.goes).1
   | else-not-go_on_in_packet w ↦
-      rw w.walk-is (at_hit _ _ _ _ _ w.if-not-go_on_in_packet.ensures).1
+      rw w.walk-is (at_hit _ _ _ _ _ w.if-not-go_on_in_packet.ensures.goes).1
 ]
 
 pub returns-clause-next : goal.returns-clause-next
@@ -29,8 +29,8 @@ returns-clause-next g c = elim c.if-not-go_on_in_packet.branch [
   | then-not-go_on_in_packet+else-not-run_records w ↦
       let hit = at_hit _ _ _ _ _ w.if-not-run_records.ensures.goes in
       rw (c.stop_at.ensures hit.0, w.walk-is)
-      (hits_out _ _ _ _ _ _ w.if-not-go_on_in_packet.ensures (watches_hits c.args.loaded.now) ∙ hit.2)
+      (hits_out _ _ _ _ _ _ w.if-not-go_on_in_packet.ensures.goes (watches_hits c.args.loaded.now) ∙ hit.2)
   | else-not-go_on_in_packet w ↦
-      let hit = at_hit _ _ _ _ _ w.if-not-go_on_in_packet.ensures in
+      let hit = at_hit _ _ _ _ _ w.if-not-go_on_in_packet.ensures.goes in
       rw (c.stop_at.ensures hit.0, w.walk-is) hit.2
 ]
