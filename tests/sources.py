@@ -215,7 +215,8 @@ def public_calls(crate):
 
 def command_words():
     """The names of the debugger's commands, and the words that stand for no value after them."""
-    return re.findall(r'^\s*b?"(\w+)" =>', text_of(CRATES / "cbpf_tool/src/command.rt"), re.M)
+    files = ("cbpf_command_line/src/commands.rt", "cbpf_tool/src/command.rt")
+    return [word for file in files for word in re.findall(r'^\s*b?"(\w+)" =>', text_of(CRATES / file), re.M)]
 
 
 def short_forms():

@@ -1,6 +1,7 @@
 //! The command line of `cbpf`: which job its words ask for.
 #![tactic(auto)]
 
+mod commands;
 mod equality;
 mod job;
 mod parse;

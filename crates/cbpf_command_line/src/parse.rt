@@ -7,13 +7,14 @@ ghost use Rattle.clap.specs.Kinds.{HasKind};
 ghost use Rattle.clap.specs.Values.{kind_of};
 ghost use Rattle.cbpf_command_line.specs.CommandLine as spec;
 
+use crate::each_command;
 use crate::job::{Job, LineFault};
 use cbpf_code::Form;
 use clap::error::ErrorKind;
 use clap::{Arg, ArgAction, ArgMatches, Command, Error};
 use std::alloc::{AllocError, Global};
 
-const VERSION: &str = "2.0.0";
+const VERSION: &str = "3.0.0-dev";
 
 const ABOUT: &str =
     "Shows why packets pass or fail a classic BPF filter; assembles and debugs filters";
@@ -51,29 +52,12 @@ const ASM_EXAMPLES: &str = "Examples:
 
 const DBG_ABOUT: &str = "Runs a debugger's commands, and writes their replies";
 
-const DBG_EXAMPLES: &str = "Commands, one a line, without short forms; numbers are decimal:
-  load bpf WORDS      load a program and check it; WORDS are what cbpf asm
-                      prints, or the lines of tcpdump -ddd joined by commas
-  load pcap FILE      load a capture (pcap, not pcapng)
-  disassemble         list the program; l3 is instruction 3
-  dump                print the program as initializers of a C array
-  breakpoint N        set a breakpoint at instruction N
-  breakpoint N a V    the same, but stop there only where A is V
-  breakpoint N x V    the same, but stop there only where X is V
-  breakpoint          list the breakpoints
-  breakpoint reset    delete all breakpoints
-  delete N            delete the breakpoint at instruction N
-  run [N]             go on to the next stop, over N packets at most, or else
-                      to the end; print how many packets passed and failed
-  step [N]            go on by N instructions (1), over packets too
-  step -N             go back by N instructions, within the packet
-  select N            go before packet N, counted from 1, and count from there
-  mark                print the place: PACKET STEP
-  resume PACKET STEP  go to a place, and count from its packet
-  stops               list all stops ahead, and move nothing
-  value EXT N         let loads of the extension EXT give N; go before the
-                      current packet, and count from there
-  quit                end; so does the end of the commands (Ctrl-D)
+macro_rules! help {
+    (; $($name:literal => $read:ident($($command:expr)?), $help:literal;)*) => {
+        concat!(
+            "Commands, one a line, without short forms; numbers are decimal:",
+            $($help,)*
+            "
 
 A run stops at breakpoints, and before a load of an extension without a value.
 EXT is proto, type, ifidx, mark, queue, hatype, rxhash, cpu, vlan_tci,
@@ -89,7 +73,12 @@ Examples:
   Run the commands in a file:
     $ cbpf dbg session.dbg
   Write the replies to a file:
-    $ cbpf dbg session.dbg replies.txt";
+    $ cbpf dbg session.dbg replies.txt"
+        )
+    };
+}
+
+const DBG_EXAMPLES: &str = each_command!(help);
 
 const SOURCE: &str = "The source [default: standard input]";
 

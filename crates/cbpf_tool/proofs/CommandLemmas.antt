@@ -41,7 +41,7 @@ none-named (row ∷ rows) w n h =
 pub unknown : (w : List ℕ) (ws : List (List ℕ)) (text : List ℕ) → (IsUtf8 w → ⊥)
     → Err UnknownCommand ≡ by_name w ws text
 unknown w ws text n =
-    rw (no-name w (codes "load") n refl, no-name w (codes "quit") n refl, none-named readings w n refl) refl
+    rw (none-named readings w n refl) refl
 
 pub name-good : (s : List ℕ) → (length s ≡ 0 → ⊥) → IsUtf8 s → name_in s ≡ Some (LoadCapture s)
 name-good [] n h = absurd (n refl)

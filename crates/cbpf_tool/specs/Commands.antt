@@ -11,15 +11,14 @@ use Rattle.cbpf_reply.specs.declared.errors.CommandFault.{CommandFault}
 use Rattle.cbpf_reply.specs.declared.errors.CommandFault.TheVariants.{UnknownCommand, WrongArguments}
 use Rattle.cbpf_tool.specs.declared.command.Command.{Command}
 use Rattle.cbpf_tool.specs.declared.command.Command.TheVariants.{LoadWords, LoadCapture, Session, Quit}
-use Rattle.cbpf_tool.specs.declared.command.SessionCommand.{SessionCommand}
 use Rattle.cbpf_tool.specs.declared.command.SessionCommand.TheVariants.{Run, Disassemble, Dump, Breakpoint}
 use Rattle.cbpf_tool.specs.declared.command.SessionCommand.TheVariants.{Breakpoints, ResetBreakpoints, Delete, Step}
 use Rattle.cbpf_tool.specs.declared.command.SessionCommand.TheVariants.{Select, Mark, Resume, Stops, Value}
 
 -- a command without arguments
-abbrev pub without_arguments : SessionCommand → List (List ℕ) → Option SessionCommand
-without_arguments c [] = Some c
-without_arguments c (w ∷ ws) = None
+abbrev pub alone : Command → List (List ℕ) → Option Command
+alone c [] = Some c
+alone c (w ∷ ws) = None
 
 -- one number of 64 bits, and no more
 abbrev pub sole_number : List (List ℕ) → Option ℕ
@@ -33,9 +32,9 @@ by_both f (Some x) None = None
 by_both f None y = None
 
 -- how many packets at most; without a number there is no limit
-abbrev pub run_by : List (List ℕ) → Option SessionCommand
-run_by [] = Some (Run None)
-run_by (w ∷ []) = option_map (λ n. Run (Some n)) (number_up_to (2 ^ 64 - 1) w)
+abbrev pub run_by : List (List ℕ) → Option Command
+run_by [] = Some (Session (Run None))
+run_by (w ∷ []) = option_map (λ n. Session (Run (Some n))) (number_up_to (2 ^ 64 - 1) w)
 run_by _ = None
 
 -- by the name of a register: a is the accumulator, x the index register
@@ -47,60 +46,37 @@ condition_by r None = None
 condition_by r (Some v) = condition r v
 
 -- an instruction's number of 64 bits, and a register's value of 32
-abbrev pub breakpoint_by : List (List ℕ) → Option SessionCommand
-breakpoint_by [] = Some Breakpoints
+abbrev pub breakpoint_by : List (List ℕ) → Option Command
+breakpoint_by [] = Some (Session Breakpoints)
 breakpoint_by (w ∷ []) =
-    if bytes_eq w (codes "reset") then Some ResetBreakpoints
-    else option_map (λ n. Breakpoint n Always) (number_up_to (2 ^ 64 - 1) w)
-breakpoint_by (n ∷ r ∷ v ∷ []) = by_both Breakpoint (number_up_to (2 ^ 64 - 1) n)
+    if bytes_eq w (codes "reset") then Some (Session ResetBreakpoints)
+    else option_map (λ n. Session (Breakpoint n Always)) (number_up_to (2 ^ 64 - 1) w)
+breakpoint_by (n ∷ r ∷ v ∷ []) = by_both (λ i when. Session (Breakpoint i when)) (number_up_to (2 ^ 64 - 1) n)
     (condition_by r (number_up_to (2 ^ 32 - 1) v))
 breakpoint_by _ = None
 
-abbrev pub delete_by : List (List ℕ) → Option SessionCommand
-delete_by ws = option_map Delete (sole_number ws)
+abbrev pub delete_by : List (List ℕ) → Option Command
+delete_by ws = option_map (λ n. Session (Delete n)) (sole_number ws)
 
 -- how many instructions, forward or back; without a number it is one
-abbrev pub step_by : List (List ℕ) → Option SessionCommand
-step_by [] = Some (Step (pos 1))
-step_by (w ∷ []) = option_map Step (signed_number (2 ^ 63 - 1) w)
+abbrev pub step_by : List (List ℕ) → Option Command
+step_by [] = Some (Session (Step (pos 1)))
+step_by (w ∷ []) = option_map (λ n. Session (Step n)) (signed_number (2 ^ 63 - 1) w)
 step_by _ = None
 
-abbrev pub select_by : List (List ℕ) → Option SessionCommand
-select_by ws = option_map Select (sole_number ws)
+abbrev pub select_by : List (List ℕ) → Option Command
+select_by ws = option_map (λ n. Session (Select n)) (sole_number ws)
 
 -- a packet's number of 64 bits, and a step of 32
-abbrev pub resume_by : List (List ℕ) → Option SessionCommand
-resume_by (p ∷ s ∷ []) = by_both (λ packet n. Resume (record { packet = packet; step = n }))
+abbrev pub resume_by : List (List ℕ) → Option Command
+resume_by (p ∷ s ∷ []) = by_both (λ packet n. Session (Resume (record { packet = packet; step = n })))
     (number_up_to (2 ^ 64 - 1) p) (number_up_to (2 ^ 32 - 1) s)
 resume_by _ = None
 
 -- an extension's name, and a number of 32 bits
-abbrev pub value_by : List (List ℕ) → Option SessionCommand
-value_by (name ∷ n ∷ []) = by_both Value (ext_named name) (number_up_to (2 ^ 32 - 1) n)
+abbrev pub value_by : List (List ℕ) → Option Command
+value_by (name ∷ n ∷ []) = by_both (λ e v. Session (Value e v)) (ext_named name) (number_up_to (2 ^ 32 - 1) n)
 value_by _ = None
-
--- the commands of the session by their names, and how each reads the words after its name
-abbrev pub ReadsArguments : Type 0
-ReadsArguments = List (List ℕ) → Option SessionCommand
-
-abbrev pub readings : List (List ℕ × ReadsArguments)
-readings =
-    (codes "run", run_by)
-    ∷ (codes "disassemble", without_arguments Disassemble)
-    ∷ (codes "dump", without_arguments Dump)
-    ∷ (codes "breakpoint", breakpoint_by)
-    ∷ (codes "delete", delete_by)
-    ∷ (codes "step", step_by)
-    ∷ (codes "select", select_by)
-    ∷ (codes "mark", without_arguments Mark)
-    ∷ (codes "resume", resume_by)
-    ∷ (codes "stops", without_arguments Stops)
-    ∷ (codes "value", value_by)
-    ∷ []
-
-abbrev pub reading_in : List (List ℕ × ReadsArguments) → List ℕ → Option ReadsArguments
-reading_in [] w = None
-reading_in (row ∷ rows) w = if bytes_eq w row.0 then Some row.1 else reading_in rows w
 
 -- a word text is not empty
 abbrev pub words_in : List ℕ → Option Command
@@ -118,27 +94,43 @@ load_by [] text = None
 load_by (w ∷ ws) text =
     if bytes_eq w (codes "bpf") then words_in text else (if bytes_eq w (codes "pcap") then name_in text else None)
 
-abbrev pub quit_by : List (List ℕ) → Option Command
-quit_by [] = Some Quit
-quit_by (w ∷ ws) = None
+-- how a command reads the words after its name, and the text after the first of them
+abbrev pub ReadsArguments : Type 0
+ReadsArguments = List (List ℕ) → List ℕ → Option Command
+
+-- the commands by their names
+abbrev pub readings : List (List ℕ × ReadsArguments)
+readings =
+    (codes "load", load_by)
+    ∷ (codes "disassemble", λ ws text. alone (Session Disassemble) ws)
+    ∷ (codes "dump", λ ws text. alone (Session Dump) ws)
+    ∷ (codes "breakpoint", λ ws text. breakpoint_by ws)
+    ∷ (codes "delete", λ ws text. delete_by ws)
+    ∷ (codes "run", λ ws text. run_by ws)
+    ∷ (codes "step", λ ws text. step_by ws)
+    ∷ (codes "select", λ ws text. select_by ws)
+    ∷ (codes "mark", λ ws text. alone (Session Mark) ws)
+    ∷ (codes "resume", λ ws text. resume_by ws)
+    ∷ (codes "stops", λ ws text. alone (Session Stops) ws)
+    ∷ (codes "value", λ ws text. value_by ws)
+    ∷ (codes "quit", λ ws text. alone Quit ws)
+    ∷ []
+
+abbrev pub reading_in : List (List ℕ × ReadsArguments) → List ℕ → Option ReadsArguments
+reading_in [] w = None
+reading_in (row ∷ rows) w = if bytes_eq w row.0 then Some row.1 else reading_in rows w
 
 abbrev pub or_wrong : Option Command → Result (Option Command) CommandFault
 or_wrong None = Err WrongArguments
 or_wrong (Some c) = Ok (Some c)
 
-abbrev pub session_or_wrong : Option SessionCommand → Result (Option Command) CommandFault
-session_or_wrong None = Err WrongArguments
-session_or_wrong (Some c) = Ok (Some (Session c))
-
-abbrev pub by_reading : Option ReadsArguments → List (List ℕ) → Result (Option Command) CommandFault
-by_reading None ws = Err UnknownCommand
-by_reading (Some read) ws = session_or_wrong (read ws)
+abbrev pub by_reading : Option ReadsArguments → List (List ℕ) → List ℕ → Result (Option Command) CommandFault
+by_reading None ws text = Err UnknownCommand
+by_reading (Some read) ws text = or_wrong (read ws text)
 
 -- by the first word, the words after it, and what stands after the first of these, without the blanks around it
 abbrev pub by_name : List ℕ → List (List ℕ) → List ℕ → Result (Option Command) CommandFault
-by_name w ws text =
-    if bytes_eq w (codes "load") then or_wrong (load_by ws text)
-    else (if bytes_eq w (codes "quit") then or_wrong (quit_by ws) else by_reading (reading_in readings w) ws)
+by_name w ws text = by_reading (reading_in readings w) ws text
 
 abbrev pub by_words : List (List ℕ) → List ℕ → Result (Option Command) CommandFault
 by_words [] text = Ok None

@@ -1,14 +1,16 @@
-// Commands, and how lines spell them.
-ghost use Rattle.std.specs.Prelude.{◌≡◌, ℕ, List, [], ◌∷◌};
+//! Commands, and how lines spell them.
+
+ghost use Rattle.std.specs.Prelude.{◌≡◌, [], ◌∷◌};
 ghost use Rattle.cbpf_tool.specs.Commands as spec;
 ghost use Rattle.cbpf_tool.specs.LineWords.{words_of, after_words, trimmed};
-ghost use Rattle.cbpf_tool.specs.Arguments.{AreArguments};
 
 use crate::arguments::{Arguments, arguments_in};
+use crate::command::Command::Session;
 use crate::lent::{FileName, Text};
 use crate::line_words::{next_word, trimmed};
 use crate::number::{number_32, number_up_to, signed_number};
 use cbpf_code::{Ext, ext_named};
+use cbpf_command_line::each_command;
 use cbpf_dbg::{Place, When};
 use cbpf_reply::CommandFault;
 use std::str::from_utf8;
@@ -59,64 +61,58 @@ pub enum SessionCommand {
 }
 
 /// A command that has no arguments, if there are none.
-fn without_arguments(arguments: Arguments<'_>, command: SessionCommand) -> Option<SessionCommand>
-    ensures { (ws : List (List ℕ)) → AreArguments ws arguments.entry → result ≡ spec.without_arguments command ws }
+fn alone<'a>(text: &[u8], command: Command<'a>) -> Option<Command<'a>>
+    ensures { result ≡ spec.alone command.entry (words_of text.now) }
 {
-    match arguments {
+    match arguments_in(text) {
         Arguments::Zero => Some(command),
         _ => None,
     }
 }
 
-fn quit_by(arguments: Arguments<'_>) -> Option<Command<'_>>
-    ensures { (ws : List (List ℕ)) → AreArguments ws arguments.entry → result ≡ spec.quit_by ws }
-{
-    match arguments {
-        Arguments::Zero => Some(Command::Quit),
-        _ => None,
-    }
-}
-
 /// The one argument, a number.
-fn sole_number(arguments: Arguments<'_>) -> Option<u64>
-    ensures { (ws : List (List ℕ)) → AreArguments ws arguments.entry → result ≡ spec.sole_number ws }
+fn sole_number(text: &[u8]) -> Option<u64>
+    ensures { result ≡ spec.sole_number (words_of text.now) }
 {
-    match arguments {
+    match arguments_in(text) {
         Arguments::One(word) => number_up_to(word, u64::MAX),
         _ => None,
     }
 }
 
-fn run_by(arguments: Arguments<'_>) -> Option<SessionCommand>
-    ensures { (ws : List (List ℕ)) → AreArguments ws arguments.entry → result ≡ spec.run_by ws }
+fn run_by(text: &[u8]) -> Option<Command<'_>>
+    ensures { result ≡ spec.run_by (words_of text.now) }
 {
-    match arguments {
-        Arguments::Zero => Some(SessionCommand::Run(None)),
-        Arguments::One(word) => Some(SessionCommand::Run(Some(number_up_to(word, u64::MAX)?))),
+    match arguments_in(text) {
+        Arguments::Zero => Some(Session(SessionCommand::Run(None))),
+        Arguments::One(word) => Some(Session(SessionCommand::Run(Some(number_up_to(
+            word,
+            u64::MAX,
+        )?)))),
         _ => None,
     }
 }
 
 /// `reset`, or the instruction of a breakpoint.
-fn reset_or_breakpoint(word: &[u8]) -> Option<SessionCommand>
+fn reset_or_breakpoint(word: &[u8]) -> Option<Command<'_>>
     ensures { result ≡ spec.breakpoint_by (word.now ∷ []) }
 {
     match word {
-        b"reset" => Some(SessionCommand::ResetBreakpoints),
-        _ => Some(SessionCommand::Breakpoint(number_up_to(word, u64::MAX)?, When::Always)),
+        b"reset" => Some(Session(SessionCommand::ResetBreakpoints)),
+        _ => Some(Session(SessionCommand::Breakpoint(number_up_to(word, u64::MAX)?, When::Always))),
     }
 }
 
-fn breakpoint_by(arguments: Arguments<'_>) -> Option<SessionCommand>
-    ensures { (ws : List (List ℕ)) → AreArguments ws arguments.entry → result ≡ spec.breakpoint_by ws }
+fn breakpoint_by(text: &[u8]) -> Option<Command<'_>>
+    ensures { result ≡ spec.breakpoint_by (words_of text.now) }
 {
-    match arguments {
-        Arguments::Zero => Some(SessionCommand::Breakpoints),
+    match arguments_in(text) {
+        Arguments::Zero => Some(Session(SessionCommand::Breakpoints)),
         Arguments::One(word) => reset_or_breakpoint(word),
-        Arguments::Three(n, register, v) => Some(SessionCommand::Breakpoint(
+        Arguments::Three(n, register, v) => Some(Session(SessionCommand::Breakpoint(
             number_up_to(n, u64::MAX)?,
             condition(register, number_32(v)?)?,
-        )),
+        ))),
         _ => None,
     }
 }
@@ -132,45 +128,48 @@ fn condition(register: &[u8], v: u32) -> Option<When>
     }
 }
 
-fn delete_by(arguments: Arguments<'_>) -> Option<SessionCommand>
-    ensures { (ws : List (List ℕ)) → AreArguments ws arguments.entry → result ≡ spec.delete_by ws }
+fn delete_by(text: &[u8]) -> Option<Command<'_>>
+    ensures { result ≡ spec.delete_by (words_of text.now) }
 {
-    Some(SessionCommand::Delete(sole_number(arguments)?))
+    Some(Session(SessionCommand::Delete(sole_number(text)?)))
 }
 
-fn step_by(arguments: Arguments<'_>) -> Option<SessionCommand>
-    ensures { (ws : List (List ℕ)) → AreArguments ws arguments.entry → result ≡ spec.step_by ws }
+fn step_by(text: &[u8]) -> Option<Command<'_>>
+    ensures { result ≡ spec.step_by (words_of text.now) }
 {
-    match arguments {
-        Arguments::Zero => Some(SessionCommand::Step(1)),
-        Arguments::One(word) => Some(SessionCommand::Step(signed_number(word)?)),
+    match arguments_in(text) {
+        Arguments::Zero => Some(Session(SessionCommand::Step(1))),
+        Arguments::One(word) => Some(Session(SessionCommand::Step(signed_number(word)?))),
         _ => None,
     }
 }
 
-fn select_by(arguments: Arguments<'_>) -> Option<SessionCommand>
-    ensures { (ws : List (List ℕ)) → AreArguments ws arguments.entry → result ≡ spec.select_by ws }
+fn select_by(text: &[u8]) -> Option<Command<'_>>
+    ensures { result ≡ spec.select_by (words_of text.now) }
 {
-    Some(SessionCommand::Select(sole_number(arguments)?))
+    Some(Session(SessionCommand::Select(sole_number(text)?)))
 }
 
-fn resume_by(arguments: Arguments<'_>) -> Option<SessionCommand>
-    ensures { (ws : List (List ℕ)) → AreArguments ws arguments.entry → result ≡ spec.resume_by ws }
+fn resume_by(text: &[u8]) -> Option<Command<'_>>
+    ensures { result ≡ spec.resume_by (words_of text.now) }
 {
-    match arguments {
-        Arguments::Two(packet, step) => Some(SessionCommand::Resume(Place {
+    match arguments_in(text) {
+        Arguments::Two(packet, step) => Some(Session(SessionCommand::Resume(Place {
             packet: number_up_to(packet, u64::MAX)?,
             step: number_32(step)?,
-        })),
+        }))),
         _ => None,
     }
 }
 
-fn value_by(arguments: Arguments<'_>) -> Option<SessionCommand>
-    ensures { (ws : List (List ℕ)) → AreArguments ws arguments.entry → result ≡ spec.value_by ws }
+fn value_by(text: &[u8]) -> Option<Command<'_>>
+    ensures { result ≡ spec.value_by (words_of text.now) }
 {
-    match arguments {
-        Arguments::Two(name, n) => Some(SessionCommand::Value(ext_named(name)?, number_32(n)?)),
+    match arguments_in(text) {
+        Arguments::Two(name, n) => Some(Session(SessionCommand::Value(
+            ext_named(name)?,
+            number_32(n)?,
+        ))),
         _ => None,
     }
 }
@@ -207,7 +206,7 @@ fn load_by(text: &[u8]) -> Option<Command<'_>>
     }
 }
 
-/// What the arguments spell, or that they are wrong.
+/// What the rest of a line spells, or that it is wrong.
 fn or_wrong(command: Option<Command<'_>>) -> Result<Option<Command<'_>>, CommandFault>
     ensures { result ≡ spec.or_wrong command.entry }
 {
@@ -217,16 +216,13 @@ fn or_wrong(command: Option<Command<'_>>) -> Result<Option<Command<'_>>, Command
     }
 }
 
-/// The same of a command of the session.
-fn session_or_wrong<'a>(
-    command: Option<SessionCommand>,
-) -> Result<Option<Command<'a>>, CommandFault>
-    ensures { result ≡ spec.session_or_wrong command }
-{
-    match command {
-        Some(command) => Ok(Some(Command::Session(command))),
-        None => Err(CommandFault::WrongArguments),
-    }
+macro_rules! read_by_name {
+    ($name:ident, $text:ident; $($word:literal => $read:ident($($command:expr)?), $help:literal;)*) => {
+        match $name {
+            $($word => or_wrong($read($text $(, $command)?)),)*
+            _ => Err(CommandFault::UnknownCommand),
+        }
+    };
 }
 
 /// The command of this name with what stands after it. Each command's name is ASCII, so a word that isn't UTF-8 is none.
@@ -244,24 +240,7 @@ fn command_by<'a>(name: &[u8], text: &'a [u8]) -> Result<Option<Command<'a>>, Co
 fn command_named<'a>(name: &str, text: &'a [u8]) -> Result<Option<Command<'a>>, CommandFault>
     ensures { result ≡ spec.by_name name.now (words_of text.now) (trimmed (after_words 1 text.now)) }
 {
-    let arguments = arguments_in(text);
-    let command = match name {
-        "load" => return or_wrong(load_by(text)),
-        "quit" => return or_wrong(quit_by(arguments)),
-        "run" => run_by(arguments),
-        "disassemble" => without_arguments(arguments, SessionCommand::Disassemble),
-        "dump" => without_arguments(arguments, SessionCommand::Dump),
-        "breakpoint" => breakpoint_by(arguments),
-        "delete" => delete_by(arguments),
-        "step" => step_by(arguments),
-        "select" => select_by(arguments),
-        "mark" => without_arguments(arguments, SessionCommand::Mark),
-        "resume" => resume_by(arguments),
-        "stops" => without_arguments(arguments, SessionCommand::Stops),
-        "value" => value_by(arguments),
-        _ => return Err(CommandFault::UnknownCommand),
-    };
-    session_or_wrong(command)
+    each_command!(read_by_name name, text)
 }
 
 /// The command that a line spells; `None` for a line without words. Words are separated by blanks,
