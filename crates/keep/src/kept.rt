@@ -29,7 +29,7 @@ pub fn go_back<T: Trail, A: Allocator>(
     stop: &Stop,
 ) -> Result<Stop, SessionFault>
     requires { CanReturn session.old stop.now }
-    ensures same { IfOk result (λ again. again ≡ stop.now) }
+    ensures same { result ≡ Ok stop.now }
     ensures moved { IsMoved session.old session.new }
 {
     session.resume(&mut Meter::new(), stop.place)?;

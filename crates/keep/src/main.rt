@@ -53,10 +53,7 @@ fn show_stops<R: Env + Files + Print + AllocGlobal>(rt: &R) -> Result<(), Fault>
     let (Some(filter), Some(file)) = (words.next(), words.next()) else {
         return Err(Fault::Usage);
     };
-    let capture = match Capture::from_bytes(alloc, fs::read(rt, file.as_str())?) {
-        Ok(capture) => capture,
-        Err((fault, _)) => return Err(Fault::from(fault)),
-    };
+    let capture = Capture::new(alloc, fs::read(rt, file.as_str())?)?;
     let mut session = Session::new(alloc, MarkTrail::new());
     session.load_program(program_of(alloc, fs::read(rt, filter.as_str())?)?);
     session.load_capture(capture);

@@ -34,10 +34,7 @@ fn print_numbers<R: Env + Files + Print + AllocGlobal>(rt: &R) -> Result<(), Fau
         return Err(Fault::Usage);
     };
     let program = program_of(alloc, fs::read(rt, filter.as_str())?)?;
-    let capture = match Capture::from_bytes(alloc, fs::read(rt, file.as_str())?) {
-        Ok(capture) => capture,
-        Err((fault, _)) => return Err(Fault::from(fault)),
-    };
+    let capture = Capture::new(alloc, fs::read(rt, file.as_str())?)?;
     for number in passing(alloc, &program, &capture)?.iter() {
         println!(rt; "{number}")?;
     }
