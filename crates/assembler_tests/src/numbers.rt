@@ -1,4 +1,5 @@
-// Numbers of each length, and many parts: beside digits that are worked out here.
+//! Numbers of each length, and many parts: beside digits that are worked out here.
+
 ghost use Rattle.std.specs.Prelude.{◌≤◌};
 
 use crate::assertions::Test;

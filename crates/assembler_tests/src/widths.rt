@@ -1,4 +1,5 @@
-// Instructions with fields of each width, as words and in C, beside texts of the writers of numbers.
+//! Instructions with fields of each width, as words and in C, beside texts of the writers of numbers.
+
 use crate::assertions::{Test, assert_of};
 use crate::lists::{Fields, list_of};
 use cbpf_code::{WriteFault, write_bytes, write_c, write_decimal, write_hex, write_words};

@@ -1,4 +1,5 @@
-// Finds the tokens of a text one after another.
+//! Finds the tokens of a text one after another.
+
 ghost use Rattle.std.specs.Prelude.{◌≡◌, ◌≢◌, ◌+◌, ◌<◌, ◌≤◌, ◌^◌, ℕ, min, take, length, slice_index, true, false};
 ghost use Rattle.std.specs.Prelude.{List, [], ◌∷◌, ◌++◌, MatchOption};
 ghost use Rattle.std.specs.List.{AllByRecursion, prefix_len};

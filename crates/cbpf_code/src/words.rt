@@ -1,4 +1,5 @@
-// Reads word text, as `tcpdump -ddd` and `bpf_asm` print it.
+//! Reads word text, as `tcpdump -ddd` and `bpf_asm` print it.
+
 ghost use Rattle.std.specs.Prelude.{◌≡◌, ◌<◌, ◌≤◌, ◌^◌, ◌↔◌, ℕ, length, [], ◌∷◌, IsTrue, IfOk, MatchResult, None};
 ghost use Rattle.std.specs.Prelude.{List, ◌≢◌, ◌⊎◌, Some};
 ghost use Rattle.cbpf_code.specs.Messages.{message_text, word_message};

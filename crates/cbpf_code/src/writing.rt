@@ -1,4 +1,4 @@
-// Texts go to a writer by these calls alone.
+//! Texts go to a writer by these calls alone.
 
 ghost use Rattle.std.specs.Prelude.{◌≤◌, decimal, ◌≡◌, ◌+◌, ◌++◌, [], length};
 ghost use Rattle.std.specs.List.{flat_map};

@@ -1,4 +1,4 @@
-// The dump of a stop.
+//! The dump of a stop.
 
 ghost use Rattle.std.specs.Prelude.{◌≡◌, ◌<◌, ◌≤◌, ◌+◌, ◌++◌, length};
 ghost use Rattle.cbpf_code.specs.Writing.{Wrote};

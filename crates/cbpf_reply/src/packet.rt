@@ -1,4 +1,5 @@
-// The packet's bytes.
+//! The packet's bytes.
+
 #![tactic(auto, using(crate::proofs::RowLemmas::rows))]
 
 ghost use Rattle.std.specs.Prelude.{◌≡◌, ◌≤◌, ◌+◌, ◌-◌, ◌++◌, [], length};

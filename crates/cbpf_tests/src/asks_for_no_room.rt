@@ -1,4 +1,5 @@
-// Calls that ask an allocator for nothing, though what they are given holds one. Writers get a slice, or a `Program`, which lends none.
+//! Calls that ask an allocator for nothing, though what they are given holds one. Writers get a slice, or a `Program`, which lends none.
+
 use crate::assertions::Test;
 use crate::fault_injection::{Fault, FaultyAllocator, FaultyWriter};
 use crate::inputs::{ICMP_WORDS, STRAIGHT, program_of, session_of, two_packets};

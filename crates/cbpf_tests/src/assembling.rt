@@ -1,4 +1,5 @@
-// The assembler over readers, flushes and allocators that fail at one call.
+//! The assembler over readers, flushes and allocators that fail at one call.
+
 use crate::assertions::{Test, assert_named};
 use crate::fault_injection::{ERROR_KINDS, Fault, FaultyAllocator, FaultyReader, FaultyWriter};
 use crate::inputs::{ARP, ARP_C, ARP_WORDS};

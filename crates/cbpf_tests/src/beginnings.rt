@@ -1,4 +1,5 @@
-// Each beginning of a source, with its number of instructions or its refusal.
+//! Each beginning of a source, with its number of instructions or its refusal.
+
 use crate::assertions::{Test, assert_at};
 use cbpf_text::{AsmFault, AsmKind, assemble};
 use std::alloc::Global;

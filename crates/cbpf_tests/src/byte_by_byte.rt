@@ -1,4 +1,5 @@
-// Sources and scripts of 700,000 bytes and more, of which each read gives one.
+//! Sources and scripts of 700,000 bytes and more, of which each read gives one.
+
 use crate::assertions::Test;
 use crate::fault_injection::FaultyReader;
 use crate::inputs::repeated;

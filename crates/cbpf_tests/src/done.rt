@@ -1,4 +1,5 @@
-// What a machine in memory writes into its log. It stands in no test, as specs/Events.antt cites it.
+//! What a machine in memory writes into its log. It stands in no test, as specs/Events.antt cites it.
+
 /// What was done with the machine: names, and the text of an output.
 #[derive(Drop)]
 pub(crate) enum Done {

@@ -1,4 +1,5 @@
-// Files of which a load fails.
+//! Files of which a load fails.
+
 use crate::assertions::{Test, assert_at};
 use crate::fault_injection::{Fault, FaultyWriter};
 use crate::inputs::two_packets_as_k;

@@ -1,4 +1,5 @@
-// A reader that gives a few bytes a call, and fails at one call.
+//! A reader that gives a few bytes a call, and fails at one call.
+
 use crate::assertions::{Test, assert_named};
 use crate::fault_injection::{ERROR_KINDS, Fault, FaultyReader, FaultyWriter};
 use crate::inputs::{ARP_SCRIPT, ARP_SCRIPT_REPLIES};

@@ -1,4 +1,5 @@
-// The calls that write, over writers that take one byte a call, and fail or take nothing at one call.
+//! The calls that write, over writers that take one byte a call, and fail or take nothing at one call.
+
 use crate::assertions::{Test, assert_named};
 use crate::fault_injection::{Fault, FaultyWriter};
 use crate::inputs::{

@@ -1,5 +1,6 @@
-// What was asked for of an allocator is given back: by loads that take the place of others, by refused loads,
-// by breakpoints that are set and taken out, and by what is dropped.
+//! What was asked for of an allocator is given back: by loads that take the place of others, by refused loads,
+//! by breakpoints that are set and taken out, and by what is dropped.
+
 use crate::assertions::{Test, assert_named};
 use crate::fault_injection::{Fault, FaultyAllocator, FaultyWriter};
 use crate::inputs::{

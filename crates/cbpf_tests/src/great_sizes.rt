@@ -1,4 +1,5 @@
-// Calls at sizes near their greatest sensible ones, with memory at hand, which no script of the program makes.
+//! Calls at sizes near their greatest sensible ones, with memory at hand, which no script of the program makes.
+
 ghost use Rattle.std.specs.Prelude.{◌<◌};
 
 use crate::assertions::{Test, assert_named};

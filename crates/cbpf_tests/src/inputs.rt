@@ -1,4 +1,5 @@
-// Sources, programs, captures and files that several tests load.
+//! Sources, programs, captures and files that several tests load.
+
 use crate::assertions::Test;
 use cbpf_code::{Program, check, read_words};
 use cbpf_dbg::{MarkTrail, Session};

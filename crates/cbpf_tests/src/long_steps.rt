@@ -1,5 +1,6 @@
-// A long step goes over whole packets without keeping their entries, which no clause says. It is counted, as time
-// would depend on the machine.
+//! A long step goes over whole packets without keeping their entries, which no clause says. It is counted, as time
+//! would depend on the machine.
+
 use crate::assertions::Test;
 use crate::inputs::{HEADER, RECORD, STRAIGHT, program_of, repeated};
 use crate::outsiders::counting_trail;

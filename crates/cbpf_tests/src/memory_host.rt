@@ -1,4 +1,5 @@
-// A machine in memory that says what it holds, and the jobs over it.
+//! A machine in memory that says what it holds, and the jobs over it.
+
 ghost use Rattle.std.specs.Prelude.{◌≡◌, ◌++◌, ◌∷◌, [], List, ℕ, map, true, Some, MatchOption, None};
 ghost use Rattle.std.specs.FinMap as finmap;
 ghost use Rattle.cbpf_tool.specs.FileMap.{files_of, known_source};

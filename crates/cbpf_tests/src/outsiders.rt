@@ -1,5 +1,6 @@
-// Types of an outsider, who writes no more than a trait asks: a trail of `clear`, `push` and `back` alone, and a source of
-// files whose count of failures rises by two.
+//! Types of an outsider, who writes no more than a trait asks: a trail of `clear`, `push` and `back` alone, and a source of
+//! files whose count of failures rises by two.
+
 use crate::assertions::Test;
 use cbpf_code::Program;
 use cbpf_dbg::{ListTrail, Trail};

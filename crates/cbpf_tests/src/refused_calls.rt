@@ -1,4 +1,5 @@
-// Calls of which each growth is refused, one after another, and which run out of memory only then.
+//! Calls of which each growth is refused, one after another, and which run out of memory only then.
+
 use crate::assertions::{Test, assert_named};
 use crate::fault_injection::FaultyAllocator;
 use crate::inputs::{

@@ -1,4 +1,5 @@
-// Scripts of which each growth is refused, one after another.
+//! Scripts of which each growth is refused, one after another.
+
 use crate::assertions::{Test, assert_named};
 use crate::fault_injection::{Fault, FaultyAllocator, FaultyWriter};
 use crate::inputs::two_packets_as_k;

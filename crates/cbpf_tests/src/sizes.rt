@@ -1,4 +1,5 @@
-// Large inputs: thousands of records, instructions, tokens and breakpoints, with memory at hand.
+//! Large inputs: thousands of records, instructions, tokens and breakpoints, with memory at hand.
+
 use crate::assertions::{Test, assert_named};
 use crate::fault_injection::FaultyReader;
 use crate::inputs::{HEADER, RECORD, program_of, repeated};

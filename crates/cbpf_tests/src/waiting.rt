@@ -1,6 +1,7 @@
-// A reader and a writer that share a count. The writer is flushed before each line that isn't read yet, before each
-// command that may take long, and at the end. By then the replies so far are written, and after a flush that fails
-// nothing is read and nothing is written.
+//! A reader and a writer that share a count. The writer is flushed before each line that isn't read yet, before each
+//! command that may take long, and at the end. By then the replies so far are written, and after a flush that fails
+//! nothing is read and nothing is written.
+
 use crate::assertions::{Test, assert_named};
 use crate::fault_injection::ERROR_KINDS;
 use crate::inputs::two_packets_as_k;

@@ -1,4 +1,5 @@
-// The words after a command's first one.
+//! The words after a command's first one.
+
 ghost use Rattle.cbpf_tool.specs.LineWords.{words_of};
 ghost use Rattle.cbpf_tool.specs.Arguments.{AreArguments};
 

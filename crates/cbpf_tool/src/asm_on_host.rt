@@ -1,4 +1,5 @@
-// The job `asm`.
+//! The job `asm`.
+
 ghost use Rattle.std.specs.Prelude.{◌≡◌, ℕ, List, [], Some, string_bytes};
 ghost use Rattle.std.specs.Option.{option_map};
 ghost use Rattle.cbpf_tool.specs.Hosted.{IsReady, printed, without_output};

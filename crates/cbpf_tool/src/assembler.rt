@@ -1,4 +1,5 @@
-// Assembles what a reader gives.
+//! Assembles what a reader gives.
+
 ghost use Rattle.std.specs.Prelude.{◌≡◌, ℕ, List, [], Some, IfOk, IfErr, OnOk};
 ghost use Rattle.std.specs.Io.KnownBytes.{IsAtEnd};
 ghost use Rattle.cbpf_code.specs.Writing.{Appended, Wrote};

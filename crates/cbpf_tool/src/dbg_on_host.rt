@@ -1,4 +1,5 @@
-// The job `dbg`.
+//! The job `dbg`.
+
 ghost use Rattle.std.specs.Prelude.{◌≡◌, ℕ, IsTrue, List, [], None, Some, string_bytes};
 ghost use Rattle.std.specs.Option.{option_map};
 ghost use Rattle.cbpf_tool.specs.Hosted.{IsReady, printed, without_output};

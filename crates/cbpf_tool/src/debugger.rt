@@ -1,4 +1,5 @@
-// Runs a script line by line.
+//! Runs a script line by line.
+
 ghost use Rattle.std.specs.Prelude.{◌≡◌, ℕ, List, [], Some, IsTrue, Ok};
 ghost use Rattle.cbpf_dbg.specs.View.{empty_view};
 ghost use Rattle.cbpf_tool.specs.Debugged.{Debugged};

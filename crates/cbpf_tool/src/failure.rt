@@ -1,4 +1,5 @@
-// Why a job ended before its end.
+//! Why a job ended before its end.
+
 ghost use Rattle.std.specs.Prelude.{◌≡◌};
 ghost use Rattle.cbpf_tool.specs.Jobs as spec;
 

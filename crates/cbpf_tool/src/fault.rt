@@ -1,4 +1,4 @@
-// Why the assembler or the debugger ends before its end.
+//! Why the assembler or the debugger ends before its end.
 
 use cbpf_text::AsmFault;
 use cbpf_why::WhyFault;

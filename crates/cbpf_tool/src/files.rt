@@ -1,4 +1,5 @@
-// Where the debugger's files come from.
+//! Where the debugger's files come from.
+
 ghost use Rattle.cbpf_tool.specs.FileMap.{Source};
 ghost use Rattle.cbpf_tool.specs.Loads.{Loads};
 

@@ -1,4 +1,5 @@
-// When replies go out.
+//! When replies go out.
+
 ghost use Rattle.std.specs.Prelude.{◌≡◌, IfErr};
 ghost use Rattle.std.specs.Io.KnownBytes.{Keeps};
 ghost use Rattle.cbpf_tool.specs.Flushing as spec;

@@ -1,4 +1,5 @@
-// What a job needs of the machine on which it runs.
+//! What a job needs of the machine on which it runs.
+
 ghost use Rattle.std.specs.Prelude.{◌≡◌, ℕ, IsTrue, List, [], ◌∷◌, Some, IfOk};
 ghost use Rattle.cbpf_tool.specs.FileMap.{known_source};
 ghost use Rattle.cbpf_tool.specs.Hosted.{Hosted, IsReady, and_then, without_input, without_output};

@@ -1,4 +1,5 @@
-// Texts that a command borrows from its line. Clauses see their bytes.
+//! Texts that a command borrows from its line. Clauses see their bytes.
+
 ghost use Rattle.std.specs.Prelude.{◌≡◌};
 
 use std::marker::Model;

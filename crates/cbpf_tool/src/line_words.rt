@@ -1,4 +1,5 @@
-// The words of a line.
+//! The words of a line.
+
 ghost use Rattle.std.specs.Prelude.{◌≡◌, ◌≤◌, ◌∷◌, ℕ, suc, drop, take, length, [], true, MatchOption, IfSome};
 ghost use Rattle.cbpf_tool.specs.LineWords as spec;
 

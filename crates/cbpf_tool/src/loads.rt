@@ -1,4 +1,5 @@
-// Loads of programs and captures into a session.
+//! Loads of programs and captures into a session.
+
 ghost use Rattle.std.specs.Prelude.{Some, Ok};
 ghost use Rattle.cbpf_code.specs.Writing.{Wrote};
 ghost use Rattle.cbpf_tool.specs.Progress.{Answered, Replied};

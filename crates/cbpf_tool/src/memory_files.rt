@@ -1,4 +1,5 @@
-// Files in memory.
+//! Files in memory.
+
 ghost use Rattle.std.specs.Prelude.{◌≡◌, ◌≤◌, ◌⊎◌, ◌↔◌, ◌-◌, Some, None, OnOk, OnErr, IfErr, MatchResult, Err};
 ghost use Rattle.std.specs.FinMap as finmap;
 ghost use Rattle.cbpf_tool.specs.InMemory.{source_of};

@@ -1,4 +1,5 @@
-// Numbers in a line.
+//! Numbers in a line.
+
 ghost use Rattle.std.specs.Prelude.{◌≡◌, ◌-◌, ◌^◌, pos, option_map};
 ghost use Rattle.cbpf_tool.specs.Numbers as spec;
 

@@ -1,4 +1,5 @@
-// What is said of a report on standard error.
+//! What is said of a report on standard error.
+
 ghost use Rattle.std.specs.Prelude.{◌≡◌, string_bytes};
 ghost use Rattle.std.specs.List.{flat_map};
 ghost use Rattle.std.specs.Option.{option_map};
@@ -157,8 +158,8 @@ fn write_lacking_lines<W: Write>(
 }
 
 /// Writes what is to be said of a report: a line for each range of packets of which the capture lacks something, in the
-/// ranges' order, and then a line that says where the capture is cut, if it is. Each line begins with `cbpf: ` and the
-/// name of the capture's file.
+/// ranges' order, and then a line that says where the capture is cut, if it is. Each line begins with `cbpf: `. The name of
+/// the capture's file follows, where the capture has one.
 ///
 /// # Errors
 ///

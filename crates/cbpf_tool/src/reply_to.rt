@@ -1,4 +1,5 @@
-// A command of the session is done, and its reply written.
+//! A command of the session is done, and its reply written.
+
 #![tactic(auto, using(crate::proofs::SessionReplyLemmas::replies))]
 
 ghost use Rattle.cbpf_code.specs.Writing.{Wrote};

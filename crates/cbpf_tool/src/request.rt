@@ -1,4 +1,5 @@
-// What a command line asks for, with `why`.
+//! What a command line asks for, with `why`.
+
 ghost use Rattle.std.specs.Prelude.{◌≡◌, ◌==◌, ◌<◌, [], length, position, map, filter_map, option_map, is_some};
 ghost use Rattle.std.specs.Prelude.{false, Some, None, IfSome, IfOk, IfErr, OnOk, MatchResult, IsPermutation};
 ghost use Rattle.cbpf_command_line.specs.CommandLine.{text_of, IsFaultOf, faults_in};

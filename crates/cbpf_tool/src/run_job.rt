@@ -1,4 +1,5 @@
-// What a command line asks for.
+//! What a command line asks for.
+
 ghost use Rattle.std.specs.Prelude.{◌≡◌};
 ghost use Rattle.cbpf_tool.specs.Hosted.{IsReady};
 ghost use Rattle.std.specs.Process.{exit_status};

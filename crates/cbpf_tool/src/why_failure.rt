@@ -1,4 +1,5 @@
-// Why `why` ended before its end.
+//! Why `why` ended before its end.
+
 ghost use Rattle.std.specs.Prelude.{◌≡◌, Some, None, string_bytes};
 ghost use Rattle.std.specs.Option.{option_map};
 ghost use Rattle.cbpf_tool.specs.WhyJobs as spec;

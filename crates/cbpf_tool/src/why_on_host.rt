@@ -1,4 +1,5 @@
-// The job `why`.
+//! The job `why`.
+
 ghost use Rattle.std.specs.Prelude.{◌≡◌, ℕ, List, Some, None, IsTrue, string_bytes};
 ghost use Rattle.std.specs.Option.{option_map};
 ghost use Rattle.pcap_classic.specs.Savefile.{Savefile};

@@ -1,4 +1,5 @@
-// What `==` of the public types says.
+//! What `==` of the public types says.
+
 ghost use Rattle.std.specs.Prelude.{◌≡◌, Decides};
 
 use crate::chosen::PacketRange;

@@ -191,8 +191,8 @@ fn end_read<R: Read, A: Allocator>(
 /// Writes what is to be reported of a program on a capture, of which no record was read yet. The answer is how the
 /// capture ends, where its end was read.
 ///
-/// The ranges of packets are sorted. Of a packet whose number stands in none nothing is reported, and after the last
-/// packet that is looked at nothing is read. So the capture's end is read where all packets are looked at, or where a
+/// The ranges of packets are sorted. Of a packet whose number stands in none nothing is reported. No packet is read
+/// after the greatest last number of the ranges. So the capture's end is read where all packets are looked at, or where a
 /// range ends beyond it. [`PacketRange::beyond`] says which numbers of a range the capture lacks. What is reported packet
 /// by packet is flushed before a read that may wait.
 ///

@@ -1,3 +1,5 @@
+//! The five kinds of report.
+
 /// What is reported of a program on the packets of a capture.
 #[derive(Clone, Copy, Debug, PartialEq, Eq)]
 pub enum Report {

@@ -41,7 +41,8 @@ impl<A: Allocator> Model for Capture<A> {
 
 impl<A: Allocator> Capture<A> {
     /// The capture that a file's bytes hold. The bytes are kept, and no record is copied. The index of the records
-    /// grows with those that are found: it takes at most 16 bytes for each 64 records, and at least 32.
+    /// grows with those that are found. It takes 32 bytes for the first records, and at most 16 for each 64 of many; a
+    /// capture without records takes none.
     ///
     /// # Errors
     ///

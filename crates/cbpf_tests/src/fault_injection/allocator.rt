@@ -1,3 +1,5 @@
+//! An allocator that refuses one allocation.
+
 use crate::fault_injection::calls::CallCounter;
 use std::alloc::{AllocError, Allocator};
 use std::cell::Cell;

@@ -1,3 +1,5 @@
+//! The count of calls by which a faulty one is found.
+
 /// Counts calls, and knows which of them is to go wrong.
 #[derive(Clone, Copy)]
 pub(crate) struct CallCounter {

@@ -1,3 +1,5 @@
+//! A reader that fails at one call.
+
 ghost use Rattle.std.specs.Prelude.{◌<◌, Some};
 
 use crate::fault_injection::calls::CallCounter;

@@ -1,3 +1,5 @@
+//! Tests of the faulty allocator, reader and writer themselves.
+
 use crate::assertions::{Test, assert_at};
 use crate::fault_injection::{Fault, FaultyAllocator, FaultyReader, FaultyWriter};
 use std::alloc::Global;

@@ -1,3 +1,5 @@
+//! A writer that fails, or takes nothing, at one call.
+
 ghost use Rattle.std.specs.Prelude.{◌≤◌, Some, take};
 
 use crate::fault_injection::calls::CallCounter;

@@ -1,4 +1,5 @@
-// Captures by their number of records, with micro- and nanoseconds in both byte orders, and by where they are cut.
+//! Captures by their number of records, with micro- and nanoseconds in both byte orders, and by where they are cut.
+
 use super::parts::Part::{Number, Text};
 use super::parts::assert_parts;
 use crate::assertions::Test;

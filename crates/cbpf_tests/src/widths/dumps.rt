@@ -1,4 +1,5 @@
-// Dumps of stops, of packets without bytes, and programs in C.
+//! Dumps of stops, of packets without bytes, and programs in C.
+
 use super::parts::Part::{Hex, Number, Text};
 use super::parts::assert_parts;
 use super::{INDICES, loading, long, short, state_after};

@@ -1,4 +1,5 @@
-// The numbers of errors.
+//! The numbers of errors.
+
 use super::parts::Part::{Number, Text};
 use super::parts::assert_parts;
 use super::{long, short};

@@ -1,4 +1,5 @@
-// Parts of texts, by which numbers are looked for.
+//! Parts of texts, by which numbers are looked for.
+
 use crate::assertions::assert_named;
 use crate::counts::after_number;
 use std::process::Abort;

@@ -1,4 +1,5 @@
-// Places, counts and lines of stops.
+//! Places, counts and lines of stops.
+
 use super::parts::Part::{Number, Text};
 use super::parts::assert_parts;
 use super::{INDICES, loading, long, short, state_after};

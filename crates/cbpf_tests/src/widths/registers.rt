@@ -1,4 +1,5 @@
-// Breakpoints, values and lengths of programs.
+//! Breakpoints, values and lengths of programs.
+
 use super::parts::Part::{Number, Text};
 use super::parts::{Part, assert_parts};
 use super::{INDICES, short};
