@@ -29,7 +29,7 @@ from pathlib import Path
 TOP = Path(__file__).resolve().parent.parent
 TOOLS = (
     "tcpdump rlwrap gzip grep head tail yes tr seq sed awk xargs mkfifo diff"
-    " timeout cpp cc ss tc unshare setpriv bwrap bash editcap text2pcap vim dot parallel xxd"
+    " timeout cpp cc ss tc unshare setpriv bwrap bash editcap mergecap tshark text2pcap vim dot parallel xxd"
 )
 # What some need beside being there: headers, or rights that a user may not have.
 TRIALS = {

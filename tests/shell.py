@@ -60,6 +60,9 @@ class Terminal:
         self.rlwrap = rlwrap
         self.child, self.end = pty.fork()
         if self.child == 0:
+            # A shell makes a background job ignore these, and so all that it starts.
+            signal.signal(signal.SIGINT, signal.SIG_DFL)
+            signal.signal(signal.SIGQUIT, signal.SIG_DFL)
             os.chdir(folder)
             fcntl.ioctl(0, termios.TIOCSWINSZ, struct.pack("HHHH", 40, 120, 0, 0))
             os.execve(words[0], words, environment)
