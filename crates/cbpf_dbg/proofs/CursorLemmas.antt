@@ -7,7 +7,7 @@ use Rattle.cbpf_machine.specs.Registers.{Registers, zero_state}
 use Rattle.cbpf_machine.specs.declared.outcome.Turn.TheVariants.{Next}
 use Rattle.cbpf_machine.specs.Turn.{turn}
 use Rattle.cbpf_machine.specs.Trace.{trace, outcome, next_of, outcome_of}
-use Rattle.cbpf_machine.specs.Task.{Task, IsOnTrace}
+use Rattle.cbpf_machine.specs.OnPacket.{OnPacket, IsOnTrace}
 use Rattle.cbpf_machine.proofs.TraceLemmas.{first_entry, goes_from_entry, goes_next, goes_at, goes_last, outcome_at_last}
 use Rattle.pcap_classic.specs.Records.{Record}
 use Rattle.cbpf_reply.specs.declared.reply.Counts.{Counts}
@@ -21,7 +21,7 @@ use Rattle.cbpf_dbg.proofs.CountLemmas.{counts-more}
 -- what is known of a cursor and the record of its packet
 module _ (machine : Machine) (capture : List Record) (w : Cursor) (r : Record) (h : Stands machine capture w)
     (at : slice_get capture (w.place.packet - 1) ≡ Some r) where
-  abbrev task : Task
+  abbrev task : OnPacket
   task = record { machine = machine; bytes = r.bytes; wire = r.wire }
 
   pub packet_from_one : 1 ≤ w.place.packet

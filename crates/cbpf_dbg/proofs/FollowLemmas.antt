@@ -8,7 +8,7 @@ use Rattle.cbpf_code.specs.declared.checker.TheConstants.{MAX_INSTRUCTIONS}
 use Rattle.cbpf_machine.specs.Machine.{Machine}
 use Rattle.cbpf_machine.specs.Registers.{Registers, zero_state}
 use Rattle.cbpf_machine.specs.declared.follow.Followed.{Followed}
-use Rattle.cbpf_machine.specs.declared.follow.Followed.TheVariants.{Watched, Ended}
+use Rattle.cbpf_machine.specs.declared.follow.Followed.TheVariants.{Paused, Ended}
 use Rattle.cbpf_machine.specs.Trace.{trace, outcome}
 use Rattle.cbpf_machine.specs.Follow.{Follows, Unpaused, turns_to}
 use Rattle.cbpf_machine.proofs.TraceLemmas.{goes_from_entry, length-trace_from}
@@ -30,7 +30,7 @@ use Rattle.cbpf_dbg.proofs.CursorLemmas.{packet_from_one, stands_at, stands-pass
 
 -- a cursor so many entries on, in the same packet
 abbrev pub moved_on : Cursor → ℕ → Registers → Cursor
-moved_on w n s = followed (record w { state = s }) (Watched n)
+moved_on w n s = followed (record w { state = s }) (Paused n)
 
 -- where no run pauses there is no hit
 not_covered : (pauses : Registers → Bool) (hit : Bool) (s : Registers) → (hit ≡ true → pauses s ≡ true)
@@ -108,7 +108,7 @@ module _ (machine : Machine) (capture : List Record) (w : Cursor) (r : Record) (
         (unpaused i s from to there)
 
     on_hits : (n : ℕ) (s : Registers)
-        → Follows pauses xs (outcome machine r.bytes r.wire) w.place.step w.state s (Watched n)
+        → Follows pauses xs (outcome machine r.bytes r.wire) w.place.step w.state s (Paused n)
         → rest machine capture breakpoints w.place
         ≡ rest machine capture breakpoints (place_at w.place.packet (w.place.step + n - 1))
     on_hits n s f =
@@ -127,7 +127,7 @@ module _ (machine : Machine) (capture : List Record) (w : Cursor) (r : Record) (
 
   module _ (pauses : Registers → Bool) where
     on_owed : (n : ℕ) (s : Registers)
-        → Follows pauses xs (outcome machine r.bytes r.wire) w.place.step w.state s (Watched n)
+        → Follows pauses xs (outcome machine r.bytes r.wire) w.place.step w.state s (Paused n)
         → owed machine capture w.place + 1 ≡ n + owed machine capture (moved_on w n s).place + min w.place.step 1
     on_owed n s f =
         let some = f.0 in
@@ -140,10 +140,10 @@ module _ (machine : Machine) (capture : List Record) (w : Cursor) (r : Record) (
 
     -- the steps can be counted
     pub steps_fit : (k : ℕ) (f : Followed) (s : Registers) → k ≡ w.place.step
-        → Follows pauses xs (outcome machine r.bytes r.wire) k w.state s f → (n : ℕ) → f ≡ Watched n
+        → Follows pauses xs (outcome machine r.bytes r.wire) k w.state s f → (n : ℕ) → f ≡ Paused n
         → w.place.step + n ≤ MAX_INSTRUCTIONS
     steps_fit k f s step follows n e =
-        let on : Follows pauses xs (outcome machine r.bytes r.wire) w.place.step w.state s (Watched n) =
+        let on : Follows pauses xs (outcome machine r.bytes r.wire) w.place.step w.state s (Paused n) =
         rw (step, e) at follows in
         omega (arith, slice_get_within xs (w.place.step + n - 1) s on.2, steps_few)
 
@@ -160,8 +160,8 @@ module _ {A : Type 0} (l : Loaded A) (w : Cursor) (r : Record) (h : Stands (mach
       → after + 1 ≡ before + turns_to entries k f + min k 1 → left ≡ r ∷ others
       → GoesOn l pauses (record { cursor = w; left = left; end = end }) (record { cursor = v; left = left; end = end }) before after true
   goes_to_entry k (Ended o) s v before after left others end there ends early step moves e f turns is = absurd cc
-  goes_to_entry k (Watched n) s v before after left others end there ends early step moves e f turns is =
-      let on : Follows pauses entries (outcome (machine_in l) r.bytes r.wire) w.place.step w.state s (Watched n) = rw step at f in
+  goes_to_entry k (Paused n) s v before after left others end there ends early step moves e f turns is =
+      let on : Follows pauses entries (outcome (machine_in l) r.bytes r.wire) w.place.step w.state s (Paused n) = rw step at f in
       rw e (record {
         passes = record {
           stands = stands_at _ _ w r h at (w.place.step + n) s on.2;
@@ -183,7 +183,7 @@ module _ {A : Type 0} (l : Loaded A) (w : Cursor) (r : Record) (h : Stands (mach
       → v ≡ followed (record w { state = s }) f → Follows pauses entries (outcome (machine_in l) r.bytes r.wire) k w.state s f
       → after + 1 ≡ before + turns_to entries k f + min k 1 → left ≡ r ∷ others
       → GoesOn l pauses (record { cursor = w; left = left; end = end }) (record { cursor = v; left = others; end = end }) before after false
-  goes_out k (Watched n) s v before after left others end there ends early step moves e f turns is = absurd cc
+  goes_out k (Paused n) s v before after left others end there ends early step moves e f turns is = absurd cc
   goes_out k (Ended o) s v before after left others end there ends early step moves e f turns is =
       let on : Follows pauses entries (outcome (machine_in l) r.bytes r.wire) w.place.step w.state s (Ended o) = rw step at f in
       let leave = ahead-leave (machine_in l) (records_in l) w.place.packet (length entries) r (from_one _ _ w r h at) at (omega arith) in

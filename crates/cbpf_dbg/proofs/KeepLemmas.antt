@@ -13,7 +13,7 @@ use Rattle.cbpf_reply.specs.declared.reply.Place.{Place}
 use Rattle.cbpf_dbg.specs.declared.cursor.Cursor.{Cursor}
 use Rattle.cbpf_dbg.specs.Session.{Keeps, KeepsTo}
 use Rattle.cbpf_machine.specs.declared.follow.Followed.{Followed}
-use Rattle.cbpf_machine.specs.declared.follow.Followed.TheVariants.{Watched, Ended}
+use Rattle.cbpf_machine.specs.declared.follow.Followed.TheVariants.{Paused, Ended}
 use Rattle.cbpf_dbg.specs.declared.cursor.Moved.{Moved}
 use Rattle.cbpf_dbg.specs.declared.cursor.Moved.TheVariants as moved
 use Rattle.cbpf_dbg.specs.Cursor.{Stands, followed, moved_by}
@@ -65,9 +65,9 @@ pub keeps_followed : (after : List Registers → Type 0) (machine : Machine) (ca
     (r : Record) → slice_get capture (old.place.packet - 1) ≡ Some r
     → (f : Followed) (s : Registers) (m : Moved) (v : Cursor) → v ≡ followed (record old { state = s }) f
     → m ≡ moved_by f
-    → ((n : ℕ) → f ≡ Watched n → after (take (old.place.step + n) (trace machine r.bytes r.wire))) → m ≡ moved.Entry
+    → ((n : ℕ) → f ≡ Paused n → after (take (old.place.step + n) (trace machine r.bytes r.wire))) → m ≡ moved.Entry
     → Keeps after machine capture v.place
-keeps_followed after machine capture old r at (Watched n) s m v e moves kept entry = λ q there.
+keeps_followed after machine capture old r at (Paused n) s m v e moves kept entry = λ q there.
     let here : slice_get capture (old.place.packet - 1) ≡ Some q =
     subst (λ (u : Cursor). slice_get capture (u.place.packet - 1) ≡ Some q) e there in
     let same : r ≡ q = cc in

@@ -70,11 +70,11 @@ passed w outcome = record w {
 
 -- the cursor of a packet that was followed, with the state that this led to
 abbrev pub followed : Cursor → Followed → Cursor
-followed w (followed_to.Watched n) = record w { place = record { packet = w.place.packet; step = w.place.step + n } }
+followed w (followed_to.Paused n) = record w { place = record { packet = w.place.packet; step = w.place.step + n } }
 followed w (followed_to.Ended o) = passed w o
 
 abbrev pub moved_by : Followed → Moved
-moved_by (followed_to.Watched n) = moved.Entry
+moved_by (followed_to.Paused n) = moved.Entry
 moved_by (followed_to.Ended o) = moved.Packet
 
 abbrev pub entry_here : Machine → Record → Cursor → Entry

@@ -1,10 +1,7 @@
 -- How a run goes on over the packets of a capture. No public clause names it.
 use Rattle.std.specs.Prelude.{◌≡◌, ℕ, ◌+◌, ◌*◌, ◌<◌, ◌≤◌, ◌^◌, List, length, Bool, true, false}
 use Rattle.cbpf_code.specs.declared.checker.TheConstants.{MAX_INSTRUCTIONS}
-use Rattle.cbpf_machine.specs.Machine.{Machine, machine_of}
-use Rattle.cbpf_machine.specs.Trace.{trace, outcome}
-use Rattle.cbpf_machine.specs.declared.outcome.Outcome.{Outcome}
-use Rattle.cbpf_dbg.specs.declared.run.Task.{Task}
+use Rattle.cbpf_machine.specs.Machine.{Machine}
 use Rattle.cbpf_machine.specs.Registers.{Registers}
 use Rattle.cbpf_reply.specs.declared.reply.Place.{Place}
 use Rattle.cbpf_dbg.specs.declared.cursor.Walk.{Walk}
@@ -14,13 +11,6 @@ use Rattle.cbpf_dbg.specs.Breakpoints.{Breakpoints}
 use Rattle.cbpf_dbg.specs.Joined.{rest}
 use Rattle.cbpf_dbg.specs.Session.{hits, Keeps}
 use Rattle.cbpf_dbg.specs.Cursor.{Stands, IsEnd, AreLeft, Passes, before, owed}
-
--- a task's entries, and how its packet ends
-abbrev pub entries_in : {A : Type 0} → Task A → List Registers
-entries_in t = trace (machine_of t.program.now t.values.now) t.packet.bytes.now t.packet.wire
-
-abbrev pub outcome_in : {A : Type 0} → Task A → Outcome
-outcome_in t = outcome (machine_of t.program.now t.values.now) t.packet.bytes.now t.packet.wire
 
 -- a trail stands for the entries of a place's packet up to its step
 abbrev pub KeepsIn : {A : Type 0} → (List Registers → Type 0) → Loaded A → Place → Type 0

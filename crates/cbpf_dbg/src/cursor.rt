@@ -15,7 +15,7 @@ ghost use Rattle.cbpf_dbg.specs.Joined as joined;
 use crate::loaded::Loaded;
 use cbpf_code::Program;
 use cbpf_machine::{
-    Followed, Meter, Outcome, Packet, State, Values, missing_extension, turn_in_place,
+    Followed, Meter, Outcome, Packet, State, Task, Values, missing_extension, turn_in_place,
 };
 use cbpf_reply::{Counts, Place, Stop, Why};
 use pcap_classic::{Captured, Records};
@@ -94,12 +94,12 @@ impl Cursor {
     /// Moves to where following the packet led: to an entry, whose state is there already, or before the next packet.
     pub(crate) fn apply(&mut self, followed: Followed) -> Moved
         requires counts { Countable self.old.place.packet self.old.counts }
-        requires steps { (n : ℕ) → followed ≡ ways.Watched n → self.old.place.step + n < 2 ^ 32 }
+        requires steps { (n : ℕ) → followed ≡ ways.Paused n → self.old.place.step + n < 2 ^ 32 }
         ensures cursor { self.new ≡ after self.old followed }
         ensures moved { result ≡ moved_by followed }
     {
         match followed {
-            Followed::Watched(entries) => {
+            Followed::Paused(entries) => {
                 self.place.step += entries;
                 Moved::Entry
             }
@@ -162,17 +162,15 @@ fn leave_entry<A: Allocator>(
     ensures origin { cursor.new.origin ≡ cursor.old.origin }
     ensures turns { meter.new ≡ meter.old + 1 }
 {
-    let packet = Packet {
-        bytes: here.bytes,
-        wire: here.wire,
+    let task = Task {
+        program: loaded.program,
+        packet: Packet {
+            bytes: here.bytes,
+            wire: here.wire,
+        },
+        values: loaded.values,
     };
-    match turn_in_place(
-        meter,
-        loaded.program,
-        packet,
-        loaded.values,
-        &mut cursor.state,
-    ) {
+    match turn_in_place(meter, &task, &mut cursor.state) {
         None => {
             cursor.go_on();
             Moved::Entry

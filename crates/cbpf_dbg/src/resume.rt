@@ -9,7 +9,7 @@ ghost use Rattle.cbpf_dbg.specs.Cursor.{Stands};
 
 use crate::cursor::Cursor;
 use crate::loaded::Loaded;
-use cbpf_machine::{Meter, Packet, Trail};
+use cbpf_machine::{Meter, Packet, Task, Trail};
 use cbpf_reply::Place;
 use std::alloc::Allocator;
 
@@ -40,11 +40,15 @@ pub(crate) fn resume_at<T: Trail, A: Allocator>(
         *cursor = Cursor::before(place.packet, item.start);
         return Ok(());
     }
-    let packet = Packet {
-        bytes: item.bytes,
-        wire: item.wire,
+    let task = Task {
+        program: loaded.program,
+        packet: Packet {
+            bytes: item.bytes,
+            wire: item.wire,
+        },
+        values: loaded.values,
     };
-    let state = trail.go_to(meter, loaded.program, packet, loaded.values, place.step)?;
+    let state = trail.go_to(meter, &task, place.step)?;
     *cursor = Cursor::at(place, item.start, state);
     Ok(())
 }

@@ -12,24 +12,16 @@ ghost use Rattle.cbpf_dbg.specs.Joined.{rest};
 ghost use Rattle.cbpf_dbg.specs.Loaded.{machine_in, records_in, breakpoints_in};
 ghost use Rattle.cbpf_dbg.specs.Session.{IsInside, KeepsTo};
 ghost use Rattle.cbpf_dbg.specs.Cursor.{Stands, Passes, Gives, run_from, turns_of, ComesTo};
-ghost use Rattle.cbpf_dbg.specs.Going.{CanGoOn, GoesOn, KeepsIn, entries_in, outcome_in};
+ghost use Rattle.cbpf_machine.specs.Task.{entries_in, outcome_in};
+ghost use Rattle.cbpf_dbg.specs.Going.{CanGoOn, GoesOn, KeepsIn};
 
 use crate::cursor::{Cursor, Moved, Walk, stop_at};
 use crate::loaded::Loaded;
-use cbpf_code::Program;
 use cbpf_machine::{
-    Followed, Meter, Never, Packet, Pause, State, Trail, Values, Watched, follow_on, follow_packet,
+    Followed, Meter, Never, Packet, Pause, State, Task, Trail, Watched, follow_on, follow_packet,
 };
 use cbpf_reply::{RunReply, Stop, Why};
 use std::alloc::Allocator;
-
-/// A packet that a run follows, with the program and the values for extensions.
-#[derive(Drop)]
-pub(crate) struct Task<'a, A: Allocator> {
-    program: &'a Program<A>,
-    values: &'a Values,
-    packet: Packet<'a>,
-}
 
 /// What a run keeps of a packet as it follows it: a trail, or nothing.
 pub(crate) trait Keeper<P: Pause, A: Allocator> {
@@ -49,7 +41,7 @@ pub(crate) trait Keeper<P: Pause, A: Allocator> {
         ensures follows { Follows (λ s. P.pauses pause.now s) (entries_in task.now) (outcome_in task.now) 0
             state.old state.new result }
         ensures turns { meter.new + 1 ≡ meter.old + turns_to (entries_in task.now) 0 result }
-        ensures stands { (n : ℕ) → result ≡ followed.Watched n
+        ensures stands { (n : ℕ) → result ≡ followed.Paused n
             → stands_for self.new (take n (entries_in task.now)) };
 
     /// As `cbpf_machine::follow_on`, from an entry up to which the packet's are kept.
@@ -69,7 +61,7 @@ pub(crate) trait Keeper<P: Pause, A: Allocator> {
         ensures turns { (k : ℕ) → KeepsTo (λ xs. stands_for self.old xs) (entries_in task.now) k state.old
             → meter.new ≡ meter.old + turns_to (entries_in task.now) k result }
         ensures stands { (k : ℕ) → KeepsTo (λ xs. stands_for self.old xs) (entries_in task.now) k state.old
-            → (n : ℕ) → result ≡ followed.Watched n → stands_for self.new (take (k + n) (entries_in task.now)) };
+            → (n : ℕ) → result ≡ followed.Paused n → stands_for self.new (take (k + n) (entries_in task.now)) };
 }
 
 /// No trail.
@@ -86,7 +78,7 @@ impl<P: Pause, A: Allocator> Keeper<P, A> for NoTrail {
         pause: &P,
         state: &mut State,
     ) -> Followed {
-        follow_packet(meter, task.program, task.packet, task.values, pause, state)
+        follow_packet(meter, task, pause, state)
     }
 
     fn follow_on(
@@ -96,7 +88,7 @@ impl<P: Pause, A: Allocator> Keeper<P, A> for NoTrail {
         pause: &P,
         state: &mut State,
     ) -> Followed {
-        follow_on(meter, task.program, task.packet, task.values, pause, state)
+        follow_on(meter, task, pause, state)
     }
 }
 
@@ -110,15 +102,7 @@ impl<T: Trail, A: Allocator> Keeper<Watched<A>, A> for T {
         pause: &Watched<A>,
         state: &mut State,
     ) -> Followed {
-        Trail::follow_packet(
-            self,
-            meter,
-            task.program,
-            task.packet,
-            task.values,
-            pause,
-            state,
-        )
+        Trail::follow_packet(self, meter, task, pause, state)
     }
 
     fn follow_on(
@@ -128,7 +112,7 @@ impl<T: Trail, A: Allocator> Keeper<Watched<A>, A> for T {
         pause: &Watched<A>,
         state: &mut State,
     ) -> Followed {
-        self.follow(meter, task.program, task.packet, task.values, pause, state)
+        self.follow(meter, task, pause, state)
     }
 }
 
@@ -157,14 +141,14 @@ pub(crate) fn run_records<P: Pause, A: Allocator, K: Keeper<P, A>>(
         let here = walk.left.front();
         let task = Task {
             program,
-            values,
             packet: Packet {
                 bytes: here.bytes,
                 wire: here.wire,
             },
+            values,
         };
         match keeper.follow_packet(meter, &task, pause, &mut walk.cursor.state) {
-            Followed::Watched(entries) => {
+            Followed::Paused(entries) => {
                 walk.cursor.place.step = entries;
                 return true;
             }
@@ -227,11 +211,11 @@ pub(crate) fn go_on_in_packet<P: Pause, A: Allocator, K: Keeper<P, A>>(
     let here = walk.left.front();
     let task = Task {
         program: loaded.program,
-        values: loaded.values,
         packet: Packet {
             bytes: here.bytes,
             wire: here.wire,
         },
+        values: loaded.values,
     };
     let followed = keeper.follow_on(meter, &task, pause, &mut walk.cursor.state);
     if let Moved::Entry = walk.cursor.apply(followed) {

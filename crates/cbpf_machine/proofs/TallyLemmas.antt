@@ -7,17 +7,17 @@ use Rattle.std.proofs.lemmas.Bool.{cases_eq}
 use Rattle.cbpf_code.specs.declared.insn.Insn.{Insn}
 use Rattle.cbpf_machine.specs.declared.tally.Runs.{Runs}
 use Rattle.cbpf_machine.specs.Registers.{Registers}
-use Rattle.cbpf_machine.specs.Task.{Task, IsOnTrace, trace_in}
+use Rattle.cbpf_machine.specs.OnPacket.{OnPacket, IsOnTrace, trace_in}
 use Rattle.cbpf_machine.specs.Ways.{is_taken, executed_in, taken_in, runs_at}
 use Rattle.cbpf_machine.proofs.WayLemmas.{take_next}
 
-executed_more : {t : Task} {n : ℕ} {s : Registers} → IsOnTrace t n s → (i : ℕ)
+executed_more : {t : OnPacket} {n : ℕ} {s : Registers} → IsOnTrace t n s → (i : ℕ)
     → executed_in (take (n + 1) (trace_in t)) i
     ≡ executed_in (take n (trace_in t)) i + (if nat_eq s.pc i then 1 else 0)
 executed_more {t = t} {n = n} {s = s} here i =
     ap (λ l. executed_in l i) (take_next here) ∙ sum_by_push _ (take n (trace_in t)) s
 
-taken_more : {t : Task} {n : ℕ} {s : Registers} (list : List Insn) → IsOnTrace t n s → (i : ℕ)
+taken_more : {t : OnPacket} {n : ℕ} {s : Registers} (list : List Insn) → IsOnTrace t n s → (i : ℕ)
     → taken_in list (take (n + 1) (trace_in t)) i
     ≡ taken_in list (take n (trace_in t)) i + (if nat_eq s.pc i && is_taken list s then 1 else 0)
 taken_more {t = t} {n = n} {s = s} list here i =
@@ -42,7 +42,7 @@ taken_at : (pc i n : ℕ) (b : Bool) → n ≡ (if nat_eq pc i && b then 1 else 
 taken_at pc i n b e = grind arith
 
 -- the first n entries of a packet, all before an instruction, are counted once each
-pub record CountsFirst (t : Task) (n pc : ℕ) (old new : List Runs) : Type 0 where
+pub record CountsFirst (t : OnPacket) (n pc : ℕ) (old new : List Runs) : Type 0 where
   pub ahead : (i : ℕ) → pc ≤ i → ((runs_at new i).executed ≤ (runs_at old i).executed)
       × ((runs_at new i).taken ≤ (runs_at old i).taken)
   pub once : (i : ℕ) → ((runs_at new i).executed ≤ (runs_at old i).executed + 1)
@@ -52,7 +52,7 @@ pub record CountsFirst (t : Task) (n pc : ℕ) (old new : List Runs) : Type 0 wh
       ≡ (runs_at old i).taken + taken_in t.machine.list (take n (trace_in t)) i
 
 -- one more, by how each count grows
-counts_on : {t : Task} {n m : ℕ} {s : Registers} {old new : List Runs} (to : List Runs) (b : Bool) (next : ℕ)
+counts_on : {t : OnPacket} {n m : ℕ} {s : Registers} {old new : List Runs} (to : List Runs) (b : Bool) (next : ℕ)
     → CountsFirst t n s.pc old new → IsOnTrace t n s → s.pc < next → m ≡ n + 1
     → ((i : ℕ) → (runs_at to i).executed ≡ (runs_at new i).executed + (if nat_eq s.pc i then 1 else 0))
     → ((i : ℕ) → (runs_at to i).taken ≡ (runs_at new i).taken + (if nat_eq s.pc i && b then 1 else 0))
@@ -114,7 +114,7 @@ taken_set runs pc i here b within is =
     ]
 
 -- one more, by the counts of its instruction
-pub counts_next : {t : Task} {n m : ℕ} {s : Registers} {old new : List Runs} (here : Runs) (next : ℕ)
+pub counts_next : {t : OnPacket} {n m : ℕ} {s : Registers} {old new : List Runs} (here : Runs) (next : ℕ)
     → CountsFirst t n s.pc old new → IsOnTrace t n s → s.pc < length new → s.pc < next → m ≡ n + 1
     → here ≡ record {
       executed = (runs_at new s.pc).executed + 1;
@@ -126,7 +126,7 @@ counts_next {t = t} {s = s} {new = new} here next before on within higher one is
     (λ i. taken_set new s.pc i here (is_taken t.machine.list s) within (ap (λ (r : Runs). r.taken) is)) refl
 
 -- all of them
-pub counts_all : {t : Task} {n pc : ℕ} {old new : List Runs} → CountsFirst t n pc old new → length (trace_in t) ≡ n
+pub counts_all : {t : OnPacket} {n pc : ℕ} {old new : List Runs} → CountsFirst t n pc old new → length (trace_in t) ≡ n
     → ((i : ℕ) → (runs_at new i).executed ≡ (runs_at old i).executed + executed_in (trace_in t) i)
     × ((i : ℕ) → (runs_at new i).taken ≡ (runs_at old i).taken + taken_in t.machine.list (trace_in t) i)
 counts_all {t = t} {n = n} {old = old} {new = new} counts long =

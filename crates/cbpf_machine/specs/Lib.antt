@@ -11,6 +11,7 @@ pub mod Trail
 pub mod Follow
 pub mod InPlace
 pub mod Task
+pub mod OnPacket
 pub mod Together
 pub mod Ways
 pub mod Walk

@@ -2,20 +2,18 @@
 
 ghost use Rattle.std.specs.Prelude.{◌≡◌, ◌≤◌, ◌+◌, ◌*◌, ◌^◌, length};
 ghost use Rattle.cbpf_code.specs.declared.checker.TheConstants.{MAX_INSTRUCTIONS};
-ghost use Rattle.cbpf_machine.specs.Machine.{machine_of};
 ghost use Rattle.cbpf_machine.specs.Registers.{zero_state};
 ghost use Rattle.cbpf_machine.specs.InPlace.{turn_of};
-ghost use Rattle.cbpf_machine.specs.Trace.{last_or, outcome, outcome_of, trace};
-ghost use Rattle.cbpf_machine.specs.Turn as spec;
+ghost use Rattle.cbpf_machine.specs.Task.{entries_in, outcome_in, turn_from};
+ghost use Rattle.cbpf_machine.specs.Trace.{last_or, outcome_of};
 
 use crate::follow::make_turns;
-use crate::load::Packet;
 use crate::meter::Meter;
 use crate::outcome::{End, Outcome};
 use crate::pause::Never;
 use crate::state::{Core, State};
-use crate::values::Values;
-use cbpf_code::{Program, SLOTS};
+use crate::task::Task;
+use cbpf_code::SLOTS;
 use std::alloc::Allocator;
 
 /// Where and why a packet ended.
@@ -42,27 +40,20 @@ impl PacketEnd {
 #[inline(always)]
 pub fn end_of_packet<A: Allocator>(
     meter: &mut Meter,
-    p: &Program<A>,
-    packet: Packet<'_>,
-    values: &Values,
+    task: &Task<'_, A>,
 ) -> PacketEnd
     requires { meter.old + 2 * MAX_INSTRUCTIONS ≤ 2 ^ 128 }
-    ensures last { result.last
-        ≡ last_or zero_state (trace (machine_of p.now values.now) packet.entry.bytes.now packet.entry.wire) }
-    ensures reason { spec.turn (machine_of p.now values.now) packet.entry.bytes.now packet.entry.wire result.last
-        ≡ turn_of result.reason }
-    ensures outcome { outcome (machine_of p.now values.now) packet.entry.bytes.now packet.entry.wire
-        ≡ outcome_of (turn_of result.reason) }
-    ensures turns { meter.new
-        ≡ meter.old + length (trace (machine_of p.now values.now) packet.entry.bytes.now packet.entry.wire) }
-    ensures few { meter.new ≤ meter.old + length p.now }
+    ensures last { result.last ≡ last_or zero_state (entries_in task.now) }
+    ensures reason { turn_from task.now result.last ≡ turn_of result.reason }
+    ensures outcome { outcome_in task.now ≡ outcome_of (turn_of result.reason) }
+    ensures turns { meter.new ≡ meter.old + length (entries_in task.now) }
+    ensures few { meter.new ≤ meter.old + length task.now.program.now }
 {
-    let _few = p.len();
+    let _few = task.program.len();
     let mut core = Core::zero();
     let mut slots = [0; SLOTS];
-    let (turns, end) = make_turns::<_, A, 3>(
-        &Never, false, None, p, packet, values, &mut core, &mut slots,
-    );
+    let (turns, end) =
+        make_turns::<_, A, 3>(&Never, false, None, task, &mut core, &mut slots);
     meter.add(turns);
     match end {
         Some(reason) => PacketEnd {

@@ -1,18 +1,16 @@
 //! How far a packet goes, by a state of its own.
 
 ghost use Rattle.std.specs.Prelude.{◌≡◌, ◌<◌, ◌≤◌, ◌+◌, ◌^◌, ℕ, length, IfErr, MatchResult, OnOk};
-ghost use Rattle.cbpf_machine.specs.Machine.{machine_of};
-ghost use Rattle.cbpf_machine.specs.Trace.{trace};
 ghost use Rattle.cbpf_machine.specs.Core.{registers};
-ghost use Rattle.cbpf_machine.specs.Task.{IsOnTrace, task_of, trace_in};
+ghost use Rattle.cbpf_machine.specs.Task.{entries_in};
+ghost use Rattle.cbpf_machine.specs.OnPacket.{IsOnTrace, in_task};
 
 use crate::follow::make_turns;
-use crate::load::Packet;
 use crate::meter::Meter;
 use crate::pause::Never;
 use crate::state::Core;
-use crate::values::Values;
-use cbpf_code::{Program, SLOTS};
+use crate::task::Task;
+use cbpf_code::SLOTS;
 use std::alloc::Allocator;
 
 /// Goes on from an entry of a packet's trace by at most `most` turns, 1 at least: how many it made, or how many up to
@@ -20,23 +18,21 @@ use std::alloc::Allocator;
 #[inline(never)]
 pub(crate) fn go_on<A: Allocator>(
     meter: &mut Meter,
-    p: &Program<A>,
-    packet: Packet<'_>,
-    values: &Values,
+    task: &Task<'_, A>,
     most: u32,
     s: &mut Core,
     slots: &mut [u32; SLOTS],
 ) -> Result<u32, u32>
     requires some { 1 ≤ most }
-    requires on { (i : ℕ) × IsOnTrace (task_of p.now values.now packet) i (registers s.old slots.old) }
+    requires on { (i : ℕ) × IsOnTrace (in_task task.now) i (registers s.old slots.old) }
     requires spare { meter.old + most < 2 ^ 128 }
-    ensures goes { (i : ℕ) → IsOnTrace (task_of p.now values.now packet.entry) i (registers s.old slots.old)
+    ensures goes { (i : ℕ) → IsOnTrace (in_task task.now) i (registers s.old slots.old)
         → MatchResult result (λ n. (1 ≤ n) × (n ≤ most)
-        × IsOnTrace (task_of p.now values.now packet.entry) (i + n) (registers s.new slots.new))
-        (λ n. (1 ≤ n) × (n ≤ most) × (length (trace_in (task_of p.now values.now packet.entry)) ≡ i + n)) }
+        × IsOnTrace (in_task task.now) (i + n) (registers s.new slots.new))
+        (λ n. (1 ≤ n) × (n ≤ most) × (length (entries_in task.now) ≡ i + n)) }
     ensures turns { MatchResult result (λ n. meter.new ≡ meter.old + n) (λ n. meter.new ≡ meter.old + n) }
 {
-    let _few = p.len();
+    let _few = task.program.len();
     let fence = s.pc + most as usize;
     // A copy, which the loop of turns keeps in registers.
     let mut here = *s;
@@ -44,9 +40,7 @@ pub(crate) fn go_on<A: Allocator>(
         &Never,
         false,
         Some(fence),
-        p,
-        packet,
-        values,
+        task,
         &mut here,
         slots,
     );
@@ -61,29 +55,23 @@ pub(crate) fn go_on<A: Allocator>(
 /// Whether a packet's trace has an entry `to`, counted from 1, or how many entries it has.
 pub(crate) fn reach<A: Allocator>(
     meter: &mut Meter,
-    p: &Program<A>,
-    packet: Packet<'_>,
-    values: &Values,
+    task: &Task<'_, A>,
     to: u32,
 ) -> Result<(), u32>
     requires from_one { 1 ≤ to }
     requires spare { meter.old + to < 2 ^ 128 }
-    ensures long { OnOk result
-        (to ≤ length (trace (machine_of p.now values.now) packet.entry.bytes.now packet.entry.wire)) }
-    ensures short { IfErr result
-        (λ n. (n ≡ length (trace (machine_of p.now values.now) packet.entry.bytes.now packet.entry.wire)) × (n < to)) }
+    ensures long { OnOk result (to ≤ length (entries_in task.now)) }
+    ensures short { IfErr result (λ n. (n ≡ length (entries_in task.now)) × (n < to)) }
     ensures turns { MatchResult result (λ s. meter.new + 1 ≡ meter.old + to) (λ n. meter.new ≡ meter.old + n) }
 {
-    let _sound = p.len();
+    let _sound = task.program.len();
     let mut here = Core::zero();
     let mut slots = [0; SLOTS];
     let mut entries = 1;
     'reach: while entries < to {
         match go_on(
             meter,
-            p,
-            packet,
-            values,
+            task,
             to - entries,
             &mut here,
             &mut slots,

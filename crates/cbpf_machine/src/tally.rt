@@ -2,18 +2,16 @@
 
 ghost use Rattle.std.specs.Prelude.{◌≡◌, ◌<◌, ◌≤◌, ◌+◌, ◌*◌, ◌^◌, ℕ, length, replicate, option_map, IfOk};
 ghost use Rattle.cbpf_code.specs.declared.checker.TheConstants.{MAX_INSTRUCTIONS};
-ghost use Rattle.cbpf_machine.specs.Machine.{machine_of};
 ghost use Rattle.cbpf_machine.specs.Registers.{zero_state};
 ghost use Rattle.cbpf_machine.specs.InPlace.{turn_of};
-ghost use Rattle.cbpf_machine.specs.Trace.{last_or, outcome, outcome_of, trace};
+ghost use Rattle.cbpf_machine.specs.Trace.{last_or, outcome_of};
 ghost use Rattle.cbpf_machine.specs.Walk.{IsWay};
-ghost use Rattle.cbpf_machine.specs.Task.{task_of};
+ghost use Rattle.cbpf_machine.specs.Task.{entries_in, outcome_in, turn_from};
+ghost use Rattle.cbpf_machine.specs.OnPacket.{in_task};
 ghost use Rattle.cbpf_machine.specs.Ways.{executed_in, last_test, runs_at, taken_in, test_of};
-ghost use Rattle.cbpf_machine.specs.Turn as spec;
 
-use crate::load::Packet;
 use crate::meter::Meter;
-use crate::values::Values;
+use crate::task::Task;
 use crate::way::{Walk, Way};
 use cbpf_code::{Program, SLOTS};
 use std::alloc::{AllocError, Allocator, Global};
@@ -31,32 +29,29 @@ pub struct Runs {
 /// Makes all turns of a packet and counts them: how many they are, and the packet's way.
 #[inline(always)]
 fn count_turns<A: Allocator>(
-    p: &Program<A>,
-    packet: Packet<'_>,
-    values: &Values,
+    task: &Task<'_, A>,
     runs: &mut [Runs],
 ) -> (u32, Way)
-    requires long { length runs.old ≡ length p.now }
+    requires long { length runs.old ≡ length task.now.program.now }
     requires fits { (i : ℕ) → ((runs_at runs.old i).executed + 1 < 2 ^ 64) × ((runs_at runs.old i).taken + 1 < 2 ^ 64) }
-    ensures turns { result.0
-        ≡ length (trace (machine_of p.now values.now) packet.entry.bytes.now packet.entry.wire) }
-    ensures few { result.0 ≤ length p.now }
+    ensures turns { result.0 ≡ length (entries_in task.now) }
+    ensures few { result.0 ≤ length task.now.program.now }
     ensures most { result.0 ≤ MAX_INSTRUCTIONS }
-    ensures way { IsWay (task_of p.now values.now packet.entry) result.1 }
+    ensures way { IsWay (in_task task.now) result.1 }
     ensures long { length runs.new ≡ length runs.old }
     ensures executed { (i : ℕ) → (runs_at runs.new i).executed ≡ (runs_at runs.old i).executed
-        + executed_in (trace (machine_of p.now values.now) packet.entry.bytes.now packet.entry.wire) i }
+        + executed_in (entries_in task.now) i }
     ensures taken { (i : ℕ) → (runs_at runs.new i).taken ≡ (runs_at runs.old i).taken
-        + taken_in p.now (trace (machine_of p.now values.now) packet.entry.bytes.now packet.entry.wire) i }
+        + taken_in task.now.program.now (entries_in task.now) i }
     ensures once { (i : ℕ) → ((runs_at runs.new i).executed ≤ (runs_at runs.old i).executed + 1)
         × ((runs_at runs.new i).taken ≤ (runs_at runs.old i).taken + 1) }
 {
-    let _few = p.len();
+    let _few = task.program.len();
     let mut walk = Walk::new();
     let mut slots = [0; SLOTS];
     'turns: loop {
         let pc = walk.pc();
-        if let Some(reason) = walk.turn::<A, true>(p, packet, values, &mut slots, &mut runs[pc]) {
+        if let Some(reason) = walk.turn::<A, true>(task, &mut slots, &mut runs[pc]) {
             return (walk.turns(), walk.ended(slots, reason));
         }
     }
@@ -125,33 +120,26 @@ impl<A: Allocator> Tally<A> {
     pub fn count_packet<B: Allocator>(
         &mut self,
         meter: &mut Meter,
-        p: &Program<B>,
-        packet: Packet<'_>,
-        values: &Values,
+        task: &Task<'_, B>,
     ) -> Way
-        requires long { length self.old.runs ≡ length p.now }
+        requires long { length self.old.runs ≡ length task.now.program.now }
         requires few { self.old.packets + 1 < 2 ^ 64 }
         requires spare { meter.old + 2 * MAX_INSTRUCTIONS ≤ 2 ^ 128 }
-        ensures last { result.end.last
-            ≡ last_or zero_state (trace (machine_of p.now values.now) packet.entry.bytes.now packet.entry.wire) }
-        ensures reason { spec.turn (machine_of p.now values.now) packet.entry.bytes.now packet.entry.wire
-            result.end.last ≡ turn_of result.end.reason }
-        ensures outcome { outcome (machine_of p.now values.now) packet.entry.bytes.now packet.entry.wire
-            ≡ outcome_of (turn_of result.end.reason) }
-        ensures test { result.test ≡ option_map test_of
-            (last_test p.now (trace (machine_of p.now values.now) packet.entry.bytes.now packet.entry.wire)) }
-        ensures turns { meter.new
-            ≡ meter.old + length (trace (machine_of p.now values.now) packet.entry.bytes.now packet.entry.wire) }
-        ensures few { meter.new ≤ meter.old + length p.now }
+        ensures last { result.end.last ≡ last_or zero_state (entries_in task.now) }
+        ensures reason { turn_from task.now result.end.last ≡ turn_of result.end.reason }
+        ensures outcome { outcome_in task.now ≡ outcome_of (turn_of result.end.reason) }
+        ensures test { result.test ≡ option_map test_of (last_test task.now.program.now (entries_in task.now)) }
+        ensures turns { meter.new ≡ meter.old + length (entries_in task.now) }
+        ensures few { meter.new ≤ meter.old + length task.now.program.now }
         ensures packets { self.new.packets ≡ self.old.packets + 1 }
         ensures long { length self.new.runs ≡ length self.old.runs }
         ensures executed { (i : ℕ) → (runs_at self.new.runs i).executed ≡ (runs_at self.old.runs i).executed
-            + executed_in (trace (machine_of p.now values.now) packet.entry.bytes.now packet.entry.wire) i }
+            + executed_in (entries_in task.now) i }
         ensures taken { (i : ℕ) → (runs_at self.new.runs i).taken ≡ (runs_at self.old.runs i).taken
-            + taken_in p.now (trace (machine_of p.now values.now) packet.entry.bytes.now packet.entry.wire) i }
+            + taken_in task.now.program.now (entries_in task.now) i }
     {
         self.packets += 1;
-        let (turns, way) = count_turns(p, packet, values, self.runs.as_mut_slice());
+        let (turns, way) = count_turns(task, self.runs.as_mut_slice());
         meter.add(turns);
         way
     }

@@ -9,6 +9,7 @@ use crate::load::Packet;
 use crate::meter::Meter;
 use crate::outcome::Outcome;
 use crate::packet_end::end_of_packet;
+use crate::task::Task;
 use crate::values::Values;
 use cbpf_code::Program;
 use std::alloc::Allocator;
@@ -34,7 +35,12 @@ pub fn run_packet<A: Allocator>(
         (spec.trace (machine_of p.now values.now) packet.entry.bytes.now packet.entry.wire) }
 {
     let _sound = p.len();
-    end_of_packet(meter, p, packet, values).outcome()
+    let task = Task {
+        program: p,
+        packet,
+        values,
+    };
+    end_of_packet(meter, &task).outcome()
 }
 
 /// How a program ends on a packet, for those who count no turns.

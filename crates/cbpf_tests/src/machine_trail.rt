@@ -3,6 +3,7 @@
 ghost use Rattle.std.specs.Prelude.{◌≡◌, ◌≤◌, ◌-◌, [], Some, length, slice_get, take};
 ghost use Rattle.cbpf_machine.specs.Follow.{Knows, KnowsEach};
 ghost use Rattle.cbpf_machine.specs.Machine.{machine_of};
+ghost use Rattle.cbpf_machine.specs.Task.{entries_in};
 ghost use Rattle.cbpf_machine.specs.Trace.{trace};
 ghost use Rattle.cbpf_machine.specs.Values.{no_values};
 
@@ -10,8 +11,8 @@ use crate::assertions::{Test, assert_at, assert_at_both};
 use crate::programs::program_of;
 use cbpf_code::Program;
 use cbpf_machine::{
-    Before, Followed, ListTrail, MarkTrail, Meter, Outcome, Packet, State, Trail, Values, Watched,
-    When, follow_on, follow_packet,
+    Before, Followed, ListTrail, MarkTrail, Meter, Outcome, Packet, State, Task, Trail, Values,
+    Watched, When, follow_on, follow_packet,
 };
 use std::alloc::Global;
 use std::process::Abort;
@@ -57,21 +58,17 @@ fn only(alloc: Global, p: &Program, watched: u32) -> Watched
 fn fill<T: Trail>(
     rt: &impl Abort,
     trail: &mut T,
-    p: &Program,
-    packet: Packet<'_>,
-    values: &Values,
+    task: &Task<'_>,
     count: u32,
 ) -> State
     requires from_one { 1 ≤ count }
     requires few { count ≤ 4096 }
-    ensures last { slice_get (trace (machine_of p.now values.now) packet.entry.bytes.now packet.entry.wire)
-        (count - 1) ≡ Some result }
-    ensures stands { T.stands_for trail.new
-        (take count (trace (machine_of p.now values.now) packet.entry.bytes.now packet.entry.wire)) }
+    ensures last { slice_get (entries_in task.now) (count - 1) ≡ Some result }
+    ensures stands { T.stands_for trail.new (take count (entries_in task.now)) }
     ensures kept { T.kept trail.new ≡ count }
 {
     let mut meter = Meter::new();
-    match trail.go_to(&mut meter, p, packet, values, count) {
+    match trail.go_to(&mut meter, task, count) {
         Ok(last) => last,
         Err(_) => panic!(rt; "the packet ends before"),
     }
@@ -87,22 +84,17 @@ fn filled_and_followed<T: Trail>(
     watched: u32,
 ) -> (Followed, State, u128) {
     let values = Values::new();
-    let packet = Packet {
-        bytes: b"",
-        wire: 0,
+    let task = Task {
+        program: p,
+        packet: EMPTY,
+        values: &values,
     };
     assert!(rt; 1 <= count && count <= 4096);
     let _sound = p.len();
-    let mut s = fill(rt, trail, p, packet, &values, count);
+    let mut s = fill(rt, trail, &task, count);
     let mut meter = Meter::new();
-    let followed = trail.follow(
-        &mut meter,
-        p,
-        packet,
-        &values,
-        &only(rt.alloc(), p, watched),
-        &mut s,
-    );
+    let table = only(rt.alloc(), p, watched);
+    let followed = trail.follow(&mut meter, &task, &table, &mut s);
     (followed, s, meter.spent())
 }
 
@@ -135,8 +127,14 @@ fn begun<T: Trail>(
         pause: table,
         fence: T::first_gap() as usize,
     };
-    let followed = follow_packet(meter, p, EMPTY, &Values::new(), &pause, s);
-    let Followed::Watched(count) = followed else {
+    let values = Values::new();
+    let task = Task {
+        program: p,
+        packet: EMPTY,
+        values: &values,
+    };
+    let followed = follow_packet(meter, &task, &pause, s);
+    let Followed::Paused(count) = followed else {
         panic!(rt; "the packet ends before")
     };
     assert!(rt; count <= 4096 && count - 1 <= T::first_gap());
@@ -168,8 +166,14 @@ fn gone_on<T: Trail>(
     if table.pauses_at(s) {
         return count;
     }
-    match trail.follow(meter, p, EMPTY, &Values::new(), table, s) {
-        Followed::Watched(more) => count + more,
+    let values = Values::new();
+    let task = Task {
+        program: p,
+        packet: EMPTY,
+        values: &values,
+    };
+    match trail.follow(meter, &task, table, s) {
+        Followed::Paused(more) => count + more,
         Followed::Ended(_) => panic!(rt; "the packet ends before"),
     }
 }
@@ -239,7 +243,7 @@ fn onward(count: u32, watched: u32) -> (Followed, u32, u128) {
     } else {
         let turns = (watched - count).saturating_add(1);
         let entry = watched.saturating_add(1);
-        (Followed::Watched(turns), entry, turns.into())
+        (Followed::Paused(turns), entry, turns.into())
     }
 }
 
@@ -284,7 +288,13 @@ fn followed_from_before(rt: &impl Test, p: &Program, watched: u32) -> (Followed,
     let mut s = State::zero();
     let mut meter = Meter::new();
     let table = only(rt.alloc(), p, watched);
-    let followed = follow_packet(&mut meter, p, EMPTY, &Values::new(), &table, &mut s);
+    let values = Values::new();
+    let task = Task {
+        program: p,
+        packet: EMPTY,
+        values: &values,
+    };
+    let followed = follow_packet(&mut meter, &task, &table, &mut s);
     (followed, s, meter.spent())
 }
 
@@ -294,7 +304,13 @@ fn followed_on(rt: &impl Test, p: &Program, from: State, watched: u32) -> (Follo
     let mut s = from;
     let mut meter = Meter::new();
     let table = only(rt.alloc(), p, watched);
-    let followed = follow_on(&mut meter, p, EMPTY, &Values::new(), &table, &mut s);
+    let values = Values::new();
+    let task = Task {
+        program: p,
+        packet: EMPTY,
+        values: &values,
+    };
+    let followed = follow_on(&mut meter, &task, &table, &mut s);
     (followed, s, meter.spent())
 }
 
@@ -302,7 +318,7 @@ fn followed_on(rt: &impl Test, p: &Program, from: State, watched: u32) -> (Follo
 fn check_from_before(rt: &impl Test, p: &Program, first: u32) -> State {
     let (followed, s, turns) = followed_from_before(rt, p, first);
     let entry = first.saturating_add(1);
-    let is_wanted = followed == Followed::Watched(entry)
+    let is_wanted = followed == Followed::Paused(entry)
         && is_entry(&s, entry)
         && turns == u128::from(first);
     assert_at(rt, first as usize, is_wanted);
@@ -322,7 +338,13 @@ fn keeps_the_state(alloc: Global, p: &Program, from: State) -> bool {
     let mut s = from;
     let mut meter = Meter::new();
     let table = only(alloc, p, 4096);
-    let followed = follow_packet(&mut meter, p, EMPTY, &Values::new(), &table, &mut s);
+    let values = Values::new();
+    let task = Task {
+        program: p,
+        packet: EMPTY,
+        values: &values,
+    };
+    let followed = follow_packet(&mut meter, &task, &table, &mut s);
     followed == Followed::Ended(Outcome::Pass(2048)) && is_entry(&s, 2) && meter.spent() == 4096
 }
 

@@ -4,7 +4,7 @@ use crate::assertions::{Test, assert_at};
 use crate::inputs::program_of;
 use cbpf_code::{Ext, Program};
 use cbpf_machine::{
-    End, Meter, Packet, Runs, Tally, Values, Way, end_of_packet, run_packet, way_of_packet,
+    End, Meter, Packet, Runs, Tally, Task, Values, Way, end_of_packet, run_packet, way_of_packet,
 };
 use std::alloc::Allocator;
 
@@ -88,10 +88,15 @@ fn all_say_so<A: Allocator>(rt: &impl Test, p: &Program<A>, row: &Row) -> bool {
     let (_, bytes, last, reason, test) = *row;
     let packet = Packet { bytes, wire: 60 };
     let values = Values::new();
-    let way = way_of_packet(&mut Meter::new(), p, packet, &values);
-    let end = end_of_packet(&mut Meter::new(), p, packet, &values);
+    let task = Task {
+        program: p,
+        packet,
+        values: &values,
+    };
+    let way = way_of_packet(&mut Meter::new(), &task);
+    let end = end_of_packet(&mut Meter::new(), &task);
     let mut tally = Tally::new(rt.alloc(), p).expect(rt, "the tally");
-    let counted = tally.count_packet(&mut Meter::new(), p, packet, &values);
+    let counted = tally.count_packet(&mut Meter::new(), &task);
     let outcome = run_packet(&mut Meter::new(), p, packet, &values);
     goes_so(&way, last, reason, test)
         && end == way.end
@@ -147,7 +152,12 @@ fn counts_over_packets(rt: HostRuntime) {
         assert!(rt;
             tally.packets() < 6 && tally.runs().len() == p.len() as usize && meter.spent() < 100
         );
-        tally.count_packet(&mut meter, &p, Packet { bytes, wire: 60 }, &values);
+        let task = Task {
+            program: &p,
+            packet: Packet { bytes, wire: 60 },
+            values: &values,
+        };
+        tally.count_packet(&mut meter, &task);
         assert_at(&rt, i, tally.packets() == i as u64 + 1);
     }
     assert!(rt; are_runs(tally.runs(), IP_PROTO_17_RUNS) && meter.spent() == 22);
@@ -162,15 +172,16 @@ fn counts_of_a_jump_with_one_target(rt: HostRuntime) {
     ] {
         let p = program_of(rt.alloc(), words).expect(&rt, "a program");
         let mut tally = Tally::new(rt.alloc(), &p).expect(&rt, "the tally");
-        tally.count_packet(
-            &mut Meter::new(),
-            &p,
-            Packet {
+        let values = Values::new();
+        let task = Task {
+            program: &p,
+            packet: Packet {
                 bytes: b"",
                 wire: 0,
             },
-            &Values::new(),
-        );
+            values: &values,
+        };
+        tally.count_packet(&mut Meter::new(), &task);
         assert!(rt; are_runs(tally.runs(), &[(1, taken), (1, 0)]));
     }
 }

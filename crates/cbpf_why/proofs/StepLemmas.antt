@@ -8,7 +8,7 @@ use Rattle.cbpf_code.specs.Writing.{Appended, AppendedPart}
 use Rattle.cbpf_code.proofs.WrittenLemmas.{appended-then, part-then, part-front}
 use Rattle.cbpf_code.proofs.SoundLemmas.{sound_some}
 use Rattle.cbpf_machine.specs.Registers.{Registers, zero_state}
-use Rattle.cbpf_machine.specs.Task.{Task, IsOnTrace, trace_in, turn_in}
+use Rattle.cbpf_machine.specs.OnPacket.{OnPacket, IsOnTrace, trace_in, turn_in}
 use Rattle.cbpf_machine.specs.Trace.{last_or, next_of}
 use Rattle.cbpf_machine.specs.declared.outcome.Turn.{Turn}
 use Rattle.cbpf_machine.specs.declared.outcome.Turn.TheVariants.{Next, Returned, Outside, ZeroDivisor, Unknown}
@@ -17,7 +17,7 @@ use Rattle.cbpf_machine.proofs.TraceLemmas.{goes_last, trace-is_run}
 use Rattle.cbpf_machine.proofs.WayLemmas.{take_next}
 
 -- the texts of the entries up to one, with its own
-module _ {t : Task} {i : ℕ} {s : Registers} (here : IsOnTrace t i s) (f : Registers → List ℕ) where
+module _ {t : OnPacket} {i : ℕ} {s : Registers} (here : IsOnTrace t i s) (f : Registers → List ℕ) where
   texts-more : flat_map f (take (i + 1) (trace_in t)) ≡ flat_map f (take i (trace_in t)) ++ f s
   texts-more = rw (take_next here, flat_map-append, append-nil (f s)) refl
 
@@ -60,7 +60,7 @@ test_within n None h = tt
 test_within n (Some s) h = h s refl
 
 -- of a checked program
-module _ (t : Task) (sound : IsSound t.machine.list) where
+module _ (t : OnPacket) (sound : IsSound t.machine.list) where
   pub last_inside : (last_or zero_state (trace_in t)).pc < length t.machine.list
   last_inside = last_within _ (trace_in t) zero_state (trace-is_run t sound).inside (sound_some t.machine.list sound)
 

@@ -12,7 +12,7 @@ use crate::ended::Ended;
 use crate::groups::Groups;
 use crate::job::Question;
 use cbpf_code::Program;
-use cbpf_machine::{Meter, Tally, end_of_packet};
+use cbpf_machine::{Meter, Tally, Task, end_of_packet};
 use cbpf_reply::packet_of;
 use pcap_classic::Captured;
 use std::alloc::{AllocError, Allocator};
@@ -44,12 +44,12 @@ fn end_of<P: Allocator>(question: &Question<'_, P>, record: &Captured<'_>) -> En
     ensures inside { result.pc < length question.now.program.now }
 {
     let _sound = question.program.len();
-    let end = end_of_packet(
-        &mut Meter::new(),
-        question.program,
-        packet_of(record),
-        question.values,
-    );
+    let task = Task {
+        program: question.program,
+        packet: packet_of(record),
+        values: question.values,
+    };
+    let end = end_of_packet(&mut Meter::new(), &task);
     Ended::of(record.number, &end)
 }
 
@@ -67,12 +67,12 @@ fn count_packet<P: Allocator, A: Allocator>(
         → spec.Tallies tally.new (spec.machine_in question.now) (records ++ record_of record.now ∷ []) }
 {
     let _sound = question.program.len();
-    let way = tally.count_packet(
-        &mut Meter::new(),
-        question.program,
-        packet_of(record),
-        question.values,
-    );
+    let task = Task {
+        program: question.program,
+        packet: packet_of(record),
+        values: question.values,
+    };
+    let way = tally.count_packet(&mut Meter::new(), &task);
     Ended::of(record.number, &way.end)
 }
 

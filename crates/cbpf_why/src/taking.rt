@@ -20,7 +20,7 @@ use crate::packets::write_packet_line;
 use crate::report::Report;
 use crate::ways::write_way;
 use cbpf_code::WriteFault;
-use cbpf_machine::{Meter, way_of_packet};
+use cbpf_machine::{Meter, Task, way_of_packet};
 use cbpf_reply::packet_of;
 use pcap_classic::{CaptureReader, Captured, ReadFault};
 use std::alloc::Allocator;
@@ -44,12 +44,12 @@ fn write_line_of<P: Allocator, W: Write>(
     ensures { Wrote (W.contents w.old) (W.contents w.new) result
         (packet_line (ended (spec.machine_in question.now) (record_of record.now))) }
 {
-    let way = way_of_packet(
-        &mut Meter::new(),
-        question.program,
-        packet_of(record),
-        question.values,
-    );
+    let task = Task {
+        program: question.program,
+        packet: packet_of(record),
+        values: question.values,
+    };
+    let way = way_of_packet(&mut Meter::new(), &task);
     write_packet_line(w, Ended::of(record.number, &way.end))
 }
 

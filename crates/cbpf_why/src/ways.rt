@@ -13,7 +13,7 @@ ghost use Rattle.cbpf_why.specs.Ways as spec;
 
 use crate::ended::{Ended, Verdict, put_reason_after, put_verdict};
 use cbpf_code::{Line, Op, Program, WriteFault, op_of, put_line, write_bytes, write_with_number};
-use cbpf_machine::{Meter, Packet, State, Test, Turn, Values, turn, way_of_packet};
+use cbpf_machine::{Meter, Packet, State, Task, Test, Turn, Values, turn, way_of_packet};
 use pcap_classic::Captured;
 use std::alloc::Allocator;
 use std::io::Write;
@@ -182,10 +182,14 @@ pub(crate) fn write_way<W: Write, A: Allocator>(
     write_with_number(w, b"packet ", record.number, b"\n")?;
     write_steps(w, p, values, record)?;
     let _sound = p.len();
-    let packet = Packet {
-        bytes: record.bytes,
-        wire: record.wire,
+    let task = Task {
+        program: p,
+        packet: Packet {
+            bytes: record.bytes,
+            wire: record.wire,
+        },
+        values,
     };
-    let way = way_of_packet(&mut Meter::new(), p, packet, values);
+    let way = way_of_packet(&mut Meter::new(), &task);
     write_end(w, p, Ended::of(record.number, &way.end), &way.test)
 }

@@ -19,26 +19,26 @@ follow_packet-requires-clause-spare g c = omega (arith, c.requires.can.spare, c.
 pub finish_whole_packet-requires-clause-counts : goal.finish_whole_packet-requires-clause-counts
 finish_whole_packet-requires-clause-counts g c = countable _ _ c.go.walk.cursor c.go.invariant.passes.stands c.args.loaded.now.few
 
-pub returns-in-Watched-clause-goes : goal.returns-in-Watched-clause-goes
-returns-in-Watched-clause-goes g c =
+pub returns-in-Paused-clause-goes : goal.returns-in-Paused-clause-goes
+returns-in-Paused-clause-goes g c =
     let so = c.go.invariant in
     let is = first_of _ _ (sym c.front-here.ensures) in
     let here = first_left _ _ _ _ _ is so.left in
     let step = so.out refl in
-    let sum : c.go.walk.cursor.place.step + c.in-Watched.entries ≡ c.in-Watched.entries = omega (arith, step) in
+    let sum : c.go.walk.cursor.place.step + c.in-Paused.entries ≡ c.in-Paused.entries = omega (arith, step) in
     goes_more _ _ _ _ _ _ _ _ _ so (goes_to_entry _ _ (record_of c.front-here.result)
     so.passes.stands here _ 0 c.follow_packet.result c.follow_packet.new.state _ c.go.meter
-    c.follow_packet.new.meter c.go.walk.left _ _ so.left so.ends (omega (arith, c.go-test.true, so.same)) (omega (arith, step)) (rw c.in-Watched.is refl)
-    (rw (c.in-Watched.is, sum) refl) c.follow_packet.ensures.follows
+    c.follow_packet.new.meter c.go.walk.left _ _ so.left so.ends (omega (arith, c.go-test.true, so.same)) (omega (arith, step)) (rw c.in-Paused.is refl)
+    (rw (c.in-Paused.is, sum) refl) c.follow_packet.ensures.follows
     (omega (arith, c.follow_packet.ensures.turns)) is)
 
-pub returns-in-Watched-clause-keeps : goal.returns-in-Watched-clause-keeps
-returns-in-Watched-clause-keeps g c = λ _ r there.
+pub returns-in-Paused-clause-keeps : goal.returns-in-Paused-clause-keeps
+returns-in-Paused-clause-keeps g c = λ _ r there.
     let here = first_left _ _ _ _ _ (first_of _ _ (sym c.front-here.ensures)) c.go.invariant.left in
     let same : record_of c.front-here.result ≡ r = cc in
-    subst (λ (q : Record). g.K.Keeper.stands_for c.follow_packet.new.self (take c.in-Watched.entries
+    subst (λ (q : Record). g.K.Keeper.stands_for c.follow_packet.new.self (take c.in-Paused.entries
     (trace (machine_in c.args.loaded.now) q.bytes q.wire))) same
-    (c.follow_packet.ensures.stands c.in-Watched.entries c.in-Watched.is)
+    (c.follow_packet.ensures.stands c.in-Paused.entries c.in-Paused.is)
 
 pub go-preserved : goal.go-preserved
 go-preserved g c =

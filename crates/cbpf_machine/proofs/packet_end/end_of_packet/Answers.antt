@@ -1,6 +1,6 @@
 use Rattle.std.proofs.Common.{refl, ◌∙◌, arith}
 use Rattle.cbpf_machine.specs.Registers.{zero_state}
-use Rattle.cbpf_machine.specs.Task.{task_of}
+use Rattle.cbpf_machine.specs.OnPacket.{in_task}
 use Rattle.cbpf_machine.proofs.FollowLemmas.{start_goes}
 use Rattle.cbpf_machine.proofs.SoundLemmas.{sound_some}
 use Rattle.cbpf_machine.proofs.TraceLemmas.{length-trace_from}
@@ -8,11 +8,11 @@ use Rattle.cbpf_machine.proofs.WayLemmas.{ends_packet}
 use Rattle.cbpf_machine.proofs.packet_end.end_of_packet.Goals as goal
 
 pub make_turns-turns-requires-clause-inside : goal.make_turns-turns-requires-clause-inside
-make_turns-turns-requires-clause-inside g c = rw c.zero-core.ensures (sound_some c.args.p.now c.len-few.ensures.sound)
+make_turns-turns-requires-clause-inside g c = rw c.zero-core.ensures (sound_some c.args.task.now.program.now c.len-few.ensures.sound)
 
 pub returns : goal.returns
 returns g c =
-    let t = task_of c.args.p.now c.args.values.now c.args.packet in
+    let t = in_task c.args.task.now in
     let reached = rw c.in-Some.is at
     (c.make_turns-turns.ensures.reaches 0 (rw c.zero-core.ensures (start_goes _ c.len-few.ensures.sound))) in
     let end = ends_packet reached.arrives.0 c.in-Some.reason reached.arrives.1 in

@@ -1,7 +1,7 @@
 use Rattle.std.proofs.Common.{refl, ℕ, ◌≤◌, arith, false}
 use Rattle.cbpf_machine.specs.Core.{registers}
 use Rattle.cbpf_machine.specs.Registers.{Registers}
-use Rattle.cbpf_machine.specs.Task.{IsOnTrace, task_of}
+use Rattle.cbpf_machine.specs.OnPacket.{IsOnTrace, in_task}
 use Rattle.cbpf_machine.specs.Together.{Reaches}
 use Rattle.cbpf_machine.proofs.TraceLemmas.{ended_last}
 use Rattle.cbpf_machine.proofs.FollowLemmas.{reaches_fenced}
@@ -10,8 +10,8 @@ use Rattle.cbpf_machine.proofs.reach.go_on.Goals.{After-make_turns-turns}
 use Rattle.cbpf_machine.proofs.reach.go_on.Goals as goal
 
 reached : (g : Over) (c : After-make_turns-turns g) (i : ℕ)
-    → IsOnTrace (task_of c.args.p.now c.args.values.now c.args.packet) i (registers c.args.s.now c.args.slots.now)
-    → Reaches (task_of c.args.p.now c.args.values.now c.args.packet) (λ (r : Registers). false) i
+    → IsOnTrace (in_task c.args.task.now) i (registers c.args.s.now c.args.slots.now)
+    → Reaches (in_task c.args.task.now) (λ (r : Registers). false) i
     (registers c.make_turns-turns.new.s c.make_turns-turns.new.slots) c.make_turns-turns.result.0 c.make_turns-turns.result.1
     × (c.make_turns-turns.result.0 ≤ c.args.most)
 reached g c i on = reaches_fenced c.args.most (c.make_turns-turns.ensures.reaches i on) on

@@ -1,6 +1,6 @@
 use Rattle.std.proofs.Common.{◌≡◌, ◌≤◌, ◌+◌, ◌-◌}
 use Rattle.cbpf_machine.specs.Core.{registers}
-use Rattle.cbpf_machine.specs.Task.{IsOnTrace, task_of}
+use Rattle.cbpf_machine.specs.OnPacket.{IsOnTrace, in_task}
 use Rattle.cbpf_machine.proofs.reach.reach.Given as goal
 
 -- the state is the last of so many entries
@@ -9,7 +9,7 @@ invariant-reach g l =
     record {
       from_one : 1 ≤ l.entries;
       within : l.entries ≤ l.to;
-      here : IsOnTrace (task_of l.p l.values l.packet) (l.entries - 1) (registers l.here l.slots);
+      here : IsOnTrace (in_task l.task) (l.entries - 1) (registers l.here l.slots);
       spent : l.meter + 1 ≡ l.fn.meter + l.entries;
     }
 

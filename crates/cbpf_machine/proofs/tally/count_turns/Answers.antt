@@ -1,7 +1,7 @@
 use Rattle.std.proofs.Common.{◌+◌, ◌∙◌, arith}
 use Rattle.std.proofs.lemmas.List.{length-set}
 use Rattle.std.specs.Prelude.{slice_set}
-use Rattle.cbpf_machine.specs.Task.{task_of}
+use Rattle.cbpf_machine.specs.OnPacket.{in_task}
 use Rattle.cbpf_machine.proofs.WayLemmas.{walk_starts}
 use Rattle.cbpf_machine.proofs.TallyLemmas.{CountsFirst, counts_next, counts_all}
 use Rattle.cbpf_machine.proofs.tally.count_turns.Given.{Over}
@@ -32,7 +32,7 @@ turns-preserved g c =
           (omega (arith, before.walked.here.inside, before.long)) made.goes.1 made.turns (rw c.pc-pc.ensures at made.here);
     })
 
-counted : (g : Over) (c : In-Some g) → CountsFirst (task_of c.args.p.now c.args.values.now c.args.packet)
+counted : (g : Over) (c : In-Some g) → CountsFirst (in_task c.args.task.now)
     c.turn.new.self.turns (c.turns.walk.core.pc + 1) c.args.runs.now (slice_set c.turns.runs c.pc-pc.result c.turn.new.here)
 counted g c =
     let before = c.turns.invariant in

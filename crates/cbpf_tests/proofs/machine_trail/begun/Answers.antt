@@ -7,7 +7,7 @@ use Rattle.cbpf_tests.proofs.machine_trail.begun.Goals as goal
 
 pub returns-clause-stands : goal.returns-clause-stands
 returns-clause-stands g c =
-    let at : 0 + c.in-Watched.count - 1 ≡ c.in-Watched.count - 1 = omega arith in
+    let at : 0 + c.in-Paused.count - 1 ≡ c.in-Paused.count - 1 = omega arith in
     c.start.ensures.stands (trace (machine_of c.args.p.now no_values) [] 0)
     (first_entry (record { machine = machine_of c.args.p.now no_values; bytes = []; wire = 0 }) c.len-sound.ensures.sound)
-    (rw at at (rw c.new.ensures.value at c.in-Watched.ensures.follows.2))
+    (rw at at (rw c.new-values.ensures.value at c.in-Paused.ensures.follows.2))

@@ -31,7 +31,7 @@ follow-requires-clause-last g c =
     c.requires.last in
     let kept : c.args.count ≡ g.T.Trail.kept c.args.trail.now =
     omega (arith, c.requires.from_one, long, within, length-take c.args.count (trace (machine_of c.args.p.now no_values) [] 0)) in
-    rw c.new.ensures.value (rw kept at c.requires.last)
+    rw c.new-values.ensures.value (rw kept at c.requires.last)
 
 pub follow-requires-clause-spare : goal.follow-requires-clause-spare
 follow-requires-clause-spare g c =
@@ -39,7 +39,7 @@ follow-requires-clause-spare g c =
       arith,
       c.requires.turns,
       sound_few c.args.p.now c.len-sound.ensures.sound,
-      length-trace_from (machine_of c.args.p.now c.new.result) [] 0 zero_state,
+      length-trace_from (machine_of c.args.p.now c.new-values.result) [] 0 zero_state,
     )
 
 pub overflow_add-result : goal.overflow_add-result
@@ -49,14 +49,14 @@ overflow_add-result g c =
     c.requires.last in
     let kept : g.T.Trail.kept c.args.trail.now ≡ c.args.count =
     omega (arith, c.requires.from_one, long, within, length-take c.args.count (trace (machine_of c.args.p.now no_values) [] 0)) in
-    let there = slice_get_within (trace (machine_of c.args.p.now c.new.result) [] 0)
-    (g.T.Trail.kept c.args.trail.now + c.in-Watched.more - 1) c.follow.new.s c.in-Watched.ensures.follows.2 in
+    let there = slice_get_within (trace (machine_of c.args.p.now c.new-values.result) [] 0)
+    (g.T.Trail.kept c.args.trail.now + c.in-Paused.more - 1) c.follow.new.s c.in-Paused.ensures.follows.2 in
     omega (
       arith,
       kept,
       there,
       sound_few c.args.p.now c.len-sound.ensures.sound,
-      length-trace_from (machine_of c.args.p.now c.new.result) [] 0 zero_state,
+      length-trace_from (machine_of c.args.p.now c.new-values.result) [] 0 zero_state,
     )
 
 pub returns-clause-stands : goal.returns-clause-stands
@@ -66,7 +66,7 @@ returns-clause-stands g c =
     c.requires.last in
     let kept : g.T.Trail.kept c.args.trail.now ≡ c.args.count =
     omega (arith, c.requires.from_one, long, within, length-take c.args.count (trace (machine_of c.args.p.now no_values) [] 0)) in
-    rw kept at (rw c.new.ensures.value at (c.in-Watched.ensures.stands c.in-Watched.more refl))
+    rw kept at (rw c.new-values.ensures.value at (c.in-Paused.ensures.stands c.in-Paused.more refl))
 
 pub returns-clause-within : goal.returns-clause-within
 returns-clause-within g c =
@@ -76,6 +76,6 @@ returns-clause-within g c =
     let kept : g.T.Trail.kept c.args.trail.now ≡ c.args.count =
     omega (arith, c.requires.from_one, long, within, length-take c.args.count (trace (machine_of c.args.p.now no_values) [] 0)) in
     let there = slice_get_within (trace (machine_of c.args.p.now no_values) [] 0)
-    (g.T.Trail.kept c.args.trail.now + c.in-Watched.more - 1) c.follow.new.s
-    (rw c.new.ensures.value at c.in-Watched.ensures.follows.2) in
-    omega (arith, kept, there, c.in-Watched.ensures.follows.0)
+    (g.T.Trail.kept c.args.trail.now + c.in-Paused.more - 1) c.follow.new.s
+    (rw c.new-values.ensures.value at c.in-Paused.ensures.follows.2) in
+    omega (arith, kept, there, c.in-Paused.ensures.follows.0)

@@ -1,5 +1,5 @@
 use Rattle.std.proofs.Common.{◌∙◌}
-use Rattle.cbpf_machine.specs.Task.{Task}
+use Rattle.cbpf_machine.specs.OnPacket.{OnPacket}
 use Rattle.pcap_classic.specs.Lent.{record_of}
 use Rattle.cbpf_why.specs.Job.{machine_in}
 use Rattle.cbpf_why.proofs.JobLemmas.{ended-is, tallies-more}
@@ -14,7 +14,7 @@ returns-clause-ended g c =
 
 pub returns-clause-inside : goal.returns-clause-inside
 returns-clause-inside g c =
-    let task : Task = record {
+    let task : OnPacket = record {
       machine = machine_in c.args.question.now;
       bytes = c.args.record.now.bytes.now;
       wire = c.args.record.now.wire;

@@ -2,17 +2,17 @@ use Rattle.std.proofs.Common.{◌-◌, ◌≤◌, length, take}
 use Rattle.std.specs.List.{flat_map}
 use Rattle.cbpf_code.specs.Writing.{Appended}
 use Rattle.cbpf_machine.specs.Machine.{machine_of}
-use Rattle.cbpf_machine.specs.Task.{IsOnTrace, task_of, trace_in}
+use Rattle.cbpf_machine.specs.OnPacket.{IsOnTrace, on_packet, trace_in}
 use Rattle.pcap_classic.specs.Lent.{record_of}
 use Rattle.cbpf_why.specs.Ways.{step_in}
 use Rattle.cbpf_why.proofs.ways.write_steps.Given as goal
 
 abbrev pub invariant-turns : goal.invariant-turns
 invariant-turns g l = record {
-  here : IsOnTrace (task_of l.p l.values l.packet) l.meter l.s;
+  here : IsOnTrace (on_packet l.p l.values l.packet) l.meter l.s;
   rises : l.meter ≤ l.s.pc;
   written : Appended (g.W.Write.contents l.fn.w) (g.W.Write.contents l.w)
-      (flat_map (step_in (machine_of l.p l.values) (record_of l.record)) (take l.meter (trace_in (task_of l.p l.values l.packet))));
+      (flat_map (step_in (machine_of l.p l.values) (record_of l.record)) (take l.meter (trace_in (on_packet l.p l.values l.packet))));
 }
 
 abbrev pub decreases-turns : goal.decreases-turns

@@ -1,7 +1,7 @@
 use Rattle.std.proofs.Common.{◌∙◌}
 use Rattle.cbpf_code.proofs.WrittenLemmas.{first-failed, wrote-then, err-exit, part-then, part-more}
 use Rattle.cbpf_machine.specs.Machine.{machine_of}
-use Rattle.cbpf_machine.specs.Task.{Task}
+use Rattle.cbpf_machine.specs.OnPacket.{OnPacket}
 use Rattle.pcap_classic.specs.Lent.{record_of}
 use Rattle.cbpf_why.specs.Ways.{way_text}
 use Rattle.cbpf_why.proofs.JobLemmas.{ended-is}
@@ -21,7 +21,7 @@ returns-in_err-write_steps g c =
 
 pub write_end-requires-clause-ended : goal.write_end-requires-clause-ended
 write_end-requires-clause-ended g c =
-    let task : Task = record {
+    let task : OnPacket = record {
       machine = machine_of c.args.p.now c.args.values.now;
       bytes = c.args.record.now.bytes.now;
       wire = c.args.record.now.wire;
@@ -30,7 +30,7 @@ write_end-requires-clause-ended g c =
 
 pub write_end-requires-clause-test : goal.write_end-requires-clause-test
 write_end-requires-clause-test g c =
-    let task : Task = record {
+    let task : OnPacket = record {
       machine = machine_of c.args.p.now c.args.values.now;
       bytes = c.args.record.now.bytes.now;
       wire = c.args.record.now.wire;

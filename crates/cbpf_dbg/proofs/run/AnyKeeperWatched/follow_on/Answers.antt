@@ -1,5 +1,5 @@
 use Rattle.std.proofs.Common.{arith}
-use Rattle.cbpf_machine.specs.Task.{task_of}
+use Rattle.cbpf_machine.specs.OnPacket.{in_task}
 use Rattle.cbpf_machine.proofs.FollowLemmas.{few_entries}
 use Rattle.cbpf_dbg.proofs.KeepLemmas.{keeps_as_many}
 use Rattle.cbpf_dbg.proofs.run.AnyKeeperWatched.follow_on.Goals as goal
@@ -9,12 +9,11 @@ follow-requires g c =
     let at = c.requires.keeps.1 in
     let kept = keeps_as_many (λ xs. g.T.Trail.stands_for c.args.self.now xs) _ _ _ _ at
     (g.met.T.Trail.as_long c.args.self.now) in
-    let task = task_of c.args.task.now.program.now c.args.task.now.values.now c.args.task.now.packet in
     record {
       from_one = rw kept at.from_one;
       of_trace = rw kept at.stands;
       last = rw kept at.entry;
-      spare = omega (arith, few_entries task c.requires.sound, c.requires.spare);
+      spare = omega (arith, few_entries (in_task c.args.task.now) c.requires.sound, c.requires.spare);
       knows = c.requires.knows;
     }
 

@@ -6,7 +6,7 @@ use Rattle.std.proofs.lemmas.Option.{slice_get_read, slice_get_within, get_or_fr
 use Rattle.cbpf_machine.specs.Trail.{AreCheckpoints, Checkpoints}
 use Rattle.cbpf_machine.specs.Registers.{Registers}
 use Rattle.cbpf_machine.specs.Trace.{next_of}
-use Rattle.cbpf_machine.specs.Task.{task_of, turn_in, trace_in}
+use Rattle.cbpf_machine.specs.OnPacket.{on_packet, turn_in, trace_in}
 use Rattle.cbpf_machine.proofs.TraceLemmas.{goes_from_entry, goes_next, goes_at, goes_last, next_of-none}
 use Rattle.cbpf_machine.specs.declared.mark_trail.TheConstants.{STRIDE}
 use Rattle.cbpf_machine.proofs.ListLemmas.{slice_get-take}
@@ -51,9 +51,9 @@ cut kept to items xs fewer are =
 pub again-init : goal.again-init
 again-init g c =
     let at = kept_at c.self.inside.kept c.self.inside.checkpoints.items
-    (trace_in (task_of c.args.p.now c.args.values.now c.args.packet)) ((c.args.to - 1) / STRIDE)
+    (trace_in (on_packet c.args.p.now c.args.values.now c.args.packet)) ((c.args.to - 1) / STRIDE)
     c.index-deref-checkpoint.result (subst (λ k. AreCheckpoints k
-    (take k.kept (trace_in (task_of c.args.p.now c.args.values.now c.args.packet))))
+    (take k.kept (trace_in (on_packet c.args.p.now c.args.values.now c.args.packet))))
     (sym c.self.view_is) c.requires.of_trace) (omega (arith, ap (λ (k : Checkpoints). k.kept) c.self.view_is))
     (rw c.deref.ensures.0 at c.index-deref-checkpoint.is) in
     record {
@@ -71,11 +71,11 @@ again-preserved g c =
 -- an entry before the last has a next one
 pub unreachable-requires : goal.unreachable-requires
 unreachable-requires g c =
-    let none : next_of (turn_in (task_of c.args.p.now c.args.values.now c.args.packet) c.again.s) ≡ None =
+    let none : next_of (turn_in (on_packet c.args.p.now c.args.values.now c.args.packet) c.again.s) ≡ None =
     rw (← c.turn.ensures.value) (next_of-none c.turn.result c.in_default.not-Next) in
     let end = goes_last c.again.invariant.here none in
     let long = c.requires.of_trace.long in
-    omega (arith, end, length-take c.args.self.now.kept (trace_in (task_of c.args.p.now c.args.values.now c.args.packet)))
+    omega (arith, end, length-take c.args.self.now.kept (trace_in (on_packet c.args.p.now c.args.values.now c.args.packet)))
 
 pub returns-clause-entry : goal.returns-clause-entry
 returns-clause-entry g c =
@@ -84,7 +84,7 @@ returns-clause-entry g c =
 
 pub returns-clause-stands : goal.returns-clause-stands
 returns-clause-stands g c = cut c.self.inside.kept c.args.to c.self.inside.checkpoints.items
-    (trace_in (task_of c.args.p.now c.args.values.now c.args.packet))
+    (trace_in (on_packet c.args.p.now c.args.values.now c.args.packet))
     (omega (arith, c.requires.within, ap (λ (k : Checkpoints). k.kept) c.self.view_is))
-    (subst (λ k. AreCheckpoints k (take k.kept (trace_in (task_of c.args.p.now c.args.values.now c.args.packet))))
+    (subst (λ k. AreCheckpoints k (take k.kept (trace_in (on_packet c.args.p.now c.args.values.now c.args.packet))))
     (sym c.self.view_is) c.requires.of_trace)

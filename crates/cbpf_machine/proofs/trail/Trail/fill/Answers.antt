@@ -2,7 +2,7 @@ use Rattle.std.proofs.Common.{◌≡◌, ◌+◌, ◌-◌, [], arith, sym}
 use Rattle.std.proofs.lemmas.Option.{slice_get_within}
 use Rattle.cbpf_machine.specs.Core.{registers}
 use Rattle.cbpf_machine.specs.Registers.{zero_state}
-use Rattle.cbpf_machine.specs.Task.{task_of, trace_in}
+use Rattle.cbpf_machine.specs.OnPacket.{in_task, trace_in}
 use Rattle.cbpf_machine.proofs.TraceLemmas.{first_entry, goes_at}
 use Rattle.cbpf_machine.proofs.ListLemmas.{take-slice_get}
 use Rattle.cbpf_machine.proofs.FollowLemmas.{few_entries, start_goes}
@@ -24,9 +24,9 @@ fill-init g c =
 pub keep-requires-clause-few : goal.keep-requires-clause-few
 keep-requires-clause-few g c =
     let to = rw c.in-Ok.is at (c.go_on.ensures.goes _ c.fill.invariant.here) in
-    let within = slice_get_within (trace_in (task_of c.args.p.now c.args.values.now c.args.packet))
+    let within = slice_get_within (trace_in (in_task c.args.task.now))
     (c.fill.entries - 1 + c.in-Ok.turns) (registers c.go_on.new.s c.go_on.new.slots) (goes_at to.2) in
-    let all = few_entries (task_of c.args.p.now c.args.values.now c.args.packet) c.fill.invariant.here.sound in
+    let all = few_entries (in_task c.args.task.now) c.fill.invariant.here.sound in
     omega (arith, within, all, to.0, c.fill.invariant.kept)
 
 pub fill-preserved : goal.fill-preserved
@@ -36,7 +36,7 @@ fill-preserved g c =
     let i : c.fill.entries - 1 + c.in-Ok.turns ≡ c.fill.entries + c.in-Ok.turns - 1 = omega arith in
     let here = rw i at to.2 in
     let k = c.fill.invariant.kept in
-    let kept = c.keep.ensures.stands (trace_in (task_of c.args.p.now c.args.values.now c.args.packet))
+    let kept = c.keep.ensures.stands (trace_in (in_task c.args.task.now))
     (rw (k, c.of.ensures) (goes_at here)) (rw k c.fill.invariant.stands) in
     record {
       from_one = omega (arith, to.0);

@@ -1,6 +1,6 @@
 use Rattle.std.proofs.Common.{◌≡◌, ◌≤◌, ◌+◌, ◌-◌, take}
 use Rattle.cbpf_machine.specs.Core.{registers}
-use Rattle.cbpf_machine.specs.Task.{IsOnTrace, task_of, trace_in}
+use Rattle.cbpf_machine.specs.OnPacket.{IsOnTrace, in_task, trace_in}
 use Rattle.cbpf_machine.proofs.trail.Trail.fill.Given as goal
 
 -- the trail keeps so many entries, of which the state is the last
@@ -10,8 +10,8 @@ invariant-fill g l =
       from_one : 1 ≤ l.entries;
       within : l.entries ≤ l.to;
       kept : g.Self.Trail.kept l.self ≡ l.entries;
-      here : IsOnTrace (task_of l.p l.values l.packet) (l.entries - 1) (registers l.here l.slots);
-      stands : g.Self.Trail.stands_for l.self (take l.entries (trace_in (task_of l.p l.values l.packet)));
+      here : IsOnTrace (in_task l.task) (l.entries - 1) (registers l.here l.slots);
+      stands : g.Self.Trail.stands_for l.self (take l.entries (trace_in (in_task l.task)));
       spent : l.meter + 1 ≡ l.fn.meter + l.entries;
     }
 

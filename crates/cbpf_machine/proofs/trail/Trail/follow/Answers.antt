@@ -3,7 +3,7 @@ use Rattle.std.specs.Prelude.{None}
 use Rattle.cbpf_code.specs.declared.checker.TheConstants.{MAX_INSTRUCTIONS}
 use Rattle.cbpf_machine.specs.Core.{registers}
 use Rattle.cbpf_machine.specs.Follow.{is_watched}
-use Rattle.cbpf_machine.specs.Task.{task_of, trace_in}
+use Rattle.cbpf_machine.specs.OnPacket.{in_task, trace_in}
 use Rattle.cbpf_machine.specs.Together.{Reaches}
 use Rattle.cbpf_machine.proofs.SoundLemmas.{sound_few}
 use Rattle.cbpf_machine.proofs.TraceLemmas.{goes_from_entry}
@@ -31,11 +31,11 @@ overflow_add-fence g c = omega (
   arith,
   c.gap.ensures.few,
   c.follow.invariant.here.inside,
-  sound_few c.args.p.now c.follow.invariant.here.sound,
+  sound_few c.args.task.now.program.now c.follow.invariant.here.sound,
 )
 
 reached : (g : Over) (c : After-make_turns-turns g)
-    → Reaches (task_of c.args.p.now c.args.values.now c.args.packet) (is_watched c.args.watched.now)
+    → Reaches (in_task c.args.task.now) (is_watched c.args.watched.now)
     (g.Self.Trail.kept c.follow.self - 1) (registers c.make_turns-turns.new.s c.make_turns-turns.new.slots) c.make_turns-turns.result.0
     c.make_turns-turns.result.1 × (c.make_turns-turns.result.0 ≤ c.gap.result)
 reached g c = reaches_fenced c.gap.result (c.make_turns-turns.ensures.reaches _ c.follow.invariant.here)
@@ -43,8 +43,8 @@ reached g c = reaches_fenced c.gap.result (c.make_turns-turns.ensures.reaches _ 
 
 within : (g : Over) (c : After-make_turns-turns g)
     → (g.Self.Trail.kept c.follow.self + c.make_turns-turns.result.0
-    ≤ length (trace_in (task_of c.args.p.now c.args.values.now c.args.packet)) + 1)
-    × (length (trace_in (task_of c.args.p.now c.args.values.now c.args.packet)) ≤ MAX_INSTRUCTIONS)
+    ≤ length (trace_in (in_task c.args.task.now)) + 1)
+    × (length (trace_in (in_task c.args.task.now)) ≤ MAX_INSTRUCTIONS)
 within g c =
     let h = reaches_within _ (reached g c).0 (c.make_turns-turns.ensures.some refl) in
     (omega (arith, c.follow.invariant.from_one), few_entries _ c.follow.invariant.here.sound)
@@ -80,7 +80,7 @@ keep-requires-clause-ignores g c =
 
 -- and to another entry
 on : (g : Over) (c : After-make_turns-turns g) → c.make_turns-turns.result.1 ≡ None
-    → Comes (task_of c.args.p.now c.args.values.now c.args.packet) (is_watched c.args.watched.now)
+    → Comes (in_task c.args.task.now) (is_watched c.args.watched.now)
     (g.Self.Trail.kept c.args.self.now) (g.Self.Trail.kept c.follow.self + c.make_turns-turns.result.0)
     (registers c.make_turns-turns.new.s c.make_turns-turns.new.slots)
 on g c is = comes (g.Self.Trail.kept c.follow.self) (rw is at (reached g c).0) c.follow.invariant.unpaused
@@ -101,7 +101,7 @@ overflow_add-made g c =
 pub pauses_at-requires : goal.pauses_at-requires
 pauses_at-requires g c =
     let inside = c.make_turns-turns.ensures.inside in
-    rw c.of-state.ensures (omega (arith, inside, sound_few c.args.p.now c.follow.invariant.here.sound))
+    rw c.of-state.ensures (omega (arith, inside, sound_few c.args.task.now.program.now c.follow.invariant.here.sound))
 
 pub returns-then-pauses_at : goal.returns-then-pauses_at
 returns-then-pauses_at g c =

@@ -1,7 +1,7 @@
 use Rattle.std.proofs.Common.{◌≡◌, ◌≤◌, ◌+◌, ◌-◌, length, take}
 use Rattle.cbpf_machine.specs.Core.{registers}
 use Rattle.cbpf_machine.specs.Follow.{Unpaused, is_watched}
-use Rattle.cbpf_machine.specs.Task.{IsOnTrace, task_of, trace_in}
+use Rattle.cbpf_machine.specs.OnPacket.{IsOnTrace, in_task, trace_in}
 use Rattle.cbpf_machine.proofs.trail.Trail.follow.Given as goal
 
 -- the state is the last entry kept, after so many turns, and none of the new ones is watched
@@ -10,14 +10,14 @@ invariant-follow g l =
     record {
       from_one : 1 ≤ g.Self.Trail.kept l.self;
       kept : g.Self.Trail.kept l.self ≡ g.Self.Trail.kept l.fn.self + l.made;
-      here : IsOnTrace (task_of l.p l.values l.packet) (g.Self.Trail.kept l.self - 1) (registers l.here l.slots);
+      here : IsOnTrace (in_task l.task) (g.Self.Trail.kept l.self - 1) (registers l.here l.slots);
       stands : g.Self.Trail.stands_for l.self
-          (take (g.Self.Trail.kept l.self) (trace_in (task_of l.p l.values l.packet)));
-      unpaused : Unpaused (is_watched l.watched) (trace_in (task_of l.p l.values l.packet))
+          (take (g.Self.Trail.kept l.self) (trace_in (in_task l.task)));
+      unpaused : Unpaused (is_watched l.watched) (trace_in (in_task l.task))
           (g.Self.Trail.kept l.fn.self) (g.Self.Trail.kept l.self);
       state : l.s ≡ l.fn.s;
       spent : l.meter ≡ l.fn.meter + l.made;
     }
 
 abbrev pub decreases-follow : goal.decreases-follow
-decreases-follow g l = length (trace_in (task_of l.p l.values l.packet)) - l.made
+decreases-follow g l = length (trace_in (in_task l.task)) - l.made
