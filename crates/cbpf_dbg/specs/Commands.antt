@@ -33,15 +33,17 @@ use Rattle.cbpf_dbg.specs.View.{View, start}
 abbrev pub Answer : Type 0 → Type 0
 Answer R = Result (R × View) SessionFault
 
+-- what the call returns
 abbrev pub reply_of : {R : Type 0} → Answer R → Result R SessionFault
 reply_of (Ok a) = Ok a.0
 reply_of (Err e) = Err e
 
+-- the view afterwards, which a refusal leaves as it was
 abbrev pub view_after : {R : Type 0} → View → Answer R → View
 view_after m (Ok a) = a.1
 view_after m (Err e) = m
 
--- a command that needs a program and a capture, of which the program is missed first
+-- a command that needs a program and a capture: S1 where there is no program, else S2 where there is no capture
 abbrev pub with_both : {R : Type 0} → Option (List Insn) → Option Savefile
     → (List Insn → Savefile → Result R SessionFault) → Result R SessionFault
 with_both None capture act = Err fault.NoProgram
@@ -85,6 +87,7 @@ abbrev pub run_in : View → Machine → List Record → Option ℕ → Answer R
 run_in m machine capture (Some zero) = Err fault.ZeroCount
 run_in m machine capture limit = Ok (run_to m machine capture limit (rest machine capture m.breakpoints m.place))
 
+-- on to the first hit ahead, or up to a limit of packets, where there is one, or to the end
 abbrev pub run : View → Option ℕ → Answer RunReply
 run m limit = loaded m (λ machine capture. run_in m machine capture limit)
 
@@ -109,6 +112,7 @@ abbrev pub back_at : View → Option Entry → Answer RunReply
 back_at m None = Err (fault.TooFarBack (m.place.step - 1))
 back_at m (Some e) = Ok (stopped m (stop_at why.Step e))
 
+-- b steps back within the packet
 abbrev pub back_to : View → Machine → List Record → ℕ → Answer RunReply
 back_to m machine capture b = back_at m (if nat_lt b m.place.step
     then entry_in machine (slice_get capture (m.place.packet - 1)) (back_place m.place b) else None)
@@ -118,6 +122,7 @@ step_in m machine capture (pos zero) = Err fault.ZeroCount
 step_in m machine capture (pos (suc n)) = Ok (step_to m machine capture (slice_get (ahead machine capture m.place) n))
 step_in m machine capture (negsuc n) = back_to m machine capture (n + 1)
 
+-- n entries forward, or back where n is negative
 abbrev pub step : View → ℤ → Answer RunReply
 step m n =
     loaded m (λ machine capture. if length capture == 0 then Err fault.NoPackets else step_in m machine capture n)
@@ -130,11 +135,13 @@ moved m place = (tt, record m { place = place; origin = place.packet })
 abbrev pub has_packet : List Record → ℕ → Bool
 has_packet capture n = nat_lt 0 n && nat_le n (length capture)
 
+-- to the place before packet n, from which on it then counts
 abbrev pub select : View → ℕ → Answer (Unit {0})
 select m n =
     loaded m (λ machine capture. if length capture == 0 then Err fault.NoPackets
     else (if has_packet capture n then Ok (moved m (record { packet = n; step = 0 })) else Err fault.NoPacket))
 
+-- the place where it stands
 abbrev pub mark : View → Result Place SessionFault
 mark m = loaded m (λ machine capture. Ok m.place)
 
@@ -148,6 +155,7 @@ resume_in m machine capture place =
     let steps = steps_of machine (slice_get capture (place.packet - 1)) in
     if nat_le place.step steps then Ok (moved m place) else Err (fault.NoStep steps)
 
+-- to a place whose packet has its step; from this packet on it then counts
 abbrev pub resume : View → Place → Answer (Unit {0})
 resume m place =
     loaded m (λ machine capture. if length capture == 0 then Err fault.NoPackets
@@ -165,7 +173,7 @@ abbrev pub turns_in : View → Machine → List Record → RunReply × View → 
 turns_in m machine capture (Finished n, after) = turns_to_end machine capture m.place
 turns_in m machine capture (_, after) = turns_between machine capture m.place after.place
 
--- the turns of `run`, and of `step` forward: the entries that the call leaves
+-- the turns of `run`, and of `step` forward: the entries that the call leaves, and 0 after a refusal
 abbrev pub turns_forward : View → Answer RunReply → ℕ
 turns_forward m answer =
     result_unwrap_or (loaded m (λ machine capture. result_map_both (turns_in m machine capture) (λ e. e) answer)) 0
@@ -191,7 +199,7 @@ pub record Continues (old new : View) (reply : RunReply) : Type 0 where
 
 -- ---- whole runs
 
--- runs without a limit until the last packet is finished answer its counts, and go back to the start
+-- runs without a limit, until one finishes: the counts that the last of them answers, and back to the start
 abbrev pub run_to_end : View → Answer Counts
 run_to_end m = loaded m (λ machine capture.
     Ok (counts machine capture m.origin (length capture + 1), record m { place = start; origin = 1 }))
@@ -215,7 +223,7 @@ pub record Found (old new : View) (old_found new_found : List Stop) : Type 0 whe
   pub found_are : new_found ≡ old_found ++ hits
   pub moves : new ≡ record old { place = last_place old.place hits }
 
--- how many turns lead to the end
+-- how many turns lead to the end; 0 where no program or no capture is loaded
 abbrev pub turns_left : View → ℕ
 turns_left m = result_unwrap_or (loaded m (λ machine capture. Ok (turns_to_end machine capture m.place))) 0
 
@@ -235,10 +243,11 @@ with_value_set m e n = record m {
   origin = m.place.packet;
 }
 
+-- S9 where the extension takes no value
 abbrev pub set_value : View → Ext → ℕ → Answer (Unit {0})
 set_value m e n = if takes_value e then Ok (tt, with_value_set m e n) else Err fault.NoValue
 
--- a breakpoint names an instruction of the program
+-- the answer where n is an instruction of the program, else S1 or S4
 abbrev pub at_instruction : {R : Type 0} → Option (List Insn) → ℕ → Result R SessionFault → Result R SessionFault
 at_instruction None n answer = Err fault.NoProgram
 at_instruction (Some list) n answer = if nat_lt n (length list) then answer else Err fault.NoInstruction

@@ -45,7 +45,7 @@ joined_from machine packet (r ∷ rest) = packet_entries machine r packet ++ joi
 unfoldable pub joined : Machine → List Record → List Entry
 joined machine capture = joined_from machine 1 capture
 
--- the members of the joined list after a place
+-- the entries after a place
 abbrev pub ahead : Machine → List Record → Place → List Entry
 ahead machine capture place = filter (λ e. is_after place e.place) (joined machine capture)
 
@@ -63,11 +63,11 @@ why_of reason t = option_map_or why.Unknown (asked t) reason
 abbrev pub stop_at : Why → Entry → Stop
 stop_at reason e = record { place = e.place; state = e.state; why = why_of reason e.turn }
 
--- the hits
+-- the stops at all hits of a capture
 abbrev pub every_stop : Machine → List Record → Breakpoints → List Stop
 every_stop machine capture breakpoints = map (stop_at why.Break) (filter (is_hit breakpoints) (joined machine capture))
 
--- the hits after a place
+-- the stops at the hits after a place
 abbrev pub rest : Machine → List Record → Breakpoints → Place → List Stop
 rest machine capture breakpoints place = filter (λ h. is_after place h.place) (every_stop machine capture breakpoints)
 
@@ -76,6 +76,7 @@ abbrev pub outcomes : Machine → List Record → ℕ → ℕ → List Outcome
 outcomes machine capture from to =
     map (λ r. outcome machine r.bytes r.wire) (take (to - from) (drop (from - 1) capture))
 
+-- how many of these packets pass, fail, and ask for an extension without a value
 unfoldable pub counts : Machine → List Record → ℕ → ℕ → Counts
 counts machine capture from to =
     let all = outcomes machine capture from to in

@@ -1,5 +1,5 @@
--- What is shown of a stop, of the stop's own packet (the kernel's Documentation/networking/filter shows such a dump for
--- `bpf_dbg`).
+-- What is shown of a stop: its dump, with the stop's own packet (the kernel's Documentation/networking/filter shows
+-- such a dump for `bpf_dbg`).
 use Rattle.std.specs.Prelude.{ℕ, ◌-◌, ◌≤◌, ◌<◌, List, [], length, slice_get, Option, Some, None}
 use Rattle.cbpf_code.specs.declared.insn.Insn.{Insn}
 use Rattle.cbpf_reply.specs.Dump.{shown_in, dump_text}
@@ -10,7 +10,7 @@ use Rattle.cbpf_reply.specs.declared.reply.RunReply.TheVariants.{Stopped}
 use Rattle.cbpf_reply.specs.declared.reply.Stop.{Stop}
 use Rattle.cbpf_dbg.specs.View.{View}
 
--- a stop in a packet that the capture has, if it does
+-- the dump, or nothing where the packet isn't there
 abbrev pub text_in : List Insn → Option Record → Stop → List ℕ
 text_in list None stop = []
 text_in list (Some r) stop = dump_text list (shown_in r.bytes r.wire stop)

@@ -7,6 +7,7 @@ use Rattle.pcap_classic.specs.Savefile.{Savefile}
 use Rattle.cbpf_reply.specs.declared.reply.Place.{Place}
 use Rattle.cbpf_dbg.specs.Breakpoints.{Breakpoints}
 
+-- a session counts from packet `origin` on, and stands at `place`
 pub record View : Type 0 where
   pub program : Option (List Insn)
   pub values : Values
@@ -19,6 +20,7 @@ pub record View : Type 0 where
 abbrev pub start : Place
 start = record { packet = 1; step = 0 }
 
+-- a new session: nothing is loaded or set
 abbrev pub empty_view : View
 empty_view =
     record { program = None; values = no_values; capture = None; breakpoints = []; origin = 1; place = start }

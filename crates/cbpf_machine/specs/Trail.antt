@@ -1,19 +1,19 @@
--- What a trail stands for: a list of states, of which it may keep some alone, as one in STRIDE (this project's own).
+-- What a trail stands for: a list of states, of which it may store only some, as one in STRIDE (this project's own).
 use Rattle.std.specs.Prelude.{◌≡◌, ℕ, ◌+◌, ◌-◌, ◌*◌, ◌/◌, ◌<◌, ◌≤◌, List, length, take, slice_get}
 use Rattle.cbpf_machine.specs.declared.mark_trail.TheConstants.{STRIDE}
 use Rattle.cbpf_machine.specs.Registers.{Registers}
 
--- trails stand for lists whatever is between the first k states and the last one, where these are at most n more
+-- of a list of at most k + n states only the length, the first k and the last one matter to what a trail stands for
 abbrev pub IgnoresBetween : {T : Type 0} → (T → List Registers → Type 0) → ℕ → ℕ → Type 0
 IgnoresBetween {T} stands k n = (t : T) (xs ys : List Registers) → length xs ≡ length ys → length xs ≤ k + n
     → take k xs ≡ take k ys → slice_get xs (length xs - 1) ≡ slice_get ys (length ys - 1) → stands t xs → stands t ys
 
--- the kept states, and how many states they stand for
+-- the stored states, and how many states the list has
 pub record Checkpoints : Type 0 where
   pub checkpoints : List Registers
   pub kept : ℕ
 
--- the first state of the list is kept, and from there on each that is STRIDE after the one before
+-- the first state of the list is stored, and from there on each that is STRIDE after the one before
 pub record AreCheckpoints (c : Checkpoints) (xs : List Registers) : Type 0 where
   pub long : length xs ≡ c.kept
   pub count : length c.checkpoints ≡ (c.kept + (STRIDE - 1)) / STRIDE

@@ -26,7 +26,7 @@ pub struct PacketEnd {
 }
 
 impl PacketEnd {
-    /// Whether the packet passed.
+    /// The packet's outcome.
     pub fn outcome(&self) -> Outcome
         ensures { result ≡ outcome_of (turn_of self.now.reason) }
     {

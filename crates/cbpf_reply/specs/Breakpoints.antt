@@ -19,6 +19,7 @@ line_with_condition list n when = line_text list n ++ condition_text when
 unfoldable pub set_head : List ℕ
 set_head = codes "breakpoint at: "
 
+-- the reply to a breakpoint that was set: its instruction, and its condition
 abbrev pub set_text : List Insn → ℕ → When → List ℕ
 set_text list n when = set_head ++ line_with_condition list n when
 

@@ -8,6 +8,7 @@ use Rattle.cbpf_reply.specs.Errors.{no_program_text}
 unfoldable pub c_head : List ℕ
 c_head = codes "/* { op, jt, jf, k }, */\n"
 
+-- the program in the C form under the head line, or S1 where none is loaded
 unfoldable pub c_dump_text : Option (List Insn) → List ℕ
 c_dump_text None = no_program_text
 c_dump_text (Some list) = c_head ++ c_form list

@@ -31,8 +31,10 @@ counts_text n = known_text n.passes n.fails ++ unknown_text n.unknown
 abbrev pub next_text : ℕ → List ℕ
 next_text packet = with_number (codes " next:") packet (codes "\n")
 
+-- the reply of a run that came to its limit
 abbrev pub limit_text : Counts → ℕ → List ℕ
 limit_text n packet = counts_text n ++ next_text packet
 
+-- the reply of a run that came to the capture's end
 abbrev pub finished_text : Counts → List ℕ
 finished_text n = counts_text n ++ codes "\n"

@@ -50,6 +50,7 @@ why_text (why_is.Unknown e) = codes "extension " ++ ext_name e
 abbrev pub why_line : Why → List ℕ
 why_line why = concat (codes "(" ∷ why_text why ∷ codes ")\n" ∷ [])
 
+-- the place with its instruction, the registers, the scratch memory, the packet, and why it stopped
 abbrev pub dump_text : List Insn → Shown → List ℕ
 dump_text list s =
     instruction_dump list s.packet s.step s.pc

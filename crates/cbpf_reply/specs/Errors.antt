@@ -43,6 +43,7 @@ session_message Memory = out_of_memory
 
 -- ---- the lines of a message
 
+-- what a fault says, as a line
 abbrev pub error_line : List ℕ → List ℕ
 error_line message = concat (codes "error: " ∷ message ∷ codes "\n" ∷ [])
 

@@ -5,6 +5,7 @@ use Rattle.pcap_classic.specs.declared.ending.Ending.{Ending}
 use Rattle.pcap_classic.specs.declared.ending.Ending.TheVariants.{Whole, CutHeader, CutData}
 use Rattle.cbpf_code.specs.Text.{with_number}
 
+-- how many instructions the program has
 abbrev pub program_text : ℕ → List ℕ
 program_text count = with_number (codes "bpf: ") count (codes " instructions\n")
 
@@ -18,6 +19,7 @@ ending_text (CutData place) = with_number (codes ", cut record data at ") place 
 abbrev pub packets_text : ℕ → Ending → List ℕ
 packets_text count how = with_number (codes "pcap: ") count (codes " packets") ++ ending_text how
 
+-- the reply to a capture
 abbrev pub capture_text : Savefile → List ℕ
 capture_text c = packets_text (length c.records) c.ending
 

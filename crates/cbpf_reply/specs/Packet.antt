@@ -14,7 +14,7 @@ texts_from f a (suc n) = f a ++ texts_from f (suc a) n
 abbrev pub byte_text : ℕ → List ℕ
 byte_text b = concat (codes " " ∷ hex 2 b ∷ [])
 
--- the offset, right in five places, and the bytes
+-- the offset, aligned right in five columns, and the bytes
 abbrev pub row_line : ℕ → List ℕ → List ℕ
 row_line at row =
     concat (spaces (5 - length (decimal at)) ∷ decimal at ∷ codes ":" ∷ flat_map byte_text row ∷ codes "\n" ∷ [])
@@ -23,6 +23,7 @@ row_line at row =
 abbrev pub packet_row : List ℕ → ℕ → List ℕ
 packet_row bytes r = row_line (ROW * r) (take ROW (drop (ROW * r) bytes))
 
+-- the captured bytes, in rows of which the last may be shorter
 abbrev pub packet_rows : List ℕ → List ℕ
 packet_rows bytes = texts_from (packet_row bytes) 0 (div_ceil (length bytes) ROW)
 

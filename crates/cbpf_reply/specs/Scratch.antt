@@ -25,5 +25,6 @@ abbrev pub slots_line : List ℕ → ℕ → List ℕ
 slots_line slots i = let value = slice_index slots i in
     if begins_run slots i then scratch_line i (i + prefix_len (λ v. v == value) (drop (i + 1) slots)) value else []
 
+-- the lines of all runs
 abbrev pub scratch_lines : List ℕ → List ℕ
 scratch_lines slots = texts_from (slots_line slots) 0 (length slots)

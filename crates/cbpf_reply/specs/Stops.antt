@@ -10,6 +10,7 @@ registers_text s =
     concat (decimal s.place.packet ∷ codes " " ∷ decimal s.place.step ∷ codes " l" ∷ decimal s.state.pc ∷ codes " A "
     ∷ decimal s.state.a ∷ codes " X " ∷ decimal s.state.x ∷ codes " " ∷ [])
 
+-- a stop: packet, step, instruction, A, X, and why it stopped
 abbrev pub stop_line : Stop → List ℕ
 stop_line s = registers_text s ++ why_line s.why
 

@@ -21,5 +21,6 @@ coverage_line list i ran held =
 abbrev pub coverage_at : Machine → List Record → ℕ → List ℕ
 coverage_at m records i = coverage_line m.list i (executed m records i) (taken m records i)
 
+-- a line for each instruction
 unfoldable pub coverage_text : Machine → List Record → List ℕ
 coverage_text m records = texts_from (coverage_at m records) 0 (length m.list)

@@ -34,7 +34,7 @@ is_verdict verdict_is.Fail verdict_is.Fail = true
 is_verdict verdict_is.Unknown verdict_is.Unknown = true
 is_verdict _ _ = false
 
--- how a turn ends a packet; the last turn goes on with no state
+-- how a turn ends a packet; `Next` is no last turn
 abbrev pub end_of : Turn → End
 end_of (turn_is.Next s) = Outside
 end_of (turn_is.Returned v) = Returned v
@@ -50,6 +50,7 @@ last_state m r = last_or zero_state (trace m r.bytes r.wire)
 abbrev pub ended_at : Machine → Record → Registers → Ended
 ended_at m r s = record { packet = r.number; pc = s.pc; reason = end_of (turn m r.bytes r.wire s) }
 
+-- how a packet ends: its number, its last instruction, and what the turn there gave
 abbrev pub ended : Machine → Record → Ended
 ended m r = ended_at m r (last_state m r)
 

@@ -35,12 +35,13 @@ Reads text list = MatchBool (are_words text) (Spells (word_text_of text) list) (
 abbrev pub IsFilter : List ℕ → List Insn → Type 0
 IsFilter text list = Reads text list × IsSound list
 
--- why a text is no word text, and no source
+-- why a text is no word text, or that there was no memory
 abbrev pub IsWordsFault : List ℕ → FilterFault → Type 0
 IsWordsFault text (Words fault) = Refused text fault × (fault ≢ word.Memory)
 IsWordsFault text Memory = Unit {0}
 IsWordsFault text _ = ⊥
 
+-- why a text is no source, or that there was no memory
 abbrev pub IsSourceFault : List ℕ → FilterFault → Type 0
 IsSourceFault text (Source fault) = IsRefused text fault × (fault ≢ asm.Memory)
 IsSourceFault text Memory = Unit {0}

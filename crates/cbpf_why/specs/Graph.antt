@@ -1,7 +1,8 @@
 -- A program as a graph in DOT, the language of Graphviz: a node for each basic block with its listing, an edge for each
 -- way from one block to another with how often it was taken, and for each group of packets that ended at the same
--- instruction in the same way a node in the colour of that way. A block, an instruction or a way that never ran is grey
--- (this project's own; labels and their tags are those of Graphviz's "The DOT Language" and "HTML-Like Labels").
+-- instruction with the same verdict a node in the colour of the verdict. A block, an instruction or a way that never
+-- ran is grey (this project's own; labels and their tags are those of Graphviz's "The DOT Language" and "HTML-Like
+-- Labels").
 use Rattle.std.specs.Prelude.{◌≡◌, ◌<◌, ℕ, zero, suc, ◌+◌, ◌-◌, Bool, ◌==◌, ◌||◌, false, List, [], ◌∷◌, ◌++◌, length}
 use Rattle.std.specs.Prelude.{codes, decimal, Option, Some, None, if◌then◌else◌, slice_get, slice_index_or}
 use Rattle.std.specs.List.{flat_map, list_any, enumerate_from}
@@ -28,8 +29,8 @@ use Rattle.cbpf_why.specs.Runs.{executed, taken}
 
 -- ---- basic blocks
 
--- the instruction at an index, of this operation, opens a block at another: a jump where it leads, and a jump or a
--- return after itself
+-- a block begins at `to` by the instruction at `at`, of this operation: a jump begins one where it leads, and a jump or
+-- a return begins one after itself
 abbrev pub opens_by : ℕ → ℕ → Insn → Option Op → Bool
 opens_by to at insn (Some Ja) = (at + 1 == to) || (at + 1 + insn.k == to)
 opens_by to at insn (Some (Jump cond src)) = (at + 1 == to) || ((at + 1 + insn.jt == to) || (at + 1 + insn.jf == to))
@@ -168,6 +169,7 @@ end_part block f = end_edges block f.passed ++ (end_edges block f.failed ++ end_
 abbrev pub graph_head : List ℕ
 graph_head = codes "digraph filter {\nnode [shape=box fontname=monospace]\n"
 
+-- the blocks with the ways between them, and then the groups of packets that ended
 unfoldable pub graph_text : Machine → List Record → List Ended → List ℕ
 graph_text m records ends =
     graph_head ++ (texts_from (λ i. block_part m.list i (facts_at m records ends i)) 0 (length m.list)

@@ -1,5 +1,5 @@
--- The packets that ended at the same instruction in the same way: how many, why, and the first of them; and how many
--- packets passed and failed in all (this project's own).
+-- The packets that ended at the same instruction with the same verdict: how many, why, and the first of them; and how
+-- many packets ended with each verdict (this project's own).
 use Rattle.std.specs.Prelude.{◌≡◌, ◌<◌, Option, Some, None, slice_get, ℕ, Bool, ◌==◌, ◌&&◌, ◌+◌, unwrap_or, List, [], ◌∷◌, ◌++◌, length, codes, decimal, filter, count_by}
 use Rattle.cbpf_code.specs.Listing.{line_text}
 use Rattle.cbpf_code.specs.Text.{concat}
@@ -15,7 +15,7 @@ use Rattle.cbpf_why.specs.Ends.{verdict_in, is_verdict, verdict_of, reason_after
 abbrev pub is_in_group : ℕ → Verdict → Ended → Bool
 is_in_group i v e = (e.pc == i) && is_verdict v (verdict_of e.reason)
 
--- the packets that ended at an instruction in a way, in order
+-- the packets that ended at an instruction with a verdict, in order
 abbrev pub group : List Ended → ℕ → Verdict → List Ended
 group ends i v = filter (is_in_group i v) ends
 
@@ -46,13 +46,15 @@ abbrev pub groups_at : List Insn → List Ended → ℕ → List ℕ
 groups_at list ends i = group_text list (kept (group ends i Pass))
     ++ (group_text list (kept (group ends i Fail)) ++ group_text list (kept (group ends i Unknown)))
 
+-- a line for each group that has packets, in the order of the instructions
 unfoldable pub groups_text : List Insn → List Ended → List ℕ
 groups_text list ends = texts_from (groups_at list ends) 0 (length list)
 
--- how many passed, failed, and asked for an extension without a value
+-- how many ended with a verdict
 abbrev pub count_of : List Ended → Verdict → ℕ
 count_of ends v = count_by (λ e. is_verdict v (verdict_of e.reason)) ends
 
+-- how many passed, failed, and asked for an extension without a value
 abbrev pub totals : List Ended → Counts
 totals ends = record { passes = count_of ends Pass; fails = count_of ends Fail; unknown = count_of ends Unknown }
 
@@ -70,7 +72,7 @@ by_verdict k Pass = k.passed
 by_verdict k Fail = k.failed
 by_verdict k Unknown = k.unknown
 
--- the groups of a way, by instruction
+-- the groups of a verdict, by instruction
 abbrev pub AreGroups : List Ended → Verdict → List Group → Type 0
 AreGroups ends v groups = (i : ℕ) → i < length groups → slice_get groups i ≡ Some (kept (group ends i v))
 

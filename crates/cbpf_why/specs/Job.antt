@@ -1,4 +1,4 @@
--- What was taken of a capture, packet by packet (this project's own; a matter of this crate alone).
+-- What was taken of a capture, packet by packet (this project's own). Public clauses name only `machine_in` of it.
 use Rattle.std.specs.Prelude.{◌≡◌, ℕ, ◌+◌, ◌<◌, ◌≤◌, nat_le, Bool, true, false, List, [], ◌∷◌, ◌++◌, length, filter, slice_get, if◌then◌else◌}
 use Rattle.std.specs.Prelude.{Option, Some, None, IfSome, ◌^◌, Result, Ok, Err}
 use Rattle.cbpf_machine.specs.Machine.{Machine, machine_of}
@@ -20,6 +20,7 @@ use Rattle.cbpf_code.specs.Writing.{Appended, AppendedPart}
 use Rattle.cbpf_why.specs.declared.job.WhyFault.{WhyFault}
 use Rattle.cbpf_why.specs.declared.job.WhyFault.TheVariants.{Read, Write, Memory}
 
+-- the program of a question, with its values for extensions
 abbrev pub machine_in : {P : Type 0} → Question P → Machine
 machine_in q = machine_of q.program.now q.values.now
 

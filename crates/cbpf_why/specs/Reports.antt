@@ -68,10 +68,11 @@ report_text report ranges m c =
     let records = chosen ranges c.records in
     packets_text report m records ++ closing_text report m records (shown_end ranges (Some (end_of c)))
 
--- a capture of so many packets is read to its end where all packets are looked at, or a range ends beyond
+-- a range ends beyond so many packets
 abbrev pub ends_beyond : ℕ → PacketRange → Bool
 ends_beyond count range = nat_lt count range.last
 
+-- a capture of so many packets is read to its end where all packets are looked at, or a range ends beyond
 abbrev pub goes_to_end : List PacketRange → ℕ → Bool
 goes_to_end ranges count = (length ranges == 0) || list_any (ends_beyond count) ranges
 

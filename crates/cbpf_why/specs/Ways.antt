@@ -62,6 +62,7 @@ end_line list e test = ended_text list e ++ (test_after list (verdict_of e.reaso
 abbrev pub way_head : ℕ → List ℕ
 way_head packet = with_number (codes "packet ") packet (codes "\n")
 
+-- the packet's number, a line for each instruction that it executes, and how it ends
 unfoldable pub way_text : Machine → Record → List ℕ
 way_text m r =
     let entries = trace m r.bytes r.wire in

@@ -18,7 +18,7 @@ pub record Reading : Type 0 where
   pub ended : Option Ending
   pub left : Option Savefile
 
--- the next record is longer than the room at first, or it is cut
+-- the next record is longer than the room at first, or it is cut in its data
 abbrev pub NeedsRoom : List Record → Ending → Type 0
 NeedsRoom (next ∷ rest) how = ROOM < RECORD_HEADER + length next.bytes
 NeedsRoom [] how = (place : ℕ) × (how ≡ CutData place)
@@ -32,8 +32,8 @@ Gives s (Ok None) new = (s.records ≡ []) × (new.ended ≡ Some s.ending) × (
 Gives s (Err (Read e)) new = new.left ≡ Some s
 Gives s (Err Memory) new = (new.left ≡ Some s) × NeedsRoom s.records s.ending
 
--- whatever the reader's bytes are: a record has the number after that of the last one, and there is an ending exactly
--- where there was no record
+-- whatever the reader's bytes are: a record has the number after that of the last one, which is below 2^60, and there
+-- is an ending exactly where there was no record
 abbrev pub Proceeds : ℕ → Result (Option Captured) ReadFault → Reading → Type 0
 Proceeds before (Ok (Some item)) new = (item.number ≡ before + 1) × (new.count ≡ before + 1) × (new.count < 2 ^ 60)
     × (new.ended ≡ None)

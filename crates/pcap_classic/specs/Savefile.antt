@@ -58,10 +58,11 @@ capture_fault header_fault.FileHeaderCut = FileHeaderCut
 capture_fault header_fault.UnknownMagic = UnknownMagic
 capture_fault header_fault.UnknownVersion = UnknownVersion
 
--- a file holds one capture at most, and has one fault at most; a fault of one that holds a capture is `Memory`
+-- a file holds one capture at most
 abbrev pub OneCapture : Type 0
 OneCapture = (file : List ℕ) (c d : Savefile) → IsSavefile file c → IsSavefile file d → d ≡ c
 
+-- a file has one fault at most
 abbrev pub OneRefusal : Type 0
 OneRefusal = (file : List ℕ) (e f : CaptureFault) → IsRefusal e file → IsRefusal f file → f ≡ e
 

@@ -195,6 +195,8 @@ impl<R: Read, A: Allocator> CaptureReader<R, A> {
 
     /// The next record, which is lent until the reader is used again; `None` after the last whole one.
     ///
+    /// What the clause says of `new` holds of the reader once the record that was lent is given back.
+    ///
     /// After `None` nothing has to be read again, and [`CaptureReader::ending`] says how the capture ends. A further call
     /// makes one more read, which waits where the source can still give bytes, as a terminal or a socket can. Where a
     /// source has grown meanwhile, as a file that is still written, the call goes on with the record that was cut or with

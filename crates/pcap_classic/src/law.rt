@@ -4,8 +4,8 @@ ghost use Rattle.std.specs.Prelude.{◌≡◌};
 ghost use Rattle.pcap_classic.specs.Savefile.{OneCapture, OneRefusal, HasAnswer};
 ghost use Rattle.pcap_classic.specs.declared.{captured.TheConstants.RECORD_HEADER, header.TheConstants.FILE_HEADER};
 
-/// A file holds at most one capture, and has at most one fault: that of a file which holds a capture is
-/// `Memory` alone. Each file holds a capture, or has a fault. The headers are as long as pcap-savefile(5) says.
+/// A file holds at most one capture, and has at most one fault. Each file holds a capture, or has a fault. The headers
+/// are as long as pcap-savefile(5) says.
 pub fn one_capture()
     ensures capture { OneCapture }
     ensures refusal { OneRefusal }
