@@ -167,16 +167,7 @@ abbrev pub IsResumable : View → Place → Type 0
 IsResumable m place = (n : View) → n.program ≡ m.program → n.values ≡ m.values → n.capture ≡ m.capture
     → IsOk (resume n place) ⊎ (resume n place ≡ Err fault.NoPackets)
 
--- ---- turns
-
-abbrev pub turns_in : View → Machine → List Record → RunReply × View → ℕ
-turns_in m machine capture (Finished n, after) = turns_to_end machine capture m.place
-turns_in m machine capture (_, after) = turns_between machine capture m.place after.place
-
--- the turns of `run`, and of `step` forward: the entries that the call leaves, and 0 after a refusal
-abbrev pub turns_forward : View → Answer RunReply → ℕ
-turns_forward m answer =
-    result_unwrap_or (loaded m (λ machine capture. result_map_both (turns_in m machine capture) (λ e. e) answer)) 0
+-- ---- hits
 
 -- the hits ahead
 abbrev pub stops : View → Result (List Stop) SessionFault
@@ -223,10 +214,6 @@ pub record Found (old new : View) (old_found new_found : List Stop) : Type 0 whe
   pub found_are : new_found ≡ old_found ++ hits
   pub moves : new ≡ record old { place = last_place old.place hits }
 
--- how many turns lead to the end; 0 where no program or no capture is loaded
-abbrev pub turns_left : View → ℕ
-turns_left m = result_unwrap_or (loaded m (λ machine capture. Ok (turns_to_end machine capture m.place))) 0
-
 -- ---- what is loaded and set
 
 abbrev pub with_program_loaded : View → List Insn → View
@@ -270,6 +257,21 @@ delete m n = at_instruction m.program n (Ok (
 
 abbrev pub without_breakpoints : View → View
 without_breakpoints m = record m { breakpoints = [] }
+
+-- ---- turns
+
+abbrev pub turns_in : View → Machine → List Record → RunReply × View → ℕ
+turns_in m machine capture (Finished n, after) = turns_to_end machine capture m.place
+turns_in m machine capture (_, after) = turns_between machine capture m.place after.place
+
+-- the turns of `run`, and of `step` forward: the entries that the call leaves, and 0 after a refusal
+abbrev pub turns_forward : View → Answer RunReply → ℕ
+turns_forward m answer =
+    result_unwrap_or (loaded m (λ machine capture. result_map_both (turns_in m machine capture) (λ e. e) answer)) 0
+
+-- how many turns lead to the end; 0 where no program or no capture is loaded
+abbrev pub turns_left : View → ℕ
+turns_left m = result_unwrap_or (loaded m (λ machine capture. Ok (turns_to_end machine capture m.place))) 0
 
 -- how many turns a place takes: those from the packet's start to its step, twice; of the refusals only the one that
 -- counts the packet's steps makes turns, one for each
