@@ -21,7 +21,7 @@ use Rattle.cbpf_reply.specs.declared.reply.Why.TheVariants as why
 use Rattle.cbpf_reply.specs.declared.reply.RunReply.{RunReply}
 use Rattle.cbpf_reply.specs.declared.reply.SessionFault.{SessionFault}
 use Rattle.cbpf_reply.specs.declared.reply.SessionFault.TheVariants.{NoPackets}
-use Rattle.cbpf_reply.specs.Places.{is_after}
+use Rattle.cbpf_reply.specs.Places.{is_before}
 use Rattle.cbpf_dbg.specs.declared.cursor.Cursor.{Cursor}
 use Rattle.cbpf_dbg.specs.Breakpoints.{Breakpoints}
 use Rattle.cbpf_dbg.specs.Cursor.{Stands, entry_here}
@@ -79,7 +79,7 @@ module _ (machine : Machine) (capture : List Record) where
 
   there-ahead : (place : Place) → All (IsThere machine capture) (ahead machine capture place)
   there-ahead place =
-      All-filter (λ (e : Entry). is_after place e.place) (IsThere machine capture) (joined machine capture) there-joined
+      All-filter (λ (e : Entry). is_before place e.place) (IsThere machine capture) (joined machine capture) there-joined
 
   there-at : (e : Entry) → IsThere machine capture e → entry_of machine capture e.place ≡ Some e
   there-at e there =

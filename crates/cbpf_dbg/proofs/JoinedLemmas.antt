@@ -11,7 +11,7 @@ use Rattle.cbpf_machine.specs.Turn.{turn}
 use Rattle.cbpf_machine.specs.Trace.{trace}
 use Rattle.pcap_classic.specs.Records.{Record}
 use Rattle.cbpf_reply.specs.declared.reply.Place.{Place}
-use Rattle.cbpf_reply.specs.Places.{is_after}
+use Rattle.cbpf_reply.specs.Places.{is_before}
 use Rattle.cbpf_dbg.specs.Joined.{Entry, entries_from, packet_entries, joined_from, joined, ahead, is_hit}
 use Rattle.cbpf_dbg.specs.Joined.{stop_at, rest}
 use Rattle.cbpf_reply.specs.declared.reply.Stop.{Stop}
@@ -31,19 +31,19 @@ abbrev pub place_at : ℕ → ℕ → Place
 place_at p s = record { packet = p; step = s }
 
 abbrev pub later : ℕ → ℕ → List Entry → List Entry
-later p s es = filter (λ e. is_after (place_at p s) e.place) es
+later p s es = filter (λ e. is_before (place_at p s) e.place) es
 
 -- what the order says of two places
-after_packet : (p s q k : ℕ) → p < q → is_after (place_at p s) (place_at q k) ≡ true
+after_packet : (p s q k : ℕ) → p < q → is_before (place_at p s) (place_at q k) ≡ true
 after_packet p s q k h = grind (arith, nat_tests)
 
-not_after_packet : (p s q k : ℕ) → q < p → is_after (place_at p s) (place_at q k) ≡ false
+not_after_packet : (p s q k : ℕ) → q < p → is_before (place_at p s) (place_at q k) ≡ false
 not_after_packet p s q k h = grind (arith, nat_tests)
 
-after_step : (p s k : ℕ) → s < k → is_after (place_at p s) (place_at p k) ≡ true
+after_step : (p s k : ℕ) → s < k → is_before (place_at p s) (place_at p k) ≡ true
 after_step p s k h = grind (arith, nat_tests)
 
-not_after_step : (p s k : ℕ) → k ≤ s → is_after (place_at p s) (place_at p k) ≡ false
+not_after_step : (p s k : ℕ) → k ≤ s → is_before (place_at p s) (place_at p k) ≡ false
 not_after_step p s k h = grind (arith, nat_tests)
 
 -- entries of an earlier packet are not after the place
@@ -55,7 +55,7 @@ later-packet_before machine r p s q k (x ∷ xs) h =
 
 -- entries from a step on that are all after the place
 later-all : (machine : Machine) (r : Record) (p s q k : ℕ) (xs : List Registers)
-    → ((j : ℕ) → k ≤ j → is_after (place_at p s) (place_at q j) ≡ true)
+    → ((j : ℕ) → k ≤ j → is_before (place_at p s) (place_at q j) ≡ true)
     → later p s (entries_from machine r q k xs) ≡ entries_from machine r q k xs
 later-all machine r p s q k [] after = refl
 later-all machine r p s q k (x ∷ xs) after =
@@ -76,7 +76,7 @@ later-joined_after : (machine : Machine) (p s q : ℕ) (capture : List Record) �
     → later p s (joined_from machine q capture) ≡ joined_from machine q capture
 later-joined_after machine p s q [] h = refl
 later-joined_after machine p s q (r ∷ rest) h =
-    filter-append (λ (e : Entry). is_after (place_at p s) e.place) (packet_entries machine r q)
+    filter-append (λ (e : Entry). is_before (place_at p s) e.place) (packet_entries machine r q)
     (joined_from machine (q + 1) rest) ∙ rw (
       later-all machine r p s q 1 (trace machine r.bytes r.wire) (λ j _. after_packet p s q j h),
       later-joined_after machine p s (q + 1) rest (omega arith),
@@ -90,14 +90,14 @@ later-joined machine p s q n [] r h g = absurd cc
 later-joined machine p s q zero (x ∷ rest) r h g =
     let same : x ≡ r = cc in
     let at : q ≡ p = omega arith in
-    filter-append (λ (e : Entry). is_after (place_at p s) e.place) (packet_entries machine x q)
+    filter-append (λ (e : Entry). is_before (place_at p s) e.place) (packet_entries machine x q)
     (joined_from machine (q + 1) rest) ∙ rw (at, same) (rw (
       later-step machine r p s 1 s (trace machine r.bytes r.wire) (omega arith),
       later-joined_after machine p s (p + 1) rest (omega arith),
     ) refl)
 later-joined machine p s q (suc n) (x ∷ rest) r h g =
     let ih = later-joined machine p s (q + 1) n rest r (omega arith) g in
-    filter-append (λ (e : Entry). is_after (place_at p s) e.place) (packet_entries machine x q)
+    filter-append (λ (e : Entry). is_before (place_at p s) e.place) (packet_entries machine x q)
     (joined_from machine (q + 1) rest) ∙ (let e : suc n + 1 ≡ suc (n + 1) = omega arith in
     rw (later-packet_before machine x p s q 1 (trace machine x.bytes x.wire) (omega arith), e) ih)
 
@@ -106,7 +106,7 @@ later-joined_none : (machine : Machine) (p s q : ℕ) (capture : List Record) �
     → later p s (joined_from machine q capture) ≡ []
 later-joined_none machine p s q [] h = refl
 later-joined_none machine p s q (x ∷ rest) h =
-    filter-append (λ (e : Entry). is_after (place_at p s) e.place) (packet_entries machine x q)
+    filter-append (λ (e : Entry). is_before (place_at p s) e.place) (packet_entries machine x q)
     (joined_from machine (q + 1) rest) ∙ rw (
       later-packet_before machine x p s q 1 (trace machine x.bytes x.wire) (omega arith),
       later-joined_none machine p s (q + 1) rest (omega arith),
@@ -192,17 +192,17 @@ map_head f true x xs ys h = ap (λ rest. f x ∷ rest) h
 map_head f false x xs ys h = h
 
 later-stops : (place : Place) (es : List Entry)
-    → filter (λ (h : Stop). is_after place h.place) (map (stop_at why.Break) es)
-    ≡ map (stop_at why.Break) (filter (λ (e : Entry). is_after place e.place) es)
+    → filter (λ (h : Stop). is_before place h.place) (map (stop_at why.Break) es)
+    ≡ map (stop_at why.Break) (filter (λ (e : Entry). is_before place e.place) es)
 later-stops place [] = refl
-later-stops place (e ∷ es) = map_head (stop_at why.Break) (is_after place e.place) e _ _ (later-stops place es)
+later-stops place (e ∷ es) = map_head (stop_at why.Break) (is_before place e.place) e _ _ (later-stops place es)
 
 pub rest-ahead : (machine : Machine) (capture : List Record) (breakpoints : Breakpoints) (place : Place)
     → rest machine capture breakpoints place
     ≡ map (stop_at why.Break) (filter (is_hit breakpoints) (ahead machine capture place))
 rest-ahead machine capture breakpoints place =
     later-stops place (filter (is_hit breakpoints) (joined machine capture)) ∙ ap (map (stop_at why.Break))
-    (filter-swap (λ (e : Entry). is_after place e.place) (is_hit breakpoints) (joined machine capture))
+    (filter-swap (λ (e : Entry). is_before place e.place) (is_hit breakpoints) (joined machine capture))
 
 -- ---- what a run passes over and stops at
 

@@ -11,7 +11,7 @@ use Rattle.pcap_classic.specs.Records.{Record}
 use Rattle.cbpf_reply.specs.declared.reply.Place.{Place}
 use Rattle.cbpf_reply.specs.declared.reply.Stop.{Stop}
 use Rattle.cbpf_reply.specs.declared.reply.Why.TheVariants as why
-use Rattle.cbpf_reply.specs.Places.{is_after}
+use Rattle.cbpf_reply.specs.Places.{is_before}
 use Rattle.cbpf_dbg.specs.Joined.{Entry, entries_from, packet_entries, joined_from, joined, is_hit, stop_at, every_stop}
 use Rattle.cbpf_dbg.specs.Laws.{Rises, EntriesRise, HitsRise, RestRises}
 use Rattle.cbpf_dbg.proofs.JoinedLemmas.{entry}
@@ -39,7 +39,7 @@ joined-from machine q (r ∷ more) =
     (joined_from machine (q + 1) more) (joined-from machine (q + 1) more))
 
 abbrev Above : Entry → Entry → Type 0
-Above d e = is_after d.place e.place ≡ true
+Above d e = is_before d.place e.place ≡ true
 
 entries-rise : (machine : Machine) (r : Record) (p k : ℕ) (xs : List Registers)
     → Rises (λ (e : Entry). e.place) (entries_from machine r p k xs)
@@ -52,12 +52,12 @@ entries-rise machine r p k (x ∷ xs) = (
 )
 
 rise-append : {X : Type 0} (at : X → Place) (xs ys : List X) → Rises at xs → Rises at ys
-    → All (λ x. All (λ y. is_after (at x) (at y) ≡ true) ys) xs → Rises at (xs ++ ys)
+    → All (λ x. All (λ y. is_before (at x) (at y) ≡ true) ys) xs → Rises at (xs ++ ys)
 rise-append at [] ys h g all = g
 rise-append at (x ∷ xs) ys h g all = (
-  All-append (λ y. is_after (at x) (at y) ≡ true) xs ys h.0
-      (All-head (λ x. All (λ y. is_after (at x) (at y) ≡ true) ys) x xs all),
-  rise-append at xs ys h.1 g (All-tail (λ x. All (λ y. is_after (at x) (at y) ≡ true) ys) x xs all),
+  All-append (λ y. is_before (at x) (at y) ≡ true) xs ys h.0
+      (All-head (λ x. All (λ y. is_before (at x) (at y) ≡ true) ys) x xs all),
+  rise-append at xs ys h.1 g (All-tail (λ x. All (λ y. is_before (at x) (at y) ≡ true) ys) x xs all),
 )
 
 joined-rise : (machine : Machine) (q : ℕ) (capture : List Record)
@@ -77,9 +77,9 @@ unfolding joined
 entries_rise machine capture = joined-rise machine 1 capture
 
 rise-cond : {X : Type 0} (at : X → Place) (f : X → Bool) (b : Bool) (x : X) (xs : List X)
-    → All (λ y. is_after (at x) (at y) ≡ true) xs → Rises at (filter f xs)
+    → All (λ y. is_before (at x) (at y) ≡ true) xs → Rises at (filter f xs)
     → Rises at (cond b (x ∷ filter f xs) (filter f xs))
-rise-cond at f true x xs all h = (All-filter f (λ y. is_after (at x) (at y) ≡ true) xs all, h)
+rise-cond at f true x xs all h = (All-filter f (λ y. is_before (at x) (at y) ≡ true) xs all, h)
 rise-cond at f false x xs all h = h
 
 rise-filter : {X : Type 0} (at : X → Place) (f : X → Bool) (xs : List X) → Rises at xs → Rises at (filter f xs)
@@ -90,7 +90,7 @@ rise-stops : (es : List Entry) → Rises (λ (e : Entry). e.place) es
     → Rises (λ (h : Stop). h.place) (map (stop_at why.Break) es)
 rise-stops [] h = tt
 rise-stops (e ∷ es) h = (
-  All-map (λ (s : Stop). is_after e.place s.place ≡ true) (stop_at why.Break) es h.0,
+  All-map (λ (s : Stop). is_before e.place s.place ≡ true) (stop_at why.Break) es h.0,
   rise-stops es h.1,
 )
 
@@ -101,5 +101,5 @@ hits_rise machine capture breakpoints =
 
 pub rest_rises : RestRises
 rest_rises machine capture breakpoints place =
-    rise-filter (λ (h : Stop). h.place) (λ (h : Stop). is_after place h.place) (every_stop machine capture breakpoints)
+    rise-filter (λ (h : Stop). h.place) (λ (h : Stop). is_before place h.place) (every_stop machine capture breakpoints)
     (hits_rise machine capture breakpoints)

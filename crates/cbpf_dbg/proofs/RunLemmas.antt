@@ -11,7 +11,7 @@ use Rattle.cbpf_reply.specs.declared.reply.Place.{Place}
 use Rattle.cbpf_reply.specs.declared.reply.Stop.{Stop}
 use Rattle.cbpf_reply.specs.declared.reply.Why.TheVariants as why
 use Rattle.cbpf_reply.specs.declared.reply.RunReply.TheVariants.{Stopped, Limit, Finished}
-use Rattle.cbpf_reply.specs.Places.{is_after}
+use Rattle.cbpf_reply.specs.Places.{is_before}
 use Rattle.cbpf_dbg.specs.declared.cursor.Cursor.{Cursor}
 use Rattle.cbpf_dbg.specs.Joined.{ahead, rest, counts, stop_at, every_stop}
 use Rattle.cbpf_dbg.specs.View.{View, start}
@@ -59,9 +59,9 @@ run_to_limit m machine capture (Some n) end (h ∷ more) is here later =
     rw no (rw e (rw yes refl))
 
 pub rest-head : (machine : Machine) (capture : List Record) (breakpoints : Breakpoints) (place : Place) (h : Stop)
-    (more : List Stop) → rest machine capture breakpoints place ≡ h ∷ more → is_after place h.place ≡ true
+    (more : List Stop) → rest machine capture breakpoints place ≡ h ∷ more → is_before place h.place ≡ true
 rest-head machine capture breakpoints place h more e =
-    let at : Stop → Bool = λ k. is_after place k.place in
+    let at : Stop → Bool = λ k. is_before place k.place in
     let passed = filter_passes at (every_stop machine capture breakpoints) in
     All-head (λ (k : Stop). at k ≡ true) h more (rw e at passed)
 

@@ -19,7 +19,7 @@ use Rattle.cbpf_reply.specs.declared.reply.Why.{Why}
 use Rattle.cbpf_reply.specs.declared.reply.Why.TheVariants as why
 use Rattle.cbpf_reply.specs.declared.reply.RunReply.{RunReply}
 use Rattle.cbpf_reply.specs.declared.reply.RunReply.TheVariants.{Stopped, Limit, Finished}
-use Rattle.cbpf_reply.specs.Places.{is_after}
+use Rattle.cbpf_reply.specs.Places.{is_before}
 use Rattle.cbpf_dbg.specs.declared.cursor.Cursor.{Cursor}
 use Rattle.cbpf_dbg.specs.Joined.{Entry, entries_from, packet_entries, joined_from, joined, ahead, rest}
 use Rattle.cbpf_dbg.specs.Joined.{is_hit, stop_at}
@@ -68,7 +68,7 @@ module _ (machine : Machine) (capture : List Record) (reason : Why) where
 
     within-ahead : (place : Place) → All (EntryWithin machine capture reason) (ahead machine capture place)
     within-ahead place =
-        All-filter (λ (e : Entry). is_after place e.place) (EntryWithin machine capture reason) (joined machine capture)
+        All-filter (λ (e : Entry). is_before place e.place) (EntryWithin machine capture reason) (joined machine capture)
         within-joined
 
 -- each hit ahead
@@ -76,7 +76,7 @@ within-rest : (machine : Machine) (capture : List Record) (breakpoints : Breakpo
     → IsSound machine.list → All (IsWithin machine.list capture) (rest machine capture breakpoints place)
 within-rest machine capture breakpoints place sound =
     let hits = filter (is_hit breakpoints) (joined machine capture) in
-    All-filter (λ (h : Stop). is_after place h.place) (IsWithin machine.list capture) (map (stop_at why.Break) hits)
+    All-filter (λ (h : Stop). is_before place h.place) (IsWithin machine.list capture) (map (stop_at why.Break) hits)
     (All-map (IsWithin machine.list capture) (stop_at why.Break) hits
     (All-filter (is_hit breakpoints) (EntryWithin machine capture why.Break) (joined machine capture)
     (within-joined machine capture why.Break sound)))

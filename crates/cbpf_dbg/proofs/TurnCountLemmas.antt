@@ -16,7 +16,7 @@ use Rattle.pcap_classic.specs.Savefile.{Savefile}
 use Rattle.cbpf_reply.specs.declared.reply.Place.{Place}
 use Rattle.cbpf_reply.specs.declared.reply.RunReply.{RunReply}
 use Rattle.cbpf_reply.specs.declared.reply.RunReply.TheVariants.{Stopped, Limit, Finished}
-use Rattle.cbpf_reply.specs.Places.{is_after}
+use Rattle.cbpf_reply.specs.Places.{is_before}
 use Rattle.cbpf_dbg.specs.declared.cursor.Cursor.{Cursor}
 use Rattle.cbpf_dbg.specs.Joined.{Entry, entries_from, packet_entries, joined_from, joined, ahead, rest, is_hit}
 use Rattle.cbpf_dbg.specs.Joined.{stop_at, turns_between, turns_to_end}
@@ -70,17 +70,17 @@ count_same f g (x ∷ xs) h same = count_cons f x xs ∙ rw (
 
 -- at or after a place is after the one before
 at_or_after : (p s q k : ℕ) → 1 ≤ k
-    → not (is_after (place_at q k) (place_at p s)) ≡ is_after (place_at p (s - 1)) (place_at q k)
+    → not (is_before (place_at q k) (place_at p s)) ≡ is_before (place_at p (s - 1)) (place_at q k)
 at_or_after p s q k h = grind (arith, nat_tests)
 
 to_end : (machine : Machine) (capture : List Record) (p s : ℕ)
     → turns_to_end machine capture (place_at p s) ≡ length (ahead machine capture (place_at p (s - 1)))
 unfolding joined
 to_end machine capture p s =
-    count_same (λ e. not (is_after e.place (place_at p s))) (λ e. is_after (place_at p (s - 1)) e.place)
+    count_same (λ e. not (is_before e.place (place_at p s))) (λ e. is_before (place_at p (s - 1)) e.place)
     (joined_from machine 1 capture) (from_one-joined machine 1 capture)
     (λ e k. at_or_after p s e.place.packet e.place.step k)
-    ∙ sym (length-filter (λ e. is_after (place_at p (s - 1)) e.place) (joined_from machine 1 capture))
+    ∙ sym (length-filter (λ e. is_before (place_at p (s - 1)) e.place) (joined_from machine 1 capture))
 
 -- what a cursor owes is what it takes to the end
 owed_at : (machine : Machine) (capture : List Record) (w : Cursor) (k : ℕ) → Stands machine capture w → k ≡ w.place.step
@@ -104,7 +104,7 @@ pub owed-turns : (machine : Machine) (capture : List Record) (w : Cursor) → St
     → turns_to_end machine capture w.place ≡ owed machine capture w.place
 owed-turns machine capture w h = owed_at machine capture w w.place.step h refl
 
-order_test : (old new e : Place) → NotBefore new old → is_after e new ≡ false → not (is_after e old) ≡ true
+order_test : (old new e : Place) → NotBefore new old → is_before e new ≡ false → not (is_before e old) ≡ true
 order_test old new e h k = elim h [
   | inl less ↦ grind (arith, nat_tests)
   | inr same ↦ (let a = same.0 in let b = same.1 in grind (arith, nat_tests))
@@ -114,7 +114,7 @@ order_test old new e h k = elim h [
 pub turns-split : (machine : Machine) (capture : List Record) (old new : Place) → NotBefore new old
     → turns_to_end machine capture old ≡ turns_between machine capture old new + turns_to_end machine capture new
 turns-split machine capture old new h =
-    count_split (λ e. not (is_after e.place old)) (λ e. is_after e.place new) (joined machine capture)
+    count_split (λ e. not (is_before e.place old)) (λ e. is_before e.place new) (joined machine capture)
     (λ e k. order_test old new e.place h k)
 
 -- ---- by a run's answer
@@ -190,7 +190,7 @@ unfolding joined
 owed_bound machine capture place h few =
     omega (
       arith,
-      length_filter (λ (e : Entry). is_after place e.place) (joined_from machine 1 capture),
+      length_filter (λ (e : Entry). is_before place e.place) (joined_from machine 1 capture),
       length_joined machine 1 capture h,
     )
 
@@ -207,6 +207,6 @@ few_hits machine capture breakpoints place h few =
       arith,
       some,
       length_filter (is_hit breakpoints) (ahead machine capture place),
-      length_filter (λ (e : Entry). is_after place e.place) (joined_from machine 1 capture),
+      length_filter (λ (e : Entry). is_before place e.place) (joined_from machine 1 capture),
       length_joined machine 1 capture h,
     )

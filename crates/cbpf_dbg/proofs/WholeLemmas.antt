@@ -14,7 +14,7 @@ use Rattle.cbpf_reply.specs.declared.reply.RunReply.TheVariants.{Stopped, Finish
 use Rattle.cbpf_reply.specs.declared.reply.SessionFault.{SessionFault}
 use Rattle.cbpf_reply.specs.declared.reply.Counts.{Counts}
 use Rattle.cbpf_reply.specs.declared.reply.Why.TheVariants as why
-use Rattle.cbpf_reply.specs.Places.{is_after}
+use Rattle.cbpf_reply.specs.Places.{is_before}
 use Rattle.cbpf_dbg.specs.Joined.{every_stop, Entry, joined, joined_from, ahead, rest, is_hit, stop_at}
 use Rattle.cbpf_dbg.specs.Joined.{turns_between, turns_to_end, counts}
 use Rattle.cbpf_dbg.specs.Cursor.{NotBefore}
@@ -81,11 +81,11 @@ unfolding joined
 turns_to_end-bound machine capture place sound few =
     omega (
       arith,
-      count_by-le-length (λ (e : Entry). not (is_after e.place place)) (joined_from machine 1 capture),
+      count_by-le-length (λ (e : Entry). not (is_before e.place place)) (joined_from machine 1 capture),
       length_joined machine 1 capture sound,
     )
 
-after_is : (a b : Place) → is_after a b ≡ true → NotBefore b a
+after_is : (a b : Place) → is_before a b ≡ true → NotBefore b a
 after_is a b h = grind (arith, nat_tests)
 
 -- the turns to a hit and from it to the end

@@ -17,7 +17,7 @@ use Rattle.cbpf_reply.specs.declared.reply.Stop.{Stop}
 use Rattle.cbpf_reply.specs.declared.reply.Why.{Why}
 use Rattle.cbpf_reply.specs.declared.reply.Why.TheVariants as why
 use Rattle.cbpf_reply.specs.declared.reply.Counts.{Counts}
-use Rattle.cbpf_reply.specs.Places.{is_after}
+use Rattle.cbpf_reply.specs.Places.{is_before}
 use Rattle.cbpf_dbg.specs.Breakpoints.{Breakpoints, carries}
 
 -- an executed instruction: where it stands, the state before it, and what its turn gives
@@ -47,7 +47,7 @@ joined machine capture = joined_from machine 1 capture
 
 -- the entries after a place
 abbrev pub ahead : Machine → List Record → Place → List Entry
-ahead machine capture place = filter (λ e. is_after place e.place) (joined machine capture)
+ahead machine capture place = filter (λ e. is_before place e.place) (joined machine capture)
 
 abbrev pub is_unknown : Turn → Bool
 is_unknown t = is_some (asked t)
@@ -69,7 +69,7 @@ every_stop machine capture breakpoints = map (stop_at why.Break) (filter (is_hit
 
 -- the stops at the hits after a place
 abbrev pub rest : Machine → List Record → Breakpoints → Place → List Stop
-rest machine capture breakpoints place = filter (λ h. is_after place h.place) (every_stop machine capture breakpoints)
+rest machine capture breakpoints place = filter (λ h. is_before place h.place) (every_stop machine capture breakpoints)
 
 -- the outcomes of the packets from a number up to, not including, another
 abbrev pub outcomes : Machine → List Record → ℕ → ℕ → List Outcome
@@ -85,8 +85,8 @@ counts machine capture from to =
 -- how many turns lead from a place to a later one: the entries at or after the one and before the other
 abbrev pub turns_between : Machine → List Record → Place → Place → ℕ
 turns_between machine capture old new =
-    count_by (λ e. not (is_after e.place old) && is_after e.place new) (joined machine capture)
+    count_by (λ e. not (is_before e.place old) && is_before e.place new) (joined machine capture)
 
 -- how many turns lead from a place to the end
 abbrev pub turns_to_end : Machine → List Record → Place → ℕ
-turns_to_end machine capture old = count_by (λ e. not (is_after e.place old)) (joined machine capture)
+turns_to_end machine capture old = count_by (λ e. not (is_before e.place old)) (joined machine capture)

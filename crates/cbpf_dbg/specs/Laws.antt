@@ -4,14 +4,14 @@ use Rattle.std.specs.List.{All}
 use Rattle.cbpf_machine.specs.Machine.{Machine}
 use Rattle.pcap_classic.specs.Records.{Record}
 use Rattle.cbpf_reply.specs.declared.reply.Place.{Place}
-use Rattle.cbpf_reply.specs.Places.{is_after}
+use Rattle.cbpf_reply.specs.Places.{is_before}
 use Rattle.cbpf_dbg.specs.Breakpoints.{Breakpoints}
 use Rattle.cbpf_dbg.specs.Joined.{joined, every_stop, rest}
 
 -- each member of a list stands after all that come before it
 abbrev pub Rises : {X : Type 0} → (X → Place) → List X → Type 0
 Rises at [] = Unit {0}
-Rises at (x ∷ xs) = All (λ y. is_after (at x) (at y) ≡ true) xs × Rises at xs
+Rises at (x ∷ xs) = All (λ y. is_before (at x) (at y) ≡ true) xs × Rises at xs
 
 -- the entries of all packets rise, by packet, then step
 abbrev pub EntriesRise : Type 0
