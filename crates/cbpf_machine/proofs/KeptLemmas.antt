@@ -85,12 +85,12 @@ before_or_not (suc a) (suc b) = elim (before_or_not a b) [ inl h ↦ inl (omega 
 pub ignores_marks : (k n : ℕ) → 1 ≤ k → n ≤ STRIDE - (k - 1) % STRIDE → IgnoresBetween AreCheckpoints k n
 ignores_marks k n some near = λ t xs ys long within front last are. record {
   long = sym long ∙ are.long;
-  count = are.count;
+  stored = are.stored;
   at = λ j low. are.at j low ∙ elim (before_or_not (STRIDE * j) k) [
     | inl h ↦ sym (slice_get-take xs k (STRIDE * j) h) ∙ ap (λ l. slice_get l (STRIDE * j)) front
         ∙ slice_get-take ys k (STRIDE * j) h
     | inr h ↦
-        let e : STRIDE * j ≡ length xs - 1 = omega (arith, h, low, are.count, are.long, within, near, some) in
+        let e : STRIDE * j ≡ length xs - 1 = omega (arith, h, low, are.stored, are.long, within, near, some) in
         let f : length ys - 1 ≡ STRIDE * j = omega (arith, e, long) in
         ap (λ i. slice_get xs i) e ∙ last ∙ ap (λ i. slice_get ys i) f
   ];

@@ -11,10 +11,10 @@ IgnoresBetween {T} stands k n = (t : T) (xs ys : List Registers) → length xs �
 -- the stored states, and how many states the list has
 pub record Checkpoints : Type 0 where
   pub checkpoints : List Registers
-  pub kept : ℕ
+  pub count : ℕ
 
 -- the first state of the list is stored, and from there on each that is STRIDE after the one before
 pub record AreCheckpoints (c : Checkpoints) (xs : List Registers) : Type 0 where
-  pub long : length xs ≡ c.kept
-  pub count : length c.checkpoints ≡ (c.kept + (STRIDE - 1)) / STRIDE
+  pub long : length xs ≡ c.count
+  pub stored : length c.checkpoints ≡ (c.count + (STRIDE - 1)) / STRIDE
   pub at : (j : ℕ) → j < length c.checkpoints → slice_get c.checkpoints j ≡ slice_get xs (STRIDE * j)

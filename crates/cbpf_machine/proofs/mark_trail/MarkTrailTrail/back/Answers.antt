@@ -21,29 +21,29 @@ taken_at xs n i r at under =
 
 -- a checkpoint is an entry
 kept_at : (kept : ℕ) (items xs : List Registers) (j : ℕ) (r : Registers)
-    → AreCheckpoints (record { checkpoints = take ((kept + (STRIDE - 1)) / STRIDE) items; kept = kept }) (take kept xs)
+    → AreCheckpoints (record { checkpoints = take ((kept + (STRIDE - 1)) / STRIDE) items; count = kept }) (take kept xs)
     → STRIDE * j < kept → r ≡ get_or items j r → slice_get xs (STRIDE * j) ≡ Some r
 kept_at kept items xs j r are under is =
-    let within : j < length (take ((kept + (STRIDE - 1)) / STRIDE) items) = omega (arith, are.count) in
+    let within : j < length (take ((kept + (STRIDE - 1)) / STRIDE) items) = omega (arith, are.stored) in
     taken_at xs kept (STRIDE * j) r (sym (are.at j within)
     ∙ slice_get_read (take ((kept + (STRIDE - 1)) / STRIDE) items) _ j r refl within
     (is ∙ sym (get_or-take ((kept + (STRIDE - 1)) / STRIDE) items j r (omega arith)))) under
 
 -- of fewer states, the checkpoints are the first ones
 cut : (kept to : ℕ) (items xs : List Registers) → to ≤ kept
-    → AreCheckpoints (record { checkpoints = take ((kept + (STRIDE - 1)) / STRIDE) items; kept = kept }) (take kept xs)
-    → AreCheckpoints (record { checkpoints = take ((to + (STRIDE - 1)) / STRIDE) items; kept = to }) (take to xs)
+    → AreCheckpoints (record { checkpoints = take ((kept + (STRIDE - 1)) / STRIDE) items; count = kept }) (take kept xs)
+    → AreCheckpoints (record { checkpoints = take ((to + (STRIDE - 1)) / STRIDE) items; count = to }) (take to xs)
 cut kept to items xs fewer are =
     let all = length-take ((kept + (STRIDE - 1)) / STRIDE) items in
     let some = length-take ((to + (STRIDE - 1)) / STRIDE) items in
     record {
       long = omega (arith, are.long, length-take kept xs, length-take to xs);
-      count = omega (arith, are.count, all, some);
+      stored = omega (arith, are.stored, all, some);
       at = λ j low.
           let near : j < (to + (STRIDE - 1)) / STRIDE = omega (arith, low, some) in
           slice_get-take items _ j near
           ∙ (sym (slice_get-take items ((kept + (STRIDE - 1)) / STRIDE) j (omega (arith, near, fewer)))
-          ∙ (are.at j (omega (arith, near, fewer, are.count))
+          ∙ (are.at j (omega (arith, near, fewer, are.stored))
           ∙ (slice_get-take xs kept (STRIDE * j) (omega (arith, near, fewer))
           ∙ sym (slice_get-take xs to (STRIDE * j) (omega (arith, near))))));
     }
@@ -53,8 +53,8 @@ again-init g c =
     let at = kept_at c.self.inside.kept c.self.inside.checkpoints.items
     (trace_in (on_packet c.args.p.now c.args.values.now c.args.packet)) ((c.args.to - 1) / STRIDE)
     c.index-deref-checkpoint.result (subst (λ k. AreCheckpoints k
-    (take k.kept (trace_in (on_packet c.args.p.now c.args.values.now c.args.packet))))
-    (sym c.self.view_is) c.requires.of_trace) (omega (arith, ap (λ (k : Checkpoints). k.kept) c.self.view_is))
+    (take k.count (trace_in (on_packet c.args.p.now c.args.values.now c.args.packet))))
+    (sym c.self.view_is) c.requires.of_trace) (omega (arith, ap (λ (k : Checkpoints). k.count) c.self.view_is))
     (rw c.deref.ensures.0 at c.index-deref-checkpoint.is) in
     record {
       here = goes_from_entry _ c.len-sound.ensures.sound _ _ at;
@@ -75,7 +75,7 @@ unreachable-requires g c =
     rw (← c.turn.ensures.value) (next_of-none c.turn.result c.in_default.not-Next) in
     let end = goes_last c.again.invariant.here none in
     let long = c.requires.of_trace.long in
-    omega (arith, end, length-take c.args.self.now.kept (trace_in (on_packet c.args.p.now c.args.values.now c.args.packet)))
+    omega (arith, end, length-take c.args.self.now.count (trace_in (on_packet c.args.p.now c.args.values.now c.args.packet)))
 
 pub returns-clause-entry : goal.returns-clause-entry
 returns-clause-entry g c =
@@ -85,6 +85,6 @@ returns-clause-entry g c =
 pub returns-clause-stands : goal.returns-clause-stands
 returns-clause-stands g c = cut c.self.inside.kept c.args.to c.self.inside.checkpoints.items
     (trace_in (on_packet c.args.p.now c.args.values.now c.args.packet))
-    (omega (arith, c.requires.within, ap (λ (k : Checkpoints). k.kept) c.self.view_is))
-    (subst (λ k. AreCheckpoints k (take k.kept (trace_in (on_packet c.args.p.now c.args.values.now c.args.packet))))
+    (omega (arith, c.requires.within, ap (λ (k : Checkpoints). k.count) c.self.view_is))
+    (subst (λ k. AreCheckpoints k (take k.count (trace_in (on_packet c.args.p.now c.args.values.now c.args.packet))))
     (sym c.self.view_is) c.requires.of_trace)

@@ -9,16 +9,16 @@ use Rattle.cbpf_machine.proofs.mark_trail.MarkTrailTrail.keep.Goals as goal
 -- up to the next entry that is stored, the same states are
 unstored : (kept n : ℕ) (items xs : List Registers) → 1 ≤ kept → n < STRIDE - (kept - 1) % STRIDE
     → kept + n ≤ length xs
-    → AreCheckpoints (record { checkpoints = take ((kept + (STRIDE - 1)) / STRIDE) items; kept = kept }) (take kept xs)
-    → AreCheckpoints (record { checkpoints = take ((kept + n + (STRIDE - 1)) / STRIDE) items; kept = kept + n })
+    → AreCheckpoints (record { checkpoints = take ((kept + (STRIDE - 1)) / STRIDE) items; count = kept }) (take kept xs)
+    → AreCheckpoints (record { checkpoints = take ((kept + n + (STRIDE - 1)) / STRIDE) items; count = kept + n })
     (take (kept + n) xs)
 unstored kept n items xs some near within are =
     let same : (kept + n + (STRIDE - 1)) / STRIDE ≡ (kept + (STRIDE - 1)) / STRIDE = omega arith in
     rw same (record {
       long = omega (arith, length-take (kept + n) xs);
-      count = are.count ∙ sym same;
+      stored = are.stored ∙ sym same;
       at = λ j low.
-          let under : STRIDE * j < kept = omega (arith, low, are.count) in
+          let under : STRIDE * j < kept = omega (arith, low, are.stored) in
           are.at j low ∙ (slice_get-take xs kept (STRIDE * j) under
           ∙ sym (slice_get-take xs (kept + n) (STRIDE * j) (omega (arith, under))));
     })
@@ -26,17 +26,17 @@ unstored kept n items xs some near within are =
 pub returns : goal.returns
 returns c = record {
   stands = λ xs at before.
-      let same : c.self.inside.kept ≡ c.args.self.now.kept = ap (λ (k : Checkpoints). k.kept) c.self.view_is in
-      let within = slice_get_within xs (c.args.self.now.kept + c.args.count - 1) c.args.s at in
+      let same : c.self.inside.kept ≡ c.args.self.now.count = ap (λ (k : Checkpoints). k.count) c.self.view_is in
+      let within = slice_get_within xs (c.args.self.now.count + c.args.count - 1) c.args.s at in
       let mid = unstored c.self.inside.kept (c.args.count - 1) c.self.inside.checkpoints.items xs
       (omega (arith, c.requires.from_one, same)) (omega (arith, c.requires.near, c.requires.some, same))
       (omega (arith, within, c.requires.some, same))
-      (subst (λ (k : Checkpoints). AreCheckpoints k (take k.kept xs)) (sym c.self.view_is) before) in
-      let to : c.args.self.now.kept + c.args.count - 1 ≡ c.self.inside.kept + (c.args.count - 1) =
+      (subst (λ (k : Checkpoints). AreCheckpoints k (take k.count xs)) (sym c.self.view_is) before) in
+      let to : c.args.self.now.count + c.args.count - 1 ≡ c.self.inside.kept + (c.args.count - 1) =
       omega (arith, c.requires.some, same) in
-      let all : c.self.inside.kept + (c.args.count - 1) + 1 ≡ c.args.self.now.kept + c.args.count =
+      let all : c.self.inside.kept + (c.args.count - 1) + 1 ≡ c.args.self.now.count + c.args.count =
       omega (arith, c.requires.some, same) in
       let on = rw all at (rw (← take-slice_get xs (c.self.inside.kept + (c.args.count - 1)) c.args.s (rw to at at))
       at (c.push.ensures _ mid)) in
-      (on, omega (arith, on.long, within, length-take (c.args.self.now.kept + c.args.count) xs));
+      (on, omega (arith, on.long, within, length-take (c.args.self.now.count + c.args.count) xs));
 }
