@@ -13,7 +13,7 @@ use Rattle.cbpf_machine.specs.Turn.{turn}
 use Rattle.cbpf_machine.specs.declared.pause.When.{When}
 use Rattle.cbpf_machine.specs.declared.pause.When.TheVariants.{Always}
 use Rattle.cbpf_dbg.specs.Breakpoints.{Breakpoints, carries}
-use Rattle.cbpf_dbg.specs.Joined.{is_unknown}
+use Rattle.cbpf_dbg.specs.Joined.{asks}
 use Rattle.cbpf_dbg.specs.Session.{IsSameBut, IsKnown, KeepsRoom, Watches, hits}
 
 -- where an extension without a value is asked for each entry is a hit, and else those at a breakpoint
@@ -26,11 +26,11 @@ or_false true = refl
 or_false false = refl
 
 pub hits_unknown : (machine : Machine) (breakpoints : Breakpoints) (bytes : List ℕ) (wire : ℕ) (s : Registers)
-    → is_unknown (turn machine bytes wire s) ≡ true → hits machine breakpoints bytes wire s ≡ true
+    → asks (turn machine bytes wire s) ≡ true → hits machine breakpoints bytes wire s ≡ true
 hits_unknown machine breakpoints bytes wire s unknown = rw unknown (or_true (carries breakpoints s))
 
 pub hits_carried : (machine : Machine) (breakpoints : Breakpoints) (bytes : List ℕ) (wire : ℕ) (s : Registers) (i : ℕ)
-    (found : Option When) → is_unknown (turn machine bytes wire s) ≡ false → s.pc ≡ i
+    (found : Option When) → asks (turn machine bytes wire s) ≡ false → s.pc ≡ i
     → lookup (nat_eq i) breakpoints ≡ found
     → hits machine breakpoints bytes wire s ≡ is_met found s
 hits_carried machine breakpoints bytes wire s i found known here is =

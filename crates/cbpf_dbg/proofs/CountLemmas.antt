@@ -12,7 +12,7 @@ use Rattle.cbpf_machine.specs.declared.outcome.Outcome.TheVariants as outcome_is
 use Rattle.cbpf_machine.specs.Trace.{outcome}
 use Rattle.pcap_classic.specs.Records.{Record}
 use Rattle.cbpf_machine.proofs.ListLemmas.{take-slice_get}
-use Rattle.cbpf_machine.specs.Outcomes.{is_fail, is_open, is_pass}
+use Rattle.cbpf_machine.specs.Outcomes.{is_fail, is_pass, is_unknown}
 use Rattle.cbpf_dbg.specs.Joined.{outcomes, counts}
 use Rattle.cbpf_dbg.specs.Cursor.{Stands, Countable, with_outcome}
 use Rattle.cbpf_dbg.specs.declared.cursor.Cursor.{Cursor}
@@ -43,7 +43,7 @@ count_more f xs x =
 added : (passes fails unknown : ℕ) (o : Outcome) → ◌≡◌ {A = Counts} (record {
   passes = passes + cond (is_pass o) 1 0;
   fails = fails + cond (is_fail o) 1 0;
-  unknown = unknown + cond (is_open o) 1 0;
+  unknown = unknown + cond (is_unknown o) 1 0;
 }) (with_outcome (record { passes = passes; fails = fails; unknown = unknown }) o)
 added passes fails unknown (outcome_is.Pass v) = rw (add-zero fails, add-zero unknown) refl
 added passes fails unknown outcome_is.Fail = rw (add-zero passes, add-zero unknown) refl
@@ -61,8 +61,8 @@ counts-more machine capture from p r from_one ordered at =
       outcomes-more machine capture from p r from_one ordered at,
       count_more is_pass sofar o,
       count_more is_fail sofar o,
-      count_more is_open sofar o,
-    ) (added (count_by is_pass sofar) (count_by is_fail sofar) (count_by is_open sofar) o)
+      count_more is_unknown sofar o,
+    ) (added (count_by is_pass sofar) (count_by is_fail sofar) (count_by is_unknown sofar) o)
 
 length-outcomes : (machine : Machine) (capture : List Record) (from to : ℕ)
     → length (outcomes machine capture from to) ≤ length capture
@@ -89,7 +89,7 @@ counts-at_most machine capture from to =
     record {
       passes = omega (arith, l, count_by-le-length is_pass all);
       fails = omega (arith, l, count_by-le-length is_fail all);
-      unknown = omega (arith, l, count_by-le-length is_open all);
+      unknown = omega (arith, l, count_by-le-length is_unknown all);
     }
 
 pub countable : (machine : Machine) (capture : List Record) (w : Cursor) → Stands machine capture w

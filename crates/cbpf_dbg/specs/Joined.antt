@@ -8,7 +8,7 @@ use Rattle.cbpf_machine.specs.Registers.{Registers}
 use Rattle.cbpf_machine.specs.declared.outcome.Turn.{Turn}
 use Rattle.cbpf_machine.specs.declared.outcome.Outcome.{Outcome}
 use Rattle.cbpf_machine.specs.Machine.{Machine}
-use Rattle.cbpf_machine.specs.Outcomes.{is_fail, is_open, is_pass}
+use Rattle.cbpf_machine.specs.Outcomes.{is_fail, is_pass, is_unknown}
 use Rattle.cbpf_machine.specs.Turn.{turn, asked}
 use Rattle.cbpf_machine.specs.Trace.{trace, outcome}
 use Rattle.pcap_classic.specs.Records.{Record}
@@ -49,12 +49,14 @@ joined machine capture = joined_from machine 1 capture
 abbrev pub ahead : Machine → List Record → Place → List Entry
 ahead machine capture place = filter (λ e. is_before place e.place) (joined machine capture)
 
-abbrev pub is_unknown : Turn → Bool
-is_unknown t = is_some (asked t)
+-- whether a turn asks for an extension without a value
+abbrev pub asks : Turn → Bool
+asks t = is_some (asked t)
 
--- an entry is a hit where its instruction carries a breakpoint whose condition holds, or its turn is unknown
+-- an entry is a hit where its instruction carries a breakpoint whose condition holds, or its turn asks for an
+-- extension without a value
 abbrev pub is_hit : Breakpoints → Entry → Bool
-is_hit breakpoints e = carries breakpoints e.state || is_unknown e.turn
+is_hit breakpoints e = carries breakpoints e.state || asks e.turn
 
 -- why an entry stops: by an unknown extension, else for the reason given
 abbrev pub why_of : Why → Turn → Why
@@ -80,7 +82,7 @@ outcomes machine capture from to =
 unfoldable pub counts : Machine → List Record → ℕ → ℕ → Counts
 counts machine capture from to =
     let all = outcomes machine capture from to in
-    record { passes = count_by is_pass all; fails = count_by is_fail all; unknown = count_by is_open all }
+    record { passes = count_by is_pass all; fails = count_by is_fail all; unknown = count_by is_unknown all }
 
 -- how many turns lead from a place to a later one: the entries at or after the one and before the other
 abbrev pub turns_between : Machine → List Record → Place → Place → ℕ

@@ -16,7 +16,7 @@ use Rattle.pcap_classic.specs.Savefile.{Savefile}
 use Rattle.cbpf_reply.specs.declared.reply.Place.{Place}
 use Rattle.cbpf_dbg.specs.declared.cursor.Cursor.{Cursor}
 use Rattle.cbpf_dbg.specs.Breakpoints.{Breakpoints, carries}
-use Rattle.cbpf_dbg.specs.Joined.{is_unknown}
+use Rattle.cbpf_dbg.specs.Joined.{asks}
 use Rattle.cbpf_dbg.specs.View.{start}
 use Rattle.cbpf_dbg.specs.Cursor.{Stands}
 
@@ -50,7 +50,7 @@ NeedsNoValue machine = (bytes : List ℕ) (wire : ℕ) (s : Registers) → s.pc 
 
 -- whether an entry with this state is a hit
 abbrev pub hits : Machine → Breakpoints → List ℕ → ℕ → Registers → Bool
-hits machine breakpoints bytes wire s = carries breakpoints s || is_unknown (turn machine bytes wire s)
+hits machine breakpoints bytes wire s = carries breakpoints s || asks (turn machine bytes wire s)
 
 -- at the first n instructions the entries that are watched are the hits
 abbrev pub WatchesTo : Watching → Machine → Breakpoints → ℕ → Type 0

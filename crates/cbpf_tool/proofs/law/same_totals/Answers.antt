@@ -1,7 +1,7 @@
 use Rattle.std.proofs.Common.{◌≡◌, ℕ, ◌+◌, ◌-◌, List, [], ◌∷◌, ◌∙◌, refl, sym, ap, map, length, take, arith, take_all}
 use Rattle.std.specs.Prelude.{Bool, count_by, if◌then◌else◌}
 use Rattle.std.proofs.lemmas.List.Sums.{sum_by-cons}
-use Rattle.cbpf_machine.specs.Outcomes.{is_fail, is_open, is_pass}
+use Rattle.cbpf_machine.specs.Outcomes.{is_fail, is_pass, is_unknown}
 use Rattle.cbpf_dbg.specs.Joined.{counts}
 use Rattle.cbpf_machine.specs.Machine.{Machine}
 use Rattle.cbpf_machine.specs.declared.outcome.Outcome.{Outcome}
@@ -24,10 +24,10 @@ fail_is (outcome_is.Pass v) = refl
 fail_is outcome_is.Fail = refl
 fail_is (outcome_is.Unknown e) = refl
 
-open_is : (o : Outcome) → is_kind Unknown o ≡ is_open o
-open_is (outcome_is.Pass v) = refl
-open_is outcome_is.Fail = refl
-open_is (outcome_is.Unknown e) = refl
+unknown_is : (o : Outcome) → is_kind Unknown o ≡ is_unknown o
+unknown_is (outcome_is.Pass v) = refl
+unknown_is outcome_is.Fail = refl
+unknown_is (outcome_is.Unknown e) = refl
 
 counted_same : (p q : Outcome → Bool) → ((o : Outcome) → p o ≡ q o) → (all : List Outcome) → count_by p all ≡ count_by q all
 counted_same p q h [] = refl
@@ -39,7 +39,7 @@ counted_same p q h (o ∷ os) =
 
 -- the counts of some outcomes, as the debugger has them
 abbrev kinds : List Outcome → Counts
-kinds all = record { passes = count_by is_pass all; fails = count_by is_fail all; unknown = count_by is_open all }
+kinds all = record { passes = count_by is_pass all; fails = count_by is_fail all; unknown = count_by is_unknown all }
 
 counts_are : (all : List Outcome) → counts_of all ≡ kinds all
 counts_are all =
@@ -48,7 +48,7 @@ counts_are all =
     ap (λ (n : ℕ). record { passes = n; fails = o.fails; unknown = o.unknown }) (counted_same (is_kind Pass) is_pass pass_is all)
     ∙ ap (λ (n : ℕ). record { passes = t.passes; fails = n; unknown = o.unknown }) (counted_same (is_kind Fail) is_fail fail_is all)
     ∙ ap (λ (n : ℕ). record { passes = t.passes; fails = t.fails; unknown = n })
-    (counted_same (is_kind Unknown) is_open open_is all)
+    (counted_same (is_kind Unknown) is_unknown unknown_is all)
 
 same : SameTotals
 unfolding counts
