@@ -13,7 +13,7 @@ use Rattle.pcap_classic.specs.Records.{Record}
 use Rattle.cbpf_reply.specs.declared.reply.Counts.{Counts}
 use Rattle.cbpf_dbg.specs.declared.cursor.Cursor.{Cursor}
 use Rattle.cbpf_dbg.specs.declared.cursor.Moved.TheVariants as moved
-use Rattle.cbpf_dbg.specs.Joined.{ahead, counts}
+use Rattle.cbpf_dbg.specs.Joined.{entries_after, counts}
 use Rattle.cbpf_dbg.specs.Cursor.{Stands, Moves, entered, stepped, passed}
 use Rattle.cbpf_dbg.proofs.JoinedLemmas.{ahead-entry, ahead-leave, place_at}
 use Rattle.cbpf_dbg.proofs.CountLemmas.{counts-more}
@@ -71,7 +71,7 @@ module _ (machine : Machine) (capture : List Record) (w : Cursor) (r : Record) (
     at,
     refl,
     omega (arith, step),
-    ap (λ k. ahead machine capture (place_at w.place.packet k)) step
+    ap (λ k. entries_after machine capture (place_at w.place.packet k)) step
         ∙ ahead-entry machine capture w.place.packet 0 r zero_state packet_from_one at
         (first_entry task h.sound),
   )

@@ -19,7 +19,7 @@ use Rattle.cbpf_dbg.specs.declared.loaded.Loaded.{Loaded}
 use Rattle.cbpf_dbg.specs.Loaded.{machine_in, records_in}
 use Rattle.cbpf_dbg.specs.declared.cursor.Moved.TheVariants as moved
 use Rattle.cbpf_dbg.specs.Breakpoints.{Breakpoints}
-use Rattle.cbpf_dbg.specs.Joined.{ahead, rest, entries_from, joined_from}
+use Rattle.cbpf_dbg.specs.Joined.{entries_after, stops_after, entries_from, joined_from}
 use Rattle.cbpf_dbg.specs.Session.{hits}
 use Rattle.cbpf_dbg.specs.Cursor.{AreLeft, IsEnd, Stands, followed, moved_by, owed, passed}
 use Rattle.cbpf_dbg.specs.Going.{Covers, GoesOn}
@@ -60,8 +60,8 @@ module _ (machine : Machine) (capture : List Record) (w : Cursor) (r : Record) (
   steps_few = omega (arith, length-trace_from machine r.bytes r.wire zero_state, sound_few machine.list h.sound)
 
   -- the entries ahead are those of the packet, and those of the later packets
-  pub ahead_long : (k : ℕ) → k ≤ length xs → length (ahead machine capture (place_at w.place.packet k)) + k
-      ≡ length xs + length (ahead machine capture (place_at w.place.packet (length xs)))
+  pub ahead_long : (k : ℕ) → k ≤ length xs → length (entries_after machine capture (place_at w.place.packet k)) + k
+      ≡ length xs + length (entries_after machine capture (place_at w.place.packet (length xs)))
   ahead_long k within =
       let later = joined_from machine (w.place.packet + 1) (drop w.place.packet capture) in
       omega (
@@ -88,8 +88,8 @@ module _ (machine : Machine) (capture : List Record) (w : Cursor) (r : Record) (
 
     -- n entries from a step on that are no hits are passed
     entries-passed : (k n m : ℕ) → k + n ≡ m → m ≤ length xs → NoHits k m
-        → rest machine capture breakpoints (place_at w.place.packet k)
-        ≡ rest machine capture breakpoints (place_at w.place.packet m)
+        → stops_after machine capture breakpoints (place_at w.place.packet k)
+        ≡ stops_after machine capture breakpoints (place_at w.place.packet m)
     entries-passed k zero m e within none =
         let same : k ≡ m = omega (arith, e) in
         rw same refl
@@ -109,15 +109,15 @@ module _ (machine : Machine) (capture : List Record) (w : Cursor) (r : Record) (
 
     on_hits : (n : ℕ) (s : Registers)
         → Follows pauses xs (outcome machine r.bytes r.wire) w.place.step w.state s (Paused n)
-        → rest machine capture breakpoints w.place
-        ≡ rest machine capture breakpoints (place_at w.place.packet (w.place.step + n - 1))
+        → stops_after machine capture breakpoints w.place
+        ≡ stops_after machine capture breakpoints (place_at w.place.packet (w.place.step + n - 1))
     on_hits n s f =
         let m : ℕ = w.place.step + n - 1 in
         let within = slice_get_within xs m s f.2 in
         entries-passed breakpoints w.place.step (n - 1) m (omega (arith, f.0)) (omega (arith, within)) (no_hits m f.1)
 
     end_hits : Unpaused pauses xs w.place.step (length xs)
-        → rest machine capture breakpoints w.place ≡ rest machine capture breakpoints (place_at (w.place.packet + 1) 0)
+        → stops_after machine capture breakpoints w.place ≡ stops_after machine capture breakpoints (place_at (w.place.packet + 1) 0)
     end_hits unpaused =
         let leave = ahead-leave machine capture w.place.packet (length xs) r from_one at (omega arith) in
         entries-passed breakpoints w.place.step (length xs - w.place.step) (length xs) (omega (arith, step_within))

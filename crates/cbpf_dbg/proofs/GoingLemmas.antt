@@ -12,7 +12,7 @@ use Rattle.cbpf_dbg.specs.declared.cursor.Walk.{Walk}
 use Rattle.cbpf_dbg.specs.declared.loaded.Loaded.{Loaded}
 use Rattle.cbpf_dbg.specs.Loaded.{machine_in, records_in, breakpoints_in}
 use Rattle.cbpf_dbg.specs.Breakpoints.{Breakpoints}
-use Rattle.cbpf_dbg.specs.Joined.{ahead, rest, stop_at}
+use Rattle.cbpf_dbg.specs.Joined.{entries_after, stops_after, stop_at}
 use Rattle.cbpf_dbg.specs.Session.{hits}
 use Rattle.cbpf_dbg.specs.Cursor.{Stands, Passes, before, entry_here}
 use Rattle.cbpf_dbg.specs.Going.{Covers, GoesOn}
@@ -34,7 +34,7 @@ module _ (machine : Machine) (capture : List Record) (breakpoints : Breakpoints)
   -- the entry of a place is the first one from it on
   module _ (w : Cursor) (r : Record) (h : Stands machine capture w) (begun : 0 < w.place.step)
       (at : slice_get capture (w.place.packet - 1) ≡ Some r) where
-    entry_first : ahead machine capture (before w.place) ≡ entry_here machine r w ∷ ahead machine capture w.place
+    entry_first : entries_after machine capture (before w.place) ≡ entry_here machine r w ∷ entries_after machine capture w.place
     entry_first =
         let one : 1 ≤ w.place.packet = omega (arith, h.from_one, h.ordered) in
         let i : w.place.step - 1 + 1 ≡ w.place.step = omega (arith, begun) in
@@ -42,8 +42,8 @@ module _ (machine : Machine) (capture : List Record) (breakpoints : Breakpoints)
         (entry_at_place machine capture w r h at begun))
 
     pub hits_hit : hits machine breakpoints r.bytes r.wire w.state ≡ true
-        → rest machine capture breakpoints (before w.place)
-        ≡ stop_at why.Break (entry_here machine r w) ∷ rest machine capture breakpoints w.place
+        → stops_after machine capture breakpoints (before w.place)
+        ≡ stop_at why.Break (entry_here machine r w) ∷ stops_after machine capture breakpoints w.place
     hits_hit hit =
         rest-hit machine capture breakpoints (before w.place) w.place (entry_here machine r w) entry_first hit
 
@@ -55,11 +55,11 @@ module _ {A : Type 0} (l : Loaded A) where
   -- out of a packet, past no hit
   pub hits_out : (pauses : Registers → Bool) (old new : Walk) (m n : ℕ) → GoesOn l pauses old new m n false
       → Covers pauses (machine_in l) (breakpoints_in l)
-      → rest (machine_in l) (records_in l) (breakpoints_in l) old.cursor.place
-      ≡ rest (machine_in l) (records_in l) (breakpoints_in l) new.cursor.place
+      → stops_after (machine_in l) (records_in l) (breakpoints_in l) old.cursor.place
+      ≡ stops_after (machine_in l) (records_in l) (breakpoints_in l) new.cursor.place
   hits_out pauses old new m n h covers =
       let e : new.cursor.place.step - 1 ≡ new.cursor.place.step = omega (arith, h.out refl) in
-      h.hits covers ∙ ap (λ k. rest (machine_in l) (records_in l) (breakpoints_in l)
+      h.hits covers ∙ ap (λ k. stops_after (machine_in l) (records_in l) (breakpoints_in l)
       (record { packet = new.cursor.place.packet; step = k })) e
 
   pub goes_more : (pauses : Registers → Bool) (old mid new : Walk) (m n k : ℕ) (paused : Bool)
@@ -78,9 +78,9 @@ module _ {A : Type 0} (l : Loaded A) where
   -- where it pauses at what the session watches, that is the first hit
   pub at_hit : (old new : Walk) (m n : ℕ) → GoesOn l (is_watched l.watched.now) old new m n true
       → (r : Record) × (new.cursor.state.pc < length l.program.now)
-      × (rest (machine_in l) (records_in l) (breakpoints_in l) old.cursor.place
+      × (stops_after (machine_in l) (records_in l) (breakpoints_in l) old.cursor.place
       ≡ stop_at why.Break (entry_here (machine_in l) r new.cursor)
-      ∷ rest (machine_in l) (records_in l) (breakpoints_in l) new.cursor.place)
+      ∷ stops_after (machine_in l) (records_in l) (breakpoints_in l) new.cursor.place)
   at_hit old new m n h =
       let here = h.entry refl in
       let at = h.passes.stands.at here.0 in

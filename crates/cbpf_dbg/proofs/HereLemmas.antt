@@ -25,7 +25,7 @@ use Rattle.cbpf_reply.specs.Places.{is_before}
 use Rattle.cbpf_dbg.specs.declared.cursor.Cursor.{Cursor}
 use Rattle.cbpf_dbg.specs.Breakpoints.{Breakpoints}
 use Rattle.cbpf_dbg.specs.Cursor.{Stands, entry_here}
-use Rattle.cbpf_dbg.specs.Joined.{Entry, entries_from, packet_entries, joined_from, joined, ahead, rest, is_hit, stop_at}
+use Rattle.cbpf_dbg.specs.Joined.{Entry, entries_from, packet_entries, joined_from, joined, entries_after, stops_after, is_hit, stop_at}
 use Rattle.cbpf_dbg.specs.View.{View, start}
 use Rattle.cbpf_dbg.specs.Commands.{Answer, reply_of, view_after, run, run_in, run_to, run_out, within_limit, stopped}
 use Rattle.cbpf_dbg.specs.Commands.{finished, limited, step, step_in, step_to, entry_in, back_place, back_at, steps_of, last_place, run_to_end}
@@ -77,7 +77,7 @@ module _ (machine : Machine) (capture : List Record) where
   unfolding joined
   there-joined = there-joined_from 1 capture (omega arith) (λ i j r e is. let same : i ≡ j = omega arith in rw same at is)
 
-  there-ahead : (place : Place) → All (IsThere machine capture) (ahead machine capture place)
+  there-ahead : (place : Place) → All (IsThere machine capture) (entries_after machine capture place)
   there-ahead place =
       All-filter (λ (e : Entry). is_before place e.place) (IsThere machine capture) (joined machine capture) there-joined
 
@@ -128,9 +128,9 @@ module _ (machine : Machine) (c : Savefile) (v : View) (h : HasLoaded machine c 
         here_is = here-there e there ∙ rw hit refl;
       }
 
-  rest-returns : (place : Place) → All (CanReturn v) (rest machine c.records v.breakpoints place)
+  rest-returns : (place : Place) → All (CanReturn v) (stops_after machine c.records v.breakpoints place)
   rest-returns place =
-      let entries = ahead machine c.records place in
+      let entries = entries_after machine c.records place in
       let there = All-filter (is_hit v.breakpoints) (IsThere machine c.records) entries (there-ahead machine c.records place) in
       let hits = filter_passes (is_hit v.breakpoints) entries in
       rw (rest-ahead machine c.records v.breakpoints place)
@@ -139,9 +139,9 @@ module _ (machine : Machine) (c : Savefile) (v : View) (h : HasLoaded machine c 
 
   -- each hit ahead
   pub returns-rest : (breakpoints : Breakpoints) (place : Place) → v.breakpoints ≡ breakpoints
-      → All (CanReturn v) (rest machine c.records breakpoints place)
+      → All (CanReturn v) (stops_after machine c.records breakpoints place)
   returns-rest breakpoints place same =
-      subst (λ (b : Breakpoints). All (CanReturn v) (rest machine c.records b place)) same (rest-returns place)
+      subst (λ (b : Breakpoints). All (CanReturn v) (stops_after machine c.records b place)) same (rest-returns place)
 
   out-at : (n : ℕ) (b : Bool) → OfAnswer Returns (Ok (cond b (limited v machine c.records n) (finished v machine c.records)))
   out-at n true = tt
@@ -209,8 +209,8 @@ module _ (machine : Machine) (c : Savefile) (v : View) (h : HasLoaded machine c 
   in-here : (n : ℤ) (none : Bool) → OfAnswer IsHere (cond none (Err NoPackets) (step_in v machine c.records n))
   in-here n true = tt
   in-here (pos zero) false = tt
-  in-here (pos (suc n)) false = on-here (slice_get (ahead machine c.records v.place) n)
-      (λ e is. All-slice_get (IsThere machine c.records) (ahead machine c.records v.place) n e
+  in-here (pos (suc n)) false = on-here (slice_get (entries_after machine c.records v.place) n)
+      (λ e is. All-slice_get (IsThere machine c.records) (entries_after machine c.records v.place) n e
       (there-ahead machine c.records v.place) is)
   in-here (negsuc n) false = back-here (n + 1) (nat_lt (n + 1) v.place.step) refl
 
@@ -253,7 +253,7 @@ first-all P (x ∷ xs) ys all =
 module _ (machine : Machine) (c : Savefile) (old new : View) (h : HasLoaded machine c old) (f : List Stop) where
   more-return : (place : Place) (origin : ℕ) (passed left : List Stop)
       → new ≡ record old { place = place; origin = origin }
-      → rest machine c.records old.breakpoints old.place ≡ passed ++ left → All (CanReturn old) f
+      → stops_after machine c.records old.breakpoints old.place ≡ passed ++ left → All (CanReturn old) f
       → All (CanReturn new) (f ++ passed)
   more-return place origin passed left moves hits all =
       let found = first-all (CanReturn old) passed left (rw hits at (rest-returns machine c old h old.place)) in
@@ -269,7 +269,7 @@ module _ (machine : Machine) (c : Savefile) (old new : View) (h : HasLoaded mach
 
   -- all of them
   pub end-returns : (g : List Stop) → new ≡ view_after old (run_to_end old)
-      → g ≡ f ++ rest machine c.records old.breakpoints old.place → All (CanReturn old) f → All (CanReturn new) g
+      → g ≡ f ++ stops_after machine c.records old.breakpoints old.place → All (CanReturn old) f → All (CanReturn new) g
   end-returns g after found all =
       let moves : new ≡ record old { place = start; origin = 1 } = after ∙ rw (h.program, h.capture) refl in
-      rw found (more-return start 1 (rest machine c.records old.breakpoints old.place) [] moves (sym (append-nil _)) all)
+      rw found (more-return start 1 (stops_after machine c.records old.breakpoints old.place) [] moves (sym (append-nil _)) all)

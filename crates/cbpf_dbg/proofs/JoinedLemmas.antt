@@ -12,8 +12,8 @@ use Rattle.cbpf_machine.specs.Trace.{trace}
 use Rattle.pcap_classic.specs.Records.{Record}
 use Rattle.cbpf_reply.specs.declared.reply.Place.{Place}
 use Rattle.cbpf_reply.specs.Places.{is_before}
-use Rattle.cbpf_dbg.specs.Joined.{Entry, entries_from, packet_entries, joined_from, joined, ahead, is_hit}
-use Rattle.cbpf_dbg.specs.Joined.{stop_at, rest}
+use Rattle.cbpf_dbg.specs.Joined.{Entry, entries_from, packet_entries, joined_from, joined, entries_after, is_hit}
+use Rattle.cbpf_dbg.specs.Joined.{stop_at, stops_after}
 use Rattle.cbpf_reply.specs.declared.reply.Stop.{Stop}
 use Rattle.cbpf_reply.specs.declared.reply.Why.TheVariants as why
 use Rattle.std.proofs.lemmas.Option.{slice_get_cases}
@@ -115,7 +115,7 @@ later-joined_none machine p s q (x ∷ rest) h =
 -- what is ahead of a step of a packet of the capture
 pub ahead-in : (machine : Machine) (capture : List Record) (p s : ℕ) (r : Record) → 1 ≤ p
     → slice_get capture (p - 1) ≡ Some r
-    → ahead machine capture (place_at p s) ≡ entries_from machine r p (s + 1) (drop s (trace machine r.bytes r.wire))
+    → entries_after machine capture (place_at p s) ≡ entries_from machine r p (s + 1) (drop s (trace machine r.bytes r.wire))
     ++ joined_from machine (p + 1) (drop p capture)
 unfolding joined
 ahead-in machine capture p s r from_one at =
@@ -124,7 +124,7 @@ ahead-in machine capture p s r from_one at =
 
 -- nothing is ahead after the last packet
 pub ahead-end : (machine : Machine) (capture : List Record) (p s : ℕ) → length capture < p
-    → ahead machine capture (place_at p s) ≡ []
+    → entries_after machine capture (place_at p s) ≡ []
 unfolding joined
 ahead-end machine capture p s h = later-joined_none machine p s 1 capture (omega arith)
 
@@ -139,13 +139,13 @@ drop-slice_get (y ∷ ys) (suc i) x h =
 -- the packet's next entry is the first ahead
 pub ahead-entry : (machine : Machine) (capture : List Record) (p s : ℕ) (r : Record) (t : Registers) → 1 ≤ p
     → slice_get capture (p - 1) ≡ Some r → slice_get (trace machine r.bytes r.wire) s ≡ Some t
-    → ahead machine capture (place_at p s) ≡ entry machine r p (s + 1) t ∷ ahead machine capture (place_at p (s + 1))
+    → entries_after machine capture (place_at p s) ≡ entry machine r p (s + 1) t ∷ entries_after machine capture (place_at p (s + 1))
 ahead-entry machine capture p s r t from_one at entry_is =
     ahead-in machine capture p s r from_one at ∙ rw (drop-slice_get (trace machine r.bytes r.wire) s t entry_is)
     (ap (λ rest. entry machine r p (s + 1) t ∷ rest) (sym (ahead-in machine capture p (s + 1) r from_one at)))
 
 joined-next : (machine : Machine) (capture : List Record) (p : ℕ) → 1 ≤ p
-    → joined_from machine (p + 1) (drop p capture) ≡ ahead machine capture (place_at (p + 1) 0)
+    → joined_from machine (p + 1) (drop p capture) ≡ entries_after machine capture (place_at (p + 1) 0)
 joined-next machine capture p from_one =
     elim (slice_get_cases capture p).1 [
       | inl found ↦
@@ -159,7 +159,7 @@ joined-next machine capture p from_one =
 -- after a packet's last entry comes the next packet
 pub ahead-leave : (machine : Machine) (capture : List Record) (p s : ℕ) (r : Record) → 1 ≤ p
     → slice_get capture (p - 1) ≡ Some r → length (trace machine r.bytes r.wire) ≤ s
-    → ahead machine capture (place_at p s) ≡ ahead machine capture (place_at (p + 1) 0)
+    → entries_after machine capture (place_at p s) ≡ entries_after machine capture (place_at (p + 1) 0)
 ahead-leave machine capture p s r from_one at long =
     ahead-in machine capture p s r from_one at
     ∙ rw (drop_all s (trace machine r.bytes r.wire) long) (joined-next machine capture p from_one)
@@ -167,7 +167,7 @@ ahead-leave machine capture p s r from_one at long =
 -- before a packet's first entry, its entries and those of the later packets
 pub ahead-whole : (machine : Machine) (capture : List Record) (p : ℕ) (r : Record) → 1 ≤ p
     → slice_get capture (p - 1) ≡ Some r
-    → ahead machine capture (place_at p 0) ≡ packet_entries machine r p ++ ahead machine capture (place_at (p + 1) 0)
+    → entries_after machine capture (place_at p 0) ≡ packet_entries machine r p ++ entries_after machine capture (place_at (p + 1) 0)
 ahead-whole machine capture p r from_one at =
     ahead-in machine capture p 0 r from_one at
     ∙ ap (λ later. packet_entries machine r p ++ later) (joined-next machine capture p from_one)
@@ -198,8 +198,8 @@ later-stops place [] = refl
 later-stops place (e ∷ es) = map_head (stop_at why.Break) (is_before place e.place) e _ _ (later-stops place es)
 
 pub rest-ahead : (machine : Machine) (capture : List Record) (breakpoints : Breakpoints) (place : Place)
-    → rest machine capture breakpoints place
-    ≡ map (stop_at why.Break) (filter (is_hit breakpoints) (ahead machine capture place))
+    → stops_after machine capture breakpoints place
+    ≡ map (stop_at why.Break) (filter (is_hit breakpoints) (entries_after machine capture place))
 rest-ahead machine capture breakpoints place =
     later-stops place (filter (is_hit breakpoints) (joined machine capture)) ∙ ap (map (stop_at why.Break))
     (filter-swap (λ (e : Entry). is_before place e.place) (is_hit breakpoints) (joined machine capture))
@@ -207,21 +207,21 @@ rest-ahead machine capture breakpoints place =
 -- ---- what a run passes over and stops at
 
 module _ (machine : Machine) (capture : List Record) (breakpoints : Breakpoints) (old : Place) where
-  pub rest-none : ahead machine capture old ≡ [] → rest machine capture breakpoints old ≡ []
+  pub rest-none : entries_after machine capture old ≡ [] → stops_after machine capture breakpoints old ≡ []
   rest-none h = rw (rest-ahead machine capture breakpoints old, h) refl
 
   module _ (new : Place) where
-    pub rest-same : ahead machine capture old ≡ ahead machine capture new
-        → rest machine capture breakpoints old ≡ rest machine capture breakpoints new
+    pub rest-same : entries_after machine capture old ≡ entries_after machine capture new
+        → stops_after machine capture breakpoints old ≡ stops_after machine capture breakpoints new
     rest-same h = rw (rest-ahead machine capture breakpoints old, rest-ahead machine capture breakpoints new, h) refl
 
-    module _ (e : Entry) (h : ahead machine capture old ≡ e ∷ ahead machine capture new) where
+    module _ (e : Entry) (h : entries_after machine capture old ≡ e ∷ entries_after machine capture new) where
       pub rest-hit : is_hit breakpoints e ≡ true
-          → rest machine capture breakpoints old ≡ stop_at why.Break e ∷ rest machine capture breakpoints new
+          → stops_after machine capture breakpoints old ≡ stop_at why.Break e ∷ stops_after machine capture breakpoints new
       rest-hit hit =
           rw (rest-ahead machine capture breakpoints old, rest-ahead machine capture breakpoints new, h, hit) refl
 
       pub rest-pass : is_hit breakpoints e ≡ false
-          → rest machine capture breakpoints old ≡ rest machine capture breakpoints new
+          → stops_after machine capture breakpoints old ≡ stops_after machine capture breakpoints new
       rest-pass hit =
           rw (rest-ahead machine capture breakpoints old, rest-ahead machine capture breakpoints new, h, hit) refl

@@ -10,7 +10,7 @@ use Rattle.pcap_classic.specs.Records.{Record, StartsAt}
 use Rattle.cbpf_reply.specs.declared.reply.Place.{Place}
 use Rattle.cbpf_machine.specs.Machine.{Machine}
 use Rattle.cbpf_dbg.specs.declared.cursor.Cursor.{Cursor}
-use Rattle.cbpf_dbg.specs.Joined.{ahead}
+use Rattle.cbpf_dbg.specs.Joined.{entries_after}
 use Rattle.cbpf_dbg.specs.Cursor.{AreLeft, IsEnd, Stands, end_of_run}
 use Rattle.cbpf_dbg.proofs.JoinedLemmas.{ahead-end}
 
@@ -70,7 +70,7 @@ is_end_of_all machine capture w stands =
 -- where none is left, nothing is ahead
 pub nothing_left : (machine : Machine) (capture : List Record) (w : Cursor) (left : List Record)
     → Stands machine capture w → AreLeft capture w.place left → left ≡ []
-    → (w.place.packet ≡ length capture + 1) × (ahead machine capture w.place ≡ []) × (w.place.step ≡ 0)
+    → (w.place.packet ≡ length capture + 1) × (entries_after machine capture w.place ≡ []) × (w.place.step ≡ 0)
 nothing_left machine capture w left stands h e =
     let packet : w.place.packet ≡ length capture + 1 =
     omega (arith, count_left capture w.place left h, ap length e, stands.from_one, stands.ordered, stands.within) in

@@ -12,7 +12,7 @@ use Rattle.cbpf_reply.specs.declared.reply.Place.{Place}
 use Rattle.cbpf_reply.specs.declared.reply.Stop.{Stop}
 use Rattle.cbpf_reply.specs.declared.reply.Why.TheVariants as why
 use Rattle.cbpf_reply.specs.Places.{is_before}
-use Rattle.cbpf_dbg.specs.Joined.{Entry, entries_from, packet_entries, joined_from, joined, is_hit, stop_at, every_stop}
+use Rattle.cbpf_dbg.specs.Joined.{Entry, entries_from, packet_entries, joined_from, joined, is_hit, stop_at, stops_in}
 use Rattle.cbpf_dbg.specs.Laws.{Rises, EntriesRise, HitsRise, RestRises}
 use Rattle.cbpf_dbg.proofs.JoinedLemmas.{entry}
 
@@ -101,5 +101,5 @@ hits_rise machine capture breakpoints =
 
 pub rest_rises : RestRises
 rest_rises machine capture breakpoints place =
-    rise-filter (λ (h : Stop). h.place) (λ (h : Stop). is_before place h.place) (every_stop machine capture breakpoints)
+    rise-filter (λ (h : Stop). h.place) (λ (h : Stop). is_before place h.place) (stops_in machine capture breakpoints)
     (hits_rise machine capture breakpoints)

@@ -13,7 +13,7 @@ use Rattle.cbpf_reply.specs.declared.reply.Why.TheVariants as why
 use Rattle.cbpf_reply.specs.declared.reply.RunReply.TheVariants.{Stopped, Limit, Finished}
 use Rattle.cbpf_reply.specs.Places.{is_before}
 use Rattle.cbpf_dbg.specs.declared.cursor.Cursor.{Cursor}
-use Rattle.cbpf_dbg.specs.Joined.{ahead, rest, counts, stop_at, every_stop}
+use Rattle.cbpf_dbg.specs.Joined.{entries_after, stops_after, counts, stop_at, stops_in}
 use Rattle.cbpf_dbg.specs.View.{View, start}
 use Rattle.cbpf_dbg.specs.Commands.{run_to, run_out, within_limit, finished, limited}
 use Rattle.cbpf_dbg.specs.Cursor.{Stands, view_at, entry_here, Gives, run_from, step_from, ComesTo, NotBefore}
@@ -59,21 +59,21 @@ run_to_limit m machine capture (Some n) end (h ∷ more) is here later =
     rw no (rw e (rw yes refl))
 
 pub rest-head : (machine : Machine) (capture : List Record) (breakpoints : Breakpoints) (place : Place) (h : Stop)
-    (more : List Stop) → rest machine capture breakpoints place ≡ h ∷ more → is_before place h.place ≡ true
+    (more : List Stop) → stops_after machine capture breakpoints place ≡ h ∷ more → is_before place h.place ≡ true
 rest-head machine capture breakpoints place h more e =
     let at : Stop → Bool = λ k. is_before place k.place in
-    let passed = filter_passes at (every_stop machine capture breakpoints) in
+    let passed = filter_passes at (stops_in machine capture breakpoints) in
     All-head (λ (k : Stop). at k ≡ true) h more (rw e at passed)
 
 rest-later : (machine : Machine) (capture : List Record) (breakpoints : Breakpoints) (place : Place) (h : Stop)
-    (more : List Stop) → rest machine capture breakpoints place ≡ h ∷ more → place.packet ≤ h.place.packet
+    (more : List Stop) → stops_after machine capture breakpoints place ≡ h ∷ more → place.packet ≤ h.place.packet
 rest-later machine capture breakpoints place h more e =
     let after = rest-head machine capture breakpoints place h more e in grind (arith, nat_tests)
 
 module _ (machine : Machine) (c : Savefile) (breakpoints : Breakpoints) (limit : Option ℕ) (w0 : Cursor) (end : ℕ)
     (is : end ≡ end_of_run limit w0.place.packet (length c.records)) where
   abbrev pub hits : Place → List Stop
-  hits place = rest machine c.records breakpoints place
+  hits place = stops_after machine c.records breakpoints place
 
   abbrev pub view0 : View
   view0 = view_at machine c breakpoints w0
@@ -105,7 +105,7 @@ module _ (machine : Machine) (c : Savefile) (breakpoints : Breakpoints) (limit :
   pub none_ahead : (w1 : Cursor) → ComesTo machine c.records breakpoints end w0 None w1 → length c.records < end
       → (owed machine c.records w1.place ≡ 0) × (hits w0.place ≡ [])
   none_ahead w1 comes past =
-      let none : ahead machine c.records w1.place ≡ [] = rw comes.0 (ahead-end machine c.records end 0 past) in (
+      let none : entries_after machine c.records w1.place ≡ [] = rw comes.0 (ahead-end machine c.records end 0 past) in (
         rw comes.0 (rw (ahead-end machine c.records end 0 past) refl),
         sym comes.1 ∙ rest-none machine c.records breakpoints w1.place none,
       )
@@ -150,13 +150,13 @@ slice_get-past (x ∷ xs) ys k n e more =
 
 module _ (machine : Machine) (c : Savefile) (breakpoints : Breakpoints) (n : ℕ) (w0 : Cursor) where
   pub step_stopped : (w2 : Cursor) (r : Record) (stop : Stop)
-      → slice_get (ahead machine c.records w0.place) (n - 1) ≡ Some (entry_here machine r w2)
+      → slice_get (entries_after machine c.records w0.place) (n - 1) ≡ Some (entry_here machine r w2)
       → stop ≡ stop_at why.Step (entry_here machine r w2) → w2.origin ≡ w0.origin
       → Gives machine c breakpoints (step_from machine c.records n) w0 w2 (Stopped stop)
   step_stopped w2 r stop sought is origin =
       record { reply_is = rw (sought, is) refl; place_is = rw sought refl; origin_is = rw sought origin }
 
-  pub step_finished : (w1 w2 : Cursor) → slice_get (ahead machine c.records w0.place) (n - 1) ≡ None
+  pub step_finished : (w1 w2 : Cursor) → slice_get (entries_after machine c.records w0.place) (n - 1) ≡ None
       → Stands machine c.records w1 → w1.origin ≡ w0.origin → w1.place.packet ≡ length c.records + 1 → w2.place ≡ start
       → w2.origin ≡ 1 → Gives machine c breakpoints (step_from machine c.records n) w0 w2 (Finished w1.counts)
   step_finished w1 w2 sought stands origin end place2 origin2 =

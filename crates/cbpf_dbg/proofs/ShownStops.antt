@@ -21,7 +21,7 @@ use Rattle.cbpf_reply.specs.declared.reply.RunReply.{RunReply}
 use Rattle.cbpf_reply.specs.declared.reply.RunReply.TheVariants.{Stopped, Limit, Finished}
 use Rattle.cbpf_reply.specs.Places.{is_before}
 use Rattle.cbpf_dbg.specs.declared.cursor.Cursor.{Cursor}
-use Rattle.cbpf_dbg.specs.Joined.{Entry, entries_from, packet_entries, joined_from, joined, ahead, rest}
+use Rattle.cbpf_dbg.specs.Joined.{Entry, entries_from, packet_entries, joined_from, joined, entries_after, stops_after}
 use Rattle.cbpf_dbg.specs.Joined.{is_hit, stop_at}
 use Rattle.cbpf_dbg.specs.View.{View}
 use Rattle.cbpf_dbg.specs.Commands.{run_to, run_out, within_limit, stopped, finished, limited, step_to, entry_in}
@@ -66,14 +66,14 @@ module _ (machine : Machine) (capture : List Record) (reason : Why) where
     unfolding joined
     within-joined = within-joined_from 1 capture (omega arith) (omega arith)
 
-    within-ahead : (place : Place) → All (EntryWithin machine capture reason) (ahead machine capture place)
+    within-ahead : (place : Place) → All (EntryWithin machine capture reason) (entries_after machine capture place)
     within-ahead place =
         All-filter (λ (e : Entry). is_before place e.place) (EntryWithin machine capture reason) (joined machine capture)
         within-joined
 
 -- each hit ahead
 within-rest : (machine : Machine) (capture : List Record) (breakpoints : Breakpoints) (place : Place)
-    → IsSound machine.list → All (IsWithin machine.list capture) (rest machine capture breakpoints place)
+    → IsSound machine.list → All (IsWithin machine.list capture) (stops_after machine capture breakpoints place)
 within-rest machine capture breakpoints place sound =
     let hits = filter (is_hit breakpoints) (joined machine capture) in
     All-filter (λ (h : Stop). is_before place h.place) (IsWithin machine.list capture) (map (stop_at why.Break) hits)
@@ -157,7 +157,7 @@ module _ (machine : Machine) (c : Savefile) (v : View) (h : HasLoaded machine c 
 
   module _ (breakpoints : Breakpoints) (sound : IsSound machine.list) where
     -- the hits ahead
-    pub shows-rest : (place : Place) → All (CanShow v) (rest machine c.records breakpoints place)
+    pub shows-rest : (place : Place) → All (CanShow v) (stops_after machine c.records breakpoints place)
     shows-rest place = λ k d inside.
         shows-stop _ (within-rest machine c.records breakpoints place sound k d inside)
 
@@ -166,13 +166,13 @@ module _ (machine : Machine) (c : Savefile) (v : View) (h : HasLoaded machine c 
         → Gives machine c breakpoints (run_from machine c.records limit) old new reply → Shows v reply
     shows-run old new limit reply runs =
         shows-reply reply (rw runs.reply_is (within-run_to (view_at machine c breakpoints old) machine c.records limit
-        (rest machine c.records breakpoints old.place) (within-rest machine c.records breakpoints old.place sound)))
+        (stops_after machine c.records breakpoints old.place) (within-rest machine c.records breakpoints old.place sound)))
 
     -- what a step on answers
     pub shows-step_on : (old new : Cursor) (n : ℕ) (reply : RunReply)
         → Gives machine c breakpoints (step_from machine c.records n) old new reply → Shows v reply
     shows-step_on old new n reply steps =
         shows-reply reply (rw steps.reply_is (within-step_to (view_at machine c breakpoints old) machine c.records
-        (slice_get (ahead machine c.records old.place) (n - 1))
-        (λ e is. All-slice_get (EntryWithin machine c.records why.Step) (ahead machine c.records old.place) (n - 1) e
+        (slice_get (entries_after machine c.records old.place) (n - 1))
+        (λ e is. All-slice_get (EntryWithin machine c.records why.Step) (entries_after machine c.records old.place) (n - 1) e
         (within-ahead machine c.records why.Step sound old.place) is)))

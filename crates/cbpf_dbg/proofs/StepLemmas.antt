@@ -18,7 +18,7 @@ use Rattle.cbpf_dbg.specs.declared.cursor.Moved.TheVariants as moved
 use Rattle.cbpf_dbg.specs.declared.loaded.Loaded.{Loaded}
 use Rattle.cbpf_dbg.specs.Loaded.{machine_in, records_in}
 use Rattle.cbpf_dbg.specs.Going.{GoesOn}
-use Rattle.cbpf_dbg.specs.Joined.{Entry, ahead, packet_entries}
+use Rattle.cbpf_dbg.specs.Joined.{Entry, entries_after, packet_entries}
 use Rattle.cbpf_dbg.specs.Cursor.{Stands, Moves, Nears, Passes, entry_here}
 use Rattle.cbpf_dbg.proofs.JoinedLemmas.{place_at, ahead-whole}
 use Rattle.cbpf_dbg.proofs.RecordsLeftLemmas.{at_end}
@@ -51,11 +51,11 @@ module _ (machine : Machine) (capture : List Record) where
 
   -- the entries of so many packets
   packets_entries : (n p : ℕ) → IsSound machine.list → 1 ≤ p → n + p ≤ length capture + 1 → (es : List Entry)
-      × (ahead machine capture (place_at p 0) ≡ es ++ ahead machine capture (place_at (n + p) 0))
+      × (entries_after machine capture (place_at p 0) ≡ es ++ entries_after machine capture (place_at (n + p) 0))
       × (length es ≤ n * length machine.list)
   packets_entries zero p sound one within =
       let same : p ≡ zero + p = omega arith in
-      ([], ap (λ q. ahead machine capture (place_at q 0)) same, omega arith)
+      ([], ap (λ q. entries_after machine capture (place_at q 0)) same, omega arith)
   packets_entries (suc n) p sound one within =
       let r = item_within capture (p - 1) (omega (arith, within, one)) in
       let on : n + (p + 1) ≡ suc n + p = omega arith in
@@ -63,8 +63,8 @@ module _ (machine : Machine) (capture : List Record) where
       let es : List Entry = packet_entries machine r.0 p in (
         es ++ others.0,
         ahead-whole machine capture p r.0 one r.1 ∙ ap (λ ds. es ++ ds) others.1
-            ∙ sym (append_assoc es others.0 (ahead machine capture (place_at (n + (p + 1)) 0)))
-            ∙ ap (λ q. (es ++ others.0) ++ ahead machine capture (place_at q 0)) on,
+            ∙ sym (append_assoc es others.0 (entries_after machine capture (place_at (n + (p + 1)) 0)))
+            ∙ ap (λ q. (es ++ others.0) ++ entries_after machine capture (place_at q 0)) on,
         omega (
           arith,
           length-append es others.0,
@@ -82,11 +82,11 @@ module _ (machine : Machine) (capture : List Record) where
       let p : ℕ = w.place.packet in
       let packet : v.place.packet ≡ n + p = ap (λ (q : Place). q.packet) to in
       let es = packets_entries n p h.stands.sound one (omega (arith, packet, h.stands.within)) in
-      let start : ahead machine capture w.place ≡ es.0 ++ ahead machine capture v.place =
-      ap (λ i. ahead machine capture (place_at p i)) step ∙ es.1
-      ∙ ap (λ q. es.0 ++ ahead machine capture q) (sym to) in
-      let fewer : length (ahead machine capture w.place) ≡ length es.0 + length (ahead machine capture v.place) =
-      ap length start ∙ length-append es.0 (ahead machine capture v.place) in
+      let start : entries_after machine capture w.place ≡ es.0 ++ entries_after machine capture v.place =
+      ap (λ i. entries_after machine capture (place_at p i)) step ∙ es.1
+      ∙ ap (λ q. es.0 ++ entries_after machine capture q) (sym to) in
+      let fewer : length (entries_after machine capture w.place) ≡ length es.0 + length (entries_after machine capture v.place) =
+      ap length start ∙ length-append es.0 (entries_after machine capture v.place) in
       let made : after ≡ before + length es.0 =
       omega (arith, fewer, h.spent, step, ap (λ (q : Place). q.step) to) in
       let long : length es.0 ≡ after - before = omega (arith, made) in
@@ -97,7 +97,7 @@ module _ (machine : Machine) (capture : List Record) where
           passes = h;
           some = omega (arith, more);
           sought = ap (λ xs. slice_get xs (left - 1)) start
-              ∙ slice_get-past es.0 (ahead machine capture v.place) (after - before) left long more;
+              ∙ slice_get-past es.0 (entries_after machine capture v.place) (after - before) left long more;
           fewer = omega (arith, fewer);
         },
       )

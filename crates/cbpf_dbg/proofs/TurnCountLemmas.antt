@@ -18,7 +18,7 @@ use Rattle.cbpf_reply.specs.declared.reply.RunReply.{RunReply}
 use Rattle.cbpf_reply.specs.declared.reply.RunReply.TheVariants.{Stopped, Limit, Finished}
 use Rattle.cbpf_reply.specs.Places.{is_before}
 use Rattle.cbpf_dbg.specs.declared.cursor.Cursor.{Cursor}
-use Rattle.cbpf_dbg.specs.Joined.{Entry, entries_from, packet_entries, joined_from, joined, ahead, rest, is_hit}
+use Rattle.cbpf_dbg.specs.Joined.{Entry, entries_from, packet_entries, joined_from, joined, entries_after, stops_after, is_hit}
 use Rattle.cbpf_dbg.specs.Joined.{stop_at, turns_between, turns_to_end}
 use Rattle.cbpf_reply.specs.declared.reply.Why.TheVariants as why
 use Rattle.std.proofs.lemmas.List.{length-map}
@@ -74,7 +74,7 @@ at_or_after : (p s q k : ℕ) → 1 ≤ k
 at_or_after p s q k h = grind (arith, nat_tests)
 
 to_end : (machine : Machine) (capture : List Record) (p s : ℕ)
-    → turns_to_end machine capture (place_at p s) ≡ length (ahead machine capture (place_at p (s - 1)))
+    → turns_to_end machine capture (place_at p s) ≡ length (entries_after machine capture (place_at p (s - 1)))
 unfolding joined
 to_end machine capture p s =
     count_same (λ e. not (is_before e.place (place_at p s))) (λ e. is_before (place_at p (s - 1)) e.place)
@@ -92,11 +92,11 @@ owed_at machine capture w (suc k) h e =
     let n : k + 1 ≡ suc k = omega arith in
     let first = ahead-entry machine capture w.place.packet k at.0 w.state
     (packet_from_one machine capture w at.0 h at.1) at.1 (rw i at at.2) in
-    let then_ = subst (λ x. length (ahead machine capture (place_at w.place.packet k))
-    ≡ suc (length (ahead machine capture (place_at w.place.packet x)))) n (ap length first) in
+    let then_ = subst (λ x. length (entries_after machine capture (place_at w.place.packet k))
+    ≡ suc (length (entries_after machine capture (place_at w.place.packet x)))) n (ap length first) in
     let j : suc k - 1 ≡ k = omega arith in
     let sofar : turns_to_end machine capture (place_at w.place.packet (suc k))
-    ≡ length (ahead machine capture (place_at w.place.packet k)) =
+    ≡ length (entries_after machine capture (place_at w.place.packet k)) =
     rw j at (to_end machine capture w.place.packet (suc k)) in
     omega (arith, sofar, then_)
 
@@ -196,17 +196,17 @@ owed_bound machine capture place h few =
 
 -- the hits ahead can be counted
 pub few_hits : (machine : Machine) (capture : List Record) (breakpoints : Breakpoints) (place : Place)
-    → IsSound machine.list → length capture < 2 ^ 60 → length (rest machine capture breakpoints place) < 2 ^ 128
+    → IsSound machine.list → length capture < 2 ^ 60 → length (stops_after machine capture breakpoints place) < 2 ^ 128
 unfolding joined
 few_hits machine capture breakpoints place h few =
-    let some : length (rest machine capture breakpoints place)
-    ≡ length (filter (is_hit breakpoints) (ahead machine capture place)) =
+    let some : length (stops_after machine capture breakpoints place)
+    ≡ length (filter (is_hit breakpoints) (entries_after machine capture place)) =
     ap length (rest-ahead machine capture breakpoints place)
-    ∙ length-map (filter (is_hit breakpoints) (ahead machine capture place)) (stop_at why.Break) in
+    ∙ length-map (filter (is_hit breakpoints) (entries_after machine capture place)) (stop_at why.Break) in
     omega (
       arith,
       some,
-      length_filter (is_hit breakpoints) (ahead machine capture place),
+      length_filter (is_hit breakpoints) (entries_after machine capture place),
       length_filter (λ (e : Entry). is_before place e.place) (joined_from machine 1 capture),
       length_joined machine 1 capture h,
     )

@@ -15,7 +15,7 @@ use Rattle.cbpf_reply.specs.declared.reply.SessionFault.{SessionFault}
 use Rattle.cbpf_reply.specs.declared.reply.Counts.{Counts}
 use Rattle.cbpf_reply.specs.declared.reply.Why.TheVariants as why
 use Rattle.cbpf_reply.specs.Places.{is_before}
-use Rattle.cbpf_dbg.specs.Joined.{every_stop, Entry, joined, joined_from, ahead, rest, is_hit, stop_at}
+use Rattle.cbpf_dbg.specs.Joined.{stops_in, Entry, joined, joined_from, entries_after, stops_after, is_hit, stop_at}
 use Rattle.cbpf_dbg.specs.Joined.{turns_between, turns_to_end, counts}
 use Rattle.cbpf_dbg.specs.Cursor.{NotBefore}
 use Rattle.cbpf_dbg.specs.View.{View, start}
@@ -34,23 +34,23 @@ pub record HasLoaded (machine : Machine) (c : Savefile) (v : View) : Type 0 wher
   pub capture : v.capture ≡ Some c
 
 module _ (machine : Machine) (c : Savefile) (v : View) (h : HasLoaded machine c v) where
-  pub stops-held : stops v ≡ Ok (rest machine c.records v.breakpoints v.place)
+  pub stops-held : stops v ≡ Ok (stops_after machine c.records v.breakpoints v.place)
   stops-held = rw (h.program, h.values, h.capture) refl
 
   -- a run without a limit that has a hit ahead
-  run-first : (stop : Stop) (left : List Stop) → rest machine c.records v.breakpoints v.place ≡ stop ∷ left
+  run-first : (stop : Stop) (left : List Stop) → stops_after machine c.records v.breakpoints v.place ≡ stop ∷ left
       → run v None ≡ Ok (stopped v stop)
   run-first stop left e = rw (h.program, h.values, h.capture, e) refl
 
-  turns-first : (stop : Stop) (left : List Stop) → rest machine c.records v.breakpoints v.place ≡ stop ∷ left
+  turns-first : (stop : Stop) (left : List Stop) → stops_after machine c.records v.breakpoints v.place ≡ stop ∷ left
       → turns_forward v (run v None) ≡ turns_between machine c.records v.place stop.place
   turns-first stop left e = rw (run-first stop left e, h.program, h.values, h.capture) refl
 
   -- and one that has none
-  run-last : rest machine c.records v.breakpoints v.place ≡ [] → run v None ≡ Ok (finished v machine c.records)
+  run-last : stops_after machine c.records v.breakpoints v.place ≡ [] → run v None ≡ Ok (finished v machine c.records)
   run-last e = rw (h.program, h.values, h.capture, e) refl
 
-  turns-last : rest machine c.records v.breakpoints v.place ≡ []
+  turns-last : stops_after machine c.records v.breakpoints v.place ≡ []
       → turns_forward v (run v None) ≡ turns_to_end machine c.records v.place
   turns-last e = rw (run-last e, h.program, h.values, h.capture) refl
 
@@ -59,20 +59,20 @@ module _ (machine : Machine) (c : Savefile) (v : View) (h : HasLoaded machine c 
 
   -- a stop
   first-hit : (new : View) (stop : Stop) → Continues v new (Stopped stop)
-      → (left : List Stop) × (rest machine c.records v.breakpoints v.place ≡ stop ∷ left) × (stops new ≡ Ok left)
+      → (left : List Stop) × (stops_after machine c.records v.breakpoints v.place ≡ stop ∷ left) × (stops new ≡ Ok left)
   first-hit new stop k =
       let here = stops-held in
       let before_are = k.before_are in
-      let same : rest machine c.records v.breakpoints v.place ≡ k.before = cc in
+      let same : stops_after machine c.records v.breakpoints v.place ≡ k.before = cc in
       (k.after, same ∙ k.passes, k.after_are)
 
   -- the end
   no-hit : (new : View) (counted : Counts) → Continues v new (Finished counted)
-      → rest machine c.records v.breakpoints v.place ≡ []
+      → stops_after machine c.records v.breakpoints v.place ≡ []
   no-hit new counted k =
       let here = stops-held in
       let before_are = k.before_are in
-      let same : rest machine c.records v.breakpoints v.place ≡ k.before = cc in
+      let same : stops_after machine c.records v.breakpoints v.place ≡ k.before = cc in
       same ∙ k.passes
 
 pub turns_to_end-bound : (machine : Machine) (capture : List Record) (place : Place) → IsSound machine.list
@@ -90,20 +90,20 @@ after_is a b h = grind (arith, nat_tests)
 
 -- the turns to a hit and from it to the end
 pub turns-rest : (machine : Machine) (c : Savefile) (v : View) (stop : Stop) (left : List Stop)
-    → rest machine c.records v.breakpoints v.place ≡ stop ∷ left → turns_to_end machine c.records v.place
+    → stops_after machine c.records v.breakpoints v.place ≡ stop ∷ left → turns_to_end machine c.records v.place
     ≡ turns_between machine c.records v.place stop.place + turns_to_end machine c.records stop.place
 turns-rest machine c v stop left e =
     turns-split machine c.records v.place stop.place
     (after_is v.place stop.place (rest-head machine c.records v.breakpoints v.place stop left e))
 
 -- from the start all hits are ahead
-ahead-start : (machine : Machine) (capture : List Record) → ahead machine capture start ≡ joined machine capture
+ahead-start : (machine : Machine) (capture : List Record) → entries_after machine capture start ≡ joined machine capture
 unfolding joined
 ahead-start machine [] = refl
 ahead-start machine (r ∷ more) = ahead-in machine (r ∷ more) 1 0 r (omega arith) refl
 
 rest-start : (machine : Machine) (capture : List Record) (breakpoints : Breakpoints)
-    → rest machine capture breakpoints start ≡ every_stop machine capture breakpoints
+    → stops_after machine capture breakpoints start ≡ stops_in machine capture breakpoints
 rest-start machine capture breakpoints = rest-ahead machine capture breakpoints start
     ∙ ap (λ es. map (stop_at why.Break) (filter (is_hit breakpoints) es)) (ahead-start machine capture)
 
@@ -127,8 +127,8 @@ pub record Going (machine : Machine) (c : Savefile) (old new : View) (old_found 
   pub passed : List Stop
   pub place : new ≡ record old { place = last_place old.place passed }
   pub found : new_found ≡ old_found ++ passed
-  pub hits : rest machine c.records old.breakpoints old.place
-      ≡ passed ++ rest machine c.records new.breakpoints new.place
+  pub hits : stops_after machine c.records old.breakpoints old.place
+      ≡ passed ++ stops_after machine c.records new.breakpoints new.place
   pub spent : after + turns_to_end machine c.records new.place ≡ before + turns_to_end machine c.records old.place
   pub spare : before ≤ 2 ^ 126
 
@@ -144,7 +144,7 @@ module _ (machine : Machine) (c : Savefile) (old v : View) (f g : List Stop) (m 
   pub going-found : Found old v f g
   going-found = record {
     hits = h.passed;
-    after = rest machine c.records v.breakpoints v.place;
+    after = stops_after machine c.records v.breakpoints v.place;
     before_are = stops-held machine c old h.old_holds ∙ ap Ok h.hits;
     after_are = stops-held machine c v h.new_holds;
     found_are = h.found;
@@ -164,7 +164,7 @@ module _ (machine : Machine) (c : Savefile) (old v : View) (f g : List Stop) (m 
       after ∙ ap (view_after v) (run-first machine c v h.new_holds stop first.0 first.1) in
       let holds : HasLoaded machine c new = rw there
       (record { program = h.new_holds.program; values = h.new_holds.values; capture = h.new_holds.capture }) in
-      let left : rest machine c.records new.breakpoints new.place ≡ first.0 =
+      let left : stops_after machine c.records new.breakpoints new.place ≡ first.0 =
       (let s = stops-held machine c new holds in let t = first.2 in cc) in
       let spent = turns ∙ ap (λ t. n + t) (turns-first machine c v h.new_holds stop first.0 first.1) in
       let place : new.place ≡ stop.place = rw there refl in
@@ -183,12 +183,12 @@ module _ (machine : Machine) (c : Savefile) (old v : View) (f g : List Stop) (m 
       }
 
   module _ (new : View) (counted : Counts) (ahead_is : Continues v new (Finished counted)) where
-    none : rest machine c.records v.breakpoints v.place ≡ []
+    none : stops_after machine c.records v.breakpoints v.place ≡ []
     none = no-hit machine c v h.new_holds new counted ahead_is
 
     pub going-end : Ok (Finished counted) ≡ reply_of (run v None) → new ≡ view_after v (run v None)
         → (Ok counted ≡ reply_of (run_to_end old)) × (new ≡ view_after old (run_to_end old))
-        × (g ≡ f ++ rest machine c.records old.breakpoints old.place)
+        × (g ≡ f ++ stops_after machine c.records old.breakpoints old.place)
     going-end reply after =
         let ran = run-last machine c v h.new_holds none in
         let there : new ≡ record v { place = start; origin = 1 } = after ∙ ap (view_after v) ran in

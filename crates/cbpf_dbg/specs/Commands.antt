@@ -25,7 +25,7 @@ use Rattle.cbpf_reply.specs.declared.reply.RunReply.{RunReply}
 use Rattle.cbpf_reply.specs.declared.reply.RunReply.TheVariants.{Stopped, Limit, Finished}
 use Rattle.cbpf_reply.specs.declared.reply.SessionFault.{SessionFault}
 use Rattle.cbpf_reply.specs.declared.reply.SessionFault.TheVariants as fault
-use Rattle.cbpf_dbg.specs.Joined.{Entry, ahead, every_stop, rest, stop_at, counts, turns_between, turns_to_end}
+use Rattle.cbpf_dbg.specs.Joined.{Entry, entries_after, stops_in, stops_after, stop_at, counts, turns_between, turns_to_end}
 use Rattle.indexmap.specs.IndexMap.{insert_entry, shift_remove_entry}
 use Rattle.cbpf_dbg.specs.View.{View, start}
 
@@ -85,7 +85,7 @@ run_to m machine capture limit (h ∷ hits) =
 
 abbrev pub run_in : View → Machine → List Record → Option ℕ → Answer RunReply
 run_in m machine capture (Some zero) = Err fault.ZeroCount
-run_in m machine capture limit = Ok (run_to m machine capture limit (rest machine capture m.breakpoints m.place))
+run_in m machine capture limit = Ok (run_to m machine capture limit (stops_after machine capture m.breakpoints m.place))
 
 -- on to the first hit ahead, or up to a limit of packets, where there is one, or to the end
 abbrev pub run : View → Option ℕ → Answer RunReply
@@ -119,7 +119,7 @@ back_to m machine capture b = back_at m (if nat_lt b m.place.step
 
 abbrev pub step_in : View → Machine → List Record → ℤ → Answer RunReply
 step_in m machine capture (pos zero) = Err fault.ZeroCount
-step_in m machine capture (pos (suc n)) = Ok (step_to m machine capture (slice_get (ahead machine capture m.place) n))
+step_in m machine capture (pos (suc n)) = Ok (step_to m machine capture (slice_get (entries_after machine capture m.place) n))
 step_in m machine capture (negsuc n) = back_to m machine capture (n + 1)
 
 -- n entries forward, or back where n is negative
@@ -171,7 +171,7 @@ IsResumable m place = (n : View) → n.program ≡ m.program → n.values ≡ m.
 
 -- the hits ahead
 abbrev pub stops : View → Result (List Stop) SessionFault
-stops m = loaded m (λ machine capture. Ok (rest machine capture m.breakpoints m.place))
+stops m = loaded m (λ machine capture. Ok (stops_after machine capture m.breakpoints m.place))
 
 -- how a run's answer goes with the hits ahead before it and after it: a stop is the first of them,
 -- and the others stay; up to a limit there is none; and at the end there is none left
@@ -197,7 +197,7 @@ run_to_end m = loaded m (λ machine capture.
 
 -- all hits, from the start
 abbrev pub all_stops : View → Result (List Stop) SessionFault
-all_stops m = loaded m (λ machine capture. Ok (every_stop machine capture m.breakpoints))
+all_stops m = loaded m (λ machine capture. Ok (stops_in machine capture m.breakpoints))
 
 -- the place of the last of some stops; with none, a place before them
 abbrev pub last_place : Place → List Stop → Place

@@ -18,7 +18,7 @@ use Rattle.cbpf_dbg.specs.declared.cursor.Cursor.{Cursor}
 use Rattle.cbpf_dbg.specs.declared.cursor.Moved.{Moved}
 use Rattle.cbpf_dbg.specs.declared.cursor.Moved.TheVariants as moved
 use Rattle.cbpf_dbg.specs.Breakpoints.{Breakpoints}
-use Rattle.cbpf_dbg.specs.Joined.{Entry, ahead, counts, rest, stop_at}
+use Rattle.cbpf_dbg.specs.Joined.{Entry, entries_after, counts, stops_after, stop_at}
 use Rattle.cbpf_reply.specs.declared.reply.RunReply.{RunReply}
 use Rattle.cbpf_dbg.specs.View.{View}
 use Rattle.cbpf_dbg.specs.Commands.{run_to, step_to, turns_in, entry_in, back_place}
@@ -85,14 +85,14 @@ abbrev pub Moves : Machine → List Record → Cursor → Moved → Cursor → T
 Moves machine capture old moved.Entry new =
     (r : Record) × (slice_get capture (new.place.packet - 1) ≡ Some r) × (new.place.packet ≡ old.place.packet)
     × (new.place.step ≡ old.place.step + 1)
-    × (ahead machine capture old.place ≡ entry_here machine r new ∷ ahead machine capture new.place)
+    × (entries_after machine capture old.place ≡ entry_here machine r new ∷ entries_after machine capture new.place)
 Moves machine capture old moved.Packet new =
     (new.place ≡ record { packet = old.place.packet + 1; step = 0 })
-    × (ahead machine capture old.place ≡ ahead machine capture new.place)
+    × (entries_after machine capture old.place ≡ entries_after machine capture new.place)
 
 -- how many turns are owed to the end: one for each entry ahead, and one for the entry of the place
 abbrev pub owed : Machine → List Record → Place → ℕ
-owed machine capture place = length (ahead machine capture place) + min place.step 1
+owed machine capture place = length (entries_after machine capture place) + min place.step 1
 
 -- a session's view with its cursor at a place
 abbrev pub view_at : Machine → Savefile → Breakpoints → Cursor → View
@@ -107,7 +107,7 @@ view_at machine c breakpoints w = record {
 
 -- what a run from a view's place answers, and where it ends
 abbrev pub run_from : Machine → List Record → Option ℕ → View → RunReply × View
-run_from machine capture limit m = run_to m machine capture limit (rest machine capture m.breakpoints m.place)
+run_from machine capture limit m = run_to m machine capture limit (stops_after machine capture m.breakpoints m.place)
 
 -- a command's reply, and the cursor after it, by what it answers from a view
 pub record Gives (machine : Machine) (c : Savefile) (breakpoints : Breakpoints) (answer : View → RunReply × View)
@@ -140,10 +140,10 @@ pub record AreLeft (capture : List Record) (place : Place) (left : List Record) 
 abbrev pub ComesTo : Machine → List Record → Breakpoints → ℕ → Cursor → Option Stop → Cursor → Type 0
 ComesTo machine capture breakpoints end old None new =
     (new.place ≡ record { packet = end; step = 0 })
-    × (rest machine capture breakpoints new.place ≡ rest machine capture breakpoints old.place)
+    × (stops_after machine capture breakpoints new.place ≡ stops_after machine capture breakpoints old.place)
 ComesTo machine capture breakpoints end old (Some h) new =
     (new.place ≡ h.place) × (h.place.packet < end)
-    × (rest machine capture breakpoints old.place ≡ h ∷ rest machine capture breakpoints new.place)
+    × (stops_after machine capture breakpoints old.place ≡ h ∷ stops_after machine capture breakpoints new.place)
 
 -- one place is not before another
 abbrev pub NotBefore : Place → Place → Type 0
@@ -166,9 +166,9 @@ pub record Nears (machine : Machine) (capture : List Record) (old new : Cursor) 
     Type 0 where
   pub passes : Passes machine capture old new spent_old spent_new
   pub some : 1 ≤ left
-  pub sought : slice_get (ahead machine capture old.place) (n - 1)
-      ≡ slice_get (ahead machine capture new.place) (left - 1)
-  pub fewer : length (ahead machine capture new.place) ≤ length (ahead machine capture old.place)
+  pub sought : slice_get (entries_after machine capture old.place) (n - 1)
+      ≡ slice_get (entries_after machine capture new.place) (left - 1)
+  pub fewer : length (entries_after machine capture new.place) ≤ length (entries_after machine capture old.place)
 
 -- a step back answers the entry at that step, and the cursor stands there
 pub record StepsBack (machine : Machine) (capture : List Record) (old new : Cursor) (b : ℕ) (stop : Stop) :
@@ -188,4 +188,4 @@ pub record CannotStepBack (old new : Cursor) (b most : ℕ) : Type 0 where
 
 -- what a step on by n entries answers, and where it ends
 abbrev pub step_from : Machine → List Record → ℕ → View → RunReply × View
-step_from machine capture n m = step_to m machine capture (slice_get (ahead machine capture m.place) (n - 1))
+step_from machine capture n m = step_to m machine capture (slice_get (entries_after machine capture m.place) (n - 1))

@@ -46,8 +46,8 @@ unfoldable pub joined : Machine → List Record → List Entry
 joined machine capture = joined_from machine 1 capture
 
 -- the entries after a place
-abbrev pub ahead : Machine → List Record → Place → List Entry
-ahead machine capture place = filter (λ e. is_before place e.place) (joined machine capture)
+abbrev pub entries_after : Machine → List Record → Place → List Entry
+entries_after machine capture place = filter (λ e. is_before place e.place) (joined machine capture)
 
 -- whether a turn asks for an extension without a value
 abbrev pub asks : Turn → Bool
@@ -66,12 +66,12 @@ abbrev pub stop_at : Why → Entry → Stop
 stop_at reason e = record { place = e.place; state = e.state; why = why_of reason e.turn }
 
 -- the stops at all hits of a capture
-abbrev pub every_stop : Machine → List Record → Breakpoints → List Stop
-every_stop machine capture breakpoints = map (stop_at why.Break) (filter (is_hit breakpoints) (joined machine capture))
+abbrev pub stops_in : Machine → List Record → Breakpoints → List Stop
+stops_in machine capture breakpoints = map (stop_at why.Break) (filter (is_hit breakpoints) (joined machine capture))
 
 -- the stops at the hits after a place
-abbrev pub rest : Machine → List Record → Breakpoints → Place → List Stop
-rest machine capture breakpoints place = filter (λ h. is_before place h.place) (every_stop machine capture breakpoints)
+abbrev pub stops_after : Machine → List Record → Breakpoints → Place → List Stop
+stops_after machine capture breakpoints place = filter (λ h. is_before place h.place) (stops_in machine capture breakpoints)
 
 -- the outcomes of the packets from a number up to, not including, another
 abbrev pub outcomes : Machine → List Record → ℕ → ℕ → List Outcome

@@ -6,7 +6,7 @@ use Rattle.pcap_classic.specs.Records.{Record}
 use Rattle.cbpf_reply.specs.declared.reply.Place.{Place}
 use Rattle.cbpf_reply.specs.Places.{is_before}
 use Rattle.cbpf_dbg.specs.Breakpoints.{Breakpoints}
-use Rattle.cbpf_dbg.specs.Joined.{joined, every_stop, rest}
+use Rattle.cbpf_dbg.specs.Joined.{joined, stops_in, stops_after}
 
 -- each member of a list stands after all that come before it
 abbrev pub Rises : {X : Type 0} → (X → Place) → List X → Type 0
@@ -20,8 +20,8 @@ EntriesRise = (machine : Machine) (capture : List Record) → Rises (λ e. e.pla
 -- so do all hits, and the hits after a place
 abbrev pub HitsRise : Type 0
 HitsRise = (machine : Machine) (capture : List Record) (breakpoints : Breakpoints)
-    → Rises (λ h. h.place) (every_stop machine capture breakpoints)
+    → Rises (λ h. h.place) (stops_in machine capture breakpoints)
 
 abbrev pub RestRises : Type 0
 RestRises = (machine : Machine) (capture : List Record) (breakpoints : Breakpoints) (place : Place)
-    → Rises (λ h. h.place) (rest machine capture breakpoints place)
+    → Rises (λ h. h.place) (stops_after machine capture breakpoints place)

@@ -8,7 +8,7 @@ ghost use Rattle.cbpf_machine.specs.Follow.{Follows, KnowsEach, is_watched, turn
 ghost use Rattle.cbpf_machine.specs.declared.follow.Followed.TheVariants as followed;
 ghost use Rattle.pcap_classic.specs.Records.{StartsAt};
 ghost use Rattle.cbpf_dbg.specs.Commands.{PassesHits};
-ghost use Rattle.cbpf_dbg.specs.Joined.{rest};
+ghost use Rattle.cbpf_dbg.specs.Joined.{stops_after};
 ghost use Rattle.cbpf_dbg.specs.Loaded.{machine_in, records_in, breakpoints_in};
 ghost use Rattle.cbpf_dbg.specs.Session.{IsInside, KeepsTo};
 ghost use Rattle.cbpf_dbg.specs.Cursor.{Stands, Passes, Gives, run_from, turns_of, ComesTo};
@@ -273,8 +273,8 @@ pub(crate) fn run_to_limit<T: Trail, A: Allocator>(
         (run_from (machine_in loaded.now) (records_in loaded.now) limit) cursor.old cursor.new result }
     ensures inside { IsInside (records_in loaded.now) cursor.new.place }
     ensures ahead { PassesHits result
-        (rest (machine_in loaded.now) (records_in loaded.now) (breakpoints_in loaded.now) cursor.old.place)
-        (rest (machine_in loaded.now) (records_in loaded.now) (breakpoints_in loaded.now) cursor.new.place) }
+        (stops_after (machine_in loaded.now) (records_in loaded.now) (breakpoints_in loaded.now) cursor.old.place)
+        (stops_after (machine_in loaded.now) (records_in loaded.now) (breakpoints_in loaded.now) cursor.new.place) }
     ensures turns { meter.new ≡ meter.old
         + turns_of (machine_in loaded.now) loaded.now.capture.now (breakpoints_in loaded.now)
         (run_from (machine_in loaded.now) (records_in loaded.now) limit) cursor.old }

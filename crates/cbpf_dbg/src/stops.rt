@@ -2,7 +2,7 @@
 
 ghost use Rattle.std.specs.Prelude.{◌≡◌, ◌+◌, length};
 ghost use Rattle.std.specs.Iterator.{YieldsFirst, item_count};
-ghost use Rattle.cbpf_dbg.specs.Joined.{rest};
+ghost use Rattle.cbpf_dbg.specs.Joined.{stops_after};
 ghost use Rattle.cbpf_dbg.specs.Loaded.{machine_in, records_in, breakpoints_in};
 ghost use Rattle.cbpf_dbg.specs.Going.{CanGoOn};
 ghost use Rattle.cbpf_dbg.specs.declared.cursor.Walk.{Walk};
@@ -29,13 +29,13 @@ pub struct Stops<'a, A: Allocator = Global> {
 impl<'a, A: Allocator> Model for Stops<'a, A> {
     ghost use Rattle.std.specs.Prelude.{List, ◌≡◌, ◌+◌, length};
     ghost use Rattle.cbpf_reply.specs.declared.reply.Stop.{Stop};
-    ghost use Rattle.cbpf_dbg.specs.Joined.{rest};
+    ghost use Rattle.cbpf_dbg.specs.Joined.{stops_after};
     ghost use Rattle.cbpf_dbg.specs.Loaded.{machine_in, records_in, breakpoints_in};
     ghost use Rattle.cbpf_dbg.specs.Going.{CanGoOn};
 
     ghost Value = { List Stop };
 
-    ghost view = { λ s. rest (machine_in s.loaded) (records_in s.loaded) (breakpoints_in s.loaded)
+    ghost view = { λ s. stops_after (machine_in s.loaded) (records_in s.loaded) (breakpoints_in s.loaded)
         s.walk.cursor.place };
 
     ghost invariant = { λ s. CanGoOn s.loaded s.walk s.meter
@@ -53,7 +53,7 @@ fn next_stop<A: Allocator>(
     ensures can { CanGoOn loaded.now walk.new meter.new }
     ensures all { walk.new.end ≡ walk.old.end }
     ensures next { YieldsFirst
-        (λ (v : Walk). rest (machine_in loaded.now) (records_in loaded.now) (breakpoints_in loaded.now) v.cursor.place)
+        (λ (v : Walk). stops_after (machine_in loaded.now) (records_in loaded.now) (breakpoints_in loaded.now) v.cursor.place)
         walk.old result walk.new }
 {
     if !go_on_in_packet(meter, loaded, loaded.watched, walk, &mut NoTrail) {

@@ -1,6 +1,6 @@
 use Rattle.std.proofs.Common.{◌≡◌, ◌+◌, ◌-◌, length, arith, ap, ◌∙◌, Some, None, slice_get, refl}
 use Rattle.std.proofs.lemmas.Grind.{common_steps}
-use Rattle.cbpf_dbg.specs.Joined.{ahead}
+use Rattle.cbpf_dbg.specs.Joined.{entries_after}
 use Rattle.cbpf_dbg.specs.Cursor.{owed, entry_here}
 use Rattle.cbpf_dbg.proofs.CursorLemmas.{goes}
 use Rattle.cbpf_dbg.proofs.RecordsLeftLemmas.{first_left, first_of, start_first, left_here, left_past, none_of, nothing_left, all_left}
@@ -68,7 +68,7 @@ returns-then-left-eq1-clause-keeps g c =
 pub returns-then-left-eq1-clause-steps : goal.returns-then-left-eq1-clause-steps
 returns-then-left-eq1-clause-steps g c = λ breakpoints.
     let m = c.in-Entry.ensures.moves in
-    let here : slice_get (ahead (machine_in c.args.loaded.now) (records_in c.args.loaded.now) c.go.cursor.place)
+    let here : slice_get (entries_after (machine_in c.args.loaded.now) (records_in c.args.loaded.now) c.go.cursor.place)
     (c.go.left - 1) ≡ Some (entry_here (machine_in c.args.loaded.now) m.0 c.advance.new.cursor) =
     rw m.4
     (slice_get-first (entry_here (machine_in c.args.loaded.now) m.0 c.advance.new.cursor) _ c.go.left (omega arith)) in
@@ -139,7 +139,7 @@ pub returns-clause-steps : goal.returns-clause-steps
 returns-clause-steps g c = λ breakpoints.
     let so = c.go.invariant.nears in
     let m = nothing_left _ _ _ _ so.passes.stands c.go.invariant.left (none_of _ c.in_default.ensures) in
-    let none : slice_get (ahead (machine_in c.args.loaded.now) (records_in c.args.loaded.now) c.go.cursor.place)
+    let none : slice_get (entries_after (machine_in c.args.loaded.now) (records_in c.args.loaded.now) c.go.cursor.place)
     (c.go.left - 1) ≡ None = rw m.1 refl in
     (step_finished (machine_in c.args.loaded.now) c.args.loaded.now.capture.now breakpoints c.args.n c.args.cursor.now
     c.go.cursor c.before-2.result (so.sought ∙ none) so.passes.stands so.passes.origin m.0 c.before-2.ensures.place c.before-2.ensures.origin)

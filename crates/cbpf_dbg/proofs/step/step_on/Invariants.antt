@@ -1,5 +1,5 @@
 use Rattle.std.proofs.Common.{◌+◌, length}
-use Rattle.cbpf_dbg.specs.Joined.{ahead}
+use Rattle.cbpf_dbg.specs.Joined.{entries_after}
 use Rattle.cbpf_dbg.specs.Cursor.{Nears, AreLeft}
 use Rattle.cbpf_dbg.specs.Session.{Keeps}
 use Rattle.cbpf_dbg.specs.Loaded.{machine_in, records_in}
@@ -15,4 +15,4 @@ invariant-go g l =
     }
 
 abbrev pub decreases-go : goal.decreases-go
-decreases-go g l = length (ahead (machine_in l.loaded) (records_in l.loaded) l.cursor.place) + length l.records
+decreases-go g l = length (entries_after (machine_in l.loaded) (records_in l.loaded) l.cursor.place) + length l.records
